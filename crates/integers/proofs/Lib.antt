@@ -1,0 +1,4 @@
+pub mod Euclid
+pub mod Ints
+pub mod Ring
+pub mod Sums

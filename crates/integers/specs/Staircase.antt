@@ -1,0 +1,36 @@
+-- The staircase basis of a lattice: of a set of vectors that is given by its membership.
+use Rattle.std.specs.Prelude.{◌≡◌, ◌≢◌, ℕ, zero, suc, ℤ, pos, List, [], ◌∷◌, length, ◌<ℤ◌, ◌≤ℤ◌, ◌<◌, ◌≤◌, drop, slice_index_or, Contains}
+use Rattle.integers.specs.Vectors.{Vector, vector, zero_vector, plus, minus, parts, IsAtMost, combination}
+
+abbrev pub part : ℕ → Vector → ℤ
+part i v = slice_index_or (parts 3 v) i (pos 0)
+
+-- the parts before the one at i are 0
+abbrev pub IsZeroBefore : ℕ → Vector → Type 0
+IsZeroBefore i v = (k : ℕ) → k < i → part k v ≡ pos 0
+
+-- a member that may be the row at i of the basis: 0 before i, and positive at i
+pub record MayLead (L : Vector → Type 0) (i : ℕ) (v : Vector) : Type 0 where
+  pub member : L v
+  pub before : IsZeroBefore i v
+  pub leads : pos 0 <ℤ part i v
+
+abbrev pub NotNegativeAfter : ℕ → Vector → Type 0
+NotNegativeAfter i v = (k : ℕ) → i < k → pos 0 ≤ℤ part k v
+
+-- the row at i, counted from 0: the least leading part, and then the least remaining parts that are not negative
+pub record IsStair (L : Vector → Type 0) (i : ℕ) (v : Vector) : Type 0 where
+  pub may : MayLead L i v
+  pub least : (w : Vector) → MayLead L i w → part i v ≤ℤ part i w
+  pub rest : NotNegativeAfter i v
+  pub least_rest : (w : Vector) → MayLead L i w → part i w ≡ part i v → NotNegativeAfter i w
+      → IsAtMost (drop i (parts 3 v)) (drop i (parts 3 w))
+
+pub record IsStaircase (L : Vector → Type 0) (d : ℕ) (rows : List Vector) : Type 0 where
+  pub count : length rows ≡ d
+  pub each : (i : ℕ) → i < d → IsStair L i (slice_index_or rows i zero_vector)
+
+-- the members are exactly the whole combinations of these vectors
+pub record Spans (L : Vector → Type 0) (rows : List Vector) : Type 0 where
+  pub inside : (ks : List ℤ) → L (combination ks rows)
+  pub all : (v : Vector) → L v → (ks : List ℤ) × (combination ks rows ≡ v)

@@ -1,0 +1,2 @@
+//! The whole numbers: ring laws, sums, divisibility, vectors and lists.
+#![tactic(auto)]

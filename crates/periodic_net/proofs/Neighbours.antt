@@ -1,0 +1,79 @@
+-- An isomorphism carries the neighbours of a vertex one to one to those of its image.
+use Rattle.std.proofs.Common.{◌≡◌, ℕ, ℤ, pos, ◌+ℤ◌, ◌-ℤ◌, ◌*ℤ◌, neg_ℤ, ◌==◌, List, [], ◌∷◌, refl, sym, ap, subst, ◌∙◌, arith}
+use Rattle.std.proofs.lemmas.Int.{ints}
+use Rattle.integers.proofs.Sums.{IsIn, AreApart, Carries, total, same_total}
+use Rattle.integers.specs.Vectors.{Vector, vector, zero_vector, plus, minus, HasDimension}
+use Rattle.periodic_net.specs.Graph.{Graph, IsGraph, Arc, arc, arcs_from, IsArc, IsQuotientVertex, Vertex, vertex, IsVertex, AreJoined}
+use Rattle.periodic_net.specs.Maps.{Base, IsPeriodic, Iso}
+use Rattle.periodic_net.proofs.Isos.{vector_ext}
+use Rattle.periodic_net.proofs.Arcs.{arc_inside, joined_inside}
+use Rattle.periodic_net.proofs.Distinct.{arcs_apart, from_is_arc, arc_is_from}
+
+-- the vertex at the end of an arc from w
+abbrev pub end_of : Vertex → Arc → Vertex
+end_of w a = vertex a.to (plus w.cell a.shift)
+
+-- the arc from w to x
+abbrev pub arc_between : Vertex → Vertex → Arc
+arc_between w x = arc w.over x.over (minus x.cell w.cell)
+
+pub plus_minus : (s t : Vector) → minus (plus s t) s ≡ t
+plus_minus s t = vector_ext (omega (arith, ints)) (omega (arith, ints)) (omega (arith, ints))
+
+pub minus_plus : (s t : Vector) → plus s (minus t s) ≡ t
+minus_plus s t = vector_ext (omega (arith, ints)) (omega (arith, ints)) (omega (arith, ints))
+
+pub end_between : (w x : Vertex) → end_of w (arc_between w x) ≡ x
+end_between w x = ap (vertex x.over) (minus_plus w.cell x.cell)
+
+pub between_end : (w : Vertex) (a : Arc) → a.from ≡ w.over → arc_between w (end_of w a) ≡ a
+between_end w a e = λ i. arc (e' i) a.to (plus_minus w.cell a.shift i)
+  where
+    e' : w.over ≡ a.from
+    e' = sym e
+
+pub end_joined : (G : Graph) (w : Vertex) (a : Arc) → IsArc G a → a.from ≡ w.over → AreJoined G w (end_of w a)
+end_joined G w a h e = subst (IsArc G) (sym (between_end w a e)) h
+
+-- the arc to which an isomorphism carries an arc from w
+abbrev pub carried : (Vertex → Vertex) → Vertex → Arc → Arc
+carried f w a = arc_between (f w) (f (end_of w a))
+
+pub carries_arcs : (G H : Graph) → IsGraph G → IsGraph H → (e : Iso G H) → (w : Vertex) → IsVertex G w
+    → Carries (carried e.there w) (arcs_from G w.over) (arcs_from H (e.there w).over)
+carries_arcs G H g h e w i = record {
+  into = λ a k.
+      let r = from_is_arc G w.over a k in
+      let j = end_joined G w a r.0 r.1 in
+      let v = joined_inside G g w (end_of w a) i j in
+      arc_is_from H (e.there w).over (carried e.there w a) (e.there_joins w (end_of w a) i v j) refl;
+  once = λ a b k l same.
+      let r = from_is_arc G w.over a k in
+      let s = from_is_arc G w.over b l in
+      let va = joined_inside G g w (end_of w a) i (end_joined G w a r.0 r.1) in
+      let vb = joined_inside G g w (end_of w b) i (end_joined G w b s.0 s.1) in
+      let ends : e.there (end_of w a) ≡ e.there (end_of w b) =
+      sym (end_between (e.there w) (e.there (end_of w a))) ∙ ap (end_of (e.there w)) same ∙ end_between (e.there w) (e.there (end_of w b)) in
+      let before : end_of w a ≡ end_of w b = sym (e.back_there (end_of w a) va) ∙ ap e.back ends ∙ e.back_there (end_of w b) vb in
+      sym (between_end w a r.1) ∙ ap (arc_between w) before ∙ between_end w b s.1;
+  onto = λ b k.
+      let r = from_is_arc H (e.there w).over b k in
+      let iw = e.there_period.2.into w i in
+      let y = end_of (e.there w) b in
+      let jy = end_joined H (e.there w) b r.0 r.1 in
+      let vy = joined_inside H h (e.there w) y iw jy in
+      let back0 = e.back_joins (e.there w) y iw vy jy in
+      let joined : AreJoined G w (e.back y) = subst (λ (v : Vertex). AreJoined G v (e.back y)) (e.back_there w i) back0 in
+      let a = arc_between w (e.back y) in
+      let goes : carried e.there w a ≡ b =
+      ap (λ (v : Vertex). arc_between (e.there w) (e.there v)) (end_between w (e.back y))
+      ∙ ap (arc_between (e.there w)) (e.there_back y vy)
+      ∙ between_end (e.there w) b r.1 in
+      (a, arc_is_from G w.over a joined refl, goes);
+}
+
+-- a sum over the arcs of the image, taken over the arcs of w
+pub same_arcs_total : (G H : Graph) → IsGraph G → IsGraph H → (e : Iso G H) → (w : Vertex) → IsVertex G w → (g : Arc → ℤ)
+    → total g (arcs_from H (e.there w).over) ≡ total (λ a. g (carried e.there w a)) (arcs_from G w.over)
+same_arcs_total G H g h e w i f =
+    same_total (carried e.there w) f (arcs_from G w.over) (arcs_from H (e.there w).over) (arcs_apart G g w.over) (arcs_apart H h (e.there w).over) (carries_arcs G H g h e w i)

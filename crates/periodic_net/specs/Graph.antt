@@ -1,0 +1,85 @@
+-- Graphs, their arcs, and the infinite net of a graph.
+use Rattle.std.specs.Prelude.{◌≡◌, ◌≢◌, ◌⊎◌, ℕ, ℤ, pos, ◌<◌, ◌≤◌, ◌*ℤ◌, ◌+ℤ◌, List, [], ◌∷◌, length, All, AllPairs, Contains, filter, ◌==◌}
+use Rattle.integers.specs.Vectors.{Vector, vector, zero_vector, plus, minus, opposite, times, HasDimension, StartsPositive}
+
+-- an arc of a quotient graph; an edge is one of its two arcs, in normal spelling
+pub record Arc : Type 0 where
+  pub from : ℕ
+  pub to : ℕ
+  pub shift : Vector
+
+abbrev pub arc : ℕ → ℕ → Vector → Arc
+arc u v s = record { from = u; to = v; shift = s }
+
+abbrev pub reverse_of : Arc → Arc
+reverse_of a = arc a.to a.from (opposite a.shift)
+
+-- a quotient graph: its dimension, its number of vertices, and its edges
+pub record Graph : Type 0 where
+  pub dimension : ℕ
+  pub vertices : ℕ
+  pub edges : List Arc
+
+-- u is a vertex of the quotient graph
+abbrev pub IsQuotientVertex : Graph → ℕ → Type 0
+IsQuotientVertex G u = (1 ≤ u) × (u ≤ G.vertices)
+
+abbrev pub IsNormalSpelling : Arc → Type 0
+IsNormalSpelling e = (e.from < e.to) ⊎ ((e.from ≡ e.to) × StartsPositive e.shift)
+
+pub record IsEdge (G : Graph) (e : Arc) : Type 0 where
+  pub from : IsQuotientVertex G e.from
+  pub to : IsQuotientVertex G e.to
+  pub shift : HasDimension G.dimension e.shift
+  pub spelling : IsNormalSpelling e
+
+pub record IsGraph (G : Graph) : Type 0 where
+  pub dimension : (G.dimension ≡ 2) ⊎ (G.dimension ≡ 3)
+  pub vertices : 1 ≤ G.vertices
+  pub edges : All (IsEdge G) G.edges
+  pub different : AllPairs (λ e f. e ≢ f) G.edges
+
+abbrev pub both_ways : List Arc → List Arc
+both_ways [] = []
+both_ways (e ∷ es) = e ∷ reverse_of e ∷ both_ways es
+
+-- each edge gives an arc each way
+abbrev pub arcs : Graph → List Arc
+arcs G = both_ways G.edges
+
+abbrev pub arcs_from : Graph → ℕ → List Arc
+arcs_from G u = filter (λ a. a.from == u) (arcs G)
+
+abbrev pub IsArc : Graph → Arc → Type 0
+IsArc G a = Contains (arcs G) a
+
+-- a vertex of the net: a vertex of the quotient graph, and a cell
+pub record Vertex : Type 0 where
+  pub over : ℕ
+  pub cell : Vector
+
+abbrev pub vertex : ℕ → Vector → Vertex
+vertex u t = record { over = u; cell = t }
+
+pub record IsVertex (G : Graph) (w : Vertex) : Type 0 where
+  pub over : IsQuotientVertex G w.over
+  pub cell : HasDimension G.dimension w.cell
+
+abbrev pub moved : Vertex → Vector → Vertex
+moved w k = vertex w.over (plus w.cell k)
+
+-- the net joins these two vertices
+abbrev pub AreJoined : Graph → Vertex → Vertex → Type 0
+AreJoined G w x = IsArc G (arc w.over x.over (minus x.cell w.cell))
+
+-- from w, each vertex of the list is joined to the one before it, and the last is x
+abbrev pub IsWalk : Graph → Vertex → List Vertex → Vertex → Type 0
+IsWalk G w [] x = w ≡ x
+IsWalk G w (y ∷ ys) x = AreJoined G w y × IsWalk G y ys x
+
+abbrev pub IsReached : Graph → Vertex → Vertex → Type 0
+IsReached G w x = (steps : List Vertex) × IsWalk G w steps x
+
+-- the net is connected
+abbrev pub IsConnected : Graph → Type 0
+IsConnected G = (w x : Vertex) → IsVertex G w → IsVertex G x → IsReached G w x

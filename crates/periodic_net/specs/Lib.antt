@@ -1,0 +1,6 @@
+pub mod Classes
+pub mod Graph
+pub mod Maps
+pub mod Placement
+pub mod Shells
+pub mod Split

@@ -1,0 +1,50 @@
+-- Periodic maps between nets, and isomorphism. No placement, cell, frame or traversal occurs here.
+use Rattle.std.specs.Prelude.{◌≡◌, ℕ, ◌≤◌, ◌<◌, ℤ, pos, ◌<ℤ◌, ◌≤ℤ◌}
+use Rattle.integers.specs.Vectors.{Vector, plus, times, HasDimension}
+use Rattle.periodic_net.specs.Graph.{Graph, Vertex, vertex, moved, IsVertex, AreJoined}
+
+-- the d shifts of a periodic map; in dimension 2 the third counts for nothing
+pub record Base : Type 0 where
+  pub first : Vector
+  pub second : Vector
+  pub third : Vector
+
+-- the sum of k_i times the i-th shift
+abbrev pub base_sum : Base → Vector → Vector
+base_sum b k = plus (times k.x b.first) (plus (times k.y b.second) (times k.z b.third))
+
+-- the map repeats: what lies m·k further goes the sum of k_i·B_i further
+pub record IsPeriodic (G H : Graph) (map : Vertex → Vertex) (m : ℕ) (b : Base) : Type 0 where
+  pub positive : 1 ≤ m
+  pub into : (w : Vertex) → IsVertex G w → IsVertex H (map w)
+  pub repeats : (w : Vertex) (k : Vector) → IsVertex G w → HasDimension G.dimension k
+      → map (moved w (times (pos m) k)) ≡ moved (map w) (base_sum b k)
+
+-- two maps that undo each other and carry joined vertices to joined vertices, each with a period
+pub record Iso (G H : Graph) : Type 0 where
+  pub dimension : G.dimension ≡ H.dimension
+  pub there : Vertex → Vertex
+  pub back : Vertex → Vertex
+  pub there_period : (m : ℕ) × (b : Base) × IsPeriodic G H there m b
+  pub back_period : (m : ℕ) × (b : Base) × IsPeriodic H G back m b
+  pub back_there : (w : Vertex) → IsVertex G w → back (there w) ≡ w
+  pub there_back : (x : Vertex) → IsVertex H x → there (back x) ≡ x
+  pub there_joins : (w x : Vertex) → IsVertex G w → IsVertex G x → AreJoined G w x → AreJoined H (there w) (there x)
+  pub back_joins : (w x : Vertex) → IsVertex H w → IsVertex H x → AreJoined H w x → AreJoined G (back w) (back x)
+
+-- a map as it is written down: a period, the images of the vertices in the cells from 0 to m - 1, and the shifts
+pub record PeriodicMap : Type 0 where
+  pub m : ℕ
+  pub image : ℕ → Vector → Vertex
+  pub base : Base
+
+-- each part of r, which has dimension d, is from 0 to m - 1
+pub record IsInBox (d m : ℕ) (r : Vector) : Type 0 where
+  pub dimension : HasDimension d r
+  pub low : (pos 0 ≤ℤ r.x) × (pos 0 ≤ℤ r.y) × (pos 0 ≤ℤ r.z)
+  pub high : (r.x <ℤ pos m) × (r.y <ℤ pos m) × (r.z <ℤ pos m)
+
+-- map is the one that M writes down: (u, r + m·k) goes to the image of (u, r), moved by the sum of k_i·B_i
+abbrev pub IsDrawnBy : Graph → PeriodicMap → (Vertex → Vertex) → Type 0
+IsDrawnBy G M map = (u : ℕ) (r k : Vector) → IsInBox G.dimension M.m r → HasDimension G.dimension k
+    → map (vertex u (plus r (times (pos M.m) k))) ≡ moved (M.image u r) (base_sum M.base k)
