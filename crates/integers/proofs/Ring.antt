@@ -1,87 +1,103 @@
--- The ring laws of the whole numbers.
-use Rattle.std.proofs.Common.{◌≡◌, ◌≢◌, ℕ, ◌+◌, ◌*◌, ℤ, pos, negsuc, ◌+ℤ◌, ◌-ℤ◌, ◌*ℤ◌, neg_ℤ, arith, ◌⊎◌, inl, inr, ◌∙◌, sym, ap, refl, suc, zero}
-use Rattle.std.proofs.Math.Nat.{eq_of_mul-eq-mul_left}
+-- The laws of ℤ as a commutative ring, and the two rulesets that serve as a ring tactic: `simp ring (omega (arith, linear))`
+-- multiplies out and compares; a hypothesis h is multiplied out by `simp ring at h` in omega's list.
+use Rattle.std.specs.Prelude.{ℤ, ◌+ℤ◌, ◌*ℤ◌, pos}
+use Rattle.std.proofs.Common.{◌⊎◌, inl, inr, ◌≡◌, ◌+◌, ◌*◌, ◌∙◌, arith, ap, sym, negsuc, suc, pos, zero, ℤ, refl, ◌≢◌, ◌+ℤ◌, ◌-ℤ◌, ◌*ℤ◌, ℕ, ◌≤◌}
+use Rattle.std.proofs.Math.IntN.{*ℤ_comm, neg_ℤ}
 use Rattle.std.proofs.lemmas.Int.{ints}
-use Rattle.std.proofs.Math.IntN.{suc_ℤ, pred_ℤ, *ℤ_comm, suc_ℤ-*ℤ, pred_ℤ-*ℤ, zero-*ℤ, pos-*ℤ-pos, pos-*ℤ-negsuc, negsuc-*ℤ-pos, negsuc-*ℤ-negsuc}
-use borrow.Author.Differences.{up, down, product_is, sum_is_lem, same_in, same_out, neg_is}
+use Rattle.std.proofs.Math.Nat.{eq_of_mul-eq-mul_left}
+use borrow.Author.Differences.{down, up, product_is, same_in, sum_is_lem, neg_is, below_in, at_most_in, lt_out, le_out, same_out}
 
-pub mul-add : (a b c : ℤ) → a *ℤ (b +ℤ c) ≡ a *ℤ b +ℤ a *ℤ c
-mul-add a b c =
-    let h = sum_is_lem b c in
-    let p = product_is a (b +ℤ c) in
-    let q = product_is a b in
-    let r = product_is a c in
-    let u = ap (λ (t : ℕ). up a * t) h in
-    let d = ap (λ (t : ℕ). down a * t) h in
-    same_in (a *ℤ (b +ℤ c)) (a *ℤ b +ℤ a *ℤ c) (omega (arith, sum_is_lem (a *ℤ b) (a *ℤ c)))
+-- the two parts of a product, as a difference of natural numbers
+up_product : (a b : ℤ) → up (a *ℤ b) ≡ up a * up b + down a * down b
+up_product a b = (product_is a b).0
 
-pub mul_assoc' : (a b c : ℤ) → (a *ℤ b) *ℤ c ≡ a *ℤ (b *ℤ c)
-mul_assoc' a b c =
-    let p = product_is (a *ℤ b) c in
-    let q = product_is a (b *ℤ c) in
-    let r = product_is a b in
-    let s = product_is b c in
-    let r0 = ap (λ (t : ℕ). t * up c) r.0 in
-    let r1 = ap (λ (t : ℕ). t * down c) r.0 in
-    let r2 = ap (λ (t : ℕ). t * up c) r.1 in
-    let r3 = ap (λ (t : ℕ). t * down c) r.1 in
-    let s0 = ap (λ (t : ℕ). up a * t) s.0 in
-    let s1 = ap (λ (t : ℕ). up a * t) s.1 in
-    let s2 = ap (λ (t : ℕ). down a * t) s.0 in
-    let s3 = ap (λ (t : ℕ). down a * t) s.1 in
-    same_in ((a *ℤ b) *ℤ c) (a *ℤ (b *ℤ c)) (omega arith)
+-- and the other part
+down_product : (a b : ℤ) → down (a *ℤ b) ≡ up a * down b + down a * up b
+down_product a b = (product_is a b).1
 
-pub add-mul : (a b c : ℤ) → (a +ℤ b) *ℤ c ≡ a *ℤ c +ℤ b *ℤ c
-add-mul a b c = *ℤ_comm (a +ℤ b) c ∙ mul-add c a b ∙ ap2 (*ℤ_comm c a) (*ℤ_comm c b)
-  where
-    ap2 : {x y z w : ℤ} → x ≡ y → z ≡ w → x +ℤ z ≡ y +ℤ w
-    ap2 p q = rw (p, q)
+-- (a·b)·c = a·(b·c)
+pub product_associative : (a b c : ℤ) → (a *ℤ b) *ℤ c ≡ a *ℤ (b *ℤ c)
+product_associative a b c = same_in _ _ (simp (up_product, down_product) (omega arith))
 
-pub mul_left_comm : (a b c : ℤ) → a *ℤ (b *ℤ c) ≡ b *ℤ (a *ℤ c)
-mul_left_comm a b c = sym (mul_assoc' a b c) ∙ ap (λ (t : ℤ). t *ℤ c) (*ℤ_comm a b) ∙ mul_assoc' b a c
+-- a·(b + c) = a·b + a·c
+pub product_sum : (a b c : ℤ) → a *ℤ (b +ℤ c) ≡ a *ℤ b +ℤ a *ℤ c
+product_sum a b c =
+    let e = sum_is_lem b c in
+    let eu = ap (λ n. up a * n) e in
+    let ed = ap (λ n. down a * n) e in
+    same_in _ _ (omega (arith, eu, ed, sum_is_lem (a *ℤ b) (a *ℤ c), product_is a (b +ℤ c), product_is a b, product_is a c))
 
-pub neg-mul : (a b : ℤ) → neg_ℤ a *ℤ b ≡ neg_ℤ (a *ℤ b)
-neg-mul a b =
-    let n = neg_is a in
-    let m = neg_is (a *ℤ b) in
-    let p = product_is (neg_ℤ a) b in
-    let q = product_is a b in
-    let n0 = ap (λ (t : ℕ). t * up b) n.0 in
-    let n1 = ap (λ (t : ℕ). t * down b) n.0 in
-    let n2 = ap (λ (t : ℕ). t * up b) n.1 in
-    let n3 = ap (λ (t : ℕ). t * down b) n.1 in
-    same_in (neg_ℤ a *ℤ b) (neg_ℤ (a *ℤ b)) (omega arith)
+-- (a + b)·c = a·c + b·c
+pub sum_product : (a b c : ℤ) → (a +ℤ b) *ℤ c ≡ a *ℤ c +ℤ b *ℤ c
+sum_product a b c = *ℤ_comm (a +ℤ b) c ∙ product_sum c a b ∙ ap (λ t. t +ℤ c *ℤ b) (*ℤ_comm c a) ∙ ap (λ t. a *ℤ c +ℤ t) (*ℤ_comm c b)
 
-pub mul-neg : (a b : ℤ) → a *ℤ neg_ℤ b ≡ neg_ℤ (a *ℤ b)
-mul-neg a b = *ℤ_comm a (neg_ℤ b) ∙ neg-mul b a ∙ ap neg_ℤ (*ℤ_comm b a)
+-- (-a)·b = -(a·b)
+pub negative_product : (a b : ℤ) → neg_ℤ a *ℤ b ≡ neg_ℤ (a *ℤ b)
+negative_product a b = same_in _ _ (omega (arith, neg_is a, neg_is (a *ℤ b), product_is (neg_ℤ a) b, product_is a b, ap (λ n. n * up b) (neg_is a).0, ap (λ n. n * down b) (neg_is a).0, ap (λ n. n * up b) (neg_is a).1, ap (λ n. n * down b) (neg_is a).1))
 
--- multiplies out, and sorts the factors of each product; `omega (arith, ints)` closes what is left
-pub ruleset expand = (mul-add, add-mul, mul_assoc', mul_left_comm, *ℤ_comm, neg-mul, mul-neg)
+-- a·(-b) = -(a·b)
+pub product_negative : (a b : ℤ) → a *ℤ neg_ℤ b ≡ neg_ℤ (a *ℤ b)
+product_negative a b = *ℤ_comm a (neg_ℤ b) ∙ negative_product b a ∙ ap neg_ℤ (*ℤ_comm b a)
 
-pub t3 : (a b c d : ℤ) → (a +ℤ b) *ℤ (c -ℤ d) ≡ a *ℤ c -ℤ a *ℤ d +ℤ b *ℤ c -ℤ b *ℤ d
-t3 a b c d = simp expand (omega (arith, ints))
+-- a·(b·c) = b·(a·c)
+pub product_exchange : (a b c : ℤ) → a *ℤ (b *ℤ c) ≡ b *ℤ (a *ℤ c)
+product_exchange a b c = sym (product_associative a b c) ∙ ap (λ t. t *ℤ c) (*ℤ_comm a b) ∙ product_associative b a c
 
-pub t6 : (ax ay az bx by bz cx cy cz k : ℤ) → (k *ℤ ax) *ℤ (by *ℤ cz -ℤ bz *ℤ cy) ≡ k *ℤ (ax *ℤ (by *ℤ cz -ℤ bz *ℤ cy))
-t6 ax ay az bx by bz cx cy cz k = simp expand (omega (arith, ints))
+-- 1·a = a
+pub one_product : (a : ℤ) → pos 1 *ℤ a ≡ a
+one_product a = omega (arith, ints)
 
-pub t7 : (ax ay az bx by bz cx cy cz k l : ℤ) → (k *ℤ ax +ℤ l *ℤ bx) *ℤ (by *ℤ cz -ℤ bz *ℤ cy) +ℤ (k *ℤ ay +ℤ l *ℤ by) *ℤ (bz *ℤ cx -ℤ bx *ℤ cz) +ℤ (k *ℤ az +ℤ l *ℤ bz) *ℤ (bx *ℤ cy -ℤ by *ℤ cx)
-    ≡ k *ℤ (ax *ℤ (by *ℤ cz -ℤ bz *ℤ cy) +ℤ ay *ℤ (bz *ℤ cx -ℤ bx *ℤ cz) +ℤ az *ℤ (bx *ℤ cy -ℤ by *ℤ cx))
-t7 ax ay az bx by bz cx cy cz k l = simp expand (omega (arith, ints))
+-- a·1 = a
+pub product_one : (a : ℤ) → a *ℤ pos 1 ≡ a
+product_one a = omega (arith, ints)
 
-mul-eq-zero_by : (a b : ℤ) → up a * up b + down a * down b ≡ up a * down b + down a * up b → a *ℤ b ≡ pos 0 → a ≢ pos 0 → b ≡ pos 0
-mul-eq-zero_by (pos zero) b e h n = absurd (n refl)
-mul-eq-zero_by (pos (suc a)) (pos b) e h n = ap pos (eq_of_mul-eq-mul_left (suc a) (omega arith) b 0 (omega arith))
-mul-eq-zero_by (pos (suc a)) (negsuc b) e h n = absurd (omega (arith, ints))
-mul-eq-zero_by (negsuc a) (pos b) e h n = ap pos (eq_of_mul-eq-mul_left (suc a) (omega arith) b 0 (omega arith))
-mul-eq-zero_by (negsuc a) (negsuc b) e h n = absurd (omega (arith, ints))
+-- 0·a = 0
+pub zero_product : (a : ℤ) → pos 0 *ℤ a ≡ pos 0
+zero_product a = omega (arith, ints)
 
--- a product is 0 only where a factor is
-pub mul-eq-zero : (a b : ℤ) → a *ℤ b ≡ pos 0 → a ≢ pos 0 → b ≡ pos 0
-mul-eq-zero a b h n = let p = product_is a b in let q = same_out (a *ℤ b) (pos 0) h in mul-eq-zero_by a b (omega arith) h n
+-- a·0 = 0
+pub product_zero : (a : ℤ) → a *ℤ pos 0 ≡ pos 0
+product_zero a = omega (arith, ints)
+
+-- multiplies out, and sorts the factors of each product
+pub ruleset ring = (one_product, product_one, zero_product, product_zero, product_sum, sum_product, negative_product, product_negative, product_associative, *ℤ_comm, product_exchange)
+
+-- what omega needs of sums, with each product an atom
+pub ruleset linear = (same_out, same_in, sum_is_lem, neg_is, lt_out, le_out, below_in, at_most_in)
+
+-- the same, by the signs
+other_factor_zero_by : (a b : ℤ) → up a * up b + down a * down b ≡ up a * down b + down a * up b → a *ℤ b ≡ pos 0 → a ≢ pos 0 → b ≡ pos 0
+other_factor_zero_by (pos zero) b e h n = absurd (n refl)
+other_factor_zero_by (pos (suc a)) (pos b) e h n = ap pos (eq_of_mul-eq-mul_left (suc a) (omega arith) b 0 (omega arith))
+other_factor_zero_by (pos (suc a)) (negsuc b) e h n = absurd (omega (arith, ints))
+other_factor_zero_by (negsuc a) (pos b) e h n = ap pos (eq_of_mul-eq-mul_left (suc a) (omega arith) b 0 (omega arith))
+other_factor_zero_by (negsuc a) (negsuc b) e h n = absurd (omega (arith, ints))
+
+-- where a product is 0 and a factor is not, the other is
+pub other_factor_zero : (a b : ℤ) → a *ℤ b ≡ pos 0 → a ≢ pos 0 → b ≡ pos 0
+other_factor_zero a b h n = let p = product_is a b in let q = same_out (a *ℤ b) (pos 0) h in other_factor_zero_by a b (omega arith) h n
 
 -- a factor other than 0 cancels
-pub mul_cancel : (k a b : ℤ) → k ≢ pos 0 → k *ℤ a ≡ k *ℤ b → a ≡ b
-mul_cancel k a b n h =
-    let z : k *ℤ (a -ℤ b) ≡ pos 0 = simp expand (omega (arith, ints, h)) in
-    let d = mul-eq-zero k (a -ℤ b) z n in
+pub cancel_factor : (k a b : ℤ) → k ≢ pos 0 → k *ℤ a ≡ k *ℤ b → a ≡ b
+cancel_factor k a b n h =
+    let z : k *ℤ (a -ℤ b) ≡ pos 0 = simp ring (omega (arith, ints, h)) in
+    let d = other_factor_zero k (a -ℤ b) z n in
     omega (arith, ints, d)
+
+-- a positive number is not 0
+pub positive_not_zero : (n : ℕ) → 1 ≤ n → pos n ≢ pos 0
+positive_not_zero n h e = omega (arith, ints)
+
+-- a number is 0 or not
+pub zero_or_not : (z : ℤ) → (z ≡ pos 0) ⊎ (z ≢ pos 0)
+zero_or_not (pos zero) = inl refl
+zero_or_not (pos (suc n)) = inr (λ e. omega (arith, ints))
+zero_or_not (negsuc n) = inr (λ e. omega (arith, ints))
+
+-- a product is 0 only where a factor is
+pub factor_zero : (a b : ℤ) → a *ℤ b ≡ pos 0 → (a ≡ pos 0) ⊎ (b ≡ pos 0)
+factor_zero a b e = by (zero_or_not a)
+  where
+    by : (a ≡ pos 0) ⊎ (a ≢ pos 0) → (a ≡ pos 0) ⊎ (b ≡ pos 0)
+    by (inl h) = inl h
+    by (inr n) = inr (other_factor_zero a b e n)

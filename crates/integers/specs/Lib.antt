@@ -1,2 +1,4 @@
+pub mod Divisors
+pub mod Lists
 pub mod Staircase
 pub mod Vectors

@@ -1,7 +1,8 @@
 -- The staircase basis of a lattice: of a set of vectors that is given by its membership.
-use Rattle.std.specs.Prelude.{◌≡◌, ◌≢◌, ℕ, zero, suc, ℤ, pos, List, [], ◌∷◌, length, ◌<ℤ◌, ◌≤ℤ◌, ◌<◌, ◌≤◌, drop, slice_index_or, Contains}
-use Rattle.integers.specs.Vectors.{Vector, vector, zero_vector, plus, minus, parts, IsAtMost, combination}
+use Rattle.std.specs.Prelude.{◌≡◌, ℕ, ℤ, pos, List, length, ◌<ℤ◌, ◌≤ℤ◌, ◌<◌, drop, slice_index_or}
+use Rattle.integers.specs.Vectors.{Vector, zero_vector, parts, IsAtMost, combination}
 
+-- the part of v at place i, counted from 0
 abbrev pub part : ℕ → Vector → ℤ
 part i v = slice_index_or (parts 3 v) i (pos 0)
 
@@ -15,6 +16,7 @@ pub record MayLead (L : Vector → Type 0) (i : ℕ) (v : Vector) : Type 0 where
   pub before : IsZeroBefore i v
   pub leads : pos 0 <ℤ part i v
 
+-- no part after place i is negative
 abbrev pub NotNegativeAfter : ℕ → Vector → Type 0
 NotNegativeAfter i v = (k : ℕ) → i < k → pos 0 ≤ℤ part k v
 
@@ -26,6 +28,7 @@ pub record IsStair (L : Vector → Type 0) (i : ℕ) (v : Vector) : Type 0 where
   pub least_rest : (w : Vector) → MayLead L i w → part i w ≡ part i v → NotNegativeAfter i w
       → IsAtMost (drop i (parts 3 v)) (drop i (parts 3 w))
 
+-- the staircase basis: one row at each place
 pub record IsStaircase (L : Vector → Type 0) (d : ℕ) (rows : List Vector) : Type 0 where
   pub count : length rows ≡ d
   pub each : (i : ℕ) → i < d → IsStair L i (slice_index_or rows i zero_vector)

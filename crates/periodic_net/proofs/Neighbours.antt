@@ -1,13 +1,15 @@
 -- An isomorphism carries the neighbours of a vertex one to one to those of its image.
-use Rattle.std.proofs.Common.{◌≡◌, ℕ, ℤ, pos, ◌+ℤ◌, ◌-ℤ◌, ◌*ℤ◌, neg_ℤ, ◌==◌, List, [], ◌∷◌, refl, sym, ap, subst, ◌∙◌, arith}
+use Rattle.std.proofs.Common.{◌≡◌, ◌+ℤ◌, ◌∙◌, ap, sym, subst, refl, ℤ, arith}
 use Rattle.std.proofs.lemmas.Int.{ints}
-use Rattle.integers.proofs.Sums.{IsIn, AreApart, Carries, total, same_total}
-use Rattle.integers.specs.Vectors.{Vector, vector, zero_vector, plus, minus, HasDimension}
-use Rattle.periodic_net.specs.Graph.{Graph, IsGraph, Arc, arc, arcs_from, IsArc, IsQuotientVertex, Vertex, vertex, IsVertex, AreJoined}
-use Rattle.periodic_net.specs.Maps.{Base, IsPeriodic, Iso}
-use Rattle.periodic_net.proofs.Isos.{vector_ext}
-use Rattle.periodic_net.proofs.Arcs.{arc_inside, joined_inside}
-use Rattle.periodic_net.proofs.Distinct.{arcs_apart, from_is_arc, arc_is_from}
+use Rattle.integers.specs.Vectors.{plus, minus, Vector}
+use Rattle.periodic_net.specs.Graph.{Arc, Vertex, vertex, arc, Graph, IsArc, AreJoined, IsGraph, IsVertex, arcs_from, moved}
+use Rattle.periodic_net.specs.Maps.{Iso}
+use Rattle.integers.proofs.Vectors.{plus_minus, minus_plus, vector_equal}
+use Rattle.integers.proofs.Members.{Carries}
+use Rattle.integers.specs.Lists.{total}
+use Rattle.integers.proofs.Sums.{same_total}
+use Rattle.periodic_net.proofs.ArcLists.{arc_is_from, from_is_arc, arcs_apart}
+use Rattle.periodic_net.proofs.Arcs.{joined_inside}
 
 -- the vertex at the end of an arc from w
 abbrev pub end_of : Vertex → Arc → Vertex
@@ -17,21 +19,18 @@ end_of w a = vertex a.to (plus w.cell a.shift)
 abbrev pub arc_between : Vertex → Vertex → Arc
 arc_between w x = arc w.over x.over (minus x.cell w.cell)
 
-pub plus_minus : (s t : Vector) → minus (plus s t) s ≡ t
-plus_minus s t = vector_ext (omega (arith, ints)) (omega (arith, ints)) (omega (arith, ints))
-
-pub minus_plus : (s t : Vector) → plus s (minus t s) ≡ t
-minus_plus s t = vector_ext (omega (arith, ints)) (omega (arith, ints)) (omega (arith, ints))
-
+-- the arc from w to x ends at x
 pub end_between : (w x : Vertex) → end_of w (arc_between w x) ≡ x
-end_between w x = ap (vertex x.over) (minus_plus w.cell x.cell)
+end_between w x = ap (vertex x.over) (plus_minus w.cell x.cell)
 
+-- and is the arc by which x was found
 pub between_end : (w : Vertex) (a : Arc) → a.from ≡ w.over → arc_between w (end_of w a) ≡ a
-between_end w a e = λ i. arc (e' i) a.to (plus_minus w.cell a.shift i)
+between_end w a e = λ i. arc (e' i) a.to (minus_plus w.cell a.shift i)
   where
     e' : w.over ≡ a.from
     e' = sym e
 
+-- an arc from w joins w to its end
 pub end_joined : (G : Graph) (w : Vertex) (a : Arc) → IsArc G a → a.from ≡ w.over → AreJoined G w (end_of w a)
 end_joined G w a h e = subst (IsArc G) (sym (between_end w a e)) h
 
@@ -39,6 +38,7 @@ end_joined G w a h e = subst (IsArc G) (sym (between_end w a e)) h
 abbrev pub carried : (Vertex → Vertex) → Vertex → Arc → Arc
 carried f w a = arc_between (f w) (f (end_of w a))
 
+-- the arcs from w go one to one to those from the image of w
 pub carries_arcs : (G H : Graph) → IsGraph G → IsGraph H → (e : Iso G H) → (w : Vertex) → IsVertex G w
     → Carries (carried e.there w) (arcs_from G w.over) (arcs_from H (e.there w).over)
 carries_arcs G H g h e w i = record {
@@ -77,3 +77,17 @@ pub same_arcs_total : (G H : Graph) → IsGraph G → IsGraph H → (e : Iso G H
     → total g (arcs_from H (e.there w).over) ≡ total (λ a. g (carried e.there w a)) (arcs_from G w.over)
 same_arcs_total G H g h e w i f =
     same_total (carried e.there w) f (arcs_from G w.over) (arcs_from H (e.there w).over) (arcs_apart G g w.over) (arcs_apart H h (e.there w).over) (carries_arcs G H g h e w i)
+
+-- the end of an arc, moved by cells
+pub moved_end : (y : Vertex) (k : Vector) (a : Arc) → moved (end_of y a) k ≡ end_of (moved y k) a
+moved_end y k a = ap (vertex a.to) (vector_equal (swap y.cell.x a.shift.x k.x) (swap y.cell.y a.shift.y k.y) (swap y.cell.z a.shift.z k.z))
+  where
+    swap : (r s t : ℤ) → (r +ℤ s) +ℤ t ≡ (r +ℤ t) +ℤ s
+    swap r s t = omega (arith, ints)
+
+-- cells in either order
+pub moved_twice : (y : Vertex) (k l : Vector) → moved (moved y k) l ≡ moved (moved y l) k
+moved_twice y k l = ap (vertex y.over) (vector_equal (swap y.cell.x k.x l.x) (swap y.cell.y k.y l.y) (swap y.cell.z k.z l.z))
+  where
+    swap : (r s t : ℤ) → (r +ℤ s) +ℤ t ≡ (r +ℤ t) +ℤ s
+    swap r s t = omega (arith, ints)

@@ -1,7 +1,8 @@
 -- Translations of a placed net, its classes, and the class graph.
-use Rattle.std.specs.Prelude.{◌≡◌, ◌≢◌, ◌↔◌, ℕ, zero, suc, ◌≤◌, ◌<◌, ℤ, pos, List, Contains, AllPairs}
-use Rattle.integers.specs.Vectors.{Vector, plus, times, HasDimension}
-use Rattle.periodic_net.specs.Graph.{Graph, Arc, IsArc, IsQuotientVertex, Vertex, vertex, IsVertex, AreJoined}
+-- Translations are those of Delgado-Friedrichs and O'Keeffe, Acta Cryst. A59 (2003) 351; the numbering of the classes and the class graph are this project's own.
+use Rattle.std.specs.Prelude.{◌≡◌, ◌≢◌, ◌↔◌, ℕ, zero, suc, ◌≤◌, ◌<◌, List, Contains, AllPairs}
+use Rattle.integers.specs.Vectors.{Vector, plus, HasDimension}
+use Rattle.periodic_net.specs.Graph.{Graph, Arc, IsArc, IsQuotientVertex, Vertex, IsVertex, AreJoined}
 use Rattle.periodic_net.specs.Placement.{Placement, position, arc_vector}
 
 -- x stands where w would stand after the move by r
@@ -34,6 +35,7 @@ pub record IsClassNumbering (G : Graph) (p : Placement) (class_of : ℕ → ℕ)
   pub in_order : (u c : ℕ) → IsQuotientVertex G u → 1 ≤ c → c < class_of u
       → (v : ℕ) × (v < u) × IsQuotientVertex G v × (class_of v ≡ c)
 
+-- an arc of a class graph: its classes, and its vector
 pub record ClassArc : Type 0 where
   pub from : ℕ
   pub to : ℕ

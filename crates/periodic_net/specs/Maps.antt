@@ -1,7 +1,8 @@
 -- Periodic maps between nets, and isomorphism. No placement, cell, frame or traversal occurs here.
-use Rattle.std.specs.Prelude.{◌≡◌, ℕ, ◌≤◌, ◌<◌, ℤ, pos, ◌<ℤ◌, ◌≤ℤ◌}
+-- Isomorphism is that of periodic nets; to write it by maps with a period is this project's own.
+use Rattle.std.specs.Prelude.{◌≡◌, ℕ, ◌≤◌, pos, ◌<ℤ◌, ◌≤ℤ◌}
 use Rattle.integers.specs.Vectors.{Vector, plus, times, HasDimension}
-use Rattle.periodic_net.specs.Graph.{Graph, Vertex, vertex, moved, IsVertex, AreJoined}
+use Rattle.periodic_net.specs.Graph.{Graph, Vertex, vertex, moved, IsVertex, IsQuotientVertex, AreJoined}
 
 -- the d shifts of a periodic map; in dimension 2 the third counts for nothing
 pub record Base : Type 0 where
@@ -44,7 +45,13 @@ pub record IsInBox (d m : ℕ) (r : Vector) : Type 0 where
   pub low : (pos 0 ≤ℤ r.x) × (pos 0 ≤ℤ r.y) × (pos 0 ≤ℤ r.z)
   pub high : (r.x <ℤ pos m) × (r.y <ℤ pos m) × (r.z <ℤ pos m)
 
+-- M writes down a map from G to H: the images are vertices of H, and the shifts have its dimension
+pub record IsMapTable (G H : Graph) (M : PeriodicMap) : Type 0 where
+  pub positive : 1 ≤ M.m
+  pub into : (u : ℕ) (r : Vector) → IsQuotientVertex G u → IsInBox G.dimension M.m r → IsVertex H (M.image u r)
+  pub dimension : (k : Vector) → HasDimension G.dimension k → HasDimension H.dimension (base_sum M.base k)
+
 -- map is the one that M writes down: (u, r + m·k) goes to the image of (u, r), moved by the sum of k_i·B_i
 abbrev pub IsDrawnBy : Graph → PeriodicMap → (Vertex → Vertex) → Type 0
-IsDrawnBy G M map = (u : ℕ) (r k : Vector) → IsInBox G.dimension M.m r → HasDimension G.dimension k
+IsDrawnBy G M map = (u : ℕ) (r k : Vector) → IsQuotientVertex G u → IsInBox G.dimension M.m r → HasDimension G.dimension k
     → map (vertex u (plus r (times (pos M.m) k))) ≡ moved (M.image u r) (base_sum M.base k)

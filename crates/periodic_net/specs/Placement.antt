@@ -1,7 +1,8 @@
 -- Placements of the vertices of a net, and their collisions.
+-- Barycentric placements, collisions and stability are those of Delgado-Friedrichs and O'Keeffe, Acta Cryst. A59 (2003) 351; whole units of 1/D, the normal form and the limits are this project's own.
 use Rattle.std.specs.Int.{◌∣◌}
-use Rattle.std.specs.Prelude.{◌≡◌, ◌≢◌, ℕ, ◌-◌, ◌<◌, ◌≤◌, ◌^◌, ℤ, pos, ◌*ℤ◌, List, map, slice_index_or, length, unsigned_abs}
-use Rattle.integers.specs.Vectors.{Vector, zero_vector, plus, minus, times, vector_sum, HasDimension}
+use Rattle.std.specs.Prelude.{◌≡◌, ◌≢◌, ℕ, ◌-◌, ◌≤◌, ◌^◌, pos, List, map, slice_index_or, length}
+use Rattle.integers.specs.Vectors.{Vector, zero_vector, plus, minus, times, vector_sum, HasDimension, DividesVector, IsWithin}
 use Rattle.periodic_net.specs.Graph.{Graph, Arc, IsQuotientVertex, IsArc, arcs_from, Vertex, vertex, IsVertex, IsConnected}
 
 -- positions in units of 1/denominator; the one of vertex u, counted from 1, stands at u - 1
@@ -28,14 +29,12 @@ pub record IsBarycentric (G : Graph) (p : Placement) : Type 0 where
   pub dimension : (u : ℕ) → IsQuotientVertex G u → HasDimension G.dimension (base p u)
   pub balanced : (u : ℕ) → IsQuotientVertex G u → vector_sum (map (arc_vector p) (arcs_from G u)) ≡ zero_vector
 
--- k divides each part of v
-abbrev pub DividesVector : ℕ → Vector → Type 0
-DividesVector k v = (w : Vector) × (v ≡ times (pos k) w)
-
+-- vertex 1 stands at 0, and no number above 1 divides the denominator and all bases
 pub record IsNormal (G : Graph) (p : Placement) : Type 0 where
   pub origin : base p 1 ≡ zero_vector
   pub reduced : (k : ℕ) → k ∣ p.denominator → ((u : ℕ) → IsQuotientVertex G u → DividesVector k (base p u)) → k ≡ 1
 
+-- a placement that is barycentric and normal
 pub record IsNormalPlacement (G : Graph) (p : Placement) : Type 0 where
   pub barycentric : IsBarycentric G p
   pub normal : IsNormal G p
@@ -53,6 +52,7 @@ pub record IsCollision (G : Graph) (p : Placement) (u v : ℕ) (t : Vector) : Ty
   pub different : vertex u zero_vector ≢ vertex v t
   pub same_place : position p (vertex u zero_vector) ≡ position p (vertex v t)
 
+-- different vertices stand in different places
 abbrev pub HasNoCollision : Graph → Placement → Type 0
 HasNoCollision G p = (u v : ℕ) (t : Vector) → ¬ IsCollision G p u v t
 
@@ -62,12 +62,9 @@ pub record IsStablePlacement (G : Graph) (p : Placement) : Type 0 where
   pub placement : IsNormalPlacement G p
   pub no_collision : HasNoCollision G p
 
+-- some placement of the net is normal, and without collisions, and the net is connected
 abbrev pub IsStable : Graph → Type 0
 IsStable G = (p : Placement) × IsStablePlacement G p
-
--- all parts of v are at most n in absolute value
-abbrev pub IsWithin : ℕ → Vector → Type 0
-IsWithin n v = (unsigned_abs v.x ≤ n) × (unsigned_abs v.y ≤ n) × (unsigned_abs v.z ≤ n)
 
 -- the limits of a placement: 2^40 for the denominator and each part of an arc's vector
 pub record IsWithinLimits (G : Graph) (p : Placement) : Type 0 where

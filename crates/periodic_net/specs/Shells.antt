@@ -1,6 +1,7 @@
 -- Coordination shells, in the net itself.
+-- Coordination shells are the usual ones of crystal chemistry.
 use Rattle.std.specs.Prelude.{◌≡◌, ◌≢◌, ◌↔◌, ℕ, ◌≤◌, List, length, Contains, AllPairs}
-use Rattle.periodic_net.specs.Graph.{Graph, Vertex, IsVertex, IsWalk}
+use Rattle.periodic_net.specs.Graph.{Graph, Vertex, IsWalk}
 
 -- k steps lead from w to x
 abbrev pub StepsLead : Graph → ℕ → Vertex → Vertex → Type 0

@@ -1,13 +1,15 @@
 -- Colourings that show a net not connected.
-use Rattle.std.specs.Prelude.{◌≡◌, ◌≢◌, ◌⊎◌, ℕ, ◌-◌, ℤ, pos, ◌<◌, ◌≤◌, ◌<ℤ◌, ◌≤ℤ◌, ◌*ℤ◌, ◌+ℤ◌, neg_ℤ, List, slice_index_or, length, ◌↔◌}
+-- Splits are this project's own.
+use Rattle.std.specs.Prelude.{◌≡◌, ◌≢◌, ◌⊎◌, ℕ, ◌-◌, ℤ, pos, ◌<◌, ◌≤◌, ◌<ℤ◌, ◌≤ℤ◌, ◌*ℤ◌, ◌+ℤ◌, neg_ℤ, List, slice_index_or, length}
 use Rattle.integers.specs.Vectors.{Vector, zero_vector, dot, HasDimension, StartsPositive}
 use Rattle.integers.specs.Staircase.{part, IsZeroBefore}
-use Rattle.periodic_net.specs.Graph.{Graph, IsGraph, Vertex, vertex, IsVertex, IsQuotientVertex, AreJoined, IsReached}
+use Rattle.periodic_net.specs.Graph.{Graph, Vertex, vertex, IsVertex, IsQuotientVertex, AreJoined, IsReached}
 
 -- x and y differ by a multiple of q; at q = 0 they are equal
 abbrev pub AreAlike : ℕ → ℤ → ℤ → Type 0
 AreAlike q x y = (k : ℤ) × (x ≡ y +ℤ pos q *ℤ k)
 
+-- a colouring of the net: a modulus, a vector, and an entry for each vertex of the quotient graph
 pub record Split : Type 0 where
   pub q : ℕ
   pub c : Vector
@@ -17,6 +19,7 @@ pub record Split : Type 0 where
 abbrev pub entry : List ℤ → ℕ → ℤ
 entry h u = slice_index_or h (u - 1) (pos 0)
 
+-- the colour of (u, t) is h(u) + c·t, taken modulo q
 abbrev pub colour : Split → Vertex → ℤ
 colour S w = entry S.h w.over +ℤ dot S.c w.cell
 

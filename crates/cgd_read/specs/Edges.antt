@@ -1,0 +1,66 @@
+-- The vertices and the edges of rows. Rows are listed the nearest first.
+use Rattle.std.specs.Prelude.{ℕ, ℤ, pos, ◌-ℤ◌, ◌+◌, Bool, true, false, not, ◌||◌, ◌&&◌, ◌==◌, nat_le, nat_lt, List, [], ◌∷◌, ◌++◌, length, if◌then◌else◌}
+use Rattle.std.specs.List.{list_any, position_or_len}
+use Rattle.std.specs.Str.{bytes_eq}
+use Rattle.std.specs.Ordering.{int_eq}
+use Rattle.std.specs.Int.Signed.{lt_z}
+use Rattle.cgd_read.specs.Rows.{RowView}
+use Rattle.cgd_read.specs.declared.block.RawEdge.{RawEdge}
+
+-- the list with x last, unless it has one that is the same
+abbrev pub with_new : {X : Type 0} → (X → X → Bool) → List X → X → List X
+with_new same xs x = if list_any (same x) xs then xs else xs ++ x ∷ []
+
+-- the different vertices in order of appearance
+abbrev pub vertices_of : List RowView → List (List ℕ)
+vertices_of [] = []
+vertices_of (row ∷ rows) = with_new bytes_eq (with_new bytes_eq (vertices_of rows) row.u) row.v
+
+-- a vertex has the number of its place in order of appearance
+abbrev pub number_of : List (List ℕ) → List ℕ → ℕ
+number_of names name = position_or_len (bytes_eq name) names + 1
+
+-- u < v, or u = v and the first part that is not 0 is positive
+abbrev pub is_forward : ℕ → ℕ → ℤ → ℤ → ℤ → Bool
+is_forward u v x y z = nat_lt u v || (u == v && (lt_z (pos 0) x || (int_eq x (pos 0) && (lt_z (pos 0) y || (int_eq y (pos 0) && lt_z (pos 0) z)))))
+
+abbrev pub spelled : Bool → ℕ → ℕ → ℤ → ℤ → ℤ → RawEdge
+spelled true u v x y z = record { u = u; v = v; x = x; y = y; z = z }
+spelled false u v x y z = record { u = v; v = u; x = pos 0 -ℤ x; y = pos 0 -ℤ y; z = pos 0 -ℤ z }
+
+-- the edge from u to v in its normal spelling
+abbrev pub normal : ℕ → ℕ → ℤ → ℤ → ℤ → RawEdge
+normal u v x y z = spelled (is_forward u v x y z) u v x y z
+
+-- the edge of a row; these vertices came before it
+abbrev pub row_edge : List (List ℕ) → RowView → RawEdge
+row_edge before row = normal (number_of before row.u) (number_of (with_new bytes_eq before row.u) row.v) row.x row.y row.z
+
+abbrev pub same_edge : RawEdge → RawEdge → Bool
+same_edge e f = e.u == f.u && (e.v == f.v && (int_eq e.x f.x && (int_eq e.y f.y && int_eq e.z f.z)))
+
+-- the different edges in order of appearance
+abbrev pub edges_of : List RowView → List RawEdge
+edges_of [] = []
+edges_of (row ∷ rows) = with_new same_edge (edges_of rows) (row_edge (vertices_of rows) row)
+
+-- both vertices are the same, and the shift is 0
+abbrev pub is_self_edge : RowView → Bool
+is_self_edge row = bytes_eq row.u row.v && (int_eq row.x (pos 0) && (int_eq row.y (pos 0) && int_eq row.z (pos 0)))
+
+-- the row's edge is one of an earlier row, in either direction
+abbrev pub is_repeat : List RowView → RowView → Bool
+is_repeat rows row = list_any (same_edge (row_edge (vertices_of rows) row)) (edges_of rows)
+
+-- the dimension of the nearest row
+abbrev pub dimension_of : List RowView → ℕ
+dimension_of [] = 0
+dimension_of (row ∷ rows) = row.dim
+
+-- the row has the length of these rows and is no self edge
+abbrev pub has_form : List RowView → RowView → Bool
+has_form rows row = (nat_lt (length (edges_of rows)) 1 || dimension_of rows == row.dim) && not (is_self_edge row)
+
+-- the row may follow these rows: it brings at most the 512th vertex, a new edge, and at most the 4096th
+abbrev pub row_fits : List RowView → RowView → Bool
+row_fits rows row = has_form rows row && (nat_le (length (vertices_of (row ∷ rows))) 512 && (not (is_repeat rows row) && nat_le (length (edges_of (row ∷ rows))) 4096))

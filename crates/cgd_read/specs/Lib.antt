@@ -1,0 +1,10 @@
+pub mod Views
+pub mod Graphs
+pub mod Lines
+pub mod Rows
+pub mod Edges
+pub mod BlockViews
+pub mod Plain
+pub mod Blocks
+pub mod Partial
+pub mod States

@@ -1,0 +1,61 @@
+// A list of names, each a slice of the text that they were read from.
+ghost use Rattle.std.specs.Prelude.{◌≡◌, ◌++◌, ◌∷◌, [], List, ℕ, length, slice_get, Some, OnOk, OnErr, ◌<◌, IfOk};
+ghost use Rattle.cgd_read.specs.Views.{texts};
+
+use crate::NoMemory;
+use std::alloc::Global;
+use std::marker::Model;
+
+#[derive(Drop)]
+pub struct Names<'a> {
+    items: Vec<&'a [u8]>,
+}
+
+impl<'a> Model for Names<'a> {
+    ghost use Rattle.std.specs.Prelude.{ℕ, List};
+
+    ghost Value = { List (List ℕ) };
+
+    ghost use Rattle.cgd_read.specs.Views.{texts};
+
+    ghost view = { λ n. texts n.items.items };
+}
+
+impl<'a> Names<'a> {
+    pub fn new(alloc: Global) -> Self
+        ensures { result ≡ [] }
+    {
+        Names {
+            items: Vec::new(alloc),
+        }
+    }
+
+    // The names of a slice, in its order.
+    pub(crate) fn from_slice(alloc: Global, names: &[&'a [u8]]) -> Result<Self, NoMemory>
+        ensures { IfOk result (λ list. list ≡ texts names.now) }
+    {
+        let items = Vec::from_slice(alloc, names)?;
+        Ok(Names { items })
+    }
+
+    pub fn push(&mut self, item: &'a [u8]) -> Result<(), NoMemory>
+        ensures ok { OnOk result (self.new ≡ self.old ++ item.now ∷ []) }
+        ensures err { OnErr result (self.new ≡ self.old) }
+    {
+        self.items.push(item)?;
+        Ok(())
+    }
+
+    pub fn len(&self) -> usize
+        ensures { result ≡ length self.now }
+    {
+        self.items.len()
+    }
+
+    pub fn at(&self, i: usize) -> &&'a [u8]
+        requires { i < length self.now }
+        ensures { slice_get self.now i ≡ Some result.now.now }
+    {
+        &self.items[i]
+    }
+}

@@ -1,0 +1,6 @@
+pub mod Finding
+pub mod Expanding
+pub mod Growing
+pub mod Searching
+pub mod Starting
+pub mod Parts

@@ -1,0 +1,110 @@
+// Whether a quotient graph is connected.
+ghost use Rattle.std.specs.Prelude.{◌≡◌, ℕ, Option, Some, None, IfOk, IfErr, OnOk, IsSome, map, length, slice_index_or, true, false, ◌<◌};
+ghost use Rattle.periodic_net.specs.Graph.{IsGraph};
+ghost use Rattle.periodic_net.specs.Split.{IsPartSplit};
+ghost use Rattle.quotient_graph.specs.Splits.{split_in};
+ghost use Rattle.connected_dim.specs.Search.{AreWalks, walk_to};
+ghost use Rattle.connected_dim.specs.Quotient.{IsQuotientConnected, part_colour};
+ghost use Rattle.connected_dim.specs.Refusals.{IsRefused};
+
+use crate::NoMemory;
+use crate::search::walks;
+use quotient_graph::{Graph, Shift, Split, Triple};
+use std::alloc::Global;
+use std::marker::Model;
+
+/// A graph whose quotient graph is connected.
+#[derive(Drop)]
+pub struct Connected<const D: usize> {
+    pub graph: Graph<D>,
+}
+
+impl<const D: usize> Model for Connected<D> {
+    ghost use Rattle.periodic_net.specs.Graph.{Graph as NetGraph};
+    ghost use Rattle.connected_dim.specs.Quotient.{IsQuotientConnected};
+
+    ghost Value = { NetGraph };
+
+    ghost view = { λ c. c.graph };
+
+    ghost invariant = { λ c. IsQuotientConnected c.graph };
+}
+
+/// Why a graph was not taken; it is handed back.
+#[derive(Drop)]
+pub enum Unconnected<const D: usize> {
+    Disconnected(Split, Graph<D>),
+    NoMemory(Graph<D>),
+}
+
+fn all_found<const D: usize>(found: &[Option<Shift<D>>]) -> bool
+    ensures yes { result ≡ true → (k : ℕ) → k < length found.now → IsSome (slice_index_or found.now k None) }
+    ensures no { result ≡ false → (k : ℕ) × (k < length found.now) × (slice_index_or found.now k None ≡ None) }
+{
+    for k in 0..found.len() {
+        if found[k].is_none() {
+            return false;
+        }
+    }
+    true
+}
+
+fn part_colour<const D: usize>(walk: &Option<Shift<D>>) -> i64
+    ensures { result ≡ part_colour walk.now }
+{
+    match walk {
+        Some(_) => 0,
+        None => 1,
+    }
+}
+
+fn part_colours<const D: usize>(
+    alloc: Global,
+    found: &[Option<Shift<D>>],
+) -> Result<Vec<i64>, NoMemory>
+    ensures { IfOk result (λ h. h.items ≡ map part_colour found.now) }
+{
+    let mut h = Vec::with_capacity(alloc, found.len())?;
+    for walk in found {
+        h.push(part_colour(walk))?;
+    }
+    Ok(h)
+}
+
+// The colouring that tells the found vertices from the others.
+fn part_split<const D: usize>(
+    alloc: Global,
+    g: &Graph<D>,
+    found: &[Option<Shift<D>>],
+) -> Result<Split, NoMemory>
+    requires is_graph { IsGraph g.now }
+    requires walks { AreWalks g.now found.now }
+    requires missed { (k : ℕ) × (k < length found.now) × (slice_index_or found.now k None ≡ None) }
+    ensures split { IfOk result (λ s. IsPartSplit g.now (split_in s)) }
+    ensures dimension { IfOk result (λ s. s.dim ≡ g.now.dimension) }
+{
+    Ok(Split {
+        dim: g.dimension(),
+        q: 0,
+        c: Triple { x: 0, y: 0, z: 0 },
+        h: part_colours(alloc, found)?,
+    })
+}
+
+/// The graph where its quotient graph is connected, and otherwise a colouring of its parts, with the graph.
+pub fn connect<const D: usize>(alloc: Global, g: Graph<D>) -> Result<Connected<D>, Unconnected<D>>
+    ensures same { IfOk result (λ c. c ≡ g.entry) }
+    ensures connected { OnOk result (IsQuotientConnected g.entry) }
+    ensures refused { IfErr result (IsRefused g.entry) }
+{
+    let Ok(found) = walks(alloc, &g) else {
+        return Err(Unconnected::NoMemory(g));
+    };
+    if all_found(&found) {
+        return Ok(Connected { graph: g });
+    }
+    match part_split(alloc, &g, &found) {
+        Ok(split) => Err(Unconnected::Disconnected(split, g)),
+        Err(_) => Err(Unconnected::NoMemory(g)),
+    }
+}

@@ -1,0 +1,8 @@
+//! Whether a net is connected, or a colouring that shows that it is not.
+#![tactic(auto)]
+
+mod connectedness;
+mod search;
+
+pub use connectedness::{Connected, Unconnected, connect};
+pub use std::alloc::AllocError as NoMemory;

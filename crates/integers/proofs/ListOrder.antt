@@ -1,0 +1,81 @@
+-- The order of lists of numbers is total: numbers are compared one by one, and a proper prefix comes before.
+use Rattle.std.proofs.Common.{◌≡◌, ◌⊎◌, inl, inr, ℤ, List, refl, sym, ap, ◌∙◌}
+use Rattle.std.specs.Ordering.{int_cmp, ordering_reverse}
+use Rattle.std.specs.declared.cmp.Ordering.{Ordering}
+use Rattle.std.specs.declared.cmp.Ordering.TheVariants.{Less, Equal, Greater}
+use Rattle.std.specs.Cmp.Lexicographic.{slice_cmp}
+use Rattle.std.specs.Cmp.{IsTotalOrder}
+use Rattle.std.specs.FinMap.{slice_cmp-IsAntisymmetric, int_cmp-IsAntisymmetric}
+use Rattle.std.proofs.lemmas.Cmp.{lists_total, int_cmp_total}
+use Rattle.integers.specs.Vectors.{IsBelow, IsAtMost}
+
+-- the order of lists is total
+pub lists_order : IsTotalOrder (slice_cmp int_cmp)
+lists_order = lists_total int_cmp_total
+
+-- the three answers of a comparison differ
+less_greater : Less ≡ Greater → ⊥
+less_greater e = cc
+
+-- and these
+less_equal : Less ≡ Equal → ⊥
+less_equal e = cc
+
+-- and these
+equal_greater : Equal ≡ Greater → ⊥
+equal_greater e = cc
+
+-- a list is not below itself
+pub not_below_itself : (xs : List ℤ) → ¬ IsBelow xs xs
+not_below_itself xs h = less_greater (sym h ∙ lists_order.antisymm xs xs ∙ ap ordering_reverse h)
+
+-- below, and below again
+pub below_transitive : (xs ys zs : List ℤ) → IsBelow xs ys → IsBelow ys zs → IsBelow xs zs
+below_transitive xs ys zs = lists_order.trans xs ys zs
+
+-- of two lists one is not below the other way too
+pub below_one_way : (xs ys : List ℤ) → IsBelow xs ys → ¬ IsBelow ys xs
+below_one_way xs ys h k = not_below_itself xs (below_transitive xs ys xs h k)
+
+-- of two lists one is below the other, or they are equal
+pub below_or_equal : (xs ys : List ℤ) → IsBelow xs ys ⊎ ((xs ≡ ys) ⊎ IsBelow ys xs)
+below_or_equal xs ys = by (slice_cmp int_cmp xs ys) refl
+  where
+    by : (o : Ordering) → slice_cmp int_cmp xs ys ≡ o → IsBelow xs ys ⊎ ((xs ≡ ys) ⊎ IsBelow ys xs)
+    by Less e = inl e
+    by Equal e = inr (inl (slice_cmp-IsAntisymmetric int_cmp-IsAntisymmetric xs ys e))
+    by Greater e = inr (inr (lists_order.antisymm ys xs ∙ ap ordering_reverse e))
+
+-- what is below is at most
+pub at_most_of_below : (xs ys : List ℤ) → IsBelow xs ys → IsAtMost xs ys
+at_most_of_below xs ys h k = less_greater (sym h ∙ k)
+
+-- a list is at most itself
+pub at_most_itself : (xs : List ℤ) → IsAtMost xs xs
+at_most_itself xs k = less_greater (ap ordering_reverse (sym k) ∙ sym (lists_order.antisymm xs xs) ∙ k)
+
+-- what is at most another list is below it or equal
+pub below_of_at_most : (xs ys : List ℤ) → IsAtMost xs ys → IsBelow xs ys ⊎ (xs ≡ ys)
+below_of_at_most xs ys h = by (slice_cmp int_cmp xs ys) refl
+  where
+    by : (o : Ordering) → slice_cmp int_cmp xs ys ≡ o → IsBelow xs ys ⊎ (xs ≡ ys)
+    by Less e = inl e
+    by Equal e = inr (slice_cmp-IsAntisymmetric int_cmp-IsAntisymmetric xs ys e)
+    by Greater e = absurd (h e)
+
+-- what is not at most another list is above it
+pub at_most_or_below : (xs ys : List ℤ) → IsAtMost xs ys ⊎ IsBelow ys xs
+at_most_or_below xs ys = by (slice_cmp int_cmp xs ys) refl
+  where
+    by : (o : Ordering) → slice_cmp int_cmp xs ys ≡ o → IsAtMost xs ys ⊎ IsBelow ys xs
+    by Less e = inl (λ k. less_greater (sym e ∙ k))
+    by Equal e = inl (λ k. equal_greater (sym e ∙ k))
+    by Greater e = inr (lists_order.antisymm ys xs ∙ ap ordering_reverse e)
+
+-- two lists, each at most the other, are equal
+pub at_most_both : (xs ys : List ℤ) → IsAtMost xs ys → IsAtMost ys xs → xs ≡ ys
+at_most_both xs ys h k = by (below_of_at_most xs ys h)
+  where
+    by : IsBelow xs ys ⊎ (xs ≡ ys) → xs ≡ ys
+    by (inl b) = absurd (k (lists_order.antisymm ys xs ∙ ap ordering_reverse b))
+    by (inr e) = e

@@ -1,0 +1,4 @@
+mod ManyWords
+mod Reordered
+mod NetOutcomes
+mod Reports

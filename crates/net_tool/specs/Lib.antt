@@ -1,0 +1,6 @@
+pub mod Words
+pub mod Outcomes
+pub mod OutcomeViews
+pub mod Checked
+pub mod Statuses
+pub mod Run

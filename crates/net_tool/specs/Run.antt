@@ -1,0 +1,56 @@
+-- What a run of the tool may answer.
+use Rattle.std.specs.Prelude.{ℕ, ◌≡◌, ◌≤◌, ◌<◌, Bool, true, false, List, [], length, take, Option, None, Some, codes}
+use Rattle.std.specs.Io.KnownBytes.{Appends}
+use Rattle.outside.specs.Last.{Last, Failed}
+use Rattle.outside.specs.Held.{Holds, Are, HasMore}
+use Rattle.net_tool.specs.declared.status.Status.{Status}
+use Rattle.net_tool.specs.declared.status.Status.TheVariants.{Done, SomeRefused, Usage, ReadFault, WriteFault, TooLarge, NoMemory}
+use Rattle.net_tool.specs.Words.{file_of}
+use Rattle.net_tool.specs.Checked.{IsChecked}
+
+abbrev pub usage_line : List ℕ
+usage_line = codes "usage: net_tool COMMAND [FILE] [--archive PATH] [--name NAME]\n"
+
+-- a file of these bytes is checked, with this outcome for all its blocks
+abbrev pub IsCheckOf : List ℕ → Holds → Bool → List ℕ → Type 0
+IsCheckOf file holds accepted text = (bytes : List ℕ) × Are holds file bytes × (length bytes ≤ 16777216) × IsChecked bytes accepted text
+
+-- this file asks for this answer
+abbrev pub IsDueOf : List ℕ → Holds → Status → List ℕ → Type 0
+IsDueOf file holds TooLarge text = HasMore holds file 16777216 × (text ≡ [])
+IsDueOf file holds Done text = IsCheckOf file holds true text
+IsDueOf file holds SomeRefused text = IsCheckOf file holds false text
+IsDueOf file holds _ text = ⊥
+
+-- these words, over these files, ask for this answer
+abbrev pub IsDue : Option (List ℕ) → Holds → Status → List ℕ → Type 0
+IsDue None holds status text = (status ≡ Usage) × (text ≡ usage_line)
+IsDue (Some file) holds status text = IsDueOf file holds status text
+
+-- the answer was due, and what was written is its text
+abbrev pub IsAnswer : List (List ℕ) → Holds → Option (List ℕ) → Option (List ℕ) → Status → Type 0
+IsAnswer words holds before after status = (text : List ℕ) × IsDue (file_of words) holds status text × Appends before after text
+
+-- an answer was due, a part of its text was written, and there was a cause to stop
+abbrev pub IsBroken : List (List ℕ) → Holds → Option (List ℕ) → Option (List ℕ) → ℕ → Type 0
+IsBroken words holds before after sure =
+    (status : Status) × (text : List ℕ) × (taken : ℕ) × IsDue (file_of words) holds status text × Appends before after (take taken text) × (sure < length text)
+
+-- the last read failed, of a file that the words name
+abbrev pub FailedAtFile : Option (List ℕ) → Last → Type 0
+FailedAtFile None last = ⊥
+FailedAtFile (Some file) last = last ≡ Failed file
+
+-- a status that is an answer
+abbrev pub IsAnswered : Status → Type 0
+IsAnswered ReadFault = ⊥
+IsAnswered WriteFault = ⊥
+IsAnswered NoMemory = ⊥
+IsAnswered _ = Unit {0}
+
+-- a status that writes nothing
+abbrev pub IsSilent : Status → Type 0
+IsSilent ReadFault = Unit {0}
+IsSilent TooLarge = Unit {0}
+IsSilent NoMemory = Unit {0}
+IsSilent _ = ⊥

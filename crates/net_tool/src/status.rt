@@ -1,0 +1,37 @@
+// How a run ends.
+ghost use Rattle.std.specs.Prelude.{◌≡◌};
+ghost use Rattle.net_tool.specs.Statuses.{number_of};
+
+/// The end of a run; `number` is the exit status of the program.
+#[derive(Clone, Copy, Debug, PartialEq, Eq)]
+pub enum Status {
+    /// Every block was accepted.
+    Done,
+    /// Some block was not accepted.
+    SomeRefused,
+    /// The words are not of the form.
+    Usage,
+    /// The host failed at a read of the file that the words name.
+    ReadFault,
+    /// The host failed at a write.
+    WriteFault,
+    /// The file has more than 16,777,216 bytes.
+    TooLarge,
+    NoMemory,
+}
+
+impl Status {
+    pub fn number(self) -> u8
+        ensures { result ≡ number_of self }
+    {
+        match self {
+            Status::Done => 0,
+            Status::SomeRefused => 1,
+            Status::Usage => 2,
+            Status::ReadFault => 3,
+            Status::WriteFault => 4,
+            Status::TooLarge => 6,
+            Status::NoMemory => 7,
+        }
+    }
+}

@@ -1,0 +1,62 @@
+// The top call.
+ghost use Rattle.std.specs.Prelude.{◌≡◌, ◌<◌, ℕ, length, take};
+ghost use Rattle.std.specs.Io.KnownBytes.{Appends};
+ghost use Rattle.outside.specs.Causes.{Rose};
+ghost use Rattle.net_tool.specs.Words.{texts_of, file_of};
+ghost use Rattle.net_tool.specs.Run.{IsAnswer, IsAnswered, IsBroken, IsSilent, FailedAtFile};
+
+use crate::check::check;
+use crate::report::USAGE;
+use crate::status::Status;
+use crate::words::file_word;
+use outside::{InFault, Shelf, Sink, read_whole, write_all};
+use std::alloc::Global;
+
+const MAX_BYTES: u64 = 16_777_216;
+
+// Writes the text that goes with a status.
+fn finish<W: Sink>(out: &mut W, text: &[u8], status: Status) -> Status
+    requires { status ≡ Status.WriteFault → ⊥ }
+    ensures done { (result ≡ Status.WriteFault → ⊥) → result ≡ status }
+    ensures all { (result ≡ Status.WriteFault → ⊥) → Appends (W.written out.old) (W.written out.new) text.now }
+    ensures cause { result ≡ Status.WriteFault → Rose (W.faults out.old) (W.faults out.new) }
+    ensures unsure { result ≡ Status.WriteFault → W.sure out.old < length text.now }
+    ensures part { result ≡ Status.WriteFault → (taken : ℕ) × Appends (W.written out.old) (W.written out.new) (take taken text.now) }
+{
+    match write_all(out, text) {
+        Ok(()) => status,
+        Err(_) => Status::WriteFault,
+    }
+}
+
+/// Does what the words say, over the files of a shelf, and writes the text to a sink. It is all that the program
+/// does. `check FILE` checks each block of FILE.
+pub fn run<H: Shelf, W: Sink>(alloc: Global, words: &[String], shelf: &mut H, out: &mut W) -> Status
+    ensures answer { IsAnswered result →
+        IsAnswer (texts_of words.now) (H.holds shelf.old) (W.written out.old) (W.written out.new) result }
+    ensures read_fault { result ≡ Status.ReadFault → Rose (H.faults shelf.old) (H.faults shelf.new) }
+    ensures read_fault_at { result ≡ Status.ReadFault → FailedAtFile (file_of (texts_of words.now)) (H.last shelf.new) }
+    ensures write_fault { result ≡ Status.WriteFault → Rose (W.faults out.old) (W.faults out.new) }
+    ensures broken { result ≡ Status.WriteFault →
+        IsBroken (texts_of words.now) (H.holds shelf.old) (W.written out.old) (W.written out.new) (W.sure out.old) }
+    ensures silent { IsSilent result → W.written out.new ≡ W.written out.old }
+{
+    let Some(file) = file_word(words) else {
+        return finish(out, USAGE.as_bytes(), Status::Usage);
+    };
+    let bytes = match read_whole(alloc, shelf, file, MAX_BYTES) {
+        Ok(bytes) => bytes,
+        Err(InFault::ReadFault) => return Status::ReadFault,
+        Err(InFault::TooLarge { .. }) => return Status::TooLarge,
+        Err(InFault::NoMemory) => return Status::NoMemory,
+    };
+    let Ok(report) = check(alloc, &bytes) else {
+        return Status::NoMemory;
+    };
+    let status = if report.accepted {
+        Status::Done
+    } else {
+        Status::SomeRefused
+    };
+    finish(out, &report.text, status)
+}

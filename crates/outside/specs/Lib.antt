@@ -1,0 +1,9 @@
+pub mod Last
+pub mod Causes
+pub mod Counts
+pub mod Held
+pub mod Files
+pub mod Kept
+pub mod MemoryShelf
+pub mod MemorySink
+pub mod HostLast

@@ -1,0 +1,104 @@
+-- No arc of a graph stands twice in its list.
+use Rattle.std.specs.declared.cmp.Ordering.TheVariants.{Greater, Less, Equal}
+use Rattle.std.specs.Ordering.{ordering_reverse, int_cmp, ordering_then}
+use Rattle.std.proofs.Common.{negsuc, neg_ℤ, suc, pos, zero, arith, sym, ℤ, ap, refl, ◌≡◌, ◌⊎◌, ◌==◌, [], ◌∷◌, ◌∙◌, inr, inl, List, subst, ℕ, eq-eqb}
+use Rattle.std.proofs.lemmas.Int.{ints}
+use Rattle.std.specs.Cmp.{int_cmp_is, then_flip}
+use Rattle.std.specs.Cmp.Lexicographic.{slice_cmp}
+use Rattle.std.specs.declared.cmp.Ordering.{Ordering}
+use Rattle.std.proofs.Math.IntN.{neg_ℤ-neg_ℤ}
+use Rattle.std.specs.List.{AllByRecursion}
+use Rattle.std.proofs.lemmas.List.Elements.{recursion_from_All}
+use Rattle.std.proofs.lemmas.Bool.{eqb-true}
+use Rattle.integers.specs.Vectors.{Vector, parts, zero_vector, StartsPositive, opposite, vector}
+use Rattle.periodic_net.specs.Graph.{IsNormalSpelling, Arc, reverse_of, arc, both_ways, IsEdge, Graph, IsGraph, arcs, arcs_from, IsArc}
+use Rattle.integers.specs.Lists.{IsIn, AreApart}
+use Rattle.integers.proofs.Members.{contains_from_in, is_in}
+use Rattle.integers.proofs.Filters.{all_in, apart_from_pairs, filter_apart, in_filter, filter_in}
+
+-- the negative is on the other side of 0
+neg_cmp : (x : ℤ) → int_cmp (pos 0) (neg_ℤ x) ≡ ordering_reverse (int_cmp (pos 0) x)
+neg_cmp (pos zero) = refl
+neg_cmp (pos (suc n)) =
+    sym (int_cmp_is (pos 0) (negsuc n) Greater (omega (arith, ints))) ∙ ap ordering_reverse (int_cmp_is (pos 0) (pos (suc n)) Less (omega (arith, ints)))
+neg_cmp (negsuc n) =
+    sym (int_cmp_is (pos 0) (pos (suc n)) Less (omega (arith, ints))) ∙ ap ordering_reverse (int_cmp_is (pos 0) (negsuc n) Greater (omega (arith, ints)))
+
+-- not both a vector and its opposite start positive
+one_way : (s : Vector) → StartsPositive s → StartsPositive (opposite s) → ⊥
+one_way s h k =
+    let x = neg_cmp s.x in
+    let y = neg_cmp s.y in
+    let z = neg_cmp s.z in
+    let a = int_cmp (pos 0) s.x in
+    let b = int_cmp (pos 0) s.y in
+    let c = int_cmp (pos 0) s.z in
+    let e : slice_cmp int_cmp (parts 3 zero_vector) (parts 3 (opposite s)) ≡ ordering_reverse (slice_cmp int_cmp (parts 3 zero_vector) (parts 3 s)) =
+    (λ i. ordering_then (x i) (ordering_then (y i) (ordering_then (z i) Equal)))
+    ∙ ap (λ (o : Ordering). ordering_then (ordering_reverse a) (ordering_then (ordering_reverse b) o)) (then_flip c Equal)
+    ∙ ap (λ (o : Ordering). ordering_then (ordering_reverse a) o) (then_flip b (ordering_then c Equal))
+    ∙ then_flip a (ordering_then b (ordering_then c Equal)) in
+    less_greater (sym k ∙ e ∙ ap ordering_reverse h)
+  where
+    less_greater : Less ≡ Greater → ⊥
+    less_greater f = cc
+
+-- an edge has one normal spelling
+pub one_spelling : (e : Arc) → IsNormalSpelling e → IsNormalSpelling (reverse_of e) → ⊥
+one_spelling e (inl h) (inl k) = omega arith
+one_spelling e (inl h) (inr k) = let q = k.0 in omega arith
+one_spelling e (inr h) (inl k) = let q = h.0 in omega arith
+one_spelling e (inr h) (inr k) = one_way e.shift h.1 k.1
+
+-- an arc turned twice is the arc
+reverse_twice : (a : Arc) → reverse_of (reverse_of a) ≡ a
+reverse_twice a = λ i. arc a.from a.to (vector (neg_ℤ-neg_ℤ a.shift.x i) (neg_ℤ-neg_ℤ a.shift.y i) (neg_ℤ-neg_ℤ a.shift.z i))
+
+-- an arc of the list is an edge, or turned it is one
+either_way : (es : List Arc) (a : Arc) → IsIn (both_ways es) a → IsIn es a ⊎ IsIn es (reverse_of a)
+either_way [] a h = elim h [ ]
+either_way (e ∷ es) a (inl h) = inl (inl h)
+either_way (e ∷ es) a (inr (inl h)) = inr (inl (sym (reverse_twice e) ∙ ap reverse_of h))
+either_way (e ∷ es) a (inr (inr h)) = elim (either_way es a h) [ inl i ↦ inl (inr i) | inr i ↦ inr (inr i) ]
+
+-- no arc stands twice among the arcs of edges that do not
+both_apart : (G : Graph) (es : List Arc) → AllByRecursion (IsEdge G) es → AreApart es → AreApart (both_ways es)
+both_apart G [] h a = tt
+both_apart G (e ∷ es) h a = (first, (second, both_apart G es h.1 a.1))
+  where
+    other : IsIn es (reverse_of e) → ⊥
+    other i = one_spelling e h.0.spelling ((all_in (IsEdge G) es (reverse_of e) h.1 i).spelling)
+
+    second : ¬ IsIn (both_ways es) (reverse_of e)
+    second i = elim (either_way es (reverse_of e) i) [ inl j ↦ other j | inr j ↦ a.0 (subst (IsIn es) (reverse_twice e) j) ]
+
+    first : ¬ IsIn (reverse_of e ∷ both_ways es) e
+    first (inl k) = one_spelling e h.0.spelling (subst IsNormalSpelling (sym k) h.0.spelling)
+    first (inr k) = elim (either_way es e k) [ inl j ↦ a.0 j | inr j ↦ other j ]
+
+-- no arc of a graph stands twice
+pub all_arcs_apart : (G : Graph) → IsGraph G → AreApart (arcs G)
+all_arcs_apart G g = both_apart G G.edges (recursion_from_All (IsEdge G) G.edges g.edges) (apart_from_pairs G.edges g.different)
+
+-- nor among those from a vertex
+pub arcs_apart : (G : Graph) → IsGraph G → (u : ℕ) → AreApart (arcs_from G u)
+arcs_apart G g u = filter_apart (λ a. a.from == u) (arcs G) (all_arcs_apart G g)
+
+-- the arcs from u are the arcs whose tail is u
+pub from_is_arc : (G : Graph) (u : ℕ) (a : Arc) → IsIn (arcs_from G u) a → IsArc G a × (a.from ≡ u)
+from_is_arc G u a h = let r = in_filter (λ b. b.from == u) (arcs G) a h in (contains_from_in (arcs G) a r.0, eqb-true a.from u r.1)
+
+-- and the other way
+pub arc_is_from : (G : Graph) (u : ℕ) (a : Arc) → IsArc G a → a.from ≡ u → IsIn (arcs_from G u) a
+arc_is_from G u a h e = filter_in (λ b. b.from == u) (arcs G) a (is_in (arcs G) a h) (eq-eqb a.from u e)
+
+-- with an arc its reverse is in the list
+reverse_in : (es : List Arc) (a : Arc) → IsIn (both_ways es) a → IsIn (both_ways es) (reverse_of a)
+reverse_in [] a h = elim h [ ]
+reverse_in (e ∷ es) a (inl h) = inr (inl (ap reverse_of h))
+reverse_in (e ∷ es) a (inr (inl h)) = inl (sym (reverse_twice e) ∙ ap reverse_of h)
+reverse_in (e ∷ es) a (inr (inr h)) = inr (inr (reverse_in es a h))
+
+-- the reverse of an arc is an arc
+pub arc_turned : (G : Graph) (a : Arc) → IsArc G a → IsArc G (reverse_of a)
+arc_turned G a h = contains_from_in (arcs G) (reverse_of a) (reverse_in G.edges a (is_in (arcs G) a h))

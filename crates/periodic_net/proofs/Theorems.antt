@@ -1,0 +1,102 @@
+-- The theorems on periodic nets, each as its statement says it.
+use Rattle.std.proofs.Common.{pos, refl, subst}
+use Rattle.integers.specs.Vectors.{Vector, zero_vector}
+use Rattle.periodic_net.specs.Graph.{Graph, IsGraph, arcs}
+use Rattle.periodic_net.specs.Placement.{Placement, IsStablePlacement, HasNoCollision}
+use Rattle.periodic_net.specs.Maps.{Iso}
+use Rattle.periodic_net.specs.Classes.{IsTranslation}
+use Rattle.periodic_net.specs.Laws.{ArcsStandOnce, BarycentricPlacementsTranslate, ClassesAreEquivalence, IsomorphismIsEquivalence, IsomorphismsAreAffine, IsomorphismsCarry, IsomorphismsKeep, NormalPlacementExists, NormalPlacementIsOne, PositionsTell, SplitsRefute, TranslationsAreGroup, MovesAlike, MaximumPrinciple, TablesAreMaps}
+use Rattle.periodic_net.proofs.MaximumPrinciple.{periodic_constant}
+use Rattle.periodic_net.proofs.MapTables.{drawn, drawn_by_table, drawn_once, periodic_of_drawn, table_of, is_table_of, drawn_of_periodic}
+use Rattle.integers.proofs.Vectors.{times_zero}
+use Rattle.integers.proofs.Filters.{pairs_from_apart}
+use Rattle.periodic_net.proofs.ArcLists.{all_arcs_apart}
+use Rattle.periodic_net.proofs.Splits.{split_shows_not_connected}
+use Rattle.periodic_net.proofs.Positions.{positions_tell}
+use Rattle.periodic_net.proofs.Isomorphism.{iso_reflexive, iso_symmetric, iso_transitive, iso_connected, iso_turned}
+use Rattle.periodic_net.proofs.Translates.{placements_translate, translate_barycentric}
+use Rattle.periodic_net.proofs.NormalPlacement.{normal_unique}
+use Rattle.periodic_net.proofs.NormalExists.{normal_exists}
+use Rattle.periodic_net.proofs.Affine.{iso_is_affine}
+use Rattle.periodic_net.proofs.StableIsomorphs.{iso_stable}
+use Rattle.periodic_net.proofs.Translations.{whole_translation, translation_plus}
+use Rattle.periodic_net.proofs.Undoing.{translation_back}
+use Rattle.periodic_net.proofs.Classes.{share_reflexive, share_symmetric, share_transitive}
+use Rattle.periodic_net.proofs.Carried.{stands_there}
+use Rattle.periodic_net.proofs.Transport.{linear_part, stable_carries, iso_translations, iso_share}
+
+-- a split refutes connectedness
+pub splits_refute : SplitsRefute
+splits_refute = split_shows_not_connected
+
+-- no arc stands twice
+pub arcs_stand_once : ArcsStandOnce
+arcs_stand_once G g = pairs_from_apart (arcs G) (all_arcs_apart G g)
+
+-- a position fixes its vertex
+pub positions_fix : PositionsTell
+positions_fix = positions_tell
+
+-- isomorphism is an equivalence
+pub isomorphism_is_equivalence : IsomorphismIsEquivalence
+isomorphism_is_equivalence = record { reflexive = iso_reflexive; symmetric = iso_symmetric; transitive = iso_transitive }
+
+-- barycentric placements are translates
+pub barycentric_placements_translate : BarycentricPlacementsTranslate
+barycentric_placements_translate = record { translates = placements_translate; barycentric = translate_barycentric }
+
+-- the normal placement is one
+pub normal_placement_is_one : NormalPlacementIsOne
+normal_placement_is_one G g c p q n m = let s = normal_unique G g c p q n m in (s.denominator, s.each)
+
+-- and exists with a barycentric one
+pub normal_placement_exists : NormalPlacementExists
+normal_placement_exists G g p b = let n = normal_exists G g p b in (n.normal, n.is_normal)
+
+-- isomorphisms are affine
+pub isomorphisms_are_affine : IsomorphismsAreAffine
+isomorphisms_are_affine = iso_is_affine
+
+-- isomorphisms keep connectedness and stability
+pub isomorphisms_keep : IsomorphismsKeep
+isomorphisms_keep = record { connected = iso_connected; stable = iso_stable }
+
+-- the move by 0 is a translation
+pub zero_translation : (G : Graph) (p : Placement) → HasNoCollision G p → IsTranslation G p zero_vector
+zero_translation G p n = subst (IsTranslation G p) (times_zero (pos p.denominator)) (whole_translation G p n zero_vector (λ d. refl))
+
+-- translations are a group
+pub translations_are_group : TranslationsAreGroup
+translations_are_group = record { zero = zero_translation; sums = translation_plus; opposites = translation_back; shifts = whole_translation }
+
+-- to share a class is an equivalence
+pub classes_are_equivalence : ClassesAreEquivalence
+classes_are_equivalence = record { reflexive = share_reflexive; symmetric = share_symmetric; transitive = share_transitive }
+
+-- the image of a translation moves the images as the translation moves the vertices
+pub isomorphism_carries : (G H : Graph) (p q : Placement) → IsGraph G → IsGraph H → IsStablePlacement G p → IsStablePlacement H q → (e : Iso G H)
+    → (r : Vector) → IsTranslation G p r → (s : Vector) × IsTranslation H q s × MovesAlike G p q e.there r s
+isomorphism_carries G H p q g h a b e r t =
+    let c = stable_carries G H p q g h a b e in
+    let m = (iso_translations G H p q g h a b e).0 r t in
+    (m.image, m.translation, λ w x i j k. stands_there G H p q e.there e.back (linear_part G H e p q) c r m.image m.related m.translation.dimension w x i j k)
+
+-- isomorphisms carry translations and classes, and so do the maps back
+pub isomorphisms_carry : IsomorphismsCarry
+isomorphisms_carry = record {
+  translations = isomorphism_carries;
+  translations_back = λ G H p q g h a b e s t. isomorphism_carries H G q p h g b a (iso_turned e) s t;
+  classes = iso_share;
+}
+
+-- the maximum principle
+pub maximum_principle : MaximumPrinciple
+maximum_principle = periodic_constant
+
+-- tables and functions with a period say the same
+pub tables_are_maps : TablesAreMaps
+tables_are_maps = record {
+  drawn = λ G H M t. let d = drawn_by_table G M t.positive in (drawn M t.positive, d, periodic_of_drawn G H M (drawn M t.positive) t d);
+  once = λ G H M f g t a b w i. drawn_once G M f g t.positive a b w i;
+  written = λ G H f m b g p. (table_of f m b, is_table_of G H f m b g p, refl, refl, drawn_of_periodic G H f m b p);
+}

@@ -1,0 +1,52 @@
+-- The arcs from a vertex are among the vertices and within the limits, and they are all the arcs from it.
+use Rattle.std.proofs.Common.{◌≡◌, ℕ, zero, suc, ℤ, ◌≤◌, ◌<◌, List, [], ◌∷◌, length, get_or, neg_ℤ, unsigned_abs, refl, arith}
+use Rattle.std.proofs.lemmas.Int.{ints}
+use Rattle.std.specs.List.{All, AllByRecursion, Contains}
+use Rattle.std.proofs.lemmas.List.Elements.{recursion_from_All, All-from_recursion}
+use Rattle.std.proofs.lemmas.List.Sorted.{IsPermutation-sym, Contains-permutation}
+use Rattle.integers.specs.Vectors.{Vector, opposite, IsWithin}
+use Rattle.integers.proofs.Members.{in_from_contains, contains_from_in}
+use Rattle.integers.proofs.Filters.{all_at}
+use Rattle.periodic_net.specs.Graph.{Graph, Arc, both_ways, arcs, arcs_from, IsArc, IsGraph}
+use Rattle.periodic_net.proofs.Arcs.{arc_inside}
+use Rattle.periodic_net.proofs.ArcLists.{from_is_arc, arc_is_from}
+use Rattle.cgd_read.specs.Graphs.{IsSmall}
+use Rattle.quotient_graph.specs.Stars.{IsStar, IsArcFrom}
+
+opposite_within : (n : ℕ) (s : Vector) → IsWithin n s → IsWithin n (opposite s)
+opposite_within n s h = (part s.x h.0, part s.y h.1, part s.z h.2)
+  where
+    part : (x : ℤ) → unsigned_abs x ≤ n → unsigned_abs (neg_ℤ x) ≤ n
+    part x a = omega (arith, ints)
+
+both_within : (es : List Arc) → AllByRecursion (λ e. IsWithin 500 e.shift) es → AllByRecursion (λ a. IsWithin 500 a.shift) (both_ways es)
+both_within [] h = tt
+both_within (e ∷ es) h = (h.0, (opposite_within 500 e.shift h.0, both_within es h.1))
+
+arc_within : (G : Graph) → IsSmall G → (a : Arc) → IsArc G a → IsWithin 500 a.shift
+arc_within G s a h =
+    all_at (λ b. IsWithin 500 b.shift) (arcs G) a
+    (All-from_recursion (λ b. IsWithin 500 b.shift) (arcs G) (both_within G.edges (recursion_from_All (λ e. IsWithin 500 e.shift) G.edges s.shifts))) h
+
+member : (star : List Arc) (k : ℕ) (d : Arc) → k < length star → Contains star (get_or star k d)
+member [] k d l = absurd (omega arith)
+member (x ∷ xs) k d l = (k, l, same (x ∷ xs) k (get_or (x ∷ xs) k d) d l)
+  where
+    same : (xs : List Arc) (k : ℕ) (e d : Arc) → k < length xs → get_or xs k e ≡ get_or xs k d
+    same [] k e d l = absurd (omega arith)
+    same (y ∷ ys) zero e d l = refl
+    same (y ∷ ys) (suc k) e d l = same ys k e d (omega arith)
+
+pub each_arc_from : (G : Graph) (u : ℕ) (star : List Arc) → IsGraph G → IsSmall G → IsStar G u star → All (IsArcFrom G u) star
+each_arc_from G u star g s h k d l =
+    let c = Contains-permutation star (arcs_from G u) (get_or star k d) (IsPermutation-sym (arcs_from G u) star h.all) (member star k d l) in
+    let is = from_is_arc G u (get_or star k d) (in_from_contains (arcs_from G u) (get_or star k d) c.0 c.1 c.2) in
+    record {
+      is_arc = is.0;
+      from = is.1;
+      to = (arc_inside G g (get_or star k d) is.0).to;
+      shift = arc_within G s (get_or star k d) is.0;
+    }
+
+pub every_arc_from : (G : Graph) (u : ℕ) (star : List Arc) → IsStar G u star → (a : Arc) → IsArc G a → a.from ≡ u → Contains star a
+every_arc_from G u star h a i e = Contains-permutation (arcs_from G u) star a h.all (contains_from_in (arcs_from G u) a (arc_is_from G u a i e))

@@ -1,0 +1,5 @@
+pub mod Order
+pub mod Stars
+pub mod Building
+pub mod AnyGraphs
+pub mod Splits

@@ -1,0 +1,6 @@
+-- A colouring in memory, as the split that it stands for.
+use Rattle.periodic_net.specs.Split.{Split as NetSplit}
+use Rattle.quotient_graph.specs.declared.split.Split.{Split}
+
+abbrev pub split_in : Split → NetSplit
+split_in s = record { q = s.q; c = s.c; h = s.h.items }

@@ -1,0 +1,110 @@
+// The arcs from each vertex, made from the edges.
+ghost use Rattle.std.specs.Prelude.{◌≡◌, ◌+◌, ◌<◌, ◌≤◌, ℕ, List, [], All, length, map, replicate, slice_index_or, IfOk, OnOk, neg_ℤ, unsigned_abs};
+ghost use Rattle.integers.specs.Vectors.{IsWithin};
+ghost use Rattle.periodic_net.specs.Graph.{both_ways, reverse_of, Arc as NetArc};
+ghost use Rattle.quotient_graph.specs.Building.{with_arc, HaveArcs, IsSortedFrom, AreSortedFrom, EdgeFits, AreStars};
+
+use crate::{Arc, NoMemory, Shift};
+use smallvec::SmallVec;
+use std::alloc::Global;
+
+/// The arcs from a vertex; up to six need no allocation.
+pub type Star<const D: usize> = SmallVec<Arc<D>, 6>;
+
+fn sort_star<const D: usize>(star: &mut Star<D>)
+    ensures { IsSortedFrom star.old.items star.new.items }
+{
+    star.as_mut_slice().sort_unstable();
+}
+
+// Puts an arc last in the list of its tail.
+fn push_arc<const D: usize>(stars: &mut [Star<D>], arc: Arc<D>) -> Result<(), NoMemory>
+    requires low { 1 ≤ arc.from }
+    requires high { arc.from ≤ length stars.old }
+    ensures { OnOk result (map (λ s. s.items) stars.new ≡ with_arc (map (λ s. s.items) stars.old) arc.entry) }
+{
+    stars[arc.from as usize - 1].push(arc)?;
+    Ok(())
+}
+
+// The same number of steps the other way.
+fn negated(steps: i32) -> i32
+    requires { unsigned_abs steps ≤ 500 }
+    ensures { result ≡ neg_ℤ steps }
+{
+    -steps
+}
+
+// The other arc of an edge.
+fn reversed<const D: usize>(edge: &Arc<D>) -> Arc<D>
+    requires { IsWithin 500 edge.now.shift }
+    ensures { result ≡ reverse_of edge.now }
+{
+    Arc {
+        from: edge.to,
+        to: edge.from,
+        shift: Shift {
+            x: negated(edge.shift.x),
+            y: negated(edge.shift.y),
+            z: negated(edge.shift.z),
+        },
+    }
+}
+
+// A list for each of n vertices, without arcs.
+fn empty_stars<const D: usize>(alloc: Global, n: usize) -> Result<Vec<Star<D>>, NoMemory>
+    ensures { IfOk result (λ stars. HaveArcs n (map (λ s. s.items) stars.items) []) }
+{
+    let mut stars = Vec::with_capacity(alloc, n)?;
+    for _ in 0..n {
+        stars.push(SmallVec::new(alloc))?;
+    }
+    Ok(stars)
+}
+
+// Puts both arcs of an edge into the lists of their tails.
+fn push_edge<const D: usize>(stars: &mut [Star<D>], edge: &Arc<D>) -> Result<(), NoMemory>
+    requires from { (1 ≤ edge.now.from) × (edge.now.from ≤ length stars.old) }
+    requires to { (1 ≤ edge.now.to) × (edge.now.to ≤ length stars.old) }
+    requires shift { IsWithin 500 edge.now.shift }
+    ensures { OnOk result (map (λ s. s.items) stars.new
+        ≡ with_arc (with_arc (map (λ s. s.items) stars.old) edge.now) (reverse_of edge.now)) }
+{
+    push_arc(stars, *edge)?;
+    push_arc(stars, reversed(edge))
+}
+
+// Puts both arcs of each edge into the lists of their tails.
+fn push_edges<const D: usize>(stars: &mut [Star<D>], edges: &[Arc<D>]) -> Result<(), NoMemory>
+    requires edges { All (EdgeFits (length stars.old)) edges.now }
+    requires none { HaveArcs (length stars.old) (map (λ s. s.items) stars.old) [] }
+    ensures { OnOk result (HaveArcs (length stars.old) (map (λ s. s.items) stars.new) (both_ways edges.now)) }
+{
+    for edge in edges {
+        push_edge(stars, edge)?;
+    }
+    Ok(())
+}
+
+fn sort_stars<const D: usize>(stars: &mut [Star<D>])
+    ensures { AreSortedFrom (map (λ s. s.items) stars.old) (map (λ s. s.items) stars.new) }
+{
+    for star in stars.iter_mut() {
+        sort_star(star);
+    }
+}
+
+/// The arcs from each of n vertices, in rising order.
+pub fn stars_of<const D: usize>(
+    alloc: Global,
+    n: usize,
+    edges: &[Arc<D>],
+) -> Result<Vec<Star<D>>, NoMemory>
+    requires { All (EdgeFits n) edges.now }
+    ensures { IfOk result (λ stars. AreStars n edges.now (map (λ s. s.items) stars.items)) }
+{
+    let mut stars = empty_stars(alloc, n)?;
+    push_edges(&mut stars, edges)?;
+    sort_stars(&mut stars);
+    Ok(stars)
+}

@@ -1,0 +1,111 @@
+// The quotient graph of a net.
+ghost use Rattle.std.specs.Prelude.{◌≡◌, All, Contains, length, IfOk};
+ghost use Rattle.periodic_net.specs.Graph.{Arc as NetArc, IsArc, IsGraph, IsQuotientVertex};
+ghost use Rattle.cgd_read.specs.Graphs.{IsSmall};
+ghost use Rattle.quotient_graph.specs.Order.{AreRising};
+ghost use Rattle.quotient_graph.specs.Stars.{IsArcFrom, IsStar, graph_with};
+
+use crate::build::{Star, stars_of};
+use crate::{Arc, NoMemory};
+use std::alloc::Global;
+use std::marker::Model;
+
+/// A labelled quotient graph: its vertices are numbered from 1, and its different edges stand in normal
+/// spelling, rising by tail, head and shift. Contracts see the graph that it stands for.
+#[derive(Drop)]
+pub struct Graph<const D: usize> {
+    vertices: u32,
+    edges: Vec<Arc<D>>,
+    stars: Vec<Star<D>>,
+}
+
+impl<const D: usize> Model for Graph<D> {
+    ghost use Rattle.std.specs.Prelude.{map};
+    ghost use Rattle.periodic_net.specs.Graph.{Graph as NetGraph};
+    ghost use Rattle.quotient_graph.specs.Stars.{IsKept, graph_with};
+
+    ghost Value = { NetGraph };
+
+    ghost view = { λ g. graph_with D g.vertices g.edges.items };
+
+    ghost invariant = { λ g. IsKept (graph_with D g.vertices g.edges.items) (map (λ s. s.items) g.stars.items) };
+}
+
+impl<const D: usize> Graph<D> {
+    pub fn dimension(&self) -> u8
+        ensures { result ≡ self.now.dimension }
+    {
+        let _ = &self.vertices;
+        D as u8
+    }
+
+    pub fn vertices(&self) -> u32
+        ensures count { result ≡ self.now.vertices }
+        ensures is_graph { IsGraph self.now }
+        ensures small { IsSmall self.now }
+    {
+        self.vertices
+    }
+
+    pub fn edge_count(&self) -> u32
+        ensures { result ≡ length self.now.edges }
+    {
+        self.edges.len() as u32
+    }
+
+    /// The different edges, in rising order.
+    pub fn edges(&self) -> &[Arc<D>]
+        ensures edges { result.now ≡ self.now.edges }
+        ensures rising { AreRising result.now }
+    {
+        &self.edges
+    }
+
+    // What is kept of a vertex.
+    fn star(&self, u: u32) -> &[Arc<D>]
+        requires { IsQuotientVertex self.now u }
+        ensures star { IsStar self.now u result.now }
+        ensures is_graph { IsGraph self.now }
+        ensures small { IsSmall self.now }
+    {
+        self.stars[u as usize - 1].as_slice()
+    }
+
+    /// The arcs from a vertex, sorted by head and shift; a loop gives two.
+    pub fn arcs(&self, u: u32) -> &[Arc<D>]
+        requires { IsQuotientVertex self.now u }
+        ensures star { IsStar self.now u result.now }
+        ensures each { All (IsArcFrom self.now u) result.now }
+        ensures every { (a : NetArc) → IsArc self.now a → a.from ≡ u → Contains result.now a }
+    {
+        self.star(u)
+    }
+
+    /// An equal graph.
+    pub fn copy(&self) -> Result<Graph<D>, NoMemory>
+        ensures { IfOk result (λ g. g ≡ self.now) }
+    {
+        let alloc = *self.edges.allocator();
+        with_edges(alloc, self.vertices, Vec::from_slice(alloc, &self.edges)?)
+    }
+}
+
+// The graph with n vertices and these edges.
+#[tactic(auto, using(crate::proofs::Kept::is_kept, crate::proofs::Kept::edges_fit))]
+pub fn with_edges<const D: usize>(
+    alloc: Global,
+    n: u32,
+    edges: Vec<Arc<D>>,
+) -> Result<Graph<D>, NoMemory>
+    requires is_graph { IsGraph (graph_with D n edges.items) }
+    requires small { IsSmall (graph_with D n edges.items) }
+    requires rising { AreRising edges.items }
+    ensures { IfOk result (λ g. g ≡ graph_with D n edges.entry.items) }
+{
+    let stars = stars_of(alloc, n as usize, &edges)?;
+    Ok(Graph {
+        vertices: n,
+        edges,
+        stars,
+    })
+}

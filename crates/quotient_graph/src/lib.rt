@@ -1,0 +1,16 @@
+//! Labelled quotient graphs of periodic nets, and the types that the layers above share.
+#![tactic(auto)]
+
+mod arc;
+mod build;
+mod graph;
+mod raw;
+mod shift;
+mod split;
+
+pub use arc::Arc;
+pub use graph::Graph;
+pub use raw::{AnyGraph, from_raw};
+pub use shift::{Shift, Triple};
+pub use split::Split;
+pub use std::alloc::AllocError as NoMemory;

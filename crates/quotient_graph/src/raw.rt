@@ -1,0 +1,73 @@
+// From a graph that was read to a graph in memory.
+ghost use Rattle.std.specs.Prelude.{◌≡◌, All, length, map, IfOk, OnOk};
+ghost use Rattle.integers.specs.Vectors.{vector, HasDimension};
+ghost use Rattle.cgd_read.specs.Graphs.{edge_of, graph_of, IsReadGraph};
+ghost use Rattle.quotient_graph.specs.Building.{IsSortedFrom};
+ghost use Rattle.quotient_graph.specs.Stars.{IsInOrder};
+ghost use Rattle.quotient_graph.specs.AnyGraphs.{graph_in};
+
+use crate::graph::with_edges;
+use crate::{Arc, Graph, NoMemory, Shift};
+use cgd_read::{RawEdge, RawGraph};
+use std::alloc::Global;
+
+/// A graph of dimension 2 or 3.
+#[derive(Drop)]
+pub enum AnyGraph {
+    Flat(Graph<2>),
+    Space(Graph<3>),
+}
+
+fn arc_of<const D: usize>(edge: &RawEdge) -> Arc<D>
+    requires { HasDimension D (vector edge.now.x edge.now.y edge.now.z) }
+    ensures { result ≡ edge_of edge.now }
+{
+    Arc {
+        from: edge.u,
+        to: edge.v,
+        shift: Shift {
+            x: edge.x,
+            y: edge.y,
+            z: edge.z,
+        },
+    }
+}
+
+fn edges_of<const D: usize>(alloc: Global, edges: &[RawEdge]) -> Result<Vec<Arc<D>>, NoMemory>
+    requires { All (λ e. HasDimension D (vector e.x e.y e.z)) edges.now }
+    ensures { IfOk result (λ arcs. arcs.items ≡ map edge_of edges.now) }
+{
+    let mut arcs = Vec::with_capacity(alloc, edges.len())?;
+    for edge in edges {
+        arcs.push(arc_of(edge))?;
+    }
+    Ok(arcs)
+}
+
+fn sort_edges<const D: usize>(edges: &mut Vec<Arc<D>>) -> Result<(), NoMemory>
+    ensures { OnOk result (IsSortedFrom edges.old.items edges.new.items) }
+{
+    edges.sort()
+}
+
+fn graph_from<const D: usize>(alloc: Global, raw: &RawGraph<'_>) -> Result<Graph<D>, NoMemory>
+    requires read { IsReadGraph raw.now }
+    requires dimension { raw.now.dim ≡ D }
+    ensures { IfOk result (IsInOrder (graph_of raw.now)) }
+{
+    let mut edges = edges_of(alloc, &raw.edges)?;
+    sort_edges(&mut edges)?;
+    with_edges(alloc, raw.names.len() as u32, edges)
+}
+
+/// The graph with the vertices and edges that were read.
+pub fn from_raw(alloc: Global, raw: &RawGraph<'_>) -> Result<AnyGraph, NoMemory>
+    requires { IsReadGraph raw.now }
+    ensures { IfOk result (λ g. IsInOrder (graph_of raw.now) (graph_in g)) }
+{
+    if raw.dim == 2 {
+        Ok(AnyGraph::Flat(graph_from(alloc, raw)?))
+    } else {
+        Ok(AnyGraph::Space(graph_from(alloc, raw)?))
+    }
+}
