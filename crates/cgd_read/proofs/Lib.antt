@@ -1,10 +1,16 @@
-mod Cuts
+mod Held
+mod FieldLists
+mod LineLists
 mod NameSets
-mod FewVertices
-pub mod Exactly
-mod Spelling
-mod Parts
 mod Places
+mod Spelling
+mod Rows
+mod Tables
+mod Parts
 mod WellEdges
 mod RowGraph
-mod PlainGraph
+mod LineGraph
+mod ReadGraph
+mod TokenCount
+mod BlockLists
+mod Decided

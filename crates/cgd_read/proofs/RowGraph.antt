@@ -1,30 +1,25 @@
--- Each row that fits makes a graph of a graph.
-use Rattle.std.proofs.Common.{◌≡◌, ◌≢◌, ℕ, ◌≤◌, pos, Bool, true, false, cond, ◌||◌, ◌&&◌, not, nat_lt, nat_le, ◌==◌, List, [], ◌∷◌, ◌++◌, map, length, refl, sym, ap, subst, ◌∙◌, arith}
+-- Each row without a fault makes a graph of a graph.
+use Rattle.std.proofs.Common.{◌≡◌, ◌≢◌, ◌⊎◌, ℕ, ◌≤◌, pos, Bool, true, false, cond, ◌==◌, List, [], ◌∷◌, ◌++◌, map, length, refl, sym, ap, subst, ◌∙◌, arith}
 use Rattle.std.specs.List.{All, AllPairs}
 use Rattle.std.specs.Str.{bytes_eq}
 use Rattle.std.proofs.lemmas.Slice.Eq.{bytes_eq-Decides}
-use Rattle.std.proofs.lemmas.Bool.{and_parts, and_from, leb-true}
-use Rattle.std.proofs.lemmas.Bool.Decides.{Decides-int_eq, Decides-eqb, Decides-ltb}
-use Rattle.std.proofs.lemmas.List.{map-append, length-append}
+use Rattle.std.proofs.lemmas.Bool.{and_from}
+use Rattle.std.proofs.lemmas.Bool.Decides.{Decides-int_eq, Decides-eqb}
+use Rattle.std.proofs.lemmas.List.{map-append}
 use Rattle.std.proofs.lemmas.List.Elements.{All-push, All-weaker, All-map}
 use Rattle.std.proofs.lemmas.List.Quantifiers.{all_pairs_push}
 use Rattle.periodic_net.specs.Graph.{Arc}
-use Rattle.cgd_read.specs.Rows.{RowView}
-use Rattle.cgd_read.specs.Edges.{with_new, vertices_of, number_of, row_edge, same_edge, edges_of, is_self_edge, is_repeat, dimension_of}
-use Rattle.cgd_read.specs.Edges.{has_form, row_fits}
+use Rattle.cgd_read.specs.Lines.{FieldsView}
+use Rattle.cgd_read.specs.Edges.{with_new, vertices_of, number_of, row_edge, same_edge, edges_of, is_self_edge, is_repeat, first_size, has_rows}
 use Rattle.cgd_read.specs.Graphs.{edge_of}
 use Rattle.cgd_read.specs.declared.block.RawEdge.{RawEdge}
-use Rattle.cgd_read.proofs.Parts.{IsWellRow}
+use Rattle.cgd_read.proofs.Parts.{IsWellRow, small_part}
 use Rattle.cgd_read.proofs.Places.{all_fail, longer, numbered, same_number}
 use Rattle.cgd_read.proofs.Spelling.{IsZero}
 use Rattle.cgd_read.proofs.WellEdges.{IsWellEdge, wider, well_spelled, MakeGraph}
 
 false_true : false ≡ true → ⊥
 false_true e = cc
-
-not_true : (t : Bool) → not t ≡ true → t ≡ false
-not_true true e = absurd (false_true e)
-not_true false e = refl
 
 -- an edge is the same as itself
 same_self : (e : RawEdge) → same_edge e e ≡ true
@@ -41,70 +36,73 @@ apart e f h eq = false_true (sym h ∙ subst (λ g. same_edge e g ≡ true) (sym
 
 pub make_nothing : MakeGraph []
 make_nothing = record {
-  dim = λ e. absurd (omega (arith, e));
-  edges = λ d e k x l. absurd (omega (arith, l));
+  size = λ e. absurd (false_true e);
+  edges = λ size e k x l. absurd (omega (arith, l));
   different = λ i j d l m. absurd (omega (arith, m));
   few_vertices = omega arith;
   few_edges = omega arith;
 }
 
-same_dimension : (count a b : ℕ) → (nat_lt count 1 || a == b) ≡ true → 1 ≤ count → a ≡ b
-same_dimension count a b h l = by (nat_lt count 1) refl h
+-- the first row has as many fields as the last
+pub size_now : (rows : List FieldsView) (row : FieldsView) → (has_rows rows ≡ true → row.size ≡ first_size rows) → first_size (row ∷ rows) ≡ row.size
+size_now [] row e = refl
+size_now (first ∷ rows) row e = by (first_size (first ∷ rows) == 0)
   where
-    by : (t : Bool) → nat_lt count 1 ≡ t → (t || a == b) ≡ true → a ≡ b
-    by true e h = absurd (omega (arith, l, (Decides-ltb count 1).0 e))
-    by false e h = (Decides-eqb a b).0 h
+    by : (t : Bool) → cond t row.size (first_size (first ∷ rows)) ≡ row.size
+    by true = refl
+    by false = sym (e refl)
 
-no_loop : (names : List (List ℕ)) (row : RowView) → is_self_edge row ≡ false → number_of names row.u ≡ number_of (with_new bytes_eq names row.u) row.v → IsZero row.x row.y row.z → ⊥
+no_loop : (names : List (List ℕ)) (row : FieldsView) → is_self_edge row ≡ false → number_of names row.u ≡ number_of (with_new bytes_eq names row.u) row.v → IsZero row.x row.y row.z → ⊥
 no_loop names row h e zero =
     false_true (sym h ∙ and_from _ _ ((bytes_eq-Decides row.u row.v).1 (same_number names row.u row.v e))
     (and_from _ _ ((Decides-int_eq row.x (pos 0)).1 zero.0) (and_from _ _ ((Decides-int_eq row.y (pos 0)).1 zero.1) ((Decides-int_eq row.z (pos 0)).1 zero.2))))
 
-row_makes : (rows : List RowView) (row : RowView) (d : ℕ) → IsWellRow row → is_self_edge row ≡ false → row.dim ≡ d
-    → IsWellEdge (length (vertices_of (row ∷ rows))) d (row_edge (vertices_of rows) row)
-row_makes rows row d well no_self e =
+row_makes : (rows : List FieldsView) (row : FieldsView) (size : ℕ) → IsWellRow row → is_self_edge row ≡ false → row.size ≡ size
+    → IsWellEdge (length (vertices_of (row ∷ rows))) size (row_edge (vertices_of rows) row)
+row_makes rows row size well no_self e =
     let names = vertices_of rows in
     let some = with_new bytes_eq names row.u in
-    well_spelled (length (vertices_of (row ∷ rows))) d (number_of names row.u) (number_of some row.v) row.x row.y row.z
+    well_spelled (length (vertices_of (row ∷ rows))) size (number_of names row.u) (number_of some row.v) row.x row.y row.z
     (omega arith, omega (arith, numbered names row.u, longer bytes_eq some row.v)) (omega arith, numbered some row.v)
-    (λ two. well.flat (e ∙ two)) well.x well.y well.z (no_loop names row no_self)
-
-edges_now : (rows : List RowView) (row : RowView) → is_repeat rows row ≡ false → edges_of (row ∷ rows) ≡ edges_of rows ++ row_edge (vertices_of rows) row ∷ []
-edges_now rows row e = ap (λ t. cond t (edges_of rows) (edges_of rows ++ row_edge (vertices_of rows) row ∷ [])) e
+    (λ four. well.flat (omega (arith, e, four)))
+    (small_part row.x well.small.x) (small_part row.y well.small.y) (small_part row.z well.small.z) (no_loop names row no_self)
 
 -- all edges are well, with that of one more row
-edges_well : (rows : List RowView) (row : RowView) (d : ℕ) → is_repeat rows row ≡ false → row.dim ≡ d → IsWellEdge (length (vertices_of (row ∷ rows))) d (row_edge (vertices_of rows) row)
-    → All (IsWellEdge (length (vertices_of rows)) d) (edges_of rows) → All (IsWellEdge (length (vertices_of (row ∷ rows))) d) (edges_of (row ∷ rows))
-edges_well rows row d new e edge old =
-    let n = length (vertices_of (row ∷ rows)) in
-    let names = vertices_of rows in
-    subst (All (IsWellEdge n d)) (sym (edges_now rows row new))
-    (All-push (IsWellEdge n d) (edges_of rows) (row_edge names row)
-    (All-weaker (IsWellEdge (length names) d) (IsWellEdge n d) (wider (length names) n d (omega (arith, longer bytes_eq names row.u, longer bytes_eq (with_new bytes_eq names row.u) row.v))) (edges_of rows) old) edge)
+edges_well : (rows : List FieldsView) (row : FieldsView) (size : ℕ) → IsWellEdge (length (vertices_of (row ∷ rows))) size (row_edge (vertices_of rows) row)
+    → All (IsWellEdge (length (vertices_of rows)) size) (edges_of rows) → All (IsWellEdge (length (vertices_of (row ∷ rows))) size) (edges_of (row ∷ rows))
+edges_well rows row size edge old = by (is_repeat rows row)
+    (All-weaker (IsWellEdge (length (vertices_of rows)) size) (IsWellEdge (length (vertices_of (row ∷ rows))) size)
+    (wider (length (vertices_of rows)) (length (vertices_of (row ∷ rows))) size (omega (arith, longer bytes_eq (vertices_of rows) row.u, longer bytes_eq (with_new bytes_eq (vertices_of rows) row.u) row.v))) (edges_of rows) old)
+  where
+    by : (t : Bool) → All (IsWellEdge (length (vertices_of (row ∷ rows))) size) (edges_of rows)
+        → All (IsWellEdge (length (vertices_of (row ∷ rows))) size) (cond t (edges_of rows) (edges_of rows ++ row_edge (vertices_of rows) row ∷ []))
+    by true h = h
+    by false h = All-push (IsWellEdge (length (vertices_of (row ∷ rows))) size) (edges_of rows) (row_edge (vertices_of rows) row) h edge
 
 -- all edges are different, with that of one more row
-edges_different : (rows : List RowView) (row : RowView) → is_repeat rows row ≡ false → AllPairs (λ a b. a ≢ b) (map edge_of (edges_of rows)) → AllPairs (λ a b. a ≢ b) (map edge_of (edges_of (row ∷ rows)))
-edges_different rows row new old =
-    let edge = row_edge (vertices_of rows) row in
-    let es = edges_of rows in
-    subst (λ (as_ : List Arc). AllPairs (λ a b. a ≢ b) as_) (sym (ap (map edge_of) (edges_now rows row new) ∙ map-append edge_of es (edge ∷ [])))
-    (all_pairs_push (λ a b. a ≢ b) (map edge_of es) (edge_of edge) old
-    (All-map (λ a. a ≢ edge_of edge) edge_of es
-    (All-weaker (λ f. same_edge edge f ≡ false) (λ f. edge_of f ≢ edge_of edge) (apart edge) es (all_fail (same_edge edge) es new))))
+edges_different : (rows : List FieldsView) (row : FieldsView) → AllPairs (λ a b. a ≢ b) (map edge_of (edges_of rows)) → AllPairs (λ a b. a ≢ b) (map edge_of (edges_of (row ∷ rows)))
+edges_different rows row old = by (is_repeat rows row) refl
+  where
+    by : (t : Bool) → is_repeat rows row ≡ t → AllPairs (λ a b. a ≢ b) (map edge_of (cond t (edges_of rows) (edges_of rows ++ row_edge (vertices_of rows) row ∷ [])))
+    by true e = old
+    by false e =
+        let edge = row_edge (vertices_of rows) row in
+        let es = edges_of rows in
+        subst (λ (as_ : List Arc). AllPairs (λ a b. a ≢ b) as_) (sym (map-append edge_of es (edge ∷ [])))
+        (all_pairs_push (λ a b. a ≢ b) (map edge_of es) (edge_of edge) old
+        (All-map (λ a. a ≢ edge_of edge) edge_of es
+        (All-weaker (λ f. same_edge edge f ≡ false) (λ f. edge_of f ≢ edge_of edge) (apart edge) es (all_fail (same_edge edge) es e))))
 
--- the graph of the rows with one more that fits
-pub make_row : (rows : List RowView) (row : RowView) → IsWellRow row → row_fits rows row ≡ true → MakeGraph rows → MakeGraph (row ∷ rows)
-make_row rows row well fit make =
-    let form = and_parts (nat_lt (length (edges_of rows)) 1 || dimension_of rows == row.dim) (not (is_self_edge row)) (and_parts (has_form rows row) _ fit).0 in
-    let limits = and_parts (nat_le (length (vertices_of (row ∷ rows))) 512) (not (is_repeat rows row) && nat_le (length (edges_of (row ∷ rows))) 4096) (and_parts (has_form rows row) _ fit).1 in
-    let more = and_parts (not (is_repeat rows row)) (nat_le (length (edges_of (row ∷ rows))) 4096) limits.1 in
-    let new = not_true (is_repeat rows row) more.0 in
-    let some : 1 ≤ length (edges_of (row ∷ rows)) = omega (arith, ap length (edges_now rows row new), length-append (edges_of rows) (row_edge (vertices_of rows) row ∷ [])) in
+-- the graph of the rows with one more
+pub make_row : (rows : List FieldsView) (row : FieldsView) → IsWellRow row → is_self_edge row ≡ false → (has_rows rows ≡ true → row.size ≡ first_size rows)
+    → length (vertices_of (row ∷ rows)) ≤ 512 → length (edges_of (row ∷ rows)) ≤ 4096 → MakeGraph rows → MakeGraph (row ∷ rows)
+make_row rows row well no_self same few_vertices few_edges make =
+    let now = size_now rows row same in
     record {
-      dim = λ l. well.dim;
-      edges = λ d h. edges_well rows row d new (h some) (row_makes rows row d well (not_true (is_self_edge row) form.1) (h some))
-          (make.edges d (λ l. same_dimension (length (edges_of rows)) (dimension_of rows) row.dim form.0 l ∙ h some));
-      different = edges_different rows row new make.different;
-      few_vertices = leb-true (length (vertices_of (row ∷ rows))) 512 limits.0;
-      few_edges = leb-true (length (edges_of (row ∷ rows))) 4096 more.1;
+      size = λ h. subst (λ n. (n ≡ 4) ⊎ (n ≡ 5)) (sym now) well.size;
+      edges = λ size h. let e = sym now ∙ h refl in
+          edges_well rows row size (row_makes rows row size well no_self e) (make.edges size (λ some. sym (same some) ∙ e));
+      different = edges_different rows row make.different;
+      few_vertices = few_vertices;
+      few_edges = few_edges;
     }

@@ -1,27 +1,27 @@
--- The rows of a plain text make a graph.
+-- Edges of a graph within the limits.
 use Rattle.std.proofs.Common.{◌≡◌, ◌≢◌, ◌⊎◌, ℕ, ◌≤◌, ℤ, pos, ◌-ℤ◌, Bool, true, false, List, map, length, ap, arith}
 use Rattle.std.specs.List.{All, AllPairs}
 use Rattle.std.specs.Int.RustNames.{unsigned_abs}
 use Rattle.periodic_net.specs.Graph.{IsNormalSpelling}
-use Rattle.cgd_read.specs.Rows.{RowView}
-use Rattle.cgd_read.specs.Edges.{vertices_of, spelled, is_forward, normal, edges_of, dimension_of}
+use Rattle.cgd_read.specs.Lines.{FieldsView}
+use Rattle.cgd_read.specs.Edges.{vertices_of, spelled, is_forward, normal, edges_of, first_size, has_rows}
 use Rattle.cgd_read.specs.Graphs.{edge_of}
 use Rattle.cgd_read.specs.declared.block.RawEdge.{RawEdge}
 use Rattle.cgd_read.proofs.Parts.{negative_small}
 use Rattle.cgd_read.proofs.Spelling.{normal_spelled, IsZero}
 
--- an edge of a graph of dimension d with n vertices, within the limits
-pub record IsWellEdge (n d : ℕ) (e : RawEdge) : Type 0 where
+-- an edge of a graph with n vertices and rows of so many fields, within the limits
+pub record IsWellEdge (n size : ℕ) (e : RawEdge) : Type 0 where
   pub first : (1 ≤ e.u) × (e.u ≤ n)
   pub second : (1 ≤ e.v) × (e.v ≤ n)
-  pub flat : d ≡ 2 → e.z ≡ pos 0
+  pub flat : size ≡ 4 → e.z ≡ pos 0
   pub spelling : IsNormalSpelling (edge_of e)
   pub x : unsigned_abs e.x ≤ 500
   pub y : unsigned_abs e.y ≤ 500
   pub z : unsigned_abs e.z ≤ 500
 
-pub wider : (m n d : ℕ) → m ≤ n → (e : RawEdge) → IsWellEdge m d e → IsWellEdge n d e
-wider m n d l e w = record {
+pub wider : (m n size : ℕ) → m ≤ n → (e : RawEdge) → IsWellEdge m size e → IsWellEdge n size e
+wider m n size l e w = record {
   first = (w.first.0, omega (arith, w.first.1, l));
   second = (w.second.0, omega (arith, w.second.1, l));
   flat = w.flat;
@@ -31,12 +31,12 @@ wider m n d l e w = record {
   z = w.z;
 }
 
-pub well_spelled : (n d u v : ℕ) (x y z : ℤ) → (1 ≤ u) × (u ≤ n) → (1 ≤ v) × (v ≤ n) → (d ≡ 2 → z ≡ pos 0)
+pub well_spelled : (n size u v : ℕ) (x y z : ℤ) → (1 ≤ u) × (u ≤ n) → (1 ≤ v) × (v ≤ n) → (size ≡ 4 → z ≡ pos 0)
     → unsigned_abs x ≤ 500 → unsigned_abs y ≤ 500 → unsigned_abs z ≤ 500 → (u ≡ v → IsZero x y z → ⊥)
-    → IsWellEdge n d (normal u v x y z)
-well_spelled n d u v x y z first second flat sx sy sz other = by (is_forward u v x y z) (normal_spelled u v x y z other)
+    → IsWellEdge n size (normal u v x y z)
+well_spelled n size u v x y z first second flat sx sy sz other = by (is_forward u v x y z) (normal_spelled u v x y z other)
   where
-    by : (t : Bool) → IsNormalSpelling (edge_of (spelled t u v x y z)) → IsWellEdge n d (spelled t u v x y z)
+    by : (t : Bool) → IsNormalSpelling (edge_of (spelled t u v x y z)) → IsWellEdge n size (spelled t u v x y z)
     by true s = record { first = first; second = second; flat = flat; spelling = s; x = sx; y = sy; z = sz }
     by false s = record {
       first = second;
@@ -49,9 +49,9 @@ well_spelled n d u v x y z first second flat sx sy sz other = by (is_forward u v
     }
 
 -- what the rows so far make
-pub record MakeGraph (rows : List RowView) : Type 0 where
-  pub dim : 1 ≤ length (edges_of rows) → (dimension_of rows ≡ 2) ⊎ (dimension_of rows ≡ 3)
-  pub edges : (d : ℕ) → (1 ≤ length (edges_of rows) → dimension_of rows ≡ d) → All (IsWellEdge (length (vertices_of rows)) d) (edges_of rows)
+pub record MakeGraph (rows : List FieldsView) : Type 0 where
+  pub size : has_rows rows ≡ true → (first_size rows ≡ 4) ⊎ (first_size rows ≡ 5)
+  pub edges : (size : ℕ) → (has_rows rows ≡ true → first_size rows ≡ size) → All (IsWellEdge (length (vertices_of rows)) size) (edges_of rows)
   pub different : AllPairs (λ a b. a ≢ b) (map edge_of (edges_of rows))
   pub few_vertices : length (vertices_of rows) ≤ 512
   pub few_edges : length (edges_of rows) ≤ 4096

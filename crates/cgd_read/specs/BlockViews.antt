@@ -1,8 +1,8 @@
 -- What the blocks that are read stand for.
-use Rattle.std.specs.Prelude.{ℕ, List, map, Option}
+use Rattle.std.specs.Prelude.{ℕ, ◌-◌, List, map, Option}
 use Rattle.std.specs.Option.{option_copied}
-use Rattle.cgd_read.specs.Rows.{RowView}
-use Rattle.cgd_read.specs.Edges.{vertices_of, edges_of, dimension_of}
+use Rattle.cgd_read.specs.Lines.{FieldsView}
+use Rattle.cgd_read.specs.Edges.{vertices_of, edges_of, first_size, repeats_of}
 use Rattle.cgd_read.specs.Graphs.{IsReadGraph}
 use Rattle.cgd_read.specs.declared.block.RawEdge.{RawEdge}
 use Rattle.cgd_read.specs.declared.block.RawGraph.{RawGraph}
@@ -41,9 +41,9 @@ block_view block = record { name = option_copied block.name; line = block.line; 
 abbrev pub views : List Block → List BlockView
 views blocks = map block_view blocks
 
--- the graph of these rows, the nearest first
-abbrev pub net_of : List RowView → RawView
-net_of rows = record { dim = dimension_of rows; names = vertices_of rows; edges = edges_of rows; repeats = 0 }
+-- the graph of these rows, the nearest first: a row is two vertices and then a part of the shift for each dimension
+abbrev pub net_of : List FieldsView → RawView
+net_of rows = record { dim = first_size rows - 2; names = vertices_of rows; edges = edges_of rows; repeats = repeats_of rows }
 
 -- a graph is one that may be read
 abbrev pub IsReadBody : Body → Type 0

@@ -1,47 +1,50 @@
--- The block of a text: its plain text, or the first line that breaks it.
-use Rattle.std.specs.Prelude.{◌≡◌, ℕ, ◌+◌, List, [], ◌∷◌, length, Option, None, IsTrue}
-use Rattle.cgd_read.specs.Lines.{lines_of, in_order}
-use Rattle.cgd_read.specs.Plain.{name_on, due_after, is_over, rows_of, AllFit, Breaks}
-use Rattle.cgd_read.specs.BlockViews.{RawView, BodyView, Net, Other, Faulty, BlockView, net_of}
-use Rattle.cgd_read.specs.declared.block.BlockFault.{BlockFault}
-use Rattle.cgd_read.specs.declared.block.BlockFaultKind.TheVariants.{NotBuilt}
+-- The blocks of a text: runs of its lines.
+use Rattle.std.specs.Prelude.{◌≡◌, ℕ, Bool, true, false, ◌==◌, List, [], ◌∷◌, Option, None, Some, if◌then◌else◌}
+use Rattle.cgd_lex.specs.Tokens.{tokens_of}
+use Rattle.cgd_read.specs.Lines.{LineView, lines_of}
+use Rattle.cgd_read.specs.Faults.{is_end, rows_of, name_of, fault_of}
+use Rattle.cgd_read.specs.BlockViews.{BodyView, Net, Other, Faulty, BlockView, net_of}
+use Rattle.cgd_read.specs.declared.block.BlockFaultKind.{BlockFaultKind}
+use Rattle.cgd_read.specs.declared.block.BlockFaultKind.TheVariants.{BadToken, NoEnd}
+use Rattle.cgd_read.specs.declared.line.LineKind.{LineKind}
+use Rattle.cgd_read.specs.declared.line.LineKind.TheVariants.{Opening}
 
--- the lines are a plain text of this graph
-pub record IsPlain (lines : List (List ℕ)) (view : RawView) : Type 0 where
-  pub earlier : List (List ℕ)
-  pub whole : in_order earlier [] ≡ lines
-  pub fit : AllFit earlier
-  pub over : IsTrue (is_over (due_after earlier))
-  pub net : view ≡ net_of (rows_of earlier)
+-- the block that opens at this line, with this body, after these lines, the nearest first
+abbrev pub with_body : ℕ → List LineView → BodyView → BlockView
+with_body opening earlier body = record { name = name_of earlier; line = opening; body = body }
 
--- the lines are no plain text: this is their first line that does not fit, or the one after a text that ends too early
-pub record IsFirstBreak (lines : List (List ℕ)) (told : BlockFault) : Type 0 where
-  pub earlier : List (List ℕ)
-  pub later : List (List ℕ)
-  pub whole : in_order earlier later ≡ lines
-  pub fit : AllFit earlier
-  pub breaks : Breaks earlier later
-  pub fault : told ≡ record { line = length earlier + 1; kind = NotBuilt }
+abbrev pub malformed : ℕ → BlockFaultKind → BodyView
+malformed line kind = Faulty record { line = line; kind = kind }
 
-abbrev pub IsBodyOf : List (List ℕ) → BodyView → Type 0
-IsBodyOf lines (Net net) = IsPlain lines net
-IsBodyOf lines (Other token) = ⊥
-IsBodyOf lines (Faulty fault) = IsFirstBreak lines fault
+-- the fault of a line, or else the block that the later lines make
+abbrev pub or_fault : Option BlockFaultKind → ℕ → ℕ → List LineView → BlockView → BlockView
+or_fault (Some kind) line opening earlier later = with_body opening earlier (malformed line kind)
+or_fault None line opening earlier later = later
 
--- the name on the second line, whatever the first
-abbrev pub name_of : List (List ℕ) → Option (List ℕ)
-name_of [] = None
-name_of (first ∷ []) = None
-name_of (first ∷ second ∷ others) = name_on second
+-- a graph block after its opening line: its first line with a fault decides, or the end of the block, or of the text
+abbrev pub graph_block : ℕ → List LineView → List LineView → BlockView
+graph_block opening earlier [] = with_body opening earlier (malformed opening NoEnd)
+graph_block opening earlier (line ∷ lines) =
+    or_fault (fault_of earlier line) line.number opening earlier
+    (if is_end line.kind then with_body opening earlier (Net (net_of (rows_of earlier))) else graph_block opening (line ∷ earlier) lines)
 
--- the one block of a text with these lines
-pub record IsBlockOf (lines : List (List ℕ)) (block : BlockView) : Type 0 where
-  pub name : block.name ≡ name_of lines
-  pub line : block.line ≡ 1
-  pub body : IsBodyOf lines block.body
+-- the block that a line opens; the line of a graph block has no further token
+abbrev pub block_by : LineKind → LineView → List LineView → BlockView
+block_by Opening line lines = if line.fields.size == 0 then graph_block line.number [] lines else with_body line.number [] (malformed line.number BadToken)
+block_by _ line lines = with_body line.number [] (Other line.first)
 
--- these are the blocks of the text: there is exactly one
+abbrev pub block_of : LineView → List LineView → BlockView
+block_of line lines = block_by line.kind line lines
+
+-- the blocks from these lines on, which begin inside a block or not; a block is passed over up to its end
+abbrev pub blocks_from : Bool → List LineView → List BlockView
+blocks_from inside [] = []
+blocks_from true (line ∷ lines) = if is_end line.kind then blocks_from false lines else blocks_from true lines
+blocks_from false (line ∷ lines) = if is_end line.kind then blocks_from false lines else block_of line lines ∷ blocks_from true lines
+
+abbrev pub blocks_of : List ℕ → List BlockView
+blocks_of text = blocks_from false (lines_of (tokens_of text))
+
+-- these are the blocks of the text: each text has exactly one list of blocks
 abbrev pub AreBlocksOf : List ℕ → List BlockView → Type 0
-AreBlocksOf text [] = ⊥
-AreBlocksOf text (block ∷ []) = IsBlockOf (lines_of text) block
-AreBlocksOf text (block ∷ next ∷ others) = ⊥
+AreBlocksOf text blocks = blocks ≡ blocks_of text

@@ -1,44 +1,140 @@
--- Lines of a text and fields of a line.
-use Rattle.std.specs.Prelude.{ℕ, List, [], ◌∷◌, ◌==◌, Option, None, Some}
-use Rattle.std.specs.List.{slice_split}
-use Rattle.std.specs.Borrow.{Bor}
+-- The lines of a text that have a token, and what they say. The tokens of a line are a function of that line alone.
+use Rattle.std.specs.Prelude.{ℕ, ℤ, pos, ◌-◌, Bool, true, false, ◌||◌, is_none, List, [], ◌∷◌, length, take, drop, map, Option, None, Some, if◌then◌else◌, codes}
+use Rattle.std.specs.List.{slice_split, flat_map, list_any}
+use Rattle.std.specs.Str.{bytes_eq}
+use Rattle.std.specs.Char.{to_ascii_lowercase}
+use Rattle.cgd_lex.specs.Tokens.{TokenView}
+use Rattle.cgd_lex.specs.declared.token.TokenKind.{TokenKind}
+use Rattle.cgd_lex.specs.declared.token.TokenKind.TheVariants.{Word, Whole, Quoted, Newline, Bad}
+use Rattle.cgd_read.specs.Values.{part_of}
+use Rattle.cgd_read.specs.declared.line.LineKind.{LineKind}
+use Rattle.cgd_read.specs.declared.line.LineKind.TheVariants.{Opening, Name, Edges, End, Unknown, Bare, Broken}
 
-abbrev pub first_of : List (List ℕ) → List ℕ
-first_of [] = []
-first_of (piece ∷ others) = piece
+abbrev pub is_newline : TokenKind → Bool
+is_newline Newline = true
+is_newline _ = false
 
-abbrev pub others_of : List (List ℕ) → List (List ℕ)
-others_of [] = []
-others_of (piece ∷ others) = others
+abbrev pub is_bad : TokenKind → Bool
+is_bad Bad = true
+is_bad _ = false
 
--- the pieces between such bytes; there is always a first
-abbrev pub pieces : ℕ → List ℕ → List (List ℕ)
-pieces b bytes = first_of (slice_split (λ x. x == b) bytes) ∷ others_of (slice_split (λ x. x == b) bytes)
+abbrev pub is_quoted : TokenKind → Bool
+is_quoted Quoted = true
+is_quoted _ = false
 
--- the pieces of what is left, where something is
-abbrev pub pieces_left : ℕ → Option (Bor (List ℕ)) → List (List ℕ)
-pieces_left b None = []
-pieces_left b (Some rest) = pieces b rest.now
+-- a token that stands in no row
+abbrev pub is_strange : TokenKind → Bool
+is_strange Word = true
+is_strange Bad = true
+is_strange _ = false
 
-abbrev pub unless_empty : List ℕ → List (List ℕ)
-unless_empty [] = []
-unless_empty (b ∷ bytes) = (b ∷ bytes) ∷ []
+-- the fields of a line: its tokens after the keyword, or all where it begins with none
 
--- the last piece counts only where it has a byte
-abbrev pub ended : List (List ℕ) → List (List ℕ)
-ended [] = []
-ended (piece ∷ []) = unless_empty piece
-ended (piece ∷ next ∷ others) = piece ∷ ended (next ∷ others)
+-- quotes are no part of a name
+abbrev pub unquoted : TokenView → List ℕ
+unquoted token = if is_quoted token.kind then take (length token.text - 2) (drop 1 token.text) else token.text
 
--- a text is cut after each line feed
-abbrev pub lines_of : List ℕ → List (List ℕ)
-lines_of text = ended (pieces 10 text)
+abbrev pub name_in : TokenView → Option (List ℕ)
+name_in token = if is_bad token.kind then None else Some (unquoted token)
 
--- a line is cut at each blank
-abbrev pub fields_of : List ℕ → List (List ℕ)
-fields_of line = pieces 32 line
+-- the name on a name line, where there is one field and it is not bad
+abbrev pub name_of_fields : List TokenView → Option (List ℕ)
+name_of_fields (token ∷ []) = name_in token
+name_of_fields _ = None
 
--- lines in the order of the text; the earlier ones are given the nearest first
-abbrev pub in_order : List (List ℕ) → List (List ℕ) → List (List ℕ)
-in_order [] later = later
-in_order (line ∷ earlier) later = in_order earlier (line ∷ later)
+abbrev pub text_of_first : List TokenView → List ℕ
+text_of_first [] = []
+text_of_first (token ∷ tokens) = token.text
+
+-- a part of a shift, or 0 where it is out of the limits
+abbrev pub part_or_zero : Option ℤ → ℤ
+part_or_zero None = pos 0
+part_or_zero (Some x) = x
+
+abbrev pub part_of_first : List TokenView → ℤ
+part_of_first [] = pos 0
+part_of_first (token ∷ tokens) = part_or_zero (part_of token.text)
+
+-- what the fields say: as the name on a name line, and as a row, two vertices and the parts of a shift
+pub record FieldsView : Type 0 where
+  pub size : ℕ
+  pub name : Option (List ℕ)
+  pub has_strange : Bool
+  pub has_late_quote : Bool
+  pub has_far_part : Bool
+  pub u : List ℕ
+  pub v : List ℕ
+  pub x : ℤ
+  pub y : ℤ
+  pub z : ℤ
+
+abbrev pub fields_of : List TokenView → FieldsView
+fields_of tokens = record {
+  size = length tokens;
+  name = name_of_fields tokens;
+  has_strange = list_any (λ (t : TokenView). is_strange t.kind) tokens;
+  has_late_quote = list_any (λ (t : TokenView). is_quoted t.kind) (drop 2 tokens);
+  has_far_part = list_any (λ (t : TokenView). is_none (part_of t.text)) (drop 2 tokens);
+  u = text_of_first tokens;
+  v = text_of_first (drop 1 tokens);
+  x = part_of_first (drop 2 tokens);
+  y = part_of_first (drop 3 tokens);
+  z = part_of_first (drop 4 tokens);
+}
+
+-- the word is this keyword, in any case of its letters
+abbrev pub is_keyword : List ℕ → List ℕ → Bool
+is_keyword keyword word = bytes_eq (map to_ascii_lowercase word) keyword
+
+abbrev pub is_name_word : List ℕ → Bool
+is_name_word word = is_keyword (codes "name") word || is_keyword (codes "id") word
+
+abbrev pub is_edges_word : List ℕ → Bool
+is_edges_word word = is_keyword (codes "edges") word || (is_keyword (codes "edge") word || (is_keyword (codes "bonds") word || is_keyword (codes "bond") word))
+
+abbrev pub kind_of_word : List ℕ → LineKind
+kind_of_word word =
+    if is_keyword (codes "periodic_graph") word then Opening else
+    if is_name_word word then Name else
+    if is_edges_word word then Edges else
+    if is_keyword (codes "end") word then End else
+    Unknown
+
+-- the kind of a line with this first token
+abbrev pub kind_of : TokenKind → List ℕ → LineKind
+kind_of Word text = kind_of_word text
+kind_of Whole text = Bare
+kind_of Quoted text = Bare
+kind_of Newline text = Broken
+kind_of Bad text = Broken
+
+abbrev pub is_bare : LineKind → Bool
+is_bare Bare = true
+is_bare _ = false
+
+-- a line as its block sees it
+pub record LineView : Type 0 where
+  pub number : ℕ
+  pub kind : LineKind
+  pub first : List ℕ
+  pub fields : FieldsView
+
+abbrev pub fields_from : LineKind → TokenView → List TokenView → List TokenView
+fields_from kind first others = if is_bare kind then first ∷ others else others
+
+abbrev pub line_with : TokenView → List TokenView → LineView
+line_with first others = record {
+  number = first.line;
+  kind = kind_of first.kind first.text;
+  first = first.text;
+  fields = fields_of (fields_from (kind_of first.kind first.text) first others);
+}
+
+-- a line without tokens is passed over
+abbrev pub line_of : List TokenView → List LineView
+line_of [] = []
+line_of (first ∷ others) = line_with first others ∷ []
+
+-- the lines of these tokens, which stand between the Newlines
+abbrev pub lines_of : List TokenView → List LineView
+lines_of tokens = flat_map line_of (slice_split (λ (t : TokenView). is_newline t.kind) tokens)

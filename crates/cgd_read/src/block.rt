@@ -1,4 +1,7 @@
 // What is read of a text: its blocks.
+ghost use Rattle.std.specs.Prelude.{◌≡◌};
+ghost use Rattle.cgd_read.specs.Kinds.{number_of_kind};
+
 use crate::Names;
 
 /// A block of a text. `line` is the line that opens it.
@@ -42,12 +45,62 @@ pub struct BlockFault {
     pub kind: BlockFaultKind,
 }
 
+/// Why a block is no graph: the first sentence that is true, by the lines in order, and in one line in the
+/// order UnknownField, TwoNames, BadToken, NameTooLong, RowLength, MixedDimension, ShiftRange, SelfEdge,
+/// TooManyVertices, TooManyEdges, NoEdges.
 #[derive(Clone, Copy, Debug, PartialEq, Eq)]
 pub enum BlockFaultKind {
-    NotBuilt,
+    /// A token stands where it may not.
+    BadToken,
+    /// A row has neither four nor five fields.
+    RowLength,
+    /// A row has another length than the first one.
+    MixedDimension,
+    /// A line begins with a word that is no keyword.
+    UnknownField,
+    /// The block ends without a row.
+    NoEdges,
+    /// A row joins a vertex to itself, by the shift 0.
+    SelfEdge,
+    /// A part of a shift is below -500 or above 500.
+    ShiftRange,
+    /// A row brings a 513th vertex.
+    TooManyVertices,
+    /// A row brings a 4,097th edge.
+    TooManyEdges,
+    /// A name or a vertex has more than 200 bytes.
+    NameTooLong,
+    /// The text ends in the block. The line is the one that opens it.
+    NoEnd,
+    /// There is a second name line.
+    TwoNames,
+}
+
+impl BlockFaultKind {
+    /// The number by which it is reported.
+    pub fn number(self) -> u32
+        ensures { result ≡ number_of_kind self }
+    {
+        match self {
+            BlockFaultKind::BadToken => 1,
+            BlockFaultKind::RowLength => 2,
+            BlockFaultKind::MixedDimension => 3,
+            BlockFaultKind::UnknownField => 4,
+            BlockFaultKind::NoEdges => 5,
+            BlockFaultKind::SelfEdge => 6,
+            BlockFaultKind::ShiftRange => 7,
+            BlockFaultKind::TooManyVertices => 8,
+            BlockFaultKind::TooManyEdges => 9,
+            BlockFaultKind::NameTooLong => 10,
+            BlockFaultKind::NoEnd => 11,
+            BlockFaultKind::TwoNames => 12,
+        }
+    }
 }
 
 #[derive(Clone, Copy, Debug, PartialEq, Eq)]
 pub enum ReadRefusal {
+    /// The text opens a 4,097th block.
+    TooManyBlocks,
     NoMemory,
 }

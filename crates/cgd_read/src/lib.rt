@@ -1,15 +1,16 @@
-//! Reads the block of a plain text: its name, and its quotient graph or the line that breaks it.
+//! Reads the blocks of a text of nets: quotient graphs, and the first fault of each block that is none.
 #![tactic(auto)]
 
 mod block;
-mod lines;
+mod cursor;
+mod line;
 mod names;
 mod partial;
-mod plain;
 mod read;
-mod row;
+mod state;
 #[cfg(test)]
 mod tests;
+mod values;
 
 pub use block::{Block, BlockFault, BlockFaultKind, Body, RawEdge, RawGraph, ReadRefusal};
 pub use names::Names;

@@ -1,24 +1,24 @@
 // The graph of the rows that were read so far: names and edges once each, in order of appearance.
-ghost use Rattle.std.specs.Prelude.{◌≡◌, ◌≤◌, ◌<◌, ◌+◌, ◌∷◌, [], List, length, OnOk, IfOk, not, ◌&&◌, nat_le, nat_lt, pos, ◌-ℤ◌};
+ghost use Rattle.std.specs.Prelude.{◌≡◌, ◌≤◌, ◌<◌, ◌+◌, ◌==◌, ◌∷◌, [], List, length, OnOk, IfOk, not, pos, ◌-ℤ◌, if◌then◌else◌};
 ghost use Rattle.std.specs.Str.{bytes_eq};
 ghost use Rattle.std.specs.List.{list_any, position_or_len};
-ghost use Rattle.cgd_read.specs.Rows.{RowView};
-ghost use Rattle.cgd_read.specs.Edges.{with_new, same_edge, is_forward, normal, row_edge, is_self_edge, is_repeat, vertices_of, edges_of, has_form, row_fits};
+ghost use Rattle.cgd_read.specs.Held.{IsSmallPart};
+ghost use Rattle.cgd_read.specs.Lines.{FieldsView};
+ghost use Rattle.cgd_read.specs.Reading.{fields_view, IsSmallFields};
+ghost use Rattle.cgd_read.specs.Edges.{with_new, same_edge, is_forward, normal, row_edge, is_self_edge, has_rows};
 ghost use Rattle.cgd_read.specs.BlockViews.{raw_view, net_of};
-ghost use Rattle.cgd_read.specs.Partial.{names_in, row_view, IsSmallPart, HasSmallParts, Holds};
+ghost use Rattle.cgd_read.specs.Partial.{names_in, Holds};
 
-use crate::row::Row;
+use crate::line::Fields;
 use crate::{Names, NoMemory, RawEdge, RawGraph};
 use indexmap::IndexSet;
 use std::alloc::Global;
 
-const MOST_NAMES: usize = 512;
-
-const MOST_EDGES: usize = 4096;
-
 #[derive(Drop)]
 pub struct PartialGraph<'a> {
-    pub dim: u8,
+    /// The number of fields of the first row, or 0.
+    pub size: u32,
+    pub repeats: u32,
     pub names: IndexSet<&'a [u8]>,
     pub edges: IndexSet<RawEdge>,
 }
@@ -82,8 +82,8 @@ fn normal_edge(u: u32, v: u32, x: i32, y: i32, z: i32) -> RawEdge
     }
 }
 
-fn is_self_edge(row: &Row<'_>) -> bool
-    ensures { result ≡ is_self_edge (row_view row.now) }
+pub fn is_self_edge(row: &Fields<'_>) -> bool
+    ensures { result ≡ is_self_edge (fields_view row.now) }
 {
     row.u == row.v && (row.x == 0 && (row.y == 0 && row.z == 0))
 }
@@ -92,16 +92,16 @@ fn is_self_edge(row: &Row<'_>) -> bool
 fn take_row<'a>(
     names: &mut IndexSet<&'a [u8]>,
     edges: &mut IndexSet<RawEdge>,
-    row: &Row<'a>,
+    row: &Fields<'a>,
 ) -> Result<bool, NoMemory>
-    requires small { HasSmallParts row.now }
+    requires small { IsSmallFields (fields_view row.now) }
     requires room { length (names_in names.old) ≤ 512 }
     ensures names { OnOk result (names_in names.new ≡
         with_new bytes_eq (with_new bytes_eq (names_in names.old) row.now.u.now) row.now.v.now) }
     ensures edges { OnOk result (edges.new.keys ≡
-        with_new same_edge edges.old.keys (row_edge (names_in names.old) (row_view row.now))) }
+        with_new same_edge edges.old.keys (row_edge (names_in names.old) (fields_view row.now))) }
     ensures added { IfOk result (λ new. new ≡
-        not (list_any (same_edge (row_edge (names_in names.old) (row_view row.now))) edges.old.keys)) }
+        not (list_any (same_edge (row_edge (names_in names.old) (fields_view row.now))) edges.old.keys)) }
 {
     let u = place_of(names, row.u)?;
     let v = place_of(names, row.v)?;
@@ -109,83 +109,69 @@ fn take_row<'a>(
     add_edge(edges, edge)
 }
 
+// The length of the first row, with a next one.
+fn size_with(size: u32, next: u32) -> u32
+    ensures { result ≡ (if size == 0 then next else size) }
+{
+    if size == 0 { next } else { size }
+}
+
+fn repeats_with(repeats: u32, new: bool) -> u32
+    requires { repeats < 16777216 }
+    ensures { result ≡ (if not new then repeats + 1 else repeats) }
+{
+    if !new { repeats + 1 } else { repeats }
+}
+
 impl<'a> PartialGraph<'a> {
     /// Nothing yet.
     pub fn new(alloc: Global) -> Self
-        ensures { Holds result [] }
+        ensures holds { Holds result [] }
+        ensures repeats { result.repeats ≡ 0 }
     {
         PartialGraph {
-            dim: 0,
+            size: 0,
+            repeats: 0,
             names: IndexSet::new(alloc),
             edges: IndexSet::new(alloc),
         }
     }
 
-    /// Whether there is an edge.
-    pub fn has_edges(&self) -> bool
-        ensures { (rows : List RowView) → Holds self.now rows →
-            result ≡ nat_lt 0 (length (edges_of rows)) }
+    /// Whether there is a row.
+    pub fn has_rows(&self) -> bool
+        ensures { (rows : List FieldsView) → Holds self.now rows → result ≡ has_rows rows }
     {
         0 < self.edges.len()
     }
 
-    // Whether the row has the length of the rows so far and is no self edge.
-    fn may_take(&self, row: &Row<'a>) -> bool
-        ensures { (rows : List RowView) → Holds self.now rows →
-            result ≡ has_form rows (row_view row.now) }
-    {
-        (self.edges.len() < 1 || self.dim == row.dim) && !is_self_edge(row)
-    }
-
-    // Whether the last row, whose edge is new or not, kept the limits.
-    fn keeps_limits(&self, new: bool) -> bool
-        ensures { (rows : List RowView) → Holds self.now rows →
-            result ≡ (nat_le (length (vertices_of rows)) 512
-            && (new && nat_le (length (edges_of rows)) 4096)) }
-    {
-        self.names.len() <= MOST_NAMES && (new && self.edges.len() <= MOST_EDGES)
-    }
-
-    // Takes a row, and answers whether its edge is new.
-    fn take(&mut self, row: &Row<'a>) -> Result<bool, NoMemory>
-        requires small { HasSmallParts row.now }
+    /// Takes a row.
+    pub fn take(&mut self, row: &Fields<'a>) -> Result<(), NoMemory>
+        requires small { IsSmallFields (fields_view row.now) }
         requires room { length (names_in self.old.names) ≤ 512 }
-        ensures taken { OnOk result ((rows : List RowView) → Holds self.old rows →
-            Holds self.new (row_view row.now ∷ rows)) }
-        ensures added { IfOk result (λ new. (rows : List RowView) → Holds self.old rows →
-            new ≡ not (is_repeat rows (row_view row.now))) }
+        requires countable { self.old.repeats < 16777216 }
+        ensures taken { OnOk result ((rows : List FieldsView) → Holds self.old rows →
+            Holds self.new (fields_view row.now ∷ rows)) }
+        ensures repeats { OnOk result (self.new.repeats ≤ self.old.repeats + 1) }
     {
         let new = take_row(&mut self.names, &mut self.edges, row)?;
-        self.dim = row.dim;
-        Ok(new)
-    }
-
-    /// Takes a row, and answers whether it may follow the rows so far.
-    pub fn add(&mut self, row: &Row<'a>) -> Result<bool, NoMemory>
-        requires small { HasSmallParts row.now }
-        requires room { length (names_in self.old.names) ≤ 512 }
-        ensures fits { IfOk result (λ fits. (rows : List RowView) → Holds self.old rows →
-            fits ≡ row_fits rows (row_view row.now)) }
-        ensures taken { OnOk result ((rows : List RowView) → Holds self.old rows →
-            Holds self.new (row_view row.now ∷ rows)) }
-    {
-        let has_form = self.may_take(row);
-        let new = self.take(row)?;
-        Ok(has_form && self.keeps_limits(new))
+        self.size = size_with(self.size, row.size);
+        self.repeats = repeats_with(self.repeats, new);
+        Ok(())
     }
 
     /// The graph of the rows.
     pub fn finish(self, alloc: Global) -> Result<RawGraph<'a>, NoMemory>
-        ensures { IfOk result (λ raw. (rows : List RowView) → Holds self.entry rows →
+        requires { self.size ≤ 5 }
+        ensures { IfOk result (λ raw. (rows : List FieldsView) → Holds self.entry rows →
             raw_view raw ≡ net_of rows) }
     {
         let names = Names::from_slice(alloc, self.names.as_slice())?;
         let edges = Vec::from_slice(alloc, self.edges.as_slice())?;
         Ok(RawGraph {
-            dim: self.dim,
+            dim: self.size.saturating_sub(2) as u8,
             names,
             edges,
-            repeats: 0,
+            repeats: self.repeats,
         })
     }
 }

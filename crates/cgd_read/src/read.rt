@@ -1,130 +1,201 @@
-// The block of a text.
-ghost use Rattle.std.specs.Prelude.{◌≡◌, ◌+◌, ◌∷◌, ◌≤◌, [], List, ℕ, length, true, IfOk, All, map};
-ghost use Rattle.std.specs.Option.{option_copied};
-ghost use Rattle.cgd_read.specs.Lines.{lines_of};
-ghost use Rattle.cgd_read.specs.Plain.{fits, is_over};
-ghost use Rattle.cgd_read.specs.States.{Stands};
-ghost use Rattle.cgd_read.specs.Partial.{names_in};
-ghost use Rattle.cgd_read.specs.Blocks.{name_of, IsBodyOf, IsBlockOf, AreBlocksOf};
-ghost use Rattle.cgd_read.specs.BlockViews.{Faulty, IsReadBody, body_view, block_view, views, raw_view, net_of};
+// The blocks of a text, in one pass over its lines.
+ghost use Rattle.std.specs.Prelude.{◌≡◌, ◌∷◌, ◌≤◌, ◌<◌, [], List, length, IfOk, OnOk, All, IsErrOf, ◌++◌, ◌+◌, ℕ};
+ghost use Rattle.cgd_lex.specs.Tokens.{tokens_of};
+ghost use Rattle.cgd_read.specs.Lines.{LineView, lines_of};
+ghost use Rattle.cgd_read.specs.Reading.{line_view, IsSmallFields, IsFlat};
+ghost use Rattle.cgd_read.specs.Faults.{is_end};
+ghost use Rattle.cgd_read.specs.Blocks.{graph_block, block_by, block_of, blocks_of, with_body, malformed, AreBlocksOf};
+ghost use Rattle.cgd_read.specs.GraphBlocks.{IsGraphBlock};
+ghost use Rattle.cgd_read.specs.BlockViews.{BlockView, IsReadBody, body_view, block_view, views};
+ghost use Rattle.cgd_read.specs.Passing.{after_end};
 
-use crate::lines::next_line;
-use crate::partial::PartialGraph;
-use crate::plain::{Due, name_on, take_later};
+use crate::cursor::next_line;
+use crate::line::{Line, LineKind};
+use crate::state::State;
 use crate::{Block, BlockFault, BlockFaultKind, Body, NoMemory, ReadRefusal};
+use cgd_lex::Lexer;
 use std::alloc::Global;
 
-/// What is known of the lines that were read.
-#[derive(Drop)]
-pub struct Reading<'a> {
-    pub due: Due,
-    pub graph: PartialGraph<'a>,
-}
+const MOST_BLOCKS: usize = 4096;
 
-// The name on the second line of a text.
-fn name_of(text: &[u8]) -> Option<&[u8]>
-    ensures { option_copied result ≡ name_of (lines_of text.now) }
+/// Passes over the lines of a block, and over the line that ends it.
+fn pass_block(lexer: &mut Lexer<'_>)
+    requires { length lexer.old ≤ 16777216 }
+    ensures lines { lines_of lexer.new ≡ after_end (lines_of lexer.old) }
+    ensures shorter { length lexer.new ≤ length lexer.old }
 {
-    let (_, rest) = next_line(text)?;
-    let (second, _) = next_line(rest)?;
-    name_on(second)
-}
-
-impl<'a> Reading<'a> {
-    fn new(alloc: Global) -> Self
-        ensures { Stands result [] }
-    {
-        Reading {
-            due: Due::Opening,
-            graph: PartialGraph::new(alloc),
-        }
-    }
-
-    // Whether the lines that were read are a whole text.
-    fn is_whole(&self) -> bool
-        ensures { result ≡ is_over self.now.due }
-    {
-        match self.due {
-            Due::Nothing => true,
-            _ => false,
-        }
-    }
-
-    // Takes a line, and answers whether it may follow those before it.
-    fn take(&mut self, line: &'a [u8]) -> Result<bool, NoMemory>
-        requires room { length (names_in self.old.graph.names) ≤ 512 }
-        ensures fits { IfOk result (λ fit. (earlier : List (List ℕ)) → Stands self.old earlier →
-            fit ≡ fits earlier line.now) }
-        ensures stands { IfOk result (λ fit. fit ≡ true → (earlier : List (List ℕ)) →
-            Stands self.old earlier → Stands self.new (line.now ∷ earlier)) }
-    {
-        let due = self.due;
-        self.due = due.after(line);
-        match due {
-            Due::Opening => Ok(line == b"PERIODIC_GRAPH".as_slice()),
-            Due::Name => Ok(name_on(line).is_some()),
-            Due::Edges => Ok(line == b"EDGES".as_slice()),
-            Due::Row => Ok(take_later(&mut self.graph, line)?),
-            Due::Nothing => Ok(false),
+    while let Some(line) = next_line(lexer) {
+        if line.kind.is_end() {
+            return;
         }
     }
 }
 
-fn malformed<'a>(line: u32) -> Body<'a>
-    ensures { body_view result ≡ Faulty record { line = line; kind = BlockFaultKind.NotBuilt } }
+// Passes over the rest of the block in which this line stands.
+fn pass_from(lexer: &mut Lexer<'_>, line: &Line<'_>)
+    requires { length lexer.old ≤ 16777216 }
+    ensures lines { lines_of lexer.new ≡ after_end (line_view line.now ∷ lines_of lexer.old) }
+    ensures shorter { length lexer.new ≤ length lexer.old }
 {
-    Body::Malformed(BlockFault {
-        line,
-        kind: BlockFaultKind::NotBuilt,
-    })
+    if !line.kind.is_end() {
+        pass_block(lexer);
+    }
 }
 
-// The body of the block of a text.
-fn read_body<'a>(alloc: Global, text: &'a [u8]) -> Result<Body<'a>, NoMemory>
-    requires { length text.now ≤ 16777216 }
-    ensures { IfOk result (λ body. IsBodyOf (lines_of text.now) (body_view body)) }
+fn malformed_at<'a>(line: u32, kind: BlockFaultKind) -> Body<'a>
+    ensures view { body_view result ≡ malformed line kind }
+    ensures graph { IsReadBody result }
 {
-    let mut reading = Reading::new(alloc);
-    let mut number = 1;
-    let mut left = text;
-    while let Some((line, rest)) = next_line(left) {
-        if !reading.take(line)? {
-            return Ok(malformed(number));
+    Body::Malformed(BlockFault { line, kind })
+}
+
+// The body of a graph block that opens at this line, and the name that was read in it.
+fn read_graph<'a>(alloc: Global, lexer: &mut Lexer<'a>, opening: u32) -> Result<Block<'a>, NoMemory>
+    requires { length lexer.old ≤ 16777216 }
+    ensures block { IfOk result (λ block.
+        block_view block ≡ graph_block opening [] (lines_of lexer.old)) }
+    ensures graph { IfOk result (λ block. IsReadBody block.body) }
+    ensures lines { OnOk result (lines_of lexer.new ≡ after_end (lines_of lexer.old)) }
+    ensures shorter { OnOk result (length lexer.new ≤ length lexer.old) }
+{
+    let mut state = State::new(alloc);
+    while let Some(line) = next_line(lexer) {
+        let name = state.name;
+        if let Some(kind) = state.judge(&line)? {
+            pass_from(lexer, &line);
+            return Ok(Block {
+                name,
+                line: opening,
+                body: malformed_at(line.number, kind),
+            });
         }
-        number += 1;
-        left = rest;
+        if line.kind.is_end() {
+            return Ok(Block {
+                name,
+                line: opening,
+                body: Body::Graph(state.graph.finish(alloc)?),
+            });
+        }
     }
-    if reading.is_whole() {
-        return Ok(Body::Graph(reading.graph.finish(alloc)?));
-    }
-    Ok(malformed(number))
-}
-
-// The block of a text.
-fn read_block<'a>(alloc: Global, text: &'a [u8]) -> Result<Block<'a>, NoMemory>
-    requires { length text.now ≤ 16777216 }
-    ensures { IfOk result (λ block. IsBlockOf (lines_of text.now) (block_view block)) }
-{
-    let body = read_body(alloc, text)?;
     Ok(Block {
-        name: name_of(text),
-        line: 1,
-        body,
+        name: state.name,
+        line: opening,
+        body: malformed_at(opening, BlockFaultKind::NoEnd),
     })
 }
 
-/// The blocks of a text. Each text has exactly one.
-pub fn blocks<'a>(alloc: Global, text: &'a [u8]) -> Result<Vec<Block<'a>>, ReadRefusal>
+// The block that this line opens as a graph block.
+fn open_graph<'a>(
+    alloc: Global,
+    lexer: &mut Lexer<'a>,
+    line: &Line<'a>,
+) -> Result<Block<'a>, NoMemory>
+    requires { length lexer.old ≤ 16777216 }
+    ensures block { IfOk result (λ block.
+        block_view block ≡ block_by LineKind.Opening (line_view line.now) (lines_of lexer.old)) }
+    ensures graph { IfOk result (λ block. IsReadBody block.body) }
+    ensures lines { OnOk result (lines_of lexer.new ≡ after_end (lines_of lexer.old)) }
+    ensures shorter { OnOk result (length lexer.new ≤ length lexer.old) }
+{
+    if line.fields.size == 0 {
+        return read_graph(alloc, lexer, line.number);
+    }
+    pass_block(lexer);
+    Ok(Block {
+        name: None,
+        line: line.number,
+        body: malformed_at(line.number, BlockFaultKind::BadToken),
+    })
+}
+
+// The block that this line opens.
+fn read_block<'a>(
+    alloc: Global,
+    lexer: &mut Lexer<'a>,
+    line: &Line<'a>,
+) -> Result<Block<'a>, NoMemory>
+    requires { length lexer.old ≤ 16777216 }
+    ensures block { IfOk result (λ block.
+        block_view block ≡ block_of (line_view line.now) (lines_of lexer.old)) }
+    ensures graph { IfOk result (λ block. IsReadBody block.body) }
+    ensures lines { OnOk result (lines_of lexer.new ≡ after_end (lines_of lexer.old)) }
+    ensures shorter { OnOk result (length lexer.new ≤ length lexer.old) }
+{
+    match line.kind {
+        LineKind::Opening => open_graph(alloc, lexer, line),
+        _ => {
+            pass_block(lexer);
+            Ok(Block {
+                name: None,
+                line: line.number,
+                body: Body::Unsupported(line.first),
+            })
+        }
+    }
+}
+
+// Adds the block that this line opens.
+fn add_block<'a>(
+    alloc: Global,
+    lexer: &mut Lexer<'a>,
+    found: &mut Vec<Block<'a>>,
+    line: &Line<'a>,
+) -> Result<(), NoMemory>
+    requires room { length lexer.old ≤ 16777216 }
+    requires graphs { All (λ block. IsReadBody block.body) found.old.items }
+    ensures added { OnOk result (views found.new.items ≡
+        views found.old.items ++ block_of (line_view line.now) (lines_of lexer.old) ∷ []) }
+    ensures count { OnOk result (length found.new.items ≡ length found.old.items + 1) }
+    ensures graphs { OnOk result (All (λ block. IsReadBody block.body) found.new.items) }
+    ensures lines { OnOk result (lines_of lexer.new ≡ after_end (lines_of lexer.old)) }
+    ensures shorter { OnOk result (length lexer.new ≤ length lexer.old) }
+{
+    let block = read_block(alloc, lexer, line)?;
+    found.push(block)?;
+    Ok(())
+}
+
+// The blocks of a text, line by line.
+fn read_blocks<'a>(alloc: Global, text: &'a [u8]) -> Result<Vec<Block<'a>>, ReadRefusal>
     requires { length text.now ≤ 16777216 }
     ensures blocks { IfOk result (λ found. AreBlocksOf text.now (views found.items)) }
     ensures graphs { IfOk result (λ found. All (λ block. IsReadBody block.body) found.items) }
+    ensures few { OnOk result (length (blocks_of text.now) ≤ 4096) }
+    ensures too_many { IsErrOf result ReadRefusal.TooManyBlocks →
+        4096 < length (blocks_of text.now) }
 {
-    let Ok(block) = read_block(alloc, text) else {
-        return Err(ReadRefusal::NoMemory);
-    };
+    let mut lexer = Lexer::new(text);
     let mut found = Vec::new(alloc);
-    match found.push(block) {
-        Ok(()) => Ok(found),
-        Err(_) => Err(ReadRefusal::NoMemory),
+    while let Some(line) = next_line(&mut lexer) {
+        if line.kind.is_end() {
+            continue;
+        }
+        if found.len() == MOST_BLOCKS {
+            return Err(ReadRefusal::TooManyBlocks);
+        }
+        let Ok(()) = add_block(alloc, &mut lexer, &mut found, &line) else {
+            return Err(ReadRefusal::NoMemory);
+        };
     }
+    Ok(found)
+}
+
+/// The blocks of a text, in order.
+#[tactic(auto, using(crate::proofs::Decided::the_block))]
+pub fn blocks<'a>(alloc: Global, text: &'a [u8]) -> Result<Vec<Block<'a>>, ReadRefusal>
+    requires { length text.now ≤ 16777216 }
+
+    ensures blocks { IfOk result (λ found. AreBlocksOf text.now (views found.items)) }
+    ensures graphs { IfOk result (λ found. All (λ block. IsReadBody block.body) found.items) }
+    ensures few { OnOk result (length (blocks_of text.now) ≤ 4096) }
+    ensures too_many { IsErrOf result ReadRefusal.TooManyBlocks →
+        4096 < length (blocks_of text.now) }
+
+    // A graph block is what its first faulty line, its end or the end of the text decides, and nothing else.
+    ensures decided { (opening : ℕ) (lines : List LineView) →
+        IsGraphBlock opening lines (graph_block opening [] lines) }
+    ensures only { (opening : ℕ) (lines : List LineView) (block : BlockView) →
+        IsGraphBlock opening lines block → block ≡ graph_block opening [] lines }
+{
+    read_blocks(alloc, text)
 }

@@ -1,137 +1,185 @@
-use crate::{Block, Body, Names, blocks};
+use crate::{Block, Body, Names, RawEdge, ReadRefusal, blocks};
 use std::alloc::Global;
 use std::test::Fail;
 
-#[derive(Drop)]
-struct Case {
-    text: &'static str,
-    /// Empty where there is none.
-    name: &'static str,
-    /// The line of the fault, or 0.
-    line: u32,
-    vertices: usize,
-    last: Option<(u32, u32, i32, i32, i32)>,
+#[derive(Clone, Copy)]
+enum Told {
+    /// Dimension, vertices, edges and repeats.
+    Net(u8, usize, usize, u32),
+    /// The token that opens an unsupported block.
+    Other(&'static str),
+    /// The fault's line and number.
+    Faulty(u32, u32),
 }
 
-fn broken_at(text: &'static str, line: u32) -> Case {
-    Case {
-        text,
-        name: "a",
-        line,
-        vertices: 0,
-        last: None,
+use Told::{Faulty, Net, Other};
+
+fn has_body(block: &Block<'_>, told: Told) -> bool {
+    match (&block.body, told) {
+        (Body::Graph(raw), Net(dim, vertices, edges, repeats)) => {
+            (raw.dim, raw.repeats) == (dim, repeats)
+                && (raw.names.len(), raw.edges.len()) == (vertices, edges)
+        }
+        (Body::Unsupported(token), Other(text)) => *token == text.as_bytes(),
+        (Body::Malformed(fault), Faulty(line, number)) => {
+            (fault.line, fault.kind.number()) == (line, number)
+        }
+        _ => false,
     }
 }
 
-fn has_name(block: &Block<'_>, name: &'static [u8]) -> bool {
-    match block.name {
-        Some(found) => found == name,
-        None => name.is_empty(),
-    }
-}
-
-fn line_of(block: &Block<'_>) -> u32 {
-    match &block.body {
-        Body::Malformed(fault) => fault.line,
-        _ => 0,
-    }
-}
-
-fn vertices_of(block: &Block<'_>) -> usize {
-    match &block.body {
-        Body::Graph(raw) => raw.names.len(),
-        _ => 0,
-    }
-}
-
-fn last_of(block: &Block<'_>) -> Option<(u32, u32, i32, i32, i32)> {
-    match &block.body {
-        Body::Graph(raw) => raw.edges.last().map(|e| (e.u, e.v, e.x, e.y, e.z)),
-        _ => None,
+fn has_name(block: &Block<'_>, name: Option<&'static str>) -> bool {
+    match (block.name, name) {
+        (Some(found), Some(name)) => found == name.as_bytes(),
+        (None, None) => true,
+        _ => false,
     }
 }
 
 #[test]
-fn tells_graphs_and_faults(rt: HostRuntime) -> Result<(), Fail> {
-    let cases = [
-        Case {
-            text: "PERIODIC_GRAPH\nNAME hcb\nEDGES\n1 2 0 0\n1 2 1 0\n1 2 0 1\nEND\n",
-            name: "hcb",
-            line: 0,
-            vertices: 2,
-            last: Some((1, 2, 0, 1, 0)),
-        },
-        // the last line without its line feed; a vertex is numbered where it appears first
-        Case {
-            text: "PERIODIC_GRAPH\nNAME a\nEDGES\n7 3 -0 2 -500\n3 3 0 -1 4\n7 3 0 0 0\n3 7 1 0 0\nEND",
-            name: "a",
-            line: 0,
-            vertices: 2,
-            last: Some((1, 2, -1, 0, 0)),
-        },
-        // names are compared by their bytes
-        Case {
-            text: "PERIODIC_GRAPH\nNAME a\nEDGES\n1 01 0 0\nEND\n",
-            name: "a",
-            line: 0,
-            vertices: 2,
-            last: Some((1, 2, 0, 0, 0)),
-        },
-        // the empty text
-        Case {
-            text: "",
-            name: "",
-            line: 1,
-            vertices: 0,
-            last: None,
-        },
-        // a name line of two words
-        Case {
-            text: "PERIODIC_GRAPH\nNAME a b\nEDGES\n1 2 0 0\nEND\n",
-            name: "",
-            line: 2,
-            vertices: 0,
-            last: None,
-        },
-        // a broken first line
-        broken_at("PERIODIC_GRAPH \nNAME a\nEDGES\n1 2 0 0\nEND\n", 1),
-        // no END
-        broken_at("PERIODIC_GRAPH\nNAME a\nEDGES\n1 2 0 0\n1 2 1 0\n", 6),
-        // no row
-        broken_at("PERIODIC_GRAPH\nNAME a\nEDGES\nEND\n", 4),
-        // a line after END
-        broken_at("PERIODIC_GRAPH\nNAME a\nEDGES\n1 2 0 0\nEND\n\n", 6),
-        // a repeated edge, reversed
-        broken_at("PERIODIC_GRAPH\nNAME a\nEDGES\n1 2 0 1\n2 1 0 -1\nEND\n", 5),
-        // a self edge
-        broken_at("PERIODIC_GRAPH\nNAME a\nEDGES\n1 2 0 1\n2 2 0 -0\nEND\n", 5),
-        // rows of two lengths
-        broken_at(
-            "PERIODIC_GRAPH\nNAME a\nEDGES\n1 2 0 1\n1 2 0 1 1\nEND\n",
-            5,
+fn blocks_at_corners(rt: HostRuntime) -> Result<(), Fail> {
+    let table: [(&str, &[(u32, Option<&str>, Told)]); 26] = [
+        ("# no block\n\nEND of nothing\n \t\r\nend", &[]),
+        (
+            "# two nets\nbond 1 1 1 0\nend\nend\nPeriodic_Graph\nId \"a b\"\nBONDS 1 1 +1 0\n 1 1 -1 0 # again\n 1 1 0 01\nEND junk\n",
+            &[(2, None, Other("bond")), (5, Some("a b"), Net(2, 1, 2, 1))],
         ),
-        // a part of a shift above 500, and one of four digits
-        broken_at("PERIODIC_GRAPH\nNAME a\nEDGES\n1 2 0 501\nEND\n", 4),
-        broken_at("PERIODIC_GRAPH\nNAME a\nEDGES\n1 2 0 0001\nEND\n", 4),
+        // a quoted END is none, nor does a quoted word open a graph block
+        (
+            "PERIODIC_GRAPH\nEDGES 1 2 0 0\n\"END\" 2 1 0\nEND",
+            &[(1, None, Net(2, 3, 2, 0))],
+        ),
+        (
+            "\"PERIODIC_GRAPH\"\nEDGES",
+            &[(1, None, Other("\"PERIODIC_GRAPH\""))],
+        ),
+        (
+            "\"ab # c\r\n1\nEND\n2",
+            &[(1, None, Other("\"ab # c\r")), (4, None, Other("2"))],
+        ),
+        // a further token on the opening line
+        (
+            "PERIODIC_GRAPH x\nNAME a\nEND\nb",
+            &[(1, None, Faulty(1, 1)), (4, None, Other("b"))],
+        ),
+        // names
+        (
+            "PERIODIC_GRAPH\nNAME \"\"\nEDGE 1 1 1 0\nEND",
+            &[(1, Some(""), Net(2, 1, 1, 0))],
+        ),
+        (
+            "PERIODIC_GRAPH\nNAME a\nID b c\nEND",
+            &[(1, Some("a"), Faulty(3, 12))],
+        ),
+        ("PERIODIC_GRAPH\nNAME # a\nEND", &[(1, None, Faulty(2, 1))]),
+        ("PERIODIC_GRAPH\nNAME \"a\nEND", &[(1, None, Faulty(2, 1))]),
+        // a name line after the edges, before a row without a keyword
+        (
+            "PERIODIC_GRAPH\nEDGES\n1 2 0 0\nID 7\n1 2 1 0\nEND",
+            &[(1, Some("7"), Faulty(5, 1))],
+        ),
+        (
+            "PERIODIC_GRAPH\nEDGES\n1 2 0 0\nID +7\nBOND 1 2 1 0\n1 2 0 1\nEND",
+            &[(1, Some("+7"), Net(2, 2, 3, 0))],
+        ),
+        ("PERIODIC_GRAPH\n1 2 0 0\nEND", &[(1, None, Faulty(2, 1))]),
+        ("PERIODIC_GRAPH\nGROUP p1\nEND", &[(1, None, Faulty(2, 4))]),
+        (
+            "PERIODIC_GRAPH\nperiodic_graph\nEND\nPERIODIC_GRAPH\nEDGES\nEND\nEND",
+            &[(1, None, Faulty(2, 4)), (4, None, Faulty(6, 5))],
+        ),
+        // rows
+        (
+            "PERIODIC_GRAPH\nEDGES 1 \"2 0 0\nEND",
+            &[(1, None, Faulty(2, 1))],
+        ),
+        (
+            "PERIODIC_GRAPH\nEDGES 1 b 0 0\nEND",
+            &[(1, None, Faulty(2, 1))],
+        ),
+        (
+            "PERIODIC_GRAPH\nEDGES 1 2 \"0\" 0 9 9\nEND",
+            &[(1, None, Faulty(2, 1))],
+        ),
+        (
+            "PERIODIC_GRAPH\nEDGES 1 2 900\nEND",
+            &[(1, None, Faulty(2, 2))],
+        ),
+        (
+            "PERIODIC_GRAPH\nEDGES 1 2 0 0\n1 2 0 0 501\nEND",
+            &[(1, None, Faulty(3, 3))],
+        ),
+        (
+            "PERIODIC_GRAPH\nEDGES 1 1 0 501\nEND",
+            &[(1, None, Faulty(2, 7))],
+        ),
+        (
+            "PERIODIC_GRAPH\nEDGES 1 2 -501 0\nEND",
+            &[(1, None, Faulty(2, 7))],
+        ),
+        (
+            "PERIODIC_GRAPH\nEDGES 1 2 -500 +500 0500\nEND",
+            &[(1, None, Net(3, 2, 1, 0))],
+        ),
+        (
+            "PERIODIC_GRAPH\nEDGES 1 1 +0 -0\nEND",
+            &[(1, None, Faulty(2, 6))],
+        ),
+        // vertices are compared by their bytes
+        (
+            "PERIODIC_GRAPH\nEDGES 1 01 0 0\n01 \"1\" 0 0\nEND",
+            &[(1, None, Net(2, 3, 2, 0))],
+        ),
+        (
+            "x\nPERIODIC_GRAPH\n\"end\"\nEnd\nPERIODIC_GRAPH",
+            &[(1, None, Other("x")), (5, None, Faulty(5, 11))],
+        ),
     ];
-    for (i, case) in cases.iter().enumerate() {
-        let text = case.text.as_bytes();
-        assert!(rt; text.len() < 200);
-        let found = blocks(rt.alloc(), text).expect(&rt, "memory");
-        assert_eq!(rt; found.len(), 1);
-        assert_eq!(rt; found[0].line, 1);
-        let named = has_name(&found[0], case.name.as_bytes());
-        assert!(rt; named, "at {i}");
-        assert_eq!(rt; line_of(&found[0]), case.line, "at {i}");
-        assert_eq!(rt; vertices_of(&found[0]), case.vertices, "at {i}");
-        assert!(rt; last_of(&found[0]) == case.last, "at {i}");
+    for (i, (text, expected)) in table.iter().enumerate() {
+        let bytes = text.as_bytes();
+        assert!(rt; bytes.len() < 1000);
+        let found = blocks(rt.alloc(), bytes).expect(&rt, "memory");
+        assert!(rt; found.len() == expected.len(), "at {i}");
+        for (block, (line, name, told)) in found.iter().zip(expected.iter()) {
+            assert!(rt; block.line == *line, "at {i}");
+            assert!(rt; has_name(block, *name), "at {i}");
+            assert!(rt; has_body(block, *told), "at {i}");
+        }
     }
     Ok(())
 }
 
-// A text of so many vertices, and of so many edges beside those that bring the vertices.
+// The twelve sites of sodalite, in a body-centred cell.
+const SODALITE: &str =
+    "# T sites of sodalite, body-centred cell\nPeriodic_Graph\nID \"sod, 12 sites\"\nEDGE 1 2 0 0 0\n 1 3 0 -1 0\n 1 4 0 0 0\n 1 5 0 0 0\n 6 2 1 0 0\n 6 3 1 -1 0\n 6 4 0 0 0\n 6 5 0 0 0\n 7 8 0 0 0   # the other half of the cell\n 7 9 0 0 0\n 7 10 0 0 0\n 7 11 0 0 -1\n 12 8 0 0 0\n 12 9 0 0 0\n 12 10 1 0 0\n 12 11 1 0 -1\n 2 10 0 0 0\n 2 11 0 0 0\n 3 10 0 0 0\n 3 11 0 0 0\n 8 4 0 0 0\n 8 5 0 0 -1\n 9 4 0 1 0\n 9 5 0 1 -1\nEnd\n";
+
+#[test]
+fn reads_sodalite(rt: HostRuntime) -> Result<(), Fail> {
+    let text = SODALITE.as_bytes();
+    assert!(rt; text.len() < 1000);
+    let found = blocks(rt.alloc(), text).expect(&rt, "memory");
+    assert!(rt; found.len() == 1 && found[0].line == 2);
+    assert!(rt; has_name(&found[0], Some("sod, 12 sites")));
+    assert!(rt; has_body(&found[0], Net(3, 12, 24, 0)));
+    if let Body::Graph(raw) = &found[0].body {
+        assert!(rt; raw.names.len() == 12 && *raw.names.at(11) == b"12".as_slice());
+        let last = raw.edges.last();
+        assert!(rt;
+            last == Some(&RawEdge {
+                u: 5,
+                v: 9,
+                x: 0,
+                y: -1,
+                z: 1
+            })
+        );
+    }
+    Ok(())
+}
+
+// A graph block of so many vertices, and of so many edges beside those that bring the vertices.
 fn many(alloc: Global, vertices: u32, edges: u32) -> Result<String, Fail> {
-    let mut text = String::from_str(alloc, "PERIODIC_GRAPH\nNAME a\nEDGES\n")?;
+    let mut text = String::from_str(alloc, "PERIODIC_GRAPH\nEDGES\n")?;
     for v in 2..=vertices {
         let row = format!(in alloc; "1 {v} 0 0\n")?;
         text.push_str(&row)?;
@@ -144,17 +192,66 @@ fn many(alloc: Global, vertices: u32, edges: u32) -> Result<String, Fail> {
     Ok(text)
 }
 
-// 512 vertices and 4,096 edges at most
 #[test]
-fn keeps_the_limits(rt: HostRuntime) -> Result<(), Fail> {
-    for (vertices, edges, line) in [(512, 0, 0), (513, 0, 515), (1, 4096, 0), (1, 4097, 4100)] {
+fn keeps_the_limits_of_a_graph(rt: HostRuntime) -> Result<(), Fail> {
+    for (vertices, edges, told) in [
+        (512, 0, Net(2, 512, 511, 0)),
+        (513, 0, Faulty(514, 8)),
+        (1, 4096, Net(2, 1, 4096, 0)),
+        (1, 4097, Faulty(4099, 9)),
+    ] {
         let text = many(rt.alloc(), vertices, edges)?;
         let bytes = text.as_bytes();
         assert!(rt; bytes.len() < 100000);
         let found = blocks(rt.alloc(), bytes).expect(&rt, "memory");
-        assert_eq!(rt; found.len(), 1);
-        assert_eq!(rt; line_of(&found[0]), line);
+        assert!(rt; found.len() == 1 && has_body(&found[0], told));
     }
+    Ok(())
+}
+
+fn repeated(alloc: Global, piece: &str, count: usize) -> Result<String, Fail> {
+    let mut text = String::new(alloc);
+    for _ in 0..count {
+        text.push_str(piece)?;
+    }
+    Ok(text)
+}
+
+// Names, vertices and digits of any length.
+#[test]
+fn keeps_the_limits_of_a_line(rt: HostRuntime) -> Result<(), Fail> {
+    for (count, name, vertex) in [
+        (198, Net(2, 2, 1, 0), Net(2, 2, 1, 0)),
+        (199, Net(2, 2, 1, 0), Faulty(2, 10)),
+        (200, Net(2, 2, 1, 0), Faulty(2, 10)),
+        (201, Faulty(2, 10), Faulty(2, 10)),
+    ] {
+        let long = repeated(rt.alloc(), "0", count)?;
+        let named = format!(in rt.alloc();
+            "PERIODIC_GRAPH\nNAME \"{long}\"\nEDGES 1 2 {long}1 -{long}500\nEND"
+        )?;
+        let spelled = format!(in rt.alloc(); "PERIODIC_GRAPH\nEDGES \"{long}\" 2 0 0\nEND")?;
+        for (text, told) in [(&named, name), (&spelled, vertex)] {
+            let bytes = text.as_bytes();
+            assert!(rt; bytes.len() < 10000);
+            let found = blocks(rt.alloc(), bytes).expect(&rt, "memory");
+            assert!(rt; found.len() == 1 && has_body(&found[0], told), "at {count}");
+        }
+    }
+    Ok(())
+}
+
+// 4,096 blocks at most
+#[test]
+fn keeps_the_limit_of_blocks(rt: HostRuntime) -> Result<(), Fail> {
+    let most = repeated(rt.alloc(), "x\nEND\n", 4096)?;
+    assert!(rt; most.as_bytes().len() < 100000);
+    let found = blocks(rt.alloc(), most.as_bytes()).expect(&rt, "memory");
+    assert!(rt; found.len() == 4096);
+    let more = repeated(rt.alloc(), "x\nEND\n", 4097)?;
+    assert!(rt; more.as_bytes().len() < 100000);
+    let refused = blocks(rt.alloc(), more.as_bytes());
+    assert!(rt; refused.err() == Some(ReadRefusal::TooManyBlocks));
     Ok(())
 }
 

@@ -1,14 +1,12 @@
 -- The search goes on along the arcs from one vertex.
-use Rattle.std.proofs.Common.{◌≡◌, ◌≢◌, ◌⊎◌, inl, inr, ℕ, ℤ, ◌+◌, ◌-◌, ◌*◌, ◌<◌, ◌≤◌, ◌+ℤ◌, ◌-ℤ◌, List, [], ◌∷◌, ◌++◌, length, get_or, set, unsigned_abs, Option, Some, None, IsSome, refl, sym, ap, subst, ◌∙◌, arith, rules, get_or-set_other, length-append}
+use Rattle.std.proofs.Common.{◌≡◌, ℕ, ℤ, ◌+◌, ◌≤◌, ◌+ℤ◌, List, unsigned_abs, Option, Some, IsSome, refl, sym, subst, arith, rules}
 use Rattle.std.proofs.lemmas.Int.{ints}
-use Rattle.std.proofs.lemmas.List.{get_or_append_left}
-use Rattle.integers.specs.Vectors.{Vector, vector, zero_vector, plus, minus, IsWithin}
+use Rattle.integers.specs.Vectors.{Vector, zero_vector, plus, minus, IsWithin}
 use Rattle.integers.proofs.Vectors.{vector_equal}
-use Rattle.periodic_net.specs.Graph.{Graph, Arc, arc, IsArc, IsQuotientVertex, vertex, AreJoined}
+use Rattle.periodic_net.specs.Graph.{Graph, arc, IsArc, vertex}
 use Rattle.periodic_net.specs.Split.{WalkShift}
 use Rattle.periodic_net.proofs.Walks.{reached_transitive, reached_by_arc}
-use Rattle.connected_dim.specs.Search.{walk_to, missing, found_with, order_with, IsSearch, Grows}
-use Rattle.connected_dim.proofs.Finding.{Found, found_is, search_grows}
+use Rattle.connected_dim.specs.Search.{IsSearch, Grows}
 
 -- a walk to u and an arc from u make a walk to its head
 pub walk_further : (G : Graph) (u v : ℕ) (T s : Vector) → WalkShift G u T → IsArc G (arc u v s) → WalkShift G v (plus T s)

@@ -1,12 +1,11 @@
 -- One vertex more that is found.
-use Rattle.std.proofs.Common.{◌≡◌, ◌≢◌, ◌⊎◌, inl, inr, ℕ, ◌+◌, ◌-◌, ◌*◌, ◌<◌, ◌≤◌, Bool, true, false, List, [], ◌∷◌, ◌++◌, length, get_or, set, Option, Some, None, IsSome, is_some, refl, sym, ap, subst, ◌∙◌, arith, rules, get_or-set_same, get_or-set_other, length-set, length-append}
+use Rattle.std.proofs.Common.{◌≡◌, ◌≢◌, ◌⊎◌, inl, inr, ℕ, ◌+◌, ◌-◌, ◌*◌, ◌<◌, ◌≤◌, List, [], ◌∷◌, ◌++◌, length, get_or, set, Option, Some, None, IsSome, refl, sym, ap, subst, ◌∙◌, arith, rules, get_or-set_same, get_or-set_other, length-set, length-append}
 use Rattle.std.specs.List.{Contains}
 use Rattle.std.proofs.Math.Seq.{get_or-append_seam}
 use Rattle.std.proofs.lemmas.List.{get_or_append_left}
 use Rattle.std.proofs.lemmas.List.Elements.{Contains-append_left, Contains-append_right}
-use Rattle.std.proofs.lemmas.Grind.{common_steps}
-use Rattle.integers.specs.Vectors.{Vector, plus, IsWithin}
-use Rattle.periodic_net.specs.Graph.{Graph, Arc, arc, IsArc, IsQuotientVertex}
+use Rattle.integers.specs.Vectors.{Vector, IsWithin}
+use Rattle.periodic_net.specs.Graph.{Graph, IsQuotientVertex}
 use Rattle.periodic_net.specs.Split.{WalkShift}
 use Rattle.connected_dim.specs.Search.{walk_to, found_with, order_with, IsSearch}
 

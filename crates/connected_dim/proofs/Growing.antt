@@ -1,11 +1,11 @@
 -- A search grows by the head of one arc.
-use Rattle.std.proofs.Common.{◌≡◌, ◌≢◌, ◌⊎◌, inl, inr, ℕ, zero, suc, ◌+◌, ◌-◌, ◌*◌, ◌<◌, ◌≤◌, List, [], ◌∷◌, ◌++◌, length, get_or, set, Option, Some, None, IsSome, refl, sym, ap, subst, ◌∙◌, arith, rules, get_or-set_other, length-append}
+use Rattle.std.proofs.Common.{◌≡◌, ◌≢◌, ◌⊎◌, inl, inr, ℕ, zero, suc, ◌+◌, ◌-◌, ◌*◌, ◌<◌, ◌≤◌, List, [], ◌∷◌, ◌++◌, length, get_or, set, Option, Some, None, IsSome, refl, sym, ap, subst, ◌∙◌, arith, get_or-set_other, length-append}
 use Rattle.std.proofs.lemmas.List.{get_or_append_left}
 use Rattle.std.specs.List.{Contains}
 use Rattle.integers.specs.Vectors.{Vector, plus, IsWithin}
 use Rattle.periodic_net.specs.Graph.{Graph, Arc, arc, IsArc, IsQuotientVertex}
-use Rattle.connected_dim.specs.Search.{walk_to, missing, found_with, order_with, IsSearch, Grows, LeadsToFound}
-use Rattle.connected_dim.proofs.Finding.{Found, found_is, search_grows, set_there, set_elsewhere, none_is_not_some, same_or_not}
+use Rattle.connected_dim.specs.Search.{walk_to, missing, found_with, order_with, Grows, LeadsToFound}
+use Rattle.connected_dim.proofs.Finding.{found_is, search_grows, set_there, none_is_not_some, same_or_not}
 use Rattle.connected_dim.proofs.Expanding.{walk_further, within_sum, within_more, some_there}
 
 -- what the turn of the loop makes

@@ -1,12 +1,12 @@
 -- The vertices that a walk from vertex 1 leads to, and the colouring of the two parts.
-use Rattle.std.proofs.Common.{◌≡◌, ℕ, ◌+◌, ◌-◌, ◌<◌, ◌≤◌, ℤ, pos, List, [], ◌∷◌, length, map, get_or, Option, Some, None, IsSome, refl, sym, ap, subst, ◌∙◌, arith, rules}
+use Rattle.std.proofs.Common.{◌≡◌, ℕ, ◌+◌, ◌-◌, ◌<◌, ◌≤◌, pos, List, [], ◌∷◌, length, map, get_or, Option, Some, None, IsSome, refl, sym, ap, subst, ◌∙◌, arith, rules}
 use Rattle.std.proofs.lemmas.List.{length-map, get_or-map}
 use Rattle.integers.specs.Vectors.{Vector, zero_vector, minus}
 use Rattle.periodic_net.specs.Graph.{Graph, IsGraph, IsQuotientVertex, Vertex, vertex, arc, IsWalk}
 use Rattle.periodic_net.specs.Split.{Split, IsFound, IsPartSplit, entry}
 use Rattle.periodic_net.proofs.Arcs.{arc_inside}
 use Rattle.connected_dim.specs.Search.{walk_to, AreWalks}
-use Rattle.connected_dim.specs.Quotient.{IsQuotientConnected, part_colour}
+use Rattle.connected_dim.specs.Quotient.{part_colour}
 
 some_value : (o : Option Vector) → IsSome o → (T : Vector) × (o ≡ Some T)
 some_value None h = cc
@@ -29,14 +29,6 @@ first_found G found h = subst IsSome (sym h.first) (search rules)
 -- each vertex that some walk leads to was found
 pub all_walks : (G : Graph) (found : List (Option Vector)) → IsGraph G → AreWalks G found → (u : ℕ) → IsFound G u → IsSome (walk_to found u)
 all_walks G found g h u f = let w = f.1 in walk_found G found g h w.0 (vertex 1 zero_vector) (vertex u f.0) (omega arith) (first_found G found h) w.1
-
-pub quotient_connected : (G : Graph) (found : List (Option Vector)) → AreWalks G found → ((k : ℕ) → k < length found → IsSome (get_or found k None)) → IsQuotientConnected G
-quotient_connected G found h all u v =
-    let c = h.count in
-    let low = v.0 in
-    let high = v.1 in
-    let s = some_value (walk_to found u) (all (u - 1) (omega arith)) in
-    (s.0, h.walks u s.0 v.0 s.1)
 
 entry_is : (found : List (Option Vector)) (k : ℕ) → k < length found → get_or (map part_colour found) k (pos 0) ≡ part_colour (get_or found k None)
 entry_is found k l = get_or-map part_colour found k None (pos 0) l

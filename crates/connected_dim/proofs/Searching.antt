@@ -1,8 +1,8 @@
 -- The search goes on from the next vertex of its order.
-use Rattle.std.proofs.Common.{◌≡◌, ◌⊎◌, inl, inr, ℕ, ◌+◌, ◌-◌, ◌*◌, ◌<◌, ◌≤◌, List, length, get_or, Option, Some, None, IsSome, refl, sym, ap, subst, ◌∙◌, arith}
+use Rattle.std.proofs.Common.{◌≡◌, ◌⊎◌, inl, inr, ℕ, ◌+◌, ◌-◌, ◌*◌, ◌<◌, ◌≤◌, List, length, get_or, Option, Some, None, IsSome, refl, sym, subst, ◌∙◌, arith}
 use Rattle.integers.specs.Vectors.{Vector, zero_vector, IsWithin}
-use Rattle.periodic_net.specs.Graph.{Graph, Arc, IsArc, IsQuotientVertex}
-use Rattle.connected_dim.specs.Search.{walk_to, missing, IsSearch, IsSearchedTo, Grows, Expands, LeadsToFound}
+use Rattle.periodic_net.specs.Graph.{Graph, IsQuotientVertex}
+use Rattle.connected_dim.specs.Search.{walk_to, IsSearchedTo, Expands, LeadsToFound}
 use Rattle.connected_dim.proofs.Finding.{one_value}
 use Rattle.connected_dim.proofs.Expanding.{some_there, within_more}
 

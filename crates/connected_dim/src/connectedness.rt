@@ -1,39 +1,43 @@
-// Whether a quotient graph is connected.
+// Whether a net is connected.
 ghost use Rattle.std.specs.Prelude.{◌≡◌, ℕ, Option, Some, None, IfOk, IfErr, OnOk, IsSome, map, length, slice_index_or, true, false, ◌<◌};
-ghost use Rattle.periodic_net.specs.Graph.{IsGraph};
+ghost use Rattle.periodic_net.specs.Graph.{IsGraph, IsConnected};
 ghost use Rattle.periodic_net.specs.Split.{IsPartSplit};
 ghost use Rattle.quotient_graph.specs.Splits.{split_in};
 ghost use Rattle.connected_dim.specs.Search.{AreWalks, walk_to};
-ghost use Rattle.connected_dim.specs.Quotient.{IsQuotientConnected, part_colour};
-ghost use Rattle.connected_dim.specs.Refusals.{IsRefused};
+ghost use Rattle.connected_dim.specs.Quotient.{part_colour};
+ghost use Rattle.connected_dim.specs.Refusals.{IsRefused, HasSplit, IsRefuted};
+ghost use Rattle.connected_dim.specs.Verdicts.{IsVerdict};
 
 use crate::NoMemory;
+use crate::generators::tree_of;
 use crate::search::walks;
-use quotient_graph::{Graph, Shift, Split, Triple};
+use crate::verdicts::{Verdict, tree_verdict};
+use quotient_graph::{Graph, Split};
 use std::alloc::Global;
 use std::marker::Model;
+use vecdim::{Shift, Triple};
 
-/// A graph whose quotient graph is connected.
+/// A graph whose net is connected.
 #[derive(Drop)]
 pub struct Connected<const D: usize> {
     pub graph: Graph<D>,
 }
 
 impl<const D: usize> Model for Connected<D> {
-    ghost use Rattle.periodic_net.specs.Graph.{Graph as NetGraph};
-    ghost use Rattle.connected_dim.specs.Quotient.{IsQuotientConnected};
+    ghost use Rattle.periodic_net.specs.Graph.{Graph as NetGraph, IsConnected};
 
     ghost Value = { NetGraph };
 
     ghost view = { λ c. c.graph };
 
-    ghost invariant = { λ c. IsQuotientConnected c.graph };
+    ghost invariant = { λ c. IsConnected c.graph };
 }
 
 /// Why a graph was not taken; it is handed back.
 #[derive(Drop)]
 pub enum Unconnected<const D: usize> {
     Disconnected(Split, Graph<D>),
+    Degenerate(Split, Graph<D>),
     NoMemory(Graph<D>),
 }
 
@@ -91,20 +95,31 @@ fn part_split<const D: usize>(
     })
 }
 
-/// The graph where its quotient graph is connected, and otherwise a colouring of its parts, with the graph.
+// What is found of a graph.
+fn verdict<const D: usize>(alloc: Global, g: &Graph<D>) -> Result<Verdict, NoMemory>
+    ensures verdict { IfOk result (IsVerdict g.now) }
+    ensures is_graph { IsGraph g.now }
+{
+    let found = walks(alloc, g)?;
+    if !all_found(&found) {
+        return Ok(Verdict::Parted(part_split(alloc, g, &found)?));
+    }
+    let tree = tree_of(alloc, &found)?;
+    tree_verdict(alloc, g, &tree)
+}
+
+/// The graph where its net is connected, and otherwise a colouring that shows that it is not, with the graph.
 pub fn connect<const D: usize>(alloc: Global, g: Graph<D>) -> Result<Connected<D>, Unconnected<D>>
     ensures same { IfOk result (λ c. c ≡ g.entry) }
-    ensures connected { OnOk result (IsQuotientConnected g.entry) }
+    ensures connected { OnOk result (IsConnected g.entry) }
     ensures refused { IfErr result (IsRefused g.entry) }
+    ensures split { IfErr result (HasSplit g.entry) }
+    ensures not_connected { IfErr result (IsRefuted g.entry) }
 {
-    let Ok(found) = walks(alloc, &g) else {
-        return Err(Unconnected::NoMemory(g));
-    };
-    if all_found(&found) {
-        return Ok(Connected { graph: g });
-    }
-    match part_split(alloc, &g, &found) {
-        Ok(split) => Err(Unconnected::Disconnected(split, g)),
+    match verdict(alloc, &g) {
+        Ok(Verdict::Whole) => Ok(Connected { graph: g }),
+        Ok(Verdict::Parted(split)) => Err(Unconnected::Disconnected(split, g)),
+        Ok(Verdict::Flat(split)) => Err(Unconnected::Degenerate(split, g)),
         Err(_) => Err(Unconnected::NoMemory(g)),
     }
 }

@@ -3,10 +3,12 @@ ghost use Rattle.std.specs.Prelude.{◌≡◌, ◌<◌, ◌≤◌, ◌+◌, leng
 ghost use Rattle.integers.specs.Vectors.{plus, IsWithin};
 ghost use Rattle.connected_dim.specs.Search.{missing, found_with, order_with, IsSearch, Expands, IsSearchedTo, AreWalks, none_found, walk_to};
 ghost use Rattle.periodic_net.specs.Graph.{IsGraph, IsQuotientVertex};
+ghost use Rattle.cgd_read.specs.Graphs.{IsSmall};
 
 use crate::NoMemory;
-use quotient_graph::{Graph, Shift};
+use quotient_graph::Graph;
 use std::alloc::Global;
+use vecdim::Shift;
 
 fn sum(a: i32, b: i32) -> i32
     requires near { unsigned_abs a ≤ 255500 }
@@ -127,6 +129,7 @@ fn find_walks<const D: usize>(
 pub fn walks<const D: usize>(alloc: Global, g: &Graph<D>) -> Result<Vec<Option<Shift<D>>>, NoMemory>
     ensures walks { IfOk result (λ found. AreWalks g.now found.items) }
     ensures is_graph { IsGraph g.now }
+    ensures small { IsSmall g.now }
 {
     let mut found = vec![in alloc; None; g.vertices() as usize]?;
     find_walks(alloc, g, &mut found)?;

@@ -3,12 +3,9 @@ use Rattle.std.proofs.Common.{◌≡◌, ℕ, zero, suc, ◌+◌, ◌≤◌, ◌
 use Rattle.std.proofs.lemmas.Grind.{common_steps}
 use Rattle.std.proofs.lemmas.List.{length-map, get_or-map}
 use Rattle.std.proofs.Math.Seq.{take-suc}
-use Rattle.cgd_read.specs.BlockViews.{BlockView, BodyView, Net, Other, Faulty, block_view, body_view, views}
-use Rattle.cgd_read.specs.Blocks.{AreBlocksOf, IsBodyOf}
-use Rattle.cgd_read.specs.Lines.{lines_of}
-use Rattle.cgd_read.specs.declared.block.Block.{Block}
+use Rattle.cgd_read.specs.BlockViews.{BlockView}
 use Rattle.net_tool.specs.Outcomes.{Outcome, IsOutcomeOf, AreOutcomes, entry_text, report_from, is_accepted, all_accepted}
-use Rattle.net_tool.specs.Checked.{IsBuilt}
+use Rattle.net_tool.specs.Checked.{IsReport}
 
 outcomes_more : (bs : List BlockView) (os : List Outcome) (b : BlockView) (o : Outcome) → AreOutcomes bs os → IsOutcomeOf b.body o → AreOutcomes (bs ++ b ∷ []) (os ++ o ∷ [])
 outcomes_more [] [] b o h k = (k, tt)
@@ -52,38 +49,7 @@ report_next bs i number accepted accepted' text text' b o l is h k a e =
       number_is = let n = h.number_is in omega arith;
     }
 
--- a text has one block, of a kind that is built
-pub one_block : (bytes : List ℕ) (bs : List BlockView) → AreBlocksOf bytes bs → length bs ≡ 1
-one_block bytes [] h = absurd h
-one_block bytes (b ∷ []) h = refl
-one_block bytes (b ∷ c ∷ bs) h = absurd h
-
-built_body : (lines : List (List ℕ)) (body : BodyView) → IsBodyOf lines body → IsBuilt body
-built_body lines (Net raw) h = tt
-built_body lines (Other token) h = h
-built_body lines (Faulty fault) h = tt
-
-built : (bytes : List ℕ) (bs : List BlockView) → AreBlocksOf bytes bs → All (λ b. IsBuilt b.body) bs
-built bytes [] h k d l = absurd (omega arith)
-built bytes (b ∷ []) h zero d l = built_body (lines_of bytes) b.body h.body
-built bytes (b ∷ []) h (suc k) d l = absurd (omega arith)
-built bytes (b ∷ c ∷ bs) h k d l = absurd h
-
--- the same, of a block in memory
-pub built_block : (bytes : List ℕ) (found : List Block) → AreBlocksOf bytes (views found) → (k : ℕ) (block : Block) → k < length found → block ≡ get_or found k block → IsBuilt (body_view block.body)
-built_block bytes found h k block l is =
-    let inside : k < length (views found) = subst (λ n. k < n) (sym (length-map found block_view)) l in
-    let at : get_or (views found) k (block_view block) ≡ block_view block = get_or-map block_view found k block (block_view block) l ∙ ap block_view (sym is) in
-    subst (λ (b : BlockView). IsBuilt b.body) at (built bytes (views found) h k (block_view block) inside)
-
--- the report on all blocks
-pub record IsWholeReport (bs : List BlockView) (accepted : Bool) (text : List ℕ) : Type 0 where
-  pub outcomes : List Outcome
-  pub are_outcomes : AreOutcomes bs outcomes
-  pub all : accepted ≡ all_accepted outcomes
-  pub report : text ≡ report_from 1 bs outcomes
-
-pub report_whole : (bs : List BlockView) (i number : ℕ) (accepted : Bool) (text : List ℕ) → length bs ≤ i → IsReportOn bs i number accepted text → IsWholeReport bs accepted text
+pub report_whole : (bs : List BlockView) (i number : ℕ) (accepted : Bool) (text : List ℕ) → length bs ≤ i → IsReportOn bs i number accepted text → IsReport bs accepted text
 report_whole bs i number accepted text l h =
     let all : take i bs ≡ bs = grind (arith, common_steps) in record {
       outcomes = h.outcomes;
@@ -91,6 +57,3 @@ report_whole bs i number accepted text l h =
       all = h.all;
       report = h.report ∙ ap (λ cs. report_from 1 cs h.outcomes) all;
     }
-
-pub number_small : (bytes : List ℕ) (found : List Block) (i : ℕ) → AreBlocksOf bytes (views found) → i < length found → i < 1
-number_small bytes found i h l = let one = one_block bytes (views found) h in omega (arith, length-map found block_view)

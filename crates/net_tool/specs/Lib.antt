@@ -1,4 +1,5 @@
 pub mod Words
+pub mod KindNames
 pub mod Outcomes
 pub mod OutcomeViews
 pub mod Checked

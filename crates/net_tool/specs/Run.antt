@@ -4,7 +4,8 @@ use Rattle.std.specs.Io.KnownBytes.{Appends}
 use Rattle.outside.specs.Last.{Last, Failed}
 use Rattle.outside.specs.Held.{Holds, Are, HasMore}
 use Rattle.net_tool.specs.declared.status.Status.{Status}
-use Rattle.net_tool.specs.declared.status.Status.TheVariants.{Done, SomeRefused, Usage, ReadFault, WriteFault, TooLarge, NoMemory}
+use Rattle.net_tool.specs.declared.status.Status.TheVariants.{Done, SomeRefused, Usage, ReadFault, WriteFault, TooLarge, NoMemory, TooManyBlocks}
+use Rattle.cgd_read.specs.Blocks.{blocks_of}
 use Rattle.net_tool.specs.Words.{file_of}
 use Rattle.net_tool.specs.Checked.{IsChecked}
 
@@ -15,9 +16,14 @@ usage_line = codes "usage: net_tool COMMAND [FILE] [--archive PATH] [--name NAME
 abbrev pub IsCheckOf : List ℕ → Holds → Bool → List ℕ → Type 0
 IsCheckOf file holds accepted text = (bytes : List ℕ) × Are holds file bytes × (length bytes ≤ 16777216) × IsChecked bytes accepted text
 
+-- a file of these bytes has more blocks than are checked
+abbrev pub HasManyBlocks : List ℕ → Holds → Type 0
+HasManyBlocks file holds = (bytes : List ℕ) × Are holds file bytes × (length bytes ≤ 16777216) × (4096 < length (blocks_of bytes))
+
 -- this file asks for this answer
 abbrev pub IsDueOf : List ℕ → Holds → Status → List ℕ → Type 0
 IsDueOf file holds TooLarge text = HasMore holds file 16777216 × (text ≡ [])
+IsDueOf file holds TooManyBlocks text = HasManyBlocks file holds × (text ≡ [])
 IsDueOf file holds Done text = IsCheckOf file holds true text
 IsDueOf file holds SomeRefused text = IsCheckOf file holds false text
 IsDueOf file holds _ text = ⊥
@@ -53,4 +59,5 @@ abbrev pub IsSilent : Status → Type 0
 IsSilent ReadFault = Unit {0}
 IsSilent TooLarge = Unit {0}
 IsSilent NoMemory = Unit {0}
+IsSilent TooManyBlocks = Unit {0}
 IsSilent _ = ⊥

@@ -3,13 +3,16 @@ ghost use Rattle.std.specs.Prelude.{◌≡◌, [], ◌∷◌, ◌++◌, ℤ, Lis
 ghost use Rattle.std.specs.Fmt.{decimal, signed_decimal};
 ghost use Rattle.integers.specs.Vectors.{parts};
 ghost use Rattle.quotient_graph.specs.Splits.{split_in};
-ghost use Rattle.net_tool.specs.Outcomes.{name_text, header_text, size_text, numbers_after, list_text, modulus_text, coefficients_text, colours_text, split_text, outcome_text};
+ghost use Rattle.net_tool.specs.Outcomes.{name_text, header_text, size_text, numbers_after, list_text, refusal_text, modulus_text, coefficients_text, colours_text, split_text, fault_text, unsupported_word, outcome_text};
+ghost use Rattle.net_tool.specs.KindNames.{kind_name};
 ghost use Rattle.net_tool.specs.OutcomeViews.{size_in, outcome_in};
 
 use crate::outcome::{BlockOutcome, GraphSize};
+use cgd_read::{BlockFault, BlockFaultKind};
 use itoa::Buffer;
-use quotient_graph::{Split, Triple};
+use quotient_graph::Split;
 use std::alloc::AllocError;
+use vecdim::Triple;
 
 pub const USAGE: &str = "usage: net_tool COMMAND [FILE] [--archive PATH] [--name NAME]\n";
 
@@ -121,12 +124,22 @@ fn push_parts(text: &mut Vec<u8>, dim: u8, c: &Triple) -> Result<(), AllocError>
     push_after(text, c.z)
 }
 
-fn push_modulus(text: &mut Vec<u8>, split: &Split) -> Result<(), AllocError>
-    ensures { OnOk result (text.new.items ≡ text.old.items ++ modulus_text (split_in split.now)) }
+fn push_refusal(text: &mut Vec<u8>, flat: bool) -> Result<(), AllocError>
+    ensures { OnOk result (text.new.items ≡ text.old.items ++ refusal_text flat) }
 {
-    text.extend_from_slice(b"refused 1 Disconnected q=")?;
-    push_number(text, split.q)?;
-    Ok(())
+    if flat {
+        text.extend_from_slice(b"refused 2 Degenerate q=")
+    } else {
+        text.extend_from_slice(b"refused 1 Disconnected q=")
+    }
+}
+
+#[tactic(auto, unfolding(crate::specs::Outcomes::modulus_text))]
+fn push_modulus(text: &mut Vec<u8>, flat: bool, split: &Split) -> Result<(), AllocError>
+    ensures { OnOk result (text.new.items ≡ text.old.items ++ modulus_text flat (split_in split.now)) }
+{
+    push_refusal(text, flat)?;
+    push_number(text, split.q)
 }
 
 #[tactic(auto, unfolding(crate::specs::Outcomes::coefficients_text))]
@@ -146,31 +159,76 @@ fn push_colours(text: &mut Vec<u8>, split: &Split) -> Result<(), AllocError>
     text.extend_from_slice(b"\n")
 }
 
-fn push_split(text: &mut Vec<u8>, dim: u8, split: &Split) -> Result<(), AllocError>
-    ensures { OnOk result (text.new.items ≡ text.old.items ++ split_text dim (split_in split.now)) }
+fn push_split(text: &mut Vec<u8>, flat: bool, dim: u8, split: &Split) -> Result<(), AllocError>
+    ensures { OnOk result (text.new.items ≡ text.old.items ++ split_text flat dim (split_in split.now)) }
 {
-    push_modulus(text, split)?;
+    push_modulus(text, flat, split)?;
     push_coefficients(text, dim, split)?;
     push_colours(text, split)
 }
 
+fn kind_name(kind: BlockFaultKind) -> &'static [u8]
+    ensures { result.now ≡ kind_name kind }
+{
+    match kind {
+        BlockFaultKind::BadToken => b"BadToken",
+        BlockFaultKind::RowLength => b"RowLength",
+        BlockFaultKind::MixedDimension => b"MixedDimension",
+        BlockFaultKind::UnknownField => b"UnknownField",
+        BlockFaultKind::NoEdges => b"NoEdges",
+        BlockFaultKind::SelfEdge => b"SelfEdge",
+        BlockFaultKind::ShiftRange => b"ShiftRange",
+        BlockFaultKind::TooManyVertices => b"TooManyVertices",
+        BlockFaultKind::TooManyEdges => b"TooManyEdges",
+        BlockFaultKind::NameTooLong => b"NameTooLong",
+        BlockFaultKind::NoEnd => b"NoEnd",
+        BlockFaultKind::TwoNames => b"TwoNames",
+    }
+}
+
+fn push_fault(text: &mut Vec<u8>, fault: BlockFault) -> Result<(), AllocError>
+    ensures { OnOk result (text.new.items ≡ text.old.items ++ fault_text fault) }
+{
+    push_number(text, fault.line as u64)?;
+    text.extend_from_slice(b" ")?;
+    push_number(text, fault.kind.number() as u64)?;
+    text.extend_from_slice(b" ")?;
+    text.extend_from_slice(kind_name(fault.kind))
+}
+
+#[tactic(auto, unfolding(crate::specs::Outcomes::unsupported_word))]
+fn push_unsupported(text: &mut Vec<u8>) -> Result<(), AllocError>
+    ensures { OnOk result (text.new.items ≡ text.old.items ++ unsupported_word) }
+{
+    text.extend_from_slice(b"unsupported ")
+}
+
 /// The lines of an outcome, after the header.
-pub fn push_outcome(text: &mut Vec<u8>, outcome: &BlockOutcome) -> Result<(), AllocError>
+pub fn push_outcome(text: &mut Vec<u8>, outcome: &BlockOutcome<'_>) -> Result<(), AllocError>
     ensures { OnOk result (text.new.items ≡ text.old.items ++ outcome_text (outcome_in outcome.now)) }
 {
     match outcome {
-        BlockOutcome::Malformed(line) => {
+        BlockOutcome::Unsupported(token) => {
+            push_unsupported(text)?;
+            text.extend_from_slice(token)?;
+            text.extend_from_slice(b"\n")
+        }
+        BlockOutcome::Malformed(fault) => {
             text.extend_from_slice(b"malformed line=")?;
-            push_number(text, *line as u64)?;
-            text.extend_from_slice(b" 13 NotBuilt\n")
+            push_fault(text, *fault)?;
+            text.extend_from_slice(b"\n")
         }
         BlockOutcome::Checked(size) => {
             push_size(text, *size)?;
-            text.extend_from_slice(b"quotient connected\n")
+            text.extend_from_slice(b"connected\n")
         }
         BlockOutcome::Disconnected(size, split) => {
             push_size(text, *size)?;
-            push_split(text, size.dim, split)
+            push_split(text, false, size.dim, split)
+        }
+        BlockOutcome::Degenerate(size, split) => {
+            push_size(text, *size)?;
+            push_split(text, true, size.dim, split)
         }
     }
 }

@@ -18,6 +18,8 @@ pub enum Status {
     /// The file has more than 16,777,216 bytes.
     TooLarge,
     NoMemory,
+    /// The file has more than 4,096 blocks.
+    TooManyBlocks,
 }
 
 impl Status {
@@ -32,6 +34,7 @@ impl Status {
             Status::WriteFault => 4,
             Status::TooLarge => 6,
             Status::NoMemory => 7,
+            Status::TooManyBlocks => 8,
         }
     }
 }

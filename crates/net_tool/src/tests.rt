@@ -9,7 +9,13 @@ use std::test::Fail;
 const HCB: &str = "PERIODIC_GRAPH\nNAME hcb\nEDGES\n1 2 0 0\n1 2 1 0\n1 2 0 1\nEND\n";
 
 const HCB_REPORT: &str =
-    "net 1 line 1 \"hcb\"\ngraph d=2 vertices=2 edges=3 repeats=0\nquotient connected\n";
+    "net 1 line 1 \"hcb\"\ngraph d=2 vertices=2 edges=3 repeats=0\nconnected\n";
+
+const SODALITE: &str =
+    "# T sites of sodalite, body-centred cell\nPeriodic_Graph\nID \"sod, 12 sites\"\nEDGE 1 2 0 0 0\n 1 3 0 -1 0\n 1 4 0 0 0\n 1 5 0 0 0\n 6 2 1 0 0\n 6 3 1 -1 0\n 6 4 0 0 0\n 6 5 0 0 0\n 7 8 0 0 0   # the other half of the cell\n 7 9 0 0 0\n 7 10 0 0 0\n 7 11 0 0 -1\n 12 8 0 0 0\n 12 9 0 0 0\n 12 10 1 0 0\n 12 11 1 0 -1\n 2 10 0 0 0\n 2 11 0 0 0\n 3 10 0 0 0\n 3 11 0 0 0\n 8 4 0 0 0\n 8 5 0 0 -1\n 9 4 0 1 0\n 9 5 0 1 -1\nEnd\n";
+
+const SODALITE_REPORT: &str =
+    "net 1 line 2 \"sod, 12 sites\"\ngraph d=3 vertices=12 edges=24 repeats=0\nconnected\n";
 
 /// The calls of the devices that fail, and how many bytes a call moves at the most.
 #[derive(Clone, Copy, Drop)]
@@ -38,7 +44,7 @@ fn run_on(
     let files = vec![in alloc; (name, Vec::from_slice(alloc, bytes)?)]?;
     let step = faults.step.max(1);
     let mut shelf = MemoryShelf::new(files, step, faults.reads.to_vec(alloc)?);
-    let mut out = MemorySink::new(alloc, 4096, step, faults.writes.to_vec(alloc)?)?;
+    let mut out = MemorySink::new(alloc, 1 << 18, step, faults.writes.to_vec(alloc)?)?;
     let words = words_of(alloc, words)?;
     let status = run(alloc, &words, &mut shelf, &mut out);
     Ok((status, out))
@@ -66,6 +72,11 @@ fn texts(rt: HostRuntime) -> Result<(), Fail> {
             written: HCB_REPORT,
         },
         Case {
+            text: SODALITE,
+            status: Status::Done,
+            written: SODALITE_REPORT,
+        },
+        Case {
             text: "PERIODIC_GRAPH\nNAME pair\nEDGES\n1 1 1 0\n1 1 0 1\n2 2 1 0\n2 2 0 1\nEND\n",
             status: Status::SomeRefused,
             written: "net 1 line 1 \"pair\"\ngraph d=2 vertices=2 edges=4 repeats=0\nrefused 1 Disconnected q=0 c=0 0 h=0 1\n",
@@ -76,14 +87,94 @@ fn texts(rt: HostRuntime) -> Result<(), Fail> {
             written: "net 1 line 1 \"parts\"\ngraph d=3 vertices=4 edges=3 repeats=0\nrefused 1 Disconnected q=0 c=0 0 0 h=0 0 1 0\n",
         },
         Case {
-            text: "PERIODIC_GRAPH\nNAME sql\nEDGES\n1 1 1 0\n1 1 0 1\n",
+            text: "PERIODIC_GRAPH\nNAME two\nEDGES\n1 1 2 0\n1 1 0 1\nEND\n",
             status: Status::SomeRefused,
-            written: "net 1 line 1 \"sql\"\nmalformed line=6 13 NotBuilt\n",
+            written: "net 1 line 1 \"two\"\ngraph d=2 vertices=1 edges=2 repeats=0\nrefused 1 Disconnected q=2 c=1 0 h=0\n",
+        },
+        Case {
+            text: "PERIODIC_GRAPH\nNAME line\nEDGES\n1 1 1 0\n1 1 2 0\nEND\n",
+            status: Status::SomeRefused,
+            written: "net 1 line 1 \"line\"\ngraph d=2 vertices=1 edges=2 repeats=0\nrefused 2 Degenerate q=0 c=0 1 h=0\n",
+        },
+        Case {
+            text: "PERIODIC_GRAPH\nNAME skew\nEDGES\n1 2 0 1\n1 2 1 2\n1 1 0 2\nEND\n",
+            status: Status::SomeRefused,
+            written: "net 1 line 1 \"skew\"\ngraph d=2 vertices=2 edges=3 repeats=0\nrefused 1 Disconnected q=2 c=1 1 h=0 1\n",
+        },
+        Case {
+            text: "PERIODIC_GRAPH\nNAME slab\nEDGES\n1 1 1 1 0\n1 1 0 0 1\nEND\n",
+            status: Status::SomeRefused,
+            written: "net 1 line 1 \"slab\"\ngraph d=3 vertices=1 edges=2 repeats=0\nrefused 2 Degenerate q=0 c=1 -1 0 h=0\n",
+        },
+        Case {
+            text: "PERIODIC_GRAPH\nNAME tree\nEDGES\n1 2 5 0 0\nEND\n",
+            status: Status::SomeRefused,
+            written: "net 1 line 1 \"tree\"\ngraph d=3 vertices=2 edges=1 repeats=0\nrefused 2 Degenerate q=0 c=1 0 0 h=0 -5\n",
+        },
+        Case {
+            text: "PERIODIC_GRAPH\nNAME sub\nEDGES\n1 1 1 0 0\n1 1 0 2 0\n1 1 0 0 1\nEND\n",
+            status: Status::SomeRefused,
+            written: "net 1 line 1 \"sub\"\ngraph d=3 vertices=1 edges=3 repeats=0\nrefused 1 Disconnected q=2 c=0 1 0 h=0\n",
         },
         Case {
             text: "",
+            status: Status::Done,
+            written: "",
+        },
+        Case {
+            text: "CRYSTAL\nNAME x\nEND\n",
             status: Status::SomeRefused,
-            written: "net 1 line 1\nmalformed line=1 13 NotBuilt\n",
+            written: "net 1 line 1\nunsupported CRYSTAL\n",
+        },
+        Case {
+            text: "# two nets\nbond 1 1 1 0\nend\nend\nPeriodic_Graph\nId \"a b\"\nBONDS 1 1 +1 0\n 1 1 -1 0 # again\n 1 1 0 01\nEND junk\n",
+            status: Status::SomeRefused,
+            written: "net 1 line 2\nunsupported bond\nnet 2 line 5 \"a b\"\ngraph d=2 vertices=1 edges=2 repeats=1\nconnected\n",
+        },
+        Case {
+            text: "PERIODIC_GRAPH\nNAME m\nEDGES\n1 1 1 0\n1 1 0 1 0\nEND\n",
+            status: Status::SomeRefused,
+            written: "net 1 line 1 \"m\"\nmalformed line=5 3 MixedDimension\n",
+        },
+        Case {
+            text: "PERIODIC_GRAPH\nNAME m\nEDGES\n1 1 0 0\nEND\n",
+            status: Status::SomeRefused,
+            written: "net 1 line 1 \"m\"\nmalformed line=4 6 SelfEdge\n",
+        },
+        Case {
+            text: "PERIODIC_GRAPH\nNAME m\nEDGES\n1 1 501 0\nEND\n",
+            status: Status::SomeRefused,
+            written: "net 1 line 1 \"m\"\nmalformed line=4 7 ShiftRange\n",
+        },
+        Case {
+            text: "PERIODIC_GRAPH\nNAME m\nEDGES\n1 1 1 0\n1 1 0 1\n",
+            status: Status::SomeRefused,
+            written: "net 1 line 1 \"m\"\nmalformed line=1 11 NoEnd\n",
+        },
+        Case {
+            text: "PERIODIC_GRAPH\nNAME m\nEDGES\nEND\n",
+            status: Status::SomeRefused,
+            written: "net 1 line 1 \"m\"\nmalformed line=4 5 NoEdges\n",
+        },
+        Case {
+            text: "PERIODIC_GRAPH\nNAME m\nEDGES\n1 b 0 0\nEND\n",
+            status: Status::SomeRefused,
+            written: "net 1 line 1 \"m\"\nmalformed line=4 1 BadToken\n",
+        },
+        Case {
+            text: "PERIODIC_GRAPH\nNAME m\nEDGES\n1 1 0\nEND\n",
+            status: Status::SomeRefused,
+            written: "net 1 line 1 \"m\"\nmalformed line=4 2 RowLength\n",
+        },
+        Case {
+            text: "PERIODIC_GRAPH\nNAME m\nEDGES\n1 1 1 0\nGROUP p1\nEND\n",
+            status: Status::SomeRefused,
+            written: "net 1 line 1 \"m\"\nmalformed line=5 4 UnknownField\n",
+        },
+        Case {
+            text: "PERIODIC_GRAPH\nNAME m\nEDGES\n1 1 1 0\nID m\nEND\n",
+            status: Status::SomeRefused,
+            written: "net 1 line 1 \"m\"\nmalformed line=5 12 TwoNames\n",
         },
     ];
     for case in &cases {
@@ -146,7 +237,7 @@ fn failing_calls(rt: HostRuntime) -> Result<(), Fail> {
         assert_eq!(rt; status, Status::ReadFault);
         assert_eq!(rt; out.written().len(), 0);
     }
-    for call in 1..12u64 {
+    for call in 1..11u64 {
         let faults = Faults {
             step: 7,
             reads: &[],
@@ -170,6 +261,27 @@ fn too_large(rt: HostRuntime) -> Result<(), Fail> {
     let text = vec![in rt.alloc(); b'X'; 16_777_217]?;
     let (status, out) = run_on(rt.alloc(), &["check", "net"], &text, &faults)?;
     assert_eq!(rt; status, Status::TooLarge);
+    assert_eq!(rt; out.written().len(), 0);
+    Ok(())
+}
+
+// As many blocks as are checked, and one more.
+#[test]
+fn many_blocks(rt: HostRuntime) -> Result<(), Fail> {
+    let faults = Faults {
+        step: 1 << 20,
+        reads: &[],
+        writes: &[],
+    };
+    let mut text = Vec::new(rt.alloc());
+    for _ in 0..4096 {
+        text.extend_from_slice(b"X\nEND\n")?;
+    }
+    let (status, _) = run_on(rt.alloc(), &["check", "net"], &text, &faults)?;
+    assert_eq!(rt; status, Status::SomeRefused);
+    text.extend_from_slice(b"X\nEND\n")?;
+    let (status, out) = run_on(rt.alloc(), &["check", "net"], &text, &faults)?;
+    assert_eq!(rt; status, Status::TooManyBlocks);
     assert_eq!(rt; out.written().len(), 0);
     Ok(())
 }

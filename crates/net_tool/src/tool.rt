@@ -9,6 +9,7 @@ use crate::check::check;
 use crate::report::USAGE;
 use crate::status::Status;
 use crate::words::file_word;
+use cgd_read::ReadRefusal;
 use outside::{InFault, Shelf, Sink, read_whole, write_all};
 use std::alloc::Global;
 
@@ -50,8 +51,10 @@ pub fn run<H: Shelf, W: Sink>(alloc: Global, words: &[String], shelf: &mut H, ou
         Err(InFault::TooLarge { .. }) => return Status::TooLarge,
         Err(InFault::NoMemory) => return Status::NoMemory,
     };
-    let Ok(report) = check(alloc, &bytes) else {
-        return Status::NoMemory;
+    let report = match check(alloc, &bytes) {
+        Ok(report) => report,
+        Err(ReadRefusal::TooManyBlocks) => return Status::TooManyBlocks,
+        Err(ReadRefusal::NoMemory) => return Status::NoMemory,
     };
     let status = if report.accepted {
         Status::Done

@@ -1,6 +1,6 @@
 // Arcs of a quotient graph.
-use crate::Shift;
 use std::marker::Model;
+use vecdim::Shift;
 
 /// An arc from one vertex to another, or to the same one. Vertices are numbered from 1.
 #[derive(Clone, Copy, Debug, Default, PartialEq, Eq, PartialOrd, Ord)]

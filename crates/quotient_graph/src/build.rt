@@ -4,9 +4,10 @@ ghost use Rattle.integers.specs.Vectors.{IsWithin};
 ghost use Rattle.periodic_net.specs.Graph.{both_ways, reverse_of, Arc as NetArc};
 ghost use Rattle.quotient_graph.specs.Building.{with_arc, HaveArcs, IsSortedFrom, AreSortedFrom, EdgeFits, AreStars};
 
-use crate::{Arc, NoMemory, Shift};
+use crate::{Arc, NoMemory};
 use smallvec::SmallVec;
 use std::alloc::Global;
+use vecdim::Shift;
 
 /// The arcs from a vertex; up to six need no allocation.
 pub type Star<const D: usize> = SmallVec<Arc<D>, 6>;

@@ -5,12 +5,10 @@ mod arc;
 mod build;
 mod graph;
 mod raw;
-mod shift;
 mod split;
 
 pub use arc::Arc;
 pub use graph::Graph;
 pub use raw::{AnyGraph, from_raw};
-pub use shift::{Shift, Triple};
 pub use split::Split;
 pub use std::alloc::AllocError as NoMemory;

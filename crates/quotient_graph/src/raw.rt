@@ -7,9 +7,10 @@ ghost use Rattle.quotient_graph.specs.Stars.{IsInOrder};
 ghost use Rattle.quotient_graph.specs.AnyGraphs.{graph_in};
 
 use crate::graph::with_edges;
-use crate::{Arc, Graph, NoMemory, Shift};
+use crate::{Arc, Graph, NoMemory};
 use cgd_read::{RawEdge, RawGraph};
 use std::alloc::Global;
+use vecdim::Shift;
 
 /// A graph of dimension 2 or 3.
 #[derive(Drop)]

@@ -1,5 +1,5 @@
 // Colourings that show a net to be in several parts.
-use crate::Triple;
+use vecdim::Triple;
 
 /// A colouring of the vertices of a net of dimension `dim`: the vertex over `u` in the cell `t` has the colour
 /// `h(u) + c·t`, taken modulo `q` where `q` is not 0. `h` has an entry for each vertex of the quotient graph.

@@ -1,14 +1,18 @@
-use Rattle.std.proofs.Common.{ℕ, ◌<◌, List, length, slice_index_or, Option, Some, None, IsSome, refl, subst}
-use Rattle.integers.specs.Vectors.{Vector}
-use Rattle.connected_dim.proofs.Parts.{quotient_connected}
+use Rattle.connected_dim.proofs.Refuted.{disconnected_split, degenerate_split, disconnected_refutes, degenerate_refutes}
 use Rattle.connected_dim.proofs.connectedness.connect.Goals as goal
 
-pub invariant_of-result : goal.invariant_of-result
-invariant_of-result g c =
-    let all = subst (λ (fs : List (Option Vector)). (k : ℕ) → k < length fs → IsSome (slice_index_or fs k None)) c.deref.ensures.value (c.if-all_found.ensures.yes refl) in
-    quotient_connected c.args.g c.in-Ok.found.items c.in-Ok.ensures.walks all
+pub returns-in-Ok-Parted-clause-split : goal.returns-in-Ok-Parted-clause-split
+returns-in-Ok-Parted-clause-split g c =
+    disconnected_split c.args.g c.in-Ok-Parted.split c.verdict.ensures.is_graph (rw c.in-Ok-Parted.field-0-is at c.in-Ok-Parted.ensures.verdict)
 
-pub returns-then-all_found-clause-connected : goal.returns-then-all_found-clause-connected
-returns-then-all_found-clause-connected g c =
-    let all = subst (λ (fs : List (Option Vector)). (k : ℕ) → k < length fs → IsSome (slice_index_or fs k None)) c.deref.ensures.value (c.if-all_found.ensures.yes refl) in
-    quotient_connected c.args.g c.in-Ok.found.items c.in-Ok.ensures.walks all
+pub returns-in-Ok-Parted-clause-not_connected : goal.returns-in-Ok-Parted-clause-not_connected
+returns-in-Ok-Parted-clause-not_connected g c =
+    disconnected_refutes c.args.g c.in-Ok-Parted.split c.verdict.ensures.is_graph (rw c.in-Ok-Parted.field-0-is at c.in-Ok-Parted.ensures.verdict)
+
+pub returns-in-Ok-Flat-clause-split : goal.returns-in-Ok-Flat-clause-split
+returns-in-Ok-Flat-clause-split g c =
+    degenerate_split c.args.g c.in-Ok-Flat.split c.verdict.ensures.is_graph (rw c.in-Ok-Flat.field-0-is at c.in-Ok-Flat.ensures.verdict)
+
+pub returns-in-Ok-Flat-clause-not_connected : goal.returns-in-Ok-Flat-clause-not_connected
+returns-in-Ok-Flat-clause-not_connected g c =
+    degenerate_refutes c.args.g c.in-Ok-Flat.split c.verdict.ensures.is_graph (rw c.in-Ok-Flat.field-0-is at c.in-Ok-Flat.ensures.verdict)

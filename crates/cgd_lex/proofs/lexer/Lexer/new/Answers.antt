@@ -1,0 +1,23 @@
+use Rattle.std.proofs.Common.{length, arith, refl, []}
+use Rattle.cgd_lex.proofs.Exists.{is_cut}
+use Rattle.cgd_lex.proofs.Unique.{one_cut}
+use Rattle.cgd_lex.proofs.Places.{placed}
+use Rattle.cgd_lex.proofs.lexer.Lexer.new.Goals as goal
+
+pub returns-clause-slices : goal.returns-clause-slices
+returns-clause-slices c = (placed (length c.args.text.now) [] c.args.text.now 0 0 1 (omega arith) refl refl (omega arith)).slices
+
+pub returns-clause-order : goal.returns-clause-order
+returns-clause-order c = (placed (length c.args.text.now) [] c.args.text.now 0 0 1 (omega arith) refl refl (omega arith)).order
+
+pub returns-clause-forms : goal.returns-clause-forms
+returns-clause-forms c = (placed (length c.args.text.now) [] c.args.text.now 0 0 1 (omega arith) refl refl (omega arith)).forms
+
+pub returns-clause-lines : goal.returns-clause-lines
+returns-clause-lines c = (placed (length c.args.text.now) [] c.args.text.now 0 0 1 (omega arith) refl refl (omega arith)).lines
+
+pub returns-clause-cut : goal.returns-clause-cut
+returns-clause-cut c = λ line. is_cut (length line) line (omega arith)
+
+pub returns-clause-only_cut : goal.returns-clause-only_cut
+returns-clause-only_cut c = λ line pieces cut. one_cut pieces line cut

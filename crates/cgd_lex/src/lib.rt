@@ -1,0 +1,12 @@
+//! The tokens of a text, as slices of it.
+#![tactic(auto)]
+
+mod bytes;
+mod lexer;
+mod part;
+#[cfg(test)]
+mod tests;
+mod token;
+
+pub use lexer::Lexer;
+pub use token::{Token, TokenKind};

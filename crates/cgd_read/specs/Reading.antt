@@ -1,0 +1,68 @@
+-- How the lines are read from the tokens that are left.
+use Rattle.std.specs.Prelude.{◌≡◌, ◌≤◌, ℕ, pos, ◌+◌, ◌-◌, ◌==◌, false, ◌||◌, ◌&&◌, nat_lt, is_none, List, [], ◌∷◌, length, take, drop, None, if◌then◌else◌}
+use Rattle.std.specs.Option.{option_copied}
+use Rattle.cgd_lex.specs.Tokens.{TokenView}
+use Rattle.cgd_read.specs.Values.{part_of}
+use Rattle.cgd_read.specs.Held.{IsSmallPart}
+use Rattle.cgd_read.specs.Lines.{is_newline, is_strange, is_quoted, name_in, part_or_zero, FieldsView, LineView}
+use Rattle.cgd_read.specs.declared.line.Fields.{Fields}
+use Rattle.cgd_read.specs.declared.line.Line.{Line}
+
+-- a text without its first and last byte
+abbrev pub inner : List ℕ → List ℕ
+inner text = take (length text - 2) (drop 1 text)
+
+abbrev pub fields_view : Fields → FieldsView
+fields_view fields = record {
+  size = fields.size;
+  name = option_copied fields.name;
+  has_strange = fields.has_strange;
+  has_late_quote = fields.has_late_quote;
+  has_far_part = fields.has_far_part;
+  u = fields.u.now;
+  v = fields.v.now;
+  x = fields.x;
+  y = fields.y;
+  z = fields.z;
+}
+
+abbrev pub line_view : Line → LineView
+line_view line = record { number = line.number; kind = line.kind; first = line.first.now; fields = fields_view line.fields }
+
+-- each part of the shift is within the limits
+pub record IsSmallFields (fields : FieldsView) : Type 0 where
+  pub x : IsSmallPart fields.x
+  pub y : IsSmallPart fields.y
+  pub z : IsSmallPart fields.z
+
+-- a row without a third part has 0 there
+abbrev pub IsFlat : FieldsView → Type 0
+IsFlat fields = fields.size ≤ 4 → fields.z ≡ pos 0
+
+abbrev pub no_fields : FieldsView
+no_fields = record { size = 0; name = None; has_strange = false; has_late_quote = false; has_far_part = false; u = []; v = []; x = pos 0; y = pos 0; z = pos 0 }
+
+-- one more field, read from the left
+abbrev pub with_field : FieldsView → TokenView → FieldsView
+with_field fields token = record {
+  size = fields.size + 1;
+  name = if fields.size == 0 then name_in token else None;
+  has_strange = fields.has_strange || is_strange token.kind;
+  has_late_quote = fields.has_late_quote || (nat_lt 1 fields.size && is_quoted token.kind);
+  has_far_part = fields.has_far_part || (nat_lt 1 fields.size && is_none (part_of token.text));
+  u = if fields.size == 0 then token.text else fields.u;
+  v = if fields.size == 1 then token.text else fields.v;
+  x = if fields.size == 2 then part_or_zero (part_of token.text) else fields.x;
+  y = if fields.size == 3 then part_or_zero (part_of token.text) else fields.y;
+  z = if fields.size == 4 then part_or_zero (part_of token.text) else fields.z;
+}
+
+-- the tokens before the next Newline
+abbrev pub rest_of_line : List TokenView → List TokenView
+rest_of_line [] = []
+rest_of_line (token ∷ tokens) = if is_newline token.kind then [] else token ∷ rest_of_line tokens
+
+-- the tokens after the next Newline
+abbrev pub after_line : List TokenView → List TokenView
+after_line [] = []
+after_line (token ∷ tokens) = if is_newline token.kind then tokens else after_line tokens

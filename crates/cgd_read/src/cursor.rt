@@ -1,0 +1,110 @@
+// Reads lines from the tokens that are left.
+ghost use Rattle.std.specs.Prelude.{◌≡◌, ◌∷◌, ◌<◌, ◌≤◌, ◌+◌, [], length, fold, MatchOption, IfSome, IfNone, if◌then◌else◌};
+ghost use Rattle.cgd_lex.specs.Views.{token_view};
+ghost use Rattle.cgd_read.specs.Lines.{lines_of, line_with, is_newline, is_bare};
+ghost use Rattle.cgd_read.specs.Reading.{fields_view, line_view, no_fields, with_field, rest_of_line, after_line, IsSmallFields, IsFlat};
+
+use crate::line::{Fields, Line, LineKind};
+use cgd_lex::{Lexer, Token, TokenKind};
+
+fn is_newline(kind: TokenKind) -> bool
+    ensures { result ≡ is_newline kind }
+{
+    match kind {
+        TokenKind::Newline => true,
+        _ => false,
+    }
+}
+
+// The first token of the next line that has one.
+fn next_first<'a>(lexer: &mut Lexer<'a>) -> Option<Token<'a>>
+    ensures lines { MatchOption result (lines_of lexer.old ≡ [])
+        (λ first. lines_of lexer.old ≡
+        line_with (token_view first) (rest_of_line lexer.new) ∷ lines_of (after_line lexer.new)) }
+    ensures shorter { IfSome result (λ first. length lexer.new < length lexer.old) }
+    ensures end { IfNone result (lexer.new ≡ []) }
+{
+    while let Some(token) = lexer.next() {
+        if !is_newline(token.kind) {
+            return Some(token);
+        }
+    }
+    None
+}
+
+// The next token of a line. At its end its Newline is passed over.
+fn next_on_line<'a>(lexer: &mut Lexer<'a>) -> Option<Token<'a>>
+    ensures tokens { MatchOption result (rest_of_line lexer.old ≡ [])
+        (λ token. rest_of_line lexer.old ≡ token_view token ∷ rest_of_line lexer.new) }
+    ensures after { MatchOption result (after_line lexer.old ≡ lexer.new)
+        (λ token. after_line lexer.old ≡ after_line lexer.new) }
+    ensures shorter { IfSome result (λ token. length lexer.new < length lexer.old) }
+    ensures no_longer { length lexer.new ≤ length lexer.old }
+{
+    let token = lexer.next()?;
+    if is_newline(token.kind) {
+        return None;
+    }
+    Some(token)
+}
+
+// The rest of a line, after these fields.
+fn read_fields<'a>(lexer: &mut Lexer<'a>, start: Fields<'a>) -> Fields<'a>
+    requires room { start.size + length lexer.old ≤ 16777216 }
+    requires small { IsSmallFields (fields_view start) }
+    ensures fields { fields_view result ≡
+        fold with_field (fields_view start.entry) (rest_of_line lexer.old) }
+    ensures after { lexer.new ≡ after_line lexer.old }
+    ensures shorter { length lexer.new ≤ length lexer.old }
+    ensures small { IsSmallFields (fields_view result) }
+{
+    let mut fields = start;
+    while let Some(token) = next_on_line(lexer) {
+        fields = fields.with(&token);
+    }
+    fields
+}
+
+// The fields of a line that has only its first token yet.
+fn first_field<'a>(kind: LineKind, first: &Token<'a>) -> Fields<'a>
+    ensures fields { fields_view result ≡
+        (if is_bare kind then with_field no_fields (token_view first.now) else no_fields) }
+    ensures small { IsSmallFields (fields_view result) }
+    ensures size { result.size ≤ 1 }
+{
+    match kind {
+        LineKind::Bare => Fields::none().with(first),
+        _ => Fields::none(),
+    }
+}
+
+fn read_line<'a>(lexer: &mut Lexer<'a>, first: &Token<'a>) -> Line<'a>
+    requires room { length lexer.old < 16777216 }
+    ensures line { line_view result ≡ line_with (token_view first.now) (rest_of_line lexer.old) }
+    ensures after { lexer.new ≡ after_line lexer.old }
+    ensures shorter { length lexer.new ≤ length lexer.old }
+    ensures small { IsSmallFields (fields_view result.fields) }
+    ensures flat { IsFlat (fields_view result.fields) }
+{
+    let kind = LineKind::of(first);
+    Line {
+        number: first.line,
+        kind,
+        first: first.text,
+        fields: read_fields(lexer, first_field(kind, first)),
+    }
+}
+
+/// The next line that has a token, up to its end.
+pub fn next_line<'a>(lexer: &mut Lexer<'a>) -> Option<Line<'a>>
+    requires { length lexer.old ≤ 16777216 }
+    ensures lines { MatchOption result (lines_of lexer.old ≡ [])
+        (λ line. lines_of lexer.old ≡ line_view line ∷ lines_of lexer.new) }
+    ensures shorter { IfSome result (λ line. length lexer.new < length lexer.old) }
+    ensures end { IfNone result (lexer.new ≡ []) }
+    ensures small { IfSome result (λ line. IsSmallFields (fields_view line.fields)) }
+    ensures flat { IfSome result (λ line. IsFlat (fields_view line.fields)) }
+{
+    let first = next_first(lexer)?;
+    Some(read_line(lexer, &first))
+}

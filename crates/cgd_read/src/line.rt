@@ -1,0 +1,242 @@
+// Lines and what they say.
+ghost use Rattle.std.specs.Prelude.{◌≡◌, ◌||◌, ◌&&◌, nat_lt, ◌<◌, ◌+◌, codes, map, Some, None, IfSome, is_none, if◌then◌else◌};
+ghost use Rattle.std.specs.Option.{option_copied};
+ghost use Rattle.cgd_lex.specs.Views.{token_view};
+ghost use Rattle.cgd_read.specs.Lines.{is_strange, is_quoted, is_newline, unquoted, name_in, is_keyword, is_name_word, is_edges_word, kind_of_word, kind_of, is_bare, part_or_zero};
+ghost use Rattle.cgd_read.specs.Held.{IsSmallPart};
+ghost use Rattle.std.specs.Char.{to_ascii_lowercase};
+ghost use Rattle.cgd_read.specs.Reading.{fields_view, no_fields, with_field, IsSmallFields};
+ghost use Rattle.cgd_read.specs.Values.{part_of};
+
+use crate::values::part;
+use cgd_lex::{Token, TokenKind};
+
+/// What the first token makes of a line.
+#[derive(Clone, Copy, Debug, PartialEq, Eq)]
+pub enum LineKind {
+    Opening,
+    Name,
+    Edges,
+    End,
+    /// A word that is no keyword.
+    Unknown,
+    /// It begins with a field.
+    Bare,
+    /// It begins with a bad token.
+    Broken,
+}
+
+/// The fields of a line: its tokens after the keyword, or all where it begins with none.
+#[derive(Clone, Copy)]
+pub struct Fields<'a> {
+    pub size: u32,
+    /// The name on a name line.
+    pub name: Option<&'a [u8]>,
+    /// Whether there is a Word or a Bad.
+    pub has_strange: bool,
+    /// Whether there is a Quoted after the second place.
+    pub has_late_quote: bool,
+    /// Whether a part of the shift is out of the limits.
+    pub has_far_part: bool,
+    pub u: &'a [u8],
+    pub v: &'a [u8],
+    pub x: i32,
+    pub y: i32,
+    pub z: i32,
+}
+
+#[derive(Clone, Copy)]
+pub struct Line<'a> {
+    pub number: u32,
+    pub kind: LineKind,
+    /// The first token.
+    pub first: &'a [u8],
+    pub fields: Fields<'a>,
+}
+
+fn is_strange(kind: TokenKind) -> bool
+    ensures { result ≡ is_strange kind }
+{
+    match kind {
+        TokenKind::Word | TokenKind::Bad => true,
+        _ => false,
+    }
+}
+
+fn is_quoted(kind: TokenKind) -> bool
+    ensures { result ≡ is_quoted kind }
+{
+    match kind {
+        TokenKind::Quoted => true,
+        _ => false,
+    }
+}
+
+// A text without its first and last byte.
+fn inner(text: &[u8]) -> &[u8]
+    ensures { result.now ≡ Rattle.cgd_read.specs.Reading.inner text.now }
+{
+    match text {
+        [_, inner @ .., _] => inner,
+        _ => &[],
+    }
+}
+
+fn unquoted<'a>(token: &Token<'a>) -> &'a [u8]
+    ensures { result.now ≡ unquoted (token_view token.now) }
+{
+    match token.kind {
+        TokenKind::Quoted => inner(token.text),
+        _ => token.text,
+    }
+}
+
+fn name_in<'a>(token: &Token<'a>) -> Option<&'a [u8]>
+    ensures { option_copied result ≡ name_in (token_view token.now) }
+{
+    match token.kind {
+        TokenKind::Bad => None,
+        _ => Some(unquoted(token)),
+    }
+}
+
+// Whether the word is this keyword, in any case of its letters. Keywords are written small.
+fn is_keyword(keyword: &'static str, word: &[u8]) -> bool
+    requires { map to_ascii_lowercase keyword.now ≡ keyword.now }
+    ensures { result ≡ is_keyword keyword.now word.now }
+{
+    word.eq_ignore_ascii_case(keyword.as_bytes())
+}
+
+fn is_name_word(word: &[u8]) -> bool
+    ensures { result ≡ is_name_word word.now }
+{
+    is_keyword("name", word) || is_keyword("id", word)
+}
+
+fn is_edges_word(word: &[u8]) -> bool
+    ensures { result ≡ is_edges_word word.now }
+{
+    is_keyword("edges", word)
+        || (is_keyword("edge", word) || (is_keyword("bonds", word) || is_keyword("bond", word)))
+}
+
+fn kind_of_word(word: &[u8]) -> LineKind
+    ensures { result ≡ kind_of_word word.now }
+{
+    if is_keyword("periodic_graph", word) {
+        LineKind::Opening
+    } else if is_name_word(word) {
+        LineKind::Name
+    } else if is_edges_word(word) {
+        LineKind::Edges
+    } else if is_keyword("end", word) {
+        LineKind::End
+    } else {
+        LineKind::Unknown
+    }
+}
+
+impl LineKind {
+    /// The kind of a line that begins with this token.
+    pub fn of(first: &Token<'_>) -> LineKind
+        ensures { result ≡ kind_of first.now.kind first.now.text.now }
+    {
+        match first.kind {
+            TokenKind::Word => kind_of_word(first.text),
+            TokenKind::Whole | TokenKind::Quoted => LineKind::Bare,
+            TokenKind::Newline | TokenKind::Bad => LineKind::Broken,
+        }
+    }
+}
+
+fn or_zero(part: Option<i32>) -> i32
+    requires { IfSome part IsSmallPart }
+    ensures value { result ≡ part_or_zero part }
+    ensures small { IsSmallPart result }
+{
+    part.unwrap_or(0)
+}
+
+// The new text where it is due, and else the old one.
+fn text_if<'a>(due: bool, new: &'a [u8], old: &'a [u8]) -> &'a [u8]
+    ensures { result.now ≡ (if due then new.entry.now else old.entry.now) }
+{
+    if due { new } else { old }
+}
+
+fn part_if(due: bool, new: i32, old: i32) -> i32
+    requires new { IsSmallPart new }
+    requires old { IsSmallPart old }
+    ensures value { result ≡ (if due then new else old) }
+    ensures small { IsSmallPart result }
+{
+    if due { new } else { old }
+}
+
+fn name_if<'a>(due: bool, token: &Token<'a>) -> Option<&'a [u8]>
+    ensures { option_copied result ≡ (if due then name_in (token_view token.now) else None) }
+{
+    if due { name_in(token) } else { None }
+}
+
+impl<'a> Fields<'a> {
+    pub fn none() -> Self
+        ensures fields { fields_view result ≡ no_fields }
+        ensures small { IsSmallFields (fields_view result) }
+    {
+        Fields {
+            size: 0,
+            name: None,
+            has_strange: false,
+            has_late_quote: false,
+            has_far_part: false,
+            u: &[],
+            v: &[],
+            x: 0,
+            y: 0,
+            z: 0,
+        }
+    }
+
+    fn has_strange_with(&self, kind: TokenKind) -> bool
+        ensures { result ≡ (self.now.has_strange || is_strange kind) }
+    {
+        self.has_strange || is_strange(kind)
+    }
+
+    fn has_late_quote_with(&self, kind: TokenKind) -> bool
+        ensures { result ≡ (self.now.has_late_quote || (nat_lt 1 self.now.size && is_quoted kind)) }
+    {
+        self.has_late_quote || (1 < self.size && is_quoted(kind))
+    }
+
+    fn has_far_part_with(&self, part: Option<i32>) -> bool
+        ensures { result ≡ (self.now.has_far_part || (nat_lt 1 self.now.size && is_none part)) }
+    {
+        self.has_far_part || (1 < self.size && part.is_none())
+    }
+
+    /// The fields with one more.
+    pub fn with(&self, token: &Token<'a>) -> Self
+        requires room { self.now.size < 16777216 }
+        requires small { IsSmallFields (fields_view self.now) }
+        ensures fields { fields_view result ≡ with_field (fields_view self.now) (token_view token.now) }
+        ensures small { IsSmallFields (fields_view result) }
+    {
+        let part = part(token.text);
+        let number = or_zero(part);
+        Fields {
+            size: self.size + 1,
+            name: name_if(self.size == 0, token),
+            has_strange: self.has_strange_with(token.kind),
+            has_late_quote: self.has_late_quote_with(token.kind),
+            has_far_part: self.has_far_part_with(part),
+            u: text_if(self.size == 0, token.text, self.u),
+            v: text_if(self.size == 1, token.text, self.v),
+            x: part_if(self.size == 2, number, self.x),
+            y: part_if(self.size == 3, number, self.y),
+            z: part_if(self.size == 4, number, self.z),
+        }
+    }
+}

@@ -1,0 +1,64 @@
+-- What a colouring is made of where the closed walks have full rank and are not all shifts.
+use Rattle.std.specs.Prelude.{◌≡◌, ◌≢◌, ◌⊎◌, ℕ, ℤ, pos, neg_ℤ, ◌-ℤ◌, ◌≤ℤ◌, List}
+use Rattle.std.specs.Int.{int_rem_euclid}
+use Rattle.integers.specs.Vectors.{Vector, vector, dot}
+use Rattle.periodic_net.specs.Graph.{Graph}
+use Rattle.connected_dim.specs.Full.{IsVolume}
+use Rattle.connected_dim.specs.Generators.{generators}
+use Rattle.vecdim.specs.Stairs.{Stairs}
+use Rattle.vecdim.specs.Lattices.{Members, AreMultiples, IsWith}
+
+-- the rows of the multiples of m and of these vectors
+pub record IsLatticeOf (d : ℕ) (m : ℤ) (vs : List Vector) (S : Stairs) : Type 0 where
+  pub start : Stairs
+  pub multiples : AreMultiples d m (Members d start)
+  pub with : IsWith (Members d start) vs (Members d S)
+
+-- all pivots are 1
+pub record IsWhole (S : Stairs) : Type 0 where
+  pub a : S.a ≡ pos 1
+  pub e : S.e ≡ pos 1
+  pub i : S.i ≡ pos 1
+
+-- c is -b modulo q, where b is from 0 to below q
+abbrev pub IsComplement : ℤ → ℤ → ℤ → Type 0
+IsComplement q b c = ((b ≡ pos 0) × (c ≡ pos 0)) ⊎ ((b ≢ pos 0) × (c ≡ q -ℤ b))
+
+-- the first pivot is q, and above 1
+pub record IsFirstDual (S : Stairs) (q : ℤ) (c : Vector) : Type 0 where
+  pub pivot : q ≡ S.a
+  pub above : pos 2 ≤ℤ q
+  pub is : c ≡ vector (pos 1) (pos 0) (pos 0)
+
+-- the second is, and the first is 1
+pub record IsSecondDual (S : Stairs) (q : ℤ) (c : Vector) : Type 0 where
+  pub a : S.a ≡ pos 1
+  pub pivot : q ≡ S.e
+  pub above : pos 2 ≤ℤ q
+  pub x : IsComplement q S.b c.x
+  pub y : c.y ≡ pos 1
+  pub z : c.z ≡ pos 0
+
+-- the third is, and the others are 1
+pub record IsThirdDual (S : Stairs) (q : ℤ) (c : Vector) : Type 0 where
+  pub a : S.a ≡ pos 1
+  pub e : S.e ≡ pos 1
+  pub pivot : q ≡ S.i
+  pub above : pos 2 ≤ℤ q
+  pub x : IsComplement q S.c c.x
+  pub y : IsComplement q S.f c.y
+  pub z : c.z ≡ pos 1
+
+-- q is the first pivot above 1, and c takes the members to multiples of it
+abbrev pub IsDual : Stairs → ℤ → Vector → Type 0
+IsDual S q c = IsFirstDual S q c ⊎ IsSecondDual S q c ⊎ IsThirdDual S q c
+
+-- the entry of a vertex with this walk
+abbrev pub sparse_colour : ℤ → Vector → Vector → ℤ
+sparse_colour q c T = int_rem_euclid (neg_ℤ (dot c T)) q
+
+-- the rows of the closed walks of full rank
+pub record IsLattice (G : Graph) (tree : List Vector) (S : Stairs) : Type 0 where
+  pub m : ℤ
+  pub volume : IsVolume G.dimension (generators G tree) m
+  pub rows : IsLatticeOf G.dimension m (generators G tree) S

@@ -1,0 +1,13 @@
+pub mod Adding
+pub mod Assembling
+pub mod Basis
+pub mod Combos
+pub mod Dividing
+pub mod FewVectors
+pub mod Fitting
+pub mod Generated
+pub mod Inserting
+pub mod Lattice
+pub mod Stairway
+pub mod OneStair
+pub mod Starting

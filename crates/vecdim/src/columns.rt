@@ -1,0 +1,103 @@
+// Euclid's algorithm on two rows, with the parts after the first kept modulo a bound.
+ghost use Rattle.std.specs.Prelude.{◌≡◌, ℤ, pos, ◌+ℤ◌, ◌-ℤ◌, ◌*ℤ◌, ◌≤ℤ◌, ◌<ℤ◌, ◌^◌};
+ghost use Rattle.integers.specs.Vectors.{vector};
+ghost use Rattle.vecdim.specs.Steps.{Exchange, IsBoxed};
+
+// A quotient and the rest.
+#[derive(Clone, Copy)]
+pub(crate) struct Division {
+    pub(crate) quotient: i128,
+    pub(crate) rest: i128,
+}
+
+// How often b goes into a, and what is left.
+pub(crate) fn divide(a: i128, b: i128) -> Division
+    requires a_from { pos 0 ≤ℤ a }
+    requires b_from { pos 0 <ℤ b }
+    ensures from { pos 0 ≤ℤ result.quotient }
+    ensures to { result.quotient ≤ℤ a }
+    ensures rest_from { pos 0 ≤ℤ result.rest }
+    ensures rest_to { result.rest <ℤ b }
+    ensures rest { result.rest ≡ a -ℤ result.quotient *ℤ b }
+{
+    let quotient = a.div_euclid(b);
+    let rest = a.rem_euclid(b);
+    Division { quotient, rest }
+}
+
+// z, brought between 0 and m by multiples of m.
+pub(crate) fn modulo(z: i128, m: i128) -> i128
+    requires m { pos 0 <ℤ m }
+    ensures from { pos 0 ≤ℤ result }
+    ensures to { result <ℤ m }
+    ensures same { (k : ℤ) × (result ≡ z +ℤ m *ℤ k) }
+{
+    z.rem_euclid(m)
+}
+
+// a - q·b, brought between 0 and m by multiples of m.
+pub(crate) fn less_times(a: i128, q: i128, b: i128, m: i128) -> i128
+    requires m { pos 0 <ℤ m }
+    requires m_to { m ≤ℤ pos (2 ^ 60) }
+    requires a_from { pos 0 ≤ℤ a }
+    requires a_to { a ≤ℤ m }
+    requires b_from { pos 0 ≤ℤ b }
+    requires b_to { b ≤ℤ m }
+    requires q_from { pos 0 ≤ℤ q }
+    requires q_to { q ≤ℤ m }
+    ensures from { pos 0 ≤ℤ result }
+    ensures to { result <ℤ m }
+    ensures same { (k : ℤ) × (result ≡ a -ℤ q *ℤ b +ℤ m *ℤ k) }
+{
+    modulo(a - q * b, m)
+}
+
+// A row (x, y, z), as plain numbers.
+#[derive(Clone, Copy)]
+pub(crate) struct Line {
+    pub(crate) x: i128,
+    pub(crate) y: i128,
+    pub(crate) z: i128,
+}
+
+// Two rows, (a, b, c) and (0, y, z).
+#[derive(Clone, Copy)]
+pub(crate) struct Pair {
+    pub(crate) a: i128,
+    pub(crate) b: i128,
+    pub(crate) c: i128,
+    pub(crate) y: i128,
+    pub(crate) z: i128,
+}
+
+// Euclid's steps on the first parts: two rows that generate the same, the second with 0 in front.
+pub(crate) fn column(upper: Line, lower: Line, m: i128) -> Pair
+    requires m { pos 0 <ℤ m }
+    requires m_to { m ≤ℤ pos (2 ^ 60) }
+    requires upper { IsBoxed m (vector upper.x upper.y upper.z) }
+    requires lower { IsBoxed m (vector lower.x lower.y lower.z) }
+    requires pivot { pos 0 <ℤ upper.x }
+    ensures upper { IsBoxed m (vector result.a result.b result.c) }
+    ensures lower { IsBoxed m (vector (pos 0) result.y result.z) }
+    ensures pivot { pos 0 <ℤ result.a }
+    ensures same { Exchange m (vector upper.x upper.y upper.z) (vector lower.x lower.y lower.z) (vector result.a result.b result.c) (vector (pos 0) result.y result.z) }
+{
+    let mut a = upper.x;
+    let mut b = upper.y;
+    let mut c = upper.z;
+    let mut x = lower.x;
+    let mut y = lower.y;
+    let mut z = lower.z;
+    while x != 0 {
+        let parts = divide(a, x);
+        let next_y = less_times(b, parts.quotient, y, m);
+        let next_z = less_times(c, parts.quotient, z, m);
+        a = x;
+        b = y;
+        c = z;
+        x = parts.rest;
+        y = next_y;
+        z = next_z;
+    }
+    Pair { a, b, c, y, z }
+}

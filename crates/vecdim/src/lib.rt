@@ -1,0 +1,14 @@
+//! Vectors of whole numbers in two and three dimensions, their products, and lattices by their staircase basis.
+#![tactic(auto)]
+
+mod columns;
+mod products;
+mod staircase;
+mod vectors;
+
+pub use products::{cross, independent, triple};
+pub use staircase::{Staircase, rows_are_one};
+pub use vectors::{Shift, Triple, Vect};
+
+#[cfg(test)]
+mod tests;
