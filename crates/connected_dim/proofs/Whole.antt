@@ -1,11 +1,14 @@
 -- Where all pivots are 1, the net is connected.
-use Rattle.std.proofs.Common.{◌≡◌, ◌⊎◌, ℕ, ◌≤ℤ◌, ℤ, pos, ◌+ℤ◌, ◌-ℤ◌, ◌*ℤ◌, List, All, sym, ap, subst, ◌∙◌, refl, arith}
+use Rattle.std.proofs.Common.{◌≡◌, ◌⊎◌, ℕ, ◌≤ℤ◌, ℤ, pos, ◌+ℤ◌, ◌-ℤ◌, ◌*ℤ◌, List, [], ◌∷◌, All, sym, ap, subst, ◌∙◌, refl, arith}
 use Rattle.integers.specs.Vectors.{Vector, HasDimension}
 use Rattle.std.proofs.lemmas.Int.{ints}
 use Rattle.integers.proofs.Ring.{ring, linear}
 use Rattle.periodic_net.specs.Graph.{Graph, IsGraph, IsConnected}
 use Rattle.periodic_net.proofs.Generators.{connected_by_tree}
 use Rattle.vecdim.specs.Stairs.{Stairs, InStairs, HasStairShape}
+use Rattle.vecdim.specs.Steps.{HasAdded}
+use Rattle.vecdim.specs.Lattices.{Members, IsWith}
+use Rattle.vecdim.proofs.Adding.{with_of_added}
 use Rattle.connected_dim.specs.Generators.{shift_at, AreTree, generators}
 use Rattle.connected_dim.specs.Sparse.{IsWhole, IsLattice, IsLatticeOf}
 use Rattle.connected_dim.specs.Full.{IsVolume}
@@ -36,6 +39,19 @@ all_members S w v = record {
   y = rest_y v.x v.y S.b S.e w.e;
   z = rest_z v.x (v.y -ℤ v.x *ℤ S.b) v.z S.c S.f S.i w.i;
 }
+
+-- so a vector more changes nothing
+whole_added : (S : Stairs) → IsWhole S → (v : Vector) → HasAdded S S v
+whole_added S h v = record {
+  out = λ w m. record { k = pos 0; u = w; member = m; x = same w.x v.x; y = same w.y v.y; z = same w.z v.z };
+  into = λ w s. all_members S h w;
+}
+  where
+    same : (x v : ℤ) → x ≡ x +ℤ pos 0 *ℤ v
+    same x v = omega (arith, ints)
+
+pub with_whole : (d : ℕ) (S : Stairs) (v : Vector) → HasDimension d v → IsWhole S → IsWith (Members d S) (v ∷ []) (Members d S)
+with_whole d S v dim h = with_of_added d S S v dim (whole_added S h v)
 
 -- so each is a closed walk, and the net is connected
 pub whole_connected : (G : Graph) (tree : List Vector) (S : Stairs) → IsGraph G → AreTree G tree → IsLattice G tree S → IsWhole S → IsConnected G

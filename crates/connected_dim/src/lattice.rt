@@ -1,11 +1,39 @@
 // The lattice of closed walks of full rank, and its first pivot above 1.
-ghost use Rattle.std.specs.Prelude.{◌≡◌, ◌⊎◌, ◌≤◌, ◌^◌, unsigned_abs, pos, None, All, IfSome, ◌≤ℤ◌, ◌<ℤ◌};
-ghost use Rattle.integers.specs.Vectors.{vector, IsWithin};
+ghost use Rattle.std.specs.Prelude.{[], ◌∷◌, ◌≡◌, ◌⊎◌, ◌≤◌, ◌^◌, unsigned_abs, pos, None, All, IfSome, ◌≤ℤ◌, ◌<ℤ◌};
+ghost use Rattle.integers.specs.Vectors.{vector, HasDimension, IsWithin};
 ghost use Rattle.vecdim.specs.Stairs.{stairs, IsReduced, HasStairShape};
-ghost use Rattle.vecdim.specs.Lattices.{Members};
+ghost use Rattle.vecdim.specs.Lattices.{Members, IsWith};
 ghost use Rattle.connected_dim.specs.Sparse.{IsLatticeOf, IsWhole, IsComplement, IsThirdDual, IsDual};
 
 use vecdim::{Staircase, Triple, Vect};
+
+// The last part of a vector, which is 0 in dimension 2.
+fn last_part<const D: usize>(g: &Vect<D>) -> i128
+    ensures { HasDimension D g.now }
+{
+    g.z
+}
+
+// Adds a vector, where the lattice has not all vectors of its dimension already.
+fn add<const D: usize>(s: &mut Staircase<D>, g: &Vect<D>)
+    requires dimension { (D ≡ 2) ⊎ (D ≡ 3) }
+    ensures { IsWith (Members D s.old) (g.now ∷ []) (Members D s.new) }
+{
+    let _ = last_part(g);
+    if first_above(s).is_some() {
+        s.insert(g);
+    }
+}
+
+// Adds these vectors.
+fn add_all<const D: usize>(s: &mut Staircase<D>, gs: &[Vect<D>])
+    requires dimension { (D ≡ 2) ⊎ (D ≡ 3) }
+    ensures { IsWith (Members D s.old) gs.now (Members D s.new) }
+{
+    for g in gs {
+        add(s, g);
+    }
+}
 
 // The lattice of the multiples of m and of these vectors.
 pub fn lattice<const D: usize>(gs: &[Vect<D>], m: i128) -> Staircase<D>
@@ -15,7 +43,7 @@ pub fn lattice<const D: usize>(gs: &[Vect<D>], m: i128) -> Staircase<D>
     ensures { IsLatticeOf D m gs.now result }
 {
     let mut s = Staircase::from_bound(m);
-    s.insert_all(gs);
+    add_all(&mut s, gs);
     s
 }
 
