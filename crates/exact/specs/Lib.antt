@@ -1,1 +1,4 @@
 pub mod Combination
+pub mod Faults
+pub mod Ratio
+pub mod Values

@@ -1,4 +1,5 @@
 // Shifts, triples of coordinates, and vectors.
+use exact::Exact;
 use std::marker::Model;
 
 /// A shift of a net of dimension `D`, in lattice steps; in dimension 2 the part `z` is 0.
@@ -58,4 +59,13 @@ impl<const D: usize> Model for Vect<D> {
     ghost invariant = { λ v. IsWithin (2 ^ 61) (vector v.x v.y v.z) × HasDimension D (vector v.x v.y v.z) };
 
     ghost inverse = { λ v. record { x = v.x; y = v.y; z = v.z } };
+}
+
+/// The parts of a position or of a right-hand side, in numbers of the type `N`; in dimension 2 the part `z`
+/// has the value 0.
+#[derive(Clone, Copy, Debug, PartialEq, Eq)]
+pub struct Row<N: Exact, const D: usize> {
+    pub x: N,
+    pub y: N,
+    pub z: N,
 }

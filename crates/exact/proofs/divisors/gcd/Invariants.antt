@@ -1,6 +1,6 @@
 use Rattle.std.proofs.Common.{ℕ}
 use Rattle.std.specs.Int.{IsGcd}
-use Rattle.exact.proofs.gcd.Given as goal
+use Rattle.exact.proofs.divisors.gcd.Given as goal
 
 -- the numbers have the divisors of the first two
 abbrev pub invariant-loop-rest : goal.invariant-loop-rest

@@ -1,0 +1,182 @@
+-- The values modulo m as a commutative semiring, so that equal values are one.
+use Rattle.std.proofs.Common.{◌≡◌, ℕ, ap, sym, refl, ◌∙◌, arith}
+use Rattle.std.specs.Prelude.{ℤ, pos, ◌+ℤ◌, ◌-ℤ◌, ◌*ℤ◌, neg_ℤ}
+use mathlib.Core.Quot.{Quotient, Setoid}
+use mathlib.Core.Quot.Quotient
+use mathlib.Core.Quot
+use mathlib.Core.Logic.{∥∥₁_prop, ∥∥₁_elim, ∥∥₁_map}
+use Rattle.exact.specs.Ratio.{Ratio, Same, ratio_plus, ratio_times, whole}
+use Rattle.exact.specs.Values.{CanCancel}
+use Rattle.exact.proofs.Values.{same_refl, same_sym, same_trans, plus_same, times_same, product_cancels, one_cancels}
+use Rattle.integers.proofs.Ring.{ring, linear}
+use Rattle.exact.proofs.Semiring.{Semiring}
+
+module _ (m : ℕ) where
+  pub record Exact : Type 0 where
+    pub ratio : Ratio
+    pub denominator : CanCancel m (pos ratio.den)
+
+  unfoldable pub same : Exact → Exact → Type 0
+  same a b = ∥ Same m a.ratio b.ratio ∥₁
+
+  abbrev pub by_value : Setoid {0, 0} Exact
+  unfolding same
+  by_value = record {
+    r = same;
+    iseqv = record {
+      refl = λ a. ∣ same_refl a.ratio ∣₁;
+      symm = λ a b s. ∥∥₁_map s same_sym;
+      trans = λ a b c s t. ∥∥₁_elim s ∥∥₁_prop (λ s. ∥∥₁_map t (λ t. same_trans b.denominator s t));
+    };
+  }
+
+  abbrev pub Value : Type 0
+  Value = Quotient by_value
+
+  pub value-set : IsSet Value
+  value-set = Quot.Quot-set
+
+  unfoldable pub plus_exact : Exact → Exact → Exact
+  unfolding ratio_plus
+  plus_exact a b = record { ratio = ratio_plus a.ratio b.ratio; denominator = product_cancels a.denominator b.denominator }
+
+  unfoldable pub times_exact : Exact → Exact → Exact
+  unfolding ratio_times
+  times_exact a b = record { ratio = ratio_times a.ratio b.ratio; denominator = product_cancels a.denominator b.denominator }
+
+  unfoldable pub plus_value : Value → Value → Value
+  unfolding same plus_exact
+  plus_value = Quotient.lift₂ by_value by_value value-set (λ a b. Quotient.mk by_value (plus_exact a b))
+      (λ a b a' b' s t. Quotient.sound by_value (∥∥₁_elim s ∥∥₁_prop (λ s. ∥∥₁_map t (λ t. plus_same s t))))
+
+  unfoldable pub times_value : Value → Value → Value
+  unfolding same times_exact
+  times_value = Quotient.lift₂ by_value by_value value-set (λ a b. Quotient.mk by_value (times_exact a b))
+      (λ a b a' b' s t. Quotient.sound by_value (∥∥₁_elim s ∥∥₁_prop (λ s. ∥∥₁_map t (λ t. times_same s t))))
+
+  unfoldable pub class : (r : Ratio) → CanCancel m (pos r.den) → Value
+  class r h = Quotient.mk by_value (record { ratio = r; denominator = h })
+
+  pub formal : (x y d e : ℤ) (a b : Ratio) → x ≡ a.num → y ≡ b.num → d ≡ pos a.den → e ≡ pos b.den → x *ℤ e ≡ y *ℤ d → Same m a b
+  formal x y d e a b i j k l h = record { difference = (pos 0, rw (← i, ← j, ← k, ← l, h) (zero_is (pos m) (y *ℤ d))) }
+    where
+      zero_is : (m z : ℤ) → z -ℤ z ≡ m *ℤ pos 0
+      zero_is m z = simp ring (omega (arith, linear))
+
+  comm_step : (an ad bn bd : ℤ) → (an *ℤ bd +ℤ bn *ℤ ad) *ℤ (bd *ℤ ad) ≡ (bn *ℤ ad +ℤ an *ℤ bd) *ℤ (ad *ℤ bd)
+  comm_step an ad bn bd = simp ring (omega (arith, linear))
+
+  comm_formal : (a b : Ratio) → Same m (ratio_plus a b) (ratio_plus b a)
+  unfolding ratio_plus
+  comm_formal a b = formal _ _ _ _ (ratio_plus a b) (ratio_plus b a) refl refl refl refl (comm_step a.num (pos a.den) b.num (pos b.den))
+
+  pub plus_value_comm : (a b : Value) → plus_value a b ≡ plus_value b a
+  unfolding plus_value same plus_exact Quotient.lift₂
+  plus_value_comm = Quotient.ind₂ by_value by_value (λ q r. value-set (plus_value q r) (plus_value r q)) (λ a b. Quotient.sound by_value ∣ comm_formal a.ratio b.ratio ∣₁)
+
+  assoc_step : (an ad bn bd cn cd : ℤ) → ((an *ℤ bd +ℤ bn *ℤ ad) *ℤ cd +ℤ cn *ℤ (ad *ℤ bd)) *ℤ (ad *ℤ (bd *ℤ cd)) ≡ (an *ℤ (bd *ℤ cd) +ℤ (bn *ℤ cd +ℤ cn *ℤ bd) *ℤ ad) *ℤ ((ad *ℤ bd) *ℤ cd)
+  assoc_step an ad bn bd cn cd = simp ring (omega (arith, linear))
+
+  assoc_formal : (a b c : Ratio) → Same m (ratio_plus (ratio_plus a b) c) (ratio_plus a (ratio_plus b c))
+  unfolding ratio_plus
+  assoc_formal a b c = formal _ _ _ _ (ratio_plus (ratio_plus a b) c) (ratio_plus a (ratio_plus b c)) refl refl refl refl (assoc_step a.num (pos a.den) b.num (pos b.den) c.num (pos c.den))
+
+  pub plus_value_assoc : (a b c : Value) → plus_value (plus_value a b) c ≡ plus_value a (plus_value b c)
+  unfolding plus_value same plus_exact Quotient.lift₂
+  plus_value_assoc x y z = Quotient.induction_on₃ by_value by_value by_value (λ q r s. value-set (plus_value (plus_value q r) s) (plus_value q (plus_value r s))) x y z (λ a b c. Quotient.sound by_value ∣ assoc_formal a.ratio b.ratio c.ratio ∣₁)
+
+  times_plus_step : (an ad bn bd cn cd : ℤ) → (an *ℤ (bn *ℤ cd +ℤ cn *ℤ bd)) *ℤ ((ad *ℤ bd) *ℤ (ad *ℤ cd)) ≡ ((an *ℤ bn) *ℤ (ad *ℤ cd) +ℤ (an *ℤ cn) *ℤ (ad *ℤ bd)) *ℤ (ad *ℤ (bd *ℤ cd))
+  times_plus_step an ad bn bd cn cd = simp ring (omega (arith, linear))
+
+  times_plus_formal : (a b c : Ratio) → Same m (ratio_times a (ratio_plus b c)) (ratio_plus (ratio_times a b) (ratio_times a c))
+  unfolding ratio_plus ratio_times
+  times_plus_formal a b c = formal _ _ _ _ (ratio_times a (ratio_plus b c)) (ratio_plus (ratio_times a b) (ratio_times a c)) refl refl refl refl (times_plus_step a.num (pos a.den) b.num (pos b.den) c.num (pos c.den))
+
+  pub times_value_plus : (a b c : Value) → times_value a (plus_value b c) ≡ plus_value (times_value a b) (times_value a c)
+  unfolding plus_value times_value same plus_exact times_exact Quotient.lift₂
+  times_value_plus x y z = Quotient.induction_on₃ by_value by_value by_value (λ q r s. value-set (times_value q (plus_value r s)) (plus_value (times_value q r) (times_value q s))) x y z (λ a b c. Quotient.sound by_value ∣ times_plus_formal a.ratio b.ratio c.ratio ∣₁)
+
+  -- equal classes are the same value
+  pub same_from_class : (a b : Ratio) (h : CanCancel m (pos a.den)) (i : CanCancel m (pos b.den)) → class a h ≡ class b i → ∥ Same m a b ∥₁
+  unfolding same class
+  same_from_class a b h i e = Quotient.exact by_value (λ x y. ∥∥₁_prop) e
+
+  times_comm_step : (an ad bn bd : ℤ) → (an *ℤ bn) *ℤ (bd *ℤ ad) ≡ (bn *ℤ an) *ℤ (ad *ℤ bd)
+  times_comm_step an ad bn bd = simp ring (omega (arith, linear))
+
+  times_comm_formal : (a b : Ratio) → Same m (ratio_times a b) (ratio_times b a)
+  unfolding ratio_times
+  times_comm_formal a b = formal _ _ _ _ (ratio_times a b) (ratio_times b a) refl refl refl refl (times_comm_step a.num (pos a.den) b.num (pos b.den))
+
+  pub times_value_comm : (a b : Value) → times_value a b ≡ times_value b a
+  unfolding times_value same times_exact Quotient.lift₂
+  times_value_comm = Quotient.ind₂ by_value by_value (λ q r. value-set (times_value q r) (times_value r q)) (λ a b. Quotient.sound by_value ∣ times_comm_formal a.ratio b.ratio ∣₁)
+
+  times_assoc_step : (an ad bn bd cn cd : ℤ) → ((an *ℤ bn) *ℤ cn) *ℤ (ad *ℤ (bd *ℤ cd)) ≡ (an *ℤ (bn *ℤ cn)) *ℤ ((ad *ℤ bd) *ℤ cd)
+  times_assoc_step an ad bn bd cn cd = simp ring (omega (arith, linear))
+
+  times_assoc_formal : (a b c : Ratio) → Same m (ratio_times (ratio_times a b) c) (ratio_times a (ratio_times b c))
+  unfolding ratio_times
+  times_assoc_formal a b c = formal _ _ _ _ (ratio_times (ratio_times a b) c) (ratio_times a (ratio_times b c)) refl refl refl refl (times_assoc_step a.num (pos a.den) b.num (pos b.den) c.num (pos c.den))
+
+  pub times_value_assoc : (a b c : Value) → times_value (times_value a b) c ≡ times_value a (times_value b c)
+  unfolding times_value same times_exact Quotient.lift₂
+  times_value_assoc x y z = Quotient.induction_on₃ by_value by_value by_value (λ q r s. value-set (times_value (times_value q r) s) (times_value q (times_value r s))) x y z (λ a b c. Quotient.sound by_value ∣ times_assoc_formal a.ratio b.ratio c.ratio ∣₁)
+
+  unfoldable pub whole_value : ℤ → Value
+  whole_value z = Quotient.mk by_value (record { ratio = whole z; denominator = one_cancels })
+
+  plus_zero_step : (an ad : ℤ) → (an *ℤ pos 1 +ℤ pos 0 *ℤ ad) *ℤ ad ≡ an *ℤ (ad *ℤ pos 1)
+  plus_zero_step an ad = simp ring (omega (arith, linear))
+
+  plus_zero_formal : (a : Ratio) → Same m (ratio_plus a (whole (pos 0))) a
+  unfolding ratio_plus
+  plus_zero_formal a = formal _ _ _ _ (ratio_plus a (whole (pos 0))) a refl refl refl refl (plus_zero_step a.num (pos a.den))
+
+  pub plus_value_zero : (a : Value) → plus_value a (whole_value (pos 0)) ≡ a
+  unfolding plus_value whole_value same plus_exact Quotient.lift₂
+  plus_value_zero = Quotient.ind by_value (λ q. value-set (plus_value q (whole_value (pos 0))) q) (λ a. Quotient.sound by_value ∣ plus_zero_formal a.ratio ∣₁)
+
+  times_zero_step : (an ad : ℤ) → (an *ℤ pos 0) *ℤ pos 1 ≡ pos 0 *ℤ (ad *ℤ pos 1)
+  times_zero_step an ad = simp ring (omega (arith, linear))
+
+  times_zero_formal : (a : Ratio) → Same m (ratio_times a (whole (pos 0))) (whole (pos 0))
+  unfolding ratio_times
+  times_zero_formal a = formal _ _ _ _ (ratio_times a (whole (pos 0))) (whole (pos 0)) refl refl refl refl (times_zero_step a.num (pos a.den))
+
+  pub times_value_zero : (a : Value) → times_value a (whole_value (pos 0)) ≡ whole_value (pos 0)
+  unfolding times_value whole_value same times_exact Quotient.lift₂
+  times_value_zero = Quotient.ind by_value (λ q. value-set (times_value q (whole_value (pos 0))) (whole_value (pos 0))) (λ a. Quotient.sound by_value ∣ times_zero_formal a.ratio ∣₁)
+
+  opposite_step : (an ad : ℤ) → (an *ℤ (pos 1 *ℤ ad) +ℤ (neg_ℤ (pos 1) *ℤ an) *ℤ ad) *ℤ pos 1 ≡ pos 0 *ℤ (ad *ℤ (pos 1 *ℤ ad))
+  opposite_step an ad = simp ring (omega (arith, linear))
+
+  opposite_formal : (a : Ratio) → Same m (ratio_plus a (ratio_times (whole (neg_ℤ (pos 1))) a)) (whole (pos 0))
+  unfolding ratio_times ratio_plus
+  opposite_formal a = formal _ _ _ _ (ratio_plus a (ratio_times (whole (neg_ℤ (pos 1))) a)) (whole (pos 0)) refl refl refl refl (opposite_step a.num (pos a.den))
+
+  opposite : (a : Value) → plus_value a (times_value (whole_value (neg_ℤ (pos 1))) a) ≡ whole_value (pos 0)
+  unfolding times_value plus_value whole_value same times_exact plus_exact Quotient.lift₂
+  opposite = Quotient.ind by_value (λ q. value-set (plus_value q (times_value (whole_value (neg_ℤ (pos 1))) q)) (whole_value (pos 0))) (λ a. Quotient.sound by_value ∣ opposite_formal a.ratio ∣₁)
+
+  pub plus_value_cancel : (a b c : Value) → plus_value a c ≡ plus_value b c → a ≡ b
+  plus_value_cancel a b c e = sym (undo a) ∙ ap (λ t. plus_value t (times_value (whole_value (neg_ℤ (pos 1))) c)) e ∙ undo b
+    where
+      undo : (x : Value) → plus_value (plus_value x c) (times_value (whole_value (neg_ℤ (pos 1))) c) ≡ x
+      undo x = plus_value_assoc x c (times_value (whole_value (neg_ℤ (pos 1))) c) ∙ ap (plus_value x) (opposite c) ∙ plus_value_zero x
+
+  abbrev pub values : Semiring
+  values = record {
+    Carrier = Value;
+    plus = plus_value;
+    times = times_value;
+    nought = whole_value (pos 0);
+    plus_comm = plus_value_comm;
+    plus_assoc = plus_value_assoc;
+    plus_nought = plus_value_zero;
+    times_comm = times_value_comm;
+    times_assoc = times_value_assoc;
+    times_plus = times_value_plus;
+    times_nought = times_value_zero;
+    plus_cancel = plus_value_cancel;
+  }

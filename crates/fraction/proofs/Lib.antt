@@ -1,0 +1,4 @@
+mod Answered
+mod Lowest
+mod Narrow
+mod Operations

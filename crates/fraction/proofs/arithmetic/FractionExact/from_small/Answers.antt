@@ -1,0 +1,19 @@
+use Rattle.std.proofs.Common.{arith, rules, ◌≡◌, refl, subst, sym, ℤ, pos, to_z, of_z}
+use Rattle.std.specs.Int.{w32, w64}
+use Rattle.std.proofs.lemmas.Int.{ints}
+use Rattle.fraction.specs.Reduced.{IsReduced, ratio}
+use Rattle.fraction.proofs.Operations.{whole_same, whole_reduced}
+use Rattle.fraction.proofs.arithmetic.FractionExact.from_small.Goals as goal
+
+-- the number in 64 bits
+same_number : (c : goal.Start) → to_z w64 (of_z w64 (to_z w32 (of_z w32 c.args.v))) ≡ c.args.v
+same_number c = search rules
+
+pub invariant_of-result : goal.invariant_of-result
+invariant_of-result c = record {
+  positive = omega (arith, ints);
+  reduced = subst (λ (z : ℤ). IsReduced (ratio z (pos 1))) (sym (same_number c)) (whole_reduced c.args.v (omega (arith, ints)));
+}
+
+pub returns : goal.returns
+returns c = whole_same c.args.v _ (search rules) refl

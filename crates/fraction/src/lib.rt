@@ -1,0 +1,12 @@
+//! Reduced fractions of 64 bits, as exact numbers.
+#![tactic(auto)]
+
+mod arithmetic;
+mod numbers;
+mod products;
+mod reducing;
+
+pub use numbers::{Fraction, FractionFault};
+
+#[cfg(test)]
+mod tests;
