@@ -23,7 +23,8 @@ both_within : (es : List Arc) → AllByRecursion (λ e. IsWithin 500 e.shift) es
 both_within [] h = tt
 both_within (e ∷ es) h = (h.0, (opposite_within 500 e.shift h.0, both_within es h.1))
 
-arc_within : (G : Graph) → IsSmall G → (a : Arc) → IsArc G a → IsWithin 500 a.shift
+-- the shifts of all arcs are within the limits
+pub arc_within : (G : Graph) → IsSmall G → (a : Arc) → IsArc G a → IsWithin 500 a.shift
 arc_within G s a h =
     all_at (λ b. IsWithin 500 b.shift) (arcs G) a
     (All-from_recursion (λ b. IsWithin 500 b.shift) (arcs G) (both_within G.edges (recursion_from_All (λ e. IsWithin 500 e.shift) G.edges s.shifts))) h

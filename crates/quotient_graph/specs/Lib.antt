@@ -3,3 +3,4 @@ pub mod Stars
 pub mod Building
 pub mod AnyGraphs
 pub mod Splits
+pub mod PlacedNets

@@ -33,7 +33,10 @@ impl<const D: usize> Model for Graph<D> {
 
 impl<const D: usize> Graph<D> {
     pub fn dimension(&self) -> u8
-        ensures { result ≡ self.now.dimension }
+        ensures value { result ≡ self.now.dimension }
+        ensures parameter { self.now.dimension ≡ D }
+        ensures is_graph { IsGraph self.now }
+        ensures small { IsSmall self.now }
     {
         let _ = &self.vertices;
         D as u8

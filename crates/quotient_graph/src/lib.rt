@@ -4,11 +4,13 @@
 mod arc;
 mod build;
 mod graph;
+mod placed;
 mod raw;
 mod split;
 
 pub use arc::Arc;
 pub use graph::Graph;
+pub use placed::Placed;
 pub use raw::{AnyGraph, from_raw};
 pub use split::Split;
 pub use std::alloc::AllocError as NoMemory;

@@ -1,0 +1,7 @@
+pub mod Equations
+pub mod Faults
+pub mod Lines
+pub mod Listed
+pub mod Residues
+pub mod Rows
+pub mod Solutions
