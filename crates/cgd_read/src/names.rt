@@ -38,6 +38,13 @@ impl<'a> Names<'a> {
         Ok(Names { items })
     }
 
+    /// An equal list, of the same slices.
+    pub fn copy(&self) -> Result<Names<'a>, NoMemory>
+        ensures { IfOk result (λ list. list ≡ self.now) }
+    {
+        Names::from_slice(*self.items.allocator(), &self.items)
+    }
+
     pub fn push(&mut self, item: &'a [u8]) -> Result<(), NoMemory>
         ensures ok { OnOk result (self.new ≡ self.old ++ item.now ∷ []) }
         ensures err { OnErr result (self.new ≡ self.old) }
