@@ -1,4 +1,5 @@
-mod ManyWords
+mod WordsAfter
 mod Reordered
 mod NetOutcomes
-mod Reports
+mod Printing
+mod Listing

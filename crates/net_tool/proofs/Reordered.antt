@@ -5,7 +5,7 @@ use Rattle.std.proofs.lemmas.List.Sorted.{IsPermutation-sym, Contains-permutatio
 use Rattle.integers.specs.Lists.{IsIn}
 use Rattle.integers.proofs.Members.{is_in, contains_from_in}
 use Rattle.periodic_net.specs.Graph.{Graph, Arc, reverse_of, both_ways, IsArc, IsQuotientVertex, Vertex, IsVertex, IsWalk, IsReached, IsConnected}
-use Rattle.periodic_net.specs.Split.{Split, IsFound, ClosedShift, WalkShift, IsOrthogonal, IsPartSplit, IsFlatSplit, IsPivot, IsSparseSplit}
+use Rattle.periodic_net.specs.Split.{Split, IsFound, IsPartSplit, IsFlatSplit, IsPivot, IsSparseSplit}
 use Rattle.quotient_graph.specs.Stars.{IsInOrder}
 
 -- the edge that an arc belongs to
@@ -25,7 +25,7 @@ arcs_of_edge [] e h = elim h [ ]
 arcs_of_edge (x ∷ es) e (inl h) = (inl h, inr (inl (ap reverse_of h)))
 arcs_of_edge (x ∷ es) e (inr h) = let r = arcs_of_edge es e h in (inr (inr r.0), inr (inr r.1))
 
-same_arc : (G H : Graph) → IsPermutation G.edges H.edges → (a : Arc) → IsArc G a → IsArc H a
+pub same_arc : (G H : Graph) → IsPermutation G.edges H.edges → (a : Arc) → IsArc G a → IsArc H a
 same_arc G H p a h =
     let r = edge_of_arc G.edges a (is_in (both_ways G.edges) a h) in
     let moved = arcs_of_edge H.edges r.edge (is_in H.edges r.edge (Contains-permutation G.edges H.edges r.edge p (contains_from_in G.edges r.edge r.there))) in

@@ -1,7 +1,6 @@
 pub mod Words
-pub mod KindNames
+pub mod WordViews
+pub mod Nets
 pub mod Outcomes
-pub mod OutcomeViews
-pub mod Checked
 pub mod Statuses
 pub mod Run

@@ -6,46 +6,46 @@ use Rattle.outside.specs.Held.{Holds, Are, HasMore}
 use Rattle.net_tool.specs.declared.status.Status.{Status}
 use Rattle.net_tool.specs.declared.status.Status.TheVariants.{Done, SomeRefused, Usage, ReadFault, WriteFault, TooLarge, NoMemory, TooManyBlocks}
 use Rattle.cgd_read.specs.Blocks.{blocks_of}
-use Rattle.net_tool.specs.Words.{file_of}
-use Rattle.net_tool.specs.Checked.{IsChecked}
+use Rattle.net_tool.specs.Words.{Task, task_of}
+use Rattle.net_tool.specs.Outcomes.{IsReportOf}
 
 abbrev pub usage_line : List ℕ
 usage_line = codes "usage: net_tool COMMAND [FILE] [--archive PATH] [--name NAME]\n"
 
--- a file of these bytes is checked, with this outcome for all its blocks
-abbrev pub IsCheckOf : List ℕ → Holds → Bool → List ℕ → Type 0
-IsCheckOf file holds accepted text = (bytes : List ℕ) × Are holds file bytes × (length bytes ≤ 16777216) × IsChecked bytes accepted text
+-- this is the command's report on a file of these bytes, and whether all its blocks were accepted
+abbrev pub IsReportOn : Task → Holds → Bool → List ℕ → Type 0
+IsReportOn task holds accepted text = (bytes : List ℕ) × Are holds task.file bytes × (length bytes ≤ 16777216) × IsReportOf task.command bytes accepted text
 
--- a file of these bytes has more blocks than are checked
+-- a file of these bytes has more blocks than are taken
 abbrev pub HasManyBlocks : List ℕ → Holds → Type 0
 HasManyBlocks file holds = (bytes : List ℕ) × Are holds file bytes × (length bytes ≤ 16777216) × (4096 < length (blocks_of bytes))
 
--- this file asks for this answer
-abbrev pub IsDueOf : List ℕ → Holds → Status → List ℕ → Type 0
-IsDueOf file holds TooLarge text = HasMore holds file 16777216 × (text ≡ [])
-IsDueOf file holds TooManyBlocks text = HasManyBlocks file holds × (text ≡ [])
-IsDueOf file holds Done text = IsCheckOf file holds true text
-IsDueOf file holds SomeRefused text = IsCheckOf file holds false text
-IsDueOf file holds _ text = ⊥
+-- this task asks for this answer
+abbrev pub IsDueOf : Task → Holds → Status → List ℕ → Type 0
+IsDueOf task holds TooLarge text = HasMore holds task.file 16777216 × (text ≡ [])
+IsDueOf task holds TooManyBlocks text = HasManyBlocks task.file holds × (text ≡ [])
+IsDueOf task holds Done text = IsReportOn task holds true text
+IsDueOf task holds SomeRefused text = IsReportOn task holds false text
+IsDueOf task holds _ text = ⊥
 
 -- these words, over these files, ask for this answer
-abbrev pub IsDue : Option (List ℕ) → Holds → Status → List ℕ → Type 0
+abbrev pub IsDue : Option Task → Holds → Status → List ℕ → Type 0
 IsDue None holds status text = (status ≡ Usage) × (text ≡ usage_line)
-IsDue (Some file) holds status text = IsDueOf file holds status text
+IsDue (Some task) holds status text = IsDueOf task holds status text
 
 -- the answer was due, and what was written is its text
 abbrev pub IsAnswer : List (List ℕ) → Holds → Option (List ℕ) → Option (List ℕ) → Status → Type 0
-IsAnswer words holds before after status = (text : List ℕ) × IsDue (file_of words) holds status text × Appends before after text
+IsAnswer words holds before after status = (text : List ℕ) × IsDue (task_of words) holds status text × Appends before after text
 
 -- an answer was due, a part of its text was written, and there was a cause to stop
 abbrev pub IsBroken : List (List ℕ) → Holds → Option (List ℕ) → Option (List ℕ) → ℕ → Type 0
 IsBroken words holds before after sure =
-    (status : Status) × (text : List ℕ) × (taken : ℕ) × IsDue (file_of words) holds status text × Appends before after (take taken text) × (sure < length text)
+    (status : Status) × (text : List ℕ) × (taken : ℕ) × IsDue (task_of words) holds status text × Appends before after (take taken text) × (sure < length text)
 
 -- the last read failed, of a file that the words name
-abbrev pub FailedAtFile : Option (List ℕ) → Last → Type 0
+abbrev pub FailedAtFile : Option Task → Last → Type 0
 FailedAtFile None last = ⊥
-FailedAtFile (Some file) last = last ≡ Failed file
+FailedAtFile (Some task) last = last ≡ Failed task.file
 
 -- a status that is an answer
 abbrev pub IsAnswered : Status → Type 0

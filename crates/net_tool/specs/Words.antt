@@ -3,6 +3,8 @@ use Rattle.std.specs.Prelude.{ℕ, Bool, false, not, ◌&&◌, ◌==◌, List, [
 use Rattle.std.specs.Option.{option_map}
 use Rattle.std.specs.Str.{bytes_eq}
 use Rattle.std.specs.declared.alloc.Global.{Global}
+use Rattle.net_tool.specs.declared.words.Command.{Command}
+use Rattle.net_tool.specs.declared.words.Command.TheVariants.{Check, Place}
 
 abbrev pub texts_of : List (String Global) → List (List ℕ)
 texts_of words = map string_bytes words
@@ -28,16 +30,40 @@ abbrev pub named : List ℕ → Option (List ℕ)
 named [] = None
 named (b ∷ bytes) = Some (b ∷ bytes)
 
--- `check` reads one file, which is `-` where it is not named
-abbrev pub checked_file : List (List ℕ) → Option (List ℕ)
-checked_file (command ∷ []) = if bytes_eq command (codes "check") then Some (codes "-") else None
-checked_file (command ∷ file ∷ []) = if bytes_eq command (codes "check") then named file else None
-checked_file _ = None
+-- the command that a word names
+abbrev pub command_named : List ℕ → Option Command
+command_named word = if bytes_eq word (codes "check") then Some Check else (if bytes_eq word (codes "place") then Some Place else None)
+
+-- a command and the file that it reads
+pub record Task : Type 0 where
+  pub command : Command
+  pub file : List ℕ
+
+-- both of them, where both are named
+abbrev pub task_with : Option Command → Option (List ℕ) → Option Task
+task_with None file = None
+task_with (Some command) None = None
+task_with (Some command) (Some file) = Some record { command = command; file = file }
+
+-- the file in the positional words after a command, which is `-` where it is not named
+abbrev pub file_among : List (List ℕ) → Option (List ℕ)
+file_among [] = Some (codes "-")
+file_among (file ∷ []) = named file
+file_among (file ∷ word ∷ words) = None
 
 abbrev pub file_in : Option (List (List ℕ)) → Option (List ℕ)
 file_in None = None
-file_in (Some words) = checked_file words
+file_in (Some words) = file_among words
 
--- the file that is to be checked, where the words have the form
-abbrev pub file_of : List (List ℕ) → Option (List ℕ)
-file_of words = file_in (positionals words)
+-- the task that the positional words name
+abbrev pub task_among : List (List ℕ) → Option Task
+task_among [] = None
+task_among (command ∷ words) = task_with (command_named command) (file_among words)
+
+abbrev pub task_in : Option (List (List ℕ)) → Option Task
+task_in None = None
+task_in (Some words) = task_among words
+
+-- the task that the words name, where they have the form
+abbrev pub task_of : List (List ℕ) → Option Task
+task_of words = task_in (positionals words)

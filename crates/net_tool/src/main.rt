@@ -1,9 +1,9 @@
 //! `net_tool COMMAND [FILE]`: reads nets and tells what they are.
 #![tactic(auto)]
 
-mod check;
-mod outcome;
-mod report;
+mod answers;
+mod bodies;
+mod nets;
 mod status;
 #[cfg(test)]
 mod tests;

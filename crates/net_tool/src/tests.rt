@@ -1,6 +1,10 @@
 // Runs over files in memory.
 use crate::status::Status;
 use crate::tool::run;
+use barycentre::{WidePlacement, WideSite};
+use cgd_read::Names;
+use least_key::Refusal;
+use net_report::refused_line;
 use outside::{MemoryShelf, MemorySink};
 use std::alloc::Global;
 use std::process::Abort;
@@ -177,15 +181,100 @@ fn texts(rt: HostRuntime) -> Result<(), Fail> {
             written: "net 1 line 1 \"m\"\nmalformed line=5 12 TwoNames\n",
         },
     ];
-    for case in &cases {
-        let (status, out) = run_on(
-            rt.alloc(),
-            &["check", "net"],
-            case.text.as_bytes(),
-            &NO_FAULTS,
-        )?;
+    check_cases(rt.alloc(), &rt, "check", &cases)
+}
+
+// Each text under a command.
+fn check_cases(alloc: Global, rt: &impl Abort, command: &str, cases: &[Case]) -> Result<(), Fail> {
+    for case in cases {
+        let text = case.text.as_bytes();
+        let (status, out) = run_on(alloc, &[command, "net"], text, &NO_FAULTS)?;
         assert_eq!(rt; status, case.status);
         assert_eq!(rt; out.written(), case.written.as_bytes());
+    }
+    Ok(())
+}
+
+#[test]
+fn placements(rt: HostRuntime) -> Result<(), Fail> {
+    let cases = [
+        Case {
+            text: HCB,
+            status: Status::Done,
+            written: "net 1 line 1 \"hcb\"\ngraph d=2 vertices=2 edges=3 repeats=0\nplacement D0=3\nat 1 0 0\nat 2 -1 -1\n",
+        },
+        Case {
+            text: "PERIODIC_GRAPH\nNAME dia\nEDGES\n1 2 0 0 0\n1 2 1 0 0\n1 2 0 1 0\n1 2 0 0 1\nEND\nPERIODIC_GRAPH\nNAME tilted\nEDGES\n4 7 0 0 0\n4 7 -1 0 0\n4 7 -1 -1 0\n4 7 0 -1 -1\nEND\nPERIODIC_GRAPH\nNAME again\nEDGES\n1 2 0 0 0\n1 2 1 0 0\n1 2 0 1 0\n1 2 0 0 1\n2 1 0 0 -1\nEND\n",
+            status: Status::Done,
+            written: "net 1 line 1 \"dia\"\ngraph d=3 vertices=2 edges=4 repeats=0\nplacement D0=4\nat 1 0 0 0\nat 2 -1 -1 -1\nnet 2 line 9 \"tilted\"\ngraph d=3 vertices=2 edges=4 repeats=0\nplacement D0=4\nat 4 0 0 0\nat 7 2 2 1\nnet 3 line 17 \"again\"\ngraph d=3 vertices=2 edges=4 repeats=1\nplacement D0=4\nat 1 0 0 0\nat 2 -1 -1 -1\n",
+        },
+        Case {
+            text: "PERIODIC_GRAPH\nNAME pcu2\nEDGES\n1 2 0 0 0\n2 1 1 0 0\n1 1 0 1 0\n1 1 0 0 1\n2 2 0 1 0\n2 2 0 0 1\nEND\n",
+            status: Status::Done,
+            written: "net 1 line 1 \"pcu2\"\ngraph d=3 vertices=2 edges=6 repeats=0\nplacement D0=2\nat 1 0 0 0\nat 2 1 0 0\n",
+        },
+        // vertices in one place
+        Case {
+            text: "PERIODIC_GRAPH\nNAME fold\nEDGES\n2 1 0 0\n2 1 1 0\n3 1 0 0\n3 1 1 0\n1 1 0 1\nEND\n",
+            status: Status::Done,
+            written: "net 1 line 1 \"fold\"\ngraph d=2 vertices=3 edges=5 repeats=0\nplacement D0=2\nat 2 0 0\nat 1 -1 0\nat 3 0 0\n",
+        },
+        Case {
+            text: "PERIODIC_GRAPH\nNAME two\nEDGES\n1 1 2 0\n1 1 0 1\nEND\n",
+            status: Status::SomeRefused,
+            written: "net 1 line 1 \"two\"\ngraph d=2 vertices=1 edges=2 repeats=0\nrefused 1 Disconnected q=2 c=1 0 h=0\n",
+        },
+        Case {
+            text: "X\nEND\n",
+            status: Status::SomeRefused,
+            written: "net 1 line 1\nunsupported X\n",
+        },
+    ];
+    check_cases(rt.alloc(), &rt, "place", &cases)
+}
+
+// A chain of vertices: between the k-th and the next one so many edges, with the shifts 0, 1 and so on, the last
+// one further by 1; and a loop at the first.
+fn chain(alloc: Global, counts: &[u32], last: &str) -> Result<Vec<u8>, Fail> {
+    let mut text = String::from_str(alloc, "PERIODIC_GRAPH\nEDGES\n")?;
+    for (k, count) in counts.iter().enumerate() {
+        for step in 0..*count {
+            let shift = if step + 1 == *count { *count } else { step };
+            let (from, to) = (k as u64 + 1, k as u64 + 2);
+            text.push_str(&format!(in alloc; "{from} {to} {shift} 0\n")?)?;
+        }
+    }
+    text.push_str(last)?;
+    text.push_str("\nEND\n")?;
+    Ok(Vec::from_slice(alloc, text.as_bytes())?)
+}
+
+// Numbers on the way to a placement that are past 62 bits, and numbers of a placement that are past 2^40.
+#[test]
+fn wide_numbers(rt: HostRuntime) -> Result<(), Fail> {
+    let counts = [63, 61, 59, 55, 53, 47, 43, 41, 37, 31, 29, 23];
+    let chains: [(usize, &str, &str); 3] = [
+        (
+            12,
+            "1 1 0 1",
+            "net 1 line 1\ngraph d=2 vertices=13 edges=543 repeats=0\nrefused 3 TooWide part=7 k=11 i=0 j=10 c=1 left=31/1 right=-456296288570237932/2026342482245235\n",
+        ),
+        (
+            8,
+            "1 1 0 1",
+            "net 1 line 1\ngraph d=2 vertices=9 edges=423 repeats=0\nrefused 4 WidePlacement denominator u=8 c=1 value=1335756415455\n",
+        ),
+        (
+            6,
+            "1 1 40 1",
+            "net 1 line 1\ngraph d=2 vertices=7 edges=339 repeats=0\nrefused 4 WidePlacement arc u=1 v=1 s=-40 -1 c=1 value=-1242564107400\n",
+        ),
+    ];
+    for (links, last, written) in &chains {
+        let text = chain(rt.alloc(), &counts[..(*links).min(12)], last)?;
+        let (status, out) = run_on(rt.alloc(), &["place", "net"], &text, &NO_FAULTS)?;
+        assert_eq!(rt; status, Status::SomeRefused);
+        assert_eq!(rt; out.written(), written.as_bytes());
     }
     Ok(())
 }
@@ -219,7 +308,7 @@ fn words(rt: HostRuntime) -> Result<(), Fail> {
     for words in &refused {
         let (status, out) = run_on(rt.alloc(), words, HCB.as_bytes(), &NO_FAULTS)?;
         assert_eq!(rt; status, Status::Usage);
-        assert_eq!(rt; out.written(), crate::report::USAGE.as_bytes());
+        assert_eq!(rt; out.written(), crate::words::USAGE.as_bytes());
     }
     Ok(())
 }
@@ -283,5 +372,19 @@ fn many_blocks(rt: HostRuntime) -> Result<(), Fail> {
     let (status, out) = run_on(rt.alloc(), &["check", "net"], &text, &faults)?;
     assert_eq!(rt; status, Status::TooManyBlocks);
     assert_eq!(rt; out.written().len(), 0);
+    Ok(())
+}
+
+// Without names the vertices are told by their numbers.
+#[test]
+fn refusal_by_numbers(rt: HostRuntime) -> Result<(), Fail> {
+    let refusal = Refusal::WidePlacement(WidePlacement {
+        dim: 2,
+        site: WideSite::Denominator { u: 8, c: 1 },
+        value: 1_335_756_415_455,
+    });
+    let line = refused_line(rt.alloc(), &refusal, &Names::new(rt.alloc()))?;
+    let wanted = "refused 4 WidePlacement denominator u=8 c=1 value=1335756415455\n";
+    assert_eq!(rt; line.as_slice(), wanted.as_bytes());
     Ok(())
 }

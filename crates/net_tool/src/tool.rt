@@ -2,13 +2,12 @@
 ghost use Rattle.std.specs.Prelude.{◌≡◌, ◌<◌, ℕ, length, take};
 ghost use Rattle.std.specs.Io.KnownBytes.{Appends};
 ghost use Rattle.outside.specs.Causes.{Rose};
-ghost use Rattle.net_tool.specs.Words.{texts_of, file_of};
+ghost use Rattle.net_tool.specs.Words.{texts_of, task_of};
 ghost use Rattle.net_tool.specs.Run.{IsAnswer, IsAnswered, IsBroken, IsSilent, FailedAtFile};
 
-use crate::check::check;
-use crate::report::USAGE;
+use crate::answers::answer;
 use crate::status::Status;
-use crate::words::file_word;
+use crate::words::{USAGE, task_word};
 use cgd_read::ReadRefusal;
 use outside::{InFault, Shelf, Sink, read_whole, write_all};
 use std::alloc::Global;
@@ -31,27 +30,27 @@ fn finish<W: Sink>(out: &mut W, text: &[u8], status: Status) -> Status
 }
 
 /// Does what the words say, over the files of a shelf, and writes the text to a sink. It is all that the program
-/// does. `check FILE` checks each block of FILE.
+/// does. `check FILE` says of each net of FILE whether it is connected, and `place FILE` where its vertices stand.
 pub fn run<H: Shelf, W: Sink>(alloc: Global, words: &[String], shelf: &mut H, out: &mut W) -> Status
     ensures answer { IsAnswered result →
         IsAnswer (texts_of words.now) (H.holds shelf.old) (W.written out.old) (W.written out.new) result }
     ensures read_fault { result ≡ Status.ReadFault → Rose (H.faults shelf.old) (H.faults shelf.new) }
-    ensures read_fault_at { result ≡ Status.ReadFault → FailedAtFile (file_of (texts_of words.now)) (H.last shelf.new) }
+    ensures read_fault_at { result ≡ Status.ReadFault → FailedAtFile (task_of (texts_of words.now)) (H.last shelf.new) }
     ensures write_fault { result ≡ Status.WriteFault → Rose (W.faults out.old) (W.faults out.new) }
     ensures broken { result ≡ Status.WriteFault →
         IsBroken (texts_of words.now) (H.holds shelf.old) (W.written out.old) (W.written out.new) (W.sure out.old) }
     ensures silent { IsSilent result → W.written out.new ≡ W.written out.old }
 {
-    let Some(file) = file_word(words) else {
+    let Some(task) = task_word(words) else {
         return finish(out, USAGE.as_bytes(), Status::Usage);
     };
-    let bytes = match read_whole(alloc, shelf, file, MAX_BYTES) {
+    let bytes = match read_whole(alloc, shelf, task.file, MAX_BYTES) {
         Ok(bytes) => bytes,
         Err(InFault::ReadFault) => return Status::ReadFault,
         Err(InFault::TooLarge { .. }) => return Status::TooLarge,
         Err(InFault::NoMemory) => return Status::NoMemory,
     };
-    let report = match check(alloc, &bytes) {
+    let report = match answer(alloc, task.command, &bytes) {
         Ok(report) => report,
         Err(ReadRefusal::TooManyBlocks) => return Status::TooManyBlocks,
         Err(ReadRefusal::NoMemory) => return Status::NoMemory,

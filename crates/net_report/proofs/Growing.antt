@@ -1,0 +1,29 @@
+-- Texts that grow by a line.
+use Rattle.std.proofs.Common.{◌≡◌, ℕ, ◌+◌, ◌<◌, List, [], ◌∷◌, ◌++◌, length, take, get_or, sym, ap, ◌∙◌, add-one, append_assoc}
+use Rattle.std.proofs.lemmas.Grind.{common_steps}
+use Rattle.std.proofs.Common.{arith}
+use Rattle.std.proofs.Math.Seq.{take-suc}
+use Rattle.quotient_graph.specs.PlacedNets.{PlacedNet}
+use Rattle.net_report.specs.Placements.{position_text, positions_text}
+use Rattle.net_report.specs.Reports.{outcome_text, report_text}
+use Rattle.net_report.specs.declared.outcome.Outcome.{Outcome}
+
+-- the line of the next vertex, after the lines up to this one
+pub positions_more : (names : List (List ℕ)) (p : PlacedNet) (n : ℕ) (text before after : List ℕ) → before ≡ text ++ positions_text names p n
+    → after ≡ before ++ position_text names p (n + 1) → after ≡ text ++ positions_text names p (n + 1)
+positions_more names p n text before after e f =
+    f ∙ ap (λ (t : List ℕ). t ++ position_text names p (n + 1)) e ∙ append_assoc text (positions_text names p n) (position_text names p (n + 1))
+    ∙ ap (λ (k : ℕ). text ++ (positions_text names p n ++ position_text names p k)) (add-one n) ∙ sym (ap (λ (k : ℕ). text ++ positions_text names p k) (add-one n))
+
+-- the text of one more outcome
+report_last : (os : List Outcome) (o : Outcome) → report_text (os ++ o ∷ []) ≡ report_text os ++ outcome_text o
+report_last [] o = grind (arith, common_steps)
+report_last (x ∷ os) o = grind (arith, common_steps, report_last os o)
+
+-- the text of the next outcome, after those of the first i
+pub report_more : (os : List Outcome) (i : ℕ) (o : Outcome) (text before after : List ℕ) → i < length os → o ≡ get_or os i o → before ≡ text ++ report_text (take i os) → after ≡ before ++ outcome_text o
+    → after ≡ text ++ report_text (take (i + 1) os)
+report_more os i o text before after l is e f =
+    let longer : take (i + 1) os ≡ take i os ++ o ∷ [] = ap (λ (n : ℕ). take n os) (add-one i) ∙ take-suc os i o l ∙ ap (λ (x : Outcome). take i os ++ x ∷ []) (sym is) in
+    f ∙ ap (λ (t : List ℕ). t ++ outcome_text o) e ∙ append_assoc text (report_text (take i os)) (outcome_text o) ∙ ap (λ (t : List ℕ). text ++ t) (sym (report_last (take i os) o))
+    ∙ ap (λ (xs : List Outcome). text ++ report_text xs) (sym longer)

@@ -1,0 +1,36 @@
+-- The lines that a block's text begins with, and the line of its fault.
+use Rattle.std.specs.Prelude.{ℕ, List, [], ◌++◌, Option, None, Some, codes}
+use Rattle.std.specs.Fmt.{decimal}
+use Rattle.cgd_read.specs.Kinds.{number_of_kind}
+use Rattle.cgd_read.specs.declared.block.BlockFault.{BlockFault}
+use Rattle.cgd_read.specs.declared.block.BlockFaultKind.{BlockFaultKind}
+use Rattle.net_report.specs.KindNames.{kind_name}
+use Rattle.net_report.specs.declared.outcome.Size.{Size}
+
+-- a name in quotes, after a blank
+abbrev pub name_text : Option (List ℕ) → List ℕ
+name_text None = []
+name_text (Some name) = codes " \"" ++ name ++ codes "\""
+
+-- the number of a block, the line that opens it, and its name
+abbrev pub header_text : ℕ → ℕ → Option (List ℕ) → List ℕ
+header_text number line name = codes "net " ++ decimal number ++ codes " line " ++ decimal line ++ name_text name ++ codes "\n"
+
+-- the sizes of a graph
+abbrev pub size_text : Size → List ℕ
+size_text s = codes "graph d=" ++ decimal s.dim ++ codes " vertices=" ++ decimal s.vertices ++ codes " edges=" ++ decimal s.edges ++ codes " repeats=" ++ decimal s.repeats ++ codes "\n"
+
+unfoldable pub unsupported_word : List ℕ
+unsupported_word = codes "unsupported "
+
+-- the token that opens a block which is no graph block
+abbrev pub unsupported_text : List ℕ → List ℕ
+unsupported_text token = unsupported_word ++ token ++ codes "\n"
+
+-- the number and the name of a kind of faults
+abbrev pub kind_text : BlockFaultKind → List ℕ
+kind_text kind = decimal (number_of_kind kind) ++ codes " " ++ kind_name kind
+
+-- the line of a fault, and its kind
+abbrev pub fault_text : BlockFault → List ℕ
+fault_text fault = codes "malformed line=" ++ decimal fault.line ++ codes " " ++ kind_text fault.kind ++ codes "\n"

@@ -1,0 +1,6 @@
+pub mod Numbers
+pub mod KindNames
+pub mod Headers
+pub mod Refusals
+pub mod Placements
+pub mod Reports

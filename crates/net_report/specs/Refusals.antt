@@ -1,0 +1,72 @@
+-- The line of a refusal, with its vertices by their names.
+use Rattle.std.specs.Prelude.{ℕ, List, [], ◌++◌, codes}
+use Rattle.std.specs.Fmt.{decimal, signed_decimal}
+use Rattle.integers.specs.Vectors.{parts}
+use Rattle.exact.specs.declared.number.Wide.{Wide}
+use Rattle.fraction.specs.declared.numbers.Fraction.{Fraction}
+use Rattle.quotient_graph.specs.declared.split.Split.{Split}
+use Rattle.elimination.specs.declared.place.Place.{Place}
+use Rattle.barycentre.specs.declared.faults.WideSite.{WideSite}
+use Rattle.barycentre.specs.declared.faults.WideSite.TheVariants.{Denominator, ArcPart}
+use Rattle.least_key.specs.declared.refusal.Refusal.{Refusal}
+use Rattle.least_key.specs.declared.refusal.Refusal.TheVariants.{Disconnected, Degenerate, TooWide, WidePlacement, NoMemory}
+use Rattle.net_report.specs.Numbers.{list_text, fraction_text, IsNamed, vertex_text}
+
+unfoldable pub disconnected_word : List ℕ
+disconnected_word = codes "refused 1 Disconnected"
+
+unfoldable pub degenerate_word : List ℕ
+degenerate_word = codes "refused 2 Degenerate"
+
+unfoldable pub too_wide_word : List ℕ
+too_wide_word = codes "refused 3 TooWide"
+
+unfoldable pub wide_placement_word : List ℕ
+wide_placement_word = codes "refused 4 WidePlacement"
+
+-- a colouring: its modulus, its vector, and an entry for each vertex
+abbrev pub split_text : Split → List ℕ
+split_text s = codes " q=" ++ decimal s.q ++ codes " c=" ++ list_text (parts s.dim s.c) ++ codes " h=" ++ list_text s.h.items
+
+-- a number after its label
+abbrev pub field_text : List ℕ → ℕ → List ℕ
+field_text label n = label ++ decimal n
+
+-- the place of a listed number
+abbrev pub place_text : Place → List ℕ
+place_text at =
+    field_text (codes " part=") at.part ++ field_text (codes " k=") at.k ++ field_text (codes " i=") at.i ++ field_text (codes " j=") at.j ++ field_text (codes " c=") at.c
+
+-- the operands of a listed number
+abbrev pub operands_text : Wide Fraction → List ℕ
+operands_text w = codes " left=" ++ fraction_text w.left ++ codes " right=" ++ fraction_text w.right
+
+-- where a number of a placement in this dimension stands
+abbrev pub site_text : List (List ℕ) → ℕ → WideSite → List ℕ
+site_text names dim (Denominator u c) = codes " denominator u=" ++ vertex_text names u ++ codes " c=" ++ decimal c
+site_text names dim (ArcPart u v s c) = codes " arc u=" ++ vertex_text names u ++ codes " v=" ++ vertex_text names v ++ codes " s=" ++ list_text (parts dim s) ++ codes " c=" ++ decimal c
+
+-- a refusal; want of memory has no text
+abbrev pub refusal_text : List (List ℕ) → Refusal → List ℕ
+refusal_text names (Disconnected split) = disconnected_word ++ split_text split
+refusal_text names (Degenerate split) = degenerate_word ++ split_text split
+refusal_text names (TooWide at wide) = too_wide_word ++ place_text at ++ operands_text wide
+refusal_text names (WidePlacement w) = wide_placement_word ++ site_text names w.dim w.site ++ codes " value=" ++ signed_decimal w.value
+refusal_text names NoMemory = []
+
+-- the line of a refusal
+abbrev pub refused_text : List (List ℕ) → Refusal → List ℕ
+refused_text names refusal = refusal_text names refusal ++ codes "\n"
+
+-- where there are names, each vertex that is shown has one
+abbrev pub AreNamed : List (List ℕ) → WideSite → Type 0
+AreNamed names (Denominator u c) = IsNamed names u
+AreNamed names (ArcPart u v s c) = IsNamed names u × IsNamed names v
+
+-- the refusal has a line with these names
+abbrev pub HasLine : List (List ℕ) → Refusal → Type 0
+HasLine names (Disconnected split) = Unit {0}
+HasLine names (Degenerate split) = Unit {0}
+HasLine names (TooWide at wide) = Unit {0}
+HasLine names (WidePlacement w) = AreNamed names w.site
+HasLine names NoMemory = ⊥

@@ -1,0 +1,108 @@
+// The lines that a block's text begins with, and the line of its fault.
+ghost use Rattle.std.specs.Prelude.{◌≡◌, ◌++◌, OnOk, option_copied};
+ghost use Rattle.net_report.specs.Headers.{name_text, header_text, size_text, unsupported_word, unsupported_text, kind_text, fault_text};
+ghost use Rattle.net_report.specs.KindNames.{kind_name};
+
+use crate::numbers::push_number;
+use crate::{NoMemory, Size};
+use cgd_read::{BlockFault, BlockFaultKind};
+
+fn push_name(text: &mut Vec<u8>, name: Option<&[u8]>) -> Result<(), NoMemory>
+    ensures { OnOk result (text.new.items ≡ text.old.items ++ name_text (option_copied name.entry)) }
+{
+    if let Some(name) = name {
+        text.extend_from_slice(b" \"")?;
+        text.extend_from_slice(name)?;
+        text.extend_from_slice(b"\"")?;
+    }
+    Ok(())
+}
+
+/// The line that begins the text of a block.
+pub fn push_header(
+    text: &mut Vec<u8>,
+    number: u32,
+    line: u32,
+    name: Option<&[u8]>,
+) -> Result<(), NoMemory>
+    ensures { OnOk result (text.new.items ≡ text.old.items ++ header_text number line (option_copied name.entry)) }
+{
+    text.extend_from_slice(b"net ")?;
+    push_number(text, number as u64)?;
+    text.extend_from_slice(b" line ")?;
+    push_number(text, line as u64)?;
+    push_name(text, name)?;
+    text.extend_from_slice(b"\n")?;
+    Ok(())
+}
+
+/// The sizes of a graph.
+pub fn push_size(text: &mut Vec<u8>, size: Size) -> Result<(), NoMemory>
+    ensures { OnOk result (text.new.items ≡ text.old.items ++ size_text size) }
+{
+    text.extend_from_slice(b"graph d=")?;
+    push_number(text, size.dim as u64)?;
+    text.extend_from_slice(b" vertices=")?;
+    push_number(text, size.vertices as u64)?;
+    text.extend_from_slice(b" edges=")?;
+    push_number(text, size.edges as u64)?;
+    text.extend_from_slice(b" repeats=")?;
+    push_number(text, size.repeats as u64)?;
+    text.extend_from_slice(b"\n")?;
+    Ok(())
+}
+
+#[tactic(auto, unfolding(crate::specs::Headers::unsupported_word))]
+fn push_unsupported_word(text: &mut Vec<u8>) -> Result<(), NoMemory>
+    ensures { OnOk result (text.new.items ≡ text.old.items ++ unsupported_word) }
+{
+    text.extend_from_slice(b"unsupported ")
+}
+
+/// The line of a block that is no graph block.
+pub fn push_unsupported(text: &mut Vec<u8>, token: &[u8]) -> Result<(), NoMemory>
+    ensures { OnOk result (text.new.items ≡ text.old.items ++ unsupported_text token.now) }
+{
+    push_unsupported_word(text)?;
+    text.extend_from_slice(token)?;
+    text.extend_from_slice(b"\n")
+}
+
+fn kind_name(kind: BlockFaultKind) -> &'static [u8]
+    ensures { result.now ≡ kind_name kind }
+{
+    match kind {
+        BlockFaultKind::BadToken => b"BadToken",
+        BlockFaultKind::RowLength => b"RowLength",
+        BlockFaultKind::MixedDimension => b"MixedDimension",
+        BlockFaultKind::UnknownField => b"UnknownField",
+        BlockFaultKind::NoEdges => b"NoEdges",
+        BlockFaultKind::SelfEdge => b"SelfEdge",
+        BlockFaultKind::ShiftRange => b"ShiftRange",
+        BlockFaultKind::TooManyVertices => b"TooManyVertices",
+        BlockFaultKind::TooManyEdges => b"TooManyEdges",
+        BlockFaultKind::NameTooLong => b"NameTooLong",
+        BlockFaultKind::NoEnd => b"NoEnd",
+        BlockFaultKind::TwoNames => b"TwoNames",
+    }
+}
+
+// The number and the name of a kind of faults.
+fn push_kind(text: &mut Vec<u8>, kind: BlockFaultKind) -> Result<(), NoMemory>
+    ensures { OnOk result (text.new.items ≡ text.old.items ++ kind_text kind) }
+{
+    push_number(text, kind.number() as u64)?;
+    text.extend_from_slice(b" ")?;
+    text.extend_from_slice(kind_name(kind))
+}
+
+/// The line of the first fault of a graph block.
+pub fn push_fault(text: &mut Vec<u8>, fault: BlockFault) -> Result<(), NoMemory>
+    ensures { OnOk result (text.new.items ≡ text.old.items ++ fault_text fault) }
+{
+    text.extend_from_slice(b"malformed line=")?;
+    push_number(text, fault.line as u64)?;
+    text.extend_from_slice(b" ")?;
+    push_kind(text, fault.kind)?;
+    text.extend_from_slice(b"\n")
+}

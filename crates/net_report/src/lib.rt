@@ -1,0 +1,16 @@
+//! The texts that are printed of the blocks of a file.
+#![tactic(auto)]
+
+mod headers;
+mod numbers;
+mod outcome;
+mod outcomes;
+mod placements;
+mod refused;
+mod texts;
+
+pub use outcome::{AnyPlaced, Outcome, OutcomeBody, Size};
+pub use outcomes::Outcomes;
+pub use refused::refused_line;
+pub use std::alloc::AllocError as NoMemory;
+pub use texts::report;

@@ -1,0 +1,95 @@
+// Numbers, lists of numbers, fractions and vertices.
+ghost use Rattle.std.specs.Prelude.{◌≡◌, [], ◌∷◌, ◌++◌, OnOk};
+ghost use Rattle.std.specs.Fmt.{decimal, signed_decimal};
+ghost use Rattle.integers.specs.Vectors.{parts};
+ghost use Rattle.net_report.specs.Numbers.{numbers_after, list_text, fraction_text, IsNamed, vertex_text};
+
+use crate::NoMemory;
+use cgd_read::Names;
+use fraction::Fraction;
+use itoa::Buffer;
+use vecdim::Triple;
+
+pub fn push_number(text: &mut Vec<u8>, n: u64) -> Result<(), NoMemory>
+    ensures { OnOk result (text.new.items ≡ text.old.items ++ decimal n) }
+{
+    let mut buffer = Buffer::new();
+    text.extend_from_slice(buffer.format(n).as_bytes())
+}
+
+pub fn push_signed(text: &mut Vec<u8>, n: i128) -> Result<(), NoMemory>
+    ensures { OnOk result (text.new.items ≡ text.old.items ++ signed_decimal n) }
+{
+    let mut buffer = Buffer::new();
+    text.extend_from_slice(buffer.format(n).as_bytes())
+}
+
+// The numbers, each after a blank.
+fn push_numbers_after(text: &mut Vec<u8>, numbers: &[i64]) -> Result<(), NoMemory>
+    ensures { OnOk result (text.new.items ≡ text.old.items ++ numbers_after numbers.now) }
+{
+    let mut left = numbers;
+    while let [x, others @ ..] = left {
+        text.extend_from_slice(b" ")?;
+        push_signed(text, *x as i128)?;
+        left = others;
+    }
+    Ok(())
+}
+
+pub fn push_list(text: &mut Vec<u8>, numbers: &[i64]) -> Result<(), NoMemory>
+    ensures { OnOk result (text.new.items ≡ text.old.items ++ list_text numbers.now) }
+{
+    match numbers {
+        [] => Ok(()),
+        [x, others @ ..] => {
+            push_signed(text, *x as i128)?;
+            push_numbers_after(text, others)
+        }
+    }
+}
+
+fn push_after(text: &mut Vec<u8>, n: i128) -> Result<(), NoMemory>
+    ensures { OnOk result (text.new.items ≡ text.old.items ++ numbers_after (n ∷ [])) }
+{
+    text.extend_from_slice(b" ")?;
+    push_signed(text, n)
+}
+
+fn push_two(text: &mut Vec<u8>, x: i128, y: i128) -> Result<(), NoMemory>
+    ensures { OnOk result (text.new.items ≡ text.old.items ++ list_text (x ∷ y ∷ [])) }
+{
+    push_signed(text, x)?;
+    push_after(text, y)
+}
+
+/// The parts of a vector of this dimension.
+pub fn push_parts(text: &mut Vec<u8>, dim: u8, vector: &Triple) -> Result<(), NoMemory>
+    ensures { OnOk result (text.new.items ≡ text.old.items ++ list_text (parts dim vector.now)) }
+{
+    push_two(text, vector.x, vector.y)?;
+    if dim == 2 {
+        return Ok(());
+    }
+    push_after(text, vector.z)
+}
+
+pub fn push_fraction(text: &mut Vec<u8>, fraction: &Fraction) -> Result<(), NoMemory>
+    ensures { OnOk result (text.new.items ≡ text.old.items ++ fraction_text fraction.now) }
+{
+    push_signed(text, fraction.num() as i128)?;
+    text.extend_from_slice(b"/")?;
+    push_signed(text, fraction.den() as i128)
+}
+
+/// The name of a vertex, or its number where there are no names.
+pub fn push_vertex(text: &mut Vec<u8>, names: &Names<'_>, u: u32) -> Result<(), NoMemory>
+    requires { IsNamed names.now u }
+    ensures { OnOk result (text.new.items ≡ text.old.items ++ vertex_text names.now u) }
+{
+    if names.len() == 0 {
+        push_number(text, u as u64)
+    } else {
+        text.extend_from_slice(names.at(u as usize - 1))
+    }
+}

@@ -1,0 +1,44 @@
+// What becomes of a block.
+use cgd_read::{BlockFault, Names};
+use least_key::Refusal;
+use quotient_graph::Placed;
+
+/// The sizes of a graph that was read; `repeats` counts the rows of an edge after its first.
+#[derive(Clone, Copy, Debug, PartialEq, Eq)]
+pub struct Size {
+    pub dim: u8,
+    pub vertices: u32,
+    pub edges: u32,
+    pub repeats: u32,
+}
+
+/// A graph of dimension 2 or 3 with its normal placement.
+#[derive(Drop)]
+pub enum AnyPlaced {
+    Flat(Placed<2>),
+    Space(Placed<3>),
+}
+
+/// What is told of a block, after its header. The names are those of the graph's vertices.
+#[derive(Drop)]
+pub enum OutcomeBody<'a> {
+    /// The token that opens a block which is no graph block.
+    Unsupported(&'a [u8]),
+    /// The first fault of a graph block.
+    Malformed(BlockFault),
+    /// The graph is refused.
+    Refused(Size, Names<'a>, Refusal),
+    /// The net is connected.
+    Checked(Size),
+    /// The net is connected and placed.
+    Located(Size, Names<'a>, AnyPlaced),
+}
+
+/// What is told of a block: its number, the line that opens it, and its name.
+#[derive(Drop)]
+pub struct Outcome<'a> {
+    pub number: u32,
+    pub line: u32,
+    pub name: Option<&'a [u8]>,
+    pub body: OutcomeBody<'a>,
+}

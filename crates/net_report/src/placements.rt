@@ -1,0 +1,96 @@
+// The lines of a placement.
+ghost use Rattle.std.specs.Prelude.{◌≡◌, ◌++◌, OnOk, length};
+ghost use Rattle.periodic_net.specs.Graph.{IsQuotientVertex};
+ghost use Rattle.net_report.specs.Placements.{placed_in, position_text, positions_text, placement_word, denominator_text, placement_text};
+
+use crate::numbers::{push_parts, push_signed, push_vertex};
+use crate::{AnyPlaced, NoMemory};
+use cgd_read::Names;
+use quotient_graph::Placed;
+use vecdim::{Triple, Vect};
+
+fn triple_of<const D: usize>(vector: Vect<D>) -> Triple
+    ensures { result ≡ vector.entry }
+{
+    Triple {
+        x: vector.x,
+        y: vector.y,
+        z: vector.z,
+    }
+}
+
+// Where a vertex stands.
+fn push_position<const D: usize>(
+    text: &mut Vec<u8>,
+    names: &Names<'_>,
+    placed: &Placed<D>,
+    u: u32,
+) -> Result<(), NoMemory>
+    requires vertex { IsQuotientVertex placed.now.graph u }
+    requires names { length names.now ≡ placed.now.graph.vertices }
+    ensures { OnOk result (text.new.items ≡ text.old.items ++ position_text names.now placed.now u) }
+{
+    text.extend_from_slice(b"at ")?;
+    push_vertex(text, names, u)?;
+    text.extend_from_slice(b" ")?;
+    push_parts(text, placed.graph().dimension(), &triple_of(placed.at(u)))?;
+    text.extend_from_slice(b"\n")
+}
+
+// Where each vertex stands.
+fn push_positions<const D: usize>(
+    text: &mut Vec<u8>,
+    names: &Names<'_>,
+    placed: &Placed<D>,
+) -> Result<(), NoMemory>
+    requires { length names.now ≡ placed.now.graph.vertices }
+    ensures { OnOk result (text.new.items ≡ text.old.items ++ positions_text names.now placed.now placed.now.graph.vertices) }
+{
+    for i in 0..placed.graph().vertices() {
+        push_position(text, names, placed, i + 1)?;
+    }
+    Ok(())
+}
+
+#[tactic(auto, unfolding(crate::specs::Placements::placement_word))]
+fn push_placement_word(text: &mut Vec<u8>) -> Result<(), NoMemory>
+    ensures { OnOk result (text.new.items ≡ text.old.items ++ placement_word) }
+{
+    text.extend_from_slice(b"placement D0=")
+}
+
+// The common denominator of the positions.
+fn push_denominator(text: &mut Vec<u8>, d0: i128) -> Result<(), NoMemory>
+    ensures { OnOk result (text.new.items ≡ text.old.items ++ denominator_text d0) }
+{
+    push_placement_word(text)?;
+    push_signed(text, d0)?;
+    text.extend_from_slice(b"\n")
+}
+
+fn push_placed<const D: usize>(
+    text: &mut Vec<u8>,
+    names: &Names<'_>,
+    placed: &Placed<D>,
+) -> Result<(), NoMemory>
+    requires { length names.now ≡ placed.now.graph.vertices }
+    ensures { OnOk result (text.new.items ≡ text.old.items ++ placement_text names.now placed.now) }
+{
+    push_denominator(text, placed.d0())?;
+    push_positions(text, names, placed)
+}
+
+/// The lines of a placement in either dimension.
+pub fn push_placement(
+    text: &mut Vec<u8>,
+    names: &Names<'_>,
+    placed: &AnyPlaced,
+) -> Result<(), NoMemory>
+    requires { length names.now ≡ (placed_in placed.now).graph.vertices }
+    ensures { OnOk result (text.new.items ≡ text.old.items ++ placement_text names.now (placed_in placed.now)) }
+{
+    match placed {
+        AnyPlaced::Flat(placed) => push_placed(text, names, placed),
+        AnyPlaced::Space(placed) => push_placed(text, names, placed),
+    }
+}

@@ -1,0 +1,49 @@
+-- The list of outcomes grows by that of the next block.
+use Rattle.std.proofs.Common.{◌≡◌, ℕ, ◌+◌, ◌<◌, Bool, true, false, ◌&&◌, Some, List, [], ◌∷◌, ◌++◌, length, take, get_or, All, sym, ap, subst, ◌∙◌, arith, add-one}
+use Rattle.std.specs.List.{list_all, slice_get}
+use Rattle.std.proofs.lemmas.Grind.{common_steps}
+use Rattle.std.proofs.lemmas.List.Folds.{list_all_at, list_all_more}
+use Rattle.std.proofs.lemmas.Option.{get_or_from_slice_get}
+use Rattle.std.proofs.lemmas.List.Elements.{All-append, All-cons, All-nil}
+use Rattle.std.proofs.Math.Seq.{take-suc}
+use Rattle.cgd_read.specs.BlockViews.{BlockView}
+use Rattle.net_report.specs.Reports.{IsPrintable}
+use Rattle.net_report.specs.declared.outcome.Outcome.{Outcome}
+use Rattle.net_tool.specs.Outcomes.{IsOutcomeOf, AreOutcomesFrom, is_accepted}
+use Rattle.net_tool.specs.declared.words.Command.{Command}
+
+outcomes_last : (command : Command) (n : ℕ) (bs : List BlockView) (os : List Outcome) (b : BlockView) (o : Outcome) → AreOutcomesFrom command n bs os → IsOutcomeOf command (n + length bs) b o
+    → AreOutcomesFrom command n (bs ++ b ∷ []) (os ++ o ∷ [])
+outcomes_last command n [] [] b o h k = (subst (λ m. IsOutcomeOf command m b o) (omega arith) k, tt)
+outcomes_last command n [] (x ∷ os) b o h k = absurd h
+outcomes_last command n (c ∷ bs) [] b o h k = absurd h
+outcomes_last command n (c ∷ bs) (x ∷ os) b o h k =
+    let further : n + length (c ∷ bs) ≡ (n + 1) + length bs = grind (arith, common_steps) in
+    (h.0, outcomes_last command (n + 1) bs os b o h.1 (subst (λ m. IsOutcomeOf command m b o) further k))
+
+-- the outcomes of the first i blocks
+pub record AreOutcomesOn (command : Command) (bs : List BlockView) (i number : ℕ) (os : List Outcome) : Type 0 where
+  pub outcomes : AreOutcomesFrom command 1 (take i bs) os
+  pub number_is : number ≡ i + 1
+  pub printable : All IsPrintable os
+
+pub outcomes_more : (command : Command) (bs : List BlockView) (i number : ℕ) (os : List Outcome) (b : BlockView) (o : Outcome) → i < length bs → get_or bs i b ≡ b → AreOutcomesOn command bs i number os
+    → IsOutcomeOf command number b o → IsPrintable o → AreOutcomesOn command bs (i + 1) (number + 1) (os ++ o ∷ [])
+outcomes_more command bs i number os b o l is h k p =
+    let longer : take (i + 1) bs ≡ take i bs ++ b ∷ [] = ap (λ (n : ℕ). take n bs) (add-one i) ∙ take-suc bs i b l ∙ ap (λ (x : BlockView). take i bs ++ x ∷ []) is in
+    let count : length (take i bs) ≡ i = grind (arith, common_steps) in
+    let place : number ≡ 1 + length (take i bs) = let n = h.number_is in omega arith in
+    record {
+      outcomes = subst (λ cs. AreOutcomesFrom command 1 cs (os ++ o ∷ [])) (sym longer) (outcomes_last command 1 (take i bs) os b o h.outcomes (subst (λ m. IsOutcomeOf command m b o) place k));
+      number_is = let n = h.number_is in omega arith;
+      printable = All-append IsPrintable os (o ∷ []) h.printable (All-cons IsPrintable o [] p (All-nil IsPrintable));
+    }
+
+-- the first i outcomes are accepted, and so is the next one
+pub accepted_more : (os : List Outcome) (i : ℕ) (o : Outcome) → i < length os → slice_get os i ≡ Some o → is_accepted o ≡ true → list_all is_accepted (take i os) ≡ true → list_all is_accepted (take (i + 1) os) ≡ true
+accepted_more os i o l is this h =
+    list_all_more is_accepted os i o l ∙ ap (λ (t : Bool). t && is_accepted (get_or os i o)) h ∙ ap is_accepted (get_or_from_slice_get os i o o is) ∙ this
+
+-- one that is not accepted is enough
+pub one_refused : (os : List Outcome) (i : ℕ) (o : Outcome) → i < length os → slice_get os i ≡ Some o → is_accepted o ≡ false → list_all is_accepted os ≡ false
+one_refused os i o l is refused = list_all_at is_accepted os i o l (ap is_accepted (get_or_from_slice_get os i o o is) ∙ refused)

@@ -1,0 +1,79 @@
+-- What is told of a block can be printed.
+use Rattle.std.proofs.Common.{ℕ, ℤ, ◌≤◌, List, length, sym, ap, subst, ◌∙◌}
+use Rattle.std.proofs.lemmas.List.Sorted.{IsPermutation-sym}
+use Rattle.periodic_net.specs.Graph.{Graph, arc, IsGraph, IsQuotientVertex}
+use Rattle.periodic_net.specs.Placement.{Placement}
+use Rattle.periodic_net.proofs.Arcs.{arc_inside}
+use Rattle.cgd_read.specs.BlockViews.{RawView, Net, raw_view, body_view, IsReadBody}
+use Rattle.cgd_read.specs.declared.block.Body.{Body}
+use Rattle.cgd_read.specs.declared.block.Body.TheVariants as read
+use Rattle.quotient_graph.specs.Stars.{IsInOrder}
+use Rattle.barycentre.specs.WidePlacements.{IsWideAt}
+use Rattle.barycentre.specs.declared.faults.WideSite.{WideSite}
+use Rattle.barycentre.specs.declared.faults.WideSite.TheVariants.{Denominator, ArcPart}
+use Rattle.least_key.specs.declared.refusal.Refusal.{Refusal}
+use Rattle.least_key.specs.declared.refusal.Refusal.TheVariants.{Disconnected, Degenerate, TooWide, WidePlacement, NoMemory}
+use Rattle.net_report.specs.Numbers.{IsNamed}
+use Rattle.net_report.specs.Refusals.{AreNamed, HasLine}
+use Rattle.net_report.specs.Reports.{IsPrintableBody}
+use Rattle.net_report.specs.declared.outcome.OutcomeBody.{OutcomeBody}
+use Rattle.net_report.specs.declared.outcome.OutcomeBody.TheVariants.{Unsupported, Malformed, Refused, Checked, Located}
+use Rattle.net_tool.specs.Nets.{IsUnconnected, IsUnplaced}
+use Rattle.net_tool.specs.Outcomes.{net_graph, IsBodyOf}
+use Rattle.net_tool.specs.declared.words.Command.{Command}
+use Rattle.net_tool.specs.declared.words.Command.TheVariants.{Check, Place}
+use Rattle.net_tool.proofs.Reordered.{same_arc}
+
+-- a vertex of the graph in order has a name
+named_vertex : (raw : RawView) (H : Graph) (u : ℕ) → IsInOrder (net_graph raw) H → IsQuotientVertex H u → IsNamed raw.names u
+named_vertex raw H u o v = λ some. (v.0, subst (λ n. u ≤ n) o.vertices v.1)
+
+-- the vertices of a site have names
+named_site : (raw : RawView) (H : Graph) (p : Placement) (site : WideSite) (value : ℤ) → IsGraph (net_graph raw) → IsInOrder (net_graph raw) H → IsWideAt H p site value → AreNamed raw.names site
+named_site raw H p (Denominator u c) value g o h = named_vertex raw H u o h.2.vertex
+named_site raw H p (ArcPart u v s c) value g o h =
+    let G = net_graph raw in
+    let inside = arc_inside G g (arc u v s) (same_arc H G (IsPermutation-sym G.edges H.edges o.edges) (arc u v s) h.is_arc) in
+    (λ some. inside.from, λ some. inside.to)
+
+unconnected_line : (names : List (List ℕ)) (G : Graph) (refusal : Refusal) → IsUnconnected G refusal → HasLine names refusal
+unconnected_line names G (Disconnected split) h = tt
+unconnected_line names G (Degenerate split) h = tt
+unconnected_line names G (TooWide at wide) h = tt
+unconnected_line names G (WidePlacement w) h = absurd h
+unconnected_line names G NoMemory h = h
+
+unplaced_line : (raw : RawView) (H : Graph) (refusal : Refusal) → IsGraph (net_graph raw) → IsInOrder (net_graph raw) H → IsUnplaced (net_graph raw) H refusal → HasLine raw.names refusal
+unplaced_line raw H (Disconnected split) g o h = tt
+unplaced_line raw H (Degenerate split) g o h = tt
+unplaced_line raw H (TooWide at wide) g o h = tt
+unplaced_line raw H (WidePlacement w) g o h = named_site raw H h.1.placement w.site w.value g o h.1.wide
+unplaced_line raw H NoMemory g o h = h
+
+-- what a command tells of a net can be printed
+told_of_net : (command : Command) (raw : RawView) (told : OutcomeBody) → IsGraph (net_graph raw) → IsBodyOf command (Net raw) told → IsPrintableBody told
+told_of_net command raw (Unsupported token) g h = tt
+told_of_net command raw (Malformed fault) g h = tt
+told_of_net command raw (Checked size) g h = tt
+told_of_net Check raw (Refused size names refusal) g h = unconnected_line names (net_graph raw) refusal h.2
+told_of_net Place raw (Refused size names refusal) g h = subst (λ ns. HasLine ns refusal) (sym h.1) (unplaced_line raw h.2 refusal g h.3 h.4)
+told_of_net Check raw (Located size names placed) g h = absurd h
+told_of_net Place raw (Located size names placed) g h = ap length h.1 ∙ sym (ap (λ (G : Graph). G.vertices) h.4.graph ∙ h.3.vertices)
+
+-- and so can what it tells of any block
+pub told_of_block : (command : Command) (body : Body) (told : OutcomeBody) → IsReadBody body → IsBodyOf command (body_view body) told → IsPrintableBody told
+told_of_block command (read.Graph raw) told g h = told_of_net command (raw_view raw) told g.is_graph h
+told_of_block command (read.Unsupported token) (Unsupported text) g h = tt
+told_of_block command (read.Unsupported token) (Malformed fault) g h = tt
+told_of_block command (read.Unsupported token) (Checked size) g h = tt
+told_of_block Check (read.Unsupported token) (Refused size names refusal) g h = absurd h
+told_of_block Place (read.Unsupported token) (Refused size names refusal) g h = absurd h
+told_of_block Check (read.Unsupported token) (Located size names placed) g h = absurd h
+told_of_block Place (read.Unsupported token) (Located size names placed) g h = absurd h
+told_of_block command (read.Malformed fault) (Unsupported text) g h = tt
+told_of_block command (read.Malformed fault) (Malformed told) g h = tt
+told_of_block command (read.Malformed fault) (Checked size) g h = tt
+told_of_block Check (read.Malformed fault) (Refused size names refusal) g h = absurd h
+told_of_block Place (read.Malformed fault) (Refused size names refusal) g h = absurd h
+told_of_block Check (read.Malformed fault) (Located size names placed) g h = absurd h
+told_of_block Place (read.Malformed fault) (Located size names placed) g h = absurd h
