@@ -5,7 +5,7 @@ use Rattle.std.specs.Int.{◌∣◌}
 use Rattle.integers.specs.Vectors.{Vector, zero_vector, HasDimension, IsWithin}
 use Rattle.std.specs.List.{All}
 use Rattle.periodic_net.specs.Graph.{Graph, IsGraph, IsConnected, IsQuotientVertex}
-use Rattle.cgd_read.specs.Graphs.{IsSmall}
+use Rattle.periodic_net.specs.Limits.{IsSmall}
 use Rattle.periodic_net.specs.Placement.{base, IsNormalPlacement, IsWithinLimits}
 use Rattle.quotient_graph.specs.PlacedNets.{placement_of}
 use Rattle.exact.specs.Ratio.{Ratio}

@@ -8,7 +8,8 @@ use Rattle.periodic_net.specs.Graph.{Graph, IsEdge, IsGraph}
 use Rattle.cgd_read.specs.Lines.{FieldsView, LineView}
 use Rattle.cgd_read.specs.Edges.{vertices_of, edges_of, first_size, has_rows}
 use Rattle.cgd_read.specs.Faults.{has_row, rows_of}
-use Rattle.cgd_read.specs.Graphs.{edge_of, IsSmall, IsReadGraph}
+use Rattle.cgd_read.specs.Graphs.{edge_of, IsReadGraph}
+use Rattle.periodic_net.specs.Limits.{IsSmall}
 use Rattle.cgd_read.specs.BlockViews.{RawView, raw_view, net_of}
 use Rattle.cgd_read.specs.declared.block.RawEdge.{RawEdge}
 use Rattle.cgd_read.specs.declared.block.RawGraph.{RawGraph}

@@ -9,7 +9,7 @@ use Rattle.periodic_net.proofs.Walks.{reached_transitive, reached_by_arc}
 use Rattle.connected_dim.specs.Search.{IsSearch, Grows}
 
 -- a walk to u and an arc from u make a walk to its head
-pub walk_further : (G : Graph) (u v : ℕ) (T s : Vector) → WalkShift G u T → IsArc G (arc u v s) → WalkShift G v (plus T s)
+pub walk_further : (G : Graph) (u v : ℕ) (T s : Vector) → WalkShift G 1 u T → IsArc G (arc u v s) → WalkShift G 1 v (plus T s)
 walk_further G u v T s h a =
     let back : minus (plus T s) T ≡ s = vector_equal (omega (arith, ints)) (omega (arith, ints)) (omega (arith, ints)) in
     reached_transitive G (vertex 1 zero_vector) (vertex u T) (vertex v (plus T s)) h (reached_by_arc G (vertex u T) (vertex v (plus T s)) (subst (λ t. IsArc G (arc u v t)) (sym back) a))

@@ -53,14 +53,14 @@ at_last : (order : List ℕ) (u : ℕ) → get_or (order ++ u ∷ []) (length or
 at_last order u = get_or-append_seam order u [] 0
 
 -- a vertex that was not found before, to which a walk leads
-module _ (G : Graph) (found : List (Option Vector)) (order : List ℕ) (u : ℕ) (T : Vector) (h : IsSearch G found order) (v : IsQuotientVertex G u) (new : walk_to found u ≡ None) (walk : WalkShift G u T)
+module _ (G : Graph) (found : List (Option Vector)) (order : List ℕ) (u : ℕ) (T : Vector) (h : IsSearch G found order) (v : IsQuotientVertex G u) (new : walk_to found u ≡ None) (walk : WalkShift G 1 u T)
     (near : IsWithin (500 * length order) T) where
   inside : u ≤ length found
   inside = let c = h.count in let a = v.1 in omega arith
 
-  walks : (w : ℕ) (S : Vector) → 1 ≤ w → walk_to (set found (u - 1) (Some T)) w ≡ Some S → WalkShift G w S
+  walks : (w : ℕ) (S : Vector) → 1 ≤ w → walk_to (set found (u - 1) (Some T)) w ≡ Some S → WalkShift G 1 w S
   walks w S low e = elim (same_or_not w u) [
-    | inl s ↦ subst (λ x. WalkShift G x S) (sym s) (subst (WalkShift G u) (one_value _ T S (set_there found u T v.0 inside) (subst (λ x. walk_to (set found (u - 1) (Some T)) x ≡ Some S) s e)) walk)
+    | inl s ↦ subst (λ x. WalkShift G 1 x S) (sym s) (subst (WalkShift G 1 u) (one_value _ T S (set_there found u T v.0 inside) (subst (λ x. walk_to (set found (u - 1) (Some T)) x ≡ Some S) s e)) walk)
     | inr n ↦ h.walks w S low (sym (set_elsewhere found u w T v.0 low n) ∙ e)
   ]
 

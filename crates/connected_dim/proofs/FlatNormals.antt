@@ -6,7 +6,8 @@ use Rattle.integers.proofs.Ring.{ring, linear, other_factor_zero, zero_or_not, f
 use Rattle.integers.proofs.Vectors.{vector_equal}
 use Rattle.integers.proofs.Filters.{all_at}
 use Rattle.periodic_net.specs.Split.{EndsBy}
-use Rattle.connected_dim.specs.Flat.{cross, IsReduction, IsOrthogonalTo, IsFlatNormal}
+use Rattle.connected_dim.specs.Flat.{IsReduction, IsOrthogonalTo, IsFlatNormal}
+use Rattle.integers.specs.Vectors.{cross}
 use Rattle.connected_dim.proofs.Directions.{ends_by_zero, ends_by_one, ends_by_two}
 use Rattle.connected_dim.proofs.Reductions.{unit}
 

@@ -43,12 +43,12 @@ edge_in (f ∷ es) e (inl h) = inl h
 edge_in (f ∷ es) e (inr h) = inr (inr (edge_in es e h))
 
 -- the generators are closed walks
-pub generators_closed : (G : Graph) (tree : List Vector) → IsGraph G → AreTree G tree → All (ClosedShift G) (generators G tree)
+pub generators_closed : (G : Graph) (tree : List Vector) → IsGraph G → AreTree G tree → All (ClosedShift G 1) (generators G tree)
 generators_closed G tree g t =
-    All-from_recursion (ClosedShift G) (generators G tree)
+    All-from_recursion (ClosedShift G 1) (generators G tree)
     (of_edges G.edges (λ e i. contains_from_in (arcs G) e (edge_in G.edges e i)) (recursion_from_All (IsEdge G) G.edges g.edges))
   where
-    of_edges : (es : List Arc) → ((e : Arc) → IsIn es e → IsArc G e) → AllByRecursion (IsEdge G) es → AllByRecursion (ClosedShift G) (map (generator_of tree) es)
+    of_edges : (es : List Arc) → ((e : Arc) → IsIn es e → IsArc G e) → AllByRecursion (IsEdge G) es → AllByRecursion (ClosedShift G 1) (map (generator_of tree) es)
     of_edges [] within h = tt
     of_edges (e ∷ es) within h = (
       generator_closed G (shift_at tree) (is_tree G tree g t) e h.0.from h.0.to (within e (inl refl)),
@@ -56,7 +56,7 @@ generators_closed G tree g t =
     )
 
 -- two walks to one vertex differ by a closed walk
-pub closed_difference : (G : Graph) (u : ℕ) (S T : Vector) → WalkShift G u S → WalkShift G u T → ClosedShift G (minus S T)
+pub closed_difference : (G : Graph) (u : ℕ) (S T : Vector) → WalkShift G 1 u S → WalkShift G 1 u T → ClosedShift G 1 (minus S T)
 closed_difference G u S T s t =
     let one = vertex 1 zero_vector in
     let back = reached_moved G (vertex u T) one (minus S T) (reached_turned G one (vertex u T) t) in

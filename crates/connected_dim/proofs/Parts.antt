@@ -27,7 +27,7 @@ first_found : (G : Graph) (found : List (Option Vector)) → AreWalks G found �
 first_found G found h = subst IsSome (sym h.first) (search rules)
 
 -- each vertex that some walk leads to was found
-pub all_walks : (G : Graph) (found : List (Option Vector)) → IsGraph G → AreWalks G found → (u : ℕ) → IsFound G u → IsSome (walk_to found u)
+pub all_walks : (G : Graph) (found : List (Option Vector)) → IsGraph G → AreWalks G found → (u : ℕ) → IsFound G 1 u → IsSome (walk_to found u)
 all_walks G found g h u f = let w = f.1 in walk_found G found g h w.0 (vertex 1 zero_vector) (vertex u f.0) (omega arith) (first_found G found h) w.1
 
 entry_is : (found : List (Option Vector)) (k : ℕ) → k < length found → get_or (map part_colour found) k (pos 0) ≡ part_colour (get_or found k None)

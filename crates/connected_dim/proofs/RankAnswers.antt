@@ -4,7 +4,8 @@ use Rattle.integers.specs.Vectors.{Vector, vector, zero_vector, dot, IsWithin}
 use Rattle.integers.proofs.Ring.{ring, linear}
 use Rattle.integers.proofs.Vectors.{vector_equal}
 use Rattle.integers.proofs.Bounds.{bounded_dot}
-use Rattle.connected_dim.specs.Flat.{cross, IsFlatNormal, IsReduction}
+use Rattle.connected_dim.specs.Flat.{IsFlatNormal, IsReduction}
+use Rattle.integers.specs.Vectors.{cross}
 use Rattle.connected_dim.specs.Full.{IsVolume}
 use Rattle.connected_dim.proofs.FlatNormals.{axis, axis_normal, line_normal, plane_normal, no_first_part, none_first}
 

@@ -12,7 +12,7 @@ use Rattle.periodic_net.proofs.Walks.{reached_transitive, reached_itself, reache
 use Rattle.vecdim.specs.Stairs.{Stairs}
 use Rattle.vecdim.specs.Lattices.{Members}
 use Rattle.vecdim.proofs.Lattice.{in_pair}
-use Rattle.connected_dim.specs.Flat.{cross}
+use Rattle.integers.specs.Vectors.{cross}
 use Rattle.connected_dim.specs.Full.{IsVolume}
 use Rattle.connected_dim.specs.Generators.{AreTree, generators}
 use Rattle.connected_dim.specs.Sparse.{IsLatticeOf}
@@ -22,7 +22,7 @@ use Rattle.connected_dim.proofs.Lattices.{group_times, group_combination}
 use Rattle.connected_dim.proofs.Reductions.{sign_of}
 
 -- the closed walks are a group
-pub closed_group : (G : Graph) → IsGroup (ClosedShift G)
+pub closed_group : (G : Graph) → IsGroup (ClosedShift G 1)
 closed_group G = record {
   none = reached_itself G (vertex 1 zero_vector);
   sums = λ v w h k.
@@ -154,11 +154,11 @@ two_or_not d = grind arith
 
 -- the members are exactly the closed walks
 pub closed_members : (G : Graph) (tree : List Vector) (m : ℤ) (S : Stairs) → IsGraph G → AreTree G tree → IsVolume G.dimension (generators G tree) m → IsLatticeOf G.dimension m (generators G tree) S
-    → (v : Vector) → Members G.dimension S v → ClosedShift G v
+    → (v : Vector) → Members G.dimension S v → ClosedShift G 1 v
 closed_members G tree m S g t s l v i =
-    lattice_inside G.dimension (ClosedShift G) (closed_group G) (λ v c. walk_dimension G g 1 v c) (generators G tree) (generators_closed G tree g t) m S (two_or_not G.dimension) s l v i
+    lattice_inside G.dimension (ClosedShift G 1) (closed_group G) (λ v c. walk_dimension G g 1 v c) (generators G tree) (generators_closed G tree g t) m S (two_or_not G.dimension) s l v i
 
 -- and the other way
 pub members_closed : (G : Graph) (tree : List Vector) (m : ℤ) (S : Stairs) → IsGraph G → AreTree G tree → IsLatticeOf G.dimension m (generators G tree) S
-    → (v : Vector) → ClosedShift G v → Members G.dimension S v
+    → (v : Vector) → ClosedShift G 1 v → Members G.dimension S v
 members_closed G tree m S g t l v c = closed_in G tree (Members G.dimension S) g t (members_group G.dimension S) (added_members G.dimension m (generators G tree) S l) v c

@@ -75,7 +75,7 @@ plus_nothing : (z w : ℤ) → z ≡ w → z ≡ pos 0 +ℤ w
 plus_nothing z w e = omega (arith, ints, e)
 
 module _ (G : Graph) (tree : List Vector) (R : Stairs) (S : Split) (g : IsGraph G) (t : AreTree G tree) (two : 2 ≤ G.dimension)
-    (out : (v : Vector) → Members G.dimension R v → ClosedShift G v) (into : (v : Vector) → ClosedShift G v → Members G.dimension R v)
+    (out : (v : Vector) → Members G.dimension R v → ClosedShift G 1 v) (into : (v : Vector) → ClosedShift G 1 v → Members G.dimension R v)
     (basis : IsStaircase (Members G.dimension R) G.dimension (rows_of G.dimension R)) (reduced : IsReduced R) (flat : G.dimension ≡ 2 → HasFlatEnd R)
     (sh : S.h ≡ map (sparse_colour (pos S.q) S.c) tree) where
   -- the row at a place gives the pivot there
@@ -134,7 +134,7 @@ module _ (G : Graph) (tree : List Vector) (R : Stairs) (S : Split) (g : IsGraph 
         );
   }
     where
-      closed : (v : Vector) → ClosedShift G v → AreAlike S.q (dot S.c v) (pos 0)
+      closed : (v : Vector) → ClosedShift G 1 v → AreAlike S.q (dot S.c v) (pos 0)
       closed v k = let d = divides v (into v k).0 in (d.0, plus_nothing (dot S.c v) (pos S.q *ℤ d.0) d.1)
 
   -- the three places

@@ -12,7 +12,7 @@ use Rattle.periodic_net.proofs.SplitCases.{one_not_alike}
 use Rattle.connected_dim.proofs.Directions.{Start, start_of}
 
 -- a walk to a vertex, and on to a joined one
-further_walk : (G : Graph) (w x : Vertex) (T : Vector) → AreJoined G w x → WalkShift G w.over T → WalkShift G x.over (plus x.cell (minus T w.cell))
+further_walk : (G : Graph) (w x : Vertex) (T : Vector) → AreJoined G w x → WalkShift G 1 w.over T → WalkShift G 1 x.over (plus x.cell (minus T w.cell))
 further_walk G w x T h f =
     let k = minus T w.cell in
     let step = reached_by_arc G (moved w k) (moved x k) (subst (λ (t : Type 0). t) (sym (joined_moved G w x k)) h) in
@@ -26,8 +26,8 @@ same_colours : (q c1 c2 c3 t1 t2 t3 w1 w2 w3 x1 x2 x3 h g k l : ℤ)
 same_colours q c1 c2 c3 t1 t2 t3 w1 w2 w3 x1 x2 x3 h g k l e f = simp ring (omega (arith, linear, e, simp ring at f))
 
 -- where each vertex is found and has the entry -c·T modulo q, joined vertices have one colour
-joined_alike : (G : Graph) (S : Split) → ((u : ℕ) → IsQuotientVertex G u → IsFound G u)
-    → ((u : ℕ) (T : Vector) → IsQuotientVertex G u → WalkShift G u T → AreAlike S.q (entry S.h u) (neg_ℤ (dot S.c T)))
+joined_alike : (G : Graph) (S : Split) → ((u : ℕ) → IsQuotientVertex G u → IsFound G 1 u)
+    → ((u : ℕ) (T : Vector) → IsQuotientVertex G u → WalkShift G 1 u T → AreAlike S.q (entry S.h u) (neg_ℤ (dot S.c T)))
     → (w x : Vertex) → IsVertex G w → IsVertex G x → AreJoined G w x → AreAlike S.q (colour S w) (colour S x)
 joined_alike G S found h w x i j joined =
     let f = found w.over i.over in
@@ -44,8 +44,8 @@ shift_alike : (q c1 c2 c3 v1 v2 v3 h k : ℤ) → h +ℤ (c1 *ℤ pos 0 +ℤ c2 
 shift_alike q c1 c2 c3 v1 v2 v3 h k e = simp ring (omega (arith, linear, simp ring at e))
 
 -- a vector whose product with c is not 0 modulo q gives two colours
-split_by_vector : (G : Graph) (S : Split) → IsGraph G → ((u : ℕ) → IsQuotientVertex G u → IsFound G u)
-    → ((u : ℕ) (T : Vector) → IsQuotientVertex G u → WalkShift G u T → AreAlike S.q (entry S.h u) (neg_ℤ (dot S.c T)))
+split_by_vector : (G : Graph) (S : Split) → IsGraph G → ((u : ℕ) → IsQuotientVertex G u → IsFound G 1 u)
+    → ((u : ℕ) (T : Vector) → IsQuotientVertex G u → WalkShift G 1 u T → AreAlike S.q (entry S.h u) (neg_ℤ (dot S.c T)))
     → (v : Vector) → HasDimension G.dimension v → ¬ AreAlike S.q (dot S.c v) (pos 0) → IsSplit G S
 split_by_vector G S g found h v d a = record {
   joined = joined_alike G S found h;
@@ -88,7 +88,7 @@ third_part c1 c2 c3 = simp ring (omega (arith, linear))
 pub flat_is_split : (G : Graph) (S : Split) → IsGraph G → IsFlatSplit G S → IsSplit G S
 flat_is_split G S g p = by (start_of S.c p.positive)
   where
-    h : (u : ℕ) (T : Vector) → IsQuotientVertex G u → WalkShift G u T → AreAlike S.q (entry S.h u) (neg_ℤ (dot S.c T))
+    h : (u : ℕ) (T : Vector) → IsQuotientVertex G u → WalkShift G 1 u T → AreAlike S.q (entry S.h u) (neg_ℤ (dot S.c T))
     h u T v w = equal_alike S.q (entry S.h u) (neg_ℤ (dot S.c T)) (p.h u T v w)
 
     flat : G.dimension ≡ 2 → pos 0 <ℤ S.c.z → ⊥

@@ -20,7 +20,7 @@ walk_inside G g [] w x i h = subst (IsVertex G) h i
 walk_inside G g (y ∷ ys) w x i h = walk_inside G g ys y x (joined_inside G g w y i h.0) h.1
 
 -- so the shift of a walk has the dimension of the graph
-pub walk_dimension : (G : Graph) → IsGraph G → (u : ℕ) (T : Vector) → WalkShift G u T → HasDimension G.dimension T
+pub walk_dimension : (G : Graph) → IsGraph G → (u : ℕ) (T : Vector) → WalkShift G 1 u T → HasDimension G.dimension T
 walk_dimension G g u T w =
     let one : IsVertex G (vertex 1 zero_vector) = record { over = (omega arith, g.vertices); cell = λ d. refl } in
     let i = walk_inside G g w.0 (vertex 1 zero_vector) (vertex u T) one w.1 in
@@ -68,7 +68,7 @@ tree_found G found tree h e = record {
     at j k f = λ i. get_or (sym e i) (f i) None
 
 -- each vertex is found
-pub tree_finds : (G : Graph) (tree : List Vector) → AreTree G tree → (u : ℕ) → IsQuotientVertex G u → IsFound G u
+pub tree_finds : (G : Graph) (tree : List Vector) → AreTree G tree → (u : ℕ) → IsQuotientVertex G u → IsFound G 1 u
 tree_finds G tree t u v = (shift_at tree u, t.walks u v)
 
 -- a set of vectors with 0, sums and opposites
@@ -107,5 +107,5 @@ arc_generators G tree L l h a i =
     all_at P (arcs G) a (All-from_recursion P (arcs G) both) i
 
 -- and the shift of each closed walk
-pub closed_in : (G : Graph) (tree : List Vector) (L : Vector → Type 0) → IsGraph G → AreTree G tree → IsGroup L → All L (generators G tree) → (v : Vector) → ClosedShift G v → L v
+pub closed_in : (G : Graph) (tree : List Vector) (L : Vector → Type 0) → IsGraph G → AreTree G tree → IsGroup L → All L (generators G tree) → (v : Vector) → ClosedShift G 1 v → L v
 closed_in G tree L g t l h v c = closed_generated G (shift_at tree) (is_tree G tree g t) L l.none l.sums (arc_generators G tree L l h) v c

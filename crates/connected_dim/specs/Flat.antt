@@ -1,11 +1,7 @@
 -- What a colouring is made of where the closed walks have a rank below the dimension.
-use Rattle.std.specs.Prelude.{◌≡◌, ◌≢◌, ◌⊎◌, ℕ, ℤ, pos, neg_ℤ, ◌-ℤ◌, ◌*ℤ◌, ◌<ℤ◌, List, All}
+use Rattle.std.specs.Prelude.{◌≡◌, ◌≢◌, ◌⊎◌, ℕ, ℤ, pos, neg_ℤ, ◌<ℤ◌, List, All}
 use Rattle.integers.specs.Vectors.{Vector, vector, zero_vector, times, dot, HasDimension, StartsPositive}
 use Rattle.periodic_net.specs.Split.{EndsBy}
-
--- the cross product
-abbrev pub cross : Vector → Vector → Vector
-cross v w = vector (v.y *ℤ w.z -ℤ v.z *ℤ w.y) (v.z *ℤ w.x -ℤ v.x *ℤ w.z) (v.x *ℤ w.y -ℤ v.y *ℤ w.x)
 
 -- c is a multiple of no vector but itself and its opposite
 abbrev pub IsCoprime : Vector → Type 0

@@ -1,7 +1,7 @@
 -- Full rank: independent closed walks, and what they span.
 use Rattle.std.specs.Prelude.{◌≡◌, ◌≢◌, ℕ, ℤ, pos, ◌^◌, unsigned_abs, ◌<ℤ◌, ◌≤ℤ◌, List, Contains}
 use Rattle.integers.specs.Vectors.{Vector, vector, dot}
-use Rattle.connected_dim.specs.Flat.{cross}
+use Rattle.integers.specs.Vectors.{cross}
 
 -- the vector (0, 0, 1) in dimension 2, and otherwise one of these
 abbrev pub IsThird : ℕ → List Vector → Vector → Type 0

@@ -12,7 +12,7 @@ shift_at tree u = slice_index_or tree (u - 1) zero_vector
 pub record AreTree (G : Graph) (tree : List Vector) : Type 0 where
   pub count : length tree ≡ G.vertices
   pub first : shift_at tree 1 ≡ zero_vector
-  pub walks : (u : ℕ) → IsQuotientVertex G u → WalkShift G u (shift_at tree u)
+  pub walks : (u : ℕ) → IsQuotientVertex G u → WalkShift G 1 u (shift_at tree u)
   pub within : All (IsWithin 255500) tree
 
 -- the shift of the closed walk by the tree, along an edge, and back by the tree

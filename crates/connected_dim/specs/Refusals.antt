@@ -7,13 +7,13 @@ use Rattle.quotient_graph.specs.Splits.{split_in}
 use Rattle.connected_dim.specs.declared.connectedness.Unconnected.{Unconnected}
 use Rattle.connected_dim.specs.declared.connectedness.Unconnected.TheVariants.{Disconnected, Degenerate, NoMemory}
 
--- the quotient graph is not connected, or the closed walks have full rank and are not all shifts
+-- a split of the net, told where the quotient graph is not connected, or the closed walks have full rank and are not all shifts
 abbrev pub IsDisconnectedBy : Graph → Split → Type 0
-IsDisconnectedBy G split = (split.dim ≡ G.dimension) × (IsPartSplit G (split_in split) ⊎ ((k : ℕ) × IsSparseSplit G (split_in split) k))
+IsDisconnectedBy G split = (split.dim ≡ G.dimension) × IsSplit G (split_in split) × (IsPartSplit G (split_in split) ⊎ ((k : ℕ) × IsSparseSplit G (split_in split) k))
 
--- the closed walks have a rank below the dimension
+-- a split of the net, told where the closed walks have a rank below the dimension
 abbrev pub IsDegenerateBy : Graph → Split → Type 0
-IsDegenerateBy G split = (split.dim ≡ G.dimension) × IsFlatSplit G (split_in split)
+IsDegenerateBy G split = (split.dim ≡ G.dimension) × IsSplit G (split_in split) × IsFlatSplit G (split_in split)
 
 -- the graph comes back, with the colouring of its case
 abbrev pub IsRefused : {D : ℕ} → Graph → Unconnected D → Type 0

@@ -27,7 +27,7 @@ order_with found order u = if is_some (walk_to found u) then order else order ++
 -- walks lead from vertex 1 to the vertices that were found, which stand in the order in which they were
 pub record IsSearch (G : Graph) (found : List (Option Vector)) (order : List ℕ) : Type 0 where
   pub count : length found ≡ G.vertices
-  pub walks : (u : ℕ) (T : Vector) → 1 ≤ u → walk_to found u ≡ Some T → WalkShift G u T
+  pub walks : (u : ℕ) (T : Vector) → 1 ≤ u → walk_to found u ≡ Some T → WalkShift G 1 u T
   pub listed : (u : ℕ) (T : Vector) → 1 ≤ u → walk_to found u ≡ Some T → Contains order u
   pub vertices : (k : ℕ) → k < length order → IsQuotientVertex G (slice_index_or order k 0)
   pub near : (k : ℕ) → k < length order → (T : Vector) × (walk_to found (slice_index_or order k 0) ≡ Some T) × IsWithin (500 * k) T
@@ -40,7 +40,7 @@ LeadsToFound G found u = (a : Arc) → IsArc G a → a.from ≡ u → IsSome (wa
 pub record AreWalks (G : Graph) (found : List (Option Vector)) : Type 0 where
   pub count : length found ≡ G.vertices
   pub first : walk_to found 1 ≡ Some zero_vector
-  pub walks : (u : ℕ) (T : Vector) → 1 ≤ u → walk_to found u ≡ Some T → WalkShift G u T
+  pub walks : (u : ℕ) (T : Vector) → 1 ≤ u → walk_to found u ≡ Some T → WalkShift G 1 u T
   pub within : (u : ℕ) (T : Vector) → 1 ≤ u → walk_to found u ≡ Some T → IsWithin 255500 T
   pub closed : (u : ℕ) → 1 ≤ u → IsSome (walk_to found u) → LeadsToFound G found u
 

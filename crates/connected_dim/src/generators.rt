@@ -2,7 +2,7 @@
 ghost use Rattle.std.specs.Prelude.{◌≡◌, ℕ, ◌<◌, ◌≤◌, ◌+ℤ◌, ◌-ℤ◌, Some, None, All, IfOk, IsSome, length, map, slice_index_or, unsigned_abs};
 ghost use Rattle.integers.specs.Vectors.{vector, plus, minus, IsWithin, HasDimension};
 ghost use Rattle.periodic_net.specs.Graph.{IsGraph};
-ghost use Rattle.cgd_read.specs.Graphs.{IsSmall};
+ghost use Rattle.periodic_net.specs.Limits.{IsSmall};
 ghost use Rattle.connected_dim.specs.Generators.{AreTree, generator_of, generators};
 
 use crate::NoMemory;

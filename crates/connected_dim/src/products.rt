@@ -1,7 +1,7 @@
 // Products of vectors, for the closed walks of a net.
 ghost use Rattle.std.specs.Prelude.{◌≡◌, ◌≢◌, ◌≤◌, ◌^◌, ◌*◌, pos, true, false, unsigned_abs, ◌+ℤ◌, ◌-ℤ◌, ◌*ℤ◌};
 ghost use Rattle.integers.specs.Vectors.{vector, zero_vector, dot, IsWithin};
-ghost use Rattle.connected_dim.specs.Flat.{cross};
+ghost use Rattle.integers.specs.Vectors.{cross};
 
 use vecdim::{Shift, Triple, Vect};
 

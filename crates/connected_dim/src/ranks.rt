@@ -1,7 +1,8 @@
 // How many of the closed walks of a net are independent.
 ghost use Rattle.std.specs.Prelude.{◌≡◌, ◌≢◌, ◌≤◌, ◌^◌, ◌≤ℤ◌, ◌<ℤ◌, unsigned_abs, neg_ℤ, pos, true, false, None, ◌⊎◌, All, Contains, IfSome};
 ghost use Rattle.integers.specs.Vectors.{vector, zero_vector, dot, IsWithin, HasDimension};
-ghost use Rattle.connected_dim.specs.Flat.{cross, IsFlatNormal};
+ghost use Rattle.connected_dim.specs.Flat.{IsFlatNormal};
+ghost use Rattle.integers.specs.Vectors.{cross};
 ghost use Rattle.connected_dim.specs.Full.{IsVolume};
 ghost use Rattle.connected_dim.specs.Ranks.{IsRank};
 

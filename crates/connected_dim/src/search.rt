@@ -3,7 +3,7 @@ ghost use Rattle.std.specs.Prelude.{◌≡◌, ◌<◌, ◌≤◌, ◌+◌, leng
 ghost use Rattle.integers.specs.Vectors.{plus, IsWithin};
 ghost use Rattle.connected_dim.specs.Search.{missing, found_with, order_with, IsSearch, Expands, IsSearchedTo, AreWalks, none_found, walk_to};
 ghost use Rattle.periodic_net.specs.Graph.{IsGraph, IsQuotientVertex};
-ghost use Rattle.cgd_read.specs.Graphs.{IsSmall};
+ghost use Rattle.periodic_net.specs.Limits.{IsSmall};
 
 use crate::NoMemory;
 use quotient_graph::Graph;

@@ -2,7 +2,7 @@
 ghost use Rattle.std.specs.Prelude.{◌≡◌, ◌⊎◌, IfOk, All};
 ghost use Rattle.integers.specs.Vectors.{IsWithin, HasDimension};
 ghost use Rattle.periodic_net.specs.Graph.{IsGraph};
-ghost use Rattle.cgd_read.specs.Graphs.{IsSmall};
+ghost use Rattle.periodic_net.specs.Limits.{IsSmall};
 ghost use Rattle.connected_dim.specs.Full.{IsVolume};
 ghost use Rattle.connected_dim.specs.Generators.{AreTree, generators};
 ghost use Rattle.connected_dim.specs.Verdicts.{IsVerdict};

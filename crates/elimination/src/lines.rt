@@ -2,7 +2,7 @@
 ghost use Rattle.std.specs.Prelude.{◌≡◌, ℕ, length, IfOk};
 ghost use Rattle.integers.specs.Staircase.{part};
 ghost use Rattle.periodic_net.specs.Graph.{IsQuotientVertex};
-ghost use Rattle.cgd_read.specs.Graphs.{IsSmall};
+ghost use Rattle.periodic_net.specs.Limits.{IsSmall};
 ghost use Rattle.exact.specs.Ratio.{Ratio, whole};
 ghost use Rattle.elimination.specs.Listed.{shift_sum, start_level};
 ghost use Rattle.elimination.specs.Lines.{IsRow, AreRows, AreWeights, AreWide, AreWholes, AreArcWeights, level_with};

@@ -1,4 +1,5 @@
 pub mod Divisors
+pub mod Lattices
 pub mod Lists
 pub mod Staircase
 pub mod Vectors

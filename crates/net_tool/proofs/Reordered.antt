@@ -38,7 +38,7 @@ same_walk G H p w (y ∷ ys) x h = (same_arc G H p _ h.0, same_walk G H p y ys x
 same_reached : (G H : Graph) → IsPermutation G.edges H.edges → (w x : Vertex) → IsReached G w x → IsReached H w x
 same_reached G H p w x h = (h.0, same_walk G H p w h.0 x h.1)
 
-same_found : (G H : Graph) → IsPermutation G.edges H.edges → (u : ℕ) → IsFound G u → IsFound H u
+same_found : (G H : Graph) → IsPermutation G.edges H.edges → (u : ℕ) → IsFound G 1 u → IsFound H 1 u
 same_found G H p u h = (h.0, same_reached G H p _ _ h.1)
 
 same_vertex : (G H : Graph) → H.vertices ≡ G.vertices → (u : ℕ) → IsQuotientVertex G u → IsQuotientVertex H u
@@ -70,7 +70,7 @@ module _ (G H : Graph) (S : Split) (o : IsInOrder G H) where
   back : (w x : Vertex) → IsReached H w x → IsReached G w x
   back w x r = same_reached H G (IsPermutation-sym G.edges H.edges o.edges) w x r
 
-  all_found : ((u : ℕ) → IsQuotientVertex H u → IsFound H u) → (u : ℕ) → IsQuotientVertex G u → IsFound G u
+  all_found : ((u : ℕ) → IsQuotientVertex H u → IsFound H 1 u) → (u : ℕ) → IsQuotientVertex G u → IsFound G 1 u
   all_found h u v = same_found H G (IsPermutation-sym G.edges H.edges o.edges) u (h u (same_vertex G H o.vertices u v))
 
   same_pivot : (k p : ℕ) → IsPivot H k p → IsPivot G k p

@@ -11,7 +11,7 @@ module _ (G : Graph) where
   -- to each vertex u of the quotient graph a walk from vertex 1, with the shift T u
   pub record IsTree (T : ℕ → Vector) : Type 0 where
     pub root : T 1 ≡ zero_vector
-    pub walk : (u : ℕ) → IsQuotientVertex G u → WalkShift G u (T u)
+    pub walk : (u : ℕ) → IsQuotientVertex G u → WalkShift G 1 u (T u)
     pub dimension : (u : ℕ) → IsQuotientVertex G u → HasDimension G.dimension (T u)
 
   -- the shift of the closed walk by the tree, along a, and back by the tree
@@ -19,7 +19,7 @@ module _ (G : Graph) where
   generator T a = minus (plus (T a.from) a.shift) (T a.to)
 
   -- each generator is the shift of a closed walk
-  pub generator_closed : (T : ℕ → Vector) → IsTree T → (a : Arc) → IsQuotientVertex G a.from → IsQuotientVertex G a.to → IsArc G a → ClosedShift G (generator T a)
+  pub generator_closed : (T : ℕ → Vector) → IsTree T → (a : Arc) → IsQuotientVertex G a.from → IsQuotientVertex G a.to → IsArc G a → ClosedShift G 1 (generator T a)
   generator_closed T t a f g h =
       let k = generator T a in
       let one = vertex 1 zero_vector in
@@ -52,13 +52,13 @@ module _ (G : Graph) where
 
   -- a set that has 0, the generators and all sums has the shift of each closed walk
   pub closed_generated : (T : ℕ → Vector) → IsTree T → (L : Vector → Type 0) → L zero_vector → ((v w : Vector) → L v → L w → L (plus v w)) → ((a : Arc) → IsArc G a → L (generator T a))
-      → (v : Vector) → ClosedShift G v → L v
+      → (v : Vector) → ClosedShift G 1 v → L v
   closed_generated T t L none sums gens v h =
       subst L (at_root v (T 1) t.root)
       (generated T L sums gens h.0 (vertex 1 zero_vector) (vertex 1 v) h.1 (subst L (sym (at_root zero_vector (T 1) t.root)) none))
 
   -- where each vector is the shift of a closed walk, each vertex is reached from vertex 1
-  reached_from_one : (T : ℕ → Vector) → IsTree T → ((v : Vector) → HasDimension G.dimension v → ClosedShift G v) → (w : Vertex) → IsVertex G w → IsReached G (vertex 1 zero_vector) w
+  reached_from_one : (T : ℕ → Vector) → IsTree T → ((v : Vector) → HasDimension G.dimension v → ClosedShift G 1 v) → (w : Vertex) → IsVertex G w → IsReached G (vertex 1 zero_vector) w
   reached_from_one T t all w i =
       let k = minus w.cell (T w.over) in
       let d = minus_dimension G.dimension w.cell (T w.over) i.cell (t.dimension w.over i.over) in
@@ -67,6 +67,6 @@ module _ (G : Graph) where
       (same_reached G (ap (vertex 1) (zero_plus k)) (ap (vertex w.over) (plus_minus (T w.over) w.cell)) walk)
 
   -- and the net is connected
-  pub connected_by_tree : (T : ℕ → Vector) → IsTree T → ((v : Vector) → HasDimension G.dimension v → ClosedShift G v) → IsConnected G
+  pub connected_by_tree : (T : ℕ → Vector) → IsTree T → ((v : Vector) → HasDimension G.dimension v → ClosedShift G 1 v) → IsConnected G
   connected_by_tree T t all w x i j =
       reached_transitive G w (vertex 1 zero_vector) x (reached_turned G (vertex 1 zero_vector) w (reached_from_one T t all w i)) (reached_from_one T t all x j)

@@ -2,6 +2,7 @@ pub mod Classes
 pub mod Graph
 pub mod Harmonic
 pub mod Laws
+pub mod Limits
 pub mod Maps
 pub mod Placement
 pub mod Shells

@@ -1,6 +1,6 @@
 -- Periodic maps between nets, and isomorphism. No placement, cell, frame or traversal occurs here.
 -- Isomorphism is that of periodic nets; to write it by maps with a period is this project's own.
-use Rattle.std.specs.Prelude.{◌≡◌, ℕ, ◌≤◌, pos, ◌<ℤ◌, ◌≤ℤ◌}
+use Rattle.std.specs.Prelude.{◌≡◌, ◌↔◌, ℕ, ◌≤◌, pos, ◌<ℤ◌, ◌≤ℤ◌}
 use Rattle.integers.specs.Vectors.{Vector, plus, times, HasDimension}
 use Rattle.periodic_net.specs.Graph.{Graph, Vertex, vertex, moved, IsVertex, IsQuotientVertex, AreJoined}
 
@@ -20,6 +20,16 @@ pub record IsPeriodic (G H : Graph) (map : Vertex → Vertex) (m : ℕ) (b : Bas
   pub into : (w : Vertex) → IsVertex G w → IsVertex H (map w)
   pub repeats : (w : Vertex) (k : Vector) → IsVertex G w → HasDimension G.dimension k
       → map (moved w (times (pos m) k)) ≡ moved (map w) (base_sum b k)
+
+-- the map is one to one and onto between the vertices of the nets
+pub record IsBijection (G H : Graph) (map : Vertex → Vertex) : Type 0 where
+  pub into : (w : Vertex) → IsVertex G w → IsVertex H (map w)
+  pub once : (w x : Vertex) → IsVertex G w → IsVertex G x → map w ≡ map x → w ≡ x
+  pub onto : (y : Vertex) → IsVertex H y → (w : Vertex) × IsVertex G w × (map w ≡ y)
+
+-- the map joins images exactly where the vertices are joined
+abbrev pub JoinsAlike : Graph → Graph → (Vertex → Vertex) → Type 0
+JoinsAlike G H map = (w x : Vertex) → IsVertex G w → IsVertex G x → AreJoined G w x ↔ AreJoined H (map w) (map x)
 
 -- two maps that undo each other and carry joined vertices to joined vertices, each with a period
 pub record Iso (G H : Graph) : Type 0 where

@@ -1,8 +1,9 @@
 -- Placements of the vertices of a net, and their collisions.
 -- Barycentric placements, collisions and stability are those of Delgado-Friedrichs and O'Keeffe, Acta Cryst. A59 (2003) 351; whole units of 1/D, the normal form and the limits are this project's own.
 use Rattle.std.specs.Int.{◌∣◌}
-use Rattle.std.specs.Prelude.{◌≡◌, ◌≢◌, ℕ, ◌-◌, ◌≤◌, ◌^◌, pos, List, map, slice_index_or, length}
+use Rattle.std.specs.Prelude.{◌≡◌, ◌≢◌, ℕ, ◌-◌, ◌≤◌, pos, List, map, slice_index_or, length}
 use Rattle.integers.specs.Vectors.{Vector, zero_vector, plus, minus, times, vector_sum, HasDimension, DividesVector, IsWithin}
+use Rattle.periodic_net.specs.Limits.{most_units}
 use Rattle.periodic_net.specs.Graph.{Graph, Arc, IsQuotientVertex, IsArc, arcs_from, Vertex, vertex, IsVertex, IsConnected}
 
 -- positions in units of 1/denominator; the one of vertex u, counted from 1, stands at u - 1
@@ -66,7 +67,7 @@ pub record IsStablePlacement (G : Graph) (p : Placement) : Type 0 where
 abbrev pub IsStable : Graph → Type 0
 IsStable G = (p : Placement) × IsStablePlacement G p
 
--- the limits of a placement: 2^40 for the denominator and each part of an arc's vector
+-- the limit of a placement, for the denominator and each part of an arc's vector
 pub record IsWithinLimits (G : Graph) (p : Placement) : Type 0 where
-  pub denominator : p.denominator ≤ 2 ^ 40
-  pub arcs : (a : Arc) → IsArc G a → IsWithin (2 ^ 40) (arc_vector p a)
+  pub denominator : p.denominator ≤ most_units
+  pub arcs : (a : Arc) → IsArc G a → IsWithin most_units (arc_vector p a)

@@ -6,7 +6,7 @@ use Rattle.integers.proofs.Members.{in_from_contains}
 use Rattle.periodic_net.specs.Graph.{Graph, Arc, IsGraph, IsEdge, arcs_from}
 use Rattle.integers.specs.Vectors.{IsWithin}
 use Rattle.periodic_net.proofs.ArcLists.{arcs_apart}
-use Rattle.cgd_read.specs.Graphs.{IsSmall}
+use Rattle.periodic_net.specs.Limits.{IsSmall}
 use Rattle.quotient_graph.specs.Order.{AreRising}
 use Rattle.std.specs.List.Sorted.{IsPermutation}
 use Rattle.std.proofs.lemmas.List.Sorted.{All-permutation, length_permutation}

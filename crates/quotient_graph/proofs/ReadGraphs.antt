@@ -6,7 +6,8 @@ use Rattle.std.specs.List.{All}
 use Rattle.std.specs.List.Sorted.{IsPermutation, IsSorted}
 use Rattle.integers.specs.Vectors.{vector, HasDimension}
 use Rattle.periodic_net.specs.Graph.{Arc, IsGraph, IsEdge}
-use Rattle.cgd_read.specs.Graphs.{edge_of, graph_of, IsSmall, IsReadGraph}
+use Rattle.cgd_read.specs.Graphs.{edge_of, graph_of, IsReadGraph}
+use Rattle.periodic_net.specs.Limits.{IsSmall}
 use Rattle.cgd_read.specs.declared.block.RawGraph.{RawGraph}
 use Rattle.cgd_read.specs.declared.block.RawEdge.{RawEdge}
 use Rattle.quotient_graph.specs.Stars.{graph_with}

@@ -10,7 +10,7 @@ use Rattle.integers.proofs.Filters.{all_at}
 use Rattle.periodic_net.specs.Graph.{Graph, Arc, both_ways, arcs, arcs_from, IsArc, IsGraph}
 use Rattle.periodic_net.proofs.Arcs.{arc_inside}
 use Rattle.periodic_net.proofs.ArcLists.{from_is_arc, arc_is_from}
-use Rattle.cgd_read.specs.Graphs.{IsSmall}
+use Rattle.periodic_net.specs.Limits.{IsSmall}
 use Rattle.quotient_graph.specs.Stars.{IsStar, IsArcFrom}
 
 opposite_within : (n : ℕ) (s : Vector) → IsWithin n s → IsWithin n (opposite s)

@@ -3,7 +3,7 @@ use Rattle.std.specs.Prelude.{◌≡◌, ℕ, ◌-◌, List, [], length, slice_i
 use Rattle.std.specs.List.Sorted.{IsPermutation}
 use Rattle.integers.specs.Vectors.{IsWithin}
 use Rattle.periodic_net.specs.Graph.{Graph, Arc, IsArc, IsGraph, IsQuotientVertex, arcs_from}
-use Rattle.cgd_read.specs.Graphs.{IsSmall}
+use Rattle.periodic_net.specs.Limits.{IsSmall}
 use Rattle.quotient_graph.specs.Order.{AreRising}
 
 -- the quotient graph of dimension d with n vertices and these edges

@@ -1,7 +1,7 @@
 // The quotient graph of a net.
 ghost use Rattle.std.specs.Prelude.{◌≡◌, All, Contains, length, IfOk};
 ghost use Rattle.periodic_net.specs.Graph.{Arc as NetArc, IsArc, IsGraph, IsQuotientVertex};
-ghost use Rattle.cgd_read.specs.Graphs.{IsSmall};
+ghost use Rattle.periodic_net.specs.Limits.{IsSmall};
 ghost use Rattle.quotient_graph.specs.Order.{AreRising};
 ghost use Rattle.quotient_graph.specs.Stars.{IsArcFrom, IsStar, graph_with};
 

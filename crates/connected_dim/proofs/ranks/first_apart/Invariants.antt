@@ -1,6 +1,6 @@
 use Rattle.std.proofs.Common.{◌≡◌, ℕ, ◌<◌, slice_index_or}
 use Rattle.integers.specs.Vectors.{Vector, vector, zero_vector}
-use Rattle.connected_dim.specs.Flat.{cross}
+use Rattle.integers.specs.Vectors.{cross}
 use Rattle.connected_dim.proofs.ranks.first_apart.Given as goal
 
 abbrev pub invariant-loop-g : goal.invariant-loop-g
