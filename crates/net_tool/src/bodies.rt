@@ -4,10 +4,9 @@ ghost use Rattle.cgd_read.specs.Graphs.{IsReadGraph};
 ghost use Rattle.cgd_read.specs.BlockViews.{Net, body_view, raw_view, IsReadBody};
 ghost use Rattle.net_tool.specs.Outcomes.{size_of, IsBodyOf};
 
-use crate::nets::{check_any, place_any};
 use crate::words::Command;
 use cgd_read::{Block, Body, RawGraph};
-use least_key::Refusal;
+use least_key::{Refusal, check_any, place_any};
 use net_report::{NoMemory, OutcomeBody, Size};
 use quotient_graph::from_raw;
 use std::alloc::Global;
