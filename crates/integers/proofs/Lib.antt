@@ -5,6 +5,7 @@ pub mod Counting
 pub mod Cramer
 pub mod Division
 pub mod Divisors
+pub mod FewVectors
 pub mod Filters
 pub mod Gcd
 pub mod Greatest
