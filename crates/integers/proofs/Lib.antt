@@ -14,6 +14,7 @@ pub mod LinearRelations
 pub mod ListOrder
 pub mod Matched
 pub mod Members
+pub mod Modulo
 pub mod Order
 pub mod Permutations
 pub mod Pigeonhole

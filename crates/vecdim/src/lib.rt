@@ -4,6 +4,7 @@
 mod arithmetic;
 mod columns;
 mod products;
+mod quotients;
 mod staircase;
 mod sums;
 mod vectors;
