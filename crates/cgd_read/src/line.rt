@@ -3,9 +3,10 @@ ghost use Rattle.std.specs.Prelude.{◌≡◌, ◌||◌, ◌&&◌, nat_lt, ◌<�
 ghost use Rattle.std.specs.Option.{option_copied};
 ghost use Rattle.cgd_lex.specs.Views.{token_view};
 ghost use Rattle.cgd_read.specs.Lines.{is_strange, is_quoted, is_newline, unquoted, name_in, is_keyword, is_name_word, is_edges_word, kind_of_word, kind_of, is_bare, part_or_zero};
-ghost use Rattle.cgd_read.specs.Held.{IsSmallPart};
+ghost use Rattle.cgd_read.specs.Values.{IsSmallPart};
 ghost use Rattle.std.specs.Char.{to_ascii_lowercase};
-ghost use Rattle.cgd_read.specs.Reading.{fields_view, no_fields, with_field, IsSmallFields};
+ghost use Rattle.cgd_read.specs.Views.{fields_view};
+ghost use Rattle.cgd_read.specs.Reading.{no_fields, with_field, IsSmallFields};
 ghost use Rattle.cgd_read.specs.Values.{part_of};
 
 use crate::values::part;
