@@ -22,6 +22,21 @@ IsFlat fields = fields.size ≤ 4 → fields.z ≡ pos 0
 abbrev pub no_fields : FieldsView
 no_fields = record { size = 0; name = None; has_strange = false; has_late_quote = false; has_far_part = false; u = []; v = []; x = pos 0; y = pos 0; z = pos 0 }
 
+-- one more field after the second: a part of the shift at its place, read as a number
+abbrev pub with_part : FieldsView → TokenView → FieldsView
+with_part fields token = record {
+  size = fields.size;
+  name = None;
+  has_strange = fields.has_strange;
+  has_late_quote = fields.has_late_quote || is_quoted token.kind;
+  has_far_part = fields.has_far_part || is_none (part_of token.text);
+  u = fields.u;
+  v = fields.v;
+  x = if fields.size == 2 then part_or_zero (part_of token.text) else fields.x;
+  y = if fields.size == 3 then part_or_zero (part_of token.text) else fields.y;
+  z = if fields.size == 4 then part_or_zero (part_of token.text) else fields.z;
+}
+
 -- one more field, read from the left
 abbrev pub with_field : FieldsView → TokenView → FieldsView
 with_field fields token = record {

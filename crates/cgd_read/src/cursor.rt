@@ -61,7 +61,7 @@ fn read_fields<'a>(lexer: &mut Lexer<'a>, start: Fields<'a>) -> Fields<'a>
 {
     let mut fields = start;
     while let Some(token) = next_on_line(lexer) {
-        fields = fields.with(&token);
+        fields.add(&token);
     }
     fields
 }
@@ -74,7 +74,11 @@ fn first_field<'a>(kind: LineKind, first: &Token<'a>) -> Fields<'a>
     ensures size { result.size ≤ 1 }
 {
     match kind {
-        LineKind::Bare => Fields::none().with(first),
+        LineKind::Bare => {
+            let mut fields = Fields::none();
+            fields.add(first);
+            fields
+        }
         _ => Fields::none(),
     }
 }

@@ -139,6 +139,17 @@ impl<'a> PartialGraph<'a> {
         }
     }
 
+    /// Forgets all rows, and keeps the memory.
+    pub fn clear(&mut self)
+        ensures rows { IsGraphOfRows self.new [] }
+        ensures repeats { self.new.repeats ≡ 0 }
+    {
+        self.size = 0;
+        self.repeats = 0;
+        self.names.clear();
+        self.edges.clear();
+    }
+
     /// Whether there is a row.
     pub fn has_rows(&self) -> bool
         ensures { (rows : List FieldsView) → IsGraphOfRows self.now rows → result ≡ has_rows rows }
@@ -162,9 +173,9 @@ impl<'a> PartialGraph<'a> {
     }
 
     /// The graph of the rows.
-    pub fn finish(self, alloc: Global) -> Result<RawGraph<'a>, NoMemory>
-        requires { self.size ≤ 5 }
-        ensures { IfOk result (λ raw. (rows : List FieldsView) → IsGraphOfRows self.entry rows →
+    pub fn finish(&self, alloc: Global) -> Result<RawGraph<'a>, NoMemory>
+        requires { self.now.size ≤ 5 }
+        ensures { IfOk result (λ raw. (rows : List FieldsView) → IsGraphOfRows self.now rows →
             raw_view raw ≡ net_of rows) }
     {
         let names = Names::from_slice(alloc, self.names.as_slice())?;

@@ -49,7 +49,12 @@ fn malformed_at<'a>(line: u32, kind: BlockFaultKind) -> Body<'a>
 }
 
 // The body of a graph block that opens at this line, and the name that was read in it.
-fn read_graph<'a>(alloc: Global, lexer: &mut Lexer<'a>, opening: u32) -> Result<Block<'a>, NoMemory>
+fn read_graph<'a>(
+    alloc: Global,
+    lexer: &mut Lexer<'a>,
+    state: &mut State<'a>,
+    opening: u32,
+) -> Result<Block<'a>, NoMemory>
     requires { length lexer.old ≤ 16777216 }
     ensures block { IfOk result (λ block.
         block_view block ≡ graph_block opening [] (token_lines lexer.old)) }
@@ -57,7 +62,7 @@ fn read_graph<'a>(alloc: Global, lexer: &mut Lexer<'a>, opening: u32) -> Result<
     ensures lines { OnOk result (token_lines lexer.new ≡ after_end (token_lines lexer.old)) }
     ensures shorter { OnOk result (length lexer.new ≤ length lexer.old) }
 {
-    let mut state = State::new(alloc);
+    state.clear();
     while let Some(line) = next_line(lexer) {
         let name = state.name;
         if let Some(kind) = state.judge(&line)? {
@@ -87,6 +92,7 @@ fn read_graph<'a>(alloc: Global, lexer: &mut Lexer<'a>, opening: u32) -> Result<
 fn open_graph<'a>(
     alloc: Global,
     lexer: &mut Lexer<'a>,
+    state: &mut State<'a>,
     line: &Line<'a>,
 ) -> Result<Block<'a>, NoMemory>
     requires { length lexer.old ≤ 16777216 }
@@ -97,7 +103,7 @@ fn open_graph<'a>(
     ensures shorter { OnOk result (length lexer.new ≤ length lexer.old) }
 {
     if line.fields.size == 0 {
-        return read_graph(alloc, lexer, line.number);
+        return read_graph(alloc, lexer, state, line.number);
     }
     pass_block(lexer);
     Ok(Block {
@@ -111,6 +117,7 @@ fn open_graph<'a>(
 fn read_block<'a>(
     alloc: Global,
     lexer: &mut Lexer<'a>,
+    state: &mut State<'a>,
     line: &Line<'a>,
 ) -> Result<Block<'a>, NoMemory>
     requires { length lexer.old ≤ 16777216 }
@@ -121,7 +128,7 @@ fn read_block<'a>(
     ensures shorter { OnOk result (length lexer.new ≤ length lexer.old) }
 {
     match line.kind {
-        LineKind::Opening => open_graph(alloc, lexer, line),
+        LineKind::Opening => open_graph(alloc, lexer, state, line),
         _ => {
             pass_block(lexer);
             Ok(Block {
@@ -137,6 +144,7 @@ fn read_block<'a>(
 fn add_block<'a>(
     alloc: Global,
     lexer: &mut Lexer<'a>,
+    state: &mut State<'a>,
     found: &mut Vec<Block<'a>>,
     line: &Line<'a>,
 ) -> Result<(), NoMemory>
@@ -149,7 +157,7 @@ fn add_block<'a>(
     ensures lines { OnOk result (token_lines lexer.new ≡ after_end (token_lines lexer.old)) }
     ensures shorter { OnOk result (length lexer.new ≤ length lexer.old) }
 {
-    let block = read_block(alloc, lexer, line)?;
+    let block = read_block(alloc, lexer, state, line)?;
     found.push(block)?;
     Ok(())
 }
@@ -164,6 +172,7 @@ fn read_blocks<'a>(alloc: Global, text: &'a [u8]) -> Result<Vec<Block<'a>>, Read
         most_blocks < length (blocks_of text.now) }
 {
     let mut lexer = Lexer::new(text);
+    let mut state = State::new(alloc);
     let mut found = Vec::new(alloc);
     while let Some(line) = next_line(&mut lexer) {
         if line.kind.is_end() {
@@ -172,7 +181,7 @@ fn read_blocks<'a>(alloc: Global, text: &'a [u8]) -> Result<Vec<Block<'a>>, Read
         if found.len() == MOST_BLOCKS {
             return Err(ReadRefusal::TooManyBlocks);
         }
-        let Ok(()) = add_block(alloc, &mut lexer, &mut found, &line) else {
+        let Ok(()) = add_block(alloc, &mut lexer, &mut state, &mut found, &line) else {
             return Err(ReadRefusal::NoMemory);
         };
     }

@@ -166,6 +166,16 @@ impl<'a> State<'a> {
         }
     }
 
+    /// Forgets all lines, and keeps the memory.
+    pub fn clear(&mut self)
+        ensures stands { IsStateAfter self.new [] }
+        ensures repeats { self.new.graph.repeats ≡ 0 }
+    {
+        self.name = None;
+        self.under_edges = false;
+        self.graph.clear();
+    }
+
     fn is_second_name(&self, line: &Line<'a>) -> bool
         ensures { (earlier : List LineView) → IsStateAfter self.now earlier →
             result ≡ is_second_name earlier (line_view line.now) }
