@@ -17,8 +17,8 @@ vertices_of [] = []
 vertices_of (row ∷ rows) = with_new bytes_eq (with_new bytes_eq (vertices_of rows) row.u) row.v
 
 -- a vertex has the number of its place in order of appearance
-abbrev pub number_of : List (List ℕ) → List ℕ → ℕ
-number_of names name = position_or_len (bytes_eq name) names + 1
+abbrev pub vertex_number : List (List ℕ) → List ℕ → ℕ
+vertex_number names name = position_or_len (bytes_eq name) names + 1
 
 -- u < v, or u = v and the first part that is not 0 is positive
 abbrev pub is_forward : ℕ → ℕ → ℤ → ℤ → ℤ → Bool
@@ -34,7 +34,7 @@ normal u v x y z = spelled (is_forward u v x y z) u v x y z
 
 -- the edge of a row; these vertices came before it
 abbrev pub row_edge : List (List ℕ) → FieldsView → RawEdge
-row_edge before row = normal (number_of before row.u) (number_of (with_new bytes_eq before row.u) row.v) row.x row.y row.z
+row_edge before row = normal (vertex_number before row.u) (vertex_number (with_new bytes_eq before row.u) row.v) row.x row.y row.z
 
 abbrev pub same_edge : RawEdge → RawEdge → Bool
 same_edge e f = e.u == f.u && (e.v == f.v && (int_eq e.x f.x && (int_eq e.y f.y && int_eq e.z f.z)))

@@ -1,11 +1,13 @@
--- The faults of a line in a graph block: each is a sentence about the line and the lines of its block before it, the nearest first.
+-- The faults of a line in a graph block: each is a sentence about the line and the lines of its block before it,
+-- the nearest first.
 use Rattle.std.specs.Prelude.{ℕ, Bool, true, false, ◌||◌, ◌&&◌, ◌==◌, not, nat_lt, is_some, is_none, List, [], ◌∷◌, ◌++◌, length, Option, None, Some, if◌then◌else◌}
+use Rattle.periodic_net.specs.Limits.{most_vertices, most_edges}
 use Rattle.cgd_read.specs.Lines.{FieldsView, LineView, is_bare}
 use Rattle.cgd_read.specs.Edges.{vertices_of, edges_of, is_self_edge, first_size, has_rows}
 use Rattle.cgd_read.specs.declared.line.LineKind.{LineKind}
 use Rattle.cgd_read.specs.declared.line.LineKind.TheVariants.{Opening, Name, Edges, End, Unknown, Bare, Broken}
 use Rattle.cgd_read.specs.declared.block.BlockFaultKind.{BlockFaultKind}
-use Rattle.cgd_read.specs.declared.block.BlockFaultKind.TheVariants.{BadToken, RowLength, MixedDimension, UnknownField, NoEdges, SelfEdge, ShiftRange, TooManyVertices, TooManyEdges, NameTooLong, TwoNames}
+use Rattle.cgd_read.specs.declared.block.BlockFaultKind.TheVariants.{BadToken, RowLength, MixedDimension, UnknownField, NoEdges, SelfEdge, ShiftRange, TooManyVertices, TooManyEdges, NameTooLong, TwoNames, NoEnd}
 
 abbrev pub is_name : LineKind → Bool
 is_name Name = true
@@ -36,9 +38,9 @@ has_row line = may_have_row line.kind && nat_lt 0 line.fields.size
 
 -- what is known of the lines before
 
-abbrev pub rows_of : List LineView → List FieldsView
-rows_of [] = []
-rows_of (line ∷ earlier) = if has_row line then line.fields ∷ rows_of earlier else rows_of earlier
+abbrev pub rows_in : List LineView → List FieldsView
+rows_in [] = []
+rows_in (line ∷ earlier) = if has_row line then line.fields ∷ rows_in earlier else rows_in earlier
 
 abbrev pub under_after : LineKind → Bool → Bool
 under_after Name before = false
@@ -87,7 +89,7 @@ abbrev pub has_wrong_length : LineView → Bool
 has_wrong_length line = has_row line && not (line.fields.size == 4 || line.fields.size == 5)
 
 abbrev pub has_other_length : List LineView → LineView → Bool
-has_other_length earlier line = has_row line && (has_rows (rows_of earlier) && not (line.fields.size == first_size (rows_of earlier)))
+has_other_length earlier line = has_row line && (has_rows (rows_in earlier) && not (line.fields.size == first_size (rows_in earlier)))
 
 abbrev pub has_far_shift : LineView → Bool
 has_far_shift line = has_row line && line.fields.has_far_part
@@ -96,13 +98,13 @@ abbrev pub has_self_edge : LineView → Bool
 has_self_edge line = has_row line && is_self_edge line.fields
 
 abbrev pub brings_many_vertices : List LineView → LineView → Bool
-brings_many_vertices earlier line = nat_lt 512 (length (vertices_of (rows_of (line ∷ earlier))))
+brings_many_vertices earlier line = nat_lt most_vertices (length (vertices_of (rows_in (line ∷ earlier))))
 
 abbrev pub brings_many_edges : List LineView → LineView → Bool
-brings_many_edges earlier line = nat_lt 4096 (length (edges_of (rows_of (line ∷ earlier))))
+brings_many_edges earlier line = nat_lt most_edges (length (edges_of (rows_in (line ∷ earlier))))
 
 abbrev pub ends_without_rows : List LineView → LineView → Bool
-ends_without_rows earlier line = is_end line.kind && not (has_rows (rows_of earlier))
+ends_without_rows earlier line = is_end line.kind && not (has_rows (rows_in earlier))
 
 -- the table of the faults, in its order
 
@@ -139,3 +141,22 @@ first_true (test ∷ tests) = if test.1 then Some test.0 else first_true tests
 -- the fault of a line: the first of the table whose sentence is true
 abbrev pub fault_of : List LineView → LineView → Option BlockFaultKind
 fault_of earlier line = first_true (table earlier line)
+
+-- the first answer, or else the later one
+abbrev pub or_later : {X : Type 0} → Option X → Option X → Option X
+or_later (Some x) later = Some x
+or_later None later = later
+
+abbrev pub number_of_kind : BlockFaultKind → ℕ
+number_of_kind BadToken = 1
+number_of_kind RowLength = 2
+number_of_kind MixedDimension = 3
+number_of_kind UnknownField = 4
+number_of_kind NoEdges = 5
+number_of_kind SelfEdge = 6
+number_of_kind ShiftRange = 7
+number_of_kind TooManyVertices = 8
+number_of_kind TooManyEdges = 9
+number_of_kind NameTooLong = 10
+number_of_kind NoEnd = 11
+number_of_kind TwoNames = 12

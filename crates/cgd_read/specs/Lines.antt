@@ -136,5 +136,5 @@ line_of [] = []
 line_of (first ∷ others) = line_with first others ∷ []
 
 -- the lines of these tokens, which stand between the Newlines
-abbrev pub lines_of : List TokenView → List LineView
-lines_of tokens = flat_map line_of (slice_split (λ (t : TokenView). is_newline t.kind) tokens)
+abbrev pub token_lines : List TokenView → List LineView
+token_lines tokens = flat_map line_of (slice_split (λ (t : TokenView). is_newline t.kind) tokens)

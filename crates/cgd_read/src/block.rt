@@ -1,8 +1,8 @@
 // What is read of a text: its blocks.
 ghost use Rattle.std.specs.Prelude.{◌≡◌};
-ghost use Rattle.cgd_read.specs.Kinds.{number_of_kind};
+ghost use Rattle.cgd_read.specs.Faults.{number_of_kind};
 
-use crate::Names;
+use crate::{Names, RawEdges};
 
 /// A block of a text. `line` is the line that opens it.
 #[derive(Drop)]
@@ -25,7 +25,7 @@ pub enum Body<'a> {
 pub struct RawGraph<'a> {
     pub dim: u8,
     pub names: Names<'a>,
-    pub edges: Vec<RawEdge>,
+    pub edges: RawEdges,
     pub repeats: u32,
 }
 

@@ -3,6 +3,7 @@
 
 mod block;
 mod cursor;
+mod edges;
 mod line;
 mod names;
 mod partial;
@@ -13,6 +14,7 @@ mod tests;
 mod values;
 
 pub use block::{Block, BlockFault, BlockFaultKind, Body, RawEdge, RawGraph, ReadRefusal};
+pub use edges::RawEdges;
 pub use names::Names;
 pub use read::blocks;
 pub use std::alloc::AllocError as NoMemory;

@@ -163,7 +163,7 @@ fn reads_sodalite(rt: HostRuntime) -> Result<(), Fail> {
     assert!(rt; has_body(&found[0], Net(3, 12, 24, 0)));
     if let Body::Graph(raw) = &found[0].body {
         assert!(rt; raw.names.len() == 12 && *raw.names.at(11) == b"12".as_slice());
-        let last = raw.edges.last();
+        let last = raw.edges.as_slice().last();
         assert!(rt;
             last == Some(&RawEdge {
                 u: 5,

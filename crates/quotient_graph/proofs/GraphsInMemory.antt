@@ -1,15 +1,15 @@
--- What a graph in memory keeps holds of lists that are made from its edges.
+-- Lists that are made from the edges of a graph are those of a graph in memory.
 use Rattle.std.proofs.Common.{◌≡◌, ℕ, zero, suc, ◌<◌, ◌≤◌, List, [], ◌∷◌, length, get_or, refl, sym, ap, subst, ◌∙◌, arith}
 use Rattle.std.specs.List.{All}
 use Rattle.integers.proofs.Members.{in_from_contains, IsIn, AreApart}
 use Rattle.periodic_net.specs.Graph.{Graph, Arc, IsGraph, IsEdge, arcs_from}
 use Rattle.integers.specs.Vectors.{IsWithin}
 use Rattle.periodic_net.proofs.ArcLists.{arcs_apart}
-use Rattle.periodic_net.specs.Limits.{IsSmall}
+use Rattle.periodic_net.specs.Limits.{most_shift, most_edges, IsSmall}
 use Rattle.quotient_graph.specs.Order.{AreRising}
 use Rattle.std.specs.List.Sorted.{IsPermutation}
 use Rattle.std.proofs.lemmas.List.Sorted.{All-permutation, length_permutation}
-use Rattle.quotient_graph.specs.Stars.{IsKept, graph_with}
+use Rattle.quotient_graph.specs.Stars.{IsGraphInMemory, graph_with}
 use Rattle.quotient_graph.specs.Building.{EdgeFits, AreStars}
 use Rattle.quotient_graph.proofs.Once.{StandsOnce, permuted_once, once_from_pairs, pairs_from_once}
 use Rattle.quotient_graph.proofs.Rising.{rising_from_sorted}
@@ -37,8 +37,8 @@ edges_fit G g s k d l = record {
 }
 
 -- a graph with its lists of arcs
-pub is_kept : (G : Graph) (stars : List (List Arc)) → IsGraph G → IsSmall G → AreRising G.edges → AreStars G.vertices G.edges stars → IsKept G stars
-is_kept G stars g s r h = record {
+pub is_in_memory : (G : Graph) (stars : List (List Arc)) → IsGraph G → IsSmall G → AreRising G.edges → AreStars G.vertices G.edges stars → IsGraphInMemory G stars
+is_in_memory G stars g s r h = record {
   is_graph = g;
   small = s;
   rising = r;
@@ -61,6 +61,6 @@ reordered d n es fs p g = record {
 pub reordered_small : (d n : ℕ) (es fs : List Arc) → IsPermutation es fs → IsSmall (graph_with d n es) → IsSmall (graph_with d n fs)
 reordered_small d n es fs p s = record {
   vertices = s.vertices;
-  edges = subst (λ k. k ≤ 4096) (sym (length_permutation es fs p)) s.edges;
-  shifts = All-permutation (λ e. IsWithin 500 e.shift) es fs p s.shifts;
+  edges = subst (λ k. k ≤ most_edges) (sym (length_permutation es fs p)) s.edges;
+  shifts = All-permutation (λ e. IsWithin most_shift e.shift) es fs p s.shifts;
 }
