@@ -5,6 +5,7 @@ pub mod Counting
 pub mod Cramer
 pub mod Division
 pub mod Divisors
+pub mod FewVectors
 pub mod Filters
 pub mod Gcd
 pub mod Greatest
@@ -13,6 +14,7 @@ pub mod LinearRelations
 pub mod ListOrder
 pub mod Matched
 pub mod Members
+pub mod Modulo
 pub mod Order
 pub mod Permutations
 pub mod Pigeonhole

@@ -1,14 +1,15 @@
 -- Division by a positive number.
-use Rattle.std.proofs.Common.{◌≡◌, ◌+◌, ◌*◌, ◌/◌, ◌%◌, ◌<◌, ◌≤◌, ◌≤ℤ◌, ◌<ℤ◌, ℤ, pos, negsuc, ◌+ℤ◌, ◌-ℤ◌, ◌*ℤ◌, neg_ℤ, arith}
+use Rattle.std.proofs.Common.{◌≡◌, ◌+◌, ◌*◌, ◌/◌, ◌%◌, ◌<◌, ◌≤◌, ◌≤ℤ◌, ◌<ℤ◌, ℤ, pos, negsuc, ◌+ℤ◌, ◌-ℤ◌, ◌*ℤ◌, neg_ℤ, int_div, to_z, of_z, sym, ap, ◌∙◌, arith}
 use Rattle.std.specs.Int.{int_rem_euclid}
 use Rattle.std.proofs.Common.{◌^◌, FitsSigned}
 use Rattle.std.specs.Int.{w128}
 use Rattle.std.specs.Int.RustNames.{unsigned_abs}
 use Rattle.std.proofs.lemmas.Nat.{mul-le}
-use Rattle.std.proofs.lemmas.Int.{ints, unsigned_abs-mul, fits_signed_from_abs}
+use Rattle.std.proofs.lemmas.Int.{ints, unsigned_abs-mul, fits_signed_from_abs, quot_is, quot_fits}
 use Rattle.integers.specs.Vectors.{Vector, vector, IsWithin}
 use Rattle.vecdim.specs.Stairs.{Stairs}
 use Rattle.vecdim.specs.Steps.{IsBoxed, IsKept}
+use Rattle.integers.proofs.Division.{quotient_times}
 use Rattle.integers.proofs.Ring.{product_negative}
 
 -- the remainder differs by a multiple
@@ -115,3 +116,8 @@ first_small {m} {S} k = let w = boxed_within k.m_to (boxed_first k) in (weaker S
 -- and so is the second
 pub second_small : {m : ℤ} {S : Stairs} → IsKept m S → IsWithin (2 ^ 61) (vector (pos 0) S.e S.f)
 second_small {m} {S} k = let w = boxed_within k.m_to (boxed_second k) in (omega arith, weaker S.e w.0, weaker S.f w.1)
+
+-- an exact quotient, as the code divides
+pub exact_value : (a g : ℤ) → FitsSigned w128 a → FitsSigned w128 g → pos 0 <ℤ g → (w : ℤ) × (a ≡ g *ℤ w)
+    → a ≡ g *ℤ to_z w128 (of_z w128 (int_div (to_z w128 (of_z w128 a)) (to_z w128 (of_z w128 g))))
+exact_value a g fa fg p d = quotient_times a g p d ∙ ap (λ t. g *ℤ t) (sym (quot_is w128 a g fa fg (quot_fits w128 a g fa p)))
