@@ -12,7 +12,7 @@ use crate::NoMemory;
 use crate::generators::tree_of;
 use crate::search::walks;
 use crate::verdicts::{Verdict, tree_verdict};
-use quotient_graph::{Graph, Split};
+use quotient_graph::{Entries, Graph, Split};
 use std::alloc::Global;
 use std::marker::Model;
 use vecdim::{Shift, Triple};
@@ -91,7 +91,7 @@ fn part_split<const D: usize>(
         dim: g.dimension(),
         q: 0,
         c: Triple { x: 0, y: 0, z: 0 },
-        h: part_colours(alloc, found)?,
+        h: Entries::from_vec(part_colours(alloc, found)?),
     })
 }
 

@@ -9,7 +9,7 @@ ghost use Rattle.connected_dim.specs.Flat.{IsFlatNormal, flat_colour};
 
 use crate::NoMemory;
 use crate::products::walk_product;
-use quotient_graph::{Graph, Split};
+use quotient_graph::{Entries, Graph, Split};
 use std::alloc::Global;
 use vecdim::{Shift, Triple};
 
@@ -63,7 +63,7 @@ pub fn flat_split<const D: usize>(
     Ok(Split {
         dim: g.dimension(),
         q: 0,
-        h: flat_colours(alloc, &c, tree)?,
+        h: Entries::from_vec(flat_colours(alloc, &c, tree)?),
         c,
     })
 }

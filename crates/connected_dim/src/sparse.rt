@@ -12,7 +12,7 @@ ghost use Rattle.connected_dim.specs.Sparse.{IsLattice, IsDual, sparse_colour};
 use crate::NoMemory;
 use crate::lattice::Dual;
 use crate::products::walk_product;
-use quotient_graph::{Graph, Split};
+use quotient_graph::{Entries, Graph, Split};
 use std::alloc::Global;
 use vecdim::{Shift, Staircase};
 
@@ -88,7 +88,7 @@ pub fn sparse_split<const D: usize, const E: usize>(
     Ok(Split {
         dim: g.dimension(),
         q: modulus(&d),
-        h: sparse_colours(alloc, &d, tree)?,
+        h: Entries::from_vec(sparse_colours(alloc, &d, tree)?),
         c: d.c,
     })
 }

@@ -2,14 +2,15 @@
 use Rattle.std.proofs.Common.{◌≡◌, ◌≢◌, Result, Ok, Err, sym, subst, refl}
 use Rattle.std.specs.Prelude.{IfOk}
 use Rattle.periodic_net.specs.Graph.{Graph}
-use Rattle.cgd_read.specs.BlockViews.{RawView, Net}
+use Rattle.cgd_read.specs.Graphs.{graph_of}
+use Rattle.cgd_read.specs.Views.{RawView, Net}
 use Rattle.quotient_graph.specs.Stars.{IsInOrder}
 use Rattle.least_key.specs.Truths.{IsTrueOf, IsOfConnecting}
 use Rattle.least_key.specs.declared.refusal.Refusal.{Refusal}
 use Rattle.least_key.specs.declared.refusal.Refusal.TheVariants.{Disconnected, Degenerate, TooWide, WidePlacement, NoMemory}
 use Rattle.net_report.specs.declared.outcome.OutcomeBody.{OutcomeBody}
 use Rattle.net_report.specs.declared.outcome.OutcomeBody.TheVariants.{Refused}
-use Rattle.net_tool.specs.Outcomes.{size_of, net_graph, MayTell, IsBodyOf}
+use Rattle.net_tool.specs.Outcomes.{size_of, MayTell, IsBodyOf}
 use Rattle.net_tool.specs.declared.words.Command.{Command}
 use Rattle.net_tool.specs.declared.words.Command.TheVariants.{Check, Place}
 
@@ -31,7 +32,7 @@ place_may NoMemory n = n refl
 
 -- the body that was made of a refusal is one that the command tells
 pub refused_as : {E : Type 0} (command : Command) (raw : RawView) (G : Graph) (refusal : Refusal) (r : Result OutcomeBody E)
-    → IsInOrder (net_graph raw) G → IsTrueOf G refusal → (refusal ≢ NoMemory → MayTell command refusal)
+    → IsInOrder (graph_of raw) G → IsTrueOf G refusal → (refusal ≢ NoMemory → MayTell command refusal)
     → IfOk r (λ body. body ≡ Refused (size_of raw) raw.names refusal) → IfOk r (λ body. refusal ≢ NoMemory) → IfOk r (IsBodyOf command (Net raw))
 refused_as command raw G refusal (Ok body) o t m e n =
     subst (IsBodyOf command (Net raw)) (sym e)

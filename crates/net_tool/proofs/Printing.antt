@@ -4,7 +4,9 @@ use Rattle.std.proofs.lemmas.List.Sorted.{IsPermutation-sym}
 use Rattle.periodic_net.specs.Graph.{Graph, arc, IsGraph, IsQuotientVertex}
 use Rattle.periodic_net.specs.Placement.{Placement}
 use Rattle.periodic_net.proofs.Arcs.{arc_inside}
-use Rattle.cgd_read.specs.BlockViews.{RawView, Net, raw_view, body_view, IsReadBody}
+use Rattle.cgd_read.specs.Graphs.{graph_of}
+use Rattle.cgd_read.specs.Views.{RawView, Net, raw_view, body_view}
+use Rattle.cgd_read.specs.Blocks.{IsReadBody}
 use Rattle.cgd_read.specs.declared.block.Body.{Body}
 use Rattle.cgd_read.specs.declared.block.Body.TheVariants as read
 use Rattle.quotient_graph.specs.Stars.{IsInOrder}
@@ -19,25 +21,25 @@ use Rattle.net_report.specs.Reports.{IsPrintableBody}
 use Rattle.net_report.specs.declared.outcome.OutcomeBody.{OutcomeBody}
 use Rattle.net_report.specs.declared.outcome.OutcomeBody.TheVariants.{Unsupported, Malformed, Refused, Checked, Located}
 use Rattle.least_key.specs.Truths.{IsTrueOf}
-use Rattle.net_tool.specs.Outcomes.{net_graph, MayTell, IsBodyOf}
+use Rattle.net_tool.specs.Outcomes.{MayTell, IsBodyOf}
 use Rattle.net_tool.specs.declared.words.Command.{Command}
 use Rattle.net_tool.specs.declared.words.Command.TheVariants.{Check, Place}
 use Rattle.net_tool.proofs.Reordered.{same_arc}
 
 -- a vertex of the graph in order has a name
-named_vertex : (raw : RawView) (H : Graph) (u : ℕ) → IsInOrder (net_graph raw) H → IsQuotientVertex H u → IsNamed raw.names u
+named_vertex : (raw : RawView) (H : Graph) (u : ℕ) → IsInOrder (graph_of raw) H → IsQuotientVertex H u → IsNamed raw.names u
 named_vertex raw H u o v = λ some. (v.0, subst (λ n. u ≤ n) o.vertices v.1)
 
 -- the vertices of a site have names
-named_site : (raw : RawView) (H : Graph) (p : Placement) (site : WideSite) (value : ℤ) → IsGraph (net_graph raw) → IsInOrder (net_graph raw) H → IsWideAt H p site value → AreNamed raw.names site
+named_site : (raw : RawView) (H : Graph) (p : Placement) (site : WideSite) (value : ℤ) → IsGraph (graph_of raw) → IsInOrder (graph_of raw) H → IsWideAt H p site value → AreNamed raw.names site
 named_site raw H p (Denominator u c) value g o h = named_vertex raw H u o h.2.vertex
 named_site raw H p (ArcPart u v s c) value g o h =
-    let G = net_graph raw in
+    let G = graph_of raw in
     let inside = arc_inside G g (arc u v s) (same_arc H G (IsPermutation-sym G.edges H.edges o.edges) (arc u v s) h.is_arc) in
     (λ some. inside.from, λ some. inside.to)
 
 -- a true refusal that may be told has a line with the names of the block
-refusal_line : (command : Command) (raw : RawView) (H : Graph) (refusal : Refusal) → IsGraph (net_graph raw) → IsInOrder (net_graph raw) H
+refusal_line : (command : Command) (raw : RawView) (H : Graph) (refusal : Refusal) → IsGraph (graph_of raw) → IsInOrder (graph_of raw) H
     → MayTell command refusal → IsTrueOf H refusal → HasLine raw.names refusal
 refusal_line command raw H (Disconnected split) g o m h = tt
 refusal_line command raw H (Degenerate split) g o m h = tt
@@ -46,7 +48,7 @@ refusal_line command raw H (WidePlacement w) g o m h = named_site raw H h.1.plac
 refusal_line command raw H NoMemory g o m h = m
 
 -- what a command tells of a net can be printed
-told_of_net : (command : Command) (raw : RawView) (told : OutcomeBody) → IsGraph (net_graph raw) → IsBodyOf command (Net raw) told → IsPrintableBody told
+told_of_net : (command : Command) (raw : RawView) (told : OutcomeBody) → IsGraph (graph_of raw) → IsBodyOf command (Net raw) told → IsPrintableBody told
 told_of_net command raw (Unsupported token) g h = tt
 told_of_net command raw (Malformed fault) g h = tt
 told_of_net command raw (Checked size) g h = tt

@@ -2,8 +2,8 @@
 use Rattle.std.specs.Prelude.{◌≡◌, ◌≤◌, ℕ, ◌+◌, Bool, true, false, List, [], ◌∷◌, length, map, option_copied}
 use Rattle.std.specs.List.{list_all}
 use Rattle.periodic_net.specs.Graph.{Graph, IsConnected}
-use Rattle.cgd_read.specs.Graphs.{edge_of}
-use Rattle.cgd_read.specs.BlockViews.{RawView, BodyView, Net, Other, Faulty, BlockView}
+use Rattle.cgd_read.specs.Graphs.{graph_of}
+use Rattle.cgd_read.specs.Views.{RawView, BodyView, Net, Other, Faulty, BlockView}
 use Rattle.cgd_read.specs.Blocks.{blocks_of}
 use Rattle.quotient_graph.specs.Stars.{IsInOrder}
 use Rattle.net_report.specs.Reports.{report_text}
@@ -19,10 +19,6 @@ use Rattle.least_key.specs.declared.refusal.Refusal.TheVariants.{NoMemory}
 use Rattle.net_tool.specs.declared.words.Command.{Command}
 use Rattle.net_tool.specs.declared.words.Command.TheVariants.{Check, Place}
 
--- the graph that was read; its vertices have the numbers of their names
-abbrev pub net_graph : RawView → Graph
-net_graph raw = record { dimension = raw.dim; vertices = length raw.names; edges = map edge_of raw.edges }
-
 -- its sizes
 abbrev pub size_of : RawView → Size
 size_of raw = record { dim = raw.dim; vertices = length raw.names; edges = length raw.edges; repeats = raw.repeats }
@@ -36,7 +32,7 @@ MayTell Place refusal = Unit {0}
 -- G is the graph of a block, with its edges in order, and size has its sizes
 pub record IsGraphOf (raw : RawView) (size : Size) (G : Graph) : Type 0 where
   pub size_is : size ≡ size_of raw
-  pub in_order : IsInOrder (net_graph raw) G
+  pub in_order : IsInOrder (graph_of raw) G
 
 -- a refusal that the command may tell, and that is true of the block's graph, beside the names of its vertices
 pub record IsRefusedAs (command : Command) (raw : RawView) (size : Size) (names : List (List ℕ)) (refusal : Refusal) : Type 0 where

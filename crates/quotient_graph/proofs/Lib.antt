@@ -5,4 +5,7 @@ pub mod SortedStars
 pub mod GraphsInMemory
 pub mod ReadGraphs
 pub mod EdgeLists
+pub mod Reach
+pub mod PositionBounds
+pub mod Fitting
 pub mod StarArcs

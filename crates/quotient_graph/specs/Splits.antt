@@ -3,4 +3,4 @@ use Rattle.periodic_net.specs.Split.{Split as NetSplit}
 use Rattle.quotient_graph.specs.declared.split.Split.{Split}
 
 abbrev pub split_in : Split → NetSplit
-split_in s = record { q = s.q; c = s.c; h = s.h.items }
+split_in s = record { q = s.q; c = s.c; h = s.h }

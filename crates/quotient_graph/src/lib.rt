@@ -12,5 +12,5 @@ pub use arc::Arc;
 pub use graph::Graph;
 pub use placed::Placed;
 pub use raw::{AnyGraph, from_edges, from_raw};
-pub use split::Split;
+pub use split::{Entries, Split};
 pub use std::alloc::AllocError as NoMemory;

@@ -1,4 +1,4 @@
-use Rattle.cgd_read.specs.BlockViews.{raw_view}
+use Rattle.cgd_read.specs.Views.{raw_view}
 use Rattle.quotient_graph.specs.AnyGraphs.{graph_in}
 use Rattle.net_tool.proofs.NetOutcomes.{check_may, refused_as}
 use Rattle.net_tool.specs.declared.words.Command.TheVariants.{Check}
