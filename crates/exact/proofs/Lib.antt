@@ -1,6 +1,7 @@
 pub mod Bezout
 pub mod Cancelling
 pub mod Classes
+pub mod LowestTerms
 pub mod Quotients
 pub mod Ring
 pub mod Semiring
