@@ -4,8 +4,7 @@ use Rattle.std.proofs.lemmas.List.{length-map, get_or-map}
 use Rattle.std.specs.List.{AllByRecursion}
 use Rattle.std.proofs.lemmas.List.Elements.{recursion_from_All, All-from_recursion}
 use Rattle.integers.specs.Vectors.{Vector, zero_vector, minus, dot}
-use Rattle.integers.specs.Lists.{IsIn}
-use Rattle.integers.proofs.Members.{contains_from_in}
+use Rattle.integers.proofs.Members.{contains_from_in, IsIn}
 use Rattle.integers.proofs.Ring.{ring, linear}
 use Rattle.integers.proofs.Vectors.{plus_minus, zero_plus, dot_plus}
 use Rattle.periodic_net.specs.Graph.{Graph, IsGraph, IsEdge, Arc, IsArc, arcs, both_ways, IsQuotientVertex, vertex}

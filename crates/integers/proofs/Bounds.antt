@@ -3,9 +3,10 @@ use Rattle.std.proofs.Common.{◌≡◌, ℕ, zero, suc, ◌+◌, ◌*◌, ◌�
 use Rattle.std.specs.Prelude.{unsigned_abs, FitsSigned, ◌<◌, ◌^◌}
 use Rattle.std.specs.Int.{w128}
 use Rattle.std.proofs.lemmas.Int.{ints, unsigned_abs-mul, fits_signed_from_abs}
-use Rattle.std.proofs.Math.Nat.{mul-le-mul}
-use Rattle.integers.specs.Vectors.{Vector, dot, triple_product, IsWithin}
-use Rattle.integers.specs.Lists.{IsIn, total}
+use Rattle.std.proofs.Math.Nat.{mul-le-mul, le_trans}
+use Rattle.integers.specs.Vectors.{Vector, plus, minus, opposite, times, dot, cross, triple_product, IsWithin}
+use Rattle.integers.proofs.Members.{IsIn}
+use Rattle.integers.specs.Lists.{total}
 
 -- |-a| = |a|
 pub abs_negative : (a : ℤ) → unsigned_abs (neg_ℤ a) ≡ unsigned_abs a
@@ -84,3 +85,35 @@ bounded_total g (x ∷ xs) m h =
 -- what is bounded below 2^127 fits in 128 bits
 pub fits_from_bound : (z : ℤ) (n : ℕ) → n < 2 ^ 127 → unsigned_abs z ≤ n → FitsSigned w128 z
 fits_from_bound z n l h = fits_signed_from_abs w128 z (omega arith)
+
+-- the cross product
+pub bounded_cross : (v w : Vector) (m n : ℕ) → IsWithin m v → IsWithin n w → IsWithin (2 * (m * n)) (cross v w)
+bounded_cross v w m n h k = (
+  bounded_minor v.y w.z v.z w.y m n h.1 k.2 h.2 k.1,
+  bounded_minor v.z w.x v.x w.z m n h.2 k.0 h.0 k.2,
+  bounded_minor v.x w.y v.y w.x m n h.0 k.1 h.1 k.0,
+)
+
+-- a sum of vectors
+pub bounded_plus : (v w : Vector) (m n : ℕ) → IsWithin m v → IsWithin n w → IsWithin (m + n) (plus v w)
+bounded_plus v w m n h k = (bounded_sum v.x w.x m n h.0 k.0, bounded_sum v.y w.y m n h.1 k.1, bounded_sum v.z w.z m n h.2 k.2)
+
+-- a difference of vectors
+pub bounded_minus : (v w : Vector) (m n : ℕ) → IsWithin m v → IsWithin n w → IsWithin (m + n) (minus v w)
+bounded_minus v w m n h k =
+    (bounded_difference v.x w.x m n h.0 k.0, bounded_difference v.y w.y m n h.1 k.1, bounded_difference v.z w.z m n h.2 k.2)
+
+-- the opposite of a vector
+pub bounded_opposite : (v : Vector) (n : ℕ) → IsWithin n v → IsWithin n (opposite v)
+bounded_opposite v n h = (turned v.x h.0, turned v.y h.1, turned v.z h.2)
+  where
+    turned : (a : ℤ) → unsigned_abs a ≤ n → unsigned_abs (neg_ℤ a) ≤ n
+    turned a k = subst (λ (t : ℕ). t ≤ n) (sym (abs_negative a)) k
+
+-- a multiple of a vector
+pub bounded_times : (a : ℤ) (v : Vector) (m n : ℕ) → unsigned_abs a ≤ m → IsWithin n v → IsWithin (m * n) (times a v)
+bounded_times a v m n h k = (bounded_product a v.x m n h k.0, bounded_product a v.y m n h k.1, bounded_product a v.z m n h k.2)
+
+-- a wider bound
+pub wider : (m n : ℕ) → m ≤ n → (v : Vector) → IsWithin m v → IsWithin n v
+wider m n h v k = (le_trans k.0 h, le_trans k.1 h, le_trans k.2 h)

@@ -1,7 +1,7 @@
 -- Division with a remainder that is not negative, and exact division.
 use Rattle.std.proofs.Common.{◌∙◌, neg_ℤ, suc, zero, refl, negsuc, pos, arith, sym, ℤ, ap, ℕ, ◌≡◌, ◌+◌, ◌*◌, ◌-◌, ◌/◌, ◌%◌, ◌<◌, ◌≤◌, ◌+ℤ◌, ◌*ℤ◌}
 use Rattle.std.proofs.lemmas.Int.{ints}
-use Rattle.std.specs.Prelude.{int_div}
+use Rattle.std.specs.Prelude.{int_div, ◌<ℤ◌}
 use Rattle.std.proofs.lemmas.Nat.{div-mul-add}
 use borrow.Author.Differences.{product_is}
 
@@ -20,10 +20,16 @@ negative_quotient zero b h = let e : zero / b ≡ 0 = omega arith in ap pos e �
 negative_quotient (suc a) b h = refl
 
 -- n·m / n = m
-product_quotient : (n m : ℕ) → 1 ≤ n → n * m / n ≡ m
+pub product_quotient : (n m : ℕ) → 1 ≤ n → n * m / n ≡ m
 product_quotient n m h = let e : n * m ≡ m * n + 0 = omega arith in ap (λ (t : ℕ). t / n) e ∙ div-mul-add m n 0 h
 
 -- an exact quotient
 pub exact_quotient : (n : ℕ) → 1 ≤ n → (w : ℤ) → int_div (pos n *ℤ w) (pos n) ≡ w
 exact_quotient n h (pos m) = ap pos (product_quotient n m h)
 exact_quotient n h (negsuc m) = negative_quotient (n * suc m) n h ∙ ap (λ (t : ℕ). neg_ℤ (pos t)) (product_quotient n (suc m) h)
+
+-- the quotient by a divisor, times the divisor
+pub quotient_times : (a g : ℤ) → pos 0 <ℤ g → (w : ℤ) × (a ≡ g *ℤ w) → a ≡ g *ℤ int_div a g
+quotient_times a (pos n) p d =
+    d.1 ∙ ap (λ t. pos n *ℤ t) (sym (exact_quotient n (omega (arith, ints, p)) d.0) ∙ ap (λ t. int_div t (pos n)) (sym d.1))
+quotient_times a (negsuc n) p d = absurd (omega (arith, ints, p))

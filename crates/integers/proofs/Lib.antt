@@ -5,14 +5,17 @@ pub mod Counting
 pub mod Cramer
 pub mod Division
 pub mod Divisors
+pub mod FewVectors
 pub mod Filters
 pub mod Gcd
 pub mod Greatest
+pub mod Groups
 pub mod Independence
 pub mod LinearRelations
 pub mod ListOrder
 pub mod Matched
 pub mod Members
+pub mod Modulo
 pub mod Order
 pub mod Permutations
 pub mod Pigeonhole

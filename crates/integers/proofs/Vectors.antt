@@ -2,7 +2,7 @@
 use Rattle.std.proofs.Common.{◌≡◌, ◌≢◌, ℕ, ◌*◌, ℤ, pos, neg_ℤ, ◌+ℤ◌, ◌-ℤ◌, ◌*ℤ◌, sym, ap, ◌∙◌, arith}
 use Rattle.std.proofs.Math.IntN.{pos-*ℤ-pos}
 use Rattle.std.proofs.lemmas.Int.{ints}
-use Rattle.integers.specs.Vectors.{Vector, zero_vector, plus, minus, opposite, times, dot, HasDimension}
+use Rattle.integers.specs.Vectors.{Vector, zero_vector, plus, minus, opposite, times, dot, cross, triple_product, HasDimension}
 use Rattle.integers.proofs.Ring.{ring, linear, cancel_factor}
 
 -- vectors with equal parts are equal
@@ -174,3 +174,10 @@ times_dimension d k v h e = ap (λ (z : ℤ). k *ℤ z) (h e) ∙ zero_is k
   where
     zero_is : (a : ℤ) → a *ℤ pos 0 ≡ pos 0
     zero_is a = omega (arith, ints)
+
+-- the product of the cross product of b and c with a
+pub dot_cross : (a b c : Vector) → dot (cross b c) a ≡ triple_product a b c
+dot_cross a b c = parts (b.y *ℤ c.z -ℤ b.z *ℤ c.y) (b.z *ℤ c.x -ℤ b.x *ℤ c.z) (b.x *ℤ c.y -ℤ b.y *ℤ c.x) a.x a.y a.z
+  where
+    parts : (x y z u v w : ℤ) → x *ℤ u +ℤ y *ℤ v +ℤ z *ℤ w ≡ u *ℤ x +ℤ v *ℤ y +ℤ w *ℤ z
+    parts x y z u v w = simp ring (omega (arith, linear))

@@ -2,8 +2,8 @@ pub mod Adding
 pub mod Assembling
 pub mod Basis
 pub mod Combos
+pub mod Deciding
 pub mod Dividing
-pub mod FewVectors
 pub mod Fitting
 pub mod Generated
 pub mod Inserting

@@ -1,9 +1,12 @@
 //! Vectors of whole numbers in two and three dimensions, their products, and lattices by their staircase basis.
 #![tactic(auto)]
 
+mod arithmetic;
 mod columns;
 mod products;
+mod quotients;
 mod staircase;
+mod sums;
 mod vectors;
 
 pub use products::{cross, independent, triple};
