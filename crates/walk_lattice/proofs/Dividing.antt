@@ -1,27 +1,15 @@
 -- Division by the greatest common divisor of the parts, in 128 bits.
-use Rattle.std.proofs.Common.{◌≡◌, ◌≢◌, ℕ, zero, suc, ◌≤◌, ◌*◌, ℤ, pos, negsuc, ◌*ℤ◌, unsigned_abs, ◌⊎◌, inl, inr, sym, ap, subst, ◌∙◌, arith, FitsSigned, to_z, of_z}
-use Rattle.std.specs.Prelude.{◌<ℤ◌, int_div}
+use Rattle.std.proofs.Common.{◌≡◌, ◌≢◌, ℕ, zero, suc, ◌≤◌, ◌*◌, ℤ, pos, negsuc, ◌*ℤ◌, unsigned_abs, ◌⊎◌, inl, inr, sym, ap, subst, ◌∙◌, arith, to_z, of_z}
 use Rattle.std.specs.Int.{w128, IsGcd}
-use Rattle.std.proofs.lemmas.Int.{ints, unsigned_abs-mul, to_z-of_z, quot_is, quot_fits}
+use Rattle.std.proofs.lemmas.Int.{ints, unsigned_abs-mul, to_z-of_z}
 use Rattle.integers.specs.Vectors.{Vector, zero_vector, IsWithin}
 use Rattle.integers.proofs.Ring.{zero_or_not}
 use Rattle.integers.proofs.Vectors.{vector_equal}
 use Rattle.integers.proofs.Bounds.{fits_from_bound}
-use Rattle.integers.proofs.Division.{exact_quotient}
 use Rattle.exact.specs.Combination.{IsCombination}
 use Rattle.walk_lattice.specs.Flat.{IsDivisor}
 use Rattle.walk_lattice.proofs.Reductions.{divisor_is}
 use Rattle.walk_lattice.specs.Bounds.{most_normal}
-
--- an exact quotient
-exact : (a g : ℤ) → pos 0 <ℤ g → (w : ℤ) × (a ≡ g *ℤ w) → a ≡ g *ℤ int_div a g
-exact a (pos n) p d = d.1 ∙ ap (λ t. pos n *ℤ t) (sym (exact_quotient n (omega (arith, ints, p)) d.0) ∙ ap (λ t. int_div t (pos n)) (sym d.1))
-exact a (negsuc n) p d = absurd (omega (arith, ints, p))
-
--- as the code divides
-pub exact_value : (a g : ℤ) → FitsSigned w128 a → FitsSigned w128 g → pos 0 <ℤ g → (w : ℤ) × (a ≡ g *ℤ w)
-    → a ≡ g *ℤ to_z w128 (of_z w128 (int_div (to_z w128 (of_z w128 a)) (to_z w128 (of_z w128 g))))
-exact_value a g fa fg p d = exact a g p d ∙ ap (λ t. g *ℤ t) (sym (quot_is w128 a g fa fg (quot_fits w128 a g fa p)))
 
 -- a part that is not 0 is not less than the divisor
 part_above : (z g w : ℤ) → z ≢ pos 0 → z ≡ g *ℤ w → unsigned_abs g ≤ unsigned_abs z

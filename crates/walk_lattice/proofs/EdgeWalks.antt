@@ -1,5 +1,5 @@
 -- The closed walks of the edges, one edge more.
-use Rattle.std.proofs.Common.{◌≡◌, ℕ, zero, suc, ◌+◌, ◌-◌, ◌<◌, ◌≤◌, List, [], ◌∷◌, ◌++◌, length, take, map, get_or, Bool, true, false, Option, None, All, refl, sym, ap, subst, ◌∙◌, arith}
+use Rattle.std.proofs.Common.{◌≡◌, ℕ, zero, suc, ◌+◌, ◌-◌, ◌<◌, ◌≤◌, List, [], ◌∷◌, ◌++◌, length, take, map, get_or, Bool, true, false, Option, None, All, sym, ap, subst, ◌∙◌, arith}
 use Rattle.std.specs.Option.{is_some}
 use Rattle.std.specs.List.{filter}
 use Rattle.std.proofs.lemmas.List.{get_or_default, take_all}

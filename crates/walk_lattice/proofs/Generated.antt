@@ -1,10 +1,10 @@
 -- The edges between the vertices that were found generate the shifts of the closed walks.
-use Rattle.std.proofs.Common.{◌≡◌, ℕ, ◌≤◌, ℤ, ◌+ℤ◌, ◌-ℤ◌, neg_ℤ, List, [], ◌∷◌, length, map, true, Bool, false, cond, Option, Some, None, IsSome, All, refl, sym, ap, subst, ◌∙◌, arith, inl, inr}
+use Rattle.std.proofs.Common.{◌≡◌, ℕ, ◌≤◌, ℤ, ◌+ℤ◌, ◌-ℤ◌, neg_ℤ, List, [], ◌∷◌, map, true, Bool, false, cond, Option, Some, None, IsSome, All, refl, sym, ap, subst, ◌∙◌, arith, inl, inr}
 use Rattle.std.specs.Option.{is_some}
 use Rattle.std.specs.List.{filter, AllByRecursion}
 use Rattle.std.proofs.lemmas.List.Elements.{recursion_from_All, All-from_recursion}
 use Rattle.integers.specs.Lists.{IsIn}
-use Rattle.integers.specs.Vectors.{Vector, zero_vector, plus, minus, opposite, IsWithin}
+use Rattle.integers.specs.Vectors.{Vector, zero_vector, plus, minus, opposite}
 use Rattle.integers.specs.Lattices.{IsVectorGroup}
 use Rattle.integers.proofs.Ring.{linear}
 use Rattle.integers.proofs.Vectors.{vector_equal, minus_zero}
@@ -13,7 +13,6 @@ use Rattle.integers.proofs.Members.{is_in, contains_from_in}
 use Rattle.periodic_net.specs.Graph.{Graph, IsGraph, Arc, arc, arcs, IsArc, reverse_of, both_ways, Vertex, vertex, IsWalk}
 use Rattle.periodic_net.specs.Split.{ClosedShift, WalkShift}
 use Rattle.periodic_net.proofs.Arcs.{arc_inside}
-use Rattle.periodic_net.proofs.Generators.{generator}
 use Rattle.periodic_net.proofs.Walks.{reached_by_arc}
 use Rattle.walk_lattice.specs.Search.{walk_to, shift_of, AreWalks}
 use Rattle.walk_lattice.specs.Generators.{shift_at, generator_of, generators}

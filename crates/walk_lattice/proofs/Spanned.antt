@@ -3,7 +3,7 @@ use Rattle.std.proofs.Common.{◌≡◌, ◌≢◌, ℕ, zero, suc, ◌<◌, ℤ
 use Rattle.std.proofs.lemmas.Int.{ints}
 use Rattle.integers.specs.Vectors.{Vector, vector, zero_vector, plus, opposite, times, dot, triple_product, combination, HasDimension}
 use Rattle.integers.proofs.Ring.{ring, linear, other_factor_zero}
-use Rattle.integers.proofs.Vectors.{vector_equal, plus_zero, zero_plus, plus_commutative, minus_itself, one_times, zero_times, product_times}
+use Rattle.integers.proofs.Vectors.{vector_equal, plus_zero, zero_plus, one_times, zero_times, product_times}
 use Rattle.integers.proofs.Filters.{all_at}
 use Rattle.integers.proofs.Cramer.{cramer, products}
 use Rattle.periodic_net.specs.Graph.{Graph, IsGraph, IsQuotientVertex}

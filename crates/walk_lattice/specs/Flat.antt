@@ -1,6 +1,6 @@
 -- The vectors orthogonal to closed walks of a rank below the dimension.
 use Rattle.std.specs.Prelude.{◌≡◌, ◌≢◌, ◌⊎◌, ℕ, ℤ, pos, neg_ℤ, ◌<ℤ◌, List, All}
-use Rattle.integers.specs.Vectors.{Vector, vector, zero_vector, times, dot, HasDimension, StartsPositive}
+use Rattle.integers.specs.Vectors.{Vector, zero_vector, times, dot, HasDimension, StartsPositive}
 use Rattle.periodic_net.specs.Split.{EndsBy}
 
 -- c is a multiple of no vector but itself and its opposite

@@ -1,6 +1,6 @@
 // The shifts of the closed walks that the edges make with the walks that were found.
-ghost use Rattle.std.specs.Prelude.{◌≡◌, ℕ, ◌<◌, ◌≤◌, ◌+ℤ◌, ◌-ℤ◌, All, IfOk, length, unsigned_abs};
-ghost use Rattle.integers.specs.Vectors.{vector, plus, minus, IsWithin, HasDimension};
+ghost use Rattle.std.specs.Prelude.{◌≡◌, ℕ, ◌≤◌, All, IfOk, length};
+ghost use Rattle.integers.specs.Vectors.{plus, minus, IsWithin};
 ghost use Rattle.periodic_net.specs.Graph.{IsGraph};
 ghost use Rattle.periodic_net.specs.Limits.{IsSmall, most_walk, most_closed, most_shift};
 ghost use Rattle.walk_lattice.specs.Search.{shift_of, AreWalks};
@@ -21,26 +21,6 @@ pub fn shift_of<const D: usize>(walk: &Option<Shift<D>>) -> Shift<D>
     }
 }
 
-// One part of the shift of a closed walk.
-fn closed_part(tail: i32, step: i32, head: i32) -> i128
-    requires tail { unsigned_abs tail ≤ most_walk }
-    requires step { unsigned_abs step ≤ most_shift }
-    requires head { unsigned_abs head ≤ most_walk }
-    ensures value { result ≡ (tail +ℤ step) -ℤ head }
-    ensures within { unsigned_abs result ≤ most_closed }
-{
-    i128::from(tail + step - head)
-}
-
-// A vector of dimension D with parts within the bound of closed walks.
-fn generator<const D: usize>(x: i128, y: i128, z: i128) -> Vect<D>
-    requires within { IsWithin most_closed (vector x y z) }
-    requires dimension { HasDimension D (vector x y z) }
-    ensures { result ≡ vector x y z }
-{
-    Vect { x, y, z }
-}
-
 // The shift of the closed walk to the tail, along an edge, and back from the head.
 fn closed_walk<const D: usize>(tail: &Shift<D>, step: &Shift<D>, head: &Shift<D>) -> Vect<D>
     requires tail { IsWithin most_walk tail.now }
@@ -49,10 +29,8 @@ fn closed_walk<const D: usize>(tail: &Shift<D>, step: &Shift<D>, head: &Shift<D>
     ensures value { result ≡ minus (plus tail.now step.now) head.now }
     ensures within { IsWithin most_closed result }
 {
-    let x = closed_part(tail.x, step.x, head.x);
-    let y = closed_part(tail.y, step.y, head.y);
-    let z = closed_part(tail.z, step.z, head.z);
-    generator(x, y, z)
+    let there = tail.to_vector().plus(&step.to_vector());
+    there.minus(&head.to_vector())
 }
 
 // The closed walk of an edge.

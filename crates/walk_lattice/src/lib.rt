@@ -3,7 +3,6 @@
 
 mod closed_walks;
 mod lattices;
-mod products;
 mod ranks;
 mod reduction;
 mod search;

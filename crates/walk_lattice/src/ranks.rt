@@ -1,5 +1,5 @@
 // How many of the closed walks of a net are independent.
-ghost use Rattle.std.specs.Prelude.{◌≡◌, ◌≢◌, ◌≤◌, ◌^◌, ◌≤ℤ◌, ◌<ℤ◌, unsigned_abs, neg_ℤ, pos, true, false, None, All, Contains, IfSome};
+ghost use Rattle.std.specs.Prelude.{◌≡◌, ◌≢◌, ◌↔◌, ◌≤◌, IsTrue, ◌^◌, ◌≤ℤ◌, ◌<ℤ◌, unsigned_abs, neg_ℤ, pos, None, All, Contains, IfSome};
 ghost use Rattle.integers.specs.Vectors.{vector, zero_vector, cross, dot, IsWithin};
 ghost use Rattle.walk_lattice.specs.Flat.{IsFlatNormal};
 ghost use Rattle.walk_lattice.specs.Full.{IsVolume};
@@ -7,7 +7,6 @@ ghost use Rattle.walk_lattice.specs.Ranks.{IsRank};
 ghost use Rattle.periodic_net.specs.Limits.{most_closed};
 ghost use Rattle.walk_lattice.specs.Bounds.{most_normal, most_volume};
 
-use crate::products::{cross, dot, is_zero};
 use crate::reduction::reduced;
 use vecdim::{Triple, Vect};
 
@@ -18,32 +17,20 @@ pub enum Rank {
     Full(i128),
 }
 
-// Whether a vector is 0.
-fn is_none<const D: usize>(v: &Vect<D>) -> bool
-    ensures yes { result ≡ true → v.now ≡ zero_vector }
-    ensures no { result ≡ false → v.now ≢ zero_vector }
-{
-    v.x == 0 && v.y == 0 && v.z == 0
-}
-
 // Whether two vectors are on one line.
 fn is_parallel<const D: usize>(v: &Vect<D>, w: &Vect<D>) -> bool
-    requires v { IsWithin most_closed v.now }
-    requires w { IsWithin most_closed w.now }
-    ensures yes { result ≡ true → cross v.now w.now ≡ zero_vector }
-    ensures no { result ≡ false → cross v.now w.now ≢ zero_vector }
+    ensures { IsTrue result ↔ (cross v.now w.now ≡ zero_vector) }
 {
-    is_zero(&cross(v, w))
+    v.to_triple().cross(&w.to_triple()).is_zero()
 }
 
 // Whether a vector is orthogonal to c.
 fn is_orthogonal<const D: usize>(c: &Triple, v: &Vect<D>) -> bool
     requires c { IsWithin most_normal c.now }
     requires v { IsWithin most_closed v.now }
-    ensures yes { result ≡ true → dot c.now v.now ≡ pos 0 }
-    ensures no { result ≡ false → dot c.now v.now ≢ pos 0 }
+    ensures { IsTrue result ↔ (dot c.now v.now ≡ pos 0) }
 {
-    dot(c, v.x, v.y, v.z) == 0
+    c.dot(&v.to_triple()) == 0
 }
 
 // The first vector that is not 0.
@@ -53,7 +40,7 @@ fn first_some<const D: usize>(gs: &[Vect<D>]) -> Option<Vect<D>>
     ensures none { result ≡ None → All (λ g. g ≡ zero_vector) gs.now }
 {
     for g in gs {
-        if !is_none(g) {
+        if !g.is_zero() {
             return Some(*g);
         }
     }
@@ -62,8 +49,6 @@ fn first_some<const D: usize>(gs: &[Vect<D>]) -> Option<Vect<D>>
 
 // The first vector that is not on the line of v.
 fn first_apart<const D: usize>(gs: &[Vect<D>], v: &Vect<D>) -> Option<Vect<D>>
-    requires small { All (IsWithin most_closed) gs.now }
-    requires v { IsWithin most_closed v.now }
     ensures found { IfSome result (Contains gs.now) }
     ensures some { IfSome result (λ g. cross v.now g ≢ zero_vector) }
     ensures none { result ≡ None → All (λ g. cross v.now g ≡ zero_vector) gs.now }
@@ -113,22 +98,6 @@ fn across<const D: usize>(a: &Vect<D>) -> Triple
     }
 }
 
-// The normal where all vectors are on the line of a.
-fn line_normal<const D: usize>(gs: &[Vect<D>], a: &Vect<D>) -> Triple
-    requires a { IsWithin most_closed a.now }
-    requires some { a.now ≢ zero_vector }
-    requires found { Contains gs.now a.now }
-    requires all { All (λ g. cross a.now g ≡ zero_vector) gs.now }
-    ensures normal { IsFlatNormal D gs.now result }
-    ensures within { IsWithin most_normal result }
-{
-    let _ = gs;
-    if a.x == 0 {
-        return axis();
-    }
-    reduced(&across(a))
-}
-
 // The absolute value of a product that is not 0.
 fn volume(product: i128) -> i128
     requires some { product ≢ pos 0 }
@@ -160,8 +129,19 @@ fn space_volume<const D: usize>(c: &Triple, g: &Vect<D>) -> i128
     ensures from { pos 1 ≤ℤ result }
     ensures to { result <ℤ pos (2 ^ 60) }
 {
-    let product = dot(c, g.x, g.y, g.z);
+    let product = c.dot(&g.to_triple());
     volume(product)
+}
+
+// The cross product of two closed walks, which is orthogonal to both.
+fn normal<const D: usize>(a: &Vect<D>, b: &Vect<D>) -> Triple
+    requires a { IsWithin most_closed a.now }
+    requires b { IsWithin most_closed b.now }
+    ensures value { result ≡ cross a.now b.now }
+    ensures within { IsWithin most_normal result }
+    ensures flat { D ≡ 2 → result ≢ zero_vector → result.z ≢ pos 0 }
+{
+    a.to_triple().cross(&b.to_triple())
 }
 
 // The rank of vectors that are not all on the line of a; a and b are not on one line.
@@ -172,7 +152,7 @@ fn rank_with<const D: usize>(gs: &[Vect<D>], a: &Vect<D>, b: &Vect<D>) -> Rank
     requires apart { cross a.now b.now ≢ zero_vector }
     ensures { IsRank D gs.now result }
 {
-    let c = cross(a, b);
+    let c = normal(a, b);
     if D == 2 {
         return Rank::Full(flat_volume(&c));
     }
@@ -191,7 +171,8 @@ fn rank_from<const D: usize>(gs: &[Vect<D>], a: &Vect<D>) -> Rank
 {
     match first_apart(gs, a) {
         Some(b) => rank_with(gs, a, &b),
-        None => Rank::Below(line_normal(gs, a)),
+        None if a.x == 0 => Rank::Below(axis()),
+        None => Rank::Below(reduced(&across(a))),
     }
 }
 

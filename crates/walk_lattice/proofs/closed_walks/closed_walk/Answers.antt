@@ -1,22 +1,12 @@
-use Rattle.std.proofs.Common.{ℤ, ◌≤◌, lit<, FitsSigned, unsigned_abs, arith}
-use Rattle.std.specs.Int.{w128}
-use Rattle.integers.proofs.Bounds.{fits_from_bound}
-use Rattle.std.proofs.lemmas.Int.{ints, to_z-of_z}
-use Rattle.periodic_net.specs.Limits.{most_closed}
+use Rattle.std.proofs.Common.{sym, subst}
+use Rattle.std.specs.Prelude.{◌+◌}
+use Rattle.integers.specs.Vectors.{IsWithin}
+use Rattle.periodic_net.specs.Limits.{most_walk, most_shift}
 use Rattle.walk_lattice.proofs.closed_walks.closed_walk.Goals as goal
 
-fits : (z : ℤ) → unsigned_abs z ≤ most_closed → FitsSigned w128 z
-fits z h = fits_from_bound z most_closed (omega arith) h
-
-pub generator-requires : goal.generator-requires
-generator-requires g c =
-    let fx = fits c.closed_part-x.result c.closed_part-x.ensures.within in
-    let fy = fits c.closed_part-y.result c.closed_part-y.ensures.within in
-    let fz = fits c.closed_part-z.result c.closed_part-z.ensures.within in
-    simp to_z-of_z (
-      lit< tt,
-      (
-        (c.closed_part-x.ensures.within, c.closed_part-y.ensures.within, c.closed_part-z.ensures.within),
-        λ d. let r = c.closed_part-z.ensures.value in let a = c.tail.invariant d in let b = c.step.invariant d in let e = c.head.invariant d in omega (arith, ints, r, a, b, e),
-      ),
-    )
+pub returns-clause-within : goal.returns-clause-within
+returns-clause-within g c =
+    let tail = subst (IsWithin most_walk) (sym c.to_vector.ensures.value) c.requires.tail in
+    let step = subst (IsWithin most_shift) (sym c.to_vector-2.ensures.value) c.requires.step in
+    let head = subst (IsWithin most_walk) (sym c.to_vector-3.ensures.value) c.requires.head in
+    c.minus.ensures.within (most_walk + most_shift) most_walk (c.plus-there.ensures.within most_walk most_shift tail step) head

@@ -1,5 +1,5 @@
-use Rattle.std.proofs.Common.{◌≡◌, List, All, sym, ap, subst, ◌∙◌, lit<}
-use Rattle.integers.specs.Vectors.{Vector, IsWithin}
+use Rattle.std.proofs.Common.{All, sym, ap, subst, ◌∙◌, lit<}
+use Rattle.integers.specs.Vectors.{IsWithin}
 use Rattle.periodic_net.specs.Graph.{Arc}
 use Rattle.periodic_net.specs.Limits.{most_closed}
 use Rattle.walk_lattice.proofs.EdgeWalks.{edge_ready, tail_is, walks_more, walks_same, walks_all, all_more}

@@ -1,19 +1,14 @@
-use Rattle.std.proofs.Common.{◌≤◌, unsigned_abs, sym, subst, ◌∙◌, arith}
+use Rattle.std.proofs.Common.{◌≤◌, unsigned_abs, sym, subst, arith}
 use Rattle.std.proofs.lemmas.Int.{to_z-of_z}
-use Rattle.integers.specs.Vectors.{vector, dot, IsWithin}
+use Rattle.integers.specs.Vectors.{IsWithin}
 use Rattle.integers.proofs.Bounds.{fits_from_bound}
-use Rattle.walk_lattice.proofs.Fitting.{kept_parts}
-use Rattle.walk_lattice.proofs.RankAnswers.{volume_within}
-use Rattle.walk_lattice.proofs.ranks.space_volume.Goals as goal
 use Rattle.periodic_net.specs.Limits.{most_closed}
-use Rattle.walk_lattice.specs.Bounds.{most_volume}
+use Rattle.walk_lattice.specs.Bounds.{most_normal, most_volume}
+use Rattle.walk_lattice.proofs.ranks.space_volume.Goals as goal
 
 pub volume-requires-clause-within : goal.volume-requires-clause-within
 volume-requires-clause-within g c =
-    let near = subst (IsWithin most_closed) (sym c.g.view_is) c.requires.g in
-    let same = kept_parts (vector c.g.inside.x c.g.inside.y c.g.inside.z) near ∙ c.g.view_is in
-    let within : unsigned_abs c.dot-product.result ≤ most_volume =
-    subst (λ t. unsigned_abs t ≤ most_volume) (sym c.dot-product.ensures)
-    (subst (λ v. unsigned_abs (dot c.args.c.now v) ≤ most_volume) (sym same) (volume_within c.args.c.now c.args.g.now c.requires.c c.requires.g)) in
+    let near = subst (IsWithin most_closed) (sym c.to_triple.ensures.value) c.requires.g in
+    let within : unsigned_abs c.dot-product.result ≤ most_volume = c.dot-product.ensures.within most_normal most_closed c.requires.c near in
     let f = fits_from_bound c.dot-product.result most_volume (omega arith) within in
     simp to_z-of_z within
