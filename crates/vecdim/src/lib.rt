@@ -3,6 +3,8 @@
 
 mod arithmetic;
 mod columns;
+mod division;
+mod insertion;
 mod products;
 mod quotients;
 mod staircase;
