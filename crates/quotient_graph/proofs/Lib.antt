@@ -1,4 +1,4 @@
-pub mod Once
+pub mod DifferentMembers
 pub mod Rising
 pub mod Lists
 pub mod SortedStars
