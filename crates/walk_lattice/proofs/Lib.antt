@@ -10,6 +10,7 @@ pub mod FlatNormals
 pub mod Generated
 pub mod Groups
 pub mod Growing
+pub mod Orthogonal
 pub mod RankAnswers
 pub mod Reductions
 pub mod Searching
