@@ -1,7 +1,7 @@
 -- In whole units, what the arcs of a vertex lead adds up to 0 where it does so for the fractions.
 use Rattle.std.proofs.Common.{◌≡◌, inl, inr, ℕ, zero, suc, arith, ◌*◌, ◌<◌, ◌≤◌, List, [], ◌∷◌, map, ap, sym, refl, subst, ◌∙◌}
 use Rattle.std.specs.Prelude.{ℤ, pos, ◌+ℤ◌, ◌-ℤ◌, ◌*ℤ◌}
-use Rattle.integers.specs.Lists.{IsIn}
+use Rattle.integers.proofs.Members.{IsIn}
 use Rattle.integers.specs.Vectors.{plus, times, vector_sum}
 use Rattle.integers.specs.Staircase.{part}
 use Rattle.integers.proofs.Ring.{ring, linear, cancel_factor, positive_not_zero}

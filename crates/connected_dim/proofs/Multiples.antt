@@ -4,7 +4,7 @@ use Rattle.std.specs.Int.{w128}
 use Rattle.std.proofs.lemmas.Int.{ints}
 use Rattle.integers.specs.Vectors.{Vector, vector, dot}
 use Rattle.integers.proofs.Ring.{ring, linear}
-use Rattle.vecdim.specs.Stairs.{Stairs, InStairs, IsReduced}
+use Rattle.vecdim.specs.Stairs.{Stairs, InStairs, IsReducedStair}
 use Rattle.vecdim.proofs.Dividing.{fits_within}
 use Rattle.connected_dim.specs.Sparse.{IsComplement, IsFirstDual, IsSecondDual, IsThirdDual}
 
@@ -74,7 +74,7 @@ second_divides S q c h v m =
     subst (λ q. Divides q (dot c v)) (sym h.pivot) (j.0 *ℤ m.k +ℤ m.l, dot_with c v c.x (pos 1) (pos 0) refl h.y h.z ∙ e)
 
 -- and the third
-pub third_divides : (S : Stairs) (q : ℤ) (c : Vector) → IsReduced S → IsThirdDual S q c → (v : Vector) → InStairs S v → Divides q (dot c v)
+pub third_divides : (S : Stairs) (q : ℤ) (c : Vector) → IsReducedStair S → IsThirdDual S q c → (v : Vector) → InStairs S v → Divides q (dot c v)
 third_divides S q c r h v m =
     let j = complement_is S.i S.c c.x (subst (λ q. IsComplement q S.c c.x) h.pivot h.x) in
     let l = complement_is S.i S.f c.y (subst (λ q. IsComplement q S.f c.y) h.pivot h.y) in

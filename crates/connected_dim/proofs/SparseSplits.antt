@@ -9,7 +9,7 @@ use Rattle.integers.specs.Staircase.{part, IsStaircase}
 use Rattle.integers.proofs.Ring.{ring, linear}
 use Rattle.periodic_net.specs.Graph.{Graph, IsGraph, IsQuotientVertex}
 use Rattle.periodic_net.specs.Split.{Split, AreAlike, entry, ClosedShift, IsPivot, IsSparseSplit, EndsBy}
-use Rattle.vecdim.specs.Stairs.{Stairs, InStairs, IsReduced, HasFlatEnd, HasStairShape, rows_of}
+use Rattle.vecdim.specs.Stairs.{Stairs, InStairs, IsReducedStair, HasFlatEnd, HasStairShape, rows_of}
 use Rattle.vecdim.specs.Lattices.{Members}
 use Rattle.vecdim.proofs.Dividing.{remainder}
 use Rattle.vecdim.proofs.Stairway.{rows_are_basis}
@@ -77,7 +77,7 @@ plus_nothing : (z w : ℤ) → z ≡ w → z ≡ pos 0 +ℤ w
 plus_nothing z w e = omega (arith, ints, e)
 
 module _ (G : Graph) (found : List (Option Vector)) (R : Stairs) (S : Split) (g : IsGraph G) (w : AreWalks G 1 found) (all : All IsSome found) (two : 2 ≤ G.dimension) (l : AreClosedWalks G 1 R)
-    (basis : IsStaircase (Members G.dimension R) G.dimension (rows_of G.dimension R)) (reduced : IsReduced R) (flat : G.dimension ≡ 2 → HasFlatEnd R)
+    (basis : IsStaircase (Members G.dimension R) G.dimension (rows_of G.dimension R)) (reduced : IsReducedStair R) (flat : G.dimension ≡ 2 → HasFlatEnd R)
     (sh : S.h ≡ map (sparse_colour (pos S.q) S.c) found) where
   -- the row at a place gives the pivot there
   pivot_at : (i p : ℕ) → i < G.dimension → 1 ≤ p → part i (get_or (rows_of G.dimension R) i zero_vector) ≡ pos p → IsPivot G i p

@@ -1,7 +1,7 @@
 // The first pivot above 1 of a lattice, and a vector whose products with the members are multiples of it.
 ghost use Rattle.std.specs.Prelude.{◌≡◌, ◌⊎◌, ◌≤◌, ◌^◌, unsigned_abs, pos, None, IfSome, ◌≤ℤ◌, ◌<ℤ◌};
 ghost use Rattle.integers.specs.Vectors.{vector, IsWithin};
-ghost use Rattle.vecdim.specs.Stairs.{stairs, IsReduced, HasStairShape};
+ghost use Rattle.vecdim.specs.Stairs.{stairs, IsReducedStair, HasStairShape};
 ghost use Rattle.connected_dim.specs.Sparse.{IsWhole, IsComplement, IsThirdDual, IsDual};
 
 use vecdim::{Staircase, Triple};
@@ -53,7 +53,7 @@ fn first_dual(r: Rows) -> Dual
 
 // At the second.
 fn second_dual(r: Rows) -> Dual
-    requires reduced { IsReduced (stairs r.a r.b r.c r.e r.f r.i) }
+    requires reduced { IsReducedStair (stairs r.a r.b r.c r.e r.f r.i) }
     requires small { r.e ≤ℤ pos (2 ^ 60) }
     ensures q { result.q ≡ r.e }
     ensures x { IsComplement r.e r.b result.c.x }
@@ -70,7 +70,7 @@ fn second_dual(r: Rows) -> Dual
 
 // At the third.
 fn third_dual(r: Rows) -> Dual
-    requires reduced { IsReduced (stairs r.a r.b r.c r.e r.f r.i) }
+    requires reduced { IsReducedStair (stairs r.a r.b r.c r.e r.f r.i) }
     requires small { r.i ≤ℤ pos (2 ^ 60) }
     ensures q { result.q ≡ r.i }
     ensures x { IsComplement r.i r.c result.c.x }
@@ -109,7 +109,7 @@ fn rows_in<const D: usize>(s: &Staircase<D>) -> Rows
 
 // The third pivot where it is above 1; the others are 1.
 fn last_dual(r: Rows) -> Option<Dual>
-    requires reduced { IsReduced (stairs r.a r.b r.c r.e r.f r.i) }
+    requires reduced { IsReducedStair (stairs r.a r.b r.c r.e r.f r.i) }
     requires small { r.i ≤ℤ pos (2 ^ 60) }
     requires a { r.a ≡ pos 1 }
     requires e { r.e ≡ pos 1 }
@@ -127,7 +127,7 @@ fn last_dual(r: Rows) -> Option<Dual>
 
 // The first pivot above 1.
 fn dual_of(r: Rows) -> Option<Dual>
-    requires reduced { IsReduced (stairs r.a r.b r.c r.e r.f r.i) }
+    requires reduced { IsReducedStair (stairs r.a r.b r.c r.e r.f r.i) }
     requires small { (r.a ≤ℤ pos (2 ^ 60)) × (r.e ≤ℤ pos (2 ^ 60)) × (r.i ≤ℤ pos (2 ^ 60)) }
     ensures dual { IfSome result (λ d. IsDual (stairs r.a r.b r.c r.e r.f r.i) d.q d.c) }
     ensures above { IfSome result (λ d. pos 2 ≤ℤ d.q) }

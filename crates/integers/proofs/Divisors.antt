@@ -22,10 +22,10 @@ first_factor_positive (suc g) k h = omega arith
 -- j divides each part of each of these vectors
 abbrev pub AllDivided : ℕ → List Vector → Type 0
 AllDivided j [] = Unit {0}
-AllDivided j (v ∷ vs) = DividesVector j v × AllDivided j vs
+AllDivided j (v ∷ vs) = DividesVector (pos j) v × AllDivided j vs
 
 -- j divides a table whose values it divides
-pub all_table : (j : ℕ) (f : ℕ → Vector) (n : ℕ) → ((i : ℕ) → i < n → DividesVector j (f i)) → AllDivided j (table f n)
+pub all_table : (j : ℕ) (f : ℕ → Vector) (n : ℕ) → ((i : ℕ) → i < n → DividesVector (pos j) (f i)) → AllDivided j (table f n)
 all_table j f zero h = tt
 all_table j f (suc n) h = (h 0 (omega arith), all_table j (λ i. f (suc i)) n (λ i l. h (suc i) (omega arith)))
 

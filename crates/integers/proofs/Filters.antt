@@ -2,20 +2,11 @@
 use Rattle.std.proofs.Common.{zero, List, subst, ◌≡◌, [], ◌∷◌, ◌∙◌, suc, arith, sym, ◌≢◌, inr, inl, false, cond, ap, Bool, refl, true}
 use Rattle.std.specs.List.{Contains, All, AllPairs, AllByRecursion, filter}
 use Rattle.std.proofs.lemmas.List.{get_or_default}
-use Rattle.integers.proofs.Members.{in_from_contains, contains_from_in}
-use Rattle.integers.specs.Lists.{AreApart, IsIn}
+use Rattle.integers.proofs.Members.{in_from_contains, contains_from_in, AreApart, IsIn}
 
 -- what holds of all members holds of one
 pub all_at : {X : Type 0} (P : X → Type 0) (xs : List X) (x : X) → All P xs → Contains xs x → P x
 all_at P xs x h c = subst P c.2 (h c.0 x c.1)
-
--- where no two places hold the same thing, nothing stands in the list twice
-pub apart_from_pairs : {X : Type 0} (xs : List X) → AllPairs (λ x y. x ≢ y) xs → AreApart xs
-apart_from_pairs [] h = tt
-apart_from_pairs (x ∷ xs) h = (
-  (λ i. let c = contains_from_in xs x i in h 0 (suc c.0) x (omega arith) (omega arith) (sym c.2)),
-  apart_from_pairs xs (λ i j d a b. h (suc i) (suc j) d (omega arith) (omega arith)),
-)
 
 -- what holds of all members, place by place, holds of one
 pub all_in : {X : Type 0} (P : X → Type 0) (xs : List X) (x : X) → AllByRecursion P xs → IsIn xs x → P x
@@ -55,11 +46,3 @@ filter_apart {X} t (y ∷ ys) h = by (t y) (filter_apart t ys h.1)
     by : (b : Bool) → AreApart (filter t ys) → AreApart (cond b (y ∷ filter t ys) (filter t ys))
     by true k = ((λ i. h.0 (in_filter t ys y i).0), k)
     by false k = k
-
--- and the other way: no two places hold the same thing
-pub pairs_from_apart : {X : Type 0} (xs : List X) → AreApart xs → AllPairs (λ x y. x ≢ y) xs
-pairs_from_apart [] h i j d a b = absurd (omega arith)
-pairs_from_apart (x ∷ xs) h zero zero d a b = absurd (omega arith)
-pairs_from_apart (x ∷ xs) h zero (suc j) d a b = λ e. h.0 (in_from_contains xs x j (omega arith) (get_or_default xs j x d (omega arith) ∙ sym e))
-pairs_from_apart (x ∷ xs) h (suc i) zero d a b = absurd (omega arith)
-pairs_from_apart (x ∷ xs) h (suc i) (suc j) d a b = pairs_from_apart xs h.1 i j d (omega arith) (omega arith)

@@ -9,6 +9,7 @@ pub mod FewVectors
 pub mod Filters
 pub mod Gcd
 pub mod Greatest
+pub mod Groups
 pub mod Independence
 pub mod LinearRelations
 pub mod ListOrder

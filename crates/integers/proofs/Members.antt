@@ -1,10 +1,22 @@
--- Members of a list, lists without repetition, and one member taken out.
-use Rattle.std.proofs.Common.{List, ◌≡◌, ◌⊎◌, ◌+ℤ◌, ◌<◌, [], ◌∷◌, ◌∙◌, ℤ, arith, sym, ap, inr, subst, inl, suc, length, zero, ℕ, get_or}
+-- Members of a list and lists without repetition, read place by place, as lemmas use them; contracts say `Contains` and
+-- `AllPairs` of std, and the bridges stand at the end.
+use Rattle.std.proofs.Common.{List, ◌≡◌, ◌≢◌, ◌⊎◌, ◌+ℤ◌, ◌<◌, [], ◌∷◌, ◌∙◌, ℤ, arith, sym, ap, inr, subst, inl, suc, length, zero, ℕ, get_or}
 use Rattle.std.proofs.lemmas.Int.{ints}
-use Rattle.std.specs.List.{Contains}
+use Rattle.std.specs.List.{Contains, AllPairs}
+use Rattle.std.proofs.lemmas.List.{get_or_default}
 use Rattle.std.specs.List.Sorted.{IsPermutation}
 use Rattle.std.proofs.lemmas.List.Sorted.{IsPermutation-refl, IsPermutation-trans, IsPermutation-cons, IsPermutation-middle}
-use Rattle.integers.specs.Lists.{IsIn, AreApart, total}
+use Rattle.integers.specs.Lists.{total}
+
+-- x stands in the list
+abbrev pub IsIn : {X : Type 0} → List X → X → Type 0
+IsIn [] x = ⊥
+IsIn (y ∷ ys) x = (y ≡ x) ⊎ IsIn ys x
+
+-- nothing stands in the list twice
+abbrev pub AreApart : {X : Type 0} → List X → Type 0
+AreApart [] = Unit {0}
+AreApart (x ∷ xs) = (¬ IsIn xs x) × AreApart xs
 
 -- the list without one place at which x stands
 pub record TakenOut {X : Type 0} (xs : List X) (x : X) : Type 0 where
@@ -64,3 +76,19 @@ contains_from_in (y ∷ ys) x (inr h) = let c = contains_from_in ys x h in (suc 
 -- what std's `Contains` says of is a member
 pub is_in : {X : Type 0} (xs : List X) (x : X) → Contains xs x → IsIn xs x
 is_in xs x c = in_from_contains xs x c.0 c.1 c.2
+
+-- std's `AllPairs` says that nothing stands in the list twice
+pub apart_from_pairs : {X : Type 0} (xs : List X) → AllPairs (λ x y. x ≢ y) xs → AreApart xs
+apart_from_pairs [] h = tt
+apart_from_pairs (x ∷ xs) h = (
+  (λ i. let c = contains_from_in xs x i in h 0 (suc c.0) x (omega arith) (omega arith) (sym c.2)),
+  apart_from_pairs xs (λ i j d a b. h (suc i) (suc j) d (omega arith) (omega arith)),
+)
+
+-- and the other way
+pub pairs_from_apart : {X : Type 0} (xs : List X) → AreApart xs → AllPairs (λ x y. x ≢ y) xs
+pairs_from_apart [] h i j d a b = absurd (omega arith)
+pairs_from_apart (x ∷ xs) h zero zero d a b = absurd (omega arith)
+pairs_from_apart (x ∷ xs) h zero (suc j) d a b = λ e. h.0 (in_from_contains xs x j (omega arith) (get_or_default xs j x d (omega arith) ∙ sym e))
+pairs_from_apart (x ∷ xs) h (suc i) zero d a b = absurd (omega arith)
+pairs_from_apart (x ∷ xs) h (suc i) (suc j) d a b = pairs_from_apart xs h.1 i j d (omega arith) (omega arith)

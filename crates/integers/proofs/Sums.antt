@@ -6,8 +6,8 @@ use Rattle.std.specs.List.Sorted.{IsPermutation}
 use Rattle.std.proofs.lemmas.List.Sums.{sum_by-cons}
 use Rattle.std.proofs.lemmas.List.Sorted.{sum_by-IsPermutation}
 use borrow.Author.Differences.{up, down}
-use Rattle.integers.proofs.Members.{TakenOut, take_out, Carries}
-use Rattle.integers.specs.Lists.{total, IsIn, AreApart}
+use Rattle.integers.proofs.Members.{TakenOut, take_out, Carries, IsIn, AreApart}
+use Rattle.integers.specs.Lists.{total}
 use Rattle.integers.proofs.Ring.{ring, linear, product_zero, product_sum}
 
 -- a sum taken over the images of the members

@@ -4,7 +4,8 @@ use Rattle.std.proofs.lemmas.Int.{ints}
 use Rattle.integers.specs.Vectors.{minus, zero_vector, plus, Vector, times, vector}
 use Rattle.periodic_net.specs.Graph.{Arc, Graph, IsQuotientVertex, arcs_from, IsArc, IsGraph, arc, IsVertex, Vertex, IsWalk, IsConnected, vertex, moved}
 use Rattle.integers.proofs.Greatest.{greatest_at, Searchable, search_below, search_pair}
-use Rattle.integers.specs.Lists.{total, IsIn}
+use Rattle.integers.proofs.Members.{IsIn}
+use Rattle.integers.specs.Lists.{total}
 use Rattle.integers.proofs.Sums.{same_from_zero, each_zero, at_most_zero, total_same}
 use Rattle.integers.proofs.Vectors.{plus_minus, vector_equal}
 use Rattle.integers.proofs.Division.{divided}

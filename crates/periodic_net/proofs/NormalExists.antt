@@ -10,7 +10,7 @@ use Rattle.integers.proofs.Ring.{ring, other_factor_zero, positive_not_zero}
 use Rattle.integers.proofs.Vectors.{minus_itself, minus_back, numbers_times, vector_equal, times_zero, times_plus, times_cancel}
 use Rattle.integers.proofs.Tables.{at_scaled, table_length, at_table, table}
 use Rattle.std.proofs.lemmas.List.{length-map}
-use Rattle.integers.specs.Lists.{IsIn}
+use Rattle.integers.proofs.Members.{IsIn}
 use Rattle.integers.proofs.Gcd.{quotient_of}
 use Rattle.integers.proofs.Divisors.{first_factor_positive, factor_positive, common, all_table, Common, only_one}
 use Rattle.periodic_net.proofs.Arcs.{arc_inside}

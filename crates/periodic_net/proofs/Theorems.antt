@@ -9,7 +9,7 @@ use Rattle.periodic_net.specs.Laws.{ArcsStandOnce, BarycentricPlacementsTranslat
 use Rattle.periodic_net.proofs.MaximumPrinciple.{periodic_constant}
 use Rattle.periodic_net.proofs.MapTables.{drawn, drawn_by_table, drawn_once, periodic_of_drawn, table_of, is_table_of, drawn_of_periodic}
 use Rattle.integers.proofs.Vectors.{times_zero}
-use Rattle.integers.proofs.Filters.{pairs_from_apart}
+use Rattle.integers.proofs.Members.{pairs_from_apart}
 use Rattle.periodic_net.proofs.ArcLists.{all_arcs_apart}
 use Rattle.periodic_net.proofs.Splits.{split_shows_not_connected}
 use Rattle.periodic_net.proofs.Positions.{positions_tell}

@@ -3,7 +3,7 @@ use Rattle.std.proofs.Common.{◌≡◌, zero, suc, ℤ, pos, negsuc, ◌+ℤ◌
 use Rattle.std.proofs.lemmas.Int.{ints}
 use Rattle.integers.proofs.Ring.{ring, linear}
 use Rattle.integers.specs.Vectors.{Vector, vector}
-use Rattle.vecdim.specs.Stairs.{InStairs, IsReduced, Stairs}
+use Rattle.vecdim.specs.Stairs.{InStairs, IsReducedStair, Stairs}
 use Rattle.vecdim.proofs.Inserting.{zero_factor}
 use Rattle.vecdim.proofs.Lattice.{own_rows}
 
@@ -54,11 +54,11 @@ at_most_of b w (inl h) = omega (arith, linear, h)
 at_most_of b w (inr h) = omega (arith, linear, h.0)
 
 -- the first row has the least positive first part
-pub first_least : {S : Stairs} (w : Vector) → IsReduced S → InStairs S w → pos 0 <ℤ w.x → S.a ≤ℤ w.x
+pub first_least : {S : Stairs} (w : Vector) → IsReducedStair S → InStairs S w → pos 0 <ℤ w.x → S.a ≤ℤ w.x
 first_least {S} w r m h = subst (λ t. S.a ≤ℤ t) (sym m.x) (least_multiple m.k S.a (subst (λ t. pos 0 <ℤ t) m.x h) r.a)
 
 -- among these the least parts after it
-pub first_rest : {S : Stairs} (w : Vector) → IsReduced S → InStairs S w → w.x ≡ S.a → pos 0 ≤ℤ w.y → pos 0 ≤ℤ w.z → IsAtMost2 S.b S.c w.y w.z
+pub first_rest : {S : Stairs} (w : Vector) → IsReducedStair S → InStairs S w → w.x ≡ S.a → pos 0 ≤ℤ w.y → pos 0 ≤ℤ w.z → IsAtMost2 S.b S.c w.y w.z
 first_rest {S} w r m h j i =
     let k = once m.k S.a (sym m.x ∙ h) r.a in
     ⊎_elim (λ (t : S.b <ℤ w.y). inl t)
@@ -66,7 +66,7 @@ first_rest {S} w r m h j i =
     (least_rest m.l S.b S.e w.y r.b_from r.b_to j (y_at_one m.k m.l S.b S.e w.y k m.y))
 
 -- a member with first part 0 has the first coefficient 0
-no_first : {S : Stairs} (w : Vector) → IsReduced S → (m : InStairs S w) → w.x ≡ pos 0 → m.k ≡ pos 0
+no_first : {S : Stairs} (w : Vector) → IsReducedStair S → (m : InStairs S w) → w.x ≡ pos 0 → m.k ≡ pos 0
 no_first {S} w r m h = zero_factor m.k S.a (sym h ∙ m.x) r.a
 
 -- the second part of such a member
@@ -82,20 +82,20 @@ z_at_third : (k l n c f i z : ℤ) → k ≡ pos 0 → l ≡ pos 0 → z ≡ k *
 z_at_third k l n c f i z h g q = q ∙ ap (λ t. t *ℤ c +ℤ l *ℤ f +ℤ n *ℤ i) h ∙ ap (λ t. pos 0 *ℤ c +ℤ t *ℤ f +ℤ n *ℤ i) g ∙ simp ring (omega (arith, linear))
 
 -- the second row has the least positive second part
-pub second_least : {S : Stairs} (w : Vector) → IsReduced S → InStairs S w → w.x ≡ pos 0 → pos 0 <ℤ w.y → S.e ≤ℤ w.y
+pub second_least : {S : Stairs} (w : Vector) → IsReducedStair S → InStairs S w → w.x ≡ pos 0 → pos 0 <ℤ w.y → S.e ≤ℤ w.y
 second_least {S} w r m x h =
     let e = y_at_zero m.k m.l S.b S.e w.y (no_first w r m x) m.y in
     subst (λ t. S.e ≤ℤ t) (sym e) (least_multiple m.l S.e (subst (λ t. pos 0 <ℤ t) e h) r.e)
 
 -- among these the least third part
-pub second_rest : {S : Stairs} (w : Vector) → IsReduced S → InStairs S w → w.x ≡ pos 0 → w.y ≡ S.e → pos 0 ≤ℤ w.z → S.f ≤ℤ w.z
+pub second_rest : {S : Stairs} (w : Vector) → IsReducedStair S → InStairs S w → w.x ≡ pos 0 → w.y ≡ S.e → pos 0 ≤ℤ w.z → S.f ≤ℤ w.z
 second_rest {S} w r m x h j =
     let k = no_first w r m x in
     let l = once m.l S.e (sym (y_at_zero m.k m.l S.b S.e w.y k m.y) ∙ h) r.e in
     at_most_of S.f w.z (least_rest m.n S.f S.i w.z r.f_from r.f_to j (z_at_second m.k m.l m.n S.c S.f S.i w.z k l m.z))
 
 -- the third row has the least positive third part
-pub third_least : {S : Stairs} (w : Vector) → IsReduced S → InStairs S w → w.x ≡ pos 0 → w.y ≡ pos 0 → pos 0 <ℤ w.z → S.i ≤ℤ w.z
+pub third_least : {S : Stairs} (w : Vector) → IsReducedStair S → InStairs S w → w.x ≡ pos 0 → w.y ≡ pos 0 → pos 0 <ℤ w.z → S.i ≤ℤ w.z
 third_least {S} w r m x y h =
     let k = no_first w r m x in
     let l = zero_factor m.l S.e (sym y ∙ y_at_zero m.k m.l S.b S.e w.y k m.y) r.e in
@@ -123,7 +123,7 @@ pair_both b c y z (inr h) (inl g) = absurd (omega (arith, linear, h.0, g))
 pair_both b c y z (inr h) (inr g) = (omega (arith, linear, h.0), omega (arith, linear, h.1, g.1))
 
 -- a lattice has one staircase basis
-pub one_basis : {S T : Stairs} → IsReduced S → IsReduced T → ((w : Vector) → InStairs S w → InStairs T w) → ((w : Vector) → InStairs T w → InStairs S w) → SameParts S T
+pub one_basis : {S T : Stairs} → IsReducedStair S → IsReducedStair T → ((w : Vector) → InStairs S w → InStairs T w) → ((w : Vector) → InStairs T w → InStairs S w) → SameParts S T
 one_basis {S} {T} r q st ts =
     let s = own_rows S in let t = own_rows T in
     let a = both S.a T.a (first_least (vector T.a T.b T.c) r (ts _ t.first) q.a) (first_least (vector S.a S.b S.c) q (st _ s.first) r.a) in

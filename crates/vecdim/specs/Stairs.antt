@@ -25,7 +25,7 @@ pub record InStairs (S : Stairs) (w : Vector) : Type 0 where
   pub z : w.z ≡ k *ℤ S.c +ℤ l *ℤ S.f +ℤ n *ℤ S.i
 
 -- positive pivots, and above each pivot numbers from 0 to below it
-pub record IsReduced (S : Stairs) : Type 0 where
+pub record IsReducedStair (S : Stairs) : Type 0 where
   pub a : pos 0 <ℤ S.a
   pub e : pos 0 <ℤ S.e
   pub i : pos 0 <ℤ S.i
@@ -44,7 +44,7 @@ pub record HasFlatEnd (S : Stairs) : Type 0 where
 
 -- what holds of each staircase of dimension d
 pub record HasStairShape (d : ℕ) (S : Stairs) : Type 0 where
-  pub reduced : IsReduced S
+  pub reduced : IsReducedStair S
   pub flat : d ≡ 2 → HasFlatEnd S
 
 -- the rows of dimension d

@@ -1,7 +1,7 @@
 -- What the steps of an insertion keep, over plain numbers.
 use Rattle.std.specs.Prelude.{◌≡◌, ℤ, pos, ◌+ℤ◌, ◌*ℤ◌, ◌<ℤ◌, ◌≤ℤ◌, ◌^◌}
 use Rattle.integers.specs.Vectors.{Vector, vector}
-use Rattle.vecdim.specs.Stairs.{Stairs, InStairs, IsReduced}
+use Rattle.vecdim.specs.Stairs.{Stairs, InStairs, IsReducedStair}
 
 -- w is a whole combination of r and v, up to multiples of m in the two later parts
 pub record Combo (m : ℤ) (r v w : Vector) : Type 0 where
@@ -40,10 +40,10 @@ pub record HasBound (S : Stairs) (m : ℤ) : Type 0 where
   pub third_z : m ≡ third_k *ℤ S.i
 
 -- what holds between two insertions
-pub record IsKept (m : ℤ) (S : Stairs) : Type 0 where
+pub record IsBoundedStair (m : ℤ) (S : Stairs) : Type 0 where
   pub m_from : pos 0 <ℤ m
   pub m_to : m ≤ℤ pos (2 ^ 60)
-  pub reduced : IsReduced S
+  pub reduced : IsReducedStair S
   pub bound : HasBound S m
   pub a_to : S.a ≤ℤ m
   pub e_to : S.e ≤ℤ m
@@ -65,5 +65,5 @@ pub record HasAdded (S T : Stairs) (v : Vector) : Type 0 where
 
 -- what an insertion makes
 pub record IsInserted (m : ℤ) (S T : Stairs) (v : Vector) : Type 0 where
-  pub kept : IsKept m T
+  pub kept : IsBoundedStair m T
   pub added : HasAdded S T v

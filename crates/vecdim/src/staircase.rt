@@ -4,7 +4,7 @@ ghost use Rattle.integers.specs.Vectors.{vector, IsWithin};
 ghost use Rattle.integers.specs.Staircase.{IsStaircase};
 ghost use Rattle.vecdim.specs.Stairs.{stairs, HasStairShape, HasFlatEnd, rows_of, pivots_of};
 ghost use Rattle.vecdim.specs.Lattices.{Members, AreMultiples, IsWith, RowsAreOne};
-ghost use Rattle.vecdim.specs.Steps.{IsKept, IsInserted};
+ghost use Rattle.vecdim.specs.Steps.{IsBoundedStair, IsInserted};
 
 use crate::columns::{Line, column, divide, less_times, modulo};
 use crate::{Triple, Vect};
@@ -23,7 +23,7 @@ struct Rows {
 
 // The rows of the lattice with all multiples of a vector added; the multiples of m belong to it.
 fn insert_rows(s: Rows, vx: i128, vy: i128, vz: i128, m: i128) -> Rows
-    requires kept { IsKept m (stairs s.a s.b s.c s.e s.f s.i) }
+    requires kept { IsBoundedStair m (stairs s.a s.b s.c s.e s.f s.i) }
     ensures { IsInserted m (stairs s.a s.b s.c s.e s.f s.i) (stairs result.a result.b result.c result.e result.f result.i) (vector vx vy vz) }
 {
     let x = modulo(vx, m);
@@ -86,14 +86,14 @@ impl<const D: usize> Model for Staircase<D> {
     ghost use Rattle.std.specs.Prelude.{◌≡◌, pos, ◌∷◌, [], ◌≤◌, cond, ◌==◌};
     ghost use Rattle.integers.specs.Vectors.{vector};
     ghost use Rattle.vecdim.specs.Stairs.{Stairs, stairs, HasFlatEnd};
-    ghost use Rattle.vecdim.specs.Steps.{IsKept};
+    ghost use Rattle.vecdim.specs.Steps.{IsBoundedStair};
 
     ghost Value = { Stairs };
 
     ghost view = { λ t. stairs t.rows.a t.rows.b t.rows.c t.rows.e t.rows.f t.rows.i };
 
     ghost invariant = { λ t. (2 ≤ D) × (D ≤ 3) × (D ≡ 2 → HasFlatEnd (stairs t.rows.a t.rows.b t.rows.c t.rows.e t.rows.f t.rows.i))
-        × IsKept t.bound (stairs t.rows.a t.rows.b t.rows.c t.rows.e t.rows.f t.rows.i)
+        × IsBoundedStair t.bound (stairs t.rows.a t.rows.b t.rows.c t.rows.e t.rows.f t.rows.i)
         × (t.list ≡ vector t.rows.a t.rows.b t.rows.c ∷ vector (pos 0) t.rows.e t.rows.f ∷ vector (pos 0) (pos 0) (cond (D == 2) (pos 0) t.rows.i) ∷ []) };
 }
 
@@ -102,7 +102,7 @@ fn with_list<const D: usize>(rows: Rows, bound: i128) -> Staircase<D>
     requires two { 2 ≤ D }
     requires three { D ≤ 3 }
     requires flat { D ≡ 2 → HasFlatEnd (stairs rows.a rows.b rows.c rows.e rows.f rows.i) }
-    requires kept { IsKept bound (stairs rows.a rows.b rows.c rows.e rows.f rows.i) }
+    requires kept { IsBoundedStair bound (stairs rows.a rows.b rows.c rows.e rows.f rows.i) }
     ensures { result ≡ stairs rows.a rows.b rows.c rows.e rows.f rows.i }
 {
     let last = if D == 2 { 0 } else { rows.i };
