@@ -1,3 +1,4 @@
+pub mod Connected
 pub mod Flat
 pub mod Quotient
 pub mod Refusals

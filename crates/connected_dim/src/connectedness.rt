@@ -1,6 +1,7 @@
 // Whether a net is connected.
 ghost use Rattle.std.specs.Prelude.{◌≡◌, IfOk, IfErr, OnOk};
 ghost use Rattle.periodic_net.specs.Graph.{IsGraph, IsConnected};
+ghost use Rattle.periodic_net.specs.Limits.{IsSmall};
 ghost use Rattle.connected_dim.specs.Refusals.{IsRefused, IsRefuted};
 ghost use Rattle.connected_dim.specs.Verdicts.{IsVerdict};
 
@@ -12,20 +13,21 @@ use std::alloc::Global;
 use std::marker::Model;
 use walk_lattice::walks;
 
-/// A graph whose net is connected.
+/// A graph within the limits whose net is connected.
 #[derive(Drop)]
 pub struct Connected<const D: usize> {
     pub graph: Graph<D>,
 }
 
 impl<const D: usize> Model for Connected<D> {
-    ghost use Rattle.periodic_net.specs.Graph.{Graph as NetGraph, IsConnected};
+    ghost use Rattle.periodic_net.specs.Graph.{Graph as NetGraph};
+    ghost use Rattle.connected_dim.specs.Connected.{IsConnectedGraph};
 
     ghost Value = { NetGraph };
 
     ghost view = { λ c. c.graph };
 
-    ghost invariant = { λ c. IsConnected c.graph };
+    ghost invariant = { λ c. IsConnectedGraph c.graph };
 }
 
 /// Why a graph was not taken; it is handed back.
@@ -40,6 +42,7 @@ pub enum Unconnected<const D: usize> {
 fn verdict<const D: usize>(alloc: Global, g: &Graph<D>) -> Result<Verdict, NoMemory>
     ensures verdict { IfOk result (IsVerdict g.now) }
     ensures is_graph { IsGraph g.now }
+    ensures small { IsSmall g.now }
 {
     let dim = g.dimension();
     let found = walks(alloc, g, 1)?;
