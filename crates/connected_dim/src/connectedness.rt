@@ -52,7 +52,8 @@ fn verdict<const D: usize>(alloc: Global, g: &Graph<D>) -> Result<Verdict, NoMem
     verdict_by_walks(alloc, g, &found)
 }
 
-/// The graph where its net is connected, and otherwise a colouring that shows that it is not, with the graph.
+/// The graph where its net is connected, and otherwise a colouring that shows that it is not, with
+/// the graph.
 pub fn connect<const D: usize>(alloc: Global, g: Graph<D>) -> Result<Connected<D>, Unconnected<D>>
     ensures same { IfOk result (λ c. c ≡ g.entry) }
     ensures connected { OnOk result (IsConnected g.entry) }

@@ -1,4 +1,5 @@
-// The first pivot above 1 of a lattice, and a vector whose products with the members are multiples of it.
+// The first pivot above 1 of a lattice, and a vector whose products with the members are multiples
+// of it.
 ghost use Rattle.std.specs.Prelude.{◌≡◌, ◌⊎◌, ◌≤◌, ◌^◌, unsigned_abs, pos, None, IfSome, ◌≤ℤ◌, ◌<ℤ◌};
 ghost use Rattle.integers.specs.Vectors.{vector, IsWithin};
 ghost use Rattle.vecdim.specs.Stairs.{stairs, IsReducedStair, HasStairShape};
@@ -6,7 +7,8 @@ ghost use Rattle.connected_dim.specs.Sparse.{IsWhole, IsComplement, IsThirdDual,
 
 use vecdim::{Staircase, Triple};
 
-/// The rows (a, b, c), (0, e, f) and (0, 0, i) of a staircase, as plain numbers; in dimension 2 the last is (0, 0, 1).
+/// The rows (a, b, c), (0, e, f) and (0, 0, i) of a staircase, as plain numbers; in dimension 2 the
+/// last is (0, 0, 1).
 #[derive(Clone, Copy)]
 pub struct Rows {
     pub a: i128,
@@ -91,7 +93,8 @@ fn rows_in<const D: usize>(s: &Staircase<D>) -> Rows
     requires dimension { (D ≡ 2) ⊎ (D ≡ 3) }
     ensures rows { stairs result.a result.b result.c result.e result.f result.i ≡ s.now }
     ensures stair { HasStairShape D s.now }
-    ensures small { (result.a ≤ℤ pos (2 ^ 60)) × (result.e ≤ℤ pos (2 ^ 60)) × (result.i ≤ℤ pos (2 ^ 60)) }
+    ensures small {
+        (result.a ≤ℤ pos (2 ^ 60)) × (result.e ≤ℤ pos (2 ^ 60)) × (result.i ≤ℤ pos (2 ^ 60)) }
 {
     let rows = s.rows();
     let first = rows[0];

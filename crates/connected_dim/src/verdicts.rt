@@ -14,7 +14,8 @@ use std::alloc::Global;
 use vecdim::{Shift, Vect};
 use walk_lattice::{Rank, generators, lattice, rank_of};
 
-/// What is found of a net: that it is connected, or a colouring, where the closed walks have full rank or not.
+/// What is found of a net: that it is connected, or a colouring, where the closed walks have full
+/// rank or not.
 #[derive(Drop)]
 pub enum Verdict {
     Whole,
