@@ -8,12 +8,7 @@ ghost use Rattle.walk_lattice.specs.Search.{shift_of};
 ghost use Rattle.connected_dim.specs.Flat.{flat_colour, flat_colouring};
 
 use crate::NoMemory;
-<<<<<<< HEAD
-use crate::products::walk_product;
-use quotient_graph::{Entries, Graph, Split};
-=======
 use quotient_graph::{Entries, Split};
->>>>>>> 34c3d7eb3d9f63ce0ff1f118b32c2fe400f7640e
 use std::alloc::Global;
 use vecdim::{Shift, Triple};
 use walk_lattice::shift_of;
@@ -66,11 +61,7 @@ pub fn flat_split<const D: usize>(
     Ok(Split {
         dim,
         q: 0,
-<<<<<<< HEAD
-        h: Entries::from_vec(flat_colours(alloc, &c, tree)?),
-=======
         h: Entries::from_vec(flat_colours(alloc, &c, found)?),
->>>>>>> 34c3d7eb3d9f63ce0ff1f118b32c2fe400f7640e
         c,
     })
 }

@@ -8,14 +8,8 @@ ghost use Rattle.walk_lattice.specs.Search.{shift_of};
 ghost use Rattle.connected_dim.specs.Sparse.{sparse_colour, sparse_colouring};
 
 use crate::NoMemory;
-<<<<<<< HEAD
-use crate::lattice::Dual;
-use crate::products::walk_product;
-use quotient_graph::{Entries, Graph, Split};
-=======
 use crate::duals::Dual;
 use quotient_graph::{Entries, Split};
->>>>>>> 34c3d7eb3d9f63ce0ff1f118b32c2fe400f7640e
 use std::alloc::Global;
 use vecdim::Shift;
 use walk_lattice::shift_of;
@@ -86,11 +80,7 @@ pub fn sparse_split<const D: usize>(
     Ok(Split {
         dim,
         q: modulus(&d),
-<<<<<<< HEAD
-        h: Entries::from_vec(sparse_colours(alloc, &d, tree)?),
-=======
         h: Entries::from_vec(sparse_colours(alloc, &d, found)?),
->>>>>>> 34c3d7eb3d9f63ce0ff1f118b32c2fe400f7640e
         c: d.c,
     })
 }
