@@ -3,6 +3,7 @@ pub mod Bounds
 pub mod CommonDenominators
 pub mod Existing
 pub mod Fitting
+pub mod LeastOfTwo
 pub mod Lowest
 pub mod Multiples
 pub mod Normal

@@ -3,7 +3,7 @@ use Rattle.std.specs.Prelude.{◌≡◌}
 use Rattle.periodic_net.specs.Graph.{Graph, IsConnected}
 use Rattle.periodic_net.specs.Placement.{IsNormalPlacement, IsWithinLimits}
 use Rattle.fraction.specs.Reduced.{IsNarrow}
-use Rattle.fraction.specs.Values.{value_of}
+use Rattle.fraction.specs.Values.{fraction_value}
 use Rattle.quotient_graph.specs.PlacedNets.{PlacedNet}
 use Rattle.connected_dim.specs.Refusals.{IsDisconnectedBy, IsDegenerateBy}
 use Rattle.elimination.specs.Faults.{IsFirstWide}
@@ -24,7 +24,7 @@ IsUnconnected G NoMemory = ⊥
 abbrev pub IsUnplaced : Graph → Graph → Refusal → Type 0
 IsUnplaced G H (Disconnected split) = IsDisconnectedBy G split
 IsUnplaced G H (Degenerate split) = IsDegenerateBy G split
-IsUnplaced G H (TooWide at wide) = IsConnected G × IsFirstWide 0 IsNarrow value_of (listed_numbers H) at wide
+IsUnplaced G H (TooWide at wide) = IsConnected G × IsFirstWide 0 IsNarrow fraction_value (listed_numbers H) at wide
 IsUnplaced G H (WidePlacement w) = IsConnected G × IsWidePlacement H w
 IsUnplaced G H NoMemory = ⊥
 
