@@ -1,5 +1,5 @@
 -- The least common multiple of two numbers.
-use Rattle.std.proofs.Common.{◌≡◌, ◌⊎◌, inl, inr, ℕ, zero, suc, arith, ◌<◌, List, [], ◌∷◌, length, get_or, sym, refl, subst, ⊎_elim}
+use Rattle.std.proofs.Common.{◌≡◌, ◌⊎◌, inl, inr, ℕ, zero, suc, arith, ◌<◌, [], ◌∷◌, length, get_or, sym, refl, subst, ⊎_elim}
 use Rattle.std.specs.Int.{◌∣◌}
 use Rattle.std.specs.List.{Contains}
 use Rattle.integers.specs.Divisors.{IsLeastMultiple}

@@ -1,5 +1,5 @@
 -- The steps of `place` together: the faults as faults of the net, and the units as its normal placement.
-use Rattle.std.proofs.Common.{◌≡◌, inl, ℕ, zero, suc, arith, ◌+◌, ◌-◌, ◌<◌, ◌^◌, List, [], ◌∷◌, length, sym, subst, unsigned_abs}
+use Rattle.std.proofs.Common.{◌≡◌, ℕ, zero, suc, arith, ◌+◌, ◌-◌, ◌<◌, ◌^◌, List, [], ◌∷◌, length, sym, subst, unsigned_abs}
 use Rattle.std.specs.Prelude.{ℤ, pos, ◌≤ℤ◌, slice_index_or}
 use Rattle.std.specs.Int.{◌∣◌}
 use Rattle.integers.specs.Vectors.{Vector, zero_vector, HasDimension, IsWithin}

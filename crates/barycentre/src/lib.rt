@@ -13,6 +13,3 @@ mod units;
 
 pub use faults::{PlaceFault, WidePlacement, WideSite};
 pub use placing::place;
-
-#[cfg(test)]
-mod tests;
