@@ -16,6 +16,7 @@ pub mod ListOrder
 pub mod Matched
 pub mod Members
 pub mod Modulo
+pub mod OneStaircase
 pub mod Order
 pub mod Permutations
 pub mod Pigeonhole

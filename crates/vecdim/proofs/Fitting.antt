@@ -1,5 +1,5 @@
 -- Products of the parts of vectors fit in 128 bits.
-use Rattle.std.proofs.Common.{ℤ, ◌≤◌, ◌*◌, ◌^◌, ◌-ℤ◌, ◌*ℤ◌, arith, FitsSigned}
+use Rattle.std.proofs.Common.{ℤ, ◌≤◌, ◌^◌, ◌-ℤ◌, ◌*ℤ◌, arith, FitsSigned}
 use Rattle.std.specs.Prelude.{unsigned_abs}
 use Rattle.std.specs.Int.{w128}
 use Rattle.integers.specs.Vectors.{Vector, IsWithin}

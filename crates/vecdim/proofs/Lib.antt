@@ -8,6 +8,9 @@ pub mod Fitting
 pub mod Generated
 pub mod Inserting
 pub mod Lattice
+pub mod Remainders
+pub mod Spanning
+pub mod Splitting
 pub mod Stairway
-pub mod OneStair
 pub mod Starting
+pub mod Whole

@@ -1,4 +1,4 @@
-use Rattle.std.proofs.Common.{◌↔◌, ◌≢◌, ◌∙◌, ap, subst}
+use Rattle.std.proofs.Common.{◌↔◌, ◌≢◌, ◌∙◌, subst}
 use Rattle.std.specs.Prelude.{IsTrue, not}
 use Rattle.integers.specs.Vectors.{Vector, zero_vector, cross}
 use Rattle.integers.proofs.FewVectors.{two_vectors}

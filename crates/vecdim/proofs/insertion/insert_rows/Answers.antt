@@ -3,7 +3,7 @@ use Rattle.std.specs.Int.{w128}
 use Rattle.std.proofs.lemmas.Int.{to_z-of_z}
 use Rattle.vecdim.proofs.Dividing.{fits_within, at_most, up_to, boxed_fits, boxed_first, boxed_second, boxed_third}
 use Rattle.vecdim.proofs.Assembling.{assemble}
-use Rattle.vecdim.proofs.staircase.insert_rows.Goals as goal
+use Rattle.vecdim.proofs.insertion.insert_rows.Goals as goal
 
 pub column-one-requires-clause-upper : goal.column-one-requires-clause-upper
 column-one-requires-clause-upper c =
