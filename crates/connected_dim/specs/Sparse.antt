@@ -6,12 +6,6 @@ use Rattle.periodic_net.specs.Split.{Split}
 use Rattle.vecdim.specs.Stairs.{Stairs}
 use Rattle.walk_lattice.specs.Search.{shift_of}
 
--- all pivots are 1
-pub record IsWhole (S : Stairs) : Type 0 where
-  pub a : S.a ≡ pos 1
-  pub e : S.e ≡ pos 1
-  pub i : S.i ≡ pos 1
-
 -- c is -b modulo q, where b is from 0 to below q
 abbrev pub IsComplement : ℤ → ℤ → ℤ → Type 0
 IsComplement q b c = ((b ≡ pos 0) × (c ≡ pos 0)) ⊎ ((b ≢ pos 0) × (c ≡ q -ℤ b))

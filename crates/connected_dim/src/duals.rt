@@ -2,8 +2,8 @@
 // of it.
 ghost use Rattle.std.specs.Prelude.{◌≡◌, ◌⊎◌, ◌≤◌, ◌^◌, unsigned_abs, pos, None, IfSome, ◌≤ℤ◌, ◌<ℤ◌};
 ghost use Rattle.integers.specs.Vectors.{vector, IsWithin};
-ghost use Rattle.vecdim.specs.Stairs.{stairs, IsReducedStair, HasStairShape};
-ghost use Rattle.connected_dim.specs.Sparse.{IsWhole, IsComplement, IsThirdDual, IsDual};
+ghost use Rattle.vecdim.specs.Stairs.{stairs, IsReducedStair, HasStairShape, IsWhole};
+ghost use Rattle.connected_dim.specs.Sparse.{IsComplement, IsThirdDual, IsDual};
 
 use vecdim::{Staircase, Triple};
 

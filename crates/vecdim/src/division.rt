@@ -59,10 +59,8 @@ fn split_less_two(z: i128, c: i128, k: i128, f: i128, l: i128, m: i128) -> Divis
     ensures from { pos 0 ≤ℤ result.rest }
     ensures to { result.rest <ℤ m }
     ensures same { (z -ℤ c *ℤ k) -ℤ f *ℤ l ≡ result.rest +ℤ m *ℤ result.quotient }
-    ensures within {
-        (n : ℕ) → unsigned_abs z ≤ n → unsigned_abs k ≤ n → unsigned_abs l ≤ n
-            → unsigned_abs result.quotient ≤ 2 * n
-    }
+    ensures within { (n : ℕ) → unsigned_abs z ≤ n → unsigned_abs k ≤ n → unsigned_abs l ≤ n
+        → unsigned_abs result.quotient ≤ 2 * n }
 {
     split(less(less(z, c, k), f, l), m)
 }

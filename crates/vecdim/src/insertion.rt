@@ -19,10 +19,8 @@ pub(crate) struct Rows {
 // The rows of the lattice with all multiples of a vector added; the multiples of m belong to it.
 pub(crate) fn insert_rows(s: Rows, vx: i128, vy: i128, vz: i128, m: i128) -> Rows
     requires kept { IsBoundedStair m (stairs s.a s.b s.c s.e s.f s.i) }
-    ensures {
-        IsInserted m (stairs s.a s.b s.c s.e s.f s.i)
-            (stairs result.a result.b result.c result.e result.f result.i) (vector vx vy vz)
-    }
+    ensures { IsInserted m (stairs s.a s.b s.c s.e s.f s.i)
+        (stairs result.a result.b result.c result.e result.f result.i) (vector vx vy vz) }
 {
     let x = modulo(vx, m);
     let y = modulo(vy, m);

@@ -14,6 +14,3 @@ mod vectors;
 pub use products::{cross, independent, triple};
 pub use staircase::{Staircase, rows_are_one};
 pub use vectors::{Row, Shift, Triple, Vect};
-
-#[cfg(test)]
-mod tests;

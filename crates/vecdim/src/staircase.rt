@@ -6,8 +6,8 @@ ghost use Rattle.vecdim.specs.Stairs.{stairs, HasStairShape, HasFlatEnd, IsRemai
 ghost use Rattle.vecdim.specs.Lattices.{Members, AreMultiples, IsWith};
 ghost use Rattle.vecdim.specs.Steps.{IsBoundedStair};
 
-use crate::insertion::{Rows, insert_rows};
 use crate::division::divide_by;
+use crate::insertion::{Rows, insert_rows};
 use crate::{Triple, Vect};
 use std::marker::Model;
 

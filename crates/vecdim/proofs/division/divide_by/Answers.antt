@@ -136,6 +136,6 @@ returns-clause-within c =
     rw (sym c.v.view_is)
     (simp to_z-of_z
     (λ m h.
-        let x = w' m (first_bound v.x s.a m c.requires.reduced.a h.0) in
-        let y = u' m h.1 x in
-        (twice (unsigned_abs c.split-x.result.quotient) m x, twice (unsigned_abs c.split_less-y.result.quotient) m y, o' m h.2 x y)))
+    let x = w' m (first_bound v.x s.a m c.requires.reduced.a h.0) in
+    let y = u' m h.1 x in
+    (twice (unsigned_abs c.split-x.result.quotient) m x, twice (unsigned_abs c.split_less-y.result.quotient) m y, o' m h.2 x y)))

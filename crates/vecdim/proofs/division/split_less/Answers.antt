@@ -16,6 +16,6 @@ returns-clause-within c =
     let w = c.split.ensures.within in
     let w' = simp to_z-of_z at w in
     λ n h k.
-        w' n
-        (subst (λ (t : ℤ). unsigned_abs t ≤ n * unsigned_abs c.args.m) (sym e')
-        (second_bound c.args.z c.args.b c.args.k c.args.m n c.requires.b_from c.requires.b_to h k))
+    w' n
+    (subst (λ (t : ℤ). unsigned_abs t ≤ n * unsigned_abs c.args.m) (sym e')
+    (second_bound c.args.z c.args.b c.args.k c.args.m n c.requires.b_from c.requires.b_to h k))

@@ -26,6 +26,6 @@ returns-clause-within c =
     let w' = simp to_z-of_z at w in
     let h = c.requires in
     λ n i j k.
-        w' (2 * n)
-        (subst (λ (t : ℤ). unsigned_abs t ≤ 2 * n * unsigned_abs c.args.m) (sym e)
-        (third_bound c.args.z c.args.c c.args.k c.args.f c.args.l c.args.m n h.c_from h.c_to h.f_from h.f_to i j k))
+    w' (2 * n)
+    (subst (λ (t : ℤ). unsigned_abs t ≤ 2 * n * unsigned_abs c.args.m) (sym e)
+    (third_bound c.args.z c.args.c c.args.k c.args.f c.args.l c.args.m n h.c_from h.c_to h.f_from h.f_to i j k))

@@ -17,8 +17,7 @@ returns-clause-difference g c =
     let m = subst (λ (v : Vector). InStairs S (minus v rest)) c.to_triple.ensures.value (divided_member {S = S} {v = c.to_triple.result} {r = rest} h) in
     let n = subst (λ (T : Stairs). InStairs T (minus c.args.v.now rest)) c.self.view_is m in
     let a = subst (HasDimension d) c.to_triple.ensures.value c.to_triple.ensures.dimension in
-    let b = (divided_remainder d shape h).dimension in
-    (
+    let b = (divided_remainder d shape h).dimension in (
       subst (λ (w : Vector). InStairs c.args.self.now (minus c.args.v.now w)) (sym c.to_vector.ensures) n,
       subst (λ (w : Vector). HasDimension d (minus c.args.v.now w)) (sym c.to_vector.ensures) (minus_dimension d c.args.v.now rest a b),
     )
