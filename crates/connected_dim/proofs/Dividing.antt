@@ -4,10 +4,10 @@ use Rattle.std.specs.Prelude.{◌<ℤ◌, int_div}
 use Rattle.std.specs.Int.{w128, IsGcd}
 use Rattle.std.proofs.lemmas.Int.{ints, unsigned_abs-mul, to_z-of_z, quot_is, quot_fits}
 use Rattle.integers.specs.Vectors.{Vector, zero_vector, IsWithin}
-use Rattle.integers.proofs.Ring.{zero_or_not}
-use Rattle.integers.proofs.Vectors.{vector_equal}
-use Rattle.integers.proofs.Bounds.{fits_from_bound}
-use Rattle.integers.proofs.Division.{exact_quotient}
+use Rattle.integers.proofs.numbers.Ring.{zero_or_not}
+use Rattle.integers.proofs.vectors.Laws.{vector_equal}
+use Rattle.integers.proofs.vectors.Bounds.{fits_from_bound}
+use Rattle.integers.proofs.numbers.Division.{exact_quotient}
 use Rattle.exact.specs.Combination.{IsCombination}
 use Rattle.connected_dim.specs.Flat.{IsDivisor}
 use Rattle.connected_dim.proofs.Reductions.{divisor_is}

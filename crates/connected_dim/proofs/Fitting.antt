@@ -4,8 +4,8 @@ use Rattle.std.specs.Prelude.{unsigned_abs}
 use Rattle.std.specs.Int.{w128}
 use Rattle.integers.specs.Vectors.{Vector, vector, dot, IsWithin}
 use Rattle.std.proofs.lemmas.Int.{to_z-of_z}
-use Rattle.integers.proofs.Vectors.{vector_equal}
-use Rattle.integers.proofs.Bounds.{bounded_product, bounded_minor, bounded_dot, fits_from_bound}
+use Rattle.integers.proofs.vectors.Laws.{vector_equal}
+use Rattle.integers.proofs.vectors.Bounds.{bounded_product, bounded_minor, bounded_dot, fits_from_bound}
 
 -- a product of two parts
 pub part_fits : (a b : ℤ) → unsigned_abs a ≤ 511500 → unsigned_abs b ≤ 511500 → FitsSigned w128 (a *ℤ b)

@@ -4,9 +4,9 @@ use Rattle.std.proofs.lemmas.List.{length-map, get_or-map}
 use Rattle.std.specs.List.{AllByRecursion}
 use Rattle.std.proofs.lemmas.List.Elements.{recursion_from_All, All-from_recursion}
 use Rattle.integers.specs.Vectors.{Vector, zero_vector, minus, dot}
-use Rattle.integers.proofs.Members.{contains_from_in, IsIn}
-use Rattle.integers.proofs.Ring.{ring, linear}
-use Rattle.integers.proofs.Vectors.{plus_minus, zero_plus, dot_plus}
+use Rattle.integers.proofs.lists.Members.{contains_from_in, IsIn}
+use Rattle.integers.proofs.numbers.Ring.{ring, linear}
+use Rattle.integers.proofs.vectors.Laws.{plus_minus, zero_plus, dot_plus}
 use Rattle.periodic_net.specs.Graph.{Graph, IsGraph, IsEdge, Arc, IsArc, arcs, both_ways, IsQuotientVertex, vertex}
 use Rattle.periodic_net.specs.Split.{Split, entry, ClosedShift, WalkShift, IsOrthogonal, IsFlatSplit}
 use Rattle.periodic_net.proofs.Walks.{reached_transitive, reached_moved, reached_turned, same_reached}

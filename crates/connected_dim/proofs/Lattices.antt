@@ -4,8 +4,8 @@ use Rattle.std.proofs.lemmas.Int.{ints}
 use Rattle.std.specs.List.{AllByRecursion}
 use Rattle.std.proofs.lemmas.List.Elements.{recursion_from_All}
 use Rattle.integers.specs.Vectors.{Vector, times, combination}
-use Rattle.integers.proofs.Ring.{ring, linear}
-use Rattle.integers.proofs.Vectors.{vector_equal}
+use Rattle.integers.proofs.numbers.Ring.{ring, linear}
+use Rattle.integers.proofs.vectors.Laws.{vector_equal}
 use Rattle.connected_dim.proofs.Trees.{IsGroup}
 
 module _ (L : Vector → Type 0) (h : IsGroup L) where

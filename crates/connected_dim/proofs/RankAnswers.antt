@@ -1,9 +1,9 @@
 -- The answers on the rank of closed walks.
 use Rattle.std.proofs.Common.{◌≡◌, ◌≢◌, ℕ, ℤ, pos, ◌+ℤ◌, ◌-ℤ◌, ◌*ℤ◌, neg_ℤ, ◌<ℤ◌, ◌≤ℤ◌, ◌≤◌, ◌*◌, ◌^◌, unsigned_abs, List, All, Contains, ◌⊎◌, inl, inr, refl, sym, ap, subst, ◌∙◌, arith}
 use Rattle.integers.specs.Vectors.{Vector, vector, zero_vector, dot, IsWithin}
-use Rattle.integers.proofs.Ring.{ring, linear}
-use Rattle.integers.proofs.Vectors.{vector_equal}
-use Rattle.integers.proofs.Bounds.{bounded_dot}
+use Rattle.integers.proofs.numbers.Ring.{ring, linear}
+use Rattle.integers.proofs.vectors.Laws.{vector_equal}
+use Rattle.integers.proofs.vectors.Bounds.{bounded_dot}
 use Rattle.connected_dim.specs.Flat.{IsFlatNormal, IsReduction}
 use Rattle.integers.specs.Vectors.{cross}
 use Rattle.connected_dim.specs.Full.{IsVolume}

@@ -2,16 +2,16 @@
 use Rattle.std.proofs.Common.{◌≡◌, ◌≢◌, ℕ, zero, suc, ◌<◌, ℤ, pos, neg_ℤ, ◌+ℤ◌, ◌-ℤ◌, ◌*ℤ◌, ◌≤ℤ◌, unsigned_abs, List, [], ◌∷◌, get_or, length, All, ◌⊎◌, inl, inr, refl, sym, ap, subst, ◌∙◌, arith}
 use Rattle.std.proofs.lemmas.Int.{ints}
 use Rattle.integers.specs.Vectors.{Vector, vector, zero_vector, plus, opposite, times, dot, triple_product, combination, HasDimension}
-use Rattle.integers.proofs.Ring.{ring, linear, other_factor_zero}
-use Rattle.integers.proofs.Vectors.{vector_equal, plus_zero, zero_plus, plus_commutative, minus_itself, one_times, zero_times, product_times}
-use Rattle.integers.proofs.Filters.{all_at}
-use Rattle.integers.proofs.Cramer.{cramer, products}
+use Rattle.integers.proofs.numbers.Ring.{ring, linear, other_factor_zero}
+use Rattle.integers.proofs.vectors.Laws.{vector_equal, plus_zero, zero_plus, plus_commutative, minus_itself, one_times, zero_times, product_times}
+use Rattle.integers.proofs.lists.Filters.{all_at}
+use Rattle.integers.proofs.vectors.Cramer.{cramer, products}
 use Rattle.periodic_net.specs.Graph.{Graph, IsGraph, vertex}
 use Rattle.periodic_net.specs.Split.{ClosedShift}
 use Rattle.periodic_net.proofs.Walks.{reached_transitive, reached_itself, reached_moved, reached_turned, same_reached}
 use Rattle.vecdim.specs.Stairs.{Stairs}
 use Rattle.vecdim.specs.Lattices.{Members}
-use Rattle.vecdim.proofs.Lattice.{in_pair}
+use Rattle.vecdim.proofs.CallerLemmas.{in_pair}
 use Rattle.integers.specs.Vectors.{cross}
 use Rattle.connected_dim.specs.Full.{IsVolume}
 use Rattle.connected_dim.specs.Generators.{AreTree, generators}

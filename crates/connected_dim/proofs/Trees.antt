@@ -4,9 +4,9 @@ use Rattle.std.proofs.lemmas.List.{length-map}
 use Rattle.std.specs.List.{AllByRecursion}
 use Rattle.std.proofs.lemmas.List.Elements.{recursion_from_All, All-from_recursion}
 use Rattle.integers.specs.Vectors.{Vector, zero_vector, plus, opposite, HasDimension, IsWithin}
-use Rattle.integers.proofs.Ring.{linear}
-use Rattle.integers.proofs.Vectors.{vector_equal}
-use Rattle.integers.proofs.Filters.{all_at}
+use Rattle.integers.proofs.numbers.Ring.{linear}
+use Rattle.integers.proofs.vectors.Laws.{vector_equal}
+use Rattle.integers.proofs.lists.Filters.{all_at}
 use Rattle.periodic_net.specs.Graph.{Graph, IsGraph, Arc, reverse_of, both_ways, arcs, IsArc, IsQuotientVertex, Vertex, vertex, IsVertex, IsWalk}
 use Rattle.periodic_net.specs.Split.{ClosedShift, WalkShift, IsFound}
 use Rattle.periodic_net.proofs.Arcs.{joined_inside}

@@ -2,13 +2,13 @@
 use Rattle.std.proofs.Common.{◌≡◌, ◌⊎◌, ℕ, ◌≤ℤ◌, ℤ, pos, ◌+ℤ◌, ◌-ℤ◌, ◌*ℤ◌, List, [], ◌∷◌, All, sym, ap, subst, ◌∙◌, refl, arith}
 use Rattle.integers.specs.Vectors.{Vector, HasDimension}
 use Rattle.std.proofs.lemmas.Int.{ints}
-use Rattle.integers.proofs.Ring.{ring, linear}
+use Rattle.integers.proofs.numbers.Ring.{ring, linear}
 use Rattle.periodic_net.specs.Graph.{Graph, IsGraph, IsConnected}
 use Rattle.periodic_net.proofs.Generators.{connected_by_tree}
 use Rattle.vecdim.specs.Stairs.{Stairs, InStairs, HasStairShape}
 use Rattle.vecdim.specs.Steps.{HasAdded}
 use Rattle.vecdim.specs.Lattices.{Members, IsWith}
-use Rattle.vecdim.proofs.Adding.{with_of_added}
+use Rattle.vecdim.proofs.CallerLemmas.{with_of_added}
 use Rattle.connected_dim.specs.Generators.{shift_at, AreTree, generators}
 use Rattle.connected_dim.specs.Sparse.{IsWhole, IsLattice, IsLatticeOf}
 use Rattle.connected_dim.specs.Full.{IsVolume}

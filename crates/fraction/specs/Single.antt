@@ -5,8 +5,8 @@ use Rattle.std.specs.Int.{IsGcd, ◌∣◌}
 use Rattle.std.proofs.Math.Nat.{mul_comm, eq_of_mul-eq-mul_left}
 use Rattle.std.proofs.lemmas.Nat.Gcd.{dvd_antisymm, IsGcd-swap}
 use Rattle.std.proofs.lemmas.Int.{unsigned_abs-mul}
-use Rattle.integers.proofs.Ring.{ring, linear, cancel_factor, positive_not_zero}
-use Rattle.integers.proofs.Gcd.{divides_multiple, euclid}
+use Rattle.integers.proofs.numbers.Ring.{ring, linear, cancel_factor, positive_not_zero}
+use Rattle.integers.proofs.numbers.Gcd.{divides_multiple, euclid}
 use Rattle.exact.specs.Ratio.{Ratio, Same}
 use Rattle.fraction.specs.Reduced.{IsReduced}
 

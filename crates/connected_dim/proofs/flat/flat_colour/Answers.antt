@@ -1,7 +1,7 @@
 use Rattle.std.proofs.Common.{◌≤◌, ◌^◌, FitsSigned, neg_ℤ, unsigned_abs, sym, ap, subst, ◌∙◌, arith}
 use Rattle.std.specs.Int.{w64, w128}
 use Rattle.std.proofs.lemmas.Int.{to_z-of_z}
-use Rattle.integers.proofs.Bounds.{fits_from_bound}
+use Rattle.integers.proofs.vectors.Bounds.{fits_from_bound}
 use Rattle.connected_dim.proofs.Fitting.{flat_within}
 use Rattle.connected_dim.proofs.flat.flat_colour.Goals as goal
 

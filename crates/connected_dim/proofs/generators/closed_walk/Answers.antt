@@ -1,6 +1,6 @@
 use Rattle.std.proofs.Common.{ℤ, ◌≤◌, lit<, FitsSigned, unsigned_abs, arith}
 use Rattle.std.specs.Int.{w128}
-use Rattle.integers.proofs.Bounds.{fits_from_bound}
+use Rattle.integers.proofs.vectors.Bounds.{fits_from_bound}
 use Rattle.std.proofs.lemmas.Int.{ints, to_z-of_z}
 use Rattle.connected_dim.proofs.generators.closed_walk.Goals as goal
 

@@ -2,7 +2,7 @@ use Rattle.std.proofs.Common.{sym, subst, ap, List, ◌∷◌, drop, ◌+◌, �
 use Rattle.std.proofs.lemmas.List.{drop_more, drop_all}
 use Rattle.integers.specs.Vectors.{Vector}
 use Rattle.vecdim.specs.Lattices.{Members, IsWith}
-use Rattle.vecdim.proofs.Adding.{with_more, with_nothing}
+use Rattle.vecdim.proofs.CallerLemmas.{with_more, with_nothing}
 use Rattle.connected_dim.proofs.lattice.add_all.Goals as goal
 
 pub loop-g-preserved : goal.loop-g-preserved

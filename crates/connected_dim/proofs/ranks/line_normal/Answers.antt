@@ -2,7 +2,7 @@ use Rattle.std.proofs.Common.{◌≡◌, pos, of_z, to_z, sym, ap, subst, ◌∙
 use Rattle.std.specs.Int.{w128}
 use Rattle.std.proofs.lemmas.Int.{to_z-of_z}
 use Rattle.integers.specs.Vectors.{Vector, IsWithin}
-use Rattle.integers.proofs.Bounds.{fits_from_bound}
+use Rattle.integers.proofs.vectors.Bounds.{fits_from_bound}
 use Rattle.connected_dim.proofs.RankAnswers.{line_axis, line_across}
 use Rattle.connected_dim.proofs.ranks.line_normal.Goals as goal
 

@@ -2,7 +2,7 @@ use Rattle.std.proofs.Common.{◌≢◌, pos, refl, sym, subst, lit<, FitsSigned
 use Rattle.std.specs.Int.{w128}
 use Rattle.std.proofs.lemmas.Int.{to_z-of_z}
 use Rattle.integers.specs.Vectors.{Vector, IsWithin, HasDimension}
-use Rattle.integers.proofs.Filters.{all_at}
+use Rattle.integers.proofs.lists.Filters.{all_at}
 use Rattle.connected_dim.specs.Full.{IsVolume}
 use Rattle.connected_dim.proofs.RankAnswers.{flat_cross, full_flat, full_space, plane_in_space}
 use Rattle.connected_dim.proofs.ranks.rank_with.Goals as goal

@@ -1,7 +1,7 @@
 use Rattle.std.proofs.Common.{◌≤◌, unsigned_abs, sym, subst, ◌∙◌, arith}
 use Rattle.std.proofs.lemmas.Int.{to_z-of_z}
 use Rattle.integers.specs.Vectors.{vector, dot, IsWithin}
-use Rattle.integers.proofs.Bounds.{fits_from_bound}
+use Rattle.integers.proofs.vectors.Bounds.{fits_from_bound}
 use Rattle.connected_dim.proofs.Fitting.{kept_parts}
 use Rattle.connected_dim.proofs.RankAnswers.{volume_within}
 use Rattle.connected_dim.proofs.ranks.space_volume.Goals as goal

@@ -2,7 +2,7 @@ use Rattle.std.proofs.Common.{ℤ, ◌≤◌, unsigned_abs, FitsSigned, sym, ap,
 use Rattle.std.specs.Int.{w128}
 use Rattle.std.proofs.lemmas.Int.{to_z-of_z}
 use Rattle.integers.specs.Vectors.{Vector, IsWithin}
-use Rattle.integers.proofs.Bounds.{fits_from_bound}
+use Rattle.integers.proofs.vectors.Bounds.{fits_from_bound}
 use Rattle.connected_dim.proofs.reduction.over.Goals as goal
 
 fits : (z : ℤ) → unsigned_abs z ≤ 523264500000 → FitsSigned w128 z
