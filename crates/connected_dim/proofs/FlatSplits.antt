@@ -2,7 +2,7 @@
 use Rattle.std.proofs.Common.{◌≡◌, ℕ, ◌-◌, ℤ, pos, neg_ℤ, ◌+ℤ◌, ◌-ℤ◌, ◌*ℤ◌, List, map, get_or, Option, None, IsSome, All, refl, sym, ap, ◌∙◌, arith}
 use Rattle.std.proofs.lemmas.List.{length-map, get_or-map}
 use Rattle.integers.specs.Vectors.{Vector, minus}
-use Rattle.integers.proofs.Ring.{ring, linear}
+use Rattle.integers.proofs.numbers.Ring.{ring, linear}
 use Rattle.periodic_net.specs.Graph.{Graph, IsGraph, IsQuotientVertex}
 use Rattle.periodic_net.specs.Split.{entry, IsOrthogonal, IsFlatSplit}
 use Rattle.walk_lattice.specs.Search.{walk_to, AreWalks}

@@ -6,13 +6,12 @@ use Rattle.std.proofs.lemmas.Bool.{ne_eqb}
 use Rattle.std.proofs.lemmas.List.{length-map, get_or-map}
 use Rattle.integers.specs.Vectors.{Vector, vector, zero_vector, minus, dot}
 use Rattle.integers.specs.Staircase.{part, IsStaircase}
-use Rattle.integers.proofs.Ring.{ring, linear}
+use Rattle.integers.proofs.numbers.Ring.{ring, linear}
 use Rattle.periodic_net.specs.Graph.{Graph, IsGraph, IsQuotientVertex}
 use Rattle.periodic_net.specs.Split.{Split, AreAlike, entry, ClosedShift, IsPivot, IsSparseSplit, EndsBy}
 use Rattle.vecdim.specs.Stairs.{Stairs, InStairs, IsReducedStair, HasFlatEnd, HasStairShape, rows_of}
 use Rattle.vecdim.specs.Lattices.{Members}
-use Rattle.vecdim.proofs.Dividing.{remainder}
-use Rattle.vecdim.proofs.Stairway.{rows_are_basis}
+use Rattle.vecdim.proofs.CallerLemmas.{remainder, rows_are_basis}
 use Rattle.walk_lattice.specs.Search.{walk_to, AreWalks}
 use Rattle.walk_lattice.specs.Generators.{shift_at}
 use Rattle.walk_lattice.specs.Lattices.{AreClosedWalks}

@@ -3,8 +3,8 @@ use Rattle.std.proofs.Common.{◌≡◌, ℕ, zero, suc, ℤ, pos, neg_ℤ, ◌+
 use Rattle.std.specs.Prelude.{◌<ℤ◌}
 use Rattle.std.proofs.lemmas.Int.{ints}
 use Rattle.integers.specs.Vectors.{Vector, vector, zero_vector, plus, minus, dot, HasDimension}
-use Rattle.integers.proofs.Ring.{ring, linear}
-use Rattle.integers.proofs.Vectors.{plus_minus}
+use Rattle.integers.proofs.numbers.Ring.{ring, linear}
+use Rattle.integers.proofs.vectors.Laws.{plus_minus}
 use Rattle.periodic_net.specs.Graph.{Graph, IsGraph, Vertex, vertex, moved, IsVertex, IsQuotientVertex, AreJoined}
 use Rattle.periodic_net.specs.Split.{Split, AreAlike, entry, colour, IsSplit, IsFound, WalkShift, IsFlatSplit, IsSparseSplit}
 use Rattle.periodic_net.proofs.Walks.{reached_transitive, reached_by_arc, joined_moved, same_reached}

@@ -1,7 +1,7 @@
 -- The rows are the staircase basis of their lattice, and a lattice has one.
 use Rattle.std.proofs.Common.{◌≡◌, zero, suc, ℤ, pos, negsuc, ◌+ℤ◌, ◌-ℤ◌, ◌*ℤ◌, ◌<ℤ◌, ◌≤ℤ◌, refl, sym, ap, subst, ◌∙◌, arith, ◌⊎◌, inl, inr, ⊎_elim}
 use Rattle.std.proofs.lemmas.Int.{ints}
-use Rattle.integers.proofs.Ring.{ring, linear}
+use Rattle.integers.proofs.numbers.Ring.{ring, linear}
 use Rattle.integers.specs.Vectors.{Vector}
 use Rattle.vecdim.specs.Stairs.{InStairs, IsReducedStair, Stairs}
 use Rattle.vecdim.proofs.Inserting.{zero_factor}

@@ -1,6 +1,7 @@
 pub mod Adding
 pub mod Assembling
 pub mod Basis
+pub mod CallerLemmas
 pub mod Combos
 pub mod Deciding
 pub mod Dividing

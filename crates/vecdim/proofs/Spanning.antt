@@ -5,10 +5,10 @@ use Rattle.std.proofs.lemmas.Bool.Decides.{eqb_tells}
 use Rattle.integers.specs.Vectors.{Vector, vector, zero_vector, plus, opposite, combination, HasDimension}
 use Rattle.integers.specs.Lattices.{IsVectorGroup}
 use Rattle.integers.specs.Staircase.{Spans}
-use Rattle.integers.proofs.Groups.{combination_in}
-use Rattle.integers.proofs.Members.{IsIn}
-use Rattle.integers.proofs.Ring.{ring, linear}
-use Rattle.integers.proofs.Vectors.{vector_equal, plus_dimension, opposite_dimension}
+use Rattle.integers.proofs.vectors.Groups.{combination_in}
+use Rattle.integers.proofs.lists.Members.{IsIn}
+use Rattle.integers.proofs.numbers.Ring.{ring, linear}
+use Rattle.integers.proofs.vectors.Laws.{vector_equal, plus_dimension, opposite_dimension}
 use Rattle.vecdim.specs.Stairs.{Stairs, InStairs, HasStairShape, rows_of}
 use Rattle.vecdim.specs.Lattices.{Members}
 use Rattle.vecdim.proofs.Lattice.{in_pair, own_rows}

@@ -4,7 +4,7 @@ use Rattle.std.specs.Int.{w128}
 use Rattle.std.proofs.lemmas.Int.{ints}
 use Rattle.std.proofs.Math.Nat.{mul-le-mul_left, le_trans}
 use Rattle.integers.specs.Vectors.{Vector}
-use Rattle.integers.proofs.Bounds.{bounded_product, bounded_difference, fits_from_bound}
+use Rattle.integers.proofs.vectors.Bounds.{bounded_product, bounded_difference, fits_from_bound}
 use Rattle.vecdim.specs.Stairs.{Stairs, IsReducedStair}
 use Rattle.vecdim.specs.Steps.{IsDivided, HasSmallPivots}
 

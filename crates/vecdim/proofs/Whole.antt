@@ -3,8 +3,8 @@ use Rattle.std.proofs.Common.{◌≡◌, ℕ, ◌*◌, ◌≤◌, ◌<◌, ◌^�
 use Rattle.std.specs.Int.{w128}
 use Rattle.std.proofs.lemmas.Int.{ints}
 use Rattle.integers.specs.Vectors.{Vector, HasDimension}
-use Rattle.integers.proofs.Ring.{ring, linear}
-use Rattle.integers.proofs.Bounds.{bounded_product, fits_from_bound}
+use Rattle.integers.proofs.numbers.Ring.{ring, linear}
+use Rattle.integers.proofs.vectors.Bounds.{bounded_product, fits_from_bound}
 use Rattle.vecdim.specs.Stairs.{Stairs, InStairs, IsReducedStair, IsWhole, size_of}
 use Rattle.vecdim.specs.Steps.{HasAdded}
 use Rattle.vecdim.specs.Lattices.{Members, IsWith}

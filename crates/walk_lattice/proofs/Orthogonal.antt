@@ -2,8 +2,8 @@
 use Rattle.std.proofs.Common.{◌≡◌, ℕ, ◌≤◌, ℤ, pos, neg_ℤ, ◌+ℤ◌, ◌*ℤ◌, List, Option, ap, ◌∙◌, arith}
 use Rattle.integers.specs.Vectors.{Vector, dot}
 use Rattle.integers.specs.Lattices.{IsVectorGroup}
-use Rattle.integers.proofs.Ring.{ring, linear}
-use Rattle.integers.proofs.Vectors.{dot_plus}
+use Rattle.integers.proofs.numbers.Ring.{ring, linear}
+use Rattle.integers.proofs.vectors.Laws.{dot_plus}
 use Rattle.periodic_net.specs.Graph.{Graph, IsGraph}
 use Rattle.periodic_net.specs.Split.{ClosedShift}
 use Rattle.walk_lattice.specs.Search.{AreWalks}

@@ -1,8 +1,8 @@
 -- The answers on the rank of closed walks.
 use Rattle.std.proofs.Common.{◌≡◌, ◌≢◌, ℕ, ℤ, pos, ◌+ℤ◌, ◌-ℤ◌, ◌*ℤ◌, neg_ℤ, ◌<ℤ◌, ◌≤ℤ◌, ◌^◌, unsigned_abs, List, All, Contains, refl, sym, ap, subst, ◌∙◌, arith}
 use Rattle.integers.specs.Vectors.{Vector, vector, zero_vector, dot}
-use Rattle.integers.proofs.Ring.{ring, linear}
-use Rattle.integers.proofs.Vectors.{vector_equal}
+use Rattle.integers.proofs.numbers.Ring.{ring, linear}
+use Rattle.integers.proofs.vectors.Laws.{vector_equal}
 use Rattle.walk_lattice.specs.Flat.{IsFlatNormal, IsReduction}
 use Rattle.integers.specs.Vectors.{cross}
 use Rattle.walk_lattice.specs.Full.{IsVolume}

@@ -2,15 +2,15 @@
 use Rattle.std.proofs.Common.{◌≡◌, ◌≢◌, ℕ, ℤ, pos, neg_ℤ, ◌+ℤ◌, ◌-ℤ◌, ◌*ℤ◌, ◌≤ℤ◌, unsigned_abs, List, get_or, All, Option, ◌⊎◌, inl, inr, refl, sym, ap, subst, ◌∙◌, arith}
 use Rattle.std.proofs.lemmas.Int.{ints}
 use Rattle.integers.specs.Vectors.{Vector, vector, plus, opposite, times, dot, triple_product, HasDimension}
-use Rattle.integers.proofs.Ring.{ring, linear, other_factor_zero}
-use Rattle.integers.proofs.Vectors.{vector_equal, product_times}
-use Rattle.integers.proofs.Filters.{all_at}
-use Rattle.integers.proofs.Cramer.{cramer, products}
+use Rattle.integers.proofs.numbers.Ring.{ring, linear, other_factor_zero}
+use Rattle.integers.proofs.vectors.Laws.{vector_equal, product_times}
+use Rattle.integers.proofs.lists.Filters.{all_at}
+use Rattle.integers.proofs.vectors.Cramer.{cramer, products}
 use Rattle.periodic_net.specs.Graph.{Graph, IsGraph, IsQuotientVertex}
 use Rattle.periodic_net.specs.Split.{ClosedShift}
 use Rattle.vecdim.specs.Stairs.{Stairs}
 use Rattle.vecdim.specs.Lattices.{Members}
-use Rattle.vecdim.proofs.Lattice.{in_pair}
+use Rattle.vecdim.proofs.CallerLemmas.{in_pair, with_has, with_inside}
 use Rattle.integers.specs.Vectors.{cross}
 use Rattle.walk_lattice.specs.Full.{IsVolume}
 use Rattle.walk_lattice.specs.Search.{AreWalks}
@@ -19,9 +19,8 @@ use Rattle.walk_lattice.specs.Lattices.{IsLatticeOf, AreClosedWalks}
 use Rattle.integers.specs.Lattices.{IsVectorGroup}
 use Rattle.walk_lattice.proofs.ClosedWalks.{walk_dimension, closed_group}
 use Rattle.walk_lattice.proofs.Generated.{generators_closed, closed_in}
-use Rattle.integers.proofs.Groups.{times_in}
-use Rattle.integers.proofs.Members.{in_from_contains, contains_from_in}
-use Rattle.vecdim.proofs.Generated.{with_has, with_inside}
+use Rattle.integers.proofs.vectors.Groups.{times_in}
+use Rattle.integers.proofs.lists.Members.{in_from_contains, contains_from_in}
 use Rattle.std.proofs.lemmas.List.{get_or_default}
 use Rattle.walk_lattice.proofs.Reductions.{sign_of}
 

@@ -1,7 +1,7 @@
 use Rattle.std.proofs.Common.{◌≤◌, ◌^◌, unsigned_abs, sym, subst, ◌∙◌, arith}
 use Rattle.std.proofs.lemmas.Int.{to_z-of_z}
 use Rattle.integers.specs.Vectors.{IsWithin}
-use Rattle.integers.proofs.Bounds.{fits_from_bound}
+use Rattle.integers.proofs.vectors.Bounds.{fits_from_bound}
 use Rattle.periodic_net.specs.Limits.{most_walk}
 use Rattle.connected_dim.proofs.Fitting.{sparse_within}
 use Rattle.connected_dim.proofs.sparse.sparse_colour.Goals as goal

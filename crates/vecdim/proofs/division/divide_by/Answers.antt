@@ -1,7 +1,7 @@
 use Rattle.std.proofs.Common.{◌≤◌, ◌^◌, unsigned_abs, subst, sym, arith}
 use Rattle.std.proofs.lemmas.Int.{to_z-of_z}
 use Rattle.integers.specs.Vectors.{vector, IsWithin}
-use Rattle.integers.proofs.Bounds.{wider}
+use Rattle.integers.proofs.vectors.Bounds.{wider}
 use Rattle.vecdim.specs.Stairs.{stairs}
 use Rattle.vecdim.proofs.Fitting.{parts_fit}
 use Rattle.vecdim.proofs.Splitting.{first_bound, stair_small, stair_fits, rest_fits, quotient_fits, divided_is, twice}

@@ -1,7 +1,7 @@
 use Rattle.std.proofs.Common.{◌≡◌, ◌+ℤ◌, ◌*ℤ◌, FitsSigned, ◌∙◌, sym}
 use Rattle.std.specs.Int.{w128, int_rem_euclid}
 use Rattle.std.proofs.lemmas.Int.{to_z-of_z}
-use Rattle.integers.proofs.Division.{euclid_sum, euclid_rest, quotient_within}
+use Rattle.integers.proofs.numbers.Division.{euclid_sum, euclid_rest, quotient_within}
 use Rattle.vecdim.proofs.division.split.Goals as goal
 
 -- the number is the rest and the multiple

@@ -1,6 +1,6 @@
 use Rattle.std.proofs.Common.{sym, subst}
 use Rattle.integers.specs.Vectors.{Vector, minus, HasDimension}
-use Rattle.integers.proofs.Vectors.{minus_dimension}
+use Rattle.integers.proofs.vectors.Laws.{minus_dimension}
 use Rattle.vecdim.specs.Stairs.{Stairs, stairs, InStairs, HasStairShape}
 use Rattle.vecdim.proofs.Remainders.{divided_member, divided_remainder}
 use Rattle.vecdim.proofs.staircase.Staircase.remainder.Goals as goal

@@ -1,8 +1,7 @@
 -- What holds of all members of a list, and of those that pass a test.
-use Rattle.std.proofs.Common.{zero, List, subst, ◌≡◌, [], ◌∷◌, ◌∙◌, suc, arith, sym, ◌≢◌, inr, inl, false, cond, ap, Bool, refl, true}
-use Rattle.std.specs.List.{Contains, All, AllPairs, AllByRecursion, filter}
-use Rattle.std.proofs.lemmas.List.{get_or_default}
-use Rattle.integers.proofs.Members.{in_from_contains, contains_from_in, AreApart, IsIn}
+use Rattle.std.proofs.Common.{List, subst, ◌≡◌, [], ◌∷◌, ◌∙◌, sym, inr, inl, false, cond, ap, Bool, refl, true}
+use Rattle.std.specs.List.{Contains, All, AllByRecursion, filter}
+use Rattle.integers.proofs.lists.Members.{AreApart, IsIn}
 
 -- what holds of all members holds of one
 pub all_at : {X : Type 0} (P : X → Type 0) (xs : List X) (x : X) → All P xs → Contains xs x → P x

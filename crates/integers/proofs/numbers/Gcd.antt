@@ -6,9 +6,9 @@ use Rattle.std.proofs.lemmas.Nat.Gcd.{mod-eq-zero_of_dvd, same_from_IsGcd, dvd_t
 use Rattle.std.proofs.Math.Nat.{eq-zero_of_zero-dvd, dvd-mul_right, one-dvd, mul_assoc, mul_comm, eq_of_mul-eq-mul_left}
 use borrow.Author.Differences.{product_is}
 use Rattle.integers.specs.Divisors.{IsGreatestDivisor, IsLeastMultiple}
-use Rattle.integers.proofs.Ring.{ring, linear, positive_not_zero}
-use Rattle.integers.proofs.Members.{is_in, contains_from_in}
-use Rattle.integers.proofs.Bezout.{Bezout, bezout, coprime_combination, coprime_multiple}
+use Rattle.integers.proofs.numbers.Ring.{ring, linear, positive_not_zero}
+use Rattle.integers.proofs.lists.Members.{is_in, contains_from_in}
+use Rattle.integers.proofs.numbers.Bezout.{Bezout, bezout, coprime_combination, coprime_multiple}
 
 -- k is j times a number
 abbrev pub IsMultiple : ℕ → ℕ → Type 0

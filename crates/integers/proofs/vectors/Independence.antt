@@ -2,8 +2,8 @@
 use Rattle.std.proofs.Common.{◌≡◌, ◌≢◌, ℤ, pos, ◌+ℤ◌, ◌-ℤ◌, ◌*ℤ◌, neg_ℤ, [], ◌∷◌, ⊎_elim, inl, inr, ◌⊎◌, refl, sym, ap, ◌∙◌, arith}
 use Rattle.std.proofs.lemmas.Int.{ints}
 use Rattle.integers.specs.Vectors.{Vector, vector, triple_product, AreIndependent}
-use Rattle.integers.proofs.Ring.{ring, linear, zero_or_not, factor_zero}
-use Rattle.integers.proofs.Vectors.{vector_equal}
+use Rattle.integers.proofs.numbers.Ring.{ring, linear, zero_or_not, factor_zero}
+use Rattle.integers.proofs.vectors.Laws.{vector_equal}
 
 -- the determinant of three rows
 abbrev pub determinant : ℤ → ℤ → ℤ → ℤ → ℤ → ℤ → ℤ → ℤ → ℤ → ℤ

@@ -3,11 +3,11 @@ use Rattle.std.proofs.Common.{suc, zero, arith, ℕ, ◌≡◌, ◌*◌, ◌≤�
 use Rattle.std.proofs.Math.Nat.{mul_assoc, eq_of_mul-eq-mul_left}
 use Rattle.std.proofs.lemmas.Int.{ints}
 use Rattle.integers.specs.Vectors.{Vector, times, vector, DividesVector}
-use Rattle.integers.proofs.Tables.{table}
-use Rattle.integers.proofs.Ring.{ring}
-use Rattle.integers.proofs.Bezout.{bezout}
-use Rattle.integers.proofs.Gcd.{IsMultiple, natural_multiple, combination_of_multiples}
-use Rattle.integers.proofs.Vectors.{vector_equal}
+use Rattle.integers.proofs.lists.Tables.{table}
+use Rattle.integers.proofs.numbers.Ring.{ring}
+use Rattle.integers.proofs.numbers.Bezout.{bezout}
+use Rattle.integers.proofs.numbers.Gcd.{IsMultiple, natural_multiple, combination_of_multiples}
+use Rattle.integers.proofs.vectors.Laws.{vector_equal}
 
 -- the second factor of a positive product is positive
 pub factor_positive : (g k : ℕ) → 1 ≤ g * k → 1 ≤ k

@@ -3,9 +3,9 @@ use Rattle.std.proofs.Common.{◌≡◌, ℕ, zero, suc, ℤ, pos, negsuc, ◌+�
 use Rattle.std.proofs.lemmas.Int.{ints}
 use Rattle.integers.specs.Vectors.{Vector, plus, opposite, times, combination}
 use Rattle.integers.specs.Lattices.{IsVectorGroup}
-use Rattle.integers.proofs.Members.{IsIn}
-use Rattle.integers.proofs.Ring.{ring, linear}
-use Rattle.integers.proofs.Vectors.{vector_equal, zero_times}
+use Rattle.integers.proofs.lists.Members.{IsIn}
+use Rattle.integers.proofs.numbers.Ring.{ring, linear}
+use Rattle.integers.proofs.vectors.Laws.{vector_equal, zero_times}
 
 -- the next multiple
 next_times : (n : ℕ) (v : Vector) → times (pos (suc n)) v ≡ plus v (times (pos n) v)

@@ -5,7 +5,7 @@ use Rattle.std.specs.Int.{w128}
 use Rattle.std.proofs.lemmas.Int.{ints, unsigned_abs-mul, fits_signed_from_abs}
 use Rattle.std.proofs.Math.Nat.{mul-le-mul, le_trans}
 use Rattle.integers.specs.Vectors.{Vector, plus, minus, opposite, times, dot, cross, triple_product, IsWithin}
-use Rattle.integers.proofs.Members.{IsIn}
+use Rattle.integers.proofs.lists.Members.{IsIn}
 use Rattle.integers.specs.Lists.{total}
 
 -- |-a| = |a|

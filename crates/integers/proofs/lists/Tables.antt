@@ -2,7 +2,7 @@
 use Rattle.std.proofs.Common.{◌≡◌, ℕ, zero, suc, ◌<◌, ℤ, List, [], ◌∷◌, length, map, refl, sym, ap, arith}
 use Rattle.std.specs.Prelude.{slice_index_or}
 use Rattle.integers.specs.Vectors.{Vector, zero_vector, times}
-use Rattle.integers.proofs.Vectors.{times_zero}
+use Rattle.integers.proofs.vectors.Laws.{times_zero}
 
 -- f 0, f 1 and so on, n values
 abbrev pub table : (ℕ → Vector) → ℕ → List Vector

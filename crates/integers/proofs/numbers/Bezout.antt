@@ -1,7 +1,7 @@
 -- The greatest common divisor of two numbers as a combination of them, and factors that are coprime.
 use Rattle.std.proofs.lemmas.Int.{ints}
 use Rattle.std.proofs.Common.{pos, arith, ℤ, ◌≡◌, ◌≢◌, ◌*◌, ◌≤◌, ◌+ℤ◌, ◌*ℤ◌, ◌∙◌, ap, sym, ℕ, ◌+◌, ◌/◌, ◌%◌, ◌-ℤ◌, suc, zero}
-use Rattle.integers.proofs.Ring.{ring, cancel_factor, product_associative}
+use Rattle.integers.proofs.numbers.Ring.{ring, cancel_factor, product_associative}
 
 -- g = s·a + t·b, where a = g·k and b = g·l: the greatest common divisor of a and b
 pub record Bezout (a b : ℕ) : Type 0 where

@@ -6,9 +6,9 @@ use Rattle.std.specs.List.Sorted.{IsPermutation}
 use Rattle.std.proofs.lemmas.List.Sums.{sum_by-cons}
 use Rattle.std.proofs.lemmas.List.Sorted.{sum_by-IsPermutation}
 use borrow.Author.Differences.{up, down}
-use Rattle.integers.proofs.Members.{TakenOut, take_out, Carries, IsIn, AreApart}
+use Rattle.integers.proofs.lists.Members.{TakenOut, take_out, Carries, IsIn, AreApart}
 use Rattle.integers.specs.Lists.{total}
-use Rattle.integers.proofs.Ring.{ring, linear, product_zero, product_sum}
+use Rattle.integers.proofs.numbers.Ring.{ring, linear, product_zero, product_sum}
 
 -- a sum taken over the images of the members
 pub same_total : {X Y : Type 0} (f : X → Y) (g : Y → ℤ) (xs : List X) (ys : List Y) → AreApart xs → AreApart ys → Carries f xs ys

@@ -1,12 +1,12 @@
 -- Sets with the same members have one staircase basis.
-use Rattle.std.proofs.Common.{◌≡◌, ℕ, zero, suc, ◌<◌, ℤ, pos, ◌≤ℤ◌, List, length, refl, sym, ap, ◌∙◌, arith}
+use Rattle.std.proofs.Common.{◌≡◌, ℕ, zero, suc, ◌<◌, ℤ, pos, ◌≤ℤ◌, List, length, sym, ◌∙◌, arith}
 use Rattle.std.specs.Prelude.{◌<ℤ◌, ◌↔◌, drop, slice_index_or}
 use Rattle.std.proofs.lemmas.Int.{ints}
 use Rattle.std.proofs.lemmas.List.{ext_get_or}
 use Rattle.integers.specs.Vectors.{Vector, zero_vector, parts}
 use Rattle.integers.specs.Staircase.{part, IsZeroBefore, MayLead, IsStair, IsStaircase}
-use Rattle.integers.proofs.ListOrder.{at_most_both}
-use Rattle.integers.proofs.Vectors.{vector_equal}
+use Rattle.integers.proofs.lists.ListOrder.{at_most_both}
+use Rattle.integers.proofs.vectors.Laws.{vector_equal}
 
 -- less or equal both ways
 equal_of_both : (x y : ℤ) → x ≤ℤ y → y ≤ℤ x → x ≡ y
@@ -45,8 +45,8 @@ pub one_staircase : (L M : Vector → Type 0) (d : ℕ) (rows others : List Vect
 one_staircase L M d rows others s t h =
     ext_get_or zero_vector rows others (s.count ∙ sym t.count)
     (λ i l.
-        one_stair L M (λ w. (h w).0) (λ w. (h w).1) i (slice_index_or rows i zero_vector) (slice_index_or others i zero_vector)
-        (s.each i (below i (length rows) l s.count)) (t.each i (below i (length rows) l s.count)))
+    one_stair L M (λ w. (h w).0) (λ w. (h w).1) i (slice_index_or rows i zero_vector) (slice_index_or others i zero_vector)
+    (s.each i (below i (length rows) l s.count)) (t.each i (below i (length rows) l s.count)))
   where
     below : (i n : ℕ) → i < n → n ≡ d → i < d
     below i n l e = omega (arith, l, e)

@@ -8,7 +8,7 @@ use Rattle.std.specs.declared.cmp.Ordering.{Ordering}
 use Rattle.std.specs.declared.cmp.Ordering.TheVariants.{Less, Equal, Greater}
 use Rattle.std.specs.Cmp.Lexicographic.{slice_cmp}
 use Rattle.integers.specs.Vectors.{Vector, times, parts}
-use Rattle.integers.proofs.Ring.{product_sum}
+use Rattle.integers.proofs.numbers.Ring.{product_sum}
 
 -- what is above x is x and a positive number
 step_between : (x y : ℤ) → x <ℤ y → (d : ℕ) × (y ≡ x +ℤ pos (suc d))

@@ -3,8 +3,8 @@ use Rattle.std.proofs.Common.{◌≡◌, inl, inr, ◌↔◌, suc, ◌≤◌, Li
 use Rattle.std.specs.List.{AllPairs}
 use Rattle.std.specs.List.Sorted.{IsPermutation}
 use Rattle.std.proofs.lemmas.List.Sorted.{IsPermutation-refl, IsPermutation-trans, IsPermutation-cons, IsPermutation-sym}
-use Rattle.integers.proofs.Members.{TakenOut, take_out, contains_from_in, IsIn, AreApart}
-use Rattle.integers.proofs.Counting.{taken_length}
+use Rattle.integers.proofs.lists.Members.{TakenOut, take_out, contains_from_in, IsIn, AreApart}
+use Rattle.integers.proofs.lists.Counting.{taken_length}
 
 -- a list without repetition, all of whose members stand in a list that is no longer, is a permutation of it
 pub permutation_of_members : {X : Type 0} (xs ys : List X) → AreApart xs → ((x : X) → IsIn xs x → IsIn ys x) → length ys ≤ length xs → IsPermutation xs ys
