@@ -1,6 +1,7 @@
 pub mod Bounds
 pub mod Coordinates
 pub mod Cramer
+pub mod Directions
 pub mod FewVectors
 pub mod Groups
 pub mod Independence

@@ -49,7 +49,8 @@ pub record HasStairShape (d : ℕ) (S : Stairs) : Type 0 where
 
 -- the rows of dimension d
 abbrev pub rows_of : ℕ → Stairs → List Vector
-rows_of d S = vector S.a S.b S.c ∷ vector (pos 0) S.e S.f ∷ cond (d == 2) [] (vector (pos 0) (pos 0) S.i ∷ [])
+rows_of d S =
+    vector S.a S.b S.c ∷ vector (pos 0) S.e S.f ∷ cond (d == 2) [] (vector (pos 0) (pos 0) S.i ∷ [])
 
 -- the first parts of the rows that are not 0
 abbrev pub pivots_of : ℕ → Stairs → Vector

@@ -29,7 +29,7 @@ pub record IsBoxed (m : ℤ) (v : Vector) : Type 0 where
   pub z_from : pos 0 ≤ℤ v.z
   pub z_to : v.z <ℤ m
 
--- the multiples of m belong to the stair's lattice, each as a combination of the rows from its own on
+-- the multiples of m belong to the stair's lattice, each as a combination of rows from its own on
 pub record HasBound (S : Stairs) (m : ℤ) : Type 0 where
   pub first : InStairs S (vector m (pos 0) (pos 0))
   pub second_k : ℤ

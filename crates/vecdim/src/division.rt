@@ -14,7 +14,8 @@ fn split(z: i128, m: i128) -> Division
     ensures from { pos 0 ≤ℤ result.rest }
     ensures to { result.rest <ℤ m }
     ensures same { z ≡ result.rest +ℤ m *ℤ result.quotient }
-    ensures within { (n : ℕ) → unsigned_abs z ≤ n * unsigned_abs m → unsigned_abs result.quotient ≤ n }
+    ensures within { (n : ℕ) → unsigned_abs z ≤ n * unsigned_abs m
+        → unsigned_abs result.quotient ≤ n }
 {
     let quotient = z.div_euclid(m);
     let rest = z.rem_euclid(m);
@@ -41,7 +42,8 @@ fn split_less(z: i128, b: i128, k: i128, m: i128) -> Division
     ensures from { pos 0 ≤ℤ result.rest }
     ensures to { result.rest <ℤ m }
     ensures same { z -ℤ b *ℤ k ≡ result.rest +ℤ m *ℤ result.quotient }
-    ensures within { (n : ℕ) → unsigned_abs z ≤ n → unsigned_abs k ≤ n → unsigned_abs result.quotient ≤ n }
+    ensures within { (n : ℕ) → unsigned_abs z ≤ n → unsigned_abs k ≤ n
+        → unsigned_abs result.quotient ≤ n }
 {
     split(less(z, b, k), m)
 }

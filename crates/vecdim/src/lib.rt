@@ -1,4 +1,5 @@
-//! Vectors of whole numbers in two and three dimensions, their products, and lattices by their staircase basis.
+//! Vectors of whole numbers in two and three dimensions, their sums and products, and lattices by
+//! their staircase basis.
 #![tactic(auto)]
 
 mod arithmetic;

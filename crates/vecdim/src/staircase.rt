@@ -11,7 +11,8 @@ use crate::insertion::{Rows, insert_rows};
 use crate::{Triple, Vect};
 use std::marker::Model;
 
-/// A lattice of full rank. The rows stand in it twice: as plain numbers to reckon with, and as vectors to lend.
+/// A lattice of full rank.
+// The rows stand in it twice: as plain numbers to reckon with, and as vectors to lend.
 #[derive(Drop)]
 pub struct Staircase<const D: usize> {
     list: [Vect<D>; 3],
@@ -29,9 +30,11 @@ impl<const D: usize> Model for Staircase<D> {
 
     ghost view = { λ t. stairs t.rows.a t.rows.b t.rows.c t.rows.e t.rows.f t.rows.i };
 
-    ghost invariant = { λ t. (2 ≤ D) × (D ≤ 3) × (D ≡ 2 → HasFlatEnd (stairs t.rows.a t.rows.b t.rows.c t.rows.e t.rows.f t.rows.i))
+    ghost invariant = { λ t. (2 ≤ D) × (D ≤ 3)
+        × (D ≡ 2 → HasFlatEnd (stairs t.rows.a t.rows.b t.rows.c t.rows.e t.rows.f t.rows.i))
         × IsBoundedStair t.bound (stairs t.rows.a t.rows.b t.rows.c t.rows.e t.rows.f t.rows.i)
-        × (t.list ≡ vector t.rows.a t.rows.b t.rows.c ∷ vector (pos 0) t.rows.e t.rows.f ∷ vector (pos 0) (pos 0) (cond (D == 2) (pos 0) t.rows.i) ∷ []) };
+        × (t.list ≡ vector t.rows.a t.rows.b t.rows.c ∷ vector (pos 0) t.rows.e t.rows.f
+        ∷ vector (pos 0) (pos 0) (cond (D == 2) (pos 0) t.rows.i) ∷ []) };
 }
 
 // The staircase of these rows.

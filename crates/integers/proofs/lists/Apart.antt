@@ -1,6 +1,7 @@
 -- Lists in which nothing stands twice: also after their elements have changed places, and as tests of one element after
 -- the other.
 use Rattle.std.proofs.Common.{◌≡◌, ◌≢◌, ◌⊎◌, inl, inr, ℕ, ◌<◌, List, [], ◌∷◌, length, get_or, refl, sym, ap, ◌∙◌, arith}
+use Rattle.std.proofs.lemmas.Bool.{cases_eq, cases_order}
 use Rattle.std.specs.List as lists
 use Rattle.std.specs.List.{AllPairs, AllByRecursion}
 use Rattle.std.specs.List.Sorted.{IsPermutation}
@@ -14,10 +15,6 @@ use Rattle.std.proofs.lemmas.List.Edits.{Swapped, swapped_from_swap, length-swap
 abbrev pub StandsOnce : {X : Type 0} → List X → Type 0
 StandsOnce {X} xs = (i j : ℕ) (d : X) → i < length xs → j < length xs → get_or xs i d ≡ get_or xs j d → i ≡ j
 
--- two places are one or not
-either : (i j : ℕ) → (i ≡ j) ⊎ (i ≢ j)
-either i j = grind arith
-
 -- where the element at i stood before two elements changed places
 record Source {X : Type 0} (f g : ℕ → X) (a b i : ℕ) : Type 0 where
   at : ℕ
@@ -26,9 +23,9 @@ record Source {X : Type 0} (f g : ℕ → X) (a b i : ℕ) : Type 0 where
 
 -- it is found
 source : {X : Type 0} (f g : ℕ → X) (a b i : ℕ) → Swapped f g a b → Source f g a b i
-source f g a b i s = elim (either i a) [
+source f g a b i s = elim (cases_eq i a) [
   | inl e ↦ record { at = b; is = ap g e ∙ s.0; which = inl (e, refl) }
-  | inr n ↦ elim (either i b) [
+  | inr n ↦ elim (cases_eq i b) [
     | inl e ↦ record { at = a; is = ap g e ∙ s.1; which = inr (inl (n, e, refl)) }
     | inr m ↦ record { at = i; is = s.2 i n m; which = inr (inr (n, m, refl)) }
   ]
@@ -63,13 +60,10 @@ permuted_once xs ys p once = IsPermutation-keeps xs StandsOnce once swap_once ys
 
 -- std's `AllPairs` says the same
 pub once_from_pairs : {X : Type 0} (xs : List X) → AllPairs (λ x y. x ≢ y) xs → StandsOnce xs
-once_from_pairs xs apart i j d k m e = elim (order i j) [
-  | inl l ↦ absurd (apart i j d l m e)
-  | inr r ↦ elim r [ inl l ↦ absurd (apart j i d l k (sym e)) | inr q ↦ q ]
+once_from_pairs xs apart i j d k m e = elim (cases_order i j) [
+  | inl q ↦ q
+  | inr r ↦ elim r [ inl l ↦ absurd (apart i j d l m e) | inr l ↦ absurd (apart j i d l k (sym e)) ]
 ]
-  where
-    order : (i j : ℕ) → (i < j) ⊎ ((j < i) ⊎ (i ≡ j))
-    order i j = grind arith
 
 -- and the other way
 pub pairs_from_once : {X : Type 0} (xs : List X) → StandsOnce xs → AllPairs (λ x y. x ≢ y) xs
