@@ -1,12 +1,10 @@
 pub mod Balance
-pub mod Bounds
 pub mod CommonDenominators
 pub mod Existing
 pub mod Fitting
 pub mod Lowest
 pub mod Multiples
 pub mod Normal
-pub mod Reach
 pub mod Rows
 pub mod Stars
 pub mod WholeUnits

@@ -3,9 +3,9 @@ use Rattle.std.proofs.Common.{◌≡◌, Bool, true, false, cond, List, [], ◌�
 use Rattle.std.proofs.lemmas.List.{append_assoc}
 use Rattle.cgd_read.specs.Lines.{LineView}
 use Rattle.cgd_read.specs.Faults.{is_end}
-use Rattle.cgd_read.specs.BlockViews.{BlockView}
+use Rattle.cgd_read.specs.Views.{BlockView}
 use Rattle.cgd_read.specs.Blocks.{blocks_from, block_of}
-use Rattle.cgd_read.specs.Passing.{after_end}
+use Rattle.cgd_read.specs.Reading.{after_end}
 
 -- a block is passed over up to its end
 pub passed_over : (lines : List LineView) → blocks_from true lines ≡ blocks_from false (after_end lines)

@@ -1,10 +1,10 @@
 -- A graph block is exactly what its first faulty line, its end or the end of the text decides.
 use Rattle.std.proofs.Common.{◌≡◌, ◌⊎◌, inl, inr, ℕ, Bool, true, false, cond, List, [], ◌∷◌, None, Some, refl, sym, ap, subst, ◌∙◌}
 use Rattle.cgd_read.specs.Lines.{LineView}
-use Rattle.cgd_read.specs.Faults.{is_end, rows_of, first_true, table}
-use Rattle.cgd_read.specs.BlockViews.{BlockView, Net, net_of}
-use Rattle.cgd_read.specs.Blocks.{with_body, malformed, or_fault, graph_block}
-use Rattle.cgd_read.specs.GraphBlocks.{AllFalse, IsFirstTrue, in_order, AllPass, IsDecided, IsGraphBlock}
+use Rattle.cgd_read.specs.Faults.{is_end, rows_in, first_true, table}
+use Rattle.cgd_read.specs.Views.{BlockView, Net}
+use Rattle.cgd_read.specs.Graphs.{net_of}
+use Rattle.cgd_read.specs.Blocks.{with_body, malformed, or_fault, graph_block, AllFalse, IsFirstTrue, in_order, AllPass, IsDecided, IsGraphBlock}
 use Rattle.cgd_read.specs.declared.block.BlockFaultKind.{BlockFaultKind}
 
 either_way : (t : Bool) → (t ≡ true) ⊎ (t ≡ false)
@@ -36,7 +36,7 @@ search_table (test ∷ tests) = elim (either_way test.1) [
 ]
 
 abbrev ended : ℕ → List LineView → BlockView
-ended opening earlier = with_body opening earlier (Net (net_of (rows_of earlier)))
+ended opening earlier = with_body opening earlier (Net (net_of (rows_in earlier)))
 
 -- a line that passes is passed over
 passes_on : (opening : ℕ) (earlier : List LineView) (line : LineView) (later : List LineView) → AllFalse (table earlier line) → is_end line.kind ≡ false

@@ -1,4 +1,5 @@
-mod Held
+mod Caps
+mod SoundLines
 mod FieldLists
 mod LineLists
 mod NameSets

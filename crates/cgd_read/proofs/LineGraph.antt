@@ -1,11 +1,12 @@
 -- Lines without a fault make a graph that may be read.
 use Rattle.std.proofs.Common.{◌≡◌, ◌⊎◌, ℕ, ◌≤◌, ◌==◌, nat_lt, Bool, true, false, cond, not, ◌||◌, ◌&&◌, List, [], ◌∷◌, length, Option, None, Some, refl, sym, ap, subst, arith}
 use Rattle.std.proofs.lemmas.Bool.Decides.{nat_tests}
+use Rattle.periodic_net.specs.Limits.{most_vertices, most_edges}
 use Rattle.cgd_read.specs.Lines.{LineView}
 use Rattle.cgd_read.specs.Edges.{vertices_of, edges_of, is_self_edge, first_size, has_rows}
-use Rattle.cgd_read.specs.Faults.{has_row, is_end, rows_of, first_true, table, fault_of, has_wrong_length, has_other_length, has_self_edge, brings_many_vertices, brings_many_edges, ends_without_rows}
-use Rattle.cgd_read.specs.GraphBlocks.{AllFalse}
-use Rattle.cgd_read.specs.Sound.{IsSound, AllSound}
+use Rattle.cgd_read.specs.Faults.{has_row, is_end, rows_in, first_true, table, fault_of, has_wrong_length, has_other_length, has_self_edge, brings_many_vertices, brings_many_edges, ends_without_rows}
+use Rattle.cgd_read.specs.Blocks.{AllFalse}
+use Rattle.cgd_read.proofs.SoundLines.{IsSound, AllSound}
 use Rattle.cgd_read.specs.declared.block.BlockFaultKind.{BlockFaultKind}
 use Rattle.cgd_read.proofs.WellEdges.{MakeGraph}
 use Rattle.cgd_read.proofs.RowGraph.{make_nothing, make_row}
@@ -57,24 +58,24 @@ of_row : (r t : Bool) → r ≡ true → (r && t) ≡ false → t ≡ false
 of_row true t e h = h
 of_row false t e h = absurd cc
 
-rows_now : (earlier : List LineView) (line : LineView) (t : Bool) → has_row line ≡ t → rows_of (line ∷ earlier) ≡ cond t (line.fields ∷ rows_of earlier) (rows_of earlier)
-rows_now earlier line t e = ap (λ t. cond t (line.fields ∷ rows_of earlier) (rows_of earlier)) e
+rows_now : (earlier : List LineView) (line : LineView) (t : Bool) → has_row line ≡ t → rows_in (line ∷ earlier) ≡ cond t (line.fields ∷ rows_in earlier) (rows_in earlier)
+rows_now earlier line t e = ap (λ t. cond t (line.fields ∷ rows_in earlier) (rows_in earlier)) e
 
-make_line : (earlier : List LineView) (line : LineView) (t : Bool) → has_row line ≡ t → IsSound earlier line → MakeGraph (rows_of earlier) → MakeGraph (cond t (line.fields ∷ rows_of earlier) (rows_of earlier))
+make_line : (earlier : List LineView) (line : LineView) (t : Bool) → has_row line ≡ t → IsSound earlier line → MakeGraph (rows_in earlier) → MakeGraph (cond t (line.fields ∷ rows_in earlier) (rows_in earlier))
 make_line earlier line true e s make =
     let p = passes earlier line s.fault in
     let now = rows_now earlier line true e in
-    make_row (rows_of earlier) line.fields
+    make_row (rows_in earlier) line.fields
     (record { size = row_size (has_row line) line.fields.size e p.length_; small = s.small; flat = s.flat })
     (of_row (has_row line) (is_self_edge line.fields) e p.self_)
-    (same_size (has_row line) (has_rows (rows_of earlier)) line.fields.size (first_size (rows_of earlier)) e p.other)
-    (subst (λ rows. length (vertices_of rows) ≤ 512) now (in_limit 512 (length (vertices_of (rows_of (line ∷ earlier)))) p.vertices))
-    (subst (λ rows. length (edges_of rows) ≤ 4096) now (in_limit 4096 (length (edges_of (rows_of (line ∷ earlier)))) p.edges))
+    (same_size (has_row line) (has_rows (rows_in earlier)) line.fields.size (first_size (rows_in earlier)) e p.other)
+    (subst (λ rows. length (vertices_of rows) ≤ most_vertices) now (in_limit most_vertices (length (vertices_of (rows_in (line ∷ earlier)))) p.vertices))
+    (subst (λ rows. length (edges_of rows) ≤ most_edges) now (in_limit most_edges (length (edges_of (rows_in (line ∷ earlier)))) p.edges))
     make
 make_line earlier line false e s make = make
 
 -- lines without a fault make a graph
-pub make_lines : (earlier : List LineView) → AllSound earlier → MakeGraph (rows_of earlier)
+pub make_lines : (earlier : List LineView) → AllSound earlier → MakeGraph (rows_in earlier)
 make_lines [] sound = make_nothing
 make_lines (line ∷ earlier) sound =
     subst MakeGraph (sym (rows_now earlier line (has_row line) refl))
@@ -86,5 +87,5 @@ end_test true false e h = absurd cc
 end_test false some e h = absurd cc
 
 -- a line that ends a block without a fault comes after a row
-pub ends_with_rows : (earlier : List LineView) (line : LineView) → fault_of earlier line ≡ None → is_end line.kind ≡ true → has_rows (rows_of earlier) ≡ true
-ends_with_rows earlier line e h = end_test (is_end line.kind) (has_rows (rows_of earlier)) h (passes earlier line e).end_
+pub ends_with_rows : (earlier : List LineView) (line : LineView) → fault_of earlier line ≡ None → is_end line.kind ≡ true → has_rows (rows_in earlier) ≡ true
+ends_with_rows earlier line e h = end_test (is_end line.kind) (has_rows (rows_in earlier)) h (passes earlier line e).end_

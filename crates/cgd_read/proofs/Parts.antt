@@ -2,7 +2,8 @@
 use Rattle.std.proofs.Common.{◌≡◌, ◌⊎◌, zero, suc, ◌≤◌, ℤ, pos, negsuc, ◌-ℤ◌, neg_ℤ, sym, subst, arith}
 use Rattle.std.proofs.lemmas.Int.{ints}
 use Rattle.std.specs.Int.RustNames.{unsigned_abs}
-use Rattle.cgd_read.specs.Held.{IsSmallPart}
+use Rattle.periodic_net.specs.Limits.{most_shift}
+use Rattle.cgd_read.specs.Values.{IsSmallPart}
 use Rattle.cgd_read.specs.Lines.{FieldsView}
 use Rattle.cgd_read.specs.Reading.{IsSmallFields, IsFlat}
 
@@ -15,14 +16,14 @@ pub record IsWellRow (row : FieldsView) : Type 0 where
 pub negative : (x : ℤ) → pos 0 -ℤ x ≡ neg_ℤ x
 negative x = omega (arith, ints)
 
-pub negative_small : (x : ℤ) → unsigned_abs x ≤ 500 → unsigned_abs (pos 0 -ℤ x) ≤ 500
-negative_small x h = subst (λ w. unsigned_abs w ≤ 500) (sym (negative x)) (by x h)
+pub negative_small : (x : ℤ) → unsigned_abs x ≤ most_shift → unsigned_abs (pos 0 -ℤ x) ≤ most_shift
+negative_small x h = subst (λ w. unsigned_abs w ≤ most_shift) (sym (negative x)) (by x h)
   where
-    by : (x : ℤ) → unsigned_abs x ≤ 500 → unsigned_abs (neg_ℤ x) ≤ 500
+    by : (x : ℤ) → unsigned_abs x ≤ most_shift → unsigned_abs (neg_ℤ x) ≤ most_shift
     by (pos zero) h = h
     by (pos (suc n)) h = h
     by (negsuc n) h = h
 
-pub small_part : (x : ℤ) → IsSmallPart x → unsigned_abs x ≤ 500
+pub small_part : (x : ℤ) → IsSmallPart x → unsigned_abs x ≤ most_shift
 small_part (pos n) h = omega (arith, ints, h)
 small_part (negsuc n) h = omega (arith, ints, h)

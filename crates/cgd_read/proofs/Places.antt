@@ -5,7 +5,7 @@ use Rattle.std.specs.Str.{bytes_eq}
 use Rattle.std.proofs.lemmas.Slice.Eq.{bytes_eq-Decides}
 use Rattle.std.proofs.lemmas.List.{length-append}
 use Rattle.std.proofs.lemmas.List.Elements.{All-nil, All-cons}
-use Rattle.cgd_read.specs.Edges.{with_new, number_of}
+use Rattle.cgd_read.specs.Edges.{with_new, vertex_number}
 
 pub either_way : (t : Bool) → (t ≡ true) ⊎ (t ≡ false)
 either_way true = inl refl
@@ -56,10 +56,10 @@ longer same xs x = by (list_any (same x) xs)
     by true = omega arith
     by false = omega (arith, length-append xs (x ∷ []))
 
-pub numbered : (names : List (List ℕ)) (name : List ℕ) → number_of names name ≤ length (with_new bytes_eq names name)
+pub numbered : (names : List (List ℕ)) (name : List ℕ) → vertex_number names name ≤ length (with_new bytes_eq names name)
 numbered names name = by (list_any (bytes_eq name) names) refl
   where
-    by : (t : Bool) → list_any (bytes_eq name) names ≡ t → number_of names name ≤ length (cond t names (names ++ name ∷ []))
+    by : (t : Bool) → list_any (bytes_eq name) names ≡ t → vertex_number names name ≤ length (cond t names (names ++ name ∷ []))
     by true e = omega (arith, place_found (bytes_eq name) names e)
     by false e = omega (arith, length-append names (name ∷ []), place_within (bytes_eq name) names)
 
@@ -91,7 +91,7 @@ last_place (x ∷ xs) u v e = by (bytes_eq v x) (last_place xs u v) e
     by false h e = h (omega (arith, e))
 
 -- the two vertices of a row have one number only where they are the same
-pub same_number : (names : List (List ℕ)) (u v : List ℕ) → number_of names u ≡ number_of (with_new bytes_eq names u) v → u ≡ v
+pub same_number : (names : List (List ℕ)) (u v : List ℕ) → vertex_number names u ≡ vertex_number (with_new bytes_eq names u) v → u ≡ v
 same_number names u v e = by (list_any (bytes_eq u) names) refl (omega (arith, e))
   where
     by : (t : Bool) → list_any (bytes_eq u) names ≡ t → position_or_len (bytes_eq u) names ≡ position_or_len (bytes_eq v) (cond t names (names ++ u ∷ [])) → u ≡ v

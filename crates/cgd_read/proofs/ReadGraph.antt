@@ -1,23 +1,20 @@
 -- The graph of rows without a fault is one that may be read.
-use Rattle.std.proofs.Common.{◌≡◌, ◌⊎◌, inl, inr, ℕ, ◌≤◌, ◌-◌, Bool, true, false, cond, List, [], ◌∷◌, map, length, refl, sym, subst, arith}
+use Rattle.std.proofs.Common.{◌≡◌, ◌⊎◌, inl, inr, ℕ, ◌≤◌, ◌-◌, Bool, true, false, cond, List, [], ◌∷◌, length, refl, sym, subst, arith}
 use Rattle.std.specs.List.{All}
 use Rattle.std.proofs.lemmas.List.Elements.{All-weaker, All-map}
 use Rattle.std.proofs.lemmas.List.{length-map}
 use Rattle.integers.specs.Vectors.{vector, IsWithin}
-use Rattle.periodic_net.specs.Graph.{Graph, IsEdge, IsGraph}
+use Rattle.periodic_net.specs.Graph.{IsEdge, IsGraph}
 use Rattle.cgd_read.specs.Lines.{FieldsView, LineView}
 use Rattle.cgd_read.specs.Edges.{vertices_of, edges_of, first_size, has_rows}
-use Rattle.cgd_read.specs.Faults.{has_row, rows_of}
-use Rattle.cgd_read.specs.Graphs.{edge_of, IsReadGraph}
-use Rattle.periodic_net.specs.Limits.{IsSmall}
-use Rattle.cgd_read.specs.BlockViews.{RawView, raw_view, net_of}
+use Rattle.cgd_read.specs.Faults.{has_row, rows_in}
+use Rattle.cgd_read.specs.Graphs.{edge_of, graph_of, net_of, IsReadGraph}
+use Rattle.periodic_net.specs.Limits.{IsSmall, most_shift}
+use Rattle.cgd_read.specs.Views.{RawView}
+use Rattle.cgd_read.specs.Graphs.{net_of}
 use Rattle.cgd_read.specs.declared.block.RawEdge.{RawEdge}
-use Rattle.cgd_read.specs.declared.block.RawGraph.{RawGraph}
 use Rattle.cgd_read.proofs.Rows.{rows_have_edges}
 use Rattle.cgd_read.proofs.WellEdges.{IsWellEdge, MakeGraph}
-
-abbrev graph_of_view : RawView → Graph
-graph_of_view net = record { dimension = net.dim; vertices = length net.names; edges = map edge_of net.edges }
 
 has_vertex : (n size : ℕ) (es : List RawEdge) → 1 ≤ length es → All (IsWellEdge n size) es → 1 ≤ n
 has_vertex n size [] some edges = absurd (omega (arith, some))
@@ -31,7 +28,7 @@ four : (size : ℕ) → (size ≡ 4) ⊎ (size ≡ 5) → size - 2 ≡ 2 → siz
 four size (inl e) h = e
 four size (inr e) h = absurd (omega (arith, e, h))
 
-rows_are_graph : (rows : List FieldsView) → MakeGraph rows → has_rows rows ≡ true → IsGraph (graph_of_view (net_of rows))
+rows_are_graph : (rows : List FieldsView) → MakeGraph rows → has_rows rows ≡ true → IsGraph (graph_of (net_of rows))
 rows_are_graph rows make some =
     let n = length (vertices_of rows) in
     let size = first_size rows in
@@ -39,27 +36,27 @@ rows_are_graph rows make some =
     record {
       dimension = dimension size (make.size some);
       vertices = has_vertex n size (edges_of rows) (rows_have_edges rows some) edges;
-      edges = All-map (IsEdge (graph_of_view (net_of rows))) edge_of (edges_of rows)
-          (All-weaker (IsWellEdge n size) (λ e. IsEdge (graph_of_view (net_of rows)) (edge_of e))
+      edges = All-map (IsEdge (graph_of (net_of rows))) edge_of (edges_of rows)
+          (All-weaker (IsWellEdge n size) (λ e. IsEdge (graph_of (net_of rows)) (edge_of e))
           (λ e w. record { from = w.first; to = w.second; shift = λ two. w.flat (four size (make.size some) two); spelling = w.spelling }) (edges_of rows) edges);
       different = make.different;
     }
 
-rows_are_small : (rows : List FieldsView) → MakeGraph rows → IsSmall (graph_of_view (net_of rows))
+rows_are_small : (rows : List FieldsView) → MakeGraph rows → IsSmall (graph_of (net_of rows))
 rows_are_small rows make =
     let n = length (vertices_of rows) in
     let size = first_size rows in
     record {
       vertices = make.few_vertices;
       edges = omega (arith, length-map (edges_of rows) edge_of, make.few_edges);
-      shifts = All-map (λ a. IsWithin 500 a.shift) edge_of (edges_of rows)
-          (All-weaker (IsWellEdge n size) (λ e. IsWithin 500 (vector e.x e.y e.z)) (λ e w. (w.x, w.y, w.z)) (edges_of rows) (make.edges size (λ h. refl)));
+      shifts = All-map (λ a. IsWithin most_shift a.shift) edge_of (edges_of rows)
+          (All-weaker (IsWellEdge n size) (λ e. IsWithin most_shift (vector e.x e.y e.z)) (λ e w. (w.x, w.y, w.z)) (edges_of rows) (make.edges size (λ h. refl)));
     }
 
-pub rows_read : (rows : List FieldsView) (raw : RawGraph) → MakeGraph rows → has_rows rows ≡ true → raw_view raw ≡ net_of rows → IsReadGraph raw
+pub rows_read : (rows : List FieldsView) (raw : RawView) → MakeGraph rows → has_rows rows ≡ true → raw ≡ net_of rows → IsReadGraph raw
 rows_read rows raw make some e = record {
-  is_graph = subst (λ net. IsGraph (graph_of_view net)) (sym e) (rows_are_graph rows make some);
-  small = subst (λ net. IsSmall (graph_of_view net)) (sym e) (rows_are_small rows make);
+  is_graph = subst (λ net. IsGraph (graph_of net)) (sym e) (rows_are_graph rows make some);
+  small = subst (λ net. IsSmall (graph_of net)) (sym e) (rows_are_small rows make);
 }
 
 pub few_fields : (rows : List FieldsView) → MakeGraph rows → first_size rows ≤ 5
@@ -67,9 +64,9 @@ few_fields [] make = omega arith
 few_fields (row ∷ rows) make = elim (make.size refl) [ inl e ↦ omega (arith, e) | inr e ↦ omega (arith, e) ]
 
 -- with one more line there are no fewer rows
-pub still_rows : (earlier : List LineView) (line : LineView) → has_rows (rows_of earlier) ≡ true → has_rows (rows_of (line ∷ earlier)) ≡ true
+pub still_rows : (earlier : List LineView) (line : LineView) → has_rows (rows_in earlier) ≡ true → has_rows (rows_in (line ∷ earlier)) ≡ true
 still_rows earlier line some = by (has_row line)
   where
-    by : (t : Bool) → has_rows (cond t (line.fields ∷ rows_of earlier) (rows_of earlier)) ≡ true
+    by : (t : Bool) → has_rows (cond t (line.fields ∷ rows_in earlier) (rows_in earlier)) ≡ true
     by true = refl
     by false = some

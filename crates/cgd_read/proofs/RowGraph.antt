@@ -9,8 +9,9 @@ use Rattle.std.proofs.lemmas.List.{map-append}
 use Rattle.std.proofs.lemmas.List.Elements.{All-push, All-weaker, All-map}
 use Rattle.std.proofs.lemmas.List.Quantifiers.{all_pairs_push}
 use Rattle.periodic_net.specs.Graph.{Arc}
+use Rattle.periodic_net.specs.Limits.{most_vertices, most_edges}
 use Rattle.cgd_read.specs.Lines.{FieldsView}
-use Rattle.cgd_read.specs.Edges.{with_new, vertices_of, number_of, row_edge, same_edge, edges_of, is_self_edge, is_repeat, first_size, has_rows}
+use Rattle.cgd_read.specs.Edges.{with_new, vertices_of, vertex_number, row_edge, same_edge, edges_of, is_self_edge, is_repeat, first_size, has_rows}
 use Rattle.cgd_read.specs.Graphs.{edge_of}
 use Rattle.cgd_read.specs.declared.block.RawEdge.{RawEdge}
 use Rattle.cgd_read.proofs.Parts.{IsWellRow, small_part}
@@ -52,7 +53,7 @@ size_now (first ∷ rows) row e = by (first_size (first ∷ rows) == 0)
     by true = refl
     by false = sym (e refl)
 
-no_loop : (names : List (List ℕ)) (row : FieldsView) → is_self_edge row ≡ false → number_of names row.u ≡ number_of (with_new bytes_eq names row.u) row.v → IsZero row.x row.y row.z → ⊥
+no_loop : (names : List (List ℕ)) (row : FieldsView) → is_self_edge row ≡ false → vertex_number names row.u ≡ vertex_number (with_new bytes_eq names row.u) row.v → IsZero row.x row.y row.z → ⊥
 no_loop names row h e zero =
     false_true (sym h ∙ and_from _ _ ((bytes_eq-Decides row.u row.v).1 (same_number names row.u row.v e))
     (and_from _ _ ((Decides-int_eq row.x (pos 0)).1 zero.0) (and_from _ _ ((Decides-int_eq row.y (pos 0)).1 zero.1) ((Decides-int_eq row.z (pos 0)).1 zero.2))))
@@ -62,7 +63,7 @@ row_makes : (rows : List FieldsView) (row : FieldsView) (size : ℕ) → IsWellR
 row_makes rows row size well no_self e =
     let names = vertices_of rows in
     let some = with_new bytes_eq names row.u in
-    well_spelled (length (vertices_of (row ∷ rows))) size (number_of names row.u) (number_of some row.v) row.x row.y row.z
+    well_spelled (length (vertices_of (row ∷ rows))) size (vertex_number names row.u) (vertex_number some row.v) row.x row.y row.z
     (omega arith, omega (arith, numbered names row.u, longer bytes_eq some row.v)) (omega arith, numbered some row.v)
     (λ four. well.flat (omega (arith, e, four)))
     (small_part row.x well.small.x) (small_part row.y well.small.y) (small_part row.z well.small.z) (no_loop names row no_self)
@@ -95,7 +96,7 @@ edges_different rows row old = by (is_repeat rows row) refl
 
 -- the graph of the rows with one more
 pub make_row : (rows : List FieldsView) (row : FieldsView) → IsWellRow row → is_self_edge row ≡ false → (has_rows rows ≡ true → row.size ≡ first_size rows)
-    → length (vertices_of (row ∷ rows)) ≤ 512 → length (edges_of (row ∷ rows)) ≤ 4096 → MakeGraph rows → MakeGraph (row ∷ rows)
+    → length (vertices_of (row ∷ rows)) ≤ most_vertices → length (edges_of (row ∷ rows)) ≤ most_edges → MakeGraph rows → MakeGraph (row ∷ rows)
 make_row rows row well no_self same few_vertices few_edges make =
     let now = size_now rows row same in
     record {

@@ -1,7 +1,6 @@
 -- The table of the faults, part by part.
 use Rattle.std.proofs.Common.{◌≡◌, Bool, true, false, cond, List, [], ◌∷◌, ◌++◌, Option, None, Some, refl, ap, ◌∙◌}
-use Rattle.cgd_read.specs.Faults.{first_true}
-use Rattle.cgd_read.specs.Joined.{or_later}
+use Rattle.cgd_read.specs.Faults.{first_true, or_later}
 use Rattle.cgd_read.specs.declared.block.BlockFaultKind.{BlockFaultKind}
 
 -- the first of two tables is that of the first, or else that of the second

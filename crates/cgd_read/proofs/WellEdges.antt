@@ -3,6 +3,7 @@ use Rattle.std.proofs.Common.{◌≡◌, ◌≢◌, ◌⊎◌, ℕ, ◌≤◌, �
 use Rattle.std.specs.List.{All, AllPairs}
 use Rattle.std.specs.Int.RustNames.{unsigned_abs}
 use Rattle.periodic_net.specs.Graph.{IsNormalSpelling}
+use Rattle.periodic_net.specs.Limits.{most_shift, most_vertices, most_edges}
 use Rattle.cgd_read.specs.Lines.{FieldsView}
 use Rattle.cgd_read.specs.Edges.{vertices_of, spelled, is_forward, normal, edges_of, first_size, has_rows}
 use Rattle.cgd_read.specs.Graphs.{edge_of}
@@ -16,9 +17,9 @@ pub record IsWellEdge (n size : ℕ) (e : RawEdge) : Type 0 where
   pub second : (1 ≤ e.v) × (e.v ≤ n)
   pub flat : size ≡ 4 → e.z ≡ pos 0
   pub spelling : IsNormalSpelling (edge_of e)
-  pub x : unsigned_abs e.x ≤ 500
-  pub y : unsigned_abs e.y ≤ 500
-  pub z : unsigned_abs e.z ≤ 500
+  pub x : unsigned_abs e.x ≤ most_shift
+  pub y : unsigned_abs e.y ≤ most_shift
+  pub z : unsigned_abs e.z ≤ most_shift
 
 pub wider : (m n size : ℕ) → m ≤ n → (e : RawEdge) → IsWellEdge m size e → IsWellEdge n size e
 wider m n size l e w = record {
@@ -32,7 +33,7 @@ wider m n size l e w = record {
 }
 
 pub well_spelled : (n size u v : ℕ) (x y z : ℤ) → (1 ≤ u) × (u ≤ n) → (1 ≤ v) × (v ≤ n) → (size ≡ 4 → z ≡ pos 0)
-    → unsigned_abs x ≤ 500 → unsigned_abs y ≤ 500 → unsigned_abs z ≤ 500 → (u ≡ v → IsZero x y z → ⊥)
+    → unsigned_abs x ≤ most_shift → unsigned_abs y ≤ most_shift → unsigned_abs z ≤ most_shift → (u ≡ v → IsZero x y z → ⊥)
     → IsWellEdge n size (normal u v x y z)
 well_spelled n size u v x y z first second flat sx sy sz other = by (is_forward u v x y z) (normal_spelled u v x y z other)
   where
@@ -53,5 +54,5 @@ pub record MakeGraph (rows : List FieldsView) : Type 0 where
   pub size : has_rows rows ≡ true → (first_size rows ≡ 4) ⊎ (first_size rows ≡ 5)
   pub edges : (size : ℕ) → (has_rows rows ≡ true → first_size rows ≡ size) → All (IsWellEdge (length (vertices_of rows)) size) (edges_of rows)
   pub different : AllPairs (λ a b. a ≢ b) (map edge_of (edges_of rows))
-  pub few_vertices : length (vertices_of rows) ≤ 512
-  pub few_edges : length (edges_of rows) ≤ 4096
+  pub few_vertices : length (vertices_of rows) ≤ most_vertices
+  pub few_edges : length (edges_of rows) ≤ most_edges

@@ -1,33 +1,13 @@
 -- How the lines are read from the tokens that are left.
 use Rattle.std.specs.Prelude.{◌≡◌, ◌≤◌, ℕ, pos, ◌+◌, ◌-◌, ◌==◌, false, ◌||◌, ◌&&◌, nat_lt, is_none, List, [], ◌∷◌, length, take, drop, None, if◌then◌else◌}
-use Rattle.std.specs.Option.{option_copied}
 use Rattle.cgd_lex.specs.Tokens.{TokenView}
-use Rattle.cgd_read.specs.Values.{part_of}
-use Rattle.cgd_read.specs.Held.{IsSmallPart}
+use Rattle.cgd_read.specs.Values.{part_of, IsSmallPart}
 use Rattle.cgd_read.specs.Lines.{is_newline, is_strange, is_quoted, name_in, part_or_zero, FieldsView, LineView}
-use Rattle.cgd_read.specs.declared.line.Fields.{Fields}
-use Rattle.cgd_read.specs.declared.line.Line.{Line}
+use Rattle.cgd_read.specs.Faults.{is_end}
 
 -- a text without its first and last byte
 abbrev pub inner : List ℕ → List ℕ
 inner text = take (length text - 2) (drop 1 text)
-
-abbrev pub fields_view : Fields → FieldsView
-fields_view fields = record {
-  size = fields.size;
-  name = option_copied fields.name;
-  has_strange = fields.has_strange;
-  has_late_quote = fields.has_late_quote;
-  has_far_part = fields.has_far_part;
-  u = fields.u.now;
-  v = fields.v.now;
-  x = fields.x;
-  y = fields.y;
-  z = fields.z;
-}
-
-abbrev pub line_view : Line → LineView
-line_view line = record { number = line.number; kind = line.kind; first = line.first.now; fields = fields_view line.fields }
 
 -- each part of the shift is within the limits
 pub record IsSmallFields (fields : FieldsView) : Type 0 where
@@ -39,8 +19,24 @@ pub record IsSmallFields (fields : FieldsView) : Type 0 where
 abbrev pub IsFlat : FieldsView → Type 0
 IsFlat fields = fields.size ≤ 4 → fields.z ≡ pos 0
 
+-- what no fields say
 abbrev pub no_fields : FieldsView
 no_fields = record { size = 0; name = None; has_strange = false; has_late_quote = false; has_far_part = false; u = []; v = []; x = pos 0; y = pos 0; z = pos 0 }
+
+-- one more field after the second: a part of the shift at its place, read as a number
+abbrev pub with_part : FieldsView → TokenView → FieldsView
+with_part fields token = record {
+  size = fields.size;
+  name = None;
+  has_strange = fields.has_strange;
+  has_late_quote = fields.has_late_quote || is_quoted token.kind;
+  has_far_part = fields.has_far_part || is_none (part_of token.text);
+  u = fields.u;
+  v = fields.v;
+  x = if fields.size == 2 then part_or_zero (part_of token.text) else fields.x;
+  y = if fields.size == 3 then part_or_zero (part_of token.text) else fields.y;
+  z = if fields.size == 4 then part_or_zero (part_of token.text) else fields.z;
+}
 
 -- one more field, read from the left
 abbrev pub with_field : FieldsView → TokenView → FieldsView
@@ -66,3 +62,8 @@ rest_of_line (token ∷ tokens) = if is_newline token.kind then [] else token �
 abbrev pub after_line : List TokenView → List TokenView
 after_line [] = []
 after_line (token ∷ tokens) = if is_newline token.kind then tokens else after_line tokens
+
+-- the lines after the next END
+abbrev pub after_end : List LineView → List LineView
+after_end [] = []
+after_end (line ∷ lines) = if is_end line.kind then lines else after_end lines

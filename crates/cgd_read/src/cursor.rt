@@ -1,8 +1,9 @@
 // Reads lines from the tokens that are left.
 ghost use Rattle.std.specs.Prelude.{◌≡◌, ◌∷◌, ◌<◌, ◌≤◌, ◌+◌, [], length, fold, MatchOption, IfSome, IfNone, if◌then◌else◌};
 ghost use Rattle.cgd_lex.specs.Views.{token_view};
-ghost use Rattle.cgd_read.specs.Lines.{lines_of, line_with, is_newline, is_bare};
-ghost use Rattle.cgd_read.specs.Reading.{fields_view, line_view, no_fields, with_field, rest_of_line, after_line, IsSmallFields, IsFlat};
+ghost use Rattle.cgd_read.specs.Lines.{token_lines, line_with, is_newline, is_bare};
+ghost use Rattle.cgd_read.specs.Views.{fields_view, line_view};
+ghost use Rattle.cgd_read.specs.Reading.{no_fields, with_field, rest_of_line, after_line, IsSmallFields, IsFlat};
 
 use crate::line::{Fields, Line, LineKind};
 use cgd_lex::{Lexer, Token, TokenKind};
@@ -18,9 +19,9 @@ fn is_newline(kind: TokenKind) -> bool
 
 // The first token of the next line that has one.
 fn next_first<'a>(lexer: &mut Lexer<'a>) -> Option<Token<'a>>
-    ensures lines { MatchOption result (lines_of lexer.old ≡ [])
-        (λ first. lines_of lexer.old ≡
-        line_with (token_view first) (rest_of_line lexer.new) ∷ lines_of (after_line lexer.new)) }
+    ensures lines { MatchOption result (token_lines lexer.old ≡ [])
+        (λ first. token_lines lexer.old ≡ line_with (token_view first) (rest_of_line lexer.new)
+        ∷ token_lines (after_line lexer.new)) }
     ensures shorter { IfSome result (λ first. length lexer.new < length lexer.old) }
     ensures end { IfNone result (lexer.new ≡ []) }
 {
@@ -60,7 +61,7 @@ fn read_fields<'a>(lexer: &mut Lexer<'a>, start: Fields<'a>) -> Fields<'a>
 {
     let mut fields = start;
     while let Some(token) = next_on_line(lexer) {
-        fields = fields.with(&token);
+        fields.add(&token);
     }
     fields
 }
@@ -73,7 +74,11 @@ fn first_field<'a>(kind: LineKind, first: &Token<'a>) -> Fields<'a>
     ensures size { result.size ≤ 1 }
 {
     match kind {
-        LineKind::Bare => Fields::none().with(first),
+        LineKind::Bare => {
+            let mut fields = Fields::none();
+            fields.add(first);
+            fields
+        }
         _ => Fields::none(),
     }
 }
@@ -98,8 +103,8 @@ fn read_line<'a>(lexer: &mut Lexer<'a>, first: &Token<'a>) -> Line<'a>
 /// The next line that has a token, up to its end.
 pub fn next_line<'a>(lexer: &mut Lexer<'a>) -> Option<Line<'a>>
     requires { length lexer.old ≤ 16777216 }
-    ensures lines { MatchOption result (lines_of lexer.old ≡ [])
-        (λ line. lines_of lexer.old ≡ line_view line ∷ lines_of lexer.new) }
+    ensures lines { MatchOption result (token_lines lexer.old ≡ [])
+        (λ line. token_lines lexer.old ≡ line_view line ∷ token_lines lexer.new) }
     ensures shorter { IfSome result (λ line. length lexer.new < length lexer.old) }
     ensures end { IfNone result (lexer.new ≡ []) }
     ensures small { IfSome result (λ line. IsSmallFields (fields_view line.fields)) }

@@ -3,9 +3,10 @@ ghost use Rattle.std.specs.Prelude.{◌≡◌, ◌||◌, ◌&&◌, nat_lt, ◌<�
 ghost use Rattle.std.specs.Option.{option_copied};
 ghost use Rattle.cgd_lex.specs.Views.{token_view};
 ghost use Rattle.cgd_read.specs.Lines.{is_strange, is_quoted, is_newline, unquoted, name_in, is_keyword, is_name_word, is_edges_word, kind_of_word, kind_of, is_bare, part_or_zero};
-ghost use Rattle.cgd_read.specs.Held.{IsSmallPart};
+ghost use Rattle.cgd_read.specs.Values.{IsSmallPart};
 ghost use Rattle.std.specs.Char.{to_ascii_lowercase};
-ghost use Rattle.cgd_read.specs.Reading.{fields_view, no_fields, with_field, IsSmallFields};
+ghost use Rattle.cgd_read.specs.Views.{fields_view};
+ghost use Rattle.cgd_read.specs.Reading.{no_fields, with_field, with_part, IsSmallFields};
 ghost use Rattle.cgd_read.specs.Values.{part_of};
 
 use crate::values::part;
@@ -158,28 +159,6 @@ fn or_zero(part: Option<i32>) -> i32
     part.unwrap_or(0)
 }
 
-// The new text where it is due, and else the old one.
-fn text_if<'a>(due: bool, new: &'a [u8], old: &'a [u8]) -> &'a [u8]
-    ensures { result.now ≡ (if due then new.entry.now else old.entry.now) }
-{
-    if due { new } else { old }
-}
-
-fn part_if(due: bool, new: i32, old: i32) -> i32
-    requires new { IsSmallPart new }
-    requires old { IsSmallPart old }
-    ensures value { result ≡ (if due then new else old) }
-    ensures small { IsSmallPart result }
-{
-    if due { new } else { old }
-}
-
-fn name_if<'a>(due: bool, token: &Token<'a>) -> Option<&'a [u8]>
-    ensures { option_copied result ≡ (if due then name_in (token_view token.now) else None) }
-{
-    if due { name_in(token) } else { None }
-}
-
 impl<'a> Fields<'a> {
     pub fn none() -> Self
         ensures fields { fields_view result ≡ no_fields }
@@ -206,37 +185,58 @@ impl<'a> Fields<'a> {
     }
 
     fn has_late_quote_with(&self, kind: TokenKind) -> bool
-        ensures { result ≡ (self.now.has_late_quote || (nat_lt 1 self.now.size && is_quoted kind)) }
+        ensures { result ≡ (self.now.has_late_quote || is_quoted kind) }
     {
-        self.has_late_quote || (1 < self.size && is_quoted(kind))
+        self.has_late_quote || is_quoted(kind)
     }
 
     fn has_far_part_with(&self, part: Option<i32>) -> bool
-        ensures { result ≡ (self.now.has_far_part || (nat_lt 1 self.now.size && is_none part)) }
+        ensures { result ≡ (self.now.has_far_part || is_none part) }
     {
-        self.has_far_part || (1 < self.size && part.is_none())
+        self.has_far_part || part.is_none()
     }
 
-    /// The fields with one more.
-    pub fn with(&self, token: &Token<'a>) -> Self
-        requires room { self.now.size < 16777216 }
-        requires small { IsSmallFields (fields_view self.now) }
-        ensures fields { fields_view result ≡ with_field (fields_view self.now) (token_view token.now) }
-        ensures small { IsSmallFields (fields_view result) }
+    // Adds a part of a shift, or a field after them.
+    fn add_part(&mut self, token: &Token<'a>)
+        requires { IsSmallFields (fields_view self.old) }
+        ensures fields { fields_view self.new ≡
+            with_part (fields_view self.old) (token_view token.now) }
+        ensures small { IsSmallFields (fields_view self.new) }
     {
         let part = part(token.text);
         let number = or_zero(part);
-        Fields {
-            size: self.size + 1,
-            name: name_if(self.size == 0, token),
-            has_strange: self.has_strange_with(token.kind),
-            has_late_quote: self.has_late_quote_with(token.kind),
-            has_far_part: self.has_far_part_with(part),
-            u: text_if(self.size == 0, token.text, self.u),
-            v: text_if(self.size == 1, token.text, self.v),
-            x: part_if(self.size == 2, number, self.x),
-            y: part_if(self.size == 3, number, self.y),
-            z: part_if(self.size == 4, number, self.z),
+        self.name = None;
+        self.has_late_quote = self.has_late_quote_with(token.kind);
+        self.has_far_part = self.has_far_part_with(part);
+        match self.size {
+            2 => self.x = number,
+            3 => self.y = number,
+            4 => self.z = number,
+            _ => {}
         }
+    }
+
+    /// Adds a field. A number is read only where a part of a shift is due.
+    pub fn add(&mut self, token: &Token<'a>)
+        requires room { self.old.size < 16777216 }
+        requires small { IsSmallFields (fields_view self.old) }
+        ensures fields { fields_view self.new ≡
+            with_field (fields_view self.old) (token_view token.now) }
+        ensures small { IsSmallFields (fields_view self.new) }
+        ensures size { self.new.size ≡ self.old.size + 1 }
+    {
+        self.has_strange = self.has_strange_with(token.kind);
+        match self.size {
+            0 => {
+                self.name = name_in(token);
+                self.u = token.text;
+            }
+            1 => {
+                self.name = None;
+                self.v = token.text;
+            }
+            _ => self.add_part(token),
+        }
+        self.size += 1;
     }
 }

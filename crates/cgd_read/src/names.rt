@@ -1,6 +1,6 @@
 // A list of names, each a slice of the text that they were read from.
-ghost use Rattle.std.specs.Prelude.{◌≡◌, ◌++◌, ◌∷◌, [], List, ℕ, length, slice_get, Some, OnOk, OnErr, ◌<◌, IfOk};
-ghost use Rattle.cgd_read.specs.Views.{texts};
+ghost use Rattle.std.specs.Prelude.{◌≡◌, ◌++◌, ◌∷◌, [], List, ℕ, length, slice_get, Some, OnOk, OnErr, ◌<◌, ◌↔◌, IfOk, IsTrue};
+ghost use Rattle.cgd_read.specs.Names.{texts};
 
 use crate::NoMemory;
 use std::alloc::Global;
@@ -16,7 +16,7 @@ impl<'a> Model for Names<'a> {
 
     ghost Value = { List (List ℕ) };
 
-    ghost use Rattle.cgd_read.specs.Views.{texts};
+    ghost use Rattle.cgd_read.specs.Names.{texts};
 
     ghost view = { λ n. texts n.items.items };
 }
@@ -57,6 +57,19 @@ impl<'a> Names<'a> {
         ensures { result ≡ length self.now }
     {
         self.items.len()
+    }
+
+    pub fn is_empty(&self) -> bool
+        ensures { IsTrue result ↔ self.now ≡ [] }
+    {
+        self.items.is_empty()
+    }
+
+    /// The names in their order.
+    pub fn as_slice(&self) -> &[&'a [u8]]
+        ensures { texts result.now ≡ self.now }
+    {
+        &self.items
     }
 
     pub fn at(&self, i: usize) -> &&'a [u8]

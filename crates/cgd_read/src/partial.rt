@@ -2,15 +2,17 @@
 ghost use Rattle.std.specs.Prelude.{◌≡◌, ◌≤◌, ◌<◌, ◌+◌, ◌==◌, ◌∷◌, [], List, length, OnOk, IfOk, not, pos, ◌-ℤ◌, if◌then◌else◌};
 ghost use Rattle.std.specs.Str.{bytes_eq};
 ghost use Rattle.std.specs.List.{list_any, position_or_len};
-ghost use Rattle.cgd_read.specs.Held.{IsSmallPart};
+ghost use Rattle.periodic_net.specs.Limits.{most_vertices};
+ghost use Rattle.cgd_read.specs.Values.{IsSmallPart};
 ghost use Rattle.cgd_read.specs.Lines.{FieldsView};
-ghost use Rattle.cgd_read.specs.Reading.{fields_view, IsSmallFields};
+ghost use Rattle.cgd_read.specs.Views.{fields_view, raw_view};
+ghost use Rattle.cgd_read.specs.Reading.{IsSmallFields};
 ghost use Rattle.cgd_read.specs.Edges.{with_new, same_edge, is_forward, normal, row_edge, is_self_edge, has_rows};
-ghost use Rattle.cgd_read.specs.BlockViews.{raw_view, net_of};
-ghost use Rattle.cgd_read.specs.Partial.{names_in, Holds};
+ghost use Rattle.cgd_read.specs.Graphs.{net_of};
+ghost use Rattle.cgd_read.specs.States.{names_in, IsGraphOfRows};
 
 use crate::line::Fields;
-use crate::{Names, NoMemory, RawEdge, RawGraph};
+use crate::{Names, NoMemory, RawEdge, RawEdges, RawGraph};
 use indexmap::IndexSet;
 use std::alloc::Global;
 
@@ -95,13 +97,13 @@ fn take_row<'a>(
     row: &Fields<'a>,
 ) -> Result<bool, NoMemory>
     requires small { IsSmallFields (fields_view row.now) }
-    requires room { length (names_in names.old) ≤ 512 }
+    requires room { length (names_in names.old) ≤ most_vertices }
     ensures names { OnOk result (names_in names.new ≡
         with_new bytes_eq (with_new bytes_eq (names_in names.old) row.now.u.now) row.now.v.now) }
     ensures edges { OnOk result (edges.new.keys ≡
         with_new same_edge edges.old.keys (row_edge (names_in names.old) (fields_view row.now))) }
-    ensures added { IfOk result (λ new. new ≡
-        not (list_any (same_edge (row_edge (names_in names.old) (fields_view row.now))) edges.old.keys)) }
+    ensures added { IfOk result (λ new. new ≡ not (list_any
+        (same_edge (row_edge (names_in names.old) (fields_view row.now))) edges.old.keys)) }
 {
     let u = place_of(names, row.u)?;
     let v = place_of(names, row.v)?;
@@ -126,7 +128,7 @@ fn repeats_with(repeats: u32, new: bool) -> u32
 impl<'a> PartialGraph<'a> {
     /// Nothing yet.
     pub fn new(alloc: Global) -> Self
-        ensures holds { Holds result [] }
+        ensures holds { IsGraphOfRows result [] }
         ensures repeats { result.repeats ≡ 0 }
     {
         PartialGraph {
@@ -137,9 +139,20 @@ impl<'a> PartialGraph<'a> {
         }
     }
 
+    /// Forgets all rows, and keeps the memory.
+    pub fn clear(&mut self)
+        ensures rows { IsGraphOfRows self.new [] }
+        ensures repeats { self.new.repeats ≡ 0 }
+    {
+        self.size = 0;
+        self.repeats = 0;
+        self.names.clear();
+        self.edges.clear();
+    }
+
     /// Whether there is a row.
     pub fn has_rows(&self) -> bool
-        ensures { (rows : List FieldsView) → Holds self.now rows → result ≡ has_rows rows }
+        ensures { (rows : List FieldsView) → IsGraphOfRows self.now rows → result ≡ has_rows rows }
     {
         0 < self.edges.len()
     }
@@ -147,10 +160,10 @@ impl<'a> PartialGraph<'a> {
     /// Takes a row.
     pub fn take(&mut self, row: &Fields<'a>) -> Result<(), NoMemory>
         requires small { IsSmallFields (fields_view row.now) }
-        requires room { length (names_in self.old.names) ≤ 512 }
+        requires room { length (names_in self.old.names) ≤ most_vertices }
         requires countable { self.old.repeats < 16777216 }
-        ensures taken { OnOk result ((rows : List FieldsView) → Holds self.old rows →
-            Holds self.new (fields_view row.now ∷ rows)) }
+        ensures taken { OnOk result ((rows : List FieldsView) → IsGraphOfRows self.old rows →
+            IsGraphOfRows self.new (fields_view row.now ∷ rows)) }
         ensures repeats { OnOk result (self.new.repeats ≤ self.old.repeats + 1) }
     {
         let new = take_row(&mut self.names, &mut self.edges, row)?;
@@ -160,13 +173,13 @@ impl<'a> PartialGraph<'a> {
     }
 
     /// The graph of the rows.
-    pub fn finish(self, alloc: Global) -> Result<RawGraph<'a>, NoMemory>
-        requires { self.size ≤ 5 }
-        ensures { IfOk result (λ raw. (rows : List FieldsView) → Holds self.entry rows →
+    pub fn finish(&self, alloc: Global) -> Result<RawGraph<'a>, NoMemory>
+        requires { self.now.size ≤ 5 }
+        ensures { IfOk result (λ raw. (rows : List FieldsView) → IsGraphOfRows self.now rows →
             raw_view raw ≡ net_of rows) }
     {
         let names = Names::from_slice(alloc, self.names.as_slice())?;
-        let edges = Vec::from_slice(alloc, self.edges.as_slice())?;
+        let edges = RawEdges::from_slice(alloc, self.edges.as_slice())?;
         Ok(RawGraph {
             dim: self.size.saturating_sub(2) as u8,
             names,

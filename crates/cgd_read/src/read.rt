@@ -1,13 +1,11 @@
 // The blocks of a text, in one pass over its lines.
 ghost use Rattle.std.specs.Prelude.{◌≡◌, ◌∷◌, ◌≤◌, ◌<◌, [], List, length, IfOk, OnOk, All, IsErrOf, ◌++◌, ◌+◌, ℕ};
 ghost use Rattle.cgd_lex.specs.Tokens.{tokens_of};
-ghost use Rattle.cgd_read.specs.Lines.{LineView, lines_of};
-ghost use Rattle.cgd_read.specs.Reading.{line_view, IsSmallFields, IsFlat};
+ghost use Rattle.cgd_read.specs.Lines.{LineView, token_lines};
+ghost use Rattle.cgd_read.specs.Views.{line_view, BlockView, body_view, block_view, views};
+ghost use Rattle.cgd_read.specs.Reading.{IsSmallFields, IsFlat, after_end};
 ghost use Rattle.cgd_read.specs.Faults.{is_end};
-ghost use Rattle.cgd_read.specs.Blocks.{graph_block, block_by, block_of, blocks_of, with_body, malformed, AreBlocksOf};
-ghost use Rattle.cgd_read.specs.GraphBlocks.{IsGraphBlock};
-ghost use Rattle.cgd_read.specs.BlockViews.{BlockView, IsReadBody, body_view, block_view, views};
-ghost use Rattle.cgd_read.specs.Passing.{after_end};
+ghost use Rattle.cgd_read.specs.Blocks.{graph_block, block_by, block_of, blocks_of, most_blocks, with_body, malformed, AreBlocksOf, IsGraphBlock, IsReadBody};
 
 use crate::cursor::next_line;
 use crate::line::{Line, LineKind};
@@ -16,12 +14,13 @@ use crate::{Block, BlockFault, BlockFaultKind, Body, NoMemory, ReadRefusal};
 use cgd_lex::Lexer;
 use std::alloc::Global;
 
-const MOST_BLOCKS: usize = 4096;
+/// Blocks of a text that is read.
+pub const MOST_BLOCKS: usize = 4096;
 
 /// Passes over the lines of a block, and over the line that ends it.
 fn pass_block(lexer: &mut Lexer<'_>)
     requires { length lexer.old ≤ 16777216 }
-    ensures lines { lines_of lexer.new ≡ after_end (lines_of lexer.old) }
+    ensures lines { token_lines lexer.new ≡ after_end (token_lines lexer.old) }
     ensures shorter { length lexer.new ≤ length lexer.old }
 {
     while let Some(line) = next_line(lexer) {
@@ -34,7 +33,7 @@ fn pass_block(lexer: &mut Lexer<'_>)
 // Passes over the rest of the block in which this line stands.
 fn pass_from(lexer: &mut Lexer<'_>, line: &Line<'_>)
     requires { length lexer.old ≤ 16777216 }
-    ensures lines { lines_of lexer.new ≡ after_end (line_view line.now ∷ lines_of lexer.old) }
+    ensures lines { token_lines lexer.new ≡ after_end (line_view line.now ∷ token_lines lexer.old) }
     ensures shorter { length lexer.new ≤ length lexer.old }
 {
     if !line.kind.is_end() {
@@ -50,15 +49,20 @@ fn malformed_at<'a>(line: u32, kind: BlockFaultKind) -> Body<'a>
 }
 
 // The body of a graph block that opens at this line, and the name that was read in it.
-fn read_graph<'a>(alloc: Global, lexer: &mut Lexer<'a>, opening: u32) -> Result<Block<'a>, NoMemory>
+fn read_graph<'a>(
+    alloc: Global,
+    lexer: &mut Lexer<'a>,
+    state: &mut State<'a>,
+    opening: u32,
+) -> Result<Block<'a>, NoMemory>
     requires { length lexer.old ≤ 16777216 }
     ensures block { IfOk result (λ block.
-        block_view block ≡ graph_block opening [] (lines_of lexer.old)) }
+        block_view block ≡ graph_block opening [] (token_lines lexer.old)) }
     ensures graph { IfOk result (λ block. IsReadBody block.body) }
-    ensures lines { OnOk result (lines_of lexer.new ≡ after_end (lines_of lexer.old)) }
+    ensures lines { OnOk result (token_lines lexer.new ≡ after_end (token_lines lexer.old)) }
     ensures shorter { OnOk result (length lexer.new ≤ length lexer.old) }
 {
-    let mut state = State::new(alloc);
+    state.clear();
     while let Some(line) = next_line(lexer) {
         let name = state.name;
         if let Some(kind) = state.judge(&line)? {
@@ -88,17 +92,18 @@ fn read_graph<'a>(alloc: Global, lexer: &mut Lexer<'a>, opening: u32) -> Result<
 fn open_graph<'a>(
     alloc: Global,
     lexer: &mut Lexer<'a>,
+    state: &mut State<'a>,
     line: &Line<'a>,
 ) -> Result<Block<'a>, NoMemory>
     requires { length lexer.old ≤ 16777216 }
     ensures block { IfOk result (λ block.
-        block_view block ≡ block_by LineKind.Opening (line_view line.now) (lines_of lexer.old)) }
+        block_view block ≡ block_by LineKind.Opening (line_view line.now) (token_lines lexer.old)) }
     ensures graph { IfOk result (λ block. IsReadBody block.body) }
-    ensures lines { OnOk result (lines_of lexer.new ≡ after_end (lines_of lexer.old)) }
+    ensures lines { OnOk result (token_lines lexer.new ≡ after_end (token_lines lexer.old)) }
     ensures shorter { OnOk result (length lexer.new ≤ length lexer.old) }
 {
     if line.fields.size == 0 {
-        return read_graph(alloc, lexer, line.number);
+        return read_graph(alloc, lexer, state, line.number);
     }
     pass_block(lexer);
     Ok(Block {
@@ -112,17 +117,18 @@ fn open_graph<'a>(
 fn read_block<'a>(
     alloc: Global,
     lexer: &mut Lexer<'a>,
+    state: &mut State<'a>,
     line: &Line<'a>,
 ) -> Result<Block<'a>, NoMemory>
     requires { length lexer.old ≤ 16777216 }
     ensures block { IfOk result (λ block.
-        block_view block ≡ block_of (line_view line.now) (lines_of lexer.old)) }
+        block_view block ≡ block_of (line_view line.now) (token_lines lexer.old)) }
     ensures graph { IfOk result (λ block. IsReadBody block.body) }
-    ensures lines { OnOk result (lines_of lexer.new ≡ after_end (lines_of lexer.old)) }
+    ensures lines { OnOk result (token_lines lexer.new ≡ after_end (token_lines lexer.old)) }
     ensures shorter { OnOk result (length lexer.new ≤ length lexer.old) }
 {
     match line.kind {
-        LineKind::Opening => open_graph(alloc, lexer, line),
+        LineKind::Opening => open_graph(alloc, lexer, state, line),
         _ => {
             pass_block(lexer);
             Ok(Block {
@@ -138,19 +144,20 @@ fn read_block<'a>(
 fn add_block<'a>(
     alloc: Global,
     lexer: &mut Lexer<'a>,
+    state: &mut State<'a>,
     found: &mut Vec<Block<'a>>,
     line: &Line<'a>,
 ) -> Result<(), NoMemory>
     requires room { length lexer.old ≤ 16777216 }
     requires graphs { All (λ block. IsReadBody block.body) found.old.items }
     ensures added { OnOk result (views found.new.items ≡
-        views found.old.items ++ block_of (line_view line.now) (lines_of lexer.old) ∷ []) }
+        views found.old.items ++ block_of (line_view line.now) (token_lines lexer.old) ∷ []) }
     ensures count { OnOk result (length found.new.items ≡ length found.old.items + 1) }
     ensures graphs { OnOk result (All (λ block. IsReadBody block.body) found.new.items) }
-    ensures lines { OnOk result (lines_of lexer.new ≡ after_end (lines_of lexer.old)) }
+    ensures lines { OnOk result (token_lines lexer.new ≡ after_end (token_lines lexer.old)) }
     ensures shorter { OnOk result (length lexer.new ≤ length lexer.old) }
 {
-    let block = read_block(alloc, lexer, line)?;
+    let block = read_block(alloc, lexer, state, line)?;
     found.push(block)?;
     Ok(())
 }
@@ -160,11 +167,12 @@ fn read_blocks<'a>(alloc: Global, text: &'a [u8]) -> Result<Vec<Block<'a>>, Read
     requires { length text.now ≤ 16777216 }
     ensures blocks { IfOk result (λ found. AreBlocksOf text.now (views found.items)) }
     ensures graphs { IfOk result (λ found. All (λ block. IsReadBody block.body) found.items) }
-    ensures few { OnOk result (length (blocks_of text.now) ≤ 4096) }
+    ensures few { OnOk result (length (blocks_of text.now) ≤ most_blocks) }
     ensures too_many { IsErrOf result ReadRefusal.TooManyBlocks →
-        4096 < length (blocks_of text.now) }
+        most_blocks < length (blocks_of text.now) }
 {
     let mut lexer = Lexer::new(text);
+    let mut state = State::new(alloc);
     let mut found = Vec::new(alloc);
     while let Some(line) = next_line(&mut lexer) {
         if line.kind.is_end() {
@@ -173,7 +181,7 @@ fn read_blocks<'a>(alloc: Global, text: &'a [u8]) -> Result<Vec<Block<'a>>, Read
         if found.len() == MOST_BLOCKS {
             return Err(ReadRefusal::TooManyBlocks);
         }
-        let Ok(()) = add_block(alloc, &mut lexer, &mut found, &line) else {
+        let Ok(()) = add_block(alloc, &mut lexer, &mut state, &mut found, &line) else {
             return Err(ReadRefusal::NoMemory);
         };
     }
@@ -187,11 +195,12 @@ pub fn blocks<'a>(alloc: Global, text: &'a [u8]) -> Result<Vec<Block<'a>>, ReadR
 
     ensures blocks { IfOk result (λ found. AreBlocksOf text.now (views found.items)) }
     ensures graphs { IfOk result (λ found. All (λ block. IsReadBody block.body) found.items) }
-    ensures few { OnOk result (length (blocks_of text.now) ≤ 4096) }
+    ensures few { OnOk result (length (blocks_of text.now) ≤ most_blocks) }
     ensures too_many { IsErrOf result ReadRefusal.TooManyBlocks →
-        4096 < length (blocks_of text.now) }
+        most_blocks < length (blocks_of text.now) }
 
-    // A graph block is what its first faulty line, its end or the end of the text decides, and nothing else.
+    // A graph block is what its first faulty line, its end or the end of the text decides, and
+    // nothing else.
     ensures decided { (opening : ℕ) (lines : List LineView) →
         IsGraphBlock opening lines (graph_block opening [] lines) }
     ensures only { (opening : ℕ) (lines : List LineView) (block : BlockView) →

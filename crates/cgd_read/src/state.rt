@@ -1,23 +1,17 @@
 // What is known of the lines of a graph block that were read, and the tests of the next line.
 ghost use Rattle.std.specs.Prelude.{◌≡◌, ◌≤◌, ◌<◌, ◌+◌, ◌∷◌, [], List, length, OnOk, IfOk, None};
-ghost use Rattle.std.specs.Option.{option_copied};
+ghost use Rattle.periodic_net.specs.Limits.{most_vertices};
 ghost use Rattle.cgd_read.specs.Lines.{LineView, is_bare};
-ghost use Rattle.cgd_read.specs.Reading.{line_view, fields_view, IsSmallFields};
-ghost use Rattle.cgd_read.specs.Faults.{is_name, is_end, is_broken, is_unknown, may_have_row, has_row, is_second_name, has_bad_token, is_long, is_long_name, has_long_name, has_wrong_length, has_other_length, has_far_shift, has_self_edge, brings_many_vertices, brings_many_edges, ends_without_rows, word_tests, row_tests, count_tests, first_true, fault_of, under_after, name_after};
-ghost use Rattle.cgd_read.specs.Joined.{or_later};
-ghost use Rattle.cgd_read.specs.Partial.{names_in, Holds};
-ghost use Rattle.cgd_read.specs.States.{Stands};
+ghost use Rattle.cgd_read.specs.Views.{line_view, fields_view};
+ghost use Rattle.cgd_read.specs.Reading.{IsSmallFields};
+ghost use Rattle.cgd_read.specs.Faults.{is_name, is_end, is_broken, is_unknown, has_row, is_second_name, has_bad_token, has_long_name, has_wrong_length, has_other_length, has_far_shift, has_self_edge, ends_without_rows, word_tests, row_tests, count_tests, first_true, fault_of, under_after, name_after, or_later};
+ghost use Rattle.cgd_read.specs.States.{names_in, IsStateAfter};
 
-use crate::line::{Line, LineKind};
-use crate::partial::{PartialGraph, is_self_edge};
+use crate::line::Line;
+use crate::partial::PartialGraph;
 use crate::{BlockFaultKind, NoMemory};
+use periodic_net::{MOST_EDGES, MOST_VERTICES};
 use std::alloc::Global;
-
-const MOST_NAME_BYTES: usize = 200;
-
-const MOST_VERTICES: usize = 512;
-
-const MOST_EDGES: usize = 4096;
 
 /// What is kept of the lines of a block.
 #[derive(Drop)]
@@ -28,138 +22,10 @@ pub struct State<'a> {
     pub graph: PartialGraph<'a>,
 }
 
-impl LineKind {
-    fn is_name(self) -> bool
-        ensures { result ≡ is_name self }
-    {
-        match self {
-            LineKind::Name => true,
-            _ => false,
-        }
-    }
-
-    /// Whether it ends a block.
-    pub fn is_end(self) -> bool
-        ensures { result ≡ is_end self }
-    {
-        match self {
-            LineKind::End => true,
-            _ => false,
-        }
-    }
-
-    fn is_bare(self) -> bool
-        ensures { result ≡ is_bare self }
-    {
-        match self {
-            LineKind::Bare => true,
-            _ => false,
-        }
-    }
-
-    fn is_broken(self) -> bool
-        ensures { result ≡ is_broken self }
-    {
-        match self {
-            LineKind::Broken => true,
-            _ => false,
-        }
-    }
-
-    fn is_unknown(self) -> bool
-        ensures { result ≡ is_unknown self }
-    {
-        match self {
-            LineKind::Unknown | LineKind::Opening => true,
-            _ => false,
-        }
-    }
-
-    // Whether the last keyword line is one of edges, after one more line.
-    fn under_after(self, before: bool) -> bool
-        ensures { result ≡ under_after self before }
-    {
-        match self {
-            LineKind::Name => false,
-            LineKind::Edges => true,
-            _ => before,
-        }
-    }
-
-    // The name so far, after one more line, which gives this name where it is a name line.
-    fn name_after<'a>(self, name: Option<&'a [u8]>, before: Option<&'a [u8]>) -> Option<&'a [u8]>
-        ensures { option_copied result ≡
-            name_after self (option_copied name.entry) (option_copied before.entry) }
-    {
-        match self {
-            LineKind::Name => name,
-            _ => before,
-        }
-    }
-
-    fn may_have_row(self) -> bool
-        ensures { result ≡ may_have_row self }
-    {
-        match self {
-            LineKind::Edges | LineKind::Bare => true,
-            _ => false,
-        }
-    }
-}
-
-fn is_long(bytes: &[u8]) -> bool
-    ensures { result ≡ is_long bytes.now }
-{
-    MOST_NAME_BYTES < bytes.len()
-}
-
-fn is_long_name(name: Option<&[u8]>) -> bool
-    ensures { result ≡ is_long_name (option_copied name.entry) }
-{
-    match name {
-        None => false,
-        Some(name) => is_long(name),
-    }
-}
-
-impl<'a> Line<'a> {
-    // Whether the fields are a row.
-    fn has_row(&self) -> bool
-        ensures { result ≡ has_row (line_view self.now) }
-    {
-        self.kind.may_have_row() && 0 < self.fields.size
-    }
-
-    fn has_long_name(&self) -> bool
-        ensures { result ≡ has_long_name (line_view self.now) }
-    {
-        (self.kind.is_name() && is_long_name(self.fields.name))
-            || (self.has_row() && (is_long(self.fields.u) || is_long(self.fields.v)))
-    }
-
-    fn has_wrong_length(&self) -> bool
-        ensures { result ≡ has_wrong_length (line_view self.now) }
-    {
-        self.has_row() && !(self.fields.size == 4 || self.fields.size == 5)
-    }
-
-    fn has_far_shift(&self) -> bool
-        ensures { result ≡ has_far_shift (line_view self.now) }
-    {
-        self.has_row() && self.fields.has_far_part
-    }
-
-    fn has_self_edge(&self) -> bool
-        ensures { result ≡ has_self_edge (line_view self.now) }
-    {
-        self.has_row() && is_self_edge(&self.fields)
-    }
-}
-
 impl<'a> State<'a> {
     /// No line yet.
     pub fn new(alloc: Global) -> Self
-        ensures stands { Stands result [] }
+        ensures stands { IsStateAfter result [] }
         ensures repeats { result.graph.repeats ≡ 0 }
     {
         State {
@@ -169,15 +35,25 @@ impl<'a> State<'a> {
         }
     }
 
+    /// Forgets all lines, and keeps the memory.
+    pub fn clear(&mut self)
+        ensures stands { IsStateAfter self.new [] }
+        ensures repeats { self.new.graph.repeats ≡ 0 }
+    {
+        self.name = None;
+        self.under_edges = false;
+        self.graph.clear();
+    }
+
     fn is_second_name(&self, line: &Line<'a>) -> bool
-        ensures { (earlier : List LineView) → Stands self.now earlier →
+        ensures { (earlier : List LineView) → IsStateAfter self.now earlier →
             result ≡ is_second_name earlier (line_view line.now) }
     {
         line.kind.is_name() && self.name.is_some()
     }
 
     fn has_bad_token(&self, line: &Line<'a>) -> bool
-        ensures { (earlier : List LineView) → Stands self.now earlier →
+        ensures { (earlier : List LineView) → IsStateAfter self.now earlier →
             result ≡ has_bad_token earlier (line_view line.now) }
     {
         line.kind.is_broken()
@@ -187,7 +63,7 @@ impl<'a> State<'a> {
     }
 
     fn has_other_length(&self, line: &Line<'a>) -> bool
-        ensures { (earlier : List LineView) → Stands self.now earlier →
+        ensures { (earlier : List LineView) → IsStateAfter self.now earlier →
             result ≡ has_other_length earlier (line_view line.now) }
     {
         line.has_row() && (self.graph.has_rows() && !(line.fields.size == self.graph.size))
@@ -195,7 +71,7 @@ impl<'a> State<'a> {
 
     // The first fault of a line by its words.
     fn word_fault(&self, line: &Line<'a>) -> Option<BlockFaultKind>
-        ensures { (earlier : List LineView) → Stands self.now earlier →
+        ensures { (earlier : List LineView) → IsStateAfter self.now earlier →
             result ≡ first_true (word_tests earlier (line_view line.now)) }
     {
         if line.kind.is_unknown() {
@@ -215,7 +91,7 @@ impl<'a> State<'a> {
 
     // The first fault of a line by its row.
     fn row_fault(&self, line: &Line<'a>) -> Option<BlockFaultKind>
-        ensures { (earlier : List LineView) → Stands self.now earlier →
+        ensures { (earlier : List LineView) → IsStateAfter self.now earlier →
             result ≡ first_true (row_tests earlier (line_view line.now)) }
     {
         if line.has_wrong_length() {
@@ -234,7 +110,7 @@ impl<'a> State<'a> {
     }
 
     fn ends_without_rows(&self, line: &Line<'a>) -> bool
-        ensures { (earlier : List LineView) → Stands self.now (line_view line.now ∷ earlier) →
+        ensures { (earlier : List LineView) → IsStateAfter self.now (line_view line.now ∷ earlier) →
             result ≡ ends_without_rows earlier (line_view line.now) }
     {
         line.kind.is_end() && !self.graph.has_rows()
@@ -242,7 +118,7 @@ impl<'a> State<'a> {
 
     // The first fault of the last line by the counts that it leads to.
     fn count_fault(&self, line: &Line<'a>) -> Option<BlockFaultKind>
-        ensures { (earlier : List LineView) → Stands self.now (line_view line.now ∷ earlier) →
+        ensures { (earlier : List LineView) → IsStateAfter self.now (line_view line.now ∷ earlier) →
             result ≡ first_true (count_tests earlier (line_view line.now)) }
     {
         if MOST_VERTICES < self.graph.names.len() {
@@ -260,10 +136,10 @@ impl<'a> State<'a> {
     // Adds a line to what is kept.
     fn keep(&mut self, line: &Line<'a>) -> Result<(), NoMemory>
         requires small { IsSmallFields (fields_view line.now.fields) }
-        requires room { length (names_in self.old.graph.names) ≤ 512 }
+        requires room { length (names_in self.old.graph.names) ≤ most_vertices }
         requires countable { self.old.graph.repeats < 16777216 }
-        ensures stands { OnOk result ((earlier : List LineView) → Stands self.old earlier →
-            Stands self.new (line_view line.now ∷ earlier)) }
+        ensures stands { OnOk result ((earlier : List LineView) → IsStateAfter self.old earlier →
+            IsStateAfter self.new (line_view line.now ∷ earlier)) }
         ensures repeats { OnOk result (self.new.graph.repeats ≤ self.old.graph.repeats + 1) }
     {
         self.name = line.kind.name_after(line.fields.name, self.name);
@@ -276,7 +152,7 @@ impl<'a> State<'a> {
 
     // The first fault of a line without regard to the counts that it leads to.
     fn fault_before(&self, line: &Line<'a>) -> Option<BlockFaultKind>
-        ensures { (earlier : List LineView) → Stands self.now earlier →
+        ensures { (earlier : List LineView) → IsStateAfter self.now earlier →
             result ≡ or_later (first_true (word_tests earlier (line_view line.now)))
             (first_true (row_tests earlier (line_view line.now))) }
     {
@@ -289,12 +165,12 @@ impl<'a> State<'a> {
     /// The fault of a line, where it has one. Else the line is added to what is kept.
     pub fn judge(&mut self, line: &Line<'a>) -> Result<Option<BlockFaultKind>, NoMemory>
         requires small { IsSmallFields (fields_view line.now.fields) }
-        requires room { length (names_in self.old.graph.names) ≤ 512 }
+        requires room { length (names_in self.old.graph.names) ≤ most_vertices }
         requires countable { self.old.graph.repeats < 16777216 }
-        ensures fault { IfOk result (λ kind. (earlier : List LineView) → Stands self.old earlier →
-            kind ≡ fault_of earlier (line_view line.now)) }
+        ensures fault { IfOk result (λ kind. (earlier : List LineView) →
+            IsStateAfter self.old earlier → kind ≡ fault_of earlier (line_view line.now)) }
         ensures stands { IfOk result (λ kind. kind ≡ None → (earlier : List LineView) →
-            Stands self.old earlier → Stands self.new (line_view line.now ∷ earlier)) }
+            IsStateAfter self.old earlier → IsStateAfter self.new (line_view line.now ∷ earlier)) }
         ensures repeats { OnOk result (self.new.graph.repeats ≤ self.old.graph.repeats + 1) }
     {
         match self.fault_before(line) {

@@ -8,7 +8,7 @@ ghost use Rattle.walk_lattice.specs.Search.{shift_of};
 ghost use Rattle.connected_dim.specs.Flat.{flat_colour, flat_colouring};
 
 use crate::NoMemory;
-use quotient_graph::Split;
+use quotient_graph::{Entries, Split};
 use std::alloc::Global;
 use vecdim::{Shift, Triple};
 use walk_lattice::shift_of;
@@ -61,7 +61,7 @@ pub fn flat_split<const D: usize>(
     Ok(Split {
         dim,
         q: 0,
-        h: flat_colours(alloc, &c, found)?,
+        h: Entries::from_vec(flat_colours(alloc, &c, found)?),
         c,
     })
 }

@@ -4,7 +4,7 @@ ghost use Rattle.quotient_graph.specs.Splits.{split_in};
 ghost use Rattle.connected_dim.specs.Quotient.{part_colour, part_colouring};
 
 use crate::NoMemory;
-use quotient_graph::Split;
+use quotient_graph::{Entries, Split};
 use std::alloc::Global;
 use vecdim::{Shift, Triple};
 
@@ -56,6 +56,6 @@ pub fn part_split<const D: usize>(
         dim,
         q: 0,
         c: Triple { x: 0, y: 0, z: 0 },
-        h: part_colours(alloc, found)?,
+        h: Entries::from_vec(part_colours(alloc, found)?),
     })
 }

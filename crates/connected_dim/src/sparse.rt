@@ -9,7 +9,7 @@ ghost use Rattle.connected_dim.specs.Sparse.{sparse_colour, sparse_colouring};
 
 use crate::NoMemory;
 use crate::duals::Dual;
-use quotient_graph::Split;
+use quotient_graph::{Entries, Split};
 use std::alloc::Global;
 use vecdim::Shift;
 use walk_lattice::shift_of;
@@ -80,7 +80,7 @@ pub fn sparse_split<const D: usize>(
     Ok(Split {
         dim,
         q: modulus(&d),
-        h: sparse_colours(alloc, &d, found)?,
+        h: Entries::from_vec(sparse_colours(alloc, &d, found)?),
         c: d.c,
     })
 }

@@ -1,7 +1,7 @@
 -- The lines that a block's text begins with, and the line of its fault.
 use Rattle.std.specs.Prelude.{ℕ, List, [], ◌++◌, Option, None, Some, codes}
 use Rattle.std.specs.Fmt.{decimal}
-use Rattle.cgd_read.specs.Kinds.{number_of_kind}
+use Rattle.cgd_read.specs.Faults.{number_of_kind}
 use Rattle.cgd_read.specs.declared.block.BlockFault.{BlockFault}
 use Rattle.cgd_read.specs.declared.block.BlockFaultKind.{BlockFaultKind}
 use Rattle.net_report.specs.KindNames.{kind_name}

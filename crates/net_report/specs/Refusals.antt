@@ -26,7 +26,7 @@ wide_placement_word = codes "refused 4 WidePlacement"
 
 -- a colouring: its modulus, its vector, and an entry for each vertex
 abbrev pub split_text : Split → List ℕ
-split_text s = codes " q=" ++ decimal s.q ++ codes " c=" ++ list_text (parts s.dim s.c) ++ codes " h=" ++ list_text s.h.items
+split_text s = codes " q=" ++ decimal s.q ++ codes " c=" ++ list_text (parts s.dim s.c) ++ codes " h=" ++ list_text s.h
 
 -- a number after its label
 abbrev pub field_text : List ℕ → ℕ → List ℕ

@@ -49,7 +49,7 @@ fn push_split(text: &mut Vec<u8>, split: &Split) -> Result<(), NoMemory>
     text.extend_from_slice(b" c=")?;
     push_parts(text, split.dim, &split.c)?;
     text.extend_from_slice(b" h=")?;
-    push_list(text, &split.h)
+    push_list(text, split.h.as_slice())
 }
 
 fn push_field(text: &mut Vec<u8>, label: &[u8], n: u32) -> Result<(), NoMemory>

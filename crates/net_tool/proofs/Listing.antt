@@ -6,7 +6,7 @@ use Rattle.std.proofs.lemmas.List.Folds.{list_all_at, list_all_more}
 use Rattle.std.proofs.lemmas.Option.{get_or_from_slice_get}
 use Rattle.std.proofs.lemmas.List.Elements.{All-append, All-cons, All-nil}
 use Rattle.std.proofs.Math.Seq.{take-suc}
-use Rattle.cgd_read.specs.BlockViews.{BlockView}
+use Rattle.cgd_read.specs.Views.{BlockView}
 use Rattle.net_report.specs.Reports.{IsPrintable}
 use Rattle.net_report.specs.declared.outcome.Outcome.{Outcome}
 use Rattle.net_tool.specs.Outcomes.{IsOutcomeOf, AreOutcomesFrom, is_accepted}

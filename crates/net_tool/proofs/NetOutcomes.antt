@@ -2,7 +2,8 @@
 use Rattle.std.proofs.Common.{◌≡◌, ◌≢◌, inl, inr, Result, Ok, Err, sym, subst, refl, ◌∙◌}
 use Rattle.std.specs.Prelude.{IfOk}
 use Rattle.periodic_net.specs.Graph.{Graph}
-use Rattle.cgd_read.specs.BlockViews.{RawView, Net}
+use Rattle.cgd_read.specs.Graphs.{graph_of}
+use Rattle.cgd_read.specs.Views.{RawView, Net}
 use Rattle.quotient_graph.specs.Stars.{IsInOrder}
 use Rattle.quotient_graph.specs.PlacedNets.{PlacedNet}
 use Rattle.quotient_graph.specs.Splits.{split_in}
@@ -11,7 +12,7 @@ use Rattle.least_key.specs.declared.refusal.Refusal.TheVariants.{Disconnected, D
 use Rattle.net_report.specs.declared.outcome.OutcomeBody.{OutcomeBody}
 use Rattle.net_report.specs.declared.outcome.OutcomeBody.TheVariants.{Refused}
 use Rattle.net_tool.specs.Nets.{IsUnconnected, IsUnplaced, IsPlacedAs, OrNoMemory}
-use Rattle.net_tool.specs.Outcomes.{size_of, net_graph, IsBodyOf}
+use Rattle.net_tool.specs.Outcomes.{size_of, IsBodyOf}
 use Rattle.net_tool.specs.declared.words.Command.{Command}
 use Rattle.net_tool.specs.declared.words.Command.TheVariants.{Check, Place}
 use Rattle.net_tool.proofs.Reordered.{same_connected, same_part_split, same_flat_split, same_sparse_split}
@@ -48,10 +49,10 @@ refused_as : {E : Type 0} (command : Command) (raw : RawView) (refusal : Refusal
 refused_as command raw refusal (Ok body) f e n = subst (IsBodyOf command (Net raw)) (sym e) (f n)
 refused_as command raw refusal (Err d) f e n = e
 
-pub refused_by_check : {E : Type 0} (raw : RawView) (H : Graph) (refusal : Refusal) (r : Result OutcomeBody E) → IsInOrder (net_graph raw) H → OrNoMemory (IsUnconnected H) refusal
+pub refused_by_check : {E : Type 0} (raw : RawView) (H : Graph) (refusal : Refusal) (r : Result OutcomeBody E) → IsInOrder (graph_of raw) H → OrNoMemory (IsUnconnected H) refusal
     → IfOk r (λ body. body ≡ Refused (size_of raw) raw.names refusal) → IfOk r (λ body. refusal ≢ NoMemory) → IfOk r (IsBodyOf Check (Net raw))
-refused_by_check raw H refusal r o h = refused_as Check raw refusal r (λ n. (refl, refl, same_unconnected (net_graph raw) H refusal o (true_refusal (IsUnconnected H) refusal h n)))
+refused_by_check raw H refusal r o h = refused_as Check raw refusal r (λ n. (refl, refl, same_unconnected (graph_of raw) H refusal o (true_refusal (IsUnconnected H) refusal h n)))
 
-pub refused_by_place : {E : Type 0} (raw : RawView) (H : Graph) (refusal : Refusal) (r : Result OutcomeBody E) → IsInOrder (net_graph raw) H → OrNoMemory (IsUnplaced H H) refusal
+pub refused_by_place : {E : Type 0} (raw : RawView) (H : Graph) (refusal : Refusal) (r : Result OutcomeBody E) → IsInOrder (graph_of raw) H → OrNoMemory (IsUnplaced H H) refusal
     → IfOk r (λ body. body ≡ Refused (size_of raw) raw.names refusal) → IfOk r (λ body. refusal ≢ NoMemory) → IfOk r (IsBodyOf Place (Net raw))
-refused_by_place raw H refusal r o h = refused_as Place raw refusal r (λ n. (refl, refl, H, o, same_unplaced (net_graph raw) H refusal o (true_refusal (IsUnplaced H H) refusal h n)))
+refused_by_place raw H refusal r o h = refused_as Place raw refusal r (λ n. (refl, refl, H, o, same_unplaced (graph_of raw) H refusal o (true_refusal (IsUnplaced H H) refusal h n)))

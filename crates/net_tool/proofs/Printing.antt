@@ -4,7 +4,9 @@ use Rattle.std.proofs.lemmas.List.Sorted.{IsPermutation-sym}
 use Rattle.periodic_net.specs.Graph.{Graph, arc, IsGraph, IsQuotientVertex}
 use Rattle.periodic_net.specs.Placement.{Placement}
 use Rattle.periodic_net.proofs.Arcs.{arc_inside}
-use Rattle.cgd_read.specs.BlockViews.{RawView, Net, raw_view, body_view, IsReadBody}
+use Rattle.cgd_read.specs.Graphs.{graph_of}
+use Rattle.cgd_read.specs.Views.{RawView, Net, raw_view, body_view}
+use Rattle.cgd_read.specs.Blocks.{IsReadBody}
 use Rattle.cgd_read.specs.declared.block.Body.{Body}
 use Rattle.cgd_read.specs.declared.block.Body.TheVariants as read
 use Rattle.quotient_graph.specs.Stars.{IsInOrder}
@@ -19,20 +21,20 @@ use Rattle.net_report.specs.Reports.{IsPrintableBody}
 use Rattle.net_report.specs.declared.outcome.OutcomeBody.{OutcomeBody}
 use Rattle.net_report.specs.declared.outcome.OutcomeBody.TheVariants.{Unsupported, Malformed, Refused, Checked, Located}
 use Rattle.net_tool.specs.Nets.{IsUnconnected, IsUnplaced}
-use Rattle.net_tool.specs.Outcomes.{net_graph, IsBodyOf}
+use Rattle.net_tool.specs.Outcomes.{IsBodyOf}
 use Rattle.net_tool.specs.declared.words.Command.{Command}
 use Rattle.net_tool.specs.declared.words.Command.TheVariants.{Check, Place}
 use Rattle.net_tool.proofs.Reordered.{same_arc}
 
 -- a vertex of the graph in order has a name
-named_vertex : (raw : RawView) (H : Graph) (u : ℕ) → IsInOrder (net_graph raw) H → IsQuotientVertex H u → IsNamed raw.names u
+named_vertex : (raw : RawView) (H : Graph) (u : ℕ) → IsInOrder (graph_of raw) H → IsQuotientVertex H u → IsNamed raw.names u
 named_vertex raw H u o v = λ some. (v.0, subst (λ n. u ≤ n) o.vertices v.1)
 
 -- the vertices of a site have names
-named_site : (raw : RawView) (H : Graph) (p : Placement) (site : WideSite) (value : ℤ) → IsGraph (net_graph raw) → IsInOrder (net_graph raw) H → IsWideAt H p site value → AreNamed raw.names site
+named_site : (raw : RawView) (H : Graph) (p : Placement) (site : WideSite) (value : ℤ) → IsGraph (graph_of raw) → IsInOrder (graph_of raw) H → IsWideAt H p site value → AreNamed raw.names site
 named_site raw H p (Denominator u c) value g o h = named_vertex raw H u o h.2.vertex
 named_site raw H p (ArcPart u v s c) value g o h =
-    let G = net_graph raw in
+    let G = graph_of raw in
     let inside = arc_inside G g (arc u v s) (same_arc H G (IsPermutation-sym G.edges H.edges o.edges) (arc u v s) h.is_arc) in
     (λ some. inside.from, λ some. inside.to)
 
@@ -43,7 +45,7 @@ unconnected_line names G (TooWide at wide) h = tt
 unconnected_line names G (WidePlacement w) h = absurd h
 unconnected_line names G NoMemory h = h
 
-unplaced_line : (raw : RawView) (H : Graph) (refusal : Refusal) → IsGraph (net_graph raw) → IsInOrder (net_graph raw) H → IsUnplaced (net_graph raw) H refusal → HasLine raw.names refusal
+unplaced_line : (raw : RawView) (H : Graph) (refusal : Refusal) → IsGraph (graph_of raw) → IsInOrder (graph_of raw) H → IsUnplaced (graph_of raw) H refusal → HasLine raw.names refusal
 unplaced_line raw H (Disconnected split) g o h = tt
 unplaced_line raw H (Degenerate split) g o h = tt
 unplaced_line raw H (TooWide at wide) g o h = tt
@@ -51,11 +53,11 @@ unplaced_line raw H (WidePlacement w) g o h = named_site raw H h.1.placement w.s
 unplaced_line raw H NoMemory g o h = h
 
 -- what a command tells of a net can be printed
-told_of_net : (command : Command) (raw : RawView) (told : OutcomeBody) → IsGraph (net_graph raw) → IsBodyOf command (Net raw) told → IsPrintableBody told
+told_of_net : (command : Command) (raw : RawView) (told : OutcomeBody) → IsGraph (graph_of raw) → IsBodyOf command (Net raw) told → IsPrintableBody told
 told_of_net command raw (Unsupported token) g h = tt
 told_of_net command raw (Malformed fault) g h = tt
 told_of_net command raw (Checked size) g h = tt
-told_of_net Check raw (Refused size names refusal) g h = unconnected_line names (net_graph raw) refusal h.2
+told_of_net Check raw (Refused size names refusal) g h = unconnected_line names (graph_of raw) refusal h.2
 told_of_net Place raw (Refused size names refusal) g h = subst (λ ns. HasLine ns refusal) (sym h.1) (unplaced_line raw h.2 refusal g h.3 h.4)
 told_of_net Check raw (Located size names placed) g h = absurd h
 told_of_net Place raw (Located size names placed) g h = ap length h.1 ∙ sym (ap (λ (G : Graph). G.vertices) h.4.graph ∙ h.3.vertices)

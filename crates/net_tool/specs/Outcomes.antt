@@ -2,8 +2,8 @@
 use Rattle.std.specs.Prelude.{◌≡◌, ◌≤◌, ℕ, ◌+◌, Bool, true, false, List, [], ◌∷◌, length, map, option_copied}
 use Rattle.std.specs.List.{list_all}
 use Rattle.periodic_net.specs.Graph.{Graph, IsConnected}
-use Rattle.cgd_read.specs.Graphs.{edge_of}
-use Rattle.cgd_read.specs.BlockViews.{RawView, BodyView, Net, Other, Faulty, BlockView}
+use Rattle.cgd_read.specs.Graphs.{graph_of}
+use Rattle.cgd_read.specs.Views.{RawView, BodyView, Net, Other, Faulty, BlockView}
 use Rattle.cgd_read.specs.Blocks.{blocks_of}
 use Rattle.quotient_graph.specs.Stars.{IsInOrder}
 use Rattle.net_report.specs.Placements.{placed_in}
@@ -16,10 +16,6 @@ use Rattle.net_tool.specs.Nets.{IsUnconnected, IsUnplaced, IsPlacedAs}
 use Rattle.net_tool.specs.declared.words.Command.{Command}
 use Rattle.net_tool.specs.declared.words.Command.TheVariants.{Check, Place}
 
--- the graph that was read, and its sizes
-abbrev pub net_graph : RawView → Graph
-net_graph raw = record { dimension = raw.dim; vertices = length raw.names; edges = map edge_of raw.edges }
-
 abbrev pub size_of : RawView → Size
 size_of raw = record { dim = raw.dim; vertices = length raw.names; edges = length raw.edges; repeats = raw.repeats }
 
@@ -27,12 +23,12 @@ size_of raw = record { dim = raw.dim; vertices = length raw.names; edges = lengt
 abbrev pub IsBodyOf : Command → BodyView → OutcomeBody → Type 0
 IsBodyOf command (Other token) (Unsupported told) = told.now ≡ token
 IsBodyOf command (Faulty fault) (Malformed told) = told ≡ fault
-IsBodyOf Check (Net raw) (Refused size names refusal) = (size ≡ size_of raw) × (names ≡ raw.names) × IsUnconnected (net_graph raw) refusal
-IsBodyOf Check (Net raw) (Checked size) = (size ≡ size_of raw) × IsConnected (net_graph raw)
+IsBodyOf Check (Net raw) (Refused size names refusal) = (size ≡ size_of raw) × (names ≡ raw.names) × IsUnconnected (graph_of raw) refusal
+IsBodyOf Check (Net raw) (Checked size) = (size ≡ size_of raw) × IsConnected (graph_of raw)
 IsBodyOf Place (Net raw) (Refused size names refusal) =
-    (size ≡ size_of raw) × (names ≡ raw.names) × (H : Graph) × IsInOrder (net_graph raw) H × IsUnplaced (net_graph raw) H refusal
+    (size ≡ size_of raw) × (names ≡ raw.names) × (H : Graph) × IsInOrder (graph_of raw) H × IsUnplaced (graph_of raw) H refusal
 IsBodyOf Place (Net raw) (Located size names placed) =
-    (size ≡ size_of raw) × (names ≡ raw.names) × (H : Graph) × IsInOrder (net_graph raw) H × IsPlacedAs (net_graph raw) H (placed_in placed)
+    (size ≡ size_of raw) × (names ≡ raw.names) × (H : Graph) × IsInOrder (graph_of raw) H × IsPlacedAs (graph_of raw) H (placed_in placed)
 IsBodyOf command body told = ⊥
 
 -- the outcome of the block with this number

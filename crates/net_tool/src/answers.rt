@@ -1,8 +1,8 @@
 // The outcome of each block of a text for a command, and the report.
 ghost use Rattle.std.specs.Prelude.{◌≡◌, ◌≤◌, ◌<◌, All, IfOk, IsErrOf, length};
 ghost use Rattle.std.specs.List.{list_all};
-ghost use Rattle.cgd_read.specs.BlockViews.{block_view, views, IsReadBody};
-ghost use Rattle.cgd_read.specs.Blocks.{blocks_of};
+ghost use Rattle.cgd_read.specs.Views.{block_view, views};
+ghost use Rattle.cgd_read.specs.Blocks.{IsReadBody, blocks_of};
 ghost use Rattle.net_report.specs.Reports.{IsPrintable};
 ghost use Rattle.net_tool.specs.Outcomes.{IsOutcomeOf, AreOutcomesFrom, is_accepted_body, is_accepted, IsReport, IsReportOf};
 

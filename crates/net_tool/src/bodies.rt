@@ -1,7 +1,8 @@
 // What a command tells of a block.
 ghost use Rattle.std.specs.Prelude.{◌≡◌, ◌≢◌, IfOk};
 ghost use Rattle.cgd_read.specs.Graphs.{IsReadGraph};
-ghost use Rattle.cgd_read.specs.BlockViews.{Net, body_view, raw_view, IsReadBody};
+ghost use Rattle.cgd_read.specs.Views.{Net, body_view, raw_view};
+ghost use Rattle.cgd_read.specs.Blocks.{IsReadBody};
 ghost use Rattle.net_tool.specs.Outcomes.{size_of, IsBodyOf};
 
 use crate::nets::{check_any, place_any};
@@ -13,7 +14,7 @@ use quotient_graph::from_raw;
 use std::alloc::Global;
 
 fn size_of(raw: &RawGraph<'_>) -> Size
-    requires { IsReadGraph raw.now }
+    requires { IsReadGraph (raw_view raw.now) }
     ensures { result ≡ size_of (raw_view raw.now) }
 {
     Size {
@@ -26,7 +27,7 @@ fn size_of(raw: &RawGraph<'_>) -> Size
 
 // The refusal with the vertex names, where it is one.
 fn refused_body<'a>(raw: &RawGraph<'a>, refusal: Refusal) -> Result<OutcomeBody<'a>, NoMemory>
-    requires { IsReadGraph raw.now }
+    requires { IsReadGraph (raw_view raw.now) }
     ensures told { IfOk result (λ body. body ≡ OutcomeBody.Refused (size_of (raw_view raw.now)) raw.now.names refusal) }
     ensures refused { IfOk result (λ body. refusal ≢ Refusal.NoMemory) }
 {
@@ -37,7 +38,7 @@ fn refused_body<'a>(raw: &RawGraph<'a>, refusal: Refusal) -> Result<OutcomeBody<
 }
 
 fn check_net<'a>(alloc: Global, raw: &RawGraph<'a>) -> Result<OutcomeBody<'a>, NoMemory>
-    requires { IsReadGraph raw.now }
+    requires { IsReadGraph (raw_view raw.now) }
     ensures { IfOk result (IsBodyOf Command.Check (Net (raw_view raw.now))) }
 {
     let graph = from_raw(alloc, raw)?;
@@ -48,7 +49,7 @@ fn check_net<'a>(alloc: Global, raw: &RawGraph<'a>) -> Result<OutcomeBody<'a>, N
 }
 
 fn place_net<'a>(alloc: Global, raw: &RawGraph<'a>) -> Result<OutcomeBody<'a>, NoMemory>
-    requires { IsReadGraph raw.now }
+    requires { IsReadGraph (raw_view raw.now) }
     ensures { IfOk result (IsBodyOf Command.Place (Net (raw_view raw.now))) }
 {
     let graph = from_raw(alloc, raw)?;

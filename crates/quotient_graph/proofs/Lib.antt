@@ -1,7 +1,11 @@
-pub mod Once
+pub mod DifferentMembers
 pub mod Rising
 pub mod Lists
 pub mod SortedStars
-pub mod Kept
+pub mod GraphsInMemory
 pub mod ReadGraphs
+pub mod EdgeLists
+pub mod Reach
+pub mod PositionBounds
+pub mod Fitting
 pub mod StarArcs

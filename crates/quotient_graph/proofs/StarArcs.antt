@@ -10,7 +10,7 @@ use Rattle.integers.proofs.Filters.{all_at}
 use Rattle.periodic_net.specs.Graph.{Graph, Arc, both_ways, arcs, arcs_from, IsArc, IsGraph}
 use Rattle.periodic_net.proofs.Arcs.{arc_inside}
 use Rattle.periodic_net.proofs.ArcLists.{from_is_arc, arc_is_from}
-use Rattle.periodic_net.specs.Limits.{IsSmall}
+use Rattle.periodic_net.specs.Limits.{most_shift, IsSmall}
 use Rattle.quotient_graph.specs.Stars.{IsStar, IsArcFrom}
 
 opposite_within : (n : ℕ) (s : Vector) → IsWithin n s → IsWithin n (opposite s)
@@ -19,15 +19,15 @@ opposite_within n s h = (part s.x h.0, part s.y h.1, part s.z h.2)
     part : (x : ℤ) → unsigned_abs x ≤ n → unsigned_abs (neg_ℤ x) ≤ n
     part x a = omega (arith, ints)
 
-both_within : (es : List Arc) → AllByRecursion (λ e. IsWithin 500 e.shift) es → AllByRecursion (λ a. IsWithin 500 a.shift) (both_ways es)
+both_within : (es : List Arc) → AllByRecursion (λ e. IsWithin most_shift e.shift) es → AllByRecursion (λ a. IsWithin most_shift a.shift) (both_ways es)
 both_within [] h = tt
-both_within (e ∷ es) h = (h.0, (opposite_within 500 e.shift h.0, both_within es h.1))
+both_within (e ∷ es) h = (h.0, (opposite_within most_shift e.shift h.0, both_within es h.1))
 
 -- the shifts of all arcs are within the limits
-pub arc_within : (G : Graph) → IsSmall G → (a : Arc) → IsArc G a → IsWithin 500 a.shift
+pub arc_within : (G : Graph) → IsSmall G → (a : Arc) → IsArc G a → IsWithin most_shift a.shift
 arc_within G s a h =
-    all_at (λ b. IsWithin 500 b.shift) (arcs G) a
-    (All-from_recursion (λ b. IsWithin 500 b.shift) (arcs G) (both_within G.edges (recursion_from_All (λ e. IsWithin 500 e.shift) G.edges s.shifts))) h
+    all_at (λ b. IsWithin most_shift b.shift) (arcs G) a
+    (All-from_recursion (λ b. IsWithin most_shift b.shift) (arcs G) (both_within G.edges (recursion_from_All (λ e. IsWithin most_shift e.shift) G.edges s.shifts))) h
 
 member : (star : List Arc) (k : ℕ) (d : Arc) → k < length star → Contains star (get_or star k d)
 member [] k d l = absurd (omega arith)

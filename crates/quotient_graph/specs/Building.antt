@@ -5,6 +5,7 @@ use Rattle.std.specs.Ordering.{int_cmp}
 use Rattle.std.specs.Cmp.Lexicographic.{slice_cmp}
 use Rattle.periodic_net.specs.Graph.{Arc, both_ways}
 use Rattle.integers.specs.Vectors.{IsWithin}
+use Rattle.periodic_net.specs.Limits.{most_shift}
 use Rattle.quotient_graph.specs.Order.{arc_numbers}
 use Rattle.quotient_graph.specs.Stars.{star_at}
 
@@ -31,7 +32,7 @@ pub record AreSortedFrom (old new : List (List Arc)) : Type 0 where
 pub record EdgeFits (n : ℕ) (e : Arc) : Type 0 where
   pub from : (1 ≤ e.from) × (e.from ≤ n)
   pub to : (1 ≤ e.to) × (e.to ≤ n)
-  pub shift : IsWithin 500 e.shift
+  pub shift : IsWithin most_shift e.shift
 
 -- n lists: that of vertex u has the arcs that leave u by these edges, sorted
 pub record AreStars (n : ℕ) (edges : List Arc) (stars : List (List Arc)) : Type 0 where

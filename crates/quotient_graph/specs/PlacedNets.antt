@@ -1,7 +1,8 @@
 -- A graph with a placement of its vertices.
-use Rattle.std.specs.Prelude.{◌≤ℤ◌, ℤ, pos, List, unsigned_abs}
+use Rattle.std.specs.Prelude.{ℕ, ◌+◌, ◌-◌, ◌*◌, ◌≤ℤ◌, ℤ, pos, List, unsigned_abs}
 use Rattle.integers.specs.Vectors.{Vector}
 use Rattle.periodic_net.specs.Graph.{Graph, IsConnected}
+use Rattle.periodic_net.specs.Limits.{most_vertices, most_shift, most_units}
 use Rattle.periodic_net.specs.Placement.{Placement, IsNormalPlacement, IsWithinLimits}
 
 -- a graph, and where its vertices stand
@@ -16,6 +17,10 @@ placement_of d0 at = record { denominator = unsigned_abs d0; at = at }
 -- the graph with its vertices at these positions
 abbrev pub placed_net : Graph → ℤ → List Vector → PlacedNet
 placed_net G d0 at = record { graph = G; placement = placement_of d0 at }
+
+-- a part of a position, as an absolute value: most_vertices - 1 arcs at most lead to a vertex, and each adds so much
+abbrev pub most_position : ℕ
+most_position = (most_vertices - 1) * ((most_shift + 1) * most_units)
 
 -- the net is connected, and the positions are its normal placement, within the limits
 pub record IsPlaced (G : Graph) (d0 : ℤ) (at : List Vector) : Type 0 where

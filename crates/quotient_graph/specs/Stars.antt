@@ -1,9 +1,9 @@
--- The arcs from each vertex, and what a graph in memory keeps.
+-- The arcs from each vertex, and a graph as it stands in memory.
 use Rattle.std.specs.Prelude.{◌≡◌, ℕ, ◌-◌, List, [], length, slice_index_or}
 use Rattle.std.specs.List.Sorted.{IsPermutation}
 use Rattle.integers.specs.Vectors.{IsWithin}
 use Rattle.periodic_net.specs.Graph.{Graph, Arc, IsArc, IsGraph, IsQuotientVertex, arcs_from}
-use Rattle.periodic_net.specs.Limits.{IsSmall}
+use Rattle.periodic_net.specs.Limits.{most_shift, IsSmall}
 use Rattle.quotient_graph.specs.Order.{AreRising}
 
 -- the quotient graph of dimension d with n vertices and these edges
@@ -19,8 +19,8 @@ pub record IsStar (G : Graph) (u : ℕ) (star : List Arc) : Type 0 where
   pub all : IsPermutation (arcs_from G u) star
   pub rising : AreRising star
 
--- a graph within the limits whose edges rise, with the arcs from each of its vertices
-pub record IsKept (G : Graph) (stars : List (List Arc)) : Type 0 where
+-- a graph as it stands in memory: within the limits, its edges rise, and each vertex has its arcs
+pub record IsGraphInMemory (G : Graph) (stars : List (List Arc)) : Type 0 where
   pub is_graph : IsGraph G
   pub small : IsSmall G
   pub rising : AreRising G.edges
@@ -39,4 +39,4 @@ pub record IsArcFrom (G : Graph) (u : ℕ) (a : Arc) : Type 0 where
   pub is_arc : IsArc G a
   pub from : a.from ≡ u
   pub to : IsQuotientVertex G a.to
-  pub shift : IsWithin 500 a.shift
+  pub shift : IsWithin most_shift a.shift

@@ -1,6 +1,7 @@
 // The arcs from each vertex, made from the edges.
 ghost use Rattle.std.specs.Prelude.{◌≡◌, ◌+◌, ◌<◌, ◌≤◌, ℕ, List, [], All, length, map, replicate, slice_index_or, IfOk, OnOk, neg_ℤ, unsigned_abs};
 ghost use Rattle.integers.specs.Vectors.{IsWithin};
+ghost use Rattle.periodic_net.specs.Limits.{most_shift};
 ghost use Rattle.periodic_net.specs.Graph.{both_ways, reverse_of, Arc as NetArc};
 ghost use Rattle.quotient_graph.specs.Building.{with_arc, HaveArcs, IsSortedFrom, AreSortedFrom, EdgeFits, AreStars};
 
@@ -22,7 +23,8 @@ fn sort_star<const D: usize>(star: &mut Star<D>)
 fn push_arc<const D: usize>(stars: &mut [Star<D>], arc: Arc<D>) -> Result<(), NoMemory>
     requires low { 1 ≤ arc.from }
     requires high { arc.from ≤ length stars.old }
-    ensures { OnOk result (map (λ s. s.items) stars.new ≡ with_arc (map (λ s. s.items) stars.old) arc.entry) }
+    ensures { OnOk result (
+        map (λ s. s.items) stars.new ≡ with_arc (map (λ s. s.items) stars.old) arc.entry) }
 {
     stars[arc.from as usize - 1].push(arc)?;
     Ok(())
@@ -30,7 +32,7 @@ fn push_arc<const D: usize>(stars: &mut [Star<D>], arc: Arc<D>) -> Result<(), No
 
 // The same number of steps the other way.
 fn negated(steps: i32) -> i32
-    requires { unsigned_abs steps ≤ 500 }
+    requires { unsigned_abs steps ≤ most_shift }
     ensures { result ≡ neg_ℤ steps }
 {
     -steps
@@ -38,7 +40,7 @@ fn negated(steps: i32) -> i32
 
 // The other arc of an edge.
 fn reversed<const D: usize>(edge: &Arc<D>) -> Arc<D>
-    requires { IsWithin 500 edge.now.shift }
+    requires { IsWithin most_shift edge.now.shift }
     ensures { result ≡ reverse_of edge.now }
 {
     Arc {
@@ -67,7 +69,7 @@ fn empty_stars<const D: usize>(alloc: Global, n: usize) -> Result<Vec<Star<D>>, 
 fn push_edge<const D: usize>(stars: &mut [Star<D>], edge: &Arc<D>) -> Result<(), NoMemory>
     requires from { (1 ≤ edge.now.from) × (edge.now.from ≤ length stars.old) }
     requires to { (1 ≤ edge.now.to) × (edge.now.to ≤ length stars.old) }
-    requires shift { IsWithin 500 edge.now.shift }
+    requires shift { IsWithin most_shift edge.now.shift }
     ensures { OnOk result (map (λ s. s.items) stars.new
         ≡ with_arc (with_arc (map (λ s. s.items) stars.old) edge.now) (reverse_of edge.now)) }
 {
@@ -79,7 +81,8 @@ fn push_edge<const D: usize>(stars: &mut [Star<D>], edge: &Arc<D>) -> Result<(),
 fn push_edges<const D: usize>(stars: &mut [Star<D>], edges: &[Arc<D>]) -> Result<(), NoMemory>
     requires edges { All (EdgeFits (length stars.old)) edges.now }
     requires none { HaveArcs (length stars.old) (map (λ s. s.items) stars.old) [] }
-    ensures { OnOk result (HaveArcs (length stars.old) (map (λ s. s.items) stars.new) (both_ways edges.now)) }
+    ensures { OnOk result (
+        HaveArcs (length stars.old) (map (λ s. s.items) stars.new) (both_ways edges.now)) }
 {
     for edge in edges {
         push_edge(stars, edge)?;

@@ -1,5 +1,5 @@
 // The quotient graph of a net.
-ghost use Rattle.std.specs.Prelude.{◌≡◌, All, Contains, length, IfOk};
+ghost use Rattle.std.specs.Prelude.{◌≡◌, ◌⊎◌, All, Contains, length, IfOk};
 ghost use Rattle.periodic_net.specs.Graph.{Arc as NetArc, IsArc, IsGraph, IsQuotientVertex};
 ghost use Rattle.periodic_net.specs.Limits.{IsSmall};
 ghost use Rattle.quotient_graph.specs.Order.{AreRising};
@@ -10,8 +10,8 @@ use crate::{Arc, NoMemory};
 use std::alloc::Global;
 use std::marker::Model;
 
-/// A labelled quotient graph: its vertices are numbered from 1, and its different edges stand in normal
-/// spelling, rising by tail, head and shift. Contracts see the graph that it stands for.
+/// A labelled quotient graph: its vertices are numbered from 1, and its different edges stand in
+/// normal spelling, rising by tail, head and shift. Contracts see the graph that it stands for.
 #[derive(Drop)]
 pub struct Graph<const D: usize> {
     vertices: u32,
@@ -22,19 +22,21 @@ pub struct Graph<const D: usize> {
 impl<const D: usize> Model for Graph<D> {
     ghost use Rattle.std.specs.Prelude.{map};
     ghost use Rattle.periodic_net.specs.Graph.{Graph as NetGraph};
-    ghost use Rattle.quotient_graph.specs.Stars.{IsKept, graph_with};
+    ghost use Rattle.quotient_graph.specs.Stars.{IsGraphInMemory, graph_with};
 
     ghost Value = { NetGraph };
 
     ghost view = { λ g. graph_with D g.vertices g.edges.items };
 
-    ghost invariant = { λ g. IsKept (graph_with D g.vertices g.edges.items) (map (λ s. s.items) g.stars.items) };
+    ghost invariant = { λ g.
+        IsGraphInMemory (graph_with D g.vertices g.edges.items) (map (λ s. s.items) g.stars.items) };
 }
 
 impl<const D: usize> Graph<D> {
     pub fn dimension(&self) -> u8
         ensures value { result ≡ self.now.dimension }
         ensures parameter { self.now.dimension ≡ D }
+        ensures two_or_three { (D ≡ 2) ⊎ (D ≡ 3) }
         ensures is_graph { IsGraph self.now }
         ensures small { IsSmall self.now }
     {
@@ -44,6 +46,7 @@ impl<const D: usize> Graph<D> {
 
     pub fn vertices(&self) -> u32
         ensures count { result ≡ self.now.vertices }
+        ensures parameter { self.now.dimension ≡ D }
         ensures is_graph { IsGraph self.now }
         ensures small { IsSmall self.now }
     {
@@ -94,7 +97,7 @@ impl<const D: usize> Graph<D> {
 }
 
 // The graph with n vertices and these edges.
-#[tactic(auto, using(crate::proofs::Kept::is_kept, crate::proofs::Kept::edges_fit))]
+#[tactic(auto, using(crate::proofs::GraphsInMemory::is_in_memory, crate::proofs::GraphsInMemory::edges_fit))]
 pub fn with_edges<const D: usize>(
     alloc: Global,
     n: u32,

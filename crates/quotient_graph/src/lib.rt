@@ -11,6 +11,6 @@ mod split;
 pub use arc::Arc;
 pub use graph::Graph;
 pub use placed::Placed;
-pub use raw::{AnyGraph, from_raw};
-pub use split::Split;
+pub use raw::{AnyGraph, from_edges, from_raw};
+pub use split::{Entries, Split};
 pub use std::alloc::AllocError as NoMemory;

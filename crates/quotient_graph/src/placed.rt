@@ -1,15 +1,17 @@
 // Graphs with the positions of their vertices.
-ghost use Rattle.std.specs.Prelude.{◌≡◌, ◌≤ℤ◌, pos};
-ghost use Rattle.periodic_net.specs.Graph.{IsConnected, IsQuotientVertex};
-ghost use Rattle.periodic_net.specs.Placement.{base, IsNormalPlacement, IsWithinLimits};
-ghost use Rattle.quotient_graph.specs.PlacedNets.{placed_net, placement_of};
+ghost use Rattle.std.specs.Prelude.{◌≡◌, ◌≤◌, ◌^◌, ◌+ℤ◌, ◌-ℤ◌, ◌*ℤ◌, ◌≤ℤ◌, pos, unsigned_abs};
+ghost use Rattle.integers.specs.Vectors.{minus, plus, times, HasDimension, IsWithin};
+ghost use Rattle.periodic_net.specs.Graph.{IsArc, IsConnected, IsGraph, IsQuotientVertex};
+ghost use Rattle.periodic_net.specs.Limits.{most_shift, most_units, IsSmall};
+ghost use Rattle.periodic_net.specs.Placement.{arc_vector, base, IsNormalPlacement, IsWithinLimits};
+ghost use Rattle.quotient_graph.specs.PlacedNets.{most_position, placed_net, placement_of};
 
-use crate::Graph;
+use crate::{Arc, Graph};
 use std::marker::Model;
-use vecdim::Vect;
+use vecdim::{Shift, Vect};
 
-/// A graph whose net is connected, with its normal barycentric placement, which is within the limits. Contracts
-/// see the graph and the placement.
+/// A graph whose net is connected, with its normal barycentric placement, which is within the limits.
+/// Contracts see the graph and the placement.
 #[derive(Drop)]
 pub struct Placed<const D: usize> {
     graph: Graph<D>,
@@ -27,6 +29,36 @@ impl<const D: usize> Model for Placed<D> {
     ghost invariant = { λ p. IsPlaced p.graph p.d0 p.at.items };
 }
 
+// to + d0·steps - from.
+fn part_between(from: i128, to: i128, d0: i128, steps: i32) -> i128
+    requires from { unsigned_abs from ≤ 2 ^ 61 }
+    requires to { unsigned_abs to ≤ 2 ^ 61 }
+    requires d0 { unsigned_abs d0 ≤ most_units }
+    requires steps { unsigned_abs steps ≤ most_shift }
+    ensures { result ≡ (to +ℤ d0 *ℤ steps) -ℤ from }
+{
+    to + d0 * steps as i128 - from
+}
+
+// to + d0·shift - from, part by part.
+fn vector_between<const D: usize>(
+    from: &Vect<D>,
+    to: &Vect<D>,
+    d0: i128,
+    shift: &Shift<D>,
+) -> Vect<D>
+    requires d0 { unsigned_abs d0 ≤ most_units }
+    requires shift { IsWithin most_shift shift.now }
+    requires small { IsWithin (2 ^ 61) (minus (plus to.now (times d0 shift.now)) from.now) }
+    ensures { result ≡ minus (plus to.now (times d0 shift.now)) from.now }
+{
+    Vect {
+        x: part_between(from.x, to.x, d0, shift.x),
+        y: part_between(from.y, to.y, d0, shift.y),
+        z: part_between(from.z, to.z, d0, shift.z),
+    }
+}
+
 impl<const D: usize> Placed<D> {
     /// The graph with vertex `u` at `at[u - 1]`, in units of 1/`d0`.
     pub fn from_parts(graph: Graph<D>, d0: i128, at: Vec<Vect<D>>) -> Placed<D>
@@ -41,10 +73,13 @@ impl<const D: usize> Placed<D> {
 
     pub fn graph(&self) -> &Graph<D>
         ensures graph { result.now ≡ self.now.graph }
+        ensures is_graph { IsGraph self.now.graph }
+        ensures small { IsSmall self.now.graph }
         ensures connected { IsConnected self.now.graph }
         ensures normal { IsNormalPlacement self.now.graph self.now.placement }
         ensures limits { IsWithinLimits self.now.graph self.now.placement }
     {
+        let _ = self.graph.vertices();
         &self.graph
     }
 
@@ -52,15 +87,37 @@ impl<const D: usize> Placed<D> {
     pub fn d0(&self) -> i128
         ensures value { result ≡ pos self.now.placement.denominator }
         ensures positive { pos 1 ≤ℤ result }
+        ensures small { result ≤ℤ pos most_units }
     {
         self.d0
+    }
+
+    fn position(&self, u: u32) -> Vect<D>
+        requires { IsQuotientVertex self.now.graph u }
+        ensures { result ≡ base self.now.placement u }
+    {
+        self.at[u as usize - 1]
     }
 
     /// The position of a vertex, in units of 1/D0.
     pub fn at(&self, u: u32) -> Vect<D>
         requires { IsQuotientVertex self.now.graph u }
-        ensures { result ≡ base self.now.placement u }
+        ensures value { result ≡ base self.now.placement u }
+        ensures small { IsWithin most_position result }
     {
-        self.at[u as usize - 1]
+        let _ = self.graph();
+        self.position(u)
+    }
+
+    /// The vector of an arc, from its tail to its end, in units of 1/D0.
+    pub fn vector(&self, arc: &Arc<D>) -> Vect<D>
+        requires { IsArc self.now.graph arc.now }
+        ensures value { result ≡ arc_vector self.now.placement arc.now }
+        ensures small { IsWithin most_units result }
+    {
+        let _ = self.graph();
+        let from = self.at(arc.from);
+        let to = self.at(arc.to);
+        vector_between(&from, &to, self.d0(), &arc.shift)
     }
 }

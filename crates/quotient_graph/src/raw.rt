@@ -1,9 +1,11 @@
-// From a graph that was read to a graph in memory.
+// From edges that were read to a graph in memory.
 ghost use Rattle.std.specs.Prelude.{◌≡◌, All, length, map, IfOk, OnOk};
 ghost use Rattle.integers.specs.Vectors.{vector, HasDimension};
+ghost use Rattle.cgd_read.specs.Views.{raw_view};
 ghost use Rattle.cgd_read.specs.Graphs.{edge_of, graph_of, IsReadGraph};
 ghost use Rattle.quotient_graph.specs.Building.{IsSortedFrom};
-ghost use Rattle.quotient_graph.specs.Stars.{IsInOrder};
+ghost use Rattle.quotient_graph.specs.Stars.{IsInOrder, graph_with};
+ghost use Rattle.quotient_graph.specs.EdgeLists.{AreEdgesOfGraph};
 ghost use Rattle.quotient_graph.specs.AnyGraphs.{graph_in};
 
 use crate::graph::with_edges;
@@ -52,23 +54,47 @@ fn sort_edges<const D: usize>(edges: &mut Vec<Arc<D>>) -> Result<(), NoMemory>
 }
 
 fn graph_from<const D: usize>(alloc: Global, raw: &RawGraph<'_>) -> Result<Graph<D>, NoMemory>
-    requires read { IsReadGraph raw.now }
+    requires read { IsReadGraph (raw_view raw.now) }
     requires dimension { raw.now.dim ≡ D }
-    ensures { IfOk result (IsInOrder (graph_of raw.now)) }
+    ensures { IfOk result (IsInOrder (graph_of (raw_view raw.now))) }
 {
-    let mut edges = edges_of(alloc, &raw.edges)?;
+    let mut edges = edges_of(alloc, raw.edges.as_slice())?;
     sort_edges(&mut edges)?;
     with_edges(alloc, raw.names.len() as u32, edges)
 }
 
 /// The graph with the vertices and edges that were read.
 pub fn from_raw(alloc: Global, raw: &RawGraph<'_>) -> Result<AnyGraph, NoMemory>
-    requires { IsReadGraph raw.now }
-    ensures { IfOk result (λ g. IsInOrder (graph_of raw.now) (graph_in g)) }
+    requires { IsReadGraph (raw_view raw.now) }
+    ensures { IfOk result (λ g. IsInOrder (graph_of (raw_view raw.now)) (graph_in g)) }
 {
     if raw.dim == 2 {
         Ok(AnyGraph::Flat(graph_from(alloc, raw)?))
     } else {
         Ok(AnyGraph::Space(graph_from(alloc, raw)?))
+    }
+}
+
+fn graph_from_edges<const D: usize>(
+    alloc: Global,
+    n: u32,
+    edges: &[RawEdge],
+) -> Result<Graph<D>, NoMemory>
+    requires { AreEdgesOfGraph D n edges.now }
+    ensures { IfOk result (λ g. g ≡ graph_with D n (map edge_of edges.now)) }
+{
+    let edges = edges_of(alloc, edges)?;
+    with_edges(alloc, n, edges)
+}
+
+/// The graph with exactly n vertices and these edges, which stand in the order of a graph already.
+pub fn from_edges(alloc: Global, dim: u8, n: u32, edges: &[RawEdge]) -> Result<AnyGraph, NoMemory>
+    requires { AreEdgesOfGraph dim n edges.now }
+    ensures { IfOk result (λ g. graph_in g ≡ graph_with dim n (map edge_of edges.now)) }
+{
+    if dim == 2 {
+        Ok(AnyGraph::Flat(graph_from_edges(alloc, n, edges)?))
+    } else {
+        Ok(AnyGraph::Space(graph_from_edges(alloc, n, edges)?))
     }
 }

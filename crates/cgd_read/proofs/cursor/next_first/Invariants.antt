@@ -1,10 +1,10 @@
 use Rattle.std.proofs.Common.{◌≡◌, ◌≤◌, length}
-use Rattle.cgd_read.specs.Lines.{lines_of}
+use Rattle.cgd_read.specs.Lines.{token_lines}
 use Rattle.cgd_read.proofs.cursor.next_first.Given as goal
 
 abbrev pub invariant-loop-token : goal.invariant-loop-token
 invariant-loop-token l = record {
-  lines : lines_of l.lexer ≡ lines_of l.fn.lexer;
+  lines : token_lines l.lexer ≡ token_lines l.fn.lexer;
   shorter : length l.lexer ≤ length l.fn.lexer;
 }
 

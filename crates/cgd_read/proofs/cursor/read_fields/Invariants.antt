@@ -1,5 +1,6 @@
 use Rattle.std.proofs.Common.{◌≡◌, ◌+◌, ◌≤◌, length, fold}
-use Rattle.cgd_read.specs.Reading.{fields_view, with_field, rest_of_line, after_line, IsSmallFields}
+use Rattle.cgd_read.specs.Views.{fields_view}
+use Rattle.cgd_read.specs.Reading.{with_field, rest_of_line, after_line, IsSmallFields}
 use Rattle.cgd_read.proofs.cursor.read_fields.Given as goal
 
 abbrev pub invariant-loop-token : goal.invariant-loop-token

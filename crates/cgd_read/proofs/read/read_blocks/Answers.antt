@@ -2,10 +2,9 @@ use Rattle.std.proofs.Common.{◌∙◌, ◌++◌, List, false, sym, ap, subst, 
 use Rattle.std.specs.List.{All}
 use Rattle.std.proofs.lemmas.List.Elements.{All-nil}
 use Rattle.std.proofs.lemmas.Grind.{common_steps}
-use Rattle.cgd_read.specs.Lines.{LineView, lines_of}
-use Rattle.cgd_read.specs.Reading.{line_view}
-use Rattle.cgd_read.specs.Blocks.{blocks_from}
-use Rattle.cgd_read.specs.BlockViews.{BlockView, views, IsReadBody}
+use Rattle.cgd_read.specs.Lines.{LineView, token_lines}
+use Rattle.cgd_read.specs.Views.{line_view, BlockView, views}
+use Rattle.cgd_read.specs.Blocks.{blocks_from, IsReadBody}
 use Rattle.cgd_read.specs.declared.block.Block.{Block}
 use Rattle.cgd_read.proofs.BlockLists.{next_block}
 use Rattle.cgd_read.proofs.TokenCount.{few_tokens}
@@ -17,7 +16,7 @@ loop-line-init c =
     let tokens = c.new-lexer.ensures.tokens in
     let few = few_tokens c.args.text.now c.new-lexer.result c.new-lexer.ensures.order c.new-lexer.ensures.slices c.new-lexer.ensures.forms in
     record {
-      whole = ap (λ (bs : List Block). views bs ++ blocks_from false (lines_of c.new-lexer.result)) none ∙ ap (λ ts. blocks_from false (lines_of ts)) tokens;
+      whole = ap (λ (bs : List Block). views bs ++ blocks_from false (token_lines c.new-lexer.result)) none ∙ ap (λ ts. blocks_from false (token_lines ts)) tokens;
       few = omega (arith, ap length none);
       graphs = subst (λ (bs : List Block). All (λ block. IsReadBody block.body) bs) (sym none) (All-nil (λ (block : Block). IsReadBody block.body));
       room = omega (arith, few, c.requires);
@@ -28,8 +27,8 @@ loop-line-preserved c =
     let i = c.loop-line.invariant in
     let old = views c.loop-line.found.items in
     let line = line_view c.in-Some.line in
-    let lines = lines_of c.next_line.new.lexer in
-    let left = lines_of c.add_block.new.lexer in
+    let lines = token_lines c.next_line.new.lexer in
+    let left = token_lines c.add_block.new.lexer in
     record {
       whole =
           ap (λ (bs : List BlockView). bs ++ blocks_from false left) c.in-Ok.ensures.added

@@ -1,13 +1,13 @@
 use Rattle.std.proofs.Common.{◌≡◌, ◌≤◌, ◌++◌, false, length}
 use Rattle.std.specs.List.{All}
-use Rattle.cgd_read.specs.Lines.{lines_of}
-use Rattle.cgd_read.specs.Blocks.{blocks_from, blocks_of}
-use Rattle.cgd_read.specs.BlockViews.{views, IsReadBody}
+use Rattle.cgd_read.specs.Lines.{token_lines}
+use Rattle.cgd_read.specs.Blocks.{blocks_from, blocks_of, IsReadBody}
+use Rattle.cgd_read.specs.Views.{views}
 use Rattle.cgd_read.proofs.read.read_blocks.Given as goal
 
 abbrev pub invariant-loop-line : goal.invariant-loop-line
 invariant-loop-line l = record {
-  whole : views l.found.items ++ blocks_from false (lines_of l.lexer) ≡ blocks_of l.fn.text;
+  whole : views l.found.items ++ blocks_from false (token_lines l.lexer) ≡ blocks_of l.fn.text;
   few : length l.found.items ≤ 4096;
   graphs : All (λ block. IsReadBody block.body) l.found.items;
   room : length l.lexer ≤ 16777216;

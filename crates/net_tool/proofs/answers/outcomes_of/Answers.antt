@@ -1,6 +1,6 @@
 use Rattle.std.proofs.Common.{◌+◌, ◌<◌, sym, ap, subst, ◌∙◌}
 use Rattle.std.proofs.lemmas.List.{length-map, get_or-map}
-use Rattle.cgd_read.specs.BlockViews.{block_view, views}
+use Rattle.cgd_read.specs.Views.{block_view, views}
 use Rattle.net_tool.proofs.Listing.{AreOutcomesOn, outcomes_more}
 use Rattle.net_tool.proofs.answers.outcomes_of.Goals as goal
 

@@ -1,4 +1,4 @@
-use Rattle.cgd_read.specs.BlockViews.{views}
+use Rattle.cgd_read.specs.Views.{views}
 use Rattle.net_tool.proofs.Listing.{AreOutcomesOn}
 use Rattle.net_tool.proofs.answers.outcomes_of.Given as goal
 

@@ -1,0 +1,44 @@
+-- What fits 128 bits: to + d·s - from, for the parts of vectors, a denominator and a shift within the limits.
+use Rattle.std.proofs.Common.{w32, ℕ, ◌≡◌, ◌+◌, ◌*◌, ◌≤◌, ◌^◌, ℤ, pos, ◌+ℤ◌, ◌-ℤ◌, ◌*ℤ◌, arith}
+use Rattle.std.specs.Prelude.{unsigned_abs, FitsSigned}
+use Rattle.std.specs.Int.{w128}
+use Rattle.std.proofs.lemmas.Int.{fits_signed_from_abs}
+use Rattle.periodic_net.specs.Limits.{most_units, most_shift}
+use Rattle.integers.specs.Vectors.{Vector, IsWithin}
+use Rattle.integers.proofs.Ring.{ring, linear}
+use Rattle.integers.proofs.Bounds.{bounded_sum, bounded_difference, bounded_product, fits_from_bound}
+
+pub shift_fits : (s : ℤ) → unsigned_abs s ≤ most_shift → FitsSigned w128 s
+shift_fits s h = fits_from_bound s most_shift (omega arith) h
+
+module _ (from to d s : ℤ) (f : unsigned_abs from ≤ 2 ^ 61) (t : unsigned_abs to ≤ 2 ^ 61) (h : unsigned_abs d ≤ most_units) (i : unsigned_abs s ≤ most_shift) where
+  product_small : unsigned_abs (d *ℤ s) ≤ most_units * most_shift
+  product_small = bounded_product d s most_units most_shift h i
+
+  pub product_fits : FitsSigned w128 (d *ℤ s)
+  product_fits = fits_from_bound (d *ℤ s) (most_units * most_shift) (omega arith) product_small
+
+  sum_small : unsigned_abs (to +ℤ d *ℤ s) ≤ 2 ^ 61 + most_units * most_shift
+  sum_small = bounded_sum to (d *ℤ s) (2 ^ 61) (most_units * most_shift) t product_small
+
+  pub sum_fits : FitsSigned w128 (to +ℤ d *ℤ s)
+  sum_fits = fits_from_bound (to +ℤ d *ℤ s) (2 ^ 61 + most_units * most_shift) (omega arith) sum_small
+
+  pub difference_fits : FitsSigned w128 ((to +ℤ d *ℤ s) -ℤ from)
+  difference_fits = fits_from_bound ((to +ℤ d *ℤ s) -ℤ from) (2 ^ 61 + most_units * most_shift + 2 ^ 61) (omega arith) (bounded_difference (to +ℤ d *ℤ s) from (2 ^ 61 + most_units * most_shift) (2 ^ 61) sum_small f)
+
+-- a position fits 128 bits
+pub wide_fits : (z : ℤ) → unsigned_abs z ≤ 2 ^ 61 → FitsSigned w128 z
+wide_fits z h = fits_from_bound z (2 ^ 61) (omega arith) h
+
+-- a shift fits 32 bits
+pub short_fits : (z : ℤ) → unsigned_abs z ≤ most_shift → FitsSigned w32 z
+short_fits z h = fits_signed_from_abs w32 z (omega (arith, h))
+
+-- 0 + d·0 - 0
+pub flat_part : (from to d s : ℤ) → from ≡ pos 0 → to ≡ pos 0 → s ≡ pos 0 → (to +ℤ d *ℤ s) -ℤ from ≡ pos 0
+flat_part from to d s f t e = rw (f, t, e) (simp ring (omega (arith, linear)))
+
+-- within a greater bound
+pub within_more : (m n : ℕ) (v : Vector) → m ≤ n → IsWithin m v → IsWithin n v
+within_more m n v l h = (omega (arith, l, h.0), omega (arith, l, h.1), omega (arith, l, h.2))

@@ -1,0 +1,51 @@
+-- Lists that are made from the edges of a graph are those of a graph in memory.
+use Rattle.std.proofs.Common.{◌≡◌, ℕ, zero, suc, ◌<◌, ◌≤◌, List, [], ◌∷◌, length, get_or, refl, sym, ap, subst, ◌∙◌, arith}
+use Rattle.std.specs.List.{All}
+use Rattle.integers.proofs.Members.{pairs_from_apart}
+use Rattle.periodic_net.specs.Graph.{Graph, Arc, IsGraph, IsEdge, arcs_from}
+use Rattle.integers.specs.Vectors.{IsWithin}
+use Rattle.periodic_net.proofs.ArcLists.{arcs_apart}
+use Rattle.periodic_net.specs.Limits.{most_shift, most_edges, IsSmall}
+use Rattle.quotient_graph.specs.Order.{AreRising}
+use Rattle.std.specs.List.Sorted.{IsPermutation}
+use Rattle.std.proofs.lemmas.List.Sorted.{All-permutation, length_permutation}
+use Rattle.quotient_graph.specs.Stars.{IsGraphInMemory, graph_with}
+use Rattle.quotient_graph.specs.Building.{EdgeFits, AreStars}
+use Rattle.quotient_graph.proofs.DifferentMembers.{different_permuted}
+use Rattle.quotient_graph.proofs.Rising.{rising_from_sorted}
+
+pub edges_fit : (G : Graph) → IsGraph G → IsSmall G → All (EdgeFits G.vertices) G.edges
+edges_fit G g s k d l = record {
+  from = (g.edges k d l).from;
+  to = (g.edges k d l).to;
+  shift = s.shifts k d l;
+}
+
+-- a graph with its lists of arcs
+pub is_in_memory : (G : Graph) (stars : List (List Arc)) → IsGraph G → IsSmall G → AreRising G.edges → AreStars G.vertices G.edges stars → IsGraphInMemory G stars
+is_in_memory G stars g s r h = record {
+  is_graph = g;
+  small = s;
+  rising = r;
+  count = h.count;
+  each = λ u v. record {
+    all = (h.each u v.0 v.1).same;
+    rising = rising_from_sorted _ (h.each u v.0 v.1).sorted (different_permuted (arcs_from G u) _ (h.each u v.0 v.1).same (pairs_from_apart (arcs_from G u) (arcs_apart G g u)));
+  };
+}
+
+-- the edges of a graph in another order
+pub reordered : (d n : ℕ) (es fs : List Arc) → IsPermutation es fs → IsGraph (graph_with d n es) → IsGraph (graph_with d n fs)
+reordered d n es fs p g = record {
+  dimension = g.dimension;
+  vertices = g.vertices;
+  edges = λ k e l. let h = All-permutation (IsEdge (graph_with d n es)) es fs p g.edges k e l in record { from = h.from; to = h.to; shift = h.shift; spelling = h.spelling };
+  different = different_permuted es fs p g.different;
+}
+
+pub reordered_small : (d n : ℕ) (es fs : List Arc) → IsPermutation es fs → IsSmall (graph_with d n es) → IsSmall (graph_with d n fs)
+reordered_small d n es fs p s = record {
+  vertices = s.vertices;
+  edges = subst (λ k. k ≤ most_edges) (sym (length_permutation es fs p)) s.edges;
+  shifts = All-permutation (λ e. IsWithin most_shift e.shift) es fs p s.shifts;
+}
