@@ -10,16 +10,16 @@ use Rattle.connected_dim.specs.Refusals.{IsDisconnectedBy, IsDegenerateBy}
 use Rattle.connected_dim.proofs.SplitColours.{flat_is_split, sparse_is_split}
 
 -- the first case
-pub parted : (G : Graph) (s : Split) (S : NetSplit) → IsGraph G → s.dim ≡ G.dimension → split_in s ≡ S → IsPartSplit G S → IsDisconnectedBy G s
-parted G s S g d e p = let q = subst (IsPartSplit G) (sym e) p in (d, split_by_parts G (split_in s) g.vertices q, inl q)
+pub part_refusal : (G : Graph) (s : Split) (S : NetSplit) → IsGraph G → s.dim ≡ G.dimension → split_in s ≡ S → IsPartSplit G S → IsDisconnectedBy G s
+part_refusal G s S g d e p = let q = subst (IsPartSplit G) (sym e) p in (d, split_by_parts G (split_in s) g.vertices q, inl q)
 
 -- the second
-pub flattened : (G : Graph) (s : Split) (S : NetSplit) → IsGraph G → s.dim ≡ G.dimension → split_in s ≡ S → IsFlatSplit G S → IsDegenerateBy G s
-flattened G s S g d e p = let q = subst (IsFlatSplit G) (sym e) p in (d, flat_is_split G (split_in s) g q, q)
+pub flat_refusal : (G : Graph) (s : Split) (S : NetSplit) → IsGraph G → s.dim ≡ G.dimension → split_in s ≡ S → IsFlatSplit G S → IsDegenerateBy G s
+flat_refusal G s S g d e p = let q = subst (IsFlatSplit G) (sym e) p in (d, flat_is_split G (split_in s) g q, q)
 
 -- the third
-pub sparsely : (G : Graph) (s : Split) (S : NetSplit) → IsGraph G → s.dim ≡ G.dimension → split_in s ≡ S → (k : ℕ) × IsSparseSplit G S k → IsDisconnectedBy G s
-sparsely G s S g d e p = let q = subst (λ S. IsSparseSplit G S p.0) (sym e) p.1 in (d, sparse_is_split G (split_in s) p.0 g q, inr (p.0, q))
+pub sparse_refusal : (G : Graph) (s : Split) (S : NetSplit) → IsGraph G → s.dim ≡ G.dimension → split_in s ≡ S → (k : ℕ) × IsSparseSplit G S k → IsDisconnectedBy G s
+sparse_refusal G s S g d e p = let q = subst (λ S. IsSparseSplit G S p.0) (sym e) p.1 in (d, sparse_is_split G (split_in s) p.0 g q, inr (p.0, q))
 
 -- so the net is not connected
 pub disconnected_refutes : (G : Graph) (s : Split) → IsGraph G → IsDisconnectedBy G s → ¬ IsConnected G

@@ -93,8 +93,7 @@ fn rows_in<const D: usize>(s: &Staircase<D>) -> Rows
     requires dimension { (D ≡ 2) ⊎ (D ≡ 3) }
     ensures rows { stairs result.a result.b result.c result.e result.f result.i ≡ s.now }
     ensures stair { HasStairShape D s.now }
-    ensures small {
-        (result.a ≤ℤ pos (2 ^ 60)) × (result.e ≤ℤ pos (2 ^ 60)) × (result.i ≤ℤ pos (2 ^ 60)) }
+    ensures small { (result.a ≤ℤ pos (2 ^ 60)) × (result.e ≤ℤ pos (2 ^ 60)) × (result.i ≤ℤ pos (2 ^ 60)) }
 {
     let rows = s.rows();
     let first = rows[0];

@@ -6,6 +6,7 @@ pub mod Expanding
 pub mod Filtered
 pub mod Finding
 pub mod FlatNormals
+pub mod FoundVertices
 pub mod Generated
 pub mod Growing
 pub mod Orthogonal

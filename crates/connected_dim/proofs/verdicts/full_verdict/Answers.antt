@@ -4,7 +4,7 @@ use Rattle.std.proofs.lemmas.Int.{ints, to_z-of_z}
 use Rattle.vecdim.specs.Stairs.{HasStairShape}
 use Rattle.walk_lattice.specs.Lattices.{IsLatticeOf}
 use Rattle.connected_dim.specs.Sparse.{sparse_colouring}
-use Rattle.connected_dim.proofs.Refuted.{sparsely}
+use Rattle.connected_dim.proofs.Refuted.{sparse_refusal}
 use Rattle.connected_dim.proofs.SparseSplits.{sparse_from_lattice}
 use Rattle.connected_dim.proofs.Whole.{whole_connected, closed_of}
 use Rattle.connected_dim.proofs.verdicts.full_verdict.Goals as goal
@@ -31,6 +31,6 @@ returns-in_ok-sparse_split-in-Some g c =
     let rows = subst (λ m. IsLatticeOf g.row.D m c.args.gs.now S) (to_z-of_z w128 c.args.m c.ranges.m) c.lattice-s.ensures in
     let closed = closed_of G found g.row.D c.args.gs.now c.args.m S graph c.requires.walks c.dimension-dim.ensures.parameter c.requires.generators c.requires.volume rows in
     let stair = subst (λ d. HasStairShape d S) (sym c.dimension-dim.ensures.parameter) c.first_dual_of.ensures.stair in
-    sparsely G c.in_ok-sparse_split-in-Some.field-0 (sparse_colouring c.in-Some.d.q c.in-Some.d.c found) graph (c.in_ok-sparse_split-in-Some.ensures.dimension ∙ c.dimension-dim.ensures.value)
+    sparse_refusal G c.in_ok-sparse_split-in-Some.field-0 (sparse_colouring c.in-Some.d.q c.in-Some.d.c found) graph (c.in_ok-sparse_split-in-Some.ensures.dimension ∙ c.dimension-dim.ensures.value)
     c.in_ok-sparse_split-in-Some.ensures.split
     (sparse_from_lattice G found S c.in-Some.d.q c.in-Some.d.c graph c.requires.walks c.requires.all closed stair (one_of_two c.in-Some.d.q c.in-Some.ensures.above) c.in-Some.ensures.dual)
