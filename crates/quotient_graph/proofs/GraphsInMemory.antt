@@ -1,5 +1,5 @@
 -- Lists that are made from the edges of a graph are those of a graph in memory.
-use Rattle.std.proofs.Common.{◌≡◌, ℕ, zero, suc, ◌<◌, ◌≤◌, List, [], ◌∷◌, length, get_or, refl, sym, ap, subst, ◌∙◌, arith}
+use Rattle.std.proofs.Common.{ℕ, ◌≤◌, List, sym, subst}
 use Rattle.std.specs.List.{All}
 use Rattle.integers.proofs.Filters.{pairs_from_apart}
 use Rattle.periodic_net.specs.Graph.{Graph, Arc, IsGraph, IsEdge, arcs_from}
