@@ -1,11 +1,11 @@
 -- In whole units, what the arcs of a vertex lead adds up to 0 where it does so for the fractions.
 use Rattle.std.proofs.Common.{◌≡◌, inl, inr, ℕ, zero, suc, arith, ◌*◌, ◌<◌, ◌≤◌, List, [], ◌∷◌, map, ap, sym, refl, subst, ◌∙◌}
 use Rattle.std.specs.Prelude.{ℤ, pos, ◌+ℤ◌, ◌-ℤ◌, ◌*ℤ◌}
-use Rattle.integers.specs.Lists.{IsIn}
+use Rattle.integers.proofs.lists.Members.{IsIn}
 use Rattle.integers.specs.Vectors.{plus, times, vector_sum}
 use Rattle.integers.specs.Staircase.{part}
-use Rattle.integers.proofs.Ring.{ring, linear, cancel_factor, positive_not_zero}
-use Rattle.integers.proofs.Coordinates.{IsCoordinate, coordinate_x, coordinate_y, coordinate_z}
+use Rattle.integers.proofs.numbers.Ring.{ring, linear, cancel_factor, positive_not_zero}
+use Rattle.integers.proofs.vectors.Coordinates.{IsCoordinate, coordinate_x, coordinate_y, coordinate_z}
 use Rattle.periodic_net.specs.Graph.{Graph, Arc, IsQuotientVertex}
 use Rattle.periodic_net.specs.Placement.{Placement, base, arc_vector}
 use Rattle.exact.specs.Ratio.{Ratio, Same, ratio_plus, ratio_minus, whole}

@@ -2,6 +2,7 @@ pub mod Balance
 pub mod CommonDenominators
 pub mod Existing
 pub mod Fitting
+pub mod LeastOfTwo
 pub mod Lowest
 pub mod Multiples
 pub mod Normal

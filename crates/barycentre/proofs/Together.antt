@@ -1,5 +1,5 @@
 -- The steps of `place` together: the faults as faults of the net, and the units as its normal placement.
-use Rattle.std.proofs.Common.{◌≡◌, inl, ℕ, zero, suc, arith, ◌+◌, ◌-◌, ◌<◌, ◌^◌, List, [], ◌∷◌, length, sym, subst, unsigned_abs}
+use Rattle.std.proofs.Common.{◌≡◌, ℕ, zero, suc, arith, ◌+◌, ◌-◌, ◌<◌, ◌^◌, List, [], ◌∷◌, length, sym, subst, unsigned_abs}
 use Rattle.std.specs.Prelude.{ℤ, pos, ◌≤ℤ◌, slice_index_or}
 use Rattle.std.specs.Int.{◌∣◌}
 use Rattle.integers.specs.Vectors.{Vector, zero_vector, HasDimension, IsWithin}
@@ -10,12 +10,13 @@ use Rattle.periodic_net.specs.Placement.{base, IsNormalPlacement, IsWithinLimits
 use Rattle.quotient_graph.specs.PlacedNets.{placement_of}
 use Rattle.exact.specs.Ratio.{Ratio}
 use Rattle.barycentre.specs.Positions.{ArePositions, IsScaled}
-use Rattle.barycentre.specs.Multiples.{IsLeastBefore}
+use Rattle.barycentre.specs.Multiples.{IsLeastMultipleUpTo, IsDenominatorAt}
 use Rattle.barycentre.specs.Denominators.{IsFirstMultiple}
 use Rattle.barycentre.specs.WidePlacements.{IsWidePlacement, IsWideAt}
 use Rattle.barycentre.specs.declared.faults.WideSite.TheVariants.{Denominator}
 use Rattle.barycentre.specs.declared.faults.WidePlacement.{WidePlacement}
 use Rattle.barycentre.proofs.Existing.{has_placement}
+use Rattle.barycentre.proofs.Multiples.{all_divide}
 use Rattle.barycentre.proofs.Normal.{each_divides, normal, is_flat}
 use Rattle.barycentre.specs.Units.{AreDivided, AreInUnits}
 use Rattle.barycentre.proofs.WholeUnits.{in_units_scaled}
@@ -38,18 +39,18 @@ module _ (G : Graph) (graph : IsGraph G) (p : ℕ → ℕ → Ratio) (positions 
       record { dimension = d; placement = P.P; normal = P.normal; wide = subst (λ s. IsWideAt G P.P s w.value) (sym h.site) at }
 
   -- the common denominator is divided by each denominator
-  pub divides_common : (n : ℕ) → IsLeastBefore G p (G.vertices + 1) 0 n → (u c : ℕ) → IsQuotientVertex G u → c < 3 → (p u c).den ∣ n
-  divides_common n h = each_divides G graph p positions n (λ u c q d. h.multiple u c q d (inl (let l = q.1 in omega arith)))
+  pub each_divides_common : (n : ℕ) → IsLeastMultipleUpTo G (IsDenominatorAt p) (G.vertices + 1) 0 n → (u c : ℕ) → IsQuotientVertex G u → c < 3 → (p u c).den ∣ n
+  each_divides_common n h = each_divides G graph p positions n (all_divide G p n h)
 
-  pub are_divided : (k n : ℕ) → k ≡ G.vertices → IsLeastBefore G p (G.vertices + 1) 0 n → AreDivided p k n
-  are_divided k n e h = record { each = λ u c f l b. divides_common n h u c (f, omega (arith, l, e)) b }
+  pub are_divided : (k n : ℕ) → k ≡ G.vertices → IsLeastMultipleUpTo G (IsDenominatorAt p) (G.vertices + 1) 0 n → AreDivided p k n
+  are_divided k n e h = record { each = λ u c f l b. each_divides_common n h u c (f, omega (arith, l, e)) b }
 
   module _ (d0 : ℤ) (at : List Vector) (one : pos 1 ≤ℤ d0) (count : length at ≡ G.vertices) (units : AreInUnits p (unsigned_abs d0) at) where
     scaled : IsScaled G p (placement_of d0 at)
     scaled = in_units_scaled G p d0 at one count units
 
     -- where d0 is the least common denominator they are the normal placement
-    pub normal_units : IsLeastBefore G p (G.vertices + 1) 0 (unsigned_abs d0) → IsNormalPlacement G (placement_of d0 at)
+    pub normal_units : IsLeastMultipleUpTo G (IsDenominatorAt p) (G.vertices + 1) 0 (unsigned_abs d0) → IsNormalPlacement G (placement_of d0 at)
     normal_units h = normal G graph p positions (placement_of d0 at) scaled h
 
     -- and have the dimension

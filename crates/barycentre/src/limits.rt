@@ -1,51 +1,37 @@
 // The limits of a placement: 2^40 for the vectors of its arcs.
-ghost use Rattle.std.specs.Prelude.{◌≡◌, ◌+◌, ◌-◌, ◌*◌, ◌<◌, ◌≤◌, ◌^◌, ◌+ℤ◌, ◌-ℤ◌, ◌*ℤ◌, ◌≤ℤ◌, pos, ℕ, All, IfErr, OnOk, MatchOption, length, unsigned_abs};
+ghost use Rattle.std.specs.Prelude.{◌≡◌, ◌+◌, ◌-◌, ◌*◌, ◌<◌, ◌≤◌, ◌^◌, ◌≤ℤ◌, pos, ℕ};
+ghost use Rattle.std.specs.Prelude.{All, IfErr, OnOk, MatchOption, length, unsigned_abs};
 ghost use Rattle.integers.specs.Vectors.{minus, plus, times, HasDimension, IsWithin};
 ghost use Rattle.periodic_net.specs.Graph.{Arc as NetArc, IsArc, IsQuotientVertex};
 ghost use Rattle.periodic_net.specs.Placement.{arc_vector, IsWithinLimits};
+ghost use Rattle.periodic_net.specs.Limits.{most_shift, most_units};
 ghost use Rattle.quotient_graph.specs.PlacedNets.{placement_of};
 ghost use Rattle.quotient_graph.specs.Stars.{IsStar, IsArcFrom};
 ghost use Rattle.barycentre.specs.Limits.{AreInReach, IsFirstPart, AreWithinFrom, IsWideSiteFrom};
 ghost use Rattle.barycentre.specs.WidePlacements.{IsWideAt};
 
 use crate::{WidePlacement, WideSite};
+use periodic_net::MOST_UNITS;
 use quotient_graph::{Arc, Graph};
 use vecdim::{Shift, Triple};
 
-/// The limit of the common denominator and of each part of an arc's vector.
-pub(crate) const LIMIT: i128 = 1 << 40;
-
 // to + d0·shift - from.
-fn part_between(from: i128, to: i128, d0: i128, shift: i32) -> i128
-    requires from { unsigned_abs from ≤ 2 ^ 102 }
-    requires to { unsigned_abs to ≤ 2 ^ 102 }
-    requires d0 { unsigned_abs d0 ≤ 2 ^ 40 }
-    requires shift { unsigned_abs shift ≤ 500 }
-    ensures { result ≡ (to +ℤ d0 *ℤ shift) -ℤ from }
-{
-    to + d0 * shift as i128 - from
-}
-
-// to + d0·shift - from, part by part.
 fn vector_between<const D: usize>(from: &Triple, to: &Triple, d0: i128, shift: &Shift<D>) -> Triple
     requires from { IsWithin (2 ^ 102) from.now }
     requires to { IsWithin (2 ^ 102) to.now }
-    requires d0 { unsigned_abs d0 ≤ 2 ^ 40 }
-    requires shift { IsWithin 500 shift.now }
+    requires d0 { unsigned_abs d0 ≤ most_units }
+    requires shift { IsWithin most_shift shift.now }
     ensures { result ≡ minus (plus to.now (times d0 shift.now)) from.now }
 {
-    Triple {
-        x: part_between(from.x, to.x, d0, shift.x),
-        y: part_between(from.y, to.y, d0, shift.y),
-        z: part_between(from.z, to.z, d0, shift.z),
-    }
+    let step = shift.to_vector().to_triple().times(d0);
+    to.plus(&step).minus(from)
 }
 
 // The vector of an arc, in units of 1/d0.
 fn vector_of<const D: usize>(at: &[Triple], d0: i128, arc: &Arc<D>) -> Triple
     requires from { (1 ≤ arc.now.from) × (arc.now.from ≤ length at.now) }
     requires to { (1 ≤ arc.now.to) × (arc.now.to ≤ length at.now) }
-    requires shift { IsWithin 500 arc.now.shift }
+    requires shift { IsWithin most_shift arc.now.shift }
     requires positive { pos 1 ≤ℤ d0 }
     requires reach { AreInReach d0 at.now }
     ensures { result ≡ arc_vector (placement_of d0 at.now) arc.now }
@@ -67,15 +53,15 @@ struct WidePart {
 
 // The first part of a vector past the limit.
 fn first_wide(v: &Triple) -> Option<WidePart>
-    ensures { MatchOption result (IsWithin (2 ^ 40) v.now) (λ w. IsFirstPart v.now w.c w.value) }
+    ensures { MatchOption result (IsWithin most_units v.now) (λ w. IsFirstPart v.now w.c w.value) }
 {
-    if v.x.unsigned_abs() > LIMIT as u128 {
+    if v.x.unsigned_abs() > MOST_UNITS as u128 {
         return Some(WidePart { c: 1, value: v.x });
     }
-    if v.y.unsigned_abs() > LIMIT as u128 {
+    if v.y.unsigned_abs() > MOST_UNITS as u128 {
         return Some(WidePart { c: 2, value: v.y });
     }
-    if v.z.unsigned_abs() > LIMIT as u128 {
+    if v.z.unsigned_abs() > MOST_UNITS as u128 {
         return Some(WidePart { c: 3, value: v.z });
     }
     None
@@ -118,7 +104,8 @@ fn check_star<const D: usize>(
     requires reach { AreInReach d0 at.now }
     ensures within { OnOk result (AreWithinFrom g.now (placement_of d0 at.now) u) }
     ensures dimension { IfErr result (λ w. w.dim ≡ g.now.dimension) }
-    ensures wide { IfErr result (λ w. IsWideSiteFrom g.now (placement_of d0 at.now) u w.site w.value) }
+    ensures wide { IfErr result
+        (λ w. IsWideSiteFrom g.now (placement_of d0 at.now) u w.site w.value) }
 {
     let dim = g.dimension();
     for arc in g.arcs(u) {

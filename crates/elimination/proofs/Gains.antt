@@ -3,7 +3,7 @@ use Rattle.std.proofs.Common.{◌≡◌, ℕ, List, [], ◌∷◌, ap, sym, refl
 use Rattle.std.specs.Prelude.{ℤ, pos, ◌+ℤ◌, ◌-ℤ◌, ◌*ℤ◌, map}
 use Rattle.integers.specs.Lists.{total}
 use Rattle.integers.specs.Staircase.{part}
-use Rattle.integers.proofs.Ring.{ring, linear}
+use Rattle.integers.proofs.numbers.Ring.{ring, linear}
 use Rattle.periodic_net.specs.Graph.{Graph, Arc, arcs_from}
 use Rattle.exact.specs.Ratio.{Ratio, Same, ratio_plus, ratio_minus, whole}
 use Rattle.exact.specs.Values.{CanCancel}

@@ -3,7 +3,7 @@ use Rattle.std.proofs.Common.{◌≡◌, ℕ, List, [], ◌∷◌, sym, refl, su
 use Rattle.std.specs.Prelude.{pos, map, ◌&&◌}
 use Rattle.std.proofs.lemmas.Bool.{cond_both, cond-true, and_parts, and_from, leb-true, le-leb}
 use Rattle.std.proofs.Math.Dec.{leb}
-use Rattle.integers.specs.Lists.{IsIn}
+use Rattle.integers.proofs.lists.Members.{IsIn}
 use Rattle.integers.specs.Staircase.{part}
 use Rattle.periodic_net.specs.Graph.{Graph, Arc, IsGraph, arcs_from, IsQuotientVertex}
 use Rattle.periodic_net.proofs.ArcLists.{from_is_arc}

@@ -3,7 +3,7 @@ use Rattle.std.proofs.Common.{◌≡◌, ℕ, ◌+◌, ◌≤◌, List, [], ◌�
 use Rattle.std.specs.Prelude.{pos, ◌==◌, count_by}
 use Rattle.std.proofs.lemmas.Bool.{cases_eq, ne_eqb, cond-false}
 use Rattle.std.proofs.lemmas.List.Sums.{sum_by-cons}
-use Rattle.integers.specs.Lists.{IsIn}
+use Rattle.integers.proofs.lists.Members.{IsIn}
 use Rattle.integers.specs.Staircase.{part}
 use Rattle.periodic_net.specs.Graph.{Graph, Arc, IsGraph, arcs_from}
 use Rattle.periodic_net.proofs.ArcLists.{from_is_arc}

@@ -2,6 +2,5 @@ pub mod Equations
 pub mod Faults
 pub mod Lines
 pub mod Listed
-pub mod Residues
 pub mod Rows
 pub mod Solutions

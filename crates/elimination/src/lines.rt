@@ -5,7 +5,8 @@ ghost use Rattle.periodic_net.specs.Graph.{IsQuotientVertex};
 ghost use Rattle.periodic_net.specs.Limits.{IsSmall};
 ghost use Rattle.exact.specs.Ratio.{Ratio, whole};
 ghost use Rattle.elimination.specs.Listed.{shift_sum, start_level};
-ghost use Rattle.elimination.specs.Lines.{IsRow, AreRows, AreWeights, AreWide, AreWholes, AreArcWeights, level_with};
+ghost use Rattle.elimination.specs.Lines.{IsRow, AreRowsOfValues, AreWeights, AreWide, AreWholes};
+ghost use Rattle.elimination.specs.Lines.{AreArcWeights, level_with};
 
 use crate::NoMemory;
 use crate::counts::{arc_counts, shift_sum};
@@ -17,7 +18,8 @@ use vecdim::{Row, Shift};
 // Whole numbers, in numbers of another type.
 fn wholes<N: Exact>(alloc: Global, counts: &[i32]) -> Result<Vec<N>, NoMemory>
     requires { N.usable }
-    ensures { IfOk result (λ xs. AreWholes N.modulus N.value xs.items counts.now (length counts.now)) }
+    ensures { IfOk result
+        (λ xs. AreWholes N.modulus N.value xs.items counts.now (length counts.now)) }
 {
     let mut numbers = Vec::with_capacity(alloc, counts.len())?;
     for count in counts {
@@ -61,7 +63,9 @@ pub fn graph_weights<N: Exact, const D: usize>(
     requires { N.usable }
     ensures count { IfOk result (λ lines. length lines.items ≡ g.now.vertices) }
     ensures wide { IfOk result (λ lines. AreWide lines.items g.now.vertices g.now.vertices) }
-    ensures values { (b : ℕ → ℕ → Ratio) → IfOk result (λ lines. AreWeights N.modulus N.value lines.items (level_with g.now b) g.now.vertices g.now.vertices) }
+    ensures values { (b : ℕ → ℕ → Ratio) → IfOk result
+        (λ lines. AreWeights N.modulus N.value lines.items
+        (level_with g.now b) g.now.vertices g.now.vertices) }
 {
     let n = g.vertices();
     let mut lines = Vec::with_capacity(alloc, n as usize)?;
@@ -90,7 +94,9 @@ pub fn start_sums<N: Exact, const D: usize>(
 ) -> Result<Vec<Row<N, D>>, NoMemory>
     requires { N.usable }
     ensures count { IfOk result (λ rows. length rows.items ≡ g.now.vertices) }
-    ensures values { IfOk result (λ rows. AreRows N.modulus N.value rows.items (start_level g.now).b g.now.vertices) }
+    ensures values { IfOk result
+        (λ rows. AreRowsOfValues N.modulus N.value rows.items
+        (start_level g.now).b g.now.vertices) }
 {
     let n = g.vertices();
     let mut rows = Vec::with_capacity(alloc, n as usize)?;

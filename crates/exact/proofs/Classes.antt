@@ -8,8 +8,8 @@ use Rattle.exact.specs.Values.{CanCancel}
 use Rattle.exact.proofs.Values.{same_refl, one_cancels, times_cancels}
 use Rattle.exact.proofs.Ring.{Value, class, plus_value, times_value, whole_value, by_value, same, plus_exact, times_exact, times_value_comm, times_value_assoc, values, formal}
 use Rattle.exact.proofs.Quotients.{inverse_denominator_cancels}
-use Rattle.integers.proofs.Ring.{ring, linear}
-use Rattle.exact.proofs.Semiring.{IsPivot}
+use Rattle.integers.proofs.numbers.Ring.{ring, linear}
+use Rattle.exact.proofs.Semiring.{IsInvertible}
 
 module _ (m : ℕ) where
   pub class_same : (a b : Ratio) (h : CanCancel m (pos a.den)) (i : CanCancel m (pos b.den)) → Same m a b → class m a h ≡ class m b i
@@ -65,7 +65,7 @@ module _ (m : ℕ) where
     pub undo : (x : Value m) → times_value m inverse_value (times_value m (class m c h) x) ≡ x
     undo x = sym (times_value_assoc m inverse_value (class m c h) x) ∙ ap (λ t. times_value m t x) inverse_times ∙ times_value_comm m (whole_value m (pos 1)) x ∙ times_value_one x
 
-    unfoldable pub pivot_value : (v : Value m) → v ≡ class m c h → IsPivot (values m) v
+    unfoldable pub pivot_value : (v : Value m) → v ≡ class m c h → IsInvertible (values m) v
     pivot_value v e = record {
       over = λ x. times_value m x inverse_value;
       divides = λ x. ap (times_value m (times_value m x inverse_value)) e ∙ divides_value x;

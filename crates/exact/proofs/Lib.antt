@@ -1,7 +1,9 @@
 pub mod Bezout
 pub mod Cancelling
 pub mod Classes
+pub mod LowestTerms
 pub mod Quotients
+pub mod Residues
 pub mod Ring
 pub mod Semiring
 pub mod Values

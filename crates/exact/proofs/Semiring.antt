@@ -16,7 +16,7 @@ pub record Semiring : Type 1 where
   pub plus_cancel : (a b c : Carrier) → plus a c ≡ plus b c → a ≡ b
 
 -- c divides every value, and can be cancelled
-pub record IsPivot (S : Semiring) (c : S.Carrier) : Type 0 where
+pub record IsInvertible (S : Semiring) (c : S.Carrier) : Type 0 where
   pub over : S.Carrier → S.Carrier
   pub divides : (x : S.Carrier) → S.times (over x) c ≡ x
   pub cancels : (x y : S.Carrier) → S.times c x ≡ S.times c y → x ≡ y

@@ -14,6 +14,10 @@ Divides m z = (k : ℤ) × (z ≡ pos m *ℤ k)
 pub record Same (m : ℕ) (a b : Ratio) : Type 0 where
   pub difference : Divides m (a.num *ℤ pos b.den -ℤ b.num *ℤ pos a.den)
 
+-- a numerator over the absolute value of a denominator
+abbrev pub ratio : ℤ → ℤ → Ratio
+ratio n d = record { num = n; den = unsigned_abs d }
+
 -- a whole number
 abbrev pub whole : ℤ → Ratio
 whole z = record { num = z; den = 1 }
@@ -42,6 +46,11 @@ inverse_of (negsuc n) d = record { num = neg_ℤ (pos d); den = suc n }
 -- a/b
 unfoldable pub ratio_over : Ratio → Ratio → Ratio
 ratio_over a b = ratio_times a (inverse_of b.num b.den)
+
+-- a fraction in lowest terms
+pub record IsInLowestTerms (r : Ratio) : Type 0 where
+  pub positive : 1 ≤ r.den
+  pub coprime : IsGcd (unsigned_abs r.num) r.den 1
 
 -- a denominator of a type with this modulus: at least 1, and for m above 0 without a common divisor with m above 1
 pub record IsDenominator (m d : ℕ) : Type 0 where

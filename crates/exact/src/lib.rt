@@ -4,5 +4,5 @@
 mod divisors;
 mod number;
 
-pub use divisors::gcd;
+pub use divisors::{gcd, short_gcd};
 pub use number::{Exact, Op, OverFault, Wide};

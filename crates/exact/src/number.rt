@@ -1,8 +1,9 @@
-// The laws of exact numbers. Contracts see each number as a whole numerator over a whole denominator of any
-// size, and each type as having a modulus, which is 0 or at least 2.
+// The laws of exact numbers. Contracts see each number as a whole numerator over a whole
+// denominator of any size, and each type as having a modulus, which is 0 or at least 2.
 ghost use Rattle.std.specs.Prelude.{◌≡◌, ◌≢◌, ◌≤◌, ◌↔◌, ℕ, ℤ, pos, IsTrue, MatchResult};
 ghost use Rattle.exact.specs.Faults.{IsWide, IsOverFault};
-ghost use Rattle.exact.specs.Ratio.{Ratio, Same, HasInverse, IsDenominator, ratio_plus, ratio_minus, ratio_times, whole};
+ghost use Rattle.exact.specs.Ratio.{Ratio, Same, HasInverse, IsDenominator};
+ghost use Rattle.exact.specs.Ratio.{ratio_plus, ratio_minus, ratio_times, whole};
 
 /// An operation on two numbers.
 #[derive(Clone, Copy, Debug, PartialEq, Eq)]
@@ -74,13 +75,14 @@ pub trait Exact: Copy + Eq {
     /// The quotient: times the divisor it is the dividend.
     fn over(self, o: Self) -> Result<Self, OverFault<Self>>
         ensures quotient { MatchResult result
-            (λ r. HasInverse modulus (value o) × Same modulus (ratio_times (value r) (value o)) (value self))
+            (λ r. HasInverse modulus (value o)
+            × Same modulus (ratio_times (value r) (value o)) (value self))
             (IsOverFault fits modulus value self o) };
 
     fn is_zero(&self) -> bool
         ensures zero { IsTrue result ↔ Same modulus (value self.now) (whole (pos 0)) };
 
-    ghost has_modulus: { modulus ≢ 1 };
+    ghost has_modulus: { usable → modulus ≢ 1 };
 
     ghost is_usable: { Self → usable };
 
@@ -90,5 +92,6 @@ pub trait Exact: Copy + Eq {
 
     ghost every_fits: { (x : Self) → fits (value x) };
 
-    ghost same_fits: { (a b : Ratio) → IsDenominator modulus a.den → IsDenominator modulus b.den → Same modulus a b → fits a → fits b };
+    ghost same_fits: { (a b : Ratio) → IsDenominator modulus a.den → IsDenominator modulus b.den
+        → Same modulus a b → fits a → fits b };
 }

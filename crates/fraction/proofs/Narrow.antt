@@ -4,12 +4,12 @@ use Rattle.std.specs.Prelude.{Bool, true, false, cond, ℤ, pos, neg_ℤ, ◌*�
 use Rattle.std.specs.Int.{IsGcd}
 use Rattle.std.proofs.Math.Nat.{mul_assoc, mul_comm, eq_of_mul-eq-mul_left}
 use Rattle.std.proofs.lemmas.Int.{ints}
-use Rattle.integers.proofs.Ring.{ring}
-use Rattle.integers.proofs.Bounds.{abs_negative, bounded_product}
-use Rattle.exact.specs.Ratio.{Ratio, Same}
-use Rattle.fraction.specs.Reduced.{AreSmall, IsReduced, IsNarrow, ratio}
+use Rattle.integers.proofs.numbers.Ring.{ring}
+use Rattle.integers.proofs.vectors.Bounds.{abs_negative, bounded_product}
+use Rattle.exact.specs.Ratio.{Ratio, Same, IsInLowestTerms, ratio}
+use Rattle.exact.proofs.LowestTerms.{denominators_equal, numerators_equal, crossed, sizes_crossed}
+use Rattle.fraction.specs.Reduced.{AreSmall, HasSmallParts, IsNarrow}
 use Rattle.fraction.specs.Quotients.{signed_ratio, IsLowest}
-use Rattle.fraction.specs.Single.{denominators_equal, numerators_equal, crossed, sizes_crossed}
 
 -- x - y is a multiple of 0 where x = y
 product_step : (x y : ℤ) → x ≡ y → x -ℤ y ≡ pos 0 *ℤ pos 0
@@ -56,25 +56,34 @@ narrow_small s a b k l h n =
     let e : unsigned_abs q.num * b ≡ a * q.den = sizes_crossed q.num (signed_ratio s a b).num q.den b (crossed q (signed_ratio s a b) n.same) ∙ ap (λ t. t * q.den) (signed_size s a) in
     let f : unsigned_abs q.num * (h.g * l) ≡ (h.g * k) * q.den = subst (λ t. unsigned_abs q.num * t ≡ (h.g * k) * q.den) h.bottom (subst (λ t. unsigned_abs q.num * b ≡ t * q.den) h.top e) in
     let c = cancelled h.g (unsigned_abs q.num) k l q.den h.common f in
-    let x = numerators_equal (unsigned_abs q.num) q.den k l n.is.positive n.is.coprime h.coprime c in
-    let y = denominators_equal (unsigned_abs q.num) q.den k l n.is.coprime h.coprime c in
-    subst (λ t. AreSmall k t) y (subst (λ t. AreSmall t q.den) x n.is.small)
+    let x = numerators_equal (unsigned_abs q.num) q.den k l n.lowest.positive n.lowest.coprime h.coprime c in
+    let y = denominators_equal (unsigned_abs q.num) q.den k l n.lowest.coprime h.coprime c in
+    subst (λ t. AreSmall k t) y (subst (λ t. AreSmall t q.den) x n.small)
 
 -- small coprime parts are a reduced fraction
-pub small_reduced : (s : Bool) (k l : ℕ) → 1 ≤ l → IsGcd k l 1 → AreSmall k l → IsReduced (signed_ratio s k l)
-small_reduced s k l p c m = record {
-  positive = p;
-  coprime = subst (λ t. IsGcd t l 1) (sym (signed_size s k)) c;
-  small = subst (λ t. AreSmall t l) (sym (signed_size s k)) m;
-}
+coprime_reduced : (s : Bool) (k l : ℕ) → 1 ≤ l → IsGcd k l 1 → IsInLowestTerms (signed_ratio s k l)
+coprime_reduced s k l p c =
+    record { positive = p; coprime = subst (λ t. IsGcd t l 1) (sym (signed_size s k)) c }
+
+-- of small parts
+small_parts : (s : Bool) (k l : ℕ) → AreSmall k l → HasSmallParts (signed_ratio s k l)
+small_parts s k l m = subst (λ t. AreSmall t l) (sym (signed_size s k)) m
+
+-- a fact of n or -n over l, of a numerator and a denominator with these values
+module _ (P : Ratio → Type 0) (s : Bool) (k l : ℕ) (n d : ℤ) (e : n ≡ (signed_ratio s k l).num) (f : d ≡ pos l) where
+  of_parts : P (signed_ratio s k l) → P (ratio n d)
+  of_parts h = subst (λ t. P (ratio t d)) (sym e) (subst (λ t. P (ratio (signed_ratio s k l).num t)) (sym f) h)
 
 -- and so are a numerator and a denominator with these values
-pub fraction_reduced : (s : Bool) (k l : ℕ) (n d : ℤ) → n ≡ (signed_ratio s k l).num → d ≡ pos l → 1 ≤ l → IsGcd k l 1 → AreSmall k l → IsReduced (ratio n d)
-fraction_reduced s k l n d e f p c m = subst (λ t. IsReduced (ratio t d)) (sym e) (subst (λ t. IsReduced (ratio (signed_ratio s k l).num t)) (sym f) (small_reduced s k l p c m))
+pub fraction_reduced : (s : Bool) (k l : ℕ) (n d : ℤ) → n ≡ (signed_ratio s k l).num → d ≡ pos l → 1 ≤ l → IsGcd k l 1 → IsInLowestTerms (ratio n d)
+fraction_reduced s k l n d e f p c = of_parts IsInLowestTerms s k l n d e f (coprime_reduced s k l p c)
+
+pub fraction_small : (s : Bool) (k l : ℕ) (n d : ℤ) → n ≡ (signed_ratio s k l).num → d ≡ pos l → AreSmall k l → HasSmallParts (ratio n d)
+fraction_small s k l n d e f m = of_parts HasSmallParts s k l n d e f (small_parts s k l m)
 
 -- the product of a small numerator and a small denominator is at most 2^124
-pub cross_small : (p q : Ratio) → IsReduced p → IsReduced q → unsigned_abs (p.num *ℤ pos q.den) ≤ 2 ^ 124
-cross_small p q h k = wider (unsigned_abs (p.num *ℤ pos q.den)) (bounded_product p.num (pos q.den) (2 ^ 62 - 1) (2 ^ 62 - 1) h.small.0 k.small.1)
+pub cross_small : (p q : Ratio) → HasSmallParts p → HasSmallParts q → unsigned_abs (p.num *ℤ pos q.den) ≤ 2 ^ 124
+cross_small p q h k = wider (unsigned_abs (p.num *ℤ pos q.den)) (bounded_product p.num (pos q.den) (2 ^ 62 - 1) (2 ^ 62 - 1) h.0 k.1)
   where
     wider : (n : ℕ) → n ≤ (2 ^ 62 - 1) * (2 ^ 62 - 1) → n ≤ 2 ^ 124
     wider n h = omega arith

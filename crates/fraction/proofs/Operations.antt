@@ -3,19 +3,19 @@ use Rattle.std.proofs.Common.{◌≡◌, ◌≢◌, ℕ, suc, arith, ◌*◌, �
 use Rattle.std.specs.Prelude.{ℤ, pos, negsuc, neg_ℤ, ◌+ℤ◌, ◌-ℤ◌, ◌*ℤ◌, MatchResult, Result, FitsSigned, unsigned_abs, ◌^◌}
 use Rattle.std.specs.Option.{ok_or}
 use Rattle.std.specs.Int.{w128}
-use Rattle.integers.proofs.Bounds.{bounded_sum, bounded_difference, fits_from_bound}
-use Rattle.integers.proofs.Ring.{ring, linear, other_factor_zero, positive_not_zero}
-use Rattle.exact.specs.Ratio.{Ratio, Same, HasInverse, ratio_plus, ratio_minus, ratio_times, ratio_over, inverse_of, whole}
+use Rattle.integers.proofs.vectors.Bounds.{bounded_sum, bounded_difference, fits_from_bound}
+use Rattle.integers.proofs.numbers.Ring.{ring, linear, other_factor_zero, positive_not_zero}
+use Rattle.exact.specs.Ratio.{Ratio, Same, HasInverse, ratio_plus, ratio_minus, ratio_times, ratio_over, inverse_of, whole, ratio, IsInLowestTerms}
+use Rattle.exact.proofs.LowestTerms.{crossed}
 use Rattle.exact.specs.Faults.{IsWide, IsOverFault}
 use Rattle.exact.specs.declared.number.Op.{Op}
 use Rattle.exact.specs.declared.number.Op.TheVariants.{Over}
 use Rattle.exact.specs.declared.number.Wide.{Wide}
 use Rattle.exact.specs.declared.number.OverFault.{OverFault}
 use Rattle.exact.specs.declared.number.OverFault.TheVariants.{Wide as WideQuotient}
-use Rattle.fraction.specs.Reduced.{IsReduced, IsNarrow, ratio}
+use Rattle.fraction.specs.Reduced.{HasSmallParts, IsNarrow}
 use Rattle.fraction.specs.Quotients.{quotient}
-use Rattle.fraction.specs.Single.{crossed}
-use Rattle.fraction.specs.Values.{value_of, IsFractionOf}
+use Rattle.fraction.specs.Values.{fraction_value, IsFractionOf}
 use Rattle.fraction.specs.declared.numbers.Fraction.{Fraction}
 use Rattle.fraction.proofs.Lowest.{coprime_to_one}
 use Rattle.fraction.proofs.Narrow.{same_crossed}
@@ -37,15 +37,15 @@ times_is a b = refl
 
 -- an operation answers the fraction, or its operands where there is none
 by_option : (op : Op) (a b : Fraction) (r : Ratio) (o : Option Fraction) → IsFractionOf r o
-    → MatchResult (ok_or o (record { op = op; left = a; right = b })) (λ f. Same 0 (value_of f) r) (IsWide IsNarrow op a b r)
+    → MatchResult (ok_or o (record { op = op; left = a; right = b })) (λ f. Same 0 (fraction_value f) r) (IsWide IsNarrow op a b r)
 by_option op a b r None m = record { op = refl; left = refl; right = refl; unfit = m }
 by_option op a b r (Some f) m = m
 
 -- the same, over what the code computes
 pub wide_or : (op : Op) (a b : Fraction) (q r : Ratio) (o : Option Fraction) (w : Wide Fraction) (x : Result Fraction (Wide Fraction)) → q ≡ r → w ≡ record { op = op; left = a; right = b } → x ≡ ok_or o w
-    → IsFractionOf q o → MatchResult x (λ f. Same 0 (value_of f) r) (IsWide IsNarrow op a b r)
+    → IsFractionOf q o → MatchResult x (λ f. Same 0 (fraction_value f) r) (IsWide IsNarrow op a b r)
 wide_or op a b q r o w x e h f m =
-    subst (λ y. MatchResult y (λ f. Same 0 (value_of f) r) (IsWide IsNarrow op a b r)) (sym (f ∙ ap (ok_or o) h))
+    subst (λ y. MatchResult y (λ f. Same 0 (fraction_value f) r) (IsWide IsNarrow op a b r)) (sym (f ∙ ap (ok_or o) h))
     (by_option op a b r o (subst (λ t. IsFractionOf t o) e m))
 
 -- a sum of cross products fits
@@ -102,25 +102,25 @@ over_crossed q a (negsuc m) bd s = over_negative q.num (pos q.den) a.num (pos a.
 -- so where the one has a reduced fraction, the other has it
 over_narrow : (a b : Ratio) → IsNarrow (ratio_over a b) → IsNarrow (crosses a b)
 unfolding ratio_over
-over_narrow a b n = record { reduced = n.reduced; is = n.is; same = crossed_quotient (a.num *ℤ pos b.den) (b.num *ℤ pos a.den) n.reduced (over_crossed n.reduced a b.num b.den n.same) }
+over_narrow a b n = record { reduced = n.reduced; lowest = n.lowest; small = n.small; same = crossed_quotient (a.num *ℤ pos b.den) (b.num *ℤ pos a.den) n.reduced (over_crossed n.reduced a b.num b.den n.same) }
 
 -- a value other than 0 has an inverse
 has_inverse : (b : Ratio) → b.num ≢ pos 0 → HasInverse 0 b
 has_inverse b n = record { not_zero = λ e. n; coprime = λ e. absurd (e refl) }
 
 -- a division answers the quotient, or its operands where it does not fit
-over_by_option : (a b : Fraction) (o : Option Fraction) → (value_of b).num ≢ pos 0
-    → IsFractionOf (crosses (value_of a) (value_of b)) o
-    → MatchResult (ok_or o (WideQuotient (record { op = Over; left = a; right = b }))) (λ f. HasInverse 0 (value_of b) × Same 0 (ratio_times (value_of f) (value_of b)) (value_of a)) (IsOverFault IsNarrow 0 value_of a b)
-over_by_option a b None z m = record { inverse = has_inverse (value_of b) z; wide = record { op = refl; left = refl; right = refl; unfit = λ n. m (over_narrow (value_of a) (value_of b) n) } }
-over_by_option a b (Some f) z m = (has_inverse (value_of b) z, over_times (value_of a) (value_of b) (value_of f) m)
+over_by_option : (a b : Fraction) (o : Option Fraction) → (fraction_value b).num ≢ pos 0
+    → IsFractionOf (crosses (fraction_value a) (fraction_value b)) o
+    → MatchResult (ok_or o (WideQuotient (record { op = Over; left = a; right = b }))) (λ f. HasInverse 0 (fraction_value b) × Same 0 (ratio_times (fraction_value f) (fraction_value b)) (fraction_value a)) (IsOverFault IsNarrow 0 fraction_value a b)
+over_by_option a b None z m = record { inverse = has_inverse (fraction_value b) z; wide = record { op = refl; left = refl; right = refl; unfit = λ n. m (over_narrow (fraction_value a) (fraction_value b) n) } }
+over_by_option a b (Some f) z m = (has_inverse (fraction_value b) z, over_times (fraction_value a) (fraction_value b) (fraction_value f) m)
 
 -- the same, over what the code computes
-pub over_or : (a b : Fraction) (q : Ratio) (o : Option Fraction) (w : Wide Fraction) (x : Result Fraction (OverFault Fraction)) → (value_of b).num ≢ pos 0 → q ≡ crosses (value_of a) (value_of b)
+pub over_or : (a b : Fraction) (q : Ratio) (o : Option Fraction) (w : Wide Fraction) (x : Result Fraction (OverFault Fraction)) → (fraction_value b).num ≢ pos 0 → q ≡ crosses (fraction_value a) (fraction_value b)
     → w ≡ record { op = Over; left = a; right = b } → x ≡ ok_or o (WideQuotient w) → IsFractionOf q o
-    → MatchResult x (λ f. HasInverse 0 (value_of b) × Same 0 (ratio_times (value_of f) (value_of b)) (value_of a)) (IsOverFault IsNarrow 0 value_of a b)
+    → MatchResult x (λ f. HasInverse 0 (fraction_value b) × Same 0 (ratio_times (fraction_value f) (fraction_value b)) (fraction_value a)) (IsOverFault IsNarrow 0 fraction_value a b)
 over_or a b q o w x z e h f m =
-    subst (λ y. MatchResult y (λ f. HasInverse 0 (value_of b) × Same 0 (ratio_times (value_of f) (value_of b)) (value_of a)) (IsOverFault IsNarrow 0 value_of a b)) (sym (f ∙ ap (λ y. ok_or o (WideQuotient y)) h))
+    subst (λ y. MatchResult y (λ f. HasInverse 0 (fraction_value b) × Same 0 (ratio_times (fraction_value f) (fraction_value b)) (fraction_value a)) (IsOverFault IsNarrow 0 fraction_value a b)) (sym (f ∙ ap (λ y. ok_or o (WideQuotient y)) h))
     (over_by_option a b o z (subst (λ t. IsFractionOf t o) e m))
 
 -- the cross product with a denominator is 0 only where the numerator is
@@ -131,6 +131,10 @@ cross_not_zero a b h n e = positive_not_zero b.den h (other_factor_zero a.num (p
 pub whole_same : (z : ℤ) (r : Ratio) → r.num ≡ z → r.den ≡ 1 → Same 0 r (whole z)
 whole_same z r e f = same_crossed r (whole z) (λ i. e i *ℤ pos (sym f i))
 
--- a whole number of 32 bits is a fraction
-pub whole_reduced : (z : ℤ) → unsigned_abs z ≤ 2 ^ 31 → IsReduced (ratio z (pos 1))
-whole_reduced z h = record { positive = lit≤ tt; coprime = coprime_to_one (unsigned_abs z); small = (omega arith, lit≤ tt) }
+-- a whole number is in lowest terms
+pub whole_reduced : (z : ℤ) → IsInLowestTerms (ratio z (pos 1))
+whole_reduced z = record { positive = lit≤ tt; coprime = coprime_to_one (unsigned_abs z) }
+
+-- and one of 32 bits has small parts
+pub whole_small : (z : ℤ) → unsigned_abs z ≤ 2 ^ 31 → HasSmallParts (ratio z (pos 1))
+whole_small z h = (omega arith, lit≤ tt)

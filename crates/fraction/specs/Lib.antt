@@ -2,5 +2,4 @@ pub mod Faults
 pub mod Laws
 pub mod Quotients
 pub mod Reduced
-pub mod Single
 pub mod Values

@@ -1,8 +1,9 @@
 // The arithmetic of fractions, with the laws of exact numbers.
 ghost use Rattle.std.specs.Prelude.{◌≡◌, ⊤};
 ghost use Rattle.fraction.specs.Reduced.{IsNarrow};
-ghost use Rattle.fraction.specs.Values.{value_of};
-ghost use Rattle.fraction.specs.Laws.{zero_not_one, reduced_denominator, reduced_narrow, narrow_same, equal_decides};
+ghost use Rattle.fraction.specs.Values.{fraction_value};
+ghost use Rattle.exact.proofs.LowestTerms.{zero_not_one, lowest_denominator, equal_decides};
+ghost use Rattle.fraction.specs.Laws.{reduced_narrow, narrow_same};
 
 use crate::Fraction;
 use crate::products::{cross, denominators, numerators};
@@ -17,7 +18,7 @@ fn wide(op: Op, left: Fraction, right: Fraction) -> Wide<Fraction>
 }
 
 impl Exact for Fraction {
-    ghost value = { value_of };
+    ghost value = { fraction_value };
 
     ghost modulus = { 0 };
 
@@ -65,15 +66,16 @@ impl Exact for Fraction {
         self.num == 0
     }
 
-    ghost has_modulus = { zero_not_one };
+    ghost has_modulus = { λ u. zero_not_one };
 
     ghost is_usable = { λ x. tt };
 
-    ghost is_denominator = { λ x. reduced_denominator (value_of x) x.reduced };
+    ghost is_denominator = { λ x. lowest_denominator (fraction_value x) x.reduced };
 
-    ghost same_is_equal = { λ x y. equal_decides x.num x.den y.num y.den x.positive y.positive x.reduced y.reduced };
+    ghost same_is_equal = { λ x y.
+        equal_decides x.num x.den y.num y.den x.positive y.positive x.reduced y.reduced };
 
-    ghost every_fits = { λ x. reduced_narrow (value_of x) x.reduced };
+    ghost every_fits = { λ x. reduced_narrow (fraction_value x) x.reduced x.small };
 
     ghost same_fits = { narrow_same };
 }

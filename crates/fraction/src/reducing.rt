@@ -3,10 +3,10 @@ ghost use Rattle.std.specs.Prelude.{◌≡◌, ◌≢◌, ◌≤◌, pos, unsign
 ghost use Rattle.std.specs.Int.{IsGcd};
 ghost use Rattle.fraction.specs.Reduced.{AreSmall};
 ghost use Rattle.fraction.specs.Quotients.{quotient, signed_ratio, IsLowest};
-ghost use Rattle.fraction.specs.Values.{value_of, IsFractionOf};
+ghost use Rattle.fraction.specs.Values.{fraction_value, IsFractionOf};
 
 use crate::Fraction;
-use exact::gcd;
+use exact::{gcd, short_gcd};
 
 // What no part of a fraction exceeds.
 const MOST: u128 = 4611686018427387903;
@@ -22,7 +22,8 @@ fn is_negative(num: i128, den: i128) -> bool
 fn fitted(negative: bool, num: u128, den: u128) -> Option<Fraction>
     requires positive { 1 ≤ den }
     requires coprime { IsGcd num den 1 }
-    ensures { MatchOption result (¬ AreSmall num den) (λ f. value_of f ≡ signed_ratio negative num den) }
+    ensures { MatchOption result (¬ AreSmall num den)
+        (λ f. fraction_value f ≡ signed_ratio negative num den) }
 {
     if num > MOST || den > MOST {
         return None;
@@ -42,6 +43,18 @@ struct Parts {
     den: u128,
 }
 
+// The same quotient without a common divisor, of numbers of 64 bits, whose quotients are quick.
+fn short_lowest(num: u64, den: u64) -> Parts
+    requires { 1 ≤ den }
+    ensures { IsLowest num den result.num result.den }
+{
+    let common = short_gcd(num, den);
+    Parts {
+        num: (num / common) as u128,
+        den: (den / common) as u128,
+    }
+}
+
 // The same quotient without a common divisor.
 fn lowest(num: u128, den: u128) -> Parts
     requires { 1 ≤ den }
@@ -49,6 +62,9 @@ fn lowest(num: u128, den: u128) -> Parts
 {
     if den == 1 {
         return Parts { num, den };
+    }
+    if num <= u64::MAX as u128 && den <= u64::MAX as u128 {
+        return short_lowest(num as u64, den as u64);
     }
     let common = gcd(num, den);
     Parts {

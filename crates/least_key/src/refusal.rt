@@ -1,5 +1,8 @@
 // Why a graph is refused.
-use barycentre::WidePlacement;
+ghost use Rattle.std.specs.Prelude.{◌≡◌};
+
+use barycentre::{PlaceFault, WidePlacement};
+use connected_dim::Unconnected;
 use elimination::Place;
 use exact::Wide;
 use fraction::Fraction;
@@ -18,4 +21,32 @@ pub enum Refusal {
     WidePlacement(WidePlacement),
     /// Memory was refused. It has no number.
     NoMemory,
+}
+
+impl<const D: usize> From<Unconnected<D>> for Refusal {
+    ghost use Rattle.least_key.specs.Causes.{unconnected_refusal};
+
+    ghost from_gives = { λ fault refusal. refusal ≡ unconnected_refusal fault };
+
+    fn from(fault: Unconnected<D>) -> Refusal {
+        match fault {
+            Unconnected::Disconnected(split, _) => Refusal::Disconnected(split),
+            Unconnected::Degenerate(split, _) => Refusal::Degenerate(split),
+            Unconnected::NoMemory(_) => Refusal::NoMemory,
+        }
+    }
+}
+
+impl From<PlaceFault> for Refusal {
+    ghost use Rattle.least_key.specs.Causes.{unplaced_refusal};
+
+    ghost from_gives = { λ fault refusal. refusal ≡ unplaced_refusal fault };
+
+    fn from(fault: PlaceFault) -> Refusal {
+        match fault {
+            PlaceFault::TooWide { at, wide } => Refusal::TooWide { at, wide },
+            PlaceFault::WidePlacement(wide) => Refusal::WidePlacement(wide),
+            PlaceFault::NoMemory => Refusal::NoMemory,
+        }
+    }
 }

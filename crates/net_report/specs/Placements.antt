@@ -5,13 +5,6 @@ use Rattle.integers.specs.Vectors.{parts}
 use Rattle.periodic_net.specs.Placement.{base}
 use Rattle.quotient_graph.specs.PlacedNets.{PlacedNet}
 use Rattle.net_report.specs.Numbers.{list_text, vertex_text}
-use Rattle.net_report.specs.declared.outcome.AnyPlaced.{AnyPlaced}
-use Rattle.net_report.specs.declared.outcome.AnyPlaced.TheVariants.{Flat, Space}
-
--- the graph and the placement, in either dimension
-abbrev pub placed_in : AnyPlaced → PlacedNet
-placed_in (Flat p) = p
-placed_in (Space p) = p
 
 -- where vertex u stands, in units of 1/D0
 abbrev pub position_text : List (List ℕ) → PlacedNet → ℕ → List ℕ

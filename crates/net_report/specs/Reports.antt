@@ -2,7 +2,8 @@
 use Rattle.std.specs.Prelude.{◌≡◌, ℕ, List, [], ◌∷◌, ◌++◌, length, option_copied, codes}
 use Rattle.net_report.specs.Headers.{header_text, size_text, unsupported_text, fault_text}
 use Rattle.net_report.specs.Refusals.{refused_text, HasLine}
-use Rattle.net_report.specs.Placements.{placed_in, placement_text}
+use Rattle.least_key.specs.AnyPlacements.{placed_in}
+use Rattle.net_report.specs.Placements.{placement_text}
 use Rattle.net_report.specs.declared.outcome.Outcome.{Outcome}
 use Rattle.net_report.specs.declared.outcome.OutcomeBody.{OutcomeBody}
 use Rattle.net_report.specs.declared.outcome.OutcomeBody.TheVariants.{Unsupported, Malformed, Refused, Checked, Located}

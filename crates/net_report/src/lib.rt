@@ -9,7 +9,8 @@ mod placements;
 mod refused;
 mod texts;
 
-pub use outcome::{AnyPlaced, Outcome, OutcomeBody, Size};
+pub use least_key::AnyPlaced;
+pub use outcome::{Outcome, OutcomeBody, Size};
 pub use outcomes::Outcomes;
 pub use refused::refused_line;
 pub use std::alloc::AllocError as NoMemory;

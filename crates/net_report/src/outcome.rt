@@ -1,7 +1,6 @@
 // What becomes of a block.
 use cgd_read::{BlockFault, Names};
-use least_key::Refusal;
-use quotient_graph::Placed;
+use least_key::{AnyPlaced, Refusal};
 
 /// The sizes of a graph that was read; `repeats` counts the rows of an edge after its first.
 #[derive(Clone, Copy, Debug, PartialEq, Eq)]
@@ -10,13 +9,6 @@ pub struct Size {
     pub vertices: u32,
     pub edges: u32,
     pub repeats: u32,
-}
-
-/// A graph of dimension 2 or 3 with its normal placement.
-#[derive(Drop)]
-pub enum AnyPlaced {
-    Flat(Placed<2>),
-    Space(Placed<3>),
 }
 
 /// What is told of a block, after its header. The names are those of the graph's vertices.

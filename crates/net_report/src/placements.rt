@@ -1,11 +1,13 @@
 // The lines of a placement.
 ghost use Rattle.std.specs.Prelude.{◌≡◌, ◌++◌, OnOk, length};
 ghost use Rattle.periodic_net.specs.Graph.{IsQuotientVertex};
-ghost use Rattle.net_report.specs.Placements.{placed_in, position_text, positions_text, placement_word, denominator_text, placement_text};
+ghost use Rattle.least_key.specs.AnyPlacements.{placed_in};
+ghost use Rattle.net_report.specs.Placements.{position_text, positions_text, placement_word, denominator_text, placement_text};
 
 use crate::numbers::{push_parts, push_signed, push_vertex};
-use crate::{AnyPlaced, NoMemory};
+use crate::NoMemory;
 use cgd_read::Names;
+use least_key::AnyPlaced;
 use quotient_graph::Placed;
 use vecdim::{Triple, Vect};
 

@@ -20,8 +20,8 @@ use Rattle.net_report.specs.Refusals.{AreNamed, HasLine}
 use Rattle.net_report.specs.Reports.{IsPrintableBody}
 use Rattle.net_report.specs.declared.outcome.OutcomeBody.{OutcomeBody}
 use Rattle.net_report.specs.declared.outcome.OutcomeBody.TheVariants.{Unsupported, Malformed, Refused, Checked, Located}
-use Rattle.net_tool.specs.Nets.{IsUnconnected, IsUnplaced}
-use Rattle.net_tool.specs.Outcomes.{IsBodyOf}
+use Rattle.least_key.specs.Truths.{IsTrueOf}
+use Rattle.net_tool.specs.Outcomes.{MayTell, IsBodyOf}
 use Rattle.net_tool.specs.declared.words.Command.{Command}
 use Rattle.net_tool.specs.declared.words.Command.TheVariants.{Check, Place}
 use Rattle.net_tool.proofs.Reordered.{same_arc}
@@ -38,29 +38,24 @@ named_site raw H p (ArcPart u v s c) value g o h =
     let inside = arc_inside G g (arc u v s) (same_arc H G (IsPermutation-sym G.edges H.edges o.edges) (arc u v s) h.is_arc) in
     (λ some. inside.from, λ some. inside.to)
 
-unconnected_line : (names : List (List ℕ)) (G : Graph) (refusal : Refusal) → IsUnconnected G refusal → HasLine names refusal
-unconnected_line names G (Disconnected split) h = tt
-unconnected_line names G (Degenerate split) h = tt
-unconnected_line names G (TooWide at wide) h = tt
-unconnected_line names G (WidePlacement w) h = absurd h
-unconnected_line names G NoMemory h = h
-
-unplaced_line : (raw : RawView) (H : Graph) (refusal : Refusal) → IsGraph (graph_of raw) → IsInOrder (graph_of raw) H → IsUnplaced (graph_of raw) H refusal → HasLine raw.names refusal
-unplaced_line raw H (Disconnected split) g o h = tt
-unplaced_line raw H (Degenerate split) g o h = tt
-unplaced_line raw H (TooWide at wide) g o h = tt
-unplaced_line raw H (WidePlacement w) g o h = named_site raw H h.1.placement w.site w.value g o h.1.wide
-unplaced_line raw H NoMemory g o h = h
+-- a true refusal that may be told has a line with the names of the block
+refusal_line : (command : Command) (raw : RawView) (H : Graph) (refusal : Refusal) → IsGraph (graph_of raw) → IsInOrder (graph_of raw) H
+    → MayTell command refusal → IsTrueOf H refusal → HasLine raw.names refusal
+refusal_line command raw H (Disconnected split) g o m h = tt
+refusal_line command raw H (Degenerate split) g o m h = tt
+refusal_line command raw H (TooWide at wide) g o m h = tt
+refusal_line command raw H (WidePlacement w) g o m h = named_site raw H h.1.placement w.site w.value g o h.1.wide
+refusal_line command raw H NoMemory g o m h = m
 
 -- what a command tells of a net can be printed
 told_of_net : (command : Command) (raw : RawView) (told : OutcomeBody) → IsGraph (graph_of raw) → IsBodyOf command (Net raw) told → IsPrintableBody told
 told_of_net command raw (Unsupported token) g h = tt
 told_of_net command raw (Malformed fault) g h = tt
 told_of_net command raw (Checked size) g h = tt
-told_of_net Check raw (Refused size names refusal) g h = unconnected_line names (graph_of raw) refusal h.2
-told_of_net Place raw (Refused size names refusal) g h = subst (λ ns. HasLine ns refusal) (sym h.1) (unplaced_line raw h.2 refusal g h.3 h.4)
+told_of_net command raw (Refused size names refusal) g h =
+    subst (λ ns. HasLine ns refusal) (sym h.names_are) (refusal_line command raw h.graph refusal g h.read.in_order h.may h.is_true)
 told_of_net Check raw (Located size names placed) g h = absurd h
-told_of_net Place raw (Located size names placed) g h = ap length h.1 ∙ sym (ap (λ (G : Graph). G.vertices) h.4.graph ∙ h.3.vertices)
+told_of_net Place raw (Located size names placed) g h = ap length h.names_are ∙ sym (ap (λ (G : Graph). G.vertices) h.placed_as.graph ∙ h.read.in_order.vertices)
 
 -- and so can what it tells of any block
 pub told_of_block : (command : Command) (body : Body) (told : OutcomeBody) → IsReadBody body → IsBodyOf command (body_view body) told → IsPrintableBody told
@@ -68,14 +63,12 @@ told_of_block command (read.Graph raw) told g h = told_of_net command (raw_view 
 told_of_block command (read.Unsupported token) (Unsupported text) g h = tt
 told_of_block command (read.Unsupported token) (Malformed fault) g h = tt
 told_of_block command (read.Unsupported token) (Checked size) g h = tt
-told_of_block Check (read.Unsupported token) (Refused size names refusal) g h = absurd h
-told_of_block Place (read.Unsupported token) (Refused size names refusal) g h = absurd h
+told_of_block command (read.Unsupported token) (Refused size names refusal) g h = absurd h
 told_of_block Check (read.Unsupported token) (Located size names placed) g h = absurd h
 told_of_block Place (read.Unsupported token) (Located size names placed) g h = absurd h
 told_of_block command (read.Malformed fault) (Unsupported text) g h = tt
 told_of_block command (read.Malformed fault) (Malformed told) g h = tt
 told_of_block command (read.Malformed fault) (Checked size) g h = tt
-told_of_block Check (read.Malformed fault) (Refused size names refusal) g h = absurd h
-told_of_block Place (read.Malformed fault) (Refused size names refusal) g h = absurd h
+told_of_block command (read.Malformed fault) (Refused size names refusal) g h = absurd h
 told_of_block Check (read.Malformed fault) (Located size names placed) g h = absurd h
 told_of_block Place (read.Malformed fault) (Located size names placed) g h = absurd h

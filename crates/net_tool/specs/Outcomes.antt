@@ -6,29 +6,62 @@ use Rattle.cgd_read.specs.Graphs.{graph_of}
 use Rattle.cgd_read.specs.Views.{RawView, BodyView, Net, Other, Faulty, BlockView}
 use Rattle.cgd_read.specs.Blocks.{blocks_of}
 use Rattle.quotient_graph.specs.Stars.{IsInOrder}
-use Rattle.net_report.specs.Placements.{placed_in}
 use Rattle.net_report.specs.Reports.{report_text}
 use Rattle.net_report.specs.declared.outcome.Size.{Size}
 use Rattle.net_report.specs.declared.outcome.Outcome.{Outcome}
 use Rattle.net_report.specs.declared.outcome.OutcomeBody.{OutcomeBody}
 use Rattle.net_report.specs.declared.outcome.OutcomeBody.TheVariants.{Unsupported, Malformed, Refused, Checked, Located}
-use Rattle.net_tool.specs.Nets.{IsUnconnected, IsUnplaced, IsPlacedAs}
+use Rattle.least_key.specs.AnyPlacements.{placed_in}
+use Rattle.least_key.specs.Truths.{IsTrueOf, IsOfConnecting, IsPlacedAs}
+use Rattle.least_key.specs.declared.path.AnyPlaced.{AnyPlaced}
+use Rattle.least_key.specs.declared.refusal.Refusal.{Refusal}
+use Rattle.least_key.specs.declared.refusal.Refusal.TheVariants.{NoMemory}
 use Rattle.net_tool.specs.declared.words.Command.{Command}
 use Rattle.net_tool.specs.declared.words.Command.TheVariants.{Check, Place}
 
+-- its sizes
 abbrev pub size_of : RawView → Size
 size_of raw = record { dim = raw.dim; vertices = length raw.names; edges = length raw.edges; repeats = raw.repeats }
 
--- what a command tells of a block; the numbers of a placement are those of the graph H, which has the edges in order
+-- a command may tell this refusal of a net
+abbrev pub MayTell : Command → Refusal → Type 0
+MayTell command NoMemory = ⊥
+MayTell Check refusal = IsOfConnecting refusal
+MayTell Place refusal = Unit {0}
+
+-- G is the graph of a block, with its edges in order, and size has its sizes
+pub record IsGraphOf (raw : RawView) (size : Size) (G : Graph) : Type 0 where
+  pub size_is : size ≡ size_of raw
+  pub in_order : IsInOrder (graph_of raw) G
+
+-- a refusal that the command may tell, and that is true of the block's graph, beside the names of its vertices
+pub record IsRefusedAs (command : Command) (raw : RawView) (size : Size) (names : List (List ℕ)) (refusal : Refusal) : Type 0 where
+  pub graph : Graph
+  pub read : IsGraphOf raw size graph
+  pub names_are : names ≡ raw.names
+  pub may : MayTell command refusal
+  pub is_true : IsTrueOf graph refusal
+
+-- the net of the block is connected
+pub record IsCheckedAs (raw : RawView) (size : Size) : Type 0 where
+  pub graph : Graph
+  pub read : IsGraphOf raw size graph
+  pub connected : IsConnected graph
+
+-- the net of the block is connected, and this is its normal placement, beside the names of its vertices
+pub record IsLocatedAs (raw : RawView) (size : Size) (names : List (List ℕ)) (placed : AnyPlaced) : Type 0 where
+  pub graph : Graph
+  pub read : IsGraphOf raw size graph
+  pub names_are : names ≡ raw.names
+  pub placed_as : IsPlacedAs graph (placed_in placed)
+
+-- what a command tells of a block
 abbrev pub IsBodyOf : Command → BodyView → OutcomeBody → Type 0
 IsBodyOf command (Other token) (Unsupported told) = told.now ≡ token
 IsBodyOf command (Faulty fault) (Malformed told) = told ≡ fault
-IsBodyOf Check (Net raw) (Refused size names refusal) = (size ≡ size_of raw) × (names ≡ raw.names) × IsUnconnected (graph_of raw) refusal
-IsBodyOf Check (Net raw) (Checked size) = (size ≡ size_of raw) × IsConnected (graph_of raw)
-IsBodyOf Place (Net raw) (Refused size names refusal) =
-    (size ≡ size_of raw) × (names ≡ raw.names) × (H : Graph) × IsInOrder (graph_of raw) H × IsUnplaced (graph_of raw) H refusal
-IsBodyOf Place (Net raw) (Located size names placed) =
-    (size ≡ size_of raw) × (names ≡ raw.names) × (H : Graph) × IsInOrder (graph_of raw) H × IsPlacedAs (graph_of raw) H (placed_in placed)
+IsBodyOf command (Net raw) (Refused size names refusal) = IsRefusedAs command raw size names refusal
+IsBodyOf Check (Net raw) (Checked size) = IsCheckedAs raw size
+IsBodyOf Place (Net raw) (Located size names placed) = IsLocatedAs raw size names placed
 IsBodyOf command body told = ⊥
 
 -- the outcome of the block with this number

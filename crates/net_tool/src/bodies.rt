@@ -5,10 +5,9 @@ ghost use Rattle.cgd_read.specs.Views.{Net, body_view, raw_view};
 ghost use Rattle.cgd_read.specs.Blocks.{IsReadBody};
 ghost use Rattle.net_tool.specs.Outcomes.{size_of, IsBodyOf};
 
-use crate::nets::{check_any, place_any};
 use crate::words::Command;
 use cgd_read::{Block, Body, RawGraph};
-use least_key::Refusal;
+use least_key::{Refusal, check_any, place_any};
 use net_report::{NoMemory, OutcomeBody, Size};
 use quotient_graph::from_raw;
 use std::alloc::Global;

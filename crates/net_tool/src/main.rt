@@ -3,7 +3,6 @@
 
 mod answers;
 mod bodies;
-mod nets;
 mod status;
 #[cfg(test)]
 mod tests;
@@ -12,23 +11,29 @@ mod words;
 
 use outside::{HostShelf, StdoutSink};
 use status::Status;
-use std::env;
 use std::process::ExitCode;
+use std::{env, io};
 use tool::run;
 
-/// The exit status where the runtime does not give the words.
+/// The exit status where the runtime does not give the words, for another cause than want of memory.
 const NO_WORDS: u8 = 20;
 
+// The exit status where the words cannot be had.
+fn status_without_words(error: &io::Error) -> u8 {
+    match error.kind() {
+        io::ErrorKind::OutOfMemory => Status::NoMemory.number(),
+        _ => NO_WORDS,
+    }
+}
+
 fn main(rt: HostRuntime) -> ExitCode {
-    let Ok(args) = env::args(&rt) else {
-        return ExitCode::from(NO_WORDS);
+    let args = match env::args(&rt) {
+        Ok(args) => args,
+        Err(error) => return ExitCode::from(status_without_words(&error)),
     };
-    let Ok(mut words) = args.collect::<Vec<String>>(rt.alloc()) else {
+    let Ok(words) = args.skip(1).collect::<Vec<String>>(rt.alloc()) else {
         return ExitCode::from(Status::NoMemory.number());
     };
-    if words.len() > 0 {
-        let _ = words.remove(0);
-    }
     let mut shelf = HostShelf::new(rt.alloc(), rt);
     let mut out = StdoutSink::new(rt);
     ExitCode::from(run(rt.alloc(), &words, &mut shelf, &mut out).number())

@@ -1,5 +1,5 @@
 // The top call.
-ghost use Rattle.std.specs.Prelude.{◌≡◌, ◌<◌, ℕ, length, take};
+ghost use Rattle.std.specs.Prelude.{◌≡◌, ◌<◌, ◌≤◌, ℕ, length, take};
 ghost use Rattle.std.specs.Io.KnownBytes.{Appends};
 ghost use Rattle.outside.specs.Causes.{Rose};
 ghost use Rattle.net_tool.specs.Words.{texts_of, task_of};
@@ -21,7 +21,9 @@ fn finish<W: Sink>(out: &mut W, text: &[u8], status: Status) -> Status
     ensures all { (result ≡ Status.WriteFault → ⊥) → Appends (W.written out.old) (W.written out.new) text.now }
     ensures cause { result ≡ Status.WriteFault → Rose (W.faults out.old) (W.faults out.new) }
     ensures unsure { result ≡ Status.WriteFault → W.sure out.old < length text.now }
-    ensures part { result ≡ Status.WriteFault → (taken : ℕ) × Appends (W.written out.old) (W.written out.new) (take taken text.now) }
+    ensures part { result ≡ Status.WriteFault →
+        (taken : ℕ) × Appends (W.written out.old) (W.written out.new) (take taken text.now) }
+    ensures later { W.faults out.old ≤ W.faults out.new }
 {
     match write_all(out, text) {
         Ok(()) => status,
@@ -40,6 +42,9 @@ pub fn run<H: Shelf, W: Sink>(alloc: Global, words: &[String], shelf: &mut H, ou
     ensures broken { result ≡ Status.WriteFault →
         IsBroken (texts_of words.now) (H.holds shelf.old) (W.written out.old) (W.written out.new) (W.sure out.old) }
     ensures silent { IsSilent result → W.written out.new ≡ W.written out.old }
+    ensures same { H.holds shelf.new ≡ H.holds shelf.old }
+    ensures later { H.faults shelf.old ≤ H.faults shelf.new }
+    ensures out_later { W.faults out.old ≤ W.faults out.new }
 {
     let Some(task) = task_word(words) else {
         return finish(out, USAGE.as_bytes(), Status::Usage);

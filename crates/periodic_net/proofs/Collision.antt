@@ -1,44 +1,37 @@
 -- A graph with a collision: the square net with a vertex that hangs on the other, so that both stand in one place.
 use Rattle.std.proofs.Common.{◌≡◌, ℕ, zero, suc, pos, [], ◌∷◌, map, refl, ap, arith}
 use Rattle.std.proofs.Math.Nat.{eq-one_of_dvd-one}
-use Rattle.integers.specs.Vectors.{vector, zero_vector, vector_sum}
-use Rattle.periodic_net.specs.Graph.{Graph, arc, arcs_from, IsQuotientVertex, Vertex}
+use Rattle.integers.specs.Vectors.{zero_vector, vector_sum}
+use Rattle.periodic_net.specs.Examples.{hanging_net}
+use Rattle.periodic_net.specs.Graph.{arcs_from, IsQuotientVertex, Vertex}
 use Rattle.periodic_net.specs.Placement.{Placement, base, arc_vector, IsNormalPlacement, IsCollision, HasNoCollision}
-
--- vertex 1 with its two loops, and vertex 2 joined to it alone
-abbrev pub hanging : Graph
-hanging = record {
-  dimension = 2;
-  vertices = 2;
-  edges = arc 1 1 (vector (pos 1) (pos 0) (pos 0)) ∷ arc 1 1 (vector (pos 0) (pos 1) (pos 0)) ∷ arc 1 2 zero_vector ∷ [];
-}
 
 -- both vertices at the origin
 unfoldable pub hanging_placement : Placement
 hanging_placement = record { denominator = 1; at = zero_vector ∷ zero_vector ∷ [] }
 
 -- what holds of both vertices holds of each
-either : (P : ℕ → Type 0) → P 1 → P 2 → (u : ℕ) → IsQuotientVertex hanging u → P u
+either : (P : ℕ → Type 0) → P 1 → P 2 → (u : ℕ) → IsQuotientVertex hanging_net u → P u
 either P a b zero i = absurd (let c = i.0 in omega arith)
 either P a b (suc zero) i = a
 either P a b (suc (suc zero)) i = b
 either P a b (suc (suc (suc u))) i = absurd (let c = i.1 in omega arith)
 
 -- the placement is the normal one
-pub hanging_normal_placement : IsNormalPlacement hanging hanging_placement
+pub hanging_normal_placement : IsNormalPlacement hanging_net hanging_placement
 unfolding hanging_placement
 hanging_normal_placement = record {
   barycentric = record {
     positive = omega arith;
     count = refl;
     dimension = λ u i d. either (λ n. (base hanging_placement n).z ≡ pos 0) refl refl u i;
-    balanced = either (λ n. vector_sum (map (arc_vector hanging_placement) (arcs_from hanging n)) ≡ zero_vector) refl refl;
+    balanced = either (λ n. vector_sum (map (arc_vector hanging_placement) (arcs_from hanging_net n)) ≡ zero_vector) refl refl;
   };
   normal = record { origin = refl; reduced = λ k d h. eq-one_of_dvd-one d };
 }
 
 -- vertices 1 and 2 collide
-pub hanging_collision : IsCollision hanging hanging_placement 1 2 zero_vector
+pub hanging_collision : IsCollision hanging_net hanging_placement 1 2 zero_vector
 unfolding hanging_placement
 hanging_collision = record {
   here = (omega arith, omega arith);
@@ -48,5 +41,5 @@ hanging_collision = record {
 }
 
 -- so the placement is not without collisions
-pub hanging_collides : ¬ HasNoCollision hanging hanging_placement
+pub hanging_collides : ¬ HasNoCollision hanging_net hanging_placement
 hanging_collides n = n 1 2 zero_vector hanging_collision

@@ -27,6 +27,7 @@ pub mod SplitCases
 pub mod Splits
 pub mod SquareClasses
 pub mod SquareNet
+pub mod SquareShells
 pub mod StableIsomorphs
 pub mod Theorems
 pub mod Translates

@@ -8,8 +8,8 @@ use Rattle.periodic_net.specs.Classes.{IsTranslation}
 use Rattle.periodic_net.specs.Laws.{ArcsStandOnce, BarycentricPlacementsTranslate, ClassesAreEquivalence, IsomorphismIsEquivalence, IsomorphismsAreAffine, IsomorphismsCarry, IsomorphismsKeep, NormalPlacementExists, NormalPlacementIsOne, PositionsTell, SplitsRefute, TranslationsAreGroup, MovesAlike, MaximumPrinciple, TablesAreMaps}
 use Rattle.periodic_net.proofs.MaximumPrinciple.{periodic_constant}
 use Rattle.periodic_net.proofs.MapTables.{drawn, drawn_by_table, drawn_once, periodic_of_drawn, table_of, is_table_of, drawn_of_periodic}
-use Rattle.integers.proofs.Vectors.{times_zero}
-use Rattle.integers.proofs.Filters.{pairs_from_apart}
+use Rattle.integers.proofs.vectors.Laws.{times_zero}
+use Rattle.integers.proofs.lists.Members.{pairs_from_apart}
 use Rattle.periodic_net.proofs.ArcLists.{all_arcs_apart}
 use Rattle.periodic_net.proofs.Splits.{split_shows_not_connected}
 use Rattle.periodic_net.proofs.Positions.{positions_tell}
@@ -23,7 +23,7 @@ use Rattle.periodic_net.proofs.Translations.{whole_translation, translation_plus
 use Rattle.periodic_net.proofs.Undoing.{translation_back}
 use Rattle.periodic_net.proofs.Classes.{share_reflexive, share_symmetric, share_transitive}
 use Rattle.periodic_net.proofs.Carried.{stands_there}
-use Rattle.periodic_net.proofs.Transport.{linear_part, stable_carries, iso_translations, iso_share}
+use Rattle.periodic_net.proofs.Transport.{linear_part, stable_carries, iso_translations, iso_share, iso_classes}
 
 -- a split refutes connectedness
 pub splits_refute : SplitsRefute
@@ -55,7 +55,10 @@ normal_placement_exists G g p b = let n = normal_exists G g p b in (n.normal, n.
 
 -- isomorphisms are affine
 pub isomorphisms_are_affine : IsomorphismsAreAffine
-isomorphisms_are_affine = iso_is_affine
+isomorphisms_are_affine = record {
+  there = iso_is_affine;
+  back = λ G H g h c e p q bp bq. iso_is_affine H G h g (iso_connected G H g e c) (iso_turned e) q p bq bp;
+}
 
 -- isomorphisms keep connectedness and stability
 pub isomorphisms_keep : IsomorphismsKeep
@@ -87,6 +90,8 @@ isomorphisms_carry = record {
   translations = isomorphism_carries;
   translations_back = λ G H p q g h a b e s t. isomorphism_carries H G q p h g b a (iso_turned e) s t;
   classes = iso_share;
+  class_graphs = λ G H p q g h a b e class_of class_of' K L k l.
+      iso_classes G H p q class_of class_of' K L (record { graph = g; stable = a; classes = k }) (record { graph = h; stable = b; classes = l }) e;
 }
 
 -- the maximum principle

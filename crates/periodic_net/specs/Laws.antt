@@ -6,7 +6,8 @@ use Rattle.periodic_net.specs.Split.{Split, IsSplit}
 use Rattle.periodic_net.specs.Placement.{Placement, base, position, IsBarycentric, IsNormalPlacement, IsTranslate, HasNoCollision, IsStablePlacement, IsStable}
 use Rattle.periodic_net.specs.Maps.{Base, base_sum, IsPeriodic, Iso, PeriodicMap, IsMapTable, IsDrawnBy}
 use Rattle.periodic_net.specs.Harmonic.{Repeats, IsNetHarmonic}
-use Rattle.periodic_net.specs.Classes.{StandsAt, IsTranslation, ShareClass}
+use Rattle.periodic_net.specs.Classes.{StandsAt, IsTranslation, ShareClass, ClassGraph, IsClassGraph}
+use Rattle.periodic_net.specs.Correspondence.{CarriesClassGraph}
 
 -- a split shows that the net is not connected
 abbrev pub SplitsRefute : Type 0
@@ -41,13 +42,19 @@ NormalPlacementIsOne = (G : Graph) → IsGraph G → IsConnected G → (p q : Pl
 abbrev pub NormalPlacementExists : Type 0
 NormalPlacementExists = (G : Graph) → IsGraph G → (p : Placement) → IsBarycentric G p → (q : Placement) × IsNormalPlacement G q
 
--- an isomorphism of connected nets with a period m and shifts B is affine on barycentric positions:
--- m·D·q(there w) - D'·(the sum of p(w)_i·B_i) is one vector for all vertices w, where p is in units of 1/D and q in units of 1/D'
-abbrev pub IsomorphismsAreAffine : Type 0
-IsomorphismsAreAffine = (G H : Graph) → IsGraph G → IsGraph H → IsConnected G → (e : Iso G H) → (p q : Placement) → IsBarycentric G p → IsBarycentric H q
-    → (m : ℕ) (b : Base) → IsPeriodic G H e.there m b → (w x : Vertex) → IsVertex G w → IsVertex G x
-    → minus (times (pos m *ℤ pos p.denominator) (position q (e.there w))) (times (pos q.denominator) (base_sum b (position p w)))
-    ≡ minus (times (pos m *ℤ pos p.denominator) (position q (e.there x))) (times (pos q.denominator) (base_sum b (position p x)))
+-- a map with a period m and shifts B is affine on positions: m·D·q(map w) - D'·(the sum of p(w)_i·B_i) is one vector
+-- for all vertices w, where p is in units of 1/D and q in units of 1/D'
+abbrev pub IsAffineOn : (G H : Graph) → Placement → Placement → (Vertex → Vertex) → Type 0
+IsAffineOn G H p q map = (m : ℕ) (b : Base) → IsPeriodic G H map m b → (w x : Vertex) → IsVertex G w → IsVertex G x
+    → minus (times (pos m *ℤ pos p.denominator) (position q (map w))) (times (pos q.denominator) (base_sum b (position p w)))
+    ≡ minus (times (pos m *ℤ pos p.denominator) (position q (map x))) (times (pos q.denominator) (base_sum b (position p x)))
+
+-- an isomorphism of connected nets is affine on barycentric positions, and so is the map back
+pub record IsomorphismsAreAffine : Type 0 where
+  pub there : (G H : Graph) → IsGraph G → IsGraph H → IsConnected G → (e : Iso G H)
+      → (p q : Placement) → IsBarycentric G p → IsBarycentric H q → IsAffineOn G H p q e.there
+  pub back : (G H : Graph) → IsGraph G → IsGraph H → IsConnected G → (e : Iso G H)
+      → (p q : Placement) → IsBarycentric G p → IsBarycentric H q → IsAffineOn H G q p e.back
 
 -- what is isomorphic to a connected net is connected, and what is isomorphic to a stable one is stable
 pub record IsomorphismsKeep : Type 0 where
@@ -71,7 +78,8 @@ pub record ClassesAreEquivalence : Type 0 where
 abbrev pub MovesAlike : (G : Graph) → Placement → Placement → (Vertex → Vertex) → Vector → Vector → Type 0
 MovesAlike G p q there r s = (w x : Vertex) → IsVertex G w → IsVertex G x → StandsAt p r w x → StandsAt q s (there w) (there x)
 
--- an isomorphism of stable nets carries translations to translations and classes to classes, and so does the map back
+-- an isomorphism of stable nets carries translations to translations, classes to classes and the class graph, arc by arc, to the
+-- class graph; and so does the map back
 pub record IsomorphismsCarry : Type 0 where
   pub translations : (G H : Graph) (p q : Placement) → IsGraph G → IsGraph H → IsStablePlacement G p → IsStablePlacement H q → (e : Iso G H)
       → (r : Vector) → IsTranslation G p r → (s : Vector) × IsTranslation H q s × MovesAlike G p q e.there r s
@@ -79,6 +87,9 @@ pub record IsomorphismsCarry : Type 0 where
       → (s : Vector) → IsTranslation H q s → (r : Vector) × IsTranslation G p r × MovesAlike H q p e.back s r
   pub classes : (G H : Graph) (p q : Placement) → IsGraph G → IsGraph H → IsStablePlacement G p → IsStablePlacement H q → (e : Iso G H)
       → (w x : Vertex) → IsVertex G w → IsVertex G x → ShareClass G p w.over x.over ↔ ShareClass H q (e.there w).over (e.there x).over
+  pub class_graphs : (G H : Graph) (p q : Placement) → IsGraph G → IsGraph H → IsStablePlacement G p → IsStablePlacement H q → (e : Iso G H)
+      → (class_of class_of' : ℕ → ℕ) (K L : ClassGraph) → IsClassGraph G p class_of K → IsClassGraph H q class_of' L
+      → CarriesClassGraph G H e class_of class_of' K L
 
 -- the maximum principle: in a connected net a periodic function that is at each vertex the mean over its neighbours is constant
 abbrev pub MaximumPrinciple : Type 0

@@ -1,4 +1,6 @@
 pub mod Classes
+pub mod Correspondence
+pub mod Examples
 pub mod Graph
 pub mod Harmonic
 pub mod Laws

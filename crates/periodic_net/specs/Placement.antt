@@ -33,7 +33,7 @@ pub record IsBarycentric (G : Graph) (p : Placement) : Type 0 where
 -- vertex 1 stands at 0, and no number above 1 divides the denominator and all bases
 pub record IsNormal (G : Graph) (p : Placement) : Type 0 where
   pub origin : base p 1 ≡ zero_vector
-  pub reduced : (k : ℕ) → k ∣ p.denominator → ((u : ℕ) → IsQuotientVertex G u → DividesVector k (base p u)) → k ≡ 1
+  pub reduced : (k : ℕ) → k ∣ p.denominator → ((u : ℕ) → IsQuotientVertex G u → DividesVector (pos k) (base p u)) → k ≡ 1
 
 -- a placement that is barycentric and normal
 pub record IsNormalPlacement (G : Graph) (p : Placement) : Type 0 where

@@ -1,7 +1,7 @@
 -- Lists that are made from the edges of a graph are those of a graph in memory.
 use Rattle.std.proofs.Common.{ℕ, ◌≤◌, List, sym, subst}
 use Rattle.std.specs.List.{All}
-use Rattle.integers.proofs.Filters.{pairs_from_apart}
+use Rattle.integers.proofs.lists.Members.{in_from_contains, IsIn, AreApart, pairs_from_apart}
 use Rattle.periodic_net.specs.Graph.{Graph, Arc, IsGraph, IsEdge, arcs_from}
 use Rattle.integers.specs.Vectors.{IsWithin}
 use Rattle.periodic_net.proofs.ArcLists.{arcs_apart}

@@ -4,9 +4,9 @@ use Rattle.std.specs.Prelude.{ℤ, pos, ◌+ℤ◌, ◌-ℤ◌, ◌*ℤ◌, unsi
 use Rattle.std.proofs.Math.Nat.{mul-le-mul}
 use Rattle.integers.specs.Vectors.{Vector, zero_vector, plus, times, IsWithin}
 use Rattle.integers.specs.Staircase.{part}
-use Rattle.integers.proofs.Ring.{linear}
-use Rattle.integers.proofs.Coordinates.{IsCoordinate, coordinate_x, coordinate_y, coordinate_z}
-use Rattle.integers.proofs.Bounds.{bounded_sum, bounded_difference, bounded_product}
+use Rattle.integers.proofs.numbers.Ring.{linear}
+use Rattle.integers.proofs.vectors.Coordinates.{IsCoordinate, coordinate_x, coordinate_y, coordinate_z}
+use Rattle.integers.proofs.vectors.Bounds.{bounded_sum, bounded_difference, bounded_product}
 use Rattle.periodic_net.specs.Graph.{Graph, Arc, IsArc, IsGraph, IsQuotientVertex, IsConnected}
 use Rattle.periodic_net.specs.Placement.{Placement, base, arc_vector, IsWithinLimits}
 use Rattle.periodic_net.specs.Limits.{most_vertices, most_shift, most_units, IsSmall}

@@ -1,9 +1,9 @@
 -- The last steps of an insertion, over plain numbers.
 use Rattle.std.proofs.Common.{◌≡◌, ℤ, pos, ◌+ℤ◌, ◌-ℤ◌, ◌*ℤ◌, ◌<ℤ◌, ◌≤ℤ◌, arith}
-use Rattle.integers.proofs.Ring.{linear}
+use Rattle.integers.proofs.numbers.Ring.{linear}
 use Rattle.integers.specs.Vectors.{Vector, vector}
 use Rattle.vecdim.specs.Stairs.{Stairs, stairs}
-use Rattle.vecdim.specs.Steps.{Exchange, IsBoxed, IsInserted, IsKept}
+use Rattle.vecdim.specs.Steps.{Exchange, IsBoxed, IsInserted, IsBoundedStair}
 use Rattle.vecdim.proofs.Inserting.{Steps, steps_with, steps_bound}
 
 -- what a column of Euclid's algorithm ensures
@@ -25,7 +25,7 @@ last c c0 c1 q f m k i l e g = omega (arith, linear, e, g)
 
 -- the steps together make an insertion
 pub assemble : (m : ℤ) (S : Stairs) (v : Vector) (x y z a b1 c1 y1 z1 e f1 g1 z2 g2 i j1 j2 j3 j4 f q b c0 c : ℤ)
-    → IsKept m S → Modulo v.x m x → Modulo v.y m y → Modulo v.z m z
+    → IsBoundedStair m S → Modulo v.x m x → Modulo v.y m y → Modulo v.z m z
     → Column m (vector S.a S.b S.c) (vector x y z) (vector a b1 c1) (vector (pos 0) y1 z1)
     → Column m (vector S.e S.f (pos 0)) (vector y1 z1 (pos 0)) (vector e f1 g1) (vector (pos 0) z2 g2)
     → Column m (vector S.i (pos 0) (pos 0)) (vector z2 (pos 0) (pos 0)) (vector i j1 j2) (vector (pos 0) j3 j4)

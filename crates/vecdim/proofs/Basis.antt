@@ -1,11 +1,10 @@
 -- The rows are the staircase basis of their lattice, and a lattice has one.
 use Rattle.std.proofs.Common.{◌≡◌, zero, suc, ℤ, pos, negsuc, ◌+ℤ◌, ◌-ℤ◌, ◌*ℤ◌, ◌<ℤ◌, ◌≤ℤ◌, refl, sym, ap, subst, ◌∙◌, arith, ◌⊎◌, inl, inr, ⊎_elim}
 use Rattle.std.proofs.lemmas.Int.{ints}
-use Rattle.integers.proofs.Ring.{ring, linear}
-use Rattle.integers.specs.Vectors.{Vector, vector}
-use Rattle.vecdim.specs.Stairs.{InStairs, IsReduced, Stairs}
+use Rattle.integers.proofs.numbers.Ring.{ring, linear}
+use Rattle.integers.specs.Vectors.{Vector}
+use Rattle.vecdim.specs.Stairs.{InStairs, IsReducedStair, Stairs}
 use Rattle.vecdim.proofs.Inserting.{zero_factor}
-use Rattle.vecdim.proofs.Lattice.{own_rows}
 
 -- a positive multiple of a positive number is at least that number
 least_multiple : (k a : ℤ) → pos 0 <ℤ (k *ℤ a) → pos 0 <ℤ a → a ≤ℤ (k *ℤ a)
@@ -54,11 +53,11 @@ at_most_of b w (inl h) = omega (arith, linear, h)
 at_most_of b w (inr h) = omega (arith, linear, h.0)
 
 -- the first row has the least positive first part
-pub first_least : {S : Stairs} (w : Vector) → IsReduced S → InStairs S w → pos 0 <ℤ w.x → S.a ≤ℤ w.x
+pub first_least : {S : Stairs} (w : Vector) → IsReducedStair S → InStairs S w → pos 0 <ℤ w.x → S.a ≤ℤ w.x
 first_least {S} w r m h = subst (λ t. S.a ≤ℤ t) (sym m.x) (least_multiple m.k S.a (subst (λ t. pos 0 <ℤ t) m.x h) r.a)
 
 -- among these the least parts after it
-pub first_rest : {S : Stairs} (w : Vector) → IsReduced S → InStairs S w → w.x ≡ S.a → pos 0 ≤ℤ w.y → pos 0 ≤ℤ w.z → IsAtMost2 S.b S.c w.y w.z
+pub first_rest : {S : Stairs} (w : Vector) → IsReducedStair S → InStairs S w → w.x ≡ S.a → pos 0 ≤ℤ w.y → pos 0 ≤ℤ w.z → IsAtMost2 S.b S.c w.y w.z
 first_rest {S} w r m h j i =
     let k = once m.k S.a (sym m.x ∙ h) r.a in
     ⊎_elim (λ (t : S.b <ℤ w.y). inl t)
@@ -66,7 +65,7 @@ first_rest {S} w r m h j i =
     (least_rest m.l S.b S.e w.y r.b_from r.b_to j (y_at_one m.k m.l S.b S.e w.y k m.y))
 
 -- a member with first part 0 has the first coefficient 0
-no_first : {S : Stairs} (w : Vector) → IsReduced S → (m : InStairs S w) → w.x ≡ pos 0 → m.k ≡ pos 0
+no_first : {S : Stairs} (w : Vector) → IsReducedStair S → (m : InStairs S w) → w.x ≡ pos 0 → m.k ≡ pos 0
 no_first {S} w r m h = zero_factor m.k S.a (sym h ∙ m.x) r.a
 
 -- the second part of such a member
@@ -82,53 +81,22 @@ z_at_third : (k l n c f i z : ℤ) → k ≡ pos 0 → l ≡ pos 0 → z ≡ k *
 z_at_third k l n c f i z h g q = q ∙ ap (λ t. t *ℤ c +ℤ l *ℤ f +ℤ n *ℤ i) h ∙ ap (λ t. pos 0 *ℤ c +ℤ t *ℤ f +ℤ n *ℤ i) g ∙ simp ring (omega (arith, linear))
 
 -- the second row has the least positive second part
-pub second_least : {S : Stairs} (w : Vector) → IsReduced S → InStairs S w → w.x ≡ pos 0 → pos 0 <ℤ w.y → S.e ≤ℤ w.y
+pub second_least : {S : Stairs} (w : Vector) → IsReducedStair S → InStairs S w → w.x ≡ pos 0 → pos 0 <ℤ w.y → S.e ≤ℤ w.y
 second_least {S} w r m x h =
     let e = y_at_zero m.k m.l S.b S.e w.y (no_first w r m x) m.y in
     subst (λ t. S.e ≤ℤ t) (sym e) (least_multiple m.l S.e (subst (λ t. pos 0 <ℤ t) e h) r.e)
 
 -- among these the least third part
-pub second_rest : {S : Stairs} (w : Vector) → IsReduced S → InStairs S w → w.x ≡ pos 0 → w.y ≡ S.e → pos 0 ≤ℤ w.z → S.f ≤ℤ w.z
+pub second_rest : {S : Stairs} (w : Vector) → IsReducedStair S → InStairs S w → w.x ≡ pos 0 → w.y ≡ S.e → pos 0 ≤ℤ w.z → S.f ≤ℤ w.z
 second_rest {S} w r m x h j =
     let k = no_first w r m x in
     let l = once m.l S.e (sym (y_at_zero m.k m.l S.b S.e w.y k m.y) ∙ h) r.e in
     at_most_of S.f w.z (least_rest m.n S.f S.i w.z r.f_from r.f_to j (z_at_second m.k m.l m.n S.c S.f S.i w.z k l m.z))
 
 -- the third row has the least positive third part
-pub third_least : {S : Stairs} (w : Vector) → IsReduced S → InStairs S w → w.x ≡ pos 0 → w.y ≡ pos 0 → pos 0 <ℤ w.z → S.i ≤ℤ w.z
+pub third_least : {S : Stairs} (w : Vector) → IsReducedStair S → InStairs S w → w.x ≡ pos 0 → w.y ≡ pos 0 → pos 0 <ℤ w.z → S.i ≤ℤ w.z
 third_least {S} w r m x y h =
     let k = no_first w r m x in
     let l = zero_factor m.l S.e (sym y ∙ y_at_zero m.k m.l S.b S.e w.y k m.y) r.e in
     let e = z_at_third m.k m.l m.n S.c S.f S.i w.z k l m.z in
     subst (λ t. S.i ≤ℤ t) (sym e) (least_multiple m.n S.i (subst (λ t. pos 0 <ℤ t) e h) r.i)
-
--- at most both ways is equal
-both : (x y : ℤ) → x ≤ℤ y → y ≤ℤ x → x ≡ y
-both x y h i = omega (arith, linear, h, i)
-
--- two stairs have the same numbers
-pub record SameParts (S T : Stairs) : Type 0 where
-  pub a : S.a ≡ T.a
-  pub b : S.b ≡ T.b
-  pub c : S.c ≡ T.c
-  pub e : S.e ≡ T.e
-  pub f : S.f ≡ T.f
-  pub i : S.i ≡ T.i
-
--- two pairs that are each at most the other are equal
-pair_both : (b c y z : ℤ) → IsAtMost2 b c y z → IsAtMost2 y z b c → (b ≡ y) × (c ≡ z)
-pair_both b c y z (inl h) (inl g) = absurd (omega (arith, linear, h, g))
-pair_both b c y z (inl h) (inr g) = absurd (omega (arith, linear, h, g.0))
-pair_both b c y z (inr h) (inl g) = absurd (omega (arith, linear, h.0, g))
-pair_both b c y z (inr h) (inr g) = (omega (arith, linear, h.0), omega (arith, linear, h.1, g.1))
-
--- a lattice has one staircase basis
-pub one_basis : {S T : Stairs} → IsReduced S → IsReduced T → ((w : Vector) → InStairs S w → InStairs T w) → ((w : Vector) → InStairs T w → InStairs S w) → SameParts S T
-one_basis {S} {T} r q st ts =
-    let s = own_rows S in let t = own_rows T in
-    let a = both S.a T.a (first_least (vector T.a T.b T.c) r (ts _ t.first) q.a) (first_least (vector S.a S.b S.c) q (st _ s.first) r.a) in
-    let e = both S.e T.e (second_least (vector (pos 0) T.e T.f) r (ts _ t.second) refl q.e) (second_least (vector (pos 0) S.e S.f) q (st _ s.second) refl r.e) in
-    let i = both S.i T.i (third_least (vector (pos 0) (pos 0) T.i) r (ts _ t.third) refl refl q.i) (third_least (vector (pos 0) (pos 0) S.i) q (st _ s.third) refl refl r.i) in
-    let f = both S.f T.f (second_rest (vector (pos 0) T.e T.f) r (ts _ t.second) refl (sym e) q.f_from) (second_rest (vector (pos 0) S.e S.f) q (st _ s.second) refl e r.f_from) in
-    let bc = pair_both S.b S.c T.b T.c (first_rest (vector T.a T.b T.c) r (ts _ t.first) (sym a) q.b_from q.c_from) (first_rest (vector S.a S.b S.c) q (st _ s.first) a r.b_from r.c_from) in
-    record { a = a; b = bc.0; c = bc.1; e = e; f = f; i = i }

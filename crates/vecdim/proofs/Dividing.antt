@@ -1,15 +1,16 @@
 -- Division by a positive number.
-use Rattle.std.proofs.Common.{◌≡◌, ◌+◌, ◌*◌, ◌/◌, ◌%◌, ◌<◌, ◌≤◌, ◌≤ℤ◌, ◌<ℤ◌, ℤ, pos, negsuc, ◌+ℤ◌, ◌-ℤ◌, ◌*ℤ◌, neg_ℤ, arith}
+use Rattle.std.proofs.Common.{◌≡◌, ◌+◌, ◌*◌, ◌/◌, ◌%◌, ◌<◌, ◌≤◌, ◌≤ℤ◌, ◌<ℤ◌, ℤ, pos, negsuc, ◌+ℤ◌, ◌-ℤ◌, ◌*ℤ◌, neg_ℤ, int_div, to_z, of_z, sym, ap, ◌∙◌, arith}
 use Rattle.std.specs.Int.{int_rem_euclid}
 use Rattle.std.proofs.Common.{◌^◌, FitsSigned}
 use Rattle.std.specs.Int.{w128}
 use Rattle.std.specs.Int.RustNames.{unsigned_abs}
 use Rattle.std.proofs.lemmas.Nat.{mul-le}
-use Rattle.std.proofs.lemmas.Int.{ints, unsigned_abs-mul, fits_signed_from_abs}
+use Rattle.std.proofs.lemmas.Int.{ints, unsigned_abs-mul, fits_signed_from_abs, quot_is, quot_fits}
 use Rattle.integers.specs.Vectors.{Vector, vector, IsWithin}
 use Rattle.vecdim.specs.Stairs.{Stairs}
-use Rattle.vecdim.specs.Steps.{IsBoxed, IsKept}
-use Rattle.integers.proofs.Ring.{product_negative}
+use Rattle.vecdim.specs.Steps.{IsBoxed, IsBoundedStair}
+use Rattle.integers.proofs.numbers.Division.{quotient_times}
+use Rattle.integers.proofs.numbers.Ring.{product_negative}
 
 -- the remainder differs by a multiple
 pub remainder : (z m : ℤ) → pos 0 <ℤ m → (k : ℤ) × (int_rem_euclid z m ≡ z +ℤ m *ℤ k)
@@ -69,7 +70,7 @@ pub boxed_fits : {m : ℤ} {v : Vector} → m ≤ℤ pos (2 ^ 60) → IsBoxed m 
 boxed_fits {m} {v} h b = record { x = fits_within v.x m h b.x_from b.x_to; y = fits_within v.y m h b.y_from (at_most v.y m b.y_to); z = fits_within v.z m h b.z_from (at_most v.z m b.z_to) }
 
 -- the rows are in the box
-pub boxed_first : {m : ℤ} {S : Stairs} → IsKept m S → IsBoxed m (vector S.a S.b S.c)
+pub boxed_first : {m : ℤ} {S : Stairs} → IsBoundedStair m S → IsBoxed m (vector S.a S.b S.c)
 boxed_first {m} {S} k = let r = k.reduced in let b = k.e_to in let c = k.i_to in record { x_from = at_most (pos 0) S.a r.a; x_to = k.a_to; y_from = r.b_from; y_to = below S.b S.e m r.b_to b; z_from = r.c_from; z_to = below S.c S.i m r.c_to c }
   where
     -- below, and at most
@@ -77,7 +78,7 @@ boxed_first {m} {S} k = let r = k.reduced in let b = k.e_to in let c = k.i_to in
     below x y z h i = omega (arith, ints)
 
 -- the second row, one place to the left
-pub boxed_second : {m : ℤ} {S : Stairs} → IsKept m S → IsBoxed m (vector S.e S.f (pos 0))
+pub boxed_second : {m : ℤ} {S : Stairs} → IsBoundedStair m S → IsBoxed m (vector S.e S.f (pos 0))
 boxed_second {m} {S} k = let r = k.reduced in record { x_from = at_most (pos 0) S.e r.e; x_to = k.e_to; y_from = r.f_from; y_to = below S.f S.i m r.f_to k.i_to; z_from = zero_most; z_to = k.m_from }
   where
     -- 0 is at most 0
@@ -89,7 +90,7 @@ boxed_second {m} {S} k = let r = k.reduced in record { x_from = at_most (pos 0) 
     below x y z h i = omega (arith, ints)
 
 -- the third row, two places to the left
-pub boxed_third : {m : ℤ} {S : Stairs} → IsKept m S → IsBoxed m (vector S.i (pos 0) (pos 0))
+pub boxed_third : {m : ℤ} {S : Stairs} → IsBoundedStair m S → IsBoxed m (vector S.i (pos 0) (pos 0))
 boxed_third {m} {S} k = let r = k.reduced in record { x_from = at_most (pos 0) S.i r.i; x_to = k.i_to; y_from = zero_most; y_to = k.m_from; z_from = zero_most; z_to = k.m_from }
   where
     -- 0 is at most 0
@@ -109,9 +110,14 @@ weaker : (z : ℤ) → unsigned_abs z ≤ 2 ^ 60 → unsigned_abs z ≤ 2 ^ 61
 weaker z h = omega arith
 
 -- the first row is a vector
-pub first_small : {m : ℤ} {S : Stairs} → IsKept m S → IsWithin (2 ^ 61) (vector S.a S.b S.c)
+pub first_small : {m : ℤ} {S : Stairs} → IsBoundedStair m S → IsWithin (2 ^ 61) (vector S.a S.b S.c)
 first_small {m} {S} k = let w = boxed_within k.m_to (boxed_first k) in (weaker S.a w.0, weaker S.b w.1, weaker S.c w.2)
 
 -- and so is the second
-pub second_small : {m : ℤ} {S : Stairs} → IsKept m S → IsWithin (2 ^ 61) (vector (pos 0) S.e S.f)
+pub second_small : {m : ℤ} {S : Stairs} → IsBoundedStair m S → IsWithin (2 ^ 61) (vector (pos 0) S.e S.f)
 second_small {m} {S} k = let w = boxed_within k.m_to (boxed_second k) in (omega arith, weaker S.e w.0, weaker S.f w.1)
+
+-- an exact quotient, as the code divides
+pub exact_value : (a g : ℤ) → FitsSigned w128 a → FitsSigned w128 g → pos 0 <ℤ g → (w : ℤ) × (a ≡ g *ℤ w)
+    → a ≡ g *ℤ to_z w128 (of_z w128 (int_div (to_z w128 (of_z w128 a)) (to_z w128 (of_z w128 g))))
+exact_value a g fa fg p d = quotient_times a g p d ∙ ap (λ t. g *ℤ t) (sym (quot_is w128 a g fa fg (quot_fits w128 a g fa p)))

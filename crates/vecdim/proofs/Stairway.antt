@@ -3,7 +3,7 @@ use Rattle.std.proofs.Common.{◌≡◌, ◌≢◌, ℕ, zero, suc, ℤ, pos, ne
 use Rattle.std.proofs.lemmas.Int.{ints}
 use Rattle.std.specs.Prelude.{slice_index_or, take, cond, ◌==◌, ◌^◌, All, Bool, true, false}
 use Rattle.std.proofs.lemmas.List.Elements.{All-cons}
-use Rattle.vecdim.specs.Steps.{IsKept}
+use Rattle.vecdim.specs.Steps.{IsBoundedStair}
 use Rattle.vecdim.proofs.Dividing.{boxed_within, boxed_first, boxed_second, boxed_third}
 use Rattle.std.specs.Ordering.{int_cmp, ordering_then}
 use Rattle.std.specs.Cmp.{int_cmp_is}
@@ -12,8 +12,8 @@ use Rattle.std.specs.declared.cmp.Ordering.{Ordering}
 use Rattle.std.specs.declared.cmp.Ordering.TheVariants.{Less, Equal, Greater}
 use Rattle.integers.specs.Vectors.{Vector, vector, zero_vector, HasDimension, IsAtMost, IsWithin}
 use Rattle.integers.specs.Staircase.{IsStaircase, IsStair, IsZeroBefore, NotNegativeAfter}
-use Rattle.integers.proofs.Ring.{linear}
-use Rattle.vecdim.specs.Stairs.{Stairs, IsReduced, HasStairShape, HasFlatEnd, rows_of}
+use Rattle.integers.proofs.numbers.Ring.{linear}
+use Rattle.vecdim.specs.Stairs.{Stairs, IsReducedStair, HasStairShape, HasFlatEnd, rows_of}
 use Rattle.vecdim.specs.Lattices.{Members}
 use Rattle.vecdim.proofs.Basis.{IsAtMost2, first_least, first_rest, second_least, second_rest, third_least}
 use Rattle.vecdim.proofs.Lattice.{own_rows}
@@ -97,7 +97,7 @@ before_third v p q (suc zero) l = q
 before_third v p q (suc (suc k)) l = absurd (omega arith)
 
 -- the first row
-first_row : (d : ℕ) (S : Stairs) → IsReduced S → HasDimension d (vector S.a S.b S.c) → IsStair (Members d S) 0 (vector S.a S.b S.c)
+first_row : (d : ℕ) (S : Stairs) → IsReducedStair S → HasDimension d (vector S.a S.b S.c) → IsStair (Members d S) 0 (vector S.a S.b S.c)
 first_row d S r dim = record {
   may = record { member = ((own_rows S).first, dim); before = λ k l. absurd (omega arith); leads = r.a };
   least = λ w m. first_least w r m.member.0 m.leads;
@@ -107,7 +107,7 @@ first_row d S r dim = record {
 }
 
 -- the second row
-second_row : (d : ℕ) (S : Stairs) → IsReduced S → HasDimension d (vector (pos 0) S.e S.f) → IsStair (Members d S) 1 (vector (pos 0) S.e S.f)
+second_row : (d : ℕ) (S : Stairs) → IsReducedStair S → HasDimension d (vector (pos 0) S.e S.f) → IsStair (Members d S) 1 (vector (pos 0) S.e S.f)
 second_row d S r dim = record {
   may = record { member = ((own_rows S).second, dim); before = before_second (vector (pos 0) S.e S.f) refl; leads = r.e };
   least = λ w m. second_least w r m.member.0 (m.before 0 (omega arith)) m.leads;
@@ -117,7 +117,7 @@ second_row d S r dim = record {
 }
 
 -- the third row
-third_row : (d : ℕ) (S : Stairs) → IsReduced S → HasDimension d (vector (pos 0) (pos 0) S.i) → IsStair (Members d S) 2 (vector (pos 0) (pos 0) S.i)
+third_row : (d : ℕ) (S : Stairs) → IsReducedStair S → HasDimension d (vector (pos 0) (pos 0) S.i) → IsStair (Members d S) 2 (vector (pos 0) (pos 0) S.i)
 third_row d S r dim = record {
   may = record { member = ((own_rows S).third, dim); before = before_third (vector (pos 0) (pos 0) S.i) refl refl; leads = r.i };
   least = λ w m. third_least w r m.member.0 (m.before 0 (omega arith)) (m.before 1 (omega arith)) m.leads;
@@ -130,7 +130,7 @@ has_three : (v : Vector) → HasDimension 3 v
 has_three v e = absurd (omega (arith, e))
 
 -- the rows of dimension 2
-two_rows : (S : Stairs) → IsReduced S → HasFlatEnd S → IsStaircase (Members 2 S) 2 (rows_of 2 S)
+two_rows : (S : Stairs) → IsReducedStair S → HasFlatEnd S → IsStaircase (Members 2 S) 2 (rows_of 2 S)
 two_rows S r f = record { count = refl; each = each }
   where
     each : (i : ℕ) → i < 2 → IsStair (Members 2 S) i (slice_index_or (rows_of 2 S) i zero_vector)
@@ -139,7 +139,7 @@ two_rows S r f = record { count = refl; each = each }
     each (suc (suc i)) l = absurd (omega arith)
 
 -- the rows of dimension 3
-three_rows : (S : Stairs) → IsReduced S → IsStaircase (Members 3 S) 3 (rows_of 3 S)
+three_rows : (S : Stairs) → IsReducedStair S → IsStaircase (Members 3 S) 3 (rows_of 3 S)
 three_rows S r = record { count = refl; each = each }
   where
     each : (i : ℕ) → i < 3 → IsStair (Members 3 S) i (slice_index_or (rows_of 3 S) i zero_vector)
@@ -166,7 +166,7 @@ lent (suc (suc (suc zero))) h k S = refl
 lent (suc (suc (suc (suc d)))) h k S = absurd (omega arith)
 
 -- the rows' parts are at most 2^60
-pub rows_within : (d : ℕ) → 2 ≤ d → d ≤ 3 → {m : ℤ} (S : Stairs) → IsKept m S → All (IsWithin (2 ^ 60)) (rows_of d S)
+pub rows_within : (d : ℕ) → 2 ≤ d → d ≤ 3 → {m : ℤ} (S : Stairs) → IsBoundedStair m S → All (IsWithin (2 ^ 60)) (rows_of d S)
 rows_within d h k {m} S kept =
     let P = IsWithin (2 ^ 60) in
     let s = boxed_within kept.m_to (boxed_second kept) in

@@ -2,13 +2,13 @@
 use Rattle.std.specs.Prelude.{cond, ◌==◌, Bool}
 use Rattle.std.proofs.lemmas.Bool.{ne_eqb}
 use Rattle.std.proofs.Common.{◌≡◌, ℕ, ℤ, pos, ◌+ℤ◌, ◌*ℤ◌, ◌<ℤ◌, ◌≤ℤ◌, ◌^◌, refl, sym, ap, subst, ◌∙◌, arith}
-use Rattle.integers.proofs.Ring.{ring, linear}
+use Rattle.integers.proofs.numbers.Ring.{ring, linear}
 use Rattle.std.proofs.lemmas.Int.{ints}
 use Rattle.integers.specs.Vectors.{Vector, vector}
-use Rattle.integers.proofs.Vectors.{vector_equal}
+use Rattle.integers.proofs.vectors.Laws.{vector_equal}
 use Rattle.vecdim.specs.Lattices.{Members, AreMultiples}
 use Rattle.vecdim.specs.Stairs.{HasFlatEnd, Stairs, stairs}
-use Rattle.vecdim.specs.Steps.{HasBound, IsInserted, IsKept}
+use Rattle.vecdim.specs.Steps.{HasBound, IsInserted, IsBoundedStair}
 use Rattle.vecdim.proofs.Basis.{third_least}
 use Rattle.vecdim.proofs.Lattice.{own_rows}
 
@@ -25,7 +25,7 @@ start_bound b last k e = record {
 }
 
 -- what holds of it
-pub start_kept : (b last k : ℤ) → pos 0 <ℤ b → b <ℤ pos (2 ^ 60) → pos 0 <ℤ last → last ≤ℤ b → b ≡ k *ℤ last → IsKept b (stairs b (pos 0) (pos 0) b (pos 0) last)
+pub start_kept : (b last k : ℤ) → pos 0 <ℤ b → b <ℤ pos (2 ^ 60) → pos 0 <ℤ last → last ≤ℤ b → b ≡ k *ℤ last → IsBoundedStair b (stairs b (pos 0) (pos 0) b (pos 0) last)
 start_kept b last k h i l m e = record {
   m_from = h;
   m_to = omega (arith, linear, i);
@@ -58,11 +58,11 @@ pub flat_start : (b last : ℤ) → last ≡ pos 1 → HasFlatEnd (stairs b (pos
 flat_start b last e = record { c = refl; f = refl; i = e }
 
 -- with (0, 0, 1) for the last row
-pub start_one : (b last : ℤ) → pos 0 <ℤ b → b <ℤ pos (2 ^ 60) → last ≡ pos 1 → IsKept b (stairs b (pos 0) (pos 0) b (pos 0) last)
+pub start_one : (b last : ℤ) → pos 0 <ℤ b → b <ℤ pos (2 ^ 60) → last ≡ pos 1 → IsBoundedStair b (stairs b (pos 0) (pos 0) b (pos 0) last)
 start_one b last h i e = start_kept b last b h i (subst (λ t. pos 0 <ℤ t) (sym e) (omega (arith, ints))) (subst (λ t. t ≤ℤ b) (sym e) (omega (arith, ints, h))) (subst (λ t. b ≡ b *ℤ t) (sym e) (simp ring refl))
 
 -- with (0, 0, b) for the last row
-pub start_same : (b last : ℤ) → pos 0 <ℤ b → b <ℤ pos (2 ^ 60) → last ≡ b → IsKept b (stairs b (pos 0) (pos 0) b (pos 0) last)
+pub start_same : (b last : ℤ) → pos 0 <ℤ b → b <ℤ pos (2 ^ 60) → last ≡ b → IsBoundedStair b (stairs b (pos 0) (pos 0) b (pos 0) last)
 start_same b last h i e = start_kept b last (pos 1) h i (subst (λ t. pos 0 <ℤ t) (sym e) h) (omega (arith, linear, e)) (omega (arith, ints, e))
 
 -- the last part of a flat staircase's list

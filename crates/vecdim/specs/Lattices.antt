@@ -1,19 +1,15 @@
 -- Lattices, as sets of vectors: the members of a stair, and a lattice with vectors added.
 use Rattle.std.specs.Prelude.{List, ◌≡◌, ℕ, ℤ, ◌↔◌}
-use Rattle.integers.specs.Vectors.{Vector, zero_vector, HasDimension, plus, opposite, times, combination}
-use Rattle.vecdim.specs.Stairs.{Stairs, InStairs, HasStairShape, rows_of}
+use Rattle.integers.specs.Vectors.{Vector, HasDimension, DividesVector, plus, combination}
+use Rattle.vecdim.specs.Stairs.{Stairs, InStairs}
 
 -- the vectors of dimension d that are whole combinations of the rows
 abbrev pub Members : ℕ → Stairs → Vector → Type 0
 Members d S w = InStairs S w × HasDimension d w
 
--- each part of w is a multiple of b
-abbrev pub IsMultipleOf : ℤ → Vector → Type 0
-IsMultipleOf b w = (u : Vector) × (w ≡ times b u)
-
 -- these are the vectors of dimension d whose parts are multiples of b
 abbrev pub AreMultiples : ℕ → ℤ → (Vector → Type 0) → Type 0
-AreMultiples d b L = (w : Vector) → HasDimension d w → L w ↔ IsMultipleOf b w
+AreMultiples d b L = (w : Vector) → HasDimension d w → L w ↔ DividesVector b w
 
 -- w is the sum of a member of L and a whole combination of these vectors
 pub record IsSumWith (L : Vector → Type 0) (vs : List Vector) (w : Vector) : Type 0 where
@@ -26,13 +22,3 @@ pub record IsSumWith (L : Vector → Type 0) (vs : List Vector) (w : Vector) : T
 pub record IsWith (L : Vector → Type 0) (vs : List Vector) (M : Vector → Type 0) : Type 0 where
   pub out : (w : Vector) → M w → IsSumWith L vs w
   pub into : (w : Vector) → IsSumWith L vs w → M w
-
--- staircases with the same members have the same rows
-abbrev pub RowsAreOne : Type 0
-RowsAreOne = (d : ℕ) (S T : Stairs) → HasStairShape d S → HasStairShape d T → ((w : Vector) → Members d S w ↔ Members d T w) → rows_of d S ≡ rows_of d T
-
--- a set of vectors with 0 that is closed under sums and opposites
-pub record IsLattice (K : Vector → Type 0) : Type 0 where
-  pub zero : K zero_vector
-  pub sum : (v w : Vector) → K v → K w → K (plus v w)
-  pub turned : (v : Vector) → K v → K (opposite v)

@@ -1,7 +1,7 @@
 -- What the steps of an insertion keep, over plain numbers.
-use Rattle.std.specs.Prelude.{◌≡◌, ℤ, pos, ◌+ℤ◌, ◌*ℤ◌, ◌<ℤ◌, ◌≤ℤ◌, ◌^◌}
+use Rattle.std.specs.Prelude.{◌≡◌, ℤ, pos, ◌+ℤ◌, ◌-ℤ◌, ◌*ℤ◌, ◌<ℤ◌, ◌≤ℤ◌, ◌^◌}
 use Rattle.integers.specs.Vectors.{Vector, vector}
-use Rattle.vecdim.specs.Stairs.{Stairs, InStairs, IsReduced}
+use Rattle.vecdim.specs.Stairs.{Stairs, InStairs, IsReducedStair}
 
 -- w is a whole combination of r and v, up to multiples of m in the two later parts
 pub record Combo (m : ℤ) (r v w : Vector) : Type 0 where
@@ -40,14 +40,20 @@ pub record HasBound (S : Stairs) (m : ℤ) : Type 0 where
   pub third_z : m ≡ third_k *ℤ S.i
 
 -- what holds between two insertions
-pub record IsKept (m : ℤ) (S : Stairs) : Type 0 where
+pub record IsBoundedStair (m : ℤ) (S : Stairs) : Type 0 where
   pub m_from : pos 0 <ℤ m
   pub m_to : m ≤ℤ pos (2 ^ 60)
-  pub reduced : IsReduced S
+  pub reduced : IsReducedStair S
   pub bound : HasBound S m
   pub a_to : S.a ≤ℤ m
   pub e_to : S.e ≤ℤ m
   pub i_to : S.i ≤ℤ m
+
+-- no pivot is past 2^60
+pub record HasSmallPivots (S : Stairs) : Type 0 where
+  pub a : S.a ≤ℤ pos (2 ^ 60)
+  pub e : S.e ≤ℤ pos (2 ^ 60)
+  pub i : S.i ≤ℤ pos (2 ^ 60)
 
 -- w is a member of the lattice plus a multiple of v
 pub record InSum (S : Stairs) (v w : Vector) : Type 0 where
@@ -65,5 +71,13 @@ pub record HasAdded (S T : Stairs) (v : Vector) : Type 0 where
 
 -- what an insertion makes
 pub record IsInserted (m : ℤ) (S T : Stairs) (v : Vector) : Type 0 where
-  pub kept : IsKept m T
+  pub kept : IsBoundedStair m T
   pub added : HasAdded S T v
+
+-- v is the rests r, and q.x, q.y and q.z times the rows; each rest is from 0 to below the pivot
+pub record IsDivided (S : Stairs) (v q r : Vector) : Type 0 where
+  pub low : (pos 0 ≤ℤ r.x) × (pos 0 ≤ℤ r.y) × (pos 0 ≤ℤ r.z)
+  pub high : (r.x <ℤ S.a) × (r.y <ℤ S.e) × (r.z <ℤ S.i)
+  pub x : v.x ≡ r.x +ℤ S.a *ℤ q.x
+  pub y : v.y -ℤ S.b *ℤ q.x ≡ r.y +ℤ S.e *ℤ q.y
+  pub z : (v.z -ℤ S.c *ℤ q.x) -ℤ S.f *ℤ q.y ≡ r.z +ℤ S.i *ℤ q.z

@@ -11,8 +11,11 @@ returns-then-rest-eq0-clause-greatest c = c.loop-rest.invariant c.loop-rest.divi
 pub returns-then-rest-eq0-clause-combination : goal.returns-then-rest-eq0-clause-combination
 returns-then-rest-eq0-clause-combination c = gcd_is_combination c.args.a c.args.b c.loop-rest.divisor (returns-then-rest-eq0-clause-greatest c)
 
+pub returns-then-divisor-clause-combination : goal.returns-then-divisor-clause-combination
+returns-then-divisor-clause-combination c = gcd_is_combination c.args.a c.args.b c.short_gcd.result (c.loop-rest.invariant c.short_gcd.result c.short_gcd.ensures)
+
 pub returns-clause-greatest : goal.returns-clause-greatest
-returns-clause-greatest c = c.loop-rest.invariant c.short_gcd.result (IsGcd-from_mod c.loop-rest.divisor c.loop-rest.rest c.short_gcd.result c.short_gcd.ensures)
+returns-clause-greatest c = c.loop-rest.invariant c.short_gcd-2.result (IsGcd-from_mod c.loop-rest.divisor c.loop-rest.rest c.short_gcd-2.result c.short_gcd-2.ensures)
 
 pub returns-clause-combination : goal.returns-clause-combination
-returns-clause-combination c = gcd_is_combination c.args.a c.args.b c.short_gcd.result (returns-clause-greatest c)
+returns-clause-combination c = gcd_is_combination c.args.a c.args.b c.short_gcd-2.result (returns-clause-greatest c)

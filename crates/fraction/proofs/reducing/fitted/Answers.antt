@@ -3,7 +3,7 @@ use Rattle.std.specs.Prelude.{pos}
 use Rattle.std.specs.Int.{w64}
 use Rattle.std.proofs.lemmas.Int.{ints}
 use Rattle.fraction.specs.Quotients.{signed_ratio}
-use Rattle.fraction.proofs.Narrow.{fraction_reduced}
+use Rattle.fraction.proofs.Narrow.{fraction_reduced, fraction_small}
 use Rattle.fraction.proofs.reducing.fitted.Goals as goal
 use Rattle.fraction.proofs.reducing.fitted.Goals.{then-negative, else-negative}
 
@@ -13,5 +13,6 @@ invariant_of-result c =
     let n : to_z w64 c.if-negative.num-bits ≡ (signed_ratio c.args.negative c.args.num c.args.den).num = search rules in
     record {
       positive = omega (arith, ints);
-      reduced = fraction_reduced c.args.negative c.args.num c.args.den (to_z w64 c.if-negative.num-bits) (to_z w64 c.args.den) n d c.requires.positive c.requires.coprime (c.if-num-gt-MOST.false, c.if-den-gt-MOST.false);
+      reduced = fraction_reduced c.args.negative c.args.num c.args.den (to_z w64 c.if-negative.num-bits) (to_z w64 c.args.den) n d c.requires.positive c.requires.coprime;
+      small = fraction_small c.args.negative c.args.num c.args.den (to_z w64 c.if-negative.num-bits) (to_z w64 c.args.den) n d (c.if-num-gt-MOST.false, c.if-den-gt-MOST.false);
     }

@@ -2,11 +2,13 @@ use Rattle.std.proofs.Common.{◌↔◌, ◌≢◌, ℤ, pos, subst}
 use Rattle.std.specs.Prelude.{FitsSigned, IsTrue}
 use Rattle.std.specs.Int.{w128}
 use Rattle.std.proofs.lemmas.Int.{to_z-of_z}
-use Rattle.vecdim.proofs.FewVectors.{three_vectors, through}
+use Rattle.integers.proofs.vectors.FewVectors.{three_vectors}
+use Rattle.vecdim.proofs.Deciding.{through}
 use Rattle.vecdim.proofs.products.three_independent.Goals as goal
 
 pub returns : goal.returns
 returns g c =
-    let r : FitsSigned w128 c.product.result = record { sfits = c.product.type_inv } in
+    let r : FitsSigned w128 c.product_of_three.result = record { sfits = c.product_of_three.type_inv } in
     let e = c.is_not_zero.ensures in
-    through (subst (λ (t : ℤ). IsTrue c.is_not_zero.result ↔ (t ≢ pos 0)) c.product.ensures (simp to_z-of_z at e)) (three_vectors c.args.a.now c.args.b.now c.args.c.now)
+    let n = subst (λ (t : ℤ). IsTrue c.is_not_zero.result ↔ (t ≢ pos 0)) c.product_of_three.ensures (simp to_z-of_z at e) in
+    through n (three_vectors c.args.a.now c.args.b.now c.args.c.now)

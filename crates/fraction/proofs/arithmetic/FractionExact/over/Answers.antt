@@ -3,7 +3,7 @@ use Rattle.std.specs.Prelude.{FitsSigned, ℤ}
 use Rattle.std.specs.Int.{w128}
 use Rattle.std.proofs.lemmas.Int.{to_z-of_z}
 use Rattle.fraction.specs.Quotients.{quotient}
-use Rattle.fraction.specs.Values.{value_of}
+use Rattle.fraction.specs.Values.{fraction_value}
 use Rattle.fraction.proofs.Operations.{cross_not_zero, over_or}
 use Rattle.fraction.proofs.arithmetic.FractionExact.over.Goals as goal
 
@@ -11,7 +11,7 @@ pub reduced-requires : goal.reduced-requires
 reduced-requires c =
     let y : FitsSigned w128 c.cross-2.result = record { sfits = c.cross-2.type_inv } in
     let z : c.args.o.num ≢ pos 0 = search rules in
-    simp to_z-of_z (subst (λ (t : ℤ). t ≢ pos 0) (sym c.cross-2.ensures.value) (cross_not_zero (value_of c.args.o) (value_of c.args.self) c.args.self.reduced.positive z))
+    simp to_z-of_z (subst (λ (t : ℤ). t ≢ pos 0) (sym c.cross-2.ensures.value) (cross_not_zero (fraction_value c.args.o) (fraction_value c.args.self) c.args.self.reduced.positive z))
 
 pub returns : goal.returns
 returns c =

@@ -1,0 +1,11 @@
+pub mod Bounds
+pub mod Coordinates
+pub mod Cramer
+pub mod FewVectors
+pub mod Groups
+pub mod Independence
+pub mod Laws
+pub mod LinearRelations
+pub mod OneStaircase
+pub mod StairBasis
+pub mod StairCoordinates

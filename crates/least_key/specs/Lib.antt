@@ -1,0 +1,3 @@
+pub mod AnyPlacements
+pub mod Causes
+pub mod Truths

@@ -1,0 +1,24 @@
+-- Small nets that the theorems are tried on.
+use Rattle.std.specs.Prelude.{pos, [], ◌∷◌}
+use Rattle.integers.specs.Vectors.{vector, zero_vector}
+use Rattle.periodic_net.specs.Graph.{Graph, arc}
+
+-- one vertex with a loop along each axis
+abbrev pub square_net : Graph
+square_net = record { dimension = 2; vertices = 1; edges = arc 1 1 (vector (pos 1) (pos 0) (pos 0)) ∷ arc 1 1 (vector (pos 0) (pos 1) (pos 0)) ∷ [] }
+
+-- two vertices with three edges from the one to the other
+abbrev pub honeycomb_net : Graph
+honeycomb_net = record {
+  dimension = 2;
+  vertices = 2;
+  edges = arc 1 2 zero_vector ∷ arc 1 2 (vector (pos 1) (pos 0) (pos 0)) ∷ arc 1 2 (vector (pos 0) (pos 1) (pos 0)) ∷ [];
+}
+
+-- the square net with a vertex that hangs on its own: both stand in one place
+abbrev pub hanging_net : Graph
+hanging_net = record {
+  dimension = 2;
+  vertices = 2;
+  edges = arc 1 1 (vector (pos 1) (pos 0) (pos 0)) ∷ arc 1 1 (vector (pos 0) (pos 1) (pos 0)) ∷ arc 1 2 zero_vector ∷ [];
+}

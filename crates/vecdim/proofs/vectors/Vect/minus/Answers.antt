@@ -1,0 +1,9 @@
+use Rattle.std.proofs.Common.{rules, ◌≡◌, ◌+◌, sym, subst}
+use Rattle.integers.specs.Vectors.{minus, IsWithin}
+use Rattle.integers.proofs.vectors.Bounds.{bounded_minus}
+use Rattle.vecdim.proofs.vectors.Vect.minus.Goals as goal
+
+pub returns-clause-within : goal.returns-clause-within
+returns-clause-within g c =
+    let e : c.to_vector.result ≡ minus c.args.self.now c.args.other.now = search rules in
+    λ m n h k. subst (IsWithin (m + n)) (sym e) (bounded_minus c.args.self.now c.args.other.now m n h k)

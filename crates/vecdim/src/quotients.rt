@@ -1,0 +1,62 @@
+// Vectors modulo a number, and divided by a divisor of their parts.
+ghost use Rattle.std.specs.Prelude.{◌≡◌, ◌≤◌, ℤ, pos, ◌*ℤ◌, ◌<ℤ◌, unsigned_abs};
+
+use crate::columns::modulo;
+use crate::{Triple, Vect};
+
+// A number divided by a divisor of it.
+fn quotient(a: i128, g: i128) -> i128
+    requires positive { pos 0 <ℤ g }
+    requires divides { (w : ℤ) × (a ≡ g *ℤ w) }
+    ensures value { a ≡ g *ℤ result }
+    ensures within { unsigned_abs result ≤ unsigned_abs a }
+{
+    a / g
+}
+
+impl Triple {
+    ghost use Rattle.std.specs.Prelude.{◌≡◌, ℕ, ◌^◌, pos, ◌<ℤ◌};
+    ghost use Rattle.integers.specs.Vectors.{Vector, times, IsModulo, IsWithin};
+
+    /// The vector modulo `m`, part by part.
+    pub fn modulo(&self, m: i128) -> Triple
+        requires positive { pos 0 <ℤ m }
+        requires vector { IsWithin (2 ^ 126) self.now }
+        ensures { IsModulo m self.now result }
+    {
+        Triple {
+            x: modulo(self.x, m),
+            y: modulo(self.y, m),
+            z: modulo(self.z, m),
+        }
+    }
+
+    /// The vector divided by a divisor of its parts.
+    pub fn over(&self, g: i128) -> Triple
+        requires positive { pos 0 <ℤ g }
+        requires vector { IsWithin (2 ^ 126) self.now }
+        requires divides { (w : Vector) × (self.now ≡ times g w) }
+        ensures value { self.now ≡ times g result }
+        ensures within { (n : ℕ) → IsWithin n self.now → IsWithin n result }
+    {
+        Triple {
+            x: quotient(self.x, g),
+            y: quotient(self.y, g),
+            z: quotient(self.z, g),
+        }
+    }
+}
+
+impl<const D: usize> Vect<D> {
+    ghost use Rattle.std.specs.Prelude.{◌≤◌, ◌^◌, pos, ◌<ℤ◌, unsigned_abs};
+    ghost use Rattle.integers.specs.Vectors.{IsModulo};
+
+    /// The vector modulo `m`, part by part.
+    pub fn modulo(&self, m: i128) -> Vect<D>
+        requires positive { pos 0 <ℤ m }
+        requires small { unsigned_abs m ≤ 2 ^ 61 }
+        ensures { IsModulo m self.now result }
+    {
+        self.to_triple().modulo(m).to_vector()
+    }
+}

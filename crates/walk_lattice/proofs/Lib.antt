@@ -1,0 +1,16 @@
+pub mod ClosedWalks
+pub mod Directions
+pub mod Dividing
+pub mod EdgeWalks
+pub mod Expanding
+pub mod Filtered
+pub mod Finding
+pub mod FlatNormals
+pub mod Generated
+pub mod Growing
+pub mod Orthogonal
+pub mod RankAnswers
+pub mod Reductions
+pub mod Searching
+pub mod Spanned
+pub mod Starting

@@ -1,0 +1,42 @@
+use Rattle.std.proofs.Common.{◌-◌, ◌*◌, ◌≤◌, length, lit<, arith, subst, sym, ap, ◌∙◌}
+use Rattle.periodic_net.specs.Graph.{Arc, arc, IsArc}
+use Rattle.quotient_graph.specs.Stars.{IsArcFrom}
+use Rattle.walk_lattice.specs.Search.{found_with}
+use Rattle.walk_lattice.proofs.Expanding.{grows_none, within_more}
+use Rattle.walk_lattice.proofs.Growing.{turn, leads_more, leads_all}
+use Rattle.walk_lattice.proofs.search.expand.Goals as goal
+use Rattle.periodic_net.specs.Limits.{most_walk, most_shift}
+
+pub further-requires : goal.further-requires
+further-requires g c =
+    let few = c.requires.few in
+    let here = subst (IsArcFrom c.args.g.now c.args.u) (sym c.arc-item.is ∙ sym c.arc.view_is) (c.arcs-arc-items.ensures.each c.loop-arc.arc-index c.arc-item.result c.loop-arc-test.true) in
+    (lit< tt, (within_more (most_shift * (length c.args.order.now.items - 1)) most_walk c.args.walk.now (omega arith) c.requires.near, here.shift))
+
+pub find-requires : goal.find-requires
+find-requires g c =
+    let here = subst (IsArcFrom c.args.g.now c.args.u) (sym c.arc-item.is ∙ sym c.arc.view_is) (c.arcs-arc-items.ensures.each c.loop-arc.arc-index c.arc-item.result c.loop-arc-test.true) in
+    (lit< tt, (here.to.0, subst (λ n. c.arc.inside.to ≤ n) (sym c.loop-arc.invariant.grows.search.count) here.to.1))
+
+pub loop-arc-init : goal.loop-arc-init
+loop-arc-init g c = record { grows = grows_none c.args.g.now c.args.start c.args.found.now c.args.order.now.items c.requires.search; leads = λ k a l. absurd (omega arith) }
+
+pub loop-arc-preserved : goal.loop-arc-preserved
+loop-arc-preserved g c =
+    let G = c.args.g.now in
+    let row = c.arcs-arc-items.result.now in
+    let here = subst (IsArcFrom G c.args.u) (sym c.arc-item.is ∙ sym c.arc.view_is) (c.arcs-arc-items.ensures.each c.loop-arc.arc-index c.arc-item.result c.loop-arc-test.true) in
+    let is_arc = subst (λ u. IsArc G (arc u c.arc.inside.to c.arc.inside.shift)) here.from here.is_arc in
+    let t = turn G c.args.start c.args.found.now c.args.order.now.items c.args.u c.arc.inside.to c.args.walk.now c.arc.inside.shift c.requires.some c.requires.vertex c.requires.known c.requires.near is_arc here.to here.shift
+    c.loop-arc.found c.loop-arc.order.items c.find.new.found c.find.new.order.items c.loop-arc.invariant.grows
+    (c.in_ok-find.ensures.found ∙ ap (found_with c.loop-arc.found c.arc.inside.to) c.further.ensures) c.in_ok-find.ensures.order c.in_ok-find.ensures.together in
+    record {
+      grows = t.grows;
+      leads = leads_more row c.loop-arc.found c.find.new.found c.loop-arc.arc-index c.arc-item.result c.arc.inside.to (sym c.arc-item.is) (ap (λ (a : Arc). a.to) c.arc.view_is) c.loop-arc-test.true t.still c.loop-arc.invariant.leads t.leads;
+    }
+
+pub returns : goal.returns
+returns g c = record {
+  grows = c.loop-arc.invariant.grows;
+  leads = leads_all c.args.g.now c.args.start c.arcs-arc-items.result.now c.loop-arc.found c.args.u c.loop-arc.arc-index c.loop-arc-test.false c.arcs-arc-items.ensures.every c.loop-arc.invariant.leads;
+}

@@ -1,0 +1,7 @@
+pub mod Bounds
+pub mod Flat
+pub mod Full
+pub mod Generators
+pub mod Lattices
+pub mod Ranks
+pub mod Search
