@@ -1,4 +1,3 @@
-pub mod DifferentMembers
 pub mod Rising
 pub mod Lists
 pub mod SortedStars
