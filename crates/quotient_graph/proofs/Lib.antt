@@ -4,6 +4,7 @@ pub mod SortedStars
 pub mod GraphsInMemory
 pub mod ReadGraphs
 pub mod EdgeLists
+pub mod SquareEdges
 pub mod Reach
 pub mod PositionBounds
 pub mod Fitting
