@@ -1,7 +1,7 @@
 -- Lists that are made from the edges of a graph are those of a graph in memory.
-use Rattle.std.proofs.Common.{◌≡◌, ℕ, zero, suc, ◌<◌, ◌≤◌, List, [], ◌∷◌, length, get_or, refl, sym, ap, subst, ◌∙◌, arith}
+use Rattle.std.proofs.Common.{ℕ, ◌≤◌, List, sym, subst}
 use Rattle.std.specs.List.{All}
-use Rattle.integers.proofs.lists.Members.{in_from_contains, IsIn, AreApart, pairs_from_apart}
+use Rattle.integers.proofs.lists.Members.{pairs_from_apart}
 use Rattle.periodic_net.specs.Graph.{Graph, Arc, IsGraph, IsEdge, arcs_from}
 use Rattle.integers.specs.Vectors.{IsWithin}
 use Rattle.periodic_net.proofs.ArcLists.{arcs_apart}
@@ -11,7 +11,7 @@ use Rattle.std.specs.List.Sorted.{IsPermutation}
 use Rattle.std.proofs.lemmas.List.Sorted.{All-permutation, length_permutation}
 use Rattle.quotient_graph.specs.Stars.{IsGraphInMemory, graph_with}
 use Rattle.quotient_graph.specs.Building.{EdgeFits, AreStars}
-use Rattle.quotient_graph.proofs.DifferentMembers.{different_permuted}
+use Rattle.integers.proofs.lists.Apart.{permuted_pairs}
 use Rattle.quotient_graph.proofs.Rising.{rising_from_sorted}
 
 pub edges_fit : (G : Graph) → IsGraph G → IsSmall G → All (EdgeFits G.vertices) G.edges
@@ -30,7 +30,7 @@ is_in_memory G stars g s r h = record {
   count = h.count;
   each = λ u v. record {
     all = (h.each u v.0 v.1).same;
-    rising = rising_from_sorted _ (h.each u v.0 v.1).sorted (different_permuted (arcs_from G u) _ (h.each u v.0 v.1).same (pairs_from_apart (arcs_from G u) (arcs_apart G g u)));
+    rising = rising_from_sorted _ (h.each u v.0 v.1).sorted (permuted_pairs (arcs_from G u) _ (h.each u v.0 v.1).same (pairs_from_apart (arcs_from G u) (arcs_apart G g u)));
   };
 }
 
@@ -40,7 +40,7 @@ reordered d n es fs p g = record {
   dimension = g.dimension;
   vertices = g.vertices;
   edges = λ k e l. let h = All-permutation (IsEdge (graph_with d n es)) es fs p g.edges k e l in record { from = h.from; to = h.to; shift = h.shift; spelling = h.spelling };
-  different = different_permuted es fs p g.different;
+  different = permuted_pairs es fs p g.different;
 }
 
 pub reordered_small : (d n : ℕ) (es fs : List Arc) → IsPermutation es fs → IsSmall (graph_with d n es) → IsSmall (graph_with d n fs)

@@ -12,7 +12,7 @@ use Rattle.std.proofs.lemmas.List.Sorted.{sorted_far, ranks_by}
 use Rattle.integers.specs.Vectors.{vector, parts}
 use Rattle.periodic_net.specs.Graph.{Arc, arc}
 use Rattle.quotient_graph.specs.Order.{arc_numbers, AreRising}
-use Rattle.quotient_graph.proofs.DifferentMembers.{different_permuted}
+use Rattle.integers.proofs.lists.Apart.{permuted_pairs}
 
 -- the order of arcs, by their numbers
 abbrev pub arc_cmp : Arc → Arc → Ordering
@@ -52,4 +52,4 @@ rising_from_sorted xs up different i j d l m =
 
 -- different arcs, after a sort
 pub rising_after_sort : (xs ys : List Arc) → IsPermutation xs ys → IsSorted arc_cmp ys → AllPairs (λ a b. a ≢ b) xs → AreRising ys
-rising_after_sort xs ys p up apart = rising_from_sorted ys up (different_permuted xs ys p apart)
+rising_after_sort xs ys p up apart = rising_from_sorted ys up (permuted_pairs xs ys p apart)
