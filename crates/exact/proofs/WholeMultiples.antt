@@ -1,5 +1,5 @@
 -- What a number divides, with the quotient: how proofs read `Same` and `CanCancel`.
-use Rattle.std.proofs.Common.{◌≡◌, ℕ, suc, arith, ◌*◌, ap, ◌∙◌}
+use Rattle.std.proofs.Common.{◌≡◌, ℕ, suc, arith, ap, ◌∙◌}
 use Rattle.std.specs.Prelude.{ℤ, pos, negsuc, neg_ℤ, ◌*ℤ◌, ◌-ℤ◌, unsigned_abs}
 use Rattle.std.specs.Int.{◌∣◌}
 use Rattle.std.proofs.lemmas.Int.{unsigned_abs-mul}
