@@ -9,6 +9,7 @@ use Rattle.integers.proofs.vectors.Coordinates.{IsCoordinate, coordinate_x, coor
 use Rattle.periodic_net.specs.Graph.{Graph, Arc, IsQuotientVertex}
 use Rattle.periodic_net.specs.Placement.{Placement, base, arc_vector}
 use Rattle.exact.specs.Ratio.{Ratio, Same, ratio_plus, ratio_minus, whole}
+use Rattle.exact.proofs.WholeMultiples.{difference_multiple}
 use Rattle.elimination.specs.Equations.{ratio_sum, arc_gain}
 use Rattle.barycentre.specs.Positions.{IsScaled}
 
@@ -85,7 +86,7 @@ module _ (G : Graph) (p : ℕ → ℕ → Ratio) (P : Placement) (scaled : IsSca
   vectors_balance as' inside s =
       let h = sum_gains as' inside in
       let r = ratio_sum (map (arc_gain (λ u. p u c) c) as') in
-      let none = no_numerator r.num (pos r.den) s.difference.0 s.difference.1 in
+      let none = no_numerator r.num (pos r.den) (difference_multiple s).0 (difference_multiple s).1 in
       cancel_factor (pos r.den) (part c (vector_sum (map (arc_vector P) as'))) (pos 0) (positive_not_zero r.den h.positive)
       (turn (pos r.den) (part c (vector_sum (map (arc_vector P) as'))) ∙ h.is ∙ ap (λ x. x *ℤ pos P.denominator) none ∙ zeros (pos P.denominator) (pos r.den))
     where

@@ -7,6 +7,7 @@ use Rattle.std.proofs.lemmas.Nat.Gcd.{IsGcd-from_zero, IsGcd-swap}
 use Rattle.integers.proofs.numbers.Ring.{ring, linear}
 use Rattle.periodic_net.specs.Graph.{Graph}
 use Rattle.exact.specs.Ratio.{Ratio, Same, IsInLowestTerms, whole}
+use Rattle.exact.proofs.WholeMultiples.{difference_multiple}
 use Rattle.vecdim.specs.declared.vectors.Row.{Row}
 use Rattle.fraction.specs.declared.numbers.Fraction.{Fraction}
 use Rattle.fraction.specs.Values.{fraction_value}
@@ -36,7 +37,7 @@ no_numerator : (n d k : ℤ) → n *ℤ pos 1 -ℤ pos 0 *ℤ d ≡ pos 0 *ℤ k
 no_numerator n d k e = let q = simp ring at e in omega (arith, linear, q)
 
 zero_numerator : (r : Ratio) → Same 0 r (whole (pos 0)) → r.num ≡ pos 0
-zero_numerator r s = no_numerator r.num (pos r.den) s.difference.0 s.difference.1
+zero_numerator r s = no_numerator r.num (pos r.den) (difference_multiple s).0 (difference_multiple s).1
 
 -- in a plane the third parts are 0
 option_flat : {D : ℕ} (rows : List (Row Fraction D)) (i : ℕ) → ((i : ℕ) (d : Row Fraction D) → i < length rows → Same 0 (fraction_value (get_or rows i d).z) (whole (pos 0)))

@@ -9,8 +9,9 @@ use Rattle.integers.proofs.numbers.Bezout.{bezout, Bezout}
 use Rattle.integers.proofs.numbers.Gcd.{bezout_gcd, natural_multiple}
 use Rattle.integers.proofs.numbers.Divisors.{only_one}
 use Rattle.std.proofs.Math.Nat.{mul_comm}
-use Rattle.exact.specs.Ratio.{Ratio, Divides, IsDenominator, HasInverse}
+use Rattle.exact.specs.Ratio.{Ratio, IsDenominator, HasInverse}
 use Rattle.exact.specs.Values.{CanCancel}
+use Rattle.exact.proofs.WholeMultiples.{IsWholeMultiple, cancels_of, cancel}
 
 -- z is +n or -n
 abbrev IsSigned : ℤ → ℕ → Type 0
@@ -34,18 +35,18 @@ coprime_cancels m d g = by (bezout d m)
     by b =
         let one : b.g ≡ 1 = same_from_IsGcd d m b.g 1 (bezout_gcd d m b) g in
         let f : pos 1 ≡ b.s *ℤ pos d +ℤ b.t *ℤ pos m = ap pos (sym one) ∙ b.g_is in
-        record { cancels = λ z h. (_, coprime_step (pos m) (pos d) z h.0 b.s b.t h.1 f) }
+        cancels_of (λ z h. (_, coprime_step (pos m) (pos d) z h.0 b.s b.t h.1 f))
 
 -- where m is 0 a number other than 0 can be cancelled
 pub not_zero_cancels : (z : ℤ) → z ≢ pos 0 → CanCancel 0 z
-not_zero_cancels z n = record { cancels = λ x h. (pos 0, cancel_factor z x (pos 0) n (h.1 ∙ zeros h.0 z)) }
+not_zero_cancels z n = cancels_of (λ x h. (pos 0, cancel_factor z x (pos 0) n (h.1 ∙ zeros h.0 z)))
   where
     zeros : (k z : ℤ) → pos 0 *ℤ k ≡ z *ℤ pos 0
     zeros k z = simp ring refl
 
 -- -z can be cancelled where z can
 pub opposite_cancels : {m : ℕ} {z : ℤ} → CanCancel m z → CanCancel m (neg_ℤ z)
-opposite_cancels {m} {z} h = record { cancels = λ x d. h.cancels x (neg_ℤ d.0, flip (pos m) z x d.0 d.1) }
+opposite_cancels {m} {z} h = cancels_of (λ x d. cancel h x (neg_ℤ d.0, flip (pos m) z x d.0 d.1))
   where
     flip : (m z x k : ℤ) → neg_ℤ z *ℤ x ≡ m *ℤ k → z *ℤ x ≡ m *ℤ neg_ℤ k
     flip m z x k e = let p = simp ring at e in simp ring (omega (arith, linear, p))
@@ -65,7 +66,7 @@ inverse_cancels {m} {a} h = ⊎_elim
 
 -- where g·k can be cancelled modulo g·l, and g·l is not 0, g is 1
 common_is_one : (g k l : ℕ) → g * l ≢ 0 → CanCancel (g * l) (pos (g * k)) → g ≡ 1
-common_is_one g k l n h = by (h.cancels (pos l) (pos k, exchange (pos g) (pos k) (pos l)))
+common_is_one g k l n h = by (cancel h (pos l) (pos k, exchange (pos g) (pos k) (pos l)))
   where
     exchange : (g k l : ℤ) → (g *ℤ k) *ℤ l ≡ (g *ℤ l) *ℤ k
     exchange g k l = simp ring refl
@@ -74,7 +75,7 @@ common_is_one g k l n h = by (h.cancels (pos l) (pos k, exchange (pos g) (pos k)
     positive zero n = absurd (n (omega arith))
     positive (suc l) n = omega arith
 
-    by : Divides (g * l) (pos l) → g ≡ 1
+    by : IsWholeMultiple (g * l) (pos l) → g ≡ 1
     by d = let m = natural_multiple (g * l) l d.0 d.1 in only_one l g m.0 (positive l n) (m.1 ∙ ap (λ t. t * m.0) (mul_comm g l))
 
 -- what can be cancelled has no common divisor with m above 1
@@ -89,7 +90,7 @@ cancelled_is_coprime m n ne h = by (bezout n m)
 
 -- 0 cannot be cancelled where m is 0
 zero_stays : (z : ℤ) → CanCancel 0 z → z ≢ pos 0
-zero_stays z h e = let d = h.cancels (pos 1) (pos 0, ap (λ t. t *ℤ pos 1) e) in positive_not_zero 1 (omega arith) (d.1 ∙ zeros d.0)
+zero_stays z h e = let d = cancel h (pos 1) (pos 0, ap (λ t. t *ℤ pos 1) e) in positive_not_zero 1 (omega arith) (d.1 ∙ zeros d.0)
   where
     zeros : (k : ℤ) → pos 0 *ℤ k ≡ pos 0
     zeros k = simp ring refl
@@ -107,7 +108,7 @@ cancelled_has_inverse {m} {a} h = record {
 
 -- what can be cancelled modulo something other than 1 is no 0
 positive_from : (m d : ℕ) → m ≢ 1 → CanCancel m (pos d) → 1 ≤ d
-positive_from m zero n h = let d = h.cancels (pos 1) (pos 0, zeros (pos m)) in let k = natural_multiple m 1 d.0 d.1 in absurd (n (only_one 1 m k.0 (omega arith) (k.1 ∙ ap (λ t. t * k.0) (sym (one m)))))
+positive_from m zero n h = let d = cancel h (pos 1) (pos 0, zeros (pos m)) in let k = natural_multiple m 1 d.0 d.1 in absurd (n (only_one 1 m k.0 (omega arith) (k.1 ∙ ap (λ t. t * k.0) (sym (one m)))))
   where
     zeros : (m : ℤ) → pos 0 *ℤ pos 1 ≡ m *ℤ pos 0
     zeros m = simp ring refl

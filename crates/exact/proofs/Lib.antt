@@ -7,3 +7,4 @@ pub mod Residues
 pub mod Ring
 pub mod Semiring
 pub mod Values
+pub mod WholeMultiples

@@ -12,6 +12,7 @@ use Rattle.std.proofs.lemmas.Bool.Decides.{Decides-and, Decides-int_eq, Decides-
 use Rattle.integers.proofs.numbers.Ring.{ring, linear, cancel_factor, positive_not_zero}
 use Rattle.integers.proofs.numbers.Gcd.{divides_multiple, euclid}
 use Rattle.exact.specs.Ratio.{Ratio, Same, IsDenominator, IsInLowestTerms, ratio}
+use Rattle.exact.proofs.WholeMultiples.{difference_multiple}
 use Rattle.exact.proofs.Values.{same_refl}
 
 -- a fraction is in lowest terms in one way
@@ -48,7 +49,7 @@ difference_step x y k e = let p = simp ring at e in omega (arith, linear, p)
 -- equal values have equal cross products
 pub crossed : (p q : Ratio) → Same 0 p q → p.num *ℤ pos q.den ≡ q.num *ℤ pos p.den
 crossed p q s =
-    difference_step (p.num *ℤ pos q.den) (q.num *ℤ pos p.den) s.difference.0 s.difference.1
+    difference_step (p.num *ℤ pos q.den) (q.num *ℤ pos p.den) (difference_multiple s).0 (difference_multiple s).1
 
 -- equal cross products have equal absolute values
 pub sizes_crossed : (x y : ℤ) (a b : ℕ) → x *ℤ pos b ≡ y *ℤ pos a → unsigned_abs x * b ≡ unsigned_abs y * a

@@ -5,6 +5,7 @@ use Rattle.integers.proofs.numbers.Ring.{ring, linear}
 use Rattle.exact.specs.Ratio.{Ratio, Same, HasInverse, ratio_times, ratio_over, inverse_of}
 use Rattle.exact.specs.Values.{HasValue}
 use Rattle.exact.specs.Values.{CanCancel}
+use Rattle.exact.proofs.WholeMultiples.{same_of, difference_multiple, cancels_of, cancel}
 use Rattle.exact.proofs.Values.{product_cancels}
 use Rattle.exact.proofs.Cancelling.{inverse_cancels, cancelled_has_inverse, opposite_cancels}
 
@@ -28,11 +29,11 @@ over_step_neg m rn rd on od sn sd an ad bn bd k l j e f h =
 pub over_same : {m : ℕ} (r o s : Ratio) (an : ℤ) (ad : ℕ) (b : Ratio) → CanCancel m (pos o.den) → CanCancel m (pos s.den) → Same m (ratio_times r o) s → Same m o (record { num = an; den = ad }) → Same m s b → Same m r (ratio_times b (inverse_of an ad))
 unfolding ratio_times
 over_same {m} r o s (pos n) ad b x y e f g =
-    let h = e.difference in let i = f.difference in let j = g.difference in
-    record { difference = (product_cancels x y).cancels _ (_, over_step (pos m) r.num (pos r.den) o.num (pos o.den) s.num (pos s.den) (pos n) (pos ad) b.num (pos b.den) h.0 j.0 i.0 h.1 j.1 i.1) }
+    let h = difference_multiple e in let i = difference_multiple f in let j = difference_multiple g in
+    same_of (cancel (product_cancels x y) _ (_, over_step (pos m) r.num (pos r.den) o.num (pos o.den) s.num (pos s.den) (pos n) (pos ad) b.num (pos b.den) h.0 j.0 i.0 h.1 j.1 i.1))
 over_same {m} r o s (negsuc n) ad b x y e f g =
-    let h = e.difference in let i = f.difference in let j = g.difference in
-    record { difference = (product_cancels x y).cancels _ (_, over_step_neg (pos m) r.num (pos r.den) o.num (pos o.den) s.num (pos s.den) (negsuc n) (pos ad) b.num (pos b.den) h.0 j.0 i.0 h.1 j.1 i.1) }
+    let h = difference_multiple e in let i = difference_multiple f in let j = difference_multiple g in
+    same_of (cancel (product_cancels x y) _ (_, over_step_neg (pos m) r.num (pos r.den) o.num (pos o.den) s.num (pos s.den) (negsuc n) (pos ad) b.num (pos b.den) h.0 j.0 i.0 h.1 j.1 i.1))
 
 move_step : (m on od an ad z j t : ℤ) → on *ℤ ad -ℤ an *ℤ od ≡ m *ℤ j → an *ℤ z ≡ m *ℤ t → on *ℤ (ad *ℤ z) ≡ m *ℤ (j *ℤ z +ℤ t *ℤ od)
 move_step m on od an ad z j t e f =
@@ -42,8 +43,8 @@ move_step m on od an ad z j t e f =
 
 -- what has the value of something with an inverse has one
 pub inverse_same : {m : ℕ} {a b : Ratio} → Same m a b → CanCancel m (pos b.den) → HasInverse m a → HasInverse m b
-inverse_same {m} {a} {b} s r h = let i = s.difference in let n = inverse_cancels h in
-    cancelled_has_inverse (record { cancels = λ z d. r.cancels z (n.cancels (pos b.den *ℤ z) (_, move_step (pos m) a.num (pos a.den) b.num (pos b.den) z i.0 d.0 i.1 d.1)) })
+inverse_same {m} {a} {b} s r h = let i = difference_multiple s in let n = inverse_cancels h in
+    cancelled_has_inverse (cancels_of (λ z d. cancel r z (cancel n (pos b.den *ℤ z) (_, move_step (pos m) a.num (pos a.den) b.num (pos b.den) z i.0 d.0 i.1 d.1))))
 
 -- the denominator of an inverse is a numerator
 numerator_cancels : {m : ℕ} (an : ℤ) (ad : ℕ) → CanCancel m an → CanCancel m (pos (inverse_of an ad).den)
@@ -92,10 +93,10 @@ neg_both_step m sn sd on od an ad bn bd k l e f =
 
 quotients : {m : ℕ} (s a : Ratio) (on : ℤ) (od : ℕ) (bn : ℤ) (bd : ℕ) → Same m s a → Same m (record { num = on; den = od }) (record { num = bn; den = bd }) → Same m (ratio_times s (inverse_of on od)) (ratio_times a (inverse_of bn bd))
 unfolding ratio_times
-quotients {m} s a (pos x) od (pos y) bd e f = let h = e.difference in let i = f.difference in record { difference = (_, both_step (pos m) s.num (pos s.den) (pos x) (pos od) a.num (pos a.den) (pos y) (pos bd) h.0 i.0 h.1 i.1) }
-quotients {m} s a (pos x) od (negsuc y) bd e f = let h = e.difference in let i = f.difference in record { difference = (_, both_step_neg (pos m) s.num (pos s.den) (pos x) (pos od) a.num (pos a.den) (negsuc y) (pos bd) h.0 i.0 h.1 i.1) }
-quotients {m} s a (negsuc x) od (pos y) bd e f = let h = e.difference in let i = f.difference in record { difference = (_, neg_left_step (pos m) s.num (pos s.den) (negsuc x) (pos od) a.num (pos a.den) (pos y) (pos bd) h.0 i.0 h.1 i.1) }
-quotients {m} s a (negsuc x) od (negsuc y) bd e f = let h = e.difference in let i = f.difference in record { difference = (_, neg_both_step (pos m) s.num (pos s.den) (negsuc x) (pos od) a.num (pos a.den) (negsuc y) (pos bd) h.0 i.0 h.1 i.1) }
+quotients {m} s a (pos x) od (pos y) bd e f = let h = difference_multiple e in let i = difference_multiple f in same_of (_, both_step (pos m) s.num (pos s.den) (pos x) (pos od) a.num (pos a.den) (pos y) (pos bd) h.0 i.0 h.1 i.1)
+quotients {m} s a (pos x) od (negsuc y) bd e f = let h = difference_multiple e in let i = difference_multiple f in same_of (_, both_step_neg (pos m) s.num (pos s.den) (pos x) (pos od) a.num (pos a.den) (negsuc y) (pos bd) h.0 i.0 h.1 i.1)
+quotients {m} s a (negsuc x) od (pos y) bd e f = let h = difference_multiple e in let i = difference_multiple f in same_of (_, neg_left_step (pos m) s.num (pos s.den) (negsuc x) (pos od) a.num (pos a.den) (pos y) (pos bd) h.0 i.0 h.1 i.1)
+quotients {m} s a (negsuc x) od (negsuc y) bd e f = let h = difference_multiple e in let i = difference_multiple f in same_of (_, neg_both_step (pos m) s.num (pos s.den) (negsuc x) (pos od) a.num (pos a.den) (negsuc y) (pos bd) h.0 i.0 h.1 i.1)
 
 pub over_both : {m : ℕ} (s o a b : Ratio) → Same m s a → Same m o b → Same m (ratio_over s o) (ratio_over a b)
 unfolding ratio_over

@@ -7,6 +7,7 @@ use mathlib.Core.Quot
 use mathlib.Core.Logic.{∥∥₁_prop, ∥∥₁_elim, ∥∥₁_map}
 use Rattle.exact.specs.Ratio.{Ratio, Same, ratio_plus, ratio_times, whole}
 use Rattle.exact.specs.Values.{CanCancel}
+use Rattle.exact.proofs.WholeMultiples.{same_of}
 use Rattle.exact.proofs.Values.{same_refl, same_sym, same_trans, plus_same, times_same, product_cancels, one_cancels}
 use Rattle.integers.proofs.numbers.Ring.{ring, linear}
 use Rattle.exact.proofs.Semiring.{Semiring}
@@ -58,7 +59,7 @@ module _ (m : ℕ) where
   class r h = Quotient.mk by_value (record { ratio = r; denominator = h })
 
   pub formal : (x y d e : ℤ) (a b : Ratio) → x ≡ a.num → y ≡ b.num → d ≡ pos a.den → e ≡ pos b.den → x *ℤ e ≡ y *ℤ d → Same m a b
-  formal x y d e a b i j k l h = record { difference = (pos 0, rw (← i, ← j, ← k, ← l, h) (zero_is (pos m) (y *ℤ d))) }
+  formal x y d e a b i j k l h = same_of (pos 0, rw (← i, ← j, ← k, ← l, h) (zero_is (pos m) (y *ℤ d)))
     where
       zero_is : (m z : ℤ) → z -ℤ z ≡ m *ℤ pos 0
       zero_is m z = simp ring (omega (arith, linear))

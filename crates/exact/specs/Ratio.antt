@@ -1,18 +1,14 @@
 -- Whole numerators over whole denominators of any size, when two of them are the same value modulo m, and what has an inverse.
 use Rattle.std.specs.Prelude.{◌≡◌, ◌≢◌, ℕ, suc, ℤ, pos, negsuc, neg_ℤ, ◌+ℤ◌, ◌-ℤ◌, ◌*ℤ◌, ◌*◌, ◌≤◌, unsigned_abs}
-use Rattle.std.specs.Int.{IsGcd}
+use Rattle.std.specs.Int.{IsGcd, ◌∣◌}
 
 pub record Ratio : Type 0 where
   pub num : ℤ
   pub den : ℕ
 
--- m divides z
-abbrev pub Divides : ℕ → ℤ → Type 0
-Divides m z = (k : ℤ) × (z ≡ pos m *ℤ k)
-
 -- m divides a·b' - a'·b, for the values a/b and a'/b'; for m = 0 the values are equal
 pub record Same (m : ℕ) (a b : Ratio) : Type 0 where
-  pub difference : Divides m (a.num *ℤ pos b.den -ℤ b.num *ℤ pos a.den)
+  pub difference : m ∣ unsigned_abs (a.num *ℤ pos b.den -ℤ b.num *ℤ pos a.den)
 
 -- a numerator over the absolute value of a denominator
 abbrev pub ratio : ℤ → ℤ → Ratio

@@ -7,6 +7,7 @@ use Rattle.std.proofs.lemmas.Int.{ints}
 use Rattle.integers.proofs.numbers.Ring.{ring}
 use Rattle.integers.proofs.vectors.Bounds.{abs_negative, bounded_product}
 use Rattle.exact.specs.Ratio.{Ratio, Same, IsInLowestTerms, ratio}
+use Rattle.exact.proofs.WholeMultiples.{same_of}
 use Rattle.exact.proofs.LowestTerms.{denominators_equal, numerators_equal, crossed, sizes_crossed}
 use Rattle.fraction.specs.Reduced.{AreSmall, HasSmallParts, IsNarrow}
 use Rattle.fraction.specs.Quotients.{signed_ratio, IsLowest}
@@ -17,7 +18,7 @@ product_step x y e = omega (arith, ints, e)
 
 -- equal cross products make equal values
 pub same_crossed : (p q : Ratio) → p.num *ℤ pos q.den ≡ q.num *ℤ pos p.den → Same 0 p q
-same_crossed p q e = record { difference = (pos 0, product_step (p.num *ℤ pos q.den) (q.num *ℤ pos p.den) e) }
+same_crossed p q e = same_of (pos 0, product_step (p.num *ℤ pos q.den) (q.num *ℤ pos p.den) e)
 
 -- n or -n has the absolute value n
 signed_size : (s : Bool) (n : ℕ) → unsigned_abs (cond s (neg_ℤ (pos n)) (pos n)) ≡ n
