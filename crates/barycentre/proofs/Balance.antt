@@ -9,7 +9,7 @@ use Rattle.integers.proofs.vectors.Coordinates.{IsCoordinate, coordinate_x, coor
 use Rattle.periodic_net.specs.Graph.{Graph, Arc, IsQuotientVertex}
 use Rattle.periodic_net.specs.Placement.{Placement, base, arc_vector}
 use Rattle.exact.specs.Ratio.{Ratio, Same, ratio_plus, ratio_minus, whole}
-use Rattle.exact.proofs.WholeMultiples.{difference_multiple}
+use Rattle.exact.proofs.CallerLemmas.{difference_multiple}
 use Rattle.elimination.specs.Equations.{ratio_sum, arc_gain}
 use Rattle.barycentre.specs.Positions.{IsScaled}
 

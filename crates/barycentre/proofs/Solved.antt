@@ -7,7 +7,7 @@ use Rattle.std.proofs.lemmas.Nat.Gcd.{IsGcd-from_zero, IsGcd-swap}
 use Rattle.integers.proofs.numbers.Ring.{ring, linear}
 use Rattle.periodic_net.specs.Graph.{Graph}
 use Rattle.exact.specs.Ratio.{Ratio, Same, IsInLowestTerms, whole}
-use Rattle.exact.proofs.WholeMultiples.{difference_multiple}
+use Rattle.exact.proofs.CallerLemmas.{difference_multiple}
 use Rattle.vecdim.specs.declared.vectors.Row.{Row}
 use Rattle.fraction.specs.declared.numbers.Fraction.{Fraction}
 use Rattle.fraction.specs.Values.{fraction_value}

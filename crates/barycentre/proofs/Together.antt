@@ -20,7 +20,7 @@ use Rattle.barycentre.proofs.Multiples.{all_divide}
 use Rattle.barycentre.proofs.Normal.{each_divides, normal, is_flat}
 use Rattle.barycentre.specs.Units.{AreDivided, AreInUnits}
 use Rattle.barycentre.proofs.WholeUnits.{in_units_scaled}
-use Rattle.quotient_graph.proofs.PositionBounds.{position_fits}
+use Rattle.quotient_graph.proofs.CallerLemmas.{position_fits}
 use Rattle.barycentre.proofs.Wide.{wide_denominator}
 
 -- an element of a list, whatever stands for what is past its end

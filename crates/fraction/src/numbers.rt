@@ -1,7 +1,7 @@
 // Reduced fractions: their parts, and their order.
 ghost use Rattle.std.specs.Prelude.{◌≡◌, pos, ◌<ℤ◌};
 ghost use Rattle.exact.specs.Ratio.{IsInLowestTerms, ratio};
-ghost use Rattle.exact.proofs.LowestTerms.{lowest_terms-prop};
+ghost use Rattle.exact.proofs.CallerLemmas.{lowest_terms-prop};
 ghost use Rattle.fraction.specs.Reduced.{HasSmallParts};
 
 use crate::products::cross;

@@ -1,7 +1,7 @@
 use Rattle.std.proofs.Common.{Result, Ok, Err, MatchResult, IfOk, IfErr, subst}
 use Rattle.elimination.specs.Faults.{IsFault}
 use Rattle.elimination.specs.Listed.{start_level, listed_numbers}
-use Rattle.elimination.proofs.Solving.{solve_all, solve_only, are_flat, has_inverses}
+use Rattle.elimination.proofs.steps.Solving.{solve_all, solve_only, are_flat, has_inverses}
 use Rattle.elimination.proofs.solution.solve.Goals as goal
 
 -- what is known of an answer, put together
