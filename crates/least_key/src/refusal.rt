@@ -8,7 +8,7 @@ use exact::Wide;
 use fraction::Fraction;
 use quotient_graph::Split;
 
-/// Why a graph is refused, by the first that applies; the numbers are those by which they are reported.
+/// Why a graph is refused, by the first that applies. The numbers are those of the report.
 #[derive(Drop)]
 pub enum Refusal {
     /// 1: the net is in several parts, as the colouring shows.

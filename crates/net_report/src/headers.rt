@@ -8,7 +8,8 @@ use crate::{NoMemory, Size};
 use cgd_read::{BlockFault, BlockFaultKind};
 
 fn push_name(text: &mut Vec<u8>, name: Option<&[u8]>) -> Result<(), NoMemory>
-    ensures { OnOk result (text.new.items ≡ text.old.items ++ name_text (option_copied name.entry)) }
+    ensures { OnOk result (text.new.items ≡
+        text.old.items ++ name_text (option_copied name.entry)) }
 {
     if let Some(name) = name {
         text.extend_from_slice(b" \"")?;
@@ -25,7 +26,8 @@ pub fn push_header(
     line: u32,
     name: Option<&[u8]>,
 ) -> Result<(), NoMemory>
-    ensures { OnOk result (text.new.items ≡ text.old.items ++ header_text number line (option_copied name.entry)) }
+    ensures { OnOk result (text.new.items ≡
+        text.old.items ++ header_text number line (option_copied name.entry)) }
 {
     text.extend_from_slice(b"net ")?;
     push_number(text, number as u64)?;

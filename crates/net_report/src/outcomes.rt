@@ -1,5 +1,5 @@
 // A list of outcomes.
-ghost use Rattle.std.specs.Prelude.{◌≡◌, ◌++◌, ◌∷◌, [], length, slice_get, Some, OnOk, OnErr, ◌<◌};
+ghost use Rattle.std.specs.Prelude.{◌≡◌, ◌++◌, ◌∷◌, [], OnOk, OnErr};
 
 use crate::{NoMemory, Outcome};
 use std::alloc::Global;
@@ -39,24 +39,10 @@ impl<'a> Outcomes<'a> {
         Ok(())
     }
 
-    pub(crate) fn as_slice(&self) -> &[Outcome<'a>]
+    /// The outcomes in their order.
+    pub fn as_slice(&self) -> &[Outcome<'a>]
         ensures { result.now ≡ self.now }
     {
         &self.items
-    }
-
-    /// How many outcomes there are.
-    pub fn len(&self) -> usize
-        ensures { result ≡ length self.now }
-    {
-        self.items.len()
-    }
-
-    /// The outcome at place `i`, counted from 0.
-    pub fn at(&self, i: usize) -> &Outcome<'a>
-        requires { i < length self.now }
-        ensures { slice_get self.now i ≡ Some result.now }
-    {
-        &self.items[i]
     }
 }

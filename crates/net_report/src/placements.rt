@@ -30,7 +30,8 @@ fn push_position<const D: usize>(
 ) -> Result<(), NoMemory>
     requires vertex { IsQuotientVertex placed.now.graph u }
     requires names { length names.now ≡ placed.now.graph.vertices }
-    ensures { OnOk result (text.new.items ≡ text.old.items ++ position_text names.now placed.now u) }
+    ensures { OnOk result (text.new.items ≡
+        text.old.items ++ position_text names.now placed.now u) }
 {
     text.extend_from_slice(b"at ")?;
     push_vertex(text, names, u)?;
@@ -46,7 +47,8 @@ fn push_positions<const D: usize>(
     placed: &Placed<D>,
 ) -> Result<(), NoMemory>
     requires { length names.now ≡ placed.now.graph.vertices }
-    ensures { OnOk result (text.new.items ≡ text.old.items ++ positions_text names.now placed.now placed.now.graph.vertices) }
+    ensures { OnOk result (text.new.items ≡
+        text.old.items ++ positions_text names.now placed.now placed.now.graph.vertices) }
 {
     for i in 0..placed.graph().vertices() {
         push_position(text, names, placed, i + 1)?;
@@ -89,7 +91,8 @@ pub fn push_placement(
     placed: &AnyPlaced,
 ) -> Result<(), NoMemory>
     requires { length names.now ≡ (placed_in placed.now).graph.vertices }
-    ensures { OnOk result (text.new.items ≡ text.old.items ++ placement_text names.now (placed_in placed.now)) }
+    ensures { OnOk result (text.new.items ≡
+        text.old.items ++ placement_text names.now (placed_in placed.now)) }
 {
     match placed {
         AnyPlaced::Flat(placed) => push_placed(text, names, placed),

@@ -38,12 +38,3 @@ outcomes_more command bs i number os b o l is h k p =
       number_is = let n = h.number_is in omega arith;
       printable = All-append IsPrintable os (o ∷ []) h.printable (All-cons IsPrintable o [] p (All-nil IsPrintable));
     }
-
--- the first i outcomes are accepted, and so is the next one
-pub accepted_more : (os : List Outcome) (i : ℕ) (o : Outcome) → i < length os → slice_get os i ≡ Some o → is_accepted o ≡ true → list_all is_accepted (take i os) ≡ true → list_all is_accepted (take (i + 1) os) ≡ true
-accepted_more os i o l is this h =
-    list_all_more is_accepted os i o l ∙ ap (λ (t : Bool). t && is_accepted (get_or os i o)) h ∙ ap is_accepted (get_or_from_slice_get os i o o is) ∙ this
-
--- one that is not accepted is enough
-pub one_refused : (os : List Outcome) (i : ℕ) (o : Outcome) → i < length os → slice_get os i ≡ Some o → is_accepted o ≡ false → list_all is_accepted os ≡ false
-one_refused os i o l is refused = list_all_at is_accepted os i o l (ap is_accepted (get_or_from_slice_get os i o o is) ∙ refused)

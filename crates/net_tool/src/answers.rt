@@ -62,12 +62,10 @@ fn is_accepted(body: &OutcomeBody<'_>) -> bool
 fn are_accepted(outcomes: &Outcomes<'_>) -> bool
     ensures { result ≡ list_all is_accepted outcomes.now }
 {
-    for i in 0..outcomes.len() {
-        if !is_accepted(&outcomes.at(i).body) {
-            return false;
-        }
-    }
-    true
+    outcomes
+        .as_slice()
+        .iter()
+        .all(|outcome| is_accepted(&outcome.body))
 }
 
 /// The report on a text, and whether each of its blocks was accepted.
@@ -94,7 +92,8 @@ fn report_on(alloc: Global, command: Command, found: &[Block<'_>]) -> Result<Rep
 pub fn answer(alloc: Global, command: Command, bytes: &[u8]) -> Result<Report, ReadRefusal>
     requires { length bytes.now ≤ 16777216 }
     ensures report { IfOk result (λ r. IsReportOf command bytes.now r.accepted r.text.items) }
-    ensures too_many { IsErrOf result ReadRefusal.TooManyBlocks → 4096 < length (blocks_of bytes.now) }
+    ensures too_many { IsErrOf result ReadRefusal.TooManyBlocks →
+        4096 < length (blocks_of bytes.now) }
 {
     let found = blocks(alloc, bytes)?;
     match report_on(alloc, command, &found) {

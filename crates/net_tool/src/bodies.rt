@@ -27,7 +27,8 @@ fn size_of(raw: &RawGraph<'_>) -> Size
 // The refusal with the vertex names, where it is one.
 fn refused_body<'a>(raw: &RawGraph<'a>, refusal: Refusal) -> Result<OutcomeBody<'a>, NoMemory>
     requires { IsReadGraph (raw_view raw.now) }
-    ensures told { IfOk result (λ body. body ≡ OutcomeBody.Refused (size_of (raw_view raw.now)) raw.now.names refusal) }
+    ensures told { IfOk result (λ body.
+        body ≡ OutcomeBody.Refused (size_of (raw_view raw.now)) raw.now.names refusal) }
     ensures refused { IfOk result (λ body. refusal ≢ Refusal.NoMemory) }
 {
     match refusal {

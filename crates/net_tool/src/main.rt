@@ -15,7 +15,7 @@ use std::process::ExitCode;
 use std::{env, io};
 use tool::run;
 
-/// The exit status where the runtime does not give the words, for another cause than want of memory.
+/// The exit status where the runtime does not give the words for another cause than want of memory.
 const NO_WORDS: u8 = 20;
 
 // The exit status where the words cannot be had.

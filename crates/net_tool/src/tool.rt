@@ -18,7 +18,8 @@ const MAX_BYTES: u64 = 16_777_216;
 fn finish<W: Sink>(out: &mut W, text: &[u8], status: Status) -> Status
     requires { status ≡ Status.WriteFault → ⊥ }
     ensures done { (result ≡ Status.WriteFault → ⊥) → result ≡ status }
-    ensures all { (result ≡ Status.WriteFault → ⊥) → Appends (W.written out.old) (W.written out.new) text.now }
+    ensures all { (result ≡ Status.WriteFault → ⊥) →
+        Appends (W.written out.old) (W.written out.new) text.now }
     ensures cause { result ≡ Status.WriteFault → Rose (W.faults out.old) (W.faults out.new) }
     ensures unsure { result ≡ Status.WriteFault → W.sure out.old < length text.now }
     ensures part { result ≡ Status.WriteFault →
@@ -31,16 +32,21 @@ fn finish<W: Sink>(out: &mut W, text: &[u8], status: Status) -> Status
     }
 }
 
-/// Does what the words say, over the files of a shelf, and writes the text to a sink. It is all that the program
-/// does. `check FILE` says of each net of FILE whether it is connected, and `place FILE` where its vertices stand.
+/// Does what the words say, over the files of a shelf, and writes the text to a sink. It is all that
+/// the program does. `check FILE` says of each net of FILE whether it is connected, and `place FILE`
+/// where its vertices stand.
 pub fn run<H: Shelf, W: Sink>(alloc: Global, words: &[String], shelf: &mut H, out: &mut W) -> Status
     ensures answer { IsAnswered result →
-        IsAnswer (texts_of words.now) (H.holds shelf.old) (W.written out.old) (W.written out.new) result }
-    ensures read_fault { result ≡ Status.ReadFault → Rose (H.faults shelf.old) (H.faults shelf.new) }
-    ensures read_fault_at { result ≡ Status.ReadFault → FailedAtFile (task_of (texts_of words.now)) (H.last shelf.new) }
+        IsAnswer (texts_of words.now) (H.holds shelf.old) (W.written out.old) (W.written out.new)
+        result }
+    ensures read_fault { result ≡ Status.ReadFault →
+        Rose (H.faults shelf.old) (H.faults shelf.new) }
+    ensures read_fault_at { result ≡ Status.ReadFault →
+        FailedAtFile (task_of (texts_of words.now)) (H.last shelf.new) }
     ensures write_fault { result ≡ Status.WriteFault → Rose (W.faults out.old) (W.faults out.new) }
     ensures broken { result ≡ Status.WriteFault →
-        IsBroken (texts_of words.now) (H.holds shelf.old) (W.written out.old) (W.written out.new) (W.sure out.old) }
+        IsBroken (texts_of words.now) (H.holds shelf.old) (W.written out.old) (W.written out.new)
+        (W.sure out.old) }
     ensures silent { IsSilent result → W.written out.new ≡ W.written out.old }
     ensures same { H.holds shelf.new ≡ H.holds shelf.old }
     ensures later { H.faults shelf.old ≤ H.faults shelf.new }

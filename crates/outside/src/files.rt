@@ -1,4 +1,5 @@
-// What the shelves in memory share: their files, a piece of a file, and the name that was read last.
+// What the shelves in memory share: their files, a piece of a file, and the name that was read
+// last.
 ghost use Rattle.std.specs.Prelude.{◌≡◌, ◌+◌, ◌-◌, ◌<◌, ◌≤◌, ◌++◌, length, take, drop, min, find, option_copied, string_bytes};
 ghost use Rattle.std.specs.Str.{bytes_eq};
 ghost use Rattle.outside.specs.Files.{named_bytes, file_of};
@@ -12,7 +13,8 @@ pub enum LastRead {
 }
 
 fn first_named<'a>(files: &'a [(String, Vec<u8>)], name: &str) -> Option<&'a (String, Vec<u8>)>
-    ensures { option_copied result ≡ find (λ file. bytes_eq (string_bytes file.0) name.now) files.now }
+    ensures { option_copied result ≡
+        find (λ file. bytes_eq (string_bytes file.0) name.now) files.now }
 {
     files.iter().find(|file| file.0.as_str() == name)
 }

@@ -1,5 +1,5 @@
-//! Where bytes come from and where they go: a shelf of named files and a sink, each with a count of its
-//! faults. One of each in memory, with failures at listed calls, and one of each by the host.
+//! Where bytes come from and where they go: a shelf of named files and a sink, each with a count of
+//! its faults. One of each in memory, with failures at listed calls, and one of each by the host.
 #![tactic(auto)]
 
 mod files;

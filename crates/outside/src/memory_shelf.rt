@@ -10,8 +10,8 @@ use crate::files::{LastRead, copy_piece, file_bytes};
 use crate::shelf::{Shelf, ShelfFault};
 use std::marker::Model;
 
-/// Files in memory. A read gives at most `step` bytes, and fails at the listed numbers of its calls, counted
-/// from 1, and for absent names.
+/// Files in memory. A read gives at most `step` bytes, and fails at the listed numbers of its calls,
+/// counted from 1, and for absent names.
 #[derive(Drop)]
 pub struct MemoryShelf {
     files: Vec<(String, Vec<u8>)>,
@@ -67,7 +67,8 @@ impl MemoryShelf {
     // Counts a failure at this name.
     fn fail(&mut self, name: String) -> ShelfFault
         ensures failed { result ≡ ShelfFault.Failed }
-        ensures after { self.new ≡ record self.old { faults = next_count self.old.faults; last = Failed (string_bytes name) } }
+        ensures after { self.new ≡
+            record self.old { faults = next_count self.old.faults; last = Failed (string_bytes name) } }
     {
         self.faults = self.faults.saturating_add(1);
         self.last = LastRead::Refused(name);
@@ -88,12 +89,15 @@ impl Shelf for MemoryShelf {
         requires place { MayRead self.old.last name.now at }
 
         // Exactly the listed calls and the absent names fail.
-        ensures gives { IfOk result (λ count. ReadGives self.old name.now at (length into.old) count) }
+        ensures gives { IfOk result (λ count.
+            ReadGives self.old name.now at (length into.old) count) }
         ensures fails { IsErrOf result ShelfFault.Failed → ReadFails self.old name.now }
 
         ensures bound { IfOk result (λ count. count ≤ length into.new) }
-        ensures bytes { IfOk result (λ count. Stand (holds_of self.old.files) name.now at (take count into.new)) }
-        ensures end { IfOk result (λ count. count ≡ 0 → EndsBy (holds_of self.old.files) name.now at) }
+        ensures bytes { IfOk result (λ count.
+            Stand (holds_of self.old.files) name.now at (take count into.new)) }
+        ensures end { IfOk result (λ count. count ≡ 0 →
+            EndsBy (holds_of self.old.files) name.now at) }
 
         ensures later { self.old.faults ≤ self.new.faults }
         ensures after { self.new ≡ after_read self.old name.now at result }

@@ -8,8 +8,9 @@ use crate::sink::{Sink, SinkFault};
 use std::alloc::Global;
 use std::marker::Model;
 
-/// Bytes in memory, in room that is taken when the sink is made. A write takes the lesser of `step` and the
-/// piece's length, and fails at the listed numbers of its calls, counted from 1, and where that does not fit.
+/// Bytes in memory, in room that is taken when the sink is made. A write takes the lesser of `step`
+/// and the piece's length, and fails at the listed numbers of its calls, counted from 1, and where
+/// that does not fit.
 #[derive(Drop)]
 pub struct MemorySink {
     bytes: Vec<u8>,
@@ -35,7 +36,8 @@ impl Model for MemorySink {
       faults = s.faults;
     } };
 
-    ghost invariant = { λ s. (vec_len s.bytes ≤ s.room) × (s.room ≤ vec_capacity s.bytes) × (1 ≤ s.step) };
+    ghost invariant = { λ s. (vec_len s.bytes ≤ s.room) × (s.room ≤ vec_capacity s.bytes) ×
+        (1 ≤ s.step) };
 }
 
 impl MemorySink {

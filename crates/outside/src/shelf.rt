@@ -25,7 +25,8 @@ pub trait Shelf {
     /// What the last read left.
     ghost last: { Self → Last };
 
-    /// Gives some bytes of a name from a place on. A read begins at 0, or goes on where the last one ended.
+    /// Gives some bytes of a name from a place on. A read begins at 0, or goes on where the last one
+    /// ended.
     fn read(&mut self, name: &str, at: u64, into: &mut [u8]) -> Result<usize, ShelfFault>
         requires room { 0 < length into.old }
         requires small { at < 2 ^ 62 }
@@ -33,10 +34,12 @@ pub trait Shelf {
 
         ensures bound { IfOk result (λ count. count ≤ length into.new) }
         ensures goes_on { IfOk result (λ count. last self.new ≡ Given name.now (at + count)) }
-        ensures bytes { IfOk result (λ count. Stand (holds self.old) name.now at (take count into.new)) }
+        ensures bytes { IfOk result (λ count.
+            Stand (holds self.old) name.now at (take count into.new)) }
         ensures end { IfOk result (λ count. count ≡ 0 → EndsBy (holds self.old) name.now at) }
 
-        ensures failed { IsErrOf result ShelfFault.Failed → Rose (faults self.old) (faults self.new) }
+        ensures failed { IsErrOf result ShelfFault.Failed →
+            Rose (faults self.old) (faults self.new) }
         ensures failed_at { IsErrOf result ShelfFault.Failed → last self.new ≡ Failed name.now }
         ensures no_memory { IsErrOf result ShelfFault.NoMemory → last self.new ≡ Nothing }
 
@@ -72,10 +75,13 @@ pub fn read_whole<H: Shelf>(
     ensures within { IfOk result (λ v. length v.items ≤ limit) }
     ensures whole_taken { IfOk result (λ v. H.last shelf.new ≡ Given name.now (length v.items)) }
 
-    ensures too_large { (n : ℕ) → IsErrOf result (InFault.TooLarge n) → (n ≡ limit + 1) × HasMore (H.holds shelf.old) name.now limit }
-    ensures too_large_taken { (n : ℕ) → IsErrOf result (InFault.TooLarge n) → H.last shelf.new ≡ Given name.now n }
+    ensures too_large { (n : ℕ) → IsErrOf result (InFault.TooLarge n) →
+        (n ≡ limit + 1) × HasMore (H.holds shelf.old) name.now limit }
+    ensures too_large_taken { (n : ℕ) → IsErrOf result (InFault.TooLarge n) →
+        H.last shelf.new ≡ Given name.now n }
 
-    ensures read_fault { IsErrOf result InFault.ReadFault → Rose (H.faults shelf.old) (H.faults shelf.new) }
+    ensures read_fault { IsErrOf result InFault.ReadFault →
+        Rose (H.faults shelf.old) (H.faults shelf.new) }
     ensures read_fault_at { IsErrOf result InFault.ReadFault → H.last shelf.new ≡ Failed name.now }
 
     ensures later { H.faults shelf.old ≤ H.faults shelf.new }

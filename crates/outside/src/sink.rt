@@ -47,7 +47,8 @@ pub fn write_all<W: Sink>(sink: &mut W, bytes: &[u8]) -> Result<(), WriteFault>
     ensures all { OnOk result (Appends (W.written sink.old) (W.written sink.new) bytes.now) }
     ensures lowered { OnOk result (W.sure sink.old ≤ W.sure sink.new + length bytes.now) }
 
-    ensures some { IfErr result (λ e. Appends (W.written sink.old) (W.written sink.new) (take e.taken bytes.now)) }
+    ensures some { IfErr result (λ e.
+        Appends (W.written sink.old) (W.written sink.new) (take e.taken bytes.now)) }
     ensures taken { IfErr result (λ e. e.taken < length bytes.now) }
     ensures failed { OnErr result (Rose (W.faults sink.old) (W.faults sink.new)) }
     ensures unsure { OnErr result (W.sure sink.old < length bytes.now) }
