@@ -80,7 +80,7 @@ pub trait Exact: Copy + Eq {
     fn is_zero(&self) -> bool
         ensures zero { IsTrue result ↔ Same modulus (value self.now) (whole (pos 0)) };
 
-    ghost has_modulus: { modulus ≢ 1 };
+    ghost has_modulus: { usable → modulus ≢ 1 };
 
     ghost is_usable: { Self → usable };
 

@@ -65,7 +65,7 @@ impl Exact for Fraction {
         self.num == 0
     }
 
-    ghost has_modulus = { zero_not_one };
+    ghost has_modulus = { λ u. zero_not_one };
 
     ghost is_usable = { λ x. tt };
 
