@@ -3,13 +3,12 @@ use Rattle.std.proofs.Common.{◌≡◌, ℕ, ◌≤◌, ℤ, ◌+ℤ◌, ◌-�
 use Rattle.std.specs.Option.{is_some}
 use Rattle.std.specs.List.{filter, AllByRecursion}
 use Rattle.std.proofs.lemmas.List.Elements.{recursion_from_All, All-from_recursion}
-use Rattle.integers.specs.Lists.{IsIn}
 use Rattle.integers.specs.Vectors.{Vector, zero_vector, plus, minus, opposite}
 use Rattle.integers.specs.Lattices.{IsVectorGroup}
 use Rattle.integers.proofs.Ring.{linear}
 use Rattle.integers.proofs.Vectors.{vector_equal, minus_zero}
 use Rattle.integers.proofs.Filters.{all_in, filter_in}
-use Rattle.integers.proofs.Members.{is_in, contains_from_in}
+use Rattle.integers.proofs.Members.{is_in, contains_from_in, IsIn}
 use Rattle.periodic_net.specs.Graph.{Graph, IsGraph, Arc, arc, arcs, IsArc, reverse_of, both_ways, Vertex, vertex, IsWalk}
 use Rattle.periodic_net.specs.Split.{ClosedShift, WalkShift}
 use Rattle.periodic_net.proofs.Arcs.{arc_inside}
