@@ -42,7 +42,8 @@ impl<'a> Lexer<'a> {
 
         // The tokens of a line come from its cut: each line has one, and only one.
         ensures cut { (line : List ℕ) → IsCut (cut_of line) line }
-        ensures only_cut { (line : List ℕ) (pieces : List Piece) → IsCut pieces line → pieces ≡ cut_of line }
+        ensures only_cut { (line : List ℕ) (pieces : List Piece) →
+            IsCut pieces line → pieces ≡ cut_of line }
     {
         Lexer {
             rest: text,

@@ -4,8 +4,6 @@
 mod bytes;
 mod lexer;
 mod part;
-#[cfg(test)]
-mod tests;
 mod token;
 
 pub use lexer::Lexer;

@@ -30,7 +30,8 @@ fn measure_run(first: u8, others: &[u8]) -> (TokenKind, usize)
     }
 }
 
-// The kind of the token that begins with `first`, where there is one, and how many bytes the part takes after it.
+// The kind of the token that begins with `first`, where there is one, and how many bytes the part
+// takes after it.
 fn measure(first: u8, others: &[u8]) -> (Option<TokenKind>, usize)
     requires { first ≢ line_feed }
     ensures kind { result.0 ≡ kind_of_piece (first_piece first (first_line others.now)) }
@@ -77,7 +78,8 @@ fn part_in_line<'a>(text: &'a [u8], first: u8, others: &'a [u8]) -> Part<'a>
 /// The first part of a text, where the text has any byte.
 pub(crate) fn first_part<'a>(text: &'a [u8]) -> Option<Part<'a>>
     ensures part { MatchOption result (text.now ≡ []) (IsPartOf text.now) }
-    ensures size { IfSome result (λ part. length text.now ≡ length part.text.now + length part.rest.now) }
+    ensures size { IfSome result (λ part.
+        length text.now ≡ length part.text.now + length part.rest.now) }
     ensures some { IfSome result (λ part. 1 ≤ length part.text.now) }
 {
     match text {

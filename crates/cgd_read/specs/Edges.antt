@@ -24,6 +24,7 @@ vertex_number names name = position_or_len (bytes_eq name) names + 1
 abbrev pub is_forward : ℕ → ℕ → ℤ → ℤ → ℤ → Bool
 is_forward u v x y z = nat_lt u v || (u == v && (lt_z (pos 0) x || (int_eq x (pos 0) && (lt_z (pos 0) y || (int_eq y (pos 0) && lt_z (pos 0) z)))))
 
+-- an edge as it stands, or else reversed
 abbrev pub spelled : Bool → ℕ → ℕ → ℤ → ℤ → ℤ → RawEdge
 spelled true u v x y z = record { u = u; v = v; x = x; y = y; z = z }
 spelled false u v x y z = record { u = v; v = u; x = pos 0 -ℤ x; y = pos 0 -ℤ y; z = pos 0 -ℤ z }
@@ -36,6 +37,7 @@ normal u v x y z = spelled (is_forward u v x y z) u v x y z
 abbrev pub row_edge : List (List ℕ) → FieldsView → RawEdge
 row_edge before row = normal (vertex_number before row.u) (vertex_number (with_new bytes_eq before row.u) row.v) row.x row.y row.z
 
+-- both are the same edge, as they are spelled
 abbrev pub same_edge : RawEdge → RawEdge → Bool
 same_edge e f = e.u == f.u && (e.v == f.v && (int_eq e.x f.x && (int_eq e.y f.y && int_eq e.z f.z)))
 
@@ -62,6 +64,7 @@ abbrev pub first_size : List FieldsView → ℕ
 first_size [] = 0
 first_size (row ∷ rows) = if first_size rows == 0 then row.size else first_size rows
 
+-- there is a row
 abbrev pub has_rows : List FieldsView → Bool
 has_rows [] = false
 has_rows (row ∷ rows) = true

@@ -9,14 +9,17 @@ use Rattle.cgd_read.specs.declared.line.LineKind.TheVariants.{Opening, Name, Edg
 use Rattle.cgd_read.specs.declared.block.BlockFaultKind.{BlockFaultKind}
 use Rattle.cgd_read.specs.declared.block.BlockFaultKind.TheVariants.{BadToken, RowLength, MixedDimension, UnknownField, NoEdges, SelfEdge, ShiftRange, TooManyVertices, TooManyEdges, NameTooLong, TwoNames, NoEnd}
 
+-- a line of this kind names the block
 abbrev pub is_name : LineKind → Bool
 is_name Name = true
 is_name _ = false
 
+-- a line of this kind ends the block
 abbrev pub is_end : LineKind → Bool
 is_end End = true
 is_end _ = false
 
+-- a line of this kind begins with a bad token
 abbrev pub is_broken : LineKind → Bool
 is_broken Broken = true
 is_broken _ = false
@@ -27,6 +30,7 @@ is_unknown Unknown = true
 is_unknown Opening = true
 is_unknown _ = false
 
+-- a line of this kind has a row, where it has fields
 abbrev pub may_have_row : LineKind → Bool
 may_have_row Edges = true
 may_have_row Bare = true
@@ -38,10 +42,12 @@ has_row line = may_have_row line.kind && nat_lt 0 line.fields.size
 
 -- what is known of the lines before
 
+-- the rows of these lines
 abbrev pub rows_in : List LineView → List FieldsView
 rows_in [] = []
 rows_in (line ∷ earlier) = if has_row line then line.fields ∷ rows_in earlier else rows_in earlier
 
+-- whether the last keyword line is one of edges, after a line of this kind
 abbrev pub under_after : LineKind → Bool → Bool
 under_after Name before = false
 under_after Edges before = true
@@ -52,6 +58,7 @@ abbrev pub under_edges : List LineView → Bool
 under_edges [] = false
 under_edges (line ∷ earlier) = under_after line.kind (under_edges earlier)
 
+-- the name so far, after a line of this kind that gives the first of these names
 abbrev pub name_after : LineKind → Option (List ℕ) → Option (List ℕ) → Option (List ℕ)
 name_after Name name before = name
 name_after _ name before = before
@@ -75,39 +82,50 @@ has_bad_token earlier line =
     || ((is_name line.kind && is_none line.fields.name)
     || (has_row line && (line.fields.has_strange || line.fields.has_late_quote))))
 
+-- more than 200 bytes
 abbrev pub is_long : List ℕ → Bool
 is_long bytes = nat_lt 200 (length bytes)
 
+-- there is a name, and it is too long
 abbrev pub is_long_name : Option (List ℕ) → Bool
 is_long_name None = false
 is_long_name (Some name) = is_long name
 
+-- the name on the line, or a vertex of its row, is too long
 abbrev pub has_long_name : LineView → Bool
 has_long_name line = (is_name line.kind && is_long_name line.fields.name) || (has_row line && (is_long line.fields.u || is_long line.fields.v))
 
+-- a row with neither four nor five fields
 abbrev pub has_wrong_length : LineView → Bool
 has_wrong_length line = has_row line && not (line.fields.size == 4 || line.fields.size == 5)
 
+-- a row with another number of fields than the first
 abbrev pub has_other_length : List LineView → LineView → Bool
 has_other_length earlier line = has_row line && (has_rows (rows_in earlier) && not (line.fields.size == first_size (rows_in earlier)))
 
+-- a row with a part of its shift out of the limits
 abbrev pub has_far_shift : LineView → Bool
 has_far_shift line = has_row line && line.fields.has_far_part
 
+-- a row that joins a vertex to itself, by the shift 0
 abbrev pub has_self_edge : LineView → Bool
 has_self_edge line = has_row line && is_self_edge line.fields
 
+-- with this line there are more vertices than may be
 abbrev pub brings_many_vertices : List LineView → LineView → Bool
 brings_many_vertices earlier line = nat_lt most_vertices (length (vertices_of (rows_in (line ∷ earlier))))
 
+-- with this line there are more edges than may be
 abbrev pub brings_many_edges : List LineView → LineView → Bool
 brings_many_edges earlier line = nat_lt most_edges (length (edges_of (rows_in (line ∷ earlier))))
 
+-- the block ends, and there was no row
 abbrev pub ends_without_rows : List LineView → LineView → Bool
 ends_without_rows earlier line = is_end line.kind && not (has_rows (rows_in earlier))
 
 -- the table of the faults, in its order
 
+-- the sentences about the words of a line
 abbrev pub word_tests : List LineView → LineView → List (BlockFaultKind × Bool)
 word_tests earlier line =
     (UnknownField, is_unknown line.kind)
@@ -116,6 +134,7 @@ word_tests earlier line =
     ∷ (NameTooLong, has_long_name line)
     ∷ []
 
+-- the sentences about its row
 abbrev pub row_tests : List LineView → LineView → List (BlockFaultKind × Bool)
 row_tests earlier line =
     (RowLength, has_wrong_length line)
@@ -124,6 +143,7 @@ row_tests earlier line =
     ∷ (SelfEdge, has_self_edge line)
     ∷ []
 
+-- the sentences about what there is with this line
 abbrev pub count_tests : List LineView → LineView → List (BlockFaultKind × Bool)
 count_tests earlier line =
     (TooManyVertices, brings_many_vertices earlier line)
@@ -131,9 +151,11 @@ count_tests earlier line =
     ∷ (NoEdges, ends_without_rows earlier line)
     ∷ []
 
+-- all sentences, in their order
 abbrev pub table : List LineView → LineView → List (BlockFaultKind × Bool)
 table earlier line = word_tests earlier line ++ (row_tests earlier line ++ count_tests earlier line)
 
+-- the first kind whose sentence is true
 abbrev pub first_true : List (BlockFaultKind × Bool) → Option BlockFaultKind
 first_true [] = None
 first_true (test ∷ tests) = if test.1 then Some test.0 else first_true tests
@@ -147,6 +169,7 @@ abbrev pub or_later : {X : Type 0} → Option X → Option X → Option X
 or_later (Some x) later = Some x
 or_later None later = later
 
+-- the number of a kind of fault
 abbrev pub number_of_kind : BlockFaultKind → ℕ
 number_of_kind BadToken = 1
 number_of_kind RowLength = 2

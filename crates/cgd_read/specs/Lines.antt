@@ -10,14 +10,17 @@ use Rattle.cgd_read.specs.Values.{part_of}
 use Rattle.cgd_read.specs.declared.line.LineKind.{LineKind}
 use Rattle.cgd_read.specs.declared.line.LineKind.TheVariants.{Opening, Name, Edges, End, Unknown, Bare, Broken}
 
+-- a token of this kind ends a line
 abbrev pub is_newline : TokenKind → Bool
 is_newline Newline = true
 is_newline _ = false
 
+-- a token of this kind is bad
 abbrev pub is_bad : TokenKind → Bool
 is_bad Bad = true
 is_bad _ = false
 
+-- a token of this kind is quoted
 abbrev pub is_quoted : TokenKind → Bool
 is_quoted Quoted = true
 is_quoted _ = false
@@ -28,12 +31,11 @@ is_strange Word = true
 is_strange Bad = true
 is_strange _ = false
 
--- the fields of a line: its tokens after the keyword, or all where it begins with none
-
 -- quotes are no part of a name
 abbrev pub unquoted : TokenView → List ℕ
 unquoted token = if is_quoted token.kind then take (length token.text - 2) (drop 1 token.text) else token.text
 
+-- the name that a token gives, where it is not bad
 abbrev pub name_in : TokenView → Option (List ℕ)
 name_in token = if is_bad token.kind then None else Some (unquoted token)
 
@@ -42,6 +44,7 @@ abbrev pub name_of_fields : List TokenView → Option (List ℕ)
 name_of_fields (token ∷ []) = name_in token
 name_of_fields _ = None
 
+-- the bytes of the first token
 abbrev pub text_of_first : List TokenView → List ℕ
 text_of_first [] = []
 text_of_first (token ∷ tokens) = token.text
@@ -51,6 +54,7 @@ abbrev pub part_or_zero : Option ℤ → ℤ
 part_or_zero None = pos 0
 part_or_zero (Some x) = x
 
+-- the part of a shift that the first token gives, or 0
 abbrev pub part_of_first : List TokenView → ℤ
 part_of_first [] = pos 0
 part_of_first (token ∷ tokens) = part_or_zero (part_of token.text)
@@ -68,6 +72,7 @@ pub record FieldsView : Type 0 where
   pub y : ℤ
   pub z : ℤ
 
+-- what these fields say
 abbrev pub fields_of : List TokenView → FieldsView
 fields_of tokens = record {
   size = length tokens;
@@ -86,12 +91,15 @@ fields_of tokens = record {
 abbrev pub is_keyword : List ℕ → List ℕ → Bool
 is_keyword keyword word = bytes_eq (map to_ascii_lowercase word) keyword
 
+-- a word before a name
 abbrev pub is_name_word : List ℕ → Bool
 is_name_word word = is_keyword (codes "name") word || is_keyword (codes "id") word
 
+-- a word before edges
 abbrev pub is_edges_word : List ℕ → Bool
 is_edges_word word = is_keyword (codes "edges") word || (is_keyword (codes "edge") word || (is_keyword (codes "bonds") word || is_keyword (codes "bond") word))
 
+-- the kind of a line that begins with this word
 abbrev pub kind_of_word : List ℕ → LineKind
 kind_of_word word =
     if is_keyword (codes "periodic_graph") word then Opening else
@@ -108,6 +116,7 @@ kind_of Quoted text = Bare
 kind_of Newline text = Broken
 kind_of Bad text = Broken
 
+-- a line of this kind begins with a field
 abbrev pub is_bare : LineKind → Bool
 is_bare Bare = true
 is_bare _ = false
@@ -119,9 +128,11 @@ pub record LineView : Type 0 where
   pub first : List ℕ
   pub fields : FieldsView
 
+-- the fields of a line: without its first token, where that is a keyword
 abbrev pub fields_from : LineKind → TokenView → List TokenView → List TokenView
 fields_from kind first others = if is_bare kind then first ∷ others else others
 
+-- the line with this first token and these others
 abbrev pub line_with : TokenView → List TokenView → LineView
 line_with first others = record {
   number = first.line;

@@ -19,6 +19,7 @@ pub record IsSmallFields (fields : FieldsView) : Type 0 where
 abbrev pub IsFlat : FieldsView → Type 0
 IsFlat fields = fields.size ≤ 4 → fields.z ≡ pos 0
 
+-- what no fields say
 abbrev pub no_fields : FieldsView
 no_fields = record { size = 0; name = None; has_strange = false; has_late_quote = false; has_far_part = false; u = []; v = []; x = pos 0; y = pos 0; z = pos 0 }
 

@@ -19,8 +19,8 @@ pub enum Body<'a> {
     Malformed(BlockFault),
 }
 
-/// A quotient graph as it was read. `names` are the vertices as they were first spelled, in order of
-/// appearance; `repeats` counts the rows of an edge after its first.
+/// A quotient graph as it was read. `names` are the vertices as they were first spelled, in order
+/// of appearance; `repeats` counts the rows of an edge after its first.
 #[derive(Drop)]
 pub struct RawGraph<'a> {
     pub dim: u8,
@@ -45,9 +45,9 @@ pub struct BlockFault {
     pub kind: BlockFaultKind,
 }
 
-/// Why a block is no graph: the first sentence that is true, by the lines in order, and in one line in the
-/// order UnknownField, TwoNames, BadToken, NameTooLong, RowLength, MixedDimension, ShiftRange, SelfEdge,
-/// TooManyVertices, TooManyEdges, NoEdges.
+/// Why a block is no graph: the first sentence that is true, by the lines in order, and in one line in
+/// the order UnknownField, TwoNames, BadToken, NameTooLong, RowLength, MixedDimension, ShiftRange,
+/// SelfEdge, TooManyVertices, TooManyEdges, NoEdges.
 #[derive(Clone, Copy, Debug, PartialEq, Eq)]
 pub enum BlockFaultKind {
     /// A token stands where it may not.

@@ -20,8 +20,8 @@ fn is_newline(kind: TokenKind) -> bool
 // The first token of the next line that has one.
 fn next_first<'a>(lexer: &mut Lexer<'a>) -> Option<Token<'a>>
     ensures lines { MatchOption result (token_lines lexer.old ≡ [])
-        (λ first. token_lines lexer.old ≡
-        line_with (token_view first) (rest_of_line lexer.new) ∷ token_lines (after_line lexer.new)) }
+        (λ first. token_lines lexer.old ≡ line_with (token_view first) (rest_of_line lexer.new)
+        ∷ token_lines (after_line lexer.new)) }
     ensures shorter { IfSome result (λ first. length lexer.new < length lexer.old) }
     ensures end { IfNone result (lexer.new ≡ []) }
 {

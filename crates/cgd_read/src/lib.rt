@@ -1,4 +1,5 @@
-//! Reads the blocks of a text of nets: quotient graphs, and the first fault of each block that is none.
+//! Reads the blocks of a text of nets: quotient graphs, and the first fault of each block that is
+//! none.
 #![tactic(auto)]
 
 mod block;
@@ -8,6 +9,7 @@ mod line;
 mod names;
 mod partial;
 mod read;
+mod sentences;
 mod state;
 #[cfg(test)]
 mod tests;

@@ -199,7 +199,8 @@ impl<'a> Fields<'a> {
     // Adds a part of a shift, or a field after them.
     fn add_part(&mut self, token: &Token<'a>)
         requires { IsSmallFields (fields_view self.old) }
-        ensures fields { fields_view self.new ≡ with_part (fields_view self.old) (token_view token.now) }
+        ensures fields { fields_view self.new ≡
+            with_part (fields_view self.old) (token_view token.now) }
         ensures small { IsSmallFields (fields_view self.new) }
     {
         let part = part(token.text);
@@ -219,7 +220,8 @@ impl<'a> Fields<'a> {
     pub fn add(&mut self, token: &Token<'a>)
         requires room { self.old.size < 16777216 }
         requires small { IsSmallFields (fields_view self.old) }
-        ensures fields { fields_view self.new ≡ with_field (fields_view self.old) (token_view token.now) }
+        ensures fields { fields_view self.new ≡
+            with_field (fields_view self.old) (token_view token.now) }
         ensures small { IsSmallFields (fields_view self.new) }
         ensures size { self.new.size ≡ self.old.size + 1 }
     {

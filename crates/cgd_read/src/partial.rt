@@ -102,8 +102,8 @@ fn take_row<'a>(
         with_new bytes_eq (with_new bytes_eq (names_in names.old) row.now.u.now) row.now.v.now) }
     ensures edges { OnOk result (edges.new.keys ≡
         with_new same_edge edges.old.keys (row_edge (names_in names.old) (fields_view row.now))) }
-    ensures added { IfOk result (λ new. new ≡
-        not (list_any (same_edge (row_edge (names_in names.old) (fields_view row.now))) edges.old.keys)) }
+    ensures added { IfOk result (λ new. new ≡ not (list_any
+        (same_edge (row_edge (names_in names.old) (fields_view row.now))) edges.old.keys)) }
 {
     let u = place_of(names, row.u)?;
     let v = place_of(names, row.v)?;

@@ -199,7 +199,8 @@ pub fn blocks<'a>(alloc: Global, text: &'a [u8]) -> Result<Vec<Block<'a>>, ReadR
     ensures too_many { IsErrOf result ReadRefusal.TooManyBlocks →
         most_blocks < length (blocks_of text.now) }
 
-    // A graph block is what its first faulty line, its end or the end of the text decides, and nothing else.
+    // A graph block is what its first faulty line, its end or the end of the text decides, and
+    // nothing else.
     ensures decided { (opening : ℕ) (lines : List LineView) →
         IsGraphBlock opening lines (graph_block opening [] lines) }
     ensures only { (opening : ℕ) (lines : List LineView) (block : BlockView) →

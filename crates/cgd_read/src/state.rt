@@ -1,20 +1,17 @@
 // What is known of the lines of a graph block that were read, and the tests of the next line.
 ghost use Rattle.std.specs.Prelude.{◌≡◌, ◌≤◌, ◌<◌, ◌+◌, ◌∷◌, [], List, length, OnOk, IfOk, None};
-ghost use Rattle.std.specs.Option.{option_copied};
 ghost use Rattle.periodic_net.specs.Limits.{most_vertices};
 ghost use Rattle.cgd_read.specs.Lines.{LineView, is_bare};
 ghost use Rattle.cgd_read.specs.Views.{line_view, fields_view};
 ghost use Rattle.cgd_read.specs.Reading.{IsSmallFields};
-ghost use Rattle.cgd_read.specs.Faults.{is_name, is_end, is_broken, is_unknown, may_have_row, has_row, is_second_name, has_bad_token, is_long, is_long_name, has_long_name, has_wrong_length, has_other_length, has_far_shift, has_self_edge, brings_many_vertices, brings_many_edges, ends_without_rows, word_tests, row_tests, count_tests, first_true, fault_of, under_after, name_after, or_later};
-ghost use Rattle.cgd_read.specs.States.{names_in, IsGraphOfRows, IsStateAfter};
+ghost use Rattle.cgd_read.specs.Faults.{is_name, is_end, is_broken, is_unknown, has_row, is_second_name, has_bad_token, has_long_name, has_wrong_length, has_other_length, has_far_shift, has_self_edge, ends_without_rows, word_tests, row_tests, count_tests, first_true, fault_of, under_after, name_after, or_later};
+ghost use Rattle.cgd_read.specs.States.{names_in, IsStateAfter};
 
-use crate::line::{Line, LineKind};
-use crate::partial::{PartialGraph, is_self_edge};
+use crate::line::Line;
+use crate::partial::PartialGraph;
 use crate::{BlockFaultKind, NoMemory};
 use periodic_net::{MOST_EDGES, MOST_VERTICES};
 use std::alloc::Global;
-
-const MOST_NAME_BYTES: usize = 200;
 
 /// What is kept of the lines of a block.
 #[derive(Drop)]
@@ -23,134 +20,6 @@ pub struct State<'a> {
     /// Whether the last keyword line is one of edges.
     pub under_edges: bool,
     pub graph: PartialGraph<'a>,
-}
-
-impl LineKind {
-    fn is_name(self) -> bool
-        ensures { result ≡ is_name self }
-    {
-        match self {
-            LineKind::Name => true,
-            _ => false,
-        }
-    }
-
-    /// Whether it ends a block.
-    pub fn is_end(self) -> bool
-        ensures { result ≡ is_end self }
-    {
-        match self {
-            LineKind::End => true,
-            _ => false,
-        }
-    }
-
-    fn is_bare(self) -> bool
-        ensures { result ≡ is_bare self }
-    {
-        match self {
-            LineKind::Bare => true,
-            _ => false,
-        }
-    }
-
-    fn is_broken(self) -> bool
-        ensures { result ≡ is_broken self }
-    {
-        match self {
-            LineKind::Broken => true,
-            _ => false,
-        }
-    }
-
-    fn is_unknown(self) -> bool
-        ensures { result ≡ is_unknown self }
-    {
-        match self {
-            LineKind::Unknown | LineKind::Opening => true,
-            _ => false,
-        }
-    }
-
-    // Whether the last keyword line is one of edges, after one more line.
-    fn under_after(self, before: bool) -> bool
-        ensures { result ≡ under_after self before }
-    {
-        match self {
-            LineKind::Name => false,
-            LineKind::Edges => true,
-            _ => before,
-        }
-    }
-
-    // The name so far, after one more line, which gives this name where it is a name line.
-    fn name_after<'a>(self, name: Option<&'a [u8]>, before: Option<&'a [u8]>) -> Option<&'a [u8]>
-        ensures { option_copied result ≡
-            name_after self (option_copied name.entry) (option_copied before.entry) }
-    {
-        match self {
-            LineKind::Name => name,
-            _ => before,
-        }
-    }
-
-    fn may_have_row(self) -> bool
-        ensures { result ≡ may_have_row self }
-    {
-        match self {
-            LineKind::Edges | LineKind::Bare => true,
-            _ => false,
-        }
-    }
-}
-
-fn is_long(bytes: &[u8]) -> bool
-    ensures { result ≡ is_long bytes.now }
-{
-    MOST_NAME_BYTES < bytes.len()
-}
-
-fn is_long_name(name: Option<&[u8]>) -> bool
-    ensures { result ≡ is_long_name (option_copied name.entry) }
-{
-    match name {
-        None => false,
-        Some(name) => is_long(name),
-    }
-}
-
-impl<'a> Line<'a> {
-    // Whether the fields are a row.
-    fn has_row(&self) -> bool
-        ensures { result ≡ has_row (line_view self.now) }
-    {
-        self.kind.may_have_row() && 0 < self.fields.size
-    }
-
-    fn has_long_name(&self) -> bool
-        ensures { result ≡ has_long_name (line_view self.now) }
-    {
-        (self.kind.is_name() && is_long_name(self.fields.name))
-            || (self.has_row() && (is_long(self.fields.u) || is_long(self.fields.v)))
-    }
-
-    fn has_wrong_length(&self) -> bool
-        ensures { result ≡ has_wrong_length (line_view self.now) }
-    {
-        self.has_row() && !(self.fields.size == 4 || self.fields.size == 5)
-    }
-
-    fn has_far_shift(&self) -> bool
-        ensures { result ≡ has_far_shift (line_view self.now) }
-    {
-        self.has_row() && self.fields.has_far_part
-    }
-
-    fn has_self_edge(&self) -> bool
-        ensures { result ≡ has_self_edge (line_view self.now) }
-    {
-        self.has_row() && is_self_edge(&self.fields)
-    }
 }
 
 impl<'a> State<'a> {
@@ -298,8 +167,8 @@ impl<'a> State<'a> {
         requires small { IsSmallFields (fields_view line.now.fields) }
         requires room { length (names_in self.old.graph.names) ≤ most_vertices }
         requires countable { self.old.graph.repeats < 16777216 }
-        ensures fault { IfOk result (λ kind. (earlier : List LineView) → IsStateAfter self.old earlier →
-            kind ≡ fault_of earlier (line_view line.now)) }
+        ensures fault { IfOk result (λ kind. (earlier : List LineView) →
+            IsStateAfter self.old earlier → kind ≡ fault_of earlier (line_view line.now)) }
         ensures stands { IfOk result (λ kind. kind ≡ None → (earlier : List LineView) →
             IsStateAfter self.old earlier → IsStateAfter self.new (line_view line.now ∷ earlier)) }
         ensures repeats { OnOk result (self.new.graph.repeats ≤ self.old.graph.repeats + 1) }

@@ -1,25 +1,26 @@
 -- The colouring of a net whose closed walks have full rank and are not all shifts.
-use Rattle.std.proofs.Common.{◌≡◌, ℕ, zero, suc, ◌-◌, ◌%◌, ◌<◌, ◌≤◌, ℤ, pos, negsuc, neg_ℤ, ◌+ℤ◌, ◌-ℤ◌, ◌*ℤ◌, ◌≤ℤ◌, ◌<ℤ◌, Bool, true, false, cond, ◌==◌, List, [], ◌∷◌, length, map, get_or, ◌⊎◌, inl, inr, refl, sym, ap, subst, ◌∙◌, arith}
+use Rattle.std.proofs.Common.{◌≡◌, ℕ, zero, suc, ◌-◌, ◌%◌, ◌<◌, ◌≤◌, ℤ, pos, negsuc, neg_ℤ, ◌+ℤ◌, ◌-ℤ◌, ◌*ℤ◌, ◌≤ℤ◌, ◌<ℤ◌, Bool, true, false, cond, ◌==◌, List, [], ◌∷◌, length, map, get_or, Option, None, IsSome, All, ◌⊎◌, inl, inr, refl, sym, ap, subst, ◌∙◌, arith, unsigned_abs}
 use Rattle.std.specs.Int.{int_rem_euclid}
 use Rattle.std.proofs.lemmas.Int.{ints}
 use Rattle.std.proofs.lemmas.Bool.{ne_eqb}
 use Rattle.std.proofs.lemmas.List.{length-map, get_or-map}
 use Rattle.integers.specs.Vectors.{Vector, vector, zero_vector, minus, dot}
 use Rattle.integers.specs.Staircase.{part, IsStaircase}
-use Rattle.integers.proofs.Ring.{ring, linear}
+use Rattle.integers.proofs.numbers.Ring.{ring, linear}
 use Rattle.periodic_net.specs.Graph.{Graph, IsGraph, IsQuotientVertex}
 use Rattle.periodic_net.specs.Split.{Split, AreAlike, entry, ClosedShift, IsPivot, IsSparseSplit, EndsBy}
 use Rattle.vecdim.specs.Stairs.{Stairs, InStairs, IsReducedStair, HasFlatEnd, HasStairShape, rows_of}
 use Rattle.vecdim.specs.Lattices.{Members}
-use Rattle.vecdim.proofs.Dividing.{remainder}
-use Rattle.vecdim.proofs.Stairway.{rows_are_basis}
-use Rattle.connected_dim.proofs.Spanned.{closed_members, members_closed}
-use Rattle.connected_dim.specs.Generators.{shift_at, AreTree}
-use Rattle.connected_dim.specs.Sparse.{IsDual, IsLattice, sparse_colour}
-use Rattle.connected_dim.proofs.Trees.{tree_finds}
-use Rattle.connected_dim.proofs.FlatSplits.{closed_difference}
-use Rattle.connected_dim.proofs.Directions.{ends_by_zero, ends_by_one, ends_by_two}
-use Rattle.connected_dim.proofs.Duals.{Divides, complement_range, first_divides, second_divides, third_divides}
+use Rattle.vecdim.proofs.CallerLemmas.{remainder, rows_are_basis}
+use Rattle.walk_lattice.specs.Search.{walk_to, AreWalks}
+use Rattle.walk_lattice.specs.Generators.{shift_at}
+use Rattle.walk_lattice.specs.Lattices.{AreClosedWalks}
+use Rattle.walk_lattice.proofs.ClosedWalks.{closed_difference}
+use Rattle.walk_lattice.proofs.Generated.{walk_at}
+use Rattle.connected_dim.specs.Sparse.{IsDual, sparse_colour, sparse_colouring}
+use Rattle.connected_dim.proofs.AllFound.{each_found, some_walk}
+use Rattle.walk_lattice.proofs.Directions.{ends_by_zero, ends_by_one, ends_by_two}
+use Rattle.connected_dim.proofs.Multiples.{Divides, complement_range, first_divides, second_divides, third_divides}
 
 -- a remainder is from 0 to below the divisor
 remainder_range : (z m : ℤ) → pos 0 <ℤ m → (pos 0 ≤ℤ int_rem_euclid z m) × (int_rem_euclid z m <ℤ m)
@@ -74,19 +75,18 @@ above_two q h = omega (arith, ints, h)
 plus_nothing : (z w : ℤ) → z ≡ w → z ≡ pos 0 +ℤ w
 plus_nothing z w e = omega (arith, ints, e)
 
-module _ (G : Graph) (tree : List Vector) (R : Stairs) (S : Split) (g : IsGraph G) (t : AreTree G tree) (two : 2 ≤ G.dimension)
-    (out : (v : Vector) → Members G.dimension R v → ClosedShift G 1 v) (into : (v : Vector) → ClosedShift G 1 v → Members G.dimension R v)
+module _ (G : Graph) (found : List (Option Vector)) (R : Stairs) (S : Split) (g : IsGraph G) (w : AreWalks G 1 found) (all : All IsSome found) (two : 2 ≤ G.dimension) (l : AreClosedWalks G 1 R)
     (basis : IsStaircase (Members G.dimension R) G.dimension (rows_of G.dimension R)) (reduced : IsReducedStair R) (flat : G.dimension ≡ 2 → HasFlatEnd R)
-    (sh : S.h ≡ map (sparse_colour (pos S.q) S.c) tree) where
+    (sh : S.h ≡ map (sparse_colour (pos S.q) S.c) found) where
   -- the row at a place gives the pivot there
   pivot_at : (i p : ℕ) → i < G.dimension → 1 ≤ p → part i (get_or (rows_of G.dimension R) i zero_vector) ≡ pos p → IsPivot G i p
-  pivot_at i p l low e =
+  pivot_at i p place low e =
       let row = get_or (rows_of G.dimension R) i zero_vector in
-      let stair = basis.each i l in
+      let stair = basis.each i place in
       record {
         positive = low;
-        reached = (row, out row stair.may.member, stair.may.before, e);
-        least = λ v k z above. subst (λ x. x ≤ℤ part i v) e (stair.least v (record { member = into v k; before = z; leads = above }));
+        reached = (row, l.out row stair.may.member, stair.may.before, e);
+        least = λ v k z above. subst (λ x. x ≤ℤ part i v) e (stair.least v (record { member = l.into v k; before = z; leads = above }));
       }
 
   -- so each place has a pivot
@@ -101,18 +101,18 @@ module _ (G : Graph) (tree : List Vector) (R : Stairs) (S : Split) (g : IsGraph 
       by (inr e) = omega (arith, e, l)
 
   -- the entries
-  at : (u : ℕ) → IsQuotientVertex G u → entry S.h u ≡ sparse_colour (pos S.q) S.c (shift_at tree u)
+  at : (u : ℕ) → IsQuotientVertex G u → entry S.h u ≡ sparse_colour (pos S.q) S.c (walk_to found u)
   at u v =
-      let count = t.count in
+      let count = w.count in
       let low = v.0 in
       let high = v.1 in
-      ap (λ hs. entry hs u) sh ∙ get_or-map (sparse_colour (pos S.q) S.c) tree (u - 1) zero_vector (pos 0) (omega arith)
+      ap (λ hs. entry hs u) sh ∙ get_or-map (sparse_colour (pos S.q) S.c) found (u - 1) None (pos 0) (omega arith)
 
   -- the colouring, for the place of the first pivot above 1
   assembled : (k : ℕ) → k < G.dimension → 2 ≤ S.q → IsPivot G k S.q → ((i : ℕ) → i < k → IsPivot G i 1) → ((i : ℕ) → (pos 0 ≤ℤ part i S.c) × (part i S.c <ℤ pos S.q))
       → part k S.c ≡ pos 1 → EndsBy k S.c → ((v : Vector) → InStairs R v → Divides (pos S.q) (dot S.c v)) → IsSparseSplit G S k
   assembled k place above pivot earlier range one ends divides = record {
-    found = tree_finds G tree t;
+    found = each_found G g found w all;
     place = place;
     full = full;
     pivot = pivot;
@@ -122,20 +122,20 @@ module _ (G : Graph) (tree : List Vector) (R : Stairs) (S : Split) (g : IsGraph 
     one = one;
     ends = ends;
     divides = closed;
-    count = ap length sh ∙ length-map tree (sparse_colour (pos S.q) S.c) ∙ t.count;
-    h_range = λ u v. subst (λ z. (pos 0 ≤ℤ z) × (z <ℤ pos S.q)) (sym (at u v)) (remainder_range (neg_ℤ (dot S.c (shift_at tree u))) (pos S.q) (omega (arith, ints, above)));
-    h = λ u T v w.
-        let U = shift_at tree u in
+    count = ap length sh ∙ length-map found (sparse_colour (pos S.q) S.c) ∙ w.count;
+    h_range = λ u v. subst (λ z. (pos 0 ≤ℤ z) × (z <ℤ pos S.q)) (sym (at u v)) (remainder_range (neg_ℤ (dot S.c (shift_at found u))) (pos S.q) (omega (arith, ints, above)));
+    h = λ u T v walk.
+        let U = shift_at found u in
         let c = S.c in
         let r = remainder (neg_ℤ (dot c U)) (pos S.q) (omega (arith, ints, above)) in
-        let n = closed (minus T U) (closed_difference G u T U w (t.walks u v)) in (
+        let n = closed (minus T U) (closed_difference G 1 u T U walk (walk_at G g 1 found w u v.0 (some_walk G g found w all u v))) in (
           r.0 +ℤ n.0,
           same_alike (pos S.q) c.x c.y c.z T.x T.y T.z U.x U.y U.z (entry S.h u) r.0 n.0 (at u v ∙ r.1) n.1,
         );
   }
     where
       closed : (v : Vector) → ClosedShift G 1 v → AreAlike S.q (dot S.c v) (pos 0)
-      closed v k = let d = divides v (into v k).0 in (d.0, plus_nothing (dot S.c v) (pos S.q *ℤ d.0) d.1)
+      closed v k = let d = divides v (l.into v k).0 in (d.0, plus_nothing (dot S.c v) (pos S.q *ℤ d.0) d.1)
 
   -- the three places
   pub sparse_split_is : IsDual R (pos S.q) S.c → (k : ℕ) × IsSparseSplit G S k
@@ -181,13 +181,20 @@ module _ (G : Graph) (tree : List Vector) (R : Stairs) (S : Split) (g : IsGraph 
           by (inr d) = omega (arith, d)
 
 -- the colouring, from the lattice
-pub sparse_from_lattice : (G : Graph) (tree : List Vector) (R : Stairs) (S : Split) (q : ℤ) → IsGraph G → AreTree G tree → IsLattice G tree R → HasStairShape G.dimension R
-    → pos S.q ≡ q → S.h ≡ map (sparse_colour q S.c) tree → IsDual R q S.c → (k : ℕ) × IsSparseSplit G S k
-sparse_from_lattice G tree R S q g t l s e h d =
-    sparse_split_is G tree R S g t (two g.dimension) (closed_members G tree l.m R g t l.volume l.rows) (members_closed G tree l.m R g t l.rows)
+pub sparse_from_lattice : (G : Graph) (found : List (Option Vector)) (R : Stairs) (q : ℤ) (c : Vector) → IsGraph G → AreWalks G 1 found → All IsSome found → AreClosedWalks G 1 R
+    → HasStairShape G.dimension R → pos 1 ≤ℤ q → IsDual R q c → (k : ℕ) × IsSparseSplit G (sparse_colouring q c found) k
+sparse_from_lattice G found R q c g w all l s low d =
+    sparse_split_is G found R (sparse_colouring q c found) g w all (two g.dimension) l
     (rows_are_basis G.dimension R (two g.dimension) (three g.dimension) s) s.reduced s.flat
-    (subst (λ (z : ℤ). S.h ≡ map (sparse_colour z S.c) tree) (sym e) h) (subst (λ (z : ℤ). IsDual R z S.c) (sym e) d)
+    (ap (λ (z : ℤ). map (sparse_colour z c) found) (sym same)) (subst (λ (z : ℤ). IsDual R z c) (sym same) d)
   where
+    same : pos (unsigned_abs q) ≡ q
+    same = positive q low
+      where
+        positive : (z : ℤ) → pos 1 ≤ℤ z → pos (unsigned_abs z) ≡ z
+        positive (pos n) h = refl
+        positive (negsuc n) h = absurd (omega (arith, ints, h))
+
     two : (G.dimension ≡ 2) ⊎ (G.dimension ≡ 3) → 2 ≤ G.dimension
     two (inl e) = omega (arith, e)
     two (inr e) = omega (arith, e)

@@ -1,9 +1,6 @@
+pub mod Connected
 pub mod Flat
-pub mod Full
-pub mod Ranks
-pub mod Generators
-pub mod Search
-pub mod Sparse
 pub mod Quotient
 pub mod Refusals
+pub mod Sparse
 pub mod Verdicts

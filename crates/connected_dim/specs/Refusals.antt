@@ -21,13 +21,7 @@ IsRefused G (Disconnected split graph) = (graph ≡ G) × IsDisconnectedBy G spl
 IsRefused G (Degenerate split graph) = (graph ≡ G) × IsDegenerateBy G split
 IsRefused G (NoMemory graph) = graph ≡ G
 
--- where a colouring is told, joined vertices of the net have equal colours, and two colours occur
-abbrev pub HasSplit : {D : ℕ} → Graph → Unconnected D → Type 0
-HasSplit G (Disconnected split graph) = IsSplit G (split_in split)
-HasSplit G (Degenerate split graph) = IsSplit G (split_in split)
-HasSplit G (NoMemory graph) = Unit {0}
-
--- and so the net is not connected
+-- where a colouring is told, the net is not connected
 abbrev pub IsRefuted : {D : ℕ} → Graph → Unconnected D → Type 0
 IsRefuted G (Disconnected split graph) = ¬ IsConnected G
 IsRefuted G (Degenerate split graph) = ¬ IsConnected G

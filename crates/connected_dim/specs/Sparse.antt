@@ -1,24 +1,10 @@
 -- What a colouring is made of where the closed walks have full rank and are not all shifts.
-use Rattle.std.specs.Prelude.{◌≡◌, ◌≢◌, ◌⊎◌, ℕ, ℤ, pos, neg_ℤ, ◌-ℤ◌, ◌≤ℤ◌, List}
+use Rattle.std.specs.Prelude.{◌≡◌, ◌≢◌, ◌⊎◌, ℤ, pos, neg_ℤ, ◌-ℤ◌, ◌≤ℤ◌, unsigned_abs, List, Option, map}
 use Rattle.std.specs.Int.{int_rem_euclid}
 use Rattle.integers.specs.Vectors.{Vector, vector, dot}
-use Rattle.periodic_net.specs.Graph.{Graph}
-use Rattle.connected_dim.specs.Full.{IsVolume}
-use Rattle.connected_dim.specs.Generators.{generators}
+use Rattle.periodic_net.specs.Split.{Split}
 use Rattle.vecdim.specs.Stairs.{Stairs}
-use Rattle.vecdim.specs.Lattices.{Members, AreMultiples, IsWith}
-
--- the rows of the multiples of m and of these vectors
-pub record IsLatticeOf (d : ℕ) (m : ℤ) (vs : List Vector) (S : Stairs) : Type 0 where
-  pub start : Stairs
-  pub multiples : AreMultiples d m (Members d start)
-  pub with : IsWith (Members d start) vs (Members d S)
-
--- all pivots are 1
-pub record IsWhole (S : Stairs) : Type 0 where
-  pub a : S.a ≡ pos 1
-  pub e : S.e ≡ pos 1
-  pub i : S.i ≡ pos 1
+use Rattle.walk_lattice.specs.Search.{shift_of}
 
 -- c is -b modulo q, where b is from 0 to below q
 abbrev pub IsComplement : ℤ → ℤ → ℤ → Type 0
@@ -54,11 +40,9 @@ abbrev pub IsDual : Stairs → ℤ → Vector → Type 0
 IsDual S q c = IsFirstDual S q c ⊎ IsSecondDual S q c ⊎ IsThirdDual S q c
 
 -- the entry of a vertex with this walk
-abbrev pub sparse_colour : ℤ → Vector → Vector → ℤ
-sparse_colour q c T = int_rem_euclid (neg_ℤ (dot c T)) q
+abbrev pub sparse_colour : ℤ → Vector → Option Vector → ℤ
+sparse_colour q c walk = int_rem_euclid (neg_ℤ (dot c (shift_of walk))) q
 
--- the rows of the closed walks of full rank
-pub record IsLattice (G : Graph) (tree : List Vector) (S : Stairs) : Type 0 where
-  pub m : ℤ
-  pub volume : IsVolume G.dimension (generators G tree) m
-  pub rows : IsLatticeOf G.dimension m (generators G tree) S
+-- the colouring by c modulo q, from a walk to each vertex
+abbrev pub sparse_colouring : ℤ → Vector → List (Option Vector) → Split
+sparse_colouring q c found = record { q = unsigned_abs q; c = c; h = map (sparse_colour q c) found }

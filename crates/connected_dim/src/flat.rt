@@ -1,17 +1,17 @@
 // The colouring of a net whose closed walks have a rank below its dimension.
 ghost use Rattle.std.specs.Prelude.{◌≡◌, ◌≤◌, ◌^◌, neg_ℤ, unsigned_abs, IfOk, All, map};
 ghost use Rattle.integers.specs.Vectors.{IsWithin};
-ghost use Rattle.periodic_net.specs.Graph.{IsGraph};
-ghost use Rattle.periodic_net.specs.Split.{IsFlatSplit};
+ghost use Rattle.periodic_net.specs.Limits.{most_walk};
 ghost use Rattle.quotient_graph.specs.Splits.{split_in};
-ghost use Rattle.connected_dim.specs.Generators.{AreTree, generators};
-ghost use Rattle.connected_dim.specs.Flat.{IsFlatNormal, flat_colour};
+ghost use Rattle.walk_lattice.specs.Bounds.{most_normal};
+ghost use Rattle.walk_lattice.specs.Search.{shift_of};
+ghost use Rattle.connected_dim.specs.Flat.{flat_colour, flat_colouring};
 
 use crate::NoMemory;
-use crate::products::walk_product;
-use quotient_graph::{Entries, Graph, Split};
+use quotient_graph::{Entries, Split};
 use std::alloc::Global;
 use vecdim::{Shift, Triple};
+use walk_lattice::shift_of;
 
 // -x.
 fn negative(x: i128) -> i64
@@ -22,25 +22,25 @@ fn negative(x: i128) -> i64
 }
 
 // The entry of a vertex with this walk.
-fn flat_colour<const D: usize>(c: &Triple, walk: &Shift<D>) -> i64
-    requires c { IsWithin 523264500000 c.now }
-    requires walk { IsWithin 255500 walk.now }
+fn flat_colour<const D: usize>(c: &Triple, walk: &Option<Shift<D>>) -> i64
+    requires c { IsWithin most_normal c.now }
+    requires walk { IsWithin most_walk (shift_of walk.now) }
     ensures { result ≡ flat_colour c.now walk.now }
 {
-    negative(walk_product(c, walk))
+    negative(c.dot(&shift_of(walk).to_vector().to_triple()))
 }
 
 fn flat_colours<const D: usize>(
     alloc: Global,
     c: &Triple,
-    tree: &[Shift<D>],
+    found: &[Option<Shift<D>>],
 ) -> Result<Vec<i64>, NoMemory>
-    requires c { IsWithin 523264500000 c.now }
-    requires tree { All (IsWithin 255500) tree.now }
-    ensures { IfOk result (λ h. h.items ≡ map (flat_colour c.now) tree.now) }
+    requires c { IsWithin most_normal c.now }
+    requires found { All (λ walk. IsWithin most_walk (shift_of walk)) found.now }
+    ensures { IfOk result (λ h. h.items ≡ map (flat_colour c.now) found.now) }
 {
-    let mut h = Vec::with_capacity(alloc, tree.len())?;
-    for walk in tree {
+    let mut h = Vec::with_capacity(alloc, found.len())?;
+    for walk in found {
         h.push(flat_colour(c, walk))?;
     }
     Ok(h)
@@ -49,21 +49,19 @@ fn flat_colours<const D: usize>(
 /// The colouring by a vector that is orthogonal to the closed walks.
 pub fn flat_split<const D: usize>(
     alloc: Global,
-    g: &Graph<D>,
-    tree: &[Shift<D>],
+    dim: u8,
     c: Triple,
+    found: &[Option<Shift<D>>],
 ) -> Result<Split, NoMemory>
-    requires is_graph { IsGraph g.now }
-    requires tree { AreTree g.now tree.now }
-    requires normal { IsFlatNormal g.now.dimension (generators g.now tree.now) c }
-    requires within { IsWithin 523264500000 c }
-    ensures split { IfOk result (λ s. IsFlatSplit g.now (split_in s)) }
-    ensures dimension { IfOk result (λ s. s.dim ≡ g.now.dimension) }
+    requires c { IsWithin most_normal c }
+    requires found { All (λ walk. IsWithin most_walk (shift_of walk)) found.now }
+    ensures dimension { IfOk result (λ s. s.dim ≡ dim) }
+    ensures split { IfOk result (λ s. split_in s ≡ flat_colouring c found.now) }
 {
     Ok(Split {
-        dim: g.dimension(),
+        dim,
         q: 0,
-        h: Entries::from_vec(flat_colours(alloc, &c, tree)?),
+        h: Entries::from_vec(flat_colours(alloc, &c, found)?),
         c,
     })
 }

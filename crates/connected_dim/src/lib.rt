@@ -2,13 +2,9 @@
 #![tactic(auto)]
 
 mod connectedness;
+mod duals;
 mod flat;
-mod generators;
-mod lattice;
-mod products;
-mod ranks;
-mod reduction;
-mod search;
+mod parts;
 mod sparse;
 mod verdicts;
 

@@ -2,8 +2,8 @@
 use Rattle.std.proofs.Common.{ℕ, pos, ap, ◌∙◌}
 use Rattle.std.specs.Int.{IsGcd}
 use Rattle.std.proofs.lemmas.Nat.Gcd.{same_from_IsGcd}
-use Rattle.integers.proofs.Bezout.{Bezout, bezout}
-use Rattle.integers.proofs.Gcd.{bezout_gcd}
+use Rattle.integers.proofs.numbers.Bezout.{Bezout, bezout}
+use Rattle.integers.proofs.numbers.Gcd.{bezout_gcd}
 use Rattle.exact.specs.Combination.{IsCombination}
 
 -- the greatest common divisor of two numbers is a combination of them

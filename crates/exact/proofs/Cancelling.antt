@@ -4,10 +4,10 @@ use Rattle.std.specs.Prelude.{ℤ, pos, negsuc, ◌+ℤ◌, ◌*ℤ◌, neg_ℤ,
 use Rattle.std.specs.Int.{IsGcd}
 use Rattle.std.proofs.lemmas.Nat.Gcd.{same_from_IsGcd}
 use Rattle.std.proofs.lemmas.Bool.{cases_eq}
-use Rattle.integers.proofs.Ring.{ring, linear, cancel_factor, positive_not_zero}
-use Rattle.integers.proofs.Bezout.{bezout, Bezout}
-use Rattle.integers.proofs.Gcd.{bezout_gcd, natural_multiple}
-use Rattle.integers.proofs.Divisors.{only_one}
+use Rattle.integers.proofs.numbers.Ring.{ring, linear, cancel_factor, positive_not_zero}
+use Rattle.integers.proofs.numbers.Bezout.{bezout, Bezout}
+use Rattle.integers.proofs.numbers.Gcd.{bezout_gcd, natural_multiple}
+use Rattle.integers.proofs.numbers.Divisors.{only_one}
 use Rattle.std.proofs.Math.Nat.{mul_comm}
 use Rattle.exact.specs.Ratio.{Ratio, Divides, IsDenominator, HasInverse}
 use Rattle.exact.specs.Values.{CanCancel}

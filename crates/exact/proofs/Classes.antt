@@ -8,7 +8,7 @@ use Rattle.exact.specs.Values.{CanCancel}
 use Rattle.exact.proofs.Values.{same_refl, one_cancels, times_cancels}
 use Rattle.exact.proofs.Ring.{Value, class, plus_value, times_value, whole_value, by_value, same, plus_exact, times_exact, times_value_comm, times_value_assoc, values, formal}
 use Rattle.exact.proofs.Quotients.{inverse_denominator_cancels}
-use Rattle.integers.proofs.Ring.{ring, linear}
+use Rattle.integers.proofs.numbers.Ring.{ring, linear}
 use Rattle.exact.proofs.Semiring.{IsInvertible}
 
 module _ (m : ℕ) where

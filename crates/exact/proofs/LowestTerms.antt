@@ -9,8 +9,8 @@ use Rattle.std.proofs.Math.Nat.{mul_comm, eq_of_mul-eq-mul_left, ∣_prop}
 use Rattle.std.proofs.lemmas.Nat.Gcd.{dvd_antisymm, IsGcd-swap}
 use Rattle.std.proofs.lemmas.Int.{ints, unsigned_abs-mul}
 use Rattle.std.proofs.lemmas.Bool.Decides.{Decides-and, Decides-int_eq, Decides-like}
-use Rattle.integers.proofs.Ring.{ring, linear, cancel_factor, positive_not_zero}
-use Rattle.integers.proofs.Gcd.{divides_multiple, euclid}
+use Rattle.integers.proofs.numbers.Ring.{ring, linear, cancel_factor, positive_not_zero}
+use Rattle.integers.proofs.numbers.Gcd.{divides_multiple, euclid}
 use Rattle.exact.specs.Ratio.{Ratio, Same, IsDenominator, IsInLowestTerms, ratio}
 use Rattle.exact.proofs.Values.{same_refl}
 

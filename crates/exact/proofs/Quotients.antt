@@ -1,7 +1,7 @@
 -- Quotients: the law of `over`, and what can be cancelled.
 use Rattle.std.proofs.Common.{◌≡◌, ℕ, arith, ap}
 use Rattle.std.specs.Prelude.{ℤ, pos, negsuc, ◌+ℤ◌, ◌-ℤ◌, ◌*ℤ◌, neg_ℤ}
-use Rattle.integers.proofs.Ring.{ring, linear}
+use Rattle.integers.proofs.numbers.Ring.{ring, linear}
 use Rattle.exact.specs.Ratio.{Ratio, Same, HasInverse, ratio_times, ratio_over, inverse_of}
 use Rattle.exact.specs.Values.{HasValue}
 use Rattle.exact.specs.Values.{CanCancel}

@@ -8,7 +8,7 @@ use mathlib.Core.Logic.{∥∥₁_prop, ∥∥₁_elim, ∥∥₁_map}
 use Rattle.exact.specs.Ratio.{Ratio, Same, ratio_plus, ratio_times, whole}
 use Rattle.exact.specs.Values.{CanCancel}
 use Rattle.exact.proofs.Values.{same_refl, same_sym, same_trans, plus_same, times_same, product_cancels, one_cancels}
-use Rattle.integers.proofs.Ring.{ring, linear}
+use Rattle.integers.proofs.numbers.Ring.{ring, linear}
 use Rattle.exact.proofs.Semiring.{Semiring}
 
 module _ (m : ℕ) where

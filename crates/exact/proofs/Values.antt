@@ -2,7 +2,7 @@
 use Rattle.std.proofs.Common.{◌≡◌, ℕ, arith, ◌*◌, ap, sym, refl, ◌∙◌}
 use Rattle.std.specs.Prelude.{ℤ, pos, ◌+ℤ◌, ◌-ℤ◌, ◌*ℤ◌, neg_ℤ}
 use Rattle.std.proofs.lemmas.Int.{ints}
-use Rattle.integers.proofs.Ring.{ring, linear, product_associative}
+use Rattle.integers.proofs.numbers.Ring.{ring, linear, product_associative}
 use Rattle.exact.specs.Ratio.{Ratio, Same, ratio_plus, ratio_times, whole}
 use Rattle.exact.specs.Values.{CanCancel}
 

@@ -3,8 +3,8 @@ use Rattle.std.proofs.Common.{◌≡◌, ℕ, arith, ◌*◌, ◌/◌, ◌≤◌
 use Rattle.std.specs.Int.{IsGcd, ◌∣◌}
 use Rattle.std.proofs.Math.Nat.{one-dvd, mul_assoc, mul_comm, div-mul_cancel}
 use Rattle.std.proofs.lemmas.Nat.Gcd.{dvd_refl}
-use Rattle.integers.proofs.Gcd.{IsMultiple, quotient_of, divides_multiple}
-use Rattle.integers.proofs.Divisors.{only_one, first_factor_positive, factor_positive}
+use Rattle.integers.proofs.numbers.Gcd.{IsMultiple, quotient_of, divides_multiple}
+use Rattle.integers.proofs.numbers.Divisors.{only_one, first_factor_positive, factor_positive}
 use Rattle.fraction.specs.Quotients.{IsLowest}
 
 -- 1 and any number have no common divisor above 1

@@ -4,8 +4,8 @@ use Rattle.std.specs.Prelude.{Bool, true, false, cond, ℤ, pos, neg_ℤ, ◌*�
 use Rattle.std.specs.Int.{IsGcd}
 use Rattle.std.proofs.Math.Nat.{mul_assoc, mul_comm, eq_of_mul-eq-mul_left}
 use Rattle.std.proofs.lemmas.Int.{ints}
-use Rattle.integers.proofs.Ring.{ring}
-use Rattle.integers.proofs.Bounds.{abs_negative, bounded_product}
+use Rattle.integers.proofs.numbers.Ring.{ring}
+use Rattle.integers.proofs.vectors.Bounds.{abs_negative, bounded_product}
 use Rattle.exact.specs.Ratio.{Ratio, Same, IsInLowestTerms, ratio}
 use Rattle.exact.proofs.LowestTerms.{denominators_equal, numerators_equal, crossed, sizes_crossed}
 use Rattle.fraction.specs.Reduced.{AreSmall, HasSmallParts, IsNarrow}

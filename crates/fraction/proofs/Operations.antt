@@ -3,8 +3,8 @@ use Rattle.std.proofs.Common.{◌≡◌, ◌≢◌, ℕ, suc, arith, ◌*◌, �
 use Rattle.std.specs.Prelude.{ℤ, pos, negsuc, neg_ℤ, ◌+ℤ◌, ◌-ℤ◌, ◌*ℤ◌, MatchResult, Result, FitsSigned, unsigned_abs, ◌^◌}
 use Rattle.std.specs.Option.{ok_or}
 use Rattle.std.specs.Int.{w128}
-use Rattle.integers.proofs.Bounds.{bounded_sum, bounded_difference, fits_from_bound}
-use Rattle.integers.proofs.Ring.{ring, linear, other_factor_zero, positive_not_zero}
+use Rattle.integers.proofs.vectors.Bounds.{bounded_sum, bounded_difference, fits_from_bound}
+use Rattle.integers.proofs.numbers.Ring.{ring, linear, other_factor_zero, positive_not_zero}
 use Rattle.exact.specs.Ratio.{Ratio, Same, HasInverse, ratio_plus, ratio_minus, ratio_times, ratio_over, inverse_of, whole, ratio, IsInLowestTerms}
 use Rattle.exact.proofs.LowestTerms.{crossed}
 use Rattle.exact.specs.Faults.{IsWide, IsOverFault}

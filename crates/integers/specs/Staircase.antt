@@ -1,5 +1,5 @@
 -- The staircase basis of a lattice: of a set of vectors that is given by its membership.
-use Rattle.std.specs.Prelude.{◌≡◌, ℕ, ℤ, pos, List, length, ◌<ℤ◌, ◌≤ℤ◌, ◌<◌, drop, slice_index_or}
+use Rattle.std.specs.Prelude.{Bool, IsTrue, ◌↔◌, ◌≡◌, ℕ, ℤ, pos, List, length, ◌<ℤ◌, ◌≤ℤ◌, ◌<◌, drop, slice_index_or}
 use Rattle.integers.specs.Vectors.{Vector, zero_vector, parts, IsAtMost, combination}
 
 -- the part of v at place i, counted from 0
@@ -20,7 +20,8 @@ pub record MayLead (L : Vector → Type 0) (i : ℕ) (v : Vector) : Type 0 where
 abbrev pub NotNegativeAfter : ℕ → Vector → Type 0
 NotNegativeAfter i v = (k : ℕ) → i < k → pos 0 ≤ℤ part k v
 
--- the row at i, counted from 0: the least leading part, and then the least remaining parts that are not negative
+-- the row at i, counted from 0: the least leading part, and then the least remaining parts that
+-- are not negative
 pub record IsStair (L : Vector → Type 0) (i : ℕ) (v : Vector) : Type 0 where
   pub may : MayLead L i v
   pub least : (w : Vector) → MayLead L i w → part i v ≤ℤ part i w
@@ -37,3 +38,9 @@ pub record IsStaircase (L : Vector → Type 0) (d : ℕ) (rows : List Vector) : 
 pub record Spans (L : Vector → Type 0) (rows : List Vector) : Type 0 where
   pub inside : (ks : List ℤ) → L (combination ks rows)
   pub all : (v : Vector) → L v → (ks : List ℤ) × (combination ks rows ≡ v)
+
+-- sets that are given by tests and have the same members have one staircase basis
+abbrev pub StaircasesAreOne : Type 0
+StaircasesAreOne =
+    (L M : Vector → Bool) (d : ℕ) (rows others : List Vector) → IsStaircase (λ v. IsTrue (L v)) d rows
+    → IsStaircase (λ v. IsTrue (M v)) d others → ((v : Vector) → IsTrue (L v) ↔ IsTrue (M v)) → rows ≡ others

@@ -3,7 +3,7 @@ use Rattle.std.specs.Prelude.{◌≡◌}
 use Rattle.periodic_net.specs.Graph.{Graph, IsConnected}
 use Rattle.periodic_net.specs.Placement.{IsNormalPlacement, IsWithinLimits}
 use Rattle.fraction.specs.Reduced.{IsNarrow}
-use Rattle.fraction.specs.Values.{value_of}
+use Rattle.fraction.specs.Values.{fraction_value}
 use Rattle.quotient_graph.specs.PlacedNets.{PlacedNet}
 use Rattle.connected_dim.specs.Refusals.{IsDisconnectedBy, IsDegenerateBy}
 use Rattle.elimination.specs.Faults.{IsFirstWide}
@@ -16,7 +16,7 @@ use Rattle.least_key.specs.declared.refusal.Refusal.TheVariants.{Disconnected, D
 abbrev pub IsTrueOf : Graph → Refusal → Type 0
 IsTrueOf G (Disconnected split) = IsDisconnectedBy G split
 IsTrueOf G (Degenerate split) = IsDegenerateBy G split
-IsTrueOf G (TooWide at wide) = IsConnected G × IsFirstWide 0 IsNarrow value_of (listed_numbers G) at wide
+IsTrueOf G (TooWide at wide) = IsConnected G × IsFirstWide 0 IsNarrow fraction_value (listed_numbers G) at wide
 IsTrueOf G (WidePlacement w) = IsConnected G × IsWidePlacement G w
 IsTrueOf G NoMemory = Unit {0}
 

@@ -1,7 +1,7 @@
 -- How numbers and vertices are printed.
 use Rattle.std.specs.Prelude.{ℕ, ◌-◌, ◌<◌, ◌≤◌, ◌==◌, ℤ, List, [], ◌∷◌, ◌++◌, length, slice_index_or, if◌then◌else◌, codes}
 use Rattle.std.specs.Fmt.{decimal, signed_decimal}
-use Rattle.fraction.specs.Values.{value_of}
+use Rattle.fraction.specs.Values.{fraction_value}
 use Rattle.fraction.specs.declared.numbers.Fraction.{Fraction}
 
 -- each number after a blank
@@ -16,7 +16,7 @@ list_text (x ∷ xs) = signed_decimal x ++ numbers_after xs
 
 -- the numerator, a slash, and the denominator
 abbrev pub fraction_text : Fraction → List ℕ
-fraction_text f = signed_decimal (value_of f).num ++ codes "/" ++ decimal (value_of f).den
+fraction_text f = signed_decimal (fraction_value f).num ++ codes "/" ++ decimal (fraction_value f).den
 
 -- where there are names, vertex u has one
 abbrev pub IsNamed : List (List ℕ) → ℕ → Type 0

@@ -4,8 +4,8 @@ ghost use Rattle.periodic_net.specs.Graph.{IsQuotientVertex};
 ghost use Rattle.least_key.specs.AnyPlacements.{placed_in};
 ghost use Rattle.net_report.specs.Placements.{position_text, positions_text, placement_word, denominator_text, placement_text};
 
-use crate::numbers::{push_parts, push_signed, push_vertex};
 use crate::NoMemory;
+use crate::numbers::{push_parts, push_signed, push_vertex};
 use cgd_read::Names;
 use least_key::AnyPlaced;
 use quotient_graph::Placed;

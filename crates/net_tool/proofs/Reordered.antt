@@ -2,7 +2,7 @@
 use Rattle.std.proofs.Common.{◌≡◌, ◌⊎◌, inl, inr, ℕ, ◌≤◌, ◌<◌, List, [], ◌∷◌, refl, sym, ap, subst, ◌∙◌}
 use Rattle.std.specs.List.Sorted.{IsPermutation}
 use Rattle.std.proofs.lemmas.List.Sorted.{IsPermutation-sym, Contains-permutation}
-use Rattle.integers.proofs.Members.{is_in, contains_from_in, IsIn}
+use Rattle.integers.proofs.lists.Members.{is_in, contains_from_in, IsIn}
 use Rattle.periodic_net.specs.Graph.{Graph, Arc, reverse_of, both_ways, IsArc, IsQuotientVertex, Vertex, IsVertex, IsWalk, IsReached, IsConnected}
 use Rattle.periodic_net.specs.Split.{Split, IsFound, IsPartSplit, IsFlatSplit, IsPivot, IsSparseSplit}
 use Rattle.quotient_graph.specs.Stars.{IsInOrder}

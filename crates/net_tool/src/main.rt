@@ -11,9 +11,8 @@ mod words;
 
 use outside::{HostShelf, StdoutSink};
 use status::Status;
-use std::env;
-use std::io;
 use std::process::ExitCode;
+use std::{env, io};
 use tool::run;
 
 /// The exit status where the runtime does not give the words, for another cause than want of memory.

@@ -12,8 +12,8 @@ use Rattle.std.proofs.lemmas.List.Elements.{recursion_from_All}
 use Rattle.std.proofs.lemmas.Bool.{eqb-true}
 use Rattle.integers.specs.Vectors.{Vector, parts, zero_vector, StartsPositive, opposite, vector}
 use Rattle.periodic_net.specs.Graph.{IsNormalSpelling, Arc, reverse_of, arc, both_ways, IsEdge, Graph, IsGraph, arcs, arcs_from, IsArc}
-use Rattle.integers.proofs.Members.{contains_from_in, is_in, IsIn, AreApart, apart_from_pairs}
-use Rattle.integers.proofs.Filters.{all_in, filter_apart, in_filter, filter_in}
+use Rattle.integers.proofs.lists.Members.{contains_from_in, is_in, IsIn, AreApart, apart_from_pairs}
+use Rattle.integers.proofs.lists.Filters.{all_in, filter_apart, in_filter, filter_in}
 
 -- the negative is on the other side of 0
 neg_cmp : (x : ℤ) → int_cmp (pos 0) (neg_ℤ x) ≡ ordering_reverse (int_cmp (pos 0) x)

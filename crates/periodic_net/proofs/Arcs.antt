@@ -5,7 +5,7 @@ use Rattle.std.proofs.lemmas.List.Elements.{recursion_from_All, All-from_recursi
 use Rattle.std.proofs.lemmas.Int.{ints}
 use Rattle.integers.specs.Vectors.{HasDimension, minus, zero_vector}
 use Rattle.periodic_net.specs.Graph.{Graph, Arc, IsQuotientVertex, IsEdge, reverse_of, both_ways, IsArc, IsGraph, arcs, arc, IsVertex, Vertex, AreJoined, vertex}
-use Rattle.integers.proofs.Filters.{all_at}
+use Rattle.integers.proofs.lists.Filters.{all_at}
 
 -- the ends of a are vertices of the quotient graph, and its shift has the dimension
 pub record IsInside (G : Graph) (a : Arc) : Type 0 where

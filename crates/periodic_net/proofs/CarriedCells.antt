@@ -5,9 +5,9 @@ use Rattle.integers.specs.Vectors.{Vector, HasDimension, times, plus}
 use Rattle.periodic_net.specs.Graph.{moved, IsVertex, Vertex, Graph, vertex, IsGraph, IsConnected}
 use Rattle.periodic_net.specs.Maps.{Iso, base_sum}
 use Rattle.periodic_net.specs.Placement.{IsBarycentric, Placement}
-use Rattle.integers.proofs.Vectors.{sum_times, one_times, zero_times, plus_zero, plus_associative, plus_cancel, times_dimension}
-use Rattle.integers.proofs.Ring.{sum_product, ring, cancel_factor, positive_not_zero}
-use Rattle.integers.proofs.Coordinates.{IsCoordinate}
+use Rattle.integers.proofs.vectors.Laws.{sum_times, one_times, zero_times, plus_zero, plus_associative, plus_cancel, times_dimension}
+use Rattle.integers.proofs.numbers.Ring.{sum_product, ring, cancel_factor, positive_not_zero}
+use Rattle.integers.proofs.vectors.Coordinates.{IsCoordinate}
 use Rattle.periodic_net.proofs.Periods.{base_sum_after, moved_vertex, base_after, periodic_after}
 use Rattle.periodic_net.proofs.CarriedPositions.{further_same, pulled_in, pulled_period}
 

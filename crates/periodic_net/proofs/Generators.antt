@@ -3,8 +3,8 @@ use Rattle.std.proofs.Common.{◌≡◌, ℕ, ℤ, ◌+ℤ◌, ◌-ℤ◌, List,
 use Rattle.integers.specs.Vectors.{Vector, zero_vector, plus, minus, HasDimension}
 use Rattle.periodic_net.specs.Graph.{Graph, Arc, arc, IsArc, IsQuotientVertex, Vertex, vertex, IsVertex, AreJoined, IsWalk, IsReached, IsConnected}
 use Rattle.periodic_net.specs.Split.{ClosedShift, WalkShift}
-use Rattle.integers.proofs.Ring.{linear}
-use Rattle.integers.proofs.Vectors.{vector_equal, zero_plus, plus_minus, minus_plus, minus_zero, minus_dimension}
+use Rattle.integers.proofs.numbers.Ring.{linear}
+use Rattle.integers.proofs.vectors.Laws.{vector_equal, zero_plus, plus_minus, minus_plus, minus_zero, minus_dimension}
 use Rattle.periodic_net.proofs.Walks.{reached_transitive, reached_by_arc, reached_moved, reached_turned, same_reached}
 
 module _ (G : Graph) where

@@ -4,8 +4,8 @@ use Rattle.std.proofs.lemmas.Int.{ints}
 use Rattle.std.proofs.Math.IntN.{zero-*ℤ, suc_ℤ-*ℤ}
 use Rattle.integers.specs.Vectors.{Vector, plus, minus, times, opposite}
 use Rattle.periodic_net.specs.Graph.{Graph, arc, IsArc, vertex, IsReached}
-use Rattle.integers.proofs.Vectors.{vector_equal}
-use Rattle.integers.proofs.Ring.{negative_product, product_negative}
+use Rattle.integers.proofs.vectors.Laws.{vector_equal}
+use Rattle.integers.proofs.numbers.Ring.{negative_product, product_negative}
 use Rattle.periodic_net.proofs.Walks.{reached_by_arc, reached_transitive, reached_itself}
 
 -- a reached_by_shift reached_along_loop an arc

@@ -7,9 +7,9 @@ use borrow.Author.Differences.{product_is}
 use Rattle.integers.specs.Vectors.{Vector, vector, zero_vector, plus, times, HasDimension}
 use Rattle.periodic_net.specs.Graph.{Graph, IsGraph, Vertex, vertex, moved, IsVertex}
 use Rattle.periodic_net.specs.Maps.{Base, base_sum, IsPeriodic, PeriodicMap, IsInBox, IsMapTable, IsDrawnBy}
-use Rattle.integers.proofs.Ring.{ring, linear}
-use Rattle.integers.proofs.Division.{divided}
-use Rattle.integers.proofs.Vectors.{vector_equal, plus_associative, times_plus, plus_dimension}
+use Rattle.integers.proofs.numbers.Ring.{ring, linear}
+use Rattle.integers.proofs.numbers.Division.{divided}
+use Rattle.integers.proofs.vectors.Laws.{vector_equal, plus_associative, times_plus, plus_dimension}
 use Rattle.periodic_net.proofs.Arcs.{origin_vertex}
 use Rattle.periodic_net.proofs.Periods.{base_sum_plus, base_dimension, moved_vertex}
 

@@ -4,10 +4,10 @@ use Rattle.std.proofs.lemmas.Int.{ints}
 use Rattle.integers.specs.Vectors.{plus, minus, Vector}
 use Rattle.periodic_net.specs.Graph.{Arc, Vertex, vertex, arc, Graph, IsArc, AreJoined, IsGraph, IsVertex, arcs_from, moved}
 use Rattle.periodic_net.specs.Maps.{Iso}
-use Rattle.integers.proofs.Vectors.{plus_minus, minus_plus, vector_equal}
-use Rattle.integers.proofs.Members.{Carries}
+use Rattle.integers.proofs.vectors.Laws.{plus_minus, minus_plus, vector_equal}
+use Rattle.integers.proofs.lists.Members.{Carries}
 use Rattle.integers.specs.Lists.{total}
-use Rattle.integers.proofs.Sums.{same_total}
+use Rattle.integers.proofs.lists.Sums.{same_total}
 use Rattle.periodic_net.proofs.ArcLists.{arc_is_from, from_is_arc, arcs_apart}
 use Rattle.periodic_net.proofs.Arcs.{joined_inside}
 

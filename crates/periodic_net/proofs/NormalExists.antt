@@ -6,13 +6,13 @@ use Rattle.std.proofs.Math.Nat.{mul_assoc}
 use Rattle.integers.specs.Vectors.{times, plus, minus, vector_sum, Vector, zero_vector}
 use Rattle.periodic_net.specs.Graph.{Graph, IsQuotientVertex, Arc, IsGraph, arcs_from, IsVertex, Vertex, vertex}
 use Rattle.periodic_net.specs.Placement.{Placement, base, arc_vector, IsBarycentric, position, HasNoCollision, IsNormal, IsNormalPlacement}
-use Rattle.integers.proofs.Ring.{ring, other_factor_zero, positive_not_zero}
-use Rattle.integers.proofs.Vectors.{minus_itself, minus_back, numbers_times, vector_equal, times_zero, times_plus, times_cancel}
-use Rattle.integers.proofs.Tables.{at_scaled, table_length, at_table, table}
+use Rattle.integers.proofs.numbers.Ring.{ring, other_factor_zero, positive_not_zero}
+use Rattle.integers.proofs.vectors.Laws.{minus_itself, minus_back, numbers_times, vector_equal, times_zero, times_plus, times_cancel}
+use Rattle.integers.proofs.lists.Tables.{at_scaled, table_length, at_table, table}
 use Rattle.std.proofs.lemmas.List.{length-map}
-use Rattle.integers.proofs.Members.{IsIn}
-use Rattle.integers.proofs.Gcd.{quotient_of}
-use Rattle.integers.proofs.Divisors.{first_factor_positive, factor_positive, common, all_table, Common, only_one}
+use Rattle.integers.proofs.lists.Members.{IsIn}
+use Rattle.integers.proofs.numbers.Gcd.{quotient_of}
+use Rattle.integers.proofs.numbers.Divisors.{first_factor_positive, factor_positive, common, all_table, Common, only_one}
 use Rattle.periodic_net.proofs.Arcs.{arc_inside}
 use Rattle.periodic_net.proofs.ArcLists.{from_is_arc}
 

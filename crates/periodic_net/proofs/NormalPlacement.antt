@@ -6,10 +6,10 @@ use Rattle.std.proofs.Math.Nat.{dvd-mul_left}
 use Rattle.integers.specs.Vectors.{times, zero_vector, Vector, minus, plus}
 use Rattle.periodic_net.specs.Graph.{Graph, IsQuotientVertex, IsGraph, IsConnected}
 use Rattle.periodic_net.specs.Placement.{Placement, base, IsNormalPlacement, IsNormal}
-use Rattle.integers.proofs.Vectors.{vector_equal, times_cancel, times_zero, minus_zero, equal_of_minus}
-use Rattle.integers.proofs.Bezout.{cancel_common, coprime_combination, coprime_multiple, bezout, Bezout}
-use Rattle.integers.proofs.Divisors.{first_factor_positive}
-use Rattle.integers.proofs.Ring.{positive_not_zero}
+use Rattle.integers.proofs.vectors.Laws.{vector_equal, times_cancel, times_zero, minus_zero, equal_of_minus}
+use Rattle.integers.proofs.numbers.Bezout.{cancel_common, coprime_combination, coprime_multiple, bezout, Bezout}
+use Rattle.integers.proofs.numbers.Divisors.{first_factor_positive}
+use Rattle.integers.proofs.numbers.Ring.{positive_not_zero}
 use Rattle.periodic_net.proofs.Translates.{placements_translate}
 
 -- the places of the vertices are the same, in units of 1/(the product of the denominators)

@@ -5,9 +5,9 @@ use Rattle.std.proofs.Math.Nat.{mul-le-mul}
 use Rattle.integers.specs.Vectors.{Vector, times, plus, zero_vector, minus, HasDimension, vector}
 use Rattle.periodic_net.specs.Maps.{Base, base_sum, IsPeriodic}
 use Rattle.periodic_net.specs.Graph.{moved, Graph, IsVertex, Vertex}
-use Rattle.integers.proofs.Coordinates.{IsCoordinate}
-use Rattle.integers.proofs.Ring.{ring}
-use Rattle.integers.proofs.Vectors.{vector_equal, times_dimension, numbers_times, times_exchange}
+use Rattle.integers.proofs.vectors.Coordinates.{IsCoordinate}
+use Rattle.integers.proofs.numbers.Ring.{ring}
+use Rattle.integers.proofs.vectors.Laws.{vector_equal, times_dimension, numbers_times, times_exchange}
 
 -- a coordinate of the sum of v_i times B_i
 pub base_is : (c : Vector → ℤ) → IsCoordinate c → (b : Base) (v : Vector) → c (base_sum b v) ≡ v.x *ℤ c b.first +ℤ (v.y *ℤ c b.second +ℤ v.z *ℤ c b.third)

@@ -7,8 +7,8 @@ use Prim.{yes, no, Dec}
 use Rattle.integers.specs.Vectors.{minus, Vector, times, plus, HasDimension, zero_vector}
 use Rattle.periodic_net.specs.Placement.{Placement, base, position, arc_vector, HasNoCollision}
 use Rattle.periodic_net.specs.Graph.{arc, Vertex, moved, Graph, IsVertex, IsQuotientVertex, Arc, vertex}
-use Rattle.integers.proofs.Ring.{ring}
-use Rattle.integers.proofs.Vectors.{vector_equal, minus_dimension}
+use Rattle.integers.proofs.numbers.Ring.{ring}
+use Rattle.integers.proofs.vectors.Laws.{vector_equal, minus_dimension}
 use Rattle.periodic_net.proofs.Neighbours.{between_end, end_of}
 
 -- a step, in one coordinate

@@ -1,7 +1,7 @@
 -- The class graph of the square net: one class, and four arcs.
 use Rattle.std.proofs.Common.{◌≡◌, ◌≢◌, inl, inr, ℕ, zero, suc, pos, negsuc, ◌<◌, [], ◌∷◌, get_or, refl, sym, ap, subst, ◌∙◌, arith}
 use Rattle.std.proofs.lemmas.Int.{ints}
-use Rattle.integers.proofs.Members.{is_in, contains_from_in, IsIn}
+use Rattle.integers.proofs.lists.Members.{is_in, contains_from_in, IsIn}
 use Rattle.integers.specs.Vectors.{Vector, vector}
 use Rattle.periodic_net.specs.Examples.{square_net}
 use Rattle.periodic_net.specs.Graph.{Arc, arc, arcs}

@@ -6,7 +6,7 @@ use Rattle.std.specs.List.{AllByRecursion}
 use Rattle.std.proofs.lemmas.List.Elements.{All-from_recursion}
 use Rattle.periodic_net.specs.Examples.{square_net}
 use Rattle.periodic_net.specs.Graph.{IsGraph, IsEdge, Arc, arc, IsArc, vertex, IsReached, IsConnected, IsQuotientVertex, arcs_from}
-use Rattle.integers.proofs.Vectors.{vector_equal}
+use Rattle.integers.proofs.vectors.Laws.{vector_equal}
 use Rattle.periodic_net.proofs.Walks.{reached_transitive}
 use Rattle.std.proofs.Math.Nat.{eq-one_of_dvd-one}
 use Rattle.periodic_net.specs.Placement.{Placement, base, position, arc_vector, IsBarycentric, IsNormal, HasNoCollision, IsStablePlacement}

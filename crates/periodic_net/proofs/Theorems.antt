@@ -8,8 +8,8 @@ use Rattle.periodic_net.specs.Classes.{IsTranslation}
 use Rattle.periodic_net.specs.Laws.{ArcsStandOnce, BarycentricPlacementsTranslate, ClassesAreEquivalence, IsomorphismIsEquivalence, IsomorphismsAreAffine, IsomorphismsCarry, IsomorphismsKeep, NormalPlacementExists, NormalPlacementIsOne, PositionsTell, SplitsRefute, TranslationsAreGroup, MovesAlike, MaximumPrinciple, TablesAreMaps}
 use Rattle.periodic_net.proofs.MaximumPrinciple.{periodic_constant}
 use Rattle.periodic_net.proofs.MapTables.{drawn, drawn_by_table, drawn_once, periodic_of_drawn, table_of, is_table_of, drawn_of_periodic}
-use Rattle.integers.proofs.Vectors.{times_zero}
-use Rattle.integers.proofs.Members.{pairs_from_apart}
+use Rattle.integers.proofs.vectors.Laws.{times_zero}
+use Rattle.integers.proofs.lists.Members.{pairs_from_apart}
 use Rattle.periodic_net.proofs.ArcLists.{all_arcs_apart}
 use Rattle.periodic_net.proofs.Splits.{split_shows_not_connected}
 use Rattle.periodic_net.proofs.Positions.{positions_tell}

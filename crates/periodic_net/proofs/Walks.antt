@@ -2,7 +2,7 @@
 use Rattle.std.proofs.Common.{◌≡◌, List, [], ◌∷◌, ◌++◌, refl, sym, ap, subst}
 use Rattle.integers.specs.Vectors.{Vector, minus}
 use Rattle.periodic_net.specs.Graph.{Graph, arc, IsArc, Vertex, vertex, moved, AreJoined, IsWalk, IsReached}
-use Rattle.integers.proofs.Vectors.{plus_minus, minus_shifted, opposite_minus}
+use Rattle.integers.proofs.vectors.Laws.{plus_minus, minus_shifted, opposite_minus}
 use Rattle.periodic_net.proofs.ArcLists.{arc_turned}
 
 -- joined vertices, by equal names

@@ -5,8 +5,8 @@ use Rattle.std.specs.Int.{w128}
 use Rattle.std.proofs.lemmas.Int.{fits_signed_from_abs}
 use Rattle.periodic_net.specs.Limits.{most_units, most_shift}
 use Rattle.integers.specs.Vectors.{Vector, IsWithin}
-use Rattle.integers.proofs.Ring.{ring, linear}
-use Rattle.integers.proofs.Bounds.{bounded_sum, bounded_difference, bounded_product, fits_from_bound}
+use Rattle.integers.proofs.numbers.Ring.{ring, linear}
+use Rattle.integers.proofs.vectors.Bounds.{bounded_sum, bounded_difference, bounded_product, fits_from_bound}
 
 pub shift_fits : (s : ℤ) → unsigned_abs s ≤ most_shift → FitsSigned w128 s
 shift_fits s h = fits_from_bound s most_shift (omega arith) h

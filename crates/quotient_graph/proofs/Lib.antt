@@ -1,10 +1,10 @@
-pub mod Once
 pub mod Rising
 pub mod Lists
 pub mod SortedStars
 pub mod GraphsInMemory
 pub mod ReadGraphs
 pub mod EdgeLists
+pub mod SquareEdges
 pub mod Reach
 pub mod PositionBounds
 pub mod Fitting

@@ -1,17 +1,18 @@
 -- Where all arcs are within the limits, so are the positions, since at most most_vertices - 1 arcs lead from vertex 1 to another.
-use Rattle.std.proofs.Common.{◌≡◌, ℕ, zero, suc, arith, ◌+◌, ◌-◌, ◌*◌, ◌<◌, ◌≤◌, ap, sym, refl, subst, ◌∙◌}
+use Rattle.std.proofs.Common.{◌≡◌, ◌^◌, ℕ, zero, suc, arith, ◌+◌, ◌-◌, ◌*◌, ◌<◌, ◌≤◌, ap, sym, refl, subst, ◌∙◌}
 use Rattle.std.specs.Prelude.{ℤ, pos, ◌+ℤ◌, ◌-ℤ◌, ◌*ℤ◌, unsigned_abs}
 use Rattle.std.proofs.Math.Nat.{mul-le-mul}
 use Rattle.integers.specs.Vectors.{Vector, zero_vector, plus, times, IsWithin}
 use Rattle.integers.specs.Staircase.{part}
-use Rattle.integers.proofs.Ring.{linear}
-use Rattle.integers.proofs.Coordinates.{IsCoordinate, coordinate_x, coordinate_y, coordinate_z}
-use Rattle.integers.proofs.Bounds.{bounded_sum, bounded_difference, bounded_product}
+use Rattle.integers.proofs.numbers.Ring.{linear}
+use Rattle.integers.proofs.vectors.Coordinates.{IsCoordinate, coordinate_x, coordinate_y, coordinate_z}
+use Rattle.integers.proofs.vectors.Bounds.{bounded_sum, bounded_difference, bounded_product}
 use Rattle.periodic_net.specs.Graph.{Graph, Arc, IsArc, IsGraph, IsQuotientVertex, IsConnected}
 use Rattle.periodic_net.specs.Placement.{Placement, base, arc_vector, IsWithinLimits}
 use Rattle.periodic_net.specs.Limits.{most_vertices, most_shift, most_units, IsSmall}
 use Rattle.quotient_graph.proofs.StarArcs.{arc_within}
 use Rattle.quotient_graph.specs.PlacedNets.{most_position}
+use Rattle.quotient_graph.proofs.Fitting.{within_more}
 use Rattle.quotient_graph.proofs.Reach.{reach}
 
 -- a number of three
@@ -73,7 +74,12 @@ module _ (G : Graph) (graph : IsGraph G) (connected : IsConnected G) (small : Is
       omega (arith, r, m)
 
 -- the position of each vertex is within that bound
-pub position_fits : (G : Graph) → IsGraph G → IsConnected G → IsSmall G → (P : Placement) → base P 1 ≡ zero_vector → IsWithinLimits G P → (u : ℕ) → IsQuotientVertex G u → IsWithin most_position (base P u)
-position_fits G graph connected small P origin limits u q =
+pub position_bounded : (G : Graph) → IsGraph G → IsConnected G → IsSmall G → (P : Placement) → base P 1 ≡ zero_vector → IsWithinLimits G P → (u : ℕ) → IsQuotientVertex G u → IsWithin most_position (base P u)
+position_bounded G graph connected small P origin limits u q =
     let fits = λ (c : ℕ) (l : c < 3). part_fits G graph connected small P origin limits c l u q in
     (fits 0 (omega arith), fits 1 (omega arith), fits 2 (omega arith))
+
+-- so it fits a vector
+pub position_fits : (G : Graph) → IsGraph G → IsConnected G → IsSmall G → (P : Placement) → base P 1 ≡ zero_vector → IsWithinLimits G P → (u : ℕ) → IsQuotientVertex G u → IsWithin (2 ^ 61) (base P u)
+position_fits G graph connected small P origin limits u q =
+    within_more most_position (2 ^ 61) (base P u) (omega arith) (position_bounded G graph connected small P origin limits u q)

@@ -12,7 +12,7 @@ use Rattle.std.proofs.lemmas.List.Sorted.{sorted_far, ranks_by}
 use Rattle.integers.specs.Vectors.{vector, parts}
 use Rattle.periodic_net.specs.Graph.{Arc, arc}
 use Rattle.quotient_graph.specs.Order.{arc_numbers, AreRising}
-use Rattle.quotient_graph.proofs.Once.{StandsOnce, permuted_once, once_from_pairs, pairs_from_once}
+use Rattle.integers.proofs.lists.Apart.{permuted_pairs}
 
 -- the order of arcs, by their numbers
 abbrev pub arc_cmp : Arc → Arc → Ordering
@@ -42,13 +42,14 @@ less_by Greater Less e n f = let bad : true ≡ false = f in cc
 less_by Greater Equal e n f = cc
 less_by Greater Greater e n f = cc
 
-pub rising_from_sorted : (xs : List Arc) → IsSorted arc_cmp xs → StandsOnce xs → AreRising xs
-rising_from_sorted xs up once i j d l m =
+-- a sorted list of different arcs rises
+pub rising_from_sorted : (xs : List Arc) → IsSorted arc_cmp xs → AllPairs (λ a b. a ≢ b) xs → AreRising xs
+rising_from_sorted xs up different i j d l m =
     let far = sorted_far (λ a b. is_lt (arc_cmp a b)) (ranks_by (lists_total int_cmp_total) arc_numbers) xs up i j d (omega arith) m in
     less_by (arc_cmp (get_or xs i d) (get_or xs j d)) (arc_cmp (get_or xs j d) (get_or xs i d))
     ((lists_total int_cmp_total).antisymm (arc_numbers (get_or xs i d)) (arc_numbers (get_or xs j d)))
-    (λ e. pairs_from_once xs once i j d l m (equal_arcs _ _ e)) far
+    (λ e. different i j d l m (equal_arcs _ _ e)) far
 
 -- different arcs, after a sort
 pub rising_after_sort : (xs ys : List Arc) → IsPermutation xs ys → IsSorted arc_cmp ys → AllPairs (λ a b. a ≢ b) xs → AreRising ys
-rising_after_sort xs ys p up apart = rising_from_sorted ys up (permuted_once xs ys p (once_from_pairs xs apart))
+rising_after_sort xs ys p up apart = rising_from_sorted ys up (permuted_pairs xs ys p apart)

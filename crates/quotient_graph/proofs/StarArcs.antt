@@ -5,8 +5,8 @@ use Rattle.std.specs.List.{All, AllByRecursion, Contains}
 use Rattle.std.proofs.lemmas.List.Elements.{recursion_from_All, All-from_recursion}
 use Rattle.std.proofs.lemmas.List.Sorted.{IsPermutation-sym, Contains-permutation}
 use Rattle.integers.specs.Vectors.{Vector, opposite, IsWithin}
-use Rattle.integers.proofs.Members.{in_from_contains, contains_from_in}
-use Rattle.integers.proofs.Filters.{all_at}
+use Rattle.integers.proofs.lists.Members.{in_from_contains, contains_from_in}
+use Rattle.integers.proofs.lists.Filters.{all_at}
 use Rattle.periodic_net.specs.Graph.{Graph, Arc, both_ways, arcs, arcs_from, IsArc, IsGraph}
 use Rattle.periodic_net.proofs.Arcs.{arc_inside}
 use Rattle.periodic_net.proofs.ArcLists.{from_is_arc, arc_is_from}

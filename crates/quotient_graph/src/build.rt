@@ -23,7 +23,8 @@ fn sort_star<const D: usize>(star: &mut Star<D>)
 fn push_arc<const D: usize>(stars: &mut [Star<D>], arc: Arc<D>) -> Result<(), NoMemory>
     requires low { 1 ≤ arc.from }
     requires high { arc.from ≤ length stars.old }
-    ensures { OnOk result (map (λ s. s.items) stars.new ≡ with_arc (map (λ s. s.items) stars.old) arc.entry) }
+    ensures { OnOk result (
+        map (λ s. s.items) stars.new ≡ with_arc (map (λ s. s.items) stars.old) arc.entry) }
 {
     stars[arc.from as usize - 1].push(arc)?;
     Ok(())
@@ -80,7 +81,8 @@ fn push_edge<const D: usize>(stars: &mut [Star<D>], edge: &Arc<D>) -> Result<(),
 fn push_edges<const D: usize>(stars: &mut [Star<D>], edges: &[Arc<D>]) -> Result<(), NoMemory>
     requires edges { All (EdgeFits (length stars.old)) edges.now }
     requires none { HaveArcs (length stars.old) (map (λ s. s.items) stars.old) [] }
-    ensures { OnOk result (HaveArcs (length stars.old) (map (λ s. s.items) stars.new) (both_ways edges.now)) }
+    ensures { OnOk result (
+        HaveArcs (length stars.old) (map (λ s. s.items) stars.new) (both_ways edges.now)) }
 {
     for edge in edges {
         push_edge(stars, edge)?;

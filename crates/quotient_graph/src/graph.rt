@@ -10,8 +10,8 @@ use crate::{Arc, NoMemory};
 use std::alloc::Global;
 use std::marker::Model;
 
-/// A labelled quotient graph: its vertices are numbered from 1, and its different edges stand in normal
-/// spelling, rising by tail, head and shift. Contracts see the graph that it stands for.
+/// A labelled quotient graph: its vertices are numbered from 1, and its different edges stand in
+/// normal spelling, rising by tail, head and shift. Contracts see the graph that it stands for.
 #[derive(Drop)]
 pub struct Graph<const D: usize> {
     vertices: u32,
@@ -28,7 +28,8 @@ impl<const D: usize> Model for Graph<D> {
 
     ghost view = { λ g. graph_with D g.vertices g.edges.items };
 
-    ghost invariant = { λ g. IsGraphInMemory (graph_with D g.vertices g.edges.items) (map (λ s. s.items) g.stars.items) };
+    ghost invariant = { λ g.
+        IsGraphInMemory (graph_with D g.vertices g.edges.items) (map (λ s. s.items) g.stars.items) };
 }
 
 impl<const D: usize> Graph<D> {

@@ -7,6 +7,8 @@ mod graph;
 mod placed;
 mod raw;
 mod split;
+#[cfg(test)]
+mod tests;
 
 pub use arc::Arc;
 pub use graph::Graph;

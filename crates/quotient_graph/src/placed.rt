@@ -10,8 +10,8 @@ use crate::{Arc, Graph};
 use std::marker::Model;
 use vecdim::{Shift, Vect};
 
-/// A graph whose net is connected, with its normal barycentric placement, which is within the limits. Contracts
-/// see the graph and the placement.
+/// A graph whose net is connected, with its normal barycentric placement, which is within the limits.
+/// Contracts see the graph and the placement.
 #[derive(Drop)]
 pub struct Placed<const D: usize> {
     graph: Graph<D>,

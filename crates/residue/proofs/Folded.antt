@@ -1,7 +1,7 @@
 -- Modulo m, m + 1 is 1: the digits of a number to the base m + 1 may be added.
 use Rattle.std.proofs.Common.{◌≡◌, ◌<◌, ◌≤◌, ℕ, ◌+◌, ◌-◌, ◌*◌, arith, sym, ap, subst}
 use Rattle.std.specs.Prelude.{ℤ, pos, neg_ℤ, ◌+ℤ◌, ◌-ℤ◌, ◌*ℤ◌}
-use Rattle.integers.proofs.Ring.{ring, linear}
+use Rattle.integers.proofs.numbers.Ring.{ring, linear}
 use Rattle.residue.specs.Residues.{IsResidue}
 
 -- the sum of the digits is the number

@@ -2,8 +2,8 @@
 use Rattle.std.proofs.Common.{◌≡◌, ℕ, ℤ, pos, ◌+ℤ◌, ◌*ℤ◌, List, [], ◌∷◌, refl, sym, ap, subst, ◌∙◌, arith}
 use Rattle.std.proofs.lemmas.Int.{ints}
 use Rattle.integers.specs.Vectors.{Vector, zero_vector, HasDimension, plus, times, combination}
-use Rattle.integers.proofs.Ring.{linear}
-use Rattle.integers.proofs.Vectors.{vector_equal, plus_zero, plus_associative, plus_dimension, times_dimension}
+use Rattle.integers.proofs.numbers.Ring.{linear}
+use Rattle.integers.proofs.vectors.Laws.{vector_equal, plus_zero, plus_associative, plus_dimension, times_dimension}
 use Rattle.vecdim.specs.Stairs.{Stairs}
 use Rattle.vecdim.specs.Steps.{HasAdded}
 use Rattle.vecdim.specs.Lattices.{Members, IsSumWith, IsWith}

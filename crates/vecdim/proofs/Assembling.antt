@@ -1,6 +1,6 @@
 -- The last steps of an insertion, over plain numbers.
 use Rattle.std.proofs.Common.{◌≡◌, ℤ, pos, ◌+ℤ◌, ◌-ℤ◌, ◌*ℤ◌, ◌<ℤ◌, ◌≤ℤ◌, arith}
-use Rattle.integers.proofs.Ring.{linear}
+use Rattle.integers.proofs.numbers.Ring.{linear}
 use Rattle.integers.specs.Vectors.{Vector, vector}
 use Rattle.vecdim.specs.Stairs.{Stairs, stairs}
 use Rattle.vecdim.specs.Steps.{Exchange, IsBoxed, IsInserted, IsBoundedStair}

@@ -1,11 +1,10 @@
 -- The rows are the staircase basis of their lattice, and a lattice has one.
 use Rattle.std.proofs.Common.{◌≡◌, zero, suc, ℤ, pos, negsuc, ◌+ℤ◌, ◌-ℤ◌, ◌*ℤ◌, ◌<ℤ◌, ◌≤ℤ◌, refl, sym, ap, subst, ◌∙◌, arith, ◌⊎◌, inl, inr, ⊎_elim}
 use Rattle.std.proofs.lemmas.Int.{ints}
-use Rattle.integers.proofs.Ring.{ring, linear}
-use Rattle.integers.specs.Vectors.{Vector, vector}
+use Rattle.integers.proofs.numbers.Ring.{ring, linear}
+use Rattle.integers.specs.Vectors.{Vector}
 use Rattle.vecdim.specs.Stairs.{InStairs, IsReducedStair, Stairs}
 use Rattle.vecdim.proofs.Inserting.{zero_factor}
-use Rattle.vecdim.proofs.Lattice.{own_rows}
 
 -- a positive multiple of a positive number is at least that number
 least_multiple : (k a : ℤ) → pos 0 <ℤ (k *ℤ a) → pos 0 <ℤ a → a ≤ℤ (k *ℤ a)
@@ -101,34 +100,3 @@ third_least {S} w r m x y h =
     let l = zero_factor m.l S.e (sym y ∙ y_at_zero m.k m.l S.b S.e w.y k m.y) r.e in
     let e = z_at_third m.k m.l m.n S.c S.f S.i w.z k l m.z in
     subst (λ t. S.i ≤ℤ t) (sym e) (least_multiple m.n S.i (subst (λ t. pos 0 <ℤ t) e h) r.i)
-
--- at most both ways is equal
-both : (x y : ℤ) → x ≤ℤ y → y ≤ℤ x → x ≡ y
-both x y h i = omega (arith, linear, h, i)
-
--- two stairs have the same numbers
-pub record SameParts (S T : Stairs) : Type 0 where
-  pub a : S.a ≡ T.a
-  pub b : S.b ≡ T.b
-  pub c : S.c ≡ T.c
-  pub e : S.e ≡ T.e
-  pub f : S.f ≡ T.f
-  pub i : S.i ≡ T.i
-
--- two pairs that are each at most the other are equal
-pair_both : (b c y z : ℤ) → IsAtMost2 b c y z → IsAtMost2 y z b c → (b ≡ y) × (c ≡ z)
-pair_both b c y z (inl h) (inl g) = absurd (omega (arith, linear, h, g))
-pair_both b c y z (inl h) (inr g) = absurd (omega (arith, linear, h, g.0))
-pair_both b c y z (inr h) (inl g) = absurd (omega (arith, linear, h.0, g))
-pair_both b c y z (inr h) (inr g) = (omega (arith, linear, h.0), omega (arith, linear, h.1, g.1))
-
--- a lattice has one staircase basis
-pub one_basis : {S T : Stairs} → IsReducedStair S → IsReducedStair T → ((w : Vector) → InStairs S w → InStairs T w) → ((w : Vector) → InStairs T w → InStairs S w) → SameParts S T
-one_basis {S} {T} r q st ts =
-    let s = own_rows S in let t = own_rows T in
-    let a = both S.a T.a (first_least (vector T.a T.b T.c) r (ts _ t.first) q.a) (first_least (vector S.a S.b S.c) q (st _ s.first) r.a) in
-    let e = both S.e T.e (second_least (vector (pos 0) T.e T.f) r (ts _ t.second) refl q.e) (second_least (vector (pos 0) S.e S.f) q (st _ s.second) refl r.e) in
-    let i = both S.i T.i (third_least (vector (pos 0) (pos 0) T.i) r (ts _ t.third) refl refl q.i) (third_least (vector (pos 0) (pos 0) S.i) q (st _ s.third) refl refl r.i) in
-    let f = both S.f T.f (second_rest (vector (pos 0) T.e T.f) r (ts _ t.second) refl (sym e) q.f_from) (second_rest (vector (pos 0) S.e S.f) q (st _ s.second) refl e r.f_from) in
-    let bc = pair_both S.b S.c T.b T.c (first_rest (vector T.a T.b T.c) r (ts _ t.first) (sym a) q.b_from q.c_from) (first_rest (vector S.a S.b S.c) q (st _ s.first) a r.b_from r.c_from) in
-    record { a = a; b = bc.0; c = bc.1; e = e; f = f; i = i }

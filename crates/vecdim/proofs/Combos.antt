@@ -1,6 +1,6 @@
 -- Whole combinations of two vectors, up to multiples of m.
 use Rattle.std.proofs.Common.{◌≡◌, ℤ, pos, ◌+ℤ◌, ◌-ℤ◌, ◌*ℤ◌, neg_ℤ, ap, arith}
-use Rattle.integers.proofs.Ring.{ring, linear}
+use Rattle.integers.proofs.numbers.Ring.{ring, linear}
 use Rattle.std.proofs.Common.{◌<ℤ◌, ◌≤ℤ◌}
 use Rattle.integers.specs.Vectors.{Vector, vector}
 use Rattle.vecdim.specs.Steps.{Combo, Exchange, IsBoxed}

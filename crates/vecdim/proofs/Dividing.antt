@@ -9,8 +9,8 @@ use Rattle.std.proofs.lemmas.Int.{ints, unsigned_abs-mul, fits_signed_from_abs, 
 use Rattle.integers.specs.Vectors.{Vector, vector, IsWithin}
 use Rattle.vecdim.specs.Stairs.{Stairs}
 use Rattle.vecdim.specs.Steps.{IsBoxed, IsBoundedStair}
-use Rattle.integers.proofs.Division.{quotient_times}
-use Rattle.integers.proofs.Ring.{product_negative}
+use Rattle.integers.proofs.numbers.Division.{quotient_times}
+use Rattle.integers.proofs.numbers.Ring.{product_negative}
 
 -- the remainder differs by a multiple
 pub remainder : (z m : ℤ) → pos 0 <ℤ m → (k : ℤ) × (int_rem_euclid z m ≡ z +ℤ m *ℤ k)

@@ -1,9 +1,9 @@
 -- Products of the parts of vectors fit in 128 bits.
-use Rattle.std.proofs.Common.{ℤ, ◌≤◌, ◌*◌, ◌^◌, ◌-ℤ◌, ◌*ℤ◌, arith, FitsSigned}
+use Rattle.std.proofs.Common.{ℤ, ◌≤◌, ◌^◌, ◌-ℤ◌, ◌*ℤ◌, arith, FitsSigned}
 use Rattle.std.specs.Prelude.{unsigned_abs}
 use Rattle.std.specs.Int.{w128}
 use Rattle.integers.specs.Vectors.{Vector, IsWithin}
-use Rattle.integers.proofs.Bounds.{bounded_product, bounded_minor, fits_from_bound}
+use Rattle.integers.proofs.vectors.Bounds.{bounded_product, bounded_minor, fits_from_bound}
 
 -- a product of a long number and a short one
 pub product_within : (a b : ℤ) → unsigned_abs a ≤ 2 ^ 84 → unsigned_abs b ≤ 2 ^ 41 → unsigned_abs (a *ℤ b) ≤ 2 ^ 125

@@ -1,12 +1,10 @@
 -- A lattice with vectors added is the least one that has them: it has its start and the vectors, and lies in each lattice that has both.
-use Rattle.std.proofs.Common.{◌≡◌, ℕ, zero, suc, ℤ, pos, negsuc, ◌+ℤ◌, ◌*ℤ◌, neg_ℤ, List, [], ◌∷◌, sym, ap, subst, ◌∙◌, arith, inl, inr}
-use Rattle.std.proofs.lemmas.Int.{ints}
-use Rattle.integers.specs.Vectors.{Vector, zero_vector, plus, opposite, times, combination}
-use Rattle.integers.proofs.Members.{IsIn}
-use Rattle.integers.proofs.Ring.{ring, linear}
-use Rattle.integers.proofs.Vectors.{vector_equal, plus_zero, zero_plus, zero_times, one_times}
+use Rattle.std.proofs.Common.{◌≡◌, ℤ, pos, List, [], ◌∷◌, sym, ap, subst, ◌∙◌, inl, inr}
+use Rattle.integers.specs.Vectors.{Vector, zero_vector, plus, times, combination}
+use Rattle.integers.proofs.lists.Members.{IsIn}
+use Rattle.integers.proofs.vectors.Laws.{plus_zero, zero_plus, zero_times, one_times}
 use Rattle.integers.specs.Lattices.{IsVectorGroup}
-use Rattle.integers.proofs.Groups.{combination_in}
+use Rattle.integers.proofs.vectors.Groups.{combination_in}
 use Rattle.vecdim.specs.Lattices.{IsWith}
 
 -- a lattice that has L and the vectors has all of L with them

@@ -1,7 +1,7 @@
 -- What the columns' steps give for the lattice.
 use Rattle.std.proofs.Common.{◌≡◌, zero, suc, ℤ, pos, negsuc, ◌+ℤ◌, ◌-ℤ◌, ◌*ℤ◌, neg_ℤ, ◌<ℤ◌, refl, ap, ◌∙◌, arith}
 use Rattle.std.proofs.lemmas.Int.{ints}
-use Rattle.integers.proofs.Ring.{ring, linear}
+use Rattle.integers.proofs.numbers.Ring.{ring, linear}
 use Rattle.integers.specs.Vectors.{Vector, vector}
 use Rattle.vecdim.specs.Stairs.{InStairs, Stairs}
 use Rattle.vecdim.specs.Steps.{Combo, Exchange, HasAdded, HasBound, InSum}

@@ -1,6 +1,7 @@
 pub mod Adding
 pub mod Assembling
 pub mod Basis
+pub mod CallerLemmas
 pub mod Combos
 pub mod Deciding
 pub mod Dividing
@@ -8,6 +9,9 @@ pub mod Fitting
 pub mod Generated
 pub mod Inserting
 pub mod Lattice
+pub mod Remainders
+pub mod Spanning
+pub mod Splitting
 pub mod Stairway
-pub mod OneStair
 pub mod Starting
+pub mod Whole

@@ -12,7 +12,7 @@ use Rattle.std.specs.declared.cmp.Ordering.{Ordering}
 use Rattle.std.specs.declared.cmp.Ordering.TheVariants.{Less, Equal, Greater}
 use Rattle.integers.specs.Vectors.{Vector, vector, zero_vector, HasDimension, IsAtMost, IsWithin}
 use Rattle.integers.specs.Staircase.{IsStaircase, IsStair, IsZeroBefore, NotNegativeAfter}
-use Rattle.integers.proofs.Ring.{linear}
+use Rattle.integers.proofs.numbers.Ring.{linear}
 use Rattle.vecdim.specs.Stairs.{Stairs, IsReducedStair, HasStairShape, HasFlatEnd, rows_of}
 use Rattle.vecdim.specs.Lattices.{Members}
 use Rattle.vecdim.proofs.Basis.{IsAtMost2, first_least, first_rest, second_least, second_rest, third_least}

@@ -2,10 +2,10 @@
 use Rattle.std.specs.Prelude.{cond, ◌==◌, Bool}
 use Rattle.std.proofs.lemmas.Bool.{ne_eqb}
 use Rattle.std.proofs.Common.{◌≡◌, ℕ, ℤ, pos, ◌+ℤ◌, ◌*ℤ◌, ◌<ℤ◌, ◌≤ℤ◌, ◌^◌, refl, sym, ap, subst, ◌∙◌, arith}
-use Rattle.integers.proofs.Ring.{ring, linear}
+use Rattle.integers.proofs.numbers.Ring.{ring, linear}
 use Rattle.std.proofs.lemmas.Int.{ints}
 use Rattle.integers.specs.Vectors.{Vector, vector}
-use Rattle.integers.proofs.Vectors.{vector_equal}
+use Rattle.integers.proofs.vectors.Laws.{vector_equal}
 use Rattle.vecdim.specs.Lattices.{Members, AreMultiples}
 use Rattle.vecdim.specs.Stairs.{HasFlatEnd, Stairs, stairs}
 use Rattle.vecdim.specs.Steps.{HasBound, IsInserted, IsBoundedStair}

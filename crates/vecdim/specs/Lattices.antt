@@ -1,7 +1,7 @@
 -- Lattices, as sets of vectors: the members of a stair, and a lattice with vectors added.
 use Rattle.std.specs.Prelude.{List, ◌≡◌, ℕ, ℤ, ◌↔◌}
 use Rattle.integers.specs.Vectors.{Vector, HasDimension, DividesVector, plus, combination}
-use Rattle.vecdim.specs.Stairs.{Stairs, InStairs, HasStairShape, rows_of}
+use Rattle.vecdim.specs.Stairs.{Stairs, InStairs}
 
 -- the vectors of dimension d that are whole combinations of the rows
 abbrev pub Members : ℕ → Stairs → Vector → Type 0
@@ -22,7 +22,3 @@ pub record IsSumWith (L : Vector → Type 0) (vs : List Vector) (w : Vector) : T
 pub record IsWith (L : Vector → Type 0) (vs : List Vector) (M : Vector → Type 0) : Type 0 where
   pub out : (w : Vector) → M w → IsSumWith L vs w
   pub into : (w : Vector) → IsSumWith L vs w → M w
-
--- staircases with the same members have the same rows
-abbrev pub RowsAreOne : Type 0
-RowsAreOne = (d : ℕ) (S T : Stairs) → HasStairShape d S → HasStairShape d T → ((w : Vector) → Members d S w ↔ Members d T w) → rows_of d S ≡ rows_of d T

@@ -1,6 +1,6 @@
 -- Stairs of rows: what a staircase is seen as.
-use Rattle.std.specs.Prelude.{List, [], ◌∷◌, cond, ◌==◌, ◌≡◌, ℕ, ℤ, pos, ◌+ℤ◌, ◌*ℤ◌, ◌<ℤ◌, ◌≤ℤ◌}
-use Rattle.integers.specs.Vectors.{Vector, vector}
+use Rattle.std.specs.Prelude.{unsigned_abs, ◌*◌, List, [], ◌∷◌, cond, ◌==◌, ◌≡◌, ℕ, ℤ, pos, ◌+ℤ◌, ◌*ℤ◌, ◌<ℤ◌, ◌≤ℤ◌}
+use Rattle.integers.specs.Vectors.{Vector, vector, HasDimension}
 
 -- the rows (a, b, c), (0, e, f) and (0, 0, i); in dimension 2 the last is (0, 0, 1)
 pub record Stairs : Type 0 where
@@ -49,8 +49,25 @@ pub record HasStairShape (d : ℕ) (S : Stairs) : Type 0 where
 
 -- the rows of dimension d
 abbrev pub rows_of : ℕ → Stairs → List Vector
-rows_of d S = vector S.a S.b S.c ∷ vector (pos 0) S.e S.f ∷ cond (d == 2) [] (vector (pos 0) (pos 0) S.i ∷ [])
+rows_of d S =
+    vector S.a S.b S.c ∷ vector (pos 0) S.e S.f ∷ cond (d == 2) [] (vector (pos 0) (pos 0) S.i ∷ [])
 
 -- the first parts of the rows that are not 0
 abbrev pub pivots_of : ℕ → Stairs → Vector
 pivots_of d S = vector S.a S.e (cond (d == 2) (pos 0) S.i)
+
+-- all pivots are 1
+pub record IsWhole (S : Stairs) : Type 0 where
+  pub a : S.a ≡ pos 1
+  pub e : S.e ≡ pos 1
+  pub i : S.i ≡ pos 1
+
+-- the product of the pivots: the number of remainders
+abbrev pub size_of : Stairs → ℕ
+size_of S = unsigned_abs S.a * (unsigned_abs S.e * unsigned_abs S.i)
+
+-- r is a remainder: it has dimension d, and each part is from 0 to below the pivot
+pub record IsRemainder (d : ℕ) (S : Stairs) (r : Vector) : Type 0 where
+  pub dimension : HasDimension d r
+  pub low : (pos 0 ≤ℤ r.x) × (pos 0 ≤ℤ r.y) × (pos 0 ≤ℤ r.z)
+  pub high : (r.x <ℤ S.a) × (r.y <ℤ S.e) × (r.z <ℤ S.i)

@@ -1,5 +1,5 @@
 -- What the steps of an insertion keep, over plain numbers.
-use Rattle.std.specs.Prelude.{◌≡◌, ℤ, pos, ◌+ℤ◌, ◌*ℤ◌, ◌<ℤ◌, ◌≤ℤ◌, ◌^◌}
+use Rattle.std.specs.Prelude.{◌≡◌, ℤ, pos, ◌+ℤ◌, ◌-ℤ◌, ◌*ℤ◌, ◌<ℤ◌, ◌≤ℤ◌, ◌^◌}
 use Rattle.integers.specs.Vectors.{Vector, vector}
 use Rattle.vecdim.specs.Stairs.{Stairs, InStairs, IsReducedStair}
 
@@ -29,7 +29,7 @@ pub record IsBoxed (m : ℤ) (v : Vector) : Type 0 where
   pub z_from : pos 0 ≤ℤ v.z
   pub z_to : v.z <ℤ m
 
--- the multiples of m belong to the stair's lattice, each as a combination of the rows from its own on
+-- the multiples of m belong to the stair's lattice, each as a combination of rows from its own on
 pub record HasBound (S : Stairs) (m : ℤ) : Type 0 where
   pub first : InStairs S (vector m (pos 0) (pos 0))
   pub second_k : ℤ
@@ -49,6 +49,12 @@ pub record IsBoundedStair (m : ℤ) (S : Stairs) : Type 0 where
   pub e_to : S.e ≤ℤ m
   pub i_to : S.i ≤ℤ m
 
+-- no pivot is past 2^60
+pub record HasSmallPivots (S : Stairs) : Type 0 where
+  pub a : S.a ≤ℤ pos (2 ^ 60)
+  pub e : S.e ≤ℤ pos (2 ^ 60)
+  pub i : S.i ≤ℤ pos (2 ^ 60)
+
 -- w is a member of the lattice plus a multiple of v
 pub record InSum (S : Stairs) (v w : Vector) : Type 0 where
   pub k : ℤ
@@ -67,3 +73,11 @@ pub record HasAdded (S T : Stairs) (v : Vector) : Type 0 where
 pub record IsInserted (m : ℤ) (S T : Stairs) (v : Vector) : Type 0 where
   pub kept : IsBoundedStair m T
   pub added : HasAdded S T v
+
+-- v is the rests r, and q.x, q.y and q.z times the rows; each rest is from 0 to below the pivot
+pub record IsDivided (S : Stairs) (v q r : Vector) : Type 0 where
+  pub low : (pos 0 ≤ℤ r.x) × (pos 0 ≤ℤ r.y) × (pos 0 ≤ℤ r.z)
+  pub high : (r.x <ℤ S.a) × (r.y <ℤ S.e) × (r.z <ℤ S.i)
+  pub x : v.x ≡ r.x +ℤ S.a *ℤ q.x
+  pub y : v.y -ℤ S.b *ℤ q.x ≡ r.y +ℤ S.e *ℤ q.y
+  pub z : (v.z -ℤ S.c *ℤ q.x) -ℤ S.f *ℤ q.y ≡ r.z +ℤ S.i *ℤ q.z

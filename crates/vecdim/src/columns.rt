@@ -80,7 +80,8 @@ pub(crate) fn column(upper: Line, lower: Line, m: i128) -> Pair
     ensures upper { IsBoxed m (vector result.a result.b result.c) }
     ensures lower { IsBoxed m (vector (pos 0) result.y result.z) }
     ensures pivot { pos 0 <ℤ result.a }
-    ensures same { Exchange m (vector upper.x upper.y upper.z) (vector lower.x lower.y lower.z) (vector result.a result.b result.c) (vector (pos 0) result.y result.z) }
+    ensures same { Exchange m (vector upper.x upper.y upper.z) (vector lower.x lower.y lower.z)
+        (vector result.a result.b result.c) (vector (pos 0) result.y result.z) }
 {
     let mut a = upper.x;
     let mut b = upper.y;

@@ -1,8 +1,11 @@
-//! Vectors of whole numbers in two and three dimensions, their products, and lattices by their staircase basis.
+//! Vectors of whole numbers in two and three dimensions, their sums and products, and lattices by
+//! their staircase basis.
 #![tactic(auto)]
 
 mod arithmetic;
 mod columns;
+mod division;
+mod insertion;
 mod products;
 mod quotients;
 mod staircase;
@@ -12,6 +15,3 @@ mod vectors;
 pub use products::{cross, independent, triple};
 pub use staircase::{Staircase, rows_are_one};
 pub use vectors::{Row, Shift, Triple, Vect};
-
-#[cfg(test)]
-mod tests;

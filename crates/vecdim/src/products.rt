@@ -14,7 +14,8 @@ impl Triple {
         requires left { IsWithin (2 ^ 62) self.now }
         requires right { IsWithin (2 ^ 62) other.now }
         ensures value { result ≡ cross self.now other.now }
-        ensures within { (m n : ℕ) → IsWithin m self.now → IsWithin n other.now → IsWithin (2 * (m * n)) result }
+        ensures within { (m n : ℕ) → IsWithin m self.now → IsWithin n other.now
+            → IsWithin (2 * (m * n)) result }
     {
         Triple {
             x: minor(self.y, other.z, self.z, other.y),
@@ -28,7 +29,8 @@ impl Triple {
         requires left { IsWithin (2 ^ 84) self.now }
         requires right { IsWithin (2 ^ 41) other.now }
         ensures value { result ≡ dot self.now other.now }
-        ensures within { (m n : ℕ) → IsWithin m self.now → IsWithin n other.now → unsigned_abs result ≤ 3 * (m * n) }
+        ensures within { (m n : ℕ) → IsWithin m self.now → IsWithin n other.now
+            → unsigned_abs result ≤ 3 * (m * n) }
     {
         let x = product(self.x, other.x);
         let y = product(self.y, other.y);

@@ -1,80 +1,18 @@
 // Lattices of full rank, by their staircase basis.
-ghost use Rattle.std.specs.Prelude.{[], ◌∷◌, ◌≡◌, pos, ◌≤ℤ◌, ◌<ℤ◌, ◌≤◌, ◌^◌, All};
-ghost use Rattle.integers.specs.Vectors.{vector, IsWithin};
-ghost use Rattle.integers.specs.Staircase.{IsStaircase};
-ghost use Rattle.vecdim.specs.Stairs.{stairs, HasStairShape, HasFlatEnd, rows_of, pivots_of};
-ghost use Rattle.vecdim.specs.Lattices.{Members, AreMultiples, IsWith, RowsAreOne};
-ghost use Rattle.vecdim.specs.Steps.{IsBoundedStair, IsInserted};
+ghost use Rattle.std.specs.Prelude.{[], ◌∷◌, ◌≡◌, ◌↔◌, ℕ, pos, ◌*◌, ◌≤ℤ◌, ◌<ℤ◌, ◌<◌, ◌≤◌, ◌^◌, All, IsTrue};
+ghost use Rattle.integers.specs.Vectors.{vector, parts, minus, combination, HasDimension, IsWithin};
+ghost use Rattle.integers.specs.Staircase.{IsStaircase, Spans, StaircasesAreOne};
+ghost use Rattle.vecdim.specs.Stairs.{stairs, HasStairShape, HasFlatEnd, IsRemainder, IsWhole, rows_of, pivots_of, size_of};
+ghost use Rattle.vecdim.specs.Lattices.{Members, AreMultiples, IsWith};
+ghost use Rattle.vecdim.specs.Steps.{IsBoundedStair};
 
-use crate::columns::{Line, column, divide, less_times, modulo};
+use crate::division::divide_by;
+use crate::insertion::{Rows, insert_rows};
 use crate::{Triple, Vect};
 use std::marker::Model;
 
-// The rows (a, b, c), (0, e, f) and (0, 0, i), as plain numbers.
-#[derive(Clone, Copy)]
-struct Rows {
-    a: i128,
-    b: i128,
-    c: i128,
-    e: i128,
-    f: i128,
-    i: i128,
-}
-
-// The rows of the lattice with all multiples of a vector added; the multiples of m belong to it.
-fn insert_rows(s: Rows, vx: i128, vy: i128, vz: i128, m: i128) -> Rows
-    requires kept { IsBoundedStair m (stairs s.a s.b s.c s.e s.f s.i) }
-    ensures { IsInserted m (stairs s.a s.b s.c s.e s.f s.i) (stairs result.a result.b result.c result.e result.f result.i) (vector vx vy vz) }
-{
-    let x = modulo(vx, m);
-    let y = modulo(vy, m);
-    let z = modulo(vz, m);
-    let one = column(
-        Line {
-            x: s.a,
-            y: s.b,
-            z: s.c,
-        },
-        Line { x, y, z },
-        m,
-    );
-    let two = column(
-        Line {
-            x: s.e,
-            y: s.f,
-            z: 0,
-        },
-        Line {
-            x: one.y,
-            y: one.z,
-            z: 0,
-        },
-        m,
-    );
-    let three = column(
-        Line { x: s.i, y: 0, z: 0 },
-        Line {
-            x: two.y,
-            y: 0,
-            z: 0,
-        },
-        m,
-    );
-    let f = modulo(two.b, three.a);
-    let parts = divide(one.b, two.a);
-    let c1 = less_times(one.c, parts.quotient, f, m);
-    let c = modulo(c1, three.a);
-    Rows {
-        a: one.a,
-        b: parts.rest,
-        c,
-        e: two.a,
-        f,
-        i: three.a,
-    }
-}
-
-/// A lattice of full rank. The rows stand in it twice: as plain numbers to reckon with, and as vectors to lend.
+/// A lattice of full rank.
+// The rows stand in it twice: as plain numbers to reckon with, and as vectors to lend.
 #[derive(Drop)]
 pub struct Staircase<const D: usize> {
     list: [Vect<D>; 3],
@@ -92,9 +30,11 @@ impl<const D: usize> Model for Staircase<D> {
 
     ghost view = { λ t. stairs t.rows.a t.rows.b t.rows.c t.rows.e t.rows.f t.rows.i };
 
-    ghost invariant = { λ t. (2 ≤ D) × (D ≤ 3) × (D ≡ 2 → HasFlatEnd (stairs t.rows.a t.rows.b t.rows.c t.rows.e t.rows.f t.rows.i))
+    ghost invariant = { λ t. (2 ≤ D) × (D ≤ 3)
+        × (D ≡ 2 → HasFlatEnd (stairs t.rows.a t.rows.b t.rows.c t.rows.e t.rows.f t.rows.i))
         × IsBoundedStair t.bound (stairs t.rows.a t.rows.b t.rows.c t.rows.e t.rows.f t.rows.i)
-        × (t.list ≡ vector t.rows.a t.rows.b t.rows.c ∷ vector (pos 0) t.rows.e t.rows.f ∷ vector (pos 0) (pos 0) (cond (D == 2) (pos 0) t.rows.i) ∷ []) };
+        × (t.list ≡ vector t.rows.a t.rows.b t.rows.c ∷ vector (pos 0) t.rows.e t.rows.f
+        ∷ vector (pos 0) (pos 0) (cond (D == 2) (pos 0) t.rows.i) ∷ []) };
 }
 
 // The staircase of these rows.
@@ -152,11 +92,22 @@ impl<const D: usize> Staircase<D> {
         )
     }
 
+    /// Whether all vectors of the dimension are members.
+    pub fn is_whole(&self) -> bool
+        ensures whole { IsTrue result ↔ IsWhole self.now }
+    {
+        self.rows.a == 1 && self.rows.e == 1 && self.rows.i == 1
+    }
+
     /// Adds `v` and all that it generates.
     pub fn insert(&mut self, v: &Vect<D>)
         ensures { IsWith (Members D self.old) (v.now ∷ []) (Members D self.new) }
     {
-        let rows = insert_rows(self.rows, v.x, v.y, v.z, self.bound);
+        let t = v.to_triple();
+        if self.is_whole() {
+            return;
+        }
+        let rows = insert_rows(self.rows, t.x, t.y, t.z, self.bound);
         *self = with_list(rows, self.bound);
     }
 
@@ -174,6 +125,7 @@ impl<const D: usize> Staircase<D> {
         ensures rows { result.now ≡ rows_of D self.now }
         ensures stair { HasStairShape D self.now }
         ensures basis { IsStaircase (Members D self.now) D result.now }
+        ensures spans { Spans (Members D self.now) result.now }
         ensures small { All (IsWithin (2 ^ 60)) result.now }
     {
         &self.list[..D]
@@ -194,7 +146,35 @@ impl<const D: usize> Staircase<D> {
     }
 }
 
-/// Staircases with the same members have the same rows.
+impl<const D: usize> Staircase<D> {
+    /// The coordinates of a member: how often it has each row.
+    pub fn coordinates(&self, v: &Vect<D>) -> Triple
+        requires { Members D self.now v.now }
+        ensures value { combination (parts 3 result) (rows_of D self.now) ≡ v.now }
+        ensures dimension { HasDimension D result }
+        ensures within { (n : ℕ) → IsWithin n v.now → IsWithin (2 * n) result }
+    {
+        divide_by(self.rows, v.to_triple()).quotients
+    }
+
+    /// What is left of a vector when multiples of the rows are taken off.
+    pub fn remainder(&self, v: &Vect<D>) -> Vect<D>
+        ensures remainder { IsRemainder D self.now result }
+        ensures difference { Members D self.now (minus v.now result) }
+    {
+        divide_by(self.rows, v.to_triple()).rests.to_vector()
+    }
+
+    /// The product of the pivots, the number of remainders.
+    pub fn size(&self) -> i128
+        requires { size_of self.now < 2 ^ 127 }
+        ensures { result ≡ pos (size_of self.now) }
+    {
+        self.rows.a * (self.rows.e * self.rows.i)
+    }
+}
+
+/// Sets of vectors with the same members have one staircase basis.
 pub fn rows_are_one()
-    ensures theorem { RowsAreOne }
+    ensures theorem { StaircasesAreOne }
 {}

@@ -11,7 +11,8 @@ impl Triple {
         requires left { IsWithin (2 ^ 125) self.now }
         requires right { IsWithin (2 ^ 125) other.now }
         ensures value { result ≡ plus self.now other.now }
-        ensures within { (m n : ℕ) → IsWithin m self.now → IsWithin n other.now → IsWithin (m + n) result }
+        ensures within { (m n : ℕ) → IsWithin m self.now → IsWithin n other.now
+            → IsWithin (m + n) result }
     {
         Triple {
             x: sum(self.x, other.x),
@@ -25,7 +26,8 @@ impl Triple {
         requires left { IsWithin (2 ^ 125) self.now }
         requires right { IsWithin (2 ^ 125) other.now }
         ensures value { result ≡ minus self.now other.now }
-        ensures within { (m n : ℕ) → IsWithin m self.now → IsWithin n other.now → IsWithin (m + n) result }
+        ensures within { (m n : ℕ) → IsWithin m self.now → IsWithin n other.now
+            → IsWithin (m + n) result }
     {
         Triple {
             x: difference(self.x, other.x),
@@ -52,7 +54,8 @@ impl Triple {
         requires vector { IsWithin (2 ^ 62) self.now }
         requires factor { unsigned_abs k ≤ 2 ^ 62 }
         ensures value { result ≡ times k self.now }
-        ensures within { (m n : ℕ) → unsigned_abs k ≤ m → IsWithin n self.now → IsWithin (m * n) result }
+        ensures within { (m n : ℕ) → unsigned_abs k ≤ m → IsWithin n self.now
+            → IsWithin (m * n) result }
     {
         Triple {
             x: multiple(k, self.x),
@@ -71,7 +74,8 @@ impl<const D: usize> Vect<D> {
         requires left { IsWithin (2 ^ 60) self.now }
         requires right { IsWithin (2 ^ 60) other.now }
         ensures value { result ≡ plus self.now other.now }
-        ensures within { (m n : ℕ) → IsWithin m self.now → IsWithin n other.now → IsWithin (m + n) result }
+        ensures within { (m n : ℕ) → IsWithin m self.now → IsWithin n other.now
+            → IsWithin (m + n) result }
     {
         self.to_triple().plus(&other.to_triple()).to_vector()
     }
@@ -81,7 +85,8 @@ impl<const D: usize> Vect<D> {
         requires left { IsWithin (2 ^ 60) self.now }
         requires right { IsWithin (2 ^ 60) other.now }
         ensures value { result ≡ minus self.now other.now }
-        ensures within { (m n : ℕ) → IsWithin m self.now → IsWithin n other.now → IsWithin (m + n) result }
+        ensures within { (m n : ℕ) → IsWithin m self.now → IsWithin n other.now
+            → IsWithin (m + n) result }
     {
         self.to_triple().minus(&other.to_triple()).to_vector()
     }

@@ -41,6 +41,19 @@ impl<const D: usize> Shift<D> {
         }
     }
 
+    /// The coordinates.
+    pub fn to_triple(&self) -> Triple
+        ensures value { result ≡ self.now }
+        ensures within { IsWithin (2 ^ 31) result }
+        ensures dimension { HasDimension D result }
+    {
+        Triple {
+            x: i128::from(self.x),
+            y: i128::from(self.y),
+            z: i128::from(self.z),
+        }
+    }
+
     /// Whether all parts are 0.
     pub fn is_zero(&self) -> bool
         ensures { IsTrue result ↔ (self.now ≡ zero_vector) }
@@ -115,7 +128,8 @@ impl Triple {
     }
 }
 
-/// A vector of dimension `D`, with parts of absolute value at most 2^61; in dimension 2 the part `z` is 0.
+/// A vector of dimension `D`, with parts of absolute value at most 2^61; in dimension 2 the part
+/// `z` is 0.
 #[derive(Clone, Copy, Debug, Default, PartialEq, Eq, PartialOrd, Ord)]
 pub struct Vect<const D: usize> {
     pub x: i128,
@@ -170,8 +184,8 @@ impl<const D: usize> Vect<D> {
     }
 }
 
-/// The parts of a position or of a right-hand side, in numbers of the type `N`; in dimension 2 the part `z`
-/// has the value 0.
+/// The parts of a position or of a right-hand side, in numbers of the type `N`; in dimension 2 the
+/// part `z` has the value 0.
 #[derive(Clone, Copy, Debug, PartialEq, Eq)]
 pub struct Row<N: Exact, const D: usize> {
     pub x: N,

@@ -3,7 +3,7 @@ use Rattle.std.proofs.Common.{◌≡◌, ℕ, ℤ, ◌+ℤ◌, neg_ℤ, pos, Lis
 use Rattle.std.proofs.lemmas.Int.{ints}
 use Rattle.integers.specs.Vectors.{Vector, zero_vector, plus, minus, opposite, HasDimension}
 use Rattle.integers.specs.Lattices.{IsVectorGroup}
-use Rattle.integers.proofs.Vectors.{vector_equal, zero_plus, plus_minus}
+use Rattle.integers.proofs.vectors.Laws.{vector_equal, zero_plus, plus_minus}
 use Rattle.periodic_net.specs.Graph.{Graph, IsGraph, Vertex, vertex, IsVertex, IsQuotientVertex, IsWalk, IsReached}
 use Rattle.periodic_net.specs.Split.{ClosedShift, WalkShift}
 use Rattle.periodic_net.proofs.Arcs.{joined_inside, origin_vertex}

@@ -3,9 +3,9 @@ use Rattle.std.proofs.Common.{◌≡◌, ◌≢◌, ℕ, zero, suc, ◌≤◌, �
 use Rattle.std.specs.Int.{w128, IsGcd}
 use Rattle.std.proofs.lemmas.Int.{ints, unsigned_abs-mul, to_z-of_z}
 use Rattle.integers.specs.Vectors.{Vector, zero_vector, IsWithin}
-use Rattle.integers.proofs.Ring.{zero_or_not}
-use Rattle.integers.proofs.Vectors.{vector_equal}
-use Rattle.integers.proofs.Bounds.{fits_from_bound}
+use Rattle.integers.proofs.numbers.Ring.{zero_or_not}
+use Rattle.integers.proofs.vectors.Laws.{vector_equal}
+use Rattle.integers.proofs.vectors.Bounds.{fits_from_bound}
 use Rattle.exact.specs.Combination.{IsCombination}
 use Rattle.walk_lattice.specs.Flat.{IsDivisor}
 use Rattle.walk_lattice.proofs.Reductions.{divisor_is}

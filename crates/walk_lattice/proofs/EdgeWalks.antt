@@ -34,17 +34,17 @@ tail_is found e k o b r f at is =
     ap (λ (j : ℕ). is_some (get_or found (j - 1) None)) (sym f) ∙ ap is_some (get_or_default found (k - 1) None o (omega arith) ∙ sym at) ∙ is
 
 -- an edge from a found vertex
-pub walks_more : (found : List (Option Vector)) (row : List Arc) (i : ℕ) (e : Arc) (ws : List Vector) (v : Vector) → i < length row → e ≡ get_or row i e → is_some (walk_to found e.from) ≡ true → v ≡ generator_of found e
+pub walks_more : (found : List (Option Vector)) (row : List Arc) (i : ℕ) (e : Arc) (ws next : List Vector) (v : Vector) → i < length row → e ≡ get_or row i e → is_some (walk_to found e.from) ≡ true → v ≡ generator_of found e → next ≡ ws ++ v ∷ []
     → ws ≡ map (generator_of found) (filter (λ e. is_some (walk_to found e.from)) (take i row))
-    → ws ++ v ∷ [] ≡ map (generator_of found) (filter (λ e. is_some (walk_to found e.from)) (take (i + 1) row))
-walks_more found row i e ws v l at t is made =
-    (λ j. made j ++ is j ∷ []) ∙ sym (images_more (generator_of found) (λ e. is_some (walk_to found e.from)) row i e l (sym at) t)
+    → next ≡ map (generator_of found) (filter (λ e. is_some (walk_to found e.from)) (take (i + 1) row))
+walks_more found row i e ws next v l at t is longer made =
+    longer ∙ (λ j. made j ++ is j ∷ []) ∙ sym (images_more (generator_of found) (λ e. is_some (walk_to found e.from)) row i e l (sym at) t)
 
 -- another edge
-pub walks_same : (found : List (Option Vector)) (row : List Arc) (i : ℕ) (e : Arc) (ws : List Vector) → i < length row → e ≡ get_or row i e → is_some (walk_to found e.from) ≡ false
+pub walks_same : (found : List (Option Vector)) (row : List Arc) (i : ℕ) (e : Arc) (ws next : List Vector) → i < length row → e ≡ get_or row i e → is_some (walk_to found e.from) ≡ false → next ≡ ws
     → ws ≡ map (generator_of found) (filter (λ e. is_some (walk_to found e.from)) (take i row))
-    → ws ≡ map (generator_of found) (filter (λ e. is_some (walk_to found e.from)) (take (i + 1) row))
-walks_same found row i e ws l at t made = made ∙ sym (images_same (generator_of found) (λ e. is_some (walk_to found e.from)) row i e l (sym at) t)
+    → next ≡ map (generator_of found) (filter (λ e. is_some (walk_to found e.from)) (take (i + 1) row))
+walks_same found row i e ws next l at t same made = same ∙ made ∙ sym (images_same (generator_of found) (λ e. is_some (walk_to found e.from)) row i e l (sym at) t)
 
 -- all edges
 pub walks_all : (G : Graph) (found : List (Option Vector)) (row : List Arc) (i : ℕ) (ws : List Vector) → row ≡ G.edges → length row ≤ i

@@ -2,7 +2,7 @@
 use Rattle.std.proofs.Common.{◌≡◌, ℕ, ℤ, ◌+◌, ◌≤◌, ◌+ℤ◌, List, unsigned_abs, Option, Some, IsSome, refl, sym, subst, arith, rules}
 use Rattle.std.proofs.lemmas.Int.{ints}
 use Rattle.integers.specs.Vectors.{Vector, zero_vector, plus, minus, IsWithin}
-use Rattle.integers.proofs.Vectors.{vector_equal}
+use Rattle.integers.proofs.vectors.Laws.{vector_equal}
 use Rattle.periodic_net.specs.Graph.{Graph, arc, IsArc, vertex}
 use Rattle.periodic_net.specs.Split.{WalkShift}
 use Rattle.periodic_net.proofs.Walks.{reached_transitive, reached_by_arc}

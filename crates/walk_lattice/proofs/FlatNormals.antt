@@ -2,9 +2,9 @@
 use Rattle.std.proofs.Common.{◌≡◌, ◌≢◌, ℕ, zero, suc, ℤ, pos, neg_ℤ, ◌+ℤ◌, ◌-ℤ◌, ◌*ℤ◌, List, get_or, All, Contains, inl, inr, refl, sym, ap, ◌∙◌, arith}
 use Rattle.std.proofs.lemmas.Int.{ints}
 use Rattle.integers.specs.Vectors.{Vector, vector, zero_vector, times, dot, HasDimension}
-use Rattle.integers.proofs.Ring.{ring, linear, other_factor_zero, zero_or_not, factor_zero}
-use Rattle.integers.proofs.Vectors.{vector_equal}
-use Rattle.integers.proofs.Filters.{all_at}
+use Rattle.integers.proofs.numbers.Ring.{ring, linear, other_factor_zero, zero_or_not, factor_zero}
+use Rattle.integers.proofs.vectors.Laws.{vector_equal}
+use Rattle.integers.proofs.lists.Filters.{all_at}
 use Rattle.periodic_net.specs.Split.{EndsBy}
 use Rattle.walk_lattice.specs.Flat.{IsReduction, IsOrthogonalTo, IsFlatNormal}
 use Rattle.integers.specs.Vectors.{cross}

@@ -5,10 +5,10 @@ use Rattle.std.specs.List.{filter, AllByRecursion}
 use Rattle.std.proofs.lemmas.List.Elements.{recursion_from_All, All-from_recursion}
 use Rattle.integers.specs.Vectors.{Vector, zero_vector, plus, minus, opposite}
 use Rattle.integers.specs.Lattices.{IsVectorGroup}
-use Rattle.integers.proofs.Ring.{linear}
-use Rattle.integers.proofs.Vectors.{vector_equal, minus_zero}
-use Rattle.integers.proofs.Filters.{all_in, filter_in}
-use Rattle.integers.proofs.Members.{is_in, contains_from_in, IsIn}
+use Rattle.integers.proofs.numbers.Ring.{linear}
+use Rattle.integers.proofs.vectors.Laws.{vector_equal, minus_zero}
+use Rattle.integers.proofs.lists.Filters.{all_in, filter_in}
+use Rattle.integers.proofs.lists.Members.{is_in, contains_from_in, IsIn}
 use Rattle.periodic_net.specs.Graph.{Graph, IsGraph, Arc, arc, arcs, IsArc, reverse_of, both_ways, Vertex, vertex, IsWalk}
 use Rattle.periodic_net.specs.Split.{ClosedShift, WalkShift}
 use Rattle.periodic_net.proofs.Arcs.{arc_inside}

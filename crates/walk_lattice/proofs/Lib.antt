@@ -5,11 +5,11 @@ pub mod EdgeWalks
 pub mod Expanding
 pub mod Filtered
 pub mod Finding
-pub mod Fitting
 pub mod FlatNormals
+pub mod FoundVertices
 pub mod Generated
-pub mod Groups
 pub mod Growing
+pub mod Orthogonal
 pub mod RankAnswers
 pub mod Reductions
 pub mod Searching

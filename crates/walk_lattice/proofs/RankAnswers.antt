@@ -1,15 +1,12 @@
 -- The answers on the rank of closed walks.
-use Rattle.std.proofs.Common.{◌≡◌, ◌≢◌, ℕ, ℤ, pos, ◌+ℤ◌, ◌-ℤ◌, ◌*ℤ◌, neg_ℤ, ◌<ℤ◌, ◌≤ℤ◌, ◌≤◌, ◌*◌, ◌^◌, unsigned_abs, List, All, Contains,  refl, sym, ap, subst, ◌∙◌, arith}
-use Rattle.integers.specs.Vectors.{Vector, vector, zero_vector, dot, IsWithin}
-use Rattle.integers.proofs.Ring.{ring, linear}
-use Rattle.integers.proofs.Vectors.{vector_equal}
-use Rattle.integers.proofs.Bounds.{bounded_dot}
+use Rattle.std.proofs.Common.{◌≡◌, ◌≢◌, ℕ, ℤ, pos, ◌+ℤ◌, ◌-ℤ◌, ◌*ℤ◌, neg_ℤ, ◌<ℤ◌, ◌≤ℤ◌, ◌^◌, unsigned_abs, List, All, Contains, refl, sym, ap, subst, ◌∙◌, arith}
+use Rattle.integers.specs.Vectors.{Vector, vector, zero_vector, dot}
+use Rattle.integers.proofs.numbers.Ring.{ring, linear}
+use Rattle.integers.proofs.vectors.Laws.{vector_equal}
 use Rattle.walk_lattice.specs.Flat.{IsFlatNormal, IsReduction}
 use Rattle.integers.specs.Vectors.{cross}
 use Rattle.walk_lattice.specs.Full.{IsVolume}
 use Rattle.walk_lattice.proofs.FlatNormals.{axis, axis_normal, line_normal, plane_normal, no_first_part, none_first}
-use Rattle.periodic_net.specs.Limits.{most_closed}
-use Rattle.walk_lattice.specs.Bounds.{most_normal, most_volume}
 
 -- a vector on a line with no first part
 pub line_axis : (d : ℕ) (vs : List Vector) (a c : Vector) → c ≡ axis → a ≢ zero_vector → a.x ≡ pos 0 → All (λ v. cross a v ≡ zero_vector) vs → IsFlatNormal d vs c
@@ -77,10 +74,3 @@ full_space d vs a b c v m n i j k e is from to = record {
   from = from;
   to = to;
 }
-
--- a triple product of generators is small
-pub volume_within : (c v : Vector) → IsWithin most_normal c → IsWithin most_closed v → unsigned_abs (dot c v) ≤ most_volume
-volume_within c v h k = le (unsigned_abs (dot c v)) (bounded_dot c v most_normal most_closed h k)
-  where
-    le : (n : ℕ) → n ≤ 3 * (most_normal * most_closed) → n ≤ most_volume
-    le n h = omega arith

@@ -4,9 +4,9 @@ use Rattle.std.specs.Prelude.{◌<ℤ◌}
 use Rattle.std.specs.Int.{IsGcd}
 use Rattle.std.proofs.lemmas.Int.{ints}
 use Rattle.integers.specs.Vectors.{Vector, vector, zero_vector, times, dot, opposite, StartsPositive}
-use Rattle.integers.proofs.Ring.{ring, linear, cancel_factor}
-use Rattle.integers.proofs.Gcd.{quotient_of}
-use Rattle.integers.proofs.Vectors.{vector_equal}
+use Rattle.integers.proofs.numbers.Ring.{ring, linear, cancel_factor}
+use Rattle.integers.proofs.numbers.Gcd.{quotient_of}
+use Rattle.integers.proofs.vectors.Laws.{vector_equal}
 use Rattle.exact.specs.Combination.{IsCombination}
 use Rattle.walk_lattice.specs.Flat.{IsCoprime, IsDivisor, IsReduction}
 

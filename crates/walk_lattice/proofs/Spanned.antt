@@ -1,16 +1,16 @@
 -- The lattice of a net's closed walks of full rank.
-use Rattle.std.proofs.Common.{◌≡◌, ◌≢◌, ℕ, zero, suc, ◌<◌, ℤ, pos, neg_ℤ, ◌+ℤ◌, ◌-ℤ◌, ◌*ℤ◌, ◌≤ℤ◌, unsigned_abs, List, [], ◌∷◌, get_or, length, All, Option, ◌⊎◌, inl, inr, refl, sym, ap, subst, ◌∙◌, arith}
+use Rattle.std.proofs.Common.{◌≡◌, ◌≢◌, ℕ, ℤ, pos, neg_ℤ, ◌+ℤ◌, ◌-ℤ◌, ◌*ℤ◌, ◌≤ℤ◌, unsigned_abs, List, get_or, All, Option, ◌⊎◌, inl, inr, refl, sym, ap, subst, ◌∙◌, arith}
 use Rattle.std.proofs.lemmas.Int.{ints}
-use Rattle.integers.specs.Vectors.{Vector, vector, zero_vector, plus, opposite, times, dot, triple_product, combination, HasDimension}
-use Rattle.integers.proofs.Ring.{ring, linear, other_factor_zero}
-use Rattle.integers.proofs.Vectors.{vector_equal, plus_zero, zero_plus, one_times, zero_times, product_times}
-use Rattle.integers.proofs.Filters.{all_at}
-use Rattle.integers.proofs.Cramer.{cramer, products}
+use Rattle.integers.specs.Vectors.{Vector, vector, plus, opposite, times, dot, triple_product, HasDimension}
+use Rattle.integers.proofs.numbers.Ring.{ring, linear, other_factor_zero}
+use Rattle.integers.proofs.vectors.Laws.{vector_equal, product_times}
+use Rattle.integers.proofs.lists.Filters.{all_at}
+use Rattle.integers.proofs.vectors.Cramer.{cramer, products}
 use Rattle.periodic_net.specs.Graph.{Graph, IsGraph, IsQuotientVertex}
 use Rattle.periodic_net.specs.Split.{ClosedShift}
 use Rattle.vecdim.specs.Stairs.{Stairs}
 use Rattle.vecdim.specs.Lattices.{Members}
-use Rattle.vecdim.proofs.Lattice.{in_pair}
+use Rattle.vecdim.proofs.CallerLemmas.{in_pair, with_has, with_inside}
 use Rattle.integers.specs.Vectors.{cross}
 use Rattle.walk_lattice.specs.Full.{IsVolume}
 use Rattle.walk_lattice.specs.Search.{AreWalks}
@@ -19,7 +19,9 @@ use Rattle.walk_lattice.specs.Lattices.{IsLatticeOf, AreClosedWalks}
 use Rattle.integers.specs.Lattices.{IsVectorGroup}
 use Rattle.walk_lattice.proofs.ClosedWalks.{walk_dimension, closed_group}
 use Rattle.walk_lattice.proofs.Generated.{generators_closed, closed_in}
-use Rattle.walk_lattice.proofs.Groups.{group_times, group_combination}
+use Rattle.integers.proofs.vectors.Groups.{times_in}
+use Rattle.integers.proofs.lists.Members.{in_from_contains, contains_from_in}
+use Rattle.std.proofs.lemmas.List.{get_or_default}
 use Rattle.walk_lattice.proofs.Reductions.{sign_of}
 
 -- the members of a staircase are a group
@@ -47,33 +49,23 @@ members_group d S = record {
   );
 }
 
--- a combination of one of the vectors alone
-one_term : (k : ℤ) → (vs : List Vector) → (i : ℕ) (v : Vector) → i < length vs → (ks : List ℤ) × (combination ks vs ≡ times k (get_or vs i v))
-one_term k [] i v l = absurd (omega arith)
-one_term k (w ∷ ws) zero v l = (k ∷ [], plus_zero (times k w))
-one_term k (w ∷ ws) (suc i) v l =
-    let r = one_term k ws i v (omega arith) in
-    (pos 0 ∷ r.0, ap (λ t. plus t (combination r.0 ws)) (zero_times w) ∙ zero_plus (combination r.0 ws) ∙ r.1)
-
 -- what was added is a member
 pub added_members : (d : ℕ) (m : ℤ) (vs : List Vector) (S : Stairs) → IsLatticeOf d m vs S → All (Members d S) vs
 added_members d m vs S h k v l =
-    let r = one_term (pos 1) vs k v l in
-    h.with.into (get_or vs k v) (record {
-      u = zero_vector;
-      member = (members_group d h.start).zero;
-      ks = r.0;
-      sum = sym (zero_plus (combination r.0 vs) ∙ r.1 ∙ one_times (get_or vs k v));
-    })
+    let w = get_or vs k v in
+    with_has (Members d h.start) (Members d S) vs h.with (members_group d h.start).zero w (in_from_contains vs w k l (get_or_default vs k w v l))
 
--- a multiple of a volume
-volume_is : (a1 a2 a3 b1 b2 b3 c1 c2 c3 : ℤ) → (a2 *ℤ b3 -ℤ a3 *ℤ b2) *ℤ c1 +ℤ (a3 *ℤ b1 -ℤ a1 *ℤ b3) *ℤ c2 +ℤ (a1 *ℤ b2 -ℤ a2 *ℤ b1) *ℤ c3
-    ≡ a1 *ℤ (b2 *ℤ c3 -ℤ b3 *ℤ c2) +ℤ a2 *ℤ (b3 *ℤ c1 -ℤ b1 *ℤ c3) +ℤ a3 *ℤ (b1 *ℤ c2 -ℤ b2 *ℤ c1)
-volume_is a1 a2 a3 b1 b2 b3 c1 c2 c3 = simp ring (omega (arith, linear))
-
--- a multiple of a volume, in space: Cramer's rule
+-- a sum without its last product
 sum_zero : (a b x y k z : ℤ) → k ≡ pos 0 → x *ℤ a +ℤ (y *ℤ b +ℤ k *ℤ z) ≡ x *ℤ a +ℤ y *ℤ b
 sum_zero a b x y k z e = let p = ap (λ t. t *ℤ z) e in omega (arith, linear, simp ring at p)
+
+-- the volume as a triple product
+volume_is : (a b c : Vector) → dot (cross a b) c ≡ triple_product a b c
+volume_is a b c = by a.x a.y a.z b.x b.y b.z c.x c.y c.z
+  where
+    by : (a1 a2 a3 b1 b2 b3 c1 c2 c3 : ℤ) → (a2 *ℤ b3 -ℤ a3 *ℤ b2) *ℤ c1 +ℤ (a3 *ℤ b1 -ℤ a1 *ℤ b3) *ℤ c2 +ℤ (a1 *ℤ b2 -ℤ a2 *ℤ b1) *ℤ c3
+        ≡ a1 *ℤ (b2 *ℤ c3 -ℤ b3 *ℤ c2) +ℤ a2 *ℤ (b3 *ℤ c1 -ℤ b1 *ℤ c3) +ℤ a3 *ℤ (b1 *ℤ c2 -ℤ b2 *ℤ c1)
+    by a1 a2 a3 b1 b2 b3 c1 c2 c3 = simp ring (omega (arith, linear))
 
 -- flat vectors have the triple product 0
 flat_triple : (a1 a2 a3 b1 b2 b3 v1 v2 v3 : ℤ) → a3 ≡ pos 0 → b3 ≡ pos 0 → v3 ≡ pos 0
@@ -96,20 +88,20 @@ module _ (d : ℕ) (L : Vector → Type 0) (h : IsVectorGroup L) (dim : (v : Vec
       let none : k.z ≡ pos 0 = flat_triple a.x a.y a.z b.x b.y b.z v.x v.y v.z (dim a i two) (dim b j two) (flat two) in
       let same : times (triple_product a b up) v ≡ plus (times k.x a) (times k.y b) =
       cramer a b up v ∙ vector_equal (sum_zero a.x b.x k.x k.y k.z (pos 0) none) (sum_zero a.y b.y k.x k.y k.z (pos 0) none) (sum_zero a.z b.z k.x k.y k.z (pos 1) none) in
-      subst L (sym same) (h.sums (times k.x a) (times k.y b) (group_times L h k.x a i) (group_times L h k.y b j))
+      subst L (sym same) (h.sums (times k.x a) (times k.y b) (times_in L h k.x a i) (times_in L h k.y b j))
 
   -- in space
   space_multiple : (a b c v : Vector) → L a → L b → L c → L (times (triple_product a b c) v)
   space_multiple a b c v i j l =
       let k = products a b c v in
-      subst L (sym (cramer a b c v)) (h.sums (times k.x a) (plus (times k.y b) (times k.z c)) (group_times L h k.x a i)
-      (h.sums (times k.y b) (times k.z c) (group_times L h k.y b j) (group_times L h k.z c l)))
+      subst L (sym (cramer a b c v)) (h.sums (times k.x a) (plus (times k.y b) (times k.z c)) (times_in L h k.x a i)
+      (h.sums (times k.y b) (times k.z c) (times_in L h k.y b j) (times_in L h k.z c l)))
 
   -- with the sign
   signed : (t m : ℤ) (v : Vector) → m ≡ pos (unsigned_abs t) → L (times t v) → L (times m v)
   signed t m v e l =
       let s = sign_of t in
-      subst L (sym (product_times s.0 t v) ∙ ap (λ k. times k v) (sym (e ∙ s.1))) (group_times L h s.0 (times t v) l)
+      subst L (sym (product_times s.0 t v) ∙ ap (λ k. times k v) (sym (e ∙ s.1))) (times_in L h s.0 (times t v) l)
 
   -- the multiples of a volume are in the group
   pub volume_multiples : (m : ℤ) → (d ≡ 2) ⊎ (d ≢ 2) → IsVolume d vs m → (v : Vector) → HasDimension d v → L (times m v)
@@ -118,11 +110,11 @@ module _ (d : ℕ) (L : Vector → Type 0) (h : IsVectorGroup L) (dim : (v : Vec
       let i = all_at L vs s.a all s.first in
       let j = all_at L vs s.b all s.second in
       signed (dot (cross s.a s.b) s.c) m v s.is
-      (subst (λ t. L (times t v)) (sym (volume_is s.a.x s.a.y s.a.z s.b.x s.b.y s.b.z s.c.x s.c.y s.c.z))
+      (subst (λ t. L (times t v)) (sym (volume_is s.a s.b s.c))
       (subst (λ c. L (times (triple_product s.a s.b c) v)) (sym up) (flat_multiple s.a s.b v two i j flat)))
   volume_multiples m (inr n) s v flat =
       signed (dot (cross s.a s.b) s.c) m v s.is
-      (subst (λ t. L (times t v)) (sym (volume_is s.a.x s.a.y s.a.z s.b.x s.b.y s.b.z s.c.x s.c.y s.c.z))
+      (subst (λ t. L (times t v)) (sym (volume_is s.a s.b s.c))
       (space_multiple s.a s.b s.c v (all_at L vs s.a all s.first) (all_at L vs s.b all s.second) (all_at L vs s.c all (s.third.1 n))))
 
   -- a multiple that is 0
@@ -131,11 +123,13 @@ module _ (d : ℕ) (L : Vector → Type 0) (h : IsVectorGroup L) (dim : (v : Vec
 
   -- and so is all of the lattice
   pub lattice_inside : (m : ℤ) (S : Stairs) → (d ≡ 2) ⊎ (d ≢ 2) → IsVolume d vs m → IsLatticeOf d m vs S → (v : Vector) → Members d S v → L v
-  lattice_inside m S which s t v i =
-      let sum = t.with.out v i in
-      let w = (t.multiples sum.u sum.member.1).0 sum.member in
-      let flat : HasDimension d w.0 = λ e. part_zero m w.0.z s.from (sym (ap (λ (t : Vector). t.z) w.1) ∙ sum.member.1 e) in
-      subst L (sym sum.sum) (h.sums sum.u (combination sum.ks vs) (subst L (sym w.1) (volume_multiples m which s w.0 flat)) (group_combination L h sum.ks vs all))
+  lattice_inside m S which s t v i = with_inside (Members d t.start) (Members d S) L vs t.with h multiples (λ w k. all_at L vs w all (contains_from_in vs w k)) v i
+    where
+      multiples : (u : Vector) → Members d t.start u → L u
+      multiples u k =
+          let w = (t.multiples u k.1).0 k in
+          let flat : HasDimension d w.0 = λ e. part_zero m w.0.z s.from (sym (ap (λ (t : Vector). t.z) w.1) ∙ k.1 e) in
+          subst L (sym w.1) (volume_multiples m which s w.0 flat)
 
 -- a dimension is 2 or not
 pub two_or_not : (d : ℕ) → (d ≡ 2) ⊎ (d ≢ 2)

@@ -10,7 +10,8 @@ ghost use Rattle.walk_lattice.specs.Bounds.{most_normal, most_volume};
 use crate::reduction::reduced;
 use vecdim::{Triple, Vect};
 
-/// Below the dimension, with a vector orthogonal to all; or full, with the volume that independent vectors span.
+/// Below the dimension, with a vector orthogonal to all; or full, with the volume that independent
+/// vectors span.
 #[derive(Drop)]
 pub enum Rank {
     Below(Triple),

@@ -25,11 +25,7 @@ fn forward(v: Triple) -> Triple
     ensures positive { StartsPositive result }
     ensures within { IsWithin most_normal result }
 {
-    if v.starts_positive() {
-        v
-    } else {
-        v.opposite()
-    }
+    if v.starts_positive() { v } else { v.opposite() }
 }
 
 // The coprime vector on the line of v that starts positive.

@@ -1,4 +1,4 @@
-// The search of a quotient graph from a vertex, with the shift of a walk to each vertex that it finds.
+// The search of a quotient graph from a vertex, with the shift of a walk to each vertex found.
 ghost use Rattle.std.specs.Prelude.{◌≡◌, ◌<◌, ◌≤◌, ◌+◌, length, OnOk, Some, unsigned_abs, ◌+ℤ◌, ◌-◌, ◌*◌, IsSome, IfOk, slice_index};
 ghost use Rattle.integers.specs.Vectors.{plus, IsWithin};
 ghost use Rattle.walk_lattice.specs.Search.{missing, found_with, order_with, IsSearch, Expands, IsSearchedTo, AreWalks, none_found, walk_to};
@@ -42,7 +42,8 @@ fn find<const D: usize>(
     requires high { u ≤ length found.old }
     ensures found { OnOk result (found.new ≡ found_with found.old u walk.entry) }
     ensures order { OnOk result (order.new.items ≡ order_with found.old order.old.items u) }
-    ensures together { OnOk result (missing found.new + length order.new.items ≡ missing found.old + length order.old.items) }
+    ensures together { OnOk result
+        (missing found.new + length order.new.items ≡ missing found.old + length order.old.items) }
 {
     let at = u as usize - 1;
     if found[at].is_none() {
@@ -67,7 +68,8 @@ fn expand<const D: usize>(
     requires near { IsWithin (most_shift * (length order.old.items - 1)) walk.now }
     requires some { 1 ≤ length order.old.items }
     requires few { length order.old.items ≤ most_vertices }
-    ensures { OnOk result (Expands g.now start found.old order.old.items u found.new order.new.items) }
+    ensures { OnOk result
+        (Expands g.now start found.old order.old.items u found.new order.new.items) }
 {
     for arc in g.arcs(u) {
         find(found, order, arc.to, further(walk, &arc.shift))?;
@@ -99,7 +101,8 @@ fn search<const D: usize>(
 ) -> Result<(), NoMemory>
     requires searched { IsSearchedTo g.now start found.old order.old.items 0 }
     requires small { g.now.vertices ≤ most_vertices }
-    ensures { OnOk result (IsSearchedTo g.now start found.new order.new.items (length order.new.items)) }
+    ensures { OnOk result
+        (IsSearchedTo g.now start found.new order.new.items (length order.new.items)) }
 {
     let mut i = 0;
     while i < order.len() {

@@ -1,36 +1,36 @@
-use Rattle.std.proofs.Common.{lit<, refl, subst}
+use Rattle.std.proofs.Common.{ℤ, ◌≤ℤ◌, pos, refl, sym, subst, ◌∙◌, arith}
 use Rattle.std.specs.Int.{w128}
-use Rattle.std.proofs.lemmas.Int.{to_z-of_z}
-use Rattle.connected_dim.specs.Sparse.{IsLatticeOf}
-use Rattle.connected_dim.proofs.Whole.{whole_connected, lattice_of, stair_of, one_of_two}
+use Rattle.std.proofs.lemmas.Int.{ints, to_z-of_z}
+use Rattle.vecdim.specs.Stairs.{HasStairShape}
+use Rattle.walk_lattice.specs.Lattices.{IsLatticeOf}
+use Rattle.connected_dim.specs.Sparse.{sparse_colouring}
+use Rattle.connected_dim.proofs.Refuted.{sparse_refusal}
+use Rattle.connected_dim.proofs.SparseSplits.{sparse_from_lattice}
+use Rattle.connected_dim.proofs.Whole.{whole_connected, closed_of}
 use Rattle.connected_dim.proofs.verdicts.full_verdict.Goals as goal
 
-pub sparse_split-requires : goal.sparse_split-requires
-sparse_split-requires g c =
-    let l = lattice_of c.args.g.now c.args.tree.now g.row.E c.args.gs.now c.args.m c.lattice-s.result c.requires.dimension c.requires.generators c.requires.volume (subst (λ m. IsLatticeOf g.row.E m c.args.gs.now c.lattice-s.result) (to_z-of_z w128 c.args.m c.ranges.m) c.lattice-s.ensures) in (
-      lit< tt,
-      (
-        lit< tt,
-        (
-          lit< tt,
-          (
-            c.requires.is_graph,
-            (
-              c.requires.tree,
-              (
-                l,
-                (
-                  stair_of c.args.g.now g.row.E c.lattice-s.result c.requires.dimension c.first_above.ensures.stair,
-                  (c.in-Some.ensures.dual, (one_of_two c.in-Some.d.q c.in-Some.ensures.above, (c.in-Some.ensures.small, c.in-Some.ensures.within))),
-                ),
-              ),
-            ),
-          ),
-        ),
-      ),
-    )
+one_of_two : (q : ℤ) → pos 2 ≤ℤ q → pos 1 ≤ℤ q
+one_of_two q h = omega (arith, ints, h)
 
 pub returns-in-None : goal.returns-in-None
 returns-in-None g c =
-    let l = lattice_of c.args.g.now c.args.tree.now g.row.E c.args.gs.now c.args.m c.lattice-s.result c.requires.dimension c.requires.generators c.requires.volume (subst (λ m. IsLatticeOf g.row.E m c.args.gs.now c.lattice-s.result) (to_z-of_z w128 c.args.m c.ranges.m) c.lattice-s.ensures) in
-    whole_connected c.args.g.now c.args.tree.now c.lattice-s.result c.requires.is_graph c.requires.tree l (c.in-None.ensures.none refl)
+    let G = c.args.g.now in
+    let found = c.args.found.now in
+    let S = c.lattice-s.result in
+    let graph = c.dimension-dim.ensures.is_graph in
+    let rows = subst (λ m. IsLatticeOf g.row.D m c.args.gs.now S) (to_z-of_z w128 c.args.m c.ranges.m) c.lattice-s.ensures in
+    let closed = closed_of G found g.row.D c.args.gs.now c.args.m S graph c.requires.walks c.dimension-dim.ensures.parameter c.requires.generators c.requires.volume rows in
+    whole_connected G found S graph c.requires.walks c.requires.all closed (c.in-None.ensures.none refl)
+
+pub returns-in_ok-sparse_split-in-Some : goal.returns-in_ok-sparse_split-in-Some
+returns-in_ok-sparse_split-in-Some g c =
+    let G = c.args.g.now in
+    let found = c.args.found.now in
+    let S = c.lattice-s.result in
+    let graph = c.dimension-dim.ensures.is_graph in
+    let rows = subst (λ m. IsLatticeOf g.row.D m c.args.gs.now S) (to_z-of_z w128 c.args.m c.ranges.m) c.lattice-s.ensures in
+    let closed = closed_of G found g.row.D c.args.gs.now c.args.m S graph c.requires.walks c.dimension-dim.ensures.parameter c.requires.generators c.requires.volume rows in
+    let stair = subst (λ d. HasStairShape d S) (sym c.dimension-dim.ensures.parameter) c.first_dual_of.ensures.stair in
+    sparse_refusal G c.in_ok-sparse_split-in-Some.field-0 (sparse_colouring c.in-Some.d.q c.in-Some.d.c found) graph (c.in_ok-sparse_split-in-Some.ensures.dimension ∙ c.dimension-dim.ensures.value)
+    c.in_ok-sparse_split-in-Some.ensures.split
+    (sparse_from_lattice G found S c.in-Some.d.q c.in-Some.d.c graph c.requires.walks c.requires.all closed stair (one_of_two c.in-Some.d.q c.in-Some.ensures.above) c.in-Some.ensures.dual)

@@ -3,7 +3,7 @@ use Rattle.std.specs.Int.{w128}
 use Rattle.std.proofs.lemmas.Int.{to_z-of_z}
 use Rattle.integers.specs.Vectors.{vector, minus, plus, times, IsWithin}
 use Rattle.periodic_net.specs.Limits.{most_shift}
-use Rattle.integers.proofs.Vectors.{vector_equal}
+use Rattle.integers.proofs.vectors.Laws.{vector_equal}
 use Rattle.quotient_graph.proofs.Fitting.{wide_fits, short_fits, flat_part}
 use Rattle.quotient_graph.proofs.placed.vector_between.Goals as goal
 

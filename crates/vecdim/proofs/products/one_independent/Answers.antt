@@ -1,4 +1,4 @@
-use Rattle.integers.proofs.FewVectors.{one_vector}
+use Rattle.integers.proofs.vectors.FewVectors.{one_vector}
 use Rattle.vecdim.proofs.Deciding.{not_decides, through}
 use Rattle.vecdim.proofs.products.one_independent.Goals as goal
 

@@ -2,8 +2,8 @@ use Rattle.std.proofs.Common.{◌^◌, ◌∙◌, FitsSigned, subst, sym, arith}
 use Rattle.std.specs.Int.{w128}
 use Rattle.std.proofs.lemmas.Int.{to_z-of_z}
 use Rattle.integers.specs.Vectors.{cross, dot, IsWithin}
-use Rattle.integers.proofs.Bounds.{wider}
-use Rattle.integers.proofs.Vectors.{dot_cross}
+use Rattle.integers.proofs.vectors.Bounds.{wider}
+use Rattle.integers.proofs.vectors.Laws.{dot_cross}
 use Rattle.vecdim.proofs.products.product_of_three.Goals as goal
 
 pub dot-requires-clause-left : goal.dot-requires-clause-left

@@ -1,7 +1,7 @@
-use Rattle.std.proofs.Common.{◌↔◌, ◌≢◌, ◌∙◌, ap, subst}
+use Rattle.std.proofs.Common.{◌↔◌, ◌≢◌, ◌∙◌, subst}
 use Rattle.std.specs.Prelude.{IsTrue, not}
 use Rattle.integers.specs.Vectors.{Vector, zero_vector, cross}
-use Rattle.integers.proofs.FewVectors.{two_vectors}
+use Rattle.integers.proofs.vectors.FewVectors.{two_vectors}
 use Rattle.vecdim.proofs.Deciding.{not_decides, through}
 use Rattle.vecdim.proofs.products.two_independent.Goals as goal
 

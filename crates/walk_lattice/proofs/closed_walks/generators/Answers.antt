@@ -23,14 +23,14 @@ loop-e-preserved g c =
           let t = tail_is found e c.e.inside.from c.index-found-e.result _ r from c.index-found-e.is (sym c.is_some.ensures ∙ w.if-is_some.true) in
           let items = ap (λ ws. ws.items) w.walks-is ∙ w.in_ok-push.ensures.items in
           record {
-            made = items ∙ walks_more found row c.loop-e.e-index e c.loop-e.walks.items w.edge_walk.result c.loop-e-test.true c.e-item.is t w.edge_walk.ensures.value c.loop-e.invariant.made;
+            made = walks_more found row c.loop-e.e-index e c.loop-e.walks.items c.if-is_some.walks.items w.edge_walk.result c.loop-e-test.true c.e-item.is t w.edge_walk.ensures.value items c.loop-e.invariant.made;
             within = subst (All (IsWithin most_closed)) (sym items) (all_more (IsWithin most_closed) c.loop-e.walks.items w.edge_walk.result c.loop-e.invariant.within w.edge_walk.ensures.within);
           }
       | else-is_some w ↦
           let t = tail_is found e c.e.inside.from c.index-found-e.result _ r from c.index-found-e.is (sym c.is_some.ensures ∙ w.if-is_some.false) in
           let items = ap (λ ws. ws.items) w.walks-is in
           record {
-            made = items ∙ walks_same found row c.loop-e.e-index e c.loop-e.walks.items c.loop-e-test.true c.e-item.is t c.loop-e.invariant.made;
+            made = walks_same found row c.loop-e.e-index e c.loop-e.walks.items c.if-is_some.walks.items c.loop-e-test.true c.e-item.is t items c.loop-e.invariant.made;
             within = subst (All (IsWithin most_closed)) (sym items) c.loop-e.invariant.within;
           }
     ]

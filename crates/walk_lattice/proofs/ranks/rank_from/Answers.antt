@@ -2,8 +2,8 @@ use Rattle.std.proofs.Common.{◌≡◌, pos, of_z, to_z, refl, sym, ap, subst, 
 use Rattle.std.specs.Int.{w128}
 use Rattle.std.proofs.lemmas.Int.{to_z-of_z}
 use Rattle.integers.specs.Vectors.{Vector, IsWithin}
-use Rattle.integers.proofs.Bounds.{fits_from_bound}
-use Rattle.integers.proofs.Filters.{all_at}
+use Rattle.integers.proofs.vectors.Bounds.{fits_from_bound}
+use Rattle.integers.proofs.lists.Filters.{all_at}
 use Rattle.periodic_net.specs.Limits.{most_closed}
 use Rattle.walk_lattice.proofs.RankAnswers.{line_axis, line_across}
 use Rattle.walk_lattice.proofs.ranks.rank_from.Goals as goal

@@ -2,7 +2,7 @@ use Rattle.std.proofs.Common.{◌≢◌, refl, sym, subst, lit<, FitsSigned}
 use Rattle.std.specs.Int.{w128}
 use Rattle.std.proofs.lemmas.Int.{to_z-of_z}
 use Rattle.integers.specs.Vectors.{zero_vector, IsWithin}
-use Rattle.integers.proofs.Filters.{all_at}
+use Rattle.integers.proofs.lists.Filters.{all_at}
 use Rattle.walk_lattice.specs.Full.{IsVolume}
 use Rattle.walk_lattice.proofs.RankAnswers.{full_flat, full_space, plane_in_space}
 use Rattle.walk_lattice.proofs.ranks.rank_with.Goals as goal

@@ -1,7 +1,7 @@
 use Rattle.std.proofs.Common.{◌≤◌, unsigned_abs, sym, subst, arith}
 use Rattle.std.proofs.lemmas.Int.{to_z-of_z}
 use Rattle.integers.specs.Vectors.{IsWithin}
-use Rattle.integers.proofs.Bounds.{fits_from_bound}
+use Rattle.integers.proofs.vectors.Bounds.{fits_from_bound}
 use Rattle.periodic_net.specs.Limits.{most_closed}
 use Rattle.walk_lattice.specs.Bounds.{most_normal, most_volume}
 use Rattle.walk_lattice.proofs.ranks.space_volume.Goals as goal

@@ -2,7 +2,7 @@ use Rattle.std.proofs.Common.{◌≢◌, ◌≤◌, pos, subst, sym, ◌∙◌, 
 use Rattle.std.specs.Int.{w128}
 use Rattle.std.proofs.lemmas.Int.{to_z_pos}
 use Rattle.integers.specs.Vectors.{vector, zero_vector, IsWithin}
-use Rattle.integers.proofs.Bounds.{fits_from_bound}
+use Rattle.integers.proofs.vectors.Bounds.{fits_from_bound}
 use Rattle.walk_lattice.specs.Flat.{IsDivisor}
 use Rattle.walk_lattice.proofs.Dividing.{divisor_found, divisor_within, same_abs}
 use Rattle.walk_lattice.proofs.reduction.divisor.Goals as goal

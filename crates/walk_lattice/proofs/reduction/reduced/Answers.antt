@@ -2,7 +2,7 @@ use Rattle.std.proofs.Common.{◌≡◌, subst, arith}
 use Rattle.std.specs.Int.{w128}
 use Rattle.std.proofs.lemmas.Int.{to_z-of_z}
 use Rattle.integers.specs.Vectors.{times}
-use Rattle.integers.proofs.Bounds.{fits_from_bound}
+use Rattle.integers.proofs.vectors.Bounds.{fits_from_bound}
 use Rattle.walk_lattice.proofs.Dividing.{divisor_within}
 use Rattle.walk_lattice.proofs.Reductions.{reduction_is}
 use Rattle.walk_lattice.proofs.reduction.reduced.Goals as goal

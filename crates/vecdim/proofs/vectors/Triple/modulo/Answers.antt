@@ -2,7 +2,7 @@ use Rattle.std.proofs.Common.{FitsSigned, ◌^◌, subst, sym}
 use Rattle.std.specs.Int.{w128}
 use Rattle.std.proofs.lemmas.Int.{to_z-of_z}
 use Rattle.integers.specs.Vectors.{vector, IsWithin}
-use Rattle.integers.proofs.Modulo.{IsRest, modulo_is}
+use Rattle.integers.proofs.numbers.Modulo.{IsRest, modulo_is}
 use Rattle.vecdim.proofs.Fitting.{parts_fit}
 use Rattle.vecdim.proofs.vectors.Triple.modulo.Goals as goal
 

@@ -1,5 +1,0 @@
-use Rattle.connected_dim.proofs.Dividing.{exact_value}
-use Rattle.connected_dim.proofs.reduction.quotient.Goals as goal
-
-pub returns-clause-value : goal.returns-clause-value
-returns-clause-value c = exact_value c.args.a c.args.g c.ranges.a c.ranges.g c.requires.positive c.requires.divides

@@ -1,9 +1,0 @@
-use Rattle.std.proofs.Common.{◌+◌, ◌-◌, length}
-use Rattle.connected_dim.specs.Search.{missing, IsSearchedTo}
-use Rattle.connected_dim.proofs.search.search.Given as goal
-
-abbrev pub invariant-loop-i : goal.invariant-loop-i
-invariant-loop-i g l = IsSearchedTo l.g l.found l.order.items l.i
-
-abbrev pub decreases-loop-i : goal.decreases-loop-i
-decreases-loop-i g l = (missing l.found + length l.order.items) - l.i

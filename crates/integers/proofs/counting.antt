@@ -1,0 +1,3 @@
+pub mod NumberedPairs
+pub mod Numbering
+pub mod Pigeonhole

@@ -1,0 +1,11 @@
+pub mod Apart
+pub mod Counting
+pub mod Filters
+pub mod Greatest
+pub mod ListOrder
+pub mod Matched
+pub mod Members
+pub mod Permutations
+pub mod Pieces
+pub mod Sums
+pub mod Tables

@@ -1,0 +1,88 @@
+-- Lists in which nothing stands twice: also after their elements have changed places, and as tests of one element after
+-- the other.
+use Rattle.std.proofs.Common.{◌≡◌, ◌≢◌, ◌⊎◌, inl, inr, ℕ, ◌<◌, List, [], ◌∷◌, length, get_or, refl, sym, ap, ◌∙◌, arith}
+use Rattle.std.proofs.lemmas.Bool.{cases_eq, cases_order}
+use Rattle.std.specs.List as lists
+use Rattle.std.specs.List.{AllPairs, AllByRecursion}
+use Rattle.std.specs.List.Sorted.{IsPermutation}
+use Rattle.std.proofs.lemmas.List.Sorted.{IsPermutation-keeps}
+use Rattle.std.proofs.lemmas.List.Kept.{AllPairs-cons}
+use Rattle.std.proofs.lemmas.List.Elements.{All-from_recursion}
+use Rattle.integers.proofs.lists.Members.{AreApart, apart_from_pairs, pairs_from_apart}
+use Rattle.std.proofs.lemmas.List.Edits.{Swapped, swapped_from_swap, length-swap}
+
+-- two places that hold the same are one place
+abbrev pub StandsOnce : {X : Type 0} → List X → Type 0
+StandsOnce {X} xs = (i j : ℕ) (d : X) → i < length xs → j < length xs → get_or xs i d ≡ get_or xs j d → i ≡ j
+
+-- where the element at i stood before two elements changed places
+record Source {X : Type 0} (f g : ℕ → X) (a b i : ℕ) : Type 0 where
+  at : ℕ
+  is : g i ≡ f at
+  which : ((i ≡ a) × (at ≡ b)) ⊎ (((i ≢ a) × (i ≡ b) × (at ≡ a)) ⊎ ((i ≢ a) × (i ≢ b) × (at ≡ i)))
+
+-- it is found
+source : {X : Type 0} (f g : ℕ → X) (a b i : ℕ) → Swapped f g a b → Source f g a b i
+source f g a b i s = elim (cases_eq i a) [
+  | inl e ↦ record { at = b; is = ap g e ∙ s.0; which = inl (e, refl) }
+  | inr n ↦ elim (cases_eq i b) [
+    | inl e ↦ record { at = a; is = ap g e ∙ s.1; which = inr (inl (n, e, refl)) }
+    | inr m ↦ record { at = i; is = s.2 i n m; which = inr (inr (n, m, refl)) }
+  ]
+]
+
+-- that place is in the list
+below : {X : Type 0} (f g : ℕ → X) (a b i n : ℕ) → a < n → b < n → i < n → (s : Source f g a b i) → s.at < n
+below f g a b i n p q r s = elim s.which [ inl w ↦ omega (arith, w.1) | inr v ↦ elim v [ inl w ↦ omega (arith, w.2) | inr w ↦ omega (arith, w.2) ] ]
+
+-- two places that stood in one place are one
+same_place : (a b i j p q : ℕ)
+    → ((i ≡ a) × (p ≡ b)) ⊎ (((i ≢ a) × (i ≡ b) × (p ≡ a)) ⊎ ((i ≢ a) × (i ≢ b) × (p ≡ i)))
+    → ((j ≡ a) × (q ≡ b)) ⊎ (((j ≢ a) × (j ≡ b) × (q ≡ a)) ⊎ ((j ≢ a) × (j ≢ b) × (q ≡ j)))
+    → p ≡ q → i ≡ j
+same_place a b i j p q x y e = grind arith
+
+-- two elements change places
+swap_once : {X : Type 0} (xs : List X) (a b : ℕ) → a < length xs → b < length xs → StandsOnce xs → StandsOnce (lists.swap xs a b)
+swap_once xs a b p q once i j d k m e =
+    let l = length-swap xs a b in
+    let s = swapped_from_swap xs (lists.swap xs a b) a b d p q refl in
+    let u = source (λ n. get_or xs n d) (λ n. get_or (lists.swap xs a b) n d) a b i s in
+    let v = source (λ n. get_or xs n d) (λ n. get_or (lists.swap xs a b) n d) a b j s in
+    let k' : i < length xs = omega arith in
+    let m' : j < length xs = omega arith in
+    same_place a b i j u.at v.at u.which v.which
+    (once u.at v.at d (below _ _ a b i (length xs) p q k' u) (below _ _ a b j (length xs) p q m' v) (sym u.is ∙ e ∙ v.is))
+
+-- a permutation of a list in which nothing stands twice
+pub permuted_once : {X : Type 0} (xs ys : List X) → IsPermutation xs ys → StandsOnce xs → StandsOnce ys
+permuted_once xs ys p once = IsPermutation-keeps xs StandsOnce once swap_once ys p
+
+-- std's `AllPairs` says the same
+pub once_from_pairs : {X : Type 0} (xs : List X) → AllPairs (λ x y. x ≢ y) xs → StandsOnce xs
+once_from_pairs xs apart i j d k m e = elim (cases_order i j) [
+  | inl q ↦ q
+  | inr r ↦ elim r [ inl l ↦ absurd (apart i j d l m e) | inr l ↦ absurd (apart j i d l k (sym e)) ]
+]
+
+-- and the other way
+pub pairs_from_once : {X : Type 0} (xs : List X) → StandsOnce xs → AllPairs (λ x y. x ≢ y) xs
+pairs_from_once xs once i j d l m e = let same = once i j d (omega arith) m e in omega arith
+
+-- a permutation of a list without repetition
+pub permuted_pairs : {X : Type 0} (xs ys : List X) → IsPermutation xs ys → AllPairs (λ x y. x ≢ y) xs → AllPairs (λ x y. x ≢ y) ys
+permuted_pairs xs ys p h = pairs_from_once ys (permuted_once xs ys p (once_from_pairs xs h))
+
+-- the same, read place by place
+pub permuted_apart : {X : Type 0} (xs ys : List X) → IsPermutation xs ys → AreApart xs → AreApart ys
+permuted_apart xs ys p h = apart_from_pairs ys (permuted_pairs xs ys p (pairs_from_apart xs h))
+
+-- no member of the list is a later one, each compared with each later one
+abbrev pub AreDifferent : {X : Type 0} → List X → Type 0
+AreDifferent [] = Unit {0}
+AreDifferent (x ∷ xs) = AllByRecursion (λ y. x ≢ y) xs × AreDifferent xs
+
+-- then nothing stands in it twice
+pub pairs_from_different : {X : Type 0} (xs : List X) → AreDifferent xs → AllPairs (λ x y. x ≢ y) xs
+pairs_from_different [] h = λ i j d l m. absurd (omega arith)
+pairs_from_different (x ∷ xs) h = AllPairs-cons (λ y z. y ≢ z) x xs (All-from_recursion (λ y. x ≢ y) xs h.0) (pairs_from_different xs h.1)

@@ -1,0 +1,60 @@
+-- The order of whole numbers, and products with positive ones.
+use Rattle.std.proofs.Common.{◌≡◌, ℕ, zero, suc, ℤ, pos, negsuc, ◌+ℤ◌, ◌-ℤ◌, ◌*ℤ◌, ◌≤◌, ◌-◌, ◌*◌, arith, ap, sym, refl, subst, ◌∙◌}
+use Rattle.std.specs.Prelude.{◌<ℤ◌}
+use Rattle.std.proofs.lemmas.Int.{ints}
+use Rattle.std.specs.Ordering.{int_cmp, MatchOrdering, ordering_then}
+use Rattle.std.specs.Cmp.{int_cmp_is, int_ranks}
+use Rattle.std.specs.declared.cmp.Ordering.{Ordering}
+use Rattle.std.specs.declared.cmp.Ordering.TheVariants.{Less, Equal, Greater}
+use Rattle.std.specs.Cmp.Lexicographic.{slice_cmp}
+use Rattle.integers.specs.Vectors.{Vector, times, parts}
+use Rattle.integers.proofs.numbers.Ring.{product_sum}
+
+-- what is above x is x and a positive number
+step_between : (x y : ℤ) → x <ℤ y → (d : ℕ) × (y ≡ x +ℤ pos (suc d))
+step_between x y h = by (y -ℤ x) refl
+  where
+    by : (z : ℤ) → z ≡ y -ℤ x → (d : ℕ) × (y ≡ x +ℤ pos (suc d))
+    by (pos zero) e = absurd (omega (arith, ints))
+    by (pos (suc d)) e = (d, omega (arith, ints))
+    by (negsuc d) e = absurd (omega (arith, ints))
+
+-- a + k + 1 is above a
+added_is_more : (a : ℤ) (k : ℕ) → a <ℤ (a +ℤ pos (suc k))
+added_is_more a k = omega (arith, ints)
+
+-- a positive factor keeps the order
+pub multiple_below : (n : ℕ) (x y : ℤ) → x <ℤ y → (pos (suc n) *ℤ x) <ℤ (pos (suc n) *ℤ y)
+multiple_below n x y h =
+    let s = step_between x y h in
+    let p : suc n * suc s.0 ≡ suc (suc n * suc s.0 - 1) = omega arith in
+    let e : pos (suc n) *ℤ y ≡ pos (suc n) *ℤ x +ℤ pos (suc (suc n * suc s.0 - 1)) =
+    ap (λ t. pos (suc n) *ℤ t) s.1 ∙ product_sum (pos (suc n)) x (pos (suc s.0)) ∙ ap (λ (t : ℕ). pos (suc n) *ℤ x +ℤ pos t) p in
+    subst (λ t. (pos (suc n) *ℤ x) <ℤ t) (sym e) (added_is_more (pos (suc n) *ℤ x) (suc n * suc s.0 - 1))
+
+-- so multiples compare as the numbers do
+compare_scaled : (n : ℕ) (x y : ℤ) → int_cmp x y ≡ int_cmp (pos (suc n) *ℤ x) (pos (suc n) *ℤ y)
+compare_scaled n x y = by (int_cmp x y) (int_ranks x y)
+  where
+    by : (o : Ordering) → MatchOrdering o (x <ℤ y) (x ≡ y) (y <ℤ x) → o ≡ int_cmp (pos (suc n) *ℤ x) (pos (suc n) *ℤ y)
+    by Less h = int_cmp_is (pos (suc n) *ℤ x) (pos (suc n) *ℤ y) Less (multiple_below n x y h)
+    by Equal h = int_cmp_is (pos (suc n) *ℤ x) (pos (suc n) *ℤ y) Equal (ap (λ t. pos (suc n) *ℤ t) h)
+    by Greater h = int_cmp_is (pos (suc n) *ℤ x) (pos (suc n) *ℤ y) Greater (multiple_below n y x h)
+
+-- the same, of any positive factor
+pub compare_multiples : (n : ℕ) → 1 ≤ n → (x y : ℤ) → int_cmp x y ≡ int_cmp (pos n *ℤ x) (pos n *ℤ y)
+compare_multiples zero h x y = absurd (omega arith)
+compare_multiples (suc n) h x y = compare_scaled n x y
+
+-- proportional numbers compare alike
+pub compare_proportional : (m n : ℕ) → 1 ≤ m → 1 ≤ n → (x y x' y' : ℤ) → pos n *ℤ x ≡ pos m *ℤ x' → pos n *ℤ y ≡ pos m *ℤ y' → int_cmp x y ≡ int_cmp x' y'
+compare_proportional m n hm hn x y x' y' e d = compare_multiples n hn x y ∙ (λ i. int_cmp (e i) (d i)) ∙ sym (compare_multiples m hm x' y')
+
+-- proportional vectors compare alike
+pub compare_proportional_vectors : (m n : ℕ) → 1 ≤ m → 1 ≤ n → (v w v' w' : Vector) → times (pos n) v ≡ times (pos m) v' → times (pos n) w ≡ times (pos m) w'
+    → slice_cmp int_cmp (parts 3 v) (parts 3 w) ≡ slice_cmp int_cmp (parts 3 v') (parts 3 w')
+compare_proportional_vectors m n hm hn v w v' w' e d =
+    let x = compare_proportional m n hm hn v.x w.x v'.x w'.x (ap (λ (t : Vector). t.x) e) (ap (λ (t : Vector). t.x) d) in
+    let y = compare_proportional m n hm hn v.y w.y v'.y w'.y (ap (λ (t : Vector). t.y) e) (ap (λ (t : Vector). t.y) d) in
+    let z = compare_proportional m n hm hn v.z w.z v'.z w'.z (ap (λ (t : Vector). t.z) e) (ap (λ (t : Vector). t.z) d) in
+    λ i. ordering_then (x i) (ordering_then (y i) (ordering_then (z i) Equal))

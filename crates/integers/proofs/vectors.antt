@@ -1,0 +1,12 @@
+pub mod Bounds
+pub mod Coordinates
+pub mod Cramer
+pub mod Directions
+pub mod FewVectors
+pub mod Groups
+pub mod Independence
+pub mod Laws
+pub mod LinearRelations
+pub mod OneStaircase
+pub mod StairBasis
+pub mod StairCoordinates

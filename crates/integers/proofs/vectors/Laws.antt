@@ -1,0 +1,183 @@
+-- The laws of vectors: sums, differences, multiples, products c·v, and dimension.
+use Rattle.std.proofs.Common.{◌≡◌, ◌≢◌, ℕ, ◌*◌, ℤ, pos, neg_ℤ, ◌+ℤ◌, ◌-ℤ◌, ◌*ℤ◌, sym, ap, ◌∙◌, arith}
+use Rattle.std.proofs.Math.IntN.{pos-*ℤ-pos}
+use Rattle.std.proofs.lemmas.Int.{ints}
+use Rattle.integers.specs.Vectors.{Vector, zero_vector, plus, minus, opposite, times, dot, cross, triple_product, HasDimension}
+use Rattle.integers.proofs.numbers.Ring.{ring, linear, cancel_factor}
+
+-- vectors with equal parts are equal
+pub vector_equal : {v w : Vector} → v.x ≡ w.x → v.y ≡ w.y → v.z ≡ w.z → v ≡ w
+vector_equal p q r = λ i. record { x = p i; y = q i; z = r i }
+
+-- sums of equal vectors are equal
+pub plus_equal : {v w v' w' : Vector} → v ≡ v' → w ≡ w' → plus v w ≡ plus v' w'
+plus_equal h k = λ i. plus (h i) (k i)
+
+-- differences of equal vectors are equal
+pub minus_equal : {v w v' w' : Vector} → v ≡ v' → w ≡ w' → minus v w ≡ minus v' w'
+minus_equal h k = λ i. minus (h i) (k i)
+
+-- v + 0 = v
+pub plus_zero : (v : Vector) → plus v zero_vector ≡ v
+plus_zero v = vector_equal (omega (arith, linear)) (omega (arith, linear)) (omega (arith, linear))
+
+-- 0 + v = v
+pub zero_plus : (v : Vector) → plus zero_vector v ≡ v
+zero_plus v = vector_equal (omega (arith, linear)) (omega (arith, linear)) (omega (arith, linear))
+
+-- (u + v) + w = u + (v + w)
+pub plus_associative : (u v w : Vector) → plus (plus u v) w ≡ plus u (plus v w)
+plus_associative u v w = vector_equal (omega (arith, linear)) (omega (arith, linear)) (omega (arith, linear))
+
+-- v + w = w + v
+pub plus_commutative : (v w : Vector) → plus v w ≡ plus w v
+plus_commutative v w = vector_equal (omega (arith, linear)) (omega (arith, linear)) (omega (arith, linear))
+
+-- (u + v) + w = (u + w) + v
+pub plus_exchange : (u v w : Vector) → plus (plus u v) w ≡ plus (plus u w) v
+plus_exchange u v w = vector_equal (omega (arith, linear)) (omega (arith, linear)) (omega (arith, linear))
+
+-- (v + w) + (-w) = v
+pub plus_opposite : (v w : Vector) → plus (plus v w) (opposite w) ≡ v
+plus_opposite v w = vector_equal (omega (arith, linear)) (omega (arith, linear)) (omega (arith, linear))
+
+-- (v + (-w)) + w = v
+pub opposite_plus : (v w : Vector) → plus (plus v (opposite w)) w ≡ v
+opposite_plus v w = vector_equal (omega (arith, linear)) (omega (arith, linear)) (omega (arith, linear))
+
+-- v + (w - v) = w
+pub plus_minus : (v w : Vector) → plus v (minus w v) ≡ w
+plus_minus v w = vector_equal (omega (arith, linear)) (omega (arith, linear)) (omega (arith, linear))
+
+-- (v - w) + w = v
+pub minus_back : (v w : Vector) → plus (minus v w) w ≡ v
+minus_back v w = vector_equal (omega (arith, linear)) (omega (arith, linear)) (omega (arith, linear))
+
+-- (v + r) - v = r
+pub minus_plus : (v r : Vector) → minus (plus v r) v ≡ r
+minus_plus v r = vector_equal (omega (arith, linear)) (omega (arith, linear)) (omega (arith, linear))
+
+-- (v + r) - (w + r) = v - w
+pub minus_shifted : (v w r : Vector) → minus (plus v r) (plus w r) ≡ minus v w
+minus_shifted v w r = vector_equal (omega (arith, linear)) (omega (arith, linear)) (omega (arith, linear))
+
+-- -(v - w) = w - v
+pub opposite_minus : (v w : Vector) → opposite (minus v w) ≡ minus w v
+opposite_minus v w = vector_equal (omega (arith, linear)) (omega (arith, linear)) (omega (arith, linear))
+
+-- v - v = 0
+pub minus_itself : (v : Vector) → minus v v ≡ zero_vector
+minus_itself v = vector_equal (omega (arith, linear)) (omega (arith, linear)) (omega (arith, linear))
+
+-- v - 0 = v
+pub minus_zero : (v : Vector) → minus v zero_vector ≡ v
+minus_zero v = vector_equal (omega (arith, linear)) (omega (arith, linear)) (omega (arith, linear))
+
+-- x = y where x - y = 0
+same_number : (x y : ℤ) → x -ℤ y ≡ pos 0 → x ≡ y
+same_number x y e = omega (arith, linear, e)
+
+-- where v - w is 0, v is w
+pub equal_of_minus : (v w : Vector) → minus v w ≡ zero_vector → v ≡ w
+equal_of_minus v w e = vector_equal (same_number v.x w.x (ap (λ (a : Vector). a.x) e)) (same_number v.y w.y (ap (λ (a : Vector). a.y) e)) (same_number v.z w.z (ap (λ (a : Vector). a.z) e))
+
+-- t cancels
+cancel_number : (t x y : ℤ) → t +ℤ x ≡ t +ℤ y → x ≡ y
+cancel_number t x y e = omega (arith, linear, e)
+
+-- where t + v is t + w, v is w
+pub plus_cancel : (t v w : Vector) → plus t v ≡ plus t w → v ≡ w
+plus_cancel t v w e = vector_equal (cancel_number t.x v.x w.x (ap (λ (a : Vector). a.x) e)) (cancel_number t.y v.y w.y (ap (λ (a : Vector). a.y) e)) (cancel_number t.z v.z w.z (ap (λ (a : Vector). a.z) e))
+
+-- k·0 = 0
+pub times_zero : (k : ℤ) → times k zero_vector ≡ zero_vector
+times_zero k = vector_equal (omega (arith, ints)) (omega (arith, ints)) (omega (arith, ints))
+
+-- 0·v = 0
+pub zero_times : (v : Vector) → times (pos 0) v ≡ zero_vector
+zero_times v = vector_equal (omega (arith, ints)) (omega (arith, ints)) (omega (arith, ints))
+
+-- 1·v = v
+pub one_times : (v : Vector) → times (pos 1) v ≡ v
+one_times v = vector_equal (omega (arith, ints)) (omega (arith, ints)) (omega (arith, ints))
+
+-- k·(v + w) = k·v + k·w
+pub times_plus : (k : ℤ) (v w : Vector) → times k (plus v w) ≡ plus (times k v) (times k w)
+times_plus k v w = vector_equal (simp ring (omega (arith, linear))) (simp ring (omega (arith, linear))) (simp ring (omega (arith, linear)))
+
+-- k·(v - w) = k·v - k·w
+pub times_minus : (k : ℤ) (v w : Vector) → times k (minus v w) ≡ minus (times k v) (times k w)
+times_minus k v w = vector_equal (simp ring (omega (arith, linear))) (simp ring (omega (arith, linear))) (simp ring (omega (arith, linear)))
+
+-- (k + l)·v = k·v + l·v
+pub sum_times : (k l : ℤ) (v : Vector) → times (k +ℤ l) v ≡ plus (times k v) (times l v)
+sum_times k l v = vector_equal (simp ring (omega (arith, linear))) (simp ring (omega (arith, linear))) (simp ring (omega (arith, linear)))
+
+-- a·(b·c) = b·(a·c)
+product_swap : (a b c : ℤ) → a *ℤ (b *ℤ c) ≡ b *ℤ (a *ℤ c)
+product_swap a b c = simp ring (omega (arith, linear))
+
+-- k·(l·v) = l·(k·v)
+pub times_exchange : (k l : ℤ) (v : Vector) → times k (times l v) ≡ times l (times k v)
+times_exchange k l v = vector_equal (product_swap k l v.x) (product_swap k l v.y) (product_swap k l v.z)
+
+-- (a·b)·c = a·(b·c)
+product_group : (a b c : ℤ) → (a *ℤ b) *ℤ c ≡ a *ℤ (b *ℤ c)
+product_group a b c = simp ring (omega (arith, linear))
+
+-- (k·l)·v = k·(l·v)
+pub product_times : (k l : ℤ) (v : Vector) → times (k *ℤ l) v ≡ times k (times l v)
+product_times k l v = vector_equal (product_group k l v.x) (product_group k l v.y) (product_group k l v.z)
+
+-- the same for natural numbers
+pub numbers_times : (m n : ℕ) (v : Vector) → times (pos (m * n)) v ≡ times (pos m) (times (pos n) v)
+numbers_times m n v = ap (λ (k : ℤ). times k v) (sym (pos-*ℤ-pos m n)) ∙ product_times (pos m) (pos n) v
+
+-- a factor other than 0 cancels
+pub times_cancel : (d : ℤ) (v w : Vector) → d ≢ pos 0 → times d v ≡ times d w → v ≡ w
+times_cancel d v w n e =
+    vector_equal (cancel_factor d v.x w.x n (ap (λ (a : Vector). a.x) e)) (cancel_factor d v.y w.y n (ap (λ (a : Vector). a.y) e)) (cancel_factor d v.z w.z n (ap (λ (a : Vector). a.z) e))
+
+-- c·(v + w) = c·v + c·w
+pub dot_plus : (c v w : Vector) → dot c (plus v w) ≡ dot c v +ℤ dot c w
+dot_plus c v w = parts c.x c.y c.z v.x v.y v.z w.x w.y w.z
+  where
+    parts : (a b c x y z u v w : ℤ) → a *ℤ (x +ℤ u) +ℤ b *ℤ (y +ℤ v) +ℤ c *ℤ (z +ℤ w) ≡ (a *ℤ x +ℤ b *ℤ y +ℤ c *ℤ z) +ℤ (a *ℤ u +ℤ b *ℤ v +ℤ c *ℤ w)
+    parts a b c x y z u v w = simp ring (omega (arith, linear))
+
+-- c·(k·v) = k·(c·v)
+pub dot_times : (c : Vector) (k : ℤ) (v : Vector) → dot c (times k v) ≡ k *ℤ dot c v
+dot_times c k v = parts k c.x c.y c.z v.x v.y v.z
+  where
+    parts : (k a b c x y z : ℤ) → a *ℤ (k *ℤ x) +ℤ b *ℤ (k *ℤ y) +ℤ c *ℤ (k *ℤ z) ≡ k *ℤ (a *ℤ x +ℤ b *ℤ y +ℤ c *ℤ z)
+    parts k a b c x y z = simp ring (omega (arith, linear))
+
+-- c·0 = 0
+pub dot_zero : (c : Vector) → dot c zero_vector ≡ pos 0
+dot_zero c = omega (arith, ints)
+
+-- a sum of vectors of dimension d has dimension d
+pub plus_dimension : (d : ℕ) (v w : Vector) → HasDimension d v → HasDimension d w → HasDimension d (plus v w)
+plus_dimension d v w h k e = let a = h e in let b = k e in omega (arith, ints)
+
+-- and so has a difference
+pub minus_dimension : (d : ℕ) (v w : Vector) → HasDimension d v → HasDimension d w → HasDimension d (minus v w)
+minus_dimension d v w h k e = let a = h e in let b = k e in omega (arith, ints)
+
+-- and so has the opposite
+pub opposite_dimension : (d : ℕ) (v : Vector) → HasDimension d v → HasDimension d (opposite v)
+opposite_dimension d v h e = ap neg_ℤ (h e)
+
+-- and so has a multiple
+pub times_dimension : (d : ℕ) (k : ℤ) (v : Vector) → HasDimension d v → HasDimension d (times k v)
+times_dimension d k v h e = ap (λ (z : ℤ). k *ℤ z) (h e) ∙ zero_is k
+  where
+    zero_is : (a : ℤ) → a *ℤ pos 0 ≡ pos 0
+    zero_is a = omega (arith, ints)
+
+-- the product of the cross product of b and c with a
+pub dot_cross : (a b c : Vector) → dot (cross b c) a ≡ triple_product a b c
+dot_cross a b c = parts (b.y *ℤ c.z -ℤ b.z *ℤ c.y) (b.z *ℤ c.x -ℤ b.x *ℤ c.z) (b.x *ℤ c.y -ℤ b.y *ℤ c.x) a.x a.y a.z
+  where
+    parts : (x y z u v w : ℤ) → x *ℤ u +ℤ y *ℤ v +ℤ z *ℤ w ≡ u *ℤ x +ℤ v *ℤ y +ℤ w *ℤ z
+    parts x y z u v w = simp ring (omega (arith, linear))

@@ -1,0 +1,10 @@
+use Rattle.least_key.specs.Causes.{unconnected_refusal}
+use Rattle.least_key.specs.Truths.{IsTrueOf}
+use Rattle.least_key.proofs.Truth.{unconnected_true, known_error}
+use Rattle.least_key.proofs.path.connect_graph.Goals as goal
+
+pub returns-in_err-net-clause-refused : goal.returns-in_err-net-clause-refused
+returns-in_err-net-clause-refused g c =
+    let fault = c.in_err-net.field-0.0 in
+    known_error (IsTrueOf c.args.graph) (unconnected_refusal fault) c.from_residual.result c.from_residual.ensures.1
+    (unconnected_true c.args.graph fault c.in_err-net.ensures.refused)

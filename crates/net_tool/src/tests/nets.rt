@@ -1,0 +1,175 @@
+// What is told of nets: whether they are connected, and where their vertices stand.
+use super::{Case, HCB, HCB_REPORT, NO_FAULTS, check_cases, run_on};
+use crate::status::Status;
+use barycentre::{WidePlacement, WideSite};
+use cgd_read::Names;
+use least_key::Refusal;
+use net_report::refused_line;
+use std::alloc::Global;
+use std::test::Fail;
+
+const SODALITE: &str =
+    "# T sites of sodalite, body-centred cell\nPeriodic_Graph\nID \"sod, 12 sites\"\nEDGE 1 2 0 0 0\n 1 3 0 -1 0\n 1 4 0 0 0\n 1 5 0 0 0\n 6 2 1 0 0\n 6 3 1 -1 0\n 6 4 0 0 0\n 6 5 0 0 0\n 7 8 0 0 0   # the other half of the cell\n 7 9 0 0 0\n 7 10 0 0 0\n 7 11 0 0 -1\n 12 8 0 0 0\n 12 9 0 0 0\n 12 10 1 0 0\n 12 11 1 0 -1\n 2 10 0 0 0\n 2 11 0 0 0\n 3 10 0 0 0\n 3 11 0 0 0\n 8 4 0 0 0\n 8 5 0 0 -1\n 9 4 0 1 0\n 9 5 0 1 -1\nEnd\n";
+
+const SODALITE_REPORT: &str =
+    "net 1 line 2 \"sod, 12 sites\"\ngraph d=3 vertices=12 edges=24 repeats=0\nconnected\n";
+
+#[test]
+fn connected_or_not(rt: HostRuntime) -> Result<(), Fail> {
+    let cases = [
+        Case {
+            text: HCB,
+            status: Status::Done,
+            written: HCB_REPORT,
+        },
+        Case {
+            text: SODALITE,
+            status: Status::Done,
+            written: SODALITE_REPORT,
+        },
+        Case {
+            text: "PERIODIC_GRAPH\nNAME pair\nEDGES\n1 1 1 0\n1 1 0 1\n2 2 1 0\n2 2 0 1\nEND\n",
+            status: Status::SomeRefused,
+            written: "net 1 line 1 \"pair\"\ngraph d=2 vertices=2 edges=4 repeats=0\nrefused 1 Disconnected q=0 c=0 0 h=0 1\n",
+        },
+        Case {
+            text: "PERIODIC_GRAPH\nNAME parts\nEDGES\n7 3 0 0 -1\n2 2 1 0 0\n3 9 1 1 1\nEND",
+            status: Status::SomeRefused,
+            written: "net 1 line 1 \"parts\"\ngraph d=3 vertices=4 edges=3 repeats=0\nrefused 1 Disconnected q=0 c=0 0 0 h=0 0 1 0\n",
+        },
+        Case {
+            text: "PERIODIC_GRAPH\nNAME two\nEDGES\n1 1 2 0\n1 1 0 1\nEND\n",
+            status: Status::SomeRefused,
+            written: "net 1 line 1 \"two\"\ngraph d=2 vertices=1 edges=2 repeats=0\nrefused 1 Disconnected q=2 c=1 0 h=0\n",
+        },
+        Case {
+            text: "PERIODIC_GRAPH\nNAME line\nEDGES\n1 1 1 0\n1 1 2 0\nEND\n",
+            status: Status::SomeRefused,
+            written: "net 1 line 1 \"line\"\ngraph d=2 vertices=1 edges=2 repeats=0\nrefused 2 Degenerate q=0 c=0 1 h=0\n",
+        },
+        Case {
+            text: "PERIODIC_GRAPH\nNAME skew\nEDGES\n1 2 0 1\n1 2 1 2\n1 1 0 2\nEND\n",
+            status: Status::SomeRefused,
+            written: "net 1 line 1 \"skew\"\ngraph d=2 vertices=2 edges=3 repeats=0\nrefused 1 Disconnected q=2 c=1 1 h=0 1\n",
+        },
+        Case {
+            text: "PERIODIC_GRAPH\nNAME slab\nEDGES\n1 1 1 1 0\n1 1 0 0 1\nEND\n",
+            status: Status::SomeRefused,
+            written: "net 1 line 1 \"slab\"\ngraph d=3 vertices=1 edges=2 repeats=0\nrefused 2 Degenerate q=0 c=1 -1 0 h=0\n",
+        },
+        Case {
+            text: "PERIODIC_GRAPH\nNAME tree\nEDGES\n1 2 5 0 0\nEND\n",
+            status: Status::SomeRefused,
+            written: "net 1 line 1 \"tree\"\ngraph d=3 vertices=2 edges=1 repeats=0\nrefused 2 Degenerate q=0 c=1 0 0 h=0 -5\n",
+        },
+        Case {
+            text: "PERIODIC_GRAPH\nNAME sub\nEDGES\n1 1 1 0 0\n1 1 0 2 0\n1 1 0 0 1\nEND\n",
+            status: Status::SomeRefused,
+            written: "net 1 line 1 \"sub\"\ngraph d=3 vertices=1 edges=3 repeats=0\nrefused 1 Disconnected q=2 c=0 1 0 h=0\n",
+        },
+    ];
+    check_cases(rt.alloc(), &rt, "check", &cases)
+}
+
+#[test]
+fn placements(rt: HostRuntime) -> Result<(), Fail> {
+    let cases = [
+        Case {
+            text: HCB,
+            status: Status::Done,
+            written: "net 1 line 1 \"hcb\"\ngraph d=2 vertices=2 edges=3 repeats=0\nplacement D0=3\nat 1 0 0\nat 2 -1 -1\n",
+        },
+        Case {
+            text: "PERIODIC_GRAPH\nNAME dia\nEDGES\n1 2 0 0 0\n1 2 1 0 0\n1 2 0 1 0\n1 2 0 0 1\nEND\nPERIODIC_GRAPH\nNAME tilted\nEDGES\n4 7 0 0 0\n4 7 -1 0 0\n4 7 -1 -1 0\n4 7 0 -1 -1\nEND\nPERIODIC_GRAPH\nNAME again\nEDGES\n1 2 0 0 0\n1 2 1 0 0\n1 2 0 1 0\n1 2 0 0 1\n2 1 0 0 -1\nEND\n",
+            status: Status::Done,
+            written: "net 1 line 1 \"dia\"\ngraph d=3 vertices=2 edges=4 repeats=0\nplacement D0=4\nat 1 0 0 0\nat 2 -1 -1 -1\nnet 2 line 9 \"tilted\"\ngraph d=3 vertices=2 edges=4 repeats=0\nplacement D0=4\nat 4 0 0 0\nat 7 2 2 1\nnet 3 line 17 \"again\"\ngraph d=3 vertices=2 edges=4 repeats=1\nplacement D0=4\nat 1 0 0 0\nat 2 -1 -1 -1\n",
+        },
+        Case {
+            text: "PERIODIC_GRAPH\nNAME pcu2\nEDGES\n1 2 0 0 0\n2 1 1 0 0\n1 1 0 1 0\n1 1 0 0 1\n2 2 0 1 0\n2 2 0 0 1\nEND\n",
+            status: Status::Done,
+            written: "net 1 line 1 \"pcu2\"\ngraph d=3 vertices=2 edges=6 repeats=0\nplacement D0=2\nat 1 0 0 0\nat 2 1 0 0\n",
+        },
+        // vertices in one place
+        Case {
+            text: "PERIODIC_GRAPH\nNAME fold\nEDGES\n2 1 0 0\n2 1 1 0\n3 1 0 0\n3 1 1 0\n1 1 0 1\nEND\n",
+            status: Status::Done,
+            written: "net 1 line 1 \"fold\"\ngraph d=2 vertices=3 edges=5 repeats=0\nplacement D0=2\nat 2 0 0\nat 1 -1 0\nat 3 0 0\n",
+        },
+        Case {
+            text: "PERIODIC_GRAPH\nNAME leaf\nEDGES\n1 1 1 0\n1 1 0 1\n1 2 0 0\nEND\n",
+            status: Status::Done,
+            written: "net 1 line 1 \"leaf\"\ngraph d=2 vertices=2 edges=3 repeats=0\nplacement D0=1\nat 1 0 0\nat 2 0 0\n",
+        },
+        Case {
+            text: "PERIODIC_GRAPH\nNAME two\nEDGES\n1 1 2 0\n1 1 0 1\nEND\n",
+            status: Status::SomeRefused,
+            written: "net 1 line 1 \"two\"\ngraph d=2 vertices=1 edges=2 repeats=0\nrefused 1 Disconnected q=2 c=1 0 h=0\n",
+        },
+        Case {
+            text: "X\nEND\n",
+            status: Status::SomeRefused,
+            written: "net 1 line 1\nunsupported X\n",
+        },
+    ];
+    check_cases(rt.alloc(), &rt, "place", &cases)
+}
+
+// A chain of vertices: between the k-th and the next one so many edges, with the shifts 0, 1 and so on, the last
+// one further by 1; and a loop at the first.
+fn chain(alloc: Global, counts: &[u32], last: &str) -> Result<Vec<u8>, Fail> {
+    let mut text = String::from_str(alloc, "PERIODIC_GRAPH\nEDGES\n")?;
+    for (k, count) in counts.iter().enumerate() {
+        for step in 0..*count {
+            let shift = if step + 1 == *count { *count } else { step };
+            let (from, to) = (k as u64 + 1, k as u64 + 2);
+            text.push_str(&format!(in alloc; "{from} {to} {shift} 0\n")?)?;
+        }
+    }
+    text.push_str(last)?;
+    text.push_str("\nEND\n")?;
+    Ok(Vec::from_slice(alloc, text.as_bytes())?)
+}
+
+// Numbers on the way to a placement that are past 62 bits, and numbers of a placement that are past 2^40.
+#[test]
+fn wide_numbers(rt: HostRuntime) -> Result<(), Fail> {
+    let counts = [63, 61, 59, 55, 53, 47, 43, 41, 37, 31, 29, 23];
+    let chains: [(usize, &str, &str); 3] = [
+        (
+            12,
+            "1 1 0 1",
+            "net 1 line 1\ngraph d=2 vertices=13 edges=543 repeats=0\nrefused 3 TooWide part=7 k=11 i=0 j=10 c=1 left=31/1 right=-456296288570237932/2026342482245235\n",
+        ),
+        (
+            8,
+            "1 1 0 1",
+            "net 1 line 1\ngraph d=2 vertices=9 edges=423 repeats=0\nrefused 4 WidePlacement denominator u=8 c=1 value=1335756415455\n",
+        ),
+        (
+            6,
+            "1 1 40 1",
+            "net 1 line 1\ngraph d=2 vertices=7 edges=339 repeats=0\nrefused 4 WidePlacement arc u=1 v=1 s=-40 -1 c=1 value=-1242564107400\n",
+        ),
+    ];
+    for (links, last, written) in &chains {
+        let text = chain(rt.alloc(), &counts[..(*links).min(12)], last)?;
+        let (status, out) = run_on(rt.alloc(), &["place", "net"], &text, &NO_FAULTS)?;
+        assert_eq!(rt; status, Status::SomeRefused);
+        assert_eq!(rt; out.written(), written.as_bytes());
+    }
+    Ok(())
+}
+
+// Without names the vertices are told by their numbers.
+#[test]
+fn refusal_by_numbers(rt: HostRuntime) -> Result<(), Fail> {
+    let refusal = Refusal::WidePlacement(WidePlacement {
+        dim: 2,
+        site: WideSite::Denominator { u: 8, c: 1 },
+        value: 1_335_756_415_455,
+    });
+    let line = refused_line(rt.alloc(), &refusal, &Names::new(rt.alloc()))?;
+    let wanted = "refused 4 WidePlacement denominator u=8 c=1 value=1335756415455\n";
+    assert_eq!(rt; line.as_slice(), wanted.as_bytes());
+    Ok(())
+}
