@@ -67,13 +67,13 @@ module _ {M D : ℕ} (G : Graph) (g : IsGraph G) (dimension : G.dimension ≡ D)
     unfolding there
     value_there u q c = fraction_there rows (u - 1) c (element_of rows (u - 1) (row_inside u q)) (row_inside u q)
 
-    is_row : (u : ℕ) (q : IsQuotientVertex G u) → IsRecoveredRow (M * M) (λ c. lifted_at c u) (there u q)
+    is_row : (u : ℕ) (q : IsQuotientVertex G u) → IsRecoveredRow (M * M) (2 ^ 58) (λ c. lifted_at c u) (there u q)
     unfolding there
     is_row u q =
         let a = element_of firsts (u - 1) (inside u q) in
         let b = element_of nexts (u - 1) (next_inside u q) in
         let h = recovered.each (u - 1) (element_of rows (u - 1) (row_inside u q)) a b (inside u q) in
-        subst (λ (x : ℕ → ℕ). IsRecoveredRow (M * M) x (get_or rows (u - 1) (element_of rows (u - 1) (row_inside u q)))) (λ i c. sym (lifted_there u q c a b) i) h
+        subst (λ (x : ℕ → ℕ). IsRecoveredRow (M * M) (2 ^ 58) x (get_or rows (u - 1) (element_of rows (u - 1) (row_inside u q)))) (λ i c. sym (lifted_there u q c a b) i) h
 
     no_third : G.dimension ≡ 2 → (u : ℕ) → IsQuotientVertex G u → (value_in fraction_value rows u 2).num ≡ pos 0
     no_third e u q = ap (λ (r : Ratio). r.num) (value_there u q 2) ∙ (is_row u q).flat (sym dimension ∙ e)

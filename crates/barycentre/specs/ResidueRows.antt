@@ -5,6 +5,7 @@ use Rattle.integers.specs.Vectors.{Vector, vector}
 use Rattle.exact.specs.Ratio.{Ratio, whole}
 use Rattle.vecdim.specs.declared.vectors.Row.{Row}
 use Rattle.residue.specs.declared.numbers.Residue.{Residue}
+use Rattle.barycentre.specs.Recovered.{by_coordinate}
 
 -- the value of a residue
 abbrev pub residue_value : {M : ℕ} → Residue M → Ratio
@@ -12,9 +13,7 @@ residue_value r = whole (pos r.value)
 
 -- part c of a row, with coordinates counted from 0
 abbrev pub residue_part : {M D : ℕ} → Row (Residue M) D → ℕ → ℕ
-residue_part r zero = r.x.value
-residue_part r (suc zero) = r.y.value
-residue_part r (suc (suc c)) = r.z.value
+residue_part r = by_coordinate r.x.value r.y.value r.z.value
 
 -- part c of the row of vertex u, which is counted from 1; 0 where there is none
 abbrev pub residue_at : {M D : ℕ} → List (Row (Residue M) D) → ℕ → ℕ → ℕ

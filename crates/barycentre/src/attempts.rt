@@ -3,7 +3,7 @@ ghost use Rattle.std.specs.Prelude.{◌≡◌, ◌<◌, ◌≤◌, ◌^◌, ◌*
 ghost use Rattle.periodic_net.specs.Graph.{IsConnected};
 ghost use Rattle.barycentre.specs.Attempts.{IsAttempt, IsTried};
 
-use crate::steps::by_two_steps;
+use crate::steps::{by_one_step, by_two_steps};
 use crate::testing::Units;
 use elimination::{SolveFault, solve};
 use quotient_graph::Graph;
@@ -38,6 +38,9 @@ fn by_modulus<const M: u64, const D: usize>(
         Err(SolveFault::Wide { .. }) => unreachable!(),
         Err(SolveFault::NoMemory) => return Err(NoMemory),
     };
+    if let Some(units) = by_one_step(alloc, g, &firsts)? {
+        return Ok(Attempt::Found(units));
+    }
     match by_two_steps(alloc, g, &firsts)? {
         Some(units) => Ok(Attempt::Found(units)),
         None => Ok(Attempt::Failed),

@@ -10,7 +10,7 @@ ghost use Rattle.barycentre.specs.Reached.{HasInverses, AreNotWithin};
 ghost use Rattle.barycentre.specs.ResidueRows.{residue_value, residue_vector};
 
 use crate::left::left_rows;
-use crate::recovery::recovered_rows;
+use crate::recovery::{near_rows, recovered_rows};
 use crate::testing::{Units, tested};
 use elimination::{SolveFault, solve_with};
 use quotient_graph::Graph;
@@ -64,7 +64,30 @@ fn next_rows<const M: u64, const D: usize>(
     }
 }
 
-/// The normal placement from the solution modulo M, if it is within the limits.
+/// The normal placement from the solution modulo M alone, if its positions are fractions of small
+/// parts.
+pub(crate) fn by_one_step<const M: u64, const D: usize>(
+    alloc: Global,
+    g: &Graph<D>,
+    rows: &[Row<Residue<M>, D>],
+) -> Result<Option<Units>, NoMemory>
+    requires large { 2 ^ 57 < M }
+    requires most { M < 2 ^ 62 }
+    requires count { length rows.now ≡ g.now.vertices }
+    ensures positive { IfOk result (λ o. IfSome o (λ t. pos 1 ≤ℤ t.d0)) }
+    ensures normal { IfOk result
+        (λ o. IfSome o (λ t. IsNormalPlacement g.now (placement_of t.d0 t.at.items))) }
+    ensures limits { IfOk result
+        (λ o. IfSome o (λ t. IsWithinLimits g.now (placement_of t.d0 t.at.items))) }
+{
+    let _ = g.dimension(); // which is D
+    match near_rows(alloc, rows)? {
+        Some(near) => tested(alloc, g, &near),
+        None => Ok(None),
+    }
+}
+
+/// The normal placement from the solution modulo M and one step more, if it is within the limits.
 pub(crate) fn by_two_steps<const M: u64, const D: usize>(
     alloc: Global,
     g: &Graph<D>,
