@@ -78,5 +78,9 @@ pub(crate) fn by_residues<const D: usize>(alloc: Global, g: &Graph<D>) -> Result
         Attempt::Failed => return Ok(Tried::Failed),
         Attempt::Found(units) => return Ok(Tried::Found(units)),
     };
-    Ok(Tried::NoModulus { first, second, third })
+    Ok(Tried::NoModulus {
+        first,
+        second,
+        third,
+    })
 }
