@@ -1,5 +1,6 @@
 -- The mean equations, by weights and by arcs.
 pub mod ArcSums
+pub mod Differences
 pub mod FirstVertex
 pub mod Gains
 pub mod Kept

@@ -5,7 +5,9 @@ pub mod Firsts
 pub mod LastLine
 pub mod Numbers
 pub mod Positions
-pub mod Residues
+pub mod RightRows
 pub mod Rows
+pub mod SameWeights
 pub mod Solved
+pub mod SolvedWith
 pub mod Solving

@@ -9,9 +9,9 @@ use Rattle.integers.proofs.numbers.Bezout.{bezout, Bezout}
 use Rattle.integers.proofs.numbers.Gcd.{bezout_gcd, natural_multiple}
 use Rattle.integers.proofs.numbers.Divisors.{only_one}
 use Rattle.std.proofs.Math.Nat.{mul_comm}
-use Rattle.exact.specs.Ratio.{Ratio, IsDenominator, HasInverse}
+use Rattle.exact.specs.Ratio.{Ratio, IsDenominator, HasInverse, IsWholeMultiple}
 use Rattle.exact.specs.Values.{CanCancel}
-use Rattle.exact.proofs.WholeMultiples.{IsWholeMultiple, cancels_of, cancel}
+use Rattle.exact.proofs.WholeMultiples.{cancels_of, cancel}
 
 -- z is +n or -n
 abbrev IsSigned : ℤ → ℕ → Type 0

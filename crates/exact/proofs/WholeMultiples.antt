@@ -5,12 +5,8 @@ use Rattle.std.specs.Int.{◌∣◌}
 use Rattle.std.proofs.lemmas.Int.{unsigned_abs-mul}
 use Rattle.integers.proofs.numbers.Ring.{ring, linear}
 use Rattle.integers.proofs.numbers.Gcd.{quotient_of, divides_multiple}
-use Rattle.exact.specs.Ratio.{Ratio, Same}
+use Rattle.exact.specs.Ratio.{Ratio, IsWholeMultiple, Same}
 use Rattle.exact.specs.Values.{CanCancel}
-
--- z is m times a whole number
-abbrev pub IsWholeMultiple : ℕ → ℤ → Type 0
-IsWholeMultiple m z = (k : ℤ) × (z ≡ pos m *ℤ k)
 
 -- it is where m divides its absolute value
 whole_multiple : (m : ℕ) (z : ℤ) → m ∣ unsigned_abs z → IsWholeMultiple m z

@@ -1,5 +1,5 @@
 -- The lemmas of this crate that other crates cite.
-pub use Rattle.periodic_net.proofs.Theorems.{barycentric_placements_translate}
+pub use Rattle.periodic_net.proofs.Theorems.{barycentric_placements_translate, normal_placement_is_one}
 pub use Rattle.periodic_net.proofs.examples.HoneycombNet.{honeycomb_normal_placement}
 pub use Rattle.periodic_net.proofs.examples.SquareClasses.{loop, right, square_classes, square_is_classes, up}
 pub use Rattle.periodic_net.proofs.examples.SquareNet.{square_graph, square_stable}
@@ -16,6 +16,8 @@ pub use Rattle.periodic_net.proofs.nets.SplitCases.{one_not_alike, split_by_part
 pub use Rattle.periodic_net.proofs.nets.Splits.{split_shows_not_connected}
 pub use Rattle.periodic_net.proofs.nets.Walks.{joined_moved, reached_by_arc, reached_itself, reached_moved, reached_transitive, reached_turned, same_reached}
 pub use Rattle.periodic_net.proofs.placements.Positions.{end_vector, moves_by, position_moved, positions_tell}
+pub use Rattle.periodic_net.proofs.placements.Translates.{total_linear, total_zero}
 pub use Rattle.periodic_net.proofs.translations.ByVectors.{class_arcs}
 pub use Rattle.periodic_net.proofs.translations.ClassMembers.{IsShape, class_in, flat_arcs, member}
 pub use Rattle.periodic_net.proofs.translations.Classes.{share_reflexive, share_symmetric}
+pub use Rattle.periodic_net.proofs.translations.Translations.{whole_translation}

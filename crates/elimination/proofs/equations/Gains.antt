@@ -13,7 +13,7 @@ use Rattle.elimination.proofs.theory.Divides.{same_of_class}
 use Rattle.elimination.proofs.theory.ListSums.{sum_over, over_plus}
 
 -- the denominator of a difference
-minus_cancels : {m : ℕ} (a b : Ratio) → CanCancel m (pos a.den) → CanCancel m (pos b.den) → CanCancel m (pos (ratio_minus a b).den)
+pub minus_cancels : {m : ℕ} (a b : Ratio) → CanCancel m (pos a.den) → CanCancel m (pos b.den) → CanCancel m (pos (ratio_minus a b).den)
 unfolding ratio_minus
 minus_cancels a b h i = product_cancels h i
 
@@ -22,7 +22,7 @@ module _ (m : ℕ) where
   back_step an ad bn bd = simp ring (omega (arith, linear))
 
   -- (a - b) + b is the value a
-  minus_plus : (a b : Ratio) → Same m (ratio_plus (ratio_minus a b) b) a
+  pub minus_plus : (a b : Ratio) → Same m (ratio_plus (ratio_minus a b) b) a
   unfolding ratio_plus ratio_minus
   minus_plus a b = formal m _ _ _ _ (ratio_plus (ratio_minus a b) b) a refl refl refl refl (back_step a.num (pos a.den) b.num (pos b.den))
 
@@ -48,12 +48,12 @@ module _ (m : ℕ) where
   whole_total g (x ∷ xs) = whole_plus (g x) (total g xs) ∙ ap (plus_value m (whole_value m (g x))) (whole_total g xs)
 
   -- the denominator of a sum of values over a list
-  over_cancels : {X : Type 0} (f : X → Ratio) → ((x : X) → CanCancel m (pos (f x).den)) → (xs : List X) → CanCancel m (pos (ratio_sum (map f xs)).den)
+  pub over_cancels : {X : Type 0} (f : X → Ratio) → ((x : X) → CanCancel m (pos (f x).den)) → (xs : List X) → CanCancel m (pos (ratio_sum (map f xs)).den)
   over_cancels f h [] = one_cancels
   over_cancels f h (x ∷ xs) = plus_cancels (f x) (ratio_sum (map f xs)) (h x) (over_cancels f h xs)
 
   -- its class is the sum of the classes
-  over_class : {X : Type 0} (f : X → Ratio) (h : (x : X) → CanCancel m (pos (f x).den)) (xs : List X) → class m (ratio_sum (map f xs)) (over_cancels f h xs) ≡ sum_over (values m) (λ x. class m (f x) (h x)) xs
+  pub over_class : {X : Type 0} (f : X → Ratio) (h : (x : X) → CanCancel m (pos (f x).den)) (xs : List X) → class m (ratio_sum (map f xs)) (over_cancels f h xs) ≡ sum_over (values m) (λ x. class m (f x) (h x)) xs
   unfolding over_cancels
   over_class f h [] = sym (class_whole m (pos 0) one_cancels)
   over_class f h (x ∷ xs) =

@@ -30,7 +30,7 @@ kept_cancels m G p h u = cond_both (leb 1 u && leb u G.vertices) (p u) (whole (p
     (λ e. let q = and_parts (leb 1 u) (leb u G.vertices) e in denominator_cancels (h u (leb-true 1 u q.0, leb-true u G.vertices q.1))) (λ e. one_cancels)
 
 -- functions that agree on a list map it alike
-map_same : {X Y : Type 0} (f g : X → Y) (xs : List X) → ((x : X) → IsIn xs x → f x ≡ g x) → map f xs ≡ map g xs
+pub map_same : {X Y : Type 0} (f g : X → Y) (xs : List X) → ((x : X) → IsIn xs x → f x ≡ g x) → map f xs ≡ map g xs
 map_same f g [] h = refl
 map_same f g (x ∷ xs) h = λ i. h x (inl refl) i ∷ map_same f g xs (λ y k. h y (inr k)) i
 

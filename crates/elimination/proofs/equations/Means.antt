@@ -53,7 +53,7 @@ module _ (m : ℕ) where
     shifts c i = whole_value m (part c (shift_sum G (i + 1)))
 
     -- the weights of i, times values of the vertices, are the values at the ends of its arcs
-    by_ends : (P : ℕ → Value m) (i : ℕ) → sum_below (values m) G.vertices (λ j. times_value m (weight i j) (P (j + 1))) ≡ sum_over (values m) (λ a. P a.to) (arcs_from G (i + 1))
+    pub by_ends : (P : ℕ → Value m) (i : ℕ) → sum_below (values m) G.vertices (λ j. times_value m (weight i j) (P (j + 1))) ≡ sum_over (values m) (λ a. P a.to) (arcs_from G (i + 1))
     by_ends P i =
         sum_same (values m) G.vertices (λ j. times_value m (weight i j) (P (j + 1))) (λ j. sum_over (values m) (λ a. at_number (values m) a.to (P a.to) j) (arcs_from G (i + 1)))
         (λ j l. counted (j + 1) (P (j + 1)) (arcs_from G (i + 1)) ∙ (λ x. sum_over (values m) (λ a. at_its_place P a.to j x) (arcs_from G (i + 1))))
@@ -61,7 +61,7 @@ module _ (m : ℕ) where
 
     module _ (c : ℕ) (p : ℕ → Ratio) (h : (u : ℕ) → CanCancel m (pos (p u).den)) (i : ℕ) where
       -- what the tails of the arcs from i + 1 add up to
-      abbrev tails : Value m
+      abbrev pub tails : Value m
       tails = sum_over (values m) (λ a. stand m c p h a.from) (arcs_from G (i + 1))
 
       -- the left side of the mean equation is the gains and the tails
@@ -71,7 +71,7 @@ module _ (m : ℕ) where
           (λ x. plus_value m (by_ends (stand m c p h) i x) (sums x)) ∙ sym (gains_plus m c p h (arcs_from G (i + 1)))
 
       -- its right side is the tails
-      right : times_value m (sum_below (values m) G.vertices (weight i)) (stand m c p h (i + 1)) ≡ tails
+      pub right : times_value m (sum_below (values m) G.vertices (weight i)) (stand m c p h (i + 1)) ≡ tails
       right =
           sym (times_sum (values m) G.vertices (stand m c p h (i + 1)) (weight i))
           ∙ by_ends (λ u. stand m c p h (i + 1)) i

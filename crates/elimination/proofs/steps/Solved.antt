@@ -25,7 +25,7 @@ start_is_level : (m : ℕ) (G : Graph) → IsLevel m (start_level G)
 start_is_level m G = record { w = λ i j. one_cancels; b = λ i c. one_cancels }
 
 -- what holds of each j + 1 holds of each number from 1
-from_one : (P : ℕ → Type 0) (u : ℕ) → 1 ≤ u → P (u - 1 + 1) → P u
+pub from_one : (P : ℕ → Type 0) (u : ℕ) → 1 ≤ u → P (u - 1 + 1) → P u
 from_one P u l h = let e : u - 1 + 1 ≡ u = omega arith in subst P e h
 
 module _ (m : ℕ) (fits : Ratio → Type 0) (G : Graph) (g : IsGraph G) (good : AreGood m fits (listed_numbers G)) (c : ℕ) where

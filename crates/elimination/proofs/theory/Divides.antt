@@ -5,9 +5,9 @@ use mathlib.Core.Logic.{∥∥₁_elim}
 use Rattle.integers.proofs.numbers.Ring.{ring, linear, zero_or_not}
 use Rattle.integers.proofs.numbers.Division.{divided}
 use Rattle.integers.proofs.numbers.Gcd.{natural_multiple}
-use Rattle.exact.specs.Ratio.{Ratio, Same}
+use Rattle.exact.specs.Ratio.{Ratio, Same, IsWholeMultiple}
 use Rattle.exact.specs.Values.{CanCancel}
-use Rattle.exact.proofs.CallerLemmas.{IsWholeMultiple, same_of, difference_multiple, class, same_from_class}
+use Rattle.exact.proofs.CallerLemmas.{same_of, difference_multiple, class, same_from_class}
 
 -- 0 divides 0 alone
 by_zero : (z : ℤ) → IsWholeMultiple 0 z ⊎ (¬ IsWholeMultiple 0 z)
