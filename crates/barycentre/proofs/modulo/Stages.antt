@@ -1,5 +1,5 @@
 -- A solution modulo M and one of what is left of it, in rows: two steps, whose reconstructions are the normal placement.
-use Rattle.std.proofs.Common.{◌≡◌, ⊎_elim, ℕ, zero, suc, arith, ◌+◌, ◌-◌, ◌*◌, ◌<◌, ◌≤◌, ◌^◌, List, length, map, get_or, ap, sym, refl, subst, ◌∙◌, unsigned_abs, Option, Some, None, IsTrue, nat_eq, rules}
+use Rattle.std.proofs.Common.{◌≡◌, ⊎_elim, ℕ, zero, suc, arith, ◌+◌, ◌-◌, ◌<◌, ◌≤◌, List, length, map, get_or, ap, sym, refl, subst, ◌∙◌, Option, Some, None, IsTrue, nat_eq, rules}
 use Rattle.std.specs.Prelude.{ℤ, pos, ◌+ℤ◌, ◌*ℤ◌, int_div, slice_get}
 use Rattle.std.specs.Option.{option_map_or}
 use Rattle.std.proofs.lemmas.Option.{get_or_from_slice_get, slice_get_within}
@@ -8,7 +8,7 @@ use Rattle.integers.specs.Staircase.{part}
 use Rattle.integers.proofs.numbers.Ring.{ring, linear}
 use Rattle.integers.proofs.numbers.Division.{exact_quotient}
 use Rattle.periodic_net.specs.Graph.{Graph, IsGraph, IsQuotientVertex}
-use Rattle.exact.specs.Ratio.{Ratio, Same, Divides, whole}
+use Rattle.exact.specs.Ratio.{Same, Divides, whole}
 use Rattle.exact.proofs.Residues.{equal_decides}
 use Rattle.vecdim.specs.declared.vectors.Row.{Row}
 use Rattle.elimination.specs.Equations.{IsAtMean, IsSolution}
@@ -24,7 +24,7 @@ use Rattle.barycentre.specs.Left.{star_vector, IsLeft, IsLeftRow, IsDividedVecto
 use Rattle.barycentre.specs.ResidueRows.{residue_value, residue_part, residue_at, residue_vector}
 use Rattle.barycentre.proofs.Balance.{below_three}
 use Rattle.barycentre.proofs.Normal.{dimension_below, coordinate_cases}
-use Rattle.barycentre.proofs.ResidueRows.{element_of, values_are, at_below, part_there, star_is, gains_multiple, flat_shifts}
+use Rattle.barycentre.proofs.modulo.ResidueRows.{element_of, values_are, at_below, part_there, star_is, gains_multiple, flat_shifts}
 
 -- the part of a row that is left
 left_part_is : {M D : ℕ} (v : Vector) (r : Row (Residue M) D) → IsLeftRow v r → (c : ℕ) → c < 3 → IsLeft M (part c v) (residue_part r c)
