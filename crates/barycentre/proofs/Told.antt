@@ -1,5 +1,4 @@
 -- A number past its limit is told as a fault, since such a number has a site.
-use Rattle.std.proofs.Common.{ℕ}
 use Rattle.periodic_net.specs.Graph.{Graph}
 use Rattle.periodic_net.specs.Placement.{Placement}
 use Rattle.barycentre.specs.PlaceFaults.{IsWideOf}

@@ -1,5 +1,5 @@
 -- What the moduli give of the placement of a net.
-use Rattle.std.specs.Prelude.{ℕ, ℤ, pos, ◌≤ℤ◌}
+use Rattle.std.specs.Prelude.{ℕ, pos, ◌≤ℤ◌}
 use Rattle.periodic_net.specs.Graph.{Graph}
 use Rattle.periodic_net.specs.Placement.{IsNormalPlacement, IsWithinLimits}
 use Rattle.quotient_graph.specs.PlacedNets.{placement_of}

@@ -1,5 +1,5 @@
 -- Rows of residues, as whole numbers.
-use Rattle.std.specs.Prelude.{ℕ, zero, suc, ◌-◌, pos, List, slice_get}
+use Rattle.std.specs.Prelude.{ℕ, ◌-◌, pos, List, slice_get}
 use Rattle.std.specs.Option.{option_map_or}
 use Rattle.integers.specs.Vectors.{Vector, vector}
 use Rattle.exact.specs.Ratio.{Ratio, whole}

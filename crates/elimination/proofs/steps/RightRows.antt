@@ -12,8 +12,8 @@ use Rattle.elimination.specs.Faults.{AreGood}
 use Rattle.elimination.specs.Listed.{position}
 use Rattle.elimination.specs.Lines.{IsRow, AreRowsOfValues, level_with}
 use Rattle.elimination.specs.Rows.{value_in, row_part}
-use Rattle.elimination.specs.RightHand.{SolveWith, OnlyWith, listed_with}
-use Rattle.elimination.proofs.steps.SolvedWith.{solved_with, only_with}
+use Rattle.elimination.specs.RightHand.{SolveWith, FirstWith, OnlyWith, listed_with}
+use Rattle.elimination.proofs.steps.SolvedWith.{solved_with, first_with, only_with}
 
 -- a number has its own value
 pub own_value : {N : Type 0} (m : ℕ) (value : N → Ratio) (denominator : (x : N) → IsDenominator m (value x).den) (x : N) → HasValue m (value x) (value x)
@@ -75,6 +75,10 @@ module _ {N : Type 0} {D : ℕ} (m : ℕ) (value : N → Ratio) (denominator : (
       -- the rows solve the equations
       pub solve_with_all : SolveWith m value G right rows
       solve_with_all c l = solved_with m fits G g (value_in value right) (right_cancels right) good c (λ u. value_in value rows u c) (λ u q. value_denominator u c q) (λ u q. value_has u c q l)
+
+      -- and the equation of vertex 1, where the right-hand rows add up to 0
+      pub solve_with_first : FirstWith m value G right rows
+      solve_with_first c l = first_with m fits G g (value_in value right) (right_cancels right) good c (λ u. value_in value rows u c) (λ u q. value_denominator u c q) (λ u q. value_has u c q l)
 
     -- no other values do
     pub solve_with_only : OnlyWith m value G right

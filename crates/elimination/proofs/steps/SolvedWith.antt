@@ -8,7 +8,7 @@ use Rattle.exact.specs.Ratio.{Ratio, Same, IsDenominator, ratio_plus, ratio_minu
 use Rattle.exact.specs.Values.{HasValue, CanCancel}
 use Rattle.exact.proofs.CallerLemmas.{one_cancels, Value, class, values, class_same, class_whole}
 use Rattle.elimination.specs.Equations.{ratio_sum}
-use Rattle.elimination.specs.RightHand.{arc_difference, IsBalanced, IsSolutionWith, IsOnlySolutionWith}
+use Rattle.elimination.specs.RightHand.{arc_difference, ratio_total, IsBalanced, IsSolutionWith, IsOnlySolutionWith}
 use Rattle.elimination.specs.Faults.{AreGood}
 use Rattle.elimination.specs.Listed.{Level, listed, position, arc_count}
 use Rattle.elimination.specs.Lines.{level_with}
@@ -20,6 +20,7 @@ use Rattle.elimination.proofs.theory.Existence.{position_origin, position_cancel
 use Rattle.elimination.proofs.theory.Divides.{same_of_class}
 use Rattle.elimination.proofs.equations.Means.{weight}
 use Rattle.elimination.proofs.equations.Differences.{of_balance, to_balance, differences_of_weights, weights_of_differences}
+use Rattle.elimination.proofs.equations.FirstBalance.{first_balance, total_class}
 use Rattle.elimination.proofs.equations.Kept.{kept, kept_is, kept_cancels, map_same, same_from_kept}
 use Rattle.elimination.proofs.steps.Solved.{from_one}
 
@@ -102,6 +103,14 @@ module _ (m : ℕ) (fits : Ratio → Type 0) (G : Graph) (g : IsGraph G) (right 
             (to_balance m (kept G p) (kept_cancels m G p denominators) G (λ u. right u c) (λ u. k u c) (j + 1)
             (differences_of_weights m (kept G p) (kept_cancels m G p denominators) G g parts j (places_solve j u v)))
 
+        -- vertex 1 too, where the right-hand parts add up to 0
+        balanced_first : Same m (ratio_total G.vertices (λ u. right u c)) (whole (pos 0)) → IsBalanced m G (λ u. right u c) p 1
+        balanced_first e = balance_from_kept m G g (λ u. right u c) p 1
+            (to_balance m (kept G p) (kept_cancels m G p denominators) G (λ u. right u c) (λ u. k u c) 1
+            (first_balance m (kept G p) (kept_cancels m G p denominators) G g parts
+            (λ j u v. differences_of_weights m (kept G p) (kept_cancels m G p denominators) G g parts j (places_solve j u v))
+            (total_class m (λ u. right u c) (λ u. k u c) G.vertices ∙ class_same m (ratio_total G.vertices (λ u. right u c)) (whole (pos 0)) _ one_cancels e ∙ sym (class_whole m (pos 0) one_cancels))))
+
         origin_at : Same m (p 1) (whole (pos 0))
         origin_at = subst (Same m (p 1)) (position_origin (G.vertices - 1) level c) (like 1 (vertex 0 g.vertices)).same
 
@@ -113,6 +122,12 @@ module _ (m : ℕ) (fits : Ratio → Type 0) (G : Graph) (g : IsGraph G) (right 
       origin = origin_at p denominators like;
       balanced = λ u v l. from_one (IsBalanced m G (λ u. right u c) p) u v.0 (balanced_at p denominators like (u - 1) (omega arith) (let w = v.1 in omega arith));
     }
+
+    -- and the equation of vertex 1, where the right-hand parts add up to 0
+    pub first_with : (p : ℕ → Ratio) → ((u : ℕ) → IsQuotientVertex G u → IsDenominator m (p u).den)
+        → ((u : ℕ) → IsQuotientVertex G u → HasValue m (p u) (position (G.vertices - 1) level (u - 1) c))
+        → Same m (ratio_total G.vertices (λ u. right u c)) (whole (pos 0)) → IsBalanced m G (λ u. right u c) p 1
+    first_with p denominators like = balanced_first p denominators like
 
     -- there is no other solution
     pub only_with : IsOnlySolutionWith m G (λ u. right u c)

@@ -1,5 +1,5 @@
 use Rattle.std.proofs.Common.{lit<}
-use Rattle.barycentre.proofs.NearRows.{large_modulus}
+use Rattle.barycentre.proofs.modulo.NearRows.{large_modulus}
 use Rattle.barycentre.proofs.attempts.by_modulus.Goals as goal
 
 pub by_two_steps-requires : goal.by_two_steps-requires

@@ -1,6 +1,6 @@
-use Rattle.std.proofs.Common.{◌≡◌, ◌<◌, ⊎_elim, arith}
+use Rattle.std.proofs.Common.{◌≡◌, ⊎_elim, arith}
 use Rattle.barycentre.specs.Recovered.{by_coordinate}
-use Rattle.barycentre.proofs.RecoveredRows.{three, flat_row, full_row}
+use Rattle.barycentre.proofs.modulo.RecoveredRows.{three, flat_row, full_row}
 use Rattle.barycentre.proofs.recovery.fraction_row.Goals as goal
 
 pub returns-in-None-fraction_of : goal.returns-in-None-fraction_of

@@ -1,5 +1,5 @@
 use Rattle.std.proofs.Common.{lit<, ◌∙◌}
-use Rattle.barycentre.proofs.NearRows.{near_fractions}
+use Rattle.barycentre.proofs.modulo.NearRows.{near_fractions}
 use Rattle.barycentre.proofs.steps.by_one_step.Goals as goal
 
 pub tested-requires : goal.tested-requires

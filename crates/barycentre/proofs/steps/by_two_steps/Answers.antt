@@ -1,4 +1,4 @@
-use Rattle.std.proofs.Common.{lit<, arith, ◌≡◌, ◌∙◌, ◌<◌, ◌≤◌, ℕ, List, length, map, sym, subst, Option, Some, None, Result, Ok, Err, IfOk, MatchOption}
+use Rattle.std.proofs.Common.{lit<, ◌≡◌, ◌∙◌, ◌<◌, ◌≤◌, ℕ, List, length, map, subst, Option, Some, None, Result, Ok, Err, IfOk, MatchOption}
 use Rattle.std.specs.Prelude.{⊤}
 use Rattle.std.proofs.lemmas.List.{length-map}
 use Rattle.integers.specs.Vectors.{Vector}
@@ -13,14 +13,13 @@ use Rattle.elimination.specs.Solutions.{SolveAll, SolveOnly, AreFlat}
 use Rattle.residue.specs.declared.numbers.Residue.{Residue}
 use Rattle.lifting.specs.TwoSteps.{AreTwoSteps}
 use Rattle.barycentre.specs.Left.{AreLeftRows}
-use Rattle.barycentre.specs.Limits.{AreInReach}
 use Rattle.barycentre.specs.Reached.{AreNotWithin}
 use Rattle.barycentre.specs.Recovered.{AreRecovered, LacksRow}
 use Rattle.barycentre.specs.ResidueRows.{residue_value, residue_at, residue_vector}
-use Rattle.barycentre.specs.Tested.{AreNotPlaced, AreFractions}
-use Rattle.barycentre.proofs.ResidueRows.{in_reach}
-use Rattle.barycentre.proofs.Stages.{divided, steps, quotient}
-use Rattle.barycentre.proofs.TwoSteps.{are_fractions, no_lack, is_scaled}
+use Rattle.barycentre.specs.Tested.{AreNotPlaced}
+use Rattle.barycentre.proofs.modulo.ResidueRows.{in_reach}
+use Rattle.barycentre.proofs.modulo.Stages.{divided, steps, quotient}
+use Rattle.barycentre.proofs.modulo.TwoSteps.{are_fractions, no_lack, is_scaled}
 use Rattle.barycentre.proofs.steps.by_two_steps.Goals as goal
 
 none_of : {A E : Type 0} (B C : Type 0) (r : Result (Option A) E) → (B → C) → IfOk r (λ o. MatchOption o B (λ t. ⊤)) → IfOk r (λ o. MatchOption o C (λ t. ⊤))

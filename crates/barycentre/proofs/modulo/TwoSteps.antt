@@ -1,5 +1,5 @@
 -- What two solutions by residues recover: the normal placement, where it is within the limits.
-use Rattle.std.proofs.Common.{◌≡◌, ⊎_elim, ℕ, zero, suc, arith, ◌+◌, ◌-◌, ◌*◌, ◌<◌, ◌≤◌, ◌^◌, List, [], ◌∷◌, length, map, get_or, ap, sym, refl, subst, ◌∙◌, unsigned_abs}
+use Rattle.std.proofs.Common.{◌≡◌, ⊎_elim, ℕ, zero, suc, arith, ◌+◌, ◌-◌, ◌*◌, ◌<◌, ◌≤◌, ◌^◌, List, [], ◌∷◌, length, get_or, ap, sym, refl, subst, ◌∙◌, unsigned_abs}
 use Rattle.std.specs.Prelude.{ℤ, pos, ◌*ℤ◌, slice_get}
 use Rattle.std.specs.Option.{option_map_or}
 use Rattle.integers.specs.Staircase.{part}
@@ -15,7 +15,7 @@ use Rattle.fraction.specs.declared.numbers.Fraction.{Fraction}
 use Rattle.fraction.specs.Values.{fraction_value}
 use Rattle.elimination.specs.Rows.{row_part, value_in}
 use Rattle.residue.specs.declared.numbers.Residue.{Residue}
-use Rattle.residue.specs.Reconstruction.{IsReconstruction, IsOnlyReconstruction}
+use Rattle.residue.specs.Reconstruction.{IsReconstruction}
 use Rattle.lifting.specs.TwoSteps.{AreTwoSteps}
 use Rattle.lifting.proofs.CallerLemmas.{two_steps_recover, Lowest, lowest}
 use Rattle.barycentre.specs.Positions.{IsScaled}
@@ -24,7 +24,7 @@ use Rattle.barycentre.specs.ResidueRows.{residue_part, residue_at}
 use Rattle.barycentre.specs.Tested.{AreFractions}
 use Rattle.barycentre.proofs.Balance.{below_three}
 use Rattle.barycentre.proofs.Normal.{dimension_below, coordinate_cases}
-use Rattle.barycentre.proofs.ResidueRows.{element_of, part_there}
+use Rattle.barycentre.proofs.modulo.ResidueRows.{element_of, part_there}
 use Rattle.barycentre.proofs.Solved.{option_reduced}
 
 -- the part of a row that is there

@@ -1,5 +1,5 @@
 -- A solution modulo M and one of what is left of it, in rows: two steps, whose reconstructions are the normal placement.
-use Rattle.std.proofs.Common.{◌≡◌, ⊎_elim, ℕ, zero, suc, arith, ◌+◌, ◌-◌, ◌*◌, ◌<◌, ◌≤◌, ◌^◌, List, length, map, get_or, ap, sym, refl, subst, ◌∙◌, unsigned_abs, Option, Some, None, IsTrue, nat_eq, rules}
+use Rattle.std.proofs.Common.{◌≡◌, ⊎_elim, ℕ, zero, suc, arith, ◌+◌, ◌-◌, ◌<◌, ◌≤◌, List, length, map, get_or, ap, sym, refl, subst, ◌∙◌, Option, Some, None, IsTrue, nat_eq, rules}
 use Rattle.std.specs.Prelude.{ℤ, pos, ◌+ℤ◌, ◌*ℤ◌, int_div, slice_get}
 use Rattle.std.specs.Option.{option_map_or}
 use Rattle.std.proofs.lemmas.Option.{get_or_from_slice_get, slice_get_within}
@@ -8,8 +8,8 @@ use Rattle.integers.specs.Staircase.{part}
 use Rattle.integers.proofs.numbers.Ring.{ring, linear}
 use Rattle.integers.proofs.numbers.Division.{exact_quotient}
 use Rattle.periodic_net.specs.Graph.{Graph, IsGraph, IsQuotientVertex}
-use Rattle.exact.specs.Ratio.{Ratio, Same, IsWholeMultiple, whole}
-use Rattle.exact.proofs.CallerLemmas.{equal_decides}
+use Rattle.exact.specs.Ratio.{Same, IsWholeMultiple, whole}
+use Rattle.exact.proofs.CallerLemmas.{equal_residues}
 use Rattle.vecdim.specs.declared.vectors.Row.{Row}
 use Rattle.elimination.specs.Equations.{IsAtMean, IsSolution}
 use Rattle.elimination.specs.Rows.{value_in}
@@ -24,7 +24,7 @@ use Rattle.barycentre.specs.Left.{star_vector, IsLeft, IsLeftRow, IsDividedVecto
 use Rattle.barycentre.specs.ResidueRows.{residue_value, residue_part, residue_at, residue_vector}
 use Rattle.barycentre.proofs.Balance.{below_three}
 use Rattle.barycentre.proofs.Normal.{dimension_below, coordinate_cases}
-use Rattle.barycentre.proofs.ResidueRows.{element_of, values_are, at_below, part_there, star_is, gains_multiple, flat_shifts}
+use Rattle.barycentre.proofs.modulo.ResidueRows.{element_of, values_are, at_below, part_there, star_is, gains_multiple, flat_shifts}
 
 -- the part of a row that is left
 left_part_is : {M D : ℕ} (v : Vector) (r : Row (Residue M) D) → IsLeftRow v r → (c : ℕ) → c < 3 → IsLeft M (part c v) (residue_part r c)
@@ -84,7 +84,7 @@ module _ {M D : ℕ} (least : 2 ≤ M) (G : Graph) (g : IsGraph G) (dimension : 
 
   -- 0 at vertex 1
   origin : (c : ℕ) → c < G.dimension → residue_at firsts c 1 ≡ 0
-  origin c l = let t = (equal_decides M (residue_at firsts c 1) 0 (at_below (omega arith) firsts c 1) (omega arith)).1 (solution c l).origin in by (residue_at firsts c 1) t
+  origin c l = let t = (equal_residues M (residue_at firsts c 1) 0 (at_below (omega arith) firsts c 1) (omega arith)).1 (solution c l).origin in by (residue_at firsts c 1) t
     where
       by : (a : ℕ) → IsTrue (nat_eq a 0) → a ≡ 0
       by a t = search rules

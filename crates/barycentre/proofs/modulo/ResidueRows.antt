@@ -1,9 +1,9 @@
 -- Rows of residues: their values, their vectors, and what the arcs between them lead.
-use Rattle.std.proofs.Common.{◌≡◌, ℕ, zero, suc, arith, ◌+◌, ◌-◌, ◌*◌, ◌<◌, ◌≤◌, ◌^◌, List, [], ◌∷◌, length, map, get_or, ap, sym, refl, ◌∙◌, unsigned_abs, Option, Some, None}
+use Rattle.std.proofs.Common.{◌≡◌, ℕ, zero, suc, arith, ◌-◌, ◌<◌, ◌^◌, List, [], ◌∷◌, length, map, get_or, ap, sym, refl, ◌∙◌, Option, Some, None}
 use Rattle.std.specs.Prelude.{ℤ, pos, ◌+ℤ◌, ◌-ℤ◌, ◌*ℤ◌, slice_get, slice_index_or, All}
 use Rattle.std.specs.Option.{option_map_or}
 use Rattle.integers.specs.Lists.{total}
-use Rattle.integers.specs.Vectors.{Vector, zero_vector, plus, times, vector_sum, IsWithin}
+use Rattle.integers.specs.Vectors.{zero_vector, plus, times, IsWithin}
 use Rattle.integers.specs.Staircase.{part}
 use Rattle.integers.proofs.numbers.Ring.{ring, linear}
 use Rattle.integers.proofs.lists.Sums.{total_same, total_zeros}

@@ -1,0 +1,9 @@
+pub mod LeftParts
+pub mod LeftRows
+pub mod NearRows
+pub mod Reached
+pub mod RecoveredRows
+pub mod Recovering
+pub mod ResidueRows
+pub mod Stages
+pub mod TwoSteps
