@@ -86,6 +86,7 @@ value_read stage said p word words rows later u (plain ed el es eo ep) s w = go 
         (later stage (put p word said) None rows (Some (id_of p, word ∷ []))
         (stands_option stage said p word w.is_option s, good_pending said rows p word w.shows e)))
 
+-- from every place of the walk clap reads the words as they are said
 pub reads : (words : List Text) → AreUtf8 words → AreReadAlike words
 reads [] u stage said None rows pending (s, g) = means_nil said idle (place_of stage) false rows pending g
 reads [] u stage said (Some p) rows pending (s, w) = none_nil (waiting_for (Some p)) (place_of stage) false rows pending

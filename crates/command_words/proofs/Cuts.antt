@@ -7,6 +7,7 @@ use Rattle.clap.specs.Lexer.{has_byte}
 use Rattle.clap.specs.Words.{Text}
 use Rattle.command_words.specs.Words.{after}
 
+-- the byte is `=`
 abbrev pub is_equals : ℕ → Bool
 is_equals x = x == 61
 
@@ -16,6 +17,7 @@ before_cons x xs = grind (arith, common_steps)
 after_cons : (x : ℕ) (xs : Text) → after_first is_equals (x ∷ xs) ≡ cond (is_equals x) xs (after_first is_equals xs)
 after_cons x xs = grind (arith, common_steps)
 
+-- the text `=`
 abbrev pub equals : Text
 equals = 61 ∷ []
 
@@ -50,6 +52,7 @@ never_after (b ∷ bs) (x ∷ xs) e = go (never_after bs xs) (x == b) (x == 61) 
     go later true true h = absurd (true≢false h)
     go later true false h = later h
 
+-- a text that has no `=` is whole before the first one
 pub before_whole : (text : Text) → has_byte 61 text ≡ false → before_first is_equals text ≡ text
 before_whole [] e = refl
 before_whole (x ∷ xs) e = before_cons x xs ∙ go (before_whole xs) (x == 61) e
@@ -58,6 +61,7 @@ before_whole (x ∷ xs) e = before_cons x xs ∙ go (before_whole xs) (x == 61) 
     go later true h = absurd (true≢false h)
     go later false h = ap (λ (t : Text). x ∷ t) (later h)
 
+-- the value after `=`, where the name is this one
 abbrev pub value_after : Text → Text → Text → Option Text
 value_after name before rest = cond (bytes_eq name before) (Some rest) None
 

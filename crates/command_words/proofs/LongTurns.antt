@@ -14,13 +14,16 @@ use Rattle.command_words.proofs.Walks.{first_empty, walk_at}
 use Rattle.command_words.proofs.Stages.{some_kind}
 use Rattle.command_words.proofs.Turns.{by_long, here, moved_as, place_named, turn_as, waiting_for}
 
+-- the step of clap at a word with `--`
 abbrev after_long : Option Place → Option Rule → Option Text → Text → Held → Held × Step
 after_long wanted a v word h = after_flag rules_list (waiting_for wanted) word (long_met rules_list a v h).0 (long_met rules_list a v h).1
 
+-- why clap refuses it, by the option that is found
 abbrev long_turn : Option Place → ℕ → Text → List Row → Pending → Option Text → Option Rule → Kinds
 long_turn wanted position word rows pending v a = or_else (long_fault rules_list false a v (state rows pending))
     (step_fault top position (after_long wanted a v word (state rows pending)).0 (after_long wanted a v word (state rows pending)).1)
 
+-- where the walk then stands
 abbrev long_moved : Option Place → ℕ → Text → List Row → Pending → Option Text → Option Rule → Walk
 long_moved wanted position word rows pending v a = after_step rules_list word (here wanted position rows pending)
     (after_long wanted a v word (state rows pending)).0 (after_long wanted a v word (state rows pending)).1

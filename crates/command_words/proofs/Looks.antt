@@ -11,9 +11,11 @@ use Rattle.command_words.specs.Words.{Place, Archive, Name, after, option_with_v
 use Rattle.command_words.proofs.Cuts.{after_name, before_whole, value_after, equals, is_equals, never_after, other_text}
 use Rattle.command_words.proofs.Turns.{place_named}
 
+-- an option that was found, with its value
 abbrev pub found_as : Option Text → Option Place → Option (Place × Option Text)
 found_as v found = option_map (λ p. (p, v)) found
 
+-- a word is `--`, or a name after `--`, or a bundle of flags after `-`, or plain
 pub data Look (word : Text) : Type 0 where
   dashes : bytes_eq word (45 ∷ 45 ∷ []) ≡ true → Look word
   long : (name : Text) (v : Option Text) → bytes_eq word (45 ∷ 45 ∷ []) ≡ false → long_of word ≡ Some (name, v)
@@ -25,18 +27,22 @@ pub data Look (word : Text) : Type 0 where
 same_text : (a b : Text) → bytes_eq a b ≡ bytes_eq b a
 same_text a b = same_from_decides (bytes_eq a b) (bytes_eq b a) (bytes_eq-Decides a b) (Decides-like (bytes_eq b a) sym sym (bytes_eq-Decides b a))
 
+-- the two names
 abbrev archive_text : Text
 archive_text = codes "archive"
 
 abbrev name_text : Text
 name_text = codes "name"
 
+-- the option, by what the word is compared with
 abbrev option_spelled : Bool → Bool → Option Text → Option Text → Option (Place × Option Text)
 option_spelled a n x y = cond a (Some (Archive, None)) (cond n (Some (Name, None)) (option_with_value x y))
 
+-- the value after the first `=`
 abbrev pub value_of : Text → Option Text
 value_of t = cond (has_byte 61 t) (Some (after_first is_equals t)) None
 
+-- a word without `=`
 long_alone : (t : Text) → has_byte 61 t ≡ false → option_word (45 ∷ 45 ∷ t) ≡ found_as None (place_named (before_first is_equals t))
 long_alone t e =
     ap (λ (x : Option Text). option_spelled (bytes_eq t archive_text) (bytes_eq t name_text) x (after (name_text ++ equals) t)) (never_after archive_text t e)
@@ -51,6 +57,7 @@ long_alone t e =
     go false true = refl
     go false false = refl
 
+-- a word with `=`
 long_given : (t : Text) → has_byte 61 t ≡ true → option_word (45 ∷ 45 ∷ t) ≡ found_as (Some (after_first is_equals t)) (place_named (before_first is_equals t))
 long_given t e =
     ap (λ (a : Bool). option_spelled a (bytes_eq t name_text) (after (archive_text ++ equals) t) (after (name_text ++ equals) t)) (other_text archive_text t refl e)
@@ -64,6 +71,7 @@ long_given t e =
     go false true r = refl
     go false false r = refl
 
+-- both readings of a word with `--` agree
 pub option_long : (t : Text) → option_word (45 ∷ 45 ∷ t) ≡ found_as (value_of t) (place_named (before_first is_equals t))
 option_long t = go (has_byte 61 t) refl
   where

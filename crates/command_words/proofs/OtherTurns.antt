@@ -16,11 +16,13 @@ use Rattle.command_words.proofs.Walks.{first_empty, walk_at}
 use Rattle.command_words.proofs.Stages.{some_kind}
 use Rattle.command_words.proofs.Turns.{here, moved_as, turn_as, waiting_for}
 
+-- why clap refuses a word without `--`
 abbrev other_turn : Option Place → ℕ → Text → List Row → Pending → Option Text → Kinds
 other_turn wanted position word rows pending so = or_else (option_map_or (λ flags. bundle_fault rules_list false flags (state rows pending)) so [])
     (step_fault top position (short_or_plain rules_list (waiting_for wanted) word so (state rows pending)).0
     (short_or_plain rules_list (waiting_for wanted) word so (state rows pending)).1)
 
+-- where the walk then stands
 abbrev other_moved : Option Place → ℕ → Text → List Row → Pending → Option Text → Walk
 other_moved wanted position word rows pending so = after_step rules_list word (here wanted position rows pending)
     (short_or_plain rules_list (waiting_for wanted) word so (state rows pending)).0

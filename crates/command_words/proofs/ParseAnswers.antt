@@ -18,10 +18,12 @@ use Rattle.command_words.proofs.Rows.{IsShown}
 use Rattle.command_words.proofs.Readings.{AreUtf8}
 use Rattle.command_words.proofs.Parses.{words_refused, words_taken}
 
+-- strings are text
 pub texts_valid : (words : List (String Global)) → AreUtf8 (map string_bytes words)
 texts_valid [] = tt
 texts_valid (word ∷ words) = (IsUtf8-string_bytes word, texts_valid words)
 
+-- what clap found is what its rows show
 said_is : (found : Found) (said : Said) → IsShown said (rows_of found) → said_in found ≡ said
 said_is found said s = λ i. record { command = (value Command) i; second = (value Second) i; archive = (value Archive) i; name = (value Name) i }
   where
@@ -44,5 +46,6 @@ said_none words u fails = go (said_by words) refl
     go None e = refl
     go (Some said) e = absurd (fails (words_taken words said u e).0)
 
+-- an error that is no want of memory is a fault of the words
 pub has_fault : (kinds : Kinds) (e : Error) → HasKind kinds e → (kind_of e ≡ OutOfMemory → ⊥) → kinds ≡ [] → ⊥
 has_fault kinds e h other none = ⊎_elim (λ m. other m) (λ among. subst (IsAmong (kind_of e)) none among) h

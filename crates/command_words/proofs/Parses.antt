@@ -50,18 +50,21 @@ no_rows (r ∷ rs) rows b = ap (λ (x : List Row). fold with_default x rs) (no_r
 check_none : (rows : List Row) → check_fault top rows false ≡ []
 check_none rows = refl
 
+-- before the first word
 abbrev start : Rattle.clap.specs.Walk.Walk
 start = walk_at idle 1 false [] None
 
 level : (words : List Text) → fault_of grammar words ≡ level_fault top [] (state [] None) words false []
 level words = leaf_fault (built grammar) (state [] None) words refl
 
+-- what may be refused after the last word
 abbrev after_walk : Held → Kinds
 after_walk h = or_else (defaults_fault (settled rules_list h).rows rules_list) (check_fault top (finished rules_list h) false)
 
 after_none : (h : Held) → after_walk h ≡ []
 after_none h = ap (λ (k : Kinds). or_else k (check_fault top (finished rules_list h) false)) (no_faults rules_list (settled rules_list h).rows no_defaults)
 
+-- clap has no fault exactly where it takes the words
 pub fault_none : (words : List Text) → AreTaken start words → fault_of grammar words ≡ []
 fault_none words p = level words
     ∙ past _ _ p.turns
@@ -76,6 +79,7 @@ passes_from words e =
 pub rows_are : (words : List Text) → matches_of grammar words ≡ settled_rows rules_list (held_after start words).pending (held_after start words).rows
 rows_are words = no_rows rules_list _ no_defaults
 
+-- the words make up what they say
 means : (words : List Text) → AreUtf8 words → IsMeaning (said_by words) start words
 means words u = reads words u First nothing None [] None (record { command = refl; second = refl }, record { passes = refl; shows = shows_nothing })
 

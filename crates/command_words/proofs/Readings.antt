@@ -21,11 +21,13 @@ abbrev pub AreUtf8 : List Text → Type 0
 AreUtf8 [] = Unit {0}
 AreUtf8 (word ∷ words) = IsUtf8 word × AreUtf8 words
 
+-- the place is that of an option
 abbrev pub IsOption : Place → Type 0
 IsOption Archive = Unit {0}
 IsOption Name = Unit {0}
 IsOption _ = ⊥
 
+-- and is one, where it is given
 abbrev HasOption : Option Place → Type 0
 HasOption None = Unit {0}
 HasOption (Some p) = IsOption p
@@ -50,17 +52,21 @@ pub record IsWaiting (said : Said) (p : Place) (rows : List Row) (pending : Pend
   pub empty : pending ≡ Some (id_of p, [])
   pub is_option : IsOption p
 
+-- the walk stands where this is said, and this option waits
 abbrev pub IsReady : Stage → Said → Option Place → List Row → Pending → Type 0
 IsReady stage said None rows pending = IsStageOf stage said × IsSound said rows pending
 IsReady stage said (Some p) rows pending = IsStageOf stage said × IsWaiting said p rows pending
 
+-- from every place of the walk clap reads the words as they are said
 abbrev pub AreReadAlike : List Text → Type 0
 AreReadAlike words = (stage : Stage) (said : Said) (wanted : Option Place) (rows : List Row) (pending : Pending) → IsReady stage said wanted rows pending
     → IsMeaning (read said wanted words) (here wanted (place_of stage) rows pending) words
 
+-- what later words say after one
 abbrev pub next : List Text → Option Reading → Option Said
 next words = option_and_then (λ r. read r.0 r.1 words)
 
+-- what the words say, by whether the first is `--`
 abbrev read_by : Bool → Option Reading → Said → Option Place → List Text → Option Said
 read_by d s said wanted words = cond d (cond (is_some wanted) None (read_positional said words)) (next words s)
 
@@ -72,6 +78,7 @@ pub read_dashes : (said : Said) (wanted : Option Place) (word : Text) (words : L
     → read said wanted (word ∷ words) ≡ cond (is_some wanted) None (read_positional said words)
 read_dashes said wanted word words ed = ap (λ (d : Bool). read_by d (step said wanted word) said wanted words) ed
 
+-- the words make up what is said, from this stage on
 abbrev pub IsMeaningAt : Option Said → Stage → Option Place → List Row → Pending → List Text → Type 0
 IsMeaningAt said stage wanted rows pending words = IsMeaning said (here wanted (place_of stage) rows pending) words
 

@@ -40,6 +40,7 @@ used_once p v rows e =
     ∙ ap (with_values (id_of p) (reading_by (rule_at p)) CommandLine (v ∷ [])) same
     ∙ at_missing (id_of p) (more_values CommandLine (v ∷ [])) _ rows e
 
+-- the names of rows, where one is added
 pub has_more : (id : Text) (rows : List Row) (r : Row) → has_row id (rows ++ r ∷ []) ≡ (has_row id rows || bytes_eq r.id id)
 has_more id [] r = go (bytes_eq r.id id)
   where
@@ -52,6 +53,7 @@ has_more id (x ∷ xs) r = go (has_more id xs r) (bytes_eq x.id id)
     go later true = refl
     go later false = later
 
+-- the first value of a row
 abbrev value_in : Option Row → Option Text
 value_in = option_and_then (λ r. slice_get r.values 0)
 
@@ -70,9 +72,11 @@ pub record IsShownAt (said : Said) (rows : List Row) (p : Place) : Type 0 where
   pub value : first_of (id_of p) rows ≡ at said p
   pub has : has_row (id_of p) rows ≡ is_some (at said p)
 
+-- the rows show what is said at every place
 abbrev pub IsShown : Said → List Row → Type 0
 IsShown said rows = (p : Place) → IsShownAt said rows p
 
+-- no row, and nothing said
 pub shows_nothing : IsShown nothing []
 shows_nothing Command = record { value = refl; has = refl }
 shows_nothing Second = record { value = refl; has = refl }
@@ -113,6 +117,7 @@ here said now rows p v s empty is one itself = record {
       ∙ itself ∙ ap is_some is;
 }
 
+-- one more word that is said is one more row
 pub shows_put : (said : Said) (rows : List Row) (p : Place) (v : Text) → IsShown said rows → is_some (at said p) ≡ false
     → IsShown (put p v said) (rows ++ row p v ∷ [])
 shows_put said rows Command v s e Command = here said (put Command v said) rows Command v (s Command) e refl refl refl

@@ -17,11 +17,13 @@ pub data Stage : Type 0 where
   Next : Stage
   Full : Stage
 
+-- the number of the next positional word
 abbrev pub place_of : Stage → ℕ
 place_of First = 1
 place_of Next = 2
 place_of Full = 3
 
+-- the places that are filled then
 abbrev pub has_command : Stage → Bool
 has_command First = false
 has_command _ = true
@@ -30,16 +32,19 @@ abbrev pub has_second : Stage → Bool
 has_second Full = true
 has_second _ = false
 
+-- so many positional words were said
 pub record IsStageOf (stage : Stage) (said : Said) : Type 0 where
   pub command : is_some said.command ≡ has_command stage
   pub second : is_some said.second ≡ has_second stage
 
+-- the next stage
 pub stands_first : (said : Said) (word : Text) → IsStageOf First said → IsStageOf Next (put Command word said)
 stands_first said word s = record { command = refl; second = s.second }
 
 pub stands_next : (said : Said) (word : Text) → IsStageOf Next said → IsStageOf Full (put Second word said)
 stands_next said word s = record { command = s.command; second = refl }
 
+-- what a positional word says at each stage
 pub said_first : (said : Said) (word : Text) → IsStageOf First said → fill_next word said ≡ Some (put Command word said)
 said_first said word s = ap (λ (b : Bool). cond b (fill Second word said) (cond b None (Some (put Command word said)))) s.command
 
@@ -51,6 +56,7 @@ pub said_full : (said : Said) (word : Text) → IsStageOf Full said → fill_nex
 said_full said word s = ap (λ (b : Bool). cond b (fill Second word said) (fill Command word said)) s.command
     ∙ ap (λ (b : Bool). cond b None (Some (put Second word said))) s.second
 
+-- what clap holds after a positional word
 pub kept_first : (t : Bool) (waiting : Waiting) (word : Text) (rows : List Row) (pending : Pending)
     → to_positional rules_list (arg_by_index rules_list 1) word (walk_at waiting 1 t rows pending) (state rows pending)
     ≡ walk_at idle 2 t (end_rows rows pending) (Some (id_of Command, word ∷ []))
@@ -67,6 +73,7 @@ kept_next true waiting word rows pending =
 kept_next false waiting word rows pending =
     ap (λ (h : Held). record { held = h; waiting = idle; position = 3; is_trailing = false; stopped = None }) (positional_kept Second word rows pending)
 
+-- when clap refuses a positional word
 pub turn_first : (rows : List Row) (pending : Pending) → step_fault top 1 (state rows pending) value ≡ end_fault rows pending
 turn_first rows pending = positional_turn Command rows pending
 

@@ -9,15 +9,19 @@ use Rattle.command_words.specs.Words.{Place, Command, Second, Archive, Name, Sai
 use Rattle.command_words.proofs.Rules.{id_of, rule_at, rules_list}
 use Rattle.command_words.proofs.Rows.{IsShown, shows_put, used_once}
 
+-- an argument whose values are not used yet
 abbrev pub Pending : Type 0
 Pending = Option (Text × List Text)
 
+-- the rows, and what is pending
 abbrev pub state : List Row → Pending → Held
 state rows pending = record { rows = rows; pending = pending; skip = 0 }
 
+-- why clap refuses what is pending, where it is used
 abbrev pub end_fault : List Row → Pending → Kinds
 end_fault rows pending = settle_fault rules_list false (state rows pending)
 
+-- the rows, once what is pending is used
 abbrev pub end_rows : List Row → Pending → List Row
 end_rows rows pending = settled_rows rules_list pending rows
 
@@ -26,6 +30,7 @@ pub record IsSound (said : Said) (rows : List Row) (pending : Pending) : Type 0 
   pub passes : end_fault rows pending ≡ []
   pub shows : IsShown said (end_rows rows pending)
 
+-- a second value is refused
 abbrev set_fault_of : Bool → Kinds
 set_fault_of b = or_else (cond (b && true) (kind.ArgumentConflict ∷ []) []) []
 
@@ -35,6 +40,7 @@ fault_is Second v rows = refl
 fault_is Archive v rows = refl
 fault_is Name v rows = refl
 
+-- a value of an empty place is no fault, and a second value is one
 pub use_once : (p : Place) (v : Text) (rows : List Row) → has_row (id_of p) rows ≡ false → use_fault false (rule_at p) (v ∷ []) rows ≡ []
 use_once p v rows e = fault_is p v rows ∙ ap set_fault_of e
 

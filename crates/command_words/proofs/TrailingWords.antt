@@ -11,6 +11,7 @@ use Rattle.command_words.proofs.States.{IsSound, Pending, end_fault, end_rows, g
 use Rattle.command_words.proofs.Walks.{IsMeaning, means_cons, means_nil, means_none, none_nil, walk_at}
 use Rattle.command_words.proofs.Stages.{Stage, First, Next, Full, IsStageOf, place_of, kept_first, kept_next, said_first, said_full, said_next, some_kind, stands_first, stands_next, turn_bad, turn_first, turn_next}
 
+-- when clap refuses a word after `--`, and where it then stands
 turn_is : (waiting : Waiting) (position : ℕ) (word : Text) (rows : List Row) (pending : Pending)
     → turn_fault top [] (walk_at waiting position true rows pending) word ≡ step_fault top position (state rows pending) value
 turn_is waiting position word rows pending = refl
@@ -27,9 +28,11 @@ pub bad_trailing : (stage : Stage) (waiting : Waiting) (words : List Text) (rows
 bad_trailing stage waiting [] rows pending bad = none_nil waiting (place_of stage) true rows pending bad
 bad_trailing stage waiting (word ∷ words) rows pending bad = means_none _ word words (turn_bad stage rows pending bad)
 
+-- what the words after one say
 abbrev then : List Text → Option Said → Option Said
 then words s = option_and_then (λ s. read_positional s words) s
 
+-- clap reads the words after `--` as they are said
 pub trailing : (stage : Stage) (said : Said) (waiting : Waiting) (words : List Text) (rows : List Row) (pending : Pending) → IsStageOf stage said → IsSound said rows pending
     → IsMeaning (read_positional said words) (walk_at waiting (place_of stage) true rows pending) words
 trailing stage said waiting [] rows pending s g = means_nil said waiting (place_of stage) true rows pending g

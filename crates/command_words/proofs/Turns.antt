@@ -12,20 +12,25 @@ use Rattle.command_words.proofs.Rules.{id_of, rule_at, rules_list, top}
 use Rattle.command_words.proofs.States.{Pending, state}
 use Rattle.command_words.proofs.Walks.{walk_at}
 
+-- what clap waits for
 abbrev pub waiting_for : Option Place → Waiting
 waiting_for None = idle
 waiting_for (Some p) = option (id_of p)
 
+-- a word with `--`: its name, and its value after `=`
 abbrev pub Long : Type 0
 Long = Option (Text × Option Text)
 
+-- the step of clap at a word, by whether it is `--` and by its name
 abbrev pub met : Option Place → Bool → Long → ℕ → Text → Held → Held × Step
 met wanted d lo position word h = cond d (h, trailing position) (long_or_other rules_list (waiting_for wanted) word lo h)
 
+-- why clap refuses the word
 abbrev pub turn_by : Option Place → Bool → Long → ℕ → Text → Held → Kinds
 turn_by wanted d lo position word h = or_else (cond d [] (flag_word_fault rules_list false lo word h))
     (step_fault top position (met wanted d lo position word h).0 (met wanted d lo position word h).1)
 
+-- a place of the walk before `--`
 abbrev pub here : Option Place → ℕ → List Row → Pending → Walk
 here wanted position rows pending = walk_at (waiting_for wanted) position false rows pending
 
@@ -34,6 +39,7 @@ turn_is : (wanted : Option Place) (position : ℕ) (word : Text) (rows : List Ro
 turn_is None position word rows pending = refl
 turn_is (Some p) position word rows pending = refl
 
+-- where the walk then stands
 abbrev pub moved_by : Option Place → Bool → Long → ℕ → Text → List Row → Pending → Walk
 moved_by wanted d lo position word rows pending = after_step rules_list word (here wanted position rows pending)
     (met wanted d lo position word (state rows pending)).0 (met wanted d lo position word (state rows pending)).1
@@ -69,6 +75,7 @@ module _ (wanted : Option Place) (position : ℕ) (word : Text) (rows : List Row
 abbrev pub place_named : Text → Option Place
 place_named name = cond (bytes_eq (codes "archive") name) (Some Archive) (cond (bytes_eq (codes "name") name) (Some Name) None)
 
+-- clap finds the option by its name
 pub by_long : (name : Text) → arg_by_long rules_list name ≡ option_map rule_at (place_named name)
 by_long name = go (bytes_eq (codes "archive") name) (bytes_eq (codes "name") name)
   where

@@ -9,6 +9,7 @@ use Rattle.command_words.proofs.Rules.{rules_list, top}
 use Rattle.command_words.proofs.Rows.{IsShown}
 use Rattle.command_words.proofs.States.{IsSound, Pending, end_fault, state}
 
+-- a place of the walk over the words
 abbrev pub walk_at : Waiting → ℕ → Bool → List Row → Pending → Walk
 walk_at waiting position trailing rows pending =
     record { held = state rows pending; waiting = waiting; position = position; is_trailing = trailing; stopped = None }
@@ -17,6 +18,7 @@ walk_at waiting position trailing rows pending =
 abbrev pub held_after : Walk → List Text → Held
 held_after w words = (fold (walked rules_list []) w words).held
 
+-- why clap refuses the words from here on
 abbrev pub fault_from : Walk → List Text → Kinds
 fault_from w words = walk_fault top [] w words
 
@@ -25,10 +27,12 @@ pub record AreTaken (w : Walk) (words : List Text) : Type 0 where
   pub turns : fault_from w words ≡ []
   pub end : settle_fault rules_list false (held_after w words) ≡ []
 
+-- the words from here on make up what is said: where nothing is said clap refuses them, and else it takes them and shows it
 abbrev pub IsMeaning : Option Said → Walk → List Text → Type 0
 IsMeaning None w words = AreTaken w words → ⊥
 IsMeaning (Some said) w words = AreTaken w words × IsShown said (settled_rows rules_list (held_after w words).pending (held_after w words).rows)
 
+-- no fault of two steps is none of either
 pub first_empty : (a b : Kinds) → or_else a b ≡ [] → a ≡ []
 first_empty [] b e = refl
 first_empty (k ∷ ks) b e = e

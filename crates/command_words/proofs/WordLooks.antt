@@ -20,6 +20,7 @@ abbrev option_second : Bool → Text → Option (Place × Option Text)
 option_second q bs = cond (q && bytes_eq bs (codes "archive")) (Some (Archive, None)) (cond (q && bytes_eq bs (codes "name")) (Some (Name, None))
     (option_with_value (cond q (after (codes "archive=") bs) None) (cond q (after (codes "name=") bs) None)))
 
+-- a text that is not empty has a first character
 some_char : (word : Text) (x : ℕ) (rest : Text) → word ≡ x ∷ rest → encode_utf8_all (chars word) ≡ word → (c : ℕ) × (slice_get (chars word) 0 ≡ Some c)
 some_char word x rest is spells = go (chars word) refl
   where

@@ -95,8 +95,8 @@ fn task_in<'a>(said: &Said<'a>) -> Option<Task<'a>>
     }
 }
 
-/// The task that the words ask for: `Ok(None)` exactly where they have no form, and `Err` only where
-/// memory is refused.
+/// The task that the words ask for. `Ok(None)` comes exactly where they have no form, and `Err` only
+/// where memory is refused.
 pub fn task_of<'a>(alloc: Global, words: &'a [String]) -> Result<Option<Task<'a>>, AllocError>
     ensures { IfOk result (λ task. option_map task_view task ≡ task_of (texts_of words.entry.now)) }
 {
