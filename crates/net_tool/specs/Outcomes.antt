@@ -16,8 +16,8 @@ use Rattle.least_key.specs.Truths.{IsTrueOf, IsOfConnecting, IsPlacedAs}
 use Rattle.least_key.specs.declared.path.AnyPlaced.{AnyPlaced}
 use Rattle.least_key.specs.declared.refusal.Refusal.{Refusal}
 use Rattle.least_key.specs.declared.refusal.Refusal.TheVariants.{NoMemory}
-use Rattle.net_tool.specs.declared.words.Command.{Command}
-use Rattle.net_tool.specs.declared.words.Command.TheVariants.{Check, Place}
+use Rattle.command_words.specs.declared.tasks.Command.{Command}
+use Rattle.command_words.specs.declared.tasks.Command.TheVariants.{Check, Place}
 
 -- its sizes
 abbrev pub size_of : RawView → Size
