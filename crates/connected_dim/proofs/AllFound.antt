@@ -3,11 +3,10 @@ use Rattle.std.proofs.Common.{ℕ, ◌-◌, List, Option, None, IsSome, All, ap,
 use Rattle.integers.specs.Vectors.{Vector}
 use Rattle.periodic_net.specs.Graph.{Graph, IsGraph, IsQuotientVertex}
 use Rattle.periodic_net.specs.Split.{IsFound}
-use Rattle.periodic_net.proofs.Generators.{IsTree}
+use Rattle.periodic_net.proofs.CallerLemmas.{IsTree}
 use Rattle.walk_lattice.specs.Search.{walk_to, shift_of, AreWalks}
 use Rattle.walk_lattice.specs.Generators.{shift_at}
-use Rattle.walk_lattice.proofs.ClosedWalks.{walk_dimension}
-use Rattle.walk_lattice.proofs.Generated.{walk_at}
+use Rattle.walk_lattice.proofs.CallerLemmas.{walk_dimension, walk_at}
 
 -- vertex 1 is a vertex
 pub first_vertex : (G : Graph) → IsGraph G → IsQuotientVertex G 1

@@ -8,9 +8,7 @@ use Rattle.periodic_net.specs.Split.{entry, IsOrthogonal, IsFlatSplit}
 use Rattle.walk_lattice.specs.Search.{walk_to, AreWalks}
 use Rattle.walk_lattice.specs.Generators.{shift_at, generators}
 use Rattle.walk_lattice.specs.Flat.{IsFlatNormal}
-use Rattle.walk_lattice.proofs.ClosedWalks.{closed_difference}
-use Rattle.walk_lattice.proofs.Generated.{walk_at, generators_closed}
-use Rattle.walk_lattice.proofs.Orthogonal.{orthogonal_closed}
+use Rattle.walk_lattice.proofs.CallerLemmas.{closed_difference, walk_at, generators_closed, orthogonal_closed}
 use Rattle.connected_dim.specs.Flat.{flat_colour, flat_colouring}
 use Rattle.connected_dim.proofs.AllFound.{each_found, some_walk}
 

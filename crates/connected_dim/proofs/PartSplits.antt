@@ -5,7 +5,7 @@ use Rattle.integers.specs.Vectors.{Vector}
 use Rattle.periodic_net.specs.Graph.{Graph, IsGraph, IsQuotientVertex}
 use Rattle.periodic_net.specs.Split.{IsPartSplit, entry}
 use Rattle.walk_lattice.specs.Search.{walk_to, AreWalks}
-use Rattle.walk_lattice.proofs.FoundVertices.{all_found}
+use Rattle.walk_lattice.proofs.CallerLemmas.{all_found}
 use Rattle.connected_dim.specs.Quotient.{part_colour, part_colouring}
 
 some_value : (o : Option Vector) → IsSome o → (T : Vector) × (o ≡ Some T)

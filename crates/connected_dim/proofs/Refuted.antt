@@ -2,8 +2,7 @@
 use Rattle.std.proofs.Common.{◌≡◌, inl, inr, ℕ, subst, sym}
 use Rattle.periodic_net.specs.Graph.{Graph, IsGraph, IsConnected}
 use Rattle.periodic_net.specs.Split.{IsFlatSplit, IsPartSplit, IsSparseSplit, Split as NetSplit}
-use Rattle.periodic_net.proofs.SplitCases.{split_by_parts}
-use Rattle.periodic_net.proofs.Splits.{split_shows_not_connected}
+use Rattle.periodic_net.proofs.CallerLemmas.{split_by_parts, split_shows_not_connected}
 use Rattle.quotient_graph.specs.declared.split.Split.{Split}
 use Rattle.quotient_graph.specs.Splits.{split_in}
 use Rattle.connected_dim.specs.Refusals.{IsDisconnectedBy, IsDegenerateBy}

@@ -15,11 +15,9 @@ use Rattle.vecdim.proofs.CallerLemmas.{remainder, rows_are_basis}
 use Rattle.walk_lattice.specs.Search.{walk_to, AreWalks}
 use Rattle.walk_lattice.specs.Generators.{shift_at}
 use Rattle.walk_lattice.specs.Lattices.{AreClosedWalks}
-use Rattle.walk_lattice.proofs.ClosedWalks.{closed_difference}
-use Rattle.walk_lattice.proofs.Generated.{walk_at}
+use Rattle.walk_lattice.proofs.CallerLemmas.{closed_difference, walk_at, ends_by_zero, ends_by_one, ends_by_two}
 use Rattle.connected_dim.specs.Sparse.{IsDual, sparse_colour, sparse_colouring}
 use Rattle.connected_dim.proofs.AllFound.{each_found, some_walk}
-use Rattle.walk_lattice.proofs.Directions.{ends_by_zero, ends_by_one, ends_by_two}
 use Rattle.connected_dim.proofs.Multiples.{Divides, complement_range, first_divides, second_divides, third_divides}
 
 -- a remainder is from 0 to below the divisor

@@ -1,3 +1,4 @@
+pub mod CallerLemmas
 pub mod Bezout
 pub mod Cancelling
 pub mod Classes

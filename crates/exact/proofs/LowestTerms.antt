@@ -16,8 +16,8 @@ use Rattle.exact.proofs.WholeMultiples.{difference_multiple}
 use Rattle.exact.proofs.Values.{same_refl}
 
 -- a fraction is in lowest terms in one way
-pub IsInLowestTerms-prop : (r : Ratio) → IsProp (IsInLowestTerms r)
-IsInLowestTerms-prop r = hlevel (props, ∣_prop)
+pub lowest_terms-prop : (r : Ratio) → IsProp (IsInLowestTerms r)
+lowest_terms-prop r = hlevel (props, ∣_prop)
 
 -- the modulus of fractions is not 1
 pub zero_not_one : ◌≢◌ {A = ℕ} 0 1

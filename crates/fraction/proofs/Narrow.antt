@@ -7,8 +7,7 @@ use Rattle.std.proofs.lemmas.Int.{ints}
 use Rattle.integers.proofs.numbers.Ring.{ring}
 use Rattle.integers.proofs.vectors.Bounds.{abs_negative, bounded_product}
 use Rattle.exact.specs.Ratio.{Ratio, Same, IsInLowestTerms, ratio}
-use Rattle.exact.proofs.WholeMultiples.{same_of}
-use Rattle.exact.proofs.LowestTerms.{denominators_equal, numerators_equal, crossed, sizes_crossed}
+use Rattle.exact.proofs.CallerLemmas.{same_of, denominators_equal, numerators_equal, crossed, sizes_crossed}
 use Rattle.fraction.specs.Reduced.{AreSmall, HasSmallParts, IsNarrow}
 use Rattle.fraction.specs.Quotients.{signed_ratio, IsLowest}
 

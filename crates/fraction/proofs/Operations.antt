@@ -6,7 +6,7 @@ use Rattle.std.specs.Int.{w128}
 use Rattle.integers.proofs.vectors.Bounds.{bounded_sum, bounded_difference, fits_from_bound}
 use Rattle.integers.proofs.numbers.Ring.{ring, linear, other_factor_zero, positive_not_zero}
 use Rattle.exact.specs.Ratio.{Ratio, Same, HasInverse, ratio_plus, ratio_minus, ratio_times, ratio_over, inverse_of, whole, ratio, IsInLowestTerms}
-use Rattle.exact.proofs.LowestTerms.{crossed}
+use Rattle.exact.proofs.CallerLemmas.{crossed}
 use Rattle.exact.specs.Faults.{IsWide, IsOverFault}
 use Rattle.exact.specs.declared.number.Op.{Op}
 use Rattle.exact.specs.declared.number.Op.TheVariants.{Over}

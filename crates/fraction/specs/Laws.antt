@@ -1,7 +1,6 @@
 -- The laws of fractions as exact numbers.
 use Rattle.exact.specs.Ratio.{Ratio, Same, IsDenominator, IsInLowestTerms}
-use Rattle.exact.proofs.Cancelling.{denominator_cancels}
-use Rattle.exact.proofs.Values.{same_refl, same_trans}
+use Rattle.exact.proofs.CallerLemmas.{denominator_cancels, same_refl, same_trans}
 use Rattle.fraction.specs.Reduced.{HasSmallParts, IsNarrow}
 
 -- a fraction is the reduced fraction of its value

@@ -2,7 +2,7 @@
 ghost use Rattle.std.specs.Prelude.{◌≡◌, ⊤};
 ghost use Rattle.fraction.specs.Reduced.{IsNarrow};
 ghost use Rattle.fraction.specs.Values.{fraction_value};
-ghost use Rattle.exact.proofs.LowestTerms.{zero_not_one, lowest_denominator, equal_decides};
+ghost use Rattle.exact.proofs.CallerLemmas.{zero_not_one, lowest_denominator, equal_decides};
 ghost use Rattle.fraction.specs.Laws.{reduced_narrow, narrow_same};
 
 use crate::Fraction;

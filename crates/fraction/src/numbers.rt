@@ -1,7 +1,7 @@
 // Reduced fractions: their parts, and their order.
 ghost use Rattle.std.specs.Prelude.{◌≡◌, pos, ◌<ℤ◌};
 ghost use Rattle.exact.specs.Ratio.{IsInLowestTerms, ratio};
-ghost use Rattle.exact.proofs.LowestTerms.{IsInLowestTerms-prop};
+ghost use Rattle.exact.proofs.CallerLemmas.{lowest_terms-prop};
 ghost use Rattle.fraction.specs.Reduced.{HasSmallParts};
 
 use crate::products::cross;
@@ -15,7 +15,7 @@ pub struct Fraction {
     pub(crate) num: i64,
     pub(crate) den: i64,
     pub ghost positive: { pos 0 <ℤ den },
-    pub ghost reduced: { IsInLowestTerms (ratio num den) } by { IsInLowestTerms-prop (ratio num den) },
+    pub ghost reduced: { IsInLowestTerms (ratio num den) } by { lowest_terms-prop (ratio num den) },
     pub ghost small: { HasSmallParts (ratio num den) },
 }
 

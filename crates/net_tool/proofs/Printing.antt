@@ -3,7 +3,7 @@ use Rattle.std.proofs.Common.{ℕ, ℤ, ◌≤◌, List, length, sym, ap, subst,
 use Rattle.std.proofs.lemmas.List.Sorted.{IsPermutation-sym}
 use Rattle.periodic_net.specs.Graph.{Graph, arc, IsGraph, IsQuotientVertex}
 use Rattle.periodic_net.specs.Placement.{Placement}
-use Rattle.periodic_net.proofs.Arcs.{arc_inside}
+use Rattle.periodic_net.proofs.CallerLemmas.{arc_inside}
 use Rattle.cgd_read.specs.Graphs.{graph_of}
 use Rattle.cgd_read.specs.Views.{RawView, Net, raw_view, body_view}
 use Rattle.cgd_read.specs.Blocks.{IsReadBody}

@@ -6,24 +6,24 @@ use Rattle.periodic_net.specs.Placement.{Placement, IsStablePlacement, HasNoColl
 use Rattle.periodic_net.specs.Maps.{Iso}
 use Rattle.periodic_net.specs.Classes.{IsTranslation}
 use Rattle.periodic_net.specs.Laws.{ArcsStandOnce, BarycentricPlacementsTranslate, ClassesAreEquivalence, IsomorphismIsEquivalence, IsomorphismsAreAffine, IsomorphismsCarry, IsomorphismsKeep, NormalPlacementExists, NormalPlacementIsOne, PositionsTell, SplitsRefute, TranslationsAreGroup, MovesAlike, MaximumPrinciple, TablesAreMaps}
-use Rattle.periodic_net.proofs.MaximumPrinciple.{periodic_constant}
-use Rattle.periodic_net.proofs.MapTables.{drawn, drawn_by_table, drawn_once, periodic_of_drawn, table_of, is_table_of, drawn_of_periodic}
+use Rattle.periodic_net.proofs.placements.MaximumPrinciple.{periodic_constant}
+use Rattle.periodic_net.proofs.isomorphisms.MapTables.{drawn, drawn_by_table, drawn_once, periodic_of_drawn, table_of, is_table_of, drawn_of_periodic}
 use Rattle.integers.proofs.vectors.Laws.{times_zero}
 use Rattle.integers.proofs.lists.Members.{pairs_from_apart}
-use Rattle.periodic_net.proofs.ArcLists.{all_arcs_apart}
-use Rattle.periodic_net.proofs.Splits.{split_shows_not_connected}
-use Rattle.periodic_net.proofs.Positions.{positions_tell}
-use Rattle.periodic_net.proofs.Isomorphism.{iso_reflexive, iso_symmetric, iso_transitive, iso_connected, iso_turned}
-use Rattle.periodic_net.proofs.Translates.{placements_translate, translate_barycentric}
-use Rattle.periodic_net.proofs.NormalPlacement.{normal_unique}
-use Rattle.periodic_net.proofs.NormalExists.{normal_exists}
-use Rattle.periodic_net.proofs.Affine.{iso_is_affine}
-use Rattle.periodic_net.proofs.StableIsomorphs.{iso_stable}
-use Rattle.periodic_net.proofs.Translations.{whole_translation, translation_plus}
-use Rattle.periodic_net.proofs.Undoing.{translation_back}
-use Rattle.periodic_net.proofs.Classes.{share_reflexive, share_symmetric, share_transitive}
-use Rattle.periodic_net.proofs.Carried.{stands_there}
-use Rattle.periodic_net.proofs.Transport.{linear_part, stable_carries, iso_translations, iso_share, iso_classes}
+use Rattle.periodic_net.proofs.nets.ArcLists.{all_arcs_apart}
+use Rattle.periodic_net.proofs.nets.Splits.{split_shows_not_connected}
+use Rattle.periodic_net.proofs.placements.Positions.{positions_tell}
+use Rattle.periodic_net.proofs.isomorphisms.Isomorphism.{iso_reflexive, iso_symmetric, iso_transitive, iso_connected, iso_turned}
+use Rattle.periodic_net.proofs.placements.Translates.{placements_translate, translate_barycentric}
+use Rattle.periodic_net.proofs.placements.NormalPlacement.{normal_unique}
+use Rattle.periodic_net.proofs.placements.NormalExists.{normal_exists}
+use Rattle.periodic_net.proofs.isomorphisms.Affine.{iso_is_affine}
+use Rattle.periodic_net.proofs.isomorphisms.StableIsomorphs.{iso_stable}
+use Rattle.periodic_net.proofs.translations.Translations.{whole_translation, translation_plus}
+use Rattle.periodic_net.proofs.translations.Undoing.{translation_back}
+use Rattle.periodic_net.proofs.translations.Classes.{share_reflexive, share_symmetric, share_transitive}
+use Rattle.periodic_net.proofs.isomorphisms.Carried.{stands_there}
+use Rattle.periodic_net.proofs.isomorphisms.Transport.{linear_part, stable_carries, iso_translations, iso_share, iso_classes}
 
 -- a split refutes connectedness
 pub splits_refute : SplitsRefute

@@ -1,7 +1,8 @@
 -- Small nets that the theorems are tried on.
-use Rattle.std.specs.Prelude.{pos, [], ◌∷◌}
+use Rattle.std.specs.Prelude.{pos, negsuc, [], ◌∷◌}
 use Rattle.integers.specs.Vectors.{vector, zero_vector}
 use Rattle.periodic_net.specs.Graph.{Graph, arc}
+use Rattle.periodic_net.specs.Placement.{Placement}
 
 -- one vertex with a loop along each axis
 abbrev pub square_net : Graph
@@ -22,3 +23,15 @@ hanging_net = record {
   vertices = 2;
   edges = arc 1 1 (vector (pos 1) (pos 0) (pos 0)) ∷ arc 1 1 (vector (pos 0) (pos 1) (pos 0)) ∷ arc 1 2 zero_vector ∷ [];
 }
+
+-- its normal placement
+unfoldable pub square_placement : Placement
+square_placement = record { denominator = 1; at = zero_vector ∷ [] }
+
+-- a(1) = (0, 0) and a(2) = (-1, -1), in units of 1/3
+unfoldable pub honeycomb_placement : Placement
+honeycomb_placement = record { denominator = 3; at = zero_vector ∷ vector (negsuc 0) (negsuc 0) (pos 0) ∷ [] }
+
+-- both vertices at the origin
+unfoldable pub hanging_placement : Placement
+hanging_placement = record { denominator = 1; at = zero_vector ∷ zero_vector ∷ [] }

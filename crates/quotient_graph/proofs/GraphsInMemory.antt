@@ -4,7 +4,7 @@ use Rattle.std.specs.List.{All}
 use Rattle.integers.proofs.lists.Members.{pairs_from_apart}
 use Rattle.periodic_net.specs.Graph.{Graph, Arc, IsGraph, IsEdge, arcs_from}
 use Rattle.integers.specs.Vectors.{IsWithin}
-use Rattle.periodic_net.proofs.ArcLists.{arcs_apart}
+use Rattle.periodic_net.proofs.CallerLemmas.{arcs_apart}
 use Rattle.periodic_net.specs.Limits.{most_shift, most_edges, IsSmall}
 use Rattle.quotient_graph.specs.Order.{AreRising}
 use Rattle.std.specs.List.Sorted.{IsPermutation}

@@ -1,3 +1,4 @@
+pub mod CallerLemmas
 pub mod Rising
 pub mod Lists
 pub mod SortedStars

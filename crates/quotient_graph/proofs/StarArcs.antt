@@ -8,8 +8,7 @@ use Rattle.integers.specs.Vectors.{Vector, opposite, IsWithin}
 use Rattle.integers.proofs.lists.Members.{in_from_contains, contains_from_in}
 use Rattle.integers.proofs.lists.Filters.{all_at}
 use Rattle.periodic_net.specs.Graph.{Graph, Arc, both_ways, arcs, arcs_from, IsArc, IsGraph}
-use Rattle.periodic_net.proofs.Arcs.{arc_inside}
-use Rattle.periodic_net.proofs.ArcLists.{from_is_arc, arc_is_from}
+use Rattle.periodic_net.proofs.CallerLemmas.{arc_inside, from_is_arc, arc_is_from}
 use Rattle.periodic_net.specs.Limits.{most_shift, IsSmall}
 use Rattle.quotient_graph.specs.Stars.{IsStar, IsArcFrom}
 

@@ -6,8 +6,7 @@ use Rattle.integers.specs.Lattices.{IsVectorGroup}
 use Rattle.integers.proofs.vectors.Laws.{vector_equal, zero_plus, plus_minus}
 use Rattle.periodic_net.specs.Graph.{Graph, IsGraph, Vertex, vertex, IsVertex, IsQuotientVertex, IsWalk, IsReached}
 use Rattle.periodic_net.specs.Split.{ClosedShift, WalkShift}
-use Rattle.periodic_net.proofs.Arcs.{joined_inside, origin_vertex}
-use Rattle.periodic_net.proofs.Walks.{reached_transitive, reached_moved, reached_turned, reached_itself, same_reached}
+use Rattle.periodic_net.proofs.CallerLemmas.{joined_inside, origin_vertex, reached_transitive, reached_moved, reached_turned, reached_itself, same_reached}
 
 -- a walk from a vertex of the net ends at one
 walk_inside : (G : Graph) → IsGraph G → (steps : List Vertex) (w x : Vertex) → IsVertex G w → IsWalk G w steps x → IsVertex G x

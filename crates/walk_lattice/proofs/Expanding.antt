@@ -5,7 +5,7 @@ use Rattle.integers.specs.Vectors.{Vector, zero_vector, plus, minus, IsWithin}
 use Rattle.integers.proofs.vectors.Laws.{vector_equal}
 use Rattle.periodic_net.specs.Graph.{Graph, arc, IsArc, vertex}
 use Rattle.periodic_net.specs.Split.{WalkShift}
-use Rattle.periodic_net.proofs.Walks.{reached_transitive, reached_by_arc}
+use Rattle.periodic_net.proofs.CallerLemmas.{reached_transitive, reached_by_arc}
 use Rattle.walk_lattice.specs.Search.{IsSearch, Grows}
 use Rattle.periodic_net.specs.Limits.{most_shift}
 

@@ -3,7 +3,7 @@ use Rattle.std.proofs.Common.{ℕ, ◌≤◌, List, [], ◌∷◌, Option, IsSom
 use Rattle.integers.specs.Vectors.{Vector, zero_vector, minus}
 use Rattle.periodic_net.specs.Graph.{Graph, IsGraph, Vertex, vertex, arc, IsWalk}
 use Rattle.periodic_net.specs.Split.{IsFound}
-use Rattle.periodic_net.proofs.Arcs.{arc_inside}
+use Rattle.periodic_net.proofs.CallerLemmas.{arc_inside}
 use Rattle.walk_lattice.specs.Search.{walk_to, AreWalks}
 
 module _ (G : Graph) (g : IsGraph G) (a : ℕ) (found : List (Option Vector)) (h : AreWalks G a found) where

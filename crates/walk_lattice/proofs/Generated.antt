@@ -11,8 +11,7 @@ use Rattle.integers.proofs.lists.Filters.{all_in, filter_in}
 use Rattle.integers.proofs.lists.Members.{is_in, contains_from_in, IsIn}
 use Rattle.periodic_net.specs.Graph.{Graph, IsGraph, Arc, arc, arcs, IsArc, reverse_of, both_ways, Vertex, vertex, IsWalk}
 use Rattle.periodic_net.specs.Split.{ClosedShift, WalkShift}
-use Rattle.periodic_net.proofs.Arcs.{arc_inside}
-use Rattle.periodic_net.proofs.Walks.{reached_by_arc}
+use Rattle.periodic_net.proofs.CallerLemmas.{arc_inside, reached_by_arc}
 use Rattle.walk_lattice.specs.Search.{walk_to, shift_of, AreWalks}
 use Rattle.walk_lattice.specs.Generators.{shift_at, generator_of, generators}
 use Rattle.walk_lattice.proofs.ClosedWalks.{walks_add, walk_back}

@@ -1,3 +1,4 @@
+pub mod CallerLemmas
 pub mod ClosedWalks
 pub mod Directions
 pub mod Dividing

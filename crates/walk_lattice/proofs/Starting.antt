@@ -4,7 +4,7 @@ use Rattle.std.proofs.lemmas.Grind.{common_steps}
 use Rattle.std.proofs.lemmas.List.{length-replicate, get_or_default}
 use Rattle.integers.specs.Vectors.{Vector, zero_vector, IsWithin}
 use Rattle.periodic_net.specs.Graph.{Graph, IsQuotientVertex, vertex}
-use Rattle.periodic_net.proofs.Walks.{reached_itself}
+use Rattle.periodic_net.proofs.CallerLemmas.{reached_itself}
 use Rattle.walk_lattice.specs.Search.{walk_to, shift_of, none_found, missing, found_with, order_with, IsSearch, IsSearchedTo, AreWalks, LeadsToFound}
 use Rattle.walk_lattice.proofs.Finding.{found_is, search_grows, none_is_not_some, set_there, one_value}
 use Rattle.walk_lattice.proofs.Expanding.{within_more}

@@ -1,7 +1,7 @@
 use Rattle.std.proofs.Common.{pos}
 use Rattle.exact.specs.Ratio.{whole}
 use Rattle.exact.specs.Values.{HasValue}
-use Rattle.exact.proofs.Values.{one_cancels}
+use Rattle.exact.proofs.CallerLemmas.{one_cancels}
 use Rattle.elimination.proofs.solution.first_position.Goals as goal
 
 pub returns : goal.returns

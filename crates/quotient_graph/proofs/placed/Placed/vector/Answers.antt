@@ -5,7 +5,7 @@ use Rattle.integers.specs.Vectors.{Vector, minus, plus, times, IsWithin}
 use Rattle.periodic_net.specs.Graph.{Arc, IsQuotientVertex}
 use Rattle.periodic_net.specs.Limits.{most_shift, most_units}
 use Rattle.periodic_net.specs.Placement.{base, arc_vector}
-use Rattle.periodic_net.proofs.Arcs.{arc_inside}
+use Rattle.periodic_net.proofs.CallerLemmas.{arc_inside}
 use Rattle.quotient_graph.proofs.StarArcs.{arc_within}
 use Rattle.quotient_graph.proofs.Fitting.{within_more}
 use Rattle.quotient_graph.proofs.placed.Placed.vector.Goals as goal

@@ -1,0 +1,7 @@
+-- The mean equations, by weights and by arcs.
+pub mod ArcSums
+pub mod FirstVertex
+pub mod Gains
+pub mod Kept
+pub mod Means
+pub mod ShiftSums

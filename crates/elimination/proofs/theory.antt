@@ -1,0 +1,7 @@
+-- The elimination over any commutative semiring, and modulo m.
+pub mod Divides
+pub mod Elimination
+pub mod Existence
+pub mod Levels
+pub mod ListSums
+pub mod Semirings

@@ -1,0 +1,6 @@
+-- Translations and classes.
+pub mod ByVectors
+pub mod ClassMembers
+pub mod Classes
+pub mod Translations
+pub mod Undoing
