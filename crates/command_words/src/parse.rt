@@ -18,6 +18,7 @@ pub(crate) struct Said<'a> {
     pub(crate) name: Option<&'a str>,
 }
 
+// What clap found at each place.
 fn said_in<'a>(matches: &ArgMatches<'a>) -> Said<'a>
     ensures { said_view result ≡ said_in (found_of matches.now) }
 {
@@ -29,7 +30,7 @@ fn said_in<'a>(matches: &ArgMatches<'a>) -> Said<'a>
     }
 }
 
-// Whether clap refused the words, or found no memory to read them.
+// Want of memory is an error; words that clap refuses are none.
 fn refuse(error: Error) -> Result<(), AllocError>
     ensures { OnOk result (kind_of error ≢ ErrorKind.OutOfMemory) }
 {

@@ -7,9 +7,12 @@ ghost use Rattle.command_words.specs.Views.{said_view, task_view};
 use crate::parse::{Said, read_words};
 use std::alloc::{AllocError, Global};
 
+/// What is to be done with each net of a file.
 #[derive(Clone, Copy, Debug, PartialEq, Eq)]
 pub enum Command {
+    /// Is the net connected?
     Check,
+    /// Where do its vertices stand?
     Place,
 }
 
@@ -32,6 +35,7 @@ fn command_named(word: &str) -> Option<Command>
     }
 }
 
+// Whether the word stands, and is empty.
 fn is_empty_word(word: Option<&str>) -> bool
     ensures { result ≡ is_empty_word (option_copied word.entry) }
 {
@@ -50,7 +54,7 @@ fn has_empty_word(said: &Said<'_>) -> bool
         || is_empty_word(said.name)
 }
 
-// The file, which is standard input where it is absent.
+// The file is the second positional word, and standard input where that is absent.
 fn file_of<'a>(said: &Said<'a>) -> &'a str
     ensures { result.now ≡ file_of (said_view said.now) }
 {
@@ -80,6 +84,7 @@ fn task_for<'a>(command: Command, said: &Said<'a>) -> Option<Task<'a>>
     })
 }
 
+// The task that is said, where no word of it is empty.
 fn task_in<'a>(said: &Said<'a>) -> Option<Task<'a>>
     ensures { option_map task_view result ≡ task_in (said_view said.now) }
 {
