@@ -1,10 +1,12 @@
 -- The lemmas of this crate that other crates cite.
 pub use Rattle.exact.proofs.Cancelling.{cancelled_denominator, cancelled_has_inverse, denominator_cancels}
-pub use Rattle.exact.proofs.Classes.{class_plus, class_same, class_times, class_whole, divides_value, inverse_value, pivot_value, times_value_one}
+pub use Rattle.exact.proofs.Classes.{class_plus, class_same, class_times, class_whole, divides_value, times_value_one}
+unfoldable pub use Rattle.exact.proofs.Classes.{inverse_value, pivot_value}
 pub use Rattle.exact.proofs.LowestTerms.{crossed, denominators_equal, equal_decides, lowest_denominator, lowest_terms-prop, numerators_equal, sizes_crossed, zero_not_one}
 pub use Rattle.exact.proofs.Quotients.{inverse_denominator_cancels, inverse_same, over_both, over_cancels, over_like}
 pub use Rattle.exact.proofs.Residues.{equal_residues, fifteen, one_denominator, same_of_equal, same_whole}
-pub use Rattle.exact.proofs.Ring.{Value, class, formal, plus_value, plus_value_assoc, plus_value_cancel, plus_value_comm, same_from_class, times_value, times_value_comm, times_value_zero, values, whole_value}
+pub use Rattle.exact.proofs.Ring.{Value, formal, plus_value_assoc, plus_value_cancel, plus_value_comm, same_from_class, times_value_comm, times_value_zero, values}
+unfoldable pub use Rattle.exact.proofs.Ring.{class, plus_value, times_value, whole_value}
 pub use Rattle.exact.proofs.Semiring.{IsInvertible, Semiring}
 pub use Rattle.exact.proofs.Values.{one_cancels, plus_cancels, plus_same, plus_zero, product_cancels, same_refl, same_sym, same_trans, times_cancels, times_same, times_zero, zero_times}
 pub use Rattle.exact.proofs.WholeMultiples.{IsWholeMultiple, cancels_of, difference_multiple, same_of}
