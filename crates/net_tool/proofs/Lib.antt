@@ -1,4 +1,3 @@
-mod WordsAfter
 mod Reordered
 mod NetOutcomes
 mod Printing

@@ -10,7 +10,7 @@ use Rattle.cgd_read.specs.Views.{BlockView}
 use Rattle.net_report.specs.Reports.{IsPrintable}
 use Rattle.net_report.specs.declared.outcome.Outcome.{Outcome}
 use Rattle.net_tool.specs.Outcomes.{IsOutcomeOf, AreOutcomesFrom, is_accepted}
-use Rattle.net_tool.specs.declared.words.Command.{Command}
+use Rattle.command_words.specs.declared.tasks.Command.{Command}
 
 outcomes_last : (command : Command) (n : ℕ) (bs : List BlockView) (os : List Outcome) (b : BlockView) (o : Outcome) → AreOutcomesFrom command n bs os → IsOutcomeOf command (n + length bs) b o
     → AreOutcomesFrom command n (bs ++ b ∷ []) (os ++ o ∷ [])

@@ -11,8 +11,8 @@ use Rattle.least_key.specs.declared.refusal.Refusal.TheVariants.{Disconnected, D
 use Rattle.net_report.specs.declared.outcome.OutcomeBody.{OutcomeBody}
 use Rattle.net_report.specs.declared.outcome.OutcomeBody.TheVariants.{Refused}
 use Rattle.net_tool.specs.Outcomes.{size_of, MayTell, IsBodyOf}
-use Rattle.net_tool.specs.declared.words.Command.{Command}
-use Rattle.net_tool.specs.declared.words.Command.TheVariants.{Check, Place}
+use Rattle.command_words.specs.declared.tasks.Command.{Command}
+use Rattle.command_words.specs.declared.tasks.Command.TheVariants.{Check, Place}
 
 -- a test for connectedness may tell its refusals
 pub check_may : (refusal : Refusal) → IsOfConnecting refusal → refusal ≢ NoMemory → MayTell Check refusal

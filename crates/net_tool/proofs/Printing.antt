@@ -1,5 +1,5 @@
 -- What is told of a block can be printed.
-use Rattle.std.proofs.Common.{ℕ, ℤ, ◌≤◌, List, length, sym, ap, subst, ◌∙◌}
+use Rattle.std.proofs.Common.{ℕ, ℤ, ◌≤◌, length, sym, ap, subst, ◌∙◌}
 use Rattle.std.proofs.lemmas.List.Sorted.{IsPermutation-sym}
 use Rattle.periodic_net.specs.Graph.{Graph, arc, IsGraph, IsQuotientVertex}
 use Rattle.periodic_net.specs.Placement.{Placement}
@@ -22,8 +22,8 @@ use Rattle.net_report.specs.declared.outcome.OutcomeBody.{OutcomeBody}
 use Rattle.net_report.specs.declared.outcome.OutcomeBody.TheVariants.{Unsupported, Malformed, Refused, Checked, Located}
 use Rattle.least_key.specs.Truths.{IsTrueOf}
 use Rattle.net_tool.specs.Outcomes.{MayTell, IsBodyOf}
-use Rattle.net_tool.specs.declared.words.Command.{Command}
-use Rattle.net_tool.specs.declared.words.Command.TheVariants.{Check, Place}
+use Rattle.command_words.specs.declared.tasks.Command.{Command}
+use Rattle.command_words.specs.declared.tasks.Command.TheVariants.{Check, Place}
 use Rattle.net_tool.proofs.Reordered.{same_arc}
 
 -- a vertex of the graph in order has a name

@@ -1,11 +1,9 @@
 -- The order of a graph's edges changes nothing of its arcs.
-use Rattle.std.proofs.Common.{◌≡◌, ◌⊎◌, inl, inr, ℕ, ◌≤◌, ◌<◌, List, [], ◌∷◌, refl, sym, ap, subst, ◌∙◌}
+use Rattle.std.proofs.Common.{◌≡◌, ◌⊎◌, inl, inr, List, [], ◌∷◌, refl, ap, subst}
 use Rattle.std.specs.List.Sorted.{IsPermutation}
-use Rattle.std.proofs.lemmas.List.Sorted.{IsPermutation-sym, Contains-permutation}
+use Rattle.std.proofs.lemmas.List.Sorted.{Contains-permutation}
 use Rattle.integers.proofs.lists.Members.{is_in, contains_from_in, IsIn}
-use Rattle.periodic_net.specs.Graph.{Graph, Arc, reverse_of, both_ways, IsArc, IsQuotientVertex, Vertex, IsVertex, IsWalk, IsReached, IsConnected}
-use Rattle.periodic_net.specs.Split.{Split, IsFound, IsPartSplit, IsFlatSplit, IsPivot, IsSparseSplit}
-use Rattle.quotient_graph.specs.Stars.{IsInOrder}
+use Rattle.periodic_net.specs.Graph.{Graph, Arc, reverse_of, both_ways, IsArc}
 
 -- the edge that an arc belongs to
 record HasEdge (es : List Arc) (a : Arc) : Type 0 where

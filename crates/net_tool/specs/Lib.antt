@@ -1,5 +1,3 @@
-pub mod Words
-pub mod WordViews
 pub mod Outcomes
 pub mod Statuses
 pub mod Run

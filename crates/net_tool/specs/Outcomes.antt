@@ -1,5 +1,5 @@
 -- What becomes of each block under a command, and the report.
-use Rattle.std.specs.Prelude.{◌≡◌, ◌≤◌, ℕ, ◌+◌, Bool, true, false, List, [], ◌∷◌, length, map, option_copied}
+use Rattle.std.specs.Prelude.{◌≡◌, ◌≤◌, ℕ, ◌+◌, Bool, true, false, List, [], ◌∷◌, length, option_copied}
 use Rattle.std.specs.List.{list_all}
 use Rattle.periodic_net.specs.Graph.{Graph, IsConnected}
 use Rattle.cgd_read.specs.Graphs.{graph_of}
@@ -16,8 +16,8 @@ use Rattle.least_key.specs.Truths.{IsTrueOf, IsOfConnecting, IsPlacedAs}
 use Rattle.least_key.specs.declared.path.AnyPlaced.{AnyPlaced}
 use Rattle.least_key.specs.declared.refusal.Refusal.{Refusal}
 use Rattle.least_key.specs.declared.refusal.Refusal.TheVariants.{NoMemory}
-use Rattle.net_tool.specs.declared.words.Command.{Command}
-use Rattle.net_tool.specs.declared.words.Command.TheVariants.{Check, Place}
+use Rattle.command_words.specs.declared.tasks.Command.{Command}
+use Rattle.command_words.specs.declared.tasks.Command.TheVariants.{Check, Place}
 
 -- its sizes
 abbrev pub size_of : RawView → Size

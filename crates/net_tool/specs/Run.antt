@@ -6,7 +6,7 @@ use Rattle.outside.specs.Held.{Holds, Are, HasMore}
 use Rattle.net_tool.specs.declared.status.Status.{Status}
 use Rattle.net_tool.specs.declared.status.Status.TheVariants.{Done, SomeRefused, Usage, ReadFault, WriteFault, TooLarge, NoMemory, TooManyBlocks}
 use Rattle.cgd_read.specs.Blocks.{blocks_of}
-use Rattle.net_tool.specs.Words.{Task, task_of}
+use Rattle.command_words.specs.Tasks.{Task, task_of}
 use Rattle.net_tool.specs.Outcomes.{IsReportOf}
 
 abbrev pub usage_line : List ℕ

@@ -7,8 +7,8 @@ ghost use Rattle.net_report.specs.Reports.{IsPrintable};
 ghost use Rattle.net_tool.specs.Outcomes.{IsOutcomeOf, AreOutcomesFrom, is_accepted_body, is_accepted, IsReport, IsReportOf};
 
 use crate::bodies::body_of;
-use crate::words::Command;
 use cgd_read::{Block, ReadRefusal, blocks};
+use command_words::Command;
 use net_report::{NoMemory, Outcome, OutcomeBody, Outcomes, report};
 use std::alloc::Global;
 

@@ -5,8 +5,8 @@ ghost use Rattle.cgd_read.specs.Views.{Net, body_view, raw_view};
 ghost use Rattle.cgd_read.specs.Blocks.{IsReadBody};
 ghost use Rattle.net_tool.specs.Outcomes.{size_of, IsBodyOf};
 
-use crate::words::Command;
 use cgd_read::{Block, Body, RawGraph};
+use command_words::Command;
 use least_key::{Refusal, check_any, place_any};
 use net_report::{NoMemory, OutcomeBody, Size};
 use quotient_graph::from_raw;

@@ -7,7 +7,6 @@ mod status;
 #[cfg(test)]
 mod tests;
 mod tool;
-mod words;
 
 use outside::{HostShelf, StdoutSink};
 use status::Status;

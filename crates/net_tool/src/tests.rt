@@ -31,15 +31,22 @@ fn words_of(alloc: Global, words: &[&str]) -> Result<Vec<String>, Fail> {
     Ok(list)
 }
 
-// A run over the one file `net`.
+// A run over two files of the same bytes, `net` and `--`.
 fn run_on(
     alloc: Global,
     words: &[&str],
     bytes: &[u8],
     faults: &Faults<'_>,
 ) -> Result<(Status, MemorySink), Fail> {
-    let name = String::from_str(alloc, "net")?;
-    let files = vec![in alloc; (name, Vec::from_slice(alloc, bytes)?)]?;
+    let net = (
+        String::from_str(alloc, "net")?,
+        Vec::from_slice(alloc, bytes)?,
+    );
+    let dashes = (
+        String::from_str(alloc, "--")?,
+        Vec::from_slice(alloc, bytes)?,
+    );
+    let files = vec![in alloc; net, dashes]?;
     let step = faults.step.max(1);
     let mut shelf = MemoryShelf::new(files, step, faults.reads.to_vec(alloc)?);
     let mut out = MemorySink::new(alloc, 1 << 18, step, faults.writes.to_vec(alloc)?)?;

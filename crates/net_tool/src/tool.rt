@@ -2,15 +2,19 @@
 ghost use Rattle.std.specs.Prelude.{◌≡◌, ◌<◌, ◌≤◌, ℕ, length, take};
 ghost use Rattle.std.specs.Io.KnownBytes.{Appends};
 ghost use Rattle.outside.specs.Causes.{Rose};
-ghost use Rattle.net_tool.specs.Words.{texts_of, task_of};
+ghost use Rattle.command_words.specs.Words.{texts_of};
+ghost use Rattle.command_words.specs.Tasks.{task_of};
 ghost use Rattle.net_tool.specs.Run.{IsAnswer, IsAnswered, IsBroken, IsSilent, FailedAtFile};
 
 use crate::answers::answer;
 use crate::status::Status;
-use crate::words::{USAGE, task_word};
 use cgd_read::ReadRefusal;
+use command_words::task_of;
 use outside::{InFault, Shelf, Sink, read_whole, write_all};
 use std::alloc::Global;
+
+/// What is printed where the words have no form.
+pub const USAGE: &str = "usage: net_tool COMMAND [FILE] [--archive PATH] [--name NAME]\n";
 
 const MAX_BYTES: u64 = 16_777_216;
 
@@ -52,7 +56,10 @@ pub fn run<H: Shelf, W: Sink>(alloc: Global, words: &[String], shelf: &mut H, ou
     ensures later { H.faults shelf.old ≤ H.faults shelf.new }
     ensures out_later { W.faults out.old ≤ W.faults out.new }
 {
-    let Some(task) = task_word(words) else {
+    let Ok(found) = task_of(alloc, words) else {
+        return Status::NoMemory;
+    };
+    let Some(task) = found else {
         return finish(out, USAGE.as_bytes(), Status::Usage);
     };
     let bytes = match read_whole(alloc, shelf, task.file, MAX_BYTES) {

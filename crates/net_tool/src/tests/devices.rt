@@ -5,34 +5,40 @@ use std::test::Fail;
 
 #[test]
 fn words(rt: HostRuntime) -> Result<(), Fail> {
-    let accepted: [&[&str]; 4] = [
-        &["check", "net"],
-        &["--", "check", "net"],
-        &["check", "--", "net"],
-        &["check", "net", "--"],
+    let rows: [(&[&str], Status); 26] = [
+        (&["check", "net"], Status::Done),
+        (&["place", "net"], Status::Done),
+        (&["--", "check", "net"], Status::Done),
+        (&["check", "--", "net"], Status::Done),
+        (&["check", "net", "--"], Status::Done),
+        (&["check", "--", "--"], Status::Done),
+        (&["check"], Status::ReadFault),
+        (&["check", "-"], Status::ReadFault),
+        (&["check", "--", "-x"], Status::ReadFault),
+        (&[], Status::Usage),
+        (&["key", "net"], Status::Usage),
+        (&["key", "a", "b"], Status::Usage),
+        (&["check", ""], Status::Usage),
+        (&["check", "-x"], Status::Usage),
+        (&["check", "net", "net"], Status::Usage),
+        (&["--archive=x"], Status::Usage),
+        (&["check", "--archive", "x"], Status::Usage),
+        (&["check", "--archive=x"], Status::Usage),
+        (&["check", "--archive="], Status::Usage),
+        (&["check", "--name", "x"], Status::Usage),
+        (&["check", "--name=x"], Status::Usage),
+        (&["check", "--name"], Status::Usage),
+        (&["-h"], Status::Usage),
+        (&["--help"], Status::Usage),
+        (&["--version"], Status::Usage),
+        (&["check", "--help"], Status::Usage),
     ];
-    for words in &accepted {
-        let (status, _) = run_on(rt.alloc(), words, HCB.as_bytes(), &NO_FAULTS)?;
-        assert_eq!(rt; status, Status::Done);
-    }
-    let absent: [&[&str]; 3] = [&["check"], &["check", "--", "-x"], &["check", "--", "--"]];
-    for words in &absent {
-        let (status, _) = run_on(rt.alloc(), words, HCB.as_bytes(), &NO_FAULTS)?;
-        assert_eq!(rt; status, Status::ReadFault);
-    }
-    let refused: [&[&str]; 7] = [
-        &[],
-        &["key", "net"],
-        &["check", ""],
-        &["check", "-x"],
-        &["check", "net", "net"],
-        &["check", "--name=x"],
-        &["check", "--name", "x"],
-    ];
-    for words in &refused {
+    for (words, due) in &rows {
         let (status, out) = run_on(rt.alloc(), words, HCB.as_bytes(), &NO_FAULTS)?;
-        assert_eq!(rt; status, Status::Usage);
-        assert_eq!(rt; out.written(), crate::words::USAGE.as_bytes());
+        assert_eq!(rt; status, *due);
+        if *due == Status::Usage {
+            assert_eq!(rt; out.written(), crate::tool::USAGE.as_bytes());
+        }
     }
     Ok(())
 }

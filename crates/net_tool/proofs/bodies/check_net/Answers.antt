@@ -1,7 +1,7 @@
 use Rattle.cgd_read.specs.Views.{raw_view}
 use Rattle.quotient_graph.specs.AnyGraphs.{graph_in}
 use Rattle.net_tool.proofs.NetOutcomes.{check_may, refused_as}
-use Rattle.net_tool.specs.declared.words.Command.TheVariants.{Check}
+use Rattle.command_words.specs.declared.tasks.Command.TheVariants.{Check}
 use Rattle.net_tool.proofs.bodies.check_net.Goals as goal
 
 pub returns-in-Ok : goal.returns-in-Ok

@@ -1,7 +1,7 @@
 use Rattle.cgd_read.specs.Views.{raw_view}
 use Rattle.quotient_graph.specs.AnyGraphs.{graph_in}
 use Rattle.net_tool.proofs.NetOutcomes.{place_may, refused_as}
-use Rattle.net_tool.specs.declared.words.Command.TheVariants.{Place}
+use Rattle.command_words.specs.declared.tasks.Command.TheVariants.{Place}
 use Rattle.net_tool.proofs.bodies.place_net.Goals as goal
 
 pub returns-in_ok-copy-in-Ok : goal.returns-in_ok-copy-in-Ok

@@ -1,0 +1,100 @@
+-- A word cut at its first `=`.
+use Rattle.std.proofs.Common.{◌≡◌, ◌∙◌, refl, sym, ap, ℕ, Bool, [], ◌∷◌, ◌++◌, Option, Some, None, true, false, cond, ◌==◌, ◌||◌, ◌&&◌, arith, true≢false}
+use Rattle.std.proofs.lemmas.Grind.{common_steps}
+use Rattle.std.specs.List.{after_first, before_first}
+use Rattle.std.specs.Str.{bytes_eq}
+use Rattle.clap.specs.Lexer.{has_byte}
+use Rattle.clap.specs.Words.{Text}
+use Rattle.command_words.specs.Words.{after}
+
+-- the byte is `=`
+abbrev pub is_equals : ℕ → Bool
+is_equals x = x == 61
+
+before_cons : (x : ℕ) (xs : Text) → before_first is_equals (x ∷ xs) ≡ cond (is_equals x) [] (x ∷ before_first is_equals xs)
+before_cons x xs = grind (arith, common_steps)
+
+after_cons : (x : ℕ) (xs : Text) → after_first is_equals (x ∷ xs) ≡ cond (is_equals x) xs (after_first is_equals xs)
+after_cons x xs = grind (arith, common_steps)
+
+-- the text `=`
+abbrev pub equals : Text
+equals = 61 ∷ []
+
+-- a name that has no `=` is no text that has one
+pub other_text : (name text : Text) → has_byte 61 name ≡ false → has_byte 61 text ≡ true → bytes_eq text name ≡ false
+other_text name [] e f = absurd (true≢false (sym f))
+other_text [] (x ∷ xs) e f = refl
+other_text (b ∷ bs) (x ∷ xs) e f = go (λ e f. other_text bs xs e f) (x == b) refl (b == 61) refl e
+  where
+    go : (has_byte 61 bs ≡ false → has_byte 61 xs ≡ true → bytes_eq xs bs ≡ false) → (s : Bool) → (x == b) ≡ s → (q : Bool) → (b == 61) ≡ q
+        → (q || has_byte 61 bs) ≡ false → (s && bytes_eq xs bs) ≡ false
+    go later false s q eq h = refl
+    go later true s true eq h = absurd (true≢false h)
+    go later true s false eq h = later h (ap (λ (y : Bool). y || has_byte 61 xs) (sym (not_equals)) ∙ f)
+      where
+        not_equals : (x == 61) ≡ false
+        not_equals = grind (arith, common_steps)
+
+-- a text that has no `=` does not begin with a name and `=`
+pub never_after : (name text : Text) → has_byte 61 text ≡ false → after (name ++ equals) text ≡ None
+never_after [] [] e = refl
+never_after [] (x ∷ xs) e = go (x == 61) e
+  where
+    go : (q : Bool) → (q || has_byte 61 xs) ≡ false → cond q (Some xs) None ≡ None
+    go true h = absurd (true≢false h)
+    go false h = refl
+never_after (b ∷ bs) [] e = refl
+never_after (b ∷ bs) (x ∷ xs) e = go (never_after bs xs) (x == b) (x == 61) e
+  where
+    go : (has_byte 61 xs ≡ false → after (bs ++ equals) xs ≡ None) → (s q : Bool) → (q || has_byte 61 xs) ≡ false → cond s (after (bs ++ equals) xs) None ≡ None
+    go later false q h = refl
+    go later true true h = absurd (true≢false h)
+    go later true false h = later h
+
+-- a text that has no `=` is whole before the first one
+pub before_whole : (text : Text) → has_byte 61 text ≡ false → before_first is_equals text ≡ text
+before_whole [] e = refl
+before_whole (x ∷ xs) e = before_cons x xs ∙ go (before_whole xs) (x == 61) e
+  where
+    go : (has_byte 61 xs ≡ false → before_first is_equals xs ≡ xs) → (q : Bool) → (q || has_byte 61 xs) ≡ false → cond q [] (x ∷ before_first is_equals xs) ≡ x ∷ xs
+    go later true h = absurd (true≢false h)
+    go later false h = ap (λ (t : Text). x ∷ t) (later h)
+
+-- the value after `=`, where the name is this one
+abbrev pub value_after : Text → Text → Text → Option Text
+value_after name before rest = cond (bytes_eq name before) (Some rest) None
+
+-- a text that has an `=` begins with a name and `=` where the name stands before its first `=`
+pub after_name : (name text : Text) → has_byte 61 name ≡ false → has_byte 61 text ≡ true
+    → after (name ++ equals) text ≡ value_after name (before_first is_equals text) (after_first is_equals text)
+after_name name [] e f = absurd (true≢false (sym f))
+after_name [] (x ∷ xs) e f = go (x == 61)
+    ∙ ap (λ (t : Text). value_after [] t (cond (x == 61) xs (after_first is_equals xs))) (sym (before_cons x xs))
+    ∙ ap (value_after [] (before_first is_equals (x ∷ xs))) (sym (after_cons x xs))
+  where
+    go : (q : Bool) → cond q (Some xs) None ≡ value_after [] (cond q [] (x ∷ before_first is_equals xs)) (cond q xs (after_first is_equals xs))
+    go true = refl
+    go false = refl
+after_name (b ∷ bs) (x ∷ xs) e f = go (after_name bs xs) (x == b) refl (x == 61) refl (b == 61) refl e f
+    ∙ ap (λ (t : Text). value_after (b ∷ bs) t (cond (x == 61) xs (after_first is_equals xs))) (sym (before_cons x xs))
+    ∙ ap (value_after (b ∷ bs) (before_first is_equals (x ∷ xs))) (sym (after_cons x xs))
+  where
+    same : (x == b) ≡ (b == x)
+    same = grind (arith, common_steps)
+
+    apart : (x == 61) ≡ true → (b == 61) ≡ false → (x == b) ≡ false
+    apart p q = grind (arith, common_steps)
+
+    go : (has_byte 61 bs ≡ false → has_byte 61 xs ≡ true → after (bs ++ equals) xs ≡ value_after bs (before_first is_equals xs) (after_first is_equals xs))
+        → (s : Bool) → (x == b) ≡ s → (q : Bool) → (x == 61) ≡ q → (r : Bool) → (b == 61) ≡ r → (r || has_byte 61 bs) ≡ false → (q || has_byte 61 xs) ≡ true
+        → cond s (after (bs ++ equals) xs) None ≡ value_after (b ∷ bs) (cond q [] (x ∷ before_first is_equals xs)) (cond q xs (after_first is_equals xs))
+    go later s es q eq true er h k = absurd (true≢false h)
+    go later true es true eq false er h k = absurd (true≢false (sym es ∙ apart eq er))
+    go later false es true eq false er h k = refl
+    go later s es false eq false er h k = part (later h k) s (sym es ∙ same)
+      where
+        part : after (bs ++ equals) xs ≡ value_after bs (before_first is_equals xs) (after_first is_equals xs) → (s : Bool) → s ≡ (b == x)
+            → cond s (after (bs ++ equals) xs) None ≡ cond ((b == x) && bytes_eq bs (before_first is_equals xs)) (Some (after_first is_equals xs)) None
+        part later true es = later ∙ ap (λ (y : Bool). cond (y && bytes_eq bs (before_first is_equals xs)) (Some (after_first is_equals xs)) None) es
+        part later false es = ap (λ (y : Bool). cond (y && bytes_eq bs (before_first is_equals xs)) (Some (after_first is_equals xs)) None) es

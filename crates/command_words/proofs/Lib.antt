@@ -1,0 +1,17 @@
+mod Rules
+mod Rows
+mod States
+mod Walks
+mod Stages
+mod TrailingWords
+mod Turns
+mod LongTurns
+mod OtherTurns
+mod Cuts
+mod Looks
+mod WordLooks
+mod Readings
+mod OptionWords
+mod AllWords
+mod Parses
+mod ParseAnswers

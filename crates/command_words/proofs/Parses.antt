@@ -1,0 +1,96 @@
+-- When clap takes the words, and what it then has.
+use Rattle.std.proofs.Common.{◌≡◌, ◌∙◌, refl, sym, ap, subst, Bool, List, [], ◌∷◌, Option, Some, None, true, false, cond, fold, ◌||◌}
+use Rattle.clap.specs.Words.{Row, Rule, Text, matches_of}
+use Rattle.clap.specs.Walk.{Held, default_rows, finished, has_row, idle, is_empty, reading_by, settled, settled_rows, walk, with_default}
+use Rattle.clap.specs.Kinds.{Kinds, or_else}
+use Rattle.clap.specs.Faults.{check_fault, default_fault, defaults_fault, fault_of, given_default_fault, level_fault}
+use Rattle.clap.specs.Simple.{built}
+use Rattle.clap.proofs.FaultLemmas.{leaf_fault, past}
+use Rattle.command_words.specs.Grammar.{grammar}
+use Rattle.command_words.specs.Words.{Said, nothing, said_by}
+use Rattle.command_words.proofs.Rules.{rules_list, top}
+use Rattle.command_words.proofs.Rows.{IsShown, shows_nothing}
+use Rattle.command_words.proofs.States.{state}
+use Rattle.command_words.proofs.Walks.{IsMeaning, AreTaken, first_empty, held_after, second_empty, walk_at}
+use Rattle.command_words.proofs.Stages.{First}
+use Rattle.command_words.proofs.Readings.{AreUtf8}
+use Rattle.command_words.proofs.AllWords.{reads}
+
+-- none of the arguments has a default
+abbrev HaveNoDefaults : List Rule → Type 0
+HaveNoDefaults [] = Unit {0}
+HaveNoDefaults (r ∷ rs) = (r.defaults ≡ []) × HaveNoDefaults rs
+
+no_defaults : HaveNoDefaults rules_list
+no_defaults = (refl, (refl, (refl, (refl, tt))))
+
+no_default : (rows : List Row) (r : Rule) → r.defaults ≡ [] → default_fault rows r ≡ []
+no_default rows r e = ap (λ (d : List Text). cond (has_row r.id rows || is_empty d) [] (given_default_fault r d)) e ∙ go (has_row r.id rows) (given_default_fault r [])
+  where
+    go : (b : Bool) (k : Kinds) → cond (b || true) [] k ≡ []
+    go true k = refl
+    go false k = refl
+
+no_row : (rows : List Row) (r : Rule) → r.defaults ≡ [] → with_default rows r ≡ rows
+no_row rows r e = ap (λ (d : List Text). cond (has_row r.id rows) rows (default_rows r.id (reading_by r) d rows)) e ∙ go (has_row r.id rows)
+  where
+    go : (b : Bool) → cond b rows rows ≡ rows
+    go true = refl
+    go false = refl
+
+no_faults : (rules : List Rule) (rows : List Row) → HaveNoDefaults rules → defaults_fault rows rules ≡ []
+unfolding defaults_fault
+no_faults [] rows b = refl
+no_faults (r ∷ rs) rows b = ap (λ (k : Kinds). or_else k (defaults_fault (with_default rows r) rs)) (no_default rows r b.0) ∙ no_faults rs (with_default rows r) b.1
+
+no_rows : (rules : List Rule) (rows : List Row) → HaveNoDefaults rules → fold with_default rows rules ≡ rows
+no_rows [] rows b = refl
+no_rows (r ∷ rs) rows b = ap (λ (x : List Row). fold with_default x rs) (no_row rows r b.0) ∙ no_rows rs rows b.1
+
+check_none : (rows : List Row) → check_fault top rows false ≡ []
+check_none rows = refl
+
+-- before the first word
+abbrev start : Rattle.clap.specs.Walk.Walk
+start = walk_at idle 1 false [] None
+
+level : (words : List Text) → fault_of grammar words ≡ level_fault top [] (state [] None) words false []
+level words = leaf_fault (built grammar) (state [] None) words refl
+
+-- what may be refused after the last word
+abbrev after_walk : Held → Kinds
+after_walk h = or_else (defaults_fault (settled rules_list h).rows rules_list) (check_fault top (finished rules_list h) false)
+
+after_none : (h : Held) → after_walk h ≡ []
+after_none h = ap (λ (k : Kinds). or_else k (check_fault top (finished rules_list h) false)) (no_faults rules_list (settled rules_list h).rows no_defaults)
+
+-- clap has no fault exactly where it takes the words
+pub fault_none : (words : List Text) → AreTaken start words → fault_of grammar words ≡ []
+fault_none words p = level words
+    ∙ past _ _ p.turns
+    ∙ past _ _ p.end
+    ∙ after_none (held_after start words)
+
+pub passes_from : (words : List Text) → fault_of grammar words ≡ [] → AreTaken start words
+passes_from words e =
+    let all = sym (level words) ∙ e in
+    record { turns = first_empty _ _ all; end = first_empty _ _ (second_empty _ _ all) }
+
+pub rows_are : (words : List Text) → matches_of grammar words ≡ settled_rows rules_list (held_after start words).pending (held_after start words).rows
+rows_are words = no_rows rules_list _ no_defaults
+
+-- the words make up what they say
+means : (words : List Text) → AreUtf8 words → IsMeaning (said_by words) start words
+means words u = reads words u First nothing None [] None (record { command = refl; second = refl }, record { passes = refl; shows = shows_nothing })
+
+-- words that say something are taken, and clap shows it
+pub words_taken : (words : List Text) (said : Said) → AreUtf8 words → said_by words ≡ Some said → (fault_of grammar words ≡ []) × IsShown said (matches_of grammar words)
+words_taken words said u e =
+    let m : IsMeaning (Some said) start words = subst (λ (o : Option Said). IsMeaning o start words) e (means words u) in
+    (fault_none words m.0, subst (IsShown said) (sym (rows_are words)) m.1)
+
+-- words that say nothing are refused
+pub words_refused : (words : List Text) → AreUtf8 words → said_by words ≡ None → fault_of grammar words ≡ [] → ⊥
+words_refused words u e f =
+    let m : IsMeaning None start words = subst (λ (o : Option Said). IsMeaning o start words) e (means words u) in
+    m (passes_from words f)

@@ -1,0 +1,30 @@
+-- The code's values, as the definitions see them.
+use Rattle.std.specs.Prelude.{option_copied, codes}
+use Rattle.clap.specs.Words.{first_value}
+use Rattle.clap.specs.declared.parser.matches.Found.{Found}
+use Rattle.command_words.specs.Words.{Said}
+use Rattle.command_words.specs.Tasks.{Task}
+use Rattle.command_words.specs.declared.parse.Said.{Said as SaidInCode}
+use Rattle.command_words.specs.declared.tasks.Task.{Task as TaskInCode}
+
+-- what is said, in the code
+abbrev pub said_view : SaidInCode → Said
+said_view s = record {
+  command = option_copied s.command;
+  second = option_copied s.second;
+  archive = option_copied s.archive;
+  name = option_copied s.name;
+}
+
+-- the task, in the code
+abbrev pub task_view : TaskInCode → Task
+task_view t = record { command = t.command; file = t.file.now }
+
+-- what clap found at each place
+abbrev pub said_in : Found → Said
+said_in found = record {
+  command = first_value found (codes "command");
+  second = first_value found (codes "second");
+  archive = first_value found (codes "archive");
+  name = first_value found (codes "name");
+}

@@ -1,0 +1,8 @@
+//! The words of a command line: which task they ask for.
+#![tactic(auto)]
+
+mod grammar;
+mod parse;
+mod tasks;
+
+pub use tasks::{Command, Task, task_of};
