@@ -3,9 +3,6 @@ ghost use Rattle.std.specs.Prelude.{◌≡◌};
 
 use barycentre::{PlaceFault, WidePlacement};
 use connected_dim::Unconnected;
-use elimination::Place;
-use exact::Wide;
-use fraction::Fraction;
 use quotient_graph::Split;
 
 /// Why a graph is refused, by the first that applies. The numbers are those of the report.
@@ -15,9 +12,10 @@ pub enum Refusal {
     Disconnected(Split),
     /// 2: the closed walks span fewer dimensions than the net has, as the colouring shows.
     Degenerate(Split),
-    /// 3: the first listed number that does not fit stands at `at`.
-    TooWide { at: Place, wide: Wide<Fraction> },
-    /// 4: the first number of the normal placement that passes its limit.
+    /// 7: a listed fraction is past 62 bits, and modulo each of the three moduli some weight sum
+    /// has no inverse: the first is that of the vertex told.
+    NoModulus { first: u32, second: u32, third: u32 },
+    /// 4: a number of the normal placement passes its limit.
     WidePlacement(WidePlacement),
     /// Memory was refused. It has no number.
     NoMemory,
@@ -44,7 +42,15 @@ impl From<PlaceFault> for Refusal {
 
     fn from(fault: PlaceFault) -> Refusal {
         match fault {
-            PlaceFault::TooWide { at, wide } => Refusal::TooWide { at, wide },
+            PlaceFault::NoModulus {
+                first,
+                second,
+                third,
+            } => Refusal::NoModulus {
+                first,
+                second,
+                third,
+            },
             PlaceFault::WidePlacement(wide) => Refusal::WidePlacement(wide),
             PlaceFault::NoMemory => Refusal::NoMemory,
         }

@@ -1,8 +1,6 @@
 -- How numbers and vertices are printed.
 use Rattle.std.specs.Prelude.{ℕ, ◌-◌, ◌<◌, ◌≤◌, ◌==◌, ℤ, List, [], ◌∷◌, ◌++◌, length, slice_index_or, if◌then◌else◌, codes}
 use Rattle.std.specs.Fmt.{decimal, signed_decimal}
-use Rattle.fraction.specs.Values.{fraction_value}
-use Rattle.fraction.specs.declared.numbers.Fraction.{Fraction}
 
 -- each number after a blank
 abbrev pub numbers_after : List ℤ → List ℕ
@@ -13,10 +11,6 @@ numbers_after (x ∷ xs) = codes " " ++ signed_decimal x ++ numbers_after xs
 abbrev pub list_text : List ℤ → List ℕ
 list_text [] = []
 list_text (x ∷ xs) = signed_decimal x ++ numbers_after xs
-
--- the numerator, a slash, and the denominator
-abbrev pub fraction_text : Fraction → List ℕ
-fraction_text f = signed_decimal (fraction_value f).num ++ codes "/" ++ decimal (fraction_value f).den
 
 -- where there are names, vertex u has one
 abbrev pub IsNamed : List (List ℕ) → ℕ → Type 0

@@ -1,16 +1,14 @@
 -- The line of a refusal, with its vertices by their names.
-use Rattle.std.specs.Prelude.{ℕ, List, [], ◌++◌, codes}
+use Rattle.std.specs.Prelude.{ℕ, ℤ, List, [], ◌++◌, codes}
 use Rattle.std.specs.Fmt.{decimal, signed_decimal}
 use Rattle.integers.specs.Vectors.{parts}
-use Rattle.exact.specs.declared.number.Wide.{Wide}
-use Rattle.fraction.specs.declared.numbers.Fraction.{Fraction}
 use Rattle.quotient_graph.specs.declared.split.Split.{Split}
 use Rattle.elimination.specs.declared.place.Place.{Place}
 use Rattle.barycentre.specs.declared.faults.WideSite.{WideSite}
-use Rattle.barycentre.specs.declared.faults.WideSite.TheVariants.{Denominator, ArcPart}
+use Rattle.barycentre.specs.declared.faults.WideSite.TheVariants.{Denominator, ArcPart, Beyond}
 use Rattle.least_key.specs.declared.refusal.Refusal.{Refusal}
-use Rattle.least_key.specs.declared.refusal.Refusal.TheVariants.{Disconnected, Degenerate, TooWide, WidePlacement, NoMemory}
-use Rattle.net_report.specs.Numbers.{list_text, fraction_text, IsNamed, vertex_text}
+use Rattle.least_key.specs.declared.refusal.Refusal.TheVariants.{Disconnected, Degenerate, NoModulus, WidePlacement, NoMemory}
+use Rattle.net_report.specs.Numbers.{list_text, IsNamed, vertex_text}
 
 unfoldable pub disconnected_word : List ℕ
 disconnected_word = codes "refused 1 Disconnected"
@@ -18,8 +16,8 @@ disconnected_word = codes "refused 1 Disconnected"
 unfoldable pub degenerate_word : List ℕ
 degenerate_word = codes "refused 2 Degenerate"
 
-unfoldable pub too_wide_word : List ℕ
-too_wide_word = codes "refused 3 TooWide"
+unfoldable pub no_modulus_word : List ℕ
+no_modulus_word = codes "refused 7 NoModulus"
 
 unfoldable pub wide_placement_word : List ℕ
 wide_placement_word = codes "refused 4 WidePlacement"
@@ -37,21 +35,29 @@ abbrev pub place_text : Place → List ℕ
 place_text at =
     field_text (codes " part=") at.part ++ field_text (codes " k=") at.k ++ field_text (codes " i=") at.i ++ field_text (codes " j=") at.j ++ field_text (codes " c=") at.c
 
--- the operands of a listed number
-abbrev pub operands_text : Wide Fraction → List ℕ
-operands_text w = codes " left=" ++ fraction_text w.left ++ codes " right=" ++ fraction_text w.right
+-- the vertices whose weight sums have no inverse, by their numbers
+abbrev pub pivots_text : ℕ → ℕ → ℕ → List ℕ
+pivots_text first second third =
+    field_text (codes " pivots=") first ++ field_text (codes " ") second ++ field_text (codes " ") third
 
 -- where a number of a placement in this dimension stands
 abbrev pub site_text : List (List ℕ) → ℕ → WideSite → List ℕ
 site_text names dim (Denominator u c) = codes " denominator u=" ++ vertex_text names u ++ codes " c=" ++ decimal c
 site_text names dim (ArcPart u v s c) = codes " arc u=" ++ vertex_text names u ++ codes " v=" ++ vertex_text names v ++ codes " s=" ++ list_text (parts dim s) ++ codes " c=" ++ decimal c
+site_text names dim (Beyond at) = codes " beyond" ++ place_text at
+
+-- a number past its limit, where it is told
+abbrev pub value_text : WideSite → ℤ → List ℕ
+value_text (Denominator u c) value = codes " value=" ++ signed_decimal value
+value_text (ArcPart u v s c) value = codes " value=" ++ signed_decimal value
+value_text (Beyond at) value = []
 
 -- a refusal; want of memory has no text
 abbrev pub refusal_text : List (List ℕ) → Refusal → List ℕ
 refusal_text names (Disconnected split) = disconnected_word ++ split_text split
 refusal_text names (Degenerate split) = degenerate_word ++ split_text split
-refusal_text names (TooWide at wide) = too_wide_word ++ place_text at ++ operands_text wide
-refusal_text names (WidePlacement w) = wide_placement_word ++ site_text names w.dim w.site ++ codes " value=" ++ signed_decimal w.value
+refusal_text names (NoModulus first second third) = no_modulus_word ++ pivots_text first second third
+refusal_text names (WidePlacement w) = wide_placement_word ++ site_text names w.dim w.site ++ value_text w.site w.value
 refusal_text names NoMemory = []
 
 -- the line of a refusal
@@ -62,11 +68,12 @@ refused_text names refusal = refusal_text names refusal ++ codes "\n"
 abbrev pub AreNamed : List (List ℕ) → WideSite → Type 0
 AreNamed names (Denominator u c) = IsNamed names u
 AreNamed names (ArcPart u v s c) = IsNamed names u × IsNamed names v
+AreNamed names (Beyond at) = Unit {0}
 
 -- the refusal has a line with these names
 abbrev pub HasLine : List (List ℕ) → Refusal → Type 0
 HasLine names (Disconnected split) = Unit {0}
 HasLine names (Degenerate split) = Unit {0}
-HasLine names (TooWide at wide) = Unit {0}
+HasLine names (NoModulus first second third) = Unit {0}
 HasLine names (WidePlacement w) = AreNamed names w.site
 HasLine names NoMemory = ⊥

@@ -1,12 +1,11 @@
-// Numbers, lists of numbers, fractions and vertices.
+// Numbers, lists of numbers, and vertices.
 ghost use Rattle.std.specs.Prelude.{◌≡◌, [], ◌∷◌, ◌++◌, OnOk};
 ghost use Rattle.std.specs.Fmt.{decimal, signed_decimal};
 ghost use Rattle.integers.specs.Vectors.{parts};
-ghost use Rattle.net_report.specs.Numbers.{numbers_after, list_text, fraction_text, IsNamed, vertex_text};
+ghost use Rattle.net_report.specs.Numbers.{numbers_after, list_text, IsNamed, vertex_text};
 
 use crate::NoMemory;
 use cgd_read::Names;
-use fraction::Fraction;
 use itoa::Buffer;
 use vecdim::Triple;
 
@@ -72,14 +71,6 @@ pub fn push_parts(text: &mut Vec<u8>, dim: u8, vector: &Triple) -> Result<(), No
         return Ok(());
     }
     push_after(text, vector.z)
-}
-
-pub fn push_fraction(text: &mut Vec<u8>, fraction: &Fraction) -> Result<(), NoMemory>
-    ensures { OnOk result (text.new.items ≡ text.old.items ++ fraction_text fraction.now) }
-{
-    push_signed(text, fraction.num() as i128)?;
-    text.extend_from_slice(b"/")?;
-    push_signed(text, fraction.den() as i128)
 }
 
 /// The name of a vertex, or its number where there are no names.

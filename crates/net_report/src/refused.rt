@@ -1,14 +1,12 @@
 // The line of a refusal.
 ghost use Rattle.std.specs.Prelude.{◌≡◌, ◌++◌, IfOk, OnOk};
-ghost use Rattle.net_report.specs.Refusals.{disconnected_word, degenerate_word, too_wide_word, wide_placement_word, split_text, field_text, place_text, operands_text, site_text, refusal_text, refused_text, AreNamed, HasLine};
+ghost use Rattle.net_report.specs.Refusals.{disconnected_word, degenerate_word, no_modulus_word, wide_placement_word, split_text, field_text, place_text, pivots_text, site_text, value_text, refusal_text, refused_text, AreNamed, HasLine};
 
 use crate::NoMemory;
-use crate::numbers::{push_fraction, push_list, push_number, push_parts, push_signed, push_vertex};
+use crate::numbers::{push_list, push_number, push_parts, push_signed, push_vertex};
 use barycentre::WideSite;
 use cgd_read::Names;
 use elimination::Place;
-use exact::Wide;
-use fraction::Fraction;
 use least_key::Refusal;
 use quotient_graph::Split;
 use std::alloc::Global;
@@ -27,11 +25,11 @@ fn push_degenerate(text: &mut Vec<u8>) -> Result<(), NoMemory>
     text.extend_from_slice(b"refused 2 Degenerate")
 }
 
-#[tactic(auto, unfolding(crate::specs::Refusals::too_wide_word))]
-fn push_too_wide(text: &mut Vec<u8>) -> Result<(), NoMemory>
-    ensures { OnOk result (text.new.items ≡ text.old.items ++ too_wide_word) }
+#[tactic(auto, unfolding(crate::specs::Refusals::no_modulus_word))]
+fn push_no_modulus(text: &mut Vec<u8>) -> Result<(), NoMemory>
+    ensures { OnOk result (text.new.items ≡ text.old.items ++ no_modulus_word) }
 {
-    text.extend_from_slice(b"refused 3 TooWide")
+    text.extend_from_slice(b"refused 7 NoModulus")
 }
 
 #[tactic(auto, unfolding(crate::specs::Refusals::wide_placement_word))]
@@ -69,13 +67,12 @@ fn push_place(text: &mut Vec<u8>, at: &Place) -> Result<(), NoMemory>
     push_field(text, b" c=", at.c as u32)
 }
 
-fn push_operands(text: &mut Vec<u8>, wide: &Wide<Fraction>) -> Result<(), NoMemory>
-    ensures { OnOk result (text.new.items ≡ text.old.items ++ operands_text wide.now) }
+fn push_pivots(text: &mut Vec<u8>, first: u32, second: u32, third: u32) -> Result<(), NoMemory>
+    ensures { OnOk result (text.new.items ≡ text.old.items ++ pivots_text first second third) }
 {
-    text.extend_from_slice(b" left=")?;
-    push_fraction(text, &wide.left)?;
-    text.extend_from_slice(b" right=")?;
-    push_fraction(text, &wide.right)
+    push_field(text, b" pivots=", first)?;
+    push_field(text, b" ", second)?;
+    push_field(text, b" ", third)
 }
 
 fn push_site(
@@ -104,6 +101,22 @@ fn push_site(
             text.extend_from_slice(b" c=")?;
             push_number(text, *c as u64)
         }
+        WideSite::Beyond { at } => {
+            text.extend_from_slice(b" beyond")?;
+            push_place(text, at)
+        }
+    }
+}
+
+fn push_value(text: &mut Vec<u8>, site: &WideSite, value: i128) -> Result<(), NoMemory>
+    ensures { OnOk result (text.new.items ≡ text.old.items ++ value_text site.now value) }
+{
+    match site {
+        WideSite::Beyond { .. } => Ok(()),
+        _ => {
+            text.extend_from_slice(b" value=")?;
+            push_signed(text, value)
+        }
     }
 }
 
@@ -120,16 +133,18 @@ fn push_refusal(text: &mut Vec<u8>, names: &Names<'_>, refusal: &Refusal) -> Res
             push_degenerate(text)?;
             push_split(text, split)
         }
-        Refusal::TooWide { at, wide } => {
-            push_too_wide(text)?;
-            push_place(text, at)?;
-            push_operands(text, wide)
+        Refusal::NoModulus {
+            first,
+            second,
+            third,
+        } => {
+            push_no_modulus(text)?;
+            push_pivots(text, *first, *second, *third)
         }
         Refusal::WidePlacement(wide) => {
             push_wide_placement(text)?;
             push_site(text, names, wide.dim, &wide.site)?;
-            text.extend_from_slice(b" value=")?;
-            push_signed(text, wide.value)
+            push_value(text, &wide.site, wide.value)
         }
         Refusal::NoMemory => Ok(()),
     }

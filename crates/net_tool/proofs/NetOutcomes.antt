@@ -7,7 +7,7 @@ use Rattle.cgd_read.specs.Views.{RawView, Net}
 use Rattle.quotient_graph.specs.Stars.{IsInOrder}
 use Rattle.least_key.specs.Truths.{IsTrueOf, IsOfConnecting}
 use Rattle.least_key.specs.declared.refusal.Refusal.{Refusal}
-use Rattle.least_key.specs.declared.refusal.Refusal.TheVariants.{Disconnected, Degenerate, TooWide, WidePlacement, NoMemory}
+use Rattle.least_key.specs.declared.refusal.Refusal.TheVariants.{Disconnected, Degenerate, NoModulus, WidePlacement, NoMemory}
 use Rattle.net_report.specs.declared.outcome.OutcomeBody.{OutcomeBody}
 use Rattle.net_report.specs.declared.outcome.OutcomeBody.TheVariants.{Refused}
 use Rattle.net_tool.specs.Outcomes.{size_of, MayTell, IsBodyOf}
@@ -18,7 +18,7 @@ use Rattle.command_words.specs.declared.tasks.Command.TheVariants.{Check, Place}
 pub check_may : (refusal : Refusal) → IsOfConnecting refusal → refusal ≢ NoMemory → MayTell Check refusal
 check_may (Disconnected split) h n = h
 check_may (Degenerate split) h n = h
-check_may (TooWide at wide) h n = h
+check_may (NoModulus first second third) h n = h
 check_may (WidePlacement w) h n = h
 check_may NoMemory h n = n refl
 
@@ -26,7 +26,7 @@ check_may NoMemory h n = n refl
 pub place_may : (refusal : Refusal) → refusal ≢ NoMemory → MayTell Place refusal
 place_may (Disconnected split) n = tt
 place_may (Degenerate split) n = tt
-place_may (TooWide at wide) n = tt
+place_may (NoModulus first second third) n = tt
 place_may (WidePlacement w) n = tt
 place_may NoMemory n = n refl
 

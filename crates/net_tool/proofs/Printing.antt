@@ -10,11 +10,13 @@ use Rattle.cgd_read.specs.Blocks.{IsReadBody}
 use Rattle.cgd_read.specs.declared.block.Body.{Body}
 use Rattle.cgd_read.specs.declared.block.Body.TheVariants as read
 use Rattle.quotient_graph.specs.Stars.{IsInOrder}
+use Rattle.barycentre.specs.PlaceFaults.{IsWideOf}
 use Rattle.barycentre.specs.WidePlacements.{IsWideAt}
+use Rattle.barycentre.specs.declared.faults.WidePlacement.{WidePlacement}
 use Rattle.barycentre.specs.declared.faults.WideSite.{WideSite}
-use Rattle.barycentre.specs.declared.faults.WideSite.TheVariants.{Denominator, ArcPart}
+use Rattle.barycentre.specs.declared.faults.WideSite.TheVariants.{Denominator, ArcPart, Beyond}
 use Rattle.least_key.specs.declared.refusal.Refusal.{Refusal}
-use Rattle.least_key.specs.declared.refusal.Refusal.TheVariants.{Disconnected, Degenerate, TooWide, WidePlacement, NoMemory}
+use Rattle.least_key.specs.declared.refusal.Refusal.TheVariants.{Disconnected, Degenerate, NoModulus, WidePlacement as WideAt, NoMemory}
 use Rattle.net_report.specs.Numbers.{IsNamed}
 use Rattle.net_report.specs.Refusals.{AreNamed, HasLine}
 use Rattle.net_report.specs.Reports.{IsPrintableBody}
@@ -33,18 +35,25 @@ named_vertex raw H u o v = λ some. (v.0, subst (λ n. u ≤ n) o.vertices v.1)
 -- the vertices of a site have names
 named_site : (raw : RawView) (H : Graph) (p : Placement) (site : WideSite) (value : ℤ) → IsGraph (graph_of raw) → IsInOrder (graph_of raw) H → IsWideAt H p site value → AreNamed raw.names site
 named_site raw H p (Denominator u c) value g o h = named_vertex raw H u o h.2.vertex
+named_site raw H p (Beyond at) value g o h = tt
 named_site raw H p (ArcPart u v s c) value g o h =
     let G = graph_of raw in
     let inside = arc_inside G g (arc u v s) (same_arc H G (IsPermutation-sym G.edges H.edges o.edges) (arc u v s) h.is_arc) in
     (λ some. inside.from, λ some. inside.to)
+
+-- and so have those of any site that is told
+named_wide : (raw : RawView) (H : Graph) (w : WidePlacement) (site : WideSite) → site ≡ w.site → IsGraph (graph_of raw) → IsInOrder (graph_of raw) H → IsWideOf H w site → AreNamed raw.names site
+named_wide raw H w (Denominator u c) e g o h = named_site raw H h.1.placement (Denominator u c) w.value g o (subst (λ s. IsWideAt H h.1.placement s w.value) (sym e) h.1.wide)
+named_wide raw H w (ArcPart u v s c) e g o h = named_site raw H h.1.placement (ArcPart u v s c) w.value g o (subst (λ s. IsWideAt H h.1.placement s w.value) (sym e) h.1.wide)
+named_wide raw H w (Beyond at) e g o h = tt
 
 -- a true refusal that may be told has a line with the names of the block
 refusal_line : (command : Command) (raw : RawView) (H : Graph) (refusal : Refusal) → IsGraph (graph_of raw) → IsInOrder (graph_of raw) H
     → MayTell command refusal → IsTrueOf H refusal → HasLine raw.names refusal
 refusal_line command raw H (Disconnected split) g o m h = tt
 refusal_line command raw H (Degenerate split) g o m h = tt
-refusal_line command raw H (TooWide at wide) g o m h = tt
-refusal_line command raw H (WidePlacement w) g o m h = named_site raw H h.1.placement w.site w.value g o h.1.wide
+refusal_line command raw H (NoModulus first second third) g o m h = tt
+refusal_line command raw H (WideAt w) g o m h = named_wide raw H w w.site refl g o h.1
 refusal_line command raw H NoMemory g o m h = m
 
 -- what a command tells of a net can be printed
