@@ -1,5 +1,5 @@
 -- What is told of a block can be printed.
-use Rattle.std.proofs.Common.{ℕ, ℤ, ◌≤◌, length, sym, ap, subst, ◌∙◌}
+use Rattle.std.proofs.Common.{◌≡◌, ℕ, ℤ, ◌≤◌, length, refl, sym, ap, subst, ◌∙◌}
 use Rattle.std.proofs.lemmas.List.Sorted.{IsPermutation-sym}
 use Rattle.periodic_net.specs.Graph.{Graph, arc, IsGraph, IsQuotientVertex}
 use Rattle.periodic_net.specs.Placement.{Placement}

@@ -130,15 +130,20 @@ fn chain(alloc: Global, counts: &[u32], last: &str) -> Result<Vec<u8>, Fail> {
     Ok(Vec::from_slice(alloc, text.as_bytes())?)
 }
 
-// Numbers on the way to a placement that are past 62 bits, and numbers of a placement that are past 2^40.
+// Placements past 2^40, where a fraction on the way is past 62 bits and where none is.
 #[test]
 fn wide_numbers(rt: HostRuntime) -> Result<(), Fail> {
     let counts = [63, 61, 59, 55, 53, 47, 43, 41, 37, 31, 29, 23];
-    let chains: [(usize, &str, &str); 3] = [
+    let chains: [(usize, &str, &str); 4] = [
         (
             12,
             "1 1 0 1",
-            "net 1 line 1\ngraph d=2 vertices=13 edges=543 repeats=0\nrefused 3 TooWide part=7 k=11 i=0 j=10 c=1 left=31/1 right=-456296288570237932/2026342482245235\n",
+            "net 1 line 1\ngraph d=2 vertices=13 edges=543 repeats=0\nrefused 4 WidePlacement beyond part=7 k=11 i=0 j=10 c=1\n",
+        ),
+        (
+            9,
+            "1 1 0 1",
+            "net 1 line 1\ngraph d=2 vertices=10 edges=460 repeats=0\nrefused 4 WidePlacement denominator u=8 c=1 value=1335756415455\n",
         ),
         (
             8,
@@ -157,6 +162,41 @@ fn wide_numbers(rt: HostRuntime) -> Result<(), Fail> {
         assert_eq!(rt; status, Status::SomeRefused);
         assert_eq!(rt; out.written(), written.as_bytes());
     }
+    Ok(())
+}
+
+// The diamond net in a cell of 4·4·2 usual ones: fractions on the way are past 62 bits, and it is placed.
+#[test]
+fn large_cell(rt: HostRuntime) -> Result<(), Fail> {
+    let (a, b, c) = (4u64, 4u64, 2u64);
+    let mut text = String::from_str(rt.alloc(), "PERIODIC_GRAPH\nEDGES\n")?;
+    for cell in 0..a * b * c {
+        let (x, y, z) = (cell % a, cell / a % b, cell / (a * b));
+        let first = 2 * cell + 1;
+        text.push_str(&format!(in rt.alloc(); "{first} {} 0 0 0\n", first + 1)?)?;
+        let along = [
+            (x + 1) % a + a * (y + b * z),
+            x + a * ((y + 1) % b + b * z),
+            x + a * (y + b * ((z + 1) % c)),
+        ];
+        for (axis, next) in along.iter().enumerate() {
+            let over = [x + 1 == a, y + 1 == b, z + 1 == c];
+            let step = |k: usize| if k == axis && over[k] { 1 } else { 0 };
+            text.push_str(&format!(in rt.alloc();
+                "{first} {} {} {} {}\n",
+                2 * *next + 2,
+                step(0),
+                step(1),
+                step(2)
+            )?)?;
+        }
+    }
+    text.push_str("END\n")?;
+    let (status, out) = run_on(rt.alloc(), &["place", "net"], text.as_bytes(), &NO_FAULTS)?;
+    assert_eq!(rt; status, Status::Done);
+    let start =
+        b"net 1 line 1\ngraph d=3 vertices=64 edges=128 repeats=0\nplacement D0=16\nat 1 0 0 0\nat 2 -1 -1 -2\n";
+    assert_eq!(rt; &out.written()[..start.len()], start.as_slice());
     Ok(())
 }
 
