@@ -196,7 +196,9 @@ fn large_cell(rt: HostRuntime) -> Result<(), Fail> {
     assert_eq!(rt; status, Status::Done);
     let start =
         b"net 1 line 1\ngraph d=3 vertices=64 edges=128 repeats=0\nplacement D0=16\nat 1 0 0 0\nat 2 -1 -1 -2\n";
-    assert_eq!(rt; &out.written()[..start.len()], start.as_slice());
+    let written = out.written();
+    let shown = start.len().min(written.len());
+    assert_eq!(rt; &written[..shown], start.as_slice());
     Ok(())
 }
 
