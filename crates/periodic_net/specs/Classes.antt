@@ -1,8 +1,9 @@
 -- Translations of a placed net, its classes, and the class graph.
 -- Translations are those of Delgado-Friedrichs and O'Keeffe, Acta Cryst. A59 (2003) 351; the numbering of the classes and the class graph are this project's own.
 use Rattle.std.specs.Prelude.{◌≡◌, ◌≢◌, ◌↔◌, ℕ, zero, suc, ◌≤◌, ◌<◌, List, Contains, AllPairs}
-use Rattle.integers.specs.Vectors.{Vector, plus, HasDimension}
+use Rattle.integers.specs.Vectors.{Vector, plus, parts, HasDimension, IsBelow}
 use Rattle.periodic_net.specs.Graph.{Graph, Arc, IsArc, IsQuotientVertex, Vertex, IsVertex, AreJoined}
+use Rattle.periodic_net.specs.Maps.{IsInBox}
 use Rattle.periodic_net.specs.Placement.{Placement, position, arc_vector}
 
 -- x stands where w would stand after the move by r
@@ -15,6 +16,11 @@ pub record IsTranslation (G : Graph) (p : Placement) (r : Vector) : Type 0 where
   pub moves : (w : Vertex) → IsVertex G w → (x : Vertex) × IsVertex G x × StandsAt p r w x
   pub joins : (w x w' x' : Vertex) → IsVertex G w → IsVertex G x → IsVertex G w' → IsVertex G x'
       → StandsAt p r w w' → StandsAt p r x x' → AreJoined G w x ↔ AreJoined G w' x'
+
+-- these are exactly the translations with parts from 0 to the denominator less 1, in rising order
+pub record AreTranslations (G : Graph) (p : Placement) (rs : List Vector) : Type 0 where
+  pub exact : (r : Vector) → Contains rs r ↔ (IsTranslation G p r × IsInBox G.dimension p.denominator r)
+  pub rising : AllPairs (λ a b. IsBelow (parts 3 a) (parts 3 b)) rs
 
 -- a translation moves a vertex over u onto one over v
 pub record ShareClass (G : Graph) (p : Placement) (u v : ℕ) : Type 0 where

@@ -5,3 +5,5 @@ pub mod AnyGraphs
 pub mod EdgeLists
 pub mod Splits
 pub mod PlacedNets
+pub mod ClassNets
+pub mod NetClasses

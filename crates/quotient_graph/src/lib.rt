@@ -3,16 +3,28 @@
 
 mod arc;
 mod build;
+mod class_arc;
+mod class_net;
+mod classes;
+mod frame;
 mod graph;
+mod key;
 mod placed;
 mod raw;
 mod split;
+mod stable;
 #[cfg(test)]
 mod tests;
 
 pub use arc::Arc;
+pub use class_arc::ClassArc;
+pub use class_net::ClassNet;
+pub use classes::Classes;
+pub use frame::Frame;
 pub use graph::Graph;
+pub use key::Key;
 pub use placed::Placed;
 pub use raw::{AnyGraph, from_edges, from_raw};
 pub use split::{Entries, Split};
+pub use stable::Stable;
 pub use std::alloc::AllocError as NoMemory;

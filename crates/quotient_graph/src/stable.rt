@@ -1,0 +1,39 @@
+// Placed graphs without collisions.
+ghost use Rattle.std.specs.Prelude.{◌≡◌};
+ghost use Rattle.periodic_net.specs.Placement.{HasNoCollision};
+
+use crate::Placed;
+use std::marker::Model;
+
+/// A placed graph in whose net different vertices stand in different places. Contracts see the graph and the placement.
+#[derive(Drop)]
+pub struct Stable<const D: usize> {
+    placed: Placed<D>,
+}
+
+impl<const D: usize> Model for Stable<D> {
+    ghost use Rattle.periodic_net.specs.Placement.{HasNoCollision};
+    ghost use Rattle.quotient_graph.specs.PlacedNets.{PlacedNet};
+
+    ghost Value = { PlacedNet };
+
+    ghost view = { λ s. s.placed };
+
+    ghost invariant = { λ s. HasNoCollision s.placed.graph s.placed.placement };
+}
+
+impl<const D: usize> Stable<D> {
+    pub fn from_parts(placed: Placed<D>) -> Stable<D>
+        requires { HasNoCollision placed.graph placed.placement }
+        ensures { result ≡ placed.entry }
+    {
+        Stable { placed }
+    }
+
+    pub fn placed(&self) -> &Placed<D>
+        ensures placed { result.now ≡ self.now }
+        ensures no_collision { HasNoCollision self.now.graph self.now.placement }
+    {
+        &self.placed
+    }
+}
