@@ -19,6 +19,10 @@ most_shift = 500
 abbrev pub most_units : ℕ
 most_units = 2 ^ 40
 
+-- a part of an arc's vector in the coordinates of a staircase basis, as an absolute value
+abbrev pub most_coordinate : ℕ
+most_coordinate = 2 * most_units
+
 -- each edge gives two arcs
 abbrev pub most_arcs : ℕ
 most_arcs = 2 * most_edges
