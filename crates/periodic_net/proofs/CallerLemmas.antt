@@ -5,6 +5,7 @@ pub use Rattle.periodic_net.proofs.examples.SquareClasses.{loop, right, square_c
 pub use Rattle.periodic_net.proofs.examples.SquareNet.{square_graph, square_stable}
 pub use Rattle.periodic_net.proofs.isomorphisms.ClassIsomorphism.{correspond_turned}
 pub use Rattle.periodic_net.proofs.isomorphisms.Isomorphism.{iso_reflexive}
+pub use Rattle.periodic_net.proofs.isomorphisms.LinearPart.{image_linear}
 pub use Rattle.periodic_net.proofs.isomorphisms.Neighbours.{arc_between, end_joined, end_of}
 pub use Rattle.periodic_net.proofs.isomorphisms.Periods.{moved_vertex}
 pub use Rattle.periodic_net.proofs.isomorphisms.Transport.{iso_classes}
