@@ -6,6 +6,7 @@ pub mod GraphsInMemory
 pub mod ReadGraphs
 pub mod EdgeLists
 pub mod SquareEdges
+pub mod ClassStars
 pub mod StarLengths
 pub mod Reach
 pub mod PositionBounds

@@ -2,7 +2,7 @@
 ghost use Rattle.std.specs.Prelude.{◌≡◌, ◌≤◌, length, map, sum_by};
 ghost use Rattle.periodic_net.specs.Correspondence.{IsClass};
 ghost use Rattle.periodic_net.specs.Limits.{most_arcs, most_vertices};
-ghost use Rattle.quotient_graph.specs.ClassNets.{arcs_of, class_graph, IsNetInMemory, IsSmallNet};
+ghost use Rattle.quotient_graph.specs.ClassNets.{arcs_of, class_graph, HasStars, IsNetInMemory, IsSmallNet};
 
 use crate::ClassArc;
 use std::marker::Model;
@@ -54,6 +54,7 @@ impl<const D: usize> ClassNet<D> {
         ensures few { result ≤ most_vertices }
         ensures dimension { self.now.dimension ≡ D }
         ensures small { IsSmallNet self.now }
+        ensures stars { HasStars self.now }
     {
         self.stars.len() as u32
     }
