@@ -3,13 +3,14 @@ use Rattle.std.specs.Prelude.{Bool, true, false, List, [], ◌∷◌, Option, So
 use Rattle.std.specs.Str.{bytes_eq}
 use Rattle.command_words.specs.Words.{Text, Said, said_by}
 use Rattle.command_words.specs.declared.tasks.Command.{Command}
-use Rattle.command_words.specs.declared.tasks.Command.TheVariants.{Check, Place}
+use Rattle.command_words.specs.declared.tasks.Command.TheVariants.{Check, Place, Key}
 
 -- the command that a word names
 abbrev pub command_named : Text → Option Command
 command_named word =
     if bytes_eq word (codes "check") then Some Check else
-    (if bytes_eq word (codes "place") then Some Place else None)
+    (if bytes_eq word (codes "place") then Some Place else
+    (if bytes_eq word (codes "key") then Some Key else None))
 
 -- the word stands, and is empty
 abbrev pub is_empty_word : Option Text → Bool

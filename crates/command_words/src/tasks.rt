@@ -14,6 +14,8 @@ pub enum Command {
     Check,
     /// Where do its vertices stand?
     Place,
+    /// What is its key?
+    Key,
 }
 
 /// A command, and the name of the file that it reads.
@@ -30,6 +32,8 @@ fn command_named(word: &str) -> Option<Command>
         Some(Command::Check)
     } else if word == "place" {
         Some(Command::Place)
+    } else if word == "key" {
+        Some(Command::Key)
     } else {
         None
     }
