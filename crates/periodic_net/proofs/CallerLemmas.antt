@@ -16,9 +16,9 @@ pub use Rattle.periodic_net.proofs.nets.Loops.{reached_by_shift}
 pub use Rattle.periodic_net.proofs.nets.SplitCases.{one_not_alike, split_by_parts}
 pub use Rattle.periodic_net.proofs.nets.Splits.{split_shows_not_connected}
 pub use Rattle.periodic_net.proofs.nets.Walks.{joined_moved, reached_by_arc, reached_itself, reached_moved, reached_transitive, reached_turned, same_reached}
-pub use Rattle.periodic_net.proofs.placements.Positions.{end_vector, moves_by, position_moved, positions_tell}
+pub use Rattle.periodic_net.proofs.placements.Positions.{at_origin, end_vector, move_dimension, moves_by, position_moved, positions_tell}
 pub use Rattle.periodic_net.proofs.placements.Translates.{total_linear, total_zero}
-pub use Rattle.periodic_net.proofs.translations.ByVectors.{class_arcs}
+pub use Rattle.periodic_net.proofs.translations.ByVectors.{class_arcs, joined_of_vector}
 pub use Rattle.periodic_net.proofs.translations.ClassMembers.{IsShape, class_in, flat_arcs, member}
-pub use Rattle.periodic_net.proofs.translations.Classes.{share_reflexive, share_symmetric}
-pub use Rattle.periodic_net.proofs.translations.Translations.{whole_translation}
+pub use Rattle.periodic_net.proofs.translations.Classes.{share_by, share_from, share_move, share_reflexive, share_symmetric}
+pub use Rattle.periodic_net.proofs.translations.Translations.{same_end, stands_by, translation_plus, whole_translation}
