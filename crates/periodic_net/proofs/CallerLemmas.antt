@@ -6,7 +6,7 @@ pub use Rattle.periodic_net.proofs.examples.SquareNet.{square_graph, square_stab
 pub use Rattle.periodic_net.proofs.isomorphisms.ClassIsomorphism.{correspond_turned}
 pub use Rattle.periodic_net.proofs.isomorphisms.Isomorphism.{iso_reflexive}
 pub use Rattle.periodic_net.proofs.isomorphisms.LinearPart.{image_linear}
-pub use Rattle.periodic_net.proofs.isomorphisms.Neighbours.{arc_between, end_joined, end_of}
+pub use Rattle.periodic_net.proofs.isomorphisms.Neighbours.{arc_between, between_end, end_joined, end_of}
 pub use Rattle.periodic_net.proofs.isomorphisms.Periods.{moved_vertex}
 pub use Rattle.periodic_net.proofs.isomorphisms.Transport.{iso_classes}
 pub use Rattle.periodic_net.proofs.nets.ArcLists.{arc_is_from, arc_turned, arcs_apart, from_is_arc}
