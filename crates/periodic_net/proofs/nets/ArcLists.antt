@@ -50,11 +50,11 @@ one_spelling e (inr h) (inl k) = let q = h.0 in omega arith
 one_spelling e (inr h) (inr k) = one_way e.shift h.1 k.1
 
 -- an arc turned twice is the arc
-reverse_twice : (a : Arc) → reverse_of (reverse_of a) ≡ a
+pub reverse_twice : (a : Arc) → reverse_of (reverse_of a) ≡ a
 reverse_twice a = λ i. arc a.from a.to (vector (neg_ℤ-neg_ℤ a.shift.x i) (neg_ℤ-neg_ℤ a.shift.y i) (neg_ℤ-neg_ℤ a.shift.z i))
 
 -- an arc of the list is an edge, or turned it is one
-either_way : (es : List Arc) (a : Arc) → IsIn (both_ways es) a → IsIn es a ⊎ IsIn es (reverse_of a)
+pub either_way : (es : List Arc) (a : Arc) → IsIn (both_ways es) a → IsIn es a ⊎ IsIn es (reverse_of a)
 either_way [] a h = elim h [ ]
 either_way (e ∷ es) a (inl h) = inl (inl h)
 either_way (e ∷ es) a (inr (inl h)) = inr (inl (sym (reverse_twice e) ∙ ap reverse_of h))

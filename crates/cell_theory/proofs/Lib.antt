@@ -1,0 +1,9 @@
+pub mod EdgeArcs
+pub mod OnlyShifts
+pub mod Pairing
+pub mod PrimitiveGraph
+pub mod PrimitiveIso
+pub mod ReducedJoins
+pub mod Reduction
+pub mod Representatives
+pub mod WholeShifts
