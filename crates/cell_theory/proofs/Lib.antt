@@ -1,3 +1,4 @@
+pub mod CallerLemmas
 pub mod EdgeArcs
 pub mod OnlyShifts
 pub mod Pairing
