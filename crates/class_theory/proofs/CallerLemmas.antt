@@ -5,6 +5,7 @@ pub use Rattle.class_theory.proofs.ClassesSee.{holds_next, lead_inside}
 pub use Rattle.class_theory.proofs.Coarsest.{cells_are_classes}
 pub use Rattle.class_theory.proofs.Collisions.{collided, collides, no_collision_from}
 pub use Rattle.class_theory.proofs.FromZero.{after, before, vertex_after}
+pub use Rattle.class_theory.proofs.Laws.{moves_are_translations}
 pub use Rattle.class_theory.proofs.NextCells.{numbered_new, numbered_none, numbered_old}
 pub use Rattle.class_theory.proofs.OneArc.{one_arc, one_leg}
 pub use Rattle.class_theory.proofs.Remainders.{one_modulo}
