@@ -1,2 +1,4 @@
 pub mod FirstPlaces
 pub mod GivenEdges
+pub mod Orders
+pub mod RisingSums
