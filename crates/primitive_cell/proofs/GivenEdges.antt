@@ -1,114 +1,150 @@
--- The edges that arcs give between classes: an arc from a representative gives one edge, and different arcs from one vertex
--- give different edges.
-use Rattle.std.proofs.Common.{◌≡◌, ℕ, ◌≤◌, pos, List, length, refl, sym, ap, subst, ◌∙◌}
-use Rattle.integers.specs.Vectors.{Vector, zero_vector, plus, minus, times, parts, combination, HasDimension}
-use Rattle.integers.proofs.vectors.Laws.{minus_back, plus_cancel, plus_minus}
-use Rattle.integers.proofs.vectors.StairBasis.{IsRowBasis, combination_is}
-use Rattle.periodic_net.specs.Classes.{IsTranslation, IsClassNumbering}
-use Rattle.periodic_net.specs.Graph.{Graph, IsGraph, Arc, arc, IsArc, IsQuotientVertex, Vertex, vertex, IsVertex}
+-- The arcs of the class graph give exactly what the primitive graph has, and in the same order.
+use Rattle.std.proofs.Common.{◌≡◌, ℕ, pos, ℤ, List, ◌∷◌, length, refl, sym, ap, subst, ◌∙◌, inl, inr, ◌⊎◌, arith}
+use Rattle.std.specs.List.{Contains}
+use Rattle.std.specs.Prelude.{◌<ℤ◌}
+use Rattle.std.proofs.lemmas.Int.{ints}
+use Rattle.integers.specs.Staircase.{IsStaircase}
+use Rattle.integers.specs.Vectors.{Vector, zero_vector, plus, minus, parts, HasDimension, IsBelow}
+use Rattle.integers.proofs.vectors.Laws.{minus_back}
+use Rattle.integers.proofs.vectors.StairBasis.{stair_basis, combination_is}
+use Rattle.integers.proofs.vectors.StairCoordinates.{row_sum}
+use Rattle.periodic_net.specs.Classes.{IsTranslation, ClassGraph, ClassArc, IsClassGraph}
+use Rattle.periodic_net.specs.Correspondence.{IsClass}
+use Rattle.periodic_net.specs.Graph.{Graph, IsGraph, Arc, arc, IsArc, vertex, IsVertex}
 use Rattle.periodic_net.specs.Placement.{Placement, base, position, arc_vector, IsStablePlacement}
-use Rattle.periodic_net.proofs.CallerLemmas.{arc_inside, at_origin, origin_vertex, positions_tell, share_move}
-use Rattle.key_theory.specs.Primitive.{Gives, IsLeastMember}
-use Rattle.cell_theory.proofs.CallerLemmas.{one_least}
-use Rattle.primitive_cell.specs.Given.{move_from, IsGivenBy}
+use Rattle.periodic_net.proofs.CallerLemmas.{arc_inside, at_origin, class_arcs, class_in, origin_vertex, share_move}
+use Rattle.key_theory.specs.Primitive.{Gives, IsLeastMember, edge_label}
+use Rattle.cell_theory.proofs.CallerLemmas.{one_least, translations_group}
+use Rattle.quotient_graph.specs.NetClasses.{class_arc_numbers}
+use Rattle.primitive_cell.specs.Given.{move_of, IsGivenBy}
+use Rattle.primitive_cell.proofs.Orders.{below_head, below_rest, below_ways, moved_below}
+use Rattle.primitive_cell.proofs.RisingSums.{coordinates_rise}
 
--- a net, with its classes, their representatives, and a basis of its translations
-pub record IsCell (G : Graph) (p : Placement) (class_of first : ℕ → ℕ) (count : ℕ) (rows : List Vector) : Type 0 where
+-- a net, with its classes, their representatives, and the staircase basis of its translations
+pub record IsCell (G : Graph) (p : Placement) (class_of : ℕ → ℕ) (K : ClassGraph) (first : ℕ → ℕ) (rows : List Vector) : Type 0 where
   pub graph : IsGraph G
   pub stable : IsStablePlacement G p
-  pub numbering : IsClassNumbering G p class_of
-  pub below : (u : ℕ) → IsQuotientVertex G u → class_of u ≤ count
-  pub representatives : (c : ℕ) → 1 ≤ c → c ≤ count → IsLeastMember G class_of c (first c)
-  pub basis : IsRowBasis (IsTranslation G p) G.dimension rows
-  pub length_is : length rows ≡ G.dimension
+  pub classes : IsClassGraph G p class_of K
+  pub representatives : (c : ℕ) → IsClass K c → IsLeastMember G class_of c (first c)
+  pub basis : IsStaircase (IsTranslation G p) G.dimension rows
 
 -- the end of an arc stands where its vector leads to
 end_stands : (p : Placement) (a : Arc) → plus (arc_vector p a) (base p a.from) ≡ position p (vertex a.to a.shift)
 end_stands p a = minus_back (position p (vertex a.to a.shift)) (base p a.from)
 
-module _ (G : Graph) (p : Placement) (class_of first : ℕ → ℕ) (count : ℕ) (rows : List Vector) (c : IsCell G p class_of first count rows) where
-  -- the representative of the class of a vertex
-  pub representative : (u : ℕ) → IsQuotientVertex G u → IsLeastMember G class_of (class_of u) (first (class_of u))
-  representative u i = c.representatives (class_of u) (c.numbering.positive u i) (c.below u i)
+module _ (G : Graph) (p : Placement) (class_of : ℕ → ℕ) (K : ClassGraph) (first : ℕ → ℕ) (rows : List Vector) (c : IsCell G p class_of K first rows) where
+  -- an arc of the net that b shows, from the representative
+  record IsShown (b : ClassArc) : Type 0 where
+    along : Arc
+    is_arc : IsArc G along
+    from : along.from ≡ first b.from
+    to : class_of along.to ≡ b.to
+    vector : arc_vector p along ≡ b.vector
+    tail : IsLeastMember G class_of b.from (first b.from)
+    head : IsLeastMember G class_of b.to (first b.to)
 
-  -- the move from the representative of the class of its head to the end of an arc is a translation
-  pub move_translates : (a : Arc) → IsArc G a → IsTranslation G p (move_from p (first (class_of a.to)) a)
-  move_translates a h =
-      let i = arc_inside G c.graph a h in
-      let m = representative a.to i.to in
-      let o = vertex (first (class_of a.to)) zero_vector in
+  -- there is one
+  shown : (b : ClassArc) → Contains K.arcs b → IsShown b
+  shown b h =
+      let s = (c.classes.arcs b).0 h in
+      let a = s.0 in
+      let i = arc_inside G c.graph a s.1 in
+      let tail = c.representatives b.from (subst (IsClass K) s.2.from (class_in G p class_of K c.classes a.from i.from)) in
+      let head = c.representatives b.to (subst (IsClass K) s.2.to (class_in G p class_of K c.classes a.to i.to)) in
+      let share = (c.classes.numbering.classes a.from (first b.from) i.from tail.is_vertex).0 (s.2.from ∙ sym tail.member) in
+      let m = class_arcs G p c.graph c.stable.no_collision a.from (first b.from) share a s.1 refl in
+      let j = arc_inside G c.graph m.along m.is_arc in
+      record {
+        along = m.along;
+        is_arc = m.is_arc;
+        from = m.from;
+        to = sym ((c.classes.numbering.classes a.to m.along.to i.to j.to).1 m.to) ∙ s.2.to;
+        vector = m.vector ∙ s.2.vector;
+        tail = tail;
+        head = head;
+      }
+
+  -- the move of b is that of this arc
+  move_is : (b : ClassArc) (s : IsShown b) → move_of p first b ≡ minus (plus (arc_vector p s.along) (base p s.along.from)) (base p (first b.to))
+  move_is b s = λ j. minus (plus (sym s.vector j) (base p (sym s.from j))) (base p (first b.to))
+
+  -- it is a translation
+  pub move_translates : (b : ClassArc) → Contains K.arcs b → IsTranslation G p (move_of p first b)
+  move_translates b h =
+      let s = shown b h in
+      let a = s.along in
+      let i = arc_inside G c.graph a s.is_arc in
+      let o = vertex (first b.to) zero_vector in
       let w = vertex a.to a.shift in
       let iw : IsVertex G w = record { over = i.to; cell = i.shift } in
-      let share = (c.numbering.classes (first (class_of a.to)) a.to m.is_vertex i.to).0 m.member in
-      let t = share_move G p c.stable.no_collision o w (origin_vertex G (first (class_of a.to)) m.is_vertex) iw share in
-      subst (IsTranslation G p) (λ j. minus (sym (end_stands p a) j) (at_origin p (first (class_of a.to)) j)) t
+      let share = (c.classes.numbering.classes (first b.to) a.to s.head.is_vertex i.to).0 (s.head.member ∙ sym s.to) in
+      let t = share_move G p c.stable.no_collision o w (origin_vertex G (first b.to) s.head.is_vertex) iw share in
+      subst (IsTranslation G p) ((λ j. minus (sym (end_stands p a) j) (at_origin p (first b.to) j)) ∙ sym (move_is b s)) t
 
-  -- what an arc from a representative gives, the primitive graph gives
-  pub gives_of : (a e : Arc) → IsArc G a → a.from ≡ first (class_of a.from) → IsGivenBy G p class_of first rows a e → Gives G p class_of rows e
-  gives_of a e h r g =
-      let i = arc_inside G c.graph a h in
-      let m = representative a.from i.from in
-      let n = representative a.to i.to in
+  -- what an arc of the class graph gives, the primitive graph gives
+  pub gives_of : (b : ClassArc) (e : Arc) → Contains K.arcs b → IsGivenBy G.dimension p first rows b e → Gives G p class_of rows e
+  gives_of b e h g =
+      let s = shown b h in
       record {
-        u = a.from;
-        v = first (class_of a.to);
-        from = subst (λ (u : ℕ). IsLeastMember G class_of e.from u) (sym r) (subst (λ (k : ℕ). IsLeastMember G class_of k (first (class_of a.from))) (sym g.from) m);
-        to = subst (λ (k : ℕ). IsLeastMember G class_of k (first (class_of a.to))) (sym g.to) n;
-        via = a;
-        is_arc = h;
+        u = s.along.from;
+        v = first b.to;
+        from = subst (λ (u : ℕ). IsLeastMember G class_of e.from u) (sym s.from) (subst (λ (n : ℕ). IsLeastMember G class_of n (first b.from)) (sym g.from) s.tail);
+        to = subst (λ (n : ℕ). IsLeastMember G class_of n (first b.to)) (sym g.to) s.head;
+        via = s.along;
+        is_arc = s.is_arc;
         dimension = g.dimension;
         tail = refl;
-        head = sym g.to;
-        shift = g.shift;
+        head = s.to ∙ sym g.to;
+        shift = g.shift ∙ move_is b s;
       }
 
-  -- what the primitive graph gives, an arc from the representative gives
-  pub given_of : (e : Arc) (g : Gives G p class_of rows e) → IsGivenBy G p class_of first rows g.via e
+  -- what the primitive graph gives, an arc of the class graph gives
+  pub given_of : (e : Arc) → Gives G p class_of rows e → (b : ClassArc) × Contains K.arcs b × IsGivenBy G.dimension p first rows b e
   given_of e g =
-      let i = arc_inside G c.graph g.via g.is_arc in
-      let n = representative g.via.to i.to in
-      let same : g.v ≡ first (class_of g.via.to) =
-      one_least G class_of e.to g.v (first (class_of g.via.to)) g.to (subst (λ (k : ℕ). IsLeastMember G class_of k (first (class_of g.via.to))) g.head n) in
-      record {
-        from = sym (ap class_of g.tail ∙ g.from.member);
-        to = sym g.head;
-        dimension = g.dimension;
-        shift = g.shift ∙ (λ j. minus (plus (arc_vector p g.via) (base p (sym g.tail j))) (base p (same j)));
-      }
+      let b : ClassArc = record { from = e.from; to = e.to; vector = arc_vector p g.via } in
+      let h = (c.classes.arcs b).1 (g.via, g.is_arc, record { from = ap class_of g.tail ∙ g.from.member; to = g.head; vector = refl }) in
+      let s = shown b h in
+      let u : g.u ≡ first e.from = one_least G class_of e.from g.u (first e.from) g.from s.tail in
+      let v : g.v ≡ first e.to = one_least G class_of e.to g.v (first e.to) g.to s.head in
+      (b, h, record { from = refl; to = refl; dimension = g.dimension; shift = g.shift ∙ (λ j. minus (plus (arc_vector p g.via) (base p (u j))) (base p (v j))) })
 
-  -- its tail is that representative
-  pub given_tail : (e : Arc) (g : Gives G p class_of rows e) → g.via.from ≡ first e.from
-  given_tail e g =
-      let i = class_in e g in
-      g.tail ∙ one_least G class_of e.from g.u (first e.from) g.from (c.representatives e.from i.0 i.1)
-    where
-      class_in : (e : Arc) (g : Gives G p class_of rows e) → (1 ≤ e.from) × (e.from ≤ count)
-      class_in e g = (subst (λ (k : ℕ). 1 ≤ k) g.from.member (c.numbering.positive g.u g.from.is_vertex), subst (λ (k : ℕ). k ≤ count) g.from.member (c.below g.u g.from.is_vertex))
+  -- the shift, as a sum of the rows
+  sum_is : (b : ClassArc) (e : Arc) → IsGivenBy G.dimension p first rows b e → row_sum rows e.shift ≡ move_of p first b
+  sum_is b e g = sym (combination_is G.dimension c.graph.dimension rows c.basis.count e.shift g.dimension) ∙ g.shift
 
   -- an arc gives one edge
-  pub given_once : (a e f : Arc) → IsGivenBy G p class_of first rows a e → IsGivenBy G p class_of first rows a f → e ≡ f
-  given_once a e f g h =
-      let d = c.graph.dimension in
-      let sums = sym (combination_is G.dimension d rows c.length_is e.shift g.dimension) ∙ g.shift ∙ sym h.shift ∙ combination_is G.dimension d rows c.length_is f.shift h.dimension in
+  pub given_once : (b : ClassArc) (e f : Arc) → IsGivenBy G.dimension p first rows b e → IsGivenBy G.dimension p first rows b f → e ≡ f
+  given_once b e f g h =
+      let basis = stair_basis (IsTranslation G p) (translations_group G p c.stable) G.dimension rows c.basis c.graph.dimension (λ v t. t.dimension) in
       let from : e.from ≡ f.from = g.from ∙ sym h.from in
       let to : e.to ≡ f.to = g.to ∙ sym h.to in
-      let shift : e.shift ≡ f.shift = c.basis.once e.shift f.shift g.dimension h.dimension sums in
+      let shift : e.shift ≡ f.shift = basis.once e.shift f.shift g.dimension h.dimension (sum_is b e g ∙ sym (sum_is b f h)) in
       λ j. arc (from j) (to j) (shift j)
 
-  -- arcs from one vertex that give one edge are one
-  pub one_giver : (a b e : Arc) → IsArc G a → IsArc G b → a.from ≡ b.from → IsGivenBy G p class_of first rows a e → IsGivenBy G p class_of first rows b e → a ≡ b
-  one_giver a b e h k same g g' =
-      let i = arc_inside G c.graph a h in
-      let j = arc_inside G c.graph b k in
-      let wa : IsVertex G (vertex a.to a.shift) = record { over = i.to; cell = i.shift } in
-      let wb : IsVertex G (vertex b.to b.shift) = record { over = j.to; cell = j.shift } in
-      let u = first (class_of a.to) in
-      let heads : first (class_of b.to) ≡ first (class_of a.to) = ap first (sym g'.to ∙ g.to) in
-      let moves : move_from p u a ≡ move_from p u b = sym g.shift ∙ g'.shift ∙ ap (λ (v : ℕ). move_from p v b) heads in
-      let places : position p (vertex a.to a.shift) ≡ position p (vertex b.to b.shift) =
-      sym (end_stands p a) ∙ sym (minus_back (plus (arc_vector p a) (base p a.from)) (base p u)) ∙ ap (λ (v : Vector). plus v (base p u)) moves
-      ∙ minus_back (plus (arc_vector p b) (base p b.from)) (base p u) ∙ end_stands p b in
-      let ends = positions_tell G p c.stable.no_collision (vertex a.to a.shift) (vertex b.to b.shift) wa wb places in
-      let to : a.to ≡ b.to = ap (λ (w : Vertex). w.over) ends in
-      let shift : a.shift ≡ b.shift = ap (λ (w : Vertex). w.cell) ends in
-      λ l. arc (same l) (to l) (shift l)
+  -- edges rise as the arcs that give them
+  pub edges_rise : (b b' : ClassArc) (e f : Arc) → IsBelow (class_arc_numbers b) (class_arc_numbers b') → IsGivenBy G.dimension p first rows b e
+      → IsGivenBy G.dimension p first rows b' f → IsBelow (edge_label e) (edge_label f)
+  edges_rise b b' e f h g g' = by (below_ways (pos b.from) (pos b'.from) (pos b.to ∷ parts 3 b.vector) (pos b'.to ∷ parts 3 b'.vector) h)
+    where
+      from : pos b.from ≡ pos b'.from → pos e.from ≡ pos f.from
+      from x = ap pos g.from ∙ x ∙ sym (ap pos g'.from)
+
+      to : pos b.to ≡ pos b'.to → pos e.to ≡ pos f.to
+      to y = ap pos g.to ∙ y ∙ sym (ap pos g'.to)
+
+      shifts : pos b.from ≡ pos b'.from → pos b.to ≡ pos b'.to → IsBelow (parts 3 b.vector) (parts 3 b'.vector) → IsBelow (parts 3 e.shift) (parts 3 f.shift)
+      shifts x y z =
+          let tail : b.from ≡ b'.from = cc in
+          let head : b.to ≡ b'.to = cc in
+          let m = moved_below b.vector b'.vector (base p (first b.from)) (base p (first b.to)) z in
+          let n : minus (plus b'.vector (base p (first b.from))) (base p (first b.to)) ≡ move_of p first b' = λ j. minus (plus b'.vector (base p (first (tail j)))) (base p (first (head j))) in
+          coordinates_rise (IsTranslation G p) G.dimension rows c.basis c.graph.dimension e.shift f.shift g.dimension g'.dimension
+          (subst (λ (v : Vector). IsBelow (parts 3 v) (parts 3 (row_sum rows f.shift))) (sym (sum_is b e g)) (subst (λ (v : Vector). IsBelow (parts 3 (move_of p first b)) (parts 3 v)) (n ∙ sym (sum_is b' f g')) m))
+
+      by : (pos b.from <ℤ pos b'.from) ⊎ ((pos b.from ≡ pos b'.from) × IsBelow (pos b.to ∷ parts 3 b.vector) (pos b'.to ∷ parts 3 b'.vector)) → IsBelow (edge_label e) (edge_label f)
+      by (inl x) = below_head (pos e.from) (pos f.from) (pos e.to ∷ parts 3 e.shift) (pos f.to ∷ parts 3 f.shift) (let a = g.from in let d = g'.from in omega (arith, ints, x, a, d))
+      by (inr (x, r)) = below_rest (pos e.from) (pos f.from) (pos e.to ∷ parts 3 e.shift) (pos f.to ∷ parts 3 f.shift) (from x)
+          (elim (below_ways (pos b.to) (pos b'.to) (parts 3 b.vector) (parts 3 b'.vector) r) [
+            | inl y ↦ below_head (pos e.to) (pos f.to) (parts 3 e.shift) (parts 3 f.shift) (let a = g.to in let d = g'.to in omega (arith, ints, y, a, d))
+            | inr y ↦ below_rest (pos e.to) (pos f.to) (parts 3 e.shift) (parts 3 f.shift) (to y.0) (shifts x y.0 y.1)
+          ])

@@ -1,12 +1,14 @@
 -- The order of lists of numbers, by their first numbers.
-use Rattle.std.proofs.Common.{◌≡◌, ◌⊎◌, inl, inr, ℤ, List, [], ◌∷◌, sym, ap, ◌∙◌}
+use Rattle.std.proofs.Common.{◌≡◌, ◌⊎◌, inl, inr, ℤ, ◌+ℤ◌, ◌-ℤ◌, List, [], ◌∷◌, sym, ap, ◌∙◌, arith}
 use Rattle.std.specs.Prelude.{◌<ℤ◌}
 use Rattle.std.specs.Cmp.{int_ranks, int_cmp_is}
 use Rattle.std.specs.Cmp.Lexicographic.{slice_cmp}
 use Rattle.std.specs.Ordering.{int_cmp, ordering_then, MatchOrdering}
 use Rattle.std.specs.declared.cmp.Ordering.{Ordering}
 use Rattle.std.specs.declared.cmp.Ordering.TheVariants.{Less, Equal, Greater}
-use Rattle.integers.specs.Vectors.{Vector, parts, IsBelow}
+use Rattle.std.proofs.lemmas.Int.{ints}
+use Rattle.integers.specs.Vectors.{Vector, plus, minus, parts, IsBelow}
+use Rattle.integers.proofs.numbers.Ring.{linear}
 
 -- a list with a lesser first number is below
 pub below_head : (x y : ℤ) (xs ys : List ℤ) → x <ℤ y → IsBelow (x ∷ xs) (y ∷ ys)
@@ -35,12 +37,35 @@ none_below h = equal_less h
     equal_less : Equal ≡ Less → ⊥
     equal_less f = cc
 
--- the two ways of three parts
-pub below_parts : (v w : Vector) → IsBelow (parts 3 v) (parts 3 w) → (v.x <ℤ w.x) ⊎ ((v.x ≡ w.x) × ((v.y <ℤ w.y) ⊎ ((v.y ≡ w.y) × (v.z <ℤ w.z))))
-below_parts v w h = elim (below_ways v.x w.x (v.y ∷ v.z ∷ []) (w.y ∷ w.z ∷ []) h) [
+-- v is below w: by the first part, the second or the third
+abbrev pub Precedes : Vector → Vector → Type 0
+Precedes v w = (v.x <ℤ w.x) ⊎ ((v.x ≡ w.x) × ((v.y <ℤ w.y) ⊎ ((v.y ≡ w.y) × (v.z <ℤ w.z))))
+
+-- as lists of parts
+pub precedes : (v w : Vector) → IsBelow (parts 3 v) (parts 3 w) → Precedes v w
+precedes v w h = elim (below_ways v.x w.x (v.y ∷ v.z ∷ []) (w.y ∷ w.z ∷ []) h) [
   | inl a ↦ inl a
   | inr a ↦ inr (a.0, elim (below_ways v.y w.y (v.z ∷ []) (w.z ∷ []) a.1) [
     | inl b ↦ inl b
     | inr b ↦ inr (b.0, elim (below_ways v.z w.z [] [] b.1) [ inl c ↦ c | inr c ↦ absurd (none_below c.1) ])
   ])
 ]
+
+-- and the other way
+pub parts_below : (v w : Vector) → Precedes v w → IsBelow (parts 3 v) (parts 3 w)
+parts_below v w (inl x) = below_head v.x w.x (v.y ∷ v.z ∷ []) (w.y ∷ w.z ∷ []) x
+parts_below v w (inr (x, inl y)) = below_rest v.x w.x (v.y ∷ v.z ∷ []) (w.y ∷ w.z ∷ []) x (below_head v.y w.y (v.z ∷ []) (w.z ∷ []) y)
+parts_below v w (inr (x, inr (y, z))) =
+    below_rest v.x w.x (v.y ∷ v.z ∷ []) (w.y ∷ w.z ∷ []) x (below_rest v.y w.y (v.z ∷ []) (w.z ∷ []) y (below_head v.z w.z [] [] z))
+
+-- moved alike, vectors keep their order
+pub moved_below : (v w s t : Vector) → IsBelow (parts 3 v) (parts 3 w) → IsBelow (parts 3 (minus (plus v s) t)) (parts 3 (minus (plus w s) t))
+moved_below v w s t h = parts_below (minus (plus v s) t) (minus (plus w s) t) (by (precedes v w h))
+  where
+    less : (a b s t : ℤ) → a <ℤ b → ((a +ℤ s) -ℤ t) <ℤ ((b +ℤ s) -ℤ t)
+    less a b s t h = omega (arith, linear, h)
+
+    by : Precedes v w → Precedes (minus (plus v s) t) (minus (plus w s) t)
+    by (inl x) = inl (less v.x w.x s.x t.x x)
+    by (inr (x, inl y)) = inr (ap (λ (a : ℤ). (a +ℤ s.x) -ℤ t.x) x, inl (less v.y w.y s.y t.y y))
+    by (inr (x, inr (y, z))) = inr (ap (λ (a : ℤ). (a +ℤ s.x) -ℤ t.x) x, inr (ap (λ (a : ℤ). (a +ℤ s.y) -ℤ t.y) y, less v.z w.z s.z t.z z))

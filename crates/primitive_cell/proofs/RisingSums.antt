@@ -10,7 +10,7 @@ use Rattle.integers.proofs.numbers.Order.{multiple_below}
 use Rattle.integers.proofs.numbers.Ring.{linear}
 use Rattle.integers.proofs.vectors.Laws.{vector_equal}
 use Rattle.integers.proofs.vectors.StairCoordinates.{row, row_sum}
-use Rattle.primitive_cell.proofs.Orders.{below_head, below_rest, below_parts}
+use Rattle.primitive_cell.proofs.Orders.{Precedes, precedes, parts_below}
 
 -- a positive factor keeps the order
 factor_below : (a x y : ℤ) → pos 0 <ℤ a → x <ℤ y → (x *ℤ a) <ℤ (y *ℤ a)
@@ -98,14 +98,12 @@ module _ (L : Vector → Type 0) (d : ℕ) (rows : List Vector) (s : IsStaircase
 
     -- sums of the rows rise with their coordinates
     sums_rise : IsBelow (parts 3 k) (parts 3 l) → IsBelow (parts 3 (row_sum rows k)) (parts 3 (row_sum rows l))
-    sums_rise b = by (row_sum rows k) (row_sum rows l) first_less first_same second_less second_same third_less (below_parts k l b)
+    sums_rise b = parts_below (row_sum rows k) (row_sum rows l) (by (precedes k l b))
       where
-        by : (v w : Vector) → (k.x <ℤ l.x → v.x <ℤ w.x) → (k.x ≡ l.x → v.x ≡ w.x) → (k.x ≡ l.x → k.y <ℤ l.y → v.y <ℤ w.y) → (k.x ≡ l.x → k.y ≡ l.y → v.y ≡ w.y)
-            → (k.x ≡ l.x → k.y ≡ l.y → k.z <ℤ l.z → v.z <ℤ w.z) → (k.x <ℤ l.x) ⊎ ((k.x ≡ l.x) × ((k.y <ℤ l.y) ⊎ ((k.y ≡ l.y) × (k.z <ℤ l.z)))) → IsBelow (parts 3 v) (parts 3 w)
-        by v w a b c d e (inl x) = below_head v.x w.x (v.y ∷ v.z ∷ []) (w.y ∷ w.z ∷ []) (a x)
-        by v w a b c d e (inr (x, inl y)) = below_rest v.x w.x (v.y ∷ v.z ∷ []) (w.y ∷ w.z ∷ []) (b x) (below_head v.y w.y (v.z ∷ []) (w.z ∷ []) (c x y))
-        by v w a b c d e (inr (x, inr (y, z))) =
-            below_rest v.x w.x (v.y ∷ v.z ∷ []) (w.y ∷ w.z ∷ []) (b x) (below_rest v.y w.y (v.z ∷ []) (w.z ∷ []) (d x y) (below_head v.z w.z [] [] (e x y z)))
+        by : Precedes k l → Precedes (row_sum rows k) (row_sum rows l)
+        by (inl x) = inl (first_less x)
+        by (inr (x, inl y)) = inr (first_same x, inl (second_less x y))
+        by (inr (x, inr (y, z))) = inr (first_same x, inr (second_same x y, third_less x y z))
 
   -- so coordinates rise with the sums
   pub coordinates_rise : (k l : Vector) → HasDimension d k → HasDimension d l → IsBelow (parts 3 (row_sum rows k)) (parts 3 (row_sum rows l)) → IsBelow (parts 3 k) (parts 3 l)
