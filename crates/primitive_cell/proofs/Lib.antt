@@ -1,3 +1,4 @@
+pub mod CollectedEdges
 pub mod FirstPlaces
 pub mod GivenEdges
 pub mod Orders
