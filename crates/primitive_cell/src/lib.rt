@@ -2,5 +2,9 @@
 #![tactic(auto)]
 
 mod places;
+mod prim_edge;
+mod primitive;
 
+pub use prim_edge::PrimEdge;
+pub use primitive::Primitive;
 pub use std::alloc::AllocError as NoMemory;
