@@ -1,6 +1,7 @@
 //! The primitive graph of a stable net.
 #![tactic(auto)]
 
+mod edges;
 mod places;
 mod prim_edge;
 mod primitive;
