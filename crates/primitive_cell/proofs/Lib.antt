@@ -2,4 +2,5 @@ pub mod CollectedEdges
 pub mod FirstPlaces
 pub mod GivenEdges
 pub mod Orders
+pub mod Parts
 pub mod RisingSums

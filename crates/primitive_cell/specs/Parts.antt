@@ -1,5 +1,5 @@
 -- What a primitive graph is made of: the classes of a placed net, their representatives, and the lattice of its translations.
-use Rattle.std.specs.Prelude.{◌≡◌, ◌↔◌, ℕ, ◌+◌, ◌<◌, List, Contains}
+use Rattle.std.specs.Prelude.{◌≡◌, ◌↔◌, ℕ, ◌+◌, ◌<◌, List, length, Contains}
 use Rattle.integers.specs.Staircase.{IsStaircase}
 use Rattle.integers.specs.Vectors.{Vector}
 use Rattle.periodic_net.specs.Classes.{IsTranslation, ClassGraph, ClassArc, IsClassGraph}
@@ -27,6 +27,7 @@ pub record AreParts (d : ℕ) (N : PlacedNet) (c : NetClasses) (us : List ℕ) (
   pub stable : IsStablePlacement N.graph N.placement
   pub classes : IsClassGraph N.graph N.placement (class_at c.numbers) c.classes
   pub rising : (k : ℕ) → IsClass c.classes k → ClassArcsRise (arcs_of c.classes k)
+  pub count : length us ≡ c.classes.count
   pub representatives : (k : ℕ) → IsClass c.classes k → IsLeastMember N.graph (class_at c.numbers) k (number_at us k)
   pub lattice : IsLatticeOf d N S
 

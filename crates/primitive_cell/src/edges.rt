@@ -1,14 +1,16 @@
 // The edges of a primitive graph, from the arcs of the class graph.
 ghost use Rattle.std.specs.Prelude.{◌≡◌, ◌+◌, OnOk, Contains, IfOk};
-ghost use Rattle.integers.specs.Vectors.{plus, minus, parts, combination, IsWithin};
+ghost use Rattle.integers.specs.Vectors.{plus, minus, parts, combination, HasDimension, IsWithin};
 ghost use Rattle.periodic_net.specs.Correspondence.{IsClass};
+ghost use Rattle.periodic_net.specs.Graph.{IsQuotientVertex};
 ghost use Rattle.periodic_net.specs.Limits.{most_units};
+ghost use Rattle.periodic_net.specs.Placement.{base};
 ghost use Rattle.quotient_graph.specs.PlacedNets.{most_position};
 ghost use Rattle.vecdim.specs.Lattices.{Members};
 ghost use Rattle.vecdim.specs.Stairs.{rows_of};
 ghost use Rattle.primitive_cell.specs.Given.{IsGivenBy, AreGivenEdges};
 ghost use Rattle.primitive_cell.specs.Parts.{AreParts, IsArcBelow, most_move};
-ghost use Rattle.primitive_cell.specs.Places.{number_at};
+ghost use Rattle.primitive_cell.specs.Places.{number_at, IsPlace};
 
 use crate::{NoMemory, PrimEdge};
 use quotient_graph::{ClassArc, Classes, Stable};
@@ -30,7 +32,41 @@ fn move_between<const D: usize>(vector: &Vect<D>, from: &Vect<D>, to: &Vect<D>) 
 fn coordinates<const D: usize>(stairs: &Staircase<D>, v: &Vect<D>) -> Vect<D>
     requires member { Members D stairs.now v.now }
     requires small { IsWithin most_move v.now }
-    ensures { combination (parts 3 result) (rows_of D stairs.now) ≡ v.now }
+    ensures value { combination (parts 3 result) (rows_of D stairs.now) ≡ v.now }
+    ensures dimension { HasDimension D result }
 {
     stairs.coordinates(v).to_vector()
+}
+
+// The position of the representative of a class.
+fn position_of<const D: usize>(net: &Stable<D>, firsts: &[u32], class: u32) -> Vect<D>
+    requires place { IsPlace firsts.now class }
+    requires vertex { IsQuotientVertex net.now.graph (number_at firsts.now class) }
+    ensures value { result ≡ base net.now.placement (number_at firsts.now class) }
+    ensures small { IsWithin most_position result }
+{
+    net.placed().at(firsts[class as usize - 1])
+}
+
+// The edge that an arc of the class graph gives.
+fn edge_of<const D: usize>(
+    net: &Stable<D>,
+    classes: &Classes<D>,
+    firsts: &[u32],
+    stairs: &Staircase<D>,
+    arc: &ClassArc<D>,
+) -> PrimEdge<D>
+    requires parts { AreParts D net.now classes.now firsts.now stairs.now }
+    requires arc { Contains classes.now.classes.arcs arc.now }
+    ensures { IsGivenBy D net.now.placement (number_at firsts.now) (rows_of D stairs.now) arc.now result }
+{
+    let _ = classes.net().count();
+    let from = position_of(net, firsts, arc.from);
+    let to = position_of(net, firsts, arc.to);
+    let v = move_between(&arc.vector, &from, &to);
+    PrimEdge {
+        u: arc.from,
+        v: arc.to,
+        shift: coordinates(stairs, &v),
+    }
 }
