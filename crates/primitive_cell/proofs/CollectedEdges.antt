@@ -38,7 +38,7 @@ pairs_with {X} R xs x h each i j d l m = by (dec_lt j (length xs))
         subst (λ (t : Type 0). t) (sym (λ k. R (before i a k) (last j e k))) (each (get_or xs i d) c)
 
 -- a list of one has that one
-only_one : {X : Type 0} (x y : X) → Contains (x ∷ []) y → x ≡ y
+pub only_one : {X : Type 0} (x y : X) → Contains (x ∷ []) y → x ≡ y
 only_one x y h = elim (is_in (x ∷ []) y h) [ inl e ↦ e | inr z ↦ absurd z ]
 
 -- the arcs in Q, and b

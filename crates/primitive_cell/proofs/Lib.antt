@@ -1,3 +1,4 @@
+pub mod ClassEdges
 pub mod CollectedEdges
 pub mod FirstPlaces
 pub mod GivenEdges

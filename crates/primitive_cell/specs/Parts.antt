@@ -4,7 +4,7 @@ use Rattle.integers.specs.Staircase.{IsStaircase}
 use Rattle.integers.specs.Vectors.{Vector}
 use Rattle.periodic_net.specs.Classes.{IsTranslation, ClassGraph, ClassArc, IsClassGraph}
 use Rattle.periodic_net.specs.Correspondence.{IsClass}
-use Rattle.periodic_net.specs.Graph.{IsGraph}
+use Rattle.periodic_net.specs.Graph.{IsGraph, Arc}
 use Rattle.periodic_net.specs.Limits.{most_units}
 use Rattle.periodic_net.specs.Placement.{IsStablePlacement}
 use Rattle.key_theory.specs.Primitive.{IsLeastMember}
@@ -13,6 +13,7 @@ use Rattle.quotient_graph.specs.NetClasses.{NetClasses, class_at, ClassArcsRise}
 use Rattle.quotient_graph.specs.PlacedNets.{PlacedNet, most_position}
 use Rattle.vecdim.specs.Lattices.{Members}
 use Rattle.vecdim.specs.Stairs.{Stairs, rows_of}
+use Rattle.primitive_cell.specs.Given.{AreGivenEdges}
 use Rattle.primitive_cell.specs.Places.{number_at}
 
 -- the members of the staircase are the translations of the net, and its rows are their staircase basis
@@ -34,6 +35,10 @@ pub record AreParts (d : ℕ) (N : PlacedNet) (c : NetClasses) (us : List ℕ) (
 -- b is an arc from a class below n
 abbrev pub IsArcBelow : ClassGraph → ℕ → ClassArc → Type 0
 IsArcBelow K n b = Contains K.arcs b × (b.from < n)
+
+-- exactly the edges that the arcs from classes below n give, in normal spelling and in rising order
+abbrev pub AreEdgesBelow : ℕ → PlacedNet → NetClasses → List ℕ → Stairs → ℕ → List Arc → Type 0
+AreEdgesBelow d N c us S n es = AreGivenEdges d N.placement (number_at us) (rows_of d S) (IsArcBelow c.classes n) es
 
 -- a part of the move from a representative to the end of an arc from another, as an absolute value
 abbrev pub most_move : ℕ
