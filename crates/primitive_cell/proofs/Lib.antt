@@ -1,5 +1,6 @@
 pub mod ClassEdges
 pub mod CollectedEdges
+pub mod EdgeSteps
 pub mod FirstPlaces
 pub mod GivenEdges
 pub mod Orders

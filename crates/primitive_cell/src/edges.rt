@@ -8,8 +8,8 @@ ghost use Rattle.periodic_net.specs.Placement.{base};
 ghost use Rattle.quotient_graph.specs.PlacedNets.{most_position};
 ghost use Rattle.vecdim.specs.Lattices.{Members};
 ghost use Rattle.vecdim.specs.Stairs.{rows_of};
-ghost use Rattle.primitive_cell.specs.Given.{IsGivenBy, AreGivenEdges};
-ghost use Rattle.primitive_cell.specs.Parts.{AreParts, IsArcBelow, most_move};
+ghost use Rattle.primitive_cell.specs.Given.{IsGivenBy};
+ghost use Rattle.primitive_cell.specs.Parts.{AreParts, AreEdgesBelow, most_move};
 ghost use Rattle.primitive_cell.specs.Places.{number_at, IsPlace};
 
 use crate::{NoMemory, PrimEdge};
@@ -69,4 +69,27 @@ fn edge_of<const D: usize>(
         v: arc.to,
         shift: coordinates(stairs, &v),
     }
+}
+
+// Adds the edges that the arcs from a class give.
+fn push_edges<const D: usize>(
+    edges: &mut Vec<PrimEdge<D>>,
+    net: &Stable<D>,
+    classes: &Classes<D>,
+    firsts: &[u32],
+    stairs: &Staircase<D>,
+    class: u32,
+) -> Result<(), NoMemory>
+    requires parts { AreParts D net.now classes.now firsts.now stairs.now }
+    requires class { IsClass classes.now.classes class }
+    requires below { AreEdgesBelow D net.now classes.now firsts.now stairs.now class edges.old.items }
+    ensures { OnOk result (AreEdgesBelow D net.now classes.now firsts.now stairs.now (class + 1) edges.new.items) }
+{
+    for arc in classes.arcs(class) {
+        let edge = edge_of(net, classes, firsts, stairs, arc);
+        if edge.is_normal() {
+            edges.push(edge)?;
+        }
+    }
+    Ok(())
 }
