@@ -1,5 +1,5 @@
 -- The steps by which the edges of a class are added, over the parts of a primitive graph.
-use Rattle.std.proofs.Common.{◌≡◌, ◌↔◌, ℕ, ◌+◌, ◌<◌, ◌≤◌, List, [], ◌∷◌, ◌++◌, length, get_or, sym, subst}
+use Rattle.std.proofs.Common.{◌≡◌, ◌↔◌, ℕ, ◌+◌, ◌<◌, ◌≤◌, List, [], ◌∷◌, ◌++◌, length, get_or, sym, subst, arith}
 use Rattle.std.specs.List.{Contains}
 use Rattle.integers.specs.Vectors.{IsBelow}
 use Rattle.periodic_net.specs.Classes.{ClassArc}
@@ -13,8 +13,8 @@ use Rattle.primitive_cell.specs.Given.{IsGivenBy, AreGivenEdges}
 use Rattle.primitive_cell.specs.Parts.{AreParts, IsArcBelow, AreEdgesBelow}
 use Rattle.primitive_cell.specs.Places.{number_at}
 use Rattle.primitive_cell.proofs.ClassEdges.{IsArcUpTo, star_arc, star_starts, star_goes_on, star_rises, star_ends}
-use Rattle.primitive_cell.proofs.CollectedEdges.{With, same_given, edge_passed, edge_added}
-use Rattle.primitive_cell.proofs.Parts.{cell_of}
+use Rattle.primitive_cell.proofs.CollectedEdges.{With, none_given, same_given, edge_passed, edge_added}
+use Rattle.primitive_cell.proofs.Parts.{cell_of, tail_in}
 
 module _ (d : ℕ) (N : PlacedNet) (c : NetClasses) (us : List ℕ) (S : Stairs) where
   -- in dimension n, exactly the edges that the arcs in Q give
@@ -36,6 +36,11 @@ module _ (d : ℕ) (N : PlacedNet) (c : NetClasses) (us : List ℕ) (S : Stairs)
         → ((b' : ClassArc) → Q b' → IsBelow (class_arc_numbers b') (class_arc_numbers b)) → Given d (With Q b) (es ++ e ∷ [])
     added Q es b e = subst (λ (n : ℕ). Given n Q es → Gives n b e → IsNormalSpelling e → ((b' : ClassArc) → Q b' → IsBelow (class_arc_numbers b') (class_arc_numbers b)) → Given n (With Q b) (es ++ e ∷ [])) p.lattice.dimension
         (λ g h normal later. edge_added N.graph N.placement (class_at c.numbers) c.classes (number_at us) (rows_of d S) (cell_of d N c us S p) Q es g b e h normal later)
+
+    -- no arc leads from a class below 1
+    pub before_classes : AreEdgesBelow d N c us S 1 []
+    before_classes = none_given d N.placement (number_at us) (rows_of d S) (IsArcBelow c.classes 1)
+        (λ b h. let i = tail_in d N c us S p b h.0 in let low = i.0 in let less = h.1 in absurd (omega (arith, low, less)))
 
     module _ (n : ℕ) (k : IsClass c.classes n) (star : List ClassArc) (is : star ≡ arcs_of c.classes n) where
       -- an arc of the list is an arc of the class graph

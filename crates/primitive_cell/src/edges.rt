@@ -93,3 +93,22 @@ fn push_edges<const D: usize>(
     }
     Ok(())
 }
+
+/// The edges that the arcs of the class graph give.
+pub fn edges_of<const D: usize>(
+    alloc: Global,
+    net: &Stable<D>,
+    classes: &Classes<D>,
+    firsts: &[u32],
+    stairs: &Staircase<D>,
+) -> Result<Vec<PrimEdge<D>>, NoMemory>
+    requires { AreParts D net.now classes.now firsts.now stairs.now }
+    ensures { IfOk result (λ es.
+        AreEdgesBelow D net.now classes.now firsts.now stairs.now (classes.now.classes.count + 1) es.items) }
+{
+    let mut edges = Vec::new(alloc);
+    for class in 1..classes.count() + 1 {
+        push_edges(&mut edges, net, classes, firsts, stairs, class)?;
+    }
+    Ok(edges)
+}
