@@ -6,3 +6,4 @@ pub mod GivenEdges
 pub mod Orders
 pub mod Parts
 pub mod RisingSums
+pub mod TranslationStairs

@@ -2,6 +2,7 @@
 #![tactic(auto)]
 
 mod edges;
+mod lattices;
 mod places;
 mod prim_edge;
 mod primitive;
