@@ -3,6 +3,8 @@ pub mod CollectedEdges
 pub mod EdgeSteps
 pub mod FirstPlaces
 pub mod GivenEdges
+pub mod MadeParts
+pub mod OnePlacement
 pub mod Orders
 pub mod Parts
 pub mod RisingSums

@@ -1,0 +1,86 @@
+-- The parts of a primitive graph, from the classes in memory.
+use Rattle.std.proofs.Common.{◌≡◌, ℕ, ◌≤◌, List, length, sym, ap, subst, ◌∙◌, arith}
+use Rattle.std.proofs.Math.Decide.{dec_le}
+use Prim.{Dec, yes, no}
+use Rattle.periodic_net.specs.Classes.{IsClassGraph, IsClassNumbering, AreTranslations, ClassGraph}
+use Rattle.periodic_net.specs.Correspondence.{IsClass}
+use Rattle.periodic_net.specs.Graph.{Graph, IsGraph, IsQuotientVertex}
+use Rattle.periodic_net.specs.Placement.{Placement, IsStablePlacement}
+use Rattle.key_theory.specs.Primitive.{IsLeastMember}
+use Rattle.quotient_graph.specs.NetClasses.{NetClasses, AreClasses, class_at}
+use Rattle.quotient_graph.specs.PlacedNets.{PlacedNet}
+use Rattle.vecdim.specs.Stairs.{Stairs}
+use Rattle.primitive_cell.specs.Parts.{IsLatticeOf, AreParts}
+use Rattle.primitive_cell.specs.Places.{number_at, IsPlace, AreInOrder, AreFirstPlaces}
+use Rattle.primitive_cell.proofs.OnePlacement.{one_placement}
+
+-- the classes of a net, by its placement
+pub record AreClassesAt (N : PlacedNet) (c : NetClasses) : Type 0 where
+  pub count : length c.numbers ≡ N.graph.vertices
+  pub is_classes : IsClassGraph N.graph N.placement (class_at c.numbers) c.classes
+  pub are_translations : AreTranslations N.graph N.placement c.translations
+
+-- they are the classes of the graph
+pub classes_at : (N : PlacedNet) (c : NetClasses) → IsGraph N.graph → IsStablePlacement N.graph N.placement → c.graph ≡ N.graph → AreClasses c → AreClassesAt N c
+classes_at N c g s e a = by N.graph e g s
+  where
+    by : (G : Graph) → c.graph ≡ G → IsGraph G → IsStablePlacement G N.placement → AreClassesAt (record { graph = G; placement = N.placement }) c
+    by G e = subst (λ (G : Graph). IsGraph G → IsStablePlacement G N.placement → AreClassesAt (record { graph = G; placement = N.placement }) c) e
+        (λ g s.
+        let q = one_placement c.graph g s.connected a.placement N.placement a.stable.placement s.placement in
+        record {
+          count = a.count;
+          is_classes = subst (λ (p : Placement). IsClassGraph c.graph p (class_at c.numbers) c.classes) q a.is_classes;
+          are_translations = subst (λ (p : Placement). AreTranslations c.graph p c.translations) q a.are_translations;
+        })
+
+module _ (G : Graph) (p : Placement) (ns : List ℕ) (K : ClassGraph) (count : length ns ≡ G.vertices) (k : IsClassGraph G p (class_at ns) K) where
+  -- a place is a vertex
+  vertex_of : (u : ℕ) → IsPlace ns u → IsQuotientVertex G u
+  vertex_of u i = (i.0, subst (λ (n : ℕ). u ≤ n) count i.1)
+
+  -- and the other way
+  place_of : (u : ℕ) → IsQuotientVertex G u → IsPlace ns u
+  place_of u i = (i.0, subst (λ (n : ℕ). u ≤ n) (sym count) i.1)
+
+  -- classes are numbered as they appear
+  pub in_order : AreInOrder ns
+  in_order = record {
+    positive = λ u i. k.numbering.positive u (vertex_of u i);
+    before = λ u n i h l. let r = k.numbering.in_order u n (vertex_of u i) h l in (r.0, r.1, place_of r.0 r.2, r.3);
+  }
+
+  module _ (us : List ℕ) (f : AreFirstPlaces ns us) where
+    -- there is a first place for each class
+    pub as_many : length us ≡ K.count
+    as_many = by (dec_le 1 (length us))
+      where
+        most : K.count ≤ length us
+        most = subst (λ (n : ℕ). n ≤ length us) k.last.2 (f.all k.last.0 (place_of k.last.0 k.last.1)).1
+
+        by : Dec (1 ≤ length us) → length us ≡ K.count
+        by (yes h) =
+            let r = f.each (length us) (h, omega arith) in
+            let b = k.below (number_at us (length us)) (vertex_of (number_at us (length us)) r.place) in
+            let e = r.number in
+            omega (arith, b, e, most)
+        by (no h) = let one = k.numbering.positive k.last.0 k.last.1 in let e = k.last.2 in absurd (omega (arith, h, one, e, most))
+
+    -- the first place of a class is its least member
+    pub least_members : (c : ℕ) → IsClass K c → IsLeastMember G (class_at ns) c (number_at us c)
+    least_members c i =
+        let r = f.each c (i.0, let b = i.1 in omega (arith, b, as_many)) in
+        record { is_vertex = vertex_of (number_at us c) r.place; member = r.number; least = λ v j e. r.least v (place_of v j) e }
+
+-- so the parts are made
+pub parts_made : (d : ℕ) (N : PlacedNet) (c : NetClasses) (us : List ℕ) (S : Stairs) → IsGraph N.graph → IsStablePlacement N.graph N.placement → AreClasses c → AreClassesAt N c
+    → AreFirstPlaces c.numbers us → IsLatticeOf d N S → AreParts d N c us S
+parts_made d N c us S g s a k f l = record {
+  graph = g;
+  stable = s;
+  classes = k.is_classes;
+  rising = a.rising;
+  count = as_many N.graph N.placement c.numbers c.classes k.count k.is_classes us f;
+  representatives = least_members N.graph N.placement c.numbers c.classes k.count k.is_classes us f;
+  lattice = l;
+}
