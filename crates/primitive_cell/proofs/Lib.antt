@@ -4,6 +4,7 @@ pub mod EdgeSteps
 pub mod FirstPlaces
 pub mod GivenEdges
 pub mod MadeParts
+pub mod MadePrimitive
 pub mod OnePlacement
 pub mod Orders
 pub mod Parts

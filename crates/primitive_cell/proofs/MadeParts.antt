@@ -4,8 +4,9 @@ use Rattle.std.proofs.Math.Decide.{dec_le}
 use Prim.{Dec, yes, no}
 use Rattle.periodic_net.specs.Classes.{IsClassGraph, IsClassNumbering, AreTranslations, ClassGraph}
 use Rattle.periodic_net.specs.Correspondence.{IsClass}
-use Rattle.periodic_net.specs.Graph.{Graph, IsGraph, IsQuotientVertex}
-use Rattle.periodic_net.specs.Placement.{Placement, IsStablePlacement}
+use Rattle.periodic_net.specs.Graph.{Graph, IsGraph, IsConnected, IsQuotientVertex}
+use Rattle.periodic_net.specs.Placement.{Placement, IsNormalPlacement, IsStablePlacement, HasNoCollision}
+use Rattle.periodic_net.specs.Limits.{IsSmall}
 use Rattle.key_theory.specs.Primitive.{IsLeastMember}
 use Rattle.quotient_graph.specs.NetClasses.{NetClasses, AreClasses, class_at}
 use Rattle.quotient_graph.specs.PlacedNets.{PlacedNet}
@@ -33,6 +34,26 @@ classes_at N c g s e a = by N.graph e g s
           is_classes = subst (λ (p : Placement). IsClassGraph c.graph p (class_at c.numbers) c.classes) q a.is_classes;
           are_translations = subst (λ (p : Placement). AreTranslations c.graph p c.translations) q a.are_translations;
         })
+
+-- what is known of a stable net and its classes
+pub record IsKnown (N : PlacedNet) (c : NetClasses) : Type 0 where
+  pub graph : IsGraph N.graph
+  pub small : IsSmall N.graph
+  pub stable : IsStablePlacement N.graph N.placement
+  pub classes : AreClasses c
+  pub at : AreClassesAt N c
+
+-- from what the types promise
+pub known : (M N : PlacedNet) (c : NetClasses) → M ≡ N → IsGraph M.graph → IsSmall M.graph → IsConnected M.graph → IsNormalPlacement M.graph M.placement
+    → HasNoCollision N.graph N.placement → c.graph ≡ N.graph → AreClasses c → IsKnown N c
+known M N c e g small con normal apart same a =
+    let graph = subst (λ (n : PlacedNet). IsGraph n.graph) e g in
+    let stable : IsStablePlacement N.graph N.placement = record {
+      connected = subst (λ (n : PlacedNet). IsConnected n.graph) e con;
+      placement = subst (λ (n : PlacedNet). IsNormalPlacement n.graph n.placement) e normal;
+      no_collision = apart;
+    } in
+    record { graph = graph; small = subst (λ (n : PlacedNet). IsSmall n.graph) e small; stable = stable; classes = a; at = classes_at N c graph stable same a }
 
 module _ (G : Graph) (p : Placement) (ns : List ℕ) (K : ClassGraph) (count : length ns ≡ G.vertices) (k : IsClassGraph G p (class_at ns) K) where
   -- a place is a vertex
@@ -73,14 +94,13 @@ module _ (G : Graph) (p : Placement) (ns : List ℕ) (K : ClassGraph) (count : l
         record { is_vertex = vertex_of (number_at us c) r.place; member = r.number; least = λ v j e. r.least v (place_of v j) e }
 
 -- so the parts are made
-pub parts_made : (d : ℕ) (N : PlacedNet) (c : NetClasses) (us : List ℕ) (S : Stairs) → IsGraph N.graph → IsStablePlacement N.graph N.placement → AreClasses c → AreClassesAt N c
-    → AreFirstPlaces c.numbers us → IsLatticeOf d N S → AreParts d N c us S
-parts_made d N c us S g s a k f l = record {
-  graph = g;
-  stable = s;
-  classes = k.is_classes;
-  rising = a.rising;
-  count = as_many N.graph N.placement c.numbers c.classes k.count k.is_classes us f;
-  representatives = least_members N.graph N.placement c.numbers c.classes k.count k.is_classes us f;
+pub parts_made : (d : ℕ) (N : PlacedNet) (c : NetClasses) (us : List ℕ) (S : Stairs) → IsKnown N c → AreFirstPlaces c.numbers us → IsLatticeOf d N S → AreParts d N c us S
+parts_made d N c us S k f l = record {
+  graph = k.graph;
+  stable = k.stable;
+  classes = k.at.is_classes;
+  rising = k.classes.rising;
+  count = as_many N.graph N.placement c.numbers c.classes k.at.count k.at.is_classes us f;
+  representatives = least_members N.graph N.placement c.numbers c.classes k.at.count k.at.is_classes us f;
   lattice = l;
 }
