@@ -5,7 +5,7 @@ use Rattle.integers.specs.Vectors.{Vector}
 use Rattle.periodic_net.specs.Classes.{IsTranslation, ClassGraph, ClassArc, IsClassGraph}
 use Rattle.periodic_net.specs.Correspondence.{IsClass}
 use Rattle.periodic_net.specs.Graph.{IsGraph, Arc}
-use Rattle.periodic_net.specs.Limits.{most_units}
+use Rattle.periodic_net.specs.Limits.{most_coordinate}
 use Rattle.periodic_net.specs.Placement.{IsStablePlacement}
 use Rattle.key_theory.specs.Primitive.{IsLeastMember}
 use Rattle.quotient_graph.specs.ClassNets.{arcs_of}
@@ -42,4 +42,4 @@ AreEdgesBelow d N c us S n es = AreGivenEdges d N.placement (number_at us) (rows
 
 -- a part of the move from a representative to the end of an arc from another, as an absolute value
 abbrev pub most_move : ℕ
-most_move = most_units + most_position + most_position
+most_move = most_coordinate + most_position + most_position

@@ -3,7 +3,7 @@ ghost use Rattle.std.specs.Prelude.{◌≡◌, ◌+◌, OnOk, Contains, IfOk};
 ghost use Rattle.integers.specs.Vectors.{plus, minus, parts, combination, HasDimension, IsWithin};
 ghost use Rattle.periodic_net.specs.Correspondence.{IsClass};
 ghost use Rattle.periodic_net.specs.Graph.{IsQuotientVertex};
-ghost use Rattle.periodic_net.specs.Limits.{most_units};
+ghost use Rattle.periodic_net.specs.Limits.{most_coordinate};
 ghost use Rattle.periodic_net.specs.Placement.{base};
 ghost use Rattle.quotient_graph.specs.PlacedNets.{most_position};
 ghost use Rattle.vecdim.specs.Lattices.{Members};
@@ -19,7 +19,7 @@ use vecdim::{Staircase, Vect};
 
 // vector + from - to.
 fn move_between<const D: usize>(vector: &Vect<D>, from: &Vect<D>, to: &Vect<D>) -> Vect<D>
-    requires vector { IsWithin most_units vector.now }
+    requires vector { IsWithin most_coordinate vector.now }
     requires from { IsWithin most_position from.now }
     requires to { IsWithin most_position to.now }
     ensures value { result ≡ minus (plus vector.now from.now) to.now }

@@ -2,7 +2,7 @@ use Rattle.std.proofs.Common.{◌≡◌, ℕ, lit<, sym, ap, subst}
 use Rattle.integers.specs.Vectors.{IsWithin}
 use Rattle.periodic_net.specs.Classes.{ClassArc}
 use Rattle.periodic_net.specs.Correspondence.{IsClass}
-use Rattle.periodic_net.specs.Limits.{most_units}
+use Rattle.periodic_net.specs.Limits.{most_coordinate}
 use Rattle.quotient_graph.specs.ClassNets.{IsSmallNet}
 use Rattle.vecdim.specs.Lattices.{Members}
 use Rattle.primitive_cell.proofs.Parts.{place_in, representative_in, tail_in, head_in, move_in, move_reckoned, is_given}
@@ -29,7 +29,7 @@ position_of-to-requires g c =
 pub move_between-v-requires : goal.move_between-v-requires
 move_between-v-requires g c =
     let small = subst IsSmallNet c.net.ensures.net c.count.ensures.small in
-    let within = subst (IsWithin most_units) (sym (ap (λ (b : ClassArc). b.vector) c.arc.view_is)) (small.within c.args.arc.now c.requires.arc) in
+    let within = subst (IsWithin most_coordinate) (sym (ap (λ (b : ClassArc). b.vector) c.arc.view_is)) (small.within c.args.arc.now c.requires.arc) in
     (lit< tt, (within, (c.position_of-from.ensures.small, c.position_of-to.ensures.small)))
 
 pub coordinates-requires : goal.coordinates-requires
