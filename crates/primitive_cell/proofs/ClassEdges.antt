@@ -1,5 +1,5 @@
 -- The edges of one class after the other, and of one class arc by arc.
-use Rattle.std.proofs.Common.{◌≡◌, ◌⊎◌, inl, inr, ◌↔◌, ℕ, ◌+◌, ◌<◌, ◌≤◌, pos, List, [], ◌∷◌, ◌++◌, length, get_or, take, refl, sym, ap, subst, ◌∙◌, arith, eq-eqb, ◌==◌}
+use Rattle.std.proofs.Common.{◌≡◌, ◌⊎◌, inl, inr, ◌↔◌, ℕ, ◌+◌, ◌<◌, ◌≤◌, pos, List, [], ◌∷◌, ◌++◌, length, get_or, take, sym, subst, ◌∙◌, arith, eq-eqb, ◌==◌}
 use Rattle.std.proofs.Math.Decide.{dec_lt}
 use Rattle.std.proofs.lemmas.Bool.{eqb-true}
 use Rattle.std.proofs.lemmas.Int.{ints}
@@ -13,7 +13,7 @@ use Rattle.integers.proofs.lists.Members.{is_in, contains_from_in}
 use Rattle.periodic_net.specs.Classes.{ClassGraph, ClassArc}
 use Rattle.quotient_graph.specs.ClassNets.{arcs_of}
 use Rattle.quotient_graph.specs.NetClasses.{class_arc_numbers, ClassArcsRise}
-use Rattle.primitive_cell.specs.Parts.{IsArcBelow}
+use Rattle.primitive_cell.specs.PrimitiveCells.{IsArcBelow}
 use Rattle.primitive_cell.proofs.CollectedEdges.{With, only_one}
 use Rattle.primitive_cell.proofs.Orders.{below_head}
 

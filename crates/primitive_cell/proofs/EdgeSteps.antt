@@ -1,4 +1,4 @@
--- The steps by which the edges of a class are added, over the parts of a primitive graph.
+-- The steps by which the edges of a class are added.
 use Rattle.std.proofs.Common.{◌≡◌, ◌↔◌, ℕ, ◌+◌, ◌<◌, ◌≤◌, List, [], ◌∷◌, ◌++◌, length, get_or, sym, subst, arith}
 use Rattle.std.specs.List.{Contains}
 use Rattle.integers.specs.Vectors.{IsBelow}
@@ -10,31 +10,31 @@ use Rattle.quotient_graph.specs.NetClasses.{NetClasses, class_at, class_arc_numb
 use Rattle.quotient_graph.specs.PlacedNets.{PlacedNet}
 use Rattle.vecdim.specs.Stairs.{Stairs, rows_of}
 use Rattle.primitive_cell.specs.Given.{IsGivenBy, AreGivenEdges}
-use Rattle.primitive_cell.specs.Parts.{AreParts, IsArcBelow, AreEdgesBelow}
+use Rattle.primitive_cell.specs.PrimitiveCells.{IsPrimitiveCell, IsArcBelow, AreEdgesBelow}
 use Rattle.primitive_cell.specs.Places.{number_at}
 use Rattle.primitive_cell.proofs.ClassEdges.{IsArcUpTo, star_arc, star_starts, star_goes_on, star_rises, star_ends}
 use Rattle.primitive_cell.proofs.CollectedEdges.{With, none_given, same_given, edge_passed, edge_added}
-use Rattle.primitive_cell.proofs.Parts.{cell_of, tail_in}
+use Rattle.primitive_cell.proofs.CellFacts.{cell_of, tail_in}
 
 module _ (d : ℕ) (N : PlacedNet) (c : NetClasses) (us : List ℕ) (S : Stairs) where
   -- in dimension n, exactly the edges that the arcs in Q give
-  abbrev pub Given : ℕ → (ClassArc → Type 0) → List Arc → Type 0
-  Given n Q es = AreGivenEdges n N.placement (number_at us) (rows_of d S) Q es
+  abbrev pub IsCollected : ℕ → (ClassArc → Type 0) → List Arc → Type 0
+  IsCollected n Q es = AreGivenEdges n N.placement (number_at us) (rows_of d S) Q es
 
   -- in dimension n, b gives e
-  abbrev pub Gives : ℕ → ClassArc → Arc → Type 0
-  Gives n b e = IsGivenBy n N.placement (number_at us) (rows_of d S) b e
+  abbrev pub IsGiven : ℕ → ClassArc → Arc → Type 0
+  IsGiven n b e = IsGivenBy n N.placement (number_at us) (rows_of d S) b e
 
-  module _ (p : AreParts d N c us S) where
+  module _ (p : IsPrimitiveCell d N c us S) where
     -- an edge in another spelling is passed over
-    passed : (Q : ClassArc → Type 0) (es : List Arc) (b : ClassArc) (e : Arc) → Given d Q es → Gives d b e → ¬ IsNormalSpelling e → Given d (With Q b) es
-    passed Q es b e = subst (λ (n : ℕ). Given n Q es → Gives n b e → ¬ IsNormalSpelling e → Given n (With Q b) es) p.lattice.dimension
+    passed : (Q : ClassArc → Type 0) (es : List Arc) (b : ClassArc) (e : Arc) → IsCollected d Q es → IsGiven d b e → ¬ IsNormalSpelling e → IsCollected d (With Q b) es
+    passed Q es b e = subst (λ (n : ℕ). IsCollected n Q es → IsGiven n b e → ¬ IsNormalSpelling e → IsCollected n (With Q b) es) p.lattice.dimension
         (λ g h other. edge_passed N.graph N.placement (class_at c.numbers) c.classes (number_at us) (rows_of d S) (cell_of d N c us S p) Q es g b e h other)
 
     -- an edge in normal spelling is put last
-    added : (Q : ClassArc → Type 0) (es : List Arc) (b : ClassArc) (e : Arc) → Given d Q es → Gives d b e → IsNormalSpelling e
-        → ((b' : ClassArc) → Q b' → IsBelow (class_arc_numbers b') (class_arc_numbers b)) → Given d (With Q b) (es ++ e ∷ [])
-    added Q es b e = subst (λ (n : ℕ). Given n Q es → Gives n b e → IsNormalSpelling e → ((b' : ClassArc) → Q b' → IsBelow (class_arc_numbers b') (class_arc_numbers b)) → Given n (With Q b) (es ++ e ∷ [])) p.lattice.dimension
+    added : (Q : ClassArc → Type 0) (es : List Arc) (b : ClassArc) (e : Arc) → IsCollected d Q es → IsGiven d b e → IsNormalSpelling e
+        → ((b' : ClassArc) → Q b' → IsBelow (class_arc_numbers b') (class_arc_numbers b)) → IsCollected d (With Q b) (es ++ e ∷ [])
+    added Q es b e = subst (λ (n : ℕ). IsCollected n Q es → IsGiven n b e → IsNormalSpelling e → ((b' : ClassArc) → Q b' → IsBelow (class_arc_numbers b') (class_arc_numbers b)) → IsCollected n (With Q b) (es ++ e ∷ [])) p.lattice.dimension
         (λ g h normal later. edge_added N.graph N.placement (class_at c.numbers) c.classes (number_at us) (rows_of d S) (cell_of d N c us S p) Q es g b e h normal later)
 
     -- no arc leads from a class below 1
@@ -48,19 +48,19 @@ module _ (d : ℕ) (N : PlacedNet) (c : NetClasses) (us : List ℕ) (S : Stairs)
       item_in i b l e = (star_arc c.classes n b (subst (λ (xs : List ClassArc). Contains xs b) is (i, l, sym e))).0
 
       -- before the first arc
-      pub class_starts : (es : List Arc) → AreEdgesBelow d N c us S n es → Given d (IsArcUpTo c.classes n star 0) es
+      pub class_starts : (es : List Arc) → AreEdgesBelow d N c us S n es → IsCollected d (IsArcUpTo c.classes n star 0) es
       class_starts es = same_given d N.placement (number_at us) (rows_of d S) (IsArcBelow c.classes n) (IsArcUpTo c.classes n star 0) es (star_starts c.classes n star)
 
       -- after an arc whose edge is in another spelling
-      pub class_passes : (es : List Arc) (i : ℕ) (b : ClassArc) (e : Arc) → i < length star → b ≡ get_or star i b → Given d (IsArcUpTo c.classes n star i) es → Gives d b e
-          → ¬ IsNormalSpelling e → Given d (IsArcUpTo c.classes n star (i + 1)) es
+      pub class_passes : (es : List Arc) (i : ℕ) (b : ClassArc) (e : Arc) → i < length star → b ≡ get_or star i b → IsCollected d (IsArcUpTo c.classes n star i) es → IsGiven d b e
+          → ¬ IsNormalSpelling e → IsCollected d (IsArcUpTo c.classes n star (i + 1)) es
       class_passes es i b e l f g h other =
           same_given d N.placement (number_at us) (rows_of d S) (With (IsArcUpTo c.classes n star i) b) (IsArcUpTo c.classes n star (i + 1)) es (star_goes_on c.classes n star i b l f)
           (passed (IsArcUpTo c.classes n star i) es b e g h other)
 
       -- after an arc whose edge is in normal spelling
-      pub class_adds : (es : List Arc) (i : ℕ) (b : ClassArc) (e : Arc) → i < length star → b ≡ get_or star i b → Given d (IsArcUpTo c.classes n star i) es → Gives d b e
-          → IsNormalSpelling e → Given d (IsArcUpTo c.classes n star (i + 1)) (es ++ e ∷ [])
+      pub class_adds : (es : List Arc) (i : ℕ) (b : ClassArc) (e : Arc) → i < length star → b ≡ get_or star i b → IsCollected d (IsArcUpTo c.classes n star i) es → IsGiven d b e
+          → IsNormalSpelling e → IsCollected d (IsArcUpTo c.classes n star (i + 1)) (es ++ e ∷ [])
       class_adds es i b e l f g h normal =
           let later = subst (λ (xs : List ClassArc). i < length xs → b ≡ get_or xs i b → (b' : ClassArc) → IsArcUpTo c.classes n xs i b' → IsBelow (class_arc_numbers b') (class_arc_numbers b)) (sym is)
           (star_rises c.classes n i b (p.rising n k)) in
@@ -68,7 +68,7 @@ module _ (d : ℕ) (N : PlacedNet) (c : NetClasses) (us : List ℕ) (S : Stairs)
           (added (IsArcUpTo c.classes n star i) es b e g h normal (later l f))
 
       -- after the last arc
-      pub class_ends : (es : List Arc) (i : ℕ) → length star ≤ i → Given d (IsArcUpTo c.classes n star i) es → AreEdgesBelow d N c us S (n + 1) es
+      pub class_ends : (es : List Arc) (i : ℕ) → length star ≤ i → IsCollected d (IsArcUpTo c.classes n star i) es → AreEdgesBelow d N c us S (n + 1) es
       class_ends es i l =
           let ends = subst (λ (xs : List ClassArc). length xs ≤ i → (b : ClassArc) → IsArcUpTo c.classes n xs i b ↔ IsArcBelow c.classes (n + 1) b) (sym is) (star_ends c.classes n i) in
           same_given d N.placement (number_at us) (rows_of d S) (IsArcUpTo c.classes n star i) (IsArcBelow c.classes (n + 1)) es (ends l)

@@ -1,10 +1,10 @@
 -- The arcs of the class graph give exactly what the primitive graph has, and in the same order.
-use Rattle.std.proofs.Common.{◌≡◌, ℕ, pos, ℤ, List, ◌∷◌, length, refl, sym, ap, subst, ◌∙◌, inl, inr, ◌⊎◌, arith}
+use Rattle.std.proofs.Common.{◌≡◌, ℕ, pos, List, ◌∷◌, refl, sym, ap, subst, ◌∙◌, inl, inr, ◌⊎◌, arith}
 use Rattle.std.specs.List.{Contains}
 use Rattle.std.specs.Prelude.{◌<ℤ◌}
 use Rattle.std.proofs.lemmas.Int.{ints}
 use Rattle.integers.specs.Staircase.{IsStaircase}
-use Rattle.integers.specs.Vectors.{Vector, zero_vector, plus, minus, parts, HasDimension, IsBelow}
+use Rattle.integers.specs.Vectors.{Vector, zero_vector, plus, minus, parts, IsBelow}
 use Rattle.integers.proofs.vectors.Laws.{minus_back}
 use Rattle.integers.proofs.vectors.StairBasis.{stair_basis, combination_is}
 use Rattle.integers.proofs.vectors.StairCoordinates.{row_sum}

@@ -1,12 +1,12 @@
+pub mod CellFacts
 pub mod ClassEdges
 pub mod CollectedEdges
 pub mod EdgeSteps
 pub mod FirstPlaces
 pub mod GivenEdges
-pub mod MadeParts
+pub mod MadeCells
 pub mod MadePrimitive
 pub mod OnePlacement
 pub mod Orders
-pub mod Parts
 pub mod RisingSums
 pub mod TranslationStairs

@@ -1,7 +1,6 @@
 -- What the edges of all classes make is the primitive graph.
-use Rattle.std.proofs.Common.{◌≡◌, ◌↔◌, ℕ, ◌+◌, ◌<◌, List, sym, subst, arith}
+use Rattle.std.proofs.Common.{◌↔◌, ℕ, ◌+◌, List, sym, subst, arith}
 use Rattle.std.specs.List.{Contains}
-use Rattle.periodic_net.specs.Classes.{ClassArc}
 use Rattle.periodic_net.specs.Graph.{Arc, IsNormalSpelling}
 use Rattle.key_theory.specs.Primitive.{Gives, IsPrimitive}
 use Rattle.cell_theory.specs.Laws.{IsDivided}
@@ -11,12 +10,12 @@ use Rattle.quotient_graph.specs.PlacedNets.{PlacedNet}
 use Rattle.quotient_graph.specs.Stars.{graph_with}
 use Rattle.vecdim.specs.Stairs.{Stairs, rows_of}
 use Rattle.primitive_cell.specs.Given.{IsGivenBy}
-use Rattle.primitive_cell.specs.Parts.{AreParts, AreEdgesBelow}
+use Rattle.primitive_cell.specs.PrimitiveCells.{IsPrimitiveCell, AreEdgesBelow}
 use Rattle.primitive_cell.specs.Places.{number_at}
 use Rattle.primitive_cell.proofs.GivenEdges.{gives_of, given_of}
-use Rattle.primitive_cell.proofs.Parts.{cell_of, tail_in}
+use Rattle.primitive_cell.proofs.CellFacts.{cell_of, tail_in}
 
-module _ (d : ℕ) (N : PlacedNet) (c : NetClasses) (us : List ℕ) (S : Stairs) (p : AreParts d N c us S) (es : List Arc) (g : AreEdgesBelow d N c us S (c.classes.count + 1) es) where
+module _ (d : ℕ) (N : PlacedNet) (c : NetClasses) (us : List ℕ) (S : Stairs) (p : IsPrimitiveCell d N c us S) (es : List Arc) (g : AreEdgesBelow d N c us S (c.classes.count + 1) es) where
   -- the edges are what the primitive graph gives
   edges_are : (e : Arc) → Contains es e ↔ (IsNormalSpelling e × Gives N.graph N.placement (class_at c.numbers) (rows_of d S) e)
   edges_are e = (there, back)

@@ -1,7 +1,7 @@
 -- A connected net has one normal placement, so the classes of a placed net are those of its placement.
-use Rattle.std.proofs.Common.{◌≡◌, ℕ, ◌+◌, ◌-◌, ◌<◌, length, get_or, sym, ap, subst, ◌∙◌, arith}
+use Rattle.std.proofs.Common.{◌≡◌, ℕ, ◌+◌, ◌-◌, get_or, sym, ap, ◌∙◌, arith}
 use Rattle.std.proofs.lemmas.List.{ext_get_or}
-use Rattle.integers.specs.Vectors.{Vector, zero_vector}
+use Rattle.integers.specs.Vectors.{zero_vector}
 use Rattle.periodic_net.specs.Graph.{Graph, IsGraph, IsConnected, IsQuotientVertex}
 use Rattle.periodic_net.specs.Placement.{Placement, base, IsNormalPlacement}
 use Rattle.periodic_net.proofs.CallerLemmas.{normal_placement_is_one}

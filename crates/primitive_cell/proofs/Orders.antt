@@ -6,7 +6,6 @@ use Rattle.std.specs.Cmp.Lexicographic.{slice_cmp}
 use Rattle.std.specs.Ordering.{int_cmp, ordering_then, MatchOrdering}
 use Rattle.std.specs.declared.cmp.Ordering.{Ordering}
 use Rattle.std.specs.declared.cmp.Ordering.TheVariants.{Less, Equal, Greater}
-use Rattle.std.proofs.lemmas.Int.{ints}
 use Rattle.integers.specs.Vectors.{Vector, plus, minus, parts, IsBelow}
 use Rattle.integers.proofs.numbers.Ring.{linear}
 
@@ -45,10 +44,13 @@ Precedes v w = (v.x <ℤ w.x) ⊎ ((v.x ≡ w.x) × ((v.y <ℤ w.y) ⊎ ((v.y �
 pub precedes : (v w : Vector) → IsBelow (parts 3 v) (parts 3 w) → Precedes v w
 precedes v w h = elim (below_ways v.x w.x (v.y ∷ v.z ∷ []) (w.y ∷ w.z ∷ []) h) [
   | inl a ↦ inl a
-  | inr a ↦ inr (a.0, elim (below_ways v.y w.y (v.z ∷ []) (w.z ∷ []) a.1) [
-    | inl b ↦ inl b
-    | inr b ↦ inr (b.0, elim (below_ways v.z w.z [] [] b.1) [ inl c ↦ c | inr c ↦ absurd (none_below c.1) ])
-  ])
+  | inr a ↦ inr (
+    a.0,
+    elim (below_ways v.y w.y (v.z ∷ []) (w.z ∷ []) a.1) [
+      | inl b ↦ inl b
+      | inr b ↦ inr (b.0, elim (below_ways v.z w.z [] [] b.1) [ inl c ↦ c | inr c ↦ absurd (none_below c.1) ])
+    ],
+  )
 ]
 
 -- and the other way

@@ -1,5 +1,5 @@
 -- Sums of the rows of a staircase rise with their coordinates, and the other way.
-use Rattle.std.proofs.Common.{◌≡◌, ◌⊎◌, inl, inr, ℕ, zero, suc, ◌<◌, ℤ, pos, negsuc, ◌+ℤ◌, ◌*ℤ◌, List, [], ◌∷◌, sym, ap, subst, ◌∙◌, arith}
+use Rattle.std.proofs.Common.{◌≡◌, ◌⊎◌, inl, inr, ℕ, zero, suc, ℤ, pos, negsuc, ◌+ℤ◌, ◌*ℤ◌, List, sym, ap, subst, ◌∙◌, arith}
 use Rattle.std.specs.Prelude.{◌<ℤ◌}
 use Rattle.std.proofs.Math.IntN.{*ℤ_comm}
 use Rattle.std.proofs.lemmas.Int.{ints}
@@ -90,10 +90,10 @@ module _ (L : Vector → Type 0) (d : ℕ) (rows : List Vector) (s : IsStaircase
     third_less x y z = elim dim [
       | inl e ↦ absurd (let a = h e in let b = g e in omega (arith, ints, a, b, z))
       | inr e ↦
-        sum_below (k.x *ℤ (row rows 0).z) (l.x *ℤ (row rows 0).z) (k.y *ℤ (row rows 1).z +ℤ k.z *ℤ (row rows 2).z) (l.y *ℤ (row rows 1).z +ℤ l.z *ℤ (row rows 2).z)
-        (ap (λ (t : ℤ). t *ℤ (row rows 0).z) x)
-        (sum_below (k.y *ℤ (row rows 1).z) (l.y *ℤ (row rows 1).z) (k.z *ℤ (row rows 2).z) (l.z *ℤ (row rows 2).z) (ap (λ (t : ℤ). t *ℤ (row rows 1).z) y)
-        (factor_below (row rows 2).z k.z l.z ((s.each 2 (omega arith)).may.leads) z))
+          sum_below (k.x *ℤ (row rows 0).z) (l.x *ℤ (row rows 0).z) (k.y *ℤ (row rows 1).z +ℤ k.z *ℤ (row rows 2).z) (l.y *ℤ (row rows 1).z +ℤ l.z *ℤ (row rows 2).z)
+          (ap (λ (t : ℤ). t *ℤ (row rows 0).z) x)
+          (sum_below (k.y *ℤ (row rows 1).z) (l.y *ℤ (row rows 1).z) (k.z *ℤ (row rows 2).z) (l.z *ℤ (row rows 2).z) (ap (λ (t : ℤ). t *ℤ (row rows 1).z) y)
+          (factor_below (row rows 2).z k.z l.z ((s.each 2 (omega arith)).may.leads) z))
     ]
 
     -- sums of the rows rise with their coordinates

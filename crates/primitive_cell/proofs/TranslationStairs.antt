@@ -16,7 +16,7 @@ use Rattle.cell_theory.proofs.CallerLemmas.{translations_group}
 use Rattle.quotient_graph.specs.PlacedNets.{PlacedNet}
 use Rattle.vecdim.specs.Lattices.{IsWith, AreMultiples, Members}
 use Rattle.vecdim.specs.Stairs.{Stairs, rows_of}
-use Rattle.primitive_cell.specs.Parts.{IsLatticeOf}
+use Rattle.primitive_cell.specs.PrimitiveCells.{IsTranslationLattice}
 use Rattle.vecdim.proofs.CallerLemmas.{with_inside, with_has}
 
 -- a member that may lead, in a set with the same members
@@ -82,7 +82,7 @@ module _ (G : Graph) (p : Placement) (g : IsGraph G) (s : IsStablePlacement G p)
 module _ (N : PlacedNet) (g : IsGraph N.graph) (s : IsStablePlacement N.graph N.placement) (rs : List Vector) (t : AreTranslations N.graph N.placement rs) (S T : Stairs) where
   -- from the multiples of z, in dimension d
   abbrev Made : ℕ → ℤ → Type 0
-  Made d z = AreMultiples d z (Members d S) → IsWith (Members d S) rs (Members d T) → IsStaircase (Members d T) d (rows_of d T) → IsLatticeOf d N T
+  Made d z = AreMultiples d z (Members d S) → IsWith (Members d S) rs (Members d T) → IsStaircase (Members d T) d (rows_of d T) → IsTranslationLattice d N T
 
   -- from those of the denominator, in the dimension of the net
   made : Made N.graph.dimension (pos N.placement.denominator)

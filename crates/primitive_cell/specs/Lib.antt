@@ -1,4 +1,4 @@
+pub mod DividedNets
 pub mod Given
-pub mod Parts
 pub mod Places
-pub mod Primitives
+pub mod PrimitiveCells

@@ -9,7 +9,7 @@ ghost use Rattle.quotient_graph.specs.PlacedNets.{most_position};
 ghost use Rattle.vecdim.specs.Lattices.{Members};
 ghost use Rattle.vecdim.specs.Stairs.{rows_of};
 ghost use Rattle.primitive_cell.specs.Given.{IsGivenBy};
-ghost use Rattle.primitive_cell.specs.Parts.{AreParts, AreEdgesBelow, most_move};
+ghost use Rattle.primitive_cell.specs.PrimitiveCells.{IsPrimitiveCell, AreEdgesBelow, most_move};
 ghost use Rattle.primitive_cell.specs.Places.{number_at, IsPlace};
 
 use crate::{NoMemory, PrimEdge};
@@ -56,9 +56,10 @@ fn edge_of<const D: usize>(
     stairs: &Staircase<D>,
     arc: &ClassArc<D>,
 ) -> PrimEdge<D>
-    requires parts { AreParts D net.now classes.now firsts.now stairs.now }
+    requires cell { IsPrimitiveCell D net.now classes.now firsts.now stairs.now }
     requires arc { Contains classes.now.classes.arcs arc.now }
-    ensures { IsGivenBy D net.now.placement (number_at firsts.now) (rows_of D stairs.now) arc.now result }
+    ensures { IsGivenBy D net.now.placement (number_at firsts.now) (rows_of D stairs.now) arc.now
+        result }
 {
     let _ = classes.net().count();
     let from = position_of(net, firsts, arc.from);
@@ -80,10 +81,12 @@ fn push_edges<const D: usize>(
     stairs: &Staircase<D>,
     class: u32,
 ) -> Result<(), NoMemory>
-    requires parts { AreParts D net.now classes.now firsts.now stairs.now }
+    requires cell { IsPrimitiveCell D net.now classes.now firsts.now stairs.now }
     requires class { IsClass classes.now.classes class }
-    requires below { AreEdgesBelow D net.now classes.now firsts.now stairs.now class edges.old.items }
-    ensures { OnOk result (AreEdgesBelow D net.now classes.now firsts.now stairs.now (class + 1) edges.new.items) }
+    requires below { AreEdgesBelow D net.now classes.now firsts.now stairs.now class
+        edges.old.items }
+    ensures { OnOk result
+        (AreEdgesBelow D net.now classes.now firsts.now stairs.now (class + 1) edges.new.items) }
 {
     for arc in classes.arcs(class) {
         let edge = edge_of(net, classes, firsts, stairs, arc);
@@ -102,9 +105,9 @@ pub fn edges_of<const D: usize>(
     firsts: &[u32],
     stairs: &Staircase<D>,
 ) -> Result<Vec<PrimEdge<D>>, NoMemory>
-    requires { AreParts D net.now classes.now firsts.now stairs.now }
-    ensures { IfOk result (λ es.
-        AreEdgesBelow D net.now classes.now firsts.now stairs.now (classes.now.classes.count + 1) es.items) }
+    requires { IsPrimitiveCell D net.now classes.now firsts.now stairs.now }
+    ensures { IfOk result (λ es. AreEdgesBelow D net.now classes.now firsts.now stairs.now
+        (classes.now.classes.count + 1) es.items) }
 {
     let mut edges = Vec::new(alloc);
     for class in 1..classes.count() + 1 {

@@ -1,6 +1,6 @@
 // The lattice of the translations of a net.
 ghost use Rattle.periodic_net.specs.Classes.{AreTranslations};
-ghost use Rattle.primitive_cell.specs.Parts.{IsLatticeOf};
+ghost use Rattle.primitive_cell.specs.PrimitiveCells.{IsTranslationLattice};
 
 use quotient_graph::Stable;
 use vecdim::{Staircase, Vect};
@@ -8,7 +8,7 @@ use vecdim::{Staircase, Vect};
 /// The lattice of all translations, from those with parts from 0 to D0 - 1.
 pub fn lattice_of<const D: usize>(net: &Stable<D>, translations: &[Vect<D>]) -> Staircase<D>
     requires { AreTranslations net.now.graph net.now.placement translations.now }
-    ensures { IsLatticeOf D net.now result }
+    ensures { IsTranslationLattice D net.now result }
 {
     let placed = net.placed();
     let graph = placed.graph();

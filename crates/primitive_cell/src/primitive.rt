@@ -15,9 +15,9 @@ pub struct Primitive<const D: usize> {
 }
 
 impl<const D: usize> Model for Primitive<D> {
-    ghost use Rattle.primitive_cell.specs.Primitives.{PrimitiveCell, primitive_cell};
+    ghost use Rattle.primitive_cell.specs.DividedNets.{DividedNet, divided_net};
 
-    ghost Value = { PrimitiveCell };
+    ghost Value = { DividedNet };
 
-    ghost view = { λ r. primitive_cell D r.basis.items r.vertices r.edges.items r.class_of.items };
+    ghost view = { λ r. divided_net D r.basis.items r.vertices r.edges.items r.class_of.items };
 }

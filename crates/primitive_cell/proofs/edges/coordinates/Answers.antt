@@ -1,6 +1,6 @@
 use Rattle.std.proofs.Common.{◌*◌, ◌^◌, lit<, lit≤}
 use Rattle.integers.proofs.vectors.Bounds.{wider}
-use Rattle.primitive_cell.specs.Parts.{most_move}
+use Rattle.primitive_cell.specs.PrimitiveCells.{most_move}
 use Rattle.primitive_cell.proofs.edges.coordinates.Goals as goal
 
 pub to_vector-requires : goal.to_vector-requires

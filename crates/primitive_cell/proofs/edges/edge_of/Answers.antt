@@ -1,11 +1,11 @@
-use Rattle.std.proofs.Common.{◌≡◌, ℕ, lit<, sym, ap, subst}
+use Rattle.std.proofs.Common.{lit<, sym, ap, subst}
 use Rattle.integers.specs.Vectors.{IsWithin}
 use Rattle.periodic_net.specs.Classes.{ClassArc}
 use Rattle.periodic_net.specs.Correspondence.{IsClass}
 use Rattle.periodic_net.specs.Limits.{most_coordinate}
 use Rattle.quotient_graph.specs.ClassNets.{IsSmallNet}
 use Rattle.vecdim.specs.Lattices.{Members}
-use Rattle.primitive_cell.proofs.Parts.{place_in, representative_in, tail_in, head_in, move_in, move_reckoned, is_given}
+use Rattle.primitive_cell.proofs.CellFacts.{place_in, representative_in, tail_in, head_in, move_in, move_reckoned, is_given}
 use Rattle.primitive_cell.proofs.edges.edge_of.Goals as goal
 
 pub position_of-from-requires : goal.position_of-from-requires
@@ -13,7 +13,7 @@ position_of-from-requires g c =
     let N = c.args.net.now in
     let K = c.args.classes.now in
     let us = c.args.firsts.now in
-    let p = c.requires.parts in
+    let p = c.requires.cell in
     let k = subst (IsClass K.classes) (sym (ap (λ (b : ClassArc). b.from) c.arc.view_is)) (tail_in g.row.D N K us c.args.stairs.now p c.args.arc.now c.requires.arc) in
     (lit< tt, (lit< tt, (place_in g.row.D N K us c.args.stairs.now p c.arc.inside.from k, representative_in g.row.D N K us c.args.stairs.now p c.arc.inside.from k)))
 
@@ -22,7 +22,7 @@ position_of-to-requires g c =
     let N = c.args.net.now in
     let K = c.args.classes.now in
     let us = c.args.firsts.now in
-    let p = c.requires.parts in
+    let p = c.requires.cell in
     let k = subst (IsClass K.classes) (sym (ap (λ (b : ClassArc). b.to) c.arc.view_is)) (head_in g.row.D N K us c.args.stairs.now p c.args.arc.now c.requires.arc) in
     (lit< tt, (lit< tt, (place_in g.row.D N K us c.args.stairs.now p c.arc.inside.to k, representative_in g.row.D N K us c.args.stairs.now p c.arc.inside.to k)))
 
@@ -39,9 +39,9 @@ coordinates-requires g c =
     let us = c.args.firsts.now in
     let b = c.args.arc.now in
     let v = c.move_between-v.result in
-    let e = move_reckoned g.row.D N K us c.args.stairs.now c.requires.parts b _ c.arc.view_is c.position_of-from.result c.position_of-to.result v
+    let e = move_reckoned g.row.D N K us c.args.stairs.now c.requires.cell b _ c.arc.view_is c.position_of-from.result c.position_of-to.result v
     c.position_of-from.ensures.value c.position_of-to.ensures.value c.move_between-v.ensures.value in
-    let m = subst (Members g.row.D c.args.stairs.now) (sym e) (move_in g.row.D N K us c.args.stairs.now c.requires.parts b c.requires.arc) in
+    let m = subst (Members g.row.D c.args.stairs.now) (sym e) (move_in g.row.D N K us c.args.stairs.now c.requires.cell b c.requires.arc) in
     (lit< tt, (lit< tt, (m, c.move_between-v.ensures.within)))
 
 pub returns : goal.returns
@@ -51,6 +51,6 @@ returns g c =
     let us = c.args.firsts.now in
     let b = c.args.arc.now in
     let v = c.move_between-v.result in
-    let e = move_reckoned g.row.D N K us c.args.stairs.now c.requires.parts b _ c.arc.view_is c.position_of-from.result c.position_of-to.result v
+    let e = move_reckoned g.row.D N K us c.args.stairs.now c.requires.cell b _ c.arc.view_is c.position_of-from.result c.position_of-to.result v
     c.position_of-from.ensures.value c.position_of-to.ensures.value c.move_between-v.ensures.value in
-    is_given g.row.D N K us c.args.stairs.now c.requires.parts b _ c.arc.view_is v c.coordinates.result e c.coordinates.ensures.value c.coordinates.ensures.dimension
+    is_given g.row.D N K us c.args.stairs.now c.requires.cell b _ c.arc.view_is v c.coordinates.result e c.coordinates.ensures.value c.coordinates.ensures.dimension

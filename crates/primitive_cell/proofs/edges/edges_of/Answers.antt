@@ -1,6 +1,5 @@
-use Rattle.std.proofs.Common.{◌≡◌, ℕ, ◌+◌, ◌≤◌, List, sym, subst, arith}
-use Rattle.periodic_net.specs.Graph.{Arc}
-use Rattle.primitive_cell.specs.Parts.{AreEdgesBelow}
+use Rattle.std.proofs.Common.{◌≡◌, ℕ, ◌+◌, sym, subst, arith}
+use Rattle.primitive_cell.specs.PrimitiveCells.{AreEdgesBelow}
 use Rattle.primitive_cell.proofs.EdgeSteps.{before_classes}
 use Rattle.primitive_cell.proofs.edges.edges_of.Goals as goal
 

@@ -1,4 +1,4 @@
-use Rattle.primitive_cell.specs.Parts.{AreEdgesBelow}
+use Rattle.primitive_cell.specs.PrimitiveCells.{AreEdgesBelow}
 use Rattle.primitive_cell.proofs.edges.edges_of.Given as goal
 
 -- the edges of the classes below

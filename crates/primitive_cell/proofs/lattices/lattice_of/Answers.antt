@@ -1,8 +1,7 @@
-use Rattle.std.proofs.Common.{◌≡◌, ℕ, ◌∙◌, pos, List, sym, ap, subst, FitsSigned, to_z, of_z, refl}
+use Rattle.std.proofs.Common.{◌≡◌, ◌∙◌, pos, sym, ap, subst, FitsSigned, to_z, of_z, refl}
 use Rattle.std.specs.Int.{w128}
 use Rattle.std.proofs.lemmas.Int.{to_z-of_z}
 use Rattle.integers.specs.Staircase.{IsStaircase}
-use Rattle.integers.specs.Vectors.{Vector}
 use Rattle.periodic_net.specs.Graph.{Graph, IsGraph, IsConnected}
 use Rattle.periodic_net.specs.Placement.{IsNormalPlacement, IsStablePlacement}
 use Rattle.quotient_graph.specs.PlacedNets.{PlacedNet}

@@ -1,4 +1,4 @@
--- What is known of the parts of a primitive graph.
+-- What is known of a primitive cell.
 use Rattle.std.proofs.Common.{◌≡◌, ℕ, ◌≤◌, List, sym, ap, subst, ◌∙◌}
 use Rattle.std.specs.List.{Contains}
 use Rattle.integers.specs.Staircase.{IsStaircase}
@@ -13,12 +13,12 @@ use Rattle.quotient_graph.specs.PlacedNets.{PlacedNet}
 use Rattle.vecdim.specs.Lattices.{Members}
 use Rattle.vecdim.specs.Stairs.{Stairs, rows_of}
 use Rattle.primitive_cell.specs.Given.{move_of, IsGivenBy}
-use Rattle.primitive_cell.specs.Parts.{AreParts}
+use Rattle.primitive_cell.specs.PrimitiveCells.{IsPrimitiveCell}
 use Rattle.primitive_cell.specs.Places.{number_at, IsPlace}
 use Rattle.primitive_cell.proofs.GivenEdges.{IsCell, move_translates}
 
-module _ (d : ℕ) (N : PlacedNet) (c : NetClasses) (us : List ℕ) (S : Stairs) (p : AreParts d N c us S) where
-  -- they are a cell
+module _ (d : ℕ) (N : PlacedNet) (c : NetClasses) (us : List ℕ) (S : Stairs) (p : IsPrimitiveCell d N c us S) where
+  -- it is a cell of the net
   pub cell_of : IsCell N.graph N.placement (class_at c.numbers) c.classes (number_at us) (rows_of d S)
   cell_of = record {
     graph = p.graph;

@@ -1,8 +1,8 @@
--- The parts of a primitive graph, from the classes in memory.
-use Rattle.std.proofs.Common.{◌≡◌, ℕ, ◌≤◌, List, length, sym, ap, subst, ◌∙◌, arith}
+-- The primitive cell, from the classes in memory.
+use Rattle.std.proofs.Common.{◌≡◌, ℕ, ◌≤◌, List, length, sym, subst, arith}
 use Rattle.std.proofs.Math.Decide.{dec_le}
 use Prim.{Dec, yes, no}
-use Rattle.periodic_net.specs.Classes.{IsClassGraph, IsClassNumbering, AreTranslations, ClassGraph}
+use Rattle.periodic_net.specs.Classes.{IsClassGraph, AreTranslations, ClassGraph}
 use Rattle.periodic_net.specs.Correspondence.{IsClass}
 use Rattle.periodic_net.specs.Graph.{Graph, IsGraph, IsConnected, IsQuotientVertex}
 use Rattle.periodic_net.specs.Placement.{Placement, IsNormalPlacement, IsStablePlacement, HasNoCollision}
@@ -11,7 +11,7 @@ use Rattle.key_theory.specs.Primitive.{IsLeastMember}
 use Rattle.quotient_graph.specs.NetClasses.{NetClasses, AreClasses, class_at}
 use Rattle.quotient_graph.specs.PlacedNets.{PlacedNet}
 use Rattle.vecdim.specs.Stairs.{Stairs}
-use Rattle.primitive_cell.specs.Parts.{IsLatticeOf, AreParts}
+use Rattle.primitive_cell.specs.PrimitiveCells.{IsTranslationLattice, IsPrimitiveCell}
 use Rattle.primitive_cell.specs.Places.{number_at, IsPlace, AreInOrder, AreFirstPlaces}
 use Rattle.primitive_cell.proofs.OnePlacement.{one_placement}
 
@@ -93,9 +93,9 @@ module _ (G : Graph) (p : Placement) (ns : List ℕ) (K : ClassGraph) (count : l
         let r = f.each c (i.0, let b = i.1 in omega (arith, b, as_many)) in
         record { is_vertex = vertex_of (number_at us c) r.place; member = r.number; least = λ v j e. r.least v (place_of v j) e }
 
--- so the parts are made
-pub parts_made : (d : ℕ) (N : PlacedNet) (c : NetClasses) (us : List ℕ) (S : Stairs) → IsKnown N c → AreFirstPlaces c.numbers us → IsLatticeOf d N S → AreParts d N c us S
-parts_made d N c us S k f l = record {
+-- so the primitive cell is made
+pub cell_made : (d : ℕ) (N : PlacedNet) (c : NetClasses) (us : List ℕ) (S : Stairs) → IsKnown N c → AreFirstPlaces c.numbers us → IsTranslationLattice d N S → IsPrimitiveCell d N c us S
+cell_made d N c us S k f l = record {
   graph = k.graph;
   stable = k.stable;
   classes = k.at.is_classes;

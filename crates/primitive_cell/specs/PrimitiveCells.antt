@@ -1,4 +1,4 @@
--- What a primitive graph is made of: the classes of a placed net, their representatives, and the lattice of its translations.
+-- Primitive cells: the classes of a placed net, their representatives, and the lattice of its translations.
 use Rattle.std.specs.Prelude.{◌≡◌, ◌↔◌, ℕ, ◌+◌, ◌<◌, List, length, Contains}
 use Rattle.integers.specs.Staircase.{IsStaircase}
 use Rattle.integers.specs.Vectors.{Vector}
@@ -17,20 +17,20 @@ use Rattle.primitive_cell.specs.Given.{AreGivenEdges}
 use Rattle.primitive_cell.specs.Places.{number_at}
 
 -- the members of the staircase are the translations of the net, and its rows are their staircase basis
-pub record IsLatticeOf (d : ℕ) (N : PlacedNet) (S : Stairs) : Type 0 where
+pub record IsTranslationLattice (d : ℕ) (N : PlacedNet) (S : Stairs) : Type 0 where
   pub dimension : N.graph.dimension ≡ d
   pub members : (v : Vector) → Members d S v ↔ IsTranslation N.graph N.placement v
   pub basis : IsStaircase (IsTranslation N.graph N.placement) d (rows_of d S)
 
 -- c has the classes of the net, us their representatives, and S the translations
-pub record AreParts (d : ℕ) (N : PlacedNet) (c : NetClasses) (us : List ℕ) (S : Stairs) : Type 0 where
+pub record IsPrimitiveCell (d : ℕ) (N : PlacedNet) (c : NetClasses) (us : List ℕ) (S : Stairs) : Type 0 where
   pub graph : IsGraph N.graph
   pub stable : IsStablePlacement N.graph N.placement
   pub classes : IsClassGraph N.graph N.placement (class_at c.numbers) c.classes
   pub rising : (k : ℕ) → IsClass c.classes k → ClassArcsRise (arcs_of c.classes k)
   pub count : length us ≡ c.classes.count
   pub representatives : (k : ℕ) → IsClass c.classes k → IsLeastMember N.graph (class_at c.numbers) k (number_at us k)
-  pub lattice : IsLatticeOf d N S
+  pub lattice : IsTranslationLattice d N S
 
 -- b is an arc from a class below n
 abbrev pub IsArcBelow : ClassGraph → ℕ → ClassArc → Type 0
