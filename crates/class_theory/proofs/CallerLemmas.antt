@@ -1,6 +1,6 @@
 -- The lemmas of this crate that other crates cite.
 pub use Rattle.class_theory.proofs.BoxedTranslations.{leads_to, led_from}
-pub use Rattle.class_theory.proofs.ClassArcs.{few_class_arcs, shown_from, star_is_filter, stars_are_class_graph}
+pub use Rattle.class_theory.proofs.ClassArcs.{few_class_arcs, shown_from, stars_are_class_graph, stars_told}
 pub use Rattle.class_theory.proofs.ClassesSee.{holds_next, lead_inside}
 pub use Rattle.class_theory.proofs.Coarsest.{cells_are_classes}
 pub use Rattle.class_theory.proofs.Collisions.{collided, collides, no_collision_from}
