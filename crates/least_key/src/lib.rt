@@ -1,8 +1,14 @@
 //! The path from a graph to its key, and why a graph is refused on it.
 #![tactic(auto)]
 
+mod keying;
+mod keys;
+mod net;
 mod path;
 mod refusal;
 
+pub use keying::{identify, identify_graph, settle_graph};
+pub use keys::keys_of;
+pub use net::{Net, NetOf};
 pub use path::{AnyPlaced, check_any, connect_graph, place_any, place_graph};
 pub use refusal::Refusal;

@@ -3,7 +3,8 @@ ghost use Rattle.std.specs.Prelude.{◌≡◌, IfOk, IfErr, OnOk};
 ghost use Rattle.periodic_net.specs.Graph.{IsConnected};
 ghost use Rattle.quotient_graph.specs.AnyGraphs.{graph_in};
 ghost use Rattle.least_key.specs.AnyPlacements.{placed_in};
-ghost use Rattle.least_key.specs.Truths.{IsTrueOf, IsOfConnecting, IsPlacedAs};
+ghost use Rattle.least_key.specs.Placings.{IsPlacedAs};
+ghost use Rattle.least_key.specs.Truths.{IsTrueOf, IsOfConnecting, IsOfPlacing};
 
 use crate::Refusal;
 use barycentre::place;
@@ -36,6 +37,7 @@ pub fn connect_graph<const D: usize>(
 pub fn place_graph<const D: usize>(alloc: Global, graph: Graph<D>) -> Result<Placed<D>, Refusal>
     ensures placed { IfOk result (IsPlacedAs graph.entry) }
     ensures refused { IfErr result (IsTrueOf graph.entry) }
+    ensures early { IfErr result IsOfPlacing }
 {
     let net = connect_graph(alloc, graph)?;
     let placed = place(alloc, net)?;
@@ -67,6 +69,7 @@ pub fn check_any(alloc: Global, graph: AnyGraph) -> Result<(), Refusal>
 pub fn place_any(alloc: Global, graph: AnyGraph) -> Result<AnyPlaced, Refusal>
     ensures placed { IfOk result (λ p. IsPlacedAs (graph_in graph) (placed_in p)) }
     ensures refused { IfErr result (IsTrueOf (graph_in graph)) }
+    ensures early { IfErr result IsOfPlacing }
 {
     match graph {
         AnyGraph::Flat(graph) => place_graph(alloc, graph).map(AnyPlaced::Flat),

@@ -3,7 +3,10 @@ ghost use Rattle.std.specs.Prelude.{◌≡◌};
 
 use barycentre::{PlaceFault, WidePlacement};
 use connected_dim::Unconnected;
+use edge_frames::KeyWork;
 use quotient_graph::Split;
+use std::alloc::AllocError;
+use vecdim::Triple;
 
 /// Why a graph is refused, by the first that applies. The numbers are those of the report.
 #[derive(Drop)]
@@ -17,6 +20,11 @@ pub enum Refusal {
     NoModulus { first: u32, second: u32, third: u32 },
     /// 4: a number of the normal placement passes its limit.
     WidePlacement(WidePlacement),
+    /// 5: vertex `u` in cell 0 and vertex `v` in cell `t`, which has `dim` parts, stand in one place.
+    Collision { dim: u8, u: u32, v: u32, t: Triple },
+    /// 6: the frames of the starts up to `starts_done`, and some of the next start, times the arcs of the
+    /// class graph come to `counted`, which is past the limit.
+    TooMuch { starts_done: u32, counted: u64 },
     /// Memory was refused. It has no number.
     NoMemory,
 }
@@ -54,5 +62,34 @@ impl From<PlaceFault> for Refusal {
             PlaceFault::WidePlacement(wide) => Refusal::WidePlacement(wide),
             PlaceFault::NoMemory => Refusal::NoMemory,
         }
+    }
+}
+
+impl From<KeyWork> for Refusal {
+    ghost use Rattle.least_key.specs.Causes.{work_refusal};
+
+    ghost from_gives = { λ fault refusal. refusal ≡ work_refusal fault };
+
+    fn from(fault: KeyWork) -> Refusal {
+        match fault {
+            KeyWork::TooMuch {
+                starts_done,
+                counted,
+            } => Refusal::TooMuch {
+                starts_done,
+                counted,
+            },
+            KeyWork::NoMemory => Refusal::NoMemory,
+        }
+    }
+}
+
+impl From<AllocError> for Refusal {
+    ghost use Rattle.least_key.specs.Causes.{no_memory};
+
+    ghost from_gives = { λ fault refusal. refusal ≡ no_memory };
+
+    fn from(_fault: AllocError) -> Refusal {
+        Refusal::NoMemory
     }
 }

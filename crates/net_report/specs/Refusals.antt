@@ -1,13 +1,13 @@
 -- The line of a refusal, with its vertices by their names.
 use Rattle.std.specs.Prelude.{ℕ, ℤ, List, [], ◌++◌, codes}
 use Rattle.std.specs.Fmt.{decimal, signed_decimal}
-use Rattle.integers.specs.Vectors.{parts}
+use Rattle.integers.specs.Vectors.{Vector, parts}
 use Rattle.quotient_graph.specs.declared.split.Split.{Split}
 use Rattle.elimination.specs.declared.place.Place.{Place}
 use Rattle.barycentre.specs.declared.faults.WideSite.{WideSite}
 use Rattle.barycentre.specs.declared.faults.WideSite.TheVariants.{Denominator, ArcPart, Beyond}
 use Rattle.least_key.specs.declared.refusal.Refusal.{Refusal}
-use Rattle.least_key.specs.declared.refusal.Refusal.TheVariants.{Disconnected, Degenerate, NoModulus, WidePlacement, NoMemory}
+use Rattle.least_key.specs.declared.refusal.Refusal.TheVariants.{Disconnected, Degenerate, NoModulus, WidePlacement, Collision, TooMuch, NoMemory}
 use Rattle.net_report.specs.Numbers.{list_text, IsNamed, vertex_text}
 
 unfoldable pub disconnected_word : List ℕ
@@ -21,6 +21,12 @@ no_modulus_word = codes "refused 7 NoModulus"
 
 unfoldable pub wide_placement_word : List ℕ
 wide_placement_word = codes "refused 4 WidePlacement"
+
+unfoldable pub collision_word : List ℕ
+collision_word = codes "refused 5 Collision"
+
+unfoldable pub too_much_word : List ℕ
+too_much_word = codes "refused 6 TooMuch"
 
 -- a colouring: its modulus, its vector, and an entry for each vertex
 abbrev pub split_text : Split → List ℕ
@@ -52,12 +58,22 @@ value_text (Denominator u c) value = codes " value=" ++ signed_decimal value
 value_text (ArcPart u v s c) value = codes " value=" ++ signed_decimal value
 value_text (Beyond at) value = []
 
+-- two vertices in one place: u in cell 0, and v in cell t, which has dim parts
+abbrev pub collision_text : List (List ℕ) → ℕ → ℕ → ℕ → Vector → List ℕ
+collision_text names dim u v t = codes " u=" ++ vertex_text names u ++ codes " v=" ++ vertex_text names v ++ codes " t=" ++ list_text (parts dim t)
+
+-- the starts that were counted whole, and the count
+abbrev pub work_text : ℕ → ℕ → List ℕ
+work_text done counted = field_text (codes " starts=") done ++ codes " counted=" ++ decimal counted
+
 -- a refusal; want of memory has no text
 abbrev pub refusal_text : List (List ℕ) → Refusal → List ℕ
 refusal_text names (Disconnected split) = disconnected_word ++ split_text split
 refusal_text names (Degenerate split) = degenerate_word ++ split_text split
 refusal_text names (NoModulus first second third) = no_modulus_word ++ pivots_text first second third
 refusal_text names (WidePlacement w) = wide_placement_word ++ site_text names w.dim w.site ++ value_text w.site w.value
+refusal_text names (Collision dim u v t) = collision_word ++ collision_text names dim u v t
+refusal_text names (TooMuch done counted) = too_much_word ++ work_text done counted
 refusal_text names NoMemory = []
 
 -- the line of a refusal
@@ -76,4 +92,6 @@ HasLine names (Disconnected split) = Unit {0}
 HasLine names (Degenerate split) = Unit {0}
 HasLine names (NoModulus first second third) = Unit {0}
 HasLine names (WidePlacement w) = AreNamed names w.site
+HasLine names (Collision dim u v t) = IsNamed names u × IsNamed names v
+HasLine names (TooMuch done counted) = Unit {0}
 HasLine names NoMemory = ⊥

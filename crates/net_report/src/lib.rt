@@ -2,10 +2,12 @@
 #![tactic(auto)]
 
 mod headers;
+mod keys;
 mod numbers;
 mod outcome;
 mod outcomes;
 mod placements;
+mod primitives;
 mod refused;
 mod texts;
 

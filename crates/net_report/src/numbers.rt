@@ -48,6 +48,31 @@ pub fn push_list(text: &mut Vec<u8>, numbers: &[i64]) -> Result<(), NoMemory>
     }
 }
 
+// The wide numbers, each after a blank.
+fn push_wide_after(text: &mut Vec<u8>, numbers: &[i128]) -> Result<(), NoMemory>
+    ensures { OnOk result (text.new.items ≡ text.old.items ++ numbers_after numbers.now) }
+{
+    let mut left = numbers;
+    while let [x, others @ ..] = left {
+        push_after(text, *x)?;
+        left = others;
+    }
+    Ok(())
+}
+
+/// Numbers with blanks between them.
+pub fn push_wide_list(text: &mut Vec<u8>, numbers: &[i128]) -> Result<(), NoMemory>
+    ensures { OnOk result (text.new.items ≡ text.old.items ++ list_text numbers.now) }
+{
+    match numbers {
+        [] => Ok(()),
+        [x, others @ ..] => {
+            push_signed(text, *x)?;
+            push_wide_after(text, others)
+        }
+    }
+}
+
 fn push_after(text: &mut Vec<u8>, n: i128) -> Result<(), NoMemory>
     ensures { OnOk result (text.new.items ≡ text.old.items ++ numbers_after (n ∷ [])) }
 {

@@ -1,6 +1,6 @@
 // What becomes of a block.
 use cgd_read::{BlockFault, Names};
-use least_key::{AnyPlaced, Refusal};
+use least_key::{AnyPlaced, Net, Refusal};
 
 /// The sizes of a graph that was read; `repeats` counts the rows of an edge after its first.
 #[derive(Clone, Copy, Debug, PartialEq, Eq)]
@@ -24,6 +24,8 @@ pub enum OutcomeBody<'a> {
     Checked(Size),
     /// The net is connected and placed.
     Located(Size, Names<'a>, AnyPlaced),
+    /// The net has a key.
+    Keyed(Size, Net),
 }
 
 /// What is told of a block: its number, the line that opens it, and its name.

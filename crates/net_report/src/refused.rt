@@ -1,6 +1,7 @@
 // The line of a refusal.
 ghost use Rattle.std.specs.Prelude.{◌≡◌, ◌++◌, IfOk, OnOk};
-ghost use Rattle.net_report.specs.Refusals.{disconnected_word, degenerate_word, no_modulus_word, wide_placement_word, split_text, field_text, place_text, pivots_text, site_text, value_text, refusal_text, refused_text, AreNamed, HasLine};
+ghost use Rattle.net_report.specs.Numbers.{IsNamed};
+ghost use Rattle.net_report.specs.Refusals.{collision_text, collision_word, disconnected_word, degenerate_word, no_modulus_word, too_much_word, wide_placement_word, work_text, split_text, field_text, place_text, pivots_text, site_text, value_text, refusal_text, refused_text, AreNamed, HasLine};
 
 use crate::NoMemory;
 use crate::numbers::{push_list, push_number, push_parts, push_signed, push_vertex};
@@ -10,6 +11,7 @@ use elimination::Place;
 use least_key::Refusal;
 use quotient_graph::Split;
 use std::alloc::Global;
+use vecdim::Triple;
 
 #[tactic(auto, unfolding(crate::specs::Refusals::disconnected_word))]
 fn push_disconnected(text: &mut Vec<u8>) -> Result<(), NoMemory>
@@ -37,6 +39,20 @@ fn push_wide_placement(text: &mut Vec<u8>) -> Result<(), NoMemory>
     ensures { OnOk result (text.new.items ≡ text.old.items ++ wide_placement_word) }
 {
     text.extend_from_slice(b"refused 4 WidePlacement")
+}
+
+#[tactic(auto, unfolding(crate::specs::Refusals::collision_word))]
+fn push_collision_word(text: &mut Vec<u8>) -> Result<(), NoMemory>
+    ensures { OnOk result (text.new.items ≡ text.old.items ++ collision_word) }
+{
+    text.extend_from_slice(b"refused 5 Collision")
+}
+
+#[tactic(auto, unfolding(crate::specs::Refusals::too_much_word))]
+fn push_too_much_word(text: &mut Vec<u8>) -> Result<(), NoMemory>
+    ensures { OnOk result (text.new.items ≡ text.old.items ++ too_much_word) }
+{
+    text.extend_from_slice(b"refused 6 TooMuch")
 }
 
 fn push_split(text: &mut Vec<u8>, split: &Split) -> Result<(), NoMemory>
@@ -120,6 +136,35 @@ fn push_value(text: &mut Vec<u8>, site: &WideSite, value: i128) -> Result<(), No
     }
 }
 
+fn push_collision(
+    text: &mut Vec<u8>,
+    names: &Names<'_>,
+    dim: u8,
+    u: u32,
+    v: u32,
+    t: &Triple,
+) -> Result<(), NoMemory>
+    requires u { IsNamed names.now u }
+    requires v { IsNamed names.now v }
+    ensures { OnOk result (text.new.items ≡
+        text.old.items ++ collision_text names.now dim u v t.now) }
+{
+    text.extend_from_slice(b" u=")?;
+    push_vertex(text, names, u)?;
+    text.extend_from_slice(b" v=")?;
+    push_vertex(text, names, v)?;
+    text.extend_from_slice(b" t=")?;
+    push_parts(text, dim, t)
+}
+
+fn push_work(text: &mut Vec<u8>, starts_done: u32, counted: u64) -> Result<(), NoMemory>
+    ensures { OnOk result (text.new.items ≡ text.old.items ++ work_text starts_done counted) }
+{
+    push_field(text, b" starts=", starts_done)?;
+    text.extend_from_slice(b" counted=")?;
+    push_number(text, counted)
+}
+
 fn push_refusal(text: &mut Vec<u8>, names: &Names<'_>, refusal: &Refusal) -> Result<(), NoMemory>
     requires { HasLine names.now refusal.now }
     ensures { OnOk result (text.new.items ≡ text.old.items ++ refusal_text names.now refusal.now) }
@@ -145,6 +190,17 @@ fn push_refusal(text: &mut Vec<u8>, names: &Names<'_>, refusal: &Refusal) -> Res
             push_wide_placement(text)?;
             push_site(text, names, wide.dim, &wide.site)?;
             push_value(text, &wide.site, wide.value)
+        }
+        Refusal::Collision { dim, u, v, t } => {
+            push_collision_word(text)?;
+            push_collision(text, names, *dim, *u, *v, t)
+        }
+        Refusal::TooMuch {
+            starts_done,
+            counted,
+        } => {
+            push_too_much_word(text)?;
+            push_work(text, *starts_done, *counted)
         }
         Refusal::NoMemory => Ok(()),
     }

@@ -3,6 +3,7 @@ ghost use Rattle.std.specs.Prelude.{◌≡◌, ◌++◌, All, IfOk, OnOk};
 ghost use Rattle.net_report.specs.Reports.{body_text, outcome_text, report_text, IsPrintableBody, IsPrintable};
 
 use crate::headers::{push_fault, push_header, push_size, push_unsupported};
+use crate::keys::push_key;
 use crate::placements::push_placement;
 use crate::refused::push_refused;
 use crate::{NoMemory, Outcome, OutcomeBody, Outcomes};
@@ -26,6 +27,10 @@ fn push_body(text: &mut Vec<u8>, body: &OutcomeBody<'_>) -> Result<(), NoMemory>
         OutcomeBody::Located(size, names, placed) => {
             push_size(text, *size)?;
             push_placement(text, names, placed)
+        }
+        OutcomeBody::Keyed(size, net) => {
+            push_size(text, *size)?;
+            push_key(text, net.key())
         }
     }
 }

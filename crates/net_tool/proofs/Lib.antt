@@ -2,3 +2,4 @@ mod Reordered
 mod NetOutcomes
 mod Printing
 mod Listing
+mod KeysDecideNets

@@ -5,14 +5,14 @@ use Rattle.periodic_net.specs.Graph.{Graph}
 use Rattle.cgd_read.specs.Graphs.{graph_of}
 use Rattle.cgd_read.specs.Views.{RawView, Net}
 use Rattle.quotient_graph.specs.Stars.{IsInOrder}
-use Rattle.least_key.specs.Truths.{IsTrueOf, IsOfConnecting}
+use Rattle.least_key.specs.Truths.{IsTrueOf, IsOfConnecting, IsOfPlacing}
 use Rattle.least_key.specs.declared.refusal.Refusal.{Refusal}
-use Rattle.least_key.specs.declared.refusal.Refusal.TheVariants.{Disconnected, Degenerate, NoModulus, WidePlacement, NoMemory}
+use Rattle.least_key.specs.declared.refusal.Refusal.TheVariants.{Disconnected, Degenerate, NoModulus, WidePlacement, Collision, TooMuch, NoMemory}
 use Rattle.net_report.specs.declared.outcome.OutcomeBody.{OutcomeBody}
 use Rattle.net_report.specs.declared.outcome.OutcomeBody.TheVariants.{Refused}
 use Rattle.net_tool.specs.Outcomes.{size_of, MayTell, IsBodyOf}
 use Rattle.command_words.specs.declared.tasks.Command.{Command}
-use Rattle.command_words.specs.declared.tasks.Command.TheVariants.{Check, Place}
+use Rattle.command_words.specs.declared.tasks.Command.TheVariants.{Check, Place, Key}
 
 -- a test for connectedness may tell its refusals
 pub check_may : (refusal : Refusal) → IsOfConnecting refusal → refusal ≢ NoMemory → MayTell Check refusal
@@ -20,15 +20,29 @@ check_may (Disconnected split) h n = h
 check_may (Degenerate split) h n = h
 check_may (NoModulus first second third) h n = h
 check_may (WidePlacement w) h n = h
+check_may (Collision dim u v t) h n = h
+check_may (TooMuch done counted) h n = h
 check_may NoMemory h n = n refl
 
--- a placing may tell all
-pub place_may : (refusal : Refusal) → refusal ≢ NoMemory → MayTell Place refusal
-place_may (Disconnected split) n = tt
-place_may (Degenerate split) n = tt
-place_may (NoModulus first second third) n = tt
-place_may (WidePlacement w) n = tt
-place_may NoMemory n = n refl
+-- so may a placing
+pub place_may : (refusal : Refusal) → IsOfPlacing refusal → refusal ≢ NoMemory → MayTell Place refusal
+place_may (Disconnected split) h n = h
+place_may (Degenerate split) h n = h
+place_may (NoModulus first second third) h n = h
+place_may (WidePlacement w) h n = h
+place_may (Collision dim u v t) h n = h
+place_may (TooMuch done counted) h n = h
+place_may NoMemory h n = n refl
+
+-- and the search for a key may tell all
+pub key_may : (refusal : Refusal) → refusal ≢ NoMemory → MayTell Key refusal
+key_may (Disconnected split) n = tt
+key_may (Degenerate split) n = tt
+key_may (NoModulus first second third) n = tt
+key_may (WidePlacement w) n = tt
+key_may (Collision dim u v t) n = tt
+key_may (TooMuch done counted) n = tt
+key_may NoMemory n = n refl
 
 -- the body that was made of a refusal is one that the command tells
 pub refused_as : {E : Type 0} (command : Command) (raw : RawView) (G : Graph) (refusal : Refusal) (r : Result OutcomeBody E)

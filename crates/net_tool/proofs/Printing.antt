@@ -16,16 +16,16 @@ use Rattle.barycentre.specs.declared.faults.WidePlacement.{WidePlacement}
 use Rattle.barycentre.specs.declared.faults.WideSite.{WideSite}
 use Rattle.barycentre.specs.declared.faults.WideSite.TheVariants.{Denominator, ArcPart, Beyond}
 use Rattle.least_key.specs.declared.refusal.Refusal.{Refusal}
-use Rattle.least_key.specs.declared.refusal.Refusal.TheVariants.{Disconnected, Degenerate, NoModulus, WidePlacement as WideAt, NoMemory}
+use Rattle.least_key.specs.declared.refusal.Refusal.TheVariants.{Disconnected, Degenerate, NoModulus, WidePlacement as WideAt, Collision, TooMuch, NoMemory}
 use Rattle.net_report.specs.Numbers.{IsNamed}
 use Rattle.net_report.specs.Refusals.{AreNamed, HasLine}
 use Rattle.net_report.specs.Reports.{IsPrintableBody}
 use Rattle.net_report.specs.declared.outcome.OutcomeBody.{OutcomeBody}
-use Rattle.net_report.specs.declared.outcome.OutcomeBody.TheVariants.{Unsupported, Malformed, Refused, Checked, Located}
+use Rattle.net_report.specs.declared.outcome.OutcomeBody.TheVariants.{Unsupported, Malformed, Refused, Checked, Located, Keyed}
 use Rattle.least_key.specs.Truths.{IsTrueOf}
 use Rattle.net_tool.specs.Outcomes.{MayTell, IsBodyOf}
 use Rattle.command_words.specs.declared.tasks.Command.{Command}
-use Rattle.command_words.specs.declared.tasks.Command.TheVariants.{Check, Place}
+use Rattle.command_words.specs.declared.tasks.Command.TheVariants.{Check, Place, Key}
 use Rattle.net_tool.proofs.Reordered.{same_arc}
 
 -- a vertex of the graph in order has a name
@@ -54,6 +54,10 @@ refusal_line command raw H (Disconnected split) g o m h = tt
 refusal_line command raw H (Degenerate split) g o m h = tt
 refusal_line command raw H (NoModulus first second third) g o m h = tt
 refusal_line command raw H (WideAt w) g o m h = named_wide raw H w w.site refl g o h.1
+refusal_line command raw H (Collision dim u v t) g o m h =
+    let c = h.first.collision in
+    (named_vertex raw H u o c.here, named_vertex raw H v o c.there.over)
+refusal_line command raw H (TooMuch done counted) g o m h = tt
 refusal_line command raw H NoMemory g o m h = m
 
 -- what a command tells of a net can be printed
@@ -63,7 +67,9 @@ told_of_net command raw (Malformed fault) g h = tt
 told_of_net command raw (Checked size) g h = tt
 told_of_net command raw (Refused size names refusal) g h =
     subst (λ ns. HasLine ns refusal) (sym h.names_are) (refusal_line command raw h.graph refusal g h.read.in_order h.may h.is_true)
+told_of_net command raw (Keyed size net) g h = tt
 told_of_net Check raw (Located size names placed) g h = absurd h
+told_of_net Key raw (Located size names placed) g h = absurd h
 told_of_net Place raw (Located size names placed) g h = ap length h.names_are ∙ sym (ap (λ (G : Graph). G.vertices) h.placed_as.graph ∙ h.read.in_order.vertices)
 
 -- and so can what it tells of any block
@@ -73,11 +79,15 @@ told_of_block command (read.Unsupported token) (Unsupported text) g h = tt
 told_of_block command (read.Unsupported token) (Malformed fault) g h = tt
 told_of_block command (read.Unsupported token) (Checked size) g h = tt
 told_of_block command (read.Unsupported token) (Refused size names refusal) g h = absurd h
+told_of_block command (read.Unsupported token) (Keyed size net) g h = tt
 told_of_block Check (read.Unsupported token) (Located size names placed) g h = absurd h
+told_of_block Key (read.Unsupported token) (Located size names placed) g h = absurd h
 told_of_block Place (read.Unsupported token) (Located size names placed) g h = absurd h
 told_of_block command (read.Malformed fault) (Unsupported text) g h = tt
 told_of_block command (read.Malformed fault) (Malformed told) g h = tt
 told_of_block command (read.Malformed fault) (Checked size) g h = tt
 told_of_block command (read.Malformed fault) (Refused size names refusal) g h = absurd h
+told_of_block command (read.Malformed fault) (Keyed size net) g h = tt
 told_of_block Check (read.Malformed fault) (Located size names placed) g h = absurd h
+told_of_block Key (read.Malformed fault) (Located size names placed) g h = absurd h
 told_of_block Place (read.Malformed fault) (Located size names placed) g h = absurd h

@@ -1,7 +1,8 @@
 -- What becomes of each block under a command, and the report.
-use Rattle.std.specs.Prelude.{◌≡◌, ◌≤◌, ℕ, ◌+◌, Bool, true, false, List, [], ◌∷◌, length, option_copied}
+use Rattle.std.specs.Prelude.{◌≡◌, ◌↔◌, ◌≤◌, ◌<◌, ℕ, ◌+◌, ℤ, Bool, true, false, List, [], ◌∷◌, length, slice_index_or, option_copied}
 use Rattle.std.specs.List.{list_all}
 use Rattle.periodic_net.specs.Graph.{Graph, IsConnected}
+use Rattle.periodic_net.specs.Maps.{Iso}
 use Rattle.cgd_read.specs.Graphs.{graph_of}
 use Rattle.cgd_read.specs.Views.{RawView, BodyView, Net, Other, Faulty, BlockView}
 use Rattle.cgd_read.specs.Blocks.{blocks_of}
@@ -10,14 +11,18 @@ use Rattle.net_report.specs.Reports.{report_text}
 use Rattle.net_report.specs.declared.outcome.Size.{Size}
 use Rattle.net_report.specs.declared.outcome.Outcome.{Outcome}
 use Rattle.net_report.specs.declared.outcome.OutcomeBody.{OutcomeBody}
-use Rattle.net_report.specs.declared.outcome.OutcomeBody.TheVariants.{Unsupported, Malformed, Refused, Checked, Located}
+use Rattle.net_report.specs.declared.outcome.OutcomeBody.TheVariants.{Unsupported, Malformed, Refused, Checked, Located, Keyed}
 use Rattle.least_key.specs.AnyPlacements.{placed_in}
-use Rattle.least_key.specs.Truths.{IsTrueOf, IsOfConnecting, IsPlacedAs}
+use Rattle.least_key.specs.AnyNets.{net_in}
+use Rattle.least_key.specs.KeyedNets.{IsKeyed}
+use Rattle.least_key.specs.Placings.{IsPlacedAs}
+use Rattle.least_key.specs.Truths.{IsTrueOf, IsOfConnecting, IsOfPlacing}
+use Rattle.least_key.specs.declared.net.Net.{Net as KeyedNet}
 use Rattle.least_key.specs.declared.path.AnyPlaced.{AnyPlaced}
 use Rattle.least_key.specs.declared.refusal.Refusal.{Refusal}
 use Rattle.least_key.specs.declared.refusal.Refusal.TheVariants.{NoMemory}
 use Rattle.command_words.specs.declared.tasks.Command.{Command}
-use Rattle.command_words.specs.declared.tasks.Command.TheVariants.{Check, Place}
+use Rattle.command_words.specs.declared.tasks.Command.TheVariants.{Check, Place, Key}
 
 -- its sizes
 abbrev pub size_of : RawView → Size
@@ -27,7 +32,8 @@ size_of raw = record { dim = raw.dim; vertices = length raw.names; edges = lengt
 abbrev pub MayTell : Command → Refusal → Type 0
 MayTell command NoMemory = ⊥
 MayTell Check refusal = IsOfConnecting refusal
-MayTell Place refusal = Unit {0}
+MayTell Place refusal = IsOfPlacing refusal
+MayTell Key refusal = Unit {0}
 
 -- G is the graph of a block, with its edges in order, and size has its sizes
 pub record IsGraphOf (raw : RawView) (size : Size) (G : Graph) : Type 0 where
@@ -55,6 +61,13 @@ pub record IsLocatedAs (raw : RawView) (size : Size) (names : List (List ℕ)) (
   pub names_are : names ≡ raw.names
   pub placed_as : IsPlacedAs graph (placed_in placed)
 
+-- the block's graph has a key, and this is its net
+pub record IsKeyedAs (raw : RawView) (size : Size) (net : KeyedNet) : Type 0 where
+  pub graph : Graph
+  pub read : IsGraphOf raw size graph
+  pub net_is : (net_in net).placed.graph ≡ graph
+  pub keyed : IsKeyed (net_in net)
+
 -- what a command tells of a block
 abbrev pub IsBodyOf : Command → BodyView → OutcomeBody → Type 0
 IsBodyOf command (Other token) (Unsupported told) = told.now ≡ token
@@ -62,6 +75,7 @@ IsBodyOf command (Faulty fault) (Malformed told) = told ≡ fault
 IsBodyOf command (Net raw) (Refused size names refusal) = IsRefusedAs command raw size names refusal
 IsBodyOf Check (Net raw) (Checked size) = IsCheckedAs raw size
 IsBodyOf Place (Net raw) (Located size names placed) = IsLocatedAs raw size names placed
+IsBodyOf Key (Net raw) (Keyed size net) = IsKeyedAs raw size net
 IsBodyOf command body told = ⊥
 
 -- the outcome of the block with this number
@@ -84,9 +98,29 @@ is_accepted_body (Malformed fault) = false
 is_accepted_body (Refused size names refusal) = false
 is_accepted_body (Checked size) = true
 is_accepted_body (Located size names placed) = true
+is_accepted_body (Keyed size net) = true
 
 abbrev pub is_accepted : Outcome → Bool
 is_accepted o = is_accepted_body o.body
+
+-- block number i, counted from 0, is the graph raw, and xs is the key that is told of it
+pub record HasKeyAt (blocks : List BlockView) (outcomes : List Outcome) (i : ℕ) (raw : RawView) (xs : List ℤ) : Type 0 where
+  pub block : BlockView
+  pub outcome : Outcome
+  pub size : Size
+  pub net : KeyedNet
+  pub inside : i < length blocks
+  pub block_is : slice_index_or blocks i block ≡ block
+  pub outcome_is : slice_index_or outcomes i outcome ≡ outcome
+  pub graph : block.body ≡ Net raw
+  pub told : outcome.body ≡ Keyed size net
+  pub key : xs ≡ (net_in net).key
+
+-- the keys of two blocks are equal exactly where a periodic bijection carries the net of one to that of the other
+abbrev pub KeysDecideNets : List BlockView → List Outcome → Type 0
+KeysDecideNets blocks outcomes =
+    (i j : ℕ) (raw raw' : RawView) (xs ys : List ℤ) → HasKeyAt blocks outcomes i raw xs → HasKeyAt blocks outcomes j raw' ys
+    → (xs ≡ ys) ↔ Iso (graph_of raw) (graph_of raw')
 
 -- the report on these blocks, and whether all of them were accepted
 pub record IsReport (command : Command) (blocks : List BlockView) (accepted : Bool) (text : List ℕ) : Type 0 where
@@ -94,6 +128,7 @@ pub record IsReport (command : Command) (blocks : List BlockView) (accepted : Bo
   pub are_outcomes : AreOutcomesFrom command 1 blocks outcomes
   pub all : accepted ≡ list_all is_accepted outcomes
   pub report : text ≡ report_text outcomes
+  pub keys : KeysDecideNets blocks outcomes
 
 -- the report on the blocks of these bytes, which are not too many
 pub record IsReportOf (command : Command) (bytes : List ℕ) (accepted : Bool) (text : List ℕ) : Type 0 where

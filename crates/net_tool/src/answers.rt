@@ -54,7 +54,7 @@ fn is_accepted(body: &OutcomeBody<'_>) -> bool
     ensures { result ≡ is_accepted_body body.now }
 {
     match body {
-        OutcomeBody::Checked(_) | OutcomeBody::Located(_, _, _) => true,
+        OutcomeBody::Checked(_) | OutcomeBody::Located(_, _, _) | OutcomeBody::Keyed(_, _) => true,
         _ => false,
     }
 }
@@ -75,6 +75,7 @@ pub struct Report {
     pub text: Vec<u8>,
 }
 
+#[tactic(auto, using(crate::proofs::KeysDecideNets::keys_decide_nets))]
 fn report_on(alloc: Global, command: Command, found: &[Block<'_>]) -> Result<Report, NoMemory>
     requires graphs { All (λ block. IsReadBody block.body) found.now }
     requires few { length found.now ≤ 4096 }

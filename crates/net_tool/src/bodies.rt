@@ -7,7 +7,7 @@ ghost use Rattle.net_tool.specs.Outcomes.{size_of, IsBodyOf};
 
 use cgd_read::{Block, Body, RawGraph};
 use command_words::Command;
-use least_key::{Refusal, check_any, place_any};
+use least_key::{Refusal, check_any, identify, place_any};
 use net_report::{NoMemory, OutcomeBody, Size};
 use quotient_graph::from_raw;
 use std::alloc::Global;
@@ -59,6 +59,17 @@ fn place_net<'a>(alloc: Global, raw: &RawGraph<'a>) -> Result<OutcomeBody<'a>, N
     }
 }
 
+fn key_net<'a>(alloc: Global, raw: &RawGraph<'a>) -> Result<OutcomeBody<'a>, NoMemory>
+    requires { IsReadGraph (raw_view raw.now) }
+    ensures { IfOk result (IsBodyOf Command.Key (Net (raw_view raw.now))) }
+{
+    let graph = from_raw(alloc, raw)?;
+    match identify(alloc, graph) {
+        Ok(net) => Ok(OutcomeBody::Keyed(size_of(raw), net)),
+        Err(refusal) => refused_body(raw, refusal),
+    }
+}
+
 /// What a command tells of a block.
 pub fn body_of<'a>(
     alloc: Global,
@@ -72,6 +83,7 @@ pub fn body_of<'a>(
         Body::Graph(raw) => match command {
             Command::Check => check_net(alloc, raw),
             Command::Place => place_net(alloc, raw),
+            Command::Key => key_net(alloc, raw),
         },
         Body::Unsupported(token) => Ok(OutcomeBody::Unsupported(token)),
         Body::Malformed(fault) => Ok(OutcomeBody::Malformed(*fault)),

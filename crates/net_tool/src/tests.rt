@@ -1,5 +1,6 @@
 // Runs over files in memory.
 mod devices;
+mod keys;
 mod nets;
 mod readings;
 

@@ -37,8 +37,8 @@ fn finish<W: Sink>(out: &mut W, text: &[u8], status: Status) -> Status
 }
 
 /// Does what the words say, over the files of a shelf, and writes the text to a sink. It is all that
-/// the program does. `check FILE` says of each net of FILE whether it is connected, and `place FILE`
-/// where its vertices stand.
+/// the program does. `check FILE` says of each net of FILE whether it is connected, `place FILE` where its
+/// vertices stand, and `key FILE` what its key is.
 pub fn run<H: Shelf, W: Sink>(alloc: Global, words: &[String], shelf: &mut H, out: &mut W) -> Status
     ensures answer { IsAnswered result →
         IsAnswer (texts_of words.now) (H.holds shelf.old) (W.written out.old) (W.written out.new)

@@ -15,4 +15,4 @@ returns-in_ok-copy-in-Ok c = record {
 pub returns-in-Err : goal.returns-in-Err
 returns-in-Err c =
     refused_as Place (raw_view c.args.raw.now) (graph_in c.in_ok-graph.graph) c.in-Err.refusal c.refused_body.result c.in_ok-graph.ensures
-    c.in-Err.ensures.refused (place_may c.in-Err.refusal) c.refused_body.ensures.told c.refused_body.ensures.refused
+    c.in-Err.ensures.refused (place_may c.in-Err.refusal c.in-Err.ensures.early) c.refused_body.ensures.told c.refused_body.ensures.refused

@@ -1,0 +1,57 @@
+-- The keys of accepted graphs tell their nets apart.
+use Rattle.std.proofs.Common.{◌≡◌, ◌∙◌, sym, ap, subst, ℕ, zero, suc, ◌+◌, ◌<◌, List, [], ◌∷◌, ◌++◌, length, take, Result, Ok, arith}
+use Rattle.std.specs.Prelude.{◌↔◌, slice_index_or}
+use Rattle.std.specs.List.{AllZip}
+use Rattle.std.proofs.Math.ListN.{get_or}
+use Rattle.std.proofs.lemmas.List.{take_more}
+use Rattle.periodic_net.specs.Graph.{Graph}
+use Rattle.periodic_net.specs.Maps.{Iso}
+use Rattle.key_theory.specs.Key.{IsKeyOf}
+use Rattle.key_theory.proofs.KeysDecide.{keys_decide}
+use Rattle.quotient_graph.specs.AnyGraphs.{graph_in}
+use Rattle.quotient_graph.specs.declared.raw.AnyGraph.{AnyGraph}
+use Rattle.least_key.specs.Answers.{IsAnswerTo, AreAnswers, KeysTell}
+use Rattle.least_key.specs.AnyNets.{net_in}
+use Rattle.least_key.specs.KeyedNets.{KeyedNet, IsKeyed}
+use Rattle.least_key.specs.declared.net.Net.{Net}
+use Rattle.least_key.proofs.Truth.{shape_of}
+use Rattle.least_key.specs.declared.refusal.Refusal.{Refusal}
+
+-- the key of a keyed net is the key of its graph
+pub key_of_graph : (n : KeyedNet) → IsKeyed n → IsKeyOf n.placed.graph n.key
+key_of_graph n h =
+    subst (λ (G : Graph). IsKeyOf G n.key) h.same_graph (record { shape = shape_of n.classes h.classes; least = h.key })
+
+-- the keys of two keyed nets are equal exactly where the nets are isomorphic
+pub nets_decide : (m n : KeyedNet) → IsKeyed m → IsKeyed n → (m.key ≡ n.key) ↔ Iso m.placed.graph n.placed.graph
+nets_decide m n h k = keys_decide m.placed.graph n.placed.graph m.key n.key h.is_graph k.is_graph (key_of_graph m h) (key_of_graph n k)
+
+-- one pair more
+zip_more : {A B : Type 0} (R : A → B → Type 0) (xs : List A) (ys : List B) (x : A) (y : B) → AllZip R xs ys → R x y → AllZip R (xs ++ x ∷ []) (ys ++ y ∷ [])
+zip_more R [] [] x y h r = (r, tt)
+zip_more R [] (z ∷ ys) x y h r = absurd h
+zip_more R (w ∷ xs) [] x y h r = absurd h
+zip_more R (w ∷ xs) (z ∷ ys) x y h r = (h.0, zip_more R xs ys x y h.1 r)
+
+-- one answer more
+pub answers_more : (graphs : List AnyGraph) (answers : List (Result Net Refusal)) (i : ℕ) (g : AnyGraph) (r : Result Net Refusal) → i < length graphs → g ≡ get_or graphs i g
+    → AreAnswers (take i graphs) answers → IsAnswerTo g r → AreAnswers (take (i + 1) graphs) (answers ++ r ∷ [])
+answers_more graphs answers i g r l e h k =
+    let longer : take (i + 1) graphs ≡ take i graphs ++ g ∷ [] = take_more graphs i g l ∙ ap (λ (x : AnyGraph). take i graphs ++ x ∷ []) (sym e) in
+    subst (λ (gs : List AnyGraph). AreAnswers gs (answers ++ r ∷ [])) (sym longer) (zip_more IsAnswerTo (take i graphs) answers g r h k)
+
+-- the answer at a place
+answer_at : (graphs : List AnyGraph) (answers : List (Result Net Refusal)) → AreAnswers graphs answers → (i : ℕ) (g : AnyGraph) (r : Result Net Refusal)
+    → i < length graphs → slice_index_or graphs i g ≡ g → slice_index_or answers i r ≡ r → IsAnswerTo g r
+answer_at [] answers h i g r l e f = absurd (omega (arith, l))
+answer_at (x ∷ graphs) [] h i g r l e f = absurd h
+answer_at (x ∷ graphs) (y ∷ answers) h zero g r l e f = subst (IsAnswerTo g) f (subst (λ (a : AnyGraph). IsAnswerTo a y) e h.0)
+answer_at (x ∷ graphs) (y ∷ answers) h (suc i) g r l e f = answer_at graphs answers h.1 i g r (omega (arith, l)) e f
+
+-- the keys of accepted graphs
+pub keys_tell : (graphs : List AnyGraph) (answers : List (Result Net Refusal)) → AreAnswers graphs answers → KeysTell graphs answers
+keys_tell graphs answers a i j g h m n k l =
+    let p = answer_at graphs answers a i g (Ok m) k.inside k.graph k.answer in
+    let q = answer_at graphs answers a j h (Ok n) l.inside l.graph l.answer in
+    subst (λ (H : Graph). ((net_in m).key ≡ (net_in n).key) ↔ Iso (graph_in g) H) q.0
+    (subst (λ (G : Graph). ((net_in m).key ≡ (net_in n).key) ↔ Iso G (net_in n).placed.graph) p.0 (nets_decide (net_in m) (net_in n) p.1 q.1))

@@ -1,0 +1,32 @@
+-- The answers to a list of graphs.
+use Rattle.std.specs.Prelude.{◌≡◌, ◌≢◌, ◌↔◌, ℕ, ◌<◌, List, length, slice_index_or, Result, Ok, Err}
+use Rattle.std.specs.List.{AllZip}
+use Rattle.periodic_net.specs.Maps.{Iso}
+use Rattle.quotient_graph.specs.AnyGraphs.{graph_in}
+use Rattle.quotient_graph.specs.declared.raw.AnyGraph.{AnyGraph}
+use Rattle.least_key.specs.AnyNets.{net_in}
+use Rattle.least_key.specs.KeyedNets.{IsKeyed}
+use Rattle.least_key.specs.Truths.{IsTrueOf}
+use Rattle.least_key.specs.declared.net.Net.{Net}
+use Rattle.least_key.specs.declared.refusal.Refusal.{Refusal}
+use Rattle.least_key.specs.declared.refusal.Refusal.TheVariants.{NoMemory}
+
+-- the net of the graph with its key, or a refusal that is true of the graph
+abbrev pub IsAnswerTo : AnyGraph → Result Net Refusal → Type 0
+IsAnswerTo g (Ok net) = ((net_in net).placed.graph ≡ graph_in g) × IsKeyed (net_in net)
+IsAnswerTo g (Err refusal) = IsTrueOf (graph_in g) refusal × (refusal ≢ NoMemory)
+
+-- each graph has its answer, at its place
+abbrev pub AreAnswers : List AnyGraph → List (Result Net Refusal) → Type 0
+AreAnswers graphs answers = AllZip IsAnswerTo graphs answers
+
+-- the graph at place i is g, and its net is n
+pub record IsAcceptedAt (graphs : List AnyGraph) (answers : List (Result Net Refusal)) (i : ℕ) (g : AnyGraph) (n : Net) : Type 0 where
+  pub inside : i < length graphs
+  pub graph : slice_index_or graphs i g ≡ g
+  pub answer : slice_index_or answers i (Ok n) ≡ Ok n
+
+-- the keys of two accepted graphs are equal exactly where their nets are isomorphic
+abbrev pub KeysTell : List AnyGraph → List (Result Net Refusal) → Type 0
+KeysTell graphs answers = (i j : ℕ) (g h : AnyGraph) (m n : Net) → IsAcceptedAt graphs answers i g m → IsAcceptedAt graphs answers j h n
+    → ((net_in m).key ≡ (net_in n).key) ↔ Iso (graph_in g) (graph_in h)

@@ -1,0 +1,50 @@
+// The keys of several graphs.
+ghost use Rattle.std.specs.Prelude.{◌≡◌, IfOk};
+ghost use Rattle.quotient_graph.specs.AnyGraphs.{graph_in};
+ghost use Rattle.least_key.specs.Answers.{AreAnswers, IsAnswerTo, KeysTell};
+
+use crate::keying::identify;
+use crate::{Net, Refusal};
+use quotient_graph::AnyGraph;
+use std::alloc::{AllocError, Global};
+
+fn copy_of(graph: &AnyGraph) -> Result<AnyGraph, AllocError>
+    ensures { IfOk result (λ g. graph_in g ≡ graph_in graph.now) }
+{
+    match graph {
+        AnyGraph::Flat(graph) => graph.copy().map(AnyGraph::Flat),
+        AnyGraph::Space(graph) => graph.copy().map(AnyGraph::Space),
+    }
+}
+
+// What `identify` answers, want of memory aside.
+fn answer_to(alloc: Global, graph: &AnyGraph) -> Result<Result<Net, Refusal>, AllocError>
+    ensures { IfOk result (IsAnswerTo graph.now) }
+{
+    match identify(alloc, copy_of(graph)?) {
+        Ok(net) => Ok(Ok(net)),
+        Err(Refusal::NoMemory) => Err(AllocError),
+        Err(refusal) => Ok(Err(refusal)),
+    }
+}
+
+// What `identify` answers for each graph.
+fn answers_to(alloc: Global, graphs: &[AnyGraph]) -> Result<Vec<Result<Net, Refusal>>, AllocError>
+    ensures { IfOk result (λ answers. AreAnswers graphs.now answers.items) }
+{
+    let mut answers = Vec::with_capacity(alloc, graphs.len())?;
+    for graph in graphs {
+        answers.push(answer_to(alloc, graph)?)?;
+    }
+    Ok(answers)
+}
+
+#[tactic(auto, using(crate::proofs::KeysTelling::keys_tell))]
+/// What `identify` answers for each graph; want of memory for one of them is want of memory for all. The keys of two
+/// accepted graphs are equal exactly where their nets are isomorphic.
+pub fn keys_of(alloc: Global, graphs: &[AnyGraph]) -> Result<Vec<Result<Net, Refusal>>, AllocError>
+    ensures answers { IfOk result (λ answers. AreAnswers graphs.now answers.items) }
+    ensures keys { IfOk result (λ answers. KeysTell graphs.now answers.items) }
+{
+    answers_to(alloc, graphs)
+}

@@ -1,0 +1,43 @@
+-- The lines of a primitive graph.
+use Rattle.std.specs.Prelude.{ℕ, List, [], ◌∷◌, ◌++◌, length, codes}
+use Rattle.std.specs.Fmt.{decimal}
+use Rattle.integers.specs.Vectors.{Vector, parts}
+use Rattle.periodic_net.specs.Graph.{Arc}
+use Rattle.primitive_cell.specs.DividedNets.{DividedNet}
+use Rattle.net_report.specs.Numbers.{list_text}
+
+unfoldable pub vertices_word : List ℕ
+vertices_word = codes "primitive vertices="
+
+unfoldable pub basis_word : List ℕ
+basis_word = codes "basis "
+
+unfoldable pub edge_word : List ℕ
+edge_word = codes "edge "
+
+-- the numbers of vertices and of edges
+abbrev pub sizes_text : ℕ → ℕ → List ℕ
+sizes_text vertices edges = vertices_word ++ decimal vertices ++ codes " edges=" ++ decimal edges ++ codes "\n"
+
+-- a vector of the basis, in units of 1/D0
+abbrev pub basis_text : ℕ → Vector → List ℕ
+basis_text d v = basis_word ++ list_text (parts d v) ++ codes "\n"
+
+-- the vectors of the basis, in their order
+abbrev pub bases_text : ℕ → List Vector → List ℕ
+bases_text d [] = []
+bases_text d (v ∷ vs) = basis_text d v ++ bases_text d vs
+
+-- an edge: its ends, and its shift in the basis
+abbrev pub edge_text : ℕ → Arc → List ℕ
+edge_text d e = edge_word ++ decimal e.from ++ codes " " ++ decimal e.to ++ codes " " ++ list_text (parts d e.shift) ++ codes "\n"
+
+-- the edges, in their order
+abbrev pub edges_text : ℕ → List Arc → List ℕ
+edges_text d [] = []
+edges_text d (e ∷ es) = edge_text d e ++ edges_text d es
+
+-- the sizes, the basis and the edges of a primitive graph
+abbrev pub primitive_text : DividedNet → List ℕ
+primitive_text c =
+    sizes_text c.graph.vertices (length c.graph.edges) ++ bases_text c.graph.dimension c.basis ++ edges_text c.graph.dimension c.graph.edges
