@@ -1,0 +1,6 @@
+use Rattle.std.proofs.Common.{take}
+use Rattle.coordination.proofs.Stepping.{AreSearched}
+use Rattle.coordination.proofs.search.next_shell.Given as goal
+
+abbrev pub invariant-loop-from : goal.invariant-loop-from
+invariant-loop-from g l = AreSearched l.net (take l.from-index l.shell) l.initial.found.keys l.found.keys l.next.items

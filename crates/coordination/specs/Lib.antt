@@ -1,0 +1,4 @@
+pub mod Sequences
+pub mod Laws
+pub mod Points
+pub mod Found

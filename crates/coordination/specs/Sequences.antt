@@ -1,0 +1,32 @@
+-- Coordination sequences, as far as they are listed.
+use Rattle.std.specs.Prelude.{◌≡◌, ◌⊎◌, ℕ, ◌+◌, ◌<◌, ◌≤◌, List, length, sum, slice_index_or}
+use Rattle.periodic_net.specs.Classes.{ClassGraph}
+use Rattle.periodic_net.specs.Graph.{Graph, IsGraph, Vertex, IsVertex}
+use Rattle.periodic_net.specs.Shells.{IsShellSize}
+use Rattle.key_theory.specs.Key.{Shape}
+
+-- shells that are listed
+abbrev pub most_shells : ℕ
+most_shells = 10
+
+-- vertices that these have together, without the one that they surround
+abbrev pub most_in_shells : ℕ
+most_in_shells = 20000
+
+-- with shell k of w the total passes the limit
+pub record IsShellPast (G : Graph) (w : Vertex) (k total : ℕ) : Type 0 where
+  pub size : ℕ
+  pub is_size : IsShellSize G w k size
+  pub past : most_in_shells < total + size
+
+-- the sizes of shells 1, 2 and so on of w: of the first ten, or of those before the first with which their total passes the limit
+pub record AreShellsOf (G : Graph) (w : Vertex) (sizes : List ℕ) : Type 0 where
+  pub each : (k : ℕ) → k < length sizes → IsShellSize G w (k + 1) (slice_index_or sizes k 0)
+  pub within : sum sizes ≤ most_in_shells
+  pub few : length sizes ≤ most_shells
+  pub ends : (length sizes ≡ most_shells) ⊎ IsShellPast G w (length sizes + 1) (sum sizes)
+
+-- these are the sizes for each vertex of class c, in each net with this class graph
+abbrev pub AreShellsOfClass : ClassGraph → ℕ → List ℕ → Type 0
+AreShellsOfClass K c sizes = (G : Graph) → IsGraph G → (h : Shape G) → h.classes ≡ K
+    → (w : Vertex) → IsVertex G w → h.class_of w.over ≡ c → AreShellsOf G w sizes
