@@ -5,3 +5,8 @@ pub mod Neighbours
 pub mod Existence
 pub mod Stepping
 pub mod Places
+pub mod Leaves
+pub mod Seen
+pub mod Sizes
+pub mod NewNeighbours
+pub mod OneSequence
