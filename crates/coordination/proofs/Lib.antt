@@ -10,3 +10,5 @@ pub mod Seen
 pub mod Sizes
 pub mod NewNeighbours
 pub mod OneSequence
+pub mod Counting
+pub mod Shown

@@ -1,10 +1,12 @@
 //! Coordination sequences of nets.
 #![tactic(auto)]
 
+mod count;
 mod laws;
 mod point;
 mod reach;
 mod search;
 
+pub use count::{MOST_IN_SHELLS, MOST_SHELLS, shells};
 pub use laws::{each_shell_has_a_size, one_sequence, two_shells_suffice};
 pub use std::alloc::AllocError as NoMemory;
