@@ -9,7 +9,7 @@ use Rattle.coordination.specs.Points.{Expands}
 use Rattle.coordination.specs.Sequences.{most_shells, most_in_shells}
 use Rattle.coordination.specs.declared.point.Point.{Point}
 use Rattle.coordination.proofs.Existence.{some_shell}
-use Rattle.coordination.proofs.Layers.{layer_is_shell, next_inside, next_layers, start_layers}
+use Rattle.coordination.proofs.Layers.{layer_is_shell, next_inside, next_layers}
 use Rattle.coordination.proofs.PointShells.{start_at, ArePointShell, AreLayers}
 
 -- shell k of a class has this size
@@ -54,17 +54,6 @@ last_is [] x = refl
 last_is (y ∷ ys) x = last_is ys x
 
 module _ (K : ClassGraph) (c : ℕ) where
-  -- only the start was found
-  pub counted_start : (found shell : List Point) → found ≡ start_at c ∷ [] → shell ≡ start_at c ∷ [] → AreCounted K c [] most_in_shells found shell
-  counted_start found shell e f = record {
-    before = [];
-    found_is = e ∙ sym f;
-    layers = subst (λ xs. AreLayers K (start_at c) 0 [] xs) (sym f) (start_layers K (start_at c));
-    each = λ k l. absurd (omega arith);
-    total = refl;
-    few = omega arith;
-  }
-
   module _ (sizes : List ℕ) (room : ℕ) (found shell next : List Point) (h : AreCounted K c sizes room found shell) (x : Expands K room shell found next) where
     -- the same, of the layers
     expands : Expands K room shell (h.before ++ shell) next

@@ -1,5 +1,5 @@
 -- The points to which steps lead from a point.
-use Rattle.std.proofs.Common.{◌≡◌, List, map, subst}
+use Rattle.std.proofs.Common.{List, map, subst}
 use Rattle.std.proofs.lemmas.Bool.Decides.{Decides-eqb}
 use Rattle.std.specs.Prelude.{◌==◌}
 use Rattle.integers.proofs.lists.Filters.{in_filter, filter_in}

@@ -34,7 +34,11 @@ fn along<const D: usize>(from: Point, arc: &ClassArc<D>) -> Point
 }
 
 // A point is reached: it is new, unless it was found before.
-pub fn reach(found: &mut IndexSet<Point>, next: &mut Vec<Point>, point: Point) -> Result<(), NoMemory>
+pub fn reach(
+    found: &mut IndexSet<Point>,
+    next: &mut Vec<Point>,
+    point: Point,
+) -> Result<(), NoMemory>
     ensures found { OnOk result (found.new.keys ≡ found_with found.old.keys point) }
     ensures next { OnOk result (next.new.items ≡ new_with found.old.keys next.old.items point) }
 {
