@@ -3,11 +3,11 @@ use Rattle.std.proofs.Common.{◌≡◌, ◌⊎◌, inl, inr, ℕ, ◌+◌, ◌-
 use Rattle.std.proofs.lemmas.List.{get_or_append_left}
 use Rattle.std.proofs.lemmas.List.Sums.{sum_by_push}
 use Rattle.std.specs.Prelude.{slice_index_or}
-use Rattle.integers.proofs.lists.Counting.{not_longer}
 use Rattle.periodic_net.specs.Classes.{ClassGraph}
 use Rattle.coordination.specs.Points.{Expands}
 use Rattle.coordination.specs.Sequences.{most_shells, most_in_shells}
 use Rattle.coordination.specs.declared.point.Point.{Point}
+use Rattle.coordination.proofs.Apart.{no_longer}
 use Rattle.coordination.proofs.Existence.{some_shell}
 use Rattle.coordination.proofs.Layers.{layer_is_shell, next_inside, next_layers}
 use Rattle.coordination.proofs.PointShells.{start_at, ArePointShell, AreLayers}
@@ -93,7 +93,7 @@ module _ (K : ClassGraph) (c : ℕ) where
         let total = h.total in
         let some = next_inside K (start_at c) (length sizes) h.before shell h.layers room next expands in
         let whole = some_shell K (start_at c) (length sizes + 1) in
-        let few = not_longer (λ (p q : Point). p ≡ q) next whole.0 some.once (record { into = λ p i. (p, (whole.1.exact p).1 (some.inside p i), refl); once = λ p q r i j e f. e ∙ sym f }) in
+        let few = no_longer next whole.0 some.once (λ p i. (whole.1.exact p).1 (some.inside p i)) in
         record {
           each = h.each;
           within = omega arith;

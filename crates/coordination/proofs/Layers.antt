@@ -1,17 +1,12 @@
 -- From one shell of points to the next.
 use Rattle.std.proofs.Common.{◌≡◌, ◌⊎◌, inl, inr, ℕ, zero, suc, ◌+◌, ◌<◌, ◌≤◌, List, [], ◌∷◌, ◌++◌, length, refl, sym, subst, arith}
 use Rattle.integers.proofs.lists.Members.{IsIn, AreApart, is_in, contains_from_in, apart_from_pairs}
-use Rattle.integers.proofs.lists.Pieces.{in_append, append_left, append_right, apart_right}
+use Rattle.integers.proofs.lists.Pieces.{in_append, append_left, apart_right}
 use Rattle.periodic_net.specs.Classes.{ClassGraph}
 use Rattle.coordination.specs.Points.{IsStep, Expands}
 use Rattle.coordination.specs.declared.point.Point.{Point}
+use Rattle.coordination.proofs.Apart.{not_in_both}
 use Rattle.coordination.proofs.PointShells.{Leads, IsPointShell, ArePointShell, AreSomeOf, AreLayers}
-
--- nothing stands in both of two pieces of a list without repetition
-not_in_both : {X : Type 0} (xs ys : List X) → AreApart (xs ++ ys) → (x : X) → IsIn xs x → IsIn ys x → ⊥
-not_in_both [] ys h x i j = i
-not_in_both (z ∷ xs) ys h x (inl e) j = h.0 (append_right xs ys z (subst (IsIn ys) (sym e) j))
-not_in_both (z ∷ xs) ys h x (inr i) j = not_in_both xs ys h.1 x i j
 
 module _ (K : ClassGraph) where
   -- one step more

@@ -1,5 +1,5 @@
 -- The points to which steps lead from a point.
-use Rattle.std.proofs.Common.{List, map, subst}
+use Rattle.std.proofs.Common.{List, subst}
 use Rattle.std.proofs.lemmas.Bool.Decides.{Decides-eqb}
 use Rattle.std.specs.Prelude.{◌==◌}
 use Rattle.integers.proofs.lists.Filters.{in_filter, filter_in}
@@ -7,12 +7,12 @@ use Rattle.integers.proofs.lists.Members.{IsIn, is_in, contains_from_in}
 use Rattle.integers.proofs.lists.Pieces.{in_map, map_in}
 use Rattle.periodic_net.specs.Classes.{ClassGraph, ClassArc}
 use Rattle.quotient_graph.specs.ClassNets.{arcs_of}
-use Rattle.coordination.specs.Points.{along, IsStep}
+use Rattle.coordination.specs.Points.{along, ends_of, IsStep}
 use Rattle.coordination.specs.declared.point.Point.{Point}
 
 -- the points to which the arcs from the class of p lead from p
 abbrev pub neighbours : ClassGraph → Point → List Point
-neighbours K p = map (along p) (arcs_of K p.class)
+neighbours K p = ends_of p (arcs_of K p.class)
 
 -- a step leads to each of these
 pub neighbour_step : (K : ClassGraph) (p q : Point) → IsIn (neighbours K p) q → IsStep K p q

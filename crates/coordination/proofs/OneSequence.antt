@@ -1,16 +1,12 @@
 -- A vertex has one list of sizes.
-use Rattle.std.proofs.Common.{◌≡◌, ◌⊎◌, inl, inr, ℕ, suc, ◌+◌, ◌<◌, ◌≤◌, List, [], ◌∷◌, length, take, get_or, sum, refl, sym, ap, subst, ◌∙◌, arith}
+use Rattle.std.proofs.Common.{◌≡◌, ◌⊎◌, inl, inr, ℕ, suc, ◌+◌, ◌<◌, ◌≤◌, List, [], ◌∷◌, length, take, get_or, sum, refl, ap, subst, ◌∙◌, arith}
 use Rattle.std.proofs.lemmas.List.{take_all}
 use Rattle.std.proofs.lemmas.List.Sums.{sum_by_more, sum_by-take-le}
-use Rattle.integers.proofs.lists.Counting.{not_longer}
 use Rattle.integers.proofs.lists.Members.{IsIn, AreApart, is_in, contains_from_in, apart_from_pairs}
 use Rattle.periodic_net.specs.Graph.{Graph, Vertex}
 use Rattle.periodic_net.specs.Shells.{IsInShell, IsShellSize}
 use Rattle.coordination.specs.Sequences.{IsShellPast, AreShellsOf, most_shells}
-
--- a list without repetition is no longer than one that has all its members
-no_longer : (xs ys : List Vertex) → AreApart xs → ((x : Vertex) → IsIn xs x → IsIn ys x) → length xs ≤ length ys
-no_longer xs ys a h = not_longer (λ (x y : Vertex). x ≡ y) xs ys a (record { into = λ x i. (x, h x i, refl); once = λ x y z i j e f. e ∙ sym f })
+use Rattle.coordination.proofs.Apart.{no_longer}
 
 -- lists that are equal place by place, as far as the first goes
 beginning : (xs ys : List ℕ) → length xs ≤ length ys → ((k : ℕ) → k < length xs → get_or xs k 0 ≡ get_or ys k 0) → xs ≡ take (length xs) ys

@@ -2,20 +2,16 @@
 use Rattle.std.proofs.Common.{◌≡◌, inl, inr, ℕ, List, [], ◌∷◌, length, map, refl, sym, ap, subst, ◌∙◌}
 use Rattle.std.proofs.lemmas.List.{length-map}
 use Rattle.integers.proofs.lists.Members.{IsIn, AreApart, is_in, contains_from_in, pairs_from_apart}
-use Rattle.integers.proofs.lists.Pieces.{in_map, map_in}
+use Rattle.integers.proofs.lists.Pieces.{in_map}
 use Rattle.periodic_net.specs.Graph.{Graph, IsGraph, Vertex, IsVertex, IsWalk}
 use Rattle.periodic_net.specs.Shells.{StepsLead, IsInShell, IsShellSize}
 use Rattle.periodic_net.proofs.CallerLemmas.{joined_inside}
 use Rattle.key_theory.specs.Key.{Shape}
 use Rattle.coordination.specs.declared.point.Point.{Point}
+use Rattle.coordination.proofs.Apart.{apart_from_images}
 use Rattle.coordination.proofs.Existence.{some_shell}
 use Rattle.coordination.proofs.PointShells.{start_at, Leads, IsPointShell, ArePointShell}
 use Rattle.coordination.proofs.Seen.{seen_from, sees_itself, seen_leads, seen_once, walk_seen}
-
--- a list whose images are different has no repetition
-apart_from_images : {X Y : Type 0} (f : X → Y) (xs : List X) → AreApart (map f xs) → AreApart xs
-apart_from_images f [] h = tt
-apart_from_images f (x ∷ xs) h = ((λ i. h.0 (map_in f xs x i)), apart_from_images f xs h.1)
 
 module _ (G : Graph) (g : IsGraph G) where
   -- walks lead to vertices

@@ -1,12 +1,12 @@
 -- A search of a shell goes on by one point, and ends.
-use Rattle.std.proofs.Common.{◌≡◌, ◌⊎◌, inl, inr, ℕ, ◌<◌, ◌≤◌, List, [], ◌∷◌, ◌++◌, map, take, get_or, ◌+◌, length, refl, sym, ap, subst, ◌∙◌, arith, append_assoc, append-nil}
+use Rattle.std.proofs.Common.{◌≡◌, ◌⊎◌, inl, inr, ℕ, ◌<◌, ◌≤◌, List, [], ◌∷◌, ◌++◌, take, get_or, ◌+◌, length, refl, sym, ap, subst, ◌∙◌, arith, append_assoc, append-nil}
 use Rattle.std.proofs.lemmas.List.{take_all, take_more}
 use Rattle.integers.proofs.lists.Members.{IsIn, AreApart, is_in, contains_from_in, apart_from_pairs, pairs_from_apart}
 use Rattle.integers.proofs.lists.Pieces.{in_append, append_left, append_right, in_take}
 use Rattle.periodic_net.specs.Classes.{ClassGraph, ClassArc}
 use Rattle.quotient_graph.specs.ClassNets.{arcs_of}
 use Rattle.coordination.specs.Found.{all_found, all_new}
-use Rattle.coordination.specs.Points.{along, IsStep, Expands, StandOnce}
+use Rattle.coordination.specs.Points.{ends_of, IsStep, Expands, StandOnce}
 use Rattle.coordination.specs.declared.point.Point.{Point}
 use Rattle.coordination.proofs.Finding.{grows}
 use Rattle.coordination.proofs.Neighbours.{neighbours, neighbour_step, step_neighbour}
@@ -73,11 +73,11 @@ module _ (K : ClassGraph) where
   -- the steps from the next point of the shell, as a call made them
   pub search_turn : (shell : List Point) (i : ℕ) (before found next found' next' : List Point) (star : List ClassArc) → AreSearched K (take i shell) before found next
       → i < length shell → star ≡ arcs_of K (get_or shell i (start_at 0)).class
-      → found' ≡ all_found found (map (along (get_or shell i (start_at 0))) star) → next' ≡ all_new found next (map (along (get_or shell i (start_at 0))) star)
+      → found' ≡ all_found found (ends_of (get_or shell i (start_at 0)) star) → next' ≡ all_new found next (ends_of (get_or shell i (start_at 0)) star)
       → AreSearched K (take (i + 1) shell) before found' next'
   search_turn shell i before found next found' next' star h l s e f =
       let r = get_or shell i (start_at 0) in
       subst (λ xs. AreSearched K xs before found' next') (sym (take_more shell i (start_at 0) l))
-      (subst (λ xs. AreSearched K (take i shell ++ r ∷ []) before xs next') (sym (e ∙ ap (λ xs. all_found found (map (along r) xs)) s))
-      (subst (λ xs. AreSearched K (take i shell ++ r ∷ []) before (all_found found (neighbours K r)) xs) (sym (f ∙ ap (λ xs. all_new found next (map (along r) xs)) s))
+      (subst (λ xs. AreSearched K (take i shell ++ r ∷ []) before xs next') (sym (e ∙ ap (λ xs. all_found found (ends_of r xs)) s))
+      (subst (λ xs. AreSearched K (take i shell ++ r ∷ []) before (all_found found (neighbours K r)) xs) (sym (f ∙ ap (λ xs. all_new found next (ends_of r xs)) s))
       (search_more (take i shell) before found next r h)))

@@ -1,5 +1,5 @@
 -- Points of a class graph, and the steps from one to another.
-use Rattle.std.specs.Prelude.{◌≡◌, ◌≢◌, ℕ, ◌-◌, ◌*◌, ◌≤◌, List, ◌++◌, length, All, AllPairs, Contains}
+use Rattle.std.specs.Prelude.{◌≡◌, ◌≢◌, ℕ, ◌-◌, ◌*◌, ◌≤◌, List, ◌++◌, length, map, All, AllPairs, Contains}
 use Rattle.integers.specs.Vectors.{Vector, vector, plus, IsWithin}
 use Rattle.periodic_net.specs.Classes.{ClassGraph, ClassArc}
 use Rattle.periodic_net.specs.Limits.{most_coordinate}
@@ -17,6 +17,10 @@ place_of p = vector p.x p.y p.z
 -- the point to which an arc leads from p
 abbrev pub along : Point → ClassArc → Point
 along p a = point a.to (plus (place_of p) a.vector)
+
+-- the points to which these arcs lead from p
+abbrev pub ends_of : Point → List ClassArc → List Point
+ends_of p arcs = map (along p) arcs
 
 -- a part of a place from which another step is made, as an absolute value
 abbrev pub most_place : ℕ

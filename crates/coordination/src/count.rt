@@ -17,8 +17,8 @@ pub const MOST_SHELLS: u32 = 10;
 /// So many vertices they have together at most.
 pub const MOST_IN_SHELLS: usize = 20_000;
 
-/// The sizes of shells 1, 2 and so on of a vertex of a class: of the first ten, or of those before the first with which their
-/// total passes 20,000.
+/// The sizes of shells 1, 2 and so on of a vertex of a class: of the first ten, or of those
+/// before the first with which their total passes 20,000.
 pub fn shells<const D: usize>(
     alloc: Global,
     c: &Classes<D>,

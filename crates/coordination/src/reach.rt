@@ -1,8 +1,8 @@
 // The points that are reached along the arcs from a point.
-ghost use Rattle.std.specs.Prelude.{◌≡◌, ◌+ℤ◌, ◌≤◌, unsigned_abs, map, OnOk};
+ghost use Rattle.std.specs.Prelude.{◌≡◌, ◌+ℤ◌, ◌≤◌, unsigned_abs, OnOk};
 ghost use Rattle.integers.specs.Vectors.{IsWithin};
 ghost use Rattle.periodic_net.specs.Limits.{most_coordinate};
-ghost use Rattle.coordination.specs.Points.{along, most_place, AreShort, IsNear};
+ghost use Rattle.coordination.specs.Points.{along, ends_of, most_place, AreShort, IsNear};
 ghost use Rattle.coordination.specs.Found.{all_found, all_new, found_with, new_with};
 
 use crate::NoMemory;
@@ -59,8 +59,8 @@ pub fn follow<const D: usize>(
 ) -> Result<(), NoMemory>
     requires near { IsNear from }
     requires short { AreShort star.now }
-    ensures found { OnOk result (found.new.keys ≡ all_found found.old.keys (map (along from) star.now)) }
-    ensures next { OnOk result (next.new.items ≡ all_new found.old.keys next.old.items (map (along from) star.now)) }
+    ensures found { OnOk result (found.new.keys ≡ all_found found.old.keys (ends_of from star.now)) }
+    ensures next { OnOk result (next.new.items ≡ all_new found.old.keys next.old.items (ends_of from star.now)) }
 {
     for arc in star {
         reach(found, next, along(from, arc))?;

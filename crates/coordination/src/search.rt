@@ -10,8 +10,8 @@ use indexmap::IndexSet;
 use quotient_graph::ClassNet;
 use std::alloc::Global;
 
-/// The points that are reached from a shell and were not found before; where these are more than `room`, some of
-/// them, and more than `room`.
+/// The points that are reached from a shell and were not found before; where these are more
+/// than `room`, some of them, and more than `room`.
 pub fn next_shell<const D: usize>(
     alloc: Global,
     net: &ClassNet<D>,
