@@ -51,8 +51,10 @@ fn push_bases<const D: usize>(text: &mut Vec<u8>, basis: &[Vect<D>]) -> Result<(
     requires { D ≤ 255 }
     ensures { OnOk result (text.new.items ≡ text.old.items ++ bases_text D basis.now) }
 {
-    for v in basis {
+    let mut left = basis;
+    while let [v, others @ ..] = left {
         push_basis(text, v)?;
+        left = others;
     }
     Ok(())
 }
@@ -74,8 +76,10 @@ fn push_edges<const D: usize>(text: &mut Vec<u8>, edges: &[PrimEdge<D>]) -> Resu
     requires { D ≤ 255 }
     ensures { OnOk result (text.new.items ≡ text.old.items ++ edges_text D edges.now) }
 {
-    for edge in edges {
+    let mut left = edges;
+    while let [edge, others @ ..] = left {
         push_edge(text, edge)?;
+        left = others;
     }
     Ok(())
 }

@@ -36,7 +36,8 @@ fn too_many_frames(rt: HostRuntime) -> Result<(), Fail> {
     text.push_str("END\n")?;
     let (status, out) = run_on(rt.alloc(), &["key", "net"], text.as_bytes(), &NO_FAULTS)?;
     assert_eq!(rt; status, Status::SomeRefused);
-    let wanted = "net 1 line 1\ngraph d=2 vertices=1 edges=700 repeats=0\nrefused 6 TooMuch starts=0 counted=1000000400\n";
+    let wanted =
+        "net 1 line 1\ngraph d=2 vertices=1 edges=700 repeats=0\nrefused 6 TooMuch starts=0 counted=1000000400\n";
     assert_eq!(rt; out.written(), wanted.as_bytes());
     Ok(())
 }
