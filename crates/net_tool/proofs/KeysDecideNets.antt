@@ -1,10 +1,10 @@
 -- The keys that are told decide whether nets are isomorphic.
-use Rattle.std.proofs.Common.{◌≡◌, ◌∙◌, refl, sym, ap, subst, ℕ, suc, ◌+◌, zero, ◌<◌, ℤ, List, [], ◌∷◌, length, arith}
+use Rattle.std.proofs.Common.{◌≡◌, ◌∙◌, refl, sym, ap, subst, ℕ, suc, ◌+◌, zero, ◌<◌, ◌≤◌, ℤ, List, [], ◌∷◌, length, arith}
 use Rattle.std.specs.Prelude.{◌↔◌, slice_index_or}
 use Rattle.std.proofs.lemmas.List.Sorted.{IsPermutation-sym}
 use Rattle.periodic_net.specs.Graph.{Graph, Vertex, IsGraph, IsVertex}
 use Rattle.periodic_net.specs.Maps.{Iso}
-use Rattle.periodic_net.proofs.CallerLemmas.{iso_reflexive}
+use Rattle.periodic_net.proofs.isomorphisms.Periods.{identity_periodic, unit_base}
 use Rattle.periodic_net.proofs.isomorphisms.Isomorphism.{iso_transitive, iso_symmetric}
 use Rattle.cgd_read.specs.Graphs.{graph_of}
 use Rattle.cgd_read.specs.Views.{RawView, BodyView, Net, BlockView}
@@ -19,23 +19,27 @@ use Rattle.command_words.specs.declared.tasks.Command.TheVariants.{Check, Place,
 use Rattle.net_tool.specs.Outcomes.{IsBodyOf, IsKeyedAs, IsOutcomeOf, AreOutcomesFrom, HasKeyAt, KeysDecideNets}
 use Rattle.net_tool.proofs.Reordered.{same_arc}
 
+-- graphs of one dimension with as many vertices have the same vertices in their nets
+vertex_in : (G H : Graph) → G.vertices ≡ H.vertices → G.dimension ≡ H.dimension → (w : Vertex) → IsVertex G w → IsVertex H w
+vertex_in G H v d w i = record { over = (i.over.0, subst (λ n. w.over ≤ n) v i.over.1); cell = λ e. i.cell (d ∙ e) }
+
 -- a graph with its edges in order has the net of the graph
 in_order_iso : (G H : Graph) → IsInOrder G H → Iso G H
 in_order_iso G H o =
-    let there = λ (w : Vertex) (i : IsVertex G w). record { over = (i.over.0, subst (λ n. w.over ≤ n) (sym o.vertices) i.over.1); cell = λ e. i.cell (sym o.dimension ∙ e) } in
-    let back = λ (w : Vertex) (i : IsVertex H w). record { over = (i.over.0, subst (λ n. w.over ≤ n) o.vertices i.over.1); cell = λ e. i.cell (o.dimension ∙ e) } in
-    let r = iso_reflexive G in
-    let s = iso_reflexive H in
+    let there = vertex_in G H (sym o.vertices) (sym o.dimension) in
+    let back = vertex_in H G o.vertices o.dimension in
+    let g = identity_periodic G in
+    let h = identity_periodic H in
     record {
       dimension = sym o.dimension;
       there = λ w. w;
       back = λ w. w;
-      there_period = (1, r.there_period.1, record { positive = r.there_period.2.positive; into = there; repeats = r.there_period.2.repeats });
-      back_period = (1, s.back_period.1, record { positive = s.back_period.2.positive; into = back; repeats = s.back_period.2.repeats });
+      there_period = (1, unit_base, record { positive = g.positive; into = there; repeats = g.repeats });
+      back_period = (1, unit_base, record { positive = h.positive; into = back; repeats = h.repeats });
       back_there = λ w i. refl;
       there_back = λ w i. refl;
-      there_joins = λ w x i j h. same_arc G H o.edges _ h;
-      back_joins = λ w x i j h. same_arc H G (IsPermutation-sym G.edges H.edges o.edges) _ h;
+      there_joins = λ w x i j e. same_arc G H o.edges _ e;
+      back_joins = λ w x i j e. same_arc H G (IsPermutation-sym G.edges H.edges o.edges) _ e;
     }
 
 -- what decides of graphs in memory decides of the graphs that were read

@@ -75,7 +75,6 @@ pub struct Report {
     pub text: Vec<u8>,
 }
 
-#[tactic(auto, using(crate::proofs::KeysDecideNets::keys_decide_nets))]
 fn report_on(alloc: Global, command: Command, found: &[Block<'_>]) -> Result<Report, NoMemory>
     requires graphs { All (λ block. IsReadBody block.body) found.now }
     requires few { length found.now ≤ 4096 }
