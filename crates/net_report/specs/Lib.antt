@@ -3,6 +3,7 @@ pub mod KindNames
 pub mod Headers
 pub mod Keys
 pub mod Primitives
+pub mod Sequences
 pub mod Refusals
 pub mod Placements
 pub mod Reports

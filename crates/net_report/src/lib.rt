@@ -9,11 +9,14 @@ mod outcomes;
 mod placements;
 mod primitives;
 mod refused;
+mod sequences;
 mod texts;
 
 pub use least_key::AnyPlaced;
 pub use outcome::{Outcome, OutcomeBody, Size};
 pub use outcomes::Outcomes;
+pub use primitives::push_primitive;
 pub use refused::refused_line;
+pub use sequences::push_shells;
 pub use std::alloc::AllocError as NoMemory;
 pub use texts::report;

@@ -1,4 +1,5 @@
 // Runs over files in memory.
+mod cells;
 mod devices;
 mod keys;
 mod nets;

@@ -5,9 +5,10 @@ use std::test::Fail;
 
 #[test]
 fn words(rt: HostRuntime) -> Result<(), Fail> {
-    let rows: [(&[&str], Status); 26] = [
+    let rows: [(&[&str], Status); 27] = [
         (&["check", "net"], Status::Done),
         (&["place", "net"], Status::Done),
+        (&["key", "net"], Status::Done),
         (&["--", "check", "net"], Status::Done),
         (&["check", "--", "net"], Status::Done),
         (&["check", "net", "--"], Status::Done),
@@ -16,7 +17,7 @@ fn words(rt: HostRuntime) -> Result<(), Fail> {
         (&["check", "-"], Status::ReadFault),
         (&["check", "--", "-x"], Status::ReadFault),
         (&[], Status::Usage),
-        (&["key", "net"], Status::Usage),
+        (&["identify", "net"], Status::Usage),
         (&["key", "a", "b"], Status::Usage),
         (&["check", ""], Status::Usage),
         (&["check", "-x"], Status::Usage),

@@ -130,7 +130,7 @@ fn chain(alloc: Global, counts: &[u32], last: &str) -> Result<Vec<u8>, Fail> {
     Ok(Vec::from_slice(alloc, text.as_bytes())?)
 }
 
-// Placements past 2^40, where a fraction on the way is past 62 bits and where none is.
+// Placements past 2^40, where a fraction on the way is past 62 bits and where none is: such nets have no key either.
 #[test]
 fn wide_numbers(rt: HostRuntime) -> Result<(), Fail> {
     let counts = [63, 61, 59, 55, 53, 47, 43, 41, 37, 31, 29, 23];
@@ -158,9 +158,11 @@ fn wide_numbers(rt: HostRuntime) -> Result<(), Fail> {
     ];
     for (links, last, written) in &chains {
         let text = chain(rt.alloc(), &counts[..(*links).min(12)], last)?;
-        let (status, out) = run_on(rt.alloc(), &["place", "net"], &text, &NO_FAULTS)?;
-        assert_eq!(rt; status, Status::SomeRefused);
-        assert_eq!(rt; out.written(), written.as_bytes());
+        for command in &["place", "key"] {
+            let (status, out) = run_on(rt.alloc(), &[*command, "net"], &text, &NO_FAULTS)?;
+            assert_eq!(rt; status, Status::SomeRefused);
+            assert_eq!(rt; out.written(), written.as_bytes());
+        }
     }
     Ok(())
 }
