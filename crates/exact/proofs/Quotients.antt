@@ -2,7 +2,7 @@
 use Rattle.std.proofs.Common.{◌≡◌, ℕ, arith, ap}
 use Rattle.std.specs.Prelude.{ℤ, pos, negsuc, ◌+ℤ◌, ◌-ℤ◌, ◌*ℤ◌, neg_ℤ}
 use Rattle.integers.proofs.numbers.Ring.{ring, linear}
-use Rattle.exact.specs.Ratio.{Ratio, Same, HasInverse, ratio_times, ratio_over, inverse_of}
+use Rattle.exact.specs.Ratio.{Ratio, Same, HasInverse, IsInverseOf, ratio_times, ratio_over, inverse_of}
 use Rattle.exact.specs.Values.{HasValue}
 use Rattle.exact.specs.Values.{CanCancel}
 use Rattle.exact.proofs.WholeMultiples.{same_of, difference_multiple, cancels_of, cancel}
@@ -101,3 +101,17 @@ quotients {m} s a (negsuc x) od (negsuc y) bd e f = let h = difference_multiple 
 pub over_both : {m : ℕ} (s o a b : Ratio) → Same m s a → Same m o b → Same m (ratio_over s o) (ratio_over a b)
 unfolding ratio_over
 over_both s o a b e f = quotients s a o.num o.den b.num b.den e f
+
+-- a product with an inverse is a quotient
+inverse_step : (m qn qd xn xd rn rd yn yd k l : ℤ) → qn *ℤ (xd *ℤ rd) -ℤ (xn *ℤ rn) *ℤ qd ≡ m *ℤ k → (rn *ℤ yn) *ℤ pos 1 -ℤ pos 1 *ℤ (rd *ℤ yd) ≡ m *ℤ l
+    → rd *ℤ ((qn *ℤ yn) *ℤ xd -ℤ xn *ℤ (qd *ℤ yd)) ≡ m *ℤ (k *ℤ yn +ℤ l *ℤ (xn *ℤ qd))
+inverse_step m qn qd xn xd rn rd yn yd k l e f =
+    let p = ap (λ t. t *ℤ yn) e in
+    let q = ap (λ t. t *ℤ (xn *ℤ qd)) f in
+    simp ring (omega (arith, linear, simp ring at p, simp ring at q))
+
+pub product_is_quotient : {m : ℕ} (q x r y : Ratio) → CanCancel m (pos r.den) → Same m q (ratio_times x r) → IsInverseOf m y r → Same m (ratio_times q y) x
+unfolding ratio_times
+product_is_quotient {m} q x r y h s i =
+    let k = difference_multiple s in let l = difference_multiple i.product in
+    same_of (cancel h _ (_, inverse_step (pos m) q.num (pos q.den) x.num (pos x.den) r.num (pos r.den) y.num (pos y.den) k.0 l.0 k.1 l.1))

@@ -61,3 +61,8 @@ pub record IsDenominator (m d : ℕ) : Type 0 where
 pub record HasInverse (m : ℕ) (a : Ratio) : Type 0 where
   pub not_zero : m ≡ 0 → a.num ≢ pos 0
   pub coprime : m ≢ 0 → IsGcd (unsigned_abs a.num) m 1
+
+-- a has an inverse, and r is one: r·a is 1
+pub record IsInverseOf (m : ℕ) (a r : Ratio) : Type 0 where
+  pub exists : HasInverse m a
+  pub product : Same m (ratio_times r a) (whole (pos 1))

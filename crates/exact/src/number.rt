@@ -1,8 +1,8 @@
 // The laws of exact numbers. Contracts see each number as a whole numerator over a whole
 // denominator of any size, and each type as having a modulus, which is 0 or at least 2.
-ghost use Rattle.std.specs.Prelude.{◌≡◌, ◌≢◌, ◌≤◌, ◌↔◌, ℕ, ℤ, pos, IsTrue, MatchResult};
+ghost use Rattle.std.specs.Prelude.{◌≡◌, ◌≢◌, ◌≤◌, ◌↔◌, ℕ, ℤ, pos, IsTrue, IfSome, MatchResult};
 ghost use Rattle.exact.specs.Faults.{IsWide, IsOverFault};
-ghost use Rattle.exact.specs.Ratio.{Ratio, Same, HasInverse, IsDenominator};
+ghost use Rattle.exact.specs.Ratio.{Ratio, Same, HasInverse, IsInverseOf, IsDenominator};
 ghost use Rattle.exact.specs.Ratio.{ratio_plus, ratio_minus, ratio_times, whole};
 
 /// An operation on two numbers.
@@ -78,6 +78,11 @@ pub trait Exact: Copy + Eq {
             (λ r. HasInverse modulus (value o)
             × Same modulus (ratio_times (value r) (value o)) (value self))
             (IsOverFault fits modulus value self o) };
+
+    /// The inverse, of a type that all values fit; where some do not it is none.
+    fn reciprocal(self) -> Option<Self>
+        ensures inverse { IfSome result (λ r. IsInverseOf modulus (value self) (value r)) }
+        ensures fit { IfSome result (λ r. (a : Ratio) → fits a) };
 
     fn is_zero(&self) -> bool
         ensures zero { IsTrue result ↔ Same modulus (value self.now) (whole (pos 0)) };
