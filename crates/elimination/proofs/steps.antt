@@ -11,3 +11,5 @@ pub mod SameWeights
 pub mod Solved
 pub mod SolvedWith
 pub mod Solving
+pub mod StartSymmetry
+pub mod Symmetry

@@ -4,7 +4,7 @@ use Rattle.std.specs.Prelude.{pos, ◌==◌}
 use Rattle.integers.proofs.lists.Members.{contains_from_in, IsIn}
 use Rattle.periodic_net.specs.Graph.{Graph, Arc, IsGraph, reverse_of, both_ways, arcs, arcs_from}
 use Rattle.periodic_net.proofs.CallerLemmas.{arc_inside}
-use Rattle.exact.specs.Ratio.{Ratio, whole, ratio_plus}
+use Rattle.exact.specs.Ratio.{Ratio}
 use Rattle.exact.specs.Values.{CanCancel}
 use Rattle.exact.proofs.CallerLemmas.{one_cancels, plus_cancels, class_plus, class_whole, Value, class, plus_value, plus_value_comm, plus_value_assoc, plus_value_cancel, whole_value, values}
 use Rattle.elimination.specs.RightHand.{ratio_total}

@@ -5,7 +5,7 @@ use Rattle.exact.specs.Ratio.{Ratio}
 use Rattle.vecdim.specs.declared.vectors.Row.{Row}
 use Rattle.periodic_net.specs.Graph.{Graph}
 use Rattle.elimination.specs.Listed.{Level}
-use Rattle.elimination.specs.Lines.{IsWeights, IsRow, AreRowsOfValues, AreWeights, AreWide, AreArcWeights, level_with}
+use Rattle.elimination.specs.Lines.{IsUpperWeights, IsRow, AreRowsOfValues, AreWeights, AreWide, AreArcWeights, level_with}
 use Rattle.elimination.proofs.steps.Rows.{get_pushed}
 
 -- one row more
@@ -25,13 +25,13 @@ module _ {N : Type 0} (xs : List (Vec N)) (x : Vec N) (width n : ℕ) (count : l
   }
 
   -- the weights of one vertex more
-  pub weights_of_pushed : (m : ℕ) (value : N → Ratio) (l : Level) → AreWeights m value xs l width n → IsWeights m value x.items l width n → AreWeights m value (xs ++ (x ∷ [])) l width (n + 1)
+  pub weights_of_pushed : (m : ℕ) (value : N → Ratio) (l : Level) → AreWeights m value xs l width n → IsUpperWeights m value x.items l width n → AreWeights m value (xs ++ (x ∷ [])) l width (n + 1)
   weights_of_pushed m value l h s = record {
     has = λ i d b. ⊎_elim
-        (λ q. subst (λ t. IsWeights m value t.items l width i) (sym q.1) (h.has i d q.0))
-        (λ q. subst (λ t. IsWeights m value t.items l width i) (sym q.1) (subst (λ k. IsWeights m value x.items l width k) (sym q.0) s)) (get_pushed xs x d i n count b);
+        (λ q. subst (λ t. IsUpperWeights m value t.items l width i) (sym q.1) (h.has i d q.0))
+        (λ q. subst (λ t. IsUpperWeights m value t.items l width i) (sym q.1) (subst (λ k. IsUpperWeights m value x.items l width k) (sym q.0) s)) (get_pushed xs x d i n count b);
   }
 
 -- the arcs of a vertex are its weights
-pub weights_are : {N : Type 0} (m : ℕ) (value : N → Ratio) (xs : List N) (G : Graph) (i : ℕ) (b : ℕ → ℕ → Ratio) → AreArcWeights m value xs G (i + 1) → IsWeights m value xs (level_with G b) G.vertices i
-weights_are m value xs G i b h = record { has = λ j d l o. h.has j d l }
+pub weights_are : {N : Type 0} (m : ℕ) (value : N → Ratio) (xs : List N) (G : Graph) (i : ℕ) (b : ℕ → ℕ → Ratio) → AreArcWeights m value xs G (i + 1) → IsUpperWeights m value xs (level_with G b) G.vertices i
+weights_are m value xs G i b h = record { has = λ j d o l. h.has j d l }

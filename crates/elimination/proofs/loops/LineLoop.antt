@@ -9,7 +9,7 @@ use Rattle.exact.specs.Ratio.{Ratio, HasInverse}
 use Rattle.vecdim.specs.declared.vectors.Row.{Row}
 use Rattle.elimination.specs.Listed.{Level, Entry, place, over_entry, list_to, pivot_sum, weight_entry, shift_entry, row_entries, next_level}
 use Rattle.elimination.specs.Faults.{IsGood, AreGood}
-use Rattle.elimination.specs.Lines.{IsWeights, IsRow, AreRowsOfValues, IsLine, AreWeights, AreLines, AreWide}
+use Rattle.elimination.specs.Lines.{IsUpperWeights, IsRow, AreRowsOfValues, IsUpperLine, AreWeights, AreLines, AreWide}
 use Rattle.elimination.proofs.steps.Rows.{AreLeft}
 
 -- the first i lines are those of the next level
@@ -37,21 +37,21 @@ module _ {N : Type 0} (xs : List (Vec N)) (x : Vec N) (i : ℕ) (within : i < le
   }
 
   -- one list of weights more is replaced
-  pub weights_of_set : (m : ℕ) (value : N → Ratio) (l : Level) (n : ℕ) → AreWeights m value xs l n i → IsWeights m value x.items l n i → AreWeights m value (set xs i x) l n (i + 1)
+  pub weights_of_set : (m : ℕ) (value : N → Ratio) (l : Level) (n : ℕ) → AreWeights m value xs l n i → IsUpperWeights m value x.items l n i → AreWeights m value (set xs i x) l n (i + 1)
   weights_of_set m value l n h s = record {
     has = λ p d b. ⊎_elim
-        (λ (r : p < i). subst (λ t. IsWeights m value t.items l n p) (sym (get_or-set_other xs i p x d (λ e. omega (arith, r, e)))) (h.has p d r))
+        (λ (r : p < i). subst (λ t. IsUpperWeights m value t.items l n p) (sym (get_or-set_other xs i p x d (λ e. omega (arith, r, e)))) (h.has p d r))
         (λ r. here p d (omega (arith, b, r))) (cases_lt p i);
   }
     where
-      here : (p : ℕ) (d : Vec N) → p ≡ i → IsWeights m value (get_or (set xs i x) p d).items l n p
-      here p d e = subst (λ q. IsWeights m value (get_or (set xs i x) q d).items l n q) (sym e) (subst (λ t. IsWeights m value t.items l n i) (sym (get_or-set_same xs i x d within)) s)
+      here : (p : ℕ) (d : Vec N) → p ≡ i → IsUpperWeights m value (get_or (set xs i x) p d).items l n p
+      here p d e = subst (λ q. IsUpperWeights m value (get_or (set xs i x) q d).items l n q) (sym e) (subst (λ t. IsUpperWeights m value t.items l n i) (sym (get_or-set_same xs i x d within)) s)
 
 -- line i as it was before the level, though the lines before it are replaced
 pub line_before : {N : Type 0} {D : ℕ} (m : ℕ) (value : N → Ratio) (old now : List (Vec N)) (old_sums sums : List (Row N D)) (l : Level) (k i : ℕ) → i < k → AreLeft old now i → AreLeft old_sums sums i
-    → AreLines m value old old_sums l (k + 1) k → (d : Vec N) (e : Row N D) (xs : List N) → xs ≡ (get_or now i d).items → IsLine m value xs (get_or sums i e) l (k + 1) i
+    → AreLines m value old old_sums l (k + 1) k → (d : Vec N) (e : Row N D) (xs : List N) → xs ≡ (get_or now i d).items → IsUpperLine m value xs (get_or sums i e) l (k + 1) i
 line_before {N} m value old now old_sums sums l k i b left sums_left h d e xs is = record {
-  weights = subst (λ ys. IsWeights m value ys l (k + 1) i) (sym (is ∙ ap (λ (v : Vec N). v.items) (left.same i d (omega arith)))) (h.weights.has i d b);
+  weights = subst (λ ys. IsUpperWeights m value ys l (k + 1) i) (sym (is ∙ ap (λ (v : Vec N). v.items) (left.same i d (omega arith)))) (h.weights.has i d b);
   sums = subst (λ r. IsRow m value r (l.b i)) (sym (sums_left.same i e (omega arith))) (h.sums.has i e b);
 }
 

@@ -1,15 +1,16 @@
 -- A vertex without weight with the last one: its factor is 0, and its line stays as it is.
 use Rattle.std.proofs.Common.{rules, ◌≡◌, ◌≢◌, ℕ, zero, suc, pos, arith, ◌+◌, ◌<◌, ◌≤◌, ◌==◌, if◌then◌else◌, true, false, List, [], ◌∷◌, ◌++◌, get_or, ◌⊎◌, ⊎_elim, eq-eqb}
-use Rattle.std.proofs.lemmas.Bool.{cases_eq}
+use Rattle.std.proofs.lemmas.Bool.{cases_eq, cases_lt}
 use Rattle.exact.specs.Ratio.{Ratio, Same, HasInverse, whole}
 use Rattle.exact.specs.Values.{CanCancel, HasValue}
 use Rattle.exact.proofs.CallerLemmas.{same_refl, same_sym, same_trans, one_cancels, zero_times, over_like}
 use Rattle.vecdim.specs.declared.vectors.Row.{Row}
 use Rattle.elimination.specs.Listed.{Level, Entry, place, over_entry, list_to, pivot_sum, factor, next_level, weight_entry, shift_entry, row_entries}
 use Rattle.elimination.specs.Faults.{AreGood}
-use Rattle.elimination.specs.Lines.{IsRow, IsLine}
+use Rattle.elimination.specs.Lines.{IsRow, IsLine, IsUpperLine}
 use Rattle.elimination.proofs.steps.Coordinates.{good_flat, good_three}
 use Rattle.elimination.proofs.steps.Firsts.{good_none, good_one, good_append}
+use Rattle.elimination.proofs.steps.Symmetry.{good_part}
 use Rattle.elimination.proofs.steps.Numbers.{Laws, own_cancels, value_fits, left_zero}
 
 -- the entries of a vertex with itself are none
@@ -25,18 +26,19 @@ module _ {N : Type 0} {m : ℕ} {value : N → Ratio} {fits : Ratio → Type 0} 
     share_has = over_like (value x) (pivot_sum l k) (value x) (l.w i k) (pivot_sum l k) pivot (own_cancels laws x)
         (same_trans one_cancels (zero_times (pivot_sum l k) nothing) (same_sym nothing)) inverse has (record { same = same_refl (pivot_sum l k); denominator = pivot })
 
-    module _ {D : ℕ} (xs last : List N) (sums last_sums : Row N D) (d : N) (mine : IsLine m value xs sums l k i) (theirs : IsLine m value last last_sums l k k) where
-      weight_stays : (j : ℕ) (e : N) → j < k → j ≢ i → HasValue m (value (get_or xs j e)) ((next_level k l).w i j)
-      weight_stays j e b o =
+    module _ {D : ℕ} (xs last : List N) (sums last_sums : Row N D) (d : N) (mine : IsUpperLine m value xs sums l k i) (theirs : IsLine m value last last_sums l k k) (before : AreGood m fits (list_to i (weight_entry l k i))) where
+      weight_stays : (j : ℕ) (e : N) → i < j → j < k → HasValue m (value (get_or xs j e)) ((next_level k l).w i j)
+      weight_stays j e o b =
           let y = get_or xs j e in
           let z = get_or last j e in
-          (left_zero laws (place 0 0 0 0 0) (place 0 0 0 0 0) y x z (l.w i j) (factor l k i) (l.w k j) (mine.weights.has j e b o) share_has (theirs.weights.has j e b (omega (arith, b))) nothing).0
+          (left_zero laws (place 0 0 0 0 0) (place 0 0 0 0 0) y x z (l.w i j) (factor l k i) (l.w k j) (mine.weights.has j e o b) share_has (theirs.weights.has j e b (omega (arith, b))) nothing).0
 
       weight_good : (j : ℕ) → j < k → AreGood m fits (weight_entry l k i j)
-      weight_good j b = good_unless i j _ (λ o.
+      weight_good j b = ⊎_elim (λ (r : j < i). good_part (weight_entry l k i) i j before r)
+          (λ r. good_unless i j _ (λ o.
           let y = get_or xs j d in
           let z = get_or last j d in
-          (left_zero laws (place 3 (k + 1) (i + 1) (j + 1) 0) (place 4 (k + 1) (i + 1) (j + 1) 0) y x z (l.w i j) (factor l k i) (l.w k j) (mine.weights.has j d b o) share_has (theirs.weights.has j d b (omega (arith, b))) nothing).1)
+          (left_zero laws (place 3 (k + 1) (i + 1) (j + 1) 0) (place 4 (k + 1) (i + 1) (j + 1) 0) y x z (l.w i j) (factor l k i) (l.w k j) (mine.weights.has j d (omega (arith, r, o)) b) share_has (theirs.weights.has j d b (omega (arith, b))) nothing).1)) (cases_lt j i)
 
       weights_good : (n : ℕ) → n ≤ k → AreGood m fits (list_to n (weight_entry l k i))
       weights_good zero b = good_none
@@ -65,7 +67,7 @@ module _ {N : Type 0} {m : ℕ} {value : N → Ratio} {fits : Ratio → Type 0} 
       over_good = good_one _ (record { divisor = λ e. inverse; fit = value_fits laws x (factor l k i) share_has })
 
       -- the line is that of the next level, and all its numbers are good
-      pub line_stays : (D ≡ 2) ⊎ (D ≡ 3) → IsLine m value xs sums (next_level k l) k i × AreGood m fits (row_entries D l k i)
+      pub line_stays : (D ≡ 2) ⊎ (D ≡ 3) → IsUpperLine m value xs sums (next_level k l) k i × AreGood m fits (row_entries D l k i)
       line_stays h = (
         record { weights = record { has = weight_stays }; sums = sums_stay },
         good_append (_ ∷ []) (list_to k (weight_entry l k i) ++ list_to D (shift_entry l k i)) over_good

@@ -4,8 +4,8 @@ use Rattle.std.specs.Global.{Vec}
 use Rattle.exact.specs.Ratio.{Ratio}
 use Rattle.vecdim.specs.declared.vectors.Row.{Row}
 use Rattle.elimination.specs.Listed.{Level}
-use Rattle.elimination.specs.Lines.{IsWeights, IsRow, IsLine, AreLines, AreWide, AreRowsOfValues}
-use Rattle.elimination.proofs.steps.Rows.{get_pushed, length_pushed, narrower}
+use Rattle.elimination.specs.Lines.{IsUpperWeights, IsSymmetric, IsRow, IsLine, AreLines, AreWide, AreRowsOfValues}
+use Rattle.elimination.proofs.steps.Rows.{get_pushed, length_pushed}
 
 -- without the last there is one less
 pub count_rest : {X : Type 0} (xs : List X) (x : X) (k : ℕ) → length (xs ++ (x ∷ [])) ≡ k + 1 → length xs ≡ k
@@ -28,15 +28,12 @@ module _ {N : Type 0} (xs : List (Vec N)) (x : Vec N) (k : ℕ) (count : length 
   module _ {D : ℕ} (m : ℕ) (value : N → Ratio) (rows : List (Row N D)) (row : Row N D) (row_count : length rows ≡ k) (l : Level) (h : AreLines m value (xs ++ (x ∷ [])) (rows ++ (row ∷ [])) l (k + 1) (k + 1)) where
     pub lines_rest : AreLines m value xs rows l (k + 1) k
     lines_rest = record {
-      weights = record { has = λ i d b. subst (λ t. IsWeights m value t.items l (k + 1) i) (get_rest xs x d k i count b) (h.weights.has i d (omega (arith, b))) };
+      weights = record { has = λ i d b. subst (λ t. IsUpperWeights m value t.items l (k + 1) i) (get_rest xs x d k i count b) (h.weights.has i d (omega (arith, b))) };
       sums = record { has = λ i d b. subst (λ t. IsRow m value t (l.b i)) (get_rest rows row d k i row_count b) (h.sums.has i d (omega (arith, b))) };
     }
 
-    pub line_last : IsLine m value x.items row l k k
-    line_last = record {
-      weights = narrower x.items l (k + 1) k k (omega arith) (subst (λ t. IsWeights m value t.items l (k + 1) k) (get_last xs x x k count) (h.weights.has k x (omega arith)));
-      sums = subst (λ t. IsRow m value t (l.b k)) (get_last rows row row k row_count) (h.sums.has k row (omega arith));
-    }
+    pub row_last : IsRow m value row (l.b k)
+    row_last = subst (λ t. IsRow m value t (l.b k)) (get_last rows row row k row_count) (h.sums.has k row (omega arith))
 
 -- equal weights and sums have the same values
 pub lines_at : {N : Type 0} {D : ℕ} (m : ℕ) (value : N → Ratio) {xs ys : List (Vec N)} {rows others : List (Row N D)} (l : Level) (n count : ℕ) → xs ≡ ys → rows ≡ others → AreLines m value xs rows l n count → AreLines m value ys others l n count
@@ -48,6 +45,10 @@ line_at m value row l n i e h = subst (λ t. IsLine m value t row l n i) e h
 -- k is k - 1 and one more
 again : (k : ℕ) → k ≡ suc (k - 1) → k ≡ k - 1 + 1
 again k e = omega (arith, e)
+
+-- what is known of the first k vertices, said of k - 1 and one more
+pub symmetric_before : (m k : ℕ) → k ≡ suc (k - 1) → (l : Level) → IsSymmetric m l k → IsSymmetric m l (k - 1 + 1)
+symmetric_before m k e l h = subst (IsSymmetric m l) (again k e) h
 
 -- what is known of the first k lines and rows, said of k - 1 and one more
 module _ {N : Type 0} {D : ℕ} (m : ℕ) (value : N → Ratio) (k : ℕ) (e : k ≡ suc (k - 1)) where

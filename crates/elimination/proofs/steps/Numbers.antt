@@ -38,7 +38,7 @@ laws_of m value fits o d e s = record { modulus = o; denominator = d; every = e;
 
 module _ {N : Type 0} {m : ℕ} {value : N → Ratio} {fits : Ratio → Type 0} (laws : Laws m value fits) where
   -- a value that is the same fits too
-  fits_too : (a b : Ratio) → CanCancel m (pos a.den) → CanCancel m (pos b.den) → Same m a b → fits a → fits b
+  pub fits_too : (a b : Ratio) → CanCancel m (pos a.den) → CanCancel m (pos b.den) → Same m a b → fits a → fits b
   fits_too a b x y = laws.same a b (cancelled_denominator m a.den laws.modulus x) (cancelled_denominator m b.den laws.modulus y)
 
   pub own_cancels : (x : N) → CanCancel m (pos (value x).den)
@@ -54,7 +54,7 @@ module _ {N : Type 0} {m : ℕ} {value : N → Ratio} {fits : Ratio → Type 0} 
   good_plus : (at : Place) (l r : Ratio) → fits (ratio_plus l r) → IsGood m fits (plus_entry at l r)
   good_plus at l r f = record { divisor = plus_none r; fit = f }
 
-  terms_good : (at next : Place) (a b c : Ratio) → fits (ratio_times b c) → fits (ratio_plus a (ratio_times b c)) → AreGood m fits (term_entries at next a b c)
+  pub terms_good : (at next : Place) (a b c : Ratio) → fits (ratio_times b c) → fits (ratio_plus a (ratio_times b c)) → AreGood m fits (term_entries at next a b c)
   terms_good at next a b c f h = good_append (_ ∷ []) (_ ∷ []) (good_one _ (good_times at b c f)) (good_one _ (good_plus next a (ratio_times b c) h))
 
   module _ (at next : Place) (x left right : N) (a b c : Ratio) (xa : HasValue m (value x) a) (lb : HasValue m (value left) b) (rc : HasValue m (value right) c) where

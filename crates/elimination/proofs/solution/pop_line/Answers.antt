@@ -1,20 +1,14 @@
-use Rattle.std.proofs.Common.{◌+◌, ◌∙◌, ap, sym, length}
-use Rattle.elimination.proofs.steps.LastLine.{count_rest, lines_rest, line_last, lines_at}
+use Rattle.std.proofs.Common.{◌+◌, ◌∙◌, sym, subst}
+use Rattle.std.proofs.lemmas.List.{with_items_is}
+use Rattle.elimination.specs.Lines.{IsWeights, AreWeights}
 use Rattle.elimination.proofs.solution.pop_line.Goals as goal
 
 pub returns-clause-values : goal.returns-clause-values
-returns-clause-values g c = λ v h.
+returns-clause-values g c = λ v h s.
     let n = g.N.Exact in
     let k = c.args.k in
-    let items = c.in-Some-Some.ensures.items in
-    let rest = c.pop.new.self.items in
-    let last = c.in-Some-Some.last in
-    let count = count_rest rest last k (ap length (sym items) ∙ c.requires.lines) in
-    let sum_items = c.in-Some-Some.ensures'.items in
-    let sum_rest = c.pop-2.new.self.items in
-    let last_sums = c.in-Some-Some.last_sums in
-    let sum_count = count_rest sum_rest last_sums k (ap length (sym sum_items) ∙ c.requires.sums) in
-    let all = lines_at n.modulus n.value v (k + 1) (k + 1) items sum_items h in (
-      lines_rest rest last k count n.modulus n.value sum_rest last_sums sum_count v all,
-      line_last rest last k count n.modulus n.value sum_rest last_sums sum_count v all,
-    )
+    let popped = c.pop_last-last.ensures.values v h in
+    let lines = subst (λ xs. AreWeights n.modulus n.value xs v (k + 1) k) (sym c.deref.ensures.value) popped.0.weights in
+    let filled = c.gather_weights.ensures v lines s in
+    let kept = with_items_is c.pop_last-last.result.0 c.gather_weights.new.last (c.gather_weights.auto.last ∙ c.deref_mut.ensures.len) in
+    (popped.0, record { weights = subst (λ xs. IsWeights n.modulus n.value xs v k k) (sym kept) filled; sums = popped.1 })
