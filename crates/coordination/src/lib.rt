@@ -3,10 +3,12 @@
 
 mod count;
 mod laws;
+mod list;
 mod point;
 mod reach;
 mod search;
 
 pub use count::{MOST_IN_SHELLS, MOST_SHELLS, shells};
 pub use laws::{each_shell_has_a_size, one_sequence, two_shells_suffice};
+pub use list::Sequences;
 pub use std::alloc::AllocError as NoMemory;
