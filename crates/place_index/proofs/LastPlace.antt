@@ -5,8 +5,9 @@ use Rattle.std.specs.List.{enumerate_from}
 use Rattle.std.proofs.lemmas.Bool.{cases_eq, ne_eqb}
 use Rattle.std.proofs.lemmas.List.{map-append, append-nil}
 use Rattle.std.proofs.lemmas.List.Elements.{filter-append}
+use Rattle.std.proofs.lemmas.Grind.{common_steps}
 use Rattle.indexmap.specs.IndexMap.{IndexMap, get}
-use Rattle.place_index.specs.Places.{places_of, listed, ArePlaces}
+use Rattle.place_index.specs.Places.{places_of, listed, ArePlaces, without_last}
 
 -- the last number has the last place
 enumerate_push : (n : ℕ) (xs : List ℕ) (y : ℕ) → enumerate_from n (xs ++ y ∷ []) ≡ enumerate_from n xs ++ (n + length xs, y) ∷ []
@@ -40,4 +41,21 @@ places_kept xs ys m n y place e l kept put others x =
     put ∙ (λ i. kept y i ++ l i ∷ []) ∙ sym (places_here xs y) in
     subst (λ v. listed (get nat_eq n v) ≡ places_of (xs ++ y ∷ []) v) (sym same) here ∙ sym at)
     (λ (ne : x ≢ y). ap listed (others x ne) ∙ kept x ∙ sym (places_other xs y x ne) ∙ sym at)
+    (cases_eq x y)
+
+-- a list without the number that was put last
+last_gone : (xs : List ℕ) (y : ℕ) → without_last (xs ++ y ∷ []) ≡ xs
+last_gone xs y = grind (arith, common_steps)
+
+-- after the last number is taken away, its places and those of the others are kept
+pub places_left : {S : Type 0} (xs ys : List ℕ) (m n : IndexMap ℕ (Vec ℕ Global) S) (y : ℕ) → ys ≡ xs ++ y ∷ [] → ArePlaces ys m
+    → listed (get nat_eq n y) ≡ without_last (listed (get nat_eq m y)) → ((v : ℕ) → v ≢ y → get nat_eq n v ≡ get nat_eq m v) → ArePlaces xs n
+places_left xs ys m n y e kept dropped others x =
+    let was : (v : ℕ) → listed (get nat_eq m v) ≡ places_of (xs ++ y ∷ []) v = λ v. kept v ∙ ap (λ zs. places_of zs v) e in
+    ⊎_elim
+    (λ (same : x ≡ y).
+    let here : listed (get nat_eq n y) ≡ places_of xs y =
+    dropped ∙ ap without_last (was y ∙ places_here xs y) ∙ last_gone (places_of xs y) (length xs) in
+    subst (λ v. listed (get nat_eq n v) ≡ places_of xs v) (sym same) here)
+    (λ (ne : x ≢ y). ap listed (others x ne) ∙ was x ∙ places_other xs y x ne)
     (cases_eq x y)

@@ -1,5 +1,5 @@
 -- Places in a list of numbers.
-use Rattle.std.specs.Prelude.{◌≡◌, ℕ, ◌==◌, List, [], map, filter, nat_eq, Option, None, Some, Vec}
+use Rattle.std.specs.Prelude.{◌≡◌, ℕ, ◌-◌, ◌==◌, List, [], length, take, map, filter, nat_eq, Option, None, Some, Vec}
 use Rattle.std.specs.List.{enumerate_from}
 use Rattle.std.specs.declared.alloc.Global.{Global}
 use Rattle.indexmap.specs.IndexMap.{IndexMap, get}
@@ -16,3 +16,7 @@ listed (Some places) = places.items
 -- for each number its places in the list are kept
 abbrev pub ArePlaces : {S : Type 0} → List ℕ → IndexMap ℕ (Vec ℕ Global) S → Type 0
 ArePlaces xs kept = (x : ℕ) → listed (get nat_eq kept x) ≡ places_of xs x
+
+-- a list without its last number
+abbrev pub without_last : List ℕ → List ℕ
+without_last xs = take (length xs - 1) xs

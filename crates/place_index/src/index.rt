@@ -1,7 +1,8 @@
 // A list of numbers with the places of each.
 ghost use Rattle.std.specs.Prelude.{◌≡◌, ◌≢◌, ℕ, ◌++◌, ◌∷◌, [], nat_eq, OnOk, OnErr};
 ghost use Rattle.indexmap.specs.IndexMap.{get};
-ghost use Rattle.place_index.specs.Places.{listed, places_of};
+ghost use Rattle.std.specs.Option.{option_to_list};
+ghost use Rattle.place_index.specs.Places.{listed, places_of, without_last};
 
 use crate::NoMemory;
 use indexmap::IndexMap;
@@ -46,6 +47,17 @@ fn put_place(places: &mut IndexMap<u64, Vec<u32>>, value: u64, place: u32) -> Re
     Ok(())
 }
 
+// Takes away the last place of a value.
+fn drop_place(places: &mut IndexMap<u64, Vec<u32>>, value: u64)
+    ensures dropped { listed (get nat_eq places.new value) ≡
+        without_last (listed (get nat_eq places.old value)) }
+    ensures others { (v : ℕ) → v ≢ value → get nat_eq places.new v ≡ get nat_eq places.old v }
+{
+    if let Some(of_value) = places.get_mut(&value) {
+        let _ = of_value.pop();
+    }
+}
+
 impl PlaceIndex {
     /// No number.
     pub fn new(alloc: Global) -> Self
@@ -71,6 +83,15 @@ impl PlaceIndex {
             Ok(()) => Ok(()),
             Err(_) => unreachable!(),
         }
+    }
+
+    /// Takes the last number away, if there is one.
+    pub fn pop(&mut self) -> Option<u64>
+        ensures { self.old ≡ self.new ++ option_to_list result }
+    {
+        let value = self.values.pop()?;
+        drop_place(&mut self.places, value);
+        Some(value)
     }
 
     /// The places of a number, counted from 0, in rising order.
