@@ -2,7 +2,12 @@
 //! key and by name.
 #![tactic(auto)]
 
+mod all;
 mod entry;
+mod matches_of;
+mod prints;
 
+pub use all::Entries;
 pub use entry::Entry;
+pub use matches_of::Matches;
 pub use std::alloc::AllocError as NoMemory;

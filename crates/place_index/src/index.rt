@@ -1,5 +1,5 @@
 // A list of numbers with the places of each.
-ghost use Rattle.std.specs.Prelude.{◌≡◌, ◌≢◌, ℕ, ◌++◌, ◌∷◌, [], nat_eq, OnOk, OnErr};
+ghost use Rattle.std.specs.Prelude.{◌≡◌, ◌≢◌, ℕ, ◌++◌, ◌∷◌, [], nat_eq, IfNone, OnOk, OnErr};
 ghost use Rattle.indexmap.specs.IndexMap.{get};
 ghost use Rattle.std.specs.Option.{option_to_list};
 ghost use Rattle.place_index.specs.Places.{listed, places_of, without_last};
@@ -87,7 +87,8 @@ impl PlaceIndex {
 
     /// Takes the last number away, if there is one.
     pub fn pop(&mut self) -> Option<u64>
-        ensures { self.old ≡ self.new ++ option_to_list result }
+        ensures last { self.old ≡ self.new ++ option_to_list result }
+        ensures none { IfNone result (self.new ≡ []) }
     {
         let value = self.values.pop()?;
         drop_place(&mut self.places, value);

@@ -1,0 +1,4 @@
+pub mod AtPlaces
+pub mod CallerLemmas
+pub mod Looking
+pub mod Undoing
