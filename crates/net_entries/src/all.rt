@@ -1,8 +1,10 @@
 // The list of entries.
-ghost use Rattle.std.specs.Prelude.{◌≡◌, ◌++◌, ◌∷◌, ◌↔◌, [], IsTrue, Contains, OnOk, OnErr};
+ghost use Rattle.std.specs.Prelude.{◌≡◌, ◌+◌, ◌<◌, ◌++◌, ◌∷◌, ◌↔◌, [], ℕ, List, length, IsTrue, Contains, IfNone, IfSome, IfOk, OnOk, OnErr};
 ghost use Rattle.net_entries.specs.Entries.{entry_view, entry_views};
+ghost use Rattle.net_entries.specs.Groups.{AreGroups, IsGroupFrom};
 ghost use Rattle.net_entries.specs.Lookups.{names_of, names_with};
 
+use crate::groups_of::{Groups, first_number, numbers_at};
 use crate::matches_of::{Matches, has_name_at};
 use crate::prints::{key_print, name_print};
 use crate::{Entry, NoMemory};
@@ -85,5 +87,42 @@ impl Entries {
     {
         let places = self.keys.places(key_print(key.numbers()));
         Matches::new(&self.items, places, key)
+    }
+
+    // The group whose first entry stands at this place, if one begins there.
+    fn group_from(&self, place: usize) -> Result<Option<Vec<u32>>, NoMemory>
+        requires { place < length self.now }
+        ensures none { IfOk result (λ found. IfNone found
+            ((group : List ℕ) → ¬ IsGroupFrom self.now (place + 1) group)) }
+        ensures some { IfOk result (λ found. IfSome found
+            (λ group. IsGroupFrom self.now (place + 1) group.items)) }
+    {
+        let key = &self.items[place].key;
+        let places = self.keys.places(key_print(key.numbers()));
+        let Some(first) = first_number(&self.items, places, key) else {
+            return Ok(None);
+        };
+        if first as usize != place + 1 {
+            return Ok(None);
+        }
+        let numbers = numbers_at(*self.items.allocator(), &self.items, places, key)?;
+        if numbers.len() < 2 {
+            return Ok(None);
+        }
+        Ok(Some(numbers))
+    }
+
+    /// The groups of two or more entries with equal keys, as rising entry numbers from 1, in the
+    /// order of their first members.
+    pub fn duplicates(&self) -> Result<Groups, NoMemory>
+        ensures { IfOk result (AreGroups self.now) }
+    {
+        let mut groups = Groups::new(*self.items.allocator());
+        for place in 0..self.items.len() {
+            if let Some(group) = self.group_from(place)? {
+                groups.push(group)?;
+            }
+        }
+        Ok(groups)
     }
 }
