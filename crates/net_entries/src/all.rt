@@ -13,6 +13,9 @@ use quotient_graph::Key;
 use std::alloc::Global;
 use std::marker::Model;
 
+/// So many entries with one key are a group.
+const FEWEST: usize = 2;
+
 /// Entries in order, fewer than 2^32, which are found by name and by key through fingerprints.
 /// Contracts see the list of what each entry has.
 #[derive(Drop)]
@@ -106,7 +109,7 @@ impl Entries {
             return Ok(None);
         }
         let numbers = numbers_at(*self.items.allocator(), &self.items, places, key)?;
-        if numbers.len() < 2 {
+        if numbers.len() < FEWEST {
             return Ok(None);
         }
         Ok(Some(numbers))
