@@ -24,7 +24,7 @@ returns-then-first-place-clause-none c =
     no_group c.args.self.now c.args.place (entry_view c.index.result.now) there
     (λ begins two. let e : Some c.in-Some.first ≡ Some (c.args.place + 1) = first ∙ begins in c.if-first-place.true (cc))
 
-pub returns-then-len-lt-FEWEST-clause-none : goal.returns-then-len-lt2-clause-none
+pub returns-then-len-lt-FEWEST-clause-none : goal.returns-then-len-lt-FEWEST-clause-none
 returns-then-len-lt-FEWEST-clause-none c =
     let items = c.self.inside.items.items in
     let there = entry_there items c.args.self.now c.self.view_is c.args.place c.index.result.now c.index.ensures c.requires in
