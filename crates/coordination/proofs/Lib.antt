@@ -1,4 +1,6 @@
+pub mod AllClasses
 pub mod Apart
+pub mod CallerLemmas
 pub mod Counting
 pub mod Existence
 pub mod Finding
@@ -6,6 +8,8 @@ pub mod Layers
 pub mod Leaves
 pub mod Neighbours
 pub mod NewNeighbours
+pub mod OneListOfSequences
+pub mod OneNumbering
 pub mod OneSequence
 pub mod Places
 pub mod PointShells

@@ -3,11 +3,15 @@ use Rattle.std.specs.Prelude.{◌≡◌, ◌↔◌, ℕ, ◌+◌, List}
 use Rattle.periodic_net.specs.Graph.{Graph, IsGraph, Vertex, IsVertex, AreJoined}
 use Rattle.periodic_net.specs.Shells.{IsInShell, IsShellSize}
 use Rattle.key_theory.specs.Key.{Shape}
-use Rattle.coordination.specs.Sequences.{AreShellsOf}
+use Rattle.coordination.specs.Sequences.{AreShellsOf, AreSequencesOf}
 
 -- a vertex has one list of sizes
 abbrev pub OneSequence : Type 0
 OneSequence = (G : Graph) (w : Vertex) (xs ys : List ℕ) → AreShellsOf G w xs → AreShellsOf G w ys → xs ≡ ys
+
+-- a graph has one list of the sizes of its classes
+abbrev pub SequencesAreOne : Type 0
+SequencesAreOne = (G : Graph) (xs ys : List (List ℕ)) → IsGraph G → AreSequencesOf G xs → AreSequencesOf G ys → xs ≡ ys
 
 -- each shell of each vertex of a connected stable net has a size
 abbrev pub EachShellHasASize : Type 0

@@ -1,5 +1,6 @@
 -- Coordination sequences, as far as they are listed.
-use Rattle.std.specs.Prelude.{◌≡◌, ◌⊎◌, ℕ, ◌+◌, ◌<◌, ◌≤◌, List, length, sum, slice_index_or}
+use Rattle.std.specs.Prelude.{◌≡◌, ◌⊎◌, ℕ, ◌+◌, ◌-◌, ◌<◌, ◌≤◌, List, [], length, map, sum, slice_index_or, Vec}
+use Rattle.std.specs.declared.alloc.Global.{Global}
 use Rattle.periodic_net.specs.Classes.{ClassGraph}
 use Rattle.periodic_net.specs.Graph.{Graph, IsGraph, Vertex, IsVertex}
 use Rattle.periodic_net.specs.Shells.{IsShellSize}
@@ -30,3 +31,14 @@ pub record AreShellsOf (G : Graph) (w : Vertex) (sizes : List ℕ) : Type 0 wher
 abbrev pub AreShellsOfClass : ClassGraph → ℕ → List ℕ → Type 0
 AreShellsOfClass K c sizes = (G : Graph) → IsGraph G → (h : Shape G) → h.classes ≡ K
     → (w : Vertex) → IsVertex G w → h.class_of w.over ≡ c → AreShellsOf G w sizes
+
+-- the lists in these vectors
+abbrev pub numbers_in : List (Vec ℕ Global) → List (List ℕ)
+numbers_in lists = map (λ list. list.items) lists
+
+-- G is the graph of a connected stable net, and these are the sizes of the shells of its classes: a list for each class, in the
+-- order of their numbers, with the sizes for each vertex of the class
+pub record AreSequencesOf (G : Graph) (lists : List (List ℕ)) : Type 0 where
+  pub shape : Shape G
+  pub count : length lists ≡ shape.classes.count
+  pub each : (w : Vertex) → IsVertex G w → AreShellsOf G w (slice_index_or lists (shape.class_of w.over - 1) [])

@@ -1,12 +1,16 @@
 //! Coordination sequences of nets.
 #![tactic(auto)]
 
+mod all_classes;
 mod count;
 mod laws;
+mod list;
 mod point;
 mod reach;
 mod search;
 
+pub use all_classes::sequences;
 pub use count::{MOST_IN_SHELLS, MOST_SHELLS, shells};
-pub use laws::{each_shell_has_a_size, one_sequence, two_shells_suffice};
+pub use laws::{each_shell_has_a_size, one_sequence, sequences_are_one, two_shells_suffice};
+pub use list::Sequences;
 pub use std::alloc::AllocError as NoMemory;

@@ -5,5 +5,6 @@ pub mod Held
 pub mod Files
 pub mod Kept
 pub mod MemoryShelf
+pub mod HonestShelf
 pub mod MemorySink
 pub mod HostLast

@@ -1,8 +1,10 @@
 //! Where bytes come from and where they go: a shelf of named files and a sink, each with a count of
-//! its faults. One of each in memory, with failures at listed calls, and one of each by the host.
+//! its faults. One of each in memory, with failures at listed calls, and one of each by the host; and
+//! a shelf in memory that never fails.
 #![tactic(auto)]
 
 mod files;
+mod honest_shelf;
 mod host_shelf;
 mod memory_shelf;
 mod memory_sink;
@@ -12,6 +14,7 @@ mod stdout_sink;
 #[cfg(test)]
 mod tests;
 
+pub use honest_shelf::HonestShelf;
 pub use host_shelf::HostShelf;
 pub use memory_shelf::MemoryShelf;
 pub use memory_sink::MemorySink;

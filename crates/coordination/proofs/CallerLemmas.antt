@@ -1,0 +1,2 @@
+-- The lemmas of this crate that other crates cite.
+pub use Rattle.coordination.proofs.OneListOfSequences.{one_list_of_sequences}

@@ -1,0 +1,7 @@
+pub mod AtPlaces
+pub mod CallerLemmas
+pub mod FoundGroups
+pub mod FromPlace
+pub mod KeyNumbers
+pub mod Looking
+pub mod Undoing

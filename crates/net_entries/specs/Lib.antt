@@ -1,0 +1,4 @@
+pub mod Entries
+pub mod Fingerprints
+pub mod Groups
+pub mod Lookups

@@ -1,0 +1,12 @@
+// An entry.
+use coordination::Sequences;
+use quotient_graph::{AnyGraph, Key};
+
+/// A name, a graph, the key of the graph, and the sizes of shells of each of its classes.
+#[derive(Drop)]
+pub struct Entry {
+    pub name: Vec<u8>,
+    pub graph: AnyGraph,
+    pub key: Key,
+    pub shells: Sequences,
+}

@@ -1,0 +1,4 @@
+pub mod BaseEdges
+pub mod Ranges
+pub mod SmallEdges
+pub mod SmallText

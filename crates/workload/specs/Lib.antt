@@ -1,0 +1,2 @@
+pub mod BaseNets
+pub mod Workload
