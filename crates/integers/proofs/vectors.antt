@@ -10,3 +10,4 @@ pub mod LinearRelations
 pub mod OneStaircase
 pub mod StairBasis
 pub mod StairCoordinates
+pub mod BaseSums

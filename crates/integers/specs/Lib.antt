@@ -4,3 +4,4 @@ pub mod LinearRelations
 pub mod Lists
 pub mod Staircase
 pub mod Vectors
+pub mod Bases

@@ -5,7 +5,7 @@ use Rattle.std.proofs.lemmas.Int.{ints}
 use Rattle.integers.specs.Vectors.{Vector, plus, times, parts, combination, triple_product, HasDimension}
 use Rattle.integers.proofs.numbers.Ring.{ring, linear, factor_zero}
 use Rattle.integers.proofs.vectors.Laws.{plus_zero, zero_times}
-use Rattle.periodic_net.specs.Maps.{base_sum}
+use Rattle.integers.specs.Bases.{base_sum}
 use Rattle.key_theory.specs.Coordinates.{IsBasisOf}
 use Rattle.vecdim.specs.Stairs.{Stairs, HasStairShape, rows_of}
 use Rattle.net_coordinates.specs.Lattices.{basis_of}

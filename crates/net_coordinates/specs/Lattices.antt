@@ -3,7 +3,7 @@ use Rattle.std.specs.Prelude.{◌≡◌, ℕ, ◌+◌, ◌≤◌, ◌<◌, pos, 
 use Rattle.integers.specs.Vectors.{vector, HasDimension, IsWithin}
 use Rattle.periodic_net.specs.Classes.{ClassGraph, ClassArc}
 use Rattle.periodic_net.specs.Limits.{most_coordinate, most_units}
-use Rattle.periodic_net.specs.Maps.{Base}
+use Rattle.integers.specs.Bases.{Base}
 use Rattle.key_theory.specs.Coordinates.{arc_by_basis}
 use Rattle.quotient_graph.specs.ClassNets.{arcs_of, class_star}
 use Rattle.vecdim.specs.Lattices.{Members}

@@ -4,7 +4,8 @@ use Rattle.std.specs.Prelude.{◌↔◌, slice_index_or}
 use Rattle.std.proofs.lemmas.List.Sorted.{IsPermutation-sym}
 use Rattle.periodic_net.specs.Graph.{Graph, Vertex, IsGraph, IsVertex}
 use Rattle.periodic_net.specs.Maps.{Iso}
-use Rattle.periodic_net.proofs.isomorphisms.Periods.{identity_periodic, unit_base}
+use Rattle.integers.proofs.vectors.BaseSums.{unit_base}
+use Rattle.periodic_net.proofs.isomorphisms.Periods.{identity_periodic}
 use Rattle.periodic_net.proofs.isomorphisms.Isomorphism.{iso_transitive, iso_symmetric}
 use Rattle.cgd_read.specs.Graphs.{graph_of}
 use Rattle.cgd_read.specs.Views.{RawView, BodyView, Net, BlockView}

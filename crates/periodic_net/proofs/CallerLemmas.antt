@@ -7,9 +7,9 @@ pub use Rattle.periodic_net.proofs.isomorphisms.ClassIsomorphism.{correspond_tur
 pub use Rattle.periodic_net.proofs.isomorphisms.Isomorphism.{iso_reflexive}
 pub use Rattle.periodic_net.proofs.isomorphisms.LinearPart.{image_linear}
 pub use Rattle.periodic_net.proofs.isomorphisms.Neighbours.{arc_between, between_end, end_joined, end_of}
-pub use Rattle.periodic_net.proofs.isomorphisms.Periods.{base_sum_minus, base_sum_plus, base_sum_times, base_sum_zero, moved_vertex}
+pub use Rattle.periodic_net.proofs.isomorphisms.Periods.{moved_vertex}
 pub use Rattle.periodic_net.proofs.isomorphisms.Transport.{iso_classes}
-pub use Rattle.periodic_net.proofs.nets.ArcLists.{arc_is_from, arc_turned, arcs_apart, either_way, from_is_arc, reverse_twice}
+pub use Rattle.periodic_net.proofs.nets.ArcLists.{arc_is_from, arc_turned, arcs_apart, either_way, from_is_arc, one_spelling, reverse_twice}
 pub use Rattle.periodic_net.proofs.nets.Arcs.{IsInside, arc_inside, joined_inside, origin_vertex}
 pub use Rattle.periodic_net.proofs.nets.Generators.{IsTree, connected_by_tree}
 pub use Rattle.periodic_net.proofs.nets.Loops.{reached_by_shift}

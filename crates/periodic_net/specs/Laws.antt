@@ -4,7 +4,8 @@ use Rattle.integers.specs.Vectors.{Vector, zero_vector, plus, minus, opposite, t
 use Rattle.periodic_net.specs.Graph.{Graph, IsGraph, arcs, IsQuotientVertex, Vertex, IsVertex, IsConnected}
 use Rattle.periodic_net.specs.Split.{Split, IsSplit}
 use Rattle.periodic_net.specs.Placement.{Placement, base, position, IsBarycentric, IsNormalPlacement, IsTranslate, HasNoCollision, IsStablePlacement, IsStable}
-use Rattle.periodic_net.specs.Maps.{Base, base_sum, IsPeriodic, Iso, PeriodicMap, IsMapTable, IsDrawnBy}
+use Rattle.integers.specs.Bases.{Base, base_sum}
+use Rattle.periodic_net.specs.Maps.{IsPeriodic, Iso, PeriodicMap, IsMapTable, IsDrawnBy}
 use Rattle.periodic_net.specs.Harmonic.{Repeats, IsNetHarmonic}
 use Rattle.periodic_net.specs.Classes.{StandsAt, IsTranslation, ShareClass, ClassGraph, IsClassGraph}
 use Rattle.periodic_net.specs.Correspondence.{CarriesClassGraph}

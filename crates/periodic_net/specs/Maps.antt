@@ -1,18 +1,9 @@
 -- Periodic maps between nets, and isomorphism. No placement, cell, frame or traversal occurs here.
 -- Isomorphism is that of periodic nets; to write it by maps with a period is this project's own.
 use Rattle.std.specs.Prelude.{◌≡◌, ◌↔◌, ℕ, ◌≤◌, pos, ◌<ℤ◌, ◌≤ℤ◌}
+use Rattle.integers.specs.Bases.{Base, base_sum}
 use Rattle.integers.specs.Vectors.{Vector, plus, times, HasDimension}
 use Rattle.periodic_net.specs.Graph.{Graph, Vertex, vertex, moved, IsVertex, IsQuotientVertex, AreJoined}
-
--- the d shifts of a periodic map; in dimension 2 the third counts for nothing
-pub record Base : Type 0 where
-  pub first : Vector
-  pub second : Vector
-  pub third : Vector
-
--- the sum of k_i times the i-th shift
-abbrev pub base_sum : Base → Vector → Vector
-base_sum b k = plus (times k.x b.first) (plus (times k.y b.second) (times k.z b.third))
 
 -- the map repeats: what lies m·k further goes the sum of k_i·B_i further
 pub record IsPeriodic (G H : Graph) (map : Vertex → Vertex) (m : ℕ) (b : Base) : Type 0 where

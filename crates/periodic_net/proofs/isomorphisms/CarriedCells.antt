@@ -3,12 +3,14 @@ use Rattle.std.proofs.Common.{pos, ap, sym, ◌≡◌, ◌≢◌, ◌*◌, ◌+�
 use Rattle.std.proofs.lemmas.Int.{ints}
 use Rattle.integers.specs.Vectors.{Vector, HasDimension, times, plus}
 use Rattle.periodic_net.specs.Graph.{moved, IsVertex, Vertex, Graph, vertex, IsGraph, IsConnected}
-use Rattle.periodic_net.specs.Maps.{Iso, base_sum}
+use Rattle.integers.specs.Bases.{base_sum}
+use Rattle.periodic_net.specs.Maps.{Iso}
 use Rattle.periodic_net.specs.Placement.{IsBarycentric, Placement}
 use Rattle.integers.proofs.vectors.Laws.{sum_times, one_times, zero_times, plus_zero, plus_associative, plus_cancel, times_dimension}
 use Rattle.integers.proofs.numbers.Ring.{sum_product, ring, cancel_factor, positive_not_zero}
 use Rattle.integers.proofs.vectors.Coordinates.{IsCoordinate}
-use Rattle.periodic_net.proofs.isomorphisms.Periods.{base_sum_after, moved_vertex, base_after, periodic_after}
+use Rattle.integers.proofs.vectors.BaseSums.{base_sum_after, base_after}
+use Rattle.periodic_net.proofs.isomorphisms.Periods.{moved_vertex, periodic_after}
 use Rattle.periodic_net.proofs.isomorphisms.CarriedPositions.{further_same, pulled_in, pulled_period}
 
 -- there and back, the shifts are those of the product of the periods

@@ -3,7 +3,8 @@ use Rattle.std.proofs.Common.{List, ap, map, [], ◌∷◌, subst, ◌*◌, ◌�
 use Rattle.periodic_net.specs.Graph.{Graph, IsGraph, IsVertex, Vertex, IsWalk, IsConnected, IsReached}
 use Rattle.periodic_net.specs.Maps.{Iso}
 use Rattle.periodic_net.proofs.nets.Arcs.{joined_inside}
-use Rattle.periodic_net.proofs.isomorphisms.Periods.{periodic_after, base_after, unit_base, identity_periodic}
+use Rattle.integers.proofs.vectors.BaseSums.{base_after, unit_base}
+use Rattle.periodic_net.proofs.isomorphisms.Periods.{periodic_after, identity_periodic}
 
 -- a walk goes to a walk
 walk_there : (G H : Graph) → IsGraph G → (e : Iso G H) → (steps : List Vertex) (w x : Vertex) → IsVertex G w → IsWalk G w steps x → IsWalk H (e.there w) (map e.there steps) (e.there x)

@@ -2,7 +2,8 @@
 use Rattle.std.proofs.Common.{◌*◌}
 use Rattle.periodic_net.specs.Graph.{Graph, IsGraph}
 use Rattle.periodic_net.specs.Placement.{IsStable, position}
-use Rattle.periodic_net.specs.Maps.{Iso, base_sum}
+use Rattle.integers.specs.Bases.{base_sum}
+use Rattle.periodic_net.specs.Maps.{Iso}
 use Rattle.periodic_net.proofs.isomorphisms.Isomorphism.{iso_connected, iso_turned}
 use Rattle.periodic_net.proofs.isomorphisms.CarriedPlacement.{placed, placed_barycentric, pulled_steady, placed_apart}
 use Rattle.periodic_net.proofs.placements.NormalExists.{normal_exists, reduced_apart}

@@ -2,7 +2,7 @@ use Rattle.std.proofs.Common.{◌≡◌, ◌∙◌, refl, sym, ap, subst, lit<, 
 use Rattle.integers.specs.Vectors.{IsWithin, Vector}
 use Rattle.periodic_net.specs.Classes.{ClassArc}
 use Rattle.periodic_net.specs.Limits.{most_coordinate, most_units}
-use Rattle.periodic_net.specs.Maps.{base_sum}
+use Rattle.integers.specs.Bases.{base_sum}
 use Rattle.net_coordinates.specs.Lattices.{basis_of}
 use Rattle.net_coordinates.proofs.StairBasis.{combination_is_sum}
 use Rattle.net_coordinates.proofs.coordinates.arc_in.Goals as goal
