@@ -1,5 +1,6 @@
 // The sizes of the shells of all classes.
-ghost use Rattle.std.specs.Prelude.{IfOk};
+ghost use Rattle.std.specs.Prelude.{◌≤◌, IfOk, length};
+ghost use Rattle.periodic_net.specs.Limits.{most_vertices};
 ghost use Rattle.coordination.specs.Sequences.{AreSequencesOf};
 
 use crate::count::shells;
@@ -10,6 +11,7 @@ use std::alloc::Global;
 /// The sizes of the shells of each class, in the order of their numbers.
 pub fn sequences<const D: usize>(alloc: Global, classes: &Classes<D>) -> Result<Sequences, NoMemory>
     ensures sequences { IfOk result (AreSequencesOf classes.now.graph) }
+    ensures few { IfOk result (λ lists. length lists ≤ most_vertices) }
 {
     let count = classes.net().count();
     let mut lists = Sequences::new(alloc);

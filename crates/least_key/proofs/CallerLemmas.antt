@@ -1,2 +1,3 @@
 -- The lemmas of this crate that other crates cite.
-pub use Rattle.least_key.proofs.KeysTelling.{nets_decide}
+pub use Rattle.least_key.proofs.KeysTelling.{key_of_graph, nets_decide}
+pub use Rattle.least_key.proofs.certain.Accepted.{certain_is_not_refused, keyed_is_certain}

@@ -1,3 +1,4 @@
 pub mod CallerLemmas
 pub mod KeysTelling
 pub mod Truth
+pub mod certain

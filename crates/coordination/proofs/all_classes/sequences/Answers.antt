@@ -1,4 +1,5 @@
-use Rattle.std.proofs.Common.{◌≡◌, subst, ◌∙◌, arith}
+use Rattle.std.proofs.Common.{◌≡◌, ◌≤◌, subst, sym, ◌∙◌, arith}
+use Rattle.periodic_net.specs.Limits.{most_vertices}
 use Rattle.coordination.proofs.AllClasses.{AreFirst, one_more, all_classes}
 use Rattle.coordination.proofs.all_classes.sequences.Goals as goal
 
@@ -13,4 +14,7 @@ returns g c =
     let least = c.loop-before.auto.before-end in
     let end : c.loop-before.before ≡ c.count-count.result = omega arith in
     let count = end ∙ c.count-count.ensures.count ∙ (λ i. (c.net.ensures.net i).count) in
-    record { sequences = all_classes c.args.classes.now c.net.ensures.is_graph c.net.ensures.classes c.loop-before.lists (subst (λ n. AreFirst K n c.loop-before.lists) count c.loop-before.invariant) }
+    record {
+      sequences = all_classes c.args.classes.now c.net.ensures.is_graph c.net.ensures.classes c.loop-before.lists (subst (λ n. AreFirst K n c.loop-before.lists) count c.loop-before.invariant);
+      few = subst (λ n. n ≤ most_vertices) (sym (c.loop-before.invariant.count ∙ end)) c.count-count.ensures.few;
+    }

@@ -1,0 +1,15 @@
+pub mod CallerLemmas
+pub mod Outcomes
+pub mod Edges
+pub mod RowForms
+pub mod ShortLists
+pub mod Lists
+pub mod RowSums
+pub mod Following
+pub mod BadLines
+pub mod Writing
+pub mod PlainRows
+pub mod Walks
+pub mod EntryWalks
+pub mod Meeting
+pub mod FirstEntries

@@ -1,0 +1,27 @@
+use Rattle.std.proofs.Common.{ℕ, Result, List, [], ◌∷◌, ◌++◌, MatchResult}
+use Rattle.std.proofs.lemmas.Result.{IfOk-weaker}
+use Rattle.line_text.specs.Lines.{IsAt}
+use Rattle.archive_text.specs.declared.version.Version.TheVariants.{Two}
+use Rattle.archive_text.specs.Rows.{row_lines, count_row}
+use Rattle.archive_text.specs.Forms.{IsCount}
+use Rattle.archive_text.specs.Parts.{Keyed, end_part, part_rows}
+use Rattle.archive_text.specs.Reading.{NoCount, HasShells, HasBadShells, HasWhole, HasBadLine}
+use Rattle.archive_text.proofs.Outcomes.{at_none, at_some, result_from}
+use Rattle.archive_text.proofs.BadLines.{bad_count, bad_shells, whole_shells, counted_heads}
+use Rattle.archive_text.proofs.rest.read_counted.Goals as goal
+
+pub returns-in-None : goal.returns-in-None
+returns-in-None c = λ text rows name s edges key keyed at. bad_count text rows name s edges key c.args.lines.now c.number-line.result keyed at c.number-line.ensures.number (at_none c.in_ok-count.field-0 (NoCount c.args.lines.now.rest) c.in-None.is c.in_ok-count.ensures.none)
+
+pub returns-in-Some : goal.returns-in-Some
+returns-in-Some c = λ text rows name s edges key keyed at.
+    let n = c.in-Some.count in
+    let count = at_some c.in_ok-count.field-0 IsCount n c.in-Some.is c.in_ok-count.ensures.form in
+    let counted = at_some c.in_ok-count.field-0 (λ m. IsAt text ((rows ++ row_lines (part_rows (Keyed name s edges key))) ++ count_row m ∷ []) c.next_count.new.lines) n c.in-Some.is (c.in_ok-count.ensures.place text (rows ++ row_lines (part_rows (Keyed name s edges key))) at) in
+    IfOk-weaker c.read_lists.result
+    (λ (read : Result (List (List ℕ)) ℕ). MatchResult read (λ lists. HasShells text (counted_heads rows name s edges key n) n lists c.read_lists.new.lines) (HasBadShells text (counted_heads rows name s edges key n) n))
+    (λ (read : Result (List (List ℕ)) ℕ). MatchResult read (λ lists. HasWhole Two text rows (end_part Two name s edges key lists) c.read_lists.new.lines) (HasBadLine Two text rows name))
+    (λ read. result_from read (λ lists. HasShells text (counted_heads rows name s edges key n) n lists c.read_lists.new.lines) (λ lists. HasWhole Two text rows (end_part Two name s edges key lists) c.read_lists.new.lines)
+    (HasBadShells text (counted_heads rows name s edges key n) n) (HasBadLine Two text rows name)
+    (λ lists has. whole_shells text rows name s edges key n lists c.read_lists.new.lines keyed count has) (λ line bad. bad_shells text rows name s edges key n line keyed count bad))
+    (c.read_lists.ensures text (counted_heads rows name s edges key n) counted)

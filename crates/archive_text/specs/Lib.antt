@@ -1,0 +1,6 @@
+pub mod Names
+pub mod Rows
+pub mod Forms
+pub mod Parts
+pub mod Texts
+pub mod Reading

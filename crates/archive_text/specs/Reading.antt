@@ -1,0 +1,141 @@
+-- Where the reading of an entry stands.
+use Rattle.std.specs.Prelude.{ℕ, ℤ, ◌≡◌, true, ◌<◌, ◌≤◌, ◌+◌, List, [], ◌∷◌, ◌++◌, length, map, All, Option, None, Some}
+use Rattle.line_text.specs.Lines.{Place, IsAt}
+use Rattle.quotient_graph.specs.Order.{AreRising}
+use Rattle.periodic_net.specs.Graph.{Arc}
+use Rattle.archive_text.specs.Names.{is_name}
+use Rattle.archive_text.specs.Rows.{name_row, size_row, edge_row, key_row, count_row, shells_row, end_row, OfEdge, row_lines}
+use Rattle.archive_text.specs.Forms.{IsSize, IsEdgeOfSize, IsNextEdge, IsKeyList, IsCount, AreSizes}
+use Rattle.archive_text.specs.Parts.{Part, Start, Named, Drawn, Keyed, Counted, end_part, part_rows, shells_rows, IsFormed, IsKeyed, NoneFollows}
+use Rattle.archive_text.specs.declared.version.Version.{Version}
+use Rattle.archive_text.specs.declared.rest.KeyedGraph.{KeyedGraph}
+use Rattle.archive_text.specs.declared.rest.Form.{Form}
+use Rattle.archive_text.specs.declared.size.GraphSize.{GraphSize}
+use Rattle.cgd_read.specs.Graphs.{edge_of}
+use Rattle.cgd_read.specs.declared.block.RawEdge.{RawEdge}
+
+-- the edge is the last of these; or there is none
+abbrev pub IsLastOf : Option RawEdge → List Arc → Type 0
+IsLastOf None edges = edges ≡ []
+IsLastOf (Some e) edges = (before : List Arc) × (edges ≡ before ++ edge_of e ∷ [])
+
+-- what does not stand at the beginning of what is left
+
+abbrev pub NoName : List ℕ → Type 0
+NoName left = (name rest : List ℕ) → is_name name ≡ true → left ≡ name_row name ++ 10 ∷ rest → ⊥
+
+abbrev pub NoSize : List ℕ → Type 0
+NoSize left = (size : GraphSize) (rest : List ℕ) → IsSize size → left ≡ size_row size ++ 10 ∷ rest → ⊥
+
+abbrev pub NoEdge : GraphSize → List Arc → List ℕ → Type 0
+NoEdge size edges left = (e : Arc) (rest : List ℕ) → IsNextEdge size edges e → left ≡ edge_row size.dim e ++ 10 ∷ rest → ⊥
+
+abbrev pub NoKey : List ℕ → Type 0
+NoKey left = (key : List ℤ) (rest : List ℕ) → IsKeyList key → left ≡ key_row key ++ 10 ∷ rest → ⊥
+
+abbrev pub NoCount : List ℕ → Type 0
+NoCount left = (n : ℕ) (rest : List ℕ) → IsCount n → left ≡ count_row n ++ 10 ∷ rest → ⊥
+
+abbrev pub NoShells : ℕ → List ℕ → Type 0
+NoShells class left = (sizes rest : List ℕ) → AreSizes sizes → left ≡ shells_row class sizes ++ 10 ∷ rest → ⊥
+
+-- these edges, as bytes
+abbrev pub edge_lines : ℕ → List Arc → List (List ℕ)
+edge_lines dim edges = row_lines (map (OfEdge dim) edges)
+
+-- these edges are read from the one place to the other, the last of which is told
+pub record AreReadTo (start now : Place) (s : GraphSize) (edges : List Arc) (last : Option RawEdge) : Type 0 where
+  pub at : (text : List ℕ) (rows : List (List ℕ)) → IsAt text rows start → IsAt text (rows ++ edge_lines s.dim edges) now
+  pub each : All (IsEdgeOfSize s) edges
+  pub rising : AreRising edges
+  pub last_is : IsLastOf last edges
+
+-- these edges were read, all that the size tells
+pub record HasEdges (text : List ℕ) (rows : List (List ℕ)) (s : GraphSize) (edges : List Arc) (place : Place) : Type 0 where
+  pub at : IsAt text (rows ++ edge_lines s.dim edges) place
+  pub each : All (IsEdgeOfSize s) edges
+  pub rising : AreRising edges
+  pub whole : length edges ≡ s.edges
+
+-- after some of the edges the line with this number is no next edge
+pub record HasBadEdge (text : List ℕ) (rows : List (List ℕ)) (s : GraphSize) (n : ℕ) : Type 0 where
+  pub edges : List Arc
+  pub place : Place
+  pub at : IsAt text (rows ++ edge_lines s.dim edges) place
+  pub number : n ≡ place.number
+  pub each : All (IsEdgeOfSize s) edges
+  pub rising : AreRising edges
+  pub few : length edges < s.edges
+  pub none : NoEdge s edges place.rest
+
+-- the shells of so many classes, as bytes
+abbrev pub shells_lines : List (List ℕ) → List (List ℕ)
+shells_lines lists = row_lines (shells_rows 1 lists)
+
+-- these shells are read from the one place to the other
+pub record AreShellsTo (start now : Place) (lists : List (List ℕ)) : Type 0 where
+  pub at : (text : List ℕ) (rows : List (List ℕ)) → IsAt text rows start → IsAt text (rows ++ shells_lines lists) now
+  pub each : All AreSizes lists
+
+-- these shells were read, those of all classes
+pub record HasShells (text : List ℕ) (rows : List (List ℕ)) (n : ℕ) (lists : List (List ℕ)) (place : Place) : Type 0 where
+  pub at : IsAt text (rows ++ shells_lines lists) place
+  pub each : All AreSizes lists
+  pub whole : length lists ≡ n
+
+-- after the shells of some classes the line with this number has not those of the next
+pub record HasBadShells (text : List ℕ) (rows : List (List ℕ)) (n line : ℕ) : Type 0 where
+  pub lists : List (List ℕ)
+  pub place : Place
+  pub at : IsAt text (rows ++ shells_lines lists) place
+  pub number : line ≡ place.number
+  pub each : All AreSizes lists
+  pub few : length lists < n
+  pub none : NoShells (length lists + 1) place.rest
+
+-- the part is of an entry with this name
+abbrev pub IsOf : List ℕ → Part → Type 0
+IsOf name Start = ⊥
+IsOf name (Named own) = own ≡ name
+IsOf name (Drawn own s edges) = own ≡ name
+IsOf name (Keyed own s edges key) = own ≡ name
+IsOf name (Counted own s edges key n lists) = own ≡ name
+
+-- after these rows and a part of an entry with this name the line with this number is none that may follow
+pub record HasBadLine (v : Version) (text : List ℕ) (rows : List (List ℕ)) (name : List ℕ) (n : ℕ) : Type 0 where
+  pub part : Part
+  pub place : Place
+  pub at : IsAt text (rows ++ row_lines (part_rows part)) place
+  pub number : n ≡ place.number
+  pub named : IsOf name part
+  pub formed : IsFormed v part
+  pub none : NoneFollows v part place.rest
+
+-- what the rows of an entry up to its key say
+abbrev pub keyed_part : List ℕ → KeyedGraph → Part
+keyed_part name k = Keyed name k.size (map edge_of k.edges.items) k.key
+
+-- these rows were read, and the number of the row of the key is told
+pub record HasKeyed (text : List ℕ) (rows : List (List ℕ)) (name : List ℕ) (place : Place) (k : KeyedGraph) : Type 0 where
+  pub at : IsAt text (rows ++ row_lines (part_rows (keyed_part name k))) place
+  pub formed : IsKeyed name k.size (map edge_of k.edges.items) k.key
+  pub line : k.key_line ≡ length rows + (length k.edges.items + 3)
+  pub within : k.key_line ≤ 16777217
+
+-- the rows of an entry before its end were read
+pub record HasWhole (v : Version) (text : List ℕ) (rows : List (List ℕ)) (part : Part) (place : Place) : Type 0 where
+  pub at : IsAt text (rows ++ row_lines (part_rows part)) place
+  pub formed : IsFormed v part
+
+-- what the rows of an entry before its end say
+abbrev pub form_part : Version → List ℕ → Form → Part
+form_part v name f = end_part v name f.keyed.size (map edge_of f.keyed.edges.items) f.keyed.key f.shells
+
+-- the rows of an entry after its name were read, and its end
+pub record HasForm (v : Version) (text : List ℕ) (rows : List (List ℕ)) (name : List ℕ) (after : Place) (f : Form) : Type 0 where
+  pub before_end : Place
+  pub whole : HasWhole v text rows (form_part v name f) before_end
+  pub ends : before_end.rest ≡ end_row ++ 10 ∷ after.rest
+  pub at_end : IsAt text ((rows ++ row_lines (part_rows (form_part v name f))) ++ end_row ∷ []) after
+  pub line : f.keyed.key_line ≡ length rows + (length f.keyed.edges.items + 3)
+  pub within : f.keyed.key_line ≤ 16777217

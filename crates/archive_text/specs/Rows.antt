@@ -1,0 +1,83 @@
+-- The rows of an archive, each without its line feed.
+use Rattle.std.specs.Prelude.{ℕ, ℤ, pos, List, [], ◌∷◌, ◌++◌, length, map, codes}
+use Rattle.integers.specs.Vectors.{parts}
+use Rattle.periodic_net.specs.Graph.{Graph, Arc}
+use Rattle.line_text.specs.Numbers.{row_text}
+use Rattle.archive_text.specs.declared.version.Version.{Version}
+use Rattle.archive_text.specs.declared.version.Version.TheVariants.{One, Two}
+use Rattle.archive_text.specs.declared.size.GraphSize.{GraphSize}
+
+-- `net_archive` and the version
+abbrev pub first_row : Version → List ℕ
+first_row One = codes "net_archive 1"
+first_row Two = codes "net_archive 2"
+
+-- `entry` and a name between quotes
+unfoldable pub name_row : List ℕ → List ℕ
+name_row name = codes "entry \"" ++ (name ++ codes "\"")
+
+-- the dimension, the number of vertices, the number of edges
+abbrev pub size_numbers : GraphSize → List ℤ
+size_numbers s = pos s.dim ∷ pos s.vertices ∷ pos s.edges ∷ []
+
+-- `graph` and the size
+unfoldable pub size_row : GraphSize → List ℕ
+size_row s = row_text (codes "graph") (size_numbers s)
+
+-- both vertices, and as many parts of the shift as there are dimensions
+abbrev pub edge_numbers : ℕ → Arc → List ℤ
+edge_numbers dim e = pos e.from ∷ pos e.to ∷ parts dim e.shift
+
+-- `edge` and these numbers
+unfoldable pub edge_row : ℕ → Arc → List ℕ
+edge_row dim e = row_text (codes "edge") (edge_numbers dim e)
+
+-- `key` and its numbers
+unfoldable pub key_row : List ℤ → List ℕ
+key_row key = row_text (codes "key") key
+
+-- `primitive` and the number of classes
+unfoldable pub count_row : ℕ → List ℕ
+count_row n = row_text (codes "primitive") (pos n ∷ [])
+
+-- the number of a class, and the sizes of its shells
+abbrev pub shells_numbers : ℕ → List ℕ → List ℤ
+shells_numbers c sizes = pos c ∷ map pos sizes
+
+-- `shells` and these numbers
+unfoldable pub shells_row : ℕ → List ℕ → List ℕ
+shells_row c sizes = row_text (codes "shells") (shells_numbers c sizes)
+
+-- `end`
+unfoldable pub end_row : List ℕ
+end_row = codes "end"
+
+-- a row of an entry
+pub data Row : Type 0 where
+  OfName : List ℕ → Row
+  OfSize : GraphSize → Row
+  -- an edge of a graph of this dimension
+  OfEdge : ℕ → Arc → Row
+  OfKey : List ℤ → Row
+  OfCount : ℕ → Row
+  -- the shells of the class with this number
+  OfShells : ℕ → List ℕ → Row
+  OfEnd : Row
+
+-- the bytes of a row
+abbrev pub row_line : Row → List ℕ
+row_line (OfName name) = name_row name
+row_line (OfSize s) = size_row s
+row_line (OfEdge dim e) = edge_row dim e
+row_line (OfKey key) = key_row key
+row_line (OfCount n) = count_row n
+row_line (OfShells c sizes) = shells_row c sizes
+row_line OfEnd = end_row
+
+-- the bytes of these rows
+abbrev pub row_lines : List Row → List (List ℕ)
+row_lines rows = map row_line rows
+
+-- the size of a graph
+abbrev pub size_of_graph : Graph → GraphSize
+size_of_graph G = record { dim = G.dimension; vertices = G.vertices; edges = length G.edges }

@@ -1,0 +1,39 @@
+// Reads the edges of an entry.
+ghost use Rattle.std.specs.Prelude.{ℕ, List, map, ◌≡◌, IfOk, MatchResult};
+ghost use Rattle.line_text.specs.Lines.{IsAt};
+ghost use Rattle.cgd_read.specs.Graphs.{edge_of};
+ghost use Rattle.archive_text.specs.Forms.{IsSize};
+ghost use Rattle.archive_text.specs.Reading.{HasBadEdge, HasEdges};
+
+use crate::GraphSize;
+use crate::steps::next_edge;
+use cgd_read::RawEdge;
+use line_text::Lines;
+use std::alloc::AllocError;
+
+/// The edges that the size tells, or the number of the first line that is no next edge.
+pub fn read_edges(
+    lines: &mut Lines<'_>,
+    size: &GraphSize,
+    numbers: &mut Vec<i128>,
+) -> Result<Result<Vec<RawEdge>, u32>, AllocError>
+    requires { IsSize size.now }
+    ensures { (text : List ℕ) (rows : List (List ℕ)) → IsAt text rows lines.old →
+        IfOk result (λ read. MatchResult read
+        (λ edges. HasEdges text rows size.now (map edge_of edges.items) lines.new)
+        (HasBadEdge text rows size.now)) }
+{
+    let mut edges = Vec::new(*numbers.allocator());
+    let mut last = None;
+    for _ in 0..size.edges {
+        let line = lines.number();
+        match next_edge(lines, size, last, numbers)? {
+            Some(e) => {
+                edges.push(e)?;
+                last = Some(e);
+            }
+            None => return Ok(Err(line)),
+        }
+    }
+    Ok(Ok(edges))
+}

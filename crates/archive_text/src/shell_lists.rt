@@ -1,0 +1,33 @@
+// Reads the shells of an entry.
+ghost use Rattle.std.specs.Prelude.{ℕ, List, ◌≡◌, IfOk, MatchResult};
+ghost use Rattle.line_text.specs.Lines.{IsAt};
+ghost use Rattle.archive_text.specs.Forms.{IsCount};
+ghost use Rattle.archive_text.specs.Reading.{HasBadShells, HasShells};
+
+use crate::steps::next_shells;
+use coordination::Sequences;
+use line_text::Lines;
+use std::alloc::AllocError;
+
+/// The shells of so many classes, or the number of the first line that has not those of the next.
+pub fn read_lists(
+    lines: &mut Lines<'_>,
+    count: u32,
+    numbers: &mut Vec<i128>,
+) -> Result<Result<Sequences, u32>, AllocError>
+    requires { IsCount count }
+    ensures { (text : List ℕ) (rows : List (List ℕ)) → IsAt text rows lines.old →
+        IfOk result (λ read. MatchResult read
+        (λ lists. HasShells text rows count lists lines.new)
+        (HasBadShells text rows count)) }
+{
+    let mut lists = Sequences::new(*numbers.allocator());
+    for done in 0..count {
+        let line = lines.number();
+        match next_shells(lines, done + 1, numbers)? {
+            Some(sizes) => lists.push(sizes)?,
+            None => return Ok(Err(line)),
+        }
+    }
+    Ok(Ok(lists))
+}

@@ -1,0 +1,148 @@
+// Reads the rows of an entry, one by one.
+ghost use Rattle.std.specs.Prelude.{ℕ, List, ◌≡◌, ◌≤◌, ◌↔◌, ◌++◌, ◌∷◌, [], true, IsTrue, IfOk, IfSome, IfNone, length};
+ghost use Rattle.line_text.specs.Lines.{IsAt};
+ghost use Rattle.periodic_net.specs.Graph.{Arc};
+ghost use Rattle.cgd_read.specs.Graphs.{edge_of};
+ghost use Rattle.quotient_graph.specs.Order.{AreRising};
+ghost use Rattle.archive_text.specs.Names.{is_name};
+ghost use Rattle.archive_text.specs.Rows.{name_row, size_row, edge_row, key_row, count_row, shells_row, end_row};
+ghost use Rattle.archive_text.specs.Forms.{IsSize, IsNextEdge, IsKeyList, IsCount, AreSizes, most_numbers};
+ghost use Rattle.archive_text.specs.Reading.{IsLastOf, NoName, NoSize, NoEdge, NoKey, NoCount, NoShells};
+
+use crate::GraphSize;
+use crate::edge::edge_after;
+use crate::form::{is_name, size_of};
+use crate::shells::{count_from, sizes_from};
+use cgd_read::RawEdge;
+use line_text::Lines;
+use quotient_graph::Key;
+use std::alloc::AllocError;
+
+/// The name on the next line, where an entry begins there.
+pub fn next_name<'a>(lines: &mut Lines<'a>) -> Option<&'a [u8]>
+    ensures place { (text : List ℕ) (rows : List (List ℕ)) → IsAt text rows lines.old →
+        IfSome result (λ name. IsAt text (rows ++ name_row name.now ∷ []) lines.new) }
+    ensures line { IfSome result (λ name. lines.old.rest ≡ name_row name.now ++ 10 ∷ lines.new.rest) }
+    ensures form { IfSome result (λ name. is_name name.now ≡ true) }
+    ensures none { IfNone result (NoName lines.old.rest) }
+{
+    match lines.next_inner(b"entry \"", b"\"") {
+        Some(name) => { if is_name(name) { Some(name) } else { None } }
+        None => None,
+    }
+}
+
+/// The size of a graph on the next line.
+pub fn next_size(
+    lines: &mut Lines<'_>,
+    numbers: &mut Vec<i128>,
+) -> Result<Option<GraphSize>, AllocError>
+    ensures place { (text : List ℕ) (rows : List (List ℕ)) → IsAt text rows lines.old →
+        IfOk result (λ found. IfSome found (λ size. IsAt text (rows ++ size_row size ∷ []) lines.new)) }
+    ensures form { IfOk result (λ found. IfSome found IsSize) }
+    ensures none { IfOk result (λ found. IfNone found (NoSize lines.old.rest)) }
+{
+    if lines.next_row(b"graph", numbers)? {
+        Ok(size_of(numbers))
+    } else {
+        Ok(None)
+    }
+}
+
+/// The edge on the next line, after the last one.
+pub fn next_edge(
+    lines: &mut Lines<'_>,
+    size: &GraphSize,
+    last: Option<RawEdge>,
+    numbers: &mut Vec<i128>,
+) -> Result<Option<RawEdge>, AllocError>
+    requires { IsSize size.now }
+    ensures place { (text : List ℕ) (rows : List (List ℕ)) → IsAt text rows lines.old →
+        IfOk result (λ found. IfSome found (λ e.
+        IsAt text (rows ++ edge_row size.now.dim (edge_of e) ∷ []) lines.new)) }
+    ensures form { (edges : List Arc) → IsLastOf last edges → AreRising edges →
+        IfOk result (λ found. IfSome found (λ e. IsNextEdge size.now edges (edge_of e))) }
+    ensures none { (edges : List Arc) → IsLastOf last edges →
+        IfOk result (λ found. IfNone found (NoEdge size.now edges lines.old.rest)) }
+{
+    if lines.next_row(b"edge", numbers)? {
+        Ok(edge_after(size, last, numbers))
+    } else {
+        Ok(None)
+    }
+}
+
+fn key_from(numbers: &Vec<i128>) -> Result<Key, AllocError>
+    ensures { IfOk result (λ key. key ≡ numbers.now.items) }
+{
+    let copy = Vec::from_slice(*numbers.allocator(), numbers)?;
+    Ok(Key::from_parts(copy))
+}
+
+fn is_key_length(numbers: &[i128]) -> bool
+    ensures { IsTrue result ↔ ((1 ≤ length numbers.now) × (length numbers.now ≤ most_numbers)) }
+{
+    0 < numbers.len() && numbers.len() <= 20_483
+}
+
+/// The key on the next line.
+pub fn next_key(lines: &mut Lines<'_>, numbers: &mut Vec<i128>) -> Result<Option<Key>, AllocError>
+    ensures place { (text : List ℕ) (rows : List (List ℕ)) → IsAt text rows lines.old →
+        IfOk result (λ found. IfSome found (λ key. IsAt text (rows ++ key_row key ∷ []) lines.new)) }
+    ensures form { IfOk result (λ found. IfSome found IsKeyList) }
+    ensures none { IfOk result (λ found. IfNone found (NoKey lines.old.rest)) }
+{
+    if lines.next_row(b"key", numbers)? {
+        if is_key_length(numbers) {
+            Ok(Some(key_from(numbers)?))
+        } else {
+            Ok(None)
+        }
+    } else {
+        Ok(None)
+    }
+}
+
+/// The number of classes on the next line.
+pub fn next_count(lines: &mut Lines<'_>, numbers: &mut Vec<i128>) -> Result<Option<u32>, AllocError>
+    ensures place { (text : List ℕ) (rows : List (List ℕ)) → IsAt text rows lines.old →
+        IfOk result (λ found. IfSome found (λ n. IsAt text (rows ++ count_row n ∷ []) lines.new)) }
+    ensures form { IfOk result (λ found. IfSome found IsCount) }
+    ensures none { IfOk result (λ found. IfNone found (NoCount lines.old.rest)) }
+{
+    if lines.next_row(b"primitive", numbers)? {
+        Ok(count_from(numbers))
+    } else {
+        Ok(None)
+    }
+}
+
+/// The shells of a class on the next line.
+pub fn next_shells(
+    lines: &mut Lines<'_>,
+    class: u32,
+    numbers: &mut Vec<i128>,
+) -> Result<Option<Vec<u32>>, AllocError>
+    requires { IsCount class }
+    ensures place { (text : List ℕ) (rows : List (List ℕ)) → IsAt text rows lines.old →
+        IfOk result (λ found. IfSome found (λ sizes.
+        IsAt text (rows ++ shells_row class sizes.items ∷ []) lines.new)) }
+    ensures form { IfOk result (λ found. IfSome found (λ sizes. AreSizes sizes.items)) }
+    ensures none { IfOk result (λ found. IfNone found (NoShells class lines.old.rest)) }
+{
+    if lines.next_row(b"shells", numbers)? {
+        sizes_from(*numbers.allocator(), class, numbers)
+    } else {
+        Ok(None)
+    }
+}
+
+/// Whether the next line ends the entry.
+pub fn next_end(lines: &mut Lines<'_>) -> bool
+    ensures place { (text : List ℕ) (rows : List (List ℕ)) → IsAt text rows lines.old → result ≡ true →
+        IsAt text (rows ++ end_row ∷ []) lines.new }
+    ensures line { result ≡ true → lines.old.rest ≡ end_row ++ 10 ∷ lines.new.rest }
+    ensures none { (rest : List ℕ) → lines.old.rest ≡ end_row ++ 10 ∷ rest → result ≡ true }
+{
+    lines.next_is(b"end")
+}

@@ -1,0 +1,174 @@
+// Writes the rows of an entry.
+ghost use Rattle.std.specs.Prelude.{ℕ, pos, map, length, ◌≤◌, ◌≡◌, ◌++◌, ◌∷◌, [], OnOk};
+ghost use Rattle.line_text.specs.Numbers.{numbers_text};
+ghost use Rattle.line_text.specs.Lines.{rows_text};
+ghost use Rattle.quotient_graph.specs.AnyGraphs.{graph_in};
+ghost use Rattle.net_entries.specs.Entries.{entry_view};
+ghost use Rattle.archive_text.specs.Rows.{OfSize, OfEdge, first_row, row_lines, size_of_graph, name_row, size_row, edge_row, key_row, count_row, shells_row, end_row};
+ghost use Rattle.archive_text.specs.Parts.{class_rows, drawn_rows, shells_rows};
+ghost use Rattle.archive_text.specs.Texts.{entry_lines};
+
+use crate::{GraphSize, Version};
+use coordination::Sequences;
+use line_text::{push_inner, push_number, push_numbers, push_row};
+use net_entries::Entry;
+use quotient_graph::{AnyGraph, Arc, Graph, Key};
+use std::alloc::AllocError;
+
+/// The first line.
+pub fn push_first(text: &mut Vec<u8>, version: Version) -> Result<(), AllocError>
+    ensures { OnOk result
+        (text.new.items ≡ text.old.items ++ rows_text (first_row version ∷ [])) }
+{
+    match version {
+        Version::One => text.extend_from_slice(b"net_archive 1\n"),
+        Version::Two => text.extend_from_slice(b"net_archive 2\n"),
+    }
+}
+
+#[tactic(auto, unfolding(crate::specs::Rows::name_row))]
+fn push_name(text: &mut Vec<u8>, name: &[u8]) -> Result<(), AllocError>
+    ensures { OnOk result (text.new.items ≡ text.old.items ++ rows_text (name_row name.now ∷ [])) }
+{
+    push_inner(text, b"entry \"", name, b"\"")
+}
+
+#[tactic(auto, unfolding(crate::specs::Rows::size_row))]
+fn push_size(text: &mut Vec<u8>, size: GraphSize) -> Result<(), AllocError>
+    ensures { OnOk result (text.new.items ≡ text.old.items ++ rows_text (size_row size ∷ [])) }
+{
+    let numbers = [size.dim as i128, size.vertices as i128, size.edges as i128];
+    push_row(text, b"graph", &numbers)
+}
+
+#[tactic(auto, unfolding(crate::specs::Rows::edge_row))]
+fn push_edge<const D: usize>(text: &mut Vec<u8>, e: &Arc<D>) -> Result<(), AllocError>
+    ensures { OnOk result (text.new.items ≡ text.old.items ++ rows_text (edge_row D e.now ∷ [])) }
+{
+    let [u, v] = [e.from as i128, e.to as i128];
+    let [x, y, z] = [e.shift.x as i128, e.shift.y as i128, e.shift.z as i128];
+    if D == 2 {
+        push_row(text, b"edge", &[u, v, x, y])
+    } else {
+        push_row(text, b"edge", &[u, v, x, y, z])
+    }
+}
+
+fn push_edges<const D: usize>(text: &mut Vec<u8>, edges: &[Arc<D>]) -> Result<(), AllocError>
+    ensures { OnOk result (text.new.items ≡
+        text.old.items ++ rows_text (row_lines (map (OfEdge D) edges.now))) }
+{
+    for e in edges {
+        push_edge(text, e)?;
+    }
+    Ok(())
+}
+
+fn push_graph<const D: usize>(text: &mut Vec<u8>, graph: &Graph<D>) -> Result<(), AllocError>
+    ensures { OnOk result (text.new.items ≡ text.old.items ++
+        rows_text (row_lines (OfSize (size_of_graph graph.now) ∷
+        map (OfEdge graph.now.dimension) graph.now.edges))) }
+{
+    let size = GraphSize {
+        dim: graph.dimension(),
+        vertices: graph.vertices(),
+        edges: graph.edge_count(),
+    };
+    push_size(text, size)?;
+    push_edges(text, graph.edges())
+}
+
+// The rows of an entry before its key.
+fn push_drawn(text: &mut Vec<u8>, name: &[u8], graph: &AnyGraph) -> Result<(), AllocError>
+    ensures { OnOk result (text.new.items ≡ text.old.items ++
+        rows_text (row_lines (drawn_rows name.now (size_of_graph (graph_in graph.now))
+        (graph_in graph.now).edges))) }
+{
+    push_name(text, name)?;
+    match graph {
+        AnyGraph::Flat(graph) => push_graph(text, graph),
+        AnyGraph::Space(graph) => push_graph(text, graph),
+    }
+}
+
+#[tactic(auto, unfolding(crate::specs::Rows::key_row))]
+fn push_key(text: &mut Vec<u8>, key: &Key) -> Result<(), AllocError>
+    ensures { OnOk result (text.new.items ≡ text.old.items ++ rows_text (key_row key.now ∷ [])) }
+{
+    push_row(text, b"key", key.numbers())
+}
+
+#[tactic(auto, unfolding(crate::specs::Rows::count_row))]
+fn push_count(text: &mut Vec<u8>, count: u32) -> Result<(), AllocError>
+    ensures { OnOk result (text.new.items ≡ text.old.items ++ rows_text (count_row count ∷ [])) }
+{
+    push_row(text, b"primitive", &[count as i128])
+}
+
+fn push_sizes(text: &mut Vec<u8>, sizes: &[u32]) -> Result<(), AllocError>
+    ensures { OnOk result (text.new.items ≡ text.old.items ++ numbers_text (map pos sizes.now)) }
+{
+    let mut left = sizes;
+    while let [size, others @ ..] = left {
+        text.push(b' ')?;
+        push_number(text, *size as i128)?;
+        left = others;
+    }
+    Ok(())
+}
+
+#[tactic(auto, unfolding(crate::specs::Rows::shells_row))]
+fn push_shells(text: &mut Vec<u8>, class: u32, sizes: &[u32]) -> Result<(), AllocError>
+    ensures { OnOk result
+        (text.new.items ≡ text.old.items ++ rows_text (shells_row class sizes.now ∷ [])) }
+{
+    text.extend_from_slice(b"shells")?;
+    push_numbers(text, &[class as i128])?;
+    push_sizes(text, sizes)?;
+    text.extend_from_slice(b"\n")
+}
+
+fn push_lists(text: &mut Vec<u8>, lists: &Sequences) -> Result<(), AllocError>
+    requires { length lists.now ≤ 512 }
+    ensures { OnOk result (text.new.items ≡
+        text.old.items ++ rows_text (row_lines (shells_rows 1 lists.now))) }
+{
+    for done in 0..lists.len() {
+        push_shells(text, done as u32 + 1, lists.at(done))?;
+    }
+    Ok(())
+}
+
+// In version 2 the number of classes, and the shells of each.
+fn push_classes(text: &mut Vec<u8>, version: Version, lists: &Sequences) -> Result<(), AllocError>
+    requires { length lists.now ≤ 512 }
+    ensures { OnOk result (text.new.items ≡
+        text.old.items ++ rows_text (row_lines (class_rows version lists.now))) }
+{
+    match version {
+        Version::One => Ok(()),
+        Version::Two => {
+            push_count(text, lists.len() as u32)?;
+            push_lists(text, lists)
+        }
+    }
+}
+
+#[tactic(auto, unfolding(crate::specs::Rows::end_row))]
+fn push_end(text: &mut Vec<u8>) -> Result<(), AllocError>
+    ensures { OnOk result (text.new.items ≡ text.old.items ++ rows_text (end_row ∷ [])) }
+{
+    text.extend_from_slice(b"end\n")
+}
+
+/// The rows of an entry.
+pub fn push_entry(text: &mut Vec<u8>, version: Version, entry: &Entry) -> Result<(), AllocError>
+    requires { length (entry_view entry.now).shells ≤ 512 }
+    ensures { OnOk result (text.new.items ≡
+        text.old.items ++ rows_text (entry_lines version (entry_view entry.now ∷ []))) }
+{
+    push_drawn(text, &entry.name, &entry.graph)?;
+    push_key(text, &entry.key)?;
+    push_classes(text, version, &entry.shells)?;
+    push_end(text)
+}

@@ -1,0 +1,4 @@
+-- Graphs whose keys are told.
+pub mod Accepted
+pub mod NotWide
+pub mod OnePlacement

@@ -1,0 +1,52 @@
+-- Within the limits no number of a normal placement passes one.
+use Rattle.std.proofs.Common.{◌≡◌, ℕ, zero, suc, ℤ, ◌-◌, ◌≤◌, ◌<◌, pos, sym, subst, unsigned_abs, arith}
+use Rattle.std.specs.Int.{◌∣◌}
+use Rattle.std.proofs.lemmas.Nat.Gcd.{le_of_dvd}
+use Rattle.integers.specs.Vectors.{Vector, IsWithin}
+use Rattle.integers.specs.Staircase.{part}
+use Rattle.periodic_net.specs.Graph.{Graph, arc}
+use Rattle.periodic_net.specs.Limits.{most_units}
+use Rattle.periodic_net.specs.Placement.{Placement, base, arc_vector, IsNormalPlacement, IsWithinLimits}
+use Rattle.barycentre.specs.WidePlacements.{IsLowestDenominator, IsWideDenominator, IsWideArc, IsWideAt, coordinate}
+use Rattle.barycentre.specs.declared.faults.WideSite.{WideSite}
+use Rattle.barycentre.specs.declared.faults.WideSite.TheVariants.{Denominator, ArcPart, Beyond}
+use Rattle.barycentre.proofs.divisors.Lowest.{denominator_divides}
+
+-- a denominator in lowest terms divides the denominator
+lowest_divides : (x : ℤ) (n d : ℕ) → IsLowestDenominator x n d → d ∣ n
+lowest_divides x n d h =
+    denominator_divides (record { num = h.numerator; den = d }) n x (record { positive = h.positive; coprime = h.coprime }) (sym h.same)
+
+-- each part of a vector is within its bound
+part_within : (n : ℕ) (v : Vector) (i : ℕ) → IsWithin n v → unsigned_abs (part i v) ≤ n
+part_within n v zero h = h.0
+part_within n v (suc zero) h = h.1
+part_within n v (suc (suc zero)) h = h.2
+part_within n v (suc (suc (suc i))) h = omega arith
+
+-- what is at most the limit is not past it
+not_past : (n k : ℕ) → k ≤ n → ¬ (n < k)
+not_past n k a b = omega (arith, a, b)
+
+module _ (G : Graph) (p : Placement) (n : IsNormalPlacement G p) (l : IsWithinLimits G p) where
+  -- the least common multiple of some denominators divides the denominator
+  multiple_within : (u c k : ℕ) → IsWideDenominator G p u c k → k ≤ p.denominator
+  multiple_within u c k h =
+      le_of_dvd n.barycentric.positive (h.value.least p.denominator (λ v e d i j m has. lowest_divides (coordinate e (base p v)) p.denominator d has))
+
+  not_wide_denominator : (u c k : ℕ) → ¬ IsWideDenominator G p u c k
+  not_wide_denominator u c k h =
+      let m = multiple_within u c k h in
+      let d = l.denominator in
+      not_past most_units k (omega (arith, m, d)) h.wide
+
+  not_wide_arc : (u v c : ℕ) (s : Vector) (x : ℤ) → ¬ IsWideArc G p (arc u v s) c x
+  not_wide_arc u v c s x h =
+      not_past most_units (unsigned_abs x)
+      (subst (λ (y : ℤ). unsigned_abs y ≤ most_units) (sym h.value) (part_within most_units (arc_vector p (arc u v s)) (c - 1) (l.arcs (arc u v s) h.is_arc)))
+      h.wide
+
+  pub not_wide : (site : WideSite) (x : ℤ) → ¬ IsWideAt G p site x
+  not_wide (Denominator u c) x h = not_wide_denominator u c h.0 h.2
+  not_wide (ArcPart u v s c) x h = not_wide_arc u v c s x h
+  not_wide (Beyond at) x h = h

@@ -1,0 +1,70 @@
+-- A text of rows and numbers is that of one list alone.
+use Rattle.std.proofs.Common.{◌≡◌, ℕ, suc, ℤ, pos, negsuc, List, [], ◌∷◌, ◌++◌, All, length, drop, get_or, refl, sym, ap, ◌∙◌, arith}
+use mathlib.Core.List.{append_assoc}
+use Rattle.std.specs.Fmt.{signed_decimal, decimal}
+use Rattle.std.specs.Str.Parse.{digits_value}
+use Rattle.std.proofs.lemmas.Fmt.{decimal_is_IsNumeral_wide}
+use Rattle.std.proofs.lemmas.Bool.{true≢false, eq-eqb}
+use Rattle.std.proofs.lemmas.List.{append_cancel_left, length-append}
+use Rattle.std.proofs.lemmas.List.Elements.{All-head, All-tail}
+use Rattle.line_text.specs.Lines.{before, onwards, HasNo, rows_text}
+use Rattle.line_text.specs.Numbers.{IsWide, numbers_text, row_text}
+use Rattle.line_text.proofs.Digits.{digits_have_no, number_has_no, numbers_begin}
+use Rattle.line_text.proofs.Marks.{before_is, onwards_is}
+
+same_decimal : (m n : ℕ) → IsWide (pos m) → IsWide (pos n) → decimal m ≡ decimal n → m ≡ n
+same_decimal m n wm wn e =
+    sym (decimal_is_IsNumeral_wide m (omega (arith, wm.sfits))).1 ∙ ap (digits_value 10) e ∙ (decimal_is_IsNumeral_wide n (omega (arith, wn.sfits))).1
+
+-- digits do not begin with the sign
+no_sign : (ds es : List ℕ) → HasNo 45 ds → 45 ∷ es ≡ ds → ⊥
+no_sign [] es none e = let long = ap length e in omega (arith, long)
+no_sign (d ∷ ds) es none e = true≢false (sym (eq-eqb d 45 (sym (ap (λ l. get_or l 0 0) e))) ∙ none.0)
+
+pub same_number : (y z : ℤ) → IsWide y → IsWide z → signed_decimal y ≡ signed_decimal z → y ≡ z
+same_number (pos m) (pos n) wy wz e = ap pos (same_decimal m n wy wz e)
+same_number (pos m) (negsuc n) wy wz e = absurd (no_sign (decimal m) (decimal (suc n)) (digits_have_no 45 (omega arith) (decimal m) (decimal_is_IsNumeral_wide m (omega (arith, wy.sfits))).0.1) (sym e))
+same_number (negsuc m) (pos n) wy wz e = absurd (no_sign (decimal n) (decimal (suc m)) (digits_have_no 45 (omega arith) (decimal n) (decimal_is_IsNumeral_wide n (omega (arith, wz.sfits))).0.1) e)
+same_number (negsuc m) (negsuc n) wy wz e = ap negsuc (omega (arith, values))
+  where
+    values : suc m ≡ suc n
+    values = sym (decimal_is_IsNumeral_wide (suc m) (omega (arith, wy.sfits))).1 ∙ ap (λ l. digits_value 10 (drop 1 l)) e ∙ (decimal_is_IsNumeral_wide (suc n) (omega (arith, wz.sfits))).1
+
+pub same_numbers : (ys zs : List ℤ) → All IsWide ys → All IsWide zs → numbers_text ys ≡ numbers_text zs → ys ≡ zs
+same_numbers [] [] wy wz e = refl
+same_numbers [] (z ∷ zs) wy wz e = let long = ap length e in absurd (omega (arith, long))
+same_numbers (y ∷ ys) [] wy wz e = let long = ap length e in absurd (omega (arith, long))
+same_numbers (y ∷ ys) (z ∷ zs) wy wz e =
+    let hy = All-head IsWide y ys wy in
+    let hz = All-head IsWide z zs wz in
+    let both : signed_decimal y ++ numbers_text ys ≡ signed_decimal z ++ numbers_text zs = ap (drop 1) e in
+    let field = sym (before_is 32 (signed_decimal y) (numbers_text ys) (number_has_no 32 (omega arith) y hy) (numbers_begin ys)) ∙ ap (before 32) both ∙ before_is 32 (signed_decimal z) (numbers_text zs) (number_has_no 32 (omega arith) z hz) (numbers_begin zs) in
+    let after = sym (onwards_is 32 (signed_decimal y) (numbers_text ys) (number_has_no 32 (omega arith) y hy) (numbers_begin ys)) ∙ ap (onwards 32) both ∙ onwards_is 32 (signed_decimal z) (numbers_text zs) (number_has_no 32 (omega arith) z hz) (numbers_begin zs) in
+    ap (λ x. x ∷ ys) (same_number y z hy hz field) ∙ ap (λ l. z ∷ l) (same_numbers ys zs (All-tail IsWide y ys wy) (All-tail IsWide z zs wz) after)
+
+pub same_row_numbers : (word : List ℕ) (ys zs : List ℤ) → All IsWide ys → All IsWide zs → row_text word ys ≡ row_text word zs → ys ≡ zs
+same_row_numbers word ys zs wy wz e = same_numbers ys zs wy wz (append_cancel_left word (numbers_text ys) (numbers_text zs) e)
+
+-- no row has a line feed
+abbrev pub HaveNone : List (List ℕ) → Type 0
+HaveNone [] = Unit {0}
+HaveNone (row ∷ rows) = HasNo 10 row × HaveNone rows
+
+pub record Splits (as' bs : List (List ℕ)) (rest : List ℕ) : Type 0 where
+  pub others : List (List ℕ)
+  pub is : as' ≡ bs ++ others
+  pub left : rest ≡ rows_text others
+
+pub same_row : (a b x y : List ℕ) → HasNo 10 a → HasNo 10 b → a ++ 10 ∷ x ≡ b ++ 10 ∷ y → (a ≡ b) × (x ≡ y)
+same_row a b x y na nb e = (
+  sym (before_is 10 a (10 ∷ x) na refl) ∙ ap (before 10) e ∙ before_is 10 b (10 ∷ y) nb refl,
+  ap (drop 1) (sym (onwards_is 10 a (10 ∷ x) na refl) ∙ ap (onwards 10) e ∙ onwards_is 10 b (10 ∷ y) nb refl),
+)
+
+pub splits : (as' bs : List (List ℕ)) (rest : List ℕ) → HaveNone as' → HaveNone bs → rows_text as' ≡ rows_text bs ++ rest → Splits as' bs rest
+splits as' [] rest na nb e = record { others = as'; is = refl; left = sym e }
+splits [] (b ∷ bs) rest na nb e = let long = ap length e in let two = length-append b (10 ∷ (rows_text bs ++ rest)) in let three = ap length (append_assoc b (10 ∷ rows_text bs) rest) in absurd (omega (arith, long, two, three))
+splits (a ∷ as') (b ∷ bs) rest na nb e =
+    let same = same_row a b (rows_text as') (rows_text bs ++ rest) na.0 nb.0 (e ∙ append_assoc b (10 ∷ rows_text bs) rest) in
+    let more = splits as' bs rest na.1 nb.1 same.1 in
+    record { others = more.others; is = ap (λ r. r ∷ as') same.0 ∙ ap (λ l. b ∷ l) more.is; left = more.left }

@@ -1,0 +1,70 @@
+// Reads lines of numbers.
+ghost use Rattle.std.specs.Prelude.{ℕ, ℤ, List, ◌++◌, ◌≡◌, ◌≢◌, All, IfOk, Ok, true, MatchOption, IfSome};
+ghost use Rattle.line_text.specs.Numbers.{IsWide, numbers_text, row_text};
+
+use crate::cuts::cut;
+use crate::numbers::read_number;
+use std::alloc::AllocError;
+
+/// Whether the text is numbers, each after one blank; they take the place of those that were held.
+pub fn read_numbers(text: &[u8], numbers: &mut Vec<i128>) -> Result<bool, AllocError>
+    ensures spelling { result ≡ Ok true → text.now ≡ numbers_text numbers.new.items }
+    ensures wide { result ≡ Ok true → All IsWide numbers.new.items }
+    ensures every { IfOk result (λ read. (zs : List ℤ) → All IsWide zs →
+        text.now ≡ numbers_text zs → (read ≡ true) × (numbers.new.items ≡ zs)) }
+{
+    numbers.clear();
+    let mut rest = text;
+    while let [first, others @ ..] = rest {
+        if *first != b' ' {
+            return Ok(false);
+        }
+        let (field, after) = cut(others, b' ');
+        match read_number(field) {
+            Some(n) => numbers.push(n)?,
+            None => return Ok(false),
+        }
+        rest = after;
+    }
+    Ok(true)
+}
+
+fn after_word<'a>(line: &'a [u8], word: &[u8]) -> Option<&'a [u8]>
+    ensures { MatchOption result ((rest : List ℕ) → line.now ≢ word.now ++ rest)
+        (λ rest. line.now ≡ word.now ++ rest.now) }
+{
+    line.strip_prefix(word)
+}
+
+/// Whether the line is a word and then numbers; these take the place of those that were held.
+pub fn read_row(line: &[u8], word: &[u8], numbers: &mut Vec<i128>) -> Result<bool, AllocError>
+    ensures spelling { result ≡ Ok true → line.now ≡ row_text word.now numbers.new.items }
+    ensures wide { result ≡ Ok true → All IsWide numbers.new.items }
+    ensures every { IfOk result (λ read. (zs : List ℤ) → All IsWide zs →
+        line.now ≡ row_text word.now zs → (read ≡ true) × (numbers.new.items ≡ zs)) }
+{
+    match after_word(line, word) {
+        Some(rest) => read_numbers(rest, numbers),
+        None => Ok(false),
+    }
+}
+
+fn before_word<'a>(line: &'a [u8], word: &[u8]) -> Option<&'a [u8]>
+    ensures { MatchOption result ((front : List ℕ) → line.now ≢ front ++ word.now)
+        (λ front. line.now ≡ front.now ++ word.now) }
+{
+    line.strip_suffix(word)
+}
+
+/// What stands between two words on the line, where it begins with the one and then ends with the
+/// other.
+pub fn inner<'a>(line: &'a [u8], first: &[u8], last: &[u8]) -> Option<&'a [u8]>
+    ensures found { IfSome result (λ x. line.now ≡ first.now ++ (x.now ++ last.now)) }
+    ensures every { (x : List ℕ) → line.now ≡ first.now ++ (x ++ last.now) →
+        MatchOption result ⊥ (λ f. f.now ≡ x) }
+{
+    match after_word(line, first) {
+        Some(rest) => before_word(rest, last),
+        None => None,
+    }
+}
