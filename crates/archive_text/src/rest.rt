@@ -1,5 +1,5 @@
 // Reads the rows of an entry after its name.
-ghost use Rattle.std.specs.Prelude.{ℕ, ℤ, List, map, length, ◌≡◌, ◌++◌, ◌∷◌, [], true, IfOk, MatchResult};
+ghost use Rattle.std.specs.Prelude.{ℕ, ℤ, List, map, length, ◌≡◌, ◌≤◌, ◌++◌, ◌∷◌, [], true, IfOk, MatchResult};
 ghost use Rattle.line_text.specs.Lines.{IsAt};
 ghost use Rattle.periodic_net.specs.Graph.{Arc};
 ghost use Rattle.archive_text.specs.declared.size.GraphSize.{GraphSize};
@@ -72,12 +72,13 @@ fn read_counted(
     lines: &mut Lines<'_>,
     numbers: &mut Vec<i128>,
 ) -> Result<Result<Sequences, u32>, AllocError>
-    ensures { (text : List ℕ) (rows : List (List ℕ)) (name : List ℕ) (s : GraphSize)
+    ensures rest { (text : List ℕ) (rows : List (List ℕ)) (name : List ℕ) (s : GraphSize)
         (edges : List Arc) (key : List ℤ) → IsKeyed name s edges key →
         IsAt text (rows ++ row_lines (part_rows (Keyed name s edges key))) lines.old →
         IfOk result (λ read. MatchResult read
         (λ lists. HasWhole Two text rows (end_part Two name s edges key lists) lines.new)
         (HasBadLine Two text rows name)) }
+    ensures few { IfOk result (λ read. IfOk read (λ lists. length lists ≤ 512)) }
 {
     let line = lines.number();
     match next_count(lines, numbers)? {
@@ -92,12 +93,13 @@ fn read_shells(
     version: Version,
     numbers: &mut Vec<i128>,
 ) -> Result<Result<Sequences, u32>, AllocError>
-    ensures { (text : List ℕ) (rows : List (List ℕ)) (name : List ℕ) (s : GraphSize)
+    ensures rest { (text : List ℕ) (rows : List (List ℕ)) (name : List ℕ) (s : GraphSize)
         (edges : List Arc) (key : List ℤ) → IsKeyed name s edges key →
         IsAt text (rows ++ row_lines (part_rows (Keyed name s edges key))) lines.old →
         IfOk result (λ read. MatchResult read
         (λ lists. HasWhole version text rows (end_part version name s edges key lists) lines.new)
         (HasBadLine version text rows name)) }
+    ensures few { IfOk result (λ read. IfOk read (λ lists. length lists ≤ 512)) }
 {
     match version {
         Version::One => Ok(Ok(Sequences::new(*numbers.allocator()))),
@@ -112,10 +114,11 @@ pub fn read_rest(
     version: Version,
     numbers: &mut Vec<i128>,
 ) -> Result<Result<Form, u32>, AllocError>
-    ensures { (text : List ℕ) (rows : List (List ℕ)) (name : List ℕ) → is_name name ≡ true →
+    ensures rest { (text : List ℕ) (rows : List (List ℕ)) (name : List ℕ) → is_name name ≡ true →
         IsAt text (rows ++ name_row name ∷ []) lines.old →
         IfOk result (λ read. MatchResult read (HasForm version text rows name lines.new)
         (HasBadLine version text rows name)) }
+    ensures few { IfOk result (λ read. IfOk read (λ f. length f.shells ≤ 512)) }
 {
     let keyed = match read_keyed(lines, numbers)? {
         Ok(keyed) => keyed,

@@ -1,5 +1,5 @@
 // Reads the shells of an entry.
-ghost use Rattle.std.specs.Prelude.{ℕ, List, ◌≡◌, IfOk, MatchResult};
+ghost use Rattle.std.specs.Prelude.{ℕ, List, length, ◌≡◌, ◌≤◌, IfOk, MatchResult};
 ghost use Rattle.line_text.specs.Lines.{IsAt};
 ghost use Rattle.archive_text.specs.Forms.{IsCount};
 ghost use Rattle.archive_text.specs.Reading.{HasBadShells, HasShells};
@@ -16,10 +16,11 @@ pub fn read_lists(
     numbers: &mut Vec<i128>,
 ) -> Result<Result<Sequences, u32>, AllocError>
     requires { IsCount count }
-    ensures { (text : List ℕ) (rows : List (List ℕ)) → IsAt text rows lines.old →
+    ensures shells { (text : List ℕ) (rows : List (List ℕ)) → IsAt text rows lines.old →
         IfOk result (λ read. MatchResult read
         (λ lists. HasShells text rows count lists lines.new)
         (HasBadShells text rows count)) }
+    ensures few { IfOk result (λ read. IfOk read (λ lists. length lists ≤ 512)) }
 {
     let mut lists = Sequences::new(*numbers.allocator());
     for done in 0..count {

@@ -8,8 +8,8 @@ use Rattle.archive_text.proofs.Outcomes.{at_none, at_some}
 use Rattle.archive_text.proofs.Lists.{one_more_class}
 use Rattle.archive_text.proofs.shell_lists.read_lists.Goals as goal
 
-pub returns-in-None : goal.returns-in-None
-returns-in-None c = λ text rows at.
+pub returns-in-None-clause-shells : goal.returns-in-None-clause-shells
+returns-in-None-clause-shells c = λ text rows at.
     let read = c.loop-done.invariant.0 in
     record {
       lists = c.loop-done.lists;
@@ -32,8 +32,8 @@ loop-done-preserved c =
       let long = ap length c.in_ok-push-in-Some.ensures.ok ∙ length-append c.loop-done.lists (c.in-Some.sizes.items ∷ []) in omega (arith, long, c.loop-done.invariant.1),
     )
 
-pub returns : goal.returns
-returns c = λ text rows at.
+pub returns-clause-shells : goal.returns-clause-shells
+returns-clause-shells c = λ text rows at.
     let read = c.loop-done.invariant.0 in
     record {
       at = read.at text rows at;

@@ -1,0 +1,15 @@
+pub mod FirstFaults
+pub mod SequenceForms
+pub mod MoreEntries
+pub mod FirstLines
+pub mod FormEdges
+pub mod Passed
+pub mod NoFault
+pub mod NoEndFault
+pub mod NoFirstFault
+pub mod ArchiveRows
+pub mod Judged
+pub mod Growth
+pub mod NewEntry
+pub mod SameLists
+pub mod ReadBack

@@ -1,0 +1,10 @@
+use Rattle.std.proofs.Common.{List, subst, sym}
+use Rattle.std.specs.List.{All}
+use Rattle.net_entries.specs.Entries.{EntryView}
+use Rattle.net_archive.specs.Archives.{IsEntry}
+use Rattle.net_archive.proofs.Growth.{all_in_memory}
+use Rattle.net_archive.proofs.archive.Archive.migrated.Goals as goal
+
+pub newest_text-requires : goal.newest_text-requires
+newest_text-requires c =
+    all_in_memory c.entries.result.now (subst (λ (es : List EntryView). All IsEntry es) (sym c.entries.ensures.entries) c.entries.ensures.archive.each)

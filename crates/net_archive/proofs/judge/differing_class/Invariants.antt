@@ -1,0 +1,6 @@
+use Rattle.std.proofs.Common.{◌≡◌, ◌<◌, ℕ}
+use Rattle.std.specs.List.{slice_get}
+use Rattle.net_archive.proofs.judge.differing_class.Given as goal
+
+abbrev pub invariant-loop-before : goal.invariant-loop-before
+invariant-loop-before l = (j : ℕ) → j < l.before → slice_get l.kept j ≡ slice_get l.computed j

@@ -1,0 +1,16 @@
+-- The faults that want of memory becomes.
+use Rattle.net_archive.specs.declared.faults.ArchiveFault.{ArchiveFault}
+use Rattle.net_archive.specs.declared.faults.ArchiveFault.TheVariants as archive
+use Rattle.net_archive.specs.declared.faults.AddFault.{AddFault}
+use Rattle.net_archive.specs.declared.faults.AddFault.TheVariants as add
+use Rattle.net_archive.specs.declared.faults.MigrateFault.{MigrateFault}
+use Rattle.net_archive.specs.declared.faults.MigrateFault.TheVariants as migrate
+
+abbrev pub no_archive : ArchiveFault
+no_archive = archive.NoMemory
+
+abbrev pub not_added : AddFault
+not_added = add.NoMemory
+
+abbrev pub not_migrated : MigrateFault
+not_migrated = migrate.NoMemory

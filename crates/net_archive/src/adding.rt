@@ -1,0 +1,145 @@
+// The steps of adding a net to an archive.
+ghost use Rattle.std.specs.Prelude.{◌≡◌, ◌↔◌, ◌≤◌, ◌<◌, ◌+◌, ◌++◌, ◌∷◌, [], true, All, IsTrue, IfOk, OnOk, OnErr, length};
+ghost use Rattle.line_text.specs.Lines.{rows_text};
+ghost use Rattle.line_text.specs.Numbers.{IsWide};
+ghost use Rattle.periodic_net.specs.Limits.{IsSmall};
+ghost use Rattle.quotient_graph.specs.AnyGraphs.{graph_in};
+ghost use Rattle.quotient_graph.specs.Order.{AreRising};
+ghost use Rattle.least_key.specs.AnyNets.{net_in};
+ghost use Rattle.net_entries.specs.Entries.{entry_view};
+ghost use Rattle.archive_text.specs.Texts.{entry_lines};
+ghost use Rattle.archive_text.specs.Names.{is_name};
+ghost use Rattle.net_archive.specs.Adding.{IsEntryOf};
+ghost use Rattle.net_archive.specs.Archives.{IsEntry};
+
+use crate::judge::sequences_of;
+use crate::migrating::MOST_BYTES;
+use archive_text::{Version, push_entry};
+use least_key::Net;
+use net_entries::{Entries, Entry};
+use quotient_graph::{AnyGraph, Graph, Key};
+use std::alloc::{AllocError, Global};
+
+/// So many entries has an archive at most.
+const MOST_ENTRIES: usize = 4096;
+
+/// The first line and its line feed.
+pub const FIRST_LINE: usize = 14;
+
+// An equal graph. A graph in memory is within the limits, and its edges rise.
+fn copy_of<const D: usize>(graph: &Graph<D>) -> Result<Graph<D>, AllocError>
+    ensures graph { IfOk result (λ g. g ≡ graph.now) }
+    ensures small { IsSmall graph.now }
+    ensures rising { AreRising graph.now.edges }
+{
+    let _ = graph.vertices();
+    let _ = graph.edges();
+    graph.copy()
+}
+
+// The graph of a net.
+fn graph_of(net: &Net) -> Result<AnyGraph, AllocError>
+    ensures graph { IfOk result (λ g. graph_in g ≡ (net_in net.now).placed.graph) }
+    ensures small { IfOk result (λ g. IsSmall (graph_in g)) }
+    ensures rising { IfOk result (λ g. AreRising (graph_in g).edges) }
+{
+    match net {
+        Net::Flat(net) => copy_of(net.stable.placed().graph()).map(AnyGraph::Flat),
+        Net::Space(net) => copy_of(net.stable.placed().graph()).map(AnyGraph::Space),
+    }
+}
+
+// The number, which is of 128 bits as its type says.
+fn wide(number: i128) -> i128
+    ensures same { result ≡ number }
+    ensures wide { IsWide result }
+{
+    number
+}
+
+// The numbers of a key.
+fn numbers_of(alloc: Global, key: &Key) -> Result<Vec<i128>, AllocError>
+    ensures numbers { IfOk result (λ copy. copy.items ≡ key.now) }
+    ensures wide { IfOk result (λ copy. All IsWide copy.items) }
+{
+    let numbers = key.numbers();
+    let mut copy = Vec::new(alloc);
+    for number in numbers {
+        copy.push(wide(*number))?;
+    }
+    Ok(copy)
+}
+
+// The entry of a net under a name.
+fn entry_of(alloc: Global, name: &[u8], net: &Net) -> Result<Entry, AllocError>
+    ensures entry { IfOk result (λ e. IsEntryOf name.now (net_in net.now) (entry_view e)) }
+    ensures is_entry { is_name name.now ≡ true → IfOk result (λ e. IsEntry (entry_view e)) }
+    ensures few { IfOk result (λ e. length e.shells ≤ 512) }
+{
+    let shells = sequences_of(alloc, net)?;
+    let graph = graph_of(net)?;
+    let name = Vec::from_slice(alloc, name)?;
+    let numbers = numbers_of(alloc, net.key())?;
+    Ok(Entry {
+        name,
+        graph,
+        key: Key::from_parts(numbers),
+        shells,
+    })
+}
+
+/// The entry of a net under a name, and its rows.
+pub fn addition(
+    alloc: Global,
+    version: Version,
+    name: &[u8],
+    net: &Net,
+) -> Result<(Entry, Vec<u8>), AllocError>
+    ensures entry { IfOk result (λ both. IsEntryOf name.now (net_in net.now) (entry_view both.0)) }
+    ensures is_entry { is_name name.now ≡ true → IfOk result (λ both. IsEntry (entry_view both.0)) }
+    ensures rows { IfOk result (λ both.
+        both.1.items ≡ rows_text (entry_lines version (entry_view both.0 ∷ []))) }
+{
+    let entry = entry_of(alloc, name, net)?;
+    let mut rows = Vec::new(alloc);
+    push_entry(&mut rows, version, &entry)?;
+    Ok((entry, rows))
+}
+
+/// Whether there are as many entries as there may be.
+pub fn are_many(entries: &[Entry]) -> bool
+    ensures { IsTrue result ↔ 4096 ≤ length entries.now }
+{
+    entries.len() >= MOST_ENTRIES
+}
+
+/// Whether the text would be too long with these rows after the others.
+pub fn is_too_long(body: &[u8], rows: &[u8]) -> bool
+    requires { length body.now ≤ 16777216 }
+    ensures { IsTrue result ↔ 16777216 < 14 + length body.now + length rows.now }
+{
+    rows.len() > MOST_BYTES || FIRST_LINE + body.len() + rows.len() > MOST_BYTES
+}
+
+/// Puts an entry and its rows last, or changes neither.
+pub fn append(
+    entries: &mut Entries,
+    body: &mut Vec<u8>,
+    entry: Entry,
+    rows: &[u8],
+) -> Result<(), AllocError>
+    ensures entries { OnOk result (entries.new ≡ entries.old ++ entry_view entry ∷ []) }
+    ensures body { OnOk result (body.new.items ≡ body.old.items ++ rows.now) }
+    ensures same_entries { OnErr result (entries.new ≡ entries.old) }
+    ensures same_body { OnErr result (body.new.items ≡ body.old.items) }
+{
+    let size = body.len();
+    body.extend_from_slice(rows)?;
+    match entries.push(entry) {
+        Ok(()) => Ok(()),
+        Err(refused) => {
+            body.truncate(size);
+            Err(refused)
+        }
+    }
+}

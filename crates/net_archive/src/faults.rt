@@ -1,0 +1,95 @@
+// Why a text is no archive, why a net is not added, and why an archive is not written.
+ghost use Rattle.std.specs.Prelude.{◌≡◌};
+
+use least_key::Refusal;
+use quotient_graph::Key;
+use std::alloc::AllocError;
+
+/// Why a text is no archive, by the first fault in it. Each `u32` but `class`, `kept` and `computed` is the number of a line. The numbers
+/// are those of the report.
+#[derive(Drop)]
+pub enum ArchiveFault {
+    /// 1: the line breaks the format otherwise than below.
+    BadLine(u32),
+    /// 2: an earlier entry has the name on this line.
+    RepeatedName(u32),
+    /// 3: the graph of the entry that begins here is refused, and not for want of memory.
+    EntryRefused(u32, Refusal),
+    /// 4: the key on this line is not that of the entry's graph.
+    KeyDiffers {
+        line: u32,
+        kept: Key,
+        computed: Key,
+    },
+    /// 5: a 4,097th entry begins.
+    TooManyEntries,
+    /// 6: the first line names no version of the format.
+    Version(u32),
+    /// 8: this line has not the number of classes of the entry's graph.
+    CountDiffers {
+        line: u32,
+        kept: u32,
+        computed: u32,
+    },
+    /// 9: this line has not the sizes of the shells of this class of the entry's graph.
+    ShellsDiffer {
+        line: u32,
+        class: u32,
+        kept: Vec<u32>,
+        computed: Vec<u32>,
+    },
+    /// Memory was refused. It has no number.
+    NoMemory,
+}
+
+impl From<AllocError> for ArchiveFault {
+    ghost use Rattle.net_archive.specs.Causes.{no_archive};
+
+    ghost from_gives = { λ fault told. told ≡ no_archive };
+
+    fn from(_fault: AllocError) -> ArchiveFault {
+        ArchiveFault::NoMemory
+    }
+}
+
+/// Why a net is not added to an archive, by the first that applies. The numbers are those of the report.
+#[derive(Clone, Copy, Debug, PartialEq, Eq)]
+pub enum AddFault {
+    /// 1: an entry has the name.
+    NameTaken,
+    /// 2: the bytes are no name.
+    BadName,
+    /// 3: there are 4,096 entries, or the text would pass 16,777,216 bytes.
+    Full,
+    /// Memory was refused. It has no number.
+    NoMemory,
+}
+
+impl From<AllocError> for AddFault {
+    ghost use Rattle.net_archive.specs.Causes.{not_added};
+
+    ghost from_gives = { λ fault told. told ≡ not_added };
+
+    fn from(_fault: AllocError) -> AddFault {
+        AddFault::NoMemory
+    }
+}
+
+/// Why an archive is not written in the newest format.
+#[derive(Clone, Copy, Debug, PartialEq, Eq)]
+pub enum MigrateFault {
+    /// 1: the text would have this length, which is past 16,777,216 bytes.
+    Full { length: u64 },
+    /// Memory was refused. It has no number.
+    NoMemory,
+}
+
+impl From<AllocError> for MigrateFault {
+    ghost use Rattle.net_archive.specs.Causes.{not_migrated};
+
+    ghost from_gives = { λ fault told. told ≡ not_migrated };
+
+    fn from(_fault: AllocError) -> MigrateFault {
+        MigrateFault::NoMemory
+    }
+}

@@ -1,0 +1,212 @@
+// Judges an entry at its end: computes what its rows tell of its graph anew.
+ghost use Rattle.std.specs.Prelude.{◌≡◌, ◌↔◌, ◌⊎◌, ◌≤◌, true, IfOk, IfErr, OnOk, length};
+ghost use Rattle.quotient_graph.specs.AnyGraphs.{graph_in};
+ghost use Rattle.coordination.specs.Sequences.{AreSequencesOf};
+ghost use Rattle.least_key.specs.AnyNets.{net_in};
+ghost use Rattle.least_key.specs.KeyedNets.{IsKeyed};
+ghost use Rattle.least_key.specs.Truths.{IsTrueOf};
+ghost use Rattle.quotient_graph.specs.EdgeLists.{AreEdgesOfGraph};
+ghost use Rattle.net_entries.specs.Entries.{entry_view};
+ghost use Rattle.net_archive.specs.Judging.{AreRefusedShells, HasKey, IsDifferingClass, IsEntryOfForm, IsJudged, IsOtherKey, IsRefusedAt, graph_of_form, graph_of_keyed};
+
+use crate::ArchiveFault;
+use archive_text::{Form, KeyedGraph, Version};
+use coordination::{Sequences, sequences};
+use least_key::{Net, Refusal, identify};
+use net_entries::Entry;
+use quotient_graph::{AnyGraph, Key, from_edges};
+use std::alloc::{AllocError, Global};
+
+/// The sizes of shells of each class of a net.
+pub fn sequences_of(alloc: Global, net: &Net) -> Result<Sequences, AllocError>
+    ensures sequences { IfOk result (AreSequencesOf (net_in net.now).placed.graph) }
+    ensures few { IfOk result (λ lists. length lists ≤ 512) }
+{
+    match net {
+        Net::Flat(net) => sequences(alloc, &net.classes),
+        Net::Space(net) => sequences(alloc, &net.classes),
+    }
+}
+
+/// An equal graph.
+pub fn copy_of(graph: &AnyGraph) -> Result<AnyGraph, AllocError>
+    ensures { IfOk result (λ g. graph_in g ≡ graph_in graph.now) }
+{
+    match graph {
+        AnyGraph::Flat(graph) => graph.copy().map(AnyGraph::Flat),
+        AnyGraph::Space(graph) => graph.copy().map(AnyGraph::Space),
+    }
+}
+
+fn same_key(a: &Key, b: &Key) -> bool
+    ensures { result ≡ true ↔ a.now ≡ b.now }
+{
+    a.numbers() == b.numbers()
+}
+
+// An equal key.
+fn copy_of_key(alloc: Global, key: &Key) -> Result<Key, AllocError>
+    ensures { IfOk result (λ k. k ≡ key.now) }
+{
+    let numbers = Vec::from_slice(alloc, key.numbers())?;
+    Ok(Key::from_parts(numbers))
+}
+
+// The net of a graph, or why the entry that begins on this line is refused.
+fn identify_at(alloc: Global, line: u32, graph: &AnyGraph) -> Result<Net, ArchiveFault>
+    ensures net { IfOk result (λ n. (net_in n).placed.graph ≡ graph_in graph.now) }
+    ensures keyed { IfOk result (λ n. IsKeyed (net_in n)) }
+    ensures fault { IfErr result (IsRefusedAt line (graph_in graph.now)) }
+{
+    match identify(alloc, copy_of(graph)?) {
+        Ok(net) => Ok(net),
+        Err(Refusal::NoMemory) => Err(ArchiveFault::NoMemory),
+        Err(refusal) => Err(ArchiveFault::EntryRefused(line, refusal)),
+    }
+}
+
+fn same_sizes(a: &[u32], b: &[u32]) -> bool
+    ensures { result ≡ true ↔ a.now ≡ b.now }
+{
+    a == b
+}
+
+// The class after so many others whose shells differ, if one of them does.
+fn differing_class(kept: &Sequences, computed: &Sequences) -> Option<usize>
+    requires { length kept.now ≡ length computed.now }
+    ensures { IsDifferingClass kept.now computed.now result }
+{
+    for before in 0..kept.len() {
+        if !same_sizes(kept.at(before), computed.at(before)) {
+            return Some(before);
+        }
+    }
+    None
+}
+
+// That the shells that are kept are those of the net.
+fn check_shells(
+    alloc: Global,
+    key_line: u32,
+    kept: &Sequences,
+    computed: &Sequences,
+) -> Result<(), ArchiveFault>
+    requires line { key_line ≤ 16777217 }
+    requires kept { length kept.now ≤ 512 }
+    requires computed { length computed.now ≤ 512 }
+    ensures same { OnOk result (kept.now ≡ computed.now) }
+    ensures fault { IfErr result (AreRefusedShells key_line kept.now computed.now) }
+{
+    if kept.len() != computed.len() {
+        return Err(ArchiveFault::CountDiffers {
+            line: key_line + 1,
+            kept: kept.len() as u32,
+            computed: computed.len() as u32,
+        });
+    }
+    let Some(before) = differing_class(kept, computed) else {
+        return Ok(());
+    };
+    Err(ArchiveFault::ShellsDiffer {
+        line: key_line + 2 + before as u32,
+        class: before as u32 + 1,
+        kept: Vec::from_slice(alloc, kept.at(before))?,
+        computed: Vec::from_slice(alloc, computed.at(before))?,
+    })
+}
+
+// That the shells of the classes are kept, where the version has them.
+fn check_version(
+    alloc: Global,
+    version: Version,
+    key_line: u32,
+    kept: &Sequences,
+    computed: &Sequences,
+) -> Result<(), ArchiveFault>
+    requires line { key_line ≤ 16777217 }
+    requires kept { length kept.now ≤ 512 }
+    requires computed { length computed.now ≤ 512 }
+    ensures same { OnOk result (version ≡ Version.Two → kept.now ≡ computed.now) }
+    ensures fault { IfErr result (λ fault. (fault ≡ ArchiveFault.NoMemory) ⊎
+        ((version ≡ Version.Two) × AreRefusedShells key_line kept.now computed.now fault)) }
+{
+    match version {
+        Version::One => Ok(()),
+        Version::Two => check_shells(alloc, key_line, kept, computed),
+    }
+}
+
+// That the key that is kept is that of the net.
+fn check_key(alloc: Global, keyed: &KeyedGraph, net: &Net) -> Result<(), ArchiveFault>
+    ensures same { OnOk result (keyed.now.key ≡ (net_in net.now).key) }
+    ensures fault { IfErr result (IsOtherKey keyed.now (net_in net.now).key) }
+{
+    if same_key(&keyed.key, net.key()) {
+        return Ok(());
+    }
+    let kept = copy_of_key(alloc, &keyed.key)?;
+    let computed = copy_of_key(alloc, net.key())?;
+    Err(ArchiveFault::KeyDiffers {
+        line: keyed.key_line,
+        kept,
+        computed,
+    })
+}
+
+// The net of an entry's graph, where its key and its shells are kept.
+fn check_form(
+    alloc: Global,
+    line: u32,
+    version: Version,
+    graph: &AnyGraph,
+    form: &Form,
+) -> Result<Sequences, ArchiveFault>
+    requires graph { graph_in graph.now ≡ graph_of_form form.now }
+    requires line { form.now.keyed.key_line ≤ 16777217 }
+    requires few { length form.now.shells ≤ 512 }
+    ensures key { OnOk result (HasKey form.now) }
+    ensures shells { IfOk result (AreSequencesOf (graph_of_form form.now)) }
+    ensures kept { IfOk result (λ lists. version ≡ Version.Two → form.now.shells ≡ lists) }
+    ensures fault { IfErr result (IsJudged version line form.now) }
+{
+    let net = identify_at(alloc, line, graph)?;
+    check_key(alloc, &form.keyed, &net)?;
+    let shells = sequences_of(alloc, &net)?;
+    let key_line = form.keyed.key_line;
+    check_version(alloc, version, key_line, &form.shells, &shells)?;
+    Ok(shells)
+}
+
+// The graph that the rows of an entry say.
+fn graph_of(alloc: Global, keyed: &KeyedGraph) -> Result<AnyGraph, AllocError>
+    requires { AreEdgesOfGraph keyed.now.size.dim keyed.now.size.vertices keyed.now.edges.items }
+    ensures { IfOk result (λ g. graph_in g ≡ graph_of_keyed keyed.now) }
+{
+    from_edges(alloc, keyed.size.dim, keyed.size.vertices, &keyed.edges)
+}
+
+/// The entry of this name and form, whose first row stands on this line, or the first fault that is told at its end.
+pub fn judge(
+    alloc: Global,
+    name: &[u8],
+    line: u32,
+    version: Version,
+    form: Form,
+) -> Result<Entry, ArchiveFault>
+    requires edges { AreEdgesOfGraph form.keyed.size.dim form.keyed.size.vertices
+        form.keyed.edges.items }
+    requires line { form.keyed.key_line ≤ 16777217 }
+    requires few { length form.shells ≤ 512 }
+    ensures entry { IfOk result (λ e. IsEntryOfForm version name.now form (entry_view e)) }
+    ensures fault { IfErr result (IsJudged version line form) }
+{
+    let graph = graph_of(alloc, &form.keyed)?;
+    let shells = check_form(alloc, line, version, &graph, &form)?;
+    let name = Vec::from_slice(alloc, name)?;
+    Ok(Entry {
+        name,
+        graph,
+        key: form.keyed.key,
+        shells,
+    })
+}

@@ -1,0 +1,17 @@
+//! Archives of named nets: read, searched, grown and written.
+#![tactic(auto)]
+
+mod adding;
+mod archive;
+mod faults;
+mod judge;
+mod laws;
+mod migrating;
+mod reading;
+
+pub use archive::Archive;
+pub use archive_text::Version;
+pub use faults::{AddFault, ArchiveFault, MigrateFault};
+pub use judge::sequences_of;
+pub use laws::{archives_have_no_fault, one_archive};
+pub use net_entries::{Entry, Groups, Matches};
