@@ -2,7 +2,12 @@
 pub mod BackLoop
 pub mod Building
 pub mod Counting
+pub mod Gaps
+pub mod Later
+pub mod LaterCounts
 pub mod LineLoop
+pub mod Listing
 pub mod Skipped
 pub mod SumLoop
 pub mod Turns
+pub mod WeightLoop

@@ -1,8 +1,9 @@
 -- What is counted and added over the arcs from a vertex, in whatever order they stand.
-use Rattle.std.proofs.Common.{◌≡◌, ℕ, ℤ, pos, arith, ◌+◌, ◌*◌, ◌≤◌, ◌==◌, ◌+ℤ◌, Bool, true, false, cond, not, List, [], ◌∷◌, length, get_or, map, ap, sym, refl, subst, ◌∙◌}
+use Rattle.std.proofs.Common.{◌≡◌, ℕ, ℤ, pos, arith, ◌+◌, ◌-◌, ◌*◌, ◌≤◌, ◌==◌, ◌+ℤ◌, Bool, true, false, cond, not, List, [], ◌∷◌, length, get_or, drop, map, ap, sym, refl, subst, ◌∙◌}
 use Rattle.std.specs.List.{All, filter, count_by, sum_by}
 use Rattle.std.specs.List.Sorted.{IsPermutation}
 use Rattle.std.proofs.lemmas.Int.{ints}
+use Rattle.std.proofs.lemmas.List.{get_or-drop, length-drop}
 use Rattle.std.proofs.lemmas.List.Recursion.{is_count_by}
 use Rattle.std.proofs.lemmas.List.Sorted.{sum_by-IsPermutation, length_permutation}
 use Rattle.std.proofs.lemmas.List.Sums.{sum_by-cons, length-filter, count_by-le-length}
@@ -69,12 +70,16 @@ few_arcs G u star s h =
 pub heads_are : (G : Graph) (u : ℕ) (star : List Arc) → All (IsArcFrom G u) star → All (λ a. (1 ≤ a.to) × (a.to ≤ G.vertices)) star
 heads_are G u star h k d l = (h k d l).to
 
--- the numbers of arcs, as numbers of another type
-pub arc_weights_are : {N : Type 0} (m : ℕ) (value : N → Ratio) (xs : List N) (G : Graph) (u : ℕ) (star : List Arc) (counts : List ℤ) → IsStar G u star → AreCounts star counts G.vertices → AreWholes m value xs counts (length counts) → AreArcWeights m value xs G u
-arc_weights_are m value xs G u star counts s h w = record {
-  count = w.count ∙ h.length;
-  has = λ j d b. record {
-    same = subst (λ z. Same m (value (get_or xs j d)) (whole z)) (h.each j (pos 0) b ∙ ap pos (count_permuted (λ a. a.to == (j + 1)) (arcs_from G u) star s.all)) (w.each j d (pos 0) (omega (arith, b, h.length)));
+-- the numbers of arcs to the vertices after u, as numbers of another type
+pub arc_weights_are : {N : Type 0} (m : ℕ) (value : N → Ratio) (xs : List N) (G : Graph) (u : ℕ) (star : List Arc) (counts : List ℤ) → u ≤ G.vertices → IsStar G u star → AreCounts star counts G.vertices
+    → AreWholes m value xs (drop u counts) (length (drop u counts)) → AreArcWeights m value xs G u
+arc_weights_are m value xs G u star counts below s h w = record {
+  count = omega (arith, below, w.count, length-drop u counts, h.length);
+  has = λ j d a b. record {
+    same = subst (λ z. Same m (value (get_or xs (j - u) d)) (whole z)) (after j a ∙ h.each j (pos 0) b ∙ ap pos (count_permuted (λ a. a.to == (j + 1)) (arcs_from G u) star s.all)) (w.each (j - u) d (pos 0) (omega (arith, a, b, length-drop u counts, h.length)));
     denominator = one_cancels;
   };
 }
+  where
+    after : (j : ℕ) → u ≤ j → get_or (drop u counts) (j - u) (pos 0) ≡ get_or counts j (pos 0)
+    after j a = get_or-drop u counts (j - u) (pos 0) ∙ ap (λ i. get_or counts i (pos 0)) (omega (arith, a))

@@ -1,5 +1,5 @@
 -- Weights and rows that are made one after another.
-use Rattle.std.proofs.Common.{◌≡◌, ℕ, ◌+◌, ◌≤◌, List, [], ◌∷◌, ◌++◌, length, sym, subst, ⊎_elim}
+use Rattle.std.proofs.Common.{◌≡◌, ℕ, arith, ◌+◌, ◌≤◌, List, [], ◌∷◌, ◌++◌, length, sym, subst, ⊎_elim}
 use Rattle.std.specs.Global.{Vec}
 use Rattle.exact.specs.Ratio.{Ratio}
 use Rattle.vecdim.specs.declared.vectors.Row.{Row}
@@ -17,11 +17,11 @@ rows_pushed m value xs x p n count h s = record {
 }
 
 module _ {N : Type 0} (xs : List (Vec N)) (x : Vec N) (width n : ℕ) (count : length xs ≡ n) where
-  pub wide_pushed : AreWide xs width n → width ≤ length x.items → AreWide (xs ++ (x ∷ [])) width (n + 1)
+  pub wide_pushed : AreWide xs width n → width ≤ length x.items + (n + 1) → AreWide (xs ++ (x ∷ [])) width (n + 1)
   wide_pushed h l = record {
     wide = λ i d b. ⊎_elim
-        (λ q. subst (λ t. width ≤ length t.items) (sym q.1) (h.wide i d q.0))
-        (λ q. subst (λ t. width ≤ length t.items) (sym q.1) l) (get_pushed xs x d i n count b);
+        (λ q. subst (λ t. width ≤ length t.items + (i + 1)) (sym q.1) (h.wide i d q.0))
+        (λ q. subst (λ t. width ≤ length t.items + (i + 1)) (sym q.1) (subst (λ k. width ≤ length x.items + (k + 1)) (sym q.0) l)) (get_pushed xs x d i n count b);
   }
 
   -- the weights of one vertex more
@@ -34,4 +34,4 @@ module _ {N : Type 0} (xs : List (Vec N)) (x : Vec N) (width n : ℕ) (count : l
 
 -- the arcs of a vertex are its weights
 pub weights_are : {N : Type 0} (m : ℕ) (value : N → Ratio) (xs : List N) (G : Graph) (i : ℕ) (b : ℕ → ℕ → Ratio) → AreArcWeights m value xs G (i + 1) → IsUpperWeights m value xs (level_with G b) G.vertices i
-weights_are m value xs G i b h = record { has = λ j d o l. h.has j d l }
+weights_are m value xs G i b h = record { has = λ j d o l. h.has j d (omega (arith, o)) l }

@@ -29,11 +29,11 @@ rows_set {N} {D} m value xs x p i within h s = record {
     here j d e = subst (λ q. IsRow m value (get_or (set xs i x) q d) (p q)) (sym e) (subst (λ t. IsRow m value t (p i)) (sym (get_or-set_same xs i x d within)) s)
 
 module _ {N : Type 0} (xs : List (Vec N)) (x : Vec N) (i : ℕ) (within : i < length xs) where
-  pub wide_set : (n count : ℕ) → AreWide xs n count → n ≤ length x.items → AreWide (set xs i x) n count
+  pub wide_set : (n count : ℕ) → AreWide xs n count → n ≤ length x.items + (i + 1) → AreWide (set xs i x) n count
   wide_set n count h l = record {
     wide = λ p d b. ⊎_elim
-        (λ (e : p ≡ i). subst (λ q. n ≤ length (get_or (set xs i x) q d).items) (sym e) (subst (λ t. n ≤ length t.items) (sym (get_or-set_same xs i x d within)) l))
-        (λ (o : p ≢ i). subst (λ t. n ≤ length t.items) (sym (get_or-set_other xs i p x d o)) (h.wide p d b)) (cases_eq p i);
+        (λ (e : p ≡ i). subst (λ q. n ≤ length (get_or (set xs i x) q d).items + (q + 1)) (sym e) (subst (λ t. n ≤ length t.items + (i + 1)) (sym (get_or-set_same xs i x d within)) l))
+        (λ (o : p ≢ i). subst (λ t. n ≤ length t.items + (p + 1)) (sym (get_or-set_other xs i p x d o)) (h.wide p d b)) (cases_eq p i);
   }
 
   -- one list of weights more is replaced

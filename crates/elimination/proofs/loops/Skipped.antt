@@ -1,17 +1,22 @@
 -- A vertex without weight with the last one: its factor is 0, and its line stays as it is.
-use Rattle.std.proofs.Common.{rules, ◌≡◌, ◌≢◌, ℕ, zero, suc, pos, arith, ◌+◌, ◌<◌, ◌≤◌, ◌==◌, if◌then◌else◌, true, false, List, [], ◌∷◌, ◌++◌, get_or, ◌⊎◌, ⊎_elim, eq-eqb}
+use Rattle.std.proofs.Common.{rules, ◌≡◌, ◌≢◌, ℕ, zero, suc, pos, arith, ◌+◌, ◌-◌, ◌<◌, ◌≤◌, ◌==◌, if◌then◌else◌, true, false, List, [], ◌∷◌, ◌++◌, length, get_or, ◌⊎◌, subst, ⊎_elim, eq-eqb}
 use Rattle.std.proofs.lemmas.Bool.{cases_eq, cases_lt}
-use Rattle.exact.specs.Ratio.{Ratio, Same, HasInverse, whole}
+use Rattle.std.specs.Global.{Vec}
+use Rattle.exact.specs.Ratio.{Ratio, HasInverse, ratio_plus, ratio_times}
 use Rattle.exact.specs.Values.{CanCancel, HasValue}
 use Rattle.exact.proofs.CallerLemmas.{same_refl, same_sym, same_trans, one_cancels, zero_times, over_like}
 use Rattle.vecdim.specs.declared.vectors.Row.{Row}
-use Rattle.elimination.specs.Listed.{Level, Entry, place, over_entry, list_to, pivot_sum, factor, next_level, weight_entry, shift_entry, row_entries}
+use Rattle.elimination.specs.declared.place.Place.{Place}
+use Rattle.elimination.specs.Listed.{Level, Entry, place, term_entries, over_entry, list_to, pivot_sum, factor, next_level, weight_entry, shift_entry, row_entries}
 use Rattle.elimination.specs.Faults.{AreGood}
-use Rattle.elimination.specs.Lines.{IsRow, IsLine, IsUpperLine}
+use Rattle.elimination.specs.Lines.{IsNought, IsSymmetric, IsRow, IsUpperWeights, IsUpperLine}
+use Rattle.elimination.proofs.loops.LineLoop.{LinesDone, pivot_inverse}
+use Rattle.elimination.proofs.loops.Turns.{good_turn}
+use Rattle.elimination.proofs.steps.Rows.{narrow_line}
 use Rattle.elimination.proofs.steps.Coordinates.{good_flat, good_three}
 use Rattle.elimination.proofs.steps.Firsts.{good_none, good_one, good_append}
-use Rattle.elimination.proofs.steps.Symmetry.{good_part}
-use Rattle.elimination.proofs.steps.Numbers.{Laws, own_cancels, value_fits, left_zero}
+use Rattle.elimination.proofs.steps.Symmetry.{good_part, own_weight, turned_good}
+use Rattle.elimination.proofs.steps.Numbers.{Laws, own_cancels, value_fits, nought_added}
 
 -- the entries of a vertex with itself are none
 pub good_unless : {m : ℕ} {fits : Ratio → Type 0} (i j : ℕ) (es : List Entry) → (j ≢ i → AreGood m fits es) → AreGood m fits (if j == i then [] else es)
@@ -19,52 +24,60 @@ good_unless i j es h = ⊎_elim
     (λ (e : j ≡ i). let same : (j == i) ≡ true = eq-eqb j i e in rw same good_none)
     (λ (o : j ≢ i). let other : (j == i) ≡ false = search rules in rw other (h o)) (cases_eq j i)
 
-module _ {N : Type 0} {m : ℕ} {value : N → Ratio} {fits : Ratio → Type 0} (laws : Laws m value fits) (l : Level) (k i : ℕ) (x : N) where
-  module _ (nothing : Same m (value x) (whole (pos 0))) (has : HasValue m (value x) (l.w i k)) (pivot : CanCancel m (pos (pivot_sum l k).den)) (inverse : HasInverse m (pivot_sum l k)) where
-    -- x is the factor too
-    share_has : HasValue m (value x) (factor l k i)
-    share_has = over_like (value x) (pivot_sum l k) (value x) (l.w i k) (pivot_sum l k) pivot (own_cancels laws x)
-        (same_trans one_cancels (zero_times (pivot_sum l k) nothing) (same_sym nothing)) inverse has (record { same = same_refl (pivot_sum l k); denominator = pivot })
+module _ {N : Type 0} {m : ℕ} {value : N → Ratio} {fits : Ratio → Type 0} (laws : Laws m value fits) (l : Level) (k i : ℕ) (below : i < k) (s : IsSymmetric m l (k + 1)) where
+  module _ (nought : IsNought m value (l.w k i)) (pivot : CanCancel m (pos (pivot_sum l k).den)) (inverse : HasInverse m (pivot_sum l k)) where
+    -- its weight is the factor too
+    share_has : HasValue m (value nought.number) (factor l k i)
+    share_has = over_like (value nought.number) (pivot_sum l k) (value nought.number) (l.w i k) (pivot_sum l k) pivot (own_cancels laws nought.number)
+        (same_trans one_cancels (zero_times (pivot_sum l k) nought.zero) (same_sym nought.zero)) inverse (own_weight l k i below s nought.has) (record { same = same_refl (pivot_sum l k); denominator = pivot })
 
-    module _ {D : ℕ} (xs last : List N) (sums last_sums : Row N D) (d : N) (mine : IsUpperLine m value xs sums l k i) (theirs : IsLine m value last last_sums l k k) (before : AreGood m fits (list_to i (weight_entry l k i))) where
-      weight_stays : (j : ℕ) (e : N) → i < j → j < k → HasValue m (value (get_or xs j e)) ((next_level k l).w i j)
-      weight_stays j e o b =
-          let y = get_or xs j e in
-          let z = get_or last j e in
-          (left_zero laws (place 0 0 0 0 0) (place 0 0 0 0 0) y x z (l.w i j) (factor l k i) (l.w k j) (mine.weights.has j e o b) share_has (theirs.weights.has j e b (omega (arith, b))) nothing).0
+    -- a product with it adds nothing
+    adds_nothing : (at next : Place) (y : N) (a b : Ratio) → HasValue m (value y) a → CanCancel m (pos b.den) → HasValue m (value y) (ratio_plus a (ratio_times (factor l k i) b)) × AreGood m fits (term_entries at next a (factor l k i) b)
+    adds_nothing at next y a b h c = nought_added laws at next y a (factor l k i) b h nought.number share_has nought.zero c
+
+    -- the denominator of a weight of k
+    weight_cancels : (j : ℕ) → j < k → CanCancel m (pos (l.w k j).den)
+    weight_cancels j b = (s.has j k (omega (arith, b)) (omega arith) (λ e. omega (arith, b, e))).denominator
+
+    module _ {D : ℕ} (xs : List N) (sums last_sums : Row N D) (mine : IsUpperLine m value xs sums l k i) (theirs : IsRow m value last_sums (l.b k)) (before : AreGood m fits (list_to i (weight_entry l k i))) where
+      weight_stays : (j : ℕ) (e : N) → i < j → j < k → HasValue m (value (get_or xs (j - (i + 1)) e)) ((next_level k l).w i j)
+      weight_stays j e o b = (adds_nothing (place 0 0 0 0 0) (place 0 0 0 0 0) (get_or xs (j - (i + 1)) e) (l.w i j) (l.w k j) (mine.weights.has j e o b) (weight_cancels j b)).0
 
       weight_good : (j : ℕ) → j < k → AreGood m fits (weight_entry l k i j)
       weight_good j b = ⊎_elim (λ (r : j < i). good_part (weight_entry l k i) i j before r)
-          (λ r. good_unless i j _ (λ o.
-          let y = get_or xs j d in
-          let z = get_or last j d in
-          (left_zero laws (place 3 (k + 1) (i + 1) (j + 1) 0) (place 4 (k + 1) (i + 1) (j + 1) 0) y x z (l.w i j) (factor l k i) (l.w k j) (mine.weights.has j d (omega (arith, r, o)) b) share_has (theirs.weights.has j d b (omega (arith, b))) nothing).1)) (cases_lt j i)
+          (λ r. good_unless i j _ (λ o. (adds_nothing (place 3 (k + 1) (i + 1) (j + 1) 0) (place 4 (k + 1) (i + 1) (j + 1) 0) (get_or xs (j - (i + 1)) nought.number) (l.w i j) (l.w k j) (mine.weights.has j nought.number (omega (arith, r, o)) b) (weight_cancels j b)).1)) (cases_lt j i)
 
       weights_good : (n : ℕ) → n ≤ k → AreGood m fits (list_to n (weight_entry l k i))
       weights_good zero b = good_none
       weights_good (suc n) b = good_append (list_to n (weight_entry l k i)) (weight_entry l k i n) (weights_good n (omega (arith, b))) (weight_good n (omega (arith, b)))
 
-      sum_stays : (c : ℕ) (y z : N) → HasValue m (value y) (l.b i c) → HasValue m (value z) (l.b k c) → HasValue m (value y) ((next_level k l).b i c) × AreGood m fits (shift_entry l k i c)
-      sum_stays c y z p q = left_zero laws (place 5 (k + 1) (i + 1) 0 (c + 1)) (place 6 (k + 1) (i + 1) 0 (c + 1)) y x z (l.b i c) (factor l k i) (l.b k c) p share_has q nothing
+      sum_stays : (c : ℕ) (y : N) → HasValue m (value y) (l.b i c) → CanCancel m (pos (l.b k c).den) → HasValue m (value y) ((next_level k l).b i c) × AreGood m fits (shift_entry l k i c)
+      sum_stays c y p q = adds_nothing (place 5 (k + 1) (i + 1) 0 (c + 1)) (place 6 (k + 1) (i + 1) 0 (c + 1)) y (l.b i c) (l.b k c) p q
+
+      first_stays : HasValue m (value sums.x) ((next_level k l).b i 0) × AreGood m fits (shift_entry l k i 0)
+      first_stays = sum_stays 0 sums.x mine.sums.first theirs.first.denominator
+
+      second_stays : HasValue m (value sums.y) ((next_level k l).b i 1) × AreGood m fits (shift_entry l k i 1)
+      second_stays = sum_stays 1 sums.y mine.sums.second theirs.second.denominator
+
+      third_stays : D ≡ 3 → HasValue m (value sums.z) ((next_level k l).b i 2) × AreGood m fits (shift_entry l k i 2)
+      third_stays e = sum_stays 2 sums.z (mine.sums.third e) (theirs.third e).denominator
 
       sums_good : (D ≡ 2) ⊎ (D ≡ 3) → AreGood m fits (list_to D (shift_entry l k i))
-      sums_good h =
-          let a = (sum_stays 0 sums.x last_sums.x mine.sums.first theirs.sums.first).1 in
-          let b = (sum_stays 1 sums.y last_sums.y mine.sums.second theirs.sums.second).1 in
-          ⊎_elim
-          (λ (e : D ≡ 2). good_flat m fits (shift_entry l k i) D e a b)
-          (λ (e : D ≡ 3). good_three m fits (shift_entry l k i) D e a b (sum_stays 2 sums.z last_sums.z (mine.sums.third e) (theirs.sums.third e)).1) h
+      sums_good h = ⊎_elim
+          (λ (e : D ≡ 2). good_flat m fits (shift_entry l k i) D e first_stays.1 second_stays.1)
+          (λ (e : D ≡ 3). good_three m fits (shift_entry l k i) D e first_stays.1 second_stays.1 (third_stays e).1) h
 
       sums_stay : IsRow m value sums ((next_level k l).b i)
       sums_stay = record {
-        first = (sum_stays 0 sums.x last_sums.x mine.sums.first theirs.sums.first).0;
-        second = (sum_stays 1 sums.y last_sums.y mine.sums.second theirs.sums.second).0;
-        third = λ e. (sum_stays 2 sums.z last_sums.z (mine.sums.third e) (theirs.sums.third e)).0;
+        first = first_stays.0;
+        second = second_stays.0;
+        third = λ e. (third_stays e).0;
         flat = mine.sums.flat;
       }
 
       over_good : AreGood m fits (over_entry (place 2 (k + 1) (i + 1) 0 0) (l.w i k) (pivot_sum l k) ∷ [])
-      over_good = good_one _ (record { divisor = λ e. inverse; fit = value_fits laws x (factor l k i) share_has })
+      over_good = good_one _ (record { divisor = λ e. inverse; fit = value_fits laws nought.number (factor l k i) share_has })
 
       -- the line is that of the next level, and all its numbers are good
       pub line_stays : (D ≡ 2) ⊎ (D ≡ 3) → IsUpperLine m value xs sums (next_level k l) k i × AreGood m fits (row_entries D l k i)
@@ -73,3 +86,32 @@ module _ {N : Type 0} {m : ℕ} {value : N → Ratio} {fits : Ratio → Type 0} 
         good_append (_ ∷ []) (list_to k (weight_entry l k i) ++ list_to D (shift_entry l k i)) over_good
             (good_append (list_to k (weight_entry l k i)) (list_to D (shift_entry l k i)) (weights_good k (omega arith)) (sums_good h)),
       )
+
+-- some element of a list
+some_of : {X : Type 0} (xs : List X) (q : ℕ) → q < length xs → X
+some_of [] q l = absurd (omega (arith, l))
+some_of (x ∷ xs) q l = x
+
+-- one line more that stays
+module _ {N : Type 0} {m D : ℕ} {value : N → Ratio} {fits : Ratio → Type 0} (laws : Laws m value fits) (dimension : (D ≡ 2) ⊎ (D ≡ 3)) (l : Level) (k : ℕ) (s : IsSymmetric m l (k + 1)) (pivot : CanCancel m (pos (pivot_sum l k).den)) (last_sums : Row N D) (theirs : IsRow m value last_sums (l.b k)) where
+  pub line_passed : (lines : List (Vec N)) (sums : List (Row N D)) (q : ℕ) → q < k → q < length lines → 0 < q → IsNought m value (l.w k q)
+      → ((d : Vec N) (e : Row N D) → IsUpperLine m value (get_or lines q d).items (get_or sums q e) l (k + 1) q) → LinesDone m value fits k lines sums q l → LinesDone m value fits k lines sums (q + 1) l
+  line_passed lines sums q b within later o mine done = record {
+    has = record {
+      weights = record {
+        has = λ i d c. ⊎_elim (λ (r : i < q). done.has.weights.has i d r)
+            (λ r. let e : q ≡ i = omega (arith, c, r) in subst (λ t. IsUpperWeights m value (get_or lines t d).items (next_level k l) k t) e (stays d last_sums).0.weights) (cases_lt i q);
+      };
+      sums = record {
+        has = λ i d c. ⊎_elim (λ (r : i < q). done.has.sums.has i d r)
+            (λ r. let e : q ≡ i = omega (arith, c, r) in subst (λ t. IsRow m value (get_or sums t d) ((next_level k l).b t)) e (stays some d).0.sums) (cases_lt i q);
+      };
+    };
+    good = good_turn m fits (row_entries D l k) q done.good (stays some last_sums).1;
+  }
+    where
+      some : Vec N
+      some = some_of lines q within
+
+      stays : (d : Vec N) (e : Row N D) → IsUpperLine m value (get_or lines q d).items (get_or sums q e) (next_level k l) k q × AreGood m fits (row_entries D l k q)
+      stays d e = line_stays laws l k q b s o pivot (pivot_inverse m fits D k l q done.good later) (get_or lines q d).items (get_or sums q e) last_sums (narrow_line m value _ _ l k q (mine d e)) theirs (turned_good laws D l k q b s done.good) dimension

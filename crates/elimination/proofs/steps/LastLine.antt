@@ -3,8 +3,9 @@ use Rattle.std.proofs.Common.{◌≡◌, ℕ, suc, ◌-◌, arith, ◌+◌, ◌<
 use Rattle.std.specs.Global.{Vec}
 use Rattle.exact.specs.Ratio.{Ratio}
 use Rattle.vecdim.specs.declared.vectors.Row.{Row}
+use Rattle.elimination.specs.declared.joined.Joined.{Joined}
 use Rattle.elimination.specs.Listed.{Level}
-use Rattle.elimination.specs.Lines.{IsUpperWeights, IsSymmetric, IsRow, IsLine, AreLines, AreWide, AreRowsOfValues}
+use Rattle.elimination.specs.Lines.{IsUpperWeights, IsSymmetric, IsRow, IsLastLine, AreLines, AreWide, AreRowsOfValues}
 use Rattle.elimination.proofs.steps.Rows.{get_pushed, length_pushed}
 
 -- without the last there is one less
@@ -20,10 +21,7 @@ get_rest xs x d k i count b = ⊎_elim (λ p. p.1) (λ p. absurd (omega (arith, 
 
 module _ {N : Type 0} (xs : List (Vec N)) (x : Vec N) (k : ℕ) (count : length xs ≡ k) where
   pub wide_rest : AreWide (xs ++ (x ∷ [])) (k + 1) (k + 1) → AreWide xs (k + 1) k
-  wide_rest h = record { wide = λ i d b. subst (λ t. k + 1 ≤ length t.items) (get_rest xs x d k i count b) (h.wide i d (omega (arith, b))) }
-
-  pub wide_last : AreWide (xs ++ (x ∷ [])) (k + 1) (k + 1) → k ≤ length x.items
-  wide_last h = let s = subst (λ t. k + 1 ≤ length t.items) (get_last xs x x k count) (h.wide k x (omega arith)) in omega (arith, s)
+  wide_rest h = record { wide = λ i d b. subst (λ t. k + 1 ≤ length t.items + (i + 1)) (get_rest xs x d k i count b) (h.wide i d (omega (arith, b))) }
 
   module _ {D : ℕ} (m : ℕ) (value : N → Ratio) (rows : List (Row N D)) (row : Row N D) (row_count : length rows ≡ k) (l : Level) (h : AreLines m value (xs ++ (x ∷ [])) (rows ++ (row ∷ [])) l (k + 1) (k + 1)) where
     pub lines_rest : AreLines m value xs rows l (k + 1) k
@@ -39,8 +37,8 @@ module _ {N : Type 0} (xs : List (Vec N)) (x : Vec N) (k : ℕ) (count : length 
 pub lines_at : {N : Type 0} {D : ℕ} (m : ℕ) (value : N → Ratio) {xs ys : List (Vec N)} {rows others : List (Row N D)} (l : Level) (n count : ℕ) → xs ≡ ys → rows ≡ others → AreLines m value xs rows l n count → AreLines m value ys others l n count
 lines_at m value {xs} {ys} {rows} {others} l n count e f h = subst (λ r. AreLines m value ys r l n count) f (subst (λ t. AreLines m value t rows l n count) e h)
 
-pub line_at : {N : Type 0} {D : ℕ} (m : ℕ) (value : N → Ratio) {xs ys : List N} (row : Row N D) (l : Level) (n i : ℕ) → xs ≡ ys → IsLine m value xs row l n i → IsLine m value ys row l n i
-line_at m value row l n i e h = subst (λ t. IsLine m value t row l n i) e h
+pub last_line_at : {N : Type 0} {D : ℕ} (m : ℕ) (value : N → Ratio) {xs ys : List (Joined N)} (row : Row N D) (l : Level) (k : ℕ) → xs ≡ ys → IsLastLine m value xs row l k → IsLastLine m value ys row l k
+last_line_at m value row l k e h = subst (λ t. IsLastLine m value t row l k) e h
 
 -- k is k - 1 and one more
 again : (k : ℕ) → k ≡ suc (k - 1) → k ≡ k - 1 + 1

@@ -57,6 +57,20 @@ module _ {N : Type 0} {m : ℕ} {value : N → Ratio} {fits : Ratio → Type 0} 
   pub terms_good : (at next : Place) (a b c : Ratio) → fits (ratio_times b c) → fits (ratio_plus a (ratio_times b c)) → AreGood m fits (term_entries at next a b c)
   terms_good at next a b c f h = good_append (_ ∷ []) (_ ∷ []) (good_one _ (good_times at b c f)) (good_one _ (good_plus next a (ratio_times b c) h))
 
+  module _ (at next : Place) (x : N) (a b c : Ratio) (xa : HasValue m (value x) a) where
+    -- where the product is 0, x is the sum; z is any number that is 0
+    nothing_added : CanCancel m (pos (ratio_times b c).den) → (z : N) → Same m (value z) (whole (pos 0)) → Same m (ratio_times b c) (whole (pos 0)) → HasValue m (value x) (ratio_plus a (ratio_times b c)) × AreGood m fits (term_entries at next a b c)
+    nothing_added cancels z zz t =
+        let product = ratio_times b c in
+        let sum = ratio_plus a product in
+        let to_a : Same m sum a = same_trans (plus_cancels a (whole (pos 0)) xa.denominator one_cancels) (plus_same (same_refl a) t) (plus_zero a) in
+        let has : HasValue m (value x) sum = record { same = same_trans xa.denominator xa.same (same_sym to_a); denominator = plus_cancels a product xa.denominator cancels } in
+        (has, terms_good at next a b c (value_fits z product (record { same = same_trans one_cancels zz (same_sym t); denominator = cancels })) (value_fits x sum has))
+
+    -- a product with z, which is 0, adds nothing
+    pub nought_added : (z : N) → HasValue m (value z) b → Same m (value z) (whole (pos 0)) → CanCancel m (pos c.den) → HasValue m (value x) (ratio_plus a (ratio_times b c)) × AreGood m fits (term_entries at next a b c)
+    nought_added z zb zz cc = nothing_added (times_cancels b c zb.denominator cc) z zz (zero_times c (same_trans (own_cancels z) (same_sym zb.same) zz))
+
   module _ (at next : Place) (x left right : N) (a b c : Ratio) (xa : HasValue m (value x) a) (lb : HasValue m (value left) b) (rc : HasValue m (value right) c) where
     product_cancels : CanCancel m (pos (ratio_times b c).den)
     product_cancels = times_cancels b c lb.denominator rc.denominator
@@ -64,20 +78,11 @@ module _ {N : Type 0} {m : ℕ} {value : N → Ratio} {fits : Ratio → Type 0} 
     sum_cancels : CanCancel m (pos (ratio_plus a (ratio_times b c)).den)
     sum_cancels = plus_cancels a (ratio_times b c) xa.denominator product_cancels
 
-    -- where the product is 0, x is the sum; z is any number that is 0
-    nothing_added : (z : N) → Same m (value z) (whole (pos 0)) → Same m (ratio_times b c) (whole (pos 0)) → HasValue m (value x) (ratio_plus a (ratio_times b c)) × AreGood m fits (term_entries at next a b c)
-    nothing_added z zz t =
-        let product = ratio_times b c in
-        let sum = ratio_plus a product in
-        let to_a : Same m sum a = same_trans (plus_cancels a (whole (pos 0)) xa.denominator one_cancels) (plus_same (same_refl a) t) (plus_zero a) in
-        let has : HasValue m (value x) sum = record { same = same_trans xa.denominator xa.same (same_sym to_a); denominator = sum_cancels } in
-        (has, terms_good at next a b c (value_fits z product (record { same = same_trans one_cancels zz (same_sym t); denominator = product_cancels })) (value_fits x sum has))
-
     pub left_zero : Same m (value left) (whole (pos 0)) → HasValue m (value x) (ratio_plus a (ratio_times b c)) × AreGood m fits (term_entries at next a b c)
-    left_zero z = nothing_added left z (zero_times c (same_trans (own_cancels left) (same_sym lb.same) z))
+    left_zero z = nought_added at next x a b c xa left lb z rc.denominator
 
     pub right_zero : Same m (value right) (whole (pos 0)) → HasValue m (value x) (ratio_plus a (ratio_times b c)) × AreGood m fits (term_entries at next a b c)
-    right_zero z = nothing_added right z (times_zero b (same_trans (own_cancels right) (same_sym rc.same) z))
+    right_zero z = nothing_added at next x a b c xa product_cancels right z (times_zero b (same_trans (own_cancels right) (same_sym rc.same) z))
 
     own_product_cancels : CanCancel m (pos (ratio_times (value left) (value right)).den)
     own_product_cancels = times_cancels (value left) (value right) (own_cancels left) (own_cancels right)

@@ -1,5 +1,5 @@
 -- The weight of two vertices is the same, whichever is named first, at each level; and so are the numbers that make it.
-use Rattle.std.proofs.Common.{◌≡◌, ◌≢◌, ℕ, zero, suc, pos, arith, ◌+◌, ◌<◌, ◌≤◌, if◌then◌else◌, List, [], ◌∷◌, ◌++◌, get_or, refl, sym, subst, ⊎_elim}
+use Rattle.std.proofs.Common.{◌≡◌, ◌≢◌, ℕ, zero, suc, pos, arith, ◌+◌, ◌<◌, ◌≤◌, if◌then◌else◌, List, [], ◌∷◌, ◌++◌, refl, sym, subst, ⊎_elim}
 use Rattle.std.specs.Prelude.{ℤ, ◌*ℤ◌}
 use Rattle.std.proofs.lemmas.Bool.{cases_lt, ne_eqb}
 use Rattle.std.proofs.lemmas.List.Elements.{All-head, All-tail}
@@ -9,13 +9,11 @@ use Rattle.exact.specs.Values.{CanCancel, HasValue}
 use Rattle.exact.proofs.CallerLemmas.{formal, same_refl, same_trans, plus_same, times_same, plus_cancels, times_cancels, over_cancels, inverse_denominator_cancels}
 use Rattle.elimination.specs.Listed.{Level, Entry, place, list_to, pivot_sum, factor, next_level, times_entry, plus_entry, term_entries, over_entry, weight_entry, shift_entry, row_entries}
 use Rattle.elimination.specs.Faults.{IsGood, AreGood}
-use Rattle.vecdim.specs.declared.vectors.Row.{Row}
-use Rattle.elimination.specs.Lines.{IsLine, IsSymmetric}
+use Rattle.elimination.specs.Lines.{IsSymmetric}
 use Rattle.elimination.proofs.inverses.Inverses.{all_before, all_after}
 use Rattle.elimination.proofs.loops.LineLoop.{pivot_inverse}
 use Rattle.elimination.proofs.steps.Firsts.{good_none, good_append}
 use Rattle.elimination.proofs.steps.Numbers.{Laws, fits_too, terms_good}
-use Rattle.elimination.proofs.steps.Rows.{value_at}
 
 -- what has a value has all that this value has
 pub has_trans : {m : ℕ} {x a b : Ratio} → HasValue m x a → HasValue m a b → HasValue m x b
@@ -59,9 +57,9 @@ pub level_symmetric : (m : ℕ) (fits : Ratio → Type 0) (D : ℕ) (l : Level) 
 level_symmetric m fits D l zero s h = record { has = λ i j b d o. absurd (omega (arith, b)) }
 level_symmetric m fits D l (suc k) s h = next_symmetric l (suc k) s (pivot_inverse m fits D (suc k) l (suc k) h (omega arith))
 
--- the number of i in the line of k has the weight of i and k
-pub own_weight : {N : Type 0} {D : ℕ} (m : ℕ) (value : N → Ratio) (x : N) (last : List N) (sums : Row N D) (l : Level) (k i : ℕ) → i < k → IsSymmetric m l (k + 1) → IsLine m value last sums l k k → x ≡ get_or last i x → HasValue m (value x) (l.w i k)
-own_weight m value x last sums l k i b s t e = has_trans (value_at value x _ _ e (t.weights.has i x b (λ f. omega (arith, b, f)))) (s.has k i (omega arith) (omega (arith, b)) (λ f. omega (arith, b, f)))
+-- what has the weight of k and i has that of i and k
+pub own_weight : {m : ℕ} {x : Ratio} (l : Level) (k i : ℕ) → i < k → IsSymmetric m l (k + 1) → HasValue m x (l.w k i) → HasValue m x (l.w i k)
+own_weight l k i b s h = has_trans h (s.has k i (omega arith) (omega (arith, b)) (λ f. omega (arith, b, f)))
 
 -- one of good lists
 pub good_part : {m : ℕ} {fits : Ratio → Type 0} (f : ℕ → List Entry) (n j : ℕ) → AreGood m fits (list_to n f) → j < n → AreGood m fits (f j)

@@ -1,0 +1,46 @@
+use Rattle.std.proofs.Common.{rules, ◌≡◌, ◌+◌, ◌-◌, ◌<◌, ◌∙◌, get_or, arith, ap, subst}
+use Rattle.std.specs.Global.{Vec}
+use Rattle.std.specs.List.{All}
+use Rattle.elimination.specs.Lines.{AreJoined}
+use Rattle.elimination.proofs.steps.Rows.{value_at}
+use Rattle.elimination.proofs.steps.Symmetry.{has_trans}
+use Rattle.elimination.proofs.loops.Listing.{joined_none}
+use Rattle.elimination.proofs.joined.joined_to.Goals as goal
+
+pub loop-i-init : goal.loop-i-init
+loop-i-init g c =
+    let n = g.N.Exact in
+    record {
+      below = rw c.new-joined.ensures.items (λ a d b. absurd (omega (arith, b)));
+      rising = rw c.new-joined.ensures.items (λ a b d o l. absurd (omega (arith, l)));
+      done = λ v w s. rw c.new-joined.ensures.items (joined_none n.modulus n.value v c.args.k);
+    }
+
+pub loop-i-preserved : goal.loop-i-preserved
+loop-i-preserved g c =
+    let n = g.N.Exact in
+    let k = c.args.k in
+    let i = c.loop-i.i in
+    let below = c.loop-i-test.true in
+    let line = c.index-lines-i.result in
+    let x = c.index.result.now in
+    let own : x ≡ get_or line.items (k - (i + 1)) x = search rules in
+    record {
+      below = c.in_ok-push_joined.ensures.below;
+      rising = c.in_ok-push_joined.ensures.rising;
+      done = λ v w s.
+          let has = value_at n.value x _ (v.w i k) (own ∙ ap (λ (t : Vec g.row.N.Denot). get_or t.items (k - (i + 1)) x) c.index-lines-i.is) ((w.has i line below).has k x below (omega arith)) in
+          c.in_ok-push_joined.ensures.values v k (c.loop-i.invariant.done v w s) (has_trans has (s.has i k (omega (arith, below)) (omega arith) (λ f. omega (arith, below, f))));
+    }
+
+pub returns-clause-below : goal.returns-clause-below
+returns-clause-below g c =
+    let done : c.loop-i.i ≡ c.args.k = omega (arith, c.loop-i.auto.i-end, c.loop-i-test.false) in
+    subst (λ i. All (λ x. x.place < i) c.loop-i.joined.items) done c.loop-i.invariant.below
+
+pub returns-clause-values : goal.returns-clause-values
+returns-clause-values g c = λ v w s.
+    let n = g.N.Exact in
+    let k = c.args.k in
+    let done : c.loop-i.i ≡ k = omega (arith, c.loop-i.auto.i-end, c.loop-i-test.false) in
+    subst (λ i. AreJoined n.modulus n.value c.loop-i.joined.items v 0 i k) done (c.loop-i.invariant.done v w s)
