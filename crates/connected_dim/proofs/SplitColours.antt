@@ -8,7 +8,7 @@ use Rattle.integers.proofs.vectors.Laws.{plus_minus}
 use Rattle.periodic_net.specs.Graph.{Graph, IsGraph, Vertex, vertex, moved, IsVertex, IsQuotientVertex, AreJoined}
 use Rattle.periodic_net.specs.Split.{Split, AreAlike, entry, colour, IsSplit, IsFound, WalkShift, IsFlatSplit, IsSparseSplit}
 use Rattle.periodic_net.proofs.CallerLemmas.{reached_transitive, reached_by_arc, joined_moved, same_reached, one_not_alike}
-use Rattle.walk_lattice.proofs.CallerLemmas.{Start, start_of}
+use Rattle.integers.proofs.vectors.Directions.{Start, start_of}
 
 -- a walk to a vertex, and on to a joined one
 further_walk : (G : Graph) (w x : Vertex) (T : Vector) → AreJoined G w x → WalkShift G 1 w.over T → WalkShift G 1 x.over (plus x.cell (minus T w.cell))

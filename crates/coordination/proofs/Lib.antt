@@ -5,7 +5,6 @@ pub mod Counting
 pub mod Existence
 pub mod Finding
 pub mod Layers
-pub mod Leaves
 pub mod Neighbours
 pub mod NewNeighbours
 pub mod OneListOfSequences

@@ -8,9 +8,9 @@ use Rattle.periodic_net.specs.Placement.{position}
 use Rattle.periodic_net.specs.Shells.{StepsLead}
 use Rattle.periodic_net.proofs.CallerLemmas.{positions_tell}
 use Rattle.key_theory.specs.Key.{Shape}
+use Rattle.key_theory.proofs.CallerLemmas.{arc_seen, leaves, seen, seen_place}
 use Rattle.coordination.specs.Points.{point, place_of, IsStep}
 use Rattle.coordination.specs.declared.point.Point.{Point}
-use Rattle.coordination.proofs.Leaves.{arc_seen, joined_seen, seen_place, leaves}
 use Rattle.coordination.proofs.PointShells.{start_at, Leads}
 
 -- points with equal parts are equal
@@ -54,7 +54,7 @@ module _ (G : Graph) (h : Shape G) (w : Vertex) where
   seen_step : (x y : Vertex) → AreJoined G x y → IsStep h.classes (seen_from x) (seen_from y)
   seen_step x y j = record {
     arc = arc_seen G h x y;
-    is_arc = joined_seen G h x y j;
+    is_arc = seen G h x y j;
     from = refl;
     onto = point_equal refl (sym (seen_further x y (arc_seen G h x y).vector (seen_place G h x y)));
   }

@@ -8,7 +8,7 @@ use Rattle.integers.proofs.lists.Filters.{all_at}
 use Rattle.periodic_net.specs.Split.{EndsBy}
 use Rattle.walk_lattice.specs.Flat.{IsReduction, IsOrthogonalTo, IsFlatNormal}
 use Rattle.integers.specs.Vectors.{cross}
-use Rattle.walk_lattice.proofs.Directions.{ends_by_zero, ends_by_one, ends_by_two}
+use Rattle.walk_lattice.proofs.Ends.{ends_by_zero, ends_by_one, ends_by_two}
 use Rattle.walk_lattice.proofs.Reductions.{unit}
 
 -- the first axis

@@ -1,8 +1,8 @@
 pub mod CallerLemmas
 pub mod ClosedWalks
-pub mod Directions
 pub mod Dividing
 pub mod EdgeWalks
+pub mod Ends
 pub mod Expanding
 pub mod Filtered
 pub mod Finding
