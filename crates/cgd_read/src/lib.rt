@@ -11,8 +11,6 @@ mod partial;
 mod read;
 mod sentences;
 mod state;
-#[cfg(test)]
-mod tests;
 mod values;
 
 pub use block::{Block, BlockFault, BlockFaultKind, Body, RawEdge, RawGraph, ReadRefusal};

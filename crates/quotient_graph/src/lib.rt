@@ -13,8 +13,6 @@ mod placed;
 mod raw;
 mod split;
 mod stable;
-#[cfg(test)]
-mod tests;
 
 pub use arc::Arc;
 pub use class_arc::ClassArc;
