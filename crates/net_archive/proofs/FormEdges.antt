@@ -1,7 +1,6 @@
 -- The edges of a form are those of a graph.
-use Rattle.std.proofs.Common.{◌≡◌, ◌≤◌, List, All, length, map, get_or, ℕ, subst, arith}
+use Rattle.std.proofs.Common.{List, All, map, get_or, ℕ, subst, arith}
 use Rattle.std.proofs.lemmas.List.{length-map, get_or-map}
-use Rattle.periodic_net.specs.Graph.{Arc}
 use Rattle.cgd_read.specs.Graphs.{edge_of}
 use Rattle.cgd_read.specs.declared.block.RawEdge.{RawEdge}
 use Rattle.quotient_graph.specs.EdgeLists.{IsEdgeAmong, AreEdgesOfGraph}

@@ -3,8 +3,6 @@ use Rattle.std.proofs.Common.{◌≡◌, ◌⊎◌, inl, inr, ℕ, ℤ, List, Re
 use Rattle.std.specs.Prelude.{IfErr, IsErrAnd}
 use Rattle.periodic_net.specs.Graph.{Graph, IsGraph}
 use Rattle.key_theory.specs.Key.{IsKeyOf}
-use Rattle.cgd_read.specs.Graphs.{edge_of}
-use Rattle.quotient_graph.specs.Stars.{graph_with}
 use Rattle.coordination.specs.Sequences.{AreSequencesOf}
 use Rattle.least_key.specs.Certain.{IsCertain}
 use Rattle.least_key.specs.KeyedNets.{KeyedNet, IsKeyed}

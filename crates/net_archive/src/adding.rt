@@ -10,7 +10,7 @@ ghost use Rattle.net_entries.specs.Entries.{entry_view};
 ghost use Rattle.archive_text.specs.Texts.{entry_lines};
 ghost use Rattle.archive_text.specs.Names.{is_name};
 ghost use Rattle.net_archive.specs.Adding.{IsEntryOf};
-ghost use Rattle.net_archive.specs.Archives.{IsEntry};
+ghost use Rattle.net_archive.specs.Archives.{IsEntry, most_bytes, most_entries};
 
 use crate::judge::sequences_of;
 use crate::migrating::MOST_BYTES;
@@ -108,15 +108,15 @@ pub fn addition(
 
 /// Whether there are as many entries as there may be.
 pub fn are_many(entries: &[Entry]) -> bool
-    ensures { IsTrue result ↔ 4096 ≤ length entries.now }
+    ensures { IsTrue result ↔ most_entries ≤ length entries.now }
 {
     entries.len() >= MOST_ENTRIES
 }
 
 /// Whether the text would be too long with these rows after the others.
 pub fn is_too_long(body: &[u8], rows: &[u8]) -> bool
-    requires { length body.now ≤ 16777216 }
-    ensures { IsTrue result ↔ 16777216 < 14 + length body.now + length rows.now }
+    requires { length body.now ≤ most_bytes }
+    ensures { IsTrue result ↔ most_bytes < 14 + length body.now + length rows.now }
 {
     rows.len() > MOST_BYTES || FIRST_LINE + body.len() + rows.len() > MOST_BYTES
 }

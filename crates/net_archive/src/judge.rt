@@ -1,5 +1,5 @@
 // Judges an entry at its end: computes what its rows tell of its graph anew.
-ghost use Rattle.std.specs.Prelude.{◌≡◌, ◌↔◌, ◌⊎◌, ◌≤◌, true, IfOk, IfErr, OnOk, length};
+ghost use Rattle.std.specs.Prelude.{◌≡◌, ◌↔◌, ◌⊎◌, ◌≤◌, ℕ, true, IfOk, IfErr, OnOk, length};
 ghost use Rattle.quotient_graph.specs.AnyGraphs.{graph_in};
 ghost use Rattle.coordination.specs.Sequences.{AreSequencesOf};
 ghost use Rattle.least_key.specs.AnyNets.{net_in};
@@ -153,7 +153,30 @@ fn check_key(alloc: Global, keyed: &KeyedGraph, net: &Net) -> Result<(), Archive
     })
 }
 
-// The net of an entry's graph, where its key and its shells are kept.
+// The shells of the classes of an entry's net, where its key and they are kept.
+fn check_net(
+    alloc: Global,
+    version: Version,
+    form: &Form,
+    net: &Net,
+) -> Result<Sequences, ArchiveFault>
+    requires graph { (net_in net.now).placed.graph ≡ graph_of_form form.now }
+    requires keyed { IsKeyed (net_in net.now) }
+    requires line { form.now.keyed.key_line ≤ 16777217 }
+    requires few { length form.now.shells ≤ 512 }
+    ensures key { OnOk result (HasKey form.now) }
+    ensures shells { IfOk result (AreSequencesOf (graph_of_form form.now)) }
+    ensures kept { IfOk result (λ lists. version ≡ Version.Two → form.now.shells ≡ lists) }
+    ensures fault { (line : ℕ) → IfErr result (IsJudged version line form.now) }
+{
+    check_key(alloc, &form.keyed, net)?;
+    let shells = sequences_of(alloc, net)?;
+    let key_line = form.keyed.key_line;
+    check_version(alloc, version, key_line, &form.shells, &shells)?;
+    Ok(shells)
+}
+
+// The shells of the classes of an entry's graph, where its key and they are kept. The entry begins on this line.
 fn check_form(
     alloc: Global,
     line: u32,
@@ -170,11 +193,7 @@ fn check_form(
     ensures fault { IfErr result (IsJudged version line form.now) }
 {
     let net = identify_at(alloc, line, graph)?;
-    check_key(alloc, &form.keyed, &net)?;
-    let shells = sequences_of(alloc, &net)?;
-    let key_line = form.keyed.key_line;
-    check_version(alloc, version, key_line, &form.shells, &shells)?;
-    Ok(shells)
+    check_net(alloc, version, form, &net)
 }
 
 // The graph that the rows of an entry say.

@@ -2,7 +2,7 @@
 ghost use Rattle.std.specs.Prelude.{◌≡◌, ◌≤◌, All, IfOk, IfErr, length};
 ghost use Rattle.net_entries.specs.Entries.{entry_view, entry_views};
 ghost use Rattle.archive_text.specs.Texts.{text_of};
-ghost use Rattle.net_archive.specs.Archives.{IsEntry};
+ghost use Rattle.net_archive.specs.Archives.{IsEntry, most_bytes};
 ghost use Rattle.net_archive.specs.Migrating.{IsTooLong};
 
 use crate::MigrateFault;
@@ -30,7 +30,7 @@ fn rows_in_two(alloc: Global, entries: &[Entry]) -> Result<Vec<u8>, AllocError>
 pub fn newest_text(alloc: Global, entries: &[Entry]) -> Result<Vec<u8>, MigrateFault>
     requires { All (λ entry. IsEntry (entry_view entry)) entries.now }
     ensures text { IfOk result (λ text. text.items ≡ text_of Version.Two (entry_views entries.now)) }
-    ensures fits { IfOk result (λ text. length text.items ≤ 16777216) }
+    ensures fits { IfOk result (λ text. length text.items ≤ most_bytes) }
     ensures fault { IfErr result (IsTooLong (text_of Version.Two (entry_views entries.now))) }
 {
     let text = rows_in_two(alloc, entries)?;

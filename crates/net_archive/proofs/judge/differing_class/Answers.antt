@@ -1,4 +1,4 @@
-use Rattle.std.proofs.Common.{◌≡◌, ◌<◌, ℕ, arith}
+use Rattle.std.proofs.Common.{arith}
 use Rattle.net_archive.proofs.SameLists.{next_same, same_lists}
 use Rattle.net_archive.proofs.judge.differing_class.Goals as goal
 
