@@ -15,3 +15,5 @@ mod OptionWords
 mod AllWords
 mod Parses
 mod ParseAnswers
+mod NetCounts
+mod FewNets

@@ -1,16 +1,38 @@
 -- The commands, and what each takes.
-use Rattle.std.specs.Prelude.{Bool, true, false, List, [], ◌∷◌, Option, Some, None, is_some, unwrap_or, option_map, option_and_then, if◌then◌else◌, codes}
+use Rattle.std.specs.Prelude.{ℕ, ◌≤◌, Bool, true, false, not, nat_lt, ◌&&◌, List, [], ◌∷◌, Option, Some, None, is_some, unwrap_or, option_map, option_and_then, if◌then◌else◌, codes}
+use Rattle.std.specs.Fmt.{decimal}
 use Rattle.std.specs.Str.{bytes_eq}
+use Rattle.std.specs.Str.Parse.{digits_value}
 use Rattle.command_words.specs.Words.{Text, Said, said_by}
 use Rattle.command_words.specs.declared.tasks.Command.{Command}
-use Rattle.command_words.specs.declared.tasks.Command.TheVariants.{Check, Place, Key}
+use Rattle.command_words.specs.declared.tasks.Command.TheVariants.{Check, Place, Key, Identify}
+use Rattle.command_words.specs.declared.tasks.Verb.{Verb}
+use Rattle.command_words.specs.declared.tasks.Verb.TheVariants as verb
+
+-- what is to be done
+pub data Task : Type 0 where
+  -- to tell of each block of a file what the command asks, with the archive where one is named
+  Tell : Command → Text → Option Text → Task
+  -- to add the nets of a file to the archive where one is named, the first under this name
+  Add : Text → Option Text → Option Text → Task
+  -- to find the nets that stand in an archive more than once
+  Duplicates : Text → Task
+  -- to write an archive in the newest format
+  Migrate : Text → Task
+  -- to make so many nets, and to find their keys
+  Workload : ℕ → Task
 
 -- the command that a word names
-abbrev pub command_named : Text → Option Command
-command_named word =
-    if bytes_eq word (codes "check") then Some Check else
-    (if bytes_eq word (codes "place") then Some Place else
-    (if bytes_eq word (codes "key") then Some Key else None))
+abbrev pub verb_named : Text → Option Verb
+verb_named word =
+    if bytes_eq word (codes "check") then Some (verb.Tell Check) else
+    (if bytes_eq word (codes "place") then Some (verb.Tell Place) else
+    (if bytes_eq word (codes "key") then Some (verb.Tell Key) else
+    (if bytes_eq word (codes "identify") then Some (verb.Tell Identify) else
+    (if bytes_eq word (codes "add") then Some verb.Add else
+    (if bytes_eq word (codes "duplicates") then Some verb.Duplicates else
+    (if bytes_eq word (codes "migrate") then Some verb.Migrate else
+    (if bytes_eq word (codes "workload") then Some verb.Workload else None)))))))
 
 -- the word stands, and is empty
 abbrev pub is_empty_word : Option Text → Bool
@@ -29,27 +51,56 @@ has_empty_word said =
 abbrev pub file_of : Said → Text
 file_of said = unwrap_or said.second (codes "-")
 
--- the file, where no option stands
-abbrev pub sole_file : Said → Option Text
-sole_file said = if is_some said.archive then None else (if is_some said.name then None else Some (file_of said))
+-- the file and the archive are not both the standard input
+abbrev pub are_apart : Text → Option Text → Bool
+are_apart file None = true
+are_apart file (Some archive) = if bytes_eq file (codes "-") then not (bytes_eq archive (codes "-")) else true
 
--- a command, and the name of the file that it reads
-pub record Task : Type 0 where
-  pub command : Command
-  pub file : Text
+-- check, place and key take a file and no archive; identify takes one where it is named
+abbrev pub may_name_archive : Command → Option Text → Bool
+may_name_archive Identify archive = true
+may_name_archive Check archive = not (is_some archive)
+may_name_archive Place archive = not (is_some archive)
+may_name_archive Key archive = not (is_some archive)
 
--- the command reads this file
-abbrev pub task_on : Command → Text → Task
-task_on command file = record { command = command; file = file }
+-- a file is read, and the archive where one is named, and no name is given
+abbrev pub tell_in : Command → Said → Option Task
+tell_in command said =
+    if is_some said.name then None else
+    (if may_name_archive command said.archive && are_apart (file_of said) said.archive then Some (Tell command (file_of said) said.archive) else None)
 
--- what a command takes: each takes one file, and no option
-abbrev pub task_for : Command → Said → Option Task
-task_for command said = option_map (task_on command) (sole_file said)
+-- a file is read, and the archive where one is named
+abbrev pub add_in : Said → Option Task
+add_in said = if are_apart (file_of said) said.archive then Some (Add (file_of said) said.archive said.name) else None
+
+-- the archive, where nothing else is said
+abbrev pub sole_archive : Said → Option Text
+sole_archive said = if is_some said.second then None else (if is_some said.name then None else said.archive)
+
+-- the word spells n in decimal, and n is from 1 to 4,096
+abbrev pub is_count : Text → ℕ → Bool
+is_count word n = bytes_eq word (decimal n) && (nat_lt 0 n && nat_lt n 4097)
+
+-- the number that a word spells so
+abbrev pub count_of : Text → Option ℕ
+count_of word = if is_count word (digits_value 10 word) then Some (digits_value 10 word) else None
+
+-- the number, where nothing else is said
+abbrev pub sole_count : Said → Option ℕ
+sole_count said = if is_some said.archive then None else (if is_some said.name then None else option_and_then count_of said.second)
+
+-- what a command takes
+abbrev pub task_for : Verb → Said → Option Task
+task_for (verb.Tell command) said = tell_in command said
+task_for verb.Add said = add_in said
+task_for verb.Duplicates said = option_map Duplicates (sole_archive said)
+task_for verb.Migrate said = option_map Migrate (sole_archive said)
+task_for verb.Workload said = option_map Workload (sole_count said)
 
 -- the task of the first positional word, where that names a command
 abbrev pub task_named : Option Text → Said → Option Task
 task_named None said = None
-task_named (Some word) said = option_and_then (λ command. task_for command said) (command_named word)
+task_named (Some word) said = option_and_then (λ v. task_for v said) (verb_named word)
 
 -- the task that is said, where no word of it is empty
 abbrev pub task_in : Said → Option Task
@@ -58,3 +109,8 @@ task_in said = if has_empty_word said then None else task_named said.command sai
 -- the task that the words ask for, where they have the form
 abbrev pub task_of : List Text → Option Task
 task_of words = option_and_then task_in (said_by words)
+
+-- it makes no more nets than it may
+abbrev pub MakesFew : Task → Type 0
+MakesFew (Workload count) = count ≤ 4096
+MakesFew task = Unit {0}

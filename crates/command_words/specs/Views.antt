@@ -4,8 +4,10 @@ use Rattle.clap.specs.Words.{first_value}
 use Rattle.clap.specs.declared.parser.matches.Found.{Found}
 use Rattle.command_words.specs.Words.{Said}
 use Rattle.command_words.specs.Tasks.{Task}
+use Rattle.command_words.specs.Tasks as task
 use Rattle.command_words.specs.declared.parse.Said.{Said as SaidInCode}
 use Rattle.command_words.specs.declared.tasks.Task.{Task as TaskInCode}
+use Rattle.command_words.specs.declared.tasks.Task.TheVariants as code
 
 -- what is said, in the code
 abbrev pub said_view : SaidInCode → Said
@@ -18,7 +20,11 @@ said_view s = record {
 
 -- the task, in the code
 abbrev pub task_view : TaskInCode → Task
-task_view t = record { command = t.command; file = t.file.now }
+task_view (code.Tell command file archive) = task.Tell command file.now (option_copied archive)
+task_view (code.Add file archive name) = task.Add file.now (option_copied archive) (option_copied name)
+task_view (code.Duplicates archive) = task.Duplicates archive.now
+task_view (code.Migrate archive) = task.Migrate archive.now
+task_view (code.Workload count) = task.Workload count
 
 -- what clap found at each place
 abbrev pub said_in : Found → Said

@@ -1,6 +1,7 @@
 //! The words of a command line: which task they ask for.
 #![tactic(auto)]
 
+mod counts;
 mod grammar;
 mod parse;
 mod tasks;

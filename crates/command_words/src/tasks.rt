@@ -1,13 +1,14 @@
 // The commands, and what each takes.
-ghost use Rattle.std.specs.Prelude.{◌≡◌, IfOk, option_map, option_copied};
+ghost use Rattle.std.specs.Prelude.{◌≡◌, IfOk, IfSome, option_map, option_copied};
 ghost use Rattle.command_words.specs.Words.{texts_of};
-ghost use Rattle.command_words.specs.Tasks.{command_named, file_of, has_empty_word, is_empty_word, sole_file, task_for, task_in, task_of};
+ghost use Rattle.command_words.specs.Tasks.{MakesFew, add_in, are_apart, file_of, has_empty_word, is_empty_word, may_name_archive, sole_archive, sole_count, task_for, task_in, task_of, tell_in, verb_named};
 ghost use Rattle.command_words.specs.Views.{said_view, task_view};
 
+use crate::counts::count_of;
 use crate::parse::{Said, read_words};
 use std::alloc::{AllocError, Global};
 
-/// What is to be done with each net of a file.
+/// What is told of each net of a file.
 #[derive(Clone, Copy, Debug, PartialEq, Eq)]
 pub enum Command {
     /// Is the net connected?
@@ -16,24 +17,68 @@ pub enum Command {
     Place,
     /// What is its key?
     Key,
+    /// Which nets of an archive is it?
+    Identify,
 }
 
-/// A command, and the name of the file that it reads.
+/// What is to be done, and the names of the files that it reads. `-` is the standard input.
 #[derive(Clone, Copy, Debug, Drop)]
-pub struct Task<'a> {
-    pub command: Command,
-    pub file: &'a str,
+pub enum Task<'a> {
+    /// To tell of each block of a file what the command asks; only `identify` may name an archive.
+    Tell {
+        command: Command,
+        file: &'a str,
+        archive: Option<&'a str>,
+    },
+    /// To add the nets of a file to an archive, the first under this name.
+    Add {
+        file: &'a str,
+        archive: Option<&'a str>,
+        name: Option<&'a str>,
+    },
+    /// To find the nets that stand in an archive more than once.
+    Duplicates {
+        archive: &'a str,
+    },
+    /// To write an archive in the newest format.
+    Migrate {
+        archive: &'a str,
+    },
+    /// To make so many nets, from 1 to 4,096, and to find their keys.
+    Workload {
+        count: u32,
+    },
 }
 
-fn command_named(word: &str) -> Option<Command>
-    ensures { result ≡ command_named word.now }
+/// The command that a word names.
+#[derive(Clone, Copy, Debug, PartialEq, Eq)]
+pub(crate) enum Verb {
+    Tell(Command),
+    Add,
+    Duplicates,
+    Migrate,
+    Workload,
+}
+
+fn verb_named(word: &str) -> Option<Verb>
+    ensures { result ≡ verb_named word.now }
 {
     if word == "check" {
-        Some(Command::Check)
+        Some(Verb::Tell(Command::Check))
     } else if word == "place" {
-        Some(Command::Place)
+        Some(Verb::Tell(Command::Place))
     } else if word == "key" {
-        Some(Command::Key)
+        Some(Verb::Tell(Command::Key))
+    } else if word == "identify" {
+        Some(Verb::Tell(Command::Identify))
+    } else if word == "add" {
+        Some(Verb::Add)
+    } else if word == "duplicates" {
+        Some(Verb::Duplicates)
+    } else if word == "migrate" {
+        Some(Verb::Migrate)
+    } else if word == "workload" {
+        Some(Verb::Workload)
     } else {
         None
     }
@@ -68,24 +113,99 @@ fn file_of<'a>(said: &Said<'a>) -> &'a str
     }
 }
 
-// The file, where no option stands.
-fn sole_file<'a>(said: &Said<'a>) -> Option<&'a str>
-    ensures { option_copied result ≡ sole_file (said_view said.now) }
+// The file and the archive are not both the standard input.
+fn are_apart(file: &str, archive: Option<&str>) -> bool
+    ensures { result ≡ are_apart file.now (option_copied archive.entry) }
 {
-    match (said.archive, said.name) {
-        (None, None) => Some(file_of(said)),
+    match archive {
+        Some(archive) => { if file == "-" { archive != "-" } else { true } }
+        None => true,
+    }
+}
+
+// Only `identify` takes an archive.
+fn may_name_archive(command: Command, archive: Option<&str>) -> bool
+    ensures { result ≡ may_name_archive command (option_copied archive.entry) }
+{
+    match command {
+        Command::Identify => true,
+        Command::Check | Command::Place | Command::Key => archive.is_none(),
+    }
+}
+
+fn tell_in<'a>(command: Command, said: &Said<'a>) -> Option<Task<'a>>
+    ensures { option_map task_view result ≡ tell_in command (said_view said.now) }
+{
+    if said.name.is_some() {
+        return None;
+    }
+    let file = file_of(said);
+    let archive = said.archive;
+    if may_name_archive(command, archive) && are_apart(file, archive) {
+        Some(Task::Tell {
+            command,
+            file,
+            archive,
+        })
+    } else {
+        None
+    }
+}
+
+fn add_in<'a>(said: &Said<'a>) -> Option<Task<'a>>
+    ensures { option_map task_view result ≡ add_in (said_view said.now) }
+{
+    let file = file_of(said);
+    let archive = said.archive;
+    let name = said.name;
+    if are_apart(file, archive) {
+        Some(Task::Add {
+            file,
+            archive,
+            name,
+        })
+    } else {
+        None
+    }
+}
+
+// The archive, where nothing else is said.
+fn sole_archive<'a>(said: &Said<'a>) -> Option<&'a str>
+    ensures { option_copied result ≡ sole_archive (said_view said.now) }
+{
+    match (said.second, said.name) {
+        (None, None) => said.archive,
         _ => None,
     }
 }
 
-// What a command takes. Each takes one file, and no option.
-fn task_for<'a>(command: Command, said: &Said<'a>) -> Option<Task<'a>>
-    ensures { option_map task_view result ≡ task_for command (said_view said.now) }
+// The number, where nothing else is said.
+fn sole_count(said: &Said<'_>) -> Option<u32>
+    ensures { result ≡ sole_count (said_view said.now) }
 {
-    Some(Task {
-        command,
-        file: sole_file(said)?,
-    })
+    match (said.archive, said.name) {
+        (None, None) => count_of(said.second?),
+        _ => None,
+    }
+}
+
+// What a command takes.
+fn task_for<'a>(verb: Verb, said: &Said<'a>) -> Option<Task<'a>>
+    ensures { option_map task_view result ≡ task_for verb (said_view said.now) }
+{
+    match verb {
+        Verb::Tell(command) => tell_in(command, said),
+        Verb::Add => add_in(said),
+        Verb::Duplicates => Some(Task::Duplicates {
+            archive: sole_archive(said)?,
+        }),
+        Verb::Migrate => Some(Task::Migrate {
+            archive: sole_archive(said)?,
+        }),
+        Verb::Workload => Some(Task::Workload {
+            count: sole_count(said)?,
+        }),
+    }
 }
 
 // The task that is said, where no word of it is empty.
@@ -96,8 +216,8 @@ fn task_in<'a>(said: &Said<'a>) -> Option<Task<'a>>
         return None;
     }
     match said.command {
-        Some(word) => match command_named(word) {
-            Some(command) => task_for(command, said),
+        Some(word) => match verb_named(word) {
+            Some(verb) => task_for(verb, said),
             None => None,
         },
         None => None,
@@ -107,7 +227,9 @@ fn task_in<'a>(said: &Said<'a>) -> Option<Task<'a>>
 /// The task that the words ask for. `Ok(None)` comes exactly where they have no form, and `Err` only
 /// where memory is refused.
 pub fn task_of<'a>(alloc: Global, words: &'a [String]) -> Result<Option<Task<'a>>, AllocError>
-    ensures { IfOk result (λ task. option_map task_view task ≡ task_of (texts_of words.entry.now)) }
+    ensures task { IfOk result (λ task.
+        option_map task_view task ≡ task_of (texts_of words.entry.now)) }
+    ensures few { IfOk result (λ task. IfSome task (λ task. MakesFew (task_view task))) }
 {
     match read_words(alloc, words)? {
         Some(said) => Ok(task_in(&said)),

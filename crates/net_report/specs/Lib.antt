@@ -4,6 +4,7 @@ pub mod Headers
 pub mod Keys
 pub mod Primitives
 pub mod Sequences
+pub mod Identified
 pub mod Refusals
 pub mod Placements
 pub mod Reports

@@ -4,11 +4,12 @@ use Rattle.net_report.specs.Headers.{header_text, size_text, unsupported_text, f
 use Rattle.net_report.specs.Refusals.{refused_text, HasLine}
 use Rattle.least_key.specs.AnyPlacements.{placed_in}
 use Rattle.least_key.specs.AnyNets.{net_in}
+use Rattle.net_report.specs.Identified.{identified_text}
 use Rattle.net_report.specs.Keys.{key_text}
 use Rattle.net_report.specs.Placements.{placement_text}
 use Rattle.net_report.specs.declared.outcome.Outcome.{Outcome}
 use Rattle.net_report.specs.declared.outcome.OutcomeBody.{OutcomeBody}
-use Rattle.net_report.specs.declared.outcome.OutcomeBody.TheVariants.{Unsupported, Malformed, Refused, Checked, Located, Keyed}
+use Rattle.net_report.specs.declared.outcome.OutcomeBody.TheVariants.{Unsupported, Malformed, Refused, Checked, Located, Keyed, Identified}
 
 -- the lines after the header
 abbrev pub body_text : OutcomeBody → List ℕ
@@ -18,6 +19,7 @@ body_text (Refused size names refusal) = size_text size ++ refused_text names re
 body_text (Checked size) = size_text size ++ codes "connected\n"
 body_text (Located size names placed) = size_text size ++ placement_text names (placed_in placed)
 body_text (Keyed size net) = size_text size ++ key_text (net_in net).key
+body_text (Identified size vertices net shells names) = size_text size ++ identified_text vertices (net_in net) shells names
 
 -- the header, and the lines after it
 abbrev pub outcome_text : Outcome → List ℕ
@@ -36,6 +38,7 @@ IsPrintableBody (Refused size names refusal) = HasLine names refusal
 IsPrintableBody (Checked size) = Unit {0}
 IsPrintableBody (Located size names placed) = length names ≡ (placed_in placed).graph.vertices
 IsPrintableBody (Keyed size net) = Unit {0}
+IsPrintableBody (Identified size vertices net shells names) = length vertices ≡ (net_in net).placed.graph.vertices
 
 -- an outcome has a text
 abbrev pub IsPrintable : Outcome → Type 0

@@ -2,6 +2,7 @@
 #![tactic(auto)]
 
 mod headers;
+mod identified;
 mod keys;
 mod numbers;
 mod outcome;
@@ -13,6 +14,7 @@ mod sequences;
 mod texts;
 
 pub use least_key::AnyPlaced;
+pub use numbers::{push_number, push_wide_list};
 pub use outcome::{Outcome, OutcomeBody, Size};
 pub use outcomes::Outcomes;
 pub use primitives::push_primitive;

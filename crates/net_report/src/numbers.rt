@@ -9,6 +9,7 @@ use cgd_read::Names;
 use itoa::Buffer;
 use vecdim::Triple;
 
+/// A number in decimal.
 pub fn push_number(text: &mut Vec<u8>, n: u64) -> Result<(), NoMemory>
     ensures { OnOk result (text.new.items ≡ text.old.items ++ decimal n) }
 {

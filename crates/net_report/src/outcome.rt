@@ -1,5 +1,6 @@
 // What becomes of a block.
 use cgd_read::{BlockFault, Names};
+use coordination::Sequences;
 use least_key::{AnyPlaced, Net, Refusal};
 
 /// The sizes of a graph that was read; `repeats` counts the rows of an edge after its first.
@@ -26,6 +27,8 @@ pub enum OutcomeBody<'a> {
     Located(Size, Names<'a>, AnyPlaced),
     /// The net has a key.
     Keyed(Size, Net),
+    /// The net has a key, these sizes of shells, and in an archive the names of the last list.
+    Identified(Size, Names<'a>, Net, Sequences, Names<'a>),
 }
 
 /// What is told of a block: its number, the line that opens it, and its name.

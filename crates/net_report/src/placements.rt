@@ -72,7 +72,8 @@ fn push_denominator(text: &mut Vec<u8>, d0: i128) -> Result<(), NoMemory>
     text.extend_from_slice(b"\n")
 }
 
-fn push_placed<const D: usize>(
+/// The lines of a placement.
+pub(crate) fn push_placed<const D: usize>(
     text: &mut Vec<u8>,
     names: &Names<'_>,
     placed: &Placed<D>,

@@ -26,11 +26,11 @@ fn push_sizes_after(text: &mut Vec<u8>, sizes: &[u32]) -> Result<(), NoMemory>
 }
 
 /// The sizes of the shells of a vertex of a class.
-pub fn push_shells(text: &mut Vec<u8>, class: u32, sizes: &[u32]) -> Result<(), NoMemory>
+pub fn push_shells(text: &mut Vec<u8>, class: u64, sizes: &[u32]) -> Result<(), NoMemory>
     ensures { OnOk result (text.new.items ≡ text.old.items ++ shells_text class sizes.now) }
 {
     push_shells_word(text)?;
-    push_number(text, class as u64)?;
+    push_number(text, class)?;
     push_sizes_after(text, sizes)?;
     text.extend_from_slice(b"\n")
 }

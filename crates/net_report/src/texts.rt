@@ -3,6 +3,7 @@ ghost use Rattle.std.specs.Prelude.{◌≡◌, ◌++◌, All, IfOk, OnOk};
 ghost use Rattle.net_report.specs.Reports.{body_text, outcome_text, report_text, IsPrintableBody, IsPrintable};
 
 use crate::headers::{push_fault, push_header, push_size, push_unsupported};
+use crate::identified::push_identified;
 use crate::keys::push_key;
 use crate::placements::push_placement;
 use crate::refused::push_refused;
@@ -31,6 +32,10 @@ fn push_body(text: &mut Vec<u8>, body: &OutcomeBody<'_>) -> Result<(), NoMemory>
         OutcomeBody::Keyed(size, net) => {
             push_size(text, *size)?;
             push_key(text, net.key())
+        }
+        OutcomeBody::Identified(size, vertices, net, shells, names) => {
+            push_size(text, *size)?;
+            push_identified(text, vertices, net, shells, names)
         }
     }
 }

@@ -1,5 +1,5 @@
-mod Reordered
-mod NetOutcomes
-mod Printing
-mod Listing
-mod KeysDecideNets
+mod Endings
+mod DueOver
+mod Headlines
+mod Completed
+mod Room

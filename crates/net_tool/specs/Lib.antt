@@ -1,3 +1,4 @@
-pub mod Outcomes
-pub mod Statuses
 pub mod Run
+pub mod Inputs
+pub mod Completeness
+pub mod Headline

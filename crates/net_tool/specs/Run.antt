@@ -1,32 +1,48 @@
 -- What a run of the tool may answer.
-use Rattle.std.specs.Prelude.{ℕ, ◌≡◌, ◌≤◌, ◌<◌, Bool, true, false, List, [], length, take, Option, None, Some, codes}
+use Rattle.std.specs.Prelude.{ℕ, ◌≡◌, ◌⊎◌, ◌≤◌, ◌<◌, List, [], length, take, Option, None, Some, unwrap_or, codes}
 use Rattle.std.specs.Io.KnownBytes.{Appends}
 use Rattle.outside.specs.Last.{Last, Failed}
 use Rattle.outside.specs.Held.{Holds, Are, HasMore}
-use Rattle.net_tool.specs.declared.status.Status.{Status}
-use Rattle.net_tool.specs.declared.status.Status.TheVariants.{Done, SomeRefused, Usage, ReadFault, WriteFault, TooLarge, NoMemory, TooManyBlocks}
-use Rattle.cgd_read.specs.Blocks.{blocks_of}
 use Rattle.command_words.specs.Tasks.{Task, task_of}
-use Rattle.net_tool.specs.Outcomes.{IsReportOf}
+use Rattle.outside.specs.declared.shelf.InFault.{InFault}
+use Rattle.outside.specs.declared.shelf.InFault.TheVariants as unread
+use Rattle.net_answers.specs.declared.answer.Silence.{Silence}
+use Rattle.net_answers.specs.declared.answer.Silence.TheVariants as silence
+use Rattle.net_answers.specs.Due.{IsDueOn, archive_named, file_named, most_bytes}
+use Rattle.net_answers.specs.declared.status.Status.{Status}
+use Rattle.net_answers.specs.declared.status.Status.TheVariants.{Done, SomeRefused, Usage, ReadFault, WriteFault, BadArchive, TooLarge, NoMemory, TooManyBlocks, AddRefused, MigrateRefused}
 
 abbrev pub usage_line : List ℕ
 usage_line = codes "usage: net_tool COMMAND [FILE] [--archive PATH] [--name NAME]\n"
 
--- this is the command's report on a file of these bytes, and whether all its blocks were accepted
-abbrev pub IsReportOn : Task → Holds → Bool → List ℕ → Type 0
-IsReportOn task holds accepted text = (bytes : List ℕ) × Are holds task.file bytes × (length bytes ≤ 16777216) × IsReportOf task.command bytes accepted text
+-- the bytes of a file, where one is named, and no more than are taken
+abbrev pub AreBytesOf : Option (List ℕ) → Holds → Option (List ℕ) → Type 0
+AreBytesOf None holds bytes = bytes ≡ None
+AreBytesOf (Some name) holds None = ⊥
+AreBytesOf (Some name) holds (Some bytes) = Are holds name bytes × (length bytes ≤ most_bytes)
 
--- a file of these bytes has more blocks than are taken
-abbrev pub HasManyBlocks : List ℕ → Holds → Type 0
-HasManyBlocks file holds = (bytes : List ℕ) × Are holds file bytes × (length bytes ≤ 16777216) × (4096 < length (blocks_of bytes))
+-- a file is named, and has more bytes than are taken
+abbrev pub HasManyBytes : Option (List ℕ) → Holds → Type 0
+HasManyBytes None holds = ⊥
+HasManyBytes (Some name) holds = HasMore holds name most_bytes
+
+-- the file, where one is named, has no more bytes than are taken
+abbrev pub HasFewBytes : Option (List ℕ) → Holds → Type 0
+HasFewBytes name holds = (bytes : Option (List ℕ)) × AreBytesOf name holds bytes
+
+-- the file of the task has too many bytes; or it has not, and its archive has
+abbrev pub IsTooLarge : Task → Holds → Type 0
+IsTooLarge task holds = HasManyBytes (file_named task) holds ⊎ (HasFewBytes (file_named task) holds × HasManyBytes (archive_named task) holds)
+
+-- the task, of the bytes of its files, has this answer
+abbrev pub IsDueOver : Task → Holds → Status → List ℕ → Type 0
+IsDueOver task holds status text =
+    (file : Option (List ℕ)) × (archive : Option (List ℕ)) × AreBytesOf (file_named task) holds file × AreBytesOf (archive_named task) holds archive × IsDueOn task (unwrap_or file []) archive status text
 
 -- this task asks for this answer
 abbrev pub IsDueOf : Task → Holds → Status → List ℕ → Type 0
-IsDueOf task holds TooLarge text = HasMore holds task.file 16777216 × (text ≡ [])
-IsDueOf task holds TooManyBlocks text = HasManyBlocks task.file holds × (text ≡ [])
-IsDueOf task holds Done text = IsReportOn task holds true text
-IsDueOf task holds SomeRefused text = IsReportOn task holds false text
-IsDueOf task holds _ text = ⊥
+IsDueOf task holds TooLarge text = IsTooLarge task holds × (text ≡ [])
+IsDueOf task holds status text = IsDueOver task holds status text
 
 -- these words, over these files, ask for this answer
 abbrev pub IsDue : Option Task → Holds → Status → List ℕ → Type 0
@@ -42,10 +58,19 @@ abbrev pub IsBroken : List (List ℕ) → Holds → Option (List ℕ) → Option
 IsBroken words holds before after sure =
     (status : Status) × (text : List ℕ) × (taken : ℕ) × IsDue (task_of words) holds status text × Appends before after (take taken text) × (sure < length text)
 
--- the last read failed, of a file that the words name
-abbrev pub FailedAtFile : Option Task → Last → Type 0
-FailedAtFile None last = ⊥
-FailedAtFile (Some task) last = last ≡ Failed task.file
+-- the last read failed, of this file
+abbrev pub FailedAt : Option (List ℕ) → Last → Type 0
+FailedAt None last = ⊥
+FailedAt (Some name) last = last ≡ Failed name
+
+-- the last read failed, of the file that the task reads; or of its archive, and the file has no more bytes than are taken
+abbrev pub FailedAtTask : Task → Holds → Last → Type 0
+FailedAtTask task holds last = FailedAt (file_named task) last ⊎ (HasFewBytes (file_named task) holds × FailedAt (archive_named task) last)
+
+-- the last read failed so, of a file that the words name
+abbrev pub FailedAtFile : Option Task → Holds → Last → Type 0
+FailedAtFile None holds last = ⊥
+FailedAtFile (Some task) holds last = FailedAtTask task holds last
 
 -- a status that is an answer
 abbrev pub IsAnswered : Status → Type 0
@@ -61,3 +86,31 @@ IsSilent TooLarge = Unit {0}
 IsSilent NoMemory = Unit {0}
 IsSilent TooManyBlocks = Unit {0}
 IsSilent _ = ⊥
+
+-- a status that goes with a text
+abbrev pub IsTold : Status → Type 0
+IsTold Done = Unit {0}
+IsTold SomeRefused = Unit {0}
+IsTold Usage = Unit {0}
+IsTold BadArchive = Unit {0}
+IsTold AddRefused = Unit {0}
+IsTold MigrateRefused = Unit {0}
+IsTold _ = ⊥
+
+-- how a run ends where a file is not read
+abbrev pub status_of : InFault → Status
+status_of unread.ReadFault = ReadFault
+status_of (unread.TooLarge taken) = TooLarge
+status_of unread.NoMemory = NoMemory
+
+-- and where nothing is told
+abbrev pub silent_status : Silence → Status
+silent_status silence.TooManyBlocks = TooManyBlocks
+silent_status silence.NoMemory = NoMemory
+
+-- a file is too large, or the read failed, or memory was refused
+abbrev pub IsUnread : Task → Holds → Status → Type 0
+IsUnread task holds TooLarge = IsTooLarge task holds
+IsUnread task holds ReadFault = Unit {0}
+IsUnread task holds NoMemory = Unit {0}
+IsUnread task holds _ = ⊥

@@ -1,15 +1,14 @@
-//! `net_tool COMMAND [FILE]`: reads nets and tells what they are.
+//! `net_tool COMMAND [FILE] [--archive PATH] [--name NAME]`: reads nets and tells what they are.
 #![tactic(auto)]
 
-mod answers;
-mod bodies;
-mod status;
+mod files;
+mod memory;
 #[cfg(test)]
 mod tests;
 mod tool;
 
+use net_answers::Status;
 use outside::{HostShelf, StdoutSink};
-use status::Status;
 use std::process::ExitCode;
 use std::{env, io};
 use tool::run;

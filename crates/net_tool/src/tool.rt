@@ -1,26 +1,27 @@
 // The top call.
-ghost use Rattle.std.specs.Prelude.{◌≡◌, ◌<◌, ◌≤◌, ℕ, length, take};
+ghost use Rattle.std.specs.Prelude.{◌≡◌, ◌<◌, ◌≤◌, ℕ, IfOk, IfErr, IsErrOf, [], length, take};
 ghost use Rattle.std.specs.Io.KnownBytes.{Appends};
 ghost use Rattle.outside.specs.Causes.{Rose};
 ghost use Rattle.command_words.specs.Words.{texts_of};
-ghost use Rattle.command_words.specs.Tasks.{task_of};
-ghost use Rattle.net_tool.specs.Run.{IsAnswer, IsAnswered, IsBroken, IsSilent, FailedAtFile};
+ghost use Rattle.command_words.specs.Tasks.{MakesFew, task_of};
+ghost use Rattle.command_words.specs.Views.{task_view};
+ghost use Rattle.net_tool.specs.Completeness.{AreWithin, HasRoom, IsComplete};
+ghost use Rattle.net_tool.specs.Headline.{HasHeadline, IsReported};
+ghost use Rattle.net_tool.specs.Inputs.{AreInputs};
+ghost use Rattle.net_tool.specs.Run.{FailedAtFile, FailedAtTask, IsAnswer, IsAnswered, IsBroken, IsDueOf, IsSilent, IsTold, IsUnread, silent_status, status_of};
 
-use crate::answers::answer;
-use crate::status::Status;
-use cgd_read::ReadRefusal;
-use command_words::task_of;
-use outside::{InFault, Shelf, Sink, read_whole, write_all};
+use crate::files::{archive_named, file_named, read_named};
+use command_words::{Task, task_of};
+use net_answers::{Answer, Silence, Status, answer_to};
+use outside::{InFault, Shelf, Sink, write_all};
 use std::alloc::Global;
 
 /// What is printed where the words have no form.
 pub const USAGE: &str = "usage: net_tool COMMAND [FILE] [--archive PATH] [--name NAME]\n";
 
-const MAX_BYTES: u64 = 16_777_216;
-
 // Writes the text that goes with a status.
 fn finish<W: Sink>(out: &mut W, text: &[u8], status: Status) -> Status
-    requires { status ≡ Status.WriteFault → ⊥ }
+    requires { IsTold status }
     ensures done { (result ≡ Status.WriteFault → ⊥) → result ≡ status }
     ensures all { (result ≡ Status.WriteFault → ⊥) →
         Appends (W.written out.old) (W.written out.new) text.now }
@@ -36,22 +37,106 @@ fn finish<W: Sink>(out: &mut W, text: &[u8], status: Status) -> Status
     }
 }
 
-/// Does what the words say, over the files of a shelf, and writes the text to a sink. It is all that
-/// the program does. `check FILE` says of each net of FILE whether it is connected, `place FILE` where its
-/// vertices stand, and `key FILE` what its key is.
+// How a run ends where a file is not read.
+fn status_of(fault: InFault) -> Status
+    ensures { result ≡ status_of fault }
+{
+    match fault {
+        InFault::ReadFault => Status::ReadFault,
+        InFault::TooLarge { .. } => Status::TooLarge,
+        InFault::NoMemory => Status::NoMemory,
+    }
+}
+
+// How a run ends where nothing is told.
+fn silent_status(silence: Silence) -> Status
+    ensures { result ≡ silent_status silence }
+{
+    match silence {
+        Silence::TooManyBlocks => Status::TooManyBlocks,
+        Silence::NoMemory => Status::NoMemory,
+    }
+}
+
+// The bytes of the files that a task names.
+#[derive(Drop)]
+struct Inputs {
+    file: Vec<u8>,
+    archive: Option<Vec<u8>>,
+}
+
+fn read_inputs<H: Shelf>(alloc: Global, task: &Task<'_>, shelf: &mut H) -> Result<Inputs, Status>
+    ensures read { IfOk result (AreInputs (task_view task.now) (H.holds shelf.old)) }
+    ensures unread { IfErr result (IsUnread (task_view task.now) (H.holds shelf.old)) }
+    ensures fault { IsErrOf result Status.ReadFault →
+        Rose (H.faults shelf.old) (H.faults shelf.new) }
+    ensures fault_at { IsErrOf result Status.ReadFault →
+        FailedAtTask (task_view task.now) (H.holds shelf.old) (H.last shelf.new) }
+    ensures same { H.holds shelf.new ≡ H.holds shelf.old }
+    ensures later { H.faults shelf.old ≤ H.faults shelf.new }
+{
+    let file = match read_named(alloc, shelf, file_named(task)) {
+        Ok(file) => file,
+        Err(fault) => return Err(status_of(fault)),
+    };
+    let archive = match read_named(alloc, shelf, archive_named(task)) {
+        Ok(archive) => archive,
+        Err(fault) => return Err(status_of(fault)),
+    };
+    let file = match file {
+        Some(file) => file,
+        None => Vec::new(alloc),
+    };
+    Ok(Inputs { file, archive })
+}
+
+// The answer to a task, or the status of a run that writes nothing.
+fn answer_task<H: Shelf>(alloc: Global, task: &Task<'_>, shelf: &mut H) -> Result<Answer, Status>
+    requires { MakesFew (task_view task.now) }
+    ensures due { IfOk result (λ a.
+        IsDueOf (task_view task.now) (H.holds shelf.old) a.status a.text.items) }
+    ensures told { IfOk result (λ a. IsTold a.status) }
+    ensures silent { IfErr result IsSilent }
+    ensures undue { IfErr result (λ status. IsAnswered status →
+        IsDueOf (task_view task.now) (H.holds shelf.old) status []) }
+    ensures fault { IsErrOf result Status.ReadFault →
+        Rose (H.faults shelf.old) (H.faults shelf.new) }
+    ensures fault_at { IsErrOf result Status.ReadFault →
+        FailedAtTask (task_view task.now) (H.holds shelf.old) (H.last shelf.new) }
+    ensures same { H.holds shelf.new ≡ H.holds shelf.old }
+    ensures later { H.faults shelf.old ≤ H.faults shelf.new }
+{
+    let Inputs { file, archive } = read_inputs(alloc, task, shelf)?;
+    match answer_to(alloc, task, &file, archive) {
+        Ok(answer) => Ok(answer),
+        Err(silence) => Err(silent_status(silence)),
+    }
+}
+
+/// Does what the words say, over the files of a shelf, and writes the text to a sink. It is all that the program does:
+/// `check`, `place`, `key` and `identify` tell of each net of a file whether it is connected, where its vertices stand, what
+/// its key is, and which nets of an archive it is; `add` puts nets into an archive, `duplicates` finds those that stand in it
+/// more than once, `migrate` writes it in the newest format, and `workload` measures.
 pub fn run<H: Shelf, W: Sink>(alloc: Global, words: &[String], shelf: &mut H, out: &mut W) -> Status
     ensures answer { IsAnswered result →
         IsAnswer (texts_of words.now) (H.holds shelf.old) (W.written out.old) (W.written out.new)
         result }
+    ensures headline { IsReported result →
+        HasHeadline (task_of (texts_of words.now)) (H.holds shelf.old) (W.written out.old)
+        (W.written out.new) result }
     ensures read_fault { result ≡ Status.ReadFault →
         Rose (H.faults shelf.old) (H.faults shelf.new) }
     ensures read_fault_at { result ≡ Status.ReadFault →
-        FailedAtFile (task_of (texts_of words.now)) (H.last shelf.new) }
+        FailedAtFile (task_of (texts_of words.now)) (H.holds shelf.old) (H.last shelf.new) }
     ensures write_fault { result ≡ Status.WriteFault → Rose (W.faults out.old) (W.faults out.new) }
     ensures broken { result ≡ Status.WriteFault →
         IsBroken (texts_of words.now) (H.holds shelf.old) (W.written out.old) (W.written out.new)
         (W.sure out.old) }
+    ensures sure { HasRoom (task_of (texts_of words.now)) (H.holds shelf.old) (W.sure out.old) →
+        result ≡ Status.WriteFault → ⊥ }
     ensures silent { IsSilent result → W.written out.new ≡ W.written out.old }
+    ensures complete { AreWithin (task_of (texts_of words.now)) (H.holds shelf.old) →
+        IsComplete (task_of (texts_of words.now)) result }
     ensures same { H.holds shelf.new ≡ H.holds shelf.old }
     ensures later { H.faults shelf.old ≤ H.faults shelf.new }
     ensures out_later { W.faults out.old ≤ W.faults out.new }
@@ -62,21 +147,8 @@ pub fn run<H: Shelf, W: Sink>(alloc: Global, words: &[String], shelf: &mut H, ou
     let Some(task) = found else {
         return finish(out, USAGE.as_bytes(), Status::Usage);
     };
-    let bytes = match read_whole(alloc, shelf, task.file, MAX_BYTES) {
-        Ok(bytes) => bytes,
-        Err(InFault::ReadFault) => return Status::ReadFault,
-        Err(InFault::TooLarge { .. }) => return Status::TooLarge,
-        Err(InFault::NoMemory) => return Status::NoMemory,
-    };
-    let report = match answer(alloc, task.command, &bytes) {
-        Ok(report) => report,
-        Err(ReadRefusal::TooManyBlocks) => return Status::TooManyBlocks,
-        Err(ReadRefusal::NoMemory) => return Status::NoMemory,
-    };
-    let status = if report.accepted {
-        Status::Done
-    } else {
-        Status::SomeRefused
-    };
-    finish(out, &report.text, status)
+    match answer_task(alloc, &task, shelf) {
+        Ok(answer) => finish(out, &answer.text, answer.status),
+        Err(status) => status,
+    }
 }

@@ -1,40 +1,61 @@
 // The words, devices that fail, and files past their limits.
-use super::{Faults, HCB, HCB_REPORT, NO_FAULTS, run_on};
-use crate::status::Status;
+use super::{DIA, DIA_ARCHIVE, DIA_KEY_REPORT, Faults, HCB, NO_FAULTS, run_on, run_over};
+use net_answers::Status;
 use std::test::Fail;
+
+// Words, and how a run with them ends, where the files `net` and `--` are there.
+const ROWS: [(&[&str], Status); 40] = [
+    (&["check", "net"], Status::Done),
+    (&["place", "net"], Status::Done),
+    (&["key", "net"], Status::Done),
+    (&["identify", "net"], Status::Done),
+    (&["--", "check", "net"], Status::Done),
+    (&["check", "--", "net"], Status::Done),
+    (&["check", "net", "--"], Status::Done),
+    (&["check", "--", "--"], Status::Done),
+    (&["check"], Status::ReadFault),
+    (&["check", "-"], Status::ReadFault),
+    (&["key", "--", "-x"], Status::ReadFault),
+    (&["identify", "net", "--archive", "none"], Status::ReadFault),
+    (&["identify", "none", "--archive=net"], Status::ReadFault),
+    (&["duplicates", "--archive", "-"], Status::ReadFault),
+    (&["identify", "net", "--archive", "net"], Status::BadArchive),
+    (&[], Status::Usage),
+    (&["key", "a", "b"], Status::Usage),
+    (&["--archive=x"], Status::Usage),
+    (&["key", "--archive", "x"], Status::Usage),
+    (&["duplicates"], Status::Usage),
+    (&["identify", "-", "--archive", "-"], Status::Usage),
+    (&["identify", "--archive="], Status::Usage),
+    (&["identify", "--name", "x"], Status::Usage),
+    (
+        &["identify", "--archive", "net", "--archive", "net"],
+        Status::Usage,
+    ),
+    (&["add", "--archive", "-"], Status::Usage),
+    (&["migrate"], Status::Usage),
+    (&["migrate", "net", "--archive", "x"], Status::Usage),
+    (
+        &["duplicates", "--archive", "x", "--name", "x"],
+        Status::Usage,
+    ),
+    (&["workload"], Status::Usage),
+    (&["workload", "0"], Status::Usage),
+    (&["workload", "4097"], Status::Usage),
+    (&["workload", "01"], Status::Usage),
+    (&["workload", "+1"], Status::Usage),
+    (&["check", ""], Status::Usage),
+    (&["check", "-x"], Status::Usage),
+    (&["check", "--name=x"], Status::Usage),
+    (&["check", "--name"], Status::Usage),
+    (&["-h"], Status::Usage),
+    (&["--version"], Status::Usage),
+    (&["check", "--help"], Status::Usage),
+];
 
 #[test]
 fn words(rt: HostRuntime) -> Result<(), Fail> {
-    let rows: [(&[&str], Status); 27] = [
-        (&["check", "net"], Status::Done),
-        (&["place", "net"], Status::Done),
-        (&["key", "net"], Status::Done),
-        (&["--", "check", "net"], Status::Done),
-        (&["check", "--", "net"], Status::Done),
-        (&["check", "net", "--"], Status::Done),
-        (&["check", "--", "--"], Status::Done),
-        (&["check"], Status::ReadFault),
-        (&["check", "-"], Status::ReadFault),
-        (&["check", "--", "-x"], Status::ReadFault),
-        (&[], Status::Usage),
-        (&["identify", "net"], Status::Usage),
-        (&["key", "a", "b"], Status::Usage),
-        (&["check", ""], Status::Usage),
-        (&["check", "-x"], Status::Usage),
-        (&["check", "net", "net"], Status::Usage),
-        (&["--archive=x"], Status::Usage),
-        (&["check", "--archive", "x"], Status::Usage),
-        (&["check", "--archive=x"], Status::Usage),
-        (&["check", "--archive="], Status::Usage),
-        (&["check", "--name", "x"], Status::Usage),
-        (&["check", "--name=x"], Status::Usage),
-        (&["check", "--name"], Status::Usage),
-        (&["-h"], Status::Usage),
-        (&["--help"], Status::Usage),
-        (&["--version"], Status::Usage),
-        (&["check", "--help"], Status::Usage),
-    ];
-    for (words, due) in &rows {
+    for (words, due) in &ROWS {
         let (status, out) = run_on(rt.alloc(), words, HCB.as_bytes(), &NO_FAULTS)?;
         assert_eq!(rt; status, *due);
         if *due == Status::Usage {
@@ -44,30 +65,63 @@ fn words(rt: HostRuntime) -> Result<(), Fail> {
     Ok(())
 }
 
-// A read that fails leaves nothing written; a write that fails leaves a part of the report.
+// Each read that fails in turn leaves nothing written.
 #[test]
-fn failing_calls(rt: HostRuntime) -> Result<(), Fail> {
-    for call in 1..11u64 {
+fn failing_reads(rt: HostRuntime) -> Result<(), Fail> {
+    for call in 1..40u64 {
         let faults = Faults {
-            step: 7,
+            step: 10,
             reads: &[call],
             writes: &[],
         };
-        let (status, out) = run_on(rt.alloc(), &["check", "net"], HCB.as_bytes(), &faults)?;
+        let (status, out) = run_on(rt.alloc(), &["key", "net"], DIA.as_bytes(), &faults)?;
+        if status == Status::Done {
+            assert_eq!(rt; out.written(), DIA_KEY_REPORT.as_bytes());
+            assert!(rt; call > 8);
+            return Ok(());
+        }
         assert_eq!(rt; status, Status::ReadFault);
         assert_eq!(rt; out.written().len(), 0);
     }
-    for call in 1..11u64 {
+    assert!(rt; false, "each run has failed");
+    Ok(())
+}
+
+// Each write that fails in turn leaves the beginning of the report.
+#[test]
+fn failing_writes(rt: HostRuntime) -> Result<(), Fail> {
+    let report = DIA_KEY_REPORT.as_bytes();
+    let calls = report.len().div_ceil(7);
+    for call in 0..calls {
         let faults = Faults {
             step: 7,
             reads: &[],
-            writes: &[call],
+            writes: &[call as u64 + 1],
         };
-        let (status, out) = run_on(rt.alloc(), &["check", "net"], HCB.as_bytes(), &faults)?;
+        let (status, out) = run_on(rt.alloc(), &["key", "net"], DIA.as_bytes(), &faults)?;
         assert_eq!(rt; status, Status::WriteFault);
-        assert!(rt; HCB_REPORT.as_bytes().starts_with(out.written()));
-        assert_eq!(rt; out.written().len() as u64, 7 * (call - 1));
+        assert_eq!(rt; out.written().len(), 7 * call);
+        assert!(rt; report.starts_with(out.written()));
     }
+    let (status, out) = run_on(rt.alloc(), &["key", "net"], DIA.as_bytes(), &NO_FAULTS)?;
+    assert_eq!(rt; status, Status::Done);
+    assert_eq!(rt; out.written(), report);
+    Ok(())
+}
+
+// A file is read, and its archive is not.
+#[test]
+fn failing_archive(rt: HostRuntime) -> Result<(), Fail> {
+    let files = [("net", DIA.as_bytes()), ("archive", DIA_ARCHIVE.as_bytes())];
+    let faults = Faults {
+        step: 100,
+        reads: &[4],
+        writes: &[],
+    };
+    let words = ["identify", "net", "--archive", "archive"];
+    let (status, out) = run_over(rt.alloc(), &words, &files, &faults)?;
+    assert_eq!(rt; status, Status::ReadFault);
+    assert_eq!(rt; out.written().len(), 0);
     Ok(())
 }
 

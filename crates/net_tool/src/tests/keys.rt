@@ -1,30 +1,40 @@
-// Why a net has no key. The keys themselves are in the program's stored run.
-use super::{Case, NO_FAULTS, check_cases, run_on};
-use crate::status::Status;
+// Keys, and why a net has none. More keys are in the program's stored run.
+use super::readings::loops;
+use super::{NO_FAULTS, Row, run_on};
+use net_answers::Status;
 use std::test::Fail;
 
-#[test]
-fn colliding_nets(rt: HostRuntime) -> Result<(), Fail> {
-    let cases = [
-        Case {
-            text: "PERIODIC_GRAPH\nNAME fold\nEDGES\n2 1 0 0\n2 1 1 0\n3 1 0 0\n3 1 1 0\n1 1 0 1\nEND\nPERIODIC_GRAPH\nNAME leaf\nEDGES\n1 1 1 0\n1 1 0 1\n1 2 0 0\nEND\n",
-            status: Status::SomeRefused,
-            written: "net 1 line 1 \"fold\"\ngraph d=2 vertices=3 edges=5 repeats=0\nrefused 5 Collision u=2 v=3 t=0 0\nnet 2 line 10 \"leaf\"\ngraph d=2 vertices=2 edges=3 repeats=0\nrefused 5 Collision u=1 v=2 t=0 0\n",
-        },
-        // in different cells
-        Case {
-            text: "PERIODIC_GRAPH\nNAME apart\nEDGES\n2 1 0 0\n2 1 1 0\n3 1 1 0\n3 1 2 0\n1 1 0 1\nEND\n",
-            status: Status::SomeRefused,
-            written: "net 1 line 1 \"apart\"\ngraph d=2 vertices=3 edges=5 repeats=0\nrefused 5 Collision u=2 v=3 t=-1 0\n",
-        },
-        Case {
-            text: "PERIODIC_GRAPH\nNAME two\nEDGES\n1 1 2 0\n1 1 0 1\nEND\n",
-            status: Status::SomeRefused,
-            written: "net 1 line 1 \"two\"\ngraph d=2 vertices=1 edges=2 repeats=0\nrefused 1 Disconnected q=2 c=1 0 h=0\n",
-        },
-    ];
-    check_cases(rt.alloc(), &rt, "key", &cases)
-}
+pub const KEYED: &[Row] = &[
+    Row {
+        words: &["key", "net"],
+        net: "PERIODIC_GRAPH\nNAME hxl\nEDGES\n1 1 1 0\n1 1 0 1\n1 1 1 1\nEND\nPERIODIC_GRAPH\nNAME far\nEDGES\n1 1 500 1\n1 1 1 0\nEND\n",
+        archive: "",
+        status: Status::Done,
+        written: "net 1 line 1 \"hxl\"\ngraph d=2 vertices=1 edges=3 repeats=0\nkey 2 1 1 1 1 0 1 1 1 1 -1 1 1 1 0\nnet 2 line 8 \"far\"\ngraph d=2 vertices=1 edges=2 repeats=0\nkey 2 1 1 1 1 0 1 1 1 1 0\n",
+    },
+    Row {
+        words: &["key", "net"],
+        net: "PERIODIC_GRAPH\nNAME fold\nEDGES\n2 1 0 0\n2 1 1 0\n3 1 0 0\n3 1 1 0\n1 1 0 1\nEND\nPERIODIC_GRAPH\nNAME leaf\nEDGES\n1 1 1 0\n1 1 0 1\n1 2 0 0\nEND\n",
+        archive: "",
+        status: Status::SomeRefused,
+        written: "net 1 line 1 \"fold\"\ngraph d=2 vertices=3 edges=5 repeats=0\nrefused 5 Collision u=2 v=3 t=0 0\nnet 2 line 10 \"leaf\"\ngraph d=2 vertices=2 edges=3 repeats=0\nrefused 5 Collision u=1 v=2 t=0 0\n",
+    },
+    // in different cells
+    Row {
+        words: &["key", "net"],
+        net: "PERIODIC_GRAPH\nNAME apart\nEDGES\n2 1 0 0\n2 1 1 0\n3 1 1 0\n3 1 2 0\n1 1 0 1\nEND\n",
+        archive: "",
+        status: Status::SomeRefused,
+        written: "net 1 line 1 \"apart\"\ngraph d=2 vertices=3 edges=5 repeats=0\nrefused 5 Collision u=2 v=3 t=-1 0\n",
+    },
+    Row {
+        words: &["key", "net"],
+        net: "PERIODIC_GRAPH\nNAME two\nEDGES\n1 1 2 0\n1 1 0 1\nEND\n",
+        archive: "",
+        status: Status::SomeRefused,
+        written: "net 1 line 1 \"two\"\ngraph d=2 vertices=1 edges=2 repeats=0\nrefused 1 Disconnected q=2 c=1 0 h=0\n",
+    },
+];
 
 // A ring of 512 vertices, each with two loops: the cubic net.
 #[test]
@@ -37,6 +47,9 @@ fn long_ring(rt: HostRuntime) -> Result<(), Fail> {
         text.push_str(&format!(in rt.alloc(); "{k} {k} 0 1 0\n{k} {k} 0 0 1\n")?)?;
     }
     text.push_str("END\n")?;
+    let (_, placed) = run_on(rt.alloc(), &["place", "net"], text.as_bytes(), &NO_FAULTS)?;
+    let header = "net 1 line 1\ngraph d=3 vertices=512 edges=1536 repeats=0\nplacement D0=512\n";
+    assert!(rt; placed.written().starts_with(header.as_bytes()));
     let (status, out) = run_on(rt.alloc(), &["key", "net"], text.as_bytes(), &NO_FAULTS)?;
     assert_eq!(rt; status, Status::Done);
     let wanted =
@@ -45,34 +58,54 @@ fn long_ring(rt: HostRuntime) -> Result<(), Fail> {
     Ok(())
 }
 
-// A vertex with 700 loops, in one direction and in 699 others: its 714,286th frame passes the limit.
+// A vertex with loops in one direction and in so many others to each side of a second one: 500 loops have 998,000 frames,
+// which is within the limit.
 #[test]
-fn too_many_frames(rt: HostRuntime) -> Result<(), Fail> {
-    let mut text = String::from_str(rt.alloc(), "PERIODIC_GRAPH\nEDGES\n1 1 0 1\n")?;
-    for k in -349i64..350 {
-        text.push_str(&format!(in rt.alloc(); "1 1 1 {k}\n")?)?;
+fn many_frames(rt: HostRuntime) -> Result<(), Fail> {
+    let rows = [
+        (249i64, 500, "key 2 1 "),
+        (250, 502, "refused 6 TooMuch starts=0 counted=1000000064\n"),
+        (349, 700, "refused 6 TooMuch starts=0 counted=1000000400\n"),
+    ];
+    for (side, edges, line) in rows {
+        let mut text = String::from_str(rt.alloc(), "PERIODIC_GRAPH\nEDGES\n1 1 0 1\n")?;
+        for k in -side..=side {
+            text.push_str(&format!(in rt.alloc(); "1 1 1 {k}\n")?)?;
+        }
+        text.push_str("END\n")?;
+        let (_, out) = run_on(rt.alloc(), &["key", "net"], text.as_bytes(), &NO_FAULTS)?;
+        let begun = format!(in rt.alloc();
+            "net 1 line 1\ngraph d=2 vertices=1 edges={edges} repeats=0\n{line}"
+        )?;
+        assert!(rt; out.written().starts_with(begun.as_bytes()));
     }
-    text.push_str("END\n")?;
-    let (status, out) = run_on(rt.alloc(), &["key", "net"], text.as_bytes(), &NO_FAULTS)?;
-    assert_eq!(rt; status, Status::SomeRefused);
-    let wanted =
-        "net 1 line 1\ngraph d=2 vertices=1 edges=700 repeats=0\nrefused 6 TooMuch starts=0 counted=1000000400\n";
-    assert_eq!(rt; out.written(), wanted.as_bytes());
     Ok(())
 }
 
-// A vertex with 4,096 loops: as many edges as a block may have.
+// A vertex with 4,096 loops: as many edges as a block may have, and one more.
 #[test]
 fn most_loops(rt: HostRuntime) -> Result<(), Fail> {
-    let mut text = String::from_str(rt.alloc(), "PERIODIC_GRAPH\nEDGES\n")?;
-    for k in 0..4096u64 {
-        text.push_str(&format!(in rt.alloc(); "1 1 {} {}\n", k / 256 + 1, k % 256)?)?;
+    let header = "net 1 line 1\ngraph d=2 vertices=1 edges=4096 repeats=0\n";
+    let rows = [
+        (4096, "check", header, "connected\n"),
+        (
+            4096,
+            "key",
+            header,
+            "refused 6 TooMuch starts=0 counted=1000005632\n",
+        ),
+        (
+            4097,
+            "key",
+            "net 1 line 1\n",
+            "malformed line=4099 9 TooManyEdges\n",
+        ),
+    ];
+    for (edges, command, header, line) in rows {
+        let text = loops(rt.alloc(), edges)?;
+        let (_, out) = run_on(rt.alloc(), &[command, "net"], text.as_bytes(), &NO_FAULTS)?;
+        let rest = out.written().strip_prefix(header.as_bytes());
+        assert!(rt; matches!(rest, Some(rest) if rest == line.as_bytes()));
     }
-    text.push_str("END\n")?;
-    let (status, out) = run_on(rt.alloc(), &["key", "net"], text.as_bytes(), &NO_FAULTS)?;
-    assert_eq!(rt; status, Status::SomeRefused);
-    let wanted =
-        "net 1 line 1\ngraph d=2 vertices=1 edges=4096 repeats=0\nrefused 6 TooMuch starts=0 counted=1000005632\n";
-    assert_eq!(rt; out.written(), wanted.as_bytes());
     Ok(())
 }

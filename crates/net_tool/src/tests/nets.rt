@@ -1,118 +1,137 @@
 // What is told of nets: whether they are connected, and where their vertices stand.
-use super::{Case, HCB, HCB_REPORT, NO_FAULTS, check_cases, run_on};
-use crate::status::Status;
-use barycentre::{WidePlacement, WideSite};
-use cgd_read::Names;
-use least_key::Refusal;
-use net_report::refused_line;
+use super::{HCB, HCB_REPORT, NO_FAULTS, Row, SODALITE, run_on};
+use net_answers::Status;
 use std::alloc::Global;
 use std::test::Fail;
-
-const SODALITE: &str =
-    "# T sites of sodalite, body-centred cell\nPeriodic_Graph\nID \"sod, 12 sites\"\nEDGE 1 2 0 0 0\n 1 3 0 -1 0\n 1 4 0 0 0\n 1 5 0 0 0\n 6 2 1 0 0\n 6 3 1 -1 0\n 6 4 0 0 0\n 6 5 0 0 0\n 7 8 0 0 0   # the other half of the cell\n 7 9 0 0 0\n 7 10 0 0 0\n 7 11 0 0 -1\n 12 8 0 0 0\n 12 9 0 0 0\n 12 10 1 0 0\n 12 11 1 0 -1\n 2 10 0 0 0\n 2 11 0 0 0\n 3 10 0 0 0\n 3 11 0 0 0\n 8 4 0 0 0\n 8 5 0 0 -1\n 9 4 0 1 0\n 9 5 0 1 -1\nEnd\n";
 
 const SODALITE_REPORT: &str =
     "net 1 line 2 \"sod, 12 sites\"\ngraph d=3 vertices=12 edges=24 repeats=0\nconnected\n";
 
-#[test]
-fn connected_or_not(rt: HostRuntime) -> Result<(), Fail> {
-    let cases = [
-        Case {
-            text: HCB,
-            status: Status::Done,
-            written: HCB_REPORT,
-        },
-        Case {
-            text: SODALITE,
-            status: Status::Done,
-            written: SODALITE_REPORT,
-        },
-        Case {
-            text: "PERIODIC_GRAPH\nNAME pair\nEDGES\n1 1 1 0\n1 1 0 1\n2 2 1 0\n2 2 0 1\nEND\n",
-            status: Status::SomeRefused,
-            written: "net 1 line 1 \"pair\"\ngraph d=2 vertices=2 edges=4 repeats=0\nrefused 1 Disconnected q=0 c=0 0 h=0 1\n",
-        },
-        Case {
-            text: "PERIODIC_GRAPH\nNAME parts\nEDGES\n7 3 0 0 -1\n2 2 1 0 0\n3 9 1 1 1\nEND",
-            status: Status::SomeRefused,
-            written: "net 1 line 1 \"parts\"\ngraph d=3 vertices=4 edges=3 repeats=0\nrefused 1 Disconnected q=0 c=0 0 0 h=0 0 1 0\n",
-        },
-        Case {
-            text: "PERIODIC_GRAPH\nNAME two\nEDGES\n1 1 2 0\n1 1 0 1\nEND\n",
-            status: Status::SomeRefused,
-            written: "net 1 line 1 \"two\"\ngraph d=2 vertices=1 edges=2 repeats=0\nrefused 1 Disconnected q=2 c=1 0 h=0\n",
-        },
-        Case {
-            text: "PERIODIC_GRAPH\nNAME line\nEDGES\n1 1 1 0\n1 1 2 0\nEND\n",
-            status: Status::SomeRefused,
-            written: "net 1 line 1 \"line\"\ngraph d=2 vertices=1 edges=2 repeats=0\nrefused 2 Degenerate q=0 c=0 1 h=0\n",
-        },
-        Case {
-            text: "PERIODIC_GRAPH\nNAME skew\nEDGES\n1 2 0 1\n1 2 1 2\n1 1 0 2\nEND\n",
-            status: Status::SomeRefused,
-            written: "net 1 line 1 \"skew\"\ngraph d=2 vertices=2 edges=3 repeats=0\nrefused 1 Disconnected q=2 c=1 1 h=0 1\n",
-        },
-        Case {
-            text: "PERIODIC_GRAPH\nNAME slab\nEDGES\n1 1 1 1 0\n1 1 0 0 1\nEND\n",
-            status: Status::SomeRefused,
-            written: "net 1 line 1 \"slab\"\ngraph d=3 vertices=1 edges=2 repeats=0\nrefused 2 Degenerate q=0 c=1 -1 0 h=0\n",
-        },
-        Case {
-            text: "PERIODIC_GRAPH\nNAME tree\nEDGES\n1 2 5 0 0\nEND\n",
-            status: Status::SomeRefused,
-            written: "net 1 line 1 \"tree\"\ngraph d=3 vertices=2 edges=1 repeats=0\nrefused 2 Degenerate q=0 c=1 0 0 h=0 -5\n",
-        },
-        Case {
-            text: "PERIODIC_GRAPH\nNAME sub\nEDGES\n1 1 1 0 0\n1 1 0 2 0\n1 1 0 0 1\nEND\n",
-            status: Status::SomeRefused,
-            written: "net 1 line 1 \"sub\"\ngraph d=3 vertices=1 edges=3 repeats=0\nrefused 1 Disconnected q=2 c=0 1 0 h=0\n",
-        },
-    ];
-    check_cases(rt.alloc(), &rt, "check", &cases)
-}
+pub const CONNECTED: &[Row] = &[
+    Row {
+        words: &["check", "net"],
+        net: HCB,
+        archive: "",
+        status: Status::Done,
+        written: HCB_REPORT,
+    },
+    Row {
+        words: &["check", "net"],
+        net: SODALITE,
+        archive: "",
+        status: Status::Done,
+        written: SODALITE_REPORT,
+    },
+    Row {
+        words: &["check", "net"],
+        net: "PERIODIC_GRAPH\nNAME pair\nEDGES\n1 1 1 0\n1 1 0 1\n2 2 1 0\n2 2 0 1\nEND\n",
+        archive: "",
+        status: Status::SomeRefused,
+        written: "net 1 line 1 \"pair\"\ngraph d=2 vertices=2 edges=4 repeats=0\nrefused 1 Disconnected q=0 c=0 0 h=0 1\n",
+    },
+    Row {
+        words: &["check", "net"],
+        net: "PERIODIC_GRAPH\nNAME parts\nEDGES\n7 3 0 0 -1\n2 2 1 0 0\n3 9 1 1 1\nEND",
+        archive: "",
+        status: Status::SomeRefused,
+        written: "net 1 line 1 \"parts\"\ngraph d=3 vertices=4 edges=3 repeats=0\nrefused 1 Disconnected q=0 c=0 0 0 h=0 0 1 0\n",
+    },
+    Row {
+        words: &["check", "net"],
+        net: "PERIODIC_GRAPH\nNAME two\nEDGES\n1 1 2 0\n1 1 0 1\nEND\n",
+        archive: "",
+        status: Status::SomeRefused,
+        written: "net 1 line 1 \"two\"\ngraph d=2 vertices=1 edges=2 repeats=0\nrefused 1 Disconnected q=2 c=1 0 h=0\n",
+    },
+    Row {
+        words: &["check", "net"],
+        net: "PERIODIC_GRAPH\nNAME line\nEDGES\n1 1 1 0\n1 1 2 0\nEND\n",
+        archive: "",
+        status: Status::SomeRefused,
+        written: "net 1 line 1 \"line\"\ngraph d=2 vertices=1 edges=2 repeats=0\nrefused 2 Degenerate q=0 c=0 1 h=0\n",
+    },
+    Row {
+        words: &["check", "net"],
+        net: "PERIODIC_GRAPH\nNAME skew\nEDGES\n1 2 0 1\n1 2 1 2\n1 1 0 2\nEND\n",
+        archive: "",
+        status: Status::SomeRefused,
+        written: "net 1 line 1 \"skew\"\ngraph d=2 vertices=2 edges=3 repeats=0\nrefused 1 Disconnected q=2 c=1 1 h=0 1\n",
+    },
+    Row {
+        words: &["check", "net"],
+        net: "PERIODIC_GRAPH\nNAME slab\nEDGES\n1 1 1 1 0\n1 1 0 0 1\nEND\n",
+        archive: "",
+        status: Status::SomeRefused,
+        written: "net 1 line 1 \"slab\"\ngraph d=3 vertices=1 edges=2 repeats=0\nrefused 2 Degenerate q=0 c=1 -1 0 h=0\n",
+    },
+    Row {
+        words: &["check", "net"],
+        net: "PERIODIC_GRAPH\nNAME tree\nEDGES\n1 2 5 0 0\nEND\n",
+        archive: "",
+        status: Status::SomeRefused,
+        written: "net 1 line 1 \"tree\"\ngraph d=3 vertices=2 edges=1 repeats=0\nrefused 2 Degenerate q=0 c=1 0 0 h=0 -5\n",
+    },
+    Row {
+        words: &["check", "net"],
+        net: "PERIODIC_GRAPH\nNAME sub\nEDGES\n1 1 1 0 0\n1 1 0 2 0\n1 1 0 0 1\nEND\n",
+        archive: "",
+        status: Status::SomeRefused,
+        written: "net 1 line 1 \"sub\"\ngraph d=3 vertices=1 edges=3 repeats=0\nrefused 1 Disconnected q=2 c=0 1 0 h=0\n",
+    },
+];
 
-#[test]
-fn placements(rt: HostRuntime) -> Result<(), Fail> {
-    let cases = [
-        Case {
-            text: HCB,
-            status: Status::Done,
-            written: "net 1 line 1 \"hcb\"\ngraph d=2 vertices=2 edges=3 repeats=0\nplacement D0=3\nat 1 0 0\nat 2 -1 -1\n",
-        },
-        Case {
-            text: "PERIODIC_GRAPH\nNAME dia\nEDGES\n1 2 0 0 0\n1 2 1 0 0\n1 2 0 1 0\n1 2 0 0 1\nEND\nPERIODIC_GRAPH\nNAME tilted\nEDGES\n4 7 0 0 0\n4 7 -1 0 0\n4 7 -1 -1 0\n4 7 0 -1 -1\nEND\nPERIODIC_GRAPH\nNAME again\nEDGES\n1 2 0 0 0\n1 2 1 0 0\n1 2 0 1 0\n1 2 0 0 1\n2 1 0 0 -1\nEND\n",
-            status: Status::Done,
-            written: "net 1 line 1 \"dia\"\ngraph d=3 vertices=2 edges=4 repeats=0\nplacement D0=4\nat 1 0 0 0\nat 2 -1 -1 -1\nnet 2 line 9 \"tilted\"\ngraph d=3 vertices=2 edges=4 repeats=0\nplacement D0=4\nat 4 0 0 0\nat 7 2 2 1\nnet 3 line 17 \"again\"\ngraph d=3 vertices=2 edges=4 repeats=1\nplacement D0=4\nat 1 0 0 0\nat 2 -1 -1 -1\n",
-        },
-        Case {
-            text: "PERIODIC_GRAPH\nNAME pcu2\nEDGES\n1 2 0 0 0\n2 1 1 0 0\n1 1 0 1 0\n1 1 0 0 1\n2 2 0 1 0\n2 2 0 0 1\nEND\n",
-            status: Status::Done,
-            written: "net 1 line 1 \"pcu2\"\ngraph d=3 vertices=2 edges=6 repeats=0\nplacement D0=2\nat 1 0 0 0\nat 2 1 0 0\n",
-        },
-        // vertices in one place
-        Case {
-            text: "PERIODIC_GRAPH\nNAME fold\nEDGES\n2 1 0 0\n2 1 1 0\n3 1 0 0\n3 1 1 0\n1 1 0 1\nEND\n",
-            status: Status::Done,
-            written: "net 1 line 1 \"fold\"\ngraph d=2 vertices=3 edges=5 repeats=0\nplacement D0=2\nat 2 0 0\nat 1 -1 0\nat 3 0 0\n",
-        },
-        Case {
-            text: "PERIODIC_GRAPH\nNAME leaf\nEDGES\n1 1 1 0\n1 1 0 1\n1 2 0 0\nEND\n",
-            status: Status::Done,
-            written: "net 1 line 1 \"leaf\"\ngraph d=2 vertices=2 edges=3 repeats=0\nplacement D0=1\nat 1 0 0\nat 2 0 0\n",
-        },
-        Case {
-            text: "PERIODIC_GRAPH\nNAME two\nEDGES\n1 1 2 0\n1 1 0 1\nEND\n",
-            status: Status::SomeRefused,
-            written: "net 1 line 1 \"two\"\ngraph d=2 vertices=1 edges=2 repeats=0\nrefused 1 Disconnected q=2 c=1 0 h=0\n",
-        },
-        Case {
-            text: "X\nEND\n",
-            status: Status::SomeRefused,
-            written: "net 1 line 1\nunsupported X\n",
-        },
-    ];
-    check_cases(rt.alloc(), &rt, "place", &cases)
-}
+pub const PLACED: &[Row] = &[
+    Row {
+        words: &["place", "net"],
+        net: HCB,
+        archive: "",
+        status: Status::Done,
+        written: "net 1 line 1 \"hcb\"\ngraph d=2 vertices=2 edges=3 repeats=0\nplacement D0=3\nat 1 0 0\nat 2 -1 -1\n",
+    },
+    Row {
+        words: &["place", "net"],
+        net: "PERIODIC_GRAPH\nNAME dia\nEDGES\n1 2 0 0 0\n1 2 1 0 0\n1 2 0 1 0\n1 2 0 0 1\nEND\nPERIODIC_GRAPH\nNAME tilted\nEDGES\n4 7 0 0 0\n4 7 -1 0 0\n4 7 -1 -1 0\n4 7 0 -1 -1\nEND\nPERIODIC_GRAPH\nNAME again\nEDGES\n1 2 0 0 0\n1 2 1 0 0\n1 2 0 1 0\n1 2 0 0 1\n2 1 0 0 -1\nEND\n",
+        archive: "",
+        status: Status::Done,
+        written: "net 1 line 1 \"dia\"\ngraph d=3 vertices=2 edges=4 repeats=0\nplacement D0=4\nat 1 0 0 0\nat 2 -1 -1 -1\nnet 2 line 9 \"tilted\"\ngraph d=3 vertices=2 edges=4 repeats=0\nplacement D0=4\nat 4 0 0 0\nat 7 2 2 1\nnet 3 line 17 \"again\"\ngraph d=3 vertices=2 edges=4 repeats=1\nplacement D0=4\nat 1 0 0 0\nat 2 -1 -1 -1\n",
+    },
+    Row {
+        words: &["place", "net"],
+        net: "PERIODIC_GRAPH\nNAME pcu2\nEDGES\n1 2 0 0 0\n2 1 1 0 0\n1 1 0 1 0\n1 1 0 0 1\n2 2 0 1 0\n2 2 0 0 1\nEND\n",
+        archive: "",
+        status: Status::Done,
+        written: "net 1 line 1 \"pcu2\"\ngraph d=3 vertices=2 edges=6 repeats=0\nplacement D0=2\nat 1 0 0 0\nat 2 1 0 0\n",
+    },
+    // vertices in one place
+    Row {
+        words: &["place", "net"],
+        net: "PERIODIC_GRAPH\nNAME fold\nEDGES\n2 1 0 0\n2 1 1 0\n3 1 0 0\n3 1 1 0\n1 1 0 1\nEND\n",
+        archive: "",
+        status: Status::Done,
+        written: "net 1 line 1 \"fold\"\ngraph d=2 vertices=3 edges=5 repeats=0\nplacement D0=2\nat 2 0 0\nat 1 -1 0\nat 3 0 0\n",
+    },
+    Row {
+        words: &["place", "net"],
+        net: "PERIODIC_GRAPH\nNAME leaf\nEDGES\n1 1 1 0\n1 1 0 1\n1 2 0 0\nEND\n",
+        archive: "",
+        status: Status::Done,
+        written: "net 1 line 1 \"leaf\"\ngraph d=2 vertices=2 edges=3 repeats=0\nplacement D0=1\nat 1 0 0\nat 2 0 0\n",
+    },
+    Row {
+        words: &["place", "net"],
+        net: "PERIODIC_GRAPH\nNAME two\nEDGES\n1 1 2 0\n1 1 0 1\nEND\n",
+        archive: "",
+        status: Status::SomeRefused,
+        written: "net 1 line 1 \"two\"\ngraph d=2 vertices=1 edges=2 repeats=0\nrefused 1 Disconnected q=2 c=1 0 h=0\n",
+    },
+    Row {
+        words: &["place", "net"],
+        net: "X\nEND\n",
+        archive: "",
+        status: Status::SomeRefused,
+        written: "net 1 line 1\nunsupported X\n",
+    },
+];
 
 // A chain of vertices: between the k-th and the next one so many edges, with the shifts 0, 1 and so on, the last
 // one further by 1; and a loop at the first.
@@ -201,19 +220,8 @@ fn large_cell(rt: HostRuntime) -> Result<(), Fail> {
     let written = out.written();
     let shown = start.len().min(written.len());
     assert_eq!(rt; &written[..shown], start.as_slice());
-    Ok(())
-}
-
-// Without names the vertices are told by their numbers.
-#[test]
-fn refusal_by_numbers(rt: HostRuntime) -> Result<(), Fail> {
-    let refusal = Refusal::WidePlacement(WidePlacement {
-        dim: 2,
-        site: WideSite::Denominator { u: 8, c: 1 },
-        value: 1_335_756_415_455,
-    });
-    let line = refused_line(rt.alloc(), &refusal, &Names::new(rt.alloc()))?;
-    let wanted = "refused 4 WidePlacement denominator u=8 c=1 value=1335756415455\n";
-    assert_eq!(rt; line.as_slice(), wanted.as_bytes());
+    let (_, keyed) = run_on(rt.alloc(), &["key", "net"], text.as_bytes(), &NO_FAULTS)?;
+    let key = b"\nkey 3 2 1 1 2 -1 -1 -1 1 2 0 0 1 1 2 0 1 0 1 2 1 0 0\n";
+    assert!(rt; keyed.written().ends_with(key));
     Ok(())
 }

@@ -1,0 +1,9 @@
+//! The texts of what is told of archives.
+#![tactic(auto)]
+
+mod entries;
+mod faults;
+
+pub use entries::{add_fault_text, groups_text, migrate_fault_text};
+pub use faults::archive_fault_text;
+pub use std::alloc::AllocError as NoMemory;

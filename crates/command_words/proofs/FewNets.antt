@@ -1,0 +1,83 @@
+-- The nets that words ask to make are no more than may be made.
+use Rattle.std.proofs.Common.{◌≡◌, ℕ, ◌≤◌, ◌<◌, ◌&&◌, Bool, true, false, List, Option, None, Some, nat_lt, refl, sym, subst, arith}
+use Rattle.std.specs.Prelude.{IfSome, is_some, if◌then◌else◌, option_map, option_and_then}
+use Rattle.std.specs.Fmt.{decimal}
+use Rattle.std.specs.Str.{bytes_eq}
+use Rattle.std.specs.Str.Parse.{digits_value}
+use Rattle.std.proofs.lemmas.Bool.{and_parts, ltb-true}
+use Rattle.command_words.specs.Words.{Text, Said}
+use Rattle.command_words.specs.Tasks.{Task, Tell, Add, Duplicates, Migrate, Workload, are_apart, file_of, has_empty_word, may_name_archive, task_in, task_named, task_for, verb_named, sole_archive, sole_count, count_of, is_count, MakesFew}
+use Rattle.command_words.specs.Views.{task_view}
+use Rattle.command_words.specs.declared.tasks.Task.{Task as TaskInCode}
+use Rattle.command_words.specs.declared.tasks.Verb.{Verb}
+use Rattle.command_words.specs.declared.tasks.Verb.TheVariants as verb
+
+-- a task that is found makes few nets
+abbrev IsFewTask : Option Task → Type 0
+IsFewTask None = Unit {0}
+IsFewTask (Some task) = MakesFew task
+
+-- a number that is found is small
+abbrev IsFewCount : Option ℕ → Type 0
+IsFewCount None = Unit {0}
+IsFewCount (Some n) = n ≤ 4096
+
+few_if : (b : Bool) (x y : Option Task) → IsFewTask x → IsFewTask y → IsFewTask (if b then x else y)
+few_if true x y p q = p
+few_if false x y p q = q
+
+few_then : {A : Type 0} (f : A → Option Task) (o : Option A) → ((x : A) → IsFewTask (f x)) → IsFewTask (option_and_then f o)
+few_then f None h = tt
+few_then f (Some x) h = h x
+
+few_archive : (make : Text → Task) (o : Option Text) → ((x : Text) → MakesFew (make x)) → IsFewTask (option_map make o)
+few_archive make None h = tt
+few_archive make (Some x) h = h x
+
+few_count : (o : Option ℕ) → IsFewCount o → IsFewTask (option_map Workload o)
+few_count None h = tt
+few_count (Some n) h = h
+
+count_if : (b : Bool) (n : ℕ) → (b ≡ true → n ≤ 4096) → IsFewCount (if b then Some n else None)
+count_if true n h = h refl
+count_if false n h = tt
+
+none_or : (b : Bool) (o : Option ℕ) → IsFewCount o → IsFewCount (if b then None else o)
+none_or true o h = tt
+none_or false o h = h
+
+-- a word that spells a count spells a small one
+small_count : (word : Text) (n : ℕ) → is_count word n ≡ true → n ≤ 4096
+small_count word n h =
+    let p = and_parts (bytes_eq word (decimal n)) (nat_lt 0 n && nat_lt n 4097) h in
+    let q = and_parts (nat_lt 0 n) (nat_lt n 4097) p.1 in
+    let small : n < 4097 = ltb-true n 4097 q.1 in
+    omega (arith, small)
+
+few_word : (o : Option Text) → IsFewCount (option_and_then count_of o)
+few_word None = tt
+few_word (Some word) = count_if (is_count word (digits_value 10 word)) (digits_value 10 word) (small_count word (digits_value 10 word))
+
+few_for : (v : Verb) (said : Said) → IsFewTask (task_for v said)
+few_for (verb.Tell command) said =
+    let may = may_name_archive command said.archive && are_apart (file_of said) said.archive in
+    let told = Some (Tell command (file_of said) said.archive) in
+    few_if (is_some said.name) None (if may then told else None) tt (few_if may told None tt tt)
+few_for verb.Add said = few_if (are_apart (file_of said) said.archive) (Some (Add (file_of said) said.archive said.name)) None tt tt
+few_for verb.Duplicates said = few_archive Duplicates (sole_archive said) (λ x. tt)
+few_for verb.Migrate said = few_archive Migrate (sole_archive said) (λ x. tt)
+few_for verb.Workload said =
+    let count = option_and_then count_of said.second in
+    few_count (sole_count said) (none_or (is_some said.archive) (if is_some said.name then None else count) (none_or (is_some said.name) count (few_word said.second)))
+
+few_named : (o : Option Text) (said : Said) → IsFewTask (task_named o said)
+few_named None said = tt
+few_named (Some word) said = few_then (λ v. task_for v said) (verb_named word) (λ v. few_for v said)
+
+few_in : (said : Said) → IsFewTask (task_in said)
+few_in said = few_if (has_empty_word said) None (task_named said.command said) tt (few_named said.command said)
+
+-- the task that is found makes few nets
+pub few_nets : (said : Said) (found : Option TaskInCode) → option_map task_view found ≡ task_in said → IfSome found (λ task. MakesFew (task_view task))
+few_nets said None e = tt
+few_nets said (Some task) e = subst IsFewTask (sym e) (few_in said)

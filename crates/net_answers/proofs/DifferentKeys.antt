@@ -1,0 +1,54 @@
+-- The different keys that are told of more and more blocks.
+use Rattle.std.proofs.Common.{◌≡◌, ◌⊎◌, inl, inr, ℕ, ◌+◌, ◌<◌, ℤ, List, [], ◌∷◌, ◌++◌, length, get_or, take, Option, Some, None, sym, ap, subst, ◌∙◌, true≢false, arith}
+use Rattle.std.specs.List.{Contains}
+use Rattle.std.specs.Prelude.{is_some, unwrap_or}
+use Rattle.std.proofs.lemmas.List.{take_more}
+use Rattle.std.proofs.lemmas.List.Elements.{Contains-append_left, Contains-push, Contains-push_cases}
+use Rattle.net_report.specs.declared.outcome.Outcome.{Outcome}
+use Rattle.net_outcomes.specs.Deciding.{key_told}
+use Rattle.net_answers.specs.KeyLists.{IsPutIn}
+use Rattle.net_answers.specs.Summaries.{AreDifferentKeys}
+
+-- this key is told of one of the blocks
+abbrev IsTold : List Outcome → List ℤ → Type 0
+IsTold os xs = (o : Outcome) × Contains os o × (key_told o.body ≡ Some xs)
+
+-- of no block no key is told
+pub keys_none : AreDifferentKeys [] []
+keys_none = record { exact = λ xs. (λ h. absurd (omega (arith, h.1)), λ h. absurd (omega (arith, h.1.1))); once = λ i j d l m. absurd (omega (arith, m)) }
+
+-- the key that is told of one more block is put in
+put_told : (os : List Outcome) (o : Outcome) (keys keys' : List (List ℤ)) (key : List ℤ) → AreDifferentKeys os keys → key_told o.body ≡ Some key → IsPutIn keys key keys' → AreDifferentKeys (os ++ o ∷ []) keys'
+put_told os o keys keys' key h is p = record { exact = λ xs. (λ c. there xs ((p.exact xs).0 c), λ w. back xs w (Contains-push_cases os o w.0 w.1)); once = p.once h.once }
+  where
+    there : (xs : List ℤ) → Contains keys xs ⊎ (key ≡ xs) → IsTold (os ++ o ∷ []) xs
+    there xs (inl c) = let w = (h.exact xs).0 c in (w.0, Contains-append_left os (o ∷ []) w.0 w.1, w.2)
+    there xs (inr e) = (o, Contains-push os o, is ∙ ap (λ (x : List ℤ). Some x) e)
+
+    back : (xs : List ℤ) (w : IsTold (os ++ o ∷ []) xs) → Contains os w.0 ⊎ (o ≡ w.0) → Contains keys' xs
+    back xs w (inl c) = (p.exact xs).1 (inl ((h.exact xs).1 (w.0, c, w.2)))
+    back xs w (inr e) = (p.exact xs).1 (inr (ap (λ (t : Option (List ℤ)). unwrap_or t key) (sym is ∙ ap (λ (x : Outcome). key_told x.body) e ∙ w.2)))
+
+-- and where none is told of it, the keys stay
+none_told : (os : List Outcome) (o : Outcome) (keys : List (List ℤ)) → AreDifferentKeys os keys → key_told o.body ≡ None → AreDifferentKeys (os ++ o ∷ []) keys
+none_told os o keys h is = record { exact = λ xs. (λ c. there xs ((h.exact xs).0 c), λ w. back xs w (Contains-push_cases os o w.0 w.1)); once = h.once }
+  where
+    there : (xs : List ℤ) → IsTold os xs → IsTold (os ++ o ∷ []) xs
+    there xs w = (w.0, Contains-append_left os (o ∷ []) w.0 w.1, w.2)
+
+    back : (xs : List ℤ) (w : IsTold (os ++ o ∷ []) xs) → Contains os w.0 ⊎ (o ≡ w.0) → Contains keys xs
+    back xs w (inl c) = (h.exact xs).1 (w.0, c, w.2)
+    back xs w (inr e) = absurd (true≢false (ap is_some (sym w.2 ∙ sym (ap (λ (x : Outcome). key_told x.body) e) ∙ is)))
+
+-- one block more
+one_more : (os : List Outcome) (i : ℕ) (o : Outcome) → i < length os → get_or os i o ≡ o → take (i + 1) os ≡ take i os ++ o ∷ []
+one_more os i o l at = take_more os i o l ∙ ap (λ (x : Outcome). take i os ++ x ∷ []) at
+
+pub put_next : (os : List Outcome) (i : ℕ) (o : Outcome) (keys keys' : List (List ℤ)) (key : List ℤ) → i < length os → get_or os i o ≡ o → AreDifferentKeys (take i os) keys → key_told o.body ≡ Some key → IsPutIn keys key keys'
+    → AreDifferentKeys (take (i + 1) os) keys'
+put_next os i o keys keys' key l at h is p =
+    subst (λ (ps : List Outcome). AreDifferentKeys ps keys') (sym (one_more os i o l at)) (put_told (take i os) o keys keys' key h is p)
+
+pub none_next : (os : List Outcome) (i : ℕ) (o : Outcome) (keys : List (List ℤ)) → i < length os → get_or os i o ≡ o → AreDifferentKeys (take i os) keys → key_told o.body ≡ None
+    → AreDifferentKeys (take (i + 1) os) keys
+none_next os i o keys l at h is = subst (λ (ps : List Outcome). AreDifferentKeys ps keys) (sym (one_more os i o l at)) (none_told (take i os) o keys h is)

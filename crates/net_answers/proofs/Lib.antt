@@ -1,0 +1,5 @@
+mod Added
+mod KeyedBlocks
+mod Turns
+mod KeyLists
+mod DifferentKeys

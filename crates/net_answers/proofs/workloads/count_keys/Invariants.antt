@@ -1,0 +1,7 @@
+use Rattle.std.proofs.Common.{take}
+use Rattle.net_answers.specs.KeyLists.{lists_in}
+use Rattle.net_answers.specs.Summaries.{AreDifferentKeys}
+use Rattle.net_answers.proofs.workloads.count_keys.Given as goal
+
+abbrev pub invariant-loop-outcome : goal.invariant-loop-outcome
+invariant-loop-outcome l = AreDifferentKeys (take l.outcome-index l.outcomes) (lists_in l.keys)

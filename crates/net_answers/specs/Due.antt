@@ -1,0 +1,196 @@
+-- What is due to the words and to the bytes of the files that they name.
+use Rattle.std.specs.Prelude.{◌≡◌, ◌≢◌, ℕ, ◌+◌, ◌≤◌, ◌<◌, Bool, true, false, List, [], ◌∷◌, ◌++◌, length, Option, Some, None, unwrap_or, All}
+use Rattle.std.specs.List.{list_all}
+use Rattle.cgd_read.specs.Graphs.{graph_of}
+use Rattle.cgd_read.specs.Views.{RawView, Net, BlockView}
+use Rattle.cgd_read.specs.Blocks.{blocks_of}
+use Rattle.quotient_graph.specs.Stars.{IsInOrder}
+use Rattle.least_key.specs.KeyedNets.{KeyedNet, IsKeyed}
+use Rattle.net_entries.specs.Entries.{EntryView}
+use Rattle.net_entries.specs.Groups.{AreGroups}
+use Rattle.net_archive.specs.Adding.{IsEntryOf, IsAddFault}
+use Rattle.net_archive.specs.Archives.{ArchiveView, IsArchive, archive_text, empty_archive}
+use Rattle.net_archive.specs.Faults.{IsFaultOf}
+use Rattle.net_archive.specs.Migrating.{newest, IsMigrated}
+use Rattle.net_archive.specs.declared.faults.ArchiveFault.{ArchiveFault}
+use Rattle.net_archive.specs.declared.faults.ArchiveFault.TheVariants as archive
+use Rattle.net_archive.specs.declared.faults.AddFault.{AddFault}
+use Rattle.net_archive.specs.declared.faults.AddFault.TheVariants as add
+use Rattle.net_report.specs.Reports.{report_text}
+use Rattle.net_report.specs.declared.outcome.Outcome.{Outcome}
+use Rattle.archive_report.specs.ArchiveTexts.{archive_fault_text, add_fault_text, migrate_fault_text, groups_text}
+use Rattle.command_words.specs.Tasks.{Task, Tell, Add, Duplicates, Migrate, Workload}
+use Rattle.command_words.specs.declared.tasks.Command.{Command}
+use Rattle.command_words.specs.declared.tasks.Command.TheVariants.{Key}
+use Rattle.workload.specs.Workload.{workload}
+use Rattle.net_outcomes.specs.Deciding.{AreOutcomes, KeysDecideArchive}
+use Rattle.net_outcomes.specs.Outcomes.{is_accepted}
+use Rattle.net_answers.specs.Summaries.{IsSummaryAs}
+use Rattle.net_answers.specs.declared.status.Status.{Status}
+use Rattle.net_answers.specs.declared.status.Status.TheVariants as status
+
+-- bytes of a file, and blocks of one, at most
+abbrev pub most_bytes : ℕ
+most_bytes = 16777216
+
+abbrev pub most_blocks : ℕ
+most_blocks = 4096
+
+-- the file that a task reads
+abbrev pub file_named : Task → Option (List ℕ)
+file_named (Tell command file archive) = Some file
+file_named (Add file archive name) = Some file
+file_named (Duplicates archive) = None
+file_named (Migrate archive) = None
+file_named (Workload count) = None
+
+-- the archive that it reads
+abbrev pub archive_named : Task → Option (List ℕ)
+archive_named (Tell command file archive) = archive
+archive_named (Add file archive name) = archive
+archive_named (Duplicates archive) = Some archive
+archive_named (Migrate archive) = Some archive
+archive_named (Workload count) = None
+
+-- the bytes whose blocks it is about: those of the file, or those that it makes
+abbrev pub bytes_of : Task → List ℕ → List ℕ
+bytes_of (Workload count) file = workload count
+bytes_of task file = file
+
+-- these bytes are the text of this archive; without bytes it is empty
+abbrev pub IsArchiveIn : Option (List ℕ) → ArchiveView → Type 0
+IsArchiveIn None a = a ≡ empty_archive
+IsArchiveIn (Some bytes) a = IsArchive a × (bytes ≡ archive_text a)
+
+-- these bytes are the text of no archive, by this fault, which is told
+abbrev pub IsBadArchive : Option (List ℕ) → List ℕ → Type 0
+IsBadArchive None text = ⊥
+IsBadArchive (Some bytes) text = (fault : ArchiveFault) × (fault ≢ archive.NoMemory) × IsFaultOf bytes fault × (text ≡ archive_fault_text fault)
+
+-- the report on these blocks, and whether all of them were accepted
+pub record IsReport (command : Command) (entries : List EntryView) (blocks : List BlockView) (accepted : Bool) (text : List ℕ) : Type 0 where
+  pub outcomes : List Outcome
+  pub are_outcomes : AreOutcomes command entries blocks outcomes
+  pub all : accepted ≡ list_all is_accepted outcomes
+  pub report : text ≡ report_text outcomes
+
+-- the report, by the status that goes with it
+abbrev pub IsReportAs : Command → List EntryView → List BlockView → Status → List ℕ → Type 0
+IsReportAs command entries blocks status.Done text = IsReport command entries blocks true text
+IsReportAs command entries blocks status.SomeRefused text = IsReport command entries blocks false text
+IsReportAs command entries blocks s text = ⊥
+
+-- the name under which a block is added: the one that is given, or its own, or the empty one
+abbrev pub name_to_add : Option (List ℕ) → BlockView → List ℕ
+name_to_add (Some name) block = name
+name_to_add None block = unwrap_or block.name []
+
+-- the net of a block, with its key
+pub record IsNetOf (block : BlockView) (net : KeyedNet) : Type 0 where
+  pub raw : RawView
+  pub graph : block.body ≡ Net raw
+  pub read : IsInOrder (graph_of raw) net.placed.graph
+  pub keyed : IsKeyed net
+
+-- each block is a graph that has its key
+abbrev pub AreAccepted : List BlockView → Type 0
+AreAccepted blocks = All (λ block. (net : KeyedNet) × IsNetOf block net) blocks
+
+-- e is the entry of a block under a name
+pub record IsEntryOfBlock (name : List ℕ) (block : BlockView) (e : EntryView) : Type 0 where
+  pub net : KeyedNet
+  pub is_net : IsNetOf block net
+  pub entry : IsEntryOf name net e
+
+-- the entries of blocks, the first under the given name
+abbrev pub AreEntriesOf : Option (List ℕ) → List BlockView → List EntryView → Type 0
+AreEntriesOf given [] [] = Unit {0}
+AreEntriesOf given (block ∷ blocks) (e ∷ es) = IsEntryOfBlock (name_to_add given block) block e × AreEntriesOf None blocks es
+AreEntriesOf given blocks es = ⊥
+
+-- the name that is given is for the first block alone
+abbrev pub given_after : Option (List ℕ) → List BlockView → Option (List ℕ)
+given_after given [] = given
+given_after given (block ∷ before) = None
+
+-- the archive with more entries
+abbrev pub with_entries : ArchiveView → List EntryView → ArchiveView
+with_entries a es = record { version = a.version; entries = a.entries ++ es }
+
+-- the entries of these blocks, added to the archive a, make the archive b
+pub record IsAdded (given : Option (List ℕ)) (blocks : List BlockView) (a b : ArchiveView) : Type 0 where
+  pub more : List EntryView
+  pub are_entries : AreEntriesOf given blocks more
+  pub longer : b ≡ with_entries a more
+  pub is_archive : IsArchive b
+
+-- all blocks are added, and this is the text of the longer archive
+pub record IsAddedAs (given : Option (List ℕ)) (blocks : List BlockView) (a : ArchiveView) (text : List ℕ) : Type 0 where
+  pub longer : ArchiveView
+  pub added : IsAdded given blocks a longer
+  pub text_is : text ≡ archive_text longer
+
+-- the blocks before this one are added, and this one, under its name, cannot be
+pub record IsNotAdded (given : Option (List ℕ)) (blocks : List BlockView) (a : ArchiveView) (number : ℕ) (fault : AddFault) : Type 0 where
+  pub before : List BlockView
+  pub block : BlockView
+  pub after : List BlockView
+  pub split : blocks ≡ before ++ block ∷ after
+  pub number_is : number ≡ length before + 1
+  pub longer : ArchiveView
+  pub added : IsAdded given before a longer
+  pub net : KeyedNet
+  pub is_net : IsNetOf block net
+  pub cause : IsAddFault longer (name_to_add (given_after given before) block) net fault
+
+-- each block is accepted, and the first that cannot be added is told
+pub record IsNotAddedAs (given : Option (List ℕ)) (blocks : List BlockView) (a : ArchiveView) (text : List ℕ) : Type 0 where
+  pub accepted : AreAccepted blocks
+  pub number : ℕ
+  pub fault : AddFault
+  pub not_added : IsNotAdded given blocks a number fault
+  pub told : fault ≢ add.NoMemory
+  pub text_is : text ≡ add_fault_text number fault
+
+-- these groups of entries, two of which share one exactly where their nets are isomorphic
+pub record AreGroupsIn (a : ArchiveView) (text : List ℕ) : Type 0 where
+  pub groups : List (List ℕ)
+  pub are_groups : AreGroups a.entries groups
+  pub decide : KeysDecideArchive a.entries
+  pub text_is : text ≡ groups_text a.entries groups
+
+-- the groups, and the status that goes with them
+abbrev pub AreGroupsAs : ArchiveView → Status → List ℕ → Type 0
+AreGroupsAs a status.Done text = AreGroupsIn a text
+AreGroupsAs a s text = ⊥
+
+-- the text in the newest format where it is not too long, and else its length
+abbrev pub IsMigratedAs : ArchiveView → Status → List ℕ → Type 0
+IsMigratedAs a status.Done text = IsMigrated a text
+IsMigratedAs a status.MigrateRefused text = (most_bytes < length (newest a)) × (text ≡ migrate_fault_text (length (newest a)))
+IsMigratedAs a s text = ⊥
+
+-- what becomes of an addition
+abbrev pub IsAddedOrRefused : Option (List ℕ) → List BlockView → ArchiveView → Status → List ℕ → Type 0
+IsAddedOrRefused given blocks a status.Done text = IsAddedAs given blocks a text
+IsAddedOrRefused given blocks a status.SomeRefused text = IsReport Key [] blocks false text
+IsAddedOrRefused given blocks a status.AddRefused text = IsNotAddedAs given blocks a text
+IsAddedOrRefused given blocks a s text = ⊥
+
+-- this task, of these blocks and this archive, has this answer
+abbrev pub IsDueFor : Task → List BlockView → ArchiveView → Status → List ℕ → Type 0
+IsDueFor (Tell command file name) blocks a s text = IsReportAs command a.entries blocks s text
+IsDueFor (Add file name given) blocks a s text = IsAddedOrRefused given blocks a s text
+IsDueFor (Duplicates name) blocks a s text = AreGroupsAs a s text
+IsDueFor (Migrate name) blocks a s text = IsMigratedAs a s text
+IsDueFor (Workload count) blocks a s text = IsSummaryAs count blocks s text
+
+-- this task, of the blocks of these bytes and of the archive of those, has this answer
+abbrev pub IsDueWith : Task → List ℕ → Option (List ℕ) → Status → List ℕ → Type 0
+IsDueWith task bytes archive status.BadArchive text = (length (blocks_of bytes) ≤ most_blocks) × IsBadArchive archive text
+IsDueWith task bytes archive s text = (length (blocks_of bytes) ≤ most_blocks) × (a : ArchiveView) × IsArchiveIn archive a × IsDueFor task (blocks_of bytes) a s text
+
+-- this task, of these bytes of its file and of its archive, where it names them, has this answer
+abbrev pub IsDueOn : Task → List ℕ → Option (List ℕ) → Status → List ℕ → Type 0
+IsDueOn task file archive status.TooManyBlocks text = (most_blocks < length (blocks_of (bytes_of task file))) × (text ≡ [])
+IsDueOn task file archive s text = IsDueWith task (bytes_of task file) archive s text

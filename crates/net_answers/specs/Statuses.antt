@@ -1,0 +1,22 @@
+-- The exit statuses of the program.
+use Rattle.std.specs.Prelude.{ℕ, Bool, true, false}
+use Rattle.net_answers.specs.declared.status.Status.{Status}
+use Rattle.net_answers.specs.declared.status.Status.TheVariants.{Done, SomeRefused, Usage, ReadFault, WriteFault, BadArchive, TooLarge, NoMemory, TooManyBlocks, AddRefused, MigrateRefused}
+
+abbrev pub number_of : Status → ℕ
+number_of Done = 0
+number_of SomeRefused = 1
+number_of Usage = 2
+number_of ReadFault = 3
+number_of WriteFault = 4
+number_of BadArchive = 5
+number_of TooLarge = 6
+number_of NoMemory = 7
+number_of TooManyBlocks = 8
+number_of AddRefused = 9
+number_of MigrateRefused = 10
+
+-- the end of a report, by whether each block was accepted
+abbrev pub ending_of : Bool → Status
+ending_of true = Done
+ending_of false = SomeRefused

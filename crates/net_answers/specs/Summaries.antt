@@ -1,0 +1,53 @@
+-- What is told of many nets: how many are accepted, and how many different keys they have.
+use Rattle.std.specs.Prelude.{◌≡◌, ◌≢◌, ◌↔◌, ℕ, ℤ, Bool, true, false, List, [], ◌++◌, length, filter, Some, codes, AllPairs, Contains}
+use Rattle.std.specs.Fmt.{decimal}
+use Rattle.std.specs.List.{list_all}
+use Rattle.cgd_read.specs.Views.{BlockView}
+use Rattle.net_report.specs.declared.outcome.Outcome.{Outcome}
+use Rattle.command_words.specs.declared.tasks.Command.TheVariants.{Key}
+use Rattle.net_outcomes.specs.Deciding.{AreOutcomes, key_told}
+use Rattle.net_answers.specs.declared.status.Status.{Status}
+use Rattle.net_answers.specs.declared.status.Status.TheVariants as status
+use Rattle.net_outcomes.specs.Outcomes.{is_accepted}
+
+unfoldable pub workload_word : List ℕ
+workload_word = codes "workload "
+
+unfoldable pub accepted_word : List ℕ
+accepted_word = codes "accepted "
+
+unfoldable pub keys_word : List ℕ
+keys_word = codes "keys "
+
+-- so many nets were made, so many of them are accepted, with so many different keys
+abbrev pub summary_text : ℕ → ℕ → ℕ → List ℕ
+summary_text made accepted keys =
+    workload_word ++ decimal made ++ codes "\n" ++ accepted_word ++ decimal accepted ++ codes "\n" ++ keys_word ++ decimal keys ++ codes "\n"
+
+-- these are the different keys that are told
+pub record AreDifferentKeys (outcomes : List Outcome) (keys : List (List ℤ)) : Type 0 where
+  pub exact : (xs : List ℤ) → Contains keys xs ↔ ((o : Outcome) × Contains outcomes o × (key_told o.body ≡ Some xs))
+  pub once : AllPairs (λ xs ys. xs ≢ ys) keys
+
+-- so many different keys are told
+abbrev pub AreSoManyKeys : List Outcome → ℕ → Type 0
+AreSoManyKeys outcomes n = (keys : List (List ℤ)) × AreDifferentKeys outcomes keys × (n ≡ length keys)
+
+-- the summary on these outcomes
+pub record IsSummaryText (made : ℕ) (outcomes : List Outcome) (text : List ℕ) : Type 0 where
+  pub keys : List (List ℤ)
+  pub different : AreDifferentKeys outcomes keys
+  pub text_is : text ≡ summary_text made (length (filter is_accepted outcomes)) (length keys)
+
+-- the summary on these blocks, and whether all of them were accepted
+pub record IsSummary (made : ℕ) (blocks : List BlockView) (accepted : Bool) (text : List ℕ) : Type 0 where
+  pub outcomes : List Outcome
+  pub are_outcomes : AreOutcomes Key [] blocks outcomes
+  pub all : accepted ≡ list_all is_accepted outcomes
+  pub summary : IsSummaryText made outcomes text
+
+-- the summary, by the status that goes with it
+abbrev pub IsSummaryAs : ℕ → List BlockView → Status → List ℕ → Type 0
+IsSummaryAs made blocks status.Done text = IsSummary made blocks true text
+IsSummaryAs made blocks status.SomeRefused text = IsSummary made blocks false text
+IsSummaryAs made blocks s text = ⊥

@@ -1,0 +1,196 @@
+// Adds the nets of blocks to an archive.
+ghost use Rattle.std.specs.Prelude.{◌≡◌, ◌≢◌, ◌≤◌, [], true, All, IfOk, IfErr, OnOk, OnErr, length, option_copied};
+ghost use Rattle.std.specs.List.{list_all};
+ghost use Rattle.cgd_read.specs.Blocks.{IsReadBody};
+ghost use Rattle.cgd_read.specs.Views.{block_view, views};
+ghost use Rattle.least_key.specs.AnyNets.{net_in};
+ghost use Rattle.net_entries.specs.Entries.{EntryView};
+ghost use Rattle.net_archive.specs.Adding.{IsAddFault, IsEntryOf};
+ghost use Rattle.net_archive.specs.Archives.{IsArchive, with_entry};
+ghost use Rattle.archive_report.specs.ArchiveTexts.{add_fault_text};
+ghost use Rattle.net_outcomes.specs.Outcomes.{AreOutcomesFrom, is_accepted, net_told};
+ghost use Rattle.net_answers.specs.Due.{IsAdded, IsAddedOrRefused, IsNotAdded, name_to_add};
+
+use crate::answer::Answer;
+use crate::reports::report_of;
+use crate::status::Status;
+use archive_report::add_fault_text;
+use cgd_read::Block;
+use command_words::Command;
+use least_key::Net;
+use net_archive::{AddFault, Archive};
+use net_outcomes::{are_accepted, outcomes_of};
+use net_report::{NoMemory, Outcome, OutcomeBody};
+use std::alloc::{AllocError, Global};
+
+// The block with this number, counted from 1, cannot be added.
+#[derive(Clone, Copy, Debug)]
+struct NotAdded {
+    block: u32,
+    fault: AddFault,
+}
+
+// The name under which a block is added: the one that is given, or its own, or the empty one.
+fn name_to_add<'a>(given: Option<&'a [u8]>, block: &Block<'a>) -> &'a [u8]
+    ensures { result.now ≡ name_to_add (option_copied given.entry) (block_view block.now) }
+{
+    match given {
+        Some(name) => name,
+        None => match block.name {
+            Some(name) => name,
+            None => b"",
+        },
+    }
+}
+
+// The net that is told of a block, with its key alone.
+fn net_told<'a>(outcome: &'a Outcome<'_>) -> Option<&'a Net>
+    ensures { option_copied result ≡ net_told outcome.now.body }
+{
+    match &outcome.body {
+        OutcomeBody::Keyed(_, net) => Some(net),
+        _ => None,
+    }
+}
+
+// Adds the net of a block, under the name that is given or its own.
+fn add_block(
+    archive: &mut Archive,
+    given: Option<&[u8]>,
+    block: &Block<'_>,
+    net: &Net,
+) -> Result<(), AddFault>
+    ensures added { OnOk result ((e : EntryView) ×
+        IsEntryOf (name_to_add (option_copied given.entry) (block_view block.now))
+        (net_in net.now) e × (archive.new ≡ with_entry archive.old e)) }
+    ensures archive { IsArchive archive.new }
+    ensures same { OnErr result (archive.new ≡ archive.old) }
+    ensures fault { IfErr result (IsAddFault archive.old
+        (name_to_add (option_copied given.entry) (block_view block.now)) (net_in net.now)) }
+{
+    let added = archive.add(name_to_add(given, block), net);
+    let _ = archive.entries(); // which are those of an archive
+    added
+}
+
+// Adds the net of each block, the first under the name that is given.
+fn add_all<'x>(
+    archive: &mut Archive,
+    given: Option<&[u8]>,
+    found: &'x [Block<'_>],
+    outcomes: &'x [Outcome<'_>],
+) -> Result<(), NotAdded>
+    requires few { length found.now ≤ 4096 }
+    requires outcomes { AreOutcomesFrom [] Command.Key 1 (views found.now) outcomes.now }
+    requires accepted { list_all is_accepted outcomes.now ≡ true }
+    ensures added { OnOk result
+        (IsAdded (option_copied given.entry) (views found.now) archive.old archive.new) }
+    ensures fault { IfErr result (λ n. n.fault ≢ AddFault.NoMemory →
+        IsNotAdded (option_copied given.entry) (views found.now) archive.old n.block n.fault) }
+{
+    let _ = archive.entries(); // which are those of an archive
+    let mut given = given;
+    let mut number = 1u32;
+    for (block, outcome) in found.iter().zip(outcomes) {
+        if let Some(net) = net_told(outcome) {
+            if let Err(fault) = add_block(archive, given, block, net) {
+                return Err(NotAdded {
+                    block: number,
+                    fault,
+                });
+            }
+        }
+        given = None;
+        number += 1;
+    }
+    Ok(())
+}
+
+// The bytes of the name that is given.
+fn given_bytes<'a>(name: Option<&'a str>) -> Option<&'a [u8]>
+    ensures { option_copied result ≡ option_copied name.entry }
+{
+    name.map(|name| name.as_bytes())
+}
+
+// The text that tells why a block cannot be added.
+fn refused_text(alloc: Global, refused: NotAdded) -> Result<Vec<u8>, NoMemory>
+    ensures text { IfOk result (λ text. text.items ≡ add_fault_text refused.block refused.fault) }
+    ensures told { OnOk result (refused.fault ≢ AddFault.NoMemory) }
+{
+    match refused.fault {
+        AddFault::NoMemory => Err(AllocError),
+        fault => add_fault_text(alloc, refused.block, fault),
+    }
+}
+
+// The text of the archive with the nets of these blocks, or why the first that cannot be added is not.
+fn add_accepted<'x>(
+    alloc: Global,
+    archive: Archive,
+    given: Option<&[u8]>,
+    found: &'x [Block<'_>],
+    outcomes: &'x [Outcome<'_>],
+) -> Result<Answer, NoMemory>
+    requires few { length found.now ≤ 4096 }
+    requires outcomes { AreOutcomesFrom [] Command.Key 1 (views found.now) outcomes.now }
+    requires accepted { list_all is_accepted outcomes.now ≡ true }
+    ensures { IfOk result (λ a. IsAddedOrRefused (option_copied given.entry)
+        (views found.now) archive a.status a.text.items) }
+{
+    let mut longer = archive;
+    match add_all(&mut longer, given, found, outcomes) {
+        Ok(()) => Ok(Answer {
+            status: Status::Done,
+            text: longer.text()?,
+        }),
+        Err(refused) => Ok(Answer {
+            status: Status::AddRefused,
+            text: refused_text(alloc, refused)?,
+        }),
+    }
+}
+
+// The answer to an addition, beside an archive without entries.
+fn add_beside(
+    alloc: Global,
+    archive: Archive,
+    name: Option<&str>,
+    none: &Archive,
+    found: &[Block<'_>],
+) -> Result<Answer, NoMemory>
+    requires empty { none.now.entries ≡ [] }
+    requires graphs { All (λ block. IsReadBody block.body) found.now }
+    requires few { length found.now ≤ 4096 }
+    ensures { IfOk result (λ a. IsAddedOrRefused (option_copied name.entry)
+        (views found.now) archive a.status a.text.items) }
+{
+    let outcomes = outcomes_of(alloc, Command::Key, none, found)?;
+    if !are_accepted(&outcomes) {
+        return report_of(alloc, Command::Key, none, found, &outcomes);
+    }
+    add_accepted(
+        alloc,
+        archive,
+        given_bytes(name),
+        found,
+        outcomes.as_slice(),
+    )
+}
+
+/// The text of the archive with the nets of these blocks, or the report on them where one has no key, or why the first that
+/// cannot be added is not.
+pub fn add_blocks(
+    alloc: Global,
+    archive: Archive,
+    name: Option<&str>,
+    found: &[Block<'_>],
+) -> Result<Answer, NoMemory>
+    requires graphs { All (λ block. IsReadBody block.body) found.now }
+    requires few { length found.now ≤ 4096 }
+    ensures { IfOk result (λ a. IsAddedOrRefused (option_copied name.entry)
+        (views found.now) archive a.status a.text.items) }
+{
+    let none = Archive::empty(alloc);
+    add_beside(alloc, archive, name, &none, found)
+}

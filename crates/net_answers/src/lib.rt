@@ -1,0 +1,12 @@
+//! What is answered to the words, of the bytes of the files that they name.
+#![tactic(auto)]
+
+mod adding;
+mod answer;
+mod entries;
+mod reports;
+mod status;
+mod workloads;
+
+pub use answer::{Answer, Silence, answer_to};
+pub use status::Status;

@@ -1,0 +1,134 @@
+// What is told of many nets.
+ghost use Rattle.std.specs.Prelude.{◌≡◌, ◌++◌, ◌≤◌, [], All, IfOk, OnOk, length, filter, option_copied};
+ghost use Rattle.cgd_read.specs.Blocks.{IsReadBody};
+ghost use Rattle.cgd_read.specs.Views.{views};
+ghost use Rattle.net_outcomes.specs.Deciding.{key_told};
+ghost use Rattle.net_outcomes.specs.Outcomes.{is_accepted};
+ghost use Rattle.net_answers.specs.KeyLists.{IsPutIn, lists_in};
+ghost use Rattle.net_answers.specs.Summaries.{AreSoManyKeys, IsSummaryAs, accepted_word, keys_word, summary_text, workload_word};
+
+use crate::answer::Answer;
+use crate::status::Status;
+use cgd_read::Block;
+use command_words::Command;
+use indexmap::IndexSet;
+use net_archive::Archive;
+use net_outcomes::{are_accepted, is_accepted, outcomes_of};
+use net_report::{NoMemory, Outcome, OutcomeBody, Outcomes, push_number};
+use std::alloc::Global;
+
+#[tactic(auto, unfolding(crate::specs::Summaries::workload_word))]
+fn push_workload_word(text: &mut Vec<u8>) -> Result<(), NoMemory>
+    ensures { OnOk result (text.new.items ≡ text.old.items ++ workload_word) }
+{
+    text.extend_from_slice(b"workload ")
+}
+
+#[tactic(auto, unfolding(crate::specs::Summaries::accepted_word))]
+fn push_accepted_word(text: &mut Vec<u8>) -> Result<(), NoMemory>
+    ensures { OnOk result (text.new.items ≡ text.old.items ++ accepted_word) }
+{
+    text.extend_from_slice(b"accepted ")
+}
+
+#[tactic(auto, unfolding(crate::specs::Summaries::keys_word))]
+fn push_keys_word(text: &mut Vec<u8>) -> Result<(), NoMemory>
+    ensures { OnOk result (text.new.items ≡ text.old.items ++ keys_word) }
+{
+    text.extend_from_slice(b"keys ")
+}
+
+fn summary_text(alloc: Global, made: u64, accepted: u64, keys: u64) -> Result<Vec<u8>, NoMemory>
+    ensures { IfOk result (λ text. text.items ≡ summary_text made accepted keys) }
+{
+    let mut text = Vec::new(alloc);
+    push_workload_word(&mut text)?;
+    push_number(&mut text, made)?;
+    text.extend_from_slice(b"\n")?;
+    push_accepted_word(&mut text)?;
+    push_number(&mut text, accepted)?;
+    text.extend_from_slice(b"\n")?;
+    push_keys_word(&mut text)?;
+    push_number(&mut text, keys)?;
+    text.extend_from_slice(b"\n")?;
+    Ok(text)
+}
+
+// The key that is told of a block.
+fn key_told<'a>(outcome: &'a Outcome<'_>) -> Option<&'a [i128]>
+    ensures { option_copied result ≡ key_told outcome.now.body }
+{
+    match &outcome.body {
+        OutcomeBody::Keyed(_, net) | OutcomeBody::Identified(_, _, net, _, _) => {
+            Some(net.key().numbers())
+        }
+        _ => None,
+    }
+}
+
+// Puts a key last among the others, where it is not there.
+fn put_key<'a>(keys: &mut IndexSet<&'a [i128]>, key: &'a [i128]) -> Result<(), NoMemory>
+    ensures { OnOk result (IsPutIn (lists_in keys.old) key.now (lists_in keys.new)) }
+{
+    match keys.insert(key) {
+        Ok(_) => Ok(()),
+        Err(_) => Err(NoMemory),
+    }
+}
+
+// The number of different keys that are told.
+fn count_keys(alloc: Global, outcomes: &[Outcome<'_>]) -> Result<u64, NoMemory>
+    ensures { IfOk result (AreSoManyKeys outcomes.now) }
+{
+    let mut keys: IndexSet<&[i128]> = IndexSet::new(alloc);
+    for outcome in outcomes {
+        if let Some(key) = key_told(outcome) {
+            put_key(&mut keys, key)?;
+        }
+    }
+    Ok(keys.len() as u64)
+}
+
+// The number of blocks that are accepted.
+fn count_accepted(outcomes: &[Outcome<'_>]) -> u64
+    ensures { result ≡ length (filter is_accepted outcomes.now) }
+{
+    outcomes
+        .iter()
+        .filter(|outcome| is_accepted(&outcome.body))
+        .count() as u64
+}
+
+// The summary on these blocks, beside an archive without entries.
+fn summary_beside(
+    alloc: Global,
+    made: u32,
+    archive: &Archive,
+    found: &[Block<'_>],
+) -> Result<Answer, NoMemory>
+    requires empty { archive.now.entries ≡ [] }
+    requires graphs { All (λ block. IsReadBody block.body) found.now }
+    requires few { length found.now ≤ 4096 }
+    ensures { IfOk result (λ a. IsSummaryAs made (views found.now) a.status a.text.items) }
+{
+    let outcomes = outcomes_of(alloc, Command::Key, archive, found)?;
+    let accepted = count_accepted(outcomes.as_slice());
+    let keys = count_keys(alloc, outcomes.as_slice())?;
+    let text = summary_text(alloc, made as u64, accepted, keys)?;
+    let status = if are_accepted(&outcomes) {
+        Status::Done
+    } else {
+        Status::SomeRefused
+    };
+    Ok(Answer { status, text })
+}
+
+/// The summary on the blocks of a workload.
+pub fn summary_of(alloc: Global, made: u32, found: &[Block<'_>]) -> Result<Answer, NoMemory>
+    requires graphs { All (λ block. IsReadBody block.body) found.now }
+    requires few { length found.now ≤ 4096 }
+    ensures { IfOk result (λ a. IsSummaryAs made (views found.now) a.status a.text.items) }
+{
+    let none = Archive::empty(alloc);
+    summary_beside(alloc, made, &none, found)
+}

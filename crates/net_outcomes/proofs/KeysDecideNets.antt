@@ -1,0 +1,154 @@
+-- The keys that are told decide whether nets are isomorphic.
+use Rattle.std.proofs.Common.{◌≡◌, ◌∙◌, refl, sym, ap, subst, ℕ, suc, ◌+◌, zero, ◌<◌, ◌≤◌, ℤ, List, [], ◌∷◌, length, Some, arith}
+use Rattle.std.specs.Prelude.{◌↔◌, is_some, slice_index_or, unwrap_or}
+use Rattle.std.specs.List.{All}
+use Rattle.std.proofs.lemmas.Bool.{true≢false}
+use Rattle.std.proofs.lemmas.List.Elements.{All-contains}
+use Rattle.std.proofs.lemmas.List.Sorted.{IsPermutation-sym}
+use Rattle.periodic_net.specs.Graph.{Graph, Vertex, IsGraph, IsVertex}
+use Rattle.periodic_net.specs.Maps.{Iso}
+use Rattle.integers.proofs.vectors.BaseSums.{unit_base}
+use Rattle.periodic_net.proofs.isomorphisms.Periods.{identity_periodic}
+use Rattle.periodic_net.proofs.isomorphisms.Isomorphism.{iso_transitive, iso_symmetric}
+use Rattle.key_theory.specs.Key.{IsKeyOf}
+use Rattle.key_theory.proofs.KeysDecide.{keys_decide}
+use Rattle.cgd_read.specs.Graphs.{graph_of}
+use Rattle.cgd_read.specs.Views.{RawView, BodyView, Net, BlockView}
+use Rattle.quotient_graph.specs.Stars.{IsInOrder}
+use Rattle.least_key.specs.AnyNets.{net_in}
+use Rattle.least_key.specs.KeyedNets.{KeyedNet, IsKeyed}
+use Rattle.least_key.proofs.CallerLemmas.{key_of_graph, nets_decide}
+use Rattle.net_entries.specs.Entries.{EntryView}
+use Rattle.net_archive.specs.Archives.{IsEntry}
+use Rattle.net_report.specs.declared.outcome.Outcome.{Outcome}
+use Rattle.net_report.specs.declared.outcome.OutcomeBody.{OutcomeBody}
+use Rattle.net_report.specs.declared.outcome.OutcomeBody.TheVariants.{Unsupported, Malformed, Refused, Checked, Located, Keyed, Identified}
+use Rattle.command_words.specs.declared.tasks.Command.{Command}
+use Rattle.command_words.specs.declared.tasks.Command.TheVariants.{Check, Place, Key, Identify}
+use Rattle.net_outcomes.specs.Deciding.{HasKeyAt, IsBlockAt, KeysDecideArchive, KeysDecideBlocks, KeysDecideEntries, key_told}
+use Rattle.net_outcomes.specs.Outcomes.{IsBodyOf, AreOutcomesFrom}
+use Rattle.net_outcomes.proofs.Reordered.{same_arc}
+
+-- graphs of one dimension with as many vertices have the same vertices in their nets
+vertex_in : (G H : Graph) → G.vertices ≡ H.vertices → G.dimension ≡ H.dimension → (w : Vertex) → IsVertex G w → IsVertex H w
+vertex_in G H v d w i = record { over = (i.over.0, subst (λ n. w.over ≤ n) v i.over.1); cell = λ e. i.cell (d ∙ e) }
+
+-- a graph with its edges in order has the net of the graph
+pub in_order_iso : (G H : Graph) → IsInOrder G H → Iso G H
+in_order_iso G H o =
+    let there = vertex_in G H (sym o.vertices) (sym o.dimension) in
+    let back = vertex_in H G o.vertices o.dimension in
+    let g = identity_periodic G in
+    let h = identity_periodic H in
+    record {
+      dimension = sym o.dimension;
+      there = λ w. w;
+      back = λ w. w;
+      there_period = (1, unit_base, record { positive = g.positive; into = there; repeats = g.repeats });
+      back_period = (1, unit_base, record { positive = h.positive; into = back; repeats = h.repeats });
+      back_there = λ w i. refl;
+      there_back = λ w i. refl;
+      there_joins = λ w x i j e. same_arc G H o.edges _ e;
+      back_joins = λ w x i j e. same_arc H G (IsPermutation-sym G.edges H.edges o.edges) _ e;
+    }
+
+-- what decides of graphs in memory decides of the graphs that were read
+read_decide : (G H G' H' : Graph) (P : Type 0) → IsInOrder G H → IsInOrder G' H' → P ↔ Iso H H' → P ↔ Iso G G'
+read_decide G H G' H' P o o' d =
+    let e = in_order_iso G H o in
+    let e' = in_order_iso G' H' o' in (
+      (λ p. iso_transitive G H G' e (iso_transitive H H' G' (d.0 p) (iso_symmetric G' H' e'))),
+      (λ i. d.1 (iso_transitive H G H' (iso_symmetric G H e) (iso_transitive G G' H' i e'))),
+    )
+
+-- what is told of the block at place i
+body_at : (entries : List EntryView) (command : Command) (n i : ℕ) (bs : List BlockView) (os : List Outcome) (b : BlockView) (o : Outcome) → AreOutcomesFrom entries command n bs os
+    → i < length bs → slice_index_or bs i b ≡ b → slice_index_or os i o ≡ o → IsBodyOf entries command b.body o.body
+body_at entries command n i [] os b o h l e f = absurd (omega (arith, l))
+body_at entries command n i (c ∷ bs) [] b o h l e f = absurd h
+body_at entries command n zero (c ∷ bs) (x ∷ os) b o h l e f =
+    subst (λ (y : Outcome). IsBodyOf entries command b.body y.body) f (subst (λ (y : BlockView). IsBodyOf entries command y.body x.body) e h.0.body)
+body_at entries command n (suc i) (c ∷ bs) (x ∷ os) b o h l e f = body_at entries command (n + 1) i bs os b o h.1 (omega (arith, l)) e f
+
+-- what is told of the net at place i
+pub told_at : (entries : List EntryView) (command : Command) (bs : List BlockView) (os : List Outcome) → AreOutcomesFrom entries command 1 bs os → (i : ℕ) (b : BlockView) (o : Outcome) (raw : RawView)
+    → IsBlockAt bs os i b o → b.body ≡ Net raw → IsBodyOf entries command (Net raw) o.body
+told_at entries command bs os h i b o raw at is =
+    subst (λ (x : BodyView). IsBodyOf entries command x o.body) is (body_at entries command 1 i bs os b o h at.inside at.block_is at.outcome_is)
+
+-- a graph in order with its net and key
+record HasKeyedGraph (raw : RawView) (xs : List ℤ) : Type 0 where
+  pub graph : Graph
+  pub in_order : IsInOrder (graph_of raw) graph
+  pub net : KeyedNet
+  pub net_is : net.placed.graph ≡ graph
+  pub keyed : IsKeyed net
+  pub key : net.key ≡ xs
+
+-- the value that is there
+some_is : {A : Type 0} (x y : A) → Some x ≡ Some y → x ≡ y
+some_is x y e = ap (λ o. unwrap_or o x) e
+
+-- a net with a key is told only where the key is asked for
+keyed_told : (entries : List EntryView) (command : Command) (raw : RawView) (body : OutcomeBody) (xs : List ℤ) → IsBodyOf entries command (Net raw) body → key_told body ≡ Some xs → HasKeyedGraph raw xs
+keyed_told entries command raw (Unsupported token) xs h e = absurd (true≢false (sym (ap is_some e)))
+keyed_told entries command raw (Malformed fault) xs h e = absurd (true≢false (sym (ap is_some e)))
+keyed_told entries command raw (Refused size names refusal) xs h e = absurd (true≢false (sym (ap is_some e)))
+keyed_told entries command raw (Checked size) xs h e = absurd (true≢false (sym (ap is_some e)))
+keyed_told entries command raw (Located size names placed) xs h e = absurd (true≢false (sym (ap is_some e)))
+keyed_told entries Check raw (Keyed size net) xs h e = absurd h
+keyed_told entries Place raw (Keyed size net) xs h e = absurd h
+keyed_told entries Identify raw (Keyed size net) xs h e = absurd h
+keyed_told entries Key raw (Keyed size net) xs h e = record {
+  graph = h.graph;
+  in_order = h.read.in_order;
+  net = net_in net;
+  net_is = h.net_is;
+  keyed = h.keyed;
+  key = some_is (net_in net).key xs e;
+}
+keyed_told entries Check raw (Identified size vertices net shells names) xs h e = absurd h
+keyed_told entries Place raw (Identified size vertices net shells names) xs h e = absurd h
+keyed_told entries Key raw (Identified size vertices net shells names) xs h e = absurd h
+keyed_told entries Identify raw (Identified size vertices net shells names) xs h e = record {
+  graph = h.keyed.graph;
+  in_order = h.keyed.read.in_order;
+  net = net_in net;
+  net_is = h.keyed.net_is;
+  keyed = h.keyed.keyed;
+  key = some_is (net_in net).key xs e;
+}
+
+module _ (entries : List EntryView) (command : Command) (bs : List BlockView) (os : List Outcome) (h : AreOutcomesFrom entries command 1 bs os) where
+  -- what is told of a key
+  keyed_at : (i : ℕ) (raw : RawView) (xs : List ℤ) → HasKeyAt bs os i raw xs → HasKeyedGraph raw xs
+  keyed_at i raw xs k = keyed_told entries command raw k.outcome.body xs (told_at entries command bs os h i k.block k.outcome raw k.at k.graph) k.told
+
+  -- the keys of two blocks decide
+  pub keys_decide_blocks : KeysDecideBlocks bs os
+  keys_decide_blocks i j raw raw' xs ys k l =
+      let a = keyed_at i raw xs k in
+      let b = keyed_at j raw' ys l in
+      let nets : (a.net.key ≡ b.net.key) ↔ Iso a.graph b.graph = subst (λ (H : Graph). (a.net.key ≡ b.net.key) ↔ Iso a.graph H) b.net_is (subst (λ (G : Graph). (a.net.key ≡ b.net.key) ↔ Iso G b.net.placed.graph) a.net_is (nets_decide a.net b.net a.keyed b.keyed)) in
+      let keys : (xs ≡ ys) ↔ Iso a.graph b.graph = subst (λ (y : List ℤ). (xs ≡ y) ↔ Iso a.graph b.graph) b.key (subst (λ (x : List ℤ). (x ≡ b.net.key) ↔ Iso a.graph b.graph) a.key nets) in
+      read_decide (graph_of raw) a.graph (graph_of raw') b.graph (xs ≡ ys) a.in_order b.in_order keys
+
+  -- and those of a block and of an entry
+  pub keys_decide_entries : All IsEntry entries → KeysDecideEntries entries bs os
+  keys_decide_entries good i raw xs e k there =
+      let a = keyed_at i raw xs k in
+      let entry = All-contains IsEntry entries e good there in
+      let key = subst (λ (x : List ℤ). IsKeyOf a.graph x) a.key (subst (λ (G : Graph). IsKeyOf G a.net.key) a.net_is (key_of_graph a.net a.keyed)) in
+      let g = subst IsGraph a.net_is a.keyed.is_graph in
+      let keys = keys_decide a.graph e.graph xs e.key g entry.is_graph key entry.key in
+      let o = in_order_iso (graph_of raw) a.graph a.in_order in (
+        (λ p. iso_transitive (graph_of raw) a.graph e.graph o (keys.0 p)),
+        (λ q. keys.1 (iso_transitive a.graph (graph_of raw) e.graph (iso_symmetric (graph_of raw) a.graph o) q)),
+      )
+
+-- the keys of two entries decide
+pub keys_decide_archive : (entries : List EntryView) → All IsEntry entries → KeysDecideArchive entries
+keys_decide_archive entries good e f i j =
+    let a = All-contains IsEntry entries e good i in
+    let b = All-contains IsEntry entries f good j in
+    keys_decide e.graph f.graph e.key f.key a.is_graph b.is_graph a.key b.key

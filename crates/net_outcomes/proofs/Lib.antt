@@ -1,0 +1,10 @@
+pub mod CallerLemmas
+pub mod KeysDecideNets
+pub mod Reordered
+pub mod NetOutcomes
+pub mod OnlyPlacement
+pub mod Printing
+pub mod Listing
+pub mod NamesFound
+pub mod Identified
+pub mod Certain

@@ -1,0 +1,65 @@
+-- What is told of the graph of a block.
+use Rattle.std.proofs.Common.{◌≡◌, ◌≢◌, List, Result, Ok, Err, sym, subst, refl}
+use Rattle.std.specs.Prelude.{IfOk}
+use Rattle.periodic_net.specs.Graph.{Graph}
+use Rattle.cgd_read.specs.Graphs.{graph_of}
+use Rattle.cgd_read.specs.Views.{RawView, Net}
+use Rattle.quotient_graph.specs.Stars.{IsInOrder}
+use Rattle.least_key.specs.Truths.{IsTrueOf, IsOfConnecting, IsOfPlacing}
+use Rattle.least_key.specs.declared.refusal.Refusal.{Refusal}
+use Rattle.least_key.specs.declared.refusal.Refusal.TheVariants.{Disconnected, Degenerate, NoModulus, WidePlacement, Collision, TooMuch, NoMemory}
+use Rattle.net_entries.specs.Entries.{EntryView}
+use Rattle.net_report.specs.declared.outcome.OutcomeBody.{OutcomeBody}
+use Rattle.net_report.specs.declared.outcome.OutcomeBody.TheVariants.{Refused}
+use Rattle.net_outcomes.specs.Outcomes.{size_of, MayTell, IsBodyOf}
+use Rattle.command_words.specs.declared.tasks.Command.{Command}
+use Rattle.command_words.specs.declared.tasks.Command.TheVariants.{Check, Place, Key, Identify}
+
+-- a test for connectedness may tell its refusals
+pub check_may : (refusal : Refusal) → IsOfConnecting refusal → refusal ≢ NoMemory → MayTell Check refusal
+check_may (Disconnected split) h n = h
+check_may (Degenerate split) h n = h
+check_may (NoModulus first second third) h n = h
+check_may (WidePlacement w) h n = h
+check_may (Collision dim u v t) h n = h
+check_may (TooMuch done counted) h n = h
+check_may NoMemory h n = n refl
+
+-- so may a placing
+pub place_may : (refusal : Refusal) → IsOfPlacing refusal → refusal ≢ NoMemory → MayTell Place refusal
+place_may (Disconnected split) h n = h
+place_may (Degenerate split) h n = h
+place_may (NoModulus first second third) h n = h
+place_may (WidePlacement w) h n = h
+place_may (Collision dim u v t) h n = h
+place_may (TooMuch done counted) h n = h
+place_may NoMemory h n = n refl
+
+-- and the search for a key may tell all
+pub key_may : (refusal : Refusal) → refusal ≢ NoMemory → MayTell Key refusal
+key_may (Disconnected split) n = tt
+key_may (Degenerate split) n = tt
+key_may (NoModulus first second third) n = tt
+key_may (WidePlacement w) n = tt
+key_may (Collision dim u v t) n = tt
+key_may (TooMuch done counted) n = tt
+key_may NoMemory n = n refl
+
+-- also where it is sought in an archive
+pub identify_may : (refusal : Refusal) → refusal ≢ NoMemory → MayTell Identify refusal
+identify_may (Disconnected split) n = tt
+identify_may (Degenerate split) n = tt
+identify_may (NoModulus first second third) n = tt
+identify_may (WidePlacement w) n = tt
+identify_may (Collision dim u v t) n = tt
+identify_may (TooMuch done counted) n = tt
+identify_may NoMemory n = n refl
+
+-- the body that was made of a refusal is one that the command tells
+pub refused_as : {E : Type 0} (entries : List EntryView) (command : Command) (raw : RawView) (G : Graph) (refusal : Refusal) (r : Result OutcomeBody E)
+    → IsInOrder (graph_of raw) G → IsTrueOf G refusal → (refusal ≢ NoMemory → MayTell command refusal)
+    → IfOk r (λ body. body ≡ Refused (size_of raw) raw.names refusal) → IfOk r (λ body. refusal ≢ NoMemory) → IfOk r (IsBodyOf entries command (Net raw))
+refused_as entries command raw G refusal (Ok body) o t m e n =
+    subst (IsBodyOf entries command (Net raw)) (sym e)
+    (record { graph = G; read = record { size_is = refl; in_order = o }; names_are = refl; may = m n; is_true = t })
+refused_as entries command raw G refusal (Err d) o t m e n = e

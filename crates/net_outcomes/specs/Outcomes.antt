@@ -1,0 +1,132 @@
+-- What becomes of each block under a command.
+use Rattle.std.specs.Prelude.{◌≡◌, ◌⊎◌, ℕ, ◌+◌, Bool, true, false, List, [], ◌∷◌, length, Option, Some, None, option_copied}
+use Rattle.periodic_net.specs.Graph.{Graph, IsConnected}
+use Rattle.periodic_net.specs.Maps.{Iso}
+use Rattle.periodic_net.specs.Placement.{Placement, IsBarycentric, IsTranslate}
+use Rattle.cgd_read.specs.Graphs.{graph_of}
+use Rattle.cgd_read.specs.Views.{RawView, BodyView, Net, Other, Faulty, BlockView}
+use Rattle.quotient_graph.specs.Stars.{IsInOrder}
+use Rattle.coordination.specs.Sequences.{AreSequencesOf}
+use Rattle.net_entries.specs.Entries.{EntryView}
+use Rattle.net_report.specs.declared.outcome.Size.{Size}
+use Rattle.net_report.specs.declared.outcome.Outcome.{Outcome}
+use Rattle.net_report.specs.declared.outcome.OutcomeBody.{OutcomeBody}
+use Rattle.net_report.specs.declared.outcome.OutcomeBody.TheVariants.{Unsupported, Malformed, Refused, Checked, Located, Keyed, Identified}
+use Rattle.least_key.specs.AnyPlacements.{placed_in}
+use Rattle.least_key.specs.AnyNets.{net_in}
+use Rattle.least_key.specs.KeyedNets.{IsKeyed}
+use Rattle.least_key.specs.Placings.{IsPlacedAs}
+use Rattle.least_key.specs.Truths.{IsTrueOf, IsOfConnecting, IsOfPlacing}
+use Rattle.least_key.specs.declared.net.Net.{Net as KeyedNet}
+use Rattle.least_key.specs.declared.path.AnyPlaced.{AnyPlaced}
+use Rattle.least_key.specs.declared.refusal.Refusal.{Refusal}
+use Rattle.least_key.specs.declared.refusal.Refusal.TheVariants.{NoMemory}
+use Rattle.command_words.specs.declared.tasks.Command.{Command}
+use Rattle.command_words.specs.declared.tasks.Command.TheVariants.{Check, Place, Key, Identify}
+
+-- its sizes
+abbrev pub size_of : RawView → Size
+size_of raw = record { dim = raw.dim; vertices = length raw.names; edges = length raw.edges; repeats = raw.repeats }
+
+-- a command may tell this refusal of a net
+abbrev pub MayTell : Command → Refusal → Type 0
+MayTell command NoMemory = ⊥
+MayTell Check refusal = IsOfConnecting refusal
+MayTell Place refusal = IsOfPlacing refusal
+MayTell Key refusal = Unit {0}
+MayTell Identify refusal = Unit {0}
+
+-- G is the graph of a block, with its edges in order, and size has its sizes
+pub record IsGraphOf (raw : RawView) (size : Size) (G : Graph) : Type 0 where
+  pub size_is : size ≡ size_of raw
+  pub in_order : IsInOrder (graph_of raw) G
+
+-- a refusal that the command may tell, and that is true of the block's graph, beside the names of its vertices
+pub record IsRefusedAs (command : Command) (raw : RawView) (size : Size) (names : List (List ℕ)) (refusal : Refusal) : Type 0 where
+  pub graph : Graph
+  pub read : IsGraphOf raw size graph
+  pub names_are : names ≡ raw.names
+  pub may : MayTell command refusal
+  pub is_true : IsTrueOf graph refusal
+
+-- the net of the block is connected
+pub record IsCheckedAs (raw : RawView) (size : Size) : Type 0 where
+  pub graph : Graph
+  pub read : IsGraphOf raw size graph
+  pub connected : IsConnected graph
+
+-- every barycentric placement of G is a translate of p
+abbrev pub IsOnlyPlacement : Graph → Placement → Type 0
+IsOnlyPlacement G p = (q : Placement) → IsBarycentric G q → IsTranslate G p q
+
+-- the net of the block is connected, and this is its normal placement, the only one but for translates, beside the names of its vertices
+pub record IsLocatedAs (raw : RawView) (size : Size) (names : List (List ℕ)) (placed : AnyPlaced) : Type 0 where
+  pub graph : Graph
+  pub read : IsGraphOf raw size graph
+  pub names_are : names ≡ raw.names
+  pub placed_as : IsPlacedAs graph (placed_in placed)
+  pub only : IsOnlyPlacement graph (placed_in placed).placement
+
+-- the block's graph has a key, and this is its net
+pub record IsKeyedAs (raw : RawView) (size : Size) (net : KeyedNet) : Type 0 where
+  pub graph : Graph
+  pub read : IsGraphOf raw size graph
+  pub net_is : (net_in net).placed.graph ≡ graph
+  pub keyed : IsKeyed (net_in net)
+
+-- the names of exactly the entries whose nets are isomorphic to that of G, in their order
+abbrev pub AreNamesOf : Graph → List EntryView → List (List ℕ) → Type 0
+AreNamesOf G [] names = names ≡ []
+AreNamesOf G (e ∷ es) [] = ¬ Iso G e.graph × AreNamesOf G es []
+AreNamesOf G (e ∷ es) (name ∷ names) = (Iso G e.graph × (name ≡ e.name) × AreNamesOf G es names) ⊎ (¬ Iso G e.graph × AreNamesOf G es (name ∷ names))
+
+-- the block's graph has a key, and this is its net, with the placement, the only one but for translates, the primitive graph, the
+-- key and the sizes of shells; and these are the names of exactly the isomorphic entries
+pub record IsIdentifiedAs (entries : List EntryView) (raw : RawView) (size : Size) (vertices : List (List ℕ)) (net : KeyedNet) (shells names : List (List ℕ)) : Type 0 where
+  pub keyed : IsKeyedAs raw size net
+  pub vertices_are : vertices ≡ raw.names
+  pub only : IsOnlyPlacement keyed.graph (net_in net).placed.placement
+  pub shells_are : AreSequencesOf keyed.graph shells
+  pub names_are : AreNamesOf keyed.graph entries names
+
+-- what a command tells of a block, beside an archive with these entries
+abbrev pub IsBodyOf : List EntryView → Command → BodyView → OutcomeBody → Type 0
+IsBodyOf entries command (Other token) (Unsupported told) = told.now ≡ token
+IsBodyOf entries command (Faulty fault) (Malformed told) = told ≡ fault
+IsBodyOf entries command (Net raw) (Refused size names refusal) = IsRefusedAs command raw size names refusal
+IsBodyOf entries Check (Net raw) (Checked size) = IsCheckedAs raw size
+IsBodyOf entries Place (Net raw) (Located size names placed) = IsLocatedAs raw size names placed
+IsBodyOf entries Key (Net raw) (Keyed size net) = IsKeyedAs raw size net
+IsBodyOf entries Identify (Net raw) (Identified size vertices net shells names) = IsIdentifiedAs entries raw size vertices net shells names
+IsBodyOf entries command body told = ⊥
+
+-- the outcome of the block with this number
+pub record IsOutcomeOf (entries : List EntryView) (command : Command) (number : ℕ) (block : BlockView) (o : Outcome) : Type 0 where
+  pub number_is : o.number ≡ number
+  pub line : o.line ≡ block.line
+  pub name : option_copied o.name ≡ block.name
+  pub body : IsBodyOf entries command block.body o.body
+
+-- one outcome for each block, with the blocks numbered from this number on
+abbrev pub AreOutcomesFrom : List EntryView → Command → ℕ → List BlockView → List Outcome → Type 0
+AreOutcomesFrom entries command number [] [] = Unit {0}
+AreOutcomesFrom entries command number (block ∷ blocks) (o ∷ os) = IsOutcomeOf entries command number block o × AreOutcomesFrom entries command (number + 1) blocks os
+AreOutcomesFrom entries command number blocks os = ⊥
+
+-- whether the block was accepted
+abbrev pub is_accepted_body : OutcomeBody → Bool
+is_accepted_body (Unsupported token) = false
+is_accepted_body (Malformed fault) = false
+is_accepted_body (Refused size names refusal) = false
+is_accepted_body (Checked size) = true
+is_accepted_body (Located size names placed) = true
+is_accepted_body (Keyed size net) = true
+is_accepted_body (Identified size vertices net shells names) = true
+
+abbrev pub is_accepted : Outcome → Bool
+is_accepted o = is_accepted_body o.body
+
+-- the net that is told of a block with its key alone
+abbrev pub net_told : OutcomeBody → Option KeyedNet
+net_told (Keyed size net) = Some net
+net_told body = None

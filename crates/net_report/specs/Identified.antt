@@ -1,0 +1,40 @@
+-- The lines of a net that is identified.
+use Rattle.std.specs.Prelude.{ℕ, ◌+◌, List, [], ◌∷◌, ◌++◌, length, codes}
+use Rattle.std.specs.Fmt.{decimal}
+use Rattle.least_key.specs.KeyedNets.{KeyedNet}
+use Rattle.net_report.specs.Keys.{key_text}
+use Rattle.net_report.specs.Placements.{placement_text}
+use Rattle.net_report.specs.Primitives.{primitive_text}
+use Rattle.net_report.specs.Sequences.{shells_text}
+
+-- a line for each list of sizes of shells, the first for the class with this number
+abbrev pub sequences_text : ℕ → List (List ℕ) → List ℕ
+sequences_text class [] = []
+sequences_text class (sizes ∷ lists) = shells_text class sizes ++ sequences_text (class + 1) lists
+
+unfoldable pub names_word : List ℕ
+names_word = codes "names "
+
+unfoldable pub name_word : List ℕ
+name_word = codes "name \""
+
+-- a name of an archive
+abbrev pub archive_name_text : List ℕ → List ℕ
+archive_name_text name = name_word ++ name ++ codes "\"\n"
+
+-- names, in their order
+abbrev pub archive_names_text : List (List ℕ) → List ℕ
+archive_names_text [] = []
+archive_names_text (name ∷ names) = archive_name_text name ++ archive_names_text names
+
+-- how many names of an archive are told, and the names
+abbrev pub found_names_text : List (List ℕ) → List ℕ
+found_names_text names = names_word ++ decimal (length names) ++ codes "\n" ++ archive_names_text names
+
+-- the placement, with the vertices by these names, the primitive graph and the key of a net
+abbrev pub net_text : List (List ℕ) → KeyedNet → List ℕ
+net_text vertices n = placement_text vertices n.placed ++ primitive_text n.cell ++ key_text n.key
+
+-- and the sizes of shells of its classes, and the names that an archive has for it
+abbrev pub identified_text : List (List ℕ) → KeyedNet → List (List ℕ) → List (List ℕ) → List ℕ
+identified_text vertices n shells names = net_text vertices n ++ sequences_text 1 shells ++ found_names_text names

@@ -1,6 +1,0 @@
-use Rattle.cgd_read.specs.Views.{views}
-use Rattle.net_tool.proofs.Listing.{AreOutcomesOn}
-use Rattle.net_tool.proofs.answers.outcomes_of.Given as goal
-
-abbrev pub invariant-loop-block : goal.invariant-loop-block
-invariant-loop-block l = AreOutcomesOn l.command (views l.found) l.block-index l.number l.outcomes

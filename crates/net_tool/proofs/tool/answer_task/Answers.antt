@@ -1,0 +1,11 @@
+use Rattle.std.proofs.Common.{◌∙◌}
+use Rattle.command_words.specs.Views.{task_view}
+use Rattle.net_answers.specs.Bytes.{bytes_in}
+use Rattle.net_tool.proofs.DueOver.{due_over}
+use Rattle.net_tool.proofs.tool.answer_task.Goals as goal
+
+pub returns-in-Ok-clause-due : goal.returns-in-Ok-clause-due
+returns-in-Ok-clause-due g c =
+    let read = c.in_ok-file.ensures.read in
+    due_over (task_view c.args.task.now) (g.H.Shelf.holds c.args.shelf.now) c.deref.result.now read.file (bytes_in c.in_ok-file.field-0.archive)
+    (c.deref.ensures.value ∙ read.file_is) read.read read.archive c.in-Ok.answer.status c.in-Ok.answer.text.items c.in-Ok.ensures.due

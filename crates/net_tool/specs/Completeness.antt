@@ -1,0 +1,66 @@
+-- When a run tells of each block.
+use Rattle.std.specs.Prelude.{ℕ, ◌≡◌, ◌≤◌, List, [], length, Option, None, Some, unwrap_or}
+use Rattle.outside.specs.Held.{Holds}
+use Rattle.cgd_read.specs.Blocks.{blocks_of}
+use Rattle.command_words.specs.Tasks.{Task, Tell, Add, Duplicates, Migrate, Workload}
+use Rattle.net_archive.specs.Archives.{ArchiveView}
+use Rattle.net_answers.specs.Due.{IsArchiveIn, archive_named, bytes_of, file_named, most_blocks, most_bytes}
+use Rattle.net_answers.specs.declared.status.Status.{Status}
+use Rattle.net_answers.specs.declared.status.Status.TheVariants.{Done, SomeRefused, ReadFault, WriteFault, NoMemory, AddRefused, MigrateRefused}
+use Rattle.net_tool.specs.Run.{IsDue}
+
+-- the bytes of a file, where one is named
+abbrev pub bytes_of_name : (List ℕ → List ℕ) → Option (List ℕ) → Option (List ℕ)
+bytes_of_name of None = None
+bytes_of_name of (Some name) = Some (of name)
+
+-- bytes that are no more than are taken
+abbrev pub AreFitting : Option (List ℕ) → Type 0
+AreFitting None = Unit {0}
+AreFitting (Some bytes) = length bytes ≤ most_bytes
+
+-- the files that a task names are within their limits, and the archive is one
+pub record IsWithin (task : Task) (holds : Holds) : Type 0 where
+  pub of : List ℕ → List ℕ
+  pub told : holds ≡ Some of
+  pub file : AreFitting (bytes_of_name of (file_named task))
+  pub archive : AreFitting (bytes_of_name of (archive_named task))
+  pub blocks : length (blocks_of (bytes_of task (unwrap_or (bytes_of_name of (file_named task)) []))) ≤ most_blocks
+  pub entries : ArchiveView
+  pub is_archive : IsArchiveIn (bytes_of_name of (archive_named task)) entries
+
+-- the words name a task whose files are so
+abbrev pub AreWithin : Option Task → Holds → Type 0
+AreWithin None holds = ⊥
+AreWithin (Some task) holds = IsWithin task holds
+
+-- the nets are added
+abbrev pub IsOfAdding : Option Task → Type 0
+IsOfAdding (Some (Add file archive name)) = Unit {0}
+IsOfAdding _ = ⊥
+
+-- the archive is written in the newest format
+abbrev pub IsOfMigrating : Option Task → Type 0
+IsOfMigrating (Some (Migrate archive)) = Unit {0}
+IsOfMigrating _ = ⊥
+
+-- how a run may end then
+abbrev pub IsComplete : Option Task → Status → Type 0
+IsComplete task Done = Unit {0}
+IsComplete task SomeRefused = Unit {0}
+IsComplete task AddRefused = IsOfAdding task
+IsComplete task MigrateRefused = IsOfMigrating task
+IsComplete task NoMemory = Unit {0}
+IsComplete task ReadFault = Unit {0}
+IsComplete task WriteFault = Unit {0}
+IsComplete task status = ⊥
+
+-- there is room for the text of each due answer
+abbrev pub HasRoom : Option Task → Holds → ℕ → Type 0
+HasRoom task holds sure = (status : Status) (text : List ℕ) → IsDue task holds status text → length text ≤ sure
+
+-- how a run may end where the host does not fail either
+abbrev pub IsToldWhole : Option Task → Status → Type 0
+IsToldWhole task ReadFault = ⊥
+IsToldWhole task WriteFault = ⊥
+IsToldWhole task status = IsComplete task status

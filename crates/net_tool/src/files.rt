@@ -1,0 +1,57 @@
+// The bytes of the files that a task names.
+ghost use Rattle.std.specs.Prelude.{◌≡◌, ◌≤◌, ℕ, IfOk, IsErrOf, option_copied};
+ghost use Rattle.outside.specs.Causes.{Rose};
+ghost use Rattle.net_answers.specs.Bytes.{bytes_in};
+ghost use Rattle.command_words.specs.Views.{task_view};
+ghost use Rattle.net_answers.specs.Due.{archive_named, file_named};
+ghost use Rattle.net_tool.specs.Run.{AreBytesOf, FailedAt, HasManyBytes};
+
+use command_words::Task;
+use outside::{InFault, Shelf, read_whole};
+use std::alloc::Global;
+
+const MAX_BYTES: u64 = 16_777_216;
+
+/// The file that a task reads.
+pub fn file_named<'a>(task: &Task<'a>) -> Option<&'a str>
+    ensures { option_copied result ≡ file_named (task_view task.now) }
+{
+    match *task {
+        Task::Tell { file, .. } | Task::Add { file, .. } => Some(file),
+        Task::Duplicates { .. } | Task::Migrate { .. } | Task::Workload { .. } => None,
+    }
+}
+
+/// The archive that a task reads.
+pub fn archive_named<'a>(task: &Task<'a>) -> Option<&'a str>
+    ensures { option_copied result ≡ archive_named (task_view task.now) }
+{
+    match *task {
+        Task::Tell { archive, .. } | Task::Add { archive, .. } => archive,
+        Task::Duplicates { archive } | Task::Migrate { archive } => Some(archive),
+        Task::Workload { .. } => None,
+    }
+}
+
+/// The bytes of a file, where one is named.
+pub fn read_named<H: Shelf>(
+    alloc: Global,
+    shelf: &mut H,
+    name: Option<&str>,
+) -> Result<Option<Vec<u8>>, InFault>
+    ensures bytes { IfOk result (λ bytes.
+        AreBytesOf (option_copied name.entry) (H.holds shelf.old) (bytes_in bytes)) }
+    ensures fault { IsErrOf result InFault.ReadFault →
+        Rose (H.faults shelf.old) (H.faults shelf.new) }
+    ensures fault_at { IsErrOf result InFault.ReadFault →
+        FailedAt (option_copied name.entry) (H.last shelf.new) }
+    ensures large { (n : ℕ) → IsErrOf result (InFault.TooLarge n) →
+        HasManyBytes (option_copied name.entry) (H.holds shelf.old) }
+    ensures same { H.holds shelf.new ≡ H.holds shelf.old }
+    ensures later { H.faults shelf.old ≤ H.faults shelf.new }
+{
+    match name {
+        Some(name) => Ok(Some(read_whole(alloc, shelf, name, MAX_BYTES)?)),
+        None => Ok(None),
+    }
+}
