@@ -1,6 +1,5 @@
 pub mod LeftParts
 pub mod LeftRows
-pub mod NearRows
 pub mod Reached
 pub mod RecoveredRows
 pub mod Recovering

@@ -9,9 +9,10 @@ ghost use Rattle.elimination.specs.Solutions.{SolveAll, SolveOnly, AreFlat};
 ghost use Rattle.barycentre.specs.Reached.{HasInverses, AreNotWithin};
 ghost use Rattle.barycentre.specs.ResidueRows.{residue_value, residue_vector};
 
+use crate::guesses::guess;
 use crate::left::left_rows;
-use crate::recovery::{near_rows, recovered_rows};
-use crate::testing::{Units, tested};
+use crate::recovery::recovered_rows;
+use crate::testing::{Units, are_normal, tested};
 use elimination::{SolveFault, solve_with};
 use quotient_graph::Graph;
 use residue::Residue;
@@ -64,8 +65,7 @@ fn next_rows<const M: u64, const D: usize>(
     }
 }
 
-/// The normal placement from the solution modulo M alone, if its positions are fractions of small
-/// parts.
+/// The normal placement from the solution modulo M alone, if it is small.
 pub(crate) fn by_one_step<const M: u64, const D: usize>(
     alloc: Global,
     g: &Graph<D>,
@@ -81,8 +81,13 @@ pub(crate) fn by_one_step<const M: u64, const D: usize>(
         (λ o. IfSome o (λ t. IsWithinLimits g.now (placement_of t.d0 t.at.items))) }
 {
     let _ = g.dimension(); // which is D
-    match near_rows(alloc, rows)? {
-        Some(near) => tested(alloc, g, &near),
+    match guess(alloc, rows)? {
+        Some(units) => {
+            if are_normal(g, &units.at, units.d0) {
+                return Ok(Some(units));
+            }
+            Ok(None)
+        }
         None => Ok(None),
     }
 }
