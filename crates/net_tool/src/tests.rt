@@ -1,6 +1,7 @@
 // Runs over files in memory.
 mod archives;
 mod devices;
+mod frames;
 mod identified;
 mod keys;
 mod nets;

@@ -1,0 +1,11 @@
+use Rattle.std.proofs.Common.{List, ◌∷◌, inr, sym, subst}
+use Rattle.std.specs.List.{Contains}
+use Rattle.integers.proofs.lists.Members.{contains_from_in, is_in}
+use Rattle.periodic_net.specs.Classes.{ClassArc}
+use Rattle.net_tool.proofs.tests.frames.frame_of.Goals as goal
+
+pub loop-frame-preserved : goal.loop-frame-preserved
+loop-frame-preserved g c = λ f i.
+    let left = c.next.new.self in
+    let all = c.in-Some.frame ∷ left in
+    c.loop-frame.invariant f (subst (λ (fs : List (List ClassArc)). Contains fs f) (sym c.in-Some.ensures) (contains_from_in all f (inr (is_in left f i))))
