@@ -8,6 +8,7 @@ pub mod Independence
 pub mod Laws
 pub mod LinearRelations
 pub mod OneStaircase
+pub mod Opposites
 pub mod StairBasis
 pub mod StairCoordinates
 pub mod BaseSums

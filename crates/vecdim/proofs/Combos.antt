@@ -1,8 +1,9 @@
 -- Whole combinations of two vectors, up to multiples of m.
 use Rattle.std.proofs.Common.{◌≡◌, ℤ, pos, ◌+ℤ◌, ◌-ℤ◌, ◌*ℤ◌, neg_ℤ, ap, arith}
+use Rattle.std.proofs.lemmas.Int.{ints}
 use Rattle.integers.proofs.numbers.Ring.{ring, linear}
 use Rattle.std.proofs.Common.{◌<ℤ◌, ◌≤ℤ◌}
-use Rattle.integers.specs.Vectors.{Vector, vector}
+use Rattle.integers.specs.Vectors.{Vector}
 use Rattle.vecdim.specs.Steps.{Combo, Exchange, IsBoxed}
 
 -- the first part of a combination of combinations
@@ -79,14 +80,8 @@ pub kept_start : {m : ℤ} {u v : Vector} → IsBoxed m u → IsBoxed m v → po
 kept_start {m} {u} {v} h i p = record { same = exchange_refl m u v; upper = h; lower = i; pivot = p }
 
 -- and after a step
-pub kept_step : {m : ℤ} {u v : Vector} (a b c x y z q r ny nz : ℤ) → Kept m u v (vector a b c) (vector x y z) → pos 0 <ℤ x
-    → pos 0 ≤ℤ r → r <ℤ x → r ≡ a -ℤ q *ℤ x
-    → pos 0 ≤ℤ ny → ny <ℤ m → (k : ℤ) × (ny ≡ b -ℤ q *ℤ y +ℤ m *ℤ k)
-    → pos 0 ≤ℤ nz → nz <ℤ m → (k : ℤ) × (nz ≡ c -ℤ q *ℤ z +ℤ m *ℤ k)
-    → Kept m u v (vector x y z) (vector r ny nz)
-kept_step {m} {u} {v} a b c x y z q r ny nz h p rf rt re yf yt ye zf zt ze = record {
-  same = exchange_trans h.same (exchange_step {m = m} {r = vector a b c} {v = vector x y z} {w = vector r ny nz} q ye.0 ze.0 re ye.1 ze.1);
-  upper = h.lower;
-  lower = record { x_from = rf; x_to = let t = h.lower.x_to in omega (arith, linear); y_from = yf; y_to = yt; z_from = zf; z_to = zt };
-  pivot = p;
-}
+pub kept_step : {m : ℤ} {u v r w t : Vector} → Kept m u v r w → t.x <ℤ w.x → IsBoxed m t → Exchange m r w w t → Kept m u v w t
+kept_step {m} {u} {v} {r} {w} {t} h less box e = record { same = exchange_trans h.same e; upper = h.lower; lower = box; pivot = above (box.x_from) less }
+  where
+    above : {x y : ℤ} → pos 0 ≤ℤ x → x <ℤ y → pos 0 <ℤ y
+    above f l = omega (arith, ints)

@@ -5,8 +5,8 @@ use Rattle.std.proofs.lemmas.Int.{ints}
 use Rattle.std.proofs.Math.Nat.{mul-le-mul_left, le_trans}
 use Rattle.integers.specs.Vectors.{Vector}
 use Rattle.integers.proofs.vectors.Bounds.{bounded_product, bounded_difference, fits_from_bound}
-use Rattle.vecdim.specs.Stairs.{Stairs, IsReducedStair}
-use Rattle.vecdim.specs.Steps.{IsDivided, HasSmallPivots}
+use Rattle.vecdim.specs.Stairs.{Stairs}
+use Rattle.vecdim.specs.Steps.{IsDivided}
 
 -- a product that `less` takes off fits
 pub taken_fits : (b k : ℤ) → unsigned_abs b ≤ 2 ^ 60 → unsigned_abs k ≤ 2 ^ 61 → FitsSigned w128 (b *ℤ k)
@@ -23,17 +23,6 @@ less_fits z b k h i j = fits_from_bound (z -ℤ b *ℤ k) (2 ^ 125 + 2 ^ 121) (o
 -- a number from 0 to below m, and 1 more, is at most m
 one_more : (b m : ℤ) → pos 0 ≤ℤ b → b <ℤ m → 1 + unsigned_abs b ≤ unsigned_abs m
 one_more b m h k = omega (arith, ints)
-
--- a positive number is at least 1 in size
-pub at_least_one : (m : ℤ) → pos 0 <ℤ m → 1 ≤ unsigned_abs m
-at_least_one m h = omega (arith, ints)
-
--- z is at most n times a positive number where it is at most n
-pub first_bound : (z m : ℤ) (n : ℕ) → pos 0 <ℤ m → unsigned_abs z ≤ n → unsigned_abs z ≤ n * unsigned_abs m
-first_bound z m n h k = le_trans k (less (unsigned_abs m) (at_least_one m h))
-  where
-    less : (m : ℕ) → 1 ≤ m → n ≤ n * m
-    less m l = let p : n * 1 ≤ n * m = mul-le-mul_left n l in omega arith
 
 -- z - b·k is at most n times m, for b below m
 pub second_bound : (z b k m : ℤ) (n : ℕ) → pos 0 ≤ℤ b → b <ℤ m → unsigned_abs z ≤ n → unsigned_abs k ≤ n → unsigned_abs (z -ℤ b *ℤ k) ≤ n * unsigned_abs m
@@ -64,59 +53,6 @@ third_bound z c k f l m n hc ic hf jf hz hk hl =
         below : (b m : ℕ) → 1 + b ≤ m → b ≤ m
         below b m l = omega arith
 
--- the numbers of a stair fit in 128 bits
-pub record IsFittingStair (S : Stairs) : Type 0 where
-  pub a : FitsSigned w128 S.a
-  pub b : FitsSigned w128 S.b
-  pub c : FitsSigned w128 S.c
-  pub e : FitsSigned w128 S.e
-  pub f : FitsSigned w128 S.f
-  pub i : FitsSigned w128 S.i
-
--- below a small number
-between : (z m : ℤ) → pos 0 ≤ℤ z → z <ℤ m → m ≤ℤ pos (2 ^ 60) → unsigned_abs z ≤ 2 ^ 60
-between z m h i j = omega (arith, ints)
-
--- a small number
-small : (m : ℤ) → pos 0 <ℤ m → m ≤ℤ pos (2 ^ 60) → unsigned_abs m ≤ 2 ^ 60
-small m h j = omega (arith, ints)
-
--- the numbers of a stair are at most 2^60
-pub record IsSmallStair (S : Stairs) : Type 0 where
-  pub a : unsigned_abs S.a ≤ 2 ^ 60
-  pub b : unsigned_abs S.b ≤ 2 ^ 60
-  pub c : unsigned_abs S.c ≤ 2 ^ 60
-  pub e : unsigned_abs S.e ≤ 2 ^ 60
-  pub f : unsigned_abs S.f ≤ 2 ^ 60
-  pub i : unsigned_abs S.i ≤ 2 ^ 60
-
--- where the pivots are
-pub stair_small : {S : Stairs} → IsReducedStair S → HasSmallPivots S → IsSmallStair S
-stair_small {S} r s = record {
-  a = small S.a r.a s.a;
-  b = between S.b S.e r.b_from r.b_to s.e;
-  c = between S.c S.i r.c_from r.c_to s.i;
-  e = small S.e r.e s.e;
-  f = between S.f S.i r.f_from r.f_to s.i;
-  i = small S.i r.i s.i;
-}
-
--- what is at most 2^60 fits
-short : (z : ℤ) → unsigned_abs z ≤ 2 ^ 60 → FitsSigned w128 z
-short z h = fits_from_bound z (2 ^ 60) (omega arith) h
-
--- so they fit
-pub stair_fits : {S : Stairs} → IsSmallStair S → IsFittingStair S
-stair_fits {S} s = record { a = short S.a s.a; b = short S.b s.b; c = short S.c s.c; e = short S.e s.e; f = short S.f s.f; i = short S.i s.i }
-
--- a rest fits
-pub rest_fits : (r m : ℤ) → pos 0 ≤ℤ r → r <ℤ m → m ≤ℤ pos (2 ^ 60) → FitsSigned w128 r
-rest_fits r m h i j = short r (between r m h i j)
-
--- a quotient of at most 2^62 fits
-pub quotient_fits : (q : ℤ) → unsigned_abs q ≤ 2 ^ 62 → FitsSigned w128 q
-quotient_fits q h = fits_from_bound q (2 ^ 62) (omega arith) h
-
 -- what is above a number that is not negative is positive
 pub above_from : (c m : ℤ) → pos 0 ≤ℤ c → c <ℤ m → pos 0 <ℤ m
 above_from c m h i = omega (arith, ints, h, i)
@@ -126,7 +62,3 @@ pub divided_is : {S : Stairs} {v q r : Vector} → (pos 0 ≤ℤ r.x) × (r.x <�
     → (pos 0 ≤ℤ r.y) × (r.y <ℤ S.e) × (v.y -ℤ S.b *ℤ q.x ≡ r.y +ℤ S.e *ℤ q.y)
     → (pos 0 ≤ℤ r.z) × (r.z <ℤ S.i) × ((v.z -ℤ S.c *ℤ q.x) -ℤ S.f *ℤ q.y ≡ r.z +ℤ S.i *ℤ q.z) → IsDivided S v q r
 divided_is x y z = record { low = (x.0, y.0, z.0); high = (x.1, y.1, z.1); x = x.2; y = y.2; z = z.2 }
-
--- twice a bound
-pub twice : (k n : ℕ) → k ≤ n → k ≤ 2 * n
-twice k n l = omega (arith, l)

@@ -1,5 +1,5 @@
 -- The rows of a staircase are the staircase basis of its members.
-use Rattle.std.proofs.Common.{◌≡◌, ◌≢◌, ℕ, zero, suc, ℤ, pos, negsuc, ◌-ℤ◌, ◌<ℤ◌, ◌≤ℤ◌, ◌<◌, ◌≤◌, List, [], ◌∷◌, refl, sym, ap, ◌∙◌, arith, ◌⊎◌, inl, inr}
+use Rattle.std.proofs.Common.{◌≡◌, ◌≢◌, ℕ, zero, suc, ℤ, pos, negsuc, ◌-ℤ◌, ◌<ℤ◌, ◌≤ℤ◌, ◌<◌, ◌≤◌, List, [], ◌∷◌, refl, sym, ap, subst, ◌∙◌, arith, ◌⊎◌, inl, inr}
 use Rattle.std.proofs.lemmas.Int.{ints}
 use Rattle.std.specs.Prelude.{slice_index_or, take, cond, ◌==◌, ◌^◌, All, Bool, true, false}
 use Rattle.std.proofs.lemmas.List.Elements.{All-cons}
@@ -11,12 +11,13 @@ use Rattle.std.specs.Cmp.Lexicographic.{slice_cmp}
 use Rattle.std.specs.declared.cmp.Ordering.{Ordering}
 use Rattle.std.specs.declared.cmp.Ordering.TheVariants.{Less, Equal, Greater}
 use Rattle.integers.specs.Vectors.{Vector, vector, zero_vector, HasDimension, IsAtMost, IsWithin}
-use Rattle.integers.specs.Staircase.{IsStaircase, IsStair, IsZeroBefore, NotNegativeAfter}
+use Rattle.integers.specs.Staircase.{IsStaircase, IsStair, IsZeroBefore, NotNegativeAfter, Spans}
 use Rattle.integers.proofs.numbers.Ring.{linear}
 use Rattle.vecdim.specs.Stairs.{Stairs, IsReducedStair, HasStairShape, HasFlatEnd, rows_of}
 use Rattle.vecdim.specs.Lattices.{Members}
 use Rattle.vecdim.proofs.Basis.{IsAtMost2, first_least, first_rest, second_least, second_rest, third_least}
 use Rattle.vecdim.proofs.Lattice.{own_rows}
+use Rattle.vecdim.proofs.Spanning.{rows_span}
 
 -- Less is not Greater
 less_not_greater : Less ≢ Greater
@@ -157,7 +158,7 @@ rows_are_basis (suc (suc (suc zero))) S h k s = three_rows S s.reduced
 rows_are_basis (suc (suc (suc (suc d)))) S h k s = absurd (omega arith)
 
 -- what a staircase lends of its list
-pub lent : (d : ℕ) → 2 ≤ d → d ≤ 3 → (S : Stairs)
+lent : (d : ℕ) → 2 ≤ d → d ≤ 3 → (S : Stairs)
     → take d (vector S.a S.b S.c ∷ vector (pos 0) S.e S.f ∷ vector (pos 0) (pos 0) (cond (d == 2) (pos 0) S.i) ∷ []) ≡ rows_of d S
 lent zero h k S = absurd (omega arith)
 lent (suc zero) h k S = absurd (omega arith)
@@ -166,7 +167,7 @@ lent (suc (suc (suc zero))) h k S = refl
 lent (suc (suc (suc (suc d)))) h k S = absurd (omega arith)
 
 -- the rows' parts are at most 2^60
-pub rows_within : (d : ℕ) → 2 ≤ d → d ≤ 3 → {m : ℤ} (S : Stairs) → IsBoundedStair m S → All (IsWithin (2 ^ 60)) (rows_of d S)
+rows_within : (d : ℕ) → 2 ≤ d → d ≤ 3 → {m : ℤ} (S : Stairs) → IsBoundedStair m S → All (IsWithin (2 ^ 60)) (rows_of d S)
 rows_within d h k {m} S kept =
     let P = IsWithin (2 ^ 60) in
     let s = boxed_within kept.m_to (boxed_second kept) in
@@ -177,3 +178,17 @@ rows_within d h k {m} S kept =
     last : (b : Bool) → IsWithin (2 ^ 60) (vector (pos 0) (pos 0) S.i) → All (IsWithin (2 ^ 60)) (cond b [] (vector (pos 0) (pos 0) S.i ∷ []))
     last true t = λ i x l. absurd (omega arith)
     last false t = All-cons (IsWithin (2 ^ 60)) (vector (pos 0) (pos 0) S.i) [] t (λ i x l. absurd (omega arith))
+
+-- what is known of the vectors that a staircase lends
+pub record AreRows (d : ℕ) (S : Stairs) (vs : List Vector) : Type 0 where
+  pub basis : IsStaircase (Members d S) d vs
+  pub small : All (IsWithin (2 ^ 60)) vs
+  pub spans : Spans (Members d S) vs
+
+-- and that they are the rows
+pub lent_rows : (d : ℕ) → 2 ≤ d → d ≤ 3 → {m : ℤ} {S : Stairs} → (d ≡ 2 → HasFlatEnd S) → IsBoundedStair m S → {vs : List Vector}
+    → vs ≡ vector S.a S.b S.c ∷ vector (pos 0) S.e S.f ∷ vector (pos 0) (pos 0) (cond (d == 2) (pos 0) S.i) ∷ [] → AreRows d S (take d vs)
+lent_rows d h k {m} {S} flat kept {vs} e = subst (AreRows d S) (sym (ap (take d) e ∙ lent d h k S)) (record { basis = rows_are_basis d S h k shape; small = rows_within d h k S kept; spans = rows_span d S shape })
+  where
+    shape : HasStairShape d S
+    shape = record { reduced = kept.reduced; flat = flat }

@@ -45,7 +45,7 @@ pub(crate) fn minor(a: i128, b: i128, c: i128, d: i128) -> i128
     requires d { unsigned_abs d ≤ 2 ^ 62 }
     ensures { result ≡ a *ℤ b -ℤ c *ℤ d }
 {
-    a * b - c * d
+    difference(multiple(a, b), multiple(c, d))
 }
 
 // a + b + c.
@@ -62,7 +62,8 @@ pub(crate) fn sum_of_three(a: i128, b: i128, c: i128) -> i128
 pub(crate) fn multiple(a: i128, b: i128) -> i128
     requires a { unsigned_abs a ≤ 2 ^ 62 }
     requires b { unsigned_abs b ≤ 2 ^ 62 }
-    ensures { result ≡ a *ℤ b }
+    ensures value { result ≡ a *ℤ b }
+    ensures within { unsigned_abs result ≤ 2 ^ 124 }
 {
     a * b
 }

@@ -60,14 +60,31 @@ pub(crate) struct Line {
     pub(crate) z: i128,
 }
 
-// Two rows, (a, b, c) and (0, y, z).
+// Two rows.
 #[derive(Clone, Copy)]
 pub(crate) struct Pair {
-    pub(crate) a: i128,
-    pub(crate) b: i128,
-    pub(crate) c: i128,
-    pub(crate) y: i128,
-    pub(crate) z: i128,
+    pub(crate) upper: Line,
+    pub(crate) lower: Line,
+}
+
+// The row `above` less as often `below` as its first part has that of `below`.
+fn rest_of(above: Line, below: Line, m: i128) -> Line
+    requires m { pos 0 <ℤ m }
+    requires m_to { m ≤ℤ pos (2 ^ 60) }
+    requires above { IsBoxed m (vector above.x above.y above.z) }
+    requires below { IsBoxed m (vector below.x below.y below.z) }
+    requires pivot { pos 0 <ℤ below.x }
+    ensures less { result.x <ℤ below.x }
+    ensures rest { IsBoxed m (vector result.x result.y result.z) }
+    ensures same { Exchange m (vector above.x above.y above.z) (vector below.x below.y below.z)
+        (vector below.x below.y below.z) (vector result.x result.y result.z) }
+{
+    let parts = divide(above.x, below.x);
+    Line {
+        x: parts.rest,
+        y: less_times(above.y, parts.quotient, below.y, m),
+        z: less_times(above.z, parts.quotient, below.z, m),
+    }
 }
 
 // Euclid's steps on the first parts: two rows that generate the same, the second with 0 in front.
@@ -77,28 +94,22 @@ pub(crate) fn column(upper: Line, lower: Line, m: i128) -> Pair
     requires upper { IsBoxed m (vector upper.x upper.y upper.z) }
     requires lower { IsBoxed m (vector lower.x lower.y lower.z) }
     requires pivot { pos 0 <ℤ upper.x }
-    ensures upper { IsBoxed m (vector result.a result.b result.c) }
-    ensures lower { IsBoxed m (vector (pos 0) result.y result.z) }
-    ensures pivot { pos 0 <ℤ result.a }
+    ensures upper { IsBoxed m (vector result.upper.x result.upper.y result.upper.z) }
+    ensures lower { IsBoxed m (vector (pos 0) result.lower.y result.lower.z) }
+    ensures pivot { pos 0 <ℤ result.upper.x }
     ensures same { Exchange m (vector upper.x upper.y upper.z) (vector lower.x lower.y lower.z)
-        (vector result.a result.b result.c) (vector (pos 0) result.y result.z) }
+        (vector result.upper.x result.upper.y result.upper.z)
+        (vector (pos 0) result.lower.y result.lower.z) }
 {
-    let mut a = upper.x;
-    let mut b = upper.y;
-    let mut c = upper.z;
-    let mut x = lower.x;
-    let mut y = lower.y;
-    let mut z = lower.z;
-    while x != 0 {
-        let parts = divide(a, x);
-        let next_y = less_times(b, parts.quotient, y, m);
-        let next_z = less_times(c, parts.quotient, z, m);
-        a = x;
-        b = y;
-        c = z;
-        x = parts.rest;
-        y = next_y;
-        z = next_z;
+    let mut above = upper;
+    let mut below = lower;
+    while below.x != 0 {
+        let rest = rest_of(above, below, m);
+        above = below;
+        below = rest;
     }
-    Pair { a, b, c, y, z }
+    Pair {
+        upper: above,
+        lower: below,
+    }
 }

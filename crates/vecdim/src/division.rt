@@ -16,6 +16,7 @@ fn split(z: i128, m: i128) -> Division
     ensures same { z ≡ result.rest +ℤ m *ℤ result.quotient }
     ensures within { (n : ℕ) → unsigned_abs z ≤ n * unsigned_abs m
         → unsigned_abs result.quotient ≤ n }
+    ensures small { unsigned_abs result.quotient ≤ unsigned_abs z }
 {
     let quotient = z.div_euclid(m);
     let rest = z.rem_euclid(m);
@@ -44,6 +45,7 @@ fn split_less(z: i128, b: i128, k: i128, m: i128) -> Division
     ensures same { z -ℤ b *ℤ k ≡ result.rest +ℤ m *ℤ result.quotient }
     ensures within { (n : ℕ) → unsigned_abs z ≤ n → unsigned_abs k ≤ n
         → unsigned_abs result.quotient ≤ n }
+    ensures small { unsigned_abs result.quotient ≤ 2 ^ 61 }
 {
     split(less(z, b, k), m)
 }
@@ -63,6 +65,7 @@ fn split_less_two(z: i128, c: i128, k: i128, f: i128, l: i128, m: i128) -> Divis
     ensures same { (z -ℤ c *ℤ k) -ℤ f *ℤ l ≡ result.rest +ℤ m *ℤ result.quotient }
     ensures within { (n : ℕ) → unsigned_abs z ≤ n → unsigned_abs k ≤ n → unsigned_abs l ≤ n
         → unsigned_abs result.quotient ≤ 2 * n }
+    ensures small { unsigned_abs result.quotient ≤ 2 ^ 62 }
 {
     split(less(less(z, c, k), f, l), m)
 }
@@ -81,6 +84,7 @@ pub(crate) fn divide_by(s: Rows, v: Triple) -> Divided
     requires vector { IsWithin (2 ^ 61) v }
     ensures divided { IsDivided (stairs s.a s.b s.c s.e s.f s.i) v result.quotients result.rests }
     ensures within { (n : ℕ) → IsWithin n v → IsWithin (2 * n) result.quotients }
+    ensures small { IsWithin (2 ^ 60) result.rests }
 {
     let x = split(v.x, s.a);
     let y = split_less(v.y, s.b, x.quotient, s.e);

@@ -41,8 +41,8 @@ pub(crate) fn insert_rows(s: Rows, vx: i128, vy: i128, vz: i128, m: i128) -> Row
             z: 0,
         },
         Line {
-            x: one.y,
-            y: one.z,
+            x: one.lower.y,
+            y: one.lower.z,
             z: 0,
         },
         m,
@@ -50,22 +50,22 @@ pub(crate) fn insert_rows(s: Rows, vx: i128, vy: i128, vz: i128, m: i128) -> Row
     let three = column(
         Line { x: s.i, y: 0, z: 0 },
         Line {
-            x: two.y,
+            x: two.lower.y,
             y: 0,
             z: 0,
         },
         m,
     );
-    let f = modulo(two.b, three.a);
-    let parts = divide(one.b, two.a);
-    let c1 = less_times(one.c, parts.quotient, f, m);
-    let c = modulo(c1, three.a);
+    let f = modulo(two.upper.y, three.upper.x);
+    let parts = divide(one.upper.y, two.upper.x);
+    let c1 = less_times(one.upper.z, parts.quotient, f, m);
+    let c = modulo(c1, three.upper.x);
     Rows {
-        a: one.a,
+        a: one.upper.x,
         b: parts.rest,
         c,
-        e: two.a,
+        e: two.upper.x,
         f,
-        i: three.a,
+        i: three.upper.x,
     }
 }

@@ -4,9 +4,9 @@ ghost use Rattle.integers.specs.Vectors.{vector, parts, minus, combination, HasD
 ghost use Rattle.integers.specs.Staircase.{IsStaircase, Spans, StaircasesAreOne};
 ghost use Rattle.vecdim.specs.Stairs.{stairs, HasStairShape, HasFlatEnd, IsRemainder, IsWhole, rows_of, pivots_of, size_of};
 ghost use Rattle.vecdim.specs.Lattices.{Members, AreMultiples, IsWith};
-ghost use Rattle.vecdim.specs.Steps.{IsBoundedStair};
+ghost use Rattle.vecdim.specs.Steps.{IsBoundedStair, IsDivided};
 
-use crate::division::divide_by;
+use crate::division::{Divided, divide_by};
 use crate::insertion::{Rows, insert_rows};
 use crate::{Triple, Vect};
 use std::marker::Model;
@@ -147,6 +147,17 @@ impl<const D: usize> Staircase<D> {
 }
 
 impl<const D: usize> Staircase<D> {
+    // A vector, divided by the rows.
+    fn divided(&self, v: &Vect<D>) -> Divided
+        ensures stair { HasStairShape D self.now }
+        ensures dimension { HasDimension D v.now }
+        ensures divided { IsDivided self.now v.now result.quotients result.rests }
+        ensures within { (n : ℕ) → IsWithin n v.now → IsWithin (2 * n) result.quotients }
+        ensures small { IsWithin (2 ^ 60) result.rests }
+    {
+        divide_by(self.rows, v.to_triple())
+    }
+
     /// The coordinates of a member: how often it has each row.
     pub fn coordinates(&self, v: &Vect<D>) -> Triple
         requires { Members D self.now v.now }
@@ -154,7 +165,7 @@ impl<const D: usize> Staircase<D> {
         ensures dimension { HasDimension D result }
         ensures within { (n : ℕ) → IsWithin n v.now → IsWithin (2 * n) result }
     {
-        divide_by(self.rows, v.to_triple()).quotients
+        self.divided(v).quotients
     }
 
     /// What is left of a vector when multiples of the rows are taken off.
@@ -162,7 +173,7 @@ impl<const D: usize> Staircase<D> {
         ensures remainder { IsRemainder D self.now result }
         ensures difference { Members D self.now (minus v.now result) }
     {
-        divide_by(self.rows, v.to_triple()).rests.to_vector()
+        self.divided(v).rests.to_vector()
     }
 
     /// The product of the pivots, the number of remainders.

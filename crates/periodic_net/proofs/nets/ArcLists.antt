@@ -1,43 +1,20 @@
 -- No arc of a graph stands twice in its list.
-use Rattle.std.specs.declared.cmp.Ordering.TheVariants.{Greater, Less, Equal}
-use Rattle.std.specs.Ordering.{ordering_reverse, int_cmp, ordering_then}
-use Rattle.std.proofs.Common.{negsuc, neg_ℤ, suc, pos, zero, arith, sym, ℤ, ap, refl, ◌≡◌, ◌⊎◌, ◌==◌, [], ◌∷◌, ◌∙◌, inr, inl, List, subst, ℕ, eq-eqb}
-use Rattle.std.proofs.lemmas.Int.{ints}
-use Rattle.std.specs.Cmp.{int_cmp_is, then_flip}
-use Rattle.std.specs.Cmp.Lexicographic.{slice_cmp}
-use Rattle.std.specs.declared.cmp.Ordering.{Ordering}
+use Rattle.std.specs.declared.cmp.Ordering.TheVariants.{Greater, Less}
+use Rattle.std.specs.Ordering.{ordering_reverse}
+use Rattle.std.proofs.Common.{arith, sym, ap, ◌≡◌, ◌⊎◌, ◌==◌, [], ◌∷◌, ◌∙◌, inr, inl, List, subst, ℕ, eq-eqb}
 use Rattle.std.proofs.Math.IntN.{neg_ℤ-neg_ℤ}
 use Rattle.std.specs.List.{AllByRecursion}
 use Rattle.std.proofs.lemmas.List.Elements.{recursion_from_All}
 use Rattle.std.proofs.lemmas.Bool.{eqb-true}
-use Rattle.integers.specs.Vectors.{Vector, parts, zero_vector, StartsPositive, opposite, vector}
+use Rattle.integers.specs.Vectors.{Vector, StartsPositive, opposite, vector}
 use Rattle.periodic_net.specs.Graph.{IsNormalSpelling, Arc, reverse_of, arc, both_ways, IsEdge, Graph, IsGraph, arcs, arcs_from, IsArc}
 use Rattle.integers.proofs.lists.Members.{contains_from_in, is_in, IsIn, AreApart, apart_from_pairs}
 use Rattle.integers.proofs.lists.Filters.{all_in, filter_apart, in_filter, filter_in}
-
--- the negative is on the other side of 0
-neg_cmp : (x : ℤ) → int_cmp (pos 0) (neg_ℤ x) ≡ ordering_reverse (int_cmp (pos 0) x)
-neg_cmp (pos zero) = refl
-neg_cmp (pos (suc n)) =
-    sym (int_cmp_is (pos 0) (negsuc n) Greater (omega (arith, ints))) ∙ ap ordering_reverse (int_cmp_is (pos 0) (pos (suc n)) Less (omega (arith, ints)))
-neg_cmp (negsuc n) =
-    sym (int_cmp_is (pos 0) (pos (suc n)) Less (omega (arith, ints))) ∙ ap ordering_reverse (int_cmp_is (pos 0) (negsuc n) Greater (omega (arith, ints)))
+use Rattle.integers.proofs.vectors.Opposites.{opposite_cmp}
 
 -- not both a vector and its opposite start positive
 one_way : (s : Vector) → StartsPositive s → StartsPositive (opposite s) → ⊥
-one_way s h k =
-    let x = neg_cmp s.x in
-    let y = neg_cmp s.y in
-    let z = neg_cmp s.z in
-    let a = int_cmp (pos 0) s.x in
-    let b = int_cmp (pos 0) s.y in
-    let c = int_cmp (pos 0) s.z in
-    let e : slice_cmp int_cmp (parts 3 zero_vector) (parts 3 (opposite s)) ≡ ordering_reverse (slice_cmp int_cmp (parts 3 zero_vector) (parts 3 s)) =
-    (λ i. ordering_then (x i) (ordering_then (y i) (ordering_then (z i) Equal)))
-    ∙ ap (λ (o : Ordering). ordering_then (ordering_reverse a) (ordering_then (ordering_reverse b) o)) (then_flip c Equal)
-    ∙ ap (λ (o : Ordering). ordering_then (ordering_reverse a) o) (then_flip b (ordering_then c Equal))
-    ∙ then_flip a (ordering_then b (ordering_then c Equal)) in
-    less_greater (sym k ∙ e ∙ ap ordering_reverse h)
+one_way s h k = less_greater (sym k ∙ opposite_cmp s ∙ ap ordering_reverse h)
   where
     less_greater : Less ≡ Greater → ⊥
     less_greater f = cc

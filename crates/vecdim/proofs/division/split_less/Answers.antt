@@ -1,4 +1,4 @@
-use Rattle.std.proofs.Common.{ℤ, ◌≤◌, ◌*◌, unsigned_abs, FitsSigned, subst, sym}
+use Rattle.std.proofs.Common.{ℤ, ◌≤◌, ◌*◌, ◌^◌, unsigned_abs, FitsSigned, subst, sym}
 use Rattle.std.specs.Int.{w128}
 use Rattle.std.proofs.lemmas.Int.{to_z-of_z}
 use Rattle.vecdim.proofs.Splitting.{second_bound}
@@ -19,3 +19,6 @@ returns-clause-within c =
     w' n
     (subst (λ (t : ℤ). unsigned_abs t ≤ n * unsigned_abs c.args.m) (sym e')
     (second_bound c.args.z c.args.b c.args.k c.args.m n c.requires.b_from c.requires.b_to h k))
+
+pub returns-clause-small : goal.returns-clause-small
+returns-clause-small c = returns-clause-within c (2 ^ 61) c.requires.z c.requires.k

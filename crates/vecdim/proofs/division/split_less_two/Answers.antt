@@ -1,4 +1,4 @@
-use Rattle.std.proofs.Common.{ℤ, ◌≤◌, ◌*◌, ◌-ℤ◌, ◌*ℤ◌, unsigned_abs, FitsSigned, subst, sym, ap, ◌∙◌}
+use Rattle.std.proofs.Common.{ℤ, ◌≤◌, ◌*◌, ◌^◌, ◌-ℤ◌, ◌*ℤ◌, unsigned_abs, FitsSigned, subst, sym, ap, ◌∙◌}
 use Rattle.std.specs.Int.{w128}
 use Rattle.std.proofs.lemmas.Int.{to_z-of_z}
 use Rattle.vecdim.proofs.Splitting.{above_from, third_bound}
@@ -29,3 +29,6 @@ returns-clause-within c =
     w' (2 * n)
     (subst (λ (t : ℤ). unsigned_abs t ≤ 2 * n * unsigned_abs c.args.m) (sym e)
     (third_bound c.args.z c.args.c c.args.k c.args.f c.args.l c.args.m n h.c_from h.c_to h.f_from h.f_to i j k))
+
+pub returns-clause-small : goal.returns-clause-small
+returns-clause-small c = returns-clause-within c (2 ^ 61) c.requires.z c.requires.k c.requires.l

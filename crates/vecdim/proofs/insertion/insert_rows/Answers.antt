@@ -1,21 +1,15 @@
-use Rattle.std.proofs.Common.{FitsSigned}
+use Rattle.std.proofs.Common.{rules, arith, FitsSigned}
 use Rattle.std.specs.Int.{w128}
-use Rattle.std.proofs.lemmas.Int.{to_z-of_z}
+use Rattle.std.proofs.lemmas.Int.{ints, to_z-of_z}
 use Rattle.vecdim.proofs.Dividing.{fits_within, at_most, up_to, boxed_fits, boxed_first, boxed_second, boxed_third}
 use Rattle.vecdim.proofs.Assembling.{assemble}
 use Rattle.vecdim.proofs.insertion.insert_rows.Goals as goal
 
 pub column-one-requires-clause-upper : goal.column-one-requires-clause-upper
-column-one-requires-clause-upper c =
-    let k = c.requires.kept in let b = boxed_first k in let f = boxed_fits k.m_to b in
-    let m = c.ranges.m in let f1 = f.x in let f2 = f.y in let f3 = f.z in
-    simp to_z-of_z b
+column-one-requires-clause-upper c = search (rules, boxed_first)
 
 pub column-two-requires-clause-upper : goal.column-two-requires-clause-upper
-column-two-requires-clause-upper c =
-    let k = c.requires.kept in let b = boxed_second k in let f = boxed_fits k.m_to b in
-    let m = c.ranges.m in let f1 = f.x in let f2 = f.y in
-    simp to_z-of_z b
+column-two-requires-clause-upper c = search (rules, boxed_second)
 
 pub column-three-requires-clause-upper : goal.column-three-requires-clause-upper
 column-three-requires-clause-upper c =
@@ -29,25 +23,14 @@ less_times-c1-requires-clause-b_to c =
     let m = c.ranges.m in
     let u = c.column-three.ensures.upper in
     let v = simp to_z-of_z at u in
-    let fi = fits_within c.column-three.result.a _ k.m_to v.x_from v.x_to in
+    let fi = fits_within c.column-three.result.upper.x _ k.m_to v.x_from v.x_to in
     let t = c.modulo-f.ensures.to in
     let t' = simp to_z-of_z at t in
     let ff : FitsSigned w128 c.modulo-f.result = record { sfits = c.modulo-f.type_inv } in
     simp to_z-of_z (up_to _ _ _ (at_most _ _ t') v.x_to)
 
 pub less_times-c1-requires-clause-q_to : goal.less_times-c1-requires-clause-q_to
-less_times-c1-requires-clause-q_to c =
-    let k = c.requires.kept in
-    let m = c.ranges.m in
-    let u = c.column-one.ensures.upper in
-    let v = simp to_z-of_z at u in
-    let f = boxed_fits k.m_to v in
-    let fb = f.y in
-    let t = c.divide-parts.ensures.to in
-    let t' = simp to_z-of_z at t in
-    let b = up_to _ _ _ t' (at_most _ _ v.y_to) in
-    let fq = fits_within c.divide-parts.result.quotient _ k.m_to c.divide-parts.ensures.from b in
-    simp to_z-of_z b
+less_times-c1-requires-clause-q_to c = omega (arith, ints)
 
 pub returns : goal.returns
 returns c =
@@ -70,10 +53,10 @@ returns c =
     let f1 = boxed_fits k.m_to u1' in let g1 = boxed_fits k.m_to w1' in
     let f2 = boxed_fits k.m_to u2' in let g2 = boxed_fits k.m_to w2' in
     let f3 = boxed_fits k.m_to u3' in
-    let f1x : FitsSigned w128 c.column-one.result.a = f1.x in let f1y : FitsSigned w128 c.column-one.result.b = f1.y in let f1z : FitsSigned w128 c.column-one.result.c = f1.z in
-    let g1y : FitsSigned w128 c.column-one.result.y = g1.y in let g1z : FitsSigned w128 c.column-one.result.z = g1.z in
-    let f2x : FitsSigned w128 c.column-two.result.a = f2.x in let f2y : FitsSigned w128 c.column-two.result.b = f2.y in let g2y : FitsSigned w128 c.column-two.result.y = g2.y in
-    let f3x : FitsSigned w128 c.column-three.result.a = f3.x in
+    let f1x : FitsSigned w128 c.column-one.result.upper.x = f1.x in let f1y : FitsSigned w128 c.column-one.result.upper.y = f1.y in let f1z : FitsSigned w128 c.column-one.result.upper.z = f1.z in
+    let g1y : FitsSigned w128 c.column-one.result.lower.y = g1.y in let g1z : FitsSigned w128 c.column-one.result.lower.z = g1.z in
+    let f2x : FitsSigned w128 c.column-two.result.upper.x = f2.x in let f2y : FitsSigned w128 c.column-two.result.upper.y = f2.y in let g2y : FitsSigned w128 c.column-two.result.lower.y = g2.y in
+    let f3x : FitsSigned w128 c.column-three.result.upper.x = f3.x in
     let vx = c.ranges.vx in let vy = c.ranges.vy in let vz = c.ranges.vz in
     let d = c.divide-parts.ensures in
     let d1 = d.to in let d1' = simp to_z-of_z at d1 in

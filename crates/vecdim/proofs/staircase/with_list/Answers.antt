@@ -1,4 +1,4 @@
-use Rattle.std.proofs.Common.{◌≡◌, [], ◌∷◌, pos, sym, to_z, ◌∙◌}
+use Rattle.std.proofs.Common.{rules, ◌≡◌, [], ◌∷◌, pos, sym, to_z, ◌∙◌}
 use Rattle.std.specs.Prelude.{cond, ◌==◌}
 use Rattle.std.specs.Int.{w128}
 use Rattle.integers.specs.Vectors.{vector}
@@ -9,21 +9,10 @@ use Rattle.vecdim.proofs.staircase.with_list.Goals as goal
 use Rattle.vecdim.proofs.staircase.with_list.Goals.{then-this-eq2, else-this-eq2}
 
 pub invariant_of-result : goal.invariant_of-result
-invariant_of-result g c =
-    let k = c.requires.kept in
-    let f = boxed_fits k.m_to (boxed_first k) in
-    let fa = f.x in
-    let fb = f.y in
-    let fc = f.z in
-    simp to_z-of_z (first_small k, λ e. (c.requires.flat e).c)
+invariant_of-result g c = let w = first_small c.requires.kept in (search rules, λ e. search rules)
 
 pub invariant_of-result-2 : goal.invariant_of-result-2
-invariant_of-result-2 g c =
-    let k = c.requires.kept in
-    let f = boxed_fits k.m_to (boxed_second k) in
-    let fe = f.x in
-    let ff = f.y in
-    simp to_z-of_z (second_small k, λ e. (c.requires.flat e).f)
+invariant_of-result-2 g c = let w = second_small c.requires.kept in (search rules, λ e. search rules)
 
 pub invariant_of-result-4 : goal.invariant_of-result-4
 invariant_of-result-4 g c =

@@ -1,7 +1,7 @@
 use Rattle.std.proofs.Common.{arith}
 use Rattle.residue.proofs.Remainders.{start, next}
 use Rattle.residue.proofs.LastRemainder.{factor_small}
-use Rattle.residue.proofs.reconstruction.short_remainder.Goals as goal
+use Rattle.residue.proofs.euclid.remainders_within.Goals as goal
 
 pub loop-rest-init : goal.loop-rest-init
 loop-rest-init c = (start c.args.x c.args.m c.requires.below, omega arith, c.requires.bound)

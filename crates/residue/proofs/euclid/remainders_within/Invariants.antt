@@ -1,6 +1,6 @@
 use Rattle.std.proofs.Common.{◌<◌, ◌≤◌}
 use Rattle.residue.specs.Remainders.{AreRemainders}
-use Rattle.residue.proofs.reconstruction.short_remainder.Given as goal
+use Rattle.residue.proofs.euclid.remainders_within.Given as goal
 
 abbrev pub invariant-loop-rest : goal.invariant-loop-rest
 invariant-loop-rest l = AreRemainders l.x l.m l.above l.rest l.above_factor l.factor l.negative × (l.above_factor ≤ l.m) × (l.bound < l.above)
