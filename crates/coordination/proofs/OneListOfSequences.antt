@@ -4,9 +4,9 @@ use Rattle.std.proofs.lemmas.List.{ext_get_or}
 use Rattle.integers.specs.Vectors.{zero_vector}
 use Rattle.periodic_net.specs.Classes.{IsClassGraph}
 use Rattle.periodic_net.specs.Graph.{Graph, IsGraph, vertex}
-use Rattle.periodic_net.proofs.CallerLemmas.{origin_vertex}
+use Rattle.periodic_net.proofs.CallerLemmas.{one_placement, origin_vertex}
 use Rattle.coordination.specs.Sequences.{AreShellsOf, AreSequencesOf}
-use Rattle.coordination.proofs.OneNumbering.{one_placement, one_numbering, no_more_classes, class_met}
+use Rattle.coordination.proofs.OneNumbering.{one_numbering, no_more_classes, class_met}
 use Rattle.coordination.proofs.OneSequence.{one_sequence}
 
 module _ (G : Graph) (g : IsGraph G) (xs ys : List (List ℕ)) (a : AreSequencesOf G xs) (b : AreSequencesOf G ys) where

@@ -1,25 +1,8 @@
--- A connected net has one normal placement, and its classes one numbering.
-use Rattle.std.proofs.Common.{◌≡◌, ◌⊎◌, inl, inr, ℕ, zero, suc, ◌+◌, ◌-◌, ◌<◌, ◌≤◌, get_or, sym, subst, ap, ◌∙◌, arith}
-use Rattle.std.proofs.lemmas.List.{ext_get_or}
-use Rattle.integers.specs.Vectors.{zero_vector}
+-- The classes of a placed net have one numbering.
+use Rattle.std.proofs.Common.{◌≡◌, ◌⊎◌, inl, inr, ℕ, zero, suc, ◌+◌, ◌<◌, ◌≤◌, sym, subst, ◌∙◌, arith}
 use Rattle.periodic_net.specs.Classes.{ClassGraph, IsClassNumbering, IsClassGraph}
-use Rattle.periodic_net.specs.Graph.{Graph, IsGraph, IsConnected, IsQuotientVertex}
-use Rattle.periodic_net.specs.Placement.{Placement, base, IsNormalPlacement}
-use Rattle.periodic_net.proofs.CallerLemmas.{normal_placement_is_one}
-
--- two normal placements of a connected net are one
-pub one_placement : (G : Graph) → IsGraph G → IsConnected G → (p q : Placement) → IsNormalPlacement G p → IsNormalPlacement G q → p ≡ q
-one_placement G g c p q n m = λ i. record { denominator = (same.0) i; at = at i }
-  where
-    same : (p.denominator ≡ q.denominator) × ((u : ℕ) → IsQuotientVertex G u → base p u ≡ base q u)
-    same = normal_placement_is_one G g c p q n m
-
-    place : (r : Placement) (k : ℕ) → base r (k + 1) ≡ get_or r.at k zero_vector
-    place r k = ap (λ (j : ℕ). get_or r.at j zero_vector) (let e : k + 1 - 1 ≡ k = omega arith in e)
-
-    at : p.at ≡ q.at
-    at = ext_get_or zero_vector p.at q.at (n.barycentric.count ∙ sym m.barycentric.count)
-        (λ k l. sym (place p k) ∙ same.1 (k + 1) (omega arith, let e = n.barycentric.count in omega (arith, e, l)) ∙ place q k)
+use Rattle.periodic_net.specs.Graph.{Graph, IsQuotientVertex}
+use Rattle.periodic_net.specs.Placement.{Placement}
 
 module _ (G : Graph) (p : Placement) where
   -- where two numberings agree before u, the one is not below the other at u

@@ -7,5 +7,6 @@ pub mod Matched
 pub mod Members
 pub mod Permutations
 pub mod Pieces
+pub mod Rising
 pub mod Sums
 pub mod Tables

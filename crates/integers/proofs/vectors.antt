@@ -9,6 +9,7 @@ pub mod Laws
 pub mod LinearRelations
 pub mod OneStaircase
 pub mod Opposites
+pub mod Parts
 pub mod StairBasis
 pub mod StairCoordinates
 pub mod BaseSums

@@ -6,7 +6,6 @@ pub mod FirstPlaces
 pub mod GivenEdges
 pub mod MadeCells
 pub mod MadePrimitive
-pub mod OnePlacement
 pub mod Orders
 pub mod RisingSums
 pub mod TranslationStairs

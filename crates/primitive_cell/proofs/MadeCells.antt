@@ -7,13 +7,13 @@ use Rattle.periodic_net.specs.Correspondence.{IsClass}
 use Rattle.periodic_net.specs.Graph.{Graph, IsGraph, IsConnected, IsQuotientVertex}
 use Rattle.periodic_net.specs.Placement.{Placement, IsNormalPlacement, IsStablePlacement, HasNoCollision}
 use Rattle.periodic_net.specs.Limits.{IsSmall}
+use Rattle.periodic_net.proofs.CallerLemmas.{one_placement}
 use Rattle.key_theory.specs.Primitive.{IsLeastMember}
 use Rattle.quotient_graph.specs.NetClasses.{NetClasses, AreClasses, class_at}
 use Rattle.quotient_graph.specs.PlacedNets.{PlacedNet}
 use Rattle.vecdim.specs.Stairs.{Stairs}
 use Rattle.primitive_cell.specs.PrimitiveCells.{IsTranslationLattice, IsPrimitiveCell}
 use Rattle.primitive_cell.specs.Places.{number_at, IsPlace, AreInOrder, AreFirstPlaces}
-use Rattle.primitive_cell.proofs.OnePlacement.{one_placement}
 
 -- the classes of a net, by its placement
 pub record AreClassesAt (N : PlacedNet) (c : NetClasses) : Type 0 where

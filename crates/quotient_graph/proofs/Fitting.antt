@@ -1,8 +1,7 @@
 -- What fits 128 bits: to + d·s - from, for the parts of vectors, a denominator and a shift within the limits.
-use Rattle.std.proofs.Common.{w32, ℕ, ◌≡◌, ◌+◌, ◌*◌, ◌≤◌, ◌^◌, ℤ, pos, ◌+ℤ◌, ◌-ℤ◌, ◌*ℤ◌, arith}
+use Rattle.std.proofs.Common.{ℕ, ◌≡◌, ◌+◌, ◌*◌, ◌≤◌, ◌^◌, ℤ, pos, ◌+ℤ◌, ◌-ℤ◌, ◌*ℤ◌, arith}
 use Rattle.std.specs.Prelude.{unsigned_abs, FitsSigned}
 use Rattle.std.specs.Int.{w128}
-use Rattle.std.proofs.lemmas.Int.{fits_signed_from_abs}
 use Rattle.periodic_net.specs.Limits.{most_units, most_shift}
 use Rattle.integers.specs.Vectors.{Vector, IsWithin}
 use Rattle.integers.proofs.numbers.Ring.{ring, linear}
@@ -26,14 +25,6 @@ module _ (from to d s : ℤ) (f : unsigned_abs from ≤ 2 ^ 61) (t : unsigned_ab
 
   pub difference_fits : FitsSigned w128 ((to +ℤ d *ℤ s) -ℤ from)
   difference_fits = fits_from_bound ((to +ℤ d *ℤ s) -ℤ from) (2 ^ 61 + most_units * most_shift + 2 ^ 61) (omega arith) (bounded_difference (to +ℤ d *ℤ s) from (2 ^ 61 + most_units * most_shift) (2 ^ 61) sum_small f)
-
--- a position fits 128 bits
-pub wide_fits : (z : ℤ) → unsigned_abs z ≤ 2 ^ 61 → FitsSigned w128 z
-wide_fits z h = fits_from_bound z (2 ^ 61) (omega arith) h
-
--- a shift fits 32 bits
-pub short_fits : (z : ℤ) → unsigned_abs z ≤ most_shift → FitsSigned w32 z
-short_fits z h = fits_signed_from_abs w32 z (omega (arith, h))
 
 -- 0 + d·0 - 0
 pub flat_part : (from to d s : ℤ) → from ≡ pos 0 → to ≡ pos 0 → s ≡ pos 0 → (to +ℤ d *ℤ s) -ℤ from ≡ pos 0

@@ -1,5 +1,5 @@
 -- The sum along three vectors, and along those of one base after another.
-use Rattle.std.proofs.Common.{ℤ, ◌≡◌, ◌+ℤ◌, ◌-ℤ◌, ◌*ℤ◌, ◌∙◌, pos, arith, sym, ap}
+use Rattle.std.proofs.Common.{ℤ, ◌≡◌, ◌+ℤ◌, ◌-ℤ◌, ◌*ℤ◌, ◌∙◌, pos, arith, sym}
 use Rattle.std.proofs.lemmas.Int.{ints}
 use Rattle.integers.specs.Bases.{Base, base_sum}
 use Rattle.integers.specs.Vectors.{Vector, times, plus, zero_vector, minus, vector}

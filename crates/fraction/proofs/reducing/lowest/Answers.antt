@@ -1,4 +1,5 @@
-use Rattle.fraction.proofs.Lowest.{lowest, lowest_whole, divisor_positive}
+use Rattle.integers.proofs.numbers.Cofactors.{divisor_positive}
+use Rattle.fraction.proofs.Lowest.{lowest, lowest_whole}
 use Rattle.fraction.proofs.reducing.lowest.Goals as goal
 
 pub returns-then-den-eq1 : goal.returns-then-den-eq1

@@ -1,4 +1,5 @@
-use Rattle.fraction.proofs.Lowest.{lowest, divisor_positive}
+use Rattle.integers.proofs.numbers.Cofactors.{divisor_positive}
+use Rattle.fraction.proofs.Lowest.{lowest}
 use Rattle.fraction.proofs.reducing.short_lowest.Goals as goal
 
 pub nonzero_div-result : goal.nonzero_div-result
