@@ -4,6 +4,7 @@ pub mod CallerLemmas
 pub mod Counting
 pub mod Existence
 pub mod Finding
+pub mod Growing
 pub mod Layers
 pub mod Neighbours
 pub mod NewNeighbours
@@ -11,8 +12,10 @@ pub mod OneListOfSequences
 pub mod OneNumbering
 pub mod OneSequence
 pub mod Places
-pub mod PointShells
 pub mod Seen
+pub mod StepShells
 pub mod Shown
 pub mod Sizes
+pub mod Starts
 pub mod Stepping
+pub mod SteppingPoints

@@ -1,4 +1,10 @@
 pub mod Sequences
 pub mod Laws
+pub mod Expanding
 pub mod Points
 pub mod Found
+pub mod Extents
+pub mod Boxes
+pub mod Marks
+pub mod BoxSearches
+pub mod Cells
