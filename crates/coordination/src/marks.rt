@@ -1,5 +1,5 @@
 // Vertices of a box that were found, by marks.
-ghost use Rattle.std.specs.Prelude.{◌≡◌, ◌<◌, [], length, OnOk, All};
+ghost use Rattle.std.specs.Prelude.{◌≡◌, ◌^◌, ◌<◌, ◌≤◌, [], length, OnOk, All};
 ghost use Rattle.coordination.specs.Marks.{all_marks, all_spots, spots_along, marks_with, spots_with, AreMarked, IsUnmarked, IsLandingWithin};
 
 use crate::NoMemory;
@@ -26,7 +26,8 @@ pub fn follow(
     from: Spot,
     star: &[Step],
 ) -> Result<(), NoMemory>
-    requires { All (IsLandingWithin (length marks.old) from) star.now }
+    requires few { length marks.old ≤ 2 ^ 32 }
+    requires landing { All (IsLandingWithin (length marks.old) from) star.now }
     ensures marks { OnOk result (marks.new ≡ all_marks marks.old (spots_along from star.now)) }
     ensures found { OnOk result (found.new.items ≡ all_spots marks.old found.old.items (spots_along from star.now)) }
 {
