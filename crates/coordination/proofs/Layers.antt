@@ -8,7 +8,7 @@ use Rattle.coordination.proofs.StepShells.{Leads, IsShell, AreShell, AreSomeOf, 
 
 module _ {X : Type 0} (Step : X → X → Type 0) where
   -- one step more
-  and_on : (k : ℕ) (s q p : X) → Leads Step k s q → Step q p → Leads Step (suc k) s p
+  pub and_on : (k : ℕ) (s q p : X) → Leads Step k s q → Step q p → Leads Step (suc k) s p
   and_on zero s q p l t = (p, subst (λ (r : X). Step r p) (sym l) t, refl)
   and_on (suc k) s q p l t = (l.0, l.1, and_on k l.0 q p l.2 t)
 

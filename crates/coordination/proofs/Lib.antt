@@ -1,5 +1,6 @@
 pub mod AllClasses
 pub mod Apart
+pub mod BoxCounting
 pub mod BoxPlaces
 pub mod BoxSteps
 pub mod BoxTurns
@@ -25,3 +26,4 @@ pub mod Sizes
 pub mod Starts
 pub mod Stepping
 pub mod SteppingPoints
+pub mod VertexShells
