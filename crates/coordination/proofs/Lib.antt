@@ -1,5 +1,6 @@
 pub mod AllClasses
 pub mod Apart
+pub mod BoxBounds
 pub mod BoxCounting
 pub mod BoxPlaces
 pub mod BoxSteps
@@ -12,6 +13,7 @@ pub mod Finding
 pub mod Growing
 pub mod Layers
 pub mod Neighbours
+pub mod LongestWalks
 pub mod MarkedVertices
 pub mod Marking
 pub mod NewNeighbours

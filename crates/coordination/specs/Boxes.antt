@@ -1,5 +1,6 @@
 -- Boxes of the net of a graph: the vertices around cell 0, with a number each.
 use Rattle.std.specs.Prelude.{◌≡◌, ℕ, ◌+◌, ◌-◌, ◌*◌, ◌≤◌, ℤ, pos, ◌+ℤ◌, ◌-ℤ◌, ◌*ℤ◌, unsigned_abs, List, [], ◌∷◌, ◌++◌, map, filter, ◌==◌, length, slice_index_or, Bool, if◌then◌else◌}
+use Rattle.integers.specs.Vectors.{Vector}
 use Rattle.periodic_net.specs.Graph.{Graph, IsGraph, IsQuotientVertex, Arc, both_ways, Vertex}
 use Rattle.periodic_net.specs.Limits.{most_vertices}
 use Rattle.coordination.specs.Extents.{IsCellWithin, IsExtent, IsNarrow}
@@ -40,9 +41,13 @@ spot_in n r x = record { over = x.over; at = place_in n r x }
 abbrev pub origin_of : ℕ → Extent → ℕ
 origin_of n r = n * (r.x + side r.x * (r.y + side r.y * r.z))
 
+-- by how many cells it grows along a shift
+abbrev pub cells_of : Extent → Vector → ℤ
+cells_of r s = s.x +ℤ pos (side r.x) *ℤ (s.y +ℤ pos (side r.y) *ℤ s.z)
+
 -- by how much the number grows along a
 abbrev pub growth_of : ℕ → Extent → Arc → ℤ
-growth_of n r a = (pos a.to -ℤ pos a.from) +ℤ pos n *ℤ (a.shift.x +ℤ pos (side r.x) *ℤ (a.shift.y +ℤ pos (side r.y) *ℤ a.shift.z))
+growth_of n r a = (pos a.to -ℤ pos a.from) +ℤ pos n *ℤ cells_of r a.shift
 
 -- the step along a
 abbrev pub step_of : ℕ → Extent → Arc → Step

@@ -1,8 +1,8 @@
 // Boxes of a net: the vertices around a start, each with a number.
-ghost use Rattle.std.specs.Prelude.{◌≡◌, ◌+◌, ◌*◌, ◌^◌, ◌++◌, ◌∷◌, ◌<◌, ◌≤◌, [], pos, ◌+ℤ◌, ◌*ℤ◌, unsigned_abs, length, slice_get, Some, OnOk, IfOk, IfSome};
+ghost use Rattle.std.specs.Prelude.{◌≡◌, ◌+◌, ◌*◌, ◌^◌, ◌++◌, ◌∷◌, ◌<◌, ◌≤◌, [], pos, ◌+ℤ◌, ◌-ℤ◌, ◌*ℤ◌, unsigned_abs, length, slice_get, Some, OnOk, IfOk, IfSome};
 ghost use Rattle.periodic_net.specs.Graph.{IsGraph};
 ghost use Rattle.periodic_net.specs.Limits.{most_vertices};
-ghost use Rattle.coordination.specs.Boxes.{AreStars, IsBoxOf, growth_of, origin_of, side, size_of, star_with, steps_from};
+ghost use Rattle.coordination.specs.Boxes.{AreStars, IsBoxOf, cells_of, growth_of, origin_of, side, size_of, star_with, steps_from};
 ghost use Rattle.coordination.specs.Extents.{AreShiftsWithin, IsCellWithin, IsNarrow};
 
 use crate::NoMemory;
@@ -11,6 +11,7 @@ use crate::spot::Step;
 use primitive_cell::{PrimEdge, Primitive};
 use std::alloc::Global;
 use std::marker::Model;
+use vecdim::Triple;
 
 /// So many vertices a box has at most.
 pub const MOST_MARKS: u64 = 4_194_304;
@@ -86,6 +87,37 @@ fn side_of(n: u32) -> u32
     2 * n + 1
 }
 
+// A part of a shift within an extent.
+fn small_part(part: i128) -> i64
+    requires { unsigned_abs part ≤ WIDEST }
+    ensures value { result ≡ part }
+    ensures bound { unsigned_abs result ≤ WIDEST }
+{
+    part as i64
+}
+
+// to - from.
+fn difference(to: u32, from: u32) -> i64
+    requires to { to ≤ most_vertices }
+    requires from { from ≤ most_vertices }
+    ensures value { result ≡ pos to -ℤ pos from }
+    ensures bound { unsigned_abs result ≤ most_vertices }
+{
+    i64::from(to) - i64::from(from)
+}
+
+// By how much the number grows along a shift, in cells.
+fn cells_along(extent: Extent, shift: Triple) -> i64
+    requires narrow { IsNarrow WIDEST extent }
+    requires within { IsCellWithin extent shift }
+    ensures value { result ≡ cells_of extent shift }
+    ensures bound { unsigned_abs result ≤ 2 ^ 42 }
+{
+    let z = small_part(shift.z);
+    let rows = weighed(small_part(shift.y), side_of(extent.y), z);
+    weighed(small_part(shift.x), side_of(extent.x), rows)
+}
+
 // By how much the number grows along an edge.
 fn growth<const D: usize>(count: u32, extent: Extent, edge: &PrimEdge<D>) -> i64
     requires count { count ≤ most_vertices }
@@ -96,10 +128,8 @@ fn growth<const D: usize>(count: u32, extent: Extent, edge: &PrimEdge<D>) -> i64
     ensures value { result ≡ growth_of count extent edge.now }
     ensures bound { unsigned_abs result ≤ 2 ^ 52 }
 {
-    let shift = edge.shift.to_triple();
-    let rows = weighed(shift.y as i64, side_of(extent.y), shift.z as i64);
-    let cells = weighed(shift.x as i64, side_of(extent.x), rows);
-    weighed(i64::from(edge.v) - i64::from(edge.u), count, cells)
+    let cells = cells_along(extent, edge.shift.to_triple());
+    weighed(difference(edge.v, edge.u), count, cells)
 }
 
 // Puts a step last, if it starts here.
