@@ -25,6 +25,7 @@ pub mod Seen
 pub mod StepShells
 pub mod Shown
 pub mod Sizes
+pub mod StarSteps
 pub mod Starts
 pub mod Stepping
 pub mod SteppingPoints
