@@ -23,6 +23,7 @@ pub mod OneSequence
 pub mod Places
 pub mod Seen
 pub mod StepShells
+pub mod ShortSteps
 pub mod Shown
 pub mod Sizes
 pub mod StarSteps
