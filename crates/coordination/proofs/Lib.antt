@@ -2,6 +2,7 @@ pub mod AllClasses
 pub mod Apart
 pub mod BoxBounds
 pub mod BoxCounting
+pub mod BoxLists
 pub mod BoxPlaces
 pub mod BoxSteps
 pub mod BoxTurns

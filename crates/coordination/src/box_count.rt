@@ -2,6 +2,7 @@
 ghost use Rattle.std.specs.Prelude.{◌≡◌, ◌≤◌, [], length, IfOk, OnOk, IfSome};
 ghost use Rattle.periodic_net.specs.Graph.{IsGraph};
 ghost use Rattle.periodic_net.specs.Limits.{most_vertices};
+ghost use Rattle.coordination.specs.Boxes.{IsBoxOf};
 ghost use Rattle.coordination.specs.BoxSearches.{AreListsOf, AreShellsInBox, IsStart};
 ghost use Rattle.coordination.specs.Marks.{AreMarked, IsUnmarked};
 
@@ -51,6 +52,28 @@ fn shells_in(
     Ok(sizes)
 }
 
+// The sizes of the shells of each vertex in cell 0, counted in a box with these marks.
+fn lists_in<const D: usize>(
+    alloc: Global,
+    cell: &Primitive<D>,
+    net_box: &NetBox,
+    marks: &mut [bool],
+) -> Result<Sequences, NoMemory>
+    requires net_box { IsBoxOf cell.now.graph net_box.now }
+    requires size { length marks.old ≡ net_box.now.size }
+    requires unmarked { IsUnmarked marks.old }
+    ensures { IfOk result (AreListsOf cell.now.graph) }
+{
+    let mut found = Vec::new(alloc);
+    let mut lists = Sequences::new(alloc);
+    for before in 0..cell.vertices {
+        let sizes = shells_in(alloc, net_box, marks, &mut found, before + 1)?;
+        lists.push(sizes)?;
+        unmark(marks, &mut found);
+    }
+    Ok(lists)
+}
+
 /// The sizes of the shells of each vertex in cell 0, if the box of the net is not too large.
 pub fn box_sequences<const D: usize>(
     alloc: Global,
@@ -64,12 +87,5 @@ pub fn box_sequences<const D: usize>(
         return Ok(None);
     };
     let mut marks = vec![in alloc; false; net_box.size]?;
-    let mut found = Vec::new(alloc);
-    let mut lists = Sequences::new(alloc);
-    for before in 0..cell.vertices {
-        let sizes = shells_in(alloc, &net_box, &mut marks, &mut found, before + 1)?;
-        lists.push(sizes)?;
-        unmark(&mut marks, &mut found);
-    }
-    Ok(Some(lists))
+    Ok(Some(lists_in(alloc, cell, &net_box, &mut marks)?))
 }
