@@ -7,6 +7,7 @@ pub mod BoxPlaces
 pub mod BoxSteps
 pub mod BoxTurns
 pub mod CallerLemmas
+pub mod CellSequences
 pub mod Counting
 pub mod Ends
 pub mod Existence
@@ -17,6 +18,7 @@ pub mod Neighbours
 pub mod LongestWalks
 pub mod MarkedVertices
 pub mod Marking
+pub mod Matchings
 pub mod NewNeighbours
 pub mod OneListOfSequences
 pub mod OneNumbering

@@ -20,7 +20,7 @@ use Rattle.coordination.proofs.Starts.{start_at}
 
 module _ (G : Graph) (g : IsGraph G) where
   -- walks lead to vertices
-  walk_inside : (steps : List Vertex) (x y : Vertex) → IsVertex G x → IsWalk G x steps y → IsVertex G y
+  pub walk_inside : (steps : List Vertex) (x y : Vertex) → IsVertex G x → IsWalk G x steps y → IsVertex G y
   walk_inside [] x y i k = subst (IsVertex G) k i
   walk_inside (v ∷ vs) x y i k = walk_inside vs v y (joined_inside G g x v i k.0) k.1
 

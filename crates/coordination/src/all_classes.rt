@@ -37,6 +37,7 @@ pub fn sequences<const D: usize>(
     ensures sequences { IfOk result (AreSequencesOf classes.now.graph) }
     ensures few { IfOk result (λ lists. length lists ≤ most_vertices) }
 {
+    let _ = classes.net().count();
     match box_sequences(alloc, cell)? {
         Some(lists) => Ok(lists),
         None => class_sequences(alloc, classes),

@@ -1,4 +1,3 @@
-use Rattle.coordination.proofs.StarSteps as scratch5
 use Rattle.coordination.proofs.NewNeighbours.{next_is_new, new_is_next}
 use Rattle.coordination.proofs.laws.two_shells_suffice.Goals as goal
 
