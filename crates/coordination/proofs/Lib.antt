@@ -11,6 +11,7 @@ pub mod CellSequences
 pub mod Counting
 pub mod Ends
 pub mod Existence
+pub mod FarWalks
 pub mod Finding
 pub mod Growing
 pub mod Layers

@@ -4,6 +4,7 @@ pub mod Expanding
 pub mod Points
 pub mod Found
 pub mod Extents
+pub mod Far
 pub mod Boxes
 pub mod Marks
 pub mod BoxSearches

@@ -6,6 +6,7 @@ mod box_count;
 mod box_search;
 mod count;
 mod extent;
+mod far;
 mod laws;
 mod list;
 mod marks;
