@@ -3,11 +3,13 @@ use Rattle.std.proofs.Common.{◌≡◌, ◌⊎◌, inl, inr, ℕ, zero, suc, �
 use Rattle.std.specs.Prelude.{unsigned_abs}
 use Rattle.std.proofs.lemmas.Int.{ints}
 use Rattle.std.proofs.lemmas.List.{get_or_default}
-use Rattle.integers.specs.Vectors.{Vector, minus}
+use Rattle.integers.specs.Vectors.{Vector, zero_vector, minus}
 use Rattle.integers.proofs.lists.Members.{IsIn, is_in, contains_from_in}
-use Rattle.periodic_net.specs.Graph.{Graph, IsGraph, IsQuotientVertex, Arc, arc, arcs, IsArc, reverse_of, Vertex, AreJoined, IsWalk}
+use Rattle.periodic_net.specs.Graph.{Graph, IsGraph, IsQuotientVertex, Arc, arc, arcs, IsArc, reverse_of, Vertex, vertex, AreJoined, IsWalk}
 use Rattle.periodic_net.specs.Shells.{StepsLead}
 use Rattle.periodic_net.proofs.CallerLemmas.{arc_inside, either_way, joined_turned}
+use Rattle.coordination.specs.Extents.{IsExtent}
+use Rattle.coordination.specs.declared.extent.Extent.{Extent}
 use Rattle.coordination.specs.Far.{part_of, far_of, AreAtMost, AreBetween, AreNoLess, IsRaised, AreFarther, AreFarAfter, IsFarthest}
 use Rattle.coordination.specs.declared.extent.TheConstants.{LONGEST}
 use Rattle.coordination.specs.declared.far.Axis.{Axis}
@@ -167,3 +169,12 @@ farthest_of P g axis far m h a k w x l i s =
   where
     both : (s t : ℤ) → (s -ℤ t) ≤ℤ pos m → (t -ℤ s) ≤ℤ pos m → unsigned_abs (s -ℤ t) ≤ m
     both s t p q = omega (arith, ints, p, q)
+
+-- the bounds along the axes make an extent
+pub farthest_extent : (P : Graph) (r : Extent) → IsFarthest P X r.x → IsFarthest P Y r.y → IsFarthest P Z r.z → IsExtent P r
+farthest_extent P r x y z c k v i l s =
+    let w = vertex c zero_vector in
+    record { x = part v.cell.x r.x (x k w v l i s); y = part v.cell.y r.y (y k w v l i s); z = part v.cell.z r.z (z k w v l i s) }
+  where
+    part : (s : ℤ) (m : ℕ) → unsigned_abs (s -ℤ pos 0) ≤ m → unsigned_abs s ≤ m
+    part s m h = omega (arith, ints, h)

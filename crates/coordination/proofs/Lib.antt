@@ -16,7 +16,6 @@ pub mod Finding
 pub mod Growing
 pub mod Layers
 pub mod Neighbours
-pub mod LongestWalks
 pub mod MarkedVertices
 pub mod Marking
 pub mod Matchings

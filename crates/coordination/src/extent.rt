@@ -1,9 +1,8 @@
-// How far the shells of a start reach.
+// How far vertices lie from a start.
 ghost use Rattle.std.specs.Prelude.{◌≤◌, IfSome};
-ghost use Rattle.coordination.specs.Extents.{AreShiftsWithin, IsCellWithin, IsExtent, IsNarrow, IsWiderBy, IsWithinExtent};
+ghost use Rattle.coordination.specs.Extents.{AreShiftsWithin, IsCellWithin, IsNarrow, IsWiderBy, IsWithinExtent};
 
-use crate::count::MOST_SHELLS;
-use primitive_cell::{PrimEdge, Primitive};
+use primitive_cell::PrimEdge;
 use vecdim::Vect;
 
 /// How far vertices of the net lie from a start, in cells along each axis.
@@ -47,8 +46,8 @@ impl Extent {
     }
 }
 
-// An extent that the shifts of these edges are within.
-fn greatest_shift<const D: usize>(edges: &[PrimEdge<D>]) -> Option<Extent>
+/// An extent that the shifts of these edges are within, unless one is too long.
+pub fn greatest_shift<const D: usize>(edges: &[PrimEdge<D>]) -> Option<Extent>
     ensures shifts { IfSome result (AreShiftsWithin edges.now) }
     ensures narrow { IfSome result (IsNarrow LONGEST) }
 {
@@ -57,17 +56,4 @@ fn greatest_shift<const D: usize>(edges: &[PrimEdge<D>]) -> Option<Extent>
         greatest = greatest.with_shift(&edge.shift)?;
     }
     Some(greatest)
-}
-
-/// An extent of the shells of all vertices in cell 0, if it is not too wide.
-pub fn extent_of<const D: usize>(cell: &Primitive<D>) -> Option<Extent>
-    ensures extent { IfSome result (IsExtent cell.now.graph) }
-    ensures narrow { IfSome result (IsNarrow WIDEST) }
-{
-    let step = greatest_shift(&cell.edges)?;
-    Some(Extent {
-        x: MOST_SHELLS * step.x,
-        y: MOST_SHELLS * step.y,
-        z: MOST_SHELLS * step.z,
-    })
 }

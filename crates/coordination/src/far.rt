@@ -1,12 +1,12 @@
 // How far walks lead along an axis.
-ghost use Rattle.std.specs.Prelude.{◌≡◌, ◌≤◌, ◌≤ℤ◌, pos, unsigned_abs, length, IfOk};
+ghost use Rattle.std.specs.Prelude.{◌≡◌, ◌≤◌, ◌≤ℤ◌, pos, unsigned_abs, length, IfOk, IfSome};
 ghost use Rattle.periodic_net.specs.Graph.{IsGraph};
-ghost use Rattle.coordination.specs.Extents.{AreShiftsWithin, IsCellWithin, IsNarrow};
+ghost use Rattle.coordination.specs.Extents.{AreShiftsWithin, IsCellWithin, IsExtent, IsNarrow};
 ghost use Rattle.coordination.specs.Far.{AreAtMost, AreBetween, AreFarAfter, AreFarther, IsFarthest, IsPlace, IsRaised, part_of};
 
 use crate::NoMemory;
 use crate::count::MOST_SHELLS;
-use crate::extent::{Extent, LONGEST, WIDEST};
+use crate::extent::{Extent, LONGEST, WIDEST, greatest_shift};
 use primitive_cell::{PrimEdge, Primitive};
 use std::alloc::Global;
 use vecdim::Triple;
@@ -123,8 +123,8 @@ fn farthest_in<const D: usize>(
     greatest(far)
 }
 
-/// How far at most ten steps lead along an axis, from whichever vertex.
-pub fn farthest<const D: usize>(
+// How far at most ten steps lead along an axis, from whichever vertex.
+fn farthest<const D: usize>(
     alloc: Global,
     cell: &Primitive<D>,
     longest: Extent,
@@ -139,4 +139,23 @@ pub fn farthest<const D: usize>(
     let mut far = vec![in alloc; 0u32; cell.vertices as usize]?;
     let mut next = vec![in alloc; 0u32; cell.vertices as usize]?;
     Ok(farthest_in(cell, longest, axis, &mut far, &mut next))
+}
+
+/// An extent of the shells of all vertices in cell 0, unless a step is too long.
+pub fn extent_of<const D: usize>(
+    alloc: Global,
+    cell: &Primitive<D>,
+) -> Result<Option<Extent>, NoMemory>
+    requires { IsGraph cell.now.graph }
+    ensures extent { IfOk result (λ found. IfSome found (IsExtent cell.now.graph)) }
+    ensures narrow { IfOk result (λ found. IfSome found (IsNarrow WIDEST)) }
+{
+    let Some(longest) = greatest_shift(&cell.edges) else {
+        return Ok(None);
+    };
+    Ok(Some(Extent {
+        x: farthest(alloc, cell, longest, Axis::X)?,
+        y: farthest(alloc, cell, longest, Axis::Y)?,
+        z: farthest(alloc, cell, longest, Axis::Z)?,
+    }))
 }

@@ -6,7 +6,8 @@ ghost use Rattle.coordination.specs.Boxes.{AreStars, IsBoxOf, cells_of, growth_o
 ghost use Rattle.coordination.specs.Extents.{AreShiftsWithin, IsCellWithin, IsNarrow};
 
 use crate::NoMemory;
-use crate::extent::{Extent, WIDEST, extent_of};
+use crate::extent::{Extent, WIDEST};
+use crate::far::extent_of;
 use crate::spot::Step;
 use primitive_cell::{PrimEdge, Primitive};
 use std::alloc::Global;
@@ -215,7 +216,7 @@ pub fn box_of<const D: usize>(
     requires few { cell.now.graph.vertices ≤ most_vertices }
     ensures { IfOk result (λ found. IfSome found (IsBoxOf cell.now.graph)) }
 {
-    let Some(extent) = extent_of(cell) else {
+    let Some(extent) = extent_of(alloc, cell)? else {
         return Ok(None);
     };
     let Some(size) = size(cell.vertices, extent) else {
