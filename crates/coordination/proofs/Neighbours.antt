@@ -9,6 +9,7 @@ use Rattle.periodic_net.specs.Classes.{ClassGraph, ClassArc}
 use Rattle.quotient_graph.specs.ClassNets.{arcs_of}
 use Rattle.coordination.specs.Points.{along, ends_of, IsStep}
 use Rattle.coordination.specs.declared.point.Point.{Point}
+use Rattle.coordination.proofs.Existence.{AreNeighbours}
 
 -- the points to which the arcs from the class of p lead from p
 abbrev pub neighbours : ClassGraph → Point → List Point
@@ -26,3 +27,7 @@ pub step_neighbour : (K : ClassGraph) (p q : Point) → IsStep K p q → IsIn (n
 step_neighbour K p q t =
     subst (IsIn (neighbours K p)) t.onto
     (map_in (along p) (arcs_of K p.class) t.arc (filter_in (λ (a : ClassArc). a.from == p.class) K.arcs t.arc (is_in K.arcs t.arc t.is_arc) ((Decides-eqb t.arc.from p.class).1 t.from)))
+
+-- these are all
+pub points_around : (K : ClassGraph) → AreNeighbours (IsStep K) (neighbours K)
+points_around K = record { each = neighbour_step K; every = step_neighbour K }

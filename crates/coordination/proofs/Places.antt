@@ -11,10 +11,11 @@ use Rattle.periodic_net.specs.Classes.{ClassGraph, ClassArc}
 use Rattle.periodic_net.specs.Correspondence.{IsClass}
 use Rattle.periodic_net.specs.Limits.{most_coordinate}
 use Rattle.quotient_graph.specs.ClassNets.{arcs_of, IsSmallNet}
-use Rattle.coordination.specs.Points.{place_of, AreShort, IsNear}
+use Rattle.coordination.specs.Points.{place_of, AreShort, IsNear, IsStep}
 use Rattle.coordination.specs.Sequences.{most_shells}
 use Rattle.coordination.specs.declared.point.Point.{Point}
-use Rattle.coordination.proofs.PointShells.{start_at, Leads, AreLayers}
+use Rattle.coordination.proofs.StepShells.{Leads, AreLayers}
+use Rattle.coordination.proofs.Starts.{start_at}
 
 -- a sum of bounded vectors
 within_plus : (m n : ℕ) (v w : Vector) → IsWithin m v → IsWithin n w → IsWithin (m + n) (plus v w)
@@ -32,7 +33,7 @@ module _ (K : ClassGraph) (s : IsSmallNet K) where
       (all_from_in (λ (a : ClassArc). IsWithin most_coordinate a.vector) (arcs_of K c) (λ a i. s.within a (contains_from_in K.arcs a (in_filter (λ (b : ClassArc). b.from == c) K.arcs a i).0)))
 
   -- k steps lead to a class
-  leads_class : (k : ℕ) (p q : Point) → IsClass K p.class → Leads K k p q → IsClass K q.class
+  leads_class : (k : ℕ) (p q : Point) → IsClass K p.class → Leads (IsStep K) k p q → IsClass K q.class
   leads_class zero p q i l = subst (λ (r : Point). IsClass K r.class) l i
   leads_class (suc k) p q i l =
       let t = l.1 in
@@ -40,7 +41,7 @@ module _ (K : ClassGraph) (s : IsSmallNet K) where
       leads_class k l.0 q (subst (λ (r : Point). IsClass K r.class) t.onto b.to) l.2
 
   -- and no farther than k times the limit
-  leads_near : (k m : ℕ) (p q : Point) → IsWithin m (place_of p) → Leads K k p q → IsWithin (m + k * most_coordinate) (place_of q)
+  leads_near : (k m : ℕ) (p q : Point) → IsWithin m (place_of p) → Leads (IsStep K) k p q → IsWithin (m + k * most_coordinate) (place_of q)
   leads_near zero m p q i l = wider m (m + 0 * most_coordinate) (omega arith) (place_of q) (subst (λ (r : Point). IsWithin m (place_of r)) l i)
   leads_near (suc k) m p q i l =
       let t = l.1 in
@@ -48,7 +49,7 @@ module _ (K : ClassGraph) (s : IsSmallNet K) where
       let rest = leads_near k (m + most_coordinate) l.0 q (subst (λ (r : Point). IsWithin (m + most_coordinate) (place_of r)) t.onto first) l.2 in
       wider ((m + most_coordinate) + k * most_coordinate) (m + suc k * most_coordinate) (omega arith) (place_of q) rest
 
-  module _ (c k : ℕ) (before shell : List Point) (i : IsClass K c) (h : AreLayers K (start_at c) k before shell) where
+  module _ (c k : ℕ) (before shell : List Point) (i : IsClass K c) (h : AreLayers (IsStep K) (start_at c) k before shell) where
     -- the points of a shell are over classes
     pub layer_classes : All (λ (p : Point). IsClass K p.class) shell
     layer_classes = all_from_in (λ (p : Point). IsClass K p.class) shell (λ p j. leads_class k (start_at c) p i (h.outer p j))

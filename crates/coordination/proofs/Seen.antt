@@ -11,7 +11,8 @@ use Rattle.key_theory.specs.Key.{Shape}
 use Rattle.key_theory.proofs.CallerLemmas.{arc_seen, leaves, seen, seen_place}
 use Rattle.coordination.specs.Points.{point, place_of, IsStep}
 use Rattle.coordination.specs.declared.point.Point.{Point}
-use Rattle.coordination.proofs.PointShells.{start_at, Leads}
+use Rattle.coordination.proofs.StepShells.{Leads}
+use Rattle.coordination.proofs.Starts.{start_at}
 
 -- points with equal parts are equal
 point_equal : {p q : Point} → p.class ≡ q.class → place_of p ≡ place_of q → p ≡ q
@@ -60,13 +61,13 @@ module _ (G : Graph) (h : Shape G) (w : Vertex) where
   }
 
   -- a walk is seen as a walk of points
-  seen_walk : (steps : List Vertex) (x y : Vertex) → IsWalk G x steps y → Leads h.classes (length steps) (seen_from x) (seen_from y)
+  seen_walk : (steps : List Vertex) (x y : Vertex) → IsWalk G x steps y → Leads (IsStep h.classes) (length steps) (seen_from x) (seen_from y)
   seen_walk [] x y k = ap seen_from k
   seen_walk (v ∷ vs) x y k = (seen_from v, seen_step x v k.0, seen_walk vs v y k.1)
 
   -- k steps in the net are k steps of points
-  pub seen_leads : (k : ℕ) (x y : Vertex) → StepsLead G k x y → Leads h.classes k (seen_from x) (seen_from y)
-  seen_leads k x y l = subst (λ n. Leads h.classes n (seen_from x) (seen_from y)) l.1 (seen_walk l.0 x y l.2)
+  pub seen_leads : (k : ℕ) (x y : Vertex) → StepsLead G k x y → Leads (IsStep h.classes) k (seen_from x) (seen_from y)
+  seen_leads k x y l = subst (λ n. Leads (IsStep h.classes) n (seen_from x) (seen_from y)) l.1 (seen_walk l.0 x y l.2)
 
   module _ (g : IsGraph G) where
     -- different vertices are seen as different points
@@ -88,11 +89,11 @@ module _ (G : Graph) (h : Shape G) (w : Vertex) where
       pub shown : seen_from end ≡ p
 
     -- each walk of points is seen of a walk
-    pub walk_seen : (k : ℕ) (x : Vertex) (p : Point) → IsVertex G x → Leads h.classes k (seen_from x) p → Ends k x p
+    pub walk_seen : (k : ℕ) (x : Vertex) (p : Point) → IsVertex G x → Leads (IsStep h.classes) k (seen_from x) p → Ends k x p
     walk_seen zero x p i l = record { end = x; is_vertex = i; leads = ([], refl, refl); shown = l }
     walk_seen (suc k) x p i l =
         let t = l.1 in
         let b = leaves G h g t.arc t.is_arc x i (sym t.from) in
         let shows : seen_from b.end ≡ l.0 = point_equal b.class (seen_further x b.end t.arc.vector b.place) ∙ t.onto in
-        let r = walk_seen k b.end p b.vertex_end (subst (λ (q : Point). Leads h.classes k q p) (sym shows) l.2) in
+        let r = walk_seen k b.end p b.vertex_end (subst (λ (q : Point). Leads (IsStep h.classes) k q p) (sym shows) l.2) in
         record { end = r.end; is_vertex = r.is_vertex; leads = (b.end ∷ r.leads.0, ap suc r.leads.1, (b.joined, r.leads.2)); shown = r.shown }

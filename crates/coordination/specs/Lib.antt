@@ -1,4 +1,11 @@
 pub mod Sequences
 pub mod Laws
+pub mod Expanding
 pub mod Points
 pub mod Found
+pub mod Extents
+pub mod Far
+pub mod Boxes
+pub mod Marks
+pub mod BoxSearches
+pub mod Cells

@@ -1,5 +1,5 @@
 -- Points of a class graph, and the steps from one to another.
-use Rattle.std.specs.Prelude.{◌≡◌, ◌≢◌, ℕ, ◌-◌, ◌*◌, ◌≤◌, List, ◌++◌, length, map, All, AllPairs, Contains}
+use Rattle.std.specs.Prelude.{◌≡◌, ℕ, ◌-◌, ◌*◌, List, map, All, Contains}
 use Rattle.integers.specs.Vectors.{Vector, vector, plus, IsWithin}
 use Rattle.periodic_net.specs.Classes.{ClassGraph, ClassArc}
 use Rattle.periodic_net.specs.Limits.{most_coordinate}
@@ -40,13 +40,3 @@ pub record IsStep (K : ClassGraph) (p q : Point) : Type 0 where
   pub is_arc : Contains K.arcs arc
   pub from : arc.from ≡ p.class
   pub onto : along p arc ≡ q
-
--- each of these points stands there once
-abbrev pub StandOnce : List Point → Type 0
-StandOnce points = AllPairs (λ p q. p ≢ q) points
-
--- next has points to which steps lead from these points, each once and none of those before; and all others if it has at most so many
-pub record Expands (K : ClassGraph) (room : ℕ) (from before next : List Point) : Type 0 where
-  pub each : (p : Point) → Contains next p → (q : Point) × Contains from q × IsStep K q p
-  pub once : StandOnce (before ++ next)
-  pub every : length next ≤ room → (q p : Point) → Contains from q → IsStep K q p → Contains (before ++ next) p

@@ -2,12 +2,19 @@
 #![tactic(auto)]
 
 mod all_classes;
+mod box_count;
+mod box_search;
 mod count;
+mod extent;
+mod far;
 mod laws;
 mod list;
+mod marks;
+mod net_box;
 mod point;
 mod reach;
 mod search;
+mod spot;
 
 pub use all_classes::sequences;
 pub use count::{MOST_IN_SHELLS, MOST_SHELLS, shells};

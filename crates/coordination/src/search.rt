@@ -1,7 +1,8 @@
 // The next shell.
 ghost use Rattle.std.specs.Prelude.{◌≡◌, ◌++◌, All, IfOk};
 ghost use Rattle.periodic_net.specs.Correspondence.{IsClass};
-ghost use Rattle.coordination.specs.Points.{Expands, IsNear, StandOnce};
+ghost use Rattle.coordination.specs.Expanding.{Expands, StandOnce};
+ghost use Rattle.coordination.specs.Points.{IsNear, IsStep};
 
 use crate::NoMemory;
 use crate::point::Point;
@@ -22,7 +23,8 @@ pub fn next_shell<const D: usize>(
     requires classes { All (λ p. IsClass net.now p.class) shell.now }
     requires near { All IsNear shell.now }
     requires once { StandOnce found.old.keys }
-    ensures next { IfOk result (λ next. Expands net.now room shell.now found.old.keys next.items) }
+    ensures next { IfOk result (λ next.
+        Expands (IsStep net.now) room shell.now found.old.keys next.items) }
     ensures found { IfOk result (λ next. found.new.keys ≡ found.old.keys ++ next.items) }
 {
     let mut next = Vec::new(alloc);

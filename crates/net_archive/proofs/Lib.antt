@@ -1,5 +1,6 @@
 pub mod FirstFaults
 pub mod SequenceForms
+pub mod KeyedCells
 pub mod MoreEntries
 pub mod FirstLines
 pub mod FormEdges

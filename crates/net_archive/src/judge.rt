@@ -23,8 +23,8 @@ pub fn sequences_of(alloc: Global, net: &Net) -> Result<Sequences, AllocError>
     ensures few { IfOk result (λ lists. length lists ≤ 512) }
 {
     match net {
-        Net::Flat(net) => sequences(alloc, &net.classes),
-        Net::Space(net) => sequences(alloc, &net.classes),
+        Net::Flat(net) => sequences(alloc, &net.classes, &net.primitive),
+        Net::Space(net) => sequences(alloc, &net.classes, &net.primitive),
     }
 }
 

@@ -1,20 +1,25 @@
-use Rattle.std.proofs.Common.{◌≡◌, ◌≤◌, subst, sym, ◌∙◌, arith}
+use Rattle.std.proofs.Common.{◌≡◌, ◌≤◌, List, ℕ, length, subst, sym, ◌∙◌, lit<}
+use Rattle.std.specs.Prelude.{Option, IfSome}
 use Rattle.periodic_net.specs.Limits.{most_vertices}
-use Rattle.coordination.proofs.AllClasses.{AreFirst, one_more, all_classes}
+use Rattle.coordination.specs.BoxSearches.{AreListsOf}
+use Rattle.coordination.proofs.CellSequences.{cell_divides, cell_sequences, same_count}
 use Rattle.coordination.proofs.all_classes.sequences.Goals as goal
 
-pub loop-before-preserved : goal.loop-before-preserved
-loop-before-preserved g c =
-    one_more c.args.classes.now.classes c.loop-before.before c.loop-before.lists c.push.new.self c.in_ok-shells.field-0.items c.loop-before.invariant c.in_ok-shells.ensures.sizes c.in_ok-push.ensures.ok
+pub box_sequences-requires : goal.box_sequences-requires
+box_sequences-requires g c =
+    let count = same_count c.args.classes.now c.args.cell.now c.net.ensures.is_graph c.requires.cell c.net.ensures.classes in
+    let classes = c.count.ensures.count ∙ (λ i. (c.net.ensures.net i).count) in
+    let few = subst (λ n. n ≤ most_vertices) (classes ∙ sym count) c.count.ensures.few in
+    (lit< tt, ((cell_divides c.args.classes.now c.args.cell.now c.net.ensures.is_graph c.requires.cell).is_graph, few))
 
-pub returns : goal.returns
-returns g c =
-    let K = c.args.classes.now.classes in
-    let test = c.loop-before-test.false in
-    let least = c.loop-before.auto.before-end in
-    let end : c.loop-before.before ≡ c.count-count.result = omega arith in
-    let count = end ∙ c.count-count.ensures.count ∙ (λ i. (c.net.ensures.net i).count) in
-    record {
-      sequences = all_classes c.args.classes.now c.net.ensures.is_graph c.net.ensures.classes c.loop-before.lists (subst (λ n. AreFirst K n c.loop-before.lists) count c.loop-before.invariant);
-      few = subst (λ n. n ≤ most_vertices) (sym (c.loop-before.invariant.count ∙ end)) c.count-count.ensures.few;
-    }
+pub returns-in-Some-clause-sequences : goal.returns-in-Some-clause-sequences
+returns-in-Some-clause-sequences g c =
+    let lists = subst (λ (o : Option (List (List ℕ))). IfSome o (AreListsOf c.args.cell.now.graph)) c.in-Some.is c.in_ok-lists.ensures in
+    cell_sequences c.args.classes.now c.args.cell.now c.net.ensures.is_graph c.requires.cell c.net.ensures.classes c.in-Some.lists lists
+
+pub returns-in-Some-clause-few : goal.returns-in-Some-clause-few
+returns-in-Some-clause-few g c =
+    let lists = subst (λ (o : Option (List (List ℕ))). IfSome o (AreListsOf c.args.cell.now.graph)) c.in-Some.is c.in_ok-lists.ensures in
+    let count = same_count c.args.classes.now c.args.cell.now c.net.ensures.is_graph c.requires.cell c.net.ensures.classes in
+    let classes = c.count.ensures.count ∙ (λ i. (c.net.ensures.net i).count) in
+    subst (λ n. n ≤ most_vertices) (classes ∙ sym count ∙ sym lists.count) c.count.ensures.few

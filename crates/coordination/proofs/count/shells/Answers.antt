@@ -1,9 +1,12 @@
-use Rattle.std.proofs.Common.{◌≡◌, ◌<◌, ◌≤◌, length, subst, sym, lit<, arith}
+use Rattle.std.proofs.Common.{◌≡◌, ◌+◌, ◌<◌, ◌≤◌, length, subst, sym, lit<, arith}
 use Rattle.periodic_net.specs.Classes.{ClassGraph}
 use Rattle.periodic_net.specs.Correspondence.{IsClass}
-use Rattle.coordination.specs.Points.{Expands}
+use Rattle.coordination.specs.Expanding.{Expands}
+use Rattle.coordination.specs.Points.{IsStep}
 use Rattle.coordination.proofs.Counting.{counted_past, counted_ten, counted_turn, grown}
 use Rattle.coordination.proofs.Shown.{class_shown, ready}
+use Rattle.coordination.proofs.Sizes.{some_point_shell}
+use Rattle.coordination.proofs.Starts.{start_at}
 use Rattle.coordination.proofs.count.shells.Goals as goal
 
 pub next_shell-requires : goal.next_shell-requires
@@ -20,8 +23,8 @@ pub returns-then-len-room : goal.returns-then-len-room
 returns-then-len-room g c =
     let K = c.net-net.result.now in
     let past : c.loop-k.room < length c.in_ok-next.next.items = omega (arith, c.if-len-room.true, c.len.ensures) in
-    let x = subst (λ xs. Expands K c.loop-k.room xs c.loop-k.found.keys c.in_ok-next.next.items) c.deref.ensures.value c.in_ok-next.ensures.next in
-    let p = counted_past K c.args.class c.loop-k.sizes.items c.loop-k.room c.loop-k.found.keys c.loop-k.shell.items c.in_ok-next.next.items c.loop-k.invariant.counted x past in
+    let x = subst (λ xs. Expands (IsStep K) c.loop-k.room xs c.loop-k.found.keys c.in_ok-next.next.items) c.deref.ensures.value c.in_ok-next.ensures.next in
+    let p = counted_past (IsStep K) (start_at c.args.class) c.loop-k.sizes.items c.loop-k.room c.loop-k.found.keys c.loop-k.shell.items c.in_ok-next.next.items c.loop-k.invariant.counted x past (some_point_shell K (start_at c.args.class) (length c.loop-k.sizes.items + 1)) in
     record { sizes = class_shown K c.args.c.now.classes c.net-net.ensures.net c.args.class c.loop-k.sizes.items p }
 
 pub loop-k-preserved : goal.loop-k-preserved
@@ -36,7 +39,7 @@ loop-k-preserved g c =
     let again : c.len-in-loop-k.result ≡ c.len-room.result = omega (arith, c.len-in-loop-k.ensures, c.len-room.ensures) in
     let pushed = c.in_ok-push.ensures.items in
     record {
-      counted = counted_turn K c.args.class sizes c.loop-k.room c.loop-k.found.keys c.loop-k.shell.items c.deref.result.now c.in_ok-next.next.items c.next_shell.new.found.keys c.push.new.self.items
+      counted = counted_turn (IsStep K) (start_at c.args.class) sizes c.loop-k.room c.loop-k.found.keys c.loop-k.shell.items c.deref.result.now c.in_ok-next.next.items c.next_shell.new.found.keys c.push.new.self.items
           c.len-room.result c.len-in-loop-k.result c.loop-k.invariant.counted c.deref.ensures.value c.in_ok-next.ensures.next c.in_ok-next.ensures.found fewer size fits again pushed;
       count = grown sizes c.push.new.self.items c.len-in-loop-k.result c.loop-k._k pushed count;
     }
@@ -47,5 +50,5 @@ returns g c =
     let test = c.loop-k-test.false in
     let count = c.loop-k.invariant.count in
     let ten : 10 ≤ length c.loop-k.sizes.items = omega arith in
-    let p = counted_ten K c.args.class c.loop-k.sizes.items c.loop-k.room c.loop-k.found.keys c.loop-k.shell.items c.loop-k.invariant.counted ten in
+    let p = counted_ten (IsStep K) (start_at c.args.class) c.loop-k.sizes.items c.loop-k.room c.loop-k.found.keys c.loop-k.shell.items c.loop-k.invariant.counted ten in
     record { sizes = class_shown K c.args.c.now.classes c.net-net.ensures.net c.args.class c.loop-k.sizes.items p }

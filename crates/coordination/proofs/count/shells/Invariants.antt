@@ -1,9 +1,11 @@
 use Rattle.std.proofs.Common.{◌≡◌, length}
+use Rattle.coordination.specs.Points.{IsStep}
 use Rattle.coordination.proofs.Counting.{AreCounted}
+use Rattle.coordination.proofs.Starts.{start_at}
 use Rattle.coordination.proofs.count.shells.Given as goal
 
 abbrev pub invariant-loop-k : goal.invariant-loop-k
 invariant-loop-k g l = record {
-  counted : AreCounted l.net l.class l.sizes.items l.room l.found.keys l.shell.items;
+  counted : AreCounted (IsStep l.net) (start_at l.class) l.sizes.items l.room l.found.keys l.shell.items;
   count : length l.sizes.items ≡ l._k;
 }

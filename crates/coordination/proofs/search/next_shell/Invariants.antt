@@ -1,6 +1,7 @@
 use Rattle.std.proofs.Common.{take}
+use Rattle.coordination.specs.Points.{IsStep}
 use Rattle.coordination.proofs.Stepping.{AreSearched}
 use Rattle.coordination.proofs.search.next_shell.Given as goal
 
 abbrev pub invariant-loop-from : goal.invariant-loop-from
-invariant-loop-from g l = AreSearched l.net (take l.from-index l.shell) l.initial.found.keys l.found.keys l.next.items
+invariant-loop-from g l = AreSearched (IsStep l.net) (take l.from-index l.shell) l.initial.found.keys l.found.keys l.next.items

@@ -1,0 +1,116 @@
+-- The marks of what is found, with one vertex more, and taken back.
+use Rattle.std.proofs.Common.{◌≡◌, ◌≢◌, ◌⊎◌, inl, inr, ℕ, suc, ◌+◌, ◌<◌, ◌≤◌, List, [], ◌∷◌, ◌++◌, length, get_or, set, drop, Bool, true, false, refl, sym, ap, subst, ◌∙◌, arith, add-one, get_or-set_other, get_or-set_same, length-set, drop-cons}
+use Rattle.std.proofs.Math.Decide.{ℕ_discrete}
+use Prim.{Dec, yes, no}
+use Rattle.std.specs.List.{Contains}
+use Rattle.std.proofs.lemmas.List.{drop_all}
+use Rattle.integers.proofs.lists.Members.{IsIn, is_in, contains_from_in}
+use Rattle.integers.proofs.lists.Pieces.{in_append, append_left, append_right, in_at}
+use Rattle.coordination.specs.Marks.{is_marked, AreMarked, IsUnmarked}
+use Rattle.coordination.specs.declared.spot.Spot.{Spot}
+
+module _ (marks : List Bool) (at : ℕ) (l : at < length marks) (v : Bool) where
+  -- a mark that was written
+  written : (i : ℕ) → i ≡ at → is_marked (set marks at v) i ≡ v
+  written i e = ap (λ j. is_marked (set marks at v) j) e ∙ get_or-set_same marks at v false l
+
+  -- and the others
+  unwritten : (i : ℕ) → i ≢ at → is_marked (set marks at v) i ≡ is_marked marks i
+  unwritten i n = get_or-set_other marks at i v false n
+
+-- with the mark of s, and s last
+pub marked_more : (marks : List Bool) (found : List Spot) (s : Spot) → AreMarked marks found → s.at < length marks → AreMarked (set marks s.at true) (found ++ s ∷ [])
+marked_more marks found s h l = record {
+  within = λ t c. subst (λ n. t.at < n) (sym (length-set marks s.at true)) (within t (in_append found (s ∷ []) t (is_in (found ++ s ∷ []) t c)));
+  marked = λ t c. marked t (ℕ_discrete t.at s.at) (in_append found (s ∷ []) t (is_in (found ++ s ∷ []) t c));
+  found_at = λ i b m. found_at i (subst (λ n. i < n) (length-set marks s.at true) b) m (ℕ_discrete i s.at);
+}
+  where
+    within : (t : Spot) → IsIn found t ⊎ IsIn (s ∷ []) t → t.at < length marks
+    within t (inl i) = h.within t (contains_from_in found t i)
+    within t (inr (inl e)) = subst (λ (u : Spot). u.at < length marks) e l
+    within t (inr (inr i)) = absurd i
+
+    marked : (t : Spot) → Dec (t.at ≡ s.at) → IsIn found t ⊎ IsIn (s ∷ []) t → is_marked (set marks s.at true) t.at ≡ true
+    marked t (yes e) c = written marks s.at l true t.at e
+    marked t (no n) (inl i) = unwritten marks s.at l true t.at n ∙ h.marked t (contains_from_in found t i)
+    marked t (no n) (inr (inl e)) = absurd (n (sym (ap (λ (u : Spot). u.at) e)))
+    marked t (no n) (inr (inr i)) = absurd i
+
+    found_at : (i : ℕ) → i < length marks → is_marked (set marks s.at true) i ≡ true → Dec (i ≡ s.at) → (t : Spot) × Contains (found ++ s ∷ []) t × (t.at ≡ i)
+    found_at i b m (yes e) = (s, contains_from_in (found ++ s ∷ []) s (append_right found (s ∷ []) s (inl refl)), sym e)
+    found_at i b m (no n) =
+        let r = h.found_at i b (sym (unwritten marks s.at l true i n) ∙ m) in
+        (r.0, contains_from_in (found ++ s ∷ []) r.0 (append_left found (s ∷ []) r.0 (is_in found r.0 r.1)), r.2)
+
+-- the marks of what is found from place k on are not taken back yet, and no others stand
+pub record AreLeft (marks : List Bool) (found : List Spot) (k n : ℕ) : Type 0 where
+  pub count : length marks ≡ n
+  pub within : (s : Spot) → IsIn found s → s.at < n
+  pub left : (i : ℕ) → i < n → is_marked marks i ≡ true → (s : Spot) × IsIn (drop k found) s × (s.at ≡ i)
+
+-- at first none is taken back
+pub left_all : (marks : List Bool) (found : List Spot) → AreMarked marks found → AreLeft marks found 0 (length marks)
+left_all marks found h = record {
+  count = refl;
+  within = λ s i. h.within s (contains_from_in found s i);
+  left = λ i l m. let r = h.found_at i l m in (r.0, is_in found r.0 r.1, r.2);
+}
+
+-- the next that is taken back is one of the marks
+pub left_within : (marks : List Bool) (found : List Spot) (k n : ℕ) (d : Spot) → AreLeft marks found k n → k < length found → (get_or found k d).at < length marks
+left_within marks found k n d h l = subst (λ t. (get_or found k d).at < t) (sym h.count) (h.within (get_or found k d) (in_at found k d l))
+
+-- one mark is taken back
+pub left_fewer : (marks : List Bool) (found : List Spot) (k n : ℕ) (d : Spot) → AreLeft marks found k n → k < length found → AreLeft (set marks (get_or found k d).at false) found (k + 1) n
+left_fewer marks found k n d h l = record {
+  count = length-set marks s.at false ∙ h.count;
+  within = h.within;
+  left = λ i c m. left i c m (ℕ_discrete i s.at);
+}
+  where
+    s : Spot
+    s = get_or found k d
+
+    inside : s.at < length marks
+    inside = left_within marks found k n d h l
+
+    split : drop k found ≡ s ∷ drop (k + 1) found
+    split =
+        let one : suc k ≡ k + 1 = omega arith in
+        drop-cons found k d l ∙ ap (λ (j : ℕ). s ∷ drop j found) one
+
+    rest : (t : Spot) → IsIn (drop k found) t → (s ≡ t) ⊎ IsIn (drop (k + 1) found) t
+    rest t i = by (subst (λ (ts : List Spot). IsIn ts t) split i)
+      where
+        by : IsIn (s ∷ drop (k + 1) found) t → (s ≡ t) ⊎ IsIn (drop (k + 1) found) t
+        by j = j
+
+    left : (i : ℕ) → i < n → is_marked (set marks s.at false) i ≡ true → Dec (i ≡ s.at) → (t : Spot) × IsIn (drop (k + 1) found) t × (t.at ≡ i)
+    left i c m (yes q) = absurd (let f = sym (written marks s.at inside false i q) ∙ m in cc)
+    left i c m (no q) = by (h.left i c (sym (unwritten marks s.at inside false i q) ∙ m))
+      where
+        by : (t : Spot) × IsIn (drop k found) t × (t.at ≡ i) → (t : Spot) × IsIn (drop (k + 1) found) t × (t.at ≡ i)
+        by r = pick (rest r.0 r.1)
+          where
+            pick : (s ≡ r.0) ⊎ IsIn (drop (k + 1) found) r.0 → (t : Spot) × IsIn (drop (k + 1) found) t × (t.at ≡ i)
+            pick (inl w) = absurd (q (sym r.2 ∙ sym (ap (λ (u : Spot). u.at) w)))
+            pick (inr j) = (r.0, j, r.2)
+
+-- at the end nothing is marked
+pub left_none : (marks : List Bool) (found : List Spot) (k n : ℕ) → AreLeft marks found k n → length found ≤ k → IsUnmarked marks
+left_none marks found k n h l i c = by (is_marked marks i) refl
+  where
+    by : (b : Bool) → is_marked marks i ≡ b → is_marked marks i ≡ false
+    by false e = e
+    by true e =
+        let r = h.left i (subst (λ t. i < t) h.count c) e in
+        absurd (subst (λ (ts : List Spot). IsIn ts r.0) (drop_all k found l) r.1)
+
+-- what is not marked is nothing that was found
+pub unmarked_marked : (marks : List Bool) → IsUnmarked marks → AreMarked marks []
+unmarked_marked marks h = record {
+  within = λ s c. absurd (is_in [] s c);
+  marked = λ s c. absurd (is_in [] s c);
+  found_at = λ i l m. absurd (let f = sym (h i l) ∙ m in cc);
+}

@@ -1,0 +1,91 @@
+// The sizes of shells, counted in a box.
+ghost use Rattle.std.specs.Prelude.{◌≡◌, ◌≤◌, [], length, IfOk, OnOk, IfSome};
+ghost use Rattle.periodic_net.specs.Graph.{IsGraph};
+ghost use Rattle.periodic_net.specs.Limits.{most_vertices};
+ghost use Rattle.coordination.specs.Boxes.{IsBoxOf};
+ghost use Rattle.coordination.specs.BoxSearches.{AreListsOf, AreShellsInBox, IsStart};
+ghost use Rattle.coordination.specs.Marks.{AreMarked, IsUnmarked};
+
+use crate::box_search::next_shell;
+use crate::count::{MOST_IN_SHELLS, MOST_SHELLS};
+use crate::marks::{mark, unmark};
+use crate::net_box::{NetBox, box_of};
+use crate::spot::Spot;
+use crate::{NoMemory, Sequences};
+use primitive_cell::Primitive;
+use std::alloc::Global;
+
+// The sizes of shells 1, 2 and so on of a vertex of the box, as `shells` tells them of a class.
+fn shells_in(
+    alloc: Global,
+    net_box: &NetBox,
+    marks: &mut [bool],
+    found: &mut Vec<Spot>,
+    over: u32,
+) -> Result<Vec<u32>, NoMemory>
+    requires start { IsStart net_box.now over }
+    requires size { length marks.old ≡ net_box.now.size }
+    requires unmarked { IsUnmarked marks.old }
+    requires empty { found.old.items ≡ [] }
+    ensures sizes { IfOk result (λ sizes. AreShellsInBox net_box.now over sizes.items) }
+    ensures marked { OnOk result (AreMarked marks.new found.new.items) }
+{
+    let start = Spot {
+        over,
+        at: net_box.origin + (over - 1),
+    };
+    mark(marks, found, start)?;
+    let mut sizes = Vec::with_capacity(alloc, MOST_SHELLS as usize)?;
+    let mut room = MOST_IN_SHELLS;
+    let mut begin = 0;
+    for _k in 0..MOST_SHELLS {
+        let end = found.len();
+        next_shell(net_box, marks, found, begin, room)?;
+        let size = found.len() - end;
+        if size > room {
+            return Ok(sizes);
+        }
+        room -= size;
+        sizes.push(size as u32)?;
+        begin = end;
+    }
+    Ok(sizes)
+}
+
+// The sizes of the shells of each vertex in cell 0, counted in a box with these marks.
+fn lists_in<const D: usize>(
+    alloc: Global,
+    cell: &Primitive<D>,
+    net_box: &NetBox,
+    marks: &mut [bool],
+) -> Result<Sequences, NoMemory>
+    requires net_box { IsBoxOf cell.now.graph net_box.now }
+    requires size { length marks.old ≡ net_box.now.size }
+    requires unmarked { IsUnmarked marks.old }
+    ensures { IfOk result (AreListsOf cell.now.graph) }
+{
+    let mut found = Vec::new(alloc);
+    let mut lists = Sequences::new(alloc);
+    for before in 0..cell.vertices {
+        let sizes = shells_in(alloc, net_box, marks, &mut found, before + 1)?;
+        lists.push(sizes)?;
+        unmark(marks, &mut found);
+    }
+    Ok(lists)
+}
+
+/// The sizes of the shells of each vertex in cell 0, if the box of the net is not too large.
+pub fn box_sequences<const D: usize>(
+    alloc: Global,
+    cell: &Primitive<D>,
+) -> Result<Option<Sequences>, NoMemory>
+    requires graph { IsGraph cell.now.graph }
+    requires few { cell.now.graph.vertices ≤ most_vertices }
+    ensures { IfOk result (λ found. IfSome found (AreListsOf cell.now.graph)) }
+{
+    let Some(net_box) = box_of(alloc, cell)? else {
+        return Ok(None);
+    };
+    let mut marks = vec![in alloc; false; net_box.size]?;
+    Ok(Some(lists_in(alloc, cell, &net_box, &mut marks)?))
+}
