@@ -3,6 +3,7 @@ ghost use Rattle.std.specs.Prelude.{◌≡◌, IfOk, All, IsSome};
 ghost use Rattle.walk_lattice.specs.Search.{AreWalks};
 ghost use Rattle.walk_lattice.specs.Full.{IsVolume};
 ghost use Rattle.walk_lattice.specs.Generators.{generators};
+ghost use Rattle.walk_lattice.specs.Lattices.{AreClosedWalks};
 ghost use Rattle.connected_dim.specs.Verdicts.{IsVerdict};
 
 use crate::NoMemory;
@@ -11,7 +12,7 @@ use crate::flat::flat_split;
 use crate::sparse::sparse_split;
 use quotient_graph::{Graph, Split};
 use std::alloc::Global;
-use vecdim::{Shift, Vect};
+use vecdim::{Shift, Staircase, Vect};
 use walk_lattice::{Rank, generators, lattice, rank_of};
 
 /// What is found of a net: that it is connected, or a colouring, where the closed walks have full
@@ -23,7 +24,23 @@ pub enum Verdict {
     Flat(Split),
 }
 
-// By the lattice of closed walks of full rank.
+// The lattice of closed walks of full rank.
+fn closed_lattice<const D: usize>(
+    g: &Graph<D>,
+    found: &[Option<Shift<D>>],
+    gs: &[Vect<D>],
+    m: i128,
+) -> Staircase<D>
+    requires walks { AreWalks g.now 1 found.now }
+    requires generators { gs.now ≡ generators g.now found.now }
+    requires volume { IsVolume D gs.now m }
+    ensures { AreClosedWalks g.now 1 result }
+{
+    let _ = g.dimension();
+    lattice(gs, m)
+}
+
+// By that lattice.
 fn full_verdict<const D: usize>(
     alloc: Global,
     g: &Graph<D>,
@@ -38,7 +55,7 @@ fn full_verdict<const D: usize>(
     ensures { IfOk result (IsVerdict g.now) }
 {
     let dim = g.dimension();
-    let s = lattice(gs, m);
+    let s = closed_lattice(g, found, gs, m);
     match first_dual_of(&s) {
         None => Ok(Verdict::Whole),
         Some(d) => Ok(Verdict::Parted(sparse_split(alloc, dim, d, found)?)),

@@ -1,8 +1,10 @@
 // Placed graphs without collisions.
 ghost use Rattle.std.specs.Prelude.{◌≡◌};
-ghost use Rattle.periodic_net.specs.Placement.{HasNoCollision};
+ghost use Rattle.periodic_net.specs.Graph.{IsGraph};
+ghost use Rattle.periodic_net.specs.Limits.{IsSmall};
+ghost use Rattle.periodic_net.specs.Placement.{HasNoCollision, IsStablePlacement, IsWithinLimits};
 
-use crate::Placed;
+use crate::{Graph, Placed};
 use std::marker::Model;
 
 /// A placed graph in whose net different vertices stand in different places. Contracts see the graph and the placement.
@@ -35,5 +37,15 @@ impl<const D: usize> Stable<D> {
         ensures no_collision { HasNoCollision self.now.graph self.now.placement }
     {
         &self.placed
+    }
+
+    pub fn graph(&self) -> &Graph<D>
+        ensures graph { result.now ≡ self.now.graph }
+        ensures is_graph { IsGraph self.now.graph }
+        ensures small { IsSmall self.now.graph }
+        ensures stable { IsStablePlacement self.now.graph self.now.placement }
+        ensures limits { IsWithinLimits self.now.graph self.now.placement }
+    {
+        self.placed().graph()
     }
 }

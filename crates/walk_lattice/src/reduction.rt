@@ -1,5 +1,5 @@
 // Vectors divided by the greatest common divisor of their parts.
-ghost use Rattle.std.specs.Prelude.{◌≡◌, ◌≢◌, ◌⊎◌};
+ghost use Rattle.std.specs.Prelude.{◌≡◌, ◌≢◌, ◌≤◌, ◌⊎◌, pos};
 ghost use Rattle.integers.specs.Vectors.{zero_vector, opposite, IsWithin, StartsPositive};
 ghost use Rattle.walk_lattice.specs.Flat.{IsDivisor, IsReduction};
 ghost use Rattle.walk_lattice.specs.Bounds.{most_normal};
@@ -7,14 +7,24 @@ ghost use Rattle.walk_lattice.specs.Bounds.{most_normal};
 use exact::gcd;
 use vecdim::Triple;
 
+// The greatest common divisor of the absolute values of the parts.
+fn common_divisor(v: &Triple) -> u128
+    requires some { v.now ≢ zero_vector }
+    requires within { IsWithin most_normal v.now }
+    ensures divisor { IsDivisor v.now (pos result) }
+    ensures within { result ≤ most_normal }
+{
+    let first = gcd(v.x.unsigned_abs(), v.y.unsigned_abs());
+    gcd(first, v.z.unsigned_abs())
+}
+
 // The greatest common divisor of the parts.
 fn divisor(v: &Triple) -> i128
     requires some { v.now ≢ zero_vector }
     requires within { IsWithin most_normal v.now }
     ensures { IsDivisor v.now result }
 {
-    let first = gcd(v.x.unsigned_abs(), v.y.unsigned_abs());
-    gcd(first, v.z.unsigned_abs()) as i128
+    common_divisor(v) as i128
 }
 
 // Of a vector and its opposite the one that starts positive.

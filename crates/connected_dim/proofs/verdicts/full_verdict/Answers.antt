@@ -1,12 +1,10 @@
 use Rattle.std.proofs.Common.{ℤ, ◌≤ℤ◌, pos, refl, sym, subst, ◌∙◌, arith}
-use Rattle.std.specs.Int.{w128}
-use Rattle.std.proofs.lemmas.Int.{ints, to_z-of_z}
+use Rattle.std.proofs.lemmas.Int.{ints}
 use Rattle.vecdim.specs.Stairs.{HasStairShape}
-use Rattle.walk_lattice.specs.Lattices.{IsLatticeOf}
 use Rattle.connected_dim.specs.Sparse.{sparse_colouring}
 use Rattle.connected_dim.proofs.Refuted.{sparse_refusal}
 use Rattle.connected_dim.proofs.SparseSplits.{sparse_from_lattice}
-use Rattle.connected_dim.proofs.Whole.{whole_connected, closed_of}
+use Rattle.connected_dim.proofs.Whole.{whole_connected}
 use Rattle.connected_dim.proofs.verdicts.full_verdict.Goals as goal
 
 one_of_two : (q : ℤ) → pos 2 ≤ℤ q → pos 1 ≤ℤ q
@@ -16,21 +14,17 @@ pub returns-in-None : goal.returns-in-None
 returns-in-None g c =
     let G = c.args.g.now in
     let found = c.args.found.now in
-    let S = c.lattice-s.result in
+    let S = c.closed_lattice-s.result in
     let graph = c.dimension-dim.ensures.is_graph in
-    let rows = subst (λ m. IsLatticeOf g.row.D m c.args.gs.now S) (to_z-of_z w128 c.args.m c.ranges.m) c.lattice-s.ensures in
-    let closed = closed_of G found g.row.D c.args.gs.now c.args.m S graph c.requires.walks c.dimension-dim.ensures.parameter c.requires.generators c.requires.volume rows in
-    whole_connected G found S graph c.requires.walks c.requires.all closed (c.in-None.ensures.none refl)
+    whole_connected G found S graph c.requires.walks c.requires.all c.closed_lattice-s.ensures (c.in-None.ensures.none refl)
 
 pub returns-in_ok-sparse_split-in-Some : goal.returns-in_ok-sparse_split-in-Some
 returns-in_ok-sparse_split-in-Some g c =
     let G = c.args.g.now in
     let found = c.args.found.now in
-    let S = c.lattice-s.result in
+    let S = c.closed_lattice-s.result in
     let graph = c.dimension-dim.ensures.is_graph in
-    let rows = subst (λ m. IsLatticeOf g.row.D m c.args.gs.now S) (to_z-of_z w128 c.args.m c.ranges.m) c.lattice-s.ensures in
-    let closed = closed_of G found g.row.D c.args.gs.now c.args.m S graph c.requires.walks c.dimension-dim.ensures.parameter c.requires.generators c.requires.volume rows in
     let stair = subst (λ d. HasStairShape d S) (sym c.dimension-dim.ensures.parameter) c.first_dual_of.ensures.stair in
     sparse_refusal G c.in_ok-sparse_split-in-Some.field-0 (sparse_colouring c.in-Some.d.q c.in-Some.d.c found) graph (c.in_ok-sparse_split-in-Some.ensures.dimension ∙ c.dimension-dim.ensures.value)
     c.in_ok-sparse_split-in-Some.ensures.split
-    (sparse_from_lattice G found S c.in-Some.d.q c.in-Some.d.c graph c.requires.walks c.requires.all closed stair (one_of_two c.in-Some.d.q c.in-Some.ensures.above) c.in-Some.ensures.dual)
+    (sparse_from_lattice G found S c.in-Some.d.q c.in-Some.d.c graph c.requires.walks c.requires.all c.closed_lattice-s.ensures stair (one_of_two c.in-Some.d.q c.in-Some.ensures.above) c.in-Some.ensures.dual)
