@@ -53,6 +53,7 @@ impl<'a> Lexer<'a> {
     }
 
     /// The next token, and None exactly at the end. It takes no memory.
+    #[inline(always)]
     pub fn next(&mut self) -> Option<Token<'a>>
         ensures token { IfSome result (λ token. self.old ≡ token_view token ∷ self.new) }
         ensures end { IfNone result ((self.old ≡ []) × (self.new ≡ [])) }

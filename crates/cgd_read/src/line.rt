@@ -217,6 +217,7 @@ impl<'a> Fields<'a> {
     }
 
     /// Adds a field. A number is read only where a part of a shift is due.
+    #[inline(always)]
     pub fn add(&mut self, token: &Token<'a>)
         requires room { self.old.size < 16777216 }
         requires small { IsSmallFields (fields_view self.old) }
