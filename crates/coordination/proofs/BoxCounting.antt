@@ -1,16 +1,15 @@
 -- The shells of a vertex are counted in a box.
-use Rattle.std.proofs.Common.{◌≡◌, ◌⊎◌, inl, inr, ℕ, zero, suc, ◌+◌, ◌-◌, ◌*◌, ◌<◌, ◌≤◌, ℤ, pos, ◌+ℤ◌, List, [], ◌∷◌, ◌++◌, length, get_or, set, map, drop, sum, Bool, true, false, cond, refl, sym, ap, subst, ◌∙◌, arith, length-append}
+use Rattle.std.proofs.Common.{◌≡◌, ℕ, suc, ◌+◌, ◌-◌, ◌*◌, ◌<◌, ◌≤◌, ℤ, pos, ◌+ℤ◌, List, [], ◌∷◌, ◌++◌, length, set, drop, Bool, true, false, cond, refl, sym, ap, subst, ◌∙◌, arith, length-append}
 use Rattle.std.specs.Prelude.{unsigned_abs}
 use Rattle.std.proofs.lemmas.Int.{ints}
 use Rattle.std.proofs.Math.Seq.{drop-append_seam}
 use Rattle.std.proofs.lemmas.List.{length-map}
 use Rattle.integers.specs.Vectors.{zero_vector}
-use Rattle.integers.proofs.lists.Members.{AreApart, IsIn, is_in, contains_from_in, pairs_from_apart}
+use Rattle.integers.proofs.lists.Members.{AreApart, IsIn, is_in, pairs_from_apart}
 use Rattle.periodic_net.specs.Graph.{Graph, Vertex, vertex, AreJoined, IsQuotientVertex}
 use Rattle.coordination.specs.Boxes.{IsBoxOf, IsInside, above, origin_of, place_in, side, spot_in}
 use Rattle.coordination.specs.BoxSearches.{IsFound, IsFoundNext, IsOpen, IsSearchable}
 use Rattle.coordination.specs.Expanding.{Expands}
-use Rattle.coordination.specs.Extents.{IsCellWithin}
 use Rattle.coordination.specs.Marks.{IsUnmarked, is_marked, marks_with, spots_with}
 use Rattle.coordination.specs.Sequences.{AreShellsOf, most_shells, most_in_shells}
 use Rattle.coordination.specs.declared.extent.Extent.{Extent}
@@ -20,7 +19,6 @@ use Rattle.coordination.proofs.Counting.{AreCounted, counted_past, counted_ten, 
 use Rattle.coordination.proofs.Layers.{and_on, start_layers}
 use Rattle.coordination.proofs.MarkedVertices.{found_more, spot_inside}
 use Rattle.coordination.proofs.Marking.{unmarked_marked}
-use Rattle.coordination.proofs.StepShells.{Leads}
 use Rattle.coordination.proofs.VertexShells.{some_vertex_shell, vertex_sizes, walk_of}
 
 -- the vertex over c in cell 0

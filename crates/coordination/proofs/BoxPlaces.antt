@@ -1,15 +1,14 @@
 -- The numbers of the vertices of a box: each is below the size, no two are one, and along an arc the number grows as the step says.
-use Rattle.std.proofs.Common.{◌≡◌, ◌⊎◌, inl, inr, ℕ, zero, suc, ◌+◌, ◌-◌, ◌*◌, ◌<◌, ◌≤◌, ℤ, pos, negsuc, ◌+ℤ◌, ◌-ℤ◌, ◌*ℤ◌, refl, sym, ap, subst, ◌∙◌, arith}
+use Rattle.std.proofs.Common.{◌≡◌, ◌⊎◌, inl, inr, ℕ, ◌+◌, ◌-◌, ◌*◌, ◌<◌, ◌≤◌, ℤ, pos, negsuc, ◌+ℤ◌, ◌-ℤ◌, ◌*ℤ◌, refl, sym, ap, ◌∙◌, arith}
 use Rattle.std.specs.Prelude.{unsigned_abs}
 use Rattle.std.proofs.lemmas.Int.{ints}
 use Rattle.std.proofs.Math.IntN.{pos-*ℤ-pos}
 use Rattle.std.proofs.Math.Nat.{mul-le-mul_left}
-use Rattle.integers.specs.Vectors.{Vector, minus}
+use Rattle.integers.specs.Vectors.{minus}
 use Rattle.integers.proofs.numbers.Ring.{ring, linear}
 use Rattle.integers.proofs.vectors.Laws.{vector_equal}
-use Rattle.periodic_net.specs.Graph.{Arc, arc, Vertex, vertex}
+use Rattle.periodic_net.specs.Graph.{arc, Vertex, vertex}
 use Rattle.coordination.specs.Boxes.{side, above, IsInside, size_of, place_in, growth_of}
-use Rattle.coordination.specs.Extents.{IsCellWithin}
 use Rattle.coordination.specs.declared.extent.Extent.{Extent}
 
 -- a + n·b is below n·m

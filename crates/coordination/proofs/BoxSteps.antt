@@ -1,17 +1,16 @@
 -- The steps from a vertex of a box lead to the vertices that it is joined to.
-use Rattle.std.proofs.Common.{◌≡◌, inl, inr, ℕ, ◌-◌, ◌<◌, ℤ, pos, ◌+ℤ◌, ◌≤ℤ◌, ◌<ℤ◌, List, [], ◌∷◌, length, get_or, map, refl, sym, ap, subst, ◌∙◌, arith}
+use Rattle.std.proofs.Common.{◌≡◌, inl, inr, ℕ, ◌<◌, ℤ, pos, ◌+ℤ◌, ◌≤ℤ◌, ◌<ℤ◌, List, [], ◌∷◌, map, refl, sym, ap, subst, ◌∙◌, arith}
 use Rattle.std.proofs.lemmas.Int.{ints}
 use Rattle.std.specs.List.{All}
 use Rattle.std.specs.Prelude.{unsigned_abs}
 use Rattle.integers.proofs.lists.Members.{IsIn}
 use Rattle.integers.proofs.lists.Pieces.{all_from_in, in_map}
-use Rattle.periodic_net.specs.Graph.{Graph, Arc, arcs_from, IsQuotientVertex, Vertex}
-use Rattle.periodic_net.proofs.CallerLemmas.{arc_inside, arc_between, between_end, end_joined, end_of, from_is_arc}
+use Rattle.periodic_net.specs.Graph.{Graph, Arc, arcs_from, Vertex}
+use Rattle.periodic_net.proofs.CallerLemmas.{arc_inside, between_end, end_joined, end_of, from_is_arc}
 use Rattle.coordination.specs.Boxes.{IsBoxOf, IsInside, growth_of, place_in, size_of, spot_in, step_of, steps_from}
 use Rattle.coordination.specs.BoxSearches.{IsOpen}
 use Rattle.coordination.specs.Marks.{IsLandingWithin, place_along, spot_along, spots_along}
 use Rattle.coordination.specs.declared.net_box.NetBox.{NetBox}
-use Rattle.coordination.specs.declared.spot.Spot.{Spot}
 use Rattle.coordination.specs.declared.spot.Step.{Step}
 use Rattle.coordination.proofs.BoxPlaces.{place_below, place_grows}
 use Rattle.coordination.proofs.Ends.{ends}

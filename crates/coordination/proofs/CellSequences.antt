@@ -1,14 +1,13 @@
 -- The lists of the vertices of a primitive graph are those of the classes.
-use Rattle.std.proofs.Common.{◌≡◌, ℕ, ◌-◌, ◌≤◌, List, [], length, get_or, sym, subst, ap, ◌∙◌, arith}
+use Rattle.std.proofs.Common.{◌≡◌, ℕ, ◌-◌, List, [], get_or, sym, subst, ap, ◌∙◌, arith}
 use Rattle.integers.specs.Vectors.{Vector, zero_vector, plus, opposite}
 use Rattle.integers.proofs.vectors.Laws.{opposite_dimension, plus_opposite, zero_plus}
-use Rattle.periodic_net.specs.Classes.{IsClassNumbering, IsClassGraph}
-use Rattle.periodic_net.specs.Graph.{Graph, IsGraph, IsQuotientVertex, Vertex, vertex, moved, IsVertex}
-use Rattle.key_theory.specs.Key.{Shape}
+use Rattle.periodic_net.specs.Classes.{IsClassNumbering}
+use Rattle.periodic_net.specs.Graph.{IsGraph, IsQuotientVertex, Vertex, vertex, moved, IsVertex}
 use Rattle.quotient_graph.specs.NetClasses.{NetClasses, AreClasses, class_at}
 use Rattle.primitive_cell.specs.DividedNets.{DividedNet}
 use Rattle.cell_theory.specs.Laws.{IsDivided}
-use Rattle.cell_theory.proofs.CallerLemmas.{ClassIso, class_iso, primitive_is_divided}
+use Rattle.cell_theory.proofs.CallerLemmas.{class_iso, primitive_is_divided}
 use Rattle.coordination.specs.BoxSearches.{AreListsOf}
 use Rattle.coordination.specs.Cells.{HasCell}
 use Rattle.coordination.specs.Sequences.{AreShellsOf, AreSequencesOf}

@@ -6,11 +6,10 @@ use Rattle.std.proofs.lemmas.List.{get_or_default}
 use Rattle.integers.specs.Vectors.{Vector, zero_vector, minus}
 use Rattle.integers.proofs.lists.Members.{IsIn, is_in, contains_from_in}
 use Rattle.periodic_net.specs.Graph.{Graph, IsGraph, IsQuotientVertex, Arc, arc, arcs, IsArc, reverse_of, Vertex, vertex, AreJoined, IsWalk}
-use Rattle.periodic_net.specs.Shells.{StepsLead}
 use Rattle.periodic_net.proofs.CallerLemmas.{arc_inside, either_way, joined_turned}
 use Rattle.coordination.specs.Extents.{IsExtent}
 use Rattle.coordination.specs.declared.extent.Extent.{Extent}
-use Rattle.coordination.specs.Far.{part_of, far_of, AreAtMost, AreBetween, AreNoLess, IsRaised, AreFarther, AreFarAfter, IsFarthest}
+use Rattle.coordination.specs.Far.{part_of, far_of, AreAtMost, IsRaised, AreFarther, AreFarAfter, IsFarthest}
 use Rattle.coordination.specs.declared.extent.TheConstants.{LONGEST}
 use Rattle.coordination.specs.declared.far.Axis.{Axis}
 use Rattle.coordination.specs.declared.far.Axis.TheVariants.{X, Y, Z}

@@ -1,5 +1,5 @@
 -- What a search has found, and what is new, grow by the same things.
-use Rattle.std.proofs.Common.{◌≡◌, inl, inr, List, [], ◌∷◌, ◌++◌, refl, sym, subst, ◌∙◌, append_assoc, append-nil}
+use Rattle.std.proofs.Common.{◌≡◌, inl, inr, List, [], ◌∷◌, ◌++◌, sym, subst, ◌∙◌, append_assoc, append-nil}
 use Prim.{Dec, yes, no}
 use Rattle.integers.proofs.lists.Members.{IsIn, AreApart}
 use Rattle.integers.proofs.lists.Pieces.{append_left, append_right, append_apart}

@@ -1,6 +1,5 @@
 -- The vertices that a search in a box finds along steps.
-use Rattle.std.proofs.Common.{◌≡◌, ◌⊎◌, inl, inr, ℕ, ◌<◌, List, [], ◌∷◌, ◌++◌, length, set, map, Bool, true, false, cond, refl, sym, ap, subst, ◌∙◌, length-set}
-use Rattle.std.specs.List.{Contains}
+use Rattle.std.proofs.Common.{◌≡◌, ◌⊎◌, inl, inr, ◌<◌, List, [], ◌∷◌, ◌++◌, length, set, map, Bool, true, false, cond, refl, sym, ap, subst, ◌∙◌, length-set}
 use Rattle.std.proofs.lemmas.List.{map-append}
 use Rattle.integers.proofs.lists.Members.{IsIn, is_in, contains_from_in}
 use Rattle.integers.proofs.lists.Pieces.{in_append, in_map, map_in}

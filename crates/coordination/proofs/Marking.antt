@@ -1,5 +1,5 @@
 -- The marks of what is found, with one vertex more, and taken back.
-use Rattle.std.proofs.Common.{◌≡◌, ◌≢◌, ◌⊎◌, inl, inr, ℕ, suc, ◌+◌, ◌<◌, ◌≤◌, List, [], ◌∷◌, ◌++◌, length, get_or, set, drop, Bool, true, false, refl, sym, ap, subst, ◌∙◌, arith, add-one, get_or-set_other, get_or-set_same, length-set, drop-cons}
+use Rattle.std.proofs.Common.{◌≡◌, ◌≢◌, ◌⊎◌, inl, inr, ℕ, suc, ◌+◌, ◌<◌, ◌≤◌, List, [], ◌∷◌, ◌++◌, length, get_or, set, drop, Bool, true, false, refl, sym, ap, subst, ◌∙◌, arith, get_or-set_other, get_or-set_same, length-set, drop-cons}
 use Rattle.std.proofs.Math.Decide.{ℕ_discrete}
 use Prim.{Dec, yes, no}
 use Rattle.std.specs.List.{Contains}

@@ -1,10 +1,10 @@
 -- Maps that undo each other and carry joined vertices to joined ones carry shells to shells.
 use Rattle.std.proofs.Common.{◌≡◌, ◌⊎◌, inl, inr, ℕ, ◌+◌, List, [], ◌∷◌, length, map, sum, refl, sym, ap, subst, ◌∙◌}
 use Rattle.std.proofs.lemmas.List.{length-map}
-use Rattle.integers.specs.Vectors.{Vector, zero_vector, plus, opposite, HasDimension}
+use Rattle.integers.specs.Vectors.{Vector, opposite, HasDimension}
 use Rattle.integers.proofs.lists.Members.{IsIn, AreApart, is_in, contains_from_in, apart_from_pairs, pairs_from_apart}
 use Rattle.integers.proofs.lists.Pieces.{in_map, map_in}
-use Rattle.integers.proofs.vectors.Laws.{minus_plus, opposite_plus, plus_opposite, opposite_dimension}
+use Rattle.integers.proofs.vectors.Laws.{opposite_plus, plus_opposite, opposite_dimension}
 use Rattle.periodic_net.specs.Graph.{Graph, IsGraph, Vertex, vertex, moved, IsVertex, AreJoined, IsWalk}
 use Rattle.periodic_net.specs.Maps.{Iso}
 use Rattle.periodic_net.specs.Shells.{StepsLead, IsInShell, IsShellSize}

@@ -1,7 +1,6 @@
 -- An extent of the shells of all vertices has the shifts of the edges within.
-use Rattle.std.proofs.Common.{◌≡◌, inl, inr, List, [], ◌∷◌, refl, subst, arith}
-use Rattle.std.proofs.lemmas.Int.{ints}
-use Rattle.integers.specs.Vectors.{Vector, zero_vector, plus}
+use Rattle.std.proofs.Common.{inl, inr, List, [], ◌∷◌, refl, subst, arith}
+use Rattle.integers.specs.Vectors.{Vector, zero_vector}
 use Rattle.integers.proofs.lists.Filters.{all_at}
 use Rattle.integers.proofs.lists.Members.{IsIn, contains_from_in}
 use Rattle.integers.proofs.lists.Pieces.{all_from_in}

@@ -15,6 +15,7 @@ pub struct Extent {
 
 // The greatest part of a step in a box, and of all steps of a search.
 pub const LONGEST: u32 = 1_000;
+
 pub const WIDEST: u32 = 10_000;
 
 // The greater of a number and a part of a shift, unless this is too great.

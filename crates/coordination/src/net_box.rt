@@ -161,7 +161,14 @@ fn star_of<const D: usize>(
     for edge in &cell.edges {
         let by = growth(cell.vertices, extent, edge);
         add_step(&mut star, edge.u == u, Step { to: edge.v, by })?;
-        add_step(&mut star, edge.v == u, Step { to: edge.u, by: -by })?;
+        add_step(
+            &mut star,
+            edge.v == u,
+            Step {
+                to: edge.u,
+                by: -by,
+            },
+        )?;
     }
     Ok(star)
 }

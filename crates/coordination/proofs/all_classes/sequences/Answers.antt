@@ -1,4 +1,4 @@
-use Rattle.std.proofs.Common.{◌≡◌, ◌≤◌, List, ℕ, length, subst, sym, ◌∙◌, lit<}
+use Rattle.std.proofs.Common.{◌≤◌, List, ℕ, subst, sym, ◌∙◌, lit<}
 use Rattle.std.specs.Prelude.{Option, IfSome}
 use Rattle.periodic_net.specs.Limits.{most_vertices}
 use Rattle.coordination.specs.BoxSearches.{AreListsOf}

@@ -1,4 +1,4 @@
-use Rattle.std.proofs.Common.{◌+◌, ◌∙◌, refl, rules}
+use Rattle.std.proofs.Common.{rules}
 use Rattle.coordination.proofs.BoxLists.{lists_more}
 use Rattle.coordination.proofs.box_count.lists_in.Goals as goal
 

@@ -1,4 +1,4 @@
-use Rattle.std.proofs.Common.{◌≡◌, ◌+◌, ◌-◌, ◌<◌, ◌≤◌, [], length, refl, sym, ap, subst, arith}
+use Rattle.std.proofs.Common.{◌≡◌, ◌+◌, ◌-◌, ◌<◌, ◌≤◌, length, refl, sym, ap, subst, arith}
 use Rattle.coordination.specs.Sequences.{most_in_shells}
 use Rattle.coordination.proofs.BoxCounting.{IsCountedIn, counted_size, counting_past, counting_starts, counting_ten, counting_turn, searchable}
 use Rattle.coordination.proofs.Counting.{grown}
@@ -62,17 +62,17 @@ returns-then-size-room-clause-marked c =
 pub loop-k-preserved : goal.loop-k-preserved
 loop-k-preserved c = record {
   counted = λ P q i.
-    let h = c.loop-k.invariant.counted P q i in
-    let test = c.loop-k-test.true in
-    let count = c.loop-k.invariant.count in
-    let fewer : length c.loop-k.sizes.items < 10 = omega arith in
-    let n = c.in_ok-next_shell.ensures P h.vertices (searchable P c.args.net_box.now q c.args.over i c.loop-k.sizes.items c.loop-k.room c.loop-k.begin c.loop-k.marks c.loop-k.found.items h fewer) in
-    let grows = counted_size P c.args.net_box.now q c.args.over i c.loop-k.sizes.items c.loop-k.room c.loop-k.begin c.loop-k.marks c.loop-k.found.items h c.next_shell.new.marks c.next_shell.new.found.items n in
-    let size : c.len.result - c.len-end.result ≡ length n.next = omega (arith, grows, c.len.ensures, c.len-end.ensures) in
-    let fits : c.len.result - c.len-end.result ≤ c.loop-k.room = omega (arith, c.if-size-room.false) in
-    let end : c.len-end.result ≡ length c.loop-k.found.items = omega (arith, c.len-end.ensures) in
-    counting_turn P c.args.net_box.now q c.args.over i c.loop-k.sizes.items c.loop-k.room c.loop-k.begin c.loop-k.marks c.loop-k.found.items h c.next_shell.new.marks c.next_shell.new.found.items n c.push.new.self.items (c.len.result - c.len-end.result) (c.len.result - c.len-end.result) c.len-end.result
-    fewer size fits refl c.in_ok-push.ensures.items end;
+      let h = c.loop-k.invariant.counted P q i in
+      let test = c.loop-k-test.true in
+      let count = c.loop-k.invariant.count in
+      let fewer : length c.loop-k.sizes.items < 10 = omega arith in
+      let n = c.in_ok-next_shell.ensures P h.vertices (searchable P c.args.net_box.now q c.args.over i c.loop-k.sizes.items c.loop-k.room c.loop-k.begin c.loop-k.marks c.loop-k.found.items h fewer) in
+      let grows = counted_size P c.args.net_box.now q c.args.over i c.loop-k.sizes.items c.loop-k.room c.loop-k.begin c.loop-k.marks c.loop-k.found.items h c.next_shell.new.marks c.next_shell.new.found.items n in
+      let size : c.len.result - c.len-end.result ≡ length n.next = omega (arith, grows, c.len.ensures, c.len-end.ensures) in
+      let fits : c.len.result - c.len-end.result ≤ c.loop-k.room = omega (arith, c.if-size-room.false) in
+      let end : c.len-end.result ≡ length c.loop-k.found.items = omega (arith, c.len-end.ensures) in
+      counting_turn P c.args.net_box.now q c.args.over i c.loop-k.sizes.items c.loop-k.room c.loop-k.begin c.loop-k.marks c.loop-k.found.items h c.next_shell.new.marks c.next_shell.new.found.items n c.push.new.self.items (c.len.result - c.len-end.result) (c.len.result - c.len-end.result) c.len-end.result
+      fewer size fits refl c.in_ok-push.ensures.items end;
   count = let count = c.loop-k.invariant.count in grown c.loop-k.sizes.items c.push.new.self.items (c.len.result - c.len-end.result) c.loop-k._k c.in_ok-push.ensures.items count;
 }
 

@@ -1,4 +1,4 @@
-use Rattle.std.proofs.Common.{◌≡◌, drop, length}
+use Rattle.std.proofs.Common.{◌≡◌, drop}
 use Rattle.coordination.specs.Marks.{all_marks, all_spots, spots_along}
 use Rattle.coordination.proofs.marks.follow.Given as goal
 

@@ -1,4 +1,4 @@
-use Rattle.std.proofs.Common.{◌*◌, ◌<◌, ◌≤◌, ◌^◌, arith}
+use Rattle.std.proofs.Common.{arith}
 use Rattle.coordination.proofs.BoxBounds.{size_small}
 use Rattle.coordination.proofs.net_box.size.Goals as goal
 
