@@ -1,7 +1,7 @@
 -- The rows of each entry follow one another.
-use Rattle.std.proofs.Common.{◌≡◌, ◌≤◌, ◌<◌, ◌+◌, ℕ, ℤ, List, [], ◌∷◌, ◌++◌, All, length, get_or, map, refl, sym, ap, ◌∙◌, subst, arith}
+use Rattle.std.proofs.Common.{◌≡◌, ◌≤◌, ◌+◌, ℕ, ℤ, List, [], ◌∷◌, ◌++◌, All, length, get_or, map, refl, sym, ap, subst, arith}
 use mathlib.Core.List.{append_assoc}
-use Rattle.std.specs.List.{AllPairs, flat_map}
+use Rattle.std.specs.List.{flat_map}
 use Rattle.std.proofs.lemmas.List.{append-nil, length-append, get_or_append_left}
 use Rattle.std.proofs.lemmas.List.Elements.{All-head, All-tail}
 use Rattle.periodic_net.specs.Graph.{Arc}
@@ -10,9 +10,9 @@ use Rattle.net_entries.specs.Entries.{EntryView}
 use Rattle.archive_text.specs.declared.size.GraphSize.{GraphSize}
 use Rattle.archive_text.specs.declared.version.Version.{Version}
 use Rattle.archive_text.specs.declared.version.Version.TheVariants.{One, Two}
-use Rattle.archive_text.specs.Rows.{Row, OfEdge, OfKey, OfCount, OfShells, OfEnd, size_of_graph}
+use Rattle.archive_text.specs.Rows.{Row, OfEdge, OfKey, OfCount, OfEnd, size_of_graph}
 use Rattle.archive_text.specs.Forms.{IsEdgeOfSize, AreSizes}
-use Rattle.archive_text.specs.Parts.{Part, Start, Named, Drawn, Keyed, Counted, part_rows, shells_rows, drawn_rows, end_part, MayFollow, IsFormed, IsDrawn, IsKeyed, IsCounted}
+use Rattle.archive_text.specs.Parts.{Part, Start, Named, Drawn, Keyed, Counted, part_rows, shells_rows, drawn_rows, end_part, MayFollow, IsFormed, IsDrawn, IsKeyed}
 use Rattle.archive_text.specs.Texts.{whole_part, entry_rows}
 use Rattle.archive_text.proofs.Edges.{below_before}
 use Rattle.archive_text.proofs.Walks.{Walk, part_with}

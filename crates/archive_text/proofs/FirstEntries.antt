@@ -1,5 +1,5 @@
 -- The first entry of a list of rows.
-use Rattle.std.proofs.Common.{◌≡◌, ℕ, ℤ, ◌+◌, List, [], ◌∷◌, ◌++◌, All, length, map, Option, None, Some, refl, sym, ap, ◌∙◌, subst, arith}
+use Rattle.std.proofs.Common.{◌≡◌, ℕ, ℤ, ◌+◌, List, [], ◌∷◌, ◌++◌, length, map, refl, sym, ap, ◌∙◌, arith}
 use mathlib.Core.List.{append_assoc}
 use Rattle.std.specs.List.{flat_map}
 use Rattle.std.proofs.lemmas.List.{append-nil}
@@ -10,7 +10,7 @@ use Rattle.archive_text.specs.declared.size.GraphSize.{GraphSize}
 use Rattle.archive_text.specs.declared.version.Version.{Version}
 use Rattle.archive_text.specs.declared.version.Version.TheVariants.{One, Two}
 use Rattle.archive_text.specs.Rows.{Row, OfName, OfSize, OfEdge, OfKey, OfCount, OfShells, OfEnd}
-use Rattle.archive_text.specs.Parts.{Part, Start, Named, Drawn, Keyed, Counted, part_rows, shells_rows, drawn_rows}
+use Rattle.archive_text.specs.Parts.{Part, Start, Named, Drawn, Keyed, Counted, part_rows, shells_rows}
 use Rattle.archive_text.specs.Texts.{whole_part, entry_rows}
 use Rattle.archive_text.proofs.Walks.{part_with}
 

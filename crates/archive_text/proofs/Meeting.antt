@@ -1,12 +1,12 @@
 -- Two walks of one text meet: the shorter is the beginning of the longer.
-use Rattle.std.proofs.Common.{◌≡◌, ℕ, ◌+◌, List, [], ◌∷◌, ◌++◌, length, refl, sym, ap, ◌∙◌, subst, arith}
+use Rattle.std.proofs.Common.{◌≡◌, ℕ, List, [], ◌∷◌, ◌++◌, length, refl, sym, ap, ◌∙◌, subst, arith}
 use mathlib.Core.List.{append_assoc}
 use Rattle.std.proofs.lemmas.List.{length-append}
 use Rattle.line_text.specs.Lines.{rows_text}
 use Rattle.line_text.proofs.CallerLemmas.{same_row}
 use Rattle.archive_text.specs.declared.version.Version.{Version}
 use Rattle.archive_text.specs.Rows.{Row, row_line, row_lines}
-use Rattle.archive_text.specs.Parts.{Part, MayFollow, IsFormed}
+use Rattle.archive_text.specs.Parts.{Part, IsFormed}
 use Rattle.archive_text.proofs.Walks.{Walk, part_with, formed_with, row_none, same_row_of}
 
 -- these rows begin with those, and what follows is the rest

@@ -1,5 +1,5 @@
 -- Where the reading of an entry stands.
-use Rattle.std.specs.Prelude.{ℕ, ℤ, ◌≡◌, true, ◌<◌, ◌≤◌, ◌+◌, List, [], ◌∷◌, ◌++◌, length, map, All, Option, None, Some}
+use Rattle.std.specs.Prelude.{ℕ, ℤ, ◌≡◌, true, ◌<◌, ◌≤◌, ◌+◌, List, [], ◌∷◌, ◌++◌, length, map, All, Option, None, Some, Result, IfOk, MatchResult}
 use Rattle.line_text.specs.Lines.{Place, IsAt}
 use Rattle.quotient_graph.specs.Order.{AreRising}
 use Rattle.periodic_net.specs.Graph.{Arc}
@@ -126,6 +126,12 @@ pub record HasKeyed (text : List ℕ) (rows : List (List ℕ)) (name : List ℕ)
 pub record HasWhole (v : Version) (text : List ℕ) (rows : List (List ℕ)) (part : Part) (place : Place) : Type 0 where
   pub at : IsAt text (rows ++ row_lines (part_rows part)) place
   pub formed : IsFormed v part
+
+-- after the key of an entry shells are read from the one place to the other, or a line is none that may follow
+abbrev pub AreShellsRead : {E : Type 0} → Version → Place → Place → Result (Result (List (List ℕ)) ℕ) E → Type 0
+AreShellsRead v before after result = (text : List ℕ) (rows : List (List ℕ)) (name : List ℕ) (s : GraphSize) (edges : List Arc) (key : List ℤ)
+    → IsKeyed name s edges key → IsAt text (rows ++ row_lines (part_rows (Keyed name s edges key))) before
+    → IfOk result (λ read. MatchResult read (λ lists. HasWhole v text rows (end_part v name s edges key lists) after) (HasBadLine v text rows name))
 
 -- what the rows of an entry before its end say
 abbrev pub form_part : Version → List ℕ → Form → Part

@@ -8,7 +8,7 @@ ghost use Rattle.archive_text.specs.declared.version.Version.TheVariants.{Two};
 ghost use Rattle.archive_text.specs.Names.{is_name};
 ghost use Rattle.archive_text.specs.Rows.{name_row, row_lines};
 ghost use Rattle.archive_text.specs.Parts.{Keyed, IsKeyed, end_part, part_rows};
-ghost use Rattle.archive_text.specs.Reading.{HasBadLine, HasKeyed, HasWhole, HasForm};
+ghost use Rattle.archive_text.specs.Reading.{AreShellsRead, HasBadLine, HasKeyed, HasForm};
 
 use crate::edge_list::read_edges;
 use crate::shell_lists::read_lists;
@@ -72,12 +72,7 @@ fn read_counted(
     lines: &mut Lines<'_>,
     numbers: &mut Vec<i128>,
 ) -> Result<Result<Sequences, u32>, AllocError>
-    ensures rest { (text : List ℕ) (rows : List (List ℕ)) (name : List ℕ) (s : GraphSize)
-        (edges : List Arc) (key : List ℤ) → IsKeyed name s edges key →
-        IsAt text (rows ++ row_lines (part_rows (Keyed name s edges key))) lines.old →
-        IfOk result (λ read. MatchResult read
-        (λ lists. HasWhole Two text rows (end_part Two name s edges key lists) lines.new)
-        (HasBadLine Two text rows name)) }
+    ensures rest { AreShellsRead Two lines.old lines.new result }
     ensures few { IfOk result (λ read. IfOk read (λ lists. length lists ≤ 512)) }
 {
     let line = lines.number();
@@ -93,12 +88,7 @@ fn read_shells(
     version: Version,
     numbers: &mut Vec<i128>,
 ) -> Result<Result<Sequences, u32>, AllocError>
-    ensures rest { (text : List ℕ) (rows : List (List ℕ)) (name : List ℕ) (s : GraphSize)
-        (edges : List Arc) (key : List ℤ) → IsKeyed name s edges key →
-        IsAt text (rows ++ row_lines (part_rows (Keyed name s edges key))) lines.old →
-        IfOk result (λ read. MatchResult read
-        (λ lists. HasWhole version text rows (end_part version name s edges key lists) lines.new)
-        (HasBadLine version text rows name)) }
+    ensures rest { AreShellsRead version lines.old lines.new result }
     ensures few { IfOk result (λ read. IfOk read (λ lists. length lists ≤ 512)) }
 {
     match version {

@@ -2,11 +2,10 @@
 use Rattle.std.proofs.Common.{◌≡◌, ℕ, ◌≤◌, List, sym, ap, subst, ◌∙◌}
 use Rattle.std.specs.List.{Contains}
 use Rattle.integers.specs.Staircase.{IsStaircase}
-use Rattle.integers.specs.Vectors.{Vector, plus, minus, parts, combination, HasDimension}
+use Rattle.integers.specs.Vectors.{Vector, parts, combination, HasDimension}
 use Rattle.periodic_net.specs.Classes.{IsTranslation, ClassArc}
 use Rattle.periodic_net.specs.Correspondence.{IsClass}
 use Rattle.periodic_net.specs.Graph.{IsQuotientVertex, arc}
-use Rattle.periodic_net.specs.Placement.{base}
 use Rattle.periodic_net.proofs.CallerLemmas.{flat_arcs}
 use Rattle.quotient_graph.specs.NetClasses.{NetClasses, class_at}
 use Rattle.quotient_graph.specs.PlacedNets.{PlacedNet}
@@ -35,24 +34,15 @@ module _ (d : ℕ) (N : PlacedNet) (c : NetClasses) (us : List ℕ) (S : Stairs)
   pub head_in : (b : ClassArc) → Contains c.classes.arcs b → IsClass c.classes b.to
   head_in b h = (flat_arcs N.graph N.placement (class_at c.numbers) c.classes (record { graph = p.graph; stable = p.stable; classes = p.classes }) b h).to
 
-  -- a class has a place in the list of representatives
-  pub place_in : (k : ℕ) → IsClass c.classes k → IsPlace us k
-  place_in k i = (i.0, subst (λ (n : ℕ). k ≤ n) (sym p.count) i.1)
-
-  -- a representative is a vertex
-  pub representative_in : (k : ℕ) → IsClass c.classes k → IsQuotientVertex N.graph (number_at us k)
-  representative_in k i = (p.representatives k i).is_vertex
+  -- a class has a place in the list of representatives, each of which is a vertex
+  pub represented : (k : ℕ) → IsClass c.classes k → IsPlace us k × IsQuotientVertex N.graph (number_at us k)
+  represented k i = ((i.0, subst (λ (n : ℕ). k ≤ n) (sym p.count) i.1), (p.representatives k i).is_vertex)
 
   -- the move of an arc is a member of the lattice
   pub move_in : (b : ClassArc) → Contains c.classes.arcs b → Members d S (move_of N.placement (number_at us) b)
   move_in b h =
       (p.lattice.members (move_of N.placement (number_at us) b)).1
       (move_translates N.graph N.placement (class_at c.numbers) c.classes (number_at us) (rows_of d S) cell_of b h)
-
-  -- what is reckoned is the move
-  pub move_reckoned : (b a : ClassArc) → a ≡ b → (from to v : Vector) → from ≡ base N.placement (number_at us a.from) → to ≡ base N.placement (number_at us a.to)
-      → v ≡ minus (plus a.vector from) to → v ≡ move_of N.placement (number_at us) b
-  move_reckoned b a e from to v f t w = w ∙ (λ i. minus (plus a.vector (f i)) (t i)) ∙ ap (move_of N.placement (number_at us)) e
 
   -- what has the coordinates of the move is given
   pub is_given : (b a : ClassArc) → a ≡ b → (v k : Vector) → v ≡ move_of N.placement (number_at us) b → combination (parts 3 k) (rows_of d S) ≡ v

@@ -4,8 +4,8 @@ use Rattle.std.proofs.Math.Decide.{dec_le}
 use Prim.{Dec, yes, no}
 use Rattle.periodic_net.specs.Classes.{IsClassGraph, AreTranslations, ClassGraph}
 use Rattle.periodic_net.specs.Correspondence.{IsClass}
-use Rattle.periodic_net.specs.Graph.{Graph, IsGraph, IsConnected, IsQuotientVertex}
-use Rattle.periodic_net.specs.Placement.{Placement, IsNormalPlacement, IsStablePlacement, HasNoCollision}
+use Rattle.periodic_net.specs.Graph.{Graph, IsGraph, IsQuotientVertex}
+use Rattle.periodic_net.specs.Placement.{Placement, IsStablePlacement}
 use Rattle.periodic_net.specs.Limits.{IsSmall}
 use Rattle.periodic_net.proofs.CallerLemmas.{one_placement}
 use Rattle.key_theory.specs.Primitive.{IsLeastMember}
@@ -44,16 +44,8 @@ pub record IsKnown (N : PlacedNet) (c : NetClasses) : Type 0 where
   pub at : AreClassesAt N c
 
 -- from what the types promise
-pub known : (M N : PlacedNet) (c : NetClasses) → M ≡ N → IsGraph M.graph → IsSmall M.graph → IsConnected M.graph → IsNormalPlacement M.graph M.placement
-    → HasNoCollision N.graph N.placement → c.graph ≡ N.graph → AreClasses c → IsKnown N c
-known M N c e g small con normal apart same a =
-    let graph = subst (λ (n : PlacedNet). IsGraph n.graph) e g in
-    let stable : IsStablePlacement N.graph N.placement = record {
-      connected = subst (λ (n : PlacedNet). IsConnected n.graph) e con;
-      placement = subst (λ (n : PlacedNet). IsNormalPlacement n.graph n.placement) e normal;
-      no_collision = apart;
-    } in
-    record { graph = graph; small = subst (λ (n : PlacedNet). IsSmall n.graph) e small; stable = stable; classes = a; at = classes_at N c graph stable same a }
+pub known : (N : PlacedNet) (c : NetClasses) → IsGraph N.graph → IsSmall N.graph → IsStablePlacement N.graph N.placement → c.graph ≡ N.graph → AreClasses c → IsKnown N c
+known N c g small stable same a = record { graph = g; small = small; stable = stable; classes = a; at = classes_at N c g stable same a }
 
 module _ (G : Graph) (p : Placement) (ns : List ℕ) (K : ClassGraph) (count : length ns ≡ G.vertices) (k : IsClassGraph G p (class_at ns) K) where
   -- a place is a vertex

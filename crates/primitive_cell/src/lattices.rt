@@ -10,10 +10,8 @@ pub fn lattice_of<const D: usize>(net: &Stable<D>, translations: &[Vect<D>]) -> 
     requires { AreTranslations net.now.graph net.now.placement translations.now }
     ensures { IsTranslationLattice D net.now result }
 {
-    let placed = net.placed();
-    let graph = placed.graph();
-    let _ = graph.dimension();
-    let mut stairs = Staircase::from_bound(placed.d0());
+    let _ = net.graph().dimension();
+    let mut stairs = Staircase::from_bound(net.placed().d0());
     stairs.insert_all(translations);
     let _ = stairs.rows();
     stairs

@@ -15,7 +15,7 @@ pub returns-in-Err-2-clause-rest : goal.returns-in-Err-2-clause-rest
 returns-in-Err-2-clause-rest c = λ text rows name is at.
     let k = c.in-Ok.keyed in
     let v = c.args.version in
-    let has = at_ok c.in_ok-keyed.field-0 (HasKeyed text rows name c.read_keyed.new.lines) (HasBadLine v text rows name) k c.in-Ok.is (c.in_ok-keyed.ensures v text rows name is at) in
+    let has = at_ok c.in_ok-keyed.field-0 _ _ k c.in-Ok.is (c.in_ok-keyed.ensures v text rows name is at) in
     at_err c.in_ok-shells.field-0 (λ lists. HasWhole v text rows (end_part v name k.size (map edge_of k.edges.items) k.key lists) c.read_shells.new.lines) (HasBadLine v text rows name) c.in-Err-2.line c.in-Err-2.is
     (c.in_ok-shells.ensures.rest text rows name k.size (map edge_of k.edges.items) k.key has.formed has.at)
 
@@ -24,8 +24,8 @@ returns-then-next_end-clause-rest c = λ text rows name is at.
     let k = c.in-Ok.keyed in
     let v = c.args.version in
     let lists = c.in-Ok-2.shells in
-    let has = at_ok c.in_ok-keyed.field-0 (HasKeyed text rows name c.read_keyed.new.lines) (HasBadLine v text rows name) k c.in-Ok.is (c.in_ok-keyed.ensures v text rows name is at) in
-    let whole = at_ok c.in_ok-shells.field-0 (λ ls. HasWhole v text rows (end_part v name k.size (map edge_of k.edges.items) k.key ls) c.read_shells.new.lines) (HasBadLine v text rows name) lists c.in-Ok-2.is
+    let has = at_ok c.in_ok-keyed.field-0 _ _ k c.in-Ok.is (c.in_ok-keyed.ensures v text rows name is at) in
+    let whole = at_ok c.in_ok-shells.field-0 _ _ lists c.in-Ok-2.is
     (c.in_ok-shells.ensures.rest text rows name k.size (map edge_of k.edges.items) k.key has.formed has.at) in
     record {
       before_end = c.read_shells.new.lines;
@@ -41,8 +41,8 @@ returns-else-next_end-clause-rest c = λ text rows name is at.
     let k = c.in-Ok.keyed in
     let v = c.args.version in
     let lists = c.in-Ok-2.shells in
-    let has = at_ok c.in_ok-keyed.field-0 (HasKeyed text rows name c.read_keyed.new.lines) (HasBadLine v text rows name) k c.in-Ok.is (c.in_ok-keyed.ensures v text rows name is at) in
-    let whole = at_ok c.in_ok-shells.field-0 (λ ls. HasWhole v text rows (end_part v name k.size (map edge_of k.edges.items) k.key ls) c.read_shells.new.lines) (HasBadLine v text rows name) lists c.in-Ok-2.is
+    let has = at_ok c.in_ok-keyed.field-0 _ _ k c.in-Ok.is (c.in_ok-keyed.ensures v text rows name is at) in
+    let whole = at_ok c.in_ok-shells.field-0 _ _ lists c.in-Ok-2.is
     (c.in_ok-shells.ensures.rest text rows name k.size (map edge_of k.edges.items) k.key has.formed has.at) in
     bad_end v text rows name k.size (map edge_of k.edges.items) k.key lists c.read_shells.new.lines c.number-end_line.result whole c.number-end_line.ensures.number
     (λ rest e. true≢false (sym (c.next_end.ensures.none rest e) ∙ c.if-next_end.false))

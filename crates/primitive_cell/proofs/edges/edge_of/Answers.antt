@@ -1,11 +1,13 @@
-use Rattle.std.proofs.Common.{lit<, sym, ap, subst}
+use Rattle.std.proofs.Common.{rules, ◌≡◌, lit<, sym, ap, subst}
 use Rattle.integers.specs.Vectors.{IsWithin}
 use Rattle.periodic_net.specs.Classes.{ClassArc}
 use Rattle.periodic_net.specs.Correspondence.{IsClass}
 use Rattle.periodic_net.specs.Limits.{most_coordinate}
 use Rattle.quotient_graph.specs.ClassNets.{IsSmallNet}
 use Rattle.vecdim.specs.Lattices.{Members}
-use Rattle.primitive_cell.proofs.CellFacts.{place_in, representative_in, tail_in, head_in, move_in, move_reckoned, is_given}
+use Rattle.primitive_cell.specs.Given.{move_of}
+use Rattle.primitive_cell.specs.Places.{number_at}
+use Rattle.primitive_cell.proofs.CellFacts.{represented, tail_in, head_in, move_in, is_given}
 use Rattle.primitive_cell.proofs.edges.edge_of.Goals as goal
 
 pub position_of-from-requires : goal.position_of-from-requires
@@ -15,7 +17,7 @@ position_of-from-requires g c =
     let us = c.args.firsts.now in
     let p = c.requires.cell in
     let k = subst (IsClass K.classes) (sym (ap (λ (b : ClassArc). b.from) c.arc.view_is)) (tail_in g.row.D N K us c.args.stairs.now p c.args.arc.now c.requires.arc) in
-    (lit< tt, (lit< tt, (place_in g.row.D N K us c.args.stairs.now p c.arc.inside.from k, representative_in g.row.D N K us c.args.stairs.now p c.arc.inside.from k)))
+    (lit< tt, (lit< tt, represented g.row.D N K us c.args.stairs.now p c.arc.inside.from k))
 
 pub position_of-to-requires : goal.position_of-to-requires
 position_of-to-requires g c =
@@ -24,7 +26,7 @@ position_of-to-requires g c =
     let us = c.args.firsts.now in
     let p = c.requires.cell in
     let k = subst (IsClass K.classes) (sym (ap (λ (b : ClassArc). b.to) c.arc.view_is)) (head_in g.row.D N K us c.args.stairs.now p c.args.arc.now c.requires.arc) in
-    (lit< tt, (lit< tt, (place_in g.row.D N K us c.args.stairs.now p c.arc.inside.to k, representative_in g.row.D N K us c.args.stairs.now p c.arc.inside.to k)))
+    (lit< tt, (lit< tt, represented g.row.D N K us c.args.stairs.now p c.arc.inside.to k))
 
 pub move_between-v-requires : goal.move_between-v-requires
 move_between-v-requires g c =
@@ -35,22 +37,14 @@ move_between-v-requires g c =
 pub coordinates-requires : goal.coordinates-requires
 coordinates-requires g c =
     let N = c.args.net.now in
-    let K = c.args.classes.now in
     let us = c.args.firsts.now in
-    let b = c.args.arc.now in
-    let v = c.move_between-v.result in
-    let e = move_reckoned g.row.D N K us c.args.stairs.now c.requires.cell b _ c.arc.view_is c.position_of-from.result c.position_of-to.result v
-    c.position_of-from.ensures.value c.position_of-to.ensures.value c.move_between-v.ensures.value in
-    let m = subst (Members g.row.D c.args.stairs.now) (sym e) (move_in g.row.D N K us c.args.stairs.now c.requires.cell b c.requires.arc) in
+    let e : c.move_between-v.result ≡ move_of N.placement (number_at us) c.args.arc.now = search rules in
+    let m = subst (Members g.row.D c.args.stairs.now) (sym e) (move_in g.row.D N c.args.classes.now us c.args.stairs.now c.requires.cell c.args.arc.now c.requires.arc) in
     (lit< tt, (lit< tt, (m, c.move_between-v.ensures.within)))
 
 pub returns : goal.returns
 returns g c =
     let N = c.args.net.now in
-    let K = c.args.classes.now in
     let us = c.args.firsts.now in
-    let b = c.args.arc.now in
-    let v = c.move_between-v.result in
-    let e = move_reckoned g.row.D N K us c.args.stairs.now c.requires.cell b _ c.arc.view_is c.position_of-from.result c.position_of-to.result v
-    c.position_of-from.ensures.value c.position_of-to.ensures.value c.move_between-v.ensures.value in
-    is_given g.row.D N K us c.args.stairs.now c.requires.cell b _ c.arc.view_is v c.coordinates.result e c.coordinates.ensures.value c.coordinates.ensures.dimension
+    let e : c.move_between-v.result ≡ move_of N.placement (number_at us) c.args.arc.now = search rules in
+    is_given g.row.D N c.args.classes.now us c.args.stairs.now c.requires.cell c.args.arc.now _ c.arc.view_is c.move_between-v.result c.coordinates.result e c.coordinates.ensures.value c.coordinates.ensures.dimension
