@@ -7,7 +7,7 @@ use Rattle.std.proofs.lemmas.List.{drop_all, get_or_append_left, length_push}
 use Rattle.integers.specs.Vectors.{Vector}
 use Rattle.integers.proofs.numbers.Ring.{ring, linear}
 use Rattle.periodic_net.specs.Graph.{Graph, IsQuotientVertex, Arc, arc, both_ways, reverse_of}
-use Rattle.coordination.specs.Boxes.{AreStars, growth_of, side, star_with, step_of, steps_from}
+use Rattle.coordination.specs.Boxes.{AreStars, growth_of, side, star_along, star_with, step_of, steps_from}
 use Rattle.coordination.specs.declared.extent.Extent.{Extent}
 use Rattle.coordination.specs.declared.spot.Step.{Step}
 
@@ -30,29 +30,28 @@ module _ (n : ℕ) (r : Extent) (u : ℕ) where
       by n X Y o p x y z = simp ring (omega (arith, linear))
 
   -- the steps along an edge, both ways, and those along others
-  pub edge_steps : (e : Arc) (es : List Arc) (star : List Step) (by : ℤ) → by ≡ neg_ℤ (growth_of n r e)
-      → star_with (star_with star (e.from == u) (step_of n r e)) (e.to == u) (record { to = e.from; by = by }) ++ steps_from n r u es ≡ star ++ steps_from n r u (e ∷ es)
-  edge_steps e es star by q =
+  edge_steps : (e : Arc) (es : List Arc) (star : List Step) → star_along star n r e u ++ steps_from n r u es ≡ star ++ steps_from n r u (e ∷ es)
+  edge_steps e es star =
       let f = step_of n r in
-      let back : record { to = e.from; by = by } ≡ f (reverse_of e) = λ i. record { to = e.from; by = (q ∙ sym (growth_back e)) i } in
       let rest = filter (λ a. a.from == u) (both_ways es) in
       let once = cond (e.to == u) (reverse_of e ∷ rest) rest in
       let first = star_with star (e.from == u) (f e) in
-      ap (λ (t : Step). star_with first (e.to == u) t ++ map f rest) back
-      ∙ added (e.to == u) first (map f rest) (f (reverse_of e))
+      added (e.to == u) first (map f rest) (f (reverse_of e))
       ∙ ap (λ (ts : List Step). first ++ ts) (sym (kept f (e.to == u) rest (reverse_of e)))
       ∙ added (e.from == u) star (map f once) (f e)
       ∙ ap (λ (ts : List Step). star ++ ts) (sym (kept f (e.from == u) once e))
 
   -- a turn of the loop
-  pub star_more : (es : List Arc) (i : ℕ) (star all : List Step) (e : Arc) (by : ℤ) → i < length es → e ≡ get_or es i e → by ≡ neg_ℤ (growth_of n r e)
-      → star ++ steps_from n r u (drop i es) ≡ all → star_with (star_with star (e.from == u) (step_of n r e)) (e.to == u) (record { to = e.from; by = by }) ++ steps_from n r u (drop (i + 1) es) ≡ all
-  star_more es i star all e by l s q h = edge_steps e (drop (i + 1) es) star by q ∙ ap (λ (fs : List Arc). star ++ steps_from n r u fs) (sym split) ∙ h
+  pub star_more : (es items : List Arc) (i : ℕ) (star more all : List Step) (e : Arc) → items ≡ es → i < length items → e ≡ get_or items i e → more ≡ star_along star n r e u
+      → star ++ steps_from n r u (drop i es) ≡ all → more ++ steps_from n r u (drop (i + 1) es) ≡ all
+  star_more es items i star more all e same l s q h =
+      ap (λ (ts : List Step). ts ++ steps_from n r u (drop (i + 1) es)) q ∙ edge_steps e (drop (i + 1) es) star ∙ ap (λ (fs : List Arc). star ++ steps_from n r u fs) (sym split) ∙ h
     where
       split : drop i es ≡ e ∷ drop (i + 1) es
       split =
           let one : suc i ≡ i + 1 = omega arith in
-          drop-cons es i e l ∙ ap (λ (j : ℕ). get_or es i e ∷ drop j es) one ∙ ap (λ (f : Arc). f ∷ drop (i + 1) es) (sym s)
+          let here : e ≡ get_or es i e = subst (λ (fs : List Arc). e ≡ get_or fs i e) same s in
+          drop-cons es i e (subst (λ (fs : List Arc). i < length fs) same l) ∙ ap (λ (j : ℕ). get_or es i e ∷ drop j es) one ∙ ap (λ (f : Arc). f ∷ drop (i + 1) es) (sym here)
 
   -- and its end
   pub star_all : (es : List Arc) (i : ℕ) (star all : List Step) → length es ≤ i → star ++ steps_from n r u (drop i es) ≡ all → star ≡ all
@@ -79,18 +78,21 @@ stars_more P r m stars more star h s e = record {
         let place : c - 1 ≡ length stars = omega (arith, q, count) in
         ap (λ ss. get_or ss (c - 1) []) e ∙ ap (λ j. get_or (stars ++ star ∷ []) j []) place ∙ get_or-append_seam stars star [] [] ∙ s ∙ ap (λ d. steps_from P.vertices r d P.edges) (sym q)
 
--- a turn of the loop, as the calls made it
-pub star_turn : (n : ℕ) (r : Extent) (u : ℕ) (es items : List Arc) (i : ℕ) (star once twice all : List Step) (e : Arc) (from to : ℕ) (s : Vector) (by back : ℤ) → items ≡ es → i < length items → e ≡ get_or items i e
-    → arc from to s ≡ e → by ≡ growth_of n r e → back ≡ neg_ℤ by → once ≡ star_with star (from == u) (record { to = to; by = by }) → twice ≡ star_with once (to == u) (record { to = from; by = back })
-    → star ++ steps_from n r u (drop i es) ≡ all → twice ++ steps_from n r u (drop (i + 1) es) ≡ all
-star_turn n r u es items i star once twice all e from to s by back same l is view b k o t h =
-    let f = subst (λ (fs : List Arc). e ≡ get_or fs i e) same is in
-    let m = subst (λ (fs : List Arc). i < length fs) same l in
-    ap (λ (ts : List Step). ts ++ steps_from n r u (drop (i + 1) es)) made ∙ star_more n r u es i star all e back m f (k ∙ ap neg_ℤ b) h
+-- an edge, as the calls added it
+pub edge_added : (n : ℕ) (r : Extent) (u : ℕ) (star once twice : List Step) (e : Arc) (from to : ℕ) (s : Vector) (by back : ℤ) → arc from to s ≡ e → by ≡ growth_of n r e → back ≡ neg_ℤ by
+    → once ≡ star_with star (from == u) (record { to = to; by = by }) → twice ≡ star_with once (to == u) (record { to = from; by = back }) → twice ≡ star_along star n r e u
+edge_added n r u star once twice e from to s by back view b k o t =
+    t ∙ ap (λ (ts : List Step). star_with ts (to == u) (record { to = from; by = back })) (o ∙ (λ j. star_with star ((view j).from == u) (first j)))
+    ∙ (λ j. star_with (star_with star (e.from == u) (step_of n r e)) ((view j).to == u) (second j))
   where
     first : record { to = to; by = by } ≡ step_of n r e
     first = λ j. record { to = (view j).to; by = b j }
 
-    made : twice ≡ star_with (star_with star (e.from == u) (step_of n r e)) (e.to == u) (record { to = e.from; by = back })
-    made = t ∙ ap (λ (ts : List Step). star_with ts (to == u) (record { to = from; by = back })) (o ∙ (λ j. star_with star ((view j).from == u) (first j)))
-        ∙ (λ j. star_with (star_with star (e.from == u) (step_of n r e)) ((view j).to == u) (record { to = (view j).from; by = back }))
+    second : record { to = from; by = back } ≡ step_of n r (reverse_of e)
+    second = λ j. record { to = (view j).from; by = (k ∙ ap neg_ℤ b ∙ sym (growth_back n r u e)) j }
+
+-- an edge that does not start there
+pub edge_skipped : (n : ℕ) (r : Extent) (u : ℕ) (star : List Step) (e : Arc) (from to : ℕ) (s : Vector) → arc from to s ≡ e → (from == u) ≡ false → (to == u) ≡ false → star ≡ star_along star n r e u
+edge_skipped n r u star e from to s view a b =
+    (λ j. star_with (star_with star (sym a j) (step_of n r e)) (sym b j) (step_of n r (reverse_of e)))
+    ∙ (λ j. star_with (star_with star ((view j).from == u) (step_of n r e)) ((view j).to == u) (step_of n r (reverse_of e)))

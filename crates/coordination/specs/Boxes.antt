@@ -1,7 +1,7 @@
 -- Boxes of the net of a graph: the vertices around cell 0, with a number each.
 use Rattle.std.specs.Prelude.{◌≡◌, ℕ, ◌+◌, ◌-◌, ◌*◌, ◌≤◌, ℤ, pos, ◌+ℤ◌, ◌-ℤ◌, ◌*ℤ◌, unsigned_abs, List, [], ◌∷◌, ◌++◌, map, filter, ◌==◌, length, slice_index_or, Bool, if◌then◌else◌}
 use Rattle.integers.specs.Vectors.{Vector}
-use Rattle.periodic_net.specs.Graph.{Graph, IsGraph, IsQuotientVertex, Arc, both_ways, Vertex}
+use Rattle.periodic_net.specs.Graph.{Graph, IsGraph, IsQuotientVertex, Arc, both_ways, reverse_of, Vertex}
 use Rattle.periodic_net.specs.Limits.{most_vertices}
 use Rattle.coordination.specs.Extents.{IsCellWithin, IsExtent, IsNarrow}
 use Rattle.coordination.specs.declared.extent.TheConstants.{WIDEST}
@@ -60,6 +60,10 @@ steps_from n r c edges = map (step_of n r) (filter (λ a. a.from == c) (both_way
 -- a list with one step more, if it starts here
 abbrev pub star_with : List Step → Bool → Step → List Step
 star_with star here t = if here then star ++ t ∷ [] else star
+
+-- a list with the steps along e, both ways, that start at u
+abbrev pub star_along : List Step → ℕ → Extent → Arc → ℕ → List Step
+star_along star n r e u = star_with (star_with star (e.from == u) (step_of n r e)) (e.to == u) (step_of n r (reverse_of e))
 
 -- the steps from the first m vertices
 pub record AreStars (P : Graph) (r : Extent) (m : ℕ) (stars : List (List Step)) : Type 0 where

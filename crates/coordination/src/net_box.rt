@@ -2,7 +2,7 @@
 ghost use Rattle.std.specs.Prelude.{◌≡◌, ◌+◌, ◌*◌, ◌^◌, ◌++◌, ◌∷◌, ◌<◌, ◌≤◌, [], pos, ◌+ℤ◌, ◌-ℤ◌, ◌*ℤ◌, unsigned_abs, length, slice_get, Some, OnOk, IfOk, IfSome};
 ghost use Rattle.periodic_net.specs.Graph.{IsGraph};
 ghost use Rattle.periodic_net.specs.Limits.{most_vertices};
-ghost use Rattle.coordination.specs.Boxes.{AreStars, IsBoxOf, cells_of, growth_of, origin_of, side, size_of, star_with, steps_from};
+ghost use Rattle.coordination.specs.Boxes.{AreStars, IsBoxOf, cells_of, growth_of, origin_of, side, size_of, star_along, star_with, steps_from};
 ghost use Rattle.coordination.specs.Extents.{AreShiftsWithin, IsCellWithin, IsNarrow};
 
 use crate::NoMemory;
@@ -143,6 +143,37 @@ fn add_step(star: &mut Vec<Step>, starts_here: bool, step: Step) -> Result<(), N
     Ok(())
 }
 
+// Puts the steps along an edge that start at a vertex last.
+fn add_edge<const D: usize>(
+    star: &mut Vec<Step>,
+    count: u32,
+    extent: Extent,
+    edge: &PrimEdge<D>,
+    u: u32,
+) -> Result<(), NoMemory>
+    requires count { count ≤ most_vertices }
+    requires narrow { IsNarrow WIDEST extent }
+    requires from { (edge.now).from ≤ most_vertices }
+    requires to { (edge.now).to ≤ most_vertices }
+    requires shift { IsCellWithin extent (edge.now).shift }
+    ensures { OnOk result (star.new.items ≡ star_along star.old.items count extent edge.now u) }
+{
+    if edge.u != u && edge.v != u {
+        return Ok(());
+    }
+    let by = growth(count, extent, edge);
+    add_step(star, edge.u == u, Step { to: edge.v, by })?;
+    add_step(
+        star,
+        edge.v == u,
+        Step {
+            to: edge.u,
+            by: -by,
+        },
+    )?;
+    Ok(())
+}
+
 // The steps from a vertex of the primitive graph.
 fn star_of<const D: usize>(
     alloc: Global,
@@ -159,16 +190,7 @@ fn star_of<const D: usize>(
 {
     let mut star = Vec::new(alloc);
     for edge in &cell.edges {
-        let by = growth(cell.vertices, extent, edge);
-        add_step(&mut star, edge.u == u, Step { to: edge.v, by })?;
-        add_step(
-            &mut star,
-            edge.v == u,
-            Step {
-                to: edge.u,
-                by: -by,
-            },
-        )?;
+        add_edge(&mut star, cell.vertices, extent, edge, u)?;
     }
     Ok(star)
 }

@@ -1,6 +1,5 @@
 pub mod FirstFaults
 pub mod SequenceForms
-pub mod KeyedCells
 pub mod MoreEntries
 pub mod FirstLines
 pub mod FormEdges
