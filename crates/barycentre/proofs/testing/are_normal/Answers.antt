@@ -13,5 +13,5 @@ returns-clause-normal g c t =
     let at = c.args.at.now in
     let size : c.unsigned_abs.result ≡ unsigned_abs c.args.d0 = simp to_z-of_z at c.unsigned_abs.ensures.value in
     let coprime : AreCoprime (unsigned_abs c.args.d0) at = subst (λ n. AreCoprime n at) size (c.if-not-are_coprime.ensures refl) in
-    let balanced : AreBalanced G (placement_of c.args.d0 at) = simp to_z-of_z at (c.if-not-are_balanced.ensures.yes refl) in
+    let balanced : AreBalanced G (placement_of c.args.d0 at) = simp to_z-of_z at (c.are_balanced_within.ensures.balanced t) in
     coprime_normal G c.args.d0 at r.positive r.count r.flat coprime balanced
