@@ -26,6 +26,7 @@ pub struct PartialGraph<'a> {
 }
 
 // The place of a name, which is put last where it is new.
+#[inline(always)]
 fn place_of<'a>(names: &mut IndexSet<&'a [u8]>, name: &'a [u8]) -> Result<usize, NoMemory>
     ensures names { OnOk result (
         names_in names.new ≡ with_new bytes_eq (names_in names.old) name.now) }
