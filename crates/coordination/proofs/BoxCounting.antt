@@ -59,10 +59,6 @@ module _ (P : Graph) (b : NetBox) (q : IsBoxOf P b) (c : ℕ) (i : IsQuotientVer
       same : place_in P.vertices b.extent (start c) ≡ at
       same = sym (e ∙ ap (λ n. n + (c - 1)) q.origin ∙ start_place P.vertices c b.extent)
 
-  -- it has a mark
-  pub start_within : (marks : List Bool) → length marks ≡ b.size → (at : ℕ) → at ≡ b.origin + (c - 1) → at < length marks
-  start_within marks e at h = subst (λ (s : Spot). s.at < length marks) (start_spot at h) (spot_inside P b q (start c) marks e start_inside)
-
   -- at first it alone is found
   pub counting_starts : (marks marks' : List Bool) (found found' : List Spot) (at : ℕ) → length marks ≡ b.size → IsUnmarked marks → found ≡ [] → at ≡ b.origin + (c - 1)
       → marks' ≡ marks_with marks (record { over = c; at = at }) → found' ≡ spots_with marks found (record { over = c; at = at }) → IsCountedIn P b c [] most_in_shells 0 marks' found'

@@ -7,10 +7,6 @@ use Rattle.periodic_net.specs.Graph.{Graph, IsQuotientVertex, vertex}
 use Rattle.coordination.specs.BoxSearches.{AreFirstLists}
 use Rattle.coordination.specs.Sequences.{AreShellsOf}
 
--- none
-pub no_lists : (P : Graph) (lists : List (List ℕ)) → lists ≡ [] → AreFirstLists P 0 lists
-no_lists P lists e = record { count = ap length e; each = λ c i l. absurd (let low = i.0 in omega arith) }
-
 -- one list more
 pub lists_more : (P : Graph) (m : ℕ) (lists more : List (List ℕ)) (sizes : List ℕ) → AreFirstLists P m lists → (IsQuotientVertex P (m + 1) → AreShellsOf P (vertex (m + 1) zero_vector) sizes) → more ≡ lists ++ sizes ∷ []
     → AreFirstLists P (m + 1) more

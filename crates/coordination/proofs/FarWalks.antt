@@ -78,16 +78,6 @@ farther_turn axis i edges far next0 next1 next2 next3 e u v s t part a b h l is 
     same : part ≡ part_of axis e.shift
     same = p ∙ ap (part_of axis) (k ∙ (λ j. (view j).shift))
 
--- before the first edge
-pub farther_none : (axis : Axis) (edges : List Arc) (far next : List ℕ) → AreFarther axis 0 edges far next next
-farther_none axis edges far next = record {
-  count = refl;
-  no_less = λ i. omega arith;
-  forth = λ k d c n. absurd (omega arith);
-  back = λ k d c n. absurd (omega arith);
-  bound = λ m f n. n;
-}
-
 -- a part of a difference of cells
 part_minus : (axis : Axis) (v w : Vector) → part_of axis (minus v w) ≡ part_of axis v -ℤ part_of axis w
 part_minus X v w = refl
@@ -99,17 +89,6 @@ part_back : (axis : Axis) (e : Arc) → part_of axis (reverse_of e).shift ≡ ne
 part_back X e = refl
 part_back Y e = refl
 part_back Z e = refl
-
--- nothing leads farther in no step
-pub far_at_first : (P : Graph) (axis : Axis) (far : List ℕ) → length far ≡ P.vertices → AreAtMost 0 far → AreFarAfter P axis 0 far
-far_at_first P axis far n z = record { count = n; walks = λ k w x l i s. walks w x s.0 (omega (arith, s.1, l)) s.2; bound = λ i. let a = z i in omega (arith, a) }
-  where
-    itself : (s : ℤ) (m : ℕ) → (s -ℤ s) ≤ℤ pos m
-    itself s m = omega (arith, ints)
-
-    walks : (w x : Vertex) (vs : List Vertex) → length vs ≤ 0 → IsWalk P w vs x → (part_of axis x.cell -ℤ part_of axis w.cell) ≤ℤ pos (far_of far w.over)
-    walks w x [] l k = subst (λ (y : Vertex). (part_of axis y.cell -ℤ part_of axis w.cell) ≤ℤ pos (far_of far w.over)) k (itself (part_of axis w.cell) (far_of far w.over))
-    walks w x (v ∷ vs) l k = absurd (omega arith)
 
 module _ (P : Graph) (g : IsGraph P) (axis : Axis) where
   -- along each arc as along the edges

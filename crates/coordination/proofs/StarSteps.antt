@@ -1,9 +1,9 @@
 -- The steps from a vertex, edge by edge.
-use Rattle.std.proofs.Common.{◌≡◌, ◌⊎◌, inl, inr, ℕ, suc, ◌+◌, ◌-◌, ◌<◌, ◌≤◌, ℤ, pos, neg_ℤ, ◌+ℤ◌, ◌-ℤ◌, ◌*ℤ◌, List, [], ◌∷◌, ◌++◌, length, get_or, map, drop, Bool, true, false, cond, refl, sym, ap, subst, ◌∙◌, arith, append_assoc, append-nil, drop-cons}
+use Rattle.std.proofs.Common.{◌≡◌, ◌⊎◌, inl, inr, ℕ, suc, ◌+◌, ◌-◌, ◌<◌, ◌≤◌, ℤ, pos, neg_ℤ, ◌+ℤ◌, ◌-ℤ◌, ◌*ℤ◌, List, [], ◌∷◌, ◌++◌, length, get_or, map, drop, Bool, true, false, cond, refl, sym, ap, subst, ◌∙◌, arith, append_assoc, drop-cons}
 use Rattle.std.specs.Prelude.{◌==◌}
 use Rattle.std.specs.List.{filter}
 use Rattle.std.proofs.Math.Seq.{get_or-append_seam}
-use Rattle.std.proofs.lemmas.List.{drop_all, get_or_append_left, length_push}
+use Rattle.std.proofs.lemmas.List.{get_or_append_left, length_push}
 use Rattle.integers.specs.Vectors.{Vector}
 use Rattle.integers.proofs.numbers.Ring.{ring, linear}
 use Rattle.periodic_net.specs.Graph.{Graph, IsQuotientVertex, Arc, arc, both_ways, reverse_of}
@@ -53,10 +53,6 @@ module _ (n : ℕ) (r : Extent) (u : ℕ) where
           let here : e ≡ get_or es i e = subst (λ (fs : List Arc). e ≡ get_or fs i e) same s in
           drop-cons es i e (subst (λ (fs : List Arc). i < length fs) same l) ∙ ap (λ (j : ℕ). get_or es i e ∷ drop j es) one ∙ ap (λ (f : Arc). f ∷ drop (i + 1) es) (sym here)
 
-  -- and its end
-  pub star_all : (es : List Arc) (i : ℕ) (star all : List Step) → length es ≤ i → star ++ steps_from n r u (drop i es) ≡ all → star ≡ all
-  star_all es i star all l h = sym (append-nil star) ∙ ap (λ (fs : List Arc). star ++ steps_from n r u fs) (sym (drop_all i es l)) ∙ h
-
 -- one list more
 pub stars_more : (P : Graph) (r : Extent) (m : ℕ) (stars more : List (List Step)) (star : List Step) → AreStars P r m stars → star ≡ steps_from P.vertices r (m + 1) P.edges → more ≡ stars ++ star ∷ [] → AreStars P r (m + 1) more
 stars_more P r m stars more star h s e = record {
@@ -90,9 +86,3 @@ edge_added n r u star once twice e from to s by back view b k o t =
 
     second : record { to = from; by = back } ≡ step_of n r (reverse_of e)
     second = λ j. record { to = (view j).from; by = (k ∙ ap neg_ℤ b ∙ sym (growth_back n r u e)) j }
-
--- an edge that does not start there
-pub edge_skipped : (n : ℕ) (r : Extent) (u : ℕ) (star : List Step) (e : Arc) (from to : ℕ) (s : Vector) → arc from to s ≡ e → (from == u) ≡ false → (to == u) ≡ false → star ≡ star_along star n r e u
-edge_skipped n r u star e from to s view a b =
-    (λ j. star_with (star_with star (sym a j) (step_of n r e)) (sym b j) (step_of n r (reverse_of e)))
-    ∙ (λ j. star_with (star_with star ((view j).from == u) (step_of n r e)) ((view j).to == u) (step_of n r (reverse_of e)))

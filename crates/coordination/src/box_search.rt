@@ -17,7 +17,8 @@ pub fn next_shell(
     room: usize,
 ) -> Result<(), NoMemory>
     requires { IsReady net_box.now marks.old found.old.items begin }
-    ensures { OnOk result (IsNextShell net_box.now begin room marks.old found.old.items marks.new found.new.items) }
+    ensures { OnOk result
+        (IsNextShell net_box.now begin room marks.old found.old.items marks.new found.new.items) }
 {
     let end = found.len();
     for i in begin..end {

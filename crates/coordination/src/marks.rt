@@ -29,7 +29,8 @@ pub fn follow(
     requires few { length marks.old ≤ 2 ^ 32 }
     requires landing { All (IsLandingWithin (length marks.old) from) star.now }
     ensures marks { OnOk result (marks.new ≡ all_marks marks.old (spots_along from star.now)) }
-    ensures found { OnOk result (found.new.items ≡ all_spots marks.old found.old.items (spots_along from star.now)) }
+    ensures found { OnOk result
+        (found.new.items ≡ all_spots marks.old found.old.items (spots_along from star.now)) }
 {
     for step in star {
         mark(marks, found, from.along(*step))?;
