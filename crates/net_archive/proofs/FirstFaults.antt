@@ -27,42 +27,22 @@ no_name_follows : (v : Version) (left : List ℕ) → NoName left → NoneFollow
 no_name_follows v left none (OfName name) rest may e = none name rest may e
 no_name_follows v left none row rest may e = may
 
+-- a fault before the name of an entry
+fault_at_start : (v : Version) (text : List ℕ) (es : List EntryView) (place : Place) (fault : ArchiveFault) → AreEntries es → IsAt text (rows_before v es) place → FaultAt v es Start place fault → HasFault v text fault
+fault_at_start v text es place fault good at cause = record { entries = es; part = Start; place = place; good = good; formed = tt; begun = tt; at = at_start v text es place at; cause = cause }
+
 pub bad_name : (v : Version) (text : List ℕ) (es : List EntryView) (place : Place) (n : ℕ) → AreEntries es → IsAt text (rows_before v es) place → n ≡ place.number → place.rest ≢ [] → NoName place.rest → HasFault v text (BadLine n)
-bad_name v text es place n good at number left none = record {
-  entries = es;
-  part = Start;
-  place = place;
-  good = good;
-  formed = tt;
-  begun = tt;
-  at = at_start v text es place at;
-  cause = record { number = number; no_end = left; none = no_name_follows v place.rest none };
-}
+bad_name v text es place n good at number left none =
+    fault_at_start v text es place (BadLine n) good at (record { number = number; no_end = left; none = no_name_follows v place.rest none })
 
 pub too_many : (v : Version) (text : List ℕ) (es : List EntryView) (place : Place) (name rest : List ℕ) → AreEntries es → IsAt text (rows_before v es) place → 4096 ≤ length es → is_name name ≡ true → place.rest ≡ name_row name ++ 10 ∷ rest → HasFault v text TooManyEntries
-too_many v text es place name rest good at many is stands = record {
-  entries = es;
-  part = Start;
-  place = place;
-  good = good;
-  formed = tt;
-  begun = tt;
-  at = at_start v text es place at;
-  cause = (refl, record { all_entries = let few = good.few in omega (arith, many, few); name = name; is_name = is; begins = (rest, stands) });
-}
+too_many v text es place name rest good at many is stands =
+    fault_at_start v text es place TooManyEntries good at (refl, record { all_entries = let few = good.few in omega (arith, many, few); name = name; is_name = is; begins = (rest, stands) })
 
 pub repeated : (v : Version) (text : List ℕ) (es : List EntryView) (place : Place) (name rest : List ℕ) (n : ℕ) → AreEntries es → IsAt text (rows_before v es) place → n ≡ place.number → length es < 4096 → Contains (names_of es) name → is_name name ≡ true
     → place.rest ≡ name_row name ++ 10 ∷ rest → HasFault v text (RepeatedName n)
-repeated v text es place name rest n good at number few among is stands = record {
-  entries = es;
-  part = Start;
-  place = place;
-  good = good;
-  formed = tt;
-  begun = tt;
-  at = at_start v text es place at;
-  cause = (refl, record { number = number; few = few; name = name; is_name = is; among = among; begins = (rest, stands) });
-}
+repeated v text es place name rest n good at number few among is stands =
+    fault_at_start v text es place (RepeatedName n) good at (refl, record { number = number; few = few; name = name; is_name = is; among = among; begins = (rest, stands) })
 
 begun_as : (es : List EntryView) (name : List ℕ) (part : Part) → IsOf name part → MayBegin es name → IsBegun es part
 begun_as es name Start none may = tt
