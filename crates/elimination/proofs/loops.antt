@@ -1,6 +1,7 @@
 -- How far each loop of the code has come.
 pub mod BackLoop
 pub mod Building
+pub mod Clearing
 pub mod Counting
 pub mod Gaps
 pub mod Later
