@@ -1,6 +1,6 @@
 -- Balanced positions in whole units, with no common divisor, are the normal placement.
-use Rattle.std.proofs.Common.{◌≡◌, ℕ, arith, ◌+◌, ◌-◌, List, length, sym, subst, ap, ◌∙◌, unsigned_abs}
-use Rattle.std.specs.Prelude.{ℤ, pos, ◌*ℤ◌, ◌≤ℤ◌, slice_index_or}
+use Rattle.std.proofs.Common.{◌≡◌, ℕ, arith, ◌-◌, List, length, sym, subst, ap, ◌∙◌, unsigned_abs}
+use Rattle.std.specs.Prelude.{ℤ, pos, ◌*ℤ◌, ◌≤ℤ◌}
 use Rattle.std.specs.List.{All}
 use Rattle.std.specs.Int.{◌∣◌, IsGcd}
 use Rattle.std.proofs.Math.Nat.{dvd-mul_right, eq-one_of_dvd-one}
@@ -11,7 +11,7 @@ use Rattle.periodic_net.specs.Graph.{Graph, IsQuotientVertex}
 use Rattle.periodic_net.specs.Placement.{base, IsNormalPlacement}
 use Rattle.quotient_graph.specs.PlacedNets.{placement_of}
 use Rattle.barycentre.specs.Tested.{AreBalanced, AreCoprime, IsCommonDivisor}
-use Rattle.barycentre.proofs.Together.{same_element}
+use Rattle.barycentre.proofs.Together.{each_position}
 
 -- the greatest common divisor, one number after another
 pub divisor_of_parts : (n : ℕ) (v : Vector) (a b g : ℕ) → IsGcd n (unsigned_abs v.x) a → IsGcd a (unsigned_abs v.y) b → IsGcd b (unsigned_abs v.z) g → IsCommonDivisor n v g
@@ -41,9 +41,7 @@ divides_one k g e d = eq-one_of_dvd-one (subst (λ n. k ∣ n) e d)
 module _ (G : Graph) (d0 : ℤ) (at : List Vector) (one : pos 1 ≤ℤ d0) (count : length at ≡ G.vertices) (flat : All (HasDimension G.dimension) at) where
   -- what divides the position of each vertex divides all positions
   all_divided : (k : ℕ) → ((u : ℕ) → IsQuotientVertex G u → DividesVector (pos k) (base (placement_of d0 at) u)) → All (DividesVector (pos k)) at
-  all_divided k h i v l =
-      let place : i + 1 - 1 ≡ i = omega arith in
-      same_element (DividesVector (pos k)) at i v l (subst (λ j. DividesVector (pos k) (slice_index_or at j zero_vector)) place (h (i + 1) (omega arith, omega (arith, l, count))))
+  all_divided k = each_position G d0 at count (DividesVector (pos k))
 
   base_flat : (u : ℕ) → IsQuotientVertex G u → HasDimension G.dimension (base (placement_of d0 at) u)
   base_flat u q = let a = q.0 in let b = q.1 in flat (u - 1) zero_vector (omega (arith, a, b, count))

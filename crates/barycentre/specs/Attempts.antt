@@ -4,7 +4,7 @@ use Rattle.periodic_net.specs.Graph.{Graph}
 use Rattle.periodic_net.specs.Placement.{IsNormalPlacement, IsWithinLimits}
 use Rattle.quotient_graph.specs.PlacedNets.{placement_of}
 use Rattle.barycentre.specs.Reached.{HasInverses, HasModulus, IsFirstPivot, AreNotWithin, first_modulus, second_modulus, third_modulus}
-use Rattle.barycentre.specs.declared.testing.Units.{Units}
+use Rattle.barycentre.specs.declared.units.Units.{Units}
 use Rattle.barycentre.specs.declared.attempts.Attempt.{Attempt}
 use Rattle.barycentre.specs.declared.attempts.Attempt.TheVariants.{NoInverse}
 use Rattle.barycentre.specs.declared.attempts.Attempt.TheVariants.{Failed as FailedOnce}

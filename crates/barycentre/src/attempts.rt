@@ -4,7 +4,7 @@ ghost use Rattle.periodic_net.specs.Graph.{IsConnected};
 ghost use Rattle.barycentre.specs.Attempts.{IsAttempt, IsTried};
 
 use crate::steps::{by_one_step, by_two_steps};
-use crate::testing::Units;
+use crate::units::Units;
 use elimination::{SolveFault, solve};
 use quotient_graph::Graph;
 use residue::Residue;

@@ -5,7 +5,7 @@ ghost use Rattle.integers.specs.Vectors.{IsWithin, HasDimension};
 ghost use Rattle.barycentre.specs.Denominators.{IsUsable};
 ghost use Rattle.barycentre.specs.Limits.{AreInReach};
 
-use crate::testing::Units;
+use crate::units::Units;
 use exact::Exact;
 use periodic_net::MOST_UNITS;
 use residue::{Residue, reconstruct};

@@ -4,6 +4,7 @@ pub mod Building
 pub mod Clearing
 pub mod Counting
 pub mod Gaps
+pub mod JoinedLoop
 pub mod Later
 pub mod LaterCounts
 pub mod LineLoop

@@ -4,8 +4,10 @@ pub mod Coordinates
 pub mod Firsts
 pub mod LastLine
 pub mod Numbers
+pub mod Placing
 pub mod Positions
 pub mod RightRows
+pub mod RowValues
 pub mod Rows
 pub mod SameWeights
 pub mod Solved
@@ -13,3 +15,4 @@ pub mod SolvedWith
 pub mod Solving
 pub mod StartSymmetry
 pub mod Symmetry
+pub mod WeightSum

@@ -41,6 +41,9 @@ fn push_joined<N: Exact>(joined: &mut Vec<Joined<N>>, weight: N, i: usize) -> Re
     Ok(())
 }
 
+// For so many vertices a list has room from the start.
+const FEW: usize = 8;
+
 // The vertices below k that it is joined to, of their lines.
 pub fn joined_to<N: Exact>(
     alloc: Global,
@@ -56,7 +59,7 @@ pub fn joined_to<N: Exact>(
         → IsSymmetric N.modulus l (k + 1)
         → IfOk result (λ joined. AreJoined N.modulus N.value joined.items l 0 k k) }
 {
-    let mut joined = Vec::new(alloc);
+    let mut joined = Vec::with_capacity(alloc, k.min(FEW))?;
     for i in 0..k {
         push_joined(&mut joined, lines[i][k - i - 1], i)?;
     }

@@ -19,7 +19,10 @@ fn spells(bytes: &[u8], n: i128) -> bool
     ensures { result ≡ bytes_eq bytes.now (signed_decimal n) }
 {
     let mut buffer = Buffer::new();
-    bytes == buffer.format(n).as_bytes()
+    match i64::try_from(n) {
+        Ok(short) => bytes == buffer.format(short).as_bytes(),
+        Err(_) => bytes == buffer.format(n).as_bytes(),
+    }
 }
 
 /// The number that these bytes spell in decimal, without needless signs and zeros.

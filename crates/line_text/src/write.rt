@@ -7,11 +7,15 @@ ghost use Rattle.line_text.specs.Lines.{rows_text};
 use itoa::Buffer;
 use std::alloc::AllocError;
 
+/// A number in decimal. Digits of one that fits 64 bits take no wide divisions.
 pub fn push_number(text: &mut Vec<u8>, n: i128) -> Result<(), AllocError>
     ensures { OnOk result (text.new.items ≡ text.old.items ++ signed_decimal n) }
 {
     let mut buffer = Buffer::new();
-    text.extend_from_slice(buffer.format(n).as_bytes())
+    match i64::try_from(n) {
+        Ok(short) => text.extend_from_slice(buffer.format(short).as_bytes()),
+        Err(_) => text.extend_from_slice(buffer.format(n).as_bytes()),
+    }
 }
 
 /// Each number after a blank.

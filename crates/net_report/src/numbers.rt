@@ -17,11 +17,11 @@ pub fn push_number(text: &mut Vec<u8>, n: u64) -> Result<(), NoMemory>
     text.extend_from_slice(buffer.format(n).as_bytes())
 }
 
+/// A number with a sign, in decimal.
 pub fn push_signed(text: &mut Vec<u8>, n: i128) -> Result<(), NoMemory>
     ensures { OnOk result (text.new.items ≡ text.old.items ++ signed_decimal n) }
 {
-    let mut buffer = Buffer::new();
-    text.extend_from_slice(buffer.format(n).as_bytes())
+    line_text::push_number(text, n)
 }
 
 // The numbers, each after a blank.

@@ -4,29 +4,22 @@ use Rattle.std.specs.Global.{Vec}
 use Rattle.std.proofs.Math.ListN.{set}
 use Rattle.std.proofs.lemmas.List.{get_or-set_same, get_or-set_other}
 use Rattle.std.proofs.lemmas.List.Elements.{All-contains, Contains-append_right}
-use Rattle.std.proofs.lemmas.Bool.{cases_lt, cases_eq}
+use Rattle.std.proofs.lemmas.Bool.{cases_eq}
+use borrow.Author.Count.{below_more}
 use Rattle.exact.specs.Ratio.{Ratio, HasInverse}
 use Rattle.vecdim.specs.declared.vectors.Row.{Row}
-use Rattle.elimination.specs.Listed.{Level, Entry, place, over_entry, list_to, pivot_sum, weight_entry, shift_entry, row_entries, next_level}
+use Rattle.elimination.specs.Listed.{Level, Entry, place, over_entry, list_to, pivot_sum, weight_entry, shift_entry, row_entries}
 use Rattle.elimination.specs.Faults.{IsGood, AreGood}
 use Rattle.elimination.specs.Lines.{IsUpperWeights, IsRow, AreRowsOfValues, IsUpperLine, AreWeights, AreLines, AreWide}
 use Rattle.elimination.proofs.steps.Rows.{AreLeft}
 
--- the first i lines are those of the next level
-pub record LinesDone {N : Type 0} {D : ℕ} (m : ℕ) (value : N → Ratio) (fits : Ratio → Type 0) (k : ℕ) (lines : List (Vec N)) (sums : List (Row N D)) (i : ℕ) (l : Level) : Type 0 where
-  pub has : AreLines m value lines sums (next_level k l) k i
-  pub good : AreGood m fits (list_to i (row_entries D l k))
-
 -- one row more is replaced
 pub rows_set : {N : Type 0} {D : ℕ} (m : ℕ) (value : N → Ratio) (xs : List (Row N D)) (x : Row N D) (p : ℕ → ℕ → Ratio) (i : ℕ) → i < length xs → AreRowsOfValues m value xs p i → IsRow m value x (p i) → AreRowsOfValues m value (set xs i x) p (i + 1)
-rows_set {N} {D} m value xs x p i within h s = record {
-  has = λ j d b. ⊎_elim
-      (λ (r : j < i). subst (λ t. IsRow m value t (p j)) (sym (get_or-set_other xs i j x d (λ e. omega (arith, r, e)))) (h.has j d r))
-      (λ r. here j d (omega (arith, b, r))) (cases_lt j i);
+rows_set m value xs x p i within h s = record {
+  has = λ j d. below_more (λ j. IsRow m value (get_or (set xs i x) j d) (p j)) i
+      (λ j r. subst (λ t. IsRow m value t (p j)) (sym (get_or-set_other xs i j x d (λ e. omega (arith, r, e)))) (h.has j d r))
+      (subst (λ t. IsRow m value t (p i)) (sym (get_or-set_same xs i x d within)) s) j;
 }
-  where
-    here : (j : ℕ) (d : Row N D) → j ≡ i → IsRow m value (get_or (set xs i x) j d) (p j)
-    here j d e = subst (λ q. IsRow m value (get_or (set xs i x) q d) (p q)) (sym e) (subst (λ t. IsRow m value t (p i)) (sym (get_or-set_same xs i x d within)) s)
 
 module _ {N : Type 0} (xs : List (Vec N)) (x : Vec N) (i : ℕ) (within : i < length xs) where
   pub wide_set : (n count : ℕ) → AreWide xs n count → n ≤ length x.items + (i + 1) → AreWide (set xs i x) n count
@@ -39,13 +32,10 @@ module _ {N : Type 0} (xs : List (Vec N)) (x : Vec N) (i : ℕ) (within : i < le
   -- one list of weights more is replaced
   pub weights_of_set : (m : ℕ) (value : N → Ratio) (l : Level) (n : ℕ) → AreWeights m value xs l n i → IsUpperWeights m value x.items l n i → AreWeights m value (set xs i x) l n (i + 1)
   weights_of_set m value l n h s = record {
-    has = λ p d b. ⊎_elim
-        (λ (r : p < i). subst (λ t. IsUpperWeights m value t.items l n p) (sym (get_or-set_other xs i p x d (λ e. omega (arith, r, e)))) (h.has p d r))
-        (λ r. here p d (omega (arith, b, r))) (cases_lt p i);
+    has = λ p d. below_more (λ p. IsUpperWeights m value (get_or (set xs i x) p d).items l n p) i
+        (λ p r. subst (λ t. IsUpperWeights m value t.items l n p) (sym (get_or-set_other xs i p x d (λ e. omega (arith, r, e)))) (h.has p d r))
+        (subst (λ t. IsUpperWeights m value t.items l n i) (sym (get_or-set_same xs i x d within)) s) p;
   }
-    where
-      here : (p : ℕ) (d : Vec N) → p ≡ i → IsUpperWeights m value (get_or (set xs i x) p d).items l n p
-      here p d e = subst (λ q. IsUpperWeights m value (get_or (set xs i x) q d).items l n q) (sym e) (subst (λ t. IsUpperWeights m value t.items l n i) (sym (get_or-set_same xs i x d within)) s)
 
 -- line i as it was before the level, though the lines before it are replaced
 pub line_before : {N : Type 0} {D : ℕ} (m : ℕ) (value : N → Ratio) (old now : List (Vec N)) (old_sums sums : List (Row N D)) (l : Level) (k i : ℕ) → i < k → AreLeft old now i → AreLeft old_sums sums i

@@ -1,7 +1,7 @@
 -- Vertices with a weight, listed one after another.
-use Rattle.std.proofs.Common.{◌≡◌, ◌≢◌, ℕ, arith, ◌+◌, ◌<◌, List, [], ◌∷◌, ◌++◌, sym, subst, ⊎_elim}
+use Rattle.std.proofs.Common.{◌≡◌, ◌≢◌, ℕ, arith, ◌+◌, ◌<◌, List, [], ◌∷◌, ◌++◌, sym, subst}
 use Rattle.std.specs.List.{All}
-use Rattle.std.proofs.lemmas.Bool.{cases_lt}
+use borrow.Author.Count.{below_more}
 use Rattle.std.proofs.lemmas.List.Elements.{All-push, All-head}
 use Rattle.std.proofs.lemmas.List.Quantifiers.{all_pairs_push}
 use Rattle.exact.specs.Ratio.{Ratio}
@@ -11,10 +11,6 @@ use Rattle.elimination.specs.Listed.{Level}
 use Rattle.elimination.specs.Lines.{IsNought, AreJoined}
 use Rattle.elimination.proofs.inverses.Inverses.{all_before, all_after}
 
--- places below i are below i + 1 too
-pub below_next : {N : Type 0} (xs : List (Joined N)) (i : ℕ) → All (λ x. x.place < i) xs → All (λ x. x.place < i + 1) xs
-below_next xs i h = λ a d b. let u = h a d b in omega (arith, u)
-
 module _ {N : Type 0} {m : ℕ} {value : N → Ratio} (xs : List (Joined N)) (l : Level) (i k : ℕ) (h : AreJoined m value xs l 0 i k) where
   -- vertex i is listed
   pub joined_pushed : (x : Joined N) → All (λ y. y.place < i) xs → x.place ≡ i → HasValue m (value x.weight) (l.w k i) → AreJoined m value (xs ++ (x ∷ [])) l 0 (i + 1) k
@@ -22,9 +18,9 @@ module _ {N : Type 0} {m : ℕ} {value : N → Ratio} (xs : List (Joined N)) (l 
     rising = all_pairs_push (λ (y z : Joined N). y.place < z.place) xs x h.rising (λ a d b. let u = below a d b in omega (arith, u, place));
     from = λ a d b. omega arith;
     has = All-push (λ (y : Joined N). HasValue m (value y.weight) (l.w k y.place)) xs x h.has (subst (λ q. HasValue m (value x.weight) (l.w k q)) (sym place) has);
-    others = λ j f b o. ⊎_elim
-        (λ (u : j < i). h.others j f u (all_before (λ (y : Joined N). y.place ≢ j) xs (x ∷ []) o))
-        (λ u. absurd (All-head (λ (y : Joined N). y.place ≢ j) x [] (all_after (λ (y : Joined N). y.place ≢ j) xs (x ∷ []) o) (omega (arith, place, b, u)))) (cases_lt j i);
+    others = λ j f b. below_more (λ j. All (λ y. y.place ≢ j) (xs ++ (x ∷ [])) → (0 < j) × IsNought m value (l.w k j)) i
+        (λ j u o. h.others j (omega arith) u (all_before (λ (y : Joined N). y.place ≢ j) xs (x ∷ []) o))
+        (λ o. absurd (All-head (λ (y : Joined N). y.place ≢ i) x [] (all_after (λ (y : Joined N). y.place ≢ i) xs (x ∷ []) o) place)) j b;
   }
 
   -- vertex i has no weight
@@ -33,8 +29,7 @@ module _ {N : Type 0} {m : ℕ} {value : N → Ratio} (xs : List (Joined N)) (l 
     rising = h.rising;
     from = h.from;
     has = h.has;
-    others = λ j f b o. ⊎_elim (λ (u : j < i). h.others j f u o)
-        (λ u. let e : i ≡ j = omega (arith, b, u) in subst (λ q. (0 < q) × IsNought m value (l.w k q)) e (later, nothing)) (cases_lt j i);
+    others = λ j f b. below_more (λ j. All (λ y. y.place ≢ j) xs → (0 < j) × IsNought m value (l.w k j)) i (λ j u o. h.others j (omega arith) u o) (λ o. (later, nothing)) j b;
   }
 
 -- no vertex is listed yet

@@ -1,6 +1,7 @@
 -- A vertex without weight with the last one: its factor is 0, and its line stays as it is.
-use Rattle.std.proofs.Common.{rules, ◌≡◌, ◌≢◌, ℕ, zero, suc, pos, arith, ◌+◌, ◌-◌, ◌<◌, ◌≤◌, ◌==◌, if◌then◌else◌, true, false, List, [], ◌∷◌, ◌++◌, length, get_or, ◌⊎◌, subst, ⊎_elim, eq-eqb}
+use Rattle.std.proofs.Common.{rules, ◌≡◌, ◌≢◌, ℕ, zero, suc, pos, arith, ◌+◌, ◌-◌, ◌<◌, ◌≤◌, ◌==◌, if◌then◌else◌, true, false, List, [], ◌∷◌, ◌++◌, length, get_or, ◌⊎◌, ⊎_elim, eq-eqb}
 use Rattle.std.proofs.lemmas.Bool.{cases_eq, cases_lt}
+use borrow.Author.Count.{below_more}
 use Rattle.std.specs.Global.{Vec}
 use Rattle.exact.specs.Ratio.{Ratio, HasInverse, ratio_plus, ratio_times}
 use Rattle.exact.specs.Values.{CanCancel, HasValue}
@@ -9,9 +10,8 @@ use Rattle.vecdim.specs.declared.vectors.Row.{Row}
 use Rattle.elimination.specs.declared.place.Place.{Place}
 use Rattle.elimination.specs.Listed.{Level, Entry, place, term_entries, over_entry, list_to, pivot_sum, factor, next_level, weight_entry, shift_entry, row_entries}
 use Rattle.elimination.specs.Faults.{AreGood}
-use Rattle.elimination.specs.Lines.{IsNought, IsSymmetric, IsRow, IsUpperWeights, IsUpperLine}
-use Rattle.elimination.proofs.loops.LineLoop.{LinesDone, pivot_inverse}
-use Rattle.elimination.proofs.loops.Turns.{good_turn}
+use Rattle.elimination.specs.Lines.{IsNought, IsSymmetric, IsRow, IsUpperWeights, IsUpperLine, AreLines}
+use Rattle.elimination.proofs.loops.LineLoop.{pivot_inverse}
 use Rattle.elimination.proofs.steps.Rows.{narrow_line}
 use Rattle.elimination.proofs.steps.Coordinates.{good_flat, good_three}
 use Rattle.elimination.proofs.steps.Firsts.{good_none, good_one, good_append}
@@ -95,23 +95,18 @@ some_of (x ∷ xs) q l = x
 -- one line more that stays
 module _ {N : Type 0} {m D : ℕ} {value : N → Ratio} {fits : Ratio → Type 0} (laws : Laws m value fits) (dimension : (D ≡ 2) ⊎ (D ≡ 3)) (l : Level) (k : ℕ) (s : IsSymmetric m l (k + 1)) (pivot : CanCancel m (pos (pivot_sum l k).den)) (last_sums : Row N D) (theirs : IsRow m value last_sums (l.b k)) where
   pub line_passed : (lines : List (Vec N)) (sums : List (Row N D)) (q : ℕ) → q < k → q < length lines → 0 < q → IsNought m value (l.w k q)
-      → ((d : Vec N) (e : Row N D) → IsUpperLine m value (get_or lines q d).items (get_or sums q e) l (k + 1) q) → LinesDone m value fits k lines sums q l → LinesDone m value fits k lines sums (q + 1) l
-  line_passed lines sums q b within later o mine done = record {
-    has = record {
-      weights = record {
-        has = λ i d c. ⊎_elim (λ (r : i < q). done.has.weights.has i d r)
-            (λ r. let e : q ≡ i = omega (arith, c, r) in subst (λ t. IsUpperWeights m value (get_or lines t d).items (next_level k l) k t) e (stays d last_sums).0.weights) (cases_lt i q);
-      };
-      sums = record {
-        has = λ i d c. ⊎_elim (λ (r : i < q). done.has.sums.has i d r)
-            (λ r. let e : q ≡ i = omega (arith, c, r) in subst (λ t. IsRow m value (get_or sums t d) ((next_level k l).b t)) e (stays some d).0.sums) (cases_lt i q);
-      };
-    };
-    good = good_turn m fits (row_entries D l k) q done.good (stays some last_sums).1;
-  }
+      → ((d : Vec N) (e : Row N D) → IsUpperLine m value (get_or lines q d).items (get_or sums q e) l (k + 1) q) → AreLines m value lines sums (next_level k l) k q → AreGood m fits (list_to q (row_entries D l k))
+      → AreLines m value lines sums (next_level k l) k (q + 1) × AreGood m fits (row_entries D l k q)
+  line_passed lines sums q b within later o mine h good = (
+    record {
+      weights = record { has = λ i d. below_more (λ t. IsUpperWeights m value (get_or lines t d).items (next_level k l) k t) q (λ i. h.weights.has i d) (stays d last_sums).0.weights i };
+      sums = record { has = λ i d. below_more (λ t. IsRow m value (get_or sums t d) ((next_level k l).b t)) q (λ i. h.sums.has i d) (stays some d).0.sums i };
+    },
+    (stays some last_sums).1,
+  )
     where
       some : Vec N
       some = some_of lines q within
 
       stays : (d : Vec N) (e : Row N D) → IsUpperLine m value (get_or lines q d).items (get_or sums q e) (next_level k l) k q × AreGood m fits (row_entries D l k q)
-      stays d e = line_stays laws l k q b s o pivot (pivot_inverse m fits D k l q done.good later) (get_or lines q d).items (get_or sums q e) last_sums (narrow_line m value _ _ l k q (mine d e)) theirs (turned_good laws D l k q b s done.good) dimension
+      stays d e = line_stays laws l k q b s o pivot (pivot_inverse m fits D k l q good later) (get_or lines q d).items (get_or sums q e) last_sums (narrow_line m value _ _ l k q (mine d e)) theirs (turned_good laws D l k q b s good) dimension

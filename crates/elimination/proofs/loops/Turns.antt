@@ -38,7 +38,12 @@ two_at_least D h = ⊎_elim (λ (e : D ≡ 2). omega (arith, e)) (λ (e : D ≡ 
 pub three : (D : ℕ) → (D ≡ 2) ⊎ (D ≡ 3) → D ≢ 2 → D ≡ 3
 three D h n = ⊎_elim (λ (e : D ≡ 2). absurd (n e)) (λ (e : D ≡ 3). e) h
 
--- what a result says of its value
-pub match_ok : {A B : Type 0} (P P' : A → Type 0) (Q : B → Type 0) (r : Result A B) → MatchResult r P Q → ((x : A) → P x → P' x) → IfOk r P'
-match_ok P P' Q (Ok x) h f = f x h
-match_ok P P' Q (Err e) h f = tt
+-- what a result says of its value, put together
+pub ok_of : {A E : Type 0} (C P R : A → Type 0) (Q : E → Type 0) (r : Result A E) → IfOk r C → MatchResult r P Q → ((x : A) → C x → P x → R x) → IfOk r R
+ok_of C P R Q (Ok x) h i f = f x h i
+ok_of C P R Q (Err e) h i f = tt
+
+-- what a result says of its fault
+pub err_of : {A E : Type 0} (P : A → Type 0) (Q R : E → Type 0) (r : Result A E) → MatchResult r P Q → ((e : E) → Q e → R e) → IfErr r R
+err_of P Q R (Ok x) i f = tt
+err_of P Q R (Err e) i f = f e i

@@ -1,5 +1,5 @@
 -- A sum, a product with its sum, and a quotient of numbers: the values that they have, and their faults.
-use Rattle.std.proofs.Common.{◌≡◌, ◌≢◌, ℕ, pos, [], ◌∷◌, refl, subst}
+use Rattle.std.proofs.Common.{◌≡◌, ◌≢◌, ℕ, pos, List, [], ◌∷◌, refl, subst}
 use Rattle.exact.specs.Ratio.{Ratio, Same, IsDenominator, HasInverse, ratio_plus, ratio_times, ratio_over, whole}
 use Rattle.exact.specs.Values.{CanCancel, HasValue}
 use Rattle.exact.specs.Faults.{IsWide, IsWideQuotient, LacksInverse}
@@ -8,8 +8,8 @@ use Rattle.exact.specs.declared.number.Op.{Op}
 use Rattle.exact.specs.declared.number.Wide.{Wide}
 use Rattle.exact.proofs.CallerLemmas.{same_refl, same_sym, same_trans, plus_same, times_same, plus_cancels, times_cancels, one_cancels, plus_zero, zero_times, times_zero, denominator_cancels, cancelled_denominator, over_like, over_cancels, inverse_same, over_both}
 use Rattle.elimination.specs.declared.place.Place.{Place}
-use Rattle.elimination.specs.Listed.{term_entries, plus_entry, times_entry, over_entry}
-use Rattle.elimination.specs.Faults.{IsGood, AreGood, IsFirstWide, IsFirstWithoutInverse}
+use Rattle.elimination.specs.Listed.{Entry, term_entries, plus_entry, times_entry, over_entry}
+use Rattle.elimination.specs.Faults.{IsGood, AreGood, HasDivisor, IsAfterGood, IsFirstWide, IsFirstWithoutInverse}
 use Rattle.elimination.proofs.steps.Firsts.{good_one, good_append, first_here}
 
 abbrev NotOver : Op → Type 0
@@ -47,6 +47,20 @@ module _ {N : Type 0} {m : ℕ} {value : N → Ratio} {fits : Ratio → Type 0} 
   -- the value of a number fits
   pub value_fits : (x : N) (a : Ratio) → HasValue m (value x) a → fits a
   value_fits x a h = fits_too (value x) a (own_cancels x) h.denominator h.same (laws.every x)
+
+  -- a number that does not fit is the first fault, where all before it are good
+  first_wide : (es : List Entry) (e : Entry) → IsAfterGood m fits es e → HasDivisor m fits e → (x y : N) (own : Ratio) → CanCancel m (pos e.value.den) → CanCancel m (pos own.den) → Same m own e.value
+      → Same m (value x) e.left → Same m (value y) e.right → (w : Wide N) → IsWide fits e.op x y own w → IsFirstWide m fits value es e.place w
+  first_wide es e first divisor x y own formal cancels same left right w h = record {
+    entry = e;
+    first = first;
+    divisor = divisor;
+    unfit = λ f. h.unfit (fits_too e.value own formal cancels (same_sym same) f);
+    stands = refl;
+    op = h.op;
+    left = rw h.left left;
+    right = rw h.right right;
+  }
 
   good_times : (at : Place) (l r : Ratio) → fits (ratio_times l r) → IsGood m fits (times_entry at l r)
   good_times at l r f = record { divisor = times_none r; fit = f }
@@ -100,28 +114,13 @@ module _ {N : Type 0} {m : ℕ} {value : N → Ratio} {fits : Ratio → Type 0} 
           (has, terms_good at next a b c (value_fits p (ratio_times b c) product_has) (value_fits s (ratio_plus a (ratio_times b c)) has))
 
       pub sum_wide : (w : Wide N) → IsWide fits Plus x p (ratio_plus (value x) (value p)) w → IsFirstWide m fits value (term_entries at next a b c) next w
-      sum_wide w h = record {
-        entry = plus_entry next a (ratio_times b c);
-        first = record { before = _ ∷ []; after = []; split = refl; good = good_one _ (good_times at b c (value_fits p (ratio_times b c) product_has)) };
-        divisor = plus_none (ratio_times b c);
-        unfit = λ f. h.unfit (fits_too _ _ sum_cancels own_sum_cancels (same_sym (plus_same xa.same product_has.same)) f);
-        stands = refl;
-        op = h.op;
-        left = rw h.left xa.same;
-        right = rw h.right product_has.same;
-      }
+      sum_wide = first_wide (term_entries at next a b c) (plus_entry next a (ratio_times b c))
+          (record { before = _ ∷ []; after = []; split = refl; good = good_one _ (good_times at b c (value_fits p (ratio_times b c) product_has)) }) (plus_none (ratio_times b c))
+          x p (ratio_plus (value x) (value p)) sum_cancels own_sum_cancels (plus_same xa.same product_has.same) xa.same product_has.same
 
     pub product_wide : (w : Wide N) → IsWide fits Times left right (ratio_times (value left) (value right)) w → IsFirstWide m fits value (term_entries at next a b c) at w
-    product_wide w h = record {
-      entry = times_entry at b c;
-      first = first_here _ _;
-      divisor = times_none c;
-      unfit = λ f. h.unfit (fits_too _ _ product_cancels own_product_cancels (same_sym (times_same lb.same rc.same)) f);
-      stands = refl;
-      op = h.op;
-      left = rw h.left lb.same;
-      right = rw h.right rc.same;
-    }
+    product_wide = first_wide (term_entries at next a b c) (times_entry at b c) (first_here _ _) (times_none c)
+        left right (ratio_times (value left) (value right)) product_cancels own_product_cancels (times_same lb.same rc.same) lb.same rc.same
 
   module _ (at : Place) (x y : N) (a b : Ratio) (xa : HasValue m (value x) a) (yb : HasValue m (value y) b) where
     one_sum_cancels : CanCancel m (pos (ratio_plus a b).den)
@@ -141,16 +140,7 @@ module _ {N : Type 0} {m : ℕ} {value : N → Ratio} {fits : Ratio → Type 0} 
     add_zero z = add_done x (same_sym (same_trans (plus_cancels (value x) (whole (pos 0)) (own_cancels x) one_cancels) (plus_same (same_refl (value x)) z) (plus_zero (value x))))
 
     pub add_wide : (w : Wide N) → IsWide fits Plus x y (ratio_plus (value x) (value y)) w → IsFirstWide m fits value (plus_entry at a b ∷ []) at w
-    add_wide w h = record {
-      entry = plus_entry at a b;
-      first = first_here _ _;
-      divisor = plus_none b;
-      unfit = λ f. h.unfit (fits_too _ _ one_sum_cancels both_cancel (same_sym (plus_same xa.same yb.same)) f);
-      stands = refl;
-      op = h.op;
-      left = rw h.left xa.same;
-      right = rw h.right yb.same;
-    }
+    add_wide = first_wide (plus_entry at a b ∷ []) (plus_entry at a b) (first_here _ _) (plus_none b) x y (ratio_plus (value x) (value y)) one_sum_cancels both_cancel (plus_same xa.same yb.same) xa.same yb.same
 
     -- one quotient
     pub over_done : (q : N) → HasInverse m (value y) × Same m (ratio_times (value q) (value y)) (value x) → HasValue m (value q) (ratio_over a b) × AreGood m fits (over_entry at a b ∷ [])
@@ -160,18 +150,9 @@ module _ {N : Type 0} {m : ℕ} {value : N → Ratio} {fits : Ratio → Type 0} 
 
     pub over_wide : (w : Wide N) → IsWideQuotient fits m value x y w → IsFirstWide m fits value (over_entry at a b ∷ []) at w
     over_wide w h =
-        let formal = over_cancels a b xa.denominator (inverse_same yb.same yb.denominator h.inverse) in
-        let own = over_cancels (value x) (value y) (own_cancels x) h.inverse in
-        record {
-          entry = over_entry at a b;
-          first = first_here _ _;
-          divisor = λ e. inverse_same yb.same yb.denominator h.inverse;
-          unfit = λ f. h.wide.unfit (fits_too _ _ formal own (same_sym (over_both (value x) (value y) a b xa.same yb.same)) f);
-          stands = refl;
-          op = h.wide.op;
-          left = rw h.wide.left xa.same;
-          right = rw h.wide.right yb.same;
-        }
+        let inverse = inverse_same yb.same yb.denominator h.inverse in
+        first_wide (over_entry at a b ∷ []) (over_entry at a b) (first_here _ _) (λ e. inverse) x y (ratio_over (value x) (value y)) (over_cancels a b xa.denominator inverse)
+        (over_cancels (value x) (value y) (own_cancels x) h.inverse) (over_both (value x) (value y) a b xa.same yb.same) xa.same yb.same w h.wide
 
     pub over_none : (d : N) → LacksInverse fits m value x y d → IsFirstWithoutInverse m fits value (over_entry at a b ∷ []) at.k d
     over_none d h = record {

@@ -1,8 +1,7 @@
 -- Right-hand rows as sums, and rows of the listed positions as solutions for them.
-use Rattle.std.proofs.Common.{◌≡◌, ℕ, zero, suc, arith, ◌+◌, ◌-◌, ◌<◌, ◌⊎◌, List, length, get_or, sym, ap, subst, ◌∙◌, ⊎_elim, Option, Some, None}
+use Rattle.std.proofs.Common.{◌≡◌, ℕ, arith, ◌+◌, ◌-◌, ◌<◌, List, length, sym, ap, subst, ◌∙◌, Option, Some, None}
 use Rattle.std.specs.Prelude.{pos, slice_get}
 use Rattle.std.specs.Option.{option_map_or}
-use Rattle.std.proofs.lemmas.Option.{slice_get_cases}
 use Rattle.periodic_net.specs.Graph.{Graph, IsGraph, IsQuotientVertex}
 use Rattle.exact.specs.Ratio.{Ratio, IsDenominator, whole}
 use Rattle.exact.specs.Values.{HasValue, CanCancel}
@@ -13,6 +12,7 @@ use Rattle.elimination.specs.Listed.{position}
 use Rattle.elimination.specs.Lines.{IsRow, AreRowsOfValues, level_with}
 use Rattle.elimination.specs.Rows.{value_in, row_part}
 use Rattle.elimination.specs.RightHand.{SolveWith, FirstWith, OnlyWith, listed_with}
+use Rattle.elimination.proofs.steps.RowValues.{part_denominator, value_has, value_denominator}
 use Rattle.elimination.proofs.steps.SolvedWith.{solved_with, first_with, only_with}
 
 -- a number has its own value
@@ -29,56 +29,29 @@ module _ {N : Type 0} {D : ℕ} (m : ℕ) (value : N → Ratio) (denominator : (
   pub row_there : (rows : List (Row N D)) (i : ℕ) (x r : Row N D) → slice_get rows i ≡ Some r → IsRow m value x (row_part value r) → IsRow m value x (λ c. value_in value rows (i + 1) c)
   row_there rows i x r e h = subst (IsRow m value x) (λ j c. sym (row_value rows i r e c) j) h
 
-  row_denominator : (r : Row N D) (c : ℕ) → CanCancel m (pos (row_part value r c).den)
-  row_denominator r zero = denominator_cancels (denominator r.x)
-  row_denominator r (suc zero) = denominator_cancels (denominator r.y)
-  row_denominator r (suc (suc c)) = denominator_cancels (denominator r.z)
-
   option_denominator : (o : Option (Row N D)) (c : ℕ) → CanCancel m (pos (option_map_or (λ r. row_part value r c) o (whole (pos 0))).den)
   option_denominator None c = one_cancels
-  option_denominator (Some r) c = row_denominator r c
+  option_denominator (Some r) c = denominator_cancels (part_denominator m value denominator r c)
 
   -- all denominators can be cancelled
   pub right_cancels : (rows : List (Row N D)) (u c : ℕ) → CanCancel m (pos (value_in value rows u c).den)
   right_cancels rows u c = option_denominator (slice_get rows (u - 1)) c
 
-  -- part c of a row has the value b c
-  part_has : (r : Row N D) (b : ℕ → Ratio) → IsRow m value r b → (D ≡ 2) ⊎ (D ≡ 3) → (c : ℕ) → c < D → HasValue m (row_part value r c) (b c)
-  part_has r b h d zero l = h.first
-  part_has r b h d (suc zero) l = h.second
-  part_has r b h d (suc (suc zero)) l = h.third (⊎_elim (λ (e : D ≡ 2). absurd (omega (arith, l, e))) (λ (e : D ≡ 3). e) d)
-  part_has r b h d (suc (suc (suc c))) l = absurd (⊎_elim (λ (e : D ≡ 2). omega (arith, l, e)) (λ (e : D ≡ 3). omega (arith, l, e)) d)
-
-  part_denominator : (r : Row N D) (c : ℕ) → IsDenominator m (row_part value r c).den
-  part_denominator r zero = denominator r.x
-  part_denominator r (suc zero) = denominator r.y
-  part_denominator r (suc (suc c)) = denominator r.z
-
   module _ (fits : Ratio → Type 0) (G : Graph) (g : IsGraph G) (d : G.dimension ≡ D) (right : List (Row N D)) (good : AreGood m fits (listed_with value G right)) where
     module _ (rows : List (Row N D)) (count : length rows ≡ G.vertices) (like : AreRowsOfValues m value rows (position (G.vertices - 1) (level_with G (λ i c. value_in value right (i + 1) c))) G.vertices) where
-      row_of : (u : ℕ) → IsQuotientVertex G u → (r : Row N D) × (slice_get rows (u - 1) ≡ Some r) × (get_or rows (u - 1) r ≡ r)
-      row_of u q = ⊎_elim (λ (h : (r : Row N D) × (u - 1 < length rows) × (slice_get rows (u - 1) ≡ Some r) × (get_or rows (u - 1) r ≡ r)). (h.0, h.2, h.3))
-          (λ h. let f = q.0 in let l = q.1 in let m = h.0 in absurd (omega (arith, f, l, m, count))) (slice_get_cases rows (u - 1)).1
+      denominator_at : (c u : ℕ) → IsQuotientVertex G u → IsDenominator m (value_in value rows u c).den
+      denominator_at c u q = value_denominator m value denominator G g d rows count u c q
 
-      value_has : (u c : ℕ) → IsQuotientVertex G u → c < G.dimension → HasValue m (value_in value rows u c) (position (G.vertices - 1) (level_with G (λ i c. value_in value right (i + 1) c)) (u - 1) c)
-      value_has u c q l =
-          let r = row_of u q in
-          let listed = position (G.vertices - 1) (level_with G (λ i c. value_in value right (i + 1) c)) (u - 1) in
-          let row = subst (λ t. IsRow m value t listed) r.2 (like.has (u - 1) r.0 (let f = q.0 in let n = q.1 in omega arith)) in
-          subst (λ o. HasValue m (option_map_or (λ t. row_part value t c) o (whole (pos 0))) (listed c)) (sym r.1) (part_has r.0 listed row (subst (λ e. (e ≡ 2) ⊎ (e ≡ 3)) d g.dimension) c (subst (λ e. c < e) d l))
-
-      value_denominator : (u c : ℕ) → IsQuotientVertex G u → IsDenominator m (value_in value rows u c).den
-      value_denominator u c q =
-          let r = row_of u q in
-          subst (λ o. IsDenominator m (option_map_or (λ t. row_part value t c) o (whole (pos 0))).den) (sym r.1) (part_denominator r.0 c)
+      has_at : (c : ℕ) → c < G.dimension → (u : ℕ) → IsQuotientVertex G u → HasValue m (value_in value rows u c) (position (G.vertices - 1) (level_with G (λ i c. value_in value right (i + 1) c)) (u - 1) c)
+      has_at c l u q = value_has m value denominator G g d rows count (position (G.vertices - 1) (level_with G (λ i c. value_in value right (i + 1) c))) like u c q l
 
       -- the rows solve the equations
       pub solve_with_all : SolveWith m value G right rows
-      solve_with_all c l = solved_with m fits G g (value_in value right) (right_cancels right) good c (λ u. value_in value rows u c) (λ u q. value_denominator u c q) (λ u q. value_has u c q l)
+      solve_with_all c l = solved_with m fits G g (value_in value right) (right_cancels right) good c (λ u. value_in value rows u c) (denominator_at c) (has_at c l)
 
       -- and the equation of vertex 1, where the right-hand rows add up to 0
       pub solve_with_first : FirstWith m value G right rows
-      solve_with_first c l = first_with m fits G g (value_in value right) (right_cancels right) good c (λ u. value_in value rows u c) (λ u q. value_denominator u c q) (λ u q. value_has u c q l)
+      solve_with_first c l = first_with m fits G g (value_in value right) (right_cancels right) good c (λ u. value_in value rows u c) (denominator_at c) (has_at c l)
 
     -- no other values do
     pub solve_with_only : OnlyWith m value G right

@@ -1,31 +1,20 @@
-use Rattle.std.proofs.Common.{◌≡◌, ◌∙◌, ◌+◌, ◌-◌, ◌*◌, ◌^◌, arith, ap, sym, subst, map, take, refl}
+use Rattle.std.proofs.Common.{◌≡◌, ◌∙◌, ◌+◌, ◌*◌, ◌^◌, arith, ap, sym, subst, map, take, refl}
 use Rattle.std.proofs.lemmas.Int.{to_z-of_z}
 use Rattle.std.proofs.lemmas.List.{take_all}
-use Rattle.integers.specs.Vectors.{zero_vector, plus, vector_sum, IsWithin}
+use Rattle.integers.specs.Vectors.{plus, vector_sum, IsWithin}
 use Rattle.periodic_net.specs.Graph.{arcs_from}
 use Rattle.periodic_net.specs.Limits.{most_units}
 use Rattle.periodic_net.specs.Placement.{arc_vector}
 use Rattle.quotient_graph.specs.PlacedNets.{placement_of}
-use Rattle.quotient_graph.specs.Stars.{IsArcFrom}
 use Rattle.elimination.proofs.CallerLemmas.{few_arcs}
 use Rattle.barycentre.specs.Limits.{AreWithinTo}
-use Rattle.barycentre.proofs.StarSums.{sum_more, sum_permuted, near_more, near_wider, arc_within}
+use Rattle.barycentre.proofs.StarSums.{sum_more, sum_permuted, near_more, near_wider}
 use Rattle.barycentre.proofs.Stars.{within_more, within_all}
 use Rattle.barycentre.proofs.short.is_balanced.Goals as goal
 
 pub short_of-step-requires : goal.short_of-step-requires
 short_of-step-requires g c =
-    let rd = c.ranges.d0 in
-    let P = placement_of c.args.d0 c.args.at.now in
-    let a = c.arc-item.result in
-    let from : IsArcFrom c.args.g.now c.args.u a = subst (IsArcFrom c.args.g.now c.args.u) (sym c.arc-item.is) (c.arcs-arc-items.ensures.each c.loop-arc.arc-index a c.loop-arc-test.true) in
-    let vector : c.vector_of.result ≡ arc_vector P a = simp to_z-of_z at c.vector_of.ensures in
-    let count = c.requires.count in
-    let tail = from.from in
-    let v = c.requires.vertex in
-    let short = arc_within (2 ^ 61) P a c.requires.reach.denominator (c.requires.short (a.from - 1) zero_vector (let p = v.0 in let q = v.1 in omega (arith, count, tail, p, q)))
-    (c.requires.short (a.to - 1) zero_vector (let p = from.to.0 in let q = from.to.1 in omega (arith, count, p, q))) from.shift in
-    near_wider (2 ^ 61 + 2 ^ 40 * 500 + 2 ^ 61) (2 ^ 62 + 2 ^ 50) (omega arith) c.vector_of.result (subst (IsWithin (2 ^ 61 + 2 ^ 40 * 500 + 2 ^ 61)) (sym vector) short)
+    near_wider (2 ^ 61 + 2 ^ 40 * 500 + 2 ^ 61) (2 ^ 62 + 2 ^ 50) (omega arith) c.vector_of.result (c.vector_of.ensures.within (2 ^ 61) c.requires.short)
 
 pub sum_of-sum-requires-clause-a : goal.sum_of-sum-requires-clause-a
 sum_of-sum-requires-clause-a g c =
@@ -42,7 +31,7 @@ loop-arc-preserved g c =
     let i = c.loop-arc.arc-index in
     let sum = c.loop-arc.sum in
     let v = c.short_of-step.result in
-    let vector : v ≡ arc_vector P a = c.short_of-step.ensures ∙ (simp to_z-of_z at c.vector_of.ensures) in
+    let vector : v ≡ arc_vector P a = c.short_of-step.ensures ∙ (simp to_z-of_z at c.vector_of.ensures.value) in
     let before : sum ≡ vector_sum (map (arc_vector P) (take i star)) = simp to_z-of_z at c.loop-arc.invariant.added in
     let added : c.sum_of-sum.result ≡ vector_sum (map (arc_vector P) (take (i + 1) star)) = c.sum_of-sum.ensures ∙ (λ j. plus (before j) (vector j)) ∙ sym (sum_more (arc_vector P) star i a c.loop-arc-test.true c.arc-item.is) in
     let here : IsWithin most_units v = c.if-not-is_within.ensures refl in

@@ -11,9 +11,9 @@ pub loop-i-init : goal.loop-i-init
 loop-i-init g c =
     let n = g.N.Exact in
     record {
-      below = rw c.new-joined.ensures.items (λ a d b. absurd (omega (arith, b)));
-      rising = rw c.new-joined.ensures.items (λ a b d o l. absurd (omega (arith, l)));
-      done = λ v w s. rw c.new-joined.ensures.items (joined_none n.modulus n.value v c.args.k);
+      below = rw c.in_ok-joined.ensures.items (λ a d b. absurd (omega (arith, b)));
+      rising = rw c.in_ok-joined.ensures.items (λ a b d o l. absurd (omega (arith, l)));
+      done = λ v w s. rw c.in_ok-joined.ensures.items (joined_none n.modulus n.value v c.args.k);
     }
 
 pub loop-i-preserved : goal.loop-i-preserved
