@@ -132,7 +132,9 @@ impl Triple {
         ensures { IsTrue result ↔ IsWithin most self.now }
     {
         let most = u128::from(most);
-        self.x.unsigned_abs() <= most && self.y.unsigned_abs() <= most && self.z.unsigned_abs() <= most
+        self.x.unsigned_abs() <= most
+            && self.y.unsigned_abs() <= most
+            && self.z.unsigned_abs() <= most
     }
 }
 
