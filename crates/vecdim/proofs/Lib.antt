@@ -3,6 +3,7 @@ pub mod Assembling
 pub mod Basis
 pub mod CallerLemmas
 pub mod Combos
+pub mod Comparisons
 pub mod Deciding
 pub mod Dividing
 pub mod Fitting
@@ -10,6 +11,7 @@ pub mod Generated
 pub mod Inserting
 pub mod Lattice
 pub mod Remainders
+pub mod SmallProducts
 pub mod Spanning
 pub mod Splitting
 pub mod Stairway

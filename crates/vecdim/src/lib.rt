@@ -8,10 +8,12 @@ mod division;
 mod insertion;
 mod products;
 mod quotients;
+mod small;
 mod staircase;
 mod sums;
 mod vectors;
 
 pub use products::{cross, independent, triple};
+pub use small::SmallVector;
 pub use staircase::{Staircase, rows_are_one};
 pub use vectors::{Row, Shift, Triple, Vect};

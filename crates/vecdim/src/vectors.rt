@@ -126,6 +126,16 @@ impl Triple {
     {
         *self > Triple { x: 0, y: 0, z: 0 }
     }
+
+    /// Whether no coordinate is greater than `most`, as an absolute value.
+    pub fn is_within(&self, most: u64) -> bool
+        ensures { IsTrue result ↔ IsWithin most self.now }
+    {
+        let most = u128::from(most);
+        self.x.unsigned_abs() <= most
+            && self.y.unsigned_abs() <= most
+            && self.z.unsigned_abs() <= most
+    }
 }
 
 /// A vector of dimension `D`, with parts of absolute value at most 2^61; in dimension 2 the part
