@@ -119,9 +119,10 @@ pub fn read_rest(
         Err(line) => return Ok(Err(line)),
     };
     let end_line = lines.number();
-    if next_end(lines) {
-        Ok(Ok(Form { keyed, shells }))
+    let form = if next_end(lines) {
+        Ok(Form { keyed, shells })
     } else {
-        Ok(Err(end_line))
-    }
+        Err(end_line)
+    };
+    Ok(form)
 }

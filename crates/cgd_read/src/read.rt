@@ -5,7 +5,7 @@ ghost use Rattle.cgd_read.specs.Lines.{LineView, token_lines};
 ghost use Rattle.cgd_read.specs.Views.{line_view, BlockView, body_view, block_view, views};
 ghost use Rattle.cgd_read.specs.Reading.{IsSmallFields, IsFlat, after_end};
 ghost use Rattle.cgd_read.specs.Faults.{is_end};
-ghost use Rattle.cgd_read.specs.Blocks.{graph_block, block_by, block_of, blocks_of, most_blocks, with_body, malformed, AreBlocksOf, IsGraphBlock, IsReadBody};
+ghost use Rattle.cgd_read.specs.Blocks.{graph_block, block_of, blocks_of, most_blocks, with_body, malformed, AreBlocksOf, IsGraphBlock, IsReadBody};
 
 use crate::cursor::next_line;
 use crate::line::{Line, LineKind};
@@ -88,31 +88,6 @@ fn read_graph<'a>(
     })
 }
 
-// The block that this line opens as a graph block.
-fn open_graph<'a>(
-    alloc: Global,
-    lexer: &mut Lexer<'a>,
-    state: &mut State<'a>,
-    line: &Line<'a>,
-) -> Result<Block<'a>, NoMemory>
-    requires { length lexer.old ≤ 16777216 }
-    ensures block { IfOk result (λ block.
-        block_view block ≡ block_by LineKind.Opening (line_view line.now) (token_lines lexer.old)) }
-    ensures graph { IfOk result (λ block. IsReadBody block.body) }
-    ensures lines { OnOk result (token_lines lexer.new ≡ after_end (token_lines lexer.old)) }
-    ensures shorter { OnOk result (length lexer.new ≤ length lexer.old) }
-{
-    if line.fields.size == 0 {
-        return read_graph(alloc, lexer, state, line.number);
-    }
-    pass_block(lexer);
-    Ok(Block {
-        name: None,
-        line: line.number,
-        body: malformed_at(line.number, BlockFaultKind::BadToken),
-    })
-}
-
 // The block that this line opens.
 fn read_block<'a>(
     alloc: Global,
@@ -127,17 +102,19 @@ fn read_block<'a>(
     ensures lines { OnOk result (token_lines lexer.new ≡ after_end (token_lines lexer.old)) }
     ensures shorter { OnOk result (length lexer.new ≤ length lexer.old) }
 {
-    match line.kind {
-        LineKind::Opening => open_graph(alloc, lexer, state, line),
-        _ => {
-            pass_block(lexer);
-            Ok(Block {
-                name: None,
-                line: line.number,
-                body: Body::Unsupported(line.first),
-            })
+    let body = match line.kind {
+        LineKind::Opening if line.fields.size == 0 => {
+            return read_graph(alloc, lexer, state, line.number);
         }
-    }
+        LineKind::Opening => malformed_at(line.number, BlockFaultKind::BadToken),
+        _ => Body::Unsupported(line.first),
+    };
+    pass_block(lexer);
+    Ok(Block {
+        name: None,
+        line: line.number,
+        body,
+    })
 }
 
 // Adds the block that this line opens.

@@ -14,47 +14,32 @@ impl LineKind {
     pub fn is_name(self) -> bool
         ensures { result ≡ is_name self }
     {
-        match self {
-            LineKind::Name => true,
-            _ => false,
-        }
+        matches!(self, LineKind::Name)
     }
 
     /// Whether it ends a block.
     pub fn is_end(self) -> bool
         ensures { result ≡ is_end self }
     {
-        match self {
-            LineKind::End => true,
-            _ => false,
-        }
+        matches!(self, LineKind::End)
     }
 
     pub fn is_bare(self) -> bool
         ensures { result ≡ is_bare self }
     {
-        match self {
-            LineKind::Bare => true,
-            _ => false,
-        }
+        matches!(self, LineKind::Bare)
     }
 
     pub fn is_broken(self) -> bool
         ensures { result ≡ is_broken self }
     {
-        match self {
-            LineKind::Broken => true,
-            _ => false,
-        }
+        matches!(self, LineKind::Broken)
     }
 
     pub fn is_unknown(self) -> bool
         ensures { result ≡ is_unknown self }
     {
-        match self {
-            LineKind::Unknown | LineKind::Opening => true,
-            _ => false,
-        }
+        matches!(self, LineKind::Unknown | LineKind::Opening)
     }
 
     /// Whether the last keyword line is one of edges, after one more line.
@@ -86,10 +71,7 @@ impl LineKind {
     pub fn may_have_row(self) -> bool
         ensures { result ≡ may_have_row self }
     {
-        match self {
-            LineKind::Edges | LineKind::Bare => true,
-            _ => false,
-        }
+        matches!(self, LineKind::Edges | LineKind::Bare)
     }
 }
 

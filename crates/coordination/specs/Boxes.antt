@@ -1,5 +1,5 @@
 -- Boxes of the net of a graph: the vertices around cell 0, with a number each.
-use Rattle.std.specs.Prelude.{◌≡◌, ℕ, ◌+◌, ◌-◌, ◌*◌, ◌≤◌, ℤ, pos, ◌+ℤ◌, ◌-ℤ◌, ◌*ℤ◌, unsigned_abs, List, [], ◌∷◌, ◌++◌, map, filter, ◌==◌, length, slice_index_or, Bool, if◌then◌else◌}
+use Rattle.std.specs.Prelude.{◌≡◌, ℕ, ◌+◌, ◌-◌, ◌*◌, ◌≤◌, ℤ, pos, ◌+ℤ◌, ◌-ℤ◌, ◌*ℤ◌, unsigned_abs, List, [], ◌∷◌, ◌++◌, map, filter, ◌==◌, length, slice_index_or, slice_set}
 use Rattle.integers.specs.Vectors.{Vector}
 use Rattle.periodic_net.specs.Graph.{Graph, IsGraph, IsQuotientVertex, Arc, both_ways, reverse_of, Vertex}
 use Rattle.periodic_net.specs.Limits.{most_vertices}
@@ -57,13 +57,13 @@ step_of n r a = record { to = a.to; by = growth_of n r a }
 abbrev pub steps_from : ℕ → Extent → ℕ → List Arc → List Step
 steps_from n r c edges = map (step_of n r) (filter (λ a. a.from == c) (both_ways edges))
 
--- a list with one step more, if it starts here
-abbrev pub star_with : List Step → Bool → Step → List Step
-star_with star here t = if here then star ++ t ∷ [] else star
+-- a step put last in the list of vertex u
+abbrev pub with_step : List (List Step) → ℕ → Step → List (List Step)
+with_step stars u t = slice_set stars (u - 1) (slice_index_or stars (u - 1) [] ++ t ∷ [])
 
--- a list with the steps along e, both ways, that start at u
-abbrev pub star_along : List Step → ℕ → Extent → Arc → ℕ → List Step
-star_along star n r e u = star_with (star_with star (e.from == u) (step_of n r e)) (e.to == u) (step_of n r (reverse_of e))
+-- the steps along e, both ways, put last in the lists of its ends
+abbrev pub with_edge : List (List Step) → ℕ → Extent → Arc → List (List Step)
+with_edge stars n r e = with_step (with_step stars e.from (step_of n r e)) e.to (step_of n r (reverse_of e))
 
 -- the steps from the first m vertices
 pub record AreStars (P : Graph) (r : Extent) (m : ℕ) (stars : List (List Step)) : Type 0 where

@@ -1,8 +1,8 @@
 // Boxes of a net: the vertices around a start, each with a number.
-ghost use Rattle.std.specs.Prelude.{◌≡◌, ◌+◌, ◌*◌, ◌^◌, ◌++◌, ◌∷◌, ◌<◌, ◌≤◌, [], pos, ◌+ℤ◌, ◌-ℤ◌, ◌*ℤ◌, unsigned_abs, length, slice_get, Some, OnOk, IfOk, IfSome};
+ghost use Rattle.std.specs.Prelude.{◌≡◌, ◌+◌, ◌*◌, ◌^◌, ◌<◌, ◌≤◌, [], pos, ◌+ℤ◌, ◌-ℤ◌, ◌*ℤ◌, unsigned_abs, length, map, replicate, slice_get, Some, OnOk, IfOk, IfSome};
 ghost use Rattle.periodic_net.specs.Graph.{IsGraph};
 ghost use Rattle.periodic_net.specs.Limits.{most_vertices};
-ghost use Rattle.coordination.specs.Boxes.{AreStars, IsBoxOf, cells_of, growth_of, origin_of, side, size_of, star_along, star_with, steps_from};
+ghost use Rattle.coordination.specs.Boxes.{AreStars, IsBoxOf, cells_of, growth_of, origin_of, side, size_of, with_edge, with_step};
 ghost use Rattle.coordination.specs.Extents.{AreShiftsWithin, IsCellWithin, IsNarrow};
 
 use crate::NoMemory;
@@ -33,23 +33,6 @@ impl Model for Stars {
 }
 
 impl Stars {
-    /// No list.
-    pub fn new(alloc: Global) -> Self
-        ensures { result ≡ [] }
-    {
-        Stars {
-            items: Vec::new(alloc),
-        }
-    }
-
-    /// Puts a list last. Where memory is refused it is dropped.
-    pub fn push(&mut self, star: Vec<Step>) -> Result<(), NoMemory>
-        ensures { OnOk result (self.new ≡ self.old ++ star.items ∷ []) }
-    {
-        self.items.push(star)?;
-        Ok(())
-    }
-
     /// The list at a place, counted from 0.
     pub fn at(&self, i: usize) -> &[Step]
         requires { i < length self.now }
@@ -133,66 +116,74 @@ fn growth<const D: usize>(count: u32, extent: Extent, edge: &PrimEdge<D>) -> i64
     weighed(difference(edge.v, edge.u), count, cells)
 }
 
-// Puts a step last, if it starts here.
-fn add_step(star: &mut Vec<Step>, starts_here: bool, step: Step) -> Result<(), NoMemory>
-    ensures { OnOk result (star.new.items ≡ star_with star.old.items starts_here step) }
+// Puts a step last in the list of the vertex that it starts from.
+fn push_step(stars: &mut [Vec<Step>], from: u32, step: Step) -> Result<(), NoMemory>
+    requires low { 1 ≤ from }
+    requires high { from ≤ length stars.old }
+    ensures { OnOk result (map (λ star. star.items) stars.new
+        ≡ with_step (map (λ star. star.items) stars.old) from step) }
 {
-    if starts_here {
-        star.push(step)?;
-    }
+    stars[from as usize - 1].push(step)?;
     Ok(())
 }
 
-// Puts the steps along an edge that start at a vertex last.
-fn add_edge<const D: usize>(
-    star: &mut Vec<Step>,
+// Puts the steps along an edge, both ways, last in the lists of its ends.
+fn push_edge<const D: usize>(
+    stars: &mut [Vec<Step>],
     count: u32,
     extent: Extent,
     edge: &PrimEdge<D>,
-    u: u32,
 ) -> Result<(), NoMemory>
     requires count { count ≤ most_vertices }
     requires narrow { IsNarrow WIDEST extent }
-    requires from { (edge.now).from ≤ most_vertices }
-    requires to { (edge.now).to ≤ most_vertices }
+    requires lists { length stars.old ≡ count }
+    requires from { (1 ≤ (edge.now).from) × ((edge.now).from ≤ count) }
+    requires to { (1 ≤ (edge.now).to) × ((edge.now).to ≤ count) }
     requires shift { IsCellWithin extent (edge.now).shift }
-    ensures { OnOk result (star.new.items ≡ star_along star.old.items count extent edge.now u) }
+    ensures { OnOk result (map (λ star. star.items) stars.new
+        ≡ with_edge (map (λ star. star.items) stars.old) count extent edge.now) }
 {
-    if edge.u != u && edge.v != u {
-        return Ok(());
-    }
     let by = growth(count, extent, edge);
-    add_step(star, edge.u == u, Step { to: edge.v, by })?;
-    add_step(
-        star,
-        edge.v == u,
+    push_step(stars, edge.u, Step { to: edge.v, by })?;
+    push_step(
+        stars,
+        edge.v,
         Step {
             to: edge.u,
             by: -by,
         },
-    )?;
-    Ok(())
+    )
 }
 
-// The steps from a vertex of the primitive graph.
-fn star_of<const D: usize>(
-    alloc: Global,
+// A list for each of n vertices, without steps.
+fn empty_stars(alloc: Global, n: u32) -> Result<Vec<Vec<Step>>, NoMemory>
+    ensures { IfOk result (λ stars. map (λ star. star.items) stars.items ≡ replicate n []) }
+{
+    let mut stars = Vec::with_capacity(alloc, n as usize)?;
+    for _ in 0..n {
+        stars.push(Vec::new(alloc))?;
+    }
+    Ok(stars)
+}
+
+// Puts the steps along each edge, both ways, into lists without steps.
+fn push_edges<const D: usize>(
+    stars: &mut [Vec<Step>],
     cell: &Primitive<D>,
     extent: Extent,
-    u: u32,
-) -> Result<Vec<Step>, NoMemory>
+) -> Result<(), NoMemory>
     requires graph { IsGraph cell.now.graph }
     requires few { cell.now.graph.vertices ≤ most_vertices }
     requires narrow { IsNarrow WIDEST extent }
     requires shifts { AreShiftsWithin cell.now.graph.edges extent }
-    ensures { IfOk result (λ star.
-        star.items ≡ steps_from cell.now.graph.vertices extent u cell.now.graph.edges) }
+    requires empty { map (λ star. star.items) stars.old ≡ replicate cell.now.graph.vertices [] }
+    ensures { OnOk result (AreStars cell.now.graph extent cell.now.graph.vertices
+        (map (λ star. star.items) stars.new)) }
 {
-    let mut star = Vec::new(alloc);
     for edge in &cell.edges {
-        add_edge(&mut star, cell.vertices, extent, edge, u)?;
+        push_edge(stars, cell.vertices, extent, edge)?;
     }
-    Ok(star)
+    Ok(())
 }
 
 // The steps from each vertex of the primitive graph.
@@ -207,11 +198,9 @@ fn stars_of<const D: usize>(
     requires shifts { AreShiftsWithin cell.now.graph.edges extent }
     ensures { IfOk result (AreStars cell.now.graph extent cell.now.graph.vertices) }
 {
-    let mut stars = Stars::new(alloc);
-    for before in 0..cell.vertices {
-        stars.push(star_of(alloc, cell, extent, before + 1)?)?;
-    }
-    Ok(stars)
+    let mut items = empty_stars(alloc, cell.vertices)?;
+    push_edges(&mut items, cell, extent)?;
+    Ok(Stars { items })
 }
 
 // The number of vertices in the box, if it is not too large.

@@ -45,15 +45,40 @@ module _ (m : ℕ) where
   unfolding ratio_times
   times_exact a b = record { ratio = ratio_times a.ratio b.ratio; denominator = product_cancels a.denominator b.denominator }
 
-  unfoldable pub plus_value : Value → Value → Value
+  -- an operation that gives equal results of equal numbers, as one on values
+  abbrev pub lifted : (f : Exact → Exact → Exact) → ((a b a' b' : Exact) → same a a' → same b b' → same (f a b) (f a' b')) → Value → Value → Value
+  unfolding same
+  lifted f keeps = Quotient.lift₂ by_value by_value value-set (λ a b. Quotient.mk by_value (f a b)) (λ a b a' b' s t. Quotient.sound by_value (keeps a b a' b' s t))
+
+  -- it commutes where the one on numbers does
+  lifted_comm : (f : Exact → Exact → Exact) (keeps : (a b a' b' : Exact) → same a a' → same b b' → same (f a b) (f a' b')) → ((a b : Exact) → same (f a b) (f b a))
+      → (x y : Value) → lifted f keeps x y ≡ lifted f keeps y x
+  unfolding same Quotient.lift₂
+  lifted_comm f keeps turned = Quotient.ind₂ by_value by_value (λ q r. value-set (lifted f keeps q r) (lifted f keeps r q)) (λ a b. Quotient.sound by_value (turned a b))
+
+  -- and is associative where that one is
+  lifted_assoc : (f : Exact → Exact → Exact) (keeps : (a b a' b' : Exact) → same a a' → same b b' → same (f a b) (f a' b')) → ((a b c : Exact) → same (f (f a b) c) (f a (f b c)))
+      → (x y z : Value) → lifted f keeps (lifted f keeps x y) z ≡ lifted f keeps x (lifted f keeps y z)
+  unfolding same Quotient.lift₂
+  lifted_assoc f keeps grouped x y z =
+      Quotient.induction_on₃ by_value by_value by_value (λ q r s. value-set (lifted f keeps (lifted f keeps q r) s) (lifted f keeps q (lifted f keeps r s))) x y z
+      (λ a b c. Quotient.sound by_value (grouped a b c))
+
+  -- equal numbers have equal sums
+  pub plus_keeps : (a b a' b' : Exact) → same a a' → same b b' → same (plus_exact a b) (plus_exact a' b')
   unfolding same plus_exact
-  plus_value = Quotient.lift₂ by_value by_value value-set (λ a b. Quotient.mk by_value (plus_exact a b))
-      (λ a b a' b' s t. Quotient.sound by_value (∥∥₁_elim s ∥∥₁_prop (λ s. ∥∥₁_map t (λ t. plus_same s t))))
+  plus_keeps a b a' b' s t = ∥∥₁_elim s ∥∥₁_prop (λ s. ∥∥₁_map t (λ t. plus_same s t))
+
+  unfoldable pub plus_value : Value → Value → Value
+  plus_value = lifted plus_exact plus_keeps
+
+  -- and equal products
+  pub times_keeps : (a b a' b' : Exact) → same a a' → same b b' → same (times_exact a b) (times_exact a' b')
+  unfolding same times_exact
+  times_keeps a b a' b' s t = ∥∥₁_elim s ∥∥₁_prop (λ s. ∥∥₁_map t (λ t. times_same s t))
 
   unfoldable pub times_value : Value → Value → Value
-  unfolding same times_exact
-  times_value = Quotient.lift₂ by_value by_value value-set (λ a b. Quotient.mk by_value (times_exact a b))
-      (λ a b a' b' s t. Quotient.sound by_value (∥∥₁_elim s ∥∥₁_prop (λ s. ∥∥₁_map t (λ t. times_same s t))))
+  times_value = lifted times_exact times_keeps
 
   unfoldable pub class : (r : Ratio) → CanCancel m (pos r.den) → Value
   class r h = Quotient.mk by_value (record { ratio = r; denominator = h })
@@ -72,8 +97,8 @@ module _ (m : ℕ) where
   comm_formal a b = formal _ _ _ _ (ratio_plus a b) (ratio_plus b a) refl refl refl refl (comm_step a.num (pos a.den) b.num (pos b.den))
 
   pub plus_value_comm : (a b : Value) → plus_value a b ≡ plus_value b a
-  unfolding plus_value same plus_exact Quotient.lift₂
-  plus_value_comm = Quotient.ind₂ by_value by_value (λ q r. value-set (plus_value q r) (plus_value r q)) (λ a b. Quotient.sound by_value ∣ comm_formal a.ratio b.ratio ∣₁)
+  unfolding plus_value same plus_exact
+  plus_value_comm = lifted_comm plus_exact plus_keeps (λ a b. ∣ comm_formal a.ratio b.ratio ∣₁)
 
   assoc_step : (an ad bn bd cn cd : ℤ) → ((an *ℤ bd +ℤ bn *ℤ ad) *ℤ cd +ℤ cn *ℤ (ad *ℤ bd)) *ℤ (ad *ℤ (bd *ℤ cd)) ≡ (an *ℤ (bd *ℤ cd) +ℤ (bn *ℤ cd +ℤ cn *ℤ bd) *ℤ ad) *ℤ ((ad *ℤ bd) *ℤ cd)
   assoc_step an ad bn bd cn cd = simp ring (omega (arith, linear))
@@ -83,8 +108,8 @@ module _ (m : ℕ) where
   assoc_formal a b c = formal _ _ _ _ (ratio_plus (ratio_plus a b) c) (ratio_plus a (ratio_plus b c)) refl refl refl refl (assoc_step a.num (pos a.den) b.num (pos b.den) c.num (pos c.den))
 
   pub plus_value_assoc : (a b c : Value) → plus_value (plus_value a b) c ≡ plus_value a (plus_value b c)
-  unfolding plus_value same plus_exact Quotient.lift₂
-  plus_value_assoc x y z = Quotient.induction_on₃ by_value by_value by_value (λ q r s. value-set (plus_value (plus_value q r) s) (plus_value q (plus_value r s))) x y z (λ a b c. Quotient.sound by_value ∣ assoc_formal a.ratio b.ratio c.ratio ∣₁)
+  unfolding plus_value same plus_exact
+  plus_value_assoc = lifted_assoc plus_exact plus_keeps (λ a b c. ∣ assoc_formal a.ratio b.ratio c.ratio ∣₁)
 
   times_plus_step : (an ad bn bd cn cd : ℤ) → (an *ℤ (bn *ℤ cd +ℤ cn *ℤ bd)) *ℤ ((ad *ℤ bd) *ℤ (ad *ℤ cd)) ≡ ((an *ℤ bn) *ℤ (ad *ℤ cd) +ℤ (an *ℤ cn) *ℤ (ad *ℤ bd)) *ℤ (ad *ℤ (bd *ℤ cd))
   times_plus_step an ad bn bd cn cd = simp ring (omega (arith, linear))
@@ -110,8 +135,8 @@ module _ (m : ℕ) where
   times_comm_formal a b = formal _ _ _ _ (ratio_times a b) (ratio_times b a) refl refl refl refl (times_comm_step a.num (pos a.den) b.num (pos b.den))
 
   pub times_value_comm : (a b : Value) → times_value a b ≡ times_value b a
-  unfolding times_value same times_exact Quotient.lift₂
-  times_value_comm = Quotient.ind₂ by_value by_value (λ q r. value-set (times_value q r) (times_value r q)) (λ a b. Quotient.sound by_value ∣ times_comm_formal a.ratio b.ratio ∣₁)
+  unfolding times_value same times_exact
+  times_value_comm = lifted_comm times_exact times_keeps (λ a b. ∣ times_comm_formal a.ratio b.ratio ∣₁)
 
   times_assoc_step : (an ad bn bd cn cd : ℤ) → ((an *ℤ bn) *ℤ cn) *ℤ (ad *ℤ (bd *ℤ cd)) ≡ (an *ℤ (bn *ℤ cn)) *ℤ ((ad *ℤ bd) *ℤ cd)
   times_assoc_step an ad bn bd cn cd = simp ring (omega (arith, linear))
@@ -121,8 +146,8 @@ module _ (m : ℕ) where
   times_assoc_formal a b c = formal _ _ _ _ (ratio_times (ratio_times a b) c) (ratio_times a (ratio_times b c)) refl refl refl refl (times_assoc_step a.num (pos a.den) b.num (pos b.den) c.num (pos c.den))
 
   pub times_value_assoc : (a b c : Value) → times_value (times_value a b) c ≡ times_value a (times_value b c)
-  unfolding times_value same times_exact Quotient.lift₂
-  times_value_assoc x y z = Quotient.induction_on₃ by_value by_value by_value (λ q r s. value-set (times_value (times_value q r) s) (times_value q (times_value r s))) x y z (λ a b c. Quotient.sound by_value ∣ times_assoc_formal a.ratio b.ratio c.ratio ∣₁)
+  unfolding times_value same times_exact
+  times_value_assoc = lifted_assoc times_exact times_keeps (λ a b c. ∣ times_assoc_formal a.ratio b.ratio c.ratio ∣₁)
 
   unfoldable pub whole_value : ℤ → Value
   whole_value z = Quotient.mk by_value (record { ratio = whole z; denominator = one_cancels })

@@ -35,18 +35,10 @@ pub times_is : (a b : Ratio) → quotient (a.num *ℤ b.num) (pos (a.den * b.den
 unfolding ratio_times
 times_is a b = refl
 
--- an operation answers the fraction, or its operands where there is none
-by_option : (op : Op) (a b : Fraction) (r : Ratio) (o : Option Fraction) → IsFractionOf r o
-    → MatchResult (ok_or o (record { op = op; left = a; right = b })) (λ f. Same 0 (fraction_value f) r) (IsWide IsNarrow op a b r)
-by_option op a b r None m = record { op = refl; left = refl; right = refl; unfit = m }
-by_option op a b r (Some f) m = m
-
--- the same, over what the code computes
-pub wide_or : (op : Op) (a b : Fraction) (q r : Ratio) (o : Option Fraction) (w : Wide Fraction) (x : Result Fraction (Wide Fraction)) → q ≡ r → w ≡ record { op = op; left = a; right = b } → x ≡ ok_or o w
-    → IsFractionOf q o → MatchResult x (λ f. Same 0 (fraction_value f) r) (IsWide IsNarrow op a b r)
-wide_or op a b q r o w x e h f m =
-    subst (λ y. MatchResult y (λ f. Same 0 (fraction_value f) r) (IsWide IsNarrow op a b r)) (sym (f ∙ ap (ok_or o) h))
-    (by_option op a b r o (subst (λ t. IsFractionOf t o) e m))
+-- what an operation answers, where q is its exact result r
+pub exact_is : (op : Op) (a b : Fraction) (q r : Ratio) (x : Result Fraction (Wide Fraction)) → q ≡ r → MatchResult x (λ f. Same 0 (fraction_value f) q) (IsWide IsNarrow op a b q)
+    → MatchResult x (λ f. Same 0 (fraction_value f) r) (IsWide IsNarrow op a b r)
+exact_is op a b q r x e = subst (λ t. MatchResult x (λ f. Same 0 (fraction_value f) t) (IsWide IsNarrow op a b t)) e
 
 -- a sum of cross products fits
 pub sum_fits : (x y : ℤ) → unsigned_abs x ≤ 2 ^ 124 → unsigned_abs y ≤ 2 ^ 124 → FitsSigned w128 (x +ℤ y)

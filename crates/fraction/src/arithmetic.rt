@@ -1,5 +1,8 @@
 // The arithmetic of fractions, with the laws of exact numbers.
-ghost use Rattle.std.specs.Prelude.{◌≡◌, ⊤};
+ghost use Rattle.std.specs.Prelude.{◌≡◌, ◌*◌, ⊤, pos, MatchResult};
+ghost use Rattle.exact.specs.Faults.{IsWide};
+ghost use Rattle.exact.specs.Ratio.{Same};
+ghost use Rattle.fraction.specs.Quotients.{quotient};
 ghost use Rattle.fraction.specs.Reduced.{IsNarrow};
 ghost use Rattle.fraction.specs.Values.{fraction_value};
 ghost use Rattle.exact.proofs.CallerLemmas.{zero_not_one, lowest_denominator, equal_decides};
@@ -15,6 +18,15 @@ fn wide(op: Op, left: Fraction, right: Fraction) -> Wide<Fraction>
     ensures { result ≡ record { op = op; left = left; right = right } }
 {
     Wide { op, left, right }
+}
+
+// The fraction with this numerator over both denominators, for the operation on a and b.
+#[inline]
+fn over_both(op: Op, num: i128, a: Fraction, b: Fraction) -> Result<Fraction, Wide<Fraction>>
+    ensures { let exact = quotient num (pos ((fraction_value a).den * (fraction_value b).den)) in
+        MatchResult result (λ r. Same 0 (fraction_value r) exact) (IsWide IsNarrow op a b exact) }
+{
+    reduced(num, denominators(a, b)).ok_or(wide(op, a, b))
 }
 
 impl Exact for Fraction {
@@ -42,17 +54,15 @@ impl Exact for Fraction {
     }
 
     fn plus(self, o: Fraction) -> Result<Fraction, Wide<Fraction>> {
-        let sum = cross(self, o) + cross(o, self);
-        reduced(sum, denominators(self, o)).ok_or(wide(Op::Plus, self, o))
+        over_both(Op::Plus, cross(self, o) + cross(o, self), self, o)
     }
 
     fn minus(self, o: Fraction) -> Result<Fraction, Wide<Fraction>> {
-        let difference = cross(self, o) - cross(o, self);
-        reduced(difference, denominators(self, o)).ok_or(wide(Op::Minus, self, o))
+        over_both(Op::Minus, cross(self, o) - cross(o, self), self, o)
     }
 
     fn times(self, o: Fraction) -> Result<Fraction, Wide<Fraction>> {
-        reduced(numerators(self, o), denominators(self, o)).ok_or(wide(Op::Times, self, o))
+        over_both(Op::Times, numerators(self, o), self, o)
     }
 
     fn over(self, o: Fraction) -> Result<Fraction, OverFault<Fraction>> {

@@ -1,6 +1,7 @@
 -- Divisibility: greatest common divisors, Euclid's lemma, and least common multiples.
 use Rattle.std.proofs.Common.{◌≡◌, ℕ, zero, suc, ◌*◌, ◌/◌, ◌≤◌, ℤ, pos, negsuc, ◌+ℤ◌, ◌*ℤ◌, List, [], ◌∷◌, refl, sym, ap, subst, ◌∙◌, arith, inl, inr}
 use Rattle.std.specs.Int.{◌∣◌, IsGcd}
+use Rattle.std.specs.List.{Contains}
 use Rattle.std.proofs.lemmas.Int.{ints}
 use Rattle.std.proofs.lemmas.Nat.Gcd.{mod-eq-zero_of_dvd, same_from_IsGcd, dvd_trans, dvd_antisymm, dvd-zero}
 use Rattle.std.proofs.Math.Nat.{eq-zero_of_zero-dvd, dvd-mul_right, one-dvd, mul_assoc, mul_comm, eq_of_mul-eq-mul_left}
@@ -63,26 +64,40 @@ euclid a b c h d = by (bezout a b)
         let q = quotient_of a (b * c) d in
         divides_multiple a c (natural_multiple a c (z.s *ℤ pos c +ℤ z.t *ℤ pos q.0) (euclid_step (pos a) (pos b) (pos c) (pos q.0) z.s z.t (ap pos one ∙ z.g_is) (ap pos q.1)))
 
+-- c is in the relation to each number of the list, and whatever is so is in it to c
+abbrev pub IsBound : (ℕ → ℕ → Type 0) → List ℕ → ℕ → Type 0
+IsBound R xs c = ((x : ℕ) → Contains xs x → R c x) × ((d : ℕ) → ((x : ℕ) → Contains xs x → R d x) → R d c)
+
+-- c is so of two numbers
+abbrev pub IsBoundOfTwo : (ℕ → ℕ → Type 0) → ℕ → ℕ → ℕ → Type 0
+IsBoundOfTwo R a b c = R c a × R c b × ((d : ℕ) → R d a → R d b → R d c)
+
+-- where any two numbers have such a number, and all are in the relation to e, any list has one
+bound_of_list : (R : ℕ → ℕ → Type 0) → ((a b c : ℕ) → R a b → R b c → R a c) → ((a b : ℕ) → (c : ℕ) × IsBoundOfTwo R a b c) → (e : ℕ) → ((d : ℕ) → R d e) → (xs : List ℕ) → (c : ℕ) × IsBound R xs c
+bound_of_list R chain two e all [] = (e, (λ x c. absurd (omega (arith, c.1)), λ d h. all d))
+bound_of_list R chain two e all (x ∷ xs) = by (bound_of_list R chain two e all xs)
+  where
+    by : (c : ℕ) × IsBound R xs c → (c : ℕ) × IsBound R (x ∷ xs) c
+    by r = more (two x r.0)
+      where
+        more : (c : ℕ) × IsBoundOfTwo R x r.0 c → (c : ℕ) × IsBound R (x ∷ xs) c
+        more t = (
+          t.0,
+          (
+            λ y k. elim (is_in (x ∷ xs) y k) [
+              | inl e ↦ subst (λ (n : ℕ). R t.0 n) e t.1.0
+              | inr i ↦ chain t.0 r.0 y t.1.1 (r.1.0 y (contains_from_in xs y i))
+            ],
+            λ d h. t.1.2 d (h x (contains_from_in (x ∷ xs) x (inl refl))) (r.1.1 d (λ y k. h y (contains_from_in (x ∷ xs) y (inr (is_in xs y k))))),
+          ),
+        )
+
 -- the greatest common divisor of any list
 pub greatest_divisor : (xs : List ℕ) → (g : ℕ) × IsGreatestDivisor xs g
-greatest_divisor [] = (0, record { divides = λ x c. absurd (omega (arith, c.1)); greatest = λ d h. dvd-zero d })
-greatest_divisor (x ∷ xs) = by (greatest_divisor xs)
+greatest_divisor xs = by (bound_of_list (λ d x. d ∣ x) (λ a b c p q. dvd_trans a p q) (λ a b. let z = bezout a b in (z.g, bezout_gcd a b z)) 0 (λ d. dvd-zero d) xs)
   where
-    by : (g : ℕ) × IsGreatestDivisor xs g → (g : ℕ) × IsGreatestDivisor (x ∷ xs) g
-    by r = more (bezout x r.0)
-      where
-        more : Bezout x r.0 → (g : ℕ) × IsGreatestDivisor (x ∷ xs) g
-        more z =
-            let c = bezout_gcd x r.0 z in (
-              z.g,
-              record {
-                divides = λ y k. elim (is_in (x ∷ xs) y k) [
-                  | inl e ↦ subst (λ (n : ℕ). z.g ∣ n) e c.0
-                  | inr i ↦ dvd_trans z.g c.1 (r.1.divides y (contains_from_in xs y i))
-                ];
-                greatest = λ d h. c.2 d (h x (contains_from_in (x ∷ xs) x (inl refl))) (r.1.greatest d (λ y k. h y (contains_from_in (x ∷ xs) y (inr (is_in xs y k)))));
-              },
-            )
+    by : (g : ℕ) × IsBound (λ d x. d ∣ x) xs g → (g : ℕ) × IsGreatestDivisor xs g
+    by r = (r.0, record { divides = r.1.0; greatest = r.1.1 })
 
 -- it is the only one
 pub greatest_divisor_unique : (xs : List ℕ) (g h : ℕ) → IsGreatestDivisor xs g → IsGreatestDivisor xs h → g ≡ h
@@ -121,24 +136,10 @@ least_multiple_of_two a b z = (
 
 -- the least common multiple of any list
 pub least_multiple : (xs : List ℕ) → (m : ℕ) × IsLeastMultiple xs m
-least_multiple [] = (1, record { multiple = λ x c. absurd (omega (arith, c.1)); least = λ n h. one-dvd n })
-least_multiple (x ∷ xs) = by (least_multiple xs)
+least_multiple xs = by (bound_of_list (λ n x. x ∣ n) (λ a b c p q. dvd_trans c q p) (λ a b. let z = bezout a b in (z.g * (z.k * z.l), least_multiple_of_two a b z)) 1 (λ n. one-dvd n) xs)
   where
-    by : (m : ℕ) × IsLeastMultiple xs m → (m : ℕ) × IsLeastMultiple (x ∷ xs) m
-    by r = more (bezout x r.0)
-      where
-        more : Bezout x r.0 → (m : ℕ) × IsLeastMultiple (x ∷ xs) m
-        more z =
-            let c = least_multiple_of_two x r.0 z in (
-              z.g * (z.k * z.l),
-              record {
-                multiple = λ y k. elim (is_in (x ∷ xs) y k) [
-                  | inl e ↦ subst (λ (n : ℕ). n ∣ z.g * (z.k * z.l)) e c.0
-                  | inr i ↦ dvd_trans y (r.1.multiple y (contains_from_in xs y i)) c.1
-                ];
-                least = λ n h. c.2 n (h x (contains_from_in (x ∷ xs) x (inl refl))) (r.1.least n (λ y k. h y (contains_from_in (x ∷ xs) y (inr (is_in xs y k)))));
-              },
-            )
+    by : (m : ℕ) × IsBound (λ n x. x ∣ n) xs m → (m : ℕ) × IsLeastMultiple xs m
+    by r = (r.0, record { multiple = r.1.0; least = r.1.1 })
 
 -- it is the only one
 pub least_multiple_unique : (xs : List ℕ) (m n : ℕ) → IsLeastMultiple xs m → IsLeastMultiple xs n → m ≡ n

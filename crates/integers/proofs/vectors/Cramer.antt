@@ -10,25 +10,20 @@ use Rattle.integers.proofs.vectors.Independence.{first_is_zero, product_is_deter
 abbrev pub sum_along : Vector → Vector → Vector → Vector → Vector
 sum_along a b c k = plus (times k.x a) (plus (times k.y b) (times k.z c))
 
+-- the product of three vectors, in numbers
+abbrev pub product : ℤ → ℤ → ℤ → ℤ → ℤ → ℤ → ℤ → ℤ → ℤ → ℤ
+product a b c d e f g h i = a *ℤ (e *ℤ i -ℤ f *ℤ h) +ℤ b *ℤ (f *ℤ g -ℤ d *ℤ i) +ℤ c *ℤ (d *ℤ h -ℤ e *ℤ g)
+
 -- one coordinate of Cramer's rule, the first
-cramer_first : (a b c d e f g h i x y z : ℤ) → (a *ℤ (e *ℤ i -ℤ f *ℤ h) +ℤ b *ℤ (f *ℤ g -ℤ d *ℤ i) +ℤ c *ℤ (d *ℤ h -ℤ e *ℤ g)) *ℤ x
-    ≡ (x *ℤ (e *ℤ i -ℤ f *ℤ h) +ℤ y *ℤ (f *ℤ g -ℤ d *ℤ i) +ℤ z *ℤ (d *ℤ h -ℤ e *ℤ g)) *ℤ a
-    +ℤ ((a *ℤ (y *ℤ i -ℤ z *ℤ h) +ℤ b *ℤ (z *ℤ g -ℤ x *ℤ i) +ℤ c *ℤ (x *ℤ h -ℤ y *ℤ g)) *ℤ d
-    +ℤ (a *ℤ (e *ℤ z -ℤ f *ℤ y) +ℤ b *ℤ (f *ℤ x -ℤ d *ℤ z) +ℤ c *ℤ (d *ℤ y -ℤ e *ℤ x)) *ℤ g)
+cramer_first : (a b c d e f g h i x y z : ℤ) → product a b c d e f g h i *ℤ x ≡ product x y z d e f g h i *ℤ a +ℤ (product a b c x y z g h i *ℤ d +ℤ product a b c d e f x y z *ℤ g)
 cramer_first a b c d e f g h i x y z = simp ring (omega (arith, linear))
 
 -- the second
-cramer_second : (a b c d e f g h i x y z : ℤ) → (a *ℤ (e *ℤ i -ℤ f *ℤ h) +ℤ b *ℤ (f *ℤ g -ℤ d *ℤ i) +ℤ c *ℤ (d *ℤ h -ℤ e *ℤ g)) *ℤ y
-    ≡ (x *ℤ (e *ℤ i -ℤ f *ℤ h) +ℤ y *ℤ (f *ℤ g -ℤ d *ℤ i) +ℤ z *ℤ (d *ℤ h -ℤ e *ℤ g)) *ℤ b
-    +ℤ ((a *ℤ (y *ℤ i -ℤ z *ℤ h) +ℤ b *ℤ (z *ℤ g -ℤ x *ℤ i) +ℤ c *ℤ (x *ℤ h -ℤ y *ℤ g)) *ℤ e
-    +ℤ (a *ℤ (e *ℤ z -ℤ f *ℤ y) +ℤ b *ℤ (f *ℤ x -ℤ d *ℤ z) +ℤ c *ℤ (d *ℤ y -ℤ e *ℤ x)) *ℤ h)
+cramer_second : (a b c d e f g h i x y z : ℤ) → product a b c d e f g h i *ℤ y ≡ product x y z d e f g h i *ℤ b +ℤ (product a b c x y z g h i *ℤ e +ℤ product a b c d e f x y z *ℤ h)
 cramer_second a b c d e f g h i x y z = simp ring (omega (arith, linear))
 
 -- the third
-cramer_third : (a b c d e f g h i x y z : ℤ) → (a *ℤ (e *ℤ i -ℤ f *ℤ h) +ℤ b *ℤ (f *ℤ g -ℤ d *ℤ i) +ℤ c *ℤ (d *ℤ h -ℤ e *ℤ g)) *ℤ z
-    ≡ (x *ℤ (e *ℤ i -ℤ f *ℤ h) +ℤ y *ℤ (f *ℤ g -ℤ d *ℤ i) +ℤ z *ℤ (d *ℤ h -ℤ e *ℤ g)) *ℤ c
-    +ℤ ((a *ℤ (y *ℤ i -ℤ z *ℤ h) +ℤ b *ℤ (z *ℤ g -ℤ x *ℤ i) +ℤ c *ℤ (x *ℤ h -ℤ y *ℤ g)) *ℤ f
-    +ℤ (a *ℤ (e *ℤ z -ℤ f *ℤ y) +ℤ b *ℤ (f *ℤ x -ℤ d *ℤ z) +ℤ c *ℤ (d *ℤ y -ℤ e *ℤ x)) *ℤ i)
+cramer_third : (a b c d e f g h i x y z : ℤ) → product a b c d e f g h i *ℤ z ≡ product x y z d e f g h i *ℤ c +ℤ (product a b c x y z g h i *ℤ f +ℤ product a b c d e f x y z *ℤ i)
 cramer_third a b c d e f g h i x y z = simp ring (omega (arith, linear))
 
 -- the three products in which v stands in place of one of the vectors
@@ -43,8 +38,7 @@ cramer a b c v =
     (cramer_third a.x a.y a.z b.x b.y b.z c.x c.y c.z v.x v.y v.z)
 
 -- the product stays when its vectors are moved round, in numbers
-product_turned : (a b c d e f g h i : ℤ) → a *ℤ (e *ℤ i -ℤ f *ℤ h) +ℤ b *ℤ (f *ℤ g -ℤ d *ℤ i) +ℤ c *ℤ (d *ℤ h -ℤ e *ℤ g)
-    ≡ d *ℤ (h *ℤ c -ℤ i *ℤ b) +ℤ e *ℤ (i *ℤ a -ℤ g *ℤ c) +ℤ f *ℤ (g *ℤ b -ℤ h *ℤ a)
+product_turned : (a b c d e f g h i : ℤ) → product a b c d e f g h i ≡ product d e f g h i a b c
 product_turned a b c d e f g h i = simp ring (omega (arith, linear))
 
 -- the same of vectors

@@ -28,47 +28,28 @@ module _ (a b c d e f g h i : ℤ) where
       let r' = ap (λ t. t *ℤ (d *ℤ h -ℤ e *ℤ g)) r in
       simp ring (omega (arith, linear, simp ring at p', simp ring at q', simp ring at r'))
 
+  -- a relation, by its numbers
+  relation : (x y z : ℤ) → ((x ≡ pos 0) × (y ≡ pos 0) × (z ≡ pos 0) → ⊥) → x *ℤ a +ℤ y *ℤ d +ℤ z *ℤ g ≡ pos 0 → x *ℤ b +ℤ y *ℤ e +ℤ z *ℤ h ≡ pos 0 → x *ℤ c +ℤ y *ℤ f +ℤ z *ℤ i ≡ pos 0 → Relation a b c d e f g h i
+  relation x y z n p q r = record { x = x; y = y; z = z; some = n; first = p; second = q; third = r }
+
+  -- where q times the second row is p times the third, and p is not 0, they have a relation
+  relation_of_two : (p q : ℤ) → p ≢ pos 0 → q *ℤ d ≡ p *ℤ g → q *ℤ e ≡ p *ℤ h → q *ℤ f ≡ p *ℤ i → Relation a b c d e f g h i
+  relation_of_two p q n u v w =
+      relation (pos 0) q (neg_ℤ p) (λ t. n (let s = t.2 in omega (arith, linear))) (last a d g u) (last b e h v) (last c f i w)
+    where
+      last : (x y z : ℤ) → q *ℤ y ≡ p *ℤ z → pos 0 *ℤ x +ℤ q *ℤ y +ℤ neg_ℤ p *ℤ z ≡ pos 0
+      last x y z k = simp ring (omega (arith, linear, k))
+
   -- where the second and the third row are parallel they have a relation
   relation_of_parallel : d *ℤ h -ℤ e *ℤ g ≡ pos 0 → d *ℤ i -ℤ f *ℤ g ≡ pos 0 → e *ℤ i -ℤ f *ℤ h ≡ pos 0 → Relation a b c d e f g h i
   relation_of_parallel nz ny nx = by (zero_or_not d) (zero_or_not e) (zero_or_not f)
     where
       by : (d ≡ pos 0) ⊎ (d ≢ pos 0) → (e ≡ pos 0) ⊎ (e ≢ pos 0) → (f ≡ pos 0) ⊎ (f ≢ pos 0) → Relation a b c d e f g h i
-      by (inr n) v w = record {
-        x = pos 0;
-        y = g;
-        z = neg_ℤ d;
-        some = λ t. n (let s = t.2 in omega (arith, linear));
-        first = simp ring (omega (arith, linear));
-        second = simp ring (omega (arith, linear));
-        third = simp ring (omega (arith, linear));
-      }
-      by (inl u) (inr n) w = record {
-        x = pos 0;
-        y = h;
-        z = neg_ℤ e;
-        some = λ t. n (let s = t.2 in omega (arith, linear));
-        first = simp ring (omega (arith, linear));
-        second = simp ring (omega (arith, linear));
-        third = simp ring (omega (arith, linear));
-      }
-      by (inl u) (inl v) (inr n) = record {
-        x = pos 0;
-        y = i;
-        z = neg_ℤ f;
-        some = λ t. n (let s = t.2 in omega (arith, linear));
-        first = simp ring (omega (arith, linear));
-        second = simp ring (omega (arith, linear));
-        third = simp ring (omega (arith, linear));
-      }
-      by (inl u) (inl v) (inl w) = record {
-        x = pos 0;
-        y = pos 1;
-        z = pos 0;
-        some = λ t. let s = t.1 in omega (arith, ints);
-        first = simp ring (omega (arith, linear));
-        second = simp ring (omega (arith, linear));
-        third = simp ring (omega (arith, linear));
-      }
+      by (inr n) v w = relation_of_two d g n (simp ring (omega (arith, linear))) (simp ring (omega (arith, linear))) (simp ring (omega (arith, linear)))
+      by (inl u) (inr n) w = relation_of_two e h n (simp ring (omega (arith, linear))) (simp ring (omega (arith, linear))) (simp ring (omega (arith, linear)))
+      by (inl u) (inl v) (inr n) = relation_of_two f i n (simp ring (omega (arith, linear))) (simp ring (omega (arith, linear))) (simp ring (omega (arith, linear)))
+      by (inl u) (inl v) (inl w) =
+          relation (pos 0) (pos 1) (pos 0) (λ t. let s = t.1 in omega (arith, ints)) (simp ring (omega (arith, linear))) (simp ring (omega (arith, linear))) (simp ring (omega (arith, linear)))
 
   -- where the determinant is 0 the rows have a relation
   pub relation_of_zero : determinant a b c d e f g h i ≡ pos 0 → Relation a b c d e f g h i
@@ -76,33 +57,12 @@ module _ (a b c d e f g h i : ℤ) where
     where
       by : (d *ℤ h -ℤ e *ℤ g ≡ pos 0) ⊎ (d *ℤ h -ℤ e *ℤ g ≢ pos 0) → (d *ℤ i -ℤ f *ℤ g ≡ pos 0) ⊎ (d *ℤ i -ℤ f *ℤ g ≢ pos 0)
           → (e *ℤ i -ℤ f *ℤ h ≡ pos 0) ⊎ (e *ℤ i -ℤ f *ℤ h ≢ pos 0) → Relation a b c d e f g h i
-      by (inr nz) v w = record {
-        x = d *ℤ h -ℤ e *ℤ g;
-        y = b *ℤ g -ℤ a *ℤ h;
-        z = a *ℤ e -ℤ b *ℤ d;
-        some = λ t. nz t.0;
-        first = simp ring (omega (arith, linear));
-        second = simp ring (omega (arith, linear));
-        third = simp ring (omega (arith, linear, simp ring at z));
-      }
-      by (inl nz) (inr ny) w = record {
-        x = d *ℤ i -ℤ f *ℤ g;
-        y = c *ℤ g -ℤ a *ℤ i;
-        z = a *ℤ f -ℤ c *ℤ d;
-        some = λ t. ny t.0;
-        first = simp ring (omega (arith, linear));
-        second = simp ring (omega (arith, linear, simp ring at z));
-        third = simp ring (omega (arith, linear));
-      }
-      by (inl nz) (inl ny) (inr nx) = record {
-        x = e *ℤ i -ℤ f *ℤ h;
-        y = c *ℤ h -ℤ b *ℤ i;
-        z = b *ℤ f -ℤ c *ℤ e;
-        some = λ t. nx t.0;
-        first = simp ring (omega (arith, linear, simp ring at z));
-        second = simp ring (omega (arith, linear));
-        third = simp ring (omega (arith, linear));
-      }
+      by (inr nz) v w =
+          relation (d *ℤ h -ℤ e *ℤ g) (b *ℤ g -ℤ a *ℤ h) (a *ℤ e -ℤ b *ℤ d) (λ t. nz t.0) (simp ring (omega (arith, linear))) (simp ring (omega (arith, linear))) (simp ring (omega (arith, linear, simp ring at z)))
+      by (inl nz) (inr ny) w =
+          relation (d *ℤ i -ℤ f *ℤ g) (c *ℤ g -ℤ a *ℤ i) (a *ℤ f -ℤ c *ℤ d) (λ t. ny t.0) (simp ring (omega (arith, linear))) (simp ring (omega (arith, linear, simp ring at z))) (simp ring (omega (arith, linear)))
+      by (inl nz) (inl ny) (inr nx) =
+          relation (e *ℤ i -ℤ f *ℤ h) (c *ℤ h -ℤ b *ℤ i) (b *ℤ f -ℤ c *ℤ e) (λ t. nx t.0) (simp ring (omega (arith, linear, simp ring at z))) (simp ring (omega (arith, linear))) (simp ring (omega (arith, linear)))
       by (inl nz) (inl ny) (inl nx) = relation_of_parallel nz ny nx
 
   -- where it is not 0, the first number of a relation is 0

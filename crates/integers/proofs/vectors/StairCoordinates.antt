@@ -98,25 +98,29 @@ sum_back_three v a b c e = vector_equal (back v.x a.x b.x c.x (ap (λ (t : Vecto
     back v a b c e = omega (arith, linear, e)
 
 module _ (L : Vector → Type 0) (l : IsVectorGroup L) (d : ℕ) (rows : List Vector) (s : IsStaircase L d rows) (flat : (v : Vector) → L v → HasDimension d v) where
+  -- what the first two rows leave of a member
+  cleared_twice : 2 ≤ d → (v : Vector) → L v
+      → (p : ℤ) × (q : ℤ) × L (minus (minus v (times p (row rows 0))) (times q (row rows 1))) × IsZeroBefore 2 (minus (minus v (times p (row rows 0))) (times q (row rows 1)))
+  cleared_twice h v m =
+      let one = clear L l 0 (row rows 0) v (s.each 0 (omega (arith, h))) m (λ k h. absurd (omega arith)) in
+      let two = clear L l 1 (row rows 1) (minus v (times one.quotient (row rows 0))) (s.each 1 (omega (arith, h))) one.member one.before in
+      (one.quotient, two.quotient, two.member, two.before)
+
   -- the coordinates of a member, in two dimensions
   pub flat_coordinates : d ≡ 2 → (v : Vector) → L v → (k : Vector) × HasDimension d k × (row_sum rows k ≡ v)
   flat_coordinates e v m =
-      let one = clear L l 0 (row rows 0) v (s.each 0 (omega arith)) m (λ k h. absurd (omega arith)) in
-      let v1 = minus v (times one.quotient (row rows 0)) in
-      let two = clear L l 1 (row rows 1) v1 (s.each 1 (omega arith)) one.member one.before in
-      let v2 = minus v1 (times two.quotient (row rows 1)) in
-      let zero = all_zero v2 two.before (flat v2 two.member e) in
-      let sum = sum_back v (times one.quotient (row rows 0)) (times two.quotient (row rows 1)) zero in
-      (vector one.quotient two.quotient (pos 0), (λ h. refl), ap (λ (t : Vector). plus (times one.quotient (row rows 0)) t) (ap (plus (times two.quotient (row rows 1))) (zero_times (row rows 2)) ∙ plus_zero (times two.quotient (row rows 1))) ∙ sym sum)
+      let t = cleared_twice (omega arith) v m in
+      let a = times t.0 (row rows 0) in
+      let b = times t.1 (row rows 1) in
+      let zero = all_zero (minus (minus v a) b) t.3 (flat (minus (minus v a) b) t.2 e) in
+      (vector t.0 t.1 (pos 0), (λ h. refl), ap (λ (u : Vector). plus a u) (ap (plus b) (zero_times (row rows 2)) ∙ plus_zero b) ∙ sym (sum_back v a b zero))
 
   -- and in three
   pub space_coordinates : d ≡ 3 → (v : Vector) → L v → (k : Vector) × HasDimension d k × (row_sum rows k ≡ v)
   space_coordinates e v m =
-      let one = clear L l 0 (row rows 0) v (s.each 0 (omega arith)) m (λ k h. absurd (omega arith)) in
-      let v1 = minus v (times one.quotient (row rows 0)) in
-      let two = clear L l 1 (row rows 1) v1 (s.each 1 (omega arith)) one.member one.before in
-      let v2 = minus v1 (times two.quotient (row rows 1)) in
-      let three = clear L l 2 (row rows 2) v2 (s.each 2 (omega arith)) two.member two.before in
-      let v3 = minus v2 (times three.quotient (row rows 2)) in
-      let zero : v3 ≡ zero_vector = vector_equal (three.before 0 (omega arith)) (three.before 1 (omega arith)) (three.before 2 (omega arith)) in
-      (vector one.quotient two.quotient three.quotient, (λ h. absurd (omega arith)), sym (sum_back_three v (times one.quotient (row rows 0)) (times two.quotient (row rows 1)) (times three.quotient (row rows 2)) zero))
+      let t = cleared_twice (omega arith) v m in
+      let a = times t.0 (row rows 0) in
+      let b = times t.1 (row rows 1) in
+      let three = clear L l 2 (row rows 2) (minus (minus v a) b) (s.each 2 (omega arith)) t.2 t.3 in
+      let zero = all_zero (minus (minus (minus v a) b) (times three.quotient (row rows 2))) (λ k h. three.before k (omega arith)) (three.before 2 (omega arith)) in
+      (vector t.0 t.1 three.quotient, (λ h. absurd (omega arith)), sym (sum_back_three v a b (times three.quotient (row rows 2)) zero))

@@ -12,21 +12,15 @@ use Rattle.primitive_cell.proofs.edges.edge_of.Goals as goal
 
 pub position_of-from-requires : goal.position_of-from-requires
 position_of-from-requires g c =
-    let N = c.args.net.now in
-    let K = c.args.classes.now in
-    let us = c.args.firsts.now in
-    let p = c.requires.cell in
-    let k = subst (IsClass K.classes) (sym (ap (λ (b : ClassArc). b.from) c.arc.view_is)) (tail_in g.row.D N K us c.args.stairs.now p c.args.arc.now c.requires.arc) in
-    (lit< tt, (lit< tt, represented g.row.D N K us c.args.stairs.now p c.arc.inside.from k))
+    let k = tail_in g.row.D c.args.net.now c.args.classes.now c.args.firsts.now c.args.stairs.now c.requires.cell c.args.arc.now c.requires.arc in
+    let here = subst (IsClass c.args.classes.now.classes) (sym (ap (λ (b : ClassArc). b.from) c.arc.view_is)) k in
+    (lit< tt, (lit< tt, represented g.row.D c.args.net.now c.args.classes.now c.args.firsts.now c.args.stairs.now c.requires.cell c.arc.inside.from here))
 
 pub position_of-to-requires : goal.position_of-to-requires
 position_of-to-requires g c =
-    let N = c.args.net.now in
-    let K = c.args.classes.now in
-    let us = c.args.firsts.now in
-    let p = c.requires.cell in
-    let k = subst (IsClass K.classes) (sym (ap (λ (b : ClassArc). b.to) c.arc.view_is)) (head_in g.row.D N K us c.args.stairs.now p c.args.arc.now c.requires.arc) in
-    (lit< tt, (lit< tt, represented g.row.D N K us c.args.stairs.now p c.arc.inside.to k))
+    let k = head_in g.row.D c.args.net.now c.args.classes.now c.args.firsts.now c.args.stairs.now c.requires.cell c.args.arc.now c.requires.arc in
+    let here = subst (IsClass c.args.classes.now.classes) (sym (ap (λ (b : ClassArc). b.to) c.arc.view_is)) k in
+    (lit< tt, (lit< tt, represented g.row.D c.args.net.now c.args.classes.now c.args.firsts.now c.args.stairs.now c.requires.cell c.arc.inside.to here))
 
 pub move_between-v-requires : goal.move_between-v-requires
 move_between-v-requires g c =
