@@ -9,7 +9,7 @@ use Rattle.command_words.specs.Words.{Place, Command, Second, Said, at, without_
 use Rattle.command_words.proofs.Rules.{id_of, use_none}
 use Rattle.command_words.proofs.States.{IsSound, Pending, bad_pending, end_fault, end_rows, good_pending, pending_fault}
 use Rattle.command_words.proofs.Walks.{means_cons, means_nil, means_none, none_cons, none_nil}
-use Rattle.command_words.proofs.Stages.{Stage, First, Next, Full, IsStageOf, kept_first, kept_next, place_of, said_first, said_full, said_next, some_kind, stands_first, stands_next, turn_first, turn_next}
+use Rattle.command_words.proofs.Stages.{Stage, First, Next, Full, IsStageOf, IsFilled, filled_first, filled_next, place_of, said_full, some_kind}
 use Rattle.command_words.proofs.TrailingWords.{bad_trailing, trailing}
 use Rattle.command_words.proofs.Turns.{dashes_moved, dashes_turn, waiting_for}
 use Rattle.command_words.proofs.LongTurns.{refused_turn}
@@ -22,21 +22,19 @@ use Rattle.command_words.proofs.OptionWords.{fill_once, fill_twice, long_read}
 -- a positional word
 module _ (said : Said) (word : Text) (words : List Text) (later : AreReadAlike words) (rows : List Row) (pending : Pending) (g : IsSound said rows pending)
     (ed : bytes_eq word (45 ∷ 45 ∷ []) ≡ false) (el : long_of word ≡ None) (es : short_of word ≡ None) (eo : option_word word ≡ None) (ep : is_plain word ≡ true) where
+  -- that goes to a place
+  filled_read : (from to : Stage) (p : Place) → IsFilled from to p said word → IsMeaningAt (read said None (word ∷ words)) from None rows pending (word ∷ words)
+  filled_read from to p f = as_read _ (read (put p word said) None words) from None rows pending (word ∷ words)
+      (read_as said None word words (Some (put p word said, None)) ed (plain_step said word (Some (put p word said)) eo ep f.says))
+      (means_cons (read (put p word said) None words) _ _ word words
+      (plain_turn (place_of from) word rows pending ed el es ∙ f.turn rows pending ∙ g.passes)
+      (plain_moved (place_of from) word rows pending ed el es ∙ f.kept false idle rows pending)
+      (later to (put p word said) None (end_rows rows pending) (Some (id_of p, word ∷ [])) (f.stands, good_pending said (end_rows rows pending) p word g.shows f.free)))
+
+  -- at each stage
   plain_read : (stage : Stage) → IsStageOf stage said → IsMeaningAt (read said None (word ∷ words)) stage None rows pending (word ∷ words)
-  plain_read First s = as_read _ (read (put Command word said) None words) First None rows pending (word ∷ words)
-      (read_as said None word words (Some (put Command word said, None)) ed (plain_step said word (Some (put Command word said)) eo ep (said_first said word s)))
-      (means_cons (read (put Command word said) None words) _ _ word words
-      (plain_turn 1 word rows pending ed el es ∙ turn_first rows pending ∙ g.passes)
-      (plain_moved 1 word rows pending ed el es ∙ kept_first false idle word rows pending)
-      (later Next (put Command word said) None (end_rows rows pending) (Some (id_of Command, word ∷ []))
-      (stands_first said word s, good_pending said (end_rows rows pending) Command word g.shows s.command)))
-  plain_read Next s = as_read _ (read (put Second word said) None words) Next None rows pending (word ∷ words)
-      (read_as said None word words (Some (put Second word said, None)) ed (plain_step said word (Some (put Second word said)) eo ep (said_next said word s)))
-      (means_cons (read (put Second word said) None words) _ _ word words
-      (plain_turn 2 word rows pending ed el es ∙ turn_next rows pending ∙ g.passes)
-      (plain_moved 2 word rows pending ed el es ∙ kept_next false idle word rows pending)
-      (later Full (put Second word said) None (end_rows rows pending) (Some (id_of Second, word ∷ []))
-      (stands_next said word s, good_pending said (end_rows rows pending) Second word g.shows s.second)))
+  plain_read First s = filled_read First Next Command (filled_first said word s)
+  plain_read Next s = filled_read Next Full Second (filled_next said word s)
   plain_read Full s = as_read _ None Full None rows pending (word ∷ words)
       (read_as said None word words None ed (plain_step said word None eo ep (said_full said word s)))
       (means_none _ word words (some_kind kind.UnknownArgument [] _ (plain_turn 3 word rows pending ed el es)))

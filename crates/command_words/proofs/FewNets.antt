@@ -1,5 +1,5 @@
 -- The nets that words ask to make are no more than may be made.
-use Rattle.std.proofs.Common.{◌≡◌, ℕ, ◌≤◌, ◌<◌, ◌&&◌, Bool, true, false, List, Option, None, Some, nat_lt, refl, sym, subst, arith}
+use Rattle.std.proofs.Common.{◌≡◌, ℕ, ◌≤◌, ◌<◌, ◌&&◌, Bool, true, false, Option, None, Some, nat_lt, refl, sym, subst, arith}
 use Rattle.std.specs.Prelude.{IfSome, is_some, if◌then◌else◌, option_map, option_and_then}
 use Rattle.std.specs.Fmt.{decimal}
 use Rattle.std.specs.Str.{bytes_eq}

@@ -8,7 +8,7 @@ use Rattle.integers.specs.Vectors.{zero_vector}
 use Rattle.integers.proofs.lists.Members.{AreApart, IsIn, is_in, pairs_from_apart}
 use Rattle.periodic_net.specs.Graph.{Graph, Vertex, vertex, AreJoined, IsQuotientVertex}
 use Rattle.coordination.specs.Boxes.{IsBoxOf, IsInside, above, origin_of, place_in, side, spot_in}
-use Rattle.coordination.specs.BoxSearches.{IsFound, IsFoundNext, IsOpen, IsSearchable}
+use Rattle.coordination.specs.BoxSearches.{IsFound, IsFoundNext, IsNextShell, IsOpen, IsSearchable}
 use Rattle.coordination.specs.Expanding.{Expands}
 use Rattle.coordination.specs.Marks.{IsUnmarked, is_marked, marks_with, spots_with}
 use Rattle.coordination.specs.Sequences.{AreShellsOf, most_shells, most_in_shells}
@@ -121,7 +121,7 @@ module _ (P : Graph) (b : NetBox) (q : IsBoxOf P b) (c : ℕ) (i : IsQuotientVer
 
     module _ (marks' : List Bool) (found' : List Spot) (n : IsFoundNext P b h.vertices begin room marks' found') where
       -- as many more were found
-      pub counted_size : length found' ≡ length found + length n.next
+      counted_size : length found' ≡ length found + length n.next
       counted_size =
           let e = ap length h.is_found.spots in
           let f = ap length n.is_found.spots in
@@ -150,6 +150,19 @@ module _ (P : Graph) (b : NetBox) (q : IsBoxOf P b) (c : ℕ) (i : IsQuotientVer
             let m = length-append h.vertices n.next in
             omega (arith, l, f, g, m);
       }
+
+    -- the next shell, as the search found it
+    pub record IsNextCounted (marks' : List Bool) (found' : List Spot) : Type 0 where
+      pub few : length sizes < most_shells
+      pub shell : IsFoundNext P b h.vertices begin room marks' found'
+      pub size : length found' ≡ length found + length shell.next
+
+    -- at a turn of the loop it is so
+    pub next_counted : (k : ℕ) → length sizes ≡ k → k < most_shells → (marks' : List Bool) (found' : List Spot) → IsNextShell b begin room marks found marks' found' → IsNextCounted marks' found'
+    next_counted k count below marks' found' next =
+        let few : length sizes < most_shells = omega (arith, count, below) in
+        let n = next P h.vertices (searchable few) in
+        record { few = few; shell = n; size = counted_size marks' found' n }
 
     -- ten shells were counted
     pub counting_ten : most_shells ≤ length sizes → AreShellsOf P (start c) sizes

@@ -47,7 +47,7 @@ module _ (P : Graph) (b : NetBox) (vertices : List Vertex) (first_marks : List B
 
   module _ (i : ℕ) (marks : List Bool) (found : List Spot) (s : IsSearching P b vertices (between begin i vertices) marks found) where
     -- more vertices were found since
-    pub many_more : length found ≡ length vertices + length s.next
+    many_more : length found ≡ length vertices + length s.next
     many_more = sym (ap length s.is_found.spots) ∙ length-map (vertices ++ s.next) (spot_in P.vertices b.extent) ∙ length-append vertices s.next
 
     -- the vertex from which steps are made next
@@ -119,6 +119,10 @@ module _ (P : Graph) (b : NetBox) (vertices : List Vertex) (first_marks : List B
                 searched = subst (λ (xs : List Vertex). AreSearched (AreJoined P) xs vertices (vertices ++ r.next') r.next') (sym n.place)
                     (subst (λ (xs : List Vertex). AreSearched (AreJoined P) (between begin i vertices ++ n.at ∷ []) vertices xs r.next') whole more);
               }
+
+    -- what was found since
+    pub found_since : length found ≡ length first_found + length s.next
+    found_since = omega (arith, as_many, many_more)
 
     -- at the end of the shell
     pub searching_ends : (room : ℕ) → length vertices ≤ i → IsFoundNext P b vertices begin room marks found

@@ -97,23 +97,17 @@ line_normal d vs a c i some all r = record {
         elim (factor_zero e.x a.x p) [ inl x ↦ absurd (ne (vector_equal x y z)) | inr x ↦ absurd (some x) ]
     lowest e (suc k) dim o ne ends = ends_by_one c (suc k) flat (omega arith)
 
--- the products of a vector with no third part that is orthogonal to two, with the third part of their cross product
-first_times : (x y z a1 a2 a3 b1 b2 b3 : ℤ) → z ≡ pos 0 → x *ℤ a1 +ℤ y *ℤ a2 +ℤ z *ℤ a3 ≡ pos 0 → x *ℤ b1 +ℤ y *ℤ b2 +ℤ z *ℤ b3 ≡ pos 0 → x *ℤ (a1 *ℤ b2 -ℤ a2 *ℤ b1) ≡ pos 0
-first_times x y z a1 a2 a3 b1 b2 b3 hz e f =
-    let p = ap (λ t. t *ℤ b2) e in
-    let q = ap (λ t. t *ℤ a2) f in
-    let r = ap (λ t. t *ℤ (a3 *ℤ b2)) hz in
-    let s = ap (λ t. t *ℤ (b3 *ℤ a2)) hz in
-    simp ring (omega (arith, linear, simp ring at p, simp ring at q, simp ring at r, simp ring at s))
+-- a vector with no third part has the product of its flat parts
+flat_product : (x y z a1 a2 a3 : ℤ) → z ≡ pos 0 → x *ℤ a1 +ℤ y *ℤ a2 +ℤ z *ℤ a3 ≡ pos 0 → x *ℤ a1 +ℤ y *ℤ a2 ≡ pos 0
+flat_product x y z a1 a2 a3 hz e = let r = ap (λ t. t *ℤ a3) hz in omega (arith, linear, e, simp ring at r)
 
--- of the second part the same
-second_times : (x y z a1 a2 a3 b1 b2 b3 : ℤ) → z ≡ pos 0 → x *ℤ a1 +ℤ y *ℤ a2 +ℤ z *ℤ a3 ≡ pos 0 → x *ℤ b1 +ℤ y *ℤ b2 +ℤ z *ℤ b3 ≡ pos 0 → y *ℤ (a1 *ℤ b2 -ℤ a2 *ℤ b1) ≡ pos 0
-second_times x y z a1 a2 a3 b1 b2 b3 hz e f =
-    let p = ap (λ t. t *ℤ b1) e in
-    let q = ap (λ t. t *ℤ a1) f in
-    let r = ap (λ t. t *ℤ (a3 *ℤ b1)) hz in
-    let s = ap (λ t. t *ℤ (b3 *ℤ a1)) hz in
-    simp ring (omega (arith, linear, simp ring at p, simp ring at q, simp ring at r, simp ring at s))
+-- where it is orthogonal to two vectors, its first part times the third part of their cross product is 0
+first_times : (x y a1 a2 b1 b2 : ℤ) → x *ℤ a1 +ℤ y *ℤ a2 ≡ pos 0 → x *ℤ b1 +ℤ y *ℤ b2 ≡ pos 0 → x *ℤ (a1 *ℤ b2 -ℤ a2 *ℤ b1) ≡ pos 0
+first_times x y a1 a2 b1 b2 e f = let p = ap (λ t. t *ℤ b2) e in let q = ap (λ t. t *ℤ a2) f in simp ring (omega (arith, linear, simp ring at p, simp ring at q))
+
+-- and so is its second part
+second_times : (x y a1 a2 b1 b2 : ℤ) → x *ℤ a1 +ℤ y *ℤ a2 ≡ pos 0 → x *ℤ b1 +ℤ y *ℤ b2 ≡ pos 0 → y *ℤ (a1 *ℤ b2 -ℤ a2 *ℤ b1) ≡ pos 0
+second_times x y a1 a2 b1 b2 e f = let p = ap (λ t. t *ℤ b1) e in let q = ap (λ t. t *ℤ a1) f in simp ring (omega (arith, linear, simp ring at p, simp ring at q))
 
 -- vectors with no first part have a cross product on the first axis
 no_first : (a1 a3 b1 b3 : ℤ) → a1 ≡ pos 0 → b1 ≡ pos 0 → a3 *ℤ b1 -ℤ a1 *ℤ b3 ≡ pos 0
@@ -124,10 +118,7 @@ no_first a1 a3 b1 b3 e f =
 
 -- of the third part the same
 no_first_too : (a1 a2 b1 b2 : ℤ) → a1 ≡ pos 0 → b1 ≡ pos 0 → a1 *ℤ b2 -ℤ a2 *ℤ b1 ≡ pos 0
-no_first_too a1 a2 b1 b2 e f =
-    let p = ap (λ t. a2 *ℤ t) f in
-    let q = ap (λ t. t *ℤ b2) e in
-    omega (arith, linear, simp ring at p, simp ring at q)
+no_first_too a1 a2 b1 b2 e f = let h = no_first a1 a2 b1 b2 e f in omega (arith, linear, h)
 
 -- where all are in the plane of two
 pub plane_normal : (d : ℕ) (vs : List Vector) (a b c : Vector) → d ≢ 2 → Contains vs a → Contains vs b → cross a b ≢ zero_vector → All (λ v. dot (cross a b) v ≡ pos 0) vs
@@ -152,10 +143,10 @@ plane_normal d vs a b c three i j some all r = record {
         ends_by_zero c zero (reduced_y (cross a b) c some r (no_first a.x a.z b.x b.z ax bx)) (reduced_z (cross a b) c some r (no_first_too a.x a.y b.x b.y ax bx))
     lowest e (suc zero) dim o ne ends =
         let z : e.z ≡ pos 0 = ends 2 (omega arith) in
-        let oa = all_at (λ v. dot e v ≡ pos 0) vs a o i in
-        let ob = all_at (λ v. dot e v ≡ pos 0) vs b o j in
-        let p = first_times e.x e.y e.z a.x a.y a.z b.x b.y b.z z oa ob in
-        let q = second_times e.x e.y e.z a.x a.y a.z b.x b.y b.z z oa ob in
+        let oa = flat_product e.x e.y e.z a.x a.y a.z z (all_at (λ v. dot e v ≡ pos 0) vs a o i) in
+        let ob = flat_product e.x e.y e.z b.x b.y b.z z (all_at (λ v. dot e v ≡ pos 0) vs b o j) in
+        let p = first_times e.x e.y a.x a.y b.x b.y oa ob in
+        let q = second_times e.x e.y a.x a.y b.x b.y oa ob in
         let n : (cross a b).z ≡ pos 0 = elim (factor_zero e.x (a.x *ℤ b.y -ℤ a.y *ℤ b.x) p) [
           | inr m ↦ m
           | inl x ↦ other_factor_zero e.y (a.x *ℤ b.y -ℤ a.y *ℤ b.x) q (λ y. ne (vector_equal x y z))

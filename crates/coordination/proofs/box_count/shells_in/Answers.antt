@@ -1,6 +1,6 @@
 use Rattle.std.proofs.Common.{◌≡◌, ◌+◌, ◌-◌, ◌<◌, ◌≤◌, length, refl, sym, ap, subst, arith}
 use Rattle.coordination.specs.Sequences.{most_in_shells}
-use Rattle.coordination.proofs.BoxCounting.{IsCountedIn, counted_size, counting_past, counting_starts, counting_ten, counting_turn, searchable}
+use Rattle.coordination.proofs.BoxCounting.{IsCountedIn, counting_past, counting_starts, counting_ten, counting_turn, next_counted, searchable}
 use Rattle.coordination.proofs.Counting.{grown}
 use Rattle.coordination.proofs.box_count.shells_in.Goals as goal
 
@@ -30,49 +30,33 @@ pub overflow_sub-size : goal.overflow_sub-size
 overflow_sub-size c =
     let r = c.requires.start in
     let h = c.loop-k.invariant.counted r.graph r.is_box r.inside in
-    let test = c.loop-k-test.true in
-    let count = c.loop-k.invariant.count in
-    let fewer : length c.loop-k.sizes.items < 10 = omega arith in
-    let n = c.in_ok-next_shell.ensures r.graph h.vertices (searchable r.graph c.args.net_box.now r.is_box c.args.over r.inside c.loop-k.sizes.items c.loop-k.room c.loop-k.begin c.loop-k.marks c.loop-k.found.items h fewer) in
-    let grows = counted_size r.graph c.args.net_box.now r.is_box c.args.over r.inside c.loop-k.sizes.items c.loop-k.room c.loop-k.begin c.loop-k.marks c.loop-k.found.items h c.next_shell.new.marks c.next_shell.new.found.items n in
-    omega (arith, grows, c.len.ensures, c.len-end.ensures)
+    let t = next_counted r.graph c.args.net_box.now r.is_box c.args.over r.inside c.loop-k.sizes.items c.loop-k.room c.loop-k.begin c.loop-k.marks c.loop-k.found.items h c.loop-k._k c.loop-k.invariant.count c.loop-k-test.true c.next_shell.new.marks c.next_shell.new.found.items c.in_ok-next_shell.ensures in
+    omega (arith, t.size, c.len.ensures, c.len-end.ensures)
 
 pub returns-then-size-room-clause-sizes : goal.returns-then-size-room-clause-sizes
 returns-then-size-room-clause-sizes c = λ P q i.
     let h = c.loop-k.invariant.counted P q i in
-    let test = c.loop-k-test.true in
-    let count = c.loop-k.invariant.count in
-    let fewer : length c.loop-k.sizes.items < 10 = omega arith in
-    let n = c.in_ok-next_shell.ensures P h.vertices (searchable P c.args.net_box.now q c.args.over i c.loop-k.sizes.items c.loop-k.room c.loop-k.begin c.loop-k.marks c.loop-k.found.items h fewer) in
-    let grows = counted_size P c.args.net_box.now q c.args.over i c.loop-k.sizes.items c.loop-k.room c.loop-k.begin c.loop-k.marks c.loop-k.found.items h c.next_shell.new.marks c.next_shell.new.found.items n in
-    let more : c.loop-k.room < length n.next = omega (arith, grows, c.len.ensures, c.len-end.ensures, c.if-size-room.true) in
-    counting_past P c.args.net_box.now q c.args.over i c.loop-k.sizes.items c.loop-k.room c.loop-k.begin c.loop-k.marks c.loop-k.found.items h c.next_shell.new.marks c.next_shell.new.found.items n more
+    let t = next_counted P c.args.net_box.now q c.args.over i c.loop-k.sizes.items c.loop-k.room c.loop-k.begin c.loop-k.marks c.loop-k.found.items h c.loop-k._k c.loop-k.invariant.count c.loop-k-test.true c.next_shell.new.marks c.next_shell.new.found.items c.in_ok-next_shell.ensures in
+    counting_past P c.args.net_box.now q c.args.over i c.loop-k.sizes.items c.loop-k.room c.loop-k.begin c.loop-k.marks c.loop-k.found.items h c.next_shell.new.marks c.next_shell.new.found.items t.shell
+    (omega (arith, t.size, c.len.ensures, c.len-end.ensures, c.if-size-room.true))
 
 pub returns-then-size-room-clause-marked : goal.returns-then-size-room-clause-marked
 returns-then-size-room-clause-marked c =
     let r = c.requires.start in
     let h = c.loop-k.invariant.counted r.graph r.is_box r.inside in
-    let test = c.loop-k-test.true in
-    let count = c.loop-k.invariant.count in
-    let fewer : length c.loop-k.sizes.items < 10 = omega arith in
-    let n = c.in_ok-next_shell.ensures r.graph h.vertices (searchable r.graph c.args.net_box.now r.is_box c.args.over r.inside c.loop-k.sizes.items c.loop-k.room c.loop-k.begin c.loop-k.marks c.loop-k.found.items h fewer) in
-    let grows = counted_size r.graph c.args.net_box.now r.is_box c.args.over r.inside c.loop-k.sizes.items c.loop-k.room c.loop-k.begin c.loop-k.marks c.loop-k.found.items h c.next_shell.new.marks c.next_shell.new.found.items n in
-    n.is_found.marked
+    let t = next_counted r.graph c.args.net_box.now r.is_box c.args.over r.inside c.loop-k.sizes.items c.loop-k.room c.loop-k.begin c.loop-k.marks c.loop-k.found.items h c.loop-k._k c.loop-k.invariant.count c.loop-k-test.true c.next_shell.new.marks c.next_shell.new.found.items c.in_ok-next_shell.ensures in
+    t.shell.is_found.marked
 
 pub loop-k-preserved : goal.loop-k-preserved
 loop-k-preserved c = record {
   counted = λ P q i.
       let h = c.loop-k.invariant.counted P q i in
-      let test = c.loop-k-test.true in
-      let count = c.loop-k.invariant.count in
-      let fewer : length c.loop-k.sizes.items < 10 = omega arith in
-      let n = c.in_ok-next_shell.ensures P h.vertices (searchable P c.args.net_box.now q c.args.over i c.loop-k.sizes.items c.loop-k.room c.loop-k.begin c.loop-k.marks c.loop-k.found.items h fewer) in
-      let grows = counted_size P c.args.net_box.now q c.args.over i c.loop-k.sizes.items c.loop-k.room c.loop-k.begin c.loop-k.marks c.loop-k.found.items h c.next_shell.new.marks c.next_shell.new.found.items n in
-      let size : c.len.result - c.len-end.result ≡ length n.next = omega (arith, grows, c.len.ensures, c.len-end.ensures) in
+      let t = next_counted P c.args.net_box.now q c.args.over i c.loop-k.sizes.items c.loop-k.room c.loop-k.begin c.loop-k.marks c.loop-k.found.items h c.loop-k._k c.loop-k.invariant.count c.loop-k-test.true c.next_shell.new.marks c.next_shell.new.found.items c.in_ok-next_shell.ensures in
+      let size : c.len.result - c.len-end.result ≡ length t.shell.next = omega (arith, t.size, c.len.ensures, c.len-end.ensures) in
       let fits : c.len.result - c.len-end.result ≤ c.loop-k.room = omega (arith, c.if-size-room.false) in
       let end : c.len-end.result ≡ length c.loop-k.found.items = omega (arith, c.len-end.ensures) in
-      counting_turn P c.args.net_box.now q c.args.over i c.loop-k.sizes.items c.loop-k.room c.loop-k.begin c.loop-k.marks c.loop-k.found.items h c.next_shell.new.marks c.next_shell.new.found.items n c.push.new.self.items (c.len.result - c.len-end.result) (c.len.result - c.len-end.result) c.len-end.result
-      fewer size fits refl c.in_ok-push.ensures.items end;
+      counting_turn P c.args.net_box.now q c.args.over i c.loop-k.sizes.items c.loop-k.room c.loop-k.begin c.loop-k.marks c.loop-k.found.items h c.next_shell.new.marks c.next_shell.new.found.items t.shell c.push.new.self.items (c.len.result - c.len-end.result) (c.len.result - c.len-end.result) c.len-end.result
+      t.few size fits refl c.in_ok-push.ensures.items end;
   count = let count = c.loop-k.invariant.count in grown c.loop-k.sizes.items c.push.new.self.items (c.len.result - c.len-end.result) c.loop-k._k c.in_ok-push.ensures.items count;
 }
 
