@@ -1,6 +1,5 @@
 -- What is due to the words and to the bytes of the files that they name.
-use Rattle.std.specs.Prelude.{◌≡◌, ◌≢◌, ℕ, ◌+◌, ◌≤◌, ◌<◌, Bool, true, false, List, [], ◌∷◌, ◌++◌, length, Option, Some, None, unwrap_or, All}
-use Rattle.std.specs.List.{list_all}
+use Rattle.std.specs.Prelude.{◌≡◌, ◌≢◌, ℕ, ◌+◌, ◌≤◌, ◌<◌, true, false, List, [], ◌∷◌, ◌++◌, length, Option, Some, None, unwrap_or, All}
 use Rattle.cgd_read.specs.Graphs.{graph_of}
 use Rattle.cgd_read.specs.Views.{RawView, Net, BlockView}
 use Rattle.cgd_read.specs.Blocks.{blocks_of}
@@ -16,15 +15,13 @@ use Rattle.net_archive.specs.declared.faults.ArchiveFault.{ArchiveFault}
 use Rattle.net_archive.specs.declared.faults.ArchiveFault.TheVariants as archive
 use Rattle.net_archive.specs.declared.faults.AddFault.{AddFault}
 use Rattle.net_archive.specs.declared.faults.AddFault.TheVariants as add
-use Rattle.net_report.specs.Reports.{report_text}
-use Rattle.net_report.specs.declared.outcome.Outcome.{Outcome}
 use Rattle.archive_report.specs.ArchiveTexts.{archive_fault_text, add_fault_text, migrate_fault_text, groups_text}
 use Rattle.command_words.specs.Tasks.{Task, Tell, Add, Duplicates, Migrate, Workload}
 use Rattle.command_words.specs.declared.tasks.Command.{Command}
 use Rattle.command_words.specs.declared.tasks.Command.TheVariants.{Key}
 use Rattle.workload.specs.Workload.{workload}
-use Rattle.net_outcomes.specs.Deciding.{AreOutcomes, KeysDecideArchive}
-use Rattle.net_outcomes.specs.Outcomes.{is_accepted}
+use Rattle.net_outcomes.specs.Deciding.{KeysDecideArchive}
+use Rattle.net_outcomes.specs.Reports.{IsReport}
 use Rattle.net_answers.specs.Summaries.{IsSummaryAs}
 use Rattle.net_answers.specs.declared.status.Status.{Status}
 use Rattle.net_answers.specs.declared.status.Status.TheVariants as status
@@ -66,13 +63,6 @@ IsArchiveIn (Some bytes) a = IsArchive a × (bytes ≡ archive_text a)
 abbrev pub IsBadArchive : Option (List ℕ) → List ℕ → Type 0
 IsBadArchive None text = ⊥
 IsBadArchive (Some bytes) text = (fault : ArchiveFault) × (fault ≢ archive.NoMemory) × IsFaultOf bytes fault × (text ≡ archive_fault_text fault)
-
--- the report on these blocks, and whether all of them were accepted
-pub record IsReport (command : Command) (entries : List EntryView) (blocks : List BlockView) (accepted : Bool) (text : List ℕ) : Type 0 where
-  pub outcomes : List Outcome
-  pub are_outcomes : AreOutcomes command entries blocks outcomes
-  pub all : accepted ≡ list_all is_accepted outcomes
-  pub report : text ≡ report_text outcomes
 
 -- the report, by the status that goes with it
 abbrev pub IsReportAs : Command → List EntryView → List BlockView → Status → List ℕ → Type 0

@@ -12,7 +12,6 @@ ghost use Rattle.net_outcomes.specs.Outcomes.{AreOutcomesFrom, is_accepted, net_
 ghost use Rattle.net_answers.specs.Due.{IsAdded, IsAddedOrRefused, IsNotAdded, name_to_add};
 
 use crate::answer::Answer;
-use crate::reports::report_of;
 use crate::status::Status;
 use archive_report::add_fault_text;
 use cgd_read::Block;
@@ -20,7 +19,7 @@ use command_words::Command;
 use least_key::Net;
 use net_archive::{AddFault, Archive};
 use net_outcomes::{are_accepted, outcomes_of};
-use net_report::{NoMemory, Outcome, OutcomeBody};
+use net_report::{NoMemory, Outcome, OutcomeBody, report};
 use std::alloc::{AllocError, Global};
 
 // The block with this number, counted from 1, cannot be added.
@@ -167,7 +166,10 @@ fn add_beside(
 {
     let outcomes = outcomes_of(alloc, Command::Key, none, found)?;
     if !are_accepted(&outcomes) {
-        return report_of(alloc, Command::Key, none, found, &outcomes);
+        return Ok(Answer {
+            status: Status::SomeRefused,
+            text: report(alloc, &outcomes)?,
+        });
     }
     add_accepted(
         alloc,

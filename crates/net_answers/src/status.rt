@@ -1,6 +1,6 @@
 // How a run ends.
 ghost use Rattle.std.specs.Prelude.{◌≡◌};
-ghost use Rattle.net_answers.specs.Statuses.{number_of};
+ghost use Rattle.net_answers.specs.Statuses.{ending_of, number_of};
 
 /// The end of a run; `number` is the exit status of the program.
 #[derive(Clone, Copy, Debug, PartialEq, Eq)]
@@ -45,5 +45,16 @@ impl Status {
             Status::AddRefused => 9,
             Status::MigrateRefused => 10,
         }
+    }
+}
+
+/// How a report ends, by whether each block was accepted.
+pub(crate) fn ending_of(all_accepted: bool) -> Status
+    ensures { result ≡ ending_of all_accepted }
+{
+    if all_accepted {
+        Status::Done
+    } else {
+        Status::SomeRefused
     }
 }

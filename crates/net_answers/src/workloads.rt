@@ -8,7 +8,7 @@ ghost use Rattle.net_answers.specs.KeyLists.{IsPutIn, lists_in};
 ghost use Rattle.net_answers.specs.Summaries.{AreSoManyKeys, IsSummaryAs, accepted_word, keys_word, summary_text, workload_word};
 
 use crate::answer::Answer;
-use crate::status::Status;
+use crate::status::ending_of;
 use cgd_read::Block;
 use command_words::Command;
 use indexmap::IndexSet;
@@ -114,13 +114,10 @@ fn summary_beside(
     let outcomes = outcomes_of(alloc, Command::Key, archive, found)?;
     let accepted = count_accepted(outcomes.as_slice());
     let keys = count_keys(alloc, outcomes.as_slice())?;
-    let text = summary_text(alloc, made as u64, accepted, keys)?;
-    let status = if are_accepted(&outcomes) {
-        Status::Done
-    } else {
-        Status::SomeRefused
-    };
-    Ok(Answer { status, text })
+    Ok(Answer {
+        status: ending_of(are_accepted(&outcomes)),
+        text: summary_text(alloc, made as u64, accepted, keys)?,
+    })
 }
 
 /// The summary on the blocks of a workload.

@@ -91,14 +91,6 @@ some_is x y e = ap (λ o. unwrap_or o x) e
 
 -- a net with a key is told only where the key is asked for
 keyed_told : (entries : List EntryView) (command : Command) (raw : RawView) (body : OutcomeBody) (xs : List ℤ) → IsBodyOf entries command (Net raw) body → key_told body ≡ Some xs → HasKeyedGraph raw xs
-keyed_told entries command raw (Unsupported token) xs h e = absurd (true≢false (sym (ap is_some e)))
-keyed_told entries command raw (Malformed fault) xs h e = absurd (true≢false (sym (ap is_some e)))
-keyed_told entries command raw (Refused size names refusal) xs h e = absurd (true≢false (sym (ap is_some e)))
-keyed_told entries command raw (Checked size) xs h e = absurd (true≢false (sym (ap is_some e)))
-keyed_told entries command raw (Located size names placed) xs h e = absurd (true≢false (sym (ap is_some e)))
-keyed_told entries Check raw (Keyed size net) xs h e = absurd h
-keyed_told entries Place raw (Keyed size net) xs h e = absurd h
-keyed_told entries Identify raw (Keyed size net) xs h e = absurd h
 keyed_told entries Key raw (Keyed size net) xs h e = record {
   graph = h.graph;
   in_order = h.read.in_order;
@@ -107,9 +99,6 @@ keyed_told entries Key raw (Keyed size net) xs h e = record {
   keyed = h.keyed;
   key = some_is (net_in net).key xs e;
 }
-keyed_told entries Check raw (Identified size vertices net shells names) xs h e = absurd h
-keyed_told entries Place raw (Identified size vertices net shells names) xs h e = absurd h
-keyed_told entries Key raw (Identified size vertices net shells names) xs h e = absurd h
 keyed_told entries Identify raw (Identified size vertices net shells names) xs h e = record {
   graph = h.keyed.graph;
   in_order = h.keyed.read.in_order;
@@ -118,6 +107,9 @@ keyed_told entries Identify raw (Identified size vertices net shells names) xs h
   keyed = h.keyed.keyed;
   key = some_is (net_in net).key xs e;
 }
+keyed_told entries command raw (Keyed size net) xs h e = absurd h
+keyed_told entries command raw (Identified size vertices net shells names) xs h e = absurd h
+keyed_told entries command raw body xs h e = absurd (true≢false (sym (ap is_some e)))
 
 module _ (entries : List EntryView) (command : Command) (bs : List BlockView) (os : List Outcome) (h : AreOutcomesFrom entries command 1 bs os) where
   -- what is told of a key

@@ -8,3 +8,4 @@ pub mod Listing
 pub mod NamesFound
 pub mod Identified
 pub mod Certain
+pub mod ToldBlocks

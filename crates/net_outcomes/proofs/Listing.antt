@@ -1,13 +1,19 @@
 -- The list of outcomes grows by that of the next block.
-use Rattle.std.proofs.Common.{◌≡◌, ℕ, ◌+◌, ◌<◌, List, [], ◌∷◌, ◌++◌, length, take, get_or, All, sym, ap, subst, ◌∙◌, arith, add-one}
+use Rattle.std.proofs.Common.{◌≡◌, ℕ, ◌+◌, ◌<◌, ◌≤◌, List, [], ◌∷◌, ◌++◌, length, take, get_or, All, sym, ap, subst, ◌∙◌, arith, add-one}
 use Rattle.std.proofs.lemmas.Grind.{common_steps}
+use Rattle.std.proofs.lemmas.List.{get_or-map, length-map, take_all}
 use Rattle.std.proofs.lemmas.List.Elements.{All-append, All-cons, All-nil}
 use Rattle.std.proofs.Math.Seq.{take-suc}
-use Rattle.cgd_read.specs.Views.{BlockView}
+use Rattle.cgd_read.specs.Blocks.{IsReadBody}
+use Rattle.cgd_read.specs.Views.{BlockView, block_view, views}
+use Rattle.cgd_read.specs.declared.block.Block.{Block}
+use Rattle.net_archive.specs.Archives.{IsEntry}
 use Rattle.net_entries.specs.Entries.{EntryView}
 use Rattle.net_report.specs.Reports.{IsPrintable}
 use Rattle.net_report.specs.declared.outcome.Outcome.{Outcome}
+use Rattle.net_outcomes.specs.Deciding.{AreOutcomes}
 use Rattle.net_outcomes.specs.Outcomes.{IsOutcomeOf, AreOutcomesFrom}
+use Rattle.net_outcomes.proofs.Certain.{graphs_read, outcomes_decide}
 use Rattle.command_words.specs.declared.tasks.Command.{Command}
 
 -- one more block and its outcome at the end
@@ -27,7 +33,7 @@ pub record AreOutcomesOn (entries : List EntryView) (command : Command) (bs : Li
   pub printable : All IsPrintable os
 
 -- the outcome of the next block
-pub outcomes_more : (entries : List EntryView) (command : Command) (bs : List BlockView) (i number : ℕ) (os : List Outcome) (b : BlockView) (o : Outcome) → i < length bs → get_or bs i b ≡ b → AreOutcomesOn entries command bs i number os
+outcomes_more : (entries : List EntryView) (command : Command) (bs : List BlockView) (i number : ℕ) (os : List Outcome) (b : BlockView) (o : Outcome) → i < length bs → get_or bs i b ≡ b → AreOutcomesOn entries command bs i number os
     → IsOutcomeOf entries command number b o → IsPrintable o → AreOutcomesOn entries command bs (i + 1) (number + 1) (os ++ o ∷ [])
 outcomes_more entries command bs i number os b o l is h k p =
     let longer : take (i + 1) bs ≡ take i bs ++ b ∷ [] = ap (λ (n : ℕ). take n bs) (add-one i) ∙ take-suc bs i b l ∙ ap (λ (x : BlockView). take i bs ++ x ∷ []) is in
@@ -38,3 +44,19 @@ outcomes_more entries command bs i number os b o l is h k p =
       number_is = let n = h.number_is in omega arith;
       printable = All-append IsPrintable os (o ∷ []) h.printable (All-cons IsPrintable o [] p (All-nil IsPrintable));
     }
+
+-- the outcome of the next block of those that were read
+pub outcomes_next : (entries : List EntryView) (command : Command) (found : List Block) (i number : ℕ) (os : List Outcome) (block : Block) (o : Outcome) → i < length found → block ≡ get_or found i block
+    → AreOutcomesOn entries command (views found) i number os → IsOutcomeOf entries command number (block_view block) o → IsPrintable o → AreOutcomesOn entries command (views found) (i + 1) (number + 1) (os ++ o ∷ [])
+outcomes_next entries command found i number os block o l is h k p =
+    let inside : i < length (views found) = subst (λ (n : ℕ). i < n) (sym (length-map found block_view)) l in
+    let there = get_or-map block_view found i block (block_view block) l ∙ ap block_view (sym is) in
+    outcomes_more entries command (views found) i number os (block_view block) o inside there h k p
+
+-- the outcomes of all blocks that were read, beside the entries of an archive
+pub outcomes_whole : (entries : List EntryView) (command : Command) (found : List Block) (i number : ℕ) (os : List Outcome) → length found ≤ i → AreOutcomesOn entries command (views found) i number os
+    → All IsEntry entries → All (λ (b : Block). IsReadBody b.body) found → AreOutcomes command entries (views found) os
+outcomes_whole entries command found i number os l h good read =
+    let past : length (views found) ≤ i = subst (λ (n : ℕ). n ≤ i) (sym (length-map found block_view)) l in
+    let whole = subst (λ (blocks : List BlockView). AreOutcomesFrom entries command 1 blocks os) (take_all i (views found) past) h.outcomes in
+    outcomes_decide entries command (views found) os whole good (graphs_read found read)

@@ -17,43 +17,23 @@ use Rattle.command_words.specs.declared.tasks.Command.TheVariants.{Check, Place,
 
 -- a test for connectedness may tell its refusals
 pub check_may : (refusal : Refusal) → IsOfConnecting refusal → refusal ≢ NoMemory → MayTell Check refusal
-check_may (Disconnected split) h n = h
-check_may (Degenerate split) h n = h
-check_may (NoModulus first second third) h n = h
-check_may (WidePlacement w) h n = h
-check_may (Collision dim u v t) h n = h
-check_may (TooMuch done counted) h n = h
 check_may NoMemory h n = n refl
+check_may refusal h n = h
 
 -- so may a placing
 pub place_may : (refusal : Refusal) → IsOfPlacing refusal → refusal ≢ NoMemory → MayTell Place refusal
-place_may (Disconnected split) h n = h
-place_may (Degenerate split) h n = h
-place_may (NoModulus first second third) h n = h
-place_may (WidePlacement w) h n = h
-place_may (Collision dim u v t) h n = h
-place_may (TooMuch done counted) h n = h
 place_may NoMemory h n = n refl
+place_may refusal h n = h
 
 -- and the search for a key may tell all
 pub key_may : (refusal : Refusal) → refusal ≢ NoMemory → MayTell Key refusal
-key_may (Disconnected split) n = tt
-key_may (Degenerate split) n = tt
-key_may (NoModulus first second third) n = tt
-key_may (WidePlacement w) n = tt
-key_may (Collision dim u v t) n = tt
-key_may (TooMuch done counted) n = tt
 key_may NoMemory n = n refl
+key_may refusal n = tt
 
 -- also where it is sought in an archive
 pub identify_may : (refusal : Refusal) → refusal ≢ NoMemory → MayTell Identify refusal
-identify_may (Disconnected split) n = tt
-identify_may (Degenerate split) n = tt
-identify_may (NoModulus first second third) n = tt
-identify_may (WidePlacement w) n = tt
-identify_may (Collision dim u v t) n = tt
-identify_may (TooMuch done counted) n = tt
 identify_may NoMemory n = n refl
+identify_may refusal n = tt
 
 -- the body that was made of a refusal is one that the command tells
 pub refused_as : {E : Type 0} (entries : List EntryView) (command : Command) (raw : RawView) (G : Graph) (refusal : Refusal) (r : Result OutcomeBody E)

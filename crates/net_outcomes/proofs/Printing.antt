@@ -5,7 +5,7 @@ use Rattle.periodic_net.specs.Graph.{Graph, arc, IsGraph, IsQuotientVertex}
 use Rattle.periodic_net.specs.Placement.{Placement}
 use Rattle.periodic_net.proofs.CallerLemmas.{arc_inside}
 use Rattle.cgd_read.specs.Graphs.{graph_of}
-use Rattle.cgd_read.specs.Views.{RawView, Net, Other, Faulty, raw_view, body_view}
+use Rattle.cgd_read.specs.Views.{RawView, BodyView, Net, Other, Faulty, raw_view, body_view}
 use Rattle.cgd_read.specs.Blocks.{IsReadBody}
 use Rattle.cgd_read.specs.declared.block.Body.{Body}
 use Rattle.cgd_read.specs.declared.block.Body.TheVariants as read
@@ -61,58 +61,28 @@ refusal_line command raw H (Collision dim u v t) g o m h =
 refusal_line command raw H (TooMuch done counted) g o m h = tt
 refusal_line command raw H NoMemory g o m h = m
 
--- what a command tells of a net can be printed
-told_of_net : (entries : List EntryView) (command : Command) (raw : RawView) (told : OutcomeBody) → IsGraph (graph_of raw) → IsBodyOf entries command (Net raw) told → IsPrintableBody told
-told_of_net entries command raw (Unsupported token) g h = tt
-told_of_net entries command raw (Malformed fault) g h = tt
-told_of_net entries command raw (Checked size) g h = tt
-told_of_net entries command raw (Refused size names refusal) g h =
+-- a body that is a net is a graph
+abbrev IsGraphBody : BodyView → Type 0
+IsGraphBody (Net raw) = IsGraph (graph_of raw)
+IsGraphBody body = Unit {0}
+
+-- what a command tells of a body can be printed
+told_of_body : (entries : List EntryView) (command : Command) (body : BodyView) (told : OutcomeBody) → IsGraphBody body → IsBodyOf entries command body told → IsPrintableBody told
+told_of_body entries command body (Unsupported token) g h = tt
+told_of_body entries command body (Malformed fault) g h = tt
+told_of_body entries command body (Checked size) g h = tt
+told_of_body entries command body (Keyed size net) g h = tt
+told_of_body entries command (Net raw) (Refused size names refusal) g h =
     subst (λ ns. HasLine ns refusal) (sym h.names_are) (refusal_line command raw h.graph refusal g h.read.in_order h.may h.is_true)
-told_of_net entries command raw (Keyed size net) g h = tt
-told_of_net entries Check raw (Located size names placed) g h = absurd h
-told_of_net entries Key raw (Located size names placed) g h = absurd h
-told_of_net entries Identify raw (Located size names placed) g h = absurd h
-told_of_net entries Place raw (Located size names placed) g h = ap length h.names_are ∙ sym (ap (λ (G : Graph). G.vertices) h.placed_as.graph ∙ h.read.in_order.vertices)
-told_of_net entries Check raw (Identified size vertices net shells names) g h = absurd h
-told_of_net entries Key raw (Identified size vertices net shells names) g h = absurd h
-told_of_net entries Place raw (Identified size vertices net shells names) g h = absurd h
-told_of_net entries Identify raw (Identified size vertices net shells names) g h =
+told_of_body entries Place (Net raw) (Located size names placed) g h = ap length h.names_are ∙ sym (ap (λ (G : Graph). G.vertices) h.placed_as.graph ∙ h.read.in_order.vertices)
+told_of_body entries Identify (Net raw) (Identified size vertices net shells names) g h =
     ap length h.vertices_are ∙ sym (ap (λ (G : Graph). G.vertices) h.keyed.net_is ∙ h.keyed.read.in_order.vertices)
-
--- of a block that is no net nothing else is told than what it is
-told_of_other : (entries : List EntryView) (command : Command) (token : List ℕ) (told : OutcomeBody) → IsBodyOf entries command (Other token) told → IsPrintableBody told
-told_of_other entries command token (Unsupported text) h = tt
-told_of_other entries command token (Malformed fault) h = tt
-told_of_other entries command token (Checked size) h = tt
-told_of_other entries command token (Keyed size net) h = tt
-told_of_other entries command token (Refused size names refusal) h = absurd h
-told_of_other entries Check token (Located size names placed) h = absurd h
-told_of_other entries Place token (Located size names placed) h = absurd h
-told_of_other entries Key token (Located size names placed) h = absurd h
-told_of_other entries Identify token (Located size names placed) h = absurd h
-told_of_other entries Check token (Identified size vertices net shells names) h = absurd h
-told_of_other entries Place token (Identified size vertices net shells names) h = absurd h
-told_of_other entries Key token (Identified size vertices net shells names) h = absurd h
-told_of_other entries Identify token (Identified size vertices net shells names) h = absurd h
-
--- nor of a block with a fault
-told_of_faulty : (entries : List EntryView) (command : Command) (fault : _) (told : OutcomeBody) → IsBodyOf entries command (Faulty fault) told → IsPrintableBody told
-told_of_faulty entries command fault (Unsupported text) h = tt
-told_of_faulty entries command fault (Malformed other) h = tt
-told_of_faulty entries command fault (Checked size) h = tt
-told_of_faulty entries command fault (Keyed size net) h = tt
-told_of_faulty entries command fault (Refused size names refusal) h = absurd h
-told_of_faulty entries Check fault (Located size names placed) h = absurd h
-told_of_faulty entries Place fault (Located size names placed) h = absurd h
-told_of_faulty entries Key fault (Located size names placed) h = absurd h
-told_of_faulty entries Identify fault (Located size names placed) h = absurd h
-told_of_faulty entries Check fault (Identified size vertices net shells names) h = absurd h
-told_of_faulty entries Place fault (Identified size vertices net shells names) h = absurd h
-told_of_faulty entries Key fault (Identified size vertices net shells names) h = absurd h
-told_of_faulty entries Identify fault (Identified size vertices net shells names) h = absurd h
+told_of_body entries command (Net raw) told g h = absurd h
+told_of_body entries command (Other token) told g h = absurd h
+told_of_body entries command (Faulty fault) told g h = absurd h
 
 -- and so can what it tells of any block
 pub told_of_block : (entries : List EntryView) (command : Command) (body : Body) (told : OutcomeBody) → IsReadBody body → IsBodyOf entries command (body_view body) told → IsPrintableBody told
-told_of_block entries command (read.Graph raw) told g h = told_of_net entries command (raw_view raw) told g.is_graph h
-told_of_block entries command (read.Unsupported token) told g h = told_of_other entries command token.now told h
-told_of_block entries command (read.Malformed fault) told g h = told_of_faulty entries command fault told h
+told_of_block entries command (read.Graph raw) told g h = told_of_body entries command (Net (raw_view raw)) told g.is_graph h
+told_of_block entries command (read.Unsupported token) told g h = told_of_body entries command (Other token.now) told tt h
+told_of_block entries command (read.Malformed fault) told g h = told_of_body entries command (Faulty fault) told tt h

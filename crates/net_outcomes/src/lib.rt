@@ -3,5 +3,7 @@
 
 mod bodies;
 mod outcomes;
+mod telling;
 
 pub use outcomes::{are_accepted, is_accepted, outcomes_of};
+pub use telling::{Told, tell_blocks};

@@ -1,4 +1,4 @@
-// The outcome of each block of a text for a command, and the report.
+// The outcome of each block of a text for a command.
 ghost use Rattle.std.specs.Prelude.{◌≡◌, ◌≤◌, All, IfOk, length};
 ghost use Rattle.std.specs.List.{list_all};
 ghost use Rattle.cgd_read.specs.Views.{block_view, views};
@@ -14,7 +14,8 @@ use net_archive::Archive;
 use net_report::{NoMemory, Outcome, OutcomeBody, Outcomes};
 use std::alloc::Global;
 
-fn outcome_of<'a>(
+/// What a command tells of the block with this number, beside an archive.
+pub fn outcome_of<'a>(
     alloc: Global,
     command: Command,
     archive: &'a Archive,
@@ -35,7 +36,7 @@ fn outcome_of<'a>(
     })
 }
 
-/// What a command tells of each block, beside an archive.
+/// What a command tells of each block, beside an archive. All outcomes stand in memory.
 pub fn outcomes_of<'a>(
     alloc: Global,
     command: Command,

@@ -16,7 +16,7 @@ positions_more names p n text before after e f =
     ∙ ap (λ (k : ℕ). text ++ (positions_text names p n ++ position_text names p k)) (add-one n) ∙ sym (ap (λ (k : ℕ). text ++ positions_text names p k) (add-one n))
 
 -- the text of one more outcome
-report_last : (os : List Outcome) (o : Outcome) → report_text (os ++ o ∷ []) ≡ report_text os ++ outcome_text o
+pub report_last : (os : List Outcome) (o : Outcome) → report_text (os ++ o ∷ []) ≡ report_text os ++ outcome_text o
 report_last [] o = grind (arith, common_steps)
 report_last (x ∷ os) o = grind (arith, common_steps, report_last os o)
 

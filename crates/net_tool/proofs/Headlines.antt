@@ -7,7 +7,8 @@ use Rattle.cgd_read.specs.Blocks.{blocks_of}
 use Rattle.command_words.specs.Tasks.{Task, Tell, task_of}
 use Rattle.command_words.specs.declared.tasks.Command.TheVariants.{Identify}
 use Rattle.net_archive.specs.Archives.{ArchiveView}
-use Rattle.net_answers.specs.Due.{IsArchiveIn, IsDueOn, IsReport}
+use Rattle.net_outcomes.specs.Reports.{IsReport}
+use Rattle.net_answers.specs.Due.{IsArchiveIn, IsDueOn}
 use Rattle.net_answers.specs.declared.status.Status.{Status}
 use Rattle.net_answers.specs.declared.status.Status.TheVariants.{Done, SomeRefused}
 use Rattle.net_tool.specs.Run.{AreBytesOf, IsAnswer, IsAnswered, IsDue}
