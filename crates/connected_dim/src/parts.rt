@@ -36,11 +36,7 @@ fn part_colours<const D: usize>(
 ) -> Result<Vec<i64>, NoMemory>
     ensures { IfOk result (λ h. h.items ≡ map part_colour found.now) }
 {
-    let mut h = Vec::with_capacity(alloc, found.len())?;
-    for walk in found {
-        h.push(part_colour(walk))?;
-    }
-    Ok(h)
+    found.iter().map(part_colour).collect(alloc)
 }
 
 /// The colouring that tells the found vertices from the others.
