@@ -1,32 +1,19 @@
 -- Shells of vertices, along the steps of a net.
 use Rattle.std.proofs.Common.{◌≡◌, ◌⊎◌, inl, inr, ℕ, zero, suc, ◌+◌, List, [], ◌∷◌, length, sum, refl, ap, subst}
-use Rattle.std.proofs.Math.Decide.{ℕ_discrete}
-use Rattle.std.proofs.Math.IntN.{ℤ_discrete}
-use Prim.{Dec, yes, no}
 use Rattle.integers.proofs.lists.Members.{is_in, contains_from_in, pairs_from_apart}
 use Rattle.periodic_net.specs.Graph.{Graph, Vertex, AreJoined, IsWalk}
 use Rattle.periodic_net.specs.Shells.{StepsLead, IsInShell, IsShellSize}
+use Rattle.periodic_net.proofs.CallerLemmas.{vertex_decided}
 use Rattle.coordination.specs.Sequences.{AreShellsOf, IsShellPast, most_shells}
 use Rattle.coordination.proofs.Counting.{AreSizes, IsPast}
 use Rattle.coordination.proofs.Ends.{ends, vertices_around}
 use Rattle.coordination.proofs.Existence.{some_shell}
 use Rattle.coordination.proofs.StepShells.{Leads, IsShell, AreShell}
 
--- whether two vertices are one
-same_vertex : (x y : Vertex) → Dec (x ≡ y)
-same_vertex x y = by (ℕ_discrete x.over y.over) (ℤ_discrete x.cell.x y.cell.x) (ℤ_discrete x.cell.y y.cell.y) (ℤ_discrete x.cell.z y.cell.z)
-  where
-    by : Dec (x.over ≡ y.over) → Dec (x.cell.x ≡ y.cell.x) → Dec (x.cell.y ≡ y.cell.y) → Dec (x.cell.z ≡ y.cell.z) → Dec (x ≡ y)
-    by (yes o) (yes a) (yes b) (yes c) = yes (λ i. record { over = o i; cell = record { x = a i; y = b i; z = c i } })
-    by (no n) a b c = no (λ e. n (ap (λ (v : Vertex). v.over) e))
-    by (yes o) (no n) b c = no (λ e. n (ap (λ (v : Vertex). v.cell.x) e))
-    by (yes o) (yes a) (no n) c = no (λ e. n (ap (λ (v : Vertex). v.cell.y) e))
-    by (yes o) (yes a) (yes b) (no n) = no (λ e. n (ap (λ (v : Vertex). v.cell.z) e))
-
 module _ (P : Graph) where
   -- each shell of a vertex can be listed
   pub some_vertex_shell : (w : Vertex) (k : ℕ) → (xs : List Vertex) × AreShell (AreJoined P) w k xs
-  some_vertex_shell = some_shell (AreJoined P) same_vertex (ends P) (vertices_around P)
+  some_vertex_shell = some_shell (AreJoined P) vertex_decided (ends P) (vertices_around P)
 
   -- steps are a walk of the net
   pub walk_of : (k : ℕ) (w x : Vertex) → Leads (AreJoined P) k w x → StepsLead P k w x

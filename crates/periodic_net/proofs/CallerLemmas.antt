@@ -17,7 +17,7 @@ pub use Rattle.periodic_net.proofs.nets.SplitCases.{one_not_alike, split_by_part
 pub use Rattle.periodic_net.proofs.nets.Splits.{split_shows_not_connected}
 pub use Rattle.periodic_net.proofs.nets.Walks.{joined_moved, joined_turned, moved_to, reached_by_arc, reached_itself, reached_moved, reached_transitive, reached_turned, same_reached}
 pub use Rattle.periodic_net.proofs.placements.OnePlacement.{one_placement}
-pub use Rattle.periodic_net.proofs.placements.Positions.{at_origin, end_vector, move_dimension, moves_by, position_moved, positions_tell}
+pub use Rattle.periodic_net.proofs.placements.Positions.{at_origin, end_vector, move_dimension, moves_by, position_moved, positions_tell, vertex_decided}
 pub use Rattle.periodic_net.proofs.placements.Translates.{total_linear, total_zero}
 pub use Rattle.periodic_net.proofs.translations.ByVectors.{class_arcs, joined_of_vector}
 pub use Rattle.periodic_net.proofs.translations.ClassMembers.{IsShape, class_in, flat_arcs, member}

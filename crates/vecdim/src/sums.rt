@@ -1,6 +1,35 @@
 // Sums, differences and multiples of vectors.
+ghost use Rattle.std.specs.Prelude.{◌≡◌, ◌≤◌, ◌^◌, ◌+ℤ◌, unsigned_abs};
+
 use crate::arithmetic::{difference, multiple, negative, sum};
-use crate::{Triple, Vect};
+use crate::{Shift, Triple, Vect};
+
+// The sum of two parts of shifts.
+fn sum_of_shift_parts(a: i32, b: i32) -> i32
+    requires a { unsigned_abs a ≤ 2 ^ 29 }
+    requires b { unsigned_abs b ≤ 2 ^ 29 }
+    ensures { result ≡ a +ℤ b }
+{
+    a + b
+}
+
+impl<const D: usize> Shift<D> {
+    ghost use Rattle.std.specs.Prelude.{◌≡◌, ◌^◌};
+    ghost use Rattle.integers.specs.Vectors.{plus, IsWithin};
+
+    /// The sum.
+    pub fn plus(&self, other: &Shift<D>) -> Shift<D>
+        requires left { IsWithin (2 ^ 29) self.now }
+        requires right { IsWithin (2 ^ 29) other.now }
+        ensures { result ≡ plus self.now other.now }
+    {
+        Shift {
+            x: sum_of_shift_parts(self.x, other.x),
+            y: sum_of_shift_parts(self.y, other.y),
+            z: sum_of_shift_parts(self.z, other.z),
+        }
+    }
+}
 
 impl Triple {
     ghost use Rattle.std.specs.Prelude.{◌≡◌, ℕ, ◌≤◌, ◌+◌, ◌*◌, ◌^◌, unsigned_abs};

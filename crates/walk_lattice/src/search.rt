@@ -1,35 +1,14 @@
 // The search of a quotient graph from a vertex, with the shift of a walk to each vertex found.
-ghost use Rattle.std.specs.Prelude.{◌≡◌, ◌<◌, ◌≤◌, ◌+◌, length, OnOk, Some, unsigned_abs, ◌+ℤ◌, ◌-◌, ◌*◌, IsSome, IfOk, slice_index};
-ghost use Rattle.integers.specs.Vectors.{plus, IsWithin};
+ghost use Rattle.std.specs.Prelude.{◌≡◌, ◌<◌, ◌≤◌, ◌+◌, length, OnOk, Some, ◌-◌, ◌*◌, IsSome, IfOk, slice_index};
+ghost use Rattle.integers.specs.Vectors.{IsWithin};
 ghost use Rattle.walk_lattice.specs.Search.{missing, found_with, order_with, IsSearch, Expands, IsSearchedTo, AreWalks, none_found, walk_to};
 ghost use Rattle.periodic_net.specs.Graph.{IsGraph, IsQuotientVertex};
-ghost use Rattle.periodic_net.specs.Limits.{IsSmall, most_walk, most_shift, most_vertices};
+ghost use Rattle.periodic_net.specs.Limits.{IsSmall, most_shift, most_vertices};
 
 use crate::NoMemory;
 use quotient_graph::Graph;
 use std::alloc::Global;
 use vecdim::Shift;
-
-fn sum(a: i32, b: i32) -> i32
-    requires near { unsigned_abs a ≤ most_walk }
-    requires step { unsigned_abs b ≤ most_shift }
-    ensures { result ≡ a +ℤ b }
-{
-    a + b
-}
-
-// The shift of a walk that goes on along an arc.
-fn further<const D: usize>(walk: &Shift<D>, step: &Shift<D>) -> Shift<D>
-    requires near { IsWithin most_walk walk.now }
-    requires step { IsWithin most_shift step.now }
-    ensures { result ≡ plus walk.now step.now }
-{
-    Shift {
-        x: sum(walk.x, step.x),
-        y: sum(walk.y, step.y),
-        z: sum(walk.z, step.z),
-    }
-}
 
 // Vertex u is found by a walk of this shift, unless it was found before.
 fn find<const D: usize>(
@@ -72,7 +51,7 @@ fn expand<const D: usize>(
         (Expands g.now start found.old order.old.items u found.new order.new.items) }
 {
     for arc in g.arcs(u) {
-        find(found, order, arc.to, further(walk, &arc.shift))?;
+        find(found, order, arc.to, walk.plus(&arc.shift))?;
     }
     Ok(())
 }

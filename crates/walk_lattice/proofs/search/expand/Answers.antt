@@ -1,17 +1,17 @@
-use Rattle.std.proofs.Common.{◌-◌, ◌*◌, ◌≤◌, length, lit<, arith, subst, sym, ap, ◌∙◌}
+use Rattle.std.proofs.Common.{◌-◌, ◌*◌, ◌^◌, ◌≤◌, length, lit<, arith, subst, sym, ap, ◌∙◌}
 use Rattle.periodic_net.specs.Graph.{Arc, arc, IsArc}
 use Rattle.quotient_graph.specs.Stars.{IsArcFrom}
 use Rattle.walk_lattice.specs.Search.{found_with}
 use Rattle.walk_lattice.proofs.Expanding.{grows_none, within_more}
 use Rattle.walk_lattice.proofs.Growing.{turn, leads_more, leads_all}
 use Rattle.walk_lattice.proofs.search.expand.Goals as goal
-use Rattle.periodic_net.specs.Limits.{most_walk, most_shift}
+use Rattle.periodic_net.specs.Limits.{most_shift}
 
-pub further-requires : goal.further-requires
-further-requires g c =
+pub plus-requires : goal.plus-requires
+plus-requires g c =
     let few = c.requires.few in
     let here = subst (IsArcFrom c.args.g.now c.args.u) (sym c.arc-item.is ∙ sym c.arc.view_is) (c.arcs-arc-items.ensures.each c.loop-arc.arc-index c.arc-item.result c.loop-arc-test.true) in
-    (lit< tt, (within_more (most_shift * (length c.args.order.now.items - 1)) most_walk c.args.walk.now (omega arith) c.requires.near, here.shift))
+    (lit< tt, (within_more (most_shift * (length c.args.order.now.items - 1)) (2 ^ 29) c.args.walk.now (omega arith) c.requires.near, within_more most_shift (2 ^ 29) c.arc.inside.shift (omega arith) here.shift))
 
 pub find-requires : goal.find-requires
 find-requires g c =
@@ -29,7 +29,7 @@ loop-arc-preserved g c =
     let is_arc = subst (λ u. IsArc G (arc u c.arc.inside.to c.arc.inside.shift)) here.from here.is_arc in
     let t = turn G c.args.start c.args.found.now c.args.order.now.items c.args.u c.arc.inside.to c.args.walk.now c.arc.inside.shift c.requires.some c.requires.vertex c.requires.known c.requires.near is_arc here.to here.shift
     c.loop-arc.found c.loop-arc.order.items c.find.new.found c.find.new.order.items c.loop-arc.invariant.grows
-    (c.in_ok-find.ensures.found ∙ ap (found_with c.loop-arc.found c.arc.inside.to) c.further.ensures) c.in_ok-find.ensures.order c.in_ok-find.ensures.together in
+    (c.in_ok-find.ensures.found ∙ ap (found_with c.loop-arc.found c.arc.inside.to) c.plus.ensures) c.in_ok-find.ensures.order c.in_ok-find.ensures.together in
     record {
       grows = t.grows;
       leads = leads_more row c.loop-arc.found c.find.new.found c.loop-arc.arc-index c.arc-item.result c.arc.inside.to (sym c.arc-item.is) (ap (λ (a : Arc). a.to) c.arc.view_is) c.loop-arc-test.true t.still c.loop-arc.invariant.leads t.leads;
