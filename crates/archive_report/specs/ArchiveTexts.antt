@@ -1,17 +1,13 @@
 -- The texts of what is told of archives.
 use Rattle.std.specs.Prelude.{◌≢◌, ℕ, ◌-◌, ℤ, pos, List, [], ◌∷◌, ◌++◌, length, map, Option, None, Some, slice_get, codes}
-use Rattle.std.specs.Fmt.{decimal}
 use Rattle.least_key.specs.declared.refusal.Refusal.TheVariants as refusal
 use Rattle.net_entries.specs.Entries.{EntryView}
 use Rattle.net_archive.specs.declared.faults.ArchiveFault.{ArchiveFault}
 use Rattle.net_archive.specs.declared.faults.ArchiveFault.TheVariants.{BadLine, RepeatedName, EntryRefused, KeyDiffers, TooManyEntries, Version, CountDiffers, ShellsDiffer, NoMemory}
 use Rattle.net_archive.specs.declared.faults.AddFault.{AddFault}
 use Rattle.net_archive.specs.declared.faults.AddFault.TheVariants as add
-use Rattle.net_report.specs.Numbers.{list_text}
+use Rattle.net_report.specs.Numbers.{field_text, list_text}
 use Rattle.net_report.specs.Refusals.{refused_text}
-
-unfoldable pub archive_refused_word : List ℕ
-archive_refused_word = codes "archive refused "
 
 -- the number and the name of a fault
 abbrev pub fault_name : ArchiveFault → List ℕ
@@ -25,31 +21,17 @@ fault_name (CountDiffers n kept computed) = codes "8 CountDiffers"
 fault_name (ShellsDiffer n class kept computed) = codes "9 ShellsDiffer"
 fault_name NoMemory = []
 
-unfoldable pub line_word : List ℕ
-line_word = codes " line="
-
-unfoldable pub kept_word : List ℕ
-kept_word = codes " kept="
-
-unfoldable pub computed_word : List ℕ
-computed_word = codes " computed="
-
-unfoldable pub class_word : List ℕ
-class_word = codes " class="
-
-unfoldable pub kept_list_word : List ℕ
-kept_list_word = codes "kept "
-
-unfoldable pub computed_list_word : List ℕ
-computed_list_word = codes "computed "
-
--- a number after its label
-abbrev pub labelled : List ℕ → ℕ → List ℕ
-labelled label n = label ++ decimal n
-
 -- the number of a line, which ends the line that tells it
 abbrev pub at_line : ℕ → List ℕ
-at_line n = labelled line_word n ++ codes "\n"
+at_line n = field_text (codes " line=") n ++ codes "\n"
+
+-- the number of a line and that of a class, which end the line that tells them
+abbrev pub at_class : ℕ → ℕ → List ℕ
+at_class n class = field_text (codes " line=") n ++ field_text (codes " class=") class ++ codes "\n"
+
+-- a line, and two numbers of classes
+abbrev pub counts_text : ℕ → ℕ → ℕ → List ℕ
+counts_text n kept computed = field_text (codes " line=") n ++ field_text (codes " kept=") kept ++ field_text (codes " computed=") computed ++ codes "\n"
 
 -- a list of numbers, on a line of its own
 abbrev pub list_line : List ℕ → List ℤ → List ℕ
@@ -57,7 +39,7 @@ list_line word numbers = word ++ list_text numbers ++ codes "\n"
 
 -- a list that is kept, and the one that is computed
 abbrev pub lists_text : List ℤ → List ℤ → List ℕ
-lists_text kept computed = list_line kept_list_word kept ++ list_line computed_list_word computed
+lists_text kept computed = list_line (codes "kept ") kept ++ list_line (codes "computed ") computed
 
 -- what is told after the name of a fault
 abbrev pub fault_details : ArchiveFault → List ℕ
@@ -67,16 +49,13 @@ fault_details (EntryRefused n refusal) = at_line n ++ refused_text [] refusal
 fault_details (KeyDiffers n kept computed) = at_line n ++ lists_text kept computed
 fault_details TooManyEntries = codes "\n"
 fault_details (Version n) = at_line n
-fault_details (CountDiffers n kept computed) = labelled line_word n ++ labelled kept_word kept ++ labelled computed_word computed ++ codes "\n"
-fault_details (ShellsDiffer n class kept computed) = labelled line_word n ++ labelled class_word class ++ codes "\n" ++ lists_text (map pos kept.items) (map pos computed.items)
+fault_details (CountDiffers n kept computed) = counts_text n kept computed
+fault_details (ShellsDiffer n class kept computed) = at_class n class ++ lists_text (map pos kept.items) (map pos computed.items)
 fault_details NoMemory = codes "\n"
 
 -- why a text is no archive; vertices are told by their numbers
 abbrev pub archive_fault_text : ArchiveFault → List ℕ
-archive_fault_text fault = archive_refused_word ++ fault_name fault ++ fault_details fault
-
-unfoldable pub add_refused_word : List ℕ
-add_refused_word = codes "add refused "
+archive_fault_text fault = codes "archive refused " ++ fault_name fault ++ fault_details fault
 
 -- the number and the name of a fault of adding
 abbrev pub add_fault_name : AddFault → List ℕ
@@ -87,17 +66,11 @@ add_fault_name add.NoMemory = []
 
 -- why the net of the block with this number is not added
 abbrev pub add_fault_text : ℕ → AddFault → List ℕ
-add_fault_text block fault = add_refused_word ++ decimal block ++ codes " " ++ add_fault_name fault ++ codes "\n"
-
-unfoldable pub migrate_refused_word : List ℕ
-migrate_refused_word = codes "migrate refused 1 Full length="
+add_fault_text block fault = field_text (codes "add refused ") block ++ codes " " ++ add_fault_name fault ++ codes "\n"
 
 -- the text in the newest format would be so long
 abbrev pub migrate_fault_text : ℕ → List ℕ
-migrate_fault_text n = labelled migrate_refused_word n ++ codes "\n"
-
-unfoldable pub entries_word : List ℕ
-entries_word = codes "entries "
+migrate_fault_text n = field_text (codes "migrate refused 1 Full length=") n ++ codes "\n"
 
 -- a name in quotes, after a blank
 abbrev pub quoted_name : List ℕ → List ℕ
@@ -128,7 +101,7 @@ group_lines entries (group ∷ groups) = group_text entries group ++ group_lines
 
 -- how many entries there are, and the groups
 abbrev pub groups_text : List EntryView → List (List ℕ) → List ℕ
-groups_text entries groups = entries_word ++ decimal (length entries) ++ codes "\n" ++ group_lines entries groups
+groups_text entries groups = field_text (codes "entries ") (length entries) ++ codes "\n" ++ group_lines entries groups
 
 -- a refusal that is told is not want of memory
 abbrev pub IsPrintableFault : ArchiveFault → Type 0

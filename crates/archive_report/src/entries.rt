@@ -2,33 +2,12 @@
 ghost use Rattle.std.specs.Prelude.{◌≡◌, ◌++◌, IfOk, OnOk, length};
 ghost use Rattle.coordination.specs.Sequences.{numbers_in};
 ghost use Rattle.net_entries.specs.Entries.{entry_views};
-ghost use Rattle.archive_report.specs.ArchiveTexts.{add_fault_name, add_fault_text, add_refused_word, entries_word, group_lines, group_names, group_text, groups_text, migrate_fault_text, migrate_refused_word, name_at, quoted_name};
+ghost use Rattle.archive_report.specs.ArchiveTexts.{add_fault_name, add_fault_text, group_lines, group_names, group_text, groups_text, migrate_fault_text, name_at, quoted_name};
 
 use crate::NoMemory;
 use net_archive::{AddFault, Entry, Groups};
-use net_report::push_number;
+use net_report::push_field;
 use std::alloc::Global;
-
-#[tactic(auto, unfolding(crate::specs::ArchiveTexts::add_refused_word))]
-fn push_add_refused_word(text: &mut Vec<u8>) -> Result<(), NoMemory>
-    ensures { OnOk result (text.new.items ≡ text.old.items ++ add_refused_word) }
-{
-    text.extend_from_slice(b"add refused ")
-}
-
-#[tactic(auto, unfolding(crate::specs::ArchiveTexts::migrate_refused_word))]
-fn push_migrate_refused_word(text: &mut Vec<u8>) -> Result<(), NoMemory>
-    ensures { OnOk result (text.new.items ≡ text.old.items ++ migrate_refused_word) }
-{
-    text.extend_from_slice(b"migrate refused 1 Full length=")
-}
-
-#[tactic(auto, unfolding(crate::specs::ArchiveTexts::entries_word))]
-fn push_entries_word(text: &mut Vec<u8>) -> Result<(), NoMemory>
-    ensures { OnOk result (text.new.items ≡ text.old.items ++ entries_word) }
-{
-    text.extend_from_slice(b"entries ")
-}
 
 fn add_fault_name(fault: AddFault) -> &'static [u8]
     ensures { result.now ≡ add_fault_name fault }
@@ -46,8 +25,7 @@ pub fn add_fault_text(alloc: Global, block: u32, fault: AddFault) -> Result<Vec<
     ensures { IfOk result (λ text. text.items ≡ add_fault_text block fault) }
 {
     let mut text = Vec::new(alloc);
-    push_add_refused_word(&mut text)?;
-    push_number(&mut text, block as u64)?;
+    push_field(&mut text, b"add refused ", block as u64)?;
     text.extend_from_slice(b" ")?;
     text.extend_from_slice(add_fault_name(fault))?;
     text.extend_from_slice(b"\n")?;
@@ -59,8 +37,7 @@ pub fn migrate_fault_text(alloc: Global, length: u64) -> Result<Vec<u8>, NoMemor
     ensures { IfOk result (λ text. text.items ≡ migrate_fault_text length) }
 {
     let mut text = Vec::new(alloc);
-    push_migrate_refused_word(&mut text)?;
-    push_number(&mut text, length)?;
+    push_field(&mut text, b"migrate refused 1 Full length=", length)?;
     text.extend_from_slice(b"\n")?;
     Ok(text)
 }
@@ -121,8 +98,7 @@ pub fn groups_text(alloc: Global, entries: &[Entry], groups: &Groups) -> Result<
     ensures { IfOk result (λ text. text.items ≡ groups_text (entry_views entries.now) groups.now) }
 {
     let mut text = Vec::new(alloc);
-    push_entries_word(&mut text)?;
-    push_number(&mut text, entries.len() as u64)?;
+    push_field(&mut text, b"entries ", entries.len() as u64)?;
     text.extend_from_slice(b"\n")?;
     push_groups(&mut text, entries, groups.as_slice())?;
     Ok(text)

@@ -1,86 +1,28 @@
 // Why a text is no archive.
-ghost use Rattle.std.specs.Prelude.{◌≡◌, ◌≢◌, ◌++◌, [], pos, map, codes, IfOk, OnOk};
-ghost use Rattle.archive_report.specs.ArchiveTexts.{archive_refused_word, line_word, kept_word, computed_word, class_word, kept_list_word, computed_list_word, archive_fault_text, at_line, fault_details, fault_name, labelled, list_line, lists_text, IsPrintableFault};
+ghost use Rattle.std.specs.Prelude.{◌≡◌, ◌≢◌, ◌++◌, [], pos, map, IfOk, OnOk};
+ghost use Rattle.archive_report.specs.ArchiveTexts.{archive_fault_text, at_class, at_line, counts_text, fault_details, fault_name, list_line, lists_text, IsPrintableFault};
 ghost use Rattle.net_report.specs.Refusals.{refused_text};
 
 use crate::NoMemory;
 use cgd_read::Names;
 use least_key::Refusal;
 use net_archive::ArchiveFault;
-use net_report::{push_number, push_wide_list, refused_line};
+use net_report::{push_field, push_wide_list, refused_line};
 use std::alloc::Global;
-
-#[tactic(auto, unfolding(crate::specs::ArchiveTexts::archive_refused_word))]
-fn push_archive_refused_word(text: &mut Vec<u8>) -> Result<(), NoMemory>
-    ensures { OnOk result (text.new.items ≡ text.old.items ++ archive_refused_word) }
-{
-    text.extend_from_slice(b"archive refused ")
-}
-
-#[tactic(auto, unfolding(crate::specs::ArchiveTexts::line_word))]
-fn push_line_word(text: &mut Vec<u8>) -> Result<(), NoMemory>
-    ensures { OnOk result (text.new.items ≡ text.old.items ++ line_word) }
-{
-    text.extend_from_slice(b" line=")
-}
-
-#[tactic(auto, unfolding(crate::specs::ArchiveTexts::kept_word))]
-fn push_kept_word(text: &mut Vec<u8>) -> Result<(), NoMemory>
-    ensures { OnOk result (text.new.items ≡ text.old.items ++ kept_word) }
-{
-    text.extend_from_slice(b" kept=")
-}
-
-#[tactic(auto, unfolding(crate::specs::ArchiveTexts::computed_word))]
-fn push_computed_word(text: &mut Vec<u8>) -> Result<(), NoMemory>
-    ensures { OnOk result (text.new.items ≡ text.old.items ++ computed_word) }
-{
-    text.extend_from_slice(b" computed=")
-}
-
-#[tactic(auto, unfolding(crate::specs::ArchiveTexts::class_word))]
-fn push_class_word(text: &mut Vec<u8>) -> Result<(), NoMemory>
-    ensures { OnOk result (text.new.items ≡ text.old.items ++ class_word) }
-{
-    text.extend_from_slice(b" class=")
-}
-
-#[tactic(auto, unfolding(crate::specs::ArchiveTexts::kept_list_word))]
-fn push_kept_list_word(text: &mut Vec<u8>) -> Result<(), NoMemory>
-    ensures { OnOk result (text.new.items ≡ text.old.items ++ kept_list_word) }
-{
-    text.extend_from_slice(b"kept ")
-}
-
-#[tactic(auto, unfolding(crate::specs::ArchiveTexts::computed_list_word))]
-fn push_computed_list_word(text: &mut Vec<u8>) -> Result<(), NoMemory>
-    ensures { OnOk result (text.new.items ≡ text.old.items ++ computed_list_word) }
-{
-    text.extend_from_slice(b"computed ")
-}
 
 // The number of a line, and the end of the line that tells it.
 fn push_line(text: &mut Vec<u8>, line: u32) -> Result<(), NoMemory>
     ensures { OnOk result (text.new.items ≡ text.old.items ++ at_line line) }
 {
-    push_line_word(text)?;
-    push_number(text, line as u64)?;
+    push_field(text, b" line=", line as u64)?;
     text.extend_from_slice(b"\n")
 }
 
-fn push_kept_list(text: &mut Vec<u8>, numbers: &[i128]) -> Result<(), NoMemory>
-    ensures { OnOk result (text.new.items ≡ text.old.items ++ list_line kept_list_word numbers.now) }
+// A list of numbers after its word, on a line of its own.
+fn push_list_line(text: &mut Vec<u8>, word: &[u8], numbers: &[i128]) -> Result<(), NoMemory>
+    ensures { OnOk result (text.new.items ≡ text.old.items ++ list_line word.now numbers.now) }
 {
-    push_kept_list_word(text)?;
-    push_wide_list(text, numbers)?;
-    text.extend_from_slice(b"\n")
-}
-
-fn push_computed_list(text: &mut Vec<u8>, numbers: &[i128]) -> Result<(), NoMemory>
-    ensures { OnOk result (text.new.items ≡
-        text.old.items ++ list_line computed_list_word numbers.now) }
-{
-    push_computed_list_word(text)?;
+    text.extend_from_slice(word)?;
     push_wide_list(text, numbers)?;
     text.extend_from_slice(b"\n")
 }
@@ -88,8 +30,8 @@ fn push_computed_list(text: &mut Vec<u8>, numbers: &[i128]) -> Result<(), NoMemo
 fn push_lists(text: &mut Vec<u8>, kept: &[i128], computed: &[i128]) -> Result<(), NoMemory>
     ensures { OnOk result (text.new.items ≡ text.old.items ++ lists_text kept.now computed.now) }
 {
-    push_kept_list(text, kept)?;
-    push_computed_list(text, computed)
+    push_list_line(text, b"kept ", kept)?;
+    push_list_line(text, b"computed ", computed)
 }
 
 // The sizes of shells as wide numbers.
@@ -142,26 +84,19 @@ fn fault_name(fault: &ArchiveFault) -> &'static [u8]
 
 // What stands after the name of a fault whose numbers are counts.
 fn push_counts(text: &mut Vec<u8>, line: u32, kept: u32, computed: u32) -> Result<(), NoMemory>
-    ensures { OnOk result (text.new.items ≡ text.old.items ++ labelled line_word line ++
-        labelled kept_word kept ++ labelled computed_word computed ++ codes "\n") }
+    ensures { OnOk result (text.new.items ≡ text.old.items ++ counts_text line kept computed) }
 {
-    push_line_word(text)?;
-    push_number(text, line as u64)?;
-    push_kept_word(text)?;
-    push_number(text, kept as u64)?;
-    push_computed_word(text)?;
-    push_number(text, computed as u64)?;
+    push_field(text, b" line=", line as u64)?;
+    push_field(text, b" kept=", kept as u64)?;
+    push_field(text, b" computed=", computed as u64)?;
     text.extend_from_slice(b"\n")
 }
 
 fn push_class(text: &mut Vec<u8>, line: u32, class: u32) -> Result<(), NoMemory>
-    ensures { OnOk result (text.new.items ≡ text.old.items ++ labelled line_word line ++
-        labelled class_word class ++ codes "\n") }
+    ensures { OnOk result (text.new.items ≡ text.old.items ++ at_class line class) }
 {
-    push_line_word(text)?;
-    push_number(text, line as u64)?;
-    push_class_word(text)?;
-    push_number(text, class as u64)?;
+    push_field(text, b" line=", line as u64)?;
+    push_field(text, b" class=", class as u64)?;
     text.extend_from_slice(b"\n")
 }
 
@@ -209,7 +144,7 @@ pub fn archive_fault_text(alloc: Global, fault: &ArchiveFault) -> Result<Vec<u8>
     ensures { IfOk result (λ text. text.items ≡ archive_fault_text fault.now) }
 {
     let mut text = Vec::new(alloc);
-    push_archive_refused_word(&mut text)?;
+    text.extend_from_slice(b"archive refused ")?;
     text.extend_from_slice(fault_name(fault))?;
     push_details(alloc, &mut text, fault)?;
     Ok(text)

@@ -1,8 +1,8 @@
 -- What is told of many nets: how many are accepted, and how many different keys they have.
 use Rattle.std.specs.Prelude.{◌≡◌, ◌≢◌, ◌↔◌, ℕ, ℤ, Bool, true, false, List, [], ◌++◌, length, filter, Some, codes, AllPairs, Contains}
-use Rattle.std.specs.Fmt.{decimal}
 use Rattle.std.specs.List.{list_all}
 use Rattle.cgd_read.specs.Views.{BlockView}
+use Rattle.net_report.specs.Numbers.{field_text}
 use Rattle.net_report.specs.declared.outcome.Outcome.{Outcome}
 use Rattle.command_words.specs.declared.tasks.Command.TheVariants.{Key}
 use Rattle.net_outcomes.specs.Deciding.{AreOutcomes, key_told}
@@ -10,19 +10,14 @@ use Rattle.net_answers.specs.declared.status.Status.{Status}
 use Rattle.net_answers.specs.declared.status.Status.TheVariants as status
 use Rattle.net_outcomes.specs.Outcomes.{is_accepted}
 
-unfoldable pub workload_word : List ℕ
-workload_word = codes "workload "
-
-unfoldable pub accepted_word : List ℕ
-accepted_word = codes "accepted "
-
-unfoldable pub keys_word : List ℕ
-keys_word = codes "keys "
+-- a count after its word, on a line of its own
+abbrev pub count_text : List ℕ → ℕ → List ℕ
+count_text word n = field_text word n ++ codes "\n"
 
 -- so many nets were made, so many of them are accepted, with so many different keys
 abbrev pub summary_text : ℕ → ℕ → ℕ → List ℕ
 summary_text made accepted keys =
-    workload_word ++ decimal made ++ codes "\n" ++ accepted_word ++ decimal accepted ++ codes "\n" ++ keys_word ++ decimal keys ++ codes "\n"
+    count_text (codes "workload ") made ++ count_text (codes "accepted ") accepted ++ count_text (codes "keys ") keys
 
 -- these are the different keys that are told
 pub record AreDifferentKeys (outcomes : List Outcome) (keys : List (List ℤ)) : Type 0 where

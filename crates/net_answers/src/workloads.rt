@@ -5,7 +5,7 @@ ghost use Rattle.cgd_read.specs.Views.{views};
 ghost use Rattle.net_outcomes.specs.Deciding.{key_told};
 ghost use Rattle.net_outcomes.specs.Outcomes.{is_accepted};
 ghost use Rattle.net_answers.specs.KeyLists.{IsPutIn, lists_in};
-ghost use Rattle.net_answers.specs.Summaries.{AreSoManyKeys, IsSummaryAs, accepted_word, keys_word, summary_text, workload_word};
+ghost use Rattle.net_answers.specs.Summaries.{AreSoManyKeys, IsSummaryAs, count_text, summary_text};
 
 use crate::answer::Answer;
 use crate::status::ending_of;
@@ -14,43 +14,24 @@ use command_words::Command;
 use indexmap::IndexSet;
 use net_archive::Archive;
 use net_outcomes::{are_accepted, is_accepted, outcomes_of};
-use net_report::{NoMemory, Outcome, OutcomeBody, Outcomes, push_number};
+use net_report::{NoMemory, Outcome, OutcomeBody, push_field};
 use std::alloc::Global;
 
-#[tactic(auto, unfolding(crate::specs::Summaries::workload_word))]
-fn push_workload_word(text: &mut Vec<u8>) -> Result<(), NoMemory>
-    ensures { OnOk result (text.new.items ≡ text.old.items ++ workload_word) }
+// A count after its word, on a line of its own.
+fn push_count(text: &mut Vec<u8>, word: &[u8], n: u64) -> Result<(), NoMemory>
+    ensures { OnOk result (text.new.items ≡ text.old.items ++ count_text word.now n) }
 {
-    text.extend_from_slice(b"workload ")
-}
-
-#[tactic(auto, unfolding(crate::specs::Summaries::accepted_word))]
-fn push_accepted_word(text: &mut Vec<u8>) -> Result<(), NoMemory>
-    ensures { OnOk result (text.new.items ≡ text.old.items ++ accepted_word) }
-{
-    text.extend_from_slice(b"accepted ")
-}
-
-#[tactic(auto, unfolding(crate::specs::Summaries::keys_word))]
-fn push_keys_word(text: &mut Vec<u8>) -> Result<(), NoMemory>
-    ensures { OnOk result (text.new.items ≡ text.old.items ++ keys_word) }
-{
-    text.extend_from_slice(b"keys ")
+    push_field(text, word, n)?;
+    text.extend_from_slice(b"\n")
 }
 
 fn summary_text(alloc: Global, made: u64, accepted: u64, keys: u64) -> Result<Vec<u8>, NoMemory>
     ensures { IfOk result (λ text. text.items ≡ summary_text made accepted keys) }
 {
     let mut text = Vec::new(alloc);
-    push_workload_word(&mut text)?;
-    push_number(&mut text, made)?;
-    text.extend_from_slice(b"\n")?;
-    push_accepted_word(&mut text)?;
-    push_number(&mut text, accepted)?;
-    text.extend_from_slice(b"\n")?;
-    push_keys_word(&mut text)?;
-    push_number(&mut text, keys)?;
-    text.extend_from_slice(b"\n")?;
+    push_count(&mut text, b"workload ", made)?;
+    push_count(&mut text, b"accepted ", accepted)?;
+    push_count(&mut text, b"keys ", keys)?;
     Ok(text)
 }
 

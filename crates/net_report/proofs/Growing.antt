@@ -1,5 +1,6 @@
 -- Texts that grow by a line.
-use Rattle.std.proofs.Common.{◌≡◌, ℕ, ◌+◌, ◌<◌, List, [], ◌∷◌, ◌++◌, length, take, get_or, sym, ap, ◌∙◌, add-one, append_assoc}
+use Rattle.std.proofs.Common.{◌≡◌, ℕ, ◌+◌, ◌<◌, List, [], ◌∷◌, ◌++◌, length, take, get_or, Result, Ok, Err, sym, ap, ◌∙◌, add-one, append_assoc}
+use Rattle.std.specs.Prelude.{OnOk}
 use Rattle.std.proofs.lemmas.Grind.{common_steps}
 use Rattle.std.proofs.Common.{arith}
 use Rattle.std.proofs.Math.Seq.{take-suc}
@@ -7,6 +8,17 @@ use Rattle.quotient_graph.specs.PlacedNets.{PlacedNet}
 use Rattle.net_report.specs.Placements.{position_text, positions_text}
 use Rattle.net_report.specs.Reports.{outcome_text, report_text}
 use Rattle.net_report.specs.declared.outcome.Outcome.{Outcome}
+
+-- a text to which two parts were put last
+pub two_parts : {A E : Type 0} (r : Result A E) (text one last first second : List ℕ) → one ≡ text ++ first → OnOk r (last ≡ one ++ second) → OnOk r (last ≡ text ++ (first ++ second))
+two_parts (Ok x) text one last first second e f = f ∙ ap (λ (t : List ℕ). t ++ second) e ∙ append_assoc text first second
+two_parts (Err x) text one last first second e f = f
+
+-- and three
+pub three_parts : {A E : Type 0} (r : Result A E) (text one two last first second third : List ℕ) → one ≡ text ++ first → two ≡ one ++ second → OnOk r (last ≡ two ++ third)
+    → OnOk r (last ≡ text ++ (first ++ second ++ third))
+three_parts r text one two last first second third e f g =
+    two_parts r text two last (first ++ second) third (f ∙ ap (λ (t : List ℕ). t ++ second) e ∙ append_assoc text first second) g
 
 -- the line of the next vertex, after the lines up to this one
 pub positions_more : (names : List (List ℕ)) (p : PlacedNet) (n : ℕ) (text before after : List ℕ) → before ≡ text ++ positions_text names p n

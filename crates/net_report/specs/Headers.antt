@@ -5,6 +5,7 @@ use Rattle.cgd_read.specs.Faults.{number_of_kind}
 use Rattle.cgd_read.specs.declared.block.BlockFault.{BlockFault}
 use Rattle.cgd_read.specs.declared.block.BlockFaultKind.{BlockFaultKind}
 use Rattle.net_report.specs.KindNames.{kind_name}
+use Rattle.net_report.specs.Numbers.{field_text}
 use Rattle.net_report.specs.declared.outcome.Size.{Size}
 
 -- a name in quotes, after a blank
@@ -14,11 +15,11 @@ name_text (Some name) = codes " \"" ++ name ++ codes "\""
 
 -- the number of a block, the line that opens it, and its name
 abbrev pub header_text : ℕ → ℕ → Option (List ℕ) → List ℕ
-header_text number line name = codes "net " ++ decimal number ++ codes " line " ++ decimal line ++ name_text name ++ codes "\n"
+header_text number line name = field_text (codes "net ") number ++ field_text (codes " line ") line ++ name_text name ++ codes "\n"
 
 -- the sizes of a graph
 abbrev pub size_text : Size → List ℕ
-size_text s = codes "graph d=" ++ decimal s.dim ++ codes " vertices=" ++ decimal s.vertices ++ codes " edges=" ++ decimal s.edges ++ codes " repeats=" ++ decimal s.repeats ++ codes "\n"
+size_text s = field_text (codes "graph d=") s.dim ++ field_text (codes " vertices=") s.vertices ++ field_text (codes " edges=") s.edges ++ field_text (codes " repeats=") s.repeats ++ codes "\n"
 
 unfoldable pub unsupported_word : List ℕ
 unsupported_word = codes "unsupported "
@@ -33,4 +34,4 @@ kind_text kind = decimal (number_of_kind kind) ++ codes " " ++ kind_name kind
 
 -- the line of a fault, and its kind
 abbrev pub fault_text : BlockFault → List ℕ
-fault_text fault = codes "malformed line=" ++ decimal fault.line ++ codes " " ++ kind_text fault.kind ++ codes "\n"
+fault_text fault = field_text (codes "malformed line=") fault.line ++ codes " " ++ kind_text fault.kind ++ codes "\n"

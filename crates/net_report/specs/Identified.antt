@@ -1,8 +1,8 @@
 -- The lines of a net that is identified.
 use Rattle.std.specs.Prelude.{ℕ, ◌+◌, List, [], ◌∷◌, ◌++◌, length, codes}
-use Rattle.std.specs.Fmt.{decimal}
 use Rattle.least_key.specs.KeyedNets.{KeyedNet}
 use Rattle.net_report.specs.Keys.{key_text}
+use Rattle.net_report.specs.Numbers.{field_text}
 use Rattle.net_report.specs.Placements.{placement_text}
 use Rattle.net_report.specs.Primitives.{primitive_text}
 use Rattle.net_report.specs.Sequences.{shells_text}
@@ -12,15 +12,9 @@ abbrev pub sequences_text : ℕ → List (List ℕ) → List ℕ
 sequences_text class [] = []
 sequences_text class (sizes ∷ lists) = shells_text class sizes ++ sequences_text (class + 1) lists
 
-unfoldable pub names_word : List ℕ
-names_word = codes "names "
-
-unfoldable pub name_word : List ℕ
-name_word = codes "name \""
-
 -- a name of an archive
 abbrev pub archive_name_text : List ℕ → List ℕ
-archive_name_text name = name_word ++ name ++ codes "\"\n"
+archive_name_text name = codes "name \"" ++ name ++ codes "\"\n"
 
 -- names, in their order
 abbrev pub archive_names_text : List (List ℕ) → List ℕ
@@ -29,7 +23,7 @@ archive_names_text (name ∷ names) = archive_name_text name ++ archive_names_te
 
 -- how many names of an archive are told, and the names
 abbrev pub found_names_text : List (List ℕ) → List ℕ
-found_names_text names = names_word ++ decimal (length names) ++ codes "\n" ++ archive_names_text names
+found_names_text names = field_text (codes "names ") (length names) ++ codes "\n" ++ archive_names_text names
 
 -- the placement, with the vertices by these names, the primitive graph and the key of a net
 abbrev pub net_text : List (List ℕ) → KeyedNet → List ℕ

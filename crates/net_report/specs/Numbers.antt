@@ -1,16 +1,16 @@
 -- How numbers and vertices are printed.
-use Rattle.std.specs.Prelude.{ℕ, ◌-◌, ◌<◌, ◌≤◌, ◌==◌, ℤ, List, [], ◌∷◌, ◌++◌, length, slice_index_or, if◌then◌else◌, codes}
+use Rattle.std.specs.Prelude.{ℕ, ◌-◌, ◌<◌, ◌≤◌, ◌==◌, ℤ, List, [], ◌∷◌, ◌++◌, length, slice_index_or, if◌then◌else◌}
 use Rattle.std.specs.Fmt.{decimal, signed_decimal}
+use Rattle.line_text.specs.Numbers.{numbers_text}
 
--- each number after a blank
-abbrev pub numbers_after : List ℤ → List ℕ
-numbers_after [] = []
-numbers_after (x ∷ xs) = codes " " ++ signed_decimal x ++ numbers_after xs
+-- a number after its label
+abbrev pub field_text : List ℕ → ℕ → List ℕ
+field_text label n = label ++ decimal n
 
 -- numbers with blanks between them
 abbrev pub list_text : List ℤ → List ℕ
 list_text [] = []
-list_text (x ∷ xs) = signed_decimal x ++ numbers_after xs
+list_text (x ∷ xs) = signed_decimal x ++ numbers_text xs
 
 -- where there are names, vertex u has one
 abbrev pub IsNamed : List (List ℕ) → ℕ → Type 0

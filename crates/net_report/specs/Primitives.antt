@@ -1,27 +1,17 @@
 -- The lines of a primitive graph.
 use Rattle.std.specs.Prelude.{ℕ, List, [], ◌∷◌, ◌++◌, length, codes}
-use Rattle.std.specs.Fmt.{decimal}
 use Rattle.integers.specs.Vectors.{Vector, parts}
 use Rattle.periodic_net.specs.Graph.{Arc}
 use Rattle.primitive_cell.specs.DividedNets.{DividedNet}
-use Rattle.net_report.specs.Numbers.{list_text}
-
-unfoldable pub vertices_word : List ℕ
-vertices_word = codes "primitive vertices="
-
-unfoldable pub basis_word : List ℕ
-basis_word = codes "basis "
-
-unfoldable pub edge_word : List ℕ
-edge_word = codes "edge "
+use Rattle.net_report.specs.Numbers.{field_text, list_text}
 
 -- the numbers of vertices and of edges
 abbrev pub sizes_text : ℕ → ℕ → List ℕ
-sizes_text vertices edges = vertices_word ++ decimal vertices ++ codes " edges=" ++ decimal edges ++ codes "\n"
+sizes_text vertices edges = field_text (codes "primitive vertices=") vertices ++ field_text (codes " edges=") edges ++ codes "\n"
 
 -- a vector of the basis, in units of 1/D0
 abbrev pub basis_text : ℕ → Vector → List ℕ
-basis_text d v = basis_word ++ list_text (parts d v) ++ codes "\n"
+basis_text d v = codes "basis " ++ list_text (parts d v) ++ codes "\n"
 
 -- the vectors of the basis, in their order
 abbrev pub bases_text : ℕ → List Vector → List ℕ
@@ -30,7 +20,7 @@ bases_text d (v ∷ vs) = basis_text d v ++ bases_text d vs
 
 -- an edge: its ends, and its shift in the basis
 abbrev pub edge_text : ℕ → Arc → List ℕ
-edge_text d e = edge_word ++ decimal e.from ++ codes " " ++ decimal e.to ++ codes " " ++ list_text (parts d e.shift) ++ codes "\n"
+edge_text d e = field_text (codes "edge ") e.from ++ field_text (codes " ") e.to ++ codes " " ++ list_text (parts d e.shift) ++ codes "\n"
 
 -- the edges, in their order
 abbrev pub edges_text : ℕ → List Arc → List ℕ

@@ -1,6 +1,6 @@
 -- The line of a refusal, with its vertices by their names.
 use Rattle.std.specs.Prelude.{ℕ, ℤ, List, [], ◌++◌, codes}
-use Rattle.std.specs.Fmt.{decimal, signed_decimal}
+use Rattle.std.specs.Fmt.{signed_decimal}
 use Rattle.integers.specs.Vectors.{Vector, parts}
 use Rattle.quotient_graph.specs.declared.split.Split.{Split}
 use Rattle.elimination.specs.declared.place.Place.{Place}
@@ -8,33 +8,11 @@ use Rattle.barycentre.specs.declared.faults.WideSite.{WideSite}
 use Rattle.barycentre.specs.declared.faults.WideSite.TheVariants.{Denominator, ArcPart, Beyond}
 use Rattle.least_key.specs.declared.refusal.Refusal.{Refusal}
 use Rattle.least_key.specs.declared.refusal.Refusal.TheVariants.{Disconnected, Degenerate, NoModulus, WidePlacement, Collision, TooMuch, NoMemory}
-use Rattle.net_report.specs.Numbers.{list_text, IsNamed, vertex_text}
-
-unfoldable pub disconnected_word : List ℕ
-disconnected_word = codes "refused 1 Disconnected"
-
-unfoldable pub degenerate_word : List ℕ
-degenerate_word = codes "refused 2 Degenerate"
-
-unfoldable pub no_modulus_word : List ℕ
-no_modulus_word = codes "refused 7 NoModulus"
-
-unfoldable pub wide_placement_word : List ℕ
-wide_placement_word = codes "refused 4 WidePlacement"
-
-unfoldable pub collision_word : List ℕ
-collision_word = codes "refused 5 Collision"
-
-unfoldable pub too_much_word : List ℕ
-too_much_word = codes "refused 6 TooMuch"
+use Rattle.net_report.specs.Numbers.{field_text, list_text, IsNamed, vertex_text}
 
 -- a colouring: its modulus, its vector, and an entry for each vertex
 abbrev pub split_text : Split → List ℕ
-split_text s = codes " q=" ++ decimal s.q ++ codes " c=" ++ list_text (parts s.dim s.c) ++ codes " h=" ++ list_text s.h
-
--- a number after its label
-abbrev pub field_text : List ℕ → ℕ → List ℕ
-field_text label n = label ++ decimal n
+split_text s = field_text (codes " q=") s.q ++ codes " c=" ++ list_text (parts s.dim s.c) ++ codes " h=" ++ list_text s.h
 
 -- the place of a listed number
 abbrev pub place_text : Place → List ℕ
@@ -48,8 +26,8 @@ pivots_text first second third =
 
 -- where a number of a placement in this dimension stands
 abbrev pub site_text : List (List ℕ) → ℕ → WideSite → List ℕ
-site_text names dim (Denominator u c) = codes " denominator u=" ++ vertex_text names u ++ codes " c=" ++ decimal c
-site_text names dim (ArcPart u v s c) = codes " arc u=" ++ vertex_text names u ++ codes " v=" ++ vertex_text names v ++ codes " s=" ++ list_text (parts dim s) ++ codes " c=" ++ decimal c
+site_text names dim (Denominator u c) = codes " denominator u=" ++ vertex_text names u ++ field_text (codes " c=") c
+site_text names dim (ArcPart u v s c) = codes " arc u=" ++ vertex_text names u ++ codes " v=" ++ vertex_text names v ++ codes " s=" ++ list_text (parts dim s) ++ field_text (codes " c=") c
 site_text names dim (Beyond at) = codes " beyond" ++ place_text at
 
 -- a number past its limit, where it is told
@@ -64,21 +42,31 @@ collision_text names dim u v t = codes " u=" ++ vertex_text names u ++ codes " v
 
 -- the starts that were counted whole, and the count
 abbrev pub work_text : ℕ → ℕ → List ℕ
-work_text done counted = field_text (codes " starts=") done ++ codes " counted=" ++ decimal counted
+work_text done counted = field_text (codes " starts=") done ++ field_text (codes " counted=") counted
 
--- a refusal; want of memory has no text
-abbrev pub refusal_text : List (List ℕ) → Refusal → List ℕ
-refusal_text names (Disconnected split) = disconnected_word ++ split_text split
-refusal_text names (Degenerate split) = degenerate_word ++ split_text split
-refusal_text names (NoModulus first second third) = no_modulus_word ++ pivots_text first second third
-refusal_text names (WidePlacement w) = wide_placement_word ++ site_text names w.dim w.site ++ value_text w.site w.value
-refusal_text names (Collision dim u v t) = collision_word ++ collision_text names dim u v t
-refusal_text names (TooMuch done counted) = too_much_word ++ work_text done counted
-refusal_text names NoMemory = []
+-- the number and the name of a refusal; want of memory has none
+abbrev pub refusal_name : Refusal → List ℕ
+refusal_name (Disconnected split) = codes "1 Disconnected"
+refusal_name (Degenerate split) = codes "2 Degenerate"
+refusal_name (WidePlacement w) = codes "4 WidePlacement"
+refusal_name (Collision dim u v t) = codes "5 Collision"
+refusal_name (TooMuch done counted) = codes "6 TooMuch"
+refusal_name (NoModulus first second third) = codes "7 NoModulus"
+refusal_name NoMemory = []
+
+-- what is told after the name of a refusal
+abbrev pub refusal_details : List (List ℕ) → Refusal → List ℕ
+refusal_details names (Disconnected split) = split_text split
+refusal_details names (Degenerate split) = split_text split
+refusal_details names (WidePlacement w) = site_text names w.dim w.site ++ value_text w.site w.value
+refusal_details names (Collision dim u v t) = collision_text names dim u v t
+refusal_details names (TooMuch done counted) = work_text done counted
+refusal_details names (NoModulus first second third) = pivots_text first second third
+refusal_details names NoMemory = []
 
 -- the line of a refusal
 abbrev pub refused_text : List (List ℕ) → Refusal → List ℕ
-refused_text names refusal = refusal_text names refusal ++ codes "\n"
+refused_text names refusal = codes "refused " ++ refusal_name refusal ++ refusal_details names refusal ++ codes "\n"
 
 -- where there are names, each vertex that is shown has one
 abbrev pub AreNamed : List (List ℕ) → WideSite → Type 0

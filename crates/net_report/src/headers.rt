@@ -3,7 +3,7 @@ ghost use Rattle.std.specs.Prelude.{◌≡◌, ◌++◌, OnOk, option_copied};
 ghost use Rattle.net_report.specs.Headers.{name_text, header_text, size_text, unsupported_word, unsupported_text, kind_text, fault_text};
 ghost use Rattle.net_report.specs.KindNames.{kind_name};
 
-use crate::numbers::push_number;
+use crate::numbers::{push_field, push_number};
 use crate::{NoMemory, Size};
 use cgd_read::{BlockFault, BlockFaultKind};
 
@@ -29,29 +29,21 @@ pub fn push_header(
     ensures { OnOk result (text.new.items ≡
         text.old.items ++ header_text number line (option_copied name.entry)) }
 {
-    text.extend_from_slice(b"net ")?;
-    push_number(text, number as u64)?;
-    text.extend_from_slice(b" line ")?;
-    push_number(text, line as u64)?;
+    push_field(text, b"net ", number as u64)?;
+    push_field(text, b" line ", line as u64)?;
     push_name(text, name)?;
-    text.extend_from_slice(b"\n")?;
-    Ok(())
+    text.extend_from_slice(b"\n")
 }
 
 /// The sizes of a graph.
 pub fn push_size(text: &mut Vec<u8>, size: Size) -> Result<(), NoMemory>
     ensures { OnOk result (text.new.items ≡ text.old.items ++ size_text size) }
 {
-    text.extend_from_slice(b"graph d=")?;
-    push_number(text, size.dim as u64)?;
-    text.extend_from_slice(b" vertices=")?;
-    push_number(text, size.vertices as u64)?;
-    text.extend_from_slice(b" edges=")?;
-    push_number(text, size.edges as u64)?;
-    text.extend_from_slice(b" repeats=")?;
-    push_number(text, size.repeats as u64)?;
-    text.extend_from_slice(b"\n")?;
-    Ok(())
+    push_field(text, b"graph d=", size.dim as u64)?;
+    push_field(text, b" vertices=", size.vertices as u64)?;
+    push_field(text, b" edges=", size.edges as u64)?;
+    push_field(text, b" repeats=", size.repeats as u64)?;
+    text.extend_from_slice(b"\n")
 }
 
 #[tactic(auto, unfolding(crate::specs::Headers::unsupported_word))]
@@ -102,8 +94,7 @@ fn push_kind(text: &mut Vec<u8>, kind: BlockFaultKind) -> Result<(), NoMemory>
 pub fn push_fault(text: &mut Vec<u8>, fault: BlockFault) -> Result<(), NoMemory>
     ensures { OnOk result (text.new.items ≡ text.old.items ++ fault_text fault) }
 {
-    text.extend_from_slice(b"malformed line=")?;
-    push_number(text, fault.line as u64)?;
+    push_field(text, b"malformed line=", fault.line as u64)?;
     text.extend_from_slice(b" ")?;
     push_kind(text, fault.kind)?;
     text.extend_from_slice(b"\n")

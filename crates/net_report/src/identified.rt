@@ -3,11 +3,11 @@ ghost use Rattle.std.specs.Prelude.{◌≡◌, ◌++◌, OnOk, length};
 ghost use Rattle.cgd_read.specs.Names.{texts};
 ghost use Rattle.coordination.specs.Sequences.{numbers_in};
 ghost use Rattle.least_key.specs.AnyNets.{net_in};
-ghost use Rattle.net_report.specs.Identified.{archive_name_text, archive_names_text, found_names_text, identified_text, name_word, names_word, net_text, sequences_text};
+ghost use Rattle.net_report.specs.Identified.{archive_name_text, archive_names_text, found_names_text, identified_text, net_text, sequences_text};
 
 use crate::NoMemory;
 use crate::keys::push_key;
-use crate::numbers::push_number;
+use crate::numbers::push_field;
 use crate::placements::push_placed;
 use crate::primitives::push_primitive;
 use crate::sequences::push_shells;
@@ -30,24 +30,10 @@ fn push_lists(text: &mut Vec<u8>, lists: &[Vec<u32>]) -> Result<(), NoMemory>
     Ok(())
 }
 
-#[tactic(auto, unfolding(crate::specs::Identified::name_word))]
-fn push_name_word(text: &mut Vec<u8>) -> Result<(), NoMemory>
-    ensures { OnOk result (text.new.items ≡ text.old.items ++ name_word) }
-{
-    text.extend_from_slice(b"name \"")
-}
-
-#[tactic(auto, unfolding(crate::specs::Identified::names_word))]
-fn push_names_word(text: &mut Vec<u8>) -> Result<(), NoMemory>
-    ensures { OnOk result (text.new.items ≡ text.old.items ++ names_word) }
-{
-    text.extend_from_slice(b"names ")
-}
-
 fn push_archive_name(text: &mut Vec<u8>, name: &[u8]) -> Result<(), NoMemory>
     ensures { OnOk result (text.new.items ≡ text.old.items ++ archive_name_text name.now) }
 {
-    push_name_word(text)?;
+    text.extend_from_slice(b"name \"")?;
     text.extend_from_slice(name)?;
     text.extend_from_slice(b"\"\n")
 }
@@ -67,8 +53,7 @@ fn push_archive_names(text: &mut Vec<u8>, names: &[&[u8]]) -> Result<(), NoMemor
 fn push_found_names(text: &mut Vec<u8>, names: &Names<'_>) -> Result<(), NoMemory>
     ensures { OnOk result (text.new.items ≡ text.old.items ++ found_names_text names.now) }
 {
-    push_names_word(text)?;
-    push_number(text, names.len() as u64)?;
+    push_field(text, b"names ", names.len() as u64)?;
     text.extend_from_slice(b"\n")?;
     push_archive_names(text, names.as_slice())
 }

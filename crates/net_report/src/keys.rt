@@ -1,23 +1,16 @@
 // The line of a key.
 ghost use Rattle.std.specs.Prelude.{◌≡◌, ◌++◌, OnOk};
-ghost use Rattle.net_report.specs.Keys.{key_text, key_word};
+ghost use Rattle.net_report.specs.Keys.{key_text};
 
 use crate::NoMemory;
 use crate::numbers::push_wide_list;
 use quotient_graph::Key;
 
-#[tactic(auto, unfolding(crate::specs::Keys::key_word))]
-fn push_key_word(text: &mut Vec<u8>) -> Result<(), NoMemory>
-    ensures { OnOk result (text.new.items ≡ text.old.items ++ key_word) }
-{
-    text.extend_from_slice(b"key ")
-}
-
 /// The numbers of a key.
 pub fn push_key(text: &mut Vec<u8>, key: &Key) -> Result<(), NoMemory>
     ensures { OnOk result (text.new.items ≡ text.old.items ++ key_text key.now) }
 {
-    push_key_word(text)?;
+    text.extend_from_slice(b"key ")?;
     push_wide_list(text, key.numbers())?;
     text.extend_from_slice(b"\n")
 }

@@ -14,7 +14,7 @@ mod sequences;
 mod texts;
 
 pub use least_key::AnyPlaced;
-pub use numbers::{push_number, push_wide_list};
+pub use numbers::{push_field, push_wide_list};
 pub use outcome::{Outcome, OutcomeBody, Size};
 pub use outcomes::Outcomes;
 pub use refused::refused_line;

@@ -1,12 +1,14 @@
 // Numbers, lists of numbers, and vertices.
-ghost use Rattle.std.specs.Prelude.{◌≡◌, [], ◌∷◌, ◌++◌, OnOk};
+ghost use Rattle.std.specs.Prelude.{◌≡◌, ◌++◌, OnOk};
 ghost use Rattle.std.specs.Fmt.{decimal, signed_decimal};
 ghost use Rattle.integers.specs.Vectors.{parts};
-ghost use Rattle.net_report.specs.Numbers.{numbers_after, list_text, IsNamed, vertex_text};
+ghost use Rattle.line_text.specs.Numbers.{numbers_text};
+ghost use Rattle.net_report.specs.Numbers.{field_text, list_text, IsNamed, vertex_text};
 
 use crate::NoMemory;
 use cgd_read::Names;
 use itoa::Buffer;
+use line_text::push_numbers;
 use vecdim::Triple;
 
 /// A number in decimal.
@@ -24,19 +26,27 @@ pub fn push_signed(text: &mut Vec<u8>, n: i128) -> Result<(), NoMemory>
     line_text::push_number(text, n)
 }
 
+/// A number after its label.
+pub fn push_field(text: &mut Vec<u8>, label: &[u8], n: u64) -> Result<(), NoMemory>
+    ensures { OnOk result (text.new.items ≡ text.old.items ++ field_text label.now n) }
+{
+    text.extend_from_slice(label)?;
+    push_number(text, n)
+}
+
 // The numbers, each after a blank.
 fn push_numbers_after(text: &mut Vec<u8>, numbers: &[i64]) -> Result<(), NoMemory>
-    ensures { OnOk result (text.new.items ≡ text.old.items ++ numbers_after numbers.now) }
+    ensures { OnOk result (text.new.items ≡ text.old.items ++ numbers_text numbers.now) }
 {
     let mut left = numbers;
     while let [x, others @ ..] = left {
-        text.extend_from_slice(b" ")?;
-        push_signed(text, *x as i128)?;
+        push_numbers(text, &[*x as i128])?;
         left = others;
     }
     Ok(())
 }
 
+/// Numbers of 64 bits with blanks between them.
 pub fn push_list(text: &mut Vec<u8>, numbers: &[i64]) -> Result<(), NoMemory>
     ensures { OnOk result (text.new.items ≡ text.old.items ++ list_text numbers.now) }
 {
@@ -49,18 +59,6 @@ pub fn push_list(text: &mut Vec<u8>, numbers: &[i64]) -> Result<(), NoMemory>
     }
 }
 
-// The wide numbers, each after a blank.
-fn push_wide_after(text: &mut Vec<u8>, numbers: &[i128]) -> Result<(), NoMemory>
-    ensures { OnOk result (text.new.items ≡ text.old.items ++ numbers_after numbers.now) }
-{
-    let mut left = numbers;
-    while let [x, others @ ..] = left {
-        push_after(text, *x)?;
-        left = others;
-    }
-    Ok(())
-}
-
 /// Numbers with blanks between them.
 pub fn push_wide_list(text: &mut Vec<u8>, numbers: &[i128]) -> Result<(), NoMemory>
     ensures { OnOk result (text.new.items ≡ text.old.items ++ list_text numbers.now) }
@@ -69,34 +67,21 @@ pub fn push_wide_list(text: &mut Vec<u8>, numbers: &[i128]) -> Result<(), NoMemo
         [] => Ok(()),
         [x, others @ ..] => {
             push_signed(text, *x)?;
-            push_wide_after(text, others)
+            push_numbers(text, others)
         }
     }
-}
-
-fn push_after(text: &mut Vec<u8>, n: i128) -> Result<(), NoMemory>
-    ensures { OnOk result (text.new.items ≡ text.old.items ++ numbers_after (n ∷ [])) }
-{
-    text.extend_from_slice(b" ")?;
-    push_signed(text, n)
-}
-
-fn push_two(text: &mut Vec<u8>, x: i128, y: i128) -> Result<(), NoMemory>
-    ensures { OnOk result (text.new.items ≡ text.old.items ++ list_text (x ∷ y ∷ [])) }
-{
-    push_signed(text, x)?;
-    push_after(text, y)
 }
 
 /// The parts of a vector of this dimension.
 pub fn push_parts(text: &mut Vec<u8>, dim: u8, vector: &Triple) -> Result<(), NoMemory>
     ensures { OnOk result (text.new.items ≡ text.old.items ++ list_text (parts dim vector.now)) }
 {
-    push_two(text, vector.x, vector.y)?;
+    push_signed(text, vector.x)?;
     if dim == 2 {
-        return Ok(());
+        push_numbers(text, &[vector.y])
+    } else {
+        push_numbers(text, &[vector.y, vector.z])
     }
-    push_after(text, vector.z)
 }
 
 /// The name of a vertex, or its number where there are no names.

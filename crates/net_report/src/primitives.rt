@@ -1,40 +1,17 @@
 // The lines of a primitive graph.
 ghost use Rattle.std.specs.Prelude.{◌≡◌, ◌≤◌, ◌++◌, OnOk};
-ghost use Rattle.net_report.specs.Primitives.{bases_text, basis_text, basis_word, edge_text, edge_word, edges_text, primitive_text, sizes_text, vertices_word};
+ghost use Rattle.net_report.specs.Primitives.{bases_text, basis_text, edge_text, edges_text, primitive_text, sizes_text};
 
 use crate::NoMemory;
-use crate::numbers::{push_number, push_parts};
+use crate::numbers::{push_field, push_parts};
 use primitive_cell::{PrimEdge, Primitive};
 use vecdim::Vect;
-
-#[tactic(auto, unfolding(crate::specs::Primitives::vertices_word))]
-fn push_vertices_word(text: &mut Vec<u8>) -> Result<(), NoMemory>
-    ensures { OnOk result (text.new.items ≡ text.old.items ++ vertices_word) }
-{
-    text.extend_from_slice(b"primitive vertices=")
-}
-
-#[tactic(auto, unfolding(crate::specs::Primitives::basis_word))]
-fn push_basis_word(text: &mut Vec<u8>) -> Result<(), NoMemory>
-    ensures { OnOk result (text.new.items ≡ text.old.items ++ basis_word) }
-{
-    text.extend_from_slice(b"basis ")
-}
-
-#[tactic(auto, unfolding(crate::specs::Primitives::edge_word))]
-fn push_edge_word(text: &mut Vec<u8>) -> Result<(), NoMemory>
-    ensures { OnOk result (text.new.items ≡ text.old.items ++ edge_word) }
-{
-    text.extend_from_slice(b"edge ")
-}
 
 fn push_sizes(text: &mut Vec<u8>, vertices: u64, edges: u64) -> Result<(), NoMemory>
     ensures { OnOk result (text.new.items ≡ text.old.items ++ sizes_text vertices edges) }
 {
-    push_vertices_word(text)?;
-    push_number(text, vertices)?;
-    text.extend_from_slice(b" edges=")?;
-    push_number(text, edges)?;
+    push_field(text, b"primitive vertices=", vertices)?;
+    push_field(text, b" edges=", edges)?;
     text.extend_from_slice(b"\n")
 }
 
@@ -42,7 +19,7 @@ fn push_basis<const D: usize>(text: &mut Vec<u8>, v: &Vect<D>) -> Result<(), NoM
     requires { D ≤ 255 }
     ensures { OnOk result (text.new.items ≡ text.old.items ++ basis_text D v.now) }
 {
-    push_basis_word(text)?;
+    text.extend_from_slice(b"basis ")?;
     push_parts(text, D as u8, &v.to_triple())?;
     text.extend_from_slice(b"\n")
 }
@@ -63,10 +40,8 @@ fn push_edge<const D: usize>(text: &mut Vec<u8>, edge: &PrimEdge<D>) -> Result<(
     requires { D ≤ 255 }
     ensures { OnOk result (text.new.items ≡ text.old.items ++ edge_text D edge.now) }
 {
-    push_edge_word(text)?;
-    push_number(text, edge.u as u64)?;
-    text.extend_from_slice(b" ")?;
-    push_number(text, edge.v as u64)?;
+    push_field(text, b"edge ", edge.u as u64)?;
+    push_field(text, b" ", edge.v as u64)?;
     text.extend_from_slice(b" ")?;
     push_parts(text, D as u8, &edge.shift.to_triple())?;
     text.extend_from_slice(b"\n")

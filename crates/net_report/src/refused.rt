@@ -1,10 +1,10 @@
 // The line of a refusal.
 ghost use Rattle.std.specs.Prelude.{◌≡◌, ◌++◌, IfOk, OnOk};
 ghost use Rattle.net_report.specs.Numbers.{IsNamed};
-ghost use Rattle.net_report.specs.Refusals.{collision_text, collision_word, disconnected_word, degenerate_word, no_modulus_word, too_much_word, wide_placement_word, work_text, split_text, field_text, place_text, pivots_text, site_text, value_text, refusal_text, refused_text, AreNamed, HasLine};
+ghost use Rattle.net_report.specs.Refusals.{collision_text, work_text, split_text, place_text, pivots_text, site_text, value_text, refusal_details, refusal_name, refused_text, AreNamed, HasLine};
 
 use crate::NoMemory;
-use crate::numbers::{push_list, push_number, push_parts, push_signed, push_vertex};
+use crate::numbers::{push_field, push_list, push_parts, push_signed, push_vertex};
 use barycentre::WideSite;
 use cgd_read::Names;
 use elimination::Place;
@@ -13,82 +13,32 @@ use quotient_graph::Split;
 use std::alloc::Global;
 use vecdim::Triple;
 
-#[tactic(auto, unfolding(crate::specs::Refusals::disconnected_word))]
-fn push_disconnected(text: &mut Vec<u8>) -> Result<(), NoMemory>
-    ensures { OnOk result (text.new.items ≡ text.old.items ++ disconnected_word) }
-{
-    text.extend_from_slice(b"refused 1 Disconnected")
-}
-
-#[tactic(auto, unfolding(crate::specs::Refusals::degenerate_word))]
-fn push_degenerate(text: &mut Vec<u8>) -> Result<(), NoMemory>
-    ensures { OnOk result (text.new.items ≡ text.old.items ++ degenerate_word) }
-{
-    text.extend_from_slice(b"refused 2 Degenerate")
-}
-
-#[tactic(auto, unfolding(crate::specs::Refusals::no_modulus_word))]
-fn push_no_modulus(text: &mut Vec<u8>) -> Result<(), NoMemory>
-    ensures { OnOk result (text.new.items ≡ text.old.items ++ no_modulus_word) }
-{
-    text.extend_from_slice(b"refused 7 NoModulus")
-}
-
-#[tactic(auto, unfolding(crate::specs::Refusals::wide_placement_word))]
-fn push_wide_placement(text: &mut Vec<u8>) -> Result<(), NoMemory>
-    ensures { OnOk result (text.new.items ≡ text.old.items ++ wide_placement_word) }
-{
-    text.extend_from_slice(b"refused 4 WidePlacement")
-}
-
-#[tactic(auto, unfolding(crate::specs::Refusals::collision_word))]
-fn push_collision_word(text: &mut Vec<u8>) -> Result<(), NoMemory>
-    ensures { OnOk result (text.new.items ≡ text.old.items ++ collision_word) }
-{
-    text.extend_from_slice(b"refused 5 Collision")
-}
-
-#[tactic(auto, unfolding(crate::specs::Refusals::too_much_word))]
-fn push_too_much_word(text: &mut Vec<u8>) -> Result<(), NoMemory>
-    ensures { OnOk result (text.new.items ≡ text.old.items ++ too_much_word) }
-{
-    text.extend_from_slice(b"refused 6 TooMuch")
-}
-
 fn push_split(text: &mut Vec<u8>, split: &Split) -> Result<(), NoMemory>
     ensures { OnOk result (text.new.items ≡ text.old.items ++ split_text split.now) }
 {
-    text.extend_from_slice(b" q=")?;
-    push_number(text, split.q)?;
+    push_field(text, b" q=", split.q)?;
     text.extend_from_slice(b" c=")?;
     push_parts(text, split.dim, &split.c)?;
     text.extend_from_slice(b" h=")?;
     push_list(text, split.h.as_slice())
 }
 
-fn push_field(text: &mut Vec<u8>, label: &[u8], n: u32) -> Result<(), NoMemory>
-    ensures { OnOk result (text.new.items ≡ text.old.items ++ field_text label.now n) }
-{
-    text.extend_from_slice(label)?;
-    push_number(text, n as u64)
-}
-
 fn push_place(text: &mut Vec<u8>, at: &Place) -> Result<(), NoMemory>
     ensures { OnOk result (text.new.items ≡ text.old.items ++ place_text at.now) }
 {
-    push_field(text, b" part=", at.part as u32)?;
-    push_field(text, b" k=", at.k)?;
-    push_field(text, b" i=", at.i)?;
-    push_field(text, b" j=", at.j)?;
-    push_field(text, b" c=", at.c as u32)
+    push_field(text, b" part=", at.part as u64)?;
+    push_field(text, b" k=", at.k as u64)?;
+    push_field(text, b" i=", at.i as u64)?;
+    push_field(text, b" j=", at.j as u64)?;
+    push_field(text, b" c=", at.c as u64)
 }
 
 fn push_pivots(text: &mut Vec<u8>, first: u32, second: u32, third: u32) -> Result<(), NoMemory>
     ensures { OnOk result (text.new.items ≡ text.old.items ++ pivots_text first second third) }
 {
-    push_field(text, b" pivots=", first)?;
-    push_field(text, b" ", second)?;
-    push_field(text, b" ", third)
+    push_field(text, b" pivots=", first as u64)?;
+    push_field(text, b" ", second as u64)?;
+    push_field(text, b" ", third as u64)
 }
 
 fn push_site(
@@ -104,8 +54,7 @@ fn push_site(
         WideSite::Denominator { u, c } => {
             text.extend_from_slice(b" denominator u=")?;
             push_vertex(text, names, *u)?;
-            text.extend_from_slice(b" c=")?;
-            push_number(text, *c as u64)
+            push_field(text, b" c=", *c as u64)
         }
         WideSite::ArcPart { u, v, s, c } => {
             text.extend_from_slice(b" arc u=")?;
@@ -114,8 +63,7 @@ fn push_site(
             push_vertex(text, names, *v)?;
             text.extend_from_slice(b" s=")?;
             push_parts(text, dim, s)?;
-            text.extend_from_slice(b" c=")?;
-            push_number(text, *c as u64)
+            push_field(text, b" c=", *c as u64)
         }
         WideSite::Beyond { at } => {
             text.extend_from_slice(b" beyond")?;
@@ -160,48 +108,45 @@ fn push_collision(
 fn push_work(text: &mut Vec<u8>, starts_done: u32, counted: u64) -> Result<(), NoMemory>
     ensures { OnOk result (text.new.items ≡ text.old.items ++ work_text starts_done counted) }
 {
-    push_field(text, b" starts=", starts_done)?;
-    text.extend_from_slice(b" counted=")?;
-    push_number(text, counted)
+    push_field(text, b" starts=", starts_done as u64)?;
+    push_field(text, b" counted=", counted)
 }
 
-fn push_refusal(text: &mut Vec<u8>, names: &Names<'_>, refusal: &Refusal) -> Result<(), NoMemory>
-    requires { HasLine names.now refusal.now }
-    ensures { OnOk result (text.new.items ≡ text.old.items ++ refusal_text names.now refusal.now) }
+fn refusal_name(refusal: &Refusal) -> &'static [u8]
+    ensures { result.now ≡ refusal_name refusal.now }
 {
     match refusal {
-        Refusal::Disconnected(split) => {
-            push_disconnected(text)?;
-            push_split(text, split)
+        Refusal::Disconnected(_) => b"1 Disconnected",
+        Refusal::Degenerate(_) => b"2 Degenerate",
+        Refusal::WidePlacement(_) => b"4 WidePlacement",
+        Refusal::Collision { .. } => b"5 Collision",
+        Refusal::TooMuch { .. } => b"6 TooMuch",
+        Refusal::NoModulus { .. } => b"7 NoModulus",
+        Refusal::NoMemory => b"",
+    }
+}
+
+fn push_details(text: &mut Vec<u8>, names: &Names<'_>, refusal: &Refusal) -> Result<(), NoMemory>
+    requires { HasLine names.now refusal.now }
+    ensures { OnOk result (text.new.items ≡
+        text.old.items ++ refusal_details names.now refusal.now) }
+{
+    match refusal {
+        Refusal::Disconnected(split) | Refusal::Degenerate(split) => push_split(text, split),
+        Refusal::WidePlacement(wide) => {
+            push_site(text, names, wide.dim, &wide.site)?;
+            push_value(text, &wide.site, wide.value)
         }
-        Refusal::Degenerate(split) => {
-            push_degenerate(text)?;
-            push_split(text, split)
-        }
+        Refusal::Collision { dim, u, v, t } => push_collision(text, names, *dim, *u, *v, t),
+        Refusal::TooMuch {
+            starts_done,
+            counted,
+        } => push_work(text, *starts_done, *counted),
         Refusal::NoModulus {
             first,
             second,
             third,
-        } => {
-            push_no_modulus(text)?;
-            push_pivots(text, *first, *second, *third)
-        }
-        Refusal::WidePlacement(wide) => {
-            push_wide_placement(text)?;
-            push_site(text, names, wide.dim, &wide.site)?;
-            push_value(text, &wide.site, wide.value)
-        }
-        Refusal::Collision { dim, u, v, t } => {
-            push_collision_word(text)?;
-            push_collision(text, names, *dim, *u, *v, t)
-        }
-        Refusal::TooMuch {
-            starts_done,
-            counted,
-        } => {
-            push_too_much_word(text)?;
-            push_work(text, *starts_done, *counted)
-        }
+        } => push_pivots(text, *first, *second, *third),
         Refusal::NoMemory => Ok(()),
     }
 }
@@ -215,7 +160,9 @@ pub fn push_refused(
     requires { HasLine names.now refusal.now }
     ensures { OnOk result (text.new.items ≡ text.old.items ++ refused_text names.now refusal.now) }
 {
-    push_refusal(text, names, refusal)?;
+    text.extend_from_slice(b"refused ")?;
+    text.extend_from_slice(refusal_name(refusal))?;
+    push_details(text, names, refusal)?;
     text.extend_from_slice(b"\n")
 }
 
