@@ -26,7 +26,7 @@ use Rattle.net_report.specs.declared.outcome.OutcomeBody.TheVariants.{Unsupporte
 use Rattle.least_key.specs.Truths.{IsTrueOf}
 use Rattle.net_outcomes.specs.Outcomes.{MayTell, IsBodyOf}
 use Rattle.command_words.specs.declared.tasks.Command.{Command}
-use Rattle.command_words.specs.declared.tasks.Command.TheVariants.{Check, Place, Key, Identify}
+use Rattle.command_words.specs.declared.tasks.Command.TheVariants.{Place, Identify}
 use Rattle.net_outcomes.proofs.Reordered.{same_arc}
 
 -- a vertex of the graph in order has a name

@@ -1,7 +1,4 @@
-use Rattle.std.proofs.Common.{◌&&◌, ◌∙◌, ◌+◌, ◌++◌, Bool, List, ℕ, sym, ap, subst}
-use Rattle.cgd_read.specs.Views.{views}
-use Rattle.net_report.specs.Reports.{outcome_text}
-use Rattle.net_outcomes.proofs.ToldBlocks.{AreToldOn, told_next, told_whole}
+use Rattle.net_outcomes.proofs.ToldBlocks.{told_next, told_whole}
 use Rattle.net_outcomes.proofs.telling.tell_blocks.Goals as goal
 
 pub loop-block-preserved : goal.loop-block-preserved
