@@ -13,8 +13,8 @@ use Rattle.net_report.specs.Reports.{IsPrintable, outcome_text, report_text}
 use Rattle.net_report.specs.declared.outcome.Outcome.{Outcome}
 use Rattle.net_report.proofs.CallerLemmas.{report_last}
 use Rattle.command_words.specs.declared.tasks.Command.{Command}
-use Rattle.net_outcomes.specs.Outcomes.{IsOutcomeOf, is_accepted}
-use Rattle.net_outcomes.specs.Reports.{IsReport}
+use Rattle.net_outcomes.specs.Outcomes.{is_accepted}
+use Rattle.net_outcomes.specs.Reports.{IsReport, IsTold}
 use Rattle.net_outcomes.proofs.Listing.{AreOutcomesOn, outcomes_next, outcomes_whole}
 
 -- the text of the first i blocks, and whether each of them was accepted
@@ -38,14 +38,13 @@ accepted_last : (os : List Outcome) (o : Outcome) → list_all is_accepted (os +
 accepted_last os o = list_all-append is_accepted os (o ∷ []) ∙ ap (λ (b : Bool). list_all is_accepted os && b) (and-true (is_accepted o))
 
 -- the next block is told
-pub told_next : (entries : List EntryView) (command : Command) (found : List Block) (i number : ℕ) (accepted : Bool) (text : List ℕ) (block : Block) (o : Outcome) → i < length found → block ≡ get_or found i block
-    → AreToldOn entries command (views found) i number accepted text → IsOutcomeOf entries command number (block_view block) o → IsPrintable o
-    → AreToldOn entries command (views found) (i + 1) (number + 1) (accepted && is_accepted o) (text ++ outcome_text o)
-told_next entries command found i number accepted text block o l is h k p = record {
-  outcomes = h.outcomes ++ o ∷ [];
-  on = outcomes_next entries command found i number h.outcomes block o l is h.on k p;
-  all = ap (λ (b : Bool). b && is_accepted o) h.all ∙ sym (accepted_last h.outcomes o);
-  report = ap (λ (t : List ℕ). t ++ outcome_text o) h.report ∙ sym (report_last h.outcomes o);
+pub told_next : (entries : List EntryView) (command : Command) (found : List Block) (i number : ℕ) (accepted this : Bool) (text new : List ℕ) (block : Block) → i < length found → block ≡ get_or found i block
+    → AreToldOn entries command (views found) i number accepted text → IsTold entries command number (block_view block) this text new → AreToldOn entries command (views found) (i + 1) (number + 1) (accepted && this) new
+told_next entries command found i number accepted this text new block l is h t = record {
+  outcomes = h.outcomes ++ t.outcome ∷ [];
+  on = outcomes_next entries command found i number h.outcomes block t.outcome l is h.on t.is_outcome t.printable;
+  all = ap (λ (b : Bool). accepted && b) t.all ∙ ap (λ (b : Bool). b && is_accepted t.outcome) h.all ∙ sym (accepted_last h.outcomes t.outcome);
+  report = t.report ∙ ap (λ (s : List ℕ). s ++ outcome_text t.outcome) h.report ∙ sym (report_last h.outcomes t.outcome);
 }
 
 -- all blocks are told

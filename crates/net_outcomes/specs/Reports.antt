@@ -1,13 +1,21 @@
 -- The report on the blocks of a text.
-use Rattle.std.specs.Prelude.{◌≡◌, ℕ, Bool, List}
+use Rattle.std.specs.Prelude.{◌≡◌, ℕ, Bool, List, ◌++◌}
 use Rattle.std.specs.List.{list_all}
 use Rattle.cgd_read.specs.Views.{BlockView}
 use Rattle.net_entries.specs.Entries.{EntryView}
-use Rattle.net_report.specs.Reports.{report_text}
+use Rattle.net_report.specs.Reports.{IsPrintable, outcome_text, report_text}
 use Rattle.net_report.specs.declared.outcome.Outcome.{Outcome}
 use Rattle.command_words.specs.declared.tasks.Command.{Command}
 use Rattle.net_outcomes.specs.Deciding.{AreOutcomes}
-use Rattle.net_outcomes.specs.Outcomes.{is_accepted}
+use Rattle.net_outcomes.specs.Outcomes.{IsOutcomeOf, is_accepted}
+
+-- what is told of the block with this number, put last in a text, and whether the block was accepted
+pub record IsTold (entries : List EntryView) (command : Command) (number : ℕ) (block : BlockView) (accepted : Bool) (old new : List ℕ) : Type 0 where
+  pub outcome : Outcome
+  pub is_outcome : IsOutcomeOf entries command number block outcome
+  pub printable : IsPrintable outcome
+  pub all : accepted ≡ is_accepted outcome
+  pub report : new ≡ old ++ outcome_text outcome
 
 -- the report on these blocks, and whether all of them were accepted
 pub record IsReport (command : Command) (entries : List EntryView) (blocks : List BlockView) (accepted : Bool) (text : List ℕ) : Type 0 where

@@ -1,14 +1,16 @@
 // The report on the blocks of a text, which are told one by one.
-ghost use Rattle.std.specs.Prelude.{◌≤◌, All, IfOk, length};
-ghost use Rattle.cgd_read.specs.Views.{views};
+ghost use Rattle.std.specs.Prelude.{◌≡◌, ◌≤◌, ◌++◌, All, IfOk, OnOk, length};
+ghost use Rattle.cgd_read.specs.Views.{block_view, views};
 ghost use Rattle.cgd_read.specs.Blocks.{IsReadBody};
-ghost use Rattle.net_outcomes.specs.Reports.{IsReport};
+ghost use Rattle.net_report.specs.Reports.{IsPrintable, outcome_text};
+ghost use Rattle.net_outcomes.specs.Outcomes.{is_accepted};
+ghost use Rattle.net_outcomes.specs.Reports.{IsReport, IsTold};
 
 use crate::outcomes::{is_accepted, outcome_of};
 use cgd_read::Block;
 use command_words::Command;
 use net_archive::Archive;
-use net_report::{NoMemory, push_outcome};
+use net_report::{NoMemory, Outcome, push_outcome};
 use std::alloc::Global;
 
 /// The texts of the outcomes of blocks, one after the other, and whether each block was accepted.
@@ -16,6 +18,32 @@ use std::alloc::Global;
 pub struct Told {
     pub text: Vec<u8>,
     pub all_accepted: bool,
+}
+
+// Puts the text of an outcome last, and tells whether its block was accepted.
+fn tell_outcome(text: &mut Vec<u8>, outcome: &Outcome<'_>) -> Result<bool, NoMemory>
+    requires { IsPrintable outcome.now }
+    ensures text { OnOk result (text.new.items ≡ text.old.items ++ outcome_text outcome.now) }
+    ensures accepted { IfOk result (λ accepted. accepted ≡ is_accepted outcome.now) }
+{
+    push_outcome(text, outcome)?;
+    Ok(is_accepted(&outcome.body))
+}
+
+// The same of the block with this number, for a command, beside an archive. The outcome is let go.
+fn tell_block(
+    text: &mut Vec<u8>,
+    command: Command,
+    archive: &Archive,
+    number: u32,
+    block: &Block<'_>,
+) -> Result<bool, NoMemory>
+    requires { IsReadBody block.now.body }
+    ensures { IfOk result (λ accepted. IsTold archive.now.entries command number
+        (block_view block.now) accepted text.old.items text.new.items) }
+{
+    let outcome = outcome_of(*text.allocator(), command, archive, number, block)?;
+    tell_outcome(text, &outcome)
 }
 
 /// Tells what a command tells of each block, beside an archive. An outcome is let go once its text is written.
@@ -35,9 +63,7 @@ pub fn tell_blocks(
     let mut all_accepted = true;
     let mut number = 1u32;
     for block in found {
-        let outcome = outcome_of(alloc, command, archive, number, block)?;
-        push_outcome(&mut text, &outcome)?;
-        all_accepted &= is_accepted(&outcome.body);
+        all_accepted &= tell_block(&mut text, command, archive, number, block)?;
         number += 1;
     }
     Ok(Told { text, all_accepted })
