@@ -6,6 +6,7 @@ use Rattle.net_archive.specs.declared.faults.ArchiveFault.{ArchiveFault}
 use Rattle.net_archive.specs.declared.faults.ArchiveFault.TheVariants.{BadLine, RepeatedName, EntryRefused, KeyDiffers, TooManyEntries, Version, CountDiffers, ShellsDiffer, NoMemory}
 use Rattle.net_archive.specs.declared.faults.AddFault.{AddFault}
 use Rattle.net_archive.specs.declared.faults.AddFault.TheVariants as add
+use Rattle.net_report.specs.Headers.{quoted_name}
 use Rattle.net_report.specs.Numbers.{field_text, list_text}
 use Rattle.net_report.specs.Refusals.{refused_text}
 
@@ -71,10 +72,6 @@ add_fault_text block fault = field_text (codes "add refused ") block ++ codes " 
 -- the text in the newest format would be so long
 abbrev pub migrate_fault_text : ℕ → List ℕ
 migrate_fault_text n = field_text (codes "migrate refused 1 Full length=") n ++ codes "\n"
-
--- a name in quotes, after a blank
-abbrev pub quoted_name : List ℕ → List ℕ
-quoted_name name = codes " \"" ++ name ++ codes "\""
 
 -- the name of an entry that was found
 abbrev pub name_of : Option EntryView → List ℕ

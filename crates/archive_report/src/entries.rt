@@ -2,11 +2,11 @@
 ghost use Rattle.std.specs.Prelude.{◌≡◌, ◌++◌, IfOk, OnOk, length};
 ghost use Rattle.coordination.specs.Sequences.{numbers_in};
 ghost use Rattle.net_entries.specs.Entries.{entry_views};
-ghost use Rattle.archive_report.specs.ArchiveTexts.{add_fault_name, add_fault_text, group_lines, group_names, group_text, groups_text, migrate_fault_text, name_at, quoted_name};
+ghost use Rattle.archive_report.specs.ArchiveTexts.{add_fault_name, add_fault_text, group_lines, group_names, group_text, groups_text, migrate_fault_text, name_at};
 
 use crate::NoMemory;
 use net_archive::{AddFault, Entry, Groups};
-use net_report::push_field;
+use net_report::{push_field, push_quoted};
 use std::alloc::Global;
 
 fn add_fault_name(fault: AddFault) -> &'static [u8]
@@ -40,14 +40,6 @@ pub fn migrate_fault_text(alloc: Global, length: u64) -> Result<Vec<u8>, NoMemor
     push_field(&mut text, b"migrate refused 1 Full length=", length)?;
     text.extend_from_slice(b"\n")?;
     Ok(text)
-}
-
-fn push_quoted(text: &mut Vec<u8>, name: &[u8]) -> Result<(), NoMemory>
-    ensures { OnOk result (text.new.items ≡ text.old.items ++ quoted_name name.now) }
-{
-    text.extend_from_slice(b" \"")?;
-    text.extend_from_slice(name)?;
-    text.extend_from_slice(b"\"")
 }
 
 // The name of the entry with this number, which is counted from 1.

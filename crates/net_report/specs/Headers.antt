@@ -9,9 +9,13 @@ use Rattle.net_report.specs.Numbers.{field_text}
 use Rattle.net_report.specs.declared.outcome.Size.{Size}
 
 -- a name in quotes, after a blank
+abbrev pub quoted_name : List ℕ → List ℕ
+quoted_name name = codes " \"" ++ name ++ codes "\""
+
+-- the same of the name of a block, where it has one
 abbrev pub name_text : Option (List ℕ) → List ℕ
 name_text None = []
-name_text (Some name) = codes " \"" ++ name ++ codes "\""
+name_text (Some name) = quoted_name name
 
 -- the number of a block, the line that opens it, and its name
 abbrev pub header_text : ℕ → ℕ → Option (List ℕ) → List ℕ

@@ -1,22 +1,29 @@
 // The lines that a block's text begins with, and the line of its fault.
 ghost use Rattle.std.specs.Prelude.{◌≡◌, ◌++◌, OnOk, option_copied};
-ghost use Rattle.net_report.specs.Headers.{name_text, header_text, size_text, unsupported_word, unsupported_text, kind_text, fault_text};
+ghost use Rattle.net_report.specs.Headers.{name_text, quoted_name, header_text, size_text, unsupported_word, unsupported_text, kind_text, fault_text};
 ghost use Rattle.net_report.specs.KindNames.{kind_name};
 
 use crate::numbers::{push_field, push_number};
 use crate::{NoMemory, Size};
 use cgd_read::{BlockFault, BlockFaultKind};
 
+/// A name in quotes, after a blank.
+pub fn push_quoted(text: &mut Vec<u8>, name: &[u8]) -> Result<(), NoMemory>
+    ensures { OnOk result (text.new.items ≡ text.old.items ++ quoted_name name.now) }
+{
+    text.extend_from_slice(b" \"")?;
+    text.extend_from_slice(name)?;
+    text.extend_from_slice(b"\"")
+}
+
 fn push_name(text: &mut Vec<u8>, name: Option<&[u8]>) -> Result<(), NoMemory>
     ensures { OnOk result (text.new.items ≡
         text.old.items ++ name_text (option_copied name.entry)) }
 {
-    if let Some(name) = name {
-        text.extend_from_slice(b" \"")?;
-        text.extend_from_slice(name)?;
-        text.extend_from_slice(b"\"")?;
+    match name {
+        None => Ok(()),
+        Some(name) => push_quoted(text, name),
     }
-    Ok(())
 }
 
 /// The line that begins the text of a block.

@@ -13,6 +13,7 @@ mod refused;
 mod sequences;
 mod texts;
 
+pub use headers::push_quoted;
 pub use least_key::AnyPlaced;
 pub use numbers::{push_field, push_wide_list};
 pub use outcome::{Outcome, OutcomeBody, Size};

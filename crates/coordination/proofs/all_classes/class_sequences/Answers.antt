@@ -1,6 +1,6 @@
 use Rattle.std.proofs.Common.{◌≡◌, ◌≤◌, subst, sym, ◌∙◌, arith}
 use Rattle.periodic_net.specs.Limits.{most_vertices}
-use Rattle.coordination.proofs.AllClasses.{AreFirst, one_more, all_classes}
+use Rattle.coordination.proofs.classes.AllClasses.{AreFirst, one_more, all_classes}
 use Rattle.coordination.proofs.all_classes.class_sequences.Goals as goal
 
 pub loop-before-preserved : goal.loop-before-preserved

@@ -1,4 +1,4 @@
-use Rattle.coordination.proofs.AllClasses.{AreFirst}
+use Rattle.coordination.proofs.classes.AllClasses.{AreFirst}
 use Rattle.coordination.proofs.all_classes.class_sequences.Given as goal
 
 abbrev pub invariant-loop-before : goal.invariant-loop-before

@@ -1,5 +1,5 @@
 use Rattle.std.proofs.Common.{rules}
-use Rattle.coordination.proofs.BoxLists.{lists_more}
+use Rattle.coordination.proofs.boxes.BoxLists.{lists_more}
 use Rattle.coordination.proofs.box_count.lists_in.Goals as goal
 
 pub loop-before-preserved : goal.loop-before-preserved

@@ -1,6 +1,6 @@
 use Rattle.std.proofs.Common.{◌≡◌, ◌+◌, ◌-◌, ◌<◌, ◌≤◌, length, subst, arith}
 use Rattle.coordination.specs.declared.spot.Spot.{Spot}
-use Rattle.coordination.proofs.BoxTurns.{as_many, found_since, next_at, next_lands, searching_starts, searching_on, searching_ends, searching_stops, star_within}
+use Rattle.coordination.proofs.boxes.BoxTurns.{as_many, found_since, next_at, next_lands, searching_starts, searching_on, searching_ends, searching_stops, star_within}
 use Rattle.coordination.proofs.box_search.next_shell.Goals as goal
 
 pub loop-i-init : goal.loop-i-init

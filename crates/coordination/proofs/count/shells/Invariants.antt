@@ -1,7 +1,7 @@
 use Rattle.std.proofs.Common.{◌≡◌, length}
 use Rattle.coordination.specs.Points.{IsStep}
-use Rattle.coordination.proofs.Counting.{AreCounted}
-use Rattle.coordination.proofs.Starts.{start_at}
+use Rattle.coordination.proofs.shells.Counting.{AreCounted}
+use Rattle.coordination.proofs.points.Starts.{start_at}
 use Rattle.coordination.proofs.count.shells.Given as goal
 
 abbrev pub invariant-loop-k : goal.invariant-loop-k

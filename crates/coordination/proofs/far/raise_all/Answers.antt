@@ -1,6 +1,6 @@
 use Rattle.std.proofs.Common.{◌-◌, arith}
 use Rattle.std.proofs.lemmas.Int.{ints}
-use Rattle.coordination.proofs.FarWalks.{farther_turn}
+use Rattle.coordination.proofs.boxes.FarWalks.{farther_turn}
 use Rattle.coordination.proofs.far.raise_all.Goals as goal
 
 pub loop-edge-preserved : goal.loop-edge-preserved

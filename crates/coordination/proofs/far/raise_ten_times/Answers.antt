@@ -2,7 +2,7 @@ use Rattle.std.proofs.Common.{◌≡◌, ◌+◌, ◌∙◌, ℕ, List, length, 
 use Rattle.periodic_net.specs.Graph.{Arc}
 use Rattle.primitive_cell.specs.DividedNets.{DividedNet}
 use Rattle.coordination.specs.Far.{AreFarAfter, AreFarther}
-use Rattle.coordination.proofs.FarWalks.{far_after_more}
+use Rattle.coordination.proofs.boxes.FarWalks.{far_after_more}
 use Rattle.coordination.proofs.far.raise_ten_times.Goals as goal
 
 pub loop-k-preserved : goal.loop-k-preserved

@@ -3,7 +3,7 @@ use Rattle.std.specs.Prelude.{Option, IfSome}
 use Rattle.coordination.specs.Extents.{IsExtent, IsNarrow}
 use Rattle.coordination.specs.declared.extent.Extent.{Extent}
 use Rattle.coordination.specs.declared.extent.TheConstants.{WIDEST}
-use Rattle.coordination.proofs.ShortSteps.{shifts_within}
+use Rattle.coordination.proofs.boxes.ShortSteps.{shifts_within}
 use Rattle.coordination.proofs.net_box.box_of.Goals as goal
 
 pub stars_of-requires : goal.stars_of-requires

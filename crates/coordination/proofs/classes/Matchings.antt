@@ -1,0 +1,122 @@
+-- Maps that undo each other and carry joined vertices to joined ones carry shells to shells.
+use Rattle.std.proofs.Common.{◌≡◌, ◌⊎◌, inl, inr, ℕ, ◌+◌, List, [], ◌∷◌, length, map, sum, refl, sym, ap, subst, ◌∙◌}
+use Rattle.std.proofs.lemmas.List.{length-map}
+use Rattle.integers.specs.Vectors.{Vector, opposite, HasDimension}
+use Rattle.integers.proofs.lists.Members.{IsIn, AreApart, is_in, contains_from_in, apart_from_pairs, pairs_from_apart}
+use Rattle.integers.proofs.lists.Pieces.{in_map, map_in}
+use Rattle.integers.proofs.vectors.Laws.{opposite_plus, plus_opposite, opposite_dimension}
+use Rattle.periodic_net.specs.Graph.{Graph, IsGraph, Vertex, vertex, moved, IsVertex, AreJoined, IsWalk}
+use Rattle.periodic_net.specs.Maps.{Iso}
+use Rattle.periodic_net.specs.Shells.{StepsLead, IsInShell, IsShellSize}
+use Rattle.periodic_net.proofs.CallerLemmas.{joined_inside, joined_moved, moved_vertex}
+use Rattle.coordination.specs.Sequences.{AreShellsOf, IsShellPast, most_shells}
+use Rattle.coordination.proofs.points.Sizes.{walk_inside}
+
+-- these maps carry the vertices of G to those of H, and back, and joined ones to joined ones
+pub record IsMatching (G H : Graph) (there back : Vertex → Vertex) : Type 0 where
+  pub into : (w : Vertex) → IsVertex G w → IsVertex H (there w)
+  pub onto : (x : Vertex) → IsVertex H x → IsVertex G (back x)
+  pub back_there : (w : Vertex) → IsVertex G w → back (there w) ≡ w
+  pub there_back : (x : Vertex) → IsVertex H x → there (back x) ≡ x
+  pub there_joins : (w x : Vertex) → IsVertex G w → IsVertex G x → AreJoined G w x → AreJoined H (there w) (there x)
+  pub back_joins : (w x : Vertex) → IsVertex H w → IsVertex H x → AreJoined H w x → AreJoined G (back w) (back x)
+
+-- the other way
+turned : (G H : Graph) (there back : Vertex → Vertex) → IsMatching G H there back → IsMatching H G back there
+turned G H there back m = record { into = m.onto; onto = m.into; back_there = m.there_back; there_back = m.back_there; there_joins = m.back_joins; back_joins = m.there_joins }
+
+-- an isomorphism is one
+pub iso_matching : (G H : Graph) (e : Iso G H) → IsMatching G H e.there e.back
+iso_matching G H e = record {
+  into = e.there_period.2.into;
+  onto = e.back_period.2.into;
+  back_there = e.back_there;
+  there_back = e.there_back;
+  there_joins = e.there_joins;
+  back_joins = e.back_joins;
+}
+
+-- and so is a move by whole cells
+pub move_matching : (G : Graph) (k : Vector) → HasDimension G.dimension k → IsMatching G G (λ w. moved w k) (λ w. moved w (opposite k))
+move_matching G k d = record {
+  into = λ w i. moved_vertex G w k i d;
+  onto = λ w i. moved_vertex G w (opposite k) i (opposite_dimension G.dimension k d);
+  back_there = λ w i. ap (vertex w.over) (plus_opposite w.cell k);
+  there_back = λ w i. ap (vertex w.over) (opposite_plus w.cell k);
+  there_joins = λ w x i j h. subst (λ (t : Type 0). t) (sym (joined_moved G w x k)) h;
+  back_joins = λ w x i j h. subst (λ (t : Type 0). t) (sym (joined_moved G w x (opposite k))) h;
+}
+
+-- a walk is carried
+walk_carried : (G H : Graph) → IsGraph G → (there back : Vertex → Vertex) → IsMatching G H there back → (vs : List Vertex) (w x : Vertex) → IsVertex G w → IsWalk G w vs x → IsWalk H (there w) (map there vs) (there x)
+walk_carried G H g there back m [] w x i k = ap there k
+walk_carried G H g there back m (v ∷ vs) w x i k =
+    let j = joined_inside G g w v i k.0 in
+    (m.there_joins w v i j k.0, walk_carried G H g there back m vs v x j k.1)
+
+-- and so are steps
+steps_carried : (G H : Graph) → IsGraph G → (there back : Vertex → Vertex) → IsMatching G H there back → (k : ℕ) (w x : Vertex) → IsVertex G w → StepsLead G k w x → StepsLead H k (there w) (there x)
+steps_carried G H g there back m k w x i l = (map there l.0, length-map l.0 there ∙ l.1, walk_carried G H g there back m l.0 w x i l.2)
+
+module _ (G H : Graph) (g : IsGraph G) (h : IsGraph H) (there back : Vertex → Vertex) (m : IsMatching G H there back) (w : Vertex) (i : IsVertex G w) where
+  -- steps from the image are carried back
+  steps_back : (k : ℕ) (x : Vertex) → StepsLead H k (there w) x → StepsLead G k w (back x)
+  steps_back k x l = subst (λ (v : Vertex). StepsLead G k v (back x)) (m.back_there w i) (steps_carried H G h back there (turned G H there back m) k (there w) x (m.into w i) l)
+
+  -- a vertex of a shell of the image comes from one of the shell
+  shell_back : (k : ℕ) (x : Vertex) → IsInShell H (there w) k x → IsInShell G w k (back x)
+  shell_back k x s = record {
+    reached = steps_back k x s.reached;
+    no_fewer = λ j l.
+        let v = walk_inside H h s.reached.0 (there w) x (m.into w i) s.reached.2 in
+        s.no_fewer j (subst (StepsLead H j (there w)) (m.there_back x v) (steps_carried G H g there back m j w (back x) i l));
+  }
+
+  -- and the other way
+  shell_there : (k : ℕ) (x : Vertex) → IsInShell G w k x → IsInShell H (there w) k (there x)
+  shell_there k x s = record {
+    reached = steps_carried G H g there back m k w x i s.reached;
+    no_fewer = λ j l.
+        let v = walk_inside G g s.reached.0 w x i s.reached.2 in
+        s.no_fewer j (subst (StepsLead G j w) (m.back_there x v) (steps_back j (there x) l));
+  }
+
+  -- the shells of a vertex have the sizes of those of its image
+  size_back : (k n : ℕ) → IsShellSize H (there w) k n → IsShellSize G w k n
+  size_back k n s = record {
+    members = map back s.members;
+    exact = λ x. ((λ c. from x (in_map back s.members x (is_in (map back s.members) x c))), (λ q. contains_from_in (map back s.members) x (into x q)));
+    once = pairs_from_apart (map back s.members) (apart s.members (λ x c. inside x c) (apart_from_pairs s.members s.once));
+    count = length-map s.members back ∙ s.count;
+  }
+    where
+      inside : (x : Vertex) → IsIn s.members x → IsVertex H x
+      inside x c = let r = ((s.exact x).0 (contains_from_in s.members x c)).reached in walk_inside H h r.0 (there w) x (m.into w i) r.2
+
+      from : (x : Vertex) → (y : Vertex) × IsIn s.members y × (back y ≡ x) → IsInShell G w k x
+      from x r = subst (IsInShell G w k) r.2 (shell_back k r.0 ((s.exact r.0).0 (contains_from_in s.members r.0 r.1)))
+
+      into : (x : Vertex) → IsInShell G w k x → IsIn (map back s.members) x
+      into x q =
+          let v = walk_inside G g q.reached.0 w x i q.reached.2 in
+          subst (IsIn (map back s.members)) (m.back_there x v) (map_in back s.members (there x) (is_in s.members (there x) ((s.exact (there x)).1 (shell_there k x q))))
+
+      apart : (xs : List Vertex) → ((x : Vertex) → IsIn xs x → IsVertex H x) → AreApart xs → AreApart (map back xs)
+      apart [] v a = tt
+      apart (x ∷ xs) v a = ((λ c. other (in_map back xs (back x) c)), apart xs (λ y c. v y (inr c)) a.1)
+        where
+          other : (y : Vertex) × IsIn xs y × (back y ≡ back x) → ⊥
+          other r = a.0 (subst (IsIn xs) (sym (m.there_back r.0 (v r.0 (inr r.1))) ∙ ap there r.2 ∙ m.there_back x (v x (inl refl))) r.1)
+
+  -- so the lists are the same
+  pub sizes_back : (sizes : List ℕ) → AreShellsOf H (there w) sizes → AreShellsOf G w sizes
+  sizes_back sizes s = record {
+    each = λ k l. size_back (k + 1) _ (s.each k l);
+    within = s.within;
+    few = s.few;
+    ends = by s.ends;
+  }
+    where
+      by : (length sizes ≡ most_shells) ⊎ IsShellPast H (there w) (length sizes + 1) (sum sizes) → (length sizes ≡ most_shells) ⊎ IsShellPast G w (length sizes + 1) (sum sizes)
+      by (inl e) = inl e
+      by (inr p) = inr (record { size = p.size; is_size = size_back (length sizes + 1) p.size p.is_size; past = p.past })

@@ -1,0 +1,12 @@
+pub mod Apart
+pub mod Counting
+pub mod Ends
+pub mod Existence
+pub mod Growing
+pub mod Layers
+pub mod Neighbours
+pub mod NewNeighbours
+pub mod OneSequence
+pub mod StepShells
+pub mod Stepping
+pub mod VertexShells
