@@ -1,5 +1,5 @@
 pub mod CallerLemmas
 pub mod boxes
 pub mod classes
+pub mod layers
 pub mod points
-pub mod shells

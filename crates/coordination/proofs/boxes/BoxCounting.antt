@@ -15,11 +15,11 @@ use Rattle.coordination.specs.Sequences.{AreShellsOf, most_shells, most_in_shell
 use Rattle.coordination.specs.declared.extent.Extent.{Extent}
 use Rattle.coordination.specs.declared.net_box.NetBox.{NetBox}
 use Rattle.coordination.specs.declared.spot.Spot.{Spot}
-use Rattle.coordination.proofs.shells.Counting.{AreCounted, counted_past, counted_ten, counted_turn}
-use Rattle.coordination.proofs.shells.Layers.{and_on, start_layers}
+use Rattle.coordination.proofs.layers.Counting.{AreCounted, counted_past, counted_ten, counted_turn}
+use Rattle.coordination.proofs.layers.Layers.{and_on, start_layers}
 use Rattle.coordination.proofs.boxes.MarkedVertices.{found_more, spot_inside}
 use Rattle.coordination.proofs.boxes.Marking.{unmarked_marked}
-use Rattle.coordination.proofs.shells.VertexShells.{some_vertex_shell, vertex_sizes, walk_of}
+use Rattle.coordination.proofs.layers.VertexShells.{some_vertex_shell, vertex_sizes, walk_of}
 
 -- the vertex over c in cell 0
 abbrev pub start : ℕ → Vertex

@@ -13,7 +13,7 @@ use Rattle.coordination.specs.Marks.{IsLandingWithin, place_along, spot_along, s
 use Rattle.coordination.specs.declared.net_box.NetBox.{NetBox}
 use Rattle.coordination.specs.declared.spot.Step.{Step}
 use Rattle.coordination.proofs.boxes.BoxPlaces.{place_below, place_grows}
-use Rattle.coordination.proofs.shells.Ends.{ends}
+use Rattle.coordination.proofs.layers.Ends.{ends}
 
 module _ (P : Graph) (b : NetBox) (q : IsBoxOf P b) (x : Vertex) (i : IsInside P.vertices b.extent x) (o : IsOpen P b x) where
   -- the end of an arc from x is in the box

@@ -17,9 +17,9 @@ use Rattle.coordination.specs.declared.net_box.NetBox.{NetBox}
 use Rattle.coordination.specs.declared.spot.Spot.{Spot}
 use Rattle.coordination.specs.declared.spot.Step.{Step}
 use Rattle.coordination.proofs.boxes.BoxSteps.{end_inside, spots_of_ends, star_lands}
-use Rattle.coordination.proofs.shells.Ends.{ends, vertices_around}
+use Rattle.coordination.proofs.layers.Ends.{ends, vertices_around}
 use Rattle.coordination.proofs.boxes.MarkedVertices.{Marked, mark_all}
-use Rattle.coordination.proofs.shells.Stepping.{AreSearched, search_starts, search_more, search_ends, search_stops}
+use Rattle.coordination.proofs.layers.Stepping.{AreSearched, search_starts, search_more, search_ends, search_stops}
 
 -- the steps from some vertices were made, and found these
 pub record IsSearching (P : Graph) (b : NetBox) (vertices done : List Vertex) (marks : List Bool) (found : List Spot) : Type 0 where

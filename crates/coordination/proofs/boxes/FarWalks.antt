@@ -13,9 +13,9 @@ use Rattle.coordination.specs.Far.{part_of, far_of, AreAtMost, IsRaised, AreFart
 use Rattle.coordination.specs.declared.extent.TheConstants.{LONGEST}
 use Rattle.coordination.specs.declared.far.Axis.{Axis}
 use Rattle.coordination.specs.declared.far.Axis.TheVariants.{X, Y, Z}
-use Rattle.coordination.proofs.shells.Layers.{and_on}
-use Rattle.coordination.proofs.shells.StepShells.{Leads}
-use Rattle.coordination.proofs.shells.VertexShells.{leads_of, walk_of}
+use Rattle.coordination.proofs.layers.Layers.{and_on}
+use Rattle.coordination.proofs.layers.StepShells.{Leads}
+use Rattle.coordination.proofs.layers.VertexShells.{leads_of, walk_of}
 
 -- what is at most a number is at most any that is no less
 at_most_more : (a : ℤ) (m n : ℕ) → a ≤ℤ pos m → m ≤ n → a ≤ℤ pos n

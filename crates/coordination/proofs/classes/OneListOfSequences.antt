@@ -7,7 +7,7 @@ use Rattle.periodic_net.specs.Graph.{Graph, IsGraph, vertex}
 use Rattle.periodic_net.proofs.CallerLemmas.{one_placement, origin_vertex}
 use Rattle.coordination.specs.Sequences.{AreShellsOf, AreSequencesOf}
 use Rattle.coordination.proofs.classes.OneNumbering.{one_numbering, no_more_classes, class_met}
-use Rattle.coordination.proofs.shells.OneSequence.{one_sequence}
+use Rattle.coordination.proofs.layers.OneSequence.{one_sequence}
 
 module _ (G : Graph) (g : IsGraph G) (xs ys : List (List ℕ)) (a : AreSequencesOf G xs) (b : AreSequencesOf G ys) where
   -- the placements are one

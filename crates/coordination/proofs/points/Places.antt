@@ -14,7 +14,7 @@ use Rattle.quotient_graph.specs.ClassNets.{arcs_of, IsSmallNet}
 use Rattle.coordination.specs.Points.{place_of, AreShort, IsNear, IsStep}
 use Rattle.coordination.specs.Sequences.{most_shells}
 use Rattle.coordination.specs.declared.point.Point.{Point}
-use Rattle.coordination.proofs.shells.StepShells.{Leads, AreLayers}
+use Rattle.coordination.proofs.layers.StepShells.{Leads, AreLayers}
 use Rattle.coordination.proofs.points.Starts.{start_at}
 
 -- a sum of bounded vectors

@@ -11,7 +11,7 @@ use Rattle.key_theory.specs.Key.{Shape}
 use Rattle.key_theory.proofs.CallerLemmas.{arc_seen, leaves, seen, seen_place}
 use Rattle.coordination.specs.Points.{point, place_of, IsStep}
 use Rattle.coordination.specs.declared.point.Point.{Point}
-use Rattle.coordination.proofs.shells.StepShells.{Leads}
+use Rattle.coordination.proofs.layers.StepShells.{Leads}
 use Rattle.coordination.proofs.points.Starts.{start_at}
 
 -- points with equal parts are equal

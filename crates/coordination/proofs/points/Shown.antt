@@ -12,7 +12,7 @@ use Rattle.coordination.specs.Expanding.{StandOnce}
 use Rattle.coordination.specs.Points.{IsNear, IsStep}
 use Rattle.coordination.specs.Sequences.{AreShellsOf, AreShellsOfClass, IsShellPast, most_shells}
 use Rattle.coordination.specs.declared.point.Point.{Point}
-use Rattle.coordination.proofs.shells.Counting.{IsPast, AreSizes, AreCounted}
+use Rattle.coordination.proofs.layers.Counting.{IsPast, AreSizes, AreCounted}
 use Rattle.coordination.proofs.points.Places.{layer_classes, layer_near}
 use Rattle.coordination.proofs.points.Sizes.{size_shown}
 use Rattle.coordination.proofs.points.Starts.{start_at}

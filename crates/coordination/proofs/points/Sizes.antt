@@ -10,12 +10,12 @@ use Rattle.periodic_net.proofs.CallerLemmas.{joined_inside}
 use Rattle.key_theory.specs.Key.{Shape}
 use Rattle.coordination.specs.Points.{IsStep}
 use Rattle.coordination.specs.declared.point.Point.{Point}
-use Rattle.coordination.proofs.shells.Apart.{apart_from_images}
-use Rattle.coordination.proofs.shells.Existence.{some_shell}
+use Rattle.coordination.proofs.layers.Apart.{apart_from_images}
+use Rattle.coordination.proofs.layers.Existence.{some_shell}
 use Rattle.coordination.proofs.points.Finding.{same_point_decided}
-use Rattle.coordination.proofs.shells.Neighbours.{neighbours, points_around}
+use Rattle.coordination.proofs.layers.Neighbours.{neighbours, points_around}
 use Rattle.coordination.proofs.points.Seen.{seen_from, sees_itself, seen_leads, seen_once, walk_seen}
-use Rattle.coordination.proofs.shells.StepShells.{Leads, IsShell, AreShell}
+use Rattle.coordination.proofs.layers.StepShells.{Leads, IsShell, AreShell}
 use Rattle.coordination.proofs.points.Starts.{start_at}
 
 module _ (G : Graph) (g : IsGraph G) where

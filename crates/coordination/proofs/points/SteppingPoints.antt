@@ -7,9 +7,9 @@ use Rattle.coordination.specs.Found.{all_found, all_new}
 use Rattle.coordination.specs.Points.{ends_of, IsStep}
 use Rattle.coordination.specs.declared.point.Point.{Point}
 use Rattle.coordination.proofs.points.Finding.{grows}
-use Rattle.coordination.proofs.shells.Neighbours.{neighbours, points_around}
+use Rattle.coordination.proofs.layers.Neighbours.{neighbours, points_around}
 use Rattle.coordination.proofs.points.Starts.{start_at}
-use Rattle.coordination.proofs.shells.Stepping.{AreSearched, search_more}
+use Rattle.coordination.proofs.layers.Stepping.{AreSearched, search_more}
 
 module _ (K : ClassGraph) where
   -- the steps from the next point of the shell, as a call made them

@@ -3,7 +3,7 @@ use Rattle.periodic_net.specs.Classes.{ClassGraph}
 use Rattle.periodic_net.specs.Correspondence.{IsClass}
 use Rattle.coordination.specs.Expanding.{Expands}
 use Rattle.coordination.specs.Points.{IsStep}
-use Rattle.coordination.proofs.shells.Counting.{counted_past, counted_ten, counted_turn, grown}
+use Rattle.coordination.proofs.layers.Counting.{counted_past, counted_ten, counted_turn, grown}
 use Rattle.coordination.proofs.points.Shown.{class_shown, ready}
 use Rattle.coordination.proofs.points.Sizes.{some_point_shell}
 use Rattle.coordination.proofs.points.Starts.{start_at}

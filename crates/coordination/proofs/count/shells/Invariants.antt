@@ -1,6 +1,6 @@
 use Rattle.std.proofs.Common.{◌≡◌, length}
 use Rattle.coordination.specs.Points.{IsStep}
-use Rattle.coordination.proofs.shells.Counting.{AreCounted}
+use Rattle.coordination.proofs.layers.Counting.{AreCounted}
 use Rattle.coordination.proofs.points.Starts.{start_at}
 use Rattle.coordination.proofs.count.shells.Given as goal
 

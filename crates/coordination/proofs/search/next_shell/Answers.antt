@@ -1,7 +1,7 @@
 use Rattle.std.proofs.Common.{◌<◌, length, ◌+◌, lit<, arith}
 use Rattle.coordination.proofs.points.Places.{star_short}
 use Rattle.coordination.specs.Points.{IsStep}
-use Rattle.coordination.proofs.shells.Stepping.{search_starts, search_ends, search_stops}
+use Rattle.coordination.proofs.layers.Stepping.{search_starts, search_ends, search_stops}
 use Rattle.coordination.proofs.points.SteppingPoints.{search_turn}
 use Rattle.coordination.proofs.search.next_shell.Goals as goal
 

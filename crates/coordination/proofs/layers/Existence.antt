@@ -5,9 +5,9 @@ use Rattle.std.specs.List.{flat_map}
 use Rattle.integers.proofs.lists.Members.{IsIn, AreApart, is_in, contains_from_in, pairs_from_apart}
 use Rattle.integers.proofs.lists.Pieces.{in_pieces, pieces_in}
 use Rattle.coordination.specs.Expanding.{Expands}
-use Rattle.coordination.proofs.shells.Growing.{some_grown}
-use Rattle.coordination.proofs.shells.Layers.{start_layers, next_layers, layer_is_shell}
-use Rattle.coordination.proofs.shells.StepShells.{AreLayers, AreShell}
+use Rattle.coordination.proofs.layers.Growing.{some_grown}
+use Rattle.coordination.proofs.layers.Layers.{start_layers, next_layers, layer_is_shell}
+use Rattle.coordination.proofs.layers.StepShells.{AreLayers, AreShell}
 
 -- exactly what steps lead to from each x
 pub record AreNeighbours {X : Type 0} (Step : X → X → Type 0) (neighbours : X → List X) : Type 0 where

@@ -4,8 +4,8 @@ use Rattle.std.proofs.lemmas.List.{take_all}
 use Rattle.integers.proofs.lists.Members.{IsIn, AreApart, is_in, contains_from_in, apart_from_pairs, pairs_from_apart}
 use Rattle.integers.proofs.lists.Pieces.{in_append, append_left, append_right, in_take}
 use Rattle.coordination.specs.Expanding.{Expands, StandOnce}
-use Rattle.coordination.proofs.shells.Existence.{AreNeighbours}
-use Rattle.coordination.proofs.shells.Growing.{Grows}
+use Rattle.coordination.proofs.layers.Existence.{AreNeighbours}
+use Rattle.coordination.proofs.layers.Growing.{Grows}
 
 -- all steps were made from what is done; next has what they lead to and was not found before
 pub record AreSearched {X : Type 0} (Step : X → X → Type 0) (done before found next : List X) : Type 0 where

@@ -5,7 +5,7 @@ use Rattle.integers.proofs.lists.Pieces.{in_map, map_in}
 use Rattle.integers.proofs.vectors.Laws.{plus_minus}
 use Rattle.periodic_net.specs.Graph.{Graph, Vertex, vertex, AreJoined, arcs_from}
 use Rattle.periodic_net.proofs.CallerLemmas.{arc_between, arc_is_from, end_joined, end_of, from_is_arc}
-use Rattle.coordination.proofs.shells.Existence.{AreNeighbours}
+use Rattle.coordination.proofs.layers.Existence.{AreNeighbours}
 
 -- the ends of the arcs from x
 abbrev pub ends : Graph → Vertex → List Vertex

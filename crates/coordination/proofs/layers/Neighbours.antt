@@ -9,7 +9,7 @@ use Rattle.periodic_net.specs.Classes.{ClassGraph, ClassArc}
 use Rattle.quotient_graph.specs.ClassNets.{arcs_of}
 use Rattle.coordination.specs.Points.{along, ends_of, IsStep}
 use Rattle.coordination.specs.declared.point.Point.{Point}
-use Rattle.coordination.proofs.shells.Existence.{AreNeighbours}
+use Rattle.coordination.proofs.layers.Existence.{AreNeighbours}
 
 -- the points to which the arcs from the class of p lead from p
 abbrev pub neighbours : ClassGraph → Point → List Point

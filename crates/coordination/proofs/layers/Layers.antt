@@ -3,8 +3,8 @@ use Rattle.std.proofs.Common.{◌≡◌, ◌⊎◌, inl, inr, ℕ, zero, suc, �
 use Rattle.integers.proofs.lists.Members.{IsIn, AreApart, is_in, contains_from_in, apart_from_pairs}
 use Rattle.integers.proofs.lists.Pieces.{in_append, append_left, apart_right}
 use Rattle.coordination.specs.Expanding.{Expands}
-use Rattle.coordination.proofs.shells.Apart.{not_in_both}
-use Rattle.coordination.proofs.shells.StepShells.{Leads, IsShell, AreShell, AreSomeOf, AreLayers}
+use Rattle.coordination.proofs.layers.Apart.{not_in_both}
+use Rattle.coordination.proofs.layers.StepShells.{Leads, IsShell, AreShell, AreSomeOf, AreLayers}
 
 module _ {X : Type 0} (Step : X → X → Type 0) where
   -- one step more

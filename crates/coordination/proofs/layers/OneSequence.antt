@@ -6,7 +6,7 @@ use Rattle.integers.proofs.lists.Members.{IsIn, AreApart, is_in, contains_from_i
 use Rattle.periodic_net.specs.Graph.{Graph, Vertex}
 use Rattle.periodic_net.specs.Shells.{IsInShell, IsShellSize}
 use Rattle.coordination.specs.Sequences.{IsShellPast, AreShellsOf, most_shells}
-use Rattle.coordination.proofs.shells.Apart.{no_longer}
+use Rattle.coordination.proofs.layers.Apart.{no_longer}
 
 -- lists that are equal place by place, as far as the first goes
 beginning : (xs ys : List ℕ) → length xs ≤ length ys → ((k : ℕ) → k < length xs → get_or xs k 0 ≡ get_or ys k 0) → xs ≡ take (length xs) ys

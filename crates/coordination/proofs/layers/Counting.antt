@@ -5,9 +5,9 @@ use Rattle.std.proofs.lemmas.List.Sums.{sum_by_push}
 use Rattle.std.specs.Prelude.{slice_index_or}
 use Rattle.coordination.specs.Expanding.{Expands}
 use Rattle.coordination.specs.Sequences.{most_shells, most_in_shells}
-use Rattle.coordination.proofs.shells.Apart.{no_longer}
-use Rattle.coordination.proofs.shells.Layers.{layer_is_shell, next_inside, next_layers}
-use Rattle.coordination.proofs.shells.StepShells.{AreShell, AreLayers}
+use Rattle.coordination.proofs.layers.Apart.{no_longer}
+use Rattle.coordination.proofs.layers.Layers.{layer_is_shell, next_inside, next_layers}
+use Rattle.coordination.proofs.layers.StepShells.{AreShell, AreLayers}
 
 module _ {X : Type 0} (Step : X → X → Type 0) (s : X) where
   -- shell k has this size

@@ -5,10 +5,10 @@ use Rattle.periodic_net.specs.Graph.{Graph, Vertex, AreJoined, IsWalk}
 use Rattle.periodic_net.specs.Shells.{StepsLead, IsInShell, IsShellSize}
 use Rattle.periodic_net.proofs.CallerLemmas.{vertex_decided}
 use Rattle.coordination.specs.Sequences.{AreShellsOf, IsShellPast, most_shells}
-use Rattle.coordination.proofs.shells.Counting.{AreSizes, IsPast}
-use Rattle.coordination.proofs.shells.Ends.{ends, vertices_around}
-use Rattle.coordination.proofs.shells.Existence.{some_shell}
-use Rattle.coordination.proofs.shells.StepShells.{Leads, IsShell, AreShell}
+use Rattle.coordination.proofs.layers.Counting.{AreSizes, IsPast}
+use Rattle.coordination.proofs.layers.Ends.{ends, vertices_around}
+use Rattle.coordination.proofs.layers.Existence.{some_shell}
+use Rattle.coordination.proofs.layers.StepShells.{Leads, IsShell, AreShell}
 
 module _ (P : Graph) where
   -- each shell of a vertex can be listed
