@@ -1,12 +1,12 @@
 -- The colouring of a net whose closed walks have full rank and are not all shifts.
-use Rattle.std.proofs.Common.{◌≡◌, ℕ, zero, suc, ◌-◌, ◌%◌, ◌<◌, ◌≤◌, ℤ, pos, negsuc, neg_ℤ, ◌+ℤ◌, ◌-ℤ◌, ◌*ℤ◌, ◌≤ℤ◌, ◌<ℤ◌, Bool, true, false, cond, ◌==◌, List, [], ◌∷◌, length, map, get_or, Option, None, IsSome, All, ◌⊎◌, inl, inr, refl, sym, ap, subst, ◌∙◌, arith, unsigned_abs}
-use Rattle.std.specs.Int.{int_rem_euclid}
+use Rattle.std.proofs.Common.{◌≡◌, ℕ, zero, suc, ◌-◌, ◌<◌, ◌≤◌, ℤ, pos, negsuc, neg_ℤ, ◌+ℤ◌, ◌-ℤ◌, ◌*ℤ◌, ◌≤ℤ◌, ◌<ℤ◌, Bool, true, false, cond, ◌==◌, List, [], ◌∷◌, length, map, get_or, Option, None, IsSome, All, ◌⊎◌, inl, inr, refl, sym, ap, subst, ◌∙◌, arith, unsigned_abs}
 use Rattle.std.proofs.lemmas.Int.{ints}
 use Rattle.std.proofs.lemmas.Bool.{ne_eqb}
 use Rattle.std.proofs.lemmas.List.{length-map, get_or-map}
 use Rattle.integers.specs.Vectors.{Vector, vector, zero_vector, minus, dot}
 use Rattle.integers.specs.Staircase.{part, IsStaircase}
 use Rattle.integers.proofs.numbers.Ring.{ring, linear}
+use Rattle.integers.proofs.numbers.Division.{euclid_rest}
 use Rattle.periodic_net.specs.Graph.{Graph, IsGraph, IsQuotientVertex}
 use Rattle.periodic_net.specs.Split.{Split, AreAlike, entry, ClosedShift, IsPivot, IsSparseSplit, EndsBy}
 use Rattle.vecdim.specs.Stairs.{Stairs, InStairs, IsReducedStair, HasFlatEnd, HasStairShape, rows_of}
@@ -19,12 +19,6 @@ use Rattle.walk_lattice.proofs.CallerLemmas.{closed_difference, walk_at, ends_by
 use Rattle.connected_dim.specs.Sparse.{IsDual, sparse_colour, sparse_colouring}
 use Rattle.connected_dim.proofs.AllFound.{each_found, some_walk}
 use Rattle.connected_dim.proofs.Multiples.{Divides, complement_range, first_divides, second_divides, third_divides}
-
--- a remainder is from 0 to below the divisor
-remainder_range : (z m : ℤ) → pos 0 <ℤ m → (pos 0 ≤ℤ int_rem_euclid z m) × (int_rem_euclid z m <ℤ m)
-remainder_range (pos n) (pos m) h = let b : n % m < m = omega (arith, ints, h) in (omega (arith, ints), omega (arith, ints))
-remainder_range (negsuc n) (pos m) h = let b : n % m < m = omega (arith, ints, h) in (omega (arith, ints), omega (arith, ints))
-remainder_range z (negsuc m) h = absurd (omega (arith, ints, h))
 
 -- the entry of one walk is that of each walk to the vertex, modulo q
 same_alike : (q c1 c2 c3 s1 s2 s3 t1 t2 t3 h k n : ℤ) → h ≡ neg_ℤ (c1 *ℤ t1 +ℤ c2 *ℤ t2 +ℤ c3 *ℤ t3) +ℤ q *ℤ k
@@ -121,7 +115,7 @@ module _ (G : Graph) (found : List (Option Vector)) (R : Stairs) (S : Split) (g 
     ends = ends;
     divides = closed;
     count = ap length sh ∙ length-map found (sparse_colour (pos S.q) S.c) ∙ w.count;
-    h_range = λ u v. subst (λ z. (pos 0 ≤ℤ z) × (z <ℤ pos S.q)) (sym (at u v)) (remainder_range (neg_ℤ (dot S.c (shift_at found u))) (pos S.q) (omega (arith, ints, above)));
+    h_range = λ u v. subst (λ z. (pos 0 ≤ℤ z) × (z <ℤ pos S.q)) (sym (at u v)) (euclid_rest (neg_ℤ (dot S.c (shift_at found u))) (pos S.q) (omega (arith, ints, above)));
     h = λ u T v walk.
         let U = shift_at found u in
         let c = S.c in

@@ -93,7 +93,9 @@ fn rows_in<const D: usize>(s: &Staircase<D>) -> Rows
     requires dimension { (D ≡ 2) ⊎ (D ≡ 3) }
     ensures rows { stairs result.a result.b result.c result.e result.f result.i ≡ s.now }
     ensures stair { HasStairShape D s.now }
-    ensures small { (result.a ≤ℤ pos (2 ^ 60)) × (result.e ≤ℤ pos (2 ^ 60)) × (result.i ≤ℤ pos (2 ^ 60)) }
+    ensures small_a { result.a ≤ℤ pos (2 ^ 60) }
+    ensures small_e { result.e ≤ℤ pos (2 ^ 60) }
+    ensures small_i { result.i ≤ℤ pos (2 ^ 60) }
 {
     let rows = s.rows();
     let first = rows[0];
@@ -130,7 +132,9 @@ fn last_dual(r: Rows) -> Option<Dual>
 // The first pivot above 1.
 fn dual_of(r: Rows) -> Option<Dual>
     requires reduced { IsReducedStair (stairs r.a r.b r.c r.e r.f r.i) }
-    requires small { (r.a ≤ℤ pos (2 ^ 60)) × (r.e ≤ℤ pos (2 ^ 60)) × (r.i ≤ℤ pos (2 ^ 60)) }
+    requires small_a { r.a ≤ℤ pos (2 ^ 60) }
+    requires small_e { r.e ≤ℤ pos (2 ^ 60) }
+    requires small_i { r.i ≤ℤ pos (2 ^ 60) }
     ensures dual { IfSome result (λ d. IsDual (stairs r.a r.b r.c r.e r.f r.i) d.q d.c) }
     ensures above { IfSome result (λ d. pos 2 ≤ℤ d.q) }
     ensures small { IfSome result (λ d. d.q ≤ℤ pos (2 ^ 60)) }

@@ -27,7 +27,7 @@ fn flat_colour<const D: usize>(c: &Triple, walk: &Option<Shift<D>>) -> i64
     requires walk { IsWithin most_walk (shift_of walk.now) }
     ensures { result ≡ flat_colour c.now walk.now }
 {
-    negative(c.dot(&shift_of(walk).to_vector().to_triple()))
+    negative(c.dot(&shift_of(walk).to_triple()))
 }
 
 fn flat_colours<const D: usize>(

@@ -1,5 +1,5 @@
 // The colouring of a quotient graph that is not connected.
-ghost use Rattle.std.specs.Prelude.{◌≡◌, IfOk, IsSome, None, All, Contains, true, false, map};
+ghost use Rattle.std.specs.Prelude.{◌≡◌, ◌↔◌, IfOk, IsTrue, IsSome, None, All, Contains, true, false, map};
 ghost use Rattle.quotient_graph.specs.Splits.{split_in};
 ghost use Rattle.connected_dim.specs.Quotient.{part_colour, part_colouring};
 
@@ -13,12 +13,11 @@ pub fn all_found<const D: usize>(found: &[Option<Shift<D>>]) -> bool
     ensures yes { result ≡ true → All IsSome found.now }
     ensures no { result ≡ false → Contains found.now None }
 {
-    for walk in found {
-        if walk.is_none() {
-            return false;
-        }
-    }
-    true
+    found.iter().all(
+        |walk| -> bool
+            ensures { IsTrue result ↔ IsSome walk.now }
+        { walk.is_some() },
+    )
 }
 
 fn part_colour<const D: usize>(walk: &Option<Shift<D>>) -> i64

@@ -33,7 +33,7 @@ fn sparse_colour<const D: usize>(d: &Dual, walk: &Option<Shift<D>>) -> i64
     requires walk { IsWithin most_walk (shift_of walk.now) }
     ensures { result ≡ sparse_colour d.now.q d.now.c walk.now }
 {
-    residue(d.c.dot(&shift_of(walk).to_vector().to_triple()), d.q)
+    residue(d.c.dot(&shift_of(walk).to_triple()), d.q)
 }
 
 fn sparse_colours<const D: usize>(

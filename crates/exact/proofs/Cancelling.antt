@@ -9,9 +9,10 @@ use Rattle.integers.proofs.numbers.Bezout.{bezout, Bezout}
 use Rattle.integers.proofs.numbers.Gcd.{bezout_gcd, natural_multiple}
 use Rattle.integers.proofs.numbers.Divisors.{only_one}
 use Rattle.std.proofs.Math.Nat.{mul_comm}
-use Rattle.exact.specs.Ratio.{Ratio, IsDenominator, HasInverse, IsWholeMultiple}
+use Rattle.exact.specs.Ratio.{Ratio, IsDenominator, HasInverse}
 use Rattle.exact.specs.Values.{CanCancel}
 use Rattle.exact.proofs.WholeMultiples.{cancels_of, cancel}
+use Rattle.integers.specs.Divisors.{DividesInteger}
 
 -- z is +n or -n
 abbrev IsSigned : ℤ → ℕ → Type 0
@@ -75,7 +76,7 @@ common_is_one g k l n h = by (cancel h (pos l) (pos k, exchange (pos g) (pos k) 
     positive zero n = absurd (n (omega arith))
     positive (suc l) n = omega arith
 
-    by : IsWholeMultiple (g * l) (pos l) → g ≡ 1
+    by : DividesInteger (g * l) (pos l) → g ≡ 1
     by d = let m = natural_multiple (g * l) l d.0 d.1 in only_one l g m.0 (positive l n) (m.1 ∙ ap (λ t. t * m.0) (mul_comm g l))
 
 -- what can be cancelled has no common divisor with m above 1

@@ -5,11 +5,12 @@ use Rattle.std.specs.Int.{◌∣◌}
 use Rattle.std.proofs.lemmas.Int.{unsigned_abs-mul}
 use Rattle.integers.proofs.numbers.Ring.{ring, linear}
 use Rattle.integers.proofs.numbers.Gcd.{quotient_of, divides_multiple}
-use Rattle.exact.specs.Ratio.{Ratio, IsWholeMultiple, Same}
+use Rattle.exact.specs.Ratio.{Ratio, Same}
 use Rattle.exact.specs.Values.{CanCancel}
+use Rattle.integers.specs.Divisors.{DividesInteger}
 
 -- it is where m divides its absolute value
-whole_multiple : (m : ℕ) (z : ℤ) → m ∣ unsigned_abs z → IsWholeMultiple m z
+whole_multiple : (m : ℕ) (z : ℤ) → m ∣ unsigned_abs z → DividesInteger m z
 whole_multiple m (pos n) d = let q = quotient_of m n d in (pos q.0, ap pos q.1)
 whole_multiple m (negsuc n) d = let q = quotient_of m (suc n) d in (neg_ℤ (pos q.0), ap (λ t. neg_ℤ (pos t)) q.1 ∙ opposite (pos m) (pos q.0))
   where
@@ -17,19 +18,19 @@ whole_multiple m (negsuc n) d = let q = quotient_of m (suc n) d in (neg_ℤ (pos
     opposite m k = simp ring (omega (arith, linear))
 
 -- and only there
-divides_whole : (m : ℕ) (z : ℤ) → IsWholeMultiple m z → m ∣ unsigned_abs z
+divides_whole : (m : ℕ) (z : ℤ) → DividesInteger m z → m ∣ unsigned_abs z
 divides_whole m z h = divides_multiple m (unsigned_abs z) (unsigned_abs h.0, ap unsigned_abs h.1 ∙ unsigned_abs-mul (pos m) h.0)
 
 -- two values are the same where their difference is a multiple
-pub same_of : {m : ℕ} {a b : Ratio} → IsWholeMultiple m (a.num *ℤ pos b.den -ℤ b.num *ℤ pos a.den) → Same m a b
+pub same_of : {m : ℕ} {a b : Ratio} → DividesInteger m (a.num *ℤ pos b.den -ℤ b.num *ℤ pos a.den) → Same m a b
 same_of {m} {a} {b} h = record { difference = divides_whole m (a.num *ℤ pos b.den -ℤ b.num *ℤ pos a.den) h }
 
-pub difference_multiple : {m : ℕ} {a b : Ratio} → Same m a b → IsWholeMultiple m (a.num *ℤ pos b.den -ℤ b.num *ℤ pos a.den)
+pub difference_multiple : {m : ℕ} {a b : Ratio} → Same m a b → DividesInteger m (a.num *ℤ pos b.den -ℤ b.num *ℤ pos a.den)
 difference_multiple {m} {a} {b} s = whole_multiple m (a.num *ℤ pos b.den -ℤ b.num *ℤ pos a.den) s.difference
 
 -- z can be cancelled where each multiple z·x is of a multiple x
-pub cancels_of : {m : ℕ} {z : ℤ} → ((x : ℤ) → IsWholeMultiple m (z *ℤ x) → IsWholeMultiple m x) → CanCancel m z
+pub cancels_of : {m : ℕ} {z : ℤ} → ((x : ℤ) → DividesInteger m (z *ℤ x) → DividesInteger m x) → CanCancel m z
 cancels_of {m} {z} f = record { cancels = λ x d. divides_whole m x (f x (whole_multiple m (z *ℤ x) d)) }
 
-pub cancel : {m : ℕ} {z : ℤ} → CanCancel m z → (x : ℤ) → IsWholeMultiple m (z *ℤ x) → IsWholeMultiple m x
+pub cancel : {m : ℕ} {z : ℤ} → CanCancel m z → (x : ℤ) → DividesInteger m (z *ℤ x) → DividesInteger m x
 cancel {m} {z} h x d = whole_multiple m x (h.cancels x (divides_whole m (z *ℤ x) d))

@@ -6,10 +6,6 @@ pub record Ratio : Type 0 where
   pub num : ℤ
   pub den : ℕ
 
--- z is m times a whole number
-abbrev pub IsWholeMultiple : ℕ → ℤ → Type 0
-IsWholeMultiple m z = (k : ℤ) × (z ≡ pos m *ℤ k)
-
 -- m divides a·b' - a'·b, for the values a/b and a'/b'; for m = 0 the values are equal
 pub record Same (m : ℕ) (a b : Ratio) : Type 0 where
   pub difference : m ∣ unsigned_abs (a.num *ℤ pos b.den -ℤ b.num *ℤ pos a.den)

@@ -2,6 +2,7 @@ pub mod Apart
 pub mod Counting
 pub mod Filters
 pub mod Greatest
+pub mod Insertion
 pub mod ListOrder
 pub mod Matched
 pub mod Members

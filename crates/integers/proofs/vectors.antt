@@ -7,6 +7,7 @@ pub mod Groups
 pub mod Independence
 pub mod Laws
 pub mod LinearRelations
+pub mod Normals
 pub mod OneStaircase
 pub mod Opposites
 pub mod Parts

@@ -13,7 +13,7 @@ use Rattle.std.specs.Prelude.{◌==◌}
 use Rattle.periodic_net.specs.Classes.{ClassGraph, ClassArc}
 use Rattle.periodic_net.specs.Correspondence.{IsClass, IsProperArc}
 use Rattle.key_theory.specs.Coordinates.{arc_by_basis, graph_by_basis, AreCoordinates}
-use Rattle.key_theory.proofs.carried.InCoordinates.{coordinates_net}
+use Rattle.key_theory.proofs.CallerLemmas.{coordinates_net}
 use Rattle.quotient_graph.specs.ClassNets.{arcs_of, class_star, class_graph, HasStars, IsSmallNet, IsNetInMemory}
 use Rattle.quotient_graph.proofs.CallerLemmas.{stars_are_arcs}
 use Rattle.vecdim.specs.Stairs.{Stairs, HasStairShape}

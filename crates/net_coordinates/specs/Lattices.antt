@@ -18,8 +18,8 @@ abbrev pub AreInside : ℕ → Stairs → List ClassArc → Type 0
 AreInside d S arcs = All (IsInside d S) arcs
 
 -- the vectors of these arcs are within the limit of a placement
-abbrev pub AreShort : List ClassArc → Type 0
-AreShort arcs = All (λ (a : ClassArc). IsWithin most_units a.vector) arcs
+abbrev pub AreWithinUnits : List ClassArc → Type 0
+AreWithinUnits arcs = All (λ (a : ClassArc). IsWithin most_units a.vector) arcs
 
 -- the rows of a staircase as a basis; in dimension 2 the third row is (0, 0, 1)
 abbrev pub basis_of : Stairs → Base

@@ -3,7 +3,7 @@ ghost use Rattle.std.specs.Prelude.{◌≡◌, ◌⊎◌, ◌≤ℤ◌, pos, IfO
 ghost use Rattle.integers.specs.Vectors.{HasDimension, IsWithin};
 ghost use Rattle.periodic_net.specs.Limits.{most_coordinate, most_units};
 ghost use Rattle.key_theory.specs.Coordinates.{arc_by_basis, AreCoordinates};
-ghost use Rattle.net_coordinates.specs.Lattices.{basis_of, AreInside, AreShort, IsInCoordinates, IsInside};
+ghost use Rattle.net_coordinates.specs.Lattices.{basis_of, AreInside, AreWithinUnits, IsInCoordinates, IsInside};
 
 use crate::NoMemory;
 use crate::lattice::lattice_of;
@@ -35,7 +35,7 @@ fn arcs_in<const D: usize>(
 ) -> Result<Vec<ClassArc<D>>, NoMemory>
     requires dimension { (D ≡ 2) ⊎ (D ≡ 3) }
     requires inside { AreInside D lattice.now arcs.now }
-    requires short { AreShort arcs.now }
+    requires short { AreWithinUnits arcs.now }
     ensures { IfOk result (λ s. IsInCoordinates D lattice.now arcs.now s.items) }
 {
     let mut coordinates = Vec::with_capacity(alloc, arcs.len())?;

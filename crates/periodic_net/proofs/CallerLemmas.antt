@@ -3,23 +3,27 @@ pub use Rattle.periodic_net.proofs.Theorems.{barycentric_placements_translate, i
 pub use Rattle.periodic_net.proofs.examples.HoneycombNet.{honeycomb_normal_placement}
 pub use Rattle.periodic_net.proofs.examples.SquareClasses.{loop, right, square_classes, square_is_classes, up}
 pub use Rattle.periodic_net.proofs.examples.SquareNet.{square_graph, square_stable}
+pub use Rattle.periodic_net.proofs.examples.TwoVertices.{either}
 pub use Rattle.periodic_net.proofs.isomorphisms.ClassIsomorphism.{correspond_turned}
-pub use Rattle.periodic_net.proofs.isomorphisms.Isomorphism.{iso_reflexive}
+pub use Rattle.periodic_net.proofs.isomorphisms.Isomorphism.{iso_reflexive, iso_symmetric, iso_transitive}
 pub use Rattle.periodic_net.proofs.isomorphisms.LinearPart.{image_linear}
-pub use Rattle.periodic_net.proofs.isomorphisms.Neighbours.{arc_between, between_end, end_joined, end_of}
-pub use Rattle.periodic_net.proofs.isomorphisms.Periods.{moved_vertex}
+pub use Rattle.periodic_net.proofs.isomorphisms.Matchings.{IsMatching, iso_matching, matching_turned, walk_there}
+pub use Rattle.periodic_net.proofs.isomorphisms.Neighbours.{arc_between, between_end, end_between, end_joined, end_of}
+pub use Rattle.periodic_net.proofs.isomorphisms.Periods.{identity_periodic, moved_vertex}
 pub use Rattle.periodic_net.proofs.isomorphisms.Transport.{iso_classes}
-pub use Rattle.periodic_net.proofs.nets.ArcLists.{arc_is_from, arc_turned, arcs_apart, either_way, from_is_arc, one_spelling, reverse_twice}
+pub use Rattle.periodic_net.proofs.nets.ArcLists.{arc_is_from, arc_turned, arcs_apart, both_length, edge_in, either_way, from_is_arc, one_spelling, reverse_in, reverse_twice}
 pub use Rattle.periodic_net.proofs.nets.Arcs.{IsInside, arc_inside, joined_inside, origin_vertex}
 pub use Rattle.periodic_net.proofs.nets.Generators.{IsTree, connected_by_tree}
 pub use Rattle.periodic_net.proofs.nets.Loops.{reached_by_shift}
 pub use Rattle.periodic_net.proofs.nets.SplitCases.{one_not_alike, split_by_parts}
 pub use Rattle.periodic_net.proofs.nets.Splits.{split_shows_not_connected}
-pub use Rattle.periodic_net.proofs.nets.Walks.{joined_moved, joined_turned, moved_to, reached_by_arc, reached_itself, reached_moved, reached_transitive, reached_turned, same_reached}
+pub use Rattle.periodic_net.proofs.nets.Walks.{joined_moved, joined_turned, moved_to, reached_by_arc, reached_itself, reached_moved, reached_transitive, reached_turned, same_reached, walks_joined}
+pub use Rattle.periodic_net.proofs.placements.MaximumPrinciple.{gain}
 pub use Rattle.periodic_net.proofs.placements.OnePlacement.{one_placement}
 pub use Rattle.periodic_net.proofs.placements.Positions.{at_origin, end_vector, move_dimension, moves_by, position_moved, positions_tell, vertex_decided}
 pub use Rattle.periodic_net.proofs.placements.Translates.{total_linear, total_zero}
 pub use Rattle.periodic_net.proofs.translations.ByVectors.{class_arcs, joined_of_vector}
 pub use Rattle.periodic_net.proofs.translations.ClassMembers.{IsShape, class_in, flat_arcs, member}
 pub use Rattle.periodic_net.proofs.translations.Classes.{share_by, share_from, share_move, share_reflexive, share_symmetric}
-pub use Rattle.periodic_net.proofs.translations.Translations.{same_end, stands_back, stands_by, translation_plus, whole_translation}
+pub use Rattle.periodic_net.proofs.translations.ShownArcs.{class_arc_of, shows_class_arc, class_arcs_shown, shows_one}
+pub use Rattle.periodic_net.proofs.translations.Translations.{same_end, stands_back, stands_by, stands_difference, translation_plus, whole_translation}

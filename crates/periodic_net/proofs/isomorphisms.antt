@@ -9,6 +9,7 @@ pub mod ClassIsomorphism
 pub mod Isomorphism
 pub mod LinearPart
 pub mod MapTables
+pub mod Matchings
 pub mod Neighbours
 pub mod Periods
 pub mod StableIsomorphs

@@ -2,5 +2,6 @@
 pub mod ByVectors
 pub mod ClassMembers
 pub mod Classes
+pub mod ShownArcs
 pub mod Translations
 pub mod Undoing

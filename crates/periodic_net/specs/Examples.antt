@@ -8,6 +8,10 @@ use Rattle.periodic_net.specs.Placement.{Placement}
 abbrev pub square_net : Graph
 square_net = record { dimension = 2; vertices = 1; edges = arc 1 1 (vector (pos 1) (pos 0) (pos 0)) ∷ arc 1 1 (vector (pos 0) (pos 1) (pos 0)) ∷ [] }
 
+-- the square net over a cell of half its steps to the right: two nets that pass each other
+abbrev pub doubled_net : Graph
+doubled_net = record { dimension = 2; vertices = 1; edges = arc 1 1 (vector (pos 2) (pos 0) (pos 0)) ∷ arc 1 1 (vector (pos 0) (pos 1) (pos 0)) ∷ [] }
+
 -- two vertices with three edges from the one to the other
 abbrev pub honeycomb_net : Graph
 honeycomb_net = record {

@@ -6,7 +6,7 @@ use Rattle.integers.specs.Vectors.{Vector, zero_vector, minus}
 use Rattle.integers.proofs.numbers.Ring.{ring, linear}
 use Rattle.integers.proofs.vectors.Laws.{vector_equal}
 use Rattle.vecdim.specs.Stairs.{Stairs, InStairs, HasStairShape, IsRemainder}
-use Rattle.vecdim.specs.Steps.{IsDivided}
+use Rattle.vecdim.specs.Steps.{HasRemainder}
 
 -- a multiple of m between two rests is 0
 no_multiple : (m r s k : ℤ) → pos 0 ≤ℤ r → r <ℤ m → pos 0 ≤ℤ s → s <ℤ m → r -ℤ s ≡ k *ℤ m → k ≡ pos 0
@@ -59,7 +59,7 @@ pub third_off : (v r c f i q l n : ℤ) → (v -ℤ c *ℤ q) -ℤ f *ℤ l ≡ 
 third_off v r c f i q l n h = simp ring (omega (arith, linear, h))
 
 -- the vector and its rests differ by a member
-pub divided_member : {S : Stairs} {v q r : Vector} → IsDivided S v q r → InStairs S (minus v r)
+pub divided_member : {S : Stairs} {v q r : Vector} → HasRemainder S v q r → InStairs S (minus v r)
 divided_member {S} {v} {q} {r} h = record {
   k = q.x;
   l = q.y;
@@ -74,7 +74,7 @@ zero_below_one : (r i : ℤ) → i ≡ pos 1 → pos 0 ≤ℤ r → r <ℤ i →
 zero_below_one r i e h k = omega (arith, ints, e, h, k)
 
 -- the rests are a remainder
-pub divided_remainder : (d : ℕ) {S : Stairs} {v q r : Vector} → HasStairShape d S → IsDivided S v q r → IsRemainder d S r
+pub divided_remainder : (d : ℕ) {S : Stairs} {v q r : Vector} → HasStairShape d S → HasRemainder S v q r → IsRemainder d S r
 divided_remainder d {S} {v} {q} {r} s h = record {
   dimension = λ e. zero_below_one r.z S.i (s.flat e).i h.low.2 h.high.2;
   low = h.low;
@@ -115,6 +115,6 @@ rest_member {S} v r m t = record {
 }
 
 -- a member has the remainder 0
-pub member_rests : (d : ℕ) {S : Stairs} {v q r : Vector} → HasStairShape d S → IsDivided S v q r → InStairs S v → r ≡ zero_vector
+pub member_rests : (d : ℕ) {S : Stairs} {v q r : Vector} → HasStairShape d S → HasRemainder S v q r → InStairs S v → r ≡ zero_vector
 member_rests d {S} {v} {q} {r} s h m =
     one_remainder d S r zero_vector (divided_remainder d s h) (zero_remainder d S s) (rest_member v r (divided_member h) m)

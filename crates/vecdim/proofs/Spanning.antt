@@ -12,7 +12,7 @@ use Rattle.integers.proofs.vectors.Laws.{vector_equal, plus_dimension, opposite_
 use Rattle.vecdim.specs.Stairs.{Stairs, InStairs, HasStairShape, rows_of}
 use Rattle.vecdim.specs.Lattices.{Members}
 use Rattle.vecdim.proofs.Lattice.{in_pair, own_rows}
-use Rattle.vecdim.specs.Steps.{IsDivided}
+use Rattle.vecdim.specs.Steps.{HasRemainder}
 use Rattle.vecdim.proofs.Remainders.{first_off, second_off, third_off, member_rests}
 
 -- the first part of the sum
@@ -87,7 +87,7 @@ exact_z : (v r o p q : ℤ) → r ≡ pos 0 → v -ℤ r ≡ o +ℤ p +ℤ q →
 exact_z v r o p q h e = omega (arith, linear, h, e)
 
 -- the coordinates of a member
-pub coordinates_are : (d : ℕ) {S : Stairs} {v q r : Vector} → HasStairShape d S → IsDivided S v q r → Members d S v
+pub coordinates_are : (d : ℕ) {S : Stairs} {v q r : Vector} → HasStairShape d S → HasRemainder S v q r → Members d S v
     → (combination (q.x ∷ q.y ∷ q.z ∷ []) (rows_of d S) ≡ v) × HasDimension d q
 coordinates_are d {S} {v} {q} {r} s h m =
     let e = member_rests d s h m.0 in

@@ -6,7 +6,7 @@ use Rattle.std.proofs.Math.Nat.{mul-le-mul_left, le_trans}
 use Rattle.integers.specs.Vectors.{Vector}
 use Rattle.integers.proofs.vectors.Bounds.{bounded_product, bounded_difference, fits_from_bound}
 use Rattle.vecdim.specs.Stairs.{Stairs}
-use Rattle.vecdim.specs.Steps.{IsDivided}
+use Rattle.vecdim.specs.Steps.{HasRemainder}
 
 -- a product that `less` takes off fits
 pub taken_fits : (b k : ℤ) → unsigned_abs b ≤ 2 ^ 60 → unsigned_abs k ≤ 2 ^ 61 → FitsSigned w128 (b *ℤ k)
@@ -60,5 +60,5 @@ above_from c m h i = omega (arith, ints, h, i)
 -- the vector is divided
 pub divided_is : {S : Stairs} {v q r : Vector} → (pos 0 ≤ℤ r.x) × (r.x <ℤ S.a) × (v.x ≡ r.x +ℤ S.a *ℤ q.x)
     → (pos 0 ≤ℤ r.y) × (r.y <ℤ S.e) × (v.y -ℤ S.b *ℤ q.x ≡ r.y +ℤ S.e *ℤ q.y)
-    → (pos 0 ≤ℤ r.z) × (r.z <ℤ S.i) × ((v.z -ℤ S.c *ℤ q.x) -ℤ S.f *ℤ q.y ≡ r.z +ℤ S.i *ℤ q.z) → IsDivided S v q r
+    → (pos 0 ≤ℤ r.z) × (r.z <ℤ S.i) × ((v.z -ℤ S.c *ℤ q.x) -ℤ S.f *ℤ q.y ≡ r.z +ℤ S.i *ℤ q.z) → HasRemainder S v q r
 divided_is x y z = record { low = (x.0, y.0, z.0); high = (x.1, y.1, z.1); x = x.2; y = y.2; z = z.2 }

@@ -75,7 +75,7 @@ pub record IsInserted (m : ℤ) (S T : Stairs) (v : Vector) : Type 0 where
   pub added : HasAdded S T v
 
 -- v is the rests r, and q.x, q.y and q.z times the rows; each rest is from 0 to below the pivot
-pub record IsDivided (S : Stairs) (v q r : Vector) : Type 0 where
+pub record HasRemainder (S : Stairs) (v q r : Vector) : Type 0 where
   pub low : (pos 0 ≤ℤ r.x) × (pos 0 ≤ℤ r.y) × (pos 0 ≤ℤ r.z)
   pub high : (r.x <ℤ S.a) × (r.y <ℤ S.e) × (r.z <ℤ S.i)
   pub x : v.x ≡ r.x +ℤ S.a *ℤ q.x

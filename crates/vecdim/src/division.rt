@@ -2,7 +2,7 @@
 ghost use Rattle.std.specs.Prelude.{◌≡◌, ℕ, pos, ◌+ℤ◌, ◌-ℤ◌, ◌*ℤ◌, ◌≤ℤ◌, ◌<ℤ◌, ◌≤◌, ◌*◌, ◌^◌, unsigned_abs};
 ghost use Rattle.integers.specs.Vectors.{IsWithin};
 ghost use Rattle.vecdim.specs.Stairs.{stairs, IsReducedStair};
-ghost use Rattle.vecdim.specs.Steps.{HasSmallPivots, IsDivided};
+ghost use Rattle.vecdim.specs.Steps.{HasSmallPivots, HasRemainder};
 
 use crate::Triple;
 use crate::columns::Division;
@@ -82,7 +82,8 @@ pub(crate) fn divide_by(s: Rows, v: Triple) -> Divided
     requires reduced { IsReducedStair (stairs s.a s.b s.c s.e s.f s.i) }
     requires small { HasSmallPivots (stairs s.a s.b s.c s.e s.f s.i) }
     requires vector { IsWithin (2 ^ 61) v }
-    ensures divided { IsDivided (stairs s.a s.b s.c s.e s.f s.i) v result.quotients result.rests }
+    ensures divided { HasRemainder (stairs s.a s.b s.c s.e s.f s.i) v
+        result.quotients result.rests }
     ensures within { (n : ℕ) → IsWithin n v → IsWithin (2 * n) result.quotients }
     ensures small { IsWithin (2 ^ 60) result.rests }
 {

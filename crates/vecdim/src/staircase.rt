@@ -4,7 +4,7 @@ ghost use Rattle.integers.specs.Vectors.{vector, parts, minus, combination, HasD
 ghost use Rattle.integers.specs.Staircase.{IsStaircase, Spans, StaircasesAreOne};
 ghost use Rattle.vecdim.specs.Stairs.{stairs, HasStairShape, HasFlatEnd, IsRemainder, IsWhole, rows_of, pivots_of, size_of};
 ghost use Rattle.vecdim.specs.Lattices.{Members, AreMultiples, IsWith};
-ghost use Rattle.vecdim.specs.Steps.{IsBoundedStair, IsDivided};
+ghost use Rattle.vecdim.specs.Steps.{IsBoundedStair, HasRemainder};
 
 use crate::division::{Divided, divide_by};
 use crate::insertion::{Rows, insert_rows};
@@ -151,7 +151,7 @@ impl<const D: usize> Staircase<D> {
     fn divided(&self, v: &Vect<D>) -> Divided
         ensures stair { HasStairShape D self.now }
         ensures dimension { HasDimension D v.now }
-        ensures divided { IsDivided self.now v.now result.quotients result.rests }
+        ensures divided { HasRemainder self.now v.now result.quotients result.rests }
         ensures within { (n : ℕ) → IsWithin n v.now → IsWithin (2 * n) result.quotients }
         ensures small { IsWithin (2 ^ 60) result.rests }
     {

@@ -88,7 +88,7 @@ impl Model for Triple {
 }
 
 impl Triple {
-    ghost use Rattle.std.specs.Prelude.{◌≡◌, ◌≢◌, ◌↔◌, ◌≤◌, ◌^◌, IsTrue};
+    ghost use Rattle.std.specs.Prelude.{◌≡◌, ◌↔◌, ◌^◌, IsTrue};
     ghost use Rattle.std.specs.Ordering.{int_cmp};
     ghost use Rattle.std.specs.Cmp.Lexicographic.{slice_cmp};
     ghost use Rattle.integers.specs.Vectors.{zero_vector, parts, HasDimension, IsWithin, StartsPositive};
@@ -155,7 +155,8 @@ impl<const D: usize> Model for Vect<D> {
 
     ghost view = { λ v. vector v.x v.y v.z };
 
-    ghost invariant = { λ v. IsWithin (2 ^ 61) (vector v.x v.y v.z) × HasDimension D (vector v.x v.y v.z) };
+    ghost invariant = { λ v. IsWithin (2 ^ 61) (vector v.x v.y v.z)
+        × HasDimension D (vector v.x v.y v.z) };
 
     ghost inverse = { λ v. record { x = v.x; y = v.y; z = v.z } };
 }

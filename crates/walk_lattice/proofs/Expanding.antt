@@ -1,13 +1,12 @@
 -- The search goes on along the arcs from one vertex.
-use Rattle.std.proofs.Common.{◌≡◌, ℕ, ℤ, ◌+◌, ◌≤◌, ◌+ℤ◌, List, unsigned_abs, Option, Some, IsSome, refl, sym, subst, arith, rules}
+use Rattle.std.proofs.Common.{◌≡◌, ℕ, List, Option, Some, IsSome, refl, sym, subst, arith, rules}
 use Rattle.std.proofs.lemmas.Int.{ints}
-use Rattle.integers.specs.Vectors.{Vector, zero_vector, plus, minus, IsWithin}
+use Rattle.integers.specs.Vectors.{Vector, zero_vector, plus, minus}
 use Rattle.integers.proofs.vectors.Laws.{vector_equal}
 use Rattle.periodic_net.specs.Graph.{Graph, arc, IsArc, vertex}
 use Rattle.periodic_net.specs.Split.{WalkShift}
 use Rattle.periodic_net.proofs.CallerLemmas.{reached_transitive, reached_by_arc}
 use Rattle.walk_lattice.specs.Search.{IsSearch, Grows}
-use Rattle.periodic_net.specs.Limits.{most_shift}
 
 -- a walk to u and an arc from u make a walk to its head
 pub walk_further : (G : Graph) (start : ℕ) (u v : ℕ) (T s : Vector) → WalkShift G start u T → IsArc G (arc u v s) → WalkShift G start v (plus T s)
@@ -24,15 +23,6 @@ grows_none G start found order h = record {
   longer = omega arith;
   together = refl;
 }
-
-pub within_sum : (n : ℕ) (T s : Vector) → IsWithin n T → IsWithin most_shift s → IsWithin (n + most_shift) (plus T s)
-within_sum n T s h k = (part T.x s.x h.0 k.0, part T.y s.y h.1 k.1, part T.z s.z h.2 k.2)
-  where
-    part : (x y : ℤ) → unsigned_abs x ≤ n → unsigned_abs y ≤ most_shift → unsigned_abs (x +ℤ y) ≤ n + most_shift
-    part x y a b = omega (arith, ints)
-
-pub within_more : (m n : ℕ) (T : Vector) → m ≤ n → IsWithin m T → IsWithin n T
-within_more m n T l h = (omega (arith, h.0), omega (arith, h.1), omega (arith, h.2))
 
 pub some_there : (o : Option Vector) (T : Vector) → o ≡ Some T → IsSome o
 some_there o T e = subst IsSome (sym e) (search rules)

@@ -4,14 +4,12 @@ use Rattle.std.specs.List.{Contains}
 use Rattle.std.proofs.Math.Seq.{get_or-append_seam}
 use Rattle.std.proofs.lemmas.List.{get_or_append_left}
 use Rattle.std.proofs.lemmas.List.Elements.{Contains-append_left, Contains-append_right}
+use Rattle.std.proofs.lemmas.Bool.{cases_eq}
 use Rattle.integers.specs.Vectors.{Vector, IsWithin}
 use Rattle.periodic_net.specs.Graph.{Graph, IsQuotientVertex}
 use Rattle.periodic_net.specs.Split.{WalkShift}
 use Rattle.walk_lattice.specs.Search.{walk_to, found_with, order_with, IsSearch}
 use Rattle.periodic_net.specs.Limits.{most_shift}
-
-pub same_or_not : (u v : ℕ) → (u ≡ v) ⊎ (u ≢ v)
-same_or_not u v = grind arith
 
 some_or_none : (o : Option Vector) → ((T : Vector) × (o ≡ Some T)) ⊎ (o ≡ None)
 some_or_none None = inr refl
@@ -60,13 +58,13 @@ module _ (G : Graph) (start : ℕ) (found : List (Option Vector)) (order : List 
   inside = let c = h.count in let a = v.1 in omega arith
 
   walks : (w : ℕ) (S : Vector) → 1 ≤ w → walk_to (set found (u - 1) (Some T)) w ≡ Some S → WalkShift G start w S
-  walks w S low e = elim (same_or_not w u) [
+  walks w S low e = elim (cases_eq w u) [
     | inl s ↦ subst (λ x. WalkShift G start x S) (sym s) (subst (WalkShift G start u) (one_value _ T S (set_there found u T v.0 inside) (subst (λ x. walk_to (set found (u - 1) (Some T)) x ≡ Some S) s e)) walk)
     | inr n ↦ h.walks w S low (sym (set_elsewhere found u w T v.0 low n) ∙ e)
   ]
 
   listed : (w : ℕ) (S : Vector) → 1 ≤ w → walk_to (set found (u - 1) (Some T)) w ≡ Some S → Contains (order ++ u ∷ []) w
-  listed w S low e = elim (same_or_not w u) [
+  listed w S low e = elim (cases_eq w u) [
     | inl s ↦ Contains-append_right order (u ∷ []) w (0, omega arith, sym s)
     | inr n ↦ Contains-append_left order (u ∷ []) w (h.listed w S low (sym (set_elsewhere found u w T v.0 low n) ∙ e))
   ]

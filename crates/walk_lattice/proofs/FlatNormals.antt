@@ -1,10 +1,10 @@
 -- The vectors orthogonal to closed walks of a rank below the dimension.
 use Rattle.std.proofs.Common.{◌≡◌, ◌≢◌, ℕ, zero, suc, ℤ, pos, neg_ℤ, ◌+ℤ◌, ◌-ℤ◌, ◌*ℤ◌, List, get_or, All, Contains, inl, inr, refl, sym, ap, ◌∙◌, arith}
 use Rattle.std.proofs.lemmas.Int.{ints}
+use Rattle.std.proofs.lemmas.List.Elements.{All-contains}
 use Rattle.integers.specs.Vectors.{Vector, vector, zero_vector, times, dot, HasDimension}
 use Rattle.integers.proofs.numbers.Ring.{ring, linear, other_factor_zero, zero_or_not, factor_zero}
 use Rattle.integers.proofs.vectors.Laws.{vector_equal}
-use Rattle.integers.proofs.lists.Filters.{all_at}
 use Rattle.periodic_net.specs.Split.{EndsBy}
 use Rattle.walk_lattice.specs.Flat.{IsReduction, IsOrthogonalTo, IsFlatNormal}
 use Rattle.integers.specs.Vectors.{cross}
@@ -93,7 +93,7 @@ line_normal d vs a c i some all r = record {
     lowest e zero dim o ne ends =
         let y : e.y ≡ pos 0 = ends 1 (omega arith) in
         let z : e.z ≡ pos 0 = ends 2 (omega arith) in
-        let p = axis_only e.x e.y e.z a.x a.y a.z y z (all_at (λ v. dot e v ≡ pos 0) vs a o i) in
+        let p = axis_only e.x e.y e.z a.x a.y a.z y z (All-contains (λ v. dot e v ≡ pos 0) vs a o i) in
         elim (factor_zero e.x a.x p) [ inl x ↦ absurd (ne (vector_equal x y z)) | inr x ↦ absurd (some x) ]
     lowest e (suc k) dim o ne ends = ends_by_one c (suc k) flat (omega arith)
 
@@ -135,16 +135,16 @@ plane_normal d vs a b c three i j some all r = record {
     lowest e zero dim o ne ends =
         let y : e.y ≡ pos 0 = ends 1 (omega arith) in
         let z : e.z ≡ pos 0 = ends 2 (omega arith) in
-        let p = axis_only e.x e.y e.z a.x a.y a.z y z (all_at (λ v. dot e v ≡ pos 0) vs a o i) in
-        let q = axis_only e.x e.y e.z b.x b.y b.z y z (all_at (λ v. dot e v ≡ pos 0) vs b o j) in
+        let p = axis_only e.x e.y e.z a.x a.y a.z y z (All-contains (λ v. dot e v ≡ pos 0) vs a o i) in
+        let q = axis_only e.x e.y e.z b.x b.y b.z y z (All-contains (λ v. dot e v ≡ pos 0) vs b o j) in
         let n : e.x ≢ pos 0 = λ x. ne (vector_equal x y z) in
         let ax = other_factor_zero e.x a.x p n in
         let bx = other_factor_zero e.x b.x q n in
         ends_by_zero c zero (reduced_y (cross a b) c some r (no_first a.x a.z b.x b.z ax bx)) (reduced_z (cross a b) c some r (no_first_too a.x a.y b.x b.y ax bx))
     lowest e (suc zero) dim o ne ends =
         let z : e.z ≡ pos 0 = ends 2 (omega arith) in
-        let oa = flat_product e.x e.y e.z a.x a.y a.z z (all_at (λ v. dot e v ≡ pos 0) vs a o i) in
-        let ob = flat_product e.x e.y e.z b.x b.y b.z z (all_at (λ v. dot e v ≡ pos 0) vs b o j) in
+        let oa = flat_product e.x e.y e.z a.x a.y a.z z (All-contains (λ v. dot e v ≡ pos 0) vs a o i) in
+        let ob = flat_product e.x e.y e.z b.x b.y b.z z (All-contains (λ v. dot e v ≡ pos 0) vs b o j) in
         let p = first_times e.x e.y a.x a.y b.x b.y oa ob in
         let q = second_times e.x e.y a.x a.y b.x b.y oa ob in
         let n : (cross a b).z ≡ pos 0 = elim (factor_zero e.x (a.x *ℤ b.y -ℤ a.y *ℤ b.x) p) [

@@ -11,7 +11,7 @@ use Rattle.integers.proofs.lists.Filters.{all_in, filter_in}
 use Rattle.integers.proofs.lists.Members.{is_in, contains_from_in, IsIn}
 use Rattle.periodic_net.specs.Graph.{Graph, IsGraph, Arc, arc, arcs, IsArc, reverse_of, both_ways, Vertex, vertex, IsWalk}
 use Rattle.periodic_net.specs.Split.{ClosedShift, WalkShift}
-use Rattle.periodic_net.proofs.CallerLemmas.{arc_inside, reached_by_arc}
+use Rattle.periodic_net.proofs.CallerLemmas.{arc_inside, reached_by_arc, edge_in}
 use Rattle.walk_lattice.specs.Search.{walk_to, shift_of, AreWalks}
 use Rattle.walk_lattice.specs.Generators.{shift_at, generator_of, generators}
 use Rattle.walk_lattice.proofs.ClosedWalks.{walks_add, walk_back}
@@ -19,12 +19,6 @@ use Rattle.walk_lattice.proofs.ClosedWalks.{walks_add, walk_back}
 -- the walk along one arc
 arc_walk : (G : Graph) (f : Arc) → IsArc G f → WalkShift G f.from f.to f.shift
 arc_walk G f h = reached_by_arc G (vertex f.from zero_vector) (vertex f.to f.shift) (subst (λ (s : Vector). IsArc G (arc f.from f.to s)) (sym (minus_zero f.shift)) h)
-
--- an edge is an arc
-edge_in : (es : List Arc) (e : Arc) → IsIn es e → IsIn (both_ways es) e
-edge_in [] e h = elim h [ ]
-edge_in (f ∷ es) e (inl h) = inl h
-edge_in (f ∷ es) e (inr h) = inr (inr (edge_in es e h))
 
 -- what holds of the images
 image_all : {A B : Type 0} (L : B → Type 0) (f : A → B) (xs : List A) → AllByRecursion L (map f xs) → AllByRecursion (λ x. L (f x)) xs

@@ -2,11 +2,13 @@
 use Rattle.std.proofs.Common.{◌≡◌, ◌≢◌, ◌⊎◌, inl, inr, ℕ, zero, suc, ◌+◌, ◌-◌, ◌*◌, ◌<◌, ◌≤◌, List, [], ◌∷◌, ◌++◌, length, get_or, set, Option, Some, None, IsSome, refl, sym, ap, subst, ◌∙◌, arith, get_or-set_other, length-append}
 use Rattle.std.proofs.lemmas.List.{get_or_append_left}
 use Rattle.std.specs.List.{Contains}
+use Rattle.std.proofs.lemmas.Bool.{cases_eq}
 use Rattle.integers.specs.Vectors.{Vector, plus, IsWithin}
+use Rattle.integers.proofs.vectors.Bounds.{wider, bounded_plus}
 use Rattle.periodic_net.specs.Graph.{Graph, Arc, arc, IsArc, IsQuotientVertex}
-use Rattle.walk_lattice.specs.Search.{walk_to, missing, found_with, order_with, Grows, LeadsToFound}
-use Rattle.walk_lattice.proofs.Finding.{found_is, search_grows, set_there, none_is_not_some, same_or_not}
-use Rattle.walk_lattice.proofs.Expanding.{walk_further, within_sum, within_more, some_there}
+use Rattle.walk_lattice.specs.Search.{walk_to, missing_count, found_with, order_with, Grows, LeadsToFound}
+use Rattle.walk_lattice.proofs.Finding.{found_is, search_grows, set_there, none_is_not_some}
+use Rattle.walk_lattice.proofs.Expanding.{walk_further, some_there}
 use Rattle.periodic_net.specs.Limits.{most_shift}
 
 -- what the turn of the loop makes
@@ -24,10 +26,10 @@ module _ (G : Graph) (start : ℕ) (begun : List (Option Vector)) (first : List 
 
   -- the walk to the head is within its bound
   head_near : (n : ℕ) → length first ≤ n → IsWithin (most_shift * n) (plus T s)
-  head_near n l = within_more (most_shift * (length first - 1) + most_shift) (most_shift * n) (plus T s) (omega arith) (within_sum (most_shift * (length first - 1)) T s near short)
+  head_near n l = wider (most_shift * (length first - 1) + most_shift) (most_shift * n) (omega arith) (plus T s) (bounded_plus T s (most_shift * (length first - 1)) most_shift near short)
 
   new_turn : (found : List (Option Vector)) (order : List ℕ) → Grows G start begun first found order → walk_to found v ≡ None
-      → missing (set found (v - 1) (Some (plus T s))) + length (order ++ v ∷ []) ≡ missing found + length order
+      → missing_count (set found (v - 1) (Some (plus T s))) + length (order ++ v ∷ []) ≡ missing_count found + length order
       → Turn G start begun first found (set found (v - 1) (Some (plus T s))) (order ++ v ∷ []) v
   new_turn found order h new together =
       let walk = walk_further G start u v T s (h.search.walks u T vertex.0 (h.kept (u - 1) T known)) is_arc in
@@ -42,7 +44,7 @@ module _ (G : Graph) (start : ℕ) (begun : List (Option Vector)) (first : List 
           longer = let longer = h.longer in omega (arith, length-append order (v ∷ []));
           together = together ∙ h.together;
         };
-        still = λ k i. elim (same_or_not k (v - 1)) [
+        still = λ k i. elim (cases_eq k (v - 1)) [
           | inl e ↦ subst (λ j. IsSome (get_or (set found (v - 1) (Some (plus T s))) j None)) (sym e) (some_there (walk_to (set found (v - 1) (Some (plus T s))) v) (plus T s) (set_there found v (plus T s) head.0 inside))
           | inr n ↦ subst IsSome (sym (get_or-set_other found (v - 1) k (Some (plus T s)) None n)) i
         ];
@@ -50,7 +52,7 @@ module _ (G : Graph) (start : ℕ) (begun : List (Option Vector)) (first : List 
       }
 
   pub turn : (found : List (Option Vector)) (order : List ℕ) (found' : List (Option Vector)) (order' : List ℕ) → Grows G start begun first found order
-      → found' ≡ found_with found v (plus T s) → order' ≡ order_with found order v → missing found' + length order' ≡ missing found + length order
+      → found' ≡ found_with found v (plus T s) → order' ≡ order_with found order v → missing_count found' + length order' ≡ missing_count found + length order
       → Turn G start begun first found found' order' v
   turn found order found' order' h e f together =
       let is = found_is found order v (plus T s) in
@@ -60,7 +62,7 @@ module _ (G : Graph) (start : ℕ) (begun : List (Option Vector)) (first : List 
             let e' = e ∙ w.1 in
             let f' = f ∙ w.2 in
             subst (λ fs. Turn G start begun first found fs order' v) (sym e') (subst (λ os. Turn G start begun first found (set found (v - 1) (Some (plus T s))) os v) (sym f')
-            (new_turn found order h w.0 (subst (λ fs. missing fs + length (order ++ v ∷ []) ≡ missing found + length order) e' (subst (λ os. missing found' + length os ≡ missing found + length order) f' together))))
+            (new_turn found order h w.0 (subst (λ fs. missing_count fs + length (order ++ v ∷ []) ≡ missing_count found + length order) e' (subst (λ os. missing_count found' + length os ≡ missing_count found + length order) f' together))))
       ]
 
 -- the arcs up to place i lead to found vertices, and so does the one at i

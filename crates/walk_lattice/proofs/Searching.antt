@@ -1,10 +1,11 @@
 -- The search goes on from the next vertex of its order.
 use Rattle.std.proofs.Common.{◌≡◌, ◌⊎◌, inl, inr, ℕ, ◌+◌, ◌-◌, ◌*◌, ◌<◌, ◌≤◌, List, length, get_or, Option, Some, None, IsSome, refl, sym, subst, ◌∙◌, arith}
 use Rattle.integers.specs.Vectors.{Vector, zero_vector, IsWithin}
+use Rattle.integers.proofs.vectors.Bounds.{wider}
 use Rattle.periodic_net.specs.Graph.{Graph, IsQuotientVertex}
 use Rattle.walk_lattice.specs.Search.{walk_to, IsSearchedTo, Expands, LeadsToFound}
 use Rattle.walk_lattice.proofs.Finding.{one_value}
-use Rattle.walk_lattice.proofs.Expanding.{some_there, within_more}
+use Rattle.walk_lattice.proofs.Expanding.{some_there}
 use Rattle.periodic_net.specs.Limits.{most_shift, most_vertices}
 
 pub few_found : (G : Graph) (start : ℕ) (found : List (Option Vector)) (order : List ℕ) (i : ℕ) → G.vertices ≤ most_vertices → IsSearchedTo G start found order i → length order ≤ most_vertices
@@ -27,7 +28,7 @@ next_of G start found order i l h =
       high = subst (λ k. get_or order i 0 ≤ k) (sym h.search.count) v.1;
       is_found = some_there (walk_to found (get_or order i 0)) n.0 n.1;
       vertex = v;
-      near = λ T e. within_more (most_shift * i) (most_shift * (length order - 1)) T (omega arith) (subst (IsWithin (most_shift * i)) (one_value (walk_to found (get_or order i 0)) n.0 T n.1 e) n.2);
+      near = λ T e. wider (most_shift * i) (most_shift * (length order - 1)) (omega arith) T (subst (IsWithin (most_shift * i)) (one_value (walk_to found (get_or order i 0)) n.0 T n.1 e) n.2);
     }
 
 still_some : (o p : Option Vector) → ((T : Vector) → o ≡ Some T → p ≡ Some T) → IsSome o → IsSome p

@@ -1,16 +1,15 @@
 -- The lattice of a net's closed walks of full rank.
-use Rattle.std.proofs.Common.{◌≡◌, ◌≢◌, ℕ, ℤ, pos, neg_ℤ, ◌+ℤ◌, ◌-ℤ◌, ◌*ℤ◌, ◌≤ℤ◌, unsigned_abs, List, get_or, All, Option, ◌⊎◌, inl, inr, refl, sym, ap, subst, ◌∙◌, arith}
+use Rattle.std.proofs.Common.{◌≡◌, ◌≢◌, ℕ, ℤ, pos, ◌+ℤ◌, ◌-ℤ◌, ◌*ℤ◌, ◌≤ℤ◌, unsigned_abs, List, get_or, All, Option, ◌⊎◌, inl, inr, sym, ap, subst, ◌∙◌, arith}
 use Rattle.std.proofs.lemmas.Int.{ints}
-use Rattle.integers.specs.Vectors.{Vector, vector, plus, opposite, times, dot, triple_product, HasDimension}
+use Rattle.integers.specs.Vectors.{Vector, vector, plus, times, dot, triple_product, HasDimension}
 use Rattle.integers.proofs.numbers.Ring.{ring, linear, other_factor_zero}
 use Rattle.integers.proofs.vectors.Laws.{vector_equal, product_times}
-use Rattle.integers.proofs.lists.Filters.{all_at}
 use Rattle.integers.proofs.vectors.Cramer.{cramer, products}
 use Rattle.periodic_net.specs.Graph.{Graph, IsGraph, IsQuotientVertex}
 use Rattle.periodic_net.specs.Split.{ClosedShift}
 use Rattle.vecdim.specs.Stairs.{Stairs}
 use Rattle.vecdim.specs.Lattices.{Members}
-use Rattle.vecdim.proofs.CallerLemmas.{in_pair, with_has, with_inside}
+use Rattle.vecdim.proofs.CallerLemmas.{with_has, with_inside, members_group}
 use Rattle.integers.specs.Vectors.{cross}
 use Rattle.walk_lattice.specs.Full.{IsVolume}
 use Rattle.walk_lattice.specs.Search.{AreWalks}
@@ -22,32 +21,8 @@ use Rattle.walk_lattice.proofs.Generated.{generators_closed, closed_in}
 use Rattle.integers.proofs.vectors.Groups.{times_in}
 use Rattle.integers.proofs.lists.Members.{in_from_contains, contains_from_in}
 use Rattle.std.proofs.lemmas.List.{get_or_default}
+use Rattle.std.proofs.lemmas.List.Elements.{All-contains}
 use Rattle.walk_lattice.proofs.Reductions.{sign_of}
-
--- the members of a staircase are a group
-added : (x y : ℤ) → x +ℤ y ≡ pos 1 *ℤ x +ℤ pos 1 *ℤ y
-added x y = omega (arith, ints)
-
--- an opposite as a combination
-turned : (x : ℤ) → neg_ℤ x ≡ neg_ℤ (pos 1) *ℤ x +ℤ pos 0 *ℤ x
-turned x = by (neg_ℤ (pos 1)) refl
-  where
-    by : (k : ℤ) → k ≡ neg_ℤ (pos 1) → neg_ℤ x ≡ k *ℤ x +ℤ pos 0 *ℤ x
-    by k e = let p = ap (λ t. t *ℤ x) e in simp ring (omega (arith, ints, linear, simp ring at p))
-
--- under sums and opposites
-pub members_group : (d : ℕ) (S : Stairs) → IsVectorGroup (Members d S)
-members_group d S = record {
-  zero = (record { k = pos 0; l = pos 0; n = pos 0; x = simp ring refl; y = simp ring refl; z = simp ring refl }, λ e. refl);
-  sums = λ v w h k. (
-    in_pair {S = S} {u = v} {v = w} {w = plus v w} (pos 1) (pos 1) h.0 k.0 (added v.x w.x) (added v.y w.y) (added v.z w.z),
-    λ e. let p = h.1 e in let q = k.1 e in omega (arith, ints, p, q),
-  );
-  opposites = λ v h. (
-    in_pair {S = S} {u = v} {v = v} {w = opposite v} (neg_ℤ (pos 1)) (pos 0) h.0 h.0 (turned v.x) (turned v.y) (turned v.z),
-    λ e. ap neg_ℤ (h.1 e),
-  );
-}
 
 -- what was added is a member
 pub added_members : (d : ℕ) (m : ℤ) (vs : List Vector) (S : Stairs) → IsLatticeOf d m vs S → All (Members d S) vs
@@ -107,15 +82,15 @@ module _ (d : ℕ) (L : Vector → Type 0) (h : IsVectorGroup L) (dim : (v : Vec
   pub volume_multiples : (m : ℤ) → (d ≡ 2) ⊎ (d ≢ 2) → IsVolume d vs m → (v : Vector) → HasDimension d v → L (times m v)
   volume_multiples m (inl two) s v flat =
       let up = s.third.0 two in
-      let i = all_at L vs s.a all s.first in
-      let j = all_at L vs s.b all s.second in
+      let i = All-contains L vs s.a all s.first in
+      let j = All-contains L vs s.b all s.second in
       signed (dot (cross s.a s.b) s.c) m v s.is
       (subst (λ t. L (times t v)) (sym (volume_is s.a s.b s.c))
       (subst (λ c. L (times (triple_product s.a s.b c) v)) (sym up) (flat_multiple s.a s.b v two i j flat)))
   volume_multiples m (inr n) s v flat =
       signed (dot (cross s.a s.b) s.c) m v s.is
       (subst (λ t. L (times t v)) (sym (volume_is s.a s.b s.c))
-      (space_multiple s.a s.b s.c v (all_at L vs s.a all s.first) (all_at L vs s.b all s.second) (all_at L vs s.c all (s.third.1 n))))
+      (space_multiple s.a s.b s.c v (All-contains L vs s.a all s.first) (All-contains L vs s.b all s.second) (All-contains L vs s.c all (s.third.1 n))))
 
   -- a multiple that is 0
   part_zero : (m u : ℤ) → pos 1 ≤ℤ m → m *ℤ u ≡ pos 0 → u ≡ pos 0
@@ -123,7 +98,7 @@ module _ (d : ℕ) (L : Vector → Type 0) (h : IsVectorGroup L) (dim : (v : Vec
 
   -- and so is all of the lattice
   pub lattice_inside : (m : ℤ) (S : Stairs) → (d ≡ 2) ⊎ (d ≢ 2) → IsVolume d vs m → IsLatticeOf d m vs S → (v : Vector) → Members d S v → L v
-  lattice_inside m S which s t v i = with_inside (Members d t.start) (Members d S) L vs t.with h multiples (λ w k. all_at L vs w all (contains_from_in vs w k)) v i
+  lattice_inside m S which s t v i = with_inside (Members d t.start) (Members d S) L vs t.with h multiples (λ w k. All-contains L vs w all (contains_from_in vs w k)) v i
     where
       multiples : (u : Vector) → Members d t.start u → L u
       multiples u k =

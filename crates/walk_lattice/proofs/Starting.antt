@@ -3,11 +3,11 @@ use Rattle.std.proofs.Common.{◌≡◌, inl, inr, ℕ, zero, suc, ◌+◌, ◌-
 use Rattle.std.proofs.lemmas.Grind.{common_steps}
 use Rattle.std.proofs.lemmas.List.{length-replicate, get_or_default}
 use Rattle.integers.specs.Vectors.{Vector, zero_vector, IsWithin}
+use Rattle.integers.proofs.vectors.Bounds.{wider}
 use Rattle.periodic_net.specs.Graph.{Graph, IsQuotientVertex, vertex}
 use Rattle.periodic_net.proofs.CallerLemmas.{reached_itself}
-use Rattle.walk_lattice.specs.Search.{walk_to, shift_of, none_found, missing, found_with, order_with, IsSearch, IsSearchedTo, AreWalks, LeadsToFound}
+use Rattle.walk_lattice.specs.Search.{walk_to, shift_of, none_found, missing_count, found_with, order_with, IsSearch, IsSearchedTo, AreWalks, LeadsToFound}
 use Rattle.walk_lattice.proofs.Finding.{found_is, search_grows, none_is_not_some, set_there, one_value}
-use Rattle.walk_lattice.proofs.Expanding.{within_more}
 use Rattle.walk_lattice.proofs.Searching.{few_found}
 use Rattle.periodic_net.specs.Limits.{most_walk, most_shift, most_vertices}
 
@@ -16,7 +16,7 @@ none_at zero k = refl
 none_at (suc n) zero = refl
 none_at (suc n) (suc k) = none_at n k
 
-pub missing_none : (n : ℕ) → missing (none_found n) ≡ n
+pub missing_none : (n : ℕ) → missing_count (none_found n) ≡ n
 missing_none zero = refl
 missing_none (suc n) = grind (arith, common_steps, missing_none n)
 
@@ -31,7 +31,7 @@ search_none G start = record {
 
 -- the start alone is found, by the walk that goes nowhere
 pub search_start : (G : Graph) (start : ℕ) (found : List (Option Vector)) (order : List ℕ) → IsQuotientVertex G start → found ≡ found_with (none_found G.vertices) start zero_vector → order ≡ order_with (none_found G.vertices) [] start
-    → missing found + length order ≡ missing (none_found G.vertices) + 0 → IsSearchedTo G start found order 0
+    → missing_count found + length order ≡ missing_count (none_found G.vertices) + 0 → IsSearchedTo G start found order 0
 search_start G start found order q e f together =
     let none = none_found G.vertices in
     let unknown : walk_to none start ≡ None = none_at G.vertices (start - 1) in
@@ -83,7 +83,7 @@ walks_found G start found order small h = record {
         let n = h.search.near k l in
         let few = few_found G start found order (length order) small h in
         let at : get_or order k 0 ≡ u = any_default order k 0 u l ∙ c.2 in
-        within_more (most_shift * k) most_walk T (omega arith) (subst (IsWithin (most_shift * k)) (one_value (walk_to found u) n.0 T (subst (λ x. walk_to found x ≡ Some n.0) at n.1) e) n.2)
+        wider (most_shift * k) most_walk (omega arith) T (subst (IsWithin (most_shift * k)) (one_value (walk_to found u) n.0 T (subst (λ x. walk_to found x ≡ Some n.0) at n.1) e) n.2)
 
     less : (k : ℕ) → k + 1 - 1 ≡ k
     less k = omega arith

@@ -19,8 +19,8 @@ abbrev pub none_found : ℕ → List (Option Vector)
 none_found n = replicate n None
 
 -- how many vertices were not found
-abbrev pub missing : List (Option Vector) → ℕ
-missing found = count_by (λ o. is_none o) found
+abbrev pub missing_count : List (Option Vector) → ℕ
+missing_count found = count_by (λ o. is_none o) found
 
 -- vertex u is found by a walk of shift T, unless it was found before
 abbrev pub found_with : List (Option Vector) → ℕ → Vector → List (Option Vector)
@@ -56,7 +56,7 @@ pub record Grows (G : Graph) (start : ℕ) (found : List (Option Vector)) (order
   pub kept : (k : ℕ) (T : Vector) → slice_index_or found k None ≡ Some T → slice_index_or found' k None ≡ Some T
   pub same : (k : ℕ) → k < length order → slice_index_or order' k 0 ≡ slice_index_or order k 0
   pub longer : length order ≤ length order'
-  pub together : missing found' + length order' ≡ missing found + length order
+  pub together : missing_count found' + length order' ≡ missing_count found + length order
 
 -- and the arcs from u lead to found vertices
 pub record Expands (G : Graph) (start : ℕ) (found : List (Option Vector)) (order : List ℕ) (u : ℕ) (found' : List (Option Vector)) (order' : List ℕ) : Type 0 where
@@ -67,5 +67,5 @@ pub record Expands (G : Graph) (start : ℕ) (found : List (Option Vector)) (ord
 pub record IsSearchedTo (G : Graph) (start : ℕ) (found : List (Option Vector)) (order : List ℕ) (i : ℕ) : Type 0 where
   pub search : IsSearch G start found order
   pub first : walk_to found start ≡ Some zero_vector
-  pub together : missing found + length order ≡ G.vertices
+  pub together : missing_count found + length order ≡ G.vertices
   pub done : (k : ℕ) → k < i → LeadsToFound G found (slice_index_or order k 0)

@@ -10,6 +10,5 @@ mod search;
 pub use closed_walks::{generators, shift_of};
 pub use lattices::lattice;
 pub use ranks::{Rank, rank_of};
-pub use reduction::reduced;
 pub use search::walks;
 pub use std::alloc::AllocError as NoMemory;

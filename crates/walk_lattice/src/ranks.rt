@@ -7,7 +7,7 @@ ghost use Rattle.walk_lattice.specs.Ranks.{IsRank};
 ghost use Rattle.periodic_net.specs.Limits.{most_closed};
 ghost use Rattle.walk_lattice.specs.Bounds.{most_normal, most_volume};
 
-use crate::reduction::reduced;
+use crate::reduction::reduction;
 use vecdim::{Triple, Vect};
 
 /// Below the dimension, with a vector orthogonal to all; or full, with the volume that independent
@@ -159,7 +159,7 @@ fn rank_with<const D: usize>(gs: &[Vect<D>], a: &Vect<D>, b: &Vect<D>) -> Rank
     }
     match first_off(gs, &c) {
         Some(g) => Rank::Full(space_volume(&c, &g)),
-        None => Rank::Below(reduced(&c)),
+        None => Rank::Below(reduction(&c)),
     }
 }
 
@@ -173,7 +173,7 @@ fn rank_from<const D: usize>(gs: &[Vect<D>], a: &Vect<D>) -> Rank
     match first_apart(gs, a) {
         Some(b) => rank_with(gs, a, &b),
         None if a.x == 0 => Rank::Below(axis()),
-        None => Rank::Below(reduced(&across(a))),
+        None => Rank::Below(reduction(&across(a))),
     }
 }
 

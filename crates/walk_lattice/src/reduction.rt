@@ -39,7 +39,7 @@ fn forward(v: Triple) -> Triple
 }
 
 // The coprime vector on the line of v that starts positive.
-pub fn reduced(v: &Triple) -> Triple
+pub fn reduction(v: &Triple) -> Triple
     requires some { v.now ≢ zero_vector }
     requires within { IsWithin most_normal v.now }
     ensures reduction { IsReduction v.now result }

@@ -1,7 +1,7 @@
 // The search of a quotient graph from a vertex, with the shift of a walk to each vertex found.
 ghost use Rattle.std.specs.Prelude.{◌≡◌, ◌<◌, ◌≤◌, ◌+◌, length, OnOk, Some, ◌-◌, ◌*◌, IsSome, IfOk, slice_index};
 ghost use Rattle.integers.specs.Vectors.{IsWithin};
-ghost use Rattle.walk_lattice.specs.Search.{missing, found_with, order_with, IsSearch, Expands, IsSearchedTo, AreWalks, none_found, walk_to};
+ghost use Rattle.walk_lattice.specs.Search.{missing_count, found_with, order_with, IsSearch, Expands, IsSearchedTo, AreWalks, none_found, walk_to};
 ghost use Rattle.periodic_net.specs.Graph.{IsGraph, IsQuotientVertex};
 ghost use Rattle.periodic_net.specs.Limits.{IsSmall, most_shift, most_vertices};
 
@@ -22,7 +22,8 @@ fn find<const D: usize>(
     ensures found { OnOk result (found.new ≡ found_with found.old u walk.entry) }
     ensures order { OnOk result (order.new.items ≡ order_with found.old order.old.items u) }
     ensures together { OnOk result
-        (missing found.new + length order.new.items ≡ missing found.old + length order.old.items) }
+        (missing_count found.new + length order.new.items
+        ≡ missing_count found.old + length order.old.items) }
 {
     let at = u as usize - 1;
     if found[at].is_none() {

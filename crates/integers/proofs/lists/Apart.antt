@@ -1,18 +1,15 @@
--- Lists in which nothing stands twice: also after their elements have changed places, and as tests of one element after
--- the other.
-use Rattle.std.proofs.Common.{◌≡◌, ◌≢◌, ◌⊎◌, inl, inr, ℕ, ◌<◌, List, [], ◌∷◌, length, get_or, refl, sym, ap, ◌∙◌, arith}
-use Rattle.std.proofs.lemmas.Bool.{cases_eq, cases_order}
+-- Lists in which nothing stands twice: also after their elements have changed places, and where numbers of them rise.
+use Rattle.std.proofs.Common.{◌≡◌, ◌≢◌, ◌⊎◌, inl, inr, ℕ, ◌<◌, Bool, true, ltb, ◌&&◌, List, [], ◌∷◌, length, get_or, map, refl, sym, ap, ◌∙◌, arith}
+use Rattle.std.proofs.lemmas.Bool.{cases_eq, cases_order, and_parts, ltb-true}
 use Rattle.std.specs.List as lists
-use Rattle.std.specs.List.{AllPairs, AllByRecursion}
+use Rattle.std.specs.List.{AllPairs}
 use Rattle.std.specs.List.Sorted.{IsPermutation}
 use Rattle.std.proofs.lemmas.List.Sorted.{IsPermutation-keeps}
-use Rattle.std.proofs.lemmas.List.Kept.{AllPairs-cons}
-use Rattle.std.proofs.lemmas.List.Elements.{All-from_recursion}
-use Rattle.integers.proofs.lists.Members.{AreApart, apart_from_pairs, pairs_from_apart}
+use Rattle.integers.proofs.lists.Members.{IsIn, AreApart, apart_from_pairs, pairs_from_apart}
 use Rattle.std.proofs.lemmas.List.Edits.{Swapped, swapped_from_swap, length-swap}
 
 -- two places that hold the same are one place
-abbrev pub StandsOnce : {X : Type 0} → List X → Type 0
+abbrev StandsOnce : {X : Type 0} → List X → Type 0
 StandsOnce {X} xs = (i j : ℕ) (d : X) → i < length xs → j < length xs → get_or xs i d ≡ get_or xs j d → i ≡ j
 
 -- where the element at i stood before two elements changed places
@@ -55,18 +52,18 @@ swap_once xs a b p q once i j d k m e =
     (once u.at v.at d (below _ _ a b i (length xs) p q k' u) (below _ _ a b j (length xs) p q m' v) (sym u.is ∙ e ∙ v.is))
 
 -- a permutation of a list in which nothing stands twice
-pub permuted_once : {X : Type 0} (xs ys : List X) → IsPermutation xs ys → StandsOnce xs → StandsOnce ys
+permuted_once : {X : Type 0} (xs ys : List X) → IsPermutation xs ys → StandsOnce xs → StandsOnce ys
 permuted_once xs ys p once = IsPermutation-keeps xs StandsOnce once swap_once ys p
 
 -- std's `AllPairs` says the same
-pub once_from_pairs : {X : Type 0} (xs : List X) → AllPairs (λ x y. x ≢ y) xs → StandsOnce xs
+once_from_pairs : {X : Type 0} (xs : List X) → AllPairs (λ x y. x ≢ y) xs → StandsOnce xs
 once_from_pairs xs apart i j d k m e = elim (cases_order i j) [
   | inl q ↦ q
   | inr r ↦ elim r [ inl l ↦ absurd (apart i j d l m e) | inr l ↦ absurd (apart j i d l k (sym e)) ]
 ]
 
 -- and the other way
-pub pairs_from_once : {X : Type 0} (xs : List X) → StandsOnce xs → AllPairs (λ x y. x ≢ y) xs
+pairs_from_once : {X : Type 0} (xs : List X) → StandsOnce xs → AllPairs (λ x y. x ≢ y) xs
 pairs_from_once xs once i j d l m e = let same = once i j d (omega arith) m e in omega arith
 
 -- a permutation of a list without repetition
@@ -77,12 +74,31 @@ permuted_pairs xs ys p h = pairs_from_once ys (permuted_once xs ys p (once_from_
 pub permuted_apart : {X : Type 0} (xs ys : List X) → IsPermutation xs ys → AreApart xs → AreApart ys
 permuted_apart xs ys p h = apart_from_pairs ys (permuted_pairs xs ys p (pairs_from_apart xs h))
 
--- no member of the list is a later one, each compared with each later one
-abbrev pub AreDifferent : {X : Type 0} → List X → Type 0
-AreDifferent [] = Unit {0}
-AreDifferent (x ∷ xs) = AllByRecursion (λ y. x ≢ y) xs × AreDifferent xs
+-- the numbers rise
+abbrev pub rise : List ℕ → Bool
+rise [] = true
+rise (x ∷ []) = true
+rise (x ∷ y ∷ ys) = ltb x y && rise (y ∷ ys)
 
--- then nothing stands in it twice
-pub pairs_from_different : {X : Type 0} (xs : List X) → AreDifferent xs → AllPairs (λ x y. x ≢ y) xs
-pairs_from_different [] h = λ i j d l m. absurd (omega arith)
-pairs_from_different (x ∷ xs) h = AllPairs-cons (λ y z. y ≢ z) x xs (All-from_recursion (λ y. x ≢ y) xs h.0) (pairs_from_different xs h.1)
+-- what follows has a greater number
+greater_later : {X : Type 0} (f : X → ℕ) (x : X) (xs : List X) → rise (f x ∷ map f xs) ≡ true → (y : X) → IsIn xs y → f x < f y
+greater_later f x [] h z i = absurd i
+greater_later f x (y ∷ ys) h z (inl e) = let l = ltb-true (f x) (f y) (and_parts (ltb (f x) (f y)) (rise (f y ∷ map f ys)) h).0 in let q = ap f e in omega arith
+greater_later f x (y ∷ ys) h z (inr j) =
+    let p = and_parts (ltb (f x) (f y)) (rise (f y ∷ map f ys)) h in
+    let l = ltb-true (f x) (f y) p.0 in
+    let m = greater_later f y ys p.1 z j in
+    omega arith
+
+-- so what has rising numbers stands in the list once
+pub rising_apart : {X : Type 0} (f : X → ℕ) (xs : List X) → rise (map f xs) ≡ true → AreApart xs
+rising_apart f [] h = tt
+rising_apart f (x ∷ []) h = ((λ i. i), tt)
+rising_apart f (x ∷ y ∷ ys) h = (
+  (λ i. let l = greater_later f x (y ∷ ys) h x i in omega arith),
+  rising_apart f (y ∷ ys) (and_parts (ltb (f x) (f y)) (rise (f y ∷ map f ys)) h).1,
+)
+
+-- the same of all pairs of places
+pub rising_pairs : {X : Type 0} (f : X → ℕ) (xs : List X) → rise (map f xs) ≡ true → AllPairs (λ x y. x ≢ y) xs
+rising_pairs f xs h = pairs_from_apart xs (rising_apart f xs h)

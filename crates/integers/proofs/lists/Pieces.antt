@@ -49,10 +49,22 @@ module _ {X Y : Type 0} (f : X → Y) where
   map_in (y ∷ xs) x (inl e) = inl (ap f e)
   map_in (y ∷ xs) x (inr i) = inr (map_in xs x i)
 
-  -- the image under a map that is one to one
+  -- the image under a map that is one to one on the members
+  pub map_apart_on : (xs : List X) → ((x y : X) → IsIn xs x → IsIn xs y → f x ≡ f y → x ≡ y) → AreApart xs → AreApart (map f xs)
+  map_apart_on [] o h = tt
+  map_apart_on (x ∷ xs) o h = (
+    (λ i. let r = in_map xs (f x) i in h.0 (subst (IsIn xs) (o r.0 x (inr r.1) (inl refl) r.2) r.1)),
+    map_apart_on xs (λ y z i j. o y z (inr i) (inr j)) h.1,
+  )
+
+  -- and under one that is one to one
   pub map_apart : (xs : List X) → ((x y : X) → f x ≡ f y → x ≡ y) → AreApart xs → AreApart (map f xs)
-  map_apart [] o h = tt
-  map_apart (x ∷ xs) o h = ((λ i. let r = in_map xs (f x) i in h.0 (subst (IsIn xs) (o r.0 x r.2) r.1)), map_apart xs o h.1)
+  map_apart xs o h = map_apart_on xs (λ x y i j. o x y) h
+
+  -- members whose images are apart are apart
+  pub apart_from_images : (xs : List X) → AreApart (map f xs) → AreApart xs
+  apart_from_images [] h = tt
+  apart_from_images (x ∷ xs) h = ((λ i. h.0 (map_in xs x i)), apart_from_images xs h.1)
 
 module _ {X Y : Type 0} (f : X → List Y) where
   -- a member of the joined pieces is a member of a piece

@@ -2,6 +2,7 @@
 use Rattle.std.proofs.Common.{suc, zero, arith, ℕ, ◌≡◌, ◌*◌, ◌≤◌, ◌<◌, ◌+ℤ◌, ◌*ℤ◌, [], ◌∷◌, ◌∙◌, refl, pos, ℤ, negsuc, neg_ℤ, ap, List, map}
 use Rattle.std.proofs.Math.Nat.{mul_assoc, eq_of_mul-eq-mul_left}
 use Rattle.std.proofs.lemmas.Int.{ints}
+use Rattle.integers.specs.Divisors.{DividesInteger}
 use Rattle.integers.specs.Vectors.{Vector, times, vector, DividesVector}
 use Rattle.integers.proofs.lists.Tables.{table}
 use Rattle.integers.proofs.numbers.Ring.{ring}
@@ -43,10 +44,6 @@ only_one (suc g) j l h e = product_one j l (eq_of_mul-eq-mul_left (suc g) (omega
   where
     one : (n : ℕ) → n * 1 ≡ n
     one n = omega arith
-
--- j divides z
-abbrev pub DividesInteger : ℕ → ℤ → Type 0
-DividesInteger j z = (v : ℤ) × (z ≡ pos j *ℤ v)
 
 -- h is the greatest common divisor of g and z
 pub record CommonWith (g : ℕ) (z : ℤ) : Type 0 where

@@ -2,7 +2,7 @@
 use Rattle.std.proofs.Common.{ℤ, ◌≡◌, ◌+ℤ◌, ◌-ℤ◌, ◌*ℤ◌, ◌∙◌, pos, arith, sym}
 use Rattle.std.proofs.lemmas.Int.{ints}
 use Rattle.integers.specs.Bases.{Base, base_sum}
-use Rattle.integers.specs.Vectors.{Vector, times, plus, zero_vector, minus, vector}
+use Rattle.integers.specs.Vectors.{Vector, times, plus, zero_vector, minus, vector, up_vector}
 use Rattle.integers.proofs.vectors.Coordinates.{IsCoordinate}
 use Rattle.integers.proofs.numbers.Ring.{ring}
 use Rattle.integers.proofs.vectors.Laws.{vector_equal}
@@ -68,7 +68,7 @@ abbrev pub unit_base : Base
 unit_base = record {
   first = vector (pos 1) (pos 0) (pos 0);
   second = vector (pos 0) (pos 1) (pos 0);
-  third = vector (pos 0) (pos 0) (pos 1);
+  third = up_vector;
 }
 
 -- the sum along the unit vectors

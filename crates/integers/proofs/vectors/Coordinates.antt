@@ -1,5 +1,6 @@
 -- Readings of vectors that are linear, among them the three coordinates.
-use Rattle.std.proofs.Common.{pos, ℤ, ◌≡◌, ◌+ℤ◌, ◌-ℤ◌, ◌*ℤ◌, refl}
+use Rattle.std.proofs.Common.{arith, ℕ, zero, suc, ◌<◌, pos, ℤ, ◌≡◌, ◌+ℤ◌, ◌-ℤ◌, ◌*ℤ◌, refl}
+use Rattle.integers.specs.Staircase.{part}
 use Rattle.integers.specs.Vectors.{zero_vector, Vector, plus, times, minus}
 
 -- c reads one coordinate
@@ -20,3 +21,14 @@ coordinate_y = record { zero = refl; plus_is = λ v w. refl; minus_is = λ v w. 
 -- the third
 pub coordinate_z : IsCoordinate (λ v. v.z)
 coordinate_z = record { zero = refl; plus_is = λ v w. refl; minus_is = λ v w. refl; times_is = λ k v. refl }
+
+-- a number of three
+pub below_three : (P : ℕ → Type 0) → P 0 → P 1 → P 2 → (c : ℕ) → c < 3 → P c
+below_three P a b d zero l = a
+below_three P a b d (suc zero) l = b
+below_three P a b d (suc (suc zero)) l = d
+below_three P a b d (suc (suc (suc c))) l = absurd (omega arith)
+
+-- each part of a vector is a coordinate
+pub part_is_coordinate : (c : ℕ) → c < 3 → IsCoordinate (part c)
+part_is_coordinate = below_three (λ c. IsCoordinate (part c)) coordinate_x coordinate_y coordinate_z

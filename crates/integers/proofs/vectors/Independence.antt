@@ -1,7 +1,7 @@
 -- Three vectors are independent exactly where their triple product is not 0, and two flat ones where their cross product is not.
 use Rattle.std.proofs.Common.{◌≡◌, ◌≢◌, ℤ, pos, ◌+ℤ◌, ◌-ℤ◌, ◌*ℤ◌, neg_ℤ, [], ◌∷◌, ⊎_elim, inl, inr, ◌⊎◌, refl, sym, ap, ◌∙◌, arith}
 use Rattle.std.proofs.lemmas.Int.{ints}
-use Rattle.integers.specs.Vectors.{Vector, vector, triple_product, AreIndependent}
+use Rattle.integers.specs.Vectors.{Vector, triple_product, AreIndependent, up_vector}
 use Rattle.integers.proofs.numbers.Ring.{ring, linear, zero_or_not, factor_zero}
 use Rattle.integers.proofs.vectors.Laws.{vector_equal}
 
@@ -96,10 +96,6 @@ two_sum x y z a b e h = omega (arith, linear, ints)
 -- flat vectors have flat combinations
 flat_sum : (x y a b : ℤ) → a ≡ pos 0 → b ≡ pos 0 → x *ℤ a +ℤ (y *ℤ b +ℤ pos 0) ≡ pos 0
 flat_sum x y a b e h = (λ i. x *ℤ e i +ℤ (y *ℤ h i +ℤ pos 0)) ∙ omega (arith, ints)
-
--- (0, 0, 1): with it in the last place, the triple product of flat vectors is their cross product
-abbrev pub up_vector : Vector
-up_vector = vector (pos 0) (pos 0) (pos 1)
 
 -- two independent flat vectors have a cross product other than 0
 pub flat_product_of_independent : (a b : Vector) → a.z ≡ pos 0 → b.z ≡ pos 0 → AreIndependent (a ∷ b ∷ []) → triple_product a b up_vector ≢ pos 0

@@ -1,17 +1,11 @@
 -- A graph with a collision: the square net with a vertex that hangs on the other, so that both stand in one place.
-use Rattle.std.proofs.Common.{◌≡◌, ℕ, zero, suc, pos, map, refl, ap, arith}
+use Rattle.std.proofs.Common.{◌≡◌, ℕ, pos, map, refl, ap, arith}
 use Rattle.std.proofs.Math.Nat.{eq-one_of_dvd-one}
 use Rattle.integers.specs.Vectors.{zero_vector, vector_sum}
 use Rattle.periodic_net.specs.Examples.{hanging_net, hanging_placement}
-use Rattle.periodic_net.specs.Graph.{arcs_from, IsQuotientVertex, Vertex}
+use Rattle.periodic_net.specs.Graph.{arcs_from, Vertex}
 use Rattle.periodic_net.specs.Placement.{base, arc_vector, IsNormalPlacement, IsCollision, HasNoCollision}
-
--- what holds of both vertices holds of each
-either : (P : ℕ → Type 0) → P 1 → P 2 → (u : ℕ) → IsQuotientVertex hanging_net u → P u
-either P a b zero i = absurd (let c = i.0 in omega arith)
-either P a b (suc zero) i = a
-either P a b (suc (suc zero)) i = b
-either P a b (suc (suc (suc u))) i = absurd (let c = i.1 in omega arith)
+use Rattle.periodic_net.proofs.examples.TwoVertices.{either}
 
 -- the placement is the normal one
 pub hanging_normal_placement : IsNormalPlacement hanging_net hanging_placement
@@ -20,8 +14,8 @@ hanging_normal_placement = record {
   barycentric = record {
     positive = omega arith;
     count = refl;
-    dimension = λ u i d. either (λ n. (base hanging_placement n).z ≡ pos 0) refl refl u i;
-    balanced = either (λ n. vector_sum (map (arc_vector hanging_placement) (arcs_from hanging_net n)) ≡ zero_vector) refl refl;
+    dimension = λ u i d. either hanging_net refl (λ n. (base hanging_placement n).z ≡ pos 0) refl refl u i;
+    balanced = either hanging_net refl (λ n. vector_sum (map (arc_vector hanging_placement) (arcs_from hanging_net n)) ≡ zero_vector) refl refl;
   };
   normal = record { origin = refl; reduced = λ k d h. eq-one_of_dvd-one d };
 }

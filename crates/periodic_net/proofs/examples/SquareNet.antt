@@ -1,11 +1,12 @@
 -- The square net: it is connected and stable, with its one vertex at the origin.
-use Rattle.std.proofs.Common.{◌≢◌, ◌<◌, inl, inr, ap, get_or, pos, ◌≡◌, ◌+ℤ◌, ◌-ℤ◌, ◌*ℤ◌, ◌∙◌, arith, sym, subst, ℕ, ℤ, suc, negsuc, zero, refl, map}
+use Rattle.std.proofs.Common.{inl, inr, ap, pos, ◌≡◌, ◌+ℤ◌, ◌-ℤ◌, ◌*ℤ◌, ◌∙◌, arith, sym, subst, ℕ, ℤ, negsuc, refl, map, unsigned_abs}
 use Rattle.std.proofs.lemmas.Int.{ints}
 use Rattle.integers.specs.Vectors.{vector, Vector, vector_sum, zero_vector}
 use Rattle.std.specs.List.{AllByRecursion}
 use Rattle.std.proofs.lemmas.List.Elements.{All-from_recursion}
 use Rattle.periodic_net.specs.Examples.{square_net, square_placement}
 use Rattle.periodic_net.specs.Graph.{IsGraph, IsEdge, Arc, arc, IsArc, vertex, IsReached, IsConnected, IsQuotientVertex, arcs_from}
+use Rattle.integers.proofs.lists.Apart.{rising_pairs}
 use Rattle.integers.proofs.vectors.Laws.{vector_equal}
 use Rattle.periodic_net.proofs.nets.Walks.{reached_transitive}
 use Rattle.std.proofs.Math.Nat.{eq-one_of_dvd-one}
@@ -26,22 +27,13 @@ square_edges = (
   ),
 )
 
--- and different
-square_different : (i j : ℕ) (d : Arc) → i < j → j < 2 → get_or square_net.edges i d ≢ get_or square_net.edges j d
-square_different zero zero d a b = absurd (omega arith)
-square_different zero (suc zero) d a b = λ e. let x : pos 1 ≡ pos 0 = ap (λ (f : Arc). f.shift.x) e in omega (arith, ints)
-square_different zero (suc (suc j)) d a b = absurd (omega arith)
-square_different (suc i) zero d a b = absurd (omega arith)
-square_different (suc i) (suc zero) d a b = absurd (omega arith)
-square_different (suc i) (suc (suc j)) d a b = absurd (omega arith)
-
 -- so it is a graph
 pub square_graph : IsGraph square_net
 square_graph = record {
   dimension = inl refl;
   vertices = omega arith;
   edges = All-from_recursion (IsEdge square_net) square_net.edges square_edges;
-  different = λ i j d a b. square_different i j d a b;
+  different = rising_pairs (λ (e : Arc). unsigned_abs e.shift.y) square_net.edges refl;
 }
 
 -- its four arcs

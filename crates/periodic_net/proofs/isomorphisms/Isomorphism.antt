@@ -1,17 +1,10 @@
 -- Isomorphism of nets is an equivalence, and keeps connectedness.
-use Rattle.std.proofs.Common.{List, ap, map, [], ◌∷◌, subst, ◌*◌, ◌∙◌, refl, sym}
-use Rattle.periodic_net.specs.Graph.{Graph, IsGraph, IsVertex, Vertex, IsWalk, IsConnected, IsReached}
+use Rattle.std.proofs.Common.{ap, map, subst, ◌*◌, ◌∙◌, refl, sym}
+use Rattle.periodic_net.specs.Graph.{Graph, IsGraph, IsConnected, IsReached}
 use Rattle.periodic_net.specs.Maps.{Iso}
-use Rattle.periodic_net.proofs.nets.Arcs.{joined_inside}
 use Rattle.integers.proofs.vectors.BaseSums.{base_after, unit_base}
+use Rattle.periodic_net.proofs.isomorphisms.Matchings.{iso_matching, walk_there}
 use Rattle.periodic_net.proofs.isomorphisms.Periods.{periodic_after, identity_periodic}
-
--- a walk goes to a walk
-walk_there : (G H : Graph) → IsGraph G → (e : Iso G H) → (steps : List Vertex) (w x : Vertex) → IsVertex G w → IsWalk G w steps x → IsWalk H (e.there w) (map e.there steps) (e.there x)
-walk_there G H g e [] w x i h = ap e.there h
-walk_there G H g e (y ∷ ys) w x i h =
-    let j = joined_inside G g w y i h.0 in
-    (e.there_joins w y i j h.0, walk_there G H g e ys y x j h.1)
 
 -- what is isomorphic to a connected net is connected
 pub iso_connected : (G H : Graph) → IsGraph G → Iso G H → IsConnected G → IsConnected H
@@ -19,7 +12,7 @@ iso_connected G H g e c x y i j =
     let a = e.back_period.2.into x i in
     let s = c (e.back x) (e.back y) a (e.back_period.2.into y j) in
     subst (λ (t : Type 0). t) (λ k. IsReached H (e.there_back x i k) (e.there_back y j k))
-    (map e.there s.0, walk_there G H g e s.0 (e.back x) (e.back y) a s.1)
+    (map e.there s.0, walk_there G H g e.there e.back (iso_matching G H e) s.0 (e.back x) (e.back y) a s.1)
 
 -- isomorphisms follow one another
 pub iso_transitive : (G H K : Graph) → Iso G H → Iso H K → Iso G K

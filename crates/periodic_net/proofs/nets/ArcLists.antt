@@ -1,7 +1,7 @@
 -- No arc of a graph stands twice in its list.
 use Rattle.std.specs.declared.cmp.Ordering.TheVariants.{Greater, Less}
 use Rattle.std.specs.Ordering.{ordering_reverse}
-use Rattle.std.proofs.Common.{arith, sym, ap, ◌≡◌, ◌⊎◌, ◌==◌, [], ◌∷◌, ◌∙◌, inr, inl, List, subst, ℕ, eq-eqb}
+use Rattle.std.proofs.Common.{◌*◌, length, refl, arith, sym, ap, ◌≡◌, ◌⊎◌, ◌==◌, [], ◌∷◌, ◌∙◌, inr, inl, List, subst, ℕ, eq-eqb}
 use Rattle.std.proofs.Math.IntN.{neg_ℤ-neg_ℤ}
 use Rattle.std.specs.List.{AllByRecursion}
 use Rattle.std.proofs.lemmas.List.Elements.{recursion_from_All}
@@ -68,8 +68,14 @@ from_is_arc G u a h = let r = in_filter (λ b. b.from == u) (arcs G) a h in (con
 pub arc_is_from : (G : Graph) (u : ℕ) (a : Arc) → IsArc G a → a.from ≡ u → IsIn (arcs_from G u) a
 arc_is_from G u a h e = filter_in (λ b. b.from == u) (arcs G) a (is_in (arcs G) a h) (eq-eqb a.from u e)
 
+-- an edge is in the list of the arcs
+pub edge_in : (es : List Arc) (e : Arc) → IsIn es e → IsIn (both_ways es) e
+edge_in [] e h = elim h [ ]
+edge_in (f ∷ es) e (inl h) = inl h
+edge_in (f ∷ es) e (inr h) = inr (inr (edge_in es e h))
+
 -- with an arc its reverse is in the list
-reverse_in : (es : List Arc) (a : Arc) → IsIn (both_ways es) a → IsIn (both_ways es) (reverse_of a)
+pub reverse_in : (es : List Arc) (a : Arc) → IsIn (both_ways es) a → IsIn (both_ways es) (reverse_of a)
 reverse_in [] a h = elim h [ ]
 reverse_in (e ∷ es) a (inl h) = inr (inl (ap reverse_of h))
 reverse_in (e ∷ es) a (inr (inl h)) = inl (sym (reverse_twice e) ∙ ap reverse_of h)
@@ -78,3 +84,8 @@ reverse_in (e ∷ es) a (inr (inr h)) = inr (inr (reverse_in es a h))
 -- the reverse of an arc is an arc
 pub arc_turned : (G : Graph) (a : Arc) → IsArc G a → IsArc G (reverse_of a)
 arc_turned G a h = contains_from_in (arcs G) (reverse_of a) (reverse_in G.edges a (is_in (arcs G) a h))
+
+-- a list of edges gives twice as many arcs
+pub both_length : (es : List Arc) → length (both_ways es) ≡ 2 * length es
+both_length [] = refl
+both_length (e ∷ es) = let h = both_length es in omega arith

@@ -1,11 +1,10 @@
 -- Arcs stay among the vertices of the quotient graph, and steps among the vertices of the net.
 use Rattle.std.proofs.Common.{[], ◌∷◌, neg_ℤ, ap, List, arith, refl, ℕ}
 use Rattle.std.specs.List.{AllByRecursion}
-use Rattle.std.proofs.lemmas.List.Elements.{recursion_from_All, All-from_recursion}
+use Rattle.std.proofs.lemmas.List.Elements.{recursion_from_All, All-from_recursion, All-contains}
 use Rattle.std.proofs.lemmas.Int.{ints}
 use Rattle.integers.specs.Vectors.{HasDimension, minus, zero_vector}
 use Rattle.periodic_net.specs.Graph.{Graph, Arc, IsQuotientVertex, IsEdge, reverse_of, both_ways, IsArc, IsGraph, arcs, arc, IsVertex, Vertex, AreJoined, vertex}
-use Rattle.integers.proofs.lists.Filters.{all_at}
 
 -- the ends of a are vertices of the quotient graph, and its shift has the dimension
 pub record IsInside (G : Graph) (a : Arc) : Type 0 where
@@ -30,7 +29,7 @@ both_inside G (e ∷ es) h =
 
 -- and of each arc of a graph
 pub arc_inside : (G : Graph) → IsGraph G → (a : Arc) → IsArc G a → IsInside G a
-arc_inside G g a h = all_at (IsInside G) (arcs G) a (All-from_recursion (IsInside G) (arcs G) (both_inside G G.edges (recursion_from_All (IsEdge G) G.edges g.edges))) h
+arc_inside G g a h = All-contains (IsInside G) (arcs G) a (All-from_recursion (IsInside G) (arcs G) (both_inside G G.edges (recursion_from_All (IsEdge G) G.edges g.edges))) h
 
 -- what is joined to a vertex of the net is one
 pub joined_inside : (G : Graph) → IsGraph G → (w x : Vertex) → IsVertex G w → AreJoined G w x → IsVertex G x

@@ -8,7 +8,7 @@ use Rattle.connected_dim.proofs.sparse.sparse_colour.Goals as goal
 
 pub residue-requires-clause-x : goal.residue-requires-clause-x
 residue-requires-clause-x g c =
-    let walk = subst (IsWithin most_walk) (sym (c.to_triple.ensures.value ∙ c.to_vector.ensures.value ∙ c.shift_of.ensures)) c.requires.walk in
+    let walk = subst (IsWithin most_walk) (sym (c.to_triple.ensures.value ∙ c.shift_of.ensures)) c.requires.walk in
     let within : unsigned_abs c.dot.result ≤ 2 ^ 82 = sparse_within (unsigned_abs c.dot.result) (c.dot.ensures.within (2 ^ 60) most_walk c.requires.c walk) in
     let f = fits_from_bound c.dot.result (2 ^ 82) (omega arith) within in
     simp to_z-of_z within

@@ -4,7 +4,7 @@ use Rattle.periodic_net.specs.Classes.{ClassGraph, ClassArc}
 use Rattle.key_theory.specs.Coordinates.{AreCoordinates}
 use Rattle.quotient_graph.specs.ClassNets.{arcs_of}
 use Rattle.vecdim.specs.Stairs.{Stairs}
-use Rattle.net_coordinates.specs.Lattices.{AreInside, AreShort, IsInCoordinates, AreInCoordinates}
+use Rattle.net_coordinates.specs.Lattices.{AreInside, AreWithinUnits, IsInCoordinates, AreInCoordinates}
 use Rattle.net_coordinates.proofs.ShortArcs.{short_arcs}
 use Rattle.net_coordinates.proofs.WholeGraph.{are_coordinates, is_net_in_memory}
 use Rattle.net_coordinates.proofs.Written.{one_more_written}
@@ -19,9 +19,9 @@ arcs_in-requires g c =
     let end = c.loop-c-test.true in
     let count = c.count-count.ensures.count in
     let inside = c.lattice_of-lattice.ensures c.loop-c.c (low, omega (arith, end, count)) in
-    let short = subst (λ (L : ClassGraph). AreShort (arcs_of L c.loop-c.c)) (sym c.net-net.ensures.net) (short_arcs n.graph n.numbers n.classes n.translations c.net-net.ensures.classes c.loop-c.c) in (
+    let short = subst (λ (L : ClassGraph). AreWithinUnits (arcs_of L c.loop-c.c)) (sym c.net-net.ensures.net) (short_arcs n.graph n.numbers n.classes n.translations c.net-net.ensures.classes c.loop-c.c) in (
       lit< tt,
-      (lit< tt, (t, (subst (AreInside g.row.D c.lattice_of-lattice.result) (sym c.arcs.ensures.arcs) inside, subst AreShort (sym c.arcs.ensures.arcs) short))),
+      (lit< tt, (t, (subst (AreInside g.row.D c.lattice_of-lattice.result) (sym c.arcs.ensures.arcs) inside, subst AreWithinUnits (sym c.arcs.ensures.arcs) short))),
     )
 
 pub loop-c-preserved : goal.loop-c-preserved

@@ -3,8 +3,9 @@ use Rattle.std.proofs.lemmas.List.{take_all}
 use Rattle.integers.specs.Vectors.{Vector}
 use Rattle.periodic_net.specs.Classes.{ClassArc}
 use Rattle.vecdim.specs.Lattices.{Members, IsWith}
+use Rattle.vecdim.proofs.CallerLemmas.{with_start}
 use Rattle.net_coordinates.specs.Lattices.{AreInside}
-use Rattle.net_coordinates.proofs.LatticeMembers.{member_stays, one_more_inside}
+use Rattle.net_coordinates.proofs.LatticeMembers.{one_more_inside}
 use Rattle.net_coordinates.proofs.lattice.insert_arcs.Goals as goal
 
 pub loop-arc-preserved : goal.loop-arc-preserved
@@ -13,7 +14,7 @@ loop-arc-preserved g c =
     let after = Members g.row.D c.insert.new.self in
     let same = ap (λ (a : ClassArc). a.vector) (c.arc.view_is ∙ c.arc-item.is) in
     let added = subst (λ (v : Vector). IsWith before (v ∷ []) after) same c.insert.ensures in (
-      (λ v m. member_stays before after (c.arc.inside.vector ∷ []) c.insert.ensures v (c.loop-arc.invariant.0 v m)),
+      (λ v m. with_start before after (c.arc.inside.vector ∷ []) c.insert.ensures v (c.loop-arc.invariant.0 v m)),
       one_more_inside g.row.D c.loop-arc.lattice c.insert.new.self c.args.arcs.now c.loop-arc.arc-index c.arc-item.result c.loop-arc-test.true added c.loop-arc.invariant.1,
     )
 

@@ -1,8 +1,8 @@
 use Rattle.std.proofs.Common.{◌≢◌, refl, sym, subst, lit<, FitsSigned}
 use Rattle.std.specs.Int.{w128}
 use Rattle.std.proofs.lemmas.Int.{to_z-of_z}
+use Rattle.std.proofs.lemmas.List.Elements.{All-contains}
 use Rattle.integers.specs.Vectors.{zero_vector, IsWithin}
-use Rattle.integers.proofs.lists.Filters.{all_at}
 use Rattle.walk_lattice.specs.Full.{IsVolume}
 use Rattle.walk_lattice.proofs.RankAnswers.{full_flat, full_space, plane_in_space}
 use Rattle.walk_lattice.proofs.ranks.rank_with.Goals as goal
@@ -20,7 +20,7 @@ returns-then-this-eq2 g c =
 
 pub space_volume-requires : goal.space_volume-requires
 space_volume-requires g c =
-    (lit< tt, (c.normal-c.ensures.within, (all_at (IsWithin most_closed) c.args.gs.now c.in-Some.g c.requires.small c.in-Some.ensures.found, c.in-Some.ensures.some)))
+    (lit< tt, (c.normal-c.ensures.within, (All-contains (IsWithin most_closed) c.args.gs.now c.in-Some.g c.requires.small c.in-Some.ensures.found, c.in-Some.ensures.some)))
 
 pub returns-in-Some : goal.returns-in-Some
 returns-in-Some g c =
@@ -31,7 +31,7 @@ returns-in-Some g c =
 
 pub returns-in-None : goal.returns-in-None
 returns-in-None g c = (
-  plane_in_space g.row.D c.args.gs.now c.args.a.now c.args.b.now c.normal-c.result c.reduced.result c.if-this-eq2.false c.requires.a c.requires.b c.requires.apart c.normal-c.ensures.value
-      (c.in-None.ensures.none refl) c.reduced.ensures.reduction,
-  c.reduced.ensures.within,
+  plane_in_space g.row.D c.args.gs.now c.args.a.now c.args.b.now c.normal-c.result c.reduction.result c.if-this-eq2.false c.requires.a c.requires.b c.requires.apart c.normal-c.ensures.value
+      (c.in-None.ensures.none refl) c.reduction.ensures.reduction,
+  c.reduction.ensures.within,
 )

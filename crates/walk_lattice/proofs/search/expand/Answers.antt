@@ -1,8 +1,9 @@
 use Rattle.std.proofs.Common.{◌-◌, ◌*◌, ◌^◌, ◌≤◌, length, lit<, arith, subst, sym, ap, ◌∙◌}
+use Rattle.integers.proofs.vectors.Bounds.{wider}
 use Rattle.periodic_net.specs.Graph.{Arc, arc, IsArc}
 use Rattle.quotient_graph.specs.Stars.{IsArcFrom}
 use Rattle.walk_lattice.specs.Search.{found_with}
-use Rattle.walk_lattice.proofs.Expanding.{grows_none, within_more}
+use Rattle.walk_lattice.proofs.Expanding.{grows_none}
 use Rattle.walk_lattice.proofs.Growing.{turn, leads_more, leads_all}
 use Rattle.walk_lattice.proofs.search.expand.Goals as goal
 use Rattle.periodic_net.specs.Limits.{most_shift}
@@ -11,7 +12,7 @@ pub plus-requires : goal.plus-requires
 plus-requires g c =
     let few = c.requires.few in
     let here = subst (IsArcFrom c.args.g.now c.args.u) (sym c.arc-item.is ∙ sym c.arc.view_is) (c.arcs-arc-items.ensures.each c.loop-arc.arc-index c.arc-item.result c.loop-arc-test.true) in
-    (lit< tt, (within_more (most_shift * (length c.args.order.now.items - 1)) (2 ^ 29) c.args.walk.now (omega arith) c.requires.near, within_more most_shift (2 ^ 29) c.arc.inside.shift (omega arith) here.shift))
+    (lit< tt, (wider (most_shift * (length c.args.order.now.items - 1)) (2 ^ 29) (omega arith) c.args.walk.now c.requires.near, wider most_shift (2 ^ 29) (omega arith) c.arc.inside.shift here.shift))
 
 pub find-requires : goal.find-requires
 find-requires g c =

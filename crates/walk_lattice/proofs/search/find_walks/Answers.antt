@@ -1,6 +1,6 @@
 use Rattle.std.proofs.Common.{◌+◌, ℕ, List, length, lit<, ap, ◌∙◌}
 use Rattle.integers.specs.Vectors.{zero_vector}
-use Rattle.walk_lattice.specs.Search.{none_found, missing, found_with, order_with}
+use Rattle.walk_lattice.specs.Search.{none_found, missing_count, found_with, order_with}
 use Rattle.walk_lattice.proofs.Starting.{search_start, walks_found}
 use Rattle.walk_lattice.proofs.search.find_walks.Goals as goal
 
@@ -11,7 +11,7 @@ search-requires g c =
     let empty = c.in_ok-order.ensures.items in
     let found = ok.found ∙ ap (λ fs. found_with fs c.args.start zero_vector) c.requires.none in
     let order = ok.order ∙ ap (λ fs. order_with fs c.in_ok-order.order.items c.args.start) c.requires.none ∙ ap (λ (os : List ℕ). order_with (none_found G.vertices) os c.args.start) empty in
-    let together = ok.together ∙ ap (λ fs. missing fs + length c.in_ok-order.order.items) c.requires.none ∙ ap (λ (os : List ℕ). missing (none_found G.vertices) + length os) empty in
+    let together = ok.together ∙ ap (λ fs. missing_count fs + length c.in_ok-order.order.items) c.requires.none ∙ ap (λ (os : List ℕ). missing_count (none_found G.vertices) + length os) empty in
     (lit< tt, (lit< tt, (search_start G c.args.start c.find.new.found c.find.new.order.items c.requires.start found order together, c.vertices-n.ensures.small.vertices)))
 
 pub returns : goal.returns

@@ -5,7 +5,7 @@ use Rattle.integers.specs.Vectors.{times}
 use Rattle.integers.proofs.vectors.Bounds.{fits_from_bound}
 use Rattle.walk_lattice.proofs.Dividing.{divisor_within}
 use Rattle.walk_lattice.proofs.Reductions.{reduction_is}
-use Rattle.walk_lattice.proofs.reduction.reduced.Goals as goal
+use Rattle.walk_lattice.proofs.reduction.reduction.Goals as goal
 use Rattle.walk_lattice.specs.Bounds.{most_normal}
 
 pub returns-clause-reduction : goal.returns-clause-reduction
