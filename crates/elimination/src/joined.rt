@@ -3,7 +3,7 @@ ghost use Rattle.std.specs.Prelude.{ℕ, ◌+◌, ◌<◌, ◌≤◌, ◌^◌, l
 ghost use Rattle.std.specs.Prelude.{IfOk, OnOk};
 ghost use Rattle.exact.specs.Values.{HasValue};
 ghost use Rattle.elimination.specs.Listed.{Level};
-ghost use Rattle.elimination.specs.Lines.{AreJoined, AreWeights, AreWide, IsSymmetric};
+ghost use Rattle.elimination.specs.Lines.{AreJoinedVertices, AreWeights, AreWide, IsSymmetric};
 
 use crate::NoMemory;
 use exact::Exact;
@@ -26,9 +26,9 @@ fn push_joined<N: Exact>(joined: &mut Vec<Joined<N>>, weight: N, i: usize) -> Re
     ensures below { OnOk result (All (λ x. x.place < i + 1) joined.new.items) }
     ensures rising { OnOk result (AllPairs (λ x y. x.place < y.place) joined.new.items) }
     ensures values { (l : Level) (k : ℕ)
-        → AreJoined N.modulus N.value joined.old.items l 0 i k
+        → AreJoinedVertices N.modulus N.value joined.old.items l 0 i k
         → HasValue N.modulus (N.value weight) (l.w k i)
-        → OnOk result (AreJoined N.modulus N.value joined.new.items l 0 (i + 1) k) }
+        → OnOk result (AreJoinedVertices N.modulus N.value joined.new.items l 0 (i + 1) k) }
 {
     let is_later = i > 0;
     if is_later && weight.is_zero() {
@@ -57,7 +57,7 @@ pub fn joined_to<N: Exact>(
     ensures rising { IfOk result (λ joined. AllPairs (λ x y. x.place < y.place) joined.items) }
     ensures values { (l : Level) → AreWeights N.modulus N.value lines.now l (k + 1) k
         → IsSymmetric N.modulus l (k + 1)
-        → IfOk result (λ joined. AreJoined N.modulus N.value joined.items l 0 k k) }
+        → IfOk result (λ joined. AreJoinedVertices N.modulus N.value joined.items l 0 k k) }
 {
     let mut joined = Vec::with_capacity(alloc, k.min(FEW))?;
     for i in 0..k {

@@ -2,6 +2,7 @@
 use Rattle.std.proofs.Common.{◌≡◌, ℕ, zero, suc, arith, ◌-◌, ◌<◌, ◌^◌, List, [], ◌∷◌, length, map, get_or, ap, sym, refl, ◌∙◌, Option, Some, None}
 use Rattle.std.specs.Prelude.{ℤ, pos, ◌+ℤ◌, ◌-ℤ◌, ◌*ℤ◌, slice_get, slice_index_or, All}
 use Rattle.std.specs.Option.{option_map_or}
+use Rattle.integers.specs.Divisors.{DividesInteger}
 use Rattle.integers.specs.Lists.{total}
 use Rattle.integers.specs.Vectors.{zero_vector, plus, times, IsWithin}
 use Rattle.integers.specs.Staircase.{part}
@@ -15,12 +16,12 @@ use Rattle.exact.specs.Ratio.{Ratio, whole}
 use Rattle.vecdim.specs.declared.vectors.Row.{Row}
 use Rattle.elimination.specs.Rows.{row_part, value_in}
 use Rattle.residue.specs.declared.numbers.Residue.{Residue}
-use Rattle.lifting.specs.Gains.{gains, shifts, IsMultipleOf}
-use Rattle.lifting.proofs.CallerLemmas.{gained}
+use Rattle.lifting.specs.Gains.{gains, shifts}
+use Rattle.lifting.proofs.CallerLemmas.{gained, multiple_zero}
 use Rattle.barycentre.specs.Left.{star_vector}
 use Rattle.barycentre.specs.Limits.{AreInReach}
 use Rattle.barycentre.specs.ResidueRows.{residue_value, residue_part, residue_at, residue_vector}
-use Rattle.barycentre.proofs.Balance.{below_three, part_is_coordinate}
+use Rattle.integers.proofs.vectors.Coordinates.{below_three, part_is_coordinate}
 
 -- an element of a list that is long enough
 pub element_of : {A : Type 0} (xs : List A) (i : ℕ) → i < length xs → A
@@ -95,22 +96,19 @@ module _ {M D : ℕ} where
     star_is G u = sym (total_linear (part c) (part_is_coordinate c below) P (arcs_from G u)) ∙ list_is (arcs_from G u)
 
 -- gains of multiples are multiples
-module _ (m : ℕ) (s : ℕ → ℤ) (h : (v : ℕ) → IsMultipleOf m (s v)) where
+module _ (m : ℕ) (s : ℕ → ℤ) (h : (v : ℕ) → DividesInteger m (s v)) where
   multiple_step : (t f r m a b k : ℤ) → t ≡ m *ℤ a → f ≡ m *ℤ b → r ≡ m *ℤ k → (t -ℤ f) +ℤ r ≡ m *ℤ ((a -ℤ b) +ℤ k)
   multiple_step t f r m a b k e g q = simp ring (omega (arith, linear, e, g, q))
 
-  zeros : (m : ℤ) → pos 0 ≡ m *ℤ pos 0
-  zeros m = simp ring refl
-
-  gained_multiple : (as' : List Arc) → IsMultipleOf m (gained s as')
-  gained_multiple [] = record { quotient = pos 0; is = zeros (pos m) }
+  gained_multiple : (as' : List Arc) → DividesInteger m (gained s as')
+  gained_multiple [] = multiple_zero m
   gained_multiple (a ∷ as') =
       let t = h a.to in
       let f = h a.from in
       let r = gained_multiple as' in
-      record { quotient = (t.quotient -ℤ f.quotient) +ℤ r.quotient; is = multiple_step (s a.to) (s a.from) (gained s as') (pos m) t.quotient f.quotient r.quotient t.is f.is r.is }
+      ((t.0 -ℤ f.0) +ℤ r.0, multiple_step (s a.to) (s a.from) (gained s as') (pos m) t.0 f.0 r.0 t.1 f.1 r.1)
 
-  pub gains_multiple : (G : Graph) (u : ℕ) → IsMultipleOf m (gains G s u)
+  pub gains_multiple : (G : Graph) (u : ℕ) → DividesInteger m (gains G s u)
   gains_multiple G u = gained_multiple (arcs_from G u)
 
 -- in a plane the shifts have no third part

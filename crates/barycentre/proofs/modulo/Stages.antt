@@ -5,10 +5,10 @@ use Rattle.std.specs.Option.{option_map_or}
 use Rattle.std.proofs.lemmas.Option.{get_or_from_slice_get, slice_get_within}
 use Rattle.integers.specs.Vectors.{Vector}
 use Rattle.integers.specs.Staircase.{part}
-use Rattle.integers.proofs.numbers.Ring.{ring, linear}
+use Rattle.integers.proofs.numbers.Ring.{linear}
 use Rattle.integers.proofs.numbers.Division.{exact_quotient}
 use Rattle.periodic_net.specs.Graph.{Graph, IsGraph, IsQuotientVertex}
-use Rattle.exact.specs.Ratio.{Same, IsWholeMultiple, whole}
+use Rattle.exact.specs.Ratio.{Same, whole}
 use Rattle.exact.proofs.CallerLemmas.{equal_residues}
 use Rattle.vecdim.specs.declared.vectors.Row.{Row}
 use Rattle.elimination.specs.Equations.{IsAtMean, IsSolution}
@@ -17,14 +17,15 @@ use Rattle.elimination.specs.RightHand.{IsSolutionWith, SolveWith}
 use Rattle.elimination.specs.Solutions.{SolveAll, SolveOnly, AreFlat}
 use Rattle.residue.specs.declared.numbers.Residue.{Residue}
 use Rattle.residue.specs.Residues.{IsResidue}
-use Rattle.lifting.specs.Gains.{gains, shifts, IsMultipleOf}
+use Rattle.lifting.specs.Gains.{gains, shifts}
 use Rattle.lifting.specs.TwoSteps.{AreTwoSteps}
-use Rattle.lifting.proofs.CallerLemmas.{same_zero, at_mean}
+use Rattle.lifting.proofs.CallerLemmas.{multiple_zero, same_zero, at_mean}
 use Rattle.barycentre.specs.Left.{star_vector, IsLeft, IsLeftRow, IsDividedVector, AreLeftRows}
 use Rattle.barycentre.specs.ResidueRows.{residue_value, residue_part, residue_at, residue_vector}
-use Rattle.barycentre.proofs.Balance.{below_three}
+use Rattle.integers.proofs.vectors.Coordinates.{below_three}
 use Rattle.barycentre.proofs.Normal.{dimension_below, coordinate_cases}
 use Rattle.barycentre.proofs.modulo.ResidueRows.{element_of, values_are, at_below, part_there, star_is, gains_multiple, flat_shifts}
+use Rattle.integers.specs.Divisors.{DividesInteger}
 
 -- the part of a row that is left
 left_part_is : {M D : ℕ} (v : Vector) (r : Row (Residue M) D) → IsLeftRow v r → (c : ℕ) → c < 3 → IsLeft M (part c v) (residue_part r c)
@@ -41,46 +42,43 @@ module _ {M D : ℕ} (least : 2 ≤ M) (G : Graph) (g : IsGraph G) (dimension : 
   solution c l = subst (IsSolution M G c) (values_are firsts c) (solved c l).0
 
   -- M divides what the arcs of each vertex lead
-  mean : (c : ℕ) → c < G.dimension → (u : ℕ) → IsQuotientVertex G u → IsMultipleOf M (gains G (first c) u +ℤ shifts G (part c) u)
+  mean : (c : ℕ) → c < G.dimension → (u : ℕ) → IsQuotientVertex G u → DividesInteger M (gains G (first c) u +ℤ shifts G (part c) u)
   mean c l zero q = let a = q.0 in absurd (omega arith)
   mean c l (suc zero) q = at_mean M G c (first c) 1 (subst (λ p. IsAtMean M G c p 1) (values_are firsts c) (solved c l).1)
   mean c l (suc (suc u)) q = at_mean M G c (first c) (suc (suc u)) ((solution c l).means (suc (suc u)) q (omega arith))
 
-  part_divided : (c : ℕ) → c < G.dimension → (u : ℕ) → IsQuotientVertex G u → IsWholeMultiple M (part c (star u))
-  part_divided c l u q = let h = mean c l u q in (h.quotient, star_is firsts c (dimension_below G g c l) G u ∙ h.is)
+  part_divided : (c : ℕ) → c < G.dimension → (u : ℕ) → IsQuotientVertex G u → DividesInteger M (part c (star u))
+  part_divided c l u q = let h = mean c l u q in (h.0, star_is firsts c (dimension_below G g c l) G u ∙ h.1)
 
-  zeros : (m : ℤ) → pos 0 ≡ m *ℤ pos 0
-  zeros m = simp ring refl
-
-  flat_option : D ≡ 2 → (i : ℕ) (o : Option (Row (Residue M) D)) → slice_get firsts i ≡ o → IsMultipleOf M (pos (option_map_or (λ r. residue_part r 2) o 0))
-  flat_option e i None s = record { quotient = pos 0; is = zeros (pos M) }
+  flat_option : D ≡ 2 → (i : ℕ) (o : Option (Row (Residue M) D)) → slice_get firsts i ≡ o → DividesInteger M (pos (option_map_or (λ r. residue_part r 2) o 0))
+  flat_option e i None s = multiple_zero M
   flat_option e i (Some r) s = same_zero M (pos r.z.value) (subst (λ (t : Row (Residue M) D). Same M (residue_value t.z) (whole (pos 0))) (get_or_from_slice_get firsts i r r s) (flat e i r (slice_get_within firsts i r s)))
 
   sum_zero : (x y m k : ℤ) → x ≡ m *ℤ k → y ≡ pos 0 → x +ℤ y ≡ m *ℤ k
   sum_zero x y m k e f = omega (arith, linear, e, f)
 
-  flat_divided : G.dimension ≡ 2 → (u : ℕ) → IsWholeMultiple M (part 2 (star u))
+  flat_divided : G.dimension ≡ 2 → (u : ℕ) → DividesInteger M (part 2 (star u))
   flat_divided e u =
       let h = gains_multiple M (first 2) (λ v. flat_option (sym dimension ∙ e) (v - 1) (slice_get firsts (v - 1)) refl) G u in
-      (h.quotient, star_is firsts 2 (omega arith) G u ∙ sum_zero (gains G (first 2) u) (shifts G (part 2) u) (pos M) h.quotient h.is (flat_shifts G g e u))
+      (h.0, star_is firsts 2 (omega arith) G u ∙ sum_zero (gains G (first 2) u) (shifts G (part 2) u) (pos M) h.0 h.1 (flat_shifts G g e u))
 
   pub divided : (u : ℕ) → IsQuotientVertex G u → IsDividedVector M (star u)
   divided u q = record { x = third 0 (omega arith); y = third 1 (omega arith); z = third 2 (omega arith) }
     where
-      third : (c : ℕ) → c < 3 → IsWholeMultiple M (part c (star u))
+      third : (c : ℕ) → c < 3 → DividesInteger M (part c (star u))
       third c l = ⊎_elim
           (λ (d : c < G.dimension). part_divided c d u q)
-          (λ (s : (c ≡ 2) × (G.dimension ≡ 2)). subst (λ e. IsWholeMultiple M (part e (star u))) (sym s.0) (flat_divided s.1 u)) (coordinate_cases G g c l)
+          (λ (s : (c ≡ 2) × (G.dimension ≡ 2)). subst (λ e. DividesInteger M (part e (star u))) (sym s.0) (flat_divided s.1 u)) (coordinate_cases G g c l)
 
   -- over M
   abbrev pub quotient : ℕ → ℕ → ℤ
   quotient c u = int_div (part c (star u)) (pos M)
 
-  quotient_is : (c : ℕ) (l : c < G.dimension) (u : ℕ) (q : IsQuotientVertex G u) → quotient c u ≡ (mean c l u q).quotient
-  quotient_is c l u q = let h = mean c l u q in ap (λ t. int_div t (pos M)) (star_is firsts c (dimension_below G g c l) G u ∙ h.is) ∙ exact_quotient M (omega arith) h.quotient
+  quotient_is : (c : ℕ) (l : c < G.dimension) (u : ℕ) (q : IsQuotientVertex G u) → quotient c u ≡ (mean c l u q).0
+  quotient_is c l u q = let h = mean c l u q in ap (λ t. int_div t (pos M)) (star_is firsts c (dimension_below G g c l) G u ∙ h.1) ∙ exact_quotient M (omega arith) h.0
 
   rest : (c : ℕ) → c < G.dimension → (u : ℕ) → IsQuotientVertex G u → gains G (first c) u +ℤ shifts G (part c) u ≡ pos M *ℤ quotient c u
-  rest c l u q = (mean c l u q).is ∙ ap (λ t. pos M *ℤ t) (sym (quotient_is c l u q))
+  rest c l u q = (mean c l u q).1 ∙ ap (λ t. pos M *ℤ t) (sym (quotient_is c l u q))
 
   -- 0 at vertex 1
   origin : (c : ℕ) → c < G.dimension → residue_at firsts c 1 ≡ 0

@@ -22,7 +22,7 @@ use Rattle.barycentre.specs.Positions.{IsScaled}
 use Rattle.barycentre.specs.Recovered.{lifted_part, IsRecoveredRow, AreRecovered, LacksRow}
 use Rattle.barycentre.specs.ResidueRows.{residue_part, residue_at}
 use Rattle.barycentre.specs.Tested.{AreFractions}
-use Rattle.barycentre.proofs.Balance.{below_three}
+use Rattle.integers.proofs.vectors.Coordinates.{below_three}
 use Rattle.barycentre.proofs.Normal.{dimension_below, coordinate_cases}
 use Rattle.barycentre.proofs.modulo.ResidueRows.{element_of, part_there}
 use Rattle.barycentre.proofs.Solved.{option_reduced}

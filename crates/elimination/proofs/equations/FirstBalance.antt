@@ -1,15 +1,14 @@
 -- Where all vertices but vertex 1 are balanced, and the right-hand parts add up to 0, so is vertex 1.
-use Rattle.std.proofs.Common.{◌≡◌, ℕ, zero, suc, ◌+◌, ◌≤◌, ◌<◌, List, [], ◌∷◌, sym, refl, ◌∙◌}
+use Rattle.std.proofs.Common.{◌≡◌, ℕ, zero, suc, ◌+◌, ◌<◌, List, [], ◌∷◌, sym, refl, ◌∙◌}
 use Rattle.std.specs.Prelude.{pos, ◌==◌}
-use Rattle.integers.proofs.lists.Members.{contains_from_in, IsIn}
 use Rattle.periodic_net.specs.Graph.{Graph, Arc, IsGraph, reverse_of, both_ways, arcs, arcs_from}
-use Rattle.periodic_net.proofs.CallerLemmas.{arc_inside}
 use Rattle.exact.specs.Ratio.{Ratio}
 use Rattle.exact.specs.Values.{CanCancel}
 use Rattle.exact.proofs.CallerLemmas.{one_cancels, plus_cancels, class_plus, class_whole, Value, class, plus_value, plus_value_comm, plus_value_assoc, plus_value_cancel, whole_value, values}
 use Rattle.elimination.specs.RightHand.{ratio_total}
 use Rattle.elimination.proofs.theory.Semirings.{middle, nought_plus, sum_below, sum_same, sum_plus, sum_first}
 use Rattle.elimination.proofs.theory.ListSums.{sum_over, over_filter, at_number, grouped}
+use Rattle.elimination.proofs.equations.FirstVertex.{starts_inside}
 use Rattle.elimination.proofs.equations.Differences.{difference, difference_plus}
 
 -- the sum of values, as the value of the sum
@@ -22,10 +21,6 @@ module _ (m : ℕ) (p : ℕ → Ratio) (k : (u : ℕ) → CanCancel m (pos (p u)
   unfolding total_cancels
   total_class zero = class_whole m (pos 0) one_cancels
   total_class (suc n) = (λ i. plus_value m (total_class n i) (class m (p (n + 1)) (k (n + 1)))) ∙ class_plus m (ratio_total n p) (p (n + 1)) (total_cancels n) (k (n + 1)) _
-
--- the arcs of a graph start at vertices
-starts_inside : (G : Graph) → IsGraph G → (a : Arc) → IsIn (arcs G) a → (1 ≤ a.from) × (a.from ≤ G.vertices)
-starts_inside G g a h = (arc_inside G g a (contains_from_in (arcs G) a h)).from
 
 module _ (m : ℕ) (p : ℕ → Ratio) (h : (u : ℕ) → CanCancel m (pos (p u).den)) where
   -- the differences of the two arcs of an edge are opposite

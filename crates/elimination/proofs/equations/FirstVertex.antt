@@ -19,7 +19,7 @@ no_way : (z o : ℤ) → o ≡ neg_ℤ z → z +ℤ o ≡ pos 0
 no_way z o e = omega (arith, linear)
 
 -- the arcs of a graph start at vertices
-starts_inside : (G : Graph) → IsGraph G → (a : Arc) → IsIn (arcs G) a → (1 ≤ a.from) × (a.from ≤ G.vertices)
+pub starts_inside : (G : Graph) → IsGraph G → (a : Arc) → IsIn (arcs G) a → (1 ≤ a.from) × (a.from ≤ G.vertices)
 starts_inside G g a h = (arc_inside G g a (contains_from_in (arcs G) a h)).from
 
 module _ (m c : ℕ) (p : ℕ → Ratio) (h : (u : ℕ) → CanCancel m (pos (p u).den)) where

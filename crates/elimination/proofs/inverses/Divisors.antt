@@ -7,7 +7,7 @@ use Rattle.std.proofs.lemmas.List.Elements.{All-append, All-nil, All-cons}
 use Rattle.exact.specs.Ratio.{Ratio, HasInverse, ratio_times}
 use Rattle.exact.specs.declared.number.Op.TheVariants.{Plus, Times, Over}
 use Rattle.elimination.specs.declared.place.Place.{Place}
-use Rattle.elimination.specs.Listed.{Level, Entry, level_entries, list_to, listed, next_level, pivot_sum, position_entries, position, row_entries, sum_entries, sum_entry, weight_entry, shift_entry, back_entry, back_sum, over_entry, plus_entry, times_entry, term_entries, place, factor}
+use Rattle.elimination.specs.Listed.{Level, Entry, level_entries, list_to, listed, next_level, pivot_sum, position_entries, position_up_to, row_entries, sum_entries, sum_entry, weight_entry, shift_entry, back_entry, back_sum, over_entry, plus_entry, times_entry, term_entries, place, factor}
 use Rattle.elimination.proofs.theory.Levels.{HaveInverses}
 
 -- what holds of all that f lists in turn holds of the whole list
@@ -64,6 +64,6 @@ module _ (m : ℕ) where
   all_divide D zero l h = All-nil CanDivide
   all_divide D (suc k) l h =
       let next = next_level (suc k) l in
-      let last = list_to D (position_entries l (suc k) (position k next)) in
+      let last = list_to D (position_entries l (suc k) (position_up_to k next)) in
       All-append CanDivide (level_entries D l (suc k)) (listed D k next ++ last) (level_divides D l (suc k) h.0)
-      (All-append CanDivide (listed D k next) last (all_divide D k next h.1) (all_to CanDivide D (position_entries l (suc k) (position k next)) (position_divides D l (suc k) h.0 (position k next))))
+      (All-append CanDivide (listed D k next) last (all_divide D k next h.1) (all_to CanDivide D (position_entries l (suc k) (position_up_to k next)) (position_divides D l (suc k) h.0 (position_up_to k next))))

@@ -3,7 +3,7 @@ use Rattle.std.proofs.Common.{ℕ, zero, suc, ◌+◌, ◌++◌, [], ◌∷◌, 
 use Rattle.std.specs.List.{All}
 use Rattle.std.proofs.lemmas.List.Elements.{All-head, All-tail, All-nil, All-cons}
 use Rattle.exact.specs.Ratio.{Ratio, HasInverse}
-use Rattle.elimination.specs.Listed.{Level, level_entries, list_to, listed, next_level, pivot_sum, position_entries, position, row_entries, sum_entries, weight_entry, shift_entry, over_entry, place}
+use Rattle.elimination.specs.Listed.{Level, level_entries, list_to, listed, next_level, pivot_sum, position_entries, position_up_to, row_entries, sum_entries, weight_entry, shift_entry, over_entry, place}
 use Rattle.elimination.specs.Faults.{IsGood, AreGood}
 use Rattle.elimination.proofs.theory.Levels.{HaveInverses}
 
@@ -30,7 +30,7 @@ module _ (m : ℕ) (fits : Ratio → Type 0) (D : ℕ) where
   all_inverses zero l h = tt
   all_inverses (suc k) l h =
       let later = listed D k (next_level (suc k) l) in
-      let last = list_to D (position_entries l (suc k) (position k (next_level (suc k) l))) in (
+      let last = list_to D (position_entries l (suc k) (position_up_to k (next_level (suc k) l))) in (
         level_inverse k l (all_before (IsGood m fits) (level_entries D l (suc k)) (later ++ last) h),
         all_inverses k (next_level (suc k) l) (all_before (IsGood m fits) later last (all_after (IsGood m fits) (level_entries D l (suc k)) (later ++ last) h)),
       )

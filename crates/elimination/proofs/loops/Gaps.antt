@@ -6,7 +6,7 @@ use Rattle.std.proofs.lemmas.List.{get_or_default}
 use Rattle.exact.specs.Ratio.{Ratio}
 use Rattle.elimination.specs.declared.joined.Joined.{Joined}
 use Rattle.elimination.specs.Listed.{Level}
-use Rattle.elimination.specs.Lines.{IsNought, AreJoined}
+use Rattle.elimination.specs.Lines.{IsNought, AreJoinedVertices}
 
 -- the first a of these vertices are below j
 abbrev pub ArePassed : {N : Type 0} → List (Joined N) → ℕ → ℕ → Type 0
@@ -71,7 +71,7 @@ pub passed_more : {N : Type 0} (xs : List (Joined N)) (a i j : ℕ) → i ≤ j 
 passed_more xs a i j l h = λ b d t m. let u = h b d t m in omega (arith, l, u)
 
 -- what is kept by each vertex without weight is kept by all between
-pub over_gap : {N : Type 0} {m : ℕ} {value : N → Ratio} (xs : List (Joined N)) (l : Level) (h n k : ℕ) → AreJoined m value xs l h n k → (Done : ℕ → Type 0) (a i j : ℕ)
+pub over_gap : {N : Type 0} {m : ℕ} {value : N → Ratio} (xs : List (Joined N)) (l : Level) (h n k : ℕ) → AreJoinedVertices m value xs l h n k → (Done : ℕ → Type 0) (a i j : ℕ)
     → ((q : ℕ) → i ≤ q → q < j → 0 < q → IsNought m value (l.w k q) → Done q → Done (q + 1)) → IsReached xs a i → IsReached xs a j → h ≤ i → i ≤ j → j ≤ n → Done i → Done j
 over_gap xs l h n k joined Done a i j step r s f b c d = subst Done (omega (arith, b)) (along (j - i) (omega (arith, b)))
   where

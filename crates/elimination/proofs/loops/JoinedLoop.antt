@@ -7,7 +7,7 @@ use Rattle.elimination.specs.declared.joined.Joined.{Joined}
 use Rattle.elimination.specs.declared.place.SolveFault.{SolveFault}
 use Rattle.elimination.specs.Listed.{Level, Entry, list_to}
 use Rattle.elimination.specs.Faults.{AreGood, IsFault}
-use Rattle.elimination.specs.Lines.{IsNought, AreJoined}
+use Rattle.elimination.specs.Lines.{IsNought, AreJoinedVertices}
 use Rattle.elimination.proofs.loops.Gaps.{IsReached, reached_none, reached_all, reached_here, reached_past, past, over_gap}
 use Rattle.elimination.proofs.loops.Turns.{good_turn, fault_turn}
 
@@ -34,7 +34,7 @@ module _ {N : Type 0} (m : ℕ) (value : N → Ratio) (fits : Ratio → Type 0) 
   abbrev pub Passes : ℕ → Type 0
   Passes i = (q : ℕ) → i ≤ q → q < n → 0 < q → IsNought m value (l.w k q) → IsDone m fits f Has q → Has (q + 1) × AreGood m fits (f q)
 
-module _ {N : Type 0} {m : ℕ} {value : N → Ratio} (fits : Ratio → Type 0) (f : ℕ → List Entry) (xs : List (Joined N)) (l : Level) (h n k : ℕ) (joined : AreJoined m value xs l h n k) where
+module _ {N : Type 0} {m : ℕ} {value : N → Ratio} (fits : Ratio → Type 0) (f : ℕ → List Entry) (xs : List (Joined N)) (l : Level) (h n k : ℕ) (joined : AreJoinedVertices m value xs l h n k) where
   from_here : (Has : ℕ → Type 0) (a i : ℕ) → Passes m value fits f l n k Has i → IsReached xs a i → h ≤ i → ((j : ℕ) → h ≤ j → IsReached xs a j → i ≤ j) → IsDone m fits f Has i → AreDone m fits f Has xs h n a
   from_here Has a i pass reached low first done = record {
     at = λ j b c r. over_gap xs l h n k joined (IsDone m fits f Has) a i j

@@ -7,7 +7,7 @@ use Rattle.exact.specs.Ratio.{Ratio}
 use Rattle.exact.specs.Values.{HasValue}
 use Rattle.elimination.specs.declared.joined.Joined.{Joined}
 use Rattle.elimination.specs.Listed.{Level}
-use Rattle.elimination.specs.Lines.{AreJoined}
+use Rattle.elimination.specs.Lines.{AreJoinedVertices}
 use Rattle.elimination.proofs.loops.Gaps.{place_is}
 
 -- what holds of all holds of those after some
@@ -24,7 +24,7 @@ module _ {N : Type 0} (xs : List (Joined N)) (rising : AllPairs (λ x y. x.place
   places_later k h = subst (All (λ (y : Joined N). (x.place < y.place) × (y.place < k))) (sym (take_rest xs (a + 1)))
       (λ b d l. (above b d l, all_after (λ (y : Joined N). y.place < k) xs (a + 1) h b d l))
 
-module _ {N : Type 0} {m : ℕ} {value : N → Ratio} (xs : List (Joined N)) (l : Level) (h n k : ℕ) (joined : AreJoined m value xs l h n k) (a : ℕ) (within : a < length xs) (x : Joined N) (is : x ≡ get_or xs a x) where
+module _ {N : Type 0} {m : ℕ} {value : N → Ratio} (xs : List (Joined N)) (l : Level) (h n k : ℕ) (joined : AreJoinedVertices m value xs l h n k) (a : ℕ) (within : a < length xs) (x : Joined N) (is : x ≡ get_or xs a x) where
   own : (d : Joined N) → (get_or xs a d).place ≡ x.place
   own d = place_is xs joined.rising a within x is d
 
@@ -38,8 +38,8 @@ module _ {N : Type 0} {m : ℕ} {value : N → Ratio} (xs : List (Joined N)) (l 
       (λ v. let q : a ≡ p = omega (arith, u, v) in let w = subst (λ r. (get_or xs r d).place ≡ x.place) q (own d) in omega (arith, w, e, f)) (cases_lt a p)) (cases_lt p a)
 
   -- they are joined, from the next vertex on
-  pub joined_later : AreJoined m value (take (length xs - (a + 1)) (drop (a + 1) xs)) l (x.place + 1) n k
-  joined_later = subst (λ ys. AreJoined m value ys l (x.place + 1) n k) (sym (take_rest xs (a + 1)))
+  pub joined_later : AreJoinedVertices m value (take (length xs - (a + 1)) (drop (a + 1) xs)) l (x.place + 1) n k
+  joined_later = subst (λ ys. AreJoinedVertices m value ys l (x.place + 1) n k) (sym (take_rest xs (a + 1)))
       (record {
         rising = λ i j d b c. subst (λ (y : Joined N). y.place < (get_or (drop (a + 1) xs) j d).place) (sym (get_or-drop (a + 1) xs i d))
             (subst (λ (y : Joined N). (get_or xs (a + 1 + i) d).place < y.place) (sym (get_or-drop (a + 1) xs j d))

@@ -8,12 +8,12 @@ use Rattle.exact.specs.Ratio.{Ratio}
 use Rattle.exact.specs.Values.{HasValue}
 use Rattle.elimination.specs.declared.joined.Joined.{Joined}
 use Rattle.elimination.specs.Listed.{Level}
-use Rattle.elimination.specs.Lines.{IsNought, AreJoined}
+use Rattle.elimination.specs.Lines.{IsNought, AreJoinedVertices}
 use Rattle.elimination.proofs.inverses.Inverses.{all_before, all_after}
 
-module _ {N : Type 0} {m : ℕ} {value : N → Ratio} (xs : List (Joined N)) (l : Level) (i k : ℕ) (h : AreJoined m value xs l 0 i k) where
+module _ {N : Type 0} {m : ℕ} {value : N → Ratio} (xs : List (Joined N)) (l : Level) (i k : ℕ) (h : AreJoinedVertices m value xs l 0 i k) where
   -- vertex i is listed
-  pub joined_pushed : (x : Joined N) → All (λ y. y.place < i) xs → x.place ≡ i → HasValue m (value x.weight) (l.w k i) → AreJoined m value (xs ++ (x ∷ [])) l 0 (i + 1) k
+  pub joined_pushed : (x : Joined N) → All (λ y. y.place < i) xs → x.place ≡ i → HasValue m (value x.weight) (l.w k i) → AreJoinedVertices m value (xs ++ (x ∷ [])) l 0 (i + 1) k
   joined_pushed x below place has = record {
     rising = all_pairs_push (λ (y z : Joined N). y.place < z.place) xs x h.rising (λ a d b. let u = below a d b in omega (arith, u, place));
     from = λ a d b. omega arith;
@@ -24,7 +24,7 @@ module _ {N : Type 0} {m : ℕ} {value : N → Ratio} (xs : List (Joined N)) (l 
   }
 
   -- vertex i has no weight
-  pub joined_passed : 0 < i → IsNought m value (l.w k i) → AreJoined m value xs l 0 (i + 1) k
+  pub joined_passed : 0 < i → IsNought m value (l.w k i) → AreJoinedVertices m value xs l 0 (i + 1) k
   joined_passed later nothing = record {
     rising = h.rising;
     from = h.from;
@@ -33,7 +33,7 @@ module _ {N : Type 0} {m : ℕ} {value : N → Ratio} (xs : List (Joined N)) (l 
   }
 
 -- no vertex is listed yet
-pub joined_none : {N : Type 0} (m : ℕ) (value : N → Ratio) (l : Level) (k : ℕ) → AreJoined m value [] l 0 0 k
+pub joined_none : {N : Type 0} (m : ℕ) (value : N → Ratio) (l : Level) (k : ℕ) → AreJoinedVertices m value [] l 0 0 k
 joined_none m value l k = record {
   rising = λ i j d b c. absurd (omega (arith, c));
   from = λ a d b. omega arith;

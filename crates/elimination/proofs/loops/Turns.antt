@@ -1,6 +1,8 @@
 -- Lists that are made turn by turn, and results that are said otherwise.
 use Rattle.std.proofs.Common.{◌≡◌, ℕ, zero, suc, arith, ◌+◌, ◌<◌, List, add-one, ⊎_elim, ◌⊎◌, ◌≢◌, MatchResult, Result, Ok, Err, IfOk, IfErr}
+use Rattle.std.specs.Result.{IsErrAnd}
 use Rattle.std.proofs.lemmas.Bool.{cases_lt}
+use Rattle.std.proofs.lemmas.Result.{err_from_is_err_and}
 use Rattle.exact.specs.Ratio.{Ratio}
 use Rattle.elimination.specs.declared.place.SolveFault.{SolveFault}
 use Rattle.elimination.specs.Listed.{Entry, list_to}
@@ -30,13 +32,17 @@ pub match_of : {A B : Type 0} (P : A → Type 0) (Q : B → Type 0) (r : Result 
 match_of P Q (Ok x) f g = f
 match_of P Q (Err e) f g = g
 
+-- a fault that is handed on
+pub handed_on : {A E : Type 0} (P : A → Type 0) (Q : E → Type 0) (r : Result A E) (e : E) → IsErrAnd r (λ y. y ≡ e) → Q e → MatchResult r P Q
+handed_on P Q r e h q = let told = err_from_is_err_and r h in rw (told.1, told.2) q
+
 -- a dimension is 2 at least
 pub two_at_least : (D : ℕ) → (D ≡ 2) ⊎ (D ≡ 3) → 1 < D
 two_at_least D h = ⊎_elim (λ (e : D ≡ 2). omega (arith, e)) (λ (e : D ≡ 3). omega (arith, e)) h
 
 -- a dimension that is not 2 is 3
-pub three : (D : ℕ) → (D ≡ 2) ⊎ (D ≡ 3) → D ≢ 2 → D ≡ 3
-three D h n = ⊎_elim (λ (e : D ≡ 2). absurd (n e)) (λ (e : D ≡ 3). e) h
+pub dimension_three : (D : ℕ) → (D ≡ 2) ⊎ (D ≡ 3) → D ≢ 2 → D ≡ 3
+dimension_three D h n = ⊎_elim (λ (e : D ≡ 2). absurd (n e)) (λ (e : D ≡ 3). e) h
 
 -- what a result says of its value, put together
 pub ok_of : {A E : Type 0} (C P R : A → Type 0) (Q : E → Type 0) (r : Result A E) → IfOk r C → MatchResult r P Q → ((x : A) → C x → P x → R x) → IfOk r R

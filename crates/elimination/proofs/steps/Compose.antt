@@ -2,7 +2,7 @@
 use Rattle.std.proofs.Common.{◌≡◌, ℕ, suc, List, ◌++◌, refl}
 use Rattle.exact.specs.Ratio.{Ratio}
 use Rattle.elimination.specs.declared.place.SolveFault.{SolveFault}
-use Rattle.elimination.specs.Listed.{Level, Entry, list_to, level_entries, next_level, position, position_entries, listed}
+use Rattle.elimination.specs.Listed.{Level, Entry, list_to, level_entries, next_level, position_up_to, position_entries, listed}
 use Rattle.elimination.specs.Faults.{AreGood, IsFault}
 use Rattle.elimination.proofs.steps.Firsts.{good_append, fault_before, fault_after}
 
@@ -17,7 +17,7 @@ module _ (m : ℕ) (fits : Ratio → Type 0) (D k j : ℕ) (e : k ≡ suc j) (l 
 
   -- the numbers that place k
   abbrev Back : List Entry
-  Back = list_to D (position_entries l k (position j (next_level k l)))
+  Back = list_to D (position_entries l k (position_up_to j (next_level k l)))
 
   parts : listed D k l ≡ Own ++ (Below ++ Back)
   parts = rw e refl

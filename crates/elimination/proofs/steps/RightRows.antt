@@ -8,10 +8,10 @@ use Rattle.exact.specs.Values.{HasValue, CanCancel}
 use Rattle.exact.proofs.CallerLemmas.{same_refl, one_cancels, denominator_cancels}
 use Rattle.vecdim.specs.declared.vectors.Row.{Row}
 use Rattle.elimination.specs.Faults.{AreGood}
-use Rattle.elimination.specs.Listed.{position}
+use Rattle.elimination.specs.Listed.{position_up_to}
 use Rattle.elimination.specs.Lines.{IsRow, AreRowsOfValues, level_with}
 use Rattle.elimination.specs.Rows.{value_in, row_part}
-use Rattle.elimination.specs.RightHand.{SolveWith, FirstWith, OnlyWith, listed_with}
+use Rattle.elimination.specs.RightHand.{SolveWith, FirstWith, OnlyWith, listed_with, right_values}
 use Rattle.elimination.proofs.steps.RowValues.{part_denominator, value_has, value_denominator}
 use Rattle.elimination.proofs.steps.SolvedWith.{solved_with, first_with, only_with}
 
@@ -38,12 +38,12 @@ module _ {N : Type 0} {D : ℕ} (m : ℕ) (value : N → Ratio) (denominator : (
   right_cancels rows u c = option_denominator (slice_get rows (u - 1)) c
 
   module _ (fits : Ratio → Type 0) (G : Graph) (g : IsGraph G) (d : G.dimension ≡ D) (right : List (Row N D)) (good : AreGood m fits (listed_with value G right)) where
-    module _ (rows : List (Row N D)) (count : length rows ≡ G.vertices) (like : AreRowsOfValues m value rows (position (G.vertices - 1) (level_with G (λ i c. value_in value right (i + 1) c))) G.vertices) where
+    module _ (rows : List (Row N D)) (count : length rows ≡ G.vertices) (like : AreRowsOfValues m value rows (position_up_to (G.vertices - 1) (level_with G (right_values value right))) G.vertices) where
       denominator_at : (c u : ℕ) → IsQuotientVertex G u → IsDenominator m (value_in value rows u c).den
       denominator_at c u q = value_denominator m value denominator G g d rows count u c q
 
-      has_at : (c : ℕ) → c < G.dimension → (u : ℕ) → IsQuotientVertex G u → HasValue m (value_in value rows u c) (position (G.vertices - 1) (level_with G (λ i c. value_in value right (i + 1) c)) (u - 1) c)
-      has_at c l u q = value_has m value denominator G g d rows count (position (G.vertices - 1) (level_with G (λ i c. value_in value right (i + 1) c))) like u c q l
+      has_at : (c : ℕ) → c < G.dimension → (u : ℕ) → IsQuotientVertex G u → HasValue m (value_in value rows u c) (position_up_to (G.vertices - 1) (level_with G (right_values value right)) (u - 1) c)
+      has_at c l u q = value_has m value denominator G g d rows count (position_up_to (G.vertices - 1) (level_with G (right_values value right))) like u c q l
 
       -- the rows solve the equations
       pub solve_with_all : SolveWith m value G right rows

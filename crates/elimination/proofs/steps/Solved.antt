@@ -7,7 +7,7 @@ use Rattle.exact.specs.Values.{HasValue}
 use Rattle.exact.proofs.CallerLemmas.{one_cancels, Value, class, whole_value, values, class_same, class_whole}
 use Rattle.elimination.specs.Equations.{IsAtMean, IsSolution, IsOnlySolution}
 use Rattle.elimination.specs.Faults.{AreGood}
-use Rattle.elimination.specs.Listed.{start_level, listed_numbers, position, arc_count}
+use Rattle.elimination.specs.Listed.{start_level, listed_numbers, position_up_to, arc_count}
 use Rattle.elimination.proofs.theory.Elimination.{unique}
 use Rattle.elimination.proofs.theory.Elimination.{IsSolution as SolvesWeights}
 use Rattle.elimination.proofs.theory.Levels.{IsLevel, HaveInverses, AreWeights, AreSums, all_pivots}
@@ -71,11 +71,11 @@ module _ (m : ℕ) (fits : Ratio → Type 0) (G : Graph) (g : IsGraph G) (good :
     solution_origin s =
         class_same m (kept G p 1) (whole (pos 0)) (kept_cancels m G p denominators 1) one_cancels (subst (λ t. Same m t (whole (pos 0))) (sym (kept_is G p 1 (vertex 0 g.vertices))) s.origin)
 
-    module _ (like : (u : ℕ) → IsQuotientVertex G u → HasValue m (p u) (position (G.vertices - 1) (start_level G) (u - 1) c)) where
+    module _ (like : (u : ℕ) → IsQuotientVertex G u → HasValue m (p u) (position_up_to (G.vertices - 1) (start_level G) (u - 1) c)) where
       -- the values are those of the listed positions
-      listed_places : (j : ℕ) → j < suc (G.vertices - 1) → places j ≡ class m (position (G.vertices - 1) (start_level G) j c) (position_cancels m (G.vertices - 1) (start_level G) (start_is_level m G) inverses j c)
+      listed_places : (j : ℕ) → j < suc (G.vertices - 1) → places j ≡ class m (position_up_to (G.vertices - 1) (start_level G) j c) (position_cancels m (G.vertices - 1) (start_level G) (start_is_level m G) inverses j c)
       listed_places j l =
-          let listed = position (G.vertices - 1) (start_level G) in
+          let listed = position_up_to (G.vertices - 1) (start_level G) in
           let v = vertex j (omega (arith, all_vertices)) in
           let back : j + 1 - 1 ≡ j = omega arith in
           let same = subst (λ i. Same m (p (j + 1)) (listed i c)) back (like (j + 1) v).same in
@@ -104,7 +104,7 @@ module _ (m : ℕ) (fits : Ratio → Type 0) (G : Graph) (g : IsGraph G) (good :
 
   -- values of the listed positions solve the mean equations, and put vertex 1 at its mean
   pub solved : (p : ℕ → Ratio) → ((u : ℕ) → IsQuotientVertex G u → IsDenominator m (p u).den)
-      → ((u : ℕ) → IsQuotientVertex G u → HasValue m (p u) (position (G.vertices - 1) (start_level G) (u - 1) c)) → IsSolution m G c p × IsAtMean m G c p 1
+      → ((u : ℕ) → IsQuotientVertex G u → HasValue m (p u) (position_up_to (G.vertices - 1) (start_level G) (u - 1) c)) → IsSolution m G c p × IsAtMean m G c p 1
   solved p denominators like = (record { denominators = denominators; origin = origin_at p denominators like; means = means_at p denominators like }, first_mean p denominators like)
 
   -- there is no other solution

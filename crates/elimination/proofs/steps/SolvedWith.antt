@@ -10,7 +10,7 @@ use Rattle.exact.proofs.CallerLemmas.{one_cancels, Value, class, values, class_s
 use Rattle.elimination.specs.Equations.{ratio_sum}
 use Rattle.elimination.specs.RightHand.{arc_difference, ratio_total, IsBalanced, IsSolutionWith, IsOnlySolutionWith}
 use Rattle.elimination.specs.Faults.{AreGood}
-use Rattle.elimination.specs.Listed.{Level, listed, position, arc_count}
+use Rattle.elimination.specs.Listed.{Level, listed, position_up_to, arc_count}
 use Rattle.elimination.specs.Lines.{level_with}
 use Rattle.elimination.proofs.theory.Elimination.{unique}
 use Rattle.elimination.proofs.theory.Elimination.{IsSolution as SolvesWeights}
@@ -86,13 +86,13 @@ module _ (m : ℕ) (fits : Ratio → Type 0) (G : Graph) (g : IsGraph G) (right 
       solution_origin s =
           class_same m (kept G p 1) (whole (pos 0)) (kept_cancels m G p denominators 1) one_cancels (subst (λ t. Same m t (whole (pos 0))) (sym (kept_is G p 1 (vertex 0 g.vertices))) s.origin)
 
-      module _ (like : (u : ℕ) → IsQuotientVertex G u → HasValue m (p u) (position (G.vertices - 1) level (u - 1) c)) where
-        listed_places : (j : ℕ) → j < suc (G.vertices - 1) → places j ≡ class m (position (G.vertices - 1) level j c) (position_cancels m (G.vertices - 1) level is_level inverses j c)
+      module _ (like : (u : ℕ) → IsQuotientVertex G u → HasValue m (p u) (position_up_to (G.vertices - 1) level (u - 1) c)) where
+        listed_places : (j : ℕ) → j < suc (G.vertices - 1) → places j ≡ class m (position_up_to (G.vertices - 1) level j c) (position_cancels m (G.vertices - 1) level is_level inverses j c)
         listed_places j l =
             let v = vertex j (omega (arith, all_vertices)) in
             let back : j + 1 - 1 ≡ j = omega arith in
-            let same = subst (λ i. Same m (p (j + 1)) (position (G.vertices - 1) level i c)) back (like (j + 1) v).same in
-            class_same m (kept G p (j + 1)) (position (G.vertices - 1) level j c) (kept_cancels m G p denominators (j + 1)) _ (subst (λ t. Same m t (position (G.vertices - 1) level j c)) (sym (kept_is G p (j + 1) v)) same)
+            let same = subst (λ i. Same m (p (j + 1)) (position_up_to (G.vertices - 1) level i c)) back (like (j + 1) v).same in
+            class_same m (kept G p (j + 1)) (position_up_to (G.vertices - 1) level j c) (kept_cancels m G p denominators (j + 1)) _ (subst (λ t. Same m t (position_up_to (G.vertices - 1) level j c)) (sym (kept_is G p (j + 1) v)) same)
 
         places_solve : SolvesWeights (values m) G.vertices (weight m G g) parts places
         places_solve = subst (λ n. SolvesWeights (values m) n (weight m G g) parts places) all_vertices
@@ -116,7 +116,7 @@ module _ (m : ℕ) (fits : Ratio → Type 0) (G : Graph) (g : IsGraph G) (right 
 
     -- values of the listed positions solve the equations
     pub solved_with : (p : ℕ → Ratio) → ((u : ℕ) → IsQuotientVertex G u → IsDenominator m (p u).den)
-        → ((u : ℕ) → IsQuotientVertex G u → HasValue m (p u) (position (G.vertices - 1) level (u - 1) c)) → IsSolutionWith m G (λ u. right u c) p
+        → ((u : ℕ) → IsQuotientVertex G u → HasValue m (p u) (position_up_to (G.vertices - 1) level (u - 1) c)) → IsSolutionWith m G (λ u. right u c) p
     solved_with p denominators like = record {
       denominators = denominators;
       origin = origin_at p denominators like;
@@ -125,7 +125,7 @@ module _ (m : ℕ) (fits : Ratio → Type 0) (G : Graph) (g : IsGraph G) (right 
 
     -- and the equation of vertex 1, where the right-hand parts add up to 0
     pub first_with : (p : ℕ → Ratio) → ((u : ℕ) → IsQuotientVertex G u → IsDenominator m (p u).den)
-        → ((u : ℕ) → IsQuotientVertex G u → HasValue m (p u) (position (G.vertices - 1) level (u - 1) c))
+        → ((u : ℕ) → IsQuotientVertex G u → HasValue m (p u) (position_up_to (G.vertices - 1) level (u - 1) c))
         → Same m (ratio_total G.vertices (λ u. right u c)) (whole (pos 0)) → IsBalanced m G (λ u. right u c) p 1
     first_with p denominators like = balanced_first p denominators like
 

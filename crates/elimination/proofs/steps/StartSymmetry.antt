@@ -1,6 +1,7 @@
 -- As many arcs lead from one vertex to another as back, so the weights of a graph are symmetric.
-use Rattle.std.proofs.Common.{◌≡◌, ℕ, ◌+◌, arith, List, [], ◌∷◌, Bool, true, false, cond, pos, subst, refl, inl, inr, ◌⊎◌, ⊎_elim}
+use Rattle.std.proofs.Common.{◌≡◌, ℕ, ◌+◌, arith, List, [], ◌∷◌, Bool, true, false, cond, pos, subst, refl, ⊎_elim}
 use Rattle.std.specs.Prelude.{◌==◌, filter, count_by}
+use Rattle.std.proofs.lemmas.Bool.{cases_Bool}
 use Rattle.std.proofs.lemmas.List.Sums.{sum_by-cons}
 use Rattle.periodic_net.specs.Graph.{Graph, Arc, both_ways, reverse_of}
 use Rattle.exact.specs.Ratio.{Ratio, Same, whole}
@@ -18,10 +19,6 @@ weight_comm true false = refl
 weight_comm false true = refl
 weight_comm false false = refl
 
-either : (b : Bool) → (b ≡ true) ⊎ (b ≡ false)
-either true = inl refl
-either false = inr refl
-
 -- the arcs from u to v, of a list
 abbrev count : ℕ → ℕ → List Arc → ℕ
 count u v xs = count_by (λ a. a.to == v) (filter (λ a. a.from == u) xs)
@@ -34,7 +31,7 @@ no_more n = omega arith
 count_cons : (u v : ℕ) (a : Arc) (xs : List Arc) → count u v (a ∷ xs) ≡ weight (a.from == u) (a.to == v) + count u v xs
 count_cons u v a xs = ⊎_elim
     (λ (e : (a.from == u) ≡ true). rw e (sum_by-cons (λ (b : Arc). let n : ℕ = cond (b.to == v) 1 0 in n) a (filter (λ b. b.from == u) xs)))
-    (λ (e : (a.from == u) ≡ false). rw e (no_more (count u v xs))) (either (a.from == u))
+    (λ (e : (a.from == u) ≡ false). rw e (no_more (count u v xs))) (cases_Bool (a.from == u))
 
 -- the arcs of edges from u to v are as many as those from v to u
 counts_turned : (es : List Arc) (u v : ℕ) → count u v (both_ways es) ≡ count v u (both_ways es)

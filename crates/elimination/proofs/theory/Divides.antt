@@ -5,19 +5,20 @@ use mathlib.Core.Logic.{∥∥₁_elim}
 use Rattle.integers.proofs.numbers.Ring.{ring, linear, zero_or_not}
 use Rattle.integers.proofs.numbers.Division.{divided}
 use Rattle.integers.proofs.numbers.Gcd.{natural_multiple}
-use Rattle.exact.specs.Ratio.{Ratio, Same, IsWholeMultiple}
+use Rattle.exact.specs.Ratio.{Ratio, Same}
 use Rattle.exact.specs.Values.{CanCancel}
 use Rattle.exact.proofs.CallerLemmas.{same_of, difference_multiple, class, same_from_class}
+use Rattle.integers.specs.Divisors.{DividesInteger}
 
 -- 0 divides 0 alone
-by_zero : (z : ℤ) → IsWholeMultiple 0 z ⊎ (¬ IsWholeMultiple 0 z)
+by_zero : (z : ℤ) → DividesInteger 0 z ⊎ (¬ DividesInteger 0 z)
 by_zero z = ⊎_elim (λ (e : z ≡ pos 0). inl (pos 0, e)) (λ n. inr (λ d. n (d.1 ∙ zeros d.0))) (zero_or_not z)
   where
     zeros : (k : ℤ) → pos 0 *ℤ k ≡ pos 0
     zeros k = simp ring refl
 
 -- a number below m that m divides is 0
-below_divisor : (m r : ℕ) → r < m → IsWholeMultiple m (pos r) → r ≡ 0
+below_divisor : (m r : ℕ) → r < m → DividesInteger m (pos r) → r ≡ 0
 below_divisor m r l d = by (natural_multiple m r d.0 d.1)
   where
     by : (k : ℕ) × (r ≡ m * k) → r ≡ 0
@@ -29,11 +30,11 @@ left_multiple : (m r k d z : ℤ) → z ≡ r +ℤ m *ℤ k → z ≡ m *ℤ d �
 left_multiple m r k d z e f = simp ring (omega (arith, linear))
 
 -- m divides z, or it does not
-pub divides_or_not : (m : ℕ) (z : ℤ) → IsWholeMultiple m z ⊎ (¬ IsWholeMultiple m z)
+pub divides_or_not : (m : ℕ) (z : ℤ) → DividesInteger m z ⊎ (¬ DividesInteger m z)
 divides_or_not zero z = by_zero z
 divides_or_not (suc m) z = by (divided (suc m) (omega arith) z)
   where
-    by : (r : ℕ) × (k : ℤ) × (r < suc m) × (z ≡ pos r +ℤ pos (suc m) *ℤ k) → IsWholeMultiple (suc m) z ⊎ (¬ IsWholeMultiple (suc m) z)
+    by : (r : ℕ) × (k : ℤ) × (r < suc m) × (z ≡ pos r +ℤ pos (suc m) *ℤ k) → DividesInteger (suc m) z ⊎ (¬ DividesInteger (suc m) z)
     by (zero, k, l, e) = inl (k, e ∙ nothing_left (pos (suc m) *ℤ k))
       where
         nothing_left : (x : ℤ) → pos 0 +ℤ x ≡ x

@@ -1,9 +1,37 @@
 use Rattle.std.proofs.Common.{lit<}
+use Rattle.std.proofs.lemmas.Result.{IfOk-weaker, IfErr-weaker}
+use Rattle.fraction.specs.Values.{fraction_value}
+use Rattle.elimination.specs.Rows.{value_in}
+use Rattle.periodic_net.specs.Placement.{IsNormalPlacement}
+use Rattle.quotient_graph.specs.PlacedNets.{placement_of}
+use Rattle.barycentre.specs.PlaceFaults.{IsPlaceFault, IsUnitsFault}
+use Rattle.barycentre.specs.Units.{AreLeastUnits}
 use Rattle.barycentre.proofs.Solved.{are_positions}
+use Rattle.barycentre.proofs.Together.{normal_units}
+use Rattle.barycentre.proofs.Told.{told_of_net}
 use Rattle.barycentre.proofs.placing.by_fractions.Goals as goal
 
-pub in_limits-requires : goal.in_limits-requires
-in_limits-requires g c =
+pub units_in_limits-requires : goal.units_in_limits-requires
+units_in_limits-requires g c =
     let e = c.in-Ok.ensures in
     let positions = are_positions c.args.g.now c.in-Ok.rows.items c.dimension.ensures.parameter e.solved e.flat in
-    rw c.deref.ensures.value (lit< tt, (lit< tt, (e.count, (positions, e.fit))))
+    rw c.deref.ensures.value (lit< tt, (lit< tt, (e.count, record { reduced = positions.reduced; flat = positions.flat })))
+
+pub returns-in-Ok-clause-normal : goal.returns-in-Ok-clause-normal
+returns-in-Ok-clause-normal g c =
+    let G = c.args.g.now in
+    let e = c.in-Ok.ensures in
+    let k = c.dimension.ensures in
+    let rows = c.in-Ok.rows.items in
+    let p = value_in fraction_value rows in
+    IfOk-weaker c.units_in_limits.result (λ u. AreLeastUnits G p u.d0 u.at.items) (λ u. IsNormalPlacement G (placement_of u.d0 u.at.items))
+    (λ u h. normal_units G k.is_graph p (are_positions G rows k.parameter e.solved e.flat) u.d0 u.at.items h) (rw c.deref.ensures.value at c.units_in_limits.ensures.units)
+
+pub returns-in-Ok-clause-fault : goal.returns-in-Ok-clause-fault
+returns-in-Ok-clause-fault g c =
+    let G = c.args.g.now in
+    let e = c.in-Ok.ensures in
+    let rows = c.in-Ok.rows.items in
+    let p = value_in fraction_value rows in
+    IfErr-weaker c.units_in_limits.result (IsUnitsFault G p) (IsPlaceFault G)
+    (told_of_net G p e.fit (are_positions G rows c.dimension.ensures.parameter e.solved e.flat)) (rw c.deref.ensures.value at c.units_in_limits.ensures.fault)

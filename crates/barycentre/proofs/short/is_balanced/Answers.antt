@@ -1,24 +1,25 @@
 use Rattle.std.proofs.Common.{◌≡◌, ◌∙◌, ◌+◌, ◌*◌, ◌^◌, arith, sym, subst, refl}
 use Rattle.std.proofs.lemmas.Int.{to_z-of_z}
 use Rattle.integers.specs.Vectors.{IsWithin}
+use Rattle.integers.proofs.vectors.Bounds.{wider}
 use Rattle.periodic_net.specs.Limits.{most_units}
 use Rattle.periodic_net.specs.Placement.{arc_vector}
 use Rattle.quotient_graph.specs.PlacedNets.{placement_of}
-use Rattle.elimination.proofs.CallerLemmas.{few_arcs}
+use Rattle.elimination.proofs.CallerLemmas.{few_arcs, near_step}
 use Rattle.barycentre.specs.Limits.{AreWithinTo}
-use Rattle.barycentre.proofs.StarSums.{sum_step, sum_whole, near_step, near_wider}
+use Rattle.barycentre.proofs.StarSums.{sum_step, sum_whole}
 use Rattle.barycentre.proofs.Stars.{within_more, within_all}
 use Rattle.barycentre.proofs.short.is_balanced.Goals as goal
 
-pub short_of-step-requires : goal.short_of-step-requires
-short_of-step-requires g c =
-    near_wider (2 ^ 61 + 2 ^ 40 * 500 + 2 ^ 61) (2 ^ 62 + 2 ^ 50) (omega arith) c.vector_of.result (c.vector_of.ensures.within (2 ^ 61) c.requires.short)
+pub of_triple-step-requires : goal.of_triple-step-requires
+of_triple-step-requires g c =
+    wider (2 ^ 60 + 2 ^ 40 * 500 + 2 ^ 60) (2 ^ 62) (omega arith) c.vector_of.result (c.vector_of.ensures.within (2 ^ 60) c.requires.short)
 
-pub sum_of-sum-requires-clause-a : goal.sum_of-sum-requires-clause-a
-sum_of-sum-requires-clause-a g c =
+pub plus-sum-requires-clause-left : goal.plus-sum-requires-clause-left
+plus-sum-requires-clause-left g c =
     let few = few_arcs c.args.g.now c.args.u c.arcs-arc-items.result.now c.dimension.ensures.small c.arcs-arc-items.ensures.star in
     let below = c.loop-arc-test.true in
-    near_wider (most_units * c.loop-arc.arc-index) (2 ^ 61) (omega (arith, few, below)) c.loop-arc.sum c.loop-arc.invariant.near
+    wider (most_units * c.loop-arc.arc-index) (2 ^ 61) (omega (arith, few, below)) c.loop-arc.sum c.loop-arc.invariant.near
 
 pub loop-arc-preserved : goal.loop-arc-preserved
 loop-arc-preserved g c =
@@ -27,13 +28,13 @@ loop-arc-preserved g c =
     let star = c.arcs-arc-items.result.now in
     let a = c.arc-item.result in
     let i = c.loop-arc.arc-index in
-    let v = c.short_of-step.result in
-    let vector : v ≡ arc_vector P a = c.short_of-step.ensures ∙ (simp to_z-of_z at c.vector_of.ensures.value) in
-    let here : IsWithin most_units v = c.if-not-is_within.ensures refl in
+    let v = c.of_triple-step.result in
+    let vector : v ≡ arc_vector P a = c.of_triple-step.ensures ∙ (simp to_z-of_z at c.vector_of.ensures.value) in
+    let here : IsWithin most_units v = c.if-not-is_within.ensures.0 refl in
     let within : AreWithinTo P star i = simp to_z-of_z at c.loop-arc.invariant.within in
     simp to_z-of_z (record {
-      added = sum_step P star i a c.loop-arc.sum v c.sum_of-sum.result c.loop-arc-test.true c.arc-item.is (simp to_z-of_z at c.loop-arc.invariant.added) vector c.sum_of-sum.ensures;
-      near = near_step most_units i c.loop-arc.sum v c.sum_of-sum.result c.loop-arc.invariant.near here c.sum_of-sum.ensures;
+      added = sum_step P star i a c.loop-arc.sum v c.plus-sum.result c.loop-arc-test.true c.arc-item.is (simp to_z-of_z at c.loop-arc.invariant.added) vector c.plus-sum.ensures;
+      near = near_step most_units i c.loop-arc.sum v c.plus-sum.result c.loop-arc.invariant.near here c.plus-sum.ensures;
       within = within_more P star i a c.arc-item.is c.loop-arc-test.true within (subst (IsWithin most_units) vector here);
     })
 
@@ -51,4 +52,4 @@ returns-clause-balanced g c t =
     let P = placement_of c.args.d0 c.args.at.now in
     let star = c.arcs-arc-items in
     let whole = sum_whole P c.args.g.now c.args.u star.result.now star.ensures.star c.loop-arc.arc-index c.loop-arc.sum c.loop-arc-test.false (simp to_z-of_z at c.loop-arc.invariant.added) in
-    sym whole ∙ c.is_zero.ensures t
+    sym whole ∙ sym c.to_triple.ensures ∙ c.is_zero.ensures.0 t

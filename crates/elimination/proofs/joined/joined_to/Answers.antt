@@ -1,7 +1,7 @@
 use Rattle.std.proofs.Common.{rules, ◌≡◌, ◌+◌, ◌-◌, ◌<◌, ◌∙◌, get_or, arith, ap, subst}
 use Rattle.std.specs.Global.{Vec}
 use Rattle.std.specs.List.{All}
-use Rattle.elimination.specs.Lines.{AreJoined}
+use Rattle.elimination.specs.Lines.{AreJoinedVertices}
 use Rattle.elimination.proofs.steps.Rows.{value_at}
 use Rattle.elimination.proofs.steps.Symmetry.{has_trans}
 use Rattle.elimination.proofs.loops.Listing.{joined_none}
@@ -43,4 +43,4 @@ returns-clause-values g c = λ v w s.
     let n = g.N.Exact in
     let k = c.args.k in
     let done : c.loop-i.i ≡ k = omega (arith, c.loop-i.auto.i-end, c.loop-i-test.false) in
-    subst (λ i. AreJoined n.modulus n.value c.loop-i.joined.items v 0 i k) done (c.loop-i.invariant.done v w s)
+    subst (λ i. AreJoinedVertices n.modulus n.value c.loop-i.joined.items v 0 i k) done (c.loop-i.invariant.done v w s)
