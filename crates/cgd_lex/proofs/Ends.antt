@@ -4,12 +4,12 @@ use Rattle.std.specs.Prelude.{position, is_some, unwrap_or}
 use Rattle.std.proofs.lemmas.List.{length-append, length-take}
 use Rattle.std.specs.List.{prefix_len, onto_first}
 use Rattle.std.proofs.lemmas.List.Sums.{prefix_len_stops, prefix_len_passes}
-use Rattle.std.proofs.lemmas.Bool.{cases_lt}
+use Rattle.std.proofs.lemmas.Bool.{cases_Bool, cases_lt}
 use Rattle.std.proofs.lemmas.Grind.{common_steps}
 use Rattle.cgd_lex.specs.Pieces.{other_bytes, quoted_piece, is_run_byte, ends_run, run_bytes}
 use Rattle.cgd_lex.specs.Tokens.{first_line, first_of, lines_of, is_whole, kind_of_run, is_closed, quoted_size}
 use Rattle.cgd_lex.specs.declared.token.TokenKind.TheVariants.{Word, Whole}
-use Rattle.cgd_lex.proofs.Steps.{up_to_on, either_way, first_line_on}
+use Rattle.cgd_lex.proofs.Steps.{up_to_on, first_line_on}
 
 -- what the test of equality says
 pub same : (a b : ℕ) → (a == b) ≡ true → a ≡ b
@@ -43,7 +43,7 @@ end_or_length p bs (Some k) some = sym (end_at p bs k some)
 -- a test that a line feed fails ends at the latest there
 pub ends_in_line : (p : ℕ → Bool) (bs : List ℕ) → p 10 ≡ false → prefix_len p (first_line bs) ≡ prefix_len p bs
 ends_in_line p [] stops = refl
-ends_in_line p (b ∷ bs) stops = elim (either_way (b == 10)) [
+ends_in_line p (b ∷ bs) stops = elim (cases_Bool (b == 10)) [
   | inl yes_ ↦ let e : b ≡ 10 = same b 10 yes_ in rw e (rw stops refl)
   | inr no_ ↦ rw (first_line_on b bs no_) (ap (λ n. cond (p b) (1 + n) 0) (ends_in_line p bs stops))
 ]
@@ -51,7 +51,7 @@ ends_in_line p (b ∷ bs) stops = elim (either_way (b == 10)) [
 -- the first line lasts up to the first line feed
 pub line_to : (bs : List ℕ) → length (first_line bs) ≡ prefix_len (λ x. not (x == 10)) bs
 line_to [] = refl
-line_to (b ∷ bs) = elim (either_way (b == 10)) [
+line_to (b ∷ bs) = elim (cases_Bool (b == 10)) [
   | inl yes_ ↦ let e : b ≡ 10 = same b 10 yes_ in rw e refl
   | inr no_ ↦ rw (first_line_on b bs no_) (rw no_ (let h : length (first_line bs) ≡ prefix_len (λ x. not (x == 10)) bs = line_to bs in omega (arith, h)))
 ]
@@ -59,7 +59,7 @@ line_to (b ∷ bs) = elim (either_way (b == 10)) [
 -- a stricter test ends no later
 pub earlier : (p q : ℕ → Bool) (bs : List ℕ) → ((b : ℕ) → p b ≡ true → q b ≡ true) → prefix_len p bs ≤ prefix_len q bs
 earlier p q [] more = omega arith
-earlier p q (b ∷ bs) more = elim (either_way (p b)) [
+earlier p q (b ∷ bs) more = elim (cases_Bool (p b)) [
   | inl yes_ ↦ rw yes_ (rw (more b yes_) (omega (arith, earlier p q bs more)))
   | inr no_ ↦ rw no_ (omega arith)
 ]
@@ -72,7 +72,7 @@ step_to false u m n e f = rw e (omega (arith, f))
 -- the first quote of the line, or its end, is the first quote or line feed
 pub quote_line : (bs : List ℕ) → prefix_len (λ x. not (x == 34)) (first_line bs) ≡ prefix_len (λ x. not (x == 34 || x == 10)) bs
 quote_line [] = refl
-quote_line (b ∷ bs) = elim (either_way (b == 10)) [
+quote_line (b ∷ bs) = elim (cases_Bool (b == 10)) [
   | inl yes_ ↦ let e : b ≡ 10 = same b 10 yes_ in rw e refl
   | inr no_ ↦ rw (first_line_on b bs no_) (step_to (b == 34) (b == 10) _ _ no_ (quote_line bs))
 ]
@@ -164,7 +164,7 @@ quote_none bs none =
 pub take_line : (n : ℕ) (bs : List ℕ) → n ≤ length (first_line bs) → take n (first_line bs) ≡ take n bs
 take_line zero bs fits = refl
 take_line (suc n) [] fits = refl
-take_line (suc n) (b ∷ bs) fits = elim (either_way (b == 10)) [
+take_line (suc n) (b ∷ bs) fits = elim (cases_Bool (b == 10)) [
   | inl yes_ ↦ absurd (omega (arith, fits, ap (λ t. length (first_of (cond t ([] ∷ lines_of bs) (onto_first b (lines_of bs))))) yes_))
   | inr no_ ↦ rw (first_line_on b bs no_) (ap (λ t. b ∷ t) (take_line n bs (omega (arith, fits, ap length (first_line_on b bs no_)))))
 ]

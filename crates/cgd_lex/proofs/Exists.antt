@@ -1,5 +1,6 @@
 -- The cut that is found is one.
 use Rattle.std.proofs.Common.{◌≡◌, ◌≢◌, ℕ, zero, suc, ◌+◌, ◌≤◌, Bool, true, List, [], ◌∷◌, ◌++◌, length, take, drop, Option, None, Some, ◌==◌, arith, refl, sym, ap, ◌∙◌, not, subst, inl, inr}
+use Rattle.std.proofs.lemmas.Bool.{cases_Bool}
 use Rattle.std.specs.Prelude.{position, All}
 use Rattle.std.specs.List.{prefix_len}
 use Rattle.std.proofs.lemmas.List.{length-drop, take-append-drop, take_all}
@@ -9,14 +10,14 @@ use Rattle.std.proofs.Math.Seq.{drop-length}
 use Rattle.std.proofs.lemmas.List.Elements.{All-cons, All-nil}
 use Rattle.std.proofs.lemmas.Grind.{common_steps}
 use Rattle.cgd_lex.specs.Pieces.{Run, other_bytes, bytes_of, first_piece, quoted_piece, cut_of, run_bytes, is_run_byte, ends_run, MayStand, IsCut, StartsNoRun}
-use Rattle.cgd_lex.proofs.Steps.{up_to_on, either_way, piece_is, passed}
+use Rattle.cgd_lex.proofs.Steps.{up_to_on, piece_is, passed}
 use Rattle.cgd_lex.proofs.Ends.{end_at, no_end}
 use Rattle.cgd_lex.proofs.Fits.{piece_fits}
 
 -- the bytes before the first that fails a test all pass it
 before : (p : ℕ → Bool) (l : List ℕ) → All (λ b. p b ≡ true) (take (prefix_len p l) l)
 before p [] = All-nil (λ b. p b ≡ true)
-before p (b ∷ l) = elim (either_way (p b)) [
+before p (b ∷ l) = elim (cases_Bool (p b)) [
   | inl yes_ ↦ rw yes_ (let e : 1 + prefix_len p l ≡ suc (prefix_len p l) = omega arith in rw e (All-cons (λ b. p b ≡ true) b (take (prefix_len p l) l) yes_ (before p l)))
   | inr no_ ↦ rw no_ (All-nil (λ b. p b ≡ true))
 ]
@@ -24,7 +25,7 @@ before p (b ∷ l) = elim (either_way (p b)) [
 -- no run goes on where the run bytes end
 starts : (l : List ℕ) → StartsNoRun (drop (prefix_len is_run_byte l) l)
 starts [] = tt
-starts (b ∷ l) = elim (either_way (is_run_byte b)) [
+starts (b ∷ l) = elim (cases_Bool (is_run_byte b)) [
   | inl yes_ ↦ rw yes_ (let e : 1 + prefix_len is_run_byte l ≡ suc (prefix_len is_run_byte l) = omega arith in rw e (starts l))
   | inr no_ ↦ rw no_ no_
 ]

@@ -1,5 +1,6 @@
 -- Where the tokens of a text stand, and what their texts are.
 use Rattle.std.proofs.Common.{◌≡◌, ℕ, zero, suc, ◌+◌, ◌≤◌, false, List, [], ◌∷◌, ◌++◌, length, take, drop, cond, ◌==◌, arith, refl, sym, ap, ◌∙◌, inl, inr, subst, Option, None, Some}
+use Rattle.std.proofs.lemmas.Bool.{cases_Bool}
 use Rattle.std.specs.Prelude.{All, count_by}
 use Rattle.std.proofs.Math.Seq.{drop-append_seam, take-append_seam}
 use Rattle.std.proofs.lemmas.List.{append_assoc, length-append, length-drop, take-append-drop}
@@ -11,7 +12,7 @@ use Rattle.cgd_lex.specs.Forms.{HasItsForm}
 use Rattle.cgd_lex.specs.Places.{IsSliceOf, IsOnLine, AreInOrder, line_number}
 use Rattle.cgd_lex.specs.declared.token.TokenKind.{TokenKind}
 use Rattle.cgd_lex.specs.declared.token.TokenKind.TheVariants.{Newline}
-use Rattle.cgd_lex.proofs.Steps.{at_newline, one_piece, either_way, first_line_on}
+use Rattle.cgd_lex.proofs.Steps.{at_newline, one_piece, first_line_on}
 use Rattle.cgd_lex.proofs.Ends.{same, take_line}
 use Rattle.cgd_lex.proofs.Fits.{piece_fits}
 use Rattle.cgd_lex.proofs.Forms.{IsOfItsKind, first_form}
@@ -39,7 +40,7 @@ feeds-append bs cs = sum_by-append (λ b. cond (b == line_feed) 1 0) bs cs
 feeds_in_line : (k : ℕ) (bs : List ℕ) → feeds (take k (first_line bs)) ≡ 0
 feeds_in_line zero bs = refl
 feeds_in_line (suc k) [] = refl
-feeds_in_line (suc k) (b ∷ bs) = elim (either_way (b == line_feed)) [
+feeds_in_line (suc k) (b ∷ bs) = elim (cases_Bool (b == line_feed)) [
   | inl yes_ ↦ let e : b ≡ line_feed = same b line_feed yes_ in rw e refl
   | inr no_ ↦ rw (first_line_on b bs no_) (feeds-cons b (take k (first_line bs)) ∙ ap (λ t. cond t 1 0 + feeds (take k (first_line bs))) no_ ∙ omega (arith, feeds_in_line k bs))
 ]
@@ -102,7 +103,7 @@ pub placed : (n : ℕ) (before text : List ℕ) (from at line : ℕ)
     → ArePlaced (before ++ text) from (tokens_from at line text)
 placed n before [] from at line fits place number less = none_left (before ++ []) from
 placed zero before (b ∷ bs) from at line fits place number less = absurd (omega (arith, fits))
-placed (suc n) before (b ∷ bs) from at line fits place number less = elim (either_way (b == line_feed)) [
+placed (suc n) before (b ∷ bs) from at line fits place number less = elim (cases_Bool (b == line_feed)) [
   | inl yes_ ↦
       let e : b ≡ line_feed = same b line_feed yes_ in
       let feed : List ℕ = line_feed ∷ [] in

@@ -1,5 +1,6 @@
 -- One piece after another.
-use Rattle.std.proofs.Common.{◌≡◌, ℕ, ◌+◌, ◌≤◌, Bool, true, false, List, [], ◌∷◌, ◌++◌, length, take, drop, cond, ◌==◌, arith, refl, sym, ap, ◌∙◌, not, ◌||◌, ◌⊎◌, inl, inr}
+use Rattle.std.proofs.Common.{◌≡◌, ℕ, ◌+◌, ◌≤◌, Bool, true, false, List, [], ◌∷◌, ◌++◌, length, take, drop, cond, ◌==◌, arith, refl, sym, ap, ◌∙◌, not, ◌||◌, inl, inr}
+use Rattle.std.proofs.lemmas.Bool.{cases_Bool}
 use Rattle.std.specs.Prelude.{position}
 use Rattle.std.specs.List.{onto_first, prefix_len}
 use Rattle.std.proofs.lemmas.Grind.{common_steps}
@@ -71,16 +72,11 @@ piece_is M b bs p q r s t = by_tests M (is_blank b) (b == 35) (b == 34) (is_cont
 pub up_to_on : (p : ℕ → Bool) (bs : List ℕ) → up_to (position p bs) bs ≡ take (prefix_len (λ x. not (p x)) bs) bs
 up_to_on p bs = grind (arith, common_steps)
 
--- a test tells one of two
-pub either_way : (t : Bool) → (t ≡ true) ⊎ (t ≡ false)
-either_way true = inl refl
-either_way false = inr refl
-
 -- bytes of the first line dropped from the text are dropped from that line alone
 pub lines_dropped : (taken bs : List ℕ) → length taken ≤ length (first_line bs) → lines_of (drop (length taken) bs) ≡ drop (length taken) (first_line bs) ∷ others_of (lines_of bs)
 lines_dropped [] bs fits = split_some bs
 lines_dropped (t ∷ taken) [] fits = absurd (omega (arith, fits))
-lines_dropped (t ∷ taken) (b ∷ bs) fits = elim (either_way (b == 10)) [
+lines_dropped (t ∷ taken) (b ∷ bs) fits = elim (cases_Bool (b == 10)) [
   | inl yes_ ↦ absurd (omega (arith, fits, ap (λ t. length (first_of (cond t ([] ∷ lines_of bs) (onto_first b (lines_of bs))))) yes_))
   | inr no_ ↦ rw (first_line_on b bs no_) (rw (others_on b bs no_) (lines_dropped taken bs (omega (arith, fits, ap length (first_line_on b bs no_)))))
 ]

@@ -1,5 +1,6 @@
 -- A line has exactly one cut.
 use Rattle.std.proofs.Common.{◌≡◌, ◌≢◌, ℕ, Bool, true, false, List, [], ◌∷◌, ◌++◌, length, take, cond, ◌==◌, arith, refl, sym, ap, ◌∙◌, not, ◌||◌, ◌&&◌, nat_lt, inl, inr}
+use Rattle.std.proofs.lemmas.Bool.{cases_Bool}
 use Rattle.std.specs.Prelude.{position, All}
 use Rattle.std.specs.List.{prefix_len}
 use Rattle.std.proofs.lemmas.List.{append_assoc, append-nil, length-append}
@@ -7,7 +8,7 @@ use Rattle.std.proofs.Math.Seq.{take-append_seam}
 use Rattle.std.proofs.lemmas.List.Elements.{All-head, All-cons, All-tail, All-nil}
 use Rattle.std.proofs.lemmas.Grind.{common_steps}
 use Rattle.cgd_lex.specs.Pieces.{Piece, Blank, Comment, Closed, Unclosed, Control, Run, first_byte, other_bytes, first_piece, quoted_piece, pieces_after, cut_of, run_bytes, is_run_byte, ends_run, is_blank, is_control, MayStand, IsCut, StartsNoRun}
-use Rattle.cgd_lex.proofs.Steps.{up_to_on, either_way}
+use Rattle.cgd_lex.proofs.Steps.{up_to_on}
 use Rattle.cgd_lex.proofs.Ends.{found_at, found_none, same}
 
 -- the bytes of a piece are passed over
@@ -64,7 +65,7 @@ only_last false y z w a b c d e h f g = rw f (rw g (rw h refl))
 
 -- a control byte is none that is not
 no_control : (b n : ℕ) → is_control n ≡ false → is_control b ≡ true → (b == n) ≡ false
-no_control b n none h = elim (either_way (b == n)) [
+no_control b n none h = elim (cases_Bool (b == n)) [
   | inl yes_ ↦ absurd (differ (sym h ∙ ap is_control (same b n yes_) ∙ none))
   | inr no_ ↦ no_
 ]

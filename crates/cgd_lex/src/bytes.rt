@@ -1,5 +1,5 @@
 // Tests of bytes, and searches that end at the end of a line.
-ghost use Rattle.std.specs.Prelude.{ℕ, ◌≡◌, ◌+◌, ◌∷◌, ◌≤◌, ◌==◌, ◌||◌, length, position};
+ghost use Rattle.std.specs.Prelude.{◌≡◌, ◌+◌, ◌∷◌, ◌≤◌, ◌==◌, ◌||◌, length, position};
 ghost use Rattle.std.specs.List.{prefix_len, list_all};
 ghost use Rattle.std.specs.Char.{is_ascii_digit};
 ghost use Rattle.cgd_lex.specs.Pieces.{is_blank, is_control, is_run_byte, ends_run, line_feed, quote};

@@ -1,5 +1,5 @@
 // The first part of a text: a token, a blank or a comment.
-ghost use Rattle.std.specs.Prelude.{ℕ, ◌≡◌, ◌≢◌, ◌+◌, ◌∷◌, ◌≤◌, [], length, MatchOption, IfSome};
+ghost use Rattle.std.specs.Prelude.{◌≡◌, ◌≢◌, ◌+◌, ◌∷◌, ◌≤◌, [], length, MatchOption, IfSome};
 ghost use Rattle.cgd_lex.specs.Pieces.{first_piece, run_bytes, other_bytes, line_feed};
 ghost use Rattle.cgd_lex.specs.Tokens.{kind_of_piece, kind_of_run, first_line};
 ghost use Rattle.cgd_lex.specs.Views.{IsPartOf};

@@ -1,15 +1,12 @@
 -- A graph block is exactly what its first faulty line, its end or the end of the text decides.
 use Rattle.std.proofs.Common.{◌≡◌, ◌⊎◌, inl, inr, ℕ, Bool, true, false, cond, List, [], ◌∷◌, None, Some, refl, sym, ap, subst, ◌∙◌}
+use Rattle.std.proofs.lemmas.Bool.{cases_Bool}
 use Rattle.cgd_read.specs.Lines.{LineView}
 use Rattle.cgd_read.specs.Faults.{is_end, rows_in, first_true, table}
 use Rattle.cgd_read.specs.Views.{BlockView, Net}
 use Rattle.cgd_read.specs.Graphs.{net_of}
 use Rattle.cgd_read.specs.Blocks.{with_body, malformed, or_fault, graph_block, AllFalse, IsFirstTrue, in_order, AllPass, IsDecided, IsGraphBlock}
 use Rattle.cgd_read.specs.declared.block.BlockFaultKind.{BlockFaultKind}
-
-either_way : (t : Bool) → (t ≡ true) ⊎ (t ≡ false)
-either_way true = inl refl
-either_way false = inr refl
 
 pub none_true : (tests : List (BlockFaultKind × Bool)) → AllFalse tests → first_true tests ≡ None
 none_true [] h = refl
@@ -27,7 +24,7 @@ record Found (tests : List (BlockFaultKind × Bool)) : Type 0 where
 -- either no sentence is true, or there is a first one
 search_table : (tests : List (BlockFaultKind × Bool)) → AllFalse tests ⊎ Found tests
 search_table [] = inl tt
-search_table (test ∷ tests) = elim (either_way test.1) [
+search_table (test ∷ tests) = elim (cases_Bool test.1) [
   | inl yes_ ↦ inr (record { kind = test.0; first = inl (yes_, refl) })
   | inr no_ ↦ elim (search_table tests) [
     | inl h ↦ inl (no_, h)
@@ -83,7 +80,7 @@ some_block opening lines earlier (line ∷ later) whole passed = elim (search_ta
     passed = passed;
     decided = inl (record { kind = found.kind; first = found.first; told = faulty opening earlier line later found.kind found.first });
   }
-  | inl none ↦ elim (either_way (is_end line.kind)) [
+  | inl none ↦ elim (cases_Bool (is_end line.kind)) [
     | inl yes_ ↦ record {
       earlier = earlier;
       later = line ∷ later;

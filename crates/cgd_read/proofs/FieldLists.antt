@@ -2,6 +2,7 @@
 use Rattle.std.proofs.Common.{◌≡◌, ℕ, ℤ, ◌+◌, ◌≤◌, ◌<◌, ◌==◌, nat_lt, Bool, true, false, cond, ◌||◌, ◌&&◌, List, [], ◌∷◌, length, drop, fold, Option, None, is_none, pos, refl, sym, ap, subst, ◌∙◌, arith}
 use Rattle.std.specs.List.{list_any}
 use Rattle.std.proofs.lemmas.Bool.Decides.{nat_tests}
+use Rattle.std.proofs.Math.Bool.{or_assoc, or-false}
 use Rattle.cgd_lex.specs.Tokens.{TokenView}
 use Rattle.cgd_read.specs.Values.{part_of}
 use Rattle.cgd_read.specs.Lines.{FieldsView, fields_of, is_strange, is_quoted, name_in, name_of_fields, part_or_zero, text_of_first, part_of_first, LineView, line_with, fields_from, kind_of}
@@ -15,14 +16,6 @@ unequal n k l = grind (arith, nat_tests, l)
 
 late : (n : ℕ) → 2 ≤ n → nat_lt 1 n ≡ true
 late n l = grind (arith, nat_tests, l)
-
-or_assoc : (a b c : Bool) → ((a || b) || c) ≡ (a || (b || c))
-or_assoc true b c = refl
-or_assoc false b c = refl
-
-or_false : (a : Bool) → (a || false) ≡ a
-or_false true = refl
-or_false false = refl
 
 sizes : (f : FieldsView) (ts : List TokenView) → (with_all f ts).size ≡ f.size + length ts
 sizes f [] = omega arith
@@ -38,18 +31,18 @@ names (a ∷ []) = refl
 names (a ∷ b ∷ ts) = no_name (with_field (with_field no_fields a) b) ts (omega arith) refl
 
 any_strange : (f : FieldsView) (ts : List TokenView) → (with_all f ts).has_strange ≡ (f.has_strange || list_any (λ (t : TokenView). is_strange t.kind) ts)
-any_strange f [] = sym (or_false f.has_strange)
+any_strange f [] = sym (or-false f.has_strange)
 any_strange f (t ∷ ts) = any_strange (with_field f t) ts ∙ or_assoc f.has_strange (is_strange t.kind) _
 
 quotes_after : (f : FieldsView) (ts : List TokenView) → 2 ≤ f.size → (with_all f ts).has_late_quote ≡ (f.has_late_quote || list_any (λ (t : TokenView). is_quoted t.kind) ts)
-quotes_after f [] l = sym (or_false f.has_late_quote)
+quotes_after f [] l = sym (or-false f.has_late_quote)
 quotes_after f (t ∷ ts) l =
     quotes_after (with_field f t) ts (omega (arith, l))
     ∙ ap (λ b. (f.has_late_quote || (b && is_quoted t.kind)) || list_any (λ (t : TokenView). is_quoted t.kind) ts) (late f.size l)
     ∙ or_assoc f.has_late_quote (is_quoted t.kind) _
 
 parts_after : (f : FieldsView) (ts : List TokenView) → 2 ≤ f.size → (with_all f ts).has_far_part ≡ (f.has_far_part || list_any (λ (t : TokenView). is_none (part_of t.text)) ts)
-parts_after f [] l = sym (or_false f.has_far_part)
+parts_after f [] l = sym (or-false f.has_far_part)
 parts_after f (t ∷ ts) l =
     parts_after (with_field f t) ts (omega (arith, l))
     ∙ ap (λ b. (f.has_far_part || (b && is_none (part_of t.text))) || list_any (λ (t : TokenView). is_none (part_of t.text)) ts) (late f.size l)

@@ -1,5 +1,6 @@
 -- The lines of tokens, from the left.
-use Rattle.std.proofs.Common.{◌≡◌, ◌⊎◌, inl, inr, Bool, true, false, cond, List, [], ◌∷◌, refl, sym, ap, ◌∙◌}
+use Rattle.std.proofs.Common.{◌≡◌, inl, inr, Bool, true, false, cond, List, [], ◌∷◌, refl, sym, ap, ◌∙◌}
+use Rattle.std.proofs.lemmas.Bool.{cases_Bool}
 use Rattle.std.specs.List.{slice_split, flat_map, onto_first}
 use Rattle.std.proofs.lemmas.List.Splits.{slice_split-cons_yes, slice_split-cons_no}
 use Rattle.cgd_lex.specs.Tokens.{TokenView}
@@ -9,10 +10,6 @@ use Rattle.cgd_read.specs.Reading.{rest_of_line, after_line}
 abbrev ends : TokenView → Bool
 ends t = is_newline t.kind
 
-either_way : (t : Bool) → (t ≡ true) ⊎ (t ≡ false)
-either_way true = inl refl
-either_way false = inr refl
-
 -- the tokens up to the next Newline, and the lines after it
 record Cut (ts : List TokenView) : Type 0 where
   others : List (List TokenView)
@@ -21,7 +18,7 @@ record Cut (ts : List TokenView) : Type 0 where
 
 cut : (ts : List TokenView) → Cut ts
 cut [] = record { others = []; split = refl; later = refl }
-cut (t ∷ ts) = elim (either_way (ends t)) [
+cut (t ∷ ts) = elim (cases_Bool (ends t)) [
   | inl yes_ ↦ record {
     others = slice_split ends ts;
     split = slice_split-cons_yes ends t ts yes_ ∙ ap (λ b. cond b [] (t ∷ rest_of_line ts) ∷ slice_split ends ts) (sym yes_);

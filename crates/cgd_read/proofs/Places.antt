@@ -1,18 +1,12 @@
 -- Places in a list of different names.
-use Rattle.std.proofs.Common.{◌≡◌, ◌⊎◌, inl, inr, ℕ, suc, ◌+◌, ◌≤◌, ◌<◌, Bool, true, false, cond, ◌||◌, not, List, [], ◌∷◌, ◌++◌, length, refl, sym, ◌∙◌, arith}
+use Rattle.std.proofs.Common.{◌≡◌, ℕ, suc, ◌+◌, ◌≤◌, ◌<◌, Bool, true, false, cond, ◌||◌, not, List, [], ◌∷◌, ◌++◌, length, refl, sym, ◌∙◌, arith}
+use Rattle.std.proofs.lemmas.Bool.{false≢true}
 use Rattle.std.specs.List.{list_any, position_or_len, All}
 use Rattle.std.specs.Str.{bytes_eq}
 use Rattle.std.proofs.lemmas.Slice.Eq.{bytes_eq-Decides}
 use Rattle.std.proofs.lemmas.List.{length-append}
 use Rattle.std.proofs.lemmas.List.Elements.{All-nil, All-cons}
 use Rattle.cgd_read.specs.Edges.{with_new, vertex_number}
-
-pub either_way : (t : Bool) → (t ≡ true) ⊎ (t ≡ false)
-either_way true = inl refl
-either_way false = inr refl
-
-false_true : false ≡ true → ⊥
-false_true e = cc
 
 -- a place is at most the length
 pub place_within : {X : Type 0} (p : X → Bool) (xs : List X) → position_or_len p xs ≤ length xs
@@ -24,7 +18,7 @@ place_within p (x ∷ xs) = by (p x) (place_within p xs)
     by false h = omega (arith, h)
 
 pub place_found : {X : Type 0} (p : X → Bool) (xs : List X) → list_any p xs ≡ true → position_or_len p xs < length xs
-place_found p [] e = absurd (false_true e)
+place_found p [] e = absurd (false≢true e)
 place_found p (x ∷ xs) e = by (p x) (place_found p xs) e
   where
     by : (t : Bool) → (list_any p xs ≡ true → position_or_len p xs < length xs) → (t || list_any p xs) ≡ true → cond (not t) (1 + position_or_len p xs) 0 < suc (length xs)
@@ -36,7 +30,7 @@ place_none p [] e = refl
 place_none p (x ∷ xs) e = by (p x) (place_none p xs) e
   where
     by : (t : Bool) → (list_any p xs ≡ false → position_or_len p xs ≡ length xs) → (t || list_any p xs) ≡ false → cond (not t) (1 + position_or_len p xs) 0 ≡ suc (length xs)
-    by true h e = absurd (false_true (sym e))
+    by true h e = absurd (false≢true (sym e))
     by false h e = omega (arith, h e)
 
 -- a test that fails at each element
@@ -45,7 +39,7 @@ all_fail p [] e = All-nil (λ x. p x ≡ false)
 all_fail p (x ∷ xs) e = by (p x) refl (all_fail p xs) e
   where
     by : (t : Bool) → p x ≡ t → (list_any p xs ≡ false → All (λ x. p x ≡ false) xs) → (t || list_any p xs) ≡ false → All (λ x. p x ≡ false) (x ∷ xs)
-    by true f h e = absurd (false_true (sym e))
+    by true f h e = absurd (false≢true (sym e))
     by false f h e = All-cons (λ x. p x ≡ false) x xs f (h e)
 
 -- the list does not shrink, and has the new one
@@ -65,7 +59,7 @@ numbered names name = by (list_any (bytes_eq name) names) refl
 
 -- names at one place of a list are the same
 same_place : (xs : List (List ℕ)) (u v : List ℕ) → list_any (bytes_eq u) xs ≡ true → position_or_len (bytes_eq u) xs ≡ position_or_len (bytes_eq v) xs → u ≡ v
-same_place [] u v h e = absurd (false_true h)
+same_place [] u v h e = absurd (false≢true h)
 same_place (x ∷ xs) u v h e = by (bytes_eq u x) (bytes_eq v x) refl refl (same_place xs u v) h e
   where
     by : (s t : Bool) → bytes_eq u x ≡ s → bytes_eq v x ≡ t

@@ -3,7 +3,7 @@ use Rattle.std.proofs.Common.{◌≡◌, ◌≢◌, ◌⊎◌, ℕ, ◌≤◌, p
 use Rattle.std.specs.List.{All, AllPairs}
 use Rattle.std.specs.Str.{bytes_eq}
 use Rattle.std.proofs.lemmas.Slice.Eq.{bytes_eq-Decides}
-use Rattle.std.proofs.lemmas.Bool.{and_from}
+use Rattle.std.proofs.lemmas.Bool.{and_from, false≢true}
 use Rattle.std.proofs.lemmas.Bool.Decides.{Decides-int_eq, Decides-eqb}
 use Rattle.std.proofs.lemmas.List.{map-append}
 use Rattle.std.proofs.lemmas.List.Elements.{All-push, All-weaker, All-map}
@@ -19,9 +19,6 @@ use Rattle.cgd_read.proofs.Places.{all_fail, longer, numbered, same_number}
 use Rattle.cgd_read.proofs.Spelling.{IsZero}
 use Rattle.cgd_read.proofs.WellEdges.{IsWellEdge, wider, well_spelled, MakeGraph}
 
-false_true : false ≡ true → ⊥
-false_true e = cc
-
 -- an edge is the same as itself
 same_self : (e : RawEdge) → same_edge e e ≡ true
 same_self e =
@@ -33,11 +30,11 @@ raw_of a = record { u = a.from; v = a.to; x = a.shift.x; y = a.shift.y; z = a.sh
 
 apart : (e f : RawEdge) → same_edge e f ≡ false → edge_of f ≢ edge_of e
 unfolding raw_of
-apart e f h eq = false_true (sym h ∙ subst (λ g. same_edge e g ≡ true) (sym (ap raw_of eq)) (same_self e))
+apart e f h eq = false≢true (sym h ∙ subst (λ g. same_edge e g ≡ true) (sym (ap raw_of eq)) (same_self e))
 
 pub make_nothing : MakeGraph []
 make_nothing = record {
-  size = λ e. absurd (false_true e);
+  size = λ e. absurd (false≢true e);
   edges = λ size e k x l. absurd (omega (arith, l));
   different = λ i j d l m. absurd (omega (arith, m));
   few_vertices = omega arith;
@@ -55,7 +52,7 @@ size_now (first ∷ rows) row e = by (first_size (first ∷ rows) == 0)
 
 no_loop : (names : List (List ℕ)) (row : FieldsView) → is_self_edge row ≡ false → vertex_number names row.u ≡ vertex_number (with_new bytes_eq names row.u) row.v → IsZero row.x row.y row.z → ⊥
 no_loop names row h e zero =
-    false_true (sym h ∙ and_from _ _ ((bytes_eq-Decides row.u row.v).1 (same_number names row.u row.v e))
+    false≢true (sym h ∙ and_from _ _ ((bytes_eq-Decides row.u row.v).1 (same_number names row.u row.v e))
     (and_from _ _ ((Decides-int_eq row.x (pos 0)).1 zero.0) (and_from _ _ ((Decides-int_eq row.y (pos 0)).1 zero.1) ((Decides-int_eq row.z (pos 0)).1 zero.2))))
 
 row_makes : (rows : List FieldsView) (row : FieldsView) (size : ℕ) → IsWellRow row → is_self_edge row ≡ false → row.size ≡ size

@@ -2,20 +2,32 @@
 ghost use Rattle.std.specs.Prelude.{◌≡◌};
 ghost use Rattle.cgd_read.specs.Faults.{number_of_kind};
 
-use crate::{Names, RawEdges};
+use crate::NoMemory;
+use lists::{Items, NumberLists};
 
-/// A block of a text. `line` is the line that opens it.
+/// Names as they were spelled, each a slice of the text that it was read from.
+pub type Names<'a> = NumberLists<&'a [u8]>;
+
+/// The edges of a graph that was read, in order of appearance.
+pub type RawEdges = Items<RawEdge>;
+
+/// A block of a text.
 #[derive(Drop)]
 pub struct Block<'a> {
+    /// What its first name line says, if one was read.
     pub name: Option<&'a [u8]>,
+    /// The line that opens it, numbered from 1.
     pub line: u32,
     pub body: Body<'a>,
 }
 
+/// What a block holds.
 #[derive(Drop)]
 pub enum Body<'a> {
     Graph(RawGraph<'a>),
+    /// A block of another kind: the token that opens it.
     Unsupported(&'a [u8]),
+    /// A graph block that is none.
     Malformed(BlockFault),
 }
 
@@ -29,7 +41,8 @@ pub struct RawGraph<'a> {
     pub repeats: u32,
 }
 
-/// An edge between two vertices, which are numbered from 1 in order of appearance.
+/// An edge from `u` to `v`, by the shift (`x`, `y`, `z`) in cells. Vertices are numbered from 1 in
+/// order of appearance.
 #[derive(Clone, Copy, Debug, PartialEq, Eq, Hash)]
 pub struct RawEdge {
     pub u: u32,
@@ -39,15 +52,16 @@ pub struct RawEdge {
     pub z: i32,
 }
 
+/// The first fault of a graph block, with its line, numbered from 1.
 #[derive(Clone, Copy, Debug, PartialEq, Eq)]
 pub struct BlockFault {
     pub line: u32,
     pub kind: BlockFaultKind,
 }
 
-/// Why a block is no graph: the first sentence that is true, by the lines in order, and in one line in
-/// the order UnknownField, TwoNames, BadToken, NameTooLong, RowLength, MixedDimension, ShiftRange,
-/// SelfEdge, TooManyVertices, TooManyEdges, NoEdges.
+/// Why a block is no graph: the first sentence that is true, by the lines in order, and in one line
+/// in the order UnknownField, TwoNames, BadToken, NameTooLong, RowLength, MixedDimension,
+/// ShiftRange, SelfEdge, TooManyVertices, TooManyEdges, NoEdges.
 #[derive(Clone, Copy, Debug, PartialEq, Eq)]
 pub enum BlockFaultKind {
     /// A token stands where it may not.
@@ -98,9 +112,20 @@ impl BlockFaultKind {
     }
 }
 
+/// Why a text is not read.
 #[derive(Clone, Copy, Debug, PartialEq, Eq)]
 pub enum ReadRefusal {
     /// The text opens a 4,097th block.
     TooManyBlocks,
     NoMemory,
+}
+
+impl From<NoMemory> for ReadRefusal {
+    ghost use Rattle.cgd_read.specs.declared.block.ReadRefusal.{ReadRefusal};
+
+    ghost from_gives = { λ _ refusal. refusal ≡ ReadRefusal.NoMemory };
+
+    fn from(_refused: NoMemory) -> ReadRefusal {
+        ReadRefusal::NoMemory
+    }
 }

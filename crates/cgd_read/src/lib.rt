@@ -4,17 +4,15 @@
 
 mod block;
 mod cursor;
-mod edges;
 mod line;
-mod names;
 mod partial;
 mod read;
 mod sentences;
 mod state;
 mod values;
 
-pub use block::{Block, BlockFault, BlockFaultKind, Body, RawEdge, RawGraph, ReadRefusal};
-pub use edges::RawEdges;
-pub use names::Names;
+pub use block::{
+    Block, BlockFault, BlockFaultKind, Body, Names, RawEdge, RawEdges, RawGraph, ReadRefusal,
+};
 pub use read::blocks;
 pub use std::alloc::AllocError as NoMemory;

@@ -1,13 +1,12 @@
 // Lines and what they say.
-ghost use Rattle.std.specs.Prelude.{◌≡◌, ◌||◌, ◌&&◌, nat_lt, ◌<◌, ◌+◌, codes, map, Some, None, IfSome, is_none, if◌then◌else◌};
+ghost use Rattle.std.specs.Prelude.{◌≡◌, ◌||◌, ◌<◌, ◌+◌, map, Some, None, IfSome, is_none};
 ghost use Rattle.std.specs.Option.{option_copied};
 ghost use Rattle.cgd_lex.specs.Views.{token_view};
-ghost use Rattle.cgd_read.specs.Lines.{is_strange, is_quoted, is_newline, unquoted, name_in, is_keyword, is_name_word, is_edges_word, kind_of_word, kind_of, is_bare, part_or_zero};
+ghost use Rattle.cgd_read.specs.Lines.{is_strange, is_quoted, unquoted, name_in, is_keyword, is_name_word, is_edges_word, kind_of_word, kind_of, part_or_zero};
 ghost use Rattle.cgd_read.specs.Values.{IsSmallPart};
 ghost use Rattle.std.specs.Char.{to_ascii_lowercase};
 ghost use Rattle.cgd_read.specs.Views.{fields_view};
-ghost use Rattle.cgd_read.specs.Reading.{no_fields, with_field, with_part, IsSmallFields};
-ghost use Rattle.cgd_read.specs.Values.{part_of};
+ghost use Rattle.cgd_read.specs.Reading.{inner, no_fields, with_field, with_part, IsSmallFields};
 
 use crate::values::part;
 use cgd_lex::{Token, TokenKind};
@@ -46,6 +45,7 @@ pub struct Fields<'a> {
     pub z: i32,
 }
 
+/// A line that has a token, with its number, counted from 1.
 #[derive(Clone, Copy)]
 pub struct Line<'a> {
     pub number: u32,
@@ -75,10 +75,10 @@ fn is_quoted(kind: TokenKind) -> bool
 
 // A text without its first and last byte.
 fn inner(text: &[u8]) -> &[u8]
-    ensures { result.now ≡ Rattle.cgd_read.specs.Reading.inner text.now }
+    ensures { result.now ≡ inner text.now }
 {
     match text {
-        [_, inner @ .., _] => inner,
+        [_, between @ .., _] => between,
         _ => &[],
     }
 }
@@ -216,7 +216,7 @@ impl<'a> Fields<'a> {
         }
     }
 
-    /// Adds a field. A number is read only where a part of a shift is due.
+    /// Adds a field. From the third on it is also read as a number, in any line.
     #[inline(always)]
     pub fn add(&mut self, token: &Token<'a>)
         requires room { self.old.size < 16777216 }

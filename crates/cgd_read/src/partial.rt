@@ -16,6 +16,7 @@ use crate::{Names, NoMemory, RawEdge, RawEdges, RawGraph};
 use indexmap::IndexSet;
 use std::alloc::Global;
 
+/// What is kept of the rows of a block: names and edges once each, in order of appearance.
 #[derive(Drop)]
 pub struct PartialGraph<'a> {
     /// The number of fields of the first row, or 0.

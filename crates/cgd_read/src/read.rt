@@ -1,11 +1,9 @@
 // The blocks of a text, in one pass over its lines.
 ghost use Rattle.std.specs.Prelude.{◌≡◌, ◌∷◌, ◌≤◌, ◌<◌, [], List, length, IfOk, OnOk, All, IsErrOf, ◌++◌, ◌+◌, ℕ};
-ghost use Rattle.cgd_lex.specs.Tokens.{tokens_of};
 ghost use Rattle.cgd_read.specs.Lines.{LineView, token_lines};
 ghost use Rattle.cgd_read.specs.Views.{line_view, BlockView, body_view, block_view, views};
-ghost use Rattle.cgd_read.specs.Reading.{IsSmallFields, IsFlat, after_end};
-ghost use Rattle.cgd_read.specs.Faults.{is_end};
-ghost use Rattle.cgd_read.specs.Blocks.{graph_block, block_of, blocks_of, most_blocks, with_body, malformed, AreBlocksOf, IsGraphBlock, IsReadBody};
+ghost use Rattle.cgd_read.specs.Reading.{after_end};
+ghost use Rattle.cgd_read.specs.Blocks.{graph_block, block_of, blocks_of, most_blocks, malformed, AreBlocksOf, IsGraphBlock, IsReadBody};
 
 use crate::cursor::next_line;
 use crate::line::{Line, LineKind};
@@ -139,32 +137,6 @@ fn add_block<'a>(
     Ok(())
 }
 
-// The blocks of a text, line by line.
-fn read_blocks<'a>(alloc: Global, text: &'a [u8]) -> Result<Vec<Block<'a>>, ReadRefusal>
-    requires { length text.now ≤ 16777216 }
-    ensures blocks { IfOk result (λ found. AreBlocksOf text.now (views found.items)) }
-    ensures graphs { IfOk result (λ found. All (λ block. IsReadBody block.body) found.items) }
-    ensures few { OnOk result (length (blocks_of text.now) ≤ most_blocks) }
-    ensures too_many { IsErrOf result ReadRefusal.TooManyBlocks →
-        most_blocks < length (blocks_of text.now) }
-{
-    let mut lexer = Lexer::new(text);
-    let mut state = State::new(alloc);
-    let mut found = Vec::new(alloc);
-    while let Some(line) = next_line(&mut lexer) {
-        if line.kind.is_end() {
-            continue;
-        }
-        if found.len() == MOST_BLOCKS {
-            return Err(ReadRefusal::TooManyBlocks);
-        }
-        let Ok(()) = add_block(alloc, &mut lexer, &mut state, &mut found, &line) else {
-            return Err(ReadRefusal::NoMemory);
-        };
-    }
-    Ok(found)
-}
-
 /// The blocks of a text, in order.
 #[tactic(auto, using(crate::proofs::Decided::the_block))]
 pub fn blocks<'a>(alloc: Global, text: &'a [u8]) -> Result<Vec<Block<'a>>, ReadRefusal>
@@ -183,5 +155,17 @@ pub fn blocks<'a>(alloc: Global, text: &'a [u8]) -> Result<Vec<Block<'a>>, ReadR
     ensures only { (opening : ℕ) (lines : List LineView) (block : BlockView) →
         IsGraphBlock opening lines block → block ≡ graph_block opening [] lines }
 {
-    read_blocks(alloc, text)
+    let mut lexer = Lexer::new(text);
+    let mut state = State::new(alloc);
+    let mut found = Vec::new(alloc);
+    while let Some(line) = next_line(&mut lexer) {
+        if line.kind.is_end() {
+            continue;
+        }
+        if found.len() == MOST_BLOCKS {
+            return Err(ReadRefusal::TooManyBlocks);
+        }
+        add_block(alloc, &mut lexer, &mut state, &mut found, &line)?;
+    }
+    Ok(found)
 }

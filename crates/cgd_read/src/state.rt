@@ -1,10 +1,10 @@
 // What is known of the lines of a graph block that were read, and the tests of the next line.
 ghost use Rattle.std.specs.Prelude.{◌≡◌, ◌≤◌, ◌<◌, ◌+◌, ◌∷◌, [], List, length, OnOk, IfOk, None};
 ghost use Rattle.periodic_net.specs.Limits.{most_vertices};
-ghost use Rattle.cgd_read.specs.Lines.{LineView, is_bare};
+ghost use Rattle.cgd_read.specs.Lines.{LineView};
 ghost use Rattle.cgd_read.specs.Views.{line_view, fields_view};
 ghost use Rattle.cgd_read.specs.Reading.{IsSmallFields};
-ghost use Rattle.cgd_read.specs.Faults.{is_name, is_end, is_broken, is_unknown, has_row, is_second_name, has_bad_token, has_long_name, has_wrong_length, has_other_length, has_far_shift, has_self_edge, ends_without_rows, word_tests, row_tests, count_tests, first_true, fault_of, under_after, name_after, or_later};
+ghost use Rattle.cgd_read.specs.Faults.{is_second_name, has_bad_token, has_other_length, ends_without_rows, word_tests, row_tests, count_tests, first_true, fault_of, or_later};
 ghost use Rattle.cgd_read.specs.States.{names_in, IsStateAfter};
 
 use crate::line::Line;

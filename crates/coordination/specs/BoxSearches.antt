@@ -11,7 +11,7 @@ use Rattle.coordination.specs.declared.net_box.NetBox.{NetBox}
 use Rattle.coordination.specs.declared.spot.Spot.{Spot}
 
 -- these vertices were found, in this order, and are marked
-pub record IsFound (P : Graph) (b : NetBox) (vertices : List Vertex) (marks : List Bool) (found : List Spot) : Type 0 where
+pub record AreFoundAndMarked (P : Graph) (b : NetBox) (vertices : List Vertex) (marks : List Bool) (found : List Spot) : Type 0 where
   pub size : length marks ≡ b.size
   pub inside : (x : Vertex) → Contains vertices x → IsInside P.vertices b.extent x
   pub spots : map (spot_in P.vertices b.extent) vertices ≡ found
@@ -24,7 +24,7 @@ IsOpen P b x = (y : Vertex) → AreJoined P x y → IsCellWithin b.extent y.cell
 -- these vertices were found, each once, and what those from this place on are joined to is in the box
 pub record IsSearchable (P : Graph) (b : NetBox) (vertices : List Vertex) (marks : List Bool) (found : List Spot) (begin : ℕ) : Type 0 where
   pub is_box : IsBoxOf P b
-  pub is_found : IsFound P b vertices marks found
+  pub is_found : AreFoundAndMarked P b vertices marks found
   pub once : StandOnce vertices
   pub low : begin ≤ length vertices
   pub open_from : (x : Vertex) → Contains (drop begin vertices) x → IsOpen P b x
@@ -38,7 +38,7 @@ pub record IsReady (b : NetBox) (marks : List Bool) (found : List Spot) (begin :
 -- with these vertices the next shell was found
 pub record IsFoundNext (P : Graph) (b : NetBox) (vertices : List Vertex) (begin room : ℕ) (marks : List Bool) (found : List Spot) : Type 0 where
   pub next : List Vertex
-  pub is_found : IsFound P b (vertices ++ next) marks found
+  pub is_found : AreFoundAndMarked P b (vertices ++ next) marks found
   pub expands : Expands (AreJoined P) room (drop begin vertices) vertices next
 
 -- the next shell was found, in whichever net

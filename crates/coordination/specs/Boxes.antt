@@ -65,10 +65,10 @@ with_step stars u t = slice_set stars (u - 1) (slice_index_or stars (u - 1) [] +
 abbrev pub with_edge : List (List Step) → ℕ → Extent → Arc → List (List Step)
 with_edge stars n r e = with_step (with_step stars e.from (step_of n r e)) e.to (step_of n r (reverse_of e))
 
--- the steps from the first m vertices
-pub record AreStars (P : Graph) (r : Extent) (m : ℕ) (stars : List (List Step)) : Type 0 where
-  pub count : length stars ≡ m
-  pub each : (c : ℕ) → IsQuotientVertex P c → c ≤ m → slice_index_or stars (c - 1) [] ≡ steps_from P.vertices r c P.edges
+-- the steps from each vertex
+pub record AreStepsFromVertices (P : Graph) (r : Extent) (stars : List (List Step)) : Type 0 where
+  pub count : length stars ≡ P.vertices
+  pub each : (c : ℕ) → IsQuotientVertex P c → slice_index_or stars (c - 1) [] ≡ steps_from P.vertices r c P.edges
 
 -- b is a box of the net of P, of an extent of its shells, with its size, and with the steps from each vertex
 pub record IsBoxOf (P : Graph) (b : NetBox) : Type 0 where
@@ -79,4 +79,4 @@ pub record IsBoxOf (P : Graph) (b : NetBox) : Type 0 where
   pub origin : b.origin ≡ origin_of P.vertices b.extent
   pub size : b.size ≡ size_of P.vertices b.extent
   pub small : b.size ≤ MOST_MARKS
-  pub stars : AreStars P b.extent P.vertices b.stars
+  pub stars : AreStepsFromVertices P b.extent b.stars

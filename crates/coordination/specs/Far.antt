@@ -14,10 +14,6 @@ part_of X v = v.x
 part_of Y v = v.y
 part_of Z v = v.z
 
--- u is a place of the list, counted from 1
-abbrev pub IsPlace : List ℕ → ℕ → Type 0
-IsPlace far u = (1 ≤ u) × (u ≤ length far)
-
 -- the number of vertex u
 abbrev pub far_of : List ℕ → ℕ → ℕ
 far_of far u = slice_index_or far (u - 1) 0

@@ -4,12 +4,16 @@ ghost use Rattle.periodic_net.specs.Limits.{most_vertices};
 ghost use Rattle.coordination.specs.Cells.{HasCell};
 ghost use Rattle.coordination.specs.Sequences.{AreSequencesOf};
 
+use crate::NoMemory;
 use crate::box_count::box_sequences;
 use crate::count::shells;
-use crate::{NoMemory, Sequences};
+use lists::NumberLists;
 use primitive_cell::Primitive;
 use quotient_graph::Classes;
 use std::alloc::Global;
+
+/// Sizes of shells, a list for each class in the order of their numbers.
+pub type Sequences = NumberLists<Vec<u32>>;
 
 // The same, class by class, whatever the primitive graph.
 fn class_sequences<const D: usize>(

@@ -7,8 +7,9 @@ use crate::marks::follow;
 use crate::net_box::NetBox;
 use crate::spot::Spot;
 
-/// Finds the vertices that are reached from those of a shell, which were found last, and were not found before; where these are
-/// more than `room`, some of them, and more than `room`. The shell begins at this place.
+/// Finds the vertices that are reached from those of a shell, which were found last, and were not
+/// found before; where these are more than `room`, some of them, and more than `room`. The shell
+/// begins at this place.
 pub fn next_shell(
     net_box: &NetBox,
     marks: &mut [bool],

@@ -13,9 +13,10 @@ pub struct Extent {
     pub z: u32,
 }
 
-// The greatest part of a step in a box, and of all steps of a search.
+/// The greatest part of a step in a box, in cells.
 pub const LONGEST: u32 = 1_000;
 
+/// The greatest part of all steps of a search together.
 pub const WIDEST: u32 = 10_000;
 
 // The greater of a number and a part of a shift, unless this is too great.

@@ -2,7 +2,8 @@
 ghost use Rattle.std.specs.Prelude.{◌≡◌, ◌≤◌, ◌≤ℤ◌, pos, unsigned_abs, length, IfOk, IfSome};
 ghost use Rattle.periodic_net.specs.Graph.{IsGraph};
 ghost use Rattle.coordination.specs.Extents.{AreShiftsWithin, IsCellWithin, IsExtent, IsNarrow};
-ghost use Rattle.coordination.specs.Far.{AreAtMost, AreBetween, AreFarAfter, AreFarther, IsFarthest, IsPlace, IsRaised, part_of};
+ghost use Rattle.coordination.specs.Far.{AreAtMost, AreBetween, AreFarAfter, AreFarther, IsFarthest, IsRaised, part_of};
+ghost use Rattle.primitive_cell.specs.Places.{IsPlace};
 
 use crate::NoMemory;
 use crate::count::MOST_SHELLS;

@@ -8,7 +8,6 @@ mod count;
 mod extent;
 mod far;
 mod laws;
-mod list;
 mod marks;
 mod net_box;
 mod point;
@@ -16,8 +15,7 @@ mod reach;
 mod search;
 mod spot;
 
-pub use all_classes::sequences;
+pub use all_classes::{Sequences, sequences};
 pub use count::{MOST_IN_SHELLS, MOST_SHELLS, shells};
 pub use laws::{each_shell_has_a_size, one_sequence, sequences_are_one, two_shells_suffice};
-pub use list::Sequences;
 pub use std::alloc::AllocError as NoMemory;

@@ -2,7 +2,7 @@
 ghost use Rattle.std.specs.Prelude.{◌≡◌, ◌+◌, ◌*◌, ◌^◌, ◌<◌, ◌≤◌, [], pos, ◌+ℤ◌, ◌-ℤ◌, ◌*ℤ◌, unsigned_abs, length, map, replicate, slice_get, Some, OnOk, IfOk, IfSome};
 ghost use Rattle.periodic_net.specs.Graph.{IsGraph};
 ghost use Rattle.periodic_net.specs.Limits.{most_vertices};
-ghost use Rattle.coordination.specs.Boxes.{AreStars, IsBoxOf, cells_of, growth_of, origin_of, side, size_of, with_edge, with_step};
+ghost use Rattle.coordination.specs.Boxes.{AreStepsFromVertices, IsBoxOf, cells_of, growth_of, origin_of, side, size_of, with_edge, with_step};
 ghost use Rattle.coordination.specs.Extents.{AreShiftsWithin, IsCellWithin, IsNarrow};
 
 use crate::NoMemory;
@@ -17,7 +17,8 @@ use vecdim::Triple;
 /// So many vertices a box has at most.
 pub const MOST_MARKS: u64 = 4_194_304;
 
-/// The steps from the vertices of a box, by the vertex that they lie over. Contracts see a list of lists.
+/// The steps from the vertices of a box, by the vertex that they lie over. Contracts see a list of
+/// lists.
 #[derive(Drop)]
 pub struct Stars {
     items: Vec<Vec<Step>>,
@@ -42,8 +43,9 @@ impl Stars {
     }
 }
 
-/// A box of the net of a primitive graph: the vertices whose cells are within the extent. The vertices of a cell are numbered
-/// one after the other, and so are the cells along each axis; `origin` is the number of the first vertex in cell 0.
+/// A box of the net of a primitive graph: the vertices whose cells are within the extent. The
+/// vertices of a cell are numbered one after the other, and so are the cells along each axis;
+/// `origin` is the number of the first vertex in cell 0.
 #[derive(Drop)]
 pub struct NetBox {
     pub extent: Extent,
@@ -177,7 +179,7 @@ fn push_edges<const D: usize>(
     requires narrow { IsNarrow WIDEST extent }
     requires shifts { AreShiftsWithin cell.now.graph.edges extent }
     requires empty { map (λ star. star.items) stars.old ≡ replicate cell.now.graph.vertices [] }
-    ensures { OnOk result (AreStars cell.now.graph extent cell.now.graph.vertices
+    ensures { OnOk result (AreStepsFromVertices cell.now.graph extent
         (map (λ star. star.items) stars.new)) }
 {
     for edge in &cell.edges {
@@ -196,7 +198,7 @@ fn stars_of<const D: usize>(
     requires few { cell.now.graph.vertices ≤ most_vertices }
     requires narrow { IsNarrow WIDEST extent }
     requires shifts { AreShiftsWithin cell.now.graph.edges extent }
-    ensures { IfOk result (AreStars cell.now.graph extent cell.now.graph.vertices) }
+    ensures { IfOk result (AreStepsFromVertices cell.now.graph extent) }
 {
     let mut items = empty_stars(alloc, cell.vertices)?;
     push_edges(&mut items, cell, extent)?;

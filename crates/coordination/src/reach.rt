@@ -59,8 +59,10 @@ pub fn follow<const D: usize>(
 ) -> Result<(), NoMemory>
     requires near { IsNear from }
     requires short { AreShort star.now }
-    ensures found { OnOk result (found.new.keys ≡ all_found found.old.keys (ends_of from star.now)) }
-    ensures next { OnOk result (next.new.items ≡ all_new found.old.keys next.old.items (ends_of from star.now)) }
+    ensures found { OnOk result (
+        found.new.keys ≡ all_found found.old.keys (ends_of from star.now)) }
+    ensures next { OnOk result (next.new.items ≡
+        all_new found.old.keys next.old.items (ends_of from star.now)) }
 {
     for arc in star {
         reach(found, next, along(from, arc))?;

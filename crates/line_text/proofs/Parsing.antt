@@ -1,9 +1,10 @@
 -- A number that was written is parsed as itself.
-use Rattle.std.proofs.Common.{◌≡◌, ℕ, zero, ◌<◌, suc, ℤ, pos, negsuc, neg_ℤ, List, ◌∷◌, Result, Ok, refl, sym, subst, ap, ◌∙◌, arith}
+use Rattle.std.proofs.Common.{◌≡◌, ℕ, suc, ℤ, pos, negsuc, neg_ℤ, List, ◌∷◌, Result, Ok, refl, sym, subst, ap, ◌∙◌, arith}
 use Rattle.std.specs.Fmt.{signed_decimal, decimal}
 use Rattle.std.specs.Str.Parse.{ParsesSigned}
 use Rattle.std.proofs.lemmas.Fmt.{decimal_is_IsNumeral_wide, IsAscii-decimal_wide}
 use Rattle.std.proofs.lemmas.Str.{IsUtf8-from_ascii}
+use Rattle.std.proofs.lemmas.Str.Ascii.{IsAscii-cons}
 use Rattle.std.specs.Str.{IsUtf8, IsAscii}
 use Rattle.std.proofs.lemmas.Str.Parse.{numerals_by_value, tells_digits, parse_signed_digits, parse_signed_minus}
 use Rattle.std.proofs.lemmas.Result.{Ok-from_Ok_iff}
@@ -20,10 +21,6 @@ parsed_again (negsuc n) bs r fits is h =
     let read = parse_signed_minus (numerals_by_value _ tells_digits) w128 (45 ∷ decimal (suc n)) r (subst (λ l. ParsesSigned w128 10 l r) is h) refl in
     Ok-from_Ok_iff r _ _ read (k.0.1, k.0.0, omega (arith, k.1, fits.sfits)) ∙ ap (λ m. Ok (neg_ℤ (pos m))) k.1
 
-ascii_after : (b : ℕ) (bs : List ℕ) → b < 128 → IsAscii bs → IsAscii (b ∷ bs)
-ascii_after b bs small h zero = small
-ascii_after b bs small h (suc i) = h i
-
 pub number_is_text : (z : ℤ) (bs : List ℕ) → IsWide z → bs ≡ signed_decimal z → IsUtf8 bs
 number_is_text (pos n) bs fits is = IsUtf8-from_ascii bs (subst IsAscii (sym is) (IsAscii-decimal_wide n (omega (arith, fits.sfits))))
-number_is_text (negsuc n) bs fits is = IsUtf8-from_ascii bs (subst IsAscii (sym is) (ascii_after 45 (decimal (suc n)) (omega arith) (IsAscii-decimal_wide (suc n) (omega (arith, fits.sfits)))))
+number_is_text (negsuc n) bs fits is = IsUtf8-from_ascii bs (subst IsAscii (sym is) (IsAscii-cons 45 (decimal (suc n)) (omega arith) (IsAscii-decimal_wide (suc n) (omega (arith, fits.sfits)))))

@@ -25,6 +25,7 @@ impl<'a> Model for Lines<'a> {
 }
 
 impl<'a> Lines<'a> {
+    /// All lines of a text.
     pub fn new(text: &'a [u8]) -> Lines<'a>
         requires { length text.now ≤ 16777216 }
         ensures rest { result.rest ≡ text.now }
@@ -44,6 +45,7 @@ impl<'a> Lines<'a> {
         self.number
     }
 
+    /// Whether no byte is left.
     pub fn is_empty(&self) -> bool
         ensures { result ≡ (length self.now.rest == 0) }
     {

@@ -1,5 +1,5 @@
 // Lines of a form that is asked for.
-ghost use Rattle.std.specs.Prelude.{ℕ, ℤ, List, ◌≡◌, ◌++◌, ◌∷◌, [], All, IfOk, Ok, true, IfSome, IfNone, MatchOption, ◌≤◌, ◌<◌, length};
+ghost use Rattle.std.specs.Prelude.{ℕ, ℤ, List, ◌≡◌, ◌++◌, ◌∷◌, [], All, IfOk, Ok, true, IfSome, MatchOption, ◌<◌, length};
 ghost use Rattle.line_text.specs.Numbers.{IsWide, row_text};
 ghost use Rattle.line_text.specs.Lines.{HasNo, IsAt};
 

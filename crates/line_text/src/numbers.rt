@@ -1,5 +1,5 @@
 // Reads numbers.
-ghost use Rattle.std.specs.Prelude.{ℤ, ◌≡◌, ◌++◌, Some, IfSome};
+ghost use Rattle.std.specs.Prelude.{ℤ, ◌≡◌, Some, IfSome};
 ghost use Rattle.std.specs.Fmt.{signed_decimal};
 ghost use Rattle.std.specs.Str.{bytes_eq};
 ghost use Rattle.line_text.specs.Numbers.{IsWide};

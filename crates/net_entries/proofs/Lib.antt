@@ -1,5 +1,4 @@
 pub mod AtPlaces
-pub mod CallerLemmas
 pub mod FoundGroups
 pub mod FromPlace
 pub mod KeyNumbers

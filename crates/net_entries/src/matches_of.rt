@@ -25,7 +25,8 @@ impl<'a, 'k> Model for Matches<'a, 'k> {
     ghost use Rattle.net_entries.specs.Entries.{entry_views};
     ghost use Rattle.net_entries.specs.Lookups.{entries_at, names_with};
 
-    ghost view = { λ m. names_with m.key.now (entries_at (entry_views m.entries.now) m.places.now) };
+    ghost view = { λ m.
+        names_with m.key.now (entries_at (entry_views m.entries.now) m.places.now) };
 }
 
 // Whether the entry has this key.

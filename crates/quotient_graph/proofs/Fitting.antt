@@ -1,9 +1,8 @@
 -- What fits 128 bits: to + d·s - from, for the parts of vectors, a denominator and a shift within the limits.
-use Rattle.std.proofs.Common.{ℕ, ◌≡◌, ◌+◌, ◌*◌, ◌≤◌, ◌^◌, ℤ, pos, ◌+ℤ◌, ◌-ℤ◌, ◌*ℤ◌, arith}
+use Rattle.std.proofs.Common.{◌≡◌, ◌+◌, ◌*◌, ◌≤◌, ◌^◌, ℤ, pos, ◌+ℤ◌, ◌-ℤ◌, ◌*ℤ◌, arith}
 use Rattle.std.specs.Prelude.{unsigned_abs, FitsSigned}
 use Rattle.std.specs.Int.{w128}
 use Rattle.periodic_net.specs.Limits.{most_units, most_shift}
-use Rattle.integers.specs.Vectors.{Vector, IsWithin}
 use Rattle.integers.proofs.numbers.Ring.{ring, linear}
 use Rattle.integers.proofs.vectors.Bounds.{bounded_sum, bounded_difference, bounded_product, fits_from_bound}
 
@@ -29,7 +28,3 @@ module _ (from to d s : ℤ) (f : unsigned_abs from ≤ 2 ^ 61) (t : unsigned_ab
 -- 0 + d·0 - 0
 pub flat_part : (from to d s : ℤ) → from ≡ pos 0 → to ≡ pos 0 → s ≡ pos 0 → (to +ℤ d *ℤ s) -ℤ from ≡ pos 0
 flat_part from to d s f t e = rw (f, t, e) (simp ring (omega (arith, linear)))
-
--- within a greater bound
-pub within_more : (m n : ℕ) (v : Vector) → m ≤ n → IsWithin m v → IsWithin n v
-within_more m n v l h = (omega (arith, l, h.0), omega (arith, l, h.1), omega (arith, l, h.2))

@@ -1,5 +1,6 @@
 -- Lists of arcs by their tails, while arcs are put into them.
 use Rattle.std.proofs.Common.{◌≡◌, ◌≢◌, ◌⊎◌, inl, inr, ℕ, ◌-◌, ◌+◌, ◌<◌, ◌≤◌, ◌==◌, true, false, List, [], ◌∷◌, ◌++◌, length, take, All, map, get_or, set, refl, sym, ap, subst, ◌∙◌, arith, get_or-set_same, get_or-set_other, length-set, length-append, add-one}
+use Rattle.std.proofs.lemmas.Bool.{cases_eq}
 use Rattle.std.proofs.Math.Seq.{take-suc}
 use Rattle.std.proofs.lemmas.List.{map-set, map-append, length-map, get_or-map}
 use Rattle.std.proofs.lemmas.List.Elements.{filter-append}
@@ -15,9 +16,6 @@ pub map_pushed : {S : Type 0} (items : S → List Arc) (xs : List S) (k : ℕ) (
 map_pushed items xs k d new a e h f =
     map-set items xs k new ∙ ap (λ (t : List Arc). set (map items xs) k t) (f ∙ ap (λ (t : List Arc). t ++ a ∷ []) (sym (get_or-map items xs k d [] h)))
     ∙ ap (λ (j : ℕ). set (map items xs) j (get_or (map items xs) j [] ++ a ∷ [])) e
-
-same_or_not : (u v : ℕ) → (u ≡ v) ⊎ (u ≢ v)
-same_or_not u v = grind arith
 
 same_test : (u : ℕ) → (u == u) ≡ true
 same_test u = grind (arith, common_steps)
@@ -35,7 +33,7 @@ filtered_other u a as' n = filter-append (λ (b : Arc). b.from == u) as' (a ∷ 
 pub have_more : (n : ℕ) (stars : List (List Arc)) (as' : List Arc) (a : Arc) → 1 ≤ a.from → a.from ≤ n → HaveArcs n stars as' → HaveArcs n (with_arc stars a) (as' ++ a ∷ [])
 have_more n stars as' a low high h = record {
   count = length-set stars (a.from - 1) (star_at stars a.from ++ a ∷ []) ∙ h.count;
-  each = λ u p q. elim (same_or_not u a.from) [
+  each = λ u p q. elim (cases_eq u a.from) [
     | inl e ↦ subst (λ v. star_at (with_arc stars a) v ≡ filter (λ b. b.from == v) (as' ++ a ∷ [])) (sym e)
         (get_or-set_same stars (a.from - 1) (star_at stars a.from ++ a ∷ []) [] (below a.from low high) ∙ ap (λ (t : List Arc). t ++ a ∷ []) (h.each a.from low high) ∙ sym (filtered_same a.from a as' refl))
     | inr m ↦ get_or-set_other stars (a.from - 1) (u - 1) (star_at stars a.from ++ a ∷ []) [] (apart u p m) ∙ h.each u p q ∙ sym (filtered_other u a as' m)

@@ -5,26 +5,14 @@ use Rattle.std.proofs.Math.Nat.{mul-le-mul}
 use Rattle.integers.specs.Vectors.{Vector, zero_vector, plus, times, IsWithin}
 use Rattle.integers.specs.Staircase.{part}
 use Rattle.integers.proofs.numbers.Ring.{linear}
-use Rattle.integers.proofs.vectors.Coordinates.{IsCoordinate, coordinate_x, coordinate_y, coordinate_z}
-use Rattle.integers.proofs.vectors.Bounds.{bounded_sum, bounded_difference, bounded_product}
+use Rattle.integers.proofs.vectors.Coordinates.{below_three, part_is_coordinate}
+use Rattle.integers.proofs.vectors.Bounds.{bounded_sum, bounded_difference, bounded_product, wider}
 use Rattle.periodic_net.specs.Graph.{Graph, Arc, IsArc, IsGraph, IsQuotientVertex, IsConnected}
 use Rattle.periodic_net.specs.Placement.{Placement, base, arc_vector, IsWithinLimits}
 use Rattle.periodic_net.specs.Limits.{most_vertices, most_shift, most_units, IsSmall}
 use Rattle.quotient_graph.proofs.StarArcs.{arc_within}
 use Rattle.quotient_graph.specs.PlacedNets.{most_position}
-use Rattle.quotient_graph.proofs.Fitting.{within_more}
 use Rattle.quotient_graph.proofs.Reach.{reach}
-
--- a number of three
-below_three : (P : ℕ → Type 0) → P 0 → P 1 → P 2 → (c : ℕ) → c < 3 → P c
-below_three P a b d zero l = a
-below_three P a b d (suc zero) l = b
-below_three P a b d (suc (suc zero)) l = d
-below_three P a b d (suc (suc (suc c))) l = absurd (omega arith)
-
--- each part of a vector is a linear reading
-part_is_coordinate : (c : ℕ) → c < 3 → IsCoordinate (part c)
-part_is_coordinate = below_three (λ c. IsCoordinate (part c)) coordinate_x coordinate_y coordinate_z
 
 -- a part of a vector within n
 part_within : (n : ℕ) (v : Vector) → IsWithin n v → (c : ℕ) → c < 3 → unsigned_abs (part c v) ≤ n
@@ -82,4 +70,4 @@ position_bounded G graph connected small P origin limits u q =
 -- so it fits a vector
 pub position_fits : (G : Graph) → IsGraph G → IsConnected G → IsSmall G → (P : Placement) → base P 1 ≡ zero_vector → IsWithinLimits G P → (u : ℕ) → IsQuotientVertex G u → IsWithin (2 ^ 61) (base P u)
 position_fits G graph connected small P origin limits u q =
-    within_more most_position (2 ^ 61) (base P u) (omega arith) (position_bounded G graph connected small P origin limits u q)
+    wider most_position (2 ^ 61) (omega arith) (base P u) (position_bounded G graph connected small P origin limits u q)

@@ -1,8 +1,8 @@
 // The arcs from each vertex, made from the edges.
-ghost use Rattle.std.specs.Prelude.{◌≡◌, ◌+◌, ◌<◌, ◌≤◌, ℕ, List, [], All, length, map, replicate, slice_index_or, IfOk, OnOk, neg_ℤ, unsigned_abs};
+ghost use Rattle.std.specs.Prelude.{◌≡◌, ◌<◌, ◌≤◌, [], All, length, map, IfOk, OnOk};
 ghost use Rattle.integers.specs.Vectors.{IsWithin};
 ghost use Rattle.periodic_net.specs.Limits.{most_shift};
-ghost use Rattle.periodic_net.specs.Graph.{both_ways, reverse_of, Arc as NetArc};
+ghost use Rattle.periodic_net.specs.Graph.{both_ways, reverse_of};
 ghost use Rattle.quotient_graph.specs.Building.{with_arc, HaveArcs, IsSortedFrom, AreSortedFrom, EdgeFits, AreStars};
 
 use crate::{Arc, NoMemory};
@@ -30,14 +30,6 @@ fn push_arc<const D: usize>(stars: &mut [Star<D>], arc: Arc<D>) -> Result<(), No
     Ok(())
 }
 
-// The same number of steps the other way.
-fn negated(steps: i32) -> i32
-    requires { unsigned_abs steps ≤ most_shift }
-    ensures { result ≡ neg_ℤ steps }
-{
-    -steps
-}
-
 // The other arc of an edge.
 fn reversed<const D: usize>(edge: &Arc<D>) -> Arc<D>
     requires { IsWithin most_shift edge.now.shift }
@@ -47,9 +39,9 @@ fn reversed<const D: usize>(edge: &Arc<D>) -> Arc<D>
         from: edge.to,
         to: edge.from,
         shift: Shift {
-            x: negated(edge.shift.x),
-            y: negated(edge.shift.y),
-            z: negated(edge.shift.z),
+            x: -edge.shift.x,
+            y: -edge.shift.y,
+            z: -edge.shift.z,
         },
     }
 }

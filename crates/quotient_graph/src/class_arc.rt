@@ -2,8 +2,9 @@
 use std::marker::Model;
 use vecdim::Vect;
 
-/// An arc from one class to another, or to the same one. Classes are numbered from 1; the vector is the difference of the
-/// positions of its ends, in units of 1/D0 or in the coordinates of another basis.
+/// An arc from one class to another, or to the same one. Classes are numbered from 1; the vector is
+/// the difference of the positions of its ends, in units of 1/D0 or in the coordinates of another
+/// basis.
 #[derive(Clone, Copy, Debug, Default, PartialEq, Eq, PartialOrd, Ord)]
 pub struct ClassArc<const D: usize> {
     pub from: u32,

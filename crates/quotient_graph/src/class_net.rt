@@ -7,8 +7,8 @@ ghost use Rattle.quotient_graph.specs.ClassNets.{arcs_of, class_graph, HasStars,
 use crate::ClassArc;
 use std::marker::Model;
 
-/// The class graph of a connected stable net, with vectors in units of 1/D0 or in the coordinates of another basis.
-/// Contracts see the class graph.
+/// The class graph of a connected stable net, with vectors in units of 1/D0 or in the coordinates
+/// of another basis. Contracts see the class graph.
 #[derive(Drop)]
 pub struct ClassNet<const D: usize> {
     stars: Vec<Vec<ClassArc<D>>>,

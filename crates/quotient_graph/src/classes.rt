@@ -3,16 +3,17 @@ ghost use Rattle.std.specs.Prelude.{◌≡◌, ◌≤◌, length, map};
 ghost use Rattle.periodic_net.specs.Correspondence.{IsClass};
 ghost use Rattle.periodic_net.specs.Graph.{IsGraph, IsQuotientVertex};
 ghost use Rattle.periodic_net.specs.Limits.{most_arcs, most_vertices, IsSmall};
-ghost use Rattle.quotient_graph.specs.ClassNets.{arcs_of, class_graph, IsNetInMemory, IsSmallNet};
+ghost use Rattle.quotient_graph.specs.ClassNets.{arcs_of, class_graph, IsNetInMemory};
 ghost use Rattle.quotient_graph.specs.NetClasses.{AreClasses, AreClassesOf, class_at};
 
 use crate::{ClassArc, ClassNet, Graph};
 use std::marker::Model;
 use vecdim::Vect;
 
-/// The classes of a connected stable net, its class graph, and its translations with parts from 0 to D0 - 1. Two vertices
-/// share a class where a translation moves one over the first onto one over the second; classes are numbered from 1, by their
-/// least members. Contracts see the graph, the class of each vertex, the class graph, and the translations.
+/// The classes of a connected stable net, its class graph, and its translations with parts from 0
+/// to D0 - 1. Two vertices share a class where a translation moves one over the first onto one over
+/// the second; classes are numbered from 1, by their least members. Contracts see the graph, the
+/// class of each vertex, the class graph, and the translations.
 #[derive(Drop)]
 pub struct Classes<const D: usize> {
     graph: Graph<D>,
@@ -26,13 +27,19 @@ impl<const D: usize> Model for Classes<D> {
 
     ghost Value = { NetClasses };
 
-    ghost view = { λ c. record { graph = c.graph; numbers = c.class_of.items; classes = c.net; translations = c.translations.items } };
+    ghost view = { λ c. record {
+      graph = c.graph;
+      numbers = c.class_of.items;
+      classes = c.net;
+      translations = c.translations.items;
+    } };
 
     ghost invariant = { λ c. AreClassesOf c.graph c.class_of.items c.net c.translations.items };
 }
 
 impl<const D: usize> Classes<D> {
-    /// The classes of the net of `graph`: vertex `u` is in class `class_of[u - 1]`, and the arcs of class `c` are `arcs[c - 1]`.
+    /// The classes of the net of `graph`: vertex `u` is in class `class_of[u - 1]`, and the arcs of
+    /// class `c` are `arcs[c - 1]`.
     pub fn from_parts(
         graph: Graph<D>,
         class_of: Vec<u32>,
@@ -40,7 +47,8 @@ impl<const D: usize> Classes<D> {
         translations: Vec<Vect<D>>,
     ) -> Classes<D>
         requires net { IsNetInMemory D (map (λ s. s.items) arcs.items) }
-        requires classes { AreClassesOf graph class_of.items (class_graph D (map (λ s. s.items) arcs.items)) translations.items }
+        requires classes { AreClassesOf graph class_of.items
+            (class_graph D (map (λ s. s.items) arcs.items)) translations.items }
         ensures graph { result.graph ≡ graph.entry }
         ensures numbers { result.numbers ≡ class_of.items }
         ensures classes { result.classes ≡ class_graph D (map (λ s. s.items) arcs.entry.items) }
@@ -100,8 +108,8 @@ impl<const D: usize> Classes<D> {
         self.net.all_arcs()
     }
 
-    /// The translations with parts from 0 to D0 - 1, in rising order; each translation is one of them plus a vector of multiples
-    /// of D0.
+    /// The translations with parts from 0 to D0 - 1, in rising order; each translation is one of
+    /// them plus a vector of multiples of D0.
     pub fn translations(&self) -> &[Vect<D>]
         ensures { result.now ≡ self.now.translations }
     {

@@ -28,8 +28,8 @@ impl<const D: usize> Model for Graph<D> {
 
     ghost view = { λ g. graph_with D g.vertices g.edges.items };
 
-    ghost invariant = { λ g.
-        IsGraphInMemory (graph_with D g.vertices g.edges.items) (map (λ s. s.items) g.stars.items) };
+    ghost invariant = { λ g. IsGraphInMemory (graph_with D g.vertices g.edges.items)
+        (map (λ s. s.items) g.stars.items) };
 }
 
 impl<const D: usize> Graph<D> {

@@ -1,6 +1,6 @@
 // Graphs with the positions of their vertices.
 ghost use Rattle.std.specs.Prelude.{◌≡◌, ◌≤◌, ◌^◌, ◌+ℤ◌, ◌-ℤ◌, ◌*ℤ◌, ◌≤ℤ◌, pos, unsigned_abs};
-ghost use Rattle.integers.specs.Vectors.{minus, plus, times, HasDimension, IsWithin};
+ghost use Rattle.integers.specs.Vectors.{minus, plus, times, IsWithin};
 ghost use Rattle.periodic_net.specs.Graph.{IsArc, IsConnected, IsGraph, IsQuotientVertex};
 ghost use Rattle.periodic_net.specs.Limits.{most_shift, most_units, IsSmall};
 ghost use Rattle.periodic_net.specs.Placement.{arc_vector, base, IsNormalPlacement, IsWithinLimits};
@@ -10,8 +10,8 @@ use crate::{Arc, Graph};
 use std::marker::Model;
 use vecdim::{Shift, Vect};
 
-/// A graph whose net is connected, with its normal barycentric placement, which is within the limits.
-/// Contracts see the graph and the placement.
+/// A graph whose net is connected, with its normal barycentric placement, which is within the
+/// limits. Contracts see the graph and the placement.
 #[derive(Drop)]
 pub struct Placed<const D: usize> {
     graph: Graph<D>,

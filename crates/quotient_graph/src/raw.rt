@@ -1,5 +1,5 @@
 // From edges that were read to a graph in memory.
-ghost use Rattle.std.specs.Prelude.{◌≡◌, All, length, map, IfOk, OnOk};
+ghost use Rattle.std.specs.Prelude.{◌≡◌, All, map, IfOk, OnOk};
 ghost use Rattle.integers.specs.Vectors.{vector, HasDimension};
 ghost use Rattle.cgd_read.specs.Views.{raw_view};
 ghost use Rattle.cgd_read.specs.Graphs.{edge_of, graph_of, IsReadGraph};

@@ -7,7 +7,8 @@ ghost use Rattle.periodic_net.specs.Placement.{HasNoCollision, IsStablePlacement
 use crate::{Graph, Placed};
 use std::marker::Model;
 
-/// A placed graph in whose net different vertices stand in different places. Contracts see the graph and the placement.
+/// A placed graph in whose net different vertices stand in different places. Contracts see the
+/// graph and the placement.
 #[derive(Drop)]
 pub struct Stable<const D: usize> {
     placed: Placed<D>,

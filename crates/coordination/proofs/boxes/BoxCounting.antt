@@ -8,7 +8,7 @@ use Rattle.integers.specs.Vectors.{zero_vector}
 use Rattle.integers.proofs.lists.Members.{AreApart, IsIn, is_in, pairs_from_apart}
 use Rattle.periodic_net.specs.Graph.{Graph, Vertex, vertex, AreJoined, IsQuotientVertex}
 use Rattle.coordination.specs.Boxes.{IsBoxOf, IsInside, above, origin_of, place_in, side, spot_in}
-use Rattle.coordination.specs.BoxSearches.{IsFound, IsFoundNext, IsNextShell, IsOpen, IsSearchable}
+use Rattle.coordination.specs.BoxSearches.{AreFoundAndMarked, IsFoundNext, IsNextShell, IsOpen, IsSearchable}
 use Rattle.coordination.specs.Expanding.{Expands}
 use Rattle.coordination.specs.Marks.{IsUnmarked, is_marked, marks_with, spots_with}
 use Rattle.coordination.specs.Sequences.{AreShellsOf, most_shells, most_in_shells}
@@ -30,7 +30,7 @@ pub record IsCountedIn (P : Graph) (b : NetBox) (c : ℕ) (sizes : List ℕ) (ro
   pub vertices : List Vertex
   pub shell : List Vertex
   pub counted : AreCounted (AreJoined P) (start c) sizes room vertices shell
-  pub is_found : IsFound P b vertices marks found
+  pub is_found : AreFoundAndMarked P b vertices marks found
   pub begin_is : begin + length shell ≡ length vertices
 
 -- the number of the vertex over c in cell 0
@@ -73,7 +73,7 @@ module _ (P : Graph) (b : NetBox) (q : IsBoxOf P b) (c : ℕ) (i : IsQuotientVer
       total = omega arith;
       few = omega arith;
     };
-    is_found = subst (λ (ms : List Bool). IsFound P b (start c ∷ []) ms found') (sym marks_are) (subst (IsFound P b (start c ∷ []) (set marks s.at true)) (sym found_are) alone);
+    is_found = subst (λ (ms : List Bool). AreFoundAndMarked P b (start c ∷ []) ms found') (sym marks_are) (subst (AreFoundAndMarked P b (start c ∷ []) (set marks s.at true)) (sym found_are) alone);
     begin_is = refl;
   }
     where
@@ -92,7 +92,7 @@ module _ (P : Graph) (b : NetBox) (q : IsBoxOf P b) (c : ℕ) (i : IsQuotientVer
       found_are : found' ≡ s ∷ []
       found_are = f ∙ ap (λ (t : Spot). spots_with marks found t) same ∙ ap (λ v. cond v found (found ++ s ∷ [])) fresh ∙ ap (λ (ss : List Spot). ss ++ s ∷ []) empty
 
-      alone : IsFound P b (start c ∷ []) (set marks s.at true) (s ∷ [])
+      alone : AreFoundAndMarked P b (start c ∷ []) (set marks s.at true) (s ∷ [])
       alone = found_more P b q [] marks [] (start c) (record { size = size; inside = λ x k. absurd (is_in [] x k); spots = refl; marked = unmarked_marked marks none }) start_inside
 
   module _ (sizes : List ℕ) (room begin : ℕ) (marks : List Bool) (found : List Spot) (h : IsCountedIn P b c sizes room begin marks found) where

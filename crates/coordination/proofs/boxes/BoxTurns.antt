@@ -11,7 +11,7 @@ use Rattle.integers.proofs.lists.Pieces.{in_at, in_map}
 use Rattle.periodic_net.specs.Graph.{Graph, Arc, arcs_from, Vertex, vertex, AreJoined}
 use Rattle.periodic_net.proofs.CallerLemmas.{end_of}
 use Rattle.coordination.specs.Boxes.{IsBoxOf, IsInside, spot_in, steps_from}
-use Rattle.coordination.specs.BoxSearches.{IsFound, IsFoundNext, IsOpen, IsSearchable}
+use Rattle.coordination.specs.BoxSearches.{AreFoundAndMarked, IsFoundNext, IsOpen, IsSearchable}
 use Rattle.coordination.specs.Marks.{all_marks, all_spots, spots_along, IsLandingWithin}
 use Rattle.coordination.specs.declared.net_box.NetBox.{NetBox}
 use Rattle.coordination.specs.declared.spot.Spot.{Spot}
@@ -24,7 +24,7 @@ use Rattle.coordination.proofs.layers.Stepping.{AreSearched, search_starts, sear
 -- the steps from some vertices were made, and found these
 pub record IsSearching (P : Graph) (b : NetBox) (vertices done : List Vertex) (marks : List Bool) (found : List Spot) : Type 0 where
   pub next : List Vertex
-  pub is_found : IsFound P b (vertices ++ next) marks found
+  pub is_found : AreFoundAndMarked P b (vertices ++ next) marks found
   pub searched : AreSearched (AreJoined P) done vertices (vertices ++ next) next
 
 -- each vertex of the box has a list of steps
@@ -36,7 +36,7 @@ module _ (P : Graph) (b : NetBox) (vertices : List Vertex) (first_marks : List B
   pub searching_starts : IsSearching P b vertices (between begin begin vertices) first_marks first_found
   searching_starts = record {
     next = [];
-    is_found = subst (λ (xs : List Vertex). IsFound P b xs first_marks first_found) (sym (append-nil vertices)) h.is_found;
+    is_found = subst (λ (xs : List Vertex). AreFoundAndMarked P b xs first_marks first_found) (sym (append-nil vertices)) h.is_found;
     searched = subst (λ (xs : List Vertex). AreSearched (AreJoined P) xs vertices (vertices ++ []) []) (sym (between_none vertices begin))
         (subst (λ (xs : List Vertex). AreSearched (AreJoined P) [] vertices xs []) (sym (append-nil vertices)) (search_starts (AreJoined P) vertices [] h.once refl));
   }
@@ -88,7 +88,7 @@ module _ (P : Graph) (b : NetBox) (vertices : List Vertex) (first_marks : List B
       star_is : star ≡ steps_from P.vertices b.extent n.at.over P.edges
       star_is =
           let over : from.over ≡ n.at.over = sym (ap (λ (r : Spot). r.over) n.spot) in
-          sym (get_or_from_slice_get b.stars (from.over - 1) star [] t) ∙ ap (λ c. get_or b.stars (c - 1) []) over ∙ h.is_box.stars.each n.at.over (n.inside.low, n.inside.high) n.inside.high
+          sym (get_or_from_slice_get b.stars (from.over - 1) star [] t) ∙ ap (λ c. get_or b.stars (c - 1) []) over ∙ h.is_box.stars.each n.at.over (n.inside.low, n.inside.high)
 
       -- they lead to marks
       pub next_lands : (m : ℕ) → m ≡ b.size → All (IsLandingWithin m from) star
@@ -114,8 +114,8 @@ module _ (P : Graph) (b : NetBox) (vertices : List Vertex) (first_marks : List B
               let whole : r.vertices' ≡ vertices ++ r.next' = more.found_is in
               record {
                 next = r.next';
-                is_found = subst (λ (xs : List Vertex). IsFound P b xs marks' found') whole
-                    (subst (λ (ms : List Bool). IsFound P b r.vertices' ms found') (sym e') (subst (IsFound P b r.vertices' (all_marks marks (map (spot_in P.vertices b.extent) (ends P n.at)))) (sym f') r.is_found));
+                is_found = subst (λ (xs : List Vertex). AreFoundAndMarked P b xs marks' found') whole
+                    (subst (λ (ms : List Bool). AreFoundAndMarked P b r.vertices' ms found') (sym e') (subst (AreFoundAndMarked P b r.vertices' (all_marks marks (map (spot_in P.vertices b.extent) (ends P n.at)))) (sym f') r.is_found));
                 searched = subst (λ (xs : List Vertex). AreSearched (AreJoined P) xs vertices (vertices ++ r.next') r.next') (sym n.place)
                     (subst (λ (xs : List Vertex). AreSearched (AreJoined P) (between begin i vertices ++ n.at ∷ []) vertices xs r.next') whole more);
               }

@@ -5,7 +5,7 @@ use Rattle.integers.proofs.lists.Members.{IsIn, is_in, contains_from_in}
 use Rattle.integers.proofs.lists.Pieces.{in_append, in_map, map_in}
 use Rattle.periodic_net.specs.Graph.{Graph, Vertex}
 use Rattle.coordination.specs.Boxes.{IsBoxOf, IsInside, place_in, spot_in}
-use Rattle.coordination.specs.BoxSearches.{IsFound}
+use Rattle.coordination.specs.BoxSearches.{AreFoundAndMarked}
 use Rattle.coordination.specs.Marks.{all_marks, all_spots, is_marked}
 use Rattle.coordination.specs.declared.net_box.NetBox.{NetBox}
 use Rattle.coordination.specs.declared.spot.Spot.{Spot}
@@ -23,8 +23,8 @@ module _ (P : Graph) (b : NetBox) (q : IsBoxOf P b) where
   spot_inside x marks e i = subst (λ n. place_in P.vertices b.extent x < n) (sym (e ∙ q.size)) (place_below P.vertices b.extent x i)
 
   -- one vertex more
-  pub found_more : (vertices : List Vertex) (marks : List Bool) (found : List Spot) (x : Vertex) → IsFound P b vertices marks found → IsInside P.vertices b.extent x
-      → IsFound P b (vertices ++ x ∷ []) (set marks (spot x).at true) (found ++ spot x ∷ [])
+  pub found_more : (vertices : List Vertex) (marks : List Bool) (found : List Spot) (x : Vertex) → AreFoundAndMarked P b vertices marks found → IsInside P.vertices b.extent x
+      → AreFoundAndMarked P b (vertices ++ x ∷ []) (set marks (spot x).at true) (found ++ spot x ∷ [])
   found_more vertices marks found x h i = record {
     size = length-set marks (spot x).at true ∙ h.size;
     inside = λ y c. inside y (in_append vertices (x ∷ []) y (is_in (vertices ++ x ∷ []) y c));
@@ -37,7 +37,7 @@ module _ (P : Graph) (b : NetBox) (q : IsBoxOf P b) where
       inside y (inr (inl e)) = subst (IsInside P.vertices b.extent) e i
       inside y (inr (inr j)) = absurd j
 
-  module _ (vertices : List Vertex) (marks : List Bool) (found : List Spot) (h : IsFound P b vertices marks found) (x : Vertex) (i : IsInside P.vertices b.extent x) where
+  module _ (vertices : List Vertex) (marks : List Bool) (found : List Spot) (h : AreFoundAndMarked P b vertices marks found) (x : Vertex) (i : IsInside P.vertices b.extent x) where
     -- a vertex that is marked was found
     was_found : is_marked marks (spot x).at ≡ true → IsIn vertices x
     was_found m =
@@ -58,10 +58,10 @@ module _ (P : Graph) (b : NetBox) (q : IsBoxOf P b) where
     pub vertices' : List Vertex
     pub next' : List Vertex
     pub grows : Grows xs vertices next vertices' next'
-    pub is_found : IsFound P b vertices' marks found
+    pub is_found : AreFoundAndMarked P b vertices' marks found
 
   -- all of some vertices are marked
-  pub mark_all : (xs vertices next : List Vertex) (marks : List Bool) (found : List Spot) → IsFound P b vertices marks found → ((x : Vertex) → IsIn xs x → IsInside P.vertices b.extent x)
+  pub mark_all : (xs vertices next : List Vertex) (marks : List Bool) (found : List Spot) → AreFoundAndMarked P b vertices marks found → ((x : Vertex) → IsIn xs x → IsInside P.vertices b.extent x)
       → Marked xs vertices next (all_marks marks (map spot xs)) (all_spots marks found (map spot xs))
   mark_all [] vertices next marks found h i = record { vertices' = vertices; next' = next; grows = grows_none vertices next; is_found = h }
   mark_all (x ∷ xs) vertices next marks found h i =

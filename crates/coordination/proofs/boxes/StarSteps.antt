@@ -1,5 +1,6 @@
 -- The steps from a vertex, edge by edge.
 use Rattle.std.proofs.Common.{◌≡◌, ◌≢◌, ◌⊎◌, inl, inr, ℕ, suc, ◌+◌, ◌-◌, ◌<◌, ◌≤◌, ℤ, pos, neg_ℤ, ◌+ℤ◌, ◌-ℤ◌, ◌*ℤ◌, List, [], ◌∷◌, ◌++◌, length, get_or, set, map, replicate, drop, Vec, Global, Bool, true, false, cond, refl, sym, ap, subst, ◌∙◌, arith, append_assoc, append-nil, drop-cons}
+use Rattle.std.proofs.lemmas.Bool.{cases_eq}
 use Rattle.std.specs.Prelude.{◌==◌}
 use Rattle.std.specs.List.{filter}
 use Rattle.std.proofs.lemmas.Grind.{common_steps}
@@ -7,7 +8,7 @@ use Rattle.std.proofs.lemmas.List.{drop_all, get_or-map, get_or-replicate, get_o
 use Rattle.integers.specs.Vectors.{Vector}
 use Rattle.integers.proofs.numbers.Ring.{ring, linear}
 use Rattle.periodic_net.specs.Graph.{Graph, IsEdge, IsQuotientVertex, Arc, arc, both_ways, reverse_of}
-use Rattle.coordination.specs.Boxes.{AreStars, growth_of, side, step_of, steps_from, with_edge, with_step}
+use Rattle.coordination.specs.Boxes.{AreStepsFromVertices, growth_of, side, step_of, steps_from, with_edge, with_step}
 use Rattle.coordination.specs.declared.extent.Extent.{Extent}
 use Rattle.coordination.specs.declared.spot.Step.{Step}
 
@@ -61,13 +62,9 @@ module _ (n : ℕ) (r : Extent) (u : ℕ) where
           let here : e ≡ get_or es i e = subst (λ (fs : List Arc). e ≡ get_or fs i e) same s in
           drop-cons es i e (subst (λ (fs : List Arc). i < length fs) same l) ∙ ap (λ (j : ℕ). get_or es i e ∷ drop j es) one ∙ ap (λ (f : Arc). f ∷ drop (i + 1) es) (sym here)
 
--- two numbers are one, or differ
-same_or_not : (u c : ℕ) → (u ≡ c) ⊎ (u ≢ c)
-same_or_not u c = grind arith
-
 -- the list of vertex c once a step was put last in that of u
 step_at : (stars : List (List Step)) (u c : ℕ) (t : Step) → 1 ≤ u → u ≤ length stars → 1 ≤ c → get_or (with_step stars u t) (c - 1) [] ≡ star_with (get_or stars (c - 1) []) (u == c) t
-step_at stars u c t l h k = by (same_or_not u c)
+step_at stars u c t l h k = by (cases_eq u c)
   where
     inside : u - 1 < length stars
     inside = omega (arith, l, h)
@@ -83,13 +80,13 @@ step_at stars u c t l h k = by (same_or_not u c)
         get_or-set_other stars (u - 1) (c - 1) _ [] other ∙ ap (λ b. star_with (get_or stars (c - 1) []) b t) (sym no)
 
 -- a list for each vertex, to which the steps along these edges are still to be put
-pub record AreStarsBut (P : Graph) (r : Extent) (rest : List Arc) (stars : List (List Step)) : Type 0 where
+pub record AreStepsBut (P : Graph) (r : Extent) (rest : List Arc) (stars : List (List Step)) : Type 0 where
   pub count : length stars ≡ P.vertices
   pub each : (c : ℕ) → IsQuotientVertex P c → get_or stars (c - 1) [] ++ steps_from P.vertices r c rest ≡ steps_from P.vertices r c P.edges
 
 module _ (P : Graph) (r : Extent) where
   -- lists without steps
-  pub stars_start : (stars : List (List Step)) → stars ≡ replicate P.vertices [] → AreStarsBut P r P.edges stars
+  pub stars_start : (stars : List (List Step)) → stars ≡ replicate P.vertices [] → AreStepsBut P r P.edges stars
   stars_start stars e = record {
     count = ap length e ∙ length-replicate P.vertices [];
     each = λ c i.
@@ -98,9 +95,9 @@ module _ (P : Graph) (r : Extent) where
         ∙ ap (λ (ts : List Step). ts ++ steps_from P.vertices r c P.edges) (get_or-replicate P.vertices (c - 1) [] [] inside);
   }
 
-  module _ (items : List Arc) (same : items ≡ P.edges) (i : ℕ) (stars : List (List Step)) (h : AreStarsBut P r (drop i P.edges) stars) where
+  module _ (items : List Arc) (same : items ≡ P.edges) (i : ℕ) (stars : List (List Step)) (h : AreStepsBut P r (drop i P.edges) stars) where
     -- a turn of the loop
-    pub stars_turn : (e : Arc) → i < length items → e ≡ get_or items i e → IsEdge P e → AreStarsBut P r (drop (i + 1) P.edges) (with_edge stars P.vertices r e)
+    pub stars_turn : (e : Arc) → i < length items → e ≡ get_or items i e → IsEdge P e → AreStepsBut P r (drop (i + 1) P.edges) (with_edge stars P.vertices r e)
     stars_turn e l is edge = record {
       count = length-set once (e.to - 1) (get_or once (e.to - 1) [] ++ step_of P.vertices r (reverse_of e) ∷ []) ∙ length_once ∙ h.count;
       each = λ c q. star_more P.vertices r c P.edges items i (get_or stars (c - 1) []) (get_or (with_edge stars P.vertices r e) (c - 1) []) (steps_from P.vertices r c P.edges) e same l is (twice c q) (h.each c q);
@@ -118,10 +115,10 @@ module _ (P : Graph) (r : Extent) where
             ∙ ap (λ (ts : List Step). star_with ts (e.to == c) (step_of P.vertices r (reverse_of e))) (step_at stars e.from c (step_of P.vertices r e) edge.from.0 (omega (arith, h.count, edge.from.1)) q.0)
 
     -- all edges were passed
-    pub stars_end : length items ≤ i → AreStars P r P.vertices stars
+    pub stars_end : length items ≤ i → AreStepsFromVertices P r stars
     stars_end l = record {
       count = h.count;
-      each = λ c q m.
+      each = λ c q.
           sym (append-nil (get_or stars (c - 1) []))
           ∙ ap (λ (es : List Arc). get_or stars (c - 1) [] ++ steps_from P.vertices r c es) (sym (drop_all i P.edges (subst (λ (es : List Arc). length es ≤ i) same l)))
           ∙ h.each c q;

@@ -4,7 +4,7 @@ use Rattle.integers.specs.Vectors.{Vector, zero_vector, plus, opposite}
 use Rattle.integers.proofs.vectors.Laws.{opposite_dimension, plus_opposite, zero_plus}
 use Rattle.periodic_net.specs.Classes.{IsClassNumbering}
 use Rattle.periodic_net.specs.Graph.{IsGraph, IsQuotientVertex, Vertex, vertex, moved, IsVertex}
-use Rattle.periodic_net.proofs.CallerLemmas.{one_placement}
+use Rattle.periodic_net.proofs.CallerLemmas.{iso_matching, one_placement}
 use Rattle.quotient_graph.specs.NetClasses.{NetClasses, AreClasses, class_at}
 use Rattle.primitive_cell.specs.DividedNets.{DividedNet}
 use Rattle.cell_theory.specs.Laws.{IsDivided}
@@ -12,7 +12,7 @@ use Rattle.cell_theory.proofs.CallerLemmas.{class_iso, primitive_is_divided}
 use Rattle.coordination.specs.BoxSearches.{AreListsOf}
 use Rattle.coordination.specs.Cells.{HasCell}
 use Rattle.coordination.specs.Sequences.{AreShellsOf, AreSequencesOf}
-use Rattle.coordination.proofs.classes.Matchings.{iso_matching, move_matching, sizes_back}
+use Rattle.coordination.proofs.classes.Matchings.{move_matching, sizes_back}
 use Rattle.coordination.proofs.classes.OneNumbering.{one_numbering}
 
 -- a cell, moved back by itself

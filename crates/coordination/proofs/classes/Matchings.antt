@@ -5,38 +5,13 @@ use Rattle.integers.specs.Vectors.{Vector, opposite, HasDimension}
 use Rattle.integers.proofs.lists.Members.{IsIn, AreApart, is_in, contains_from_in, apart_from_pairs, pairs_from_apart}
 use Rattle.integers.proofs.lists.Pieces.{in_map, map_in}
 use Rattle.integers.proofs.vectors.Laws.{opposite_plus, plus_opposite, opposite_dimension}
-use Rattle.periodic_net.specs.Graph.{Graph, IsGraph, Vertex, vertex, moved, IsVertex, AreJoined, IsWalk}
-use Rattle.periodic_net.specs.Maps.{Iso}
+use Rattle.periodic_net.specs.Graph.{Graph, IsGraph, Vertex, vertex, moved, IsVertex}
 use Rattle.periodic_net.specs.Shells.{StepsLead, IsInShell, IsShellSize}
-use Rattle.periodic_net.proofs.CallerLemmas.{joined_inside, joined_moved, moved_vertex}
+use Rattle.periodic_net.proofs.CallerLemmas.{IsMatching, joined_moved, matching_turned, moved_vertex, walk_there}
 use Rattle.coordination.specs.Sequences.{AreShellsOf, IsShellPast, most_shells}
 use Rattle.coordination.proofs.points.Sizes.{walk_inside}
 
--- these maps carry the vertices of G to those of H, and back, and joined ones to joined ones
-pub record IsMatching (G H : Graph) (there back : Vertex → Vertex) : Type 0 where
-  pub into : (w : Vertex) → IsVertex G w → IsVertex H (there w)
-  pub onto : (x : Vertex) → IsVertex H x → IsVertex G (back x)
-  pub back_there : (w : Vertex) → IsVertex G w → back (there w) ≡ w
-  pub there_back : (x : Vertex) → IsVertex H x → there (back x) ≡ x
-  pub there_joins : (w x : Vertex) → IsVertex G w → IsVertex G x → AreJoined G w x → AreJoined H (there w) (there x)
-  pub back_joins : (w x : Vertex) → IsVertex H w → IsVertex H x → AreJoined H w x → AreJoined G (back w) (back x)
-
--- the other way
-turned : (G H : Graph) (there back : Vertex → Vertex) → IsMatching G H there back → IsMatching H G back there
-turned G H there back m = record { into = m.onto; onto = m.into; back_there = m.there_back; there_back = m.back_there; there_joins = m.back_joins; back_joins = m.there_joins }
-
--- an isomorphism is one
-pub iso_matching : (G H : Graph) (e : Iso G H) → IsMatching G H e.there e.back
-iso_matching G H e = record {
-  into = e.there_period.2.into;
-  onto = e.back_period.2.into;
-  back_there = e.back_there;
-  there_back = e.there_back;
-  there_joins = e.there_joins;
-  back_joins = e.back_joins;
-}
-
--- and so is a move by whole cells
+-- a move by whole cells, and back, are such maps
 pub move_matching : (G : Graph) (k : Vector) → HasDimension G.dimension k → IsMatching G G (λ w. moved w k) (λ w. moved w (opposite k))
 move_matching G k d = record {
   into = λ w i. moved_vertex G w k i d;
@@ -47,21 +22,14 @@ move_matching G k d = record {
   back_joins = λ w x i j h. subst (λ (t : Type 0). t) (sym (joined_moved G w x (opposite k))) h;
 }
 
--- a walk is carried
-walk_carried : (G H : Graph) → IsGraph G → (there back : Vertex → Vertex) → IsMatching G H there back → (vs : List Vertex) (w x : Vertex) → IsVertex G w → IsWalk G w vs x → IsWalk H (there w) (map there vs) (there x)
-walk_carried G H g there back m [] w x i k = ap there k
-walk_carried G H g there back m (v ∷ vs) w x i k =
-    let j = joined_inside G g w v i k.0 in
-    (m.there_joins w v i j k.0, walk_carried G H g there back m vs v x j k.1)
-
--- and so are steps
+-- steps are carried
 steps_carried : (G H : Graph) → IsGraph G → (there back : Vertex → Vertex) → IsMatching G H there back → (k : ℕ) (w x : Vertex) → IsVertex G w → StepsLead G k w x → StepsLead H k (there w) (there x)
-steps_carried G H g there back m k w x i l = (map there l.0, length-map l.0 there ∙ l.1, walk_carried G H g there back m l.0 w x i l.2)
+steps_carried G H g there back m k w x i l = (map there l.0, length-map l.0 there ∙ l.1, walk_there G H g there back m l.0 w x i l.2)
 
 module _ (G H : Graph) (g : IsGraph G) (h : IsGraph H) (there back : Vertex → Vertex) (m : IsMatching G H there back) (w : Vertex) (i : IsVertex G w) where
   -- steps from the image are carried back
   steps_back : (k : ℕ) (x : Vertex) → StepsLead H k (there w) x → StepsLead G k w (back x)
-  steps_back k x l = subst (λ (v : Vertex). StepsLead G k v (back x)) (m.back_there w i) (steps_carried H G h back there (turned G H there back m) k (there w) x (m.into w i) l)
+  steps_back k x l = subst (λ (v : Vertex). StepsLead G k v (back x)) (m.back_there w i) (steps_carried H G h back there (matching_turned G H there back m) k (there w) x (m.into w i) l)
 
   -- a vertex of a shell of the image comes from one of the shell
   shell_back : (k : ℕ) (x : Vertex) → IsInShell H (there w) k x → IsInShell G w k (back x)

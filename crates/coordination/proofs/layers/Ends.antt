@@ -1,19 +1,14 @@
 -- The vertices to which the arcs from a vertex lead.
-use Rattle.std.proofs.Common.{◌≡◌, List, map, refl, ap, subst}
+use Rattle.std.proofs.Common.{List, map, refl, subst}
 use Rattle.integers.proofs.lists.Members.{IsIn}
 use Rattle.integers.proofs.lists.Pieces.{in_map, map_in}
-use Rattle.integers.proofs.vectors.Laws.{plus_minus}
-use Rattle.periodic_net.specs.Graph.{Graph, Vertex, vertex, AreJoined, arcs_from}
-use Rattle.periodic_net.proofs.CallerLemmas.{arc_between, arc_is_from, end_joined, end_of, from_is_arc}
+use Rattle.periodic_net.specs.Graph.{Graph, Vertex, AreJoined, arcs_from}
+use Rattle.periodic_net.proofs.CallerLemmas.{arc_between, arc_is_from, end_between, end_joined, end_of, from_is_arc}
 use Rattle.coordination.proofs.layers.Existence.{AreNeighbours}
 
 -- the ends of the arcs from x
 abbrev pub ends : Graph → Vertex → List Vertex
 ends P x = map (end_of x) (arcs_from P x.over)
-
--- the arc from x to y ends at y
-end_between : (x y : Vertex) → end_of x (arc_between x y) ≡ y
-end_between x y = ap (vertex y.over) (plus_minus x.cell y.cell)
 
 -- these are all that x is joined to
 pub vertices_around : (P : Graph) → AreNeighbours (AreJoined P) (ends P)

@@ -1,14 +1,9 @@
 -- The next shell has the new neighbours of a shell.
-use Rattle.std.proofs.Common.{◌≡◌, ◌⊎◌, inl, inr, ℕ, suc, ◌+◌, ◌<◌, ◌≤◌, List, [], ◌∷◌, ◌++◌, length, refl, sym, ap, subst, ◌∙◌, arith, length-append}
+use Rattle.std.proofs.Common.{◌≡◌, ◌⊎◌, inl, inr, ℕ, suc, ◌+◌, ◌<◌, ◌≤◌, List, [], ◌∷◌, ◌++◌, length, refl, ap, subst, ◌∙◌, arith, length-append}
 use Rattle.periodic_net.specs.Graph.{Graph, Vertex, AreJoined, IsWalk}
 use Rattle.periodic_net.specs.Shells.{StepsLead, IsInShell}
-use Rattle.periodic_net.proofs.CallerLemmas.{joined_turned}
+use Rattle.periodic_net.proofs.CallerLemmas.{joined_turned, walks_joined}
 use Rattle.coordination.specs.Laws.{IsNewNeighbour}
-
--- walks follow one another
-walks_joined : (G : Graph) (w x y : Vertex) (us vs : List Vertex) → IsWalk G w us x → IsWalk G x vs y → IsWalk G w (us ++ vs) y
-walks_joined G w x y [] vs h k = subst (λ (a : Vertex). IsWalk G a vs y) (sym h) k
-walks_joined G w x y (u ∷ us) vs h k = (h.0, walks_joined G u x y us vs h.1 k)
 
 module _ (G : Graph) (w : Vertex) where
   -- one step more

@@ -1,12 +1,12 @@
 -- The classes and the places of the points of shells.
-use Rattle.std.proofs.Common.{◌≡◌, ℕ, zero, suc, ◌+◌, ◌*◌, ◌<◌, ◌≤◌, List, sym, subst, arith}
+use Rattle.std.proofs.Common.{◌≡◌, ℕ, zero, suc, ◌+◌, ◌*◌, ◌<◌, List, sym, subst, arith}
 use Rattle.std.specs.List.{All}
 use Rattle.std.specs.Prelude.{◌==◌}
-use Rattle.integers.specs.Vectors.{Vector, IsWithin, plus}
+use Rattle.integers.specs.Vectors.{Vector, IsWithin}
 use Rattle.integers.proofs.lists.Filters.{in_filter}
 use Rattle.integers.proofs.lists.Members.{contains_from_in}
 use Rattle.integers.proofs.lists.Pieces.{all_from_in}
-use Rattle.integers.proofs.vectors.Bounds.{bounded_sum}
+use Rattle.integers.proofs.vectors.Bounds.{bounded_plus, wider}
 use Rattle.periodic_net.specs.Classes.{ClassGraph, ClassArc}
 use Rattle.periodic_net.specs.Correspondence.{IsClass}
 use Rattle.periodic_net.specs.Limits.{most_coordinate}
@@ -16,14 +16,6 @@ use Rattle.coordination.specs.Sequences.{most_shells}
 use Rattle.coordination.specs.declared.point.Point.{Point}
 use Rattle.coordination.proofs.layers.StepShells.{Leads, AreLayers}
 use Rattle.coordination.proofs.points.Starts.{start_at}
-
--- a sum of bounded vectors
-within_plus : (m n : ℕ) (v w : Vector) → IsWithin m v → IsWithin n w → IsWithin (m + n) (plus v w)
-within_plus m n v w h k = (bounded_sum v.x w.x m n h.0 k.0, bounded_sum v.y w.y m n h.1 k.1, bounded_sum v.z w.z m n h.2 k.2)
-
--- what is within a bound is within a greater one
-wider : (m n : ℕ) → m ≤ n → (v : Vector) → IsWithin m v → IsWithin n v
-wider m n l v w = ((let a = w.0 in omega arith), (let a = w.1 in omega arith), (let a = w.2 in omega arith))
 
 module _ (K : ClassGraph) (s : IsSmallNet K) where
   -- the vectors of the arcs from a class are within the limit
@@ -45,7 +37,7 @@ module _ (K : ClassGraph) (s : IsSmallNet K) where
   leads_near zero m p q i l = wider m (m + 0 * most_coordinate) (omega arith) (place_of q) (subst (λ (r : Point). IsWithin m (place_of r)) l i)
   leads_near (suc k) m p q i l =
       let t = l.1 in
-      let first = within_plus m most_coordinate (place_of p) t.arc.vector i (s.within t.arc t.is_arc) in
+      let first = bounded_plus (place_of p) t.arc.vector m most_coordinate i (s.within t.arc t.is_arc) in
       let rest = leads_near k (m + most_coordinate) l.0 q (subst (λ (r : Point). IsWithin (m + most_coordinate) (place_of r)) t.onto first) l.2 in
       wider ((m + most_coordinate) + k * most_coordinate) (m + suc k * most_coordinate) (omega arith) (place_of q) rest
 

@@ -2,7 +2,7 @@ use Rattle.std.proofs.Common.{◌≡◌, ◌+◌, ◌<◌, List, drop, get_or, l
 use Rattle.periodic_net.specs.Graph.{Arc, IsEdge}
 use Rattle.primitive_cell.specs.DividedNets.{DividedNet}
 use Rattle.coordination.specs.Boxes.{with_edge}
-use Rattle.coordination.proofs.boxes.StarSteps.{AreStarsBut, stars_start, stars_turn, stars_end}
+use Rattle.coordination.proofs.boxes.StarSteps.{AreStepsBut, stars_start, stars_turn, stars_end}
 use Rattle.coordination.proofs.net_box.push_edges.Goals as goal
 
 pub loop-edge-init : goal.loop-edge-init
@@ -19,7 +19,7 @@ loop-edge-preserved g c =
     let edge = subst (IsEdge P) (sym here) (c.requires.graph.edges i e (subst (λ (es : List Arc). i < length es) same c.loop-edge-test.true)) in
     let turn = stars_turn P c.args.extent items same i (map (λ star. star.items) c.loop-edge.stars) c.loop-edge.invariant e c.loop-edge-test.true c.edge-item.is edge in
     let put = subst (λ (n : DividedNet). map (λ star. star.items) c.push_edge.new.stars ≡ with_edge (map (λ star. star.items) c.loop-edge.stars) n.graph.vertices c.args.extent e) c.cell.view_is c.in_ok-push_edge.ensures in
-    subst (AreStarsBut P c.args.extent (drop (i + 1) P.edges)) (sym put) turn
+    subst (AreStepsBut P c.args.extent (drop (i + 1) P.edges)) (sym put) turn
 
 pub returns : goal.returns
 returns g c =

@@ -1,12 +1,12 @@
 use Rattle.std.proofs.Common.{rules, to_z, of_z, ◌≡◌, ◌^◌, lit<, ap, sym, subst, arith}
 use Rattle.std.specs.Int.{w128}
 use Rattle.integers.specs.Vectors.{minus, plus, times, IsWithin}
+use Rattle.integers.proofs.vectors.Bounds.{wider}
 use Rattle.periodic_net.specs.Graph.{Arc, IsQuotientVertex}
 use Rattle.periodic_net.specs.Limits.{most_shift, most_units}
 use Rattle.periodic_net.specs.Placement.{arc_vector}
 use Rattle.periodic_net.proofs.CallerLemmas.{arc_inside}
 use Rattle.quotient_graph.proofs.StarArcs.{arc_within}
-use Rattle.quotient_graph.proofs.Fitting.{within_more}
 use Rattle.quotient_graph.proofs.placed.Placed.vector.Goals as goal
 
 pub at-from-requires : goal.at-from-requires
@@ -30,7 +30,7 @@ vector_between-requires g c =
     let d = to_z w128 (of_z w128 c.d0.result) in
     let same : minus (plus c.at-to.result (times d s)) c.at-from.result ≡ arc_vector P arc = search rules in
     let vector : IsWithin (2 ^ 61) (minus (plus c.at-to.result (times d s)) c.at-from.result) =
-    subst (IsWithin (2 ^ 61)) (sym same) (within_more most_units (2 ^ 61) (arc_vector P arc) (omega arith) (c.graph.ensures.limits.arcs arc c.requires)) in
+    subst (IsWithin (2 ^ 61)) (sym same) (wider most_units (2 ^ 61) (omega arith) (arc_vector P arc) (c.graph.ensures.limits.arcs arc c.requires)) in
     let shift : IsWithin most_shift s = subst (IsWithin most_shift) (sym (ap (λ (a : Arc). a.shift) c.arc.view_is)) (arc_within G c.graph.ensures.small arc c.requires) in
     (lit< tt, (lit< tt, (search rules, (shift, vector))))
 

@@ -3,7 +3,7 @@ use Rattle.std.specs.List.{All}
 use Rattle.cgd_read.specs.Lines.{token_lines}
 use Rattle.cgd_read.specs.Blocks.{blocks_from, blocks_of, IsReadBody}
 use Rattle.cgd_read.specs.Views.{views}
-use Rattle.cgd_read.proofs.read.read_blocks.Given as goal
+use Rattle.cgd_read.proofs.read.blocks.Given as goal
 
 abbrev pub invariant-loop-line : goal.invariant-loop-line
 invariant-loop-line l = record {
