@@ -56,10 +56,8 @@ fn push_group_names(text: &mut Vec<u8>, entries: &[Entry], group: &[u32]) -> Res
     ensures { OnOk result (text.new.items ≡
         text.old.items ++ group_names (entry_views entries.now) group.now) }
 {
-    let mut left = group;
-    while let [number, others @ ..] = left {
+    for number in group {
         push_quoted(text, name_at(entries, *number))?;
-        left = others;
     }
     Ok(())
 }
@@ -77,10 +75,8 @@ fn push_groups(text: &mut Vec<u8>, entries: &[Entry], groups: &[Vec<u32>]) -> Re
     ensures { OnOk result (text.new.items ≡
         text.old.items ++ group_lines (entry_views entries.now) (numbers_in groups.now)) }
 {
-    let mut left = groups;
-    while let [group, others @ ..] = left {
+    for group in groups {
         push_group(text, entries, group)?;
-        left = others;
     }
     Ok(())
 }

@@ -35,7 +35,7 @@ fn push_lists(text: &mut Vec<u8>, kept: &[i128], computed: &[i128]) -> Result<()
 }
 
 // The sizes of shells as wide numbers.
-fn wide(alloc: Global, sizes: &[u32]) -> Result<Vec<i128>, NoMemory>
+fn wide_sizes(alloc: Global, sizes: &[u32]) -> Result<Vec<i128>, NoMemory>
     ensures { IfOk result (λ numbers. numbers.items ≡ map pos sizes.now) }
 {
     let mut numbers = Vec::with_capacity(alloc, sizes.len())?;
@@ -63,7 +63,11 @@ fn push_sizes(
     ensures { OnOk result (text.new.items ≡
         text.old.items ++ lists_text (map pos kept.now) (map pos computed.now)) }
 {
-    push_lists(text, &wide(alloc, kept)?, &wide(alloc, computed)?)
+    push_lists(
+        text,
+        &wide_sizes(alloc, kept)?,
+        &wide_sizes(alloc, computed)?,
+    )
 }
 
 fn fault_name(fault: &ArchiveFault) -> &'static [u8]

@@ -8,7 +8,7 @@ use Rattle.archive_text.specs.declared.version.Version.TheVariants.{One, Two}
 use Rattle.archive_text.specs.Names.{is_name}
 use Rattle.archive_text.specs.Rows.{row_lines, name_row, count_row, end_row}
 use Rattle.archive_text.specs.Forms.{IsSize, IsKeyList, IsCount}
-use Rattle.archive_text.specs.Parts.{Named, Drawn, Keyed, Counted, end_part, part_rows, IsKeyed}
+use Rattle.archive_text.specs.Parts.{Named, Drawn, Keyed, Counted, end_part, part_rows, HasEdgesAndKey}
 use Rattle.archive_text.specs.Reading.{NoSize, NoKey, NoCount, HasEdges, HasBadEdge, HasShells, HasBadShells, HasBadLine, HasWhole, IsOf}
 use Rattle.archive_text.proofs.RowSums.{heads, drawn_same, counted_same}
 use Rattle.archive_text.proofs.Following.{after_name, after_edges, after_all_edges, after_key, after_shells, before_end}
@@ -47,14 +47,14 @@ bad_key v text rows name s edges place n is sized has number none = record {
 }
 
 -- the graph and the key, after their rows
-pub is_keyed : (text : List ℕ) (rows : List (List ℕ)) (name : List ℕ) (s : GraphSize) (edges : List Arc) (key : List ℤ) (place : Place) → is_name name ≡ true → IsSize s → HasEdges text rows s edges place → IsKeyList key → IsKeyed name s edges key
+pub is_keyed : (text : List ℕ) (rows : List (List ℕ)) (name : List ℕ) (s : GraphSize) (edges : List Arc) (key : List ℤ) (place : Place) → is_name name ≡ true → IsSize s → HasEdges text rows s edges place → IsKeyList key → HasEdgesAndKey name s edges key
 is_keyed text rows name s edges key place is sized has is_key = record {
   drawn = record { is_name = is; is_size = sized; each = has.each; rising = has.rising; few = omega (arith, has.whole) };
   whole = has.whole;
   is_key = is_key;
 }
 
-pub bad_count : (text : List ℕ) (rows : List (List ℕ)) (name : List ℕ) (s : GraphSize) (edges : List Arc) (key : List ℤ) (place : Place) (n : ℕ) → IsKeyed name s edges key → IsAt text (rows ++ row_lines (part_rows (Keyed name s edges key))) place → n ≡ place.number → NoCount place.rest → HasBadLine Two text rows name n
+pub bad_count : (text : List ℕ) (rows : List (List ℕ)) (name : List ℕ) (s : GraphSize) (edges : List Arc) (key : List ℤ) (place : Place) (n : ℕ) → HasEdgesAndKey name s edges key → IsAt text (rows ++ row_lines (part_rows (Keyed name s edges key))) place → n ≡ place.number → NoCount place.rest → HasBadLine Two text rows name n
 bad_count text rows name s edges key place n keyed at number none = record {
   part = Keyed name s edges key;
   place = place;
@@ -69,7 +69,7 @@ bad_count text rows name s edges key place n keyed at number none = record {
 abbrev pub counted_heads : List (List ℕ) → List ℕ → GraphSize → List Arc → List ℤ → ℕ → List (List ℕ)
 counted_heads rows name s edges key n = (rows ++ row_lines (part_rows (Keyed name s edges key))) ++ count_row n ∷ []
 
-pub bad_shells : (text : List ℕ) (rows : List (List ℕ)) (name : List ℕ) (s : GraphSize) (edges : List Arc) (key : List ℤ) (n line : ℕ) → IsKeyed name s edges key → IsCount n → HasBadShells text (counted_heads rows name s edges key n) n line → HasBadLine Two text rows name line
+pub bad_shells : (text : List ℕ) (rows : List (List ℕ)) (name : List ℕ) (s : GraphSize) (edges : List Arc) (key : List ℤ) (n line : ℕ) → HasEdgesAndKey name s edges key → IsCount n → HasBadShells text (counted_heads rows name s edges key n) n line → HasBadLine Two text rows name line
 bad_shells text rows name s edges key n line keyed count bad = record {
   part = Counted name s edges key n bad.lists;
   place = bad.place;
@@ -80,7 +80,7 @@ bad_shells text rows name s edges key n line keyed count bad = record {
   none = after_shells Two name s edges key n bad.lists bad.place.rest bad.few bad.none;
 }
 
-pub whole_shells : (text : List ℕ) (rows : List (List ℕ)) (name : List ℕ) (s : GraphSize) (edges : List Arc) (key : List ℤ) (n : ℕ) (lists : List (List ℕ)) (place : Place) → IsKeyed name s edges key → IsCount n → HasShells text (counted_heads rows name s edges key n) n lists place
+pub whole_shells : (text : List ℕ) (rows : List (List ℕ)) (name : List ℕ) (s : GraphSize) (edges : List Arc) (key : List ℤ) (n : ℕ) (lists : List (List ℕ)) (place : Place) → HasEdgesAndKey name s edges key → IsCount n → HasShells text (counted_heads rows name s edges key n) n lists place
     → HasWhole Two text rows (end_part Two name s edges key lists) place
 whole_shells text rows name s edges key n lists place keyed count has = subst (λ m. HasWhole Two text rows (Counted name s edges key m lists) place) (sym has.whole) (record {
   at = subst (λ l. IsAt text l place) (counted_same rows name s edges key n lists) has.at;

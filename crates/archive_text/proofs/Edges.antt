@@ -10,6 +10,7 @@ use Rattle.std.proofs.lemmas.Cmp.{lists_total, int_cmp_total}
 use Rattle.std.proofs.Math.Seq.{get_or-append_seam}
 use Rattle.integers.specs.Vectors.{vector, IsBelow}
 use Rattle.periodic_net.specs.Graph.{Arc, arc, IsNormalSpelling}
+use Rattle.periodic_net.specs.Limits.{most_shift}
 use Rattle.quotient_graph.specs.Order.{arc_numbers, AreRising}
 
 -- an edge stands below another
@@ -53,12 +54,12 @@ last_below edges before e f is rising =
     below_before e (get_or (edges ++ f ∷ []) (length before) f) f (get_or (edges ++ f ∷ []) (length edges) f) (sym lower) (sym upper)
     (rising (length before) (length edges) f (omega (arith, one, two)) (omega (arith, three)))
 
-small_fits : (x : ℤ) → unsigned_abs x ≤ 500 → FitsSigned w32 x
+small_fits : (x : ℤ) → unsigned_abs x ≤ most_shift → FitsSigned w32 x
 small_fits (pos n) h = record { sfits = omega (arith, h) }
 small_fits (negsuc n) h = record { sfits = omega (arith, h) }
 
 -- a part of a shift is kept by 32 bits
-pub same_part : (x : ℤ) → unsigned_abs x ≤ 500 → to_z w32 (of_z w32 x) ≡ x
+pub same_part : (x : ℤ) → unsigned_abs x ≤ most_shift → to_z w32 (of_z w32 x) ≡ x
 same_part x h = to_z-of_z w32 x (small_fits x h)
 
 -- the normal spelling, of equal numbers

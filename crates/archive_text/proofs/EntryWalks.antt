@@ -12,7 +12,7 @@ use Rattle.archive_text.specs.declared.version.Version.{Version}
 use Rattle.archive_text.specs.declared.version.Version.TheVariants.{One, Two}
 use Rattle.archive_text.specs.Rows.{Row, OfEdge, OfKey, OfCount, OfEnd, size_of_graph}
 use Rattle.archive_text.specs.Forms.{IsEdgeOfSize, AreSizes}
-use Rattle.archive_text.specs.Parts.{Part, Start, Named, Drawn, Keyed, Counted, part_rows, shells_rows, drawn_rows, end_part, MayFollow, IsFormed, IsDrawn, IsKeyed}
+use Rattle.archive_text.specs.Parts.{Part, Start, Named, Drawn, Keyed, Counted, part_rows, shells_rows, drawn_rows, end_part, MayStandAfter, IsFormed, IsDrawn, HasEdgesAndKey}
 use Rattle.archive_text.specs.Texts.{whole_part, entry_rows}
 use Rattle.archive_text.proofs.Edges.{below_before}
 use Rattle.archive_text.proofs.Walks.{Walk, part_with}
@@ -55,7 +55,7 @@ shells_walk v name s edges key n c done (x ∷ xs) at all few =
 drawn_walk : (v : Version) (name : List ℕ) (s : GraphSize) (edges : List Arc) → IsDrawn name s edges → Walk v Start (drawn_rows name s edges) (Drawn name s edges)
 drawn_walk v name s edges is = (is.is_name, (is.is_size, edges_walk v name s [] edges is.each is.rising is.few))
 
-keyed_walk : (v : Version) (name : List ℕ) (s : GraphSize) (edges : List Arc) (key : List ℤ) (rest : List Row) (q : Part) → IsKeyed name s edges key → Walk v (Keyed name s edges key) rest q → Walk v Start (drawn_rows name s edges ++ OfKey key ∷ rest) q
+keyed_walk : (v : Version) (name : List ℕ) (s : GraphSize) (edges : List Arc) (key : List ℤ) (rest : List Row) (q : Part) → HasEdgesAndKey name s edges key → Walk v (Keyed name s edges key) rest q → Walk v Start (drawn_rows name s edges ++ OfKey key ∷ rest) q
 keyed_walk v name s edges key rest q is more = walk_on v Start (Drawn name s edges) q (drawn_rows name s edges) (OfKey key ∷ rest) (drawn_walk v name s edges is.drawn) ((is.whole, is.is_key), more)
 
 -- the rows of a part lead to it
@@ -72,7 +72,7 @@ part_walk One (Counted name s edges key n lists) formed = absurd (other formed.0
     other e = cc
 
 -- the end may follow a whole part
-pub end_follows : (v : Version) (name : List ℕ) (s : GraphSize) (edges : List Arc) (key : List ℤ) (lists : List (List ℕ)) → MayFollow v (end_part v name s edges key lists) OfEnd
+pub end_follows : (v : Version) (name : List ℕ) (s : GraphSize) (edges : List Arc) (key : List ℤ) (lists : List (List ℕ)) → MayStandAfter v (end_part v name s edges key lists) OfEnd
 end_follows One name s edges key lists = tt
 end_follows Two name s edges key lists = refl
 

@@ -5,6 +5,7 @@ use Rattle.std.specs.List.{list_all}
 use Rattle.std.proofs.lemmas.Bool.{ne_eqb, true≢false, and_parts}
 use Rattle.std.proofs.lemmas.List.Elements.{All-nil, All-cons, All-head, All-tail}
 use Rattle.periodic_net.specs.Graph.{Arc}
+use Rattle.periodic_net.specs.Limits.{most_shift}
 use Rattle.line_text.specs.Lines.{HasNo}
 use Rattle.line_text.specs.Numbers.{IsWide}
 use Rattle.line_text.proofs.CallerLemmas.{sum_has_no}
@@ -16,7 +17,7 @@ use Rattle.archive_text.specs.Forms.{IsSize, IsEdgeOfSize, IsCount, AreSizes, Is
 short_wide : (n : ℕ) → n < 2 ^ 32 → IsWide (pos n)
 short_wide n h = record { sfits = omega (arith, h) }
 
-part_wide : (x : ℤ) → unsigned_abs x ≤ 500 → IsWide x
+part_wide : (x : ℤ) → unsigned_abs x ≤ most_shift → IsWide x
 part_wide (pos n) h = record { sfits = omega (arith, h) }
 part_wide (negsuc n) h = record { sfits = omega (arith, h) }
 

@@ -7,7 +7,7 @@ use Rattle.archive_text.specs.declared.version.Version.{Version}
 use Rattle.archive_text.specs.declared.version.Version.TheVariants.{One, Two}
 use Rattle.archive_text.specs.Rows.{Row, OfName, OfSize, OfEdge, OfKey, OfCount, OfShells, OfEnd, row_line, edge_row, shells_row}
 use Rattle.archive_text.specs.Forms.{IsEdgeOfSize, IsCount, AreSizes}
-use Rattle.archive_text.specs.Parts.{Part, Start, Named, Drawn, Keyed, Counted, MayFollow, IsFormed}
+use Rattle.archive_text.specs.Parts.{Part, Start, Named, Drawn, Keyed, Counted, MayStandAfter, IsFormed}
 use Rattle.archive_text.proofs.Lists.{none_rises}
 use Rattle.archive_text.proofs.PlainRows.{name_none, size_none, edge_none, key_none, count_none, shells_none, end_none, same_name, same_size, same_edge, same_key, same_count, same_sizes}
 
@@ -28,10 +28,10 @@ part_with (Counted name s edges key n lists) row = Start
 -- from the one part these rows lead to the other
 abbrev pub Walk : Version → Part → List Row → Part → Type 0
 Walk v p [] q = p ≡ q
-Walk v p (r ∷ rs) q = MayFollow v p r × Walk v (part_with p r) rs q
+Walk v p (r ∷ rs) q = MayStandAfter v p r × Walk v (part_with p r) rs q
 
 -- a row that may follow makes a part of its form
-pub formed_with : (v : Version) (p : Part) (r : Row) → IsFormed v p → MayFollow v p r → IsFormed v (part_with p r)
+pub formed_with : (v : Version) (p : Part) (r : Row) → IsFormed v p → MayStandAfter v p r → IsFormed v (part_with p r)
 formed_with v Start (OfName name) formed may = may
 formed_with v Start row formed may = tt
 formed_with v (Named name) (OfSize s) formed may = record { is_name = formed; is_size = may; each = All-nil (IsEdgeOfSize s); rising = none_rises; few = omega arith }
@@ -64,7 +64,7 @@ class_counts : (c n k : ℕ) → c ≡ k + 1 → k < n → IsCount n → IsCount
 class_counts c n k is few count = (omega (arith, is), omega (arith, is, few, count.1))
 
 -- a row that may follow has no line feed
-pub row_none : (v : Version) (p : Part) (r : Row) → IsFormed v p → MayFollow v p r → HasNo 10 (row_line r)
+pub row_none : (v : Version) (p : Part) (r : Row) → IsFormed v p → MayStandAfter v p r → HasNo 10 (row_line r)
 row_none v Start (OfName name) formed may = name_none name may
 row_none v Start row formed may = absurd may
 row_none v (Named name) (OfSize s) formed may = size_none s may
@@ -80,7 +80,7 @@ row_none v (Counted name s edges key n lists) OfEnd formed may = end_none
 row_none v (Counted name s edges key n lists) row formed may = absurd may
 
 -- two rows that may follow and have the same bytes are one
-pub same_row_of : (v : Version) (p : Part) (r t : Row) → IsFormed v p → MayFollow v p r → MayFollow v p t → row_line r ≡ row_line t → r ≡ t
+pub same_row_of : (v : Version) (p : Part) (r t : Row) → IsFormed v p → MayStandAfter v p r → MayStandAfter v p t → row_line r ≡ row_line t → r ≡ t
 same_row_of v Start (OfName a) (OfName b) formed ha hb e = ap OfName (same_name a b e)
 same_row_of v Start (OfName a) t formed ha hb e = absurd hb
 same_row_of v Start r t formed ha hb e = absurd ha

@@ -1,5 +1,5 @@
 -- What may stand in a row.
-use Rattle.std.specs.Prelude.{◌≡◌, ◌⊎◌, ℕ, ℤ, ◌<◌, ◌≤◌, ◌^◌, ◌++◌, ◌∷◌, List, [], length, All}
+use Rattle.std.specs.Prelude.{◌≡◌, ◌⊎◌, ℕ, ℤ, ◌<◌, ◌≤◌, ◌^◌, ◌+◌, ◌*◌, ◌++◌, ◌∷◌, List, [], length, All}
 use Rattle.integers.specs.Vectors.{IsWithin}
 use Rattle.periodic_net.specs.Graph.{Arc, IsEdge}
 use Rattle.periodic_net.specs.Limits.{most_vertices, most_edges, most_shift}
@@ -25,9 +25,9 @@ pub record IsNextEdge (s : GraphSize) (edges : List Arc) (e : Arc) : Type 0 wher
   pub is_edge : IsEdgeOfSize s e
   pub rising : AreRising (edges ++ e ∷ [])
 
--- numbers of a key
+-- the numbers of a key, at most
 abbrev pub most_numbers : ℕ
-most_numbers = 20483
+most_numbers = 3 + 5 * most_edges
 
 -- one number or more, and no more than there may be, each of 128 bits
 pub record IsKeyList (key : List ℤ) : Type 0 where

@@ -76,16 +76,16 @@ FollowsShells n lists OfEnd = length lists ≡ n
 FollowsShells n lists row = ⊥
 
 -- the row may stand after this part of an entry
-abbrev pub MayFollow : Version → Part → Row → Type 0
-MayFollow v Start row = BeginsEntry row
-MayFollow v (Named name) row = FollowsName row
-MayFollow v (Drawn name s edges) row = FollowsEdges s edges row
-MayFollow v (Keyed name s edges key) row = FollowsKey v row
-MayFollow v (Counted name s edges key n lists) row = FollowsShells n lists row
+abbrev pub MayStandAfter : Version → Part → Row → Type 0
+MayStandAfter v Start row = BeginsEntry row
+MayStandAfter v (Named name) row = FollowsName row
+MayStandAfter v (Drawn name s edges) row = FollowsEdges s edges row
+MayStandAfter v (Keyed name s edges key) row = FollowsKey v row
+MayStandAfter v (Counted name s edges key n lists) row = FollowsShells n lists row
 
 -- no row that may stand after the part stands at the beginning of what is left
 abbrev pub NoneFollows : Version → Part → List ℕ → Type 0
-NoneFollows v part left = (row : Row) (rest : List ℕ) → MayFollow v part row → left ≡ row_line row ++ 10 ∷ rest → ⊥
+NoneFollows v part left = (row : Row) (rest : List ℕ) → MayStandAfter v part row → left ≡ row_line row ++ 10 ∷ rest → ⊥
 
 -- a name, a size, and edges of a graph of this size, in rising order and no more than it tells
 pub record IsDrawn (name : List ℕ) (s : GraphSize) (edges : List Arc) : Type 0 where
@@ -96,7 +96,7 @@ pub record IsDrawn (name : List ℕ) (s : GraphSize) (edges : List Arc) : Type 0
   pub few : length edges ≤ s.edges
 
 -- all edges, and a key
-pub record IsKeyed (name : List ℕ) (s : GraphSize) (edges : List Arc) (key : List ℤ) : Type 0 where
+pub record HasEdgesAndKey (name : List ℕ) (s : GraphSize) (edges : List Arc) (key : List ℤ) : Type 0 where
   pub drawn : IsDrawn name s edges
   pub whole : length edges ≡ s.edges
   pub is_key : IsKeyList key
@@ -112,5 +112,5 @@ abbrev pub IsFormed : Version → Part → Type 0
 IsFormed v Start = Unit {0}
 IsFormed v (Named name) = is_name name ≡ true
 IsFormed v (Drawn name s edges) = IsDrawn name s edges
-IsFormed v (Keyed name s edges key) = IsKeyed name s edges key
-IsFormed v (Counted name s edges key n lists) = (v ≡ Two) × IsKeyed name s edges key × IsCounted n lists
+IsFormed v (Keyed name s edges key) = HasEdgesAndKey name s edges key
+IsFormed v (Counted name s edges key n lists) = (v ≡ Two) × HasEdgesAndKey name s edges key × IsCounted n lists

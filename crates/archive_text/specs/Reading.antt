@@ -6,11 +6,12 @@ use Rattle.periodic_net.specs.Graph.{Arc}
 use Rattle.archive_text.specs.Names.{is_name}
 use Rattle.archive_text.specs.Rows.{name_row, size_row, edge_row, key_row, count_row, shells_row, end_row, OfEdge, row_lines}
 use Rattle.archive_text.specs.Forms.{IsSize, IsEdgeOfSize, IsNextEdge, IsKeyList, IsCount, AreSizes}
-use Rattle.archive_text.specs.Parts.{Part, Start, Named, Drawn, Keyed, Counted, end_part, part_rows, shells_rows, IsFormed, IsKeyed, NoneFollows}
+use Rattle.archive_text.specs.Parts.{Part, Start, Named, Drawn, Keyed, Counted, end_part, part_rows, shells_rows, IsFormed, HasEdgesAndKey, NoneFollows}
 use Rattle.archive_text.specs.declared.version.Version.{Version}
 use Rattle.archive_text.specs.declared.rest.KeyedGraph.{KeyedGraph}
 use Rattle.archive_text.specs.declared.rest.Form.{Form}
 use Rattle.archive_text.specs.declared.size.GraphSize.{GraphSize}
+use Rattle.archive_text.specs.Texts.{most_lines}
 use Rattle.cgd_read.specs.Graphs.{edge_of}
 use Rattle.cgd_read.specs.declared.block.RawEdge.{RawEdge}
 
@@ -118,9 +119,9 @@ keyed_part name k = Keyed name k.size (map edge_of k.edges.items) k.key
 -- these rows were read, and the number of the row of the key is told
 pub record HasKeyed (text : List ℕ) (rows : List (List ℕ)) (name : List ℕ) (place : Place) (k : KeyedGraph) : Type 0 where
   pub at : IsAt text (rows ++ row_lines (part_rows (keyed_part name k))) place
-  pub formed : IsKeyed name k.size (map edge_of k.edges.items) k.key
+  pub formed : HasEdgesAndKey name k.size (map edge_of k.edges.items) k.key
   pub line : k.key_line ≡ length rows + (length k.edges.items + 3)
-  pub within : k.key_line ≤ 16777217
+  pub within : k.key_line ≤ most_lines
 
 -- the rows of an entry before its end were read
 pub record HasWhole (v : Version) (text : List ℕ) (rows : List (List ℕ)) (part : Part) (place : Place) : Type 0 where
@@ -130,7 +131,7 @@ pub record HasWhole (v : Version) (text : List ℕ) (rows : List (List ℕ)) (pa
 -- after the key of an entry shells are read from the one place to the other, or a line is none that may follow
 abbrev pub AreShellsRead : {E : Type 0} → Version → Place → Place → Result (Result (List (List ℕ)) ℕ) E → Type 0
 AreShellsRead v before after result = (text : List ℕ) (rows : List (List ℕ)) (name : List ℕ) (s : GraphSize) (edges : List Arc) (key : List ℤ)
-    → IsKeyed name s edges key → IsAt text (rows ++ row_lines (part_rows (Keyed name s edges key))) before
+    → HasEdgesAndKey name s edges key → IsAt text (rows ++ row_lines (part_rows (Keyed name s edges key))) before
     → IfOk result (λ read. MatchResult read (λ lists. HasWhole v text rows (end_part v name s edges key lists) after) (HasBadLine v text rows name))
 
 -- what the rows of an entry before its end say
@@ -144,4 +145,4 @@ pub record HasForm (v : Version) (text : List ℕ) (rows : List (List ℕ)) (nam
   pub ends : before_end.rest ≡ end_row ++ 10 ∷ after.rest
   pub at_end : IsAt text ((rows ++ row_lines (part_rows (form_part v name f))) ++ end_row ∷ []) after
   pub line : f.keyed.key_line ≡ length rows + (length f.keyed.edges.items + 3)
-  pub within : f.keyed.key_line ≤ 16777217
+  pub within : f.keyed.key_line ≤ most_lines

@@ -1,5 +1,5 @@
 // What the numbers of an edge's row say.
-ghost use Rattle.std.specs.Prelude.{ℕ, ℤ, pos, unsigned_abs, ◌≡◌, ◌≢◌, ◌≤◌, List, [], ◌∷◌, ◌++◌, IfSome, Some, IsTrue};
+ghost use Rattle.std.specs.Prelude.{ℤ, pos, unsigned_abs, ◌≡◌, ◌≢◌, ◌≤◌, List, [], ◌∷◌, ◌++◌, IfSome, Some, IsTrue};
 ghost use Rattle.periodic_net.specs.Graph.{Arc};
 ghost use Rattle.periodic_net.specs.Limits.{most_shift};
 ghost use Rattle.quotient_graph.specs.Order.{AreRising};
@@ -12,6 +12,7 @@ ghost use Rattle.archive_text.specs.Reading.{IsLastOf};
 use crate::GraphSize;
 use crate::form::{between, comes_before, is_forward};
 use cgd_read::RawEdge;
+use periodic_net::MOST_SHIFT;
 
 // The part of a shift, where it is within the limits.
 fn part(n: i128) -> Option<i32>
@@ -19,7 +20,7 @@ fn part(n: i128) -> Option<i32>
     ensures within { IfSome result (λ x. unsigned_abs x ≤ most_shift) }
     ensures every { (x : ℤ) → unsigned_abs x ≤ most_shift → n ≡ x → result ≡ Some x }
 {
-    if n < -500 || n > 500 {
+    if n < -(MOST_SHIFT as i128) || n > MOST_SHIFT as i128 {
         None
     } else {
         Some(n as i32)
@@ -87,7 +88,6 @@ pub fn edge_from(size: &GraphSize, numbers: &[i128]) -> Option<RawEdge>
 }
 
 // Whether an edge may stand after the last one.
-
 fn may_follow(last: Option<RawEdge>, e: &RawEdge) -> bool
     ensures above { (edges : List Arc) → IsLastOf last edges → AreRising edges → IsTrue result →
         AreRising (edges ++ edge_of e.now ∷ []) }

@@ -1,5 +1,5 @@
 // Reads the edges of an entry.
-ghost use Rattle.std.specs.Prelude.{ℕ, List, map, ◌≡◌, IfOk, MatchResult};
+ghost use Rattle.std.specs.Prelude.{ℕ, List, map, IfOk, MatchResult};
 ghost use Rattle.line_text.specs.Lines.{IsAt};
 ghost use Rattle.cgd_read.specs.Graphs.{edge_of};
 ghost use Rattle.archive_text.specs.Forms.{IsSize};

@@ -1,20 +1,20 @@
 // What the numbers of a row say.
-ghost use Rattle.std.specs.Prelude.{ℕ, ℤ, length, pos, ◌≡◌, ◌≤◌, ◌<◌, ◌^◌, ◌↔◌, ◌⊎◌, List, All, map, IfSome, IfNone, IfOk, Some, IsTrue};
+ghost use Rattle.std.specs.Prelude.{ℕ, pos, ◌≡◌, ◌≤◌, ◌↔◌, ◌⊎◌, IfSome, Some, IsTrue};
 ghost use Rattle.std.specs.List.{list_all};
 ghost use Rattle.std.specs.Ordering.{int_cmp};
 ghost use Rattle.std.specs.Cmp.Lexicographic.{slice_cmp};
-ghost use Rattle.integers.specs.Vectors.{IsBelow, IsWithin, vector};
+ghost use Rattle.integers.specs.Vectors.{IsBelow, vector};
 ghost use Rattle.periodic_net.specs.Graph.{IsNormalSpelling};
 ghost use Rattle.cgd_read.specs.Graphs.{edge_of};
-ghost use Rattle.cgd_read.specs.declared.block.RawEdge.{RawEdge};
 ghost use Rattle.quotient_graph.specs.Order.{arc_numbers};
 ghost use Rattle.archive_text.specs.Names.{is_name_byte, is_name};
-ghost use Rattle.archive_text.specs.Rows.{size_numbers, edge_numbers};
-ghost use Rattle.archive_text.specs.Forms.{IsSize, IsEdgeOfSize};
+ghost use Rattle.archive_text.specs.Rows.{size_numbers};
+ghost use Rattle.archive_text.specs.Forms.{IsSize};
 ghost use Rattle.archive_text.specs.declared.size.GraphSize.{GraphSize};
 
 use crate::GraphSize;
 use cgd_read::RawEdge;
+use periodic_net::{MOST_EDGES, MOST_VERTICES};
 use std::cmp::Ordering;
 use vecdim::Triple;
 
@@ -73,8 +73,8 @@ pub fn size_of(numbers: &[i128]) -> Option<GraphSize>
         return None;
     };
     let dim = dimension(*dim)?;
-    let vertices = between(*vertices, 1, 512)?;
-    let edges = between(*edges, 1, 4096)?;
+    let vertices = between(*vertices, 1, MOST_VERTICES as u32)?;
+    let edges = between(*edges, 1, MOST_EDGES as u32)?;
     Some(GraphSize {
         dim,
         vertices,
@@ -106,7 +106,8 @@ pub fn is_forward(e: &RawEdge) -> bool
 
 // Which of two edges stands first.
 fn order(e: &RawEdge, f: &RawEdge) -> Ordering
-    ensures { result ≡ slice_cmp int_cmp (arc_numbers (edge_of e.now)) (arc_numbers (edge_of f.now)) }
+    ensures { result ≡
+        slice_cmp int_cmp (arc_numbers (edge_of e.now)) (arc_numbers (edge_of f.now)) }
 {
     let shifts = shift_of(e).compare(&shift_of(f));
     e.u.cmp(&f.u).then(e.v.cmp(&f.v).then(shifts))

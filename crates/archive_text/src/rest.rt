@@ -1,13 +1,11 @@
 // Reads the rows of an entry after its name.
-ghost use Rattle.std.specs.Prelude.{ℕ, ℤ, List, map, length, ◌≡◌, ◌≤◌, ◌++◌, ◌∷◌, [], true, IfOk, MatchResult};
+ghost use Rattle.std.specs.Prelude.{ℕ, List, length, ◌≡◌, ◌≤◌, ◌++◌, ◌∷◌, [], true, IfOk, MatchResult};
 ghost use Rattle.line_text.specs.Lines.{IsAt};
-ghost use Rattle.periodic_net.specs.Graph.{Arc};
-ghost use Rattle.archive_text.specs.declared.size.GraphSize.{GraphSize};
+ghost use Rattle.periodic_net.specs.Limits.{most_vertices};
 ghost use Rattle.archive_text.specs.declared.version.Version.{Version};
 ghost use Rattle.archive_text.specs.declared.version.Version.TheVariants.{Two};
 ghost use Rattle.archive_text.specs.Names.{is_name};
-ghost use Rattle.archive_text.specs.Rows.{name_row, row_lines};
-ghost use Rattle.archive_text.specs.Parts.{Keyed, IsKeyed, end_part, part_rows};
+ghost use Rattle.archive_text.specs.Rows.{name_row};
 ghost use Rattle.archive_text.specs.Reading.{AreShellsRead, HasBadLine, HasKeyed, HasForm};
 
 use crate::edge_list::read_edges;
@@ -67,13 +65,14 @@ fn read_keyed(
     }
 }
 
-// The number of classes and the shells of each, or the number of the first line that may not follow.
+// The number of classes and the shells of each, or the number of the first line that may not
+// follow.
 fn read_counted(
     lines: &mut Lines<'_>,
     numbers: &mut Vec<i128>,
 ) -> Result<Result<Sequences, u32>, AllocError>
     ensures rest { AreShellsRead Two lines.old lines.new result }
-    ensures few { IfOk result (λ read. IfOk read (λ lists. length lists ≤ 512)) }
+    ensures few { IfOk result (λ read. IfOk read (λ lists. length lists ≤ most_vertices)) }
 {
     let line = lines.number();
     match next_count(lines, numbers)? {
@@ -89,7 +88,7 @@ fn read_shells(
     numbers: &mut Vec<i128>,
 ) -> Result<Result<Sequences, u32>, AllocError>
     ensures rest { AreShellsRead version lines.old lines.new result }
-    ensures few { IfOk result (λ read. IfOk read (λ lists. length lists ≤ 512)) }
+    ensures few { IfOk result (λ read. IfOk read (λ lists. length lists ≤ most_vertices)) }
 {
     match version {
         Version::One => Ok(Ok(Sequences::new(*numbers.allocator()))),
@@ -108,7 +107,7 @@ pub fn read_rest(
         IsAt text (rows ++ name_row name ∷ []) lines.old →
         IfOk result (λ read. MatchResult read (HasForm version text rows name lines.new)
         (HasBadLine version text rows name)) }
-    ensures few { IfOk result (λ read. IfOk read (λ f. length f.shells ≤ 512)) }
+    ensures few { IfOk result (λ read. IfOk read (λ f. length f.shells ≤ most_vertices)) }
 {
     let keyed = match read_keyed(lines, numbers)? {
         Ok(keyed) => keyed,

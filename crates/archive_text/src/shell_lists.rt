@@ -1,8 +1,9 @@
 // Reads the shells of an entry.
-ghost use Rattle.std.specs.Prelude.{ℕ, List, length, ◌≡◌, ◌≤◌, IfOk, MatchResult};
+ghost use Rattle.std.specs.Prelude.{ℕ, List, length, ◌≤◌, IfOk, MatchResult};
 ghost use Rattle.line_text.specs.Lines.{IsAt};
 ghost use Rattle.archive_text.specs.Forms.{IsCount};
 ghost use Rattle.archive_text.specs.Reading.{HasBadShells, HasShells};
+ghost use Rattle.periodic_net.specs.Limits.{most_vertices};
 
 use crate::steps::next_shells;
 use coordination::Sequences;
@@ -20,7 +21,7 @@ pub fn read_lists(
         IfOk result (λ read. MatchResult read
         (λ lists. HasShells text rows count lists lines.new)
         (HasBadShells text rows count)) }
-    ensures few { IfOk result (λ read. IfOk read (λ lists. length lists ≤ 512)) }
+    ensures few { IfOk result (λ read. IfOk read (λ lists. length lists ≤ most_vertices)) }
 {
     let mut lists = Sequences::new(*numbers.allocator());
     for done in 0..count {

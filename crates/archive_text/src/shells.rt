@@ -4,6 +4,7 @@ ghost use Rattle.archive_text.specs.Rows.{shells_numbers};
 ghost use Rattle.archive_text.specs.Forms.{AreSizes, IsCount, IsShort};
 
 use crate::form::between;
+use periodic_net::MOST_VERTICES;
 use std::alloc::{AllocError, Global};
 
 /// The number of classes that the number of its row says.
@@ -15,7 +16,7 @@ pub fn count_from(numbers: &[i128]) -> Option<u32>
     let [n] = numbers else {
         return None;
     };
-    between(*n, 1, 512)
+    between(*n, 1, MOST_VERTICES as u32)
 }
 
 // The number, where it has 32 bits.

@@ -15,14 +15,19 @@ use crate::form::{is_name, size_of};
 use crate::shells::{count_from, sizes_from};
 use cgd_read::RawEdge;
 use line_text::Lines;
+use periodic_net::MOST_EDGES;
 use quotient_graph::Key;
 use std::alloc::AllocError;
+
+/// So many numbers has a key at most.
+const MOST_NUMBERS: usize = 3 + 5 * MOST_EDGES;
 
 /// The name on the next line, where an entry begins there.
 pub fn next_name<'a>(lines: &mut Lines<'a>) -> Option<&'a [u8]>
     ensures place { (text : List ℕ) (rows : List (List ℕ)) → IsAt text rows lines.old →
         IfSome result (λ name. IsAt text (rows ++ name_row name.now ∷ []) lines.new) }
-    ensures line { IfSome result (λ name. lines.old.rest ≡ name_row name.now ++ 10 ∷ lines.new.rest) }
+    ensures line { IfSome result (λ name.
+        lines.old.rest ≡ name_row name.now ++ 10 ∷ lines.new.rest) }
     ensures form { IfSome result (λ name. is_name name.now ≡ true) }
     ensures none { IfNone result (NoName lines.old.rest) }
 {
@@ -38,7 +43,8 @@ pub fn next_size(
     numbers: &mut Vec<i128>,
 ) -> Result<Option<GraphSize>, AllocError>
     ensures place { (text : List ℕ) (rows : List (List ℕ)) → IsAt text rows lines.old →
-        IfOk result (λ found. IfSome found (λ size. IsAt text (rows ++ size_row size ∷ []) lines.new)) }
+        IfOk result (λ found. IfSome found (λ size.
+        IsAt text (rows ++ size_row size ∷ []) lines.new)) }
     ensures form { IfOk result (λ found. IfSome found IsSize) }
     ensures none { IfOk result (λ found. IfNone found (NoSize lines.old.rest)) }
 {
@@ -82,13 +88,14 @@ fn key_from(numbers: &Vec<i128>) -> Result<Key, AllocError>
 fn is_key_length(numbers: &[i128]) -> bool
     ensures { IsTrue result ↔ ((1 ≤ length numbers.now) × (length numbers.now ≤ most_numbers)) }
 {
-    0 < numbers.len() && numbers.len() <= 20_483
+    0 < numbers.len() && numbers.len() <= MOST_NUMBERS
 }
 
 /// The key on the next line.
 pub fn next_key(lines: &mut Lines<'_>, numbers: &mut Vec<i128>) -> Result<Option<Key>, AllocError>
     ensures place { (text : List ℕ) (rows : List (List ℕ)) → IsAt text rows lines.old →
-        IfOk result (λ found. IfSome found (λ key. IsAt text (rows ++ key_row key ∷ []) lines.new)) }
+        IfOk result (λ found. IfSome found (λ key.
+        IsAt text (rows ++ key_row key ∷ []) lines.new)) }
     ensures form { IfOk result (λ found. IfSome found IsKeyList) }
     ensures none { IfOk result (λ found. IfNone found (NoKey lines.old.rest)) }
 {
@@ -139,8 +146,8 @@ pub fn next_shells(
 
 /// Whether the next line ends the entry.
 pub fn next_end(lines: &mut Lines<'_>) -> bool
-    ensures place { (text : List ℕ) (rows : List (List ℕ)) → IsAt text rows lines.old → result ≡ true →
-        IsAt text (rows ++ end_row ∷ []) lines.new }
+    ensures place { (text : List ℕ) (rows : List (List ℕ)) → IsAt text rows lines.old →
+        result ≡ true → IsAt text (rows ++ end_row ∷ []) lines.new }
     ensures line { result ≡ true → lines.old.rest ≡ end_row ++ 10 ∷ lines.new.rest }
     ensures none { (rest : List ℕ) → lines.old.rest ≡ end_row ++ 10 ∷ rest → result ≡ true }
 {

@@ -1,5 +1,5 @@
 // Writes the rows of an entry.
-ghost use Rattle.std.specs.Prelude.{ℕ, pos, map, length, ◌≤◌, ◌≡◌, ◌++◌, ◌∷◌, [], OnOk};
+ghost use Rattle.std.specs.Prelude.{pos, map, length, ◌≤◌, ◌≡◌, ◌++◌, ◌∷◌, [], OnOk};
 ghost use Rattle.line_text.specs.Numbers.{numbers_text};
 ghost use Rattle.line_text.specs.Lines.{rows_text};
 ghost use Rattle.quotient_graph.specs.AnyGraphs.{graph_in};
@@ -7,6 +7,7 @@ ghost use Rattle.net_entries.specs.Entries.{entry_view};
 ghost use Rattle.archive_text.specs.Rows.{OfSize, OfEdge, first_row, row_lines, size_of_graph, name_row, size_row, edge_row, key_row, count_row, shells_row, end_row};
 ghost use Rattle.archive_text.specs.Parts.{class_rows, drawn_rows, shells_rows};
 ghost use Rattle.archive_text.specs.Texts.{entry_lines};
+ghost use Rattle.periodic_net.specs.Limits.{most_vertices};
 
 use crate::{GraphSize, Version};
 use coordination::Sequences;
@@ -108,11 +109,9 @@ fn push_count(text: &mut Vec<u8>, count: u32) -> Result<(), AllocError>
 fn push_sizes(text: &mut Vec<u8>, sizes: &[u32]) -> Result<(), AllocError>
     ensures { OnOk result (text.new.items ≡ text.old.items ++ numbers_text (map pos sizes.now)) }
 {
-    let mut left = sizes;
-    while let [size, others @ ..] = left {
+    for size in sizes {
         text.push(b' ')?;
         push_number(text, *size as i128)?;
-        left = others;
     }
     Ok(())
 }
@@ -129,7 +128,7 @@ fn push_shells(text: &mut Vec<u8>, class: u32, sizes: &[u32]) -> Result<(), Allo
 }
 
 fn push_lists(text: &mut Vec<u8>, lists: &Sequences) -> Result<(), AllocError>
-    requires { length lists.now ≤ 512 }
+    requires { length lists.now ≤ most_vertices }
     ensures { OnOk result (text.new.items ≡
         text.old.items ++ rows_text (row_lines (shells_rows 1 lists.now))) }
 {
@@ -141,7 +140,7 @@ fn push_lists(text: &mut Vec<u8>, lists: &Sequences) -> Result<(), AllocError>
 
 // In version 2 the number of classes, and the shells of each.
 fn push_classes(text: &mut Vec<u8>, version: Version, lists: &Sequences) -> Result<(), AllocError>
-    requires { length lists.now ≤ 512 }
+    requires { length lists.now ≤ most_vertices }
     ensures { OnOk result (text.new.items ≡
         text.old.items ++ rows_text (row_lines (class_rows version lists.now))) }
 {
@@ -163,7 +162,7 @@ fn push_end(text: &mut Vec<u8>) -> Result<(), AllocError>
 
 /// The rows of an entry.
 pub fn push_entry(text: &mut Vec<u8>, version: Version, entry: &Entry) -> Result<(), AllocError>
-    requires { length (entry_view entry.now).shells ≤ 512 }
+    requires { length (entry_view entry.now).shells ≤ most_vertices }
     ensures { OnOk result (text.new.items ≡
         text.old.items ++ rows_text (entry_lines version (entry_view entry.now ∷ []))) }
 {

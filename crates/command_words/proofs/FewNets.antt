@@ -1,5 +1,5 @@
 -- The nets that words ask to make are no more than may be made.
-use Rattle.std.proofs.Common.{◌≡◌, ℕ, ◌≤◌, ◌<◌, ◌&&◌, Bool, true, false, Option, None, Some, nat_lt, refl, sym, subst, arith}
+use Rattle.std.proofs.Common.{◌≡◌, ℕ, ◌≤◌, ◌<◌, ◌&&◌, Bool, true, false, Option, None, Some, nat_lt, refl, sym, subst, arith, ◌+◌}
 use Rattle.std.specs.Prelude.{IfSome, is_some, if◌then◌else◌, option_map, option_and_then}
 use Rattle.std.specs.Fmt.{decimal}
 use Rattle.std.specs.Str.{bytes_eq}
@@ -11,6 +11,7 @@ use Rattle.command_words.specs.Views.{task_view}
 use Rattle.command_words.specs.declared.tasks.Task.{Task as TaskInCode}
 use Rattle.command_words.specs.declared.tasks.Verb.{Verb}
 use Rattle.command_words.specs.declared.tasks.Verb.TheVariants as verb
+use Rattle.workload.specs.Workload.{most_nets}
 
 -- a task that is found makes few nets
 abbrev IsFewTask : Option Task → Type 0
@@ -20,7 +21,7 @@ IsFewTask (Some task) = MakesFew task
 -- a number that is found is small
 abbrev IsFewCount : Option ℕ → Type 0
 IsFewCount None = Unit {0}
-IsFewCount (Some n) = n ≤ 4096
+IsFewCount (Some n) = n ≤ most_nets
 
 few_if : (b : Bool) (x y : Option Task) → IsFewTask x → IsFewTask y → IsFewTask (if b then x else y)
 few_if true x y p q = p
@@ -38,7 +39,7 @@ few_count : (o : Option ℕ) → IsFewCount o → IsFewTask (option_map Workload
 few_count None h = tt
 few_count (Some n) h = h
 
-count_if : (b : Bool) (n : ℕ) → (b ≡ true → n ≤ 4096) → IsFewCount (if b then Some n else None)
+count_if : (b : Bool) (n : ℕ) → (b ≡ true → n ≤ most_nets) → IsFewCount (if b then Some n else None)
 count_if true n h = h refl
 count_if false n h = tt
 
@@ -47,11 +48,11 @@ none_or true o h = tt
 none_or false o h = h
 
 -- a word that spells a count spells a small one
-small_count : (word : Text) (n : ℕ) → is_count word n ≡ true → n ≤ 4096
+small_count : (word : Text) (n : ℕ) → is_count word n ≡ true → n ≤ most_nets
 small_count word n h =
-    let p = and_parts (bytes_eq word (decimal n)) (nat_lt 0 n && nat_lt n 4097) h in
-    let q = and_parts (nat_lt 0 n) (nat_lt n 4097) p.1 in
-    let small : n < 4097 = ltb-true n 4097 q.1 in
+    let p = and_parts (bytes_eq word (decimal n)) (nat_lt 0 n && nat_lt n (most_nets + 1)) h in
+    let q = and_parts (nat_lt 0 n) (nat_lt n (most_nets + 1)) p.1 in
+    let small : n < most_nets + 1 = ltb-true n (most_nets + 1) q.1 in
     omega (arith, small)
 
 few_word : (o : Option Text) → IsFewCount (option_and_then count_of o)

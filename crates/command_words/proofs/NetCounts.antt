@@ -1,5 +1,5 @@
 -- The number that a word spells in decimal.
-use Rattle.std.proofs.Common.{◌≡◌, ◌∙◌, ℕ, ◌<◌, ◌&&◌, true, Some, None, Result, Ok, nat_lt, sym, ap, subst, arith}
+use Rattle.std.proofs.Common.{◌≡◌, ◌∙◌, ℕ, ◌<◌, ◌&&◌, true, Some, None, Result, Ok, nat_lt, sym, ap, subst, arith, ◌+◌}
 use Rattle.std.specs.Fmt.{decimal}
 use Rattle.std.specs.Str.{bytes_eq}
 use Rattle.std.specs.Str.Parse.{digits_value, ParsesUnsigned}
@@ -8,17 +8,18 @@ use Rattle.std.proofs.lemmas.Fmt.{decimal_is_IsNumeral, parse-decimal}
 use Rattle.std.proofs.lemmas.Slice.Eq.{bytes_eq-Decides}
 use Rattle.command_words.specs.Words.{Text}
 use Rattle.command_words.specs.Tasks.{count_of, is_count}
+use Rattle.workload.specs.Workload.{most_nets}
 
 -- a word that is told as the count n spells n, which is small
 record Spells (word : Text) (n : ℕ) : Type 0 where
   pub text : word ≡ decimal n
-  pub small : n < 4097
+  pub small : n < most_nets + 1
 
 spells : (word : Text) (n : ℕ) → is_count word n ≡ true → Spells word n
 spells word n h =
-    let p = and_parts (bytes_eq word (decimal n)) (nat_lt 0 n && nat_lt n 4097) h in
-    let q = and_parts (nat_lt 0 n) (nat_lt n 4097) p.1 in
-    record { text = (bytes_eq-Decides word (decimal n)).0 p.0; small = ltb-true n 4097 q.1 }
+    let p = and_parts (bytes_eq word (decimal n)) (nat_lt 0 n && nat_lt n (most_nets + 1)) h in
+    let q = and_parts (nat_lt 0 n) (nat_lt n (most_nets + 1)) p.1 in
+    record { text = (bytes_eq-Decides word (decimal n)).0 p.0; small = ltb-true n (most_nets + 1) q.1 }
 
 -- its digits have that value
 value_is : (word : Text) (n : ℕ) → Spells word n → digits_value 10 word ≡ n

@@ -1,5 +1,5 @@
 -- The commands, and what each takes.
-use Rattle.std.specs.Prelude.{ℕ, ◌≤◌, Bool, true, false, not, nat_lt, ◌&&◌, List, [], ◌∷◌, Option, Some, None, is_some, unwrap_or, option_map, option_and_then, if◌then◌else◌, codes}
+use Rattle.std.specs.Prelude.{ℕ, ◌+◌, ◌≤◌, Bool, true, false, not, nat_lt, ◌&&◌, List, [], ◌∷◌, Option, Some, None, is_some, unwrap_or, option_map, option_and_then, if◌then◌else◌, codes}
 use Rattle.std.specs.Fmt.{decimal}
 use Rattle.std.specs.Str.{bytes_eq}
 use Rattle.std.specs.Str.Parse.{digits_value}
@@ -8,6 +8,7 @@ use Rattle.command_words.specs.declared.tasks.Command.{Command}
 use Rattle.command_words.specs.declared.tasks.Command.TheVariants.{Check, Place, Key, Identify}
 use Rattle.command_words.specs.declared.tasks.Verb.{Verb}
 use Rattle.command_words.specs.declared.tasks.Verb.TheVariants as verb
+use Rattle.workload.specs.Workload.{most_nets}
 
 -- what is to be done
 pub data Task : Type 0 where
@@ -79,7 +80,7 @@ sole_archive said = if is_some said.second then None else (if is_some said.name 
 
 -- the word spells n in decimal, and n is from 1 to 4,096
 abbrev pub is_count : Text → ℕ → Bool
-is_count word n = bytes_eq word (decimal n) && (nat_lt 0 n && nat_lt n 4097)
+is_count word n = bytes_eq word (decimal n) && (nat_lt 0 n && nat_lt n (most_nets + 1))
 
 -- the number that a word spells so
 abbrev pub count_of : Text → Option ℕ
@@ -112,5 +113,5 @@ task_of words = option_and_then task_in (said_by words)
 
 -- it makes no more nets than it may
 abbrev pub MakesFew : Task → Type 0
-MakesFew (Workload count) = count ≤ 4096
+MakesFew (Workload count) = count ≤ most_nets
 MakesFew task = Unit {0}

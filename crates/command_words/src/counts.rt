@@ -5,9 +5,7 @@ ghost use Rattle.std.specs.Str.{bytes_eq};
 ghost use Rattle.command_words.specs.Tasks.{count_of, is_count};
 
 use itoa::Buffer;
-
-/// So many nets are made at most.
-const MOST_NETS: u32 = 4096;
+use workload::MOST_NETS;
 
 fn spells(word: &str, n: u32) -> bool
     ensures { result ≡ bytes_eq word.now (decimal n) }
@@ -26,8 +24,6 @@ fn is_count(word: &str, n: u32) -> bool
 pub(crate) fn count_of(word: &str) -> Option<u32>
     ensures { result ≡ count_of word.now }
 {
-    match word.parse::<u32>() {
-        Ok(n) => { if is_count(word, n) { Some(n) } else { None } }
-        Err(_) => None,
-    }
+    let n = word.parse::<u32>().ok()?;
+    if is_count(word, n) { Some(n) } else { None }
 }

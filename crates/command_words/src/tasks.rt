@@ -88,10 +88,7 @@ fn verb_named(word: &str) -> Option<Verb>
 fn is_empty_word(word: Option<&str>) -> bool
     ensures { result ≡ is_empty_word (option_copied word.entry) }
 {
-    match word {
-        Some(word) => word.is_empty(),
-        None => false,
-    }
+    word.is_some_and(|word| word.is_empty())
 }
 
 fn has_empty_word(said: &Said<'_>) -> bool
@@ -107,10 +104,7 @@ fn has_empty_word(said: &Said<'_>) -> bool
 fn file_of<'a>(said: &Said<'a>) -> &'a str
     ensures { result.now ≡ file_of (said_view said.now) }
 {
-    match said.second {
-        Some(file) => file,
-        None => "-",
-    }
+    said.second.unwrap_or("-")
 }
 
 // The file and the archive are not both the standard input.
@@ -118,7 +112,7 @@ fn are_apart(file: &str, archive: Option<&str>) -> bool
     ensures { result ≡ are_apart file.now (option_copied archive.entry) }
 {
     match archive {
-        Some(archive) => { if file == "-" { archive != "-" } else { true } }
+        Some(archive) => file != "-" || archive != "-",
         None => true,
     }
 }
@@ -215,17 +209,11 @@ fn task_in<'a>(said: &Said<'a>) -> Option<Task<'a>>
     if has_empty_word(said) {
         return None;
     }
-    match said.command {
-        Some(word) => match verb_named(word) {
-            Some(verb) => task_for(verb, said),
-            None => None,
-        },
-        None => None,
-    }
+    task_for(verb_named(said.command?)?, said)
 }
 
-/// The task that the words ask for. `Ok(None)` comes exactly where they have no form, and `Err` only
-/// where memory is refused.
+/// The task that the words ask for. `Ok(None)` comes exactly where they have no form, and `Err`
+/// only where memory is refused.
 pub fn task_of<'a>(alloc: Global, words: &'a [String]) -> Result<Option<Task<'a>>, AllocError>
     ensures task { IfOk result (λ task.
         option_map task_view task ≡ task_of (texts_of words.entry.now)) }

@@ -1,3 +1,4 @@
 -- The lemmas of this crate that other crates cite.
 pub use Rattle.least_key.proofs.KeysTelling.{key_of_graph, nets_decide}
 pub use Rattle.least_key.proofs.certain.Accepted.{certain_is_not_refused, keyed_is_certain}
+pub use Rattle.least_key.proofs.Truth.{known_error}

@@ -7,7 +7,7 @@ use Rattle.std.proofs.lemmas.List.{take_more}
 use Rattle.periodic_net.specs.Graph.{Graph}
 use Rattle.periodic_net.specs.Maps.{Iso}
 use Rattle.key_theory.specs.Key.{IsKeyOf}
-use Rattle.key_theory.proofs.KeysDecide.{keys_decide}
+use Rattle.key_theory.proofs.CallerLemmas.{keys_decide}
 use Rattle.quotient_graph.specs.AnyGraphs.{graph_in}
 use Rattle.quotient_graph.specs.declared.raw.AnyGraph.{AnyGraph}
 use Rattle.least_key.specs.Answers.{IsAnswerTo, AreAnswers, KeysTell}

@@ -6,7 +6,7 @@ use Rattle.periodic_net.specs.Graph.{Graph}
 use Rattle.key_theory.specs.Coordinates.{AreCoordinates}
 use Rattle.key_theory.specs.Frames.{IsWorkPast}
 use Rattle.key_theory.specs.Key.{Shape, IsLeastList}
-use Rattle.key_theory.proofs.carried.InCoordinates.{least_list_of_coordinates}
+use Rattle.key_theory.proofs.CallerLemmas.{least_list_of_coordinates}
 use Rattle.quotient_graph.specs.NetClasses.{NetClasses, AreClasses, class_at}
 use Rattle.quotient_graph.specs.PlacedNets.{PlacedNet}
 use Rattle.edge_frames.specs.declared.key_work.KeyWork.{KeyWork}

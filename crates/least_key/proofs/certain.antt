@@ -2,3 +2,4 @@
 pub mod Accepted
 pub mod NotWide
 pub mod OnePlacement
+pub mod SquareCertain

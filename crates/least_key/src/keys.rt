@@ -8,7 +8,8 @@ use crate::{Net, Refusal};
 use quotient_graph::AnyGraph;
 use std::alloc::{AllocError, Global};
 
-fn copy_of(graph: &AnyGraph) -> Result<AnyGraph, AllocError>
+/// An equal graph.
+pub fn copy_of_graph(graph: &AnyGraph) -> Result<AnyGraph, AllocError>
     ensures { IfOk result (λ g. graph_in g ≡ graph_in graph.now) }
 {
     match graph {
@@ -21,7 +22,7 @@ fn copy_of(graph: &AnyGraph) -> Result<AnyGraph, AllocError>
 fn answer_to(alloc: Global, graph: &AnyGraph) -> Result<Result<Net, Refusal>, AllocError>
     ensures { IfOk result (IsAnswerTo graph.now) }
 {
-    match identify(alloc, copy_of(graph)?) {
+    match identify(alloc, copy_of_graph(graph)?) {
         Ok(net) => Ok(Ok(net)),
         Err(Refusal::NoMemory) => Err(AllocError),
         Err(refusal) => Ok(Err(refusal)),
@@ -40,8 +41,8 @@ fn answers_to(alloc: Global, graphs: &[AnyGraph]) -> Result<Vec<Result<Net, Refu
 }
 
 #[tactic(auto, using(crate::proofs::KeysTelling::keys_tell))]
-/// What `identify` answers for each graph; want of memory for one of them is want of memory for all. The keys of two
-/// accepted graphs are equal exactly where their nets are isomorphic.
+/// What `identify` answers for each graph; want of memory for one of them is want of memory for
+/// all. The keys of two accepted graphs are equal exactly where their nets are isomorphic.
 pub fn keys_of(alloc: Global, graphs: &[AnyGraph]) -> Result<Vec<Result<Net, Refusal>>, AllocError>
     ensures answers { IfOk result (λ answers. AreAnswers graphs.now answers.items) }
     ensures keys { IfOk result (λ answers. KeysTell graphs.now answers.items) }

@@ -20,10 +20,11 @@ pub enum Refusal {
     NoModulus { first: u32, second: u32, third: u32 },
     /// 4: a number of the normal placement passes its limit.
     WidePlacement(WidePlacement),
-    /// 5: vertex `u` in cell 0 and vertex `v` in cell `t`, which has `dim` parts, stand in one place.
+    /// 5: vertex `u` in cell 0 and vertex `v` in cell `t`, which has `dim` parts, stand in one
+    /// place.
     Collision { dim: u8, u: u32, v: u32, t: Triple },
-    /// 6: the frames of the starts up to `starts_done`, and some of the next start, times the arcs of the
-    /// class graph come to `counted`, which is past the limit.
+    /// 6: the frames of the starts up to `starts_done`, and some of the next start, times the arcs
+    /// of the class graph come to `counted`, which is past the limit.
     TooMuch { starts_done: u32, counted: u64 },
     /// Memory was refused. It has no number.
     NoMemory,

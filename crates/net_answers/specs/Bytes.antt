@@ -4,9 +4,10 @@ use Rattle.std.specs.declared.alloc.Global.{Global}
 use Rattle.cgd_read.specs.declared.block.ReadRefusal.{ReadRefusal}
 use Rattle.cgd_read.specs.declared.block.ReadRefusal.TheVariants as read
 use Rattle.net_archive.specs.Archives.{ArchiveView}
-use Rattle.net_answers.specs.Due.{IsArchiveIn, IsBadArchive, most_bytes}
+use Rattle.net_answers.specs.Due.{IsArchiveIn, IsBadArchive}
 use Rattle.net_answers.specs.declared.answer.Silence.{Silence}
 use Rattle.net_answers.specs.declared.answer.Silence.TheVariants.{TooManyBlocks, NoMemory}
+use Rattle.archive_text.specs.Texts.{most_bytes}
 
 -- the bytes, where there are some
 abbrev pub bytes_in : Option (Vec ℕ Global) → Option (List ℕ)

@@ -2,7 +2,7 @@
 use Rattle.std.specs.Prelude.{◌≡◌, ◌≢◌, ℕ, ◌+◌, ◌≤◌, ◌<◌, true, false, List, [], ◌∷◌, ◌++◌, length, Option, Some, None, unwrap_or, All}
 use Rattle.cgd_read.specs.Graphs.{graph_of}
 use Rattle.cgd_read.specs.Views.{RawView, Net, BlockView}
-use Rattle.cgd_read.specs.Blocks.{blocks_of}
+use Rattle.cgd_read.specs.Blocks.{blocks_of, most_blocks}
 use Rattle.quotient_graph.specs.Stars.{IsInOrder}
 use Rattle.least_key.specs.KeyedNets.{KeyedNet, IsKeyed}
 use Rattle.net_entries.specs.Entries.{EntryView}
@@ -25,13 +25,7 @@ use Rattle.net_outcomes.specs.Reports.{IsReport}
 use Rattle.net_answers.specs.Summaries.{IsSummaryAs}
 use Rattle.net_answers.specs.declared.status.Status.{Status}
 use Rattle.net_answers.specs.declared.status.Status.TheVariants as status
-
--- bytes of a file, and blocks of one, at most
-abbrev pub most_bytes : ℕ
-most_bytes = 16777216
-
-abbrev pub most_blocks : ℕ
-most_blocks = 4096
+use Rattle.archive_text.specs.Texts.{most_bytes}
 
 -- the file that a task reads
 abbrev pub file_named : Task → Option (List ℕ)

@@ -1,5 +1,7 @@
 -- The exit statuses of the program.
 use Rattle.std.specs.Prelude.{ℕ, Bool, true, false}
+use Rattle.net_answers.specs.declared.answer.Silence.{Silence}
+use Rattle.net_answers.specs.declared.answer.Silence.TheVariants as silence
 use Rattle.net_answers.specs.declared.status.Status.{Status}
 use Rattle.net_answers.specs.declared.status.Status.TheVariants.{Done, SomeRefused, Usage, ReadFault, WriteFault, BadArchive, TooLarge, NoMemory, TooManyBlocks, AddRefused, MigrateRefused}
 
@@ -20,3 +22,8 @@ number_of MigrateRefused = 10
 abbrev pub ending_of : Bool → Status
 ending_of true = Done
 ending_of false = SomeRefused
+
+-- how a run ends where nothing is told
+abbrev pub silent_status : Silence → Status
+silent_status silence.TooManyBlocks = TooManyBlocks
+silent_status silence.NoMemory = NoMemory

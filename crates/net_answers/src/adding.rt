@@ -1,7 +1,7 @@
 // Adds the nets of blocks to an archive.
 ghost use Rattle.std.specs.Prelude.{◌≡◌, ◌≢◌, ◌≤◌, [], true, All, IfOk, IfErr, OnOk, OnErr, length, option_copied};
 ghost use Rattle.std.specs.List.{list_all};
-ghost use Rattle.cgd_read.specs.Blocks.{IsReadBody};
+ghost use Rattle.cgd_read.specs.Blocks.{IsReadBody, most_blocks};
 ghost use Rattle.cgd_read.specs.Views.{block_view, views};
 ghost use Rattle.least_key.specs.AnyNets.{net_in};
 ghost use Rattle.net_entries.specs.Entries.{EntryView};
@@ -33,13 +33,7 @@ struct NotAdded {
 fn name_to_add<'a>(given: Option<&'a [u8]>, block: &Block<'a>) -> &'a [u8]
     ensures { result.now ≡ name_to_add (option_copied given.entry) (block_view block.now) }
 {
-    match given {
-        Some(name) => name,
-        None => match block.name {
-            Some(name) => name,
-            None => b"",
-        },
-    }
+    given.or(block.name).unwrap_or(b"")
 }
 
 // The net that is told of a block, with its key alone.
@@ -79,7 +73,7 @@ fn add_all<'x>(
     found: &'x [Block<'_>],
     outcomes: &'x [Outcome<'_>],
 ) -> Result<(), NotAdded>
-    requires few { length found.now ≤ 4096 }
+    requires few { length found.now ≤ most_blocks }
     requires outcomes { AreOutcomesFrom [] Command.Key 1 (views found.now) outcomes.now }
     requires accepted { list_all is_accepted outcomes.now ≡ true }
     ensures added { OnOk result
@@ -123,7 +117,8 @@ fn refused_text(alloc: Global, refused: NotAdded) -> Result<Vec<u8>, NoMemory>
     }
 }
 
-// The text of the archive with the nets of these blocks, or why the first that cannot be added is not.
+// The text of the archive with the nets of these blocks, or why the first that cannot be added is
+// not.
 fn add_accepted<'x>(
     alloc: Global,
     archive: Archive,
@@ -131,7 +126,7 @@ fn add_accepted<'x>(
     found: &'x [Block<'_>],
     outcomes: &'x [Outcome<'_>],
 ) -> Result<Answer, NoMemory>
-    requires few { length found.now ≤ 4096 }
+    requires few { length found.now ≤ most_blocks }
     requires outcomes { AreOutcomesFrom [] Command.Key 1 (views found.now) outcomes.now }
     requires accepted { list_all is_accepted outcomes.now ≡ true }
     ensures { IfOk result (λ a. IsAddedOrRefused (option_copied given.entry)
@@ -160,7 +155,7 @@ fn add_beside(
 ) -> Result<Answer, NoMemory>
     requires empty { none.now.entries ≡ [] }
     requires graphs { All (λ block. IsReadBody block.body) found.now }
-    requires few { length found.now ≤ 4096 }
+    requires few { length found.now ≤ most_blocks }
     ensures { IfOk result (λ a. IsAddedOrRefused (option_copied name.entry)
         (views found.now) archive a.status a.text.items) }
 {
@@ -180,8 +175,8 @@ fn add_beside(
     )
 }
 
-/// The text of the archive with the nets of these blocks, or the report on them where one has no key, or why the first that
-/// cannot be added is not.
+/// The text of the archive with the nets of these blocks, or the report on them where one has no
+/// key, or why the first that cannot be added is not.
 pub fn add_blocks(
     alloc: Global,
     archive: Archive,
@@ -189,7 +184,7 @@ pub fn add_blocks(
     found: &[Block<'_>],
 ) -> Result<Answer, NoMemory>
     requires graphs { All (λ block. IsReadBody block.body) found.now }
-    requires few { length found.now ≤ 4096 }
+    requires few { length found.now ≤ most_blocks }
     ensures { IfOk result (λ a. IsAddedOrRefused (option_copied name.entry)
         (views found.now) archive a.status a.text.items) }
 {

@@ -1,11 +1,12 @@
 // What is due to the words, of the bytes of the files that they name.
 ghost use Rattle.std.specs.Prelude.{◌≡◌, ◌≤◌, ◌<◌, All, IfOk, IsErrOf, length};
-ghost use Rattle.cgd_read.specs.Blocks.{IsReadBody, blocks_of};
+ghost use Rattle.cgd_read.specs.Blocks.{IsReadBody, blocks_of, most_blocks};
 ghost use Rattle.cgd_read.specs.Views.{views};
 ghost use Rattle.command_words.specs.Tasks.{MakesFew};
 ghost use Rattle.command_words.specs.Views.{task_view};
 ghost use Rattle.net_answers.specs.Bytes.{bytes_in, AreFew, IsArchiveOrText};
 ghost use Rattle.net_answers.specs.Due.{IsDueFor, IsDueWith, bytes_of};
+ghost use Rattle.archive_text.specs.Texts.{most_bytes};
 
 use crate::adding::add_blocks;
 use crate::entries::{groups_of, migration_of};
@@ -57,6 +58,19 @@ impl From<ReadRefusal> for Silence {
     }
 }
 
+impl From<Silence> for Status {
+    ghost use Rattle.net_answers.specs.Statuses.{silent_status};
+
+    ghost from_gives = { λ silence told. told ≡ silent_status silence };
+
+    fn from(silence: Silence) -> Status {
+        match silence {
+            Silence::TooManyBlocks => Status::TooManyBlocks,
+            Silence::NoMemory => Status::NoMemory,
+        }
+    }
+}
+
 // The archive of these bytes, or the text of its fault; without bytes it is empty.
 fn archive_in(alloc: Global, bytes: Option<Vec<u8>>) -> Result<Result<Archive, Vec<u8>>, AllocError>
     requires { AreFew bytes }
@@ -83,7 +97,7 @@ fn answer_for(
     found: &[Block<'_>],
 ) -> Result<Answer, AllocError>
     requires graphs { All (λ block. IsReadBody block.body) found.now }
-    requires few { length found.now ≤ 4096 }
+    requires few { length found.now ≤ most_blocks }
     ensures { IfOk result (λ a.
         IsDueFor (task_view task.now) (views found.now) archive a.status a.text.items) }
 {
@@ -103,11 +117,12 @@ fn answer_on(
     bytes: &[u8],
     archive: Option<Vec<u8>>,
 ) -> Result<Answer, Silence>
-    requires small { length bytes.now ≤ 16777216 }
+    requires small { length bytes.now ≤ most_bytes }
     requires archive { AreFew archive }
     ensures due { IfOk result (λ a.
         IsDueWith (task_view task.now) bytes.now (bytes_in archive) a.status a.text.items) }
-    ensures many { IsErrOf result Silence.TooManyBlocks → 4096 < length (blocks_of bytes.now) }
+    ensures many { IsErrOf result Silence.TooManyBlocks →
+        most_blocks < length (blocks_of bytes.now) }
 {
     let found = blocks(alloc, bytes)?;
     match archive_in(alloc, archive)? {
@@ -126,13 +141,13 @@ pub fn answer_to(
     file: &[u8],
     archive: Option<Vec<u8>>,
 ) -> Result<Answer, Silence>
-    requires small { length file.now ≤ 16777216 }
+    requires small { length file.now ≤ most_bytes }
     requires archive { AreFew archive }
     requires few { MakesFew (task_view task.now) }
     ensures due { IfOk result (λ a. IsDueWith (task_view task.now)
         (bytes_of (task_view task.now) file.now) (bytes_in archive) a.status a.text.items) }
     ensures many { IsErrOf result Silence.TooManyBlocks →
-        4096 < length (blocks_of (bytes_of (task_view task.now) file.now)) }
+        most_blocks < length (blocks_of (bytes_of (task_view task.now) file.now)) }
 {
     match task {
         Task::Workload { count } => {

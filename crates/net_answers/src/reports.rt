@@ -1,7 +1,7 @@
 // The report on the blocks of a text.
 ghost use Rattle.std.specs.Prelude.{◌≤◌, All, IfOk, length};
 ghost use Rattle.cgd_read.specs.Views.{views};
-ghost use Rattle.cgd_read.specs.Blocks.{IsReadBody};
+ghost use Rattle.cgd_read.specs.Blocks.{IsReadBody, most_blocks};
 ghost use Rattle.net_answers.specs.Due.{IsReportAs};
 
 use crate::answer::Answer;
@@ -21,7 +21,7 @@ pub fn report_on(
     found: &[Block<'_>],
 ) -> Result<Answer, NoMemory>
     requires graphs { All (λ block. IsReadBody block.body) found.now }
-    requires few { length found.now ≤ 4096 }
+    requires few { length found.now ≤ most_blocks }
     ensures { IfOk result (λ a.
         IsReportAs command archive.now.entries (views found.now) a.status a.text.items) }
 {

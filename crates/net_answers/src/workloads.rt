@@ -1,6 +1,6 @@
 // What is told of many nets.
 ghost use Rattle.std.specs.Prelude.{◌≡◌, ◌++◌, ◌≤◌, [], All, IfOk, OnOk, length, filter, option_copied};
-ghost use Rattle.cgd_read.specs.Blocks.{IsReadBody};
+ghost use Rattle.cgd_read.specs.Blocks.{IsReadBody, most_blocks};
 ghost use Rattle.cgd_read.specs.Views.{views};
 ghost use Rattle.net_outcomes.specs.Deciding.{key_told};
 ghost use Rattle.net_outcomes.specs.Outcomes.{is_accepted};
@@ -40,7 +40,7 @@ fn key_told<'a>(outcome: &'a Outcome<'_>) -> Option<&'a [i128]>
     ensures { option_copied result ≡ key_told outcome.now.body }
 {
     match &outcome.body {
-        OutcomeBody::Keyed(_, net) | OutcomeBody::Identified(_, _, net, _, _) => {
+        OutcomeBody::Keyed(_, net) | OutcomeBody::Identified { net, .. } => {
             Some(net.key().numbers())
         }
         _ => None,
@@ -51,10 +51,8 @@ fn key_told<'a>(outcome: &'a Outcome<'_>) -> Option<&'a [i128]>
 fn put_key<'a>(keys: &mut IndexSet<&'a [i128]>, key: &'a [i128]) -> Result<(), NoMemory>
     ensures { OnOk result (IsPutIn (lists_in keys.old) key.now (lists_in keys.new)) }
 {
-    match keys.insert(key) {
-        Ok(_) => Ok(()),
-        Err(_) => Err(NoMemory),
-    }
+    keys.insert(key)?;
+    Ok(())
 }
 
 // The number of different keys that are told.
@@ -89,7 +87,7 @@ fn summary_beside(
 ) -> Result<Answer, NoMemory>
     requires empty { archive.now.entries ≡ [] }
     requires graphs { All (λ block. IsReadBody block.body) found.now }
-    requires few { length found.now ≤ 4096 }
+    requires few { length found.now ≤ most_blocks }
     ensures { IfOk result (λ a. IsSummaryAs made (views found.now) a.status a.text.items) }
 {
     let outcomes = outcomes_of(alloc, Command::Key, archive, found)?;
@@ -104,7 +102,7 @@ fn summary_beside(
 /// The summary on the blocks of a workload.
 pub fn summary_of(alloc: Global, made: u32, found: &[Block<'_>]) -> Result<Answer, NoMemory>
     requires graphs { All (λ block. IsReadBody block.body) found.now }
-    requires few { length found.now ≤ 4096 }
+    requires few { length found.now ≤ most_blocks }
     ensures { IfOk result (λ a. IsSummaryAs made (views found.now) a.status a.text.items) }
 {
     let none = Archive::empty(alloc);

@@ -15,10 +15,11 @@ use Rattle.archive_text.specs.declared.rest.Form.{Form}
 use Rattle.archive_text.specs.declared.version.Version.{Version}
 use Rattle.archive_text.specs.declared.version.Version.TheVariants.{One, Two}
 use Rattle.net_archive.specs.Faults.{AreEntries, MayBegin, IsBegun, MayEnd, HasFault, FaultAt, IsFaultAtEnd}
-use Rattle.net_archive.specs.Steps.{IsTold}
+use Rattle.net_archive.specs.Steps.{IsFaultTold}
 use Rattle.net_archive.specs.Judging.{IsJudged}
 use Rattle.net_archive.specs.declared.faults.ArchiveFault.{ArchiveFault}
 use Rattle.net_archive.specs.declared.faults.ArchiveFault.TheVariants.{BadLine, RepeatedName, EntryRefused, KeyDiffers, TooManyEntries, Version as OtherVersion, CountDiffers, ShellsDiffer, NoMemory}
+use Rattle.net_archive.specs.Archives.{most_entries}
 
 pub at_start : (v : Version) (text : List ℕ) (es : List EntryView) (place : Place) → IsAt text (rows_before v es) place → IsAt text (rows_before v es ++ row_lines (part_rows Start)) place
 at_start v text es place at = subst (λ l. IsAt text l place) (sym (append-nil (rows_before v es))) at
@@ -35,11 +36,11 @@ pub bad_name : (v : Version) (text : List ℕ) (es : List EntryView) (place : Pl
 bad_name v text es place n good at number left none =
     fault_at_start v text es place (BadLine n) good at (record { number = number; no_end = left; none = no_name_follows v place.rest none })
 
-pub too_many : (v : Version) (text : List ℕ) (es : List EntryView) (place : Place) (name rest : List ℕ) → AreEntries es → IsAt text (rows_before v es) place → 4096 ≤ length es → is_name name ≡ true → place.rest ≡ name_row name ++ 10 ∷ rest → HasFault v text TooManyEntries
+pub too_many : (v : Version) (text : List ℕ) (es : List EntryView) (place : Place) (name rest : List ℕ) → AreEntries es → IsAt text (rows_before v es) place → most_entries ≤ length es → is_name name ≡ true → place.rest ≡ name_row name ++ 10 ∷ rest → HasFault v text TooManyEntries
 too_many v text es place name rest good at many is stands =
     fault_at_start v text es place TooManyEntries good at (refl, record { all_entries = let few = good.few in omega (arith, many, few); name = name; is_name = is; begins = (rest, stands) })
 
-pub repeated : (v : Version) (text : List ℕ) (es : List EntryView) (place : Place) (name rest : List ℕ) (n : ℕ) → AreEntries es → IsAt text (rows_before v es) place → n ≡ place.number → length es < 4096 → Contains (names_of es) name → is_name name ≡ true
+pub repeated : (v : Version) (text : List ℕ) (es : List EntryView) (place : Place) (name rest : List ℕ) (n : ℕ) → AreEntries es → IsAt text (rows_before v es) place → n ≡ place.number → length es < most_entries → Contains (names_of es) name → is_name name ≡ true
     → place.rest ≡ name_row name ++ 10 ∷ rest → HasFault v text (RepeatedName n)
 repeated v text es place name rest n good at number few among is stands =
     fault_at_start v text es place (RepeatedName n) good at (refl, record { number = number; few = few; name = name; is_name = is; among = among; begins = (rest, stands) })
@@ -87,10 +88,10 @@ at_end v text es name after f line fault has at judged here same rest ends = rec
 
 -- the fault that is judged at the end of an entry
 pub judged : (v : Version) (text : List ℕ) (es : List EntryView) (name : List ℕ) (after : Place) (f : Form) (line : ℕ) (fault : ArchiveFault) → AreEntries es → MayBegin es name → HasForm v text (rows_before v es) name after f → line ≡ length (rows_before v es) + 1
-    → IsJudged v line f fault → IsTold v text fault
+    → IsJudged v line f fault → IsFaultTold v text fault
 judged v text es name after f line fault good may has at is = by fault is
   where
-    told : (fault : ArchiveFault) → FaultAt v es (form_part v name f) has.before_end fault → IsTold v text fault
+    told : (fault : ArchiveFault) → FaultAt v es (form_part v name f) has.before_end fault → IsFaultTold v text fault
     told fault cause = inr (record {
       entries = es;
       part = form_part v name f;
@@ -105,7 +106,7 @@ judged v text es name after f line fault good may has at is = by fault is
     end : (fault : ArchiveFault) → IsJudged v line f fault → IsFaultAtEnd v es (form_part v name f) has.before_end fault
     end fault is = at_end v text es name after f line fault has at is has.before_end refl after.rest has.ends
 
-    by : (fault : ArchiveFault) → IsJudged v line f fault → IsTold v text fault
+    by : (fault : ArchiveFault) → IsJudged v line f fault → IsFaultTold v text fault
     by (BadLine n) is = absurd is
     by (RepeatedName n) is = absurd is
     by (EntryRefused n refusal) is = told (EntryRefused n refusal) (end (EntryRefused n refusal) is)
@@ -121,8 +122,8 @@ result_both (Ok x) P P' Q Q' f g one two = f x one
 result_both (Err e) P P' Q Q' f g one two = g e two
 
 -- where there are not as many entries as may be, one more may stand
-pub few_entries : (n : ℕ) (many : Bool) → (4096 ≤ n → many ≡ true) → many ≡ false → n < 4096
-few_entries n many when none = elim (cases_lt n 4096) [
+pub few_entries : (n : ℕ) (many : Bool) → (most_entries ≤ n → many ≡ true) → many ≡ false → n < most_entries
+few_entries n many when none = elim (cases_lt n most_entries) [
   | inl few ↦ few
   | inr full ↦ absurd (true≢false (sym (when full) ∙ none))
 ]

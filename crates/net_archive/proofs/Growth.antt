@@ -9,11 +9,11 @@ use Rattle.net_entries.specs.Entries.{EntryView, entry_view, entry_views}
 use Rattle.net_entries.specs.declared.entry.Entry.{Entry}
 use Rattle.net_entries.specs.Lookups.{names_of}
 use Rattle.archive_text.specs.Rows.{first_row}
-use Rattle.archive_text.specs.Texts.{entry_lines, text_of}
+use Rattle.archive_text.specs.Texts.{entry_lines, text_of, most_bytes}
 use Rattle.archive_text.specs.declared.version.Version.{Version}
 use Rattle.archive_text.specs.declared.version.Version.TheVariants.{One, Two}
 use Rattle.net_archive.specs.Adding.{IsFull}
-use Rattle.net_archive.specs.Archives.{ArchiveView, IsArchive, IsBody, IsEntry, archive_text, with_entry}
+use Rattle.net_archive.specs.Archives.{ArchiveView, IsArchive, IsBody, IsEntry, archive_text, with_entry, most_entries}
 use Rattle.net_archive.proofs.ArchiveRows.{first_and_body, lines_with}
 use Rattle.line_text.proofs.CallerLemmas.{rows_text_of_sum}
 
@@ -53,8 +53,8 @@ other_names es name free k d l e =
     let there : get_or (names_of es) k name ≡ name = get_or-map view es k d name l ∙ e in
     free (k, (let n = length-map es view in omega (arith, n, l)), there)
 
-pub grown : (a : ArchiveView) (e : EntryView) → IsArchive a → IsEntry e → ¬ Contains (names_of a.entries) e.name → length a.entries < 4096
-    → length (archive_text (with_entry a e)) ≤ 16777216 → IsArchive (with_entry a e)
+pub grown : (a : ArchiveView) (e : EntryView) → IsArchive a → IsEntry e → ¬ Contains (names_of a.entries) e.name → length a.entries < most_entries
+    → length (archive_text (with_entry a e)) ≤ most_bytes → IsArchive (with_entry a e)
 grown a e is entry free few fits = record {
   each = All-push IsEntry a.entries e is.each entry;
   names = all_pairs_push (λ (f g : EntryView). f.name ≢ g.name) a.entries e is.names (other_names a.entries e.name free);
@@ -67,22 +67,22 @@ pub is_free : (names : List (List ℕ)) (name : List ℕ) (taken : Bool) → (Is
 is_free names name taken says fails there = let holds : taken ≡ true = says.1 there in cc
 
 module _ (a : ArchiveView) (e : EntryView) where
-  pub many_full : (items : List Entry) (many : Bool) → entry_views items ≡ a.entries → (IsTrue many ↔ (4096 ≤ length items)) → many ≡ true → IsFull a e
+  pub many_full : (items : List Entry) (many : Bool) → entry_views items ≡ a.entries → (IsTrue many ↔ (most_entries ≤ length items)) → many ≡ true → IsFull a e
   many_full items many are says holds =
       let n = sym (length-map items entry_view) ∙ ap length are in
       let m = says.0 holds in
       inl (omega (arith, n, m))
 
-  pub not_many : (items : List Entry) (many : Bool) → entry_views items ≡ a.entries → (IsTrue many ↔ (4096 ≤ length items)) → many ≡ false → length a.entries < 4096
+  pub not_many : (items : List Entry) (many : Bool) → entry_views items ≡ a.entries → (IsTrue many ↔ (most_entries ≤ length items)) → many ≡ false → length a.entries < most_entries
   not_many items many are says fails = by (order (length items))
     where
       n : length items ≡ length a.entries
       n = sym (length-map items entry_view) ∙ ap length are
 
-      order : (k : ℕ) → (4096 ≤ k) ⊎ (k < 4096)
+      order : (k : ℕ) → (most_entries ≤ k) ⊎ (k < most_entries)
       order k = grind arith
 
-      by : (4096 ≤ length items) ⊎ (length items < 4096) → length a.entries < 4096
+      by : (most_entries ≤ length items) ⊎ (length items < most_entries) → length a.entries < most_entries
       by (inl m) = let holds : many ≡ true = says.1 m in absurd (cc)
       by (inr l) = omega (arith, n, l)
 
@@ -94,23 +94,23 @@ module _ (a : ArchiveView) (e : EntryView) where
       let y = ap length r in
       omega (arith, whole, x, y)
 
-  pub long_full : (body rows : List ℕ) (long : Bool) → IsBody a body → rows ≡ rows_text (entry_lines a.version (e ∷ [])) → (IsTrue long ↔ (16777216 < 14 + length body + length rows)) → long ≡ true → IsFull a e
+  pub long_full : (body rows : List ℕ) (long : Bool) → IsBody a body → rows ≡ rows_text (entry_lines a.version (e ∷ [])) → (IsTrue long ↔ (most_bytes < 14 + length body + length rows)) → long ≡ true → IsFull a e
   long_full body rows long b r says holds =
       let n = with_length body rows b r in
       let m = says.0 holds in
       inr (omega (arith, n, m))
 
-  pub not_long : (body rows : List ℕ) (long : Bool) → IsBody a body → rows ≡ rows_text (entry_lines a.version (e ∷ [])) → (IsTrue long ↔ (16777216 < 14 + length body + length rows)) → long ≡ false
-      → length (archive_text (with_entry a e)) ≤ 16777216
+  pub not_long : (body rows : List ℕ) (long : Bool) → IsBody a body → rows ≡ rows_text (entry_lines a.version (e ∷ [])) → (IsTrue long ↔ (most_bytes < 14 + length body + length rows)) → long ≡ false
+      → length (archive_text (with_entry a e)) ≤ most_bytes
   not_long body rows long b r says fails = by (order (14 + length body + length rows))
     where
       n : length (archive_text (with_entry a e)) ≡ 14 + length body + length rows
       n = with_length body rows b r
 
-      order : (k : ℕ) → (16777216 < k) ⊎ (k ≤ 16777216)
+      order : (k : ℕ) → (most_bytes < k) ⊎ (k ≤ most_bytes)
       order k = grind arith
 
-      by : (16777216 < 14 + length body + length rows) ⊎ (14 + length body + length rows ≤ 16777216) → length (archive_text (with_entry a e)) ≤ 16777216
+      by : (most_bytes < 14 + length body + length rows) ⊎ (14 + length body + length rows ≤ most_bytes) → length (archive_text (with_entry a e)) ≤ most_bytes
       by (inl m) = let holds : long ≡ true = says.1 m in absurd (cc)
       by (inr l) = omega (arith, n, l)
 

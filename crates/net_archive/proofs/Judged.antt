@@ -1,6 +1,5 @@
 -- The faults of the steps are those that are judged of an entry.
-use Rattle.std.proofs.Common.{◌≡◌, ◌⊎◌, inl, inr, ℕ, ℤ, List, Result, Ok, Err, sym, subst}
-use Rattle.std.specs.Prelude.{IfErr, IsErrAnd}
+use Rattle.std.proofs.Common.{◌≡◌, ◌⊎◌, inl, inr, ℕ, ℤ, List, sym, subst}
 use Rattle.periodic_net.specs.Graph.{Graph, IsGraph}
 use Rattle.key_theory.specs.Key.{IsKeyOf}
 use Rattle.coordination.specs.Sequences.{AreSequencesOf}
@@ -63,8 +62,3 @@ other_judged v line f n TooManyEntries k g h = absurd h
 other_judged v line f n (VersionAt m) k g h = absurd h
 other_judged v line f n (CountDiffers m kept computed) k g h = absurd h
 other_judged v line f n (ShellsDiffer m class kept computed) k g h = absurd h
-
--- an error that is known has what holds of it
-pub known_error : {A E : Type 0} (P : E → Type 0) (x : E) (r : Result A E) → IsErrAnd r (λ e. e ≡ x) → P x → IfErr r P
-known_error P x (Ok a) h p = tt
-known_error P x (Err e) h p = subst P (sym h) p

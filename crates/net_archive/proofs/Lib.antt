@@ -1,3 +1,4 @@
+pub mod CallerLemmas
 pub mod FirstFaults
 pub mod SequenceForms
 pub mod MoreEntries

@@ -12,7 +12,7 @@ use Rattle.cgd_read.specs.Graphs.{edge_of}
 use Rattle.net_entries.specs.Entries.{EntryView}
 use Rattle.net_entries.specs.Lookups.{names_of}
 use Rattle.archive_text.specs.Rows.{OfEnd, row_lines, first_row, size_of_graph, end_row}
-use Rattle.archive_text.specs.Parts.{Keyed, Counted, part_rows, IsFormed, IsKeyed}
+use Rattle.archive_text.specs.Parts.{Keyed, Counted, part_rows, IsFormed, HasEdgesAndKey}
 use Rattle.archive_text.specs.Reading.{HasForm, form_part}
 use Rattle.archive_text.specs.Texts.{whole_part, entry_rows, entry_lines, rows_before}
 use Rattle.archive_text.specs.declared.rest.Form.{Form}
@@ -39,7 +39,7 @@ edges_in f = map edge_of f.keyed.edges.items
 size_same : (f : Form) → length (edges_in f) ≡ f.keyed.size.edges → size_of_graph (graph_of_form f) ≡ f.keyed.size
 size_same f whole = ap (λ n. record { dim = f.keyed.size.dim; vertices = f.keyed.size.vertices; edges = n }) whole
 
-pub keyed_in : (v : Version) (name : List ℕ) (f : Form) → IsFormed v (form_part v name f) → IsKeyed name f.keyed.size (edges_in f) f.keyed.key
+pub keyed_in : (v : Version) (name : List ℕ) (f : Form) → IsFormed v (form_part v name f) → HasEdgesAndKey name f.keyed.size (edges_in f) f.keyed.key
 keyed_in One name f formed = formed
 keyed_in Two name f formed = formed.1
 
@@ -54,7 +54,7 @@ is_entry v name f e formed of =
     let keyed = keyed_in v name f formed in
     let shells = subst (λ G. AreSequencesOf G e.shells) of.graph of.shells in
     record {
-      formed = (refl, subst (λ s. IsKeyed name s (edges_in f) f.keyed.key) (sym (size_same f keyed.whole)) keyed, are_counted (graph_of_form f) e.shells keyed.drawn.is_size.vertices.1 shells);
+      formed = (refl, subst (λ s. HasEdgesAndKey name s (edges_in f) f.keyed.key) (sym (size_same f keyed.whole)) keyed, are_counted (graph_of_form f) e.shells keyed.drawn.is_size.vertices.1 shells);
       is_graph = of.has_key.is_graph;
       certain = of.has_key.certain;
       key = of.has_key.key;

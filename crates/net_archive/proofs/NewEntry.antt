@@ -6,7 +6,7 @@ use Rattle.std.proofs.lemmas.List.Sums.{get_or-le-sum_by}
 use Rattle.integers.specs.Vectors.{zero_vector}
 use Rattle.periodic_net.specs.Classes.{ClassArc, ClassGraph}
 use Rattle.periodic_net.specs.Graph.{Arc, Graph, IsGraph, Vertex, both_ways, vertex}
-use Rattle.periodic_net.specs.Limits.{IsSmall}
+use Rattle.periodic_net.specs.Limits.{IsSmall, most_vertices}
 use Rattle.key_theory.specs.Frames.{IsFrameAfter}
 use Rattle.key_theory.specs.Key.{IsKeyOf}
 use Rattle.quotient_graph.specs.Order.{AreRising}
@@ -19,7 +19,7 @@ use Rattle.least_key.proofs.CallerLemmas.{key_of_graph, keyed_is_certain}
 use Rattle.net_entries.specs.Entries.{EntryView}
 use Rattle.archive_text.specs.Forms.{AreSizes, IsSize}
 use Rattle.archive_text.specs.Names.{is_name}
-use Rattle.archive_text.specs.Parts.{IsCounted, IsKeyed as IsKeyedPart}
+use Rattle.archive_text.specs.Parts.{IsCounted, HasEdgesAndKey}
 use Rattle.archive_text.specs.Rows.{size_of_graph}
 use Rattle.net_archive.specs.Adding.{IsEntryOf}
 use Rattle.net_archive.specs.Archives.{IsEntry}
@@ -72,7 +72,7 @@ class_sizes G lists a i l =
     let at : s.class_of m.0 - 1 ≡ i = omega (arith, e) in
     subst (λ (k : ℕ). AreSizes (get_or lists k [])) at (shells_are_sizes G w (get_or lists (s.class_of m.0 - 1) []) shells)
 
-are_counted : (G : Graph) (lists : List (List ℕ)) → AreSequencesOf G lists → length lists ≤ 512 → IsCounted (length lists) lists
+are_counted : (G : Graph) (lists : List (List ℕ)) → AreSequencesOf G lists → length lists ≤ most_vertices → IsCounted (length lists) lists
 are_counted G lists a few =
     let last = a.shape.is_classes.last in
     let low = a.shape.is_classes.numbering.positive last.0 last.1 in
@@ -85,7 +85,7 @@ are_counted G lists a few =
     }
 
 is_keyed_part : (name : List ℕ) (G : Graph) (xs : List ℤ) → is_name name ≡ true → IsGraph G → IsSmall G → AreRising G.edges → IsKeyOf G xs → All IsWide xs
-    → IsKeyedPart name (size_of_graph G) G.edges xs
+    → HasEdgesAndKey name (size_of_graph G) G.edges xs
 is_keyed_part name G xs is g small rising k wide =
     let short = key_is_short G xs k in
     let edges = small.edges in
@@ -103,7 +103,7 @@ is_keyed_part name G xs is g small rising k wide =
     }
 
 -- in the limits, with rising edges and with numbers of 128 bits in the key
-pub entry_of_net : (name : List ℕ) (n : KeyedNet) (e : EntryView) → is_name name ≡ true → IsKeyed n → IsEntryOf name n e → length e.shells ≤ 512
+pub entry_of_net : (name : List ℕ) (n : KeyedNet) (e : EntryView) → is_name name ≡ true → IsKeyed n → IsEntryOf name n e → length e.shells ≤ most_vertices
     → IsSmall e.graph → AreRising e.graph.edges → All IsWide e.key → IsEntry e
 entry_of_net name n e is keyed of few small rising wide =
     let g : IsGraph e.graph = subst IsGraph (sym of.graph) keyed.is_graph in

@@ -13,10 +13,10 @@ use Rattle.least_key.specs.Certain.{IsCertain}
 use Rattle.cgd_read.specs.Graphs.{edge_of}
 use Rattle.coordination.proofs.CallerLemmas.{one_list_of_sequences}
 use Rattle.least_key.proofs.CallerLemmas.{certain_is_not_refused}
-use Rattle.key_theory.proofs.KeysDecide.{one_key}
+use Rattle.key_theory.proofs.CallerLemmas.{one_key}
 use Rattle.net_entries.specs.Entries.{EntryView}
 use Rattle.archive_text.specs.Rows.{Row, OfEnd, row_line, row_lines, end_row}
-use Rattle.archive_text.specs.Parts.{Part, Start, part_rows, IsFormed, MayFollow}
+use Rattle.archive_text.specs.Parts.{Part, Start, part_rows, IsFormed, MayStandAfter}
 use Rattle.archive_text.specs.Reading.{form_part}
 use Rattle.archive_text.specs.Texts.{entry_rows}
 use Rattle.archive_text.specs.declared.rest.Form.{Form}
@@ -45,10 +45,10 @@ among v all es name f place whole formed p stands = by p.others p.walk p.left p.
     part : Part
     part = form_part v name f
 
-    follows : MayFollow v part OfEnd
+    follows : MayStandAfter v part OfEnd
     follows = end_follows v name f.keyed.size (map edge_of f.keyed.edges.items) f.keyed.key f.shells
 
-    ends : (r : Row) → MayFollow v part r → (rs : List Row) → place.rest ≡ rows_text (row_lines (r ∷ rs)) → r ≡ OfEnd
+    ends : (r : Row) → MayStandAfter v part r → (rs : List Row) → place.rest ≡ rows_text (row_lines (r ∷ rs)) → r ≡ OfEnd
     ends r may rs left = same_row_of v part r OfEnd formed may follows
         (same_row (row_line r) end_row (rows_text (row_lines rs)) stands.0 (row_none v part r formed may) (row_none v part OfEnd formed follows) (sym left ∙ stands.1)).0
 

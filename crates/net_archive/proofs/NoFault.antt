@@ -9,13 +9,14 @@ use Rattle.net_entries.specs.Entries.{EntryView}
 use Rattle.net_entries.specs.Lookups.{names_of}
 use Rattle.archive_text.specs.Names.{is_name}
 use Rattle.archive_text.specs.Rows.{Row, OfName, OfSize, OfEdge, OfKey, OfCount, OfShells, OfEnd, row_lines, name_row}
-use Rattle.archive_text.specs.Parts.{Part, Start, MayFollow}
+use Rattle.archive_text.specs.Parts.{Part, Start, MayStandAfter}
 use Rattle.archive_text.specs.Texts.{entry_rows}
 use Rattle.archive_text.specs.declared.version.Version.{Version}
 use Rattle.archive_text.specs.declared.version.Version.TheVariants.{One, Two}
 use Rattle.archive_text.proofs.CallerLemmas.{Walk, shown, name_none, same_name}
 use Rattle.net_archive.specs.Faults.{MayEnd, IsBadLine, IsRepeated, IsTooMany, Stands}
 use Rattle.net_archive.proofs.Passed.{IsPassed}
+use Rattle.net_archive.specs.Archives.{most_entries}
 
 -- no line of an archive breaks the format
 pub no_bad_line : (v : Version) (all es : List EntryView) (part : Part) (place : Place) (n : ℕ) → IsPassed v all es part place.rest → IsBadLine v part place n → ⊥
@@ -57,7 +58,7 @@ some_rows Two e rs = omega arith
 pub begun : (v : Version) (all es : List EntryView) (place : Place) (name : List ℕ) → is_name name ≡ true → (p : IsPassed v all es Start place.rest) → Stands (name_row name) place → Begun all p.front name
 begun v all es place name is p stands = by p.others p.walk p.left p.more p.is p.rows
   where
-    named : (r : Row) → MayFollow v Start r → (rs : List Row) → place.rest ≡ rows_text (row_lines (r ∷ rs)) → name_in (r ∷ rs) ≡ name
+    named : (r : Row) → MayStandAfter v Start r → (rs : List Row) → place.rest ≡ rows_text (row_lines (r ∷ rs)) → name_in (r ∷ rs) ≡ name
     named (OfName other) may rs left = same_name other name (same_row (name_row other) (name_row name) (rows_text (row_lines rs)) stands.0 (name_none other may) (name_none name is) (sym left ∙ stands.1)).0
     named (OfSize s) may rs left = absurd may
     named (OfEdge dim e) may rs left = absurd may
@@ -66,7 +67,7 @@ begun v all es place name is p stands = by p.others p.walk p.left p.more p.is p.
     named (OfShells c sizes) may rs left = absurd may
     named OfEnd may rs left = absurd may
 
-    first : (r : Row) → MayFollow v Start r → (rs : List Row) → place.rest ≡ rows_text (row_lines (r ∷ rs)) → (more : List EntryView) → all ≡ p.front ++ more → r ∷ rs ≡ flat_map (entry_rows v) more → Begun all p.front name
+    first : (r : Row) → MayStandAfter v Start r → (rs : List Row) → place.rest ≡ rows_text (row_lines (r ∷ rs)) → (more : List EntryView) → all ≡ p.front ++ more → r ∷ rs ≡ flat_map (entry_rows v) more → Begun all p.front name
     first r may rs left [] is rows = let long = ap length rows in absurd (omega (arith, long))
     first r may rs left (e ∷ later) is rows = record {
       entry = e;
@@ -105,7 +106,7 @@ no_repeated v all es place n apart p bad =
     (ap (λ (x : EntryView). x.name) lower ∙ sym (get_or-map (λ (e : EntryView). e.name) p.front k b.entry bad.name within) ∙ among.2 ∙ sym b.same ∙ ap (λ (x : EntryView). x.name) (sym upper))
 
 -- there are no more entries than there may be
-pub no_too_many : (v : Version) (all es : List EntryView) (place : Place) → length all ≤ 4096 → IsPassed v all es Start place.rest → IsTooMany es place → ⊥
+pub no_too_many : (v : Version) (all es : List EntryView) (place : Place) → length all ≤ most_entries → IsPassed v all es Start place.rest → IsTooMany es place → ⊥
 no_too_many v all es place few p bad =
     let b = begun v all es place bad.name bad.is_name p bad.begins in
     let long = ap length b.is in

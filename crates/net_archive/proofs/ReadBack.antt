@@ -2,23 +2,23 @@
 use Rattle.std.proofs.Common.{◌≡◌, inl, inr, ℕ, ◌≤◌, List, Result, Ok, Err, length, sym, ◌∙◌, subst}
 use Rattle.std.specs.Prelude.{IsErrAnd, MatchResult}
 use Rattle.net_entries.specs.Entries.{EntryView}
-use Rattle.archive_text.specs.Texts.{text_of}
+use Rattle.archive_text.specs.Texts.{text_of, most_bytes}
 use Rattle.archive_text.specs.declared.version.Version.{Version}
 use Rattle.net_archive.specs.Archives.{ArchiveView, IsArchive, archive_text}
 use Rattle.net_archive.specs.Faults.{AreEntries, IsFaultOf}
-use Rattle.net_archive.specs.Steps.{IsTold}
+use Rattle.net_archive.specs.Steps.{IsFaultTold}
 use Rattle.net_archive.specs.declared.faults.ArchiveFault.{ArchiveFault}
 use Rattle.net_archive.specs.declared.faults.ArchiveFault.TheVariants.{NoMemory}
 use Rattle.net_archive.proofs.NoFirstFault.{no_fault_but_memory, one_archive}
 
 -- entries whose text is not too long are an archive
-pub are_archive : (v : Version) (es : List EntryView) (text : List ℕ) → length text ≤ 16777216 → AreEntries es → text ≡ text_of v es
+pub are_archive : (v : Version) (es : List EntryView) (text : List ℕ) → length text ≤ most_bytes → AreEntries es → text ≡ text_of v es
     → IsArchive (record { version = v; entries = es })
 are_archive v es text l h e = record {
   each = h.each;
   names = h.names;
   few = h.few;
-  fits = subst (λ (t : List ℕ). length t ≤ 16777216) e l;
+  fits = subst (λ (t : List ℕ). length t ≤ most_bytes) e l;
 }
 
 -- of the text of an archive no other is read
@@ -35,6 +35,6 @@ matched_error Q P x (Ok a) h p = absurd h
 matched_error Q P x (Err e) h p = subst P (sym h) p
 
 -- what is told after the first line is told of the text
-pub told : (v : Version) (text : List ℕ) (fault : ArchiveFault) → IsTold v text fault → IsFaultOf text fault
+pub told : (v : Version) (text : List ℕ) (fault : ArchiveFault) → IsFaultTold v text fault → IsFaultOf text fault
 told v text fault (inl memory) = inl memory
 told v text fault (inr has) = inr (inr (v, has))

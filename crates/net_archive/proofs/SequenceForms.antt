@@ -8,6 +8,7 @@ use Rattle.periodic_net.specs.Classes.{IsClassNumbering}
 use Rattle.periodic_net.specs.Graph.{Graph, IsQuotientVertex, vertex}
 use Rattle.periodic_net.specs.Placement.{Placement}
 use Rattle.periodic_net.proofs.CallerLemmas.{origin_vertex}
+use Rattle.periodic_net.specs.Limits.{most_vertices}
 use Rattle.coordination.specs.Sequences.{AreShellsOf, AreSequencesOf}
 use Rattle.coordination.proofs.CallerLemmas.{class_met}
 use Rattle.archive_text.specs.Forms.{IsShort, AreSizes}
@@ -29,7 +30,7 @@ short_sizes G sizes u are = record {
 }
 
 -- there is a class at least, no more than there may be, and ten sizes at most for each
-pub are_counted : (G : Graph) (lists : List (List ℕ)) → G.vertices ≤ 512 → AreSequencesOf G lists → IsCounted (length lists) lists
+pub are_counted : (G : Graph) (lists : List (List ℕ)) → G.vertices ≤ most_vertices → AreSequencesOf G lists → IsCounted (length lists) lists
 are_counted G lists small are = record {
   is_count = (omega (arith, are.count, positive, last.2), omega (arith, are.count, low, last.2, last.1.1, small));
   each = All-from_get_or AreSizes lists [] each;

@@ -5,9 +5,10 @@ use Rattle.least_key.specs.KeyedNets.{KeyedNet}
 use Rattle.net_entries.specs.Entries.{EntryView}
 use Rattle.net_entries.specs.Lookups.{names_of}
 use Rattle.archive_text.specs.Names.{is_name}
-use Rattle.net_archive.specs.Archives.{ArchiveView, archive_text, with_entry, most_entries, most_bytes}
+use Rattle.net_archive.specs.Archives.{ArchiveView, archive_text, with_entry, most_entries}
 use Rattle.net_archive.specs.declared.faults.AddFault.{AddFault}
 use Rattle.net_archive.specs.declared.faults.AddFault.TheVariants.{NameTaken, BadName, Full, NoMemory}
+use Rattle.archive_text.specs.Texts.{most_bytes}
 
 -- the entry of a net under a name
 pub record IsEntryOf (name : List ℕ) (n : KeyedNet) (e : EntryView) : Type 0 where

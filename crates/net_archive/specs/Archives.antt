@@ -7,17 +7,13 @@ use Rattle.least_key.specs.Certain.{IsCertain}
 use Rattle.net_entries.specs.Entries.{EntryView}
 use Rattle.archive_text.specs.Parts.{IsFormed}
 use Rattle.line_text.specs.Lines.{rows_text}
-use Rattle.archive_text.specs.Texts.{entry_lines, text_of, whole_part}
+use Rattle.archive_text.specs.Texts.{entry_lines, most_bytes, text_of, whole_part}
 use Rattle.archive_text.specs.declared.version.Version.{Version}
 use Rattle.archive_text.specs.declared.version.Version.TheVariants.{One, Two}
 
 -- the entries of an archive, at most
 abbrev pub most_entries : ℕ
 most_entries = 4096
-
--- the bytes of its text, at most
-abbrev pub most_bytes : ℕ
-most_bytes = 16777216
 
 -- a version of the format, and entries
 pub record ArchiveView : Type 0 where
@@ -60,3 +56,8 @@ pub record IsArchive (a : ArchiveView) : Type 0 where
   pub names : AllPairs (λ (e f : EntryView). e.name ≢ f.name) a.entries
   pub few : length a.entries ≤ most_entries
   pub fits : length (archive_text a) ≤ most_bytes
+
+-- an archive, beside the rows of its entries
+pub record IsInMemory (a : ArchiveView) (body : List ℕ) : Type 0 where
+  pub is_archive : IsArchive a
+  pub is_body : IsBody a body

@@ -1,8 +1,8 @@
 -- An archive in the newest version of the format.
 use Rattle.std.specs.Prelude.{◌≡◌, ℕ, ◌≤◌, ◌<◌, List, length}
-use Rattle.archive_text.specs.Texts.{text_of}
+use Rattle.archive_text.specs.Texts.{text_of, most_bytes}
 use Rattle.archive_text.specs.declared.version.Version.TheVariants.{Two}
-use Rattle.net_archive.specs.Archives.{ArchiveView, most_bytes}
+use Rattle.net_archive.specs.Archives.{ArchiveView}
 use Rattle.net_archive.specs.declared.faults.MigrateFault.{MigrateFault}
 use Rattle.net_archive.specs.declared.faults.MigrateFault.TheVariants.{Full, NoMemory}
 

@@ -29,8 +29,8 @@ pub record AreMore (v : Version) (text : List ℕ) (entries : List EntryView) (e
   pub at : IsAt text (rows_before v (entries ++ e ∷ [])) place
 
 -- what is told of a text of this version after its first line
-abbrev pub IsTold : Version → List ℕ → ArchiveFault → Type 0
-IsTold v text fault = (fault ≡ NoMemory) ⊎ HasFault v text fault
+abbrev pub IsFaultTold : Version → List ℕ → ArchiveFault → Type 0
+IsFaultTold v text fault = (fault ≡ NoMemory) ⊎ HasFault v text fault
 
 -- from the one place to the other these entries were read
 pub record AreRead (v : Version) (start now : Place) (entries : List EntryView) : Type 0 where

@@ -1,30 +1,29 @@
 // The steps of adding a net to an archive.
-ghost use Rattle.std.specs.Prelude.{◌≡◌, ◌↔◌, ◌≤◌, ◌<◌, ◌+◌, ◌++◌, ◌∷◌, [], true, All, IsTrue, IfOk, OnOk, OnErr, length};
+ghost use Rattle.std.specs.Prelude.{◌≡◌, ◌↔◌, ◌≤◌, ◌<◌, ◌+◌, ◌++◌, ◌∷◌, [], true, IsTrue, IfOk, OnOk, OnErr, length};
 ghost use Rattle.line_text.specs.Lines.{rows_text};
-ghost use Rattle.line_text.specs.Numbers.{IsWide};
-ghost use Rattle.periodic_net.specs.Limits.{IsSmall};
+ghost use Rattle.periodic_net.specs.Limits.{IsSmall, most_vertices};
 ghost use Rattle.quotient_graph.specs.AnyGraphs.{graph_in};
 ghost use Rattle.quotient_graph.specs.Order.{AreRising};
 ghost use Rattle.least_key.specs.AnyNets.{net_in};
 ghost use Rattle.net_entries.specs.Entries.{entry_view};
-ghost use Rattle.archive_text.specs.Texts.{entry_lines};
+ghost use Rattle.archive_text.specs.Texts.{entry_lines, most_bytes};
 ghost use Rattle.archive_text.specs.Names.{is_name};
 ghost use Rattle.net_archive.specs.Adding.{IsEntryOf};
-ghost use Rattle.net_archive.specs.Archives.{IsEntry, most_bytes, most_entries};
+ghost use Rattle.net_archive.specs.Archives.{IsEntry, most_entries};
 
-use crate::judge::sequences_of;
+use crate::judge::{copy_of_key, sequences_of};
 use crate::migrating::MOST_BYTES;
 use archive_text::{Version, push_entry};
 use least_key::Net;
 use net_entries::{Entries, Entry};
-use quotient_graph::{AnyGraph, Graph, Key};
+use quotient_graph::{AnyGraph, Graph};
 use std::alloc::{AllocError, Global};
 
 /// So many entries has an archive at most.
 const MOST_ENTRIES: usize = 4096;
 
 /// The first line and its line feed.
-pub const FIRST_LINE: usize = 14;
+const FIRST_LINE: usize = 14;
 
 // An equal graph. A graph in memory is within the limits, and its edges rise.
 fn copy_of<const D: usize>(graph: &Graph<D>) -> Result<Graph<D>, AllocError>
@@ -49,41 +48,20 @@ fn graph_of(net: &Net) -> Result<AnyGraph, AllocError>
     }
 }
 
-// The number, which is of 128 bits as its type says.
-fn wide(number: i128) -> i128
-    ensures same { result ≡ number }
-    ensures wide { IsWide result }
-{
-    number
-}
-
-// The numbers of a key.
-fn numbers_of(alloc: Global, key: &Key) -> Result<Vec<i128>, AllocError>
-    ensures numbers { IfOk result (λ copy. copy.items ≡ key.now) }
-    ensures wide { IfOk result (λ copy. All IsWide copy.items) }
-{
-    let numbers = key.numbers();
-    let mut copy = Vec::new(alloc);
-    for number in numbers {
-        copy.push(wide(*number))?;
-    }
-    Ok(copy)
-}
-
 // The entry of a net under a name.
 fn entry_of(alloc: Global, name: &[u8], net: &Net) -> Result<Entry, AllocError>
     ensures entry { IfOk result (λ e. IsEntryOf name.now (net_in net.now) (entry_view e)) }
     ensures is_entry { is_name name.now ≡ true → IfOk result (λ e. IsEntry (entry_view e)) }
-    ensures few { IfOk result (λ e. length e.shells ≤ 512) }
+    ensures few { IfOk result (λ e. length e.shells ≤ most_vertices) }
 {
     let shells = sequences_of(alloc, net)?;
     let graph = graph_of(net)?;
     let name = Vec::from_slice(alloc, name)?;
-    let numbers = numbers_of(alloc, net.key())?;
+    let key = copy_of_key(alloc, net.key())?;
     Ok(Entry {
         name,
         graph,
-        key: Key::from_parts(numbers),
+        key,
         shells,
     })
 }
@@ -116,7 +94,7 @@ pub fn are_many(entries: &[Entry]) -> bool
 /// Whether the text would be too long with these rows after the others.
 pub fn is_too_long(body: &[u8], rows: &[u8]) -> bool
     requires { length body.now ≤ most_bytes }
-    ensures { IsTrue result ↔ most_bytes < 14 + length body.now + length rows.now }
+    ensures { IsTrue result ↔ most_bytes < FIRST_LINE + length body.now + length rows.now }
 {
     rows.len() > MOST_BYTES || FIRST_LINE + body.len() + rows.len() > MOST_BYTES
 }

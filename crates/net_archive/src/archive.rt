@@ -8,6 +8,7 @@ ghost use Rattle.net_archive.specs.Adding.{IsAddFault, IsEntryOf};
 ghost use Rattle.net_archive.specs.Faults.{IsFaultOf};
 ghost use Rattle.net_archive.specs.Archives.{ArchiveView, IsArchive, archive_text, empty_archive, version_number, with_entry};
 ghost use Rattle.net_archive.specs.Migrating.{IsMigrated, IsMigrateFault};
+ghost use Rattle.archive_text.specs.Texts.{most_bytes};
 
 use crate::adding::{addition, append, are_many, is_too_long};
 use crate::migrating::newest_text;
@@ -20,8 +21,8 @@ use quotient_graph::Key;
 use std::alloc::{AllocError, Global};
 use std::marker::Model;
 
-/// Named nets, each with its key and the sizes of shells of its classes, in a version of the format. Contracts see the
-/// version and the entries.
+/// Named nets, each with its key and the sizes of shells of its classes, in a version of the
+/// format. Contracts see the version and the entries.
 #[derive(Drop)]
 pub struct Archive {
     version: Version,
@@ -30,13 +31,14 @@ pub struct Archive {
 }
 
 impl Model for Archive {
-    ghost use Rattle.net_archive.specs.Archives.{ArchiveView, IsArchive, IsBody};
+    ghost use Rattle.net_archive.specs.Archives.{ArchiveView, IsInMemory};
 
     ghost Value = { ArchiveView };
 
     ghost view = { λ a. record { version = a.version; entries = a.entries } };
 
-    ghost invariant = { λ a. IsArchive (record { version = a.version; entries = a.entries }) × IsBody (record { version = a.version; entries = a.entries }) a.body.items };
+    ghost invariant = { λ a.
+        IsInMemory (record { version = a.version; entries = a.entries }) a.body.items };
 }
 
 impl Archive {
@@ -51,9 +53,10 @@ impl Archive {
         }
     }
 
-    /// The archive whose text this is, or the first fault of the text. Every key, and every list of shells, is computed anew.
+    /// The archive whose text this is, or the first fault of the text. Every key, and every list of
+    /// shells, is computed anew.
     pub fn read(alloc: Global, text: Vec<u8>) -> Result<Archive, ArchiveFault>
-        requires { length text.items ≤ 16777216 }
+        requires { length text.items ≤ most_bytes }
         ensures read { IfOk result (λ a. text.items ≡ archive_text a) }
         ensures fault { IfErr result (IsFaultOf text.items) }
         ensures every { (a : ArchiveView) → IsArchive a → text.items ≡ archive_text a →
@@ -94,8 +97,8 @@ impl Archive {
         self.entries.lookup(key)
     }
 
-    /// The groups of two or more entries with equal keys, as rising numbers of entries from 1, in the order of their first
-    /// members.
+    /// The groups of two or more entries with equal keys, as rising numbers of entries from 1, in
+    /// the order of their first members.
     pub fn duplicates(&self) -> Result<Groups, AllocError>
         ensures groups { IfOk result (AreGroups self.now.entries) }
         ensures archive { IsArchive self.now }

@@ -5,8 +5,8 @@ use least_key::Refusal;
 use quotient_graph::Key;
 use std::alloc::AllocError;
 
-/// Why a text is no archive, by the first fault in it. Each `u32` but `class`, `kept` and `computed` is the number of a line. The numbers
-/// are those of the report.
+/// Why a text is no archive, by the first fault in it. Each `u32` but `class`, `kept` and
+/// `computed` is the number of a line. The numbers are those of the report.
 #[derive(Drop)]
 pub enum ArchiveFault {
     /// 1: the line breaks the format otherwise than below.
@@ -52,7 +52,8 @@ impl From<AllocError> for ArchiveFault {
     }
 }
 
-/// Why a net is not added to an archive, by the first that applies. The numbers are those of the report.
+/// Why a net is not added to an archive, by the first that applies. The numbers are those of the
+/// report.
 #[derive(Clone, Copy, Debug, PartialEq, Eq)]
 pub enum AddFault {
     /// 1: an entry has the name.

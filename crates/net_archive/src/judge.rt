@@ -1,18 +1,20 @@
 // Judges an entry at its end: computes what its rows tell of its graph anew.
-ghost use Rattle.std.specs.Prelude.{◌≡◌, ◌↔◌, ◌⊎◌, ◌≤◌, ℕ, true, IfOk, IfErr, OnOk, length};
+ghost use Rattle.std.specs.Prelude.{◌≡◌, ◌↔◌, ◌⊎◌, ◌≤◌, ℕ, true, IfOk, IfErr, OnOk, length, All};
 ghost use Rattle.quotient_graph.specs.AnyGraphs.{graph_in};
 ghost use Rattle.coordination.specs.Sequences.{AreSequencesOf};
 ghost use Rattle.least_key.specs.AnyNets.{net_in};
 ghost use Rattle.least_key.specs.KeyedNets.{IsKeyed};
-ghost use Rattle.least_key.specs.Truths.{IsTrueOf};
 ghost use Rattle.quotient_graph.specs.EdgeLists.{AreEdgesOfGraph};
 ghost use Rattle.net_entries.specs.Entries.{entry_view};
 ghost use Rattle.net_archive.specs.Judging.{AreRefusedShells, HasKey, IsDifferingClass, IsEntryOfForm, IsJudged, IsOtherKey, IsRefusedAt, graph_of_form, graph_of_keyed};
+ghost use Rattle.periodic_net.specs.Limits.{most_vertices};
+ghost use Rattle.archive_text.specs.Texts.{most_lines};
+ghost use Rattle.line_text.specs.Numbers.{IsWide};
 
 use crate::ArchiveFault;
 use archive_text::{Form, KeyedGraph, Version};
 use coordination::{Sequences, sequences};
-use least_key::{Net, Refusal, identify};
+use least_key::{Net, Refusal, copy_of_graph, identify};
 use net_entries::Entry;
 use quotient_graph::{AnyGraph, Key, from_edges};
 use std::alloc::{AllocError, Global};
@@ -20,21 +22,11 @@ use std::alloc::{AllocError, Global};
 /// The sizes of shells of each class of a net.
 pub fn sequences_of(alloc: Global, net: &Net) -> Result<Sequences, AllocError>
     ensures sequences { IfOk result (AreSequencesOf (net_in net.now).placed.graph) }
-    ensures few { IfOk result (λ lists. length lists ≤ 512) }
+    ensures few { IfOk result (λ lists. length lists ≤ most_vertices) }
 {
     match net {
         Net::Flat(net) => sequences(alloc, &net.classes, &net.primitive),
         Net::Space(net) => sequences(alloc, &net.classes, &net.primitive),
-    }
-}
-
-/// An equal graph.
-pub fn copy_of(graph: &AnyGraph) -> Result<AnyGraph, AllocError>
-    ensures { IfOk result (λ g. graph_in g ≡ graph_in graph.now) }
-{
-    match graph {
-        AnyGraph::Flat(graph) => graph.copy().map(AnyGraph::Flat),
-        AnyGraph::Space(graph) => graph.copy().map(AnyGraph::Space),
     }
 }
 
@@ -44,12 +36,25 @@ fn same_key(a: &Key, b: &Key) -> bool
     a.numbers() == b.numbers()
 }
 
-// An equal key.
-fn copy_of_key(alloc: Global, key: &Key) -> Result<Key, AllocError>
-    ensures { IfOk result (λ k. k ≡ key.now) }
+// The number, which is of 128 bits as its type says.
+fn wide_number(number: i128) -> i128
+    ensures same { result ≡ number }
+    ensures wide { IsWide result }
 {
-    let numbers = Vec::from_slice(alloc, key.numbers())?;
-    Ok(Key::from_parts(numbers))
+    number
+}
+
+/// An equal key.
+pub fn copy_of_key(alloc: Global, key: &Key) -> Result<Key, AllocError>
+    ensures same { IfOk result (λ k. k ≡ key.now) }
+    ensures wide { IfOk result (All IsWide) }
+{
+    let numbers = key.numbers();
+    let mut copy = Vec::new(alloc);
+    for number in numbers {
+        copy.push(wide_number(*number))?;
+    }
+    Ok(Key::from_parts(copy))
 }
 
 // The net of a graph, or why the entry that begins on this line is refused.
@@ -58,7 +63,7 @@ fn identify_at(alloc: Global, line: u32, graph: &AnyGraph) -> Result<Net, Archiv
     ensures keyed { IfOk result (λ n. IsKeyed (net_in n)) }
     ensures fault { IfErr result (IsRefusedAt line (graph_in graph.now)) }
 {
-    match identify(alloc, copy_of(graph)?) {
+    match identify(alloc, copy_of_graph(graph)?) {
         Ok(net) => Ok(net),
         Err(Refusal::NoMemory) => Err(ArchiveFault::NoMemory),
         Err(refusal) => Err(ArchiveFault::EntryRefused(line, refusal)),
@@ -91,9 +96,9 @@ fn check_shells(
     kept: &Sequences,
     computed: &Sequences,
 ) -> Result<(), ArchiveFault>
-    requires line { key_line ≤ 16777217 }
-    requires kept { length kept.now ≤ 512 }
-    requires computed { length computed.now ≤ 512 }
+    requires line { key_line ≤ most_lines }
+    requires kept { length kept.now ≤ most_vertices }
+    requires computed { length computed.now ≤ most_vertices }
     ensures same { OnOk result (kept.now ≡ computed.now) }
     ensures fault { IfErr result (AreRefusedShells key_line kept.now computed.now) }
 {
@@ -123,9 +128,9 @@ fn check_version(
     kept: &Sequences,
     computed: &Sequences,
 ) -> Result<(), ArchiveFault>
-    requires line { key_line ≤ 16777217 }
-    requires kept { length kept.now ≤ 512 }
-    requires computed { length computed.now ≤ 512 }
+    requires line { key_line ≤ most_lines }
+    requires kept { length kept.now ≤ most_vertices }
+    requires computed { length computed.now ≤ most_vertices }
     ensures same { OnOk result (version ≡ Version.Two → kept.now ≡ computed.now) }
     ensures fault { IfErr result (λ fault. (fault ≡ ArchiveFault.NoMemory) ⊎
         ((version ≡ Version.Two) × AreRefusedShells key_line kept.now computed.now fault)) }
@@ -162,8 +167,8 @@ fn check_net(
 ) -> Result<Sequences, ArchiveFault>
     requires graph { (net_in net.now).placed.graph ≡ graph_of_form form.now }
     requires keyed { IsKeyed (net_in net.now) }
-    requires line { form.now.keyed.key_line ≤ 16777217 }
-    requires few { length form.now.shells ≤ 512 }
+    requires line { form.now.keyed.key_line ≤ most_lines }
+    requires few { length form.now.shells ≤ most_vertices }
     ensures key { OnOk result (HasKey form.now) }
     ensures shells { IfOk result (AreSequencesOf (graph_of_form form.now)) }
     ensures kept { IfOk result (λ lists. version ≡ Version.Two → form.now.shells ≡ lists) }
@@ -176,7 +181,8 @@ fn check_net(
     Ok(shells)
 }
 
-// The shells of the classes of an entry's graph, where its key and they are kept. The entry begins on this line.
+// The shells of the classes of an entry's graph, where its key and they are kept. The entry begins
+// on this line.
 fn check_form(
     alloc: Global,
     line: u32,
@@ -185,8 +191,8 @@ fn check_form(
     form: &Form,
 ) -> Result<Sequences, ArchiveFault>
     requires graph { graph_in graph.now ≡ graph_of_form form.now }
-    requires line { form.now.keyed.key_line ≤ 16777217 }
-    requires few { length form.now.shells ≤ 512 }
+    requires line { form.now.keyed.key_line ≤ most_lines }
+    requires few { length form.now.shells ≤ most_vertices }
     ensures key { OnOk result (HasKey form.now) }
     ensures shells { IfOk result (AreSequencesOf (graph_of_form form.now)) }
     ensures kept { IfOk result (λ lists. version ≡ Version.Two → form.now.shells ≡ lists) }
@@ -204,7 +210,8 @@ fn graph_of(alloc: Global, keyed: &KeyedGraph) -> Result<AnyGraph, AllocError>
     from_edges(alloc, keyed.size.dim, keyed.size.vertices, &keyed.edges)
 }
 
-/// The entry of this name and form, whose first row stands on this line, or the first fault that is told at its end.
+/// The entry of this name and form, whose first row stands on this line, or the first fault that is
+/// told at its end.
 pub fn judge(
     alloc: Global,
     name: &[u8],
@@ -214,8 +221,8 @@ pub fn judge(
 ) -> Result<Entry, ArchiveFault>
     requires edges { AreEdgesOfGraph form.keyed.size.dim form.keyed.size.vertices
         form.keyed.edges.items }
-    requires line { form.keyed.key_line ≤ 16777217 }
-    requires few { length form.shells ≤ 512 }
+    requires line { form.keyed.key_line ≤ most_lines }
+    requires few { length form.shells ≤ most_vertices }
     ensures entry { IfOk result (λ e. IsEntryOfForm version name.now form (entry_view e)) }
     ensures fault { IfErr result (IsJudged version line form) }
 {

@@ -14,4 +14,5 @@ pub use archive_text::Version;
 pub use faults::{AddFault, ArchiveFault, MigrateFault};
 pub use judge::sequences_of;
 pub use laws::{archives_have_no_fault, one_archive};
+pub use migrating::MOST_BYTES;
 pub use net_entries::{Entry, Groups, Matches};

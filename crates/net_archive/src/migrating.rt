@@ -1,8 +1,8 @@
 // The text of an archive in the newest version.
 ghost use Rattle.std.specs.Prelude.{◌≡◌, ◌≤◌, All, IfOk, IfErr, length};
 ghost use Rattle.net_entries.specs.Entries.{entry_view, entry_views};
-ghost use Rattle.archive_text.specs.Texts.{text_of};
-ghost use Rattle.net_archive.specs.Archives.{IsEntry, most_bytes};
+ghost use Rattle.archive_text.specs.Texts.{text_of, most_bytes};
+ghost use Rattle.net_archive.specs.Archives.{IsEntry};
 ghost use Rattle.net_archive.specs.Migrating.{IsTooLong};
 
 use crate::MigrateFault;
@@ -29,7 +29,8 @@ fn rows_in_two(alloc: Global, entries: &[Entry]) -> Result<Vec<u8>, AllocError>
 /// The text of these entries in version 2, or that it is too long.
 pub fn newest_text(alloc: Global, entries: &[Entry]) -> Result<Vec<u8>, MigrateFault>
     requires { All (λ entry. IsEntry (entry_view entry)) entries.now }
-    ensures text { IfOk result (λ text. text.items ≡ text_of Version.Two (entry_views entries.now)) }
+    ensures text { IfOk result (λ text.
+        text.items ≡ text_of Version.Two (entry_views entries.now)) }
     ensures fits { IfOk result (λ text. length text.items ≤ most_bytes) }
     ensures fault { IfErr result (IsTooLong (text_of Version.Two (entry_views entries.now))) }
 {

@@ -1,12 +1,12 @@
 // Reads a text.
-ghost use Rattle.std.specs.Prelude.{ℕ, List, ◌≡◌, ◌≢◌, ◌⊎◌, ◌+◌, ◌≤◌, ◌++◌, ◌∷◌, [], length, IfErr, IfOk, MatchOption, MatchResult};
+ghost use Rattle.std.specs.Prelude.{ℕ, List, ◌≡◌, ◌≢◌, ◌+◌, ◌≤◌, ◌++◌, ◌∷◌, [], length, IfErr, IfOk, MatchOption, MatchResult};
 ghost use Rattle.line_text.specs.Lines.{IsAt};
 ghost use Rattle.net_entries.specs.Entries.{EntryView, entry_view};
-ghost use Rattle.archive_text.specs.Rows.{first_row, name_row};
-ghost use Rattle.archive_text.specs.Texts.{rows_before, text_of};
+ghost use Rattle.archive_text.specs.Rows.{first_row};
+ghost use Rattle.archive_text.specs.Texts.{rows_before, text_of, most_bytes};
 ghost use Rattle.archive_text.specs.declared.version.Version.{Version};
-ghost use Rattle.net_archive.specs.Faults.{AreEntries, MayBegin, HasFault, IsFaultOf, IsFirstLineFault};
-ghost use Rattle.net_archive.specs.Steps.{AreMore, HasBegun, IsAfterName, IsTold};
+ghost use Rattle.net_archive.specs.Faults.{AreEntries, HasFault, IsFaultOf, IsFirstLineFault};
+ghost use Rattle.net_archive.specs.Steps.{AreMore, HasBegun, IsAfterName, IsFaultTold};
 
 use crate::ArchiveFault;
 use crate::adding::are_many;
@@ -82,7 +82,7 @@ fn finish_entry(
         HasBegun version text entries name.now lines.old →
         line ≡ length (rows_before version entries) + 1 →
         MatchResult result (λ e. AreMore version text entries (entry_view e) lines.new)
-        (IsTold version text) }
+        (IsFaultTold version text) }
 {
     match read_rest(lines, version, numbers)? {
         Ok(form) => judge(*numbers.allocator(), name, line, version, form),
@@ -103,7 +103,7 @@ fn read_entry(
     ensures { (text : List ℕ) → IsAt text (rows_before version entries.now) lines.old →
         MatchResult result
         (λ e. AreMore version text entries.now (entry_view e) lines.new)
-        (IsTold version text) }
+        (IsFaultTold version text) }
 {
     let line = lines.number();
     let name = begin_entry(lines, entries)?;
@@ -120,15 +120,13 @@ pub fn read_entries(
     ensures { (text : List ℕ) → IsAt text (first_row version ∷ []) lines.old →
         MatchResult result
         (λ entries. AreEntries entries × (text ≡ text_of version entries))
-        (IsTold version text) }
+        (IsFaultTold version text) }
 {
     let mut numbers = Vec::new(alloc);
     let mut entries = Entries::new(alloc);
     while !lines.is_empty() {
-        match read_entry(lines, version, &entries, &mut numbers) {
-            Ok(entry) => entries.push(entry)?,
-            Err(fault) => return Err(fault),
-        }
+        let entry = read_entry(lines, version, &entries, &mut numbers)?;
+        entries.push(entry)?;
     }
     Ok(entries)
 }
@@ -141,15 +139,12 @@ pub fn body_of(text: &[u8], version: Version) -> &[u8]
         Version::One => b"net_archive 1\n".as_slice(),
         Version::Two => b"net_archive 2\n".as_slice(),
     };
-    match text.strip_prefix(first) {
-        Some(rest) => rest,
-        None => b"",
-    }
+    text.strip_prefix(first).unwrap_or(b"")
 }
 
 /// The version and the entries of a text, or its first fault.
 pub fn read_text(alloc: Global, text: &[u8]) -> Result<(Version, Entries), ArchiveFault>
-    requires { length text.now ≤ 16777216 }
+    requires { length text.now ≤ most_bytes }
     ensures read { IfOk result (λ both. text.now ≡ text_of both.0 both.1) }
     ensures entries { IfOk result (λ both. AreEntries both.1) }
     ensures fault { IfErr result (IsFaultOf text.now) }

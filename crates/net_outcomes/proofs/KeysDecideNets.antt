@@ -8,10 +8,9 @@ use Rattle.std.proofs.lemmas.List.Sorted.{IsPermutation-sym}
 use Rattle.periodic_net.specs.Graph.{Graph, Vertex, IsGraph, IsVertex}
 use Rattle.periodic_net.specs.Maps.{Iso}
 use Rattle.integers.proofs.vectors.BaseSums.{unit_base}
-use Rattle.periodic_net.proofs.isomorphisms.Periods.{identity_periodic}
-use Rattle.periodic_net.proofs.isomorphisms.Isomorphism.{iso_transitive, iso_symmetric}
+use Rattle.periodic_net.proofs.CallerLemmas.{identity_periodic, iso_symmetric, iso_transitive}
 use Rattle.key_theory.specs.Key.{IsKeyOf}
-use Rattle.key_theory.proofs.KeysDecide.{keys_decide}
+use Rattle.key_theory.proofs.CallerLemmas.{keys_decide}
 use Rattle.cgd_read.specs.Graphs.{graph_of}
 use Rattle.cgd_read.specs.Views.{RawView, BodyView, Net, BlockView}
 use Rattle.quotient_graph.specs.Stars.{IsInOrder}

@@ -8,7 +8,7 @@ use Rattle.std.proofs.lemmas.List.Elements.{All-head, All-tail}
 use Rattle.periodic_net.specs.Graph.{Graph, IsGraph}
 use Rattle.periodic_net.specs.Maps.{Iso}
 use Rattle.key_theory.specs.Key.{IsKeyOf}
-use Rattle.key_theory.proofs.KeysDecide.{keys_decide}
+use Rattle.key_theory.proofs.CallerLemmas.{keys_decide}
 use Rattle.net_entries.specs.Entries.{EntryView}
 use Rattle.net_entries.specs.Lookups.{names_of, names_with, same_key}
 use Rattle.net_archive.specs.Archives.{IsEntry}

@@ -14,7 +14,7 @@ use Rattle.net_report.specs.declared.outcome.Outcome.{Outcome}
 use Rattle.net_report.proofs.CallerLemmas.{report_last}
 use Rattle.command_words.specs.declared.tasks.Command.{Command}
 use Rattle.net_outcomes.specs.Outcomes.{is_accepted}
-use Rattle.net_outcomes.specs.Reports.{IsReport, IsTold}
+use Rattle.net_outcomes.specs.Reports.{IsReport, IsBlockTold}
 use Rattle.net_outcomes.proofs.Listing.{AreOutcomesOn, outcomes_next, outcomes_whole}
 
 -- the text of the first i blocks, and whether each of them was accepted
@@ -39,7 +39,7 @@ accepted_last os o = list_all-append is_accepted os (o ∷ []) ∙ ap (λ (b : B
 
 -- the next block is told
 pub told_next : (entries : List EntryView) (command : Command) (found : List Block) (i number : ℕ) (accepted this : Bool) (text new : List ℕ) (block : Block) → i < length found → block ≡ get_or found i block
-    → AreToldOn entries command (views found) i number accepted text → IsTold entries command number (block_view block) this text new → AreToldOn entries command (views found) (i + 1) (number + 1) (accepted && this) new
+    → AreToldOn entries command (views found) i number accepted text → IsBlockTold entries command number (block_view block) this text new → AreToldOn entries command (views found) (i + 1) (number + 1) (accepted && this) new
 told_next entries command found i number accepted this text new block l is h t = record {
   outcomes = h.outcomes ++ t.outcome ∷ [];
   on = outcomes_next entries command found i number h.outcomes block t.outcome l is h.on t.is_outcome t.printable;

@@ -107,7 +107,13 @@ fn identified_body<'a>(
     let vertices = raw.names.copy()?;
     let shells = sequences_of(alloc, &net)?;
     let names = names_for(alloc, archive, &net)?;
-    Ok(OutcomeBody::Identified(size_of(raw), vertices, net, shells, names))
+    Ok(OutcomeBody::Identified {
+        size: size_of(raw),
+        vertices,
+        net,
+        shells,
+        names,
+    })
 }
 
 fn identify_net<'a>(

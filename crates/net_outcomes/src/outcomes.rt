@@ -2,7 +2,7 @@
 ghost use Rattle.std.specs.Prelude.{◌≡◌, ◌≤◌, All, IfOk, length};
 ghost use Rattle.std.specs.List.{list_all};
 ghost use Rattle.cgd_read.specs.Views.{block_view, views};
-ghost use Rattle.cgd_read.specs.Blocks.{IsReadBody};
+ghost use Rattle.cgd_read.specs.Blocks.{IsReadBody, most_blocks};
 ghost use Rattle.net_report.specs.Reports.{IsPrintable};
 ghost use Rattle.net_outcomes.specs.Deciding.{AreOutcomes};
 ghost use Rattle.net_outcomes.specs.Outcomes.{IsOutcomeOf, is_accepted_body, is_accepted};
@@ -44,7 +44,7 @@ pub fn outcomes_of<'a>(
     found: &[Block<'a>],
 ) -> Result<Outcomes<'a>, NoMemory>
     requires graphs { All (λ block. IsReadBody block.body) found.now }
-    requires few { length found.now ≤ 4096 }
+    requires few { length found.now ≤ most_blocks }
     ensures outcomes { IfOk result (AreOutcomes command archive.now.entries (views found.now)) }
     ensures printable { IfOk result (All IsPrintable) }
 {

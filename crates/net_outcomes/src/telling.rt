@@ -1,10 +1,10 @@
 // The report on the blocks of a text, which are told one by one.
 ghost use Rattle.std.specs.Prelude.{◌≡◌, ◌≤◌, ◌++◌, All, IfOk, OnOk, length};
 ghost use Rattle.cgd_read.specs.Views.{block_view, views};
-ghost use Rattle.cgd_read.specs.Blocks.{IsReadBody};
+ghost use Rattle.cgd_read.specs.Blocks.{IsReadBody, most_blocks};
 ghost use Rattle.net_report.specs.Reports.{IsPrintable, outcome_text};
 ghost use Rattle.net_outcomes.specs.Outcomes.{is_accepted};
-ghost use Rattle.net_outcomes.specs.Reports.{IsReport, IsTold};
+ghost use Rattle.net_outcomes.specs.Reports.{IsReport, IsBlockTold};
 
 use crate::outcomes::{is_accepted, outcome_of};
 use cgd_read::Block;
@@ -39,14 +39,15 @@ fn tell_block(
     block: &Block<'_>,
 ) -> Result<bool, NoMemory>
     requires { IsReadBody block.now.body }
-    ensures { IfOk result (λ accepted. IsTold archive.now.entries command number
+    ensures { IfOk result (λ accepted. IsBlockTold archive.now.entries command number
         (block_view block.now) accepted text.old.items text.new.items) }
 {
     let outcome = outcome_of(*text.allocator(), command, archive, number, block)?;
     tell_outcome(text, &outcome)
 }
 
-/// Tells what a command tells of each block, beside an archive. An outcome is let go once its text is written.
+/// Tells what a command tells of each block, beside an archive. An outcome is let go once its text
+/// is written.
 pub fn tell_blocks(
     alloc: Global,
     command: Command,
@@ -54,7 +55,7 @@ pub fn tell_blocks(
     found: &[Block<'_>],
 ) -> Result<Told, NoMemory>
     requires graphs { All (λ block. IsReadBody block.body) found.now }
-    requires few { length found.now ≤ 4096 }
+    requires few { length found.now ≤ most_blocks }
     ensures { IfOk result (λ told. IsReport command archive.now.entries
         (views found.now) told.all_accepted told.text.items) }
 {

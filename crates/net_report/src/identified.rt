@@ -21,11 +21,9 @@ fn push_lists(text: &mut Vec<u8>, lists: &[Vec<u32>]) -> Result<(), NoMemory>
         text.old.items ++ sequences_text 1 (numbers_in lists.now)) }
 {
     let mut class = 1u64;
-    let mut left = lists;
-    while let [sizes, others @ ..] = left {
+    for sizes in lists {
         push_shells(text, class, sizes)?;
         class += 1;
-        left = others;
     }
     Ok(())
 }
@@ -42,10 +40,8 @@ fn push_archive_names(text: &mut Vec<u8>, names: &[&[u8]]) -> Result<(), NoMemor
     ensures { OnOk result (text.new.items ≡
         text.old.items ++ archive_names_text (texts names.now)) }
 {
-    let mut left = names;
-    while let [name, others @ ..] = left {
+    for name in names {
         push_archive_name(text, name)?;
-        left = others;
     }
     Ok(())
 }
@@ -84,7 +80,8 @@ fn push_net(text: &mut Vec<u8>, vertices: &Names<'_>, net: &Net) -> Result<(), N
     }
 }
 
-/// The placement, the primitive graph, the key and the sizes of shells of a net, and its names in an archive.
+/// The placement, the primitive graph, the key and the sizes of shells of a net, and its names in
+/// an archive.
 pub fn push_identified(
     text: &mut Vec<u8>,
     vertices: &Names<'_>,

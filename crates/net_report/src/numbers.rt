@@ -38,10 +38,8 @@ pub fn push_field(text: &mut Vec<u8>, label: &[u8], n: u64) -> Result<(), NoMemo
 fn push_numbers_after(text: &mut Vec<u8>, numbers: &[i64]) -> Result<(), NoMemory>
     ensures { OnOk result (text.new.items ≡ text.old.items ++ numbers_text numbers.now) }
 {
-    let mut left = numbers;
-    while let [x, others @ ..] = left {
+    for x in numbers {
         push_numbers(text, &[*x as i128])?;
-        left = others;
     }
     Ok(())
 }
@@ -89,7 +87,7 @@ pub fn push_vertex(text: &mut Vec<u8>, names: &Names<'_>, u: u32) -> Result<(), 
     requires { IsNamed names.now u }
     ensures { OnOk result (text.new.items ≡ text.old.items ++ vertex_text names.now u) }
 {
-    if names.len() == 0 {
+    if names.is_empty() {
         push_number(text, u as u64)
     } else {
         text.extend_from_slice(names.at(u as usize - 1))

@@ -2,6 +2,7 @@
 use cgd_read::{BlockFault, Names};
 use coordination::Sequences;
 use least_key::{AnyPlaced, Net, Refusal};
+use lists::Items;
 
 /// The sizes of a graph that was read; `repeats` counts the rows of an edge after its first.
 #[derive(Clone, Copy, Debug, PartialEq, Eq)]
@@ -27,8 +28,14 @@ pub enum OutcomeBody<'a> {
     Located(Size, Names<'a>, AnyPlaced),
     /// The net has a key.
     Keyed(Size, Net),
-    /// The net has a key, these sizes of shells, and in an archive the names of the last list.
-    Identified(Size, Names<'a>, Net, Sequences, Names<'a>),
+    /// The net has a key, these sizes of shells, and these names in an archive.
+    Identified {
+        size: Size,
+        vertices: Names<'a>,
+        net: Net,
+        shells: Sequences,
+        names: Names<'a>,
+    },
 }
 
 /// What is told of a block: its number, the line that opens it, and its name.
@@ -39,3 +46,6 @@ pub struct Outcome<'a> {
     pub name: Option<&'a [u8]>,
     pub body: OutcomeBody<'a>,
 }
+
+/// The outcomes of blocks, in their order.
+pub type Outcomes<'a> = Items<Outcome<'a>>;

@@ -9,17 +9,6 @@ use crate::numbers::{push_parts, push_signed, push_vertex};
 use cgd_read::Names;
 use least_key::AnyPlaced;
 use quotient_graph::Placed;
-use vecdim::{Triple, Vect};
-
-fn triple_of<const D: usize>(vector: Vect<D>) -> Triple
-    ensures { result ≡ vector.entry }
-{
-    Triple {
-        x: vector.x,
-        y: vector.y,
-        z: vector.z,
-    }
-}
 
 // Where a vertex stands.
 fn push_position<const D: usize>(
@@ -36,7 +25,7 @@ fn push_position<const D: usize>(
     text.extend_from_slice(b"at ")?;
     push_vertex(text, names, u)?;
     text.extend_from_slice(b" ")?;
-    push_parts(text, placed.graph().dimension(), &triple_of(placed.at(u)))?;
+    push_parts(text, placed.graph().dimension(), &placed.at(u).to_triple())?;
     text.extend_from_slice(b"\n")
 }
 

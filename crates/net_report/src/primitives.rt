@@ -28,10 +28,8 @@ fn push_bases<const D: usize>(text: &mut Vec<u8>, basis: &[Vect<D>]) -> Result<(
     requires { D ≤ 255 }
     ensures { OnOk result (text.new.items ≡ text.old.items ++ bases_text D basis.now) }
 {
-    let mut left = basis;
-    while let [v, others @ ..] = left {
+    for v in basis {
         push_basis(text, v)?;
-        left = others;
     }
     Ok(())
 }
@@ -51,10 +49,8 @@ fn push_edges<const D: usize>(text: &mut Vec<u8>, edges: &[PrimEdge<D>]) -> Resu
     requires { D ≤ 255 }
     ensures { OnOk result (text.new.items ≡ text.old.items ++ edges_text D edges.now) }
 {
-    let mut left = edges;
-    while let [edge, others @ ..] = left {
+    for edge in edges {
         push_edge(text, edge)?;
-        left = others;
     }
     Ok(())
 }

@@ -9,10 +9,8 @@ use crate::numbers::push_field;
 fn push_sizes_after(text: &mut Vec<u8>, sizes: &[u32]) -> Result<(), NoMemory>
     ensures { OnOk result (text.new.items ≡ text.old.items ++ sizes_after sizes.now) }
 {
-    let mut left = sizes;
-    while let [n, others @ ..] = left {
+    for n in sizes {
         push_field(text, b" ", *n as u64)?;
-        left = others;
     }
     Ok(())
 }

@@ -33,7 +33,13 @@ fn push_body(text: &mut Vec<u8>, body: &OutcomeBody<'_>) -> Result<(), NoMemory>
             push_size(text, *size)?;
             push_key(text, net.key())
         }
-        OutcomeBody::Identified(size, vertices, net, shells, names) => {
+        OutcomeBody::Identified {
+            size,
+            vertices,
+            net,
+            shells,
+            names,
+        } => {
             push_size(text, *size)?;
             push_identified(text, vertices, net, shells, names)
         }

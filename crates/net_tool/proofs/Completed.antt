@@ -1,17 +1,18 @@
 -- A run that is within the limits ends in few ways.
 use Rattle.std.proofs.Common.{◌≡◌, inl, inr, ℕ, ◌<◌, List, [], length, Option, None, Some, unwrap_or, sym, ap, subst, arith}
 use Rattle.outside.specs.Held.{Holds, Are, HasMore}
-use Rattle.cgd_read.specs.Blocks.{blocks_of}
+use Rattle.cgd_read.specs.Blocks.{blocks_of, most_blocks}
 use Rattle.command_words.specs.Tasks.{Task, task_of}
 use Rattle.net_archive.specs.Archives.{ArchiveView}
 use Rattle.net_archive.specs.Faults.{IsFaultOf}
-use Rattle.net_archive.proofs.NoFirstFault.{no_fault_but_memory}
-use Rattle.net_answers.specs.Due.{IsArchiveIn, IsBadArchive, archive_named, bytes_of, file_named, most_blocks, most_bytes}
+use Rattle.net_archive.proofs.CallerLemmas.{no_fault_but_memory}
+use Rattle.net_answers.specs.Due.{IsArchiveIn, IsBadArchive, archive_named, bytes_of, file_named}
 use Rattle.net_answers.specs.declared.status.Status.{Status}
 use Rattle.net_answers.specs.declared.status.Status.TheVariants.{Usage, ReadFault, WriteFault, BadArchive, TooLarge, NoMemory, TooManyBlocks, AddRefused, MigrateRefused}
-use Rattle.net_tool.specs.Completeness.{AreFitting, AreWithin, IsComplete, IsWithin, bytes_of_name}
+use Rattle.net_tool.specs.Completeness.{AreFitting, AreWithin, IsComplete, AreFilesWithin, bytes_of_name}
 use Rattle.net_tool.specs.Run.{AreBytesOf, HasManyBytes, IsAnswer, IsAnswered, IsDue, IsTooLarge}
 use Rattle.net_tool.proofs.Endings.{ends_so}
+use Rattle.archive_text.specs.Texts.{most_bytes}
 
 -- the bytes that are read are those that are held
 read_bytes : (name : Option (List ℕ)) (holds : Holds) (of : List ℕ → List ℕ) → holds ≡ Some of → (bytes : Option (List ℕ)) → AreBytesOf name holds bytes
@@ -27,7 +28,7 @@ not_many (Some name) holds of e fits h =
     let more : most_bytes < length (of name) = subst (λ o. HasMore o name most_bytes) e h in
     omega (arith, more, fits)
 
-not_too_large : (task : Task) (holds : Holds) → IsWithin task holds → IsTooLarge task holds → ⊥
+not_too_large : (task : Task) (holds : Holds) → AreFilesWithin task holds → IsTooLarge task holds → ⊥
 not_too_large task holds within (inl many) = not_many (file_named task) holds within.of within.told within.file many
 not_too_large task holds within (inr many) = not_many (archive_named task) holds within.of within.told within.archive many.1
 

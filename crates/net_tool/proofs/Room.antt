@@ -1,5 +1,5 @@
 -- Where there is room for each text that is due, nothing breaks off.
-use Rattle.std.proofs.Common.{ℕ, ◌≤◌, ◌<◌, List, length, Option, arith}
+use Rattle.std.proofs.Common.{ℕ, ◌≤◌, List, length, Option, arith}
 use Rattle.outside.specs.Held.{Holds}
 use Rattle.command_words.specs.Tasks.{task_of}
 use Rattle.net_tool.specs.Completeness.{HasRoom}

@@ -1,13 +1,14 @@
 -- When a run tells of each block.
 use Rattle.std.specs.Prelude.{ℕ, ◌≡◌, ◌≤◌, List, [], length, Option, None, Some, unwrap_or}
 use Rattle.outside.specs.Held.{Holds}
-use Rattle.cgd_read.specs.Blocks.{blocks_of}
-use Rattle.command_words.specs.Tasks.{Task, Tell, Add, Duplicates, Migrate, Workload}
+use Rattle.cgd_read.specs.Blocks.{blocks_of, most_blocks}
+use Rattle.command_words.specs.Tasks.{Task, Add, Migrate}
 use Rattle.net_archive.specs.Archives.{ArchiveView}
-use Rattle.net_answers.specs.Due.{IsArchiveIn, archive_named, bytes_of, file_named, most_blocks, most_bytes}
+use Rattle.net_answers.specs.Due.{IsArchiveIn, archive_named, bytes_of, file_named}
 use Rattle.net_answers.specs.declared.status.Status.{Status}
 use Rattle.net_answers.specs.declared.status.Status.TheVariants.{Done, SomeRefused, ReadFault, WriteFault, NoMemory, AddRefused, MigrateRefused}
 use Rattle.net_tool.specs.Run.{IsDue}
+use Rattle.archive_text.specs.Texts.{most_bytes}
 
 -- the bytes of a file, where one is named
 abbrev pub bytes_of_name : (List ℕ → List ℕ) → Option (List ℕ) → Option (List ℕ)
@@ -20,7 +21,7 @@ AreFitting None = Unit {0}
 AreFitting (Some bytes) = length bytes ≤ most_bytes
 
 -- the files that a task names are within their limits, and the archive is one
-pub record IsWithin (task : Task) (holds : Holds) : Type 0 where
+pub record AreFilesWithin (task : Task) (holds : Holds) : Type 0 where
   pub of : List ℕ → List ℕ
   pub told : holds ≡ Some of
   pub file : AreFitting (bytes_of_name of (file_named task))
@@ -32,7 +33,7 @@ pub record IsWithin (task : Task) (holds : Holds) : Type 0 where
 -- the words name a task whose files are so
 abbrev pub AreWithin : Option Task → Holds → Type 0
 AreWithin None holds = ⊥
-AreWithin (Some task) holds = IsWithin task holds
+AreWithin (Some task) holds = AreFilesWithin task holds
 
 -- the nets are added
 abbrev pub IsOfAdding : Option Task → Type 0

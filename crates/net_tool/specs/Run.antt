@@ -6,11 +6,10 @@ use Rattle.outside.specs.Held.{Holds, Are, HasMore}
 use Rattle.command_words.specs.Tasks.{Task, task_of}
 use Rattle.outside.specs.declared.shelf.InFault.{InFault}
 use Rattle.outside.specs.declared.shelf.InFault.TheVariants as unread
-use Rattle.net_answers.specs.declared.answer.Silence.{Silence}
-use Rattle.net_answers.specs.declared.answer.Silence.TheVariants as silence
-use Rattle.net_answers.specs.Due.{IsDueOn, archive_named, file_named, most_bytes}
+use Rattle.net_answers.specs.Due.{IsDueOn, archive_named, file_named}
 use Rattle.net_answers.specs.declared.status.Status.{Status}
 use Rattle.net_answers.specs.declared.status.Status.TheVariants.{Done, SomeRefused, Usage, ReadFault, WriteFault, BadArchive, TooLarge, NoMemory, TooManyBlocks, AddRefused, MigrateRefused}
+use Rattle.archive_text.specs.Texts.{most_bytes}
 
 abbrev pub usage_line : List ℕ
 usage_line = codes "usage: net_tool COMMAND [FILE] [--archive PATH] [--name NAME]\n"
@@ -88,25 +87,20 @@ IsSilent TooManyBlocks = Unit {0}
 IsSilent _ = ⊥
 
 -- a status that goes with a text
-abbrev pub IsTold : Status → Type 0
-IsTold Done = Unit {0}
-IsTold SomeRefused = Unit {0}
-IsTold Usage = Unit {0}
-IsTold BadArchive = Unit {0}
-IsTold AddRefused = Unit {0}
-IsTold MigrateRefused = Unit {0}
-IsTold _ = ⊥
+abbrev pub GoesWithText : Status → Type 0
+GoesWithText Done = Unit {0}
+GoesWithText SomeRefused = Unit {0}
+GoesWithText Usage = Unit {0}
+GoesWithText BadArchive = Unit {0}
+GoesWithText AddRefused = Unit {0}
+GoesWithText MigrateRefused = Unit {0}
+GoesWithText _ = ⊥
 
 -- how a run ends where a file is not read
 abbrev pub status_of : InFault → Status
 status_of unread.ReadFault = ReadFault
 status_of (unread.TooLarge taken) = TooLarge
 status_of unread.NoMemory = NoMemory
-
--- and where nothing is told
-abbrev pub silent_status : Silence → Status
-silent_status silence.TooManyBlocks = TooManyBlocks
-silent_status silence.NoMemory = NoMemory
 
 -- a file is too large, or the read failed, or memory was refused
 abbrev pub IsUnread : Task → Holds → Status → Type 0

@@ -7,10 +7,9 @@ ghost use Rattle.net_answers.specs.Due.{archive_named, file_named};
 ghost use Rattle.net_tool.specs.Run.{AreBytesOf, FailedAt, HasManyBytes};
 
 use command_words::Task;
+use net_archive::MOST_BYTES;
 use outside::{InFault, Shelf, read_whole};
 use std::alloc::Global;
-
-const MAX_BYTES: u64 = 16_777_216;
 
 /// The file that a task reads.
 pub fn file_named<'a>(task: &Task<'a>) -> Option<&'a str>
@@ -51,7 +50,7 @@ pub fn read_named<H: Shelf>(
     ensures later { H.faults shelf.old ≤ H.faults shelf.new }
 {
     match name {
-        Some(name) => Ok(Some(read_whole(alloc, shelf, name, MAX_BYTES)?)),
+        Some(name) => Ok(Some(read_whole(alloc, shelf, name, MOST_BYTES as u64)?)),
         None => Ok(None),
     }
 }

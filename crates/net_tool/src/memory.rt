@@ -1,5 +1,5 @@
 // Runs over files in memory.
-ghost use Rattle.std.specs.Prelude.{◌≡◌};
+ghost use Rattle.std.specs.Prelude.{◌≢◌};
 ghost use Rattle.command_words.specs.Tasks.{task_of};
 ghost use Rattle.command_words.specs.Words.{texts_of};
 ghost use Rattle.outside.specs.Files.{holds_of};
@@ -11,17 +11,17 @@ use net_answers::Status;
 use outside::{HonestShelf, MemorySink};
 use std::alloc::Global;
 
-/// Does what the words say, over files that never fail to be read, and writes into memory. So no fault of the host comes, and
-/// within the limits each block is answered, unless memory is refused.
+/// Does what the words say, over files that never fail to be read, and writes into memory. So no
+/// fault of the host comes, and within the limits each block is answered, unless memory is refused.
 pub fn run_in_memory(
     alloc: Global,
     words: &[String],
     shelf: &mut HonestShelf,
     out: &mut MemorySink,
 ) -> Status
-    ensures read { result ≡ Status.ReadFault → ⊥ }
+    ensures read { result ≢ Status.ReadFault }
     ensures written { HasRoom (task_of (texts_of words.now)) (holds_of shelf.old.files) (sure_of out.old) →
-        result ≡ Status.WriteFault → ⊥ }
+        result ≢ Status.WriteFault }
     ensures complete { HasRoom (task_of (texts_of words.now)) (holds_of shelf.old.files) (sure_of out.old) →
         AreWithin (task_of (texts_of words.now)) (holds_of shelf.old.files) →
         IsToldWhole (task_of (texts_of words.now)) result }

@@ -57,15 +57,15 @@ fn words_of(alloc: Global, words: &[&str]) -> Result<Vec<String>, Fail> {
     Ok(list)
 }
 
-fn held(alloc: Global, files: &[(&str, &[u8])]) -> Result<Vec<(String, Vec<u8>)>, Fail> {
-    let mut held = Vec::new(alloc);
+fn named_files(alloc: Global, files: &[(&str, &[u8])]) -> Result<Vec<(String, Vec<u8>)>, Fail> {
+    let mut list = Vec::new(alloc);
     for (name, bytes) in files {
-        held.push((
+        list.push((
             String::from_str(alloc, name)?,
             Vec::from_slice(alloc, bytes)?,
         ))?;
     }
-    Ok(held)
+    Ok(list)
 }
 
 // A run over these files.
@@ -76,7 +76,11 @@ fn run_over(
     faults: &Faults<'_>,
 ) -> Result<(Status, MemorySink), Fail> {
     let step = faults.step.max(1);
-    let mut shelf = MemoryShelf::new(held(alloc, files)?, step, faults.reads.to_vec(alloc)?);
+    let mut shelf = MemoryShelf::new(
+        named_files(alloc, files)?,
+        step,
+        faults.reads.to_vec(alloc)?,
+    );
     let mut out = MemorySink::new(alloc, 1 << 18, step, faults.writes.to_vec(alloc)?)?;
     let words = words_of(alloc, words)?;
     let status = run(alloc, &words, &mut shelf, &mut out);
@@ -115,7 +119,7 @@ fn check_rows(alloc: Global, rt: &impl Abort, rows: &[Row]) -> Result<(), Fail> 
             ("net", row.net.as_bytes()),
             ("archive", row.archive.as_bytes()),
         ];
-        let mut shelf = HonestShelf::new(held(alloc, &files)?);
+        let mut shelf = HonestShelf::new(named_files(alloc, &files)?);
         let mut out = MemorySink::new(alloc, 1 << 18, 7, Vec::new(alloc))?;
         let words = words_of(alloc, row.words)?;
         let status = run_in_memory(alloc, &words, &mut shelf, &mut out);

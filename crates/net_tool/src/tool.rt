@@ -1,5 +1,5 @@
 // The top call.
-ghost use Rattle.std.specs.Prelude.{◌≡◌, ◌<◌, ◌≤◌, ℕ, IfOk, IfErr, IsErrOf, [], length, take};
+ghost use Rattle.std.specs.Prelude.{◌≡◌, ◌<◌, ◌≤◌, ℕ, IfOk, IfErr, IsErrOf, [], length, take, ◌≢◌};
 ghost use Rattle.std.specs.Io.KnownBytes.{Appends};
 ghost use Rattle.outside.specs.Causes.{Rose};
 ghost use Rattle.command_words.specs.Words.{texts_of};
@@ -8,11 +8,11 @@ ghost use Rattle.command_words.specs.Views.{task_view};
 ghost use Rattle.net_tool.specs.Completeness.{AreWithin, HasRoom, IsComplete};
 ghost use Rattle.net_tool.specs.Headline.{HasHeadline, IsReported};
 ghost use Rattle.net_tool.specs.Inputs.{AreInputs};
-ghost use Rattle.net_tool.specs.Run.{FailedAtFile, FailedAtTask, IsAnswer, IsAnswered, IsBroken, IsDueOf, IsSilent, IsTold, IsUnread, silent_status, status_of};
+ghost use Rattle.net_tool.specs.Run.{FailedAtFile, FailedAtTask, IsAnswer, IsAnswered, IsBroken, IsDueOf, IsSilent, GoesWithText, IsUnread, status_of};
 
 use crate::files::{archive_named, file_named, read_named};
 use command_words::{Task, task_of};
-use net_answers::{Answer, Silence, Status, answer_to};
+use net_answers::{Answer, Status, answer_to};
 use outside::{InFault, Shelf, Sink, write_all};
 use std::alloc::Global;
 
@@ -21,9 +21,9 @@ pub const USAGE: &str = "usage: net_tool COMMAND [FILE] [--archive PATH] [--name
 
 // Writes the text that goes with a status.
 fn finish<W: Sink>(out: &mut W, text: &[u8], status: Status) -> Status
-    requires { IsTold status }
-    ensures done { (result ≡ Status.WriteFault → ⊥) → result ≡ status }
-    ensures all { (result ≡ Status.WriteFault → ⊥) →
+    requires { GoesWithText status }
+    ensures done { result ≢ Status.WriteFault → result ≡ status }
+    ensures all { result ≢ Status.WriteFault →
         Appends (W.written out.old) (W.written out.new) text.now }
     ensures cause { result ≡ Status.WriteFault → Rose (W.faults out.old) (W.faults out.new) }
     ensures unsure { result ≡ Status.WriteFault → W.sure out.old < length text.now }
@@ -48,16 +48,6 @@ fn status_of(fault: InFault) -> Status
     }
 }
 
-// How a run ends where nothing is told.
-fn silent_status(silence: Silence) -> Status
-    ensures { result ≡ silent_status silence }
-{
-    match silence {
-        Silence::TooManyBlocks => Status::TooManyBlocks,
-        Silence::NoMemory => Status::NoMemory,
-    }
-}
-
 // The bytes of the files that a task names.
 #[derive(Drop)]
 struct Inputs {
@@ -75,18 +65,9 @@ fn read_inputs<H: Shelf>(alloc: Global, task: &Task<'_>, shelf: &mut H) -> Resul
     ensures same { H.holds shelf.new ≡ H.holds shelf.old }
     ensures later { H.faults shelf.old ≤ H.faults shelf.new }
 {
-    let file = match read_named(alloc, shelf, file_named(task)) {
-        Ok(file) => file,
-        Err(fault) => return Err(status_of(fault)),
-    };
-    let archive = match read_named(alloc, shelf, archive_named(task)) {
-        Ok(archive) => archive,
-        Err(fault) => return Err(status_of(fault)),
-    };
-    let file = match file {
-        Some(file) => file,
-        None => Vec::new(alloc),
-    };
+    let file = read_named(alloc, shelf, file_named(task)).map_err(status_of)?;
+    let archive = read_named(alloc, shelf, archive_named(task)).map_err(status_of)?;
+    let file = file.unwrap_or(Vec::new(alloc));
     Ok(Inputs { file, archive })
 }
 
@@ -95,7 +76,7 @@ fn answer_task<H: Shelf>(alloc: Global, task: &Task<'_>, shelf: &mut H) -> Resul
     requires { MakesFew (task_view task.now) }
     ensures due { IfOk result (λ a.
         IsDueOf (task_view task.now) (H.holds shelf.old) a.status a.text.items) }
-    ensures told { IfOk result (λ a. IsTold a.status) }
+    ensures told { IfOk result (λ a. GoesWithText a.status) }
     ensures silent { IfErr result IsSilent }
     ensures undue { IfErr result (λ status. IsAnswered status →
         IsDueOf (task_view task.now) (H.holds shelf.old) status []) }
@@ -107,16 +88,14 @@ fn answer_task<H: Shelf>(alloc: Global, task: &Task<'_>, shelf: &mut H) -> Resul
     ensures later { H.faults shelf.old ≤ H.faults shelf.new }
 {
     let Inputs { file, archive } = read_inputs(alloc, task, shelf)?;
-    match answer_to(alloc, task, &file, archive) {
-        Ok(answer) => Ok(answer),
-        Err(silence) => Err(silent_status(silence)),
-    }
+    Ok(answer_to(alloc, task, &file, archive)?)
 }
 
-/// Does what the words say, over the files of a shelf, and writes the text to a sink. It is all that the program does:
-/// `check`, `place`, `key` and `identify` tell of each net of a file whether it is connected, where its vertices stand, what
-/// its key is, and which nets of an archive it is; `add` puts nets into an archive, `duplicates` finds those that stand in it
-/// more than once, `migrate` writes it in the newest format, and `workload` measures.
+/// Does what the words say, over the files of a shelf, and writes the text to a sink. It is all
+/// that the program does: `check`, `place`, `key` and `identify` tell of each net of a file whether
+/// it is connected, where its vertices stand, what its key is, and which nets of an archive it is;
+/// `add` puts nets into an archive, `duplicates` finds those that stand in it more than once,
+/// `migrate` writes it in the newest format, and `workload` measures.
 pub fn run<H: Shelf, W: Sink>(alloc: Global, words: &[String], shelf: &mut H, out: &mut W) -> Status
     ensures answer { IsAnswered result →
         IsAnswer (texts_of words.now) (H.holds shelf.old) (W.written out.old) (W.written out.new)
@@ -133,7 +112,7 @@ pub fn run<H: Shelf, W: Sink>(alloc: Global, words: &[String], shelf: &mut H, ou
         IsBroken (texts_of words.now) (H.holds shelf.old) (W.written out.old) (W.written out.new)
         (W.sure out.old) }
     ensures sure { HasRoom (task_of (texts_of words.now)) (H.holds shelf.old) (W.sure out.old) →
-        result ≡ Status.WriteFault → ⊥ }
+        result ≢ Status.WriteFault }
     ensures silent { IsSilent result → W.written out.new ≡ W.written out.old }
     ensures complete { AreWithin (task_of (texts_of words.now)) (H.holds shelf.old) →
         IsComplete (task_of (texts_of words.now)) result }

@@ -10,8 +10,8 @@ abbrev pub Stand : Holds → List ℕ → ℕ → List ℕ → Type 0
 Stand holds name at bytes = IfSome holds (λ of. drop at (of name) ≡ bytes ++ drop (at + length bytes) (of name))
 
 -- the name has no byte at this place
-abbrev pub EndsBy : Holds → List ℕ → ℕ → Type 0
-EndsBy holds name at = IfSome holds (λ of. length (of name) ≤ at)
+abbrev pub HasNoByteAt : Holds → List ℕ → ℕ → Type 0
+HasNoByteAt holds name at = IfSome holds (λ of. length (of name) ≤ at)
 
 -- the name has exactly these bytes
 abbrev pub Are : Holds → List ℕ → List ℕ → Type 0

@@ -2,6 +2,7 @@ pub mod Last
 pub mod Causes
 pub mod Counts
 pub mod Held
+pub mod Faults
 pub mod Files
 pub mod Kept
 pub mod MemoryShelf

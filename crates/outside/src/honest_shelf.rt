@@ -1,7 +1,7 @@
 // A shelf in memory that never fails.
-ghost use Rattle.std.specs.Prelude.{◌≡◌, ◌+◌, ◌-◌, ◌^◌, ◌<◌, ◌≤◌, [], length, take, Some, IfOk, IfErr};
+ghost use Rattle.std.specs.Prelude.{◌≡◌, ◌^◌, ◌<◌, ◌≤◌, length, take, IfOk, IfErr};
 ghost use Rattle.outside.specs.Files.{named_bytes, holds_of};
-ghost use Rattle.outside.specs.Held.{Stand, EndsBy};
+ghost use Rattle.outside.specs.Held.{Stand, HasNoByteAt};
 ghost use Rattle.outside.specs.HonestShelf.{GivesAll, after_honest_read};
 ghost use Rattle.outside.specs.Last.{Nothing, MayRead};
 
@@ -9,8 +9,8 @@ use crate::files::{LastRead, copy_piece, file_bytes};
 use crate::shelf::{Shelf, ShelfFault};
 use std::marker::Model;
 
-/// Files in memory. A read gives all that there is room for, and of an absent name nothing; it never
-/// fails.
+/// Files in memory. A read gives all that there is room for, and of an absent name nothing; it
+/// never fails.
 #[derive(Drop)]
 pub struct HonestShelf {
     files: Vec<(String, Vec<u8>)>,
@@ -58,7 +58,7 @@ impl Shelf for HonestShelf {
         ensures bytes { IfOk result (λ count.
             Stand (holds_of self.old.files) name.now at (take count into.new)) }
         ensures end { IfOk result (λ count. count ≡ 0 →
-            EndsBy (holds_of self.old.files) name.now at) }
+            HasNoByteAt (holds_of self.old.files) name.now at) }
 
         ensures after { self.new ≡ after_honest_read self.old name.now at result }
     {

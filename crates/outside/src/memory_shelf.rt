@@ -1,8 +1,8 @@
 // A shelf in memory, with failures at listed calls.
-ghost use Rattle.std.specs.Prelude.{◌≡◌, ◌+◌, ◌-◌, ◌^◌, ◌<◌, ◌≤◌, [], length, take, Some, IfOk, IsErrOf, string_bytes};
+ghost use Rattle.std.specs.Prelude.{◌≡◌, ◌^◌, ◌<◌, ◌≤◌, length, take, IfOk, IsErrOf, string_bytes};
 ghost use Rattle.outside.specs.Counts.{next_count};
 ghost use Rattle.outside.specs.Files.{named_bytes, holds_of};
-ghost use Rattle.outside.specs.Held.{Stand, EndsBy};
+ghost use Rattle.outside.specs.Held.{Stand, HasNoByteAt};
 ghost use Rattle.outside.specs.Last.{Nothing, Failed, MayRead};
 ghost use Rattle.outside.specs.MemoryShelf.{ReadFails, ReadGives, after_read};
 
@@ -10,8 +10,8 @@ use crate::files::{LastRead, copy_piece, file_bytes};
 use crate::shelf::{Shelf, ShelfFault};
 use std::marker::Model;
 
-/// Files in memory. A read gives at most `step` bytes, and fails at the listed numbers of its calls,
-/// counted from 1, and for absent names.
+/// Files in memory. A read gives at most `step` bytes, and fails at the listed numbers of its
+/// calls, counted from 1, and for absent names.
 #[derive(Drop)]
 pub struct MemoryShelf {
     files: Vec<(String, Vec<u8>)>,
@@ -67,8 +67,10 @@ impl MemoryShelf {
     // Counts a failure at this name.
     fn fail(&mut self, name: String) -> ShelfFault
         ensures failed { result ≡ ShelfFault.Failed }
-        ensures after { self.new ≡
-            record self.old { faults = next_count self.old.faults; last = Failed (string_bytes name) } }
+        ensures after { self.new ≡ record self.old {
+          faults = next_count self.old.faults;
+          last = Failed (string_bytes name);
+        } }
     {
         self.faults = self.faults.saturating_add(1);
         self.last = LastRead::Refused(name);
@@ -97,7 +99,7 @@ impl Shelf for MemoryShelf {
         ensures bytes { IfOk result (λ count.
             Stand (holds_of self.old.files) name.now at (take count into.new)) }
         ensures end { IfOk result (λ count. count ≡ 0 →
-            EndsBy (holds_of self.old.files) name.now at) }
+            HasNoByteAt (holds_of self.old.files) name.now at) }
 
         ensures later { self.old.faults ≤ self.new.faults }
         ensures after { self.new ≡ after_read self.old name.now at result }

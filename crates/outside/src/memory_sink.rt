@@ -1,5 +1,5 @@
 // A sink in memory, with failures at listed calls.
-ghost use Rattle.std.specs.Prelude.{◌≡◌, ◌+◌, ◌-◌, ◌<◌, ◌≤◌, [], length, Some, IfOk, OnErr};
+ghost use Rattle.std.specs.Prelude.{◌≡◌, ◌-◌, ◌<◌, ◌≤◌, [], length, Some, IfOk, OnErr};
 ghost use Rattle.outside.specs.Counts.{next_count};
 ghost use Rattle.outside.specs.MemorySink.{WriteFails, WriteTakes, after_write, sure_of};
 

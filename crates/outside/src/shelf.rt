@@ -1,12 +1,13 @@
 // A shelf gives the bytes of named files, piece by piece.
-ghost use Rattle.std.specs.Prelude.{◌≡◌, ◌⊎◌, ◌+◌, ◌^◌, ◌<◌, ◌≤◌, ℕ, length, take, IfOk, IsErrOf};
+ghost use Rattle.std.specs.Prelude.{◌≡◌, ◌+◌, ◌^◌, ◌<◌, ◌≤◌, ℕ, length, take, IfOk, IsErrOf};
 ghost use Rattle.outside.specs.Causes.{Rose};
-ghost use Rattle.outside.specs.Held.{Holds, Stand, EndsBy, Are, HasMore};
+ghost use Rattle.outside.specs.Held.{Holds, Stand, HasNoByteAt, Are, HasMore};
 ghost use Rattle.outside.specs.Last.{Last, MayRead, Nothing, Given, Failed};
 
-use std::alloc::Global;
+use std::alloc::{AllocError, Global};
 use thiserror::Error;
 
+/// Why a shelf gives nothing.
 #[derive(Clone, Copy, Debug, PartialEq, Eq, Error)]
 pub enum ShelfFault {
     #[error("the host failed at a read")]
@@ -15,6 +16,7 @@ pub enum ShelfFault {
     NoMemory,
 }
 
+/// Files by their names, of which a piece is read at a time.
 pub trait Shelf {
     /// The bytes of each name, where the shelf tells them.
     ghost holds: { Self → Holds };
@@ -25,8 +27,8 @@ pub trait Shelf {
     /// What the last read left.
     ghost last: { Self → Last };
 
-    /// Gives some bytes of a name from a place on. A read begins at 0, or goes on where the last one
-    /// ended.
+    /// Gives some bytes of a name from a place on. A read begins at 0, or goes on where the last
+    /// one ended.
     fn read(&mut self, name: &str, at: u64, into: &mut [u8]) -> Result<usize, ShelfFault>
         requires room { 0 < length into.old }
         requires small { at < 2 ^ 62 }
@@ -36,7 +38,7 @@ pub trait Shelf {
         ensures goes_on { IfOk result (λ count. last self.new ≡ Given name.now (at + count)) }
         ensures bytes { IfOk result (λ count.
             Stand (holds self.old) name.now at (take count into.new)) }
-        ensures end { IfOk result (λ count. count ≡ 0 → EndsBy (holds self.old) name.now at) }
+        ensures end { IfOk result (λ count. count ≡ 0 → HasNoByteAt (holds self.old) name.now at) }
 
         ensures failed { IsErrOf result ShelfFault.Failed →
             Rose (faults self.old) (faults self.new) }
@@ -47,6 +49,7 @@ pub trait Shelf {
         ensures same { holds self.new ≡ holds self.old };
 }
 
+/// Why not all bytes of a name are read.
 #[derive(Clone, Copy, Debug, PartialEq, Eq, Error)]
 pub enum InFault {
     #[error("the host failed at a read")]
@@ -55,6 +58,29 @@ pub enum InFault {
     TooLarge { taken: u64 },
     #[error("no memory")]
     NoMemory,
+}
+
+impl From<ShelfFault> for InFault {
+    ghost use Rattle.outside.specs.Faults.{in_fault_of};
+
+    ghost from_gives = { λ fault told. told ≡ in_fault_of fault };
+
+    fn from(fault: ShelfFault) -> InFault {
+        match fault {
+            ShelfFault::Failed => InFault::ReadFault,
+            ShelfFault::NoMemory => InFault::NoMemory,
+        }
+    }
+}
+
+impl From<AllocError> for InFault {
+    ghost use Rattle.outside.specs.Faults.{no_memory};
+
+    ghost from_gives = { λ fault told. told ≡ no_memory };
+
+    fn from(_fault: AllocError) -> InFault {
+        InFault::NoMemory
+    }
 }
 
 /// The most bytes that `read_whole` asks for at once.
@@ -92,16 +118,11 @@ pub fn read_whole<H: Shelf>(
     while bytes.len() as u64 <= limit {
         let wanted = limit + 1 - bytes.len() as u64;
         let room = wanted.min(PIECE as u64) as usize;
-        match shelf.read(name, bytes.len() as u64, &mut buffer[..room]) {
-            Ok(0) => return Ok(bytes),
-            Ok(count) => {
-                if bytes.extend_from_slice(&buffer[..count]).is_err() {
-                    return Err(InFault::NoMemory);
-                }
-            }
-            Err(ShelfFault::Failed) => return Err(InFault::ReadFault),
-            Err(ShelfFault::NoMemory) => return Err(InFault::NoMemory),
+        let count = shelf.read(name, bytes.len() as u64, &mut buffer[..room])?;
+        if count == 0 {
+            return Ok(bytes);
         }
+        bytes.extend_from_slice(&buffer[..count])?;
     }
     Err(InFault::TooLarge {
         taken: bytes.len() as u64,

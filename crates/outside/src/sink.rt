@@ -1,16 +1,18 @@
 // A sink takes bytes, piece by piece.
-ghost use Rattle.std.specs.Prelude.{◌≡◌, ◌+◌, ◌<◌, ◌≤◌, ℕ, List, length, take, IfOk, IfErr, OnOk, OnErr, Option};
+ghost use Rattle.std.specs.Prelude.{◌+◌, ◌<◌, ◌≤◌, ℕ, List, length, take, IfOk, IfErr, OnOk, OnErr, Option};
 ghost use Rattle.std.specs.Io.KnownBytes.{Appends, WriteAppends};
 ghost use Rattle.outside.specs.Causes.{Rose};
 
 use thiserror::Error;
 
+/// Why a sink takes nothing.
 #[derive(Clone, Copy, Debug, PartialEq, Eq, Error)]
 pub enum SinkFault {
     #[error("the host failed at a write")]
     Failed,
 }
 
+/// Where bytes go, a piece at a time.
 pub trait Sink {
     /// The bytes written so far, where the sink tells them.
     ghost written: { Self → Option (List ℕ) };
@@ -36,6 +38,7 @@ pub trait Sink {
         ensures later { faults self.old ≤ faults self.new };
 }
 
+/// Why not all bytes were written, and how many were.
 #[derive(Clone, Copy, Debug, PartialEq, Eq, Error)]
 #[error("the host failed at a write: {taken} bytes were taken")]
 pub struct WriteFault {

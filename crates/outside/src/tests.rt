@@ -55,7 +55,8 @@ fn shelf_with(alloc: Global, step: usize, fail: u64) -> Result<MemoryShelf, Fail
 fn fakes_fail_at_listed_calls(rt: HostRuntime) -> Result<(), Fail> {
     let alloc = rt.alloc();
 
-    // The most bytes of a call, how many reads there are of the whole file, and how many writes of it.
+    // The most bytes of a call, how many reads there are of the whole file, and how many writes of
+    // it.
     for (step, reads, writes) in [(1, 6, 5), (2, 4, 3), (5, 2, 1), (9, 2, 1)] {
         for fail in 1u64..8 {
             let mut shelf = shelf_with(alloc, step, fail)?;

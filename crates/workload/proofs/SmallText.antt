@@ -5,7 +5,7 @@ use Rattle.std.proofs.lemmas.Nat.{mul-le}
 use Rattle.std.proofs.lemmas.List.{length-append}
 use Rattle.std.proofs.lemmas.Fmt.{length-decimal-le}
 use Rattle.workload.specs.BaseNets.{is_base_edge, base_edges, dimension}
-use Rattle.workload.specs.Workload.{edge_line, edge_at, place_lines, edges_text, block_text, workload, base_of, cells_of, shear_of, most_nets}
+use Rattle.workload.specs.Workload.{edge_line, edge_at, place_lines, edges_text, block_text, workload, base_of, cells_of, shear_of, most_nets, most_text}
 use Rattle.workload.specs.declared.edge.Edge.{Edge}
 use Rattle.workload.proofs.BaseEdges.{all_base, few_base}
 use Rattle.workload.proofs.SmallEdges.{edge_short, split}
@@ -45,16 +45,16 @@ edges_short i =
     let few = mul-le (length (base_edges (base_of i))) 60 6 60 (few_base (base_of i) b) (omega arith) in
     omega (arith, l, few)
 
-block_short : (i : ℕ) → i < 4096 → length (block_text i) ≤ 400
+block_short : (i : ℕ) → i < most_nets → length (block_text i) ≤ 400
 unfolding block_text
 block_short i h =
     let n = length-decimal-le 4 i (lit< tt) (omega arith) (omega arith) in
     let l = edges_short i in
     simp (length-append) (omega (arith, n, l))
 
--- the text of at most 4,096 nets has at most 2 MB
-pub text_small : (n : ℕ) → n ≤ most_nets → length (workload n) ≤ 16777216
+-- the text of as many nets as there may be
+pub text_small : (n : ℕ) → n ≤ most_nets → length (workload n) ≤ most_text
 text_small n h =
     let l = pieces_short block_text 400 0 n (λ r l. block_short r (omega arith)) in
-    let few = mul-le n 400 4096 400 h (omega arith) in
+    let few = mul-le n 400 most_nets 400 h (omega arith) in
     omega (arith, l, few)

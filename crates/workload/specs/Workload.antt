@@ -82,6 +82,10 @@ block_text i = codes "PERIODIC_GRAPH\nNAME w" ++ decimal i ++ codes "\nEDGES\n" 
 abbrev pub workload : ℕ → List ℕ
 workload n = flat_map block_text (range_with_len 0 n)
 
--- the most nets of a workload
+-- the nets of a workload, at most
 abbrev pub most_nets : ℕ
 most_nets = 4096
+
+-- its bytes, at most: 400 for each net
+abbrev pub most_text : ℕ
+most_text = 400 * most_nets

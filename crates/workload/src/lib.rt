@@ -8,4 +8,4 @@ mod lines;
 mod text;
 
 pub use std::alloc::AllocError as NoMemory;
-pub use text::workload_text;
+pub use text::{MOST_NETS, workload_text};

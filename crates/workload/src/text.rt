@@ -1,7 +1,7 @@
 // The text of the workload.
 ghost use Rattle.std.specs.Prelude.{◌≡◌, ◌++◌, ◌≤◌, IfOk, OnOk, length};
 ghost use Rattle.workload.specs.BaseNets.{dimension};
-ghost use Rattle.workload.specs.Workload.{block_text, edges_text, most_nets, workload};
+ghost use Rattle.workload.specs.Workload.{block_text, edges_text, most_nets, most_text, workload};
 
 use crate::NoMemory;
 use crate::base::base_edges;
@@ -33,11 +33,14 @@ fn push_block(alloc: Global, text: &mut Vec<u8>, i: u32) -> Result<(), NoMemory>
     text.extend_from_slice(b"END\n")
 }
 
+/// So many nets has a workload at most.
+pub const MOST_NETS: u32 = 4096;
+
 /// The text of nets 0 to `n` - 1.
 pub fn workload_text(alloc: Global, n: u32) -> Result<Vec<u8>, NoMemory>
     requires { n ≤ most_nets }
     ensures text { IfOk result (λ text. text.items ≡ workload n) }
-    ensures small { IfOk result (λ text. length text.items ≤ 16777216) }
+    ensures small { IfOk result (λ text. length text.items ≤ most_text) }
 {
     let mut text = Vec::new(alloc);
     for i in 0..n {

@@ -7,16 +7,13 @@ use Rattle.key_theory.specs.Key.{IsKeyable}
 use Rattle.key_theory.proofs.CallerLemmas.{work_not_past}
 use Rattle.quotient_graph.specs.NetClasses.{NetClasses, AreClasses}
 use Rattle.quotient_graph.specs.Splits.{split_in}
-use Rattle.barycentre.proofs.modulo.Reached.{not_reachable}
+use Rattle.barycentre.proofs.CallerLemmas.{not_reachable}
 use Rattle.barycentre.specs.PlaceFaults.{IsWideOf}
 use Rattle.barycentre.specs.declared.faults.WidePlacement.{WidePlacement as Wide}
 use Rattle.barycentre.specs.declared.faults.WideSite.{WideSite}
 use Rattle.barycentre.specs.declared.faults.WideSite.TheVariants.{Denominator, ArcPart, Beyond}
 use Rattle.barycentre.specs.WidePlacements.{IsWidePlacement}
 use Rattle.least_key.specs.Certain.{IsCertain, CertainIsNotRefused, KeyedIsCertain}
-use Rattle.least_key.specs.KeyedNets.{KeyedNet, IsKeyed}
-use Rattle.least_key.specs.Truths.{IsTrueOf}
-use Rattle.least_key.specs.declared.refusal.Refusal.{Refusal}
 use Rattle.least_key.specs.declared.refusal.Refusal.TheVariants.{Disconnected, Degenerate, NoModulus, WidePlacement, Collision, TooMuch, NoMemory}
 use Rattle.least_key.proofs.Truth.{shape_of}
 use Rattle.least_key.proofs.certain.OnePlacement.{same_limits, same_collision}

@@ -1,5 +1,5 @@
 -- Within the limits no number of a normal placement passes one.
-use Rattle.std.proofs.Common.{◌≡◌, ℕ, zero, suc, ℤ, ◌-◌, ◌≤◌, ◌<◌, pos, sym, subst, unsigned_abs, arith}
+use Rattle.std.proofs.Common.{ℕ, zero, suc, ℤ, ◌-◌, ◌≤◌, ◌<◌, sym, subst, unsigned_abs, arith}
 use Rattle.std.specs.Int.{◌∣◌}
 use Rattle.std.proofs.lemmas.Nat.Gcd.{le_of_dvd}
 use Rattle.integers.specs.Vectors.{Vector, IsWithin}
@@ -10,7 +10,7 @@ use Rattle.periodic_net.specs.Placement.{Placement, base, arc_vector, IsNormalPl
 use Rattle.barycentre.specs.WidePlacements.{IsLowestDenominator, IsWideDenominator, IsWideArc, IsWideAt, coordinate}
 use Rattle.barycentre.specs.declared.faults.WideSite.{WideSite}
 use Rattle.barycentre.specs.declared.faults.WideSite.TheVariants.{Denominator, ArcPart, Beyond}
-use Rattle.barycentre.proofs.divisors.Lowest.{denominator_divides}
+use Rattle.barycentre.proofs.CallerLemmas.{denominator_divides}
 
 -- a denominator in lowest terms divides the denominator
 lowest_divides : (x : ℤ) (n d : ℕ) → IsLowestDenominator x n d → d ∣ n

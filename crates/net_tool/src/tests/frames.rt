@@ -82,7 +82,8 @@ fn frame_of<const D: usize>(alloc: Global, net: &ClassNet<D>, legs: &[Leg; 3]) -
     None
 }
 
-// The list of start 1 and the frame of the arcs 1 to 2, 1 to 3 and 4 to 2 of the net srs is its key.
+// The list of start 1 and the frame of the arcs 1 to 2, 1 to 3 and 4 to 2 of the net srs is its
+// key.
 #[test]
 fn list_of_a_frame(rt: HostRuntime) -> Result<(), Fail> {
     let Some(AnyGraph::Space(graph)) = graph_in(rt.alloc(), SRS.as_bytes()) else {
@@ -156,7 +157,8 @@ fn work_in(alloc: Global, text: &[u8]) -> Option<u64>
     }
 }
 
-// A vertex with loops in one direction and in 249 others to each side of a second one: 998,000 frames, times 1,000 arcs.
+// A vertex with loops in one direction and in 249 others to each side of a second one: 998,000
+// frames, times 1,000 arcs.
 #[test]
 fn counted_frames(rt: HostRuntime) -> Result<(), Fail> {
     let mut text = String::from_str(rt.alloc(), "PERIODIC_GRAPH\nEDGES\n1 1 0 1\n")?;

@@ -58,8 +58,8 @@ fn long_ring(rt: HostRuntime) -> Result<(), Fail> {
     Ok(())
 }
 
-// A vertex with loops in one direction and in so many others to each side of a second one: 500 loops have 998,000 frames,
-// which is within the limit.
+// A vertex with loops in one direction and in so many others to each side of a second one: 500
+// loops have 998,000 frames, which is within the limit.
 #[test]
 fn many_frames(rt: HostRuntime) -> Result<(), Fail> {
     let rows = [

@@ -133,8 +133,8 @@ pub const PLACED: &[Row] = &[
     },
 ];
 
-// A chain of vertices: between the k-th and the next one so many edges, with the shifts 0, 1 and so on, the last
-// one further by 1; and a loop at the first.
+// A chain of vertices: between the k-th and the next one so many edges, with the shifts 0, 1 and so
+// on, the last one further by 1; and a loop at the first.
 fn chain(alloc: Global, counts: &[u32], last: &str) -> Result<Vec<u8>, Fail> {
     let mut text = String::from_str(alloc, "PERIODIC_GRAPH\nEDGES\n")?;
     for (k, count) in counts.iter().enumerate() {
@@ -149,7 +149,8 @@ fn chain(alloc: Global, counts: &[u32], last: &str) -> Result<Vec<u8>, Fail> {
     Ok(Vec::from_slice(alloc, text.as_bytes())?)
 }
 
-// Placements past 2^40, where a fraction on the way is past 62 bits and where none is: such nets have no key either.
+// Placements past 2^40, where a fraction on the way is past 62 bits and where none is: such nets
+// have no key either.
 #[test]
 fn wide_numbers(rt: HostRuntime) -> Result<(), Fail> {
     let counts = [63, 61, 59, 55, 53, 47, 43, 41, 37, 31, 29, 23];
@@ -186,7 +187,8 @@ fn wide_numbers(rt: HostRuntime) -> Result<(), Fail> {
     Ok(())
 }
 
-// The diamond net in a cell of 4·4·2 usual ones: fractions on the way are past 62 bits, and it is placed.
+// The diamond net in a cell of 4·4·2 usual ones: fractions on the way are past 62 bits, and it is
+// placed.
 #[test]
 fn large_cell(rt: HostRuntime) -> Result<(), Fail> {
     let (a, b, c) = (4u64, 4u64, 2u64);

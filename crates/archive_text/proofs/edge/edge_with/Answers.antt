@@ -5,10 +5,11 @@ use mir.Syntax.{w32, w128}
 use mir.Val.{of_z, to_z}
 use Rattle.archive_text.proofs.Edges.{same_part, same_spelling}
 use Rattle.archive_text.proofs.edge.edge_with.Goals as goal
+use Rattle.periodic_net.specs.Limits.{most_shift}
 
 pub returns-then-is_forward-clause-form : goal.returns-then-is_forward-clause-form
 returns-then-is_forward-clause-form c = λ flat.
-    let small : (x : ℤ) → unsigned_abs x ≤ 500 → unsigned_abs (to_z w32 (of_z w32 x)) ≤ 500 = λ x h. subst (λ y. unsigned_abs y ≤ 500) (sym (same_part x h)) h in
+    let small : (x : ℤ) → unsigned_abs x ≤ most_shift → unsigned_abs (to_z w32 (of_z w32 x)) ≤ most_shift = λ x h. subst (λ y. unsigned_abs y ≤ most_shift) (sym (same_part x h)) h in
     record {
       is_edge = record {
         from = c.in_ok-u.ensures.within;
@@ -22,7 +23,7 @@ returns-then-is_forward-clause-form c = λ flat.
 pub returns-else-is_forward-clause-every : goal.returns-else-is_forward-clause-every
 returns-else-is_forward-clause-every c = λ e is u v x y z.
     let was : (n m : ℤ) → FitsSigned w128 n → n ≡ m → m ≡ to_z w128 (of_z w128 n) = λ n m fits same. sym same ∙ sym (to_z-of_z w128 n fits) in
-    let part : (k : ℤ) → unsigned_abs k ≤ 500 → k ≡ to_z w32 (of_z w32 k) = λ k h. sym (same_part k h) in
+    let part : (k : ℤ) → unsigned_abs k ≤ most_shift → k ≡ to_z w32 (of_z w32 k) = λ k h. sym (same_part k h) in
     let forward = same_spelling e.u e.v c.in_ok-u.u c.in_ok-v.v e.x e.y e.z (to_z w32 (of_z w32 c.in_ok-x.x)) (to_z w32 (of_z w32 c.in_ok-y.y)) (to_z w32 (of_z w32 c.in_ok-z.z))
     (was c.args.u (pos e.u) c.ranges.u u ∙ c.in_ok-u.ensures.found) (was c.args.v (pos e.v) c.ranges.v v ∙ c.in_ok-v.ensures.found)
     (was c.args.x e.x c.ranges.x x ∙ c.in_ok-x.ensures.found ∙ part c.in_ok-x.x c.in_ok-x.ensures.within)

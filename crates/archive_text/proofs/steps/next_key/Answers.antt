@@ -5,6 +5,7 @@ use Rattle.line_text.specs.Lines.{IsAt}
 use Rattle.line_text.specs.Numbers.{row_text}
 use Rattle.archive_text.specs.Rows.{key_row}
 use Rattle.archive_text.proofs.steps.next_key.Goals as goal
+use Rattle.archive_text.specs.Forms.{most_numbers}
 
 pub returns-in_ok-key_from-clause-place : goal.returns-in_ok-key_from-clause-place
 unfolding key_row
@@ -14,7 +15,7 @@ pub returns-else-is_key_length-clause-none : goal.returns-else-is_key_length-cla
 unfolding key_row
 returns-else-is_key_length-clause-none c = λ key rest is e.
     let same = sym (c.deref.ensures.value ∙ (c.in_ok-next_row.ensures.every key rest is.wide e).1) in
-    let some = subst (λ ns. (1 ≤ length ns) × (length ns ≤ 20483)) same (is.some, is.few) in
+    let some = subst (λ ns. (1 ≤ length ns) × (length ns ≤ most_numbers)) same (is.some, is.few) in
     true≢false (sym (c.is_key_length.ensures.1 some) ∙ c.if-is_key_length.false)
 
 pub returns-else-branch-clause-none : goal.returns-else-branch-clause-none

@@ -1,5 +1,5 @@
 use Rattle.net_answers.proofs.KeyLists.{put_in}
 use Rattle.net_answers.proofs.workloads.put_key.Goals as goal
 
-pub returns-in-Ok : goal.returns-in-Ok
-returns-in-Ok c = put_in c.args.key c.args.keys.now.keys c.insert.new.self.keys c.in-Ok.ensures.keys
+pub returns : goal.returns
+returns c = put_in c.args.key c.args.keys.now.keys c.insert.new.self.keys c.in_ok-insert.ensures.keys

@@ -1,6 +1,4 @@
-use Rattle.std.proofs.Common.{◌∙◌, ℤ, List, sym, subst}
-use Rattle.std.specs.List.{All}
-use Rattle.line_text.specs.Numbers.{IsWide}
+use Rattle.std.proofs.Common.{◌∙◌, sym, subst}
 use Rattle.periodic_net.specs.Graph.{Graph}
 use Rattle.coordination.specs.Sequences.{AreSequencesOf}
 use Rattle.quotient_graph.specs.AnyGraphs.{graph_in}
@@ -13,14 +11,14 @@ use Rattle.net_archive.proofs.adding.entry_of.Goals as goal
 pub returns-clause-is_entry : goal.returns-clause-is_entry
 returns-clause-is_entry c named =
     let graph = c.in_ok-graph.ensures in
-    let numbers = c.in_ok-numbers.ensures in
+    let key = c.in_ok-key.ensures in
     let shells = c.in_ok-shells.ensures in
-    let e : EntryView = record { name = c.in_ok-name.name.items; graph = graph_in c.in_ok-graph.graph; key = c.from_parts.result; shells = c.in_ok-shells.shells } in
+    let e : EntryView = record { name = c.in_ok-name.name.items; graph = graph_in c.in_ok-graph.graph; key = c.in_ok-key.key; shells = c.in_ok-shells.shells } in
     let of : IsEntryOf c.args.name.now (net_in c.args.net.now) e = record {
       name_is = c.in_ok-name.ensures.items;
       graph = graph.graph;
-      key = c.from_parts.ensures ∙ numbers.numbers ∙ c.key.ensures.key;
+      key = key.same ∙ c.key.ensures.key;
       shells = subst (λ (G : Graph). AreSequencesOf G e.shells) (sym graph.graph) shells.sequences;
     } in
     entry_of_net c.args.name.now (net_in c.args.net.now) e named c.key.ensures.keyed of shells.few graph.small graph.rising
-    (subst (λ (xs : List ℤ). All IsWide xs) (sym c.from_parts.ensures) numbers.wide)
+    key.wide

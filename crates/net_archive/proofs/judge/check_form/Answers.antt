@@ -1,8 +1,9 @@
 use Rattle.std.proofs.Common.{◌∙◌, subst}
 use Rattle.periodic_net.specs.Graph.{Graph}
 use Rattle.net_archive.specs.Judging.{IsJudged, IsRefusedAt}
-use Rattle.net_archive.proofs.Judged.{known_error, refused_judged}
+use Rattle.net_archive.proofs.Judged.{refused_judged}
 use Rattle.net_archive.proofs.judge.check_form.Goals as goal
+use Rattle.least_key.proofs.CallerLemmas.{known_error}
 
 pub check_net-requires-clause-graph : goal.check_net-requires-clause-graph
 check_net-requires-clause-graph c = c.in_ok-net.ensures.net ∙ c.requires.graph

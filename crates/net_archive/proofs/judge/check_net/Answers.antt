@@ -1,9 +1,10 @@
 use Rattle.std.proofs.Common.{subst}
 use Rattle.periodic_net.specs.Graph.{Graph}
 use Rattle.least_key.specs.AnyNets.{net_in}
+use Rattle.least_key.proofs.CallerLemmas.{known_error}
 use Rattle.coordination.specs.Sequences.{AreSequencesOf}
 use Rattle.net_archive.specs.Judging.{IsJudged}
-use Rattle.net_archive.proofs.Judged.{has_key, known_error, other_judged, shells_judged}
+use Rattle.net_archive.proofs.Judged.{has_key, other_judged, shells_judged}
 use Rattle.net_archive.proofs.judge.check_net.Goals as goal
 
 pub returns-in_err-check_key-clause-fault : goal.returns-in_err-check_key-clause-fault

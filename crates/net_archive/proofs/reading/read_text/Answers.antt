@@ -1,7 +1,7 @@
 use Rattle.net_archive.specs.Faults.{IsFaultOf}
-use Rattle.net_archive.proofs.Judged.{known_error}
 use Rattle.net_archive.proofs.ReadBack.{told}
 use Rattle.net_archive.proofs.reading.read_text.Goals as goal
+use Rattle.least_key.proofs.CallerLemmas.{known_error}
 
 pub returns-in_err-entries-clause-fault : goal.returns-in_err-entries-clause-fault
 returns-in_err-entries-clause-fault c =

@@ -1,9 +1,6 @@
-use Rattle.std.proofs.Common.{◌≡◌, ◌++◌, length}
+use Rattle.std.proofs.Common.{◌≡◌, ◌++◌, drop}
 use Rattle.line_text.specs.Numbers.{numbers_text}
 use Rattle.net_report.proofs.numbers.push_numbers_after.Given as goal
 
-abbrev pub invariant-loop-left : goal.invariant-loop-left
-invariant-loop-left l = l.text.items ++ numbers_text l.left ≡ l.initial.text.items ++ numbers_text l.numbers
-
-abbrev pub decreases-loop-left : goal.decreases-loop-left
-decreases-loop-left l = length l.left
+abbrev pub invariant-loop-x : goal.invariant-loop-x
+invariant-loop-x l = l.text.items ++ numbers_text (drop l.x-index l.numbers) ≡ l.initial.text.items ++ numbers_text l.numbers

@@ -1,9 +1,6 @@
-use Rattle.std.proofs.Common.{◌≡◌, ◌++◌, length}
+use Rattle.std.proofs.Common.{◌≡◌, ◌++◌, drop}
 use Rattle.net_report.specs.Primitives.{bases_text}
 use Rattle.net_report.proofs.primitives.push_bases.Given as goal
 
-abbrev pub invariant-loop-left : goal.invariant-loop-left
-invariant-loop-left g l = l.text.items ++ bases_text g.row.D l.left ≡ l.initial.text.items ++ bases_text g.row.D l.basis
-
-abbrev pub decreases-loop-left : goal.decreases-loop-left
-decreases-loop-left g l = length l.left
+abbrev pub invariant-loop-v : goal.invariant-loop-v
+invariant-loop-v g l = l.text.items ++ bases_text g.row.D (drop l.v-index l.basis) ≡ l.initial.text.items ++ bases_text g.row.D l.basis

@@ -1,9 +1,6 @@
-use Rattle.std.proofs.Common.{◌≡◌, ◌++◌, length}
+use Rattle.std.proofs.Common.{◌≡◌, ◌++◌, drop}
 use Rattle.net_report.specs.Primitives.{edges_text}
 use Rattle.net_report.proofs.primitives.push_edges.Given as goal
 
-abbrev pub invariant-loop-left : goal.invariant-loop-left
-invariant-loop-left g l = l.text.items ++ edges_text g.row.D l.left ≡ l.initial.text.items ++ edges_text g.row.D l.edges
-
-abbrev pub decreases-loop-left : goal.decreases-loop-left
-decreases-loop-left g l = length l.left
+abbrev pub invariant-loop-edge : goal.invariant-loop-edge
+invariant-loop-edge g l = l.text.items ++ edges_text g.row.D (drop l.edge-index l.edges) ≡ l.initial.text.items ++ edges_text g.row.D l.edges

@@ -1,9 +1,6 @@
-use Rattle.std.proofs.Common.{◌≡◌, ◌++◌, length}
+use Rattle.std.proofs.Common.{◌≡◌, ◌++◌, drop}
 use Rattle.net_report.specs.Sequences.{sizes_after}
 use Rattle.net_report.proofs.sequences.push_sizes_after.Given as goal
 
-abbrev pub invariant-loop-left : goal.invariant-loop-left
-invariant-loop-left l = l.text.items ++ sizes_after l.left ≡ l.initial.text.items ++ sizes_after l.sizes
-
-abbrev pub decreases-loop-left : goal.decreases-loop-left
-decreases-loop-left l = length l.left
+abbrev pub invariant-loop-n : goal.invariant-loop-n
+invariant-loop-n l = l.text.items ++ sizes_after (drop l.n-index l.sizes) ≡ l.initial.text.items ++ sizes_after l.sizes

@@ -1,5 +1,5 @@
 use Rattle.std.proofs.Common.{◌++◌, ap, sym, ◌∙◌, length, ◌≤◌, subst, List, ℕ, arith}
-use Rattle.workload.specs.Workload.{block_text, most_nets}
+use Rattle.workload.specs.Workload.{block_text, most_nets, most_text}
 use Rattle.workload.proofs.Ranges.{one_more_piece}
 use Rattle.workload.proofs.SmallText.{text_small}
 use Rattle.workload.proofs.text.workload_text.Goals as goal
@@ -11,4 +11,4 @@ loop-i-preserved c =
 pub returns-clause-small : goal.returns-clause-small
 returns-clause-small c =
     let few : c.loop-i.i ≤ most_nets = omega (arith, c.loop-i.auto.i-end, c.requires) in
-    subst (λ (xs : List ℕ). length xs ≤ 16777216) (sym c.loop-i.invariant) (text_small c.loop-i.i few)
+    subst (λ (xs : List ℕ). length xs ≤ most_text) (sym c.loop-i.invariant) (text_small c.loop-i.i few)
