@@ -20,9 +20,11 @@ pub fn run_in_memory(
     out: &mut MemorySink,
 ) -> Status
     ensures read { result ≢ Status.ReadFault }
-    ensures written { HasRoom (task_of (texts_of words.now)) (holds_of shelf.old.files) (sure_of out.old) →
+    ensures written { HasRoom (task_of (texts_of words.now)) (holds_of shelf.old.files)
+        (sure_of out.old) →
         result ≢ Status.WriteFault }
-    ensures complete { HasRoom (task_of (texts_of words.now)) (holds_of shelf.old.files) (sure_of out.old) →
+    ensures complete { HasRoom (task_of (texts_of words.now)) (holds_of shelf.old.files)
+        (sure_of out.old) →
         AreWithin (task_of (texts_of words.now)) (holds_of shelf.old.files) →
         IsToldWhole (task_of (texts_of words.now)) result }
 {
