@@ -23,6 +23,22 @@ pub data Task : Type 0 where
   -- to make so many nets, and to find their keys
   Workload : ℕ → Task
 
+-- the file that a task reads
+abbrev pub file_named : Task → Option Text
+file_named (Tell command file archive) = Some file
+file_named (Add file archive name) = Some file
+file_named (Duplicates archive) = None
+file_named (Migrate archive) = None
+file_named (Workload count) = None
+
+-- the archive that it reads
+abbrev pub archive_named : Task → Option Text
+archive_named (Tell command file archive) = archive
+archive_named (Add file archive name) = archive
+archive_named (Duplicates archive) = Some archive
+archive_named (Migrate archive) = Some archive
+archive_named (Workload count) = None
+
 -- the command that a word names
 abbrev pub verb_named : Text → Option Verb
 verb_named word =

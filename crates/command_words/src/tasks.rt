@@ -1,7 +1,7 @@
 // The commands, and what each takes.
 ghost use Rattle.std.specs.Prelude.{◌≡◌, IfOk, IfSome, option_map, option_copied};
 ghost use Rattle.command_words.specs.Words.{texts_of};
-ghost use Rattle.command_words.specs.Tasks.{MakesFew, add_in, are_apart, file_of, has_empty_word, is_empty_word, may_name_archive, sole_archive, sole_count, task_for, task_in, task_of, tell_in, verb_named};
+ghost use Rattle.command_words.specs.Tasks.{MakesFew, add_in, archive_named, are_apart, file_named, file_of, has_empty_word, is_empty_word, may_name_archive, sole_archive, sole_count, task_for, task_in, task_of, tell_in, verb_named};
 ghost use Rattle.command_words.specs.Views.{said_view, task_view};
 
 use crate::counts::count_of;
@@ -48,6 +48,29 @@ pub enum Task<'a> {
     Workload {
         count: u32,
     },
+}
+
+impl<'a> Task<'a> {
+    /// The file that the task reads.
+    pub fn file(&self) -> Option<&'a str>
+        ensures { option_copied result ≡ file_named (task_view self.now) }
+    {
+        match *self {
+            Task::Tell { file, .. } | Task::Add { file, .. } => Some(file),
+            Task::Duplicates { .. } | Task::Migrate { .. } | Task::Workload { .. } => None,
+        }
+    }
+
+    /// The archive that the task reads.
+    pub fn archive(&self) -> Option<&'a str>
+        ensures { option_copied result ≡ archive_named (task_view self.now) }
+    {
+        match *self {
+            Task::Tell { archive, .. } | Task::Add { archive, .. } => archive,
+            Task::Duplicates { archive } | Task::Migrate { archive } => Some(archive),
+            Task::Workload { .. } => None,
+        }
+    }
 }
 
 /// The command that a word names.

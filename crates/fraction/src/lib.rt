@@ -7,3 +7,6 @@ mod products;
 mod reducing;
 
 pub use numbers::{Fraction, FractionFault};
+
+#[cfg(test)]
+mod tests;

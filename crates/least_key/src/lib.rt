@@ -14,3 +14,6 @@ pub use laws::{certain_is_not_refused, keyed_is_certain};
 pub use net::{Net, NetOf};
 pub use path::{AnyPlaced, check_any, connect_graph, place_any, place_graph};
 pub use refusal::Refusal;
+
+#[cfg(test)]
+mod tests;

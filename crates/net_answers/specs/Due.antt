@@ -27,22 +27,6 @@ use Rattle.net_answers.specs.declared.status.Status.{Status}
 use Rattle.net_answers.specs.declared.status.Status.TheVariants as status
 use Rattle.archive_text.specs.Texts.{most_bytes}
 
--- the file that a task reads
-abbrev pub file_named : Task → Option (List ℕ)
-file_named (Tell command file archive) = Some file
-file_named (Add file archive name) = Some file
-file_named (Duplicates archive) = None
-file_named (Migrate archive) = None
-file_named (Workload count) = None
-
--- the archive that it reads
-abbrev pub archive_named : Task → Option (List ℕ)
-archive_named (Tell command file archive) = archive
-archive_named (Add file archive name) = archive
-archive_named (Duplicates archive) = Some archive
-archive_named (Migrate archive) = Some archive
-archive_named (Workload count) = None
-
 -- the bytes whose blocks it is about: those of the file, or those that it makes
 abbrev pub bytes_of : Task → List ℕ → List ℕ
 bytes_of (Workload count) file = workload count

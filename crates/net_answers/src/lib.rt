@@ -10,3 +10,6 @@ mod workloads;
 
 pub use answer::{Answer, Silence, answer_to};
 pub use status::Status;
+
+#[cfg(test)]
+mod tests;

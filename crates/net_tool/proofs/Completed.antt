@@ -2,11 +2,11 @@
 use Rattle.std.proofs.Common.{◌≡◌, inl, inr, ℕ, ◌<◌, List, [], length, Option, None, Some, unwrap_or, sym, ap, subst, arith}
 use Rattle.outside.specs.Held.{Holds, Are, HasMore}
 use Rattle.cgd_read.specs.Blocks.{blocks_of, most_blocks}
-use Rattle.command_words.specs.Tasks.{Task, task_of}
+use Rattle.command_words.specs.Tasks.{Task, archive_named, file_named, task_of}
 use Rattle.net_archive.specs.Archives.{ArchiveView}
 use Rattle.net_archive.specs.Faults.{IsFaultOf}
 use Rattle.net_archive.proofs.CallerLemmas.{no_fault_but_memory}
-use Rattle.net_answers.specs.Due.{IsArchiveIn, IsBadArchive, archive_named, bytes_of, file_named}
+use Rattle.net_answers.specs.Due.{IsArchiveIn, IsBadArchive, bytes_of}
 use Rattle.net_answers.specs.declared.status.Status.{Status}
 use Rattle.net_answers.specs.declared.status.Status.TheVariants.{Usage, ReadFault, WriteFault, BadArchive, TooLarge, NoMemory, TooManyBlocks, AddRefused, MigrateRefused}
 use Rattle.net_tool.specs.Completeness.{AreFitting, AreWithin, IsComplete, AreFilesWithin, bytes_of_name}

@@ -2,8 +2,8 @@
 use Rattle.std.proofs.Common.{◌≡◌, ℕ, List, [], Option, unwrap_or, subst}
 use Rattle.outside.specs.Held.{Holds}
 use Rattle.cgd_read.specs.Blocks.{blocks_of}
-use Rattle.command_words.specs.Tasks.{Task}
-use Rattle.net_answers.specs.Due.{IsDueWith, archive_named, bytes_of, file_named}
+use Rattle.command_words.specs.Tasks.{Task, archive_named, file_named}
+use Rattle.net_answers.specs.Due.{IsDueWith, bytes_of}
 use Rattle.net_answers.specs.declared.status.Status.{Status}
 use Rattle.net_answers.specs.declared.status.Status.TheVariants.{TooLarge, TooManyBlocks}
 use Rattle.net_tool.specs.Run.{AreBytesOf, IsDueOf}

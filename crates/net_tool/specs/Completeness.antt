@@ -2,9 +2,9 @@
 use Rattle.std.specs.Prelude.{ℕ, ◌≡◌, ◌≤◌, List, [], length, Option, None, Some, unwrap_or}
 use Rattle.outside.specs.Held.{Holds}
 use Rattle.cgd_read.specs.Blocks.{blocks_of, most_blocks}
-use Rattle.command_words.specs.Tasks.{Task, Add, Migrate}
+use Rattle.command_words.specs.Tasks.{Task, Add, Migrate, archive_named, file_named}
 use Rattle.net_archive.specs.Archives.{ArchiveView}
-use Rattle.net_answers.specs.Due.{IsArchiveIn, archive_named, bytes_of, file_named}
+use Rattle.net_answers.specs.Due.{IsArchiveIn, bytes_of}
 use Rattle.net_answers.specs.declared.status.Status.{Status}
 use Rattle.net_answers.specs.declared.status.Status.TheVariants.{Done, SomeRefused, ReadFault, WriteFault, NoMemory, AddRefused, MigrateRefused}
 use Rattle.net_tool.specs.Run.{IsDue}

@@ -3,10 +3,10 @@ use Rattle.std.specs.Prelude.{ℕ, ◌≡◌, ◌⊎◌, ◌≤◌, ◌<◌, Lis
 use Rattle.std.specs.Io.KnownBytes.{Appends}
 use Rattle.outside.specs.Last.{Last, Failed}
 use Rattle.outside.specs.Held.{Holds, Are, HasMore}
-use Rattle.command_words.specs.Tasks.{Task, task_of}
+use Rattle.command_words.specs.Tasks.{Task, archive_named, file_named, task_of}
 use Rattle.outside.specs.declared.shelf.InFault.{InFault}
 use Rattle.outside.specs.declared.shelf.InFault.TheVariants as unread
-use Rattle.net_answers.specs.Due.{IsDueOn, archive_named, file_named}
+use Rattle.net_answers.specs.Due.{IsDueOn}
 use Rattle.net_answers.specs.declared.status.Status.{Status}
 use Rattle.net_answers.specs.declared.status.Status.TheVariants.{Done, SomeRefused, Usage, ReadFault, WriteFault, BadArchive, TooLarge, NoMemory, TooManyBlocks, AddRefused, MigrateRefused}
 use Rattle.archive_text.specs.Texts.{most_bytes}
@@ -52,10 +52,10 @@ IsDue (Some task) holds status text = IsDueOf task holds status text
 abbrev pub IsAnswer : List (List ℕ) → Holds → Option (List ℕ) → Option (List ℕ) → Status → Type 0
 IsAnswer words holds before after status = (text : List ℕ) × IsDue (task_of words) holds status text × Appends before after text
 
--- an answer was due, a part of its text was written, and there was a cause to stop
+-- an answer was due, less than its text was written, and there was a cause to stop
 abbrev pub IsBroken : List (List ℕ) → Holds → Option (List ℕ) → Option (List ℕ) → ℕ → Type 0
 IsBroken words holds before after sure =
-    (status : Status) × (text : List ℕ) × (taken : ℕ) × IsDue (task_of words) holds status text × Appends before after (take taken text) × (sure < length text)
+    (status : Status) × (text : List ℕ) × (taken : ℕ) × (taken < length text) × IsDue (task_of words) holds status text × Appends before after (take taken text) × (sure < length text)
 
 -- the last read failed, of this file
 abbrev pub FailedAt : Option (List ℕ) → Last → Type 0

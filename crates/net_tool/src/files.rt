@@ -2,35 +2,11 @@
 ghost use Rattle.std.specs.Prelude.{◌≡◌, ◌≤◌, ℕ, IfOk, IsErrOf, option_copied};
 ghost use Rattle.outside.specs.Causes.{Rose};
 ghost use Rattle.net_answers.specs.Bytes.{bytes_in};
-ghost use Rattle.command_words.specs.Views.{task_view};
-ghost use Rattle.net_answers.specs.Due.{archive_named, file_named};
 ghost use Rattle.net_tool.specs.Run.{AreBytesOf, FailedAt, HasManyBytes};
 
-use command_words::Task;
 use net_archive::MOST_BYTES;
 use outside::{InFault, Shelf, read_whole};
 use std::alloc::Global;
-
-/// The file that a task reads.
-pub fn file_named<'a>(task: &Task<'a>) -> Option<&'a str>
-    ensures { option_copied result ≡ file_named (task_view task.now) }
-{
-    match *task {
-        Task::Tell { file, .. } | Task::Add { file, .. } => Some(file),
-        Task::Duplicates { .. } | Task::Migrate { .. } | Task::Workload { .. } => None,
-    }
-}
-
-/// The archive that a task reads.
-pub fn archive_named<'a>(task: &Task<'a>) -> Option<&'a str>
-    ensures { option_copied result ≡ archive_named (task_view task.now) }
-{
-    match *task {
-        Task::Tell { archive, .. } | Task::Add { archive, .. } => archive,
-        Task::Duplicates { archive } | Task::Migrate { archive } => Some(archive),
-        Task::Workload { .. } => None,
-    }
-}
 
 /// The bytes of a file, where one is named.
 pub fn read_named<H: Shelf>(

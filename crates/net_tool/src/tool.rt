@@ -10,7 +10,7 @@ ghost use Rattle.net_tool.specs.Headline.{HasHeadline, IsReported};
 ghost use Rattle.net_tool.specs.Inputs.{AreInputs};
 ghost use Rattle.net_tool.specs.Run.{FailedAtFile, FailedAtTask, IsAnswer, IsAnswered, IsBroken, IsDueOf, IsSilent, GoesWithText, IsUnread, status_of};
 
-use crate::files::{archive_named, file_named, read_named};
+use crate::files::read_named;
 use command_words::{Task, task_of};
 use net_answers::{Answer, Status, answer_to};
 use outside::{InFault, Shelf, Sink, write_all};
@@ -28,7 +28,8 @@ fn finish<W: Sink>(out: &mut W, text: &[u8], status: Status) -> Status
     ensures cause { result ≡ Status.WriteFault → Rose (W.faults out.old) (W.faults out.new) }
     ensures unsure { result ≡ Status.WriteFault → W.sure out.old < length text.now }
     ensures part { result ≡ Status.WriteFault →
-        (taken : ℕ) × Appends (W.written out.old) (W.written out.new) (take taken text.now) }
+        (taken : ℕ) × (taken < length text.now) ×
+        Appends (W.written out.old) (W.written out.new) (take taken text.now) }
     ensures later { W.faults out.old ≤ W.faults out.new }
 {
     match write_all(out, text) {
@@ -65,8 +66,8 @@ fn read_inputs<H: Shelf>(alloc: Global, task: &Task<'_>, shelf: &mut H) -> Resul
     ensures same { H.holds shelf.new ≡ H.holds shelf.old }
     ensures later { H.faults shelf.old ≤ H.faults shelf.new }
 {
-    let file = read_named(alloc, shelf, file_named(task)).map_err(status_of)?;
-    let archive = read_named(alloc, shelf, archive_named(task)).map_err(status_of)?;
+    let file = read_named(alloc, shelf, task.file()).map_err(status_of)?;
+    let archive = read_named(alloc, shelf, task.archive()).map_err(status_of)?;
     let file = file.unwrap_or(Vec::new(alloc));
     Ok(Inputs { file, archive })
 }

@@ -125,6 +125,27 @@ fn failing_archive(rt: HostRuntime) -> Result<(), Fail> {
     Ok(())
 }
 
+// The first read gives a whole net, and the second, of the comments after it, fails.
+#[test]
+fn failing_second_read(rt: HostRuntime) -> Result<(), Fail> {
+    let mut text = Vec::from_slice(rt.alloc(), DIA.as_bytes())?;
+    for _ in 0..10 {
+        text.extend_from_slice(b"# a comment\n")?;
+    }
+    let faults = Faults {
+        step: 100,
+        reads: &[2],
+        writes: &[],
+    };
+    let (status, out) = run_on(rt.alloc(), &["key", "net"], &text, &faults)?;
+    assert_eq!(rt; status, Status::ReadFault);
+    assert_eq!(rt; out.written().len(), 0);
+    let (status, out) = run_on(rt.alloc(), &["key", "net"], &text, &NO_FAULTS)?;
+    assert_eq!(rt; status, Status::Done);
+    assert_eq!(rt; out.written(), DIA_KEY_REPORT.as_bytes());
+    Ok(())
+}
+
 #[test]
 fn too_large(rt: HostRuntime) -> Result<(), Fail> {
     let faults = Faults {

@@ -12,7 +12,7 @@ use Rattle.net_tool.proofs.tool.run.Goals as goal
 pub returns-in_default-found-clause-broken : goal.returns-in_default-found-clause-broken
 returns-in_default-found-clause-broken g c = λ fault.
     let part = c.finish.ensures.part fault in
-    (Usage, c.as_bytes.result.now, part.0, search rules, part.1, c.finish.ensures.unsure fault)
+    (Usage, c.as_bytes.result.now, part.0, part.1, search rules, part.2, c.finish.ensures.unsure fault)
 
 pub returns-in-Ok-answer_task-clause-broken : goal.returns-in-Ok-answer_task-clause-broken
 returns-in-Ok-answer_task-clause-broken g c = λ fault.
@@ -20,7 +20,7 @@ returns-in-Ok-answer_task-clause-broken g c = λ fault.
     let answer = c.in-Ok-answer_task.answer in
     let part = c.finish-in-Ok-answer_task.ensures.part fault in
     let due = subst (λ (o : Option Task). IsDue o (g.H.Shelf.holds c.args.shelf.now) answer.status c.deref.result.now) asks (search rules) in
-    (answer.status, c.deref.result.now, part.0, due, part.1, c.finish-in-Ok-answer_task.ensures.unsure fault)
+    (answer.status, c.deref.result.now, part.0, part.1, due, part.2, c.finish-in-Ok-answer_task.ensures.unsure fault)
 
 pub returns-in-Ok-answer_task-clause-answer : goal.returns-in-Ok-answer_task-clause-answer
 returns-in-Ok-answer_task-clause-answer g c = search rules

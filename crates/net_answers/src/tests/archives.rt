@@ -1,6 +1,6 @@
 // Archives: nets that are added, told and found twice, and texts that are none.
-use super::{DIA, DIA_ARCHIVE, NO_FAULTS, PCU, PCU_ARCHIVE, Row, run_over};
-use net_answers::Status;
+use super::{DIA, DIA_ARCHIVE, PCU, PCU_ARCHIVE, Row, answer_over};
+use crate::status::Status;
 use std::test::Fail;
 
 const PCU_NEWEST: &str =
@@ -262,11 +262,10 @@ const FORGED: &[(&str, &str, &str, &str)] = &[
 fn texts_that_are_no_archive(rt: HostRuntime) -> Result<(), Fail> {
     for (archive, part, other, written) in FORGED {
         let forged = archive.replacen(rt.alloc(), *part, other, 1)?;
-        let files = [("net", PCU.as_bytes()), ("archive", forged.as_bytes())];
         let words = ["identify", "net", "--archive", "archive"];
-        let (status, out) = run_over(rt.alloc(), &words, &files, &NO_FAULTS)?;
-        assert_eq!(rt; out.written(), written.as_bytes());
-        assert_eq!(rt; status, Status::BadArchive);
+        let answer = answer_over(rt.alloc(), &words, PCU.as_bytes(), forged.as_bytes())?;
+        assert_eq!(rt; answer.text.as_slice(), written.as_bytes());
+        assert_eq!(rt; answer.status, Status::BadArchive);
     }
     Ok(())
 }

@@ -1,6 +1,6 @@
 // What is told of nets: whether they are connected, and where their vertices stand.
-use super::{HCB, HCB_REPORT, NO_FAULTS, Row, SODALITE, run_on};
-use net_answers::Status;
+use super::{HCB, HCB_REPORT, Row, SODALITE, answer_on};
+use crate::status::Status;
 use std::alloc::Global;
 use std::test::Fail;
 
@@ -179,9 +179,9 @@ fn wide_numbers(rt: HostRuntime) -> Result<(), Fail> {
     for (links, last, written) in &chains {
         let text = chain(rt.alloc(), &counts[..(*links).min(12)], last)?;
         for command in &["place", "key"] {
-            let (status, out) = run_on(rt.alloc(), &[*command, "net"], &text, &NO_FAULTS)?;
-            assert_eq!(rt; status, Status::SomeRefused);
-            assert_eq!(rt; out.written(), written.as_bytes());
+            let answer = answer_on(rt.alloc(), command, &text)?;
+            assert_eq!(rt; answer.status, Status::SomeRefused);
+            assert_eq!(rt; answer.text.as_slice(), written.as_bytes());
         }
     }
     Ok(())
@@ -215,15 +215,14 @@ fn large_cell(rt: HostRuntime) -> Result<(), Fail> {
         }
     }
     text.push_str("END\n")?;
-    let (status, out) = run_on(rt.alloc(), &["place", "net"], text.as_bytes(), &NO_FAULTS)?;
-    assert_eq!(rt; status, Status::Done);
+    let placed = answer_on(rt.alloc(), "place", text.as_bytes())?;
+    assert_eq!(rt; placed.status, Status::Done);
     let start =
         b"net 1 line 1\ngraph d=3 vertices=64 edges=128 repeats=0\nplacement D0=16\nat 1 0 0 0\nat 2 -1 -1 -2\n";
-    let written = out.written();
-    let shown = start.len().min(written.len());
-    assert_eq!(rt; &written[..shown], start.as_slice());
-    let (_, keyed) = run_on(rt.alloc(), &["key", "net"], text.as_bytes(), &NO_FAULTS)?;
+    assert!(rt; placed.text.starts_with(start));
+    let keyed = answer_on(rt.alloc(), "key", text.as_bytes())?;
     let key = b"\nkey 3 2 1 1 2 -1 -1 -1 1 2 0 0 1 1 2 0 1 0 1 2 1 0 0\n";
-    assert!(rt; keyed.written().ends_with(key));
+    assert!(rt; keyed.text.ends_with(key));
+    assert_eq!(rt; keyed.status, Status::Done);
     Ok(())
 }

@@ -1,7 +1,7 @@
 // Keys, and why a net has none. More keys are in the program's stored run.
 use super::readings::loops;
-use super::{NO_FAULTS, Row, run_on};
-use net_answers::Status;
+use super::{Row, answer_on};
+use crate::status::Status;
 use std::test::Fail;
 
 pub const KEYED: &[Row] = &[
@@ -19,7 +19,15 @@ pub const KEYED: &[Row] = &[
         status: Status::SomeRefused,
         written: "net 1 line 1 \"fold\"\ngraph d=2 vertices=3 edges=5 repeats=0\nrefused 5 Collision u=2 v=3 t=0 0\nnet 2 line 10 \"leaf\"\ngraph d=2 vertices=2 edges=3 repeats=0\nrefused 5 Collision u=1 v=2 t=0 0\n",
     },
-    // in different cells
+    // three presentations of diamond
+    Row {
+        words: &["key", "net"],
+        net: "PERIODIC_GRAPH\nNAME dia\nEDGES\n1 2 0 0 0\n1 2 1 0 0\n1 2 0 1 0\n1 2 0 0 1\nEND\nPERIODIC_GRAPH\nNAME tilted\nEDGES\n4 7 0 0 0\n4 7 -1 0 0\n4 7 -1 -1 0\n4 7 0 -1 -1\nEND\nPERIODIC_GRAPH\nNAME again\nEDGES\n1 2 0 0 0\n1 2 1 0 0\n1 2 0 1 0\n1 2 0 0 1\n2 1 0 0 -1\nEND\n",
+        archive: "",
+        status: Status::Done,
+        written: "net 1 line 1 \"dia\"\ngraph d=3 vertices=2 edges=4 repeats=0\nkey 3 2 1 1 2 -1 -1 -1 1 2 0 0 1 1 2 0 1 0 1 2 1 0 0\nnet 2 line 9 \"tilted\"\ngraph d=3 vertices=2 edges=4 repeats=0\nkey 3 2 1 1 2 -1 -1 -1 1 2 0 0 1 1 2 0 1 0 1 2 1 0 0\nnet 3 line 17 \"again\"\ngraph d=3 vertices=2 edges=4 repeats=1\nkey 3 2 1 1 2 -1 -1 -1 1 2 0 0 1 1 2 0 1 0 1 2 1 0 0\n",
+    },
+    // vertices of one place in different cells
     Row {
         words: &["key", "net"],
         net: "PERIODIC_GRAPH\nNAME apart\nEDGES\n2 1 0 0\n2 1 1 0\n3 1 1 0\n3 1 2 0\n1 1 0 1\nEND\n",
@@ -47,14 +55,15 @@ fn long_ring(rt: HostRuntime) -> Result<(), Fail> {
         text.push_str(&format!(in rt.alloc(); "{k} {k} 0 1 0\n{k} {k} 0 0 1\n")?)?;
     }
     text.push_str("END\n")?;
-    let (_, placed) = run_on(rt.alloc(), &["place", "net"], text.as_bytes(), &NO_FAULTS)?;
+    let placed = answer_on(rt.alloc(), "place", text.as_bytes())?;
     let header = "net 1 line 1\ngraph d=3 vertices=512 edges=1536 repeats=0\nplacement D0=512\n";
-    assert!(rt; placed.written().starts_with(header.as_bytes()));
-    let (status, out) = run_on(rt.alloc(), &["key", "net"], text.as_bytes(), &NO_FAULTS)?;
-    assert_eq!(rt; status, Status::Done);
+    assert!(rt; placed.text.starts_with(header.as_bytes()));
+    assert_eq!(rt; placed.status, Status::Done);
+    let keyed = answer_on(rt.alloc(), "key", text.as_bytes())?;
+    assert_eq!(rt; keyed.status, Status::Done);
     let wanted =
         "net 1 line 1\ngraph d=3 vertices=512 edges=1536 repeats=0\nkey 3 1 1 1 1 0 0 1 1 1 0 1 0 1 1 1 0 0\n";
-    assert_eq!(rt; out.written(), wanted.as_bytes());
+    assert_eq!(rt; keyed.text.as_slice(), wanted.as_bytes());
     Ok(())
 }
 
@@ -63,21 +72,32 @@ fn long_ring(rt: HostRuntime) -> Result<(), Fail> {
 #[test]
 fn many_frames(rt: HostRuntime) -> Result<(), Fail> {
     let rows = [
-        (249i64, 500, "key 2 1 "),
-        (250, 502, "refused 6 TooMuch starts=0 counted=1000000064\n"),
-        (349, 700, "refused 6 TooMuch starts=0 counted=1000000400\n"),
+        (249i64, 500, Status::Done, "key 2 1 "),
+        (
+            250,
+            502,
+            Status::SomeRefused,
+            "refused 6 TooMuch starts=0 counted=1000000064\n",
+        ),
+        (
+            349,
+            700,
+            Status::SomeRefused,
+            "refused 6 TooMuch starts=0 counted=1000000400\n",
+        ),
     ];
-    for (side, edges, line) in rows {
+    for (side, edges, status, line) in rows {
         let mut text = String::from_str(rt.alloc(), "PERIODIC_GRAPH\nEDGES\n1 1 0 1\n")?;
         for k in -side..=side {
             text.push_str(&format!(in rt.alloc(); "1 1 1 {k}\n")?)?;
         }
         text.push_str("END\n")?;
-        let (_, out) = run_on(rt.alloc(), &["key", "net"], text.as_bytes(), &NO_FAULTS)?;
+        let answer = answer_on(rt.alloc(), "key", text.as_bytes())?;
         let begun = format!(in rt.alloc();
             "net 1 line 1\ngraph d=2 vertices=1 edges={edges} repeats=0\n{line}"
         )?;
-        assert!(rt; out.written().starts_with(begun.as_bytes()));
+        assert!(rt; answer.text.starts_with(begun.as_bytes()));
+        assert_eq!(rt; answer.status, status);
     }
     Ok(())
 }
@@ -87,25 +107,28 @@ fn many_frames(rt: HostRuntime) -> Result<(), Fail> {
 fn most_loops(rt: HostRuntime) -> Result<(), Fail> {
     let header = "net 1 line 1\ngraph d=2 vertices=1 edges=4096 repeats=0\n";
     let rows = [
-        (4096, "check", header, "connected\n"),
+        (4096, "check", Status::Done, header, "connected\n"),
         (
             4096,
             "key",
+            Status::SomeRefused,
             header,
             "refused 6 TooMuch starts=0 counted=1000005632\n",
         ),
         (
             4097,
             "key",
+            Status::SomeRefused,
             "net 1 line 1\n",
             "malformed line=4099 9 TooManyEdges\n",
         ),
     ];
-    for (edges, command, header, line) in rows {
+    for (edges, command, status, header, line) in rows {
         let text = loops(rt.alloc(), edges)?;
-        let (_, out) = run_on(rt.alloc(), &[command, "net"], text.as_bytes(), &NO_FAULTS)?;
-        let rest = out.written().strip_prefix(header.as_bytes());
+        let answer = answer_on(rt.alloc(), command, text.as_bytes())?;
+        let rest = answer.text.strip_prefix(header.as_bytes());
         assert!(rt; matches!(rest, Some(rest) if rest == line.as_bytes()));
+        assert_eq!(rt; answer.status, status);
     }
     Ok(())
 }

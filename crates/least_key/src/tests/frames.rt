@@ -3,33 +3,18 @@ ghost use Rattle.std.specs.Prelude.{◌≤◌, length, IfSome};
 ghost use Rattle.periodic_net.specs.Correspondence.{IsClass};
 ghost use Rattle.key_theory.specs.Frames.{IsFrame};
 
-use super::HCB;
-use cgd_read::{Body, blocks};
+use super::{HCB, graph_in};
+use crate::keying::settle_graph;
 use edge_frames::{Frames, count_work};
-use least_key::settle_graph;
 use net_translations::classes;
 use net_traversal::{Head, KeyRow, Walker, traverse};
-use quotient_graph::{AnyGraph, ClassArc, ClassNet, Classes, Frame, Graph, from_raw};
+use quotient_graph::{AnyGraph, ClassArc, ClassNet, Classes, Frame, Graph};
 use std::alloc::Global;
 use std::test::Fail;
 use vecdim::Triple;
 
 const SRS: &str =
     "PERIODIC_GRAPH\nEDGES\n1 2 0 0 0\n1 3 0 0 0\n1 4 0 0 0\n2 3 1 0 0\n2 4 0 1 0\n3 4 0 0 1\nEND\n";
-
-// The graph of the first net of a text.
-fn graph_in(alloc: Global, text: &[u8]) -> Option<AnyGraph>
-    requires { length text.now ≤ 16777216 }
-{
-    let Ok(found) = blocks(alloc, text) else {
-        return None;
-    };
-    let block = found.first()?;
-    match &block.body {
-        Body::Graph(raw) => from_raw(alloc, raw).ok(),
-        _ => None,
-    }
-}
 
 // The classes of a net.
 fn classes_of<const D: usize>(alloc: Global, graph: Graph<D>) -> Option<Classes<D>> {

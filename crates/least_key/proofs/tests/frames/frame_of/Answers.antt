@@ -2,7 +2,7 @@ use Rattle.std.proofs.Common.{List, ◌∷◌, inr, sym, subst}
 use Rattle.std.specs.List.{Contains}
 use Rattle.integers.proofs.lists.Members.{contains_from_in, is_in}
 use Rattle.periodic_net.specs.Classes.{ClassArc}
-use Rattle.net_tool.proofs.tests.frames.frame_of.Goals as goal
+use Rattle.least_key.proofs.tests.frames.frame_of.Goals as goal
 
 pub loop-frame-preserved : goal.loop-frame-preserved
 loop-frame-preserved g c = λ f i.

@@ -1,6 +1,6 @@
 // All that is told of a net: its placement, primitive graph, key, shells and names.
 use super::{DIA_ARCHIVE, HCB, Row, SODALITE};
-use net_answers::Status;
+use crate::status::Status;
 
 // The shells are the published sequences of these nets.
 pub const IDENTIFIED: &[Row] = &[
@@ -51,6 +51,30 @@ pub const IDENTIFIED: &[Row] = &[
         archive: "",
         status: Status::Done,
         written: "net 1 line 2 \"sod, 12 sites\"\ngraph d=3 vertices=12 edges=24 repeats=0\nplacement D0=4\nat 1 0 0 0\nat 2 -1 1 0\nat 3 -1 3 0\nat 4 1 0 -1\nat 5 1 0 1\nat 6 2 0 0\nat 7 0 2 -2\nat 8 1 1 -2\nat 9 1 3 -2\nat 10 -1 2 -1\nat 11 -1 2 1\nat 12 2 2 -2\nprimitive vertices=6 edges=12\nbasis 2 2 2\nbasis 0 4 0\nbasis 0 0 4\nedge 1 2 0 0 0\nedge 1 3 0 -1 0\nedge 1 4 0 0 0\nedge 1 5 0 0 0\nedge 2 4 -1 1 1\nedge 2 5 -1 1 0\nedge 2 6 -2 1 1\nedge 3 4 -1 1 1\nedge 3 5 -1 1 0\nedge 3 6 -2 2 1\nedge 4 6 0 0 0\nedge 5 6 0 0 0\nkey 3 6 1 1 2 -1 -1 -1 1 3 0 0 1 1 4 0 1 0 1 5 1 0 0 2 4 -1 -1 0 2 3 -1 0 -1 2 6 1 0 0 3 5 -1 -1 0 3 6 0 1 0 4 5 -1 0 -1 4 6 0 0 1 5 6 -1 -1 -1\nshells 1 4 10 20 34 52 74 100 130 164 202\nshells 2 4 10 20 34 52 74 100 130 164 202\nshells 3 4 10 20 34 52 74 100 130 164 202\nshells 4 4 10 20 34 52 74 100 130 164 202\nshells 5 4 10 20 34 52 74 100 130 164 202\nshells 6 4 10 20 34 52 74 100 130 164 202\nnames 0\n",
+    },
+    // positions that repeat, though the edges do not
+    Row {
+        words: &["identify", "net"],
+        net: "PERIODIC_GRAPH\nNAME shifted\nEDGES\n1 2 0 0\n2 1 1 0\n1 1 0 1\n2 2 0 1\n1 1 1 1\nEND\n",
+        archive: "",
+        status: Status::Done,
+        written: "net 1 line 1 \"shifted\"\ngraph d=2 vertices=2 edges=5 repeats=0\nplacement D0=2\nat 1 0 0\nat 2 1 0\nprimitive vertices=2 edges=5\nbasis 2 0\nbasis 0 2\nedge 1 1 0 1\nedge 1 1 1 1\nedge 1 2 -1 0\nedge 1 2 0 0\nedge 2 2 0 1\nkey 2 2 1 1 2 -1 0 1 1 0 1 1 2 1 0 1 1 2 -1 2 2 0 1\nshells 1 6 14 22 30 38 46 54 62 70 78\nshells 2 4 10 18 26 34 42 50 58 66 74\nnames 0\n",
+    },
+    // no two of its arcs span the lattice: the scale is 2
+    Row {
+        words: &["identify", "net"],
+        net: "PERIODIC_GRAPH\nNAME scaled\nEDGES\n1 1 0 1\n1 1 2 -1\n1 1 3 0\nEND\n",
+        archive: "",
+        status: Status::Done,
+        written: "net 1 line 1 \"scaled\"\ngraph d=2 vertices=1 edges=3 repeats=0\nplacement D0=1\nat 1 0 0\nprimitive vertices=1 edges=3\nbasis 1 0\nbasis 0 1\nedge 1 1 0 1\nedge 1 1 2 -1\nedge 1 1 3 0\nkey 2 1 2 1 1 0 2 1 1 2 0 1 1 3 -3\nshells 1 6 18 38 56 70 86 102 118 134 150\nnames 0\n",
+    },
+    // the eighth shell would pass 20,000 vertices in all
+    Row {
+        words: &["identify", "net"],
+        net: "PERIODIC_GRAPH\nNAME star\nEDGES\n1 1 0 0 1\n1 1 0 1 0\n1 1 1 -3 -3\n1 1 1 -3 0\n1 1 1 -3 3\n1 1 1 0 -3\n1 1 1 0 0\n1 1 1 0 3\n1 1 1 3 -3\n1 1 1 3 0\n1 1 1 3 3\nEND\n",
+        archive: "",
+        status: Status::Done,
+        written: "net 1 line 1 \"star\"\ngraph d=3 vertices=1 edges=11 repeats=0\nplacement D0=1\nat 1 0 0 0\nprimitive vertices=1 edges=11\nbasis 1 0 0\nbasis 0 1 0\nbasis 0 0 1\nedge 1 1 0 0 1\nedge 1 1 0 1 0\nedge 1 1 1 -3 -3\nedge 1 1 1 -3 0\nedge 1 1 1 -3 3\nedge 1 1 1 0 -3\nedge 1 1 1 0 0\nedge 1 1 1 0 3\nedge 1 1 1 3 -3\nedge 1 1 1 3 0\nedge 1 1 1 3 3\nkey 3 1 1 1 1 0 0 1 1 1 0 1 -6 1 1 0 1 -3 1 1 0 1 0 1 1 1 0 0 1 1 3 -1 0 1 1 3 -1 3 1 1 3 -1 6 1 1 3 1 -6 1 1 3 1 -3 1 1 3 1 0\nshells 1 22 154 574 1414 2686 4390 6526\nnames 0\n",
     },
     // a collision
     Row {

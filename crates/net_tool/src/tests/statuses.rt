@@ -1,0 +1,51 @@
+// Runs over files that never fail: each status that goes with a text, and the text.
+use super::{DIA, DIA_ARCHIVE, DIA_KEY_REPORT, named_files, words_of};
+use crate::memory::run_in_memory;
+use net_answers::Status;
+use outside::{HonestShelf, MemorySink};
+use std::test::Fail;
+
+const LINE: &str = "PERIODIC_GRAPH\nNAME line\nEDGES\n1 1 1 0\n1 1 2 0\nEND\n";
+
+const LINE_REPORT: &str =
+    "net 1 line 1 \"line\"\ngraph d=2 vertices=1 edges=2 repeats=0\nrefused 2 Degenerate q=0 c=0 1 h=0\n";
+
+// Words, and what a run with them writes, where the files `dia`, `line` and `archive` are there.
+const ROWS: [(&[&str], Status, &str); 6] = [
+    (&["key", "dia"], Status::Done, DIA_KEY_REPORT),
+    (&["key", "line"], Status::SomeRefused, LINE_REPORT),
+    (&["key", "dia", "line"], Status::Usage, crate::tool::USAGE),
+    (
+        &["duplicates", "--archive=dia"],
+        Status::BadArchive,
+        "archive refused 6 Version line=1\n",
+    ),
+    (
+        &["add", "dia", "--archive", "archive"],
+        Status::AddRefused,
+        "add refused 1 1 NameTaken\n",
+    ),
+    (&["add", "dia"], Status::Done, DIA_NEWEST),
+];
+
+const DIA_NEWEST: &str =
+    "net_archive 2\nentry \"dia\"\ngraph 3 2 4\nedge 1 2 0 0 0\nedge 1 2 0 0 1\nedge 1 2 0 1 0\nedge 1 2 1 0 0\nkey 3 2 1 1 2 -1 -1 -1 1 2 0 0 1 1 2 0 1 0 1 2 1 0 0\nprimitive 2\nshells 1 4 12 24 42 64 92 124 162 204 252\nshells 2 4 12 24 42 64 92 124 162 204 252\nend\n";
+
+#[test]
+fn statuses(rt: HostRuntime) -> Result<(), Fail> {
+    let alloc = rt.alloc();
+    let files = [
+        ("dia", DIA.as_bytes()),
+        ("line", LINE.as_bytes()),
+        ("archive", DIA_ARCHIVE.as_bytes()),
+    ];
+    for (words, status, written) in &ROWS {
+        let mut shelf = HonestShelf::new(named_files(alloc, &files)?);
+        let mut out = MemorySink::new(alloc, 1 << 18, 7, Vec::new(alloc))?;
+        let words = words_of(alloc, words)?;
+        let ended = run_in_memory(alloc, &words, &mut shelf, &mut out);
+        assert_eq!(rt; ended, *status);
+        assert_eq!(rt; out.written(), written.as_bytes());
+    }
+    Ok(())
+}
