@@ -3,10 +3,8 @@ use Rattle.std.proofs.Common.{◌≡◌, ℕ, ℤ, List, Result, Ok, Err, refl, 
 use Rattle.std.specs.Prelude.{IfOk, IfErr, IsErrAnd}
 use Rattle.periodic_net.specs.Classes.{ClassGraph}
 use Rattle.periodic_net.specs.Graph.{Graph}
-use Rattle.key_theory.specs.Coordinates.{AreCoordinates}
 use Rattle.key_theory.specs.Frames.{IsWorkPast}
-use Rattle.key_theory.specs.Key.{Shape, IsLeastList}
-use Rattle.key_theory.proofs.CallerLemmas.{least_list_of_coordinates}
+use Rattle.key_theory.specs.Key.{Shape}
 use Rattle.quotient_graph.specs.NetClasses.{NetClasses, AreClasses, class_at}
 use Rattle.quotient_graph.specs.PlacedNets.{PlacedNet}
 use Rattle.edge_frames.specs.declared.key_work.KeyWork.{KeyWork}
@@ -41,11 +39,6 @@ pub work_true : (G : Graph) (p : PlacedNet) → IsSettledAs G p → (n : NetClas
 work_true G p settled n h e K k (work.TooMuch done counted) past =
     too_much G p settled n h e done counted (subst (λ (L : ClassGraph). IsWorkPast L done counted) k (past done counted refl))
 work_true G p settled n h e K k work.NoMemory past = tt
-
--- the least list in coordinates, where there is one, is the least list
-pub least_in_coordinates : {E : Type 0} (K L : ClassGraph) → AreCoordinates K L → (r : Result (List ℤ) E) → IfOk r (IsLeastList K) → IfOk r (IsLeastList L)
-least_in_coordinates K L h (Ok xs) l = least_list_of_coordinates K L xs h l
-least_in_coordinates K L h (Err e) l = l
 
 -- an error that is known has what holds of it
 pub known_error : {A E : Type 0} (P : E → Type 0) (x : E) (r : Result A E) → IsErrAnd r (λ e. e ≡ x) → P x → IfErr r P

@@ -48,12 +48,7 @@ fn words_of(alloc: Global, words: &[&str]) -> Result<Vec<String>, Fail> {
 }
 
 // What is due to the words, of the bytes of the file and of the archive that they name.
-fn answer_over(
-    alloc: Global,
-    words: &[&str],
-    file: &[u8],
-    archive: &[u8],
-) -> Result<Answer, Fail> {
+fn answer_over(alloc: Global, words: &[&str], file: &[u8], archive: &[u8]) -> Result<Answer, Fail> {
     if file.len() > MOST_BYTES || archive.len() > MOST_BYTES {
         return Err("too many bytes".into());
     }
@@ -83,13 +78,13 @@ struct Row {
 
 fn check_rows(alloc: Global, rt: &impl Abort, rows: &[Row]) -> Result<(), Fail> {
     for row in rows {
-        let answer = answer_over(
-            alloc,
-            row.words,
-            row.net.as_bytes(),
-            row.archive.as_bytes(),
-        )?;
-        assert_eq!(rt; answer.text.as_slice(), row.written.as_bytes(), "of {}", row.net);
+        let answer = answer_over(alloc, row.words, row.net.as_bytes(), row.archive.as_bytes())?;
+        assert_eq!(rt;
+            answer.text.as_slice(),
+            row.written.as_bytes(),
+            "of {}",
+            row.net
+        );
         assert_eq!(rt; answer.status, row.status, "of {}", row.net);
     }
     Ok(())

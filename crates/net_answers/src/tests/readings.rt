@@ -6,11 +6,7 @@ use std::test::Fail;
 
 // A text, and how `check` ends on it, and all that it writes.
 const TEXTS: &[(&str, Status, &str)] = &[
-    (
-        "",
-        Status::Done,
-        "",
-    ),
+    ("", Status::Done, ""),
     (
         "CRYSTAL\nNAME x\nEND\n",
         Status::SomeRefused,
@@ -66,11 +62,7 @@ const TEXTS: &[(&str, Status, &str)] = &[
         Status::SomeRefused,
         "net 1 line 1 \"m\"\nmalformed line=5 12 TwoNames\n",
     ),
-    (
-        "# no block\n\nEND of nothing\n \t\r\nend",
-        Status::Done,
-        "",
-    ),
+    ("# no block\n\nEND of nothing\n \t\r\nend", Status::Done, ""),
     (
         "\"PERIODIC_GRAPH\"\nEDGES",
         Status::SomeRefused,
