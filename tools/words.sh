@@ -1,3 +1,4 @@
+# shellcheck shell=sh
 # What ./net_tool and ./preview share: the command that words name, and what is said after a silent status.
 
 usage="usage: net_tool COMMAND [FILE] [--archive PATH] [--name NAME]"
