@@ -5,3 +5,6 @@ pub mod Unique
 pub mod Exists
 pub mod Forms
 pub mod Places
+mod TokenCount
+mod LineLists
+mod Caps

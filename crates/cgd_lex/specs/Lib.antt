@@ -3,3 +3,6 @@ pub mod Tokens
 pub mod Forms
 pub mod Places
 pub mod Views
+pub mod Limits
+pub mod Lines
+pub mod Words

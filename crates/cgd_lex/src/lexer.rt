@@ -4,6 +4,7 @@ ghost use Rattle.cgd_lex.specs.Pieces.{Piece, IsCut, cut_of};
 ghost use Rattle.cgd_lex.specs.Tokens.{tokens_of};
 ghost use Rattle.cgd_lex.specs.Forms.{HasItsForm};
 ghost use Rattle.cgd_lex.specs.Places.{IsSliceOf, IsOnLine, AreInOrder};
+ghost use Rattle.cgd_lex.specs.Limits.{longest_text};
 ghost use Rattle.cgd_lex.specs.Views.{token_view};
 
 use crate::part::first_part;
@@ -20,21 +21,23 @@ pub struct Lexer<'a> {
 
 impl<'a> Model for Lexer<'a> {
     ghost use Rattle.std.specs.Prelude.{List, length, ◌+◌, ◌≤◌};
+    ghost use Rattle.cgd_lex.specs.Limits.{longest_text};
     ghost use Rattle.cgd_lex.specs.Tokens.{TokenView, tokens_from};
 
     ghost Value = { List TokenView };
 
     ghost view = { λ l. tokens_from l.at l.line l.rest.now };
 
-    ghost invariant = { λ l. (l.at + length l.rest.now ≤ 16777216) × (l.line ≤ l.at + 1) };
+    ghost invariant = { λ l. (l.at + length l.rest.now ≤ longest_text) × (l.line ≤ l.at + 1) };
 }
 
 impl<'a> Lexer<'a> {
     /// Begins at the start of a text. It takes no memory.
     pub fn new(text: &'a [u8]) -> Lexer<'a>
-        requires { length text.now ≤ 16777216 }
+        requires { length text.now ≤ longest_text }
 
         ensures tokens { result ≡ tokens_of text.now }
+        ensures few { length result ≤ length text.now }
         ensures slices { All (IsSliceOf text.now) result }
         ensures order { AreInOrder 0 result }
         ensures forms { All HasItsForm result }

@@ -5,7 +5,8 @@ use Rattle.std.proofs.lemmas.Bool.Decides.{nat_tests}
 use Rattle.std.proofs.Math.Bool.{or_assoc, or-false}
 use Rattle.cgd_lex.specs.Tokens.{TokenView}
 use Rattle.cgd_read.specs.Values.{part_of}
-use Rattle.cgd_read.specs.Lines.{FieldsView, fields_of, is_strange, is_quoted, name_in, name_of_fields, part_or_zero, text_of_first, part_of_first, LineView, line_with, fields_from, kind_of}
+use Rattle.cgd_lex.specs.Words.{is_quoted, name_in}
+use Rattle.cgd_read.specs.Lines.{FieldsView, fields_of, is_strange, name_of_fields, part_or_zero, text_of_first, part_of_first, LineView, line_with, fields_from, kind_of}
 use Rattle.cgd_read.specs.Reading.{no_fields, with_field, IsFlat}
 
 abbrev pub with_all : FieldsView → List TokenView → FieldsView

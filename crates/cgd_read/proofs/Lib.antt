@@ -1,10 +1,9 @@
-mod Caps
+pub mod CallerLemmas
 mod SoundLines
 mod FieldLists
-mod LineLists
 mod NameSets
 mod Places
-mod Spelling
+pub mod Spelling
 mod Rows
 mod Tables
 mod Parts
@@ -12,6 +11,5 @@ mod WellEdges
 mod RowGraph
 mod LineGraph
 mod ReadGraph
-mod TokenCount
 mod BlockLists
 mod Decided

@@ -1,43 +1,20 @@
 -- The lines of a text that have a token, and what they say. The tokens of a line are a function of that line alone.
-use Rattle.std.specs.Prelude.{ℕ, ℤ, pos, ◌-◌, Bool, true, false, ◌||◌, is_none, List, [], ◌∷◌, length, take, drop, map, Option, None, Some, if◌then◌else◌, codes}
-use Rattle.std.specs.List.{slice_split, flat_map, list_any}
-use Rattle.std.specs.Str.{bytes_eq}
-use Rattle.std.specs.Char.{to_ascii_lowercase}
+use Rattle.std.specs.Prelude.{ℕ, ℤ, pos, Bool, true, false, ◌||◌, is_none, List, [], ◌∷◌, length, drop, Option, None, Some, if◌then◌else◌, codes}
+use Rattle.std.specs.List.{flat_map, list_any}
+use Rattle.cgd_lex.specs.Lines.{filled_lines}
 use Rattle.cgd_lex.specs.Tokens.{TokenView}
+use Rattle.cgd_lex.specs.Words.{is_quoted, name_in, is_keyword}
 use Rattle.cgd_lex.specs.declared.token.TokenKind.{TokenKind}
 use Rattle.cgd_lex.specs.declared.token.TokenKind.TheVariants.{Word, Whole, Quoted, Newline, Bad}
 use Rattle.cgd_read.specs.Values.{part_of}
 use Rattle.cgd_read.specs.declared.line.LineKind.{LineKind}
 use Rattle.cgd_read.specs.declared.line.LineKind.TheVariants.{Opening, Name, Edges, End, Unknown, Bare, Broken}
 
--- a token of this kind ends a line
-abbrev pub is_newline : TokenKind → Bool
-is_newline Newline = true
-is_newline _ = false
-
--- a token of this kind is bad
-abbrev pub is_bad : TokenKind → Bool
-is_bad Bad = true
-is_bad _ = false
-
--- a token of this kind is quoted
-abbrev pub is_quoted : TokenKind → Bool
-is_quoted Quoted = true
-is_quoted _ = false
-
 -- a token that stands in no row
 abbrev pub is_strange : TokenKind → Bool
 is_strange Word = true
 is_strange Bad = true
 is_strange _ = false
-
--- quotes are no part of a name
-abbrev pub unquoted : TokenView → List ℕ
-unquoted token = if is_quoted token.kind then take (length token.text - 2) (drop 1 token.text) else token.text
-
--- the name that a token gives, where it is not bad
-abbrev pub name_in : TokenView → Option (List ℕ)
-name_in token = if is_bad token.kind then None else Some (unquoted token)
 
 -- the name on a name line, where there is one field and it is not bad
 abbrev pub name_of_fields : List TokenView → Option (List ℕ)
@@ -86,10 +63,6 @@ fields_of tokens = record {
   y = part_of_first (drop 3 tokens);
   z = part_of_first (drop 4 tokens);
 }
-
--- the word is this keyword, in any case of its letters
-abbrev pub is_keyword : List ℕ → List ℕ → Bool
-is_keyword keyword word = bytes_eq (map to_ascii_lowercase word) keyword
 
 -- a word before a name
 abbrev pub is_name_word : List ℕ → Bool
@@ -141,11 +114,11 @@ line_with first others = record {
   fields = fields_of (fields_from (kind_of first.kind first.text) first others);
 }
 
--- a line without tokens is passed over
+-- the line that these tokens make, where there is any
 abbrev pub line_of : List TokenView → List LineView
 line_of [] = []
 line_of (first ∷ others) = line_with first others ∷ []
 
--- the lines of these tokens, which stand between the Newlines
+-- the lines of these tokens that have one
 abbrev pub token_lines : List TokenView → List LineView
-token_lines tokens = flat_map line_of (slice_split (λ (t : TokenView). is_newline t.kind) tokens)
+token_lines tokens = flat_map line_of (filled_lines tokens)

@@ -1,13 +1,10 @@
 -- How the lines are read from the tokens that are left.
-use Rattle.std.specs.Prelude.{◌≡◌, ◌≤◌, ℕ, pos, ◌+◌, ◌-◌, ◌==◌, false, ◌||◌, ◌&&◌, nat_lt, is_none, List, [], ◌∷◌, length, take, drop, None, if◌then◌else◌}
+use Rattle.std.specs.Prelude.{◌≡◌, ◌≤◌, pos, ◌+◌, ◌==◌, false, ◌||◌, ◌&&◌, nat_lt, is_none, List, [], ◌∷◌, None, if◌then◌else◌}
 use Rattle.cgd_lex.specs.Tokens.{TokenView}
+use Rattle.cgd_lex.specs.Words.{is_quoted, name_in}
 use Rattle.cgd_read.specs.Values.{part_of, IsSmallPart}
-use Rattle.cgd_read.specs.Lines.{is_newline, is_strange, is_quoted, name_in, part_or_zero, FieldsView, LineView}
+use Rattle.cgd_read.specs.Lines.{is_strange, part_or_zero, FieldsView, LineView}
 use Rattle.cgd_read.specs.Faults.{is_end}
-
--- a text without its first and last byte
-abbrev pub inner : List ℕ → List ℕ
-inner text = take (length text - 2) (drop 1 text)
 
 -- each part of the shift is within the limits
 pub record IsSmallFields (fields : FieldsView) : Type 0 where
@@ -52,16 +49,6 @@ with_field fields token = record {
   y = if fields.size == 3 then part_or_zero (part_of token.text) else fields.y;
   z = if fields.size == 4 then part_or_zero (part_of token.text) else fields.z;
 }
-
--- the tokens before the next Newline
-abbrev pub rest_of_line : List TokenView → List TokenView
-rest_of_line [] = []
-rest_of_line (token ∷ tokens) = if is_newline token.kind then [] else token ∷ rest_of_line tokens
-
--- the tokens after the next Newline
-abbrev pub after_line : List TokenView → List TokenView
-after_line [] = []
-after_line (token ∷ tokens) = if is_newline token.kind then tokens else after_line tokens
 
 -- the lines after the next END
 abbrev pub after_end : List LineView → List LineView

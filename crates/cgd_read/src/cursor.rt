@@ -1,57 +1,18 @@
 // Reads lines from the tokens that are left.
 ghost use Rattle.std.specs.Prelude.{◌≡◌, ◌∷◌, ◌<◌, ◌≤◌, ◌+◌, [], length, fold, MatchOption, IfSome, IfNone, if◌then◌else◌};
+ghost use Rattle.cgd_lex.specs.Limits.{longest_text};
+ghost use Rattle.cgd_lex.specs.Lines.{rest_of_line, after_line};
 ghost use Rattle.cgd_lex.specs.Views.{token_view};
-ghost use Rattle.cgd_read.specs.Lines.{token_lines, line_with, is_newline, is_bare};
+ghost use Rattle.cgd_read.specs.Lines.{token_lines, line_with, is_bare};
 ghost use Rattle.cgd_read.specs.Views.{fields_view, line_view};
-ghost use Rattle.cgd_read.specs.Reading.{no_fields, with_field, rest_of_line, after_line, IsSmallFields, IsFlat};
+ghost use Rattle.cgd_read.specs.Reading.{no_fields, with_field, IsSmallFields, IsFlat};
 
 use crate::line::{Fields, Line, LineKind};
-use cgd_lex::{Lexer, Token, TokenKind};
-
-fn is_newline(kind: TokenKind) -> bool
-    ensures { result ≡ is_newline kind }
-{
-    match kind {
-        TokenKind::Newline => true,
-        _ => false,
-    }
-}
-
-// The first token of the next line that has one.
-fn next_first<'a>(lexer: &mut Lexer<'a>) -> Option<Token<'a>>
-    ensures lines { MatchOption result (token_lines lexer.old ≡ [])
-        (λ first. token_lines lexer.old ≡ line_with (token_view first) (rest_of_line lexer.new)
-        ∷ token_lines (after_line lexer.new)) }
-    ensures shorter { IfSome result (λ first. length lexer.new < length lexer.old) }
-    ensures end { IfNone result (lexer.new ≡ []) }
-{
-    while let Some(token) = lexer.next() {
-        if !is_newline(token.kind) {
-            return Some(token);
-        }
-    }
-    None
-}
-
-// The next token of a line. At its end its Newline is passed over.
-fn next_on_line<'a>(lexer: &mut Lexer<'a>) -> Option<Token<'a>>
-    ensures tokens { MatchOption result (rest_of_line lexer.old ≡ [])
-        (λ token. rest_of_line lexer.old ≡ token_view token ∷ rest_of_line lexer.new) }
-    ensures after { MatchOption result (after_line lexer.old ≡ lexer.new)
-        (λ token. after_line lexer.old ≡ after_line lexer.new) }
-    ensures shorter { IfSome result (λ token. length lexer.new < length lexer.old) }
-    ensures no_longer { length lexer.new ≤ length lexer.old }
-{
-    let token = lexer.next()?;
-    if is_newline(token.kind) {
-        return None;
-    }
-    Some(token)
-}
+use cgd_lex::{Lexer, Token, next_first, next_on_line};
 
 // The rest of a line, after these fields.
 fn read_fields<'a>(lexer: &mut Lexer<'a>, start: Fields<'a>) -> Fields<'a>
-    requires room { start.size + length lexer.old ≤ 16777216 }
+    requires room { start.size + length lexer.old ≤ longest_text }
     requires small { IsSmallFields (fields_view start) }
     ensures fields { fields_view result ≡
         fold with_field (fields_view start.entry) (rest_of_line lexer.old) }
@@ -84,7 +45,7 @@ fn first_field<'a>(kind: LineKind, first: &Token<'a>) -> Fields<'a>
 }
 
 fn read_line<'a>(lexer: &mut Lexer<'a>, first: &Token<'a>) -> Line<'a>
-    requires room { length lexer.old < 16777216 }
+    requires room { length lexer.old < longest_text }
     ensures line { line_view result ≡ line_with (token_view first.now) (rest_of_line lexer.old) }
     ensures after { lexer.new ≡ after_line lexer.old }
     ensures shorter { length lexer.new ≤ length lexer.old }
@@ -102,7 +63,7 @@ fn read_line<'a>(lexer: &mut Lexer<'a>, first: &Token<'a>) -> Line<'a>
 
 /// The next line that has a token, up to its end.
 pub fn next_line<'a>(lexer: &mut Lexer<'a>) -> Option<Line<'a>>
-    requires { length lexer.old ≤ 16777216 }
+    requires { length lexer.old ≤ longest_text }
     ensures lines { MatchOption result (token_lines lexer.old ≡ [])
         (λ line. token_lines lexer.old ≡ line_view line ∷ token_lines lexer.new) }
     ensures shorter { IfSome result (λ line. length lexer.new < length lexer.old) }

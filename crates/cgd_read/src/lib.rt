@@ -5,6 +5,7 @@
 mod block;
 mod cursor;
 mod line;
+mod normal;
 mod partial;
 mod read;
 mod sentences;
@@ -14,5 +15,6 @@ mod values;
 pub use block::{
     Block, BlockFault, BlockFaultKind, Body, Names, RawEdge, RawEdges, RawGraph, ReadRefusal,
 };
+pub use normal::normal_edge;
 pub use read::blocks;
 pub use std::alloc::AllocError as NoMemory;

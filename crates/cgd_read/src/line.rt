@@ -2,14 +2,16 @@
 ghost use Rattle.std.specs.Prelude.{◌≡◌, ◌||◌, ◌<◌, ◌+◌, map, Some, None, IfSome, is_none};
 ghost use Rattle.std.specs.Option.{option_copied};
 ghost use Rattle.cgd_lex.specs.Views.{token_view};
-ghost use Rattle.cgd_read.specs.Lines.{is_strange, is_quoted, unquoted, name_in, is_keyword, is_name_word, is_edges_word, kind_of_word, kind_of, part_or_zero};
+ghost use Rattle.cgd_lex.specs.Words.{is_quoted};
+ghost use Rattle.cgd_read.specs.Lines.{is_strange, is_name_word, is_edges_word, kind_of_word, kind_of, part_or_zero};
 ghost use Rattle.cgd_read.specs.Values.{IsSmallPart};
 ghost use Rattle.std.specs.Char.{to_ascii_lowercase};
+ghost use Rattle.cgd_lex.specs.Limits.{longest_text};
 ghost use Rattle.cgd_read.specs.Views.{fields_view};
-ghost use Rattle.cgd_read.specs.Reading.{inner, no_fields, with_field, with_part, IsSmallFields};
+ghost use Rattle.cgd_read.specs.Reading.{no_fields, with_field, with_part, IsSmallFields};
 
 use crate::values::part;
-use cgd_lex::{Token, TokenKind};
+use cgd_lex::{Token, TokenKind, is_keyword, name_in};
 
 /// What the first token makes of a line.
 #[derive(Clone, Copy, Debug, PartialEq, Eq)]
@@ -71,42 +73,6 @@ fn is_quoted(kind: TokenKind) -> bool
         TokenKind::Quoted => true,
         _ => false,
     }
-}
-
-// A text without its first and last byte.
-fn inner(text: &[u8]) -> &[u8]
-    ensures { result.now ≡ inner text.now }
-{
-    match text {
-        [_, between @ .., _] => between,
-        _ => &[],
-    }
-}
-
-fn unquoted<'a>(token: &Token<'a>) -> &'a [u8]
-    ensures { result.now ≡ unquoted (token_view token.now) }
-{
-    match token.kind {
-        TokenKind::Quoted => inner(token.text),
-        _ => token.text,
-    }
-}
-
-fn name_in<'a>(token: &Token<'a>) -> Option<&'a [u8]>
-    ensures { option_copied result ≡ name_in (token_view token.now) }
-{
-    match token.kind {
-        TokenKind::Bad => None,
-        _ => Some(unquoted(token)),
-    }
-}
-
-// Whether the word is this keyword, in any case of its letters. Keywords are written small.
-fn is_keyword(keyword: &'static str, word: &[u8]) -> bool
-    requires { map to_ascii_lowercase keyword.now ≡ keyword.now }
-    ensures { result ≡ is_keyword keyword.now word.now }
-{
-    word.eq_ignore_ascii_case(keyword.as_bytes())
 }
 
 fn is_name_word(word: &[u8]) -> bool
@@ -219,7 +185,7 @@ impl<'a> Fields<'a> {
     /// Adds a field. From the third on it is also read as a number, in any line.
     #[inline(always)]
     pub fn add(&mut self, token: &Token<'a>)
-        requires room { self.old.size < 16777216 }
+        requires room { self.old.size < longest_text }
         requires small { IsSmallFields (fields_view self.old) }
         ensures fields { fields_view self.new ≡
             with_field (fields_view self.old) (token_view token.now) }

@@ -1,18 +1,18 @@
 // The graph of the rows that were read so far: names and edges once each, in order of appearance.
-ghost use Rattle.std.specs.Prelude.{◌≡◌, ◌≤◌, ◌<◌, ◌+◌, ◌==◌, ◌∷◌, [], List, length, OnOk, IfOk, not, pos, ◌-ℤ◌, if◌then◌else◌};
+ghost use Rattle.std.specs.Prelude.{◌≡◌, ◌≤◌, ◌<◌, ◌+◌, ◌==◌, ◌∷◌, [], List, length, OnOk, IfOk, not, if◌then◌else◌};
 ghost use Rattle.std.specs.Str.{bytes_eq};
 ghost use Rattle.std.specs.List.{list_any, position_or_len};
+ghost use Rattle.cgd_lex.specs.Limits.{longest_text};
 ghost use Rattle.periodic_net.specs.Limits.{most_vertices};
-ghost use Rattle.cgd_read.specs.Values.{IsSmallPart};
 ghost use Rattle.cgd_read.specs.Lines.{FieldsView};
 ghost use Rattle.cgd_read.specs.Views.{fields_view, raw_view};
 ghost use Rattle.cgd_read.specs.Reading.{IsSmallFields};
-ghost use Rattle.cgd_read.specs.Edges.{with_new, same_edge, is_forward, normal, row_edge, is_self_edge, has_rows};
+ghost use Rattle.cgd_read.specs.Edges.{with_new, same_edge, row_edge, is_self_edge, has_rows};
 ghost use Rattle.cgd_read.specs.Graphs.{net_of};
 ghost use Rattle.cgd_read.specs.States.{names_in, IsGraphOfRows};
 
 use crate::line::Fields;
-use crate::{Names, NoMemory, RawEdge, RawEdges, RawGraph};
+use crate::{Names, NoMemory, RawEdge, RawEdges, RawGraph, normal_edge};
 use indexmap::IndexSet;
 use std::alloc::Global;
 
@@ -53,39 +53,6 @@ fn add_edge(edges: &mut IndexSet<RawEdge>, edge: RawEdge) -> Result<bool, NoMemo
     }
 }
 
-fn is_forward(u: u32, v: u32, x: i32, y: i32, z: i32) -> bool
-    ensures { result ≡ is_forward u v x y z }
-{
-    u < v || (u == v && (0 < x || (x == 0 && (0 < y || (y == 0 && 0 < z)))))
-}
-
-fn negated(part: i32) -> i32
-    requires { IsSmallPart part }
-    ensures { result ≡ pos 0 -ℤ part }
-{
-    -part
-}
-
-// The edge from u to v in its normal spelling.
-fn normal_edge(u: u32, v: u32, x: i32, y: i32, z: i32) -> RawEdge
-    requires x { IsSmallPart x }
-    requires y { IsSmallPart y }
-    requires z { IsSmallPart z }
-    ensures { result ≡ normal u v x y z }
-{
-    if is_forward(u, v, x, y, z) {
-        RawEdge { u, v, x, y, z }
-    } else {
-        RawEdge {
-            u: v,
-            v: u,
-            x: negated(x),
-            y: negated(y),
-            z: negated(z),
-        }
-    }
-}
-
 pub fn is_self_edge(row: &Fields<'_>) -> bool
     ensures { result ≡ is_self_edge (fields_view row.now) }
 {
@@ -121,7 +88,7 @@ fn size_with(size: u32, next: u32) -> u32
 }
 
 fn repeats_with(repeats: u32, new: bool) -> u32
-    requires { repeats < 16777216 }
+    requires { repeats < longest_text }
     ensures { result ≡ (if not new then repeats + 1 else repeats) }
 {
     if !new { repeats + 1 } else { repeats }
@@ -163,7 +130,7 @@ impl<'a> PartialGraph<'a> {
     pub fn take(&mut self, row: &Fields<'a>) -> Result<(), NoMemory>
         requires small { IsSmallFields (fields_view row.now) }
         requires room { length (names_in self.old.names) ≤ most_vertices }
-        requires countable { self.old.repeats < 16777216 }
+        requires countable { self.old.repeats < longest_text }
         ensures taken { OnOk result ((rows : List FieldsView) → IsGraphOfRows self.old rows →
             IsGraphOfRows self.new (fields_view row.now ∷ rows)) }
         ensures repeats { OnOk result (self.new.repeats ≤ self.old.repeats + 1) }

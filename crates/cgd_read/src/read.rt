@@ -1,5 +1,6 @@
 // The blocks of a text, in one pass over its lines.
 ghost use Rattle.std.specs.Prelude.{◌≡◌, ◌∷◌, ◌≤◌, ◌<◌, [], List, length, IfOk, OnOk, All, IsErrOf, ◌++◌, ◌+◌, ℕ};
+ghost use Rattle.cgd_lex.specs.Limits.{longest_text};
 ghost use Rattle.cgd_read.specs.Lines.{LineView, token_lines};
 ghost use Rattle.cgd_read.specs.Views.{line_view, BlockView, body_view, block_view, views};
 ghost use Rattle.cgd_read.specs.Reading.{after_end};
@@ -17,7 +18,7 @@ pub const MOST_BLOCKS: usize = 4096;
 
 /// Passes over the lines of a block, and over the line that ends it.
 fn pass_block(lexer: &mut Lexer<'_>)
-    requires { length lexer.old ≤ 16777216 }
+    requires { length lexer.old ≤ longest_text }
     ensures lines { token_lines lexer.new ≡ after_end (token_lines lexer.old) }
     ensures shorter { length lexer.new ≤ length lexer.old }
 {
@@ -30,7 +31,7 @@ fn pass_block(lexer: &mut Lexer<'_>)
 
 // Passes over the rest of the block in which this line stands.
 fn pass_from(lexer: &mut Lexer<'_>, line: &Line<'_>)
-    requires { length lexer.old ≤ 16777216 }
+    requires { length lexer.old ≤ longest_text }
     ensures lines { token_lines lexer.new ≡ after_end (line_view line.now ∷ token_lines lexer.old) }
     ensures shorter { length lexer.new ≤ length lexer.old }
 {
@@ -53,7 +54,7 @@ fn read_graph<'a>(
     state: &mut State<'a>,
     opening: u32,
 ) -> Result<Block<'a>, NoMemory>
-    requires { length lexer.old ≤ 16777216 }
+    requires { length lexer.old ≤ longest_text }
     ensures block { IfOk result (λ block.
         block_view block ≡ graph_block opening [] (token_lines lexer.old)) }
     ensures graph { IfOk result (λ block. IsReadBody block.body) }
@@ -93,7 +94,7 @@ fn read_block<'a>(
     state: &mut State<'a>,
     line: &Line<'a>,
 ) -> Result<Block<'a>, NoMemory>
-    requires { length lexer.old ≤ 16777216 }
+    requires { length lexer.old ≤ longest_text }
     ensures block { IfOk result (λ block.
         block_view block ≡ block_of (line_view line.now) (token_lines lexer.old)) }
     ensures graph { IfOk result (λ block. IsReadBody block.body) }
@@ -123,7 +124,7 @@ fn add_block<'a>(
     found: &mut Vec<Block<'a>>,
     line: &Line<'a>,
 ) -> Result<(), NoMemory>
-    requires room { length lexer.old ≤ 16777216 }
+    requires room { length lexer.old ≤ longest_text }
     requires graphs { All (λ block. IsReadBody block.body) found.old.items }
     ensures added { OnOk result (views found.new.items ≡
         views found.old.items ++ block_of (line_view line.now) (token_lines lexer.old) ∷ []) }
@@ -140,7 +141,7 @@ fn add_block<'a>(
 /// The blocks of a text, in order.
 #[tactic(auto, using(crate::proofs::Decided::the_block))]
 pub fn blocks<'a>(alloc: Global, text: &'a [u8]) -> Result<Vec<Block<'a>>, ReadRefusal>
-    requires { length text.now ≤ 16777216 }
+    requires { length text.now ≤ longest_text }
 
     ensures blocks { IfOk result (λ found. AreBlocksOf text.now (views found.items)) }
     ensures graphs { IfOk result (λ found. All (λ block. IsReadBody block.body) found.items) }

@@ -1,5 +1,6 @@
 // What is known of the lines of a graph block that were read, and the tests of the next line.
 ghost use Rattle.std.specs.Prelude.{◌≡◌, ◌≤◌, ◌<◌, ◌+◌, ◌∷◌, [], List, length, OnOk, IfOk, None};
+ghost use Rattle.cgd_lex.specs.Limits.{longest_text};
 ghost use Rattle.periodic_net.specs.Limits.{most_vertices};
 ghost use Rattle.cgd_read.specs.Lines.{LineView};
 ghost use Rattle.cgd_read.specs.Views.{line_view, fields_view};
@@ -137,7 +138,7 @@ impl<'a> State<'a> {
     fn keep(&mut self, line: &Line<'a>) -> Result<(), NoMemory>
         requires small { IsSmallFields (fields_view line.now.fields) }
         requires room { length (names_in self.old.graph.names) ≤ most_vertices }
-        requires countable { self.old.graph.repeats < 16777216 }
+        requires countable { self.old.graph.repeats < longest_text }
         ensures stands { OnOk result ((earlier : List LineView) → IsStateAfter self.old earlier →
             IsStateAfter self.new (line_view line.now ∷ earlier)) }
         ensures repeats { OnOk result (self.new.graph.repeats ≤ self.old.graph.repeats + 1) }
@@ -166,7 +167,7 @@ impl<'a> State<'a> {
     pub fn judge(&mut self, line: &Line<'a>) -> Result<Option<BlockFaultKind>, NoMemory>
         requires small { IsSmallFields (fields_view line.now.fields) }
         requires room { length (names_in self.old.graph.names) ≤ most_vertices }
-        requires countable { self.old.graph.repeats < 16777216 }
+        requires countable { self.old.graph.repeats < longest_text }
         ensures fault { IfOk result (λ kind. (earlier : List LineView) →
             IsStateAfter self.old earlier → kind ≡ fault_of earlier (line_view line.now)) }
         ensures stands { IfOk result (λ kind. kind ≡ None → (earlier : List LineView) →

@@ -20,7 +20,7 @@ use Rattle.least_key.specs.declared.refusal.Refusal.{Refusal}
 -- the key of a keyed net is the key of its graph
 pub key_of_graph : (n : KeyedNet) → IsKeyed n → IsKeyOf n.placed.graph n.key
 key_of_graph n h =
-    subst (λ (G : Graph). IsKeyOf G n.key) h.same_graph (record { shape = shape_of n.classes h.classes; least = h.key })
+    subst (λ (G : Graph). IsKeyOf G n.key) h.same_graph (record { shape = shape_of n.classes (record { placement = n.placed.placement; at = h.classes }); least = h.key })
 
 -- the keys of two keyed nets are equal exactly where the nets are isomorphic
 pub nets_decide : (m n : KeyedNet) → IsKeyed m → IsKeyed n → (m.key ≡ n.key) ↔ Iso m.placed.graph n.placed.graph

@@ -24,7 +24,7 @@ unconnected_true G (NoMemory graph) h = tt
 
 -- the shape of a net, from its classes in memory
 abbrev pub shape_of : (n : NetClasses) → AreClasses n → Shape n.graph
-shape_of n h = record { placement = h.placement; stable = h.stable; class_of = class_at n.numbers; classes = n.classes; is_classes = h.is_classes }
+shape_of n h = record { placement = h.placement; stable = h.at.stable; class_of = class_at n.numbers; classes = n.classes; is_classes = h.at.is_classes }
 
 -- where the key work of its class graph is past the limit
 too_much : (G : Graph) (p : PlacedNet) → IsSettledAs G p → (n : NetClasses) → AreClasses n → n.graph ≡ G → (done counted : ℕ)

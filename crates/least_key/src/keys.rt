@@ -1,6 +1,5 @@
 // The keys of several graphs.
-ghost use Rattle.std.specs.Prelude.{◌≡◌, IfOk};
-ghost use Rattle.quotient_graph.specs.AnyGraphs.{graph_in};
+ghost use Rattle.std.specs.Prelude.{IfOk};
 ghost use Rattle.least_key.specs.Answers.{AreAnswers, IsAnswerTo, KeysTell};
 
 use crate::keying::identify;
@@ -8,21 +7,11 @@ use crate::{Net, Refusal};
 use quotient_graph::AnyGraph;
 use std::alloc::{AllocError, Global};
 
-/// An equal graph.
-pub fn copy_of_graph(graph: &AnyGraph) -> Result<AnyGraph, AllocError>
-    ensures { IfOk result (λ g. graph_in g ≡ graph_in graph.now) }
-{
-    match graph {
-        AnyGraph::Flat(graph) => graph.copy().map(AnyGraph::Flat),
-        AnyGraph::Space(graph) => graph.copy().map(AnyGraph::Space),
-    }
-}
-
 // What `identify` answers, want of memory aside.
 fn answer_to(alloc: Global, graph: &AnyGraph) -> Result<Result<Net, Refusal>, AllocError>
     ensures { IfOk result (IsAnswerTo graph.now) }
 {
-    match identify(alloc, copy_of_graph(graph)?) {
+    match identify(alloc, graph.copy()?) {
         Ok(net) => Ok(Ok(net)),
         Err(Refusal::NoMemory) => Err(AllocError),
         Err(refusal) => Ok(Err(refusal)),

@@ -9,7 +9,7 @@ mod path;
 mod refusal;
 
 pub use keying::{identify, identify_graph, settle_graph};
-pub use keys::{copy_of_graph, keys_of};
+pub use keys::keys_of;
 pub use laws::{certain_is_not_refused, keyed_is_certain};
 pub use net::{Net, NetOf};
 pub use path::{AnyPlaced, check_any, connect_graph, place_any, place_graph};

@@ -11,12 +11,12 @@ ghost use Rattle.archive_text.specs.Names.{is_name};
 ghost use Rattle.net_archive.specs.Adding.{IsEntryOf};
 ghost use Rattle.net_archive.specs.Archives.{IsEntry, most_entries};
 
-use crate::judge::{copy_of_key, sequences_of};
+use crate::judge::sequences_of;
 use crate::migrating::MOST_BYTES;
 use archive_text::{Version, push_entry};
 use least_key::Net;
 use net_entries::{Entries, Entry};
-use quotient_graph::{AnyGraph, Graph};
+use quotient_graph::AnyGraph;
 use std::alloc::{AllocError, Global};
 
 /// So many entries has an archive at most.
@@ -25,17 +25,6 @@ const MOST_ENTRIES: usize = 4096;
 /// The first line and its line feed.
 const FIRST_LINE: usize = 14;
 
-// An equal graph. A graph in memory is within the limits, and its edges rise.
-fn copy_of<const D: usize>(graph: &Graph<D>) -> Result<Graph<D>, AllocError>
-    ensures graph { IfOk result (λ g. g ≡ graph.now) }
-    ensures small { IsSmall graph.now }
-    ensures rising { AreRising graph.now.edges }
-{
-    let _ = graph.vertices();
-    let _ = graph.edges();
-    graph.copy()
-}
-
 // The graph of a net.
 fn graph_of(net: &Net) -> Result<AnyGraph, AllocError>
     ensures graph { IfOk result (λ g. graph_in g ≡ (net_in net.now).placed.graph) }
@@ -43,8 +32,8 @@ fn graph_of(net: &Net) -> Result<AnyGraph, AllocError>
     ensures rising { IfOk result (λ g. AreRising (graph_in g).edges) }
 {
     match net {
-        Net::Flat(net) => copy_of(net.stable.placed().graph()).map(AnyGraph::Flat),
-        Net::Space(net) => copy_of(net.stable.placed().graph()).map(AnyGraph::Space),
+        Net::Flat(net) => net.stable.placed().graph().copy().map(AnyGraph::Flat),
+        Net::Space(net) => net.stable.placed().graph().copy().map(AnyGraph::Space),
     }
 }
 
@@ -57,7 +46,7 @@ fn entry_of(alloc: Global, name: &[u8], net: &Net) -> Result<Entry, AllocError>
     let shells = sequences_of(alloc, net)?;
     let graph = graph_of(net)?;
     let name = Vec::from_slice(alloc, name)?;
-    let key = copy_of_key(alloc, net.key())?;
+    let key = net.key().copy()?;
     Ok(Entry {
         name,
         graph,

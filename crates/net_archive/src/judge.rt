@@ -1,5 +1,5 @@
 // Judges an entry at its end: computes what its rows tell of its graph anew.
-ghost use Rattle.std.specs.Prelude.{◌≡◌, ◌↔◌, ◌⊎◌, ◌≤◌, ℕ, true, IfOk, IfErr, OnOk, length, All};
+ghost use Rattle.std.specs.Prelude.{◌≡◌, ◌↔◌, ◌⊎◌, ◌≤◌, ℕ, true, IfOk, IfErr, OnOk, length};
 ghost use Rattle.quotient_graph.specs.AnyGraphs.{graph_in};
 ghost use Rattle.coordination.specs.Sequences.{AreSequencesOf};
 ghost use Rattle.least_key.specs.AnyNets.{net_in};
@@ -9,12 +9,11 @@ ghost use Rattle.net_entries.specs.Entries.{entry_view};
 ghost use Rattle.net_archive.specs.Judging.{AreRefusedShells, HasKey, IsDifferingClass, IsEntryOfForm, IsJudged, IsOtherKey, IsRefusedAt, graph_of_form, graph_of_keyed};
 ghost use Rattle.periodic_net.specs.Limits.{most_vertices};
 ghost use Rattle.archive_text.specs.Texts.{most_lines};
-ghost use Rattle.line_text.specs.Numbers.{IsWide};
 
 use crate::ArchiveFault;
 use archive_text::{Form, KeyedGraph, Version};
 use coordination::{Sequences, sequences};
-use least_key::{Net, Refusal, copy_of_graph, identify};
+use least_key::{Net, Refusal, identify};
 use net_entries::Entry;
 use quotient_graph::{AnyGraph, Key, from_edges};
 use std::alloc::{AllocError, Global};
@@ -36,34 +35,13 @@ fn same_key(a: &Key, b: &Key) -> bool
     a.numbers() == b.numbers()
 }
 
-// The number, which is of 128 bits as its type says.
-fn wide_number(number: i128) -> i128
-    ensures same { result ≡ number }
-    ensures wide { IsWide result }
-{
-    number
-}
-
-/// An equal key.
-pub fn copy_of_key(alloc: Global, key: &Key) -> Result<Key, AllocError>
-    ensures same { IfOk result (λ k. k ≡ key.now) }
-    ensures wide { IfOk result (All IsWide) }
-{
-    let numbers = key.numbers();
-    let mut copy = Vec::new(alloc);
-    for number in numbers {
-        copy.push(wide_number(*number))?;
-    }
-    Ok(Key::from_parts(copy))
-}
-
 // The net of a graph, or why the entry that begins on this line is refused.
 fn identify_at(alloc: Global, line: u32, graph: &AnyGraph) -> Result<Net, ArchiveFault>
     ensures net { IfOk result (λ n. (net_in n).placed.graph ≡ graph_in graph.now) }
     ensures keyed { IfOk result (λ n. IsKeyed (net_in n)) }
     ensures fault { IfErr result (IsRefusedAt line (graph_in graph.now)) }
 {
-    match identify(alloc, copy_of_graph(graph)?) {
+    match identify(alloc, graph.copy()?) {
         Ok(net) => Ok(net),
         Err(Refusal::NoMemory) => Err(ArchiveFault::NoMemory),
         Err(refusal) => Err(ArchiveFault::EntryRefused(line, refusal)),
@@ -142,15 +120,15 @@ fn check_version(
 }
 
 // That the key that is kept is that of the net.
-fn check_key(alloc: Global, keyed: &KeyedGraph, net: &Net) -> Result<(), ArchiveFault>
+fn check_key(keyed: &KeyedGraph, net: &Net) -> Result<(), ArchiveFault>
     ensures same { OnOk result (keyed.now.key ≡ (net_in net.now).key) }
     ensures fault { IfErr result (IsOtherKey keyed.now (net_in net.now).key) }
 {
     if same_key(&keyed.key, net.key()) {
         return Ok(());
     }
-    let kept = copy_of_key(alloc, &keyed.key)?;
-    let computed = copy_of_key(alloc, net.key())?;
+    let kept = keyed.key.copy()?;
+    let computed = net.key().copy()?;
     Err(ArchiveFault::KeyDiffers {
         line: keyed.key_line,
         kept,
@@ -174,7 +152,7 @@ fn check_net(
     ensures kept { IfOk result (λ lists. version ≡ Version.Two → form.now.shells ≡ lists) }
     ensures fault { (line : ℕ) → IfErr result (IsJudged version line form.now) }
 {
-    check_key(alloc, &form.keyed, net)?;
+    check_key(&form.keyed, net)?;
     let shells = sequences_of(alloc, net)?;
     let key_line = form.keyed.key_line;
     check_version(alloc, version, key_line, &form.shells, &shells)?;

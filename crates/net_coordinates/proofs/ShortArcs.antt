@@ -15,7 +15,7 @@ use Rattle.net_coordinates.specs.Lattices.{AreWithinUnits}
 
 -- an arc has the vector of an arc of the net
 short_arc : (G : Graph) (numbers : List ℕ) (K : ClassGraph) (rs : List Vector) → AreClassesOf G numbers K rs → (a : ClassArc) → Contains K.arcs a → IsWithin most_units a.vector
-short_arc G numbers K rs h a c = let r = (h.is_classes.arcs a).0 c in subst (IsWithin most_units) r.2.vector (h.limits.arcs r.0 r.1)
+short_arc G numbers K rs h a c = let r = (h.at.is_classes.arcs a).0 c in subst (IsWithin most_units) r.2.vector (h.at.limits.arcs r.0 r.1)
 
 -- so the arcs of a class are short
 pub short_arcs : (G : Graph) (numbers : List ℕ) (K : ClassGraph) (rs : List Vector) → AreClassesOf G numbers K rs → (c : ℕ) → AreWithinUnits (arcs_of K c)

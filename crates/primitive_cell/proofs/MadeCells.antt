@@ -9,43 +9,33 @@ use Rattle.periodic_net.specs.Placement.{Placement, IsStablePlacement}
 use Rattle.periodic_net.specs.Limits.{IsSmall}
 use Rattle.periodic_net.proofs.CallerLemmas.{one_placement}
 use Rattle.key_theory.specs.Primitive.{IsLeastMember}
-use Rattle.quotient_graph.specs.NetClasses.{NetClasses, AreClasses, class_at}
+use Rattle.quotient_graph.specs.NetClasses.{NetClasses, AreClasses, AreClassesAt, class_at}
 use Rattle.quotient_graph.specs.PlacedNets.{PlacedNet}
 use Rattle.vecdim.specs.Stairs.{Stairs}
 use Rattle.primitive_cell.specs.PrimitiveCells.{IsTranslationLattice, IsPrimitiveCell}
 use Rattle.primitive_cell.specs.Places.{number_at, IsPlace, AreInOrder, AreFirstPlaces}
 
--- the classes of a net, by its placement
-pub record AreClassesAt (N : PlacedNet) (c : NetClasses) : Type 0 where
-  pub count : length c.numbers ≡ N.graph.vertices
-  pub is_classes : IsClassGraph N.graph N.placement (class_at c.numbers) c.classes
-  pub are_translations : AreTranslations N.graph N.placement c.translations
-
--- they are the classes of the graph
-pub classes_at : (N : PlacedNet) (c : NetClasses) → IsGraph N.graph → IsStablePlacement N.graph N.placement → c.graph ≡ N.graph → AreClasses c → AreClassesAt N c
+-- the classes of the graph are those by its placement
+pub classes_at : (N : PlacedNet) (c : NetClasses) → IsGraph N.graph → IsStablePlacement N.graph N.placement → c.graph ≡ N.graph → AreClasses c
+    → AreClassesAt N.graph N.placement c.numbers c.classes c.translations
 classes_at N c g s e a = by N.graph e g s
   where
-    by : (G : Graph) → c.graph ≡ G → IsGraph G → IsStablePlacement G N.placement → AreClassesAt (record { graph = G; placement = N.placement }) c
-    by G e = subst (λ (G : Graph). IsGraph G → IsStablePlacement G N.placement → AreClassesAt (record { graph = G; placement = N.placement }) c) e
+    by : (G : Graph) → c.graph ≡ G → IsGraph G → IsStablePlacement G N.placement → AreClassesAt G N.placement c.numbers c.classes c.translations
+    by G e = subst (λ (G : Graph). IsGraph G → IsStablePlacement G N.placement → AreClassesAt G N.placement c.numbers c.classes c.translations) e
         (λ g s.
-        let q = one_placement c.graph g s.connected a.placement N.placement a.stable.placement s.placement in
-        record {
-          count = a.count;
-          is_classes = subst (λ (p : Placement). IsClassGraph c.graph p (class_at c.numbers) c.classes) q a.is_classes;
-          are_translations = subst (λ (p : Placement). AreTranslations c.graph p c.translations) q a.are_translations;
-        })
+        let q = one_placement c.graph g s.connected a.placement N.placement a.at.stable.placement s.placement in
+        subst (λ (p : Placement). AreClassesAt c.graph p c.numbers c.classes c.translations) q a.at)
 
 -- what is known of a stable net and its classes
 pub record IsKnown (N : PlacedNet) (c : NetClasses) : Type 0 where
   pub graph : IsGraph N.graph
   pub small : IsSmall N.graph
   pub stable : IsStablePlacement N.graph N.placement
-  pub classes : AreClasses c
-  pub at : AreClassesAt N c
+  pub at : AreClassesAt N.graph N.placement c.numbers c.classes c.translations
 
 -- from what the types promise
 pub known : (N : PlacedNet) (c : NetClasses) → IsGraph N.graph → IsSmall N.graph → IsStablePlacement N.graph N.placement → c.graph ≡ N.graph → AreClasses c → IsKnown N c
-known N c g small stable same a = record { graph = g; small = small; stable = stable; classes = a; at = classes_at N c g stable same a }
+known N c g small stable same a = record { graph = g; small = small; stable = stable; at = classes_at N c g stable same a }
 
 module _ (G : Graph) (p : Placement) (ns : List ℕ) (K : ClassGraph) (count : length ns ≡ G.vertices) (k : IsClassGraph G p (class_at ns) K) where
   -- a place is a vertex
@@ -91,7 +81,7 @@ cell_made d N c us S k f l = record {
   graph = k.graph;
   stable = k.stable;
   classes = k.at.is_classes;
-  rising = k.classes.rising;
+  rising = k.at.rising;
   count = as_many N.graph N.placement c.numbers c.classes k.at.count k.at.is_classes us f;
   representatives = least_members N.graph N.placement c.numbers c.classes k.at.count k.at.is_classes us f;
   lattice = l;

@@ -1,4 +1,5 @@
 // Edges of a primitive graph.
+use quotient_graph::is_normal_spelling;
 use std::marker::Model;
 use vecdim::Vect;
 
@@ -28,10 +29,6 @@ impl<const D: usize> PrimEdge<D> {
     pub fn is_normal(&self) -> bool
         ensures { IsTrue result ↔ IsNormalSpelling self.now }
     {
-        if self.u == self.v {
-            self.shift.to_triple().starts_positive()
-        } else {
-            self.u < self.v
-        }
+        is_normal_spelling(self.u, self.v, &self.shift.to_triple())
     }
 }

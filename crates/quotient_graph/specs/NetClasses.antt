@@ -26,17 +26,25 @@ class_arc_numbers a = pos a.from ∷ pos a.to ∷ parts 3 a.vector
 abbrev pub ClassArcsRise : List ClassArc → Type 0
 ClassArcsRise as' = AllPairs (λ a b. IsBelow (class_arc_numbers a) (class_arc_numbers b)) as'
 
--- the net is connected and stable, its placement is within the limits, and these are its classes, by least members, its class
--- graph, whose stars rise, and exactly its translations with parts from 0 to the denominator less 1
+-- the net is connected and stable, p is its placement, which is within the limits, and these are its classes, by least members,
+-- its class graph, whose stars rise, and exactly its translations with parts from 0 to the denominator less 1
+pub record AreClassesAt (G : Graph) (p : Placement) (numbers : List ℕ) (K : ClassGraph) (rs : List Vector) : Type 0 where
+  pub stable : IsStablePlacement G p
+  pub limits : IsWithinLimits G p
+  pub count : length numbers ≡ G.vertices
+  pub is_classes : IsClassGraph G p (class_at numbers) K
+  pub rising : (c : ℕ) → IsClass K c → ClassArcsRise (arcs_of K c)
+  pub are_translations : AreTranslations G p rs
+
+-- the same, by the placement of the net, of which there is one
 pub record AreClassesOf (G : Graph) (numbers : List ℕ) (K : ClassGraph) (rs : List Vector) : Type 0 where
   pub placement : Placement
-  pub stable : IsStablePlacement G placement
-  pub limits : IsWithinLimits G placement
-  pub count : length numbers ≡ G.vertices
-  pub is_classes : IsClassGraph G placement (class_at numbers) K
-  pub rising : (c : ℕ) → IsClass K c → ClassArcsRise (arcs_of K c)
-  pub are_translations : AreTranslations G placement rs
+  pub at : AreClassesAt G placement numbers K rs
 
--- the same of the classes of a net
+-- the classes of a net, by this placement
+abbrev pub AreClassesBy : Placement → NetClasses → Type 0
+AreClassesBy p c = AreClassesAt c.graph p c.numbers c.classes c.translations
+
+-- the same, by the placement of the net
 abbrev pub AreClasses : NetClasses → Type 0
 AreClasses c = AreClassesOf c.graph c.numbers c.classes c.translations

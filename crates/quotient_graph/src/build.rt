@@ -8,7 +8,6 @@ ghost use Rattle.quotient_graph.specs.Building.{with_arc, HaveArcs, IsSortedFrom
 use crate::{Arc, NoMemory};
 use smallvec::SmallVec;
 use std::alloc::Global;
-use vecdim::Shift;
 
 /// The arcs from a vertex; up to six need no allocation.
 pub type Star<const D: usize> = SmallVec<Arc<D>, 6>;
@@ -28,22 +27,6 @@ fn push_arc<const D: usize>(stars: &mut [Star<D>], arc: Arc<D>) -> Result<(), No
 {
     stars[arc.from as usize - 1].push(arc)?;
     Ok(())
-}
-
-// The other arc of an edge.
-fn reversed<const D: usize>(edge: &Arc<D>) -> Arc<D>
-    requires { IsWithin most_shift edge.now.shift }
-    ensures { result ≡ reverse_of edge.now }
-{
-    Arc {
-        from: edge.to,
-        to: edge.from,
-        shift: Shift {
-            x: -edge.shift.x,
-            y: -edge.shift.y,
-            z: -edge.shift.z,
-        },
-    }
 }
 
 // A list for each of n vertices, without arcs.
@@ -66,7 +49,7 @@ fn push_edge<const D: usize>(stars: &mut [Star<D>], edge: &Arc<D>) -> Result<(),
         ≡ with_arc (with_arc (map (λ s. s.items) stars.old) edge.now) (reverse_of edge.now)) }
 {
     push_arc(stars, *edge)?;
-    push_arc(stars, reversed(edge))
+    push_arc(stars, edge.reversed())
 }
 
 // Puts both arcs of each edge into the lists of their tails.

@@ -1,9 +1,10 @@
 // The quotient graph of a net.
-ghost use Rattle.std.specs.Prelude.{◌≡◌, ◌⊎◌, All, Contains, length, IfOk};
+ghost use Rattle.std.specs.Prelude.{◌≡◌, ◌⊎◌, All, Contains, length, IfOk, OnOk};
 ghost use Rattle.periodic_net.specs.Graph.{Arc as NetArc, IsArc, IsGraph, IsQuotientVertex};
 ghost use Rattle.periodic_net.specs.Limits.{IsSmall};
 ghost use Rattle.quotient_graph.specs.Order.{AreRising};
-ghost use Rattle.quotient_graph.specs.Stars.{IsArcFrom, IsStar, graph_with};
+ghost use Rattle.quotient_graph.specs.Building.{IsSortedFrom};
+ghost use Rattle.quotient_graph.specs.Stars.{IsArcFrom, IsInOrder, IsStar, graph_with};
 
 use crate::build::{Star, stars_of};
 use crate::{Arc, NoMemory};
@@ -32,7 +33,40 @@ impl<const D: usize> Model for Graph<D> {
         (map (λ s. s.items) g.stars.items) };
 }
 
+fn sort_edges<const D: usize>(edges: &mut Vec<Arc<D>>) -> Result<(), NoMemory>
+    ensures { OnOk result (IsSortedFrom edges.old.items edges.new.items) }
+{
+    edges.sort()
+}
+
 impl<const D: usize> Graph<D> {
+    /// The graph with n vertices and these edges, which stand in rising order.
+    #[tactic(auto, using(crate::proofs::GraphsInMemory::is_in_memory, crate::proofs::GraphsInMemory::edges_fit))]
+    pub fn with_edges(alloc: Global, n: u32, edges: Vec<Arc<D>>) -> Result<Graph<D>, NoMemory>
+        requires is_graph { IsGraph (graph_with D n edges.items) }
+        requires small { IsSmall (graph_with D n edges.items) }
+        requires rising { AreRising edges.items }
+        ensures { IfOk result (λ g. g ≡ graph_with D n edges.entry.items) }
+    {
+        let stars = stars_of(alloc, n as usize, &edges)?;
+        Ok(Graph {
+            vertices: n,
+            edges,
+            stars,
+        })
+    }
+
+    /// The graph with n vertices and these edges, which stand in any order.
+    pub fn from_edges(alloc: Global, n: u32, edges: Vec<Arc<D>>) -> Result<Graph<D>, NoMemory>
+        requires is_graph { IsGraph (graph_with D n edges.items) }
+        requires small { IsSmall (graph_with D n edges.items) }
+        ensures { IfOk result (IsInOrder (graph_with D n edges.entry.items)) }
+    {
+        let mut edges = edges;
+        sort_edges(&mut edges)?;
+        Graph::with_edges(alloc, n, edges)
+    }
+
     pub fn dimension(&self) -> u8
         ensures value { result ≡ self.now.dimension }
         ensures parameter { self.now.dimension ≡ D }
@@ -87,31 +121,13 @@ impl<const D: usize> Graph<D> {
         self.star(u)
     }
 
-    /// An equal graph.
+    /// An equal graph. A graph in memory is within the limits, and its edges rise.
     pub fn copy(&self) -> Result<Graph<D>, NoMemory>
-        ensures { IfOk result (λ g. g ≡ self.now) }
+        ensures graph { IfOk result (λ g. g ≡ self.now) }
+        ensures small { IsSmall self.now }
+        ensures rising { AreRising self.now.edges }
     {
         let alloc = *self.edges.allocator();
-        with_edges(alloc, self.vertices, Vec::from_slice(alloc, &self.edges)?)
+        Graph::with_edges(alloc, self.vertices, Vec::from_slice(alloc, &self.edges)?)
     }
-}
-
-// The graph with n vertices and these edges.
-#[tactic(auto, using(crate::proofs::GraphsInMemory::is_in_memory, crate::proofs::GraphsInMemory::edges_fit))]
-pub fn with_edges<const D: usize>(
-    alloc: Global,
-    n: u32,
-    edges: Vec<Arc<D>>,
-) -> Result<Graph<D>, NoMemory>
-    requires is_graph { IsGraph (graph_with D n edges.items) }
-    requires small { IsSmall (graph_with D n edges.items) }
-    requires rising { AreRising edges.items }
-    ensures { IfOk result (λ g. g ≡ graph_with D n edges.entry.items) }
-{
-    let stars = stars_of(alloc, n as usize, &edges)?;
-    Ok(Graph {
-        vertices: n,
-        edges,
-        stars,
-    })
 }

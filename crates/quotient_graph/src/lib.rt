@@ -14,7 +14,7 @@ mod raw;
 mod split;
 mod stable;
 
-pub use arc::Arc;
+pub use arc::{Arc, is_normal_spelling};
 pub use class_arc::ClassArc;
 pub use class_net::ClassNet;
 pub use classes::Classes;
@@ -22,7 +22,7 @@ pub use frame::Frame;
 pub use graph::Graph;
 pub use key::Key;
 pub use placed::Placed;
-pub use raw::{AnyGraph, from_edges, from_raw};
+pub use raw::{AnyGraph, from_edges, from_raw, from_unsorted};
 pub use split::{Entries, Split};
 pub use stable::Stable;
 pub use std::alloc::AllocError as NoMemory;

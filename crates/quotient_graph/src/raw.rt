@@ -1,14 +1,15 @@
 // From edges that were read to a graph in memory.
-ghost use Rattle.std.specs.Prelude.{◌≡◌, All, map, IfOk, OnOk};
+ghost use Rattle.std.specs.Prelude.{◌≡◌, All, map, IfOk};
 ghost use Rattle.integers.specs.Vectors.{vector, HasDimension};
+ghost use Rattle.periodic_net.specs.Graph.{IsGraph};
+ghost use Rattle.periodic_net.specs.Limits.{IsSmall};
 ghost use Rattle.cgd_read.specs.Views.{raw_view};
 ghost use Rattle.cgd_read.specs.Graphs.{edge_of, graph_of, IsReadGraph};
-ghost use Rattle.quotient_graph.specs.Building.{IsSortedFrom};
+ghost use Rattle.quotient_graph.specs.Order.{AreRising};
 ghost use Rattle.quotient_graph.specs.Stars.{IsInOrder, graph_with};
 ghost use Rattle.quotient_graph.specs.EdgeLists.{AreEdgesOfGraph};
 ghost use Rattle.quotient_graph.specs.AnyGraphs.{graph_in};
 
-use crate::graph::with_edges;
 use crate::{Arc, Graph, NoMemory};
 use cgd_read::{RawEdge, RawGraph};
 use std::alloc::Global;
@@ -19,6 +20,20 @@ use vecdim::Shift;
 pub enum AnyGraph {
     Flat(Graph<2>),
     Space(Graph<3>),
+}
+
+impl AnyGraph {
+    /// An equal graph. A graph in memory is within the limits, and its edges rise.
+    pub fn copy(&self) -> Result<AnyGraph, NoMemory>
+        ensures graph { IfOk result (λ g. graph_in g ≡ graph_in self.now) }
+        ensures small { IsSmall (graph_in self.now) }
+        ensures rising { AreRising (graph_in self.now).edges }
+    {
+        match self {
+            AnyGraph::Flat(graph) => graph.copy().map(AnyGraph::Flat),
+            AnyGraph::Space(graph) => graph.copy().map(AnyGraph::Space),
+        }
+    }
 }
 
 fn arc_of<const D: usize>(edge: &RawEdge) -> Arc<D>
@@ -47,20 +62,35 @@ fn edges_of<const D: usize>(alloc: Global, edges: &[RawEdge]) -> Result<Vec<Arc<
     Ok(arcs)
 }
 
-fn sort_edges<const D: usize>(edges: &mut Vec<Arc<D>>) -> Result<(), NoMemory>
-    ensures { OnOk result (IsSortedFrom edges.old.items edges.new.items) }
+fn graph_from<const D: usize>(
+    alloc: Global,
+    n: u32,
+    edges: &[RawEdge],
+) -> Result<Graph<D>, NoMemory>
+    requires is_graph { IsGraph (graph_with D n (map edge_of edges.now)) }
+    requires small { IsSmall (graph_with D n (map edge_of edges.now)) }
+    ensures { IfOk result (IsInOrder (graph_with D n (map edge_of edges.now))) }
 {
-    edges.sort()
+    let edges = edges_of(alloc, edges)?;
+    Graph::from_edges(alloc, n, edges)
 }
 
-fn graph_from<const D: usize>(alloc: Global, raw: &RawGraph<'_>) -> Result<Graph<D>, NoMemory>
-    requires read { IsReadGraph (raw_view raw.now) }
-    requires dimension { raw.now.dim ≡ D }
-    ensures { IfOk result (IsInOrder (graph_of (raw_view raw.now))) }
+/// The graph with n vertices and these edges, which stand in any order.
+pub fn from_unsorted(
+    alloc: Global,
+    dim: u8,
+    n: u32,
+    edges: &[RawEdge],
+) -> Result<AnyGraph, NoMemory>
+    requires is_graph { IsGraph (graph_with dim n (map edge_of edges.now)) }
+    requires small { IsSmall (graph_with dim n (map edge_of edges.now)) }
+    ensures { IfOk result (λ g. IsInOrder (graph_with dim n (map edge_of edges.now)) (graph_in g)) }
 {
-    let mut edges = edges_of(alloc, raw.edges.as_slice())?;
-    sort_edges(&mut edges)?;
-    with_edges(alloc, raw.names.len() as u32, edges)
+    if dim == 2 {
+        Ok(AnyGraph::Flat(graph_from(alloc, n, edges)?))
+    } else {
+        Ok(AnyGraph::Space(graph_from(alloc, n, edges)?))
+    }
 }
 
 /// The graph with the vertices and edges that were read.
@@ -68,11 +98,7 @@ pub fn from_raw(alloc: Global, raw: &RawGraph<'_>) -> Result<AnyGraph, NoMemory>
     requires { IsReadGraph (raw_view raw.now) }
     ensures { IfOk result (λ g. IsInOrder (graph_of (raw_view raw.now)) (graph_in g)) }
 {
-    if raw.dim == 2 {
-        Ok(AnyGraph::Flat(graph_from(alloc, raw)?))
-    } else {
-        Ok(AnyGraph::Space(graph_from(alloc, raw)?))
-    }
+    from_unsorted(alloc, raw.dim, raw.names.len() as u32, raw.edges.as_slice())
 }
 
 fn graph_from_edges<const D: usize>(
@@ -84,7 +110,7 @@ fn graph_from_edges<const D: usize>(
     ensures { IfOk result (λ g. g ≡ graph_with D n (map edge_of edges.now)) }
 {
     let edges = edges_of(alloc, edges)?;
-    with_edges(alloc, n, edges)
+    Graph::with_edges(alloc, n, edges)
 }
 
 /// The graph with exactly n vertices and these edges, which stand in the order of a graph already.

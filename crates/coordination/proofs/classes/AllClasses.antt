@@ -38,12 +38,12 @@ all_classes c g h lists f = record {
   shape = shape;
   count = f.count;
   each = λ w i.
-      let n = h.is_classes.numbering.positive w.over i.over in
-      let m = h.is_classes.below w.over i.over in
+      let n = h.at.is_classes.numbering.positive w.over i.over in
+      let m = h.at.is_classes.below w.over i.over in
       let c' = class_at c.numbers w.over in
       let same : c' ≡ c' - 1 + 1 = omega arith in
       f.each (c' - 1) (omega arith) c.graph g shape refl w i same;
 }
   where
     shape : Shape c.graph
-    shape = record { placement = h.placement; stable = h.stable; class_of = class_at c.numbers; classes = c.classes; is_classes = h.is_classes }
+    shape = record { placement = h.placement; stable = h.at.stable; class_of = class_at c.numbers; classes = c.classes; is_classes = h.at.is_classes }

@@ -31,16 +31,16 @@ module _ (c : NetClasses) (cell : DividedNet) (g : IsGraph c.graph) (h : HasCell
       where
         numbering : IsClassNumbering c.graph h.placement (class_at c.numbers)
         numbering =
-            let e = one_placement c.graph g k.stable.connected k.placement h.placement k.stable.placement h.stable.placement in
-            subst (λ q. IsClassNumbering c.graph q (class_at c.numbers)) e k.is_classes.numbering
+            let e = one_placement c.graph g k.at.stable.connected k.placement h.placement k.at.stable.placement h.stable.placement in
+            subst (λ q. IsClassNumbering c.graph q (class_at c.numbers)) e k.at.is_classes.numbering
 
     -- as many
     pub same_count : cell.graph.vertices ≡ c.classes.count
     same_count =
-        let a = k.is_classes.last in
+        let a = k.at.is_classes.last in
         let b = h.primitive.last in
         let low = h.primitive.below a.0 a.1 in
-        let high = k.is_classes.below b.0 b.1 in
+        let high = k.at.is_classes.below b.0 b.1 in
         let e = sym a.2 ∙ same_class a.0 a.1 in
         let f = sym b.2 ∙ sym (same_class b.0 b.1) in
         omega (arith, low, high, e, f)
@@ -63,7 +63,7 @@ module _ (c : NetClasses) (cell : DividedNet) (g : IsGraph c.graph) (h : HasCell
     -- so these are the sequences
     pub cell_sequences : (lists : List (List ℕ)) → AreListsOf cell.graph lists → AreSequencesOf c.graph lists
     cell_sequences lists l = record {
-      shape = record { placement = k.placement; stable = k.stable; class_of = class_at c.numbers; classes = c.classes; is_classes = k.is_classes };
+      shape = record { placement = k.placement; stable = k.at.stable; class_of = class_at c.numbers; classes = c.classes; is_classes = k.at.is_classes };
       count = l.count ∙ same_count;
       each = listed lists l;
     }

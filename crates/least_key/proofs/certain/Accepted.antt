@@ -48,11 +48,11 @@ certain_is_not_refused G NoMemory g c h = refl
 -- the classes in memory of a net show that it may have a key
 keyable : (n : NetClasses) (G : Graph) → n.graph ≡ G → AreClasses n → (w : ℕ) → IsKeyWork n.classes w → w ≤ most_work → IsKeyable G
 keyable n G e h w k l =
-    subst IsKeyable e (record { shape = shape_of n h; limits = h.limits; work = w; is_work = k; work_limit = l })
+    subst IsKeyable e (record { shape = shape_of n h; limits = h.at.limits; work = w; is_work = k; work_limit = l })
 
 -- of a net with its key
 pub keyed_is_certain : KeyedIsCertain
 keyed_is_certain n h = record {
-  keyable = keyable n.classes n.placed.graph h.same_graph h.classes h.work h.is_work h.work_limit;
+  keyable = keyable n.classes n.placed.graph h.same_graph (record { placement = n.placed.placement; at = h.classes }) h.work h.is_work h.work_limit;
   reached = h.settled.placed.reached;
 }

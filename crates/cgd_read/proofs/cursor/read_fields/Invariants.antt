@@ -1,6 +1,8 @@
 use Rattle.std.proofs.Common.{◌≡◌, ◌+◌, ◌≤◌, length, fold}
+use Rattle.cgd_lex.specs.Limits.{longest_text}
 use Rattle.cgd_read.specs.Views.{fields_view}
-use Rattle.cgd_read.specs.Reading.{with_field, rest_of_line, after_line, IsSmallFields}
+use Rattle.cgd_lex.specs.Lines.{rest_of_line, after_line}
+use Rattle.cgd_read.specs.Reading.{with_field, IsSmallFields}
 use Rattle.cgd_read.proofs.cursor.read_fields.Given as goal
 
 abbrev pub invariant-loop-token : goal.invariant-loop-token
@@ -9,7 +11,7 @@ invariant-loop-token l = record {
   after : after_line l.lexer ≡ after_line l.fn.lexer;
   small : IsSmallFields (fields_view l.fields);
   shorter : length l.lexer ≤ length l.fn.lexer;
-  room : l.fields.size + length l.lexer ≤ 16777216;
+  room : l.fields.size + length l.lexer ≤ longest_text;
 }
 
 abbrev pub decreases-loop-token : goal.decreases-loop-token

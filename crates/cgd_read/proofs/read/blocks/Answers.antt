@@ -8,14 +8,13 @@ use Rattle.cgd_read.specs.Blocks.{blocks_from, IsReadBody}
 use Rattle.cgd_read.specs.declared.block.Block.{Block}
 use Rattle.cgd_read.proofs.BlockLists.{next_block}
 use Rattle.cgd_read.proofs.Decided.{only_block}
-use Rattle.cgd_read.proofs.TokenCount.{few_tokens}
 use Rattle.cgd_read.proofs.read.blocks.Goals as goal
 
 pub loop-line-init : goal.loop-line-init
 loop-line-init c =
     let none = c.new-found.ensures.items in
     let tokens = c.new-lexer.ensures.tokens in
-    let few = few_tokens c.args.text.now c.new-lexer.result c.new-lexer.ensures.order c.new-lexer.ensures.slices c.new-lexer.ensures.forms in
+    let few = c.new-lexer.ensures.few in
     record {
       whole = ap (λ (bs : List Block). views bs ++ blocks_from false (token_lines c.new-lexer.result)) none ∙ ap (λ ts. blocks_from false (token_lines ts)) tokens;
       few = omega (arith, ap length none);

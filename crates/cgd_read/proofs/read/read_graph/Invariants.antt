@@ -1,4 +1,5 @@
 use Rattle.std.proofs.Common.{◌≡◌, ◌+◌, ◌≤◌, List, [], length}
+use Rattle.cgd_lex.specs.Limits.{longest_text}
 use Rattle.cgd_read.specs.Lines.{LineView, token_lines}
 use Rattle.cgd_read.specs.Blocks.{graph_block}
 use Rattle.cgd_read.specs.Reading.{after_end}
@@ -13,7 +14,7 @@ invariant-loop-line l = record {
   stands : IsStateAfter l.state earlier;
   block : graph_block l.opening earlier (token_lines l.lexer) ≡ graph_block l.opening [] (token_lines l.fn.lexer);
   lines : after_end (token_lines l.lexer) ≡ after_end (token_lines l.fn.lexer);
-  room : l.state.graph.repeats + length l.lexer ≤ 16777216;
+  room : l.state.graph.repeats + length l.lexer ≤ longest_text;
   shorter : length l.lexer ≤ length l.fn.lexer;
 }
 

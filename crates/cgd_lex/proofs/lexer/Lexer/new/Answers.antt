@@ -2,6 +2,8 @@ use Rattle.std.proofs.Common.{length, arith, refl, []}
 use Rattle.cgd_lex.proofs.Exists.{is_cut}
 use Rattle.cgd_lex.proofs.Unique.{one_cut}
 use Rattle.cgd_lex.proofs.Places.{placed}
+use Rattle.cgd_lex.proofs.TokenCount.{few_tokens}
+use Rattle.cgd_lex.specs.Tokens.{tokens_of}
 use Rattle.cgd_lex.proofs.lexer.Lexer.new.Goals as goal
 
 pub returns-clause-slices : goal.returns-clause-slices
@@ -21,3 +23,8 @@ returns-clause-cut c = λ line. is_cut (length line) line (omega arith)
 
 pub returns-clause-only_cut : goal.returns-clause-only_cut
 returns-clause-only_cut c = λ line pieces cut. one_cut pieces line cut
+
+pub returns-clause-few : goal.returns-clause-few
+returns-clause-few c =
+    let p = placed (length c.args.text.now) [] c.args.text.now 0 0 1 (omega arith) refl refl (omega arith) in
+    few_tokens c.args.text.now (tokens_of c.args.text.now) p.order p.slices p.forms

@@ -2,7 +2,7 @@ use Rattle.std.proofs.Common.{map, subst}
 use Rattle.quotient_graph.specs.Stars.{graph_with}
 use Rattle.quotient_graph.specs.Building.{AreStars}
 use Rattle.quotient_graph.proofs.GraphsInMemory.{is_in_memory}
-use Rattle.quotient_graph.proofs.graph.with_edges.Goals as goal
+use Rattle.quotient_graph.proofs.graph.Graph.with_edges.Goals as goal
 
 pub invariant_of-result : goal.invariant_of-result
 invariant_of-result g c =

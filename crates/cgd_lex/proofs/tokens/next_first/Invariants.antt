@@ -1,10 +1,10 @@
 use Rattle.std.proofs.Common.{◌≡◌, ◌≤◌, length}
-use Rattle.cgd_read.specs.Lines.{token_lines}
-use Rattle.cgd_read.proofs.cursor.next_first.Given as goal
+use Rattle.cgd_lex.specs.Lines.{filled_lines}
+use Rattle.cgd_lex.proofs.tokens.next_first.Given as goal
 
 abbrev pub invariant-loop-token : goal.invariant-loop-token
 invariant-loop-token l = record {
-  lines : token_lines l.lexer ≡ token_lines l.fn.lexer;
+  lines : filled_lines l.lexer ≡ filled_lines l.fn.lexer;
   shorter : length l.lexer ≤ length l.fn.lexer;
 }
 

@@ -4,8 +4,7 @@ use Rattle.std.proofs.lemmas.Bool.{cases_Bool}
 use Rattle.std.specs.List.{slice_split, flat_map, onto_first}
 use Rattle.std.proofs.lemmas.List.Splits.{slice_split-cons_yes, slice_split-cons_no}
 use Rattle.cgd_lex.specs.Tokens.{TokenView}
-use Rattle.cgd_read.specs.Lines.{is_newline, LineView, line_with, line_of, token_lines}
-use Rattle.cgd_read.specs.Reading.{rest_of_line, after_line}
+use Rattle.cgd_lex.specs.Lines.{is_newline, filled_line, filled_lines, rest_of_line, after_line}
 
 abbrev ends : TokenView → Bool
 ends t = is_newline t.kind
@@ -14,7 +13,7 @@ ends t = is_newline t.kind
 record Cut (ts : List TokenView) : Type 0 where
   others : List (List TokenView)
   split : slice_split ends ts ≡ rest_of_line ts ∷ others
-  later : flat_map line_of others ≡ token_lines (after_line ts)
+  later : flat_map filled_line others ≡ filled_lines (after_line ts)
 
 cut : (ts : List TokenView) → Cut ts
 cut [] = record { others = []; split = refl; later = refl }
@@ -22,22 +21,22 @@ cut (t ∷ ts) = elim (cases_Bool (ends t)) [
   | inl yes_ ↦ record {
     others = slice_split ends ts;
     split = slice_split-cons_yes ends t ts yes_ ∙ ap (λ b. cond b [] (t ∷ rest_of_line ts) ∷ slice_split ends ts) (sym yes_);
-    later = ap (λ b. token_lines (cond b ts (after_line ts))) (sym yes_);
+    later = ap (λ b. filled_lines (cond b ts (after_line ts))) (sym yes_);
   }
   | inr no_ ↦ let c = cut ts in record {
     others = c.others;
     split = slice_split-cons_no ends t ts no_ ∙ ap (onto_first t) c.split ∙ ap (λ b. cond b [] (t ∷ rest_of_line ts) ∷ c.others) (sym no_);
-    later = c.later ∙ ap (λ b. token_lines (cond b ts (after_line ts))) (sym no_);
+    later = c.later ∙ ap (λ b. filled_lines (cond b ts (after_line ts))) (sym no_);
   }
 ]
 
 -- a line without tokens is passed over
-pub at_newline : (t : TokenView) (ts : List TokenView) → is_newline t.kind ≡ true → token_lines (t ∷ ts) ≡ token_lines ts
-at_newline t ts e = ap (flat_map line_of) (slice_split-cons_yes ends t ts e)
+pub at_newline : (t : TokenView) (ts : List TokenView) → is_newline t.kind ≡ true → filled_lines (t ∷ ts) ≡ filled_lines ts
+at_newline t ts e = ap (flat_map filled_line) (slice_split-cons_yes ends t ts e)
 
 -- a token begins a line, which the tokens up to the next Newline belong to
-pub at_token : (t : TokenView) (ts : List TokenView) → is_newline t.kind ≡ false → token_lines (t ∷ ts) ≡ line_with t (rest_of_line ts) ∷ token_lines (after_line ts)
+pub at_token : (t : TokenView) (ts : List TokenView) → is_newline t.kind ≡ false → filled_lines (t ∷ ts) ≡ (t ∷ rest_of_line ts) ∷ filled_lines (after_line ts)
 at_token t ts e =
     let c = cut ts in
-    ap (flat_map line_of) (slice_split-cons_no ends t ts e ∙ ap (onto_first t) c.split)
-    ∙ ap (λ (ls : List LineView). line_with t (rest_of_line ts) ∷ ls) c.later
+    ap (flat_map filled_line) (slice_split-cons_no ends t ts e ∙ ap (onto_first t) c.split)
+    ∙ ap (λ (ls : List (List TokenView)). (t ∷ rest_of_line ts) ∷ ls) c.later

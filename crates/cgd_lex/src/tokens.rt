@@ -1,0 +1,136 @@
+// What readers of tokens share: the lines of a text, and names, keywords and numbers.
+ghost use Rattle.std.specs.Prelude.{◌≡◌, ◌∷◌, ◌≤◌, ◌<◌, ◌^◌, ◌+◌, [], length, map, fold, min, MatchOption, IfSome, IfNone};
+ghost use Rattle.std.specs.Option.{option_copied};
+ghost use Rattle.std.specs.Char.{to_ascii_lowercase};
+ghost use Rattle.cgd_lex.specs.Lines.{is_newline, filled_lines, rest_of_line, after_line};
+ghost use Rattle.cgd_lex.specs.Views.{token_view};
+ghost use Rattle.cgd_lex.specs.Words.{inner, unquoted, name_in, is_keyword, whole_value, magnitude_up_to, number_up_to, next_capped, IsUpTo};
+
+use crate::{Lexer, Token, TokenKind};
+
+fn is_newline(kind: TokenKind) -> bool
+    ensures { result ≡ is_newline kind }
+{
+    match kind {
+        TokenKind::Newline => true,
+        _ => false,
+    }
+}
+
+/// The first token of the next line that has one.
+pub fn next_first<'a>(lexer: &mut Lexer<'a>) -> Option<Token<'a>>
+    ensures lines { MatchOption result (filled_lines lexer.old ≡ [])
+        (λ first. filled_lines lexer.old ≡ (token_view first ∷ rest_of_line lexer.new)
+        ∷ filled_lines (after_line lexer.new)) }
+    ensures shorter { IfSome result (λ first. length lexer.new < length lexer.old) }
+    ensures end { IfNone result (lexer.new ≡ []) }
+{
+    while let Some(token) = lexer.next() {
+        if !is_newline(token.kind) {
+            return Some(token);
+        }
+    }
+    None
+}
+
+/// The next token of a line. At its end its Newline is passed over.
+pub fn next_on_line<'a>(lexer: &mut Lexer<'a>) -> Option<Token<'a>>
+    ensures tokens { MatchOption result (rest_of_line lexer.old ≡ [])
+        (λ token. rest_of_line lexer.old ≡ token_view token ∷ rest_of_line lexer.new) }
+    ensures after { MatchOption result (after_line lexer.old ≡ lexer.new)
+        (λ token. after_line lexer.old ≡ after_line lexer.new) }
+    ensures shorter { IfSome result (λ token. length lexer.new < length lexer.old) }
+    ensures no_longer { length lexer.new ≤ length lexer.old }
+{
+    let token = lexer.next()?;
+    if is_newline(token.kind) {
+        return None;
+    }
+    Some(token)
+}
+
+// A text without its first and last byte.
+fn inner(text: &[u8]) -> &[u8]
+    ensures { result.now ≡ inner text.now }
+{
+    match text {
+        [_, between @ .., _] => between,
+        _ => &[],
+    }
+}
+
+/// The bytes of a token, without the quotes round them.
+pub fn unquoted<'a>(token: &Token<'a>) -> &'a [u8]
+    ensures { result.now ≡ unquoted (token_view token.now) }
+{
+    match token.kind {
+        TokenKind::Quoted => inner(token.text),
+        _ => token.text,
+    }
+}
+
+/// The name that a token gives: any token but a bad one does, and quotes are no part of it.
+pub fn name_in<'a>(token: &Token<'a>) -> Option<&'a [u8]>
+    ensures { option_copied result ≡ name_in (token_view token.now) }
+{
+    match token.kind {
+        TokenKind::Bad => None,
+        _ => Some(unquoted(token)),
+    }
+}
+
+/// Whether the word is this keyword, in any case of its letters. Keywords are written small.
+pub fn is_keyword(keyword: &'static str, word: &[u8]) -> bool
+    requires { map to_ascii_lowercase keyword.now ≡ keyword.now }
+    ensures { result ≡ is_keyword keyword.now word.now }
+{
+    word.eq_ignore_ascii_case(keyword.as_bytes())
+}
+
+fn next_value(cap: u32, value: u32, digit: u8) -> u32
+    requires { cap ≤ 2 ^ 16 }
+    ensures { result ≡ next_capped cap value digit }
+{
+    (value.min(cap) * 10 + digit.saturating_sub(b'0') as u32).min(cap)
+}
+
+fn in_turn(cap: u32, digits: &[u8]) -> u32
+    requires { cap ≤ 2 ^ 16 }
+    ensures { result ≡ fold (next_capped cap) 0 digits.now }
+{
+    digits
+        .iter()
+        .fold(0, |value, digit| next_value(cap, value, *digit))
+}
+
+// The value of the digits, where it is at most the cap, and otherwise the cap.
+fn capped_value(cap: u32, digits: &[u8]) -> u32
+    requires { cap ≤ 2 ^ 16 }
+    ensures { result ≡ min cap (whole_value digits.now) }
+{
+    in_turn(cap, digits)
+}
+
+fn magnitude(digits: &[u8], most: u32) -> Option<u32>
+    requires { most < 2 ^ 16 }
+    ensures value { result ≡ magnitude_up_to most digits.now }
+    ensures small { IfSome result (λ n. n ≤ most) }
+{
+    let value = capped_value(most + 1, digits);
+    if value == most + 1 { None } else { Some(value) }
+}
+
+/// The value of a sign or none and then digits, of which there may be any number, where it is from
+/// -`most` to `most`.
+pub fn number_up_to(text: &[u8], most: u32) -> Option<i32>
+    requires { most < 2 ^ 16 }
+    ensures value { result ≡ number_up_to most text.now }
+    ensures small { IfSome result (IsUpTo most) }
+{
+    match text {
+        [] => None,
+        [b'-', digits @ ..] => magnitude(digits, most).map(|n| -(n as i32)),
+        [b'+', digits @ ..] => magnitude(digits, most).map(|n| n as i32),
+        _ => magnitude(text, most).map(|n| n as i32),
+    }
+}
