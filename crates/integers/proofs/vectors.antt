@@ -14,3 +14,4 @@ pub mod Parts
 pub mod StairBasis
 pub mod StairCoordinates
 pub mod BaseSums
+pub mod Precedence

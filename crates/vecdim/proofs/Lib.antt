@@ -11,6 +11,7 @@ pub mod Generated
 pub mod Inserting
 pub mod Lattice
 pub mod Remainders
+pub mod SignedQuotients
 pub mod SmallProducts
 pub mod Spanning
 pub mod Splitting
