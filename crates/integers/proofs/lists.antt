@@ -6,6 +6,7 @@ pub mod Insertion
 pub mod ListOrder
 pub mod Matched
 pub mod Members
+pub mod More
 pub mod Permutations
 pub mod Pieces
 pub mod Rising
