@@ -7,6 +7,7 @@ pub mod ListOrder
 pub mod Matched
 pub mod Members
 pub mod More
+pub mod NumberSums
 pub mod Permutations
 pub mod Pieces
 pub mod Rising

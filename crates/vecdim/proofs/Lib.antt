@@ -3,7 +3,6 @@ pub mod Assembling
 pub mod Basis
 pub mod CallerLemmas
 pub mod Combos
-pub mod Comparisons
 pub mod Deciding
 pub mod Dividing
 pub mod Fitting

@@ -1,40 +1,9 @@
 -- The order of paths, and paths that go on by one arc.
-use Rattle.std.proofs.Common.{◌≡◌, ◌⊎◌, inl, inr, ◌+◌, suc, ℤ, List, [], ◌∷◌, ◌++◌, length, refl, sym, ap, subst, ◌∙◌, arith}
-use Rattle.std.specs.Ordering.{int_cmp, ordering_then}
-use Rattle.std.specs.declared.cmp.Ordering.{Ordering}
-use Rattle.std.specs.declared.cmp.Ordering.TheVariants.{Less, Equal, Greater}
-use Rattle.std.specs.Cmp.Lexicographic.{slice_cmp}
+use Rattle.std.proofs.Common.{◌≡◌, ◌⊎◌, inl, inr, ◌+◌, suc, List, [], ◌∷◌, ◌++◌, length, refl, sym, ap, subst, ◌∙◌, arith}
 use Rattle.integers.specs.Vectors.{IsBelow, IsAtMost}
-use Rattle.integers.proofs.lists.ListOrder.{below_of_at_most, at_most_of_below, at_most_itself, below_transitive, not_below_itself}
+use Rattle.integers.proofs.lists.ListOrder.{below_after, below_front, below_of_at_most, at_most_of_below, at_most_itself, below_transitive}
 use Rattle.periodic_net.specs.Graph.{Arc}
 use Rattle.walk_theory.specs.Chosen.{step_key, path_key, IsBefore, IsNoLater}
-
-then_associative : (a b c : Ordering) → ordering_then a (ordering_then b c) ≡ ordering_then (ordering_then a b) c
-then_associative Less b c = refl
-then_associative Equal b c = refl
-then_associative Greater b c = refl
-
--- lists are compared by their first parts of one length, and then by the others
-compare_parts : (xs ys zs ws : List ℤ) → length xs ≡ length ys → slice_cmp int_cmp (xs ++ zs) (ys ++ ws) ≡ ordering_then (slice_cmp int_cmp xs ys) (slice_cmp int_cmp zs ws)
-compare_parts [] [] zs ws e = refl
-compare_parts [] (y ∷ ys) zs ws e = absurd (omega arith)
-compare_parts (x ∷ xs) [] zs ws e = absurd (omega arith)
-compare_parts (x ∷ xs) (y ∷ ys) zs ws e =
-    ap (ordering_then (int_cmp x y)) (compare_parts xs ys zs ws (omega arith)) ∙ then_associative (int_cmp x y) (slice_cmp int_cmp xs ys) (slice_cmp int_cmp zs ws)
-
-below_more : (xs ys zs ws : List ℤ) → length xs ≡ length ys → IsBelow xs ys → IsBelow (xs ++ zs) (ys ++ ws)
-below_more xs ys zs ws e h = compare_parts xs ys zs ws e ∙ ap (λ (o : Ordering). ordering_then o (slice_cmp int_cmp zs ws)) h
-
-level : (xs : List ℤ) → slice_cmp int_cmp xs xs ≡ Equal
-level xs = by (slice_cmp int_cmp xs xs) refl
-  where
-    by : (o : Ordering) → slice_cmp int_cmp xs xs ≡ o → slice_cmp int_cmp xs xs ≡ Equal
-    by Less e = absurd (not_below_itself xs e)
-    by Equal e = e
-    by Greater e = absurd (at_most_itself xs e)
-
-below_after : (xs zs ws : List ℤ) → IsBelow zs ws → IsBelow (xs ++ zs) (xs ++ ws)
-below_after xs zs ws h = compare_parts xs xs zs ws refl ∙ (λ i. ordering_then (level xs i) (slice_cmp int_cmp zs ws)) ∙ h
 
 -- keys of as many arcs are as long
 key_length : (P Q : List Arc) → length P ≡ length Q → length (path_key P) ≡ length (path_key Q)
@@ -56,7 +25,7 @@ pub before_more : (P Q : List Arc) (f g : Arc) → IsBefore P Q → IsBefore (P 
 before_more P Q f g (inl l) = inl (let p = one_more P f in let q = one_more Q g in omega arith)
 before_more P Q f g (inr h) = inr (
   one_more P f ∙ ap (λ n. n + 1) h.0 ∙ sym (one_more Q g),
-  subst (λ k. IsBelow k (path_key (Q ++ g ∷ []))) (sym (key_more P f)) (subst (IsBelow (path_key P ++ step_key f)) (sym (key_more Q g)) (below_more (path_key P) (path_key Q) (step_key f) (step_key g) (key_length P Q h.0) h.1)),
+  subst (λ k. IsBelow k (path_key (Q ++ g ∷ []))) (sym (key_more P f)) (subst (IsBelow (path_key P ++ step_key f)) (sym (key_more Q g)) (below_front (path_key P) (path_key Q) (step_key f) (step_key g) (key_length P Q h.0) h.1)),
 )
 
 -- and on from one path the earlier arc

@@ -1,7 +1,7 @@
 -- A net with one walk to each vertex, and with all closed walks, is connected.
 use Rattle.std.proofs.Common.{◌≡◌, ℕ, ap}
-use Rattle.integers.specs.Vectors.{Vector, zero_vector, plus, minus, HasDimension}
-use Rattle.periodic_net.specs.Graph.{Graph, Arc, IsQuotientVertex, Vertex, vertex, IsVertex, IsReached, IsConnected}
+use Rattle.integers.specs.Vectors.{Vector, zero_vector, minus, HasDimension}
+use Rattle.periodic_net.specs.Graph.{Graph, IsQuotientVertex, Vertex, vertex, IsVertex, IsReached, IsConnected}
 use Rattle.periodic_net.specs.Split.{ClosedShift, WalkShift}
 use Rattle.integers.proofs.vectors.Laws.{zero_plus, plus_minus, minus_dimension}
 use Rattle.periodic_net.proofs.nets.Walks.{reached_transitive, reached_moved, reached_turned, same_reached}
