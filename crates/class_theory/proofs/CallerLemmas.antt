@@ -8,5 +8,4 @@ pub use Rattle.class_theory.proofs.FromZero.{before}
 pub use Rattle.class_theory.proofs.Laws.{moves_are_translations}
 pub use Rattle.class_theory.proofs.NextCells.{numbered_new, numbered_old}
 pub use Rattle.class_theory.proofs.OneArc.{one_arc, one_leg}
-pub use Rattle.class_theory.proofs.Remainders.{one_modulo}
 pub use Rattle.class_theory.proofs.Splitting.{cells_few, finer_next, grows, stays}

@@ -6,6 +6,8 @@ pub mod Insertion
 pub mod ListOrder
 pub mod Matched
 pub mod Members
+pub mod More
+pub mod NumberSums
 pub mod Permutations
 pub mod Pieces
 pub mod Rising

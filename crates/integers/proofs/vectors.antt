@@ -1,3 +1,4 @@
+pub mod BaseSums
 pub mod Bounds
 pub mod Coordinates
 pub mod Cramer
@@ -11,6 +12,7 @@ pub mod Normals
 pub mod OneStaircase
 pub mod Opposites
 pub mod Parts
+pub mod Precedence
 pub mod StairBasis
 pub mod StairCoordinates
-pub mod BaseSums
+pub mod VectorRemainders

@@ -7,8 +7,9 @@ pub use Rattle.periodic_net.proofs.examples.TwoVertices.{either}
 pub use Rattle.periodic_net.proofs.isomorphisms.ClassIsomorphism.{correspond_turned}
 pub use Rattle.periodic_net.proofs.isomorphisms.Isomorphism.{iso_reflexive, iso_symmetric, iso_transitive}
 pub use Rattle.periodic_net.proofs.isomorphisms.LinearPart.{image_linear}
+pub use Rattle.periodic_net.proofs.isomorphisms.MapTables.{drawn, drawn_by_table, in_box, InBox, periodic_of_drawn}
 pub use Rattle.periodic_net.proofs.isomorphisms.Matchings.{IsMatching, iso_matching, matching_turned, walk_there}
-pub use Rattle.periodic_net.proofs.isomorphisms.Neighbours.{arc_between, between_end, end_between, end_joined, end_of}
+pub use Rattle.periodic_net.proofs.isomorphisms.Neighbours.{arc_between, between_end, carried, end_between, end_joined, end_of}
 pub use Rattle.periodic_net.proofs.isomorphisms.Periods.{identity_periodic, moved_vertex}
 pub use Rattle.periodic_net.proofs.isomorphisms.Transport.{iso_classes}
 pub use Rattle.periodic_net.proofs.nets.ArcLists.{arc_is_from, arc_turned, arcs_apart, both_length, edge_in, either_way, from_is_arc, one_spelling, reverse_in, reverse_twice}
@@ -17,7 +18,7 @@ pub use Rattle.periodic_net.proofs.nets.Generators.{IsTree, connected_by_tree}
 pub use Rattle.periodic_net.proofs.nets.Loops.{reached_by_shift}
 pub use Rattle.periodic_net.proofs.nets.SplitCases.{one_not_alike, split_by_parts}
 pub use Rattle.periodic_net.proofs.nets.Splits.{split_shows_not_connected}
-pub use Rattle.periodic_net.proofs.nets.Walks.{joined_moved, joined_turned, moved_to, reached_by_arc, reached_itself, reached_moved, reached_transitive, reached_turned, same_reached, walks_joined}
+pub use Rattle.periodic_net.proofs.nets.Walks.{joined_moved, joined_turned, moved_to, reached_by_arc, reached_itself, reached_moved, reached_transitive, reached_turned, same_joined, same_reached, walks_joined}
 pub use Rattle.periodic_net.proofs.placements.MaximumPrinciple.{gain}
 pub use Rattle.periodic_net.proofs.placements.OnePlacement.{one_placement}
 pub use Rattle.periodic_net.proofs.placements.Positions.{at_origin, end_vector, move_dimension, moves_by, position_moved, positions_tell, vertex_decided}

@@ -1,9 +1,9 @@
 -- Colourings that show a net not connected.
 -- Splits are this project's own.
 use Rattle.std.specs.Prelude.{◌≡◌, ◌≢◌, ◌⊎◌, ℕ, ◌-◌, ℤ, pos, ◌<◌, ◌≤◌, ◌<ℤ◌, ◌≤ℤ◌, ◌*ℤ◌, ◌+ℤ◌, neg_ℤ, List, slice_index_or, length}
-use Rattle.integers.specs.Vectors.{Vector, zero_vector, dot, HasDimension, StartsPositive}
+use Rattle.integers.specs.Vectors.{Vector, zero_vector, plus, minus, dot, HasDimension, StartsPositive}
 use Rattle.integers.specs.Staircase.{part, IsZeroBefore}
-use Rattle.periodic_net.specs.Graph.{Graph, Vertex, vertex, IsVertex, IsQuotientVertex, AreJoined, IsReached}
+use Rattle.periodic_net.specs.Graph.{Graph, Arc, Vertex, vertex, IsVertex, IsQuotientVertex, AreJoined, IsReached}
 
 -- x and y differ by a multiple of q; at q = 0 they are equal
 abbrev pub AreAlike : ℕ → ℤ → ℤ → Type 0
@@ -35,6 +35,11 @@ WalkShift G a u T = IsReached G (vertex a zero_vector) (vertex u T)
 -- v is the shift of a closed walk from vertex a
 abbrev pub ClosedShift : Graph → ℕ → Vector → Type 0
 ClosedShift G a v = WalkShift G a a v
+
+-- with a walk of shift T u to each vertex u: the shift of the closed walk to the tail of an arc, along
+-- it, and back from its head
+abbrev pub generator : (ℕ → Vector) → Arc → Vector
+generator T e = minus (plus (T e.from) e.shift) (T e.to)
 
 -- some walk from vertex a ends over u
 abbrev pub IsFound : Graph → ℕ → ℕ → Type 0

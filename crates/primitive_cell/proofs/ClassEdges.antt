@@ -15,7 +15,7 @@ use Rattle.quotient_graph.specs.ClassNets.{arcs_of}
 use Rattle.quotient_graph.specs.NetClasses.{class_arc_numbers, ClassArcsRise}
 use Rattle.primitive_cell.specs.PrimitiveCells.{IsArcBelow}
 use Rattle.primitive_cell.proofs.CollectedEdges.{With, only_one}
-use Rattle.primitive_cell.proofs.Orders.{below_head}
+use Rattle.integers.proofs.vectors.Precedence.{below_head}
 
 -- b is an arc from a class below n, or one of the first i arcs of the class n
 abbrev pub IsArcUpTo : ClassGraph → ℕ → List ClassArc → ℕ → ClassArc → Type 0

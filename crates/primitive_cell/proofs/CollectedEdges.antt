@@ -8,6 +8,7 @@ use Rattle.std.specs.List.{Contains, AllPairs}
 use Prim.{Dec, yes, no}
 use Rattle.integers.specs.Vectors.{Vector, IsBelow}
 use Rattle.integers.proofs.lists.Members.{is_in}
+use Rattle.integers.proofs.lists.More.{pairs_with}
 use Rattle.periodic_net.specs.Classes.{ClassGraph, ClassArc}
 use Rattle.periodic_net.specs.Graph.{Graph, Arc, IsNormalSpelling}
 use Rattle.periodic_net.specs.Placement.{Placement}
@@ -15,27 +16,6 @@ use Rattle.key_theory.specs.Primitive.{edge_label}
 use Rattle.quotient_graph.specs.NetClasses.{class_arc_numbers}
 use Rattle.primitive_cell.specs.Given.{IsGivenBy, AreGivenEdges}
 use Rattle.primitive_cell.proofs.GivenEdges.{IsCell, given_once, edges_rise}
-
--- a list with one more at its end, to which each before it stands in the relation
-pairs_with : {X : Type 0} (R : X → X → Type 0) (xs : List X) (x : X) → AllPairs R xs → ((y : X) → Contains xs y → R y x) → AllPairs R (xs ++ x ∷ [])
-pairs_with {X} R xs x h each i j d l m = by (dec_lt j (length xs))
-  where
-    longer : length (xs ++ x ∷ []) ≡ length xs + 1
-    longer = length-append xs (x ∷ [])
-
-    before : (k : ℕ) → k < length xs → get_or (xs ++ x ∷ []) k d ≡ get_or xs k d
-    before k b = get_or_append_left xs (x ∷ []) d k b
-
-    last : (k : ℕ) → k ≡ length xs → get_or (xs ++ x ∷ []) k d ≡ x
-    last k e = ap (λ (n : ℕ). get_or (xs ++ x ∷ []) n d) e ∙ get_or-append_seam xs x [] d
-
-    by : Dec (j < length xs) → R (get_or (xs ++ x ∷ []) i d) (get_or (xs ++ x ∷ []) j d)
-    by (yes b) = subst (λ (t : Type 0). t) (sym (λ k. R (before i (omega arith) k) (before j b k))) (h i j d l b)
-    by (no b) =
-        let e : j ≡ length xs = omega (arith, longer, m, b) in
-        let a : i < length xs = omega (arith, l, e) in
-        let c : Contains xs (get_or xs i d) = (i, a, get_or_default xs i (get_or xs i d) d a) in
-        subst (λ (t : Type 0). t) (sym (λ k. R (before i a k) (last j e k))) (each (get_or xs i d) c)
 
 -- a list of one has that one
 pub only_one : {X : Type 0} (x y : X) → Contains (x ∷ []) y → x ≡ y

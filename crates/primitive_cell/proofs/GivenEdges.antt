@@ -17,7 +17,7 @@ use Rattle.key_theory.specs.Primitive.{Gives, IsLeastMember, edge_label}
 use Rattle.cell_theory.proofs.CallerLemmas.{one_least, translations_group}
 use Rattle.quotient_graph.specs.NetClasses.{class_arc_numbers}
 use Rattle.primitive_cell.specs.Given.{move_of, IsGivenBy}
-use Rattle.primitive_cell.proofs.Orders.{below_head, below_rest, below_ways, moved_below}
+use Rattle.integers.proofs.vectors.Precedence.{below_head, below_rest, below_ways, moved_below}
 use Rattle.primitive_cell.proofs.RisingSums.{coordinates_rise}
 
 -- a net, with its classes, their representatives, and the staircase basis of its translations

@@ -6,6 +6,5 @@ pub mod FirstPlaces
 pub mod GivenEdges
 pub mod MadeCells
 pub mod MadePrimitive
-pub mod Orders
 pub mod RisingSums
 pub mod TranslationStairs

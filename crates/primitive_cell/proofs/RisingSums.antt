@@ -10,7 +10,7 @@ use Rattle.integers.proofs.numbers.Order.{multiple_below}
 use Rattle.integers.proofs.numbers.Ring.{linear}
 use Rattle.integers.proofs.vectors.Laws.{vector_equal}
 use Rattle.integers.proofs.vectors.StairCoordinates.{row, row_sum}
-use Rattle.primitive_cell.proofs.Orders.{Precedes, precedes, parts_below}
+use Rattle.integers.proofs.vectors.Precedence.{Precedes, precedes, parts_below}
 
 -- a positive factor keeps the order
 factor_below : (a x y : ℤ) → pos 0 <ℤ a → x <ℤ y → (x *ℤ a) <ℤ (y *ℤ a)

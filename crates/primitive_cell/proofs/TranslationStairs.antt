@@ -1,12 +1,12 @@
 -- The multiples of the denominator D and the translations with parts from 0 to D - 1 generate all translations: so the
 -- staircase that they make is that of the translations.
 use Rattle.std.proofs.Common.{◌≡◌, ◌↔◌, ℕ, ◌≤◌, ℤ, pos, List, refl, sym, ap, subst, ◌∙◌}
-use Rattle.integers.specs.Staircase.{MayLead, IsStaircase}
+use Rattle.integers.specs.Staircase.{IsStaircase}
 use Rattle.integers.specs.Vectors.{Vector, zero_vector, plus, times, combination, HasDimension}
 use Rattle.integers.proofs.lists.Members.{is_in, contains_from_in}
 use Rattle.integers.proofs.numbers.Modulo.{steps_dimension}
-use Rattle.integers.proofs.numbers.Ring.{other_factor_zero, positive_not_zero}
-use Rattle.integers.proofs.vectors.Laws.{plus_commutative, plus_associative, times_plus, times_zero, plus_dimension, times_dimension}
+use Rattle.integers.proofs.vectors.Laws.{plus_commutative, plus_associative, times_plus, times_zero, plus_dimension, times_dimension, divided_dimension}
+use Rattle.integers.proofs.vectors.OneStaircase.{same_staircase}
 use Rattle.periodic_net.specs.Classes.{IsTranslation, AreTranslations}
 use Rattle.periodic_net.specs.Graph.{Graph, IsGraph}
 use Rattle.periodic_net.specs.Placement.{Placement, IsStablePlacement}
@@ -18,26 +18,6 @@ use Rattle.vecdim.specs.Lattices.{IsWith, AreMultiples, Members}
 use Rattle.vecdim.specs.Stairs.{Stairs, rows_of}
 use Rattle.primitive_cell.specs.PrimitiveCells.{IsTranslationLattice}
 use Rattle.vecdim.proofs.CallerLemmas.{with_inside, with_has}
-
--- a member that may lead, in a set with the same members
-may_same : (L M : Vector → Type 0) → ((v : Vector) → L v → M v) → (i : ℕ) (v : Vector) → MayLead L i v → MayLead M i v
-may_same L M f i v m = record { member = f v m.member; before = m.before; leads = m.leads }
-
--- a staircase of a set is that of each set with the same members
-pub same_staircase : (L M : Vector → Type 0) → ((v : Vector) → L v ↔ M v) → (d : ℕ) (rows : List Vector) → IsStaircase L d rows → IsStaircase M d rows
-same_staircase L M f d rows s = record {
-  count = s.count;
-  each = λ i l. let r = s.each i l in record {
-    may = may_same L M (λ v. (f v).0) i _ r.may;
-    least = λ w m. r.least w (may_same M L (λ v. (f v).1) i w m);
-    rest = r.rest;
-    least_rest = λ w m. r.least_rest w (may_same M L (λ v. (f v).1) i w m);
-  };
-}
-
--- with a multiple of a positive number a vector has the dimension
-divided_dimension : (d n : ℕ) → 1 ≤ n → (u : Vector) → HasDimension d (times (pos n) u) → HasDimension d u
-divided_dimension d n h u f e = other_factor_zero (pos n) u.z (f e) (positive_not_zero n h)
 
 module _ (G : Graph) (p : Placement) (g : IsGraph G) (s : IsStablePlacement G p) (rs : List Vector) (t : AreTranslations G p rs) (L M : Vector → Type 0)
     (flat : (w : Vector) → L w → HasDimension G.dimension w) (m : AreMultiples G.dimension (pos p.denominator) L) (a : IsWith L rs M) where

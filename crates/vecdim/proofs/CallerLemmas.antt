@@ -1,6 +1,5 @@
 -- The lemmas of this crate that other crates cite.
-pub use Rattle.vecdim.proofs.Comparisons.{then_equal, then_grouped}
-pub use Rattle.vecdim.proofs.Dividing.{fits_within, remainder}
+pub use Rattle.vecdim.proofs.Dividing.{fits_within, remainder, small_fits}
 pub use Rattle.vecdim.proofs.Generated.{with_has, with_inside, with_start}
 pub use Rattle.vecdim.proofs.Lattice.{in_pair}
 pub use Rattle.vecdim.proofs.SmallProducts.{small_products}

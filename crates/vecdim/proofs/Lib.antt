@@ -3,7 +3,6 @@ pub mod Assembling
 pub mod Basis
 pub mod CallerLemmas
 pub mod Combos
-pub mod Comparisons
 pub mod Deciding
 pub mod Dividing
 pub mod Fitting
@@ -11,6 +10,7 @@ pub mod Generated
 pub mod Inserting
 pub mod Lattice
 pub mod Remainders
+pub mod SignedQuotients
 pub mod SmallProducts
 pub mod Spanning
 pub mod Splitting

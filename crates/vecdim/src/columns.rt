@@ -3,11 +3,11 @@ ghost use Rattle.std.specs.Prelude.{◌≡◌, ℤ, pos, ◌+ℤ◌, ◌-ℤ◌,
 ghost use Rattle.integers.specs.Vectors.{vector};
 ghost use Rattle.vecdim.specs.Steps.{Exchange, IsBoxed};
 
-// A quotient and the rest.
+/// A quotient and the rest.
 #[derive(Clone, Copy)]
-pub(crate) struct Division {
-    pub(crate) quotient: i128,
-    pub(crate) rest: i128,
+pub struct Division {
+    pub quotient: i128,
+    pub rest: i128,
 }
 
 // How often b goes into a, and what is left.

@@ -8,8 +8,8 @@ use crate::Triple;
 use crate::columns::Division;
 use crate::insertion::Rows;
 
-// A number as a multiple of m, and a rest from 0 to below m.
-fn split(z: i128, m: i128) -> Division
+/// A number as a multiple of m, and a rest from 0 to below m.
+pub fn split(z: i128, m: i128) -> Division
     requires { pos 0 <ℤ m }
     ensures from { pos 0 ≤ℤ result.rest }
     ensures to { result.rest <ℤ m }

@@ -13,7 +13,10 @@ mod staircase;
 mod sums;
 mod vectors;
 
-pub use products::{cross, independent, triple};
+pub use columns::Division;
+pub use division::split;
+pub use products::{cross, independent, product_of_three, triple};
+pub use quotients::quotient;
 pub use small::SmallVector;
 pub use staircase::{Staircase, rows_are_one};
 pub use vectors::{Row, Shift, Triple, Vect};

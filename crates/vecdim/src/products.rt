@@ -1,5 +1,5 @@
 // Products of vectors, and their independence.
-ghost use Rattle.std.specs.Prelude.{[], ◌∷◌, pos, ◌≡◌, ◌≢◌, ◌↔◌, ◌-ℤ◌, ◌*ℤ◌, ◌≤◌, ◌^◌, All, IsTrue, length};
+ghost use Rattle.std.specs.Prelude.{[], ◌∷◌, ℕ, pos, ◌≡◌, ◌≢◌, ◌↔◌, ◌-ℤ◌, ◌*ℤ◌, ◌*◌, ◌≤◌, ◌^◌, All, IsTrue, length, unsigned_abs};
 ghost use Rattle.integers.specs.Vectors.{triple_product, AreIndependent, IsWithin};
 
 use crate::arithmetic::{minor, product, sum_of_three};
@@ -39,15 +39,26 @@ impl Triple {
     }
 }
 
-// The triple product of vectors of any dimension.
-fn product_of_three<const D: usize>(a: &Vect<D>, b: &Vect<D>, c: &Vect<D>) -> i128
+/// The triple product of vectors of any dimension.
+pub fn product_of_three(a: &Triple, b: &Triple, c: &Triple) -> i128
+    requires a { IsWithin (2 ^ 41) a.now }
+    requires b { IsWithin (2 ^ 41) b.now }
+    requires c { IsWithin (2 ^ 41) c.now }
+    ensures value { result ≡ triple_product a.now b.now c.now }
+    ensures within { (l m n : ℕ) → IsWithin l a.now → IsWithin m b.now → IsWithin n c.now
+        → unsigned_abs result ≤ 3 * (l * (2 * (m * n))) }
+{
+    b.cross(c).dot(a)
+}
+
+// The triple product of vectors in memory.
+fn product_of_vectors<const D: usize>(a: &Vect<D>, b: &Vect<D>, c: &Vect<D>) -> i128
     requires a { IsWithin (2 ^ 40) a.now }
     requires b { IsWithin (2 ^ 40) b.now }
     requires c { IsWithin (2 ^ 40) c.now }
     ensures { result ≡ triple_product a.now b.now c.now }
 {
-    let normal = b.to_triple().cross(&c.to_triple());
-    normal.dot(&a.to_triple())
+    product_of_three(&a.to_triple(), &b.to_triple(), &c.to_triple())
 }
 
 /// The cross product of two flat vectors.
@@ -64,7 +75,7 @@ pub fn triple(a: &Vect<3>, b: &Vect<3>, c: &Vect<3>) -> i128
     requires c { IsWithin (2 ^ 40) c.now }
     ensures { result ≡ triple_product a.now b.now c.now }
 {
-    product_of_three(a, b, c)
+    product_of_vectors(a, b, c)
 }
 
 // Whether a number is not 0.
@@ -95,7 +106,7 @@ fn three_independent<const D: usize>(a: &Vect<D>, b: &Vect<D>, c: &Vect<D>) -> b
     requires c { IsWithin (2 ^ 40) c.now }
     ensures { IsTrue result ↔ AreIndependent (a.now ∷ b.now ∷ c.now ∷ []) }
 {
-    is_not_zero(product_of_three(a, b, c))
+    is_not_zero(product_of_vectors(a, b, c))
 }
 
 /// Whether no linear relation with whole coefficients, not all 0, makes 0 of the vectors.

@@ -1,11 +1,12 @@
 // Vectors modulo a number, and divided by a divisor of their parts.
 ghost use Rattle.std.specs.Prelude.{◌≡◌, ◌≤◌, ℤ, pos, ◌*ℤ◌, ◌<ℤ◌, unsigned_abs};
 
+use crate::arithmetic::negative;
 use crate::columns::modulo;
 use crate::{Triple, Vect};
 
-// A number divided by a divisor of it.
-fn quotient(a: i128, g: i128) -> i128
+/// A number divided by a positive divisor of it.
+pub fn quotient(a: i128, g: i128) -> i128
     requires positive { pos 0 <ℤ g }
     requires divides { (w : ℤ) × (a ≡ g *ℤ w) }
     ensures value { a ≡ g *ℤ result }
@@ -15,7 +16,7 @@ fn quotient(a: i128, g: i128) -> i128
 }
 
 impl Triple {
-    ghost use Rattle.std.specs.Prelude.{◌≡◌, ℕ, ◌^◌, pos, ◌<ℤ◌};
+    ghost use Rattle.std.specs.Prelude.{◌≡◌, ◌≢◌, ℕ, ◌≤◌, ◌^◌, pos, ◌<ℤ◌, unsigned_abs};
     ghost use Rattle.integers.specs.Vectors.{Vector, times, IsModulo, IsWithin};
 
     /// The vector modulo `m`, part by part.
@@ -31,7 +32,7 @@ impl Triple {
         }
     }
 
-    /// The vector divided by a divisor of its parts.
+    /// The vector divided by a positive divisor of its parts.
     pub fn over(&self, g: i128) -> Triple
         requires positive { pos 0 <ℤ g }
         requires vector { IsWithin (2 ^ 126) self.now }
@@ -44,6 +45,22 @@ impl Triple {
             y: quotient(self.y, g),
             z: quotient(self.z, g),
         }
+    }
+
+    /// The vector divided by a divisor of its parts, of either sign.
+    pub fn divided_by(&self, g: i128) -> Triple
+        requires some { g ≢ pos 0 }
+        requires small { unsigned_abs g ≤ 2 ^ 126 }
+        requires vector { IsWithin (2 ^ 126) self.now }
+        requires divides { (w : Vector) × (self.now ≡ times g w) }
+        ensures value { self.now ≡ times g result }
+        ensures within { (n : ℕ) → IsWithin n self.now → IsWithin n result }
+    {
+        if g > 0 {
+            return self.over(g);
+        }
+        let size = negative(g);
+        self.opposite().over(size)
     }
 }
 

@@ -1,7 +1,7 @@
 // Sums, differences and multiples of vectors.
 ghost use Rattle.std.specs.Prelude.{◌≡◌, ◌≤◌, ◌^◌, ◌+ℤ◌, unsigned_abs};
 
-use crate::arithmetic::{difference, multiple, negative, sum};
+use crate::arithmetic::{difference, exact_product, negative, sum};
 use crate::{Shift, Triple, Vect};
 
 // The sum of two parts of shifts.
@@ -80,16 +80,15 @@ impl Triple {
 
     /// The vector taken `k` times.
     pub fn times(&self, k: i128) -> Triple
-        requires vector { IsWithin (2 ^ 62) self.now }
-        requires factor { unsigned_abs k ≤ 2 ^ 62 }
+        requires { IsWithin (2 ^ 126) (times k self.now) }
         ensures value { result ≡ times k self.now }
         ensures within { (m n : ℕ) → unsigned_abs k ≤ m → IsWithin n self.now
             → IsWithin (m * n) result }
     {
         Triple {
-            x: multiple(k, self.x),
-            y: multiple(k, self.y),
-            z: multiple(k, self.z),
+            x: exact_product(k, self.x),
+            y: exact_product(k, self.y),
+            z: exact_product(k, self.z),
         }
     }
 }

@@ -1,5 +1,4 @@
 pub mod CallerLemmas
-pub mod ClosedWalks
 pub mod Dividing
 pub mod EdgeWalks
 pub mod Ends
@@ -10,9 +9,14 @@ pub mod FlatNormals
 pub mod FoundVertices
 pub mod Generated
 pub mod Growing
+pub mod KnownLists
 pub mod Orthogonal
+pub mod PathEnds
+pub mod PathSteps
 pub mod RankAnswers
 pub mod Reductions
+pub mod Rows
 pub mod Searching
+pub mod Sorted
 pub mod Spanned
 pub mod Starting

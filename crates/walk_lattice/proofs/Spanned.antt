@@ -16,7 +16,7 @@ use Rattle.walk_lattice.specs.Search.{AreWalks}
 use Rattle.walk_lattice.specs.Generators.{generators}
 use Rattle.walk_lattice.specs.Lattices.{IsLatticeOf, AreClosedWalks}
 use Rattle.integers.specs.Lattices.{IsVectorGroup}
-use Rattle.walk_lattice.proofs.ClosedWalks.{walk_dimension, closed_group}
+use Rattle.walk_theory.proofs.CallerLemmas.{walk_dimension, closed_group}
 use Rattle.walk_lattice.proofs.Generated.{generators_closed, closed_in}
 use Rattle.integers.proofs.vectors.Groups.{times_in}
 use Rattle.integers.proofs.lists.Members.{in_from_contains, contains_from_in}
@@ -114,6 +114,6 @@ two_or_not d = grind arith
 pub closed_by_volume : (G : Graph) (a : ℕ) (found : List (Option Vector)) (m : ℤ) (S : Stairs) → IsGraph G → IsQuotientVertex G a → AreWalks G a found
     → IsVolume G.dimension (generators G found) m → IsLatticeOf G.dimension m (generators G found) S → AreClosedWalks G a S
 closed_by_volume G a found m S g q h s l = record {
-  out = λ v i. lattice_inside G.dimension (ClosedShift G a) (closed_group G a) (λ v c. walk_dimension G g a a v q c) (generators G found) (generators_closed G g a found h) m S (two_or_not G.dimension) s l v i;
+  out = λ v i. lattice_inside G.dimension (ClosedShift G a) (closed_group G a) (λ v c. walk_dimension G g a a v q c) (generators G found) (generators_closed G g a found h q.0) m S (two_or_not G.dimension) s l v i;
   into = λ v c. closed_in G g a found h (Members G.dimension S) (members_group G.dimension S) (added_members G.dimension m (generators G found) S l) q.0 v c;
 }

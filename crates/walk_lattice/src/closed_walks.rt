@@ -33,8 +33,8 @@ fn closed_walk<const D: usize>(tail: &Shift<D>, step: &Shift<D>, head: &Shift<D>
     there.minus(&head.to_vector())
 }
 
-// The closed walk of an edge.
-fn edge_walk<const D: usize>(e: &Arc<D>, found: &[Option<Shift<D>>]) -> Vect<D>
+/// The closed walk of an edge: to its tail, along it, and back from its head.
+pub fn edge_walk<const D: usize>(e: &Arc<D>, found: &[Option<Shift<D>>]) -> Vect<D>
     requires found { All (λ walk. IsWithin most_walk (shift_of walk)) found.now }
     requires from { (1 ≤ e.now.from) × (e.now.from ≤ length found.now) }
     requires to { (1 ≤ e.now.to) × (e.now.to ≤ length found.now) }

@@ -1,4 +1,4 @@
-//! The walks from a vertex of a quotient graph, and the lattice of the shifts of its closed walks.
+//! The chosen walks from a vertex of a quotient graph, and the lattice of the shifts of its closed walks.
 #![tactic(auto)]
 
 mod closed_walks;
@@ -7,7 +7,7 @@ mod ranks;
 mod reduction;
 mod search;
 
-pub use closed_walks::{generators, shift_of};
+pub use closed_walks::{edge_walk, generators, shift_of};
 pub use lattices::lattice;
 pub use ranks::{Rank, rank_of};
 pub use search::walks;

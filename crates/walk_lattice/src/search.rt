@@ -1,6 +1,8 @@
-// The search of a quotient graph from a vertex, with the shift of a walk to each vertex found.
+// The search of a quotient graph from a vertex, with the shift of the chosen walk to each vertex
+// found.
 ghost use Rattle.std.specs.Prelude.{◌≡◌, ◌<◌, ◌≤◌, ◌+◌, length, OnOk, Some, ◌-◌, ◌*◌, IsSome, IfOk, slice_index};
 ghost use Rattle.integers.specs.Vectors.{IsWithin};
+ghost use Rattle.walk_lattice.specs.Paths.{IsSettledTo, SettlesNext, AreChosenWalks};
 ghost use Rattle.walk_lattice.specs.Search.{missing_count, found_with, order_with, IsSearch, Expands, IsSearchedTo, AreWalks, none_found, walk_to};
 ghost use Rattle.periodic_net.specs.Graph.{IsGraph, IsQuotientVertex};
 ghost use Rattle.periodic_net.specs.Limits.{IsSmall, most_shift, most_vertices};
@@ -48,8 +50,10 @@ fn expand<const D: usize>(
     requires near { IsWithin (most_shift * (length order.old.items - 1)) walk.now }
     requires some { 1 ≤ length order.old.items }
     requires few { length order.old.items ≤ most_vertices }
-    ensures { OnOk result
+    ensures expands { OnOk result
         (Expands g.now start found.old order.old.items u found.new order.new.items) }
+    ensures paths { OnOk result
+        (SettlesNext g.now start found.old order.old.items u found.new order.new.items) }
 {
     for arc in g.arcs(u) {
         find(found, order, arc.to, walk.plus(&arc.shift))?;
@@ -80,9 +84,11 @@ fn search<const D: usize>(
     start: u32,
 ) -> Result<(), NoMemory>
     requires searched { IsSearchedTo g.now start found.old order.old.items 0 }
+    requires settled { IsSettledTo g.now start found.old order.old.items 0 }
     requires small { g.now.vertices ≤ most_vertices }
-    ensures { OnOk result
+    ensures searched { OnOk result
         (IsSearchedTo g.now start found.new order.new.items (length order.new.items)) }
+    ensures chosen { OnOk result (AreChosenWalks g.now start found.new) }
 {
     let mut i = 0;
     while i < order.len() {
@@ -102,7 +108,8 @@ fn find_walks<const D: usize>(
 ) -> Result<(), NoMemory>
     requires start { IsQuotientVertex g.now start }
     requires none { found.old ≡ none_found g.now.vertices }
-    ensures { OnOk result (AreWalks g.now start found.new) }
+    ensures walks { OnOk result (AreWalks g.now start found.new) }
+    ensures chosen { OnOk result (AreChosenWalks g.now start found.new) }
 {
     let n = g.vertices();
     let mut order = Vec::with_capacity(alloc, n as usize)?;
@@ -112,7 +119,7 @@ fn find_walks<const D: usize>(
     Ok(())
 }
 
-/// For each vertex that a walk from a vertex leads to, the shift of one such walk.
+/// For each vertex that a walk from a vertex leads to, the shift of the chosen one.
 pub fn walks<const D: usize>(
     alloc: Global,
     g: &Graph<D>,
@@ -120,6 +127,7 @@ pub fn walks<const D: usize>(
 ) -> Result<Vec<Option<Shift<D>>>, NoMemory>
     requires { IsQuotientVertex g.now start }
     ensures walks { IfOk result (λ found. AreWalks g.now start found.items) }
+    ensures chosen { IfOk result (λ found. AreChosenWalks g.now start found.items) }
     ensures is_graph { IsGraph g.now }
     ensures small { IsSmall g.now }
 {

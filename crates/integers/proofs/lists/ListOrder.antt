@@ -1,6 +1,6 @@
 -- The order of lists of numbers is total: numbers are compared one by one, and a proper prefix comes before.
-use Rattle.std.proofs.Common.{◌≡◌, ◌⊎◌, inl, inr, ℤ, List, refl, sym, ap, ◌∙◌}
-use Rattle.std.specs.Ordering.{int_cmp, ordering_reverse}
+use Rattle.std.proofs.Common.{◌≡◌, ◌⊎◌, inl, inr, ℤ, List, [], ◌∷◌, ◌++◌, length, refl, sym, ap, ◌∙◌, arith}
+use Rattle.std.specs.Ordering.{int_cmp, ordering_reverse, ordering_then}
 use Rattle.std.specs.declared.cmp.Ordering.{Ordering}
 use Rattle.std.specs.declared.cmp.Ordering.TheVariants.{Less, Equal, Greater}
 use Rattle.std.specs.Cmp.Lexicographic.{slice_cmp}
@@ -8,6 +8,18 @@ use Rattle.std.specs.Cmp.{IsTotalOrder}
 use Rattle.std.specs.FinMap.{slice_cmp-IsAntisymmetric, int_cmp-IsAntisymmetric}
 use Rattle.std.proofs.lemmas.Cmp.{lists_total, int_cmp_total}
 use Rattle.integers.specs.Vectors.{IsBelow, IsAtMost}
+
+-- of comparisons one after the other the last needs none after it
+pub then_equal : (o : Ordering) → ordering_then o Equal ≡ o
+then_equal Less = refl
+then_equal Equal = refl
+then_equal Greater = refl
+
+-- they may be grouped in any way
+pub then_grouped : (o p q : Ordering) → ordering_then (ordering_then o p) q ≡ ordering_then o (ordering_then p q)
+then_grouped Less p q = refl
+then_grouped Equal p q = refl
+then_grouped Greater p q = refl
 
 -- the order of lists is total
 pub lists_order : IsTotalOrder (slice_cmp int_cmp)
@@ -79,3 +91,28 @@ at_most_both xs ys h k = by (below_of_at_most xs ys h)
     by : IsBelow xs ys ⊎ (xs ≡ ys) → xs ≡ ys
     by (inl b) = absurd (k (lists_order.antisymm ys xs ∙ ap ordering_reverse b))
     by (inr e) = e
+
+-- lists are compared by their first parts of one length, and then by the others
+pub front_then : (xs ys zs ws : List ℤ) → length xs ≡ length ys → slice_cmp int_cmp (xs ++ zs) (ys ++ ws) ≡ ordering_then (slice_cmp int_cmp xs ys) (slice_cmp int_cmp zs ws)
+front_then [] [] zs ws e = refl
+front_then [] (y ∷ ys) zs ws e = absurd (omega arith)
+front_then (x ∷ xs) [] zs ws e = absurd (omega arith)
+front_then (x ∷ xs) (y ∷ ys) zs ws e =
+    ap (ordering_then (int_cmp x y)) (front_then xs ys zs ws (omega arith)) ∙ sym (then_grouped (int_cmp x y) (slice_cmp int_cmp xs ys) (slice_cmp int_cmp zs ws))
+
+-- a list that begins with a lesser one is below
+pub below_front : (xs ys zs ws : List ℤ) → length xs ≡ length ys → IsBelow xs ys → IsBelow (xs ++ zs) (ys ++ ws)
+below_front xs ys zs ws e h = front_then xs ys zs ws e ∙ ap (λ (o : Ordering). ordering_then o (slice_cmp int_cmp zs ws)) h
+
+-- a list is equal to itself, as they are compared
+level : (xs : List ℤ) → slice_cmp int_cmp xs xs ≡ Equal
+level xs = by (slice_cmp int_cmp xs xs) refl
+  where
+    by : (o : Ordering) → slice_cmp int_cmp xs xs ≡ o → slice_cmp int_cmp xs xs ≡ Equal
+    by Less e = absurd (not_below_itself xs e)
+    by Equal e = e
+    by Greater e = absurd (at_most_itself xs e)
+
+-- of lists that begin alike the others decide
+pub below_after : (xs zs ws : List ℤ) → IsBelow zs ws → IsBelow (xs ++ zs) (xs ++ ws)
+below_after xs zs ws h = front_then xs xs zs ws refl ∙ (λ i. ordering_then (level xs i) (slice_cmp int_cmp zs ws)) ∙ h

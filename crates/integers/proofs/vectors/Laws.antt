@@ -1,9 +1,9 @@
 -- The laws of vectors: sums, differences, multiples, products c·v, and dimension.
-use Rattle.std.proofs.Common.{◌≡◌, ◌≢◌, ℕ, ◌*◌, ℤ, pos, neg_ℤ, ◌+ℤ◌, ◌-ℤ◌, ◌*ℤ◌, sym, ap, ◌∙◌, arith}
+use Rattle.std.proofs.Common.{◌≡◌, ◌≢◌, ◌≤◌, ℕ, ◌*◌, ℤ, pos, neg_ℤ, ◌+ℤ◌, ◌-ℤ◌, ◌*ℤ◌, sym, ap, ◌∙◌, arith}
 use Rattle.std.proofs.Math.IntN.{pos-*ℤ-pos}
 use Rattle.std.proofs.lemmas.Int.{ints}
 use Rattle.integers.specs.Vectors.{Vector, zero_vector, plus, minus, opposite, times, dot, cross, triple_product, HasDimension}
-use Rattle.integers.proofs.numbers.Ring.{ring, linear, cancel_factor}
+use Rattle.integers.proofs.numbers.Ring.{ring, linear, cancel_factor, other_factor_zero, positive_not_zero}
 
 -- vectors with equal parts are equal
 pub vector_equal : {v w : Vector} → v.x ≡ w.x → v.y ≡ w.y → v.z ≡ w.z → v ≡ w
@@ -174,6 +174,10 @@ times_dimension d k v h e = ap (λ (z : ℤ). k *ℤ z) (h e) ∙ zero_is k
   where
     zero_is : (a : ℤ) → a *ℤ pos 0 ≡ pos 0
     zero_is a = omega (arith, ints)
+
+-- a vector that has the dimension once it is multiplied by a positive number has it
+pub divided_dimension : (d n : ℕ) → 1 ≤ n → (u : Vector) → HasDimension d (times (pos n) u) → HasDimension d u
+divided_dimension d n h u f e = other_factor_zero (pos n) u.z (f e) (positive_not_zero n h)
 
 -- the product of the cross product of b and c with a
 pub dot_cross : (a b c : Vector) → dot (cross b c) a ≡ triple_product a b c

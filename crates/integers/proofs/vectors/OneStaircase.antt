@@ -50,3 +50,15 @@ one_staircase L M d rows others s t h =
   where
     below : (i n : ℕ) → i < n → n ≡ d → i < d
     below i n l e = omega (arith, l, e)
+
+-- a staircase of a set is that of each set with the same members
+pub same_staircase : (L M : Vector → Type 0) → ((v : Vector) → L v ↔ M v) → (d : ℕ) (rows : List Vector) → IsStaircase L d rows → IsStaircase M d rows
+same_staircase L M f d rows s = record {
+  count = s.count;
+  each = λ i l. let r = s.each i l in record {
+    may = other_may (λ v. (f v).0) i _ r.may;
+    least = λ w m. r.least w (other_may (λ v. (f v).1) i w m);
+    rest = r.rest;
+    least_rest = λ w m. r.least_rest w (other_may (λ v. (f v).1) i w m);
+  };
+}

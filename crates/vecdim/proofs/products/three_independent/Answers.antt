@@ -8,7 +8,7 @@ use Rattle.vecdim.proofs.products.three_independent.Goals as goal
 
 pub returns : goal.returns
 returns g c =
-    let r : FitsSigned w128 c.product_of_three.result = record { sfits = c.product_of_three.type_inv } in
+    let r : FitsSigned w128 c.product_of_vectors.result = record { sfits = c.product_of_vectors.type_inv } in
     let e = c.is_not_zero.ensures in
-    let n = subst (λ (t : ℤ). IsTrue c.is_not_zero.result ↔ (t ≢ pos 0)) c.product_of_three.ensures (simp to_z-of_z at e) in
+    let n = subst (λ (t : ℤ). IsTrue c.is_not_zero.result ↔ (t ≢ pos 0)) c.product_of_vectors.ensures (simp to_z-of_z at e) in
     through n (three_vectors c.args.a.now c.args.b.now c.args.c.now)

@@ -1,9 +1,13 @@
 use Rattle.std.proofs.Common.{◌+◌, ◌-◌, length}
 use Rattle.walk_lattice.specs.Search.{missing_count, IsSearchedTo}
+use Rattle.walk_lattice.specs.Paths.{IsSettledTo}
 use Rattle.walk_lattice.proofs.search.search.Given as goal
 
 abbrev pub invariant-loop-i : goal.invariant-loop-i
-invariant-loop-i g l = IsSearchedTo l.g l.start l.found l.order.items l.i
+invariant-loop-i g l = record {
+  searched : IsSearchedTo l.g l.start l.found l.order.items l.i;
+  settled : IsSettledTo l.g l.start l.found l.order.items l.i;
+}
 
 abbrev pub decreases-loop-i : goal.decreases-loop-i
 decreases-loop-i g l = (missing_count l.found + length l.order.items) - l.i

@@ -1,4 +1,4 @@
--- The order of lists of numbers, by their first numbers.
+-- The order of vectors as lists of parts, part by part, and of lists by their first numbers.
 use Rattle.std.proofs.Common.{◌≡◌, ◌⊎◌, inl, inr, ℤ, ◌+ℤ◌, ◌-ℤ◌, List, [], ◌∷◌, sym, ap, ◌∙◌, arith}
 use Rattle.std.specs.Prelude.{◌<ℤ◌}
 use Rattle.std.specs.Cmp.{int_ranks, int_cmp_is}

@@ -1,0 +1,5 @@
+use Rattle.sublattice.proofs.Classes.{tell_classes}
+use Rattle.sublattice.proofs.laws.remainders_tell_classes.Goals as goal
+
+pub returns : goal.returns
+returns c = record { theorem = tell_classes }

@@ -1,0 +1,5 @@
+pub mod Digits
+pub mod Laws
+pub mod Remainders
+pub mod Residues
+pub mod Sublattices

@@ -1,0 +1,10 @@
+pub mod BreadthSteps
+pub mod CallerLemmas
+pub mod ClosedWalks
+pub mod Components
+pub mod Generated
+pub mod OneChosen
+pub mod PathOrder
+pub mod Settled
+pub mod SettlingSteps
+pub mod Theorems
