@@ -170,7 +170,7 @@ class Files(FolderTest):
 
     def test_gallery_in_a_browser(self):
         need_commands("chromium")
-        run(TOOLS / "pictures/gallery", self.folder, TOP / "archives/common.archive")
+        run(TOOLS / "pictures/net_gallery", self.folder, TOP / "archives/common.archive")
         page = self.folder / "common.html"
         text = page.read_text().replace('"use strict";', 'let failed = "";\nwindow.onerror = told => { failed = told; };', 1)
         page.write_text(text.replace("</html>", VISIT))
