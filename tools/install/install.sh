@@ -27,7 +27,7 @@ batch/net_groups batch/net_names batch/accepted_nets batch/archive_nets"
 install -D -m 755 -- "$program" "$to/bin/net_tool"
 install -d -- "$share/archives" "$share/examples" "$to/share/doc/net_tool" "$to/share/man/man1"
 install -m 644 -- "$top"/archives/*.archive "$share/archives"
-install -m 644 -- "$top"/examples/*.cgd "$share/examples"
+install -m 644 -- "$top"/examples/*.c?? "$share/examples"
 install -m 644 -- "$top/README.md" "$top/docs/FORMATS.md" "$to/share/doc/net_tool"
 install -D -m 644 -- "$top/tools/install/net_tool.bash" "$to/share/bash-completion/completions/net_tool"
 

@@ -44,6 +44,11 @@ class Names(FolderTest):
             nets = run(COMMAND, *words, *files).stdout
             self.assertEqual(self.names_of(nets), wanted)
 
+    def test_the_example_from_a_file_to_a_name(self):
+        need_program()
+        nets = run(COMMAND, TOP / "examples/quartz.cif").stdout
+        self.assertEqual(self.names_of(nets), {"quartz": {"qtz"}})
+
     def names_of(self, nets: bytes) -> dict[str, set[str]]:
         """Of each structure the symbols of its nets, by the archives."""
         found: dict[str, set[str]] = {}
