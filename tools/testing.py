@@ -95,7 +95,12 @@ def run_folder(folder: Path) -> Quiet:
     result = Quiet()
     sys.path.insert(0, str(folder))
     for file in sorted(folder.glob("test_*.py")):
-        loader.loadTestsFromName(file.stem).run(result)
+        try:
+            tests = loader.loadTestsFromName(file.stem)
+        except unittest.SkipTest as reason:
+            result.skipped.append((file.stem, str(reason)))
+        else:
+            tests.run(result)
     sys.path.remove(str(folder))
     name = str(folder.relative_to(TOP))
     for test, trace in result.failures + result.errors:

@@ -109,13 +109,13 @@ class RealFiles(FolderTest):
         if not AVOGADRO:
             self.skipTest("libavogadro-data is not there")
 
-    def test_all_are_answered(self):
-        done = run(COMMAND, *AVOGADRO, status=1)
-        self.assertGreater(done.stdout.count(b"PERIODIC_GRAPH"), 0.9 * len(AVOGADRO))
+    def test_nearly_all_give_nets(self):
+        files = AVOGADRO if IS_LONG else AVOGADRO[::4]
+        done = run(COMMAND, *files, status=1)
+        self.assertGreater(done.stdout.count(b"PERIODIC_GRAPH"), 0.9 * len(files))
         self.assertEqual(done.stdout.count(b"\nPERIODIC_GRAPH\n"), done.stdout.count(b"\nEND\n"))
+        self.assertLess(done.stderr.count(b": refused: "), 0.1 * len(files))
         self.assert_no_fault(done.stderr)
-        refused = done.stderr.count(b": refused: ")
-        self.assertLess(refused, 0.1 * len(AVOGADRO))
 
     def test_a_zeolite_is_answered_in_the_limits_of_the_program(self):
         need_program()

@@ -4,6 +4,7 @@ import os
 import shlex
 import shutil
 import subprocess
+import tempfile
 from pathlib import Path
 
 from testing import PROGRAM, TOOLS, FolderTest, long_test, need_commands, need_modules, need_program, run
@@ -19,13 +20,19 @@ def names_told(report: bytes) -> list[bytes]:
 
 
 class Installed(FolderTest):
-    def setUp(self):
-        super().setUp()
+    @classmethod
+    def setUpClass(cls):
         need_program()
-        run(INSTALL / "install.sh", "/usr/local", PROGRAM, DESTDIR=str(self.folder))
-        self.prefix = self.folder / "usr/local"
-        self.share = self.prefix / "share/net_tool"
-        self.path = f"{self.prefix / 'bin'}:{os.environ['PATH']}"
+        cls.root = Path(tempfile.mkdtemp(prefix="net_tools_test."))
+        cls.addClassCleanup(shutil.rmtree, cls.root, ignore_errors=True)
+        cls.install()
+        cls.prefix = cls.root / "usr/local"
+        cls.share = cls.prefix / "share/net_tool"
+        cls.path = f"{cls.prefix / 'bin'}:{os.environ['PATH']}"
+
+    @classmethod
+    def install(cls):
+        run(INSTALL / "install.sh", "/usr/local", PROGRAM, DESTDIR=str(cls.root))
 
     def in_shell(self, command: str, status: int = 0) -> bytes:
         """What a user's shell prints with the installed commands on its path."""
@@ -51,18 +58,21 @@ class Installed(FolderTest):
         self.assertEqual(len(list(self.folder.glob("*.svg"))), 1)
 
     def test_no_link_is_broken_and_each_command_has_a_page(self):
-        for path in self.folder.rglob("*"):
+        for path in self.root.rglob("*"):
             self.assertTrue(path.exists(), path)
         pages = {path.name.removesuffix(".1.gz") for path in (self.prefix / "share/man/man1").iterdir()}
         self.assertLessEqual({path.name for path in (self.prefix / "bin").iterdir()}, pages)
 
     def test_no_file_of_tests_is_installed(self):
-        self.assertEqual([path for path in self.folder.rglob("*test*")], [])
+        self.assertEqual([path for path in self.root.rglob("*test*")], [])
 
     def test_installing_again_changes_nothing(self):
-        before = {path: path.read_bytes() for path in self.folder.rglob("*") if path.is_file()}
-        run(INSTALL / "install.sh", "/usr/local", PROGRAM, DESTDIR=str(self.folder))
-        self.assertEqual({path: path.read_bytes() for path in self.folder.rglob("*") if path.is_file()}, before)
+        before = self.contents()
+        self.install()
+        self.assertEqual(self.contents(), before)
+
+    def contents(self) -> dict[Path, bytes]:
+        return {path: path.read_bytes() for path in self.root.rglob("*") if path.is_file()}
 
     def test_pages_have_no_fault(self):
         need_commands("mandoc")
