@@ -1,6 +1,7 @@
 #!/usr/bin/python3
 """Writes those nets of common.cgd that have a recipe: duals, strips, prisms, stackings of close
-packed layers, augmented nets, and nets of sites that a space group and their distances fix.
+packed layers, augmented nets, nets of edges, and nets of sites that a space group and their
+distances fix.
 
     write_nets.py > part.cgd
 
@@ -190,7 +191,7 @@ def _steps_up(word: str):
         yield k, steps, int(k + 1 == len(word))
 
 
-# Augmented nets
+# Augmented nets, and nets of edges
 
 def augmented(net: Net) -> Net:
     """Each vertex replaced by the figure of its neighbours: a triangle, a square or tetrahedron,
@@ -208,6 +209,27 @@ def augmented(net: Net) -> Net:
         for one, other in _figure(steps):
             result.join(number[v, *arcs[one]], number[v, *arcs[other]], (0,) * net.dimension)
     return result
+
+
+def of_edges(net: Net) -> Net:
+    """A vertex in the middle of each edge, joined to those of the next edges around either end."""
+    places, cell = net.places(), net.cell()
+    number = {edge: k for k, edge in enumerate(sorted(net.edges))}
+    result = Net(len(number))
+    for v, arcs in enumerate(net.arcs()):
+        steps = np.array([(places[w] + shift - places[v]) @ cell for w, shift in arcs])
+        middles = [_middle(v, w, shift, number) for w, shift in arcs]
+        for one, other in _figure(steps):
+            (k, at), (m, to) = middles[one], middles[other]
+            result.join(k, m, np.subtract(to, at))
+    return result
+
+
+def _middle(v: int, w: int, shift: tuple[int, ...], number: dict[tuple, int]) -> tuple[int, tuple[int, ...]]:
+    """The number of the edge of an arc, and the cell of the edge's first end, seen from the tail."""
+    if (v, w, shift) in number:
+        return number[v, w, shift], (0,) * len(shift)
+    return number[w, v, tuple(-x for x in shift)], shift
 
 
 def _figure(steps: np.ndarray) -> list[tuple[int, int]]:
@@ -298,6 +320,7 @@ BY_SITES = {
     "lcs, sites S* of Ia-3d": Sites("I a -3 d", cubic(1), {"a": (3 * E, 0, Q)}, {"aa": 4}),
     "lcy, sites +Y of P4332": Sites("P 43 3 2", cubic(1), {"a": (E, E, E)}, {"aa": 6}),
     "thp, thorium in Th3P4": Sites("I -4 3 d", cubic(1), {"a": (3 * E, 0, Q)}, {"aa": 8}),
+    "bsn, beta tin": Sites("I 41/a m d:1", (5.831, 5.831, 3.182, 90, 90, 90), {"a": (0, 0, 0)}, {"aa": 6}),
     "perovskite, all atoms": Sites("P m -3 m", cubic(1), {"a": (0, 0, 0), "b": (H, H, H), "o": (H, H, 0)},
                                    {"ao": 12, "bo": 6}),
     "spinel, all atoms": Sites("F d -3 m:2", cubic(1), {"a": (E, E, E), "b": (H, H, H), "o": (0.2624, 0.2624, 0.2624)},
@@ -328,7 +351,8 @@ BY_SITES = {
 
 def recipes() -> dict[str, Net]:
     """The nets by their names, in the order of the file."""
-    known = nets_by_hand()
+    by_sites = {name: net_of_sites(sites) for name, sites in BY_SITES.items()}
+    known = nets_by_hand() | {name.split(",")[0]: net for name, net in by_sites.items()}
     uniform = {"sql": "4^4", "hxl": "3^6", "hcb": "6^3", "kgm": "3.6.3.6", "fes": "4.8^2", "hca": "3.12^2",
                "fxt": "4.6.12", "htb": "3.4.6.4", "cem": "3^3.4^2", "tts": "3^2.4.3.4", "fsz": "3^4.6"}
     nets = {}
@@ -342,12 +366,12 @@ def recipes() -> dict[str, Net]:
         nets[f"close packing {word}"] = close_packing(word)
         nets[f"silicon carbide {word}"] = tetrahedral(word)
     for symbol in ("dia", "lon", "qtz", "sod", "crb", "nbo", "pts", "srs", "ths", "pcu", "bcu", "flu", "pto", "tbo",
-                   "ctn", "pyr"):
+                   "ctn", "pyr", "bor", "gar", "toc"):
         other = {"pcu": "cab, boron in CaB6, pcu-a", "bcu": "pcb, polycubane, bcu-a"}
         nets[other.get(symbol, f"{symbol}-a, augmented {symbol}")] = augmented(known[symbol])
-    for name, sites in BY_SITES.items():
-        nets[name] = net_of_sites(sites)
-    return nets
+    for symbol in ("lon", "qtz", "sod", "ths", "pts", "pto", "tbo", "ctn"):
+        nets[f"{symbol}-e, edges of {symbol}"] = of_edges(known[symbol])
+    return nets | by_sites
 
 
 def main() -> int:

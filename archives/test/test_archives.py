@@ -83,6 +83,18 @@ class Recipes(FolderTest):
         for name in ("common.archive", "zeolites.archive", "zeolites.refused"):
             self.assertEqual((self.folder / "archives" / name).read_bytes(), (ARCHIVES / name).read_bytes(), name)
 
+    def test_edges_of_nets_that_are_known(self):
+        need_program()
+        need_modules("numpy", "gemmi")
+        sys.path.insert(0, str(ARCHIVES))
+        from write_nets import nets_by_hand, of_edges, text_of
+        wanted = {"dia": "crs", "srs": "lcv", "pcu": "reo", "hcb": "kgm", "nbo": "sod"}
+        nets = "".join(text_of(symbol, of_edges(nets_by_hand()[symbol])) for symbol in wanted)
+        report = run(PROGRAM, "identify", "-", "--archive", ARCHIVES / "common.archive", stdin=nets.encode()).stdout
+        found = {net.name.decode(): net.names[0].decode().split(",")[0]
+                 for net in nets_of_report(report.splitlines(keepends=True))}
+        self.assertEqual(found, wanted)
+
     def test_recipes_give_the_nets_of_the_source(self):
         need_modules("numpy", "gemmi")
         text = run(ARCHIVES / "write_nets.py").stdout

@@ -175,7 +175,7 @@ class Files(FolderTest):
         text = page.read_text().replace('"use strict";', 'let failed = "";\nwindow.onerror = told => { failed = told; };', 1)
         page.write_text(text.replace("</html>", VISIT))
         title = self.title_in_browser(page)
-        self.assertEqual(title, "cards 137 painted true shown 1")
+        self.assertEqual(title, "cards 150 painted true shown 1")
 
     def title_in_browser(self, page):
         """The title of the page once it was visited; skips where the browser does not start here."""
