@@ -59,8 +59,9 @@ class Slurm(FolderTest):
             (self.folder / part).mkdir()
         self.folder.chmod(0o755)
         self.settings = {"SLURM_CONF": str(self.folder / "slurm.conf"), "PATH": os.environ["PATH"] + ":/usr/sbin"}
+        self.host = socket.gethostname().split(".")[0]
         (self.folder / "slurm.conf").write_text(CONFIGURATION.format(
-            host=socket.gethostname().split(".")[0], ports=free_ports(2), folder=self.folder, cpus=min(4, os.cpu_count())))
+            host=self.host, ports=free_ports(2), folder=self.folder, cpus=min(4, os.cpu_count())))
         self.start_slurm()
 
     def start_slurm(self):
@@ -71,7 +72,7 @@ class Slurm(FolderTest):
                    folder / "munge.log")
         self.wait_for(lambda: (folder / "munge.socket").exists())
         self.start("slurmctld", "-D", "-i")
-        self.start("slurmd", "-D", "-N", socket.gethostname().split(".")[0])
+        self.start("slurmd", "-D", "-N", self.host)
         self.wait_for(lambda: b"idle" in run("sinfo", "-h", status=None, **self.settings).stdout)
 
     def start(self, *words):
@@ -98,12 +99,14 @@ class Slurm(FolderTest):
         self.skipTest("Slurm does not start here")
 
     def run_array(self, status, **settings):
-        run("sbatch", "--wait", "--array=1-4", "--mem-per-cpu=100M", f"--chdir={self.folder}", BATCH / "nets.sbatch", BATCH,
-            self.folder / "pieces", status=status, seconds=900, **self.settings, **settings)
+        run("sbatch", "--wait", "--array=1-4", "--mem-per-cpu=100M", f"--chdir={self.folder}",
+            BATCH / "nets.sbatch", BATCH, self.folder / "pieces", status=status, seconds=900,
+            **self.settings, **settings)
 
     @long_test
     def test_the_rows_of_one_run_and_a_failed_piece_done_again(self):
-        text, _ = text_of_odd_nets([TOP / "archives/common.archive", TOP / "archives/zeolites.archive"], COUNT, seed=12)
+        archives = [TOP / "archives/common.archive", TOP / "archives/zeolites.archive"]
+        text, _ = text_of_odd_nets(archives, COUNT, seed=12)
         pieces = self.folder / "pieces"
         run(BATCH / "split_nets", "--blocks", 400, "-", pieces, stdin=text.encode())
         failing = self.folder / "failing"

@@ -14,7 +14,8 @@ from .refusal import Unreadable
 
 # Left out where the other atoms make a net in space without them.
 COUNTER_IONS = frozenset("Na K Rb Cs Ca Sr Ba".split())
-KINDS = ("molecule", "rod", "layer", "net in space")
+KINDS = ("molecule", "rod", "layer", "net in space")  # by dimension
+COPIES = ("molecules", "rods", "layers", "interwoven nets")
 
 
 @dataclass(frozen=True)
@@ -55,7 +56,7 @@ def nets_of(crystal: Crystal, options: Options) -> tuple[list[NamedNet], list[st
         notes.append("bonds in doubt: " + shorten("; ".join(doubts)))
     periodic = [piece for piece in pieces if piece.dimension >= 2]
     if not periodic:
-        raise Unreadable("no net: " + _told_count(pieces))
+        raise Unreadable("no net: " + (_told_count(pieces) or "all atoms are left out"))
     groups = [[p] for p in periodic] if options.every_copy else _alike(periodic, crystal)
     nets = [_named(crystal, group, k, options) for k, group in enumerate(groups)]
     return nets, notes
@@ -81,10 +82,10 @@ def _told_counter(counter: Counter[str]) -> str:
 
 
 def _told_count(pieces: list[Component]) -> str:
+    """How many molecules, rods and single atoms there are."""
     kinds = Counter(KINDS[p.dimension] if len(p.net.names) > 1 or p.dimension else "single atom"
                     for p in pieces)
-    return ", ".join(f"{count} {kind}{'s' if count > 1 and kind != KINDS[3] else ''}"
-                     for kind, count in kinds.items())
+    return ", ".join(f"{count} {kind}{'s' if count > 1 else ''}" for kind, count in kinds.items())
 
 
 def _told_pieces(pieces: list[Component], element: dict[str, str]) -> list[str]:
@@ -103,6 +104,7 @@ def _alike(pieces: list[Component], crystal: Crystal) -> list[list[Component]]:
 
 
 def _named(crystal: Crystal, group: list[Component], k: int, options: Options) -> NamedNet:
+    """The first of a group of nets alike, simplified, with what must be told of it."""
     piece = group[0]
     name = crystal.name if k == 0 else f"{crystal.name} part {k + 1}"
     element = {atom.name: atom.site.element for atom in crystal.atoms}
@@ -111,8 +113,7 @@ def _named(crystal: Crystal, group: list[Component], k: int, options: Options) -
     simple = contracted(clustered(core, element) if options.clusters else core)
     count = len(group) * piece.copies
     if count > 1:
-        notes.append(f"{count} {KINDS[piece.dimension]}s alike in the cell, one is written"
-                     .replace("net in spaces", "interwoven nets"))
+        notes.append(f"{count} {COPIES[piece.dimension]} alike in the cell, one is written")
     if simple.doubled:
         notes.append(f"{simple.doubled} double edges made one")
     if simple.closed:

@@ -29,7 +29,7 @@ def words() -> argparse.Namespace:
         prog="cif2cgd", description=DESCRIPTION, epilog=EPILOG,
         formatter_class=argparse.RawDescriptionHelpFormatter)
     parser.add_argument("files", nargs="+", metavar="FILE", help="a CIF file, or - for standard input")
-    parser.add_argument("--leave-out", default="", metavar="ELEMENTS",
+    parser.add_argument("--leave-out", default=frozenset(), metavar="ELEMENTS", type=elements,
                         help="atoms of no concern, as Na,Cl")
     parser.add_argument("--bond", action="append", default=[], type=pair_and_length, metavar="A-B=LENGTH",
                         help="of these two elements, bonds up to the length and no others (0: none)")
@@ -49,16 +49,30 @@ def words() -> argparse.Namespace:
     return parser.parse_args()
 
 
+def elements(text: str) -> frozenset[str]:
+    found = frozenset(text.replace(",", " ").split())
+    unknown = sorted(word for word in found if not is_element(word))
+    if unknown or not found:
+        raise argparse.ArgumentTypeError(f"{text!r} is not as Na,Cl")
+    return found
+
+
+def is_element(word: str) -> bool:
+    """Whether it is the symbol of an element, as it is usually written."""
+    element = gemmi.Element(word)
+    return element.atomic_number > 0 and element.name == word
+
+
 def pair_and_length(text: str) -> tuple[frozenset[str], float]:
     found = re.fullmatch(r"([A-Z][a-z]?)-([A-Z][a-z]?)=([0-9]+\.?[0-9]*)", text)
-    if not found or float(found[3]) > 20:
+    if not found or not is_element(found[1]) or not is_element(found[2]) or float(found[3]) > 20:
         raise argparse.ArgumentTypeError(f"{text!r} is not as Ba-O=3.4")
     return frozenset(found.group(1, 2)), float(found[3])
 
 
 def options_of(asked: argparse.Namespace) -> Options:
     return Options(
-        leave_out=frozenset(asked.leave_out.replace(",", " ").split()), lengths=dict(asked.bond),
+        leave_out=asked.leave_out, lengths=dict(asked.bond),
         keep_ions=asked.keep_ions, hydrogen_bonds=asked.hydrogen_bonds,
         partial_as_full=asked.partial_as_full, accept_misfit=asked.accept_misfit,
         every_copy=asked.every_copy, clusters=asked.clusters)

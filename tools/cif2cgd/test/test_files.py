@@ -80,13 +80,18 @@ class Words(FolderTest):
         done = run(COMMAND, "--bond", "Cs-Cl=0", self.file, status=1)
         self.assertEqual(done.stderr, b"caesium chloride.cif: refused: no net: 2 single atoms\n")
 
+    def test_elements_left_out(self):
+        done = run(COMMAND, "--leave-out", "Cs,Cl", self.file, status=1)
+        self.assertEqual(done.stderr, b"caesium chloride.cif: refused: no net: all atoms are left out\n")
+
     def test_a_refused_file_does_not_hide_the_next(self):
         done = run(COMMAND, self.folder / "absent.cif", self.file, status=1)
         self.assertIn(b"absent.cif: refused: not readable: No such file or directory\n", done.stderr)
         self.assertEqual(done.stdout.count(b"PERIODIC_GRAPH"), 1)
 
     def test_words_without_a_form(self):
-        for words in ([], ["--bond", "Cs=3", self.file], ["--nonsense", self.file]):
+        for words in ([], ["--bond", "Cs=3", self.file], ["--bond", "Xx-O=3", self.file], ["--nonsense", self.file],
+                      ["--leave-out", "CS", self.file]):
             run(COMMAND, *words, status=2)
 
     def test_atoms_too_near_are_refused(self):

@@ -21,7 +21,9 @@ def picture(view: View, label: str) -> str:
 
 
 def number(x: float) -> str:
-    return f"{x:.1f}".rstrip("0").rstrip(".").replace("-0", "0") if abs(x) < 0.05 else f"{x:.1f}".removesuffix(".0")
+    """With one digit after the point, where it is not 0."""
+    text = f"{x:.1f}".removesuffix(".0")
+    return "0" if text == "-0" else text
 
 
 class Drawing:
@@ -42,7 +44,8 @@ class Drawing:
         self._vertices()
         self.parts.sort(key=lambda part: part[0])
         return (f'<svg xmlns="http://www.w3.org/2000/svg" viewBox="0 0 {SIZE} {SIZE}" role="img">'
-                f'<title>{html.escape(label)}</title><defs>{"".join(map(gradient, sorted(self.balls)))}</defs>'
+                f'<title>{html.escape(label)}</title>'
+                f'<defs>{"".join(map(gradient, sorted(self.balls)))}</defs>'
                 f'<rect width="{SIZE}" height="{SIZE}" fill="#fff"/>'
                 f'<g fill="none" stroke-linecap="round" stroke-width=".6">{"".join(p for _, p in self.parts)}</g>'
                 '<g font-family="Helvetica,Arial,sans-serif" font-size="13" font-style="italic" '
@@ -52,7 +55,8 @@ class Drawing:
     def _edges(self) -> None:
         points = self.lens.seen(self.window.spots)
         for i, j in self.window.whole:
-            self._line(self._surface(points[i], points[j]), self._surface(points[j], points[i]), EDGE, self.width)
+            p, q = points[i], points[j]
+            self._line(self._surface(p, q), self._surface(q, p), EDGE, self.width)
         for i, vector in self.window.leaving:
             end = self.lens.seen(self.window.spots[i] + STUB[self.shape.dimension] * vector)[0]
             self._line(self._surface(points[i], end), end, LEAVING, self.width * 0.8)

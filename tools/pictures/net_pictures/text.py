@@ -35,8 +35,11 @@ def printable(text: bytes | str) -> str:
     """A name as XML may have it: bytes that are no UTF-8, and control bytes, become a mark."""
     if isinstance(text, bytes):
         text = text.decode(errors="replace")
-    return "".join(c if c >= " " and c != "\x7f" and not 0xD800 <= ord(c) <= 0xDFFF and ord(c) not in (0xFFFE, 0xFFFF)
-                   else "\ufffd" for c in text)
+    return "".join("\ufffd" if is_no_xml(c) else c for c in text)
+
+
+def is_no_xml(c: str) -> bool:
+    return c < " " or c == "\x7f" or 0xD800 <= ord(c) <= 0xDFFF or ord(c) in (0xFFFE, 0xFFFF)
 
 
 def label_of(report) -> str:

@@ -22,8 +22,10 @@ from net_text import nets_of_report  # noqa: E402
 
 DRAW = TOOLS / "pictures/draw_nets"
 COMMON = TOP / "archives/common.cgd"
+ARCHIVE = TOP / "archives/common.archive"
 ZEOLITES = TOP / "archives/zeolites.archive"
-HOSTILE = ['</script><b>', "a]]>&amp;\\u003c", "\r\x0b", "@NETS@ @TITLE@", "'; alert(1); '", "\xff\ufffe", "../../x", ""]
+HOSTILE = ['</script><b>', "a]]>&amp;\\u003c", "\r\x0b", "@NETS@ @TITLE@", "'; alert(1); '", "\xff\ufffe",
+           "../../x", ""]
 
 # Run in the page: opens a card, turns and enlarges it, looks for a name, and puts what it saw in the title.
 VISIT = """<script>
@@ -73,10 +75,11 @@ class Geometry(FolderTest):
         self.assertLess(max(placed_net(net).worst_mean() for net in self.reports.values()), 1e-9)
 
     def test_systems_and_orders_that_are_known(self):
-        wanted = {"sql": ("square", 8, 1), "hcb": ("hexagonal", 12, 1), "cem": ("rectangular", 4, 1), "pcu": ("cubic", 48, 1),
-                  "dia": ("cubic", 48, 1), "srs": ("cubic", 24, 1), "lon": ("hexagonal", 24, 1), "qtz": ("hexagonal", 12, 1),
-                  "rtl": ("tetragonal", 16, 2), "cds": ("tetragonal", 16, 1), "ant": ("tetragonal", 16, 2),
-                  "brookite": ("orthorhombic", 8, 3), "mcm": ("square", 8, 2), "flu": ("cubic", 48, 2)}
+        wanted = {"sql": ("square", 8, 1), "hcb": ("hexagonal", 12, 1), "cem": ("rectangular", 4, 1),
+                  "mcm": ("square", 8, 2), "pcu": ("cubic", 48, 1), "dia": ("cubic", 48, 1),
+                  "srs": ("cubic", 24, 1), "flu": ("cubic", 48, 2), "lon": ("hexagonal", 24, 1),
+                  "qtz": ("hexagonal", 12, 1), "rtl": ("tetragonal", 16, 2), "cds": ("tetragonal", 16, 1),
+                  "ant": ("tetragonal", 16, 2), "brookite": ("orthorhombic", 8, 3)}
         shapes = {symbol: Shape(placed_net(self.reports[symbol])) for symbol in wanted}
         self.assertEqual({s: (shape.system, shape.order, shape.kinds) for s, shape in shapes.items()}, wanted)
 
@@ -91,7 +94,7 @@ class Geometry(FolderTest):
 
     def test_the_shape_does_not_depend_on_the_cell(self):
         chance = random.Random(3)
-        nets = {name: edges for name, edges in edges_of_archive(TOP / "archives/common.archive").items() if len(edges) < 20}
+        nets = {name: edges for name, edges in edges_of_archive(ARCHIVE).items() if len(edges) < 20}
         file = self.folder / "odd.cgd"
         file.write_text("".join(block(name, in_odd_cell(edges, chance)) for name, edges in nets.items()))
         for net in reports_on(file):
@@ -107,7 +110,7 @@ class Files(FolderTest):
     @classmethod
     def setUpClass(cls):
         need_program()
-        cls.report = run(PROGRAM, "identify", TOP / "examples/mystery.cgd", "--archive", TOP / "archives/common.archive").stdout
+        cls.report = run(PROGRAM, "identify", TOP / "examples/mystery.cgd", "--archive", ARCHIVE).stdout
 
     def draw(self, *words, report=None, status=0):
         return run(DRAW, *words, stdin=self.report if report is None else report, status=status)
@@ -137,19 +140,20 @@ class Files(FolderTest):
             self.assertEqual(parts_of(drawn), parts_of(file), file.name)
 
     def test_names_of_any_bytes(self):
-        blocks = "".join(f'PERIODIC_GRAPH\nNAME "{name}"\nEDGES\n"a b" "a b" 1 0\n"a b" "a b" 0 1\nEND\n' for name in HOSTILE)
-        report = run(PROGRAM, "identify", "-", stdin=blocks.encode("utf-8", "surrogatepass") +
-                     b'PERIODIC_GRAPH\nNAME "\xff\x80"\nEDGES\n1 1 1 0\n1 1 0 1\nEND\n').stdout
+        names = [name.encode() for name in HOSTILE] + [b"\xff\x80"]
+        blocks = b"".join(b'PERIODIC_GRAPH\nNAME "%s"\nEDGES\n"a b" "a b" 1 0\n"a b" "a b" 0 1\nEND\n' % name
+                          for name in names)
+        report = run(PROGRAM, "identify", "-", stdin=blocks).stdout
         page = self.folder / "page.html"
         self.draw("--svg", self.folder / "svg", "--page", page, "--title", "</title>", report=report)
         for file in (self.folder / "svg").iterdir():
             ElementTree.parse(file)
-        self.assertEqual(len(list((self.folder / "svg").iterdir())), len(HOSTILE) + 1)
+        self.assertEqual(len(list((self.folder / "svg").iterdir())), len(names))
         text = page.read_text()
         self.assertEqual(text.count("</script>"), 1)
         self.assertEqual(text.count("</title>"), 1)
         nets = json.loads(re.search(r"(?m)^const nets = (.*);$", text)[1])
-        self.assertEqual(len(nets), len(HOSTILE) + 1)
+        self.assertEqual(len(nets), len(names))
 
     def test_nets_without_a_key_are_told(self):
         refused = run(PROGRAM, "identify", TOP / "examples/interwoven.cgd", status=1).stdout
@@ -170,9 +174,10 @@ class Files(FolderTest):
 
     def test_gallery_in_a_browser(self):
         need_commands("chromium")
-        run(TOOLS / "pictures/net_gallery", self.folder, TOP / "archives/common.archive")
+        run(TOOLS / "pictures/net_gallery", self.folder, ARCHIVE)
         page = self.folder / "common.html"
-        text = page.read_text().replace('"use strict";', 'let failed = "";\nwindow.onerror = told => { failed = told; };', 1)
+        heard = 'let failed = "";\nwindow.onerror = told => { failed = told; };'
+        text = page.read_text().replace('"use strict";', heard, 1)
         page.write_text(text.replace("</html>", VISIT))
         title = self.title_in_browser(page)
         self.assertEqual(title, "cards 150 painted true shown 1")
