@@ -48,7 +48,7 @@ def need_program() -> None:
 long_test = unittest.skipUnless(IS_LONG, "long tests are run by tools/test --long")
 
 
-def run(*words: object, status: int | None = 0, stdin: bytes = b"", seconds: int = 120,
+def run(*words: object, status: int | None = 0, stdin: bytes = b"", seconds: int = 300,
         **settings: str) -> subprocess.CompletedProcess:
     """Runs a command; where it does not end with the status, the test fails with what it told."""
     done = subprocess.run([str(word) for word in words], input=stdin, capture_output=True, timeout=seconds,

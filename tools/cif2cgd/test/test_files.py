@@ -100,7 +100,8 @@ class Words(FolderTest):
 
     def test_the_other_origin_is_found(self):
         text = presentations(next(s for s in STRUCTURES if s.name == "cuprite"))["name"]
-        self.file.write_text(text.replace("0.250000 0.250000 0.250000", "0.000000 0.000000 0.000000")
+        self.file.write_text(text
+                             .replace("0.250000 0.250000 0.250000", "0.000000 0.000000 0.000000")
                              .replace("Cu1 Cu 0.000000 0.000000 0.000000", "Cu1 Cu 0.250000 0.250000 0.250000")
                              .replace("data_global", "data_global\n_chemical_formula_sum 'Cu2 O'"))
         done = run(COMMAND, self.file)
@@ -146,12 +147,13 @@ class RealFiles(FolderTest):
 
 class OtherFiles(FolderTest):
     def test_other_formats_end_in_a_reason(self):
-        contents = [b"", b"\n", b"\0" * 1000, bytes(range(256)) * 20, b"\x7fELF\x02\x01", b"data_", b"data_a\nloop_\n",
-                    b"#!/bin/sh\necho\n", b"<xml/>", b'{"a": 1}', b"ATOM      1  N   ALA A   1      11.104",
-                    b"PERIODIC_GRAPH\nEDGES\n1 1 1 0\n1 1 0 1\nEND\n", b"\xff\xfe" + "data_x".encode("utf-16-le"),
-                    CAESIUM_CHLORIDE.replace("4.12", "1e300").encode(), CAESIUM_CHLORIDE.replace("4.12", "nan").encode(),
-                    CAESIUM_CHLORIDE.replace("0.5", "1e30").encode(), CAESIUM_CHLORIDE.replace("90", "0.001").encode(),
+        contents = [b"", b"\n", b"\0" * 1000, bytes(range(256)) * 20, b"\x7fELF\x02\x01", b"data_",
+                    b"data_a\nloop_\n", b"#!/bin/sh\necho\n", b"<xml/>", b'{"a": 1}',
+                    b"ATOM      1  N   ALA A   1      11.104", b"PERIODIC_GRAPH\nEDGES\n1 1 1 0\n1 1 0 1\nEND\n",
+                    b"\xff\xfe" + "data_x".encode("utf-16-le"),
                     CAESIUM_CHLORIDE.replace("Cl1 0.5 0.5 0.5\n", "").replace("Cs1 0 0 0", "").encode()]
+        for number, other in (("4.12", "1e300"), ("4.12", "nan"), ("0.5", "1e30"), ("90", "0.001")):
+            contents.append(CAESIUM_CHLORIDE.replace(number, other).encode())
         files = [self.folder / f"{k}.cif" for k in range(len(contents))]
         for file, content in zip(files, contents):
             file.write_bytes(content)
