@@ -1,0 +1,139 @@
+"""The archives: that they are archives, that they come from their sources, and that the nets have
+the coordination sequences that they are known by."""
+
+import re
+import shutil
+import sys
+
+from testing import PROGRAM, TOOLS, TOP, FolderTest, need_modules, need_program, run
+
+sys.path.insert(0, str(TOOLS / "batch"))
+from net_text import nets_of_report  # noqa: E402
+
+ARCHIVES = TOP / "archives"
+SHELLS = 10
+SAME_NETS = {("sra, aluminium in strontium dialuminide", "ABW, zeolite Li-A of Barrer and White")}
+
+
+class Common(FolderTest):
+    @classmethod
+    def setUpClass(cls):
+        need_program()
+        report = run(PROGRAM, "identify", ARCHIVES / "common.cgd", "--archive", ARCHIVES / "common.archive").stdout
+        cls.nets = list(nets_of_report(report.splitlines(keepends=True)))
+        cls.symbol = {net.name.decode().split(",")[0]: net for net in cls.nets}
+
+    def test_each_net_has_its_name_in_the_archive(self):
+        for net in self.nets:
+            self.assertIn(net.name, net.names)
+
+    def test_nets_are_different(self):
+        groups = run(PROGRAM, "duplicates", "--archive", ARCHIVES / "common.archive").stdout.decode()
+        found = {tuple(re.findall(r'"([^"]*)"', line)) for line in groups.splitlines()[1:]}
+        self.assertEqual(found, SAME_NETS)
+
+    def test_known_sequences(self):
+        for line in (ARCHIVES / "sequences.tsv").read_text().splitlines():
+            symbol, *sequences = line.split("\t")
+            wanted = {tuple(map(int, sequence.split())) for sequence in sequences}
+            self.assertEqual({tuple(shell) for shell in self.symbol[symbol].shells}, wanted, symbol)
+
+    def test_prisms_have_the_sums_of_their_layers(self):
+        for name, symbol in [("kag", "kgm")] + [(f"prisms of {s}", s) for s in ("fes", "hca", "tts", "fsz")]:
+            layer = [1, *self.symbol[symbol].shells[0]]
+            sums = [layer[n] + 2 * sum(layer[:n]) for n in range(1, 11)]
+            self.assertEqual(self.symbol[name].shells[0], sums, name)
+
+    def test_sequences_counted_another_way(self):
+        for net, edges in zip(self.nets, nets_of_source(ARCHIVES / "common.cgd")):
+            told = {tuple(shell[:SHELLS]) for shell in net.shells}
+            self.assertEqual(counted_shells(edges), told, net.name)
+
+
+class Zeolites(FolderTest):
+    def setUp(self):
+        super().setUp()
+        need_program()
+
+    def test_each_code_is_its_own_net(self):
+        told = run(PROGRAM, "duplicates", "--archive", ARCHIVES / "zeolites.archive").stdout
+        self.assertEqual(told, b"entries 189\n")
+
+    def test_what_is_left_out_is_listed(self):
+        codes = re.findall(r'NAME "(\w+)"', (ARCHIVES / "zeolites.cgd").read_text())
+        entries = re.findall(r'(?m)^entry "(\w+)"', (ARCHIVES / "zeolites.archive").read_text())
+        refused = re.findall(r'(?m)^line \d+ "(\w+)": refused', (ARCHIVES / "zeolites.refused").read_text())
+        self.assertEqual(sorted(codes), sorted(entries + refused))
+
+    def test_the_two_archives_agree(self):
+        report = run(PROGRAM, "identify", ARCHIVES / "common.cgd", "--archive", ARCHIVES / "zeolites.archive").stdout
+        others = {b"sod": b"SOD", b"crb": b"BCT", b"sra": b"ABW", b"sod-a": b"RWY", b"pcb": b"ACO"}
+        for net in nets_of_report(report.splitlines(keepends=True)):
+            symbol = net.name.split(b",")[0]
+            if net.names or symbol.isupper():
+                self.assertEqual(net.names, [others.get(symbol, symbol)])
+
+
+class Recipes(FolderTest):
+    def test_archives_come_from_their_sources(self):
+        need_program()
+        for part in ("archives", "tools/batch"):
+            shutil.copytree(TOP / part, self.folder / part)
+        run(self.folder / "archives/make", PROGRAM)
+        for name in ("common.archive", "zeolites.archive", "zeolites.refused"):
+            self.assertEqual((self.folder / "archives" / name).read_bytes(), (ARCHIVES / name).read_bytes(), name)
+
+    def test_edges_of_nets_that_are_known(self):
+        need_program()
+        need_modules("numpy", "gemmi")
+        sys.path.insert(0, str(ARCHIVES))
+        from write_nets import nets_by_hand, of_edges, text_of
+        wanted = {"dia": "crs", "srs": "lcv", "pcu": "reo", "hcb": "kgm", "nbo": "sod"}
+        nets = "".join(text_of(symbol, of_edges(nets_by_hand()[symbol])) for symbol in wanted)
+        report = run(PROGRAM, "identify", "-", "--archive", ARCHIVES / "common.archive", stdin=nets.encode()).stdout
+        found = {net.name.decode(): net.names[0].decode().split(",")[0]
+                 for net in nets_of_report(report.splitlines(keepends=True))}
+        self.assertEqual(found, wanted)
+
+    def test_recipes_give_the_nets_of_the_source(self):
+        need_modules("numpy", "gemmi")
+        text = run(ARCHIVES / "write_nets.py").stdout
+        self.assertTrue((ARCHIVES / "common.cgd").read_bytes().endswith(text))
+
+
+def nets_of_source(file):
+    """The edges of each block, read without the program."""
+    edges, numbers = [], {}
+    for line in file.read_text().splitlines():
+        words = re.findall(r'"[^"]*"|[^\s"#]+', line.split("#")[0])
+        if words and words[0].upper() == "END":
+            yield edges
+            edges, numbers = [], {}
+        elif words and words[0].upper() in ("EDGES", "EDGE", "BONDS", "BOND"):
+            words = words[1:]
+        if len(words) > 3:
+            u, v = (numbers.setdefault(vertex, len(numbers)) for vertex in words[:2])
+            edges.append((u, v, tuple(map(int, words[2:]))))
+
+
+def counted_shells(edges) -> set[tuple[int, ...]]:
+    """The shells of all vertices of the cell, counted in the infinite net. A vertex is one number:
+    a cell's parts in base 4096, and then its number in the cell."""
+    count = 1 + max(max(u, v) for u, v, _ in edges)
+
+    def step(shift):
+        return sum(part * 4096 ** k for k, part in enumerate(shift)) * count
+
+    arcs = [set() for _ in range(count)]
+    for u, v, shift in edges:
+        arcs[u].add(step(shift) + v - u)
+        arcs[v].add(u - v - step(shift))
+    found = set()
+    for start in range(count):
+        before, shell, sizes = set(), {start}, []
+        for _ in range(SHELLS):
+            following = {at + arc for at in shell for arc in arcs[at % count]} - shell - before
+            before, shell = shell, following
+            sizes.append(len(shell))
+        found.add(tuple(sizes))
+    return found

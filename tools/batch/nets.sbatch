@@ -1,0 +1,18 @@
+#!/bin/sh
+#SBATCH --job-name=nets
+#SBATCH --cpus-per-task=1
+#SBATCH --mem-per-cpu=500M
+#SBATCH --time=4:00:00
+#SBATCH --output=nets-%A_%a.log
+# The rows of all pieces of a folder, as a Slurm array:
+#   sbatch --array=1-16 nets.sbatch TOOLS FOLDER [COMMAND [ARCHIVE]]
+# TOOLS is the folder of key_piece, given since Slurm runs a copy of this script. Of 16 tasks each takes every 16th
+# piece: starting a task costs Slurm about as long as a piece takes. Where a task failed, the same command again does
+# what is missing and nothing else.
+set -eu
+tools=$1 folder=$2
+shift 2
+total=$(wc -l <"$folder/index.tsv")
+for piece in $(seq "$SLURM_ARRAY_TASK_ID" "$SLURM_ARRAY_TASK_COUNT" "$total"); do
+    "$tools/key_piece" "$folder" "$piece" "$@"
+done

@@ -1,0 +1,236 @@
+"""Many nets in odd cells: cut, keyed in pieces, named and grouped, as if they were one file."""
+
+import json
+import os
+import signal
+import subprocess
+from collections import defaultdict
+
+from odd_cells import text_of_odd_nets
+from testing import IS_LONG, PROGRAM, TOOLS, TOP, FolderTest, need_commands, need_program, run
+
+BATCH = TOOLS / "batch"
+ARCHIVE = TOP / "archives/common.archive"
+COUNT = 10_000 if IS_LONG else 600
+SRA = "sra, aluminium in strontium dialuminide"
+SAME = {"SOD": "sod", "BCT": "crb", "RWY": "sod-a", "ACO": "pcb", SRA: "ABW"}  # two names of one net
+
+# what a reader of blocks may not stumble over
+ODD_TEXT = b"""# before
+END
+ end of nothing
+PERIODIC_GRAPH
+NAME "one \xff END"
+EDGES
+"END" "END" 1 0
+"END" "END" 0 1
+# END
+endless
+END more
+CRYSTAL
+ GROUP P1
+END
+\tperiodic_graph
+Id "a;b\\c"
+bonds 1 1 1 0
+1 1 0 1
+end#x
+"PERIODIC_GRAPH"
+END
+\x00
+EN
+END
+PERIODIC_GRAPH
+EDGES
+1 1 1 0
+1 1 0 1"""
+
+
+def fields(rows: bytes) -> list[list[bytes]]:
+    return [row.split(b"\t") for row in rows.splitlines()]
+
+
+class Texts(FolderTest):
+    def setUp(self):
+        super().setUp()
+        need_program()
+        self.file = self.folder / "odd.cgd"
+        self.file.write_bytes(ODD_TEXT)
+
+    def split(self, folder, *words):
+        run(BATCH / "split_nets", *words, self.file, self.folder / folder)
+        return [row.split("\t") for row in (self.folder / folder / "index.tsv").read_text().splitlines()]
+
+    def rows(self, folder, index):
+        """The rows of all pieces of a folder."""
+        for k in range(len(index)):
+            run(BATCH / "key_piece", self.folder / folder, k + 1)
+        return b"".join((self.folder / folder / (row[0] + ".rows")).read_bytes() for row in index)
+
+    def whole(self):
+        report = run(PROGRAM, "key", self.file, status=1).stdout
+        return run(BATCH / "net_rows", stdin=report).stdout
+
+    def test_pieces_of_each_size_tell_what_the_whole_tells(self):
+        whole = self.whole()
+        self.assertEqual([row[2] for row in fields(whole)], [b"one \xff END", b"", b"a\\;b\\\\c", b"", b"", b""])
+        self.assertEqual([row[3] for row in fields(whole)], [b"malformed 4 UnknownField", b"unsupported", b"accepted",
+                                                             b"unsupported", b"unsupported", b"malformed 11 NoEnd"])
+        for blocks in range(1, 8):
+            index = self.split(str(blocks), "--blocks", blocks)
+            self.assertEqual(self.rows(str(blocks), index), whole)
+            joined = b"".join((self.folder / str(blocks) / row[0]).read_bytes() for row in index)
+            self.assertEqual(joined, ODD_TEXT)
+            self.assertEqual([int(row[1]) for row in index], [k * blocks for k in range(len(index))])
+
+    def test_pieces_within_a_size(self):
+        index = self.split("small", "--bytes", 130)
+        self.assertLessEqual(max((self.folder / "small" / row[0]).stat().st_size for row in index), 130)
+        self.assertEqual(self.rows("small", index), self.whole())
+
+    def test_a_block_that_is_too_long_is_told(self):
+        done = run(BATCH / "split_nets", "--bytes", 20, self.file, self.folder / "tiny", status=1)
+        self.assertIn(b"the block at line 4 has", done.stderr)
+
+    def test_nothing_is_written_over(self):
+        self.split("twice")
+        run(BATCH / "split_nets", self.file, self.folder / "twice", status=1)
+
+    def test_words_without_a_form(self):
+        for words in ([], ["--blocks", "0", "x", "y"], ["--blocks", "4097", "x", "y"], ["--bytes", "x", "x", "y"]):
+            run(BATCH / "split_nets", *words, status=2)
+
+    def test_accepted_blocks(self):
+        report = self.folder / "report"
+        report.write_bytes(run(PROGRAM, "key", self.file, status=1).stdout)
+        done = run(BATCH / "accepted_nets", report, self.file)
+        self.assertEqual(done.stdout, b"\tperiodic_graph\nId \"a;b\\c\"\nbonds 1 1 1 0\n1 1 0 1\nend#x\n")
+        self.assertEqual(done.stderr.count(b"\n"), 5)
+        run(PROGRAM, "add", "-", stdin=done.stdout)
+        self.file.write_bytes(b"\n" + ODD_TEXT)
+        run(BATCH / "accepted_nets", report, self.file, status=1)
+
+    def test_json_has_what_the_rows_have(self):
+        report = run(PROGRAM, "identify", TOP / "examples/mystery.cgd", "--archive", ARCHIVE).stdout
+        rows = fields(run(BATCH / "net_rows", stdin=report).stdout)
+        objects = [json.loads(line) for line in run(BATCH / "net_rows", "--json", stdin=report).stdout.splitlines()]
+        self.assertEqual(len(objects), 8)
+        for row, told in zip(rows, objects):
+            self.assertEqual([str(told[name]) for name in ("number", "line", "name", "outcome", "vertices", "key")],
+                             [row[k].decode() for k in (0, 1, 2, 3, 5, 9)])
+            self.assertEqual(";".join(told["names"]), row[11].decode())
+
+    def test_what_is_no_report(self):
+        run(BATCH / "net_rows", stdin=b"usage: net_tool\n", status=1)
+
+
+class Many(FolderTest):
+    """The nets of both archives in odd cells."""
+
+    @classmethod
+    def setUpClass(cls):
+        need_program()
+        archives = [ARCHIVE, TOP / "archives/zeolites.archive"]
+        text, cls.truth = text_of_odd_nets(archives, COUNT, seed=11)
+        cls.text = text.encode()
+        cls.names = [line[7:-2] for line in ARCHIVE.open() if line.startswith("entry ")]
+
+    def setUp(self):
+        super().setUp()
+        run(BATCH / "split_nets", "--blocks", max(50, COUNT // 40), "-", self.folder / "pieces", stdin=self.text)
+        self.index = (self.folder / "pieces/index.tsv").read_text().splitlines()
+        self.all_rows = self.folder / "all.rows"
+
+    def net(self, number: bytes) -> str:
+        """Of nets with two names one of them: that of the archive of common nets."""
+        name = SAME.get(self.truth[int(number) - 1], self.truth[int(number) - 1])
+        return next((common for common in self.names if common.startswith(name + ",")), name)
+
+    def join_rows(self):
+        names = [line.split("\t")[0] for line in self.index]
+        self.all_rows.write_bytes(b"".join((self.folder / "pieces" / f"{name}.rows").read_bytes() for name in names))
+
+    def check_rows(self):
+        """The rows are those of one net after the other, and the groups are the truth."""
+        self.join_rows()
+        rows = fields(self.all_rows.read_bytes())
+        self.assertEqual([row[0] for row in rows], [b"%d" % (k + 1) for k in range(COUNT)])
+        self.assertEqual([row[2] for row in rows], [row[0] for row in rows])
+        openings = [k + 1 for k, line in enumerate(self.text.split(b"\n")) if line == b"PERIODIC_GRAPH"]
+        self.assertEqual([int(row[1]) for row in rows], openings)
+        accepted = [row for row in rows if row[9]]
+        self.assertGreater(len(accepted), 0.99 * COUNT)
+        wanted = defaultdict(list)
+        for row in accepted:
+            wanted[self.net(row[0])].append(row[0])
+        groups = fields(run(BATCH / "net_groups", self.all_rows).stdout)
+        self.assertEqual(sorted(row[1::2] for row in groups), sorted(g for g in wanted.values() if len(g) > 1))
+        return accepted
+
+    def test_keyed_by_gnu_parallel(self):
+        need_commands("parallel")
+        self.parallel()
+        accepted = self.check_rows()
+        one_run = b""
+        for line in self.index:
+            piece = self.folder / "pieces" / line.split("\t")[0]
+            one_run += run(PROGRAM, "key", piece, status=None).stdout
+        self.assertEqual([row[9] for row in fields(run(BATCH / "net_rows", stdin=one_run).stdout)],
+                         [row[9] for row in fields(self.all_rows.read_bytes())])
+        self.check_names(accepted)
+        self.one_piece_alone()
+
+    def parallel(self):
+        numbers = "".join(f"{k + 1}\n" for k in range(len(self.index)))
+        run("parallel", "--will-cite", "--halt", "soon,fail=1", "-j2", BATCH / "key_piece", self.folder / "pieces",
+            stdin=numbers.encode(), seconds=900, HOME=str(self.folder), TMPDIR=str(self.folder))
+
+    def check_names(self, accepted):
+        told = fields(run(BATCH / "net_names", ARCHIVE, self.all_rows).stdout)
+        found = {(number, name.decode()) for number, _, name in told}
+        nets = [(row[0], self.net(row[0])) for row in accepted]
+        wanted = {(number, name) for number, name in nets if name in self.names}
+        self.assertEqual(found, wanted | {(number, SRA) for number, name in wanted if name.startswith("ABW,")})
+
+    def one_piece_alone(self):
+        """A piece whose rows are missing is done again, and no other."""
+        pieces = self.folder / "pieces"
+        times = {file: file.stat().st_mtime_ns for file in pieces.glob("*.rows")}
+        lost = sorted(times)[1]
+        content = lost.read_bytes()
+        lost.unlink()
+        self.parallel()
+        self.assertEqual(lost.read_bytes(), content)
+        self.assertEqual({file for file in times if file.stat().st_mtime_ns != times[file]}, {lost})
+        self.assertEqual(sorted(file.suffix for file in pieces.iterdir()).count(".rows"), len(self.index))
+        self.assertEqual(len(list(pieces.iterdir())), 2 * len(self.index) + 1)
+
+    def test_a_failure_leaves_no_rows(self):
+        failing = self.folder / "failing"
+        failing.write_text("#!/bin/sh\necho half a report\nexit 7\n")
+        failing.chmod(0o755)
+        done = run(BATCH / "key_piece", self.folder / "pieces", 1, NET_TOOL=str(failing), status=7)
+        self.assertIn(b"net_tool ended with 7", done.stderr)
+        self.assertEqual(list((self.folder / "pieces").glob("*.r*")), [])
+
+    def test_an_interrupted_piece_leaves_nothing(self):
+        waiting = self.folder / "waiting"
+        waiting.write_text(f"#!/bin/sh\ntouch '{self.folder}/begun'\nexec sleep 60\n")
+        waiting.chmod(0o755)
+        child = subprocess.Popen([BATCH / "key_piece", self.folder / "pieces", "1"], start_new_session=True,
+                                 env={**os.environ, "NET_TOOL": str(waiting)}, stderr=subprocess.DEVNULL)
+        try:
+            for _ in range(200):
+                if (self.folder / "begun").exists():
+                    break
+                try:
+                    child.wait(0.05)
+                except subprocess.TimeoutExpired:
+                    pass
+            os.killpg(child.pid, signal.SIGTERM)
+            self.assertNotEqual(child.wait(20), 0)
+        finally:
+            if child.poll() is None:
+                os.killpg(child.pid, signal.SIGKILL)
+                child.wait()
+        self.assertEqual(list((self.folder / "pieces").glob("*.r*")), [])

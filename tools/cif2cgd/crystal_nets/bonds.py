@@ -1,0 +1,140 @@
+"""Which atoms of a crystal are joined, and across which cells."""
+
+from __future__ import annotations
+
+from collections import Counter
+
+from .contacts import TOO_NEAR, Contact, radius
+from .hydrogen import hydrogen_bridges, ice_bonds
+from .net import Edge
+from .crystal import Crystal
+from .elements import is_metal, is_water
+
+Lengths = dict[frozenset[str], float]  # of a pair of elements, the longest bond in angstrom
+
+COVALENT = 0.30   # angstrom above the sum of the radii: the longest bond of two nonmetals
+POLAR = 0.50      # the same for a metal and a nonmetal
+STRETCHED = 0.80  # the same where it is among the shortest of the atom
+NEARLY = 1.10     # times the shortest from the same atom to the same element
+CLOSE = 0.05      # from one of these bounds, or less: told as a doubt
+SHELL_GAP = 1.13  # times the length before: the step that ends the shell of a metal
+SHELL_CLOSE = 0.02  # from that step, or less: told as a doubt
+
+
+def find_bonds(crystal: Crystal, hydrogen_bonds: bool, lengths: Lengths, doubts: list[str]) -> set[Edge]:
+    """The bonds by the rule that fits the elements of the crystal, but of the pairs that have
+    a length, all up to it; lengths that are close to a bound are told as doubts."""
+    elements = {atom.site.element for atom in crystal.atoms}
+    if elements == {"O", "H"} or (elements == {"O"} and is_water(crystal.atoms[0].site.label)):
+        bonds = ice_bonds(crystal)
+    elif len(elements) == 1 or all(map(is_metal, elements)):
+        bonds = shell_bonds(crystal, doubts)
+    else:
+        bonds = radius_bonds(crystal, doubts)
+        bonds |= hydrogen_bridges(crystal) if hydrogen_bonds else set()
+    return with_lengths(crystal, bonds, lengths) if lengths else bonds
+
+
+def with_lengths(crystal: Crystal, bonds: set[Edge], lengths: Lengths) -> set[Edge]:
+    """The bonds, but of the pairs that have a length, all contacts up to it."""
+    def pair(u: int, v: int) -> frozenset[str]:
+        return frozenset((crystal.atoms[u].site.element, crystal.atoms[v].site.element))
+
+    near = crystal.contacts(max(lengths.values()) + 0.001)
+    return ({(u, v, shift) for u, v, shift in bonds if pair(u, v) not in lengths}
+            | {c.edge() for c in near if c.length <= lengths.get(pair(c.first, c.second), 0.0)})
+
+
+def shell_bonds(crystal: Crystal, doubts: list[str]) -> set[Edge]:
+    """Each atom and its nearest shell, up to the first gap in the distances."""
+    bonds, close = set(), set()
+    for near in _contacts_by_atom(crystal):
+        lengths = [c.length for c in near]
+        end = first_gap(lengths)
+        bonds |= {c.edge() for c in near[:end]}
+        close |= {f"{end} neighbours up to {lengths[end - 1]:.2f}, {other} up to {lengths[other - 1]:.2f}"
+                  for other in {first_gap(lengths, -SHELL_CLOSE), first_gap(lengths, SHELL_CLOSE)} - {end}}
+    doubts += sorted(close)
+    return bonds
+
+
+def _contacts_by_atom(crystal: Crystal) -> list[list[Contact]]:
+    """Of each atom its contacts by length, up to 1.6 times its nearest at least."""
+    reach = 3.0
+    while True:
+        by_atom: list[list[Contact]] = [[] for _ in crystal.atoms]
+        for contact in crystal.contacts(reach):
+            by_atom[contact.first].append(contact)
+        for near in by_atom:
+            near.sort(key=lambda c: c.length)
+        if all(near and 1.6 * near[0].length <= reach for near in by_atom):
+            return by_atom
+        reach *= 1.5
+
+
+def first_gap(lengths: list[float], more: float = 0.0) -> int:
+    """How many of the rising lengths stand before the first great step."""
+    steps = range(1, len(lengths))
+    return next((k for k in steps if lengths[k] > (SHELL_GAP + more) * lengths[k - 1]), len(lengths))
+
+
+def radius_bonds(crystal: Crystal, doubts: list[str]) -> set[Edge]:
+    """Bonds by the sums of covalent radii: nonmetal to nonmetal, and metal to nonmetal."""
+    elements = [atom.site.element for atom in crystal.atoms]
+    excess = {c: c.length - radius(elements[c.first]) - radius(elements[c.second])
+              for c in crystal.contacts(_reach(set(elements)))
+              if c.length > TOO_NEAR * (radius(elements[c.first]) + radius(elements[c.second]))}
+    covalent = [c for c, more in excess.items()
+                if more <= COVALENT and _are_covalent(elements[c.first], elements[c.second])]
+    closed = _anion_centres(covalent, elements) | _bound_hydrogens(covalent, elements)
+    polar = [c for c in excess if is_metal(elements[c.first]) != is_metal(elements[c.second])
+             and c.first not in closed and c.second not in closed]
+    shortest = _shortest(polar, elements)
+    ratio = {c: c.length / shortest[c.first, elements[c.second]] for c in polar}
+    taken = [c for c in polar if _is_taken(excess[c], ratio[c])]
+    edges = {c.edge() for c in covalent + taken}
+    close = {f"{elements[c.first]}-{elements[c.second]} {c.length:.2f} "
+             + ("taken" if c.edge() in edges else "left out")
+             for c in polar if is_metal(elements[c.first]) and _is_close(excess[c], ratio[c])}
+    doubts += sorted(close)
+    return edges
+
+
+def _is_taken(excess: float, ratio: float) -> bool:
+    return excess <= POLAR or (excess <= STRETCHED and ratio <= NEARLY)
+
+
+def _is_close(excess: float, ratio: float) -> bool:
+    """Whether a bound that is a little tighter or looser would judge otherwise."""
+    return _is_taken(excess + CLOSE, ratio + CLOSE) != _is_taken(excess - CLOSE, ratio - CLOSE)
+
+
+def _reach(elements: set[str]) -> float:
+    """How long a bond between two of the elements may be."""
+    metals = [radius(e) for e in elements if is_metal(e)]
+    others = [radius(e) for e in elements if not is_metal(e)]
+    return max(max(metals, default=0.0) + max(others) + STRETCHED, 2 * max(others) + COVALENT)
+
+
+def _are_covalent(one: str, other: str) -> bool:
+    return not is_metal(one) and not is_metal(other) and not one == other == "H"
+
+
+def _anion_centres(covalent: list[Contact], elements: list[str]) -> set[int]:
+    """Nonmetals with two or more oxygens or fluorines, as S in a sulfate: no metal is joined."""
+    count = Counter(c.first for c in covalent
+                    if elements[c.second] in ("O", "F") and elements[c.first] not in ("O", "F"))
+    return {atom for atom, number in count.items() if number > 1}
+
+
+def _bound_hydrogens(covalent: list[Contact], elements: list[str]) -> set[int]:
+    return {c.first for c in covalent if elements[c.first] == "H"}
+
+
+def _shortest(polar: list[Contact], elements: list[str]) -> dict[tuple[int, str], float]:
+    """The shortest contact of an atom to an element."""
+    shortest: dict[tuple[int, str], float] = {}
+    for c in polar:
+        at = c.first, elements[c.second]
+        shortest[at] = min(c.length, shortest.get(at, c.length))
+    return shortest

@@ -1,0 +1,100 @@
+"""The crystals of a CIF file."""
+
+from __future__ import annotations
+
+import math
+
+import gemmi
+import numpy as np
+
+from .crystal import Crystal, Site, shorten
+from .elements import element_of, elements_of_formula
+from .places import images_of, name_apart, take_once
+from .refusal import Unreadable
+from .sanity import check_metric, misfit_of
+from .symmetry import Symmetry, other_origin, read_symmetry, text_of
+
+LONGEST_EDGE = 1000.0  # angstrom, of a unit cell
+FARTHEST = 1000.0      # in edges of the cell, an atom from the origin
+MOST_ATOMS = 20_000    # of a primitive cell; a net may have 512 vertices
+
+
+def blocks_of(content: bytes, stem: str) -> list[tuple[str, gemmi.cif.Block]]:
+    """The blocks of a file that have atoms, with names: the file's, where it is one block."""
+    try:
+        document = gemmi.cif.read_string(_ascii_text(content))
+    except (ValueError, RuntimeError) as error:
+        raise Unreadable(f"no CIF: {str(error).replace('string:', 'line ')}") from error
+    blocks = [block for block in document if block.find_values("_atom_site_fract_x")]
+    if not blocks:
+        raise Unreadable("no atoms with fractional coordinates")
+    return [(stem if len(blocks) == 1 else f"{stem} {block.name}", block) for block in blocks]
+
+
+def _ascii_text(content: bytes) -> str:
+    """The text without a byte order mark, and _ for what a CIF file may not have."""
+    plain = content.removeprefix(b"\xef\xbb\xbf").replace(b"\0", b"_")
+    return plain.decode("ascii", errors="replace").replace("\ufffd", "_")
+
+
+def read_crystal(block: gemmi.cif.Block, name: str) -> Crystal:
+    """The crystal of a block; where its atoms cannot be right, with the other origin choice of
+    its space group, if they can be right with that."""
+    try:
+        structure = gemmi.make_small_structure_from_block(block)
+    except (ValueError, RuntimeError) as error:
+        raise Unreadable(f"no structure: {error}") from error
+    cell = structure.cell
+    check_cell(cell)
+    formula = elements_of_formula(text_of(block, ("_chemical_formula_sum",)))
+    sites, notes = _read_sites(structure, formula)
+    symmetry = read_symmetry(block, cell)
+    check_metric(symmetry, cell)
+    crystal = _expand(name, sites, symmetry, cell, notes)
+    crystal.misfit = misfit_of(crystal, formula)
+    other = other_origin(block, cell) if crystal.misfit else None
+    if other:
+        moved = _expand(name, sites, other, cell, notes)
+        if not misfit_of(moved, formula):
+            moved.notes.append(f"the coordinates fit {other.source}, not the operations that are given")
+            return moved
+    return crystal
+
+
+def check_cell(cell: gemmi.UnitCell) -> None:
+    """Raises Unreadable where the numbers are no cell of a crystal."""
+    if not cell.is_crystal() or not cell.volume > 0.1 or max(cell.a, cell.b, cell.c) > LONGEST_EDGE:
+        raise Unreadable("no unit cell")
+
+
+def _read_sites(structure: gemmi.SmallStructure, formula: dict[str, float]) -> tuple[list[Site], list[str]]:
+    """The sites that have a place and are occupied, and a note on the others."""
+    sites, others = [], []
+    for listed in structure.sites:
+        place = np.array([listed.fract.x, listed.fract.y, listed.fract.z])
+        if np.any(np.abs(place) > FARTHEST):
+            raise Unreadable(f"the coordinates of {listed.label} are no fractions of the cell")
+        if not np.all(np.isfinite(place)) or listed.occ <= 0:
+            others.append(listed.label)
+            continue
+        occupancy = listed.occ if math.isfinite(listed.occ) else 1.0
+        sites.append(Site(listed.label, element_of(listed.type_symbol, listed.label, formula), place, occupancy))
+    if not sites:
+        raise Unreadable("no atoms")
+    return sites, ["left out, without a place or not occupied: " + shorten(" ".join(others))] if others else []
+
+
+def _expand(name: str, sites: list[Site], symmetry: Symmetry, cell: gemmi.UnitCell,
+            notes: list[str]) -> Crystal:
+    """The crystal of the sites and all their images, those in one place taken as one atom."""
+    to_angstrom = np.array(cell.orthogonalization_matrix.tolist()).T
+    crystal = Crystal(name, symmetry.lattice @ to_angstrom, [], list(notes))
+    if symmetry.source != "operations":
+        crystal.notes.append(f"symmetry from {symmetry.source}")
+    for site in sites:
+        crystal.atoms += images_of(site, symmetry, crystal.cell, to_angstrom)
+        if len(crystal.atoms) > MOST_ATOMS:
+            raise Unreadable(f"more than {MOST_ATOMS} atoms in a primitive cell")
+    take_once(crystal)
+    name_apart(crystal)
+    return crystal

@@ -1,0 +1,182 @@
+"""The command cif2cgd on whole files: published structures, real files, and broken ones."""
+
+import glob
+import random
+import re
+
+from testing import PROGRAM, TOOLS, TOP, FolderTest, IS_LONG, need_modules, need_program, run
+
+need_modules("gemmi", "numpy", "scipy", "spglib")
+from structures import STRUCTURES, presentations  # noqa: E402
+
+COMMAND = TOOLS / "cif2cgd/cif2cgd"
+AVOGADRO = sorted(glob.glob("/usr/share/avogadro*/crystals/*/*.cif"))
+CAESIUM_CHLORIDE = """data_CsCl
+_cell_length_a 4.12
+_cell_length_b 4.12
+_cell_length_c 4.12
+_cell_angle_alpha 90
+_cell_angle_beta 90
+_cell_angle_gamma 90
+_space_group_name_H-M_alt 'P m -3 m'
+loop_
+_atom_site_label
+_atom_site_fract_x
+_atom_site_fract_y
+_atom_site_fract_z
+Cs1 0 0 0
+Cl1 0.5 0.5 0.5
+"""
+
+
+class Names(FolderTest):
+    def test_each_structure_in_three_presentations_gets_its_name(self):
+        need_program()
+        for words in sorted({structure.words for structure in STRUCTURES}):
+            wanted, files = {}, []
+            for structure in STRUCTURES:
+                if structure.words != words:
+                    continue
+                for kind, text in presentations(structure).items():
+                    files.append(self.folder / f"{structure.name} {kind}.cif")
+                    files[-1].write_text(text)
+                    wanted[files[-1].stem] = set(structure.nets)
+            nets = run(COMMAND, *words, *files).stdout
+            self.assertEqual(self.names_of(nets), wanted)
+
+    def test_the_example_from_a_file_to_a_name(self):
+        need_program()
+        nets = run(COMMAND, TOP / "examples/quartz.cif").stdout
+        self.assertEqual(self.names_of(nets), {"quartz": {"qtz"}})
+
+    def names_of(self, nets: bytes) -> dict[str, set[str]]:
+        """Of each structure the symbols of its nets, by the archives."""
+        found: dict[str, set[str]] = {}
+        for archive in ("common", "zeolites"):
+            report = run(PROGRAM, "identify", "-", "--archive", TOP / f"archives/{archive}.archive", stdin=nets)
+            for part in re.split(r"(?m)^net (?=\d)", report.stdout.decode())[1:]:
+                structure = re.match(r'\d+ line \d+ "([^"]*?)(?: part \d+)?"', part)[1]
+                symbols = re.findall(r'(?m)^name "([^",]*)', part)
+                found.setdefault(structure, set()).update(s if s != "SOD" else "sod" for s in symbols)
+        return found
+
+
+class Words(FolderTest):
+    def setUp(self):
+        super().setUp()
+        self.file = self.folder / "caesium chloride.cif"
+        self.file.write_text(CAESIUM_CHLORIDE)
+
+    def test_standard_input_and_quiet(self):
+        done = run(COMMAND, "--quiet", "-", stdin=CAESIUM_CHLORIDE.encode())
+        self.assertEqual(done.stdout.count(b"PERIODIC_GRAPH"), 1)
+        self.assertIn(b'NAME "stdin"', done.stdout)
+        self.assertEqual(done.stderr, b"")
+
+    def test_notes_name_the_file(self):
+        self.assertEqual(run(COMMAND, self.file).stderr, b"caesium chloride.cif: symmetry from name P m -3 m\n")
+
+    def test_no_bonds_no_net(self):
+        done = run(COMMAND, "--bond", "Cs-Cl=0", self.file, status=1)
+        self.assertEqual(done.stderr, b"caesium chloride.cif: refused: no net: 2 single atoms\n")
+
+    def test_elements_left_out(self):
+        done = run(COMMAND, "--leave-out", "Cs,Cl", self.file, status=1)
+        self.assertEqual(done.stderr, b"caesium chloride.cif: refused: no net: all atoms are left out\n")
+
+    def test_a_refused_file_does_not_hide_the_next(self):
+        done = run(COMMAND, self.folder / "absent.cif", self.file, status=1)
+        self.assertIn(b"absent.cif: refused: not readable: No such file or directory\n", done.stderr)
+        self.assertEqual(done.stdout.count(b"PERIODIC_GRAPH"), 1)
+
+    def test_words_without_a_form(self):
+        for words in ([], ["--bond", "Cs=3", self.file], ["--bond", "Xx-O=3", self.file], ["--nonsense", self.file],
+                      ["--leave-out", "CS", self.file]):
+            run(COMMAND, *words, status=2)
+
+    def test_atoms_too_near_are_refused(self):
+        self.file.write_text(CAESIUM_CHLORIDE.replace("0.5 0.5 0.5", "0.2 0 0"))
+        self.assertIn(b"angstrom apart (--accept-misfit", run(COMMAND, self.file, status=1).stderr)
+
+    def test_the_other_origin_is_found(self):
+        text = presentations(next(s for s in STRUCTURES if s.name == "cuprite"))["name"]
+        self.file.write_text(text
+                             .replace("0.250000 0.250000 0.250000", "0.000000 0.000000 0.000000")
+                             .replace("Cu1 Cu 0.000000 0.000000 0.000000", "Cu1 Cu 0.250000 0.250000 0.250000")
+                             .replace("data_global", "data_global\n_chemical_formula_sum 'Cu2 O'"))
+        done = run(COMMAND, self.file)
+        self.assertIn(b"the coordinates fit P n -3 m:1, not the operations that are given", done.stderr)
+        self.assertIn(b"2 interwoven nets alike", done.stderr)
+
+
+class RealFiles(FolderTest):
+    def setUp(self):
+        super().setUp()
+        if not AVOGADRO:
+            self.skipTest("libavogadro-data is not there")
+
+    def test_nearly_all_give_nets(self):
+        files = AVOGADRO if IS_LONG else AVOGADRO[::4]
+        done = run(COMMAND, *files, status=1)
+        self.assertGreater(done.stdout.count(b"PERIODIC_GRAPH"), 0.9 * len(files))
+        self.assertEqual(done.stdout.count(b"\nPERIODIC_GRAPH\n"), done.stdout.count(b"\nEND\n"))
+        self.assertLess(done.stderr.count(b": refused: "), 0.1 * len(files))
+        self.assert_no_fault(done.stderr)
+
+    def test_a_zeolite_is_answered_in_the_limits_of_the_program(self):
+        need_program()
+        files = [file for file in AVOGADRO if file.endswith(("/LTN.cif", "/PAU.cif", "/MFI.cif"))]
+        report = run(PROGRAM, "key", "-", stdin=run(COMMAND, *files).stdout).stdout
+        self.assertEqual(report.count(b"\nkey "), len(files))
+
+    def test_broken_files_end_in_a_reason(self):
+        chance = random.Random(7)
+        files = []
+        for k in range(2000 if IS_LONG else 120):
+            content = broken(open(chance.choice(AVOGADRO), "rb").read(), chance)
+            files.append(self.folder / f"{k}.cif")
+            files[-1].write_bytes(content)
+        done = run(COMMAND, "--accept-misfit", "--partial-as-full", *files, status=None, seconds=1200)
+        self.assertIn(done.returncode, (0, 1))
+        self.assert_no_fault(done.stderr)
+
+    def assert_no_fault(self, told: bytes):
+        self.assertNotIn(b"Traceback", told)
+        self.assertNotIn(b"cif2cgd failed", told)
+
+
+class OtherFiles(FolderTest):
+    def test_other_formats_end_in_a_reason(self):
+        contents = [b"", b"\n", b"\0" * 1000, bytes(range(256)) * 20, b"\x7fELF\x02\x01", b"data_",
+                    b"data_a\nloop_\n", b"#!/bin/sh\necho\n", b"<xml/>", b'{"a": 1}',
+                    b"ATOM      1  N   ALA A   1      11.104", b"PERIODIC_GRAPH\nEDGES\n1 1 1 0\n1 1 0 1\nEND\n",
+                    b"\xff\xfe" + "data_x".encode("utf-16-le"),
+                    CAESIUM_CHLORIDE.replace("Cl1 0.5 0.5 0.5\n", "").replace("Cs1 0 0 0", "").encode()]
+        for number, other in (("4.12", "1e300"), ("4.12", "nan"), ("0.5", "1e30"), ("90", "0.001")):
+            contents.append(CAESIUM_CHLORIDE.replace(number, other).encode())
+        files = [self.folder / f"{k}.cif" for k in range(len(contents))]
+        for file, content in zip(files, contents):
+            file.write_bytes(content)
+        told = run(COMMAND, *files, self.folder, status=1).stderr.decode()
+        self.assertNotIn("Traceback", told)
+        self.assertNotIn("cif2cgd failed", told)
+        self.assertEqual(told.count(": refused: "), len(contents) + 1, told)
+
+
+def broken(content: bytes, chance: random.Random) -> bytes:
+    """The content cut, or with bytes changed, lines exchanged, numbers changed."""
+    kind = chance.randrange(4)
+    if kind == 0:
+        return content[:chance.randrange(len(content))]
+    if kind == 1:
+        changed = bytearray(content)
+        for _ in range(chance.randrange(1, 30)):
+            changed[chance.randrange(len(changed))] = chance.randrange(256)
+        return bytes(changed)
+    if kind == 2:
+        lines = content.split(b"\n")
+        for _ in range(3):
+            lines[chance.randrange(len(lines))] = chance.choice(lines)
+        return b"\n".join(lines)
+    numbers = [b"0", b"-1", b"1e9", b"?", b"999999", b".", b"0.0001", b"nan", b"1e400"]
+    return re.sub(rb"(?<=[ \t])[0-9.]+", lambda m: chance.choice(numbers) if chance.random() < 0.05 else m[0], content)

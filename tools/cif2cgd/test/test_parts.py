@@ -1,0 +1,87 @@
+"""The parts of cif2cgd by themselves: lattices, quotient graphs, elements, shells."""
+
+import sys
+import unittest
+
+from testing import TOOLS, need_modules
+
+need_modules("gemmi", "numpy", "scipy", "spglib")
+sys.path.insert(0, str(TOOLS / "cif2cgd"))
+from crystal_nets.bonds import first_gap  # noqa: E402
+from crystal_nets.components import components  # noqa: E402
+from crystal_nets.elements import element_of, elements_of_formula  # noqa: E402
+from crystal_nets.lattice import coordinates, index, staircase  # noqa: E402
+from crystal_nets.net import Net, contracted, edge, without_ends  # noqa: E402
+
+X, Y, Z = (1, 0, 0), (0, 1, 0), (0, 0, 1)
+
+
+def net(*edges):
+    count = 1 + max(max(u, v) for u, v, _ in edges)
+    return Net([str(k) for k in range(count)], {edge(u, v, s) for u, v, s in edges})
+
+
+class Lattices(unittest.TestCase):
+    def test_face_centred(self):
+        basis = staircase([(2, 0, 0), (0, 2, 0), (0, 0, 2), (0, 1, 1), (1, 0, 1), (1, 1, 0)])
+        self.assertEqual(basis, [(1, 0, 1), (0, 1, 1), (0, 0, 2)])
+        self.assertEqual(index(basis), 2)
+        self.assertEqual(coordinates((1, 1, 0), basis), (1, 1, -1))
+        with self.assertRaises(ValueError):
+            coordinates(X, basis)
+
+    def test_layer(self):
+        self.assertEqual(staircase([(2, 4, 0), (3, 6, 0), (0, 0, 5)]), [(1, 2, 0), (0, 0, 5)])
+
+
+class Nets(unittest.TestCase):
+    def test_one_edge_in_two_ways(self):
+        self.assertEqual(edge(1, 0, X), edge(0, 1, (-1, 0, 0)))
+        self.assertEqual(edge(0, 0, (0, -1, 0)), edge(0, 0, Y))
+
+    def test_rhenium_trioxide_is_the_cubic_lattice(self):
+        oxide = net((0, 1, (0, 0, 0)), (1, 0, X), (0, 2, (0, 0, 0)), (2, 0, Y), (0, 3, (0, 0, 0)), (3, 0, Z))
+        self.assertEqual(contracted(oxide).net.edges, {(0, 0, X), (0, 0, Y), (0, 0, Z)})
+
+    def test_two_bridges_are_one_edge(self):
+        layer = net((0, 1, (0, 0, 0)), (1, 0, X), (0, 2, (0, 0, 0)), (2, 0, X), (0, 0, Y))
+        simple = contracted(layer)
+        self.assertEqual((simple.net.edges, simple.doubled), ({(0, 0, X), (0, 0, Y)}, 1))
+
+    def test_ends_are_left_out(self):
+        self.assertEqual(len(without_ends(net((0, 0, X), (0, 1, Y), (1, 2, Z))).names), 1)
+
+    def test_rod_of_bridges_stays(self):
+        self.assertEqual(contracted(net((0, 1, (0, 0, 0)), (1, 0, X))).net.edges, {(0, 0, X)})
+
+
+class Components(unittest.TestCase):
+    def test_interwoven(self):
+        piece, = components(net((0, 0, (0, 1, 1)), (0, 0, (1, 0, 1)), (0, 0, (1, 1, 0))))
+        self.assertEqual((piece.dimension, piece.copies), (3, 2))
+
+    def test_layer_in_its_own_basis(self):
+        piece, = components(net((0, 0, (1, 0, 1)), (0, 0, (0, 2, 0))))
+        self.assertEqual((piece.dimension, piece.net.edges), (2, {(0, 0, (1, 0)), (0, 0, (0, 1))}))
+
+    def test_molecule_and_rod(self):
+        pieces = components(net((0, 1, X), (2, 2, Z)))
+        self.assertEqual([p.dimension for p in pieces], [0, 1])
+
+
+class Atoms(unittest.TestCase):
+    def test_elements(self):
+        cases = [("", "CO1", {"C": 1, "O": 1}, "C"), ("", "Co1", {"Co": 1}, "Co"), ("", "Wat3", {}, "O"),
+                 ("", "OW1", {"H": 2, "O": 1}, "O"), ("W", "W1", {}, "W"), ("", "W1", {"O": 1}, "O"),
+                 ("", "HN1", {"H": 1, "N": 1}, "H"), ("O2-", "Ob1", {}, "O"), ("Fe3+", "T1", {}, "Fe")]
+        for symbol, label, formula, element in cases:
+            self.assertEqual(element_of(symbol, label, formula), element, label)
+
+    def test_formulas(self):
+        self.assertEqual(elements_of_formula("Na0.88 Al2(Si.5 O4)2"),
+                         {"Na": 0.88, "Al": 2, "Si": 0.5, "O": 4})
+        self.assertEqual(elements_of_formula("H2..3 O"), {"H": 2, "O": 1})
+
+    def test_shells(self):
+        self.assertEqual(first_gap([1.0] * 8 + [1.1547] * 6 + [1.633]), 8)
+        self.assertEqual(first_gap([2.66] * 6 + [2.91] * 6 + [3.94]), 12)

@@ -1,0 +1,60 @@
+#!/bin/sh
+# install.sh PREFIX [PROGRAM]: puts net_tool, its manual pages, archives, examples, the tools beside it and the
+# completion of bash under PREFIX. PROGRAM is the built program; where it is not given, the one of this repository.
+# DESTDIR, where it is set, stands before PREFIX. Nothing is built or proved here.
+set -eu
+umask 022
+
+fail() {
+    echo "install.sh: $1" >&2
+    exit "${2:-1}"
+}
+
+{ [ $# -eq 1 ] || [ $# -eq 2 ]; } || fail "usage: install.sh PREFIX [PROGRAM]" 2
+case $1 in
+/*) ;;
+*) fail "PREFIX is to begin with /" 2 ;;
+esac
+top=$(CDPATH='' cd -- "$(dirname -- "$0")/../.." && pwd -P)
+to=${DESTDIR:-}$1
+program=${2:-$top/crates/net_tool/out/net_tool}
+[ -x "$program" ] || fail "$program is not there; ./net_tool builds it"
+
+share=$to/share/net_tool
+commands="cif2cgd/cif2cgd pictures/draw_nets pictures/net_gallery batch/split_nets batch/key_piece batch/net_rows
+batch/net_groups batch/net_names batch/accepted_nets batch/archive_nets"
+
+install -D -m 755 -- "$program" "$to/bin/net_tool"
+install -d -- "$share/archives" "$share/examples" "$to/share/doc/net_tool" "$to/share/man/man1"
+install -m 644 -- "$top"/archives/*.archive "$share/archives"
+install -m 644 -- "$top"/examples/*.c?? "$share/examples"
+install -m 644 -- "$top/README.md" "$top/docs/FORMATS.md" "$to/share/doc/net_tool"
+install -D -m 644 -- "$top/tools/install/net_tool.bash" "$to/share/bash-completion/completions/net_tool"
+
+# The tools keep their layout, since they find their modules beside them; bin has links to those that are commands.
+(cd "$top/tools" && find cif2cgd pictures batch -name test -prune -o -name __pycache__ -prune -o -type f -print) |
+    while read -r file; do
+        mode=644
+        [ ! -x "$top/tools/$file" ] || mode=755
+        case $file in
+        *.1) ;;
+        *.md) install -D -m 644 -- "$top/tools/$file" "$to/share/doc/net_tool/$(dirname -- "$file").md" ;;
+        *) install -D -m "$mode" -- "$top/tools/$file" "$share/tools/$file" ;;
+        esac
+    done
+for command in $commands; do
+    ln -sf -- "../share/net_tool/tools/$command" "$to/bin/$(basename -- "$command")"
+done
+
+for page in "$top"/docs/*.1 "$top"/tools/*/*.1; do
+    gzip -9nc -- "$page" >"$to/share/man/man1/$(basename -- "$page").gz"
+done
+for command in $commands; do
+    name=$(basename -- "$command")
+    case $command in
+    batch/*) ln -sf -- net_batch.1.gz "$to/share/man/man1/$name.1.gz" ;;
+    pictures/net_gallery) ln -sf -- draw_nets.1.gz "$to/share/man/man1/$name.1.gz" ;;
+    esac
+done
+echo "installed under $to; try: net_tool identify $1/share/net_tool/examples/mystery.cgd" \
+    "--archive $1/share/net_tool/archives/common.archive"

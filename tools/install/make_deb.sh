@@ -1,0 +1,61 @@
+#!/bin/sh
+# make_deb.sh VERSION FOLDER [PROGRAM]: the Debian package crystal-net-tool of the built program and its tools, in
+# FOLDER, by dpkg-deb. MAINTAINER is told in it. The package has no copyright file, as this repository has none yet.
+set -eu
+
+fail() {
+    echo "make_deb.sh: $1" >&2
+    exit "${2:-1}"
+}
+
+{ [ $# -eq 2 ] || [ $# -eq 3 ]; } || fail "usage: make_deb.sh VERSION FOLDER [PROGRAM]" 2
+version=$1 folder=$2
+here=$(CDPATH='' cd -- "$(dirname -- "$0")" && pwd -P)
+program=${3:-$here/../../crates/net_tool/out/net_tool}
+name=crystal-net-tool
+maintainer=${MAINTAINER:-Nobody <nobody@example.org>}
+for command in dpkg-deb objdump strip; do
+    command -v "$command" >/dev/null || fail "$command is not there (apt-get install dpkg-dev binutils)"
+done
+
+root=$(mktemp -d)
+trap 'rm -rf -- "$root"' EXIT
+chmod 755 "$root"
+DESTDIR=$root "$here/install.sh" /usr "$program" >/dev/null
+strip --strip-unneeded --remove-section=.comment "$root/usr/bin/net_tool"
+mv "$root/usr/share/doc/net_tool" "$root/usr/share/doc/$name"
+
+# the newest version of the C library that a symbol of the program asks for
+libc=$(objdump -T "$root/usr/bin/net_tool" | sed -n 's/.*GLIBC_\([0-9.]*\).*/\1/p' | sort -V | tail -n 1)
+mkdir "$root/DEBIAN"
+cat >"$root/DEBIAN/control" <<CONTROL
+Package: $name
+Version: $version
+Architecture: $(dpkg --print-architecture)
+Maintainer: $maintainer
+Installed-Size: $(du -sk "$root/usr" | cut -f 1)
+Section: science
+Priority: optional
+Depends: libc6 (>= ${libc:-2.34}), python3
+Recommends: python3-gemmi, python3-numpy, python3-scipy, python3-spglib
+Suggests: librsvg2-bin, parallel, slurm-client
+Description: tell whether crystal structures have the same underlying net
+ net_tool places crystal nets, gives them keys that are equal exactly where
+ the nets are isomorphic, and finds the names of nets in an archive. The
+ program is proved to do so. Beside it are tools, which are not proved, for
+ structure files, pictures and large numbers of nets, and archives of common
+ nets and of zeolites.
+ .
+ The program needs a processor of the level x86-64-v2.
+CONTROL
+gzip -9n >"$root/usr/share/doc/$name/changelog.gz" <<CHANGES
+$name ($version) unstable; urgency=low
+
+  * Made by tools/install/make_deb.sh.
+
+ -- $maintainer  $(date -R -u -d "@${SOURCE_DATE_EPOCH:-$(date +%s)}")
+CHANGES
+chmod 644 "$root/usr/share/doc/$name/changelog.gz"
+(cd "$root" && find usr -type f -print0 | LC_ALL=C sort -z | xargs -0 md5sum) >"$root/DEBIAN/md5sums"
+mkdir -p "$folder"
+dpkg-deb --root-owner-group --build "$root" "$folder"

@@ -1,0 +1,43 @@
+# Completion of bash for net_tool: commands, the options of each, files of nets and archives.
+# It belongs in share/bash-completion/completions/net_tool.
+
+_net_tool() {
+    local commands="check place key identify add duplicates migrate workload"
+    local word=${COMP_WORDS[COMP_CWORD]} before=${COMP_WORDS[COMP_CWORD - 1]} command="" i
+    # = parts words, so that `--archive=PATH` comes as three
+    if [ "$word" = "=" ]; then
+        word=""
+    elif [ "$before" = "=" ]; then
+        before=${COMP_WORDS[COMP_CWORD - 2]}
+    fi
+    for ((i = 1; i < COMP_CWORD; i++)); do
+        if [[ " $commands " == *" ${COMP_WORDS[i]} "* ]]; then
+            command=${COMP_WORDS[i]}
+            break
+        fi
+    done
+    COMPREPLY=()
+    if [ "$before" = --archive ]; then
+        _net_tool_files "$word" archive
+    elif [ "$before" = --name ]; then
+        return
+    elif [ -z "$command" ]; then
+        mapfile -t COMPREPLY < <(compgen -W "$commands" -- "$word")
+    elif [[ $word == -* ]]; then
+        case $command in
+        identify | duplicates | migrate) mapfile -t COMPREPLY < <(compgen -W "--archive" -- "$word") ;;
+        add) mapfile -t COMPREPLY < <(compgen -W "--archive --name" -- "$word") ;;
+        esac
+    elif [[ " check place key identify add " == *" $command "* ]]; then
+        _net_tool_files "$word" cgd
+    fi
+}
+
+# files with the ending, and folders on the way to them; any file where there is none
+_net_tool_files() {
+    compopt -o filenames 2>/dev/null
+    mapfile -t COMPREPLY < <(compgen -f -X "!*.$2" -- "$1"; compgen -d -- "$1")
+    [ ${#COMPREPLY[@]} -gt 0 ] || mapfile -t COMPREPLY < <(compgen -f -- "$1")
+}
+
+complete -F _net_tool net_tool

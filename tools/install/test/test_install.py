@@ -1,0 +1,170 @@
+"""Installing: that what is installed works where it was put, alone, and as a package."""
+
+import os
+import shlex
+import shutil
+import subprocess
+import tempfile
+from pathlib import Path
+
+from testing import PROGRAM, TOOLS, FolderTest, long_test, need_commands, need_modules, need_program, run
+
+INSTALL = TOOLS / "install"
+EIGHT_NAMES = [b"dia, diamond", b"hcb, graphite layer", b"pcu, alpha polonium", b"srs, strontium disilicide",
+               b"LTA, zeolite A", b"qtz, quartz", b"sra, aluminium in strontium dialuminide",
+               b"ABW, zeolite Li-A of Barrer and White", b"ths, silicon in thorium disilicide"]
+
+
+def names_told(report: bytes) -> list[bytes]:
+    return [line[6:-1] for line in report.splitlines() if line.startswith(b'name "')]
+
+
+class Installed(FolderTest):
+    @classmethod
+    def setUpClass(cls):
+        need_program()
+        cls.root = Path(tempfile.mkdtemp(prefix="net_tools_test."))
+        cls.addClassCleanup(shutil.rmtree, cls.root, ignore_errors=True)
+        cls.install()
+        cls.prefix = cls.root / "usr/local"
+        cls.share = cls.prefix / "share/net_tool"
+        cls.path = f"{cls.prefix / 'bin'}:{os.environ['PATH']}"
+
+    @classmethod
+    def install(cls):
+        run(INSTALL / "install.sh", "/usr/local", PROGRAM, DESTDIR=str(cls.root))
+
+    def in_shell(self, command: str, status: int = 0) -> bytes:
+        """What a user's shell prints with the installed commands on its path."""
+        return run("sh", "-c", command, PATH=self.path, NET_TOOL="net_tool", status=status).stdout
+
+    def test_the_program_names_nets(self):
+        told = self.in_shell(f"net_tool identify {self.share}/examples/mystery.cgd "
+                             f"--archive {self.share}/archives/common.archive")
+        self.assertEqual(names_told(told), EIGHT_NAMES)
+
+    def test_commands_find_their_modules(self):
+        self.in_shell(f"archive_nets {self.share}/archives/common.archive > {self.folder}/nets.cgd")
+        self.in_shell(f"cd {self.folder} && split_nets --blocks 50 nets.cgd pieces && key_piece pieces 2 && "
+                      "net_groups pieces/*.rows > groups")
+        self.assertEqual((self.folder / "groups").read_text(), "")
+        rows = self.in_shell(f"net_tool key {self.folder}/nets.cgd | net_rows").splitlines()
+        self.assertEqual(len(rows), 150)
+
+    def test_tools_with_packages(self):
+        need_modules("gemmi", "numpy", "scipy", "spglib")
+        self.in_shell("cif2cgd --help")
+        self.in_shell(f"net_tool identify {self.share}/examples/dia.cgd | draw_nets --svg {self.folder}")
+        self.assertEqual(len(list(self.folder.glob("*.svg"))), 1)
+
+    def test_no_link_is_broken_and_each_command_has_a_page(self):
+        for path in self.root.rglob("*"):
+            self.assertTrue(path.exists(), path)
+        pages = {path.name.removesuffix(".1.gz") for path in (self.prefix / "share/man/man1").iterdir()}
+        self.assertLessEqual({path.name for path in (self.prefix / "bin").iterdir()}, pages)
+
+    def test_no_file_of_tests_is_installed(self):
+        self.assertEqual([path for path in self.root.rglob("*test*")], [])
+
+    def test_installing_again_changes_nothing(self):
+        before = self.contents()
+        self.install()
+        self.assertEqual(self.contents(), before)
+
+    def contents(self) -> dict[Path, bytes]:
+        return {path: path.read_bytes() for path in self.root.rglob("*") if path.is_file()}
+
+    def test_pages_have_no_fault(self):
+        need_commands("mandoc")
+        for page in [*TOOLS.glob("*/*.1"), TOOLS.parent / "docs/net_tool.1"]:
+            told = run("mandoc", "-Tlint", "-Wwarning", page, status=None).stdout
+            self.assertEqual(told, b"", page)
+
+
+class Words(FolderTest):
+    def test_words_without_a_form(self):
+        for words in ([], ["relative"], ["/a", "/b", "/c"]):
+            run(INSTALL / "install.sh", *words, status=2)
+        run(INSTALL / "make_deb.sh", status=2)
+
+    def test_a_program_that_is_not_there(self):
+        done = run(INSTALL / "install.sh", self.folder, self.folder / "absent", status=1)
+        self.assertIn(b"is not there", done.stderr)
+        self.assertEqual(list(self.folder.iterdir()), [])
+
+
+class Completion(FolderTest):
+    def complete(self, *words: str) -> set[str]:
+        """What bash offers for the last word."""
+        need_commands("bash")
+        script = (f"source {INSTALL / 'net_tool.bash'}; COMP_WORDS=({shlex.join(words)}); "
+                  f"COMP_CWORD={len(words) - 1}; _net_tool; printf '%s\\n' \"${{COMPREPLY[@]}}\"")
+        done = subprocess.run(["bash", "-c", script], cwd=self.folder, capture_output=True, timeout=20)
+        return set(done.stdout.decode().split("\n")) - {""}
+
+    def test_commands_options_and_files(self):
+        for name in ("a net.cgd", "b.archive", "c.txt"):
+            (self.folder / name).touch()
+        (self.folder / "deep").mkdir()
+        self.assertEqual(self.complete("net_tool", "i"), {"identify"})
+        self.assertEqual(len(self.complete("net_tool", "")), 8)
+        self.assertEqual(self.complete("net_tool", "key", ""), {"a net.cgd", "deep"})
+        self.assertEqual(self.complete("net_tool", "identify", "--"), {"--archive"})
+        self.assertEqual(self.complete("net_tool", "add", "--"), {"--archive", "--name"})
+        self.assertEqual(self.complete("net_tool", "identify", "--archive", ""), {"b.archive", "deep"})
+        self.assertEqual(self.complete("net_tool", "identify", "--archive", "=", "b"), {"b.archive"})
+        self.assertEqual(self.complete("net_tool", "key", "c"), {"c.txt"})
+        self.assertEqual(self.complete("net_tool", "workload", ""), set())
+
+
+class Package(FolderTest):
+    def setUp(self):
+        super().setUp()
+        need_program()
+        need_commands("dpkg-deb", "objdump", "strip")
+
+    def build(self) -> Path:
+        run(INSTALL / "make_deb.sh", "1.0", self.folder, PROGRAM, SOURCE_DATE_EPOCH="1700000000")
+        package, = self.folder.glob("crystal-net-tool_1.0_*.deb")
+        return package
+
+    def test_what_the_package_says(self):
+        package = self.build()
+        depends = run("dpkg-deb", "-f", package, "Depends").stdout.decode()
+        self.assertRegex(depends, r"^libc6 \(>= 2\.\d+\), python3\n$")
+        content = run("dpkg-deb", "-c", package).stdout.decode()
+        for path in ("./usr/bin/net_tool", "./usr/share/net_tool/archives/zeolites.archive", "./usr/bin/cif2cgd ->"):
+            self.assertIn(path, content)
+        self.assertNotIn(" ./root", content)
+
+    def test_the_same_sources_give_the_same_package(self):
+        first = self.build().read_bytes()
+        self.assertEqual(self.build().read_bytes(), first)
+
+    @long_test
+    def test_lintian_misses_the_copyright_file_alone(self):
+        need_commands("lintian")
+        told = run("lintian", "--allow-root", "--fail-on", "none", self.build(), status=None).stdout
+        self.assertEqual(told, b"E: crystal-net-tool: no-copyright-file\n")
+
+    @long_test
+    def test_a_fresh_system(self):
+        """Makes a Debian system of its own, from the network, and names nets there."""
+        need_commands("debootstrap")
+        if os.geteuid() != 0:
+            self.skipTest("debootstrap needs root")
+        package, system = self.build(), self.folder / "system"
+        made = run("debootstrap", "--variant=minbase", "--include=python3", "bookworm", system,
+                   "http://deb.debian.org/debian", status=None, seconds=1200)
+        if made.returncode != 0:
+            self.skipTest("debootstrap did not end well; is there a network?")
+        shutil.copy(package, system / "package.deb")
+        run("chroot", system, "dpkg", "-i", "/package.deb")
+        share = "/usr/share/net_tool"
+        told = run("chroot", system, "net_tool", "identify", f"{share}/examples/mystery.cgd",
+                   "--archive", f"{share}/archives/common.archive").stdout
+        self.assertEqual(names_told(told), EIGHT_NAMES)
+        rows = run("chroot", system, "net_rows", stdin=told).stdout
+        self.assertEqual(rows.count(b"\n"), 8)
+        run("chroot", system, "dpkg", "--purge", "crystal-net-tool")
+        self.assertFalse((system / "usr/share/net_tool").exists())

@@ -1,0 +1,67 @@
+"""The primitive graph of a net with its positions, out of the report of `net_tool identify`."""
+
+from __future__ import annotations
+
+from dataclasses import dataclass
+
+import numpy as np
+
+Edge = tuple[int, int, tuple[int, ...]]  # two classes from 0 on, and the cell of the second
+
+
+def marks(numbers: np.ndarray) -> np.ndarray:
+    """Whole numbers that are equal for numbers that are equal up to rounding. Positions are
+    simple fractions, and no simple fraction is near a step."""
+    return np.floor(np.asarray(numbers) * 314159.26535 + 0.377).astype(np.int64)
+
+
+def into_cell(places: np.ndarray) -> np.ndarray:
+    """The fractions in the cell, 0 where they are a little below 1."""
+    return places - np.floor(places + 1e-7)
+
+
+@dataclass
+class Placed:
+    """A net in units of its primitive basis: where its classes stand, and its edges."""
+
+    places: np.ndarray
+    edges: list[Edge]
+
+    @property
+    def dimension(self) -> int:
+        return self.places.shape[1]
+
+    def vectors(self) -> np.ndarray:
+        return np.array([self.places[v] + shift - self.places[u] for u, v, shift in self.edges])
+
+    def arcs(self) -> tuple[np.ndarray, np.ndarray, np.ndarray]:
+        """Of each arc, two for each edge, the tail, the head and the vector."""
+        tails = np.array([u for u, _, _ in self.edges])
+        heads = np.array([v for _, v, _ in self.edges])
+        vectors = self.vectors()
+        return (np.concatenate([tails, heads]), np.concatenate([heads, tails]),
+                np.concatenate([vectors, -vectors]))
+
+    def worst_mean(self) -> float:
+        """How far the worst class is from the mean of its neighbours: 0 up to rounding."""
+        tails, _, vectors = self.arcs()
+        sums = np.zeros_like(self.places)
+        np.add.at(sums, tails, vectors)
+        degrees = np.bincount(tails, minlength=len(sums))
+        return float(np.abs(sums / degrees[:, None]).max())
+
+
+def placed_net(report) -> Placed:
+    """The net of a report that has a key. The report says where each vertex stands; two share a
+    class where their places differ by a vector of the lattice, and the classes are numbered by
+    their first vertices."""
+    to_basis = np.linalg.inv(np.array(report.basis, float))
+    places, seen = [], set()
+    for _, position in report.positions:
+        place = np.array(position, float) @ to_basis
+        mark = tuple(marks(into_cell(place)))
+        if mark not in seen:
+            seen.add(mark)
+            places.append(place)
+    edges = [(u - 1, v - 1, tuple(shift)) for u, v, *shift in report.edges]
+    return Placed(np.array(places), edges)

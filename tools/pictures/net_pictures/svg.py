@@ -1,0 +1,172 @@
+"""A picture of a net as SVG."""
+
+from __future__ import annotations
+
+import html
+
+import numpy as np
+
+from .text import PALETTE, misty, mixed
+from .view import View
+
+SIZE, MARGIN = 400, 26
+EDGE, LEAVING, OUTLINE, RIM = "#5b6672", "#a3acb5", "#1b1f24", "#20262c"
+LEVELS = 5             # of mist on balls
+HALO = 2.4             # white beside an edge, where it passes in front of another
+STUB = {2: 0.42, 3: 0.27}  # how much is shown of an edge that leaves
+
+
+def picture(view: View, label: str) -> str:
+    return Drawing(view).text(label)
+
+
+def number(x: float) -> str:
+    """With one digit after the point, where it is not 0."""
+    text = f"{x:.1f}".removesuffix(".0")
+    return "0" if text == "-0" else text
+
+
+class Drawing:
+    """Parts of a picture, which are painted from the back to the front."""
+
+    def __init__(self, view: View) -> None:
+        self.view, self.shape, self.window = view, view.shape, view.window
+        self.in_space = view.shape.dimension == 3
+        self.parts: list[tuple[float, str]] = []
+        self.balls: set[tuple[int, int]] = set()  # colour and mist of those that are drawn
+        self.lens = Lens(view)
+        self.radius = min(10.0, max(2.2, view.ball * self.lens.scale))
+        self.width = max(1.3, self.radius * 0.52)
+
+    def text(self, label: str) -> str:
+        self._edges()
+        self._outline()
+        self._vertices()
+        self.parts.sort(key=lambda part: part[0])
+        return (f'<svg xmlns="http://www.w3.org/2000/svg" viewBox="0 0 {SIZE} {SIZE}" role="img">'
+                f'<title>{html.escape(label)}</title>'
+                f'<defs>{"".join(map(gradient, sorted(self.balls)))}</defs>'
+                f'<rect width="{SIZE}" height="{SIZE}" fill="#fff"/>'
+                f'<g fill="none" stroke-linecap="round" stroke-width=".6">{"".join(p for _, p in self.parts)}</g>'
+                '<g font-family="Helvetica,Arial,sans-serif" font-size="13" font-style="italic" '
+                'text-anchor="middle" fill="#1b1f24" stroke="#fff" stroke-width="3" paint-order="stroke">'
+                f'{"".join(self._letters())}</g></svg>\n')
+
+    def _edges(self) -> None:
+        points = self.lens.seen(self.window.spots)
+        for i, j in self.window.whole:
+            p, q = points[i], points[j]
+            self._line(self._surface(p, q), self._surface(q, p), EDGE, self.width)
+        for i, vector in self.window.leaving:
+            end = self.lens.seen(self.window.spots[i] + STUB[self.shape.dimension] * vector)[0]
+            self._line(self._surface(points[i], end), end, LEAVING, self.width * 0.8)
+
+    def _surface(self, p: np.ndarray, q: np.ndarray) -> np.ndarray:
+        """Where the way from p to q leaves the ball of p, so that nothing is drawn over it."""
+        if not self.in_space:
+            return p
+        pull = 0.8 * self.radius / self.lens.scale
+        return p + (q - p) * min(0.45, pull / max(1e-9, float(np.linalg.norm(q - p))))
+
+    def _outline(self) -> None:
+        corners = self.view.corners
+        cuts = np.linspace(0, 1, 7 if self.in_space else 2)[:, None]
+        for m, n in self.view.outline:
+            points = self.lens.seen(corners[m] * (1 - cuts) + corners[n] * cuts)
+            for p, q in zip(points, points[1:]):
+                self._line(p, q, OUTLINE, 1.1, in_front=1e-4 if self.in_space else 5.0, halo=False)
+
+    def _line(self, p: np.ndarray, q: np.ndarray, colour: str, width: float, in_front: float = 0.0,
+              halo: bool = True) -> None:
+        (x, y), (u, v) = self.lens.to_page(p), self.lens.to_page(q)
+        z = (p[2] + q[2]) / 2
+        depth = self.lens.depth(z)
+        width *= 1 - 0.35 * depth
+        path = f"M{number(x)} {number(y)}L{number(u)} {number(v)}"
+        text = f'<path d="{path}" stroke="{misty(colour, depth)}" stroke-width="{width:.1f}"/>'
+        if halo and self.in_space:
+            text = f'<path d="{path}" stroke="#fff" stroke-width="{width + HALO:.1f}"/>' + text
+        self.parts.append((z + in_front, text))
+
+    def _vertices(self) -> None:
+        for point, c in zip(self.lens.seen(self.window.spots), self.window.classes):
+            depth, kind = self.lens.depth(point[2]), self.shape.kind[c]
+            colour, level = kind % len(PALETTE), round(depth * LEVELS)
+            self.balls.add((colour, level))
+            x, y = map(number, self.lens.to_page(point))
+            radius = self.radius * self.lens.grow(point[2])
+            text = (f'<circle cx="{x}" cy="{y}" r="{radius:.1f}" fill="url(#k{colour}l{level})" '
+                    f'stroke="{misty(RIM, min(1, depth + 0.15))}"/>')
+            if kind >= len(PALETTE):
+                text += f'<circle cx="{x}" cy="{y}" r="{radius * 0.4:.1f}" fill="#fff"/>'
+            self.parts.append((point[2] + (2e-4 if self.in_space else 9.0), text))
+
+    def _letters(self) -> list[str]:
+        """The names of the axes at the ends of those that are long enough in the picture."""
+        dimension = self.shape.dimension
+        u, v = self.lens.to_page(self.lens.seen(np.zeros(dimension))[0])
+        letters = []
+        for axis, letter in zip(np.eye(dimension), "abc"):
+            x, y = self.lens.to_page(self.lens.seen(axis)[0])
+            length = float(np.hypot(x - u, y - v))
+            if length < 30:
+                continue
+            x, y = x + (x - u) / length * 13, y + (y - v) / length * 13 + 4
+            x, y = min(SIZE - 8, max(8, x)), min(SIZE - 6, max(10, y))
+            letters.append(f'<text x="{number(x)}" y="{number(y)}">{letter}</text>')
+        return letters
+
+
+class Lens:
+    """From places in the cell to points of the page: x, y, and a depth by which parts are sorted."""
+
+    def __init__(self, view: View) -> None:
+        self.view = view
+        self.in_space = view.shape.dimension == 3
+        shown = [np.atleast_2d(view.window.spots), view.corners]
+        if self.in_space:
+            points = np.vstack([self._turned(rows) for rows in shown])
+            self.middle = (points.max(axis=0) + points.min(axis=0)) / 2
+            self.near, self.far = float(points[:, 2].max()), float(points[:, 2].min())
+            self.eye = self.near + 3.2 * float(np.ptp(points, axis=0).max())  # a mild perspective
+            seen = np.vstack([self.seen(rows) for rows in shown])[:, :2]
+            self.shift = (seen.max(axis=0) + seen.min(axis=0)) / 2
+            self.scale = (SIZE - 2 * MARGIN) / float(np.ptp(seen, axis=0).max())
+        else:
+            self.middle = self._turned(np.full((1, 2), 0.5))[0]
+            self.shift = np.zeros(2)
+            self.scale = SIZE / 2.02 / view.half
+
+    def _turned(self, rows: np.ndarray) -> np.ndarray:
+        return np.atleast_2d(rows) @ self.view.shape.axes @ self.view.frame.T
+
+    def seen(self, rows: np.ndarray) -> np.ndarray:
+        points = self._turned(rows)
+        flat = points[:, :2] - self.middle[:2]
+        if not self.in_space:
+            return np.column_stack([flat, -np.abs(flat).max(axis=1) / self.view.half])
+        grow = (self.eye - self.middle[2]) / (self.eye - points[:, 2])
+        return np.column_stack([flat * grow[:, None], points[:, 2]])
+
+    def grow(self, z: float) -> float:
+        """How much larger than in the middle a thing at this depth is seen."""
+        return (self.eye - self.middle[2]) / (self.eye - z) if self.in_space else 1.0
+
+    def depth(self, z: float) -> float:
+        """0 in front, 1 behind; a layer fades towards the border of its window."""
+        if self.in_space:
+            return (self.near - z) / (self.near - self.far) if self.near > self.far + 1e-9 else 0.0
+        return 0.8 * min(1.0, max(0.0, (-z - 0.62) / 0.38))
+
+    def to_page(self, point: np.ndarray) -> tuple[float, float]:
+        x, y = (point[:2] - self.shift) * self.scale
+        return SIZE / 2 + float(x), SIZE / 2 - float(y)
+
+
+def gradient(ball: tuple[int, int]) -> str:
+    """The light on a ball of a colour and a level of mist."""
+    colour, level = ball
+    base, depth = PALETTE[colour], level / LEVELS
+    stops = ((0, mixed(base, 255, 0.55)), (0.45, base), (1, mixed(base, 0, 0.28)))
+    text = "".join(f'<stop offset="{at}" stop-color="{misty(part, depth)}"/>' for at, part in stops)
+    return f'<radialGradient id="k{colour}l{level}" cx=".35" cy=".32" r=".75">{text}</radialGradient>'

@@ -1,0 +1,209 @@
+"""Pictures: angles and lengths that are known, symmetries, and the files that are written."""
+
+import json
+import os
+import random
+import re
+import signal
+import subprocess
+import sys
+import xml.etree.ElementTree as ElementTree
+from shutil import which
+
+from odd_cells import block, edges_of_archive, in_odd_cell
+from testing import PROGRAM, TOOLS, TOP, FolderTest, need_commands, need_modules, need_program, run
+
+need_modules("numpy")
+sys.path[:0] = [str(TOOLS / "pictures"), str(TOOLS / "batch")]
+import numpy as np  # noqa: E402
+from net_pictures.placed import placed_net  # noqa: E402
+from net_pictures.shape import Shape  # noqa: E402
+from net_text import nets_of_report  # noqa: E402
+
+DRAW = TOOLS / "pictures/draw_nets"
+COMMON = TOP / "archives/common.cgd"
+ARCHIVE = TOP / "archives/common.archive"
+ZEOLITES = TOP / "archives/zeolites.archive"
+HOSTILE = ['</script><b>', "a]]>&amp;\\u003c", "\r\x0b", "@NETS@ @TITLE@", "'; alert(1); '", "\xff\ufffe",
+           "../../x", ""]
+
+# Run in the page: opens a card, turns and enlarges it, looks for a name, and puts what it saw in the title.
+VISIT = """<script>
+addEventListener("load", () => {
+  document.querySelector("button").click();
+  const at = (kind, x, y) => canvas.dispatchEvent(new PointerEvent(kind, { pointerId: 1, clientX: x, clientY: y }));
+  canvas.setPointerCapture = () => {};
+  at("pointerdown", 0, 0); at("pointermove", 50, 20); at("pointerup", 50, 20);
+  canvas.dispatchEvent(new WheelEvent("wheel", { deltaY: 100, cancelable: true }));
+  const painted = canvas.getContext("2d").getImageData(0, 0, 1200, 900).data.some(part => part < 200);
+  const find = document.getElementById("find");
+  find.value = "cairo"; find.oninput();
+  const shown = [...document.querySelectorAll("button")].filter(card => !card.hidden).length;
+  document.title = failed || `cards ${document.querySelectorAll("button").length} painted ${painted} shown ${shown}`;
+});
+</script></html>"""
+
+
+def reports_on(cgd, *words) -> list:
+    text = run(PROGRAM, "identify", cgd, *words, status=None).stdout
+    return [net for net in nets_of_report(text.splitlines(keepends=True)) if net.key]
+
+
+class Geometry(FolderTest):
+    @classmethod
+    def setUpClass(cls):
+        need_program()
+        cls.reports = {net.name.decode().split(",")[0]: net for net in reports_on(COMMON)}
+
+    def angles(self, symbol):
+        shape = Shape(placed_net(self.reports[symbol]))
+        lengths = shape.edge_lengths()
+        self.assertLess(np.ptp(lengths), 1e-9, symbol)
+        found = set()
+        for arcs in shape.arcs:
+            units = np.array(arcs) @ shape.axes / lengths[0]
+            cosines = np.clip((units @ units.T)[np.triu_indices(len(arcs), 1)], -1, 1)
+            found |= {round(float(angle), 4) for angle in np.degrees(np.arccos(cosines))}
+        return found
+
+    def test_angles_that_are_known(self):
+        wanted = {"sql": {90, 180}, "hcb": {120}, "kgm": {60, 120, 180}, "pcu": {90, 180}, "dia": {109.4712},
+                  "srs": {120}, "sod": {90, 120}, "hxl": {60, 120, 180}, "bcu": {70.5288, 109.4712, 180}}
+        self.assertEqual({symbol: self.angles(symbol) for symbol in wanted}, wanted)
+
+    def test_each_vertex_is_at_the_mean_of_its_neighbours(self):
+        self.assertLess(max(placed_net(net).worst_mean() for net in self.reports.values()), 1e-9)
+
+    def test_systems_and_orders_that_are_known(self):
+        wanted = {"sql": ("square", 8, 1), "hcb": ("hexagonal", 12, 1), "cem": ("rectangular", 4, 1),
+                  "mcm": ("square", 8, 2), "pcu": ("cubic", 48, 1), "dia": ("cubic", 48, 1),
+                  "srs": ("cubic", 24, 1), "flu": ("cubic", 48, 2), "lon": ("hexagonal", 24, 1),
+                  "qtz": ("hexagonal", 12, 1), "rtl": ("tetragonal", 16, 2), "cds": ("tetragonal", 16, 1),
+                  "ant": ("tetragonal", 16, 2), "brookite": ("orthorhombic", 8, 3)}
+        shapes = {symbol: Shape(placed_net(self.reports[symbol])) for symbol in wanted}
+        self.assertEqual({s: (shape.system, shape.order, shape.kinds) for s, shape in shapes.items()}, wanted)
+
+    def test_zeolites_have_as_many_kinds_as_they_are_known_for(self):
+        wanted = {"SOD": 1, "LTA": 1, "FAU": 1, "CHA": 1, "RHO": 1, "GME": 1, "CAN": 1, "LTL": 2, "MOR": 4, "FER": 4,
+                  "HEU": 5, "MTT": 7, "MEL": 7, "MFI": 12}
+        nets = edges_of_archive(ZEOLITES)
+        file = self.folder / "zeolites.cgd"
+        file.write_text("".join(block(code, nets[code]) for code in wanted))
+        found = {net.name.decode(): Shape(placed_net(net)).kinds for net in reports_on(file)}
+        self.assertEqual(found, wanted)
+
+    def test_the_shape_does_not_depend_on_the_cell(self):
+        chance = random.Random(3)
+        nets = {name: edges for name, edges in edges_of_archive(ARCHIVE).items() if len(edges) < 20}
+        file = self.folder / "odd.cgd"
+        file.write_text("".join(block(name, in_odd_cell(edges, chance)) for name, edges in nets.items()))
+        for net in reports_on(file):
+            shape = Shape(placed_net(net))
+            other = Shape(placed_net(self.reports[net.name.decode().split(",")[0]])) \
+                if not net.name.startswith(b"rows of") else shape
+            self.assertEqual((shape.system, shape.order, shape.kinds, len(shape.sites)),
+                             (other.system, other.order, other.kinds, len(other.sites)), net.name)
+            self.assertLess(np.abs(np.sort(shape.lengths) - np.sort(other.lengths)).max(), 1e-6, net.name)
+
+
+class Files(FolderTest):
+    @classmethod
+    def setUpClass(cls):
+        need_program()
+        cls.report = run(PROGRAM, "identify", TOP / "examples/mystery.cgd", "--archive", ARCHIVE).stdout
+
+    def draw(self, *words, report=None, status=0):
+        return run(DRAW, *words, stdin=self.report if report is None else report, status=status)
+
+    def test_each_net_has_a_picture(self):
+        self.draw("--svg", self.folder)
+        files = sorted(self.folder.iterdir())
+        self.assertEqual([file.name for file in files], [f"000{k + 1}_sample_{'ABCDEFGH'[k]}.svg" for k in range(8)])
+        for file in files:
+            picture = ElementTree.parse(file).getroot()
+            self.assertGreater(len(picture.findall(".//{*}circle")), 4)
+            self.assertGreater(len(picture.findall(".//{*}path")), 8)
+
+    def test_the_same_report_gives_the_same_picture(self):
+        for name in ("one", "other"):
+            self.draw("--svg", self.folder / name, "--page", self.folder / f"{name}.html", "--only", 5)
+        self.assertEqual(*[(self.folder / name / "0005_sample_E.svg").read_bytes() for name in ("one", "other")])
+        self.assertEqual(*[(self.folder / f"{name}.html").read_bytes() for name in ("one", "other")])
+
+    def test_pictures_of_the_documents_are_those_that_are_drawn(self):
+        report = run(PROGRAM, "identify", COMMON).stdout
+        for file in (TOP / "docs/pictures").glob("*.svg"):
+            number = next(net.number for net in nets_of_report(report.splitlines(keepends=True))
+                          if net.name.startswith(file.stem.encode() + b","))
+            self.draw("--svg", self.folder, "--only", number, report=report)
+            drawn, = self.folder.glob(f"*_{file.stem}_*.svg")
+            self.assertEqual(parts_of(drawn), parts_of(file), file.name)
+
+    def test_names_of_any_bytes(self):
+        names = [name.encode() for name in HOSTILE] + [b"\xff\x80"]
+        blocks = b"".join(b'PERIODIC_GRAPH\nNAME "%s"\nEDGES\n"a b" "a b" 1 0\n"a b" "a b" 0 1\nEND\n' % name
+                          for name in names)
+        report = run(PROGRAM, "identify", "-", stdin=blocks).stdout
+        page = self.folder / "page.html"
+        self.draw("--svg", self.folder / "svg", "--page", page, "--title", "</title>", report=report)
+        for file in (self.folder / "svg").iterdir():
+            ElementTree.parse(file)
+        self.assertEqual(len(list((self.folder / "svg").iterdir())), len(names))
+        text = page.read_text()
+        self.assertEqual(text.count("</script>"), 1)
+        self.assertEqual(text.count("</title>"), 1)
+        nets = json.loads(re.search(r"(?m)^const nets = (.*);$", text)[1])
+        self.assertEqual(len(nets), len(names))
+
+    def test_nets_without_a_key_are_told(self):
+        refused = run(PROGRAM, "identify", TOP / "examples/interwoven.cgd", status=1).stdout
+        done = self.draw("--page", self.folder / "page.html", report=refused, status=1)
+        self.assertEqual(done.stderr.count(b": no picture: refused"), 2)
+
+    def test_words_without_a_form(self):
+        self.draw(status=2)
+        self.draw("--page", self.folder / "page.html", report=b"no report\n", status=1)
+        keys = run(PROGRAM, "key", COMMON).stdout
+        self.assertIn(b"not of `net_tool identify`", self.draw("--svg", self.folder, report=keys, status=1).stderr)
+
+    def test_png(self):
+        need_commands("rsvg-convert")
+        self.draw("--png", self.folder, "--only", 1, "--width", 120)
+        head = (self.folder / "0001_sample_A.png").read_bytes()[:24]
+        self.assertEqual((head[:8], int.from_bytes(head[16:20], "big")), (b"\x89PNG\r\n\x1a\n", 120))
+
+    def test_gallery_in_a_browser(self):
+        need_commands("chromium")
+        run(TOOLS / "pictures/net_gallery", self.folder, ARCHIVE)
+        page = self.folder / "common.html"
+        heard = 'let failed = "";\nwindow.onerror = told => { failed = told; };'
+        text = page.read_text().replace('"use strict";', heard, 1)
+        page.write_text(text.replace("</html>", VISIT))
+        self.assertEqual(self.title_in_browser(page), "cards 150 painted true shown 1")
+
+    def title_in_browser(self, page):
+        """The title of the page once it was visited; skips where the browser does not start here."""
+        words = [which("chromium"), "--headless", "--no-sandbox", "--disable-gpu", "--disable-dev-shm-usage",
+                 f"--user-data-dir={self.folder}/browser", "--virtual-time-budget=5000", "--dump-dom", page.as_uri()]
+        browser = subprocess.Popen(words, stdout=subprocess.PIPE, stderr=subprocess.DEVNULL, start_new_session=True,
+                                   env={**os.environ, "HOME": str(self.folder)})
+        try:
+            told = browser.communicate(timeout=60)[0].decode(errors="replace")
+        except subprocess.TimeoutExpired:
+            told = ""
+        finally:
+            try:
+                os.killpg(browser.pid, signal.SIGKILL)
+            except ProcessLookupError:
+                pass
+            browser.wait()
+        title = re.search(r"<title>(.*?)</title>", told)
+        if title is None or title[1].startswith("Nets of"):
+            self.skipTest("chromium does not run here, or is too slow")
+        return title[1]
+
+
+def parts_of(file) -> list[int]:
+    """How many vertices, lines and letters a picture has."""
+    picture = ElementTree.parse(file).getroot()
+    return [len(picture.findall(f".//{{*}}{part}")) for part in ("circle", "path", "text")]

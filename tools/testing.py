@@ -1,0 +1,131 @@
+"""What the tests of the tools share, and their runner: testing.py FOLDER.. runs FOLDER/test_*.py.
+
+The runner tells each failure, each reason to skip, and last the counts of all folders. It ends
+with 0 where nothing failed. NET_TOOL is the program; TOOLS_LONG=1 asks for the long tests too."""
+
+from __future__ import annotations
+
+import importlib.util
+import os
+import shutil
+import subprocess
+import sys
+import tempfile
+import time
+import unittest
+from pathlib import Path
+
+TOOLS = Path(__file__).resolve().parent
+TOP = TOOLS.parent
+PROGRAM = os.environ.get("NET_TOOL", str(TOP / "crates/net_tool/out/net_tool"))
+IS_LONG = os.environ.get("TOOLS_LONG") == "1"
+PACKAGES = {"gemmi": "python3-gemmi", "numpy": "python3-numpy", "scipy": "python3-scipy",
+            "spglib": "python3-spglib", "parallel": "parallel", "slurmctld": "slurm-wlm",
+            "munged": "munge", "rsvg-convert": "librsvg2-bin", "chromium": "chromium",
+            "mandoc": "mandoc", "lintian": "lintian", "debootstrap": "debootstrap",
+            "dpkg-deb": "dpkg", "objdump": "binutils", "strip": "binutils", "bash": "bash"}
+
+
+def need_modules(*names: str) -> None:
+    """Skips the tests that follow where a module of Python is not there."""
+    for name in names:
+        if importlib.util.find_spec(name) is None:
+            raise unittest.SkipTest(f"{PACKAGES[name]} is not there")
+
+
+def need_commands(*names: str) -> None:
+    """Skips the tests that follow where a command is not there."""
+    for name in names:
+        if shutil.which(name, path=os.environ.get("PATH", "") + ":/usr/sbin:/sbin") is None:
+            raise unittest.SkipTest(f"{PACKAGES.get(name, name)} is not there")
+
+
+def need_program() -> None:
+    if not os.access(PROGRAM, os.X_OK):
+        raise unittest.SkipTest("the program is not built")
+
+
+long_test = unittest.skipUnless(IS_LONG, "long tests are run by tools/test --long")
+
+
+def run(*words: object, status: int | None = 0, stdin: bytes = b"", seconds: int = 300,
+        **settings: str) -> subprocess.CompletedProcess:
+    """Runs a command; where it does not end with the status, the test fails with what it told."""
+    done = subprocess.run([str(word) for word in words], input=stdin, capture_output=True, timeout=seconds,
+                          env={**os.environ, "NET_TOOL": PROGRAM, "PYTHONDONTWRITEBYTECODE": "1", **settings})
+    if status is not None and done.returncode != status:
+        told = done.stderr[-2000:].decode(errors="replace") or done.stdout[-500:].decode(errors="replace")
+        raise AssertionError(f"{words[0]} ended with {done.returncode}, not {status}: {told}")
+    return done
+
+
+class FolderTest(unittest.TestCase):
+    """A test with a folder of its own, which is removed after it."""
+
+    def setUp(self) -> None:
+        self.folder = Path(tempfile.mkdtemp(prefix="net_tools_test."))
+        self.addCleanup(shutil.rmtree, self.folder, ignore_errors=True)
+
+
+class Quiet(unittest.TestResult):
+    """Counts the tests that passed, and notes how long each took."""
+
+    def __init__(self) -> None:
+        super().__init__()
+        self.passed = 0
+        self.begun = 0.0
+        self.seconds: list[tuple[float, str]] = []
+
+    def startTest(self, test: unittest.TestCase) -> None:
+        super().startTest(test)
+        self.begun = time.monotonic()
+
+    def stopTest(self, test: unittest.TestCase) -> None:
+        super().stopTest(test)
+        self.seconds.append((time.monotonic() - self.begun, test.id()))
+
+    def addSuccess(self, test: unittest.TestCase) -> None:
+        super().addSuccess(test)
+        self.passed += 1
+
+
+def run_folder(folder: Path) -> Quiet:
+    """Runs the tests of a folder, and tells what failed and why others were skipped."""
+    loader = unittest.TestLoader()
+    result = Quiet()
+    sys.path.insert(0, str(folder))
+    for file in sorted(folder.glob("test_*.py")):
+        try:
+            tests = loader.loadTestsFromName(file.stem)
+        except unittest.SkipTest as reason:
+            result.skipped.append((file.stem, str(reason)))
+        else:
+            tests.run(result)
+    sys.path.remove(str(folder))
+    name = str(folder.relative_to(TOP))
+    for test, trace in result.failures + result.errors:
+        print(f"{name}: failed: {test.id()}\n{trace}")
+    for reason in sorted({reason for _, reason in result.skipped}):
+        count = sum(told == reason for _, told in result.skipped)
+        print(f"{name}: skipped {count}: {reason}")
+    for seconds, test in result.seconds if os.environ.get("TOOLS_TIMES") else []:
+        print(f"{name}: {seconds:.1f} s {test}")
+    return result
+
+
+def main() -> int:
+    passed = failed = skipped = 0
+    for word in sys.argv[1:]:
+        result = run_folder(Path(word).resolve())
+        passed += result.passed
+        failed += len(result.failures) + len(result.errors)
+        skipped += len(result.skipped)
+        sys.stdout.flush()
+    print(f"tools: {passed} passed, {failed} failed, {skipped} skipped")
+    return int(failed > 0)
+
+
+if __name__ == "__main__":
+    sys.path.insert(0, str(TOOLS))
+    sys.modules["testing"] = sys.modules["__main__"]  # the tests import it by this name
+    sys.exit(main())
