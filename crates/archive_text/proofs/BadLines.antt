@@ -2,14 +2,16 @@
 use Rattle.std.proofs.Common.{◌≡◌, ℕ, ℤ, true, List, [], ◌∷◌, ◌++◌, refl, sym, subst, arith}
 use Rattle.line_text.specs.Lines.{Place, IsAt}
 use Rattle.periodic_net.specs.Graph.{Arc}
-use Rattle.archive_text.specs.declared.size.GraphSize.{GraphSize}
+use Rattle.graph_rows.specs.declared.size.GraphSize.{GraphSize}
 use Rattle.archive_text.specs.declared.version.Version.{Version}
 use Rattle.archive_text.specs.declared.version.Version.TheVariants.{One, Two}
-use Rattle.archive_text.specs.Names.{is_name}
+use Rattle.line_text.specs.Names.{is_name}
 use Rattle.archive_text.specs.Rows.{row_lines, name_row, count_row, end_row}
-use Rattle.archive_text.specs.Forms.{IsSize, IsKeyList, IsCount}
+use Rattle.archive_text.specs.Forms.{IsKeyList, IsCount}
+use Rattle.graph_rows.specs.Forms.{IsSize}
 use Rattle.archive_text.specs.Parts.{Named, Drawn, Keyed, Counted, end_part, part_rows, HasEdgesAndKey}
-use Rattle.archive_text.specs.Reading.{NoSize, NoKey, NoCount, HasEdges, HasBadEdge, HasShells, HasBadShells, HasBadLine, HasWhole, IsOf}
+use Rattle.archive_text.specs.Reading.{NoKey, NoCount, HasShells, HasBadShells, HasBadLine, HasWhole, IsOf}
+use Rattle.graph_rows.specs.Reading.{NoSize, HasEdges, HasBadEdge}
 use Rattle.archive_text.proofs.RowSums.{heads, drawn_same, counted_same}
 use Rattle.archive_text.proofs.Following.{after_name, after_edges, after_all_edges, after_key, after_shells, before_end}
 

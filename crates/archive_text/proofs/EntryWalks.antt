@@ -7,27 +7,22 @@ use Rattle.std.proofs.lemmas.List.Elements.{All-head, All-tail}
 use Rattle.periodic_net.specs.Graph.{Arc}
 use Rattle.quotient_graph.specs.Order.{AreRising}
 use Rattle.net_entries.specs.Entries.{EntryView}
-use Rattle.archive_text.specs.declared.size.GraphSize.{GraphSize}
+use Rattle.graph_rows.specs.declared.size.GraphSize.{GraphSize}
 use Rattle.archive_text.specs.declared.version.Version.{Version}
 use Rattle.archive_text.specs.declared.version.Version.TheVariants.{One, Two}
-use Rattle.archive_text.specs.Rows.{Row, OfEdge, OfKey, OfCount, OfEnd, size_of_graph}
-use Rattle.archive_text.specs.Forms.{IsEdgeOfSize, AreSizes}
+use Rattle.archive_text.specs.Rows.{Row, OfEdge, OfKey, OfCount, OfEnd}
+use Rattle.graph_rows.specs.Rows.{size_of_graph}
+use Rattle.archive_text.specs.Forms.{AreSizes}
+use Rattle.graph_rows.specs.Forms.{IsEdgeOfSize}
 use Rattle.archive_text.specs.Parts.{Part, Start, Named, Drawn, Keyed, Counted, part_rows, shells_rows, drawn_rows, end_part, MayStandAfter, IsFormed, IsDrawn, HasEdgesAndKey}
 use Rattle.archive_text.specs.Texts.{whole_part, entry_rows}
-use Rattle.archive_text.proofs.Edges.{below_before}
+use Rattle.graph_rows.proofs.CallerLemmas.{rising_front}
 use Rattle.archive_text.proofs.Walks.{Walk, part_with}
 
 -- one walk after another
 pub walk_on : (v : Version) (p q r : Part) (xs ys : List Row) → Walk v p xs q → Walk v q ys r → Walk v p (xs ++ ys) r
 walk_on v p q r [] ys one two = subst (λ o. Walk v o ys r) (sym one) two
 walk_on v p q r (x ∷ xs) ys one two = (one.0, walk_on v (part_with p x) q r xs ys one.1 two)
-
--- the first of edges that rise
-rising_front : (xs ys : List Arc) → AreRising (xs ++ ys) → AreRising xs
-rising_front xs ys rising i j d lt within =
-    let long = length-append xs ys in
-    below_before (get_or xs i d) (get_or (xs ++ ys) i d) (get_or xs j d) (get_or (xs ++ ys) j d)
-    (sym (get_or_append_left xs ys d i (omega (arith, lt, within)))) (sym (get_or_append_left xs ys d j within)) (rising i j d lt (omega (arith, long, within)))
 
 edges_walk : (v : Version) (name : List ℕ) (s : GraphSize) (done more : List Arc) → All (IsEdgeOfSize s) more → AreRising (done ++ more) → length (done ++ more) ≤ s.edges → Walk v (Drawn name s done) (map (OfEdge s.dim) more) (Drawn name s (done ++ more))
 edges_walk v name s done [] all rising few = ap (Drawn name s) (sym (append-nil done))

@@ -1,12 +1,14 @@
 -- Where no row that may follow stands.
 use Rattle.std.proofs.Common.{◌≡◌, ◌<◌, ◌+◌, ℕ, ℤ, List, ◌∷◌, ◌++◌, length, ap, ◌∙◌, arith}
 use Rattle.periodic_net.specs.Graph.{Arc}
-use Rattle.archive_text.specs.declared.size.GraphSize.{GraphSize}
+use Rattle.graph_rows.specs.declared.size.GraphSize.{GraphSize}
 use Rattle.archive_text.specs.declared.version.Version.{Version}
 use Rattle.archive_text.specs.declared.version.Version.TheVariants.{One, Two}
-use Rattle.archive_text.specs.Rows.{OfSize, OfEdge, OfKey, OfCount, OfShells, OfEnd, edge_row, shells_row, end_row}
+use Rattle.archive_text.specs.Rows.{OfSize, OfEdge, OfKey, OfCount, OfShells, OfEnd, shells_row, end_row}
+use Rattle.graph_rows.specs.Rows.{edge_row}
 use Rattle.archive_text.specs.Parts.{Named, Drawn, Keyed, Counted, end_part, NoneFollows}
-use Rattle.archive_text.specs.Reading.{NoSize, NoEdge, NoKey, NoCount, NoShells}
+use Rattle.archive_text.specs.Reading.{NoKey, NoCount, NoShells}
+use Rattle.graph_rows.specs.Reading.{NoSize, NoEdge}
 
 pub after_name : (v : Version) (name left : List ℕ) → NoSize left → NoneFollows v (Named name) left
 after_name v name left none (OfSize s) rest may e = none s rest may e

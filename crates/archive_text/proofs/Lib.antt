@@ -1,6 +1,4 @@
 pub mod CallerLemmas
-pub mod Outcomes
-pub mod Edges
 pub mod RowForms
 pub mod ShortLists
 pub mod Lists

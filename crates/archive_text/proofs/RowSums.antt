@@ -1,16 +1,22 @@
 -- The rows of a part, one after the other.
-use Rattle.std.proofs.Common.{◌≡◌, ℕ, ℤ, List, [], ◌∷◌, ◌++◌, length, refl, sym, ap, ◌∙◌, arith}
+use Rattle.std.proofs.Common.{◌≡◌, ℕ, ℤ, List, [], ◌∷◌, ◌++◌, length, map, refl, sym, ap, ◌∙◌, arith}
 use mathlib.Core.List.{append_assoc}
 use Rattle.periodic_net.specs.Graph.{Arc}
-use Rattle.archive_text.specs.declared.size.GraphSize.{GraphSize}
-use Rattle.archive_text.specs.Rows.{Row, OfKey, OfCount, row_line, row_lines, name_row, size_row, key_row, count_row}
+use Rattle.graph_rows.specs.declared.size.GraphSize.{GraphSize}
+use Rattle.archive_text.specs.Rows.{Row, OfEdge, OfKey, OfCount, row_line, row_lines, name_row, key_row, count_row}
+use Rattle.graph_rows.specs.Rows.{edge_row, size_row, edge_lines}
 use Rattle.archive_text.specs.Parts.{Keyed, Counted, part_rows, drawn_rows, shells_rows}
-use Rattle.archive_text.specs.Reading.{edge_lines, shells_lines}
+use Rattle.archive_text.specs.Reading.{shells_lines}
 
 -- the bytes of two lists of rows
 pub lines_of_sum : (xs ys : List Row) → row_lines (xs ++ ys) ≡ row_lines xs ++ row_lines ys
 lines_of_sum [] ys = refl
 lines_of_sum (x ∷ xs) ys = ap (λ l. row_line x ∷ l) (lines_of_sum xs ys)
+
+-- the bytes of the rows of edges
+pub edges_same : (dim : ℕ) (edges : List Arc) → row_lines (map (OfEdge dim) edges) ≡ edge_lines dim edges
+edges_same dim [] = refl
+edges_same dim (e ∷ es) = ap (λ l. edge_row dim e ∷ l) (edges_same dim es)
 
 -- the rows before the edges of an entry
 abbrev pub heads : List (List ℕ) → List ℕ → GraphSize → List (List ℕ)
@@ -19,6 +25,7 @@ heads rows name s = (rows ++ name_row name ∷ []) ++ size_row s ∷ []
 pub drawn_same : (rows : List (List ℕ)) (name : List ℕ) (s : GraphSize) (edges : List Arc) → heads rows name s ++ edge_lines s.dim edges ≡ rows ++ row_lines (drawn_rows name s edges)
 drawn_same rows name s edges =
     append_assoc (rows ++ name_row name ∷ []) (size_row s ∷ []) (edge_lines s.dim edges) ∙ append_assoc rows (name_row name ∷ []) (size_row s ∷ edge_lines s.dim edges)
+    ∙ ap (λ l. rows ++ name_row name ∷ size_row s ∷ l) (sym (edges_same s.dim edges))
 
 pub keyed_same : (rows : List (List ℕ)) (name : List ℕ) (s : GraphSize) (edges : List Arc) (key : List ℤ) → (heads rows name s ++ edge_lines s.dim edges) ++ key_row key ∷ [] ≡ rows ++ row_lines (part_rows (Keyed name s edges key))
 keyed_same rows name s edges key =

@@ -5,11 +5,13 @@ use Rattle.std.proofs.lemmas.List.Elements.{All-nil, All-push}
 use Rattle.line_text.specs.Lines.{HasNo}
 use Rattle.archive_text.specs.declared.version.Version.{Version}
 use Rattle.archive_text.specs.declared.version.Version.TheVariants.{One, Two}
-use Rattle.archive_text.specs.Rows.{Row, OfName, OfSize, OfEdge, OfKey, OfCount, OfShells, OfEnd, row_line, edge_row, shells_row}
-use Rattle.archive_text.specs.Forms.{IsEdgeOfSize, IsCount, AreSizes}
+use Rattle.archive_text.specs.Rows.{Row, OfName, OfSize, OfEdge, OfKey, OfCount, OfShells, OfEnd, row_line, shells_row}
+use Rattle.graph_rows.specs.Rows.{edge_row}
+use Rattle.archive_text.specs.Forms.{IsCount, AreSizes}
+use Rattle.graph_rows.specs.Forms.{IsEdgeOfSize}
 use Rattle.archive_text.specs.Parts.{Part, Start, Named, Drawn, Keyed, Counted, MayStandAfter, IsFormed}
-use Rattle.archive_text.proofs.Lists.{none_rises}
-use Rattle.archive_text.proofs.PlainRows.{name_none, size_none, edge_none, key_none, count_none, shells_none, end_none, same_name, same_size, same_edge, same_key, same_count, same_sizes}
+use Rattle.graph_rows.proofs.CallerLemmas.{none_rises, size_none, edge_none, same_size, same_edge}
+use Rattle.archive_text.proofs.PlainRows.{name_none, key_none, count_none, shells_none, end_none, same_name, same_key, same_count, same_sizes}
 
 -- the part with one more row; after the end another entry begins
 abbrev pub part_with : Part → Row → Part

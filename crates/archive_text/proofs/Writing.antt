@@ -9,10 +9,13 @@ use Rattle.line_text.proofs.CallerLemmas.{rows_text_of_sum}
 use Rattle.net_entries.specs.Entries.{EntryView}
 use Rattle.archive_text.specs.declared.version.Version.{Version}
 use Rattle.archive_text.specs.declared.version.Version.TheVariants.{One, Two}
-use Rattle.archive_text.specs.Rows.{OfKey, OfEnd, row_lines, size_of_graph, key_row, shells_row, end_row}
+use Rattle.archive_text.specs.Rows.{OfKey, OfEnd, row_lines, name_row, key_row, shells_row, end_row}
+use Rattle.graph_rows.specs.Rows.{size_of_graph}
 use Rattle.archive_text.specs.Parts.{class_rows, drawn_rows, shells_rows, part_rows}
 use Rattle.archive_text.specs.Texts.{entry_rows, entry_lines, whole_part}
-use Rattle.archive_text.proofs.RowSums.{lines_of_sum}
+use Rattle.archive_text.proofs.RowSums.{lines_of_sum, edges_same}
+use Rattle.periodic_net.specs.Graph.{Graph}
+use Rattle.graph_rows.specs.Rows.{graph_lines, size_row}
 
 -- rows after rows
 pub rows_written : (before now after : List ℕ) (xs ys : List (List ℕ)) → now ≡ before ++ rows_text xs → after ≡ now ++ rows_text ys → after ≡ before ++ rows_text (xs ++ ys)
@@ -28,6 +31,12 @@ class_written before now after lists k sizes rest at put was =
     ap (λ l. l ++ rows_text later) put ∙ append_assoc now (rows_text (shells_row (k + 1) sizes ∷ [])) (rows_text later)
     ∙ ap (λ l. now ++ l) (sym (rows_text_of_sum (shells_row (k + 1) sizes ∷ []) later))
     ∙ ap (λ l. now ++ rows_text (row_lines (shells_rows (k + 1) l))) (sym left) ∙ was
+
+-- a name and the rows of a graph
+pub drawn_written : (name : List ℕ) (G : Graph) (before now after : List ℕ) → now ≡ before ++ rows_text (name_row name ∷ []) → after ≡ now ++ rows_text (graph_lines G) → after ≡ before ++ rows_text (row_lines (drawn_rows name (size_of_graph G) G.edges))
+drawn_written name G before now after one two =
+    rows_written before now after (name_row name ∷ []) (graph_lines G) one two
+    ∙ ap (λ l. before ++ rows_text (name_row name ∷ size_row (size_of_graph G) ∷ l)) (sym (edges_same G.dimension G.edges))
 
 -- the parts of an entry
 entry_parts : (v : Version) (e : EntryView) → part_rows (whole_part v e) ≡ drawn_rows e.name (size_of_graph e.graph) e.graph.edges ++ OfKey e.key ∷ class_rows v e.shells

@@ -4,10 +4,11 @@ use Rattle.periodic_net.specs.Graph.{Arc}
 use Rattle.quotient_graph.specs.Order.{AreRising}
 use Rattle.archive_text.specs.declared.version.Version.{Version}
 use Rattle.archive_text.specs.declared.version.Version.TheVariants.{One, Two}
-use Rattle.archive_text.specs.declared.size.GraphSize.{GraphSize}
-use Rattle.archive_text.specs.Names.{is_name}
+use Rattle.graph_rows.specs.declared.size.GraphSize.{GraphSize}
+use Rattle.line_text.specs.Names.{is_name}
 use Rattle.archive_text.specs.Rows.{Row, OfName, OfSize, OfEdge, OfKey, OfCount, OfShells, OfEnd, row_line}
-use Rattle.archive_text.specs.Forms.{IsSize, IsEdgeOfSize, IsNextEdge, IsKeyList, IsCount, AreSizes}
+use Rattle.archive_text.specs.Forms.{IsKeyList, IsCount, AreSizes}
+use Rattle.graph_rows.specs.Forms.{IsSize, IsEdgeOfSize, IsNextEdge}
 
 -- the first rows of an entry
 pub data Part : Type 0 where

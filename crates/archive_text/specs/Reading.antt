@@ -1,35 +1,21 @@
 -- Where the reading of an entry stands.
-use Rattle.std.specs.Prelude.{ℕ, ℤ, ◌≡◌, true, ◌<◌, ◌≤◌, ◌+◌, List, [], ◌∷◌, ◌++◌, length, map, All, Option, None, Some, Result, IfOk, MatchResult}
-use Rattle.line_text.specs.Lines.{Place, IsAt}
-use Rattle.quotient_graph.specs.Order.{AreRising}
+use Rattle.std.specs.Prelude.{ℕ, ℤ, ◌≡◌, true, ◌<◌, ◌≤◌, ◌+◌, List, [], ◌∷◌, ◌++◌, length, map, All, Result, IfOk, MatchResult}
+use Rattle.line_text.specs.Lines.{Place, IsAt, last_line}
 use Rattle.periodic_net.specs.Graph.{Arc}
-use Rattle.archive_text.specs.Names.{is_name}
-use Rattle.archive_text.specs.Rows.{name_row, size_row, edge_row, key_row, count_row, shells_row, end_row, OfEdge, row_lines}
-use Rattle.archive_text.specs.Forms.{IsSize, IsEdgeOfSize, IsNextEdge, IsKeyList, IsCount, AreSizes}
+use Rattle.line_text.specs.Names.{is_name}
+use Rattle.archive_text.specs.Rows.{name_row, key_row, count_row, shells_row, end_row, row_lines}
+use Rattle.archive_text.specs.Forms.{IsKeyList, IsCount, AreSizes}
 use Rattle.archive_text.specs.Parts.{Part, Start, Named, Drawn, Keyed, Counted, end_part, part_rows, shells_rows, IsFormed, HasEdgesAndKey, NoneFollows}
 use Rattle.archive_text.specs.declared.version.Version.{Version}
 use Rattle.archive_text.specs.declared.rest.KeyedGraph.{KeyedGraph}
 use Rattle.archive_text.specs.declared.rest.Form.{Form}
-use Rattle.archive_text.specs.declared.size.GraphSize.{GraphSize}
-use Rattle.archive_text.specs.Texts.{most_lines}
+use Rattle.graph_rows.specs.declared.size.GraphSize.{GraphSize}
 use Rattle.cgd_read.specs.Graphs.{edge_of}
-use Rattle.cgd_read.specs.declared.block.RawEdge.{RawEdge}
-
--- the edge is the last of these; or there is none
-abbrev pub IsLastOf : Option RawEdge → List Arc → Type 0
-IsLastOf None edges = edges ≡ []
-IsLastOf (Some e) edges = (before : List Arc) × (edges ≡ before ++ edge_of e ∷ [])
 
 -- what does not stand at the beginning of what is left
 
 abbrev pub NoName : List ℕ → Type 0
 NoName left = (name rest : List ℕ) → is_name name ≡ true → left ≡ name_row name ++ 10 ∷ rest → ⊥
-
-abbrev pub NoSize : List ℕ → Type 0
-NoSize left = (size : GraphSize) (rest : List ℕ) → IsSize size → left ≡ size_row size ++ 10 ∷ rest → ⊥
-
-abbrev pub NoEdge : GraphSize → List Arc → List ℕ → Type 0
-NoEdge size edges left = (e : Arc) (rest : List ℕ) → IsNextEdge size edges e → left ≡ edge_row size.dim e ++ 10 ∷ rest → ⊥
 
 abbrev pub NoKey : List ℕ → Type 0
 NoKey left = (key : List ℤ) (rest : List ℕ) → IsKeyList key → left ≡ key_row key ++ 10 ∷ rest → ⊥
@@ -39,35 +25,6 @@ NoCount left = (n : ℕ) (rest : List ℕ) → IsCount n → left ≡ count_row 
 
 abbrev pub NoShells : ℕ → List ℕ → Type 0
 NoShells class left = (sizes rest : List ℕ) → AreSizes sizes → left ≡ shells_row class sizes ++ 10 ∷ rest → ⊥
-
--- these edges, as bytes
-abbrev pub edge_lines : ℕ → List Arc → List (List ℕ)
-edge_lines dim edges = row_lines (map (OfEdge dim) edges)
-
--- these edges are read from the one place to the other, the last of which is told
-pub record AreReadTo (start now : Place) (s : GraphSize) (edges : List Arc) (last : Option RawEdge) : Type 0 where
-  pub at : (text : List ℕ) (rows : List (List ℕ)) → IsAt text rows start → IsAt text (rows ++ edge_lines s.dim edges) now
-  pub each : All (IsEdgeOfSize s) edges
-  pub rising : AreRising edges
-  pub last_is : IsLastOf last edges
-
--- these edges were read, all that the size tells
-pub record HasEdges (text : List ℕ) (rows : List (List ℕ)) (s : GraphSize) (edges : List Arc) (place : Place) : Type 0 where
-  pub at : IsAt text (rows ++ edge_lines s.dim edges) place
-  pub each : All (IsEdgeOfSize s) edges
-  pub rising : AreRising edges
-  pub whole : length edges ≡ s.edges
-
--- after some of the edges the line with this number is no next edge
-pub record HasBadEdge (text : List ℕ) (rows : List (List ℕ)) (s : GraphSize) (n : ℕ) : Type 0 where
-  pub edges : List Arc
-  pub place : Place
-  pub at : IsAt text (rows ++ edge_lines s.dim edges) place
-  pub number : n ≡ place.number
-  pub each : All (IsEdgeOfSize s) edges
-  pub rising : AreRising edges
-  pub few : length edges < s.edges
-  pub none : NoEdge s edges place.rest
 
 -- the shells of so many classes, as bytes
 abbrev pub shells_lines : List (List ℕ) → List (List ℕ)
@@ -121,7 +78,7 @@ pub record HasKeyed (text : List ℕ) (rows : List (List ℕ)) (name : List ℕ)
   pub at : IsAt text (rows ++ row_lines (part_rows (keyed_part name k))) place
   pub formed : HasEdgesAndKey name k.size (map edge_of k.edges.items) k.key
   pub line : k.key_line ≡ length rows + (length k.edges.items + 3)
-  pub within : k.key_line ≤ most_lines
+  pub within : k.key_line ≤ last_line
 
 -- the rows of an entry before its end were read
 pub record HasWhole (v : Version) (text : List ℕ) (rows : List (List ℕ)) (part : Part) (place : Place) : Type 0 where
@@ -145,4 +102,4 @@ pub record HasForm (v : Version) (text : List ℕ) (rows : List (List ℕ)) (nam
   pub ends : before_end.rest ≡ end_row ++ 10 ∷ after.rest
   pub at_end : IsAt text ((rows ++ row_lines (part_rows (form_part v name f))) ++ end_row ∷ []) after
   pub line : f.keyed.key_line ≡ length rows + (length f.keyed.edges.items + 3)
-  pub within : f.keyed.key_line ≤ most_lines
+  pub within : f.keyed.key_line ≤ last_line

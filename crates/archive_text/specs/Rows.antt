@@ -1,11 +1,11 @@
 -- The rows of an archive, each without its line feed.
-use Rattle.std.specs.Prelude.{ℕ, ℤ, pos, List, [], ◌∷◌, ◌++◌, length, map, codes}
-use Rattle.integers.specs.Vectors.{parts}
-use Rattle.periodic_net.specs.Graph.{Graph, Arc}
+use Rattle.std.specs.Prelude.{ℕ, ℤ, pos, List, [], ◌∷◌, ◌++◌, map, codes}
+use Rattle.periodic_net.specs.Graph.{Arc}
 use Rattle.line_text.specs.Numbers.{row_text}
 use Rattle.archive_text.specs.declared.version.Version.{Version}
 use Rattle.archive_text.specs.declared.version.Version.TheVariants.{One, Two}
-use Rattle.archive_text.specs.declared.size.GraphSize.{GraphSize}
+use Rattle.graph_rows.specs.Rows.{size_row, edge_row}
+use Rattle.graph_rows.specs.declared.size.GraphSize.{GraphSize}
 
 -- `net_archive` and the version
 abbrev pub first_row : Version → List ℕ
@@ -15,22 +15,6 @@ first_row Two = codes "net_archive 2"
 -- `entry` and a name between quotes
 unfoldable pub name_row : List ℕ → List ℕ
 name_row name = codes "entry \"" ++ (name ++ codes "\"")
-
--- the dimension, the number of vertices, the number of edges
-abbrev pub size_numbers : GraphSize → List ℤ
-size_numbers s = pos s.dim ∷ pos s.vertices ∷ pos s.edges ∷ []
-
--- `graph` and the size
-unfoldable pub size_row : GraphSize → List ℕ
-size_row s = row_text (codes "graph") (size_numbers s)
-
--- both vertices, and as many parts of the shift as there are dimensions
-abbrev pub edge_numbers : ℕ → Arc → List ℤ
-edge_numbers dim e = pos e.from ∷ pos e.to ∷ parts dim e.shift
-
--- `edge` and these numbers
-unfoldable pub edge_row : ℕ → Arc → List ℕ
-edge_row dim e = row_text (codes "edge") (edge_numbers dim e)
 
 -- `key` and its numbers
 unfoldable pub key_row : List ℤ → List ℕ
@@ -77,7 +61,3 @@ row_line OfEnd = end_row
 -- the bytes of these rows
 abbrev pub row_lines : List Row → List (List ℕ)
 row_lines rows = map row_line rows
-
--- the size of a graph
-abbrev pub size_of_graph : Graph → GraphSize
-size_of_graph G = record { dim = G.dimension; vertices = G.vertices; edges = length G.edges }

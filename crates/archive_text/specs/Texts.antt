@@ -1,18 +1,15 @@
 -- The text of an archive.
-use Rattle.std.specs.Prelude.{ℕ, ◌+◌, List, [], ◌∷◌, ◌++◌, flat_map}
+use Rattle.std.specs.Prelude.{ℕ, List, [], ◌∷◌, ◌++◌, flat_map}
 use Rattle.line_text.specs.Lines.{rows_text}
 use Rattle.net_entries.specs.Entries.{EntryView}
 use Rattle.archive_text.specs.declared.version.Version.{Version}
-use Rattle.archive_text.specs.Rows.{Row, OfEnd, row_lines, first_row, size_of_graph}
+use Rattle.archive_text.specs.Rows.{Row, OfEnd, row_lines, first_row}
+use Rattle.graph_rows.specs.Rows.{size_of_graph}
 use Rattle.archive_text.specs.Parts.{Part, end_part, part_rows}
 
 -- the bytes of a text, at most
 abbrev pub most_bytes : ℕ
 most_bytes = 16777216
-
--- its lines, at most, and so the number of one
-abbrev pub most_lines : ℕ
-most_lines = most_bytes + 1
 
 -- the entry without its end
 abbrev pub whole_part : Version → EntryView → Part

@@ -3,7 +3,7 @@ ghost use Rattle.std.specs.Prelude.{ℕ, pos, ◌≡◌, List, [], ◌∷◌, Al
 ghost use Rattle.archive_text.specs.Rows.{shells_numbers};
 ghost use Rattle.archive_text.specs.Forms.{AreSizes, IsCount, IsShort};
 
-use crate::form::between;
+use graph_rows::between;
 use periodic_net::MOST_VERTICES;
 use std::alloc::{AllocError, Global};
 

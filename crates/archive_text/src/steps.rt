@@ -1,20 +1,13 @@
 // Reads the rows of an entry, one by one.
 ghost use Rattle.std.specs.Prelude.{ℕ, List, ◌≡◌, ◌≤◌, ◌↔◌, ◌++◌, ◌∷◌, [], true, IsTrue, IfOk, IfSome, IfNone, length};
 ghost use Rattle.line_text.specs.Lines.{IsAt};
-ghost use Rattle.periodic_net.specs.Graph.{Arc};
-ghost use Rattle.cgd_read.specs.Graphs.{edge_of};
-ghost use Rattle.quotient_graph.specs.Order.{AreRising};
-ghost use Rattle.archive_text.specs.Names.{is_name};
-ghost use Rattle.archive_text.specs.Rows.{name_row, size_row, edge_row, key_row, count_row, shells_row, end_row};
-ghost use Rattle.archive_text.specs.Forms.{IsSize, IsNextEdge, IsKeyList, IsCount, AreSizes, most_numbers};
-ghost use Rattle.archive_text.specs.Reading.{IsLastOf, NoName, NoSize, NoEdge, NoKey, NoCount, NoShells};
+ghost use Rattle.line_text.specs.Names.{is_name};
+ghost use Rattle.archive_text.specs.Rows.{name_row, key_row, count_row, shells_row, end_row};
+ghost use Rattle.archive_text.specs.Forms.{IsKeyList, IsCount, AreSizes, most_numbers};
+ghost use Rattle.archive_text.specs.Reading.{NoName, NoKey, NoCount, NoShells};
 
-use crate::GraphSize;
-use crate::edge::edge_after;
-use crate::form::{is_name, size_of};
 use crate::shells::{count_from, sizes_from};
-use cgd_read::RawEdge;
-use line_text::Lines;
+use line_text::{Lines, is_name};
 use periodic_net::MOST_EDGES;
 use quotient_graph::Key;
 use std::alloc::AllocError;
@@ -34,47 +27,6 @@ pub fn next_name<'a>(lines: &mut Lines<'a>) -> Option<&'a [u8]>
     match lines.next_inner(b"entry \"", b"\"") {
         Some(name) => { if is_name(name) { Some(name) } else { None } }
         None => None,
-    }
-}
-
-/// The size of a graph on the next line.
-pub fn next_size(
-    lines: &mut Lines<'_>,
-    numbers: &mut Vec<i128>,
-) -> Result<Option<GraphSize>, AllocError>
-    ensures place { (text : List ℕ) (rows : List (List ℕ)) → IsAt text rows lines.old →
-        IfOk result (λ found. IfSome found (λ size.
-        IsAt text (rows ++ size_row size ∷ []) lines.new)) }
-    ensures form { IfOk result (λ found. IfSome found IsSize) }
-    ensures none { IfOk result (λ found. IfNone found (NoSize lines.old.rest)) }
-{
-    if lines.next_row(b"graph", numbers)? {
-        Ok(size_of(numbers))
-    } else {
-        Ok(None)
-    }
-}
-
-/// The edge on the next line, after the last one.
-pub fn next_edge(
-    lines: &mut Lines<'_>,
-    size: &GraphSize,
-    last: Option<RawEdge>,
-    numbers: &mut Vec<i128>,
-) -> Result<Option<RawEdge>, AllocError>
-    requires { IsSize size.now }
-    ensures place { (text : List ℕ) (rows : List (List ℕ)) → IsAt text rows lines.old →
-        IfOk result (λ found. IfSome found (λ e.
-        IsAt text (rows ++ edge_row size.now.dim (edge_of e) ∷ []) lines.new)) }
-    ensures form { (edges : List Arc) → IsLastOf last edges → AreRising edges →
-        IfOk result (λ found. IfSome found (λ e. IsNextEdge size.now edges (edge_of e))) }
-    ensures none { (edges : List Arc) → IsLastOf last edges →
-        IfOk result (λ found. IfNone found (NoEdge size.now edges lines.old.rest)) }
-{
-    if lines.next_row(b"edge", numbers)? {
-        Ok(edge_after(size, last, numbers))
-    } else {
-        Ok(None)
     }
 }
 

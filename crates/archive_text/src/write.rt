@@ -4,16 +4,18 @@ ghost use Rattle.line_text.specs.Numbers.{numbers_text};
 ghost use Rattle.line_text.specs.Lines.{rows_text};
 ghost use Rattle.quotient_graph.specs.AnyGraphs.{graph_in};
 ghost use Rattle.net_entries.specs.Entries.{entry_view};
-ghost use Rattle.archive_text.specs.Rows.{OfSize, OfEdge, first_row, row_lines, size_of_graph, name_row, size_row, edge_row, key_row, count_row, shells_row, end_row};
+ghost use Rattle.archive_text.specs.Rows.{first_row, row_lines, name_row, key_row, count_row, shells_row, end_row};
+ghost use Rattle.graph_rows.specs.Rows.{size_of_graph};
 ghost use Rattle.archive_text.specs.Parts.{class_rows, drawn_rows, shells_rows};
 ghost use Rattle.archive_text.specs.Texts.{entry_lines};
 ghost use Rattle.periodic_net.specs.Limits.{most_vertices};
 
-use crate::{GraphSize, Version};
+use crate::Version;
 use coordination::Sequences;
+use graph_rows::push_graph;
 use line_text::{push_inner, push_number, push_numbers, push_row};
 use net_entries::Entry;
-use quotient_graph::{AnyGraph, Arc, Graph, Key};
+use quotient_graph::{AnyGraph, Key};
 use std::alloc::AllocError;
 
 /// The first line.
@@ -34,51 +36,6 @@ fn push_name(text: &mut Vec<u8>, name: &[u8]) -> Result<(), AllocError>
     push_inner(text, b"entry \"", name, b"\"")
 }
 
-#[tactic(auto, unfolding(crate::specs::Rows::size_row))]
-fn push_size(text: &mut Vec<u8>, size: GraphSize) -> Result<(), AllocError>
-    ensures { OnOk result (text.new.items ≡ text.old.items ++ rows_text (size_row size ∷ [])) }
-{
-    let numbers = [size.dim as i128, size.vertices as i128, size.edges as i128];
-    push_row(text, b"graph", &numbers)
-}
-
-#[tactic(auto, unfolding(crate::specs::Rows::edge_row))]
-fn push_edge<const D: usize>(text: &mut Vec<u8>, e: &Arc<D>) -> Result<(), AllocError>
-    ensures { OnOk result (text.new.items ≡ text.old.items ++ rows_text (edge_row D e.now ∷ [])) }
-{
-    let [u, v] = [e.from as i128, e.to as i128];
-    let [x, y, z] = [e.shift.x as i128, e.shift.y as i128, e.shift.z as i128];
-    if D == 2 {
-        push_row(text, b"edge", &[u, v, x, y])
-    } else {
-        push_row(text, b"edge", &[u, v, x, y, z])
-    }
-}
-
-fn push_edges<const D: usize>(text: &mut Vec<u8>, edges: &[Arc<D>]) -> Result<(), AllocError>
-    ensures { OnOk result (text.new.items ≡
-        text.old.items ++ rows_text (row_lines (map (OfEdge D) edges.now))) }
-{
-    for e in edges {
-        push_edge(text, e)?;
-    }
-    Ok(())
-}
-
-fn push_graph<const D: usize>(text: &mut Vec<u8>, graph: &Graph<D>) -> Result<(), AllocError>
-    ensures { OnOk result (text.new.items ≡ text.old.items ++
-        rows_text (row_lines (OfSize (size_of_graph graph.now) ∷
-        map (OfEdge graph.now.dimension) graph.now.edges))) }
-{
-    let size = GraphSize {
-        dim: graph.dimension(),
-        vertices: graph.vertices(),
-        edges: graph.edge_count(),
-    };
-    push_size(text, size)?;
-    push_edges(text, graph.edges())
-}
-
 // The rows of an entry before its key.
 fn push_drawn(text: &mut Vec<u8>, name: &[u8], graph: &AnyGraph) -> Result<(), AllocError>
     ensures { OnOk result (text.new.items ≡ text.old.items ++
@@ -86,10 +43,7 @@ fn push_drawn(text: &mut Vec<u8>, name: &[u8], graph: &AnyGraph) -> Result<(), A
         (graph_in graph.now).edges))) }
 {
     push_name(text, name)?;
-    match graph {
-        AnyGraph::Flat(graph) => push_graph(text, graph),
-        AnyGraph::Space(graph) => push_graph(text, graph),
-    }
+    push_graph(text, graph)
 }
 
 #[tactic(auto, unfolding(crate::specs::Rows::key_row))]

@@ -5,8 +5,8 @@ use Rattle.std.specs.Str.Parse.{AllDigits}
 use Rattle.std.proofs.lemmas.Fmt.{decimal_is_IsNumeral_wide}
 use Rattle.std.proofs.lemmas.Str.Parse.{digit_from_value}
 use Rattle.std.proofs.lemmas.Bool.{ne_eqb}
-use Rattle.line_text.specs.Lines.{HasNo, BeginsWith, blank}
-use Rattle.line_text.specs.Numbers.{IsWide, numbers_text}
+use Rattle.line_text.specs.Lines.{HasNo, BeginsWith}
+use Rattle.line_text.specs.Numbers.{IsWide, marked_text}
 
 pub digits_have_no : (m : ℕ) → m < 48 → (ds : List ℕ) → AllDigits 10 ds → HasNo m ds
 digits_have_no m small [] h = tt
@@ -16,6 +16,6 @@ pub number_has_no : (m : ℕ) → m < 45 → (z : ℤ) → IsWide z → HasNo m 
 number_has_no m small (pos n) fits = digits_have_no m (omega (arith, small)) (decimal n) (decimal_is_IsNumeral_wide n (omega (arith, fits.sfits))).0.1
 number_has_no m small (negsuc n) fits = (ne_eqb 45 m (λ e. omega (arith, e)), digits_have_no m (omega (arith, small)) (decimal (suc n)) (decimal_is_IsNumeral_wide (suc n) (omega (arith, fits.sfits))).0.1)
 
-pub numbers_begin : (zs : List ℤ) → BeginsWith blank (numbers_text zs)
-numbers_begin [] = tt
-numbers_begin (z ∷ zs) = refl
+pub numbers_begin : (m : ℕ) (zs : List ℤ) → BeginsWith m (marked_text m zs)
+numbers_begin m [] = tt
+numbers_begin m (z ∷ zs) = refl

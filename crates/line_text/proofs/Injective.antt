@@ -1,5 +1,5 @@
 -- A text of rows and numbers is that of one list alone.
-use Rattle.std.proofs.Common.{◌≡◌, ℕ, suc, ℤ, pos, negsuc, List, [], ◌∷◌, ◌++◌, All, length, drop, get_or, refl, sym, ap, ◌∙◌, arith}
+use Rattle.std.proofs.Common.{◌≡◌, ℕ, ◌<◌, suc, ℤ, pos, negsuc, List, [], ◌∷◌, ◌++◌, All, length, drop, get_or, refl, sym, ap, ◌∙◌, arith}
 use mathlib.Core.List.{append_assoc}
 use Rattle.std.specs.Fmt.{signed_decimal, decimal}
 use Rattle.std.specs.Str.Parse.{digits_value}
@@ -8,7 +8,7 @@ use Rattle.std.proofs.lemmas.Bool.{true≢false, eq-eqb}
 use Rattle.std.proofs.lemmas.List.{append_cancel_left, length-append}
 use Rattle.std.proofs.lemmas.List.Elements.{All-head, All-tail}
 use Rattle.line_text.specs.Lines.{before, onwards, HasNo, rows_text}
-use Rattle.line_text.specs.Numbers.{IsWide, numbers_text, row_text}
+use Rattle.line_text.specs.Numbers.{IsWide, marked_text, numbers_text, row_text}
 use Rattle.line_text.proofs.Digits.{digits_have_no, number_has_no, numbers_begin}
 use Rattle.line_text.proofs.Marks.{before_is, onwards_is}
 
@@ -30,20 +30,20 @@ same_number (negsuc m) (negsuc n) wy wz e = ap negsuc (omega (arith, values))
     values : suc m ≡ suc n
     values = sym (decimal_is_IsNumeral_wide (suc m) (omega (arith, wy.sfits))).1 ∙ ap (λ l. digits_value 10 (drop 1 l)) e ∙ (decimal_is_IsNumeral_wide (suc n) (omega (arith, wz.sfits))).1
 
-pub same_numbers : (ys zs : List ℤ) → All IsWide ys → All IsWide zs → numbers_text ys ≡ numbers_text zs → ys ≡ zs
-same_numbers [] [] wy wz e = refl
-same_numbers [] (z ∷ zs) wy wz e = let long = ap length e in absurd (omega (arith, long))
-same_numbers (y ∷ ys) [] wy wz e = let long = ap length e in absurd (omega (arith, long))
-same_numbers (y ∷ ys) (z ∷ zs) wy wz e =
+pub same_numbers : (m : ℕ) → m < 45 → (ys zs : List ℤ) → All IsWide ys → All IsWide zs → marked_text m ys ≡ marked_text m zs → ys ≡ zs
+same_numbers m small [] [] wy wz e = refl
+same_numbers m small [] (z ∷ zs) wy wz e = let long = ap length e in absurd (omega (arith, long))
+same_numbers m small (y ∷ ys) [] wy wz e = let long = ap length e in absurd (omega (arith, long))
+same_numbers m small (y ∷ ys) (z ∷ zs) wy wz e =
     let hy = All-head IsWide y ys wy in
     let hz = All-head IsWide z zs wz in
-    let both : signed_decimal y ++ numbers_text ys ≡ signed_decimal z ++ numbers_text zs = ap (drop 1) e in
-    let field = sym (before_is 32 (signed_decimal y) (numbers_text ys) (number_has_no 32 (omega arith) y hy) (numbers_begin ys)) ∙ ap (before 32) both ∙ before_is 32 (signed_decimal z) (numbers_text zs) (number_has_no 32 (omega arith) z hz) (numbers_begin zs) in
-    let after = sym (onwards_is 32 (signed_decimal y) (numbers_text ys) (number_has_no 32 (omega arith) y hy) (numbers_begin ys)) ∙ ap (onwards 32) both ∙ onwards_is 32 (signed_decimal z) (numbers_text zs) (number_has_no 32 (omega arith) z hz) (numbers_begin zs) in
-    ap (λ x. x ∷ ys) (same_number y z hy hz field) ∙ ap (λ l. z ∷ l) (same_numbers ys zs (All-tail IsWide y ys wy) (All-tail IsWide z zs wz) after)
+    let both : signed_decimal y ++ marked_text m ys ≡ signed_decimal z ++ marked_text m zs = ap (drop 1) e in
+    let field = sym (before_is m (signed_decimal y) (marked_text m ys) (number_has_no m small y hy) (numbers_begin m ys)) ∙ ap (before m) both ∙ before_is m (signed_decimal z) (marked_text m zs) (number_has_no m small z hz) (numbers_begin m zs) in
+    let after = sym (onwards_is m (signed_decimal y) (marked_text m ys) (number_has_no m small y hy) (numbers_begin m ys)) ∙ ap (onwards m) both ∙ onwards_is m (signed_decimal z) (marked_text m zs) (number_has_no m small z hz) (numbers_begin m zs) in
+    ap (λ x. x ∷ ys) (same_number y z hy hz field) ∙ ap (λ l. z ∷ l) (same_numbers m small ys zs (All-tail IsWide y ys wy) (All-tail IsWide z zs wz) after)
 
 pub same_row_numbers : (word : List ℕ) (ys zs : List ℤ) → All IsWide ys → All IsWide zs → row_text word ys ≡ row_text word zs → ys ≡ zs
-same_row_numbers word ys zs wy wz e = same_numbers ys zs wy wz (append_cancel_left word (numbers_text ys) (numbers_text zs) e)
+same_row_numbers word ys zs wy wz e = same_numbers 32 (omega arith) ys zs wy wz (append_cancel_left word (numbers_text ys) (numbers_text zs) e)
 
 -- no row has a line feed
 abbrev pub HaveNone : List (List ℕ) → Type 0

@@ -7,3 +7,4 @@ pub mod LineCuts
 pub mod Passing
 pub mod Between
 pub mod Injective
+pub mod Outcomes

@@ -1,6 +1,6 @@
 // One cursor over the lines of a text.
 ghost use Rattle.std.specs.Prelude.{ℕ, List, ◌≡◌, ◌==◌, [], ◌∷◌, ◌++◌, ◌+◌, ◌<◌, ◌≤◌, length, IfSome, IfNone, MatchOption};
-ghost use Rattle.line_text.specs.Lines.{HasNo, IsAt};
+ghost use Rattle.line_text.specs.Lines.{longest_text, last_line, HasNo, IsAt};
 
 use crate::cuts::cut;
 use std::marker::Model;
@@ -15,19 +15,19 @@ pub struct Lines<'a> {
 
 impl<'a> Model for Lines<'a> {
     ghost use Rattle.std.specs.Prelude.{length, ◌+◌, ◌≤◌};
-    ghost use Rattle.line_text.specs.Lines.{Place};
+    ghost use Rattle.line_text.specs.Lines.{Place, last_line};
 
     ghost Value = { Place };
 
     ghost view = { λ l. record { rest = l.rest.now; number = l.number } };
 
-    ghost invariant = { λ l. l.number + length l.rest.now ≤ 16777217 };
+    ghost invariant = { λ l. l.number + length l.rest.now ≤ last_line };
 }
 
 impl<'a> Lines<'a> {
     /// All lines of a text.
     pub fn new(text: &'a [u8]) -> Lines<'a>
-        requires { length text.now ≤ 16777216 }
+        requires { length text.now ≤ longest_text }
         ensures rest { result.rest ≡ text.now }
         ensures number { result.number ≡ 1 }
     {
@@ -40,7 +40,7 @@ impl<'a> Lines<'a> {
     /// The number of the next line.
     pub fn number(&self) -> u32
         ensures number { result ≡ self.now.number }
-        ensures within { result ≤ 16777217 }
+        ensures within { result ≤ last_line }
     {
         self.number
     }

@@ -1,25 +1,27 @@
 // Reads lines of numbers.
-ghost use Rattle.std.specs.Prelude.{ℕ, ℤ, List, ◌++◌, ◌≡◌, ◌≢◌, All, IfOk, Ok, true, MatchOption, IfSome};
-ghost use Rattle.line_text.specs.Numbers.{IsWide, numbers_text, row_text};
+ghost use Rattle.std.specs.Prelude.{ℕ, ℤ, List, ◌++◌, ◌≡◌, ◌≢◌, ◌<◌, All, IfOk, Ok, true, MatchOption, IfSome};
+ghost use Rattle.line_text.specs.Numbers.{IsWide, marked_text, row_text};
 
 use crate::cuts::cut;
 use crate::numbers::read_number;
 use std::alloc::AllocError;
 
-/// Whether the text is numbers, each after one blank; they take the place of those that were held.
-pub fn read_numbers(text: &[u8], numbers: &mut Vec<i128>) -> Result<bool, AllocError>
-    ensures spelling { result ≡ Ok true → text.now ≡ numbers_text numbers.new.items }
+/// Whether the text is numbers, each after one mark; they take the place of those that were held.
+/// The mark is a byte below the minus, so that no number has it.
+pub fn read_numbers(text: &[u8], mark: u8, numbers: &mut Vec<i128>) -> Result<bool, AllocError>
+    requires { mark < 45 }
+    ensures spelling { result ≡ Ok true → text.now ≡ marked_text mark numbers.new.items }
     ensures wide { result ≡ Ok true → All IsWide numbers.new.items }
     ensures every { IfOk result (λ read. (zs : List ℤ) → All IsWide zs →
-        text.now ≡ numbers_text zs → (read ≡ true) × (numbers.new.items ≡ zs)) }
+        text.now ≡ marked_text mark zs → (read ≡ true) × (numbers.new.items ≡ zs)) }
 {
     numbers.clear();
     let mut rest = text;
     while let [first, others @ ..] = rest {
-        if *first != b' ' {
+        if *first != mark {
             return Ok(false);
         }
-        let (field, after) = cut(others, b' ');
+        let (field, after) = cut(others, mark);
         match read_number(field) {
             Some(n) => numbers.push(n)?,
             None => return Ok(false),
@@ -44,7 +46,7 @@ pub fn read_row(line: &[u8], word: &[u8], numbers: &mut Vec<i128>) -> Result<boo
         line.now ≡ row_text word.now zs → (read ≡ true) × (numbers.new.items ≡ zs)) }
 {
     match after_word(line, word) {
-        Some(rest) => read_numbers(rest, numbers),
+        Some(rest) => read_numbers(rest, b' ', numbers),
         None => Ok(false),
     }
 }

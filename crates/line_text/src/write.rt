@@ -1,7 +1,7 @@
 // Writes numbers.
 ghost use Rattle.std.specs.Prelude.{◌≡◌, ◌++◌, ◌∷◌, [], OnOk};
-ghost use Rattle.std.specs.Fmt.{signed_decimal};
-ghost use Rattle.line_text.specs.Numbers.{numbers_text, row_text};
+ghost use Rattle.std.specs.Fmt.{decimal, signed_decimal};
+ghost use Rattle.line_text.specs.Numbers.{field_text, list_text, numbers_text, row_text};
 ghost use Rattle.line_text.specs.Lines.{rows_text};
 
 use itoa::Buffer;
@@ -18,6 +18,22 @@ pub fn push_number(text: &mut Vec<u8>, n: i128) -> Result<(), AllocError>
     }
 }
 
+/// A number without a sign, in decimal.
+pub fn push_count(text: &mut Vec<u8>, n: u64) -> Result<(), AllocError>
+    ensures { OnOk result (text.new.items ≡ text.old.items ++ decimal n) }
+{
+    let mut buffer = Buffer::new();
+    text.extend_from_slice(buffer.format(n).as_bytes())
+}
+
+/// A number after its label.
+pub fn push_field(text: &mut Vec<u8>, label: &[u8], n: u64) -> Result<(), AllocError>
+    ensures { OnOk result (text.new.items ≡ text.old.items ++ field_text label.now n) }
+{
+    text.extend_from_slice(label)?;
+    push_count(text, n)
+}
+
 /// Each number after a blank.
 pub fn push_numbers(text: &mut Vec<u8>, numbers: &[i128]) -> Result<(), AllocError>
     ensures { OnOk result (text.new.items ≡ text.old.items ++ numbers_text numbers.now) }
@@ -29,6 +45,19 @@ pub fn push_numbers(text: &mut Vec<u8>, numbers: &[i128]) -> Result<(), AllocErr
         left = others;
     }
     Ok(())
+}
+
+/// Numbers with blanks between them.
+pub fn push_wide_list(text: &mut Vec<u8>, numbers: &[i128]) -> Result<(), AllocError>
+    ensures { OnOk result (text.new.items ≡ text.old.items ++ list_text numbers.now) }
+{
+    match numbers {
+        [] => Ok(()),
+        [x, others @ ..] => {
+            push_number(text, *x)?;
+            push_numbers(text, others)
+        }
+    }
 }
 
 /// A word, and each number after a blank, as a line.

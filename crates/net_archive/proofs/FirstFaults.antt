@@ -6,7 +6,7 @@ use Rattle.std.proofs.lemmas.List.{append-nil}
 use Rattle.line_text.specs.Lines.{Place, IsAt}
 use Rattle.net_entries.specs.Entries.{EntryView}
 use Rattle.net_entries.specs.Lookups.{names_of}
-use Rattle.archive_text.specs.Names.{is_name}
+use Rattle.line_text.specs.Names.{is_name}
 use Rattle.archive_text.specs.Rows.{OfName, name_row, row_lines, end_row}
 use Rattle.archive_text.specs.Parts.{Part, Start, Named, Drawn, Keyed, Counted, part_rows, NoneFollows}
 use Rattle.archive_text.specs.Reading.{NoName, HasBadLine, HasForm, IsOf, form_part}

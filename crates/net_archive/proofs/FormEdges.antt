@@ -4,10 +4,10 @@ use Rattle.std.proofs.lemmas.List.{length-map, get_or-map}
 use Rattle.cgd_read.specs.Graphs.{edge_of}
 use Rattle.cgd_read.specs.declared.block.RawEdge.{RawEdge}
 use Rattle.quotient_graph.specs.EdgeLists.{IsEdgeAmong, AreEdgesOfGraph}
-use Rattle.archive_text.specs.declared.size.GraphSize.{GraphSize}
+use Rattle.graph_rows.specs.declared.size.GraphSize.{GraphSize}
 use Rattle.archive_text.specs.declared.version.Version.{Version}
 use Rattle.archive_text.specs.declared.rest.Form.{Form}
-use Rattle.archive_text.specs.Forms.{IsEdgeOfSize}
+use Rattle.graph_rows.specs.Forms.{IsEdgeOfSize}
 use Rattle.archive_text.specs.Parts.{IsFormed}
 use Rattle.archive_text.specs.Reading.{form_part}
 use Rattle.net_archive.proofs.MoreEntries.{keyed_in}

@@ -11,7 +11,8 @@ use Rattle.periodic_net.specs.Graph.{Arc}
 use Rattle.cgd_read.specs.Graphs.{edge_of}
 use Rattle.net_entries.specs.Entries.{EntryView}
 use Rattle.net_entries.specs.Lookups.{names_of}
-use Rattle.archive_text.specs.Rows.{OfEnd, row_lines, first_row, size_of_graph, end_row}
+use Rattle.archive_text.specs.Rows.{OfEnd, row_lines, first_row, end_row}
+use Rattle.graph_rows.specs.Rows.{size_of_graph}
 use Rattle.archive_text.specs.Parts.{Keyed, Counted, part_rows, IsFormed, HasEdgesAndKey}
 use Rattle.archive_text.specs.Reading.{HasForm, form_part}
 use Rattle.archive_text.specs.Texts.{whole_part, entry_rows, entry_lines, rows_before}

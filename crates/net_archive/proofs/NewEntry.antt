@@ -17,10 +17,11 @@ use Rattle.least_key.specs.Certain.{IsCertain}
 use Rattle.least_key.specs.KeyedNets.{KeyedNet, IsKeyed}
 use Rattle.least_key.proofs.CallerLemmas.{key_of_graph, keyed_is_certain}
 use Rattle.net_entries.specs.Entries.{EntryView}
-use Rattle.archive_text.specs.Forms.{AreSizes, IsSize}
-use Rattle.archive_text.specs.Names.{is_name}
+use Rattle.archive_text.specs.Forms.{AreSizes}
+use Rattle.graph_rows.specs.Forms.{IsSize}
+use Rattle.line_text.specs.Names.{is_name}
 use Rattle.archive_text.specs.Parts.{IsCounted, HasEdgesAndKey}
-use Rattle.archive_text.specs.Rows.{size_of_graph}
+use Rattle.graph_rows.specs.Rows.{size_of_graph}
 use Rattle.net_archive.specs.Adding.{IsEntryOf}
 use Rattle.net_archive.specs.Archives.{IsEntry}
 use Rattle.key_theory.proofs.CallerLemmas.{key_is_short}

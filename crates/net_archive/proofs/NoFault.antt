@@ -7,7 +7,7 @@ use Rattle.line_text.specs.Lines.{Place, rows_text}
 use Rattle.line_text.proofs.CallerLemmas.{same_row}
 use Rattle.net_entries.specs.Entries.{EntryView}
 use Rattle.net_entries.specs.Lookups.{names_of}
-use Rattle.archive_text.specs.Names.{is_name}
+use Rattle.line_text.specs.Names.{is_name}
 use Rattle.archive_text.specs.Rows.{Row, OfName, OfSize, OfEdge, OfKey, OfCount, OfShells, OfEnd, row_lines, name_row}
 use Rattle.archive_text.specs.Parts.{Part, Start, MayStandAfter}
 use Rattle.archive_text.specs.Texts.{entry_rows}

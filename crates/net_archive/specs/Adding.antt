@@ -4,7 +4,7 @@ use Rattle.coordination.specs.Sequences.{AreSequencesOf}
 use Rattle.least_key.specs.KeyedNets.{KeyedNet}
 use Rattle.net_entries.specs.Entries.{EntryView}
 use Rattle.net_entries.specs.Lookups.{names_of}
-use Rattle.archive_text.specs.Names.{is_name}
+use Rattle.line_text.specs.Names.{is_name}
 use Rattle.net_archive.specs.Archives.{ArchiveView, archive_text, with_entry, most_entries}
 use Rattle.net_archive.specs.declared.faults.AddFault.{AddFault}
 use Rattle.net_archive.specs.declared.faults.AddFault.TheVariants.{NameTaken, BadName, Full, NoMemory}

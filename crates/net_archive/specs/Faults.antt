@@ -3,7 +3,7 @@ use Rattle.std.specs.Prelude.{◌≡◌, ◌≢◌, ◌⊎◌, ℕ, ◌+◌, ◌
 use Rattle.line_text.specs.Lines.{Place, IsAt}
 use Rattle.net_entries.specs.Entries.{EntryView}
 use Rattle.net_entries.specs.Lookups.{names_of}
-use Rattle.archive_text.specs.Names.{is_name}
+use Rattle.line_text.specs.Names.{is_name}
 use Rattle.archive_text.specs.Rows.{first_row, name_row, end_row, row_lines}
 use Rattle.archive_text.specs.Parts.{Part, Start, Named, Drawn, Keyed, Counted, part_rows, IsFormed, NoneFollows}
 use Rattle.archive_text.specs.Reading.{form_part}

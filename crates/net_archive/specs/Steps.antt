@@ -2,7 +2,7 @@
 use Rattle.std.specs.Prelude.{◌≡◌, ◌⊎◌, ℕ, ◌+◌, true, List, [], ◌∷◌, ◌++◌, length}
 use Rattle.line_text.specs.Lines.{Place, IsAt}
 use Rattle.net_entries.specs.Entries.{EntryView}
-use Rattle.archive_text.specs.Names.{is_name}
+use Rattle.line_text.specs.Names.{is_name}
 use Rattle.archive_text.specs.Rows.{first_row, name_row}
 use Rattle.archive_text.specs.Texts.{rows_before}
 use Rattle.archive_text.specs.declared.version.Version.{Version}

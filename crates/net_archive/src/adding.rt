@@ -7,13 +7,12 @@ ghost use Rattle.quotient_graph.specs.Order.{AreRising};
 ghost use Rattle.least_key.specs.AnyNets.{net_in};
 ghost use Rattle.net_entries.specs.Entries.{entry_view};
 ghost use Rattle.archive_text.specs.Texts.{entry_lines, most_bytes};
-ghost use Rattle.archive_text.specs.Names.{is_name};
+ghost use Rattle.line_text.specs.Names.{is_name};
 ghost use Rattle.net_archive.specs.Adding.{IsEntryOf};
 ghost use Rattle.net_archive.specs.Archives.{IsEntry, most_entries};
 
 use crate::judge::sequences_of;
-use crate::migrating::MOST_BYTES;
-use archive_text::{Version, push_entry};
+use archive_text::{MOST_BYTES, Version, push_entry};
 use least_key::Net;
 use net_entries::{Entries, Entry};
 use quotient_graph::AnyGraph;

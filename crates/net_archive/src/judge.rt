@@ -8,7 +8,7 @@ ghost use Rattle.quotient_graph.specs.EdgeLists.{AreEdgesOfGraph};
 ghost use Rattle.net_entries.specs.Entries.{entry_view};
 ghost use Rattle.net_archive.specs.Judging.{AreRefusedShells, HasKey, IsDifferingClass, IsEntryOfForm, IsJudged, IsOtherKey, IsRefusedAt, graph_of_form, graph_of_keyed};
 ghost use Rattle.periodic_net.specs.Limits.{most_vertices};
-ghost use Rattle.archive_text.specs.Texts.{most_lines};
+ghost use Rattle.line_text.specs.Lines.{last_line};
 
 use crate::ArchiveFault;
 use archive_text::{Form, KeyedGraph, Version};
@@ -74,7 +74,7 @@ fn check_shells(
     kept: &Sequences,
     computed: &Sequences,
 ) -> Result<(), ArchiveFault>
-    requires line { key_line ≤ most_lines }
+    requires line { key_line ≤ last_line }
     requires kept { length kept.now ≤ most_vertices }
     requires computed { length computed.now ≤ most_vertices }
     ensures same { OnOk result (kept.now ≡ computed.now) }
@@ -106,7 +106,7 @@ fn check_version(
     kept: &Sequences,
     computed: &Sequences,
 ) -> Result<(), ArchiveFault>
-    requires line { key_line ≤ most_lines }
+    requires line { key_line ≤ last_line }
     requires kept { length kept.now ≤ most_vertices }
     requires computed { length computed.now ≤ most_vertices }
     ensures same { OnOk result (version ≡ Version.Two → kept.now ≡ computed.now) }
@@ -145,7 +145,7 @@ fn check_net(
 ) -> Result<Sequences, ArchiveFault>
     requires graph { (net_in net.now).placed.graph ≡ graph_of_form form.now }
     requires keyed { IsKeyed (net_in net.now) }
-    requires line { form.now.keyed.key_line ≤ most_lines }
+    requires line { form.now.keyed.key_line ≤ last_line }
     requires few { length form.now.shells ≤ most_vertices }
     ensures key { OnOk result (HasKey form.now) }
     ensures shells { IfOk result (AreSequencesOf (graph_of_form form.now)) }
@@ -169,7 +169,7 @@ fn check_form(
     form: &Form,
 ) -> Result<Sequences, ArchiveFault>
     requires graph { graph_in graph.now ≡ graph_of_form form.now }
-    requires line { form.now.keyed.key_line ≤ most_lines }
+    requires line { form.now.keyed.key_line ≤ last_line }
     requires few { length form.now.shells ≤ most_vertices }
     ensures key { OnOk result (HasKey form.now) }
     ensures shells { IfOk result (AreSequencesOf (graph_of_form form.now)) }
@@ -199,7 +199,7 @@ pub fn judge(
 ) -> Result<Entry, ArchiveFault>
     requires edges { AreEdgesOfGraph form.keyed.size.dim form.keyed.size.vertices
         form.keyed.edges.items }
-    requires line { form.keyed.key_line ≤ most_lines }
+    requires line { form.keyed.key_line ≤ last_line }
     requires few { length form.shells ≤ most_vertices }
     ensures entry { IfOk result (λ e. IsEntryOfForm version name.now form (entry_view e)) }
     ensures fault { IfErr result (IsJudged version line form) }

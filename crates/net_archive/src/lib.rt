@@ -10,9 +10,8 @@ mod migrating;
 mod reading;
 
 pub use archive::Archive;
-pub use archive_text::Version;
+pub use archive_text::{MOST_BYTES, Version};
 pub use faults::{AddFault, ArchiveFault, MigrateFault};
 pub use judge::sequences_of;
 pub use laws::{archives_have_no_fault, one_archive};
-pub use migrating::MOST_BYTES;
 pub use net_entries::{Entry, Groups, Matches};

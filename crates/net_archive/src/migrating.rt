@@ -6,12 +6,9 @@ ghost use Rattle.net_archive.specs.Archives.{IsEntry};
 ghost use Rattle.net_archive.specs.Migrating.{IsTooLong};
 
 use crate::MigrateFault;
-use archive_text::{Version, push_entry, push_first};
+use archive_text::{MOST_BYTES, Version, push_entry, push_first};
 use net_entries::Entry;
 use std::alloc::{AllocError, Global};
-
-/// So many bytes has the text of an archive at most.
-pub const MOST_BYTES: usize = 16_777_216;
 
 // The rows of the entries in version 2, after the first line.
 fn rows_in_two(alloc: Global, entries: &[Entry]) -> Result<Vec<u8>, AllocError>

@@ -6,7 +6,7 @@ use Rattle.archive_text.specs.Rows.{row_lines, count_row}
 use Rattle.archive_text.specs.Forms.{IsCount}
 use Rattle.archive_text.specs.Parts.{Keyed, end_part, part_rows}
 use Rattle.archive_text.specs.Reading.{NoCount, HasShells, HasBadShells, HasWhole, HasBadLine}
-use Rattle.archive_text.proofs.Outcomes.{at_none, at_some, result_from}
+use Rattle.line_text.proofs.CallerLemmas.{at_none, at_some, result_from}
 use Rattle.archive_text.proofs.BadLines.{bad_count, bad_shells, whole_shells, counted_heads}
 use Rattle.archive_text.proofs.rest.read_counted.Goals as goal
 

@@ -5,7 +5,7 @@ use Rattle.archive_text.specs.declared.rest.Form.{Form}
 use Rattle.archive_text.specs.Rows.{row_lines}
 use Rattle.archive_text.specs.Parts.{part_rows, end_part}
 use Rattle.archive_text.specs.Reading.{HasKeyed, HasWhole, HasForm, HasBadLine}
-use Rattle.archive_text.proofs.Outcomes.{at_ok, at_err}
+use Rattle.line_text.proofs.CallerLemmas.{at_ok, at_err}
 use Rattle.archive_text.proofs.BadLines.{bad_end}
 use Rattle.archive_text.proofs.rest.read_rest.Goals as goal
 use Rattle.archive_text.proofs.rest.read_rest.Goals.{then-next_end, else-next_end}

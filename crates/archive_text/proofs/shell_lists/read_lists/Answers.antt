@@ -4,7 +4,7 @@ use Rattle.line_text.specs.Lines.{IsAt}
 use Rattle.archive_text.specs.Rows.{shells_row}
 use Rattle.archive_text.specs.Forms.{AreSizes}
 use Rattle.archive_text.specs.Reading.{AreShellsTo, NoShells}
-use Rattle.archive_text.proofs.Outcomes.{at_none, at_some}
+use Rattle.line_text.proofs.CallerLemmas.{at_none, at_some}
 use Rattle.archive_text.proofs.Lists.{one_more_class}
 use Rattle.archive_text.proofs.shell_lists.read_lists.Goals as goal
 

@@ -7,7 +7,7 @@ use Rattle.line_text.specs.Numbers.{row_text}
 use Rattle.archive_text.specs.Rows.{count_row}
 use Rattle.archive_text.specs.Reading.{NoCount}
 use Rattle.archive_text.proofs.RowForms.{count_wide}
-use Rattle.archive_text.proofs.Outcomes.{none_from, some_from}
+use Rattle.line_text.proofs.CallerLemmas.{none_from, some_from}
 use Rattle.archive_text.proofs.steps.next_count.Goals as goal
 
 pub returns-then-branch-clause-place : goal.returns-then-branch-clause-place

@@ -1,7 +1,7 @@
 use Rattle.std.proofs.Common.{sym, ap, ◌∙◌}
 use Rattle.std.proofs.lemmas.Bool.{true≢false}
 use Rattle.archive_text.specs.Rows.{name_row}
-use Rattle.archive_text.specs.Names.{is_name}
+use Rattle.line_text.specs.Names.{is_name}
 use Rattle.archive_text.proofs.RowForms.{entry_has_no}
 use Rattle.archive_text.proofs.steps.next_name.Goals as goal
 

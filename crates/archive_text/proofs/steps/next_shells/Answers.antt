@@ -8,7 +8,7 @@ use Rattle.archive_text.specs.Rows.{shells_row, shells_numbers}
 use Rattle.archive_text.specs.Forms.{AreSizes}
 use Rattle.archive_text.specs.Reading.{NoShells}
 use Rattle.archive_text.proofs.RowForms.{shells_wide}
-use Rattle.archive_text.proofs.Outcomes.{some_from}
+use Rattle.line_text.proofs.CallerLemmas.{some_from}
 use Rattle.archive_text.proofs.ShortLists.{no_shells}
 use Rattle.archive_text.proofs.steps.next_shells.Goals as goal
 

@@ -3,7 +3,8 @@ use Rattle.std.proofs.lemmas.Result.{on_ok_weaker}
 use Rattle.line_text.specs.Lines.{rows_text}
 use Rattle.quotient_graph.specs.AnyGraphs.{graph_in}
 use Rattle.net_entries.specs.Entries.{entry_view}
-use Rattle.archive_text.specs.Rows.{row_lines, size_of_graph}
+use Rattle.archive_text.specs.Rows.{row_lines}
+use Rattle.graph_rows.specs.Rows.{size_of_graph}
 use Rattle.archive_text.specs.Parts.{drawn_rows}
 use Rattle.archive_text.proofs.Writing.{entry_written}
 use Rattle.archive_text.proofs.write.push_entry.Goals as goal

@@ -2,7 +2,7 @@ use Rattle.std.proofs.Common.{inr, subst, IfOk, ◌≤◌, length}
 use Rattle.net_entries.specs.Entries.{entry_view}
 use Rattle.archive_text.specs.Reading.{HasForm, HasBadLine}
 use Rattle.archive_text.specs.Texts.{rows_before}
-use Rattle.archive_text.proofs.CallerLemmas.{at_ok, at_err}
+use Rattle.line_text.proofs.CallerLemmas.{at_ok, at_err}
 use Rattle.net_archive.proofs.FormEdges.{are_edges}
 use Rattle.net_archive.proofs.FirstFaults.{judged, bad_line, result_both}
 use Rattle.net_archive.specs.Judging.{IsEntryOfForm, IsJudged}

@@ -3,7 +3,7 @@ use Rattle.least_key.specs.AnyNets.{net_in}
 use Rattle.net_entries.specs.Entries.{EntryView, entry_view}
 use Rattle.net_entries.specs.Lookups.{names_of}
 use Rattle.std.specs.List.{Contains}
-use Rattle.archive_text.specs.Names.{is_name}
+use Rattle.line_text.specs.Names.{is_name}
 use Rattle.net_archive.specs.Adding.{IsAddFault, IsFull}
 use Rattle.net_archive.specs.Archives.{ArchiveView, IsArchive, IsBody, with_entry}
 use Rattle.net_archive.specs.declared.faults.AddFault.TheVariants.{Full}

@@ -4,12 +4,12 @@ use Rattle.std.proofs.lemmas.Option.{none-some}
 use Rattle.std.proofs.lemmas.Bool.{true≢false}
 use Rattle.line_text.specs.Lines.{IsAt}
 use Rattle.line_text.specs.Numbers.{row_text}
-use Rattle.archive_text.specs.declared.size.GraphSize.{GraphSize}
-use Rattle.archive_text.specs.Rows.{size_row, size_numbers}
-use Rattle.archive_text.specs.Reading.{NoSize}
-use Rattle.archive_text.proofs.RowForms.{size_wide}
-use Rattle.archive_text.proofs.Outcomes.{none_from, some_from}
-use Rattle.archive_text.proofs.steps.next_size.Goals as goal
+use Rattle.graph_rows.specs.declared.size.GraphSize.{GraphSize}
+use Rattle.graph_rows.specs.Rows.{size_row, size_numbers}
+use Rattle.graph_rows.specs.Reading.{NoSize}
+use Rattle.graph_rows.proofs.RowForms.{size_wide}
+use Rattle.line_text.proofs.CallerLemmas.{none_from, some_from}
+use Rattle.graph_rows.proofs.steps.next_size.Goals as goal
 
 pub returns-then-branch-clause-place : goal.returns-then-branch-clause-place
 unfolding size_row

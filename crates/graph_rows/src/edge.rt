@@ -5,12 +5,12 @@ ghost use Rattle.periodic_net.specs.Limits.{most_shift};
 ghost use Rattle.quotient_graph.specs.Order.{AreRising};
 ghost use Rattle.cgd_read.specs.Graphs.{edge_of};
 ghost use Rattle.cgd_read.specs.declared.block.RawEdge.{RawEdge};
-ghost use Rattle.archive_text.specs.Rows.{edge_numbers};
-ghost use Rattle.archive_text.specs.Forms.{IsEdgeOfSize, IsNextEdge};
-ghost use Rattle.archive_text.specs.Reading.{IsLastOf};
+ghost use Rattle.graph_rows.specs.Rows.{edge_numbers};
+ghost use Rattle.graph_rows.specs.Forms.{IsEdgeOfSize, IsNextEdge};
+ghost use Rattle.graph_rows.specs.Reading.{IsLastOf};
 
 use crate::GraphSize;
-use crate::form::{between, comes_before, is_forward};
+use crate::form::{between, comes_before, is_normal};
 use cgd_read::RawEdge;
 use periodic_net::MOST_SHIFT;
 
@@ -45,7 +45,7 @@ fn edge_with(size: &GraphSize, u: i128, v: i128, x: i128, y: i128, z: i128) -> O
     let y = part(y)?;
     let z = part(z)?;
     let e = RawEdge { u, v, x, y, z };
-    if is_forward(&e) { Some(e) } else { None }
+    if is_normal(&e) { Some(e) } else { None }
 }
 
 fn flat_edge(size: &GraphSize, numbers: &[i128]) -> Option<RawEdge>

@@ -2,15 +2,16 @@ use Rattle.std.proofs.Common.{[], ◌∷◌, ◌++◌, length, map, Some, sym, a
 use Rattle.std.proofs.lemmas.List.{length-append, length-map}
 use Rattle.line_text.specs.Lines.{IsAt}
 use Rattle.cgd_read.specs.Graphs.{edge_of}
-use Rattle.archive_text.specs.Rows.{edge_row}
-use Rattle.archive_text.specs.Forms.{IsNextEdge}
-use Rattle.archive_text.specs.Reading.{AreReadTo, NoEdge}
-use Rattle.archive_text.proofs.Outcomes.{at_none, at_some}
-use Rattle.archive_text.proofs.Lists.{one_more_edge, edges_read_pushed}
-use Rattle.archive_text.proofs.edge_list.read_edges.Goals as goal
+use Rattle.graph_rows.specs.Rows.{edge_row}
+use Rattle.graph_rows.specs.Forms.{IsNextEdge}
+use Rattle.graph_rows.specs.Reading.{AreReadTo, NoEdge}
+use Rattle.line_text.proofs.CallerLemmas.{at_none, at_some}
+use Rattle.graph_rows.proofs.Lists.{one_more_edge, edges_read_pushed}
+use Rattle.graph_rows.proofs.GraphEdges.{are_edges}
+use Rattle.graph_rows.proofs.edge_list.read_edges.Goals as goal
 
-pub returns-in-None : goal.returns-in-None
-returns-in-None c = λ text rows at.
+pub returns-in-None-clause-edges : goal.returns-in-None-clause-edges
+returns-in-None-clause-edges c = λ text rows at.
     let read = c.loop.invariant.0 in
     let count = length-map c.loop.edges.items edge_of in
     record {
@@ -35,8 +36,8 @@ loop-preserved c =
       let long = ap length c.in_ok-push-in-Some.ensures.items ∙ length-append c.loop.edges.items (c.in-Some.e ∷ []) in omega (arith, long, c.loop.invariant.1),
     )
 
-pub returns : goal.returns
-returns c = λ text rows at.
+pub returns-clause-edges : goal.returns-clause-edges
+returns-clause-edges c = λ text rows at.
     let read = c.loop.invariant.0 in
     let count = length-map c.loop.edges.items edge_of in
     record {
@@ -45,3 +46,11 @@ returns c = λ text rows at.
       rising = read.rising;
       whole = omega (arith, count, c.loop.invariant.1, c.loop-test.false, c.loop.auto.counter-end);
     }
+
+pub returns-clause-form : goal.returns-clause-form
+returns-clause-form c =
+    let read = c.loop.invariant.0 in
+    are_edges c.args.size.now c.loop.edges.items c.requires read.each read.rising (omega (arith, c.loop.invariant.1, c.loop-test.false, c.loop.auto.counter-end))
+
+pub returns-clause-whole : goal.returns-clause-whole
+returns-clause-whole c = omega (arith, c.loop.invariant.1, c.loop-test.false, c.loop.auto.counter-end)

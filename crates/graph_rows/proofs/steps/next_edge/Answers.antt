@@ -5,13 +5,13 @@ use Rattle.std.proofs.lemmas.Bool.{true≢false}
 use Rattle.line_text.specs.Lines.{IsAt}
 use Rattle.line_text.specs.Numbers.{row_text}
 use Rattle.cgd_read.specs.declared.block.RawEdge.{RawEdge}
-use Rattle.archive_text.specs.Rows.{edge_row, edge_numbers}
-use Rattle.archive_text.specs.Reading.{NoEdge}
+use Rattle.graph_rows.specs.Rows.{edge_row, edge_numbers}
+use Rattle.graph_rows.specs.Reading.{NoEdge}
 use Rattle.cgd_read.specs.Graphs.{edge_of}
 use Rattle.periodic_net.specs.Graph.{Arc}
-use Rattle.archive_text.proofs.RowForms.{edge_wide}
-use Rattle.archive_text.proofs.Outcomes.{none_from, some_from}
-use Rattle.archive_text.proofs.steps.next_edge.Goals as goal
+use Rattle.graph_rows.proofs.RowForms.{edge_wide}
+use Rattle.line_text.proofs.CallerLemmas.{none_from, some_from}
+use Rattle.graph_rows.proofs.steps.next_edge.Goals as goal
 
 pub returns-then-branch-clause-place : goal.returns-then-branch-clause-place
 unfolding edge_row

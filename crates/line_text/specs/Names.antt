@@ -1,4 +1,4 @@
--- The names of entries.
+-- Names that stand between quotes on a line.
 use Rattle.std.specs.Prelude.{ℕ, Bool, not, nat_lt, ◌==◌, ◌&&◌, ◌||◌, List, length}
 use Rattle.std.specs.List.{list_all}
 

@@ -1,43 +1,23 @@
 // What the numbers of a row say.
 ghost use Rattle.std.specs.Prelude.{ℕ, pos, ◌≡◌, ◌≤◌, ◌↔◌, ◌⊎◌, IfSome, Some, IsTrue};
-ghost use Rattle.std.specs.List.{list_all};
 ghost use Rattle.std.specs.Ordering.{int_cmp};
 ghost use Rattle.std.specs.Cmp.Lexicographic.{slice_cmp};
 ghost use Rattle.integers.specs.Vectors.{IsBelow, vector};
 ghost use Rattle.periodic_net.specs.Graph.{IsNormalSpelling};
 ghost use Rattle.cgd_read.specs.Graphs.{edge_of};
 ghost use Rattle.quotient_graph.specs.Order.{arc_numbers};
-ghost use Rattle.archive_text.specs.Names.{is_name_byte, is_name};
-ghost use Rattle.archive_text.specs.Rows.{size_numbers};
-ghost use Rattle.archive_text.specs.Forms.{IsSize};
-ghost use Rattle.archive_text.specs.declared.size.GraphSize.{GraphSize};
+ghost use Rattle.graph_rows.specs.Rows.{size_numbers};
+ghost use Rattle.graph_rows.specs.Forms.{IsSize};
+ghost use Rattle.graph_rows.specs.declared.size.GraphSize.{GraphSize};
 
 use crate::GraphSize;
 use cgd_read::RawEdge;
 use periodic_net::{MOST_EDGES, MOST_VERTICES};
+use quotient_graph::is_normal_spelling;
 use std::cmp::Ordering;
 use vecdim::Triple;
 
-fn is_name_byte(b: u8) -> bool
-    ensures { result ≡ is_name_byte b }
-{
-    !(b < 32 || (b == b'"' || b == 127))
-}
-
-fn all_name_bytes(name: &[u8]) -> bool
-    ensures { result ≡ list_all is_name_byte name.now }
-{
-    name.iter().all(|b| is_name_byte(*b))
-}
-
-/// Whether an entry may have the name.
-pub fn is_name(name: &[u8]) -> bool
-    ensures { result ≡ is_name name.now }
-{
-    0 < name.len() && (!(200 < name.len()) && all_name_bytes(name))
-}
-
-// The number, where it is between two.
+/// The number, where it is between two.
 pub fn between(n: i128, low: u32, high: u32) -> Option<u32>
     ensures found { IfSome result (λ k. n ≡ pos k) }
     ensures within { IfSome result (λ k. (low ≤ k) × (k ≤ high)) }
@@ -93,15 +73,11 @@ fn shift_of(e: &RawEdge) -> Triple
     }
 }
 
-// Whether the edge is in normal spelling.
-pub fn is_forward(e: &RawEdge) -> bool
+/// Whether the edge is in normal spelling.
+pub fn is_normal(e: &RawEdge) -> bool
     ensures { IsTrue result ↔ IsNormalSpelling (edge_of e.now) }
 {
-    if e.u == e.v {
-        shift_of(e).starts_positive()
-    } else {
-        e.u < e.v
-    }
+    is_normal_spelling(e.u, e.v, &shift_of(e))
 }
 
 // Which of two edges stands first.

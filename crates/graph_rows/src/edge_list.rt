@@ -1,9 +1,10 @@
-// Reads the edges of an entry.
-ghost use Rattle.std.specs.Prelude.{ℕ, List, map, IfOk, MatchResult};
+// Reads the edges of a graph.
+ghost use Rattle.std.specs.Prelude.{ℕ, List, ◌≡◌, length, map, IfOk, MatchResult};
 ghost use Rattle.line_text.specs.Lines.{IsAt};
 ghost use Rattle.cgd_read.specs.Graphs.{edge_of};
-ghost use Rattle.archive_text.specs.Forms.{IsSize};
-ghost use Rattle.archive_text.specs.Reading.{HasBadEdge, HasEdges};
+ghost use Rattle.quotient_graph.specs.EdgeLists.{AreEdgesOfGraph};
+ghost use Rattle.graph_rows.specs.Forms.{IsSize};
+ghost use Rattle.graph_rows.specs.Reading.{HasBadEdge, HasEdges};
 
 use crate::GraphSize;
 use crate::steps::next_edge;
@@ -18,10 +19,14 @@ pub fn read_edges(
     numbers: &mut Vec<i128>,
 ) -> Result<Result<Vec<RawEdge>, u32>, AllocError>
     requires { IsSize size.now }
-    ensures { (text : List ℕ) (rows : List (List ℕ)) → IsAt text rows lines.old →
+    ensures edges { (text : List ℕ) (rows : List (List ℕ)) → IsAt text rows lines.old →
         IfOk result (λ read. MatchResult read
         (λ edges. HasEdges text rows size.now (map edge_of edges.items) lines.new)
         (HasBadEdge text rows size.now)) }
+    ensures form { IfOk result (λ read. IfOk read (λ edges.
+        AreEdgesOfGraph size.now.dim size.now.vertices edges.items)) }
+    ensures whole { IfOk result (λ read. IfOk read (λ edges.
+        length edges.items ≡ size.now.edges)) }
 {
     let mut edges = Vec::new(*numbers.allocator());
     let mut last = None;
