@@ -1,5 +1,7 @@
+pub mod CallerLemmas
 mod Added
 mod KeyedBlocks
 mod Turns
 mod KeyLists
 mod DifferentKeys
+pub mod Headlines

@@ -1,49 +1,12 @@
--- The headline.
-use Rattle.std.specs.Prelude.{◌≡◌, ℕ, List, Option, Some, if◌then◌else◌}
-use Rattle.std.specs.List.{list_all}
+-- When the headline is true of a run.
+use Rattle.std.specs.Prelude.{ℕ, List, Option, Some}
 use Rattle.std.specs.Io.KnownBytes.{Appends}
 use Rattle.outside.specs.Held.{Holds}
-use Rattle.cgd_read.specs.Blocks.{blocks_of}
 use Rattle.command_words.specs.Tasks.{Task, Tell}
 use Rattle.command_words.specs.declared.tasks.Command.TheVariants.{Identify}
-use Rattle.net_archive.specs.Archives.{ArchiveView}
-use Rattle.net_report.specs.Reports.{report_text}
-use Rattle.net_report.specs.declared.outcome.Outcome.{Outcome}
-use Rattle.net_outcomes.specs.Outcomes.{AreOutcomesFrom, is_accepted}
-use Rattle.net_outcomes.specs.Deciding.{KeysDecideBlocks, KeysDecideEntries, KeysDecideArchive, CertainAreAccepted}
-use Rattle.net_answers.specs.Due.{IsArchiveIn}
+use Rattle.net_answers.specs.Headline.{Headline}
 use Rattle.net_answers.specs.declared.status.Status.{Status}
-use Rattle.net_answers.specs.declared.status.Status.TheVariants.{Done, SomeRefused}
 use Rattle.net_tool.specs.Run.{AreBytesOf}
-
--- Of these bytes of a file, beside those of an archive, `identify` writes this text and ends so:
---
--- Each block is answered as of another kind, or refused with values that show it malformed, disconnected, degenerate or colliding, or as
--- past a stated limit or without a modulus, or gets its barycentric placement, unique up to translation, its primitive graph, its key and
--- exactly the archive's isomorphic entries; two keys are equal exactly where a periodic bijection carries one net to the other; want of
--- memory aside.
-pub record Headline (file : List ℕ) (archive : Option (List ℕ)) (status : Status) (text : List ℕ) : Type 0 where
-  -- the archive is read without a fault, and each of its keys computed anew
-  pub known : ArchiveView
-  pub read : IsArchiveIn archive known
-  -- the answer to each block, in order
-  pub outcomes : List Outcome
-  pub each : AreOutcomesFrom known.entries Identify 1 (blocks_of file) outcomes
-  -- two keys, of two blocks, of a block and an entry, or of two entries
-  pub blocks : KeysDecideBlocks (blocks_of file) outcomes
-  pub entries : KeysDecideEntries known.entries (blocks_of file) outcomes
-  pub archive_entries : KeysDecideArchive known.entries
-  -- a block whose graph is certain is accepted
-  pub certain : CertainAreAccepted (blocks_of file) outcomes
-  -- all of this is written, and the status says whether each block was accepted
-  pub written : text ≡ report_text outcomes
-  pub ending : status ≡ (if list_all is_accepted outcomes then Done else SomeRefused)
-
--- each block is answered
-abbrev pub IsReported : Status → Type 0
-IsReported Done = Unit {0}
-IsReported SomeRefused = Unit {0}
-IsReported status = ⊥
 
 -- the headline is true of the bytes of these two files, and of what was written
 pub record IsHeadlineOver (file : List ℕ) (archive : Option (List ℕ)) (holds : Holds) (before after : Option (List ℕ)) (status : Status) : Type 0 where

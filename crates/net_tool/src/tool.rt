@@ -6,7 +6,8 @@ ghost use Rattle.command_words.specs.Words.{texts_of};
 ghost use Rattle.command_words.specs.Tasks.{MakesFew, task_of};
 ghost use Rattle.command_words.specs.Views.{task_view};
 ghost use Rattle.net_tool.specs.Completeness.{AreWithin, HasRoom, IsComplete};
-ghost use Rattle.net_tool.specs.Headline.{HasHeadline, IsReported};
+ghost use Rattle.net_answers.specs.Headline.{IsReported};
+ghost use Rattle.net_tool.specs.Headline.{HasHeadline};
 ghost use Rattle.net_tool.specs.Inputs.{AreInputs};
 ghost use Rattle.net_tool.specs.Run.{FailedAtFile, FailedAtTask, IsAnswer, IsAnswered, IsBroken, IsDueOf, IsSilent, GoesWithText, IsUnread, status_of};
 

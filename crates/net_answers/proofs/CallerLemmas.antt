@@ -1,0 +1,2 @@
+-- What other crates cite.
+pub use Rattle.net_answers.proofs.Headlines.{headline_on}
