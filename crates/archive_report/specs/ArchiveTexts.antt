@@ -7,7 +7,7 @@ use Rattle.net_archive.specs.declared.faults.ArchiveFault.TheVariants.{BadLine, 
 use Rattle.net_archive.specs.declared.faults.AddFault.{AddFault}
 use Rattle.net_archive.specs.declared.faults.AddFault.TheVariants as add
 use Rattle.net_report.specs.Headers.{quoted_name}
-use Rattle.net_report.specs.Numbers.{field_text, list_text}
+use Rattle.line_text.specs.Numbers.{field_text, list_text}
 use Rattle.net_report.specs.Refusals.{refused_text}
 
 -- the number and the name of a fault

@@ -5,8 +5,9 @@ ghost use Rattle.net_entries.specs.Entries.{entry_views};
 ghost use Rattle.archive_report.specs.ArchiveTexts.{add_fault_name, add_fault_text, group_lines, group_names, group_text, groups_text, migrate_fault_text, name_at};
 
 use crate::NoMemory;
+use line_text::push_field;
 use net_archive::{AddFault, Entry, Groups};
-use net_report::{push_field, push_quoted};
+use net_report::push_quoted;
 use std::alloc::Global;
 
 fn add_fault_name(fault: AddFault) -> &'static [u8]

@@ -2,7 +2,7 @@
 use Rattle.std.specs.Prelude.{◌≡◌, ◌≢◌, ◌↔◌, ℕ, ℤ, Bool, true, false, List, [], ◌++◌, length, filter, Some, codes, AllPairs, Contains}
 use Rattle.std.specs.List.{list_all}
 use Rattle.cgd_read.specs.Views.{BlockView}
-use Rattle.net_report.specs.Numbers.{field_text}
+use Rattle.line_text.specs.Numbers.{field_text}
 use Rattle.net_report.specs.declared.outcome.Outcome.{Outcome}
 use Rattle.command_words.specs.declared.tasks.Command.TheVariants.{Key}
 use Rattle.net_outcomes.specs.Deciding.{AreOutcomes, key_told}

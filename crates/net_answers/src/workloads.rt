@@ -12,9 +12,10 @@ use crate::status::ending_of;
 use cgd_read::Block;
 use command_words::Command;
 use indexmap::IndexSet;
+use line_text::push_field;
 use net_archive::Archive;
 use net_outcomes::{are_accepted, is_accepted, outcomes_of};
-use net_report::{NoMemory, Outcome, OutcomeBody, push_field};
+use net_report::{NoMemory, Outcome, OutcomeBody};
 use std::alloc::Global;
 
 // A count after its word, on a line of its own.

@@ -5,7 +5,7 @@ use Rattle.cgd_read.specs.Faults.{number_of_kind}
 use Rattle.cgd_read.specs.declared.block.BlockFault.{BlockFault}
 use Rattle.cgd_read.specs.declared.block.BlockFaultKind.{BlockFaultKind}
 use Rattle.net_report.specs.KindNames.{kind_name}
-use Rattle.net_report.specs.Numbers.{field_text}
+use Rattle.line_text.specs.Numbers.{field_text}
 use Rattle.net_report.specs.declared.outcome.Size.{Size}
 
 -- a name in quotes, after a blank

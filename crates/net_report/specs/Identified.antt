@@ -2,7 +2,7 @@
 use Rattle.std.specs.Prelude.{ℕ, ◌+◌, List, [], ◌∷◌, ◌++◌, length, codes}
 use Rattle.least_key.specs.KeyedNets.{KeyedNet}
 use Rattle.net_report.specs.Keys.{key_text}
-use Rattle.net_report.specs.Numbers.{field_text}
+use Rattle.line_text.specs.Numbers.{field_text}
 use Rattle.net_report.specs.Placements.{placement_text}
 use Rattle.net_report.specs.Primitives.{primitive_text}
 use Rattle.net_report.specs.Sequences.{shells_text}

@@ -1,6 +1,6 @@
 -- The line of a key.
 use Rattle.std.specs.Prelude.{ℕ, ℤ, List, ◌++◌, codes}
-use Rattle.net_report.specs.Numbers.{list_text}
+use Rattle.line_text.specs.Numbers.{list_text}
 
 -- the numbers of a key
 abbrev pub key_text : List ℤ → List ℕ

@@ -1,16 +1,6 @@
--- How numbers and vertices are printed.
-use Rattle.std.specs.Prelude.{ℕ, ◌-◌, ◌<◌, ◌≤◌, ◌==◌, ℤ, List, [], ◌∷◌, ◌++◌, length, slice_index_or, if◌then◌else◌}
-use Rattle.std.specs.Fmt.{decimal, signed_decimal}
-use Rattle.line_text.specs.Numbers.{numbers_text}
-
--- a number after its label
-abbrev pub field_text : List ℕ → ℕ → List ℕ
-field_text label n = label ++ decimal n
-
--- numbers with blanks between them
-abbrev pub list_text : List ℤ → List ℕ
-list_text [] = []
-list_text (x ∷ xs) = signed_decimal x ++ numbers_text xs
+-- How vertices are printed.
+use Rattle.std.specs.Prelude.{ℕ, ◌-◌, ◌<◌, ◌≤◌, ◌==◌, List, [], length, slice_index_or, if◌then◌else◌}
+use Rattle.std.specs.Fmt.{decimal}
 
 -- where there are names, vertex u has one
 abbrev pub IsNamed : List (List ℕ) → ℕ → Type 0

@@ -4,7 +4,8 @@ use Rattle.std.specs.Fmt.{signed_decimal}
 use Rattle.integers.specs.Vectors.{parts}
 use Rattle.periodic_net.specs.Placement.{base}
 use Rattle.quotient_graph.specs.PlacedNets.{PlacedNet}
-use Rattle.net_report.specs.Numbers.{list_text, vertex_text}
+use Rattle.net_report.specs.Numbers.{vertex_text}
+use Rattle.line_text.specs.Numbers.{list_text}
 
 -- where vertex u stands, in units of 1/D0
 abbrev pub position_text : List (List ℕ) → PlacedNet → ℕ → List ℕ

@@ -3,7 +3,7 @@ use Rattle.std.specs.Prelude.{ℕ, List, [], ◌∷◌, ◌++◌, length, codes}
 use Rattle.integers.specs.Vectors.{Vector, parts}
 use Rattle.periodic_net.specs.Graph.{Arc}
 use Rattle.primitive_cell.specs.DividedNets.{DividedNet}
-use Rattle.net_report.specs.Numbers.{field_text, list_text}
+use Rattle.line_text.specs.Numbers.{field_text, list_text}
 
 -- the numbers of vertices and of edges
 abbrev pub sizes_text : ℕ → ℕ → List ℕ

@@ -8,7 +8,8 @@ use Rattle.barycentre.specs.declared.faults.WideSite.{WideSite}
 use Rattle.barycentre.specs.declared.faults.WideSite.TheVariants.{Denominator, ArcPart, Beyond}
 use Rattle.least_key.specs.declared.refusal.Refusal.{Refusal}
 use Rattle.least_key.specs.declared.refusal.Refusal.TheVariants.{Disconnected, Degenerate, NoModulus, WidePlacement, Collision, TooMuch, NoMemory}
-use Rattle.net_report.specs.Numbers.{field_text, list_text, IsNamed, vertex_text}
+use Rattle.net_report.specs.Numbers.{IsNamed, vertex_text}
+use Rattle.line_text.specs.Numbers.{field_text, list_text}
 
 -- a colouring: its modulus, its vector, and an entry for each vertex
 abbrev pub split_text : Split → List ℕ

@@ -1,6 +1,6 @@
 -- The line of a coordination sequence.
 use Rattle.std.specs.Prelude.{ℕ, List, [], ◌∷◌, ◌++◌, codes}
-use Rattle.net_report.specs.Numbers.{field_text}
+use Rattle.line_text.specs.Numbers.{field_text}
 
 -- each size after a blank
 abbrev pub sizes_after : List ℕ → List ℕ

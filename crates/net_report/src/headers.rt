@@ -3,9 +3,9 @@ ghost use Rattle.std.specs.Prelude.{◌≡◌, ◌++◌, OnOk, option_copied};
 ghost use Rattle.net_report.specs.Headers.{name_text, quoted_name, header_text, size_text, unsupported_word, unsupported_text, kind_text, fault_text};
 ghost use Rattle.net_report.specs.KindNames.{kind_name};
 
-use crate::numbers::{push_field, push_number};
 use crate::{NoMemory, Size};
 use cgd_read::{BlockFault, BlockFaultKind};
+use line_text::{push_count, push_field};
 
 /// A name in quotes, after a blank.
 pub fn push_quoted(text: &mut Vec<u8>, name: &[u8]) -> Result<(), NoMemory>
@@ -92,7 +92,7 @@ fn kind_name(kind: BlockFaultKind) -> &'static [u8]
 fn push_kind(text: &mut Vec<u8>, kind: BlockFaultKind) -> Result<(), NoMemory>
     ensures { OnOk result (text.new.items ≡ text.old.items ++ kind_text kind) }
 {
-    push_number(text, kind.number() as u64)?;
+    push_count(text, kind.number() as u64)?;
     text.extend_from_slice(b" ")?;
     text.extend_from_slice(kind_name(kind))
 }

@@ -7,13 +7,13 @@ ghost use Rattle.net_report.specs.Identified.{archive_name_text, archive_names_t
 
 use crate::NoMemory;
 use crate::keys::push_key;
-use crate::numbers::push_field;
 use crate::placements::push_placed;
 use crate::primitives::push_primitive;
 use crate::sequences::push_shells;
 use cgd_read::Names;
 use coordination::Sequences;
 use least_key::{Net, NetOf};
+use line_text::push_field;
 
 // A line for each class, in their order.
 fn push_lists(text: &mut Vec<u8>, lists: &[Vec<u32>]) -> Result<(), NoMemory>

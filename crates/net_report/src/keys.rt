@@ -3,7 +3,7 @@ ghost use Rattle.std.specs.Prelude.{◌≡◌, ◌++◌, OnOk};
 ghost use Rattle.net_report.specs.Keys.{key_text};
 
 use crate::NoMemory;
-use crate::numbers::push_wide_list;
+use line_text::push_wide_list;
 use quotient_graph::Key;
 
 /// The numbers of a key.

@@ -14,7 +14,6 @@ mod texts;
 
 pub use headers::push_quoted;
 pub use least_key::AnyPlaced;
-pub use numbers::{push_field, push_wide_list};
 pub use outcome::{Outcome, OutcomeBody, Outcomes, Size};
 pub use refused::refused_line;
 pub use std::alloc::AllocError as NoMemory;

@@ -5,9 +5,11 @@ ghost use Rattle.least_key.specs.AnyPlacements.{placed_in};
 ghost use Rattle.net_report.specs.Placements.{position_text, positions_text, placement_word, denominator_text, placement_text};
 
 use crate::NoMemory;
-use crate::numbers::{push_parts, push_signed, push_vertex};
+use crate::numbers::push_vertex;
 use cgd_read::Names;
+use graph_rows::push_parts;
 use least_key::AnyPlaced;
+use line_text::push_number;
 use quotient_graph::Placed;
 
 // Where a vertex stands.
@@ -57,7 +59,7 @@ fn push_denominator(text: &mut Vec<u8>, d0: i128) -> Result<(), NoMemory>
     ensures { OnOk result (text.new.items ≡ text.old.items ++ denominator_text d0) }
 {
     push_placement_word(text)?;
-    push_signed(text, d0)?;
+    push_number(text, d0)?;
     text.extend_from_slice(b"\n")
 }
 

@@ -3,7 +3,8 @@ ghost use Rattle.std.specs.Prelude.{◌≡◌, ◌≤◌, ◌++◌, OnOk};
 ghost use Rattle.net_report.specs.Primitives.{bases_text, basis_text, edge_text, edges_text, primitive_text, sizes_text};
 
 use crate::NoMemory;
-use crate::numbers::{push_field, push_parts};
+use graph_rows::push_parts;
+use line_text::push_field;
 use primitive_cell::{PrimEdge, Primitive};
 use vecdim::Vect;
 

@@ -4,11 +4,13 @@ ghost use Rattle.net_report.specs.Numbers.{IsNamed};
 ghost use Rattle.net_report.specs.Refusals.{collision_text, work_text, split_text, place_text, pivots_text, site_text, value_text, refusal_details, refusal_name, refused_text, AreNamed, HasLine};
 
 use crate::NoMemory;
-use crate::numbers::{push_field, push_list, push_parts, push_signed, push_vertex};
+use crate::numbers::{push_list, push_vertex};
 use barycentre::WideSite;
 use cgd_read::Names;
 use elimination::Place;
+use graph_rows::push_parts;
 use least_key::Refusal;
+use line_text::{push_field, push_number};
 use quotient_graph::Split;
 use std::alloc::Global;
 use vecdim::Triple;
@@ -79,7 +81,7 @@ fn push_value(text: &mut Vec<u8>, site: &WideSite, value: i128) -> Result<(), No
         WideSite::Beyond { .. } => Ok(()),
         _ => {
             text.extend_from_slice(b" value=")?;
-            push_signed(text, value)
+            push_number(text, value)
         }
     }
 }

@@ -3,7 +3,7 @@ ghost use Rattle.std.specs.Prelude.{◌≡◌, ◌++◌, OnOk};
 ghost use Rattle.net_report.specs.Sequences.{shells_text, sizes_after};
 
 use crate::NoMemory;
-use crate::numbers::push_field;
+use line_text::push_field;
 
 // The sizes, each after a blank.
 fn push_sizes_after(text: &mut Vec<u8>, sizes: &[u32]) -> Result<(), NoMemory>
