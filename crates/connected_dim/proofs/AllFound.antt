@@ -3,14 +3,10 @@ use Rattle.std.proofs.Common.{ℕ, ◌-◌, List, Option, None, IsSome, All, ap,
 use Rattle.integers.specs.Vectors.{Vector}
 use Rattle.periodic_net.specs.Graph.{Graph, IsGraph, IsQuotientVertex}
 use Rattle.periodic_net.specs.Split.{IsFound}
-use Rattle.periodic_net.proofs.CallerLemmas.{IsTree}
+use Rattle.periodic_net.proofs.CallerLemmas.{IsTree, one_vertex}
 use Rattle.walk_lattice.specs.Search.{walk_to, shift_of, AreWalks}
 use Rattle.walk_lattice.specs.Generators.{shift_at}
 use Rattle.walk_lattice.proofs.CallerLemmas.{walk_dimension, walk_at}
-
--- vertex 1 is a vertex
-pub first_vertex : (G : Graph) → IsGraph G → IsQuotientVertex G 1
-first_vertex G g = (omega arith, g.vertices)
 
 module _ (G : Graph) (g : IsGraph G) (found : List (Option Vector)) (h : AreWalks G 1 found) (all : All IsSome found) where
   -- each vertex has a walk
@@ -26,5 +22,5 @@ module _ (G : Graph) (g : IsGraph G) (found : List (Option Vector)) (h : AreWalk
   is_tree = record {
     root = ap shift_of h.first;
     walk = λ u v. walk_at G g 1 found h u v.0 (some_walk u v);
-    dimension = λ u v. walk_dimension G g 1 u (shift_at found u) (first_vertex G g) (walk_at G g 1 found h u v.0 (some_walk u v));
+    dimension = λ u v. walk_dimension G g 1 u (shift_at found u) (one_vertex G g) (walk_at G g 1 found h u v.0 (some_walk u v));
   }

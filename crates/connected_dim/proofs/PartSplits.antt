@@ -5,12 +5,8 @@ use Rattle.integers.specs.Vectors.{Vector}
 use Rattle.periodic_net.specs.Graph.{Graph, IsGraph, IsQuotientVertex}
 use Rattle.periodic_net.specs.Split.{IsPartSplit, entry}
 use Rattle.walk_lattice.specs.Search.{walk_to, AreWalks}
-use Rattle.walk_lattice.proofs.CallerLemmas.{all_found}
+use Rattle.walk_lattice.proofs.CallerLemmas.{all_found, some_value}
 use Rattle.connected_dim.specs.Quotient.{part_colour, part_colouring}
-
-some_value : (o : Option Vector) → IsSome o → (T : Vector) × (o ≡ Some T)
-some_value None h = cc
-some_value (Some T) h = (T, refl)
 
 some_or : (o : Option Vector) → o ≡ None → IsSome o → ⊥
 some_or None e h = cc

@@ -7,6 +7,7 @@ use Rattle.integers.specs.Vectors.{Vector, vector, zero_vector, minus, dot}
 use Rattle.integers.specs.Staircase.{part, IsStaircase}
 use Rattle.integers.proofs.numbers.Ring.{ring, linear}
 use Rattle.integers.proofs.numbers.Division.{euclid_rest}
+use Rattle.integers.proofs.numbers.Order.{positive_natural}
 use Rattle.periodic_net.specs.Graph.{Graph, IsGraph, IsQuotientVertex}
 use Rattle.periodic_net.specs.Split.{Split, AreAlike, entry, ClosedShift, IsPivot, IsSparseSplit, EndsBy}
 use Rattle.vecdim.specs.Stairs.{Stairs, InStairs, IsReducedStair, HasFlatEnd, HasStairShape, rows_of}
@@ -25,11 +26,6 @@ same_alike : (q c1 c2 c3 s1 s2 s3 t1 t2 t3 h k n : ℤ) → h ≡ neg_ℤ (c1 *�
     → c1 *ℤ (s1 -ℤ t1) +ℤ c2 *ℤ (s2 -ℤ t2) +ℤ c3 *ℤ (s3 -ℤ t3) ≡ pos 0 +ℤ q *ℤ n
     → h ≡ neg_ℤ (c1 *ℤ s1 +ℤ c2 *ℤ s2 +ℤ c3 *ℤ s3) +ℤ q *ℤ (k +ℤ n)
 same_alike q c1 c2 c3 s1 s2 s3 t1 t2 t3 h k n e f = simp ring (omega (arith, linear, e, simp ring at f))
-
--- a positive number is a natural one
-natural : (z : ℤ) → pos 0 <ℤ z → (p : ℕ) × (1 ≤ p) × (z ≡ pos p)
-natural (pos p) h = (p, omega (arith, ints, h), refl)
-natural (negsuc p) h = absurd (omega (arith, ints, h))
 
 -- the third row of a stair in space
 third_of : (b : Bool) (u v w : Vector) → b ≡ false → part 2 (get_or (u ∷ v ∷ cond b [] (w ∷ [])) 2 zero_vector) ≡ w.z
@@ -83,9 +79,9 @@ module _ (G : Graph) (found : List (Option Vector)) (R : Stairs) (S : Split) (g 
 
   -- so each place has a pivot
   full : (i : ℕ) → i < G.dimension → (p : ℕ) × IsPivot G i p
-  full zero l = let n = natural R.a reduced.a in (n.0, pivot_at 0 n.0 l n.1 n.2)
-  full (suc zero) l = let n = natural R.e reduced.e in (n.0, pivot_at 1 n.0 l n.1 n.2)
-  full (suc (suc zero)) l = let n = natural R.i reduced.i in (n.0, pivot_at 2 n.0 l n.1 (third_row G.dimension R l ∙ n.2))
+  full zero l = let n = positive_natural R.a reduced.a in (n.0, pivot_at 0 n.0 l n.1 n.2)
+  full (suc zero) l = let n = positive_natural R.e reduced.e in (n.0, pivot_at 1 n.0 l n.1 n.2)
+  full (suc (suc zero)) l = let n = positive_natural R.i reduced.i in (n.0, pivot_at 2 n.0 l n.1 (third_row G.dimension R l ∙ n.2))
   full (suc (suc (suc i))) l = absurd (by g.dimension)
     where
       by : (G.dimension ≡ 2) ⊎ (G.dimension ≡ 3) → ⊥

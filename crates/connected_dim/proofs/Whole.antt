@@ -2,7 +2,7 @@
 use Rattle.std.proofs.Common.{◌≡◌, ℕ, ℤ, List, Option, IsSome, All, sym, subst}
 use Rattle.integers.specs.Vectors.{Vector}
 use Rattle.periodic_net.specs.Graph.{Graph, IsGraph, IsConnected}
-use Rattle.periodic_net.proofs.CallerLemmas.{connected_by_tree}
+use Rattle.periodic_net.proofs.CallerLemmas.{connected_by_tree, one_vertex}
 use Rattle.vecdim.specs.Stairs.{Stairs, IsWhole}
 use Rattle.vecdim.proofs.CallerLemmas.{all_members}
 use Rattle.walk_lattice.specs.Search.{AreWalks}
@@ -10,7 +10,7 @@ use Rattle.walk_lattice.specs.Full.{IsVolume}
 use Rattle.walk_lattice.specs.Generators.{shift_at, generators}
 use Rattle.walk_lattice.specs.Lattices.{IsLatticeOf, AreClosedWalks}
 use Rattle.walk_lattice.proofs.CallerLemmas.{closed_by_volume}
-use Rattle.connected_dim.proofs.AllFound.{first_vertex, is_tree}
+use Rattle.connected_dim.proofs.AllFound.{is_tree}
 
 -- each vector is a closed walk then, and the net is connected
 pub whole_connected : (G : Graph) (found : List (Option Vector)) (S : Stairs) → IsGraph G → AreWalks G 1 found → All IsSome found → AreClosedWalks G 1 S → IsWhole S → IsConnected G
@@ -20,6 +20,6 @@ whole_connected G found S g h all l w = connected_by_tree G (shift_at found) (is
 pub closed_of : (G : Graph) (found : List (Option Vector)) (d : ℕ) (vs : List Vector) (m : ℤ) (S : Stairs) → IsGraph G → AreWalks G 1 found → G.dimension ≡ d → vs ≡ generators G found
     → IsVolume d vs m → IsLatticeOf d m vs S → AreClosedWalks G 1 S
 closed_of G found d vs m S g h e f v l =
-    closed_by_volume G 1 found m S g (first_vertex G g) h
+    closed_by_volume G 1 found m S g (one_vertex G g) h
     (subst (λ d. IsVolume d (generators G found) m) (sym e) (subst (λ vs. IsVolume d vs m) f v))
     (subst (λ d. IsLatticeOf d m (generators G found) S) (sym e) (subst (λ vs. IsLatticeOf d m vs S) f l))

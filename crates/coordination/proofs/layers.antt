@@ -1,8 +1,6 @@
-pub mod Apart
 pub mod Counting
 pub mod Ends
 pub mod Existence
-pub mod Growing
 pub mod Layers
 pub mod Neighbours
 pub mod NewNeighbours

@@ -56,13 +56,13 @@ pub sizes_crossed : (x y : ℤ) (a b : ℕ) → x *ℤ pos b ≡ y *ℤ pos a �
 sizes_crossed x y a b e = sym (unsigned_abs-mul x (pos b)) ∙ ap unsigned_abs e ∙ unsigned_abs-mul y (pos a)
 
 -- fractions in lowest terms of one value have equal denominators
-same_denominator : (p q : Ratio) → IsInLowestTerms p → IsInLowestTerms q → Same 0 p q → p.den ≡ q.den
+pub same_denominator : (p q : Ratio) → IsInLowestTerms p → IsInLowestTerms q → Same 0 p q → p.den ≡ q.den
 same_denominator p q h k s =
     denominators_equal (unsigned_abs p.num) p.den (unsigned_abs q.num) q.den h.coprime k.coprime
     (sizes_crossed p.num q.num p.den q.den (crossed p q s))
 
 -- and equal numerators
-same_numerator : (p q : Ratio) → IsInLowestTerms p → IsInLowestTerms q → Same 0 p q → p.num ≡ q.num
+pub same_numerator : (p q : Ratio) → IsInLowestTerms p → IsInLowestTerms q → Same 0 p q → p.num ≡ q.num
 same_numerator p q h k s =
     cancel_factor (pos p.den) p.num q.num (positive_not_zero p.den h.positive)
     (turned p.num (pos p.den) ∙ ap (λ t. p.num *ℤ pos t) (same_denominator p q h k s) ∙ crossed p q s ∙ sym (turned q.num (pos p.den)))

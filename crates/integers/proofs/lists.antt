@@ -1,7 +1,11 @@
 pub mod Apart
+pub mod ApartPieces
+pub mod ChosenImages
 pub mod Counting
+pub mod FilteredImages
 pub mod Filters
 pub mod Greatest
+pub mod GrownLists
 pub mod Insertion
 pub mod ListOrder
 pub mod Matched
@@ -11,5 +15,6 @@ pub mod NumberSums
 pub mod Permutations
 pub mod Pieces
 pub mod Rising
+pub mod SortedMembers
 pub mod Sums
 pub mod Tables

@@ -4,5 +4,6 @@ pub mod Division
 pub mod Divisors
 pub mod Gcd
 pub mod Modulo
+pub mod Naturals
 pub mod Order
 pub mod Ring

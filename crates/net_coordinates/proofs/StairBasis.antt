@@ -1,11 +1,10 @@
 -- Vectors written in the coordinates of a staircase.
-use Rattle.std.proofs.Common.{◌≡◌, ◌≢◌, ◌∙◌, ◌⊎◌, inl, inr, sym, ap, ℕ, ℤ, pos, ◌*ℤ◌, [], ◌∷◌, arith}
-use Rattle.std.specs.Prelude.{◌<ℤ◌}
-use Rattle.std.proofs.lemmas.Int.{ints}
+use Rattle.std.proofs.Common.{◌≡◌, ◌∙◌, ◌⊎◌, inl, inr, sym, ap, ℕ, ℤ, pos, ◌*ℤ◌, [], ◌∷◌, arith}
 use Rattle.integers.specs.Vectors.{Vector, plus, times, parts, combination, triple_product, HasDimension}
 use Rattle.integers.proofs.numbers.Ring.{ring, linear, factor_zero}
 use Rattle.integers.proofs.vectors.Laws.{plus_zero, zero_times}
 use Rattle.integers.specs.Bases.{base_sum}
+use Rattle.integers.proofs.numbers.Order.{positive_is_some}
 use Rattle.key_theory.specs.Coordinates.{IsBasisOf}
 use Rattle.vecdim.specs.Stairs.{Stairs, HasStairShape, rows_of}
 use Rattle.net_coordinates.specs.Lattices.{basis_of}
@@ -28,10 +27,6 @@ combination_is_sum d (inr e) S k flat =
 rows_product : (a b c e f i : ℤ) → triple_product (record { x = a; y = b; z = c }) (record { x = pos 0; y = e; z = f }) (record { x = pos 0; y = pos 0; z = i }) ≡ a *ℤ (e *ℤ i)
 rows_product a b c e f i = simp ring (omega (arith, linear))
 
--- what is positive is not 0
-not_zero : (z : ℤ) → pos 0 <ℤ z → z ≢ pos 0
-not_zero z h e = omega (arith, ints, h, e)
-
 -- the rows of a staircase are a basis
 pub stairs_are_basis : (d : ℕ) → (d ≡ 2) ⊎ (d ≡ 3) → (S : Stairs) → HasStairShape d S → IsBasisOf d (basis_of S)
 stairs_are_basis d t S h = record {
@@ -42,9 +37,9 @@ stairs_are_basis d t S h = record {
 }
   where
     by : (S.a ≡ pos 0) ⊎ (S.e *ℤ S.i ≡ pos 0) → ⊥
-    by (inl z) = not_zero S.a h.reduced.a z
+    by (inl z) = positive_is_some S.a h.reduced.a z
     by (inr z) = last (factor_zero S.e S.i z)
       where
         last : (S.e ≡ pos 0) ⊎ (S.i ≡ pos 0) → ⊥
-        last (inl y) = not_zero S.e h.reduced.e y
-        last (inr y) = not_zero S.i h.reduced.i y
+        last (inl y) = positive_is_some S.e h.reduced.e y
+        last (inr y) = positive_is_some S.i h.reduced.i y

@@ -22,7 +22,7 @@ pub use Rattle.periodic_net.proofs.nets.Walks.{joined_moved, joined_turned, move
 pub use Rattle.periodic_net.proofs.placements.MaximumPrinciple.{gain}
 pub use Rattle.periodic_net.proofs.placements.OnePlacement.{one_placement}
 pub use Rattle.periodic_net.proofs.placements.Positions.{at_origin, end_vector, move_dimension, moves_by, position_moved, positions_tell, vertex_decided}
-pub use Rattle.periodic_net.proofs.placements.Translates.{total_linear, total_zero}
+pub use Rattle.periodic_net.proofs.placements.Translates.{one_vertex, total_linear, total_zero}
 pub use Rattle.periodic_net.proofs.translations.ByVectors.{class_arcs, joined_of_vector}
 pub use Rattle.periodic_net.proofs.translations.ClassMembers.{IsShape, class_in, flat_arcs, member}
 pub use Rattle.periodic_net.proofs.translations.Classes.{share_by, share_from, share_move, share_reflexive, share_symmetric}

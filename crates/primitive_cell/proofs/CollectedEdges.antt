@@ -1,11 +1,7 @@
 -- Edges collected one after the other, from arcs of the class graph in rising order.
-use Rattle.std.proofs.Common.{◌≡◌, ◌⊎◌, inl, inr, ◌↔◌, ℕ, ◌+◌, ◌<◌, List, [], ◌∷◌, ◌++◌, length, get_or, refl, sym, ap, subst, ◌∙◌, arith, length-append}
-use Rattle.std.proofs.Math.Decide.{dec_lt}
-use Rattle.std.proofs.Math.Seq.{get_or-append_seam}
-use Rattle.std.proofs.lemmas.List.{get_or_append_left, get_or_default}
+use Rattle.std.proofs.Common.{◌≡◌, ◌⊎◌, inl, inr, ◌↔◌, ℕ, List, [], ◌∷◌, ◌++◌, refl, sym, subst, arith}
 use Rattle.std.proofs.lemmas.List.Elements.{Contains-append_cases, Contains-append_left, Contains-append_right}
-use Rattle.std.specs.List.{Contains, AllPairs}
-use Prim.{Dec, yes, no}
+use Rattle.std.specs.List.{Contains}
 use Rattle.integers.specs.Vectors.{Vector, IsBelow}
 use Rattle.integers.proofs.lists.Members.{is_in}
 use Rattle.integers.proofs.lists.More.{pairs_with}

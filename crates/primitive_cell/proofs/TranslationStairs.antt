@@ -1,6 +1,6 @@
 -- The multiples of the denominator D and the translations with parts from 0 to D - 1 generate all translations: so the
 -- staircase that they make is that of the translations.
-use Rattle.std.proofs.Common.{◌≡◌, ◌↔◌, ℕ, ◌≤◌, ℤ, pos, List, refl, sym, ap, subst, ◌∙◌}
+use Rattle.std.proofs.Common.{◌≡◌, ◌↔◌, ℕ, ℤ, pos, List, refl, sym, ap, subst, ◌∙◌}
 use Rattle.integers.specs.Staircase.{IsStaircase}
 use Rattle.integers.specs.Vectors.{Vector, zero_vector, plus, times, combination, HasDimension}
 use Rattle.integers.proofs.lists.Members.{is_in, contains_from_in}

@@ -1,5 +1,5 @@
 -- Where all arcs are within the limits, so are the positions, since at most most_vertices - 1 arcs lead from vertex 1 to another.
-use Rattle.std.proofs.Common.{◌≡◌, ◌^◌, ℕ, zero, suc, arith, ◌+◌, ◌-◌, ◌*◌, ◌<◌, ◌≤◌, ap, sym, refl, subst, ◌∙◌}
+use Rattle.std.proofs.Common.{◌≡◌, ◌^◌, ℕ, arith, ◌+◌, ◌-◌, ◌*◌, ◌<◌, ◌≤◌, ap, sym, refl, subst, ◌∙◌}
 use Rattle.std.specs.Prelude.{ℤ, pos, ◌+ℤ◌, ◌-ℤ◌, ◌*ℤ◌, unsigned_abs}
 use Rattle.std.proofs.Math.Nat.{mul-le-mul}
 use Rattle.integers.specs.Vectors.{Vector, zero_vector, plus, times, IsWithin}

@@ -1,5 +1,5 @@
 -- The arcs from a vertex are among the vertices and within the limits, and they are all the arcs from it.
-use Rattle.std.proofs.Common.{◌≡◌, ℕ, zero, suc, ℤ, ◌≤◌, ◌<◌, List, [], ◌∷◌, length, get_or, neg_ℤ, unsigned_abs, refl, arith}
+use Rattle.std.proofs.Common.{◌≡◌, ℕ, ℤ, ◌≤◌, ◌<◌, List, [], ◌∷◌, length, get_or, neg_ℤ, unsigned_abs, arith}
 use Rattle.std.proofs.lemmas.Int.{ints}
 use Rattle.std.specs.List.{All, AllByRecursion, Contains}
 use Rattle.std.proofs.lemmas.List.Elements.{recursion_from_All, All-from_recursion}
@@ -7,6 +7,7 @@ use Rattle.std.proofs.lemmas.List.Sorted.{IsPermutation-sym, Contains-permutatio
 use Rattle.integers.specs.Vectors.{Vector, opposite, IsWithin}
 use Rattle.integers.proofs.lists.Members.{in_from_contains, contains_from_in}
 use Rattle.integers.proofs.lists.Filters.{all_at}
+use Rattle.std.proofs.lemmas.List.{get_or_default}
 use Rattle.periodic_net.specs.Graph.{Graph, Arc, both_ways, arcs, arcs_from, IsArc, IsGraph}
 use Rattle.periodic_net.proofs.CallerLemmas.{arc_inside, from_is_arc, arc_is_from}
 use Rattle.periodic_net.specs.Limits.{most_shift, IsSmall}
@@ -30,12 +31,7 @@ arc_within G s a h =
 
 member : (star : List Arc) (k : ℕ) (d : Arc) → k < length star → Contains star (get_or star k d)
 member [] k d l = absurd (omega arith)
-member (x ∷ xs) k d l = (k, l, same (x ∷ xs) k (get_or (x ∷ xs) k d) d l)
-  where
-    same : (xs : List Arc) (k : ℕ) (e d : Arc) → k < length xs → get_or xs k e ≡ get_or xs k d
-    same [] k e d l = absurd (omega arith)
-    same (y ∷ ys) zero e d l = refl
-    same (y ∷ ys) (suc k) e d l = same ys k e d (omega arith)
+member (x ∷ xs) k d l = (k, l, get_or_default (x ∷ xs) k (get_or (x ∷ xs) k d) d l)
 
 pub each_arc_from : (G : Graph) (u : ℕ) (star : List Arc) → IsGraph G → IsSmall G → IsStar G u star → All (IsArcFrom G u) star
 each_arc_from G u star g s h k d l =

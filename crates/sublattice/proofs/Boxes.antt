@@ -8,6 +8,7 @@ use Rattle.std.proofs.lemmas.Int.{ints}
 use Rattle.std.specs.Prelude.{◌<ℤ◌}
 use Rattle.integers.specs.Vectors.{Vector, vector, parts, IsBelow}
 use Rattle.integers.proofs.vectors.Precedence.{Precedes, parts_below}
+use Rattle.integers.proofs.counting.NumberedPairs.{made_again, remainder_below}
 
 -- quotients rise
 quotients_rise : (s t m : ℕ) → 1 ≤ m → s ≤ t → s / m ≤ t / m
@@ -20,14 +21,6 @@ remainders_rise s t m h l e =
     let q : (t / m) * m + t % m ≡ t = omega arith in
     let r = ap (λ (x : ℕ). x * m) e in
     omega (arith, p, q, r)
-
--- quotient and remainder make the number
-made_again : (t m : ℕ) → 1 ≤ m → (t / m) * m + t % m ≡ t
-made_again t m h = omega arith
-
--- a remainder is below
-rest_below : (s m : ℕ) → 1 ≤ m → s % m < m
-rest_below s m h = omega arith
 
 -- a product of positive numbers
 pub product_positive : (n l : ℕ) → 1 ≤ n → 1 ≤ l → 1 ≤ n * l
@@ -54,10 +47,10 @@ module _ (n l : ℕ) (hn : 1 ≤ n) (hl : 1 ≤ l) where
   first_below m t h = div_below t w m (omega (arith, hw)) h
 
   pub second_below : (t : ℕ) → t % (n * l) / l < n
-  second_below t = div_below (t % w) l n (omega arith) (rest_below t w hw)
+  second_below t = div_below (t % w) l n (omega arith) (remainder_below t w hw)
 
   pub third_below : (t : ℕ) → t % (n * l) % l < l
-  third_below t = rest_below (t % w) l hl
+  third_below t = remainder_below (t % w) l hl
 
   -- the number of a vector of the box is below the size of the box
   pub number_below : (m i j k : ℕ) → i < m → j < n → k < l → box_number i j k < m * (n * l)

@@ -1,10 +1,9 @@
 -- A staircase to which rows were added, from the multiples of their determinant on, has the lattice that they generate.
 use Rattle.std.proofs.Common.{◌≡◌, ◌↔◌, ◌≤◌, ℕ, List, [], ◌∷◌, ℤ, pos, neg_ℤ, ◌+ℤ◌, ◌-ℤ◌, ◌*ℤ◌, ◌⊎◌, inl, inr, refl, sym, ap, subst, ◌∙◌, arith}
-use Rattle.std.proofs.lemmas.Int.{ints}
 use Rattle.integers.specs.Vectors.{Vector, vector, zero_vector, plus, times, opposite, combination, HasDimension}
 use Rattle.integers.proofs.lists.Members.{IsIn}
 use Rattle.integers.proofs.numbers.Ring.{ring, linear}
-use Rattle.integers.proofs.vectors.Laws.{divided_dimension, vector_equal, plus_dimension, zero_plus, plus_zero, times_zero, zero_times}
+use Rattle.integers.proofs.vectors.Laws.{divided_dimension, vector_equal, plus_dimension, zero_plus, plus_zero, times_zero, zero_times, times_dimension}
 use Rattle.integers.specs.Bases.{Base, base_sum}
 use Rattle.integers.proofs.vectors.BaseSums.{base_sum_plus, base_sum_zero, base_sum_times}
 use Rattle.vecdim.specs.Stairs.{Stairs}
@@ -25,10 +24,6 @@ opposite_times v = vector_equal (negative v.x ∙ opposite_part v.x) (negative v
     negative : (x : ℤ) → neg_ℤ x ≡ pos 0 -ℤ x
     negative x = omega (arith, linear)
 
--- a multiple of what is flat is flat
-flat_times : (d : ℕ) (n : ℤ) (k : Vector) → HasDimension d k → HasDimension d (times n k)
-flat_times d n k h e = ap (λ (t : ℤ). n *ℤ t) (h e) ∙ omega (arith, ints)
-
 -- the combinations of rows are a group
 pub combination_group : (d : ℕ) (b : Base) → IsVectorGroup (IsCombination d b)
 combination_group d b = record {
@@ -36,7 +31,7 @@ combination_group d b = record {
   sums = λ v w i j. record { k = plus i.k j.k; dimension = plus_dimension d i.k j.k i.dimension j.dimension; sum = (λ t. plus (i.sum t) (j.sum t)) ∙ sym (base_sum_plus b i.k j.k) };
   opposites = λ v i. record {
     k = times (pos 0 -ℤ pos 1) i.k;
-    dimension = flat_times d (pos 0 -ℤ pos 1) i.k i.dimension;
+    dimension = times_dimension d (pos 0 -ℤ pos 1) i.k i.dimension;
     sum = opposite_times v ∙ ap (times (pos 0 -ℤ pos 1)) i.sum ∙ sym (base_sum_times b (pos 0 -ℤ pos 1) i.k);
   };
 }

@@ -1,7 +1,6 @@
 -- A staircase with the lattice of given rows: its pivots multiply to the absolute value of their determinant.
-use Rattle.std.proofs.Common.{◌≡◌, ◌≢◌, ◌⊎◌, inl, inr, ℕ, ◌*◌, ◌<ℤ◌, ℤ, pos, ◌+ℤ◌, ◌-ℤ◌, ◌*ℤ◌, refl, sym, ap, subst, arith}
+use Rattle.std.proofs.Common.{◌≡◌, ◌≢◌, ◌⊎◌, inl, inr, ℕ, ◌*◌, ℤ, pos, ◌+ℤ◌, ◌-ℤ◌, ◌*ℤ◌, refl, sym, ap, subst, arith}
 use Rattle.std.specs.Prelude.{unsigned_abs}
-use Rattle.std.proofs.lemmas.Int.{ints}
 use Rattle.integers.specs.Vectors.{Vector, vector, minus, HasDimension}
 use Rattle.integers.proofs.numbers.Ring.{ring, linear}
 use Rattle.integers.proofs.vectors.Laws.{minus_dimension}
@@ -10,19 +9,16 @@ use Rattle.vecdim.specs.Stairs.{Stairs, InStairs, HasFlatEnd, HasStairShape}
 use Rattle.sublattice.specs.Laws.{PivotsMultiply}
 use Rattle.sublattice.specs.Sublattices.{determinant, AreFlat, IsCombination}
 use Rattle.integers.proofs.counting.Numbering.{Numbering, along, one_size}
+use Rattle.integers.proofs.numbers.Order.{positive_is_some}
 use Rattle.sublattice.proofs.Residues.{HasPivots}
 use Rattle.sublattice.proofs.StairNumbers.{IsAny, DifferBy, stair_numbers}
 use Rattle.sublattice.proofs.RowClasses.{class_numbers}
 use Rattle.sublattice.specs.Laws.{PivotsMultiply}
 use Rattle.sublattice.specs.Sublattices.{HasMembersOf}
 
--- what is positive is not 0
-positive_not_zero : (z : ℤ) → pos 0 <ℤ z → z ≢ pos 0
-positive_not_zero z h e = omega (arith, ints, h, e)
-
 -- the pivots of a staircase
 pub shape_pivots : (d : ℕ) (S : Stairs) → HasStairShape d S → HasPivots S
-shape_pivots d S h = record { a = positive_not_zero S.a h.reduced.a; e = positive_not_zero S.e h.reduced.e; i = positive_not_zero S.i h.reduced.i }
+shape_pivots d S h = record { a = positive_is_some S.a h.reduced.a; e = positive_is_some S.e h.reduced.e; i = positive_is_some S.i h.reduced.i }
 
 -- x - x and 0 times a number
 level_part : (x a : ℤ) → x -ℤ x ≡ pos 0 *ℤ a

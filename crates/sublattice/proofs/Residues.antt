@@ -6,6 +6,7 @@ use borrow.Author.Differences.{product_is}
 use Rattle.integers.specs.Vectors.{Vector}
 use Rattle.integers.proofs.numbers.Ring.{ring, linear}
 use Rattle.integers.proofs.numbers.Division.{divided}
+use Rattle.integers.proofs.numbers.Naturals.{pos_same}
 use Rattle.vecdim.specs.Stairs.{Stairs}
 use Rattle.sublattice.specs.Residues.{Residue}
 
@@ -38,13 +39,10 @@ same_quotient (negsuc m) r s (negsuc n) h k e = absurd (let p = product_is (negs
 
 -- then the remainders are equal too
 pub same_remainder : (m : ℤ) (r s : ℕ) (d : ℤ) → r < unsigned_abs m → s < unsigned_abs m → pos r ≡ pos s +ℤ m *ℤ d → (r ≡ s) × (d ≡ pos 0)
-same_remainder m r s d h k e = let z = same_quotient m r s d h k e in (numbers r s (e ∙ ap (λ (t : ℤ). pos s +ℤ m *ℤ t) z ∙ nothing (pos s) m), z)
+same_remainder m r s d h k e = let z = same_quotient m r s d h k e in (pos_same r s (e ∙ ap (λ (t : ℤ). pos s +ℤ m *ℤ t) z ∙ nothing (pos s) m), z)
   where
     nothing : (a b : ℤ) → a +ℤ b *ℤ pos 0 ≡ a
     nothing a b = simp ring (omega (arith, linear))
-
-    numbers : (r s : ℕ) → pos r ≡ pos s → r ≡ s
-    numbers r s e = omega (arith, ints, e)
 
 -- no pivot is 0
 pub record HasPivots (S : Stairs) : Type 0 where

@@ -4,15 +4,8 @@ use Rattle.std.proofs.lemmas.Int.{ints}
 use Rattle.integers.proofs.numbers.Ring.{ring, linear}
 use Rattle.std.proofs.Common.{◌<ℤ◌, ◌≤ℤ◌}
 use Rattle.integers.specs.Vectors.{Vector}
+use Rattle.vecdim.proofs.Lattice.{two_terms}
 use Rattle.vecdim.specs.Steps.{Combo, Exchange, IsBoxed}
-
--- the first part of a combination of combinations
-head : (p q pr qr pv qv rx vx ax bx wx : ℤ) → ax ≡ pr *ℤ rx +ℤ qr *ℤ vx → bx ≡ pv *ℤ rx +ℤ qv *ℤ vx → wx ≡ p *ℤ ax +ℤ q *ℤ bx
-    → wx ≡ (p *ℤ pr +ℤ q *ℤ pv) *ℤ rx +ℤ (p *ℤ qr +ℤ q *ℤ qv) *ℤ vx
-head p q pr qr pv qv rx vx ax bx wx e f g =
-    let e' = ap (λ t. p *ℤ t) e in
-    let f' = ap (λ t. q *ℤ t) f in
-    simp ring (omega (arith, linear, g, simp ring at e', simp ring at f'))
 
 -- the later parts, up to multiples of m
 tail : (m p q s pr qr sr pv qv sv ry vy ay by wy : ℤ) → ay ≡ pr *ℤ ry +ℤ qr *ℤ vy +ℤ m *ℤ sr → by ≡ pv *ℤ ry +ℤ qv *ℤ vy +ℤ m *ℤ sv → wy ≡ p *ℤ ay +ℤ q *ℤ by +ℤ m *ℤ s
@@ -29,7 +22,7 @@ combo_of_combos {m} {r} {v} {a} {b} {w} h e f = record {
   q = h.p *ℤ e.q +ℤ h.q *ℤ f.q;
   s = h.p *ℤ e.s +ℤ h.q *ℤ f.s +ℤ h.s;
   t = h.p *ℤ e.t +ℤ h.q *ℤ f.t +ℤ h.t;
-  x = head h.p h.q e.p e.q f.p f.q r.x v.x a.x b.x w.x e.x f.x h.x;
+  x = two_terms h.p h.q e.p e.q f.p f.q r.x v.x a.x b.x w.x e.x f.x h.x;
   y = tail m h.p h.q h.s e.p e.q e.s f.p f.q f.s r.y v.y a.y b.y w.y e.y f.y h.y;
   z = tail m h.p h.q h.t e.p e.q e.t f.p f.q f.t r.z v.z a.z b.z w.z e.z f.z h.z;
 }

@@ -11,6 +11,7 @@ use Rattle.vecdim.specs.Stairs.{Stairs}
 use Rattle.vecdim.specs.Steps.{IsBoxed, IsBoundedStair}
 use Rattle.integers.proofs.numbers.Division.{quotient_times}
 use Rattle.integers.proofs.numbers.Ring.{product_negative}
+use Rattle.integers.proofs.vectors.Bounds.{abs_difference}
 
 -- the remainder differs by a multiple
 pub remainder : (z m : ℤ) → pos 0 <ℤ m → (k : ℤ) × (int_rem_euclid z m ≡ z +ℤ m *ℤ k)
@@ -36,12 +37,8 @@ product_fits a q b m h af at bf bt qf qt =
     let v = abs_to b m h bf bt in
     let w = abs_to q m h qf qt in
     let p : unsigned_abs (q *ℤ b) ≤ 2 ^ 60 * 2 ^ 60 = rw unsigned_abs-mul (mul-le (unsigned_abs q) (unsigned_abs b) (2 ^ 60) (2 ^ 60) w v) in
-    let r : unsigned_abs (a -ℤ q *ℤ b) ≤ unsigned_abs a + unsigned_abs (q *ℤ b) = difference a (q *ℤ b) in
+    let r : unsigned_abs (a -ℤ q *ℤ b) ≤ unsigned_abs a + unsigned_abs (q *ℤ b) = abs_difference a (q *ℤ b) in
     (fits_signed_from_abs w128 (q *ℤ b) (omega arith), fits_signed_from_abs w128 (a -ℤ q *ℤ b) (omega arith))
-  where
-    -- the absolute value of a difference
-    difference : (a b : ℤ) → unsigned_abs (a -ℤ b) ≤ unsigned_abs a + unsigned_abs b
-    difference a b = omega (arith, ints)
 
 -- a number from 0 to m fits
 pub fits_within : (z m : ℤ) → m ≤ℤ pos (2 ^ 60) → pos 0 ≤ℤ z → z ≤ℤ m → FitsSigned w128 z
@@ -69,33 +66,25 @@ pub record PartsFit (v : Vector) : Type 0 where
 pub boxed_fits : {m : ℤ} {v : Vector} → m ≤ℤ pos (2 ^ 60) → IsBoxed m v → PartsFit v
 boxed_fits {m} {v} h b = record { x = fits_within v.x m h b.x_from b.x_to; y = fits_within v.y m h b.y_from (at_most v.y m b.y_to); z = fits_within v.z m h b.z_from (at_most v.z m b.z_to) }
 
+-- below, and at most
+below : (x y z : ℤ) → x <ℤ y → y ≤ℤ z → x <ℤ z
+below x y z h i = omega (arith, ints)
+
+-- 0 is at most 0
+zero_most : pos 0 ≤ℤ pos 0
+zero_most = omega (arith, ints)
+
 -- the rows are in the box
 pub boxed_first : {m : ℤ} {S : Stairs} → IsBoundedStair m S → IsBoxed m (vector S.a S.b S.c)
 boxed_first {m} {S} k = let r = k.reduced in let b = k.e_to in let c = k.i_to in record { x_from = at_most (pos 0) S.a r.a; x_to = k.a_to; y_from = r.b_from; y_to = below S.b S.e m r.b_to b; z_from = r.c_from; z_to = below S.c S.i m r.c_to c }
-  where
-    -- below, and at most
-    below : (x y z : ℤ) → x <ℤ y → y ≤ℤ z → x <ℤ z
-    below x y z h i = omega (arith, ints)
 
 -- the second row, one place to the left
 pub boxed_second : {m : ℤ} {S : Stairs} → IsBoundedStair m S → IsBoxed m (vector S.e S.f (pos 0))
 boxed_second {m} {S} k = let r = k.reduced in record { x_from = at_most (pos 0) S.e r.e; x_to = k.e_to; y_from = r.f_from; y_to = below S.f S.i m r.f_to k.i_to; z_from = zero_most; z_to = k.m_from }
-  where
-    -- 0 is at most 0
-    zero_most : pos 0 ≤ℤ pos 0
-    zero_most = omega (arith, ints)
-
-    -- below, and at most
-    below : (x y z : ℤ) → x <ℤ y → y ≤ℤ z → x <ℤ z
-    below x y z h i = omega (arith, ints)
 
 -- the third row, two places to the left
 pub boxed_third : {m : ℤ} {S : Stairs} → IsBoundedStair m S → IsBoxed m (vector S.i (pos 0) (pos 0))
 boxed_third {m} {S} k = let r = k.reduced in record { x_from = at_most (pos 0) S.i r.i; x_to = k.i_to; y_from = zero_most; y_to = k.m_from; z_from = zero_most; z_to = k.m_from }
-  where
-    -- 0 is at most 0
-    zero_most : pos 0 ≤ℤ pos 0
-    zero_most = omega (arith, ints)
 
 -- what is at most 2^61 fits
 pub small_fits : (z : ℤ) → unsigned_abs z ≤ 2 ^ 61 → FitsSigned w128 z

@@ -13,7 +13,7 @@ one_term p q k l a x y w e f g =
     simp ring (omega (arith, linear, g, e', f'))
 
 -- a pair of combinations of two numbers
-two_terms : (p q k k' l l' a b x y w : ℤ) → x ≡ k *ℤ a +ℤ k' *ℤ b → y ≡ l *ℤ a +ℤ l' *ℤ b → w ≡ p *ℤ x +ℤ q *ℤ y → w ≡ (p *ℤ k +ℤ q *ℤ l) *ℤ a +ℤ (p *ℤ k' +ℤ q *ℤ l') *ℤ b
+pub two_terms : (p q k k' l l' a b x y w : ℤ) → x ≡ k *ℤ a +ℤ k' *ℤ b → y ≡ l *ℤ a +ℤ l' *ℤ b → w ≡ p *ℤ x +ℤ q *ℤ y → w ≡ (p *ℤ k +ℤ q *ℤ l) *ℤ a +ℤ (p *ℤ k' +ℤ q *ℤ l') *ℤ b
 two_terms p q k k' l l' a b x y w e f g =
     let e' = ap (λ t. p *ℤ t) e in
     let f' = ap (λ t. q *ℤ t) f in

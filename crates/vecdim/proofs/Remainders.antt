@@ -3,7 +3,7 @@ use Rattle.std.proofs.Common.{◌≡◌, ℕ, zero, suc, ℤ, pos, negsuc, ◌+�
 use Rattle.std.proofs.lemmas.Int.{ints}
 use borrow.Author.Differences.{product_is}
 use Rattle.integers.specs.Vectors.{Vector, zero_vector, minus}
-use Rattle.integers.proofs.numbers.Ring.{ring, linear}
+use Rattle.integers.proofs.numbers.Ring.{ring, linear, zero_product}
 use Rattle.integers.proofs.vectors.Laws.{vector_equal}
 use Rattle.vecdim.specs.Stairs.{Stairs, InStairs, HasStairShape, IsRemainder}
 use Rattle.vecdim.specs.Steps.{HasRemainder}
@@ -17,11 +17,8 @@ no_multiple (negsuc m) r s k a b c d e = absurd (omega (arith, ints, a, b))
 
 -- a difference that is 0 times a number is 0
 no_difference : (m r s k : ℤ) → k ≡ pos 0 → r -ℤ s ≡ k *ℤ m → r ≡ s
-no_difference m r s k h e = by (e ∙ ap (λ (t : ℤ). t *ℤ m) h ∙ nothing m)
+no_difference m r s k h e = by (e ∙ ap (λ (t : ℤ). t *ℤ m) h ∙ zero_product m)
   where
-    nothing : (m : ℤ) → pos 0 *ℤ m ≡ pos 0
-    nothing m = omega (arith, ints)
-
     by : r -ℤ s ≡ pos 0 → r ≡ s
     by f = omega (arith, linear, f)
 

@@ -9,7 +9,7 @@ use Rattle.periodic_net.specs.Graph.{Graph, Arc, IsGraph, IsEdge}
 use Rattle.periodic_net.specs.Limits.{IsSmall, most_shift}
 use Rattle.walk_lattice.specs.Search.{walk_to}
 use Rattle.walk_lattice.specs.Generators.{generator_of, generators}
-use Rattle.walk_lattice.proofs.Filtered.{images_more, images_same}
+use Rattle.integers.proofs.lists.FilteredImages.{images_more, images_same}
 
 -- where an edge stands
 pub record IsReady (found : List (Option Vector)) (e : Arc) : Type 0 where

@@ -6,6 +6,7 @@ use Rattle.std.proofs.lemmas.List.{get_or_append_left}
 use Rattle.std.proofs.lemmas.List.Elements.{Contains-append_left, Contains-append_right}
 use Rattle.std.proofs.lemmas.Bool.{cases_eq}
 use Rattle.integers.specs.Vectors.{Vector, IsWithin}
+use Rattle.integers.proofs.numbers.Naturals.{before_or_at}
 use Rattle.periodic_net.specs.Graph.{Graph, IsQuotientVertex}
 use Rattle.periodic_net.specs.Split.{WalkShift}
 use Rattle.walk_lattice.specs.Search.{walk_to, found_with, order_with, IsSearch}
@@ -42,9 +43,6 @@ none_is_not_some o T e f = let g : None ≡ Some T = sym e ∙ f in cc
 pub one_value : (o : Option Vector) (S T : Vector) → o ≡ Some S → o ≡ Some T → S ≡ T
 one_value o S T e f = let g : Some S ≡ Some T = sym e ∙ f in cc
 
-before_or_last : (k n : ℕ) → k < n + 1 → (k < n) ⊎ (k ≡ n)
-before_or_last k n h = grind arith
-
 last_length : (order : List ℕ) (u : ℕ) → length (order ++ u ∷ []) ≡ length order + 1
 last_length order u = length-append order (u ∷ [])
 
@@ -70,7 +68,7 @@ module _ (G : Graph) (start : ℕ) (found : List (Option Vector)) (order : List 
   ]
 
   vertices : (k : ℕ) → k < length (order ++ u ∷ []) → IsQuotientVertex G (get_or (order ++ u ∷ []) k 0)
-  vertices k b = elim (before_or_last k (length order) (subst (λ n. k < n) (last_length order u) b)) [
+  vertices k b = elim (before_or_at k (length order) (subst (λ n. k < n) (last_length order u) b)) [
     | inl l ↦ subst (IsQuotientVertex G) (sym (get_or_append_left order (u ∷ []) 0 k l)) (h.vertices k l)
     | inr e ↦ subst (λ j. IsQuotientVertex G (get_or (order ++ u ∷ []) j 0)) (sym e) (subst (IsQuotientVertex G) (sym (at_last order u)) v)
   ]
@@ -90,7 +88,7 @@ module _ (G : Graph) (start : ℕ) (found : List (Option Vector)) (order : List 
   near_last = (T, ap (walk_to (set found (u - 1) (Some T))) (at_last order u) ∙ set_there found u T v.0 inside, near)
 
   nears : (k : ℕ) → k < length (order ++ u ∷ []) → IsNear k
-  nears k b = elim (before_or_last k (length order) (subst (λ n. k < n) (last_length order u) b)) [
+  nears k b = elim (before_or_at k (length order) (subst (λ n. k < n) (last_length order u) b)) [
     | inl l ↦ near_old k l
     | inr e ↦ subst IsNear (sym e) near_last
   ]

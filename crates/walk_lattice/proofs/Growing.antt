@@ -1,10 +1,11 @@
 -- A search grows by the head of one arc.
-use Rattle.std.proofs.Common.{◌≡◌, ◌≢◌, ◌⊎◌, inl, inr, ℕ, zero, suc, ◌+◌, ◌-◌, ◌*◌, ◌<◌, ◌≤◌, List, [], ◌∷◌, ◌++◌, length, get_or, set, Option, Some, None, IsSome, refl, sym, ap, subst, ◌∙◌, arith, get_or-set_other, length-append}
-use Rattle.std.proofs.lemmas.List.{get_or_append_left}
+use Rattle.std.proofs.Common.{◌≡◌, ◌≢◌, inl, inr, ℕ, ◌+◌, ◌-◌, ◌*◌, ◌<◌, ◌≤◌, List, [], ◌∷◌, ◌++◌, length, get_or, set, Option, Some, None, IsSome, sym, ap, subst, ◌∙◌, arith, get_or-set_other, length-append}
+use Rattle.std.proofs.lemmas.List.{get_or_append_left, get_or_default}
 use Rattle.std.specs.List.{Contains}
 use Rattle.std.proofs.lemmas.Bool.{cases_eq}
 use Rattle.integers.specs.Vectors.{Vector, plus, IsWithin}
 use Rattle.integers.proofs.vectors.Bounds.{wider, bounded_plus}
+use Rattle.integers.proofs.numbers.Naturals.{before_or_at}
 use Rattle.periodic_net.specs.Graph.{Graph, Arc, arc, IsArc, IsQuotientVertex}
 use Rattle.walk_lattice.specs.Search.{walk_to, missing_count, found_with, order_with, Grows, LeadsToFound}
 use Rattle.walk_lattice.proofs.Finding.{found_is, search_grows, set_there, none_is_not_some}
@@ -71,16 +72,8 @@ pub leads_more : (row : List Arc) (before found : List (Option Vector)) (i : ℕ
     → ((k : ℕ) (a : Arc) → k < i → IsSome (walk_to before (get_or row k a).to)) → IsSome (walk_to found v) → (k : ℕ) (a : Arc) → k < i + 1 → IsSome (walk_to found (get_or row k a).to)
 leads_more row before found i x v is to l still h some k a b = elim (before_or_at k i b) [
   | inl c ↦ still ((get_or row k a).to - 1) (h k a c)
-  | inr e ↦ subst (λ j. IsSome (walk_to found (get_or row j a).to)) (sym e) (subst (λ w. IsSome (walk_to found w)) (to ∙ ap (λ (b : Arc). b.to) (sym is ∙ any_default row i x a l)) some)
+  | inr e ↦ subst (λ j. IsSome (walk_to found (get_or row j a).to)) (sym e) (subst (λ w. IsSome (walk_to found w)) (to ∙ ap (λ (b : Arc). b.to) (sym is ∙ get_or_default row i x a l)) some)
 ]
-  where
-    before_or_at : (k i : ℕ) → k < i + 1 → (k < i) ⊎ (k ≡ i)
-    before_or_at k i b = grind arith
-
-    any_default : (xs : List Arc) (k : ℕ) (d e : Arc) → k < length xs → get_or xs k d ≡ get_or xs k e
-    any_default [] k d e l = absurd (omega arith)
-    any_default (y ∷ ys) zero d e l = refl
-    any_default (y ∷ ys) (suc k) d e l = any_default ys k d e (omega arith)
 
 -- all the arcs from u are in the row
 pub leads_all : (G : Graph) (start : ℕ) (row : List Arc) (found : List (Option Vector)) (u n : ℕ) → length row ≤ n → ((a : Arc) → IsArc G a → a.from ≡ u → Contains row a)

@@ -3,7 +3,6 @@ pub mod Dividing
 pub mod EdgeWalks
 pub mod Ends
 pub mod Expanding
-pub mod Filtered
 pub mod Finding
 pub mod FlatNormals
 pub mod FoundVertices

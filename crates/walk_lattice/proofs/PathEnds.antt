@@ -1,9 +1,11 @@
 -- The search in breadth at its start, at its next vertex, and at its end.
-use Rattle.std.proofs.Common.{◌≡◌, inl, inr, ℕ, zero, suc, ◌+◌, ◌-◌, ◌<◌, ◌≤◌, List, [], ◌∷◌, length, get_or, Option, Some, None, refl, sym, ap, subst, ◌∙◌, arith}
+use Rattle.std.proofs.Common.{◌≡◌, inl, inr, ℕ, ◌+◌, ◌-◌, ◌<◌, ◌≤◌, List, [], ◌∷◌, length, get_or, Option, Some, refl, sym, ap, subst, ◌∙◌, arith}
 use Rattle.std.specs.Prelude.{drop, is_some, if◌then◌else◌}
 use Rattle.integers.proofs.lists.Members.{IsIn, is_in}
 use Rattle.integers.proofs.lists.More.{drop_at, drop_all}
 use Rattle.integers.specs.Vectors.{Vector, zero_vector}
+use Rattle.integers.proofs.numbers.Naturals.{next_number}
+use Rattle.walk_lattice.proofs.Starting.{none_at}
 use Rattle.periodic_net.specs.Graph.{Graph, Arc, IsArc}
 use Rattle.walk_theory.specs.Chosen.{path_shift, IsChosen}
 use Rattle.walk_theory.specs.Breadth.{AreSortedArcs}
@@ -38,9 +40,6 @@ module _ (G : Graph) (a : ℕ) (found : List (Option Vector)) (order : List ℕ)
   back_again : (i : ℕ) → 1 ≤ i → i - 1 + 1 ≡ i
   back_again i l = omega arith
 
-  one_more : (i : ℕ) → suc i ≡ i + 1
-  one_more i = omega arith
-
   -- a later one
   path_later : (i u : ℕ) → 1 ≤ i → i < length order → IsPathSearch G a found order (i - 1) [] → get_or order i 0 ≡ u → (row : List Arc) → AreArcsOf G u row → IsPathSearch G a found order i row
   path_later i u one l s at row r =
@@ -48,7 +47,7 @@ module _ (G : Graph) (a : ℕ) (found : List (Option Vector)) (order : List ℕ)
       let next = get_or s.known i (entry a []) in
       let same : next.vertex ≡ u = sym (vertex_at s.known i (entry a []) inside) ∙ ap (λ us. get_or us i 0) s.vertices ∙ at in
       let rest : drop (i - 1 + 1) s.known ≡ next ∷ drop (i + 1) s.known =
-      ap (λ k. drop k s.known) (back_again i one) ∙ drop_at s.known i (entry a []) inside ∙ ap (λ k. next ∷ drop k s.known) (one_more i) in
+      ap (λ k. drop k s.known) (back_again i one) ∙ drop_at s.known i (entry a []) inside ∙ ap (λ k. next ∷ drop k s.known) (next_number i) in
       record {
         known = s.known;
         vertices = s.vertices;
@@ -100,10 +99,5 @@ module _ (G : Graph) (a : ℕ) (found : List (Option Vector)) (order : List ℕ)
   pub settled_start : (n : ℕ) → order ≡ order_with (none_found n) [] a → walk_to found a ≡ Some zero_vector → IsSettledTo G a found order 0
   settled_start n e w = record { which = inl (refl, record { alone = e ∙ alone; nowhere = w }) }
     where
-      none_at : (n k : ℕ) → get_or (none_found n) k None ≡ None
-      none_at zero k = refl
-      none_at (suc n) zero = refl
-      none_at (suc n) (suc k) = none_at n k
-
       alone : order_with (none_found n) [] a ≡ a ∷ []
       alone = ap (λ o. if is_some o then [] else a ∷ []) (none_at n (a - 1))

@@ -1,11 +1,12 @@
 -- The search in breadth goes on by one arc.
-use Rattle.std.proofs.Common.{◌≡◌, ◌≢◌, ◌⊎◌, inl, inr, ℕ, ◌+◌, ◌-◌, ◌<◌, ◌≤◌, List, [], ◌∷◌, ◌++◌, length, get_or, set, Option, Some, None, IsSome, refl, sym, ap, subst, ◌∙◌, arith, get_or-set_other}
+use Rattle.std.proofs.Common.{◌≡◌, ◌≢◌, ◌⊎◌, inl, inr, ℕ, ◌+◌, ◌-◌, ◌<◌, ◌≤◌, List, [], ◌∷◌, ◌++◌, length, get_or, set, Option, Some, None, IsSome, sym, ap, subst, ◌∙◌, arith, get_or-set_other}
 use Rattle.std.specs.Prelude.{drop}
 use Rattle.std.proofs.lemmas.List.{get_or_append_left}
 use Rattle.integers.proofs.lists.Members.{IsIn, is_in}
 use Rattle.integers.proofs.lists.More.{in_more, drop_with}
 use Rattle.integers.proofs.lists.Pieces.{in_at}
 use Rattle.integers.specs.Vectors.{Vector, plus}
+use Rattle.walk_lattice.proofs.Starting.{some_value}
 use Rattle.periodic_net.specs.Graph.{Graph, Arc}
 use Rattle.walk_theory.specs.Chosen.{path_shift}
 use Rattle.walk_theory.specs.Settling.{Entry, entry, IsSettling}
@@ -14,10 +15,6 @@ use Rattle.walk_lattice.specs.Search.{walk_to, found_with, order_with, IsSearch}
 use Rattle.walk_lattice.proofs.Finding.{found_is, set_there, none_is_not_some, one_value}
 use Rattle.walk_lattice.specs.Paths.{IsPathSearch}
 use Rattle.walk_lattice.proofs.KnownLists.{as_many, vertex_at, vertices_more, entry_of, shift_more}
-
-some_value : (o : Option Vector) → IsSome o → (T : Vector) × (o ≡ Some T)
-some_value None h = cc
-some_value (Some T) h = (T, refl)
 
 module _ (G : Graph) (a : ℕ) (found : List (Option Vector)) (order : List ℕ) (i : ℕ) (f : Arc) (left : List Arc) (s : IsPathSearch G a found order i (f ∷ left)) where
   abbrev current : Entry

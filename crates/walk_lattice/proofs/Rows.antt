@@ -1,9 +1,10 @@
 -- The arcs from a vertex, as the search goes over them.
-use Rattle.std.proofs.Common.{◌≡◌, ℕ, suc, ◌+◌, ◌<◌, List, ◌∷◌, length, get_or, All, Contains, ◌∙◌, arith}
+use Rattle.std.proofs.Common.{◌≡◌, ℕ, ◌+◌, ◌<◌, List, ◌∷◌, length, get_or, All, Contains, ◌∙◌}
 use Rattle.std.specs.Prelude.{drop}
 use Rattle.std.proofs.lemmas.List.Elements.{All-contains}
 use Rattle.integers.proofs.lists.Members.{IsIn, is_in, contains_from_in}
 use Rattle.integers.proofs.lists.More.{drop_at}
+use Rattle.integers.proofs.numbers.Naturals.{next_number}
 use Rattle.periodic_net.specs.Graph.{Graph, Arc, IsArc}
 use Rattle.quotient_graph.specs.Stars.{IsStar, IsArcFrom}
 use Rattle.walk_lattice.proofs.Sorted.{rising_sorted}
@@ -22,7 +23,4 @@ arcs_of_star G u row star each every = record {
 
 -- the arcs that are left begin with the one at the place
 pub left_at : (row : List Arc) (k : ℕ) (f : Arc) → k < length row → get_or row k f ≡ f → drop k row ≡ f ∷ drop (k + 1) row
-left_at row k f l e = drop_at row k f l ∙ (λ i. e i ∷ drop (one_more k i) row)
-  where
-    one_more : (k : ℕ) → suc k ≡ k + 1
-    one_more k = omega arith
+left_at row k f l e = drop_at row k f l ∙ (λ i. e i ∷ drop (next_number k i) row)

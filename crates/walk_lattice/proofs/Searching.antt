@@ -1,7 +1,8 @@
 -- The search goes on from the next vertex of its order.
-use Rattle.std.proofs.Common.{◌≡◌, ◌⊎◌, inl, inr, ℕ, ◌+◌, ◌-◌, ◌*◌, ◌<◌, ◌≤◌, List, length, get_or, Option, Some, None, IsSome, refl, sym, subst, ◌∙◌, arith}
+use Rattle.std.proofs.Common.{◌≡◌, inl, inr, ℕ, ◌+◌, ◌-◌, ◌*◌, ◌<◌, ◌≤◌, List, length, get_or, Option, Some, None, IsSome, refl, sym, subst, ◌∙◌, arith}
 use Rattle.integers.specs.Vectors.{Vector, zero_vector, IsWithin}
 use Rattle.integers.proofs.vectors.Bounds.{wider}
+use Rattle.integers.proofs.numbers.Naturals.{before_or_at}
 use Rattle.periodic_net.specs.Graph.{Graph, IsQuotientVertex}
 use Rattle.walk_lattice.specs.Search.{walk_to, IsSearchedTo, Expands, LeadsToFound}
 use Rattle.walk_lattice.proofs.Finding.{one_value}
@@ -50,6 +51,3 @@ searched_more G start found order found' order' i l h e = record {
     | inr s ↦ subst (λ j. LeadsToFound G found' (get_or order' j 0)) (sym s) (subst (LeadsToFound G found') (sym (e.grows.same i l)) e.leads)
   ];
 }
-  where
-    before_or_at : (k i : ℕ) → k < i + 1 → (k < i) ⊎ (k ≡ i)
-    before_or_at k i b = grind arith

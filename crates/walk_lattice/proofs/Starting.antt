@@ -1,5 +1,5 @@
 -- The search begins at a vertex, and what it has found at its end.
-use Rattle.std.proofs.Common.{◌≡◌, inl, inr, ℕ, zero, suc, ◌+◌, ◌-◌, ◌*◌, ◌<◌, ◌≤◌, List, [], ◌∷◌, length, get_or, set, Option, Some, None, IsSome, refl, sym, ap, subst, ◌∙◌, arith}
+use Rattle.std.proofs.Common.{◌≡◌, inl, inr, ℕ, zero, suc, ◌+◌, ◌-◌, ◌*◌, ◌≤◌, List, [], length, get_or, set, Option, Some, None, IsSome, refl, sym, ap, subst, ◌∙◌, arith}
 use Rattle.std.proofs.lemmas.Grind.{common_steps}
 use Rattle.std.proofs.lemmas.List.{length-replicate, get_or_default}
 use Rattle.integers.specs.Vectors.{Vector, zero_vector, IsWithin}
@@ -11,7 +11,8 @@ use Rattle.walk_lattice.proofs.Finding.{found_is, search_grows, none_is_not_some
 use Rattle.walk_lattice.proofs.Searching.{few_found}
 use Rattle.periodic_net.specs.Limits.{most_walk, most_shift, most_vertices}
 
-none_at : (n k : ℕ) → get_or (none_found n) k None ≡ None
+-- where none is found, none is at any place
+pub none_at : (n k : ℕ) → get_or (none_found n) k None ≡ None
 none_at zero k = refl
 none_at (suc n) zero = refl
 none_at (suc n) (suc k) = none_at n k
@@ -53,7 +54,8 @@ search_start G start found order q e f together =
     no_some None e h = cc
     no_some (Some T) e h = cc
 
-some_value : (o : Option Vector) → IsSome o → (T : Vector) × (o ≡ Some T)
+-- what is some has a value
+pub some_value : (o : Option Vector) → IsSome o → (T : Vector) × (o ≡ Some T)
 some_value None h = cc
 some_value (Some T) h = (T, refl)
 
@@ -67,14 +69,9 @@ walks_found G start found order small h = record {
   closed = λ u low i.
       let v = some_value (walk_to found u) i in
       let c = h.search.listed u v.0 low v.1 in
-      subst (LeadsToFound G found) (any_default order c.0 0 u c.1 ∙ c.2) (h.done c.0 c.1);
+      subst (LeadsToFound G found) (get_or_default order c.0 0 u c.1 ∙ c.2) (h.done c.0 c.1);
 }
   where
-    any_default : (xs : List ℕ) (k d e : ℕ) → k < length xs → get_or xs k d ≡ get_or xs k e
-    any_default [] k d e l = absurd (omega arith)
-    any_default (y ∷ ys) zero d e l = refl
-    any_default (y ∷ ys) (suc k) d e l = any_default ys k d e (omega arith)
-
     near : (u : ℕ) (T : Vector) → 1 ≤ u → walk_to found u ≡ Some T → IsWithin most_walk T
     near u T low e =
         let c = h.search.listed u T low e in
@@ -82,7 +79,7 @@ walks_found G start found order small h = record {
         let l = c.1 in
         let n = h.search.near k l in
         let few = few_found G start found order (length order) small h in
-        let at : get_or order k 0 ≡ u = any_default order k 0 u l ∙ c.2 in
+        let at : get_or order k 0 ≡ u = get_or_default order k 0 u l ∙ c.2 in
         wider (most_shift * k) most_walk (omega arith) T (subst (IsWithin (most_shift * k)) (one_value (walk_to found u) n.0 T (subst (λ x. walk_to found x ≡ Some n.0) at n.1) e) n.2)
 
     less : (k : ℕ) → k + 1 - 1 ≡ k

@@ -3,6 +3,7 @@ use Rattle.std.proofs.Common.{◌≡◌, ◌⊎◌, inl, inr, ℕ, ◌+◌, ◌-
 use Rattle.std.proofs.Math.Seq.{get_or-append_seam}
 use Rattle.std.proofs.lemmas.List.{get_or_append_left, length_push}
 use Rattle.integers.specs.Vectors.{zero_vector}
+use Rattle.integers.proofs.numbers.Naturals.{at_most_next}
 use Rattle.periodic_net.specs.Graph.{Graph, IsQuotientVertex, vertex}
 use Rattle.coordination.specs.BoxSearches.{AreFirstLists}
 use Rattle.coordination.specs.Sequences.{AreShellsOf}
@@ -12,12 +13,9 @@ pub lists_more : (P : Graph) (m : ℕ) (lists more : List (List ℕ)) (sizes : L
     → AreFirstLists P (m + 1) more
 lists_more P m lists more sizes h s e = record {
   count = ap length e ∙ length_push lists sizes ∙ ap (λ k. k + 1) h.count;
-  each = λ c i l. by c i (order c m l);
+  each = λ c i l. by c i (at_most_next c m l);
 }
   where
-    order : (c m : ℕ) → c ≤ m + 1 → (c ≤ m) ⊎ (c ≡ m + 1)
-    order c m l = grind arith
-
     by : (c : ℕ) → IsQuotientVertex P c → (c ≤ m) ⊎ (c ≡ m + 1) → AreShellsOf P (vertex c zero_vector) (get_or more (c - 1) [])
     by c i (inl l) =
         let low = i.0 in

@@ -7,6 +7,7 @@ use Rattle.std.proofs.Math.Nat.{mul-le-mul_left}
 use Rattle.integers.specs.Vectors.{minus}
 use Rattle.integers.proofs.numbers.Ring.{ring, linear}
 use Rattle.integers.proofs.vectors.Laws.{vector_equal}
+use Rattle.integers.proofs.numbers.Naturals.{three_ways}
 use Rattle.periodic_net.specs.Graph.{arc, Vertex, vertex}
 use Rattle.coordination.specs.Boxes.{side, above, IsInside, size_of, place_in, growth_of}
 use Rattle.coordination.specs.declared.extent.Extent.{Extent}
@@ -21,11 +22,8 @@ no_less n a b a' b' h k e = let l = mul-le-mul_left n (let s : b + 1 ≤ b' = om
 
 -- remainder and quotient are told by the number
 digits_once : (n a b a' b' : ℕ) → a < n → a' < n → a + n * b ≡ a' + n * b' → (a ≡ a') × (b ≡ b')
-digits_once n a b a' b' h h' e = by (order b b')
+digits_once n a b a' b' h h' e = by (three_ways b b')
   where
-    order : (b b' : ℕ) → (b < b') ⊎ ((b' < b) ⊎ (b ≡ b'))
-    order b b' = grind arith
-
     by : (b < b') ⊎ ((b' < b) ⊎ (b ≡ b')) → (a ≡ a') × (b ≡ b')
     by (inl l) = absurd (no_less n a b a' b' h l e)
     by (inr (inl l)) = absurd (no_less n a' b' a b h' l (sym e))

@@ -5,6 +5,7 @@ use Rattle.std.proofs.lemmas.Int.{ints}
 use Rattle.std.proofs.lemmas.List.{get_or_default}
 use Rattle.integers.specs.Vectors.{Vector, zero_vector, minus}
 use Rattle.integers.proofs.lists.Members.{IsIn, is_in, contains_from_in}
+use Rattle.integers.proofs.numbers.Naturals.{before_or_at}
 use Rattle.periodic_net.specs.Graph.{Graph, IsGraph, IsQuotientVertex, Arc, arc, arcs, IsArc, reverse_of, Vertex, vertex, AreJoined, IsWalk}
 use Rattle.periodic_net.proofs.CallerLemmas.{arc_inside, either_way, joined_turned}
 use Rattle.coordination.specs.Extents.{IsExtent}
@@ -28,17 +29,14 @@ pub farther_more : (axis : Axis) (i : ℕ) (edges : List Arc) (far next0 next1 n
 farther_more axis i edges far next0 next1 next2 next3 e a b h l s r p q t w = record {
   count = q.count ∙ r.count ∙ h.count;
   no_less = λ k. let x = h.no_less k in let y = r.no_less k in let z = q.no_less k in omega (arith, x, y, z);
-  forth = λ k d c n. forth k d n (order k i c);
-  back = λ k d c n. back k d n (order k i c);
+  forth = λ k d c n. forth k d n (before_or_at k i c);
+  back = λ k d c n. back k d n (before_or_at k i c);
   bound = λ m f n.
       let o = f (e.to - 1) in
       let o' = f (e.from - 1) in
       q.bound (m + LONGEST) (r.bound (m + LONGEST) (h.bound m f n) (part (far_of far e.to) m a p o)) (part' (far_of far e.from) m b t o');
 }
   where
-    order : (k i : ℕ) → k < i + 1 → (k < i) ⊎ (k ≡ i)
-    order k i c = grind arith
-
     here : (k : ℕ) (d : Arc) → k < length edges → k ≡ i → get_or edges k d ≡ e
     here k d n o = ap (λ j. get_or edges j d) o ∙ get_or_default edges i d e l ∙ sym s
 

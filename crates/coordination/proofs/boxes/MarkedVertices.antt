@@ -10,7 +10,7 @@ use Rattle.coordination.specs.Marks.{all_marks, all_spots, is_marked}
 use Rattle.coordination.specs.declared.net_box.NetBox.{NetBox}
 use Rattle.coordination.specs.declared.spot.Spot.{Spot}
 use Rattle.coordination.proofs.boxes.BoxPlaces.{place_below, place_once}
-use Rattle.coordination.proofs.layers.Growing.{Grows, grows_none, grows_old, grows_new}
+use Rattle.integers.proofs.lists.GrownLists.{Grows, grows_none, grows_old, grows_new}
 use Rattle.coordination.proofs.boxes.Marking.{marked_more}
 
 module _ (P : Graph) (b : NetBox) (q : IsBoxOf P b) where

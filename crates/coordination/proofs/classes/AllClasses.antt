@@ -2,6 +2,7 @@
 use Rattle.std.proofs.Common.{◌≡◌, ◌⊎◌, inl, inr, ℕ, ◌+◌, ◌-◌, ◌<◌, List, [], ◌∷◌, ◌++◌, length, get_or, sym, subst, ap, ◌∙◌, refl, arith}
 use Rattle.std.proofs.Math.Seq.{get_or-append_seam}
 use Rattle.std.proofs.lemmas.List.{get_or_append_left, length_push}
+use Rattle.integers.proofs.numbers.Naturals.{before_or_at}
 use Rattle.periodic_net.specs.Classes.{ClassGraph}
 use Rattle.periodic_net.specs.Graph.{IsGraph}
 use Rattle.key_theory.specs.Key.{Shape}
@@ -17,12 +18,9 @@ pub record AreFirst (K : ClassGraph) (n : ℕ) (lists : List (List ℕ)) : Type 
 pub one_more : (K : ClassGraph) (n : ℕ) (lists more : List (List ℕ)) (sizes : List ℕ) → AreFirst K n lists → AreShellsOfClass K (n + 1) sizes → more ≡ lists ++ sizes ∷ [] → AreFirst K (n + 1) more
 one_more K n lists more sizes h s e = record {
   count = ap length e ∙ length_push lists sizes ∙ ap (λ m. m + 1) h.count;
-  each = λ k l. by k (order k n l);
+  each = λ k l. by k (before_or_at k n l);
 }
   where
-    order : (k n : ℕ) → k < n + 1 → (k < n) ⊎ (k ≡ n)
-    order k n l = grind arith
-
     by : (k : ℕ) → (k < n) ⊎ (k ≡ n) → AreShellsOfClass K (k + 1) (get_or more k [])
     by k (inl l) =
         let before : k < length lists = omega (arith, l, h.count) in

@@ -1,5 +1,6 @@
 -- The classes of a placed net have one numbering.
 use Rattle.std.proofs.Common.{◌≡◌, ◌⊎◌, inl, inr, ℕ, zero, suc, ◌+◌, ◌<◌, ◌≤◌, sym, subst, ◌∙◌, arith}
+use Rattle.integers.proofs.numbers.Naturals.{three_ways}
 use Rattle.periodic_net.specs.Classes.{ClassGraph, IsClassNumbering, IsClassGraph}
 use Rattle.periodic_net.specs.Graph.{Graph, IsQuotientVertex}
 use Rattle.periodic_net.specs.Placement.{Placement}
@@ -16,11 +17,8 @@ module _ (G : Graph) (p : Placement) where
 
   module _ (f g : ℕ → ℕ) (n : IsClassNumbering G p f) (m : IsClassNumbering G p g) where
     agree_at : (u : ℕ) → IsQuotientVertex G u → ((v : ℕ) → v < u → IsQuotientVertex G v → f v ≡ g v) → f u ≡ g u
-    agree_at u i agree = by (order (f u) (g u))
+    agree_at u i agree = by (three_ways (f u) (g u))
       where
-        order : (a b : ℕ) → (a < b) ⊎ ((b < a) ⊎ (a ≡ b))
-        order a b = grind arith
-
         by : (f u < g u) ⊎ ((g u < f u) ⊎ (f u ≡ g u)) → f u ≡ g u
         by (inl b) = absurd (not_below f g n m u i agree b)
         by (inr (inl b)) = absurd (not_below g f m n u i (λ v c j. sym (agree v c j)) b)

@@ -5,7 +5,7 @@ use Rattle.std.proofs.lemmas.List.Sums.{sum_by_push}
 use Rattle.std.specs.Prelude.{slice_index_or}
 use Rattle.coordination.specs.Expanding.{Expands}
 use Rattle.coordination.specs.Sequences.{most_shells, most_in_shells}
-use Rattle.coordination.proofs.layers.Apart.{no_longer}
+use Rattle.integers.proofs.lists.ApartPieces.{no_longer}
 use Rattle.coordination.proofs.layers.Layers.{layer_is_shell, next_inside, next_layers}
 use Rattle.coordination.proofs.layers.StepShells.{AreShell, AreLayers}
 

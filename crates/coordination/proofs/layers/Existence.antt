@@ -5,7 +5,7 @@ use Rattle.std.specs.List.{flat_map}
 use Rattle.integers.proofs.lists.Members.{IsIn, AreApart, is_in, contains_from_in, pairs_from_apart}
 use Rattle.integers.proofs.lists.Pieces.{in_pieces, pieces_in}
 use Rattle.coordination.specs.Expanding.{Expands}
-use Rattle.coordination.proofs.layers.Growing.{some_grown}
+use Rattle.integers.proofs.lists.GrownLists.{some_grown}
 use Rattle.coordination.proofs.layers.Layers.{start_layers, next_layers, layer_is_shell}
 use Rattle.coordination.proofs.layers.StepShells.{AreLayers, AreShell}
 

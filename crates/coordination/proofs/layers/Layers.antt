@@ -2,8 +2,9 @@
 use Rattle.std.proofs.Common.{◌≡◌, ◌⊎◌, inl, inr, ℕ, zero, suc, ◌+◌, ◌<◌, ◌≤◌, List, [], ◌∷◌, ◌++◌, length, refl, sym, subst, arith}
 use Rattle.integers.proofs.lists.Members.{IsIn, AreApart, is_in, contains_from_in, apart_from_pairs}
 use Rattle.integers.proofs.lists.Pieces.{in_append, append_left, apart_right}
+use Rattle.integers.proofs.numbers.Naturals.{next_number}
 use Rattle.coordination.specs.Expanding.{Expands}
-use Rattle.coordination.proofs.layers.Apart.{not_in_both}
+use Rattle.integers.proofs.lists.ApartPieces.{not_in_both}
 use Rattle.coordination.proofs.layers.StepShells.{Leads, IsShell, AreShell, AreSomeOf, AreLayers}
 
 module _ {X : Type 0} (Step : X → X → Type 0) where
@@ -60,13 +61,10 @@ module _ {X : Type 0} (Step : X → X → Type 0) where
       -- what was found is of shell k + 1
       pub next_inside : AreSomeOf Step s (k + 1) next
       next_inside = record {
-        inside = λ p i. record { reached = subst (λ n. Leads Step n s p) (one_more k) (new_leads p i); no_fewer = λ j l. by p i j l (below j) };
+        inside = λ p i. record { reached = subst (λ n. Leads Step n s p) (next_number k) (new_leads p i); no_fewer = λ j l. by p i j l (below j) };
         once = apart_right (before ++ shell) next apart;
       }
         where
-          one_more : (n : ℕ) → suc n ≡ n + 1
-          one_more n = omega arith
-
           below : (j : ℕ) → ((j < k) ⊎ (j ≡ k)) ⊎ (k + 1 ≤ j)
           below j = grind arith
 
@@ -80,13 +78,10 @@ module _ {X : Type 0} (Step : X → X → Type 0) where
         inner = λ p i. inner p (in_append before shell p i);
         outer = λ p i. (next_inside.inside p i).reached;
         all_inner = λ j p b l. within j p (below_or_at j b) l;
-        all_outer = λ p l. let r = last_step k s p (subst (λ n. Leads Step n s p) (one_more k) l) in outer p r.0 r.1 r.2 (in_append before shell r.0 (h.all_outer r.0 r.1));
+        all_outer = λ p l. let r = last_step k s p (subst (λ n. Leads Step n s p) (sym (next_number k)) l) in outer p r.0 r.1 r.2 (in_append before shell r.0 (h.all_outer r.0 r.1));
         once = apart;
       }
         where
-          one_more : (n : ℕ) → n + 1 ≡ suc n
-          one_more n = omega arith
-
           inner : (p : X) → IsIn before p ⊎ IsIn shell p → (j : ℕ) × (j < k + 1) × Leads Step j s p
           inner p (inl i) = let r = h.inner p i in let b = r.1 in (r.0, omega arith, r.2)
           inner p (inr i) = (k, omega arith, h.outer p i)

@@ -3,10 +3,11 @@ use Rattle.std.proofs.Common.{◌≡◌, ◌⊎◌, inl, inr, ℕ, suc, ◌+◌,
 use Rattle.std.proofs.lemmas.List.{take_all}
 use Rattle.std.proofs.lemmas.List.Sums.{sum_by_more, sum_by-take-le}
 use Rattle.integers.proofs.lists.Members.{IsIn, AreApart, is_in, contains_from_in, apart_from_pairs}
+use Rattle.integers.proofs.numbers.Naturals.{three_ways}
 use Rattle.periodic_net.specs.Graph.{Graph, Vertex}
 use Rattle.periodic_net.specs.Shells.{IsInShell, IsShellSize}
 use Rattle.coordination.specs.Sequences.{IsShellPast, AreShellsOf, most_shells}
-use Rattle.coordination.proofs.layers.Apart.{no_longer}
+use Rattle.integers.proofs.lists.ApartPieces.{no_longer}
 
 -- lists that are equal place by place, as far as the first goes
 beginning : (xs ys : List ℕ) → length xs ≤ length ys → ((k : ℕ) → k < length xs → get_or xs k 0 ≡ get_or ys k 0) → xs ≡ take (length xs) ys
@@ -50,11 +51,8 @@ module _ (G : Graph) (w : Vertex) where
 
   -- so both are one
   pub one_sequence : (xs ys : List ℕ) → AreShellsOf G w xs → AreShellsOf G w ys → xs ≡ ys
-  one_sequence xs ys h k = by (order (length xs) (length ys))
+  one_sequence xs ys h k = by (three_ways (length xs) (length ys))
     where
-      order : (m n : ℕ) → (m < n) ⊎ ((n < m) ⊎ (m ≡ n))
-      order m n = grind arith
-
       by : (length xs < length ys) ⊎ ((length ys < length xs) ⊎ (length xs ≡ length ys)) → xs ≡ ys
       by (inl l) = absurd (no_shorter xs ys h k l)
       by (inr (inl l)) = absurd (no_shorter ys xs k h l)

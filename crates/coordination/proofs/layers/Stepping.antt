@@ -5,7 +5,7 @@ use Rattle.integers.proofs.lists.Members.{IsIn, AreApart, is_in, contains_from_i
 use Rattle.integers.proofs.lists.Pieces.{in_append, append_left, append_right, in_take}
 use Rattle.coordination.specs.Expanding.{Expands, StandOnce}
 use Rattle.coordination.proofs.layers.Existence.{AreNeighbours}
-use Rattle.coordination.proofs.layers.Growing.{Grows}
+use Rattle.integers.proofs.lists.GrownLists.{Grows}
 
 -- all steps were made from what is done; next has what they lead to and was not found before
 pub record AreSearched {X : Type 0} (Step : X → X → Type 0) (done before found next : List X) : Type 0 where

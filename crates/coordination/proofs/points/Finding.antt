@@ -7,7 +7,7 @@ use Rattle.std.proofs.lemmas.Bool.Decides.{Decides-eqb, Decides-int_eq, Decides-
 use Rattle.integers.proofs.lists.Members.{IsIn}
 use Rattle.coordination.specs.Found.{same_point, is_found, all_found, all_new}
 use Rattle.coordination.specs.declared.point.Point.{Point}
-use Rattle.coordination.proofs.layers.Growing.{Grows, grows_none, grows_old, grows_new}
+use Rattle.integers.proofs.lists.GrownLists.{Grows, grows_none, grows_old, grows_new}
 
 -- equal in each part
 abbrev Parts : Point → Point → Type 0

@@ -2,7 +2,7 @@
 use Rattle.std.proofs.Common.{◌≡◌, inl, inr, ℕ, List, [], ◌∷◌, length, map, refl, sym, ap, subst, ◌∙◌}
 use Rattle.std.proofs.lemmas.List.{length-map}
 use Rattle.integers.proofs.lists.Members.{IsIn, AreApart, is_in, contains_from_in, pairs_from_apart}
-use Rattle.integers.proofs.lists.Pieces.{in_map}
+use Rattle.integers.proofs.lists.Pieces.{in_map, apart_from_images}
 use Rattle.periodic_net.specs.Classes.{ClassGraph}
 use Rattle.periodic_net.specs.Graph.{Graph, IsGraph, Vertex, IsVertex, IsWalk}
 use Rattle.periodic_net.specs.Shells.{StepsLead, IsInShell, IsShellSize}
@@ -10,7 +10,6 @@ use Rattle.periodic_net.proofs.CallerLemmas.{joined_inside}
 use Rattle.key_theory.specs.Key.{Shape}
 use Rattle.coordination.specs.Points.{IsStep}
 use Rattle.coordination.specs.declared.point.Point.{Point}
-use Rattle.coordination.proofs.layers.Apart.{apart_from_images}
 use Rattle.coordination.proofs.layers.Existence.{some_shell}
 use Rattle.coordination.proofs.points.Finding.{same_point_decided}
 use Rattle.coordination.proofs.layers.Neighbours.{neighbours, points_around}

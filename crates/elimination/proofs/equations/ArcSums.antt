@@ -1,5 +1,5 @@
 -- What is counted and added over the arcs from a vertex, in whatever order they stand.
-use Rattle.std.proofs.Common.{◌≡◌, ℕ, ℤ, pos, arith, ◌+◌, ◌-◌, ◌*◌, ◌≤◌, ◌==◌, ◌+ℤ◌, Bool, true, false, cond, not, List, [], ◌∷◌, length, get_or, drop, map, ap, sym, refl, subst, ◌∙◌}
+use Rattle.std.proofs.Common.{◌≡◌, ℕ, ℤ, pos, arith, ◌+◌, ◌-◌, ◌≤◌, ◌==◌, ◌+ℤ◌, Bool, true, false, cond, not, List, [], ◌∷◌, length, get_or, drop, map, ap, sym, refl, subst, ◌∙◌}
 use Rattle.std.specs.List.{All, filter, count_by, sum_by}
 use Rattle.std.specs.List.Sorted.{IsPermutation}
 use Rattle.std.proofs.lemmas.Int.{ints}
@@ -11,7 +11,8 @@ use Rattle.integers.specs.Lists.{total}
 use Rattle.integers.specs.Vectors.{Vector, plus, zero_vector, vector_sum}
 use Rattle.integers.proofs.lists.Sums.{total_permuted}
 use Rattle.integers.proofs.vectors.Laws.{vector_equal}
-use Rattle.periodic_net.specs.Graph.{Graph, Arc, both_ways, arcs, arcs_from}
+use Rattle.periodic_net.proofs.CallerLemmas.{both_length}
+use Rattle.periodic_net.specs.Graph.{Graph, Arc, arcs, arcs_from}
 use Rattle.periodic_net.specs.Limits.{IsSmall, most_arcs}
 use Rattle.quotient_graph.specs.Stars.{IsStar, IsArcFrom}
 use Rattle.exact.specs.Ratio.{Ratio, Same, whole}
@@ -53,10 +54,6 @@ shifts_permuted u xs ys h = vector_equal
     (permuted_coordinate (λ v. v.x) refl (λ v w. refl) u xs ys h)
     (permuted_coordinate (λ v. v.y) refl (λ v w. refl) u xs ys h)
     (permuted_coordinate (λ v. v.z) refl (λ v w. refl) u xs ys h)
-
-both_length : (es : List Arc) → length (both_ways es) ≡ 2 * length es
-both_length [] = refl
-both_length (e ∷ es) = omega (arith, both_length es)
 
 -- a vertex has few arcs
 pub few_arcs : (G : Graph) (u : ℕ) (star : List Arc) → IsSmall G → IsStar G u star → length star ≤ most_arcs

@@ -1,10 +1,10 @@
 -- Counts of arcs that are set back to 0, one arc after another.
-use Rattle.std.proofs.Common.{rules, ◌≡◌, ◌≢◌, ℕ, zero, suc, ℤ, pos, arith, ◌+◌, ◌-◌, ◌<◌, ◌≤◌, ◌==◌, false, List, [], ◌∷◌, length, get_or, ap, sym, refl, subst, ◌∙◌, ⊎_elim}
+use Rattle.std.proofs.Common.{rules, ◌≡◌, ◌≢◌, ℕ, suc, ℤ, pos, arith, ◌+◌, ◌-◌, ◌<◌, ◌≤◌, ◌==◌, false, List, [], ◌∷◌, length, get_or, ap, sym, refl, subst, ◌∙◌, ⊎_elim}
 use Rattle.std.specs.List.{count_by}
 use Rattle.std.proofs.Math.ListN.{set, length-set}
 use Rattle.std.proofs.lemmas.Bool.{cases_eq}
 use Rattle.std.proofs.lemmas.Grind.{common_steps}
-use Rattle.std.proofs.lemmas.List.{get_or-set_same, get_or-set_other}
+use Rattle.std.proofs.lemmas.List.{get_or-set_same, get_or-set_other, get_or_default}
 use Rattle.periodic_net.specs.Graph.{Arc}
 use Rattle.elimination.specs.Lines.{AreCounts}
 
@@ -41,13 +41,8 @@ cleared_more arcs counts t a l is low high h = record {
       (λ (p : k ≢ t). none k b (omega (arith, from, p)) to) (cases_eq k t))) (cases_eq j (a.to - 1));
 }
   where
-    any : (xs : List Arc) (k : ℕ) (c d : Arc) → k < length xs → get_or xs k c ≡ get_or xs k d
-    any [] k c d n = absurd (omega arith)
-    any (x ∷ xs) zero c d n = refl
-    any (x ∷ xs) (suc k) c d n = any xs k c d (omega arith)
-
     at : (k : ℕ) (b : Arc) → k ≡ t → k < length arcs → (get_or arcs k b).to ≡ a.to
-    at k b e n = ap (λ (c : Arc). c.to) (any arcs k b a n ∙ ap (λ i. get_or arcs i a) e ∙ sym is)
+    at k b e n = ap (λ (c : Arc). c.to) (get_or_default arcs k b a n ∙ ap (λ i. get_or arcs i a) e ∙ sym is)
 
 -- at the end
 pub cleared_all : (arcs : List Arc) (counts : List ℤ) (t : ℕ) → length arcs ≤ t → AreCleared arcs counts t → AreCounts [] counts (length counts)

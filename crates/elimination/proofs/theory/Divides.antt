@@ -1,8 +1,8 @@
 -- Whether m divides a whole number is decided, so that equal classes are the same value.
-use Rattle.std.proofs.Common.{◌≡◌, ◌⊎◌, inl, inr, ℕ, zero, suc, arith, ◌*◌, ◌<◌, ◌∙◌, refl, ⊎_elim}
+use Rattle.std.proofs.Common.{◌≡◌, ◌⊎◌, inl, inr, ℕ, zero, suc, arith, ◌*◌, ◌<◌, ◌∙◌, ⊎_elim}
 use Rattle.std.specs.Prelude.{ℤ, pos, ◌+ℤ◌, ◌-ℤ◌, ◌*ℤ◌}
 use mathlib.Core.Logic.{∥∥₁_elim}
-use Rattle.integers.proofs.numbers.Ring.{ring, linear, zero_or_not}
+use Rattle.integers.proofs.numbers.Ring.{ring, linear, zero_or_not, zero_product}
 use Rattle.integers.proofs.numbers.Division.{divided}
 use Rattle.integers.proofs.numbers.Gcd.{natural_multiple}
 use Rattle.exact.specs.Ratio.{Ratio, Same}
@@ -12,10 +12,7 @@ use Rattle.integers.specs.Divisors.{DividesInteger}
 
 -- 0 divides 0 alone
 by_zero : (z : ℤ) → DividesInteger 0 z ⊎ (¬ DividesInteger 0 z)
-by_zero z = ⊎_elim (λ (e : z ≡ pos 0). inl (pos 0, e)) (λ n. inr (λ d. n (d.1 ∙ zeros d.0))) (zero_or_not z)
-  where
-    zeros : (k : ℤ) → pos 0 *ℤ k ≡ pos 0
-    zeros k = simp ring refl
+by_zero z = ⊎_elim (λ (e : z ≡ pos 0). inl (pos 0, e)) (λ n. inr (λ d. n (d.1 ∙ zero_product d.0))) (zero_or_not z)
 
 -- a number below m that m divides is 0
 below_divisor : (m r : ℕ) → r < m → DividesInteger m (pos r) → r ≡ 0

@@ -25,11 +25,11 @@ quotient_below : (i n m : ℕ) → i < n * m → i / m < n
 quotient_below i n m l = div_below i m n (second_positive i n m l) l
 
 -- quotient and remainder make the number
-made_again : (i m : ℕ) → 1 ≤ m → (i / m) * m + i % m ≡ i
+pub made_again : (i m : ℕ) → 1 ≤ m → (i / m) * m + i % m ≡ i
 made_again i m h = omega arith
 
 -- a remainder is below
-remainder_below : (i m : ℕ) → 1 ≤ m → i % m < m
+pub remainder_below : (i m : ℕ) → 1 ≤ m → i % m < m
 remainder_below i m h = omega arith
 
 -- equal sums have equal parts

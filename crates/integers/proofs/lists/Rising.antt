@@ -1,5 +1,5 @@
 -- Sorted lists without repetition rise strictly.
-use Rattle.std.proofs.Common.{◌≡◌, ◌≢◌, ℤ, true, false, List, get_or, refl, arith}
+use Rattle.std.proofs.Common.{◌≡◌, ◌≢◌, ℤ, true, false, List, get_or, refl, subst, arith}
 use Rattle.std.specs.List.{AllPairs}
 use Rattle.std.specs.List.Sorted.{IsSorted, IsPermutation}
 use Rattle.std.specs.Ordering.{int_cmp, is_lt, ordering_reverse}
@@ -10,7 +10,8 @@ use Rattle.std.specs.declared.cmp.Ordering.TheVariants.{Less, Equal, Greater}
 use Rattle.std.proofs.lemmas.List.Sorted.{sorted_far, ranks_by}
 use Rattle.integers.specs.Vectors.{IsBelow}
 use Rattle.integers.proofs.lists.Apart.{permuted_pairs}
-use Rattle.integers.proofs.lists.ListOrder.{lists_order}
+use Rattle.integers.proofs.lists.ListOrder.{lists_order, not_below_itself}
+use Rattle.integers.proofs.lists.Members.{AreApart, apart_from_pairs}
 
 -- the lower of two orders that are not equal, where the other is not lower
 less_by : (o p : Ordering) → o ≡ ordering_reverse p → (o ≢ Equal) → is_lt p ≡ false → o ≡ Less
@@ -32,3 +33,7 @@ module _ {X : Type 0} (numbers : X → List ℤ) (once : (a b : X) → numbers a
   -- the same after a sort
   pub rising_after_sort : (xs ys : List X) → IsPermutation xs ys → IsSorted (λ a b. slice_cmp int_cmp (numbers a) (numbers b)) ys → AllPairs (λ a b. a ≢ b) xs → AllPairs (λ a b. IsBelow (numbers a) (numbers b)) ys
   rising_after_sort xs ys p up apart = rising_from_sorted ys up (permuted_pairs xs ys p apart)
+
+-- what rises by its numbers has no repetition
+pub apart_of_rising : {X : Type 0} (numbers : X → List ℤ) (xs : List X) → AllPairs (λ a b. IsBelow (numbers a) (numbers b)) xs → AreApart xs
+apart_of_rising numbers xs r = apart_from_pairs xs (λ i j d l m e. not_below_itself (numbers (get_or xs j d)) (subst (λ (x : _). IsBelow (numbers x) (numbers (get_or xs j d))) e (r i j d l m)))

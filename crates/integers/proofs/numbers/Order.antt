@@ -1,5 +1,5 @@
 -- The order of whole numbers, and products with positive ones.
-use Rattle.std.proofs.Common.{◌≡◌, ℕ, zero, suc, ℤ, pos, negsuc, ◌+ℤ◌, ◌-ℤ◌, ◌*ℤ◌, ◌≤◌, ◌-◌, ◌*◌, arith, ap, sym, refl, subst, ◌∙◌}
+use Rattle.std.proofs.Common.{◌≡◌, ◌≢◌, ℕ, zero, suc, ℤ, pos, negsuc, ◌+ℤ◌, ◌-ℤ◌, ◌*ℤ◌, ◌≤◌, ◌-◌, ◌*◌, arith, ap, sym, refl, subst, ◌∙◌}
 use Rattle.std.specs.Prelude.{◌<ℤ◌}
 use Rattle.std.proofs.lemmas.Int.{ints}
 use Rattle.std.specs.Ordering.{int_cmp, MatchOrdering, ordering_then}
@@ -9,6 +9,15 @@ use Rattle.std.specs.declared.cmp.Ordering.TheVariants.{Less, Equal, Greater}
 use Rattle.std.specs.Cmp.Lexicographic.{slice_cmp}
 use Rattle.integers.specs.Vectors.{Vector, times, parts}
 use Rattle.integers.proofs.numbers.Ring.{product_sum}
+
+-- a positive number is not 0
+pub positive_is_some : (x : ℤ) → pos 0 <ℤ x → x ≢ pos 0
+positive_is_some x h e = omega (arith, ints, h, e)
+
+-- a positive number is a natural one
+pub positive_natural : (x : ℤ) → pos 0 <ℤ x → (n : ℕ) × (1 ≤ n) × (x ≡ pos n)
+positive_natural (pos n) h = (n, omega (arith, ints, h), refl)
+positive_natural (negsuc n) h = absurd (omega (arith, ints, h))
 
 -- what is above x is x and a positive number
 step_between : (x y : ℤ) → x <ℤ y → (d : ℕ) × (y ≡ x +ℤ pos (suc d))

@@ -1,10 +1,10 @@
 -- Groups of vectors have all multiples and all combinations of their members.
-use Rattle.std.proofs.Common.{◌≡◌, ℕ, zero, suc, ℤ, pos, negsuc, ◌+ℤ◌, ◌*ℤ◌, neg_ℤ, List, [], ◌∷◌, sym, ap, subst, ◌∙◌, arith, inl, inr}
+use Rattle.std.proofs.Common.{◌≡◌, ℕ, zero, suc, ℤ, pos, negsuc, ◌+ℤ◌, ◌*ℤ◌, List, [], ◌∷◌, sym, ap, subst, ◌∙◌, arith, inl, inr}
 use Rattle.std.proofs.lemmas.Int.{ints}
 use Rattle.integers.specs.Vectors.{Vector, plus, opposite, times, combination}
 use Rattle.integers.specs.Lattices.{IsVectorGroup}
 use Rattle.integers.proofs.lists.Members.{IsIn}
-use Rattle.integers.proofs.numbers.Ring.{ring, linear}
+use Rattle.integers.proofs.numbers.Ring.{ring, linear, negative_product}
 use Rattle.integers.proofs.vectors.Laws.{vector_equal, zero_times}
 
 -- the next multiple
@@ -22,10 +22,7 @@ next_times n v = vector_equal (next v.x) (next v.y) (next v.z)
 
 -- a multiple by a negative number
 negative_times : (n : ℕ) (v : Vector) → times (negsuc n) v ≡ opposite (times (pos (suc n)) v)
-negative_times n v = vector_equal (turned (pos (suc n)) v.x) (turned (pos (suc n)) v.y) (turned (pos (suc n)) v.z)
-  where
-    turned : (k x : ℤ) → neg_ℤ k *ℤ x ≡ neg_ℤ (k *ℤ x)
-    turned k x = simp ring (omega (arith, linear))
+negative_times n v = vector_equal (negative_product (pos (suc n)) v.x) (negative_product (pos (suc n)) v.y) (negative_product (pos (suc n)) v.z)
 
 -- a group has the natural multiples of its members
 natural_in : (K : Vector → Type 0) → IsVectorGroup K → (n : ℕ) (v : Vector) → K v → K (times (pos n) v)

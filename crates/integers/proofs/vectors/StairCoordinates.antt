@@ -1,5 +1,5 @@
 -- Each member of a group with a staircase has coordinates in its rows.
-use Rattle.std.proofs.Common.{◌≡◌, ℕ, zero, suc, ◌≤◌, ◌<◌, ℤ, pos, negsuc, ◌+ℤ◌, ◌-ℤ◌, ◌*ℤ◌, List, refl, sym, ap, subst, ◌∙◌, arith}
+use Rattle.std.proofs.Common.{◌≡◌, ℕ, zero, suc, ◌≤◌, ◌<◌, ℤ, pos, ◌+ℤ◌, ◌-ℤ◌, ◌*ℤ◌, List, refl, sym, ap, subst, ◌∙◌, arith}
 use Rattle.std.specs.Prelude.{◌<ℤ◌, slice_index_or}
 use Rattle.std.proofs.lemmas.Int.{ints}
 use Rattle.std.proofs.Math.Decide.{dec_lt}
@@ -11,6 +11,7 @@ use Rattle.integers.proofs.vectors.Groups.{times_in}
 use Rattle.integers.proofs.numbers.Division.{divided}
 use Rattle.integers.proofs.numbers.Ring.{ring, linear}
 use Rattle.integers.proofs.vectors.Laws.{vector_equal, plus_zero, zero_times}
+use Rattle.integers.proofs.numbers.Order.{positive_natural}
 
 -- the row at i
 abbrev pub row : List Vector → ℕ → Vector
@@ -44,11 +45,6 @@ record Cleared (L : Vector → Type 0) (i : ℕ) (r v : Vector) : Type 0 where
   member : L (minus v (times quotient r))
   before : IsZeroBefore (suc i) (minus v (times quotient r))
 
--- a positive number is a natural one
-natural : (a : ℤ) → pos 0 <ℤ a → (m : ℕ) × (1 ≤ m) × (a ≡ pos m)
-natural (pos m) h = (m, omega (arith, ints), refl)
-natural (negsuc m) h = absurd (omega (arith, ints))
-
 -- a part before i stays 0
 stays : (q a b : ℤ) → a ≡ pos 0 → b ≡ pos 0 → a -ℤ q *ℤ b ≡ pos 0
 stays q a b e f = (λ i. e i -ℤ q *ℤ f i) ∙ sym (none q)
@@ -60,7 +56,7 @@ rest_is m q z r e = simp ring (omega (arith, linear, e))
 -- the row at i divides the part at i of what is 0 before i
 clear : (L : Vector → Type 0) → IsVectorGroup L → (i : ℕ) (r v : Vector) → IsStair L i r → L v → IsZeroBefore i v → Cleared L i r v
 clear L l i r v s m b =
-    let n = natural (part i r) s.may.leads in
+    let n = positive_natural (part i r) s.may.leads in
     let d = divided n.0 n.1 (part i v) in
     let q = d.1 in
     let w = minus v (times q r) in

@@ -5,20 +5,14 @@ use Rattle.std.proofs.lemmas.Int.{ints}
 use Rattle.integers.specs.Vectors.{Vector, vector, plus, minus, opposite, times, IsModulo}
 use Rattle.integers.proofs.numbers.Division.{divided}
 use Rattle.integers.proofs.numbers.Modulo.{IsRest, modulo_is}
-use Rattle.integers.proofs.numbers.Ring.{ring, linear}
+use Rattle.integers.proofs.numbers.Ring.{ring, linear, product_zero, product_negative}
 use Rattle.integers.proofs.vectors.Laws.{vector_equal}
 
 -- a multiple of m that lies between -m and m is 0
 small_multiple : (m : ℕ) (k e : ℤ) → pos m *ℤ k ≡ e → e <ℤ pos m → neg_ℤ (pos m) <ℤ e → e ≡ pos 0
-small_multiple m (pos zero) e h a b = sym h ∙ none (pos m)
-  where
-    none : (x : ℤ) → x *ℤ pos 0 ≡ pos 0
-    none x = omega (arith, ints)
+small_multiple m (pos zero) e h a b = sym h ∙ product_zero (pos m)
 small_multiple m (pos (suc n)) e h a b = absurd (let q : m * suc n ≡ m + m * n = omega arith in omega (arith, ints, h, q))
-small_multiple m (negsuc n) e h a b = absurd (let q : m * suc n ≡ m + m * n = omega arith in omega (arith, ints, h, q, turned (pos m) (pos (suc n))))
-  where
-    turned : (x y : ℤ) → x *ℤ neg_ℤ y ≡ neg_ℤ (x *ℤ y)
-    turned x y = simp ring (omega (arith, linear))
+small_multiple m (negsuc n) e h a b = absurd (let q : m * suc n ≡ m + m * n = omega arith in omega (arith, ints, h, q, product_negative (pos m) (pos (suc n))))
 
 -- a number has one remainder
 one_rest : (m : ℕ) (r r' s s' : ℤ) → pos 0 ≤ℤ r → r <ℤ pos m → pos 0 ≤ℤ r' → r' <ℤ pos m → r +ℤ pos m *ℤ s ≡ r' +ℤ pos m *ℤ s' → r ≡ r'

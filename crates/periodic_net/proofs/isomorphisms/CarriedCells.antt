@@ -7,7 +7,7 @@ use Rattle.integers.specs.Bases.{base_sum}
 use Rattle.periodic_net.specs.Maps.{Iso}
 use Rattle.periodic_net.specs.Placement.{IsBarycentric, Placement}
 use Rattle.integers.proofs.vectors.Laws.{sum_times, one_times, zero_times, plus_zero, plus_associative, plus_cancel, times_dimension}
-use Rattle.integers.proofs.numbers.Ring.{sum_product, ring, cancel_factor, positive_not_zero}
+use Rattle.integers.proofs.numbers.Ring.{sum_product, ring, cancel_factor, positive_not_zero, one_product}
 use Rattle.integers.proofs.vectors.Coordinates.{IsCoordinate}
 use Rattle.integers.proofs.vectors.BaseSums.{base_sum_after, base_after}
 use Rattle.periodic_net.proofs.isomorphisms.Periods.{moved_vertex, periodic_after}
@@ -48,13 +48,10 @@ cells_grow H F k A d h (suc n) y i =
     let z = moved y nk in
     let before = cells_grow H F k A d h n y i in
     let last = h z (moved_vertex H y nk i (times_dimension H.dimension (pos n) k d)) in
-    ap (λ (w : Vertex). F w -ℤ F y) (times_more n k y) ∙ sum (F (moved z k)) (F z) (F y) (pos n *ℤ A) A before last ∙ sym (ap (λ (t : ℤ). t *ℤ A) (next n) ∙ sum_product (pos n) (pos 1) A ∙ ap (λ (t : ℤ). pos n *ℤ A +ℤ t) (same A))
+    ap (λ (w : Vertex). F w -ℤ F y) (times_more n k y) ∙ sum (F (moved z k)) (F z) (F y) (pos n *ℤ A) A before last ∙ sym (ap (λ (t : ℤ). t *ℤ A) (next n) ∙ sum_product (pos n) (pos 1) A ∙ ap (λ (t : ℤ). pos n *ℤ A +ℤ t) (one_product A))
   where
     next : (i : ℕ) → pos (suc i) ≡ pos i +ℤ pos 1
     next i = omega (arith, ints)
-
-    same : (t : ℤ) → pos 1 *ℤ t ≡ t
-    same t = omega (arith, ints)
 
     sum : (a b c x y : ℤ) → b -ℤ c ≡ x → a -ℤ b ≡ y → a -ℤ c ≡ x +ℤ y
     sum a b c x y e f = omega (arith, ints)

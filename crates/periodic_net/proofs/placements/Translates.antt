@@ -79,7 +79,7 @@ same_apart G g con p q bp bq c i u v iu iv = harmonic_constant G g con (apart p 
         ∙ apart_zero (pos p.denominator) (pos q.denominator)
 
 -- a graph has vertex 1
-one_vertex : (G : Graph) → IsGraph G → IsQuotientVertex G 1
+pub one_vertex : (G : Graph) → IsGraph G → IsQuotientVertex G 1
 one_vertex G g = (omega arith, g.vertices)
 
 -- two barycentric placements of a connected net are translates

@@ -1,8 +1,8 @@
 -- Lists without repetition.
-use Rattle.std.proofs.Common.{◌≡◌, inl, inr, List, [], ◌∷◌, ◌++◌, length, ◌≤◌, map, refl, sym, subst, ◌∙◌}
+use Rattle.std.proofs.Common.{◌≡◌, inl, inr, List, [], ◌∷◌, ◌++◌, length, ◌≤◌, refl, sym, subst, ◌∙◌}
 use Rattle.integers.proofs.lists.Counting.{not_longer}
 use Rattle.integers.proofs.lists.Members.{IsIn, AreApart}
-use Rattle.integers.proofs.lists.Pieces.{append_right, map_in}
+use Rattle.integers.proofs.lists.Pieces.{append_right}
 
 -- nothing stands in both of two pieces of such a list
 pub not_in_both : {X : Type 0} (xs ys : List X) → AreApart (xs ++ ys) → (x : X) → IsIn xs x → IsIn ys x → ⊥
@@ -13,8 +13,3 @@ not_in_both (z ∷ xs) ys h x (inr i) j = not_in_both xs ys h.1 x i j
 -- such a list is no longer than one that has all its members
 pub no_longer : {X : Type 0} (xs ys : List X) → AreApart xs → ((x : X) → IsIn xs x → IsIn ys x) → length xs ≤ length ys
 no_longer {X} xs ys a h = not_longer (λ (x y : X). x ≡ y) xs ys a (record { into = λ x i. (x, h x i, refl); once = λ x y z i j e f. e ∙ sym f })
-
--- a list whose images are different is one
-pub apart_from_images : {X Y : Type 0} (f : X → Y) (xs : List X) → AreApart (map f xs) → AreApart xs
-apart_from_images f [] h = tt
-apart_from_images f (x ∷ xs) h = ((λ i. h.0 (map_in f xs x i)), apart_from_images f xs h.1)

@@ -1,20 +1,18 @@
 -- Images of the members that pass a test, one member more.
-use Rattle.std.proofs.Common.{◌≡◌, ℕ, suc, ◌+◌, ◌<◌, ◌∷◌, [], ◌++◌, List, Bool, true, false, cond, length, take, map, get_or, refl, ap, ◌∙◌, arith}
+use Rattle.std.proofs.Common.{◌≡◌, ℕ, ◌+◌, ◌<◌, ◌∷◌, [], ◌++◌, List, Bool, true, false, cond, length, take, map, get_or, sym, ap, ◌∙◌}
 use Rattle.std.specs.List.{filter}
 use Rattle.std.proofs.Math.Seq.{take-suc}
-use Rattle.std.proofs.lemmas.List.{map-append}
+use Rattle.std.proofs.lemmas.List.{map-append, append-nil}
 use Rattle.std.proofs.lemmas.List.Elements.{filter-append}
+use Rattle.integers.proofs.numbers.Naturals.{next_number}
 
 -- the member at place i, filtered and taken by f
 images_of : {X Y : Type 0} (f : X → Y) (t : X → Bool) (xs : List X) (i : ℕ) (x : X) → i < length xs → get_or xs i x ≡ x
     → map f (filter t (take (i + 1) xs)) ≡ map f (filter t (take i xs)) ++ map f (cond (t x) (x ∷ []) [])
 images_of {X} f t xs i x l e =
-    ap (λ (ys : List X). map f (filter t ys)) (ap (λ (k : ℕ). take k xs) (next i) ∙ take-suc xs i x l ∙ ap (λ (y : X). take i xs ++ y ∷ []) e)
+    ap (λ (ys : List X). map f (filter t ys)) (ap (λ (k : ℕ). take k xs) (sym (next_number i)) ∙ take-suc xs i x l ∙ ap (λ (y : X). take i xs ++ y ∷ []) e)
     ∙ ap (map f) (filter-append t (take i xs) (x ∷ []))
     ∙ map-append f (filter t (take i xs)) (cond (t x) (x ∷ []) [])
-  where
-    next : (i : ℕ) → i + 1 ≡ suc i
-    next i = omega arith
 
 -- one that passes
 pub images_more : {X Y : Type 0} (f : X → Y) (t : X → Bool) (xs : List X) (i : ℕ) (x : X) → i < length xs → get_or xs i x ≡ x → t x ≡ true
@@ -24,8 +22,4 @@ images_more {X} f t xs i x l e p = images_of f t xs i x l e ∙ ap (λ (b : Bool
 -- one that does not
 pub images_same : {X Y : Type 0} (f : X → Y) (t : X → Bool) (xs : List X) (i : ℕ) (x : X) → i < length xs → get_or xs i x ≡ x → t x ≡ false
     → map f (filter t (take (i + 1) xs)) ≡ map f (filter t (take i xs))
-images_same {X} {Y} f t xs i x l e p = images_of f t xs i x l e ∙ ap (λ (b : Bool). map f (filter t (take i xs)) ++ map f (cond b (x ∷ []) [])) p ∙ nothing (map f (filter t (take i xs)))
-  where
-    nothing : {Y : Type 0} (ys : List Y) → ys ++ [] ≡ ys
-    nothing [] = refl
-    nothing (y ∷ ys) = ap (λ (zs : List _). y ∷ zs) (nothing ys)
+images_same {X} {Y} f t xs i x l e p = images_of f t xs i x l e ∙ ap (λ (b : Bool). map f (filter t (take i xs)) ++ map f (cond b (x ∷ []) [])) p ∙ append-nil (map f (filter t (take i xs)))
