@@ -5,10 +5,10 @@ from __future__ import annotations
 from collections import Counter
 
 from .contacts import TOO_NEAR, Contact, radius
-from .hydrogen import hydrogen_bridges, ice_bonds
-from .net import Edge
 from .crystal import Crystal
 from .elements import is_metal, is_water
+from .hydrogen import hydrogen_bridges, ice_bonds
+from .net import Edge
 
 Lengths = dict[frozenset[str], float]  # of a pair of elements, the longest bond in angstrom
 

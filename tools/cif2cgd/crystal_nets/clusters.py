@@ -4,10 +4,10 @@ oxygens and carboxylate carbons is one vertex, and each organic part between the
 from __future__ import annotations
 
 from .components import rank_and_walks
-from .refusal import Unreadable
 from .elements import is_metal
 from .lattice import add, subtract
 from .net import Net, connected_parts, edge, without_ends
+from .refusal import Unreadable
 
 LINKER_ELEMENTS = frozenset(("C", "H", "N", "B"))
 

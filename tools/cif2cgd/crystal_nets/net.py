@@ -5,7 +5,7 @@ from __future__ import annotations
 from collections.abc import Callable, Iterable
 from dataclasses import dataclass
 
-from .lattice import Vector, add, pivot_place, negate, subtract
+from .lattice import Vector, add, negate, pivot_place, subtract
 
 Edge = tuple[int, int, Vector]  # u, v and the cell of v, where u stands in cell 0
 

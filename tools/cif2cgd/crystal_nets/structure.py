@@ -12,7 +12,7 @@ from .elements import element_of, elements_of_formula
 from .places import images_of, name_apart, take_once
 from .refusal import Unreadable
 from .sanity import check_metric, misfit_of
-from .symmetry import Symmetry, other_origin, read_symmetry, text_of
+from .symmetry import Symmetry, both_origins, read_symmetry, text_of
 
 LONGEST_EDGE = 1000.0  # angstrom, of a unit cell
 FARTHEST = 1000.0      # in edges of the cell, an atom from the origin
@@ -38,8 +38,8 @@ def _ascii_text(content: bytes) -> str:
 
 
 def read_crystal(block: gemmi.cif.Block, name: str) -> Crystal:
-    """The crystal of a block; where its atoms cannot be right, with the other origin choice of
-    its space group, if they can be right with that."""
+    """The crystal of a block. Where its atoms cannot be right, or its group has two origins and
+    the file does not tell which, the origin is the one with which they fit."""
     try:
         structure = gemmi.make_small_structure_from_block(block)
     except (ValueError, RuntimeError) as error:
@@ -50,14 +50,35 @@ def read_crystal(block: gemmi.cif.Block, name: str) -> Crystal:
     sites, notes = _read_sites(structure, formula)
     symmetry = read_symmetry(block, cell)
     check_metric(symmetry, cell)
-    crystal = _expand(name, sites, symmetry, cell, notes)
-    crystal.misfit = misfit_of(crystal, formula)
-    other = other_origin(block, cell) if crystal.misfit else None
-    if other:
-        moved = _expand(name, sites, other, cell, notes)
-        if not misfit_of(moved, formula):
-            moved.notes.append(f"the coordinates fit {other.source}, not the operations that are given")
-            return moved
+
+    def crystal_with(symmetry: Symmetry) -> Crystal:
+        crystal = _expand(name, sites, symmetry, cell, notes)
+        crystal.misfit = misfit_of(crystal, formula)
+        return crystal
+
+    crystal = crystal_with(symmetry)
+    if symmetry.has_origin and not crystal.misfit:
+        return crystal
+    others = {other.source: crystal_with(other) for other in both_origins(block, cell)}
+    fitting = {source: other for source, other in others.items() if not other.misfit}
+    if not symmetry.has_origin:
+        return _with_fewest_atoms(fitting) or crystal
+    for source, other in fitting.items():
+        other.notes.append(f"the coordinates fit {source}, not the symmetry that is given")
+        return other
+    return crystal
+
+
+def _with_fewest_atoms(by_origin: dict[str, Crystal]) -> Crystal | None:
+    """Of two origins the one with fewer atoms, since with the right one atoms are on symmetry
+    elements. It is told that there is a choice."""
+    if not by_origin:
+        return None
+    source, crystal = min(by_origin.items(), key=lambda pair: len(pair[1].atoms))
+    counts = {len(other.atoms) for other in by_origin.values()}
+    if len(by_origin) > 1:
+        reason = "as it gives fewer atoms" if len(counts) > 1 else "but both give as many atoms"
+        crystal.notes.append(f"the origin is in doubt: {source} is taken, {reason}")
     return crystal
 
 

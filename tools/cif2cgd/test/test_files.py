@@ -98,6 +98,14 @@ class Words(FolderTest):
         self.file.write_text(CAESIUM_CHLORIDE.replace("0.5 0.5 0.5", "0.2 0 0"))
         self.assertIn(b"angstrom apart (--accept-misfit", run(COMMAND, self.file, status=1).stderr)
 
+    def test_an_origin_that_is_not_told_is_the_one_with_fewer_atoms(self):
+        for structure in STRUCTURES:
+            if structure.group.endswith(":2"):
+                text = presentations(structure)["name"].replace(":2", "")
+                self.file.write_text(text)
+                told = run(COMMAND, *structure.words, self.file).stderr.decode()
+                self.assertTrue(f"symmetry from {structure.group}" in told or "both give as many atoms" in told, told)
+
     def test_the_other_origin_is_found(self):
         text = presentations(next(s for s in STRUCTURES if s.name == "cuprite"))["name"]
         self.file.write_text(text
@@ -105,7 +113,7 @@ class Words(FolderTest):
                              .replace("Cu1 Cu 0.000000 0.000000 0.000000", "Cu1 Cu 0.250000 0.250000 0.250000")
                              .replace("data_global", "data_global\n_chemical_formula_sum 'Cu2 O'"))
         done = run(COMMAND, self.file)
-        self.assertIn(b"the coordinates fit P n -3 m:1, not the operations that are given", done.stderr)
+        self.assertIn(b"the coordinates fit P n -3 m:1, not the symmetry that is given", done.stderr)
         self.assertIn(b"2 interwoven nets alike", done.stderr)
 
 
