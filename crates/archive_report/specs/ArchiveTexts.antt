@@ -51,7 +51,7 @@ fault_details (KeyDiffers n kept computed) = at_line n ++ lists_text kept comput
 fault_details TooManyEntries = codes "\n"
 fault_details (Version n) = at_line n
 fault_details (CountDiffers n kept computed) = counts_text n kept computed
-fault_details (ShellsDiffer n class kept computed) = at_class n class ++ lists_text (map pos kept.items) (map pos computed.items)
+fault_details (ShellsDiffer n class kept computed) = at_class n class ++ lists_text (map pos kept) (map pos computed)
 fault_details NoMemory = codes "\n"
 
 -- why a text is no archive; vertices are told by their numbers

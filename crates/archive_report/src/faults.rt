@@ -137,7 +137,7 @@ fn push_details(alloc: Global, text: &mut Vec<u8>, fault: &ArchiveFault) -> Resu
             computed,
         } => {
             push_class(text, *line, *class)?;
-            push_sizes(alloc, text, kept, computed)
+            push_sizes(alloc, text, kept.as_slice(), computed.as_slice())
         }
         ArchiveFault::TooManyEntries | ArchiveFault::NoMemory => text.extend_from_slice(b"\n"),
     }

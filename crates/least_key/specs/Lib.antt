@@ -4,5 +4,6 @@ pub mod AnyPlacements
 pub mod Causes
 pub mod Certain
 pub mod KeyedNets
+pub mod Laws
 pub mod Placings
 pub mod Truths

@@ -9,6 +9,7 @@ use Rattle.net_entries.specs.Entries.{EntryView}
 use Rattle.net_entries.specs.Groups.{AreGroups}
 use Rattle.net_archive.specs.Adding.{IsEntryOf, IsAddFault}
 use Rattle.net_archive.specs.Archives.{ArchiveView, IsArchive, archive_text, empty_archive}
+use Rattle.net_archive.specs.Deciding.{AreIsoGroups}
 use Rattle.net_archive.specs.Faults.{IsFaultOf}
 use Rattle.net_archive.specs.Migrating.{newest, IsMigrated}
 use Rattle.net_archive.specs.declared.faults.ArchiveFault.{ArchiveFault}
@@ -20,7 +21,6 @@ use Rattle.command_words.specs.Tasks.{Task, Tell, Add, Duplicates, Migrate, Work
 use Rattle.command_words.specs.declared.tasks.Command.{Command}
 use Rattle.command_words.specs.declared.tasks.Command.TheVariants.{Key}
 use Rattle.workload.specs.Workload.{workload}
-use Rattle.net_outcomes.specs.Deciding.{KeysDecideArchive}
 use Rattle.net_outcomes.specs.Reports.{IsReport}
 use Rattle.net_answers.specs.Summaries.{IsSummaryAs}
 use Rattle.net_answers.specs.declared.status.Status.{Status}
@@ -124,7 +124,7 @@ pub record IsNotAddedAs (given : Option (List ℕ)) (blocks : List BlockView) (a
 pub record AreGroupsIn (a : ArchiveView) (text : List ℕ) : Type 0 where
   pub groups : List (List ℕ)
   pub are_groups : AreGroups a.entries groups
-  pub decide : KeysDecideArchive a.entries
+  pub isomorphic : AreIsoGroups a.entries groups
   pub text_is : text ≡ groups_text a.entries groups
 
 -- the groups, and the status that goes with them

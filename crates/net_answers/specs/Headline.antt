@@ -7,7 +7,8 @@ use Rattle.net_archive.specs.Archives.{ArchiveView}
 use Rattle.net_report.specs.Reports.{report_text}
 use Rattle.net_report.specs.declared.outcome.Outcome.{Outcome}
 use Rattle.net_outcomes.specs.Outcomes.{AreOutcomesFrom, is_accepted}
-use Rattle.net_outcomes.specs.Deciding.{KeysDecideBlocks, KeysDecideEntries, KeysDecideArchive, CertainAreAccepted}
+use Rattle.net_archive.specs.Deciding.{KeysDecideArchive}
+use Rattle.net_outcomes.specs.Deciding.{KeysDecideBlocks, KeysDecideEntries, CertainAreAccepted}
 use Rattle.net_answers.specs.Due.{IsArchiveIn}
 use Rattle.net_answers.specs.declared.status.Status.{Status}
 use Rattle.net_answers.specs.declared.status.Status.TheVariants.{Done, SomeRefused}

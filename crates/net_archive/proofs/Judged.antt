@@ -52,8 +52,14 @@ shells_judged v line f lists fault k s (inr (two, h)) = by fault h
 
 -- where another key is kept
 pub other_judged : (v : Version) (line : ℕ) (f : Form) (n : KeyedNet) (fault : ArchiveFault) → IsKeyed n → n.placed.graph ≡ graph_of_form f → IsOtherKey f.keyed n.key fault → IsJudged v line f fault
-other_judged v line f n (KeyDiffers m kept computed) k g h =
-    (h.0, h.1, subst (λ (xs : List ℤ). IsKeyOf (graph_of_form f) xs) (sym h.2) (subst (λ (G : Graph). IsKeyOf G n.key) g (key_of_graph n k)), h.3)
+other_judged v line f n (KeyDiffers m kept computed) k g h = record {
+  line = h.0;
+  is_graph = subst IsGraph g k.is_graph;
+  certain = subst IsCertain g (keyed_is_certain n k);
+  kept_is = h.1;
+  key = subst (λ (xs : List ℤ). IsKeyOf (graph_of_form f) xs) (sym h.2) (subst (λ (G : Graph). IsKeyOf G n.key) g (key_of_graph n k));
+  differ = h.3;
+}
 other_judged v line f n NoMemory k g h = tt
 other_judged v line f n (BadLine m) k g h = absurd h
 other_judged v line f n (RepeatedName m) k g h = absurd h

@@ -9,7 +9,7 @@ use Rattle.net_archive.specs.Faults.{AreEntries, IsFaultOf}
 use Rattle.net_archive.specs.Steps.{IsFaultTold}
 use Rattle.net_archive.specs.declared.faults.ArchiveFault.{ArchiveFault}
 use Rattle.net_archive.specs.declared.faults.ArchiveFault.TheVariants.{NoMemory}
-use Rattle.net_archive.proofs.NoFirstFault.{no_fault_but_memory, one_archive}
+use Rattle.net_archive.proofs.OneFault.{no_fault_but_memory, one_archive}
 
 -- entries whose text is not too long are an archive
 pub are_archive : (v : Version) (es : List EntryView) (text : List ℕ) → length text ≤ most_bytes → AreEntries es → text ≡ text_of v es

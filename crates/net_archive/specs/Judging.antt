@@ -61,7 +61,7 @@ pub record IsOtherList (key_line : ℕ) (keeps lists : List (List ℕ)) (n class
 -- other lists are kept, after the key on this line
 abbrev pub AreRefusedShells : ℕ → List (List ℕ) → List (List ℕ) → ArchiveFault → Type 0
 AreRefusedShells key_line keeps lists (CountDiffers n kept computed) = IsOtherCount key_line keeps lists n kept computed
-AreRefusedShells key_line keeps lists (ShellsDiffer n class kept computed) = IsOtherList key_line keeps lists n class kept.items computed.items
+AreRefusedShells key_line keeps lists (ShellsDiffer n class kept computed) = IsOtherList key_line keeps lists n class kept computed
 AreRefusedShells key_line keeps lists NoMemory = Unit {0}
 AreRefusedShells key_line keeps lists fault = ⊥
 
@@ -84,10 +84,19 @@ pub record HasOtherShells (v : Version) (f : Form) (fault : ArchiveFault) : Type
   pub are_sequences : AreSequencesOf (graph_of_form f) lists
   pub refused : AreRefusedShells f.keyed.key_line f.shells lists fault
 
+-- the graph is certain, and another key is kept than its key
+pub record HasOtherKey (f : Form) (n : ℕ) (kept computed : List ℤ) : Type 0 where
+  pub line : n ≡ f.keyed.key_line
+  pub is_graph : IsGraph (graph_of_form f)
+  pub certain : IsCertain (graph_of_form f)
+  pub kept_is : kept ≡ f.keyed.key
+  pub key : IsKeyOf (graph_of_form f) computed
+  pub differ : kept ≢ computed
+
 -- the fault of an entry of this form, whose first row has this number
 abbrev pub IsJudged : Version → ℕ → Form → ArchiveFault → Type 0
 IsJudged v line f (EntryRefused n refused) = IsRefusedAt line (graph_of_form f) (EntryRefused n refused)
-IsJudged v line f (KeyDiffers n kept computed) = (n ≡ f.keyed.key_line) × (kept ≡ f.keyed.key) × IsKeyOf (graph_of_form f) computed × (kept ≢ computed)
+IsJudged v line f (KeyDiffers n kept computed) = HasOtherKey f n kept computed
 IsJudged v line f (CountDiffers n kept computed) = HasOtherShells v f (CountDiffers n kept computed)
 IsJudged v line f (ShellsDiffer n class kept computed) = HasOtherShells v f (ShellsDiffer n class kept computed)
 IsJudged v line f NoMemory = Unit {0}

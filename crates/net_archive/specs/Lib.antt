@@ -6,3 +6,4 @@ pub mod Faults
 pub mod Steps
 pub mod Laws
 pub mod Migrating
+pub mod Deciding

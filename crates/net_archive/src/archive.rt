@@ -1,10 +1,13 @@
 // An archive.
 ghost use Rattle.std.specs.Prelude.{◌≡◌, ◌≤◌, IfOk, IfErr, OnOk, OnErr, MatchResult, length};
+ghost use Rattle.periodic_net.specs.Graph.{Graph, IsGraph};
+ghost use Rattle.key_theory.specs.Key.{IsKeyOf};
 ghost use Rattle.least_key.specs.AnyNets.{net_in};
 ghost use Rattle.net_entries.specs.Entries.{EntryView, entry_views};
 ghost use Rattle.net_entries.specs.Groups.{AreGroups};
 ghost use Rattle.net_entries.specs.Lookups.{names_with};
 ghost use Rattle.net_archive.specs.Adding.{IsAddFault, IsEntryOf};
+ghost use Rattle.net_archive.specs.Deciding.{AreIsoGroups, AreNamesOf};
 ghost use Rattle.net_archive.specs.Faults.{IsFaultOf};
 ghost use Rattle.net_archive.specs.Archives.{ArchiveView, IsArchive, archive_text, empty_archive, version_number, with_entry};
 ghost use Rattle.net_archive.specs.Migrating.{IsMigrated, IsMigrateFault};
@@ -90,18 +93,23 @@ impl Archive {
         }
     }
 
-    /// The names of exactly the entries with this key, in their order.
+    /// The names of exactly the entries with this key, in their order. Where it is the key of a
+    /// graph, these are the entries whose nets are isomorphic to that of the graph.
     pub fn lookup<'a, 'k>(&'a self, key: &'k Key) -> Matches<'a, 'k>
         ensures names { result ≡ names_with key.now self.now.entries }
+        ensures isomorphic { (G : Graph) → IsGraph G → IsKeyOf G key.now →
+            AreNamesOf G self.now.entries result }
         ensures archive { IsArchive self.now }
     {
         self.entries.lookup(key)
     }
 
     /// The groups of two or more entries with equal keys, as rising numbers of entries from 1, in
-    /// the order of their first members.
+    /// the order of their first members. Two entries stand in one group exactly where their nets
+    /// are isomorphic.
     pub fn duplicates(&self) -> Result<Groups, AllocError>
         ensures groups { IfOk result (AreGroups self.now.entries) }
+        ensures isomorphic { IfOk result (AreIsoGroups self.now.entries) }
         ensures archive { IsArchive self.now }
     {
         self.entries.duplicates()

@@ -2,6 +2,7 @@
 ghost use Rattle.std.specs.Prelude.{◌≡◌};
 
 use least_key::Refusal;
+use lists::Items;
 use quotient_graph::Key;
 use std::alloc::AllocError;
 
@@ -35,8 +36,8 @@ pub enum ArchiveFault {
     ShellsDiffer {
         line: u32,
         class: u32,
-        kept: Vec<u32>,
-        computed: Vec<u32>,
+        kept: Items<u32>,
+        computed: Items<u32>,
     },
     /// Memory was refused. It has no number.
     NoMemory,

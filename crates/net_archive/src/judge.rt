@@ -14,6 +14,7 @@ use crate::ArchiveFault;
 use archive_text::{Form, KeyedGraph, Version};
 use coordination::{Sequences, sequences};
 use least_key::{Net, Refusal, identify};
+use lists::Items;
 use net_entries::Entry;
 use quotient_graph::{AnyGraph, Key, from_edges};
 use std::alloc::{AllocError, Global};
@@ -93,8 +94,8 @@ fn check_shells(
     Err(ArchiveFault::ShellsDiffer {
         line: key_line + 2 + before as u32,
         class: before as u32 + 1,
-        kept: Vec::from_slice(alloc, kept.at(before))?,
-        computed: Vec::from_slice(alloc, computed.at(before))?,
+        kept: Items::from_slice(alloc, kept.at(before))?,
+        computed: Items::from_slice(alloc, computed.at(before))?,
     })
 }
 

@@ -1,5 +1,5 @@
-// What holds of the texts of archives.
-ghost use Rattle.net_archive.specs.Laws.{ArchivesHaveNoFault, OneArchive};
+// What holds of the texts of archives. Each function carries a theorem.
+ghost use Rattle.net_archive.specs.Laws.{ArchivesHaveNoFault, OneAddFault, OneArchive, OneFault};
 
 /// The text of an archive has no fault: only want of memory can be told of it.
 pub fn archives_have_no_fault()
@@ -9,4 +9,14 @@ pub fn archives_have_no_fault()
 /// A text is that of one archive alone.
 pub fn one_archive()
     ensures theorem { OneArchive }
+{}
+
+/// The first fault of a text is one, want of memory aside.
+pub fn one_fault()
+    ensures theorem { OneFault }
+{}
+
+/// The fault of adding under a name is one, want of memory aside.
+pub fn one_add_fault()
+    ensures theorem { OneAddFault }
 {}

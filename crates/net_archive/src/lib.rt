@@ -13,5 +13,5 @@ pub use archive::Archive;
 pub use archive_text::{MOST_BYTES, Version};
 pub use faults::{AddFault, ArchiveFault, MigrateFault};
 pub use judge::sequences_of;
-pub use laws::{archives_have_no_fault, one_archive};
+pub use laws::{archives_have_no_fault, one_add_fault, one_archive, one_fault};
 pub use net_entries::{Entry, Groups, Matches};

@@ -22,7 +22,8 @@ use Rattle.net_report.specs.declared.outcome.OutcomeBody.TheVariants.{Unsupporte
 use Rattle.command_words.specs.declared.tasks.Command.{Command}
 use Rattle.net_outcomes.specs.Deciding.{AreOutcomes}
 use Rattle.net_outcomes.specs.Outcomes.{AreOutcomesFrom, IsBodyOf, IsRefusedAs, MayTell, is_accepted_body}
-use Rattle.net_outcomes.proofs.KeysDecideNets.{keys_decide_archive, keys_decide_blocks, keys_decide_entries, told_at}
+use Rattle.net_archive.proofs.CallerLemmas.{keys_decide_archive}
+use Rattle.net_outcomes.proofs.KeysDecideNets.{keys_decide_blocks, keys_decide_entries, told_at}
 use Rattle.net_outcomes.proofs.OnlyPlacement.{is_graph_in}
 
 -- a refusal of a certain graph is none

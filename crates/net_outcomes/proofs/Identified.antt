@@ -13,8 +13,9 @@ use Rattle.net_entries.specs.Entries.{EntryView}
 use Rattle.net_entries.specs.Lookups.{names_with}
 use Rattle.net_archive.specs.Archives.{IsEntry}
 use Rattle.net_report.specs.declared.outcome.Size.{Size}
-use Rattle.net_outcomes.specs.Outcomes.{AreNamesOf, IsIdentifiedAs, IsKeyedAs}
-use Rattle.net_outcomes.proofs.NamesFound.{names_found}
+use Rattle.net_archive.specs.Deciding.{AreNamesOf}
+use Rattle.net_archive.proofs.CallerLemmas.{names_found}
+use Rattle.net_outcomes.specs.Outcomes.{IsIdentifiedAs, IsKeyedAs}
 use Rattle.net_outcomes.proofs.OnlyPlacement.{only_placement}
 
 -- a net with its key and sequences is told with the names that its key finds

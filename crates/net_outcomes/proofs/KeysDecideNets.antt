@@ -24,7 +24,7 @@ use Rattle.net_report.specs.declared.outcome.OutcomeBody.{OutcomeBody}
 use Rattle.net_report.specs.declared.outcome.OutcomeBody.TheVariants.{Keyed, Identified}
 use Rattle.command_words.specs.declared.tasks.Command.{Command}
 use Rattle.command_words.specs.declared.tasks.Command.TheVariants.{Key, Identify}
-use Rattle.net_outcomes.specs.Deciding.{HasKeyAt, IsBlockAt, KeysDecideArchive, KeysDecideBlocks, KeysDecideEntries, key_told}
+use Rattle.net_outcomes.specs.Deciding.{HasKeyAt, IsBlockAt, KeysDecideBlocks, KeysDecideEntries, key_told}
 use Rattle.net_outcomes.specs.Outcomes.{IsBodyOf, AreOutcomesFrom}
 use Rattle.net_outcomes.proofs.Reordered.{same_arc}
 
@@ -136,10 +136,3 @@ module _ (entries : List EntryView) (command : Command) (bs : List BlockView) (o
         (λ p. iso_transitive (graph_of raw) a.graph e.graph o (keys.0 p)),
         (λ q. keys.1 (iso_transitive a.graph (graph_of raw) e.graph (iso_symmetric (graph_of raw) a.graph o) q)),
       )
-
--- the keys of two entries decide
-pub keys_decide_archive : (entries : List EntryView) → All IsEntry entries → KeysDecideArchive entries
-keys_decide_archive entries good e f i j =
-    let a = All-contains IsEntry entries e good i in
-    let b = All-contains IsEntry entries f good j in
-    keys_decide e.graph f.graph e.key f.key a.is_graph b.is_graph a.key b.key

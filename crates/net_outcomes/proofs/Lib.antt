@@ -5,7 +5,7 @@ pub mod NetOutcomes
 pub mod OnlyPlacement
 pub mod Printing
 pub mod Listing
-pub mod NamesFound
 pub mod Identified
 pub mod Certain
 pub mod ToldBlocks
+pub mod OneOutcome

@@ -1,7 +1,7 @@
 -- What is told of the graph of a block.
 use Rattle.std.proofs.Common.{◌≡◌, ◌≢◌, List, Result, Ok, Err, sym, subst, refl}
 use Rattle.std.specs.Prelude.{IfOk}
-use Rattle.periodic_net.specs.Graph.{Graph}
+use Rattle.periodic_net.specs.Graph.{Graph, IsGraph}
 use Rattle.cgd_read.specs.Graphs.{graph_of}
 use Rattle.cgd_read.specs.Views.{RawView, Net}
 use Rattle.quotient_graph.specs.Stars.{IsInOrder}
@@ -14,6 +14,7 @@ use Rattle.net_report.specs.declared.outcome.OutcomeBody.TheVariants.{Refused}
 use Rattle.net_outcomes.specs.Outcomes.{size_of, MayTell, IsBodyOf}
 use Rattle.command_words.specs.declared.tasks.Command.{Command}
 use Rattle.command_words.specs.declared.tasks.Command.TheVariants.{Check, Place, Key, Identify}
+use Rattle.net_outcomes.proofs.OnlyPlacement.{is_graph_in}
 
 -- a test for connectedness may tell its refusals
 pub check_may : (refusal : Refusal) → IsOfConnecting refusal → refusal ≢ NoMemory → MayTell Check refusal
@@ -37,9 +38,9 @@ identify_may refusal n = tt
 
 -- the body that was made of a refusal is one that the command tells
 pub refused_as : {E : Type 0} (entries : List EntryView) (command : Command) (raw : RawView) (G : Graph) (refusal : Refusal) (r : Result OutcomeBody E)
-    → IsInOrder (graph_of raw) G → IsTrueOf G refusal → (refusal ≢ NoMemory → MayTell command refusal)
+    → IsGraph (graph_of raw) → IsInOrder (graph_of raw) G → IsTrueOf G refusal → (refusal ≢ NoMemory → MayTell command refusal)
     → IfOk r (λ body. body ≡ Refused (size_of raw) raw.names refusal) → IfOk r (λ body. refusal ≢ NoMemory) → IfOk r (IsBodyOf entries command (Net raw))
-refused_as entries command raw G refusal (Ok body) o t m e n =
+refused_as entries command raw G refusal (Ok body) g o t m e n =
     subst (IsBodyOf entries command (Net raw)) (sym e)
-    (record { graph = G; read = record { size_is = refl; in_order = o }; names_are = refl; may = m n; is_true = t })
-refused_as entries command raw G refusal (Err d) o t m e n = e
+    (record { graph = G; read = record { size_is = refl; in_order = o; is_graph = is_graph_in raw G g o }; names_are = refl; may = m n; is_true = t })
+refused_as entries command raw G refusal (Err d) g o t m e n = e

@@ -9,6 +9,7 @@ use Rattle.quotient_graph.specs.Stars.{IsInOrder}
 use Rattle.least_key.specs.AnyNets.{net_in}
 use Rattle.least_key.specs.Certain.{IsCertain}
 use Rattle.net_entries.specs.Entries.{EntryView}
+use Rattle.net_archive.specs.Deciding.{KeysDecideArchive}
 use Rattle.net_report.specs.declared.outcome.Outcome.{Outcome}
 use Rattle.net_report.specs.declared.outcome.OutcomeBody.{OutcomeBody}
 use Rattle.net_report.specs.declared.outcome.OutcomeBody.TheVariants.{Keyed, Identified}
@@ -45,10 +46,6 @@ KeysDecideBlocks blocks outcomes =
 abbrev pub KeysDecideEntries : List EntryView → List BlockView → List Outcome → Type 0
 KeysDecideEntries entries blocks outcomes =
     (i : ℕ) (raw : RawView) (xs : List ℤ) (e : EntryView) → HasKeyAt blocks outcomes i raw xs → Contains entries e → (xs ≡ e.key) ↔ Iso (graph_of raw) e.graph
-
--- and those of two entries
-abbrev pub KeysDecideArchive : List EntryView → Type 0
-KeysDecideArchive entries = (e f : EntryView) → Contains entries e → Contains entries f → (e.key ≡ f.key) ↔ Iso e.graph f.graph
 
 -- a block whose graph is certain is accepted
 abbrev pub CertainAreAccepted : List BlockView → List Outcome → Type 0

@@ -1,3 +1,4 @@
 pub mod Outcomes
 pub mod Deciding
 pub mod Reports
+pub mod Laws

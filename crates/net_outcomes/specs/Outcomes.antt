@@ -1,13 +1,13 @@
 -- What becomes of each block under a command.
-use Rattle.std.specs.Prelude.{◌≡◌, ◌⊎◌, ℕ, ◌+◌, Bool, true, false, List, [], ◌∷◌, length, Option, Some, None, option_copied}
-use Rattle.periodic_net.specs.Graph.{Graph, IsConnected}
-use Rattle.periodic_net.specs.Maps.{Iso}
+use Rattle.std.specs.Prelude.{◌≡◌, ℕ, ◌+◌, Bool, true, false, List, [], ◌∷◌, length, Option, Some, None, option_copied}
+use Rattle.periodic_net.specs.Graph.{Graph, IsConnected, IsGraph}
 use Rattle.periodic_net.specs.Placement.{Placement, IsBarycentric, IsTranslate}
 use Rattle.cgd_read.specs.Graphs.{graph_of}
 use Rattle.cgd_read.specs.Views.{RawView, BodyView, Net, Other, Faulty, BlockView}
 use Rattle.quotient_graph.specs.Stars.{IsInOrder}
 use Rattle.coordination.specs.Sequences.{AreSequencesOf}
 use Rattle.net_entries.specs.Entries.{EntryView}
+use Rattle.net_archive.specs.Deciding.{AreNamesOf}
 use Rattle.net_report.specs.declared.outcome.Size.{Size}
 use Rattle.net_report.specs.declared.outcome.Outcome.{Outcome}
 use Rattle.net_report.specs.declared.outcome.OutcomeBody.{OutcomeBody}
@@ -36,10 +36,11 @@ MayTell Place refusal = IsOfPlacing refusal
 MayTell Key refusal = Unit {0}
 MayTell Identify refusal = Unit {0}
 
--- G is the graph of a block, with its edges in order, and size has its sizes
+-- G is the graph of a block, a quotient graph with its edges in order, and size has its sizes
 pub record IsGraphOf (raw : RawView) (size : Size) (G : Graph) : Type 0 where
   pub size_is : size ≡ size_of raw
   pub in_order : IsInOrder (graph_of raw) G
+  pub is_graph : IsGraph G
 
 -- a refusal that the command may tell, and that is true of the block's graph, beside the names of its vertices
 pub record IsRefusedAs (command : Command) (raw : RawView) (size : Size) (names : List (List ℕ)) (refusal : Refusal) : Type 0 where
@@ -73,12 +74,6 @@ pub record IsKeyedAs (raw : RawView) (size : Size) (net : KeyedNet) : Type 0 whe
   pub read : IsGraphOf raw size graph
   pub net_is : (net_in net).placed.graph ≡ graph
   pub keyed : IsKeyed (net_in net)
-
--- the names of exactly the entries whose nets are isomorphic to that of G, in their order
-abbrev pub AreNamesOf : Graph → List EntryView → List (List ℕ) → Type 0
-AreNamesOf G [] names = names ≡ []
-AreNamesOf G (e ∷ es) [] = ¬ Iso G e.graph × AreNamesOf G es []
-AreNamesOf G (e ∷ es) (name ∷ names) = (Iso G e.graph × (name ≡ e.name) × AreNamesOf G es names) ⊎ (¬ Iso G e.graph × AreNamesOf G es (name ∷ names))
 
 -- the block's graph has a key, and this is its net, with the placement, the only one but for translates, the primitive graph, the
 -- key and the sizes of shells; and these are the names of exactly the isomorphic entries

@@ -2,8 +2,10 @@
 #![tactic(auto)]
 
 mod bodies;
+mod laws;
 mod outcomes;
 mod telling;
 
+pub use laws::one_report;
 pub use outcomes::{are_accepted, is_accepted, outcomes_of};
 pub use telling::{Told, tell_blocks};

@@ -28,15 +28,15 @@ part_within n v (suc (suc (suc i))) h = omega arith
 not_past : (n k : ℕ) → k ≤ n → ¬ (n < k)
 not_past n k a b = omega (arith, a, b)
 
-module _ (G : Graph) (p : Placement) (n : IsNormalPlacement G p) (l : IsWithinLimits G p) where
-  -- the least common multiple of some denominators divides the denominator
-  multiple_within : (u c k : ℕ) → IsWideDenominator G p u c k → k ≤ p.denominator
-  multiple_within u c k h =
-      le_of_dvd n.barycentric.positive (h.value.least p.denominator (λ v e d i j m has. lowest_divides (coordinate e (base p v)) p.denominator d has))
+-- the least common multiple of some denominators divides the denominator
+pub multiple_within : (G : Graph) (p : Placement) → IsNormalPlacement G p → (u c k : ℕ) → IsWideDenominator G p u c k → k ≤ p.denominator
+multiple_within G p n u c k h =
+    le_of_dvd n.barycentric.positive (h.value.least p.denominator (λ v e d i j m has. lowest_divides (coordinate e (base p v)) p.denominator d has))
 
+module _ (G : Graph) (p : Placement) (n : IsNormalPlacement G p) (l : IsWithinLimits G p) where
   not_wide_denominator : (u c k : ℕ) → ¬ IsWideDenominator G p u c k
   not_wide_denominator u c k h =
-      let m = multiple_within u c k h in
+      let m = multiple_within G p n u c k h in
       let d = l.denominator in
       not_past most_units k (omega (arith, m, d)) h.wide
 

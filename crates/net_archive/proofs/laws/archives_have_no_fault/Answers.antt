@@ -1,4 +1,4 @@
-use Rattle.net_archive.proofs.NoFirstFault.{no_fault_but_memory}
+use Rattle.net_archive.proofs.OneFault.{no_fault_but_memory}
 use Rattle.net_archive.proofs.laws.archives_have_no_fault.Goals as goal
 
 pub returns : goal.returns

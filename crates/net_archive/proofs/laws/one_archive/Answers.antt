@@ -1,5 +1,5 @@
-use Rattle.net_archive.proofs.NoFirstFault as law
+use Rattle.net_archive.proofs.OneFault.{one_archive}
 use Rattle.net_archive.proofs.laws.one_archive.Goals as goal
 
 pub returns : goal.returns
-returns c = record { theorem = law.one_archive }
+returns c = record { theorem = one_archive }

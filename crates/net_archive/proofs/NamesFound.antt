@@ -12,7 +12,7 @@ use Rattle.key_theory.proofs.CallerLemmas.{keys_decide}
 use Rattle.net_entries.specs.Entries.{EntryView}
 use Rattle.net_entries.specs.Lookups.{names_of, names_with, same_key}
 use Rattle.net_archive.specs.Archives.{IsEntry}
-use Rattle.net_outcomes.specs.Outcomes.{AreNamesOf}
+use Rattle.net_archive.specs.Deciding.{AreNamesOf}
 
 -- two keys are told equal exactly where they are
 same_decides : (xs ys : List ℤ) → (same_key xs ys ≡ true → xs ≡ ys) × (xs ≡ ys → same_key xs ys ≡ true)

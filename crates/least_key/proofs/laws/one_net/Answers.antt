@@ -1,0 +1,5 @@
+use Rattle.least_key.proofs.one.Nets.{one_net}
+use Rattle.least_key.proofs.laws.one_net.Goals as goal
+
+pub returns : goal.returns
+returns c = record { theorem = one_net }

@@ -1,0 +1,11 @@
+use Rattle.std.proofs.Common.{subst}
+use Rattle.std.specs.Prelude.{IfOk}
+use Rattle.net_archive.specs.Archives.{ArchiveView}
+use Rattle.net_archive.specs.Deciding.{AreIsoGroups}
+use Rattle.net_archive.proofs.IsoGroups.{groups_told}
+use Rattle.net_archive.proofs.archive.Archive.duplicates.Goals as goal
+
+pub returns-clause-isomorphic : goal.returns-clause-isomorphic
+returns-clause-isomorphic c =
+    subst (λ (a : ArchiveView). IfOk c.duplicates.result (AreIsoGroups a.entries)) c.self.view_is
+    (groups_told c.self.inside.entries c.duplicates.result c.self.invariant.is_archive.each c.duplicates.ensures)

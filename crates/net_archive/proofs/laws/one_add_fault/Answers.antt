@@ -1,0 +1,5 @@
+use Rattle.net_archive.proofs.OneAddition.{one_add_fault}
+use Rattle.net_archive.proofs.laws.one_add_fault.Goals as goal
+
+pub returns : goal.returns
+returns c = record { theorem = one_add_fault }

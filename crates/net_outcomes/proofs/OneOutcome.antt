@@ -1,0 +1,254 @@
+-- What a command tells of a block is one.
+use Rattle.std.proofs.Common.{◌≡◌, ◌≢◌, inl, inr, ℕ, ◌+◌, ◌&&◌, Bool, List, [], ◌∷◌, ◌++◌, length, map, Some, refl, sym, ap, ◌∙◌, subst}
+use Rattle.std.specs.Prelude.{codes}
+use Rattle.std.specs.List.{list_all}
+use Rattle.std.specs.Option.{option_copied}
+use Rattle.std.proofs.lemmas.List.Sorted.{Contains-permutation, IsPermutation-sym}
+use Rattle.integers.proofs.lists.ListOrder.{below_transitive, not_below_itself}
+use Rattle.integers.proofs.lists.Members.{contains_from_in, is_in}
+use Rattle.integers.proofs.lists.Permutations.{rising_from_pairs, same_rising}
+use Rattle.integers.specs.Vectors.{IsBelow}
+use Rattle.periodic_net.specs.Graph.{Arc, Graph, IsConnected, IsGraph}
+use Rattle.periodic_net.specs.Maps.{Iso}
+use Rattle.periodic_net.proofs.CallerLemmas.{split_shows_not_connected}
+use Rattle.cgd_read.specs.Graphs.{graph_of}
+use Rattle.cgd_read.specs.Views.{RawView, BodyView, Net, Other, Faulty, BlockView}
+use Rattle.quotient_graph.specs.Order.{arc_numbers}
+use Rattle.quotient_graph.specs.Splits.{split_in}
+use Rattle.quotient_graph.specs.Stars.{IsInOrder}
+use Rattle.coordination.specs.Sequences.{AreSequencesOf}
+use Rattle.coordination.proofs.CallerLemmas.{one_list_of_sequences}
+use Rattle.least_key.specs.AnyNets.{net_in}
+use Rattle.least_key.specs.AnyPlacements.{placed_in}
+use Rattle.least_key.specs.KeyedNets.{IsKeyed, KeyedNet}
+use Rattle.least_key.specs.Laws.{TellAlike}
+use Rattle.least_key.specs.Placings.{IsPlacedAs}
+use Rattle.least_key.specs.Truths.{IsOfPlacing, IsTrueOf}
+use Rattle.least_key.specs.declared.net.Net.{Net as AnyNet}
+use Rattle.least_key.specs.declared.path.AnyPlaced.{AnyPlaced}
+use Rattle.least_key.specs.declared.refusal.Refusal.{Refusal}
+use Rattle.least_key.specs.declared.refusal.Refusal.TheVariants.{Disconnected, Degenerate, NoModulus, WidePlacement, Collision, TooMuch, NoMemory}
+use Rattle.least_key.proofs.CallerLemmas.{certain_is_not_refused, keyed_is_certain, one_net, one_placed, one_refusal, placed_is_not_refused}
+use Rattle.net_entries.specs.Entries.{EntryView}
+use Rattle.net_archive.specs.Deciding.{AreNamesOf}
+use Rattle.net_report.specs.Headers.{fault_text, header_text, size_text, unsupported_text}
+use Rattle.net_report.specs.Identified.{found_names_text, sequences_text}
+use Rattle.net_report.specs.Keys.{key_text}
+use Rattle.net_report.specs.Placements.{placement_text}
+use Rattle.net_report.specs.Primitives.{bases_text, edges_text, sizes_text}
+use Rattle.net_report.specs.Refusals.{refused_text}
+use Rattle.net_report.specs.Reports.{body_text, outcome_text, report_text}
+use Rattle.net_report.specs.declared.outcome.Outcome.{Outcome}
+use Rattle.net_report.specs.declared.outcome.OutcomeBody.{OutcomeBody}
+use Rattle.net_report.specs.declared.outcome.OutcomeBody.TheVariants.{Unsupported, Malformed, Refused, Checked, Located, Keyed, Identified}
+use Rattle.net_report.specs.declared.outcome.Size.{Size}
+use Rattle.command_words.specs.declared.tasks.Command.{Command}
+use Rattle.command_words.specs.declared.tasks.Command.TheVariants.{Check, Place, Key, Identify}
+use Rattle.net_outcomes.specs.Deciding.{key_told}
+use Rattle.net_outcomes.specs.Laws.{OneReport}
+use Rattle.net_outcomes.specs.Outcomes.{AreOutcomesFrom, IsBodyOf, IsCheckedAs, IsGraphOf, IsIdentifiedAs, IsKeyedAs, IsLocatedAs, IsOutcomeOf, IsRefusedAs, MayTell, is_accepted, is_accepted_body}
+
+-- a graph has one list of its edges in order
+pub one_in_order : (G H K : Graph) → IsInOrder G H → IsInOrder G K → H ≡ K
+one_in_order G H K a b =
+    let dimension = a.dimension ∙ sym b.dimension in
+    let vertices = a.vertices ∙ sym b.vertices in
+    λ i. record { dimension = dimension i; vertices = vertices i; edges = edges i }
+  where
+    edges : H.edges ≡ K.edges
+    edges = same_rising (λ (e d : Arc). IsBelow (arc_numbers e) (arc_numbers d)) (λ e. not_below_itself (arc_numbers e)) (λ x y z. below_transitive (arc_numbers x) (arc_numbers y) (arc_numbers z)) H.edges K.edges
+        (rising_from_pairs (λ (e d : Arc). IsBelow (arc_numbers e) (arc_numbers d)) H.edges a.rising) (rising_from_pairs (λ (e d : Arc). IsBelow (arc_numbers e) (arc_numbers d)) K.edges b.rising)
+        (λ e. (
+          (λ i. is_in K.edges e (Contains-permutation G.edges K.edges e b.edges (Contains-permutation H.edges G.edges e (IsPermutation-sym G.edges H.edges a.edges) (contains_from_in H.edges e i)))),
+          (λ i. is_in H.edges e (Contains-permutation G.edges H.edges e a.edges (Contains-permutation K.edges G.edges e (IsPermutation-sym G.edges K.edges b.edges) (contains_from_in K.edges e i)))),
+        ))
+
+-- the names of the isomorphic entries are one list
+one_list_of_names : (G : Graph) (es : List EntryView) (xs ys : List (List ℕ)) → AreNamesOf G es xs → AreNamesOf G es ys → xs ≡ ys
+one_list_of_names G [] xs ys h k = h ∙ sym k
+one_list_of_names G (e ∷ es) [] [] h k = refl
+one_list_of_names G (e ∷ es) [] (y ∷ ys) h (inl k) = absurd (h.0 k.0)
+one_list_of_names G (e ∷ es) [] (y ∷ ys) h (inr k) = one_list_of_names G es [] (y ∷ ys) h.1 k.1
+one_list_of_names G (e ∷ es) (x ∷ xs) [] (inl h) k = absurd (k.0 h.0)
+one_list_of_names G (e ∷ es) (x ∷ xs) [] (inr h) k = one_list_of_names G es (x ∷ xs) [] h.1 k.1
+one_list_of_names G (e ∷ es) (x ∷ xs) (y ∷ ys) (inl h) (inl k) =
+    let rest = one_list_of_names G es xs ys h.2 k.2 in
+    λ i. (h.1 ∙ sym k.1) i ∷ rest i
+one_list_of_names G (e ∷ es) (x ∷ xs) (y ∷ ys) (inl h) (inr k) = absurd (k.0 h.0)
+one_list_of_names G (e ∷ es) (x ∷ xs) (y ∷ ys) (inr h) (inl k) = absurd (h.0 k.0)
+one_list_of_names G (e ∷ es) (x ∷ xs) (y ∷ ys) (inr h) (inr k) = one_list_of_names G es (x ∷ xs) (y ∷ ys) h.1 k.1
+
+-- two bodies have one text, and tell one key and whether the block was accepted
+pub record SpeakAlike (a b : OutcomeBody) : Type 0 where
+  pub text : body_text a ≡ body_text b
+  pub accepted : is_accepted_body a ≡ is_accepted_body b
+  pub key : key_told a ≡ key_told b
+
+module _ (raw : RawView) where
+  -- the graph of a block is one
+  same_graph : (s t : Size) (G H : Graph) → IsGraphOf raw s G → IsGraphOf raw t H → G ≡ H
+  same_graph s t G H a b = one_in_order (graph_of raw) G H a.in_order b.in_order
+
+  same_size : (s t : Size) (G H : Graph) → IsGraphOf raw s G → IsGraphOf raw t H → s ≡ t
+  same_size s t G H a b = a.size_is ∙ sym b.size_is
+
+  -- want of memory may not be told
+  told : (command : Command) (refusal : Refusal) → MayTell command refusal → refusal ≢ NoMemory
+  told command refusal may e = subst (MayTell command) e may
+
+  one_refused : (command : Command) (s t : Size) (ms ns : List (List ℕ)) (r q : Refusal) → IsRefusedAs command raw s ms r → IsRefusedAs command raw t ns q → SpeakAlike (Refused s ms r) (Refused t ns q)
+  one_refused command s t ms ns r q a b =
+      let graph = same_graph s t a.graph b.graph a.read b.read in
+      let size = same_size s t a.graph b.graph a.read b.read in
+      let names = a.names_are ∙ sym b.names_are in
+      let refusal = one_refusal a.graph r q a.read.is_graph a.is_true (subst (λ G. IsTrueOf G q) (sym graph) b.is_true) (told command r a.may) (told command q b.may) in
+      record { text = λ i. size_text (size i) ++ refused_text (names i) (refusal i); accepted = refl; key = refl }
+
+  -- a connected net is not refused as if it were not
+  checked_not_refused : (s t : Size) (ns : List (List ℕ)) (r : Refusal) → IsCheckedAs raw s → ¬ IsRefusedAs Check raw t ns r
+  checked_not_refused s t ns r a b = by r b.is_true b.may
+    where
+      connected : IsConnected b.graph
+      connected = subst IsConnected (same_graph s t a.graph b.graph a.read b.read) a.connected
+
+      by : (r : Refusal) → IsTrueOf b.graph r → MayTell Check r → ⊥
+      by (Disconnected split) h m = split_shows_not_connected b.graph (split_in split) b.read.is_graph h.1 connected
+      by (Degenerate split) h m = split_shows_not_connected b.graph (split_in split) b.read.is_graph h.1 connected
+      by (NoModulus first second third) h m = m
+      by (WidePlacement w) h m = m
+      by (Collision dim u v c) h m = m
+      by (TooMuch done counted) h m = m
+      by NoMemory h m = m
+
+  place_of : (r : Refusal) → MayTell Place r → IsOfPlacing r
+  place_of NoMemory m = absurd m
+  place_of (Disconnected split) m = m
+  place_of (Degenerate split) m = m
+  place_of (NoModulus first second third) m = m
+  place_of (WidePlacement w) m = m
+  place_of (Collision dim u v c) m = m
+  place_of (TooMuch done counted) m = m
+
+  -- nor is a placed one
+  located_not_refused : (s t : Size) (ms ns : List (List ℕ)) (p : AnyPlaced) (r : Refusal) → IsLocatedAs raw s ms p → ¬ IsRefusedAs Place raw t ns r
+  located_not_refused s t ms ns p r a b =
+      let placed = subst (λ G. IsPlacedAs G (placed_in p)) (same_graph s t a.graph b.graph a.read b.read) a.placed_as in
+      told Place r b.may (placed_is_not_refused b.graph (placed_in p) r b.read.is_graph placed (place_of r b.may) b.is_true)
+
+  -- nor one with a key
+  pub keyed_not_refused : (command : Command) (t : Size) (ns : List (List ℕ)) (n : KeyedNet) (r : Refusal) → IsInOrder (graph_of raw) n.placed.graph → IsKeyed n → ¬ IsRefusedAs command raw t ns r
+  keyed_not_refused command t ns n r o k b =
+      let e = one_in_order (graph_of raw) n.placed.graph b.graph o b.read.in_order in
+      told command r b.may (certain_is_not_refused n.placed.graph r k.is_graph (keyed_is_certain n k) (subst (λ G. IsTrueOf G r) (sym e) b.is_true))
+
+  keyed_as_not_refused : (command : Command) (s t : Size) (ns : List (List ℕ)) (n : AnyNet) (r : Refusal) → IsKeyedAs raw s n → ¬ IsRefusedAs command raw t ns r
+  keyed_as_not_refused command s t ns n r a =
+      keyed_not_refused command t ns (net_in n) r (subst (λ G. IsInOrder (graph_of raw) G) (sym a.net_is) a.read.in_order) a.keyed
+
+  one_located : (s t : Size) (ms ns : List (List ℕ)) (p q : AnyPlaced) → IsLocatedAs raw s ms p → IsLocatedAs raw t ns q → SpeakAlike (Located s ms p) (Located t ns q)
+  one_located s t ms ns p q a b =
+      let graph = same_graph s t a.graph b.graph a.read b.read in
+      let size = same_size s t a.graph b.graph a.read b.read in
+      let names = a.names_are ∙ sym b.names_are in
+      let placed = one_placed a.graph a.read.is_graph (placed_in p) (placed_in q) a.placed_as (subst (λ G. IsPlacedAs G (placed_in q)) (sym graph) b.placed_as) in
+      record { text = λ i. size_text (size i) ++ placement_text (names i) (placed i); accepted = refl; key = refl }
+
+  same_net : (s t : Size) (m n : AnyNet) → IsKeyedAs raw s m → IsKeyedAs raw t n → TellAlike (net_in m) (net_in n)
+  same_net s t m n a b = one_net (net_in m) (net_in n) a.keyed b.keyed (a.net_is ∙ same_graph s t a.graph b.graph a.read b.read ∙ sym b.net_is)
+
+  one_keyed : (s t : Size) (m n : AnyNet) → IsKeyedAs raw s m → IsKeyedAs raw t n → SpeakAlike (Keyed s m) (Keyed t n)
+  one_keyed s t m n a b =
+      let size = same_size s t a.graph b.graph a.read b.read in
+      let net = same_net s t m n a b in
+      record { text = λ i. size_text (size i) ++ key_text (net.key i); accepted = refl; key = ap (λ k. Some k) net.key }
+
+  one_identified : (entries : List EntryView) (s t : Size) (us vs : List (List ℕ)) (m n : AnyNet) (xs ys ms ns : List (List ℕ)) → IsIdentifiedAs entries raw s us m xs ms → IsIdentifiedAs entries raw t vs n ys ns
+      → SpeakAlike (Identified s us m xs ms) (Identified t vs n ys ns)
+  one_identified entries s t us vs m n xs ys ms ns a b =
+      let graph = same_graph s t a.keyed.graph b.keyed.graph a.keyed.read b.keyed.read in
+      let size = same_size s t a.keyed.graph b.keyed.graph a.keyed.read b.keyed.read in
+      let net = same_net s t m n a.keyed b.keyed in
+      let vertices = a.vertices_are ∙ sym b.vertices_are in
+      let shells = one_list_of_sequences a.keyed.graph a.keyed.read.is_graph xs ys a.shells_are (subst (λ G. AreSequencesOf G ys) (sym graph) b.shells_are) in
+      let names = one_list_of_names a.keyed.graph entries ms ns a.names_are (subst (λ G. AreNamesOf G entries ns) (sym graph) b.names_are) in
+      record {
+        text = λ i. size_text (size i) ++ ((placement_text (vertices i) (net.placed i)
+            ++ (sizes_text (net.cell i).vertices (length (net.cell i).edges) ++ bases_text (net.cell i).dimension (net.basis i) ++ edges_text (net.cell i).dimension (net.cell i).edges)
+            ++ key_text (net.key i)) ++ sequences_text 1 (shells i) ++ found_names_text (names i));
+        accepted = refl;
+        key = ap (λ k. Some k) net.key;
+      }
+
+-- what a command tells of a block is one
+pub one_body : (entries : List EntryView) (command : Command) (body : BodyView) (a b : OutcomeBody) → IsBodyOf entries command body a → IsBodyOf entries command body b → SpeakAlike a b
+one_body entries command (Other token) (Unsupported t) (Unsupported u) h k = record { text = λ i. unsupported_text ((h ∙ sym k) i); accepted = refl; key = refl }
+one_body entries command (Other token) (Unsupported t) b h k = absurd k
+one_body entries command (Other token) a b h k = absurd h
+one_body entries command (Faulty fault) (Malformed f) (Malformed g) h k = record { text = λ i. fault_text ((h ∙ sym k) i); accepted = refl; key = refl }
+one_body entries command (Faulty fault) (Malformed f) b h k = absurd k
+one_body entries command (Faulty fault) a b h k = absurd h
+one_body entries command (Net raw) (Refused s ms r) (Refused t ns q) h k = one_refused raw command s t ms ns r q h k
+one_body entries Check (Net raw) (Refused t ns r) (Checked s) h k = absurd (checked_not_refused raw s t ns r k h)
+one_body entries Place (Net raw) (Refused t ns r) (Located s ms p) h k = absurd (located_not_refused raw s t ms ns p r k h)
+one_body entries Key (Net raw) (Refused t ns r) (Keyed s n) h k = absurd (keyed_as_not_refused raw Key s t ns n r k h)
+one_body entries Identify (Net raw) (Refused t ns r) (Identified s us n xs ms) h k = absurd (keyed_as_not_refused raw Identify s t ns n r k.keyed h)
+one_body entries command (Net raw) (Refused s ms r) b h k = absurd k
+one_body entries Check (Net raw) (Checked s) (Refused t ns r) h k = absurd (checked_not_refused raw s t ns r h k)
+one_body entries Check (Net raw) (Checked s) (Checked t) h k = record { text = λ i. size_text (same_size raw s t h.graph k.graph h.read k.read i) ++ codes "connected\n"; accepted = refl; key = refl }
+one_body entries Check (Net raw) (Checked s) b h k = absurd k
+one_body entries Place (Net raw) (Located s ms p) (Refused t ns r) h k = absurd (located_not_refused raw s t ms ns p r h k)
+one_body entries Place (Net raw) (Located s ms p) (Located t ns q) h k = one_located raw s t ms ns p q h k
+one_body entries Place (Net raw) (Located s ms p) b h k = absurd k
+one_body entries Key (Net raw) (Keyed s m) (Refused t ns r) h k = absurd (keyed_as_not_refused raw Key s t ns m r h k)
+one_body entries Key (Net raw) (Keyed s m) (Keyed t n) h k = one_keyed raw s t m n h k
+one_body entries Key (Net raw) (Keyed s m) b h k = absurd k
+one_body entries Identify (Net raw) (Identified s us m xs ms) (Refused t ns r) h k = absurd (keyed_as_not_refused raw Identify s t ns m r h.keyed k)
+one_body entries Identify (Net raw) (Identified s us m xs ms) (Identified t vs n ys ns) h k = one_identified raw entries s t us vs m n xs ys ms ns h k
+one_body entries Identify (Net raw) (Identified s us m xs ms) b h k = absurd k
+one_body entries command (Net raw) a b h k = absurd h
+
+-- two lists of outcomes tell the same
+pub record TellTheSame (os ps : List Outcome) : Type 0 where
+  pub text : report_text os ≡ report_text ps
+  pub accepted : map is_accepted os ≡ map is_accepted ps
+  pub keys : map (λ (o : Outcome). key_told o.body) os ≡ map (λ (o : Outcome). key_told o.body) ps
+
+-- an outcome has one text
+one_text : (entries : List EntryView) (command : Command) (number : ℕ) (block : BlockView) (o p : Outcome) → IsOutcomeOf entries command number block o → IsOutcomeOf entries command number block p → outcome_text o ≡ outcome_text p
+one_text entries command number block o p h k =
+    let n = h.number_is ∙ sym k.number_is in
+    let line = h.line ∙ sym k.line in
+    let name = h.name ∙ sym k.name in
+    let body = (one_body entries command block.body o.body p.body h.body k.body).text in
+    λ i. header_text (n i) (line i) (name i) ++ body i
+
+-- the outcomes of blocks tell the same
+pub one_telling : (entries : List EntryView) (command : Command) (n : ℕ) (bs : List BlockView) (os ps : List Outcome) → AreOutcomesFrom entries command n bs os → AreOutcomesFrom entries command n bs ps → TellTheSame os ps
+one_telling entries command n [] [] [] h k = record { text = refl; accepted = refl; keys = refl }
+one_telling entries command n [] (o ∷ os) ps h k = absurd h
+one_telling entries command n [] [] (p ∷ ps) h k = absurd k
+one_telling entries command n (b ∷ bs) [] ps h k = absurd h
+one_telling entries command n (b ∷ bs) (o ∷ os) [] h k = absurd k
+one_telling entries command n (b ∷ bs) (o ∷ os) (p ∷ ps) h k =
+    let first = one_text entries command n b o p h.0 k.0 in
+    let body = one_body entries command b.body o.body p.body h.0.body k.0.body in
+    let rest = one_telling entries command (n + 1) bs os ps h.1 k.1 in
+    record {
+      text = λ i. first i ++ rest.text i;
+      accepted = λ i. body.accepted i ∷ rest.accepted i;
+      keys = λ i. body.key i ∷ rest.keys i;
+    }
+
+-- whether all are accepted is told by whether each is
+all_of : (os : List Outcome) → list_all is_accepted os ≡ list_all (λ (b : Bool). b) (map is_accepted os)
+all_of [] = refl
+all_of (o ∷ os) = ap (λ b. is_accepted o && b) (all_of os)
+
+pub all_alike : (os ps : List Outcome) → TellTheSame os ps → list_all is_accepted os ≡ list_all is_accepted ps
+all_alike os ps r = all_of os ∙ ap (list_all (λ (c : Bool). c)) r.accepted ∙ sym (all_of ps)
+
+-- the report on blocks is one
+pub one_report : OneReport
+one_report command entries blocks x y s t a b =
+    let r = one_telling entries command 1 blocks a.outcomes b.outcomes a.are_outcomes.each b.are_outcomes.each in
+    (a.all ∙ all_alike a.outcomes b.outcomes r ∙ sym b.all, a.report ∙ r.text ∙ sym b.report)

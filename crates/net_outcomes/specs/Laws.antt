@@ -1,0 +1,11 @@
+-- What is told of blocks is one.
+use Rattle.std.specs.Prelude.{◌≡◌, ℕ, Bool, List}
+use Rattle.cgd_read.specs.Views.{BlockView}
+use Rattle.net_entries.specs.Entries.{EntryView}
+use Rattle.command_words.specs.declared.tasks.Command.{Command}
+use Rattle.net_outcomes.specs.Reports.{IsReport}
+
+-- two reports on the same blocks are one
+abbrev pub OneReport : Type 0
+OneReport = (command : Command) (entries : List EntryView) (blocks : List BlockView) (x y : Bool) (s t : List ℕ) → IsReport command entries blocks x s → IsReport command entries blocks y t
+    → (x ≡ y) × (s ≡ t)
