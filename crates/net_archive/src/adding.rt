@@ -11,7 +11,6 @@ ghost use Rattle.line_text.specs.Names.{is_name};
 ghost use Rattle.net_archive.specs.Adding.{IsEntryOf};
 ghost use Rattle.net_archive.specs.Archives.{IsEntry, most_entries};
 
-use crate::judge::sequences_of;
 use archive_text::{MOST_BYTES, Version, push_entry};
 use least_key::Net;
 use net_entries::{Entries, Entry};
@@ -42,7 +41,7 @@ fn entry_of(alloc: Global, name: &[u8], net: &Net) -> Result<Entry, AllocError>
     ensures is_entry { is_name name.now ≡ true → IfOk result (λ e. IsEntry (entry_view e)) }
     ensures few { IfOk result (λ e. length e.shells ≤ most_vertices) }
 {
-    let shells = sequences_of(alloc, net)?;
+    let shells = net.sequences(alloc)?;
     let graph = graph_of(net)?;
     let name = Vec::from_slice(alloc, name)?;
     let key = net.key().copy()?;

@@ -12,23 +12,12 @@ ghost use Rattle.line_text.specs.Lines.{last_line};
 
 use crate::ArchiveFault;
 use archive_text::{Form, KeyedGraph, Version};
-use coordination::{Sequences, sequences};
+use coordination::Sequences;
 use least_key::{Net, Refusal, identify};
 use lists::Items;
 use net_entries::Entry;
 use quotient_graph::{AnyGraph, Key, from_edges};
 use std::alloc::{AllocError, Global};
-
-/// The sizes of shells of each class of a net.
-pub fn sequences_of(alloc: Global, net: &Net) -> Result<Sequences, AllocError>
-    ensures sequences { IfOk result (AreSequencesOf (net_in net.now).placed.graph) }
-    ensures few { IfOk result (λ lists. length lists ≤ most_vertices) }
-{
-    match net {
-        Net::Flat(net) => sequences(alloc, &net.classes, &net.primitive),
-        Net::Space(net) => sequences(alloc, &net.classes, &net.primitive),
-    }
-}
 
 fn same_key(a: &Key, b: &Key) -> bool
     ensures { result ≡ true ↔ a.now ≡ b.now }
@@ -154,7 +143,7 @@ fn check_net(
     ensures fault { (line : ℕ) → IfErr result (IsJudged version line form.now) }
 {
     check_key(&form.keyed, net)?;
-    let shells = sequences_of(alloc, net)?;
+    let shells = net.sequences(alloc)?;
     let key_line = form.keyed.key_line;
     check_version(alloc, version, key_line, &form.shells, &shells)?;
     Ok(shells)

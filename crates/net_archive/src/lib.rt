@@ -12,6 +12,5 @@ mod reading;
 pub use archive::Archive;
 pub use archive_text::{MOST_BYTES, Version};
 pub use faults::{AddFault, ArchiveFault, MigrateFault};
-pub use judge::sequences_of;
 pub use laws::{archives_have_no_fault, one_add_fault, one_archive, one_fault};
 pub use net_entries::{Entry, Groups, Matches};

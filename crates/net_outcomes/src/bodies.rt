@@ -12,7 +12,7 @@ ghost use Rattle.net_outcomes.specs.Outcomes.{size_of, IsBodyOf, IsKeyedAs};
 use cgd_read::{Block, Body, Names, RawGraph};
 use command_words::Command;
 use least_key::{Net, Refusal, check_any, identify, place_any};
-use net_archive::{Archive, sequences_of};
+use net_archive::Archive;
 use net_report::{NoMemory, OutcomeBody, Size};
 use quotient_graph::from_raw;
 use std::alloc::Global;
@@ -105,7 +105,7 @@ fn identified_body<'a>(
         (ReadNet (raw_view raw.now))) }
 {
     let vertices = raw.names.copy()?;
-    let shells = sequences_of(alloc, &net)?;
+    let shells = net.sequences(alloc)?;
     let names = names_for(alloc, archive, &net)?;
     Ok(OutcomeBody::Identified {
         size: size_of(raw),
