@@ -1,5 +1,9 @@
+pub mod CallerLemmas
 mod Added
 mod KeyedBlocks
 mod Turns
 mod KeyLists
 mod DifferentKeys
+mod OneAddition
+mod OneSummary
+pub mod OneAnswer

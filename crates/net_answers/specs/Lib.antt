@@ -3,3 +3,4 @@ pub mod KeyLists
 pub mod Summaries
 pub mod Due
 pub mod Bytes
+pub mod Laws
