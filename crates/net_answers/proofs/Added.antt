@@ -10,7 +10,7 @@ use Rattle.net_archive.specs.declared.faults.AddFault.{AddFault}
 use Rattle.net_answers.specs.Due.{AreEntriesOf, IsAdded, IsEntryOfBlock, IsNetOf, IsNotAdded, given_after, name_to_add}
 
 -- where none is given, none is given after some blocks
-none_after : (bs : List BlockView) → given_after None bs ≡ None
+pub none_after : (bs : List BlockView) → given_after None bs ≡ None
 none_after [] = refl
 none_after (b ∷ bs) = refl
 

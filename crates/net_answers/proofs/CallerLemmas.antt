@@ -1,2 +1,3 @@
--- What other crates cite.
+-- The lemmas of this crate that other crates cite.
 pub use Rattle.net_answers.proofs.Headlines.{headline_on}
+pub use Rattle.net_answers.proofs.OneAnswer.{one_due_answer}

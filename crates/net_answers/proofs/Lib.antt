@@ -5,3 +5,6 @@ mod Turns
 mod KeyLists
 mod DifferentKeys
 pub mod Headlines
+mod OneAddition
+mod OneSummary
+pub mod OneAnswer

@@ -4,3 +4,4 @@ pub mod Summaries
 pub mod Due
 pub mod Bytes
 pub mod Headline
+pub mod Laws

@@ -4,11 +4,13 @@
 mod adding;
 mod answer;
 mod entries;
+mod laws;
 mod reports;
 mod status;
 mod workloads;
 
 pub use answer::{Answer, Silence, answer_to};
+pub use laws::one_due_answer;
 pub use status::Status;
 
 #[cfg(test)]

@@ -1,0 +1,194 @@
+-- What is due to a task is one.
+use Rattle.std.proofs.Common.{◌≡◌, ◌≢◌, ◌⊎◌, inl, inr, ℕ, ◌<◌, ◌≤◌, Bool, true, false, List, [], length, Option, None, Some, true≢false, refl, sym, ap, subst, ◌∙◌, arith}
+use Rattle.cgd_read.specs.Views.{BlockView}
+use Rattle.cgd_read.specs.Blocks.{blocks_of, most_blocks}
+use Rattle.net_entries.specs.Entries.{EntryView}
+use Rattle.net_archive.specs.Archives.{ArchiveView, IsArchive, archive_text}
+use Rattle.net_archive.specs.Faults.{IsFaultOf}
+use Rattle.net_archive.specs.Migrating.{newest}
+use Rattle.net_archive.specs.declared.faults.ArchiveFault.{ArchiveFault}
+use Rattle.net_archive.proofs.CallerLemmas.{no_fault_but_memory, one_archive, one_fault}
+use Rattle.archive_report.specs.ArchiveTexts.{add_fault_text, archive_fault_text, groups_text, migrate_fault_text}
+use Rattle.archive_text.specs.Texts.{most_bytes}
+use Rattle.command_words.specs.Tasks.{Task, Tell, Add, Duplicates, Migrate, Workload}
+use Rattle.command_words.specs.declared.tasks.Command.{Command}
+use Rattle.command_words.specs.declared.tasks.Command.TheVariants.{Key}
+use Rattle.net_outcomes.proofs.CallerLemmas.{all_alike, one_report, one_telling}
+use Rattle.net_answers.specs.Due.{AreGroupsAs, IsAddedAs, IsAddedOrRefused, IsArchiveIn, IsBadArchive, IsDueFor, IsDueOn, IsDueWith, IsMigratedAs, IsNotAddedAs, IsReportAs, bytes_of}
+use Rattle.net_answers.specs.Laws.{OneDueAnswer}
+use Rattle.net_answers.specs.Summaries.{IsSummary, IsSummaryAs, summary_text}
+use Rattle.net_answers.specs.declared.status.Status.{Status}
+use Rattle.net_answers.specs.declared.status.Status.TheVariants.{Done, SomeRefused, Usage, ReadFault, WriteFault, BadArchive, TooLarge, NoMemory, TooManyBlocks, AddRefused, MigrateRefused}
+use Rattle.net_answers.proofs.OneAddition.{accepted_or_reported, all_or_one, entries_accepted, one_longer, one_not_added}
+use Rattle.net_answers.proofs.OneSummary.{as_many_accepted, as_many_keys, one_list_of_groups}
+
+-- one status and one text
+abbrev AreOne : Status → Status → List ℕ → List ℕ → Type 0
+AreOne s t x y = (s ≡ t) × (x ≡ y)
+
+-- a report
+one_report_as : (command : Command) (entries : List EntryView) (blocks : List BlockView) (s t : Status) (x y : List ℕ) → IsReportAs command entries blocks s x → IsReportAs command entries blocks t y → AreOne s t x y
+one_report_as command entries blocks Done Done x y h k = (refl, (one_report command entries blocks true true x y h k).1)
+one_report_as command entries blocks Done SomeRefused x y h k = absurd (true≢false (one_report command entries blocks true false x y h k).0)
+one_report_as command entries blocks SomeRefused Done x y h k = absurd (true≢false (sym (one_report command entries blocks false true x y h k).0))
+one_report_as command entries blocks SomeRefused SomeRefused x y h k = (refl, (one_report command entries blocks false false x y h k).1)
+one_report_as command entries blocks Done t x y h k = absurd k
+one_report_as command entries blocks SomeRefused t x y h k = absurd k
+one_report_as command entries blocks s t x y h k = absurd h
+
+-- a summary
+one_summary : (made : ℕ) (blocks : List BlockView) (b c : Bool) (x y : List ℕ) → IsSummary made blocks b x → IsSummary made blocks c y → (b ≡ c) × (x ≡ y)
+one_summary made blocks b c x y h k =
+    let r = one_telling [] Key 1 blocks h.outcomes k.outcomes h.are_outcomes.each k.are_outcomes.each in
+    let accepted = as_many_accepted h.outcomes k.outcomes r.accepted in
+    let keys = as_many_keys h.outcomes k.outcomes h.summary.keys k.summary.keys r.keys h.summary.different k.summary.different in
+    (h.all ∙ all_alike h.outcomes k.outcomes r ∙ sym k.all, h.summary.text_is ∙ (λ i. summary_text made (accepted i) (keys i)) ∙ sym k.summary.text_is)
+
+one_summary_as : (made : ℕ) (blocks : List BlockView) (s t : Status) (x y : List ℕ) → IsSummaryAs made blocks s x → IsSummaryAs made blocks t y → AreOne s t x y
+one_summary_as made blocks Done Done x y h k = (refl, (one_summary made blocks true true x y h k).1)
+one_summary_as made blocks Done SomeRefused x y h k = absurd (true≢false (one_summary made blocks true false x y h k).0)
+one_summary_as made blocks SomeRefused Done x y h k = absurd (true≢false (sym (one_summary made blocks false true x y h k).0))
+one_summary_as made blocks SomeRefused SomeRefused x y h k = (refl, (one_summary made blocks false false x y h k).1)
+one_summary_as made blocks Done t x y h k = absurd k
+one_summary_as made blocks SomeRefused t x y h k = absurd k
+one_summary_as made blocks s t x y h k = absurd h
+
+-- the groups
+one_groups : (a : ArchiveView) (s t : Status) (x y : List ℕ) → AreGroupsAs a s x → AreGroupsAs a t y → AreOne s t x y
+one_groups a Done Done x y h k = (refl, h.text_is ∙ ap (groups_text a.entries) (one_list_of_groups a.entries h.groups k.groups h.are_groups k.are_groups) ∙ sym k.text_is)
+one_groups a Done t x y h k = absurd k
+one_groups a s t x y h k = absurd h
+
+-- the newest format
+one_migration : (a : ArchiveView) (s t : Status) (x y : List ℕ) → IsMigratedAs a s x → IsMigratedAs a t y → AreOne s t x y
+one_migration a Done Done x y h k = (refl, h.0 ∙ sym k.0)
+one_migration a Done MigrateRefused x y h k = absurd (too_long (ap length h.0) h.1 k.0)
+  where
+    too_long : length x ≡ length (newest a) → length x ≤ most_bytes → most_bytes < length (newest a) → ⊥
+    too_long e l m = omega (arith, e, l, m)
+one_migration a MigrateRefused Done x y h k = absurd (too_long (ap length k.0) k.1 h.0)
+  where
+    too_long : length y ≡ length (newest a) → length y ≤ most_bytes → most_bytes < length (newest a) → ⊥
+    too_long e l m = omega (arith, e, l, m)
+one_migration a MigrateRefused MigrateRefused x y h k = (refl, h.1 ∙ sym k.1)
+one_migration a Done t x y h k = absurd k
+one_migration a MigrateRefused t x y h k = absurd k
+one_migration a s t x y h k = absurd h
+
+module _ (given : Option (List ℕ)) (blocks : List BlockView) (a : ArchiveView) where
+  -- where all are added, none is refused
+  not_refused : (x y : List ℕ) → IsAddedAs given blocks a x → ¬ IsNotAddedAs given blocks a y
+  not_refused x y h k = k.told (all_or_one given blocks a h.longer k.number k.fault h.added k.not_added)
+
+  one_refused : (x y : List ℕ) → IsNotAddedAs given blocks a x → IsNotAddedAs given blocks a y → x ≡ y
+  one_refused x y h k =
+      let r = one_not_added given blocks a h.number k.number h.fault k.fault h.not_added k.not_added h.told k.told in
+      h.text_is ∙ (λ i. add_fault_text (r.0 i) (r.1 i)) ∙ sym k.text_is
+
+  one_added : (x y : List ℕ) → IsAddedAs given blocks a x → IsAddedAs given blocks a y → x ≡ y
+  one_added x y h k = h.text_is ∙ ap archive_text (one_longer given blocks a h.longer k.longer h.added k.added) ∙ sym k.text_is
+
+  -- what becomes of an addition
+  one_addition : (s t : Status) (x y : List ℕ) → IsAddedOrRefused given blocks a s x → IsAddedOrRefused given blocks a t y → AreOne s t x y
+  one_addition Done Done x y h k = (refl, one_added x y h k)
+  one_addition Done SomeRefused x y h k = absurd (accepted_or_reported blocks y (entries_accepted given blocks h.added.more h.added.are_entries) k)
+  one_addition Done AddRefused x y h k = absurd (not_refused x y h k)
+  one_addition SomeRefused Done x y h k = absurd (accepted_or_reported blocks x (entries_accepted given blocks k.added.more k.added.are_entries) h)
+  one_addition SomeRefused SomeRefused x y h k = (refl, (one_report Key [] blocks false false x y h k).1)
+  one_addition SomeRefused AddRefused x y h k = absurd (accepted_or_reported blocks x k.accepted h)
+  one_addition AddRefused Done x y h k = absurd (not_refused y x k h)
+  one_addition AddRefused SomeRefused x y h k = absurd (accepted_or_reported blocks y h.accepted k)
+  one_addition AddRefused AddRefused x y h k = (refl, one_refused x y h k)
+  one_addition Done t x y h k = absurd k
+  one_addition SomeRefused t x y h k = absurd k
+  one_addition AddRefused t x y h k = absurd k
+  one_addition s t x y h k = absurd h
+
+-- what is due to a task, of blocks and of an archive
+one_due_for : (task : Task) (blocks : List BlockView) (a : ArchiveView) (s t : Status) (x y : List ℕ) → IsDueFor task blocks a s x → IsDueFor task blocks a t y → AreOne s t x y
+one_due_for (Tell command file name) blocks a s t x y h k = one_report_as command a.entries blocks s t x y h k
+one_due_for (Add file name given) blocks a s t x y h k = one_addition given blocks a s t x y h k
+one_due_for (Duplicates name) blocks a s t x y h k = one_groups a s t x y h k
+one_due_for (Migrate name) blocks a s t x y h k = one_migration a s t x y h k
+one_due_for (Workload count) blocks a s t x y h k = one_summary_as count blocks s t x y h k
+
+-- the archive of some bytes is one
+one_archive_in : (bytes : Option (List ℕ)) (a b : ArchiveView) → IsArchiveIn bytes a → IsArchiveIn bytes b → a ≡ b
+one_archive_in None a b h k = h ∙ sym k
+one_archive_in (Some bytes) a b h k = one_archive a b h.0 k.0 (sym h.1 ∙ k.1)
+
+-- bytes of an archive have no fault that is told
+not_bad : (bytes : Option (List ℕ)) (a : ArchiveView) (text : List ℕ) → IsArchiveIn bytes a → ¬ IsBadArchive bytes text
+not_bad None a text h k = k
+not_bad (Some bytes) a text h k = k.1 (no_fault_but_memory a k.0 h.0 (subst (λ l. IsFaultOf l k.0) h.1 k.2))
+
+-- and the fault that is told is one
+one_bad : (bytes : Option (List ℕ)) (x y : List ℕ) → IsBadArchive bytes x → IsBadArchive bytes y → x ≡ y
+one_bad None x y h k = absurd h
+one_bad (Some bytes) x y h k = h.3 ∙ ap archive_fault_text (one_fault bytes h.0 k.0 h.2 k.2 h.1 k.1) ∙ sym k.3
+
+-- an answer of an archive that is read, or of one that has a fault
+data WayOf (task : Task) (bytes : List ℕ) (archive : Option (List ℕ)) (s : Status) (x : List ℕ) : Type 0 where
+  Read : (a : ArchiveView) → IsArchiveIn archive a → IsDueFor task (blocks_of bytes) a s x → WayOf task bytes archive s x
+  Faulty : s ≡ BadArchive → IsBadArchive archive x → WayOf task bytes archive s x
+
+way_of : (task : Task) (bytes : List ℕ) (archive : Option (List ℕ)) (s : Status) (x : List ℕ) → IsDueWith task bytes archive s x → WayOf task bytes archive s x
+way_of task bytes archive BadArchive x h = Faulty refl h.1
+way_of task bytes archive Done x h = Read h.1 h.2 h.3
+way_of task bytes archive SomeRefused x h = Read h.1 h.2 h.3
+way_of task bytes archive Usage x h = Read h.1 h.2 h.3
+way_of task bytes archive ReadFault x h = Read h.1 h.2 h.3
+way_of task bytes archive WriteFault x h = Read h.1 h.2 h.3
+way_of task bytes archive TooLarge x h = Read h.1 h.2 h.3
+way_of task bytes archive NoMemory x h = Read h.1 h.2 h.3
+way_of task bytes archive TooManyBlocks x h = Read h.1 h.2 h.3
+way_of task bytes archive AddRefused x h = Read h.1 h.2 h.3
+way_of task bytes archive MigrateRefused x h = Read h.1 h.2 h.3
+
+one_way : (task : Task) (bytes : List ℕ) (archive : Option (List ℕ)) (s t : Status) (x y : List ℕ) → WayOf task bytes archive s x → WayOf task bytes archive t y → AreOne s t x y
+one_way task bytes archive s t x y (Read a h d) (Read b k e) = one_due_for task (blocks_of bytes) a s t x y d (subst (λ c. IsDueFor task (blocks_of bytes) c t y) (sym (one_archive_in archive a b h k)) e)
+one_way task bytes archive s t x y (Read a h d) (Faulty e k) = absurd (not_bad archive a y h k)
+one_way task bytes archive s t x y (Faulty e h) (Read b k d) = absurd (not_bad archive b x k h)
+one_way task bytes archive s t x y (Faulty e h) (Faulty f k) = (e ∙ sym f, one_bad archive x y h k)
+
+-- blocks are no more than there may be
+few_blocks : (task : Task) (bytes : List ℕ) (archive : Option (List ℕ)) (s : Status) (x : List ℕ) → IsDueWith task bytes archive s x → length (blocks_of bytes) ≤ most_blocks
+few_blocks task bytes archive BadArchive x h = h.0
+few_blocks task bytes archive Done x h = h.0
+few_blocks task bytes archive SomeRefused x h = h.0
+few_blocks task bytes archive Usage x h = h.0
+few_blocks task bytes archive ReadFault x h = h.0
+few_blocks task bytes archive WriteFault x h = h.0
+few_blocks task bytes archive TooLarge x h = h.0
+few_blocks task bytes archive NoMemory x h = h.0
+few_blocks task bytes archive TooManyBlocks x h = h.0
+few_blocks task bytes archive AddRefused x h = h.0
+few_blocks task bytes archive MigrateRefused x h = h.0
+
+-- an answer where there are too many blocks, or not
+data CountOf (task : Task) (file : List ℕ) (archive : Option (List ℕ)) (s : Status) (x : List ℕ) : Type 0 where
+  Many : s ≡ TooManyBlocks → most_blocks < length (blocks_of (bytes_of task file)) → x ≡ [] → CountOf task file archive s x
+  Few : IsDueWith task (bytes_of task file) archive s x → CountOf task file archive s x
+
+count_of : (task : Task) (file : List ℕ) (archive : Option (List ℕ)) (s : Status) (x : List ℕ) → IsDueOn task file archive s x → CountOf task file archive s x
+count_of task file archive TooManyBlocks x h = Many refl h.0 h.1
+count_of task file archive BadArchive x h = Few h
+count_of task file archive Done x h = Few h
+count_of task file archive SomeRefused x h = Few h
+count_of task file archive Usage x h = Few h
+count_of task file archive ReadFault x h = Few h
+count_of task file archive WriteFault x h = Few h
+count_of task file archive TooLarge x h = Few h
+count_of task file archive NoMemory x h = Few h
+count_of task file archive AddRefused x h = Few h
+count_of task file archive MigrateRefused x h = Few h
+
+one_count : (task : Task) (file : List ℕ) (archive : Option (List ℕ)) (s t : Status) (x y : List ℕ) → CountOf task file archive s x → CountOf task file archive t y → AreOne s t x y
+one_count task file archive s t x y (Many e m f) (Many e' m' f') = (e ∙ sym e', f ∙ sym f')
+one_count task file archive s t x y (Many e m f) (Few h) = let few = few_blocks task (bytes_of task file) archive t y h in absurd (omega (arith, m, few))
+one_count task file archive s t x y (Few h) (Many e m f) = let few = few_blocks task (bytes_of task file) archive s x h in absurd (omega (arith, m, few))
+one_count task file archive s t x y (Few h) (Few k) = one_way task (bytes_of task file) archive s t x y (way_of task (bytes_of task file) archive s x h) (way_of task (bytes_of task file) archive t y k)
+
+-- two answers that are due are one
+pub one_due_answer : OneDueAnswer
+one_due_answer task file archive s t x y h k = one_count task file archive s t x y (count_of task file archive s x h) (count_of task file archive t y k)
