@@ -98,7 +98,7 @@ class Completion(FolderTest):
     def complete(self, *words: str) -> set[str]:
         """What bash offers for the last word."""
         need_commands("bash")
-        script = (f"source {INSTALL / 'net_tool.bash'}; COMP_WORDS=({shlex.join(words)}); "
+        script = (f"source {shlex.quote(str(INSTALL / 'net_tool.bash'))}; COMP_WORDS=({shlex.join(words)}); "
                   f"COMP_CWORD={len(words) - 1}; _net_tool; printf '%s\\n' \"${{COMPREPLY[@]}}\"")
         done = subprocess.run(["bash", "-c", script], cwd=self.folder, capture_output=True, timeout=20)
         return set(done.stdout.decode().split("\n")) - {""}
