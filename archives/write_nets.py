@@ -301,6 +301,8 @@ BY_SITES = {
     "ocu, octahedra and cubes": Sites("I m -3 m", cubic(1), {"a": (Q, Q, Q), "b": (0, H, H)}, {"ab": 6, "ba": 8}),
     "scu, squares and cubes": Sites("P 4/m m m", (1, 1, 1, 90, 90, 90), {"a": (0, 0, 0), "b": (H, 0, H)},
                                     {"ab": 8, "ba": 4}),
+    "csq, squares and cubes along kagome": Sites("P 6/m m m", HEXAGONAL, {"a": (H, 0, 0), "b": (Q, H, H)},
+                                                 {"ab": 8, "ba": 4}),
     "shp, squares and hexagonal prisms": Sites("P 6/m m m", HEXAGONAL, {"a": (0, 0, 0), "b": (H, 0, H)},
                                                {"ab": 12, "ba": 4}),
     "alb, aluminium diboride": Sites("P 6/m m m", HEXAGONAL, {"a": (0, 0, 0), "b": (T, 2 * T, H)},

@@ -2,6 +2,7 @@
 # make_deb.sh VERSION FOLDER [PROGRAM]: the Debian package crystal-net-tool of the built program and its tools, in
 # FOLDER, by dpkg-deb. MAINTAINER is told in it. The package has no copyright file, as this repository has none yet.
 set -eu
+umask 022
 
 fail() {
     echo "make_deb.sh: $1" >&2

@@ -182,7 +182,7 @@ class Many(FolderTest):
 
     def parallel(self):
         numbers = "".join(f"{k + 1}\n" for k in range(len(self.index)))
-        run("parallel", "--will-cite", "--halt", "soon,fail=1", "-j2", BATCH / "key_piece", self.folder / "pieces",
+        run("parallel", "--will-cite", "-q", "--halt", "soon,fail=1", "-j2", BATCH / "key_piece", self.folder / "pieces",
             stdin=numbers.encode(), seconds=900, HOME=str(self.folder), TMPDIR=str(self.folder))
 
     def check_names(self, accepted):

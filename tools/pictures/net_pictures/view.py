@@ -12,7 +12,8 @@ from .shape import Shape, Window
 FEWEST_EDGES = {"cubic": 15}  # that are shown whole, where more cells can do it
 OTHER_FEWEST = 24
 MANY_EDGES = 160
-LAYER_HALF = 2.7  # half of the side of the square that is shown of a layer, in lengths of edges
+LAYER_HALF = 2.7   # half of the side of the square that is shown of a layer, in lengths of edges
+LAYER_CELLS = 1.1  # the same in lengths of the longer axis, where that is more
 
 
 @dataclass
@@ -53,7 +54,7 @@ def view_of(shape: Shape) -> View:
 
 def _view_of_layer(shape: Shape) -> View:
     """A square of the layer, with a cell in its middle."""
-    half = max(LAYER_HALF, 0.72 * float(shape.lengths.max()))
+    half = max(LAYER_HALF, LAYER_CELLS * float(shape.lengths.max()))
     centre = np.full(2, 0.5) @ shape.axes
     reach = np.ceil(1.9 * half * np.abs(np.linalg.inv(shape.axes)).sum(axis=0)) + 1
     window = shape.window(-reach, reach, lambda spots: np.all(np.abs(spots @ shape.axes - centre) < half, axis=1))

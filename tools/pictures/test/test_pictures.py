@@ -179,7 +179,8 @@ class Files(FolderTest):
         heard = 'let failed = "";\nwindow.onerror = told => { failed = told; };'
         text = page.read_text().replace('"use strict";', heard, 1)
         page.write_text(text.replace("</html>", VISIT))
-        self.assertEqual(self.title_in_browser(page), "cards 150 painted true shown 1")
+        count = ARCHIVE.read_text().count("\nentry ")
+        self.assertEqual(self.title_in_browser(page), f"cards {count} painted true shown 1")
 
     def title_in_browser(self, page):
         """The title of the page once it was visited; skips where the browser does not start here."""
