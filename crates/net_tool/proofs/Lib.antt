@@ -3,3 +3,4 @@ mod DueOver
 mod Headlines
 mod Completed
 mod Room
+mod OneAnswer

@@ -2,6 +2,7 @@
 #![tactic(auto)]
 
 mod files;
+mod laws;
 mod memory;
 #[cfg(test)]
 mod tests;

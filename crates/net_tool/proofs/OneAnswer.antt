@@ -1,0 +1,68 @@
+-- The answer of a run is one.
+use Rattle.std.proofs.Common.{◌≡◌, inl, inr, ℕ, List, [], length, Option, None, Some, refl, sym, ap, subst, ◌∙◌, arith}
+use Rattle.std.specs.Prelude.{unwrap_or}
+use Rattle.command_words.specs.Tasks.{Task, archive_named, file_named}
+use Rattle.net_answers.specs.Due.{IsDueOn}
+use Rattle.net_answers.specs.declared.status.Status.{Status}
+use Rattle.net_answers.specs.declared.status.Status.TheVariants.{Done, SomeRefused, Usage, ReadFault, WriteFault, BadArchive, TooLarge, NoMemory, TooManyBlocks, AddRefused, MigrateRefused}
+use Rattle.net_answers.proofs.CallerLemmas.{one_due_answer}
+use Rattle.net_tool.specs.Laws.{OneAnswer}
+use Rattle.net_tool.specs.Run.{AreBytesOf, HasManyBytes, IsDue, IsDueOf, IsDueOver, IsTooLarge}
+
+module _ (of : List ℕ → List ℕ) where
+  -- the bytes of a file are one
+  one_file : (name : Option (List ℕ)) (a b : Option (List ℕ)) → AreBytesOf name (Some of) a → AreBytesOf name (Some of) b → a ≡ b
+  one_file None a b h k = h ∙ sym k
+  one_file (Some name) None b h k = absurd h
+  one_file (Some name) (Some a) None h k = absurd k
+  one_file (Some name) (Some a) (Some b) h k = ap (λ l. Some l) (sym h.0 ∙ k.0)
+
+  -- and no more than are taken, or more
+  not_many : (name : Option (List ℕ)) (a : Option (List ℕ)) → AreBytesOf name (Some of) a → ¬ HasManyBytes name (Some of)
+  not_many None a h k = k
+  not_many (Some name) None h k = h
+  not_many (Some name) (Some a) h k = let e = ap length h.0 in let few = h.1 in omega (arith, e, few, k)
+
+  -- the file or the archive is too large, or the answer is due to their bytes
+  data WayOf (task : Task) (s : Status) (x : List ℕ) : Type 0 where
+    Large : s ≡ TooLarge → IsTooLarge task (Some of) → x ≡ [] → WayOf task s x
+    Over : IsDueOver task (Some of) s x → WayOf task s x
+
+  -- so it is of each answer
+  way_of : (task : Task) (s : Status) (x : List ℕ) → IsDueOf task (Some of) s x → WayOf task s x
+  way_of task TooLarge x h = Large refl h.0 h.1
+  way_of task Done x h = Over h
+  way_of task SomeRefused x h = Over h
+  way_of task Usage x h = Over h
+  way_of task ReadFault x h = Over h
+  way_of task WriteFault x h = Over h
+  way_of task BadArchive x h = Over h
+  way_of task NoMemory x h = Over h
+  way_of task TooManyBlocks x h = Over h
+  way_of task AddRefused x h = Over h
+  way_of task MigrateRefused x h = Over h
+
+  -- not both
+  not_large : (task : Task) (s : Status) (x : List ℕ) → IsDueOver task (Some of) s x → ¬ IsTooLarge task (Some of)
+  not_large task s x h (inl many) = not_many (file_named task) h.0 h.2 many
+  not_large task s x h (inr many) = not_many (archive_named task) h.1 h.3 many.1
+
+  -- one answer is due to their bytes
+  one_over : (task : Task) (s t : Status) (x y : List ℕ) → IsDueOver task (Some of) s x → IsDueOver task (Some of) t y → (s ≡ t) × (x ≡ y)
+  one_over task s t x y h k =
+      let file = one_file (file_named task) k.0 h.0 k.2 h.2 in
+      let archive = one_file (archive_named task) k.1 h.1 k.3 h.3 in
+      let there = subst (λ f. IsDueOn task (unwrap_or f []) h.1 t y) file (subst (λ a. IsDueOn task (unwrap_or k.0 []) a t y) archive k.4) in
+      one_due_answer task (unwrap_or h.0 []) h.1 s t x y h.4 there
+
+  -- and one in all
+  one_way : (task : Task) (s t : Status) (x y : List ℕ) → WayOf task s x → WayOf task t y → (s ≡ t) × (x ≡ y)
+  one_way task s t x y (Large e l f) (Large e' l' f') = (e ∙ sym e', f ∙ sym f')
+  one_way task s t x y (Large e l f) (Over h) = absurd (not_large task t y h l)
+  one_way task s t x y (Over h) (Large e l f) = absurd (not_large task s x h l)
+  one_way task s t x y (Over h) (Over k) = one_over task s t x y h k
+
+-- to words that ask for no task one answer is due, and so to a task
+pub one_answer : OneAnswer
+one_answer None of s t x y h k = (h.0 ∙ sym k.0, h.1 ∙ sym k.1)
+one_answer (Some task) of s t x y h k = one_way of task s t x y (way_of of task s x h) (way_of of task t y k)
