@@ -292,6 +292,7 @@ def cubic(a: float) -> tuple:
 
 
 Q, H, E, T = 1 / 4, 1 / 2, 1 / 8, 1 / 3
+R = 2 ** 0.5
 HEXAGONAL = (1, 1, 1, 90, 90, 120)
 BY_SITES = {
     "bor, boracite": Sites("P -4 3 m", cubic(1), {"a": (T / 2, T / 2, T / 2), "b": (H, 0, 0)}, {"ab": 3, "ba": 4}),
@@ -322,6 +323,10 @@ BY_SITES = {
     "lcs, sites S* of Ia-3d": Sites("I a -3 d", cubic(1), {"a": (3 * E, 0, Q)}, {"aa": 4}),
     "lcy, sites +Y of P4332": Sites("P 43 3 2", cubic(1), {"a": (E, E, E)}, {"aa": 6}),
     "thp, thorium in Th3P4": Sites("I -4 3 d", cubic(1), {"a": (3 * E, 0, Q)}, {"aa": 8}),
+    "cantellated cubic honeycomb": Sites("P m -3 m", cubic(1 + R), {"a": (H / (1 + R), H / (1 + R), H)}, {"aa": 6}),
+    "runcitruncated cubic honeycomb": Sites("P m -3 m", cubic(2 + R), {"a": (R / 4, R / 4, H / (2 + R))}, {"aa": 5}),
+    "cantic cubic honeycomb": Sites("F m -3 m", cubic(3 * R), {"a": (0, T / 2, T / 2)}, {"aa": 5}),
+    "runcic cubic honeycomb": Sites("F m -3 m", cubic(2 + R), {"a": (R / 4, R / 4, R / 4)}, {"aa": 6}),
     "bsn, beta tin": Sites("I 41/a m d:1", (5.831, 5.831, 3.182, 90, 90, 90), {"a": (0, 0, 0)}, {"aa": 6}),
     "perovskite, all atoms": Sites("P m -3 m", cubic(1), {"a": (0, 0, 0), "b": (H, H, H), "o": (H, H, 0)},
                                    {"ao": 12, "bo": 6}),
@@ -373,7 +378,8 @@ def recipes() -> dict[str, Net]:
         other = {"pcu": "cab, boron in CaB6, pcu-a", "bcu": "pcb, polycubane, bcu-a"}
         nets[other.get(symbol, f"{symbol}-a, augmented {symbol}")] = augmented(known[symbol])
     for symbol in ("lon", "qtz", "sod", "ths", "pts", "pto", "tbo", "ctn"):
-        nets[f"{symbol}-e, edges of {symbol}"] = of_edges(known[symbol])
+        other = {"tbo": "tbo-e, runcicantic cubic honeycomb"}
+        nets[other.get(symbol, f"{symbol}-e, edges of {symbol}")] = of_edges(known[symbol])
     return nets | by_sites
 
 
