@@ -1,5 +1,6 @@
 """Pictures: angles and lengths that are known, symmetries, and the files that are written."""
 
+import glob
 import json
 import os
 import random
@@ -8,10 +9,12 @@ import signal
 import subprocess
 import sys
 import xml.etree.ElementTree as ElementTree
+from pathlib import Path
 from shutil import which
 
 from odd_cells import block, edges_of_archive, in_odd_cell
-from testing import PROGRAM, TOOLS, TOP, FolderTest, need_commands, need_modules, need_program, run
+from testing import (PROGRAM, TOOLS, TOP, FolderTest, long_test, need_commands, need_modules, need_program,
+                     run)
 
 need_modules("numpy")
 sys.path[:0] = [str(TOOLS / "pictures"), str(TOOLS / "batch")]
@@ -91,6 +94,18 @@ class Geometry(FolderTest):
         file.write_text("".join(block(code, nets[code]) for code in wanted))
         found = {net.name.decode(): Shape(placed_net(net)).kinds for net in reports_on(file)}
         self.assertEqual(found, wanted)
+
+    @long_test
+    def test_all_zeolites_have_as_many_kinds_as_their_files_have_sites(self):
+        """But for RON: in it a T atom with two neighbours is an edge."""
+        folders = glob.glob("/usr/share/avogadro*/crystals/zeolites")
+        if not folders:
+            self.skipTest("libavogadro-data is not there")
+        for net in reports_on(TOP / "archives/zeolites.cgd"):
+            code = net.name.decode()
+            file = Path(folders[0]) / (f"{code}t.cif" if code == "CON" else f"{code}.cif")
+            sites = re.findall(r"(?m)^\s*T\d+\s+[A-Z][a-z]?\s", file.read_text(errors="replace"))
+            self.assertEqual(Shape(placed_net(net)).kinds, len(sites) - (code == "RON"), code)
 
     def test_the_shape_does_not_depend_on_the_cell(self):
         chance = random.Random(3)
