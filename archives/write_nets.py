@@ -1,5 +1,5 @@
 #!/usr/bin/python3
-"""Writes those nets of common.cgd that have a recipe: duals, strips, prisms, stackings of close
+"""Writes those nets of common.cgd that have a recipe: duals, tilings, prisms, stackings of close
 packed layers, augmented nets, nets of edges, and nets of sites that a space group and their
 distances fix.
 
@@ -99,7 +99,7 @@ def nets_by_hand() -> dict[str, Net]:
     return nets
 
 
-# Duals, strips and prisms of layers
+# Duals, tilings and prisms of layers
 
 def dual(net: Net) -> Net:
     """A vertex for each tile of a tiling of the plane, and an edge across each of its edges."""
@@ -137,6 +137,32 @@ def strips(word: str) -> Net:
         if letter == "T":
             net.join(k, above, (1, up))
     return net
+
+
+def with_hexagons(rows: tuple, holes: tuple) -> Net:
+    """The triangular lattice without some of its points, each of which leaves a hexagon. The cell
+    has the rows (a, b) and (0, d), in a basis with an angle of 120 degrees."""
+    (a, b), (_, d) = rows
+    points = [point for point in product(range(a), range(d)) if point not in holes]
+    number = {point: k for k, point in enumerate(points)}
+    net = Net(len(points))
+    for x, y in points:
+        for dx, dy in ((1, 0), (0, 1), (1, 1)):
+            across = (x + dx) // a
+            up, rest = divmod(y + dy - across * b, d)
+            end = ((x + dx) % a, rest)
+            if end in number:
+                net.join(number[x, y], number[end], (across, up))
+    return net
+
+
+WITH_HEXAGONS = {
+    "tiling [3.6.3.6; 3^2.6^2]": (((1, 2), (0, 4)), ((0, 0),)),
+    "tiling [3^4.6; 3^2.6^2]": (((1, 2), (0, 5)), ((0, 0),)),
+    "tiling [3^6; 3^2.6^2]": (((3, 0), (0, 3)), ((0, 0), (1, 2))),
+    "tiling [3^6; 3^4.6], a hexagon for 8 points": (((3, 0), (0, 3)), ((0, 0),)),
+    "tiling [3^6; 3^4.6], a hexagon for 12 points": (((1, 4), (0, 13)), ((0, 0),)),
+}
 
 
 def prisms(layer: Net) -> Net:
@@ -260,19 +286,23 @@ def net_of_sites(sites: Sites) -> Net:
     orbits = {kind: _orbit(site, operations, edges) for kind, site in sites.places.items()}
     kinds = np.array([kind for kind, orbit in orbits.items() for _ in orbit])
     places = np.vstack(list(orbits.values()))
-    shifts = np.array(list(product(range(-2, 3), repeat=3)))
     net = Net(len(places))
     for (one, other), wanted in sites.neighbours.items():
         ends = np.flatnonzero(kinds == other)
         for u in np.flatnonzero(kinds == one):
-            steps = (places[ends, None, :] + shifts - places[u]) @ edges
-            lengths = np.linalg.norm(steps, axis=2).ravel()
-            lengths[lengths < 1e-6] = np.inf  # the atom itself
-            nearest = np.argsort(lengths, kind="stable")[:wanted + 1]
-            assert lengths[nearest[-2]] < lengths[nearest[-1]] - 0.02, sites
-            for at in nearest[:-1]:
-                net.join(int(u), int(ends[at // len(shifts)]), shifts[at % len(shifts)])
+            for v, shift in _nearest(places[u], places[ends], edges, wanted):
+                net.join(int(u), int(ends[v]), shift)
     return net
+
+
+def _nearest(place: np.ndarray, ends: np.ndarray, edges: np.ndarray, wanted: int) -> list[tuple]:
+    """So many nearest images of the ends, by their numbers and cells; the next one is farther."""
+    shifts = np.array(list(product(range(-2, 3), repeat=3)))
+    lengths = np.linalg.norm((ends[:, None, :] + shifts - place) @ edges, axis=2).ravel()
+    lengths[lengths < 1e-6] = np.inf  # the place itself
+    nearest = np.argsort(lengths, kind="stable")[:wanted + 1]
+    assert lengths[nearest[-2]] < lengths[nearest[-1]] - 0.02, "no gap after these neighbours"
+    return [(at // len(shifts), shifts[at % len(shifts)]) for at in nearest[:-1]]
 
 
 def _orbit(site: tuple, operations: gemmi.GroupOps, edges: np.ndarray) -> np.ndarray:
@@ -368,6 +398,8 @@ def recipes() -> dict[str, Net]:
         nets[f"{symbol}-d, tiles of {uniform[symbol]}"] = dual(known[symbol])
     for word in ("STT", "STTT", "SST", "SSST"):
         nets[f"rows of squares and triangles, {word}"] = strips(word)
+    for name, (rows, holes) in WITH_HEXAGONS.items():
+        nets[name] = with_hexagons(rows, holes)
     for symbol in ("kgm", "fes", "hca", "fxt", "htb", "cem", "tts", "fsz", "kgd", "mcm"):
         nets["kag, prisms of kagome" if symbol == "kgm" else f"prisms of {symbol}"] = prisms(known[symbol])
     for word in ("ABAC", "ABCAB", "ABCACB", "ABABAC", "ABCBCACAB"):

@@ -56,7 +56,8 @@ class Geometry(FolderTest):
     @classmethod
     def setUpClass(cls):
         need_program()
-        cls.reports = {net.name.decode().split(",")[0]: net for net in reports_on(COMMON)}
+        cls.all_reports = reports_on(COMMON)
+        cls.reports = {net.name.decode().split(",")[0]: net for net in cls.all_reports}
 
     def angles(self, symbol):
         shape = Shape(placed_net(self.reports[symbol]))
@@ -85,6 +86,15 @@ class Geometry(FolderTest):
                   "ant": ("tetragonal", 16, 2), "brookite": ("orthorhombic", 8, 3)}
         shapes = {symbol: Shape(placed_net(self.reports[symbol])) for symbol in wanted}
         self.assertEqual({s: (shape.system, shape.order, shape.kinds) for s, shape in shapes.items()}, wanted)
+
+    def test_tilings_and_space_fillings_have_as_many_kinds_as_their_names_tell(self):
+        wanted = {r"tiling \[": 2, r"rows of squares and triangles, (STT|STTT|SST|SSST)$": 2, r".* honeycomb$": 1,
+                  r"prisms of (fes|hca|fxt|htb|cem|tts|fsz)$": 1, r"prisms of (kgd|mcm)$": 2, r"\w+-e, edges of qtz": 1}
+        for pattern, kinds in wanted.items():
+            nets = [net for net in self.all_reports if re.match(pattern, net.name.decode())]
+            self.assertGreater(len(nets), 0, pattern)
+            for net in nets:
+                self.assertEqual(Shape(placed_net(net)).kinds, kinds, net.name)
 
     def test_zeolites_have_as_many_kinds_as_they_are_known_for(self):
         wanted = {"SOD": 1, "LTA": 1, "FAU": 1, "CHA": 1, "RHO": 1, "GME": 1, "CAN": 1, "LTL": 2, "MOR": 4, "FER": 4,
