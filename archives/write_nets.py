@@ -13,7 +13,6 @@ from __future__ import annotations
 
 import re
 import sys
-from collections import defaultdict
 from dataclasses import dataclass, field
 from itertools import combinations, product
 from pathlib import Path
