@@ -1,5 +1,5 @@
 #!/usr/bin/python3
-"""Writes those nets of common.cgd that have a recipe: duals, strips, prisms, stackings of close
+"""Writes those nets of common.cgd that have a recipe: duals, tilings, prisms, stackings of close
 packed layers, augmented nets, nets of edges, and nets of sites that a space group and their
 distances fix.
 
@@ -13,7 +13,6 @@ from __future__ import annotations
 
 import re
 import sys
-from collections import defaultdict
 from dataclasses import dataclass, field
 from itertools import combinations, product
 from pathlib import Path
@@ -99,7 +98,7 @@ def nets_by_hand() -> dict[str, Net]:
     return nets
 
 
-# Duals, strips and prisms of layers
+# Duals, tilings and prisms of layers
 
 def dual(net: Net) -> Net:
     """A vertex for each tile of a tiling of the plane, and an edge across each of its edges."""
@@ -137,6 +136,32 @@ def strips(word: str) -> Net:
         if letter == "T":
             net.join(k, above, (1, up))
     return net
+
+
+def with_hexagons(rows: tuple, holes: tuple) -> Net:
+    """The triangular lattice without some of its points, each of which leaves a hexagon. The cell
+    has the rows (a, b) and (0, d), in a basis with an angle of 120 degrees."""
+    (a, b), (_, d) = rows
+    points = [point for point in product(range(a), range(d)) if point not in holes]
+    number = {point: k for k, point in enumerate(points)}
+    net = Net(len(points))
+    for x, y in points:
+        for dx, dy in ((1, 0), (0, 1), (1, 1)):
+            across = (x + dx) // a
+            up, rest = divmod(y + dy - across * b, d)
+            end = ((x + dx) % a, rest)
+            if end in number:
+                net.join(number[x, y], number[end], (across, up))
+    return net
+
+
+WITH_HEXAGONS = {
+    "tiling [3.6.3.6; 3^2.6^2]": (((1, 2), (0, 4)), ((0, 0),)),
+    "tiling [3^4.6; 3^2.6^2]": (((1, 2), (0, 5)), ((0, 0),)),
+    "tiling [3^6; 3^2.6^2]": (((3, 0), (0, 3)), ((0, 0), (1, 2))),
+    "tiling [3^6; 3^4.6], a hexagon for 8 points": (((3, 0), (0, 3)), ((0, 0),)),
+    "tiling [3^6; 3^4.6], a hexagon for 12 points": (((1, 4), (0, 13)), ((0, 0),)),
+}
 
 
 def prisms(layer: Net) -> Net:
@@ -260,19 +285,23 @@ def net_of_sites(sites: Sites) -> Net:
     orbits = {kind: _orbit(site, operations, edges) for kind, site in sites.places.items()}
     kinds = np.array([kind for kind, orbit in orbits.items() for _ in orbit])
     places = np.vstack(list(orbits.values()))
-    shifts = np.array(list(product(range(-2, 3), repeat=3)))
     net = Net(len(places))
     for (one, other), wanted in sites.neighbours.items():
         ends = np.flatnonzero(kinds == other)
         for u in np.flatnonzero(kinds == one):
-            steps = (places[ends, None, :] + shifts - places[u]) @ edges
-            lengths = np.linalg.norm(steps, axis=2).ravel()
-            lengths[lengths < 1e-6] = np.inf  # the atom itself
-            nearest = np.argsort(lengths, kind="stable")[:wanted + 1]
-            assert lengths[nearest[-2]] < lengths[nearest[-1]] - 0.02, sites
-            for at in nearest[:-1]:
-                net.join(int(u), int(ends[at // len(shifts)]), shifts[at % len(shifts)])
+            for v, shift in _nearest(places[u], places[ends], edges, wanted):
+                net.join(int(u), int(ends[v]), shift)
     return net
+
+
+def _nearest(place: np.ndarray, ends: np.ndarray, edges: np.ndarray, wanted: int) -> list[tuple]:
+    """So many nearest images of the ends, by their numbers and cells; the next one is farther."""
+    shifts = np.array(list(product(range(-2, 3), repeat=3)))
+    lengths = np.linalg.norm((ends[:, None, :] + shifts - place) @ edges, axis=2).ravel()
+    lengths[lengths < 1e-6] = np.inf  # the place itself
+    nearest = np.argsort(lengths, kind="stable")[:wanted + 1]
+    assert lengths[nearest[-2]] < lengths[nearest[-1]] - 0.02, "no gap after these neighbours"
+    return [(at // len(shifts), shifts[at % len(shifts)]) for at in nearest[:-1]]
 
 
 def _orbit(site: tuple, operations: gemmi.GroupOps, edges: np.ndarray) -> np.ndarray:
@@ -292,6 +321,7 @@ def cubic(a: float) -> tuple:
 
 
 Q, H, E, T = 1 / 4, 1 / 2, 1 / 8, 1 / 3
+R = 2 ** 0.5
 HEXAGONAL = (1, 1, 1, 90, 90, 120)
 BY_SITES = {
     "bor, boracite": Sites("P -4 3 m", cubic(1), {"a": (T / 2, T / 2, T / 2), "b": (H, 0, 0)}, {"ab": 3, "ba": 4}),
@@ -322,6 +352,10 @@ BY_SITES = {
     "lcs, sites S* of Ia-3d": Sites("I a -3 d", cubic(1), {"a": (3 * E, 0, Q)}, {"aa": 4}),
     "lcy, sites +Y of P4332": Sites("P 43 3 2", cubic(1), {"a": (E, E, E)}, {"aa": 6}),
     "thp, thorium in Th3P4": Sites("I -4 3 d", cubic(1), {"a": (3 * E, 0, Q)}, {"aa": 8}),
+    "cantellated cubic honeycomb": Sites("P m -3 m", cubic(1 + R), {"a": (H / (1 + R), H / (1 + R), H)}, {"aa": 6}),
+    "runcitruncated cubic honeycomb": Sites("P m -3 m", cubic(2 + R), {"a": (R / 4, R / 4, H / (2 + R))}, {"aa": 5}),
+    "cantic cubic honeycomb": Sites("F m -3 m", cubic(3 * R), {"a": (0, T / 2, T / 2)}, {"aa": 5}),
+    "runcic cubic honeycomb": Sites("F m -3 m", cubic(2 + R), {"a": (R / 4, R / 4, R / 4)}, {"aa": 6}),
     "bsn, beta tin": Sites("I 41/a m d:1", (5.831, 5.831, 3.182, 90, 90, 90), {"a": (0, 0, 0)}, {"aa": 6}),
     "perovskite, all atoms": Sites("P m -3 m", cubic(1), {"a": (0, 0, 0), "b": (H, H, H), "o": (H, H, 0)},
                                    {"ao": 12, "bo": 6}),
@@ -363,6 +397,8 @@ def recipes() -> dict[str, Net]:
         nets[f"{symbol}-d, tiles of {uniform[symbol]}"] = dual(known[symbol])
     for word in ("STT", "STTT", "SST", "SSST"):
         nets[f"rows of squares and triangles, {word}"] = strips(word)
+    for name, (rows, holes) in WITH_HEXAGONS.items():
+        nets[name] = with_hexagons(rows, holes)
     for symbol in ("kgm", "fes", "hca", "fxt", "htb", "cem", "tts", "fsz", "kgd", "mcm"):
         nets["kag, prisms of kagome" if symbol == "kgm" else f"prisms of {symbol}"] = prisms(known[symbol])
     for word in ("ABAC", "ABCAB", "ABCACB", "ABABAC", "ABCBCACAB"):
@@ -373,7 +409,8 @@ def recipes() -> dict[str, Net]:
         other = {"pcu": "cab, boron in CaB6, pcu-a", "bcu": "pcb, polycubane, bcu-a"}
         nets[other.get(symbol, f"{symbol}-a, augmented {symbol}")] = augmented(known[symbol])
     for symbol in ("lon", "qtz", "sod", "ths", "pts", "pto", "tbo", "ctn"):
-        nets[f"{symbol}-e, edges of {symbol}"] = of_edges(known[symbol])
+        other = {"tbo": "tbo-e, runcicantic cubic honeycomb"}
+        nets[other.get(symbol, f"{symbol}-e, edges of {symbol}")] = of_edges(known[symbol])
     return nets | by_sites
 
 

@@ -83,17 +83,40 @@ class Recipes(FolderTest):
         for name in ("common.archive", "zeolites.archive", "zeolites.refused"):
             self.assertEqual((self.folder / "archives" / name).read_bytes(), (ARCHIVES / name).read_bytes(), name)
 
-    def test_edges_of_nets_that_are_known(self):
-        need_program()
+    def write_nets(self):
         need_modules("numpy", "gemmi")
         sys.path.insert(0, str(ARCHIVES))
-        from write_nets import nets_by_hand, of_edges, text_of
+        import write_nets
+        return write_nets
+
+    def symbols_of(self, nets):
+        """The symbols that nets have in the archive, by their names."""
+        need_program()
+        text = "".join(self.write_nets().text_of(name, net) for name, net in nets.items())
+        report = run(PROGRAM, "identify", "-", "--archive", ARCHIVES / "common.archive", stdin=text.encode()).stdout
+        return {net.name.decode(): net.names[0].decode().split(",")[0]
+                for net in nets_of_report(report.splitlines(keepends=True))}
+
+    def test_edges_of_nets_that_are_known(self):
         wanted = {"dia": "crs", "srs": "lcv", "pcu": "reo", "hcb": "kgm", "nbo": "sod"}
-        nets = "".join(text_of(symbol, of_edges(nets_by_hand()[symbol])) for symbol in wanted)
-        report = run(PROGRAM, "identify", "-", "--archive", ARCHIVES / "common.archive", stdin=nets.encode()).stdout
-        found = {net.name.decode(): net.names[0].decode().split(",")[0]
-                 for net in nets_of_report(report.splitlines(keepends=True))}
-        self.assertEqual(found, wanted)
+        recipes = self.write_nets()
+        known = recipes.nets_by_hand()
+        self.assertEqual(self.symbols_of({symbol: recipes.of_edges(known[symbol]) for symbol in wanted}), wanted)
+
+    def test_space_fillings_that_have_other_names(self):
+        wanted = {"truncated": "cab", "bitruncated": "sod", "cantitruncated": "LTA", "omnitruncated": "RHO",
+                  "runcicantic": "tbo-e"}
+        recipes, r = self.write_nets(), 2 ** 0.5
+        corner = (0.5, (1 + r) / 2, (1 + 2 * r) / 2)  # of a truncated cuboctahedron with edges of length 1
+        fillings = {"truncated": ("P m -3 m", 1 + r, (0.5, (1 + r) / 2, (1 + r) / 2), 5),
+                    "bitruncated": ("I m -3 m", 2 * r, (0, r / 2, r), 4),
+                    "cantitruncated": ("P m -3 m", 1 + 2 * r, corner, 4),
+                    "omnitruncated": ("P m -3 m", 2 + 2 * r, corner, 4),
+                    "runcicantic": ("F m -3 m", 2 + 3 * r, corner, 4)}
+        nets = {name: recipes.net_of_sites(recipes.Sites(group, recipes.cubic(a), {"a": tuple(x / a for x in place)},
+                                                         {"aa": count}))
+                for name, (group, a, place, count) in fillings.items()}
+        self.assertEqual(self.symbols_of(nets), wanted)
 
     def test_recipes_give_the_nets_of_the_source(self):
         need_modules("numpy", "gemmi")

@@ -169,6 +169,8 @@ class Many(FolderTest):
 
     def test_keyed_by_gnu_parallel(self):
         need_commands("parallel")
+        if b"GNU parallel" not in run("parallel", "--version", status=None).stdout:
+            self.skipTest("parallel is not GNU parallel")
         self.parallel()
         accepted = self.check_rows()
         one_run = b""

@@ -89,20 +89,27 @@ def check_cell(cell: gemmi.UnitCell) -> None:
 
 
 def _read_sites(structure: gemmi.SmallStructure, formula: dict[str, float]) -> tuple[list[Site], list[str]]:
-    """The sites that have a place and are occupied, and a note on the others."""
-    sites, others = [], []
+    """The sites that have a place and are occupied, and notes on the others. Where the file has
+    alternatives, groups of disorder from 1 on, the first is taken, as if it were full."""
+    sites, others, alternatives = [], [], []
+    has_alternatives = any(listed.disorder_group > 1 for listed in structure.sites)
     for listed in structure.sites:
         place = np.array([listed.fract.x, listed.fract.y, listed.fract.z])
         if np.any(np.abs(place) > FARTHEST):
             raise Unreadable(f"the coordinates of {listed.label} are no fractions of the cell")
-        if not np.all(np.isfinite(place)) or listed.occ <= 0:
+        if listed.disorder_group > 1:
+            alternatives.append(listed.label)
+        elif not np.all(np.isfinite(place)) or listed.occ <= 0:
             others.append(listed.label)
-            continue
-        occupancy = listed.occ if math.isfinite(listed.occ) else 1.0
-        sites.append(Site(listed.label, element_of(listed.type_symbol, listed.label, formula), place, occupancy))
+        else:
+            is_full = not math.isfinite(listed.occ) or (has_alternatives and listed.disorder_group == 1)
+            element = element_of(listed.type_symbol, listed.label, formula)
+            sites.append(Site(listed.label, element, place, 1.0 if is_full else listed.occ))
     if not sites:
         raise Unreadable("no atoms")
-    return sites, ["left out, without a place or not occupied: " + shorten(" ".join(others))] if others else []
+    told = {"left out, without a place or not occupied: ": others,
+            "disorder: the first group is taken, and left out are ": alternatives}
+    return sites, [what + shorten(" ".join(labels)) for what, labels in told.items() if labels]
 
 
 def _expand(name: str, sites: list[Site], symmetry: Symmetry, cell: gemmi.UnitCell,

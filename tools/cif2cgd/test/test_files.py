@@ -98,6 +98,18 @@ class Words(FolderTest):
         self.file.write_text(CAESIUM_CHLORIDE.replace("0.5 0.5 0.5", "0.2 0 0"))
         self.assertIn(b"angstrom apart (--accept-misfit", run(COMMAND, self.file, status=1).stderr)
 
+    def test_of_a_disordered_atom_the_first_group_is_taken(self):
+        text = (TOP / "examples/quartz.cif").read_text()
+        text = text.replace("fract_z\n", "fract_z\n_atom_site_occupancy\n_atom_site_disorder_group\n")
+        text = text.replace("0.66667", "0.66667 1 .").replace("O1 O 0.4133 0.2672 0.7855",
+                                                             "O1A O 0.4133 0.2672 0.7855 0.6 1\n"
+                                                             "O1B O 0.4133 0.3500 0.8500 0.4 2")
+        self.file.write_text(text)
+        done = run(COMMAND, self.file)
+        self.assertIn(b"disorder: the first group is taken, and left out are O1B\n", done.stderr)
+        whole = run(COMMAND, TOP / "examples/quartz.cif").stdout
+        self.assertEqual(done.stdout.split(b"EDGES")[1], whole.split(b"EDGES")[1])
+
     def test_an_origin_that_is_not_told_is_the_one_with_fewer_atoms(self):
         for structure in STRUCTURES:
             if structure.group.endswith(":2"):

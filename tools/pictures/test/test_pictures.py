@@ -1,5 +1,6 @@
 """Pictures: angles and lengths that are known, symmetries, and the files that are written."""
 
+import glob
 import json
 import os
 import random
@@ -8,10 +9,12 @@ import signal
 import subprocess
 import sys
 import xml.etree.ElementTree as ElementTree
+from pathlib import Path
 from shutil import which
 
 from odd_cells import block, edges_of_archive, in_odd_cell
-from testing import PROGRAM, TOOLS, TOP, FolderTest, need_commands, need_modules, need_program, run
+from testing import (PROGRAM, TOOLS, TOP, FolderTest, long_test, need_commands, need_modules, need_program,
+                     run)
 
 need_modules("numpy")
 sys.path[:0] = [str(TOOLS / "pictures"), str(TOOLS / "batch")]
@@ -53,7 +56,8 @@ class Geometry(FolderTest):
     @classmethod
     def setUpClass(cls):
         need_program()
-        cls.reports = {net.name.decode().split(",")[0]: net for net in reports_on(COMMON)}
+        cls.all_reports = reports_on(COMMON)
+        cls.reports = {net.name.decode().split(",")[0]: net for net in cls.all_reports}
 
     def angles(self, symbol):
         shape = Shape(placed_net(self.reports[symbol]))
@@ -83,6 +87,15 @@ class Geometry(FolderTest):
         shapes = {symbol: Shape(placed_net(self.reports[symbol])) for symbol in wanted}
         self.assertEqual({s: (shape.system, shape.order, shape.kinds) for s, shape in shapes.items()}, wanted)
 
+    def test_tilings_and_space_fillings_have_as_many_kinds_as_their_names_tell(self):
+        wanted = {r"tiling \[": 2, r"rows of squares and triangles, (STT|STTT|SST|SSST)$": 2, r".* honeycomb$": 1,
+                  r"prisms of (fes|hca|fxt|htb|cem|tts|fsz)$": 1, r"prisms of (kgd|mcm)$": 2, r"\w+-e, edges of qtz": 1}
+        for pattern, kinds in wanted.items():
+            nets = [net for net in self.all_reports if re.match(pattern, net.name.decode())]
+            self.assertGreater(len(nets), 0, pattern)
+            for net in nets:
+                self.assertEqual(Shape(placed_net(net)).kinds, kinds, net.name)
+
     def test_zeolites_have_as_many_kinds_as_they_are_known_for(self):
         wanted = {"SOD": 1, "LTA": 1, "FAU": 1, "CHA": 1, "RHO": 1, "GME": 1, "CAN": 1, "LTL": 2, "MOR": 4, "FER": 4,
                   "HEU": 5, "MTT": 7, "MEL": 7, "MFI": 12}
@@ -91,6 +104,18 @@ class Geometry(FolderTest):
         file.write_text("".join(block(code, nets[code]) for code in wanted))
         found = {net.name.decode(): Shape(placed_net(net)).kinds for net in reports_on(file)}
         self.assertEqual(found, wanted)
+
+    @long_test
+    def test_all_zeolites_have_as_many_kinds_as_their_files_have_sites(self):
+        """But for RON: in it a T atom with two neighbours is an edge."""
+        folders = glob.glob("/usr/share/avogadro*/crystals/zeolites")
+        if not folders:
+            self.skipTest("libavogadro-data is not there")
+        for net in reports_on(TOP / "archives/zeolites.cgd"):
+            code = net.name.decode()
+            file = Path(folders[0]) / (f"{code}t.cif" if code == "CON" else f"{code}.cif")
+            sites = re.findall(r"(?m)^\s*T\d+\s+[A-Z][a-z]?\s", file.read_text(errors="replace"))
+            self.assertEqual(Shape(placed_net(net)).kinds, len(sites) - (code == "RON"), code)
 
     def test_the_shape_does_not_depend_on_the_cell(self):
         chance = random.Random(3)
