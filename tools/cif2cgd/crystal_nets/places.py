@@ -91,6 +91,6 @@ def name_apart(crystal: Crystal) -> None:
         name = label
         while name in seen or (name != label and name in taken):
             seen[label] += 1
-            name = f"{label}.{seen[label]}"
+            name = f"{label}_{seen[label]}"
         seen[name] = 1
         atom.name = name
