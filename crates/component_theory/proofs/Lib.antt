@@ -1,0 +1,17 @@
+pub mod CallerLemmas
+pub mod Classes
+pub mod Copies
+pub mod CoprimeLines
+pub mod CopyCount
+pub mod EdgeOrder
+pub mod LowRank
+pub mod OneNormal
+pub mod OneStair
+pub mod PartArcs
+pub mod PartConnected
+pub mod PartGraph
+pub mod PartMap
+pub mod PartNet
+pub mod StairSums
+pub mod Theorems
+pub mod WrittenEdges
