@@ -1,0 +1,67 @@
+// What is found of one item.
+ghost use Rattle.std.specs.Prelude.{◌≡◌, ◌++◌, ◌∷◌, [], true, IfOk, OnOk};
+ghost use Rattle.quotient_graph.specs.AnyGraphs.{graph_in};
+ghost use Rattle.line_text.specs.Lines.{rows_text};
+ghost use Rattle.map_text.specs.Results.{verdict_row};
+ghost use Rattle.map_check.specs.Conditions.{SuitsGraphs};
+ghost use Rattle.map_text.specs.Items.{IsFormedItem, item_view};
+ghost use Rattle.map_answers.specs.Results.{HasMapResult, HasResult};
+
+use map_check::{MapFault, PeriodicMap, Verdict, verify};
+use map_text::{Item, push_unproved, push_verdict, size_of};
+use quotient_graph::AnyGraph;
+use std::alloc::{AllocError, Global};
+
+// Puts the line of graph k last, the map to which has a fault.
+fn push_no(text: &mut Vec<u8>, k: u32, dim: u8, fault: MapFault) -> Result<bool, AllocError>
+    ensures line { OnOk result (text.new.items ≡
+        text.old.items ++ rows_text (verdict_row k dim (Verdict.No fault) ∷ [])) }
+    ensures refused { IfOk result (λ refused. refused ≡ true) }
+{
+    push_verdict(text, k, dim, &Verdict::No(fault))?;
+    Ok(true)
+}
+
+// Puts the line of graph k last, to which there is a map, and tells whether the map is refused.
+fn push_map_result(
+    alloc: Global,
+    text: &mut Vec<u8>,
+    k: u32,
+    first: &AnyGraph,
+    second: &AnyGraph,
+    map: &PeriodicMap,
+) -> Result<bool, AllocError>
+    requires { SuitsGraphs (graph_in first.now) (graph_in second.now) map.now.m map.now.images
+        map.now.base }
+    ensures { IfOk result (HasMapResult (graph_in first.now) (graph_in second.now) map.now k
+        text.old.items text.new.items) }
+{
+    match verify(alloc, first, second, map)? {
+        Verdict::Yes => {
+            push_verdict(text, k, size_of(first).dim, &Verdict::Yes)?;
+            Ok(false)
+        }
+        Verdict::No(fault) => push_no(text, k, size_of(first).dim, fault),
+    }
+}
+
+/// Puts the line of graph k last, and tells whether there is a map to it that is refused.
+pub fn push_result(
+    alloc: Global,
+    text: &mut Vec<u8>,
+    k: u32,
+    first: &AnyGraph,
+    item: &Item,
+) -> Result<bool, AllocError>
+    requires { IsFormedItem (graph_in first.now) (item_view item.now) }
+    ensures { IfOk result (HasResult (graph_in first.now) k (item_view item.now)
+        text.old.items text.new.items) }
+{
+    match item {
+        Item::Without(_) => {
+            push_unproved(text, k)?;
+            Ok(false)
+        }
+        Item::With(second, map) => push_map_result(alloc, text, k, first, second, map),
+    }
+}

@@ -1,0 +1,13 @@
+pub mod Rows
+pub mod Marking
+pub mod CopyNumbers
+pub mod Splits
+pub mod Suiting
+pub mod Drawing
+pub mod LostArcs
+pub mod PlacesBelow
+pub mod FirstFaults
+pub mod ToldFaults
+pub mod Verification
+pub mod ArcSearch
+pub mod ImageDimensions

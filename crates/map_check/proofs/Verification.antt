@@ -1,0 +1,111 @@
+-- The verdict is Yes exactly where the map is an isomorphism.
+use Rattle.std.proofs.Common.{◌≡◌, ℕ, zero, suc, ◌<◌, ◌≤◌, List, [], ◌∷◌, length, slice_index_or, ℤ, pos, ◌+ℤ◌, ◌*ℤ◌, refl, sym, ap, subst, ◌∙◌, arith}
+use Rattle.std.specs.Prelude.{◌↔◌, Result, Ok, Err, IfOk}
+use Rattle.std.specs.List.{All}
+use Rattle.std.proofs.Math.Decide.{dec_lt}
+use Prim.{Dec, yes, no}
+use Rattle.integers.specs.Vectors.{Vector, zero_vector, parts, HasDimension}
+use Rattle.integers.proofs.lists.ListOrder.{not_below_itself}
+use Rattle.integers.proofs.numbers.Ring.{ring, linear}
+use Rattle.periodic_net.specs.Graph.{Graph, IsGraph, Vertex, vertex}
+use Rattle.periodic_net.specs.Maps.{PeriodicMap, IsDrawnBy, IsMapTable, Iso}
+use Rattle.periodic_net.proofs.CallerLemmas.{drawn, drawn_by_table}
+use Rattle.map_theory.specs.Laws.{IsMapOf, IsIsomorphic, Passes}
+use Rattle.sublattice.specs.Sublattices.{base_of}
+use Rattle.map_theory.specs.Layouts.{place_of, table_for, ComesBefore}
+use Rattle.map_theory.proofs.CallerLemmas.{tables_give_iso}
+use Rattle.map_check.specs.Conditions.{IsShift, SuitsGraphs}
+use Rattle.map_check.specs.Faults.{IsVerdict, HasFault}
+use Rattle.map_check.specs.Verified.{IsTold, IsVerified}
+use Rattle.map_check.specs.declared.verdict.MapFault.{MapFault}
+use Rattle.map_check.specs.declared.verdict.MapFault.TheVariants.{Dimension, Count, Doubled, Degree}
+use Rattle.map_check.specs.declared.verdict.MapFault.TheVariants.{Arc as LostArc}
+use Rattle.map_check.specs.declared.verdict.Verdict.{Verdict}
+use Rattle.map_check.specs.declared.verdict.Verdict.TheVariants.{Yes, No}
+use Rattle.map_check.proofs.FirstFaults.{inside_list}
+
+-- a row of the list, or 0 past its end, is flat
+row_flat : (d : ℕ) (rows : List Vector) (i : ℕ) → All (IsShift d) rows → HasDimension d (slice_index_or rows i zero_vector)
+row_flat d rows i h e = by (dec_lt i (length rows))
+  where
+    past : (rows : List Vector) (i : ℕ) → length rows ≤ i → slice_index_or rows i zero_vector ≡ zero_vector
+    past [] i l = refl
+    past (v ∷ rows) zero l = absurd (omega (arith, l))
+    past (v ∷ rows) (suc i) l = past rows i (omega (arith, l))
+
+    by : Dec (i < length rows) → (slice_index_or rows i zero_vector).z ≡ pos 0
+    by (yes l) = (h i zero_vector l).dimension e
+    by (no n) = ap (λ (v : Vector). v.z) (past rows i (omega (arith, n)))
+
+-- a sum of multiples of 0
+flat_sum : (x y z a b c : ℤ) → a ≡ pos 0 → b ≡ pos 0 → c ≡ pos 0 → x *ℤ a +ℤ (y *ℤ b +ℤ z *ℤ c) ≡ pos 0
+flat_sum x y z a b c e f g =
+    let p = ap (λ (t : ℤ). x *ℤ t) e in
+    let q = ap (λ (t : ℤ). y *ℤ t) f in
+    let r = ap (λ (t : ℤ). z *ℤ t) g in
+    omega (arith, linear, simp ring at p, simp ring at q, simp ring at r)
+
+-- what suits two graphs is a table of a map between them
+pub suits_table : (G H : Graph) (m : ℕ) (images : List Vertex) (rows : List Vector) → IsGraph G → SuitsGraphs G H m images rows → IsMapTable G H (table_for G m images rows)
+suits_table G H m images rows g h = record {
+  positive = h.period_from;
+  into = λ u r q b.
+      let p = h.each_image (place_of G.dimension m (vertex u r)) (vertex 0 zero_vector) (inside_list G H m images rows g.dimension h (vertex u r) (record { over = q; box = b })) in
+      record { over = (p.from, p.to); cell = p.flat };
+  dimension = λ k d e.
+      flat_sum k.x k.y k.z (base_of rows).first.z (base_of rows).second.z (base_of rows).third.z (row_flat H.dimension rows 0 h.each_row e) (row_flat H.dimension rows 1 h.each_row e)
+      (row_flat H.dimension rows 2 h.each_row e);
+}
+
+-- a number for each verdict
+abbrev number_of : Verdict → ℕ
+number_of Yes = 1
+number_of (No fault) = 0
+
+module _ (G H : Graph) (M : PeriodicMap) (f : Vertex → Vertex) where
+  -- a map that passes has no fault
+  no_fault : (fault : MapFault) → (G.dimension ≡ H.dimension) → Passes G H M f → HasFault G H M f fault → ⊥
+  no_fault Dimension e p t = t e
+  no_fault (Count entries product) e p t = t.2 (t.0 ∙ p.counts ∙ sym t.1)
+  no_fault (Doubled u r) e p t =
+      let s = t.is in
+      let q = p.no_double u s.earlier.over r s.earlier.cell t.inside.over s.inside.over t.inside.box s.inside.box s.moved in
+      let same : vertex u r ≡ s.earlier = (λ i. vertex (q.0 i) (q.1 i)) in
+      not_below_itself (pos u ∷ parts 3 r) (subst (λ (w : Vertex). ComesBefore w (vertex u r)) (sym same) s.before)
+  no_fault (Degree u r) e p t = t.is (p.degrees u r t.inside.over t.inside.box)
+  no_fault (LostArc u r v s) e p t = t.arc.lost.lost (p.arcs u v r s t.vertex.inside.over t.vertex.inside.box t.arc.lost.is_arc)
+
+module _ (G H : Graph) (m : ℕ) (images : List Vertex) (rows : List Vector) (g : IsGraph G) (k : IsGraph H) (h : SuitsGraphs G H m images rows) where
+  -- the map of the table
+  map_of : (f : Vertex → Vertex) → (G.dimension ≡ H.dimension) → IsDrawnBy G (table_for G m images rows) f → IsMapOf G H (table_for G m images rows) f
+  map_of f e t = record { graph = g; other = k; same = e; table = suits_table G H m images rows g h; drawn = t }
+
+  -- Yes exactly where the map is an isomorphism
+  yes_exactly : (v : Verdict) (f : Vertex → Vertex) → IsDrawnBy G (table_for G m images rows) f → IsVerdict G H (table_for G m images rows) f v
+      → (v ≡ Yes) ↔ ((G.dimension ≡ H.dimension) × IsIsomorphic G H (table_for G m images rows) f)
+  yes_exactly Yes f t s = (λ e. (s.0, (tables_give_iso.exactly G H (table_for G m images rows) f (map_of f s.0 t)).0 s.1), λ p. refl)
+  yes_exactly (No fault) f t s = (
+    λ e. absurd (let n = ap number_of e in omega (arith, n)),
+    λ p. absurd (no_fault G H (table_for G m images rows) f fault p.0 ((tables_give_iso.exactly G H (table_for G m images rows) f (map_of f p.0 t)).1 p.1) s.1),
+  )
+
+  -- then the nets are isomorphic
+  yes_iso : (v : Verdict) (f : Vertex → Vertex) → IsDrawnBy G (table_for G m images rows) f → IsVerdict G H (table_for G m images rows) f v → v ≡ Yes → Iso G H
+  yes_iso Yes f t s e = (tables_give_iso.iso G H (table_for G m images rows) f (map_of f s.0 t) s.1).0
+  yes_iso (No fault) f t s e = absurd (let n = ap number_of e in omega (arith, n))
+
+  -- a true verdict
+  pub verified : (v : Verdict) → ((f : Vertex → Vertex) → IsDrawnBy G (table_for G m images rows) f → IsVerdict G H (table_for G m images rows) f v) → IsVerified G H m images rows v
+  verified v s = record {
+    told = s;
+    exactly = λ f t. yes_exactly v f t (s f t);
+    iso =
+        let f = drawn (table_for G m images rows) h.period_from in
+        let t = drawn_by_table G (table_for G m images rows) h.period_from in
+        yes_iso v f t (s f t);
+  }
+
+  -- a true verdict, if there is one
+  pub verified_result : {E : Type 0} (r : Result Verdict E) → IfOk r (IsTold G H m images rows) → IfOk r (IsVerified G H m images rows)
+  verified_result (Ok v) s = verified v s
+  verified_result (Err e) s = tt

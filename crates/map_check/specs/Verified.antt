@@ -1,0 +1,24 @@
+-- What the check of a map answers.
+use Rattle.std.specs.Prelude.{◌≡◌, ◌↔◌, ℕ, List}
+use Rattle.integers.specs.Vectors.{Vector}
+use Rattle.periodic_net.specs.Graph.{Graph, Vertex}
+use Rattle.periodic_net.specs.Maps.{IsDrawnBy, Iso}
+use Rattle.map_theory.specs.Laws.{IsIsomorphic}
+use Rattle.map_theory.specs.Layouts.{table_for}
+use Rattle.map_check.specs.Faults.{IsVerdict}
+use Rattle.map_check.specs.declared.verdict.Verdict.{Verdict}
+use Rattle.map_check.specs.declared.verdict.Verdict.TheVariants.{Yes}
+
+-- the verdict is true of the map that the table writes down
+abbrev pub IsTold : (G H : Graph) (m : ℕ) (images : List Vertex) (rows : List Vector) → Verdict → Type 0
+IsTold G H m images rows verdict =
+    (f : Vertex → Vertex) → IsDrawnBy G (table_for G m images rows) f
+    → IsVerdict G H (table_for G m images rows) f verdict
+
+-- the verdict is true of the map f that the table writes down: it tells the first fault, and it is Yes exactly where f is a
+-- periodic map, one to one and onto, that joins images exactly where the vertices are joined; then the nets are isomorphic
+pub record IsVerified (G H : Graph) (m : ℕ) (images : List Vertex) (rows : List Vector) (verdict : Verdict) : Type 0 where
+  pub told : IsTold G H m images rows verdict
+  pub exactly : (f : Vertex → Vertex) → IsDrawnBy G (table_for G m images rows) f
+      → (verdict ≡ Yes) ↔ ((G.dimension ≡ H.dimension) × IsIsomorphic G H (table_for G m images rows) f)
+  pub iso : verdict ≡ Yes → Iso G H

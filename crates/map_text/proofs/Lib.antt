@@ -1,0 +1,16 @@
+pub mod CallerLemmas
+pub mod RowForms
+pub mod PlainRows
+pub mod SameRows
+pub mod Forms
+pub mod Walks
+pub mod StageRows
+pub mod Meeting
+pub mod Places
+pub mod FormedWalks
+pub mod WholeTexts
+pub mod Pairs
+pub mod Following
+pub mod GraphReads
+pub mod Shorter
+pub mod Writing

@@ -1,0 +1,14 @@
+pub mod CallerLemmas
+pub mod Conversely
+pub mod CountOfBijection
+pub mod ImageNumbers
+pub mod IsoOfTable
+pub mod Joins
+pub mod JoinsConversely
+pub mod Layouts
+pub mod OneToOne
+pub mod Onto
+pub mod PlaceOrder
+pub mod Setting
+pub mod Theorems
+pub mod VertexNumbers
