@@ -1,0 +1,42 @@
+-- The first vertex of a class.
+use Rattle.std.proofs.Common.{◌≡◌, ◌≢◌, ℕ, ◌+◌, ◌≤◌, subst, arith}
+use Rattle.std.proofs.Math.Decide.{ℕ_discrete, dec_le}
+use Prim.{Dec, yes, no}
+use Rattle.periodic_net.specs.Correspondence.{IsClass}
+use Rattle.periodic_net.specs.Graph.{Graph, IsQuotientVertex}
+use Rattle.periodic_net.proofs.CallerLemmas.{member}
+use Rattle.key_theory.specs.Primitive.{IsLeastMember}
+use Rattle.quotient_graph.specs.NetClasses.{NetClasses, AreClasses, class_at}
+
+-- none of the first vertices is in class c
+abbrev pub NoneTo : NetClasses → ℕ → ℕ → Type 0
+NoneTo n c done = (v : ℕ) → 1 ≤ v → v ≤ done → class_at n.numbers v ≢ c
+
+-- one vertex more
+pub none_more : (n : NetClasses) (c done : ℕ) → NoneTo n c done → class_at n.numbers (done + 1) ≢ c → NoneTo n c (done + 1)
+none_more n c done h e v l m = by (ℕ_discrete v (done + 1))
+  where
+    by : Dec (v ≡ done + 1) → class_at n.numbers v ≢ c
+    by (yes s) = λ k. e (subst (λ (u : ℕ). class_at n.numbers u ≡ c) s k)
+    by (no s) = h v l (omega arith)
+
+-- the first vertex in the class is its least member
+pub first_member : (n : NetClasses) (G : Graph) (c done : ℕ) → n.graph ≡ G → NoneTo n c done → done + 1 ≤ G.vertices → class_at n.numbers (done + 1) ≡ c
+    → IsLeastMember G (class_at n.numbers) c (done + 1)
+first_member n G c done same h l e = record {
+  is_vertex = (omega arith, l);
+  member = e;
+  least = λ v i k. by v i k (dec_le (done + 1) v);
+}
+  where
+    by : (v : ℕ) → IsQuotientVertex G v → class_at n.numbers v ≡ c → Dec (done + 1 ≤ v) → done + 1 ≤ v
+    by v i k (yes m) = m
+    by v i k (no m) = absurd (h v i.0 (omega arith) k)
+
+-- some vertex is in the class
+pub some_vertex : (n : NetClasses) (G : Graph) (c done : ℕ) → AreClasses n → n.graph ≡ G → IsClass n.classes c → NoneTo n c done → G.vertices ≤ done → ⊥
+some_vertex n G c done a same i h l =
+    let m = member n.graph a.placement (class_at n.numbers) n.classes a.at.is_classes c i in
+    let v = subst (λ (g : Graph). IsQuotientVertex g m.0) same m.1 in
+    let high = v.1 in
+    h m.0 v.0 (omega (arith, high, l)) m.2
