@@ -1,0 +1,10 @@
+pub mod CallerLemmas
+pub mod Coefficients
+pub mod CoverArcs
+pub mod CoverIso
+pub mod CoverMade
+pub mod GivenEdges
+pub mod GivenLists
+pub mod NewShifts
+pub mod Numbers
+pub mod Places

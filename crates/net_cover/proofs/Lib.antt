@@ -1,0 +1,4 @@
+pub mod Coefficients
+pub mod Covered
+pub mod EdgeSteps
+pub mod LiftSteps
