@@ -20,3 +20,7 @@ pub mod SameLists
 pub mod ReadBack
 pub mod NamesFound
 pub mod IsoGroups
+mod LentRows
+mod RegroupedText
+mod IsoTogether
+mod EntryFaults

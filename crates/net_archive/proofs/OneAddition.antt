@@ -18,56 +18,29 @@ use Rattle.net_archive.specs.Adding.{IsAddFault, IsEntryOf, IsFull, IsTaken}
 use Rattle.net_archive.specs.Archives.{ArchiveView, IsArchive, IsEntry, archive_text, most_entries, with_entry}
 use Rattle.net_archive.specs.declared.faults.AddFault.{AddFault}
 use Rattle.net_archive.specs.declared.faults.AddFault.TheVariants.{NameTaken, BadName, Full, NoMemory}
-use Rattle.net_archive.proofs.ArchiveRows.{text_with}
-use Rattle.net_archive.proofs.NamesApart.{names_apart}
-
--- a text with more entries is no shorter
-no_shorter : (v : Version) (es more : List EntryView) → length (text_of v es) ≤ length (text_of v (es ++ more))
-no_shorter v es more =
-    let whole = ap length (text_with v es more) in
-    let two = length-append (text_of v es) (rows_text (entry_lines v more)) in
-    omega (arith, whole, two)
+use Rattle.net_archive.proofs.EntryFaults.{entries_are, not_taken, not_full}
 
 entry_there : (P : EntryView → Type 0) (xs : List EntryView) (y : EntryView) (ys : List EntryView) → All P (xs ++ y ∷ ys) → P y
 entry_there P xs y ys all = All-contains P (xs ++ y ∷ ys) y all (Contains-append_right xs (y ∷ ys) y (Contains-append_left (y ∷ []) ys y (Contains-push [] y)))
 
 module _ (a b : ArchiveView) (name : List ℕ) (n : KeyedNet) (e : EntryView) (later : List EntryView) (whole : b ≡ record { version = a.version; entries = a.entries ++ e ∷ later }) (is : IsArchive b)
     (named : e.name ≡ name) (only : (x : EntryView) → IsEntryOf name n x → x ≡ e) where
-  entries : b.entries ≡ a.entries ++ e ∷ later
-  entries = ap (λ (c : ArchiveView). c.entries) whole
-
-  not_taken : ¬ IsTaken a name
-  not_taken = subst (λ m. ¬ IsTaken a m) named (names_apart b.entries a.entries e later entries is.names)
+  free : ¬ IsTaken a name
+  free = subst (λ m. ¬ IsTaken a m) named (not_taken a b e later whole is)
 
   is_named : is_name name ≡ true
   is_named =
-      let entry = entry_there IsEntry a.entries e later (subst (All IsEntry) entries is.each) in
+      let entry = entry_there IsEntry a.entries e later (subst (All IsEntry) (entries_are a b e later whole is) is.each) in
       ap is_name (sym named) ∙ entry.formed.1.drawn.is_name
 
-  not_full : (x : EntryView) → IsEntryOf name n x → ¬ IsFull a x
-  not_full x of = ⊎_elim many long
-    where
-      many : ¬ (most_entries ≤ length a.entries)
-      many m =
-          let few = is.few in
-          let count = ap length entries in
-          let two = length-append a.entries (e ∷ later) in
-          omega (arith, m, few, count, two)
-
-      long : ¬ (most_bytes < length (archive_text (with_entry a x)))
-      long m =
-          let same : length (archive_text (with_entry a x)) ≡ length (archive_text (with_entry a e)) = ap (λ (y : EntryView). length (archive_text (with_entry a y))) (only x of) in
-          let more = no_shorter a.version (a.entries ++ e ∷ []) later in
-          let all : length (archive_text b) ≡ length (text_of a.version ((a.entries ++ e ∷ []) ++ later)) =
-          ap (λ (c : ArchiveView). length (archive_text c)) whole ∙ ap (λ (es : List EntryView). length (text_of a.version es)) (sym (append_assoc a.entries (e ∷ []) later)) in
-          let fits = is.fits in
-          omega (arith, m, same, more, all, fits)
+  roomy : (x : EntryView) → IsEntryOf name n x → ¬ IsFull a x
+  roomy x of = subst (λ y. ¬ IsFull a y) (sym (only x of)) (not_full a b e later whole is)
 
   -- so it is not refused
   pub added_no_fault : (fault : AddFault) → IsAddFault a name n fault → fault ≡ NoMemory
-  added_no_fault NameTaken h = absurd (not_taken h)
+  added_no_fault NameTaken h = absurd (free h)
   added_no_fault BadName h = absurd (true≢false (sym is_named ∙ h.1))
-  added_no_fault Full h = absurd (not_full h.2 h.3 h.4)
+  added_no_fault Full h = absurd (roomy h.2 h.3 h.4)
   added_no_fault NoMemory h = refl
 
 -- two faults of adding under one name are one

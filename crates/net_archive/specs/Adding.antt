@@ -31,3 +31,10 @@ IsAddFault a name n NameTaken = IsTaken a name
 IsAddFault a name n BadName = ¬ IsTaken a name × (is_name name ≡ false)
 IsAddFault a name n Full = ¬ IsTaken a name × (is_name name ≡ true) × (e : EntryView) × IsEntryOf name n e × IsFull a e
 IsAddFault a name n NoMemory = Unit {0}
+
+-- why the entry is not added; its name is one
+abbrev pub IsEntryFault : ArchiveView → EntryView → AddFault → Type 0
+IsEntryFault a e NameTaken = IsTaken a e.name
+IsEntryFault a e BadName = ⊥
+IsEntryFault a e Full = ¬ IsTaken a e.name × IsFull a e
+IsEntryFault a e NoMemory = Unit {0}

@@ -37,6 +37,10 @@ empty_archive = record { version = Two; entries = [] }
 abbrev pub with_entry : ArchiveView → EntryView → ArchiveView
 with_entry a e = record { version = a.version; entries = a.entries ++ e ∷ [] }
 
+-- these entries, in the version of the archive
+abbrev pub archive_with : ArchiveView → List EntryView → ArchiveView
+archive_with a entries = record { version = a.version; entries = entries }
+
 -- the name, the graph and the lists have the form of the format; the graph is certain, this is its key, and these are the sizes of
 -- the shells of its classes
 pub record IsEntry (e : EntryView) : Type 0 where

@@ -1,8 +1,11 @@
 -- What keys in an archive decide: which nets are isomorphic.
-use Rattle.std.specs.Prelude.{◌≡◌, ◌≢◌, ◌↔◌, ◌⊎◌, ℕ, ◌-◌, ◌≤◌, List, [], ◌∷◌, Some, slice_get, Contains}
+use Rattle.std.specs.Prelude.{◌≡◌, ◌≢◌, ◌↔◌, ◌⊎◌, ℕ, ◌-◌, ◌≤◌, ℤ, Bool, List, [], ◌∷◌, ◌++◌, Some, slice_get, All, Contains}
+use Rattle.std.specs.List.{list_any}
+use Rattle.std.specs.Str.{bytes_eq}
 use Rattle.periodic_net.specs.Graph.{Graph}
 use Rattle.periodic_net.specs.Maps.{Iso}
 use Rattle.net_entries.specs.Entries.{EntryView}
+use Rattle.net_entries.specs.Lookups.{names_with}
 
 -- the names of exactly the entries whose nets are isomorphic to that of G, in their order
 abbrev pub AreNamesOf : Graph → List EntryView → List (List ℕ) → Type 0
@@ -27,3 +30,12 @@ ShareGroup groups m n = (group : List ℕ) × Contains groups group × Contains 
 abbrev pub AreIsoGroups : List EntryView → List (List ℕ) → Type 0
 AreIsoGroups entries groups =
     (m n : ℕ) (e f : EntryView) → IsEntryAt entries m e → IsEntryAt entries n f → m ≢ n → ShareGroup groups m n ↔ Iso e.graph f.graph
+
+-- entries whose nets are isomorphic stand together: between two of them stand only such entries
+abbrev pub AreIsoTogether : List EntryView → Type 0
+AreIsoTogether entries = (before between after : List EntryView) (e f : EntryView) → entries ≡ before ++ e ∷ (between ++ f ∷ after) → Iso e.graph f.graph
+    → All (λ (x : EntryView). Iso x.graph e.graph) between
+
+-- an entry with this key has this name
+abbrev pub is_there : List EntryView → List ℕ → List ℤ → Bool
+is_there entries name key = list_any (bytes_eq name) (names_with key entries)

@@ -1,7 +1,7 @@
 // The steps of adding a net to an archive.
 ghost use Rattle.std.specs.Prelude.{◌≡◌, ◌↔◌, ◌≤◌, ◌<◌, ◌+◌, ◌++◌, ◌∷◌, [], true, IsTrue, IfOk, OnOk, OnErr, length};
 ghost use Rattle.line_text.specs.Lines.{rows_text};
-ghost use Rattle.periodic_net.specs.Limits.{IsSmall, most_vertices};
+ghost use Rattle.periodic_net.specs.Limits.{IsSmall};
 ghost use Rattle.quotient_graph.specs.AnyGraphs.{graph_in};
 ghost use Rattle.quotient_graph.specs.Order.{AreRising};
 ghost use Rattle.least_key.specs.AnyNets.{net_in};
@@ -35,11 +35,10 @@ fn graph_of(net: &Net) -> Result<AnyGraph, AllocError>
     }
 }
 
-// The entry of a net under a name.
-fn entry_of(alloc: Global, name: &[u8], net: &Net) -> Result<Entry, AllocError>
+/// The entry of a net under a name.
+pub fn entry_of(alloc: Global, name: &[u8], net: &Net) -> Result<Entry, AllocError>
     ensures entry { IfOk result (λ e. IsEntryOf name.now (net_in net.now) (entry_view e)) }
     ensures is_entry { is_name name.now ≡ true → IfOk result (λ e. IsEntry (entry_view e)) }
-    ensures few { IfOk result (λ e. length e.shells ≤ most_vertices) }
 {
     let shells = net.sequences(alloc)?;
     let graph = graph_of(net)?;
@@ -53,22 +52,15 @@ fn entry_of(alloc: Global, name: &[u8], net: &Net) -> Result<Entry, AllocError>
     })
 }
 
-/// The entry of a net under a name, and its rows.
-pub fn addition(
-    alloc: Global,
-    version: Version,
-    name: &[u8],
-    net: &Net,
-) -> Result<(Entry, Vec<u8>), AllocError>
-    ensures entry { IfOk result (λ both. IsEntryOf name.now (net_in net.now) (entry_view both.0)) }
-    ensures is_entry { is_name name.now ≡ true → IfOk result (λ both. IsEntry (entry_view both.0)) }
-    ensures rows { IfOk result (λ both.
-        both.1.items ≡ rows_text (entry_lines version (entry_view both.0 ∷ []))) }
+/// The rows of an entry.
+pub fn rows_of(alloc: Global, version: Version, entry: &Entry) -> Result<Vec<u8>, AllocError>
+    requires { IsEntry (entry_view entry.now) }
+    ensures { IfOk result (λ rows.
+        rows.items ≡ rows_text (entry_lines version (entry_view entry.now ∷ []))) }
 {
-    let entry = entry_of(alloc, name, net)?;
     let mut rows = Vec::new(alloc);
-    push_entry(&mut rows, version, &entry)?;
-    Ok((entry, rows))
+    push_entry(&mut rows, version, entry)?;
+    Ok(rows)
 }
 
 /// Whether there are as many entries as there may be.

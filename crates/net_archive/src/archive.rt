@@ -1,21 +1,23 @@
 // An archive.
-ghost use Rattle.std.specs.Prelude.{◌≡◌, ◌≤◌, IfOk, IfErr, OnOk, OnErr, MatchResult, length};
+ghost use Rattle.std.specs.Prelude.{◌≡◌, ◌≤◌, All, IfOk, IfErr, OnOk, OnErr, MatchResult, length};
 ghost use Rattle.periodic_net.specs.Graph.{Graph, IsGraph};
 ghost use Rattle.key_theory.specs.Key.{IsKeyOf};
 ghost use Rattle.least_key.specs.AnyNets.{net_in};
-ghost use Rattle.net_entries.specs.Entries.{EntryView, entry_views};
+ghost use Rattle.net_entries.specs.Entries.{EntryView, entry_view, entry_views};
 ghost use Rattle.net_entries.specs.Groups.{AreGroups};
 ghost use Rattle.net_entries.specs.Lookups.{names_with};
-ghost use Rattle.net_archive.specs.Adding.{IsAddFault, IsEntryOf};
-ghost use Rattle.net_archive.specs.Deciding.{AreIsoGroups, AreNamesOf};
+ghost use Rattle.net_entries.specs.Regrouped.{regrouped};
+ghost use Rattle.net_archive.specs.Adding.{IsAddFault, IsEntryFault, IsEntryOf};
+ghost use Rattle.net_archive.specs.Deciding.{AreIsoGroups, AreIsoTogether, AreNamesOf, is_there};
 ghost use Rattle.net_archive.specs.Faults.{IsFaultOf};
-ghost use Rattle.net_archive.specs.Archives.{ArchiveView, IsArchive, archive_text, empty_archive, version_number, with_entry};
+ghost use Rattle.net_archive.specs.Archives.{ArchiveView, IsArchive, IsEntry, archive_text, archive_with, empty_archive, most_entries, version_number, with_entry};
 ghost use Rattle.net_archive.specs.Migrating.{IsMigrated, IsMigrateFault};
 ghost use Rattle.archive_text.specs.Texts.{most_bytes};
 
-use crate::adding::{addition, append, are_many, is_too_long};
+use crate::adding::{append, are_many, entry_of, is_too_long, rows_of};
 use crate::migrating::newest_text;
 use crate::reading::{body_of, read_text};
+use crate::regrouping::rows_in_groups;
 use crate::{AddFault, ArchiveFault, MigrateFault};
 use archive_text::{Version, push_first};
 use least_key::Net;
@@ -83,6 +85,16 @@ impl Archive {
         self.entries.as_slice()
     }
 
+    /// The entries in their order, given away.
+    pub fn into_entries(self) -> Vec<Entry>
+        ensures entries { entry_views result.items ≡ self.entries }
+        ensures each { All (λ entry. IsEntry (entry_view entry)) result.items }
+        ensures few { length result.items ≤ most_entries }
+        ensures archive { IsArchive self }
+    {
+        self.entries.into_vec()
+    }
+
     /// The version of the format, 1 or 2.
     pub fn version(&self) -> u8
         ensures { result ≡ version_number self.now.version }
@@ -133,6 +145,38 @@ impl Archive {
         newest_text(*self.body.allocator(), self.entries())
     }
 
+    /// Whether an entry has both this name and this key.
+    pub fn has(&self, name: &[u8], key: &Key) -> bool
+        ensures there { result ≡ is_there self.now.entries name.now key.now }
+        ensures archive { IsArchive self.now }
+    {
+        let mut names = self.entries.lookup(key);
+        while let Some(found) = names.next() {
+            if name == found {
+                return true;
+            }
+        }
+        false
+    }
+
+    /// Puts an entry last. A refusal changes nothing.
+    pub fn add_entry(&mut self, entry: Entry) -> Result<(), AddFault>
+        requires { IsEntry (entry_view entry) }
+        ensures added { OnOk result (self.new ≡ with_entry self.old (entry_view entry)) }
+        ensures same { OnErr result (self.new ≡ self.old) }
+        ensures fault { IfErr result (IsEntryFault self.old (entry_view entry)) }
+    {
+        if self.entries.has_name(&entry.name) {
+            return Err(AddFault::NameTaken);
+        }
+        let rows = rows_of(*self.body.allocator(), self.version, &entry)?;
+        if are_many(self.entries.as_slice()) || is_too_long(&self.body, &rows) {
+            return Err(AddFault::Full);
+        }
+        append(&mut self.entries, &mut self.body, entry, &rows)?;
+        Ok(())
+    }
+
     /// Puts the graph of a net last, under a name. A refusal changes nothing.
     pub fn add(&mut self, name: &[u8], net: &Net) -> Result<(), AddFault>
         ensures added { OnOk result ((e : EntryView) × IsEntryOf name.now (net_in net.now) e ×
@@ -146,12 +190,24 @@ impl Archive {
         if !is_name(name) {
             return Err(AddFault::BadName);
         }
+        let entry = entry_of(*self.body.allocator(), name, net)?;
+        self.add_entry(entry)
+    }
+
+    /// Puts entries with equal keys together, in their old order, and the groups in the order of
+    /// their first entries. Then entries with isomorphic nets stand together. A refusal changes
+    /// nothing.
+    pub fn regroup(&mut self) -> Result<(), AllocError>
+        ensures regrouped { OnOk result (
+            self.new ≡ archive_with self.old (regrouped self.old.entries)) }
+        ensures isomorphic { OnOk result (AreIsoTogether self.new.entries) }
+        ensures archive { IsArchive self.new }
+        ensures same { OnErr result (self.new ≡ self.old) }
+    {
         let alloc = *self.body.allocator();
-        let (entry, rows) = addition(alloc, self.version, name, net)?;
-        if are_many(self.entries.as_slice()) || is_too_long(&self.body, &rows) {
-            return Err(AddFault::Full);
-        }
-        append(&mut self.entries, &mut self.body, entry, &rows)?;
+        let body = rows_in_groups(alloc, self.version, self.entries.as_slice())?;
+        self.entries.regroup()?;
+        self.body = body;
         Ok(())
     }
 }

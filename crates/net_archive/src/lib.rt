@@ -8,7 +8,9 @@ mod judge;
 mod laws;
 mod migrating;
 mod reading;
+mod regrouping;
 
+pub use adding::entry_of;
 pub use archive::Archive;
 pub use archive_text::{MOST_BYTES, Version};
 pub use faults::{AddFault, ArchiveFault, MigrateFault};

@@ -3,10 +3,13 @@ ghost use Rattle.std.specs.Prelude.{◌≡◌, ◌+◌, ◌<◌, ◌++◌, ◌�
 ghost use Rattle.net_entries.specs.Entries.{entry_view, entry_views};
 ghost use Rattle.net_entries.specs.Groups.{AreGroups, IsGroupFrom};
 ghost use Rattle.net_entries.specs.Lookups.{names_of, names_with};
+ghost use Rattle.net_entries.specs.Regrouped.{regrouped};
 
 use crate::groups_of::{Groups, first_number, numbers_at};
+use crate::in_groups::indexes_in_groups;
 use crate::matches_of::{Matches, has_name_at};
 use crate::prints::{key_print, name_print};
+use crate::regroup::regroup;
 use crate::{Entry, NoMemory};
 use place_index::PlaceIndex;
 use quotient_graph::Key;
@@ -76,6 +79,13 @@ impl Entries {
         &self.items
     }
 
+    /// The entries in their order, given away.
+    pub fn into_vec(self) -> Vec<Entry>
+        ensures { entry_views result.items ≡ self }
+    {
+        self.items
+    }
+
     /// Whether an entry has this name.
     pub fn has_name(&self, name: &[u8]) -> bool
         ensures { IsTrue result ↔ Contains (names_of self.now) name.now }
@@ -90,6 +100,22 @@ impl Entries {
     {
         let places = self.keys.places(key_print(key.numbers()));
         Matches::new(&self.items, places, key)
+    }
+
+    /// Puts entries with equal keys together, in their old order, and the groups in the order of
+    /// their first entries. A refusal changes nothing.
+    pub fn regroup(&mut self) -> Result<(), NoMemory>
+        ensures ok { OnOk result (self.new ≡ regrouped self.old) }
+        ensures err { OnErr result (self.new ≡ self.old) }
+    {
+        let alloc = *self.items.allocator();
+        let mut grouped = Vec::with_capacity(alloc, self.items.len())?;
+        let (names, keys) = indexes_in_groups(alloc, &self.items)?;
+        regroup(&mut self.items, &mut grouped);
+        self.items = grouped;
+        self.names = names;
+        self.keys = keys;
+        Ok(())
     }
 
     // The group whose first entry stands at this place, if one begins there.

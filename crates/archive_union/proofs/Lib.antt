@@ -1,0 +1,5 @@
+mod Members
+mod UnitedEntries
+mod Unions
+mod Steps
+mod OneUnion

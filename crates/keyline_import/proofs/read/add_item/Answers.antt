@@ -1,0 +1,15 @@
+use Rattle.std.proofs.Common.{◌++◌, ◌∷◌, [], List, sym, subst}
+use Rattle.cgd_lex.specs.Lines.{rest_of_line, after_line}
+use Rattle.keyline_import.specs.Lines.{lines_in}
+use Rattle.keyline_import.specs.Items.{item_of}
+use Rattle.keyline_import.specs.Reading.{line_view}
+use Rattle.keyline_import.specs.Views.{AreRead}
+use Rattle.keyline_import.specs.declared.item.Item.{Item}
+use Rattle.keyline_import.proofs.ReadLists.{one_more}
+use Rattle.keyline_import.proofs.read.add_item.Goals as goal
+
+pub returns-clause-added : goal.returns-clause-added
+returns-clause-added c = λ views read.
+    let view = item_of (line_view c.args.opening.now (rest_of_line c.args.lexer.now)) (lines_in (after_line c.args.lexer.now)) in
+    subst (λ (items : List Item). AreRead (views ++ view ∷ []) items) (sym c.in_ok-push.ensures.items)
+    (one_more views c.args.found.now.items view c.in_ok-item.item read c.in_ok-item.ensures.item)

@@ -1,0 +1,10 @@
+pub mod Names
+pub mod Lines
+pub mod Values
+pub mod Rows
+pub mod Keys
+pub mod KeyLines
+pub mod Faults
+pub mod Items
+pub mod Reading
+pub mod Views

@@ -1,0 +1,19 @@
+//! Reads nets from key lines: items of a name and a key, and the first fault of each item that is
+//! none.
+#![tactic(auto)]
+
+mod cursor;
+mod item;
+mod keyed;
+mod laws;
+mod line;
+mod read;
+mod state;
+#[cfg(test)]
+mod tests;
+mod values;
+
+pub use item::{Item, ItemBody, ItemFault, ItemFaultKind, ItemRefusal};
+pub use laws::key_lines_are_taken;
+pub use read::items;
+pub use std::alloc::AllocError as NoMemory;

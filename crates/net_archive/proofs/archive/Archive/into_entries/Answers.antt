@@ -1,0 +1,10 @@
+use Rattle.std.proofs.Common.{List, sym, subst}
+use Rattle.std.specs.List.{All}
+use Rattle.net_entries.specs.Entries.{EntryView}
+use Rattle.net_archive.specs.Archives.{IsEntry}
+use Rattle.net_archive.proofs.Growth.{all_in_memory}
+use Rattle.net_archive.proofs.archive.Archive.into_entries.Goals as goal
+
+pub returns-clause-each : goal.returns-clause-each
+returns-clause-each c =
+    all_in_memory c.into_vec.result.items (subst (λ (es : List EntryView). All IsEntry es) (sym c.into_vec.ensures) c.self.invariant.is_archive.each)

@@ -1,0 +1,18 @@
+use Rattle.std.proofs.Common.{List, sym, subst, Bor}
+use Rattle.std.specs.List.{All}
+use Rattle.std.proofs.lemmas.List.Sorted.{All-permutation}
+use Rattle.net_entries.specs.Entries.{entry_view, entry_views}
+use Rattle.net_entries.specs.declared.entry.Entry.{Entry}
+use Rattle.net_archive.specs.Archives.{IsEntry}
+use Rattle.net_entries.specs.Regrouped.{regrouped}
+use Rattle.net_entries.proofs.CallerLemmas.{is_regrouped}
+use Rattle.net_archive.proofs.LentRows.{all_lent, all_seen}
+use Rattle.net_archive.proofs.regrouping.rows_in_groups.Goals as goal
+
+pub rows_of_all-requires : goal.rows_of_all-requires
+rows_of_all-requires c =
+    let entries = c.args.entries.now in
+    let views = entry_views entries in
+    let regrouped_good = All-permutation IsEntry views (regrouped views) (is_regrouped views).same_entries (all_seen entries c.requires) in
+    subst (λ (lent : List (Bor Entry)). All (λ (e : Bor Entry). IsEntry (entry_view e.now)) lent) (sym c.deref.ensures.value)
+    (all_lent c.in_ok-lent.lent.items (subst (All IsEntry) (sym c.in_ok-lent.ensures) regrouped_good))

@@ -1,0 +1,13 @@
+// What regrouping keeps.
+ghost use Rattle.net_entries.specs.Laws.{EntriesAreRegrouped, OneRegrouping};
+
+/// The same entries; those with one key stand together, in their old order, and the groups in the
+/// order of their first entries.
+pub fn entries_are_regrouped()
+    ensures theorem { EntriesAreRegrouped }
+{}
+
+/// Only one list is a regrouping of another.
+pub fn one_regrouping()
+    ensures theorem { OneRegrouping }
+{}
