@@ -25,7 +25,7 @@ command_word() {
 # ends with the usage line and 2 where the words name no command
 want_command() {
     case $(command_word "$@") in
-    check | place | key | identify | add | duplicates | migrate | workload) ;;
+    check | place | key | identify | components | add | duplicates | migrate | workload) ;;
     *)
         echo "$usage"
         exit 2

@@ -2,7 +2,7 @@
 # It belongs in share/bash-completion/completions/net_tool.
 
 _net_tool() {
-    local commands="check place key identify add duplicates migrate workload"
+    local commands="check place key identify components add duplicates migrate workload"
     local word=${COMP_WORDS[COMP_CWORD]} before=${COMP_WORDS[COMP_CWORD - 1]} command="" i
     # = parts words, so that `--archive=PATH` comes as three
     if [ "$word" = "=" ]; then
@@ -28,7 +28,7 @@ _net_tool() {
         identify | duplicates | migrate) mapfile -t COMPREPLY < <(compgen -W "--archive" -- "$word") ;;
         add) mapfile -t COMPREPLY < <(compgen -W "--archive --name" -- "$word") ;;
         esac
-    elif [[ " check place key identify add " == *" $command "* ]]; then
+    elif [[ " check place key identify components add " == *" $command "* ]]; then
         _net_tool_files "$word" cgd
     fi
 }

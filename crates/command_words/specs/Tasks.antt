@@ -5,7 +5,7 @@ use Rattle.std.specs.Str.{bytes_eq}
 use Rattle.std.specs.Str.Parse.{digits_value}
 use Rattle.command_words.specs.Words.{Text, Said, said_by}
 use Rattle.command_words.specs.declared.tasks.Command.{Command}
-use Rattle.command_words.specs.declared.tasks.Command.TheVariants.{Check, Place, Key, Identify}
+use Rattle.command_words.specs.declared.tasks.Command.TheVariants.{Check, Place, Key, Identify, Components}
 use Rattle.command_words.specs.declared.tasks.Verb.{Verb}
 use Rattle.command_words.specs.declared.tasks.Verb.TheVariants as verb
 use Rattle.workload.specs.Workload.{most_nets}
@@ -46,10 +46,11 @@ verb_named word =
     (if bytes_eq word (codes "place") then Some (verb.Tell Place) else
     (if bytes_eq word (codes "key") then Some (verb.Tell Key) else
     (if bytes_eq word (codes "identify") then Some (verb.Tell Identify) else
+    (if bytes_eq word (codes "components") then Some (verb.Tell Components) else
     (if bytes_eq word (codes "add") then Some verb.Add else
     (if bytes_eq word (codes "duplicates") then Some verb.Duplicates else
     (if bytes_eq word (codes "migrate") then Some verb.Migrate else
-    (if bytes_eq word (codes "workload") then Some verb.Workload else None)))))))
+    (if bytes_eq word (codes "workload") then Some verb.Workload else None))))))))
 
 -- the word stands, and is empty
 abbrev pub is_empty_word : Option Text → Bool
@@ -73,12 +74,13 @@ abbrev pub are_apart : Text → Option Text → Bool
 are_apart file None = true
 are_apart file (Some archive) = if bytes_eq file (codes "-") then not (bytes_eq archive (codes "-")) else true
 
--- check, place and key take a file and no archive; identify takes one where it is named
+-- identify takes an archive where one is named, and the other commands that tell of each block take none
 abbrev pub may_name_archive : Command → Option Text → Bool
 may_name_archive Identify archive = true
 may_name_archive Check archive = not (is_some archive)
 may_name_archive Place archive = not (is_some archive)
 may_name_archive Key archive = not (is_some archive)
+may_name_archive Components archive = not (is_some archive)
 
 -- a file is read, and the archive where one is named, and no name is given
 abbrev pub tell_in : Command → Said → Option Task

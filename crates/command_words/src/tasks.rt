@@ -19,6 +19,8 @@ pub enum Command {
     Key,
     /// Which nets of an archive is it?
     Identify,
+    /// What are its components?
+    Components,
 }
 
 /// What is to be done, and the names of the files that it reads. `-` is the standard input.
@@ -94,6 +96,8 @@ fn verb_named(word: &str) -> Option<Verb>
         Some(Verb::Tell(Command::Key))
     } else if word == "identify" {
         Some(Verb::Tell(Command::Identify))
+    } else if word == "components" {
+        Some(Verb::Tell(Command::Components))
     } else if word == "add" {
         Some(Verb::Add)
     } else if word == "duplicates" {
@@ -146,7 +150,7 @@ fn may_name_archive(command: Command, archive: Option<&str>) -> bool
 {
     match command {
         Command::Identify => true,
-        Command::Check | Command::Place | Command::Key => archive.is_none(),
+        Command::Check | Command::Place | Command::Key | Command::Components => archive.is_none(),
     }
 }
 

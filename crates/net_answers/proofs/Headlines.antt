@@ -1,15 +1,19 @@
 -- The headline follows from what is due to `identify`.
-use Rattle.std.proofs.Common.{◌≡◌, ◌∙◌, ℕ, Bool, true, false, List, Option, refl, ap}
+use Rattle.std.proofs.Common.{◌≡◌, ◌≢◌, ◌∙◌, ℕ, Bool, true, false, List, Option, refl, ap}
 use Rattle.std.specs.Prelude.{if◌then◌else◌}
 use Rattle.cgd_read.specs.Blocks.{blocks_of}
 use Rattle.command_words.specs.Tasks.{Tell}
-use Rattle.command_words.specs.declared.tasks.Command.TheVariants.{Identify}
+use Rattle.command_words.specs.declared.tasks.Command.TheVariants.{Components, Identify}
 use Rattle.net_archive.specs.Archives.{ArchiveView}
 use Rattle.net_outcomes.specs.Reports.{IsReport}
 use Rattle.net_answers.specs.Due.{IsArchiveIn, IsDueOn}
 use Rattle.net_answers.specs.Headline.{Headline, IsReported}
 use Rattle.net_answers.specs.declared.status.Status.{Status}
 use Rattle.net_answers.specs.declared.status.Status.TheVariants.{Done, SomeRefused}
+
+-- to identify is not to ask for components
+identify_is_not_components : Identify ≢ Components
+identify_is_not_components e = cc
 
 -- a report on the blocks of these bytes
 headline_with : (file : List ℕ) (archive : Option (List ℕ)) (accepted : Bool) (status : Status) (text : List ℕ) (a : ArchiveView) → IsArchiveIn archive a
@@ -22,7 +26,7 @@ headline_with file archive accepted status text a read r e = record {
   blocks = r.are_outcomes.keys;
   entries = r.are_outcomes.entry_keys;
   archive_entries = r.are_outcomes.archive_keys;
-  certain = r.are_outcomes.certain;
+  certain = r.are_outcomes.certain identify_is_not_components;
   written = r.report;
   ending = e ∙ ap (λ b. if b then Done else SomeRefused) r.all;
 }

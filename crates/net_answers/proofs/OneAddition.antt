@@ -16,7 +16,7 @@ use Rattle.net_archive.specs.declared.faults.AddFault.TheVariants as add
 use Rattle.net_archive.proofs.CallerLemmas.{added_no_fault, one_add_fault, one_entry}
 use Rattle.net_report.specs.declared.outcome.Outcome.{Outcome}
 use Rattle.net_report.specs.declared.outcome.OutcomeBody.{OutcomeBody}
-use Rattle.net_report.specs.declared.outcome.OutcomeBody.TheVariants.{Unsupported, Malformed, Refused, Checked, Located, Keyed, Identified}
+use Rattle.net_report.specs.declared.outcome.OutcomeBody.TheVariants.{Unsupported, Malformed, Refused, Checked, Located, Keyed, Identified, Lines, Faulty as FaultyItem}
 use Rattle.command_words.specs.declared.tasks.Command.TheVariants.{Key}
 use Rattle.net_outcomes.specs.Outcomes.{AreOutcomesFrom, IsBodyOf, is_accepted, is_accepted_body}
 use Rattle.net_outcomes.specs.Reports.{IsReport}
@@ -160,6 +160,8 @@ accepted_body block (Net raw) net (Refused size names refusal) e is h =
     absurd (keyed_not_refused raw Key size names net refusal (subst (λ (r : RawView). IsInOrder (graph_of r) net.placed.graph) same is.read) is.keyed h)
 accepted_body block (Net raw) net (Unsupported token) e is h = absurd h
 accepted_body block (Net raw) net (Malformed fault) e is h = absurd h
+accepted_body block (Net raw) net (FaultyItem line number kind) e is h = absurd h
+accepted_body block (Net raw) net (Lines size accepted lines) e is h = absurd h
 accepted_body block (Other token) net told e is h = let other : Other token ≡ Net is.raw = sym e ∙ is.graph in absurd (cc)
 accepted_body block (Faulty fault) net told e is h = let other : Faulty fault ≡ Net is.raw = sym e ∙ is.graph in absurd (cc)
 

@@ -1,5 +1,6 @@
 // What is answered to words, of the bytes of files: rows that were worked out by hand.
 mod archives;
+mod components;
 mod identified;
 mod keys;
 mod nets;
@@ -9,6 +10,7 @@ use crate::answer::{Answer, answer_to};
 use crate::status::Status;
 use archives::IN_USE;
 use command_words::task_of;
+use components::DIVIDED;
 use identified::IDENTIFIED;
 use keys::KEYED;
 use net_archive::MOST_BYTES;
@@ -92,7 +94,7 @@ fn check_rows(alloc: Global, rt: &impl Abort, rows: &[Row]) -> Result<(), Fail> 
 
 #[test]
 fn rows(rt: HostRuntime) -> Result<(), Fail> {
-    let tables = [CONNECTED, PLACED, KEYED, IDENTIFIED, IN_USE];
+    let tables = [CONNECTED, PLACED, KEYED, IDENTIFIED, DIVIDED, IN_USE];
     for table in tables {
         check_rows(rt.alloc(), &rt, table)?;
     }

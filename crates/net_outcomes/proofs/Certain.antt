@@ -1,5 +1,5 @@
 -- A block whose graph is certain is accepted, and two keys that are told decide.
-use Rattle.std.proofs.Common.{◌≡◌, ◌∙◌, ℕ, zero, suc, ◌<◌, Bool, true, false, List, [], ◌∷◌, length, refl, sym, ap, subst, arith}
+use Rattle.std.proofs.Common.{◌≡◌, ◌≢◌, ◌∙◌, ℕ, zero, suc, ◌<◌, Bool, true, false, List, [], ◌∷◌, length, refl, sym, ap, subst, arith}
 use Rattle.std.specs.Prelude.{slice_index_or}
 use Rattle.std.proofs.lemmas.Bool.{true≢false}
 use Rattle.std.proofs.lemmas.List.Elements.{All-head, All-tail}
@@ -18,8 +18,9 @@ use Rattle.net_entries.specs.Entries.{EntryView}
 use Rattle.net_archive.specs.Archives.{IsEntry}
 use Rattle.net_report.specs.declared.outcome.Outcome.{Outcome}
 use Rattle.net_report.specs.declared.outcome.OutcomeBody.{OutcomeBody}
-use Rattle.net_report.specs.declared.outcome.OutcomeBody.TheVariants.{Unsupported, Malformed, Refused, Checked, Located, Keyed, Identified}
+use Rattle.net_report.specs.declared.outcome.OutcomeBody.TheVariants.{Unsupported, Malformed, Refused, Checked, Located, Keyed, Identified, Lines, Faulty as FaultyItem}
 use Rattle.command_words.specs.declared.tasks.Command.{Command}
+use Rattle.command_words.specs.declared.tasks.Command.TheVariants.{Components}
 use Rattle.net_outcomes.specs.Deciding.{AreOutcomes}
 use Rattle.net_outcomes.specs.Outcomes.{AreOutcomesFrom, IsBodyOf, IsRefusedAs, MayTell, is_accepted_body}
 use Rattle.net_archive.proofs.CallerLemmas.{keys_decide_archive}
@@ -34,16 +35,19 @@ certain_not_refused command raw size names refusal g h certain =
     let none = certain_is_not_refused h.graph refusal is_graph (certain h.graph h.read.in_order) h.is_true in
     subst (MayTell command) none h.may
 
--- so what is told of a certain graph accepts it
-accepted_told : (entries : List EntryView) (command : Command) (raw : RawView) (told : OutcomeBody) → IsGraph (graph_of raw) → IsBodyOf entries command (Net raw) told
+-- so what is told of a certain graph accepts it, but where its components are asked for
+accepted_told : (entries : List EntryView) (command : Command) (raw : RawView) (told : OutcomeBody) → IsGraph (graph_of raw) → IsBodyOf entries command (Net raw) told → command ≢ Components
     → ((G : Graph) → IsInOrder (graph_of raw) G → IsCertain G) → is_accepted_body told ≡ true
-accepted_told entries command raw (Unsupported token) g h certain = absurd h
-accepted_told entries command raw (Malformed fault) g h certain = absurd h
-accepted_told entries command raw (Refused size names refusal) g h certain = absurd (certain_not_refused command raw size names refusal g h certain)
-accepted_told entries command raw (Checked size) g h certain = refl
-accepted_told entries command raw (Located size names placed) g h certain = refl
-accepted_told entries command raw (Keyed size net) g h certain = refl
-accepted_told entries command raw (Identified size vertices net shells names) g h certain = refl
+accepted_told entries command raw (Unsupported token) g h other certain = absurd h
+accepted_told entries command raw (Malformed fault) g h other certain = absurd h
+accepted_told entries command raw (FaultyItem line number kind) g h other certain = absurd h
+accepted_told entries command raw (Refused size names refusal) g h other certain = absurd (certain_not_refused command raw size names refusal g h certain)
+accepted_told entries command raw (Checked size) g h other certain = refl
+accepted_told entries command raw (Located size names placed) g h other certain = refl
+accepted_told entries command raw (Keyed size net) g h other certain = refl
+accepted_told entries command raw (Identified size vertices net shells names) g h other certain = refl
+accepted_told entries Components raw (Lines size accepted lines) g h other certain = absurd (other refl)
+accepted_told entries command raw (Lines size accepted lines) g h other certain = absurd h
 
 -- each block that is a net is a graph
 abbrev pub AreGraphs : List BlockView → Type 0
@@ -57,8 +61,8 @@ outcomes_decide entries command blocks outcomes h good graphs = record {
   keys = keys_decide_blocks entries command blocks outcomes h;
   entry_keys = keys_decide_entries entries command blocks outcomes h good;
   archive_keys = keys_decide_archive entries good;
-  certain = λ i block outcome raw at is certain.
-      accepted_told entries command raw outcome.body (graphs i block raw at.inside at.block_is is) (told_at entries command blocks outcomes h i block outcome raw at is) certain;
+  certain = λ other i block outcome raw at is certain.
+      accepted_told entries command raw outcome.body (graphs i block raw at.inside at.block_is is) (told_at entries command blocks outcomes h i block outcome raw at is) other certain;
 }
 
 -- the net of a body, or this one where it is none

@@ -16,6 +16,8 @@ use Rattle.cgd_read.specs.Views.{RawView, BodyView, Net, Other, Faulty, BlockVie
 use Rattle.quotient_graph.specs.Order.{arc_numbers}
 use Rattle.quotient_graph.specs.Splits.{split_in}
 use Rattle.quotient_graph.specs.Stars.{IsInOrder}
+use Rattle.component_report.specs.Told.{AreComponentsTold}
+use Rattle.component_report.proofs.CallerLemmas.{one_telling as one_telling_of_parts}
 use Rattle.coordination.specs.Sequences.{AreSequencesOf}
 use Rattle.coordination.proofs.CallerLemmas.{one_list_of_sequences}
 use Rattle.least_key.specs.AnyNets.{net_in}
@@ -40,13 +42,13 @@ use Rattle.net_report.specs.Refusals.{refused_text}
 use Rattle.net_report.specs.Reports.{body_text, outcome_text, report_text}
 use Rattle.net_report.specs.declared.outcome.Outcome.{Outcome}
 use Rattle.net_report.specs.declared.outcome.OutcomeBody.{OutcomeBody}
-use Rattle.net_report.specs.declared.outcome.OutcomeBody.TheVariants.{Unsupported, Malformed, Refused, Checked, Located, Keyed, Identified}
+use Rattle.net_report.specs.declared.outcome.OutcomeBody.TheVariants.{Unsupported, Malformed, Refused, Checked, Located, Keyed, Identified, Lines}
 use Rattle.net_report.specs.declared.outcome.Size.{Size}
 use Rattle.command_words.specs.declared.tasks.Command.{Command}
-use Rattle.command_words.specs.declared.tasks.Command.TheVariants.{Check, Place, Key, Identify}
+use Rattle.command_words.specs.declared.tasks.Command.TheVariants.{Check, Place, Key, Identify, Components}
 use Rattle.net_outcomes.specs.Deciding.{key_told}
 use Rattle.net_outcomes.specs.Laws.{OneReport}
-use Rattle.net_outcomes.specs.Outcomes.{AreOutcomesFrom, IsBodyOf, IsCheckedAs, IsGraphOf, IsIdentifiedAs, IsKeyedAs, IsLocatedAs, IsOutcomeOf, IsRefusedAs, MayTell, is_accepted, is_accepted_body}
+use Rattle.net_outcomes.specs.Outcomes.{AreOutcomesFrom, IsBodyOf, IsCheckedAs, IsDividedAs, IsGraphOf, IsIdentifiedAs, IsKeyedAs, IsLocatedAs, IsOutcomeOf, IsRefusedAs, MayTell, is_accepted, is_accepted_body}
 
 -- a graph has one list of its edges in order
 pub one_in_order : (G H K : Graph) → IsInOrder G H → IsInOrder G K → H ≡ K
@@ -83,6 +85,16 @@ pub record SpeakAlike (a b : OutcomeBody) : Type 0 where
   pub text : body_text a ≡ body_text b
   pub accepted : is_accepted_body a ≡ is_accepted_body b
   pub key : key_told a ≡ key_told b
+
+-- where components are asked for no refusal of the whole net is told
+none_of_components : (r : Refusal) → ¬ MayTell Components r
+none_of_components NoMemory m = m
+none_of_components (Disconnected split) m = m
+none_of_components (Degenerate split) m = m
+none_of_components (NoModulus first second third) m = m
+none_of_components (WidePlacement w) m = m
+none_of_components (Collision dim u v t) m = m
+none_of_components (TooMuch done counted) m = m
 
 module _ (raw : RawView) where
   -- the graph of a block is one
@@ -179,6 +191,13 @@ module _ (raw : RawView) where
         key = ap (λ k. Some k) net.key;
       }
 
+  one_divided : (s t : Size) (x y : Bool) (xs ys : List ℕ) → IsDividedAs raw s x xs → IsDividedAs raw t y ys → SpeakAlike (Lines s x xs) (Lines t y ys)
+  one_divided s t x y xs ys a b =
+      let graph = same_graph s t a.graph b.graph a.read b.read in
+      let size = same_size s t a.graph b.graph a.read b.read in
+      let told = one_telling_of_parts a.graph raw.names x y xs ys a.read.is_graph a.told (subst (λ G. AreComponentsTold G raw.names y ys) (sym graph) b.told) in
+      record { text = λ i. size_text (size i) ++ told.1 i; accepted = told.0; key = refl }
+
 -- what a command tells of a block is one
 pub one_body : (entries : List EntryView) (command : Command) (body : BodyView) (a b : OutcomeBody) → IsBodyOf entries command body a → IsBodyOf entries command body b → SpeakAlike a b
 one_body entries command (Other token) (Unsupported t) (Unsupported u) h k = record { text = λ i. unsupported_text ((h ∙ sym k) i); accepted = refl; key = refl }
@@ -192,6 +211,7 @@ one_body entries Check (Net raw) (Refused t ns r) (Checked s) h k = absurd (chec
 one_body entries Place (Net raw) (Refused t ns r) (Located s ms p) h k = absurd (located_not_refused raw s t ms ns p r k h)
 one_body entries Key (Net raw) (Refused t ns r) (Keyed s n) h k = absurd (keyed_as_not_refused raw Key s t ns n r k h)
 one_body entries Identify (Net raw) (Refused t ns r) (Identified s us n xs ms) h k = absurd (keyed_as_not_refused raw Identify s t ns n r k.keyed h)
+one_body entries Components (Net raw) (Refused s ms r) b h k = absurd (none_of_components r h.may)
 one_body entries command (Net raw) (Refused s ms r) b h k = absurd k
 one_body entries Check (Net raw) (Checked s) (Refused t ns r) h k = absurd (checked_not_refused raw s t ns r h k)
 one_body entries Check (Net raw) (Checked s) (Checked t) h k = record { text = λ i. size_text (same_size raw s t h.graph k.graph h.read k.read i) ++ codes "connected\n"; accepted = refl; key = refl }
@@ -205,6 +225,9 @@ one_body entries Key (Net raw) (Keyed s m) b h k = absurd k
 one_body entries Identify (Net raw) (Identified s us m xs ms) (Refused t ns r) h k = absurd (keyed_as_not_refused raw Identify s t ns m r h.keyed k)
 one_body entries Identify (Net raw) (Identified s us m xs ms) (Identified t vs n ys ns) h k = one_identified raw entries s t us vs m n xs ys ms ns h k
 one_body entries Identify (Net raw) (Identified s us m xs ms) b h k = absurd k
+one_body entries Components (Net raw) (Lines s x xs) (Lines t y ys) h k = one_divided raw s t x y xs ys h k
+one_body entries Components (Net raw) (Lines s x xs) (Refused t ns r) h k = absurd (none_of_components r k.may)
+one_body entries Components (Net raw) (Lines s x xs) b h k = absurd k
 one_body entries command (Net raw) a b h k = absurd h
 
 -- two lists of outcomes tell the same

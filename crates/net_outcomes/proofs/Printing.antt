@@ -22,7 +22,7 @@ use Rattle.net_report.specs.Numbers.{IsNamed}
 use Rattle.net_report.specs.Refusals.{AreNamed, HasLine}
 use Rattle.net_report.specs.Reports.{IsPrintableBody}
 use Rattle.net_report.specs.declared.outcome.OutcomeBody.{OutcomeBody}
-use Rattle.net_report.specs.declared.outcome.OutcomeBody.TheVariants.{Unsupported, Malformed, Refused, Checked, Located, Keyed, Identified}
+use Rattle.net_report.specs.declared.outcome.OutcomeBody.TheVariants.{Unsupported, Malformed, Refused, Checked, Located, Keyed, Identified, Lines, Faulty as FaultyItem}
 use Rattle.least_key.specs.Truths.{IsTrueOf}
 use Rattle.net_outcomes.specs.Outcomes.{MayTell, IsBodyOf}
 use Rattle.command_words.specs.declared.tasks.Command.{Command}
@@ -72,6 +72,8 @@ told_of_body entries command body (Unsupported token) g h = tt
 told_of_body entries command body (Malformed fault) g h = tt
 told_of_body entries command body (Checked size) g h = tt
 told_of_body entries command body (Keyed size net) g h = tt
+told_of_body entries command body (Lines size accepted lines) g h = tt
+told_of_body entries command body (FaultyItem line number kind) g h = tt
 told_of_body entries command (Net raw) (Refused size names refusal) g h =
     subst (λ ns. HasLine ns refusal) (sym h.names_are) (refusal_line command raw h.graph refusal g h.read.in_order h.may h.is_true)
 told_of_body entries Place (Net raw) (Located size names placed) g h = ap length h.names_are ∙ sym (ap (λ (G : Graph). G.vertices) h.placed_as.graph ∙ h.read.in_order.vertices)

@@ -1,5 +1,5 @@
 -- What the outcomes of all blocks say together: two keys decide whether nets are isomorphic, and a certain graph is accepted.
-use Rattle.std.specs.Prelude.{◌≡◌, ◌↔◌, ℕ, ◌<◌, ℤ, true, List, length, slice_index_or, Option, Some, None}
+use Rattle.std.specs.Prelude.{◌≡◌, ◌≢◌, ◌↔◌, ℕ, ◌<◌, ℤ, true, List, length, slice_index_or, Option, Some, None}
 use Rattle.std.specs.List.{Contains}
 use Rattle.periodic_net.specs.Graph.{Graph}
 use Rattle.periodic_net.specs.Maps.{Iso}
@@ -14,6 +14,7 @@ use Rattle.net_report.specs.declared.outcome.Outcome.{Outcome}
 use Rattle.net_report.specs.declared.outcome.OutcomeBody.{OutcomeBody}
 use Rattle.net_report.specs.declared.outcome.OutcomeBody.TheVariants.{Keyed, Identified}
 use Rattle.command_words.specs.declared.tasks.Command.{Command}
+use Rattle.command_words.specs.declared.tasks.Command.TheVariants.{Components}
 use Rattle.net_outcomes.specs.Outcomes.{AreOutcomesFrom, is_accepted}
 
 -- the key that is told of a block
@@ -54,10 +55,11 @@ CertainAreAccepted blocks outcomes =
     → ((G : Graph) → IsInOrder (graph_of raw) G → IsCertain G) → is_accepted outcome ≡ true
 
 -- These are the outcomes of the blocks under a command, beside an archive with these entries: one of each block, in order. Two keys, of
--- blocks or of entries, are equal exactly where the nets are isomorphic, and a block whose graph is certain is accepted.
+-- blocks or of entries, are equal exactly where the nets are isomorphic; and but for the
+-- components, a block whose graph is certain is accepted.
 pub record AreOutcomes (command : Command) (entries : List EntryView) (blocks : List BlockView) (outcomes : List Outcome) : Type 0 where
   pub each : AreOutcomesFrom entries command 1 blocks outcomes
   pub keys : KeysDecideBlocks blocks outcomes
   pub entry_keys : KeysDecideEntries entries blocks outcomes
   pub archive_keys : KeysDecideArchive entries
-  pub certain : CertainAreAccepted blocks outcomes
+  pub certain : command ≢ Components → CertainAreAccepted blocks outcomes

@@ -5,13 +5,14 @@ use Rattle.periodic_net.specs.Placement.{Placement, IsBarycentric, IsTranslate}
 use Rattle.cgd_read.specs.Graphs.{graph_of}
 use Rattle.cgd_read.specs.Views.{RawView, BodyView, Net, Other, Faulty, BlockView}
 use Rattle.quotient_graph.specs.Stars.{IsInOrder}
+use Rattle.component_report.specs.Told.{AreComponentsTold}
 use Rattle.coordination.specs.Sequences.{AreSequencesOf}
 use Rattle.net_entries.specs.Entries.{EntryView}
 use Rattle.net_archive.specs.Deciding.{AreNamesOf}
 use Rattle.net_report.specs.declared.outcome.Size.{Size}
 use Rattle.net_report.specs.declared.outcome.Outcome.{Outcome}
 use Rattle.net_report.specs.declared.outcome.OutcomeBody.{OutcomeBody}
-use Rattle.net_report.specs.declared.outcome.OutcomeBody.TheVariants.{Unsupported, Malformed, Refused, Checked, Located, Keyed, Identified}
+use Rattle.net_report.specs.declared.outcome.OutcomeBody.TheVariants.{Unsupported, Malformed, Refused, Checked, Located, Keyed, Identified, Lines, Faulty as FaultyItem}
 use Rattle.least_key.specs.AnyPlacements.{placed_in}
 use Rattle.least_key.specs.AnyNets.{net_in}
 use Rattle.least_key.specs.KeyedNets.{IsKeyed}
@@ -22,7 +23,7 @@ use Rattle.least_key.specs.declared.path.AnyPlaced.{AnyPlaced}
 use Rattle.least_key.specs.declared.refusal.Refusal.{Refusal}
 use Rattle.least_key.specs.declared.refusal.Refusal.TheVariants.{NoMemory}
 use Rattle.command_words.specs.declared.tasks.Command.{Command}
-use Rattle.command_words.specs.declared.tasks.Command.TheVariants.{Check, Place, Key, Identify}
+use Rattle.command_words.specs.declared.tasks.Command.TheVariants.{Check, Place, Key, Identify, Components}
 
 -- its sizes
 abbrev pub size_of : RawView → Size
@@ -35,6 +36,7 @@ MayTell Check refusal = IsOfConnecting refusal
 MayTell Place refusal = IsOfPlacing refusal
 MayTell Key refusal = Unit {0}
 MayTell Identify refusal = Unit {0}
+MayTell Components refusal = ⊥
 
 -- G is the graph of a block, a quotient graph with its edges in order, and size has its sizes
 pub record IsGraphOf (raw : RawView) (size : Size) (G : Graph) : Type 0 where
@@ -84,6 +86,12 @@ pub record IsIdentifiedAs (entries : List EntryView) (raw : RawView) (size : Siz
   pub shells_are : AreSequencesOf keyed.graph shells
   pub names_are : AreNamesOf keyed.graph entries names
 
+-- the components of the block's graph are told in these lines: each part with its key or its refusal, or why there are no parts
+pub record IsDividedAs (raw : RawView) (size : Size) (accepted : Bool) (lines : List ℕ) : Type 0 where
+  pub graph : Graph
+  pub read : IsGraphOf raw size graph
+  pub told : AreComponentsTold graph raw.names accepted lines
+
 -- what a command tells of a block, beside an archive with these entries
 abbrev pub IsBodyOf : List EntryView → Command → BodyView → OutcomeBody → Type 0
 IsBodyOf entries command (Other token) (Unsupported told) = told.now ≡ token
@@ -93,6 +101,7 @@ IsBodyOf entries Check (Net raw) (Checked size) = IsCheckedAs raw size
 IsBodyOf entries Place (Net raw) (Located size names placed) = IsLocatedAs raw size names placed
 IsBodyOf entries Key (Net raw) (Keyed size net) = IsKeyedAs raw size net
 IsBodyOf entries Identify (Net raw) (Identified size vertices net shells names) = IsIdentifiedAs entries raw size vertices net shells names
+IsBodyOf entries Components (Net raw) (Lines size accepted lines) = IsDividedAs raw size accepted lines
 IsBodyOf entries command body told = ⊥
 
 -- the outcome of the block with this number
@@ -112,11 +121,13 @@ AreOutcomesFrom entries command number blocks os = ⊥
 abbrev pub is_accepted_body : OutcomeBody → Bool
 is_accepted_body (Unsupported token) = false
 is_accepted_body (Malformed fault) = false
+is_accepted_body (FaultyItem line number kind) = false
 is_accepted_body (Refused size names refusal) = false
 is_accepted_body (Checked size) = true
 is_accepted_body (Located size names placed) = true
 is_accepted_body (Keyed size net) = true
 is_accepted_body (Identified size vertices net shells names) = true
+is_accepted_body (Lines size accepted lines) = accepted
 
 abbrev pub is_accepted : Outcome → Bool
 is_accepted o = is_accepted_body o.body

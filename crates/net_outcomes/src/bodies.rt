@@ -11,6 +11,7 @@ ghost use Rattle.net_outcomes.specs.Outcomes.{size_of, IsBodyOf, IsKeyedAs};
 
 use cgd_read::{Block, Body, Names, RawGraph};
 use command_words::Command;
+use component_report::tell_components;
 use least_key::{Net, Refusal, check_any, identify, place_any};
 use net_archive::Archive;
 use net_report::{NoMemory, OutcomeBody, Size};
@@ -132,6 +133,21 @@ fn identify_net<'a>(
     }
 }
 
+// What is told of the components of a net.
+fn components_net<'a>(alloc: Global, raw: &RawGraph<'a>) -> Result<OutcomeBody<'a>, NoMemory>
+    requires { IsReadGraph (raw_view raw.now) }
+    ensures { (entries : List EntryView) →
+        IfOk result (IsBodyOf entries Command.Components (ReadNet (raw_view raw.now))) }
+{
+    let graph = from_raw(alloc, raw)?;
+    let told = tell_components(alloc, &raw.names, &graph)?;
+    Ok(OutcomeBody::Lines {
+        size: size_of(raw),
+        accepted: told.accepted,
+        lines: told.lines,
+    })
+}
+
 /// What a command tells of a block, beside an archive.
 pub fn body_of<'a>(
     alloc: Global,
@@ -148,6 +164,7 @@ pub fn body_of<'a>(
             Command::Place => place_net(alloc, raw),
             Command::Key => key_net(alloc, raw),
             Command::Identify => identify_net(alloc, archive, raw),
+            Command::Components => components_net(alloc, raw),
         },
         Body::Unsupported(token) => Ok(OutcomeBody::Unsupported(token)),
         Body::Malformed(fault) => Ok(OutcomeBody::Malformed(*fault)),

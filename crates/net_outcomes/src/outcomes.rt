@@ -63,9 +63,11 @@ pub fn is_accepted(body: &OutcomeBody<'_>) -> bool
     ensures { result ≡ is_accepted_body body.now }
 {
     match body {
-        OutcomeBody::Unsupported(_) | OutcomeBody::Malformed(_) | OutcomeBody::Refused(_, _, _) => {
-            false
-        }
+        OutcomeBody::Unsupported(_)
+        | OutcomeBody::Malformed(_)
+        | OutcomeBody::Faulty { .. }
+        | OutcomeBody::Refused(_, _, _) => false,
+        OutcomeBody::Lines { accepted, .. } => *accepted,
         _ => true,
     }
 }

@@ -1,9 +1,7 @@
 -- The lines that a block's text begins with, and the line of its fault.
 use Rattle.std.specs.Prelude.{ℕ, List, [], ◌++◌, Option, None, Some, codes}
-use Rattle.std.specs.Fmt.{decimal}
 use Rattle.cgd_read.specs.Faults.{number_of_kind}
 use Rattle.cgd_read.specs.declared.block.BlockFault.{BlockFault}
-use Rattle.cgd_read.specs.declared.block.BlockFaultKind.{BlockFaultKind}
 use Rattle.net_report.specs.KindNames.{kind_name}
 use Rattle.line_text.specs.Numbers.{field_text}
 use Rattle.net_report.specs.declared.outcome.Size.{Size}
@@ -32,10 +30,10 @@ unsupported_word = codes "unsupported "
 abbrev pub unsupported_text : List ℕ → List ℕ
 unsupported_text token = unsupported_word ++ token ++ codes "\n"
 
--- the number and the name of a kind of faults
-abbrev pub kind_text : BlockFaultKind → List ℕ
-kind_text kind = decimal (number_of_kind kind) ++ codes " " ++ kind_name kind
+-- the line of a fault, and the number and the name of its kind
+abbrev pub faulty_text : ℕ → ℕ → List ℕ → List ℕ
+faulty_text line number kind = field_text (codes "malformed line=") line ++ field_text (codes " ") number ++ codes " " ++ kind ++ codes "\n"
 
--- the line of a fault, and its kind
+-- the same of the first fault of a graph block
 abbrev pub fault_text : BlockFault → List ℕ
-fault_text fault = field_text (codes "malformed line=") fault.line ++ codes " " ++ kind_text fault.kind ++ codes "\n"
+fault_text fault = faulty_text fault.line (number_of_kind fault.kind) (kind_name fault.kind)

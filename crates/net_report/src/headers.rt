@@ -1,11 +1,11 @@
 // The lines that a block's text begins with, and the line of its fault.
 ghost use Rattle.std.specs.Prelude.{◌≡◌, ◌++◌, OnOk, option_copied};
-ghost use Rattle.net_report.specs.Headers.{name_text, quoted_name, header_text, size_text, unsupported_word, unsupported_text, kind_text, fault_text};
+ghost use Rattle.net_report.specs.Headers.{name_text, quoted_name, header_text, size_text, unsupported_word, unsupported_text, faulty_text, fault_text};
 ghost use Rattle.net_report.specs.KindNames.{kind_name};
 
 use crate::{NoMemory, Size};
 use cgd_read::{BlockFault, BlockFaultKind};
-use line_text::{push_count, push_field};
+use line_text::push_field;
 
 /// A name in quotes, after a blank.
 pub fn push_quoted(text: &mut Vec<u8>, name: &[u8]) -> Result<(), NoMemory>
@@ -88,21 +88,20 @@ fn kind_name(kind: BlockFaultKind) -> &'static [u8]
     }
 }
 
-// The number and the name of a kind of faults.
-fn push_kind(text: &mut Vec<u8>, kind: BlockFaultKind) -> Result<(), NoMemory>
-    ensures { OnOk result (text.new.items ≡ text.old.items ++ kind_text kind) }
+/// The line of a fault, and the number and the name of its kind.
+pub fn push_faulty(text: &mut Vec<u8>, line: u32, number: u32, kind: &[u8]) -> Result<(), NoMemory>
+    ensures { OnOk result (text.new.items ≡ text.old.items ++ faulty_text line number kind.now) }
 {
-    push_count(text, kind.number() as u64)?;
+    push_field(text, b"malformed line=", line as u64)?;
+    push_field(text, b" ", number as u64)?;
     text.extend_from_slice(b" ")?;
-    text.extend_from_slice(kind_name(kind))
+    text.extend_from_slice(kind)?;
+    text.extend_from_slice(b"\n")
 }
 
 /// The line of the first fault of a graph block.
 pub fn push_fault(text: &mut Vec<u8>, fault: BlockFault) -> Result<(), NoMemory>
     ensures { OnOk result (text.new.items ≡ text.old.items ++ fault_text fault) }
 {
-    push_field(text, b"malformed line=", fault.line as u64)?;
-    text.extend_from_slice(b" ")?;
-    push_kind(text, fault.kind)?;
-    text.extend_from_slice(b"\n")
+    push_faulty(text, fault.line, fault.kind.number(), kind_name(fault.kind))
 }

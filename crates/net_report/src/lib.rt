@@ -13,8 +13,10 @@ mod sequences;
 mod texts;
 
 pub use headers::push_quoted;
+pub use keys::push_key;
 pub use least_key::AnyPlaced;
+pub use numbers::push_vertex;
 pub use outcome::{Outcome, OutcomeBody, Outcomes, Size};
-pub use refused::refused_line;
+pub use refused::{push_refused, refused_line};
 pub use std::alloc::AllocError as NoMemory;
 pub use texts::{push_outcome, report};

@@ -20,6 +20,12 @@ pub enum OutcomeBody<'a> {
     Unsupported(&'a [u8]),
     /// The first fault of a graph block.
     Malformed(BlockFault),
+    /// The first fault of an item of another kind of text: its line, and the number and the name of its kind.
+    Faulty {
+        line: u32,
+        number: u8,
+        kind: &'a [u8],
+    },
     /// The graph is refused.
     Refused(Size, Names<'a>, Refusal),
     /// The net is connected.
@@ -35,6 +41,12 @@ pub enum OutcomeBody<'a> {
         net: Net,
         shells: Sequences,
         names: Names<'a>,
+    },
+    /// The graph has these lines after its sizes, and is accepted or not.
+    Lines {
+        size: Size,
+        accepted: bool,
+        lines: Items<u8>,
     },
 }
 

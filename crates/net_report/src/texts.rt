@@ -2,7 +2,7 @@
 ghost use Rattle.std.specs.Prelude.{◌≡◌, ◌++◌, All, IfOk, OnOk};
 ghost use Rattle.net_report.specs.Reports.{body_text, outcome_text, report_text, IsPrintableBody, IsPrintable};
 
-use crate::headers::{push_fault, push_header, push_size, push_unsupported};
+use crate::headers::{push_fault, push_faulty, push_header, push_size, push_unsupported};
 use crate::identified::push_identified;
 use crate::keys::push_key;
 use crate::placements::push_placement;
@@ -17,6 +17,12 @@ fn push_body(text: &mut Vec<u8>, body: &OutcomeBody<'_>) -> Result<(), NoMemory>
     match body {
         OutcomeBody::Unsupported(token) => push_unsupported(text, token),
         OutcomeBody::Malformed(fault) => push_fault(text, *fault),
+        OutcomeBody::Faulty { line, number, kind } => push_faulty(
+            text,
+            *line,
+            *number as u32,
+            kind,
+        ),
         OutcomeBody::Refused(size, names, refusal) => {
             push_size(text, *size)?;
             push_refused(text, names, refusal)
@@ -42,6 +48,10 @@ fn push_body(text: &mut Vec<u8>, body: &OutcomeBody<'_>) -> Result<(), NoMemory>
         } => {
             push_size(text, *size)?;
             push_identified(text, vertices, net, shells, names)
+        }
+        OutcomeBody::Lines { size, lines, .. } => {
+            push_size(text, *size)?;
+            text.extend_from_slice(lines.as_slice())
         }
     }
 }

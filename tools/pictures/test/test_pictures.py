@@ -183,7 +183,7 @@ class Files(FolderTest):
     def test_nets_without_a_key_are_told(self):
         refused = run(PROGRAM, "identify", TOP / "examples/interwoven.cgd", status=1).stdout
         done = self.draw("--page", self.folder / "page.html", report=refused, status=1)
-        self.assertEqual(done.stderr.count(b": no picture: refused"), 2)
+        self.assertEqual(done.stderr.count(b": no picture: refused"), 4)
 
     def test_words_without_a_form(self):
         self.draw(status=2)

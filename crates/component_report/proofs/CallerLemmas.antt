@@ -1,0 +1,2 @@
+-- The lemmas of this crate that other crates cite.
+pub use Rattle.component_report.proofs.OneTelling.{one_telling}
