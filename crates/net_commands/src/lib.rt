@@ -1,0 +1,6 @@
+//! What is asked of each net of a file.
+#![tactic(auto)]
+
+mod command;
+
+pub use command::Command;
