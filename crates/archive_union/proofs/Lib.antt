@@ -1,3 +1,4 @@
+pub mod CallerLemmas
 mod Members
 mod UnitedEntries
 mod Unions

@@ -10,3 +10,5 @@ mod KeyNumbers
 mod KeyFields
 mod KeyTaken
 mod KeyLaw
+mod NetNames
+pub mod CallerLemmas

@@ -8,3 +8,4 @@ pub mod Faults
 pub mod Items
 pub mod Reading
 pub mod Views
+pub mod NetNames

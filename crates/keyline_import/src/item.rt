@@ -48,7 +48,7 @@ pub enum ItemFaultKind {
 
 impl ItemFaultKind {
     /// The number by which it is reported.
-    pub fn number(self) -> u32
+    pub fn number(self) -> u8
         ensures { result ≡ number_of_kind self }
     {
         match self {

@@ -14,6 +14,6 @@ mod tests;
 mod values;
 
 pub use item::{Item, ItemBody, ItemFault, ItemFaultKind, ItemRefusal};
-pub use laws::key_lines_are_taken;
+pub use laws::{key_lines_are_taken, nets_are_named};
 pub use read::items;
 pub use std::alloc::AllocError as NoMemory;
