@@ -7,4 +7,5 @@ pub mod GivenEdges
 pub mod GivenLists
 pub mod NewShifts
 pub mod Numbers
+pub mod OneLattice
 pub mod Places

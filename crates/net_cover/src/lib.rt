@@ -4,6 +4,7 @@
 mod cell;
 mod covering;
 mod faults;
+mod laws;
 mod lifting;
 #[cfg(test)]
 mod tests;
@@ -11,4 +12,5 @@ mod tests;
 pub use cell::Cell;
 pub use covering::cover;
 pub use faults::CoverFault;
+pub use laws::{cover_is_not_refused, one_cover, one_cover_fault};
 pub use std::alloc::AllocError as NoMemory;
