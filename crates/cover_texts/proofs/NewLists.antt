@@ -1,0 +1,154 @@
+-- Lists that take what is new at their end.
+use Rattle.std.proofs.Common.{◌≡◌, ◌⊎◌, inl, inr, ℕ, zero, suc, ◌+◌, ◌<◌, ◌≤◌, ◌||◌, not, Bool, true, false, cond, List, [], ◌∷◌, ◌++◌, length, get_or, refl, sym, ap, subst, ◌∙◌, arith, length-append}
+use Rattle.std.specs.Bool.{Decides}
+use Rattle.std.specs.List.{list_any, position_or_len}
+use Rattle.std.proofs.lemmas.Bool.{false≢true}
+use Rattle.integers.proofs.lists.Members.{IsIn, AreApart}
+use Rattle.cgd_read.specs.Edges.{with_new}
+
+-- what stands in one of two lists stands in both together
+pub in_first : {X : Type 0} (xs ys : List X) (z : X) → IsIn xs z → IsIn (xs ++ ys) z
+in_first [] ys z h = absurd h
+in_first (x ∷ xs) ys z (inl e) = inl e
+in_first (x ∷ xs) ys z (inr h) = inr (in_first xs ys z h)
+
+in_second : {X : Type 0} (xs ys : List X) (z : X) → IsIn ys z → IsIn (xs ++ ys) z
+in_second [] ys z h = h
+in_second (x ∷ xs) ys z h = inr (in_second xs ys z h)
+
+in_either : {X : Type 0} (xs ys : List X) (z : X) → IsIn (xs ++ ys) z → IsIn xs z ⊎ IsIn ys z
+in_either [] ys z h = inr h
+in_either (x ∷ xs) ys z (inl e) = inl (inl e)
+in_either (x ∷ xs) ys z (inr h) = elim (in_either xs ys z h) [ inl l ↦ inl (inr l) | inr r ↦ inr r ]
+
+module _ {X : Type 0} (same : X → X → Bool) (decides : (x y : X) → Decides (same x y) (x ≡ y)) where
+  -- the place of x
+  abbrev pub place : X → List X → ℕ
+  place x xs = position_or_len (same x) xs
+
+  -- what the test finds stands in the list
+  pub any_in : (xs : List X) (x : X) → list_any (same x) xs ≡ true → IsIn xs x
+  any_in [] x e = absurd (false≢true e)
+  any_in (y ∷ ys) x e = by (same x y) refl (any_in ys x) e
+    where
+      by : (t : Bool) → same x y ≡ t → (list_any (same x) ys ≡ true → IsIn ys x) → (t || list_any (same x) ys) ≡ true → IsIn (y ∷ ys) x
+      by true f on g = inl (sym ((decides x y).0 f))
+      by false f on g = inr (on g)
+
+  none_in : (xs : List X) (x : X) → list_any (same x) xs ≡ false → ¬ IsIn xs x
+  none_in [] x e h = h
+  none_in (y ∷ ys) x e h = by (same x y) refl (none_in ys x) e h
+    where
+      by : (t : Bool) → same x y ≡ t → (list_any (same x) ys ≡ false → ¬ IsIn ys x) → (t || list_any (same x) ys) ≡ false → ¬ IsIn (y ∷ ys) x
+      by true f on g h = false≢true (sym g)
+      by false f on g (inl q) = false≢true (sym f ∙ (decides x y).1 (sym q))
+      by false f on g (inr i) = on g i
+
+  -- any fact of the grown list
+  pub grown_is : (P : List X → Type 0) (xs : List X) (x : X) → (IsIn xs x → P xs) → (¬ IsIn xs x → P (xs ++ x ∷ [])) → P (with_new same xs x)
+  grown_is P xs x p q = by (list_any (same x) xs) refl
+    where
+      by : (t : Bool) → list_any (same x) xs ≡ t → P (cond t xs (xs ++ x ∷ []))
+      by true e = p (any_in xs x e)
+      by false e = q (none_in xs x e)
+
+  pub has_new : (xs : List X) (x : X) → IsIn (with_new same xs x) x
+  has_new xs x = grown_is (λ l. IsIn l x) xs x (λ h. h) (λ n. in_second xs (x ∷ []) x (inl refl))
+
+  pub keeps : (xs : List X) (x y : X) → IsIn xs y → IsIn (with_new same xs x) y
+  keeps xs x y h = grown_is (λ l. IsIn l y) xs x (λ i. h) (λ n. in_first xs (x ∷ []) y h)
+
+  pub tells_new : (xs : List X) (x y : X) → IsIn (with_new same xs x) y → IsIn xs y ⊎ (x ≡ y)
+  tells_new xs x y = grown_is (λ l. IsIn l y → IsIn xs y ⊎ (x ≡ y)) xs x (λ i h. inl h)
+      (λ n h. elim (in_either xs (x ∷ []) y h) [
+        | inl l ↦ inl l
+        | inr r ↦ elim r [ inl e ↦ inr e | inr f ↦ absurd f ]
+      ])
+
+  apart_end : (xs : List X) (x : X) → AreApart xs → ¬ IsIn xs x → AreApart (xs ++ x ∷ [])
+  apart_end [] x a n = ((λ f. f), tt)
+  apart_end (y ∷ ys) x a n = (
+    (λ h. elim (in_either ys (x ∷ []) y h) [
+      | inl l ↦ a.0 l
+      | inr r ↦ elim r [ inl e ↦ n (inl (sym e)) | inr f ↦ f ]
+    ]),
+    apart_end ys x a.1 (λ h. n (inr h)),
+  )
+
+  pub apart_new : (xs : List X) (x : X) → AreApart xs → AreApart (with_new same xs x)
+  apart_new xs x a = grown_is AreApart xs x (λ h. a) (λ n. apart_end xs x a n)
+
+  pub few_new : (xs : List X) (x : X) → length (with_new same xs x) ≤ length xs + 1
+  few_new xs x = grown_is (λ l. length l ≤ length xs + 1) xs x (λ h. omega arith) (λ n. let l = length-append xs (x ∷ []) in omega (arith, l))
+
+  -- a place in a list that goes on
+  place_kept : (xs ys : List X) (x : X) → IsIn xs x → place x (xs ++ ys) ≡ place x xs
+  place_kept [] ys x h = absurd h
+  place_kept (y ∷ xs) ys x h = by (same x y) refl (place_kept xs ys x) h
+    where
+      by : (t : Bool) → same x y ≡ t → (IsIn xs x → place x (xs ++ ys) ≡ place x xs) → IsIn (y ∷ xs) x → cond (not t) (1 + place x (xs ++ ys)) 0 ≡ cond (not t) (1 + place x xs) 0
+      by true f on h = refl
+      by false f on (inl e) = absurd (false≢true (sym f ∙ (decides x y).1 (sym e)))
+      by false f on (inr i) = ap (λ (n : ℕ). 1 + n) (on i)
+
+  -- the place of what is put last
+  place_last : (xs : List X) (x : X) → ¬ IsIn xs x → place x (xs ++ x ∷ []) ≡ place x xs
+  place_last [] x n = ap (λ (t : Bool). cond (not t) 1 0) ((decides x x).1 refl)
+  place_last (y ∷ xs) x n = by (same x y) (place_last xs x (λ h. n (inr h)))
+    where
+      by : (t : Bool) → place x (xs ++ x ∷ []) ≡ place x xs → cond (not t) (1 + place x (xs ++ x ∷ [])) 0 ≡ cond (not t) (1 + place x xs) 0
+      by true e = refl
+      by false e = ap (λ (n : ℕ). 1 + n) e
+
+  pub place_new : (xs : List X) (x : X) → place x xs ≡ place x (with_new same xs x)
+  place_new xs x = grown_is (λ l. place x xs ≡ place x l) xs x (λ h. refl) (λ n. sym (place_last xs x n))
+
+  pub place_grown : (xs : List X) (x y : X) → IsIn xs y → place y xs ≡ place y (with_new same xs x)
+  place_grown xs x y h = grown_is (λ l. place y xs ≡ place y l) xs x (λ i. refl) (λ n. sym (place_kept xs (x ∷ []) y h))
+
+  pub place_below : (xs : List X) (x : X) → IsIn xs x → place x xs < length xs
+  place_below [] x h = absurd h
+  place_below (y ∷ xs) x h = by (same x y) refl (place_below xs x) h
+    where
+      by : (t : Bool) → same x y ≡ t → (IsIn xs x → place x xs < length xs) → IsIn (y ∷ xs) x → cond (not t) (1 + place x xs) 0 < suc (length xs)
+      by true f on h = omega arith
+      by false f on (inl e) = absurd (false≢true (sym f ∙ (decides x y).1 (sym e)))
+      by false f on (inr i) = let l = on i in omega (arith, l)
+
+  -- what stands at its place
+  pub at_place : (xs : List X) (x d : X) → IsIn xs x → get_or xs (place x xs) d ≡ x
+  at_place [] x d h = absurd h
+  at_place (y ∷ xs) x d h = by (same x y) refl (at_place xs x d) h
+    where
+      by : (t : Bool) → same x y ≡ t → (IsIn xs x → get_or xs (place x xs) d ≡ x) → IsIn (y ∷ xs) x → get_or (y ∷ xs) (cond (not t) (1 + place x xs) 0) d ≡ x
+      by true f on h = sym ((decides x y).0 f)
+      by false f on (inl e) = absurd (false≢true (sym f ∙ (decides x y).1 (sym e)))
+      by false f on (inr i) = ap (λ (n : ℕ). get_or (y ∷ xs) n d) (let e : 1 + place x xs ≡ suc (place x xs) = omega arith in e) ∙ on i
+
+  -- what stands at a place of a list
+  pub get_in : (xs : List X) (k : ℕ) (d : X) → k < length xs → IsIn xs (get_or xs k d)
+  get_in [] k d l = absurd (omega (arith, l))
+  get_in (x ∷ xs) zero d l = inl refl
+  get_in (x ∷ xs) (suc k) d l = inr (get_in xs k d (omega (arith, l)))
+
+  -- and its place is that one
+  pub place_of_get : (xs : List X) (k : ℕ) (d : X) → AreApart xs → k < length xs → place (get_or xs k d) xs ≡ k
+  place_of_get [] k d a l = absurd (omega (arith, l))
+  place_of_get (x ∷ xs) zero d a l = ap (λ (t : Bool). cond (not t) (1 + place x xs) 0) ((decides x x).1 refl)
+  place_of_get (x ∷ xs) (suc k) d a l = by (same (get_or xs k d) x) refl (place_of_get xs k d a.1)
+    where
+      below : k < length xs
+      below = omega (arith, l)
+
+      by : (t : Bool) → same (get_or xs k d) x ≡ t → (k < length xs → place (get_or xs k d) xs ≡ k) → cond (not t) (1 + place (get_or xs k d) xs) 0 ≡ suc k
+      by true f on = absurd (a.0 (subst (λ y. IsIn xs y) ((decides (get_or xs k d) x).0 f) (get_in xs k d below)))
+      by false f on = let p = on below in omega (arith, p)
+
+  -- what does not stand in a list has its length as place
+  pub place_none : (xs : List X) (x : X) → ¬ IsIn xs x → place x xs ≡ length xs
+  place_none [] x n = refl
+  place_none (y ∷ xs) x n = by (same x y) refl (place_none xs x (λ h. n (inr h)))
+    where
+      by : (t : Bool) → same x y ≡ t → place x xs ≡ length xs → cond (not t) (1 + place x xs) 0 ≡ suc (length xs)
+      by true f e = absurd (n (inl (sym ((decides x y).0 f))))
+      by false f e = omega (arith, e)

@@ -1,0 +1,102 @@
+-- The lines of a text, one after another.
+use Rattle.std.proofs.Common.{◌≡◌, ℕ, ◌+◌, ◌==◌, not, Bool, true, false, cond, List, [], ◌∷◌, ◌++◌, length, Some, refl, sym, ap, ◌∙◌, append_assoc}
+use Rattle.std.specs.Prelude.{All}
+use Rattle.std.specs.List.{flat_map, list_all}
+use Rattle.std.proofs.lemmas.Bool.{and_parts, false≢true}
+use Rattle.std.proofs.lemmas.List.Elements.{All-nil, All-cons, All-append}
+use Rattle.std.proofs.lemmas.List.Splits.{slice_split_at}
+use Rattle.cgd_lex.specs.Lines.{is_newline, filled_line, filled_lines}
+use Rattle.cgd_lex.specs.Pieces.{Piece, Blank, Comment, Closed, Unclosed, Control, Run, bytes_of, cut_of}
+use Rattle.cgd_lex.specs.Tokens.{TokenView, tokens_of_line, tokens_of_pieces, token_at, tokens_from, kind_of_piece, kind_of_run, is_whole, newline, later_lines, first_of, others_of}
+use Rattle.cgd_lex.specs.declared.token.TokenKind.{TokenKind}
+use Rattle.cgd_lex.specs.declared.token.TokenKind.TheVariants.{Word, Whole, Quoted, Bad}
+use Rattle.cgd_lex.proofs.Steps.{split_some}
+use Rattle.cgd_read.specs.Lines.{LineView, line_of, token_lines}
+
+-- no line feed stands in the bytes
+abbrev pub HasNoFeed : List ℕ → Type 0
+HasNoFeed bytes = All (λ b. (b == 10) ≡ false) bytes
+
+not_true : (t : Bool) → not t ≡ true → t ≡ false
+not_true true e = absurd (false≢true e)
+not_true false e = refl
+
+-- the same by a test
+pub no_feed : (bs : List ℕ) → list_all (λ b. not (b == 10)) bs ≡ true → HasNoFeed bs
+no_feed [] e = All-nil (λ b. (b == 10) ≡ false)
+no_feed (b ∷ bs) e =
+    let p = and_parts (not (b == 10)) (list_all (λ b. not (b == 10)) bs) e in
+    All-cons (λ b. (b == 10) ≡ false) b bs (not_true (b == 10) p.0) (no_feed bs p.1)
+
+-- no token of a line is a Newline
+abbrev IsInLine : TokenView → Type 0
+IsInLine t = is_newline t.kind ≡ false
+
+run_in_line : (t : Bool) → is_newline (cond t Whole Word) ≡ false
+run_in_line true = refl
+run_in_line false = refl
+
+one_in_line : (at line : ℕ) (bytes : List ℕ) (kind : TokenKind) → is_newline kind ≡ false → All IsInLine (token_at at line bytes (Some kind))
+one_in_line at line bytes kind e = All-cons IsInLine (record { kind = kind; text = bytes; start = at; line = line }) [] e (All-nil IsInLine)
+
+piece_in_line : (at line : ℕ) (p : Piece) → All IsInLine (token_at at line (bytes_of p) (kind_of_piece p))
+piece_in_line at line (Blank b) = All-nil IsInLine
+piece_in_line at line (Comment bs) = All-nil IsInLine
+piece_in_line at line (Closed bs) = one_in_line at line (bytes_of (Closed bs)) Quoted refl
+piece_in_line at line (Unclosed bs) = one_in_line at line (bytes_of (Unclosed bs)) Bad refl
+piece_in_line at line (Control b) = one_in_line at line (bytes_of (Control b)) Bad refl
+piece_in_line at line (Run b bs) = one_in_line at line (bytes_of (Run b bs)) (kind_of_run (b ∷ bs)) (run_in_line (is_whole (b ∷ bs)))
+
+all_in_line : (at line : ℕ) (ps : List Piece) → All IsInLine (tokens_of_pieces at line ps)
+all_in_line at line [] = All-nil IsInLine
+all_in_line at line (p ∷ ps) =
+    All-append IsInLine (token_at at line (bytes_of p) (kind_of_piece p)) (tokens_of_pieces (at + length (bytes_of p)) line ps) (piece_in_line at line p) (all_in_line (at + length (bytes_of p)) line ps)
+
+-- the tokens of a line, its Newline, and the tokens of the rest
+abbrev from_lines : ℕ → ℕ → List (List ℕ) → List TokenView
+from_lines at line ls = tokens_of_line at line (first_of ls) ++ later_lines (at + length (first_of ls)) line (others_of ls)
+
+line_tokens : (at n : ℕ) (bytes rest : List ℕ) → HasNoFeed bytes
+    → tokens_from at n (bytes ++ 10 ∷ rest) ≡ tokens_of_line at n bytes ++ newline (at + length bytes) n ∷ tokens_from (at + length bytes + 1) (n + 1) rest
+line_tokens at n bytes rest h =
+    ap (from_lines at n) (slice_split_at (λ (x : ℕ). x == 10) bytes 10 rest h refl)
+    ∙ ap (λ (ls : List (List ℕ)). tokens_of_line at n bytes ++ later_lines (at + length bytes) n ls) (split_some rest)
+
+-- the line of tokens before a Newline, and the lines of those after it
+before_newline : (ts us : List TokenView) (t : TokenView) → All IsInLine ts → is_newline t.kind ≡ true → token_lines (ts ++ t ∷ us) ≡ line_of ts ++ token_lines us
+before_newline ts us t h e = ap (λ (ls : List (List TokenView)). flat_map line_of (flat_map filled_line ls)) (slice_split_at (λ (t : TokenView). is_newline t.kind) ts t us h e) ∙ by ts
+  where
+    by : (ts : List TokenView) → flat_map line_of (filled_line ts ++ filled_lines us) ≡ line_of ts ++ token_lines us
+    by [] = refl
+    by (t ∷ ts) = refl
+
+-- the lines of a text that begins at this place, in the line of this number
+abbrev pub lines_at : ℕ → ℕ → List ℕ → List LineView
+lines_at at n text = token_lines (tokens_from at n text)
+
+-- from line n on a text has these lines, and then those of the rest, from line m on, wherever the text begins
+pub record HasLines (n : ℕ) (text : List ℕ) (lines : List LineView) (m : ℕ) (rest : List ℕ) : Type 0 where
+  pub place : ℕ → ℕ
+  pub is : (at : ℕ) → lines_at at n text ≡ lines ++ lines_at (place at) m rest
+
+-- one line
+pub one_line : (n : ℕ) (bytes rest : List ℕ) (line : LineView) → HasNoFeed bytes → ((at : ℕ) → line_of (tokens_of_line at n bytes) ≡ line ∷ [])
+    → HasLines n (bytes ++ 10 ∷ rest) (line ∷ []) (n + 1) rest
+one_line n bytes rest line h e = record {
+  place = λ at. at + length bytes + 1;
+  is = λ at.
+      ap token_lines (line_tokens at n bytes rest h)
+      ∙ before_newline (tokens_of_line at n bytes) (tokens_from (at + length bytes + 1) (n + 1) rest) (newline (at + length bytes) n) (all_in_line at n (cut_of bytes)) refl
+      ∙ ap (λ (ls : List LineView). ls ++ lines_at (at + length bytes + 1) (n + 1) rest) (e at);
+}
+
+-- no line
+pub no_line : (n : ℕ) (text : List ℕ) → HasLines n text [] n text
+no_line n text = record { place = λ at. at; is = λ at. refl }
+
+-- some lines, and then others
+pub more_lines : (n m k : ℕ) (a b c : List ℕ) (xs ys : List LineView) → HasLines n a xs m b → HasLines m b ys k c → HasLines n a (xs ++ ys) k c
+more_lines n m k a b c xs ys h g = record {
+  place = λ at. g.place (h.place at);
+  is = λ at. h.is at ∙ ap (λ (ls : List LineView). xs ++ ls) (g.is (h.place at)) ∙ sym (append_assoc xs ys (lines_at (g.place (h.place at)) k c));
+}
