@@ -1,0 +1,4 @@
+pub mod CallerLemmas
+pub mod ItemBodies
+pub mod ItemListing
+pub mod OneItemOutcome
