@@ -1,1 +1,2 @@
 pub mod ArchiveTexts
+pub mod ArchiveBytes

@@ -1,0 +1,28 @@
+// The archive in bytes, or why they are none.
+ghost use Rattle.std.specs.Prelude.{IfOk};
+ghost use Rattle.archive_report.specs.ArchiveBytes.{AreFew, IsArchiveOrText};
+
+use crate::faults::archive_fault_text;
+use net_archive::{Archive, ArchiveFault};
+use std::alloc::{AllocError, Global};
+
+/// The archive of these bytes, or the text of its fault; without bytes it is empty.
+pub fn archive_in(
+    alloc: Global,
+    bytes: Option<Vec<u8>>,
+) -> Result<Result<Archive, Vec<u8>>, AllocError>
+    requires { AreFew bytes }
+    ensures { IfOk result (IsArchiveOrText bytes) }
+{
+    let Some(bytes) = bytes else {
+        return Ok(Ok(Archive::empty(alloc)));
+    };
+    match Archive::read(alloc, bytes) {
+        Ok(archive) => {
+            let _ = archive.entries(); // which are those of an archive
+            Ok(Ok(archive))
+        }
+        Err(ArchiveFault::NoMemory) => Err(AllocError),
+        Err(fault) => Ok(Err(archive_fault_text(alloc, &fault)?)),
+    }
+}
