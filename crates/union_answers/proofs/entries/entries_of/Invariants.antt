@@ -1,0 +1,13 @@
+use Rattle.std.proofs.Common.{take}
+use Rattle.std.specs.List.{All}
+use Rattle.net_archive.specs.Archives.{IsEntry}
+use Rattle.net_entries.specs.Entries.{entry_view, entry_views}
+use Rattle.net_entries.specs.declared.entry.Entry.{Entry}
+use Rattle.union_answers.specs.ItemEntries.{AreEntriesTold}
+use Rattle.union_answers.proofs.entries.entries_of.Given as goal
+
+abbrev pub invariant-loop-outcome : goal.invariant-loop-outcome
+invariant-loop-outcome l = record {
+  told : AreEntriesTold (take l.outcome-index l.outcomes) (entry_views l.entries.items);
+  each : All (λ (e : Entry). IsEntry (entry_view e)) l.entries.items;
+}

@@ -1,0 +1,13 @@
+// What holds of what is due to a union. Each function carries a theorem.
+ghost use Rattle.union_answers.specs.Laws.{ManyItemsAreNotAnswered, OneUnionDue};
+
+/// Two answers that are due to a union, of the same bytes of its file and of its archive, have one
+/// status and one text.
+pub fn one_union_due()
+    ensures theorem { OneUnionDue }
+{}
+
+/// Where too many items begin, no answer is due.
+pub fn many_items()
+    ensures theorem { ManyItemsAreNotAnswered }
+{}
