@@ -1,0 +1,4 @@
+pub mod CallerLemmas
+pub mod CoveredBodies
+pub mod Listing
+pub mod OneCovering

@@ -1,0 +1,169 @@
+-- What is due to a cell and to blocks is one.
+use Rattle.std.proofs.Common.{◌≡◌, ◌∙◌, ◌&&◌, ◌⊎◌, inl, inr, ℕ, ◌+◌, Bool, true, List, [], ◌∷◌, ◌++◌, length, refl, sym, ap, subst}
+use Rattle.std.specs.List.{list_all}
+use Rattle.std.proofs.lemmas.Bool.{false≢true}
+use Rattle.std.proofs.lemmas.List.Sorted.{Contains-permutation, IsPermutation-sym}
+use Rattle.integers.proofs.lists.ListOrder.{below_transitive, not_below_itself}
+use Rattle.integers.proofs.lists.Members.{contains_from_in, is_in}
+use Rattle.integers.proofs.lists.Permutations.{rising_from_pairs, same_rising}
+use Rattle.integers.specs.Vectors.{IsBelow}
+use Rattle.periodic_net.specs.Graph.{Arc, Graph}
+use Rattle.cgd_read.specs.Graphs.{graph_of}
+use Rattle.cgd_read.specs.Views.{RawView, BodyView, Net, Other, Faulty, BlockView}
+use Rattle.quotient_graph.specs.Order.{arc_numbers}
+use Rattle.quotient_graph.specs.Stars.{IsInOrder}
+use Rattle.net_cover.specs.Cells.{CellView}
+use Rattle.net_cover.specs.Faults.{IsCoverFault}
+use Rattle.net_cover.proofs.CallerLemmas.{cover_is_not_refused, one_cover, one_cover_fault}
+use Rattle.cover_report.specs.Blocks.{graph_text}
+use Rattle.cover_report.specs.Lines.{covered_text, refused_text}
+use Rattle.net_report.specs.Headers.{fault_text, header_text, size_text, unsupported_text}
+use Rattle.net_report.specs.Reports.{body_text, outcome_text, report_text}
+use Rattle.net_report.specs.declared.outcome.Outcome.{Outcome}
+use Rattle.net_report.specs.declared.outcome.OutcomeBody.{OutcomeBody}
+use Rattle.net_report.specs.declared.outcome.OutcomeBody.TheVariants.{Unsupported, Malformed, Lines}
+use Rattle.net_report.specs.declared.outcome.Size.{Size}
+use Rattle.statuses.specs.declared.status.Status.TheVariants.{Done, SomeRefused}
+use Rattle.cover_answers.specs.Covers.{AreCovered, AreCoversOf, IsCoverOf, IsCoverOn, IsGraphOf, covers_text}
+use Rattle.cover_answers.specs.Due.{AreReported}
+use Rattle.cover_answers.specs.Laws.{OneCovering}
+use Rattle.cover_answers.specs.Outcomes.{AreOutcomesFrom, IsBodyOf, IsCoverTold, IsFaultTold, IsNetTold, IsOutcomeOf, is_covered, is_covered_body, size_in}
+
+-- a graph has one list of its edges in order
+one_in_order : (G H K : Graph) → IsInOrder G H → IsInOrder G K → H ≡ K
+one_in_order G H K a b =
+    let dimension = a.dimension ∙ sym b.dimension in
+    let vertices = a.vertices ∙ sym b.vertices in
+    λ i. record { dimension = dimension i; vertices = vertices i; edges = edges i }
+  where
+    edges : H.edges ≡ K.edges
+    edges = same_rising (λ (e d : Arc). IsBelow (arc_numbers e) (arc_numbers d)) (λ e. not_below_itself (arc_numbers e)) (λ x y z. below_transitive (arc_numbers x) (arc_numbers y) (arc_numbers z)) H.edges K.edges
+        (rising_from_pairs (λ (e d : Arc). IsBelow (arc_numbers e) (arc_numbers d)) H.edges a.rising) (rising_from_pairs (λ (e d : Arc). IsBelow (arc_numbers e) (arc_numbers d)) K.edges b.rising)
+        (λ e. (
+          (λ i. is_in K.edges e (Contains-permutation G.edges K.edges e b.edges (Contains-permutation H.edges G.edges e (IsPermutation-sym G.edges H.edges a.edges) (contains_from_in H.edges e i)))),
+          (λ i. is_in H.edges e (Contains-permutation G.edges H.edges e a.edges (Contains-permutation K.edges G.edges e (IsPermutation-sym G.edges K.edges b.edges) (contains_from_in K.edges e i)))),
+        ))
+
+-- the graph of a block is one
+same_graph : (raw : RawView) (G H : Graph) → IsGraphOf raw G → IsGraphOf raw H → G ≡ H
+same_graph raw G H g h = one_in_order (graph_of raw) G H g.in_order h.in_order
+
+module _ (cell : CellView) where
+  -- so is its cover
+  same_cover : (G H C D : Graph) → G ≡ H → IsCoverOn cell G C → IsCoverOn cell H D → C ≡ D
+  same_cover G H C D e c d =
+      let moved = subst (λ K. IsCoverOn cell K D) (sym e) d in
+      one_cover G C D cell.rows c.cover c.rising moved.cover moved.rising
+
+  -- and a graph that is covered has no fault that is told
+  cover_or_fault : (raw : RawView) (G H C : Graph) (x : Bool) (line : List ℕ) → IsGraphOf raw G → IsGraphOf raw H → IsCoverOn cell G C → ¬ IsFaultTold cell H x line
+  cover_or_fault raw G H C x line g h c f =
+      f.told (cover_is_not_refused G cell f.fault g.is_graph c.coverable (subst (λ K. IsCoverFault K cell f.fault) (same_graph raw H G h g) f.is_fault))
+
+  -- what is told of the graph of a block is one
+  one_line : (raw : RawView) (G H : Graph) (x y : Bool) (s t : List ℕ) → IsGraphOf raw G → IsGraphOf raw H
+      → IsCoverTold cell G x s ⊎ IsFaultTold cell G x s → IsCoverTold cell H y t ⊎ IsFaultTold cell H y t → (x ≡ y) × (s ≡ t)
+  one_line raw G H x y s t g h (inl a) (inl b) =
+      let cover = same_cover G H a.cover b.cover (same_graph raw G H g h) a.is_cover b.is_cover in
+      (a.covered ∙ sym b.covered, a.line_is ∙ ap (λ (C : Graph). covered_text C.vertices (length C.edges)) cover ∙ sym b.line_is)
+  one_line raw G H x y s t g h (inl a) (inr b) = absurd (cover_or_fault raw G H a.cover y t g h a.is_cover b)
+  one_line raw G H x y s t g h (inr a) (inl b) = absurd (cover_or_fault raw H G b.cover x s h g b.is_cover a)
+  one_line raw G H x y s t g h (inr a) (inr b) =
+      let moved = subst (λ K. IsCoverFault K cell b.fault) (same_graph raw H G h g) b.is_fault in
+      let fault = one_cover_fault G cell a.fault b.fault g.is_graph a.written a.is_fault moved a.told b.told in
+      (a.refused ∙ sym b.refused, a.line_is ∙ ap refused_text fault ∙ sym b.line_is)
+
+  -- two bodies have one text, and tell alike whether the block is covered
+  record SpeakAlike (a b : OutcomeBody) : Type 0 where
+    text : body_text a ≡ body_text b
+    covered : is_covered_body a ≡ is_covered_body b
+
+  one_net : (raw : RawView) (s t : Size) (x y : Bool) (xs ys : List ℕ) → IsNetTold cell raw s x xs → IsNetTold cell raw t y ys → SpeakAlike (Lines s x xs) (Lines t y ys)
+  one_net raw s t x y xs ys a b =
+      let size = a.size_is ∙ ap (λ (G : Graph). size_in G raw.repeats) (same_graph raw a.graph b.graph a.read b.read) ∙ sym b.size_is in
+      let line = one_line raw a.graph b.graph x y xs ys a.read b.read a.line_told b.line_told in
+      record { text = λ i. size_text (size i) ++ line.1 i; covered = line.0 }
+
+  -- what is told of what a block holds is one
+  one_body : (body : BodyView) (a b : OutcomeBody) → IsBodyOf cell body a → IsBodyOf cell body b → SpeakAlike a b
+  one_body (Other token) (Unsupported t) (Unsupported u) h k = record { text = ap unsupported_text (h ∙ sym k); covered = refl }
+  one_body (Other token) (Unsupported t) b h k = absurd k
+  one_body (Other token) a b h k = absurd h
+  one_body (Faulty fault) (Malformed t) (Malformed u) h k = record { text = ap fault_text (h ∙ sym k); covered = refl }
+  one_body (Faulty fault) (Malformed t) b h k = absurd k
+  one_body (Faulty fault) a b h k = absurd h
+  one_body (Net raw) (Lines s x xs) (Lines t y ys) h k = one_net raw s t x y xs ys h k
+  one_body (Net raw) (Lines s x xs) b h k = absurd k
+  one_body (Net raw) a b h k = absurd h
+
+  -- an outcome has one text
+  one_text : (number : ℕ) (block : BlockView) (o p : Outcome) → IsOutcomeOf cell number block o → IsOutcomeOf cell number block p → outcome_text o ≡ outcome_text p
+  one_text number block o p h k =
+      let n = h.number_is ∙ sym k.number_is in
+      let line = h.line ∙ sym k.line in
+      let name = h.name ∙ sym k.name in
+      let body = (one_body block.body o.body p.body h.body k.body).text in
+      λ i. header_text (n i) (line i) (name i) ++ body i
+
+  -- and so has the report
+  one_report : (n : ℕ) (bs : List BlockView) (os ps : List Outcome) → AreOutcomesFrom cell n bs os → AreOutcomesFrom cell n bs ps → report_text os ≡ report_text ps
+  one_report n [] [] [] h k = refl
+  one_report n [] (o ∷ os) ps h k = absurd h
+  one_report n [] [] (p ∷ ps) h k = absurd k
+  one_report n (b ∷ bs) [] ps h k = absurd h
+  one_report n (b ∷ bs) (o ∷ os) [] h k = absurd k
+  one_report n (b ∷ bs) (o ∷ os) (p ∷ ps) h k =
+      let first = one_text n b o p h.0 k.0 in
+      let rest = one_report (n + 1) bs os ps h.1 k.1 in
+      λ i. first i ++ rest i
+
+  -- the cover of what a block holds is one
+  one_cover_of : (body : BodyView) (C D : Graph) → IsCoverOf cell body C → IsCoverOf cell body D → C ≡ D
+  one_cover_of (Net raw) C D c d = same_cover c.graph d.graph C D (same_graph raw c.graph d.graph c.read d.read) c.is_cover d.is_cover
+  one_cover_of (Other token) C D c d = absurd c
+  one_cover_of (Faulty fault) C D c d = absurd c
+
+  -- so the covers of blocks have one text
+  one_covers_text : (bs : List BlockView) (Cs Ds : List Graph) → AreCoversOf cell bs Cs → AreCoversOf cell bs Ds → covers_text bs Cs ≡ covers_text bs Ds
+  one_covers_text [] Cs Ds h k = refl
+  one_covers_text (b ∷ bs) [] Ds h k = absurd h
+  one_covers_text (b ∷ bs) (C ∷ Cs) [] h k = absurd k
+  one_covers_text (b ∷ bs) (C ∷ Cs) (D ∷ Ds) h k =
+      let first = one_cover_of b.body C D h.0 k.0 in
+      let rest = one_covers_text bs Cs Ds h.1 k.1 in
+      λ i. graph_text b.name (first i) ++ rest i
+
+  -- what is told of a graph that is covered tells so
+  told_covered : (body : BodyView) (C : Graph) (told : OutcomeBody) → IsCoverOf cell body C → IsBodyOf cell body told → is_covered_body told ≡ true
+  told_covered (Net raw) C (Lines s x xs) c h = by h.line_told
+    where
+      by : IsCoverTold cell h.graph x xs ⊎ IsFaultTold cell h.graph x xs → x ≡ true
+      by (inl a) = a.covered
+      by (inr b) = absurd (cover_or_fault raw c.graph h.graph C x xs c.read h.read c.is_cover b)
+  told_covered (Net raw) C told c h = absurd h
+  told_covered (Other token) C told c h = absurd c
+  told_covered (Faulty fault) C told c h = absurd c
+
+  -- so where each block is covered no outcome tells otherwise
+  all_covered : (n : ℕ) (bs : List BlockView) (Cs : List Graph) (os : List Outcome) → AreCoversOf cell bs Cs → AreOutcomesFrom cell n bs os → list_all is_covered os ≡ true
+  all_covered n [] Cs [] h k = refl
+  all_covered n [] Cs (o ∷ os) h k = absurd k
+  all_covered n (b ∷ bs) [] os h k = absurd h
+  all_covered n (b ∷ bs) (C ∷ Cs) [] h k = absurd k
+  all_covered n (b ∷ bs) (C ∷ Cs) (o ∷ os) h k =
+      let first = told_covered b.body C o.body h.0 k.0.body in
+      let rest = all_covered (n + 1) bs Cs os h.1 k.1 in
+      λ i. first i && rest i
+
+  covered_or_reported : (bs : List BlockView) (s t : List ℕ) → AreCovered cell bs s → ¬ AreReported cell bs t
+  covered_or_reported bs s t a b = false≢true (sym b.some_refused ∙ all_covered 1 bs a.covers b.outcomes a.are_covers b.are_outcomes)
+
+-- what is due is one
+pub one_covering : OneCovering
+one_covering cell bs Done Done s t a b = (refl, a.text_is ∙ one_covers_text cell bs a.covers b.covers a.are_covers b.are_covers ∙ sym b.text_is)
+one_covering cell bs Done SomeRefused s t a b = absurd (covered_or_reported cell bs s t a b)
+one_covering cell bs SomeRefused Done s t a b = absurd (covered_or_reported cell bs t s b a)
+one_covering cell bs SomeRefused SomeRefused s t a b = (refl, a.report ∙ one_report cell 1 bs a.outcomes b.outcomes a.are_outcomes b.are_outcomes ∙ sym b.report)
+one_covering cell bs Done other s t a b = absurd b
+one_covering cell bs SomeRefused other s t a b = absurd b
+one_covering cell bs other status s t a b = absurd a

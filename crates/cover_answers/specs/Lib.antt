@@ -1,0 +1,5 @@
+pub mod Covers
+pub mod Outcomes
+pub mod Steps
+pub mod Due
+pub mod Laws

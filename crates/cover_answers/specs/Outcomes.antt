@@ -1,0 +1,69 @@
+-- What is told of each block where some block is not covered.
+use Rattle.std.specs.Prelude.{◌≡◌, ◌≢◌, ◌⊎◌, ℕ, ◌+◌, Bool, true, false, List, [], ◌∷◌, length, option_copied}
+use Rattle.periodic_net.specs.Graph.{Graph}
+use Rattle.cgd_read.specs.Views.{RawView, BodyView, Net, Other, Faulty, BlockView}
+use Rattle.net_cover.specs.Cells.{CellView, IsWritten}
+use Rattle.net_cover.specs.Faults.{IsCoverFault}
+use Rattle.net_cover.specs.declared.faults.CoverFault.{CoverFault}
+use Rattle.net_cover.specs.declared.faults.CoverFault.TheVariants.{NoMemory}
+use Rattle.cover_report.specs.Lines.{covered_text, refused_text}
+use Rattle.net_report.specs.declared.outcome.Size.{Size}
+use Rattle.net_report.specs.declared.outcome.Outcome.{Outcome}
+use Rattle.net_report.specs.declared.outcome.OutcomeBody.{OutcomeBody}
+use Rattle.net_report.specs.declared.outcome.OutcomeBody.TheVariants.{Unsupported, Malformed, Lines}
+use Rattle.cover_answers.specs.Covers.{IsGraphOf, IsCoverOn}
+
+-- the sizes of a graph, beside the number of its repeated rows
+abbrev pub size_in : Graph → ℕ → Size
+size_in G repeats = record { dim = G.dimension; vertices = G.vertices; edges = length G.edges; repeats = repeats }
+
+-- the graph is covered, and its line has the sizes of the cover
+pub record IsCoverTold (cell : CellView) (G : Graph) (accepted : Bool) (line : List ℕ) : Type 0 where
+  pub cover : Graph
+  pub is_cover : IsCoverOn cell G cover
+  pub covered : accepted ≡ true
+  pub line_is : line ≡ covered_text cover.vertices (length cover.edges)
+
+-- the graph is not covered, and its line has a fault that is true; want of memory is none that is told
+pub record IsFaultTold (cell : CellView) (G : Graph) (accepted : Bool) (line : List ℕ) : Type 0 where
+  pub fault : CoverFault
+  pub written : IsWritten cell
+  pub is_fault : IsCoverFault G cell fault
+  pub told : fault ≢ NoMemory
+  pub refused : accepted ≡ false
+  pub line_is : line ≡ refused_text fault
+
+-- what is told of the graph that was read: its sizes, and whether it is covered
+pub record IsNetTold (cell : CellView) (raw : RawView) (size : Size) (accepted : Bool) (line : List ℕ) : Type 0 where
+  pub graph : Graph
+  pub read : IsGraphOf raw graph
+  pub size_is : size ≡ size_in graph raw.repeats
+  pub line_told : IsCoverTold cell graph accepted line ⊎ IsFaultTold cell graph accepted line
+
+-- what is told of what a block holds
+abbrev pub IsBodyOf : CellView → BodyView → OutcomeBody → Type 0
+IsBodyOf cell (Other token) (Unsupported told) = told.now ≡ token
+IsBodyOf cell (Faulty fault) (Malformed told) = told ≡ fault
+IsBodyOf cell (Net raw) (Lines size accepted line) = IsNetTold cell raw size accepted line
+IsBodyOf cell body told = ⊥
+
+-- the outcome of the block with this number
+pub record IsOutcomeOf (cell : CellView) (number : ℕ) (block : BlockView) (o : Outcome) : Type 0 where
+  pub number_is : o.number ≡ number
+  pub line : o.line ≡ block.line
+  pub name : option_copied o.name ≡ block.name
+  pub body : IsBodyOf cell block.body o.body
+
+-- one outcome for each block, with the blocks numbered from this number on
+abbrev pub AreOutcomesFrom : CellView → ℕ → List BlockView → List Outcome → Type 0
+AreOutcomesFrom cell number [] [] = Unit {0}
+AreOutcomesFrom cell number (block ∷ blocks) (o ∷ os) = IsOutcomeOf cell number block o × AreOutcomesFrom cell (number + 1) blocks os
+AreOutcomesFrom cell number blocks os = ⊥
+
+-- whether the block is covered
+abbrev pub is_covered_body : OutcomeBody → Bool
+is_covered_body (Lines size accepted line) = accepted
+is_covered_body body = false
+
+abbrev pub is_covered : Outcome → Bool
+is_covered o = is_covered_body o.body

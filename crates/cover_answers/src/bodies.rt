@@ -1,0 +1,157 @@
+// What is told of a block on a cell, and the text of its cover.
+ghost use Rattle.std.specs.Prelude.{◌≡◌, ◌≢◌, IfOk, OnOk, length, option_copied, true, false};
+ghost use Rattle.periodic_net.specs.Graph.{IsGraph};
+ghost use Rattle.periodic_net.specs.Limits.{IsSmall};
+ghost use Rattle.cgd_read.specs.Blocks.{IsReadBody};
+ghost use Rattle.cgd_read.specs.Graphs.{IsReadGraph};
+ghost use Rattle.cgd_read.specs.Views.{Net, block_view, body_view, raw_view};
+ghost use Rattle.quotient_graph.specs.AnyGraphs.{graph_in};
+ghost use Rattle.quotient_graph.specs.Order.{AreRising};
+ghost use Rattle.cover_report.specs.Lines.{covered_text, refused_text};
+ghost use Rattle.net_report.specs.Reports.{IsPrintable, IsPrintableBody};
+ghost use Rattle.cover_answers.specs.Outcomes.{size_in};
+ghost use Rattle.cover_answers.specs.Steps.{IsBlockAnswered, IsBodyAnswered};
+
+use crate::NoMemory;
+use cgd_read::{Block, Body, RawGraph};
+use cover_report::{push_covered, push_graph, push_refused};
+use lists::Items;
+use net_cover::{Cell, CoverFault, cover};
+use net_report::{Outcome, OutcomeBody, Size};
+use quotient_graph::{AnyGraph, Graph, from_raw};
+use std::alloc::Global;
+
+fn size_of_graph<const D: usize>(graph: &Graph<D>, repeats: u32) -> Size
+    ensures size { result ≡ size_in graph.now repeats }
+    ensures is_graph { IsGraph graph.now }
+    ensures rising { AreRising graph.now.edges }
+    ensures small { IsSmall graph.now }
+{
+    Size {
+        dim: graph.dimension(),
+        vertices: graph.vertices(),
+        edges: graph.edges().len() as u32,
+        repeats,
+    }
+}
+
+// The sizes of a graph, beside the number of its repeated rows.
+fn size_of(graph: &AnyGraph, repeats: u32) -> Size
+    ensures size { result ≡ size_in (graph_in graph.now) repeats }
+    ensures is_graph { IsGraph (graph_in graph.now) }
+    ensures rising { AreRising (graph_in graph.now).edges }
+    ensures small { IsSmall (graph_in graph.now) }
+{
+    match graph {
+        AnyGraph::Flat(graph) => size_of_graph(graph, repeats),
+        AnyGraph::Space(graph) => size_of_graph(graph, repeats),
+    }
+}
+
+// What is told of a graph that is covered: the sizes of its cover.
+fn covered_body<'a>(
+    alloc: Global,
+    size: Size,
+    cover: &AnyGraph,
+) -> Result<OutcomeBody<'a>, NoMemory>
+    ensures told { IfOk result (λ body. body ≡ OutcomeBody.Lines size true
+        (covered_text (graph_in cover.now).vertices (length (graph_in cover.now).edges))) }
+    ensures rising { AreRising (graph_in cover.now).edges }
+    ensures small { IsSmall (graph_in cover.now) }
+{
+    let own = size_of(cover, 0);
+    let mut line = Vec::new(alloc);
+    push_covered(&mut line, own.vertices, own.edges)?;
+    Ok(OutcomeBody::Lines {
+        size,
+        accepted: true,
+        lines: Items::from_vec(line),
+    })
+}
+
+// What is told of a graph that is not: the fault, where it is one.
+fn refused_body<'a>(
+    alloc: Global,
+    size: Size,
+    fault: CoverFault,
+) -> Result<OutcomeBody<'a>, NoMemory>
+    ensures told { IfOk result (λ body.
+        body ≡ OutcomeBody.Lines size false (refused_text fault)) }
+    ensures some { OnOk result (fault ≢ CoverFault.NoMemory) }
+{
+    if fault == CoverFault::NoMemory {
+        return Err(NoMemory);
+    }
+    let mut line = Vec::new(alloc);
+    push_refused(&mut line, fault)?;
+    Ok(OutcomeBody::Lines {
+        size,
+        accepted: false,
+        lines: Items::from_vec(line),
+    })
+}
+
+// What is told of a graph. Where it is covered, its cover is put last under the name.
+fn cover_net<'a>(
+    covers: &mut Vec<u8>,
+    cell: &Cell,
+    name: Option<&[u8]>,
+    raw: &RawGraph<'_>,
+) -> Result<OutcomeBody<'a>, NoMemory>
+    requires { IsReadGraph (raw_view raw.now) }
+    ensures answered { IfOk result (λ told. IsBodyAnswered cell.now (option_copied name.entry)
+        (Net (raw_view raw.now)) told covers.old.items covers.new.items) }
+    ensures printable { IfOk result IsPrintableBody }
+{
+    let _ = cell.dimension(); // that the rows are written so stands in this contract
+    let alloc = *covers.allocator();
+    let graph = from_raw(alloc, raw)?;
+    let size = size_of(&graph, raw.repeats);
+    match cover(alloc, &graph, cell) {
+        Ok(cover) => {
+            push_graph(covers, name, &cover)?;
+            covered_body(alloc, size, &cover)
+        }
+        Err(fault) => refused_body(alloc, size, fault),
+    }
+}
+
+// What is told of what a block holds. Where it is covered, its cover is put last.
+fn cover_body<'a>(
+    covers: &mut Vec<u8>,
+    cell: &Cell,
+    block: &Block<'a>,
+) -> Result<OutcomeBody<'a>, NoMemory>
+    requires { IsReadBody block.now.body }
+    ensures answered { IfOk result (λ told. IsBodyAnswered cell.now
+        (option_copied block.now.name) (body_view block.now.body) told
+        covers.old.items covers.new.items) }
+    ensures printable { IfOk result IsPrintableBody }
+{
+    match &block.body {
+        Body::Graph(raw) => cover_net(covers, cell, block.name, raw),
+        Body::Unsupported(token) => Ok(OutcomeBody::Unsupported(token)),
+        Body::Malformed(fault) => Ok(OutcomeBody::Malformed(*fault)),
+    }
+}
+
+/// The outcome of the block with this number. Where it is covered, its cover is put last.
+pub fn cover_block<'a>(
+    covers: &mut Vec<u8>,
+    cell: &Cell,
+    number: u32,
+    block: &Block<'a>,
+) -> Result<Outcome<'a>, NoMemory>
+    requires { IsReadBody block.now.body }
+    ensures answered { IfOk result (λ o. IsBlockAnswered cell.now number
+        (block_view block.now) o covers.old.items covers.new.items) }
+    ensures printable { IfOk result IsPrintable }
+{
+    let body = cover_body(covers, cell, block)?;
+    Ok(Outcome {
+        number,
+        line: block.line,
+        name: block.name,
+        body,
+    })
+}
