@@ -1,0 +1,7 @@
+mod NewPlaces
+mod RowEdges
+mod FlatNets
+mod SameSizes
+mod RowNets
+mod InOrder
+mod Rounds
