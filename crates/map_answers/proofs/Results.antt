@@ -12,10 +12,10 @@ use Rattle.map_text.specs.Stages.{Listed, drawing_of, with_item}
 use Rattle.map_text.proofs.CallerLemmas.{text_said, two_written}
 use Rattle.map_answers.specs.Results.{IsVerdictOf, AreVerdicts, result_row, result_rows, is_refused, one_where, refused_count, HasMapResult, HasResult}
 use Rattle.map_answers.specs.Checks.{ArePassed, AreAll, IsChecked}
-use Rattle.std.specs.Prelude.{if◌then◌else◌, ◌==◌}
-use Rattle.map_answers.specs.declared.command.Ending.{Ending}
-use Rattle.map_answers.specs.declared.command.Ending.TheVariants.{Done, SomeRefused, BadMap}
-use Rattle.map_answers.specs.Due.{IsDueToVerify, ending_of}
+use Rattle.std.specs.Prelude.{◌==◌}
+use Rattle.statuses.specs.Statuses.{ending_of}
+use Rattle.statuses.specs.declared.status.Status.{Status}
+use Rattle.map_answers.specs.Due.{IsDueToVerify}
 use Rattle.map_answers.specs.declared.checking.CheckedMaps.{CheckedMaps}
 use Rattle.map_check.specs.declared.map.PeriodicMap.{PeriodicMap}
 
@@ -99,12 +99,10 @@ all_checked whole G place checked all = record {
 pub with_result : (G H : Graph) (map : PeriodicMap) (k : ℕ) (before after : List ℕ) (refused : Bool) → HasMapResult G H map k before after refused → HasResult G k (With H map) before after refused
 with_result G H map k before after refused has = record { verdict = Some has.verdict; is = has.is; text_is = has.text_is; refused_is = has.refused_is }
 
-no_bad : (b : Bool) → BadMap ≡ (if b then Done else SomeRefused) → ⊥
-no_bad true e = cc
-no_bad false e = cc
+-- what was found is due, by whether no map is refused
+told_by : (b : Bool) (bytes : List ℕ) (checked : CheckedMaps) → IsChecked bytes checked → (checked.refused == 0) ≡ b → IsDueToVerify bytes (ending_of b) checked.text.items
+told_by true bytes checked is e = record { checked = checked; is = is; text_is = refl; status_is = ap ending_of (sym e) }
+told_by false bytes checked is e = record { checked = checked; is = is; text_is = refl; status_is = ap ending_of (sym e) }
 
--- what was found is due
-pub is_due : (bytes : List ℕ) (ending : Ending) (checked : CheckedMaps) → IsChecked bytes checked → ending ≡ ending_of checked.refused → IsDueToVerify bytes ending checked.text.items
-is_due bytes Done checked is e = record { checked = checked; is = is; text_is = refl; ending_is = e }
-is_due bytes SomeRefused checked is e = record { checked = checked; is = is; text_is = refl; ending_is = e }
-is_due bytes BadMap checked is e = absurd (no_bad (checked.refused == 0) e)
+pub is_due : (bytes : List ℕ) (status : Status) (checked : CheckedMaps) → IsChecked bytes checked → status ≡ ending_of (checked.refused == 0) → IsDueToVerify bytes status checked.text.items
+is_due bytes status checked is e = subst (λ s. IsDueToVerify bytes s checked.text.items) (sym e) (told_by (checked.refused == 0) bytes checked is refl)

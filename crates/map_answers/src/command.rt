@@ -1,36 +1,12 @@
 // The answer to the command `verify`.
 ghost use Rattle.std.specs.Prelude.{◌≡◌, ◌≤◌, ◌++◌, length, IfOk, OnOk};
 ghost use Rattle.map_text.specs.Texts.{most_bytes};
-ghost use Rattle.map_answers.specs.Due.{IsDueToVerify, bad_line_text, ending_of};
+ghost use Rattle.map_answers.specs.Due.{IsDueToVerify, bad_line_text};
 
 use crate::checking::{MapsFault, check_maps};
 use line_text::push_number;
+use statuses::{Answer, Status, ending_of};
 use std::alloc::{AllocError, Global};
-
-/// How the command ends.
-#[derive(Clone, Copy, Debug, PartialEq, Eq)]
-pub enum Ending {
-    Done,
-    SomeRefused,
-    BadMap,
-}
-
-/// How the command ends, and what it writes.
-#[derive(Drop)]
-pub struct VerifyAnswer {
-    pub ending: Ending,
-    pub text: Vec<u8>,
-}
-
-fn ending_of(refused: u32) -> Ending
-    ensures { result ≡ ending_of refused }
-{
-    if refused == 0 {
-        Ending::Done
-    } else {
-        Ending::SomeRefused
-    }
-}
 
 // The text of a first bad line.
 fn bad_line_text(alloc: Global, line: u32) -> Result<Vec<u8>, AllocError>
@@ -44,17 +20,17 @@ fn bad_line_text(alloc: Global, line: u32) -> Result<Vec<u8>, AllocError>
 }
 
 /// What is due to `verify`, of the bytes of its file.
-pub fn verify_answer(alloc: Global, file: &[u8]) -> Result<VerifyAnswer, AllocError>
+pub fn verify_answer(alloc: Global, file: &[u8]) -> Result<Answer, AllocError>
     requires { length file.now ≤ most_bytes }
-    ensures { IfOk result (λ a. IsDueToVerify file.now a.ending a.text.items) }
+    ensures { IfOk result (λ a. IsDueToVerify file.now a.status a.text.items) }
 {
     match check_maps(alloc, file) {
-        Ok(checked) => Ok(VerifyAnswer {
-            ending: ending_of(checked.refused),
+        Ok(checked) => Ok(Answer {
+            status: ending_of(checked.refused == 0),
             text: checked.text,
         }),
-        Err(MapsFault::Bad { line }) => Ok(VerifyAnswer {
-            ending: Ending::BadMap,
+        Err(MapsFault::Bad { line }) => Ok(Answer {
+            status: Status::BadMap,
             text: bad_line_text(alloc, line)?,
         }),
         Err(MapsFault::NoMemory) => Err(AllocError),
