@@ -1,0 +1,5 @@
+pub mod CallerLemmas
+pub mod Carrying
+pub mod EdgeTurns
+pub mod Independent
+pub mod OverEnds

@@ -1,0 +1,10 @@
+pub mod CallerLemmas
+pub mod Heads
+pub mod Memory
+pub mod Parts
+pub mod Potentials
+pub mod Scales
+pub mod Searching
+pub mod StepSearch
+pub mod Steps
+pub mod Turns
