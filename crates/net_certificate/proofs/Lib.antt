@@ -1,0 +1,4 @@
+pub mod OneRows
+pub mod OneAnswer
+pub mod FoundMaps
+pub mod SideTables
