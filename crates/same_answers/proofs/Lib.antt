@@ -1,0 +1,7 @@
+pub mod CallerLemmas
+pub mod Found
+pub mod Written
+pub mod AcceptedNets
+pub mod ShapesAlike
+pub mod OneSameness
+pub mod Verified

@@ -1,0 +1,204 @@
+-- The text of maps that is printed is verified when it is read again.
+use Rattle.std.proofs.Common.{◌≡◌, ◌⊎◌, inl, inr, ℕ, ◌-◌, ◌≤◌, ◌==◌, ℤ, List, [], ◌∷◌, Option, None, Some, All, length, map, refl, sym, ap, subst, ◌∙◌, arith}
+use Rattle.std.specs.List.{Contains}
+use Rattle.std.proofs.lemmas.List.Elements.{All-cons, All-nil}
+use Rattle.periodic_net.specs.Classes.{ClassArc, ClassGraph}
+use Rattle.periodic_net.specs.Graph.{Arc, Graph, IsGraph, both_ways}
+use Rattle.key_theory.specs.Frames.{IsFrameAfter}
+use Rattle.key_theory.specs.Key.{IsKeyOf}
+use Rattle.line_text.specs.Lines.{rows_text}
+use Rattle.cgd_read.specs.Blocks.{most_blocks}
+use Rattle.cgd_read.specs.Views.{BlockView}
+use Rattle.graph_rows.specs.Reading.{IsFormedGraph}
+use Rattle.least_key.specs.KeyedNets.{KeyedNet}
+use Rattle.least_key.proofs.CallerLemmas.{key_of_graph}
+use Rattle.map_check.specs.Conditions.{most_images}
+use Rattle.map_check.specs.declared.verdict.Verdict.{Verdict}
+use Rattle.map_text.specs.Items.{IsFormedItem, IsTold, ItemView, Maps, With, Without}
+use Rattle.map_text.specs.Reading.{IsTextOf, MayStand}
+use Rattle.map_text.proofs.CallerLemmas.{no_fault, one_text}
+use Rattle.map_answers.specs.Checks.{Tells}
+use Rattle.map_answers.specs.Due.{IsDueToVerify, IsTold as IsToldOf}
+use Rattle.map_answers.specs.Results.{AreVerdicts, IsVerdictOf, refused_count, result_rows}
+use Rattle.map_answers.specs.declared.checking.CheckedMaps.{CheckedMaps}
+use Rattle.net_certificate.specs.Answers.{IsMapAnswer, IsPassing, shape_of}
+use Rattle.net_certificate.specs.declared.answer.MapAnswer.{MapAnswer}
+use Rattle.net_certificate.specs.declared.answer.MapAnswer.TheVariants.{Different, Found, LongMap, WideMap}
+use Rattle.net_certificate.proofs.FoundMaps.{found_maps_pass}
+use Rattle.statuses.specs.Statuses.{ending_of}
+use Rattle.statuses.specs.declared.status.Status.{Status}
+use Rattle.statuses.specs.declared.status.Status.TheVariants.{BadMap, Done, SomeRefused}
+use Rattle.same_answers.specs.Items.{AreItemsOf, AreMapsOf, HasItsBits, images_in, item_by}
+use Rattle.same_answers.specs.Laws.{SameIsVerified, passing, verified_text}
+use Rattle.same_answers.specs.Nets.{AreNetsOf, IsNetOf}
+use Rattle.same_answers.proofs.Found.{found_few}
+
+-- a graph that has a key has an edge
+positive : (d : ℕ) → (d ≡ 2) ⊎ (d ≡ 3) → 1 ≤ d
+positive d (inl e) = omega (arith, e)
+positive d (inr e) = omega (arith, e)
+
+frame_arc : (K : ClassGraph) (c : ℕ) (frame : List ClassArc) → 1 ≤ length frame → IsFrameAfter K c [] frame → (a : ClassArc) × Contains K.arcs a
+frame_arc K c [] l each = absurd (omega arith)
+frame_arc K c (a ∷ rest) l each = (a, each.0.may.is_arc)
+
+arc_edge : (edges : List Arc) (a : Arc) → Contains (both_ways edges) a → 1 ≤ length edges
+arc_edge [] a c = absurd (let l = c.1 in omega (arith, l))
+arc_edge (e ∷ edges) a c = omega arith
+
+has_edge : (G : Graph) (xs : List ℤ) → IsGraph G → IsKeyOf G xs → 1 ≤ length G.edges
+has_edge G xs g k =
+    let s = k.least.some in
+    let K = k.shape.classes in
+    let d : length s.frame ≡ G.dimension = s.is_frame.count ∙ k.shape.is_classes.dimension in
+    let p : 1 ≤ G.dimension = positive G.dimension g.dimension in
+    let a = frame_arc K s.start s.frame (omega (arith, d, p)) s.is_frame.each in
+    let b = (k.shape.is_classes.arcs a.0).0 a.1 in
+    arc_edge G.edges b.0 b.1
+
+-- the graph of a net of a block may stand in a text
+graph_formed : (block : BlockView) (net : KeyedNet) → IsNetOf block net → IsFormedGraph net.placed.graph
+graph_formed block net is =
+    let G = net.placed.graph in
+    let g = is.keyed.is_graph in
+    record {
+      is_size = record { dim = g.dimension; vertices = (g.vertices, is.small.vertices); edges = (has_edge G net.key g (key_of_graph net is.keyed), is.small.edges) };
+      each = λ i d l. let h = g.edges i d l in record { is_edge = record { from = h.from; to = h.to; shift = h.shift; spelling = h.spelling }; small = is.small.shifts i d l };
+      rising = is.read.rising;
+    }
+
+-- an item may stand in a text, and its map, where it has one, passes
+abbrev IsSound : Graph → ItemView → Type 0
+IsSound G (Without why) = IsTold why
+IsSound G (With H M) = IsFormedGraph H × IsPassing G H M.m M.images M.base
+
+abbrev AreSound : Graph → List ItemView → Type 0
+AreSound G [] = Unit {0}
+AreSound G (item ∷ items) = IsSound G item × AreSound G items
+
+-- so it is with the item of a net
+sound_by : (first : KeyedNet) (room : ℕ) (block : BlockView) (net : KeyedNet) (answer : MapAnswer) (item : ItemView) → room ≤ most_images → IsNetOf block net → IsMapAnswer first net room answer → item ≡ item_by net.placed.graph answer
+    → HasItsBits item → IsSound first.placed.graph item
+sound_by first room block net Different item few is q e bits = subst (IsSound first.placed.graph) (sym e) tt
+sound_by first room block net (LongMap entries) item few is q e bits = subst (IsSound first.placed.graph) (sym e) (subst HasItsBits e bits)
+sound_by first room block net (WideMap value) item few is q e bits = subst (IsSound first.placed.graph) (sym e) (subst HasItsBits e bits)
+sound_by first room block net (Found M) item few is q e bits =
+    let G = first.placed.graph in
+    let H = net.placed.graph in
+    let g = shape_of first q.here in
+    let h = shape_of net q.there in
+    let count = found_few G H g h room M.m M.images M.base q.here.is_graph q.by in
+    let pass = found_maps_pass G H g h room M.m M.images M.base q.here.is_graph q.there.is_graph is.small.vertices q.by (omega (arith, count, few)) in
+    subst (IsSound G) (sym e) (graph_formed block net is, pass)
+
+all_sound : (first : KeyedNet) (room : ℕ) (blocks : List BlockView) (nets : List KeyedNet) (items : List ItemView) → room ≤ most_images → AreNetsOf blocks nets → AreItemsOf first room nets items → AreSound first.placed.graph items
+all_sound first room [] [] [] few are of = tt
+all_sound first room [] [] (item ∷ items) few are of = absurd of
+all_sound first room [] (net ∷ nets) items few are of = absurd are
+all_sound first room (block ∷ blocks) [] items few are of = absurd are
+all_sound first room (block ∷ blocks) (net ∷ nets) [] few are of = absurd of
+all_sound first room (block ∷ blocks) (net ∷ nets) (item ∷ items) few are of =
+    let one = of.0 in (
+      sound_by first room block net one.answer item few are.0 one.is_answer one.item_is one.bits,
+      all_sound first (room - images_in item) blocks nets items (omega (arith, few)) are.1 of.1,
+    )
+
+-- there is an item for each net after the first
+as_many_items : (first : KeyedNet) (room : ℕ) (blocks : List BlockView) (nets : List KeyedNet) (items : List ItemView) → AreNetsOf blocks nets → AreItemsOf first room nets items → length items ≡ length blocks
+as_many_items first room [] [] [] are of = refl
+as_many_items first room [] [] (item ∷ items) are of = absurd of
+as_many_items first room [] (net ∷ nets) items are of = absurd are
+as_many_items first room (block ∷ blocks) [] items are of = absurd are
+as_many_items first room (block ∷ blocks) (net ∷ nets) [] are of = absurd of
+as_many_items first room (block ∷ blocks) (net ∷ nets) (item ∷ items) are of = let e = as_many_items first (room - images_in item) blocks nets items are.1 of.1 in omega (arith, e)
+
+-- what is sound may stand
+sound_formed : (G : Graph) (item : ItemView) → IsSound G item → IsFormedItem G item
+sound_formed G (Without why) s = s
+sound_formed G (With H M) s = record { graph = s.0; suits = s.1.suits }
+
+all_formed : (G : Graph) (items : List ItemView) → AreSound G items → All (IsFormedItem G) items
+all_formed G [] s = All-nil (IsFormedItem G)
+all_formed G (item ∷ items) s = All-cons (IsFormedItem G) item items (sound_formed G item s.0) (all_formed G items s.1)
+
+-- and its verdicts are those that pass
+sound_passes : (G : Graph) (item : ItemView) (v : Option Verdict) → IsSound G item → IsVerdictOf G item v → v ≡ passing item
+sound_passes G (Without why) None s is = refl
+sound_passes G (Without why) (Some v) s is = absurd is
+sound_passes G (With H M) None s is = absurd is
+sound_passes G (With H M) (Some v) s is = ap Some (s.1.yes v is)
+
+all_pass : (G : Graph) (items : List ItemView) (vs : List (Option Verdict)) → AreSound G items → AreVerdicts G items vs → vs ≡ map passing items
+all_pass G [] [] s are = refl
+all_pass G [] (v ∷ vs) s are = absurd are
+all_pass G (item ∷ items) [] s are = absurd are
+all_pass G (item ∷ items) (v ∷ vs) s are =
+    let first = sound_passes G item v s.0 are.0 in
+    let rest = all_pass G items vs s.1 are.1 in
+    λ i. first i ∷ rest i
+
+none_refused : (items : List ItemView) → refused_count (map passing items) ≡ 0
+none_refused [] = refl
+none_refused (Without why ∷ items) = let e = none_refused items in omega (arith, e)
+none_refused (With H M ∷ items) = let e = none_refused items in omega (arith, e)
+
+-- maps that may stand in a text, and pass
+abbrev SoundMaps : Option Maps → Type 0
+SoundMaps None = Unit {0}
+SoundMaps (Some maps) = AreSound maps.first maps.items
+
+record AreGood (maps : Option Maps) : Type 0 where
+  stand : MayStand maps
+  sound : SoundMaps maps
+
+maps_good : (blocks : List BlockView) (nets : List KeyedNet) (maps : Option Maps) → length blocks ≤ most_blocks → AreNetsOf blocks nets → AreMapsOf nets maps → AreGood maps
+maps_good [] [] None few are of = record { stand = tt; sound = tt }
+maps_good [] [] (Some maps) few are of = absurd of
+maps_good [] (net ∷ nets) maps few are of = absurd are
+maps_good (block ∷ blocks) [] maps few are of = absurd are
+maps_good (block ∷ blocks) (first ∷ nets) None few are of = absurd of
+maps_good (block ∷ blocks) (first ∷ nets) (Some maps) few are of =
+    let sound = subst (λ (G : Graph). AreSound G maps.items) (sym of.first_is) (all_sound first most_images blocks nets maps.items (omega arith) are.1 of.are_items) in
+    let count = as_many_items first most_images blocks nets maps.items are.1 of.are_items in
+    record {
+      stand = record {
+        first = subst IsFormedGraph (sym of.first_is) (graph_formed block first are.0);
+        items = all_formed maps.first maps.items sound;
+        few = omega (arith, few, count);
+      };
+      sound = sound;
+    }
+
+-- what is told of them
+told_good : (maps : Option Maps) (checked : CheckedMaps) → SoundMaps maps → Tells maps checked → (checked.refused ≡ 0) × (checked.text.items ≡ verified_text maps)
+told_good None checked s t = (t.1, t.0)
+told_good (Some maps) checked s t =
+    let vs = all_pass maps.first maps.items t.verdicts s t.are in (
+      t.refused_is ∙ ap refused_count vs ∙ none_refused maps.items,
+      t.text_is ∙ ap (λ (l : List (Option Verdict)). rows_text (result_rows 2 maps.first.dimension l)) vs,
+    )
+
+-- the maps that are printed are verified
+pub same_is_verified : SameIsVerified
+same_is_verified blocks text same few status told due = by status due
+  where
+    maps : Option Maps
+    maps = same.told.maps
+
+    good : AreGood maps
+    good = maps_good blocks same.nets maps few same.are_nets same.told.are_maps
+
+    is : IsTextOf text maps
+    is = record { formed = good.stand; is = same.told.text_is }
+
+    at : (s : Status) → IsToldOf text s told → (s ≡ Done) × (told ≡ verified_text maps)
+    at s t =
+        let one = one_text text t.is.maps maps t.is.is is in
+        let g = told_good maps t.checked good.sound (subst (λ (m : Option Maps). Tells m t.checked) one t.is.tells) in
+        (t.status_is ∙ ap (λ (n : ℕ). ending_of (n == 0)) g.0, t.text_is ∙ g.1)
+
+    by : (s : Status) → IsDueToVerify text s told → (s ≡ Done) × (told ≡ verified_text maps)
+    by Done t = at Done t
+    by SomeRefused t = at SomeRefused t
+    by BadMap t = absurd (no_fault text maps t.line is t.bad)
+    by s t = absurd t

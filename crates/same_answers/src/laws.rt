@@ -1,0 +1,12 @@
+// What holds of answers to `same`. Each function carries a theorem.
+ghost use Rattle.same_answers.specs.Laws.{OneSameness, SameIsVerified};
+
+/// Of blocks one answer is due: one status and one text.
+pub fn one_sameness()
+    ensures theorem { OneSameness }
+{}
+
+/// Each map that is printed is verified.
+pub fn same_is_verified()
+    ensures theorem { SameIsVerified }
+{}

@@ -1,0 +1,73 @@
+// The text of the maps from the first of some nets to the others.
+ghost use Rattle.std.specs.Prelude.{◌≡◌, ◌≤◌, ◌++◌, length, map, IfOk, OnOk};
+ghost use Rattle.line_text.specs.Lines.{rows_text};
+ghost use Rattle.cgd_read.specs.Blocks.{most_blocks};
+ghost use Rattle.graph_rows.specs.Rows.{graph_lines};
+ghost use Rattle.least_key.specs.AnyNets.{net_in};
+ghost use Rattle.map_check.specs.Conditions.{most_images};
+ghost use Rattle.same_answers.specs.Items.{IsMapsTextOf};
+ghost use Rattle.same_answers.specs.Steps.{AreItemsLast, IsItemLast};
+
+use crate::NoMemory;
+use crate::items::{dimension_of, graph_of, images_in, item_of};
+use crate::lends::LendsNet;
+use graph_rows::push_graph;
+use least_key::Net;
+use map_text::{push_item, push_title};
+use std::alloc::Global;
+
+/// So many images are printed at most.
+const MOST_IMAGES: u64 = 100_000;
+
+// Puts the rows of the graph of a net last.
+fn push_net(text: &mut Vec<u8>, net: &Net) -> Result<(), NoMemory>
+    ensures { OnOk result (text.new.items ≡
+        text.old.items ++ rows_text (graph_lines (net_in net.now).placed.graph)) }
+{
+    let graph = graph_of(net)?;
+    push_graph(text, &graph)
+}
+
+// Puts the item of net k last, and tells how many images may be printed after it.
+fn push_map(text: &mut Vec<u8>, k: u32, first: &Net, net: &Net, room: u64) -> Result<u64, NoMemory>
+    requires { room ≤ most_images }
+    ensures { IfOk result (λ left. IsItemLast (net_in first.now) k room (net_in net.now) left
+        text.old.items text.new.items) }
+{
+    let item = item_of(*text.allocator(), first, net, room)?;
+    push_item(text, k, dimension_of(first), &item)?;
+    Ok(room - images_in(&item))
+}
+
+// Puts the items of these nets last, from net 2 on.
+fn push_maps<T: LendsNet>(text: &mut Vec<u8>, first: &Net, nets: &[T]) -> Result<(), NoMemory>
+    requires { length nets.now ≤ most_blocks }
+    ensures { OnOk result (AreItemsLast (net_in first.now) 2 most_images (map T.net nets.now)
+        text.old.items text.new.items) }
+{
+    let mut room = MOST_IMAGES;
+    let mut k = 2u32;
+    for lender in nets {
+        let net = lender.net();
+        room = push_map(text, k, first, net, room)?;
+        k += 1;
+    }
+    Ok(())
+}
+
+/// The text that the command `same` prints for these nets: the maps from the first to the others,
+/// or the first line alone, where there is no net. At most 100,000 images are printed.
+pub fn maps_text<T: LendsNet>(alloc: Global, nets: &[T]) -> Result<Vec<u8>, NoMemory>
+    requires few { length nets.now ≤ most_blocks }
+    ensures { IfOk result (λ text. IsMapsTextOf (map T.net nets.now) text.items) }
+{
+    let mut text = Vec::new(alloc);
+    push_title(&mut text)?;
+    let [lender, others @ ..] = nets else {
+        return Ok(text);
+    };
+    let first = lender.net();
+    push_net(&mut text, first)?;
+    push_maps(&mut text, first, others)?;
+    Ok(text)
+}
