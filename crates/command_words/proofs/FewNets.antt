@@ -6,11 +6,13 @@ use Rattle.std.specs.Str.{bytes_eq}
 use Rattle.std.specs.Str.Parse.{digits_value}
 use Rattle.std.proofs.lemmas.Bool.{and_parts, ltb-true}
 use Rattle.command_words.specs.Words.{Text, Said}
-use Rattle.command_words.specs.Tasks.{Task, Tell, Add, Duplicates, Migrate, Workload, are_apart, file_of, has_empty_word, may_name_archive, task_in, task_named, task_for, verb_named, sole_archive, sole_count, count_of, is_count, MakesFew}
+use Rattle.command_words.specs.Tasks.{Task, Tell, Add, Duplicates, Migrate, Union, Same, Verify, Workload, Cover, are_apart, may_give_cell, task_with, file_of, has_empty_word, may_name_archive, task_in, task_named, task_for, verb_named, sole_archive, sole_count, count_of, is_count, union_with, sole_file, MakesFew}
 use Rattle.command_words.specs.Views.{task_view}
 use Rattle.command_words.specs.declared.tasks.Task.{Task as TaskInCode}
 use Rattle.command_words.specs.declared.tasks.Verb.{Verb}
 use Rattle.command_words.specs.declared.tasks.Verb.TheVariants as verb
+use Rattle.net_cover.specs.Cells.{CellView}
+use Rattle.cell_words.specs.Reading.{cell_of}
 use Rattle.workload.specs.Workload.{most_nets}
 
 -- a task that is found makes few nets
@@ -47,6 +49,10 @@ none_or : (b : Bool) (o : Option ℕ) → IsFewCount o → IsFewCount (if b then
 none_or true o h = tt
 none_or false o h = h
 
+few_cell : (file : Text) (o : Option CellView) → IsFewTask (option_map (Cover file) o)
+few_cell file None = tt
+few_cell file (Some cell) = tt
+
 -- a word that spells a count spells a small one
 small_count : (word : Text) (n : ℕ) → is_count word n ≡ true → n ≤ most_nets
 small_count word n h =
@@ -59,17 +65,32 @@ few_word : (o : Option Text) → IsFewCount (option_and_then count_of o)
 few_word None = tt
 few_word (Some word) = count_if (is_count word (digits_value 10 word)) (digits_value 10 word) (small_count word (digits_value 10 word))
 
-few_for : (v : Verb) (said : Said) → IsFewTask (task_for v said)
-few_for (verb.Tell command) said =
+few_united : (file : Text) (archive : Option Text) → IsFewTask (union_with file archive)
+few_united file None = tt
+few_united file (Some archive) = few_if (are_apart file (Some archive)) (Some (Union file archive)) None tt tt
+
+few_with : (v : Verb) (said : Said) → IsFewTask (task_with v said)
+few_with (verb.Tell command) said =
     let may = may_name_archive command said.archive && are_apart (file_of said) said.archive in
     let told = Some (Tell command (file_of said) said.archive) in
     few_if (is_some said.name) None (if may then told else None) tt (few_if may told None tt tt)
-few_for verb.Add said = few_if (are_apart (file_of said) said.archive) (Some (Add (file_of said) said.archive said.name)) None tt tt
-few_for verb.Duplicates said = few_archive Duplicates (sole_archive said) (λ x. tt)
-few_for verb.Migrate said = few_archive Migrate (sole_archive said) (λ x. tt)
-few_for verb.Workload said =
+few_with verb.Add said = few_if (are_apart (file_of said) said.archive) (Some (Add (file_of said) said.archive said.name)) None tt tt
+few_with verb.Duplicates said = few_archive Duplicates (sole_archive said) (λ x. tt)
+few_with verb.Migrate said = few_archive Migrate (sole_archive said) (λ x. tt)
+few_with verb.Union said = few_if (is_some said.name) None (union_with (file_of said) said.archive) tt (few_united (file_of said) said.archive)
+few_with verb.Same said = few_archive Same (sole_file said) (λ x. tt)
+few_with verb.Verify said = few_archive Verify (sole_file said) (λ x. tt)
+few_with verb.Workload said =
     let count = option_and_then count_of said.second in
     few_count (sole_count said) (none_or (is_some said.archive) (if is_some said.name then None else count) (none_or (is_some said.name) count (few_word said.second)))
+few_with verb.Cover said =
+    let cell = option_and_then cell_of said.cell in
+    let covered = option_map (Cover (file_of said)) cell in
+    few_if (is_some said.archive) None (if is_some said.name then None else covered) tt (few_if (is_some said.name) None covered tt (few_cell (file_of said) cell))
+
+-- so does each task
+few_for : (v : Verb) (said : Said) → IsFewTask (task_for v said)
+few_for v said = few_if (may_give_cell v said.cell) (task_with v said) None (few_with v said) tt
 
 few_named : (o : Option Text) (said : Said) → IsFewTask (task_named o said)
 few_named None said = tt

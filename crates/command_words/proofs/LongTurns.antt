@@ -7,7 +7,7 @@ use Rattle.clap.specs.Walk.{Held, Step, Walk, after_flag, after_step, idle, long
 use Rattle.clap.specs.Kinds.{Kinds, or_else}
 use Rattle.clap.specs.Faults.{long_fault, option_fault, step_fault, turn_fault, use_fault}
 use Rattle.clap.specs.declared.error.kind.ErrorKind.TheVariants as kind
-use Rattle.command_words.specs.Words.{Place, Command, Second, Archive, Name}
+use Rattle.command_words.specs.Words.{Place, Command, Second, Archive, Name, Cell}
 use Rattle.command_words.proofs.Rules.{id_of, rule_at, rules_list, top}
 use Rattle.command_words.proofs.States.{Pending, end_fault, end_rows, state}
 use Rattle.command_words.proofs.Walks.{first_empty, walk_at}
@@ -33,6 +33,7 @@ asks Command v h = refl
 asks Second v h = refl
 asks Archive v h = refl
 asks Name v h = refl
+asks Cell v h = refl
 
 settles_first : (p : Place) (v : Option Text) (rows : List Row) (pending : Pending) → option_fault rules_list false (rule_at p) v (state rows pending) ≡ [] → end_fault rows pending ≡ []
 settles_first p None rows pending e = e
@@ -44,6 +45,7 @@ waits_turn Command wanted position word rows pending = refl
 waits_turn Second wanted position word rows pending = refl
 waits_turn Archive wanted position word rows pending = refl
 waits_turn Name wanted position word rows pending = refl
+waits_turn Cell wanted position word rows pending = refl
 
 waits_moved : (p : Place) (wanted : Option Place) (position : ℕ) (word : Text) (rows : List Row) (pending : Pending)
     → long_moved wanted position word rows pending None (Some (rule_at p)) ≡ walk_at (option (id_of p)) position false (end_rows rows pending) (Some (id_of p, []))
@@ -51,6 +53,7 @@ waits_moved Command wanted position word rows pending = refl
 waits_moved Second wanted position word rows pending = refl
 waits_moved Archive wanted position word rows pending = refl
 waits_moved Name wanted position word rows pending = refl
+waits_moved Cell wanted position word rows pending = refl
 
 gives_turn : (p : Place) (wanted : Option Place) (position : ℕ) (word v : Text) (rows : List Row) (pending : Pending)
     → long_turn wanted position word rows pending (Some v) (Some (rule_at p))
@@ -59,6 +62,7 @@ gives_turn Command wanted position word v rows pending = refl
 gives_turn Second wanted position word v rows pending = refl
 gives_turn Archive wanted position word v rows pending = refl
 gives_turn Name wanted position word v rows pending = refl
+gives_turn Cell wanted position word v rows pending = refl
 
 gives_moved : (p : Place) (wanted : Option Place) (position : ℕ) (word v : Text) (rows : List Row) (pending : Pending)
     → long_moved wanted position word rows pending (Some v) (Some (rule_at p)) ≡ walk_at idle position false (used (rule_at p) (v ∷ []) (end_rows rows pending)) None
@@ -66,6 +70,7 @@ gives_moved Command wanted position word v rows pending = refl
 gives_moved Second wanted position word v rows pending = refl
 gives_moved Archive wanted position word v rows pending = refl
 gives_moved Name wanted position word v rows pending = refl
+gives_moved Cell wanted position word v rows pending = refl
 
 module _ (wanted : Option Place) (position : ℕ) (word : Text) (rows : List Row) (pending : Pending) (name : Text) (v : Option Text) (ed : bytes_eq word (45 ∷ 45 ∷ []) ≡ false)
     (el : long_of word ≡ Some (name, v)) where

@@ -7,8 +7,8 @@ use Rattle.std.specs.Prelude.{slice_get}
 use Rattle.std.specs.Str.{bytes_eq, chars}
 use Rattle.clap.specs.Lexer.{has_byte, long_of, short_of}
 use Rattle.clap.specs.Words.{Text}
-use Rattle.command_words.specs.Words.{Place, Archive, Name, after, option_with_value, is_plain, option_word}
-use Rattle.command_words.proofs.Cuts.{after_name, before_whole, value_after, equals, is_equals, never_after, other_text}
+use Rattle.command_words.specs.Words.{Place, Archive, Name, Cell, after, option_with_value, is_plain, option_word}
+use Rattle.command_words.proofs.Cuts.{after_name, before_whole, equals, is_equals, never_after, other_text}
 use Rattle.command_words.proofs.Turns.{place_named}
 
 -- an option that was found, with its value
@@ -27,16 +27,23 @@ pub data Look (word : Text) : Type 0 where
 same_text : (a b : Text) → bytes_eq a b ≡ bytes_eq b a
 same_text a b = same_from_decides (bytes_eq a b) (bytes_eq b a) (bytes_eq-Decides a b) (Decides-like (bytes_eq b a) sym sym (bytes_eq-Decides b a))
 
--- the two names
+-- the three names
 abbrev archive_text : Text
 archive_text = codes "archive"
 
 abbrev name_text : Text
 name_text = codes "name"
 
+abbrev cell_text : Text
+cell_text = codes "cell"
+
 -- the option, by what the word is compared with
-abbrev option_spelled : Bool → Bool → Option Text → Option Text → Option (Place × Option Text)
-option_spelled a n x y = cond a (Some (Archive, None)) (cond n (Some (Name, None)) (option_with_value x y))
+abbrev option_spelled : Bool → Bool → Bool → Option Text → Option Text → Option Text → Option (Place × Option Text)
+option_spelled a n c x y z = cond a (Some (Archive, None)) (cond n (Some (Name, None)) (cond c (Some (Cell, None)) (option_with_value x y z)))
+
+-- the option, by which name it has
+abbrev option_named : Bool → Bool → Bool → Option Place
+option_named a n c = cond a (Some Archive) (cond n (Some Name) (cond c (Some Cell) None))
 
 -- the value after the first `=`
 abbrev pub value_of : Text → Option Text
@@ -45,31 +52,30 @@ value_of t = cond (has_byte 61 t) (Some (after_first is_equals t)) None
 -- a word without `=`
 long_alone : (t : Text) → has_byte 61 t ≡ false → option_word (45 ∷ 45 ∷ t) ≡ found_as None (place_named (before_first is_equals t))
 long_alone t e =
-    ap (λ (x : Option Text). option_spelled (bytes_eq t archive_text) (bytes_eq t name_text) x (after (name_text ++ equals) t)) (never_after archive_text t e)
-    ∙ ap (option_spelled (bytes_eq t archive_text) (bytes_eq t name_text) None) (never_after name_text t e)
-    ∙ ap (λ (a : Bool). option_spelled a (bytes_eq t name_text) None None) (same_text t archive_text)
-    ∙ ap (λ (n : Bool). option_spelled (bytes_eq archive_text t) n None None) (same_text t name_text)
-    ∙ go (bytes_eq archive_text t) (bytes_eq name_text t)
+    (λ i. option_spelled (bytes_eq t archive_text) (bytes_eq t name_text) (bytes_eq t cell_text) (never_after archive_text t e i) (never_after name_text t e i) (never_after cell_text t e i))
+    ∙ (λ i. option_spelled (same_text t archive_text i) (same_text t name_text i) (same_text t cell_text i) None None None)
+    ∙ go (bytes_eq archive_text t) (bytes_eq name_text t) (bytes_eq cell_text t)
     ∙ ap (λ (s : Text). found_as None (place_named s)) (sym (before_whole t e))
   where
-    go : (a n : Bool) → option_spelled a n None None ≡ found_as None (cond a (Some Archive) (cond n (Some Name) None))
-    go true n = refl
-    go false true = refl
-    go false false = refl
+    go : (a n c : Bool) → option_spelled a n c None None None ≡ found_as None (option_named a n c)
+    go true n c = refl
+    go false true c = refl
+    go false false true = refl
+    go false false false = refl
 
 -- a word with `=`
 long_given : (t : Text) → has_byte 61 t ≡ true → option_word (45 ∷ 45 ∷ t) ≡ found_as (Some (after_first is_equals t)) (place_named (before_first is_equals t))
 long_given t e =
-    ap (λ (a : Bool). option_spelled a (bytes_eq t name_text) (after (archive_text ++ equals) t) (after (name_text ++ equals) t)) (other_text archive_text t refl e)
-    ∙ ap (λ (n : Bool). option_spelled false n (after (archive_text ++ equals) t) (after (name_text ++ equals) t)) (other_text name_text t refl e)
-    ∙ ap (λ (x : Option Text). option_with_value x (after (name_text ++ equals) t)) (after_name archive_text t refl e)
-    ∙ ap (option_with_value (value_after archive_text (before_first is_equals t) (after_first is_equals t))) (after_name name_text t refl e)
-    ∙ go (bytes_eq archive_text (before_first is_equals t)) (bytes_eq name_text (before_first is_equals t)) (after_first is_equals t)
+    (λ i. option_spelled (other_text archive_text t refl e i) (other_text name_text t refl e i) (other_text cell_text t refl e i) (after (archive_text ++ equals) t) (after (name_text ++ equals) t)
+    (after (cell_text ++ equals) t))
+    ∙ (λ i. option_with_value (after_name archive_text t refl e i) (after_name name_text t refl e i) (after_name cell_text t refl e i))
+    ∙ go (bytes_eq archive_text (before_first is_equals t)) (bytes_eq name_text (before_first is_equals t)) (bytes_eq cell_text (before_first is_equals t)) (after_first is_equals t)
   where
-    go : (a n : Bool) (r : Text) → option_with_value (cond a (Some r) None) (cond n (Some r) None) ≡ found_as (Some r) (cond a (Some Archive) (cond n (Some Name) None))
-    go true n r = refl
-    go false true r = refl
-    go false false r = refl
+    go : (a n c : Bool) (r : Text) → option_with_value (cond a (Some r) None) (cond n (Some r) None) (cond c (Some r) None) ≡ found_as (Some r) (option_named a n c)
+    go true n c r = refl
+    go false true c r = refl
+    go false false true r = refl
+    go false false false r = refl
 
 -- both readings of a word with `--` agree
 pub option_long : (t : Text) → option_word (45 ∷ 45 ∷ t) ≡ found_as (value_of t) (place_named (before_first is_equals t))

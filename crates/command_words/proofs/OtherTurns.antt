@@ -9,7 +9,7 @@ use Rattle.clap.specs.Walk.{Held, Walk, after_step, arg_by_index, idle, short_or
 use Rattle.clap.specs.Kinds.{Kinds, or_else}
 use Rattle.clap.specs.Faults.{bundle_fault, bundle_step_fault, flags_fault, step_fault, turn_fault}
 use Rattle.clap.specs.declared.error.kind.ErrorKind.TheVariants as kind
-use Rattle.command_words.specs.Words.{Place, Command, Second, Archive, Name}
+use Rattle.command_words.specs.Words.{Place, Command, Second, Archive, Name, Cell}
 use Rattle.command_words.proofs.Rules.{id_of, rules_list, top}
 use Rattle.command_words.proofs.States.{Pending, state}
 use Rattle.command_words.proofs.Walks.{first_empty, walk_at}
@@ -64,12 +64,14 @@ module _ (p : Place) (position : ℕ) (word : Text) (rows : List Row) (ed : byte
   no_fault Second = refl
   no_fault Archive = refl
   no_fault Name = refl
+  no_fault Cell = refl
 
   next_walk : (p : Place) → other_moved (Some p) position word rows (Some (id_of p, [])) None ≡ walk_at idle position false rows (Some (id_of p, word ∷ []))
   next_walk Command = refl
   next_walk Second = refl
   next_walk Archive = refl
   next_walk Name = refl
+  next_walk Cell = refl
 
   -- the value of an option
   pub given_turn : turn_fault top [] (here (Some p) position rows (Some (id_of p, []))) word ≡ []

@@ -12,7 +12,7 @@ use Rattle.clap.specs.declared.error.kind.ErrorKind.TheVariants.{OutOfMemory}
 use Rattle.clap.specs.declared.parser.matches.Found.{Found}
 use Rattle.command_words.specs.Grammar.{grammar}
 use Rattle.command_words.specs.Views.{said_in}
-use Rattle.command_words.specs.Words.{Place, Command, Second, Archive, Name, Said, at, said_by}
+use Rattle.command_words.specs.Words.{Place, Command, Second, Archive, Name, Cell, Said, at, said_by}
 use Rattle.command_words.proofs.Rules.{id_of}
 use Rattle.command_words.proofs.Rows.{IsShown}
 use Rattle.command_words.proofs.Readings.{AreUtf8}
@@ -25,7 +25,7 @@ texts_valid (word ∷ words) = (IsUtf8-string_bytes word, texts_valid words)
 
 -- what clap found is what its rows show
 said_is : (found : Found) (said : Said) → IsShown said (rows_of found) → said_in found ≡ said
-said_is found said s = λ i. record { command = (value Command) i; second = (value Second) i; archive = (value Archive) i; name = (value Name) i }
+said_is found said s = λ i. record { command = (value Command) i; second = (value Second) i; archive = (value Archive) i; name = (value Name) i; cell = (value Cell) i }
   where
     value : (p : Place) → first_value found (id_of p) ≡ at said p
     value p = first_value-rows found (id_of p) ∙ (s p).value

@@ -22,7 +22,7 @@ HaveNoDefaults [] = Unit {0}
 HaveNoDefaults (r ∷ rs) = (r.defaults ≡ []) × HaveNoDefaults rs
 
 no_defaults : HaveNoDefaults rules_list
-no_defaults = (refl, (refl, (refl, (refl, tt))))
+no_defaults = (refl, (refl, (refl, (refl, (refl, tt)))))
 
 no_default : (rows : List Row) (r : Rule) → r.defaults ≡ [] → default_fault rows r ≡ []
 no_default rows r e = ap (λ (d : List Text). cond (has_row r.id rows || is_empty d) [] (given_default_fault r d)) e ∙ go (has_row r.id rows) (given_default_fault r [])

@@ -4,7 +4,7 @@ use Rattle.std.specs.Prelude.{option_and_then}
 use Rattle.std.specs.Str.{IsUtf8, bytes_eq}
 use Rattle.clap.specs.Words.{Row, Text}
 use Rattle.clap.specs.Walk.{idle}
-use Rattle.command_words.specs.Words.{Place, Command, Second, Archive, Name, Reading, Said, without_wait, is_plain, option_step, option_word, fill_next, read_positional, put, read, step}
+use Rattle.command_words.specs.Words.{Place, Command, Second, Archive, Name, Cell, Reading, Said, without_wait, is_plain, option_step, option_word, fill_next, read_positional, put, read, step}
 use Rattle.command_words.proofs.Rules.{id_of}
 use Rattle.command_words.proofs.Rows.{IsShown}
 use Rattle.command_words.proofs.States.{IsSound, Pending, end_fault}
@@ -25,6 +25,7 @@ AreUtf8 (word ∷ words) = IsUtf8 word × AreUtf8 words
 abbrev pub IsOption : Place → Type 0
 IsOption Archive = Unit {0}
 IsOption Name = Unit {0}
+IsOption Cell = Unit {0}
 IsOption _ = ⊥
 
 -- and is one, where it is given
@@ -33,18 +34,20 @@ HasOption None = Unit {0}
 HasOption (Some p) = IsOption p
 
 pub named_option : (name : Text) (p : Place) → place_named name ≡ Some p → IsOption p
-named_option name p e = subst HasOption e (go (bytes_eq (codes "archive") name) (bytes_eq (codes "name") name))
+named_option name p e = subst HasOption e (go (bytes_eq (codes "archive") name) (bytes_eq (codes "name") name) (bytes_eq (codes "cell") name))
   where
-    go : (a n : Bool) → HasOption (cond a (Some Archive) (cond n (Some Name) None))
-    go true n = tt
-    go false true = tt
-    go false false = tt
+    go : (a n c : Bool) → HasOption (cond a (Some Archive) (cond n (Some Name) (cond c (Some Cell) None)))
+    go true n c = tt
+    go false true c = tt
+    go false false true = tt
+    go false false false = tt
 
 pub stands_option : (stage : Stage) (said : Said) (p : Place) (v : Text) → IsOption p → IsStageOf stage said → IsStageOf stage (put p v said)
 stands_option stage said Command v o s = absurd o
 stands_option stage said Second v o s = absurd o
 stands_option stage said Archive v o s = record { command = s.command; second = s.second }
 stands_option stage said Name v o s = record { command = s.command; second = s.second }
+stands_option stage said Cell v o s = record { command = s.command; second = s.second }
 
 -- the walk stands where this is said
 pub record IsWaiting (said : Said) (p : Place) (rows : List Row) (pending : Pending) : Type 0 where

@@ -5,7 +5,7 @@ use Rattle.std.specs.Str.{bytes_eq}
 use Rattle.clap.specs.Words.{Row, Text, first_of}
 use Rattle.clap.specs.Walk.{at_row, has_row, more_values, reading_by, used, with_values, without}
 use Rattle.clap.specs.declared.parser.matches.ValueSource.TheVariants.{CommandLine}
-use Rattle.command_words.specs.Words.{Place, Command, Second, Archive, Name, Said, at, put, nothing}
+use Rattle.command_words.specs.Words.{Place, Command, Second, Archive, Name, Cell, Said, at, put, nothing}
 use Rattle.command_words.proofs.Rules.{id_of, rule_at}
 
 -- what clap holds of a place that was said
@@ -31,6 +31,7 @@ used_as_values Command v rows = refl
 used_as_values Second v rows = refl
 used_as_values Archive v rows = refl
 used_as_values Name v rows = refl
+used_as_values Cell v rows = refl
 
 -- a first use adds a row
 pub used_once : (p : Place) (v : Text) (rows : List Row) → has_row (id_of p) rows ≡ false → used (rule_at p) (v ∷ []) rows ≡ rows ++ row p v ∷ []
@@ -82,6 +83,7 @@ shows_nothing Command = record { value = refl; has = refl }
 shows_nothing Second = record { value = refl; has = refl }
 shows_nothing Archive = record { value = refl; has = refl }
 shows_nothing Name = record { value = refl; has = refl }
+shows_nothing Cell = record { value = refl; has = refl }
 
 choice : {X : Type 0} (o : Option X) → cond (is_some o) o None ≡ o
 choice None = refl
@@ -124,15 +126,24 @@ shows_put said rows Command v s e Command = here said (put Command v said) rows 
 shows_put said rows Command v s e Second = other said (put Command v said) rows Command Second v (s Second) refl refl refl
 shows_put said rows Command v s e Archive = other said (put Command v said) rows Command Archive v (s Archive) refl refl refl
 shows_put said rows Command v s e Name = other said (put Command v said) rows Command Name v (s Name) refl refl refl
+shows_put said rows Command v s e Cell = other said (put Command v said) rows Command Cell v (s Cell) refl refl refl
 shows_put said rows Second v s e Command = other said (put Second v said) rows Second Command v (s Command) refl refl refl
 shows_put said rows Second v s e Second = here said (put Second v said) rows Second v (s Second) e refl refl refl
 shows_put said rows Second v s e Archive = other said (put Second v said) rows Second Archive v (s Archive) refl refl refl
 shows_put said rows Second v s e Name = other said (put Second v said) rows Second Name v (s Name) refl refl refl
+shows_put said rows Second v s e Cell = other said (put Second v said) rows Second Cell v (s Cell) refl refl refl
 shows_put said rows Archive v s e Command = other said (put Archive v said) rows Archive Command v (s Command) refl refl refl
 shows_put said rows Archive v s e Second = other said (put Archive v said) rows Archive Second v (s Second) refl refl refl
 shows_put said rows Archive v s e Archive = here said (put Archive v said) rows Archive v (s Archive) e refl refl refl
 shows_put said rows Archive v s e Name = other said (put Archive v said) rows Archive Name v (s Name) refl refl refl
+shows_put said rows Archive v s e Cell = other said (put Archive v said) rows Archive Cell v (s Cell) refl refl refl
 shows_put said rows Name v s e Command = other said (put Name v said) rows Name Command v (s Command) refl refl refl
 shows_put said rows Name v s e Second = other said (put Name v said) rows Name Second v (s Second) refl refl refl
 shows_put said rows Name v s e Archive = other said (put Name v said) rows Name Archive v (s Archive) refl refl refl
 shows_put said rows Name v s e Name = here said (put Name v said) rows Name v (s Name) e refl refl refl
+shows_put said rows Name v s e Cell = other said (put Name v said) rows Name Cell v (s Cell) refl refl refl
+shows_put said rows Cell v s e Command = other said (put Cell v said) rows Cell Command v (s Command) refl refl refl
+shows_put said rows Cell v s e Second = other said (put Cell v said) rows Cell Second v (s Second) refl refl refl
+shows_put said rows Cell v s e Archive = other said (put Cell v said) rows Cell Archive v (s Archive) refl refl refl
+shows_put said rows Cell v s e Name = other said (put Cell v said) rows Cell Name v (s Name) refl refl refl
+shows_put said rows Cell v s e Cell = here said (put Cell v said) rows Cell v (s Cell) e refl refl refl

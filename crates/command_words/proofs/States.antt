@@ -5,7 +5,7 @@ use Rattle.clap.specs.Walk.{Held, has_row, is_pending, positional_held, pushed, 
 use Rattle.clap.specs.Kinds.{Kinds, or_else}
 use Rattle.clap.specs.Faults.{positional_fault, settle_fault, use_fault}
 use Rattle.clap.specs.declared.error.kind.ErrorKind.TheVariants as kind
-use Rattle.command_words.specs.Words.{Place, Command, Second, Archive, Name, Said, at, put}
+use Rattle.command_words.specs.Words.{Place, Command, Second, Archive, Name, Cell, Said, at, put}
 use Rattle.command_words.proofs.Rules.{id_of, rule_at, rules_list}
 use Rattle.command_words.proofs.Rows.{IsShown, shows_put, used_once}
 
@@ -39,6 +39,7 @@ fault_is Command v rows = refl
 fault_is Second v rows = refl
 fault_is Archive v rows = refl
 fault_is Name v rows = refl
+fault_is Cell v rows = refl
 
 -- a value of an empty place is no fault, and a second value is one
 pub use_once : (p : Place) (v : Text) (rows : List Row) → has_row (id_of p) rows ≡ false → use_fault false (rule_at p) (v ∷ []) rows ≡ []
@@ -52,12 +53,14 @@ pending_fault Command vs rows = refl
 pending_fault Second vs rows = refl
 pending_fault Archive vs rows = refl
 pending_fault Name vs rows = refl
+pending_fault Cell vs rows = refl
 
 pub pending_rows : (p : Place) (vs : List Text) (rows : List Row) → end_rows rows (Some (id_of p, vs)) ≡ used (rule_at p) vs rows
 pending_rows Command vs rows = refl
 pending_rows Second vs rows = refl
 pending_rows Archive vs rows = refl
 pending_rows Name vs rows = refl
+pending_rows Cell vs rows = refl
 
 -- a value of an empty place waits to be used
 pub good_pending : (said : Said) (rows : List Row) (p : Place) (v : Text) → IsShown said rows → is_some (at said p) ≡ false
@@ -93,6 +96,7 @@ one_value Command = refl
 one_value Second = refl
 one_value Archive = refl
 one_value Name = refl
+one_value Cell = refl
 
 never_more : (p : Place) (pending : Pending) → (is_pending (rule_at p) pending && takes_several (rule_at p)) ≡ false
 never_more p pending = ap (λ (b : Bool). is_pending (rule_at p) pending && b) (one_value p) ∙ and_false (is_pending (rule_at p) pending)
@@ -106,6 +110,7 @@ rule_id Command = refl
 rule_id Second = refl
 rule_id Archive = refl
 rule_id Name = refl
+rule_id Cell = refl
 
 pub positional_kept : (p : Place) (word : Text) (rows : List Row) (pending : Pending)
     → positional_held rules_list (rule_at p) word (state rows pending) ≡ state (end_rows rows pending) (Some (id_of p, word ∷ []))

@@ -7,7 +7,7 @@ use Rattle.clap.specs.Words.{Row, Text}
 use Rattle.clap.specs.Walk.{Held, Step, Waiting, Walk, after_step, arg_by_long, idle, long_or_other, option, trailing, walked}
 use Rattle.clap.specs.Kinds.{Kinds, or_else}
 use Rattle.clap.specs.Faults.{flag_word_fault, step_fault, turn_fault}
-use Rattle.command_words.specs.Words.{Place, Archive, Name}
+use Rattle.command_words.specs.Words.{Place, Archive, Name, Cell}
 use Rattle.command_words.proofs.Rules.{id_of, rule_at, rules_list, top}
 use Rattle.command_words.proofs.States.{Pending, state}
 use Rattle.command_words.proofs.Walks.{walk_at}
@@ -73,14 +73,17 @@ module _ (wanted : Option Place) (position : ℕ) (word : Text) (rows : List Row
 
 -- the place of an option of this name
 abbrev pub place_named : Text → Option Place
-place_named name = cond (bytes_eq (codes "archive") name) (Some Archive) (cond (bytes_eq (codes "name") name) (Some Name) None)
+place_named name =
+    cond (bytes_eq (codes "archive") name) (Some Archive)
+    (cond (bytes_eq (codes "name") name) (Some Name) (cond (bytes_eq (codes "cell") name) (Some Cell) None))
 
 -- clap finds the option by its name
 pub by_long : (name : Text) → arg_by_long rules_list name ≡ option_map rule_at (place_named name)
-by_long name = go (bytes_eq (codes "archive") name) (bytes_eq (codes "name") name)
+by_long name = go (bytes_eq (codes "archive") name) (bytes_eq (codes "name") name) (bytes_eq (codes "cell") name)
   where
-    go : (a n : Bool) → cond (a || false) (Some (rule_at Archive)) (cond (n || false) (Some (rule_at Name)) None)
-        ≡ option_map rule_at (cond a (Some Archive) (cond n (Some Name) None))
-    go true n = refl
-    go false true = refl
-    go false false = refl
+    go : (a n c : Bool) → cond (a || false) (Some (rule_at Archive)) (cond (n || false) (Some (rule_at Name)) (cond (c || false) (Some (rule_at Cell)) None))
+        ≡ option_map rule_at (cond a (Some Archive) (cond n (Some Name) (cond c (Some Cell) None)))
+    go true n c = refl
+    go false true c = refl
+    go false false true = refl
+    go false false false = refl

@@ -7,18 +7,24 @@ use Rattle.std.specs.Char.{encode_utf8}
 use Rattle.std.specs.Str.{IsUtf8, bytes_eq, chars, encode_utf8_all}
 use Rattle.clap.specs.Lexer.{long_of_rest, short_of_rest, strip_byte}
 use Rattle.clap.specs.Words.{Text}
-use Rattle.command_words.specs.Words.{Place, Archive, Name, after, option_with_value}
+use Rattle.command_words.specs.Words.{Place, Archive, Name, Cell, after, option_with_value}
 use Rattle.command_words.proofs.Looks.{Look, dashes, long, option_long, plain, short}
 
 -- the option of a word, by whether its first byte is `-`
 abbrev option_by : Bool → Text → Option (Place × Option Text)
-option_by q bs = cond (q && bytes_eq bs (codes "-archive")) (Some (Archive, None)) (cond (q && bytes_eq bs (codes "-name")) (Some (Name, None))
-    (option_with_value (cond q (after (codes "-archive=") bs) None) (cond q (after (codes "-name=") bs) None)))
+option_by q bs =
+    cond (q && bytes_eq bs (codes "-archive")) (Some (Archive, None))
+    (cond (q && bytes_eq bs (codes "-name")) (Some (Name, None))
+    (cond (q && bytes_eq bs (codes "-cell")) (Some (Cell, None))
+    (option_with_value (cond q (after (codes "-archive=") bs) None) (cond q (after (codes "-name=") bs) None) (cond q (after (codes "-cell=") bs) None))))
 
 -- and of a word that begins with `-`, by whether its second is
 abbrev option_second : Bool → Text → Option (Place × Option Text)
-option_second q bs = cond (q && bytes_eq bs (codes "archive")) (Some (Archive, None)) (cond (q && bytes_eq bs (codes "name")) (Some (Name, None))
-    (option_with_value (cond q (after (codes "archive=") bs) None) (cond q (after (codes "name=") bs) None)))
+option_second q bs =
+    cond (q && bytes_eq bs (codes "archive")) (Some (Archive, None))
+    (cond (q && bytes_eq bs (codes "name")) (Some (Name, None))
+    (cond (q && bytes_eq bs (codes "cell")) (Some (Cell, None))
+    (option_with_value (cond q (after (codes "archive=") bs) None) (cond q (after (codes "name=") bs) None) (cond q (after (codes "cell=") bs) None))))
 
 -- a text that is not empty has a first character
 some_char : (word : Text) (x : ℕ) (rest : Text) → word ≡ x ∷ rest → encode_utf8_all (chars word) ≡ word → (c : ℕ) × (slice_get (chars word) 0 ≡ Some c)

@@ -18,6 +18,10 @@ archive_rule = record (new_rule (codes "archive")) { long = Some (codes "archive
 abbrev pub name_rule : Rule
 name_rule = record (new_rule (codes "name")) { long = Some (codes "name") }
 
+-- the option `--cell`, with one value
+abbrev pub cell_rule : Rule
+cell_rule = record (new_rule (codes "cell")) { long = Some (codes "cell") }
+
 -- no name stands before the words, and clap adds no option of its own for help and version
 abbrev pub bare_grammar : App
 bare_grammar = record (new_app (codes "net_tool")) {
@@ -28,6 +32,9 @@ bare_grammar = record (new_app (codes "net_tool")) {
   };
 }
 
--- two positional words and two options
+-- two positional words and three options
 abbrev pub grammar : App
-grammar = with_rule (with_rule (with_rule (with_rule bare_grammar command_rule) second_rule) archive_rule) name_rule
+grammar =
+    with_rule
+    (with_rule (with_rule (with_rule (with_rule bare_grammar command_rule) second_rule) archive_rule) name_rule)
+    cell_rule

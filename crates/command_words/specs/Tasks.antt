@@ -4,10 +4,12 @@ use Rattle.std.specs.Fmt.{decimal}
 use Rattle.std.specs.Str.{bytes_eq}
 use Rattle.std.specs.Str.Parse.{digits_value}
 use Rattle.command_words.specs.Words.{Text, Said, said_by}
-use Rattle.command_words.specs.declared.tasks.Command.{Command}
-use Rattle.command_words.specs.declared.tasks.Command.TheVariants.{Check, Place, Key, Identify, Components}
+use Rattle.net_commands.specs.declared.command.Command.{Command}
+use Rattle.net_commands.specs.declared.command.Command.TheVariants.{Check, Place, Key, Identify, Components}
 use Rattle.command_words.specs.declared.tasks.Verb.{Verb}
 use Rattle.command_words.specs.declared.tasks.Verb.TheVariants as verb
+use Rattle.net_cover.specs.Cells.{CellView}
+use Rattle.cell_words.specs.Reading.{cell_of}
 use Rattle.workload.specs.Workload.{most_nets}
 
 -- what is to be done
@@ -20,8 +22,16 @@ pub data Task : Type 0 where
   Duplicates : Text → Task
   -- to write an archive in the newest format
   Migrate : Text → Task
+  -- to unite an archive with the nets of a file
+  Union : Text → Text → Task
+  -- to map the first net of a file to each other one
+  Same : Text → Task
+  -- to check the maps of a file
+  Verify : Text → Task
   -- to make so many nets, and to find their keys
   Workload : ℕ → Task
+  -- to write each net of a file on this cell
+  Cover : Text → CellView → Task
 
 -- the file that a task reads
 abbrev pub file_named : Task → Option Text
@@ -29,7 +39,11 @@ file_named (Tell command file archive) = Some file
 file_named (Add file archive name) = Some file
 file_named (Duplicates archive) = None
 file_named (Migrate archive) = None
+file_named (Union file archive) = Some file
+file_named (Same file) = Some file
+file_named (Verify file) = Some file
 file_named (Workload count) = None
+file_named (Cover file cell) = Some file
 
 -- the archive that it reads
 abbrev pub archive_named : Task → Option Text
@@ -37,7 +51,11 @@ archive_named (Tell command file archive) = archive
 archive_named (Add file archive name) = archive
 archive_named (Duplicates archive) = Some archive
 archive_named (Migrate archive) = Some archive
+archive_named (Union file archive) = Some archive
+archive_named (Same file) = None
+archive_named (Verify file) = None
 archive_named (Workload count) = None
+archive_named (Cover file cell) = None
 
 -- the command that a word names
 abbrev pub verb_named : Text → Option Verb
@@ -50,7 +68,11 @@ verb_named word =
     (if bytes_eq word (codes "add") then Some verb.Add else
     (if bytes_eq word (codes "duplicates") then Some verb.Duplicates else
     (if bytes_eq word (codes "migrate") then Some verb.Migrate else
-    (if bytes_eq word (codes "workload") then Some verb.Workload else None))))))))
+    (if bytes_eq word (codes "union") then Some verb.Union else
+    (if bytes_eq word (codes "same") then Some verb.Same else
+    (if bytes_eq word (codes "verify") then Some verb.Verify else
+    (if bytes_eq word (codes "workload") then Some verb.Workload else
+    (if bytes_eq word (codes "cover") then Some verb.Cover else None))))))))))))
 
 -- the word stands, and is empty
 abbrev pub is_empty_word : Option Text → Bool
@@ -63,7 +85,8 @@ abbrev pub has_empty_word : Said → Bool
 has_empty_word said =
     if is_empty_word said.command then true else
     (if is_empty_word said.second then true else
-    (if is_empty_word said.archive then true else is_empty_word said.name))
+    (if is_empty_word said.archive then true else
+    (if is_empty_word said.name then true else is_empty_word said.cell)))
 
 -- the file is the second positional word, and `-`, the standard input, where that is absent
 abbrev pub file_of : Said → Text
@@ -96,6 +119,19 @@ add_in said = if are_apart (file_of said) said.archive then Some (Add (file_of s
 abbrev pub sole_archive : Said → Option Text
 sole_archive said = if is_some said.second then None else (if is_some said.name then None else said.archive)
 
+-- a file is read, and the archive, which has to be named
+abbrev pub union_with : Text → Option Text → Option Task
+union_with file None = None
+union_with file (Some archive) = if are_apart file (Some archive) then Some (Union file archive) else None
+
+-- and no name is given
+abbrev pub union_in : Said → Option Task
+union_in said = if is_some said.name then None else union_with (file_of said) said.archive
+
+-- a file is read, and no archive and no name is given
+abbrev pub sole_file : Said → Option Text
+sole_file said = if is_some said.archive then None else (if is_some said.name then None else Some (file_of said))
+
 -- the word spells n in decimal, and n is from 1 to 4,096
 abbrev pub is_count : Text → ℕ → Bool
 is_count word n = bytes_eq word (decimal n) && (nat_lt 0 n && nat_lt n (most_nets + 1))
@@ -108,13 +144,40 @@ count_of word = if is_count word (digits_value 10 word) then Some (digits_value 
 abbrev pub sole_count : Said → Option ℕ
 sole_count said = if is_some said.archive then None else (if is_some said.name then None else option_and_then count_of said.second)
 
+-- a file is read, and a cell is given, and no archive and no name
+abbrev pub cover_in : Said → Option Task
+cover_in said =
+    if is_some said.archive then None else
+    (if is_some said.name then None else
+    option_map (Cover (file_of said)) (option_and_then cell_of said.cell))
+
+-- cover takes a cell, and the other commands take none
+abbrev pub may_give_cell : Verb → Option Text → Bool
+may_give_cell verb.Cover cell = true
+may_give_cell (verb.Tell command) cell = not (is_some cell)
+may_give_cell verb.Add cell = not (is_some cell)
+may_give_cell verb.Duplicates cell = not (is_some cell)
+may_give_cell verb.Migrate cell = not (is_some cell)
+may_give_cell verb.Union cell = not (is_some cell)
+may_give_cell verb.Same cell = not (is_some cell)
+may_give_cell verb.Verify cell = not (is_some cell)
+may_give_cell verb.Workload cell = not (is_some cell)
+
+-- what a command takes beside a cell
+abbrev pub task_with : Verb → Said → Option Task
+task_with (verb.Tell command) said = tell_in command said
+task_with verb.Add said = add_in said
+task_with verb.Duplicates said = option_map Duplicates (sole_archive said)
+task_with verb.Migrate said = option_map Migrate (sole_archive said)
+task_with verb.Union said = union_in said
+task_with verb.Same said = option_map Same (sole_file said)
+task_with verb.Verify said = option_map Verify (sole_file said)
+task_with verb.Workload said = option_map Workload (sole_count said)
+task_with verb.Cover said = cover_in said
+
 -- what a command takes
 abbrev pub task_for : Verb → Said → Option Task
-task_for (verb.Tell command) said = tell_in command said
-task_for verb.Add said = add_in said
-task_for verb.Duplicates said = option_map Duplicates (sole_archive said)
-task_for verb.Migrate said = option_map Migrate (sole_archive said)
-task_for verb.Workload said = option_map Workload (sole_count said)
+task_for v said = if may_give_cell v said.cell then task_with v said else None
 
 -- the task of the first positional word, where that names a command
 abbrev pub task_named : Option Text → Said → Option Task

@@ -16,6 +16,7 @@ said_view s = record {
   second = option_copied s.second;
   archive = option_copied s.archive;
   name = option_copied s.name;
+  cell = option_copied s.cell;
 }
 
 -- the task, in the code
@@ -24,7 +25,11 @@ task_view (code.Tell command file archive) = task.Tell command file.now (option_
 task_view (code.Add file archive name) = task.Add file.now (option_copied archive) (option_copied name)
 task_view (code.Duplicates archive) = task.Duplicates archive.now
 task_view (code.Migrate archive) = task.Migrate archive.now
+task_view (code.Union file archive) = task.Union file.now archive.now
+task_view (code.Same file) = task.Same file.now
+task_view (code.Verify file) = task.Verify file.now
 task_view (code.Workload count) = task.Workload count
+task_view (code.Cover file cell) = task.Cover file.now cell
 
 -- what clap found at each place
 abbrev pub said_in : Found → Said
@@ -33,4 +38,5 @@ said_in found = record {
   second = first_value found (codes "second");
   archive = first_value found (codes "archive");
   name = first_value found (codes "name");
+  cell = first_value found (codes "cell");
 }

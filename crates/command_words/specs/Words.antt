@@ -1,5 +1,5 @@
--- What the words of a command line say. The first `--` ends the options. Before it an option is `--archive` or
--- `--name` with the next word as its value, or one word `--archive=V` or `--name=V`. All other words are positional.
+-- What the words of a command line say. The first `--` ends the options. Before it an option is `--archive`,
+-- `--name` or `--cell` with the next word as its value, or one word, as `--archive=V`. All others are positional.
 use Rattle.std.specs.Prelude.{ℕ, Bool, false, not, ◌==◌, ◌||◌, List, [], ◌∷◌, Option, Some, None, String, string_bytes, map, is_some, option_map, option_and_then, if◌then◌else◌, codes}
 use Rattle.std.specs.Str.{bytes_eq}
 use Rattle.std.specs.declared.alloc.Global.{Global}
@@ -18,6 +18,7 @@ pub data Place : Type 0 where
   Second : Place
   Archive : Place
   Name : Place
+  Cell : Place
 
 -- what the words say at each place
 pub record Said : Type 0 where
@@ -25,10 +26,11 @@ pub record Said : Type 0 where
   pub second : Option Text
   pub archive : Option Text
   pub name : Option Text
+  pub cell : Option Text
 
 -- nothing is said at any place
 abbrev pub nothing : Said
-nothing = record { command = None; second = None; archive = None; name = None }
+nothing = record { command = None; second = None; archive = None; name = None; cell = None }
 
 -- what is said at a place
 abbrev pub at : Said → Place → Option Text
@@ -36,6 +38,7 @@ at said Command = said.command
 at said Second = said.second
 at said Archive = said.archive
 at said Name = said.name
+at said Cell = said.cell
 
 -- this word is said at this place
 abbrev pub put : Place → Text → Said → Said
@@ -43,6 +46,7 @@ put Command word said = record said { command = Some word }
 put Second word said = record said { second = Some word }
 put Archive word said = record said { archive = Some word }
 put Name word said = record said { name = Some word }
+put Cell word said = record said { cell = Some word }
 
 -- each place is filled once
 abbrev pub fill : Place → Text → Said → Option Said
@@ -67,17 +71,19 @@ after [] word = Some word
 after (b ∷ bs) [] = None
 after (b ∷ bs) (x ∷ word) = if x == b then after bs word else None
 
--- an option with its value, of what follows `--archive=` and what follows `--name=`
-abbrev pub option_with_value : Option Text → Option Text → Option (Place × Option Text)
-option_with_value (Some value) other = Some (Archive, Some value)
-option_with_value None (Some value) = Some (Name, Some value)
-option_with_value None None = None
+-- an option with its value, of what follows `--archive=`, `--name=` and `--cell=`
+abbrev pub option_with_value : Option Text → Option Text → Option Text → Option (Place × Option Text)
+option_with_value (Some value) name cell = Some (Archive, Some value)
+option_with_value None (Some value) cell = Some (Name, Some value)
+option_with_value None None (Some value) = Some (Cell, Some value)
+option_with_value None None None = None
 
 -- the option that a word spells, and its value where that stands after `=`
 abbrev pub option_word : Text → Option (Place × Option Text)
 option_word word = if bytes_eq word (codes "--archive") then Some (Archive, None) else
     (if bytes_eq word (codes "--name") then Some (Name, None) else
-    option_with_value (after (codes "--archive=") word) (after (codes "--name=") word))
+    (if bytes_eq word (codes "--cell") then Some (Cell, None) else
+    option_with_value (after (codes "--archive=") word) (after (codes "--name=") word) (after (codes "--cell=") word)))
 
 -- what is said, and the option whose value the next word has to be
 abbrev pub Reading : Type 0

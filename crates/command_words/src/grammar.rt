@@ -16,15 +16,17 @@ fn bare_grammar<'a>(alloc: Global) -> Command<'a>
         .disable_version_flag(true)
 }
 
-/// Two positional words and two options, each of which may be absent.
+/// Two positional words and three options, each of which may be absent.
 pub(crate) fn grammar<'a>(alloc: Global) -> Result<Command<'a>, AllocError>
     ensures { IfOk result (λ c. app_of c ≡ grammar) }
 {
     let archive = Arg::new(alloc, "archive").long("archive");
     let name = Arg::new(alloc, "name").long("name");
+    let cell = Arg::new(alloc, "cell").long("cell");
     bare_grammar(alloc)
         .arg(Arg::new(alloc, "command"))?
         .arg(Arg::new(alloc, "second"))?
         .arg(archive)?
-        .arg(name)
+        .arg(name)?
+        .arg(cell)
 }

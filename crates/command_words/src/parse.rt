@@ -9,13 +9,14 @@ use clap::error::ErrorKind;
 use clap::{ArgMatches, Error};
 use std::alloc::{AllocError, Global};
 
-/// What the words say: a command, a word after it, and the values of two options.
+/// What the words say: a command, a word after it, and the values of three options.
 #[derive(Clone, Copy, Debug, Drop)]
 pub(crate) struct Said<'a> {
     pub(crate) command: Option<&'a str>,
     pub(crate) second: Option<&'a str>,
     pub(crate) archive: Option<&'a str>,
     pub(crate) name: Option<&'a str>,
+    pub(crate) cell: Option<&'a str>,
 }
 
 // What clap found at each place.
@@ -27,6 +28,7 @@ fn said_in<'a>(matches: &ArgMatches<'a>) -> Said<'a>
         second: matches.get_str("second"),
         archive: matches.get_str("archive"),
         name: matches.get_str("name"),
+        cell: matches.get_str("cell"),
     }
 }
 

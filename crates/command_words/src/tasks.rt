@@ -1,27 +1,16 @@
 // The commands, and what each takes.
-ghost use Rattle.std.specs.Prelude.{◌≡◌, IfOk, IfSome, option_map, option_copied};
+ghost use Rattle.std.specs.Prelude.{◌≡◌, IfOk, IfSome, option_and_then, option_map, option_copied};
+ghost use Rattle.cell_words.specs.Reading.{cell_of};
 ghost use Rattle.command_words.specs.Words.{texts_of};
-ghost use Rattle.command_words.specs.Tasks.{MakesFew, add_in, archive_named, are_apart, file_named, file_of, has_empty_word, is_empty_word, may_name_archive, sole_archive, sole_count, task_for, task_in, task_of, tell_in, verb_named};
+ghost use Rattle.command_words.specs.Tasks.{MakesFew, add_in, archive_named, are_apart, cover_in, file_named, file_of, has_empty_word, is_empty_word, may_give_cell, may_name_archive, sole_archive, sole_count, sole_file, task_for, task_in, task_of, task_with, tell_in, union_in, union_with, verb_named};
 ghost use Rattle.command_words.specs.Views.{said_view, task_view};
 
 use crate::counts::count_of;
 use crate::parse::{Said, read_words};
+use cell_words::cell_of;
+use net_commands::Command;
+use net_cover::Cell;
 use std::alloc::{AllocError, Global};
-
-/// What is told of each net of a file.
-#[derive(Clone, Copy, Debug, PartialEq, Eq)]
-pub enum Command {
-    /// Is the net connected?
-    Check,
-    /// Where do its vertices stand?
-    Place,
-    /// What is its key?
-    Key,
-    /// Which nets of an archive is it?
-    Identify,
-    /// What are its components?
-    Components,
-}
 
 /// What is to be done, and the names of the files that it reads. `-` is the standard input.
 #[derive(Clone, Copy, Debug, Drop)]
@@ -46,9 +35,27 @@ pub enum Task<'a> {
     Migrate {
         archive: &'a str,
     },
+    /// To unite an archive with the nets of a file: another archive, or a text of key lines.
+    Union {
+        file: &'a str,
+        archive: &'a str,
+    },
+    /// To map the first net of a file to each other one.
+    Same {
+        file: &'a str,
+    },
+    /// To check the maps of a file.
+    Verify {
+        file: &'a str,
+    },
     /// To make so many nets, from 1 to 4,096, and to find their keys.
     Workload {
         count: u32,
+    },
+    /// To write each net of a file on this cell.
+    Cover {
+        file: &'a str,
+        cell: Cell,
     },
 }
 
@@ -58,7 +65,12 @@ impl<'a> Task<'a> {
         ensures { option_copied result ≡ file_named (task_view self.now) }
     {
         match *self {
-            Task::Tell { file, .. } | Task::Add { file, .. } => Some(file),
+            Task::Tell { file, .. }
+            | Task::Add { file, .. }
+            | Task::Union { file, .. }
+            | Task::Same { file }
+            | Task::Verify { file }
+            | Task::Cover { file, .. } => Some(file),
             Task::Duplicates { .. } | Task::Migrate { .. } | Task::Workload { .. } => None,
         }
     }
@@ -69,8 +81,11 @@ impl<'a> Task<'a> {
     {
         match *self {
             Task::Tell { archive, .. } | Task::Add { archive, .. } => archive,
-            Task::Duplicates { archive } | Task::Migrate { archive } => Some(archive),
-            Task::Workload { .. } => None,
+            Task::Duplicates { archive }
+            | Task::Migrate { archive }
+            | Task::Union { archive, .. } => Some(archive),
+            Task::Same { .. } | Task::Verify { .. } | Task::Workload { .. } | Task::Cover { .. } =>
+                None,
         }
     }
 }
@@ -82,7 +97,11 @@ pub(crate) enum Verb {
     Add,
     Duplicates,
     Migrate,
+    Union,
+    Same,
+    Verify,
     Workload,
+    Cover,
 }
 
 fn verb_named(word: &str) -> Option<Verb>
@@ -104,8 +123,16 @@ fn verb_named(word: &str) -> Option<Verb>
         Some(Verb::Duplicates)
     } else if word == "migrate" {
         Some(Verb::Migrate)
+    } else if word == "union" {
+        Some(Verb::Union)
+    } else if word == "same" {
+        Some(Verb::Same)
+    } else if word == "verify" {
+        Some(Verb::Verify)
     } else if word == "workload" {
         Some(Verb::Workload)
+    } else if word == "cover" {
+        Some(Verb::Cover)
     } else {
         None
     }
@@ -125,6 +152,7 @@ fn has_empty_word(said: &Said<'_>) -> bool
         || is_empty_word(said.second)
         || is_empty_word(said.archive)
         || is_empty_word(said.name)
+        || is_empty_word(said.cell)
 }
 
 // The file is the second positional word, and standard input where that is absent.
@@ -200,6 +228,27 @@ fn sole_archive<'a>(said: &Said<'a>) -> Option<&'a str>
     }
 }
 
+// A file, and the archive, where one is named.
+fn union_with<'a>(file: &'a str, archive: Option<&'a str>) -> Option<Task<'a>>
+    ensures { option_map task_view result ≡ union_with file.now (option_copied archive.entry) }
+{
+    let archive = archive?;
+    if are_apart(file, Some(archive)) {
+        Some(Task::Union { file, archive })
+    } else {
+        None
+    }
+}
+
+fn union_in<'a>(said: &Said<'a>) -> Option<Task<'a>>
+    ensures { option_map task_view result ≡ union_in (said_view said.now) }
+{
+    if said.name.is_some() {
+        return None;
+    }
+    union_with(file_of(said), said.archive)
+}
+
 // The number, where nothing else is said.
 fn sole_count(said: &Said<'_>) -> Option<u32>
     ensures { result ≡ sole_count (said_view said.now) }
@@ -210,33 +259,101 @@ fn sole_count(said: &Said<'_>) -> Option<u32>
     }
 }
 
-// What a command takes.
-fn task_for<'a>(verb: Verb, said: &Said<'a>) -> Option<Task<'a>>
-    ensures { option_map task_view result ≡ task_for verb (said_view said.now) }
+// The file, where no archive and no name is given.
+fn sole_file<'a>(said: &Said<'a>) -> Option<&'a str>
+    ensures { option_copied result ≡ sole_file (said_view said.now) }
+{
+    if said.archive.is_some() || said.name.is_some() {
+        None
+    } else {
+        Some(file_of(said))
+    }
+}
+
+// The cell that a word spells, where it is there.
+fn cell_in(alloc: Global, word: Option<&str>) -> Result<Option<Cell>, AllocError>
+    ensures { IfOk result (λ cell. cell ≡ option_and_then cell_of (option_copied word.entry)) }
+{
+    match word {
+        Some(word) => cell_of(alloc, word.as_bytes()),
+        None => Ok(None),
+    }
+}
+
+fn cover_in<'a>(alloc: Global, said: &Said<'a>) -> Result<Option<Task<'a>>, AllocError>
+    ensures { IfOk result (λ task. option_map task_view task ≡ cover_in (said_view said.now)) }
+{
+    if said.archive.is_some() || said.name.is_some() {
+        return Ok(None);
+    }
+    let file = file_of(said);
+    match cell_in(alloc, said.cell)? {
+        Some(cell) => Ok(Some(Task::Cover { file, cell })),
+        None => Ok(None),
+    }
+}
+
+// Only `cover` takes a cell.
+fn may_give_cell(verb: Verb, cell: Option<&str>) -> bool
+    ensures { result ≡ may_give_cell verb (option_copied cell.entry) }
 {
     match verb {
-        Verb::Tell(command) => tell_in(command, said),
-        Verb::Add => add_in(said),
-        Verb::Duplicates => Some(Task::Duplicates {
-            archive: sole_archive(said)?,
-        }),
-        Verb::Migrate => Some(Task::Migrate {
-            archive: sole_archive(said)?,
-        }),
-        Verb::Workload => Some(Task::Workload {
-            count: sole_count(said)?,
-        }),
+        Verb::Cover => true,
+        Verb::Tell(_)
+        | Verb::Add
+        | Verb::Duplicates
+        | Verb::Migrate
+        | Verb::Union
+        | Verb::Same
+        | Verb::Verify
+        | Verb::Workload => cell.is_none(),
+    }
+}
+
+// What a command takes beside a cell.
+fn task_with<'a>(alloc: Global, verb: Verb, said: &Said<'a>) -> Result<Option<Task<'a>>, AllocError>
+    ensures { IfOk result (λ task.
+        option_map task_view task ≡ task_with verb (said_view said.now)) }
+{
+    match verb {
+        Verb::Tell(command) => Ok(tell_in(command, said)),
+        Verb::Add => Ok(add_in(said)),
+        Verb::Duplicates => Ok(sole_archive(said).map(|archive| Task::Duplicates { archive })),
+        Verb::Migrate => Ok(sole_archive(said).map(|archive| Task::Migrate { archive })),
+        Verb::Union => Ok(union_in(said)),
+        Verb::Same => Ok(sole_file(said).map(|file| Task::Same { file })),
+        Verb::Verify => Ok(sole_file(said).map(|file| Task::Verify { file })),
+        Verb::Workload => Ok(sole_count(said).map(|count| Task::Workload { count })),
+        Verb::Cover => cover_in(alloc, said),
+    }
+}
+
+// What a command takes.
+fn task_for<'a>(alloc: Global, verb: Verb, said: &Said<'a>) -> Result<Option<Task<'a>>, AllocError>
+    ensures { IfOk result (λ task.
+        option_map task_view task ≡ task_for verb (said_view said.now)) }
+{
+    if may_give_cell(verb, said.cell) {
+        task_with(alloc, verb, said)
+    } else {
+        Ok(None)
     }
 }
 
 // The task that is said, where no word of it is empty.
-fn task_in<'a>(said: &Said<'a>) -> Option<Task<'a>>
-    ensures { option_map task_view result ≡ task_in (said_view said.now) }
+fn task_in<'a>(alloc: Global, said: &Said<'a>) -> Result<Option<Task<'a>>, AllocError>
+    ensures { IfOk result (λ task. option_map task_view task ≡ task_in (said_view said.now)) }
 {
     if has_empty_word(said) {
-        return None;
+        return Ok(None);
     }
-    task_for(verb_named(said.command?)?, said)
+    let Some(word) = said.command else {
+        return Ok(None);
+    };
+    match verb_named(word) {
+        Some(verb) => task_for(alloc, verb, said),
+        None => Ok(None),
+    }
 }
 
 /// The task that the words ask for. `Ok(None)` comes exactly where they have no form, and `Err`
@@ -247,7 +364,7 @@ pub fn task_of<'a>(alloc: Global, words: &'a [String]) -> Result<Option<Task<'a>
     ensures few { IfOk result (λ task. IfSome task (λ task. MakesFew (task_view task))) }
 {
     match read_words(alloc, words)? {
-        Some(said) => Ok(task_in(&said)),
+        Some(said) => task_in(alloc, &said),
         None => Ok(None),
     }
 }
