@@ -13,7 +13,7 @@ use Rattle.net_entries.specs.Entries.{EntryView}
 use Rattle.net_report.specs.declared.outcome.Outcome.{Outcome}
 use Rattle.net_report.specs.declared.outcome.OutcomeBody.{OutcomeBody}
 use Rattle.net_report.specs.declared.outcome.OutcomeBody.TheVariants.{Unsupported, Malformed, Refused, Keyed}
-use Rattle.command_words.specs.declared.tasks.Command.TheVariants.{Key}
+use Rattle.net_commands.specs.declared.command.Command.TheVariants.{Key}
 use Rattle.net_outcomes.specs.Outcomes.{AreOutcomesFrom, IsBodyOf, is_accepted, is_accepted_body, net_told}
 use Rattle.net_answers.specs.Due.{AreAccepted, IsNetOf}
 

@@ -1,5 +1,6 @@
 pub mod CallerLemmas
 mod Added
+mod TaskKinds
 mod KeyedBlocks
 mod Turns
 mod KeyLists

@@ -1,25 +1,28 @@
 -- What is due to a task is one.
-use Rattle.std.proofs.Common.{◌≡◌, ◌≢◌, ◌⊎◌, inl, inr, ℕ, ◌<◌, ◌≤◌, Bool, true, false, List, [], length, Option, None, Some, true≢false, refl, sym, ap, subst, ◌∙◌, arith}
+use Rattle.std.proofs.Common.{◌≡◌, ℕ, ◌<◌, ◌≤◌, Bool, true, false, List, [], length, Option, true≢false, refl, sym, ap, subst, ◌∙◌, arith}
 use Rattle.cgd_read.specs.Views.{BlockView}
 use Rattle.cgd_read.specs.Blocks.{blocks_of, most_blocks}
 use Rattle.net_entries.specs.Entries.{EntryView}
-use Rattle.net_archive.specs.Archives.{ArchiveView, IsArchive, archive_text}
-use Rattle.net_archive.specs.Faults.{IsFaultOf}
+use Rattle.net_archive.specs.Archives.{ArchiveView, archive_text}
 use Rattle.net_archive.specs.Migrating.{newest}
-use Rattle.net_archive.specs.declared.faults.ArchiveFault.{ArchiveFault}
-use Rattle.net_archive.proofs.CallerLemmas.{no_fault_but_memory, one_archive, one_fault}
-use Rattle.archive_report.specs.ArchiveTexts.{add_fault_text, archive_fault_text, groups_text, migrate_fault_text}
+use Rattle.archive_report.specs.ArchiveTexts.{add_fault_text, groups_text}
 use Rattle.archive_text.specs.Texts.{most_bytes}
-use Rattle.command_words.specs.Tasks.{Task, Tell, Add, Duplicates, Migrate, Workload}
-use Rattle.command_words.specs.declared.tasks.Command.{Command}
-use Rattle.command_words.specs.declared.tasks.Command.TheVariants.{Key}
+use Rattle.command_words.specs.Tasks.{Task, Tell, Add, Duplicates, Migrate, Union, Same, Verify, Workload, Cover}
+use Rattle.net_commands.specs.declared.command.Command.{Command}
+use Rattle.net_commands.specs.declared.command.Command.TheVariants.{Key}
 use Rattle.net_outcomes.proofs.CallerLemmas.{all_alike, one_report, one_telling}
-use Rattle.net_answers.specs.Due.{AreGroupsAs, IsAddedAs, IsAddedOrRefused, IsArchiveIn, IsBadArchive, IsDueFor, IsDueOn, IsDueWith, IsMigratedAs, IsNotAddedAs, IsReportAs, bytes_of}
+use Rattle.archive_report.specs.ArchiveBytes.{IsArchiveIn, IsBadArchive}
+use Rattle.net_answers.specs.Due.{AreGroupsAs, HasTooMany, IsAddedAs, IsAddedOrRefused, IsDueFor, IsDueOn, IsDueToBlocks, IsDueWith, IsMigratedAs, IsNotAddedAs, IsReportAs, bytes_of}
 use Rattle.net_answers.specs.Laws.{OneDueAnswer}
 use Rattle.net_answers.specs.Summaries.{IsSummary, IsSummaryAs, summary_text}
-use Rattle.net_answers.specs.declared.status.Status.{Status}
-use Rattle.net_answers.specs.declared.status.Status.TheVariants.{Done, SomeRefused, Usage, ReadFault, WriteFault, BadArchive, TooLarge, NoMemory, TooManyBlocks, AddRefused, MigrateRefused}
+use Rattle.statuses.specs.declared.status.Status.{Status}
+use Rattle.statuses.specs.declared.status.Status.TheVariants.{Done, SomeRefused, Usage, ReadFault, WriteFault, BadArchive, TooLarge, NoMemory, TooManyBlocks, AddRefused, MigrateRefused, BadMap}
 use Rattle.net_answers.proofs.OneAddition.{accepted_or_reported, all_or_one, entries_accepted, one_longer, one_not_added}
+use Rattle.archive_report.proofs.CallerLemmas.{not_bad, one_archive_in, one_bad}
+use Rattle.cover_answers.proofs.CallerLemmas.{one_covering}
+use Rattle.map_answers.proofs.CallerLemmas.{one_verification}
+use Rattle.same_answers.proofs.CallerLemmas.{one_sameness}
+use Rattle.union_answers.proofs.CallerLemmas.{many_items, one_union_due}
 use Rattle.net_answers.proofs.OneSummary.{as_many_accepted, as_many_keys, one_list_of_groups}
 
 -- one status and one text
@@ -110,29 +113,18 @@ one_due_for (Tell command file name) blocks a s t x y h k = one_report_as comman
 one_due_for (Add file name given) blocks a s t x y h k = one_addition given blocks a s t x y h k
 one_due_for (Duplicates name) blocks a s t x y h k = one_groups a s t x y h k
 one_due_for (Migrate name) blocks a s t x y h k = one_migration a s t x y h k
+one_due_for (Cover file cell) blocks a s t x y h k = one_covering cell blocks s t x y h k
+one_due_for (Same file) blocks a s t x y h k = one_sameness blocks s t x y h k
+one_due_for (Union file name) blocks a s t x y h k = absurd h
+one_due_for (Verify file) blocks a s t x y h k = absurd h
 one_due_for (Workload count) blocks a s t x y h k = one_summary_as count blocks s t x y h k
-
--- the archive of some bytes is one
-one_archive_in : (bytes : Option (List ℕ)) (a b : ArchiveView) → IsArchiveIn bytes a → IsArchiveIn bytes b → a ≡ b
-one_archive_in None a b h k = h ∙ sym k
-one_archive_in (Some bytes) a b h k = one_archive a b h.0 k.0 (sym h.1 ∙ k.1)
-
--- bytes of an archive have no fault that is told
-not_bad : (bytes : Option (List ℕ)) (a : ArchiveView) (text : List ℕ) → IsArchiveIn bytes a → ¬ IsBadArchive bytes text
-not_bad None a text h k = k
-not_bad (Some bytes) a text h k = k.1 (no_fault_but_memory a k.0 h.0 (subst (λ l. IsFaultOf l k.0) h.1 k.2))
-
--- and the fault that is told is one
-one_bad : (bytes : Option (List ℕ)) (x y : List ℕ) → IsBadArchive bytes x → IsBadArchive bytes y → x ≡ y
-one_bad None x y h k = absurd h
-one_bad (Some bytes) x y h k = h.3 ∙ ap archive_fault_text (one_fault bytes h.0 k.0 h.2 k.2 h.1 k.1) ∙ sym k.3
 
 -- an answer of an archive that is read, or of one that has a fault
 data WayOf (task : Task) (bytes : List ℕ) (archive : Option (List ℕ)) (s : Status) (x : List ℕ) : Type 0 where
   Read : (a : ArchiveView) → IsArchiveIn archive a → IsDueFor task (blocks_of bytes) a s x → WayOf task bytes archive s x
   Faulty : s ≡ BadArchive → IsBadArchive archive x → WayOf task bytes archive s x
 
-way_of : (task : Task) (bytes : List ℕ) (archive : Option (List ℕ)) (s : Status) (x : List ℕ) → IsDueWith task bytes archive s x → WayOf task bytes archive s x
+way_of : (task : Task) (bytes : List ℕ) (archive : Option (List ℕ)) (s : Status) (x : List ℕ) → IsDueToBlocks task bytes archive s x → WayOf task bytes archive s x
 way_of task bytes archive BadArchive x h = Faulty refl h.1
 way_of task bytes archive Done x h = Read h.1 h.2 h.3
 way_of task bytes archive SomeRefused x h = Read h.1 h.2 h.3
@@ -144,6 +136,7 @@ way_of task bytes archive NoMemory x h = Read h.1 h.2 h.3
 way_of task bytes archive TooManyBlocks x h = Read h.1 h.2 h.3
 way_of task bytes archive AddRefused x h = Read h.1 h.2 h.3
 way_of task bytes archive MigrateRefused x h = Read h.1 h.2 h.3
+way_of task bytes archive BadMap x h = Read h.1 h.2 h.3
 
 one_way : (task : Task) (bytes : List ℕ) (archive : Option (List ℕ)) (s t : Status) (x y : List ℕ) → WayOf task bytes archive s x → WayOf task bytes archive t y → AreOne s t x y
 one_way task bytes archive s t x y (Read a h d) (Read b k e) = one_due_for task (blocks_of bytes) a s t x y d (subst (λ c. IsDueFor task (blocks_of bytes) c t y) (sym (one_archive_in archive a b h k)) e)
@@ -152,7 +145,7 @@ one_way task bytes archive s t x y (Faulty e h) (Read b k d) = absurd (not_bad a
 one_way task bytes archive s t x y (Faulty e h) (Faulty f k) = (e ∙ sym f, one_bad archive x y h k)
 
 -- blocks are no more than there may be
-few_blocks : (task : Task) (bytes : List ℕ) (archive : Option (List ℕ)) (s : Status) (x : List ℕ) → IsDueWith task bytes archive s x → length (blocks_of bytes) ≤ most_blocks
+few_blocks : (task : Task) (bytes : List ℕ) (archive : Option (List ℕ)) (s : Status) (x : List ℕ) → IsDueToBlocks task bytes archive s x → length (blocks_of bytes) ≤ most_blocks
 few_blocks task bytes archive BadArchive x h = h.0
 few_blocks task bytes archive Done x h = h.0
 few_blocks task bytes archive SomeRefused x h = h.0
@@ -164,10 +157,41 @@ few_blocks task bytes archive NoMemory x h = h.0
 few_blocks task bytes archive TooManyBlocks x h = h.0
 few_blocks task bytes archive AddRefused x h = h.0
 few_blocks task bytes archive MigrateRefused x h = h.0
+few_blocks task bytes archive BadMap x h = h.0
 
--- an answer where there are too many blocks, or not
+-- what is due to the blocks of these bytes is one
+one_of_blocks : (task : Task) (bytes : List ℕ) (archive : Option (List ℕ)) (s t : Status) (x y : List ℕ) → IsDueToBlocks task bytes archive s x → IsDueToBlocks task bytes archive t y → AreOne s t x y
+one_of_blocks task bytes archive s t x y h k = one_way task bytes archive s t x y (way_of task bytes archive s x h) (way_of task bytes archive t y k)
+
+one_with : (task : Task) (bytes : List ℕ) (archive : Option (List ℕ)) (s t : Status) (x y : List ℕ) → IsDueWith task bytes archive s x → IsDueWith task bytes archive t y → AreOne s t x y
+one_with (Tell command file name) bytes archive s t x y h k = one_of_blocks (Tell command file name) bytes archive s t x y h k
+one_with (Add file name given) bytes archive s t x y h k = one_of_blocks (Add file name given) bytes archive s t x y h k
+one_with (Duplicates name) bytes archive s t x y h k = one_of_blocks (Duplicates name) bytes archive s t x y h k
+one_with (Migrate name) bytes archive s t x y h k = one_of_blocks (Migrate name) bytes archive s t x y h k
+one_with (Cover file cell) bytes archive s t x y h k = one_of_blocks (Cover file cell) bytes archive s t x y h k
+one_with (Same file) bytes archive s t x y h k = one_of_blocks (Same file) bytes archive s t x y h k
+one_with (Union file name) bytes archive s t x y h k = one_union_due bytes archive s t x y h k
+one_with (Verify file) bytes archive s t x y h k = one_verification bytes s t x y h k
+one_with (Workload count) bytes archive s t x y h k = one_of_blocks (Workload count) bytes archive s t x y h k
+
+-- where there are too many blocks or items, nothing is due
+many_or_few : (task : Task) (bytes : List ℕ) (archive : Option (List ℕ)) (s : Status) (x : List ℕ) → most_blocks < length (blocks_of bytes) → ¬ IsDueToBlocks task bytes archive s x
+many_or_few task bytes archive s x m h = let few = few_blocks task bytes archive s x h in absurd (omega (arith, m, few))
+
+not_many : (task : Task) (bytes : List ℕ) (archive : Option (List ℕ)) (s : Status) (x : List ℕ) → HasTooMany task bytes → ¬ IsDueWith task bytes archive s x
+not_many (Tell command file name) bytes archive s x m h = many_or_few (Tell command file name) bytes archive s x m h
+not_many (Add file name given) bytes archive s x m h = many_or_few (Add file name given) bytes archive s x m h
+not_many (Duplicates name) bytes archive s x m h = many_or_few (Duplicates name) bytes archive s x m h
+not_many (Migrate name) bytes archive s x m h = many_or_few (Migrate name) bytes archive s x m h
+not_many (Cover file cell) bytes archive s x m h = many_or_few (Cover file cell) bytes archive s x m h
+not_many (Same file) bytes archive s x m h = many_or_few (Same file) bytes archive s x m h
+not_many (Union file name) bytes archive s x m h = many_items bytes archive s x m h
+not_many (Verify file) bytes archive s x m h = absurd m
+not_many (Workload count) bytes archive s x m h = many_or_few (Workload count) bytes archive s x m h
+
+-- an answer where there are too many blocks or items, or not
 data CountOf (task : Task) (file : List ℕ) (archive : Option (List ℕ)) (s : Status) (x : List ℕ) : Type 0 where
-  Many : s ≡ TooManyBlocks → most_blocks < length (blocks_of (bytes_of task file)) → x ≡ [] → CountOf task file archive s x
+  Many : s ≡ TooManyBlocks → HasTooMany task (bytes_of task file) → x ≡ [] → CountOf task file archive s x
   Few : IsDueWith task (bytes_of task file) archive s x → CountOf task file archive s x
 
 count_of : (task : Task) (file : List ℕ) (archive : Option (List ℕ)) (s : Status) (x : List ℕ) → IsDueOn task file archive s x → CountOf task file archive s x
@@ -182,12 +206,13 @@ count_of task file archive TooLarge x h = Few h
 count_of task file archive NoMemory x h = Few h
 count_of task file archive AddRefused x h = Few h
 count_of task file archive MigrateRefused x h = Few h
+count_of task file archive BadMap x h = Few h
 
 one_count : (task : Task) (file : List ℕ) (archive : Option (List ℕ)) (s t : Status) (x y : List ℕ) → CountOf task file archive s x → CountOf task file archive t y → AreOne s t x y
 one_count task file archive s t x y (Many e m f) (Many e' m' f') = (e ∙ sym e', f ∙ sym f')
-one_count task file archive s t x y (Many e m f) (Few h) = let few = few_blocks task (bytes_of task file) archive t y h in absurd (omega (arith, m, few))
-one_count task file archive s t x y (Few h) (Many e m f) = let few = few_blocks task (bytes_of task file) archive s x h in absurd (omega (arith, m, few))
-one_count task file archive s t x y (Few h) (Few k) = one_way task (bytes_of task file) archive s t x y (way_of task (bytes_of task file) archive s x h) (way_of task (bytes_of task file) archive t y k)
+one_count task file archive s t x y (Many e m f) (Few h) = absurd (not_many task (bytes_of task file) archive t y m h)
+one_count task file archive s t x y (Few h) (Many e m f) = absurd (not_many task (bytes_of task file) archive s x m h)
+one_count task file archive s t x y (Few h) (Few k) = one_with task (bytes_of task file) archive s t x y h k
 
 -- two answers that are due are one
 pub one_due_answer : OneDueAnswer

@@ -9,7 +9,7 @@ use Rattle.least_key.specs.AnyNets.{net_in}
 use Rattle.least_key.specs.declared.net.Net.{Net}
 use Rattle.net_entries.specs.Entries.{EntryView}
 use Rattle.net_report.specs.declared.outcome.Outcome.{Outcome}
-use Rattle.command_words.specs.declared.tasks.Command.TheVariants.{Key}
+use Rattle.net_commands.specs.declared.command.Command.TheVariants.{Key}
 use Rattle.net_outcomes.specs.Outcomes.{AreOutcomesFrom, is_accepted, net_told}
 use Rattle.net_answers.specs.Due.{IsNetOf}
 use Rattle.net_answers.proofs.KeyedBlocks.{IsToldNet, told_at}

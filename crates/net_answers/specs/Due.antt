@@ -8,39 +8,31 @@ use Rattle.least_key.specs.KeyedNets.{KeyedNet, IsKeyed}
 use Rattle.net_entries.specs.Entries.{EntryView}
 use Rattle.net_entries.specs.Groups.{AreGroups}
 use Rattle.net_archive.specs.Adding.{IsEntryOf, IsAddFault}
-use Rattle.net_archive.specs.Archives.{ArchiveView, IsArchive, archive_text, empty_archive}
+use Rattle.net_archive.specs.Archives.{ArchiveView, IsArchive, archive_text}
 use Rattle.net_archive.specs.Deciding.{AreIsoGroups}
-use Rattle.net_archive.specs.Faults.{IsFaultOf}
 use Rattle.net_archive.specs.Migrating.{newest, IsMigrated}
-use Rattle.net_archive.specs.declared.faults.ArchiveFault.{ArchiveFault}
-use Rattle.net_archive.specs.declared.faults.ArchiveFault.TheVariants as archive
 use Rattle.net_archive.specs.declared.faults.AddFault.{AddFault}
 use Rattle.net_archive.specs.declared.faults.AddFault.TheVariants as add
-use Rattle.archive_report.specs.ArchiveTexts.{archive_fault_text, add_fault_text, migrate_fault_text, groups_text}
-use Rattle.command_words.specs.Tasks.{Task, Tell, Add, Duplicates, Migrate, Workload}
-use Rattle.command_words.specs.declared.tasks.Command.{Command}
-use Rattle.command_words.specs.declared.tasks.Command.TheVariants.{Key}
+use Rattle.archive_report.specs.ArchiveTexts.{add_fault_text, migrate_fault_text, groups_text}
+use Rattle.command_words.specs.Tasks.{Task, Tell, Add, Duplicates, Migrate, Union, Same, Verify, Workload, Cover}
+use Rattle.net_commands.specs.declared.command.Command.{Command}
+use Rattle.net_commands.specs.declared.command.Command.TheVariants.{Key}
 use Rattle.workload.specs.Workload.{workload}
 use Rattle.net_outcomes.specs.Reports.{IsReport}
+use Rattle.archive_report.specs.ArchiveBytes.{IsArchiveIn, IsBadArchive}
 use Rattle.net_answers.specs.Summaries.{IsSummaryAs}
-use Rattle.net_answers.specs.declared.status.Status.{Status}
-use Rattle.net_answers.specs.declared.status.Status.TheVariants as status
+use Rattle.map_answers.specs.Due.{IsDueToVerify}
+use Rattle.cover_answers.specs.Due.{IsCoveredAs}
+use Rattle.same_answers.specs.Due.{IsSameAs}
+use Rattle.union_answers.specs.Unions.{HasManyItems, IsUnionDue}
+use Rattle.statuses.specs.declared.status.Status.{Status}
+use Rattle.statuses.specs.declared.status.Status.TheVariants as status
 use Rattle.archive_text.specs.Texts.{most_bytes}
 
 -- the bytes whose blocks it is about: those of the file, or those that it makes
 abbrev pub bytes_of : Task → List ℕ → List ℕ
 bytes_of (Workload count) file = workload count
 bytes_of task file = file
-
--- these bytes are the text of this archive; without bytes it is empty
-abbrev pub IsArchiveIn : Option (List ℕ) → ArchiveView → Type 0
-IsArchiveIn None a = a ≡ empty_archive
-IsArchiveIn (Some bytes) a = IsArchive a × (bytes ≡ archive_text a)
-
--- these bytes are the text of no archive, by this fault, which is told
-abbrev pub IsBadArchive : Option (List ℕ) → List ℕ → Type 0
-IsBadArchive None text = ⊥
-IsBadArchive (Some bytes) text = (fault : ArchiveFault) × (fault ≢ archive.NoMemory) × IsFaultOf bytes fault × (text ≡ archive_fault_text fault)
 
 -- the report, by the status that goes with it
 abbrev pub IsReportAs : Command → List EntryView → List BlockView → Status → List ℕ → Type 0
@@ -151,14 +143,36 @@ IsDueFor (Tell command file name) blocks a s text = IsReportAs command a.entries
 IsDueFor (Add file name given) blocks a s text = IsAddedOrRefused given blocks a s text
 IsDueFor (Duplicates name) blocks a s text = AreGroupsAs a s text
 IsDueFor (Migrate name) blocks a s text = IsMigratedAs a s text
+IsDueFor (Cover file cell) blocks a s text = IsCoveredAs cell blocks s text
+IsDueFor (Same file) blocks a s text = IsSameAs blocks s text
+IsDueFor (Union file name) blocks a s text = ⊥
+IsDueFor (Verify file) blocks a s text = ⊥
 IsDueFor (Workload count) blocks a s text = IsSummaryAs count blocks s text
 
+-- the task asks for the blocks of bytes, or for none; a union and a check of maps ask for something else
+abbrev pub IsOfBlocks : Task → Type 0
+IsOfBlocks (Union file name) = ⊥
+IsOfBlocks (Verify file) = ⊥
+IsOfBlocks task = Unit {0}
+
 -- this task, of the blocks of these bytes and of the archive of those, has this answer
+abbrev pub IsDueToBlocks : Task → List ℕ → Option (List ℕ) → Status → List ℕ → Type 0
+IsDueToBlocks task bytes archive status.BadArchive text = (length (blocks_of bytes) ≤ most_blocks) × IsBadArchive archive text
+IsDueToBlocks task bytes archive s text = (length (blocks_of bytes) ≤ most_blocks) × (a : ArchiveView) × IsArchiveIn archive a × IsDueFor task (blocks_of bytes) a s text
+
+-- this task, of these bytes and of the archive of those, has this answer
 abbrev pub IsDueWith : Task → List ℕ → Option (List ℕ) → Status → List ℕ → Type 0
-IsDueWith task bytes archive status.BadArchive text = (length (blocks_of bytes) ≤ most_blocks) × IsBadArchive archive text
-IsDueWith task bytes archive s text = (length (blocks_of bytes) ≤ most_blocks) × (a : ArchiveView) × IsArchiveIn archive a × IsDueFor task (blocks_of bytes) a s text
+IsDueWith (Union file name) bytes archive s text = IsUnionDue bytes archive s text
+IsDueWith (Verify file) bytes archive s text = IsDueToVerify bytes s text
+IsDueWith task bytes archive s text = IsDueToBlocks task bytes archive s text
+
+-- more blocks, or items, begin in the bytes than may; of maps there may be any number
+abbrev pub HasTooMany : Task → List ℕ → Type 0
+HasTooMany (Union file name) bytes = HasManyItems bytes
+HasTooMany (Verify file) bytes = ⊥
+HasTooMany task bytes = most_blocks < length (blocks_of bytes)
 
 -- this task, of these bytes of its file and of its archive, where it names them, has this answer
 abbrev pub IsDueOn : Task → List ℕ → Option (List ℕ) → Status → List ℕ → Type 0
-IsDueOn task file archive status.TooManyBlocks text = (most_blocks < length (blocks_of (bytes_of task file))) × (text ≡ [])
+IsDueOn task file archive status.TooManyBlocks text = HasTooMany task (bytes_of task file) × (text ≡ [])
 IsDueOn task file archive s text = IsDueWith task (bytes_of task file) archive s text

@@ -2,7 +2,7 @@
 use Rattle.std.specs.Prelude.{◌≡◌, ℕ, List, Option}
 use Rattle.command_words.specs.Tasks.{Task}
 use Rattle.net_answers.specs.Due.{IsDueOn}
-use Rattle.net_answers.specs.declared.status.Status.{Status}
+use Rattle.statuses.specs.declared.status.Status.{Status}
 
 -- two answers that are due to a task, of the same bytes of its file and of its archive, have one status and one text
 abbrev pub OneDueAnswer : Type 0

@@ -1,7 +1,5 @@
-pub mod Statuses
 pub mod KeyLists
 pub mod Summaries
 pub mod Due
-pub mod Bytes
 pub mod Headline
 pub mod Laws

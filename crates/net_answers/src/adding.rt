@@ -11,15 +11,14 @@ ghost use Rattle.archive_report.specs.ArchiveTexts.{add_fault_text};
 ghost use Rattle.net_outcomes.specs.Outcomes.{AreOutcomesFrom, is_accepted, net_told};
 ghost use Rattle.net_answers.specs.Due.{IsAdded, IsAddedOrRefused, IsNotAdded, name_to_add};
 
-use crate::answer::Answer;
-use crate::status::Status;
 use archive_report::add_fault_text;
 use cgd_read::Block;
-use command_words::Command;
 use least_key::Net;
 use net_archive::{AddFault, Archive};
+use net_commands::Command;
 use net_outcomes::{are_accepted, outcomes_of};
 use net_report::{NoMemory, Outcome, OutcomeBody, report};
+use statuses::{Answer, Status};
 use std::alloc::{AllocError, Global};
 
 // The block with this number, counted from 1, cannot be added.

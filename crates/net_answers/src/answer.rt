@@ -4,90 +4,25 @@ ghost use Rattle.cgd_read.specs.Blocks.{IsReadBody, blocks_of, most_blocks};
 ghost use Rattle.cgd_read.specs.Views.{views};
 ghost use Rattle.command_words.specs.Tasks.{MakesFew};
 ghost use Rattle.command_words.specs.Views.{task_view};
-ghost use Rattle.net_answers.specs.Bytes.{bytes_in, AreFew, IsArchiveOrText};
-ghost use Rattle.net_answers.specs.Due.{IsDueFor, IsDueWith, bytes_of};
+ghost use Rattle.archive_report.specs.ArchiveBytes.{AreFew, bytes_in};
+ghost use Rattle.net_answers.specs.Due.{HasTooMany, IsDueFor, IsDueToBlocks, IsDueWith, IsOfBlocks, bytes_of};
 ghost use Rattle.archive_text.specs.Texts.{most_bytes};
 
 use crate::adding::add_blocks;
 use crate::entries::{groups_of, migration_of};
 use crate::reports::report_on;
-use crate::status::Status;
 use crate::workloads::summary_of;
-use archive_report::archive_fault_text;
-use cgd_read::{Block, ReadRefusal, blocks};
+use archive_report::archive_in;
+use cgd_read::{Block, blocks};
 use command_words::Task;
-use net_archive::{Archive, ArchiveFault};
+use cover_answers::cover_blocks;
+use map_answers::verify_answer;
+use net_archive::Archive;
+use same_answers::same_blocks;
+use statuses::{Answer, Silence, Status};
 use std::alloc::{AllocError, Global};
+use union_answers::union_of;
 use workload::workload_text;
-
-/// How a run ends, and what it writes.
-#[derive(Drop)]
-pub struct Answer {
-    pub status: Status,
-    pub text: Vec<u8>,
-}
-
-/// Why there is no text.
-#[derive(Clone, Copy, Debug, PartialEq, Eq)]
-pub enum Silence {
-    /// The file has more than 4,096 blocks.
-    TooManyBlocks,
-    NoMemory,
-}
-
-impl From<AllocError> for Silence {
-    ghost use Rattle.net_answers.specs.Bytes.{no_memory};
-
-    ghost from_gives = { λ fault told. told ≡ no_memory };
-
-    fn from(_fault: AllocError) -> Silence {
-        Silence::NoMemory
-    }
-}
-
-impl From<ReadRefusal> for Silence {
-    ghost use Rattle.net_answers.specs.Bytes.{silence_of};
-
-    ghost from_gives = { λ refusal told. told ≡ silence_of refusal };
-
-    fn from(refusal: ReadRefusal) -> Silence {
-        match refusal {
-            ReadRefusal::TooManyBlocks => Silence::TooManyBlocks,
-            ReadRefusal::NoMemory => Silence::NoMemory,
-        }
-    }
-}
-
-impl From<Silence> for Status {
-    ghost use Rattle.net_answers.specs.Statuses.{silent_status};
-
-    ghost from_gives = { λ silence told. told ≡ silent_status silence };
-
-    fn from(silence: Silence) -> Status {
-        match silence {
-            Silence::TooManyBlocks => Status::TooManyBlocks,
-            Silence::NoMemory => Status::NoMemory,
-        }
-    }
-}
-
-// The archive of these bytes, or the text of its fault; without bytes it is empty.
-fn archive_in(alloc: Global, bytes: Option<Vec<u8>>) -> Result<Result<Archive, Vec<u8>>, AllocError>
-    requires { AreFew bytes }
-    ensures { IfOk result (IsArchiveOrText bytes) }
-{
-    let Some(bytes) = bytes else {
-        return Ok(Ok(Archive::empty(alloc)));
-    };
-    match Archive::read(alloc, bytes) {
-        Ok(archive) => {
-            let _ = archive.entries(); // which are those of an archive
-            Ok(Ok(archive))
-        }
-        Err(ArchiveFault::NoMemory) => Err(AllocError),
-        Err(fault) => Ok(Err(archive_fault_text(alloc, &fault)?)),
-    }
-}
 
 // The answer to a task, of the blocks of its file and of its archive.
 fn answer_for(
@@ -96,6 +31,7 @@ fn answer_for(
     archive: Archive,
     found: &[Block<'_>],
 ) -> Result<Answer, AllocError>
+    requires blocks { IsOfBlocks (task_view task.now) }
     requires graphs { All (λ block. IsReadBody block.body) found.now }
     requires few { length found.now ≤ most_blocks }
     ensures { IfOk result (λ a.
@@ -107,6 +43,9 @@ fn answer_for(
         Task::Duplicates { .. } => groups_of(alloc, &archive),
         Task::Migrate { .. } => migration_of(alloc, &archive),
         Task::Workload { count } => summary_of(alloc, count, found),
+        Task::Cover { cell, .. } => cover_blocks(alloc, &cell, found),
+        Task::Same { .. } => same_blocks(alloc, found),
+        Task::Union { .. } | Task::Verify { .. } => unreachable!(), // which ask for no blocks
     }
 }
 
@@ -117,10 +56,11 @@ fn answer_on(
     bytes: &[u8],
     archive: Option<Vec<u8>>,
 ) -> Result<Answer, Silence>
+    requires blocks { IsOfBlocks (task_view task.now) }
     requires small { length bytes.now ≤ most_bytes }
     requires archive { AreFew archive }
     ensures due { IfOk result (λ a.
-        IsDueWith (task_view task.now) bytes.now (bytes_in archive) a.status a.text.items) }
+        IsDueToBlocks (task_view task.now) bytes.now (bytes_in archive) a.status a.text.items) }
     ensures many { IsErrOf result Silence.TooManyBlocks →
         most_blocks < length (blocks_of bytes.now) }
 {
@@ -135,6 +75,7 @@ fn answer_on(
 }
 
 /// What is due to a task, of the bytes of its file and of its archive, where it names them.
+#[tactic(auto, using(crate::proofs::TaskKinds::due_to_blocks, crate::proofs::TaskKinds::many_blocks))]
 pub fn answer_to(
     alloc: Global,
     task: &Task<'_>,
@@ -147,13 +88,15 @@ pub fn answer_to(
     ensures due { IfOk result (λ a. IsDueWith (task_view task.now)
         (bytes_of (task_view task.now) file.now) (bytes_in archive) a.status a.text.items) }
     ensures many { IsErrOf result Silence.TooManyBlocks →
-        most_blocks < length (blocks_of (bytes_of (task_view task.now) file.now)) }
+        HasTooMany (task_view task.now) (bytes_of (task_view task.now) file.now) }
 {
     match task {
         Task::Workload { count } => {
             let made = workload_text(alloc, *count)?;
             answer_on(alloc, task, &made, archive)
         }
+        Task::Union { .. } => union_of(alloc, file, archive),
+        Task::Verify { .. } => Ok(verify_answer(alloc, file)?),
         _ => answer_on(alloc, task, file, archive),
     }
 }

@@ -2,11 +2,10 @@
 ghost use Rattle.std.specs.Prelude.{IfOk};
 ghost use Rattle.net_answers.specs.Due.{AreGroupsAs, IsMigratedAs};
 
-use crate::answer::Answer;
-use crate::status::Status;
 use archive_report::{groups_text, migrate_fault_text};
 use net_archive::{Archive, MigrateFault};
 use net_report::NoMemory;
+use statuses::{Answer, Status};
 use std::alloc::{AllocError, Global};
 
 /// The groups of entries whose nets are isomorphic.

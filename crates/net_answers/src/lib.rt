@@ -6,12 +6,10 @@ mod answer;
 mod entries;
 mod laws;
 mod reports;
-mod status;
 mod workloads;
 
-pub use answer::{Answer, Silence, answer_to};
+pub use answer::answer_to;
 pub use laws::one_due_answer;
-pub use status::Status;
 
 #[cfg(test)]
 mod tests;

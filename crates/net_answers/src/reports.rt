@@ -4,13 +4,12 @@ ghost use Rattle.cgd_read.specs.Views.{views};
 ghost use Rattle.cgd_read.specs.Blocks.{IsReadBody, most_blocks};
 ghost use Rattle.net_answers.specs.Due.{IsReportAs};
 
-use crate::answer::Answer;
-use crate::status::ending_of;
 use cgd_read::Block;
-use command_words::Command;
 use net_archive::Archive;
+use net_commands::Command;
 use net_outcomes::tell_blocks;
 use net_report::NoMemory;
+use statuses::{Answer, ending_of};
 use std::alloc::Global;
 
 /// What a command tells of each block, beside an archive.

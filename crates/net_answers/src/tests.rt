@@ -6,8 +6,7 @@ mod keys;
 mod nets;
 mod readings;
 
-use crate::answer::{Answer, answer_to};
-use crate::status::Status;
+use crate::answer::answer_to;
 use archives::IN_USE;
 use command_words::task_of;
 use components::DIVIDED;
@@ -15,6 +14,7 @@ use identified::IDENTIFIED;
 use keys::KEYED;
 use net_archive::MOST_BYTES;
 use nets::{CONNECTED, PLACED};
+use statuses::{Answer, Status};
 use std::alloc::Global;
 use std::process::Abort;
 use std::test::Fail;
@@ -55,7 +55,9 @@ fn answer_over(alloc: Global, words: &[&str], file: &[u8], archive: &[u8]) -> Re
         return Err("too many bytes".into());
     }
     let words = words_of(alloc, words)?;
-    let task = task_of(alloc, &words)?.ok_or("no task")?;
+    let Ok(Some(task)) = task_of(alloc, &words) else {
+        return Err("no task".into());
+    };
     let archive = match task.archive() {
         Some(_) => Some(Vec::from_slice(alloc, archive)?),
         None => None,

@@ -7,15 +7,14 @@ ghost use Rattle.net_outcomes.specs.Outcomes.{is_accepted};
 ghost use Rattle.net_answers.specs.KeyLists.{IsPutIn, lists_in};
 ghost use Rattle.net_answers.specs.Summaries.{AreSoManyKeys, IsSummaryAs, count_text, summary_text};
 
-use crate::answer::Answer;
-use crate::status::ending_of;
 use cgd_read::Block;
-use command_words::Command;
 use indexmap::IndexSet;
 use line_text::push_field;
 use net_archive::Archive;
+use net_commands::Command;
 use net_outcomes::{are_accepted, is_accepted, outcomes_of};
 use net_report::{NoMemory, Outcome, OutcomeBody};
+use statuses::{Answer, ending_of};
 use std::alloc::Global;
 
 // A count after its word, on a line of its own.

@@ -22,8 +22,8 @@ use Rattle.net_archive.specs.Archives.{IsEntry}
 use Rattle.net_report.specs.declared.outcome.Outcome.{Outcome}
 use Rattle.net_report.specs.declared.outcome.OutcomeBody.{OutcomeBody}
 use Rattle.net_report.specs.declared.outcome.OutcomeBody.TheVariants.{Keyed, Identified}
-use Rattle.command_words.specs.declared.tasks.Command.{Command}
-use Rattle.command_words.specs.declared.tasks.Command.TheVariants.{Key, Identify}
+use Rattle.net_commands.specs.declared.command.Command.{Command}
+use Rattle.net_commands.specs.declared.command.Command.TheVariants.{Key, Identify}
 use Rattle.net_outcomes.specs.Deciding.{HasKeyAt, IsBlockAt, KeysDecideBlocks, KeysDecideEntries, key_told}
 use Rattle.net_outcomes.specs.Outcomes.{IsBodyOf, AreOutcomesFrom}
 use Rattle.net_outcomes.proofs.Reordered.{same_arc}

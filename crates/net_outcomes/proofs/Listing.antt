@@ -14,7 +14,7 @@ use Rattle.net_report.specs.declared.outcome.Outcome.{Outcome}
 use Rattle.net_outcomes.specs.Deciding.{AreOutcomes}
 use Rattle.net_outcomes.specs.Outcomes.{IsOutcomeOf, AreOutcomesFrom}
 use Rattle.net_outcomes.proofs.Certain.{graphs_read, outcomes_decide}
-use Rattle.command_words.specs.declared.tasks.Command.{Command}
+use Rattle.net_commands.specs.declared.command.Command.{Command}
 
 -- one more block and its outcome at the end
 outcomes_last : (entries : List EntryView) (command : Command) (n : ℕ) (bs : List BlockView) (os : List Outcome) (b : BlockView) (o : Outcome) → AreOutcomesFrom entries command n bs os → IsOutcomeOf entries command (n + length bs) b o

@@ -12,8 +12,8 @@ use Rattle.net_entries.specs.Entries.{EntryView}
 use Rattle.net_report.specs.declared.outcome.OutcomeBody.{OutcomeBody}
 use Rattle.net_report.specs.declared.outcome.OutcomeBody.TheVariants.{Refused}
 use Rattle.net_outcomes.specs.Outcomes.{size_of, MayTell, IsBodyOf}
-use Rattle.command_words.specs.declared.tasks.Command.{Command}
-use Rattle.command_words.specs.declared.tasks.Command.TheVariants.{Check, Place, Key, Identify}
+use Rattle.net_commands.specs.declared.command.Command.{Command}
+use Rattle.net_commands.specs.declared.command.Command.TheVariants.{Check, Place, Key, Identify}
 use Rattle.net_outcomes.proofs.OnlyPlacement.{is_graph_in}
 
 -- a test for connectedness may tell its refusals

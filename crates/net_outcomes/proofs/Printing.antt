@@ -25,8 +25,8 @@ use Rattle.net_report.specs.declared.outcome.OutcomeBody.{OutcomeBody}
 use Rattle.net_report.specs.declared.outcome.OutcomeBody.TheVariants.{Unsupported, Malformed, Refused, Checked, Located, Keyed, Identified, Lines, Faulty as FaultyItem}
 use Rattle.least_key.specs.Truths.{IsTrueOf}
 use Rattle.net_outcomes.specs.Outcomes.{MayTell, IsBodyOf}
-use Rattle.command_words.specs.declared.tasks.Command.{Command}
-use Rattle.command_words.specs.declared.tasks.Command.TheVariants.{Place, Identify}
+use Rattle.net_commands.specs.declared.command.Command.{Command}
+use Rattle.net_commands.specs.declared.command.Command.TheVariants.{Place, Identify}
 use Rattle.net_outcomes.proofs.Reordered.{same_arc}
 
 -- a vertex of the graph in order has a name

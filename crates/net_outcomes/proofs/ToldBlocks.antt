@@ -12,7 +12,7 @@ use Rattle.net_entries.specs.Entries.{EntryView}
 use Rattle.net_report.specs.Reports.{IsPrintable, outcome_text, report_text}
 use Rattle.net_report.specs.declared.outcome.Outcome.{Outcome}
 use Rattle.net_report.proofs.CallerLemmas.{report_last}
-use Rattle.command_words.specs.declared.tasks.Command.{Command}
+use Rattle.net_commands.specs.declared.command.Command.{Command}
 use Rattle.net_outcomes.specs.Outcomes.{is_accepted}
 use Rattle.net_outcomes.specs.Reports.{IsReport, IsBlockTold}
 use Rattle.net_outcomes.proofs.Listing.{AreOutcomesOn, outcomes_next, outcomes_whole}

@@ -13,8 +13,8 @@ use Rattle.net_archive.specs.Deciding.{KeysDecideArchive}
 use Rattle.net_report.specs.declared.outcome.Outcome.{Outcome}
 use Rattle.net_report.specs.declared.outcome.OutcomeBody.{OutcomeBody}
 use Rattle.net_report.specs.declared.outcome.OutcomeBody.TheVariants.{Keyed, Identified}
-use Rattle.command_words.specs.declared.tasks.Command.{Command}
-use Rattle.command_words.specs.declared.tasks.Command.TheVariants.{Components}
+use Rattle.net_commands.specs.declared.command.Command.{Command}
+use Rattle.net_commands.specs.declared.command.Command.TheVariants.{Components}
 use Rattle.net_outcomes.specs.Outcomes.{AreOutcomesFrom, is_accepted}
 
 -- the key that is told of a block

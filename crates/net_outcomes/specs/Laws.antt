@@ -2,7 +2,7 @@
 use Rattle.std.specs.Prelude.{◌≡◌, ℕ, Bool, List}
 use Rattle.cgd_read.specs.Views.{BlockView}
 use Rattle.net_entries.specs.Entries.{EntryView}
-use Rattle.command_words.specs.declared.tasks.Command.{Command}
+use Rattle.net_commands.specs.declared.command.Command.{Command}
 use Rattle.net_outcomes.specs.Reports.{IsReport}
 
 -- two reports on the same blocks are one

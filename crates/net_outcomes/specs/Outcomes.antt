@@ -22,8 +22,8 @@ use Rattle.least_key.specs.declared.net.Net.{Net as KeyedNet}
 use Rattle.least_key.specs.declared.path.AnyPlaced.{AnyPlaced}
 use Rattle.least_key.specs.declared.refusal.Refusal.{Refusal}
 use Rattle.least_key.specs.declared.refusal.Refusal.TheVariants.{NoMemory}
-use Rattle.command_words.specs.declared.tasks.Command.{Command}
-use Rattle.command_words.specs.declared.tasks.Command.TheVariants.{Check, Place, Key, Identify, Components}
+use Rattle.net_commands.specs.declared.command.Command.{Command}
+use Rattle.net_commands.specs.declared.command.Command.TheVariants.{Check, Place, Key, Identify, Components}
 
 -- its sizes
 abbrev pub size_of : RawView → Size

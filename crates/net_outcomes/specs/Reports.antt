@@ -5,7 +5,7 @@ use Rattle.cgd_read.specs.Views.{BlockView}
 use Rattle.net_entries.specs.Entries.{EntryView}
 use Rattle.net_report.specs.Reports.{IsPrintable, outcome_text, report_text}
 use Rattle.net_report.specs.declared.outcome.Outcome.{Outcome}
-use Rattle.command_words.specs.declared.tasks.Command.{Command}
+use Rattle.net_commands.specs.declared.command.Command.{Command}
 use Rattle.net_outcomes.specs.Deciding.{AreOutcomes}
 use Rattle.net_outcomes.specs.Outcomes.{IsOutcomeOf, is_accepted}
 

@@ -10,10 +10,10 @@ ghost use Rattle.cgd_read.specs.Blocks.{IsReadBody};
 ghost use Rattle.net_outcomes.specs.Outcomes.{size_of, IsBodyOf, IsKeyedAs};
 
 use cgd_read::{Block, Body, Names, RawGraph};
-use command_words::Command;
 use component_report::tell_components;
 use least_key::{Net, Refusal, check_any, identify, place_any};
 use net_archive::Archive;
+use net_commands::Command;
 use net_report::{NoMemory, OutcomeBody, Size};
 use quotient_graph::from_raw;
 use std::alloc::Global;

@@ -9,8 +9,8 @@ ghost use Rattle.net_outcomes.specs.Outcomes.{IsOutcomeOf, is_accepted_body, is_
 
 use crate::bodies::body_of;
 use cgd_read::Block;
-use command_words::Command;
 use net_archive::Archive;
+use net_commands::Command;
 use net_report::{NoMemory, Outcome, OutcomeBody, Outcomes};
 use std::alloc::Global;
 

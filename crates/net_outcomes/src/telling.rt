@@ -8,8 +8,8 @@ ghost use Rattle.net_outcomes.specs.Reports.{IsReport, IsBlockTold};
 
 use crate::outcomes::{is_accepted, outcome_of};
 use cgd_read::Block;
-use command_words::Command;
 use net_archive::Archive;
+use net_commands::Command;
 use net_report::{NoMemory, Outcome, push_outcome};
 use std::alloc::Global;
 

@@ -1,17 +1,17 @@
 -- A run that is within the limits ends in few ways.
 use Rattle.std.proofs.Common.{◌≡◌, inl, inr, ℕ, ◌<◌, List, [], length, Option, None, Some, unwrap_or, sym, ap, subst, arith}
 use Rattle.outside.specs.Held.{Holds, Are, HasMore}
-use Rattle.cgd_read.specs.Blocks.{blocks_of, most_blocks}
 use Rattle.command_words.specs.Tasks.{Task, archive_named, file_named, task_of}
 use Rattle.net_archive.specs.Archives.{ArchiveView}
 use Rattle.net_archive.specs.Faults.{IsFaultOf}
 use Rattle.net_archive.proofs.CallerLemmas.{no_fault_but_memory}
-use Rattle.net_answers.specs.Due.{IsArchiveIn, IsBadArchive, bytes_of}
-use Rattle.net_answers.specs.declared.status.Status.{Status}
-use Rattle.net_answers.specs.declared.status.Status.TheVariants.{Usage, ReadFault, WriteFault, BadArchive, TooLarge, NoMemory, TooManyBlocks, AddRefused, MigrateRefused}
+use Rattle.archive_report.specs.ArchiveBytes.{IsArchiveIn, IsBadArchive}
+use Rattle.net_answers.specs.Due.{HasTooMany, bytes_of}
+use Rattle.statuses.specs.declared.status.Status.{Status}
+use Rattle.statuses.specs.declared.status.Status.TheVariants.{Usage, ReadFault, WriteFault, BadArchive, TooLarge, NoMemory, TooManyBlocks, AddRefused, MigrateRefused, BadMap}
 use Rattle.net_tool.specs.Completeness.{AreFitting, AreWithin, IsComplete, AreFilesWithin, bytes_of_name}
 use Rattle.net_tool.specs.Run.{AreBytesOf, HasManyBytes, IsAnswer, IsAnswered, IsDue, IsTooLarge}
-use Rattle.net_tool.proofs.Endings.{ends_so}
+use Rattle.net_tool.proofs.Endings.{bad_ends, ends_with, many_ends}
 use Rattle.archive_text.specs.Texts.{most_bytes}
 
 -- the bytes that are read are those that are held
@@ -40,17 +40,18 @@ not_bad (Some bytes) a text is bad = bad.1 (no_fault_but_memory a bad.0 is.0 (su
 -- what is due to a task
 completed : (task : Option Task) (holds : Holds) (status : Status) (text : List ℕ) → IsDue task holds status text → AreWithin task holds → IsComplete task status
 completed None holds status text due within = absurd within
-completed (Some task) holds Usage text due within = ends_so task (blocks_of (bytes_of task (unwrap_or due.0 []))) due.4.1 Usage text due.4.3
-completed (Some task) holds AddRefused text due within = ends_so task (blocks_of (bytes_of task (unwrap_or due.0 []))) due.4.1 AddRefused text due.4.3
-completed (Some task) holds MigrateRefused text due within = ends_so task (blocks_of (bytes_of task (unwrap_or due.0 []))) due.4.1 MigrateRefused text due.4.3
+completed (Some task) holds Usage text due within = ends_with task (bytes_of task (unwrap_or due.0 [])) due.1 Usage text (λ e. cc) due.4
+completed (Some task) holds AddRefused text due within = ends_with task (bytes_of task (unwrap_or due.0 [])) due.1 AddRefused text (λ e. cc) due.4
+completed (Some task) holds MigrateRefused text due within = ends_with task (bytes_of task (unwrap_or due.0 [])) due.1 MigrateRefused text (λ e. cc) due.4
+completed (Some task) holds BadMap text due within = ends_with task (bytes_of task (unwrap_or due.0 [])) due.1 BadMap text (λ e. cc) due.4
 completed (Some task) holds BadArchive text due within =
     let e = read_bytes (archive_named task) holds within.of within.told due.1 due.3 in
-    absurd (not_bad (bytes_of_name within.of (archive_named task)) within.entries text within.is_archive (subst (λ b. IsBadArchive b text) e due.4.1))
+    bad_ends task (bytes_of task (unwrap_or due.0 [])) due.1 text
+    (λ bad. not_bad (bytes_of_name within.of (archive_named task)) within.entries text within.is_archive (subst (λ b. IsBadArchive b text) e bad)) due.4
 completed (Some task) holds TooManyBlocks text due within =
     let e = read_bytes (file_named task) holds within.of within.told due.0 due.2 in
-    let many : most_blocks < length (blocks_of (bytes_of task (unwrap_or (bytes_of_name within.of (file_named task)) []))) =
-    subst (λ b. most_blocks < length (blocks_of (bytes_of task (unwrap_or b [])))) e due.4.0 in
-    absurd (omega (arith, many, within.blocks))
+    many_ends task (bytes_of task (unwrap_or (bytes_of_name within.of (file_named task)) [])) within.blocks
+    (subst (λ b. HasTooMany task (bytes_of task (unwrap_or b []))) e due.4.0)
 completed (Some task) holds TooLarge text due within = absurd (not_too_large task holds within due.0)
 completed (Some task) holds status text due within = tt
 

@@ -3,11 +3,11 @@ use Rattle.std.proofs.Common.{ℕ, List, [], Option, None, Some, unwrap_or}
 use Rattle.std.specs.Io.KnownBytes.{Appends}
 use Rattle.outside.specs.Held.{Holds}
 use Rattle.command_words.specs.Tasks.{Task, Tell, task_of}
-use Rattle.command_words.specs.declared.tasks.Command.TheVariants.{Identify}
+use Rattle.net_commands.specs.declared.command.Command.TheVariants.{Identify}
 use Rattle.net_answers.specs.Due.{IsDueOn}
 use Rattle.net_answers.specs.Headline.{IsReported}
-use Rattle.net_answers.specs.declared.status.Status.{Status}
-use Rattle.net_answers.specs.declared.status.Status.TheVariants.{Done, SomeRefused}
+use Rattle.statuses.specs.declared.status.Status.{Status}
+use Rattle.statuses.specs.declared.status.Status.TheVariants.{Done, SomeRefused}
 use Rattle.net_answers.proofs.CallerLemmas.{headline_on}
 use Rattle.net_tool.specs.Headline.{HasHeadline, IsHeadlineOver}
 use Rattle.net_tool.specs.Run.{AreBytesOf, IsAnswer, IsAnswered, IsDue}

@@ -1,6 +1,8 @@
 mod Endings
+mod TextEndings
 mod DueOver
 mod Headlines
 mod Completed
 mod Room
 mod OneAnswer
+mod NothingWritten

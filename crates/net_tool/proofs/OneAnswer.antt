@@ -3,11 +3,11 @@ use Rattle.std.proofs.Common.{◌≡◌, inl, inr, ℕ, List, [], length, Option
 use Rattle.std.specs.Prelude.{unwrap_or}
 use Rattle.command_words.specs.Tasks.{Task, archive_named, file_named}
 use Rattle.net_answers.specs.Due.{IsDueOn}
-use Rattle.net_answers.specs.declared.status.Status.{Status}
-use Rattle.net_answers.specs.declared.status.Status.TheVariants.{Done, SomeRefused, Usage, ReadFault, WriteFault, BadArchive, TooLarge, NoMemory, TooManyBlocks, AddRefused, MigrateRefused}
+use Rattle.statuses.specs.declared.status.Status.{Status}
+use Rattle.statuses.specs.declared.status.Status.TheVariants.{Done, SomeRefused, Usage, ReadFault, WriteFault, BadArchive, TooLarge, NoMemory, TooManyBlocks, AddRefused, MigrateRefused, BadMap}
 use Rattle.net_answers.proofs.CallerLemmas.{one_due_answer}
 use Rattle.net_tool.specs.Laws.{OneAnswer}
-use Rattle.net_tool.specs.Run.{AreBytesOf, HasManyBytes, IsDue, IsDueOf, IsDueOver, IsTooLarge}
+use Rattle.net_tool.specs.Run.{AreBytesOf, HasManyBytes, IsDueOf, IsDueOver, IsTooLarge}
 
 module _ (of : List ℕ → List ℕ) where
   -- the bytes of a file are one
@@ -41,6 +41,7 @@ module _ (of : List ℕ → List ℕ) where
   way_of task TooManyBlocks x h = Over h
   way_of task AddRefused x h = Over h
   way_of task MigrateRefused x h = Over h
+  way_of task BadMap x h = Over h
 
   -- not both
   not_large : (task : Task) (s : Status) (x : List ℕ) → IsDueOver task (Some of) s x → ¬ IsTooLarge task (Some of)

@@ -3,9 +3,9 @@ use Rattle.std.specs.Prelude.{ℕ, List, Option, Some}
 use Rattle.std.specs.Io.KnownBytes.{Appends}
 use Rattle.outside.specs.Held.{Holds}
 use Rattle.command_words.specs.Tasks.{Task, Tell}
-use Rattle.command_words.specs.declared.tasks.Command.TheVariants.{Identify}
+use Rattle.net_commands.specs.declared.command.Command.TheVariants.{Identify}
 use Rattle.net_answers.specs.Headline.{Headline}
-use Rattle.net_answers.specs.declared.status.Status.{Status}
+use Rattle.statuses.specs.declared.status.Status.{Status}
 use Rattle.net_tool.specs.Run.{AreBytesOf}
 
 -- the headline is true of the bytes of these two files, and of what was written

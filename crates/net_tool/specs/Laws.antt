@@ -1,7 +1,7 @@
 -- What holds of the answers of runs.
 use Rattle.std.specs.Prelude.{◌≡◌, ℕ, List, Option, Some}
 use Rattle.command_words.specs.Tasks.{Task}
-use Rattle.net_answers.specs.declared.status.Status.{Status}
+use Rattle.statuses.specs.declared.status.Status.{Status}
 use Rattle.net_tool.specs.Run.{IsDue}
 
 -- two answers that are due to the same words, over files that tell their bytes, have one status and one text

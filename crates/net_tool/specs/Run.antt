@@ -7,12 +7,12 @@ use Rattle.command_words.specs.Tasks.{Task, archive_named, file_named, task_of}
 use Rattle.outside.specs.declared.shelf.InFault.{InFault}
 use Rattle.outside.specs.declared.shelf.InFault.TheVariants as unread
 use Rattle.net_answers.specs.Due.{IsDueOn}
-use Rattle.net_answers.specs.declared.status.Status.{Status}
-use Rattle.net_answers.specs.declared.status.Status.TheVariants.{Done, SomeRefused, Usage, ReadFault, WriteFault, BadArchive, TooLarge, NoMemory, TooManyBlocks, AddRefused, MigrateRefused}
+use Rattle.statuses.specs.declared.status.Status.{Status}
+use Rattle.statuses.specs.declared.status.Status.TheVariants.{Done, SomeRefused, Usage, ReadFault, WriteFault, BadArchive, TooLarge, NoMemory, TooManyBlocks, AddRefused, MigrateRefused, BadMap}
 use Rattle.archive_text.specs.Texts.{most_bytes}
 
 abbrev pub usage_line : List ℕ
-usage_line = codes "usage: net_tool COMMAND [FILE] [--archive PATH] [--name NAME]\n"
+usage_line = codes "usage: net_tool COMMAND [FILE] [--archive PATH] [--name NAME] [--cell ROWS]\n"
 
 -- the bytes of a file, where one is named, and no more than are taken
 abbrev pub AreBytesOf : Option (List ℕ) → Holds → Option (List ℕ) → Type 0
@@ -94,6 +94,7 @@ GoesWithText Usage = Unit {0}
 GoesWithText BadArchive = Unit {0}
 GoesWithText AddRefused = Unit {0}
 GoesWithText MigrateRefused = Unit {0}
+GoesWithText BadMap = Unit {0}
 GoesWithText _ = ⊥
 
 -- how a run ends where a file is not read

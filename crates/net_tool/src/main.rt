@@ -1,4 +1,5 @@
-//! `net_tool COMMAND [FILE] [--archive PATH] [--name NAME]`: reads nets and tells what they are.
+//! `net_tool COMMAND [FILE] [--archive PATH] [--name NAME] [--cell ROWS]`: reads nets and tells what
+//! they are.
 #![tactic(auto)]
 
 mod files;
@@ -8,8 +9,8 @@ mod memory;
 mod tests;
 mod tool;
 
-use net_answers::Status;
 use outside::{HostShelf, StdoutSink};
+use statuses::Status;
 use std::process::ExitCode;
 use std::{env, io};
 use tool::run;

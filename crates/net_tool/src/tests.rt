@@ -1,10 +1,10 @@
 // Runs over files in memory: the words, the statuses, devices that fail, and files past their limits.
 mod devices;
-mod statuses;
+mod endings;
 
 use crate::tool::run;
-use net_answers::Status;
 use outside::{MemoryShelf, MemorySink};
+use statuses::Status;
 use std::alloc::Global;
 use std::test::Fail;
 

@@ -13,12 +13,14 @@ ghost use Rattle.net_tool.specs.Run.{FailedAtFile, FailedAtTask, IsAnswer, IsAns
 
 use crate::files::read_named;
 use command_words::{Task, task_of};
-use net_answers::{Answer, Status, answer_to};
+use net_answers::answer_to;
 use outside::{InFault, Shelf, Sink, write_all};
+use statuses::{Answer, Status};
 use std::alloc::Global;
 
 /// What is printed where the words have no form.
-pub const USAGE: &str = "usage: net_tool COMMAND [FILE] [--archive PATH] [--name NAME]\n";
+pub const USAGE: &str =
+    "usage: net_tool COMMAND [FILE] [--archive PATH] [--name NAME] [--cell ROWS]\n";
 
 // Writes the text that goes with a status.
 fn finish<W: Sink>(out: &mut W, text: &[u8], status: Status) -> Status
@@ -94,10 +96,12 @@ fn answer_task<H: Shelf>(alloc: Global, task: &Task<'_>, shelf: &mut H) -> Resul
 }
 
 /// Does what the words say, over the files of a shelf, and writes the text to a sink. It is all
-/// that the program does: `check`, `place`, `key` and `identify` tell of each net of a file whether
-/// it is connected, where its vertices stand, what its key is, and which nets of an archive it is;
-/// `add` puts nets into an archive, `duplicates` finds those that stand in it more than once,
-/// `migrate` writes it in the newest format, and `workload` measures.
+/// that the program does: `check`, `place`, `key`, `identify` and `components` tell of each net of
+/// a file whether it is connected, where its vertices stand, what its key is, which nets of an
+/// archive it is, and what its pieces are; `cover` writes nets on a larger cell, `same` a map
+/// between nets, which `verify` checks; `add` puts nets into an archive, `union` unites it with the
+/// nets of another archive or of key lines, `duplicates` finds those that stand in it more than
+/// once, `migrate` writes it in the newest format, and `workload` measures.
 pub fn run<H: Shelf, W: Sink>(alloc: Global, words: &[String], shelf: &mut H, out: &mut W) -> Status
     ensures answer { IsAnswered result →
         IsAnswer (texts_of words.now) (H.holds shelf.old) (W.written out.old) (W.written out.new)

@@ -1,6 +1,6 @@
 // Archives: nets that are added, told and found twice, and texts that are none.
 use super::{DIA, DIA_ARCHIVE, PCU, PCU_ARCHIVE, Row, answer_over};
-use crate::status::Status;
+use statuses::Status;
 use std::test::Fail;
 
 const PCU_NEWEST: &str =

@@ -1,6 +1,6 @@
 // What is told of the components of nets.
 use super::Row;
-use crate::status::Status;
+use statuses::Status;
 
 // Each oxygen of cuprite is joined to four others through copper: two interwoven diamond nets.
 const CUPRITE: &str =

@@ -1,6 +1,6 @@
 // All that is told of a net: its placement, primitive graph, key, shells and names.
 use super::{DIA_ARCHIVE, HCB, Row, SODALITE};
-use crate::status::Status;
+use statuses::Status;
 
 // The shells are the published sequences of these nets.
 pub const IDENTIFIED: &[Row] = &[

@@ -1,6 +1,6 @@
 // The words, devices that fail, and files past their limits.
 use super::{DIA, DIA_ARCHIVE, DIA_KEY_REPORT, Faults, HCB, NO_FAULTS, run_on, run_over};
-use net_answers::Status;
+use statuses::Status;
 use std::test::Fail;
 
 // Words, and how a run with them ends, where the files `net` and `--` are there.

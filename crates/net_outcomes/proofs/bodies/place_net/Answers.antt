@@ -3,7 +3,7 @@ use Rattle.quotient_graph.specs.AnyGraphs.{graph_in}
 use Rattle.least_key.specs.AnyPlacements.{placed_in}
 use Rattle.net_outcomes.proofs.OnlyPlacement.{is_graph_in, only_placement}
 use Rattle.net_outcomes.proofs.NetOutcomes.{place_may, refused_as}
-use Rattle.command_words.specs.declared.tasks.Command.TheVariants.{Place}
+use Rattle.net_commands.specs.declared.command.Command.TheVariants.{Place}
 use Rattle.net_outcomes.proofs.bodies.place_net.Goals as goal
 
 pub returns-in_ok-copy-in-Ok : goal.returns-in_ok-copy-in-Ok

@@ -1,11 +1,12 @@
-use Rattle.std.proofs.Common.{rules, ◌≡◌, Some, Option, subst}
+use Rattle.std.proofs.Common.{rules, ◌≡◌, [], Some, Option, subst}
 use Rattle.command_words.specs.Tasks.{Task, task_of}
 use Rattle.command_words.specs.Views.{task_view}
 use Rattle.command_words.specs.Words.{texts_of}
-use Rattle.net_answers.specs.declared.status.Status.TheVariants.{Usage}
+use Rattle.statuses.specs.declared.status.Status.TheVariants.{Usage}
 use Rattle.net_tool.specs.Run.{IsDue}
 use Rattle.net_tool.proofs.Completed.{complete_of}
 use Rattle.net_tool.proofs.Headlines.{headline_of}
+use Rattle.net_tool.proofs.NothingWritten.{appends_nothing}
 use Rattle.net_tool.proofs.Room.{no_break}
 use Rattle.net_tool.proofs.tool.run.Goals as goal
 
@@ -44,3 +45,9 @@ pub returns-in-Ok-answer_task-clause-sure : goal.returns-in-Ok-answer_task-claus
 returns-in-Ok-answer_task-clause-sure g c = λ room fault.
     no_break (texts_of c.args.words.now) (g.H.Shelf.holds c.args.shelf.now) (g.W.Sink.written c.args.out.now) (g.W.Sink.written c.finish-in-Ok-answer_task.new.out)
     (g.W.Sink.sure c.args.out.now) (returns-in-Ok-answer_task-clause-broken g c fault) room
+
+pub returns-in-Err-clause-answer : goal.returns-in-Err-clause-answer
+returns-in-Err-clause-answer g c = λ answered.
+    let asks : Some (task_view c.in-Some.task) ≡ task_of (texts_of c.args.words.now) = search rules in
+    let due = subst (λ (o : Option Task). IsDue o (g.H.Shelf.holds c.args.shelf.now) c.in-Err.status []) asks (c.in-Err.ensures.undue answered) in
+    ([], due, appends_nothing (g.W.Sink.written c.args.out.now))

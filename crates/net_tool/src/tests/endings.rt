@@ -1,8 +1,8 @@
 // Runs over files that never fail: each status that goes with a text, and the text.
 use super::{DIA, DIA_ARCHIVE, DIA_KEY_REPORT, named_files, words_of};
 use crate::memory::run_in_memory;
-use net_answers::Status;
 use outside::{HonestShelf, MemorySink};
+use statuses::Status;
 use std::test::Fail;
 
 const LINE: &str = "PERIODIC_GRAPH\nNAME line\nEDGES\n1 1 1 0\n1 1 2 0\nEND\n";
@@ -10,8 +10,11 @@ const LINE: &str = "PERIODIC_GRAPH\nNAME line\nEDGES\n1 1 1 0\n1 1 2 0\nEND\n";
 const LINE_REPORT: &str =
     "net 1 line 1 \"line\"\ngraph d=2 vertices=1 edges=2 repeats=0\nrefused 2 Degenerate q=0 c=0 1 h=0\n";
 
+const LINE_UNCOVERED: &str =
+    "net 1 line 1 \"line\"\ngraph d=2 vertices=1 edges=2 repeats=0\ncover refused 2 CellRank\n";
+
 // Words, and what a run with them writes, where the files `dia`, `line` and `archive` are there.
-const ROWS: [(&[&str], Status, &str); 6] = [
+const ROWS: [(&[&str], Status, &str); 10] = [
     (&["key", "dia"], Status::Done, DIA_KEY_REPORT),
     (&["key", "line"], Status::SomeRefused, LINE_REPORT),
     (&["key", "dia", "line"], Status::Usage, crate::tool::USAGE),
@@ -26,13 +29,29 @@ const ROWS: [(&[&str], Status, &str); 6] = [
         "add refused 1 1 NameTaken\n",
     ),
     (&["add", "dia"], Status::Done, DIA_NEWEST),
+    (
+        &["union", "archive", "--archive=archive"],
+        Status::Done,
+        DIA_ARCHIVE,
+    ),
+    (&["verify", "dia"], Status::BadMap, "maps refused line=1\n"),
+    (
+        &["cover", "line", "--cell", "1,1,2,2"],
+        Status::SomeRefused,
+        LINE_UNCOVERED,
+    ),
+    (
+        &["check", "line", "--cell", "1,0,0,1"],
+        Status::Usage,
+        crate::tool::USAGE,
+    ),
 ];
 
 const DIA_NEWEST: &str =
     "net_archive 2\nentry \"dia\"\ngraph 3 2 4\nedge 1 2 0 0 0\nedge 1 2 0 0 1\nedge 1 2 0 1 0\nedge 1 2 1 0 0\nkey 3 2 1 1 2 -1 -1 -1 1 2 0 0 1 1 2 0 1 0 1 2 1 0 0\nprimitive 2\nshells 1 4 12 24 42 64 92 124 162 204 252\nshells 2 4 12 24 42 64 92 124 162 204 252\nend\n";
 
 #[test]
-fn statuses(rt: HostRuntime) -> Result<(), Fail> {
+fn endings(rt: HostRuntime) -> Result<(), Fail> {
     let alloc = rt.alloc();
     let files = [
         ("dia", DIA.as_bytes()),
