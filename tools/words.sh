@@ -1,14 +1,14 @@
 # shellcheck shell=sh
 # What ./net_tool and ./preview share: the command that words name, and what is said after a silent status.
 
-usage="usage: net_tool COMMAND [FILE] [--archive PATH] [--name NAME]"
+usage="usage: net_tool COMMAND [FILE] [--archive PATH] [--name NAME] [--cell ROWS]"
 
 # the first word that is neither an option nor the value of one: it has to name a command
 command_word() {
     while [ $# -gt 0 ]; do
         case $1 in
-        --archive | --name) [ $# -gt 1 ] && shift ;;
-        --archive=* | --name=*) ;;
+        --archive | --name | --cell) [ $# -gt 1 ] && shift ;;
+        --archive=* | --name=* | --cell=*) ;;
         --)
             [ $# -gt 1 ] && echo "$2"
             return
@@ -25,7 +25,7 @@ command_word() {
 # ends with the usage line and 2 where the words name no command
 want_command() {
     case $(command_word "$@") in
-    check | place | key | identify | components | add | duplicates | migrate | workload) ;;
+    check | place | key | identify | components | cover | add | duplicates | migrate | union | same | verify | workload) ;;
     *)
         echo "$usage"
         exit 2
@@ -39,6 +39,6 @@ explain() {
     3) echo "net_tool: a file cannot be read, or is not there" >&2 ;;
     6) echo "net_tool: a file has more than 16,777,216 bytes" >&2 ;;
     7) echo "net_tool: memory was refused" >&2 ;;
-    8) echo "net_tool: the file has more than 4,096 blocks" >&2 ;;
+    8) echo "net_tool: the file has more than 4,096 blocks or items" >&2 ;;
     esac
 }

@@ -2,7 +2,7 @@
 # It belongs in share/bash-completion/completions/net_tool.
 
 _net_tool() {
-    local commands="check place key identify components add duplicates migrate workload"
+    local commands="check place key identify components cover add duplicates migrate union same verify workload"
     local word=${COMP_WORDS[COMP_CWORD]} before=${COMP_WORDS[COMP_CWORD - 1]} command="" i
     # = parts words, so that `--archive=PATH` comes as three
     if [ "$word" = "=" ]; then
@@ -19,16 +19,21 @@ _net_tool() {
     COMPREPLY=()
     if [ "$before" = --archive ]; then
         _net_tool_files "$word" archive
-    elif [ "$before" = --name ]; then
+    elif [ "$before" = --name ] || [ "$before" = --cell ]; then
         return
     elif [ -z "$command" ]; then
         mapfile -t COMPREPLY < <(compgen -W "$commands" -- "$word")
     elif [[ $word == -* ]]; then
         case $command in
-        identify | duplicates | migrate) mapfile -t COMPREPLY < <(compgen -W "--archive" -- "$word") ;;
+        identify | duplicates | migrate | union) mapfile -t COMPREPLY < <(compgen -W "--archive" -- "$word") ;;
         add) mapfile -t COMPREPLY < <(compgen -W "--archive --name" -- "$word") ;;
+        cover) mapfile -t COMPREPLY < <(compgen -W "--cell" -- "$word") ;;
         esac
-    elif [[ " check place key identify components add " == *" $command "* ]]; then
+    elif [[ $command == union ]]; then
+        _net_tool_files "$word" archive
+    elif [[ $command == verify ]]; then
+        _net_tool_files "$word" maps
+    elif [[ " check place key identify components cover same add " == *" $command "* ]]; then
         _net_tool_files "$word" cgd
     fi
 }
