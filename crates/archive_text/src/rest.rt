@@ -11,18 +11,17 @@ ghost use Rattle.archive_text.specs.Reading.{AreShellsRead, HasBadLine, HasKeyed
 use crate::Version;
 use crate::shell_lists::read_lists;
 use crate::steps::{next_count, next_end, next_key};
-use cgd_read::RawEdge;
 use coordination::Sequences;
 use graph_rows::{GraphSize, next_size, read_edges};
 use line_text::Lines;
-use quotient_graph::Key;
+use quotient_graph::{Edge, Key};
 use std::alloc::AllocError;
 
 /// The graph of an entry and its key, with the line of the key.
 #[derive(Drop)]
 pub struct KeyedGraph {
     pub size: GraphSize,
-    pub edges: Vec<RawEdge>,
+    pub edges: Vec<Edge>,
     pub key: Key,
     pub key_line: u32,
 }

@@ -3,7 +3,6 @@ mod SoundLines
 mod FieldLists
 mod NameSets
 mod Places
-pub mod Spelling
 mod Rows
 mod Tables
 mod Parts

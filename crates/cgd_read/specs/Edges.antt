@@ -1,11 +1,11 @@
 -- The vertices and the edges of rows, which are fields of lines. Rows are listed the nearest first.
-use Rattle.std.specs.Prelude.{ℕ, ℤ, pos, ◌-ℤ◌, ◌+◌, Bool, true, false, ◌||◌, ◌&&◌, ◌==◌, nat_lt, List, [], ◌∷◌, ◌++◌, if◌then◌else◌}
+use Rattle.std.specs.Prelude.{ℕ, pos, ◌+◌, Bool, ◌&&◌, ◌==◌, List, [], ◌∷◌, ◌++◌, if◌then◌else◌}
 use Rattle.std.specs.List.{list_any, position_or_len}
 use Rattle.std.specs.Str.{bytes_eq}
 use Rattle.std.specs.Ordering.{int_eq}
-use Rattle.std.specs.Int.Signed.{lt_z}
 use Rattle.cgd_read.specs.Lines.{FieldsView}
-use Rattle.cgd_read.specs.declared.block.RawEdge.{RawEdge}
+use Rattle.quotient_graph.specs.declared.edge.Edge.{Edge}
+use Rattle.quotient_graph.specs.Edges.{normal}
 
 -- the list with x last, unless it has one that is the same
 abbrev pub with_new : {X : Type 0} → (X → X → Bool) → List X → X → List X
@@ -20,29 +20,16 @@ vertices_of (row ∷ rows) = with_new bytes_eq (with_new bytes_eq (vertices_of r
 abbrev pub vertex_number : List (List ℕ) → List ℕ → ℕ
 vertex_number names name = position_or_len (bytes_eq name) names + 1
 
--- u < v, or u = v and the first part that is not 0 is positive
-abbrev pub is_forward : ℕ → ℕ → ℤ → ℤ → ℤ → Bool
-is_forward u v x y z = nat_lt u v || (u == v && (lt_z (pos 0) x || (int_eq x (pos 0) && (lt_z (pos 0) y || (int_eq y (pos 0) && lt_z (pos 0) z)))))
-
--- an edge as it stands, or else reversed
-abbrev pub spelled : Bool → ℕ → ℕ → ℤ → ℤ → ℤ → RawEdge
-spelled true u v x y z = record { u = u; v = v; x = x; y = y; z = z }
-spelled false u v x y z = record { u = v; v = u; x = pos 0 -ℤ x; y = pos 0 -ℤ y; z = pos 0 -ℤ z }
-
--- the edge from u to v in its normal spelling
-abbrev pub normal : ℕ → ℕ → ℤ → ℤ → ℤ → RawEdge
-normal u v x y z = spelled (is_forward u v x y z) u v x y z
-
 -- the edge of a row; these vertices came before it
-abbrev pub row_edge : List (List ℕ) → FieldsView → RawEdge
+abbrev pub row_edge : List (List ℕ) → FieldsView → Edge
 row_edge before row = normal (vertex_number before row.u) (vertex_number (with_new bytes_eq before row.u) row.v) row.x row.y row.z
 
 -- both are the same edge, as they are spelled
-abbrev pub same_edge : RawEdge → RawEdge → Bool
+abbrev pub same_edge : Edge → Edge → Bool
 same_edge e f = e.u == f.u && (e.v == f.v && (int_eq e.x f.x && (int_eq e.y f.y && int_eq e.z f.z)))
 
 -- the different edges in order of appearance
-abbrev pub edges_of : List FieldsView → List RawEdge
+abbrev pub edges_of : List FieldsView → List Edge
 edges_of [] = []
 edges_of (row ∷ rows) = with_new same_edge (edges_of rows) (row_edge (vertices_of rows) row)
 

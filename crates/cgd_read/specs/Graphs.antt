@@ -1,20 +1,15 @@
 -- The graph that was read, as a graph of the subject.
 use Rattle.std.specs.Prelude.{length, map, ◌-◌, List}
-use Rattle.integers.specs.Vectors.{vector}
-use Rattle.periodic_net.specs.Graph.{Graph, Arc, arc, IsGraph}
+use Rattle.periodic_net.specs.Graph.{Graph, IsGraph}
 use Rattle.periodic_net.specs.Limits.{IsSmall}
 use Rattle.cgd_read.specs.Lines.{FieldsView}
 use Rattle.cgd_read.specs.Edges.{vertices_of, edges_of, first_size, repeats_of}
 use Rattle.cgd_read.specs.Views.{RawView}
-use Rattle.cgd_read.specs.declared.block.RawEdge.{RawEdge}
+use Rattle.quotient_graph.specs.Edges.{edge_of}
 
 -- what these rows say, the nearest first: a row is two vertices and then a part of the shift for each dimension
 abbrev pub net_of : List FieldsView → RawView
 net_of rows = record { dim = first_size rows - 2; names = vertices_of rows; edges = edges_of rows; repeats = repeats_of rows }
-
--- an edge that was read, as an edge of a quotient graph
-abbrev pub edge_of : RawEdge → Arc
-edge_of e = arc e.u e.v (vector e.x e.y e.z)
 
 -- the quotient graph with the vertices and edges that were read; the vertices have the numbers of their names
 abbrev pub graph_of : RawView → Graph

@@ -2,7 +2,7 @@
 ghost use Rattle.std.specs.Prelude.{◌≡◌};
 ghost use Rattle.cgd_read.specs.Faults.{number_of_kind};
 
-use crate::NoMemory;
+use crate::{NoMemory, RawEdge};
 use lists::{Items, NumberLists};
 
 /// Names as they were spelled, each a slice of the text that it was read from.
@@ -39,17 +39,6 @@ pub struct RawGraph<'a> {
     pub names: Names<'a>,
     pub edges: RawEdges,
     pub repeats: u32,
-}
-
-/// An edge from `u` to `v`, by the shift (`x`, `y`, `z`) in cells. Vertices are numbered from 1 in
-/// order of appearance.
-#[derive(Clone, Copy, Debug, PartialEq, Eq, Hash)]
-pub struct RawEdge {
-    pub u: u32,
-    pub v: u32,
-    pub x: i32,
-    pub y: i32,
-    pub z: i32,
 }
 
 /// The first fault of a graph block, with its line, numbered from 1.

@@ -4,8 +4,8 @@
 
 mod block;
 mod cursor;
+mod graph;
 mod line;
-mod normal;
 mod partial;
 mod read;
 mod sentences;
@@ -13,8 +13,9 @@ mod state;
 mod values;
 
 pub use block::{
-    Block, BlockFault, BlockFaultKind, Body, Names, RawEdge, RawEdges, RawGraph, ReadRefusal,
+    Block, BlockFault, BlockFaultKind, Body, Names, RawEdges, RawGraph, ReadRefusal,
 };
-pub use normal::normal_edge;
+pub use quotient_graph::Edge as RawEdge;
+pub use graph::from_raw;
 pub use read::blocks;
 pub use std::alloc::AllocError as NoMemory;

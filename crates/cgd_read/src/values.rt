@@ -1,6 +1,7 @@
 // Parts of shifts.
 ghost use Rattle.std.specs.Prelude.{◌≡◌, IfSome};
-ghost use Rattle.cgd_read.specs.Values.{part_of, IsSmallPart};
+ghost use Rattle.quotient_graph.specs.Edges.{IsSmallPart};
+ghost use Rattle.cgd_read.specs.Values.{part_of};
 
 use cgd_lex::number_up_to;
 use periodic_net::MOST_SHIFT;

@@ -18,7 +18,7 @@ use cover_report::{push_covered, push_graph, push_refused};
 use lists::Items;
 use net_cover::{Cell, CoverFault, cover};
 use net_report::{Outcome, OutcomeBody, Size};
-use quotient_graph::{AnyGraph, Graph, from_raw};
+use quotient_graph::{AnyGraph, Graph};
 use std::alloc::Global;
 
 fn size_of_graph<const D: usize>(graph: &Graph<D>, repeats: u32) -> Size

@@ -8,16 +8,17 @@ use Rattle.std.proofs.lemmas.Bool.Decides.{Decides-eqb, Decides-int_eq}
 use Rattle.std.proofs.lemmas.Slice.Eq.{bytes_eq-Decides}
 use Rattle.integers.proofs.lists.Members.{IsIn, AreApart}
 use Rattle.periodic_net.specs.Graph.{IsNormalSpelling}
-use Rattle.cgd_read.specs.Edges.{with_new, vertices_of, vertex_number, spelled, is_forward, normal, row_edge, same_edge, edges_of, first_size, has_rows}
-use Rattle.cgd_read.specs.Graphs.{edge_of}
+use Rattle.quotient_graph.specs.Edges.{spelled, is_forward, normal}
+use Rattle.cgd_read.specs.Edges.{with_new, vertices_of, vertex_number, row_edge, same_edge, edges_of, first_size, has_rows}
+use Rattle.quotient_graph.specs.Edges.{edge_of}
 use Rattle.cgd_read.specs.Lines.{FieldsView}
 use Rattle.cgd_read.specs.Reading.{IsFlat}
-use Rattle.cgd_read.specs.declared.block.RawEdge.{RawEdge}
-use Rattle.cgd_read.proofs.CallerLemmas.{IsZero, normal_spelled}
+use Rattle.quotient_graph.specs.declared.edge.Edge.{Edge}
+use Rattle.quotient_graph.proofs.CallerLemmas.{IsZero, normal_spelled}
 use Rattle.cover_rounds.proofs.NewPlaces.{tells_new, apart_new, has_place}
 
 -- the test of two edges
-pub edge_decides : (e f : RawEdge) → Decides (same_edge e f) (e ≡ f)
+pub edge_decides : (e f : Edge) → Decides (same_edge e f) (e ≡ f)
 edge_decides e f = (to, from)
   where
     to : same_edge e f ≡ true → e ≡ f
@@ -35,7 +36,7 @@ edge_decides e f = (to, from)
 
     from : e ≡ f → same_edge e f ≡ true
     from q =
-        subst (λ (g : RawEdge). same_edge e g ≡ true) q
+        subst (λ (g : Edge). same_edge e g ≡ true) q
         (and_from _ _ ((Decides-eqb e.u e.u).1 refl) (and_from _ _ ((Decides-eqb e.v e.v).1 refl)
         (and_from _ _ ((Decides-int_eq e.x e.x).1 refl) (and_from _ _ ((Decides-int_eq e.y e.y).1 refl) ((Decides-int_eq e.z e.z).1 refl)))))
 
@@ -45,7 +46,7 @@ edges_apart [] = tt
 edges_apart (row ∷ rows) = apart_new same_edge edge_decides (edges_of rows) (row_edge (vertices_of rows) row) (edges_apart rows)
 
 -- an edge is in normal spelling, or a loop without a shift
-abbrev pub IsSpelled : RawEdge → Type 0
+abbrev pub IsSpelled : Edge → Type 0
 IsSpelled e = IsNormalSpelling (edge_of e) ⊎ ((e.u ≡ e.v) × IsZero e.x e.y e.z)
 
 zero_or_not : (x y z : ℤ) → IsZero x y z ⊎ ¬ IsZero x y z
@@ -79,7 +80,7 @@ abbrev pub IsOneOf : ℕ → ℕ → Type 0
 IsOneOf n u = (1 ≤ u) × (u ≤ n)
 
 -- the edge is between vertices from 1 to n, and in normal spelling or a loop without a shift
-pub record IsBetween (n : ℕ) (e : RawEdge) : Type 0 where
+pub record IsBetween (n : ℕ) (e : Edge) : Type 0 where
   pub first : IsOneOf n e.u
   pub second : IsOneOf n e.v
   pub spelling : IsSpelled e
@@ -89,7 +90,7 @@ spelled_between n true u v x y z a b = (a, b)
 spelled_between n false u v x y z a b = (b, a)
 
 -- with more vertices too
-wider : (m n : ℕ) (e : RawEdge) → m ≤ n → IsBetween m e → IsBetween n e
+wider : (m n : ℕ) (e : Edge) → m ≤ n → IsBetween m e → IsBetween n e
 wider m n e l h = record {
   first = (h.first.0, let a = h.first.1 in omega (arith, a, l));
   second = (h.second.0, let a = h.second.1 in omega (arith, a, l));
@@ -97,7 +98,7 @@ wider m n e l h = record {
 }
 
 -- each edge of rows is such a one
-pub each_between : (rows : List FieldsView) (e : RawEdge) → IsIn (edges_of rows) e → IsBetween (length (vertices_of rows)) e
+pub each_between : (rows : List FieldsView) (e : Edge) → IsIn (edges_of rows) e → IsBetween (length (vertices_of rows)) e
 each_between [] e i = absurd i
 each_between (row ∷ rows) e i = by (each_between rows e)
   where
@@ -120,7 +121,7 @@ each_between (row ∷ rows) e i = by (each_between rows e)
 
 -- where the first row has four fields, no edge has a third part
 abbrev pub AreFlatRows : List FieldsView → Type 0
-AreFlatRows rows = (e : RawEdge) → IsIn (edges_of rows) e → first_size rows ≡ 4 → e.z ≡ pos 0
+AreFlatRows rows = (e : Edge) → IsIn (edges_of rows) e → first_size rows ≡ 4 → e.z ≡ pos 0
 
 -- the first row has as many fields as the last
 size_now : (rows : List FieldsView) (row : FieldsView) → (has_rows rows ≡ true → row.size ≡ first_size rows) → first_size (row ∷ rows) ≡ row.size
@@ -132,7 +133,7 @@ size_now (first ∷ rows) row e = by (first_size (first ∷ rows) == 0)
     by false = sym (e refl)
 
 -- where there is an edge, there is a row
-some_row : (rows : List FieldsView) (e : RawEdge) → IsIn (edges_of rows) e → has_rows rows ≡ true
+some_row : (rows : List FieldsView) (e : Edge) → IsIn (edges_of rows) e → has_rows rows ≡ true
 some_row [] e i = absurd i
 some_row (row ∷ rows) e i = refl
 
@@ -149,5 +150,5 @@ flat_with rows row flat same old e i four =
       | inr q ↦
           let u = vertex_number (vertices_of rows) row.u in
           let v = vertex_number (with_new bytes_eq (vertices_of rows) row.u) row.v in
-          subst (λ (f : RawEdge). f.z ≡ pos 0) q (spelled_flat (is_forward u v row.x row.y row.z) u v row.x row.y row.z (flat (omega (arith, size))))
+          subst (λ (f : Edge). f.z ≡ pos 0) q (spelled_flat (is_forward u v row.x row.y row.z) u v row.x row.y row.z (flat (omega (arith, size))))
     ]

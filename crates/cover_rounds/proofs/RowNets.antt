@@ -6,23 +6,24 @@ use Rattle.integers.proofs.lists.Pieces.{in_map, map_apart}
 use Rattle.integers.proofs.vectors.Laws.{vector_equal}
 use Rattle.periodic_net.specs.Graph.{Arc, IsNormalSpelling}
 use Rattle.cgd_read.specs.Edges.{edges_of}
-use Rattle.cgd_read.specs.Graphs.{edge_of, graph_of, net_of}
+use Rattle.quotient_graph.specs.Edges.{edge_of}
+use Rattle.cgd_read.specs.Graphs.{graph_of, net_of}
 use Rattle.cgd_read.specs.Lines.{FieldsView}
-use Rattle.cgd_read.specs.declared.block.RawEdge.{RawEdge}
+use Rattle.quotient_graph.specs.declared.edge.Edge.{Edge}
 use Rattle.cover_rounds.proofs.RowEdges.{AreFlatRows, IsSpelled, each_between, edges_apart}
 use Rattle.cover_rounds.proofs.SameSizes.{IsReadEdge}
 
 -- an arc as it was read
-abbrev raw_of : Arc → RawEdge
+abbrev raw_of : Arc → Edge
 raw_of a = record { u = a.from; v = a.to; x = a.shift.x; y = a.shift.y; z = a.shift.z }
 
-one_edge : (e f : RawEdge) → edge_of e ≡ edge_of f → e ≡ f
+one_edge : (e f : Edge) → edge_of e ≡ edge_of f → e ≡ f
 one_edge e f same = ap raw_of same
 
 pub graph_apart : (rows : List FieldsView) → AreApart (map edge_of (edges_of rows))
 graph_apart rows = map_apart edge_of (edges_of rows) one_edge (edges_apart rows)
 
-spelling_of : (e : RawEdge) → IsSpelled e → IsNormalSpelling (edge_of e) ⊎ (((edge_of e).from ≡ (edge_of e).to) × ((edge_of e).shift ≡ zero_vector))
+spelling_of : (e : Edge) → IsSpelled e → IsNormalSpelling (edge_of e) ⊎ (((edge_of e).from ≡ (edge_of e).to) × ((edge_of e).shift ≡ zero_vector))
 spelling_of e (inl n) = inl n
 spelling_of e (inr p) = inr (p.0, vector_equal p.1.0 p.1.1 p.1.2)
 

@@ -13,9 +13,10 @@ use Rattle.std.proofs.lemmas.Slice.Eq.{bytes_eq-Decides}
 use Rattle.integers.proofs.counting.Pigeonhole.{no_more}
 use Rattle.integers.proofs.lists.Members.{IsIn, AreApart}
 use Rattle.periodic_net.specs.Graph.{Arc}
-use Rattle.cgd_read.specs.Edges.{with_new, vertices_of, vertex_number, row_edge, same_edge, edges_of, normal}
+use Rattle.quotient_graph.specs.Edges.{normal}
+use Rattle.cgd_read.specs.Edges.{with_new, vertices_of, vertex_number, row_edge, same_edge, edges_of}
 use Rattle.cgd_read.specs.Lines.{FieldsView}
-use Rattle.cgd_read.specs.declared.block.RawEdge.{RawEdge}
+use Rattle.quotient_graph.specs.declared.edge.Edge.{Edge}
 use Rattle.cover_texts.specs.ReadBack.{order_after, new_number}
 use Rattle.cover_texts.proofs.NewLists.{place, at_place, has_new, keeps, tells_new, apart_new, few_new, get_in, place_new, place_grown, place_of_get}
 use Rattle.cover_texts.proofs.RowLines.{row_fields, IsRowEdge, AreRowEdges}
@@ -137,7 +138,7 @@ old_number order u i =
     ap (λ (k : ℕ). get_or order k 0) one_less ∙ at_place same_number Decides-eqb order u 0 i
 
 -- the edge with the new numbers of its ends
-abbrev pub renumbered : List ℕ → Arc → RawEdge
+abbrev pub renumbered : List ℕ → Arc → Edge
 renumbered order e = normal (new_number order e.from) (new_number order e.to) e.shift.x e.shift.y e.shift.z
 
 -- the numbers are those at the end of the rows
@@ -176,7 +177,7 @@ edge_is d n es e h =
     λ t. normal (first t) (second t) e.shift.x e.shift.y e.shift.z
 
 -- the test of two edges
-pub edge_decides : (e f : RawEdge) → Decides (same_edge e f) (e ≡ f)
+pub edge_decides : (e f : Edge) → Decides (same_edge e f) (e ≡ f)
 edge_decides e f = (to, from)
   where
     to : same_edge e f ≡ true → e ≡ f
@@ -194,12 +195,12 @@ edge_decides e f = (to, from)
 
     from : e ≡ f → same_edge e f ≡ true
     from q =
-        subst (λ (g : RawEdge). same_edge e g ≡ true) q
+        subst (λ (g : Edge). same_edge e g ≡ true) q
         (and_from _ _ ((Decides-eqb e.u e.u).1 refl) (and_from _ _ ((Decides-eqb e.v e.v).1 refl)
         (and_from _ _ ((Decides-int_eq e.x e.x).1 refl) (and_from _ _ ((Decides-int_eq e.y e.y).1 refl) ((Decides-int_eq e.z e.z).1 refl)))))
 
 -- each edge that is read is that of a row
-pub read_edges : (d n : ℕ) (es : List Arc) → AreRowEdges d n es → (y : RawEdge) → IsIn (edges_of (rows_of d es)) y → (e : Arc) × IsIn es e × (renumbered (order_back es) e ≡ y)
+pub read_edges : (d n : ℕ) (es : List Arc) → AreRowEdges d n es → (y : Edge) → IsIn (edges_of (rows_of d es)) y → (e : Arc) × IsIn es e × (renumbered (order_back es) e ≡ y)
 read_edges d n [] h y i = absurd i
 read_edges d n (f ∷ es) h y i = elim (tells_new same_edge edge_decides (edges_of (rows_of d es)) (row_edge (vertices_of (rows_of d es)) (row_fields d f)) y i) [
   | inl j ↦ let r = read_edges d n es h.1 y j in (r.0, inr r.1, sym (renumbered_kept es f r.0 r.1) ∙ r.2)
@@ -211,10 +212,10 @@ pub edges_in : (d n : ℕ) (es : List Arc) → AreRowEdges d n es → (e : Arc) 
 edges_in d n [] h e i = absurd i
 edges_in d n (f ∷ es) h e (inl q) =
     subst (λ (x : Arc). IsIn (edges_of (rows_of d (f ∷ es))) (renumbered (order_back (f ∷ es)) x)) q
-    (subst (λ (y : RawEdge). IsIn (edges_of (rows_of d (f ∷ es))) y) (edge_is d n es f h)
+    (subst (λ (y : Edge). IsIn (edges_of (rows_of d (f ∷ es))) y) (edge_is d n es f h)
     (has_new same_edge edge_decides (edges_of (rows_of d es)) (row_edge (vertices_of (rows_of d es)) (row_fields d f))))
 edges_in d n (f ∷ es) h e (inr i) =
-    subst (λ (y : RawEdge). IsIn (edges_of (rows_of d (f ∷ es))) y) (renumbered_kept es f e i)
+    subst (λ (y : Edge). IsIn (edges_of (rows_of d (f ∷ es))) y) (renumbered_kept es f e i)
     (keeps same_edge edge_decides (edges_of (rows_of d es)) (row_edge (vertices_of (rows_of d es)) (row_fields d f)) (renumbered (order_back es) e) (edges_in d n es h.1 e i))
 
 -- no more edges than rows

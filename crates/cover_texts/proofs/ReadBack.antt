@@ -13,7 +13,8 @@ use Rattle.periodic_net.specs.Maps.{Iso}
 use Rattle.cgd_read.specs.Blocks.{blocks_from, graph_block, in_order, with_body}
 use Rattle.cgd_read.specs.Edges.{has_rows}
 use Rattle.cgd_read.specs.Faults.{rows_in}
-use Rattle.cgd_read.specs.Graphs.{edge_of, graph_of, net_of}
+use Rattle.quotient_graph.specs.Edges.{edge_of}
+use Rattle.cgd_read.specs.Graphs.{graph_of, net_of}
 use Rattle.cgd_read.specs.Lines.{LineView, FieldsView}
 use Rattle.cgd_read.specs.Views.{RawView, BlockView, Net}
 use Rattle.cgd_read.specs.declared.line.LineKind.TheVariants.{Opening, End}

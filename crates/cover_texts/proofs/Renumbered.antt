@@ -9,8 +9,8 @@ use Rattle.periodic_net.specs.Graph.{Graph, Arc, arc, reverse_of, IsArc, IsQuoti
 use Rattle.periodic_net.specs.Maps.{Iso, IsPeriodic}
 use Rattle.periodic_net.proofs.CallerLemmas.{arc_turned, reverse_twice}
 use Rattle.cell_theory.proofs.CallerLemmas.{arc_by_edge, edge_is_arc, reverse_is_arc}
-use Rattle.cgd_read.specs.Edges.{is_forward, spelled}
-use Rattle.cgd_read.specs.Graphs.{edge_of}
+use Rattle.quotient_graph.specs.Edges.{is_forward, spelled}
+use Rattle.quotient_graph.specs.Edges.{edge_of}
 use Rattle.cover_texts.specs.ReadBack.{new_number}
 use Rattle.cover_texts.proofs.NamedRows.{old_number, same_number, order_back, renumbered, ends_in, number_at, number_within, number_there}
 use Rattle.cover_texts.proofs.NewLists.{place_below}

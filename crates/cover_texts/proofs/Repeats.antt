@@ -4,9 +4,10 @@ use Rattle.std.proofs.lemmas.Bool.{cases_Bool}
 use Rattle.integers.proofs.lists.Members.{IsIn, AreApart}
 use Rattle.periodic_net.specs.Graph.{Arc, arc, reverse_of, IsNormalSpelling}
 use Rattle.periodic_net.proofs.CallerLemmas.{one_spelling, reverse_twice}
-use Rattle.cgd_read.specs.Edges.{edges_of, vertices_of, is_forward, is_repeat, repeats_of, row_edge, same_edge}
-use Rattle.cgd_read.specs.Graphs.{edge_of}
-use Rattle.cgd_read.specs.declared.block.RawEdge.{RawEdge}
+use Rattle.quotient_graph.specs.Edges.{is_forward}
+use Rattle.cgd_read.specs.Edges.{edges_of, vertices_of, is_repeat, repeats_of, row_edge, same_edge}
+use Rattle.quotient_graph.specs.Edges.{edge_of}
+use Rattle.quotient_graph.specs.declared.edge.Edge.{Edge}
 use Rattle.cover_texts.specs.ReadBack.{new_number}
 use Rattle.cover_texts.proofs.NamedRows.{old_number, order_back, renumbered, renumbered_kept, rows_of, ends_in, read_edges, edge_is, edge_decides}
 use Rattle.cover_texts.proofs.NewLists.{any_in}
@@ -34,7 +35,7 @@ same_edges : (order : List ℕ) (e f : Arc) → IsNormalSpelling e → IsNormalS
 same_edges order e f n m i j q = by (old_edge order e i.0 i.1) (old_edge order f j.0 j.1)
   where
     same : old_arc order (edge_of (renumbered order e)) ≡ old_arc order (edge_of (renumbered order f))
-    same = ap (λ (y : RawEdge). old_arc order (edge_of y)) q
+    same = ap (λ (y : Edge). old_arc order (edge_of y)) q
 
     by : (old_arc order (edge_of (renumbered order e)) ≡ e) ⊎ (old_arc order (edge_of (renumbered order e)) ≡ reverse_of e)
         → (old_arc order (edge_of (renumbered order f)) ≡ f) ⊎ (old_arc order (edge_of (renumbered order f)) ≡ reverse_of f) → e ≡ f

@@ -12,21 +12,23 @@ use Rattle.periodic_net.specs.Maps.{Iso}
 use Rattle.periodic_net.proofs.CallerLemmas.{arc_inside, arc_turned}
 use Rattle.cell_theory.proofs.CallerLemmas.{arc_by_edge, edge_is_arc}
 use Rattle.quotient_graph.specs.Stars.{IsInOrder}
-use Rattle.cgd_read.specs.Edges.{with_new, vertices_of, vertex_number, row_edge, edges_of, same_edge, is_forward, spelled}
-use Rattle.cgd_read.specs.Graphs.{edge_of, graph_of, net_of}
+use Rattle.quotient_graph.specs.Edges.{is_forward, spelled}
+use Rattle.cgd_read.specs.Edges.{with_new, vertices_of, vertex_number, row_edge, edges_of, same_edge}
+use Rattle.quotient_graph.specs.Edges.{edge_of}
+use Rattle.cgd_read.specs.Graphs.{graph_of, net_of}
 use Rattle.cgd_read.specs.Lines.{FieldsView}
-use Rattle.cgd_read.specs.declared.block.RawEdge.{RawEdge}
+use Rattle.quotient_graph.specs.declared.edge.Edge.{Edge}
 use Rattle.cover_texts.specs.Printed.{EndsAt}
 use Rattle.cover_texts.proofs.NamedRows.{edge_decides}
 use Rattle.cover_texts.proofs.NewLists.{has_new, keeps, grown_is, place_none}
 
 -- an edge of the list ends at this number
-pub record MeetsNumber (es : List RawEdge) (k : ℕ) : Type 0 where
-  pub edge : RawEdge
+pub record MeetsNumber (es : List Edge) (k : ℕ) : Type 0 where
+  pub edge : Edge
   pub is_edge : IsIn es edge
   pub meets : (edge.u ≡ k) ⊎ (edge.v ≡ k)
 
-meets_kept : (es : List RawEdge) (e : RawEdge) (k : ℕ) → MeetsNumber es k → MeetsNumber (with_new same_edge es e) k
+meets_kept : (es : List Edge) (e : Edge) (k : ℕ) → MeetsNumber es k → MeetsNumber (with_new same_edge es e) k
 meets_kept es e k h = record { edge = h.edge; is_edge = keeps same_edge edge_decides es e h.edge h.is_edge; meets = h.meets }
 
 -- a spelled edge has both ends

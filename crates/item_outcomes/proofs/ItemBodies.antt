@@ -4,7 +4,7 @@ use Rattle.std.specs.Prelude.{IfOk}
 use Rattle.std.proofs.lemmas.List.{length-map}
 use Rattle.std.proofs.lemmas.List.Sorted.{length_permutation}
 use Rattle.periodic_net.specs.Graph.{Graph, IsGraph}
-use Rattle.cgd_read.specs.Graphs.{edge_of}
+use Rattle.quotient_graph.specs.Edges.{edge_of}
 use Rattle.keyline_import.specs.Items.{BodyView, Net, Faulty as FaultyView}
 use Rattle.keyline_import.specs.Keys.{graph_of_key}
 use Rattle.keyline_import.specs.Rows.{KeyView}

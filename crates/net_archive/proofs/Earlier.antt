@@ -6,7 +6,7 @@ use Rattle.std.proofs.lemmas.List.{length-append, length-map, append-nil}
 use Rattle.std.proofs.lemmas.List.Elements.{All-contains, Contains-append_left, Contains-append_right, Contains-push}
 use Rattle.line_text.specs.Lines.{Place}
 use Rattle.line_text.proofs.CallerLemmas.{same_row}
-use Rattle.cgd_read.specs.Graphs.{edge_of}
+use Rattle.quotient_graph.specs.Edges.{edge_of}
 use Rattle.net_entries.specs.Entries.{EntryView}
 use Rattle.net_entries.specs.Lookups.{names_of}
 use Rattle.line_text.specs.Names.{is_name}

@@ -3,7 +3,7 @@ use Rattle.std.proofs.Common.{◌≡◌, ◌≢◌, ◌⊎◌, inl, inr, ℕ, �
 use Rattle.std.proofs.lemmas.List.{append-nil, length-append, length-map}
 use Rattle.std.proofs.lemmas.List.Elements.{All-head, All-tail}
 use Rattle.line_text.specs.Lines.{HasNo, Place, rows_text}
-use Rattle.cgd_read.specs.Graphs.{edge_of}
+use Rattle.quotient_graph.specs.Edges.{edge_of}
 use Rattle.periodic_net.specs.Graph.{Graph, IsGraph}
 use Rattle.quotient_graph.proofs.EdgeLists.{listed_graph}
 use Rattle.coordination.specs.Sequences.{AreSequencesOf}

@@ -2,7 +2,7 @@
 use Rattle.std.specs.Prelude.{◌≡◌, ◌≢◌, ℕ, ◌+◌, ◌<◌, ℤ, List, length, map, Option, Some, None, slice_get}
 use Rattle.periodic_net.specs.Graph.{Graph, IsGraph}
 use Rattle.key_theory.specs.Key.{IsKeyOf}
-use Rattle.cgd_read.specs.Graphs.{edge_of}
+use Rattle.quotient_graph.specs.Edges.{edge_of}
 use Rattle.quotient_graph.specs.Stars.{graph_with}
 use Rattle.coordination.specs.Sequences.{AreSequencesOf}
 use Rattle.least_key.specs.Certain.{IsCertain}

@@ -15,7 +15,6 @@ use least_key::{Net, Refusal, check_any, identify, place_any};
 use net_archive::Archive;
 use net_commands::Command;
 use net_report::{NoMemory, OutcomeBody, Size};
-use quotient_graph::from_raw;
 use std::alloc::Global;
 
 fn size_of(raw: &RawGraph<'_>) -> Size

@@ -1,3 +1,4 @@
+pub mod Edges
 pub mod Order
 pub mod Stars
 pub mod Building

@@ -1,16 +1,17 @@
 //! Labelled quotient graphs of periodic nets, and the types that the layers above share.
 #![tactic(auto)]
 
+mod any_graph;
 mod arc;
 mod build;
 mod class_arc;
 mod class_net;
 mod classes;
+mod edge;
 mod frame;
 mod graph;
 mod key;
 mod placed;
-mod raw;
 mod split;
 mod stable;
 
@@ -18,11 +19,12 @@ pub use arc::{Arc, is_normal_spelling};
 pub use class_arc::ClassArc;
 pub use class_net::ClassNet;
 pub use classes::Classes;
+pub use edge::{Edge, normal_edge};
 pub use frame::Frame;
 pub use graph::Graph;
 pub use key::Key;
 pub use placed::Placed;
-pub use raw::{AnyGraph, from_edges, from_raw, from_unsorted};
+pub use any_graph::{AnyGraph, from_edges, from_unsorted};
 pub use split::{Entries, Split};
 pub use stable::Stable;
 pub use std::alloc::AllocError as NoMemory;

@@ -3,7 +3,7 @@ use Rattle.periodic_net.specs.Graph.{Arc, IsGraph}
 use Rattle.periodic_net.specs.Limits.{IsSmall}
 use Rattle.quotient_graph.specs.Stars.{graph_with}
 use Rattle.quotient_graph.proofs.ReadGraphs.{flat_edges}
-use Rattle.quotient_graph.proofs.raw.graph_from.Goals as goal
+use Rattle.quotient_graph.proofs.any_graph.graph_from.Goals as goal
 
 pub edges_of-requires : goal.edges_of-requires
 edges_of-requires g c = (lit< tt, flat_edges g.row.D c.args.n c.args.edges.now c.requires.is_graph)

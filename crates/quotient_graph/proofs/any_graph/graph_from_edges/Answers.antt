@@ -5,7 +5,7 @@ use Rattle.std.proofs.Common.{List}
 use Rattle.quotient_graph.specs.Order.{AreRising}
 use Rattle.quotient_graph.specs.Stars.{graph_with}
 use Rattle.quotient_graph.proofs.EdgeLists.{listed_flat, listed_graph, listed_small}
-use Rattle.quotient_graph.proofs.raw.graph_from_edges.Goals as goal
+use Rattle.quotient_graph.proofs.any_graph.graph_from_edges.Goals as goal
 
 pub edges_of-requires : goal.edges_of-requires
 edges_of-requires g c = (lit< tt, listed_flat g.row.D c.args.n c.args.edges.now c.requires)

@@ -1,17 +1,15 @@
-// From edges that were read to a graph in memory.
+// Graphs of dimension 2 or 3, made from a list of edges.
 ghost use Rattle.std.specs.Prelude.{◌≡◌, All, map, IfOk};
 ghost use Rattle.integers.specs.Vectors.{vector, HasDimension};
 ghost use Rattle.periodic_net.specs.Graph.{IsGraph};
 ghost use Rattle.periodic_net.specs.Limits.{IsSmall};
-ghost use Rattle.cgd_read.specs.Views.{raw_view};
-ghost use Rattle.cgd_read.specs.Graphs.{edge_of, graph_of, IsReadGraph};
+ghost use Rattle.quotient_graph.specs.Edges.{edge_of};
 ghost use Rattle.quotient_graph.specs.Order.{AreRising};
 ghost use Rattle.quotient_graph.specs.Stars.{IsInOrder, graph_with};
 ghost use Rattle.quotient_graph.specs.EdgeLists.{AreEdgesOfGraph};
 ghost use Rattle.quotient_graph.specs.AnyGraphs.{graph_in};
 
-use crate::{Arc, Graph, NoMemory};
-use cgd_read::{RawEdge, RawGraph};
+use crate::{Arc, Edge, Graph, NoMemory};
 use std::alloc::Global;
 use vecdim::Shift;
 
@@ -36,7 +34,7 @@ impl AnyGraph {
     }
 }
 
-fn arc_of<const D: usize>(edge: &RawEdge) -> Arc<D>
+fn arc_of<const D: usize>(edge: &Edge) -> Arc<D>
     requires { HasDimension D (vector edge.now.x edge.now.y edge.now.z) }
     ensures { result ≡ edge_of edge.now }
 {
@@ -51,7 +49,7 @@ fn arc_of<const D: usize>(edge: &RawEdge) -> Arc<D>
     }
 }
 
-fn edges_of<const D: usize>(alloc: Global, edges: &[RawEdge]) -> Result<Vec<Arc<D>>, NoMemory>
+fn edges_of<const D: usize>(alloc: Global, edges: &[Edge]) -> Result<Vec<Arc<D>>, NoMemory>
     requires { All (λ e. HasDimension D (vector e.x e.y e.z)) edges.now }
     ensures { IfOk result (λ arcs. arcs.items ≡ map edge_of edges.now) }
 {
@@ -65,7 +63,7 @@ fn edges_of<const D: usize>(alloc: Global, edges: &[RawEdge]) -> Result<Vec<Arc<
 fn graph_from<const D: usize>(
     alloc: Global,
     n: u32,
-    edges: &[RawEdge],
+    edges: &[Edge],
 ) -> Result<Graph<D>, NoMemory>
     requires is_graph { IsGraph (graph_with D n (map edge_of edges.now)) }
     requires small { IsSmall (graph_with D n (map edge_of edges.now)) }
@@ -80,7 +78,7 @@ pub fn from_unsorted(
     alloc: Global,
     dim: u8,
     n: u32,
-    edges: &[RawEdge],
+    edges: &[Edge],
 ) -> Result<AnyGraph, NoMemory>
     requires is_graph { IsGraph (graph_with dim n (map edge_of edges.now)) }
     requires small { IsSmall (graph_with dim n (map edge_of edges.now)) }
@@ -93,18 +91,10 @@ pub fn from_unsorted(
     }
 }
 
-/// The graph with the vertices and edges that were read.
-pub fn from_raw(alloc: Global, raw: &RawGraph<'_>) -> Result<AnyGraph, NoMemory>
-    requires { IsReadGraph (raw_view raw.now) }
-    ensures { IfOk result (λ g. IsInOrder (graph_of (raw_view raw.now)) (graph_in g)) }
-{
-    from_unsorted(alloc, raw.dim, raw.names.len() as u32, raw.edges.as_slice())
-}
-
 fn graph_from_edges<const D: usize>(
     alloc: Global,
     n: u32,
-    edges: &[RawEdge],
+    edges: &[Edge],
 ) -> Result<Graph<D>, NoMemory>
     requires { AreEdgesOfGraph D n edges.now }
     ensures { IfOk result (λ g. g ≡ graph_with D n (map edge_of edges.now)) }
@@ -114,7 +104,7 @@ fn graph_from_edges<const D: usize>(
 }
 
 /// The graph with exactly n vertices and these edges, which stand in the order of a graph already.
-pub fn from_edges(alloc: Global, dim: u8, n: u32, edges: &[RawEdge]) -> Result<AnyGraph, NoMemory>
+pub fn from_edges(alloc: Global, dim: u8, n: u32, edges: &[Edge]) -> Result<AnyGraph, NoMemory>
     requires { AreEdgesOfGraph dim n edges.now }
     ensures { IfOk result (λ g. graph_in g ≡ graph_with dim n (map edge_of edges.now)) }
 {
