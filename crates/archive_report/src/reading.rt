@@ -2,15 +2,16 @@
 ghost use Rattle.std.specs.Prelude.{IfOk};
 ghost use Rattle.archive_report.specs.ArchiveBytes.{AreFew, IsArchiveOrText};
 
+use crate::NoMemory;
 use crate::faults::archive_fault_text;
 use net_archive::{Archive, ArchiveFault};
-use std::alloc::{AllocError, Global};
+use std::alloc::Global;
 
 /// The archive of these bytes, or the text of its fault; without bytes it is empty.
 pub fn archive_in(
     alloc: Global,
     bytes: Option<Vec<u8>>,
-) -> Result<Result<Archive, Vec<u8>>, AllocError>
+) -> Result<Result<Archive, Vec<u8>>, NoMemory>
     requires { AreFew bytes }
     ensures { IfOk result (IsArchiveOrText bytes) }
 {
@@ -22,7 +23,7 @@ pub fn archive_in(
             let _ = archive.entries(); // which are those of an archive
             Ok(Ok(archive))
         }
-        Err(ArchiveFault::NoMemory) => Err(AllocError),
+        Err(ArchiveFault::NoMemory) => Err(NoMemory),
         Err(fault) => Ok(Err(archive_fault_text(alloc, &fault)?)),
     }
 }

@@ -15,7 +15,7 @@ use coordination::Sequences;
 use graph_rows::{GraphSize, next_size, read_edges};
 use line_text::Lines;
 use quotient_graph::{Edge, Key};
-use std::alloc::AllocError;
+use std::alloc::AllocError as NoMemory;
 
 /// The graph of an entry and its key, with the line of the key.
 #[derive(Drop)]
@@ -37,7 +37,7 @@ pub struct Form {
 fn read_keyed(
     lines: &mut Lines<'_>,
     numbers: &mut Vec<i128>,
-) -> Result<Result<KeyedGraph, u32>, AllocError>
+) -> Result<Result<KeyedGraph, u32>, NoMemory>
     ensures { (v : Version) (text : List ℕ) (rows : List (List ℕ)) (name : List ℕ) →
         is_name name ≡ true → IsAt text (rows ++ name_row name ∷ []) lines.old →
         IfOk result (λ read. MatchResult read (HasKeyed text rows name lines.new)
@@ -69,7 +69,7 @@ fn read_keyed(
 fn read_counted(
     lines: &mut Lines<'_>,
     numbers: &mut Vec<i128>,
-) -> Result<Result<Sequences, u32>, AllocError>
+) -> Result<Result<Sequences, u32>, NoMemory>
     ensures rest { AreShellsRead Two lines.old lines.new result }
     ensures few { IfOk result (λ read. IfOk read (λ lists. length lists ≤ most_vertices)) }
 {
@@ -85,7 +85,7 @@ fn read_shells(
     lines: &mut Lines<'_>,
     version: Version,
     numbers: &mut Vec<i128>,
-) -> Result<Result<Sequences, u32>, AllocError>
+) -> Result<Result<Sequences, u32>, NoMemory>
     ensures rest { AreShellsRead version lines.old lines.new result }
     ensures few { IfOk result (λ read. IfOk read (λ lists. length lists ≤ most_vertices)) }
 {
@@ -101,7 +101,7 @@ pub fn read_rest(
     lines: &mut Lines<'_>,
     version: Version,
     numbers: &mut Vec<i128>,
-) -> Result<Result<Form, u32>, AllocError>
+) -> Result<Result<Form, u32>, NoMemory>
     ensures rest { (text : List ℕ) (rows : List (List ℕ)) (name : List ℕ) → is_name name ≡ true →
         IsAt text (rows ++ name_row name ∷ []) lines.old →
         IfOk result (λ read. MatchResult read (HasForm version text rows name lines.new)

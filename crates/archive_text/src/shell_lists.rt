@@ -8,14 +8,14 @@ ghost use Rattle.periodic_net.specs.Limits.{most_vertices};
 use crate::steps::next_shells;
 use coordination::Sequences;
 use line_text::Lines;
-use std::alloc::AllocError;
+use std::alloc::AllocError as NoMemory;
 
 /// The shells of so many classes, or the number of the first line that has not those of the next.
 pub fn read_lists(
     lines: &mut Lines<'_>,
     count: u32,
     numbers: &mut Vec<i128>,
-) -> Result<Result<Sequences, u32>, AllocError>
+) -> Result<Result<Sequences, u32>, NoMemory>
     requires { IsCount count }
     ensures shells { (text : List ℕ) (rows : List (List ℕ)) → IsAt text rows lines.old →
         IfOk result (λ read. MatchResult read

@@ -5,7 +5,7 @@ ghost use Rattle.archive_text.specs.Forms.{AreSizes, IsCount, IsShort};
 
 use graph_rows::between;
 use periodic_net::MOST_VERTICES;
-use std::alloc::{AllocError, Global};
+use std::alloc::{AllocError as NoMemory, Global};
 
 /// The number of classes that the number of its row says.
 pub fn count_from(numbers: &[i128]) -> Option<u32>
@@ -34,7 +34,7 @@ fn short(n: &i128) -> Option<u32>
 }
 
 // The numbers, where all have 32 bits.
-fn short_numbers(alloc: Global, numbers: &[i128]) -> Result<Option<Vec<u32>>, AllocError>
+fn short_numbers(alloc: Global, numbers: &[i128]) -> Result<Option<Vec<u32>>, NoMemory>
     ensures found { IfOk result (λ read. IfSome read (λ sizes. numbers.now ≡ map pos sizes.items)) }
     ensures form { IfOk result (λ read. IfSome read (λ sizes. All IsShort sizes.items)) }
     ensures none { IfOk result (λ read. (sizes : List ℕ) → All IsShort sizes →
@@ -53,11 +53,7 @@ fn short_numbers(alloc: Global, numbers: &[i128]) -> Result<Option<Vec<u32>>, Al
 }
 
 /// The sizes that the numbers of a row of shells say, where they are those of a class.
-pub fn sizes_from(
-    alloc: Global,
-    class: u32,
-    numbers: &[i128],
-) -> Result<Option<Vec<u32>>, AllocError>
+pub fn sizes_from(alloc: Global, class: u32, numbers: &[i128]) -> Result<Option<Vec<u32>>, NoMemory>
     ensures found { IfOk result (λ read.
         IfSome read (λ sizes. numbers.now ≡ shells_numbers class sizes.items)) }
     ensures form { IfOk result (λ read. IfSome read (λ sizes. AreSizes sizes.items)) }

@@ -10,7 +10,7 @@ use crate::shells::{count_from, sizes_from};
 use line_text::{Lines, is_name};
 use periodic_net::MOST_EDGES;
 use quotient_graph::Key;
-use std::alloc::AllocError;
+use std::alloc::AllocError as NoMemory;
 
 /// So many numbers has a key at most.
 const MOST_NUMBERS: usize = 3 + 5 * MOST_EDGES;
@@ -30,7 +30,7 @@ pub fn next_name<'a>(lines: &mut Lines<'a>) -> Option<&'a [u8]>
     }
 }
 
-fn key_from(numbers: &Vec<i128>) -> Result<Key, AllocError>
+fn key_from(numbers: &Vec<i128>) -> Result<Key, NoMemory>
     ensures { IfOk result (λ key. key ≡ numbers.now.items) }
 {
     let copy = Vec::from_slice(*numbers.allocator(), numbers)?;
@@ -44,7 +44,7 @@ fn is_key_length(numbers: &[i128]) -> bool
 }
 
 /// The key on the next line.
-pub fn next_key(lines: &mut Lines<'_>, numbers: &mut Vec<i128>) -> Result<Option<Key>, AllocError>
+pub fn next_key(lines: &mut Lines<'_>, numbers: &mut Vec<i128>) -> Result<Option<Key>, NoMemory>
     ensures place { (text : List ℕ) (rows : List (List ℕ)) → IsAt text rows lines.old →
         IfOk result (λ found. IfSome found (λ key.
         IsAt text (rows ++ key_row key ∷ []) lines.new)) }
@@ -63,7 +63,7 @@ pub fn next_key(lines: &mut Lines<'_>, numbers: &mut Vec<i128>) -> Result<Option
 }
 
 /// The number of classes on the next line.
-pub fn next_count(lines: &mut Lines<'_>, numbers: &mut Vec<i128>) -> Result<Option<u32>, AllocError>
+pub fn next_count(lines: &mut Lines<'_>, numbers: &mut Vec<i128>) -> Result<Option<u32>, NoMemory>
     ensures place { (text : List ℕ) (rows : List (List ℕ)) → IsAt text rows lines.old →
         IfOk result (λ found. IfSome found (λ n. IsAt text (rows ++ count_row n ∷ []) lines.new)) }
     ensures form { IfOk result (λ found. IfSome found IsCount) }
@@ -81,7 +81,7 @@ pub fn next_shells(
     lines: &mut Lines<'_>,
     class: u32,
     numbers: &mut Vec<i128>,
-) -> Result<Option<Vec<u32>>, AllocError>
+) -> Result<Option<Vec<u32>>, NoMemory>
     requires { IsCount class }
     ensures place { (text : List ℕ) (rows : List (List ℕ)) → IsAt text rows lines.old →
         IfOk result (λ found. IfSome found (λ sizes.

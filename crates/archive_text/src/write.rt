@@ -2,7 +2,7 @@
 ghost use Rattle.std.specs.Prelude.{pos, map, length, ◌≤◌, ◌≡◌, ◌++◌, ◌∷◌, [], OnOk};
 ghost use Rattle.line_text.specs.Numbers.{numbers_text};
 ghost use Rattle.line_text.specs.Lines.{rows_text};
-ghost use Rattle.quotient_graph.specs.AnyGraphs.{graph_in};
+ghost use Rattle.quotient_graph.specs.AnyGraphs.{graph_view};
 ghost use Rattle.net_entries.specs.Entries.{entry_view};
 ghost use Rattle.archive_text.specs.Rows.{first_row, row_lines, name_row, key_row, count_row, shells_row, end_row};
 ghost use Rattle.graph_rows.specs.Rows.{size_of_graph};
@@ -16,10 +16,10 @@ use graph_rows::push_graph;
 use line_text::{push_inner, push_number, push_numbers, push_row};
 use net_entries::Entry;
 use quotient_graph::{AnyGraph, Key};
-use std::alloc::AllocError;
+use std::alloc::AllocError as NoMemory;
 
 /// The first line.
-pub fn push_first(text: &mut Vec<u8>, version: Version) -> Result<(), AllocError>
+pub fn push_first(text: &mut Vec<u8>, version: Version) -> Result<(), NoMemory>
     ensures { OnOk result
         (text.new.items ≡ text.old.items ++ rows_text (first_row version ∷ [])) }
 {
@@ -30,37 +30,37 @@ pub fn push_first(text: &mut Vec<u8>, version: Version) -> Result<(), AllocError
 }
 
 #[tactic(auto, unfolding(crate::specs::Rows::name_row))]
-fn push_name(text: &mut Vec<u8>, name: &[u8]) -> Result<(), AllocError>
+fn push_name(text: &mut Vec<u8>, name: &[u8]) -> Result<(), NoMemory>
     ensures { OnOk result (text.new.items ≡ text.old.items ++ rows_text (name_row name.now ∷ [])) }
 {
     push_inner(text, b"entry \"", name, b"\"")
 }
 
 // The rows of an entry before its key.
-fn push_drawn(text: &mut Vec<u8>, name: &[u8], graph: &AnyGraph) -> Result<(), AllocError>
+fn push_drawn(text: &mut Vec<u8>, name: &[u8], graph: &AnyGraph) -> Result<(), NoMemory>
     ensures { OnOk result (text.new.items ≡ text.old.items ++
-        rows_text (row_lines (drawn_rows name.now (size_of_graph (graph_in graph.now))
-        (graph_in graph.now).edges))) }
+        rows_text (row_lines (drawn_rows name.now (size_of_graph (graph_view graph.now))
+        (graph_view graph.now).edges))) }
 {
     push_name(text, name)?;
     push_graph(text, graph)
 }
 
 #[tactic(auto, unfolding(crate::specs::Rows::key_row))]
-fn push_key(text: &mut Vec<u8>, key: &Key) -> Result<(), AllocError>
+fn push_key(text: &mut Vec<u8>, key: &Key) -> Result<(), NoMemory>
     ensures { OnOk result (text.new.items ≡ text.old.items ++ rows_text (key_row key.now ∷ [])) }
 {
     push_row(text, b"key", key.numbers())
 }
 
 #[tactic(auto, unfolding(crate::specs::Rows::count_row))]
-fn push_count(text: &mut Vec<u8>, count: u32) -> Result<(), AllocError>
+fn push_count(text: &mut Vec<u8>, count: u32) -> Result<(), NoMemory>
     ensures { OnOk result (text.new.items ≡ text.old.items ++ rows_text (count_row count ∷ [])) }
 {
     push_row(text, b"primitive", &[count as i128])
 }
 
-fn push_sizes(text: &mut Vec<u8>, sizes: &[u32]) -> Result<(), AllocError>
+fn push_sizes(text: &mut Vec<u8>, sizes: &[u32]) -> Result<(), NoMemory>
     ensures { OnOk result (text.new.items ≡ text.old.items ++ numbers_text (map pos sizes.now)) }
 {
     for size in sizes {
@@ -71,7 +71,7 @@ fn push_sizes(text: &mut Vec<u8>, sizes: &[u32]) -> Result<(), AllocError>
 }
 
 #[tactic(auto, unfolding(crate::specs::Rows::shells_row))]
-fn push_shells(text: &mut Vec<u8>, class: u32, sizes: &[u32]) -> Result<(), AllocError>
+fn push_shells(text: &mut Vec<u8>, class: u32, sizes: &[u32]) -> Result<(), NoMemory>
     ensures { OnOk result
         (text.new.items ≡ text.old.items ++ rows_text (shells_row class sizes.now ∷ [])) }
 {
@@ -81,7 +81,7 @@ fn push_shells(text: &mut Vec<u8>, class: u32, sizes: &[u32]) -> Result<(), Allo
     text.extend_from_slice(b"\n")
 }
 
-fn push_lists(text: &mut Vec<u8>, lists: &Sequences) -> Result<(), AllocError>
+fn push_lists(text: &mut Vec<u8>, lists: &Sequences) -> Result<(), NoMemory>
     requires { length lists.now ≤ most_vertices }
     ensures { OnOk result (text.new.items ≡
         text.old.items ++ rows_text (row_lines (shells_rows 1 lists.now))) }
@@ -93,7 +93,7 @@ fn push_lists(text: &mut Vec<u8>, lists: &Sequences) -> Result<(), AllocError>
 }
 
 // In version 2 the number of classes, and the shells of each.
-fn push_classes(text: &mut Vec<u8>, version: Version, lists: &Sequences) -> Result<(), AllocError>
+fn push_classes(text: &mut Vec<u8>, version: Version, lists: &Sequences) -> Result<(), NoMemory>
     requires { length lists.now ≤ most_vertices }
     ensures { OnOk result (text.new.items ≡
         text.old.items ++ rows_text (row_lines (class_rows version lists.now))) }
@@ -108,14 +108,14 @@ fn push_classes(text: &mut Vec<u8>, version: Version, lists: &Sequences) -> Resu
 }
 
 #[tactic(auto, unfolding(crate::specs::Rows::end_row))]
-fn push_end(text: &mut Vec<u8>) -> Result<(), AllocError>
+fn push_end(text: &mut Vec<u8>) -> Result<(), NoMemory>
     ensures { OnOk result (text.new.items ≡ text.old.items ++ rows_text (end_row ∷ [])) }
 {
     text.extend_from_slice(b"end\n")
 }
 
 /// The rows of an entry.
-pub fn push_entry(text: &mut Vec<u8>, version: Version, entry: &Entry) -> Result<(), AllocError>
+pub fn push_entry(text: &mut Vec<u8>, version: Version, entry: &Entry) -> Result<(), NoMemory>
     requires { length (entry_view entry.now).shells ≤ most_vertices }
     ensures { OnOk result (text.new.items ≡
         text.old.items ++ rows_text (entry_lines version (entry_view entry.now ∷ []))) }

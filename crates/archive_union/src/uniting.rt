@@ -6,7 +6,7 @@ ghost use Rattle.archive_union.specs.Unions.{united, with_item, IsRefused, IsUni
 ghost use Rattle.archive_union.specs.Faults.{IsUniteFault, fault_of_add};
 
 use net_archive::{AddFault, Archive, Entry};
-use std::alloc::AllocError;
+use std::alloc::AllocError as NoMemory;
 
 /// Why an archive is not united with items.
 #[derive(Clone, Copy, Debug, PartialEq, Eq)]
@@ -16,12 +16,12 @@ pub enum UniteFault {
     NoMemory,
 }
 
-impl From<AllocError> for UniteFault {
+impl From<NoMemory> for UniteFault {
     ghost use Rattle.archive_union.specs.declared.uniting.UniteFault.{UniteFault};
 
     ghost from_gives = { λ _ fault. fault ≡ UniteFault.NoMemory };
 
-    fn from(_refused: AllocError) -> UniteFault {
+    fn from(_refused: NoMemory) -> UniteFault {
         UniteFault::NoMemory
     }
 }

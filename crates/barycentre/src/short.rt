@@ -29,7 +29,7 @@ fn is_balanced<const D: usize>(g: &Graph<D>, at: &[Triple], d0: i128, u: u32) ->
     ensures balanced { IsTrue result →
         vector_sum (map (arc_vector (placement_of d0 at.now)) (arcs_from g.now u)) ≡ zero_vector }
 {
-    let _ = g.dimension(); // the graph is small
+    g.recall(); // the graph is small
     let mut sum = SmallVector { x: 0, y: 0, z: 0 };
     for arc in g.arcs(u) {
         let step = SmallVector::of_triple(&vector_of(at, d0, arc));
@@ -68,6 +68,6 @@ pub(crate) fn are_balanced_within<const D: usize>(g: &Graph<D>, at: &[Triple], d
     ensures balanced { IsTrue result → AreBalanced g.now (placement_of d0 at.now) }
     ensures within { IsTrue result → IsWithinLimits g.now (placement_of d0 at.now) }
 {
-    let _ = g.dimension(); // there is a vertex
+    g.recall(); // there is a vertex
     at[0].is_zero() && are_short(at) && are_stars_balanced(g, at, d0)
 }

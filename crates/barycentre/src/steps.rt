@@ -81,7 +81,7 @@ pub(crate) fn by_one_step<const M: u64, const D: usize>(
     ensures limits { IfOk result
         (λ o. IfSome o (λ t. IsWithinLimits g.now (placement_of t.d0 t.at.items))) }
 {
-    let _ = g.dimension(); // which is D
+    g.recall();
     match guess(alloc, rows)? {
         Some(units) => {
             if are_normal(g, &units.at, units.d0) {
@@ -115,7 +115,7 @@ pub(crate) fn by_two_steps<const M: u64, const D: usize>(
         (λ o. IfSome o (λ t. IsWithinLimits g.now (placement_of t.d0 t.at.items))) }
     ensures none { IfOk result (λ o. MatchOption o (AreNotWithin g.now) (λ t. ⊤)) }
 {
-    let _ = g.dimension(); // which is D
+    g.recall();
     let at = whole_rows(alloc, firsts)?;
     let left = left_rows::<M, D>(alloc, g, &at)?;
     let nexts = next_rows(alloc, g, &left)?;

@@ -12,10 +12,8 @@ mod sentences;
 mod state;
 mod values;
 
-pub use block::{
-    Block, BlockFault, BlockFaultKind, Body, Names, RawEdges, RawGraph, ReadRefusal,
-};
-pub use quotient_graph::Edge as RawEdge;
+pub use block::{Block, BlockFault, BlockFaultKind, Body, Names, RawEdges, RawGraph, ReadRefusal};
 pub use graph::from_raw;
+pub use quotient_graph::Edge as RawEdge;
 pub use read::blocks;
 pub use std::alloc::AllocError as NoMemory;

@@ -4,7 +4,7 @@ ghost use Rattle.clap.specs.Words.{app_of};
 ghost use Rattle.command_words.specs.Grammar.{bare_grammar, grammar};
 
 use clap::{Arg, Command};
-use std::alloc::{AllocError, Global};
+use std::alloc::{AllocError as NoMemory, Global};
 
 // No name stands before the words, and clap adds no option of its own for help and version.
 fn bare_grammar<'a>(alloc: Global) -> Command<'a>
@@ -17,7 +17,7 @@ fn bare_grammar<'a>(alloc: Global) -> Command<'a>
 }
 
 /// Two positional words and three options, each of which may be absent.
-pub(crate) fn grammar<'a>(alloc: Global) -> Result<Command<'a>, AllocError>
+pub(crate) fn grammar<'a>(alloc: Global) -> Result<Command<'a>, NoMemory>
     ensures { IfOk result (λ c. app_of c ≡ grammar) }
 {
     let archive = Arg::new(alloc, "archive").long("archive");

@@ -7,7 +7,7 @@ ghost use Rattle.command_words.specs.Views.{said_view, said_in};
 use crate::grammar::grammar;
 use clap::error::ErrorKind;
 use clap::{ArgMatches, Error};
-use std::alloc::{AllocError, Global};
+use std::alloc::{AllocError as NoMemory, Global};
 
 /// What the words say: a command, a word after it, and the values of three options.
 #[derive(Clone, Copy, Debug, Drop)]
@@ -33,11 +33,11 @@ fn said_in<'a>(matches: &ArgMatches<'a>) -> Said<'a>
 }
 
 // Want of memory is an error; words that clap refuses are none.
-fn refuse(error: Error) -> Result<(), AllocError>
+fn refuse(error: Error) -> Result<(), NoMemory>
     ensures { OnOk result (kind_of error ≢ ErrorKind.OutOfMemory) }
 {
     match error.kind() {
-        ErrorKind::OutOfMemory => Err(AllocError),
+        ErrorKind::OutOfMemory => Err(NoMemory),
         _ => Ok(()),
     }
 }
@@ -46,7 +46,7 @@ fn refuse(error: Error) -> Result<(), AllocError>
 pub(crate) fn read_words<'a>(
     alloc: Global,
     words: &'a [String],
-) -> Result<Option<Said<'a>>, AllocError>
+) -> Result<Option<Said<'a>>, NoMemory>
     ensures { IfOk result (λ said. option_map said_view said ≡ said_by (texts_of words.entry.now)) }
 {
     match grammar(alloc)?.try_get_matches_from(words) {

@@ -10,7 +10,7 @@ use crate::parse::{Said, read_words};
 use cell_words::cell_of;
 use net_commands::Command;
 use net_cover::Cell;
-use std::alloc::{AllocError, Global};
+use std::alloc::{AllocError as NoMemory, Global};
 
 /// What is to be done, and the names of the files that it reads. `-` is the standard input.
 #[derive(Clone, Copy, Debug, Drop)]
@@ -271,7 +271,7 @@ fn sole_file<'a>(said: &Said<'a>) -> Option<&'a str>
 }
 
 // The cell that a word spells, where it is there.
-fn cell_in(alloc: Global, word: Option<&str>) -> Result<Option<Cell>, AllocError>
+fn cell_in(alloc: Global, word: Option<&str>) -> Result<Option<Cell>, NoMemory>
     ensures { IfOk result (λ cell. cell ≡ option_and_then cell_of (option_copied word.entry)) }
 {
     match word {
@@ -280,7 +280,7 @@ fn cell_in(alloc: Global, word: Option<&str>) -> Result<Option<Cell>, AllocError
     }
 }
 
-fn cover_in<'a>(alloc: Global, said: &Said<'a>) -> Result<Option<Task<'a>>, AllocError>
+fn cover_in<'a>(alloc: Global, said: &Said<'a>) -> Result<Option<Task<'a>>, NoMemory>
     ensures { IfOk result (λ task. option_map task_view task ≡ cover_in (said_view said.now)) }
 {
     if said.archive.is_some() || said.name.is_some() {
@@ -311,7 +311,7 @@ fn may_give_cell(verb: Verb, cell: Option<&str>) -> bool
 }
 
 // What a command takes beside a cell.
-fn task_with<'a>(alloc: Global, verb: Verb, said: &Said<'a>) -> Result<Option<Task<'a>>, AllocError>
+fn task_with<'a>(alloc: Global, verb: Verb, said: &Said<'a>) -> Result<Option<Task<'a>>, NoMemory>
     ensures { IfOk result (λ task.
         option_map task_view task ≡ task_with verb (said_view said.now)) }
 {
@@ -329,7 +329,7 @@ fn task_with<'a>(alloc: Global, verb: Verb, said: &Said<'a>) -> Result<Option<Ta
 }
 
 // What a command takes.
-fn task_for<'a>(alloc: Global, verb: Verb, said: &Said<'a>) -> Result<Option<Task<'a>>, AllocError>
+fn task_for<'a>(alloc: Global, verb: Verb, said: &Said<'a>) -> Result<Option<Task<'a>>, NoMemory>
     ensures { IfOk result (λ task.
         option_map task_view task ≡ task_for verb (said_view said.now)) }
 {
@@ -341,7 +341,7 @@ fn task_for<'a>(alloc: Global, verb: Verb, said: &Said<'a>) -> Result<Option<Tas
 }
 
 // The task that is said, where no word of it is empty.
-fn task_in<'a>(alloc: Global, said: &Said<'a>) -> Result<Option<Task<'a>>, AllocError>
+fn task_in<'a>(alloc: Global, said: &Said<'a>) -> Result<Option<Task<'a>>, NoMemory>
     ensures { IfOk result (λ task. option_map task_view task ≡ task_in (said_view said.now)) }
 {
     if has_empty_word(said) {
@@ -358,7 +358,7 @@ fn task_in<'a>(alloc: Global, said: &Said<'a>) -> Result<Option<Task<'a>>, Alloc
 
 /// The task that the words ask for. `Ok(None)` comes exactly where they have no form, and `Err`
 /// only where memory is refused.
-pub fn task_of<'a>(alloc: Global, words: &'a [String]) -> Result<Option<Task<'a>>, AllocError>
+pub fn task_of<'a>(alloc: Global, words: &'a [String]) -> Result<Option<Task<'a>>, NoMemory>
     ensures task { IfOk result (λ task.
         option_map task_view task ≡ task_of (texts_of words.entry.now)) }
     ensures few { IfOk result (λ task. IfSome task (λ task. MakesFew (task_view task))) }

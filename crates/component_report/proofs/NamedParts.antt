@@ -2,7 +2,7 @@
 use Rattle.std.proofs.Common.{◌≡◌, ℕ, ◌+◌, ◌-◌, ◌≤◌, List, length, get_or, All, sym, ap, subst, ◌∙◌, arith}
 use Rattle.std.proofs.lemmas.List.{get_or_default}
 use Rattle.periodic_net.specs.Graph.{Graph, IsGraph}
-use Rattle.quotient_graph.specs.AnyGraphs.{graph_in}
+use Rattle.quotient_graph.specs.AnyGraphs.{graph_view}
 use Rattle.component_theory.proofs.CallerLemmas.{part_graph}
 use Rattle.net_components.specs.Parts.{vertex_at, root_of, IsPartOf, AreParts}
 use Rattle.net_components.specs.declared.parts.Part.{Part}
@@ -19,7 +19,7 @@ module _ (names : List (List ℕ)) (G : Graph) (g : IsGraph G) (count : length n
         subst (λ v. (1 ≤ v) × (v ≤ length names)) at (u.0, subst (λ n. vertex_at p.vertices (k + 1) ≤ n) (sym count) u.1);
     count = h.count;
     few = let e = h.count in let l = h.small.vertices in omega (arith, e, l);
-    is_graph = part_graph G g a h.T h.stairs (vertex_at p.vertices) (graph_in p.graph) h.part;
+    is_graph = part_graph G g a h.T h.stairs (vertex_at p.vertices) (graph_view p.graph) h.part;
   }
     where
       less : (k : ℕ) → k + 1 - 1 ≡ k

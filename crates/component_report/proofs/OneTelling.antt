@@ -4,9 +4,9 @@ use Rattle.std.specs.List.{list_all}
 use Rattle.std.proofs.lemmas.List.Elements.{All-head, All-tail}
 use Rattle.integers.proofs.lists.Matched.{AreMatched}
 use Rattle.periodic_net.specs.Graph.{Graph, IsGraph}
-use Rattle.quotient_graph.specs.AnyGraphs.{graph_in}
+use Rattle.quotient_graph.specs.AnyGraphs.{graph_view}
 use Rattle.component_theory.proofs.CallerLemmas.{part_graph}
-use Rattle.least_key.specs.AnyNets.{net_in}
+use Rattle.least_key.specs.AnyNets.{net_view}
 use Rattle.least_key.specs.KeyedNets.{KeyedNet, IsKeyed}
 use Rattle.least_key.specs.Truths.{IsTrueOf}
 use Rattle.least_key.specs.declared.net.Net.{Net}
@@ -28,21 +28,21 @@ keyed_not_refused G n r e k h = certain_is_not_refused n.placed.graph r k.is_gra
 
 module _ (names : List (List ℕ)) where
   -- the answers to two parts that look alike tell the same
-  one_answer : (p q : Part) (a b : Result Net Refusal) → view_of p ≡ view_of q → IsGraph (graph_in p.graph) → IsAnswerOf p a → IsAnswerOf q b
+  one_answer : (p q : Part) (a b : Result Net Refusal) → view_of p ≡ view_of q → IsGraph (graph_view p.graph) → IsAnswerOf p a → IsAnswerOf q b
       → (has_key a ≡ has_key b) × (answer_text names p a ≡ answer_text names q b)
   one_answer p q (Ok m) (Ok n) e g h k =
       let graph = ap (λ (v : PartView). v.graph) e in
-      (refl, ap key_text (one_net (net_in m) (net_in n) h.1 k.1 (h.0 ∙ graph ∙ sym k.0)).key)
+      (refl, ap key_text (one_net (net_view m) (net_view n) h.1 k.1 (h.0 ∙ graph ∙ sym k.0)).key)
   one_answer p q (Ok m) (Err r) e g h k =
       let graph = ap (λ (v : PartView). v.graph) e in
-      absurd (k.1 (keyed_not_refused (graph_in p.graph) (net_in m) r h.0 h.1 (subst (λ F. IsTrueOf F r) (sym graph) k.0)))
+      absurd (k.1 (keyed_not_refused (graph_view p.graph) (net_view m) r h.0 h.1 (subst (λ F. IsTrueOf F r) (sym graph) k.0)))
   one_answer p q (Err r) (Ok n) e g h k =
       let graph = ap (λ (v : PartView). v.graph) e in
-      absurd (h.1 (keyed_not_refused (graph_in q.graph) (net_in n) r k.0 k.1 (subst (λ F. IsTrueOf F r) graph h.0)))
+      absurd (h.1 (keyed_not_refused (graph_view q.graph) (net_view n) r k.0 k.1 (subst (λ F. IsTrueOf F r) graph h.0)))
   one_answer p q (Err r) (Err s) e g h k =
       let graph = ap (λ (v : PartView). v.graph) e in
       let vertices = ap (λ (v : PartView). v.vertices) e in
-      let refusal = one_refusal (graph_in p.graph) r s g h.0 (subst (λ F. IsTrueOf F s) (sym graph) k.0) h.1 k.1 in
+      let refusal = one_refusal (graph_view p.graph) r s g h.0 (subst (λ F. IsTrueOf F s) (sym graph) k.0) h.1 k.1 in
       (refl, λ i. refused_text (names_of names (vertices i)) (refusal i))
 
   -- so do the answers to lists of such parts
@@ -51,7 +51,7 @@ module _ (names : List (List ℕ)) where
     accepted : list_all has_key as' ≡ list_all has_key bs
     text : parts_from names n ps as' ≡ parts_from names n qs bs
 
-  alike : (n : ℕ) (ps qs : List Part) (as' bs : List (Result Net Refusal)) → map view_of ps ≡ map view_of qs → All (λ (p : Part). IsGraph (graph_in p.graph)) ps
+  alike : (n : ℕ) (ps qs : List Part) (as' bs : List (Result Net Refusal)) → map view_of ps ≡ map view_of qs → All (λ (p : Part). IsGraph (graph_view p.graph)) ps
       → AreMatched IsAnswerOf ps as' → AreMatched IsAnswerOf qs bs → TellAlike n ps qs as' bs
   alike n [] [] [] [] e g h k = record { count = refl; accepted = refl; text = refl }
   alike n [] [] (a ∷ as') bs e g h k = absurd h
@@ -62,8 +62,8 @@ module _ (names : List (List ℕ)) where
   alike n (p ∷ ps) (q ∷ qs) (a ∷ as') [] e g h k = absurd k
   alike n (p ∷ ps) (q ∷ qs) (a ∷ as') (b ∷ bs) e g h k =
       let view : view_of p ≡ view_of q = ap (λ (vs : List PartView). get_or vs 0 (view_of p)) e in
-      let first = one_answer p q a b view (All-head (λ (p : Part). IsGraph (graph_in p.graph)) p ps g) h.0 k.0 in
-      let rest = alike (n + 1) ps qs as' bs (ap (λ (vs : List PartView). drop 1 vs) e) (All-tail (λ (p : Part). IsGraph (graph_in p.graph)) p ps g) h.1 k.1 in
+      let first = one_answer p q a b view (All-head (λ (p : Part). IsGraph (graph_view p.graph)) p ps g) h.0 k.0 in
+      let rest = alike (n + 1) ps qs as' bs (ap (λ (vs : List PartView). drop 1 vs) e) (All-tail (λ (p : Part). IsGraph (graph_view p.graph)) p ps g) h.1 k.1 in
       record {
         count = ap suc rest.count;
         accepted = λ i. first.0 i && rest.accepted i;
@@ -71,11 +71,11 @@ module _ (names : List (List ℕ)) where
       }
 
 -- the graph of each part is one
-graphs : (G : Graph) → IsGraph G → (ps : List Part) → AreParts G ps → All (λ (p : Part). IsGraph (graph_in p.graph)) ps
+graphs : (G : Graph) → IsGraph G → (ps : List Part) → AreParts G ps → All (λ (p : Part). IsGraph (graph_view p.graph)) ps
 graphs G g ps h k d l =
     let p = get_or ps k d in
     let part = h.each k d l in
-    part_graph G g (root_of p) part.T part.stairs (vertex_at p.vertices) (graph_in p.graph) part.part
+    part_graph G g (root_of p) part.T part.stairs (vertex_at p.vertices) (graph_view p.graph) part.part
 
 -- what is told of a graph is one
 pub one_telling : OneTelling

@@ -3,7 +3,7 @@ use Rattle.std.specs.Prelude.{ℕ, ℤ, ◌+◌, ◌-◌, List, [], ◌∷◌, �
 use Rattle.std.specs.Fmt.{signed_decimal}
 use Rattle.integers.specs.Vectors.{Vector, parts}
 use Rattle.line_text.specs.Numbers.{field_text, list_text}
-use Rattle.least_key.specs.AnyNets.{net_in}
+use Rattle.least_key.specs.AnyNets.{net_view}
 use Rattle.least_key.specs.declared.net.Net.{Net}
 use Rattle.least_key.specs.declared.refusal.Refusal.{Refusal}
 use Rattle.net_components.specs.declared.fault.PartFault.{PartFault}
@@ -53,7 +53,7 @@ names_of names vertices = map (λ u. slice_index_or names (u - 1) []) vertices
 
 -- the key of a part, or why it is refused; its vertices have the names of the net's
 abbrev pub answer_text : List (List ℕ) → Part → Result Net Refusal → List ℕ
-answer_text names p (Ok net) = key_text (net_in net).key
+answer_text names p (Ok net) = key_text (net_view net).key
 answer_text names p (Err refusal) = refused_text (names_of names p.vertices) refusal
 
 -- the number of a part, and how many vertices and copies it has

@@ -4,7 +4,7 @@ use Rattle.std.specs.List.{list_all}
 use Rattle.integers.proofs.lists.Matched.{AreMatched}
 use Rattle.periodic_net.specs.Graph.{Graph, IsGraph}
 use Rattle.periodic_net.specs.Limits.{most_vertices}
-use Rattle.quotient_graph.specs.AnyGraphs.{graph_in}
+use Rattle.quotient_graph.specs.AnyGraphs.{graph_view}
 use Rattle.least_key.specs.Answers.{IsAnswerTo}
 use Rattle.least_key.specs.declared.net.Net.{Net}
 use Rattle.least_key.specs.declared.refusal.Refusal.{Refusal}
@@ -26,9 +26,9 @@ has_key (Err refused) = false
 -- each vertex of a part has a name, and each vertex of its graph is one of these
 pub record IsNamedPart (names : List (List ℕ)) (p : Part) : Type 0 where
   pub named : All (λ u. (1 ≤ u) × (u ≤ length names)) p.vertices
-  pub count : length p.vertices ≡ (graph_in p.graph).vertices
+  pub count : length p.vertices ≡ (graph_view p.graph).vertices
   pub few : length p.vertices ≤ most_vertices
-  pub is_graph : IsGraph (graph_in p.graph)
+  pub is_graph : IsGraph (graph_view p.graph)
 
 -- what is told of the part with this number, put last in a text, and whether it has a key
 pub record IsPartTold (names : List (List ℕ)) (number : ℕ) (p : Part) (keyed : Bool) (old new : List ℕ) : Type 0 where

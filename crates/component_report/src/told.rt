@@ -1,7 +1,7 @@
 // The lines that are told of the components of a net.
 ghost use Rattle.std.specs.Prelude.{◌≡◌, ◌≢◌, ◌≤◌, ◌++◌, length, All, IfOk, OnOk, true};
 ghost use Rattle.periodic_net.specs.Graph.{IsGraph};
-ghost use Rattle.quotient_graph.specs.AnyGraphs.{graph_in};
+ghost use Rattle.quotient_graph.specs.AnyGraphs.{graph_view};
 ghost use Rattle.net_components.specs.Faults.{IsPartFault, no_memory};
 ghost use Rattle.net_components.specs.Parts.{AreParts};
 ghost use Rattle.net_report.specs.Refusals.{HasLine, refused_text};
@@ -127,8 +127,8 @@ fn push_count_line(text: &mut Vec<u8>, count: u64) -> Result<(), NoMemory>
 
 // The dimension of a graph.
 fn dimension_of(g: &AnyGraph) -> u8
-    ensures value { result ≡ (graph_in g.now).dimension }
-    ensures is_graph { IsGraph (graph_in g.now) }
+    ensures value { result ≡ (graph_view g.now).dimension }
+    ensures is_graph { IsGraph (graph_view g.now) }
 {
     match g {
         AnyGraph::Flat(g) => g.dimension(),
@@ -143,10 +143,10 @@ fn tell_parts(
     g: &AnyGraph,
     parts: &[Part],
 ) -> Result<ToldLines, NoMemory>
-    requires parts { AreParts (graph_in g.now) parts.now }
-    requires names { length names.now ≡ (graph_in g.now).vertices }
+    requires parts { AreParts (graph_view g.now) parts.now }
+    requires names { length names.now ≡ (graph_view g.now).vertices }
     ensures { IfOk result (λ told.
-        ArePartsTold (graph_in g.now) names.now told.accepted told.lines) }
+        ArePartsTold (graph_view g.now) names.now told.accepted told.lines) }
 {
     let _ = dimension_of(g);
     let mut text = Vec::new(alloc);
@@ -172,10 +172,10 @@ fn tell_fault(
     g: &AnyGraph,
     fault: &PartFault,
 ) -> Result<ToldLines, NoMemory>
-    requires fault { IsPartFault (graph_in g.now) fault.now }
-    requires names { length names.now ≡ (graph_in g.now).vertices }
+    requires fault { IsPartFault (graph_view g.now) fault.now }
+    requires names { length names.now ≡ (graph_view g.now).vertices }
     ensures { IfOk result (λ told.
-        IsFaultTold (graph_in g.now) names.now told.accepted told.lines) }
+        IsFaultTold (graph_view g.now) names.now told.accepted told.lines) }
 {
     if !is_told_fault(fault) {
         return Err(NoMemory);
@@ -194,9 +194,9 @@ pub fn tell_components(
     names: &Names<'_>,
     g: &AnyGraph,
 ) -> Result<ToldLines, NoMemory>
-    requires { length names.now ≡ (graph_in g.now).vertices }
+    requires { length names.now ≡ (graph_view g.now).vertices }
     ensures { IfOk result (λ told.
-        AreComponentsTold (graph_in g.now) names.now told.accepted told.lines) }
+        AreComponentsTold (graph_view g.now) names.now told.accepted told.lines) }
 {
     match components(alloc, g) {
         Ok(parts) => tell_parts(alloc, names, g, &parts),

@@ -2,7 +2,7 @@
 ghost use Rattle.std.specs.Prelude.{◌≡◌, ◌≤◌, ◌^◌, neg_ℤ, unsigned_abs, IfOk, All, map};
 ghost use Rattle.integers.specs.Vectors.{IsWithin};
 ghost use Rattle.periodic_net.specs.Limits.{most_walk};
-ghost use Rattle.quotient_graph.specs.Splits.{split_in};
+ghost use Rattle.quotient_graph.specs.Splits.{split_view};
 ghost use Rattle.walk_lattice.specs.Bounds.{most_normal};
 ghost use Rattle.walk_lattice.specs.Search.{shift_of};
 ghost use Rattle.connected_dim.specs.Flat.{flat_colour, flat_colouring};
@@ -56,7 +56,7 @@ pub fn flat_split<const D: usize>(
     requires c { IsWithin most_normal c }
     requires found { All (λ walk. IsWithin most_walk (shift_of walk)) found.now }
     ensures dimension { IfOk result (λ s. s.dim ≡ dim) }
-    ensures split { IfOk result (λ s. split_in s ≡ flat_colouring c found.now) }
+    ensures split { IfOk result (λ s. split_view s ≡ flat_colouring c found.now) }
 {
     Ok(Split {
         dim,

@@ -1,6 +1,6 @@
 // The colouring of a quotient graph that is not connected.
 ghost use Rattle.std.specs.Prelude.{◌≡◌, ◌↔◌, IfOk, IsTrue, IsSome, None, All, Contains, true, false, map};
-ghost use Rattle.quotient_graph.specs.Splits.{split_in};
+ghost use Rattle.quotient_graph.specs.Splits.{split_view};
 ghost use Rattle.connected_dim.specs.Quotient.{part_colour, part_colouring};
 
 use crate::NoMemory;
@@ -45,7 +45,7 @@ pub fn part_split<const D: usize>(
     found: &[Option<Shift<D>>],
 ) -> Result<Split, NoMemory>
     ensures dimension { IfOk result (λ s. s.dim ≡ dim) }
-    ensures split { IfOk result (λ s. split_in s ≡ part_colouring found.now) }
+    ensures split { IfOk result (λ s. split_view s ≡ part_colouring found.now) }
 {
     Ok(Split {
         dim,

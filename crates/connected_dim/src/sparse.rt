@@ -3,7 +3,7 @@ ghost use Rattle.std.specs.Prelude.{◌≡◌, ◌≤◌, ◌^◌, pos, neg_ℤ,
 ghost use Rattle.std.specs.Int.{int_rem_euclid};
 ghost use Rattle.integers.specs.Vectors.{IsWithin};
 ghost use Rattle.periodic_net.specs.Limits.{most_walk};
-ghost use Rattle.quotient_graph.specs.Splits.{split_in};
+ghost use Rattle.quotient_graph.specs.Splits.{split_view};
 ghost use Rattle.walk_lattice.specs.Search.{shift_of};
 ghost use Rattle.connected_dim.specs.Sparse.{sparse_colour, sparse_colouring};
 
@@ -75,7 +75,7 @@ pub fn sparse_split<const D: usize>(
     requires c { IsWithin (2 ^ 60) d.c }
     requires found { All (λ walk. IsWithin most_walk (shift_of walk)) found.now }
     ensures dimension { IfOk result (λ s. s.dim ≡ dim) }
-    ensures split { IfOk result (λ s. split_in s ≡ sparse_colouring d.q d.c found.now) }
+    ensures split { IfOk result (λ s. split_view s ≡ sparse_colouring d.q d.c found.now) }
 {
     Ok(Split {
         dim,

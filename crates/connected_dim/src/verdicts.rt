@@ -36,7 +36,7 @@ fn closed_lattice<const D: usize>(
     requires volume { IsVolume D gs.now m }
     ensures { AreClosedWalks g.now 1 result }
 {
-    let _ = g.dimension();
+    g.recall();
     lattice(gs, m)
 }
 

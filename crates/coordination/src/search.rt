@@ -8,14 +8,14 @@ use crate::NoMemory;
 use crate::point::Point;
 use crate::reach::follow;
 use indexmap::IndexSet;
-use quotient_graph::ClassNet;
+use quotient_graph::ClassGraph;
 use std::alloc::Global;
 
 /// The points that are reached from a shell and were not found before; where these are more
 /// than `room`, some of them, and more than `room`.
 pub fn next_shell<const D: usize>(
     alloc: Global,
-    net: &ClassNet<D>,
+    net: &ClassGraph<D>,
     shell: &[Point],
     found: &mut IndexSet<Point>,
     room: usize,

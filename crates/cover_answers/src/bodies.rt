@@ -5,7 +5,7 @@ ghost use Rattle.periodic_net.specs.Limits.{IsSmall};
 ghost use Rattle.cgd_read.specs.Blocks.{IsReadBody};
 ghost use Rattle.cgd_read.specs.Graphs.{IsReadGraph};
 ghost use Rattle.cgd_read.specs.Views.{Net, block_view, body_view, raw_view};
-ghost use Rattle.quotient_graph.specs.AnyGraphs.{graph_in};
+ghost use Rattle.quotient_graph.specs.AnyGraphs.{graph_view};
 ghost use Rattle.quotient_graph.specs.Order.{AreRising};
 ghost use Rattle.cover_report.specs.Lines.{covered_text, refused_text};
 ghost use Rattle.net_report.specs.Reports.{IsPrintable, IsPrintableBody};
@@ -37,10 +37,10 @@ fn size_of_graph<const D: usize>(graph: &Graph<D>, repeats: u32) -> Size
 
 // The sizes of a graph, beside the number of its repeated rows.
 fn size_of(graph: &AnyGraph, repeats: u32) -> Size
-    ensures size { result ≡ size_in (graph_in graph.now) repeats }
-    ensures is_graph { IsGraph (graph_in graph.now) }
-    ensures rising { AreRising (graph_in graph.now).edges }
-    ensures small { IsSmall (graph_in graph.now) }
+    ensures size { result ≡ size_in (graph_view graph.now) repeats }
+    ensures is_graph { IsGraph (graph_view graph.now) }
+    ensures rising { AreRising (graph_view graph.now).edges }
+    ensures small { IsSmall (graph_view graph.now) }
 {
     match graph {
         AnyGraph::Flat(graph) => size_of_graph(graph, repeats),
@@ -55,9 +55,9 @@ fn covered_body<'a>(
     cover: &AnyGraph,
 ) -> Result<OutcomeBody<'a>, NoMemory>
     ensures told { IfOk result (λ body. body ≡ OutcomeBody.Lines size true
-        (covered_text (graph_in cover.now).vertices (length (graph_in cover.now).edges))) }
-    ensures rising { AreRising (graph_in cover.now).edges }
-    ensures small { IsSmall (graph_in cover.now) }
+        (covered_text (graph_view cover.now).vertices (length (graph_view cover.now).edges))) }
+    ensures rising { AreRising (graph_view cover.now).edges }
+    ensures small { IsSmall (graph_view cover.now) }
 {
     let own = size_of(cover, 0);
     let mut line = Vec::new(alloc);
@@ -103,7 +103,7 @@ fn cover_net<'a>(
         (Net (raw_view raw.now)) told covers.old.items covers.new.items) }
     ensures printable { IfOk result IsPrintableBody }
 {
-    let _ = cell.dimension(); // that the rows are written so stands in this contract
+    cell.recall(); // that the rows are written so stands in this contract
     let alloc = *covers.allocator();
     let graph = from_raw(alloc, raw)?;
     let size = size_of(&graph, raw.repeats);

@@ -1,7 +1,7 @@
 // The block of a graph, as a text that is read.
 ghost use Rattle.std.specs.Prelude.{◌≡◌, ◌++◌, OnOk, option_copied};
 ghost use Rattle.line_text.specs.Numbers.{list_text};
-ghost use Rattle.quotient_graph.specs.AnyGraphs.{graph_in};
+ghost use Rattle.quotient_graph.specs.AnyGraphs.{graph_view};
 ghost use Rattle.graph_rows.specs.Rows.{edge_numbers};
 ghost use Rattle.cover_report.specs.Blocks.{name_line, edge_line, edge_lines, graph_text};
 
@@ -57,13 +57,13 @@ fn push_edges_of<const D: usize>(text: &mut Vec<u8>, g: &Graph<D>) -> Result<(),
     ensures { OnOk result (text.new.items ≡
         text.old.items ++ edge_lines g.now.dimension g.now.edges) }
 {
-    let _ = g.dimension();
+    g.recall();
     push_edges(text, g.edges())
 }
 
 fn push_any_edges(text: &mut Vec<u8>, g: &AnyGraph) -> Result<(), NoMemory>
     ensures { OnOk result (text.new.items ≡
-        text.old.items ++ edge_lines (graph_in g.now).dimension (graph_in g.now).edges) }
+        text.old.items ++ edge_lines (graph_view g.now).dimension (graph_view g.now).edges) }
 {
     match g {
         AnyGraph::Flat(g) => push_edges_of(text, g),
@@ -74,7 +74,7 @@ fn push_any_edges(text: &mut Vec<u8>, g: &AnyGraph) -> Result<(), NoMemory>
 /// The block of a graph, under a name where it has one.
 pub fn push_graph(text: &mut Vec<u8>, name: Option<&[u8]>, g: &AnyGraph) -> Result<(), NoMemory>
     ensures { OnOk result (text.new.items ≡
-        text.old.items ++ graph_text (option_copied name.entry) (graph_in g.now)) }
+        text.old.items ++ graph_text (option_copied name.entry) (graph_view g.now)) }
 {
     text.extend_from_slice(b"PERIODIC_GRAPH\n")?;
     push_name(text, name)?;

@@ -6,7 +6,7 @@ use Rattle.integers.proofs.vectors.BaseSums.{unit_base}
 use Rattle.periodic_net.specs.Graph.{Graph, Arc, reverse_of, IsArc, IsVertex, Vertex}
 use Rattle.periodic_net.specs.Maps.{Iso}
 use Rattle.periodic_net.proofs.CallerLemmas.{identity_periodic}
-use Rattle.cell_theory.proofs.CallerLemmas.{arc_by_edge, edge_is_arc, reverse_is_arc}
+use Rattle.primitive_theory.proofs.CallerLemmas.{arc_by_edge, edge_is_arc, reverse_is_arc}
 use Rattle.quotient_graph.specs.Stars.{IsInOrder}
 
 -- the order of the edges changes no arc

@@ -10,7 +10,7 @@ use Rattle.periodic_net.specs.Graph.{Graph, Arc, arc, reverse_of, IsArc, IsEdge,
 use Rattle.periodic_net.specs.Maps.{Iso}
 use Rattle.periodic_net.proofs.CallerLemmas.{IsInside, arc_inside, arc_between, arc_turned, one_spelling, origin_vertex, reverse_twice}
 use Rattle.key_theory.proofs.CallerLemmas.{arc_no_point}
-use Rattle.cell_theory.proofs.CallerLemmas.{arc_by_edge, edge_is_arc}
+use Rattle.primitive_theory.proofs.CallerLemmas.{arc_by_edge, edge_is_arc}
 
 -- an edge between vertices, in normal spelling or a loop without a shift
 pub record IsReadEdge (H : Graph) (y : Arc) : Type 0 where

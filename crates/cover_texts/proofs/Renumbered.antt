@@ -8,7 +8,7 @@ use Rattle.integers.specs.Vectors.{Vector, vector, plus, minus, HasDimension}
 use Rattle.periodic_net.specs.Graph.{Graph, Arc, arc, reverse_of, IsArc, IsQuotientVertex, Vertex, vertex, IsVertex}
 use Rattle.periodic_net.specs.Maps.{Iso, IsPeriodic}
 use Rattle.periodic_net.proofs.CallerLemmas.{arc_turned, reverse_twice}
-use Rattle.cell_theory.proofs.CallerLemmas.{arc_by_edge, edge_is_arc, reverse_is_arc}
+use Rattle.primitive_theory.proofs.CallerLemmas.{arc_by_edge, edge_is_arc, reverse_is_arc}
 use Rattle.quotient_graph.specs.Edges.{is_forward, spelled}
 use Rattle.quotient_graph.specs.Edges.{edge_of}
 use Rattle.cover_texts.specs.ReadBack.{new_number}

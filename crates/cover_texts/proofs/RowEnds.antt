@@ -10,7 +10,7 @@ use Rattle.integers.specs.Vectors.{zero_vector, plus}
 use Rattle.periodic_net.specs.Graph.{Graph, Arc, arc, reverse_of, IsArc, IsGraph, IsQuotientVertex, Vertex, vertex, IsVertex, AreJoined}
 use Rattle.periodic_net.specs.Maps.{Iso}
 use Rattle.periodic_net.proofs.CallerLemmas.{arc_inside, arc_turned}
-use Rattle.cell_theory.proofs.CallerLemmas.{arc_by_edge, edge_is_arc}
+use Rattle.primitive_theory.proofs.CallerLemmas.{arc_by_edge, edge_is_arc}
 use Rattle.quotient_graph.specs.Stars.{IsInOrder}
 use Rattle.quotient_graph.specs.Edges.{is_forward, spelled}
 use Rattle.cgd_read.specs.Edges.{with_new, vertices_of, vertex_number, row_edge, edges_of, same_edge}

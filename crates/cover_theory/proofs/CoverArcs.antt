@@ -9,7 +9,7 @@ use Rattle.integers.proofs.vectors.Laws.{vector_equal, opposite_dimension, plus_
 use Rattle.periodic_net.specs.Graph.{Graph, IsGraph, Arc, reverse_of, IsArc}
 use Rattle.periodic_net.proofs.CallerLemmas.{arc_inside, arc_turned, reverse_twice}
 use Rattle.key_theory.proofs.CallerLemmas.{arc_no_point}
-use Rattle.cell_theory.proofs.CallerLemmas.{arc_by_edge, edge_is_arc, reverse_is_arc, spelled}
+use Rattle.primitive_theory.proofs.CallerLemmas.{arc_by_edge, edge_is_arc, reverse_is_arc, spelled}
 use Rattle.sublattice.specs.Remainders.{remainder_with}
 use Rattle.vecdim.specs.Stairs.{Stairs, size_of}
 use Rattle.cover_theory.specs.Covers.{IsLiftTo, IsLift, IsGiven, IsCover}

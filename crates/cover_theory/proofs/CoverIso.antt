@@ -8,7 +8,7 @@ use Rattle.integers.proofs.vectors.BaseSums.{base_sum_minus, base_sum_plus}
 use Rattle.integers.proofs.vectors.Laws.{vector_equal, plus_minus, plus_dimension, minus_dimension, plus_associative, plus_cancel, one_times}
 use Rattle.periodic_net.specs.Graph.{Graph, IsGraph, Vertex, vertex, IsVertex, AreJoined, moved, IsArc, arc}
 use Rattle.periodic_net.proofs.CallerLemmas.{arc_between, arc_inside}
-use Rattle.cell_theory.proofs.CallerLemmas.{PairedIso, paired_iso}
+use Rattle.primitive_theory.proofs.CallerLemmas.{PairedIso, paired_iso}
 use Rattle.vecdim.specs.Stairs.{Stairs, size_of}
 use Rattle.sublattice.specs.Remainders.{remainder_with}
 use Rattle.sublattice.specs.Sublattices.{index_of}

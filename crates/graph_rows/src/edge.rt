@@ -11,8 +11,8 @@ ghost use Rattle.graph_rows.specs.Reading.{IsLastOf};
 
 use crate::GraphSize;
 use crate::form::{between, comes_before, is_normal};
-use quotient_graph::Edge;
 use periodic_net::MOST_SHIFT;
+use quotient_graph::Edge;
 
 // The part of a shift, where it is within the limits.
 fn part(n: i128) -> Option<i32>

@@ -8,16 +8,16 @@ ghost use Rattle.graph_rows.specs.Reading.{HasBadEdge, HasEdges};
 
 use crate::GraphSize;
 use crate::steps::next_edge;
-use quotient_graph::Edge;
 use line_text::Lines;
-use std::alloc::AllocError;
+use quotient_graph::Edge;
+use std::alloc::AllocError as NoMemory;
 
 /// The edges that the size tells, or the number of the first line that is no next edge.
 pub fn read_edges(
     lines: &mut Lines<'_>,
     size: &GraphSize,
     numbers: &mut Vec<i128>,
-) -> Result<Result<Vec<Edge>, u32>, AllocError>
+) -> Result<Result<Vec<Edge>, u32>, NoMemory>
     requires { IsSize size.now }
     ensures edges { (text : List ℕ) (rows : List (List ℕ)) → IsAt text rows lines.old →
         IfOk result (λ read. MatchResult read

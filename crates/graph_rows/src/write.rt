@@ -3,17 +3,17 @@ ghost use Rattle.std.specs.Prelude.{◌≡◌, ◌++◌, ◌∷◌, [], OnOk};
 ghost use Rattle.integers.specs.Vectors.{parts};
 ghost use Rattle.line_text.specs.Numbers.{list_text};
 ghost use Rattle.line_text.specs.Lines.{rows_text};
-ghost use Rattle.quotient_graph.specs.AnyGraphs.{graph_in};
+ghost use Rattle.quotient_graph.specs.AnyGraphs.{graph_view};
 ghost use Rattle.graph_rows.specs.Rows.{size_row, edge_row, edge_lines, graph_lines};
 
 use crate::GraphSize;
 use line_text::{push_number, push_numbers, push_row};
 use quotient_graph::{AnyGraph, Arc, Graph};
-use std::alloc::AllocError;
+use std::alloc::AllocError as NoMemory;
 use vecdim::Triple;
 
 /// The parts of a vector of this dimension, with blanks between them.
-pub fn push_parts(text: &mut Vec<u8>, dim: u8, vector: &Triple) -> Result<(), AllocError>
+pub fn push_parts(text: &mut Vec<u8>, dim: u8, vector: &Triple) -> Result<(), NoMemory>
     ensures { OnOk result (text.new.items ≡ text.old.items ++ list_text (parts dim vector.now)) }
 {
     push_number(text, vector.x)?;
@@ -25,7 +25,7 @@ pub fn push_parts(text: &mut Vec<u8>, dim: u8, vector: &Triple) -> Result<(), Al
 }
 
 #[tactic(auto, unfolding(crate::specs::Rows::size_row))]
-fn push_size(text: &mut Vec<u8>, size: GraphSize) -> Result<(), AllocError>
+fn push_size(text: &mut Vec<u8>, size: GraphSize) -> Result<(), NoMemory>
     ensures { OnOk result (text.new.items ≡ text.old.items ++ rows_text (size_row size ∷ [])) }
 {
     let numbers = [size.dim as i128, size.vertices as i128, size.edges as i128];
@@ -33,7 +33,7 @@ fn push_size(text: &mut Vec<u8>, size: GraphSize) -> Result<(), AllocError>
 }
 
 #[tactic(auto, unfolding(crate::specs::Rows::edge_row))]
-fn push_edge<const D: usize>(text: &mut Vec<u8>, e: &Arc<D>) -> Result<(), AllocError>
+fn push_edge<const D: usize>(text: &mut Vec<u8>, e: &Arc<D>) -> Result<(), NoMemory>
     ensures { OnOk result (text.new.items ≡ text.old.items ++ rows_text (edge_row D e.now ∷ [])) }
 {
     let [u, v] = [e.from as i128, e.to as i128];
@@ -45,7 +45,7 @@ fn push_edge<const D: usize>(text: &mut Vec<u8>, e: &Arc<D>) -> Result<(), Alloc
     }
 }
 
-fn push_edges<const D: usize>(text: &mut Vec<u8>, edges: &[Arc<D>]) -> Result<(), AllocError>
+fn push_edges<const D: usize>(text: &mut Vec<u8>, edges: &[Arc<D>]) -> Result<(), NoMemory>
     ensures { OnOk result (text.new.items ≡
         text.old.items ++ rows_text (edge_lines D edges.now)) }
 {
@@ -55,7 +55,7 @@ fn push_edges<const D: usize>(text: &mut Vec<u8>, edges: &[Arc<D>]) -> Result<()
     Ok(())
 }
 
-fn push_drawn<const D: usize>(text: &mut Vec<u8>, graph: &Graph<D>) -> Result<(), AllocError>
+fn push_drawn<const D: usize>(text: &mut Vec<u8>, graph: &Graph<D>) -> Result<(), NoMemory>
     ensures { OnOk result (text.new.items ≡ text.old.items ++
         rows_text (graph_lines graph.now)) }
 {
@@ -69,9 +69,9 @@ fn push_drawn<const D: usize>(text: &mut Vec<u8>, graph: &Graph<D>) -> Result<()
 }
 
 /// The rows of a graph.
-pub fn push_graph(text: &mut Vec<u8>, graph: &AnyGraph) -> Result<(), AllocError>
+pub fn push_graph(text: &mut Vec<u8>, graph: &AnyGraph) -> Result<(), NoMemory>
     ensures { OnOk result (text.new.items ≡
-        text.old.items ++ rows_text (graph_lines (graph_in graph.now))) }
+        text.old.items ++ rows_text (graph_lines (graph_view graph.now))) }
 {
     match graph {
         AnyGraph::Flat(graph) => push_drawn(text, graph),

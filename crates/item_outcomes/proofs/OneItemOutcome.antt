@@ -12,7 +12,7 @@ use Rattle.keyline_import.specs.Keys.{graph_of_key}
 use Rattle.keyline_import.specs.Rows.{KeyView}
 use Rattle.quotient_graph.specs.Order.{arc_numbers}
 use Rattle.quotient_graph.specs.Stars.{IsInOrder}
-use Rattle.least_key.specs.AnyNets.{net_in}
+use Rattle.least_key.specs.AnyNets.{net_view}
 use Rattle.least_key.specs.Truths.{IsTrueOf}
 use Rattle.least_key.specs.declared.net.Net.{Net as AnyNet}
 use Rattle.least_key.specs.declared.refusal.Refusal.{Refusal}
@@ -61,15 +61,15 @@ module _ (key : KeyView) where
       record { text = λ i. size_text (size i) ++ refused_text (names i) (refusal i); accepted = refl }
 
   -- a net with a key is not refused
-  keyed_not_refused : (s t : Size) (n : AnyNet) (ns : List (List ℕ)) (r : Refusal) → IsKeyedAs key s (net_in n) → ¬ IsRefusedAs key t ns r
+  keyed_not_refused : (s t : Size) (n : AnyNet) (ns : List (List ℕ)) (r : Refusal) → IsKeyedAs key s (net_view n) → ¬ IsRefusedAs key t ns r
   keyed_not_refused s t n ns r a b =
       let graph = a.net_is ∙ same_graph s t a.graph b.graph a.read b.read in
-      b.known (certain_is_not_refused (net_in n).placed.graph r a.keyed.is_graph (keyed_is_certain (net_in n) a.keyed) (subst (λ G. IsTrueOf G r) (sym graph) b.is_true))
+      b.known (certain_is_not_refused (net_view n).placed.graph r a.keyed.is_graph (keyed_is_certain (net_view n) a.keyed) (subst (λ G. IsTrueOf G r) (sym graph) b.is_true))
 
-  one_keyed : (s t : Size) (m n : AnyNet) → IsKeyedAs key s (net_in m) → IsKeyedAs key t (net_in n) → SpeakAlike (Keyed s m) (Keyed t n)
+  one_keyed : (s t : Size) (m n : AnyNet) → IsKeyedAs key s (net_view m) → IsKeyedAs key t (net_view n) → SpeakAlike (Keyed s m) (Keyed t n)
   one_keyed s t m n a b =
       let size = a.read.size_is ∙ sym b.read.size_is in
-      let net = one_net (net_in m) (net_in n) a.keyed b.keyed (a.net_is ∙ same_graph s t a.graph b.graph a.read b.read ∙ sym b.net_is) in
+      let net = one_net (net_view m) (net_view n) a.keyed b.keyed (a.net_is ∙ same_graph s t a.graph b.graph a.read b.read ∙ sym b.net_is) in
       record { text = λ i. size_text (size i) ++ key_text (net.key i); accepted = refl }
 
 -- what is told of an item is one

@@ -7,7 +7,7 @@ use Rattle.keyline_import.specs.Keys.{graph_of_key}
 use Rattle.keyline_import.specs.Rows.{KeyView}
 use Rattle.keyline_import.specs.declared.item.ItemFault.{ItemFault}
 use Rattle.quotient_graph.specs.Stars.{IsInOrder}
-use Rattle.least_key.specs.AnyNets.{net_in}
+use Rattle.least_key.specs.AnyNets.{net_view}
 use Rattle.least_key.specs.KeyedNets.{IsKeyed, KeyedNet}
 use Rattle.least_key.specs.Truths.{IsTrueOf}
 use Rattle.least_key.specs.declared.refusal.Refusal.{Refusal}
@@ -54,7 +54,7 @@ pub record IsFaultyAs (fault : ItemFault) (line number : ℕ) (kind : List ℕ) 
 
 -- what is told of an item
 abbrev pub IsItemBodyOf : BodyView → OutcomeBody → Type 0
-IsItemBodyOf (Net key) (Keyed size net) = IsKeyedAs key size (net_in net)
+IsItemBodyOf (Net key) (Keyed size net) = IsKeyedAs key size (net_view net)
 IsItemBodyOf (Net key) (Refused size names refusal) = IsRefusedAs key size names refusal
 IsItemBodyOf (FaultyView fault) (Faulty line number kind) = IsFaultyAs fault line number kind.now
 IsItemBodyOf body told = ⊥

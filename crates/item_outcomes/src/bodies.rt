@@ -3,7 +3,7 @@ ghost use Rattle.std.specs.Prelude.{◌≡◌, ◌≢◌, [], ℕ, IfOk};
 ghost use Rattle.periodic_net.specs.Graph.{IsGraph};
 ghost use Rattle.keyline_import.specs.Items.{BodyView};
 ghost use Rattle.keyline_import.specs.Views.{IsBodyOf};
-ghost use Rattle.quotient_graph.specs.AnyGraphs.{graph_in};
+ghost use Rattle.quotient_graph.specs.AnyGraphs.{graph_view};
 ghost use Rattle.net_report.specs.Reports.{IsPrintableBody};
 ghost use Rattle.item_outcomes.specs.Outcomes.{IsItemBodyOf, sizes_in};
 
@@ -27,8 +27,8 @@ fn size_of_graph<const D: usize>(graph: &Graph<D>, repeats: u32) -> Size
 }
 
 fn size_of(graph: &AnyGraph, repeats: u32) -> Size
-    ensures size { result ≡ sizes_in (graph_in graph.now) repeats }
-    ensures is_graph { IsGraph (graph_in graph.now) }
+    ensures size { result ≡ sizes_in (graph_view graph.now) repeats }
+    ensures is_graph { IsGraph (graph_view graph.now) }
 {
     match graph {
         AnyGraph::Flat(graph) => size_of_graph(graph, repeats),

@@ -14,9 +14,9 @@ ghost use Rattle.keyline_import.specs.Views.{key_view, row_of};
 use crate::NoMemory;
 use crate::values::number_of;
 use cgd_lex::{Lexer, next_on_line};
-use quotient_graph::{Edge, normal_edge};
 use indexmap::IndexSet;
 use periodic_net::{MOST_EDGES, MOST_SHIFT, MOST_VERTICES};
+use quotient_graph::{Edge, normal_edge};
 use std::alloc::Global;
 
 /// What the rows of a key line make: its edges once each, in order of appearance.

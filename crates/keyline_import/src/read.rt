@@ -3,7 +3,7 @@ ghost use Rattle.std.specs.Prelude.{◌≡◌, ◌∷◌, ◌≤◌, ◌<◌, �
 ghost use Rattle.std.specs.Option.{option_copied, option_map};
 ghost use Rattle.cgd_lex.specs.Limits.{longest_text};
 ghost use Rattle.cgd_lex.specs.Lines.{rest_of_line, after_line};
-ghost use Rattle.quotient_graph.specs.AnyGraphs.{graph_in};
+ghost use Rattle.quotient_graph.specs.AnyGraphs.{graph_view};
 ghost use Rattle.quotient_graph.specs.Stars.{IsInOrder};
 ghost use Rattle.keyline_import.specs.Lines.{LineView, lines_in, is_end, begins_item};
 ghost use Rattle.keyline_import.specs.Keys.{graph_of_key, IsKeyWithin};
@@ -52,7 +52,7 @@ fn pass_from(lexer: &mut Lexer<'_>, kind: LineKind)
 // The graph of a key line.
 fn graph_of(alloc: Global, key: &KeyRows) -> Result<AnyGraph, NoMemory>
     requires { IsKeyWithin (key_view key.now) }
-    ensures { IfOk result (λ g. IsInOrder (graph_of_key (key_view key.now)) (graph_in g)) }
+    ensures { IfOk result (λ g. IsInOrder (graph_of_key (key_view key.now)) (graph_view g)) }
 {
     from_unsorted(alloc, key.dim, key.vertices, key.edges.as_slice())
 }

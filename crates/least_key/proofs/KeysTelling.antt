@@ -8,10 +8,10 @@ use Rattle.periodic_net.specs.Graph.{Graph}
 use Rattle.periodic_net.specs.Maps.{Iso}
 use Rattle.key_theory.specs.Key.{IsKeyOf}
 use Rattle.key_theory.proofs.CallerLemmas.{keys_decide}
-use Rattle.quotient_graph.specs.AnyGraphs.{graph_in}
-use Rattle.quotient_graph.specs.declared.raw.AnyGraph.{AnyGraph}
+use Rattle.quotient_graph.specs.AnyGraphs.{graph_view}
+use Rattle.quotient_graph.specs.declared.any_graph.AnyGraph.{AnyGraph}
 use Rattle.least_key.specs.Answers.{IsAnswerTo, AreAnswers, KeysTell}
-use Rattle.least_key.specs.AnyNets.{net_in}
+use Rattle.least_key.specs.AnyNets.{net_view}
 use Rattle.least_key.specs.KeyedNets.{KeyedNet, IsKeyed}
 use Rattle.least_key.specs.declared.net.Net.{Net}
 use Rattle.least_key.proofs.Truth.{shape_of}
@@ -53,5 +53,5 @@ pub keys_tell : (graphs : List AnyGraph) (answers : List (Result Net Refusal)) �
 keys_tell graphs answers a i j g h m n k l =
     let p = answer_at graphs answers a i g (Ok m) k.inside k.graph k.answer in
     let q = answer_at graphs answers a j h (Ok n) l.inside l.graph l.answer in
-    subst (λ (H : Graph). ((net_in m).key ≡ (net_in n).key) ↔ Iso (graph_in g) H) q.0
-    (subst (λ (G : Graph). ((net_in m).key ≡ (net_in n).key) ↔ Iso G (net_in n).placed.graph) p.0 (nets_decide (net_in m) (net_in n) p.1 q.1))
+    subst (λ (H : Graph). ((net_view m).key ≡ (net_view n).key) ↔ Iso (graph_view g) H) q.0
+    (subst (λ (G : Graph). ((net_view m).key ≡ (net_view n).key) ↔ Iso G (net_view n).placed.graph) p.0 (nets_decide (net_view m) (net_view n) p.1 q.1))

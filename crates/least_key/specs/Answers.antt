@@ -2,9 +2,9 @@
 use Rattle.std.specs.Prelude.{◌≡◌, ◌≢◌, ◌↔◌, ℕ, ◌<◌, List, length, slice_index_or, Result, Ok, Err}
 use Rattle.std.specs.List.{AllZip}
 use Rattle.periodic_net.specs.Maps.{Iso}
-use Rattle.quotient_graph.specs.AnyGraphs.{graph_in}
-use Rattle.quotient_graph.specs.declared.raw.AnyGraph.{AnyGraph}
-use Rattle.least_key.specs.AnyNets.{net_in}
+use Rattle.quotient_graph.specs.AnyGraphs.{graph_view}
+use Rattle.quotient_graph.specs.declared.any_graph.AnyGraph.{AnyGraph}
+use Rattle.least_key.specs.AnyNets.{net_view}
 use Rattle.least_key.specs.KeyedNets.{IsKeyed}
 use Rattle.least_key.specs.Truths.{IsTrueOf}
 use Rattle.least_key.specs.declared.net.Net.{Net}
@@ -13,8 +13,8 @@ use Rattle.least_key.specs.declared.refusal.Refusal.TheVariants.{NoMemory}
 
 -- the net of the graph with its key, or a refusal that is true of the graph
 abbrev pub IsAnswerTo : AnyGraph → Result Net Refusal → Type 0
-IsAnswerTo g (Ok net) = ((net_in net).placed.graph ≡ graph_in g) × IsKeyed (net_in net)
-IsAnswerTo g (Err refusal) = IsTrueOf (graph_in g) refusal × (refusal ≢ NoMemory)
+IsAnswerTo g (Ok net) = ((net_view net).placed.graph ≡ graph_view g) × IsKeyed (net_view net)
+IsAnswerTo g (Err refusal) = IsTrueOf (graph_view g) refusal × (refusal ≢ NoMemory)
 
 -- each graph has its answer, at its place
 abbrev pub AreAnswers : List AnyGraph → List (Result Net Refusal) → Type 0
@@ -29,4 +29,4 @@ pub record IsAcceptedAt (graphs : List AnyGraph) (answers : List (Result Net Ref
 -- the keys of two accepted graphs are equal exactly where their nets are isomorphic
 abbrev pub KeysTell : List AnyGraph → List (Result Net Refusal) → Type 0
 KeysTell graphs answers = (i j : ℕ) (g h : AnyGraph) (m n : Net) → IsAcceptedAt graphs answers i g m → IsAcceptedAt graphs answers j h n
-    → ((net_in m).key ≡ (net_in n).key) ↔ Iso (graph_in g) (graph_in h)
+    → ((net_view m).key ≡ (net_view n).key) ↔ Iso (graph_view g) (graph_view h)

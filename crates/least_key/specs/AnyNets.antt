@@ -4,6 +4,6 @@ use Rattle.least_key.specs.declared.net.Net.{Net}
 use Rattle.least_key.specs.declared.net.Net.TheVariants.{Flat, Space}
 
 -- the net
-abbrev pub net_in : Net → KeyedNet
-net_in (Flat n) = n
-net_in (Space n) = n
+abbrev pub net_view : Net → KeyedNet
+net_view (Flat n) = n
+net_view (Space n) = n

@@ -4,6 +4,6 @@ use Rattle.least_key.specs.declared.path.AnyPlaced.{AnyPlaced}
 use Rattle.least_key.specs.declared.path.AnyPlaced.TheVariants.{Flat, Space}
 
 -- the graph and the placement
-abbrev pub placed_in : AnyPlaced → PlacedNet
-placed_in (Flat p) = p
-placed_in (Space p) = p
+abbrev pub placed_view : AnyPlaced → PlacedNet
+placed_view (Flat p) = p
+placed_view (Space p) = p

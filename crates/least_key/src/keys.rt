@@ -5,21 +5,21 @@ ghost use Rattle.least_key.specs.Answers.{AreAnswers, IsAnswerTo, KeysTell};
 use crate::keying::identify;
 use crate::{Net, Refusal};
 use quotient_graph::AnyGraph;
-use std::alloc::{AllocError, Global};
+use std::alloc::{AllocError as NoMemory, Global};
 
 // What `identify` answers, want of memory aside.
-fn answer_to(alloc: Global, graph: &AnyGraph) -> Result<Result<Net, Refusal>, AllocError>
+fn answer_to(alloc: Global, graph: &AnyGraph) -> Result<Result<Net, Refusal>, NoMemory>
     ensures { IfOk result (IsAnswerTo graph.now) }
 {
     match identify(alloc, graph.copy()?) {
         Ok(net) => Ok(Ok(net)),
-        Err(Refusal::NoMemory) => Err(AllocError),
+        Err(Refusal::NoMemory) => Err(NoMemory),
         Err(refusal) => Ok(Err(refusal)),
     }
 }
 
 // What `identify` answers for each graph.
-fn answers_to(alloc: Global, graphs: &[AnyGraph]) -> Result<Vec<Result<Net, Refusal>>, AllocError>
+fn answers_to(alloc: Global, graphs: &[AnyGraph]) -> Result<Vec<Result<Net, Refusal>>, NoMemory>
     ensures { IfOk result (λ answers. AreAnswers graphs.now answers.items) }
 {
     let mut answers = Vec::with_capacity(alloc, graphs.len())?;
@@ -32,7 +32,7 @@ fn answers_to(alloc: Global, graphs: &[AnyGraph]) -> Result<Vec<Result<Net, Refu
 #[tactic(auto, using(crate::proofs::KeysTelling::keys_tell))]
 /// What `identify` answers for each graph; want of memory for one of them is want of memory for
 /// all. The keys of two accepted graphs are equal exactly where their nets are isomorphic.
-pub fn keys_of(alloc: Global, graphs: &[AnyGraph]) -> Result<Vec<Result<Net, Refusal>>, AllocError>
+pub fn keys_of(alloc: Global, graphs: &[AnyGraph]) -> Result<Vec<Result<Net, Refusal>>, NoMemory>
     ensures answers { IfOk result (λ answers. AreAnswers graphs.now answers.items) }
     ensures keys { IfOk result (λ answers. KeysTell graphs.now answers.items) }
 {

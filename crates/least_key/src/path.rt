@@ -1,8 +1,8 @@
 // The steps from a graph to its placement, in either dimension.
 ghost use Rattle.std.specs.Prelude.{◌≡◌, IfOk, IfErr, OnOk};
 ghost use Rattle.periodic_net.specs.Graph.{IsConnected};
-ghost use Rattle.quotient_graph.specs.AnyGraphs.{graph_in};
-ghost use Rattle.least_key.specs.AnyPlacements.{placed_in};
+ghost use Rattle.quotient_graph.specs.AnyGraphs.{graph_view};
+ghost use Rattle.least_key.specs.AnyPlacements.{placed_view};
 ghost use Rattle.least_key.specs.Placings.{IsPlacedAs};
 ghost use Rattle.least_key.specs.Truths.{IsTrueOf, IsOfConnecting, IsOfPlacing};
 
@@ -55,8 +55,8 @@ fn check_graph<const D: usize>(alloc: Global, graph: Graph<D>) -> Result<(), Ref
 
 /// Nothing where the net is connected, and else why it is refused.
 pub fn check_any(alloc: Global, graph: AnyGraph) -> Result<(), Refusal>
-    ensures connected { OnOk result (IsConnected (graph_in graph)) }
-    ensures refused { IfErr result (IsTrueOf (graph_in graph)) }
+    ensures connected { OnOk result (IsConnected (graph_view graph)) }
+    ensures refused { IfErr result (IsTrueOf (graph_view graph)) }
     ensures early { IfErr result IsOfConnecting }
 {
     match graph {
@@ -67,8 +67,8 @@ pub fn check_any(alloc: Global, graph: AnyGraph) -> Result<(), Refusal>
 
 /// The placement of the net, or why it is refused.
 pub fn place_any(alloc: Global, graph: AnyGraph) -> Result<AnyPlaced, Refusal>
-    ensures placed { IfOk result (λ p. IsPlacedAs (graph_in graph) (placed_in p)) }
-    ensures refused { IfErr result (IsTrueOf (graph_in graph)) }
+    ensures placed { IfOk result (λ p. IsPlacedAs (graph_view graph) (placed_view p)) }
+    ensures refused { IfErr result (IsTrueOf (graph_view graph)) }
     ensures early { IfErr result IsOfPlacing }
 {
     match graph {

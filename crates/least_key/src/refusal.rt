@@ -5,7 +5,7 @@ use barycentre::{PlaceFault, WidePlacement};
 use connected_dim::Unconnected;
 use edge_frames::KeyWork;
 use quotient_graph::Split;
-use std::alloc::AllocError;
+use std::alloc::AllocError as NoMemory;
 use vecdim::Triple;
 
 /// Why a graph is refused, by the first that applies. The numbers are those of the report.
@@ -85,12 +85,12 @@ impl From<KeyWork> for Refusal {
     }
 }
 
-impl From<AllocError> for Refusal {
+impl From<NoMemory> for Refusal {
     ghost use Rattle.least_key.specs.Causes.{no_memory};
 
     ghost from_gives = { λ fault refusal. refusal ≡ no_memory };
 
-    fn from(_fault: AllocError) -> Refusal {
+    fn from(_fault: NoMemory) -> Refusal {
         Refusal::NoMemory
     }
 }

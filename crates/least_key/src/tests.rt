@@ -12,7 +12,7 @@ use std::test::Fail;
 const HCB: &str = "PERIODIC_GRAPH\nNAME hcb\nEDGES\n1 2 0 0\n1 2 1 0\n1 2 0 1\nEND\n";
 
 // The graph of the first net of a text.
-fn graph_in(alloc: Global, text: &[u8]) -> Option<AnyGraph>
+fn graph_view(alloc: Global, text: &[u8]) -> Option<AnyGraph>
     requires { length text.now ≤ 16777216 }
 {
     let Ok(found) = blocks(alloc, text) else {
@@ -39,7 +39,7 @@ fn keys_of_graphs(rt: HostRuntime) -> Result<(), Fail> {
     let mut graphs = Vec::new(rt.alloc());
     for text in &NETS {
         assert!(rt; text.len() <= 16_777_216);
-        graphs.push(graph_in(rt.alloc(), text.as_bytes()).ok_or("graph")?)?;
+        graphs.push(graph_view(rt.alloc(), text.as_bytes()).ok_or("graph")?)?;
     }
     let answers = keys_of(rt.alloc(), &graphs)?;
     assert_eq!(rt; answers.len(), 4);

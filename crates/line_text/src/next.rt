@@ -5,12 +5,12 @@ ghost use Rattle.line_text.specs.Lines.{HasNo, IsAt};
 
 use crate::lines::Lines;
 use crate::rows::{inner, read_row};
-use std::alloc::AllocError;
+use std::alloc::AllocError as NoMemory;
 
 impl<'a> Lines<'a> {
     /// Whether the next line is a word and then numbers; these take the place of those that were
     /// held.
-    pub fn next_row(&mut self, word: &[u8], numbers: &mut Vec<i128>) -> Result<bool, AllocError>
+    pub fn next_row(&mut self, word: &[u8], numbers: &mut Vec<i128>) -> Result<bool, NoMemory>
         requires { HasNo 10 word.now }
         ensures place { (text : List ℕ) (rows : List (List ℕ)) → IsAt text rows self.old →
             result ≡ Ok true →

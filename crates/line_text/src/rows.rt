@@ -4,11 +4,11 @@ ghost use Rattle.line_text.specs.Numbers.{IsWide, marked_text, row_text};
 
 use crate::cuts::cut;
 use crate::numbers::read_number;
-use std::alloc::AllocError;
+use std::alloc::AllocError as NoMemory;
 
 /// Whether the text is numbers, each after one mark; they take the place of those that were held.
 /// The mark is a byte below the minus, so that no number has it.
-pub fn read_numbers(text: &[u8], mark: u8, numbers: &mut Vec<i128>) -> Result<bool, AllocError>
+pub fn read_numbers(text: &[u8], mark: u8, numbers: &mut Vec<i128>) -> Result<bool, NoMemory>
     requires { mark < 45 }
     ensures spelling { result ≡ Ok true → text.now ≡ marked_text mark numbers.new.items }
     ensures wide { result ≡ Ok true → All IsWide numbers.new.items }
@@ -39,7 +39,7 @@ fn after_word<'a>(line: &'a [u8], word: &[u8]) -> Option<&'a [u8]>
 }
 
 /// Whether the line is a word and then numbers; these take the place of those that were held.
-pub fn read_row(line: &[u8], word: &[u8], numbers: &mut Vec<i128>) -> Result<bool, AllocError>
+pub fn read_row(line: &[u8], word: &[u8], numbers: &mut Vec<i128>) -> Result<bool, NoMemory>
     ensures spelling { result ≡ Ok true → line.now ≡ row_text word.now numbers.new.items }
     ensures wide { result ≡ Ok true → All IsWide numbers.new.items }
     ensures every { IfOk result (λ read. (zs : List ℤ) → All IsWide zs →

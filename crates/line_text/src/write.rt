@@ -5,10 +5,10 @@ ghost use Rattle.line_text.specs.Numbers.{field_text, list_text, numbers_text, r
 ghost use Rattle.line_text.specs.Lines.{rows_text};
 
 use itoa::Buffer;
-use std::alloc::AllocError;
+use std::alloc::AllocError as NoMemory;
 
 /// A number in decimal. Digits of one that fits 64 bits take no wide divisions.
-pub fn push_number(text: &mut Vec<u8>, n: i128) -> Result<(), AllocError>
+pub fn push_number(text: &mut Vec<u8>, n: i128) -> Result<(), NoMemory>
     ensures { OnOk result (text.new.items ≡ text.old.items ++ signed_decimal n) }
 {
     let mut buffer = Buffer::new();
@@ -19,7 +19,7 @@ pub fn push_number(text: &mut Vec<u8>, n: i128) -> Result<(), AllocError>
 }
 
 /// A number without a sign, in decimal.
-pub fn push_count(text: &mut Vec<u8>, n: u64) -> Result<(), AllocError>
+pub fn push_count(text: &mut Vec<u8>, n: u64) -> Result<(), NoMemory>
     ensures { OnOk result (text.new.items ≡ text.old.items ++ decimal n) }
 {
     let mut buffer = Buffer::new();
@@ -27,7 +27,7 @@ pub fn push_count(text: &mut Vec<u8>, n: u64) -> Result<(), AllocError>
 }
 
 /// A number after its label.
-pub fn push_field(text: &mut Vec<u8>, label: &[u8], n: u64) -> Result<(), AllocError>
+pub fn push_field(text: &mut Vec<u8>, label: &[u8], n: u64) -> Result<(), NoMemory>
     ensures { OnOk result (text.new.items ≡ text.old.items ++ field_text label.now n) }
 {
     text.extend_from_slice(label)?;
@@ -35,7 +35,7 @@ pub fn push_field(text: &mut Vec<u8>, label: &[u8], n: u64) -> Result<(), AllocE
 }
 
 /// Each number after a blank.
-pub fn push_numbers(text: &mut Vec<u8>, numbers: &[i128]) -> Result<(), AllocError>
+pub fn push_numbers(text: &mut Vec<u8>, numbers: &[i128]) -> Result<(), NoMemory>
     ensures { OnOk result (text.new.items ≡ text.old.items ++ numbers_text numbers.now) }
 {
     let mut left = numbers;
@@ -48,7 +48,7 @@ pub fn push_numbers(text: &mut Vec<u8>, numbers: &[i128]) -> Result<(), AllocErr
 }
 
 /// Numbers with blanks between them.
-pub fn push_wide_list(text: &mut Vec<u8>, numbers: &[i128]) -> Result<(), AllocError>
+pub fn push_wide_list(text: &mut Vec<u8>, numbers: &[i128]) -> Result<(), NoMemory>
     ensures { OnOk result (text.new.items ≡ text.old.items ++ list_text numbers.now) }
 {
     match numbers {
@@ -61,7 +61,7 @@ pub fn push_wide_list(text: &mut Vec<u8>, numbers: &[i128]) -> Result<(), AllocE
 }
 
 /// A word, and each number after a blank, as a line.
-pub fn push_row(text: &mut Vec<u8>, word: &[u8], numbers: &[i128]) -> Result<(), AllocError>
+pub fn push_row(text: &mut Vec<u8>, word: &[u8], numbers: &[i128]) -> Result<(), NoMemory>
     ensures { OnOk result
         (text.new.items ≡ text.old.items ++ rows_text (row_text word.now numbers.now ∷ [])) }
 {
@@ -76,7 +76,7 @@ pub fn push_inner(
     first: &[u8],
     inner: &[u8],
     last: &[u8],
-) -> Result<(), AllocError>
+) -> Result<(), NoMemory>
     ensures { OnOk result (text.new.items ≡
         text.old.items ++ rows_text ((first.now ++ (inner.now ++ last.now)) ∷ [])) }
 {

@@ -6,10 +6,10 @@ ghost use Rattle.map_answers.specs.Due.{IsDueToVerify, bad_line_text};
 use crate::checking::{MapsFault, check_maps};
 use line_text::push_number;
 use statuses::{Answer, Status, ending_of};
-use std::alloc::{AllocError, Global};
+use std::alloc::{AllocError as NoMemory, Global};
 
 // The text of a first bad line.
-fn bad_line_text(alloc: Global, line: u32) -> Result<Vec<u8>, AllocError>
+fn bad_line_text(alloc: Global, line: u32) -> Result<Vec<u8>, NoMemory>
     ensures { IfOk result (λ text. text.items ≡ bad_line_text line) }
 {
     let mut text = Vec::new(alloc);
@@ -20,7 +20,7 @@ fn bad_line_text(alloc: Global, line: u32) -> Result<Vec<u8>, AllocError>
 }
 
 /// What is due to `verify`, of the bytes of its file.
-pub fn verify_answer(alloc: Global, file: &[u8]) -> Result<Answer, AllocError>
+pub fn verify_answer(alloc: Global, file: &[u8]) -> Result<Answer, NoMemory>
     requires { length file.now ≤ most_bytes }
     ensures { IfOk result (λ a. IsDueToVerify file.now a.status a.text.items) }
 {
@@ -33,6 +33,6 @@ pub fn verify_answer(alloc: Global, file: &[u8]) -> Result<Answer, AllocError>
             status: Status::BadMap,
             text: bad_line_text(alloc, line)?,
         }),
-        Err(MapsFault::NoMemory) => Err(AllocError),
+        Err(MapsFault::NoMemory) => Err(NoMemory),
     }
 }

@@ -1,6 +1,6 @@
 // What is found of one item.
 ghost use Rattle.std.specs.Prelude.{◌≡◌, ◌++◌, ◌∷◌, [], true, IfOk, OnOk};
-ghost use Rattle.quotient_graph.specs.AnyGraphs.{graph_in};
+ghost use Rattle.quotient_graph.specs.AnyGraphs.{graph_view};
 ghost use Rattle.line_text.specs.Lines.{rows_text};
 ghost use Rattle.map_text.specs.Results.{verdict_row};
 ghost use Rattle.map_check.specs.Conditions.{SuitsGraphs};
@@ -10,10 +10,10 @@ ghost use Rattle.map_answers.specs.Results.{HasMapResult, HasResult};
 use map_check::{MapFault, PeriodicMap, Verdict, verify};
 use map_text::{Item, push_unproved, push_verdict, size_of};
 use quotient_graph::AnyGraph;
-use std::alloc::{AllocError, Global};
+use std::alloc::{AllocError as NoMemory, Global};
 
 // Puts the line of graph k last, the map to which has a fault.
-fn push_no(text: &mut Vec<u8>, k: u32, dim: u8, fault: MapFault) -> Result<bool, AllocError>
+fn push_no(text: &mut Vec<u8>, k: u32, dim: u8, fault: MapFault) -> Result<bool, NoMemory>
     ensures line { OnOk result (text.new.items ≡
         text.old.items ++ rows_text (verdict_row k dim (Verdict.No fault) ∷ [])) }
     ensures refused { IfOk result (λ refused. refused ≡ true) }
@@ -30,10 +30,10 @@ fn push_map_result(
     first: &AnyGraph,
     second: &AnyGraph,
     map: &PeriodicMap,
-) -> Result<bool, AllocError>
-    requires { SuitsGraphs (graph_in first.now) (graph_in second.now) map.now.m map.now.images
+) -> Result<bool, NoMemory>
+    requires { SuitsGraphs (graph_view first.now) (graph_view second.now) map.now.m map.now.images
         map.now.base }
-    ensures { IfOk result (HasMapResult (graph_in first.now) (graph_in second.now) map.now k
+    ensures { IfOk result (HasMapResult (graph_view first.now) (graph_view second.now) map.now k
         text.old.items text.new.items) }
 {
     match verify(alloc, first, second, map)? {
@@ -52,9 +52,9 @@ pub fn push_result(
     k: u32,
     first: &AnyGraph,
     item: &Item,
-) -> Result<bool, AllocError>
-    requires { IsFormedItem (graph_in first.now) (item_view item.now) }
-    ensures { IfOk result (HasResult (graph_in first.now) k (item_view item.now)
+) -> Result<bool, NoMemory>
+    requires { IsFormedItem (graph_view first.now) (item_view item.now) }
+    ensures { IfOk result (HasResult (graph_view first.now) k (item_view item.now)
         text.old.items text.new.items) }
 {
     match item {

@@ -1,7 +1,7 @@
 // The check of a map.
 ghost use Rattle.std.specs.Prelude.{◌≡◌, ◌≢◌, ◌≤◌, ◌*◌, ◌^◌, IfOk};
 ghost use Rattle.periodic_net.specs.Limits.{most_vertices};
-ghost use Rattle.quotient_graph.specs.AnyGraphs.{graph_in};
+ghost use Rattle.quotient_graph.specs.AnyGraphs.{graph_view};
 ghost use Rattle.sublattice.specs.Sublattices.{base_of, index_of};
 ghost use Rattle.map_theory.specs.Layouts.{table_for};
 ghost use Rattle.map_theory.specs.Tables.{CountsAgree, DegreesAgree, HasNoDouble};
@@ -62,7 +62,8 @@ fn verdict_on_arcs<const D: usize>(g: &Graph<D>, h: &Graph<D>, map: &PeriodicMap
         (table_for g.now map.now.m map.now.images map.now.base) }
     ensures { IsTold g.now h.now map.now.m map.now.images map.now.base result }
 {
-    let _ = (g.dimension(), h.dimension());
+    g.recall();
+    h.recall();
     match first_lost(g, h, map) {
         Some(lost) => Verdict::No(lost_arc(&lost.at, &lost.arc)),
         None => Verdict::Yes,
@@ -78,7 +79,8 @@ fn verdict_on_degrees<const D: usize>(g: &Graph<D>, h: &Graph<D>, map: &Periodic
         (table_for g.now map.now.m map.now.images map.now.base) }
     ensures { IsTold g.now h.now map.now.m map.now.images map.now.base result }
 {
-    let _ = (g.dimension(), h.dimension());
+    g.recall();
+    h.recall();
     match first_other_degree(g, h, map) {
         Some(i) => Verdict::No(other_degree(&vertex_of::<D>(map.m, i))),
         None => verdict_on_arcs(g, h, map),
@@ -110,7 +112,8 @@ fn verdict_on_images<const D: usize>(
     requires index { index ≡ index_of D (base_of map.now.base) }
     ensures { IfOk result (IsTold g.now h.now map.now.m map.now.images map.now.base) }
 {
-    let _ = (g.dimension(), h.dimension());
+    g.recall();
+    h.recall();
     match first_copy(
         alloc,
         h.vertices(),
@@ -133,7 +136,8 @@ fn verdict_on_counts<const D: usize>(
     requires map { SuitsGraphs g.now h.now map.now.m map.now.images map.now.base }
     ensures { IfOk result (IsTold g.now h.now map.now.m map.now.images map.now.base) }
 {
-    let _ = (g.dimension(), h.dimension());
+    g.recall();
+    h.recall();
     let rows = vectors(alloc, map.base.as_slice())?;
     let index = shift_index::<D>(&rows);
     let product = times(h.vertices(), index);
@@ -154,7 +158,8 @@ fn verify_same<const D: usize>(
     requires map { SuitsGraphs g.now h.now map.now.m map.now.images map.now.base }
     ensures { IfOk result (IsVerified g.now h.now map.now.m map.now.images map.now.base) }
 {
-    let _ = (g.dimension(), h.dimension());
+    g.recall();
+    h.recall();
     verdict_on_counts(alloc, g, h, map)
 }
 
@@ -168,7 +173,9 @@ fn verify_apart<const D: usize, const E: usize>(
     requires apart { D ≢ E }
     ensures { IsVerified g.now h.now map.now.m map.now.images map.now.base result }
 {
-    let _ = (g.dimension(), h.dimension(), map.m);
+    g.recall();
+    h.recall();
+    let _ = map.m;
     Verdict::No(MapFault::Dimension)
 }
 
@@ -179,8 +186,8 @@ pub fn verify(
     h: &AnyGraph,
     map: &PeriodicMap,
 ) -> Result<Verdict, NoMemory>
-    requires { SuitsGraphs (graph_in g.now) (graph_in h.now) map.now.m map.now.images map.now.base }
-    ensures { IfOk result (IsVerified (graph_in g.now) (graph_in h.now)
+    requires { SuitsGraphs (graph_view g.now) (graph_view h.now) map.now.m map.now.images map.now.base }
+    ensures { IfOk result (IsVerified (graph_view g.now) (graph_view h.now)
         map.now.m map.now.images map.now.base) }
 {
     match (g, h) {

@@ -2,7 +2,7 @@
 ghost use Rattle.std.specs.Prelude.{◌≡◌, ◌⊎◌, ◌↔◌, ◌≤◌, ◌*◌, ◌^◌, All, IsTrue, length};
 ghost use Rattle.integers.specs.Vectors.{HasDimension};
 ghost use Rattle.periodic_net.specs.Limits.{most_vertices};
-ghost use Rattle.quotient_graph.specs.AnyGraphs.{graph_in};
+ghost use Rattle.quotient_graph.specs.AnyGraphs.{graph_view};
 ghost use Rattle.map_theory.specs.Layouts.{box_size};
 ghost use Rattle.map_check.specs.Conditions.{most_images, most_period, HasCounts, IsImage, IsShift, SuitsGraphs};
 
@@ -117,7 +117,8 @@ fn fits_graphs<const D: usize, const E: usize>(
 ) -> bool
     ensures { IsTrue result ↔ SuitsGraphs g.now h.now map.now.m map.now.images map.now.base }
 {
-    let _ = (g.dimension(), h.dimension());
+    g.recall();
+    h.recall();
     let counts = has_counts::<D>(g.vertices(), map);
     let images = are_images::<E>(map.images.as_slice(), h.vertices());
     let shifts = are_shifts::<E>(map.base.as_slice());
@@ -129,7 +130,7 @@ fn fits_graphs<const D: usize, const E: usize>(
 /// many shifts as the first graph has dimensions, of the dimension of the second; and no part is
 /// past 2^38.
 pub fn fits(g: &AnyGraph, h: &AnyGraph, map: &PeriodicMap) -> bool
-    ensures { IsTrue result ↔ SuitsGraphs (graph_in g.now) (graph_in h.now)
+    ensures { IsTrue result ↔ SuitsGraphs (graph_view g.now) (graph_view h.now)
         map.now.m map.now.images map.now.base }
 {
     match (g, h) {

@@ -30,7 +30,8 @@ fn has_other_degree<const D: usize>(g: &Graph<D>, h: &Graph<D>, map: &PeriodicMa
     requires inside { i < length map.now.images }
     ensures { IsTrue result ↔ HasOtherDegreeAt g.now h.now D map.now.m map.now.images i }
 {
-    let _ = (g.dimension(), h.dimension());
+    g.recall();
+    h.recall();
     let w = vertex_of::<D>(map.m, i);
     let image = image_in(map.images.as_slice(), i);
     differ(degree(g, w.over), degree(h, image.v))

@@ -55,7 +55,8 @@ fn is_kept<const D: usize>(
         → IsTrue result ↔ AreJoined h.now (f w.now)
         (f (vertex (arc.now).to (plus (w.now).cell (arc.now).shift))) }
 {
-    let _ = (g.dimension(), h.dimension());
+    g.recall();
+    h.recall();
     let end = end_of(w, arc);
     let y = image_of::<D>(map, &end);
     is_joined(h, x, &y, near)
@@ -89,7 +90,8 @@ fn first_lost_arc<const D: usize>(
         → MatchOption result (KeepsArcs g.now h.now f w.now)
         (IsFirstLostArc g.now h.now f w.now) }
 {
-    let _ = (g.dimension(), h.dimension());
+    g.recall();
+    h.recall();
     let x = image_of::<D>(map, w);
     let star = g.arcs(w.over);
     for k in 0..star.len() {
@@ -124,7 +126,8 @@ pub fn first_lost<const D: usize>(
         → IsDrawnBy g.now (table_of D map.now.m map.now.images map.now.base) f
         → IsFirstLostAt g.now h.now D map.now.m f (length map.now.images) lost.at lost.arc) }
 {
-    let _ = (g.dimension(), h.dimension());
+    g.recall();
+    h.recall();
     let mut places = [0; MOST_ARCS];
     for i in 0..map.images.len() {
         let at = vertex_of::<D>(map.m, i);

@@ -2,7 +2,7 @@
 use Rattle.std.specs.Prelude.{ℕ, ◌<◌, ◌≤◌, ◌*◌, ◌^◌, ◌+◌, List, All, length, map, Option, None, Some}
 use Rattle.periodic_net.specs.Graph.{Graph}
 use Rattle.line_text.specs.Numbers.{IsWide}
-use Rattle.quotient_graph.specs.AnyGraphs.{graph_in}
+use Rattle.quotient_graph.specs.AnyGraphs.{graph_view}
 use Rattle.graph_rows.specs.declared.size.GraphSize.{GraphSize}
 use Rattle.graph_rows.specs.Reading.{IsFormedGraph}
 use Rattle.map_check.specs.Conditions.{SuitsGraphs, most_period, most_images}
@@ -21,7 +21,7 @@ pub data ItemView : Type 0 where
 -- an item in memory, as what it says
 abbrev pub item_view : Item → ItemView
 item_view (WithoutMap why) = Without why
-item_view (WithMap graph map) = With (graph_in graph) map
+item_view (WithMap graph map) = With (graph_view graph) map
 
 -- the first graph, and the items of the later ones in their order
 pub record Maps : Type 0 where
@@ -68,7 +68,7 @@ item_views items = map item_view items
 
 -- a text that was read, as what it says
 abbrev pub maps_view : MapsText → Maps
-maps_view t = record { first = graph_in t.first; items = item_views t.items }
+maps_view t = record { first = graph_view t.first; items = item_views t.items }
 
 -- where there is a graph
 abbrev pub maps_in : Option MapsText → Option Maps

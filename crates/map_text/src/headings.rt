@@ -8,11 +8,11 @@ ghost use Rattle.map_text.specs.Rows.{OfReason, OfMap, pair_text, reason_text, t
 
 use crate::NoMap;
 use line_text::push_number;
-use std::alloc::AllocError;
+use std::alloc::AllocError as NoMemory;
 
 /// The first line.
 #[tactic(auto, unfolding(crate::specs::Rows::title_row))]
-pub fn push_title(text: &mut Vec<u8>) -> Result<(), AllocError>
+pub fn push_title(text: &mut Vec<u8>) -> Result<(), NoMemory>
     ensures { OnOk result (text.new.items ≡ text.old.items ++ rows_text (title_row ∷ [])) }
 {
     text.extend_from_slice(b"net_maps 1\n")
@@ -20,7 +20,7 @@ pub fn push_title(text: &mut Vec<u8>) -> Result<(), AllocError>
 
 /// `pair` and the number of a graph.
 #[tactic(auto, unfolding(crate::specs::Rows::pair_text))]
-pub fn push_pair(text: &mut Vec<u8>, k: u32) -> Result<(), AllocError>
+pub fn push_pair(text: &mut Vec<u8>, k: u32) -> Result<(), NoMemory>
     ensures { OnOk result (text.new.items ≡ text.old.items ++ pair_text k) }
 {
     text.extend_from_slice(b"pair ")?;
@@ -28,38 +28,38 @@ pub fn push_pair(text: &mut Vec<u8>, k: u32) -> Result<(), AllocError>
 }
 
 #[tactic(auto, unfolding(crate::specs::Rows::reason_text))]
-fn push_different(text: &mut Vec<u8>) -> Result<(), AllocError>
+fn push_different(text: &mut Vec<u8>) -> Result<(), NoMemory>
     ensures { OnOk result (text.new.items ≡ text.old.items ++ reason_text NoMap.Different) }
 {
     text.extend_from_slice(b" different")
 }
 
-fn push_count(text: &mut Vec<u8>, n: u64) -> Result<(), AllocError>
+fn push_count(text: &mut Vec<u8>, n: u64) -> Result<(), NoMemory>
     ensures { OnOk result (text.new.items ≡ text.old.items ++ signed_decimal (pos n)) }
 {
     push_number(text, i128::from(n))
 }
 
-fn push_value(text: &mut Vec<u8>, z: i128) -> Result<(), AllocError>
+fn push_value(text: &mut Vec<u8>, z: i128) -> Result<(), NoMemory>
     ensures { OnOk result (text.new.items ≡ text.old.items ++ signed_decimal z) }
 {
     push_number(text, z)
 }
 
-pub fn push_end_of_line(text: &mut Vec<u8>) -> Result<(), AllocError>
+pub fn push_end_of_line(text: &mut Vec<u8>) -> Result<(), NoMemory>
     ensures { OnOk result (text.new.items ≡ text.old.items ++ 10 ∷ []) }
 {
     text.extend_from_slice(b"\n")
 }
 
-fn push_long(text: &mut Vec<u8>, entries: u64) -> Result<(), AllocError>
+fn push_long(text: &mut Vec<u8>, entries: u64) -> Result<(), NoMemory>
     ensures { OnOk result (text.new.items ≡ text.old.items ++ reason_text (NoMap.Long entries)) }
 {
     text.extend_from_slice(b" long entries=")?;
     push_count(text, entries)
 }
 
-fn push_wide(text: &mut Vec<u8>, value: i128) -> Result<(), AllocError>
+fn push_wide(text: &mut Vec<u8>, value: i128) -> Result<(), NoMemory>
     requires { IsWide value }
     ensures { OnOk result (text.new.items ≡ text.old.items ++ reason_text (NoMap.Wide value)) }
 {
@@ -68,7 +68,7 @@ fn push_wide(text: &mut Vec<u8>, value: i128) -> Result<(), AllocError>
 }
 
 // Why there is no map.
-fn push_reason_text(text: &mut Vec<u8>, why: NoMap) -> Result<(), AllocError>
+fn push_reason_text(text: &mut Vec<u8>, why: NoMap) -> Result<(), NoMemory>
     requires { IsTold why }
     ensures { OnOk result (text.new.items ≡ text.old.items ++ reason_text why) }
 {
@@ -80,7 +80,7 @@ fn push_reason_text(text: &mut Vec<u8>, why: NoMap) -> Result<(), AllocError>
 }
 
 /// The row of graph k, which has no map.
-pub fn push_reason(text: &mut Vec<u8>, k: u32, why: NoMap) -> Result<(), AllocError>
+pub fn push_reason(text: &mut Vec<u8>, k: u32, why: NoMap) -> Result<(), NoMemory>
     requires { IsTold why }
     ensures { OnOk result
         (text.new.items ≡ text.old.items ++ rows_text (row_lines (OfReason k why ∷ []))) }
@@ -92,14 +92,14 @@ pub fn push_reason(text: &mut Vec<u8>, k: u32, why: NoMap) -> Result<(), AllocEr
 
 // What follows the number of a graph that has a map.
 #[tactic(auto, unfolding(crate::specs::Rows::map_word))]
-fn push_map_word(text: &mut Vec<u8>) -> Result<(), AllocError>
+fn push_map_word(text: &mut Vec<u8>) -> Result<(), NoMemory>
     ensures { OnOk result (text.new.items ≡ text.old.items ++ map_word) }
 {
     text.extend_from_slice(b" map")
 }
 
 /// The first row of graph k, which has a map.
-pub fn push_map_row(text: &mut Vec<u8>, k: u32) -> Result<(), AllocError>
+pub fn push_map_row(text: &mut Vec<u8>, k: u32) -> Result<(), NoMemory>
     ensures { OnOk result
         (text.new.items ≡ text.old.items ++ rows_text (row_lines (OfMap k ∷ []))) }
 {

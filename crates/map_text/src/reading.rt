@@ -1,7 +1,7 @@
 // Reads the items of a text.
 ghost use Rattle.std.specs.Prelude.{ℕ, List, ◌≡◌, ◌≢◌, [], length, IfOk, MatchResult};
 ghost use Rattle.periodic_net.specs.Graph.{Arc};
-ghost use Rattle.quotient_graph.specs.AnyGraphs.{graph_in};
+ghost use Rattle.quotient_graph.specs.AnyGraphs.{graph_view};
 ghost use Rattle.graph_rows.specs.Forms.{IsSize};
 ghost use Rattle.graph_rows.specs.Rows.{size_of_graph};
 ghost use Rattle.map_text.specs.Items.{ItemView, item_view};
@@ -16,7 +16,7 @@ use graph_rows::{GraphSize, read_graph};
 use line_text::Lines;
 use map_check::PeriodicMap;
 use quotient_graph::{AnyGraph, Graph};
-use std::alloc::AllocError;
+use std::alloc::AllocError as NoMemory;
 
 fn drawn_size<const D: usize>(graph: &Graph<D>) -> GraphSize
     ensures { result ≡ size_of_graph graph.now }
@@ -30,7 +30,7 @@ fn drawn_size<const D: usize>(graph: &Graph<D>) -> GraphSize
 
 /// The size of a graph.
 pub fn size_of(graph: &AnyGraph) -> GraphSize
-    ensures { result ≡ size_of_graph (graph_in graph.now) }
+    ensures { result ≡ size_of_graph (graph_view graph.now) }
 {
     match graph {
         AnyGraph::Flat(graph) => drawn_size(graph),
@@ -45,7 +45,7 @@ fn read_map(
     first: &GraphSize,
     second: &GraphSize,
     numbers: &mut Vec<i128>,
-) -> Result<Result<PeriodicMap, u32>, AllocError>
+) -> Result<Result<PeriodicMap, u32>, NoMemory>
     requires first { IsSize first.now }
     requires second { IsSize second.now }
     ensures { (text : List ℕ) (items : List ItemView) (edges others : List Arc) →
@@ -75,7 +75,7 @@ fn read_pair(
     lines: &mut Lines<'_>,
     first: &GraphSize,
     numbers: &mut Vec<i128>,
-) -> Result<Result<Item, u32>, AllocError>
+) -> Result<Result<Item, u32>, NoMemory>
     requires { IsSize first.now }
     ensures { (text : List ℕ) (items : List ItemView) (edges : List Arc) →
         IsIn text (Opened (drawing first.now edges) items) lines.old →
@@ -108,7 +108,7 @@ pub fn read_item(
     first: &GraphSize,
     k: u32,
     numbers: &mut Vec<i128>,
-) -> Result<Result<Item, u32>, AllocError>
+) -> Result<Result<Item, u32>, NoMemory>
     requires size { IsSize first.now }
     requires left { lines.old.rest ≢ [] }
     ensures { (text : List ℕ) (items : List ItemView) (edges : List Arc) →

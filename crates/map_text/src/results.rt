@@ -9,11 +9,11 @@ use graph_rows::push_parts;
 use itoa::Buffer;
 use line_text::push_field;
 use map_check::{MapFault, Verdict};
-use std::alloc::AllocError;
+use std::alloc::AllocError as NoMemory;
 use vecdim::Triple;
 
 // A number of 128 bits after its label.
-fn push_product(text: &mut Vec<u8>, label: &[u8], n: u128) -> Result<(), AllocError>
+fn push_product(text: &mut Vec<u8>, label: &[u8], n: u128) -> Result<(), NoMemory>
     ensures { OnOk result (text.new.items ≡ text.old.items ++ field_text label.now n) }
 {
     let mut buffer = Buffer::new();
@@ -29,7 +29,7 @@ fn push_site(
     u: u32,
     second: &[u8],
     r: &Triple,
-) -> Result<(), AllocError>
+) -> Result<(), NoMemory>
     ensures { OnOk result
         (text.new.items ≡ text.old.items ++ site_text dim first.now u second.now r.now) }
 {
@@ -39,14 +39,14 @@ fn push_site(
 }
 
 #[tactic(auto, unfolding(crate::specs::Results::fault_text))]
-fn push_dimension(text: &mut Vec<u8>, dim: u8) -> Result<(), AllocError>
+fn push_dimension(text: &mut Vec<u8>, dim: u8) -> Result<(), NoMemory>
     ensures { OnOk result
         (text.new.items ≡ text.old.items ++ fault_text dim MapFault.Dimension) }
 {
     text.extend_from_slice(b" refused 1 Dimension")
 }
 
-fn push_count(text: &mut Vec<u8>, dim: u8, entries: u64, product: u128) -> Result<(), AllocError>
+fn push_count(text: &mut Vec<u8>, dim: u8, entries: u64, product: u128) -> Result<(), NoMemory>
     ensures { OnOk result
         (text.new.items ≡ text.old.items ++ fault_text dim (MapFault.Count entries product)) }
 {
@@ -55,7 +55,7 @@ fn push_count(text: &mut Vec<u8>, dim: u8, entries: u64, product: u128) -> Resul
 }
 
 #[tactic(auto, unfolding(crate::specs::Results::fault_text))]
-fn push_doubled(text: &mut Vec<u8>, dim: u8, u: u32, r: &Triple) -> Result<(), AllocError>
+fn push_doubled(text: &mut Vec<u8>, dim: u8, u: u32, r: &Triple) -> Result<(), NoMemory>
     ensures { OnOk result
         (text.new.items ≡ text.old.items ++ fault_text dim (MapFault.Doubled u r.now)) }
 {
@@ -63,7 +63,7 @@ fn push_doubled(text: &mut Vec<u8>, dim: u8, u: u32, r: &Triple) -> Result<(), A
 }
 
 #[tactic(auto, unfolding(crate::specs::Results::fault_text))]
-fn push_degree(text: &mut Vec<u8>, dim: u8, u: u32, r: &Triple) -> Result<(), AllocError>
+fn push_degree(text: &mut Vec<u8>, dim: u8, u: u32, r: &Triple) -> Result<(), NoMemory>
     ensures { OnOk result
         (text.new.items ≡ text.old.items ++ fault_text dim (MapFault.Degree u r.now)) }
 {
@@ -77,7 +77,7 @@ fn push_arc(
     r: &Triple,
     v: u32,
     s: &Triple,
-) -> Result<(), AllocError>
+) -> Result<(), NoMemory>
     ensures { OnOk result
         (text.new.items ≡ text.old.items ++ fault_text dim (MapFault.Arc u r.now v s.now)) }
 {
@@ -85,7 +85,7 @@ fn push_arc(
     push_site(text, dim, b" v=", v, b" s=", s)
 }
 
-fn push_fault(text: &mut Vec<u8>, dim: u8, fault: &MapFault) -> Result<(), AllocError>
+fn push_fault(text: &mut Vec<u8>, dim: u8, fault: &MapFault) -> Result<(), NoMemory>
     ensures { OnOk result (text.new.items ≡ text.old.items ++ fault_text dim fault.now) }
 {
     match fault {
@@ -98,13 +98,13 @@ fn push_fault(text: &mut Vec<u8>, dim: u8, fault: &MapFault) -> Result<(), Alloc
 }
 
 #[tactic(auto, unfolding(crate::specs::Results::verified_text))]
-fn push_verified(text: &mut Vec<u8>) -> Result<(), AllocError>
+fn push_verified(text: &mut Vec<u8>) -> Result<(), NoMemory>
     ensures { OnOk result (text.new.items ≡ text.old.items ++ verified_text) }
 {
     text.extend_from_slice(b" verified")
 }
 
-fn push_verdict_text(text: &mut Vec<u8>, dim: u8, verdict: &Verdict) -> Result<(), AllocError>
+fn push_verdict_text(text: &mut Vec<u8>, dim: u8, verdict: &Verdict) -> Result<(), NoMemory>
     ensures { OnOk result (text.new.items ≡ text.old.items ++ verdict_text dim verdict.now) }
 {
     match verdict {
@@ -114,12 +114,7 @@ fn push_verdict_text(text: &mut Vec<u8>, dim: u8, verdict: &Verdict) -> Result<(
 }
 
 /// The line of graph k, to which there is a map from a net of this dimension.
-pub fn push_verdict(
-    text: &mut Vec<u8>,
-    k: u32,
-    dim: u8,
-    verdict: &Verdict,
-) -> Result<(), AllocError>
+pub fn push_verdict(text: &mut Vec<u8>, k: u32, dim: u8, verdict: &Verdict) -> Result<(), NoMemory>
     ensures { OnOk result
         (text.new.items ≡ text.old.items ++ rows_text (verdict_row k dim verdict.now ∷ [])) }
 {
@@ -129,14 +124,14 @@ pub fn push_verdict(
 }
 
 #[tactic(auto, unfolding(crate::specs::Results::unproved_text))]
-fn push_unproved_text(text: &mut Vec<u8>) -> Result<(), AllocError>
+fn push_unproved_text(text: &mut Vec<u8>) -> Result<(), NoMemory>
     ensures { OnOk result (text.new.items ≡ text.old.items ++ unproved_text) }
 {
     text.extend_from_slice(b" unproved")
 }
 
 /// The line of graph k, to which no map is written.
-pub fn push_unproved(text: &mut Vec<u8>, k: u32) -> Result<(), AllocError>
+pub fn push_unproved(text: &mut Vec<u8>, k: u32) -> Result<(), NoMemory>
     ensures { OnOk result
         (text.new.items ≡ text.old.items ++ rows_text (unproved_row k ∷ [])) }
 {

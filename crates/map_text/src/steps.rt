@@ -13,7 +13,7 @@ use crate::vertex::{image_from, shift_from};
 use graph_rows::GraphSize;
 use line_text::Lines;
 use map_check::{Image, vertex_at};
-use std::alloc::AllocError;
+use std::alloc::AllocError as NoMemory;
 use vecdim::Triple;
 
 /// Whether the next line is the first one of a text.
@@ -30,7 +30,7 @@ pub fn next_period(
     lines: &mut Lines<'_>,
     size: &GraphSize,
     numbers: &mut Vec<i128>,
-) -> Result<Option<u32>, AllocError>
+) -> Result<Option<u32>, NoMemory>
     requires { IsSize size.now }
     ensures place { (text : List ℕ) (rows : List (List ℕ)) → IsAt text rows lines.old →
         IfOk result (λ found. IfSome found (λ m.
@@ -53,7 +53,7 @@ pub fn next_image(
     i: u32,
     size: &GraphSize,
     numbers: &mut Vec<i128>,
-) -> Result<Option<Image>, AllocError>
+) -> Result<Option<Image>, NoMemory>
     requires size { IsSize size.now }
     requires from { 1 ≤ m }
     requires to { m ≤ most_period }
@@ -78,7 +78,7 @@ pub fn next_shift(
     lines: &mut Lines<'_>,
     dim: u8,
     numbers: &mut Vec<i128>,
-) -> Result<Option<Triple>, AllocError>
+) -> Result<Option<Triple>, NoMemory>
     requires { (dim ≡ 2) ⊎ (dim ≡ 3) }
     ensures place { (text : List ℕ) (rows : List (List ℕ)) → IsAt text rows lines.old →
         IfOk result (λ found. IfSome found (λ v.

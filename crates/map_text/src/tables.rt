@@ -11,7 +11,7 @@ use crate::steps::{next_image, next_shift};
 use graph_rows::GraphSize;
 use line_text::Lines;
 use map_check::{BaseRows, Images};
-use std::alloc::AllocError;
+use std::alloc::AllocError as NoMemory;
 
 /// The images of a map of this period between graphs of these sizes, or the number of the first
 /// line that is no next image.
@@ -21,7 +21,7 @@ pub fn read_images(
     second: &GraphSize,
     m: u32,
     numbers: &mut Vec<i128>,
-) -> Result<Result<Images, u32>, AllocError>
+) -> Result<Result<Images, u32>, NoMemory>
     requires first { IsSize first.now }
     requires second { IsSize second.now }
     requires period { IsPeriod first.now m }
@@ -52,7 +52,7 @@ pub fn read_shifts(
     first: &GraphSize,
     second: &GraphSize,
     numbers: &mut Vec<i128>,
-) -> Result<Result<BaseRows, u32>, AllocError>
+) -> Result<Result<BaseRows, u32>, NoMemory>
     requires first { IsSize first.now }
     requires second { IsSize second.now }
     ensures count { IfOk result (λ read. IfOk read (λ base. length base ≡ first.now.dim)) }

@@ -5,7 +5,7 @@ ghost use Rattle.integers.specs.Vectors.{parts};
 ghost use Rattle.periodic_net.specs.Graph.{vertex};
 ghost use Rattle.line_text.specs.Lines.{rows_text};
 ghost use Rattle.line_text.specs.Numbers.{IsWide, numbers_text};
-ghost use Rattle.quotient_graph.specs.AnyGraphs.{graph_in};
+ghost use Rattle.quotient_graph.specs.AnyGraphs.{graph_view};
 ghost use Rattle.map_check.specs.Conditions.{most_images, most_period};
 ghost use Rattle.map_text.specs.Items.{IsTold, IsWritable, With, item_view};
 ghost use Rattle.map_text.specs.Rows.{OfBase, OfReason, OfMap, pair_text, reason_text, vertex_numbers, image_row, base_row, period_row, title_row, end_row, map_word, row_line, row_lines};
@@ -19,18 +19,18 @@ use graph_rows::push_graph;
 use line_text::{push_numbers, push_row};
 use map_check::{Image, Images, NetVertex, PeriodicMap, vertex_at};
 use quotient_graph::AnyGraph;
-use std::alloc::AllocError;
+use std::alloc::AllocError as NoMemory;
 use vecdim::Triple;
 
 #[tactic(auto, unfolding(crate::specs::Rows::period_row))]
-fn push_period(text: &mut Vec<u8>, m: u32) -> Result<(), AllocError>
+fn push_period(text: &mut Vec<u8>, m: u32) -> Result<(), NoMemory>
     ensures { OnOk result (text.new.items ≡ text.old.items ++ rows_text (period_row m ∷ [])) }
 {
     push_row(text, b"period", &[i128::from(m)])
 }
 
 // The parts of a vector of this dimension, each after a blank.
-fn push_parts(text: &mut Vec<u8>, dim: u8, v: &Triple) -> Result<(), AllocError>
+fn push_parts(text: &mut Vec<u8>, dim: u8, v: &Triple) -> Result<(), NoMemory>
     ensures { OnOk result (text.new.items ≡ text.old.items ++ numbers_text (parts dim v.now)) }
 {
     if dim == 2 {
@@ -41,7 +41,7 @@ fn push_parts(text: &mut Vec<u8>, dim: u8, v: &Triple) -> Result<(), AllocError>
 }
 
 // The numbers of a vertex of a net of this dimension, each after a blank.
-fn push_vertex(text: &mut Vec<u8>, dim: u8, over: u32, cell: &Triple) -> Result<(), AllocError>
+fn push_vertex(text: &mut Vec<u8>, dim: u8, over: u32, cell: &Triple) -> Result<(), NoMemory>
     ensures { OnOk result (text.new.items ≡
         text.old.items ++ numbers_text (vertex_numbers dim (vertex over cell.now))) }
 {
@@ -55,7 +55,7 @@ fn push_image(
     w: &NetVertex,
     other: u8,
     x: &Image,
-) -> Result<(), AllocError>
+) -> Result<(), NoMemory>
     ensures { OnOk result
         (text.new.items ≡ text.old.items ++ rows_text (image_row dim other w.now x.now ∷ [])) }
 {
@@ -66,7 +66,7 @@ fn push_image(
 }
 
 #[tactic(auto, unfolding(crate::specs::Rows::base_row))]
-fn push_shift(text: &mut Vec<u8>, other: u8, v: &Triple) -> Result<(), AllocError>
+fn push_shift(text: &mut Vec<u8>, other: u8, v: &Triple) -> Result<(), NoMemory>
     ensures { OnOk result
         (text.new.items ≡ text.old.items ++ rows_text (base_row other v.now ∷ [])) }
 {
@@ -82,7 +82,7 @@ fn push_images(
     other: u8,
     m: u32,
     images: &Images,
-) -> Result<(), AllocError>
+) -> Result<(), NoMemory>
     requires from { 1 ≤ m }
     requires to { m ≤ most_period }
     requires few { length images.now ≤ most_images }
@@ -96,7 +96,7 @@ fn push_images(
 }
 
 // The shifts of a map to a net of this dimension.
-fn push_shifts(text: &mut Vec<u8>, other: u8, base: &[Triple]) -> Result<(), AllocError>
+fn push_shifts(text: &mut Vec<u8>, other: u8, base: &[Triple]) -> Result<(), NoMemory>
     ensures { OnOk result (text.new.items ≡
         text.old.items ++ rows_text (row_lines (map (OfBase other) base.now))) }
 {
@@ -107,7 +107,7 @@ fn push_shifts(text: &mut Vec<u8>, other: u8, base: &[Triple]) -> Result<(), All
 }
 
 // A period, images and shifts, of a map between nets of these dimensions.
-fn push_map(text: &mut Vec<u8>, dim: u8, other: u8, map: &PeriodicMap) -> Result<(), AllocError>
+fn push_map(text: &mut Vec<u8>, dim: u8, other: u8, map: &PeriodicMap) -> Result<(), NoMemory>
     requires from { 1 ≤ map.now.m }
     requires to { map.now.m ≤ most_period }
     requires few { length map.now.images ≤ most_images }
@@ -120,7 +120,7 @@ fn push_map(text: &mut Vec<u8>, dim: u8, other: u8, map: &PeriodicMap) -> Result
 }
 
 #[tactic(auto, unfolding(crate::specs::Rows::end_row))]
-fn push_end(text: &mut Vec<u8>) -> Result<(), AllocError>
+fn push_end(text: &mut Vec<u8>) -> Result<(), NoMemory>
     ensures { OnOk result (text.new.items ≡ text.old.items ++ rows_text (end_row ∷ [])) }
 {
     text.extend_from_slice(b"end\n")
@@ -133,12 +133,12 @@ fn push_with(
     dim: u8,
     graph: &AnyGraph,
     map: &PeriodicMap,
-) -> Result<(), AllocError>
+) -> Result<(), NoMemory>
     requires from { 1 ≤ map.now.m }
     requires to { map.now.m ≤ most_period }
     requires few { length map.now.images ≤ most_images }
     ensures { OnOk result (text.new.items ≡ text.old.items ++
-        rows_text (row_lines (item_rows dim k (With (graph_in graph.now) map.now)))) }
+        rows_text (row_lines (item_rows dim k (With (graph_view graph.now) map.now)))) }
 {
     push_map_row(text, k)?;
     push_graph(text, graph)?;
@@ -147,7 +147,7 @@ fn push_with(
 }
 
 /// The item of graph k, where the first net has this dimension.
-pub fn push_item(text: &mut Vec<u8>, k: u32, dim: u8, item: &Item) -> Result<(), AllocError>
+pub fn push_item(text: &mut Vec<u8>, k: u32, dim: u8, item: &Item) -> Result<(), NoMemory>
     requires { IsWritable (item_view item.now) }
     ensures { OnOk result (text.new.items ≡ text.old.items ++
         rows_text (row_lines (item_rows dim k (item_view item.now)))) }

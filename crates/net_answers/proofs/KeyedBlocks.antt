@@ -6,7 +6,7 @@ use Rattle.cgd_read.specs.Graphs.{graph_of}
 use Rattle.cgd_read.specs.Views.{BodyView, Net, Other, Faulty, BlockView}
 use Rattle.quotient_graph.specs.Stars.{IsInOrder}
 use Rattle.periodic_net.specs.Graph.{Graph}
-use Rattle.least_key.specs.AnyNets.{net_in}
+use Rattle.least_key.specs.AnyNets.{net_view}
 use Rattle.least_key.specs.KeyedNets.{KeyedNet}
 use Rattle.least_key.specs.declared.net.Net.{Net as NetInCode}
 use Rattle.net_entries.specs.Entries.{EntryView}
@@ -21,7 +21,7 @@ use Rattle.net_answers.specs.Due.{AreAccepted, IsNetOf}
 pub record IsToldNet (block : BlockView) (told : OutcomeBody) : Type 0 where
   pub net : NetInCode
   pub told_is : net_told told ≡ Some net
-  pub is_net : IsNetOf block (net_in net)
+  pub is_net : IsNetOf block (net_view net)
 
 -- of a block that is accepted its net is told
 keyed_told : (entries : List EntryView) (block : BlockView) (view : BodyView) (told : OutcomeBody) → block.body ≡ view → IsBodyOf entries Key view told → is_accepted_body told ≡ true → IsToldNet block told
@@ -60,7 +60,7 @@ all_accepted entries n (c ∷ bs) [] h a = absurd h
 all_accepted entries n (c ∷ bs) (x ∷ os) h a =
     let tests = both (is_accepted x) (list_all is_accepted os) a in
     let first = keyed_told entries c c.body x.body refl h.0.body tests.0 in
-    All-cons (λ (block : BlockView). (net : KeyedNet) × IsNetOf block net) c bs (net_in first.net, first.is_net) (all_accepted entries (n + 1) bs os h.1 tests.1)
+    All-cons (λ (block : BlockView). (net : KeyedNet) × IsNetOf block net) c bs (net_view first.net, first.is_net) (all_accepted entries (n + 1) bs os h.1 tests.1)
 
 -- there are as many outcomes as blocks
 pub as_many : (entries : List EntryView) (n : ℕ) (bs : List BlockView) (os : List Outcome) → AreOutcomesFrom entries Key n bs os → length os ≡ length bs

@@ -5,7 +5,7 @@ use Rattle.std.specs.Prelude.{is_some, unwrap_or}
 use Rattle.std.proofs.lemmas.List.{get_or-map, length-map}
 use Rattle.cgd_read.specs.Views.{BlockView, block_view, views}
 use Rattle.cgd_read.specs.declared.block.Block.{Block}
-use Rattle.least_key.specs.AnyNets.{net_in}
+use Rattle.least_key.specs.AnyNets.{net_view}
 use Rattle.least_key.specs.declared.net.Net.{Net}
 use Rattle.net_entries.specs.Entries.{EntryView}
 use Rattle.net_report.specs.declared.outcome.Outcome.{Outcome}
@@ -28,8 +28,8 @@ turn_is entries found os i block o l b e h a =
     record { inside = inside; at = at; told = told_at entries 1 i (views found) os (block_view block) o h a inside at (sym e) }
 
 -- the net that is told is that of the block
-pub net_is : (block : BlockView) (o : Outcome) (net : Net) → IsToldNet block o.body → Some net ≡ net_told o.body → IsNetOf block (net_in net)
-net_is block o net h e = subst (λ (n : Net). IsNetOf block (net_in n)) (ap (λ (t : Option Net). unwrap_or t net) (sym h.told_is ∙ sym e)) h.is_net
+pub net_is : (block : BlockView) (o : Outcome) (net : Net) → IsToldNet block o.body → Some net ≡ net_told o.body → IsNetOf block (net_view net)
+net_is block o net h e = subst (λ (n : Net). IsNetOf block (net_view n)) (ap (λ (t : Option Net). unwrap_or t net) (sym h.told_is ∙ sym e)) h.is_net
 
 -- and one is told
 pub one_told : (block : BlockView) (o : Outcome) → IsToldNet block o.body → None ≡ net_told o.body → ⊥

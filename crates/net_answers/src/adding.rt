@@ -3,7 +3,7 @@ ghost use Rattle.std.specs.Prelude.{◌≡◌, ◌≢◌, ◌≤◌, [], true, A
 ghost use Rattle.std.specs.List.{list_all};
 ghost use Rattle.cgd_read.specs.Blocks.{IsReadBody, most_blocks};
 ghost use Rattle.cgd_read.specs.Views.{block_view, views};
-ghost use Rattle.least_key.specs.AnyNets.{net_in};
+ghost use Rattle.least_key.specs.AnyNets.{net_view};
 ghost use Rattle.net_entries.specs.Entries.{EntryView};
 ghost use Rattle.net_archive.specs.Adding.{IsAddFault, IsEntryOf};
 ghost use Rattle.net_archive.specs.Archives.{IsArchive, with_entry};
@@ -19,7 +19,7 @@ use net_commands::Command;
 use net_outcomes::{are_accepted, outcomes_of};
 use net_report::{NoMemory, Outcome, OutcomeBody, report};
 use statuses::{Answer, Status};
-use std::alloc::{AllocError, Global};
+use std::alloc::{AllocError as NoMemory, Global};
 
 // The block with this number, counted from 1, cannot be added.
 #[derive(Clone, Copy, Debug)]
@@ -54,11 +54,11 @@ fn add_block(
 ) -> Result<(), AddFault>
     ensures added { OnOk result ((e : EntryView) ×
         IsEntryOf (name_to_add (option_copied given.entry) (block_view block.now))
-        (net_in net.now) e × (archive.new ≡ with_entry archive.old e)) }
+        (net_view net.now) e × (archive.new ≡ with_entry archive.old e)) }
     ensures archive { IsArchive archive.new }
     ensures same { OnErr result (archive.new ≡ archive.old) }
     ensures fault { IfErr result (IsAddFault archive.old
-        (name_to_add (option_copied given.entry) (block_view block.now)) (net_in net.now)) }
+        (name_to_add (option_copied given.entry) (block_view block.now)) (net_view net.now)) }
 {
     let added = archive.add(name_to_add(given, block), net);
     let _ = archive.entries(); // which are those of an archive
@@ -111,7 +111,7 @@ fn refused_text(alloc: Global, refused: NotAdded) -> Result<Vec<u8>, NoMemory>
     ensures told { OnOk result (refused.fault ≢ AddFault.NoMemory) }
 {
     match refused.fault {
-        AddFault::NoMemory => Err(AllocError),
+        AddFault::NoMemory => Err(NoMemory),
         fault => add_fault_text(alloc, refused.block, fault),
     }
 }

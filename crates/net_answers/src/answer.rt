@@ -20,7 +20,7 @@ use map_answers::verify_answer;
 use net_archive::Archive;
 use same_answers::same_blocks;
 use statuses::{Answer, Silence, Status};
-use std::alloc::{AllocError, Global};
+use std::alloc::{AllocError as NoMemory, Global};
 use union_answers::union_of;
 use workload::workload_text;
 
@@ -30,7 +30,7 @@ fn answer_for(
     task: &Task<'_>,
     archive: Archive,
     found: &[Block<'_>],
-) -> Result<Answer, AllocError>
+) -> Result<Answer, NoMemory>
     requires blocks { IsOfBlocks (task_view task.now) }
     requires graphs { All (λ block. IsReadBody block.body) found.now }
     requires few { length found.now ≤ most_blocks }

@@ -6,7 +6,7 @@ use archive_report::{groups_text, migrate_fault_text};
 use net_archive::{Archive, MigrateFault};
 use net_report::NoMemory;
 use statuses::{Answer, Status};
-use std::alloc::{AllocError, Global};
+use std::alloc::{AllocError as NoMemory, Global};
 
 /// The groups of entries whose nets are isomorphic.
 pub fn groups_of(alloc: Global, archive: &Archive) -> Result<Answer, NoMemory>
@@ -33,6 +33,6 @@ pub fn migration_of(alloc: Global, archive: &Archive) -> Result<Answer, NoMemory
             status: Status::MigrateRefused,
             text: migrate_fault_text(alloc, length)?,
         }),
-        Err(MigrateFault::NoMemory) => Err(AllocError),
+        Err(MigrateFault::NoMemory) => Err(NoMemory),
     }
 }

@@ -2,9 +2,9 @@
 ghost use Rattle.std.specs.Prelude.{◌≡◌, ◌↔◌, ◌≤◌, ◌<◌, ◌+◌, ◌++◌, ◌∷◌, [], true, IsTrue, IfOk, OnOk, OnErr, length};
 ghost use Rattle.line_text.specs.Lines.{rows_text};
 ghost use Rattle.periodic_net.specs.Limits.{IsSmall};
-ghost use Rattle.quotient_graph.specs.AnyGraphs.{graph_in};
+ghost use Rattle.quotient_graph.specs.AnyGraphs.{graph_view};
 ghost use Rattle.quotient_graph.specs.Order.{AreRising};
-ghost use Rattle.least_key.specs.AnyNets.{net_in};
+ghost use Rattle.least_key.specs.AnyNets.{net_view};
 ghost use Rattle.net_entries.specs.Entries.{entry_view};
 ghost use Rattle.archive_text.specs.Texts.{entry_lines, most_bytes};
 ghost use Rattle.line_text.specs.Names.{is_name};
@@ -15,7 +15,7 @@ use archive_text::{MOST_BYTES, Version, push_entry};
 use least_key::Net;
 use net_entries::{Entries, Entry};
 use quotient_graph::AnyGraph;
-use std::alloc::{AllocError, Global};
+use std::alloc::{AllocError as NoMemory, Global};
 
 /// So many entries has an archive at most.
 const MOST_ENTRIES: usize = 4096;
@@ -24,10 +24,10 @@ const MOST_ENTRIES: usize = 4096;
 const FIRST_LINE: usize = 14;
 
 // The graph of a net.
-fn graph_of(net: &Net) -> Result<AnyGraph, AllocError>
-    ensures graph { IfOk result (λ g. graph_in g ≡ (net_in net.now).placed.graph) }
-    ensures small { IfOk result (λ g. IsSmall (graph_in g)) }
-    ensures rising { IfOk result (λ g. AreRising (graph_in g).edges) }
+fn graph_of(net: &Net) -> Result<AnyGraph, NoMemory>
+    ensures graph { IfOk result (λ g. graph_view g ≡ (net_view net.now).placed.graph) }
+    ensures small { IfOk result (λ g. IsSmall (graph_view g)) }
+    ensures rising { IfOk result (λ g. AreRising (graph_view g).edges) }
 {
     match net {
         Net::Flat(net) => net.stable.placed().graph().copy().map(AnyGraph::Flat),
@@ -36,8 +36,8 @@ fn graph_of(net: &Net) -> Result<AnyGraph, AllocError>
 }
 
 /// The entry of a net under a name.
-pub fn entry_of(alloc: Global, name: &[u8], net: &Net) -> Result<Entry, AllocError>
-    ensures entry { IfOk result (λ e. IsEntryOf name.now (net_in net.now) (entry_view e)) }
+pub fn entry_of(alloc: Global, name: &[u8], net: &Net) -> Result<Entry, NoMemory>
+    ensures entry { IfOk result (λ e. IsEntryOf name.now (net_view net.now) (entry_view e)) }
     ensures is_entry { is_name name.now ≡ true → IfOk result (λ e. IsEntry (entry_view e)) }
 {
     let shells = net.sequences(alloc)?;
@@ -53,7 +53,7 @@ pub fn entry_of(alloc: Global, name: &[u8], net: &Net) -> Result<Entry, AllocErr
 }
 
 /// The rows of an entry.
-pub fn rows_of(alloc: Global, version: Version, entry: &Entry) -> Result<Vec<u8>, AllocError>
+pub fn rows_of(alloc: Global, version: Version, entry: &Entry) -> Result<Vec<u8>, NoMemory>
     requires { IsEntry (entry_view entry.now) }
     ensures { IfOk result (λ rows.
         rows.items ≡ rows_text (entry_lines version (entry_view entry.now ∷ []))) }
@@ -84,7 +84,7 @@ pub fn append(
     body: &mut Vec<u8>,
     entry: Entry,
     rows: &[u8],
-) -> Result<(), AllocError>
+) -> Result<(), NoMemory>
     ensures entries { OnOk result (entries.new ≡ entries.old ++ entry_view entry ∷ []) }
     ensures body { OnOk result (body.new.items ≡ body.old.items ++ rows.now) }
     ensures same_entries { OnErr result (entries.new ≡ entries.old) }

@@ -2,7 +2,7 @@
 ghost use Rattle.std.specs.Prelude.{◌≡◌, ◌≤◌, All, IfOk, IfErr, OnOk, OnErr, MatchResult, length};
 ghost use Rattle.periodic_net.specs.Graph.{Graph, IsGraph};
 ghost use Rattle.key_theory.specs.Key.{IsKeyOf};
-ghost use Rattle.least_key.specs.AnyNets.{net_in};
+ghost use Rattle.least_key.specs.AnyNets.{net_view};
 ghost use Rattle.net_entries.specs.Entries.{EntryView, entry_view, entry_views};
 ghost use Rattle.net_entries.specs.Groups.{AreGroups};
 ghost use Rattle.net_entries.specs.Lookups.{names_with};
@@ -24,7 +24,7 @@ use least_key::Net;
 use line_text::is_name;
 use net_entries::{Entries, Entry, Groups, Matches};
 use quotient_graph::Key;
-use std::alloc::{AllocError, Global};
+use std::alloc::{AllocError as NoMemory, Global};
 use std::marker::Model;
 
 /// Named nets, each with its key and the sizes of shells of its classes, in a version of the
@@ -119,7 +119,7 @@ impl Archive {
     /// The groups of two or more entries with equal keys, as rising numbers of entries from 1, in
     /// the order of their first members. Two entries stand in one group exactly where their nets
     /// are isomorphic.
-    pub fn duplicates(&self) -> Result<Groups, AllocError>
+    pub fn duplicates(&self) -> Result<Groups, NoMemory>
         ensures groups { IfOk result (AreGroups self.now.entries) }
         ensures isomorphic { IfOk result (AreIsoGroups self.now.entries) }
         ensures archive { IsArchive self.now }
@@ -128,7 +128,7 @@ impl Archive {
     }
 
     /// The text in the archive's version.
-    pub fn text(&self) -> Result<Vec<u8>, AllocError>
+    pub fn text(&self) -> Result<Vec<u8>, NoMemory>
         ensures { IfOk result (λ text. text.items ≡ archive_text self.now) }
     {
         let mut text = Vec::new(*self.body.allocator());
@@ -179,10 +179,10 @@ impl Archive {
 
     /// Puts the graph of a net last, under a name. A refusal changes nothing.
     pub fn add(&mut self, name: &[u8], net: &Net) -> Result<(), AddFault>
-        ensures added { OnOk result ((e : EntryView) × IsEntryOf name.now (net_in net.now) e ×
+        ensures added { OnOk result ((e : EntryView) × IsEntryOf name.now (net_view net.now) e ×
             (self.new ≡ with_entry self.old e)) }
         ensures same { OnErr result (self.new ≡ self.old) }
-        ensures fault { IfErr result (IsAddFault self.old name.now (net_in net.now)) }
+        ensures fault { IfErr result (IsAddFault self.old name.now (net_view net.now)) }
     {
         if self.entries.has_name(name) {
             return Err(AddFault::NameTaken);
@@ -197,7 +197,7 @@ impl Archive {
     /// Puts entries with equal keys together, in their old order, and the groups in the order of
     /// their first entries. Then entries with isomorphic nets stand together. A refusal changes
     /// nothing.
-    pub fn regroup(&mut self) -> Result<(), AllocError>
+    pub fn regroup(&mut self) -> Result<(), NoMemory>
         ensures regrouped { OnOk result (
             self.new ≡ archive_with self.old (regrouped self.old.entries)) }
         ensures isomorphic { OnOk result (AreIsoTogether self.new.entries) }

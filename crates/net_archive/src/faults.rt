@@ -4,7 +4,7 @@ ghost use Rattle.std.specs.Prelude.{◌≡◌};
 use least_key::Refusal;
 use lists::Items;
 use quotient_graph::Key;
-use std::alloc::AllocError;
+use std::alloc::AllocError as NoMemory;
 
 /// Why a text is no archive, by the first fault in it. Each `u32` but `class`, `kept` and
 /// `computed` is the number of a line. The numbers are those of the report.
@@ -43,12 +43,12 @@ pub enum ArchiveFault {
     NoMemory,
 }
 
-impl From<AllocError> for ArchiveFault {
+impl From<NoMemory> for ArchiveFault {
     ghost use Rattle.net_archive.specs.Causes.{no_archive};
 
     ghost from_gives = { λ fault told. told ≡ no_archive };
 
-    fn from(_fault: AllocError) -> ArchiveFault {
+    fn from(_fault: NoMemory) -> ArchiveFault {
         ArchiveFault::NoMemory
     }
 }
@@ -67,12 +67,12 @@ pub enum AddFault {
     NoMemory,
 }
 
-impl From<AllocError> for AddFault {
+impl From<NoMemory> for AddFault {
     ghost use Rattle.net_archive.specs.Causes.{not_added};
 
     ghost from_gives = { λ fault told. told ≡ not_added };
 
-    fn from(_fault: AllocError) -> AddFault {
+    fn from(_fault: NoMemory) -> AddFault {
         AddFault::NoMemory
     }
 }
@@ -86,12 +86,12 @@ pub enum MigrateFault {
     NoMemory,
 }
 
-impl From<AllocError> for MigrateFault {
+impl From<NoMemory> for MigrateFault {
     ghost use Rattle.net_archive.specs.Causes.{not_migrated};
 
     ghost from_gives = { λ fault told. told ≡ not_migrated };
 
-    fn from(_fault: AllocError) -> MigrateFault {
+    fn from(_fault: NoMemory) -> MigrateFault {
         MigrateFault::NoMemory
     }
 }

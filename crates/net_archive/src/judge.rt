@@ -1,8 +1,8 @@
 // Judges an entry at its end: computes what its rows tell of its graph anew.
 ghost use Rattle.std.specs.Prelude.{◌≡◌, ◌↔◌, ◌⊎◌, ◌≤◌, ℕ, true, IfOk, IfErr, OnOk, length};
-ghost use Rattle.quotient_graph.specs.AnyGraphs.{graph_in};
+ghost use Rattle.quotient_graph.specs.AnyGraphs.{graph_view};
 ghost use Rattle.coordination.specs.Sequences.{AreSequencesOf};
-ghost use Rattle.least_key.specs.AnyNets.{net_in};
+ghost use Rattle.least_key.specs.AnyNets.{net_view};
 ghost use Rattle.least_key.specs.KeyedNets.{IsKeyed};
 ghost use Rattle.quotient_graph.specs.EdgeLists.{AreEdgesOfGraph};
 ghost use Rattle.net_entries.specs.Entries.{entry_view};
@@ -17,7 +17,7 @@ use least_key::{Net, Refusal, identify};
 use lists::Items;
 use net_entries::Entry;
 use quotient_graph::{AnyGraph, Key, from_edges};
-use std::alloc::{AllocError, Global};
+use std::alloc::{AllocError as NoMemory, Global};
 
 fn same_key(a: &Key, b: &Key) -> bool
     ensures { result ≡ true ↔ a.now ≡ b.now }
@@ -27,9 +27,9 @@ fn same_key(a: &Key, b: &Key) -> bool
 
 // The net of a graph, or why the entry that begins on this line is refused.
 fn identify_at(alloc: Global, line: u32, graph: &AnyGraph) -> Result<Net, ArchiveFault>
-    ensures net { IfOk result (λ n. (net_in n).placed.graph ≡ graph_in graph.now) }
-    ensures keyed { IfOk result (λ n. IsKeyed (net_in n)) }
-    ensures fault { IfErr result (IsRefusedAt line (graph_in graph.now)) }
+    ensures net { IfOk result (λ n. (net_view n).placed.graph ≡ graph_view graph.now) }
+    ensures keyed { IfOk result (λ n. IsKeyed (net_view n)) }
+    ensures fault { IfErr result (IsRefusedAt line (graph_view graph.now)) }
 {
     match identify(alloc, graph.copy()?) {
         Ok(net) => Ok(net),
@@ -111,8 +111,8 @@ fn check_version(
 
 // That the key that is kept is that of the net.
 fn check_key(keyed: &KeyedGraph, net: &Net) -> Result<(), ArchiveFault>
-    ensures same { OnOk result (keyed.now.key ≡ (net_in net.now).key) }
-    ensures fault { IfErr result (IsOtherKey keyed.now (net_in net.now).key) }
+    ensures same { OnOk result (keyed.now.key ≡ (net_view net.now).key) }
+    ensures fault { IfErr result (IsOtherKey keyed.now (net_view net.now).key) }
 {
     if same_key(&keyed.key, net.key()) {
         return Ok(());
@@ -133,8 +133,8 @@ fn check_net(
     form: &Form,
     net: &Net,
 ) -> Result<Sequences, ArchiveFault>
-    requires graph { (net_in net.now).placed.graph ≡ graph_of_form form.now }
-    requires keyed { IsKeyed (net_in net.now) }
+    requires graph { (net_view net.now).placed.graph ≡ graph_of_form form.now }
+    requires keyed { IsKeyed (net_view net.now) }
     requires line { form.now.keyed.key_line ≤ last_line }
     requires few { length form.now.shells ≤ most_vertices }
     ensures key { OnOk result (HasKey form.now) }
@@ -158,7 +158,7 @@ fn check_form(
     graph: &AnyGraph,
     form: &Form,
 ) -> Result<Sequences, ArchiveFault>
-    requires graph { graph_in graph.now ≡ graph_of_form form.now }
+    requires graph { graph_view graph.now ≡ graph_of_form form.now }
     requires line { form.now.keyed.key_line ≤ last_line }
     requires few { length form.now.shells ≤ most_vertices }
     ensures key { OnOk result (HasKey form.now) }
@@ -171,9 +171,9 @@ fn check_form(
 }
 
 // The graph that the rows of an entry say.
-fn graph_of(alloc: Global, keyed: &KeyedGraph) -> Result<AnyGraph, AllocError>
+fn graph_of(alloc: Global, keyed: &KeyedGraph) -> Result<AnyGraph, NoMemory>
     requires { AreEdgesOfGraph keyed.now.size.dim keyed.now.size.vertices keyed.now.edges.items }
-    ensures { IfOk result (λ g. graph_in g ≡ graph_of_keyed keyed.now) }
+    ensures { IfOk result (λ g. graph_view g ≡ graph_of_keyed keyed.now) }
 {
     from_edges(alloc, keyed.size.dim, keyed.size.vertices, &keyed.edges)
 }

@@ -8,10 +8,10 @@ ghost use Rattle.net_archive.specs.Migrating.{IsTooLong};
 use crate::MigrateFault;
 use archive_text::{MOST_BYTES, Version, push_entry, push_first};
 use net_entries::Entry;
-use std::alloc::{AllocError, Global};
+use std::alloc::{AllocError as NoMemory, Global};
 
 // The rows of the entries in version 2, after the first line.
-fn rows_in_two(alloc: Global, entries: &[Entry]) -> Result<Vec<u8>, AllocError>
+fn rows_in_two(alloc: Global, entries: &[Entry]) -> Result<Vec<u8>, NoMemory>
     requires { All (λ entry. IsEntry (entry_view entry)) entries.now }
     ensures { IfOk result (λ text. text.items ≡ text_of Version.Two (entry_views entries.now)) }
 {

@@ -8,10 +8,10 @@ ghost use Rattle.net_archive.specs.Archives.{IsEntry};
 
 use archive_text::{Version, push_entry};
 use net_entries::{Entry, lent_in_groups};
-use std::alloc::{AllocError, Global};
+use std::alloc::{AllocError as NoMemory, Global};
 
 // The rows of entries that are lent, one after the other.
-fn rows_of_all(alloc: Global, version: Version, entries: &[&Entry]) -> Result<Vec<u8>, AllocError>
+fn rows_of_all(alloc: Global, version: Version, entries: &[&Entry]) -> Result<Vec<u8>, NoMemory>
     requires { All (λ entry. IsEntry (entry_view entry.now)) entries.now }
     ensures { IfOk result (λ rows.
         rows.items ≡ rows_text (entry_lines version (map (λ e. entry_view e.now) entries.now))) }
@@ -28,7 +28,7 @@ pub fn rows_in_groups(
     alloc: Global,
     version: Version,
     entries: &[Entry],
-) -> Result<Vec<u8>, AllocError>
+) -> Result<Vec<u8>, NoMemory>
     requires { All (λ entry. IsEntry (entry_view entry)) entries.now }
     ensures { IfOk result (λ rows.
         rows.items ≡ rows_text (entry_lines version (regrouped (entry_views entries.now)))) }

@@ -1,6 +1,6 @@
 // The map between two nets.
 ghost use Rattle.std.specs.Prelude.{◌≡◌, ◌≢◌, ◌↔◌, IfOk, IsTrue};
-ghost use Rattle.least_key.specs.AnyNets.{net_in};
+ghost use Rattle.least_key.specs.AnyNets.{net_view};
 ghost use Rattle.net_certificate.specs.Answers.{IsMapAnswer, PassesIfFound};
 
 use crate::side::side_of;
@@ -71,9 +71,9 @@ fn answer_apart<const D: usize, const E: usize>(a: &NetOf<D>, b: &NetOf<E>, room
 /// differ, LongMap where the map has more images, and WideMap where a part of it is past 2^38. A
 /// map that is found passes the check of maps.
 pub fn map_between(alloc: Global, a: &Net, b: &Net, room: u64) -> Result<MapAnswer, NoMemory>
-    ensures answer { IfOk result (IsMapAnswer (net_in a.now) (net_in b.now) room) }
+    ensures answer { IfOk result (IsMapAnswer (net_view a.now) (net_view b.now) room) }
     ensures verified { IfOk result
-        (PassesIfFound (net_in a.now).placed.graph (net_in b.now).placed.graph) }
+        (PassesIfFound (net_view a.now).placed.graph (net_view b.now).placed.graph) }
 {
     match (a, b) {
         (Net::Flat(a), Net::Flat(b)) => answer_to(alloc, a, b, room),

@@ -7,7 +7,7 @@ use Rattle.integers.proofs.lists.Members.{IsIn, contains_from_in, is_in}
 use Rattle.integers.proofs.lists.Permutations.{IsRising, rising_from_pairs, same_rising}
 use Rattle.periodic_net.specs.Graph.{Graph, IsGraph, Arc, arc}
 use Rattle.periodic_net.specs.Limits.{most_shift}
-use Rattle.quotient_graph.specs.AnyGraphs.{graph_in}
+use Rattle.quotient_graph.specs.AnyGraphs.{graph_view}
 use Rattle.walk_theory.specs.Components.{InComponent}
 use Rattle.component_theory.specs.Components.{IsLeast}
 use Rattle.component_theory.specs.Parts.{stair_base, IsWritten}
@@ -57,7 +57,7 @@ module _ (G : Graph) (g : IsGraph G) where
   -- an edge of a part has its shift in the graph of the part, which is within the limit
   part_shift : (a : ℕ) (p : Part) → IsPartOf G a p → (e : Arc) → IsIn G.edges e → InComponent G a e.from → (k : Vector) × IsShiftIn G a e k × IsWithin most_shift k
   part_shift a p h e i tail =
-      let f = edge_written (InComponent G a) (IsWritten G.dimension (graph_in p.graph).vertices h.T (stair_base h.stairs) (vertex_at p.vertices)) G.edges (graph_in p.graph).edges h.part.edges e i tail in
+      let f = edge_written (InComponent G a) (IsWritten G.dimension (graph_view p.graph).vertices h.T (stair_base h.stairs) (vertex_at p.vertices)) G.edges (graph_view p.graph).edges h.part.edges e i tail in
       let head = subst (InComponent G a) f.2.to (h.part.vertices f.0.to f.2.to_number) in
       let there = h.chosen e.from tail in
       let back = h.chosen e.to head in (
@@ -73,7 +73,7 @@ module _ (G : Graph) (g : IsGraph G) where
           dimension = f.2.dimension;
           coordinates = f.2.shift ∙ (λ t. minus (plus (sym there.2 t) e.shift) (sym back.2 t));
         },
-        All-contains (λ (x : Arc). IsWithin most_shift x.shift) (graph_in p.graph).edges f.0 h.small.shifts (contains_from_in (graph_in p.graph).edges f.0 f.1),
+        All-contains (λ (x : Arc). IsWithin most_shift x.shift) (graph_view p.graph).edges f.0 h.small.shifts (contains_from_in (graph_view p.graph).edges f.0 f.1),
       )
 
   -- a graph with parts has no fault

@@ -9,7 +9,7 @@ use Rattle.integers.proofs.lists.Permutations.{IsRising, rising_from_pairs, same
 use Rattle.integers.proofs.numbers.Naturals.{three_ways}
 use Rattle.vecdim.specs.Stairs.{rows_of, size_of}
 use Rattle.periodic_net.specs.Graph.{Graph, IsGraph, Arc, arc, IsQuotientVertex}
-use Rattle.quotient_graph.specs.AnyGraphs.{graph_in}
+use Rattle.quotient_graph.specs.AnyGraphs.{graph_view}
 use Rattle.walk_theory.specs.Chosen.{path_shift}
 use Rattle.walk_theory.specs.Components.{InComponent}
 use Rattle.walk_theory.proofs.CallerLemmas.{one_chosen}
@@ -24,7 +24,7 @@ less k = omega arith
 
 module _ (G : Graph) (a : ℕ) (p : Part) (h : IsPartOf G a p) where
   -- a number is below the number of vertices
-  number : (i : ℕ) → IsNumber (length p.vertices) i → IsQuotientVertex (graph_in p.graph) i
+  number : (i : ℕ) → IsNumber (length p.vertices) i → IsQuotientVertex (graph_view p.graph) i
   number i n = let e = h.count in (n.0, let m = n.1 in omega (arith, m, e))
 
   -- the vertices of the part are those of the component
@@ -56,7 +56,7 @@ module _ (G : Graph) (a : ℕ) (p : Part) (h : IsPartOf G a p) where
           omega (arith, n, x, y)
 
   -- different numbers are of different vertices
-  at_once : (i j : ℕ) → IsQuotientVertex (graph_in p.graph) i → IsQuotientVertex (graph_in p.graph) j → vertex_at p.vertices i ≡ vertex_at p.vertices j → i ≡ j
+  at_once : (i j : ℕ) → IsQuotientVertex (graph_view p.graph) i → IsQuotientVertex (graph_view p.graph) j → vertex_at p.vertices i ≡ vertex_at p.vertices j → i ≡ j
   at_once i j m n e = by (three_ways i j)
     where
       by : (i < j) ⊎ ((j < i) ⊎ (i ≡ j)) → i ≡ j
@@ -72,7 +72,7 @@ module _ (G : Graph) (g : IsGraph G) (a : ℕ) (p q : Part) (h : IsPartOf G a p)
   same_vertices = same_rising (λ (u v : ℕ). u < v) (λ u l. omega (arith, l)) (λ u v w l m. omega (arith, l, m)) p.vertices q.vertices (vertices_rise G a p h) (vertices_rise G a q k)
       (λ u. ((λ i. in_vertices G a q k u (vertex_in G a p h u i)), λ i. in_vertices G a p h u (vertex_in G a q k u i)))
 
-  same_count : (graph_in p.graph).vertices ≡ (graph_in q.graph).vertices
+  same_count : (graph_view p.graph).vertices ≡ (graph_view q.graph).vertices
   same_count = sym h.count ∙ ap length same_vertices ∙ k.count
 
   -- the walks are the chosen ones
@@ -83,11 +83,11 @@ module _ (G : Graph) (g : IsGraph G) (a : ℕ) (p q : Part) (h : IsPartOf G a p)
       sym P.2 ∙ ap path_shift (one_chosen G a u P.0 Q.0 P.1 Q.1) ∙ Q.2
 
   -- an edge is written in one way
-  one_edge : (e f f' : Arc) → InComponent G a e.from → IsWritten G.dimension (graph_in p.graph).vertices h.T (stair_base h.stairs) (vertex_at p.vertices) e f
-      → IsWritten G.dimension (graph_in q.graph).vertices k.T (stair_base k.stairs) (vertex_at q.vertices) e f' → f ≡ f'
+  one_edge : (e f f' : Arc) → InComponent G a e.from → IsWritten G.dimension (graph_view p.graph).vertices h.T (stair_base h.stairs) (vertex_at p.vertices) e f
+      → IsWritten G.dimension (graph_view q.graph).vertices k.T (stair_base k.stairs) (vertex_at q.vertices) e f' → f ≡ f'
   one_edge e f f' tail w v =
       let at = ap vertex_at same_vertices in
-      let here : (i : ℕ) → IsQuotientVertex (graph_in q.graph) i → IsQuotientVertex (graph_in p.graph) i = λ i n. (n.0, subst (λ m. i ≤ m) (sym same_count) n.1) in
+      let here : (i : ℕ) → IsQuotientVertex (graph_view q.graph) i → IsQuotientVertex (graph_view p.graph) i = λ i n. (n.0, subst (λ m. i ≤ m) (sym same_count) n.1) in
       let from = at_once G a p h f.from f'.from w.from_number (here f'.from v.from_number) (w.from ∙ sym v.from ∙ sym (ap (λ (t : ℕ → ℕ). t f'.from) at)) in
       let to = at_once G a p h f.to f'.to w.to_number (here f'.to v.to_number) (w.to ∙ sym v.to ∙ sym (ap (λ (t : ℕ → ℕ). t f'.to) at)) in
       let head = subst (InComponent G a) w.to (h.part.vertices f.to w.to_number) in
@@ -97,13 +97,13 @@ module _ (G : Graph) (g : IsGraph G) (a : ℕ) (p q : Part) (h : IsPartOf G a p)
       let shift = sum_once G.dimension h.stairs h.part.full.shape f.shift f'.shift sum in
       λ i. arc (from i) (to i) (shift i)
 
-  same_edges : (graph_in p.graph).edges ≡ (graph_in q.graph).edges
+  same_edges : (graph_view p.graph).edges ≡ (graph_view q.graph).edges
   same_edges =
-      written_once (InComponent G a) (IsWritten G.dimension (graph_in p.graph).vertices h.T (stair_base h.stairs) (vertex_at p.vertices))
-      (IsWritten G.dimension (graph_in q.graph).vertices k.T (stair_base k.stairs) (vertex_at q.vertices)) one_edge
-      G.edges (graph_in p.graph).edges (graph_in q.graph).edges h.part.edges k.part.edges
+      written_once (InComponent G a) (IsWritten G.dimension (graph_view p.graph).vertices h.T (stair_base h.stairs) (vertex_at p.vertices))
+      (IsWritten G.dimension (graph_view q.graph).vertices k.T (stair_base k.stairs) (vertex_at q.vertices)) one_edge
+      G.edges (graph_view p.graph).edges (graph_view q.graph).edges h.part.edges k.part.edges
 
-  same_graph : graph_in p.graph ≡ graph_in q.graph
+  same_graph : graph_view p.graph ≡ graph_view q.graph
   same_graph = λ i. record { dimension = (h.part.dimension ∙ sym k.part.dimension) i; vertices = same_count i; edges = same_edges i }
 
   -- the parts of a component are one

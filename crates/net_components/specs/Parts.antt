@@ -6,7 +6,7 @@ use Rattle.vecdim.specs.Stairs.{Stairs, rows_of, size_of}
 use Rattle.periodic_net.specs.Graph.{Graph, Arc, IsQuotientVertex}
 use Rattle.periodic_net.specs.Limits.{IsSmall}
 use Rattle.periodic_net.specs.Split.{ClosedShift}
-use Rattle.quotient_graph.specs.AnyGraphs.{graph_in}
+use Rattle.quotient_graph.specs.AnyGraphs.{graph_view}
 use Rattle.walk_theory.specs.Chosen.{path_shift, IsChosen}
 use Rattle.walk_theory.specs.Components.{InComponent}
 use Rattle.component_theory.specs.Copies.{HasCopies}
@@ -27,13 +27,13 @@ pub record IsPartOf (G : Graph) (a : ℕ) (p : Part) : Type 0 where
   pub T : ℕ → Vector
   pub chosen : AreChosenShifts G a T
   pub stairs : Stairs
-  pub part : IsPart G a T stairs (vertex_at p.vertices) (graph_in p.graph)
-  pub count : length p.vertices ≡ (graph_in p.graph).vertices
+  pub part : IsPart G a T stairs (vertex_at p.vertices) (graph_view p.graph)
+  pub count : length p.vertices ≡ (graph_view p.graph).vertices
   pub rows : p.basis ≡ rows_of G.dimension stairs
   pub basis : IsStaircase (ClosedShift G a) G.dimension p.basis
   pub copies : HasCopies G a T p.copies
   pub size : p.copies ≡ size_of stairs
-  pub small : IsSmall (graph_in p.graph)
+  pub small : IsSmall (graph_view p.graph)
 
 -- the least vertex of a part
 abbrev pub root_of : Part → ℕ
@@ -53,4 +53,4 @@ pub record PartView : Type 0 where
   pub graph : Graph
 
 abbrev pub view_of : Part → PartView
-view_of p = record { vertices = p.vertices; basis = p.basis; copies = p.copies; graph = graph_in p.graph }
+view_of p = record { vertices = p.vertices; basis = p.basis; copies = p.copies; graph = graph_view p.graph }

@@ -3,7 +3,7 @@ use Rattle.std.specs.Prelude.{◌≡◌, List, length}
 use Rattle.integers.specs.Vectors.{IsWithin}
 use Rattle.periodic_net.specs.Graph.{Graph, Arc, arc}
 use Rattle.periodic_net.specs.Limits.{most_shift}
-use Rattle.quotient_graph.specs.AnyGraphs.{graph_in}
+use Rattle.quotient_graph.specs.AnyGraphs.{graph_view}
 use Rattle.quotient_graph.specs.Stars.{graph_with}
 use Rattle.vecdim.specs.Stairs.{rows_of, size_of}
 use Rattle.walk_theory.specs.Components.{InComponent}
@@ -49,4 +49,4 @@ pub record IsMadeOf (G : Graph) (c : Component) (p : Part) : Type 0 where
   pub vertices : p.vertices ≡ vertices_of 1 c.found
   pub basis : p.basis ≡ rows_of G.dimension c.stairs
   pub copies : p.copies ≡ size_of c.stairs
-  pub graph : IsGraphOf G c (graph_in p.graph)
+  pub graph : IsGraphOf G c (graph_view p.graph)

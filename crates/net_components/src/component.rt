@@ -59,7 +59,7 @@ fn full_component<const D: usize>(
     ensures root { result.root ≡ root }
     ensures component { IsComponent g.now result }
 {
-    let _ = g.dimension();
+    g.recall();
     let lattice = lattice(gs, m);
     let _ = lattice.pivots();
     Component {
@@ -80,7 +80,7 @@ pub fn component_of<const D: usize>(
     ensures component { IfOk result (IsComponent g.now) }
     ensures flat { IfErr result (IsFlatFault g.now root) }
 {
-    let _ = g.dimension();
+    g.recall();
     let found = walks(alloc, g, root)?;
     let gs = generators(alloc, g, &found)?;
     match rank_of(&gs) {

@@ -2,7 +2,7 @@
 ghost use Rattle.std.specs.Prelude.{◌≡◌, ◌+◌, ◌++◌, ◌∷◌, [], OnOk, IfOk, IfErr};
 ghost use Rattle.integers.proofs.lists.Matched.{AreMatched};
 ghost use Rattle.vecdim.specs.Stairs.{rows_of};
-ghost use Rattle.quotient_graph.specs.AnyGraphs.{graph_in};
+ghost use Rattle.quotient_graph.specs.AnyGraphs.{graph_view};
 ghost use Rattle.net_components.specs.Components.{IsComponent, AreComponentsTo};
 ghost use Rattle.net_components.specs.Faults.{IsPartFault};
 ghost use Rattle.net_components.specs.Parts.{AreParts};
@@ -38,7 +38,7 @@ fn graph_of<const D: usize>(
 ) -> Result<AnyGraph, PartFault>
     requires component { IsComponent g.now c.now }
     requires vertices { vertices.now ≡ vertices_of 1 c.now.found }
-    ensures graph { IfOk result (λ h. IsGraphOf g.now c.now (graph_in h)) }
+    ensures graph { IfOk result (λ h. IsGraphOf g.now c.now (graph_view h)) }
     ensures wide { IfErr result (IsWideFault g.now c.now) }
 {
     let dim = g.dimension();
@@ -65,7 +65,7 @@ fn part_of<const D: usize>(alloc: Global, g: &Graph<D>, c: &Component<D>) -> Res
     ensures made { IfOk result (IsMadeOf g.now c.now) }
     ensures wide { IfErr result (IsWideFault g.now c.now) }
 {
-    let _ = g.dimension();
+    g.recall();
     let vertices = vertices_of(alloc, &c.found)?;
     let graph = graph_of(alloc, g, c, &vertices)?;
     let basis = basis_of(alloc, &c.lattice)?;
@@ -95,7 +95,7 @@ fn parts_of<const D: usize>(
     ensures made { IfOk result (λ ps. AreMatched (IsMadeOf g.now) components.now ps.items) }
     ensures fault { IfErr result (IsPartFault g.now) }
 {
-    let _ = g.dimension();
+    g.recall();
     let mut parts = Vec::new(alloc);
     for component in components {
         let part = part_of(alloc, g, component)?;
@@ -109,7 +109,7 @@ fn parts_in<const D: usize>(alloc: Global, g: &Graph<D>) -> Result<Vec<Part>, Pa
     ensures parts { IfOk result (λ ps. AreParts g.now ps.items) }
     ensures fault { IfErr result (IsPartFault g.now) }
 {
-    let _ = g.dimension();
+    g.recall();
     let components = components_of(alloc, g)?;
     parts_of(alloc, g, &components)
 }
@@ -117,8 +117,8 @@ fn parts_in<const D: usize>(alloc: Global, g: &Graph<D>) -> Result<Vec<Part>, Pa
 /// The parts of a net, one for each component of its quotient graph, in the order of their least
 /// vertices; or the first fault.
 pub fn components(alloc: Global, g: &AnyGraph) -> Result<Vec<Part>, PartFault>
-    ensures parts { IfOk result (λ ps. AreParts (graph_in g.now) ps.items) }
-    ensures fault { IfErr result (IsPartFault (graph_in g.now)) }
+    ensures parts { IfOk result (λ ps. AreParts (graph_view g.now) ps.items) }
+    ensures fault { IfErr result (IsPartFault (graph_view g.now)) }
 {
     match g {
         AnyGraph::Flat(g) => parts_in(alloc, g),

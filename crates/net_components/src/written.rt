@@ -45,7 +45,7 @@ fn written_edge<const D: usize>(
     ensures written { IfOk result (λ f. IsEdgeOf g.now c.now e.now (edge_of f)) }
     ensures wide { IfErr result (IsWideEdge g.now c.now e.now) }
 {
-    let _ = g.dimension();
+    g.recall();
     let k = shift_in(c, e);
     if let Some(w) = first_wide(&k) {
         return Err(PartFault::WideShift {
@@ -82,7 +82,7 @@ pub fn written_edges<const D: usize>(
         AreEdgesOf g.now c.now g.now.edges (map edge_of es.items)) }
     ensures wide { IfErr result (IsWideFault g.now c.now) }
 {
-    let _ = g.dimension();
+    g.recall();
     let mut edges = Vec::new(alloc);
     for e in g.edges() {
         if c.has(e.from) {

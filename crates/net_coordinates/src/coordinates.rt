@@ -7,7 +7,7 @@ ghost use Rattle.net_coordinates.specs.Lattices.{basis_of, AreInside, AreWithinU
 
 use crate::NoMemory;
 use crate::lattice::lattice_of;
-use quotient_graph::{ClassArc, ClassNet, Classes};
+use quotient_graph::{ClassArc, ClassGraph, Classes};
 use std::alloc::Global;
 use vecdim::Staircase;
 
@@ -51,7 +51,7 @@ pub fn in_coordinates<const D: usize>(
     alloc: Global,
     classes: &Classes<D>,
     bound: i128,
-) -> Result<ClassNet<D>, NoMemory>
+) -> Result<ClassGraph<D>, NoMemory>
     requires from { pos 1 ≤ℤ bound }
     requires to { bound ≤ℤ pos most_units }
     ensures { IfOk result (λ k. AreCoordinates k classes.now.classes) }
@@ -64,5 +64,5 @@ pub fn in_coordinates<const D: usize>(
     for c in 1..count + 1 {
         stars.push(arcs_in(alloc, &lattice, net.arcs(c))?)?;
     }
-    Ok(ClassNet::from_parts(stars))
+    Ok(ClassGraph::from_parts(stars))
 }

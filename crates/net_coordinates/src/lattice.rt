@@ -7,7 +7,7 @@ ghost use Rattle.quotient_graph.specs.ClassNets.{arcs_of};
 ghost use Rattle.vecdim.specs.Lattices.{Members};
 ghost use Rattle.net_coordinates.specs.Lattices.{AreInside};
 
-use quotient_graph::{ClassArc, ClassNet};
+use quotient_graph::{ClassArc, ClassGraph};
 use vecdim::Staircase;
 
 // Adds the vectors of these arcs, and all that they generate.
@@ -21,7 +21,7 @@ fn insert_arcs<const D: usize>(lattice: &mut Staircase<D>, arcs: &[ClassArc<D>])
 }
 
 // The lattice that the vectors of all arcs span, with `bound` times each whole vector.
-pub fn lattice_of<const D: usize>(net: &ClassNet<D>, bound: i128) -> Staircase<D>
+pub fn lattice_of<const D: usize>(net: &ClassGraph<D>, bound: i128) -> Staircase<D>
     requires from { pos 1 ≤ℤ bound }
     requires to { bound ≤ℤ pos most_units }
     ensures { (c : _) → IsClass net.now c → AreInside D result (arcs_of net.now c) }

@@ -50,6 +50,13 @@ impl Cell {
         self.dim
     }
 
+    /// What holds of each cell, for a proof that needs it. It does nothing.
+    pub fn recall(&self)
+        ensures { IsWritten self.now }
+    {
+        let _ = &self.dim;
+    }
+
     // The third row; in dimension 2 the unit vector there.
     fn last(&self) -> Triple
         ensures value { result ≡ last_row self.now }
@@ -105,7 +112,7 @@ pub fn lattice_in<const D: usize>(cell: &Cell, index: u32) -> Staircase<D>
     requires from { 1 ≤ index }
     ensures { IsSublattice D cell.now.rows result }
 {
-    let _ = cell.dimension();
+    cell.recall();
     let rows = [cell.a.to_vector(), cell.b.to_vector(), cell.c.to_vector()];
     lattice_of(&rows[..D], u64::from(index))
 }

@@ -2,13 +2,13 @@
 ghost use Rattle.std.specs.Prelude.{◌≡◌, ◌*◌, ◌≤◌, IfOk, IfErr, OnOk};
 ghost use Rattle.periodic_net.specs.Limits.{most_vertices};
 ghost use Rattle.periodic_net.specs.Maps.{Iso};
-ghost use Rattle.quotient_graph.specs.AnyGraphs.{graph_in};
+ghost use Rattle.quotient_graph.specs.AnyGraphs.{graph_view};
 ghost use Rattle.cover_theory.specs.Covers.{IsCover, HasCoverSize};
 ghost use Rattle.net_cover.specs.Cells.{index_in};
 ghost use Rattle.net_cover.specs.Faults.{IsCoverFault, IsCoverable, FitsEdges};
 
 use crate::cell::lattice_in;
-use crate::lifting::given_edges;
+use crate::dixon_lifting::given_edges;
 use crate::{Cell, CoverFault};
 use periodic_net::{MOST_EDGES, MOST_VERTICES};
 use quotient_graph::{AnyGraph, Graph};
@@ -58,7 +58,8 @@ fn cover_graph<const D: usize>(
     ensures coverable { OnOk result (IsCoverable g.now cell.now) }
     ensures fault { IfErr result (IsCoverFault g.now cell.now) }
 {
-    let _ = (g.dimension(), cell.dimension());
+    g.recall();
+    cell.recall();
     let index = match index_of(g, cell) {
         Ok(index) => index,
         Err(fault) => return Err(fault),
@@ -77,11 +78,11 @@ fn cover_graph<const D: usize>(
 
 /// The graph on a cell of whole rows: its net is the net, up to isomorphism.
 pub fn cover(alloc: Global, g: &AnyGraph, cell: &Cell) -> Result<AnyGraph, CoverFault>
-    ensures cover { IfOk result (λ c. IsCover (graph_in g.now) cell.now.rows (graph_in c)) }
-    ensures iso { IfOk result (λ c. Iso (graph_in g.now) (graph_in c)) }
-    ensures size { IfOk result (λ c. HasCoverSize (graph_in g.now) cell.now.rows (graph_in c)) }
-    ensures coverable { OnOk result (IsCoverable (graph_in g.now) cell.now) }
-    ensures fault { IfErr result (IsCoverFault (graph_in g.now) cell.now) }
+    ensures cover { IfOk result (λ c. IsCover (graph_view g.now) cell.now.rows (graph_view c)) }
+    ensures iso { IfOk result (λ c. Iso (graph_view g.now) (graph_view c)) }
+    ensures size { IfOk result (λ c. HasCoverSize (graph_view g.now) cell.now.rows (graph_view c)) }
+    ensures coverable { OnOk result (IsCoverable (graph_view g.now) cell.now) }
+    ensures fault { IfErr result (IsCoverFault (graph_view g.now) cell.now) }
 {
     match g {
         AnyGraph::Flat(g) => cover_graph(alloc, g, cell).map(AnyGraph::Flat),

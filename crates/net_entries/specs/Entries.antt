@@ -1,7 +1,7 @@
 -- Entries, as contracts see them.
 use Rattle.std.specs.Prelude.{ℕ, ℤ, List, map}
 use Rattle.periodic_net.specs.Graph.{Graph}
-use Rattle.quotient_graph.specs.AnyGraphs.{graph_in}
+use Rattle.quotient_graph.specs.AnyGraphs.{graph_view}
 use Rattle.net_entries.specs.declared.entry.Entry.{Entry}
 
 -- a name, a graph, a key, and for each class the sizes of its shells
@@ -13,7 +13,7 @@ pub record EntryView : Type 0 where
 
 -- what an entry has
 abbrev pub entry_view : Entry → EntryView
-entry_view e = record { name = e.name.items; graph = graph_in e.graph; key = e.key; shells = e.shells }
+entry_view e = record { name = e.name.items; graph = graph_view e.graph; key = e.key; shells = e.shells }
 
 -- what each of these entries has
 abbrev pub entry_views : List Entry → List EntryView

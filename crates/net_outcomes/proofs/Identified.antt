@@ -5,7 +5,7 @@ use Rattle.periodic_net.specs.Graph.{Graph, IsGraph}
 use Rattle.key_theory.specs.Key.{IsKeyOf}
 use Rattle.coordination.specs.Sequences.{AreSequencesOf}
 use Rattle.cgd_read.specs.Views.{RawView}
-use Rattle.least_key.specs.AnyNets.{net_in}
+use Rattle.least_key.specs.AnyNets.{net_view}
 use Rattle.least_key.specs.Placings.{IsPlacedAs}
 use Rattle.least_key.specs.declared.net.Net.{Net}
 use Rattle.least_key.proofs.CallerLemmas.{key_of_graph}
@@ -20,9 +20,9 @@ use Rattle.net_outcomes.proofs.OnlyPlacement.{only_placement}
 
 -- a net with its key and sequences is told with the names that its key finds
 pub identified_as : (entries : List EntryView) (raw : RawView) (size : Size) (vertices : List (List ℕ)) (net : Net) (shells names : List (List ℕ)) → IsKeyedAs raw size net → vertices ≡ raw.names
-    → AreSequencesOf (net_in net).placed.graph shells → All IsEntry entries → names ≡ names_with (net_in net).key entries → IsIdentifiedAs entries raw size vertices net shells names
+    → AreSequencesOf (net_view net).placed.graph shells → All IsEntry entries → names ≡ names_with (net_view net).key entries → IsIdentifiedAs entries raw size vertices net shells names
 identified_as entries raw size vertices net shells names h v s good found =
-    let n = net_in net in
+    let n = net_view net in
     let is_graph = subst IsGraph h.net_is h.keyed.is_graph in
     let key = subst (λ (G : Graph). IsKeyOf G n.key) h.net_is (key_of_graph n h.keyed) in
     let placed = subst (λ (G : Graph). IsPlacedAs G n.placed) h.net_is h.keyed.settled.placed in

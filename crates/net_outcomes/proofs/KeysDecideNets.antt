@@ -14,7 +14,7 @@ use Rattle.key_theory.proofs.CallerLemmas.{keys_decide}
 use Rattle.cgd_read.specs.Graphs.{graph_of}
 use Rattle.cgd_read.specs.Views.{RawView, BodyView, Net, BlockView}
 use Rattle.quotient_graph.specs.Stars.{IsInOrder}
-use Rattle.least_key.specs.AnyNets.{net_in}
+use Rattle.least_key.specs.AnyNets.{net_view}
 use Rattle.least_key.specs.KeyedNets.{KeyedNet, IsKeyed}
 use Rattle.least_key.proofs.CallerLemmas.{key_of_graph, nets_decide}
 use Rattle.net_entries.specs.Entries.{EntryView}
@@ -93,18 +93,18 @@ keyed_told : (entries : List EntryView) (command : Command) (raw : RawView) (bod
 keyed_told entries Key raw (Keyed size net) xs h e = record {
   graph = h.graph;
   in_order = h.read.in_order;
-  net = net_in net;
+  net = net_view net;
   net_is = h.net_is;
   keyed = h.keyed;
-  key = some_is (net_in net).key xs e;
+  key = some_is (net_view net).key xs e;
 }
 keyed_told entries Identify raw (Identified size vertices net shells names) xs h e = record {
   graph = h.keyed.graph;
   in_order = h.keyed.read.in_order;
-  net = net_in net;
+  net = net_view net;
   net_is = h.keyed.net_is;
   keyed = h.keyed.keyed;
-  key = some_is (net_in net).key xs e;
+  key = some_is (net_view net).key xs e;
 }
 keyed_told entries command raw (Keyed size net) xs h e = absurd h
 keyed_told entries command raw (Identified size vertices net shells names) xs h e = absurd h

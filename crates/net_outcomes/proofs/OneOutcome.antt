@@ -14,14 +14,14 @@ use Rattle.periodic_net.proofs.CallerLemmas.{split_shows_not_connected}
 use Rattle.cgd_read.specs.Graphs.{graph_of}
 use Rattle.cgd_read.specs.Views.{RawView, BodyView, Net, Other, Faulty, BlockView}
 use Rattle.quotient_graph.specs.Order.{arc_numbers}
-use Rattle.quotient_graph.specs.Splits.{split_in}
+use Rattle.quotient_graph.specs.Splits.{split_view}
 use Rattle.quotient_graph.specs.Stars.{IsInOrder}
 use Rattle.component_report.specs.Told.{AreComponentsTold}
 use Rattle.component_report.proofs.CallerLemmas.{one_telling as one_telling_of_parts}
 use Rattle.coordination.specs.Sequences.{AreSequencesOf}
 use Rattle.coordination.proofs.CallerLemmas.{one_list_of_sequences}
-use Rattle.least_key.specs.AnyNets.{net_in}
-use Rattle.least_key.specs.AnyPlacements.{placed_in}
+use Rattle.least_key.specs.AnyNets.{net_view}
+use Rattle.least_key.specs.AnyPlacements.{placed_view}
 use Rattle.least_key.specs.KeyedNets.{IsKeyed, KeyedNet}
 use Rattle.least_key.specs.Laws.{TellAlike}
 use Rattle.least_key.specs.Placings.{IsPlacedAs}
@@ -124,8 +124,8 @@ module _ (raw : RawView) where
       connected = subst IsConnected (same_graph s t a.graph b.graph a.read b.read) a.connected
 
       by : (r : Refusal) → IsTrueOf b.graph r → MayTell Check r → ⊥
-      by (Disconnected split) h m = split_shows_not_connected b.graph (split_in split) b.read.is_graph h.1 connected
-      by (Degenerate split) h m = split_shows_not_connected b.graph (split_in split) b.read.is_graph h.1 connected
+      by (Disconnected split) h m = split_shows_not_connected b.graph (split_view split) b.read.is_graph h.1 connected
+      by (Degenerate split) h m = split_shows_not_connected b.graph (split_view split) b.read.is_graph h.1 connected
       by (NoModulus first second third) h m = m
       by (WidePlacement w) h m = m
       by (Collision dim u v c) h m = m
@@ -144,8 +144,8 @@ module _ (raw : RawView) where
   -- nor is a placed one
   located_not_refused : (s t : Size) (ms ns : List (List ℕ)) (p : AnyPlaced) (r : Refusal) → IsLocatedAs raw s ms p → ¬ IsRefusedAs Place raw t ns r
   located_not_refused s t ms ns p r a b =
-      let placed = subst (λ G. IsPlacedAs G (placed_in p)) (same_graph s t a.graph b.graph a.read b.read) a.placed_as in
-      told Place r b.may (placed_is_not_refused b.graph (placed_in p) r b.read.is_graph placed (place_of r b.may) b.is_true)
+      let placed = subst (λ G. IsPlacedAs G (placed_view p)) (same_graph s t a.graph b.graph a.read b.read) a.placed_as in
+      told Place r b.may (placed_is_not_refused b.graph (placed_view p) r b.read.is_graph placed (place_of r b.may) b.is_true)
 
   -- nor one with a key
   pub keyed_not_refused : (command : Command) (t : Size) (ns : List (List ℕ)) (n : KeyedNet) (r : Refusal) → IsInOrder (graph_of raw) n.placed.graph → IsKeyed n → ¬ IsRefusedAs command raw t ns r
@@ -155,18 +155,18 @@ module _ (raw : RawView) where
 
   keyed_as_not_refused : (command : Command) (s t : Size) (ns : List (List ℕ)) (n : AnyNet) (r : Refusal) → IsKeyedAs raw s n → ¬ IsRefusedAs command raw t ns r
   keyed_as_not_refused command s t ns n r a =
-      keyed_not_refused command t ns (net_in n) r (subst (λ G. IsInOrder (graph_of raw) G) (sym a.net_is) a.read.in_order) a.keyed
+      keyed_not_refused command t ns (net_view n) r (subst (λ G. IsInOrder (graph_of raw) G) (sym a.net_is) a.read.in_order) a.keyed
 
   one_located : (s t : Size) (ms ns : List (List ℕ)) (p q : AnyPlaced) → IsLocatedAs raw s ms p → IsLocatedAs raw t ns q → SpeakAlike (Located s ms p) (Located t ns q)
   one_located s t ms ns p q a b =
       let graph = same_graph s t a.graph b.graph a.read b.read in
       let size = same_size s t a.graph b.graph a.read b.read in
       let names = a.names_are ∙ sym b.names_are in
-      let placed = one_placed a.graph a.read.is_graph (placed_in p) (placed_in q) a.placed_as (subst (λ G. IsPlacedAs G (placed_in q)) (sym graph) b.placed_as) in
+      let placed = one_placed a.graph a.read.is_graph (placed_view p) (placed_view q) a.placed_as (subst (λ G. IsPlacedAs G (placed_view q)) (sym graph) b.placed_as) in
       record { text = λ i. size_text (size i) ++ placement_text (names i) (placed i); accepted = refl; key = refl }
 
-  same_net : (s t : Size) (m n : AnyNet) → IsKeyedAs raw s m → IsKeyedAs raw t n → TellAlike (net_in m) (net_in n)
-  same_net s t m n a b = one_net (net_in m) (net_in n) a.keyed b.keyed (a.net_is ∙ same_graph s t a.graph b.graph a.read b.read ∙ sym b.net_is)
+  same_net : (s t : Size) (m n : AnyNet) → IsKeyedAs raw s m → IsKeyedAs raw t n → TellAlike (net_view m) (net_view n)
+  same_net s t m n a b = one_net (net_view m) (net_view n) a.keyed b.keyed (a.net_is ∙ same_graph s t a.graph b.graph a.read b.read ∙ sym b.net_is)
 
   one_keyed : (s t : Size) (m n : AnyNet) → IsKeyedAs raw s m → IsKeyedAs raw t n → SpeakAlike (Keyed s m) (Keyed t n)
   one_keyed s t m n a b =

@@ -6,7 +6,7 @@ use Rattle.periodic_net.specs.Maps.{Iso}
 use Rattle.cgd_read.specs.Graphs.{graph_of}
 use Rattle.cgd_read.specs.Views.{RawView, Net, BlockView}
 use Rattle.quotient_graph.specs.Stars.{IsInOrder}
-use Rattle.least_key.specs.AnyNets.{net_in}
+use Rattle.least_key.specs.AnyNets.{net_view}
 use Rattle.least_key.specs.Certain.{IsCertain}
 use Rattle.net_entries.specs.Entries.{EntryView}
 use Rattle.net_archive.specs.Deciding.{KeysDecideArchive}
@@ -19,8 +19,8 @@ use Rattle.net_outcomes.specs.Outcomes.{AreOutcomesFrom, is_accepted}
 
 -- the key that is told of a block
 abbrev pub key_told : OutcomeBody → Option (List ℤ)
-key_told (Keyed size net) = Some (net_in net).key
-key_told (Identified size vertices net shells names) = Some (net_in net).key
+key_told (Keyed size net) = Some (net_view net).key
+key_told (Identified size vertices net shells names) = Some (net_view net).key
 key_told told = None
 
 -- block number i, counted from 0, is this one, with this outcome

@@ -13,8 +13,8 @@ use Rattle.net_report.specs.declared.outcome.Size.{Size}
 use Rattle.net_report.specs.declared.outcome.Outcome.{Outcome}
 use Rattle.net_report.specs.declared.outcome.OutcomeBody.{OutcomeBody}
 use Rattle.net_report.specs.declared.outcome.OutcomeBody.TheVariants.{Unsupported, Malformed, Refused, Checked, Located, Keyed, Identified, Lines, Faulty as FaultyItem}
-use Rattle.least_key.specs.AnyPlacements.{placed_in}
-use Rattle.least_key.specs.AnyNets.{net_in}
+use Rattle.least_key.specs.AnyPlacements.{placed_view}
+use Rattle.least_key.specs.AnyNets.{net_view}
 use Rattle.least_key.specs.KeyedNets.{IsKeyed}
 use Rattle.least_key.specs.Placings.{IsPlacedAs}
 use Rattle.least_key.specs.Truths.{IsTrueOf, IsOfConnecting, IsOfPlacing}
@@ -67,22 +67,22 @@ pub record IsLocatedAs (raw : RawView) (size : Size) (names : List (List ℕ)) (
   pub graph : Graph
   pub read : IsGraphOf raw size graph
   pub names_are : names ≡ raw.names
-  pub placed_as : IsPlacedAs graph (placed_in placed)
-  pub only : IsOnlyPlacement graph (placed_in placed).placement
+  pub placed_as : IsPlacedAs graph (placed_view placed)
+  pub only : IsOnlyPlacement graph (placed_view placed).placement
 
 -- the block's graph has a key, and this is its net
 pub record IsKeyedAs (raw : RawView) (size : Size) (net : KeyedNet) : Type 0 where
   pub graph : Graph
   pub read : IsGraphOf raw size graph
-  pub net_is : (net_in net).placed.graph ≡ graph
-  pub keyed : IsKeyed (net_in net)
+  pub net_is : (net_view net).placed.graph ≡ graph
+  pub keyed : IsKeyed (net_view net)
 
 -- the block's graph has a key, and this is its net, with the placement, the only one but for translates, the primitive graph, the
 -- key and the sizes of shells; and these are the names of exactly the isomorphic entries
 pub record IsIdentifiedAs (entries : List EntryView) (raw : RawView) (size : Size) (vertices : List (List ℕ)) (net : KeyedNet) (shells names : List (List ℕ)) : Type 0 where
   pub keyed : IsKeyedAs raw size net
   pub vertices_are : vertices ≡ raw.names
-  pub only : IsOnlyPlacement keyed.graph (net_in net).placed.placement
+  pub only : IsOnlyPlacement keyed.graph (net_view net).placed.placement
   pub shells_are : AreSequencesOf keyed.graph shells
   pub names_are : AreNamesOf keyed.graph entries names
 

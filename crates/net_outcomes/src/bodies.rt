@@ -1,6 +1,6 @@
 // What a command tells of a block.
 ghost use Rattle.std.specs.Prelude.{◌≡◌, ◌≢◌, IfOk, List};
-ghost use Rattle.least_key.specs.AnyNets.{net_in};
+ghost use Rattle.least_key.specs.AnyNets.{net_view};
 ghost use Rattle.net_archive.specs.Archives.{IsArchive};
 ghost use Rattle.net_entries.specs.Entries.{EntryView};
 ghost use Rattle.net_entries.specs.Lookups.{names_with};
@@ -81,7 +81,7 @@ fn key_net<'a>(alloc: Global, raw: &RawGraph<'a>) -> Result<OutcomeBody<'a>, NoM
 // The names that an archive has for a net with this key.
 fn names_for<'a>(alloc: Global, archive: &'a Archive, net: &Net) -> Result<Names<'a>, NoMemory>
     ensures names { IfOk result (λ names.
-        names ≡ names_with (net_in net.now).key archive.now.entries) }
+        names ≡ names_with (net_view net.now).key archive.now.entries) }
     ensures archive { IsArchive archive.now }
 {
     let mut names = Names::new(alloc);

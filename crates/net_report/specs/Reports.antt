@@ -2,8 +2,8 @@
 use Rattle.std.specs.Prelude.{◌≡◌, ℕ, List, [], ◌∷◌, ◌++◌, length, option_copied, codes}
 use Rattle.net_report.specs.Headers.{header_text, size_text, unsupported_text, fault_text, faulty_text}
 use Rattle.net_report.specs.Refusals.{refused_text, HasLine}
-use Rattle.least_key.specs.AnyPlacements.{placed_in}
-use Rattle.least_key.specs.AnyNets.{net_in}
+use Rattle.least_key.specs.AnyPlacements.{placed_view}
+use Rattle.least_key.specs.AnyNets.{net_view}
 use Rattle.net_report.specs.Identified.{identified_text}
 use Rattle.net_report.specs.Keys.{key_text}
 use Rattle.net_report.specs.Placements.{placement_text}
@@ -18,9 +18,9 @@ body_text (Malformed fault) = fault_text fault
 body_text (Faulty line number kind) = faulty_text line number kind.now
 body_text (Refused size names refusal) = size_text size ++ refused_text names refusal
 body_text (Checked size) = size_text size ++ codes "connected\n"
-body_text (Located size names placed) = size_text size ++ placement_text names (placed_in placed)
-body_text (Keyed size net) = size_text size ++ key_text (net_in net).key
-body_text (Identified size vertices net shells names) = size_text size ++ identified_text vertices (net_in net) shells names
+body_text (Located size names placed) = size_text size ++ placement_text names (placed_view placed)
+body_text (Keyed size net) = size_text size ++ key_text (net_view net).key
+body_text (Identified size vertices net shells names) = size_text size ++ identified_text vertices (net_view net) shells names
 body_text (Lines size accepted lines) = size_text size ++ lines
 
 -- the header, and the lines after it
@@ -39,9 +39,9 @@ IsPrintableBody (Malformed fault) = Unit {0}
 IsPrintableBody (Faulty line number kind) = Unit {0}
 IsPrintableBody (Refused size names refusal) = HasLine names refusal
 IsPrintableBody (Checked size) = Unit {0}
-IsPrintableBody (Located size names placed) = length names ≡ (placed_in placed).graph.vertices
+IsPrintableBody (Located size names placed) = length names ≡ (placed_view placed).graph.vertices
 IsPrintableBody (Keyed size net) = Unit {0}
-IsPrintableBody (Identified size vertices net shells names) = length vertices ≡ (net_in net).placed.graph.vertices
+IsPrintableBody (Identified size vertices net shells names) = length vertices ≡ (net_view net).placed.graph.vertices
 IsPrintableBody (Lines size accepted lines) = Unit {0}
 
 -- an outcome has a text

@@ -2,7 +2,7 @@
 ghost use Rattle.std.specs.Prelude.{◌≡◌, ◌++◌, OnOk, length};
 ghost use Rattle.cgd_read.specs.Names.{texts};
 ghost use Rattle.coordination.specs.Sequences.{numbers_in};
-ghost use Rattle.least_key.specs.AnyNets.{net_in};
+ghost use Rattle.least_key.specs.AnyNets.{net_view};
 ghost use Rattle.net_report.specs.Identified.{archive_name_text, archive_names_text, found_names_text, identified_text, net_text, sequences_text};
 
 use crate::NoMemory;
@@ -63,16 +63,16 @@ fn push_net_of<const D: usize>(
     ensures { OnOk result (text.new.items ≡ text.old.items ++ net_text vertices.now net.now) }
 {
     let placed = net.stable.placed();
-    let _ = placed.graph().dimension(); // which is D
+    placed.graph().recall();
     push_placed(text, vertices, placed)?;
     push_primitive(text, &net.primitive)?;
     push_key(text, &net.key)
 }
 
 fn push_net(text: &mut Vec<u8>, vertices: &Names<'_>, net: &Net) -> Result<(), NoMemory>
-    requires { length vertices.now ≡ (net_in net.now).placed.graph.vertices }
+    requires { length vertices.now ≡ (net_view net.now).placed.graph.vertices }
     ensures { OnOk result (text.new.items ≡
-        text.old.items ++ net_text vertices.now (net_in net.now)) }
+        text.old.items ++ net_text vertices.now (net_view net.now)) }
 {
     match net {
         Net::Flat(net) => push_net_of(text, vertices, net),
@@ -89,9 +89,9 @@ pub fn push_identified(
     shells: &Sequences,
     names: &Names<'_>,
 ) -> Result<(), NoMemory>
-    requires { length vertices.now ≡ (net_in net.now).placed.graph.vertices }
+    requires { length vertices.now ≡ (net_view net.now).placed.graph.vertices }
     ensures { OnOk result (text.new.items ≡
-        text.old.items ++ identified_text vertices.now (net_in net.now) shells.now names.now) }
+        text.old.items ++ identified_text vertices.now (net_view net.now) shells.now names.now) }
 {
     push_net(text, vertices, net)?;
     push_lists(text, shells.as_slice())?;

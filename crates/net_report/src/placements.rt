@@ -1,7 +1,7 @@
 // The lines of a placement.
 ghost use Rattle.std.specs.Prelude.{◌≡◌, ◌++◌, OnOk, length};
 ghost use Rattle.periodic_net.specs.Graph.{IsQuotientVertex};
-ghost use Rattle.least_key.specs.AnyPlacements.{placed_in};
+ghost use Rattle.least_key.specs.AnyPlacements.{placed_view};
 ghost use Rattle.net_report.specs.Placements.{position_text, positions_text, placement_word, denominator_text, placement_text};
 
 use crate::NoMemory;
@@ -82,9 +82,9 @@ pub fn push_placement(
     names: &Names<'_>,
     placed: &AnyPlaced,
 ) -> Result<(), NoMemory>
-    requires { length names.now ≡ (placed_in placed.now).graph.vertices }
+    requires { length names.now ≡ (placed_view placed.now).graph.vertices }
     ensures { OnOk result (text.new.items ≡
-        text.old.items ++ placement_text names.now (placed_in placed.now)) }
+        text.old.items ++ placement_text names.now (placed_view placed.now)) }
 {
     match placed {
         AnyPlaced::Flat(placed) => push_placed(text, names, placed),

@@ -4,7 +4,8 @@ ghost use Rattle.outside.specs.Causes.{Rose};
 ghost use Rattle.outside.specs.Held.{Holds, Stand, HasNoByteAt, Are, HasMore};
 ghost use Rattle.outside.specs.Last.{Last, MayRead, Nothing, Given, Failed};
 
-use std::alloc::{AllocError, Global};
+use crate::NoMemory;
+use std::alloc::Global;
 use thiserror::Error;
 
 /// Why a shelf gives nothing.
@@ -73,12 +74,12 @@ impl From<ShelfFault> for InFault {
     }
 }
 
-impl From<AllocError> for InFault {
+impl From<NoMemory> for InFault {
     ghost use Rattle.outside.specs.Faults.{no_memory};
 
     ghost from_gives = { λ fault told. told ≡ no_memory };
 
-    fn from(_fault: AllocError) -> InFault {
+    fn from(_fault: NoMemory) -> InFault {
         InFault::NoMemory
     }
 }

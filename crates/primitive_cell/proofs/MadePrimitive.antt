@@ -3,8 +3,8 @@ use Rattle.std.proofs.Common.{◌↔◌, ℕ, ◌+◌, List, sym, subst, arith}
 use Rattle.std.specs.List.{Contains}
 use Rattle.periodic_net.specs.Graph.{Arc, IsNormalSpelling}
 use Rattle.key_theory.specs.Primitive.{Gives, IsPrimitive}
-use Rattle.cell_theory.specs.Laws.{IsDivided}
-use Rattle.cell_theory.proofs.CallerLemmas.{primitive_is_divided}
+use Rattle.primitive_theory.specs.Laws.{IsDivided}
+use Rattle.primitive_theory.proofs.CallerLemmas.{primitive_is_divided}
 use Rattle.quotient_graph.specs.NetClasses.{NetClasses, class_at}
 use Rattle.quotient_graph.specs.PlacedNets.{PlacedNet}
 use Rattle.quotient_graph.specs.Stars.{graph_with}

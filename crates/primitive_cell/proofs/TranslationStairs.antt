@@ -11,8 +11,8 @@ use Rattle.periodic_net.specs.Classes.{IsTranslation, AreTranslations}
 use Rattle.periodic_net.specs.Graph.{Graph, IsGraph}
 use Rattle.periodic_net.specs.Placement.{Placement, IsStablePlacement}
 use Rattle.periodic_net.proofs.CallerLemmas.{translations_are_group}
-use Rattle.class_theory.proofs.CallerLemmas.{moves_are_translations}
-use Rattle.cell_theory.proofs.CallerLemmas.{translations_group}
+use Rattle.refinement_theory.proofs.CallerLemmas.{moves_are_translations}
+use Rattle.primitive_theory.proofs.CallerLemmas.{translations_group}
 use Rattle.quotient_graph.specs.PlacedNets.{PlacedNet}
 use Rattle.vecdim.specs.Lattices.{IsWith, AreMultiples, Members}
 use Rattle.vecdim.specs.Stairs.{Stairs, rows_of}

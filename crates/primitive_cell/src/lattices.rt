@@ -10,7 +10,7 @@ pub fn lattice_of<const D: usize>(net: &Stable<D>, translations: &[Vect<D>]) -> 
     requires { AreTranslations net.now.graph net.now.placement translations.now }
     ensures { IsTranslationLattice D net.now result }
 {
-    let _ = net.graph().dimension();
+    net.graph().recall();
     let mut stairs = Staircase::from_bound(net.placed().d0());
     stairs.insert_all(translations);
     let _ = stairs.rows();

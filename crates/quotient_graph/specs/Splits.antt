@@ -3,5 +3,5 @@ use Rattle.periodic_net.specs.Split.{Split as NetSplit}
 use Rattle.quotient_graph.specs.declared.split.Split.{Split}
 
 -- the colouring that a Split stands for
-abbrev pub split_in : Split → NetSplit
-split_in s = record { q = s.q; c = s.c; h = s.h }
+abbrev pub split_view : Split → NetSplit
+split_view s = record { q = s.q; c = s.c; h = s.h }

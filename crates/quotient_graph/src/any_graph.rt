@@ -7,7 +7,7 @@ ghost use Rattle.quotient_graph.specs.Edges.{edge_of};
 ghost use Rattle.quotient_graph.specs.Order.{AreRising};
 ghost use Rattle.quotient_graph.specs.Stars.{IsInOrder, graph_with};
 ghost use Rattle.quotient_graph.specs.EdgeLists.{AreEdgesOfGraph};
-ghost use Rattle.quotient_graph.specs.AnyGraphs.{graph_in};
+ghost use Rattle.quotient_graph.specs.AnyGraphs.{graph_view};
 
 use crate::{Arc, Edge, Graph, NoMemory};
 use std::alloc::Global;
@@ -23,9 +23,9 @@ pub enum AnyGraph {
 impl AnyGraph {
     /// An equal graph. A graph in memory is within the limits, and its edges rise.
     pub fn copy(&self) -> Result<AnyGraph, NoMemory>
-        ensures graph { IfOk result (λ g. graph_in g ≡ graph_in self.now) }
-        ensures small { IsSmall (graph_in self.now) }
-        ensures rising { AreRising (graph_in self.now).edges }
+        ensures graph { IfOk result (λ g. graph_view g ≡ graph_view self.now) }
+        ensures small { IsSmall (graph_view self.now) }
+        ensures rising { AreRising (graph_view self.now).edges }
     {
         match self {
             AnyGraph::Flat(graph) => graph.copy().map(AnyGraph::Flat),
@@ -60,11 +60,7 @@ fn edges_of<const D: usize>(alloc: Global, edges: &[Edge]) -> Result<Vec<Arc<D>>
     Ok(arcs)
 }
 
-fn graph_from<const D: usize>(
-    alloc: Global,
-    n: u32,
-    edges: &[Edge],
-) -> Result<Graph<D>, NoMemory>
+fn graph_from<const D: usize>(alloc: Global, n: u32, edges: &[Edge]) -> Result<Graph<D>, NoMemory>
     requires is_graph { IsGraph (graph_with D n (map edge_of edges.now)) }
     requires small { IsSmall (graph_with D n (map edge_of edges.now)) }
     ensures { IfOk result (IsInOrder (graph_with D n (map edge_of edges.now))) }
@@ -74,15 +70,10 @@ fn graph_from<const D: usize>(
 }
 
 /// The graph with n vertices and these edges, which stand in any order.
-pub fn from_unsorted(
-    alloc: Global,
-    dim: u8,
-    n: u32,
-    edges: &[Edge],
-) -> Result<AnyGraph, NoMemory>
+pub fn from_unsorted(alloc: Global, dim: u8, n: u32, edges: &[Edge]) -> Result<AnyGraph, NoMemory>
     requires is_graph { IsGraph (graph_with dim n (map edge_of edges.now)) }
     requires small { IsSmall (graph_with dim n (map edge_of edges.now)) }
-    ensures { IfOk result (λ g. IsInOrder (graph_with dim n (map edge_of edges.now)) (graph_in g)) }
+    ensures { IfOk result (λ g. IsInOrder (graph_with dim n (map edge_of edges.now)) (graph_view g)) }
 {
     if dim == 2 {
         Ok(AnyGraph::Flat(graph_from(alloc, n, edges)?))
@@ -106,7 +97,7 @@ fn graph_from_edges<const D: usize>(
 /// The graph with exactly n vertices and these edges, which stand in the order of a graph already.
 pub fn from_edges(alloc: Global, dim: u8, n: u32, edges: &[Edge]) -> Result<AnyGraph, NoMemory>
     requires { AreEdgesOfGraph dim n edges.now }
-    ensures { IfOk result (λ g. graph_in g ≡ graph_with dim n (map edge_of edges.now)) }
+    ensures { IfOk result (λ g. graph_view g ≡ graph_with dim n (map edge_of edges.now)) }
 {
     if dim == 2 {
         Ok(AnyGraph::Flat(graph_from_edges(alloc, n, edges)?))

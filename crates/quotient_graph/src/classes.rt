@@ -6,7 +6,7 @@ ghost use Rattle.periodic_net.specs.Limits.{most_arcs, most_vertices, IsSmall};
 ghost use Rattle.quotient_graph.specs.ClassNets.{arcs_of, class_graph, IsNetInMemory};
 ghost use Rattle.quotient_graph.specs.NetClasses.{AreClasses, AreClassesOf, class_at};
 
-use crate::{ClassArc, ClassNet, Graph};
+use crate::{ClassArc, ClassGraph, Graph};
 use std::marker::Model;
 use vecdim::Vect;
 
@@ -18,7 +18,7 @@ use vecdim::Vect;
 pub struct Classes<const D: usize> {
     graph: Graph<D>,
     class_of: Vec<u32>,
-    net: ClassNet<D>,
+    net: ClassGraph<D>,
     translations: Vec<Vect<D>>,
 }
 
@@ -57,13 +57,13 @@ impl<const D: usize> Classes<D> {
         Classes {
             graph,
             class_of,
-            net: ClassNet::from_parts(arcs),
+            net: ClassGraph::from_parts(arcs),
             translations,
         }
     }
 
     /// The class graph.
-    pub fn net(&self) -> &ClassNet<D>
+    pub fn net(&self) -> &ClassGraph<D>
         ensures net { result.now ≡ self.now.classes }
         ensures classes { AreClasses self.now }
         ensures is_graph { IsGraph self.now.graph }

@@ -78,6 +78,16 @@ impl<const D: usize> Graph<D> {
         D as u8
     }
 
+    /// What holds of each graph in memory, for a proof that needs it. It does nothing.
+    pub fn recall(&self)
+        ensures parameter { self.now.dimension ≡ D }
+        ensures two_or_three { (D ≡ 2) ⊎ (D ≡ 3) }
+        ensures is_graph { IsGraph self.now }
+        ensures small { IsSmall self.now }
+    {
+        let _ = &self.vertices;
+    }
+
     pub fn vertices(&self) -> u32
         ensures count { result ≡ self.now.vertices }
         ensures parameter { self.now.dimension ≡ D }

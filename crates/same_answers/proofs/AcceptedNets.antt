@@ -13,7 +13,7 @@ use Rattle.cgd_read.specs.declared.block.Body.{Body}
 use Rattle.cgd_read.specs.declared.block.Body.TheVariants.{Graph as GraphBody, Unsupported as UnsupportedBody, Malformed as MalformedBody}
 use Rattle.quotient_graph.specs.Stars.{IsInOrder}
 use Rattle.quotient_graph.proofs.GraphsInMemory.{reordered_small}
-use Rattle.least_key.specs.AnyNets.{net_in}
+use Rattle.least_key.specs.AnyNets.{net_view}
 use Rattle.least_key.specs.KeyedNets.{IsKeyed}
 use Rattle.least_key.specs.declared.net.Net.{Net as NetInMemory}
 use Rattle.net_entries.specs.Entries.{EntryView}
@@ -37,9 +37,9 @@ record IsToldNet (view : BodyView) (told : OutcomeBody) : Type 0 where
   told_is : net_told told ≡ Some net
   raw : RawView
   graph : view ≡ Net raw
-  read : IsInOrder (graph_of raw) (net_in net).placed.graph
-  small : IsSmall (net_in net).placed.graph
-  keyed : IsKeyed (net_in net)
+  read : IsInOrder (graph_of raw) (net_view net).placed.graph
+  small : IsSmall (net_view net).placed.graph
+  keyed : IsKeyed (net_view net)
 
 -- where a block is accepted its net is told
 told_net : (entries : List EntryView) (body : Body) (told : OutcomeBody) → IsReadBody body → IsBodyOf entries Key (body_view body) told → is_accepted_body told ≡ true → IsToldNet (body_view body) told
@@ -54,7 +54,7 @@ told_net entries (GraphBody raw) (Keyed size net) read h a =
       raw = raw_view raw;
       graph = refl;
       read = order;
-      small = small_in_order (graph_of (raw_view raw)) (net_in net).placed.graph order read.small;
+      small = small_in_order (graph_of (raw_view raw)) (net_view net).placed.graph order read.small;
       keyed = h.keyed;
     }
 told_net entries (GraphBody raw) told read h a = absurd h
@@ -74,7 +74,7 @@ nets_of_blocks entries n (b ∷ found) [] read h a = absurd h
 nets_of_blocks entries n (b ∷ found) (o ∷ os) read h a =
     let tests = both (is_accepted o) (list_all is_accepted os) a in
     let t = told_net entries b.body o.body (All-head (λ (x : Block). IsReadBody x.body) b found read) h.0.body tests.0 in
-    let first : IsNetOf (block_view b) (net_in t.net) = record { raw = t.raw; graph = t.graph; read = t.read; small = t.small; keyed = t.keyed } in
+    let first : IsNetOf (block_view b) (net_view t.net) = record { raw = t.raw; graph = t.graph; read = t.read; small = t.small; keyed = t.keyed } in
     let rest = nets_of_blocks entries (n + 1) found os (All-tail (λ (x : Block). IsReadBody x.body) b found read) h.1 tests.1 in
     subst (λ (told : Option NetInMemory). AreNetsOf (views (b ∷ found)) (with_net told (nets_told os))) (sym t.told_is) (first, rest)
 

@@ -1,7 +1,7 @@
 -- What the steps of the code tell.
 use Rattle.std.specs.Prelude.{◌≡◌, ℕ, ◌-◌, List, [], ◌∷◌, ◌++◌, Option, None, Some}
 use Rattle.line_text.specs.Lines.{rows_text}
-use Rattle.least_key.specs.AnyNets.{net_in}
+use Rattle.least_key.specs.AnyNets.{net_view}
 use Rattle.least_key.specs.KeyedNets.{KeyedNet}
 use Rattle.least_key.specs.declared.net.Net.{Net as NetInMemory}
 use Rattle.map_text.specs.Items.{ItemView}
@@ -14,7 +14,7 @@ use Rattle.same_answers.specs.Items.{IsItemOf, AreItemsOf, images_in}
 -- the net that is told of a block, where one is, before those of other blocks
 abbrev pub with_net : Option NetInMemory → List KeyedNet → List KeyedNet
 with_net None nets = nets
-with_net (Some net) nets = net_in net ∷ nets
+with_net (Some net) nets = net_view net ∷ nets
 
 -- the nets that are told of blocks
 abbrev pub nets_told : List Outcome → List KeyedNet

@@ -1,7 +1,7 @@
 // The item of a net: why there is no map to it from the first net, or the map.
 ghost use Rattle.std.specs.Prelude.{◌≡◌, ◌≤◌, IfOk};
-ghost use Rattle.quotient_graph.specs.AnyGraphs.{graph_in};
-ghost use Rattle.least_key.specs.AnyNets.{net_in};
+ghost use Rattle.quotient_graph.specs.AnyGraphs.{graph_view};
+ghost use Rattle.least_key.specs.AnyNets.{net_view};
 ghost use Rattle.map_check.specs.Conditions.{most_images};
 ghost use Rattle.map_text.specs.Items.{IsWritable, item_view};
 ghost use Rattle.same_answers.specs.Items.{IsItemOf, images_in};
@@ -15,7 +15,7 @@ use std::alloc::Global;
 
 /// A copy of the graph of a net.
 pub fn graph_of(net: &Net) -> Result<AnyGraph, NoMemory>
-    ensures { IfOk result (λ g. graph_in g ≡ (net_in net.now).placed.graph) }
+    ensures { IfOk result (λ g. graph_view g ≡ (net_view net.now).placed.graph) }
 {
     match net {
         Net::Flat(net) => net.stable.graph().copy().map(AnyGraph::Flat),
@@ -25,7 +25,7 @@ pub fn graph_of(net: &Net) -> Result<AnyGraph, NoMemory>
 
 /// The dimension of a net.
 pub fn dimension_of(net: &Net) -> u8
-    ensures { result ≡ (net_in net.now).placed.graph.dimension }
+    ensures { result ≡ (net_view net.now).placed.graph.dimension }
 {
     match net {
         Net::Flat(net) => net.stable.graph().dimension(),
@@ -37,7 +37,7 @@ pub fn dimension_of(net: &Net) -> u8
 pub fn item_of(alloc: Global, first: &Net, net: &Net, room: u64) -> Result<Item, NoMemory>
     requires { room ≤ most_images }
     ensures item { IfOk result (λ item.
-        IsItemOf (net_in first.now) room (net_in net.now) (item_view item)) }
+        IsItemOf (net_view first.now) room (net_view net.now) (item_view item)) }
     ensures writable { IfOk result (λ item. IsWritable (item_view item)) }
     ensures few { IfOk result (λ item. images_in (item_view item) ≤ room) }
 {

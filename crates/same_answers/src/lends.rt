@@ -1,6 +1,6 @@
 // What lends a net.
 ghost use Rattle.std.specs.Prelude.{◌≡◌};
-ghost use Rattle.least_key.specs.AnyNets.{net_in};
+ghost use Rattle.least_key.specs.AnyNets.{net_view};
 ghost use Rattle.least_key.specs.KeyedNets.{KeyedNet};
 
 use least_key::Net;
@@ -10,11 +10,11 @@ pub trait LendsNet {
     ghost net: { Self → KeyedNet };
 
     fn net(&self) -> &Net
-        ensures { net_in result.now ≡ net self.now };
+        ensures { net_view result.now ≡ net self.now };
 }
 
 impl LendsNet for Net {
-    ghost net = { net_in };
+    ghost net = { net_view };
 
     fn net(&self) -> &Net {
         self
@@ -22,7 +22,7 @@ impl LendsNet for Net {
 }
 
 impl<'a> LendsNet for &'a Net {
-    ghost net = { λ n. net_in n.now };
+    ghost net = { λ n. net_view n.now };
 
     fn net(&self) -> &Net {
         self

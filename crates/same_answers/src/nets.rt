@@ -1,6 +1,6 @@
 // The nets that are told of blocks.
 ghost use Rattle.std.specs.Prelude.{◌≡◌, ◌≤◌, length, map, IfOk, option_copied};
-ghost use Rattle.least_key.specs.AnyNets.{net_in};
+ghost use Rattle.least_key.specs.AnyNets.{net_view};
 ghost use Rattle.net_outcomes.specs.Outcomes.{net_told};
 ghost use Rattle.same_answers.specs.Steps.{nets_told};
 
@@ -22,7 +22,7 @@ fn net_told<'a>(outcome: &'a Outcome<'_>) -> Option<&'a Net>
 /// The nets that are told of blocks, lent.
 pub fn nets_told<'a>(alloc: Global, outcomes: &'a [Outcome<'_>]) -> Result<Vec<&'a Net>, NoMemory>
     ensures nets { IfOk result (λ nets.
-        map (λ n. net_in n.now) nets.items ≡ nets_told outcomes.now) }
+        map (λ n. net_view n.now) nets.items ≡ nets_told outcomes.now) }
     ensures few { IfOk result (λ nets. length nets.items ≤ length outcomes.now) }
 {
     let mut nets = Vec::new(alloc);

@@ -3,7 +3,7 @@ ghost use Rattle.std.specs.Prelude.{◌≡◌, ◌≤◌, ◌++◌, length, map,
 ghost use Rattle.line_text.specs.Lines.{rows_text};
 ghost use Rattle.cgd_read.specs.Blocks.{most_blocks};
 ghost use Rattle.graph_rows.specs.Rows.{graph_lines};
-ghost use Rattle.least_key.specs.AnyNets.{net_in};
+ghost use Rattle.least_key.specs.AnyNets.{net_view};
 ghost use Rattle.map_check.specs.Conditions.{most_images};
 ghost use Rattle.same_answers.specs.Items.{IsMapsTextOf};
 ghost use Rattle.same_answers.specs.Steps.{AreItemsLast, IsItemLast};
@@ -22,7 +22,7 @@ const MOST_IMAGES: u64 = 100_000;
 // Puts the rows of the graph of a net last.
 fn push_net(text: &mut Vec<u8>, net: &Net) -> Result<(), NoMemory>
     ensures { OnOk result (text.new.items ≡
-        text.old.items ++ rows_text (graph_lines (net_in net.now).placed.graph)) }
+        text.old.items ++ rows_text (graph_lines (net_view net.now).placed.graph)) }
 {
     let graph = graph_of(net)?;
     push_graph(text, &graph)
@@ -31,7 +31,7 @@ fn push_net(text: &mut Vec<u8>, net: &Net) -> Result<(), NoMemory>
 // Puts the item of net k last, and tells how many images may be printed after it.
 fn push_map(text: &mut Vec<u8>, k: u32, first: &Net, net: &Net, room: u64) -> Result<u64, NoMemory>
     requires { room ≤ most_images }
-    ensures { IfOk result (λ left. IsItemLast (net_in first.now) k room (net_in net.now) left
+    ensures { IfOk result (λ left. IsItemLast (net_view first.now) k room (net_view net.now) left
         text.old.items text.new.items) }
 {
     let item = item_of(*text.allocator(), first, net, room)?;
@@ -42,7 +42,7 @@ fn push_map(text: &mut Vec<u8>, k: u32, first: &Net, net: &Net, room: u64) -> Re
 // Puts the items of these nets last, from net 2 on.
 fn push_maps<T: LendsNet>(text: &mut Vec<u8>, first: &Net, nets: &[T]) -> Result<(), NoMemory>
     requires { length nets.now ≤ most_blocks }
-    ensures { OnOk result (AreItemsLast (net_in first.now) 2 most_images (map T.net nets.now)
+    ensures { OnOk result (AreItemsLast (net_view first.now) 2 most_images (map T.net nets.now)
         text.old.items text.new.items) }
 {
     let mut room = MOST_IMAGES;

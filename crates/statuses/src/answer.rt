@@ -4,7 +4,7 @@ ghost use Rattle.std.specs.Prelude.{◌≡◌};
 use crate::status::Status;
 use cgd_read::ReadRefusal;
 use keyline_import::ItemRefusal;
-use std::alloc::AllocError;
+use std::alloc::AllocError as NoMemory;
 
 /// How a run ends, and what it writes.
 #[derive(Drop)]
@@ -21,12 +21,12 @@ pub enum Silence {
     NoMemory,
 }
 
-impl From<AllocError> for Silence {
+impl From<NoMemory> for Silence {
     ghost use Rattle.statuses.specs.Statuses.{no_memory};
 
     ghost from_gives = { λ fault told. told ≡ no_memory };
 
-    fn from(_fault: AllocError) -> Silence {
+    fn from(_fault: NoMemory) -> Silence {
         Silence::NoMemory
     }
 }

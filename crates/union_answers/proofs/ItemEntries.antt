@@ -11,7 +11,7 @@ use Rattle.keyline_import.specs.NetNames.{IsNamed, IsNamedAs}
 use Rattle.keyline_import.specs.Views.{AreRead}
 use Rattle.keyline_import.specs.declared.item.Item.{Item}
 use Rattle.keyline_import.proofs.CallerLemmas.{nets_are_named}
-use Rattle.least_key.specs.AnyNets.{net_in}
+use Rattle.least_key.specs.AnyNets.{net_view}
 use Rattle.net_archive.specs.Adding.{IsEntryOf}
 use Rattle.net_archive.specs.Archives.{most_entries}
 use Rattle.net_entries.specs.Entries.{EntryView, entry_view, entry_views}
@@ -86,10 +86,10 @@ entry_of_net item (Net key) (Some name) (Keyed size net) e b n h k = record {
   key = key;
   body = b;
   name = sym n ∙ ap (λ (x : List ℕ). Some x) (sym k.name_is);
-  net = net_in net;
+  net = net_view net;
   read = subst (IsInOrder (graph_of_key key)) (sym h.net_is) h.read.in_order;
   keyed = h.keyed;
-  entry = subst (λ (x : List ℕ). IsEntryOf x (net_in net) e) (sym k.name_is) k;
+  entry = subst (λ (x : List ℕ). IsEntryOf x (net_view net) e) (sym k.name_is) k;
 }
 entry_of_net item (Net key) None (Keyed size net) e b n h k = absurd k
 entry_of_net item (Net key) name (Refused size names refusal) e b n h k = absurd k

@@ -1,6 +1,6 @@
 -- The entries of the items that are told with their keys.
 use Rattle.std.specs.Prelude.{◌≡◌, ℕ, true, List, [], ◌∷◌, Option, Some, option_copied}
-use Rattle.least_key.specs.AnyNets.{net_in}
+use Rattle.least_key.specs.AnyNets.{net_view}
 use Rattle.line_text.specs.Names.{is_name}
 use Rattle.net_archive.specs.Adding.{IsEntryOf}
 use Rattle.net_entries.specs.Entries.{EntryView}
@@ -18,7 +18,7 @@ HasNamedNet o = IsUnderName o.body (option_copied o.name)
 
 -- e is the entry of that net, under that name
 abbrev pub IsEntryAs : OutcomeBody → Option (List ℕ) → EntryView → Type 0
-IsEntryAs (Keyed size net) (Some name) e = IsEntryOf name (net_in net) e
+IsEntryAs (Keyed size net) (Some name) e = IsEntryOf name (net_view net) e
 IsEntryAs body name e = ⊥
 
 abbrev pub IsEntryTold : Outcome → EntryView → Type 0

@@ -16,8 +16,8 @@ use Rattle.exact.specs.Ratio.{Ratio, whole}
 use Rattle.vecdim.specs.declared.vectors.Row.{Row}
 use Rattle.elimination.specs.Rows.{row_part, value_in}
 use Rattle.residue.specs.declared.numbers.Residue.{Residue}
-use Rattle.lifting.specs.Gains.{gains, shifts}
-use Rattle.lifting.proofs.CallerLemmas.{gained, multiple_zero}
+use Rattle.dixon_lifting.specs.Gains.{gains, shifts}
+use Rattle.dixon_lifting.proofs.CallerLemmas.{gained, multiple_zero}
 use Rattle.barycentre.specs.Left.{star_vector}
 use Rattle.barycentre.specs.Limits.{AreInReach}
 use Rattle.barycentre.specs.ResidueRows.{residue_value, residue_part, residue_at, residue_vector}

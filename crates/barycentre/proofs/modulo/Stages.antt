@@ -17,9 +17,9 @@ use Rattle.elimination.specs.RightHand.{IsSolutionWith, SolveWith}
 use Rattle.elimination.specs.Solutions.{SolveAll, SolveOnly, AreFlat}
 use Rattle.residue.specs.declared.numbers.Residue.{Residue}
 use Rattle.residue.specs.Residues.{IsResidue}
-use Rattle.lifting.specs.Gains.{gains, shifts}
-use Rattle.lifting.specs.TwoSteps.{AreTwoSteps}
-use Rattle.lifting.proofs.CallerLemmas.{multiple_zero, same_zero, at_mean}
+use Rattle.dixon_lifting.specs.Gains.{gains, shifts}
+use Rattle.dixon_lifting.specs.TwoSteps.{AreTwoSteps}
+use Rattle.dixon_lifting.proofs.CallerLemmas.{multiple_zero, same_zero, at_mean}
 use Rattle.barycentre.specs.Left.{star_vector, IsLeft, IsLeftRow, IsDividedVector, AreLeftRows}
 use Rattle.barycentre.specs.ResidueRows.{residue_value, residue_part, residue_at, residue_vector}
 use Rattle.integers.proofs.vectors.Coordinates.{below_three}

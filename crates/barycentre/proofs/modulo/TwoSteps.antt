@@ -16,8 +16,8 @@ use Rattle.fraction.specs.Values.{fraction_value}
 use Rattle.elimination.specs.Rows.{row_part, value_in}
 use Rattle.residue.specs.declared.numbers.Residue.{Residue}
 use Rattle.residue.specs.Reconstruction.{IsReconstruction}
-use Rattle.lifting.specs.TwoSteps.{AreTwoSteps}
-use Rattle.lifting.proofs.CallerLemmas.{two_steps_recover, Lowest, lowest}
+use Rattle.dixon_lifting.specs.TwoSteps.{AreTwoSteps}
+use Rattle.dixon_lifting.proofs.CallerLemmas.{two_steps_recover, Lowest, lowest}
 use Rattle.barycentre.specs.Positions.{IsScaled}
 use Rattle.barycentre.specs.Recovered.{lifted_part, IsRecoveredRow, AreRecovered, LacksRow}
 use Rattle.barycentre.specs.ResidueRows.{residue_part, residue_at}

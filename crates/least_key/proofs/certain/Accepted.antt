@@ -6,7 +6,7 @@ use Rattle.key_theory.specs.Frames.{IsKeyWork, most_work}
 use Rattle.key_theory.specs.Key.{IsKeyable}
 use Rattle.key_theory.proofs.CallerLemmas.{work_not_past}
 use Rattle.quotient_graph.specs.NetClasses.{NetClasses, AreClasses}
-use Rattle.quotient_graph.specs.Splits.{split_in}
+use Rattle.quotient_graph.specs.Splits.{split_view}
 use Rattle.barycentre.proofs.CallerLemmas.{not_reachable}
 use Rattle.barycentre.specs.PlaceFaults.{IsWideOf}
 use Rattle.barycentre.specs.declared.faults.WidePlacement.{WidePlacement as Wide}
@@ -34,8 +34,8 @@ module _ (G : Graph) (g : IsGraph G) (c : IsCertain G) where
 
 -- of a certain graph
 pub certain_is_not_refused : CertainIsNotRefused
-certain_is_not_refused G (Disconnected split) g c h = absurd (split_shows_not_connected G (split_in split) g h.1 c.keyable.shape.stable.connected)
-certain_is_not_refused G (Degenerate split) g c h = absurd (split_shows_not_connected G (split_in split) g h.1 c.keyable.shape.stable.connected)
+certain_is_not_refused G (Disconnected split) g c h = absurd (split_shows_not_connected G (split_view split) g h.1 c.keyable.shape.stable.connected)
+certain_is_not_refused G (Degenerate split) g c h = absurd (split_shows_not_connected G (split_view split) g h.1 c.keyable.shape.stable.connected)
 certain_is_not_refused G (NoModulus first second third) g c h = absurd (not_reachable G first second third h.1 c.reached)
 certain_is_not_refused G (WidePlacement w) g c h = absurd (not_wide_of G g c w w.site h.1)
 certain_is_not_refused G (Collision dim u v t) g c h =

@@ -5,7 +5,7 @@ use Rattle.periodic_net.specs.Graph.{Graph, IsGraph, IsConnected}
 use Rattle.periodic_net.proofs.CallerLemmas.{one_placement, split_shows_not_connected}
 use Rattle.periodic_net.specs.Split.{IsPartSplit, IsSparseSplit}
 use Rattle.quotient_graph.specs.PlacedNets.{PlacedNet}
-use Rattle.quotient_graph.specs.Splits.{split_in}
+use Rattle.quotient_graph.specs.Splits.{split_view}
 use Rattle.quotient_graph.specs.declared.split.Split.{Split}
 use Rattle.net_translations.specs.Places.{IsFirstCollision}
 use Rattle.connected_dim.specs.Refusals.{IsDegenerateBy, IsDisconnectedBy}
@@ -29,7 +29,7 @@ use Rattle.least_key.proofs.one.Splits.{full_not_flat, not_flat, not_sparse, one
 use Rattle.least_key.proofs.one.WideNumbers.{one_wide_of}
 
 -- colourings with the same values are one
-same_colouring : (s t : Split) → s.dim ≡ t.dim → split_in s ≡ split_in t → s ≡ t
+same_colouring : (s t : Split) → s.dim ≡ t.dim → split_view s ≡ split_view t → s ≡ t
 same_colouring s t d e = λ i. record { dim = d i; q = (e i).q; c = (e i).c; h = (e i).h }
 
 module _ (G : Graph) (g : IsGraph G) where
@@ -37,26 +37,26 @@ module _ (G : Graph) (g : IsGraph G) where
   one_disconnected : (s t : Split) → IsDisconnectedBy G s → IsDisconnectedBy G t → s ≡ t
   one_disconnected s t a b = same_colouring s t (a.0 ∙ sym b.0) (by a.2 b.2)
     where
-      by : IsPartSplit G (split_in s) ⊎ ((k : ℕ) × IsSparseSplit G (split_in s) k) → IsPartSplit G (split_in t) ⊎ ((k : ℕ) × IsSparseSplit G (split_in t) k) → split_in s ≡ split_in t
-      by (inl h) (inl k) = one_part_split G (split_in s) (split_in t) h k
-      by (inl h) (inr k) = absurd (not_sparse G (split_in s) (split_in t) k.0 h k.1)
-      by (inr h) (inl k) = absurd (not_sparse G (split_in t) (split_in s) h.0 k h.1)
-      by (inr h) (inr k) = one_sparse_split G g (split_in s) (split_in t) h.0 k.0 h.1 k.1
+      by : IsPartSplit G (split_view s) ⊎ ((k : ℕ) × IsSparseSplit G (split_view s) k) → IsPartSplit G (split_view t) ⊎ ((k : ℕ) × IsSparseSplit G (split_view t) k) → split_view s ≡ split_view t
+      by (inl h) (inl k) = one_part_split G (split_view s) (split_view t) h k
+      by (inl h) (inr k) = absurd (not_sparse G (split_view s) (split_view t) k.0 h k.1)
+      by (inr h) (inl k) = absurd (not_sparse G (split_view t) (split_view s) h.0 k h.1)
+      by (inr h) (inr k) = one_sparse_split G g (split_view s) (split_view t) h.0 k.0 h.1 k.1
 
   -- where the closed walks span fewer dimensions
   one_degenerate : (s t : Split) → IsDegenerateBy G s → IsDegenerateBy G t → s ≡ t
-  one_degenerate s t a b = same_colouring s t (a.0 ∙ sym b.0) (one_flat_split G (split_in s) (split_in t) a.2 b.2)
+  one_degenerate s t a b = same_colouring s t (a.0 ∙ sym b.0) (one_flat_split G (split_view s) (split_view t) a.2 b.2)
 
   -- the two exclude each other
   not_degenerate : (s t : Split) → IsDisconnectedBy G s → ¬ IsDegenerateBy G t
-  not_degenerate s t a b = ⊎_elim (λ h. not_flat G (split_in s) (split_in t) h b.2) (λ h. full_not_flat G g (split_in t) (split_in s) h.0 b.2 h.1) a.2
+  not_degenerate s t a b = ⊎_elim (λ h. not_flat G (split_view s) (split_view t) h b.2) (λ h. full_not_flat G g (split_view t) (split_view s) h.0 b.2 h.1) a.2
 
   -- a connected net is neither
   connected_not_disconnected : (s : Split) → IsConnected G → ¬ IsDisconnectedBy G s
-  connected_not_disconnected s c a = split_shows_not_connected G (split_in s) g a.1 c
+  connected_not_disconnected s c a = split_shows_not_connected G (split_view s) g a.1 c
 
   connected_not_degenerate : (s : Split) → IsConnected G → ¬ IsDegenerateBy G s
-  connected_not_degenerate s c a = split_shows_not_connected G (split_in s) g a.1 c
+  connected_not_degenerate s c a = split_shows_not_connected G (split_view s) g a.1 c
 
   -- where no modulus serves
   one_modulus : (a b c d e f : ℕ) → LacksModulus G a b c → LacksModulus G d e f → NoModulus a b c ≡ NoModulus d e f

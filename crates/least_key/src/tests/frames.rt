@@ -3,12 +3,12 @@ ghost use Rattle.std.specs.Prelude.{◌≤◌, length, IfSome};
 ghost use Rattle.periodic_net.specs.Correspondence.{IsClass};
 ghost use Rattle.key_theory.specs.Frames.{IsFrame};
 
-use super::{HCB, graph_in};
+use super::{HCB, graph_view};
 use crate::keying::settle_graph;
 use edge_frames::{Frames, count_work};
 use net_translations::classes;
 use net_traversal::{Head, KeyRow, Walker, traverse};
-use quotient_graph::{AnyGraph, ClassArc, ClassNet, Classes, Frame, Graph};
+use quotient_graph::{AnyGraph, ClassArc, ClassGraph, Classes, Frame, Graph};
 use std::alloc::Global;
 use std::test::Fail;
 use vecdim::Triple;
@@ -52,7 +52,7 @@ fn has_legs<const D: usize>(frame: &Frame<D>, legs: &[Leg; 3]) -> bool {
 }
 
 // The frame of class 1 with these arcs.
-fn frame_of<const D: usize>(alloc: Global, net: &ClassNet<D>, legs: &[Leg; 3]) -> Option<Frame<D>>
+fn frame_of<const D: usize>(alloc: Global, net: &ClassGraph<D>, legs: &[Leg; 3]) -> Option<Frame<D>>
     requires { IsClass net.now 1 }
     ensures { IfSome result (IsFrame net.now 1) }
 {
@@ -71,7 +71,7 @@ fn frame_of<const D: usize>(alloc: Global, net: &ClassNet<D>, legs: &[Leg; 3]) -
 // key.
 #[test]
 fn list_of_a_frame(rt: HostRuntime) -> Result<(), Fail> {
-    let Some(AnyGraph::Space(graph)) = graph_in(rt.alloc(), SRS.as_bytes()) else {
+    let Some(AnyGraph::Space(graph)) = graph_view(rt.alloc(), SRS.as_bytes()) else {
         return Err("graph".into());
     };
     let classes = classes_of(rt.alloc(), graph).ok_or("classes")?;
@@ -91,7 +91,7 @@ fn list_of_a_frame(rt: HostRuntime) -> Result<(), Fail> {
 // The head and the rows of a list.
 fn walked<const D: usize>(
     alloc: Global,
-    net: &ClassNet<D>,
+    net: &ClassGraph<D>,
     frame: &Frame<D>,
 ) -> Option<(Head, Vec<KeyRow>)>
     requires start { IsClass net.now 1 }
@@ -117,7 +117,7 @@ fn row(i: u32, j: u32, x: i128, y: i128) -> KeyRow {
 // The list of the frame of two arcs of class 1 of the honeycomb net, row by row.
 #[test]
 fn rows_of_a_frame(rt: HostRuntime) -> Result<(), Fail> {
-    let Some(AnyGraph::Flat(graph)) = graph_in(rt.alloc(), HCB.as_bytes()) else {
+    let Some(AnyGraph::Flat(graph)) = graph_view(rt.alloc(), HCB.as_bytes()) else {
         return Err("graph".into());
     };
     let classes = classes_of(rt.alloc(), graph).ok_or("classes")?;
@@ -136,7 +136,7 @@ fn rows_of_a_frame(rt: HostRuntime) -> Result<(), Fail> {
 fn work_in(alloc: Global, text: &[u8]) -> Option<u64>
     requires { length text.now ≤ 16777216 }
 {
-    match graph_in(alloc, text)? {
+    match graph_view(alloc, text)? {
         AnyGraph::Flat(graph) => count_work(alloc, classes_of(alloc, graph)?.net()).ok(),
         AnyGraph::Space(graph) => count_work(alloc, classes_of(alloc, graph)?.net()).ok(),
     }

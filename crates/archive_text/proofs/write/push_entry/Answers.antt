@@ -1,7 +1,7 @@
 use Rattle.std.proofs.Common.{◌++◌, ap, ◌∙◌}
 use Rattle.std.proofs.lemmas.Result.{on_ok_weaker}
 use Rattle.line_text.specs.Lines.{rows_text}
-use Rattle.quotient_graph.specs.AnyGraphs.{graph_in}
+use Rattle.quotient_graph.specs.AnyGraphs.{graph_view}
 use Rattle.net_entries.specs.Entries.{entry_view}
 use Rattle.archive_text.specs.Rows.{row_lines}
 use Rattle.graph_rows.specs.Rows.{size_of_graph}
@@ -12,5 +12,5 @@ use Rattle.archive_text.proofs.write.push_entry.Goals as goal
 pub returns : goal.returns
 returns c = on_ok_weaker c.push_end.result (λ last.
     entry_written c.args.version (entry_view c.args.entry.now) c.args.text.now.items c.push_drawn.new.text.items c.push_key.new.text.items c.push_classes.new.text.items c.push_end.new.text.items
-    (c.in_ok-push_drawn.ensures ∙ ap (λ n. c.args.text.now.items ++ rows_text (row_lines (drawn_rows n (size_of_graph (graph_in c.args.entry.now.graph)) (graph_in c.args.entry.now.graph).edges))) c.deref.ensures.value)
+    (c.in_ok-push_drawn.ensures ∙ ap (λ n. c.args.text.now.items ++ rows_text (row_lines (drawn_rows n (size_of_graph (graph_view c.args.entry.now.graph)) (graph_view c.args.entry.now.graph).edges))) c.deref.ensures.value)
     c.in_ok-push_key.ensures c.in_ok-push_classes.ensures last) c.push_end.ensures

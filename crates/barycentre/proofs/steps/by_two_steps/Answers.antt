@@ -11,7 +11,7 @@ use Rattle.elimination.specs.RightHand.{SolveWith}
 use Rattle.elimination.specs.Rows.{value_in}
 use Rattle.elimination.specs.Solutions.{SolveAll, SolveOnly, AreFlat}
 use Rattle.residue.specs.declared.numbers.Residue.{Residue}
-use Rattle.lifting.specs.TwoSteps.{AreTwoSteps}
+use Rattle.dixon_lifting.specs.TwoSteps.{AreTwoSteps}
 use Rattle.barycentre.specs.Left.{AreLeftRows}
 use Rattle.barycentre.specs.Reached.{AreNotWithin}
 use Rattle.barycentre.specs.Recovered.{AreRecovered, LacksRow}

@@ -1,7 +1,7 @@
 use Rattle.std.proofs.Common.{◌≤◌, ℕ, List, length, All, sym, subst, ◌∙◌}
 use Rattle.net_report.specs.Refusals.{HasLine}
 use Rattle.periodic_net.specs.Graph.{Graph}
-use Rattle.quotient_graph.specs.AnyGraphs.{graph_in}
+use Rattle.quotient_graph.specs.AnyGraphs.{graph_view}
 use Rattle.least_key.specs.Truths.{IsTrueOf}
 use Rattle.component_report.specs.Texts.{names_of}
 use Rattle.component_report.proofs.Names.{names_count}
@@ -16,5 +16,5 @@ push_refusal-requires-clause-line c =
     let names = c.args.names.now in
     let p = c.args.part.now in
     subst (λ (us : List ℕ). HasLine (names_of names us) c.in-Err.refusal) (sym c.as_slice.ensures)
-    (refusal_line (names_of names p.vertices) (graph_in p.graph) c.requires.is_graph (names_count names p.vertices ∙ c.requires.count) c.in-Err.refusal
+    (refusal_line (names_of names p.vertices) (graph_view p.graph) c.requires.is_graph (names_count names p.vertices ∙ c.requires.count) c.in-Err.refusal
     (subst (λ (H : Graph). IsTrueOf H c.in-Err.refusal) c.in_ok-copy.ensures.graph c.in-Err.ensures.refused) (c.is_told.ensures c.if-not-is_told.false))

@@ -1,5 +1,5 @@
 use Rattle.std.proofs.Common.{◌≡◌, ◌<◌, ◌+◌, Bool, length, sym, ap, ◌∙◌, subst, arith}
-use Rattle.quotient_graph.specs.AnyGraphs.{graph_in}
+use Rattle.quotient_graph.specs.AnyGraphs.{graph_view}
 use Rattle.graph_rows.specs.declared.size.GraphSize.{GraphSize}
 use Rattle.line_text.proofs.CallerLemmas.{at_ok, at_err}
 use Rattle.map_text.specs.declared.item.Item.{Item}
@@ -14,7 +14,7 @@ use Rattle.map_answers.proofs.checking.check_items.Goals.{then-branch, else-bran
 
 pub returns-in-Err : goal.returns-in-Err
 returns-in-Err c = λ text is.
-    let G = graph_in c.args.first.now in
+    let G = graph_view c.args.first.now in
     let s = c.size_of-size.result in
     let p = c.loop-alloc.invariant.0 in
     let items = p.items in
@@ -24,7 +24,7 @@ returns-in-Err c = λ text is.
 
 pub push_result-requires : goal.push_result-requires
 push_result-requires c =
-    let G = graph_in c.args.first.now in
+    let G = graph_view c.args.first.now in
     let s = c.size_of-size.result in
     let p = c.loop-alloc.invariant.0 in
     let items = p.items in
@@ -40,7 +40,7 @@ push_result-requires c =
 
 pub loop-alloc-smaller-after-branch : goal.loop-alloc-smaller-after-branch
 loop-alloc-smaller-after-branch c =
-    let G = graph_in c.args.first.now in
+    let G = graph_view c.args.first.now in
     let s = c.size_of-size.result in
     let p = c.loop-alloc.invariant.0 in
     let items = p.items in
@@ -55,7 +55,7 @@ loop-alloc-smaller-after-branch c =
 
 pub loop-alloc-smaller : goal.loop-alloc-smaller
 loop-alloc-smaller c =
-    let G = graph_in c.args.first.now in
+    let G = graph_view c.args.first.now in
     let s = c.size_of-size.result in
     let p = c.loop-alloc.invariant.0 in
     let items = p.items in
@@ -70,7 +70,7 @@ loop-alloc-smaller c =
 
 pub loop-alloc-preserved-after-branch : goal.loop-alloc-preserved-after-branch
 loop-alloc-preserved-after-branch c =
-    let G = graph_in c.args.first.now in
+    let G = graph_view c.args.first.now in
     let s = c.size_of-size.result in
     let p = c.loop-alloc.invariant.0 in
     let items = p.items in
@@ -97,7 +97,7 @@ loop-alloc-preserved-after-branch c =
 
 pub loop-alloc-preserved : goal.loop-alloc-preserved
 loop-alloc-preserved c =
-    let G = graph_in c.args.first.now in
+    let G = graph_view c.args.first.now in
     let s = c.size_of-size.result in
     let p = c.loop-alloc.invariant.0 in
     let items = p.items in

@@ -1,7 +1,7 @@
 use Rattle.std.proofs.Common.{◌≡◌, length, sym, ap, ◌∙◌, subst}
 use Rattle.std.proofs.lemmas.Bool.{true≢false}
-use Rattle.quotient_graph.specs.AnyGraphs.{graph_in}
-use Rattle.quotient_graph.specs.declared.raw.AnyGraph.{AnyGraph}
+use Rattle.quotient_graph.specs.AnyGraphs.{graph_view}
+use Rattle.quotient_graph.specs.declared.any_graph.AnyGraph.{AnyGraph}
 use Rattle.graph_rows.specs.declared.size.GraphSize.{GraphSize}
 use Rattle.graph_rows.specs.Reading.{HasGraph, HasBadGraph, IsFormedGraph}
 use Rattle.line_text.proofs.CallerLemmas.{at_ok, at_err}
@@ -16,17 +16,17 @@ use Rattle.map_text.proofs.reading.read_pair.Goals as goal
 
 pub returns-in-Err : goal.returns-in-Err
 returns-in-Err c = λ text items edges is. second_bad text (drawing c.args.first.now edges) items c.args.lines.now c.in-Err.line is
-    (at_err c.in_ok-graph.field-0 (λ (a : AnyGraph). HasGraph text (row_lines is.rows) c.read_graph.new.lines (graph_in a)) (HasBadGraph text (row_lines is.rows)) c.in-Err.line c.in-Err.is (c.in_ok-graph.ensures.graph text (row_lines is.rows) is.at))
+    (at_err c.in_ok-graph.field-0 (λ (a : AnyGraph). HasGraph text (row_lines is.rows) c.read_graph.new.lines (graph_view a)) (HasBadGraph text (row_lines is.rows)) c.in-Err.line c.in-Err.is (c.in_ok-graph.ensures.graph text (row_lines is.rows) is.at))
 
 pub returns-in-Err-2 : goal.returns-in-Err-2
 returns-in-Err-2 c = λ text items edges is.
     let g = drawing c.args.first.now edges in
-    let H = graph_in c.in-Ok.graph in
+    let H = graph_view c.in-Ok.graph in
     let t = c.size_of-second.result in
     let h = drawing t H.edges in
-    let formed = at_ok c.in_ok-graph.field-0 (λ (a : AnyGraph). IsFormedGraph (graph_in a)) (λ n. Unit {0}) c.in-Ok.graph c.in-Ok.is c.in_ok-graph.ensures.form in
+    let formed = at_ok c.in_ok-graph.field-0 (λ (a : AnyGraph). IsFormedGraph (graph_view a)) (λ n. Unit {0}) c.in-Ok.graph c.in-Ok.is c.in_ok-graph.ensures.form in
     let drawn : IsIn text (Drawn g items (drawing_of H)) c.read_graph.new.lines = second_in text g items H c.args.lines.now c.read_graph.new.lines formed is
-    (λ rows at. at_ok c.in_ok-graph.field-0 (λ (a : AnyGraph). HasGraph text rows c.read_graph.new.lines (graph_in a)) (HasBadGraph text rows) c.in-Ok.graph c.in-Ok.is (c.in_ok-graph.ensures.graph text rows at)) in
+    (λ rows at. at_ok c.in_ok-graph.field-0 (λ (a : AnyGraph). HasGraph text rows c.read_graph.new.lines (graph_view a)) (HasBadGraph text rows) c.in-Ok.graph c.in-Ok.is (c.in_ok-graph.ensures.graph text rows at)) in
     let sized : IsIn text (Drawn g items h) c.read_graph.new.lines = subst (λ s. IsIn text (Drawn g items (drawing s H.edges)) c.read_graph.new.lines) (sym c.size_of-second.ensures) drawn in
     let whole : length H.edges ≡ t.edges = ap (λ (s : GraphSize). s.edges) (sym c.size_of-second.ensures) in
     at_err c.in_ok-map.field-0 (HasMap text g items h c.read_map.new.lines) (HasBadLine text) c.in-Err-2.line c.in-Err-2.is (c.in_ok-map.ensures text items edges H.edges whole sized)
@@ -34,12 +34,12 @@ returns-in-Err-2 c = λ text items edges is.
 pub returns-then-next_end : goal.returns-then-next_end
 returns-then-next_end c = λ text items edges is.
     let g = drawing c.args.first.now edges in
-    let H = graph_in c.in-Ok.graph in
+    let H = graph_view c.in-Ok.graph in
     let t = c.size_of-second.result in
     let h = drawing t H.edges in
-    let formed = at_ok c.in_ok-graph.field-0 (λ (a : AnyGraph). IsFormedGraph (graph_in a)) (λ n. Unit {0}) c.in-Ok.graph c.in-Ok.is c.in_ok-graph.ensures.form in
+    let formed = at_ok c.in_ok-graph.field-0 (λ (a : AnyGraph). IsFormedGraph (graph_view a)) (λ n. Unit {0}) c.in-Ok.graph c.in-Ok.is c.in_ok-graph.ensures.form in
     let drawn : IsIn text (Drawn g items (drawing_of H)) c.read_graph.new.lines = second_in text g items H c.args.lines.now c.read_graph.new.lines formed is
-    (λ rows at. at_ok c.in_ok-graph.field-0 (λ (a : AnyGraph). HasGraph text rows c.read_graph.new.lines (graph_in a)) (HasBadGraph text rows) c.in-Ok.graph c.in-Ok.is (c.in_ok-graph.ensures.graph text rows at)) in
+    (λ rows at. at_ok c.in_ok-graph.field-0 (λ (a : AnyGraph). HasGraph text rows c.read_graph.new.lines (graph_view a)) (HasBadGraph text rows) c.in-Ok.graph c.in-Ok.is (c.in_ok-graph.ensures.graph text rows at)) in
     let sized : IsIn text (Drawn g items h) c.read_graph.new.lines = subst (λ s. IsIn text (Drawn g items (drawing s H.edges)) c.read_graph.new.lines) (sym c.size_of-second.ensures) drawn in
     let whole : length H.edges ≡ t.edges = ap (λ (s : GraphSize). s.edges) (sym c.size_of-second.ensures) in
     let M = c.in-Ok-2.map in
@@ -51,12 +51,12 @@ returns-then-next_end c = λ text items edges is.
 pub returns-else-next_end : goal.returns-else-next_end
 returns-else-next_end c = λ text items edges is.
     let g = drawing c.args.first.now edges in
-    let H = graph_in c.in-Ok.graph in
+    let H = graph_view c.in-Ok.graph in
     let t = c.size_of-second.result in
     let h = drawing t H.edges in
-    let formed = at_ok c.in_ok-graph.field-0 (λ (a : AnyGraph). IsFormedGraph (graph_in a)) (λ n. Unit {0}) c.in-Ok.graph c.in-Ok.is c.in_ok-graph.ensures.form in
+    let formed = at_ok c.in_ok-graph.field-0 (λ (a : AnyGraph). IsFormedGraph (graph_view a)) (λ n. Unit {0}) c.in-Ok.graph c.in-Ok.is c.in_ok-graph.ensures.form in
     let drawn : IsIn text (Drawn g items (drawing_of H)) c.read_graph.new.lines = second_in text g items H c.args.lines.now c.read_graph.new.lines formed is
-    (λ rows at. at_ok c.in_ok-graph.field-0 (λ (a : AnyGraph). HasGraph text rows c.read_graph.new.lines (graph_in a)) (HasBadGraph text rows) c.in-Ok.graph c.in-Ok.is (c.in_ok-graph.ensures.graph text rows at)) in
+    (λ rows at. at_ok c.in_ok-graph.field-0 (λ (a : AnyGraph). HasGraph text rows c.read_graph.new.lines (graph_view a)) (HasBadGraph text rows) c.in-Ok.graph c.in-Ok.is (c.in_ok-graph.ensures.graph text rows at)) in
     let sized : IsIn text (Drawn g items h) c.read_graph.new.lines = subst (λ s. IsIn text (Drawn g items (drawing s H.edges)) c.read_graph.new.lines) (sym c.size_of-second.ensures) drawn in
     let whole : length H.edges ≡ t.edges = ap (λ (s : GraphSize). s.edges) (sym c.size_of-second.ensures) in
     let M = c.in-Ok-2.map in

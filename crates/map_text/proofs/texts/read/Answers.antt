@@ -1,7 +1,7 @@
 use Rattle.std.proofs.Common.{List, Option, None, Some, [], refl, sym, subst}
 use Rattle.std.specs.Prelude.{MatchOption}
-use Rattle.quotient_graph.specs.AnyGraphs.{graph_in}
-use Rattle.quotient_graph.specs.declared.raw.AnyGraph.{AnyGraph}
+use Rattle.quotient_graph.specs.AnyGraphs.{graph_view}
+use Rattle.quotient_graph.specs.declared.any_graph.AnyGraph.{AnyGraph}
 use Rattle.line_text.proofs.CallerLemmas.{at_ok, at_err}
 use Rattle.map_text.specs.declared.item.Item.{Item}
 use Rattle.map_text.specs.Items.{item_views}
@@ -16,7 +16,7 @@ pub returns-in-Ok-None-clause-read : goal.returns-in-Ok-None-clause-read
 returns-in-Ok-None-clause-read c =
     let text = c.args.text.now in
     let place = c.read_first.new.lines in
-    let P : Option AnyGraph → Type 0 = λ first. MatchOption first (HasNoGraph text place) (λ (g : AnyGraph). IsBegun (graph_in g) text place) in
+    let P : Option AnyGraph → Type 0 = λ first. MatchOption first (HasNoGraph text place) (λ (g : AnyGraph). IsBegun (graph_view g) text place) in
     let first = c.in_ok-first.ensures.first text (record { joined = sym c.new-lines.ensures.rest; number = c.new-lines.ensures.number }) in
     let has : HasNoGraph text place = subst P c.in-Ok-None.field-0-is (at_ok c.in_ok-first.field-0 P (HasBadLine text) c.in-Ok-None.field-0 c.in-Ok-None.is first) in
     let whole = text_said text Titled place has.at tt has.none in
@@ -26,7 +26,7 @@ pub returns-in-Ok-None-clause-every : goal.returns-in-Ok-None-clause-every
 returns-in-Ok-None-clause-every c = λ maps said.
     let text = c.args.text.now in
     let place = c.read_first.new.lines in
-    let P : Option AnyGraph → Type 0 = λ first. MatchOption first (HasNoGraph text place) (λ (g : AnyGraph). IsBegun (graph_in g) text place) in
+    let P : Option AnyGraph → Type 0 = λ first. MatchOption first (HasNoGraph text place) (λ (g : AnyGraph). IsBegun (graph_view g) text place) in
     let first = c.in_ok-first.ensures.first text (record { joined = sym c.new-lines.ensures.rest; number = c.new-lines.ensures.number }) in
     let has : HasNoGraph text place = subst P c.in-Ok-None.field-0-is (at_ok c.in_ok-first.field-0 P (HasBadLine text) c.in-Ok-None.field-0 c.in-Ok-None.is first) in
     let whole = text_said text Titled place has.at tt has.none in
@@ -36,7 +36,7 @@ pub returns-in-Err-clause-read : goal.returns-in-Err-clause-read
 returns-in-Err-clause-read c =
     let text = c.args.text.now in
     let place = c.read_first.new.lines in
-    let P : Option AnyGraph → Type 0 = λ first. MatchOption first (HasNoGraph text place) (λ (g : AnyGraph). IsBegun (graph_in g) text place) in
+    let P : Option AnyGraph → Type 0 = λ first. MatchOption first (HasNoGraph text place) (λ (g : AnyGraph). IsBegun (graph_view g) text place) in
     let first = c.in_ok-first.ensures.first text (record { joined = sym c.new-lines.ensures.rest; number = c.new-lines.ensures.number }) in
     let bad = at_err c.in_ok-first.field-0 P (HasBadLine text) c.in-Err.line c.in-Err.is first in
     bad
@@ -45,7 +45,7 @@ pub returns-in-Err-clause-every : goal.returns-in-Err-clause-every
 returns-in-Err-clause-every c = λ maps said.
     let text = c.args.text.now in
     let place = c.read_first.new.lines in
-    let P : Option AnyGraph → Type 0 = λ first. MatchOption first (HasNoGraph text place) (λ (g : AnyGraph). IsBegun (graph_in g) text place) in
+    let P : Option AnyGraph → Type 0 = λ first. MatchOption first (HasNoGraph text place) (λ (g : AnyGraph). IsBegun (graph_view g) text place) in
     let first = c.in_ok-first.ensures.first text (record { joined = sym c.new-lines.ensures.rest; number = c.new-lines.ensures.number }) in
     let bad = at_err c.in_ok-first.field-0 P (HasBadLine text) c.in-Err.line c.in-Err.is first in
     no_fault text maps c.in-Err.line said bad
@@ -54,9 +54,9 @@ pub read_items-requires-clause-begun : goal.read_items-requires-clause-begun
 read_items-requires-clause-begun c =
     let text = c.args.text.now in
     let place = c.read_first.new.lines in
-    let P : Option AnyGraph → Type 0 = λ first. MatchOption first (HasNoGraph text place) (λ (g : AnyGraph). IsBegun (graph_in g) text place) in
+    let P : Option AnyGraph → Type 0 = λ first. MatchOption first (HasNoGraph text place) (λ (g : AnyGraph). IsBegun (graph_view g) text place) in
     let first = c.in_ok-first.ensures.first text (record { joined = sym c.new-lines.ensures.rest; number = c.new-lines.ensures.number }) in
-    let G = graph_in c.in-Ok-Some.first in
+    let G = graph_view c.in-Ok-Some.first in
     let begun : IsBegun G text place = subst P c.in-Ok-Some.field-0-is (at_ok c.in_ok-first.field-0 P (HasBadLine text) c.in-Ok-Some.field-0 c.in-Ok-Some.is first) in
     (text, begun)
 
@@ -64,9 +64,9 @@ pub read_items-requires-clause-few : goal.read_items-requires-clause-few
 read_items-requires-clause-few c =
     let text = c.args.text.now in
     let place = c.read_first.new.lines in
-    let P : Option AnyGraph → Type 0 = λ first. MatchOption first (HasNoGraph text place) (λ (g : AnyGraph). IsBegun (graph_in g) text place) in
+    let P : Option AnyGraph → Type 0 = λ first. MatchOption first (HasNoGraph text place) (λ (g : AnyGraph). IsBegun (graph_view g) text place) in
     let first = c.in_ok-first.ensures.first text (record { joined = sym c.new-lines.ensures.rest; number = c.new-lines.ensures.number }) in
-    let G = graph_in c.in-Ok-Some.first in
+    let G = graph_view c.in-Ok-Some.first in
     let begun : IsBegun G text place = subst P c.in-Ok-Some.field-0-is (at_ok c.in_ok-first.field-0 P (HasBadLine text) c.in-Ok-Some.field-0 c.in-Ok-Some.is first) in
     left_few text (Listed (drawing_of G) []) place most_bytes begun c.requires
 
@@ -74,9 +74,9 @@ pub returns-in-Ok-clause-read : goal.returns-in-Ok-clause-read
 returns-in-Ok-clause-read c =
     let text = c.args.text.now in
     let place = c.read_first.new.lines in
-    let P : Option AnyGraph → Type 0 = λ first. MatchOption first (HasNoGraph text place) (λ (g : AnyGraph). IsBegun (graph_in g) text place) in
+    let P : Option AnyGraph → Type 0 = λ first. MatchOption first (HasNoGraph text place) (λ (g : AnyGraph). IsBegun (graph_view g) text place) in
     let first = c.in_ok-first.ensures.first text (record { joined = sym c.new-lines.ensures.rest; number = c.new-lines.ensures.number }) in
-    let G = graph_in c.in-Ok-Some.first in
+    let G = graph_view c.in-Ok-Some.first in
     let begun : IsBegun G text place = subst P c.in-Ok-Some.field-0-is (at_ok c.in_ok-first.field-0 P (HasBadLine text) c.in-Ok-Some.field-0 c.in-Ok-Some.is first) in
     let views = item_views c.in-Ok.items in
     let has = at_ok c.in_ok-items.field-0 (λ (items : List Item). HasItems text G c.read_items.new.lines (item_views items)) (HasBadLine text) c.in-Ok.items c.in-Ok.is (c.in_ok-items.ensures text begun) in
@@ -87,9 +87,9 @@ pub returns-in-Ok-clause-every : goal.returns-in-Ok-clause-every
 returns-in-Ok-clause-every c = λ maps said.
     let text = c.args.text.now in
     let place = c.read_first.new.lines in
-    let P : Option AnyGraph → Type 0 = λ first. MatchOption first (HasNoGraph text place) (λ (g : AnyGraph). IsBegun (graph_in g) text place) in
+    let P : Option AnyGraph → Type 0 = λ first. MatchOption first (HasNoGraph text place) (λ (g : AnyGraph). IsBegun (graph_view g) text place) in
     let first = c.in_ok-first.ensures.first text (record { joined = sym c.new-lines.ensures.rest; number = c.new-lines.ensures.number }) in
-    let G = graph_in c.in-Ok-Some.first in
+    let G = graph_view c.in-Ok-Some.first in
     let begun : IsBegun G text place = subst P c.in-Ok-Some.field-0-is (at_ok c.in_ok-first.field-0 P (HasBadLine text) c.in-Ok-Some.field-0 c.in-Ok-Some.is first) in
     let views = item_views c.in-Ok.items in
     let has = at_ok c.in_ok-items.field-0 (λ (items : List Item). HasItems text G c.read_items.new.lines (item_views items)) (HasBadLine text) c.in-Ok.items c.in-Ok.is (c.in_ok-items.ensures text begun) in
@@ -100,9 +100,9 @@ pub returns-clause-read : goal.returns-clause-read
 returns-clause-read c =
     let text = c.args.text.now in
     let place = c.read_first.new.lines in
-    let P : Option AnyGraph → Type 0 = λ first. MatchOption first (HasNoGraph text place) (λ (g : AnyGraph). IsBegun (graph_in g) text place) in
+    let P : Option AnyGraph → Type 0 = λ first. MatchOption first (HasNoGraph text place) (λ (g : AnyGraph). IsBegun (graph_view g) text place) in
     let first = c.in_ok-first.ensures.first text (record { joined = sym c.new-lines.ensures.rest; number = c.new-lines.ensures.number }) in
-    let G = graph_in c.in-Ok-Some.first in
+    let G = graph_view c.in-Ok-Some.first in
     let begun : IsBegun G text place = subst P c.in-Ok-Some.field-0-is (at_ok c.in_ok-first.field-0 P (HasBadLine text) c.in-Ok-Some.field-0 c.in-Ok-Some.is first) in
     let bad = at_err c.in_ok-items.field-0 (λ (items : List Item). HasItems text G c.read_items.new.lines (item_views items)) (HasBadLine text) c.in-Err-2.line c.in-Err-2.is (c.in_ok-items.ensures text begun) in
     bad
@@ -111,9 +111,9 @@ pub returns-clause-every : goal.returns-clause-every
 returns-clause-every c = λ maps said.
     let text = c.args.text.now in
     let place = c.read_first.new.lines in
-    let P : Option AnyGraph → Type 0 = λ first. MatchOption first (HasNoGraph text place) (λ (g : AnyGraph). IsBegun (graph_in g) text place) in
+    let P : Option AnyGraph → Type 0 = λ first. MatchOption first (HasNoGraph text place) (λ (g : AnyGraph). IsBegun (graph_view g) text place) in
     let first = c.in_ok-first.ensures.first text (record { joined = sym c.new-lines.ensures.rest; number = c.new-lines.ensures.number }) in
-    let G = graph_in c.in-Ok-Some.first in
+    let G = graph_view c.in-Ok-Some.first in
     let begun : IsBegun G text place = subst P c.in-Ok-Some.field-0-is (at_ok c.in_ok-first.field-0 P (HasBadLine text) c.in-Ok-Some.field-0 c.in-Ok-Some.is first) in
     let bad = at_err c.in_ok-items.field-0 (λ (items : List Item). HasItems text G c.read_items.new.lines (item_views items)) (HasBadLine text) c.in-Err-2.line c.in-Err-2.is (c.in_ok-items.ensures text begun) in
     no_fault text maps c.in-Err-2.line said bad

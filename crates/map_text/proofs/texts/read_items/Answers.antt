@@ -1,6 +1,6 @@
 use Rattle.std.proofs.Common.{◌≡◌, ◌<◌, ◌+◌, List, [], ◌∷◌, length, sym, ap, ◌∙◌, subst, arith}
 use Rattle.std.proofs.lemmas.List.{length-append, length-map}
-use Rattle.quotient_graph.specs.AnyGraphs.{graph_in}
+use Rattle.quotient_graph.specs.AnyGraphs.{graph_view}
 use Rattle.graph_rows.specs.declared.size.GraphSize.{GraphSize}
 use Rattle.line_text.proofs.CallerLemmas.{at_ok, at_err}
 use Rattle.map_text.specs.declared.item.Item.{Item}
@@ -12,7 +12,7 @@ use Rattle.map_text.proofs.texts.read_items.Goals as goal
 
 pub loop-size-init : goal.loop-size-init
 loop-size-init c =
-    let G = graph_in c.args.first.now in (
+    let G = graph_view c.args.first.now in (
       (λ text is. subst (λ (l : List Item). IsIn text (Listed (drawing_of G) (item_views l)) c.args.lines.now) (sym c.new-items.ensures) is),
       ap (λ (l : List Item). length l + 2) (sym c.new-items.ensures),
       omega (arith, c.requires.few),
@@ -20,7 +20,7 @@ loop-size-init c =
 
 pub returns-in-Err : goal.returns-in-Err
 returns-in-Err c = λ text is.
-    let G = graph_in c.args.first.now in
+    let G = graph_view c.args.first.now in
     let s = c.size_of-size.result in
     let views = item_views c.loop-size.items in
     let whole : length G.edges ≡ s.edges = ap (λ (t : GraphSize). t.edges) (sym c.size_of-size.ensures) in
@@ -31,7 +31,7 @@ returns-in-Err c = λ text is.
 
 pub loop-size-smaller : goal.loop-size-smaller
 loop-size-smaller c =
-    let G = graph_in c.args.first.now in
+    let G = graph_view c.args.first.now in
     let s = c.size_of-size.result in
     let views = item_views c.loop-size.items in
     let whole : length G.edges ≡ s.edges = ap (λ (t : GraphSize). t.edges) (sym c.size_of-size.ensures) in
@@ -47,7 +47,7 @@ loop-size-smaller c =
 
 pub loop-size-preserved : goal.loop-size-preserved
 loop-size-preserved c =
-    let G = graph_in c.args.first.now in
+    let G = graph_view c.args.first.now in
     let s = c.size_of-size.result in
     let views = item_views c.loop-size.items in
     let whole : length G.edges ≡ s.edges = ap (λ (t : GraphSize). t.edges) (sym c.size_of-size.ensures) in

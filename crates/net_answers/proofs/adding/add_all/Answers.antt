@@ -3,7 +3,7 @@ use Rattle.std.proofs.lemmas.List.{length-map, length_push}
 use Rattle.std.proofs.lemmas.Slice.Zip.{zip_turn, zip_end}
 use Rattle.std.specs.Prelude.{option_copied}
 use Rattle.cgd_read.specs.Views.{block_view, views}
-use Rattle.least_key.specs.AnyNets.{net_in}
+use Rattle.least_key.specs.AnyNets.{net_view}
 use Rattle.net_answers.proofs.Added.{added_first, added_next, all_added, not_added}
 use Rattle.net_answers.proofs.KeyedBlocks.{as_many}
 use Rattle.net_answers.proofs.Turns.{net_is, one_told, turn_is}
@@ -24,7 +24,7 @@ returns-in-Err-clause-fault c = λ told.
     let turn = zip_turn found c.args.outcomes.now c.loop-block.yielded c.into_iter-block-iterator.result c.loop-block.block-iterator c.next.new.self c.next.result first second c.loop-block.yielded_by (c.in-Some.block, c.in-Some.outcome) c.in-Some.is c.next.ensures.steps in
     let at = turn_is _ found c.args.outcomes.now i block outcome turn.0 (turn.2 block) (turn.3 outcome) c.requires.outcomes c.requires.accepted in
     let net = net_is (block_view block) outcome c.in-Some-net_told.net.now at.told c.in-Some-net_told.ensures in
-    not_added (option_copied c.args.given) (views found) c.args.archive.now c.loop-block.archive i c.loop-block.number (option_copied c.loop-block.given) (block_view block) (net_in c.in-Some-net_told.net.now) c.in-Err.fault
+    not_added (option_copied c.args.given) (views found) c.args.archive.now c.loop-block.archive i c.loop-block.number (option_copied c.loop-block.given) (block_view block) (net_view c.in-Some-net_told.net.now) c.in-Err.fault
     c.loop-block.invariant at.inside at.at net c.in-Err.ensures.fault
 
 pub loop-block-preserved : goal.loop-block-preserved
@@ -42,7 +42,7 @@ loop-block-preserved c =
           let net = net_is (block_view block) outcome w.in-Some-net_told.net.now at.told w.in-Some-net_told.ensures in
           let e = w.in_default-add_block.ensures.added in
           rw (w.archive-is, length_push c.loop-block.yielded (c.in-Some.block, c.in-Some.outcome))
-          (added_next (option_copied c.args.given) (views found) c.args.archive.now c.loop-block.archive w.add_block.new.archive i c.loop-block.number (option_copied c.loop-block.given) (block_view block) (net_in w.in-Some-net_told.net.now) e.0
+          (added_next (option_copied c.args.given) (views found) c.args.archive.now c.loop-block.archive w.add_block.new.archive i c.loop-block.number (option_copied c.loop-block.given) (block_view block) (net_view w.in-Some-net_told.net.now) e.0
           c.loop-block.invariant at.inside at.at net e.1 e.2 w.add_block.ensures.archive)
       | in_default w ↦ elim (one_told (block_view block) outcome at.told w.in_default.ensures) [ ]
     ]

@@ -1,5 +1,5 @@
 use Rattle.cgd_read.specs.Views.{raw_view}
-use Rattle.quotient_graph.specs.AnyGraphs.{graph_in}
+use Rattle.quotient_graph.specs.AnyGraphs.{graph_view}
 use Rattle.net_outcomes.proofs.OnlyPlacement.{is_graph_in}
 use Rattle.net_outcomes.proofs.NetOutcomes.{check_may, refused_as}
 use Rattle.net_commands.specs.declared.command.Command.TheVariants.{Check}
@@ -7,12 +7,12 @@ use Rattle.net_outcomes.proofs.bodies.check_net.Goals as goal
 
 pub returns-in-Ok : goal.returns-in-Ok
 returns-in-Ok c = λ entries. record {
-  graph = graph_in c.in_ok-graph.graph;
-  read = record { size_is = c.size_of.ensures; in_order = c.in_ok-graph.ensures; is_graph = is_graph_in (raw_view c.args.raw.now) (graph_in c.in_ok-graph.graph) c.requires.is_graph c.in_ok-graph.ensures };
+  graph = graph_view c.in_ok-graph.graph;
+  read = record { size_is = c.size_of.ensures; in_order = c.in_ok-graph.ensures; is_graph = is_graph_in (raw_view c.args.raw.now) (graph_view c.in_ok-graph.graph) c.requires.is_graph c.in_ok-graph.ensures };
   connected = c.in-Ok.ensures.connected;
 }
 
 pub returns-in-Err : goal.returns-in-Err
 returns-in-Err c = λ entries.
-    refused_as entries Check (raw_view c.args.raw.now) (graph_in c.in_ok-graph.graph) c.in-Err.refusal c.refused_body.result c.requires.is_graph c.in_ok-graph.ensures
+    refused_as entries Check (raw_view c.args.raw.now) (graph_view c.in_ok-graph.graph) c.in-Err.refusal c.refused_body.result c.requires.is_graph c.in_ok-graph.ensures
     c.in-Err.ensures.refused (check_may c.in-Err.refusal c.in-Err.ensures.early) c.refused_body.ensures.told c.refused_body.ensures.refused

@@ -1,6 +1,6 @@
 use Rattle.cgd_read.specs.Views.{raw_view}
-use Rattle.quotient_graph.specs.AnyGraphs.{graph_in}
-use Rattle.least_key.specs.AnyPlacements.{placed_in}
+use Rattle.quotient_graph.specs.AnyGraphs.{graph_view}
+use Rattle.least_key.specs.AnyPlacements.{placed_view}
 use Rattle.net_outcomes.proofs.OnlyPlacement.{is_graph_in, only_placement}
 use Rattle.net_outcomes.proofs.NetOutcomes.{place_may, refused_as}
 use Rattle.net_commands.specs.declared.command.Command.TheVariants.{Place}
@@ -8,14 +8,14 @@ use Rattle.net_outcomes.proofs.bodies.place_net.Goals as goal
 
 pub returns-in_ok-copy-in-Ok : goal.returns-in_ok-copy-in-Ok
 returns-in_ok-copy-in-Ok c = λ entries. record {
-  graph = graph_in c.in_ok-graph.graph;
-  read = record { size_is = c.size_of.ensures; in_order = c.in_ok-graph.ensures; is_graph = is_graph_in (raw_view c.args.raw.now) (graph_in c.in_ok-graph.graph) c.requires.is_graph c.in_ok-graph.ensures };
+  graph = graph_view c.in_ok-graph.graph;
+  read = record { size_is = c.size_of.ensures; in_order = c.in_ok-graph.ensures; is_graph = is_graph_in (raw_view c.args.raw.now) (graph_view c.in_ok-graph.graph) c.requires.is_graph c.in_ok-graph.ensures };
   names_are = c.in_ok-copy-in-Ok.ensures;
   placed_as = c.in-Ok.ensures.placed;
-  only = only_placement (graph_in c.in_ok-graph.graph) (placed_in c.in-Ok.placed) (is_graph_in (raw_view c.args.raw.now) (graph_in c.in_ok-graph.graph) c.requires.is_graph c.in_ok-graph.ensures) c.in-Ok.ensures.placed;
+  only = only_placement (graph_view c.in_ok-graph.graph) (placed_view c.in-Ok.placed) (is_graph_in (raw_view c.args.raw.now) (graph_view c.in_ok-graph.graph) c.requires.is_graph c.in_ok-graph.ensures) c.in-Ok.ensures.placed;
 }
 
 pub returns-in-Err : goal.returns-in-Err
 returns-in-Err c = λ entries.
-    refused_as entries Place (raw_view c.args.raw.now) (graph_in c.in_ok-graph.graph) c.in-Err.refusal c.refused_body.result c.requires.is_graph c.in_ok-graph.ensures
+    refused_as entries Place (raw_view c.args.raw.now) (graph_view c.in_ok-graph.graph) c.in-Err.refusal c.refused_body.result c.requires.is_graph c.in_ok-graph.ensures
     c.in-Err.ensures.refused (place_may c.in-Err.refusal c.in-Err.ensures.early) c.refused_body.ensures.told c.refused_body.ensures.refused

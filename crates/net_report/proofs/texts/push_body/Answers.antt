@@ -1,6 +1,6 @@
 use Rattle.std.proofs.Common.{◌≡◌, ◌++◌, sym, subst}
 use Rattle.std.specs.Prelude.{OnOk}
-use Rattle.least_key.specs.AnyNets.{net_in}
+use Rattle.least_key.specs.AnyNets.{net_view}
 use Rattle.net_report.specs.Headers.{size_text}
 use Rattle.net_report.specs.Identified.{identified_text}
 use Rattle.net_report.specs.Reports.{body_text}
@@ -15,4 +15,4 @@ returns-in_ok-push_size-in-Identified c =
     let last = c.push_identified.new.text.items in
     let i = c.in-Identified in
     subst (λ (b : OutcomeBody). OnOk r (last ≡ text ++ body_text b)) (sym i.is)
-    (two_parts r text c.push_size-in-Identified.new.text.items last (size_text i.size) (identified_text i.vertices (net_in i.net) i.shells i.names) c.in_ok-push_size-in-Identified.ensures c.push_identified.ensures)
+    (two_parts r text c.push_size-in-Identified.new.text.items last (size_text i.size) (identified_text i.vertices (net_view i.net) i.shells i.names) c.in_ok-push_size-in-Identified.ensures c.push_identified.ensures)

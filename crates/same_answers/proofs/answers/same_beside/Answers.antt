@@ -1,7 +1,7 @@
 use Rattle.std.proofs.Common.{◌≡◌, ◌∙◌, Bor, List, length, map, sym, ap, subst, arith}
 use Rattle.std.proofs.lemmas.List.{length-map}
 use Rattle.cgd_read.specs.Views.{block_view, views}
-use Rattle.least_key.specs.AnyNets.{net_in}
+use Rattle.least_key.specs.AnyNets.{net_view}
 use Rattle.least_key.specs.KeyedNets.{KeyedNet}
 use Rattle.least_key.specs.declared.net.Net.{Net as NetInMemory}
 use Rattle.same_answers.specs.Items.{IsMapsTextOf}
@@ -25,7 +25,7 @@ pub returns : goal.returns
 returns c =
     let os = c.in_ok-outcomes.outcomes in
     let each = c.in_ok-outcomes.ensures.outcomes.each in
-    let nets : map (λ (n : Bor NetInMemory). net_in n.now) c.as_slice-2.result.now ≡ nets_told os = ap (map (λ (n : Bor NetInMemory). net_in n.now)) c.as_slice-2.ensures.value ∙ c.in_ok-nets.ensures.nets ∙ ap nets_told c.as_slice.ensures in
+    let nets : map (λ (n : Bor NetInMemory). net_view n.now) c.as_slice-2.result.now ≡ nets_told os = ap (map (λ (n : Bor NetInMemory). net_view n.now)) c.as_slice-2.ensures.value ∙ c.in_ok-nets.ensures.nets ∙ ap nets_told c.as_slice.ensures in
     record {
       nets = nets_told os;
       are_nets = nets_of_blocks c.args.none.now.entries 1 c.args.found.now os c.requires.graphs each (sym c.if-not-are_accepted.ensures);

@@ -1,5 +1,5 @@
 use Rattle.std.proofs.Common.{arith, subst}
-use Rattle.least_key.specs.AnyNets.{net_in}
+use Rattle.least_key.specs.AnyNets.{net_view}
 use Rattle.least_key.specs.KeyedNets.{KeyedNet}
 use Rattle.same_answers.specs.Steps.{IsItemLast}
 use Rattle.same_answers.proofs.Written.{leads_on, less_room}
@@ -7,8 +7,8 @@ use Rattle.same_answers.proofs.texts.push_maps.Goals as goal
 
 pub loop-lender-preserved : goal.loop-lender-preserved
 loop-lender-preserved g c =
-    let first = net_in c.args.first.now in
-    let net = net_in c.net-net.result.now in
+    let first = net_view c.args.first.now in
+    let net = net_view c.net-net.result.now in
     let l = c.loop-lender in
     let one = c.in_ok-room.ensures in
     let few = l.invariant.few in

@@ -1,5 +1,5 @@
 use Rattle.std.proofs.Common.{◌≤◌, ◌+◌, drop, map}
-use Rattle.least_key.specs.AnyNets.{net_in}
+use Rattle.least_key.specs.AnyNets.{net_view}
 use Rattle.map_check.specs.Conditions.{most_images}
 use Rattle.same_answers.proofs.Written.{LeadsTo}
 use Rattle.same_answers.proofs.texts.push_maps.Given as goal
@@ -8,5 +8,5 @@ abbrev pub invariant-loop-lender : goal.invariant-loop-lender
 invariant-loop-lender g l = record {
   room_few : l.room ≤ most_images;
   few : l.k ≤ l.lender-index + 2;
-  leads : LeadsTo (net_in l.first) l.k l.room (map g.T.LendsNet.net (drop l.lender-index l.nets)) l.text.items (map g.T.LendsNet.net l.nets) l.initial.text.items;
+  leads : LeadsTo (net_view l.first) l.k l.room (map g.T.LendsNet.net (drop l.lender-index l.nets)) l.text.items (map g.T.LendsNet.net l.nets) l.initial.text.items;
 }

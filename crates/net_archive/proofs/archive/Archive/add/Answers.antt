@@ -1,5 +1,5 @@
 use Rattle.std.proofs.Common.{◌≡◌, ◌∙◌, true, sym}
-use Rattle.least_key.specs.AnyNets.{net_in}
+use Rattle.least_key.specs.AnyNets.{net_view}
 use Rattle.line_text.specs.Names.{is_name}
 use Rattle.net_entries.specs.Entries.{entry_view}
 use Rattle.net_archive.proofs.EntryFaults.{fault_told}
@@ -8,4 +8,4 @@ use Rattle.net_archive.proofs.archive.Archive.add.Goals as goal
 pub returns-clause-fault : goal.returns-clause-fault
 returns-clause-fault c =
     let named : is_name c.args.name.now ≡ true = sym c.is_name.ensures ∙ c.if-not-is_name.false in
-    fault_told c.args.self.now c.args.name.now (net_in c.args.net.now) (entry_view c.in_ok-entry.entry) named c.in_ok-entry.ensures.entry c.add_entry.result c.add_entry.ensures.fault
+    fault_told c.args.self.now c.args.name.now (net_view c.args.net.now) (entry_view c.in_ok-entry.entry) named c.in_ok-entry.ensures.entry c.add_entry.result c.add_entry.ensures.fault

@@ -1,5 +1,0 @@
-use Rattle.cell_theory.proofs.OnlyShifts as theory
-use Rattle.cell_theory.proofs.primitive_is_divided.Goals as goal
-
-pub returns : goal.returns
-returns c = record { theorem = theory.primitive_is_divided }
