@@ -4,7 +4,7 @@ use Rattle.integers.specs.Vectors.{Vector, minus, HasDimension}
 use Rattle.integers.proofs.counting.Pigeonhole.{not_fewer}
 use Rattle.integers.proofs.numbers.Naturals.{three_ways}
 use Rattle.integers.proofs.vectors.Laws.{minus_zero}
-use Rattle.vecdim.specs.Stairs.{Stairs, IsRemainder, size_of}
+use Rattle.hermite.specs.Stairs.{Stairs, IsRemainder, size_of}
 use Rattle.sublattice.specs.Laws.{AreNumbered}
 use Rattle.sublattice.specs.Remainders.{IsRemainderOf, number_of, remainder_with}
 use Rattle.sublattice.proofs.CallerLemmas.{remainders_numbered, tell_classes}

@@ -6,7 +6,7 @@ use Rattle.integers.proofs.numbers.Naturals.{pos_same, three_ways}
 use Rattle.integers.proofs.numbers.Ring.{linear}
 use Rattle.integers.proofs.vectors.Laws.{vector_equal}
 use Rattle.integers.proofs.vectors.Precedence.{Precedes, below_head, below_rest, below_ways, parts_below, precedes}
-use Rattle.vecdim.specs.Stairs.{Stairs, HasStairShape}
+use Rattle.hermite.specs.Stairs.{Stairs, HasStairShape}
 use Rattle.periodic_net.specs.Graph.{Graph, Arc, IsQuotientVertex}
 use Rattle.integers.specs.Bases.{base_sum}
 use Rattle.integers.proofs.vectors.BaseSums.{base_sum_minus}

@@ -4,8 +4,8 @@ use Rattle.integers.specs.Vectors.{Vector, vector, zero_vector, dot, HasDimensio
 use Rattle.integers.proofs.numbers.Ring.{ring, linear}
 use Rattle.integers.proofs.lists.ListOrder.{not_below_itself}
 use Rattle.integers.proofs.vectors.Laws.{vector_equal}
-use Rattle.vecdim.specs.Stairs.{Stairs, HasStairShape}
-use Rattle.vecdim.specs.Lattices.{Members}
+use Rattle.hermite.specs.Stairs.{Stairs, HasStairShape}
+use Rattle.hermite.specs.Lattices.{Members}
 use Rattle.periodic_net.specs.Graph.{Graph, IsGraph}
 use Rattle.integers.specs.Bases.{base_sum}
 use Rattle.component_theory.specs.Parts.{stair_base}

@@ -1,7 +1,7 @@
 -- A net that is that of a set whose vertices walks join is connected.
 use Rattle.std.proofs.Common.{ℕ, List, [], ◌∷◌, refl, sym, subst}
 use Rattle.integers.specs.Vectors.{Vector, zero_vector}
-use Rattle.vecdim.specs.Stairs.{Stairs}
+use Rattle.hermite.specs.Stairs.{Stairs}
 use Rattle.periodic_net.specs.Graph.{Graph, IsGraph, Vertex, IsVertex, AreJoined, IsWalk, IsReached, IsConnected}
 use Rattle.integers.specs.Bases.{Base}
 use Rattle.periodic_net.proofs.CallerLemmas.{joined_inside}

@@ -9,7 +9,7 @@ use Rattle.integers.proofs.numbers.Ring.{ring, linear, product_zero, other_facto
 use Rattle.integers.proofs.numbers.Order.{multiple_below, positive_is_some}
 use Rattle.integers.proofs.vectors.Laws.{vector_equal}
 use Rattle.integers.proofs.lists.Members.{apart_from_pairs, pairs_from_apart}
-use Rattle.vecdim.specs.Stairs.{Stairs, HasStairShape}
+use Rattle.hermite.specs.Stairs.{Stairs, HasStairShape}
 use Rattle.periodic_net.specs.Graph.{Graph, IsGraph, Arc, IsEdge, IsNormalSpelling}
 use Rattle.integers.specs.Bases.{base_sum}
 use Rattle.walk_theory.specs.Components.{InComponent}

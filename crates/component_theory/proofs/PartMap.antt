@@ -4,7 +4,7 @@ use Rattle.integers.specs.Vectors.{Vector, plus, minus}
 use Rattle.integers.proofs.numbers.Naturals.{three_ways}
 use Rattle.integers.proofs.numbers.Ring.{linear}
 use Rattle.integers.proofs.vectors.Laws.{vector_equal}
-use Rattle.vecdim.specs.Stairs.{Stairs}
+use Rattle.hermite.specs.Stairs.{Stairs}
 use Rattle.periodic_net.specs.Graph.{Graph, IsGraph, Arc, arc, IsQuotientVertex}
 use Rattle.integers.specs.Bases.{Base, base_sum}
 use Rattle.walk_theory.specs.Components.{InComponent}

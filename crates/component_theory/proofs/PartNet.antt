@@ -4,8 +4,8 @@ use Rattle.integers.specs.Vectors.{Vector, plus, minus, HasDimension}
 use Rattle.integers.proofs.numbers.Ring.{linear}
 use Rattle.integers.proofs.vectors.Laws.{vector_equal, plus_dimension, plus_cancel, plus_associative}
 use Rattle.integers.proofs.lists.Members.{contains_from_in, is_in}
-use Rattle.vecdim.specs.Stairs.{Stairs}
-use Rattle.vecdim.specs.Lattices.{Members}
+use Rattle.hermite.specs.Stairs.{Stairs}
+use Rattle.hermite.specs.Lattices.{Members}
 use Rattle.integers.proofs.lists.Members.{IsIn}
 use Rattle.periodic_net.specs.Graph.{Graph, IsGraph, arc, arcs, Vertex, vertex, moved, IsVertex, AreJoined}
 use Rattle.integers.specs.Bases.{Base, base_sum}

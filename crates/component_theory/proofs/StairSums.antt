@@ -6,8 +6,8 @@ use Rattle.integers.specs.Vectors.{Vector, vector, HasDimension}
 use Rattle.integers.proofs.numbers.Order.{positive_is_some}
 use Rattle.integers.proofs.numbers.Ring.{ring, linear, cancel_factor}
 use Rattle.integers.proofs.vectors.Laws.{vector_equal}
-use Rattle.vecdim.specs.Stairs.{Stairs, HasStairShape}
-use Rattle.vecdim.specs.Lattices.{Members}
+use Rattle.hermite.specs.Stairs.{Stairs, HasStairShape}
+use Rattle.hermite.specs.Lattices.{Members}
 use Rattle.integers.specs.Bases.{base_sum}
 use Rattle.component_theory.specs.Parts.{stair_base}
 

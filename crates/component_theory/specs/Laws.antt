@@ -1,7 +1,7 @@
 -- The theorems on components, as statements.
 use Rattle.std.specs.Prelude.{◌≡◌, ◌↔◌, ℕ}
 use Rattle.integers.specs.Vectors.{Vector, minus, HasDimension}
-use Rattle.vecdim.specs.Stairs.{Stairs, size_of}
+use Rattle.hermite.specs.Stairs.{Stairs, size_of}
 use Rattle.periodic_net.specs.Graph.{Graph, IsGraph, Vertex, IsVertex, IsReached, IsConnected}
 use Rattle.periodic_net.specs.Split.{ClosedShift}
 use Rattle.walk_theory.specs.Components.{InComponent, TellsWalks}

@@ -2,7 +2,7 @@
 use Rattle.std.specs.Prelude.{◌≡◌, ◌⊎◌, ◌↔◌, ℕ, pos, ◌<◌, ◌≤◌, List, [], ◌∷◌}
 use Rattle.integers.specs.Bases.{Base, base_sum}
 use Rattle.integers.specs.Vectors.{Vector, vector, plus, HasDimension}
-use Rattle.vecdim.specs.Stairs.{Stairs}
+use Rattle.hermite.specs.Stairs.{Stairs}
 use Rattle.periodic_net.specs.Graph.{Graph, Arc, Vertex, vertex, moved, IsVertex, IsQuotientVertex, AreJoined}
 use Rattle.periodic_net.specs.Split.{generator}
 use Rattle.walk_theory.specs.Components.{InComponent, TellsWalks}

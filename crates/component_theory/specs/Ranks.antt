@@ -1,8 +1,8 @@
 -- The rank of the closed walks of a component: below the dimension, or full.
 use Rattle.std.specs.Prelude.{◌≡◌, ◌≢◌, ◌⊎◌, ℕ, ◌<◌, ℤ, pos, neg_ℤ}
 use Rattle.integers.specs.Vectors.{Vector, zero_vector, times, dot, HasDimension, StartsPositive}
-use Rattle.vecdim.specs.Lattices.{Members}
-use Rattle.vecdim.specs.Stairs.{Stairs, HasStairShape}
+use Rattle.hermite.specs.Lattices.{Members}
+use Rattle.hermite.specs.Stairs.{Stairs, HasStairShape}
 use Rattle.periodic_net.specs.Graph.{Graph}
 use Rattle.periodic_net.specs.Split.{EndsBy, ClosedShift}
 use Rattle.component_theory.specs.Components.{IsLeast}

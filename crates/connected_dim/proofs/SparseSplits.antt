@@ -10,9 +10,10 @@ use Rattle.integers.proofs.numbers.Division.{euclid_rest}
 use Rattle.integers.proofs.numbers.Order.{positive_natural}
 use Rattle.periodic_net.specs.Graph.{Graph, IsGraph, IsQuotientVertex}
 use Rattle.periodic_net.specs.Split.{Split, AreAlike, entry, ClosedShift, IsPivot, IsSparseSplit, EndsBy}
-use Rattle.vecdim.specs.Stairs.{Stairs, InStairs, IsReducedStair, HasFlatEnd, HasStairShape, rows_of}
-use Rattle.vecdim.specs.Lattices.{Members}
-use Rattle.vecdim.proofs.CallerLemmas.{remainder, rows_are_basis}
+use Rattle.hermite.specs.Stairs.{Stairs, InStairs, IsReducedStair, HasFlatEnd, HasStairShape, rows_of}
+use Rattle.hermite.specs.Lattices.{Members}
+use Rattle.hermite.proofs.CallerLemmas.{rows_are_basis}
+use Rattle.vecdim.proofs.CallerLemmas.{remainder}
 use Rattle.walk_lattice.specs.Search.{walk_to, AreWalks}
 use Rattle.walk_lattice.specs.Generators.{shift_at}
 use Rattle.walk_lattice.specs.Lattices.{AreClosedWalks}

@@ -3,8 +3,8 @@ use Rattle.std.proofs.Common.{◌≡◌, ℕ, ℤ, List, Option, IsSome, All, sy
 use Rattle.integers.specs.Vectors.{Vector}
 use Rattle.periodic_net.specs.Graph.{Graph, IsGraph, IsConnected}
 use Rattle.periodic_net.proofs.CallerLemmas.{connected_by_tree, one_vertex}
-use Rattle.vecdim.specs.Stairs.{Stairs, IsWhole}
-use Rattle.vecdim.proofs.CallerLemmas.{all_members}
+use Rattle.hermite.specs.Stairs.{Stairs, IsWhole}
+use Rattle.hermite.proofs.CallerLemmas.{all_members}
 use Rattle.walk_lattice.specs.Search.{AreWalks}
 use Rattle.walk_lattice.specs.Full.{IsVolume}
 use Rattle.walk_lattice.specs.Generators.{shift_at, generators}

@@ -3,7 +3,7 @@ use Rattle.std.specs.Prelude.{◌≡◌, ◌≢◌, ◌⊎◌, ℤ, pos, neg_ℤ
 use Rattle.std.specs.Int.{int_rem_euclid}
 use Rattle.integers.specs.Vectors.{Vector, vector, dot}
 use Rattle.periodic_net.specs.Split.{Split}
-use Rattle.vecdim.specs.Stairs.{Stairs}
+use Rattle.hermite.specs.Stairs.{Stairs}
 use Rattle.walk_lattice.specs.Search.{shift_of}
 
 -- c is -b modulo q, where b is from 0 to below q

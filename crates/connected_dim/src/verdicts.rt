@@ -10,9 +10,10 @@ use crate::NoMemory;
 use crate::duals::first_dual_of;
 use crate::flat::flat_split;
 use crate::sparse::sparse_split;
+use hermite::Staircase;
 use quotient_graph::{Graph, Split};
 use std::alloc::Global;
-use vecdim::{Shift, Staircase, Vect};
+use vecdim::{Shift, Vect};
 use walk_lattice::{Rank, generators, lattice, rank_of};
 
 /// What is found of a net: that it is connected, or a colouring, where the closed walks have full

@@ -11,7 +11,7 @@ use Rattle.periodic_net.proofs.CallerLemmas.{arc_inside, arc_turned, reverse_twi
 use Rattle.key_theory.proofs.CallerLemmas.{arc_no_point}
 use Rattle.primitive_theory.proofs.CallerLemmas.{arc_by_edge, edge_is_arc, reverse_is_arc, spelled}
 use Rattle.sublattice.specs.Remainders.{remainder_with}
-use Rattle.vecdim.specs.Stairs.{Stairs, size_of}
+use Rattle.hermite.specs.Stairs.{Stairs, size_of}
 use Rattle.cover_theory.specs.Covers.{IsLiftTo, IsLift, IsGiven, IsCover}
 use Rattle.cover_theory.proofs.Numbers.{number_once}
 

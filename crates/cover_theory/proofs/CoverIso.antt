@@ -9,7 +9,7 @@ use Rattle.integers.proofs.vectors.Laws.{vector_equal, plus_minus, plus_dimensio
 use Rattle.periodic_net.specs.Graph.{Graph, IsGraph, Vertex, vertex, IsVertex, AreJoined, moved, IsArc, arc}
 use Rattle.periodic_net.proofs.CallerLemmas.{arc_between, arc_inside}
 use Rattle.primitive_theory.proofs.CallerLemmas.{PairedIso, paired_iso}
-use Rattle.vecdim.specs.Stairs.{Stairs, size_of}
+use Rattle.hermite.specs.Stairs.{Stairs, size_of}
 use Rattle.sublattice.specs.Remainders.{remainder_with}
 use Rattle.sublattice.specs.Sublattices.{index_of}
 use Rattle.sublattice.proofs.CallerLemmas.{Undoing, undoing}

@@ -12,7 +12,7 @@ use Rattle.integers.proofs.vectors.Laws.{opposite_dimension}
 use Rattle.integers.proofs.lists.Apart.{permuted_pairs}
 use Rattle.periodic_net.specs.Graph.{Graph, IsGraph, IsEdge, IsQuotientVertex, Arc, arc}
 use Rattle.sublattice.specs.Sublattices.{IsSublattice}
-use Rattle.vecdim.specs.Stairs.{Stairs, size_of}
+use Rattle.hermite.specs.Stairs.{Stairs, size_of}
 use Rattle.cover_theory.specs.Cells.{IsCell}
 use Rattle.cover_theory.specs.Covers.{edge_at, IsGivenAt, IsGiven, AreGiven, IsCover}
 use Rattle.cover_theory.proofs.GivenEdges.{HasVertices, given_once, given_tells}

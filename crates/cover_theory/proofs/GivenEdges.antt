@@ -7,7 +7,7 @@ use Rattle.periodic_net.specs.Graph.{Arc, arc, reverse_of, IsNormalSpelling}
 use Rattle.periodic_net.proofs.CallerLemmas.{one_spelling, reverse_twice}
 use Rattle.sublattice.specs.Remainders.{remainder_with}
 use Rattle.sublattice.specs.Sublattices.{IsSublattice}
-use Rattle.vecdim.specs.Stairs.{Stairs, size_of}
+use Rattle.hermite.specs.Stairs.{Stairs, size_of}
 use Rattle.cover_theory.specs.Cells.{IsCell}
 use Rattle.cover_theory.specs.Covers.{number_in_cover, IsLiftTo, IsLift, Spells, IsGivenAt}
 use Rattle.cover_theory.proofs.CoverArcs.{lift_turned}

@@ -13,7 +13,7 @@ use Rattle.integers.proofs.vectors.Bounds.{abs_negative}
 use Rattle.periodic_net.specs.Graph.{Arc, arc}
 use Rattle.periodic_net.specs.Limits.{most_shift}
 use Rattle.sublattice.specs.Sublattices.{IsSublattice}
-use Rattle.vecdim.specs.Stairs.{Stairs, size_of}
+use Rattle.hermite.specs.Stairs.{Stairs, size_of}
 use Rattle.cover_theory.specs.Cells.{IsCell}
 use Rattle.cover_theory.specs.Covers.{edge_at, IsGivenAt, IsNewShift, AreGiven}
 use Rattle.cover_theory.proofs.NewShifts.{shift_once}

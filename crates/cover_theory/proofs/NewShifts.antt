@@ -8,7 +8,7 @@ use Rattle.integers.proofs.vectors.Laws.{vector_equal, minus_dimension, plus_can
 use Rattle.periodic_net.specs.Graph.{Arc}
 use Rattle.sublattice.specs.Remainders.{remainder_with}
 use Rattle.sublattice.specs.Sublattices.{IsSublattice}
-use Rattle.vecdim.specs.Stairs.{Stairs}
+use Rattle.hermite.specs.Stairs.{Stairs}
 use Rattle.cover_theory.specs.Cells.{IsCell}
 use Rattle.cover_theory.specs.Covers.{IsNewShift}
 use Rattle.cover_theory.proofs.Coefficients.{coefficients_once}

@@ -7,7 +7,7 @@ use Rattle.integers.specs.Vectors.{Vector, zero_vector, up_vector}
 use Rattle.integers.proofs.vectors.OneStaircase.{one_staircase}
 use Rattle.periodic_net.specs.Graph.{Graph, Arc}
 use Rattle.sublattice.specs.Sublattices.{IsCombination, IsSublattice}
-use Rattle.vecdim.specs.Stairs.{Stairs, stairs, HasStairShape, rows_of, size_of}
+use Rattle.hermite.specs.Stairs.{Stairs, stairs, HasStairShape, rows_of, size_of}
 use Rattle.cover_theory.specs.Covers.{IsCover, IsGiven}
 
 -- the last pivot, read from the rows; in dimension 2 they have no third, and it is 1

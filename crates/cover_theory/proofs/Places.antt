@@ -3,9 +3,9 @@ use Rattle.std.proofs.Common.{◌≡◌, ℕ, ◌<◌, sym, ap, subst, ◌∙◌
 use Rattle.integers.specs.Bases.{Base}
 use Rattle.integers.specs.Vectors.{Vector, minus, HasDimension}
 use Rattle.integers.proofs.vectors.Laws.{minus_dimension, minus_itself}
-use Rattle.vecdim.specs.Lattices.{Members}
-use Rattle.vecdim.specs.Stairs.{Stairs, size_of}
-use Rattle.vecdim.proofs.CallerLemmas.{members_group}
+use Rattle.hermite.specs.Lattices.{Members}
+use Rattle.hermite.specs.Stairs.{Stairs, size_of}
+use Rattle.hermite.proofs.CallerLemmas.{members_group}
 use Rattle.sublattice.specs.Laws.{AreNumbered}
 use Rattle.sublattice.specs.Remainders.{IsRemainderOf, number_of, remainder_with}
 use Rattle.sublattice.specs.Sublattices.{IsCombination, IsSublattice}

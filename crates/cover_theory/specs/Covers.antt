@@ -6,7 +6,7 @@ use Rattle.periodic_net.specs.Graph.{Graph, IsGraph, Vertex, Arc, arc, reverse_o
 use Rattle.periodic_net.specs.Limits.{most_shift}
 use Rattle.sublattice.specs.Remainders.{remainder_with}
 use Rattle.sublattice.specs.Sublattices.{index_of, IsSublattice}
-use Rattle.vecdim.specs.Stairs.{Stairs, size_of}
+use Rattle.hermite.specs.Stairs.{Stairs, size_of}
 
 -- the number of vertex u at the remainder with number i, where there are n remainders
 abbrev pub number_in_cover : ℕ → ℕ → ℕ → ℕ

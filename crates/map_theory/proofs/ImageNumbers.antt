@@ -2,8 +2,8 @@
 use Rattle.std.proofs.Common.{◌≡◌, ℕ, ◌-◌, ◌*◌, ◌+◌, ◌<◌, ◌≤◌, sym, ap, subst, ◌∙◌, arith}
 use Rattle.integers.specs.Vectors.{Vector, minus}
 use Rattle.integers.proofs.counting.NumberedPairs.{parts_same, turned_below}
-use Rattle.vecdim.specs.Lattices.{Members}
-use Rattle.vecdim.specs.Stairs.{Stairs, HasStairShape, size_of}
+use Rattle.hermite.specs.Lattices.{Members}
+use Rattle.hermite.specs.Stairs.{Stairs, HasStairShape, size_of}
 use Rattle.sublattice.specs.Laws.{AreNumbered}
 use Rattle.sublattice.specs.Remainders.{HasNumber, number_of, remainder_with}
 use Rattle.sublattice.proofs.CallerLemmas.{remainders_numbered, tell_classes}

@@ -1,6 +1,6 @@
 -- The numbers of vertices up to a lattice.
 use Rattle.std.specs.Prelude.{◌≡◌, ℕ, ◌+◌, ◌-◌, ◌*◌}
-use Rattle.vecdim.specs.Stairs.{Stairs, size_of}
+use Rattle.hermite.specs.Stairs.{Stairs, size_of}
 use Rattle.sublattice.specs.Remainders.{HasNumber}
 use Rattle.periodic_net.specs.Graph.{Vertex}
 

@@ -6,7 +6,7 @@ use Rattle.std.proofs.lemmas.List.Elements.{All-contains}
 use Prim.{Dec, yes, no}
 use Rattle.integers.proofs.lists.Matched.{AreMatched, matched_at, matched_left, matched_length}
 use Rattle.integers.proofs.lists.Members.{is_in, contains_from_in}
-use Rattle.vecdim.specs.Stairs.{Stairs, stairs}
+use Rattle.hermite.specs.Stairs.{Stairs, stairs}
 use Rattle.periodic_net.specs.Graph.{Graph, IsGraph}
 use Rattle.periodic_net.specs.Limits.{IsSmall}
 use Rattle.walk_theory.specs.Components.{InComponent}

@@ -6,7 +6,7 @@ use Rattle.integers.specs.Bases.{base_sum}
 use Rattle.integers.specs.Vectors.{Vector, vector, plus, times, parts, combination, HasDimension}
 use Rattle.integers.proofs.numbers.Ring.{ring, linear}
 use Rattle.integers.proofs.vectors.Laws.{vector_equal}
-use Rattle.vecdim.specs.Stairs.{Stairs, rows_of}
+use Rattle.hermite.specs.Stairs.{Stairs, rows_of}
 use Rattle.component_theory.specs.Parts.{stair_base}
 
 -- where the last coordinate is 0

@@ -4,7 +4,7 @@ use Rattle.std.proofs.lemmas.List.Elements.{All-contains}
 use Rattle.integers.specs.Bases.{base_sum}
 use Rattle.integers.specs.Vectors.{Vector, plus, minus, HasDimension, IsWithin}
 use Rattle.integers.proofs.lists.Members.{is_in, contains_from_in}
-use Rattle.vecdim.specs.Lattices.{Members}
+use Rattle.hermite.specs.Lattices.{Members}
 use Rattle.periodic_net.specs.Graph.{Graph, IsGraph, Arc, arc, arcs, IsArc, IsEdge}
 use Rattle.periodic_net.specs.Limits.{IsSmall, most_shift, most_vertices}
 use Rattle.periodic_net.proofs.CallerLemmas.{edge_in}

@@ -3,8 +3,8 @@ use Rattle.std.proofs.Common.{◌≡◌, ◌≢◌, ◌⊎◌, inl, inr, ℕ, �
 use Rattle.std.proofs.lemmas.Int.{ints}
 use Rattle.std.proofs.lemmas.List.Elements.{All-contains}
 use Rattle.integers.specs.Vectors.{Vector, vector, cross, dot}
-use Rattle.vecdim.specs.Stairs.{Stairs, InStairs, HasStairShape, HasFlatEnd, size_of}
-use Rattle.vecdim.specs.Lattices.{Members}
+use Rattle.hermite.specs.Stairs.{Stairs, InStairs, HasStairShape, HasFlatEnd, size_of}
+use Rattle.hermite.specs.Lattices.{Members}
 use Rattle.periodic_net.specs.Graph.{Graph, IsGraph}
 use Rattle.component_theory.specs.Components.{IsLeast}
 use Rattle.component_theory.specs.Ranks.{IsFullAt}

@@ -6,9 +6,9 @@ use Rattle.integers.specs.Staircase.{IsStaircase}
 use Rattle.integers.specs.Vectors.{zero_vector}
 use Rattle.integers.proofs.lists.Members.{is_in}
 use Rattle.integers.proofs.vectors.OneStaircase.{same_staircase}
-use Rattle.vecdim.specs.Stairs.{rows_of}
-use Rattle.vecdim.specs.Lattices.{Members}
-use Rattle.vecdim.proofs.CallerLemmas.{rows_are_basis}
+use Rattle.hermite.specs.Stairs.{rows_of}
+use Rattle.hermite.specs.Lattices.{Members}
+use Rattle.hermite.proofs.CallerLemmas.{rows_are_basis}
 use Rattle.periodic_net.specs.Graph.{Graph, IsGraph}
 use Rattle.periodic_net.specs.Limits.{IsSmall}
 use Rattle.periodic_net.specs.Split.{ClosedShift}

@@ -7,7 +7,7 @@ use Rattle.integers.proofs.lists.Pieces.{in_at}
 use Rattle.integers.proofs.lists.Members.{IsIn, contains_from_in}
 use Rattle.integers.proofs.lists.Permutations.{IsRising, rising_from_pairs, same_rising}
 use Rattle.integers.proofs.numbers.Naturals.{three_ways}
-use Rattle.vecdim.specs.Stairs.{rows_of, size_of}
+use Rattle.hermite.specs.Stairs.{rows_of, size_of}
 use Rattle.periodic_net.specs.Graph.{Graph, IsGraph, Arc, arc, IsQuotientVertex}
 use Rattle.quotient_graph.specs.AnyGraphs.{graph_view}
 use Rattle.walk_theory.specs.Chosen.{path_shift}

@@ -1,7 +1,7 @@
 -- The components of a quotient graph, as they are found.
 use Rattle.std.specs.Prelude.{ℕ, ◌<◌, ◌^◌, List, Option, IsSome, All, AllPairs, Contains}
 use Rattle.integers.specs.Vectors.{Vector}
-use Rattle.vecdim.specs.Stairs.{Stairs, size_of}
+use Rattle.hermite.specs.Stairs.{Stairs, size_of}
 use Rattle.periodic_net.specs.Graph.{Graph, IsQuotientVertex}
 use Rattle.component_theory.specs.Components.{IsLeast}
 use Rattle.component_theory.specs.Ranks.{IsFullAt}

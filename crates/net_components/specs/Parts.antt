@@ -2,7 +2,7 @@
 use Rattle.std.specs.Prelude.{◌≡◌, ℕ, ◌<◌, ◌-◌, List, length, All, AllPairs, Contains, slice_index_or}
 use Rattle.integers.specs.Staircase.{IsStaircase}
 use Rattle.integers.specs.Vectors.{Vector}
-use Rattle.vecdim.specs.Stairs.{Stairs, rows_of, size_of}
+use Rattle.hermite.specs.Stairs.{Stairs, rows_of, size_of}
 use Rattle.periodic_net.specs.Graph.{Graph, Arc, IsQuotientVertex}
 use Rattle.periodic_net.specs.Limits.{IsSmall}
 use Rattle.periodic_net.specs.Split.{ClosedShift}

@@ -3,7 +3,7 @@ use Rattle.std.specs.Prelude.{◌≡◌, ℕ, ◌<◌, ◌≤◌, ◌-◌, ℤ, 
 use Rattle.integers.specs.Bases.{base_sum}
 use Rattle.integers.specs.Staircase.{part}
 use Rattle.integers.specs.Vectors.{Vector, plus, minus, HasDimension, IsWithin}
-use Rattle.vecdim.specs.Stairs.{Stairs}
+use Rattle.hermite.specs.Stairs.{Stairs}
 use Rattle.periodic_net.specs.Graph.{Graph, Arc, arc}
 use Rattle.periodic_net.specs.Limits.{most_shift}
 use Rattle.walk_theory.specs.Chosen.{path_shift, IsChosen}

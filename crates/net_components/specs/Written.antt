@@ -5,7 +5,7 @@ use Rattle.periodic_net.specs.Graph.{Graph, Arc, arc}
 use Rattle.periodic_net.specs.Limits.{most_shift}
 use Rattle.quotient_graph.specs.AnyGraphs.{graph_view}
 use Rattle.quotient_graph.specs.Stars.{graph_with}
-use Rattle.vecdim.specs.Stairs.{rows_of, size_of}
+use Rattle.hermite.specs.Stairs.{rows_of, size_of}
 use Rattle.walk_theory.specs.Components.{InComponent}
 use Rattle.component_theory.specs.Parts.{stair_base, IsWritten, AreWritten}
 use Rattle.walk_lattice.specs.Generators.{shift_at}

@@ -9,10 +9,11 @@ ghost use Rattle.net_components.specs.Components.{IsComponent};
 ghost use Rattle.net_components.specs.Faults.{IsFlatFault};
 
 use crate::{NoMemory, PartFault};
+use hermite::Staircase;
 use quotient_graph::Graph;
 use std::alloc::Global;
 use std::marker::Model;
-use vecdim::{Shift, Staircase, Vect};
+use vecdim::{Shift, Vect};
 use walk_lattice::{Rank, generators, lattice, rank_of, walks};
 
 /// The component of a vertex, the root: the chosen walks from the root, and the lattice of the

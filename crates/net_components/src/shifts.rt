@@ -4,16 +4,17 @@ ghost use Rattle.std.specs.Int.{w128};
 ghost use Rattle.integers.specs.Vectors.{IsWithin, HasDimension};
 ghost use Rattle.integers.specs.Bases.{base_sum};
 ghost use Rattle.periodic_net.specs.Limits.{most_walk, most_shift};
-ghost use Rattle.vecdim.specs.Lattices.{Members};
+ghost use Rattle.hermite.specs.Lattices.{Members};
 ghost use Rattle.component_theory.specs.Parts.{stair_base};
 ghost use Rattle.walk_lattice.specs.Search.{shift_of};
 ghost use Rattle.walk_lattice.specs.Generators.{generator_of};
 ghost use Rattle.net_components.specs.Shifts.{IsFirstWide};
 
 use crate::component::Component;
+use hermite::Staircase;
 use periodic_net::MOST_SHIFT;
 use quotient_graph::Arc;
-use vecdim::{Staircase, Triple, Vect};
+use vecdim::{Triple, Vect};
 use walk_lattice::edge_walk;
 
 /// The first part past the limit, counted from 1.

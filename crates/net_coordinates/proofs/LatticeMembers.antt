@@ -4,9 +4,9 @@ use Rattle.std.proofs.Math.ListN.{get_or}
 use Rattle.std.proofs.lemmas.List.Elements.{All-more, All-weaker}
 use Rattle.integers.specs.Vectors.{Vector}
 use Rattle.periodic_net.specs.Classes.{ClassArc}
-use Rattle.vecdim.specs.Lattices.{Members, IsWith}
-use Rattle.vecdim.specs.Stairs.{Stairs}
-use Rattle.vecdim.proofs.CallerLemmas.{with_has, members_group, with_start}
+use Rattle.hermite.specs.Lattices.{Members, IsWith}
+use Rattle.hermite.specs.Stairs.{Stairs}
+use Rattle.hermite.proofs.CallerLemmas.{with_has, members_group, with_start}
 use Rattle.net_coordinates.specs.Lattices.{IsInside, AreInside}
 
 -- the vector that is added is a member

@@ -6,7 +6,7 @@ use Rattle.integers.proofs.vectors.Laws.{plus_zero, zero_times}
 use Rattle.integers.specs.Bases.{base_sum}
 use Rattle.integers.proofs.numbers.Order.{positive_is_some}
 use Rattle.key_theory.specs.Coordinates.{IsBasisOf}
-use Rattle.vecdim.specs.Stairs.{Stairs, HasStairShape, rows_of}
+use Rattle.hermite.specs.Stairs.{Stairs, HasStairShape, rows_of}
 use Rattle.net_coordinates.specs.Lattices.{basis_of}
 
 -- a combination of the rows is the sum of the basis

@@ -16,7 +16,7 @@ use Rattle.key_theory.specs.Coordinates.{arc_by_basis, graph_by_basis, AreCoordi
 use Rattle.key_theory.proofs.CallerLemmas.{coordinates_net}
 use Rattle.quotient_graph.specs.ClassNets.{arcs_of, class_star, class_graph, HasStars, IsSmallNet, IsNetInMemory}
 use Rattle.quotient_graph.proofs.CallerLemmas.{stars_are_arcs}
-use Rattle.vecdim.specs.Stairs.{Stairs, HasStairShape}
+use Rattle.hermite.specs.Stairs.{Stairs, HasStairShape}
 use Rattle.net_coordinates.specs.Lattices.{basis_of, IsProperly, IsInCoordinates, AreInCoordinates}
 use Rattle.net_coordinates.proofs.StairBasis.{stairs_are_basis}
 use Rattle.net_coordinates.proofs.Written.{leave_from, joined_images}

@@ -8,7 +8,7 @@ use Rattle.integers.proofs.lists.Members.{IsIn}
 use Rattle.periodic_net.specs.Classes.{ClassGraph, ClassArc}
 use Rattle.quotient_graph.specs.ClassNets.{arcs_of}
 use Rattle.quotient_graph.proofs.CallerLemmas.{LeaveFrom}
-use Rattle.vecdim.specs.Stairs.{Stairs}
+use Rattle.hermite.specs.Stairs.{Stairs}
 use Rattle.net_coordinates.specs.Lattices.{IsInCoordinates, AreInCoordinates}
 
 -- before the first class nothing is written

@@ -6,8 +6,8 @@ use Rattle.periodic_net.specs.Limits.{most_coordinate, most_units}
 use Rattle.integers.specs.Bases.{Base}
 use Rattle.key_theory.specs.Coordinates.{arc_by_basis}
 use Rattle.quotient_graph.specs.ClassNets.{arcs_of, class_star}
-use Rattle.vecdim.specs.Lattices.{Members}
-use Rattle.vecdim.specs.Stairs.{Stairs}
+use Rattle.hermite.specs.Lattices.{Members}
+use Rattle.hermite.specs.Stairs.{Stairs}
 
 -- the vector of the arc is a member
 abbrev pub IsInside : ℕ → Stairs → ClassArc → Type 0

@@ -7,9 +7,9 @@ ghost use Rattle.net_coordinates.specs.Lattices.{basis_of, AreInside, AreWithinU
 
 use crate::NoMemory;
 use crate::lattice::lattice_of;
+use hermite::Staircase;
 use quotient_graph::{ClassArc, ClassGraph, Classes};
 use std::alloc::Global;
-use vecdim::Staircase;
 
 // The arc, with its vector in coordinates.
 fn arc_in<const D: usize>(lattice: &Staircase<D>, arc: &ClassArc<D>) -> ClassArc<D>

@@ -4,11 +4,11 @@ ghost use Rattle.integers.specs.Vectors.{Vector};
 ghost use Rattle.periodic_net.specs.Correspondence.{IsClass};
 ghost use Rattle.periodic_net.specs.Limits.{most_units};
 ghost use Rattle.quotient_graph.specs.ClassNets.{arcs_of};
-ghost use Rattle.vecdim.specs.Lattices.{Members};
+ghost use Rattle.hermite.specs.Lattices.{Members};
 ghost use Rattle.net_coordinates.specs.Lattices.{AreInside};
 
+use hermite::Staircase;
 use quotient_graph::{ClassArc, ClassGraph};
-use vecdim::Staircase;
 
 // Adds the vectors of these arcs, and all that they generate.
 fn insert_arcs<const D: usize>(lattice: &mut Staircase<D>, arcs: &[ClassArc<D>])

@@ -5,7 +5,7 @@ use Rattle.std.proofs.lemmas.List.Sorted.{IsPermutation-refl}
 use Rattle.integers.specs.Bases.{Base}
 use Rattle.periodic_net.specs.Graph.{Graph, IsGraph, Arc}
 use Rattle.periodic_net.specs.Limits.{IsSmall, most_vertices, most_edges}
-use Rattle.vecdim.specs.Stairs.{Stairs, size_of}
+use Rattle.hermite.specs.Stairs.{Stairs, size_of}
 use Rattle.quotient_graph.specs.Stars.{IsInOrder, graph_with}
 use Rattle.sublattice.specs.Sublattices.{determinant, index_of, IsSublattice}
 use Rattle.cover_theory.specs.Cells.{IsCell}

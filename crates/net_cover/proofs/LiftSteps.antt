@@ -7,7 +7,7 @@ use Rattle.integers.specs.Vectors.{Vector, plus, minus, HasDimension, IsWithin}
 use Rattle.integers.proofs.vectors.Laws.{plus_minus}
 use Rattle.periodic_net.specs.Graph.{Arc, arc}
 use Rattle.periodic_net.specs.Limits.{most_vertices}
-use Rattle.vecdim.specs.Stairs.{Stairs, HasStairShape, IsRemainder, size_of}
+use Rattle.hermite.specs.Stairs.{Stairs, HasStairShape, IsRemainder, size_of}
 use Rattle.sublattice.specs.Remainders.{HasNumber, remainder_with}
 use Rattle.sublattice.specs.Sublattices.{index_of, IsCombination}
 use Rattle.sublattice.proofs.CallerLemmas.{factors_small, remainders_numbered}

@@ -8,7 +8,7 @@ use Rattle.integers.specs.Vectors.{Vector, IsWithin}
 use Rattle.periodic_net.specs.Graph.{Graph, IsGraph, Arc}
 use Rattle.periodic_net.specs.Limits.{most_shift}
 use Rattle.sublattice.specs.Sublattices.{IsSublattice}
-use Rattle.vecdim.specs.Stairs.{Stairs, size_of}
+use Rattle.hermite.specs.Stairs.{Stairs, size_of}
 use Rattle.cover_theory.specs.Cells.{IsCell}
 use Rattle.cover_theory.specs.Covers.{edge_at}
 use Rattle.cover_theory.proofs.CallerLemmas.{one_lattice, shift_once}

@@ -8,7 +8,7 @@ ghost use Rattle.net_cover.specs.Cells.{index_in};
 ghost use Rattle.net_cover.specs.Faults.{IsCoverFault, IsCoverable, FitsEdges};
 
 use crate::cell::lattice_in;
-use crate::dixon_lifting::given_edges;
+use crate::lifting::given_edges;
 use crate::{Cell, CoverFault};
 use periodic_net::{MOST_EDGES, MOST_VERTICES};
 use quotient_graph::{AnyGraph, Graph};

@@ -8,11 +8,12 @@ ghost use Rattle.net_cover.specs.Cells.{IsLatticeOfCell};
 ghost use Rattle.net_cover.specs.Lifting.{IsWideNumber, TellsPart, TellsLift, TellsEdge, TellsFirst, CanLift, CanLiftAll};
 
 use crate::{Cell, CoverFault, NoMemory};
+use hermite::Staircase;
 use periodic_net::MOST_SHIFT;
 use quotient_graph::Arc;
 use std::alloc::Global;
 use sublattice::{remainder_at, remainder_number};
-use vecdim::{Shift, Staircase, Triple};
+use vecdim::{Shift, Triple};
 
 // A part of a new shift, where it is within the limit.
 fn small_part(x: i128) -> Result<i32, CoverFault>

@@ -8,7 +8,7 @@ use Rattle.primitive_theory.proofs.CallerLemmas.{primitive_is_divided}
 use Rattle.quotient_graph.specs.NetClasses.{NetClasses, class_at}
 use Rattle.quotient_graph.specs.PlacedNets.{PlacedNet}
 use Rattle.quotient_graph.specs.Stars.{graph_with}
-use Rattle.vecdim.specs.Stairs.{Stairs, rows_of}
+use Rattle.hermite.specs.Stairs.{Stairs, rows_of}
 use Rattle.primitive_cell.specs.Given.{IsGivenBy}
 use Rattle.primitive_cell.specs.PrimitiveCells.{IsPrimitiveCell, AreEdgesBelow}
 use Rattle.primitive_cell.specs.Places.{number_at}

@@ -2,8 +2,9 @@
 ghost use Rattle.periodic_net.specs.Classes.{AreTranslations};
 ghost use Rattle.primitive_cell.specs.PrimitiveCells.{IsTranslationLattice};
 
+use hermite::Staircase;
 use quotient_graph::Stable;
-use vecdim::{Staircase, Vect};
+use vecdim::Vect;
 
 /// The lattice of all translations, from those with parts from 0 to D0 - 1.
 pub fn lattice_of<const D: usize>(net: &Stable<D>, translations: &[Vect<D>]) -> Staircase<D>

@@ -5,7 +5,7 @@ use Rattle.integers.specs.Vectors.{Vector, vector, minus, HasDimension}
 use Rattle.integers.proofs.numbers.Ring.{ring, linear}
 use Rattle.integers.proofs.vectors.Laws.{minus_dimension}
 use Rattle.integers.specs.Bases.{Base}
-use Rattle.vecdim.specs.Stairs.{Stairs, InStairs, HasFlatEnd, HasStairShape}
+use Rattle.hermite.specs.Stairs.{Stairs, InStairs, HasFlatEnd, HasStairShape}
 use Rattle.sublattice.specs.Laws.{PivotsMultiply}
 use Rattle.sublattice.specs.Sublattices.{determinant, AreFlat, IsCombination}
 use Rattle.integers.proofs.counting.Numbering.{Numbering, along, one_size}

@@ -1,4 +1,1 @@
-pub mod Lattices
 pub mod SmallVectors
-pub mod Stairs
-pub mod Steps

@@ -1,22 +1,14 @@
-//! Vectors of whole numbers in two and three dimensions, their sums and products, and lattices by
-//! their staircase basis.
+//! Vectors of whole numbers in two and three dimensions, their sums, products and quotients.
 #![tactic(auto)]
 
 mod arithmetic;
-mod columns;
-mod division;
-mod insertion;
 mod products;
 mod quotients;
 mod small;
-mod staircase;
 mod sums;
 mod vectors;
 
-pub use columns::Division;
-pub use division::split;
 pub use products::{cross, independent, product_of_three, triple};
-pub use quotients::quotient;
+pub use quotients::{modulo, quotient};
 pub use small::SmallVector;
-pub use staircase::{Staircase, rows_are_one};
-pub use vectors::{Row, Shift, Triple, Vect};
+pub use vectors::{Shift, Triple, Vect};

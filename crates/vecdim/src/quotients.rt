@@ -1,9 +1,18 @@
 // Vectors modulo a number, and divided by a divisor of their parts.
-ghost use Rattle.std.specs.Prelude.{◌≡◌, ◌≤◌, ℤ, pos, ◌*ℤ◌, ◌<ℤ◌, unsigned_abs};
+ghost use Rattle.std.specs.Prelude.{◌≡◌, ◌≤◌, ℤ, pos, ◌+ℤ◌, ◌*ℤ◌, ◌≤ℤ◌, ◌<ℤ◌, unsigned_abs};
 
 use crate::arithmetic::negative;
-use crate::columns::modulo;
 use crate::{Triple, Vect};
+
+/// z, brought between 0 and m by multiples of m.
+pub fn modulo(z: i128, m: i128) -> i128
+    requires m { pos 0 <ℤ m }
+    ensures from { pos 0 ≤ℤ result }
+    ensures to { result <ℤ m }
+    ensures same { (k : ℤ) × (result ≡ z +ℤ m *ℤ k) }
+{
+    z.rem_euclid(m)
+}
 
 /// A number divided by a positive divisor of it.
 pub fn quotient(a: i128, g: i128) -> i128

@@ -1,5 +1,4 @@
 // Shifts, triples of coordinates, and vectors.
-use exact::Exact;
 use std::cmp::Ordering;
 use std::marker::Model;
 
@@ -193,13 +192,4 @@ impl<const D: usize> Vect<D> {
     {
         self.cmp(other)
     }
-}
-
-/// The parts of a position or of a right-hand side, in numbers of the type `N`; in dimension 2 the
-/// part `z` has the value 0.
-#[derive(Clone, Copy, Debug, PartialEq, Eq)]
-pub struct Row<N: Exact, const D: usize> {
-    pub x: N,
-    pub y: N,
-    pub z: N,
 }

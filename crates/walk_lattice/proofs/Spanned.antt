@@ -7,9 +7,9 @@ use Rattle.integers.proofs.vectors.Laws.{vector_equal, product_times}
 use Rattle.integers.proofs.vectors.Cramer.{cramer, products}
 use Rattle.periodic_net.specs.Graph.{Graph, IsGraph, IsQuotientVertex}
 use Rattle.periodic_net.specs.Split.{ClosedShift}
-use Rattle.vecdim.specs.Stairs.{Stairs}
-use Rattle.vecdim.specs.Lattices.{Members}
-use Rattle.vecdim.proofs.CallerLemmas.{with_has, with_inside, members_group}
+use Rattle.hermite.specs.Stairs.{Stairs}
+use Rattle.hermite.specs.Lattices.{Members}
+use Rattle.hermite.proofs.CallerLemmas.{with_has, with_inside, members_group}
 use Rattle.integers.specs.Vectors.{cross}
 use Rattle.walk_lattice.specs.Full.{IsVolume}
 use Rattle.walk_lattice.specs.Search.{AreWalks}

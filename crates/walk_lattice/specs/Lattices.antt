@@ -3,8 +3,8 @@ use Rattle.std.specs.Prelude.{ℕ, ℤ, List}
 use Rattle.integers.specs.Vectors.{Vector}
 use Rattle.periodic_net.specs.Graph.{Graph}
 use Rattle.periodic_net.specs.Split.{ClosedShift}
-use Rattle.vecdim.specs.Stairs.{Stairs}
-use Rattle.vecdim.specs.Lattices.{Members, AreMultiples, IsWith}
+use Rattle.hermite.specs.Stairs.{Stairs}
+use Rattle.hermite.specs.Lattices.{Members, AreMultiples, IsWith}
 
 -- the rows of the multiples of m and of these vectors
 pub record IsLatticeOf (d : ℕ) (m : ℤ) (vs : List Vector) (S : Stairs) : Type 0 where

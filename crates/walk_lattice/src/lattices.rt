@@ -2,7 +2,8 @@
 ghost use Rattle.std.specs.Prelude.{◌≡◌, ◌⊎◌, ◌^◌, pos, ◌≤ℤ◌, ◌<ℤ◌};
 ghost use Rattle.walk_lattice.specs.Lattices.{IsLatticeOf};
 
-use vecdim::{Staircase, Vect};
+use hermite::Staircase;
+use vecdim::Vect;
 
 /// The lattice of the multiples of m and of these vectors.
 pub fn lattice<const D: usize>(gs: &[Vect<D>], m: i128) -> Staircase<D>

@@ -13,7 +13,7 @@ use Rattle.periodic_net.specs.Placement.{Placement, base, arc_vector}
 use Rattle.periodic_net.proofs.CallerLemmas.{arc_inside, from_is_arc, total_linear}
 use Rattle.quotient_graph.specs.PlacedNets.{placement_of}
 use Rattle.exact.specs.Ratio.{Ratio, whole}
-use Rattle.vecdim.specs.declared.vectors.Row.{Row}
+use Rattle.elimination.specs.declared.rows.Row.{Row}
 use Rattle.elimination.specs.Rows.{row_part, value_in}
 use Rattle.residue.specs.declared.numbers.Residue.{Residue}
 use Rattle.dixon_lifting.specs.Gains.{gains, shifts}

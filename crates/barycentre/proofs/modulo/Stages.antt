@@ -10,7 +10,7 @@ use Rattle.integers.proofs.numbers.Division.{exact_quotient}
 use Rattle.periodic_net.specs.Graph.{Graph, IsGraph, IsQuotientVertex}
 use Rattle.exact.specs.Ratio.{Same, whole}
 use Rattle.exact.proofs.CallerLemmas.{equal_residues}
-use Rattle.vecdim.specs.declared.vectors.Row.{Row}
+use Rattle.elimination.specs.declared.rows.Row.{Row}
 use Rattle.elimination.specs.Equations.{IsAtMean, IsSolution}
 use Rattle.elimination.specs.Rows.{value_in}
 use Rattle.elimination.specs.RightHand.{IsSolutionWith, SolveWith}

@@ -10,7 +10,7 @@ use Rattle.periodic_net.specs.Limits.{IsSmall}
 use Rattle.quotient_graph.specs.PlacedNets.{most_position}
 use Rattle.quotient_graph.proofs.CallerLemmas.{position_bounded}
 use Rattle.exact.specs.Ratio.{Ratio, whole}
-use Rattle.vecdim.specs.declared.vectors.Row.{Row}
+use Rattle.elimination.specs.declared.rows.Row.{Row}
 use Rattle.fraction.specs.declared.numbers.Fraction.{Fraction}
 use Rattle.fraction.specs.Values.{fraction_value}
 use Rattle.elimination.specs.Rows.{row_part, value_in}

@@ -4,7 +4,7 @@ use Rattle.std.proofs.lemmas.List.{length-map}
 use Rattle.integers.specs.Vectors.{Vector}
 use Rattle.periodic_net.specs.Graph.{Graph, IsGraph, IsConnected}
 use Rattle.periodic_net.specs.Limits.{IsSmall}
-use Rattle.vecdim.specs.declared.vectors.Row.{Row}
+use Rattle.elimination.specs.declared.rows.Row.{Row}
 use Rattle.fraction.specs.declared.numbers.Fraction.{Fraction}
 use Rattle.fraction.specs.Values.{fraction_value}
 use Rattle.elimination.specs.RightHand.{SolveWith}

@@ -3,7 +3,7 @@ use Rattle.std.specs.Int.{w128}
 use Rattle.std.proofs.lemmas.Int.{to_z-of_z}
 use Rattle.periodic_net.specs.Graph.{Arc, arc}
 use Rattle.periodic_net.specs.Limits.{most_vertices}
-use Rattle.vecdim.specs.Lattices.{Members}
+use Rattle.hermite.specs.Lattices.{Members}
 use Rattle.walk_lattice.specs.Generators.{generator_of}
 use Rattle.integers.specs.Vectors.{HasDimension}
 use Rattle.net_components.specs.Vertices.{vertices_of}

@@ -3,7 +3,7 @@ use Rattle.std.proofs.lemmas.List.{map-append}
 use Rattle.periodic_net.specs.Classes.{ClassGraph, ClassArc}
 use Rattle.key_theory.specs.Coordinates.{AreCoordinates}
 use Rattle.quotient_graph.specs.ClassNets.{arcs_of}
-use Rattle.vecdim.specs.Stairs.{Stairs}
+use Rattle.hermite.specs.Stairs.{Stairs}
 use Rattle.net_coordinates.specs.Lattices.{AreInside, AreWithinUnits, IsInCoordinates, AreInCoordinates}
 use Rattle.net_coordinates.proofs.ShortArcs.{short_arcs}
 use Rattle.net_coordinates.proofs.WholeGraph.{are_coordinates, is_net_in_memory}

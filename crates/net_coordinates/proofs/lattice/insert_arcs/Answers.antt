@@ -2,8 +2,8 @@ use Rattle.std.proofs.Common.{◌∙◌, ap, subst, [], ◌∷◌}
 use Rattle.std.proofs.lemmas.List.{take_all}
 use Rattle.integers.specs.Vectors.{Vector}
 use Rattle.periodic_net.specs.Classes.{ClassArc}
-use Rattle.vecdim.specs.Lattices.{Members, IsWith}
-use Rattle.vecdim.proofs.CallerLemmas.{with_start}
+use Rattle.hermite.specs.Lattices.{Members, IsWith}
+use Rattle.hermite.proofs.CallerLemmas.{with_start}
 use Rattle.net_coordinates.specs.Lattices.{AreInside}
 use Rattle.net_coordinates.proofs.LatticeMembers.{one_more_inside}
 use Rattle.net_coordinates.proofs.lattice.insert_arcs.Goals as goal

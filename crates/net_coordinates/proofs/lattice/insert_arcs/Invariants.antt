@@ -1,6 +1,6 @@
 use Rattle.std.proofs.Common.{take}
 use Rattle.integers.specs.Vectors.{Vector}
-use Rattle.vecdim.specs.Lattices.{Members}
+use Rattle.hermite.specs.Lattices.{Members}
 use Rattle.net_coordinates.specs.Lattices.{AreInside}
 use Rattle.net_coordinates.proofs.lattice.insert_arcs.Given as goal
 

@@ -1,7 +1,7 @@
 use Rattle.std.proofs.Common.{subst}
 use Rattle.std.specs.Int.{w128}
 use Rattle.std.proofs.lemmas.Int.{to_z-of_z}
-use Rattle.vecdim.specs.Lattices.{Members, AreMultiples}
+use Rattle.hermite.specs.Lattices.{Members, AreMultiples}
 use Rattle.walk_lattice.proofs.lattices.lattice.Goals as goal
 
 pub returns : goal.returns

@@ -1,0 +1,15 @@
+pub mod Adding
+pub mod Assembling
+pub mod Basis
+pub mod Boxes
+pub mod CallerLemmas
+pub mod Combos
+pub mod Generated
+pub mod Inserting
+pub mod Lattice
+pub mod Remainders
+pub mod Spanning
+pub mod Splitting
+pub mod Stairway
+pub mod Starting
+pub mod Whole
