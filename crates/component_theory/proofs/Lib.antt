@@ -1,7 +1,6 @@
 pub mod CallerLemmas
 pub mod Classes
 pub mod Copies
-pub mod CoprimeLines
 pub mod CopyCount
 pub mod EdgeOrder
 pub mod LowRank

@@ -1,55 +1,14 @@
 -- Closed walks of a rank below the dimension have one normal: a combination of two of them that ends earlier is 0.
-use Rattle.std.proofs.Common.{◌≡◌, ◌≢◌, ◌⊎◌, inl, inr, ℕ, zero, suc, ℤ, pos, ◌-ℤ◌, ◌+ℤ◌, ◌*ℤ◌, refl, sym, ap, arith}
-use Rattle.std.proofs.lemmas.Int.{ints}
-use Rattle.integers.specs.Vectors.{Vector, zero_vector, minus, times, HasDimension, StartsPositive}
-use Rattle.integers.proofs.numbers.Ring.{ring, linear, zero_or_not}
-use Rattle.integers.proofs.vectors.Directions.{start_of}
+use Rattle.std.proofs.Common.{◌≡◌, ◌≢◌, ◌⊎◌, inl, inr, ℕ, zero, ℤ, pos, sym, ap, arith}
+use Rattle.integers.specs.Vectors.{Vector, zero_vector, minus, times, HasDimension}
+use Rattle.integers.proofs.numbers.Ring.{zero_or_not}
 use Rattle.integers.proofs.vectors.FewVectors.{zero_or_other}
 use Rattle.integers.proofs.vectors.Laws.{vector_equal, minus_dimension, times_dimension, equal_of_minus}
 use Rattle.periodic_net.specs.Graph.{Graph}
 use Rattle.periodic_net.specs.Split.{EndsBy}
+use Rattle.periodic_net.proofs.CallerLemmas.{crossed, dot_difference, ends_at_one, ends_at_zero, no_part, not_zero}
 use Rattle.component_theory.specs.Ranks.{IsOrthogonalAt, IsFlatAt}
-use Rattle.component_theory.proofs.CoprimeLines.{one_direction}
-
--- (m·c - n·e)·v is 0 where c·v and e·v are
-dot_difference : (m n c1 c2 c3 e1 e2 e3 v1 v2 v3 : ℤ) → c1 *ℤ v1 +ℤ c2 *ℤ v2 +ℤ c3 *ℤ v3 ≡ pos 0 → e1 *ℤ v1 +ℤ e2 *ℤ v2 +ℤ e3 *ℤ v3 ≡ pos 0
-    → (m *ℤ c1 -ℤ n *ℤ e1) *ℤ v1 +ℤ (m *ℤ c2 -ℤ n *ℤ e2) *ℤ v2 +ℤ (m *ℤ c3 -ℤ n *ℤ e3) *ℤ v3 ≡ pos 0
-dot_difference m n c1 c2 c3 e1 e2 e3 v1 v2 v3 e f =
-    let p = ap (λ t. m *ℤ t) e in
-    let q = ap (λ t. n *ℤ t) f in
-    simp ring (omega (arith, linear, simp ring at p, simp ring at q))
-
--- m·n - n·m is 0
-crossed : (m n : ℤ) → m *ℤ n -ℤ n *ℤ m ≡ pos 0
-crossed m n = simp ring (omega (arith, linear))
-
--- and so is a difference of multiples of 0
-no_part : (m n x y : ℤ) → x ≡ pos 0 → y ≡ pos 0 → m *ℤ x -ℤ n *ℤ y ≡ pos 0
-no_part m n x y e f =
-    let p = ap (λ t. m *ℤ t) e in
-    let q = ap (λ t. n *ℤ t) f in
-    omega (arith, linear, simp ring at p, simp ring at q)
-
--- a vector ends by place 1 where its last part is 0
-ends_at_one : (v : Vector) → v.z ≡ pos 0 → EndsBy 1 v
-ends_at_one v z zero l = absurd (omega arith)
-ends_at_one v z (suc zero) l = absurd (omega arith)
-ends_at_one v z (suc (suc zero)) l = z
-ends_at_one v z (suc (suc (suc i))) l = refl
-
--- and by place 0 where the last two are
-ends_at_zero : (v : Vector) → v.y ≡ pos 0 → v.z ≡ pos 0 → EndsBy 0 v
-ends_at_zero v y z zero l = absurd (omega arith)
-ends_at_zero v y z (suc zero) l = y
-ends_at_zero v y z (suc (suc zero)) l = z
-ends_at_zero v y z (suc (suc (suc i))) l = refl
-
--- what starts positive is not 0
-not_zero : (v : Vector) → StartsPositive v → v ≢ zero_vector
-not_zero v h e = elim (start_of v h).which [
-  | inl p ↦ omega (arith, ints, p, ap (λ (w : Vector). w.x) e)
-  | inr w ↦ elim w [ inl p ↦ omega (arith, ints, p.1, ap (λ (w : Vector). w.y) e) | inr p ↦ omega (arith, ints, p.2, ap (λ (w : Vector). w.z) e) ]
-]
+use Rattle.integers.proofs.vectors.CoprimeLines.{one_direction}
 
 -- two vectors with a multiple in common
 record HaveMultiple (c e : Vector) : Type 0 where

@@ -2,16 +2,10 @@
 use Rattle.std.proofs.Common.{◌≡◌, ◌∙◌, ◌&&◌, ◌⊎◌, inl, inr, ℕ, ◌+◌, Bool, true, List, [], ◌∷◌, ◌++◌, length, refl, sym, ap, subst}
 use Rattle.std.specs.List.{list_all}
 use Rattle.std.proofs.lemmas.Bool.{false≢true}
-use Rattle.std.proofs.lemmas.List.Sorted.{Contains-permutation, IsPermutation-sym}
-use Rattle.integers.proofs.lists.ListOrder.{below_transitive, not_below_itself}
-use Rattle.integers.proofs.lists.Members.{contains_from_in, is_in}
-use Rattle.integers.proofs.lists.Permutations.{rising_from_pairs, same_rising}
-use Rattle.integers.specs.Vectors.{IsBelow}
-use Rattle.periodic_net.specs.Graph.{Arc, Graph}
+use Rattle.periodic_net.specs.Graph.{Graph}
 use Rattle.cgd_read.specs.Graphs.{graph_of}
 use Rattle.cgd_read.specs.Views.{RawView, BodyView, Net, Other, Faulty, BlockView}
-use Rattle.quotient_graph.specs.Order.{arc_numbers}
-use Rattle.quotient_graph.specs.Stars.{IsInOrder}
+use Rattle.quotient_graph.proofs.CallerLemmas.{one_in_order}
 use Rattle.net_cover.specs.Cells.{CellView}
 use Rattle.net_cover.specs.Faults.{IsCoverFault}
 use Rattle.net_cover.proofs.CallerLemmas.{cover_is_not_refused, one_cover, one_cover_fault}
@@ -28,21 +22,6 @@ use Rattle.cover_answers.specs.Covers.{AreCovered, AreCoversOf, IsCoverOf, IsCov
 use Rattle.cover_answers.specs.Due.{AreReported}
 use Rattle.cover_answers.specs.Laws.{OneCovering}
 use Rattle.cover_answers.specs.Outcomes.{AreOutcomesFrom, IsBodyOf, IsCoverTold, IsFaultTold, IsNetTold, IsOutcomeOf, is_covered, is_covered_body, size_in}
-
--- a graph has one list of its edges in order
-one_in_order : (G H K : Graph) → IsInOrder G H → IsInOrder G K → H ≡ K
-one_in_order G H K a b =
-    let dimension = a.dimension ∙ sym b.dimension in
-    let vertices = a.vertices ∙ sym b.vertices in
-    λ i. record { dimension = dimension i; vertices = vertices i; edges = edges i }
-  where
-    edges : H.edges ≡ K.edges
-    edges = same_rising (λ (e d : Arc). IsBelow (arc_numbers e) (arc_numbers d)) (λ e. not_below_itself (arc_numbers e)) (λ x y z. below_transitive (arc_numbers x) (arc_numbers y) (arc_numbers z)) H.edges K.edges
-        (rising_from_pairs (λ (e d : Arc). IsBelow (arc_numbers e) (arc_numbers d)) H.edges a.rising) (rising_from_pairs (λ (e d : Arc). IsBelow (arc_numbers e) (arc_numbers d)) K.edges b.rising)
-        (λ e. (
-          (λ i. is_in K.edges e (Contains-permutation G.edges K.edges e b.edges (Contains-permutation H.edges G.edges e (IsPermutation-sym G.edges H.edges a.edges) (contains_from_in H.edges e i)))),
-          (λ i. is_in H.edges e (Contains-permutation G.edges H.edges e a.edges (Contains-permutation K.edges G.edges e (IsPermutation-sym G.edges K.edges b.edges) (contains_from_in K.edges e i)))),
-        ))
 
 -- the graph of a block is one
 same_graph : (raw : RawView) (G H : Graph) → IsGraphOf raw G → IsGraphOf raw H → G ≡ H

@@ -3,5 +3,4 @@ mod RowEdges
 mod FlatNets
 mod SameSizes
 mod RowNets
-mod InOrder
 mod Rounds

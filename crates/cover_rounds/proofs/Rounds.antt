@@ -18,7 +18,7 @@ use Rattle.cover_texts.proofs.CallerLemmas.{blocks_are_read_back, covers_may_be_
 use Rattle.cover_answers.specs.Covers.{AreCoversOf, IsCoverOf, IsCoverOfNet, covers_text}
 use Rattle.cover_rounds.specs.Laws.{CoversAreReadBack}
 use Rattle.cover_rounds.specs.Rounds.{AreReadAsCovers, IsReadAsCover}
-use Rattle.cover_rounds.proofs.InOrder.{in_order_iso}
+use Rattle.quotient_graph.proofs.CallerLemmas.{in_order_iso}
 use Rattle.cover_rounds.proofs.FlatNets.{IsFlatBlock, IsFlatBody, IsFlatNet, blocks_flat}
 use Rattle.cover_rounds.proofs.RowNets.{graph_apart, graph_edge}
 use Rattle.cover_rounds.proofs.SameSizes.{IsReadEdge, same_edges, same_vertices}

@@ -1,6 +1,7 @@
 pub mod BaseSums
 pub mod Bounds
 pub mod Coordinates
+pub mod CoprimeLines
 pub mod Cramer
 pub mod Directions
 pub mod FewVectors

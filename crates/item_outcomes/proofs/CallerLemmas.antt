@@ -1,2 +1,2 @@
 -- The lemmas of this crate that other crates cite.
-pub use Rattle.item_outcomes.proofs.OneItemOutcome.{one_in_order, one_item_report}
+pub use Rattle.item_outcomes.proofs.OneItemOutcome.{one_item_report}

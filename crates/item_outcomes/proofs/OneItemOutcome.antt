@@ -1,17 +1,11 @@
 -- What is told of an item is one.
 use Rattle.std.proofs.Common.{◌≡◌, ℕ, ◌+◌, ◌&&◌, List, [], ◌∷◌, ◌++◌, refl, sym, ◌∙◌, subst}
 use Rattle.std.specs.List.{list_all}
-use Rattle.std.proofs.lemmas.List.Sorted.{Contains-permutation, IsPermutation-sym}
-use Rattle.integers.proofs.lists.ListOrder.{below_transitive, not_below_itself}
-use Rattle.integers.proofs.lists.Members.{contains_from_in, is_in}
-use Rattle.integers.proofs.lists.Permutations.{rising_from_pairs, same_rising}
-use Rattle.integers.specs.Vectors.{IsBelow}
-use Rattle.periodic_net.specs.Graph.{Arc, Graph}
+use Rattle.periodic_net.specs.Graph.{Graph}
 use Rattle.keyline_import.specs.Items.{BodyView, Net, Faulty as FaultyView, ItemView}
 use Rattle.keyline_import.specs.Keys.{graph_of_key}
 use Rattle.keyline_import.specs.Rows.{KeyView}
-use Rattle.quotient_graph.specs.Order.{arc_numbers}
-use Rattle.quotient_graph.specs.Stars.{IsInOrder}
+use Rattle.quotient_graph.proofs.CallerLemmas.{one_in_order}
 use Rattle.least_key.specs.AnyNets.{net_view}
 use Rattle.least_key.specs.Truths.{IsTrueOf}
 use Rattle.least_key.specs.declared.net.Net.{Net as AnyNet}
@@ -27,21 +21,6 @@ use Rattle.net_report.specs.declared.outcome.OutcomeBody.TheVariants.{Faulty, Ke
 use Rattle.net_report.specs.declared.outcome.Size.{Size}
 use Rattle.item_outcomes.specs.Laws.{OneItemReport}
 use Rattle.item_outcomes.specs.Outcomes.{AreItemOutcomesFrom, IsGraphOf, IsItemBodyOf, IsItemOutcomeOf, IsKeyedAs, IsRefusedAs, is_accepted, is_accepted_body}
-
--- a graph with its edges in rising order is one
-pub one_in_order : (G H K : Graph) → IsInOrder G H → IsInOrder G K → H ≡ K
-one_in_order G H K a b =
-    let dimension = a.dimension ∙ sym b.dimension in
-    let vertices = a.vertices ∙ sym b.vertices in
-    λ i. record { dimension = dimension i; vertices = vertices i; edges = edges i }
-  where
-    edges : H.edges ≡ K.edges
-    edges = same_rising (λ (e d : Arc). IsBelow (arc_numbers e) (arc_numbers d)) (λ e. not_below_itself (arc_numbers e)) (λ x y z. below_transitive (arc_numbers x) (arc_numbers y) (arc_numbers z)) H.edges K.edges
-        (rising_from_pairs (λ (e d : Arc). IsBelow (arc_numbers e) (arc_numbers d)) H.edges a.rising) (rising_from_pairs (λ (e d : Arc). IsBelow (arc_numbers e) (arc_numbers d)) K.edges b.rising)
-        (λ e. (
-          (λ i. is_in K.edges e (Contains-permutation G.edges K.edges e b.edges (Contains-permutation H.edges G.edges e (IsPermutation-sym G.edges H.edges a.edges) (contains_from_in H.edges e i)))),
-          (λ i. is_in H.edges e (Contains-permutation G.edges H.edges e a.edges (Contains-permutation K.edges G.edges e (IsPermutation-sym G.edges K.edges b.edges) (contains_from_in K.edges e i)))),
-        ))
 
 -- two bodies have one text, and tell alike whether the item was accepted
 record SpeakAlike (a b : OutcomeBody) : Type 0 where

@@ -1,7 +1,6 @@
 -- What is told of a graph that is refused is one.
 pub mod Collisions
 pub mod FirstPlaces
-pub mod Lines
 pub mod Nets
 pub mod OnePrimitive
 pub mod OneWork

@@ -1,11 +1,11 @@
 -- The vertices of a box, and where they stand in their list.
-use Rattle.std.proofs.Common.{◌≡◌, ◌⊎◌, inl, inr, ℕ, zero, suc, ◌+◌, ◌-◌, ◌*◌, ◌<◌, ◌≤◌, pos, length, List, [], ◌∷◌, map, cond, ◌==◌, refl, sym, ap, subst, ◌∙◌, arith}
+use Rattle.std.proofs.Common.{◌≡◌, ◌⊎◌, inl, inr, ℕ, ◌+◌, ◌-◌, ◌*◌, ◌<◌, ◌≤◌, pos, length, List, [], ◌∷◌, map, cond, ◌==◌, refl, sym, ap, subst, ◌∙◌, arith}
 use Rattle.std.specs.Prelude.{unsigned_abs}
 use Rattle.std.specs.List.{flat_map, range_with_len}
 use Rattle.std.proofs.lemmas.Int.{ints}
 use Rattle.integers.specs.Vectors.{Vector, vector}
 use Rattle.integers.proofs.lists.Members.{IsIn}
-use Rattle.integers.proofs.lists.Pieces.{in_map, in_pieces}
+use Rattle.integers.proofs.lists.Pieces.{in_map, in_pieces, range_in}
 use Rattle.integers.proofs.vectors.Laws.{vector_equal}
 use Rattle.sublattice.proofs.Numbers.{natural_part}
 use Rattle.periodic_net.specs.Graph.{Graph, Vertex, vertex}
@@ -15,12 +15,6 @@ use Rattle.map_theory.specs.Tables.{IsBoxVertex}
 use Rattle.map_theory.proofs.CallerLemmas.{box_is_power}
 use Rattle.standard_map_theory.specs.MapNumbers.{below, box_cells, box_vertices, entries_of}
 use Rattle.map_table.proofs.At.{At, at_map, at_below, at_piece, at_piece_below, map_length, pieces_length, range_length}
-
--- the numbers of a range
-pub range_in : (a n x : ℕ) → IsIn (range_with_len a n) x → (a ≤ x) × (x < a + n)
-range_in a zero x h = absurd h
-range_in a (suc n) x (inl e) = (omega arith, omega arith)
-range_in a (suc n) x (inr h) = let r = range_in (a + 1) n x h in let l = r.0 in let m = r.1 in (omega arith, omega arith)
 
 -- the third parts of the cells
 abbrev lasts : ℕ → ℕ → List ℕ

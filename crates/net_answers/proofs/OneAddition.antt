@@ -5,6 +5,7 @@ use Rattle.std.proofs.lemmas.List.Elements.{All-cons, All-head, All-nil, All-tai
 use Rattle.cgd_read.specs.Graphs.{graph_of}
 use Rattle.cgd_read.specs.Views.{RawView, BodyView, Net, Other, Faulty, BlockView}
 use Rattle.quotient_graph.specs.Stars.{IsInOrder}
+use Rattle.quotient_graph.proofs.CallerLemmas.{one_in_order}
 use Rattle.least_key.specs.KeyedNets.{KeyedNet}
 use Rattle.least_key.specs.Laws.{TellAlike}
 use Rattle.least_key.proofs.CallerLemmas.{one_net}
@@ -20,7 +21,7 @@ use Rattle.net_report.specs.declared.outcome.OutcomeBody.TheVariants.{Unsupporte
 use Rattle.net_commands.specs.declared.command.Command.TheVariants.{Key}
 use Rattle.net_outcomes.specs.Outcomes.{AreOutcomesFrom, IsBodyOf, is_accepted, is_accepted_body}
 use Rattle.net_outcomes.specs.Reports.{IsReport}
-use Rattle.net_outcomes.proofs.CallerLemmas.{keyed_not_refused, one_in_order}
+use Rattle.net_outcomes.proofs.CallerLemmas.{keyed_not_refused}
 use Rattle.net_answers.specs.Due.{AreAccepted, AreEntriesOf, IsAdded, IsEntryOfBlock, IsNetOf, IsNotAdded, given_after, name_to_add, with_entries}
 use Rattle.net_answers.proofs.Added.{none_after}
 

@@ -24,7 +24,7 @@ use Rattle.standard_map_theory.proofs.StandardPeriods.{standard_map_has_period}
 use Rattle.standard_map_theory.proofs.WrittenMaps.{written_maps_pass}
 use Rattle.map_table.proofs.CallerLemmas.{at_map, map_length, read_at}
 use Rattle.map_table.proofs.CallerLemmas.{box_inside, box_length, vertex_stands}
-use Rattle.net_certificate.proofs.OneRows.{first_unit, second_unit, third_unit}
+use Rattle.standard_map_theory.proofs.OneTable.{first_unit, second_unit, third_unit}
 use Rattle.net_certificate.specs.Answers.{IsPassing}
 use Rattle.net_certificate.specs.Laws.{FoundMapsPass}
 

@@ -1,4 +1,3 @@
-pub mod OneRows
 pub mod OneAnswer
 pub mod FoundMaps
 pub mod SideTables

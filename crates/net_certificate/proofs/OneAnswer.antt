@@ -1,8 +1,9 @@
 -- Two nets have one answer by a room.
-use Rattle.std.proofs.Common.{◌≡◌, ℕ, ◌≤◌, inl, inr, pos, List, [], ◌∷◌, map, refl, sym, ap, subst, ◌∙◌, arith}
+use Rattle.std.proofs.Common.{◌≡◌, ℕ, ◌≤◌, pos, map, refl, sym, ap, subst, ◌∙◌, arith}
 use Rattle.integers.specs.Bases.{base_sum}
 use Rattle.integers.specs.Vectors.{vector, times}
 use Rattle.integers.proofs.lists.Members.{IsIn}
+use Rattle.integers.proofs.lists.Pieces.{map_same}
 use Rattle.integers.proofs.vectors.Laws.{plus_cancel, times_dimension}
 use Rattle.periodic_net.specs.Graph.{Graph, IsGraph, Vertex, vertex, moved}
 use Rattle.periodic_net.specs.Maps.{IsPeriodic}
@@ -14,7 +15,7 @@ use Rattle.standard_map_theory.specs.MapNumbers.{StandardTable, box_vertices, en
 use Rattle.standard_map_theory.proofs.Excluding.{causes_exclude}
 use Rattle.standard_map_theory.proofs.OneMap.{one_count, one_period, one_standard_map}
 use Rattle.map_table.proofs.CallerLemmas.{box_inside}
-use Rattle.net_certificate.proofs.OneRows.{rows_same}
+use Rattle.standard_map_theory.proofs.OneTable.{rows_same}
 use Rattle.net_certificate.specs.Answers.{shape_of, IsAnswerBy}
 use Rattle.net_certificate.specs.Laws.{OneMapAnswer}
 use Rattle.net_certificate.specs.declared.answer.MapAnswer.{MapAnswer}
@@ -57,11 +58,6 @@ module _ (a b : KeyedNet) (k k' : IsKeyed a) (l l' : IsKeyed b) where
     rows_are = d.rows_are;
     within = d.within;
   }
-
--- a map of a list depends on the values at its members alone
-map_same : (e f : Vertex → Vertex) (xs : List Vertex) → ((w : Vertex) → IsIn xs w → e w ≡ f w) → map e xs ≡ map f xs
-map_same e f [] h = refl
-map_same e f (x ∷ xs) h = let a = h x (inl refl) in let b = map_same e f xs (λ w i. h w (inr i)) in λ i. a i ∷ b i
 
 module _ (G H : Graph) (g : Shape G) (h : Shape H) (ig : IsGraph G) (ih : IsGraph H) where
   -- two tables have the same images

@@ -1,14 +1,12 @@
 -- The keys that are told decide whether nets are isomorphic.
-use Rattle.std.proofs.Common.{◌≡◌, ◌∙◌, refl, sym, ap, subst, ℕ, suc, ◌+◌, zero, ◌<◌, ◌≤◌, ℤ, List, [], ◌∷◌, length, Some, arith}
+use Rattle.std.proofs.Common.{◌≡◌, sym, ap, subst, ℕ, suc, ◌+◌, zero, ◌<◌, ℤ, List, [], ◌∷◌, length, Some, arith}
 use Rattle.std.specs.Prelude.{◌↔◌, is_some, slice_index_or, unwrap_or}
 use Rattle.std.specs.List.{All}
 use Rattle.std.proofs.lemmas.Bool.{true≢false}
 use Rattle.std.proofs.lemmas.List.Elements.{All-contains}
-use Rattle.std.proofs.lemmas.List.Sorted.{IsPermutation-sym}
-use Rattle.periodic_net.specs.Graph.{Graph, Vertex, IsGraph, IsVertex}
+use Rattle.periodic_net.specs.Graph.{Graph, IsGraph}
 use Rattle.periodic_net.specs.Maps.{Iso}
-use Rattle.integers.proofs.vectors.BaseSums.{unit_base}
-use Rattle.periodic_net.proofs.CallerLemmas.{identity_periodic, iso_symmetric, iso_transitive}
+use Rattle.periodic_net.proofs.CallerLemmas.{iso_symmetric, iso_transitive}
 use Rattle.key_theory.specs.Key.{IsKeyOf}
 use Rattle.key_theory.proofs.CallerLemmas.{keys_decide}
 use Rattle.cgd_read.specs.Graphs.{graph_of}
@@ -26,30 +24,7 @@ use Rattle.net_commands.specs.declared.command.Command.{Command}
 use Rattle.net_commands.specs.declared.command.Command.TheVariants.{Key, Identify}
 use Rattle.net_outcomes.specs.Deciding.{HasKeyAt, IsBlockAt, KeysDecideBlocks, KeysDecideEntries, key_told}
 use Rattle.net_outcomes.specs.Outcomes.{IsBodyOf, AreOutcomesFrom}
-use Rattle.net_outcomes.proofs.Reordered.{same_arc}
-
--- graphs of one dimension with as many vertices have the same vertices in their nets
-vertex_in : (G H : Graph) → G.vertices ≡ H.vertices → G.dimension ≡ H.dimension → (w : Vertex) → IsVertex G w → IsVertex H w
-vertex_in G H v d w i = record { over = (i.over.0, subst (λ n. w.over ≤ n) v i.over.1); cell = λ e. i.cell (d ∙ e) }
-
--- a graph with its edges in order has the net of the graph
-pub in_order_iso : (G H : Graph) → IsInOrder G H → Iso G H
-in_order_iso G H o =
-    let there = vertex_in G H (sym o.vertices) (sym o.dimension) in
-    let back = vertex_in H G o.vertices o.dimension in
-    let g = identity_periodic G in
-    let h = identity_periodic H in
-    record {
-      dimension = sym o.dimension;
-      there = λ w. w;
-      back = λ w. w;
-      there_period = (1, unit_base, record { positive = g.positive; into = there; repeats = g.repeats });
-      back_period = (1, unit_base, record { positive = h.positive; into = back; repeats = h.repeats });
-      back_there = λ w i. refl;
-      there_back = λ w i. refl;
-      there_joins = λ w x i j e. same_arc G H o.edges _ e;
-      back_joins = λ w x i j e. same_arc H G (IsPermutation-sym G.edges H.edges o.edges) _ e;
-    }
+use Rattle.quotient_graph.proofs.CallerLemmas.{in_order_iso}
 
 -- what decides of graphs in memory decides of the graphs that were read
 read_decide : (G H G' H' : Graph) (P : Type 0) → IsInOrder G H → IsInOrder G' H' → P ↔ Iso H H' → P ↔ Iso G G'

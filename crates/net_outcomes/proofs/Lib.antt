@@ -1,6 +1,5 @@
 pub mod CallerLemmas
 pub mod KeysDecideNets
-pub mod Reordered
 pub mod NetOutcomes
 pub mod OnlyPlacement
 pub mod Printing

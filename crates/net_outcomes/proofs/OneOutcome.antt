@@ -2,20 +2,13 @@
 use Rattle.std.proofs.Common.{◌≡◌, ◌≢◌, inl, inr, ℕ, ◌+◌, ◌&&◌, Bool, List, [], ◌∷◌, ◌++◌, length, map, Some, refl, sym, ap, ◌∙◌, subst}
 use Rattle.std.specs.Prelude.{codes}
 use Rattle.std.specs.List.{list_all}
-use Rattle.std.specs.Option.{option_copied}
-use Rattle.std.proofs.lemmas.List.Sorted.{Contains-permutation, IsPermutation-sym}
-use Rattle.integers.proofs.lists.ListOrder.{below_transitive, not_below_itself}
-use Rattle.integers.proofs.lists.Members.{contains_from_in, is_in}
-use Rattle.integers.proofs.lists.Permutations.{rising_from_pairs, same_rising}
-use Rattle.integers.specs.Vectors.{IsBelow}
-use Rattle.periodic_net.specs.Graph.{Arc, Graph, IsConnected, IsGraph}
-use Rattle.periodic_net.specs.Maps.{Iso}
+use Rattle.periodic_net.specs.Graph.{Graph, IsConnected, IsGraph}
 use Rattle.periodic_net.proofs.CallerLemmas.{split_shows_not_connected}
 use Rattle.cgd_read.specs.Graphs.{graph_of}
 use Rattle.cgd_read.specs.Views.{RawView, BodyView, Net, Other, Faulty, BlockView}
-use Rattle.quotient_graph.specs.Order.{arc_numbers}
 use Rattle.quotient_graph.specs.Splits.{split_view}
 use Rattle.quotient_graph.specs.Stars.{IsInOrder}
+use Rattle.quotient_graph.proofs.CallerLemmas.{one_in_order}
 use Rattle.component_report.specs.Told.{AreComponentsTold}
 use Rattle.component_report.proofs.CallerLemmas.{one_telling as one_telling_of_parts}
 use Rattle.coordination.specs.Sequences.{AreSequencesOf}
@@ -49,21 +42,6 @@ use Rattle.net_commands.specs.declared.command.Command.TheVariants.{Check, Place
 use Rattle.net_outcomes.specs.Deciding.{key_told}
 use Rattle.net_outcomes.specs.Laws.{OneReport}
 use Rattle.net_outcomes.specs.Outcomes.{AreOutcomesFrom, IsBodyOf, IsCheckedAs, IsDividedAs, IsGraphOf, IsIdentifiedAs, IsKeyedAs, IsLocatedAs, IsOutcomeOf, IsRefusedAs, MayTell, is_accepted, is_accepted_body}
-
--- a graph has one list of its edges in order
-pub one_in_order : (G H K : Graph) → IsInOrder G H → IsInOrder G K → H ≡ K
-one_in_order G H K a b =
-    let dimension = a.dimension ∙ sym b.dimension in
-    let vertices = a.vertices ∙ sym b.vertices in
-    λ i. record { dimension = dimension i; vertices = vertices i; edges = edges i }
-  where
-    edges : H.edges ≡ K.edges
-    edges = same_rising (λ (e d : Arc). IsBelow (arc_numbers e) (arc_numbers d)) (λ e. not_below_itself (arc_numbers e)) (λ x y z. below_transitive (arc_numbers x) (arc_numbers y) (arc_numbers z)) H.edges K.edges
-        (rising_from_pairs (λ (e d : Arc). IsBelow (arc_numbers e) (arc_numbers d)) H.edges a.rising) (rising_from_pairs (λ (e d : Arc). IsBelow (arc_numbers e) (arc_numbers d)) K.edges b.rising)
-        (λ e. (
-          (λ i. is_in K.edges e (Contains-permutation G.edges K.edges e b.edges (Contains-permutation H.edges G.edges e (IsPermutation-sym G.edges H.edges a.edges) (contains_from_in H.edges e i)))),
-          (λ i. is_in H.edges e (Contains-permutation G.edges H.edges e a.edges (Contains-permutation K.edges G.edges e (IsPermutation-sym G.edges K.edges b.edges) (contains_from_in K.edges e i)))),
-        ))
 
 -- the names of the isomorphic entries are one list
 one_list_of_names : (G : Graph) (es : List EntryView) (xs ys : List (List ℕ)) → AreNamesOf G es xs → AreNamesOf G es ys → xs ≡ ys

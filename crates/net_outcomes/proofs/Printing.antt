@@ -27,7 +27,7 @@ use Rattle.least_key.specs.Truths.{IsTrueOf}
 use Rattle.net_outcomes.specs.Outcomes.{MayTell, IsBodyOf}
 use Rattle.net_commands.specs.declared.command.Command.{Command}
 use Rattle.net_commands.specs.declared.command.Command.TheVariants.{Place, Identify}
-use Rattle.net_outcomes.proofs.Reordered.{same_arc}
+use Rattle.quotient_graph.proofs.CallerLemmas.{same_arc}
 
 -- a vertex of the graph in order has a name
 named_vertex : (raw : RawView) (H : Graph) (u : ℕ) → IsInOrder (graph_of raw) H → IsQuotientVertex H u → IsNamed raw.names u

@@ -14,6 +14,7 @@ pub use Rattle.periodic_net.proofs.isomorphisms.Periods.{identity_periodic, move
 pub use Rattle.periodic_net.proofs.isomorphisms.Transport.{iso_classes}
 pub use Rattle.periodic_net.proofs.nets.ArcLists.{arc_is_from, arc_turned, arcs_apart, both_length, edge_in, either_way, from_is_arc, one_spelling, reverse_in, reverse_twice}
 pub use Rattle.periodic_net.proofs.nets.Arcs.{IsInside, arc_inside, joined_inside, origin_vertex}
+pub use Rattle.periodic_net.proofs.nets.Ends.{crossed, dot_difference, ends_at_one, ends_at_zero, no_part, not_zero}
 pub use Rattle.periodic_net.proofs.nets.Generators.{IsTree, connected_by_tree}
 pub use Rattle.periodic_net.proofs.nets.Loops.{reached_by_shift}
 pub use Rattle.periodic_net.proofs.nets.SplitCases.{one_not_alike, split_by_parts}

@@ -5,6 +5,7 @@ use Rattle.cgd_read.specs.Graphs.{graph_of}
 use Rattle.cgd_read.specs.Views.{RawView, BodyView, Net, Other, Faulty, BlockView}
 use Rattle.quotient_graph.specs.PlacedNets.{PlacedNet}
 use Rattle.quotient_graph.specs.Stars.{IsInOrder}
+use Rattle.quotient_graph.proofs.CallerLemmas.{one_in_order}
 use Rattle.least_key.specs.KeyedNets.{KeyedNet}
 use Rattle.least_key.proofs.CallerLemmas.{one_net}
 use Rattle.map_text.specs.Items.{ItemView, Maps}
@@ -13,7 +14,7 @@ use Rattle.map_check.specs.Conditions.{most_images}
 use Rattle.net_commands.specs.declared.command.Command.TheVariants.{Key}
 use Rattle.net_outcomes.specs.Outcomes.{AreOutcomesFrom, IsBodyOf, is_accepted, is_accepted_body}
 use Rattle.net_outcomes.specs.Reports.{IsReport}
-use Rattle.net_outcomes.proofs.CallerLemmas.{keyed_not_refused, one_in_order, one_report}
+use Rattle.net_outcomes.proofs.CallerLemmas.{keyed_not_refused, one_report}
 use Rattle.net_report.specs.declared.outcome.Outcome.{Outcome}
 use Rattle.net_report.specs.declared.outcome.OutcomeBody.{OutcomeBody}
 use Rattle.net_report.specs.declared.outcome.OutcomeBody.TheVariants.{Unsupported, Malformed, Refused, Checked, Located, Keyed, Identified, Lines, Faulty as FaultyItem}

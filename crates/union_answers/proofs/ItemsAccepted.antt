@@ -15,7 +15,7 @@ use Rattle.least_key.proofs.CallerLemmas.{certain_is_not_refused, keyed_is_certa
 use Rattle.net_archive.specs.Adding.{IsEntryOf}
 use Rattle.net_archive.proofs.CallerLemmas.{one_entry}
 use Rattle.net_entries.specs.Entries.{EntryView}
-use Rattle.item_outcomes.proofs.CallerLemmas.{one_in_order}
+use Rattle.quotient_graph.proofs.CallerLemmas.{one_in_order}
 use Rattle.net_report.specs.declared.outcome.Outcome.{Outcome}
 use Rattle.net_report.specs.declared.outcome.OutcomeBody.{OutcomeBody}
 use Rattle.net_report.specs.declared.outcome.OutcomeBody.TheVariants.{Keyed, Refused}

@@ -1,7 +1,7 @@
 -- Members of lists that are put together, mapped and cut, and lists of them without repetition.
-use Rattle.std.proofs.Common.{ℕ, zero, suc, ◌<◌, length, get_or, arith, ◌≡◌, ◌⊎◌, inl, inr, List, [], ◌∷◌, ◌++◌, map, refl, sym, ap, subst}
+use Rattle.std.proofs.Common.{ℕ, zero, suc, ◌+◌, ◌<◌, ◌≤◌, length, get_or, arith, ◌≡◌, ◌⊎◌, inl, inr, List, [], ◌∷◌, ◌++◌, map, refl, sym, ap, subst}
 use Rattle.std.specs.Prelude.{take, All}
-use Rattle.std.specs.List.{flat_map, AllByRecursion}
+use Rattle.std.specs.List.{flat_map, range_with_len, AllByRecursion}
 use Rattle.std.proofs.lemmas.List.Elements.{All-from_recursion}
 use Rattle.integers.proofs.lists.Members.{IsIn, AreApart}
 
@@ -120,3 +120,14 @@ all_from_in {X} P xs h = All-from_recursion P xs (each xs h)
     each : (ys : List X) → ((y : X) → IsIn ys y → P y) → AllByRecursion P ys
     each [] h = tt
     each (y ∷ ys) h = (h y (inl refl), each ys (λ z i. h z (inr i)))
+
+-- the numbers of a range
+pub range_in : (a n x : ℕ) → IsIn (range_with_len a n) x → (a ≤ x) × (x < a + n)
+range_in a zero x h = absurd h
+range_in a (suc n) x (inl e) = (omega arith, omega arith)
+range_in a (suc n) x (inr h) = let r = range_in (a + 1) n x h in let l = r.0 in let m = r.1 in (omega arith, omega arith)
+
+-- a map of a list depends on the values at its members alone
+pub map_same : {X Y : Type 0} (e f : X → Y) (xs : List X) → ((x : X) → IsIn xs x → e x ≡ f x) → map e xs ≡ map f xs
+map_same e f [] h = refl
+map_same e f (x ∷ xs) h = let a = h x (inl refl) in let b = map_same e f xs (λ w i. h w (inr i)) in λ i. a i ∷ b i

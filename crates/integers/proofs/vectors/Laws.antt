@@ -89,6 +89,14 @@ cancel_number t x y e = omega (arith, linear, e)
 pub plus_cancel : (t v w : Vector) → plus t v ≡ plus t w → v ≡ w
 plus_cancel t v w e = vector_equal (cancel_number t.x v.x w.x (ap (λ (a : Vector). a.x) e)) (cancel_number t.y v.y w.y (ap (λ (a : Vector). a.y) e)) (cancel_number t.z v.z w.z (ap (λ (a : Vector). a.z) e))
 
+-- what is taken off both cancels
+pub minus_cancel : (a b c : Vector) → minus a c ≡ minus b c → a ≡ b
+minus_cancel a b c h =
+    let x = ap (λ (t : Vector). t.x) h in
+    let y = ap (λ (t : Vector). t.y) h in
+    let z = ap (λ (t : Vector). t.z) h in
+    vector_equal (omega (arith, ints)) (omega (arith, ints)) (omega (arith, ints))
+
 -- k·0 = 0
 pub times_zero : (k : ℤ) → times k zero_vector ≡ zero_vector
 times_zero k = vector_equal (omega (arith, ints)) (omega (arith, ints)) (omega (arith, ints))

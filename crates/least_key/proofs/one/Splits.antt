@@ -3,15 +3,15 @@ use Rattle.std.proofs.Common.{◌≡◌, ◌≢◌, ◌⊎◌, inl, inr, ℕ, ze
 use Rattle.std.specs.Prelude.{◌<ℤ◌, ◌≤ℤ◌}
 use Rattle.std.proofs.lemmas.Int.{ints}
 use Rattle.std.proofs.lemmas.List.{ext_get_or}
-use Rattle.integers.specs.Vectors.{Vector, zero_vector, minus, times, dot, HasDimension, StartsPositive}
+use Rattle.integers.specs.Vectors.{Vector, zero_vector, minus, times, dot, HasDimension}
 use Rattle.integers.specs.Staircase.{part}
 use Rattle.integers.proofs.numbers.Ring.{ring, linear, zero_or_not, other_factor_zero}
-use Rattle.integers.proofs.vectors.Directions.{start_of}
 use Rattle.integers.proofs.vectors.FewVectors.{zero_or_other}
 use Rattle.integers.proofs.vectors.Laws.{vector_equal, minus_dimension, times_dimension, equal_of_minus}
 use Rattle.periodic_net.specs.Graph.{Graph, IsGraph, IsQuotientVertex}
 use Rattle.periodic_net.specs.Split.{AreAlike, Split, entry, ClosedShift, IsFound, IsOrthogonal, IsPartSplit, IsFlatSplit, IsPivot, IsSparseSplit, EndsBy}
-use Rattle.least_key.proofs.one.Lines.{one_direction}
+use Rattle.periodic_net.proofs.CallerLemmas.{crossed, dot_difference, ends_at_one, ends_at_zero, no_part, not_zero}
+use Rattle.integers.proofs.vectors.CoprimeLines.{one_direction}
 
 -- entries that agree at each vertex are one list
 same_entries : (n : ℕ) (h k : List ℤ) → length h ≡ n → length k ≡ n → ((u : ℕ) → 1 ≤ u → u ≤ n → entry h u ≡ entry k u) → h ≡ k
@@ -51,49 +51,11 @@ module _ (G : Graph) (S T : Split) where
   pub not_sparse : (k : ℕ) → IsPartSplit G S → ¬ IsSparseSplit G T k
   not_sparse k a b = a.missed.2 (b.found a.missed.0 a.missed.1)
 
--- c·(m·v - n·w)
-dot_difference : (m n c1 c2 c3 d1 d2 d3 v1 v2 v3 : ℤ) → c1 *ℤ v1 +ℤ c2 *ℤ v2 +ℤ c3 *ℤ v3 ≡ pos 0 → d1 *ℤ v1 +ℤ d2 *ℤ v2 +ℤ d3 *ℤ v3 ≡ pos 0
-    → (m *ℤ c1 -ℤ n *ℤ d1) *ℤ v1 +ℤ (m *ℤ c2 -ℤ n *ℤ d2) *ℤ v2 +ℤ (m *ℤ c3 -ℤ n *ℤ d3) *ℤ v3 ≡ pos 0
-dot_difference m n c1 c2 c3 d1 d2 d3 v1 v2 v3 e f =
-    let p = ap (λ t. m *ℤ t) e in
-    let q = ap (λ t. n *ℤ t) f in
-    simp ring (omega (arith, linear, simp ring at p, simp ring at q))
-
--- m·n - n·m is 0
-crossed : (m n : ℤ) → m *ℤ n -ℤ n *ℤ m ≡ pos 0
-crossed m n = simp ring (omega (arith, linear))
-
--- and so is a difference of multiples of 0
-no_part : (m n x y : ℤ) → x ≡ pos 0 → y ≡ pos 0 → m *ℤ x -ℤ n *ℤ y ≡ pos 0
-no_part m n x y e f =
-    let p = ap (λ t. m *ℤ t) e in
-    let q = ap (λ t. n *ℤ t) f in
-    omega (arith, linear, simp ring at p, simp ring at q)
-
 ends_at_two : (v : Vector) → EndsBy 2 v
 ends_at_two v zero l = absurd (omega arith)
 ends_at_two v (suc zero) l = absurd (omega arith)
 ends_at_two v (suc (suc zero)) l = absurd (omega arith)
 ends_at_two v (suc (suc (suc i))) l = refl
-
-ends_at_one : (v : Vector) → v.z ≡ pos 0 → EndsBy 1 v
-ends_at_one v z zero l = absurd (omega arith)
-ends_at_one v z (suc zero) l = absurd (omega arith)
-ends_at_one v z (suc (suc zero)) l = z
-ends_at_one v z (suc (suc (suc i))) l = refl
-
-ends_at_zero : (v : Vector) → v.y ≡ pos 0 → v.z ≡ pos 0 → EndsBy 0 v
-ends_at_zero v y z zero l = absurd (omega arith)
-ends_at_zero v y z (suc zero) l = y
-ends_at_zero v y z (suc (suc zero)) l = z
-ends_at_zero v y z (suc (suc (suc i))) l = refl
-
--- what starts positive is not 0
-not_zero : (v : Vector) → StartsPositive v → v ≢ zero_vector
-not_zero v h e = elim (start_of v h).which [
-  | inl p ↦ omega (arith, ints, p, ap (λ (w : Vector). w.x) e)
-  | inr w ↦ elim w [ inl p ↦ omega (arith, ints, p.1, ap (λ (w : Vector). w.y) e) | inr p ↦ omega (arith, ints, p.2, ap (λ (w : Vector). w.z) e) ]
-]
 
 -- two vectors with a multiple in common
 record Line (c d : Vector) : Type 0 where
