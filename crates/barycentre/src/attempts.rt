@@ -10,6 +10,13 @@ use quotient_graph::Graph;
 use residue::Residue;
 use std::alloc::{AllocError as NoMemory, Global};
 
+// The moduli, tried in this order: the primes 2^61 - 1, 2^60 - 93 and 2^59 - 55.
+const FIRST_MODULUS: u64 = 2305843009213693951;
+
+const SECOND_MODULUS: u64 = 1152921504606846883;
+
+const THIRD_MODULUS: u64 = 576460752303423433;
+
 /// What one modulus gives.
 #[derive(Drop)]
 pub(crate) enum Attempt {
@@ -63,17 +70,17 @@ pub(crate) fn by_residues<const D: usize>(alloc: Global, g: &Graph<D>) -> Result
     requires connected { IsConnected g.now }
     ensures { IfOk result (IsTried g.now) }
 {
-    let first = match by_modulus::<2305843009213693951, D>(alloc, g)? {
+    let first = match by_modulus::<FIRST_MODULUS, D>(alloc, g)? {
         Attempt::NoInverse(k) => k,
         Attempt::Failed => return Ok(Tried::Failed),
         Attempt::Found(units) => return Ok(Tried::Found(units)),
     };
-    let second = match by_modulus::<1152921504606846883, D>(alloc, g)? {
+    let second = match by_modulus::<SECOND_MODULUS, D>(alloc, g)? {
         Attempt::NoInverse(k) => k,
         Attempt::Failed => return Ok(Tried::Failed),
         Attempt::Found(units) => return Ok(Tried::Found(units)),
     };
-    let third = match by_modulus::<576460752303423433, D>(alloc, g)? {
+    let third = match by_modulus::<THIRD_MODULUS, D>(alloc, g)? {
         Attempt::NoInverse(k) => k,
         Attempt::Failed => return Ok(Tried::Failed),
         Attempt::Found(units) => return Ok(Tried::Found(units)),
