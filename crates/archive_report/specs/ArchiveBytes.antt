@@ -13,7 +13,7 @@ abbrev pub IsArchiveIn : Option (List ℕ) → ArchiveView → Type 0
 IsArchiveIn None a = a ≡ empty_archive
 IsArchiveIn (Some bytes) a = IsArchive a × (bytes ≡ archive_text a)
 
--- these bytes are the text of no archive, by this fault, which is told
+-- these bytes are the text of no archive, by this fault, which is reported
 abbrev pub IsBadArchive : Option (List ℕ) → List ℕ → Type 0
 IsBadArchive None text = ⊥
 IsBadArchive (Some bytes) text = (fault : ArchiveFault) × (fault ≢ archive.NoMemory) × IsFaultOf bytes fault × (text ≡ archive_fault_text fault)

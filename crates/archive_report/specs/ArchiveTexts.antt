@@ -1,4 +1,4 @@
--- The texts of what is told of archives.
+-- The texts of what is reported of archives.
 use Rattle.std.specs.Prelude.{◌≢◌, ℕ, ◌-◌, ℤ, pos, List, [], ◌∷◌, ◌++◌, length, map, Option, None, Some, slice_get, codes}
 use Rattle.least_key.specs.declared.refusal.Refusal.TheVariants as refusal
 use Rattle.net_entries.specs.Entries.{EntryView}
@@ -22,11 +22,11 @@ fault_name (CountDiffers n kept computed) = codes "8 CountDiffers"
 fault_name (ShellsDiffer n class kept computed) = codes "9 ShellsDiffer"
 fault_name NoMemory = []
 
--- the number of a line, which ends the line that tells it
+-- the number of a line, which ends the line that reports it
 abbrev pub at_line : ℕ → List ℕ
 at_line n = field_text (codes " line=") n ++ codes "\n"
 
--- the number of a line and that of a class, which end the line that tells them
+-- the number of a line and that of a class, which end the line that reports them
 abbrev pub at_class : ℕ → ℕ → List ℕ
 at_class n class = field_text (codes " line=") n ++ field_text (codes " class=") class ++ codes "\n"
 
@@ -42,7 +42,7 @@ list_line word numbers = word ++ list_text numbers ++ codes "\n"
 abbrev pub lists_text : List ℤ → List ℤ → List ℕ
 lists_text kept computed = list_line (codes "kept ") kept ++ list_line (codes "computed ") computed
 
--- what is told after the name of a fault
+-- what is reported after the name of a fault
 abbrev pub fault_details : ArchiveFault → List ℕ
 fault_details (BadLine n) = at_line n
 fault_details (RepeatedName n) = at_line n
@@ -54,7 +54,7 @@ fault_details (CountDiffers n kept computed) = counts_text n kept computed
 fault_details (ShellsDiffer n class kept computed) = at_class n class ++ lists_text (map pos kept) (map pos computed)
 fault_details NoMemory = codes "\n"
 
--- why a text is no archive; vertices are told by their numbers
+-- why a text is no archive; vertices are reported by their numbers
 abbrev pub archive_fault_text : ArchiveFault → List ℕ
 archive_fault_text fault = codes "archive refused " ++ fault_name fault ++ fault_details fault
 
@@ -100,7 +100,7 @@ group_lines entries (group ∷ groups) = group_text entries group ++ group_lines
 abbrev pub groups_text : List EntryView → List (List ℕ) → List ℕ
 groups_text entries groups = field_text (codes "entries ") (length entries) ++ codes "\n" ++ group_lines entries groups
 
--- a refusal that is told is not want of memory
+-- a refusal that is reported is not running out of memory
 abbrev pub IsPrintableFault : ArchiveFault → Type 0
 IsPrintableFault (EntryRefused n refused) = refused ≢ refusal.NoMemory
 IsPrintableFault fault = Unit {0}

@@ -1,4 +1,4 @@
-// What is told of the entries of an archive.
+// What is reported of the entries of an archive.
 ghost use Rattle.std.specs.Prelude.{◌≡◌, ◌++◌, IfOk, OnOk, length};
 ghost use Rattle.coordination.specs.Sequences.{numbers_in};
 ghost use Rattle.net_entries.specs.Entries.{entry_views};

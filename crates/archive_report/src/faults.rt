@@ -11,7 +11,7 @@ use net_archive::ArchiveFault;
 use net_report::refused_line;
 use std::alloc::Global;
 
-// The number of a line, and the end of the line that tells it.
+// The number of a line, and the end of the line that reports it.
 fn push_line(text: &mut Vec<u8>, line: u32) -> Result<(), NoMemory>
     ensures { OnOk result (text.new.items ≡ text.old.items ++ at_line line) }
 {
@@ -35,7 +35,7 @@ fn push_lists(text: &mut Vec<u8>, kept: &[i128], computed: &[i128]) -> Result<()
     push_list_line(text, b"computed ", computed)
 }
 
-// The sizes of shells as wide numbers.
+// A coordination sequence as wide numbers.
 fn wide_sizes(alloc: Global, sizes: &[u32]) -> Result<Vec<i128>, NoMemory>
     ensures { IfOk result (λ numbers. numbers.items ≡ map pos sizes.now) }
 {

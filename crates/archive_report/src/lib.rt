@@ -1,4 +1,4 @@
-//! The texts of what is told of archives.
+//! The texts of what is reported of archives.
 #![tactic(auto)]
 
 mod entries;

@@ -67,7 +67,7 @@ bad_count text rows name s edges key place n keyed at number none = record {
   none = after_key name s edges key place.rest none;
 }
 
--- the rows of an entry of version 2 before its shells
+-- the rows of an entry of version 2 before its coordination sequences
 abbrev pub counted_heads : List (List ℕ) → List ℕ → GraphSize → List Arc → List ℤ → ℕ → List (List ℕ)
 counted_heads rows name s edges key n = (rows ++ row_lines (part_rows (Keyed name s edges key))) ++ count_row n ∷ []
 

@@ -59,7 +59,7 @@ part_cut (Counted name s edges key n lists) rs =
     ap (cut_from (Drawn name s [])) (append_assoc (map (OfEdge s.dim) edges) (OfKey key ∷ OfCount n ∷ shells_rows 1 lists) rs)
     ∙ edges_cut name s [] edges (OfKey key ∷ OfCount n ∷ (shells_rows 1 lists ++ rs)) ∙ shells_cut name s edges key n 1 [] lists rs
 
--- what a text of this version says of an entry: in version 1 nothing of its shells
+-- what a text of this version says of an entry: in version 1 nothing of its coordination sequences
 abbrev pub shown : Version → EntryView → EntryView
 shown v e = said (whole_part v e)
 

@@ -20,7 +20,7 @@ all_wide : (sizes : List ℕ) → All IsShort sizes → All IsWide (map pos size
 all_wide [] all = All-nil IsWide
 all_wide (n ∷ ns) all = All-cons IsWide (pos n) (map pos ns) (short_wide n (All-head IsShort n ns all)) (all_wide ns (All-tail IsShort n ns all))
 
--- the numbers of a row of shells
+-- the numbers of a `shells` row
 pub shells_wide : (c : ℕ) (sizes : List ℕ) → IsCount c → AreSizes sizes → All IsWide (shells_numbers c sizes)
 shells_wide c sizes is are = All-cons IsWide (pos c) (map pos sizes) (short_wide c (omega (arith, is.1))) (all_wide sizes are.short)
 

@@ -41,7 +41,7 @@ pub first_left : (sizes all : List ℕ) (left numbers : List ℤ) (z d : ℤ) �
 first_left sizes all left numbers z d joined whole short some is =
     number_there sizes z (take (length left - 1) (drop 1 left)) all short (ap (λ l. map pos sizes ++ l) (sym (after_first left z d some is)) ∙ joined ∙ whole)
 
--- where no sizes have these numbers, no row of shells stands there
+-- where no sizes have these numbers, no `shells` row stands there
 pub no_shells : {X : Type 0} (o : Option X) (numbers : List ℤ) (class : ℕ) (left : List ℕ)
     → ((sizes rest : List ℕ) → AreSizes sizes → left ≡ shells_row class sizes ++ 10 ∷ rest → numbers ≡ shells_numbers class sizes)
     → ((sizes : List ℕ) → AreSizes sizes → numbers ≡ shells_numbers class sizes → IfNone o ⊥) → IfNone o (NoShells class left)

@@ -61,7 +61,7 @@ formed_with v (Counted name s edges key n lists) (OfShells c sizes) formed may =
 )
 formed_with v (Counted name s edges key n lists) row formed may = tt
 
--- the number of a class whose shells may follow
+-- the number of a class whose coordination sequence may follow
 class_counts : (c n k : ℕ) → c ≡ k + 1 → k < n → IsCount n → IsCount c
 class_counts c n k is few count = (omega (arith, is), omega (arith, is, few, count.1))
 

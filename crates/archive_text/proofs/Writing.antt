@@ -22,7 +22,7 @@ pub rows_written : (before now after : List ℕ) (xs ys : List (List ℕ)) → n
 rows_written before now after xs ys one two =
     two ∙ ap (λ l. l ++ rows_text ys) one ∙ append_assoc before (rows_text xs) (rows_text ys) ∙ ap (λ l. before ++ l) (sym (rows_text_of_sum xs ys))
 
--- the shells that are left, after those of one more class
+-- the coordination sequences that are left, after that of one more class
 pub class_written : (before now after : List ℕ) (lists : List (List ℕ)) (k : ℕ) (sizes rest : List ℕ) → slice_get lists k ≡ Some sizes → after ≡ now ++ rows_text (shells_row (k + 1) sizes ∷ [])
     → now ++ rows_text (row_lines (shells_rows (k + 1) (drop k lists))) ≡ rest → after ++ rows_text (row_lines (shells_rows (k + 1 + 1) (drop (k + 1) lists))) ≡ rest
 class_written before now after lists k sizes rest at put was =

@@ -22,7 +22,7 @@ IsCount n = (1 ≤ n) × (n ≤ most_vertices)
 abbrev pub IsShort : ℕ → Type 0
 IsShort k = k < 2 ^ 32
 
--- ten sizes of shells at most
+-- a coordination sequence: ten sizes of shells at most
 pub record AreSizes (sizes : List ℕ) : Type 0 where
   pub few : length sizes ≤ most_shells
   pub short : All IsShort sizes

@@ -18,10 +18,10 @@ pub data Part : Type 0 where
   -- the size, and the first edges
   Drawn : List ℕ → GraphSize → List Arc → Part
   Keyed : List ℕ → GraphSize → List Arc → List ℤ → Part
-  -- the number of classes, and the shells of the first of them
+  -- the number of classes, and the coordination sequences of the first of them
   Counted : List ℕ → GraphSize → List Arc → List ℤ → ℕ → List (List ℕ) → Part
 
--- the shells of class c and of those after it
+-- the coordination sequences of class c and of those after it
 abbrev pub shells_rows : ℕ → List (List ℕ) → List Row
 shells_rows c [] = []
 shells_rows c (sizes ∷ lists) = OfShells c sizes ∷ shells_rows (c + 1) lists
@@ -38,12 +38,12 @@ part_rows (Drawn name s edges) = drawn_rows name s edges
 part_rows (Keyed name s edges key) = drawn_rows name s edges ++ OfKey key ∷ []
 part_rows (Counted name s edges key n lists) = drawn_rows name s edges ++ OfKey key ∷ OfCount n ∷ shells_rows 1 lists
 
--- in version 2 the number of classes, and the shells of each
+-- in version 2 the number of classes, and the coordination sequence of each
 abbrev pub class_rows : Version → List (List ℕ) → List Row
 class_rows One lists = []
 class_rows Two lists = OfCount (length lists) ∷ shells_rows 1 lists
 
--- an entry without its end: in version 2 with the shells of its classes
+-- an entry without its end: in version 2 with the coordination sequences of its classes
 abbrev pub end_part : Version → List ℕ → GraphSize → List Arc → List ℤ → List (List ℕ) → Part
 end_part One name s edges key lists = Keyed name s edges key
 end_part Two name s edges key lists = Counted name s edges key (length lists) lists
@@ -70,7 +70,7 @@ FollowsKey One OfEnd = Unit {0}
 FollowsKey Two (OfCount n) = IsCount n
 FollowsKey v row = ⊥
 
--- shells of the next class stand after shells of the classes before it, or the end after those of all
+-- the coordination sequence of the next class stands after those of the classes before it, or the end after those of all
 abbrev pub FollowsShells : ℕ → List (List ℕ) → Row → Type 0
 FollowsShells n lists (OfShells c sizes) = (c ≡ length lists + 1) × (length lists < n) × AreSizes sizes
 FollowsShells n lists OfEnd = length lists ≡ n
@@ -88,7 +88,7 @@ MayStandAfter v (Counted name s edges key n lists) row = FollowsShells n lists r
 abbrev pub NoneFollows : Version → Part → List ℕ → Type 0
 NoneFollows v part left = (row : Row) (rest : List ℕ) → MayStandAfter v part row → left ≡ row_line row ++ 10 ∷ rest → ⊥
 
--- a name, a size, and edges of a graph of this size, in rising order and no more than it tells
+-- a name, a size, and edges of a graph of this size, in rising order and no more than it says
 pub record IsDrawn (name : List ℕ) (s : GraphSize) (edges : List Arc) : Type 0 where
   pub is_name : is_name name ≡ true
   pub is_size : IsSize s
@@ -102,7 +102,7 @@ pub record HasEdgesAndKey (name : List ℕ) (s : GraphSize) (edges : List Arc) (
   pub whole : length edges ≡ s.edges
   pub is_key : IsKeyList key
 
--- a number of classes, and shells of no more of them
+-- a number of classes, and coordination sequences of no more of them
 pub record IsCounted (n : ℕ) (lists : List (List ℕ)) : Type 0 where
   pub is_count : IsCount n
   pub each : All AreSizes lists

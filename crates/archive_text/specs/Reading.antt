@@ -26,22 +26,22 @@ NoCount left = (n : ℕ) (rest : List ℕ) → IsCount n → left ≡ count_row 
 abbrev pub NoShells : ℕ → List ℕ → Type 0
 NoShells class left = (sizes rest : List ℕ) → AreSizes sizes → left ≡ shells_row class sizes ++ 10 ∷ rest → ⊥
 
--- the shells of so many classes, as bytes
+-- the coordination sequences of so many classes, as bytes
 abbrev pub shells_lines : List (List ℕ) → List (List ℕ)
 shells_lines lists = row_lines (shells_rows 1 lists)
 
--- these shells are read from the one place to the other
+-- these coordination sequences are read from the one place to the other
 pub record AreShellsTo (start now : Place) (lists : List (List ℕ)) : Type 0 where
   pub at : (text : List ℕ) (rows : List (List ℕ)) → IsAt text rows start → IsAt text (rows ++ shells_lines lists) now
   pub each : All AreSizes lists
 
--- these shells were read, those of all classes
+-- these coordination sequences were read, those of all classes
 pub record HasShells (text : List ℕ) (rows : List (List ℕ)) (n : ℕ) (lists : List (List ℕ)) (place : Place) : Type 0 where
   pub at : IsAt text (rows ++ shells_lines lists) place
   pub each : All AreSizes lists
   pub whole : length lists ≡ n
 
--- after the shells of some classes the line with this number has not those of the next
+-- after the coordination sequences of some classes the line with this number has not that of the next
 pub record HasBadShells (text : List ℕ) (rows : List (List ℕ)) (n line : ℕ) : Type 0 where
   pub lists : List (List ℕ)
   pub place : Place
@@ -73,7 +73,7 @@ pub record HasBadLine (v : Version) (text : List ℕ) (rows : List (List ℕ)) (
 abbrev pub keyed_part : List ℕ → KeyedGraph → Part
 keyed_part name k = Keyed name k.size (map edge_of k.edges.items) k.key
 
--- these rows were read, and the number of the row of the key is told
+-- these rows were read, and the number of the row of the key is reported
 pub record HasKeyed (text : List ℕ) (rows : List (List ℕ)) (name : List ℕ) (place : Place) (k : KeyedGraph) : Type 0 where
   pub at : IsAt text (rows ++ row_lines (part_rows (keyed_part name k))) place
   pub formed : HasEdgesAndKey name k.size (map edge_of k.edges.items) k.key
@@ -85,7 +85,7 @@ pub record HasWhole (v : Version) (text : List ℕ) (rows : List (List ℕ)) (pa
   pub at : IsAt text (rows ++ row_lines (part_rows part)) place
   pub formed : IsFormed v part
 
--- after the key of an entry shells are read from the one place to the other, or a line is none that may follow
+-- after the key of an entry coordination sequences are read from the one place to the other, or a line is none that may follow
 abbrev pub AreShellsRead : {E : Type 0} → Version → Place → Place → Result (Result (List (List ℕ)) ℕ) E → Type 0
 AreShellsRead v before after result = (text : List ℕ) (rows : List (List ℕ)) (name : List ℕ) (s : GraphSize) (edges : List Arc) (key : List ℤ)
     → HasEdgesAndKey name s edges key → IsAt text (rows ++ row_lines (part_rows (Keyed name s edges key))) before

@@ -24,7 +24,7 @@ key_row key = row_text (codes "key") key
 unfoldable pub count_row : ℕ → List ℕ
 count_row n = row_text (codes "primitive") (pos n ∷ [])
 
--- the number of a class, and the sizes of its shells
+-- the number of a class, and its coordination sequence
 abbrev pub shells_numbers : ℕ → List ℕ → List ℤ
 shells_numbers c sizes = pos c ∷ map pos sizes
 
@@ -44,7 +44,7 @@ pub data Row : Type 0 where
   OfEdge : ℕ → Arc → Row
   OfKey : List ℤ → Row
   OfCount : ℕ → Row
-  -- the shells of the class with this number
+  -- the coordination sequence of the class with this number
   OfShells : ℕ → List ℕ → Row
   OfEnd : Row
 

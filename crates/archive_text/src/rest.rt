@@ -26,7 +26,7 @@ pub struct KeyedGraph {
     pub key_line: u32,
 }
 
-/// What the rows of an entry after its name say. In version 1 there are no shells.
+/// What the rows of an entry after its name say. In version 1 there are no coordination sequences.
 #[derive(Drop)]
 pub struct Form {
     pub keyed: KeyedGraph,
@@ -64,7 +64,7 @@ fn read_keyed(
     }
 }
 
-// The number of classes and the shells of each, or the number of the first line that may not
+// The number of classes and the sequence of each, or the number of the first line that may not
 // follow.
 fn read_counted(
     lines: &mut Lines<'_>,
@@ -80,7 +80,8 @@ fn read_counted(
     }
 }
 
-// The shells of all classes in version 2, or the number of the first line that may not follow.
+// The coordination sequences of all classes in version 2, or the number of the first line that may
+// not follow.
 fn read_shells(
     lines: &mut Lines<'_>,
     version: Version,

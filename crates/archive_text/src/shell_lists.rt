@@ -1,4 +1,4 @@
-// Reads the shells of an entry.
+// Reads the coordination sequences of an entry, class by class.
 ghost use Rattle.std.specs.Prelude.{ℕ, List, length, ◌≤◌, IfOk, MatchResult};
 ghost use Rattle.line_text.specs.Lines.{IsAt};
 ghost use Rattle.archive_text.specs.Forms.{IsCount};
@@ -10,7 +10,8 @@ use coordination::Sequences;
 use line_text::Lines;
 use std::alloc::AllocError as NoMemory;
 
-/// The shells of so many classes, or the number of the first line that has not those of the next.
+/// The sequences of so many classes, or the number of the first line that has not those of the
+/// next.
 pub fn read_lists(
     lines: &mut Lines<'_>,
     count: u32,

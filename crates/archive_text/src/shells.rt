@@ -1,4 +1,4 @@
-// What the numbers of a row of shells say.
+// What the numbers of a `shells` row say: a coordination sequence.
 ghost use Rattle.std.specs.Prelude.{ℕ, pos, ◌≡◌, List, [], ◌∷◌, All, map, IfSome, IfNone, IfOk, Some};
 ghost use Rattle.archive_text.specs.Rows.{shells_numbers};
 ghost use Rattle.archive_text.specs.Forms.{AreSizes, IsCount, IsShort};
@@ -52,7 +52,7 @@ fn short_numbers(alloc: Global, numbers: &[i128]) -> Result<Option<Vec<u32>>, No
     Ok(Some(sizes))
 }
 
-/// The sizes that the numbers of a row of shells say, where they are those of a class.
+/// The sizes that the numbers of a `shells` row say, where they are those of a class.
 pub fn sizes_from(alloc: Global, class: u32, numbers: &[i128]) -> Result<Option<Vec<u32>>, NoMemory>
     ensures found { IfOk result (λ read.
         IfSome read (λ sizes. numbers.now ≡ shells_numbers class sizes.items)) }

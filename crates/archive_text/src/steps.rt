@@ -17,11 +17,13 @@ const MOST_NUMBERS: usize = 3 + 5 * MOST_EDGES;
 
 /// The name on the next line, where an entry begins there.
 pub fn next_name<'a>(lines: &mut Lines<'a>) -> Option<&'a [u8]>
+    // The row of a name was passed, which spells this name.
     ensures place { (text : List ℕ) (rows : List (List ℕ)) → IsAt text rows lines.old →
         IfSome result (λ name. IsAt text (rows ++ name_row name.now ∷ []) lines.new) }
     ensures line { IfSome result (λ name.
         lines.old.rest ≡ name_row name.now ++ 10 ∷ lines.new.rest) }
     ensures form { IfSome result (λ name. is_name name.now ≡ true) }
+    // None comes only where no such row stands next.
     ensures none { IfNone result (NoName lines.old.rest) }
 {
     match lines.next_inner(b"entry \"", b"\"") {
@@ -76,7 +78,7 @@ pub fn next_count(lines: &mut Lines<'_>, numbers: &mut Vec<i128>) -> Result<Opti
     }
 }
 
-/// The shells of a class on the next line.
+/// The coordination sequence of a class on the next line.
 pub fn next_shells(
     lines: &mut Lines<'_>,
     class: u32,

@@ -92,7 +92,7 @@ fn push_lists(text: &mut Vec<u8>, lists: &Sequences) -> Result<(), NoMemory>
     Ok(())
 }
 
-// In version 2 the number of classes, and the shells of each.
+// In version 2 the number of classes, and the coordination sequence of each.
 fn push_classes(text: &mut Vec<u8>, version: Version, lists: &Sequences) -> Result<(), NoMemory>
     requires { length lists.now ≤ most_vertices }
     ensures { OnOk result (text.new.items ≡

@@ -1,4 +1,4 @@
--- Members of lists.
+-- Small lemmas on members of lists, and on members of images.
 use Rattle.std.proofs.Common.{◌≡◌, ◌⊎◌, inl, inr, zero, suc, Bool, true, false, cond, List, [], ◌∷◌, map, filter, sym, ap, ◌∙◌, refl, arith}
 use Rattle.std.specs.List.{Contains}
 use Rattle.std.proofs.lemmas.Bool.{false≢true}

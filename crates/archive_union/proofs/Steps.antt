@@ -1,4 +1,4 @@
--- One more item.
+-- What one more item makes of a union.
 use Rattle.std.proofs.Common.{◌≡◌, ◌≢◌, ℕ, ◌+◌, List, [], ◌∷◌, ◌++◌, length, refl, sym, ap, subst, ◌∙◌, arith}
 use Rattle.std.proofs.lemmas.List.{length-map, map-append}
 use Rattle.net_entries.specs.Entries.{EntryView, entry_view, entry_views}
@@ -37,7 +37,7 @@ module _ (a now : ArchiveView) (items : List Entry) (item : Entry) (is : now ≡
     known = known;
   }
 
-  -- what is told of it
+  -- what is reported of it
   pub fault_is : (all later : List Entry) (number : ℕ) (fault : AddFault) → all ≡ items ++ item ∷ later → number ≡ length items + 1 → IsRefused now (entry_view item) fault
       → IsUniteFault a (entry_views all) (fault_of_add number fault)
   fault_is all later number NameTaken whole counted refused = not_united all later number NameTaken whole counted refused (λ e. absurd cc)

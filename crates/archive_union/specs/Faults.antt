@@ -8,12 +8,12 @@ use Rattle.archive_union.specs.Unions.{IsNotUnited}
 use Rattle.archive_union.specs.declared.uniting.UniteFault.{UniteFault}
 use Rattle.archive_union.specs.declared.uniting.UniteFault.TheVariants.{NotAdded, NoMemory}
 
--- an item cannot be added; of want of memory nothing is said
+-- an item cannot be added; of running out of memory nothing is said
 abbrev pub IsUniteFault : ArchiveView → List EntryView → UniteFault → Type 0
 IsUniteFault a items (NotAdded number fault) = IsNotUnited a items number fault
 IsUniteFault a items NoMemory = Unit {0}
 
--- what is told where the item with this number is not added
+-- what is reported where the item with this number is not added
 abbrev pub fault_of_add : ℕ → AddFault → UniteFault
 fault_of_add number add.NoMemory = NoMemory
 fault_of_add number fault = NotAdded number fault

@@ -1,5 +1,5 @@
 -- The union of an archive and of items. An item is seen as the entry that it would be: its name, the graph of its net, the key, and the
--- shells of its classes.
+-- coordination sequences of its classes.
 use Rattle.std.specs.Prelude.{◌≡◌, ◌≢◌, ◌⊎◌, ◌↔◌, ℕ, ◌+◌, ℤ, false, List, [], ◌∷◌, ◌++◌, length, if◌then◌else◌, Contains, AllPairs}
 use Rattle.periodic_net.specs.Graph.{Graph, IsGraph}
 use Rattle.periodic_net.specs.Maps.{Iso}

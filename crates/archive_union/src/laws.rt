@@ -1,4 +1,4 @@
-// What a union is.
+// The theorems on unions, as clauses: a union has all, and there is one.
 ghost use Rattle.archive_union.specs.Laws.{OneUnion, UnionsHaveAll};
 
 /// A union has exactly the names of the archive and of the items, each once with a graph of its

@@ -1,4 +1,4 @@
--- A number past its limit is told as a fault, since such a number has a site.
+-- A number past its limit is reported as a fault, since such a number has a site.
 use Rattle.std.specs.Prelude.{ℕ}
 use Rattle.periodic_net.specs.Graph.{Graph}
 use Rattle.periodic_net.specs.Placement.{Placement}

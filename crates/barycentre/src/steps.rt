@@ -1,4 +1,4 @@
-// The normal placement from residues modulo M: one step more gives it modulo M·M.
+// The normal placement from residues modulo M: one step of Dixon's lifting gives it modulo M·M.
 ghost use Rattle.std.specs.Prelude.{◌≡◌, ◌<◌, ◌≤◌, ◌^◌, ◌*◌, ◌≤ℤ◌, pos, map, length};
 ghost use Rattle.std.specs.Prelude.{IfOk, IfSome, MatchOption, OnOk, ⊤};
 ghost use Rattle.periodic_net.specs.Graph.{IsConnected};

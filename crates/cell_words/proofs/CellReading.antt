@@ -66,7 +66,7 @@ list_read : (zs : List ℤ) → 1 ≤ length zs → AreSmall zs → map number_o
 list_read [] l s = absurd (omega (arith, l))
 list_read (z ∷ zs) l s = numbers_read z zs s
 
--- the test tells whether all are small
+-- the test shows whether all are small
 all_small : (zs : List ℤ) → AreSmall zs → list_all is_small zs ≡ true
 all_small [] s = refl
 all_small (z ∷ zs) s = λ i. not (le-ltb most_shift (unsigned_abs z) s.0 i) && all_small zs s.1 i

@@ -1,4 +1,4 @@
-// Cells, as words.
+// Reads the word that spells a unit cell: its rows as numbers with commas between them.
 ghost use Rattle.std.specs.Prelude.{◌≡◌, ◌+◌, ◌<◌, pos, None, length, IfOk, IfSome};
 ghost use Rattle.integers.specs.Vectors.{vector, zero_vector, IsWithin};
 ghost use Rattle.periodic_net.specs.Limits.{most_shift};

@@ -1,4 +1,4 @@
--- One piece after another.
+-- Tokens and pieces of a text, one after another from its front.
 use Rattle.std.proofs.Common.{◌≡◌, ℕ, ◌+◌, ◌≤◌, Bool, true, false, List, [], ◌∷◌, ◌++◌, length, take, drop, cond, ◌==◌, arith, refl, sym, ap, ◌∙◌, not, ◌||◌, inl, inr}
 use Rattle.std.proofs.lemmas.Bool.{cases_Bool}
 use Rattle.std.specs.Prelude.{position}

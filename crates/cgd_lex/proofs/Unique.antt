@@ -23,7 +23,7 @@ passes p (b ∷ bs) rest all none =
     let h : prefix_len p (bs ++ rest) ≡ length bs = passes p bs rest (All-tail (λ b. p b ≡ true) b bs all) none in
     rw (All-head (λ b. p b ≡ true) b bs all) (omega (arith, h))
 
--- the test tells a byte other than the quote
+-- the test shows a byte other than the quote
 other_than : (b : ℕ) → b ≢ 34 → not (b == 34) ≡ true
 other_than b h = grind (arith, common_steps, h)
 

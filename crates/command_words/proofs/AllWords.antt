@@ -1,4 +1,4 @@
--- Clap reads all words as they are said.
+-- Clap reads all arguments as they are said.
 use Rattle.std.proofs.Common.{◌≡◌, ◌∙◌, refl, sym, ap, subst, Bool, List, [], ◌∷◌, Some, None, is_some, true, false, cond, option_map}
 use Rattle.std.specs.Str.{bytes_eq}
 use Rattle.clap.specs.Lexer.{long_of, short_of}
@@ -19,7 +19,7 @@ use Rattle.command_words.proofs.WordLooks.{look}
 use Rattle.command_words.proofs.Readings.{AreReadAlike, IsMeaningAt, AreUtf8, IsWaiting, as_read, bad_idle, no_step, plain_step, read_as, read_dashes, stands_option}
 use Rattle.command_words.proofs.OptionWords.{fill_once, fill_twice, long_read}
 
--- a positional word
+-- a positional argument
 module _ (said : Said) (word : Text) (words : List Text) (later : AreReadAlike words) (rows : List Row) (pending : Pending) (g : IsSound said rows pending)
     (ed : bytes_eq word (45 ∷ 45 ∷ []) ≡ false) (el : long_of word ≡ None) (es : short_of word ≡ None) (eo : option_word word ≡ None) (ep : is_plain word ≡ true) where
   -- that goes to a place
@@ -39,7 +39,7 @@ module _ (said : Said) (word : Text) (words : List Text) (later : AreReadAlike w
       (read_as said None word words None ed (plain_step said word None eo ep (said_full said word s)))
       (means_none _ word words (some_kind kind.UnknownArgument [] _ (plain_turn 3 word rows pending ed el es)))
 
--- a word where no value is awaited
+-- an argument where no value is awaited
 idle_read : (stage : Stage) (said : Said) (word : Text) (words : List Text) (rows : List Row) (pending : Pending) → AreReadAlike words → Look word
     → IsStageOf stage said → IsSound said rows pending → IsMeaningAt (read said None (word ∷ words)) stage None rows pending (word ∷ words)
 idle_read stage said word words rows pending later (dashes ed) s g = as_read _ (read_positional said words) stage None rows pending (word ∷ words)
@@ -59,7 +59,7 @@ value_step said p word b e = ap (λ (b : Bool). cond b (option_map without_wait 
 no_value : (p : Place) (rows : List Row) → end_fault rows (Some (id_of p, [])) ≡ [] → ⊥
 no_value p rows e = some_kind kind.InvalidValue [] _ (pending_fault p [] rows ∙ use_none p rows) e
 
--- a word where a value is awaited
+-- an argument where a value is awaited
 value_read : (stage : Stage) (said : Said) (p : Place) (word : Text) (words : List Text) (rows : List Row) → AreReadAlike words → AreUtf8 words → Look word
     → IsStageOf stage said → IsWaiting said p rows (Some (id_of p, [])) → IsMeaningAt (read said (Some p) (word ∷ words)) stage (Some p) rows (Some (id_of p, [])) (word ∷ words)
 value_read stage said p word words rows later u (dashes ed) s w = as_read _ None stage (Some p) rows _ (word ∷ words)
@@ -84,7 +84,7 @@ value_read stage said p word words rows later u (plain ed el es eo ep) s w = go 
         (later stage (put p word said) None rows (Some (id_of p, word ∷ []))
         (stands_option stage said p word w.is_option s, good_pending said rows p word w.shows e)))
 
--- from every place of the walk clap reads the words as they are said
+-- from every place of the walk clap reads the arguments as they are said
 pub reads : (words : List Text) → AreUtf8 words → AreReadAlike words
 reads [] u stage said None rows pending (s, g) = means_nil said idle (place_of stage) false rows pending g
 reads [] u stage said (Some p) rows pending (s, w) = none_nil (waiting_for (Some p)) (place_of stage) false rows pending

@@ -1,4 +1,4 @@
--- A word cut at its first `=`.
+-- An argument cut at its first `=`.
 use Rattle.std.proofs.Common.{◌≡◌, ◌∙◌, refl, sym, ap, ℕ, Bool, [], ◌∷◌, ◌++◌, Option, Some, None, true, false, cond, ◌==◌, ◌||◌, ◌&&◌, arith, true≢false}
 use Rattle.std.proofs.lemmas.Grind.{common_steps}
 use Rattle.std.specs.List.{after_first, before_first}

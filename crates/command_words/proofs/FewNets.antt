@@ -1,4 +1,4 @@
--- The nets that words ask to make are no more than may be made.
+-- The nets that arguments ask to make are no more than may be made.
 use Rattle.std.proofs.Common.{◌≡◌, ℕ, ◌≤◌, ◌<◌, ◌&&◌, Bool, true, false, Option, None, Some, nat_lt, refl, sym, subst, arith, ◌+◌}
 use Rattle.std.specs.Prelude.{IfSome, is_some, if◌then◌else◌, option_map, option_and_then}
 use Rattle.std.specs.Fmt.{decimal}
@@ -53,7 +53,7 @@ few_cell : (file : Text) (o : Option CellView) → IsFewTask (option_map (Cover 
 few_cell file None = tt
 few_cell file (Some cell) = tt
 
--- a word that spells a count spells a small one
+-- an argument that spells a count spells a small one
 small_count : (word : Text) (n : ℕ) → is_count word n ≡ true → n ≤ most_nets
 small_count word n h =
     let p = and_parts (bytes_eq word (decimal n)) (nat_lt 0 n && nat_lt n (most_nets + 1)) h in

@@ -1,4 +1,4 @@
--- A word that begins with `--` and goes on.
+-- An argument that begins with `--` and goes on.
 use Rattle.std.proofs.Common.{◌≡◌, ◌∙◌, refl, sym, ap, ℕ, List, [], ◌∷◌, Option, Some, None, false, option_map}
 use Rattle.std.specs.Str.{bytes_eq}
 use Rattle.clap.specs.Lexer.{long_of}
@@ -14,7 +14,7 @@ use Rattle.command_words.proofs.Walks.{first_empty, walk_at}
 use Rattle.command_words.proofs.Stages.{some_kind}
 use Rattle.command_words.proofs.Turns.{by_long, here, moved_as, place_named, turn_as, waiting_for}
 
--- the step of clap at a word with `--`
+-- the step of clap at an argument with `--`
 abbrev after_long : Option Place → Option Rule → Option Text → Text → Held → Held × Step
 after_long wanted a v word h = after_flag rules_list (waiting_for wanted) word (long_met rules_list a v h).0 (long_met rules_list a v h).1
 

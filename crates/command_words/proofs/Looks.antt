@@ -1,4 +1,4 @@
--- What a word looks like to clap, and what it says.
+-- What an argument looks like to clap, and what it says.
 use Rattle.std.proofs.Common.{◌≡◌, ◌∙◌, refl, sym, ap, ℕ, Bool, [], ◌∷◌, ◌++◌, Option, Some, None, true, false, cond, codes, option_map}
 use Rattle.std.proofs.lemmas.Bool.Decides.{same_from_decides, Decides-like}
 use Rattle.std.proofs.lemmas.Slice.Eq.{bytes_eq-Decides}
@@ -15,7 +15,7 @@ use Rattle.command_words.proofs.Turns.{place_named}
 abbrev pub found_as : Option Text → Option Place → Option (Place × Option Text)
 found_as v found = option_map (λ p. (p, v)) found
 
--- a word is `--`, or a name after `--`, or a bundle of flags after `-`, or plain
+-- an argument is `--`, or a name after `--`, or a bundle of flags after `-`, or plain
 pub data Look (word : Text) : Type 0 where
   dashes : bytes_eq word (45 ∷ 45 ∷ []) ≡ true → Look word
   long : (name : Text) (v : Option Text) → bytes_eq word (45 ∷ 45 ∷ []) ≡ false → long_of word ≡ Some (name, v)
@@ -37,7 +37,7 @@ name_text = codes "name"
 abbrev cell_text : Text
 cell_text = codes "cell"
 
--- the option, by what the word is compared with
+-- the option, by what the argument is compared with
 abbrev option_spelled : Bool → Bool → Bool → Option Text → Option Text → Option Text → Option (Place × Option Text)
 option_spelled a n c x y z = cond a (Some (Archive, None)) (cond n (Some (Name, None)) (cond c (Some (Cell, None)) (option_with_value x y z)))
 
@@ -49,7 +49,7 @@ option_named a n c = cond a (Some Archive) (cond n (Some Name) (cond c (Some Cel
 abbrev pub value_of : Text → Option Text
 value_of t = cond (has_byte 61 t) (Some (after_first is_equals t)) None
 
--- a word without `=`
+-- an argument without `=`
 long_alone : (t : Text) → has_byte 61 t ≡ false → option_word (45 ∷ 45 ∷ t) ≡ found_as None (place_named (before_first is_equals t))
 long_alone t e =
     (λ i. option_spelled (bytes_eq t archive_text) (bytes_eq t name_text) (bytes_eq t cell_text) (never_after archive_text t e i) (never_after name_text t e i) (never_after cell_text t e i))
@@ -63,7 +63,7 @@ long_alone t e =
     go false false true = refl
     go false false false = refl
 
--- a word with `=`
+-- an argument with `=`
 long_given : (t : Text) → has_byte 61 t ≡ true → option_word (45 ∷ 45 ∷ t) ≡ found_as (Some (after_first is_equals t)) (place_named (before_first is_equals t))
 long_given t e =
     (λ i. option_spelled (other_text archive_text t refl e i) (other_text name_text t refl e i) (other_text cell_text t refl e i) (after (archive_text ++ equals) t) (after (name_text ++ equals) t)
@@ -77,7 +77,7 @@ long_given t e =
     go false false true r = refl
     go false false false r = refl
 
--- both readings of a word with `--` agree
+-- both readings of an argument with `--` agree
 pub option_long : (t : Text) → option_word (45 ∷ 45 ∷ t) ≡ found_as (value_of t) (place_named (before_first is_equals t))
 option_long t = go (has_byte 61 t) refl
   where

@@ -1,4 +1,4 @@
--- The number that a word spells in decimal.
+-- The number that an argument spells in decimal.
 use Rattle.std.proofs.Common.{◌≡◌, ◌∙◌, ℕ, ◌<◌, ◌&&◌, true, Some, None, Result, Ok, nat_lt, sym, ap, subst, arith, ◌+◌}
 use Rattle.std.specs.Fmt.{decimal}
 use Rattle.std.specs.Str.{bytes_eq}
@@ -10,7 +10,7 @@ use Rattle.command_words.specs.Words.{Text}
 use Rattle.command_words.specs.Tasks.{count_of, is_count}
 use Rattle.workload.specs.Workload.{most_nets}
 
--- a word that is told as the count n spells n, which is small
+-- an argument that is reported as the count n spells n, which is small
 record Spells (word : Text) (n : ℕ) : Type 0 where
   pub text : word ≡ decimal n
   pub small : n < most_nets + 1
@@ -27,19 +27,19 @@ value_is word n s =
     let small = s.small in
     ap (digits_value 10) s.text ∙ (decimal_is_IsNumeral n (omega (arith, small))).1
 
--- so the number is the one that the word spells
+-- so the number is the one that the argument spells
 pub count_is : (word : Text) (n : ℕ) → is_count word n ≡ true → Some n ≡ count_of word
 count_is word n h =
     let v = value_is word n (spells word n h) in
     ap (λ (m : ℕ). Some m) (sym v) ∙ sym (cond-true (is_count word (digits_value 10 word)) (Some (digits_value 10 word)) None (subst (λ (m : ℕ). is_count word m ≡ true) (sym v) h))
 
--- a word that spells a count is read as it
+-- an argument that spells a count is read as it
 pub count_parsed : {E : Type 0} (word : Text) (n : ℕ) (r : Result ℕ E) → is_count word n ≡ true → ParsesUnsigned 32 10 word r → r ≡ Ok n
 count_parsed word n r h p =
     let s = spells word n h in
     let small = s.small in
     parse-decimal 32 n word r (omega (arith, small)) (omega (arith, small)) s.text p
 
--- where the value of its digits is no count, the word spells none
+-- where the value of its digits is no count, the argument spells none
 pub no_count : (word : Text) → (is_count word (digits_value 10 word) ≡ true → ⊥) → None ≡ count_of word
 no_count word h = sym (cond-false (is_count word (digits_value 10 word)) (Some (digits_value 10 word)) None (false_from_ne_true (is_count word (digits_value 10 word)) h))

@@ -1,4 +1,4 @@
--- Clap reads the words as they are said.
+-- Clap reads the arguments as they are said.
 use Rattle.std.proofs.Common.{◌≡◌, ◌∙◌, refl, ap, Bool, List, [], ◌∷◌, Option, Some, None, is_some, true, false, cond, option_map}
 use Rattle.std.specs.Str.{bytes_eq}
 use Rattle.clap.specs.Lexer.{long_of}
@@ -24,7 +24,7 @@ fill_twice p v said e = ap (λ (b : Bool). option_map without_wait (cond b None 
 pub fill_once : (p : Place) (v : Text) (said : Said) → is_some (at said p) ≡ false → option_map without_wait (fill p v said) ≡ Some (put p v said, None)
 fill_once p v said e = ap (λ (b : Bool). option_map without_wait (cond b None (Some (put p v said)))) e
 
--- an option, or a word like one
+-- an option, or an argument like one
 module _ (stage : Stage) (said : Said) (word : Text) (words : List Text) (later : AreReadAlike words) (rows : List Row) (pending : Pending) (s : IsStageOf stage said) (g : IsSound said rows pending)
     (name : Text) (ed : bytes_eq word (45 ∷ 45 ∷ []) ≡ false) where
   unknown : (v : Option Text) → long_of word ≡ Some (name, v) → option_word word ≡ found_as v (place_named name) → is_plain word ≡ false → place_named name ≡ None

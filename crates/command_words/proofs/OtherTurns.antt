@@ -1,4 +1,4 @@
--- A word that begins with one `-` and goes on, and one that is no flag.
+-- An argument that begins with one `-` and goes on, and one that is no flag.
 use Rattle.std.proofs.Common.{◌≡◌, ◌∙◌, refl, sym, ap, ℕ, List, [], ◌∷◌, Option, Some, None, false, length}
 use Rattle.std.specs.Str.{bytes_eq, chars}
 use Rattle.std.specs.Prelude.{slice_get}
@@ -16,7 +16,7 @@ use Rattle.command_words.proofs.Walks.{first_empty, walk_at}
 use Rattle.command_words.proofs.Stages.{some_kind}
 use Rattle.command_words.proofs.Turns.{here, moved_as, turn_as, waiting_for}
 
--- why clap refuses a word without `--`
+-- why clap refuses an argument without `--`
 abbrev other_turn : Option Place → ℕ → Text → List Row → Pending → Option Text → Kinds
 other_turn wanted position word rows pending so = or_else (option_map_or (λ flags. bundle_fault rules_list false flags (state rows pending)) so [])
     (step_fault top position (short_or_plain rules_list (waiting_for wanted) word so (state rows pending)).0
@@ -50,7 +50,7 @@ module _ (wanted : Option Place) (position : ℕ) (word : Text) (rows : List Row
       some_kind kind.UnknownArgument [] _ (bundle_is x flags c (state rows pending) first refl) (first_empty _ _ (sym (turn_other (Some (x ∷ flags)) es) ∙ e))
 
 module _ (position : ℕ) (word : Text) (rows : List Row) (pending : Pending) (ed : bytes_eq word (45 ∷ 45 ∷ []) ≡ false) (el : long_of word ≡ None) (es : short_of word ≡ None) where
-  -- a positional word
+  -- a positional argument
   pub plain_turn : turn_fault top [] (here None position rows pending) word ≡ step_fault top position (state rows pending) value
   plain_turn = turn_other None position word rows pending ed el None es
 

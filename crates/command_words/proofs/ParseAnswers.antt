@@ -1,4 +1,4 @@
--- What a parse gives.
+-- What clap's parse gives: what the arguments say, or that they say nothing.
 use Rattle.std.proofs.Common.{◌≡◌, ◌∙◌, refl, sym, ap, subst, List, [], ◌∷◌, Option, Some, None, map, ⊎_elim}
 use Rattle.std.proofs.lemmas.Str.{IsUtf8-string_bytes}
 use Rattle.std.specs.Prelude.{String, string_bytes}
@@ -30,7 +30,7 @@ said_is found said s = λ i. record { command = (value Command) i; second = (val
     value : (p : Place) → first_value found (id_of p) ≡ at said p
     value p = first_value-rows found (id_of p) ∙ (s p).value
 
--- what clap found is what the words say
+-- what clap found is what the arguments say
 pub said_ok : (found : Found) (words : List Text) → AreUtf8 words → fault_of grammar words ≡ [] → rows_of found ≡ matches_of grammar words → Some (said_in found) ≡ said_by words
 said_ok found words u passes rows = go (said_by words) refl
   where
@@ -38,7 +38,7 @@ said_ok found words u passes rows = go (said_by words) refl
     go None e = absurd (words_refused words u e passes)
     go (Some said) e = ap (λ (s : Said). Some s) (said_is found said (subst (IsShown said) (sym rows) (words_taken words said u e).1))
 
--- words that clap refuses say nothing
+-- arguments that clap refuses say nothing
 pub said_none : (words : List Text) → AreUtf8 words → (fault_of grammar words ≡ [] → ⊥) → None ≡ said_by words
 said_none words u fails = go (said_by words) refl
   where
@@ -46,6 +46,6 @@ said_none words u fails = go (said_by words) refl
     go None e = refl
     go (Some said) e = absurd (fails (words_taken words said u e).0)
 
--- an error that is no want of memory is a fault of the words
+-- an error other than running out of memory is a fault of the arguments
 pub has_fault : (kinds : Kinds) (e : Error) → HasKind kinds e → (kind_of e ≡ OutOfMemory → ⊥) → kinds ≡ [] → ⊥
 has_fault kinds e h other none = ⊎_elim (λ m. other m) (λ among. subst (IsAmong (kind_of e)) none among) h

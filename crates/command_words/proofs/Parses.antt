@@ -1,4 +1,4 @@
--- When clap takes the words, and what it then has.
+-- When clap takes the arguments, and what it then has.
 use Rattle.std.proofs.Common.{◌≡◌, ◌∙◌, refl, sym, ap, subst, Bool, List, [], ◌∷◌, Option, Some, None, true, false, cond, fold, ◌||◌}
 use Rattle.clap.specs.Words.{Row, Rule, Text, matches_of}
 use Rattle.clap.specs.Walk.{Held, default_rows, finished, has_row, idle, is_empty, reading_by, settled, settled_rows, walk, with_default}
@@ -50,21 +50,21 @@ no_rows (r ∷ rs) rows b = ap (λ (x : List Row). fold with_default x rs) (no_r
 check_none : (rows : List Row) → check_fault top rows false ≡ []
 check_none rows = refl
 
--- before the first word
+-- before the first argument
 abbrev start : Rattle.clap.specs.Walk.Walk
 start = walk_at idle 1 false [] None
 
 level : (words : List Text) → fault_of grammar words ≡ level_fault top [] (state [] None) words false []
 level words = leaf_fault (built grammar) (state [] None) words refl
 
--- what may be refused after the last word
+-- what may be refused after the last argument
 abbrev after_walk : Held → Kinds
 after_walk h = or_else (defaults_fault (settled rules_list h).rows rules_list) (check_fault top (finished rules_list h) false)
 
 after_none : (h : Held) → after_walk h ≡ []
 after_none h = ap (λ (k : Kinds). or_else k (check_fault top (finished rules_list h) false)) (no_faults rules_list (settled rules_list h).rows no_defaults)
 
--- clap has no fault exactly where it takes the words
+-- clap has no fault exactly where it takes the arguments
 pub fault_none : (words : List Text) → AreTaken start words → fault_of grammar words ≡ []
 fault_none words p = level words
     ∙ past _ _ p.turns
@@ -79,17 +79,17 @@ passes_from words e =
 pub rows_are : (words : List Text) → matches_of grammar words ≡ settled_rows rules_list (held_after start words).pending (held_after start words).rows
 rows_are words = no_rows rules_list _ no_defaults
 
--- the words make up what they say
+-- the arguments make up what they say
 means : (words : List Text) → AreUtf8 words → IsMeaning (said_by words) start words
 means words u = reads words u First nothing None [] None (record { command = refl; second = refl }, record { passes = refl; shows = shows_nothing })
 
--- words that say something are taken, and clap shows it
+-- arguments that say something are taken, and clap shows it
 pub words_taken : (words : List Text) (said : Said) → AreUtf8 words → said_by words ≡ Some said → (fault_of grammar words ≡ []) × IsShown said (matches_of grammar words)
 words_taken words said u e =
     let m : IsMeaning (Some said) start words = subst (λ (o : Option Said). IsMeaning o start words) e (means words u) in
     (fault_none words m.0, subst (IsShown said) (sym (rows_are words)) m.1)
 
--- words that say nothing are refused
+-- arguments that say nothing are refused
 pub words_refused : (words : List Text) → AreUtf8 words → said_by words ≡ None → fault_of grammar words ≡ [] → ⊥
 words_refused words u e f =
     let m : IsMeaning None start words = subst (λ (o : Option Said). IsMeaning o start words) e (means words u) in

@@ -1,4 +1,4 @@
--- One word, where all later words are read alike.
+-- One argument, where all later arguments are read alike.
 use Rattle.std.proofs.Common.{◌≡◌, ◌∙◌, sym, ap, subst, Bool, List, [], ◌∷◌, Option, Some, None, is_some, true, false, cond, codes, option_map}
 use Rattle.std.specs.Prelude.{option_and_then}
 use Rattle.std.specs.Str.{IsUtf8, bytes_eq}
@@ -16,7 +16,7 @@ use Rattle.command_words.proofs.LongTurns.{refused_turn}
 use Rattle.command_words.proofs.OtherTurns.{plain_turn, short_turn}
 use Rattle.command_words.proofs.Looks.{Look, dashes, long, plain, short}
 
--- all words are text
+-- all arguments are text
 abbrev pub AreUtf8 : List Text → Type 0
 AreUtf8 [] = Unit {0}
 AreUtf8 (word ∷ words) = IsUtf8 word × AreUtf8 words
@@ -60,16 +60,16 @@ abbrev pub IsReady : Stage → Said → Option Place → List Row → Pending �
 IsReady stage said None rows pending = IsStageOf stage said × IsSound said rows pending
 IsReady stage said (Some p) rows pending = IsStageOf stage said × IsWaiting said p rows pending
 
--- from every place of the walk clap reads the words as they are said
+-- from every place of the walk clap reads the arguments as they are said
 abbrev pub AreReadAlike : List Text → Type 0
 AreReadAlike words = (stage : Stage) (said : Said) (wanted : Option Place) (rows : List Row) (pending : Pending) → IsReady stage said wanted rows pending
     → IsMeaning (read said wanted words) (here wanted (place_of stage) rows pending) words
 
--- what later words say after one
+-- what later arguments say after one
 abbrev pub next : List Text → Option Reading → Option Said
 next words = option_and_then (λ r. read r.0 r.1 words)
 
--- what the words say, by whether the first is `--`
+-- what the arguments say, by whether the first is `--`
 abbrev read_by : Bool → Option Reading → Said → Option Place → List Text → Option Said
 read_by d s said wanted words = cond d (cond (is_some wanted) None (read_positional said words)) (next words s)
 
@@ -81,7 +81,7 @@ pub read_dashes : (said : Said) (wanted : Option Place) (word : Text) (words : L
     → read said wanted (word ∷ words) ≡ cond (is_some wanted) None (read_positional said words)
 read_dashes said wanted word words ed = ap (λ (d : Bool). read_by d (step said wanted word) said wanted words) ed
 
--- the words make up what is said, from this stage on
+-- the arguments make up what is said, from this stage on
 abbrev pub IsMeaningAt : Option Said → Stage → Option Place → List Row → Pending → List Text → Type 0
 IsMeaningAt said stage wanted rows pending words = IsMeaning said (here wanted (place_of stage) rows pending) words
 
@@ -89,7 +89,7 @@ pub as_read : (a b : Option Said) (stage : Stage) (wanted : Option Place) (rows 
     → IsMeaningAt b stage wanted rows pending words → IsMeaningAt a stage wanted rows pending words
 as_read a b stage wanted rows pending words e m = subst (λ (o : Option Said). IsMeaningAt o stage wanted rows pending words) (sym e) m
 
--- a word that is no option and not plain says nothing
+-- an argument that is no option and not plain says nothing
 pub no_step : (said : Said) (word : Text) → option_word word ≡ None → is_plain word ≡ false → step said None word ≡ None
 no_step said word eo ep = ap (option_step said word) eo ∙ ap (λ (b : Bool). cond b (option_map without_wait (fill_next word said)) None) ep
 
@@ -98,7 +98,7 @@ pub plain_step : (said : Said) (word : Text) (s : Option Said) → option_word w
 plain_step said word s eo ep es = ap (option_step said word) eo ∙ ap (λ (b : Bool). cond b (option_map without_wait (fill_next word said)) None) ep
     ∙ ap (option_map without_wait) es
 
--- what is pending is refused, however the words go on
+-- what is pending is refused, however the arguments go on
 pub bad_idle : (stage : Stage) (words : List Text) (rows : List Row) (pending : Pending) → ((word : Text) → IsUtf8 word → Look word) → AreUtf8 words
     → (end_fault rows pending ≡ [] → ⊥) → IsMeaningAt None stage None rows pending words
 bad_idle stage [] rows pending look u bad = none_nil idle (place_of stage) false rows pending bad

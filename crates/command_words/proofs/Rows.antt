@@ -107,7 +107,7 @@ other said now rows p q v s same none apart = record {
     or_false true = refl
     or_false false = refl
 
--- the place that is filled shows its word
+-- the place that is filled shows its argument
 here : (said now : Said) (rows : List Row) (p : Place) (v : Text) → IsShownAt said rows p → is_some (at said p) ≡ false → Some v ≡ at now p
     → first_of (id_of p) (row p v ∷ []) ≡ Some v → bytes_eq (id_of p) (id_of p) ≡ true → IsShownAt now (rows ++ row p v ∷ []) p
 here said now rows p v s empty is one itself = record {
@@ -119,7 +119,7 @@ here said now rows p v s empty is one itself = record {
       ∙ itself ∙ ap is_some is;
 }
 
--- one more word that is said is one more row
+-- one more argument that is said is one more row
 pub shows_put : (said : Said) (rows : List Row) (p : Place) (v : Text) → IsShown said rows → is_some (at said p) ≡ false
     → IsShown (put p v said) (rows ++ row p v ∷ [])
 shows_put said rows Command v s e Command = here said (put Command v said) rows Command v (s Command) e refl refl refl

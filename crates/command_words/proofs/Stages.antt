@@ -1,4 +1,4 @@
--- Positional words.
+-- Positional arguments: how many were read, and which one comes next.
 use Rattle.std.proofs.Common.{◌≡◌, ◌∙◌, refl, sym, ap, subst, ℕ, Bool, List, [], ◌∷◌, Some, None, is_some, true, false, cond}
 use Rattle.clap.specs.Words.{Row, Text}
 use Rattle.clap.specs.Walk.{Held, Waiting, Walk, arg_by_index, idle, to_positional, value}
@@ -11,13 +11,13 @@ use Rattle.command_words.proofs.Rules.{id_of, rules_list, top}
 use Rattle.command_words.proofs.States.{Pending, end_fault, end_rows, state, positional_kept, positional_turn}
 use Rattle.command_words.proofs.Walks.{walk_at}
 
--- how many positional words there were
+-- how many positional arguments there were
 pub data Stage : Type 0 where
   First : Stage
   Next : Stage
   Full : Stage
 
--- the number of the next positional word
+-- the number of the next positional argument
 abbrev pub place_of : Stage → ℕ
 place_of First = 1
 place_of Next = 2
@@ -32,17 +32,17 @@ abbrev pub has_second : Stage → Bool
 has_second Full = true
 has_second _ = false
 
--- so many positional words were said
+-- so many positional arguments were said
 pub record IsStageOf (stage : Stage) (said : Said) : Type 0 where
   pub command : is_some said.command ≡ has_command stage
   pub second : is_some said.second ≡ has_second stage
 
--- what a positional word says where all are said
+-- what a positional argument says where all are said
 pub said_full : (said : Said) (word : Text) → IsStageOf Full said → fill_next word said ≡ None
 said_full said word s = ap (λ (b : Bool). cond b (fill Second word said) (fill Command word said)) s.command
     ∙ ap (λ (b : Bool). cond b None (Some (put Second word said))) s.second
 
--- at one stage a positional word goes to place p, as it is said and as clap holds it, and the other stage follows
+-- at one stage a positional argument goes to place p, as it is said and as clap holds it, and the other stage follows
 pub record IsFilled (from to : Stage) (p : Place) (said : Said) (word : Text) : Type 0 where
   pub free : is_some (at said p) ≡ false
   pub says : fill_next word said ≡ Some (put p word said)
@@ -91,7 +91,7 @@ some_kind k ks kinds e f = subst tag (sym e ∙ f) tt
     tag [] = ⊥
     tag (x ∷ xs) = Unit {0}
 
--- a positional word is refused where what is pending is
+-- a positional argument is refused where what is pending is
 pub turn_bad : (stage : Stage) (rows : List Row) (pending : Pending) → (end_fault rows pending ≡ [] → ⊥) → step_fault top (place_of stage) (state rows pending) value ≡ [] → ⊥
 turn_bad First rows pending bad e = bad (sym (positional_turn Command rows pending) ∙ e)
 turn_bad Next rows pending bad e = bad (sym (positional_turn Second rows pending) ∙ e)

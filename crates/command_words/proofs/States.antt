@@ -1,4 +1,4 @@
--- What clap holds between two words.
+-- What clap holds between two arguments.
 use Rattle.std.proofs.Common.{◌≡◌, ◌∙◌, refl, sym, ap, subst, Bool, List, [], ◌∷◌, Option, Some, None, is_some, true, false, cond, ◌&&◌}
 use Rattle.clap.specs.Words.{Row, Text}
 use Rattle.clap.specs.Walk.{Held, has_row, is_pending, positional_held, pushed, settled_rows, takes_several, used}
@@ -101,7 +101,7 @@ one_value Cell = refl
 never_more : (p : Place) (pending : Pending) → (is_pending (rule_at p) pending && takes_several (rule_at p)) ≡ false
 never_more p pending = ap (λ (b : Bool). is_pending (rule_at p) pending && b) (one_value p) ∙ and_false (is_pending (rule_at p) pending)
 
--- a positional word first has what was pending used
+-- a positional argument first has what was pending used
 pub positional_turn : (p : Place) (rows : List Row) (pending : Pending) → positional_fault rules_list false (rule_at p) (state rows pending) ≡ end_fault rows pending
 positional_turn p rows pending = ap (λ (b : Bool). cond b [] (end_fault rows pending)) (never_more p pending)
 

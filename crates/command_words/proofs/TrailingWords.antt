@@ -1,4 +1,4 @@
--- The words after `--`.
+-- The arguments after `--`: what clap makes of them is what they say.
 use Rattle.std.proofs.Common.{◌≡◌, ◌∙◌, refl, sym, subst, ℕ, List, [], ◌∷◌, Option, Some, None, true}
 use Rattle.std.specs.Prelude.{option_and_then}
 use Rattle.clap.specs.Words.{Row, Text}
@@ -11,7 +11,7 @@ use Rattle.command_words.proofs.States.{IsSound, Pending, end_fault, end_rows, g
 use Rattle.command_words.proofs.Walks.{IsMeaning, means_cons, means_nil, means_none, none_nil, walk_at}
 use Rattle.command_words.proofs.Stages.{Stage, First, Next, Full, IsStageOf, IsFilled, filled_first, filled_next, place_of, said_full, some_kind, turn_bad}
 
--- when clap refuses a word after `--`, and where it then stands
+-- when clap refuses an argument after `--`, and where it then stands
 turn_is : (waiting : Waiting) (position : ℕ) (word : Text) (rows : List Row) (pending : Pending)
     → turn_fault top [] (walk_at waiting position true rows pending) word ≡ step_fault top position (state rows pending) value
 turn_is waiting position word rows pending = refl
@@ -22,17 +22,17 @@ move_is : (waiting : Waiting) (position : ℕ) (word : Text) (rows : List Row) (
 unfolding walked
 move_is waiting position word rows pending = refl
 
--- what is pending is refused by any word after `--`, and at the end
+-- what is pending is refused by any argument after `--`, and at the end
 pub bad_trailing : (stage : Stage) (waiting : Waiting) (words : List Text) (rows : List Row) (pending : Pending) → (end_fault rows pending ≡ [] → ⊥)
     → IsMeaning None (walk_at waiting (place_of stage) true rows pending) words
 bad_trailing stage waiting [] rows pending bad = none_nil waiting (place_of stage) true rows pending bad
 bad_trailing stage waiting (word ∷ words) rows pending bad = means_none _ word words (turn_bad stage rows pending bad)
 
--- what the words after one say
+-- what the arguments after one say
 abbrev then : List Text → Option Said → Option Said
 then words s = option_and_then (λ s. read_positional s words) s
 
--- a word that goes to a place, and the words after it
+-- an argument that goes to a place, and the arguments after it
 filled_trailing : (from to : Stage) (p : Place) (said : Said) (waiting : Waiting) (word : Text) (words : List Text) (rows : List Row) (pending : Pending) → IsFilled from to p said word → IsSound said rows pending
     → IsMeaning (read_positional (put p word said) words) (walk_at idle (place_of to) true (end_rows rows pending) (Some (id_of p, word ∷ []))) words
     → IsMeaning (read_positional said (word ∷ words)) (walk_at waiting (place_of from) true rows pending) (word ∷ words)
@@ -41,7 +41,7 @@ filled_trailing from to p said waiting word words rows pending f g later =
     (means_cons (read_positional (put p word said) words) _ _ word words (turn_is waiting (place_of from) word rows pending ∙ f.turn rows pending ∙ g.passes)
     (move_is waiting (place_of from) word rows pending ∙ f.kept true waiting rows pending) later)
 
--- clap reads the words after `--` as they are said
+-- clap reads the arguments after `--` as they are said
 pub trailing : (stage : Stage) (said : Said) (waiting : Waiting) (words : List Text) (rows : List Row) (pending : Pending) → IsStageOf stage said → IsSound said rows pending
     → IsMeaning (read_positional said words) (walk_at waiting (place_of stage) true rows pending) words
 trailing stage said waiting [] rows pending s g = means_nil said waiting (place_of stage) true rows pending g

@@ -1,4 +1,4 @@
--- One word before `--`, by what it looks like to clap.
+-- One argument before `--`, by what it looks like to clap.
 use Rattle.std.proofs.Common.{◌≡◌, ◌∙◌, refl, ap, ℕ, Bool, List, [], ◌∷◌, Option, Some, None, true, false, cond, ◌||◌, option_map}
 use Rattle.std.specs.Str.{bytes_eq}
 use Rattle.std.specs.Prelude.{codes}
@@ -17,15 +17,15 @@ abbrev pub waiting_for : Option Place → Waiting
 waiting_for None = idle
 waiting_for (Some p) = option (id_of p)
 
--- a word with `--`: its name, and its value after `=`
+-- an argument with `--`: its name, and its value after `=`
 abbrev pub Long : Type 0
 Long = Option (Text × Option Text)
 
--- the step of clap at a word, by whether it is `--` and by its name
+-- the step of clap at an argument, by whether it is `--` and by its name
 abbrev pub met : Option Place → Bool → Long → ℕ → Text → Held → Held × Step
 met wanted d lo position word h = cond d (h, trailing position) (long_or_other rules_list (waiting_for wanted) word lo h)
 
--- why clap refuses the word
+-- why clap refuses the argument
 abbrev pub turn_by : Option Place → Bool → Long → ℕ → Text → Held → Kinds
 turn_by wanted d lo position word h = or_else (cond d [] (flag_word_fault rules_list false lo word h))
     (step_fault top position (met wanted d lo position word h).0 (met wanted d lo position word h).1)

@@ -1,4 +1,4 @@
--- When clap takes the words from one place of its walk on, and what it then has.
+-- When clap takes the arguments from one place of its walk on, and what it then has.
 use Rattle.std.proofs.Common.{◌≡◌, ◌∙◌, refl, sym, ap, subst, ℕ, Bool, List, [], ◌∷◌, Option, Some, None, false, fold}
 use Rattle.clap.specs.Words.{Row, Text}
 use Rattle.clap.specs.Walk.{Held, Waiting, Walk, settled_rows, walked}
@@ -9,25 +9,25 @@ use Rattle.command_words.proofs.Rules.{rules_list, top}
 use Rattle.command_words.proofs.Rows.{IsShown}
 use Rattle.command_words.proofs.States.{IsSound, Pending, end_fault, state}
 
--- a place of the walk over the words
+-- a place of the walk over the arguments
 abbrev pub walk_at : Waiting → ℕ → Bool → List Row → Pending → Walk
 walk_at waiting position trailing rows pending =
     record { held = state rows pending; waiting = waiting; position = position; is_trailing = trailing; stopped = None }
 
--- what is held after the words
+-- what is held after the arguments
 abbrev pub held_after : Walk → List Text → Held
 held_after w words = (fold (walked rules_list []) w words).held
 
--- why clap refuses the words from here on
+-- why clap refuses the arguments from here on
 abbrev pub fault_from : Walk → List Text → Kinds
 fault_from w words = walk_fault top [] w words
 
--- clap refuses none of the words, and not their end
+-- clap refuses none of the arguments, and not their end
 pub record AreTaken (w : Walk) (words : List Text) : Type 0 where
   pub turns : fault_from w words ≡ []
   pub end : settle_fault rules_list false (held_after w words) ≡ []
 
--- the words from here on make up what is said: where nothing is said clap refuses them, and else it takes them and shows it
+-- the arguments from here on make up what is said: where nothing is said clap refuses them, and else it takes them and shows it
 abbrev pub IsMeaning : Option Said → Walk → List Text → Type 0
 IsMeaning None w words = AreTaken w words → ⊥
 IsMeaning (Some said) w words = AreTaken w words × IsShown said (settled_rows rules_list (held_after w words).pending (held_after w words).rows)
@@ -70,7 +70,7 @@ passes_cons w now word words turn is p =
       end = q.end;
     }
 
--- a word that clap takes
+-- an argument that clap takes
 pub means_cons : (said : Option Said) (w now : Walk) (word : Text) (words : List Text) → turn_fault top [] w word ≡ [] → walked rules_list [] w word ≡ now
     → IsMeaning said now words → IsMeaning said w (word ∷ words)
 means_cons None w now word words turn is m = λ p. m (passes_tail w now word words is p)
@@ -79,7 +79,7 @@ means_cons (Some said) w now word words turn is m = (
   subst (λ (x : Walk). IsShown said (settled_rows rules_list (held_after x words).pending (held_after x words).rows)) (sym is) m.1,
 )
 
--- a word that clap refuses
+-- an argument that clap refuses
 pub means_none : (w : Walk) (word : Text) (words : List Text) → (turn_fault top [] w word ≡ [] → ⊥) → IsMeaning None w (word ∷ words)
 means_none w word words refused = λ p. refused (first_empty _ _ (sym (fault_cons w word words) ∙ p.turns))
 

@@ -1,4 +1,4 @@
--- Each word has one of the looks.
+-- Each argument has one of the looks.
 use Rattle.std.proofs.Common.{◌≡◌, ◌∙◌, refl, sym, ap, subst, ℕ, Bool, [], ◌∷◌, Option, Some, None, true, false, cond, ◌==◌, ◌||◌, ◌&&◌, not, codes}
 use Rattle.std.proofs.lemmas.Bool.{eqb-true}
 use Rattle.std.proofs.lemmas.Str.{IsUtf8-past_char, encodes-chars}
@@ -10,7 +10,7 @@ use Rattle.clap.specs.Words.{Text}
 use Rattle.command_words.specs.Words.{Place, Archive, Name, Cell, after, option_with_value}
 use Rattle.command_words.proofs.Looks.{Look, dashes, long, option_long, plain, short}
 
--- the option of a word, by whether its first byte is `-`
+-- the option of an argument, by whether its first byte is `-`
 abbrev option_by : Bool → Text → Option (Place × Option Text)
 option_by q bs =
     cond (q && bytes_eq bs (codes "-archive")) (Some (Archive, None))
@@ -18,7 +18,7 @@ option_by q bs =
     (cond (q && bytes_eq bs (codes "-cell")) (Some (Cell, None))
     (option_with_value (cond q (after (codes "-archive=") bs) None) (cond q (after (codes "-name=") bs) None) (cond q (after (codes "-cell=") bs) None))))
 
--- and of a word that begins with `-`, by whether its second is
+-- and of an argument that begins with `-`, by whether its second is
 abbrev option_second : Bool → Text → Option (Place × Option Text)
 option_second q bs =
     cond (q && bytes_eq bs (codes "archive")) (Some (Archive, None))

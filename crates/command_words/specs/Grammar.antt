@@ -1,12 +1,12 @@
--- The form of the words that clap is given.
+-- The form of the arguments that clap is given.
 use Rattle.std.specs.Prelude.{Some, true, codes}
 use Rattle.clap.specs.Words.{App, Rule, new_app, new_rule, with_rule}
 
--- the first positional word
+-- the first positional argument
 abbrev pub command_rule : Rule
 command_rule = new_rule (codes "command")
 
--- the second positional word
+-- the second positional argument
 abbrev pub second_rule : Rule
 second_rule = new_rule (codes "second")
 
@@ -22,7 +22,7 @@ name_rule = record (new_rule (codes "name")) { long = Some (codes "name") }
 abbrev pub cell_rule : Rule
 cell_rule = record (new_rule (codes "cell")) { long = Some (codes "cell") }
 
--- no name stands before the words, and clap adds no option of its own for help and version
+-- no name stands before the arguments, and clap adds no option of its own for help and version
 abbrev pub bare_grammar : App
 bare_grammar = record (new_app (codes "net_tool")) {
   top = record (new_app (codes "net_tool")).top {
@@ -32,7 +32,7 @@ bare_grammar = record (new_app (codes "net_tool")) {
   };
 }
 
--- two positional words and three options
+-- two positional arguments and three options
 abbrev pub grammar : App
 grammar =
     with_rule

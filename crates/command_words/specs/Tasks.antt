@@ -14,7 +14,7 @@ use Rattle.workload.specs.Workload.{most_nets}
 
 -- what is to be done
 pub data Task : Type 0 where
-  -- to tell of each block of a file what the command asks, with the archive where one is named
+  -- to report on each block of a file what the command asks, with the archive where one is named
   Tell : Command → Text → Option Text → Task
   -- to add the nets of a file to the archive where one is named, the first under this name
   Add : Text → Option Text → Option Text → Task
@@ -57,7 +57,7 @@ archive_named (Verify file) = None
 archive_named (Workload count) = None
 archive_named (Cover file cell) = None
 
--- the command that a word names
+-- the command that an argument names
 abbrev pub verb_named : Text → Option Verb
 verb_named word =
     if bytes_eq word (codes "check") then Some (verb.Tell Check) else
@@ -74,13 +74,13 @@ verb_named word =
     (if bytes_eq word (codes "workload") then Some verb.Workload else
     (if bytes_eq word (codes "cover") then Some verb.Cover else None))))))))))))
 
--- the word stands, and is empty
+-- the argument stands, and is empty
 abbrev pub is_empty_word : Option Text → Bool
 is_empty_word None = false
 is_empty_word (Some []) = true
 is_empty_word (Some (b ∷ bytes)) = false
 
--- some word or value that is said is empty
+-- some argument or value that is said is empty
 abbrev pub has_empty_word : Said → Bool
 has_empty_word said =
     if is_empty_word said.command then true else
@@ -88,7 +88,7 @@ has_empty_word said =
     (if is_empty_word said.archive then true else
     (if is_empty_word said.name then true else is_empty_word said.cell)))
 
--- the file is the second positional word, and `-`, the standard input, where that is absent
+-- the file is the second positional argument, and `-`, the standard input, where that is absent
 abbrev pub file_of : Said → Text
 file_of said = unwrap_or said.second (codes "-")
 
@@ -97,7 +97,7 @@ abbrev pub are_apart : Text → Option Text → Bool
 are_apart file None = true
 are_apart file (Some archive) = if bytes_eq file (codes "-") then not (bytes_eq archive (codes "-")) else true
 
--- identify takes an archive where one is named, and the other commands that tell of each block take none
+-- identify takes an archive where one is named, and the other commands that report on each block take none
 abbrev pub may_name_archive : Command → Option Text → Bool
 may_name_archive Identify archive = true
 may_name_archive Check archive = not (is_some archive)
@@ -132,11 +132,11 @@ union_in said = if is_some said.name then None else union_with (file_of said) sa
 abbrev pub sole_file : Said → Option Text
 sole_file said = if is_some said.archive then None else (if is_some said.name then None else Some (file_of said))
 
--- the word spells n in decimal, and n is from 1 to 4,096
+-- the argument spells n in decimal, and n is from 1 to 4,096
 abbrev pub is_count : Text → ℕ → Bool
 is_count word n = bytes_eq word (decimal n) && (nat_lt 0 n && nat_lt n (most_nets + 1))
 
--- the number that a word spells so
+-- the number that an argument spells so
 abbrev pub count_of : Text → Option ℕ
 count_of word = if is_count word (digits_value 10 word) then Some (digits_value 10 word) else None
 
@@ -179,16 +179,16 @@ task_with verb.Cover said = cover_in said
 abbrev pub task_for : Verb → Said → Option Task
 task_for v said = if may_give_cell v said.cell then task_with v said else None
 
--- the task of the first positional word, where that names a command
+-- the task of the first positional argument, where that names a command
 abbrev pub task_named : Option Text → Said → Option Task
 task_named None said = None
 task_named (Some word) said = option_and_then (λ v. task_for v said) (verb_named word)
 
--- the task that is said, where no word of it is empty
+-- the task that is said, where no argument of it is empty
 abbrev pub task_in : Said → Option Task
 task_in said = if has_empty_word said then None else task_named said.command said
 
--- the task that the words ask for, where they have the form
+-- the task that the arguments ask for, where they have the form
 abbrev pub task_of : List Text → Option Task
 task_of words = option_and_then task_in (said_by words)
 

@@ -1,18 +1,18 @@
--- What the words of a command line say. The first `--` ends the options. Before it an option is `--archive`,
--- `--name` or `--cell` with the next word as its value, or one word, as `--archive=V`. All others are positional.
+-- What the arguments of a command line say. The first `--` ends the options. Before it an option is `--archive`,
+-- `--name` or `--cell` with the next argument as its value, or one argument, as `--archive=V`. All others are positional.
 use Rattle.std.specs.Prelude.{ℕ, Bool, false, not, ◌==◌, ◌||◌, List, [], ◌∷◌, Option, Some, None, String, string_bytes, map, is_some, option_map, option_and_then, if◌then◌else◌, codes}
 use Rattle.std.specs.Str.{bytes_eq}
 use Rattle.std.specs.declared.alloc.Global.{Global}
 
--- the bytes of a word
+-- the bytes of an argument
 abbrev pub Text : Type 0
 Text = List ℕ
 
--- the bytes of each word
+-- the bytes of each argument
 abbrev pub texts_of : List (String Global) → List Text
 texts_of words = map string_bytes words
 
--- what a word may be: the command, the word after it, or the value of an option
+-- what an argument may be: the command, the argument after it, or the value of an option
 pub data Place : Type 0 where
   Command : Place
   Second : Place
@@ -20,7 +20,7 @@ pub data Place : Type 0 where
   Name : Place
   Cell : Place
 
--- what the words say at each place
+-- what the arguments say at each place
 pub record Said : Type 0 where
   pub command : Option Text
   pub second : Option Text
@@ -40,7 +40,7 @@ at said Archive = said.archive
 at said Name = said.name
 at said Cell = said.cell
 
--- this word is said at this place
+-- this argument is said at this place
 abbrev pub put : Place → Text → Said → Said
 put Command word said = record said { command = Some word }
 put Second word said = record said { second = Some word }
@@ -52,20 +52,20 @@ put Cell word said = record said { cell = Some word }
 abbrev pub fill : Place → Text → Said → Option Said
 fill place word said = if is_some (at said place) then None else Some (put place word said)
 
--- a positional word is the command, or the second where there is a command
+-- a positional argument is the command, or the second where there is a command
 abbrev pub fill_next : Text → Said → Option Said
 fill_next word said = if is_some said.command then fill Second word said else fill Command word said
 
--- the word begins with `-`
+-- the argument begins with `-`
 abbrev pub begins_with_dash : Text → Bool
 begins_with_dash [] = false
 begins_with_dash (b ∷ bytes) = b == 45
 
--- the word is `-`, or does not begin with `-`
+-- the argument is `-`, or does not begin with `-`
 abbrev pub is_plain : Text → Bool
 is_plain word = not (begins_with_dash word) || bytes_eq word (codes "-")
 
--- what follows these first bytes in a word
+-- what follows these first bytes in an argument
 abbrev pub after : Text → Text → Option Text
 after [] word = Some word
 after (b ∷ bs) [] = None
@@ -78,14 +78,14 @@ option_with_value None (Some value) cell = Some (Name, Some value)
 option_with_value None None (Some value) = Some (Cell, Some value)
 option_with_value None None None = None
 
--- the option that a word spells, and its value where that stands after `=`
+-- the option that an argument spells, and its value where that stands after `=`
 abbrev pub option_word : Text → Option (Place × Option Text)
 option_word word = if bytes_eq word (codes "--archive") then Some (Archive, None) else
     (if bytes_eq word (codes "--name") then Some (Name, None) else
     (if bytes_eq word (codes "--cell") then Some (Cell, None) else
     option_with_value (after (codes "--archive=") word) (after (codes "--name=") word) (after (codes "--cell=") word)))
 
--- what is said, and the option whose value the next word has to be
+-- what is said, and the option whose value the next argument has to be
 abbrev pub Reading : Type 0
 Reading = Said × Option Place
 
@@ -93,29 +93,29 @@ Reading = Said × Option Place
 abbrev pub without_wait : Said → Reading
 without_wait said = (said, None)
 
--- one word before `--`, where no option waits: an option, or a positional word
+-- one argument before `--`, where no option waits: an option, or a positional argument
 abbrev pub option_step : Said → Text → Option (Place × Option Text) → Option Reading
 option_step said word (Some (place, None)) = Some (said, Some place)
 option_step said word (Some (place, Some value)) = option_map without_wait (fill place value said)
 option_step said word None = if is_plain word then option_map without_wait (fill_next word said) else None
 
--- one word before `--`
+-- one argument before `--`
 abbrev pub step : Said → Option Place → Text → Option Reading
 step said None word = option_step said word (option_word word)
 step said (Some place) word = if is_plain word then option_map without_wait (fill place word said) else None
 
--- words that are all positional
+-- arguments that are all positional
 abbrev pub read_positional : Said → List Text → Option Said
 read_positional said [] = Some said
 read_positional said (word ∷ words) = option_and_then (λ s. read_positional s words) (fill_next word said)
 
--- what the words say after what was said, where each has its place
+-- what the arguments say after what was said, where each has its place
 abbrev pub read : Said → Option Place → List Text → Option Said
 read said wanted [] = if is_some wanted then None else Some said
 read said wanted (word ∷ words) =
     if bytes_eq word (codes "--") then (if is_some wanted then None else read_positional said words)
     else option_and_then (λ r. read r.0 r.1 words) (step said wanted word)
 
--- what the words say, where each has its place
+-- what the arguments say, where each has its place
 abbrev pub said_by : List Text → Option Said
 said_by words = read nothing None words

@@ -1,4 +1,4 @@
-// Numbers of nets, as words.
+// Numbers of nets, as arguments.
 ghost use Rattle.std.specs.Prelude.{◌≡◌};
 ghost use Rattle.std.specs.Fmt.{decimal};
 ghost use Rattle.std.specs.Str.{bytes_eq};
@@ -20,7 +20,8 @@ fn is_count(word: &str, n: u32) -> bool
     spells(word, n) && 0 < n && n <= MOST_NETS
 }
 
-/// The number that the word spells in decimal, without a sign or a leading zero, from 1 to 4,096.
+/// The number that the argument spells in decimal, without a sign or a leading zero, from 1 to
+/// 4,096.
 pub(crate) fn count_of(word: &str) -> Option<u32>
     ensures { result ≡ count_of word.now }
 {

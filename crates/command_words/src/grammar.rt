@@ -1,4 +1,4 @@
-// The form of the words that clap is given.
+// The form of the arguments that clap is given.
 ghost use Rattle.std.specs.Prelude.{◌≡◌, IfOk};
 ghost use Rattle.clap.specs.Words.{app_of};
 ghost use Rattle.command_words.specs.Grammar.{bare_grammar, grammar};
@@ -6,7 +6,7 @@ ghost use Rattle.command_words.specs.Grammar.{bare_grammar, grammar};
 use clap::{Arg, Command};
 use std::alloc::{AllocError as NoMemory, Global};
 
-// No name stands before the words, and clap adds no option of its own for help and version.
+// No name stands before the arguments, and clap adds no option of its own for help and version.
 fn bare_grammar<'a>(alloc: Global) -> Command<'a>
     ensures { app_of result ≡ bare_grammar }
 {
@@ -16,7 +16,7 @@ fn bare_grammar<'a>(alloc: Global) -> Command<'a>
         .disable_version_flag(true)
 }
 
-/// Two positional words and three options, each of which may be absent.
+/// Two positional arguments and three options, each of which may be absent.
 pub(crate) fn grammar<'a>(alloc: Global) -> Result<Command<'a>, NoMemory>
     ensures { IfOk result (λ c. app_of c ≡ grammar) }
 {

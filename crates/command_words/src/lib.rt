@@ -1,4 +1,4 @@
-//! The words of a command line: which task they ask for.
+//! The arguments of a command line: which task they ask for.
 #![tactic(auto)]
 
 mod counts;

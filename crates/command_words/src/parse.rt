@@ -1,4 +1,4 @@
-// The words, read by clap.
+// The arguments, read by clap.
 ghost use Rattle.std.specs.Prelude.{◌≡◌, ◌≢◌, IfOk, OnOk, option_map};
 ghost use Rattle.clap.specs.Words.{found_of, kind_of};
 ghost use Rattle.command_words.specs.Words.{said_by, texts_of};
@@ -9,7 +9,7 @@ use clap::error::ErrorKind;
 use clap::{ArgMatches, Error};
 use std::alloc::{AllocError as NoMemory, Global};
 
-/// What the words say: a command, a word after it, and the values of three options.
+/// What the arguments say: a command, an argument after it, and the values of three options.
 #[derive(Clone, Copy, Debug, Drop)]
 pub(crate) struct Said<'a> {
     pub(crate) command: Option<&'a str>,
@@ -32,7 +32,7 @@ fn said_in<'a>(matches: &ArgMatches<'a>) -> Said<'a>
     }
 }
 
-// Want of memory is an error; words that clap refuses are none.
+// Running out of memory is an error; arguments that clap refuses are none.
 fn refuse(error: Error) -> Result<(), NoMemory>
     ensures { OnOk result (kind_of error ≢ ErrorKind.OutOfMemory) }
 {
@@ -42,7 +42,7 @@ fn refuse(error: Error) -> Result<(), NoMemory>
     }
 }
 
-/// What the words say, where each has its place.
+/// What the arguments say, where each has its place.
 pub(crate) fn read_words<'a>(
     alloc: Global,
     words: &'a [String],

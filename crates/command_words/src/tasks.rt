@@ -15,7 +15,8 @@ use std::alloc::{AllocError as NoMemory, Global};
 /// What is to be done, and the names of the files that it reads. `-` is the standard input.
 #[derive(Clone, Copy, Debug, Drop)]
 pub enum Task<'a> {
-    /// To tell of each block of a file what the command asks; only `identify` may name an archive.
+    /// To report on each block of a file what the command asks; only `identify` may name an
+    /// archive.
     Tell {
         command: Command,
         file: &'a str,
@@ -90,7 +91,7 @@ impl<'a> Task<'a> {
     }
 }
 
-/// The command that a word names.
+/// The command that an argument names.
 #[derive(Clone, Copy, Debug, PartialEq, Eq)]
 pub(crate) enum Verb {
     Tell(Command),
@@ -138,7 +139,7 @@ fn verb_named(word: &str) -> Option<Verb>
     }
 }
 
-// Whether the word stands, and is empty.
+// Whether the argument stands, and is empty.
 fn is_empty_word(word: Option<&str>) -> bool
     ensures { result ≡ is_empty_word (option_copied word.entry) }
 {
@@ -155,7 +156,7 @@ fn has_empty_word(said: &Said<'_>) -> bool
         || is_empty_word(said.cell)
 }
 
-// The file is the second positional word, and standard input where that is absent.
+// The file is the second positional argument, and standard input where that is absent.
 fn file_of<'a>(said: &Said<'a>) -> &'a str
     ensures { result.now ≡ file_of (said_view said.now) }
 {
@@ -270,7 +271,7 @@ fn sole_file<'a>(said: &Said<'a>) -> Option<&'a str>
     }
 }
 
-// The cell that a word spells, where it is there.
+// The cell that an argument spells, where it is there.
 fn cell_in(alloc: Global, word: Option<&str>) -> Result<Option<Cell>, NoMemory>
     ensures { IfOk result (λ cell. cell ≡ option_and_then cell_of (option_copied word.entry)) }
 {
@@ -340,7 +341,7 @@ fn task_for<'a>(alloc: Global, verb: Verb, said: &Said<'a>) -> Result<Option<Tas
     }
 }
 
-// The task that is said, where no word of it is empty.
+// The task that is said, where no argument of it is empty.
 fn task_in<'a>(alloc: Global, said: &Said<'a>) -> Result<Option<Task<'a>>, NoMemory>
     ensures { IfOk result (λ task. option_map task_view task ≡ task_in (said_view said.now)) }
 {
@@ -356,7 +357,7 @@ fn task_in<'a>(alloc: Global, said: &Said<'a>) -> Result<Option<Task<'a>>, NoMem
     }
 }
 
-/// The task that the words ask for. `Ok(None)` comes exactly where they have no form, and `Err`
+/// The task that the arguments ask for. `Ok(None)` comes exactly where they have no form, and `Err`
 /// only where memory is refused.
 pub fn task_of<'a>(alloc: Global, words: &'a [String]) -> Result<Option<Task<'a>>, NoMemory>
     ensures task { IfOk result (λ task.

@@ -1,4 +1,4 @@
--- What is told of the components of a net is one.
+-- What is reported of the components of a net is one.
 use Rattle.std.proofs.Common.{◌≡◌, ◌≢◌, ◌∙◌, ◌&&◌, inl, inr, ℕ, ◌+◌, suc, Bool, List, [], ◌∷◌, ◌++◌, length, map, get_or, drop, All, Result, Ok, Err, refl, sym, ap, subst}
 use Rattle.std.specs.List.{list_all}
 use Rattle.std.proofs.lemmas.List.Elements.{All-head, All-tail}
@@ -22,12 +22,12 @@ use Rattle.component_report.specs.Laws.{OneTelling}
 use Rattle.component_report.specs.Texts.{answer_text, count_line, names_of, part_fault_text, part_line, parts_from}
 use Rattle.component_report.specs.Told.{IsAnswerOf, has_key}
 
--- a graph with its key has no refusal that is told
+-- a graph with its key has no refusal that is reported
 keyed_not_refused : (G : Graph) (n : KeyedNet) (r : Refusal) → n.placed.graph ≡ G → IsKeyed n → IsTrueOf G r → r ≡ NoMemory
 keyed_not_refused G n r e k h = certain_is_not_refused n.placed.graph r k.is_graph (keyed_is_certain n k) (subst (λ F. IsTrueOf F r) (sym e) h)
 
 module _ (names : List (List ℕ)) where
-  -- the answers to two parts that look alike tell the same
+  -- the answers to two parts that look alike are the same
   one_answer : (p q : Part) (a b : Result Net Refusal) → view_of p ≡ view_of q → IsGraph (graph_view p.graph) → IsAnswerOf p a → IsAnswerOf q b
       → (has_key a ≡ has_key b) × (answer_text names p a ≡ answer_text names q b)
   one_answer p q (Ok m) (Ok n) e g h k =
@@ -77,7 +77,7 @@ graphs G g ps h k d l =
     let part = h.each k d l in
     part_graph G g (root_of p) part.T part.stairs (vertex_at p.vertices) (graph_view p.graph) part.part
 
--- what is told of a graph is one
+-- what is reported of a graph is one
 pub one_telling : OneTelling
 one_telling G names x y s t g (inl a) (inl b) =
     let r = alike names 1 a.ps b.ps a.answers b.answers (answer_is_one.parts G g a.ps b.ps a.are_parts b.are_parts) (graphs G g a.ps a.are_parts) a.are_answers b.are_answers in

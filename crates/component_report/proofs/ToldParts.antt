@@ -1,4 +1,4 @@
--- What is told of parts, and of one part more.
+-- What is reported of parts, and of one part more.
 use Rattle.std.proofs.Common.{◌≡◌, ◌&&◌, ℕ, suc, ◌+◌, ◌<◌, Bool, true, List, [], ◌∷◌, ◌++◌, length, take, get_or, Result, refl, sym, ap, subst, ◌∙◌, arith}
 use Rattle.std.proofs.lemmas.List.{append_assoc, append-nil, length-take-le}
 use Rattle.std.specs.List.{list_all}
@@ -29,12 +29,12 @@ parts_last names number (q ∷ ps) (a ∷ answers) p answer h =
     next : (n k : ℕ) → n + 1 + k ≡ n + suc k
     next n k = omega arith
 
--- the first i parts are told, and it is the turn of the next number
+-- the first i parts are reported, and it is the turn of the next number
 pub record AreToldTo (names : List (List ℕ)) (ps : List Part) (i number : ℕ) (accepted : Bool) (old text : List ℕ) : Type 0 where
   pub number_is : number ≡ 1 + i
   pub told : ArePartsToldFrom names 1 (take i ps) accepted old text
 
--- at first none is told
+-- at first none is reported
 pub told_none : (names : List (List ℕ)) (ps : List Part) (text : List ℕ) → AreToldTo names ps 0 1 true text text
 told_none names ps text = record { number_is = refl; told = record { answers = []; are_answers = tt; all = refl; text = sym (append-nil text) } }
 
@@ -42,7 +42,7 @@ told_none names ps text = record { number_is = refl; told = record { answers = [
 accepted_last : (answers : List (Result Net Refusal)) (answer : Result Net Refusal) → list_all has_key (answers ++ answer ∷ []) ≡ (list_all has_key answers && has_key answer)
 accepted_last answers answer = list_all-append has_key answers (answer ∷ []) ∙ ap (λ (b : Bool). list_all has_key answers && b) (and-true (has_key answer))
 
--- the next part is told
+-- the next part is reported
 pub told_next : (names : List (List ℕ)) (ps : List Part) (i number : ℕ) (accepted this : Bool) (old text new : List ℕ) (p : Part) → i < length ps → p ≡ get_or ps i p
     → AreToldTo names ps i number accepted old text → IsPartTold names number p this text new → AreToldTo names ps (i + 1) (number + 1) (accepted && this) old new
 told_next names ps i number accepted this old text new p l is h t = record {

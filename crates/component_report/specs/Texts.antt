@@ -1,4 +1,4 @@
--- The texts that are told of the components of a net.
+-- The texts that are reported of the components of a net.
 use Rattle.std.specs.Prelude.{ℕ, ℤ, ◌+◌, ◌-◌, List, [], ◌∷◌, ◌++◌, length, map, slice_index_or, Result, Ok, Err, codes}
 use Rattle.std.specs.Fmt.{signed_decimal}
 use Rattle.integers.specs.Vectors.{Vector, parts}
@@ -25,13 +25,13 @@ edge_text names dim u v s = codes " u=" ++ vertex_text names u ++ codes " v=" ++
 abbrev pub value_text : ℕ → ℤ → List ℕ
 value_text c value = field_text (codes " c=") c ++ codes " value=" ++ signed_decimal value
 
--- the number and the name of a fault; want of memory has none
+-- the number and the name of a fault; running out of memory has none
 abbrev pub fault_name : PartFault → List ℕ
 fault_name (LowRank u c) = codes "1 LowRank"
 fault_name (WideShift u v s c value) = codes "2 WideShift"
 fault_name NoMemory = []
 
--- what is told after the name of a fault
+-- what is reported after the name of a fault
 abbrev pub fault_details : List (List ℕ) → ℕ → PartFault → List ℕ
 fault_details names dim (LowRank u c) = low_rank_text names dim u c
 fault_details names dim (WideShift u v s c value) = edge_text names dim u v s ++ value_text c value

@@ -1,4 +1,4 @@
--- What is told of the components of a net, and whether it is accepted.
+-- What is reported of the components of a net, and whether it is accepted.
 use Rattle.std.specs.Prelude.{◌≡◌, ◌≢◌, ◌⊎◌, ◌≤◌, ℕ, length, All, Bool, true, false, List, ◌++◌, Result, Ok, Err}
 use Rattle.std.specs.List.{list_all}
 use Rattle.integers.proofs.lists.Matched.{AreMatched}
@@ -30,21 +30,21 @@ pub record IsNamedPart (names : List (List ℕ)) (p : Part) : Type 0 where
   pub few : length p.vertices ≤ most_vertices
   pub is_graph : IsGraph (graph_view p.graph)
 
--- what is told of the part with this number, put last in a text, and whether it has a key
+-- what is reported of the part with this number, put last in a text, and whether it has a key
 pub record IsPartTold (names : List (List ℕ)) (number : ℕ) (p : Part) (keyed : Bool) (old new : List ℕ) : Type 0 where
   pub answer : Result Net Refusal
   pub is_answer : IsAnswerOf p answer
   pub keyed_is : keyed ≡ has_key answer
   pub text : new ≡ old ++ part_text names number p answer
 
--- what is told of these parts, numbered from this number on, and whether each has a key
+-- what is reported of these parts, numbered from this number on, and whether each has a key
 pub record ArePartsToldFrom (names : List (List ℕ)) (number : ℕ) (ps : List Part) (accepted : Bool) (old new : List ℕ) : Type 0 where
   pub answers : List (Result Net Refusal)
   pub are_answers : AreMatched IsAnswerOf ps answers
   pub all : accepted ≡ list_all has_key answers
   pub text : new ≡ old ++ parts_from names number ps answers
 
--- all parts of the net are told, each with its answer; the net is accepted where each has a key
+-- all parts of the net are reported, each with its answer; the net is accepted where each has a key
 pub record ArePartsTold (G : Graph) (names : List (List ℕ)) (accepted : Bool) (lines : List ℕ) : Type 0 where
   pub ps : List Part
   pub are_parts : AreParts G ps
@@ -53,7 +53,7 @@ pub record ArePartsTold (G : Graph) (names : List (List ℕ)) (accepted : Bool) 
   pub all : accepted ≡ list_all has_key answers
   pub text : lines ≡ parts_text names ps answers
 
--- the fault of the graph is told; the net is not accepted
+-- the fault of the graph is reported; the net is not accepted
 pub record IsFaultTold (G : Graph) (names : List (List ℕ)) (accepted : Bool) (lines : List ℕ) : Type 0 where
   pub told : PartFault
   pub is_fault : IsPartFault G told
@@ -61,6 +61,6 @@ pub record IsFaultTold (G : Graph) (names : List (List ℕ)) (accepted : Bool) (
   pub refused : accepted ≡ false
   pub text : lines ≡ part_fault_text names G.dimension told
 
--- these lines are told of the components of G, whose vertices have these names, and so it is accepted or not
+-- these lines are reported of the components of G, whose vertices have these names, and so it is accepted or not
 abbrev pub AreComponentsTold : Graph → List (List ℕ) → Bool → List ℕ → Type 0
 AreComponentsTold G names accepted lines = ArePartsTold G names accepted lines ⊎ IsFaultTold G names accepted lines

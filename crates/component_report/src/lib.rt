@@ -1,4 +1,5 @@
-//! What is told of the components of a net: how many there are, and of each its copies and its key.
+//! What is reported of the components of a net: how many there are, and of each its copies and its
+//! key.
 #![tactic(auto)]
 
 mod faults;

@@ -1,4 +1,4 @@
-// The lines that are told of the components of a net.
+// The lines that are reported of the components of a net.
 ghost use Rattle.std.specs.Prelude.{◌≡◌, ◌≢◌, ◌≤◌, ◌++◌, length, All, IfOk, OnOk, true};
 ghost use Rattle.periodic_net.specs.Graph.{IsGraph};
 ghost use Rattle.quotient_graph.specs.AnyGraphs.{graph_view};
@@ -69,14 +69,14 @@ fn push_refusal(
     push_refused(text, &own, refusal)
 }
 
-// Whether a refusal is told: want of memory is not.
+// Whether a refusal is reported: running out of memory is not.
 fn is_told(refusal: &Refusal) -> bool
     ensures { result ≡ true → refusal.now ≢ Refusal.NoMemory }
 {
     !matches!(refusal, Refusal::NoMemory)
 }
 
-// Tells of a part: its line, and its key or why it is refused. Answers whether it has a key.
+// Reports on a part: its line, and its key or why it is refused. Answers whether it has a key.
 fn tell_part(
     text: &mut Vec<u8>,
     names: &Names<'_>,
@@ -103,7 +103,7 @@ fn tell_part(
     }
 }
 
-// Tells of each part. Answers whether all have a key.
+// Reports on each part. Answers whether all have a key.
 fn push_told(text: &mut Vec<u8>, names: &Names<'_>, parts: &[Part]) -> Result<bool, NoMemory>
     requires { All (IsNamedPart names.now) parts.now }
     ensures { IfOk result (λ accepted. ArePartsToldFrom names.now 1 parts.now accepted
@@ -136,7 +136,7 @@ fn dimension_of(g: &AnyGraph) -> u8
     }
 }
 
-// What is told of the parts of a net.
+// What is reported of the parts of a net.
 fn tell_parts(
     alloc: Global,
     names: &Names<'_>,
@@ -158,14 +158,14 @@ fn tell_parts(
     })
 }
 
-// Whether a fault is told: want of memory is not.
+// Whether a fault is reported: running out of memory is not.
 fn is_told_fault(fault: &PartFault) -> bool
     ensures { result ≡ true → fault.now ≢ no_memory }
 {
     !matches!(fault, PartFault::NoMemory)
 }
 
-// What is told of a net that is not divided into parts.
+// What is reported of a net that is not divided into parts.
 fn tell_fault(
     alloc: Global,
     names: &Names<'_>,
@@ -188,7 +188,7 @@ fn tell_fault(
     })
 }
 
-/// What is told of the components of a net, whose vertices have these names.
+/// What is reported of the components of a net, whose vertices have these names.
 pub fn tell_components(
     alloc: Global,
     names: &Names<'_>,

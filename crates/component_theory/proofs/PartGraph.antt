@@ -90,7 +90,7 @@ module _ (G : Graph) (g : IsGraph G) (a : ℕ) (T : ℕ → Vector) (S : Stairs)
   edge : (e f : Arc) → IsEdge G e → IsWritten G.dimension H.vertices T (stair_base S) at e f → IsEdge H f
   edge e f h w = record { from = w.from_number; to = w.to_number; shift = λ q. w.dimension (sym p.dimension ∙ q); spelling = spelling e f h w }
 
-  -- what is written tells the edge
+  -- what is written determines the edge
   once : (d e f : Arc) → IsWritten G.dimension H.vertices T (stair_base S) at d f → IsWritten G.dimension H.vertices T (stair_base S) at e f → d ≡ e
   once d e f w v =
       sym (lifted_is G.dimension H.vertices (InComponent G a) T (stair_base S) at d f w)

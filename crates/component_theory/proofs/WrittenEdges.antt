@@ -41,7 +41,7 @@ module _ (K : ℕ → Type 0) (W : Arc → Arc → Type 0) where
   edge_written (d ∷ es) (f ∷ fs) (inr h) e (inl s) k = (f, inl refl, subst (λ x. W x f) s h.1)
   edge_written (d ∷ es) (f ∷ fs) (inr h) e (inr i) k = let w = edge_written es fs h.2 e i k in (w.0, inr w.1, w.2)
 
-  -- where what is written tells the edge, different edges are written differently
+  -- where what is written determines the edge, different edges are written differently
   pub written_apart : ((d e f : Arc) → W d f → W e f → d ≡ e) → (es fs : List Arc) → AreWritten K W es fs → AreApart es → AreApart fs
   written_apart once es [] w h = tt
   written_apart once [] (g ∷ fs) w h = elim w [ ]

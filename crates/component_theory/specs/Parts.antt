@@ -33,7 +33,7 @@ AreWritten K W [] (f ∷ fs) = ⊥
 AreWritten K W (e ∷ es) [] = (¬ K e.from) × AreWritten K W es []
 AreWritten K W (e ∷ es) (f ∷ fs) = ((¬ K e.from) × AreWritten K W es (f ∷ fs)) ⊎ (K e.from × W e f × AreWritten K W es fs)
 
--- H is the graph of the component of a: at tells its vertices in rising order, T a walk to each, and S the lattice of the
+-- H is the graph of the component of a: at lists its vertices in rising order, T a walk to each, and S the lattice of the
 -- closed walks
 pub record IsPart (G : Graph) (a : ℕ) (T : ℕ → Vector) (S : Stairs) (at : ℕ → ℕ) (H : Graph) : Type 0 where
   pub dimension : H.dimension ≡ G.dimension

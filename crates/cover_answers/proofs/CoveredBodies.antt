@@ -1,4 +1,4 @@
--- What is told of the graph of a block, and what is put last.
+-- What is reported of the graph of a block, and what is put last.
 use Rattle.std.proofs.Common.{◌≡◌, ◌≢◌, inr, ℕ, false, List, Result, Ok, Err, refl, sym, subst, ◌∙◌}
 use Rattle.std.specs.Prelude.{IfOk, OnOk, Option}
 use Rattle.std.proofs.lemmas.Bool.{false≢true}

@@ -34,12 +34,12 @@ module _ (cell : CellView) where
       let moved = subst (λ K. IsCoverOn cell K D) (sym e) d in
       one_cover G C D cell.rows c.cover c.rising moved.cover moved.rising
 
-  -- and a graph that is covered has no fault that is told
+  -- and a graph that is covered has no fault that is reported
   cover_or_fault : (raw : RawView) (G H C : Graph) (x : Bool) (line : List ℕ) → IsGraphOf raw G → IsGraphOf raw H → IsCoverOn cell G C → ¬ IsFaultTold cell H x line
   cover_or_fault raw G H C x line g h c f =
       f.told (cover_is_not_refused G cell f.fault g.is_graph c.coverable (subst (λ K. IsCoverFault K cell f.fault) (same_graph raw H G h g) f.is_fault))
 
-  -- what is told of the graph of a block is one
+  -- what is reported of the graph of a block is one
   one_line : (raw : RawView) (G H : Graph) (x y : Bool) (s t : List ℕ) → IsGraphOf raw G → IsGraphOf raw H
       → IsCoverTold cell G x s ⊎ IsFaultTold cell G x s → IsCoverTold cell H y t ⊎ IsFaultTold cell H y t → (x ≡ y) × (s ≡ t)
   one_line raw G H x y s t g h (inl a) (inl b) =
@@ -52,7 +52,7 @@ module _ (cell : CellView) where
       let fault = one_cover_fault G cell a.fault b.fault g.is_graph a.written a.is_fault moved a.told b.told in
       (a.refused ∙ sym b.refused, a.line_is ∙ ap refused_text fault ∙ sym b.line_is)
 
-  -- two bodies have one text, and tell alike whether the block is covered
+  -- two bodies have one text, and say alike whether the block is covered
   record SpeakAlike (a b : OutcomeBody) : Type 0 where
     text : body_text a ≡ body_text b
     covered : is_covered_body a ≡ is_covered_body b
@@ -63,7 +63,7 @@ module _ (cell : CellView) where
       let line = one_line raw a.graph b.graph x y xs ys a.read b.read a.line_told b.line_told in
       record { text = λ i. size_text (size i) ++ line.1 i; covered = line.0 }
 
-  -- what is told of what a block holds is one
+  -- what is reported of what a block holds is one
   one_body : (body : BodyView) (a b : OutcomeBody) → IsBodyOf cell body a → IsBodyOf cell body b → SpeakAlike a b
   one_body (Other token) (Unsupported t) (Unsupported u) h k = record { text = ap unsupported_text (h ∙ sym k); covered = refl }
   one_body (Other token) (Unsupported t) b h k = absurd k
@@ -112,7 +112,7 @@ module _ (cell : CellView) where
       let rest = one_covers_text bs Cs Ds h.1 k.1 in
       λ i. graph_text b.name (first i) ++ rest i
 
-  -- what is told of a graph that is covered tells so
+  -- what is reported of a graph that is covered says so
   told_covered : (body : BodyView) (C : Graph) (told : OutcomeBody) → IsCoverOf cell body C → IsBodyOf cell body told → is_covered_body told ≡ true
   told_covered (Net raw) C (Lines s x xs) c h = by h.line_told
     where
@@ -123,7 +123,7 @@ module _ (cell : CellView) where
   told_covered (Other token) C told c h = absurd c
   told_covered (Faulty fault) C told c h = absurd c
 
-  -- so where each block is covered no outcome tells otherwise
+  -- so where each block is covered no outcome says otherwise
   all_covered : (n : ℕ) (bs : List BlockView) (Cs : List Graph) (os : List Outcome) → AreCoversOf cell bs Cs → AreOutcomesFrom cell n bs os → list_all is_covered os ≡ true
   all_covered n [] Cs [] h k = refl
   all_covered n [] Cs (o ∷ os) h k = absurd k

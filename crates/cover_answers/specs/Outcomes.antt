@@ -1,4 +1,4 @@
--- What is told of each block where some block is not covered.
+-- What is reported of each block where some block is not covered.
 use Rattle.std.specs.Prelude.{◌≡◌, ◌≢◌, ◌⊎◌, ℕ, ◌+◌, Bool, true, false, List, [], ◌∷◌, length, option_copied}
 use Rattle.periodic_net.specs.Graph.{Graph}
 use Rattle.cgd_read.specs.Views.{RawView, BodyView, Net, Other, Faulty, BlockView}
@@ -24,7 +24,7 @@ pub record IsCoverTold (cell : CellView) (G : Graph) (accepted : Bool) (line : L
   pub covered : accepted ≡ true
   pub line_is : line ≡ covered_text cover.vertices (length cover.edges)
 
--- the graph is not covered, and its line has a fault that is true; want of memory is none that is told
+-- the graph is not covered, and its line has a fault that is true; running out of memory is no such fault
 pub record IsFaultTold (cell : CellView) (G : Graph) (accepted : Bool) (line : List ℕ) : Type 0 where
   pub fault : CoverFault
   pub written : IsWritten cell
@@ -33,14 +33,14 @@ pub record IsFaultTold (cell : CellView) (G : Graph) (accepted : Bool) (line : L
   pub refused : accepted ≡ false
   pub line_is : line ≡ refused_text fault
 
--- what is told of the graph that was read: its sizes, and whether it is covered
+-- what is reported of the graph that was read: its sizes, and whether it is covered
 pub record IsNetTold (cell : CellView) (raw : RawView) (size : Size) (accepted : Bool) (line : List ℕ) : Type 0 where
   pub graph : Graph
   pub read : IsGraphOf raw graph
   pub size_is : size ≡ size_in graph raw.repeats
   pub line_told : IsCoverTold cell graph accepted line ⊎ IsFaultTold cell graph accepted line
 
--- what is told of what a block holds
+-- what is reported of what a block holds
 abbrev pub IsBodyOf : CellView → BodyView → OutcomeBody → Type 0
 IsBodyOf cell (Other token) (Unsupported told) = told.now ≡ token
 IsBodyOf cell (Faulty fault) (Malformed told) = told ≡ fault

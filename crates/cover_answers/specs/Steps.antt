@@ -1,4 +1,4 @@
--- What is told of a block, and the text of its cover, which is put last.
+-- What is reported of a block, and the text of its cover, which is put last.
 use Rattle.std.specs.Prelude.{◌≡◌, ℕ, true, List, ◌++◌, Option}
 use Rattle.periodic_net.specs.Graph.{Graph}
 use Rattle.cgd_read.specs.Views.{BodyView, BlockView}
@@ -15,7 +15,7 @@ pub record IsCoverLast (cell : CellView) (name : Option (List ℕ)) (body : Body
   pub is_cover : IsCoverOf cell body cover
   pub text : new ≡ old ++ graph_text name cover
 
--- what is told of what a block holds; where it is covered, its cover is put last
+-- what is reported of what a block holds; where it is covered, its cover is put last
 pub record IsBodyAnswered (cell : CellView) (name : Option (List ℕ)) (body : BodyView) (told : OutcomeBody) (old new : List ℕ) : Type 0 where
   pub body_told : IsBodyOf cell body told
   pub cover_last : is_covered_body told ≡ true → IsCoverLast cell name body old new

@@ -1,4 +1,4 @@
-// What is told of a block on a cell, and the text of its cover.
+// What is reported of a block on a cell, and the text of its cover.
 ghost use Rattle.std.specs.Prelude.{◌≡◌, ◌≢◌, IfOk, OnOk, length, option_copied, true, false};
 ghost use Rattle.periodic_net.specs.Graph.{IsGraph};
 ghost use Rattle.periodic_net.specs.Limits.{IsSmall};
@@ -13,7 +13,7 @@ ghost use Rattle.cover_answers.specs.Outcomes.{size_in};
 ghost use Rattle.cover_answers.specs.Steps.{IsBlockAnswered, IsBodyAnswered};
 
 use crate::NoMemory;
-use cgd_read::{Block, Body, RawGraph};
+use cgd_read::{Block, Body, RawGraph, from_raw};
 use cover_report::{push_covered, push_graph, push_refused};
 use lists::Items;
 use net_cover::{Cell, CoverFault, cover};
@@ -48,7 +48,7 @@ fn size_of(graph: &AnyGraph, repeats: u32) -> Size
     }
 }
 
-// What is told of a graph that is covered: the sizes of its cover.
+// What is reported of a graph that is covered: the sizes of its cover.
 fn covered_body<'a>(
     alloc: Global,
     size: Size,
@@ -69,7 +69,7 @@ fn covered_body<'a>(
     })
 }
 
-// What is told of a graph that is not: the fault, where it is one.
+// What is reported of a graph that is not: the fault, where it is one.
 fn refused_body<'a>(
     alloc: Global,
     size: Size,
@@ -91,7 +91,7 @@ fn refused_body<'a>(
     })
 }
 
-// What is told of a graph. Where it is covered, its cover is put last under the name.
+// What is reported of a graph. Where it is covered, its cover is put last under the name.
 fn cover_net<'a>(
     covers: &mut Vec<u8>,
     cell: &Cell,
@@ -116,7 +116,7 @@ fn cover_net<'a>(
     }
 }
 
-// What is told of what a block holds. Where it is covered, its cover is put last.
+// What is reported of what a block holds. Where it is covered, its cover is put last.
 fn cover_body<'a>(
     covers: &mut Vec<u8>,
     cell: &Cell,

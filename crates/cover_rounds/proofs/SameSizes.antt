@@ -93,7 +93,7 @@ module _ (C H : Graph) (new : ℕ → ℕ) (iso : Iso C H) (there : (w : Vertex)
         image_is = (λ t. arc (p t).over (q t).over (minus (q t).cell (p t).cell)) ∙ ap (arc y.from y.to) (minus_zero y.shift);
       }
 
-  -- an image tells its arc
+  -- an image determines its arc
   image_once : (a e : Arc) → IsInside C a → IsInside C e → image a ≡ image e → a ≡ e
   image_once a e i j same =
       let from = new_once a.from e.from i.from j.from (ap (λ (y : Arc). y.from) same) in
@@ -129,7 +129,7 @@ module _ (C H : Graph) (new : ℕ → ℕ) (iso : Iso C H) (there : (w : Vertex)
         let turn : IsInside C (reverse_of f) = arc_inside C g (reverse_of f) (arc_turned C f (edge_is_arc C f (contains_from_in C.edges f j))) in
         one_spelling f (normal f j) (subst IsNormalSpelling (image_once e (reverse_of f) (inside e i) turn p) (normal e i))
 
-    -- what is given tells the edge
+    -- what is given determines the edge
     edge_once : (e f : Arc) (y : Arc) → IsIn C.edges e → IsIn C.edges f → Gives e y → Gives f y → e ≡ f
     edge_once e f y i j (inl p) (inl q) = image_once e f (inside e i) (inside f j) (sym p ∙ q)
     edge_once e f y i j (inr p) (inr q) = image_once e f (inside e i) (inside f j) (sym (turned y (image e) p) ∙ turned y (image f) q)
@@ -157,7 +157,7 @@ module _ (C H : Graph) (new : ℕ → ℕ) (iso : Iso C H) (there : (w : Vertex)
           | inr k ↦ (reverse_of s.source, is_in C.edges (reverse_of s.source) k, inr (sym s.image_is ∙ sym (reverse_twice (image s.source))))
         ]
 
-    -- and the edge tells it
+    -- and the edge determines it
     image_told : (y z : Arc) (e : Arc) → IsIn H.edges y → IsIn H.edges z → Gives e y → Gives e z → y ≡ z
     image_told y z e i j (inl p) (inl q) = p ∙ sym q
     image_told y z e i j (inr p) (inr q) = p ∙ sym q

@@ -18,7 +18,7 @@ use Rattle.cover_texts.proofs.RowLines.{row_fields, AreRowEdges}
 abbrev old_arc : List ℕ → Arc → Arc
 old_arc order y = arc (get_or order (y.from - 1) 0) (get_or order (y.to - 1) 0) y.shift
 
--- an edge with new numbers tells the edge, up to its direction
+-- an edge with new numbers determines the edge, up to its direction
 old_edge : (order : List ℕ) (e : Arc) → IsIn order e.from → IsIn order e.to
     → (old_arc order (edge_of (renumbered order e)) ≡ e) ⊎ (old_arc order (edge_of (renumbered order e)) ≡ reverse_of e)
 old_edge order e i j =

@@ -9,7 +9,7 @@ use Rattle.sublattice.specs.Sublattices.{determinant, index_of, AreFlat}
 use Rattle.sublattice.proofs.CallerLemmas.{any_last}
 use Rattle.cover_theory.specs.Cells.{IsCell}
 
--- sums with coefficients of dimension d tell the coefficients
+-- sums with coefficients of dimension d determine the coefficients
 abbrev Once : Base → ℕ → Type 0
 Once b d = determinant d b ≢ pos 0 → (k l : Vector) → HasDimension d k → HasDimension d l → base_sum b k ≡ base_sum b l → k ≡ l
 

@@ -24,7 +24,7 @@ use Rattle.cover_theory.proofs.Places.{some_place}
 same_members : (xs ys : List Arc) → IsPermutation xs ys → (e : Arc) → Contains ys e → Contains xs e
 same_members xs ys p e c = subst (Contains xs) c.2 (All-permutation (Contains xs) xs ys p (λ k d l. (k, l, get_or_default xs k (get_or xs k d) d l)) c.0 e c.1)
 
--- quotient and remainder tell a number
+-- quotient and remainder determine a number
 told_by_parts : (s t n : ℕ) → 1 ≤ n → s / n ≡ t / n → s % n ≡ t % n → s ≡ t
 told_by_parts s t n h e f =
     let p : (s / n) * n + s % n ≡ s = omega (arith, h) in
@@ -79,7 +79,7 @@ module _ (G : Graph) (b : Base) (S : Stairs) (ls fs : List Arc) (g : IsGraph G) 
       let inside : m * n + i < length ls = subst (λ (x : ℕ). m * n + i < x) (sym a.length_is) l in
       (m * n + i, inside, get_or_default ls (m * n + i) e (arc 0 0 zero_vector) inside ∙ given_once G.dimension b S g.dimension c h q.0 i (edge_at ls (m * n + i)) e at q.3)
 
-  -- the edges of the graph are told by their places
+  -- the edges of the graph are determined by their places
   edge_once : (k m : ℕ) → k < length G.edges → m < length G.edges → edge_at G.edges k ≡ edge_at G.edges m → k ≡ m
   edge_once k m i j e = elim (cases_order k m) [
     | inl q ↦ q

@@ -1,4 +1,4 @@
--- What is given by an edge at a remainder is one, and tells the edge and the remainder.
+-- What is given by an edge at a remainder is one, and determines the edge and the remainder.
 use Rattle.std.proofs.Common.{◌≡◌, ◌⊎◌, inl, inr, ℕ, ◌≤◌, sym, ap, subst, ◌∙◌}
 use Rattle.integers.specs.Bases.{Base, base_sum}
 use Rattle.integers.specs.Vectors.{plus}
@@ -40,7 +40,7 @@ pub record HasVertices (a : Arc) : Type 0 where
   pub from : 1 ≤ a.from
   pub to : 1 ≤ a.to
 
--- a lift tells the arc and the remainder
+-- a lift determines the arc and the remainder
 lift_tells : (d : ℕ) (b : Base) (S : Stairs) (a a' : Arc) (i i' j j' : ℕ) (l : Arc) → HasVertices a → HasVertices a' → IsLiftTo d b S a i j l → IsLiftTo d b S a' i' j' l
     → (a ≡ a') × (i ≡ i')
 lift_tells d b S a a' i i' j j' l v w s t =
@@ -52,7 +52,7 @@ lift_tells d b S a a' i i' j j' l v w s t =
     (s.leads.shift ∙ ap (λ (x : ℕ). plus (remainder_with S x) (base_sum b l.shift)) o.1 ∙ sym t.leads.shift ∙ ap (λ (x : ℕ). plus (remainder_with S x) a'.shift) (sym f.1)) in
     ((λ x. arc (f.0 x) (o.0 x) (k x)), f.1)
 
--- what is given by edges in normal spelling tells the edge and the remainder
+-- what is given by edges in normal spelling determines the edge and the remainder
 pub given_tells : (d : ℕ) (b : Base) (S : Stairs) (a a' : Arc) (i i' : ℕ) (e : Arc) → HasVertices a → HasVertices a' → IsNormalSpelling a → IsNormalSpelling a'
     → IsGivenAt d b S a i e → IsGivenAt d b S a' i' e → (a ≡ a') × (i ≡ i')
 given_tells d b S a a' i i' e v w m n p q = by p.2.1 q.2.1

@@ -1,4 +1,4 @@
--- Cells with whole rows.
+-- Unit cells with whole rows: the larger cells that a net is written on.
 use Rattle.std.specs.Prelude.{◌≢◌, ℕ, pos}
 use Rattle.integers.specs.Bases.{Base}
 use Rattle.sublattice.specs.Sublattices.{determinant, AreFlat}

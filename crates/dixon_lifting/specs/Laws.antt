@@ -1,4 +1,4 @@
--- The theorem, as a statement.
+-- The theorem on a step of Dixon's lifting (Numer. Math. 40 (1982) 137-141), as a statement.
 use Rattle.std.specs.Prelude.{◌≡◌, ℕ, ◌≤◌, ◌*◌, ℤ, pos, ◌+ℤ◌, ◌-ℤ◌, ◌*ℤ◌}
 use Rattle.std.specs.Int.{IsGcd}
 use Rattle.integers.specs.Divisors.{DividesInteger}

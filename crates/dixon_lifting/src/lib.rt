@@ -1,6 +1,7 @@
 //! Solutions of mean equations modulo a number, in whole numbers: when they are the only ones, how
-//! one step makes a solution modulo the square, and what it tells of the normal placement. Each
-//! function carries a theorem as its clause, and computes nothing.
+//! one step of Dixon's lifting (Numer. Math. 40 (1982) 137-141) makes a solution modulo the square,
+//! and what it says of the normal placement. Each function carries a theorem as its clause, and
+//! computes nothing.
 #![tactic(auto)]
 
 ghost use Rattle.dixon_lifting.specs.Laws.{LiftingGivesPlacement};

@@ -1,4 +1,4 @@
--- What the faults of sums, differences, products and quotients tell.
+-- What the faults of sums, differences, products and quotients say.
 use Rattle.std.specs.Prelude.{◌≡◌, ℕ}
 use Rattle.exact.specs.Ratio.{Ratio, HasInverse, ratio_over}
 use Rattle.exact.specs.declared.number.Op.{Op}

@@ -1,4 +1,4 @@
-// Greatest common divisors.
+// Greatest common divisors of whole numbers, by Euclid's algorithm.
 ghost use Rattle.std.specs.Int.{IsGcd};
 ghost use Rattle.exact.specs.Combination.{IsCombination};
 

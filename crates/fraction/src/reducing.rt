@@ -1,4 +1,4 @@
-// Quotients in lowest terms.
+// Quotients of whole numbers as fractions in lowest terms, where they fit.
 ghost use Rattle.std.specs.Prelude.{◌≡◌, ◌≢◌, ◌≤◌, pos, unsigned_abs, MatchOption};
 ghost use Rattle.std.specs.Int.{IsGcd};
 ghost use Rattle.fraction.specs.Reduced.{AreSmall};

@@ -12,7 +12,7 @@ use line_text::Lines;
 use quotient_graph::Edge;
 use std::alloc::AllocError as NoMemory;
 
-/// The edges that the size tells, or the number of the first line that is no next edge.
+/// The edges that the size says, or the number of the first line that is no next edge.
 pub fn read_edges(
     lines: &mut Lines<'_>,
     size: &GraphSize,

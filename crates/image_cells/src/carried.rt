@@ -34,7 +34,9 @@ pub fn image_cells<const D: usize>(
 ) -> Result<Cells, NoMemory>
     requires one_key { HaveOneKey here.now there.now }
     requires ends { AreEnds here.now there.now ends.now }
+    // The images of the unit cells next to cell 0, under the standard map.
     ensures cells { IfOk result (AreImageCells here.now there.now) }
+    // Each has parts up to the limit of a cell.
     ensures first { IfOk result (λ C. IsWithin most_cell C.first) }
     ensures second { IfOk result (λ C. IsWithin most_cell C.second) }
     ensures third { IfOk result (λ C. IsWithin most_cell C.third) }

@@ -1,4 +1,4 @@
--- Sums over lists.
+-- The sum of a function over the members of a list.
 use Rattle.std.specs.Prelude.{ℤ, pos, ◌+ℤ◌, List, [], ◌∷◌}
 
 -- the sum of g over the list

@@ -1,4 +1,5 @@
--- The staircase basis of a lattice: of a set of vectors that is given by its membership.
+-- The staircase basis of a lattice, which is given by its membership: the row Hermite normal form
+-- (H. Cohen, A Course in Computational Algebraic Number Theory, 1993, 2.4).
 use Rattle.std.specs.Prelude.{Bool, IsTrue, ◌↔◌, ◌≡◌, ℕ, ℤ, pos, List, length, ◌<ℤ◌, ◌≤ℤ◌, ◌<◌, drop, slice_index_or}
 use Rattle.integers.specs.Vectors.{Vector, zero_vector, parts, IsAtMost, combination}
 

@@ -1,4 +1,4 @@
--- What is told of the graph of a key.
+-- What is reported of the graph of a key.
 use Rattle.std.proofs.Common.{◌≡◌, ◌≢◌, ℕ, [], map, Result, Ok, Err, refl, sym, subst, ◌∙◌}
 use Rattle.std.specs.Prelude.{IfOk}
 use Rattle.std.proofs.lemmas.List.{length-map}
@@ -35,7 +35,7 @@ module _ (graph : AnyGraph) (repeats : ℕ) (size : Size) (sizes : size ≡ size
   graph_read : (key : KeyView) → IsInOrder (graph_of_key key) (graph_view graph) × (repeats ≡ key.repeats) → IsGraphOf key size (graph_view graph)
   graph_read key b = record { size_is = sizes ∙ same_sizes key (graph_view graph) repeats b.0 b.1; in_order = b.0; is_graph = g }
 
-  -- a net with its key is told of the item
+  -- a net with its key is reported of the item
   pub keyed_as : (net : AnyNet) → (net_view net).placed.graph ≡ graph_view graph → IsKeyed (net_view net) → (view : BodyView) → IsBodyOf view (ItemGraph graph repeats) → IsItemBodyOf view (Keyed size net)
   keyed_as net is keyed (Net key) b = record { graph = graph_view graph; read = graph_read key b; net_is = is; keyed = keyed }
   keyed_as net is keyed (FaultyView fault) b = absurd b

@@ -10,7 +10,7 @@ use Rattle.item_outcomes.specs.Outcomes.{AreItemOutcomesFrom, IsItemOutcomeOf}
 abbrev pub AreOutcomesOfRead : ℕ → List Item → List Outcome → Type 0
 AreOutcomesOfRead number items os = (views : List ItemView) → AreRead views items → AreItemOutcomesFrom number views os
 
--- no item was read, and none is told
+-- no item was read, and none is reported
 pub outcomes_none : AreOutcomesOfRead 1 [] []
 outcomes_none [] read = tt
 outcomes_none (view ∷ views) read = absurd read

@@ -1,4 +1,4 @@
--- What is told of an item is one.
+-- What is reported of an item is one.
 use Rattle.std.proofs.Common.{◌≡◌, ℕ, ◌+◌, ◌&&◌, List, [], ◌∷◌, ◌++◌, refl, sym, ◌∙◌, subst}
 use Rattle.std.specs.List.{list_all}
 use Rattle.periodic_net.specs.Graph.{Graph}
@@ -22,7 +22,7 @@ use Rattle.net_report.specs.declared.outcome.Size.{Size}
 use Rattle.item_outcomes.specs.Laws.{OneItemReport}
 use Rattle.item_outcomes.specs.Outcomes.{AreItemOutcomesFrom, IsGraphOf, IsItemBodyOf, IsItemOutcomeOf, IsKeyedAs, IsRefusedAs, is_accepted, is_accepted_body}
 
--- two bodies have one text, and tell alike whether the item was accepted
+-- two bodies have one text, and say alike whether the item was accepted
 record SpeakAlike (a b : OutcomeBody) : Type 0 where
   text : body_text a ≡ body_text b
   accepted : is_accepted_body a ≡ is_accepted_body b
@@ -51,7 +51,7 @@ module _ (key : KeyView) where
       let net = one_net (net_view m) (net_view n) a.keyed b.keyed (a.net_is ∙ same_graph s t a.graph b.graph a.read b.read ∙ sym b.net_is) in
       record { text = λ i. size_text (size i) ++ key_text (net.key i); accepted = refl }
 
--- what is told of an item is one
+-- what is reported of an item is one
 one_body : (body : BodyView) (a b : OutcomeBody) → IsItemBodyOf body a → IsItemBodyOf body b → SpeakAlike a b
 one_body (Net key) (Keyed s m) (Keyed t n) h k = one_keyed key s t m n h k
 one_body (Net key) (Keyed s m) (Refused t ns r) h k = absurd (keyed_not_refused key s t m ns r h k)
@@ -77,12 +77,12 @@ one_text number item o p h k =
     let body = (one_body item.body o.body p.body h.body k.body).text in
     λ i. header_text (n i) (line i) (name i) ++ body i
 
--- two lists of outcomes have one text, and tell alike whether all items were accepted
+-- two lists of outcomes have one text, and say alike whether all items were accepted
 record TellAlike (os ps : List Outcome) : Type 0 where
   text : report_text os ≡ report_text ps
   accepted : list_all is_accepted os ≡ list_all is_accepted ps
 
--- the outcomes of items tell alike
+-- the outcomes of items say the same
 one_telling : (n : ℕ) (items : List ItemView) (os ps : List Outcome) → AreItemOutcomesFrom n items os → AreItemOutcomesFrom n items ps → TellAlike os ps
 one_telling n [] [] [] h k = record { text = refl; accepted = refl }
 one_telling n [] (o ∷ os) ps h k = absurd h

@@ -1,4 +1,4 @@
--- What is told of items is one.
+-- What is reported of items is one.
 use Rattle.std.specs.Prelude.{◌≡◌, ℕ, Bool, List}
 use Rattle.keyline_import.specs.Items.{ItemView}
 use Rattle.item_outcomes.specs.Reports.{IsItemReport}

@@ -31,7 +31,7 @@ pub record IsGraphOf (key : KeyView) (size : Size) (G : Graph) : Type 0 where
   pub in_order : IsInOrder (graph_of_key key) G
   pub is_graph : IsGraph G
 
--- a refusal that is true of the key's graph, other than want of memory; its vertices have no names
+-- a refusal that is true of the key's graph, other than running out of memory; its vertices have no names
 pub record IsRefusedAs (key : KeyView) (size : Size) (names : List (List ℕ)) (refusal : Refusal) : Type 0 where
   pub graph : Graph
   pub read : IsGraphOf key size graph
@@ -52,7 +52,7 @@ pub record IsFaultyAs (fault : ItemFault) (line number : ℕ) (kind : List ℕ) 
   pub number_is : number ≡ number_of_kind fault.kind
   pub kind_is : kind ≡ name_of_kind fault.kind
 
--- what is told of an item
+-- what is reported of an item
 abbrev pub IsItemBodyOf : BodyView → OutcomeBody → Type 0
 IsItemBodyOf (Net key) (Keyed size net) = IsKeyedAs key size (net_view net)
 IsItemBodyOf (Net key) (Refused size names refusal) = IsRefusedAs key size names refusal

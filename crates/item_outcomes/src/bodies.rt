@@ -1,4 +1,4 @@
-// What is told of what an item holds.
+// What is reported of what an item holds.
 ghost use Rattle.std.specs.Prelude.{◌≡◌, ◌≢◌, [], ℕ, IfOk};
 ghost use Rattle.periodic_net.specs.Graph.{IsGraph};
 ghost use Rattle.keyline_import.specs.Items.{BodyView};
@@ -52,7 +52,7 @@ fn refused_body<'a>(
     }
 }
 
-// What is told of the graph of a key.
+// What is reported of the graph of a key.
 fn graph_body<'a>(alloc: Global, graph: AnyGraph, repeats: u32) -> Result<OutcomeBody<'a>, NoMemory>
     ensures told { IfOk result (λ told. (view : BodyView) →
         IsBodyOf view (ItemBody.Graph graph repeats) → IsItemBodyOf view told) }
@@ -77,7 +77,7 @@ fn fault_body<'a>(fault: ItemFault) -> OutcomeBody<'a>
     }
 }
 
-/// What is told of what an item holds.
+/// What is reported of what an item holds.
 pub fn body_of<'a>(alloc: Global, body: ItemBody) -> Result<OutcomeBody<'a>, NoMemory>
     ensures told { IfOk result (λ told. (view : BodyView) →
         IsBodyOf view body → IsItemBodyOf view told) }

@@ -1,4 +1,4 @@
-//! What is told of each item of a text of key lines.
+//! What is reported of each item of a text of key lines.
 #![tactic(auto)]
 
 mod bodies;

@@ -11,7 +11,7 @@ use keyline_import::Item;
 use net_report::{NoMemory, Outcome, OutcomeBody, Outcomes};
 use std::alloc::Global;
 
-// What is told of the item with this number.
+// What is reported of the item with this number.
 fn outcome_of<'a>(alloc: Global, number: u32, item: Item<'a>) -> Result<Outcome<'a>, NoMemory>
     ensures outcome { IfOk result (λ outcome. (view : ItemView) →
         IsItemRead view item.entry → IsItemOutcomeOf number view outcome) }
@@ -26,7 +26,7 @@ fn outcome_of<'a>(alloc: Global, number: u32, item: Item<'a>) -> Result<Outcome<
     })
 }
 
-/// What is told of each item. All outcomes stand in memory.
+/// What is reported of each item. All outcomes stand in memory.
 pub fn outcomes_of<'a>(alloc: Global, items: Vec<Item<'a>>) -> Result<Outcomes<'a>, NoMemory>
     requires { length items.items ≤ most_items }
     ensures outcomes { IfOk result (λ outcomes. (views : List ItemView) →

@@ -46,7 +46,7 @@ some_byte : (text : List ℕ) → is_some (number_up_to most_vertices text) ≡ 
 some_byte [] e = absurd cc
 some_byte (b ∷ bytes) e = λ none. absurd cc
 
--- what the number of a token tells of it
+-- what the number of a token says of it
 record IsKnown (kind : TokenKind) (text : List ℕ) : Type 0 where
   whole : kind ≡ Whole
   some : text ≢ []

@@ -1,4 +1,4 @@
-// Key lines.
+// Reads a key line: its groups of two vertices and a shift, as the edges of a graph.
 ghost use Rattle.std.specs.Prelude.{◌≡◌, ◌≤◌, ◌<◌, ◌+◌, ◌∷◌, ◌++◌, ℤ, pos, true, max, not, ◌&&◌, length, map, is_some, nat_lt, IfOk, OnOk, if◌then◌else◌, Some, None, unsigned_abs};
 ghost use Rattle.std.specs.List.{list_all, list_any};
 ghost use Rattle.std.specs.Option.{option_map, unwrap_or};

@@ -108,12 +108,15 @@ impl<'a> State<'a> {
         numbers: &mut Vec<i32>,
     ) -> Result<Option<ItemFaultKind>, NoMemory>
         requires { length lexer.old ≤ longest_text }
+        // The fault is that of the line, after the lines whose state this is.
         ensures fault { IfOk result (λ fault. (earlier : List LineView) →
             IsStateAfter self.old earlier →
             fault ≡ fault_of earlier (line_view head.now (rest_of_line lexer.old))) }
+        // Without a fault the state is that after this line too.
         ensures stands { IfOk result (λ fault. fault ≡ None → (earlier : List LineView) →
             IsStateAfter self.old earlier →
             IsStateAfter self.new (line_view head.now (rest_of_line lexer.old) ∷ earlier)) }
+        // The line was read whole.
         ensures after { OnOk result (lexer.new ≡ after_line lexer.old) }
         ensures shorter { OnOk result (length lexer.new ≤ length lexer.old) }
     {

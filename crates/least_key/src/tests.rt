@@ -4,8 +4,8 @@ ghost use Rattle.std.specs.Prelude.{◌≤◌, length};
 mod frames;
 
 use crate::keys::keys_of;
-use cgd_read::{Body, blocks};
-use quotient_graph::{AnyGraph, from_raw};
+use cgd_read::{Body, blocks, from_raw};
+use quotient_graph::AnyGraph;
 use std::alloc::Global;
 use std::test::Fail;
 

@@ -1,4 +1,4 @@
--- Cuts at a mark.
+-- A text is cut at the first byte that is a given mark.
 use Rattle.std.proofs.Common.{◌≡◌, ℕ, ◌+◌, List, [], ◌∷◌, ◌++◌, length, take, drop, Bool, true, false, cond, ◌==◌, not, refl, ap, ◌∙◌, eq-eqb, arith}
 use Rattle.std.specs.Prelude.{position, unwrap_or}
 use Rattle.std.specs.List.{prefix_len}

@@ -1,4 +1,4 @@
-// Reads numbers.
+// Reads a number in decimal, in its one spelling.
 ghost use Rattle.std.specs.Prelude.{ℤ, ◌≡◌, Some, IfSome};
 ghost use Rattle.std.specs.Fmt.{signed_decimal};
 ghost use Rattle.std.specs.Str.{bytes_eq};

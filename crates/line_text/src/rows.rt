@@ -1,4 +1,4 @@
-// Reads lines of numbers.
+// Reads lines of a word and numbers, and cuts words from a line.
 ghost use Rattle.std.specs.Prelude.{ℕ, ℤ, List, ◌++◌, ◌≡◌, ◌≢◌, ◌<◌, All, IfOk, Ok, true, MatchOption, IfSome};
 ghost use Rattle.line_text.specs.Numbers.{IsWide, marked_text, row_text};
 

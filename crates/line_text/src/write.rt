@@ -1,4 +1,4 @@
-// Writes numbers.
+// Writes numbers in decimal, alone, in lists, and as rows.
 ghost use Rattle.std.specs.Prelude.{◌≡◌, ◌++◌, ◌∷◌, [], OnOk};
 ghost use Rattle.std.specs.Fmt.{decimal, signed_decimal};
 ghost use Rattle.line_text.specs.Numbers.{field_text, list_text, numbers_text, row_text};

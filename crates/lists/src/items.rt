@@ -1,4 +1,4 @@
-// A list of values.
+// A list of values that contracts see as a list.
 ghost use Rattle.std.specs.Prelude.{◌≡◌, ◌++◌, ◌∷◌, ◌<◌, ◌↔◌, [], length, slice_get, Some, OnOk, OnErr, IfOk, IsTrue};
 ghost use Rattle.std.specs.Slice.Iter.{iter_rest};
 

@@ -19,7 +19,7 @@ use Rattle.map_check.specs.declared.verdict.MapFault.TheVariants.{Arc as LostArc
 use Rattle.map_check.specs.declared.verdict.Verdict.{Verdict}
 use Rattle.map_check.specs.declared.verdict.Verdict.TheVariants.{Yes, No}
 
--- the number and the cell of a vertex tell it
+-- the number and the cell of a vertex determine it
 vertex_told : (u v : ℕ) (r s : Vector) → (pos u ∷ parts 3 r) ≡ (pos v ∷ parts 3 s) → (u ≡ v) × (r ≡ s)
 vertex_told u v r s e = (cc, parts_tell r s (let p : parts 3 r ≡ parts 3 s = cc in p))
 

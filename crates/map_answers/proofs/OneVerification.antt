@@ -40,7 +40,7 @@ one_list G (item ∷ items) (v ∷ vs) (w ∷ ws) f h k =
     let rest = one_list G items vs ws (All-tail (IsFormedItem G) item items f) h.1 k.1 in
     λ i. first i ∷ rest i
 
--- what is told of maps is one
+-- what is reported of maps is one
 one_telling : (maps : Option Maps) (a b : CheckedMaps) → MayStand maps → Tells maps a → Tells maps b → (a.text.items ≡ b.text.items) × (a.refused ≡ b.refused)
 one_telling None a b f h k = (h.0 ∙ sym k.0, h.1 ∙ sym k.1)
 one_telling (Some maps) a b f h k =
@@ -49,13 +49,13 @@ one_telling (Some maps) a b f h k =
       h.refused_is ∙ ap refused_count v ∙ sym k.refused_is,
     )
 
--- what is told of a text is one
+-- what is reported of a text is one
 one_checked : (bytes : List ℕ) (a b : CheckedMaps) → IsChecked bytes a → IsChecked bytes b → (a.text.items ≡ b.text.items) × (a.refused ≡ b.refused)
 one_checked bytes a b h k =
     let same = texts_tell.one_text bytes k.maps h.maps k.is h.is in
     one_telling h.maps a b h.is.formed h.tells (subst (λ (maps : Option Maps). Tells maps b) same k.tells)
 
--- the maps are told, or the first bad line is
+-- the maps are reported, or the first bad line is
 data WayOf (bytes : List ℕ) (s : Status) (x : List ℕ) : Type 0 where
   Told : IsTold bytes s x → WayOf bytes s x
   Bad : s ≡ BadMap → IsBadMap bytes x → WayOf bytes s x

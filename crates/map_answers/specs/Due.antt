@@ -12,14 +12,14 @@ use Rattle.statuses.specs.declared.status.Status.TheVariants.{Done, SomeRefused,
 abbrev pub bad_line_text : ℕ → List ℕ
 bad_line_text line = codes "maps refused line=" ++ (decimal line ++ 10 ∷ [])
 
--- the bytes are a text of maps, of which this is told; by the status that goes with it
+-- the bytes are a text of maps, of which this is reported; by the status that goes with it
 pub record IsTold (bytes : List ℕ) (status : Status) (text : List ℕ) : Type 0 where
   pub checked : CheckedMaps
   pub is : IsChecked bytes checked
   pub text_is : text ≡ checked.text.items
   pub status_is : status ≡ ending_of (checked.refused == 0)
 
--- the bytes are no text of maps, and the first bad line is told
+-- the bytes are no text of maps, and the first bad line is reported
 pub record IsBadMap (bytes text : List ℕ) : Type 0 where
   pub line : ℕ
   pub bad : HasBadLine bytes line

@@ -1,4 +1,4 @@
--- What is found of the items of a text, and how it is told.
+-- What is found of the items of a text, and how it is reported.
 use Rattle.std.specs.Prelude.{◌≡◌, ℕ, ◌+◌, List, [], ◌∷◌, ◌++◌, Option, None, Some, Bool, true, false, if◌then◌else◌}
 use Rattle.periodic_net.specs.Graph.{Graph}
 use Rattle.line_text.specs.Lines.{rows_text}
@@ -50,14 +50,14 @@ abbrev pub refused_count : List (Option Verdict) → ℕ
 refused_count [] = 0
 refused_count (verdict ∷ verdicts) = one_where (is_refused verdict) + refused_count verdicts
 
--- the line of graph k was put last, and it is told whether the map to it is refused
+-- the line of graph k was put last, and it is reported whether the map to it is refused
 pub record HasMapResult (G H : Graph) (map : PeriodicMap) (k : ℕ) (before after : List ℕ) (refused : Bool) : Type 0 where
   pub verdict : Verdict
   pub is : IsVerified G H map.m map.images map.base verdict
   pub text_is : after ≡ before ++ rows_text (verdict_row k G.dimension verdict ∷ [])
   pub refused_is : refused ≡ is_no verdict
 
--- the line of the item of graph k was put last, and it is told whether a map of it is refused
+-- the line of the item of graph k was put last, and it is reported whether a map of it is refused
 pub record HasResult (G : Graph) (k : ℕ) (item : ItemView) (before after : List ℕ) (refused : Bool) : Type 0 where
   pub verdict : Option Verdict
   pub is : IsVerdictOf G item verdict

@@ -22,7 +22,7 @@ fn push_no(text: &mut Vec<u8>, k: u32, dim: u8, fault: MapFault) -> Result<bool,
     Ok(true)
 }
 
-// Puts the line of graph k last, to which there is a map, and tells whether the map is refused.
+// Puts the line of graph k last, to which there is a map, and shows whether the map is refused.
 fn push_map_result(
     alloc: Global,
     text: &mut Vec<u8>,
@@ -45,7 +45,7 @@ fn push_map_result(
     }
 }
 
-/// Puts the line of graph k last, and tells whether there is a map to it that is refused.
+/// Puts the line of graph k last, and shows whether there is a map to it that is refused.
 pub fn push_result(
     alloc: Global,
     text: &mut Vec<u8>,

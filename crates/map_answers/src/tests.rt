@@ -63,7 +63,7 @@ fn items_are_told(rt: HostRuntime) -> Result<(), Fail> {
 const CUBIC: &str =
     "net_maps 1\ngraph 3 1 3\nedge 1 1 0 0 1\nedge 1 1 0 1 0\nedge 1 1 1 0 0\npair 2 map\ngraph 3 1 3\nedge 1 1 0 0 1\nedge 1 1 0 1 0\nedge 1 1 1 0 0\nperiod 8\n";
 
-// The lines that tell the maps of a text, or nothing.
+// The lines that report the maps of a text, or nothing.
 fn told(alloc: Global, text: &[u8]) -> Result<Vec<u8>, Fail> {
     match checked(alloc, text) {
         Ok(checked) => Ok(checked.text),

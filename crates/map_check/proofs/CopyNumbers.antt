@@ -76,7 +76,7 @@ numbers_below d v size S shape images numbers each h e f i l =
     subst (λ (n : ℕ). slice_index_or numbers i 0 < n) (ap (λ (t : ℕ). v * t) e ∙ sym f ∙ sym c)
     (image_below d S shape (image_at images i) (slice_index_or numbers i 0) v p.from p.to (h.each i (omega (arith, l, c))))
 
--- what the numbers tell of the images, where they are looked through
+-- what the numbers say of the images, where they are looked through
 pub copies_found : {E : Type 0} (d v : ℕ) (S : Stairs) (b : Base) → HasStairShape d S → HasMembersOf d S b → (images : List Vertex) (numbers : List ℕ) → All (IsImage d v) images
     → AreNumbersOf d S images numbers (length images) → (found : Result (Option ℕ) E)
     → IfOk found (λ f. MatchOption f (AreApartBefore numbers (length numbers)) (IsFirstRepeat numbers))

@@ -1,4 +1,4 @@
--- What is found at places in the list of images, told of vertices in the box.
+-- What is found at places in the list of images, said of vertices in the box.
 use Rattle.std.proofs.Common.{◌≡◌, ◌≢◌, ◌⊎◌, ℕ, ◌*◌, ◌<◌, List, length, ℤ, pos, ◌+ℤ◌, ◌-ℤ◌, refl, sym, ap, subst, ◌∙◌, arith}
 use Rattle.std.proofs.Math.Decide.{ℕ_discrete, dec_lt}
 use Prim.{Dec, yes, no}

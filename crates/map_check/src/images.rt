@@ -22,7 +22,7 @@ struct Parts {
     steps: Triple,
 }
 
-// A cell as one of the box, m cells further in each direction as often as told.
+// A cell as one of the box, m cells further in each direction as often as is said.
 fn parts_of(m: u32, t: &Triple) -> Parts
     requires from { 1 ≤ m }
     requires to { m ≤ most_period }
@@ -61,7 +61,7 @@ fn third_row<const D: usize>(rows: &[Triple]) -> Triple
     row_at::<D>(rows, 2)
 }
 
-// A shift, taken as often as told.
+// A shift, taken as often as is said.
 fn multiple(v: &Triple, k: i128) -> Triple
     requires shift { IsWithin most_part v.now }
     requires factor { unsigned_abs k ≤ 2 ^ 20 }
@@ -82,7 +82,7 @@ fn sum_of_three(a: &Triple, b: &Triple, c: &Triple) -> Triple
     a.plus(&b.plus(c))
 }
 
-// The sum of the shifts, each taken as often as told.
+// The sum of the shifts, each taken as often as is said.
 fn sum_of<const D: usize>(rows: &[Triple], k: &Triple) -> Triple
     requires dimension { (D ≡ 2) ⊎ (D ≡ 3) }
     requires count { length rows.now ≡ D }

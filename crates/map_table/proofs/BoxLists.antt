@@ -13,7 +13,7 @@ use Rattle.map_table.specs.Tables.{AreFirstImages, AreImages, IsImageOf}
 use Rattle.map_table.proofs.At.{At}
 use Rattle.map_table.proofs.BoxPlaces.{box_length, vertex_stands}
 
--- a list is told by what stands at its places
+-- a list is determined by what stands at its places
 by_places : {X : Type 0} (f : ℕ → X) (a : ℕ) (xs : List X) → ((i : ℕ) → i < length xs → At xs i (f (a + i))) → xs ≡ map f (range_with_len a (length xs))
 by_places f a [] h = refl
 by_places f a (x ∷ xs) h =

@@ -33,7 +33,7 @@ wide_first xs ys v p = record {
   past = p.past;
 }
 
--- where a list has none, what follows it tells
+-- where a list has none, what follows it decides
 pub wide_next : (xs ys : List ℤ) (o : Option ℤ) → IsFirstWide xs None → IsFirstWide ys o → IsFirstWide (xs ++ ys) o
 wide_next xs ys None h k = all_joined (λ x. unsigned_abs x ≤ most_part) xs ys h k
 wide_next xs ys (Some v) h p = record {
@@ -89,7 +89,7 @@ none_left (x ∷ xs) zero l = absurd (omega (arith, l))
 none_left (x ∷ xs) (suc k) l = none_left xs k (omega (arith, l))
 
 module _ {X : Type 0} (f : X → List ℤ) (xs : List X) (k : ℕ) where
-  -- what is left tells of the whole list
+  -- what is left decides for the whole list
   abbrev pub IsPassed : Type 0
   IsPassed = (o : Option ℤ) → IsFirstWide (flat_map f (drop k xs)) o → IsFirstWide (flat_map f xs) o
 

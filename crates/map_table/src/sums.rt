@@ -29,7 +29,7 @@ fn sum_of_three(u: &Triple, v: &Triple, w: &Triple) -> Triple
     u.plus(&v.plus(w))
 }
 
-/// The sum of the images of the cells, each taken as often as told.
+/// The sum of the images of the cells, each taken as often as is said.
 pub fn sum_along(cells: &Cells, k: &Triple) -> Triple
     requires first { IsWithin most_cell (cells.now).first }
     requires second { IsWithin most_cell (cells.now).second }

@@ -24,7 +24,7 @@ pub long_digits : (text digits : List ℕ) (n : ℕ) → text ≡ codes " long e
 unfolding reason_text
 long_digits text digits n one two = append_cancel_left (codes " long entries=") digits (signed_decimal (pos n)) (sym one ∙ two)
 
--- the number that was read is the one that is told
+-- the number that was read is the one that is reported
 pub long_number : (text digits : List ℕ) (z : ℤ) (n : ℕ) → text ≡ codes " long entries=" ++ digits → digits ≡ signed_decimal z → IsWide z → n < 2 ^ 64 → text ≡ reason_text (Long n) → z ≡ pos n
 long_number text digits z n one two wide short three = same_number z (pos n) wide (told_wide n short) (sym two ∙ long_digits text digits n one three)
 
@@ -60,7 +60,7 @@ pub is_map : (text : List ℕ) → text ≡ map_word → text ≡ codes " map"
 unfolding map_word
 is_map text e = e
 
--- a reason is told by its text
+-- a reason is reported by its text
 pub reason_told : (text : List ℕ) (a b : NoMap) → IsTold a → IsTold b → text ≡ reason_text a → text ≡ reason_text b → Some a ≡ Some b
 reason_told text a b ha hb one two = ap (λ w. Some w) (same_reason_text a b ha hb (sym one ∙ two))
 

@@ -28,7 +28,7 @@ pub record Maps : Type 0 where
   pub first : Graph
   pub items : List ItemView
 
--- the numbers of 64 and of 128 bits that may be told
+-- the numbers of 64 and of 128 bits that may be reported
 abbrev pub IsTold : NoMap → Type 0
 IsTold Different = Unit {0}
 IsTold (Long entries) = entries < 2 ^ 64

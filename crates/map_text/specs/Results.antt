@@ -1,4 +1,4 @@
--- The lines that tell what was found of the items of a text.
+-- The lines that report what was found of the items of a text.
 use Rattle.std.specs.Prelude.{ℕ, List, ◌++◌, codes}
 use Rattle.integers.specs.Vectors.{Vector, parts}
 use Rattle.line_text.specs.Numbers.{field_text, list_text}

@@ -29,7 +29,7 @@ drawing s edges = record { size = s; edges = edges }
 abbrev pub drawing_of : Graph → Drawing
 drawing_of G = drawing (size_of_graph G) G.edges
 
--- all edges that the size tells are drawn
+-- all edges that the size says are drawn
 abbrev pub IsWhole : Drawing → Type 0
 IsWhole g = length g.edges ≡ g.size.edges
 

@@ -1,4 +1,4 @@
--- The text of maps.
+-- The text of maps between nets, row by row, as it is written.
 use Rattle.std.specs.Prelude.{ℕ, ◌+◌, List, [], ◌∷◌, ◌++◌, map, Option, None, Some}
 use Rattle.integers.specs.Vectors.{Vector}
 use Rattle.periodic_net.specs.Graph.{Graph, Vertex}

@@ -70,7 +70,7 @@ fn read_map(
     }
 }
 
-// What the item says whose first line tells that there is a map from a graph of this size.
+// What the item says whose first line says that there is a map from a graph of this size.
 fn read_pair(
     lines: &mut Lines<'_>,
     first: &GraphSize,

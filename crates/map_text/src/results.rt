@@ -1,4 +1,4 @@
-// The lines that tell what was found of the items of a text.
+// The lines that report what was found of the items of a text.
 ghost use Rattle.std.specs.Prelude.{◌≡◌, ◌++◌, ◌∷◌, [], OnOk};
 ghost use Rattle.line_text.specs.Lines.{rows_text};
 ghost use Rattle.line_text.specs.Numbers.{field_text};

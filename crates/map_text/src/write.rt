@@ -1,4 +1,4 @@
-// Writes a text.
+// Writes a text of maps: its first graph, and an item for each further one.
 ghost use Rattle.std.specs.Prelude.{pos, ◌≡◌, ◌≤◌, ◌++◌, ◌∷◌, [], length, map, OnOk};
 ghost use Rattle.std.specs.Fmt.{signed_decimal};
 ghost use Rattle.integers.specs.Vectors.{parts};

@@ -1,4 +1,4 @@
--- The theorems on tables.
+-- The theorems on tables of maps, as functions of the crate carry them.
 use Rattle.periodic_net.proofs.CallerLemmas.{periodic_of_drawn}
 use Rattle.map_theory.specs.Laws.{TablesOfBijections, TablesThatJoin, TablesGiveIso}
 use Rattle.map_theory.proofs.Onto.{bijection_of_count}

@@ -1,4 +1,4 @@
--- The different keys that are told of more and more blocks.
+-- The different keys that are reported of more and more blocks.
 use Rattle.std.proofs.Common.{◌≡◌, ◌⊎◌, inl, inr, ℕ, ◌+◌, ◌<◌, ℤ, List, [], ◌∷◌, ◌++◌, length, get_or, take, Option, Some, None, sym, ap, subst, ◌∙◌, true≢false, arith}
 use Rattle.std.specs.List.{Contains}
 use Rattle.std.specs.Prelude.{is_some, unwrap_or}
@@ -9,15 +9,15 @@ use Rattle.net_outcomes.specs.Deciding.{key_told}
 use Rattle.net_answers.specs.KeyLists.{IsPutIn}
 use Rattle.net_answers.specs.Summaries.{AreDifferentKeys}
 
--- this key is told of one of the blocks
+-- this key is reported of one of the blocks
 abbrev IsTold : List Outcome → List ℤ → Type 0
 IsTold os xs = (o : Outcome) × Contains os o × (key_told o.body ≡ Some xs)
 
--- of no block no key is told
+-- of no block no key is reported
 pub keys_none : AreDifferentKeys [] []
 keys_none = record { exact = λ xs. (λ h. absurd (omega (arith, h.1)), λ h. absurd (omega (arith, h.1.1))); once = λ i j d l m. absurd (omega (arith, m)) }
 
--- the key that is told of one more block is put in
+-- the key that is reported of one more block is put in
 put_told : (os : List Outcome) (o : Outcome) (keys keys' : List (List ℤ)) (key : List ℤ) → AreDifferentKeys os keys → key_told o.body ≡ Some key → IsPutIn keys key keys' → AreDifferentKeys (os ++ o ∷ []) keys'
 put_told os o keys keys' key h is p = record { exact = λ xs. (λ c. there xs ((p.exact xs).0 c), λ w. back xs w (Contains-push_cases os o w.0 w.1)); once = p.once h.once }
   where
@@ -29,7 +29,7 @@ put_told os o keys keys' key h is p = record { exact = λ xs. (λ c. there xs ((
     back xs w (inl c) = (p.exact xs).1 (inl ((h.exact xs).1 (w.0, c, w.2)))
     back xs w (inr e) = (p.exact xs).1 (inr (ap (λ (t : Option (List ℤ)). unwrap_or t key) (sym is ∙ ap (λ (x : Outcome). key_told x.body) e ∙ w.2)))
 
--- and where none is told of it, the keys stay
+-- and where none is reported of it, the keys stay
 none_told : (os : List Outcome) (o : Outcome) (keys : List (List ℤ)) → AreDifferentKeys os keys → key_told o.body ≡ None → AreDifferentKeys (os ++ o ∷ []) keys
 none_told os o keys h is = record { exact = λ xs. (λ c. there xs ((h.exact xs).0 c), λ w. back xs w (Contains-push_cases os o w.0 w.1)); once = h.once }
   where

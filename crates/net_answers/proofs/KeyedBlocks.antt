@@ -17,13 +17,13 @@ use Rattle.net_commands.specs.declared.command.Command.TheVariants.{Key}
 use Rattle.net_outcomes.specs.Outcomes.{AreOutcomesFrom, IsBodyOf, is_accepted, is_accepted_body, net_told}
 use Rattle.net_answers.specs.Due.{AreAccepted, IsNetOf}
 
--- this is told of a block: its net
+-- this is reported of a block: its net
 pub record IsToldNet (block : BlockView) (told : OutcomeBody) : Type 0 where
   pub net : NetInCode
   pub told_is : net_told told ≡ Some net
   pub is_net : IsNetOf block (net_view net)
 
--- of a block that is accepted its net is told
+-- of a block that is accepted its net is reported
 keyed_told : (entries : List EntryView) (block : BlockView) (view : BodyView) (told : OutcomeBody) → block.body ≡ view → IsBodyOf entries Key view told → is_accepted_body told ≡ true → IsToldNet block told
 keyed_told entries block view (Unsupported token) is h a = absurd (true≢false (sym a))
 keyed_told entries block view (Malformed fault) is h a = absurd (true≢false (sym a))

@@ -150,7 +150,7 @@ entries_accepted given [] (e ∷ es) h = absurd h
 entries_accepted given (b ∷ bs) [] h = absurd h
 entries_accepted given (b ∷ bs) (e ∷ es) h = All-cons (λ (block : BlockView). (net : KeyedNet) × IsNetOf block net) b bs (h.0.net, h.0.is_net) (entries_accepted None bs es h.1)
 
--- of a block that has its key no refusal is told
+-- of a block that has its key no refusal is reported
 accepted_body : (block : BlockView) (body : BodyView) (net : KeyedNet) (told : OutcomeBody) → block.body ≡ body → IsNetOf block net → IsBodyOf [] Key body told → is_accepted_body told ≡ true
 accepted_body block body net (Checked size) e is h = refl
 accepted_body block body net (Located size names placed) e is h = refl

@@ -22,7 +22,7 @@ one_list_of_groups entries gs hs a b =
       (λ i. is_in gs g (a.every g (b.each g (contains_from_in hs g i)))),
     ))
 
--- the keys that are told
+-- the keys that are reported
 abbrev keys_of : List Outcome → List (Option (List ℤ))
 keys_of os = map (λ (o : Outcome). key_told o.body) os
 
@@ -42,7 +42,7 @@ no_more_keys os ps keys others same a b =
 pub as_many_keys : (os ps : List Outcome) (keys others : List (List ℤ)) → keys_of os ≡ keys_of ps → AreDifferentKeys os keys → AreDifferentKeys ps others → length keys ≡ length others
 as_many_keys os ps keys others same a b = le_antisymm (no_more_keys os ps keys others same a b) (no_more_keys ps os others keys (sym same) b a)
 
--- how many are accepted is told by whether each is
+-- how many are accepted is known from whether each is
 counted : (os : List Outcome) → length (filter is_accepted os) ≡ length (filter (λ (b : Bool). b) (map is_accepted os))
 counted [] = refl
 counted (o ∷ os) = by (is_accepted o) (counted os)

@@ -14,7 +14,7 @@ use Rattle.net_outcomes.specs.Outcomes.{AreOutcomesFrom, is_accepted, net_told}
 use Rattle.net_answers.specs.Due.{IsNetOf}
 use Rattle.net_answers.proofs.KeyedBlocks.{IsToldNet, told_at}
 
--- at place i stands this block, and its net is told
+-- at place i stands this block, and its net is reported
 pub record IsTurn (found : List Block) (i : ℕ) (block : Block) (o : Outcome) : Type 0 where
   pub inside : i < length (views found)
   pub at : get_or (views found) i (block_view block) ≡ block_view block
@@ -27,10 +27,10 @@ turn_is entries found os i block o l b e h a =
     let at : get_or (views found) i (block_view block) ≡ block_view block = get_or-map block_view found i block (block_view block) l ∙ ap block_view (sym b) in
     record { inside = inside; at = at; told = told_at entries 1 i (views found) os (block_view block) o h a inside at (sym e) }
 
--- the net that is told is that of the block
+-- the net that is reported is that of the block
 pub net_is : (block : BlockView) (o : Outcome) (net : Net) → IsToldNet block o.body → Some net ≡ net_told o.body → IsNetOf block (net_view net)
 net_is block o net h e = subst (λ (n : Net). IsNetOf block (net_view n)) (ap (λ (t : Option Net). unwrap_or t net) (sym h.told_is ∙ sym e)) h.is_net
 
--- and one is told
+-- and one is reported
 pub one_told : (block : BlockView) (o : Outcome) → IsToldNet block o.body → None ≡ net_told o.body → ⊥
 one_told block o h e = true≢false (ap is_some (sym h.told_is ∙ sym e))

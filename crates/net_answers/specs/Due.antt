@@ -1,4 +1,4 @@
--- What is due to the words and to the bytes of the files that they name.
+-- What is due to the arguments and to the bytes of the files that they name.
 use Rattle.std.specs.Prelude.{◌≡◌, ◌≢◌, ℕ, ◌+◌, ◌≤◌, ◌<◌, true, false, List, [], ◌∷◌, ◌++◌, length, Option, Some, None, unwrap_or, All}
 use Rattle.cgd_read.specs.Graphs.{graph_of}
 use Rattle.cgd_read.specs.Views.{RawView, Net, BlockView}
@@ -103,7 +103,7 @@ pub record IsNotAdded (given : Option (List ℕ)) (blocks : List BlockView) (a :
   pub is_net : IsNetOf block net
   pub cause : IsAddFault longer (name_to_add (given_after given before) block) net fault
 
--- each block is accepted, and the first that cannot be added is told
+-- each block is accepted, and the first that cannot be added is reported
 pub record IsNotAddedAs (given : Option (List ℕ)) (blocks : List BlockView) (a : ArchiveView) (text : List ℕ) : Type 0 where
   pub accepted : AreAccepted blocks
   pub number : ℕ

@@ -1,4 +1,4 @@
--- The headline: what `identify` tells of the bytes of a file, beside those of an archive.
+-- The headline: what `identify` reports on the bytes of a file, beside those of an archive.
 use Rattle.std.specs.Prelude.{◌≡◌, ℕ, List, Option, if◌then◌else◌}
 use Rattle.std.specs.List.{list_all}
 use Rattle.cgd_read.specs.Blocks.{blocks_of}

@@ -1,4 +1,4 @@
--- What is told of many nets: how many are accepted, and how many different keys they have.
+-- What is reported of many nets: how many are accepted, and how many different keys they have.
 use Rattle.std.specs.Prelude.{◌≡◌, ◌≢◌, ◌↔◌, ℕ, ℤ, Bool, true, false, List, [], ◌++◌, length, filter, Some, codes, AllPairs, Contains}
 use Rattle.std.specs.List.{list_all}
 use Rattle.cgd_read.specs.Views.{BlockView}
@@ -19,12 +19,12 @@ abbrev pub summary_text : ℕ → ℕ → ℕ → List ℕ
 summary_text made accepted keys =
     count_text (codes "workload ") made ++ count_text (codes "accepted ") accepted ++ count_text (codes "keys ") keys
 
--- these are the different keys that are told
+-- these are the different keys that are reported
 pub record AreDifferentKeys (outcomes : List Outcome) (keys : List (List ℤ)) : Type 0 where
   pub exact : (xs : List ℤ) → Contains keys xs ↔ ((o : Outcome) × Contains outcomes o × (key_told o.body ≡ Some xs))
   pub once : AllPairs (λ xs ys. xs ≢ ys) keys
 
--- so many different keys are told
+-- so many different keys are reported
 abbrev pub AreSoManyKeys : List Outcome → ℕ → Type 0
 AreSoManyKeys outcomes n = (keys : List (List ℤ)) × AreDifferentKeys outcomes keys × (n ≡ length keys)
 

@@ -35,7 +35,7 @@ fn name_to_add<'a>(given: Option<&'a [u8]>, block: &Block<'a>) -> &'a [u8]
     given.or(block.name).unwrap_or(b"")
 }
 
-// The net that is told of a block, with its key alone.
+// The net that is reported of a block, with its key alone.
 fn net_told<'a>(outcome: &'a Outcome<'_>) -> Option<&'a Net>
     ensures { option_copied result ≡ net_told outcome.now.body }
 {
@@ -105,7 +105,7 @@ fn given_bytes<'a>(name: Option<&'a str>) -> Option<&'a [u8]>
     name.map(|name| name.as_bytes())
 }
 
-// The text that tells why a block cannot be added.
+// The text that reports why a block cannot be added.
 fn refused_text(alloc: Global, refused: NotAdded) -> Result<Vec<u8>, NoMemory>
     ensures text { IfOk result (λ text. text.items ≡ add_fault_text refused.block refused.fault) }
     ensures told { OnOk result (refused.fault ≢ AddFault.NoMemory) }

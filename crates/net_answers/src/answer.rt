@@ -1,4 +1,4 @@
-// What is due to the words, of the bytes of the files that they name.
+// What is due to the arguments, of the bytes of the files that they name.
 ghost use Rattle.std.specs.Prelude.{◌≡◌, ◌≤◌, ◌<◌, All, IfOk, IsErrOf, length};
 ghost use Rattle.cgd_read.specs.Blocks.{IsReadBody, blocks_of, most_blocks};
 ghost use Rattle.cgd_read.specs.Views.{views};
@@ -85,8 +85,10 @@ pub fn answer_to(
     requires small { length file.now ≤ most_bytes }
     requires archive { AreFew archive }
     requires few { MakesFew (task_view task.now) }
+    // The answer is due to the task, of the bytes that it is about.
     ensures due { IfOk result (λ a. IsDueWith (task_view task.now)
         (bytes_of (task_view task.now) file.now) (bytes_in archive) a.status a.text.items) }
+    // TooManyBlocks comes only where there are more blocks, or items, than may be.
     ensures many { IsErrOf result Silence.TooManyBlocks →
         HasTooMany (task_view task.now) (bytes_of (task_view task.now) file.now) }
 {

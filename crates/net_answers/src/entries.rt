@@ -1,4 +1,4 @@
-// What is told of the entries of an archive.
+// What is reported of the entries of an archive.
 ghost use Rattle.std.specs.Prelude.{IfOk};
 ghost use Rattle.net_answers.specs.Due.{AreGroupsAs, IsMigratedAs};
 

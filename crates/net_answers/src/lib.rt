@@ -1,4 +1,4 @@
-//! What is answered to the words, of the bytes of the files that they name.
+//! What is answered to the arguments, of the bytes of the files that they name.
 #![tactic(auto)]
 
 mod adding;

@@ -12,7 +12,7 @@ use net_report::NoMemory;
 use statuses::{Answer, ending_of};
 use std::alloc::Global;
 
-/// What a command tells of each block, beside an archive.
+/// What a command reports on each block, beside an archive.
 pub fn report_on(
     alloc: Global,
     command: Command,

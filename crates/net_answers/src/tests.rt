@@ -1,4 +1,4 @@
-// What is answered to words, of the bytes of files: rows that were worked out by hand.
+// What is answered to arguments, of the bytes of files: rows that were worked out by hand.
 mod archives;
 mod components;
 mod identified;
@@ -49,7 +49,7 @@ fn words_of(alloc: Global, words: &[&str]) -> Result<Vec<String>, Fail> {
     Ok(list)
 }
 
-// What is due to the words, of the bytes of the file and of the archive that they name.
+// What is due to the arguments, of the bytes of the file and of the archive that they name.
 fn answer_over(alloc: Global, words: &[&str], file: &[u8], archive: &[u8]) -> Result<Answer, Fail> {
     if file.len() > MOST_BYTES || archive.len() > MOST_BYTES {
         return Err("too many bytes".into());
@@ -70,7 +70,7 @@ fn answer_on(alloc: Global, command: &str, file: &[u8]) -> Result<Answer, Fail> 
     answer_over(alloc, &[command, "net"], file, b"")
 }
 
-// What the words ask for, over a file and an archive.
+// What the arguments ask for, over a file and an archive.
 #[derive(Clone, Copy, Drop)]
 struct Row {
     words: &'static [&'static str],

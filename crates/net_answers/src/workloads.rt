@@ -1,4 +1,4 @@
-// What is told of many nets.
+// What is reported of many nets.
 ghost use Rattle.std.specs.Prelude.{◌≡◌, ◌++◌, ◌≤◌, [], All, IfOk, OnOk, length, filter, option_copied};
 ghost use Rattle.cgd_read.specs.Blocks.{IsReadBody, most_blocks};
 ghost use Rattle.cgd_read.specs.Views.{views};
@@ -35,7 +35,7 @@ fn summary_text(alloc: Global, made: u64, accepted: u64, keys: u64) -> Result<Ve
     Ok(text)
 }
 
-// The key that is told of a block.
+// The key that is reported of a block.
 fn key_told<'a>(outcome: &'a Outcome<'_>) -> Option<&'a [i128]>
     ensures { option_copied result ≡ key_told outcome.now.body }
 {
@@ -55,7 +55,7 @@ fn put_key<'a>(keys: &mut IndexSet<&'a [i128]>, key: &'a [i128]) -> Result<(), N
     Ok(())
 }
 
-// The number of different keys that are told.
+// The number of different keys that are reported.
 fn count_keys(alloc: Global, outcomes: &[Outcome<'_>]) -> Result<u64, NoMemory>
     ensures { IfOk result (AreSoManyKeys outcomes.now) }
 {

@@ -1,7 +1,7 @@
 // The answers about the map between two nets.
 use map_check::PeriodicMap;
 
-/// What is told of the map between two nets.
+/// What is reported of the map between two nets.
 #[derive(Drop)]
 pub enum MapAnswer {
     /// The keys differ, so there is no map.

@@ -1,6 +1,6 @@
-// The commands that tell of nets.
+// The commands that report on nets.
 
-/// What is told of each net of a file.
+/// What is reported of each net of a file.
 #[derive(Clone, Copy, Debug, PartialEq, Eq)]
 pub enum Command {
     /// Is the net connected?

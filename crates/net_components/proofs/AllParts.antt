@@ -47,7 +47,7 @@ module _ (G : Graph) (g : IsGraph G) (s : IsSmall G) (cs : List Component) (h : 
     same_length : length cs ≡ length ps
     same_length = matched_length (IsMadeOf G) cs ps m
 
-    -- what is told of the part at a place
+    -- what is reported of the part at a place
     part_there : (i : ℕ) (d : Part) → i < length ps → IsPartOf G (root_of (get_or ps i d)) (get_or ps i d) × (root_of (get_or ps i d) ≡ (get_or cs i none).root)
     part_there i d l =
         let k : i < length cs = omega (arith, l, same_length) in

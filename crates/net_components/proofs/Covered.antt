@@ -27,7 +27,7 @@ found_in G c h u q o g = let T = walk_at G g c.root c.found h.walks u q.0 o in r
 pub in_found : (G : Graph) (c : Component) → IsComponent G c → (u : ℕ) → InComponent G c.root u → IsGraph G → IsSome (walk_to c.found u)
 in_found G c h u i g = all_found G g c.root c.found h.walks h.least.vertex.0 u (i.shift, i.walk)
 
--- the walks that were found tell the component
+-- the walks that were found determine the component
 pub tells : (G : Graph) → IsGraph G → (c : Component) → IsComponent G c → TellsWalks G c.root (shift_at c.found)
 tells G g c h = record {
   start = ap shift_of h.walks.first;

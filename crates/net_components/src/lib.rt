@@ -18,7 +18,7 @@ pub use fault::PartFault;
 pub use parts::{Part, components};
 pub use std::alloc::AllocError as NoMemory;
 
-/// A graph has one list of parts, or one fault, and never both; want of memory aside.
+/// A graph has one list of parts, or one fault, and never both; running out of memory aside.
 pub fn answer_is_one()
     ensures theorem { AnswerIsOne }
 {}

@@ -1,4 +1,4 @@
--- The cover in memory.
+-- The cover as it is made in memory is the cover of the definition.
 use Rattle.std.proofs.Common.{◌≡◌, inl, inr, ℕ, zero, suc, ◌+◌, ◌*◌, ◌≤◌, ◌<◌, List, length, sym, ap, subst, ◌∙◌, arith}
 use Rattle.std.proofs.lemmas.Nat.{mul-add-lt}
 use Rattle.std.proofs.lemmas.List.Sorted.{IsPermutation-refl}
@@ -71,7 +71,7 @@ module _ (G : Graph) (R : CellView) (g : IsGraph G) (small : IsSmall G) (S : Sta
             let e : n * length G.edges ≡ length G.edges * n = omega arith in
             omega (arith, p, e)
 
-  -- what tells of the first wide part is the fault of the cell
+  -- what reports the first wide part is the fault of the cell
   pub wide_fault : FitsEdges G R → (f : CoverFault) → TellsFirst G.dimension R.rows S G.edges f → IsCoverFault G R f
   wide_fault e (CoverShift y) t = (
     e,
@@ -122,7 +122,7 @@ pub given_of : (G : Graph) (b : Base) (d : ℕ) (es : List Arc) → G.dimension 
 given_of G b d es e h S index ls a =
     subst (λ (n : ℕ). AreGiven n b S G.edges (length G.edges * index) ls) (sym e) (subst (λ (xs : List Arc). AreGiven d b S xs (length xs * index) ls) h a)
 
--- what tells of the first wide part, the same
+-- what reports the first wide part, the same
 pub told_of : (G : Graph) (b : Base) (d : ℕ) (es : List Arc) → G.dimension ≡ d → es ≡ G.edges → (S : Stairs) (f : CoverFault) → TellsFirst d b S es f
     → TellsFirst G.dimension b S G.edges f
 told_of G b d es e h S t a = subst (λ (n : ℕ). TellsFirst n b S G.edges t) (sym e) (subst (λ (xs : List Arc). TellsFirst d b S xs t) h a)

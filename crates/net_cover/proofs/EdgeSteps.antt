@@ -35,7 +35,7 @@ module _ (d : ℕ) (b : Base) (S : Stairs) (h : IsLatticeOfCell d b S) (es : Lis
       subst (λ (n : ℕ). AreGiven d b S es n (given ++ e ∷ [])) count
       (one_given d b S es (m * index + i) m i given e (subst (λ (n : ℕ). i < n) as_many k) (ap (λ (n : ℕ). m * n + i) as_many) g (l, f, s) small)
 
-  -- what tells of a lift tells of the edge
+  -- what is reported of a lift is reported of the edge
   pub edge_tells : (m i : ℕ) (given : List Arc) → i < index → AreGiven d b S es (m * index + i) given → (f : CoverFault) → TellsLift d b S (edge_at es m) i f
       → TellsEdge d b S es m f
   edge_tells m i given k g (CoverShift y) t = record {
@@ -51,7 +51,7 @@ module _ (d : ℕ) (b : Base) (S : Stairs) (h : IsLatticeOfCell d b S) (es : Lis
   edge_tells m i given k g (CoverEdges n) t = absurd t
   edge_tells m i given k g NoMemory t = absurd t
 
-  -- what tells of an edge tells of all
+  -- what is reported of an edge is reported of all
   pub first_tells : (m : ℕ) (given : List Arc) → m < length es → AreGiven d b S es (m * index) given → (f : CoverFault) → TellsEdge d b S es m f
       → TellsFirst d b S es f
   first_tells m given k g (CoverShift y) t = (

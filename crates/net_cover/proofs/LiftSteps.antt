@@ -69,7 +69,7 @@ module _ (d : ℕ) (b : Base) (S : Stairs) (h : IsLatticeOfCell d b S) where
           },
         )
 
--- what tells the first wide part of the new shift tells it of the lift
+-- what reports the first wide part of the new shift reports it of the lift
 pub part_tells : (d : ℕ) (b : Base) (S : Stairs) (a : Arc) (i : ℕ) (k : Vector) → IsNewShift d b S a i k → (f : CoverFault) → TellsPart k f → TellsLift d b S a i f
 part_tells d b S a i k s (CoverShift y) h = record { k = k; shift = s; j = h.0; wide = h.1 }
 part_tells d b S a i k s CellDimension h = absurd h

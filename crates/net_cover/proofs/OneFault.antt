@@ -88,7 +88,7 @@ one_wide G b x y g c s t =
 past_limit : (count n most : ℕ) → count ≡ n → most < count → ¬ (n ≤ most)
 past_limit count n most e l h = omega (arith, e, l, h)
 
--- where a graph has a cover within the limits, no fault applies but want of memory
+-- where a graph has a cover within the limits, no fault applies but running out of memory
 pub cover_is_not_refused : CoverIsNotRefused
 cover_is_not_refused G R CellDimension g c f = absurd (f c.0.0.0.0)
 cover_is_not_refused G R CellRank g c f = absurd (c.0.0.0.1 f.1)
@@ -139,7 +139,7 @@ module _ (G : Graph) (R : CellView) (g : IsGraph G) (w : IsWritten R) where
   one_value NoMemory NoMemory p q e = refl
   one_value f h p q e = absurd (omega (arith, e))
 
--- two faults that apply are one, want of memory aside
+-- two faults that apply are one, running out of memory aside
 pub one_cover_fault : OneCoverFault
 one_cover_fault G R f h g w p q m n = elim (cases_order (place_of f) (place_of h)) [
   | inl e ↦ one_value G R g w f h p q e

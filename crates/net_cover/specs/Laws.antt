@@ -15,13 +15,13 @@ OneCover =
     (G H K : Graph) (b : Base) → IsCover G b H → AreRising H.edges → IsCover G b K → AreRising K.edges
     → H ≡ K
 
--- two faults that apply to a graph and a cell, and tell no want of memory, are one
+-- two faults that apply to a graph and a cell, and are not running out of memory, are one
 abbrev pub OneCoverFault : Type 0
 OneCoverFault =
     (G : Graph) (R : CellView) (f h : CoverFault) → IsGraph G → IsWritten R → IsCoverFault G R f
     → IsCoverFault G R h → f ≢ NoMemory → h ≢ NoMemory → f ≡ h
 
--- where a graph has a cover within the limits, no fault applies but want of memory
+-- where a graph has a cover within the limits, no fault applies but running out of memory
 abbrev pub CoverIsNotRefused : Type 0
 CoverIsNotRefused =
     (G : Graph) (R : CellView) (f : CoverFault) → IsGraph G → IsCoverable G R → IsCoverFault G R f

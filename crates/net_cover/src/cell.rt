@@ -1,4 +1,4 @@
-// Cells with whole rows.
+// Unit cells with whole rows, their determinants and the lattices of their rows.
 ghost use Rattle.std.specs.Prelude.{◌≡◌, ◌⊎◌, ◌≤◌};
 ghost use Rattle.sublattice.specs.Sublattices.{index_of, IsSublattice};
 

@@ -1,4 +1,4 @@
-// Covers.
+// Makes the cover of a graph on a larger cell, or says why there is none.
 ghost use Rattle.std.specs.Prelude.{◌≡◌, ◌*◌, ◌≤◌, IfOk, IfErr, OnOk};
 ghost use Rattle.periodic_net.specs.Limits.{most_vertices};
 ghost use Rattle.periodic_net.specs.Maps.{Iso};
@@ -78,10 +78,15 @@ fn cover_graph<const D: usize>(
 
 /// The graph on a cell of whole rows: its net is the net, up to isomorphism.
 pub fn cover(alloc: Global, g: &AnyGraph, cell: &Cell) -> Result<AnyGraph, CoverFault>
+    // The cover of the definition: vertices over remainders, edges with their new shifts.
     ensures cover { IfOk result (λ c. IsCover (graph_view g.now) cell.now.rows (graph_view c)) }
+    // Its net is the net, up to isomorphism.
     ensures iso { IfOk result (λ c. Iso (graph_view g.now) (graph_view c)) }
+    // It has the index times as many vertices and edges.
     ensures size { IfOk result (λ c. HasCoverSize (graph_view g.now) cell.now.rows (graph_view c)) }
+    // It comes only where a cover within the limits is there.
     ensures coverable { OnOk result (IsCoverable (graph_view g.now) cell.now) }
+    // Else memory ran out, or it is the first fault that applies, with its value.
     ensures fault { IfErr result (IsCoverFault (graph_view g.now) cell.now) }
 {
     match g {

@@ -6,12 +6,12 @@ pub fn one_cover()
     ensures theorem { OneCover }
 {}
 
-/// Two faults that apply are one, want of memory aside. So of several causes the first is told.
+/// Two faults that apply are one, running out of memory aside. So the first cause is reported.
 pub fn one_cover_fault()
     ensures theorem { OneCoverFault }
 {}
 
-/// Where a graph has a cover within the limits, no fault applies but want of memory.
+/// Where a graph has a cover within the limits, no fault applies but running out of memory.
 pub fn cover_is_not_refused()
     ensures theorem { CoverIsNotRefused }
 {}

@@ -1,4 +1,4 @@
--- Images of entries.
+-- Lists of one number for each entry, lent or without one entry.
 use Rattle.std.proofs.Common.{◌≡◌, ℕ, suc, List, [], ◌∷◌, ◌++◌, map, take, drop, Bor, refl, sym, ap, ◌∙◌}
 use Rattle.std.specs.List.{remove, take-map, drop-map}
 use Rattle.std.proofs.lemmas.List.{map-append}

@@ -43,7 +43,7 @@ module _ (es : List EntryView) where
       let finer : (e : EntryView) → q e ≡ true → p e ≡ true = λ e g. eq-eqb (f e) (key_print key) (ap key_print (same_numbers e.key key g)) in
       ap names_of (ap (filter q) here ∙ filter_finer p q finer es)
 
-  -- the test tells whether the name is there
+  -- the test shows whether the name is there
   pub name_told : (b : Bool) (name : List ℕ) → b ≡ list_any (bytes_eq name) (names_of es) → IsTrue b ↔ Contains (names_of es) name
   name_told b name e =
       ((λ t. Contains-from_any (λ xs ys. (bytes_eq-Decides xs ys).0) name (names_of es) (sym e ∙ t)), (λ c. e ∙ list_any-from_Contains nat_list_eq_equiv name (names_of es) c))

@@ -4,7 +4,7 @@ use Rattle.periodic_net.specs.Graph.{Graph}
 use Rattle.quotient_graph.specs.AnyGraphs.{graph_view}
 use Rattle.net_entries.specs.declared.entry.Entry.{Entry}
 
--- a name, a graph, a key, and for each class the sizes of its shells
+-- a name, a graph, a key, and for each class its coordination sequence
 pub record EntryView : Type 0 where
   pub name : List ℕ
   pub graph : Graph

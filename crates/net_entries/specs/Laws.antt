@@ -1,4 +1,4 @@
--- What regrouping keeps.
+-- What regrouping keeps, and that only one list is a regrouping of another.
 use Rattle.std.specs.Prelude.{◌≡◌, List}
 use Rattle.net_entries.specs.Entries.{EntryView}
 use Rattle.net_entries.specs.Regrouped.{regrouped, IsRegrouping}

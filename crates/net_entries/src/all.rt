@@ -1,4 +1,4 @@
-// The list of entries.
+// The list of entries, which are found by name and by key through fingerprints.
 ghost use Rattle.std.specs.Prelude.{◌≡◌, ◌+◌, ◌<◌, ◌++◌, ◌∷◌, ◌↔◌, [], ℕ, List, length, IsTrue, Contains, IfNone, IfSome, IfOk, OnOk, OnErr};
 ghost use Rattle.net_entries.specs.Entries.{entry_view, entry_views};
 ghost use Rattle.net_entries.specs.Groups.{AreGroups, IsGroupFrom};

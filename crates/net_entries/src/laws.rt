@@ -1,4 +1,4 @@
-// What regrouping keeps.
+// The theorems on regrouping, as clauses: what it keeps, and that it is one.
 ghost use Rattle.net_entries.specs.Laws.{EntriesAreRegrouped, OneRegrouping};
 
 /// The same entries; those with one key stand together, in their old order, and the groups in the

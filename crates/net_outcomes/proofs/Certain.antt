@@ -1,4 +1,4 @@
--- A block whose graph is certain is accepted, and two keys that are told decide.
+-- A block whose graph is certain is accepted, and two keys that are reported decide.
 use Rattle.std.proofs.Common.{◌≡◌, ◌≢◌, ◌∙◌, ℕ, zero, suc, ◌<◌, Bool, true, false, List, [], ◌∷◌, length, refl, sym, ap, subst, arith}
 use Rattle.std.specs.Prelude.{slice_index_or}
 use Rattle.std.proofs.lemmas.Bool.{true≢false}
@@ -35,7 +35,7 @@ certain_not_refused command raw size names refusal g h certain =
     let none = certain_is_not_refused h.graph refusal is_graph (certain h.graph h.read.in_order) h.is_true in
     subst (MayTell command) none h.may
 
--- so what is told of a certain graph accepts it, but where its components are asked for
+-- so what is reported of a certain graph accepts it, but where its components are asked for
 accepted_told : (entries : List EntryView) (command : Command) (raw : RawView) (told : OutcomeBody) → IsGraph (graph_of raw) → IsBodyOf entries command (Net raw) told → command ≢ Components
     → ((G : Graph) → IsInOrder (graph_of raw) G → IsCertain G) → is_accepted_body told ≡ true
 accepted_told entries command raw (Unsupported token) g h other certain = absurd h

@@ -1,4 +1,4 @@
--- What is told of a net beside an archive.
+-- What is reported of a net beside an archive.
 use Rattle.std.proofs.Common.{◌≡◌, ℕ, List, sym, subst}
 use Rattle.std.specs.List.{All}
 use Rattle.periodic_net.specs.Graph.{Graph, IsGraph}
@@ -18,7 +18,7 @@ use Rattle.net_archive.proofs.CallerLemmas.{names_found}
 use Rattle.net_outcomes.specs.Outcomes.{IsIdentifiedAs, IsKeyedAs}
 use Rattle.net_outcomes.proofs.OnlyPlacement.{only_placement}
 
--- a net with its key and sequences is told with the names that its key finds
+-- a net with its key and sequences is reported with the names that its key finds
 pub identified_as : (entries : List EntryView) (raw : RawView) (size : Size) (vertices : List (List ℕ)) (net : Net) (shells names : List (List ℕ)) → IsKeyedAs raw size net → vertices ≡ raw.names
     → AreSequencesOf (net_view net).placed.graph shells → All IsEntry entries → names ≡ names_with (net_view net).key entries → IsIdentifiedAs entries raw size vertices net shells names
 identified_as entries raw size vertices net shells names h v s good found =

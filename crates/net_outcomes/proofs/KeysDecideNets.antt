@@ -1,4 +1,4 @@
--- The keys that are told decide whether nets are isomorphic.
+-- The keys that are reported decide whether nets are isomorphic.
 use Rattle.std.proofs.Common.{◌≡◌, sym, ap, subst, ℕ, suc, ◌+◌, zero, ◌<◌, ℤ, List, [], ◌∷◌, length, Some, arith}
 use Rattle.std.specs.Prelude.{◌↔◌, is_some, slice_index_or, unwrap_or}
 use Rattle.std.specs.List.{All}
@@ -35,7 +35,7 @@ read_decide G H G' H' P o o' d =
       (λ i. d.1 (iso_transitive H G H' (iso_symmetric G H e) (iso_transitive G G' H' i e'))),
     )
 
--- what is told of the block at place i
+-- what is reported of the block at place i
 body_at : (entries : List EntryView) (command : Command) (n i : ℕ) (bs : List BlockView) (os : List Outcome) (b : BlockView) (o : Outcome) → AreOutcomesFrom entries command n bs os
     → i < length bs → slice_index_or bs i b ≡ b → slice_index_or os i o ≡ o → IsBodyOf entries command b.body o.body
 body_at entries command n i [] os b o h l e f = absurd (omega (arith, l))
@@ -44,7 +44,7 @@ body_at entries command n zero (c ∷ bs) (x ∷ os) b o h l e f =
     subst (λ (y : Outcome). IsBodyOf entries command b.body y.body) f (subst (λ (y : BlockView). IsBodyOf entries command y.body x.body) e h.0.body)
 body_at entries command n (suc i) (c ∷ bs) (x ∷ os) b o h l e f = body_at entries command (n + 1) i bs os b o h.1 (omega (arith, l)) e f
 
--- what is told of the net at place i
+-- what is reported of the net at place i
 pub told_at : (entries : List EntryView) (command : Command) (bs : List BlockView) (os : List Outcome) → AreOutcomesFrom entries command 1 bs os → (i : ℕ) (b : BlockView) (o : Outcome) (raw : RawView)
     → IsBlockAt bs os i b o → b.body ≡ Net raw → IsBodyOf entries command (Net raw) o.body
 told_at entries command bs os h i b o raw at is =
@@ -63,7 +63,7 @@ record HasKeyedGraph (raw : RawView) (xs : List ℤ) : Type 0 where
 some_is : {A : Type 0} (x y : A) → Some x ≡ Some y → x ≡ y
 some_is x y e = ap (λ o. unwrap_or o x) e
 
--- a net with a key is told only where the key is asked for
+-- a net with a key is reported only where the key is asked for
 keyed_told : (entries : List EntryView) (command : Command) (raw : RawView) (body : OutcomeBody) (xs : List ℤ) → IsBodyOf entries command (Net raw) body → key_told body ≡ Some xs → HasKeyedGraph raw xs
 keyed_told entries Key raw (Keyed size net) xs h e = record {
   graph = h.graph;
@@ -86,7 +86,7 @@ keyed_told entries command raw (Identified size vertices net shells names) xs h 
 keyed_told entries command raw body xs h e = absurd (true≢false (sym (ap is_some e)))
 
 module _ (entries : List EntryView) (command : Command) (bs : List BlockView) (os : List Outcome) (h : AreOutcomesFrom entries command 1 bs os) where
-  -- what is told of a key
+  -- what is reported of a key
   keyed_at : (i : ℕ) (raw : RawView) (xs : List ℤ) → HasKeyAt bs os i raw xs → HasKeyedGraph raw xs
   keyed_at i raw xs k = keyed_told entries command raw k.outcome.body xs (told_at entries command bs os h i k.block k.outcome raw k.at k.graph) k.told
 

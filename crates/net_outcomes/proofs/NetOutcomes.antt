@@ -1,4 +1,4 @@
--- What is told of the graph of a block.
+-- What is reported of the graph of a block.
 use Rattle.std.proofs.Common.{◌≡◌, ◌≢◌, List, Result, Ok, Err, sym, subst, refl}
 use Rattle.std.specs.Prelude.{IfOk}
 use Rattle.periodic_net.specs.Graph.{Graph, IsGraph}
@@ -16,7 +16,7 @@ use Rattle.net_commands.specs.declared.command.Command.{Command}
 use Rattle.net_commands.specs.declared.command.Command.TheVariants.{Check, Place, Key, Identify}
 use Rattle.net_outcomes.proofs.OnlyPlacement.{is_graph_in}
 
--- a test for connectedness may tell its refusals
+-- a test for connectedness may report its refusals
 pub check_may : (refusal : Refusal) → IsOfConnecting refusal → refusal ≢ NoMemory → MayTell Check refusal
 check_may NoMemory h n = n refl
 check_may refusal h n = h
@@ -26,7 +26,7 @@ pub place_may : (refusal : Refusal) → IsOfPlacing refusal → refusal ≢ NoMe
 place_may NoMemory h n = n refl
 place_may refusal h n = h
 
--- and the search for a key may tell all
+-- and the search for a key may report all
 pub key_may : (refusal : Refusal) → refusal ≢ NoMemory → MayTell Key refusal
 key_may NoMemory n = n refl
 key_may refusal n = tt
@@ -36,7 +36,7 @@ pub identify_may : (refusal : Refusal) → refusal ≢ NoMemory → MayTell Iden
 identify_may NoMemory n = n refl
 identify_may refusal n = tt
 
--- the body that was made of a refusal is one that the command tells
+-- the body that was made of a refusal is one that the command reports
 pub refused_as : {E : Type 0} (entries : List EntryView) (command : Command) (raw : RawView) (G : Graph) (refusal : Refusal) (r : Result OutcomeBody E)
     → IsGraph (graph_of raw) → IsInOrder (graph_of raw) G → IsTrueOf G refusal → (refusal ≢ NoMemory → MayTell command refusal)
     → IfOk r (λ body. body ≡ Refused (size_of raw) raw.names refusal) → IfOk r (λ body. refusal ≢ NoMemory) → IfOk r (IsBodyOf entries command (Net raw))

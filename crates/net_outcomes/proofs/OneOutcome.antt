@@ -1,4 +1,4 @@
--- What a command tells of a block is one.
+-- What a command reports on a block is one.
 use Rattle.std.proofs.Common.{◌≡◌, ◌≢◌, inl, inr, ℕ, ◌+◌, ◌&&◌, Bool, List, [], ◌∷◌, ◌++◌, length, map, Some, refl, sym, ap, ◌∙◌, subst}
 use Rattle.std.specs.Prelude.{codes}
 use Rattle.std.specs.List.{list_all}
@@ -58,13 +58,13 @@ one_list_of_names G (e ∷ es) (x ∷ xs) (y ∷ ys) (inl h) (inr k) = absurd (k
 one_list_of_names G (e ∷ es) (x ∷ xs) (y ∷ ys) (inr h) (inl k) = absurd (h.0 k.0)
 one_list_of_names G (e ∷ es) (x ∷ xs) (y ∷ ys) (inr h) (inr k) = one_list_of_names G es (x ∷ xs) (y ∷ ys) h.1 k.1
 
--- two bodies have one text, and tell one key and whether the block was accepted
+-- two bodies have one text, and say one key and whether the block was accepted
 pub record SpeakAlike (a b : OutcomeBody) : Type 0 where
   pub text : body_text a ≡ body_text b
   pub accepted : is_accepted_body a ≡ is_accepted_body b
   pub key : key_told a ≡ key_told b
 
--- where components are asked for no refusal of the whole net is told
+-- where components are asked for no refusal of the whole net is reported
 none_of_components : (r : Refusal) → ¬ MayTell Components r
 none_of_components NoMemory m = m
 none_of_components (Disconnected split) m = m
@@ -82,7 +82,7 @@ module _ (raw : RawView) where
   same_size : (s t : Size) (G H : Graph) → IsGraphOf raw s G → IsGraphOf raw t H → s ≡ t
   same_size s t G H a b = a.size_is ∙ sym b.size_is
 
-  -- want of memory may not be told
+  -- running out of memory may not be reported
   told : (command : Command) (refusal : Refusal) → MayTell command refusal → refusal ≢ NoMemory
   told command refusal may e = subst (MayTell command) e may
 
@@ -176,7 +176,7 @@ module _ (raw : RawView) where
       let told = one_telling_of_parts a.graph raw.names x y xs ys a.read.is_graph a.told (subst (λ G. AreComponentsTold G raw.names y ys) (sym graph) b.told) in
       record { text = λ i. size_text (size i) ++ told.1 i; accepted = told.0; key = refl }
 
--- what a command tells of a block is one
+-- what a command reports on a block is one
 pub one_body : (entries : List EntryView) (command : Command) (body : BodyView) (a b : OutcomeBody) → IsBodyOf entries command body a → IsBodyOf entries command body b → SpeakAlike a b
 one_body entries command (Other token) (Unsupported t) (Unsupported u) h k = record { text = λ i. unsupported_text ((h ∙ sym k) i); accepted = refl; key = refl }
 one_body entries command (Other token) (Unsupported t) b h k = absurd k
@@ -208,7 +208,7 @@ one_body entries Components (Net raw) (Lines s x xs) (Refused t ns r) h k = absu
 one_body entries Components (Net raw) (Lines s x xs) b h k = absurd k
 one_body entries command (Net raw) a b h k = absurd h
 
--- two lists of outcomes tell the same
+-- two lists of outcomes say the same
 pub record TellTheSame (os ps : List Outcome) : Type 0 where
   pub text : report_text os ≡ report_text ps
   pub accepted : map is_accepted os ≡ map is_accepted ps
@@ -223,7 +223,7 @@ one_text entries command number block o p h k =
     let body = (one_body entries command block.body o.body p.body h.body k.body).text in
     λ i. header_text (n i) (line i) (name i) ++ body i
 
--- the outcomes of blocks tell the same
+-- the outcomes of blocks say the same
 pub one_telling : (entries : List EntryView) (command : Command) (n : ℕ) (bs : List BlockView) (os ps : List Outcome) → AreOutcomesFrom entries command n bs os → AreOutcomesFrom entries command n bs ps → TellTheSame os ps
 one_telling entries command n [] [] [] h k = record { text = refl; accepted = refl; keys = refl }
 one_telling entries command n [] (o ∷ os) ps h k = absurd h
@@ -240,7 +240,7 @@ one_telling entries command n (b ∷ bs) (o ∷ os) (p ∷ ps) h k =
       keys = λ i. body.key i ∷ rest.keys i;
     }
 
--- whether all are accepted is told by whether each is
+-- whether all are accepted is known from whether each is
 all_of : (os : List Outcome) → list_all is_accepted os ≡ list_all (λ (b : Bool). b) (map is_accepted os)
 all_of [] = refl
 all_of (o ∷ os) = ap (λ b. is_accepted o && b) (all_of os)

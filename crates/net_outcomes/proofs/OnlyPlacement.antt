@@ -1,4 +1,4 @@
--- The placement that is told is the only one but for its translates.
+-- The placement that is reported is the only one but for its translates.
 use Rattle.std.proofs.Common.{◌≡◌, ◌⊎◌, ℕ, ◌≤◌, sym, subst}
 use Rattle.std.proofs.lemmas.List.Elements.{All-weaker}
 use Rattle.std.proofs.lemmas.List.Sorted.{All-permutation}

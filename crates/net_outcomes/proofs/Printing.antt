@@ -1,4 +1,4 @@
--- What is told of a block can be printed.
+-- What is reported of a block can be printed.
 use Rattle.std.proofs.Common.{◌≡◌, ℕ, ℤ, ◌≤◌, List, length, refl, sym, ap, subst, ◌∙◌}
 use Rattle.std.proofs.lemmas.List.Sorted.{IsPermutation-sym}
 use Rattle.periodic_net.specs.Graph.{Graph, arc, IsGraph, IsQuotientVertex}
@@ -42,13 +42,13 @@ named_site raw H p (ArcPart u v s c) value g o h =
     let inside = arc_inside G g (arc u v s) (same_arc H G (IsPermutation-sym G.edges H.edges o.edges) (arc u v s) h.is_arc) in
     (λ some. inside.from, λ some. inside.to)
 
--- and so have those of any site that is told
+-- and so have those of any site that is reported
 named_wide : (raw : RawView) (H : Graph) (w : WidePlacement) (site : WideSite) → site ≡ w.site → IsGraph (graph_of raw) → IsInOrder (graph_of raw) H → IsWideOf H w site → AreNamed raw.names site
 named_wide raw H w (Denominator u c) e g o h = named_site raw H h.1.placement (Denominator u c) w.value g o (subst (λ s. IsWideAt H h.1.placement s w.value) (sym e) h.1.wide)
 named_wide raw H w (ArcPart u v s c) e g o h = named_site raw H h.1.placement (ArcPart u v s c) w.value g o (subst (λ s. IsWideAt H h.1.placement s w.value) (sym e) h.1.wide)
 named_wide raw H w (Beyond at) e g o h = tt
 
--- a true refusal that may be told has a line with the names of the block
+-- a true refusal that may be reported has a line with the names of the block
 refusal_line : (command : Command) (raw : RawView) (H : Graph) (refusal : Refusal) → IsGraph (graph_of raw) → IsInOrder (graph_of raw) H
     → MayTell command refusal → IsTrueOf H refusal → HasLine raw.names refusal
 refusal_line command raw H (Disconnected split) g o m h = tt
@@ -66,7 +66,7 @@ abbrev IsGraphBody : BodyView → Type 0
 IsGraphBody (Net raw) = IsGraph (graph_of raw)
 IsGraphBody body = Unit {0}
 
--- what a command tells of a body can be printed
+-- what a command reports on a body can be printed
 told_of_body : (entries : List EntryView) (command : Command) (body : BodyView) (told : OutcomeBody) → IsGraphBody body → IsBodyOf entries command body told → IsPrintableBody told
 told_of_body entries command body (Unsupported token) g h = tt
 told_of_body entries command body (Malformed fault) g h = tt
@@ -83,7 +83,7 @@ told_of_body entries command (Net raw) told g h = absurd h
 told_of_body entries command (Other token) told g h = absurd h
 told_of_body entries command (Faulty fault) told g h = absurd h
 
--- and so can what it tells of any block
+-- and so can what it reports on any block
 pub told_of_block : (entries : List EntryView) (command : Command) (body : Body) (told : OutcomeBody) → IsReadBody body → IsBodyOf entries command (body_view body) told → IsPrintableBody told
 told_of_block entries command (read.Graph raw) told g h = told_of_body entries command (Net (raw_view raw)) told g.is_graph h
 told_of_block entries command (read.Unsupported token) told g h = told_of_body entries command (Other token.now) told tt h

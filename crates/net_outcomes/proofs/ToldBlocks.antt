@@ -24,7 +24,7 @@ pub record AreToldOn (entries : List EntryView) (command : Command) (bs : List B
   pub all : accepted ≡ list_all is_accepted outcomes
   pub report : text ≡ report_text outcomes
 
--- at first no block is told
+-- at first no block is reported
 pub told_none : (entries : List EntryView) (command : Command) (bs : List BlockView) → AreToldOn entries command bs 0 1 true []
 told_none entries command bs = record {
   outcomes = [];
@@ -37,7 +37,7 @@ told_none entries command bs = record {
 accepted_last : (os : List Outcome) (o : Outcome) → list_all is_accepted (os ++ o ∷ []) ≡ (list_all is_accepted os && is_accepted o)
 accepted_last os o = list_all-append is_accepted os (o ∷ []) ∙ ap (λ (b : Bool). list_all is_accepted os && b) (and-true (is_accepted o))
 
--- the next block is told
+-- the next block is reported
 pub told_next : (entries : List EntryView) (command : Command) (found : List Block) (i number : ℕ) (accepted this : Bool) (text new : List ℕ) (block : Block) → i < length found → block ≡ get_or found i block
     → AreToldOn entries command (views found) i number accepted text → IsBlockTold entries command number (block_view block) this text new → AreToldOn entries command (views found) (i + 1) (number + 1) (accepted && this) new
 told_next entries command found i number accepted this text new block l is h t = record {
@@ -47,7 +47,7 @@ told_next entries command found i number accepted this text new block l is h t =
   report = t.report ∙ ap (λ (s : List ℕ). s ++ outcome_text t.outcome) h.report ∙ sym (report_last h.outcomes t.outcome);
 }
 
--- all blocks are told
+-- all blocks are reported
 pub told_whole : (entries : List EntryView) (command : Command) (found : List Block) (i number : ℕ) (accepted : Bool) (text : List ℕ) → length found ≤ i → AreToldOn entries command (views found) i number accepted text
     → All IsEntry entries → All (λ (b : Block). IsReadBody b.body) found → IsReport command entries (views found) accepted text
 told_whole entries command found i number accepted text l h good read = record {

@@ -17,7 +17,7 @@ use Rattle.net_commands.specs.declared.command.Command.{Command}
 use Rattle.net_commands.specs.declared.command.Command.TheVariants.{Components}
 use Rattle.net_outcomes.specs.Outcomes.{AreOutcomesFrom, is_accepted}
 
--- the key that is told of a block
+-- the key that is reported of a block
 abbrev pub key_told : OutcomeBody → Option (List ℤ)
 key_told (Keyed size net) = Some (net_view net).key
 key_told (Identified size vertices net shells names) = Some (net_view net).key
@@ -29,7 +29,7 @@ pub record IsBlockAt (blocks : List BlockView) (outcomes : List Outcome) (i : �
   pub block_is : slice_index_or blocks i block ≡ block
   pub outcome_is : slice_index_or outcomes i outcome ≡ outcome
 
--- block number i, counted from 0, is the graph raw, and xs is the key that is told of it
+-- block number i, counted from 0, is the graph raw, and xs is the key that is reported of it
 pub record HasKeyAt (blocks : List BlockView) (outcomes : List Outcome) (i : ℕ) (raw : RawView) (xs : List ℤ) : Type 0 where
   pub block : BlockView
   pub outcome : Outcome

@@ -1,4 +1,4 @@
--- What is told of blocks is one.
+-- What is reported of blocks is one.
 use Rattle.std.specs.Prelude.{◌≡◌, ℕ, Bool, List}
 use Rattle.cgd_read.specs.Views.{BlockView}
 use Rattle.net_entries.specs.Entries.{EntryView}

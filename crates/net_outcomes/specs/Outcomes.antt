@@ -29,7 +29,7 @@ use Rattle.net_commands.specs.declared.command.Command.TheVariants.{Check, Place
 abbrev pub size_of : RawView → Size
 size_of raw = record { dim = raw.dim; vertices = length raw.names; edges = length raw.edges; repeats = raw.repeats }
 
--- a command may tell this refusal of a net
+-- a command may report this refusal of a net
 abbrev pub MayTell : Command → Refusal → Type 0
 MayTell command NoMemory = ⊥
 MayTell Check refusal = IsOfConnecting refusal
@@ -44,7 +44,7 @@ pub record IsGraphOf (raw : RawView) (size : Size) (G : Graph) : Type 0 where
   pub in_order : IsInOrder (graph_of raw) G
   pub is_graph : IsGraph G
 
--- a refusal that the command may tell, and that is true of the block's graph, beside the names of its vertices
+-- a refusal that the command may report, and that is true of the block's graph, beside the names of its vertices
 pub record IsRefusedAs (command : Command) (raw : RawView) (size : Size) (names : List (List ℕ)) (refusal : Refusal) : Type 0 where
   pub graph : Graph
   pub read : IsGraphOf raw size graph
@@ -78,7 +78,7 @@ pub record IsKeyedAs (raw : RawView) (size : Size) (net : KeyedNet) : Type 0 whe
   pub keyed : IsKeyed (net_view net)
 
 -- the block's graph has a key, and this is its net, with the placement, the only one but for translates, the primitive graph, the
--- key and the sizes of shells; and these are the names of exactly the isomorphic entries
+-- key and the coordination sequences; and these are the names of exactly the isomorphic entries
 pub record IsIdentifiedAs (entries : List EntryView) (raw : RawView) (size : Size) (vertices : List (List ℕ)) (net : KeyedNet) (shells names : List (List ℕ)) : Type 0 where
   pub keyed : IsKeyedAs raw size net
   pub vertices_are : vertices ≡ raw.names
@@ -86,13 +86,13 @@ pub record IsIdentifiedAs (entries : List EntryView) (raw : RawView) (size : Siz
   pub shells_are : AreSequencesOf keyed.graph shells
   pub names_are : AreNamesOf keyed.graph entries names
 
--- the components of the block's graph are told in these lines: each part with its key or its refusal, or why there are no parts
+-- the components of the block's graph are reported in these lines: each part with its key or its refusal, or why there are no parts
 pub record IsDividedAs (raw : RawView) (size : Size) (accepted : Bool) (lines : List ℕ) : Type 0 where
   pub graph : Graph
   pub read : IsGraphOf raw size graph
   pub told : AreComponentsTold graph raw.names accepted lines
 
--- what a command tells of a block, beside an archive with these entries
+-- what a command reports on a block, beside an archive with these entries
 abbrev pub IsBodyOf : List EntryView → Command → BodyView → OutcomeBody → Type 0
 IsBodyOf entries command (Other token) (Unsupported told) = told.now ≡ token
 IsBodyOf entries command (Faulty fault) (Malformed told) = told ≡ fault
@@ -132,7 +132,7 @@ is_accepted_body (Lines size accepted lines) = accepted
 abbrev pub is_accepted : Outcome → Bool
 is_accepted o = is_accepted_body o.body
 
--- the net that is told of a block with its key alone
+-- the net that is reported of a block with its key alone
 abbrev pub net_told : OutcomeBody → Option KeyedNet
 net_told (Keyed size net) = Some net
 net_told body = None

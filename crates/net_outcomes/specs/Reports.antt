@@ -9,7 +9,7 @@ use Rattle.net_commands.specs.declared.command.Command.{Command}
 use Rattle.net_outcomes.specs.Deciding.{AreOutcomes}
 use Rattle.net_outcomes.specs.Outcomes.{IsOutcomeOf, is_accepted}
 
--- what is told of the block with this number, put last in a text, and whether the block was accepted
+-- what is reported of the block with this number, put last in a text, and whether the block was accepted
 pub record IsBlockTold (entries : List EntryView) (command : Command) (number : ℕ) (block : BlockView) (accepted : Bool) (old new : List ℕ) : Type 0 where
   pub outcome : Outcome
   pub is_outcome : IsOutcomeOf entries command number block outcome

@@ -1,4 +1,4 @@
-// What a command tells of a block.
+// What a command reports on a block.
 ghost use Rattle.std.specs.Prelude.{◌≡◌, ◌≢◌, IfOk, List};
 ghost use Rattle.least_key.specs.AnyNets.{net_view};
 ghost use Rattle.net_archive.specs.Archives.{IsArchive};
@@ -9,7 +9,7 @@ ghost use Rattle.cgd_read.specs.Views.{Net as ReadNet, body_view, raw_view};
 ghost use Rattle.cgd_read.specs.Blocks.{IsReadBody};
 ghost use Rattle.net_outcomes.specs.Outcomes.{size_of, IsBodyOf, IsKeyedAs};
 
-use cgd_read::{Block, Body, Names, RawGraph};
+use cgd_read::{Block, Body, Names, RawGraph, from_raw};
 use component_report::tell_components;
 use least_key::{Net, Refusal, check_any, identify, place_any};
 use net_archive::Archive;
@@ -92,7 +92,7 @@ fn names_for<'a>(alloc: Global, archive: &'a Archive, net: &Net) -> Result<Names
     Ok(names)
 }
 
-// What is told of a net that has a key.
+// What is reported of a net that has a key.
 fn identified_body<'a>(
     alloc: Global,
     archive: &'a Archive,
@@ -132,7 +132,7 @@ fn identify_net<'a>(
     }
 }
 
-// What is told of the components of a net.
+// What is reported of the components of a net.
 fn components_net<'a>(alloc: Global, raw: &RawGraph<'a>) -> Result<OutcomeBody<'a>, NoMemory>
     requires { IsReadGraph (raw_view raw.now) }
     ensures { (entries : List EntryView) →
@@ -147,7 +147,7 @@ fn components_net<'a>(alloc: Global, raw: &RawGraph<'a>) -> Result<OutcomeBody<'
     })
 }
 
-/// What a command tells of a block, beside an archive.
+/// What a command reports on a block, beside an archive.
 pub fn body_of<'a>(
     alloc: Global,
     command: Command,

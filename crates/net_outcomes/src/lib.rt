@@ -1,4 +1,4 @@
-//! What a command tells of each block of a text, beside an archive.
+//! What a command reports on each block of a text, beside an archive.
 #![tactic(auto)]
 
 mod bodies;

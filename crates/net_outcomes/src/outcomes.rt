@@ -14,7 +14,7 @@ use net_commands::Command;
 use net_report::{NoMemory, Outcome, OutcomeBody, Outcomes};
 use std::alloc::Global;
 
-/// What a command tells of the block with this number, beside an archive.
+/// What a command reports on the block with this number, beside an archive.
 pub fn outcome_of<'a>(
     alloc: Global,
     command: Command,
@@ -36,7 +36,7 @@ pub fn outcome_of<'a>(
     })
 }
 
-/// What a command tells of each block, beside an archive. All outcomes stand in memory.
+/// What a command reports on each block, beside an archive. All outcomes stand in memory.
 pub fn outcomes_of<'a>(
     alloc: Global,
     command: Command,

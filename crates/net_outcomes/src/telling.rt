@@ -1,4 +1,4 @@
-// The report on the blocks of a text, which are told one by one.
+// The report on the blocks of a text, which are reported one by one.
 ghost use Rattle.std.specs.Prelude.{◌≡◌, ◌≤◌, ◌++◌, All, IfOk, OnOk, length};
 ghost use Rattle.cgd_read.specs.Views.{block_view, views};
 ghost use Rattle.cgd_read.specs.Blocks.{IsReadBody, most_blocks};
@@ -20,7 +20,7 @@ pub struct Told {
     pub all_accepted: bool,
 }
 
-// Puts the text of an outcome last, and tells whether its block was accepted.
+// Puts the text of an outcome last, and shows whether its block was accepted.
 fn tell_outcome(text: &mut Vec<u8>, outcome: &Outcome<'_>) -> Result<bool, NoMemory>
     requires { IsPrintable outcome.now }
     ensures text { OnOk result (text.new.items ≡ text.old.items ++ outcome_text outcome.now) }
@@ -46,8 +46,8 @@ fn tell_block(
     tell_outcome(text, &outcome)
 }
 
-/// Tells what a command tells of each block, beside an archive. An outcome is let go once its text
-/// is written.
+/// Writes what a command reports on each block, beside an archive. An outcome is let go once its
+/// text is written.
 pub fn tell_blocks(
     alloc: Global,
     command: Command,

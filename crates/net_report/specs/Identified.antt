@@ -7,7 +7,7 @@ use Rattle.net_report.specs.Placements.{placement_text}
 use Rattle.net_report.specs.Primitives.{primitive_text}
 use Rattle.net_report.specs.Sequences.{shells_text}
 
--- a line for each list of sizes of shells, the first for the class with this number
+-- a line for each coordination sequence, the first for the class with this number
 abbrev pub sequences_text : ℕ → List (List ℕ) → List ℕ
 sequences_text class [] = []
 sequences_text class (sizes ∷ lists) = shells_text class sizes ++ sequences_text (class + 1) lists
@@ -21,7 +21,7 @@ abbrev pub archive_names_text : List (List ℕ) → List ℕ
 archive_names_text [] = []
 archive_names_text (name ∷ names) = archive_name_text name ++ archive_names_text names
 
--- how many names of an archive are told, and the names
+-- how many names of an archive are reported, and the names
 abbrev pub found_names_text : List (List ℕ) → List ℕ
 found_names_text names = field_text (codes "names ") (length names) ++ codes "\n" ++ archive_names_text names
 
@@ -29,6 +29,6 @@ found_names_text names = field_text (codes "names ") (length names) ++ codes "\n
 abbrev pub net_text : List (List ℕ) → KeyedNet → List ℕ
 net_text vertices n = placement_text vertices n.placed ++ primitive_text n.cell ++ key_text n.key
 
--- and the sizes of shells of its classes, and the names that an archive has for it
+-- and the coordination sequences of its classes, and the names that an archive has for it
 abbrev pub identified_text : List (List ℕ) → KeyedNet → List (List ℕ) → List (List ℕ) → List ℕ
 identified_text vertices n shells names = net_text vertices n ++ sequences_text 1 shells ++ found_names_text names

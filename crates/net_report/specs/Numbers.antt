@@ -1,4 +1,4 @@
--- How vertices are printed.
+-- How vertices are printed: by their names, or by their numbers.
 use Rattle.std.specs.Prelude.{ℕ, ◌-◌, ◌<◌, ◌≤◌, ◌==◌, List, [], length, slice_index_or, if◌then◌else◌}
 use Rattle.std.specs.Fmt.{decimal}
 

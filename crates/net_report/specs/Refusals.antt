@@ -31,13 +31,13 @@ site_text names dim (Denominator u c) = codes " denominator u=" ++ vertex_text n
 site_text names dim (ArcPart u v s c) = codes " arc u=" ++ vertex_text names u ++ codes " v=" ++ vertex_text names v ++ codes " s=" ++ list_text (parts dim s) ++ field_text (codes " c=") c
 site_text names dim (Beyond at) = codes " beyond" ++ place_text at
 
--- a number past its limit, where it is told
+-- a number past its limit, where it is reported
 abbrev pub value_text : WideSite → ℤ → List ℕ
 value_text (Denominator u c) value = codes " value=" ++ signed_decimal value
 value_text (ArcPart u v s c) value = codes " value=" ++ signed_decimal value
 value_text (Beyond at) value = []
 
--- two vertices in one place: u in cell 0, and v in cell t, which has dim parts
+-- two vertices at one position: u in cell 0, and v in cell t, which has dim parts
 abbrev pub collision_text : List (List ℕ) → ℕ → ℕ → ℕ → Vector → List ℕ
 collision_text names dim u v t = codes " u=" ++ vertex_text names u ++ codes " v=" ++ vertex_text names v ++ codes " t=" ++ list_text (parts dim t)
 
@@ -45,7 +45,7 @@ collision_text names dim u v t = codes " u=" ++ vertex_text names u ++ codes " v
 abbrev pub work_text : ℕ → ℕ → List ℕ
 work_text done counted = field_text (codes " starts=") done ++ field_text (codes " counted=") counted
 
--- the number and the name of a refusal; want of memory has none
+-- the number and the name of a refusal; running out of memory has none
 abbrev pub refusal_name : Refusal → List ℕ
 refusal_name (Disconnected split) = codes "1 Disconnected"
 refusal_name (Degenerate split) = codes "2 Degenerate"
@@ -55,7 +55,7 @@ refusal_name (TooMuch done counted) = codes "6 TooMuch"
 refusal_name (NoModulus first second third) = codes "7 NoModulus"
 refusal_name NoMemory = []
 
--- what is told after the name of a refusal
+-- what is reported after the name of a refusal
 abbrev pub refusal_details : List (List ℕ) → Refusal → List ℕ
 refusal_details names (Disconnected split) = split_text split
 refusal_details names (Degenerate split) = split_text split

@@ -7,6 +7,6 @@ abbrev pub sizes_after : List ℕ → List ℕ
 sizes_after [] = []
 sizes_after (n ∷ ns) = field_text (codes " ") n ++ sizes_after ns
 
--- the sizes of the shells of a class
+-- the coordination sequence of a class
 abbrev pub shells_text : ℕ → List ℕ → List ℕ
 shells_text class sizes = field_text (codes "shells ") class ++ sizes_after sizes ++ codes "\n"

@@ -80,8 +80,8 @@ fn push_net(text: &mut Vec<u8>, vertices: &Names<'_>, net: &Net) -> Result<(), N
     }
 }
 
-/// The placement, the primitive graph, the key and the sizes of shells of a net, and its names in
-/// an archive.
+/// The placement, the primitive graph, the key and the coordination sequences of a net, and its
+/// names in an archive.
 pub fn push_identified(
     text: &mut Vec<u8>,
     vertices: &Names<'_>,

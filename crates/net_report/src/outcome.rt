@@ -13,14 +13,15 @@ pub struct Size {
     pub repeats: u32,
 }
 
-/// What is told of a block, after its header. The names are those of the graph's vertices.
+/// What is reported of a block, after its header. The names are those of the graph's vertices.
 #[derive(Drop)]
 pub enum OutcomeBody<'a> {
     /// The token that opens a block which is no graph block.
     Unsupported(&'a [u8]),
     /// The first fault of a graph block.
     Malformed(BlockFault),
-    /// The first fault of an item of another kind of text: its line, and the number and the name of its kind.
+    /// The first fault of an item of another kind of text: its line, and the number and the name of
+    /// its kind.
     Faulty {
         line: u32,
         number: u8,
@@ -34,7 +35,7 @@ pub enum OutcomeBody<'a> {
     Located(Size, Names<'a>, AnyPlaced),
     /// The net has a key.
     Keyed(Size, Net),
-    /// The net has a key, these sizes of shells, and these names in an archive.
+    /// The net has a key, these coordination sequences, and these names in an archive.
     Identified {
         size: Size,
         vertices: Names<'a>,
@@ -50,7 +51,7 @@ pub enum OutcomeBody<'a> {
     },
 }
 
-/// What is told of a block: its number, the line that opens it, and its name.
+/// What is reported of a block: its number, the line that opens it, and its name.
 #[derive(Drop)]
 pub struct Outcome<'a> {
     pub number: u32,

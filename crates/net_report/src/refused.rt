@@ -168,7 +168,8 @@ pub fn push_refused(
     text.extend_from_slice(b"\n")
 }
 
-/// The line of a refusal. A vertex is told by its name, or by its number where there are no names.
+/// The line of a refusal. A vertex is reported by its name, or by its number where there are no
+/// names.
 pub fn refused_line(
     alloc: Global,
     refusal: &Refusal,

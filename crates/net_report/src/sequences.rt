@@ -15,7 +15,7 @@ fn push_sizes_after(text: &mut Vec<u8>, sizes: &[u32]) -> Result<(), NoMemory>
     Ok(())
 }
 
-/// The sizes of the shells of a vertex of a class.
+/// The coordination sequence of a class: the sizes of the shells of a vertex.
 pub fn push_shells(text: &mut Vec<u8>, class: u64, sizes: &[u32]) -> Result<(), NoMemory>
     ensures { OnOk result (text.new.items ≡ text.old.items ++ shells_text class sizes.now) }
 {

@@ -56,7 +56,7 @@ fn push_body(text: &mut Vec<u8>, body: &OutcomeBody<'_>) -> Result<(), NoMemory>
     }
 }
 
-/// The text of an outcome: its header, and what is told.
+/// The text of an outcome: its header, and what is reported.
 pub fn push_outcome(text: &mut Vec<u8>, outcome: &Outcome<'_>) -> Result<(), NoMemory>
     requires { IsPrintable outcome.now }
     ensures { OnOk result (text.new.items ≡ text.old.items ++ outcome_text outcome.now) }

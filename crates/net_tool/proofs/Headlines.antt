@@ -27,7 +27,7 @@ headline_over name archive_name holds before after status text (Some bytes) arch
   written = wrote;
 }
 
--- and so to the words
+-- and so to the arguments
 headline_due : (task : Option Task) (holds : Holds) (before after : Option (List ℕ)) (status : Status) (text : List ℕ) → IsDue task holds status text → Appends before after text
     → IsReported status → HasHeadline task holds before after status
 headline_due (Some (Tell Identify name archive)) holds before after Done text due wrote r =
@@ -37,7 +37,7 @@ headline_due (Some (Tell Identify name archive)) holds before after SomeRefused 
 headline_due (Some (Tell Identify name archive)) holds before after status text due wrote r = absurd r
 headline_due task holds before after status text due wrote r = tt
 
--- an answer to the words has the headline
+-- an answer to the arguments has the headline
 pub headline_of : (words : List (List ℕ)) (holds : Holds) (before after : Option (List ℕ)) (status : Status) → (IsAnswered status → IsAnswer words holds before after status)
     → IsReported status → HasHeadline (task_of words) holds before after status
 headline_of words holds before after Done answer r = let a = answer tt in headline_due (task_of words) holds before after Done a.0 a.1 a.2 r

@@ -63,7 +63,7 @@ module _ (of : List ℕ → List ℕ) where
   one_way task s t x y (Over h) (Large e l f) = absurd (not_large task s x h l)
   one_way task s t x y (Over h) (Over k) = one_over task s t x y h k
 
--- to words that ask for no task one answer is due, and so to a task
+-- to arguments that ask for no task one answer is due, and so to a task
 pub one_answer : OneAnswer
 one_answer None of s t x y h k = (h.0 ∙ sym k.0, h.1 ∙ sym k.1)
 one_answer (Some task) of s t x y h k = one_way of task s t x y (way_of of task s x h) (way_of of task t y k)

@@ -1,4 +1,4 @@
--- When a run tells of each block.
+-- When a run reports on each block.
 use Rattle.std.specs.Prelude.{ℕ, ◌≡◌, ◌≤◌, List, [], length, Option, None, Some, unwrap_or}
 use Rattle.outside.specs.Held.{Holds}
 use Rattle.cgd_read.specs.Blocks.{blocks_of, most_blocks}
@@ -37,7 +37,7 @@ pub record AreFilesWithin (task : Task) (holds : Holds) : Type 0 where
   pub entries : ArchiveView
   pub is_archive : IsArchiveIn (bytes_of_name of (archive_named task)) entries
 
--- the words name a task whose files are so
+-- the arguments name a task whose files are so
 abbrev pub AreWithin : Option Task → Holds → Type 0
 AreWithin None holds = ⊥
 AreWithin (Some task) holds = AreFilesWithin task holds

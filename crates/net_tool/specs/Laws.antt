@@ -4,6 +4,6 @@ use Rattle.command_words.specs.Tasks.{Task}
 use Rattle.statuses.specs.declared.status.Status.{Status}
 use Rattle.net_tool.specs.Run.{IsDue}
 
--- two answers that are due to the same words, over files that tell their bytes, have one status and one text
+-- two answers that are due to the same arguments, over files whose bytes the shelf shows, have one status and one text
 abbrev pub OneAnswer : Type 0
 OneAnswer = (task : Option Task) (of : List ℕ → List ℕ) (s t : Status) (x y : List ℕ) → IsDue task (Some of) s x → IsDue task (Some of) t y → (s ≡ t) × (x ≡ y)

@@ -43,7 +43,7 @@ abbrev pub IsDueOf : Task → Holds → Status → List ℕ → Type 0
 IsDueOf task holds TooLarge text = IsTooLarge task holds × (text ≡ [])
 IsDueOf task holds status text = IsDueOver task holds status text
 
--- these words, over these files, ask for this answer
+-- these arguments, over these files, ask for this answer
 abbrev pub IsDue : Option Task → Holds → Status → List ℕ → Type 0
 IsDue None holds status text = (status ≡ Usage) × (text ≡ usage_line)
 IsDue (Some task) holds status text = IsDueOf task holds status text
@@ -66,7 +66,7 @@ FailedAt (Some name) last = last ≡ Failed name
 abbrev pub FailedAtTask : Task → Holds → Last → Type 0
 FailedAtTask task holds last = FailedAt (file_named task) last ⊎ (HasFewBytes (file_named task) holds × FailedAt (archive_named task) last)
 
--- the last read failed so, of a file that the words name
+-- the last read failed so, of a file that the arguments name
 abbrev pub FailedAtFile : Option Task → Holds → Last → Type 0
 FailedAtFile None holds last = ⊥
 FailedAtFile (Some task) holds last = FailedAtTask task holds last

@@ -14,14 +14,18 @@ pub fn read_named<H: Shelf>(
     shelf: &mut H,
     name: Option<&str>,
 ) -> Result<Option<Vec<u8>>, InFault>
+    // The bytes of the file, where one is named.
     ensures bytes { IfOk result (λ bytes.
         AreBytesOf (option_copied name.entry) (H.holds shelf.old) (bytes_in bytes)) }
+    // A fault of the host comes by its cause, at this file.
     ensures fault { IsErrOf result InFault.ReadFault →
         Rose (H.faults shelf.old) (H.faults shelf.new) }
     ensures fault_at { IsErrOf result InFault.ReadFault →
         FailedAt (option_copied name.entry) (H.last shelf.new) }
+    // It is refused as too large only where it has more bytes than are taken.
     ensures large { (n : ℕ) → IsErrOf result (InFault.TooLarge n) →
         HasManyBytes (option_copied name.entry) (H.holds shelf.old) }
+    // The files are as before, and the count of failures does not fall.
     ensures same { H.holds shelf.new ≡ H.holds shelf.old }
     ensures later { H.faults shelf.old ≤ H.faults shelf.new }
 {

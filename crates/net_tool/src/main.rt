@@ -1,5 +1,5 @@
-//! `net_tool COMMAND [FILE] [--archive PATH] [--name NAME] [--cell ROWS]`: reads nets and tells what
-//! they are.
+//! `net_tool COMMAND [FILE] [--archive PATH] [--name NAME] [--cell ROWS]`: reads nets and says
+//! what they are.
 #![tactic(auto)]
 
 mod files;
@@ -15,10 +15,10 @@ use std::process::ExitCode;
 use std::{env, io};
 use tool::run;
 
-/// The exit status where the runtime does not give the words for another cause than want of memory.
+/// The exit status where the runtime does not give the arguments though memory did not run out.
 const NO_WORDS: u8 = 20;
 
-// The exit status where the words cannot be had.
+// The exit status where the arguments cannot be had.
 fn status_without_words(error: &io::Error) -> u8 {
     match error.kind() {
         io::ErrorKind::OutOfMemory => Status::NoMemory.number(),

@@ -11,8 +11,9 @@ use outside::{HonestShelf, MemorySink};
 use statuses::Status;
 use std::alloc::Global;
 
-/// Does what the words say, over files that never fail to be read, and writes into memory. So no
-/// fault of the host comes, and within the limits each block is answered, unless memory is refused.
+/// Does what the arguments say, over files that never fail to be read, and writes into memory. So
+/// no fault of the host comes, and within the limits each block is answered, unless memory is
+/// refused.
 pub fn run_in_memory(
     alloc: Global,
     words: &[String],

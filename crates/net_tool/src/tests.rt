@@ -1,4 +1,5 @@
-// Runs over files in memory: the words, the statuses, devices that fail, and files past their limits.
+// Runs over files in memory: the arguments, the statuses, devices that fail, and files past their
+// limits.
 mod devices;
 mod endings;
 

@@ -1,4 +1,4 @@
-// The top call.
+// The top call, `run`: from the arguments to the text that is written, and the status.
 ghost use Rattle.std.specs.Prelude.{◌≡◌, ◌<◌, ◌≤◌, ℕ, IfOk, IfErr, IsErrOf, [], length, take, ◌≢◌};
 ghost use Rattle.std.specs.Io.KnownBytes.{Appends};
 ghost use Rattle.outside.specs.Causes.{Rose};
@@ -18,7 +18,7 @@ use outside::{InFault, Shelf, Sink, write_all};
 use statuses::{Answer, Status};
 use std::alloc::Global;
 
-/// What is printed where the words have no form.
+/// What is printed where the arguments have no form.
 pub const USAGE: &str =
     "usage: net_tool COMMAND [FILE] [--archive PATH] [--name NAME] [--cell ROWS]\n";
 
@@ -95,35 +95,49 @@ fn answer_task<H: Shelf>(alloc: Global, task: &Task<'_>, shelf: &mut H) -> Resul
     Ok(answer_to(alloc, task, &file, archive)?)
 }
 
-/// Does what the words say, over the files of a shelf, and writes the text to a sink. It is all
-/// that the program does: `check`, `place`, `key`, `identify` and `components` tell of each net of
-/// a file whether it is connected, where its vertices stand, what its key is, which nets of an
-/// archive it is, and what its pieces are; `cover` writes nets on a larger cell, `same` a map
-/// between nets, which `verify` checks; `add` puts nets into an archive, `union` unites it with the
-/// nets of another archive or of key lines, `duplicates` finds those that stand in it more than
+/// Does what the arguments say, over the files of a shelf, and writes the text to a sink. It is all
+/// that the program does. `check`, `place`, `key`, `identify` and `components` report on each net
+/// of a file: whether it is connected, where its vertices stand, what its key is, which nets of an
+/// archive it is, and what its pieces are. `cover` writes nets on a larger cell. `same` writes a
+/// map between nets, which `verify` checks. `add` puts nets into an archive, `union` unites it with
+/// the nets of another archive or of key lines. `duplicates` finds those that stand in it more than
 /// once, `migrate` writes it in the newest format, and `workload` measures.
 pub fn run<H: Shelf, W: Sink>(alloc: Global, words: &[String], shelf: &mut H, out: &mut W) -> Status
+    // Status and text are due to the arguments and the files, unless memory or the host fails.
     ensures answer { IsAnswered result →
         IsAnswer (texts_of words.now) (H.holds shelf.old) (W.written out.old) (W.written out.new)
         result }
+    // The headline, of each run of `identify` that answers each block: keys decide isomorphism.
     ensures headline { IsReported result →
         HasHeadline (task_of (texts_of words.now)) (H.holds shelf.old) (W.written out.old)
         (W.written out.new) result }
+    // ReadFault has a cause: the shelf counted a failure in this run.
     ensures read_fault { result ≡ Status.ReadFault →
         Rose (H.faults shelf.old) (H.faults shelf.new) }
+    // And it was at the file of the task; or at its archive, where the file is not too large.
     ensures read_fault_at { result ≡ Status.ReadFault →
         FailedAtFile (task_of (texts_of words.now)) (H.holds shelf.old) (H.last shelf.new) }
+    // WriteFault has a cause: the sink counted a failure in this run.
     ensures write_fault { result ≡ Status.WriteFault → Rose (W.faults out.old) (W.faults out.new) }
+    // Then the beginning of a due text was written, and not all of it; and the sink was not sure to
+    // take so much.
     ensures broken { result ≡ Status.WriteFault →
         IsBroken (texts_of words.now) (H.holds shelf.old) (W.written out.old) (W.written out.new)
         (W.sure out.old) }
+    // Where the sink is sure to take each due text, WriteFault never comes.
     ensures sure { HasRoom (task_of (texts_of words.now)) (H.holds shelf.old) (W.sure out.old) →
         result ≢ Status.WriteFault }
+    // After ReadFault, TooLarge, TooManyBlocks and NoMemory nothing was written.
     ensures silent { IsSilent result → W.written out.new ≡ W.written out.old }
+    // Within the limits each block is answered, or what cannot be done is reported, unless memory
+    // or the host fails.
     ensures complete { AreWithin (task_of (texts_of words.now)) (H.holds shelf.old) →
         IsComplete (task_of (texts_of words.now)) result }
+    // The files are as before.
     ensures same { H.holds shelf.new ≡ H.holds shelf.old }
+    // The count of failed reads does not fall.
     ensures later { H.faults shelf.old ≤ H.faults shelf.new }
+    // Nor does that of failed writes.
     ensures out_later { W.faults out.old ≤ W.faults out.new }
 {
     let Ok(found) = task_of(alloc, words) else {

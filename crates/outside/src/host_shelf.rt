@@ -1,4 +1,4 @@
-// The host's files and standard input as a shelf. Nothing is told of what they hold.
+// The host's files and standard input as a shelf. Nothing is shown of what they hold.
 ghost use Rattle.std.specs.Prelude.{◌≡◌, ◌≤◌, length, None, IfOk, string_bytes};
 ghost use Rattle.outside.specs.Causes.{Rose};
 ghost use Rattle.outside.specs.Last.{Nothing, Failed, MayRead};

@@ -19,7 +19,7 @@ pub enum ShelfFault {
 
 /// Files by their names, of which a piece is read at a time.
 pub trait Shelf {
-    /// The bytes of each name, where the shelf tells them.
+    /// The bytes of each name, where the shelf shows them.
     ghost holds: { Self → Holds };
 
     /// How often the host failed. The count never falls.
@@ -102,15 +102,18 @@ pub fn read_whole<H: Shelf>(
     ensures within { IfOk result (λ v. length v.items ≤ limit) }
     ensures whole_taken { IfOk result (λ v. H.last shelf.new ≡ Given name.now (length v.items)) }
 
+    // TooLarge comes only where it has more bytes; one more than the limit was taken.
     ensures too_large { (n : ℕ) → IsErrOf result (InFault.TooLarge n) →
         (n ≡ limit + 1) × HasMore (H.holds shelf.old) name.now limit }
     ensures too_large_taken { (n : ℕ) → IsErrOf result (InFault.TooLarge n) →
         H.last shelf.new ≡ Given name.now n }
 
+    // A fault comes by its cause, at this name.
     ensures read_fault { IsErrOf result InFault.ReadFault →
         Rose (H.faults shelf.old) (H.faults shelf.new) }
     ensures read_fault_at { IsErrOf result InFault.ReadFault → H.last shelf.new ≡ Failed name.now }
 
+    // The count of failures does not fall, and what the shelf holds stays.
     ensures later { H.faults shelf.old ≤ H.faults shelf.new }
     ensures same { H.holds shelf.new ≡ H.holds shelf.old }
 {

@@ -14,7 +14,7 @@ pub enum SinkFault {
 
 /// Where bytes go, a piece at a time.
 pub trait Sink {
-    /// The bytes written so far, where the sink tells them.
+    /// The bytes written so far, where the sink shows them.
     ghost written: { Self → Option (List ℕ) };
 
     /// How often the host failed. The count never falls.
@@ -45,11 +45,14 @@ pub struct WriteFault {
     pub taken: u64,
 }
 
-/// Writes all the bytes, or tells how many were written before the failure. It takes no memory.
+/// Writes all the bytes, or reports how many were written before the failure. It takes no memory.
 pub fn write_all<W: Sink>(sink: &mut W, bytes: &[u8]) -> Result<(), WriteFault>
+    // All bytes were written; what the sink is sure to take fell by no more than their number.
     ensures all { OnOk result (Appends (W.written sink.old) (W.written sink.new) bytes.now) }
     ensures lowered { OnOk result (W.sure sink.old ≤ W.sure sink.new + length bytes.now) }
 
+    // Else a beginning was written, which is not all. The sink counted a failure, and was not
+    // sure to take so much.
     ensures some { IfErr result (λ e.
         Appends (W.written sink.old) (W.written sink.new) (take e.taken bytes.now)) }
     ensures taken { IfErr result (λ e. e.taken < length bytes.now) }

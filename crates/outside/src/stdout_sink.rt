@@ -1,4 +1,4 @@
-// Standard output as a sink. Nothing is told of what was written.
+// Standard output as a sink. Nothing is shown of what was written.
 ghost use Rattle.std.specs.Prelude.{◌≡◌, None};
 
 use crate::sink::{Sink, SinkFault};

@@ -1,4 +1,4 @@
--- Translations and classes.
+-- The translations and the classes of a placed net, file by file.
 pub mod ByVectors
 pub mod ClassMembers
 pub mod Classes

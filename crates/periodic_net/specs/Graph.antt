@@ -1,5 +1,6 @@
 -- Graphs, their arcs, and the infinite net of a graph.
--- Labelled quotient graphs and their nets are those of Delgado-Friedrichs and O'Keeffe, Acta Cryst. A59 (2003) 351; the normal spelling is this project's own.
+-- These are labelled quotient graphs, of the vector method of Chung, Hahn and Klee, Acta Cryst. A40 (1984) 42-50.
+-- Nets are those of Delgado-Friedrichs and O'Keeffe, Acta Cryst. A59 (2003) 351-360; the normal spelling is this project's own.
 use Rattle.std.specs.Prelude.{◌≡◌, ◌≢◌, ◌⊎◌, ℕ, ◌<◌, ◌≤◌, List, [], ◌∷◌, All, AllPairs, Contains, filter, ◌==◌}
 use Rattle.integers.specs.Vectors.{Vector, plus, minus, opposite, HasDimension, StartsPositive}
 

@@ -1,4 +1,4 @@
--- Functions on the vertices of a net that are at each vertex the mean over its neighbours.
+-- Harmonic functions: functions on the vertices of a net that are at each vertex the mean over its neighbours.
 use Rattle.std.specs.Prelude.{◌≡◌, ℕ, ℤ, pos, ◌-ℤ◌, List}
 use Rattle.integers.specs.Lists.{total}
 use Rattle.integers.specs.Vectors.{Vector, plus, times, HasDimension}

@@ -1,5 +1,6 @@
 -- Placements of the vertices of a net, and their collisions.
--- Barycentric placements, collisions and stability are those of Delgado-Friedrichs and O'Keeffe, Acta Cryst. A59 (2003) 351; whole units of 1/D, the normal form and the limits are this project's own.
+-- Barycentric (equilibrium) placements, collisions and stability are those of Delgado-Friedrichs and O'Keeffe, Acta Cryst. A59 (2003) 351-360.
+-- Whole units of 1/D, the normal form and the limits are this project's own.
 use Rattle.std.specs.Int.{◌∣◌}
 use Rattle.std.specs.Prelude.{◌≡◌, ◌≢◌, ℕ, ◌-◌, ◌≤◌, pos, List, map, slice_index_or, length}
 use Rattle.integers.specs.Vectors.{Vector, zero_vector, plus, minus, times, vector_sum, HasDimension, DividesVector, IsWithin}

@@ -1,5 +1,5 @@
--- Coordination shells, in the net itself.
--- Coordination shells are the usual ones of crystal chemistry.
+-- Coordination shells, in the net itself: their sizes are the coordination sequence of a vertex.
+-- Coordination sequences: O'Keeffe, Z. Krist. 210 (1995) 905; Conway and Sloane, Proc. R. Soc. Lond. A453 (1997) 2369.
 use Rattle.std.specs.Prelude.{◌≡◌, ◌≢◌, ◌↔◌, ℕ, ◌≤◌, List, length, Contains, AllPairs}
 use Rattle.periodic_net.specs.Graph.{Graph, Vertex, IsWalk}
 

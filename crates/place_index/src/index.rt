@@ -9,7 +9,7 @@ use indexmap::IndexMap;
 use std::alloc::Global;
 use std::marker::Model;
 
-/// A list of at most 2^32 numbers, which tells the places of each. Contracts see the list.
+/// A list of at most 2^32 numbers, which gives the places of each. Contracts see the list.
 #[derive(Drop)]
 pub struct PlaceIndex {
     values: Vec<u64>,

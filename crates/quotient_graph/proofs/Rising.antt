@@ -14,7 +14,7 @@ use Rattle.quotient_graph.specs.Order.{arc_numbers, AreRising}
 abbrev pub arc_cmp : Arc → Arc → Ordering
 arc_cmp a b = slice_cmp int_cmp (arc_numbers a) (arc_numbers b)
 
--- the numbers of an arc tell it
+-- the numbers of an arc determine it
 pub arc_from_numbers : (a b : Arc) → arc_numbers a ≡ arc_numbers b → a ≡ b
 arc_from_numbers a b e = let t = ends_tell a.from a.to b.from b.to a.shift b.shift e in λ i. arc ((t.0) i) ((t.1) i) ((t.2) i)
 

@@ -1,4 +1,4 @@
--- A graph with a placement of its vertices.
+-- A graph with a barycentric placement of its vertices.
 use Rattle.std.specs.Prelude.{ℕ, ◌+◌, ◌-◌, ◌*◌, ◌≤ℤ◌, ℤ, pos, List, unsigned_abs}
 use Rattle.integers.specs.Vectors.{Vector}
 use Rattle.periodic_net.specs.Graph.{Graph, IsConnected}

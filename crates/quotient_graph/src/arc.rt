@@ -1,4 +1,4 @@
-// Arcs of a quotient graph.
+// Arcs of a quotient graph, and the normal spelling of an edge.
 ghost use Rattle.std.specs.Prelude.{◌↔◌, IsTrue};
 ghost use Rattle.periodic_net.specs.Graph.{arc, IsNormalSpelling};
 

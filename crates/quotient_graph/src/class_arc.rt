@@ -1,4 +1,4 @@
-// Arcs of a class graph.
+// Arcs of a class graph, as they are seen from a class.
 use std::marker::Model;
 use vecdim::Vect;
 

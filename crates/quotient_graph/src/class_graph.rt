@@ -1,4 +1,4 @@
-// Class graphs in memory.
+// Class graphs in memory: a list of arcs for each class.
 ghost use Rattle.std.specs.Prelude.{◌≡◌, ◌≤◌, length, map, sum_by};
 ghost use Rattle.periodic_net.specs.Correspondence.{IsClass};
 ghost use Rattle.periodic_net.specs.Limits.{most_arcs, most_vertices};

@@ -1,4 +1,4 @@
-// The quotient graph of a net.
+// The labelled quotient graph of a net, with the arcs from each vertex.
 ghost use Rattle.std.specs.Prelude.{◌≡◌, ◌⊎◌, All, Contains, length, IfOk, OnOk};
 ghost use Rattle.periodic_net.specs.Graph.{Arc as NetArc, IsArc, IsGraph, IsQuotientVertex};
 ghost use Rattle.periodic_net.specs.Limits.{IsSmall};

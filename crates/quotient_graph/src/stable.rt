@@ -1,4 +1,4 @@
-// Placed graphs without collisions.
+// Placed graphs without collisions: the graphs of stable nets.
 ghost use Rattle.std.specs.Prelude.{◌≡◌};
 ghost use Rattle.periodic_net.specs.Graph.{IsGraph};
 ghost use Rattle.periodic_net.specs.Limits.{IsSmall};

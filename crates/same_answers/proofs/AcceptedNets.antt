@@ -31,7 +31,7 @@ small_in_order G H o s =
     let t = reordered_small G.dimension G.vertices G.edges H.edges o.edges (record { vertices = s.vertices; edges = s.edges; shifts = s.shifts }) in
     record { vertices = subst (λ (n : ℕ). n ≤ most_vertices) (sym o.vertices) t.vertices; edges = t.edges; shifts = t.shifts }
 
--- this is told of what a block holds: its net
+-- this is reported of what a block holds: its net
 record IsToldNet (view : BodyView) (told : OutcomeBody) : Type 0 where
   net : NetInMemory
   told_is : net_told told ≡ Some net
@@ -41,7 +41,7 @@ record IsToldNet (view : BodyView) (told : OutcomeBody) : Type 0 where
   small : IsSmall (net_view net).placed.graph
   keyed : IsKeyed (net_view net)
 
--- where a block is accepted its net is told
+-- where a block is accepted its net is reported
 told_net : (entries : List EntryView) (body : Body) (told : OutcomeBody) → IsReadBody body → IsBodyOf entries Key (body_view body) told → is_accepted_body told ≡ true → IsToldNet (body_view body) told
 told_net entries body (Unsupported token) read h a = absurd (true≢false (sym a))
 told_net entries body (Malformed fault) read h a = absurd (true≢false (sym a))
@@ -66,7 +66,7 @@ both : (a b : Bool) → (a && b) ≡ true → (a ≡ true) × (b ≡ true)
 both true b e = (refl, e)
 both false b e = absurd (true≢false (sym e))
 
--- so the nets that are told are those of the blocks
+-- so the nets that are reported are those of the blocks
 pub nets_of_blocks : (entries : List EntryView) (n : ℕ) (found : List Block) (os : List Outcome) → All (λ (b : Block). IsReadBody b.body) found → AreOutcomesFrom entries Key n (views found) os → list_all is_accepted os ≡ true → AreNetsOf (views found) (nets_told os)
 nets_of_blocks entries n [] [] read h a = tt
 nets_of_blocks entries n [] (o ∷ os) read h a = absurd h

@@ -88,7 +88,7 @@ one_maps (m ∷ ms) (n ∷ ns) (Some x) (Some y) s a b =
     let items = one_items m n most_images ms ns x.items y.items s.0 s.1 a.are_items b.are_items in
     λ i. Some (record { first = first i; items = items i })
 
--- of a block that has its key no refusal is told
+-- of a block that has its key no refusal is reported
 accepted_body : (block : BlockView) (body : BodyView) (net : KeyedNet) (told : OutcomeBody) → block.body ≡ body → IsNetOf block net → IsBodyOf [] Key body told → is_accepted_body told ≡ true
 accepted_body block body net (Checked size) e is h = refl
 accepted_body block body net (Located size names placed) e is h = refl

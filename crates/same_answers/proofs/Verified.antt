@@ -169,7 +169,7 @@ maps_good (block ∷ blocks) (first ∷ nets) (Some maps) few are of =
       sound = sound;
     }
 
--- what is told of them
+-- what is reported of them
 told_good : (maps : Option Maps) (checked : CheckedMaps) → SoundMaps maps → Tells maps checked → (checked.refused ≡ 0) × (checked.text.items ≡ verified_text maps)
 told_good None checked s t = (t.1, t.0)
 told_good (Some maps) checked s t =

@@ -17,7 +17,7 @@ item_by H (LongMap entries) = Without (why.Long entries)
 item_by H (WideMap value) = Without (why.Wide value)
 item_by H (Found map) = With H map
 
--- the numbers that are told where there is no map have 64 and 128 bits
+-- the numbers that are reported where there is no map have 64 and 128 bits
 abbrev pub HasItsBits : ItemView → Type 0
 HasItsBits (Without why) = IsTold why
 HasItsBits (With H map) = Unit {0}

@@ -21,7 +21,7 @@ abbrev pub passing : ItemView → Option Verdict
 passing (Without why) = None
 passing (With H map) = Some Yes
 
--- the lines that tell these verdicts, one for each net after the first: `verified` where there is a map to it, and `unproved` where there is none
+-- the lines that report these verdicts, one for each net after the first: `verified` where there is a map to it, and `unproved` where there is none
 abbrev pub verified_text : Option Maps → List ℕ
 verified_text None = []
 verified_text (Some maps) = rows_text (result_rows 2 maps.first.dimension (map passing maps.items))

@@ -1,4 +1,4 @@
--- The nets of blocks.
+-- The nets of blocks with their keys, and which block each is of.
 use Rattle.std.specs.Prelude.{◌≡◌, List, [], ◌∷◌}
 use Rattle.periodic_net.specs.Limits.{IsSmall}
 use Rattle.cgd_read.specs.Graphs.{graph_of}

@@ -1,4 +1,4 @@
--- What the steps of the code tell.
+-- What the steps of the code report.
 use Rattle.std.specs.Prelude.{◌≡◌, ℕ, ◌-◌, List, [], ◌∷◌, ◌++◌, Option, None, Some}
 use Rattle.line_text.specs.Lines.{rows_text}
 use Rattle.least_key.specs.AnyNets.{net_view}
@@ -11,12 +11,12 @@ use Rattle.net_outcomes.specs.Outcomes.{net_told}
 use Rattle.net_report.specs.declared.outcome.Outcome.{Outcome}
 use Rattle.same_answers.specs.Items.{IsItemOf, AreItemsOf, images_in}
 
--- the net that is told of a block, where one is, before those of other blocks
+-- the net that is reported of a block, where one is, before those of other blocks
 abbrev pub with_net : Option NetInMemory → List KeyedNet → List KeyedNet
 with_net None nets = nets
 with_net (Some net) nets = net_view net ∷ nets
 
--- the nets that are told of blocks
+-- the nets that are reported of blocks
 abbrev pub nets_told : List Outcome → List KeyedNet
 nets_told [] = []
 nets_told (outcome ∷ outcomes) = with_net (net_told outcome.body) (nets_told outcomes)

@@ -1,4 +1,4 @@
-// What lends a net.
+// What lends a net: a net itself, or a reference to one.
 ghost use Rattle.std.specs.Prelude.{◌≡◌};
 ghost use Rattle.least_key.specs.AnyNets.{net_view};
 ghost use Rattle.least_key.specs.KeyedNets.{KeyedNet};

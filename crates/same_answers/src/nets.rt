@@ -1,4 +1,4 @@
-// The nets that are told of blocks.
+// The nets that are reported of blocks.
 ghost use Rattle.std.specs.Prelude.{◌≡◌, ◌≤◌, length, map, IfOk, option_copied};
 ghost use Rattle.least_key.specs.AnyNets.{net_view};
 ghost use Rattle.net_outcomes.specs.Outcomes.{net_told};
@@ -9,7 +9,7 @@ use least_key::Net;
 use net_report::{Outcome, OutcomeBody};
 use std::alloc::Global;
 
-// The net that is told of a block.
+// The net that is reported of a block.
 fn net_told<'a>(outcome: &'a Outcome<'_>) -> Option<&'a Net>
     ensures { option_copied result ≡ net_told outcome.now.body }
 {
@@ -19,7 +19,7 @@ fn net_told<'a>(outcome: &'a Outcome<'_>) -> Option<&'a Net>
     }
 }
 
-/// The nets that are told of blocks, lent.
+/// The nets that are reported of blocks, lent.
 pub fn nets_told<'a>(alloc: Global, outcomes: &'a [Outcome<'_>]) -> Result<Vec<&'a Net>, NoMemory>
     ensures nets { IfOk result (λ nets.
         map (λ n. net_view n.now) nets.items ≡ nets_told outcomes.now) }

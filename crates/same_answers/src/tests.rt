@@ -1,9 +1,8 @@
 // Maps between the nets of texts, and a report, that were worked out by hand.
 use crate::{maps_text, same_blocks};
-use cgd_read::{Body, blocks};
+use cgd_read::{Body, blocks, from_raw};
 use least_key::{Net, identify};
 use map_answers::verify_answer;
-use quotient_graph::from_raw;
 use statuses::{Answer, Status};
 use std::alloc::Global;
 use std::test::Fail;

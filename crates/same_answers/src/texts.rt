@@ -28,7 +28,7 @@ fn push_net(text: &mut Vec<u8>, net: &Net) -> Result<(), NoMemory>
     push_graph(text, &graph)
 }
 
-// Puts the item of net k last, and tells how many images may be printed after it.
+// Puts the item of net k last, and answers how many images may be printed after it.
 fn push_map(text: &mut Vec<u8>, k: u32, first: &Net, net: &Net, room: u64) -> Result<u64, NoMemory>
     requires { room ≤ most_images }
     ensures { IfOk result (λ left. IsItemLast (net_view first.now) k room (net_view net.now) left

@@ -103,7 +103,9 @@ pub fn cells_of(shifts: &Cells, images: &Cells) -> Cells
     requires third_image { IsWithin most_turn (images.now).third }
     requires some { let s = shifts.now in triple_product s.first s.second s.third ≢ pos 0 }
     requires carried { (C : Base) × Carries C shifts.now images.now }
+    // What carries the shifts to their images is this, and nothing else.
     ensures value { (C : Base) → Carries C shifts.now images.now → result ≡ C }
+    // Each image of a unit cell has parts up to the limit.
     ensures within_first { IsWithin most_cell result.first }
     ensures within_second { IsWithin most_cell result.second }
     ensures within_third { IsWithin most_cell result.third }

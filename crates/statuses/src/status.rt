@@ -1,4 +1,4 @@
-// How a run ends.
+// How a run ends: the statuses, their numbers, and which of them write nothing.
 ghost use Rattle.std.specs.Prelude.{◌≡◌};
 ghost use Rattle.statuses.specs.Statuses.{ending_of, number_of};
 

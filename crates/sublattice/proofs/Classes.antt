@@ -88,7 +88,7 @@ module _ (d : ℕ) (S : Stairs) (v w r s : Vector) (h : IsRemainderOf d S v r) (
       (same_part r.y s.y (natural_part r.y S.e a.low.1 a.high.1).0 (natural_part s.y S.e b.low.1 b.high.1).0 e.q)
       (same_part r.z s.z (natural_part r.z S.i a.low.2 a.high.2).0 (natural_part s.z S.i b.low.2 b.high.2).0 e.s)
 
--- the remainders tell the classes
+-- the remainders determine the classes
 pub tell_classes : RemaindersTellClasses
 tell_classes = record {
   some = some_remainder;

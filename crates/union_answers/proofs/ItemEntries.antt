@@ -80,7 +80,7 @@ named_nets text os h a = all_named 1 (items_of text) os h (nets_are_named text) 
 pub named_at : (os : List Outcome) (i : ℕ) (o : Outcome) → i < length os → get_or os i o ≡ o → All HasNamedNet os → HasNamedNet o
 named_at os i o l at h = subst HasNamedNet at (All-get_or HasNamedNet os i o l h)
 
--- what is told of a net with its key is its entry
+-- what is reported of a net with its key is its entry
 entry_of_net : (item : ItemView) (body : BodyView) (name : Option (List ℕ)) (told : OutcomeBody) (e : EntryView) → item.body ≡ body → name ≡ item.name → IsItemBodyOf body told → IsEntryAs told name e → IsEntryOfItem item e
 entry_of_net item (Net key) (Some name) (Keyed size net) e b n h k = record {
   key = key;

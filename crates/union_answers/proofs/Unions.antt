@@ -26,7 +26,7 @@ pub united_as : (a whole : ArchiveView) (items : List Entry) (text : List ℕ) �
     → IsUnitedAs a (entry_views items) text
 united_as a whole items text h each u t = record { whole = whole; union = u; all = has_all a whole (entry_views items) h (All-map IsEntry entry_view items each) u; text_is = t }
 
--- the first entry that cannot be added is told
+-- the first entry that cannot be added is reported
 pub not_united_as : (a : ArchiveView) (items : List EntryView) (number : ℕ) (fault : AddFault) (text : List ℕ) → IsNotUnited a items number fault → text ≡ add_fault_text number fault → IsNotUnitedAs a items text
 not_united_as a items number fault text n t = record { number = number; fault = fault; not_united = n; text_is = t }
 

@@ -1,4 +1,4 @@
--- The entries of the items that are told with their keys.
+-- The entries of the items that are reported with their keys.
 use Rattle.std.specs.Prelude.{◌≡◌, ℕ, true, List, [], ◌∷◌, Option, Some, option_copied}
 use Rattle.least_key.specs.AnyNets.{net_view}
 use Rattle.line_text.specs.Names.{is_name}
@@ -8,7 +8,7 @@ use Rattle.net_report.specs.declared.outcome.Outcome.{Outcome}
 use Rattle.net_report.specs.declared.outcome.OutcomeBody.{OutcomeBody}
 use Rattle.net_report.specs.declared.outcome.OutcomeBody.TheVariants.{Keyed}
 
--- a net is told, with its key and under a name
+-- a net is reported, with its key and under a name
 abbrev pub IsUnderName : OutcomeBody → Option (List ℕ) → Type 0
 IsUnderName (Keyed size net) (Some name) = is_name name ≡ true
 IsUnderName body name = ⊥

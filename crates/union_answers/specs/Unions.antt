@@ -21,7 +21,7 @@ use Rattle.statuses.specs.declared.status.Status.TheVariants as status
 abbrev pub begins_archive : List ℕ → Bool
 begins_archive bytes = starts_with nat_eq bytes (codes "net_archive ")
 
--- e is the entry of an item: its name, the graph of its key line, the key and the shells
+-- e is the entry of an item: its name, the graph of its key line, the key and the coordination sequences
 pub record IsEntryOfItem (item : ItemView) (e : EntryView) : Type 0 where
   pub key : KeyView
   pub body : item.body ≡ Net key
@@ -57,7 +57,7 @@ IsUnitedOrRefused a items status.Done text = IsUnitedAs a items text
 IsUnitedOrRefused a items status.AddRefused text = IsNotUnitedAs a items text
 IsUnitedOrRefused a items s text = ⊥
 
--- the union of the archive in a file with another: the first of the two that has a fault is told
+-- the union of the archive in a file with another: the first of the two that has a fault is reported
 abbrev pub IsUnionOfArchives : List ℕ → Option (List ℕ) → Status → List ℕ → Type 0
 IsUnionOfArchives file archive status.BadArchive text =
     IsBadArchive (Some file) text ⊎ ((b : ArchiveView) × IsArchiveIn (Some file) b × IsBadArchive archive text)

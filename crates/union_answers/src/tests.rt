@@ -92,7 +92,7 @@ const ROWS: &[Row] = &[
         status: Status::Done,
         written: REGROUPED,
     },
-    // of two archives that are none, the first is told
+    // of two archives that are none, the first is reported
     Row {
         file: "net_archive 3\n",
         archive: "net_archive 2",

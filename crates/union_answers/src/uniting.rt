@@ -57,7 +57,8 @@ fn archive_of(alloc: Global, file: &[u8]) -> Result<Result<Archive, Vec<u8>>, No
     archive_in(alloc, Some(bytes))
 }
 
-// The union of the archive in a file with another: the first of the two that has a fault is told.
+// The union of the archive in a file with another: the first of the two that has a fault is
+// reported.
 #[tactic(auto, using(crate::proofs::Unions::of_archives))]
 fn unite_archives(alloc: Global, file: &[u8], archive: Option<Vec<u8>>) -> Result<Answer, NoMemory>
     requires small { length file.now ≤ most_bytes }

@@ -59,7 +59,7 @@ line_short d e a b x y z =
     let pz = third_short d e.z z in
     simp (length-append) (omega (arith, u, v, px, py, pz))
 
--- what two tests tell together
+-- what two tests show together
 pub split : (a b : Bool) → (a && b) ≡ true → (a ≡ true) × (b ≡ true)
 split true b h = (refl, h)
 split false b h = absurd (true≢false (sym h))

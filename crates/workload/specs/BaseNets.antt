@@ -1,4 +1,4 @@
--- The eight base nets.
+-- The eight base nets that a workload is made of, by their edges.
 use Rattle.std.specs.Prelude.{ℕ, ℤ, pos, negsuc, Bool, ◌&&◌, List, [], ◌∷◌, nat_lt, if◌then◌else◌, slice_index_or, unsigned_abs}
 use Rattle.workload.specs.declared.edge.Edge.{Edge}
 

@@ -1,4 +1,4 @@
-// The base nets.
+// The eight base nets that a workload is made of, as lists of edges.
 ghost use Rattle.std.specs.Prelude.{◌≡◌, ◌<◌, IfOk};
 ghost use Rattle.workload.specs.BaseNets.{base_edges, bcu, dia, fcu, flat, hcb, hxl, pcu, space, sql, srs};
 

@@ -1,4 +1,4 @@
-// Edges.
+// Edges of the nets that a workload is made of.
 
 /// An edge from vertex `u` to vertex `v`, which are counted from 1, with its shift.
 #[derive(Clone, Copy)]

@@ -1,4 +1,4 @@
--- Numbers of pairs.
+-- Pairs are numbered by products: as many pairs as n times m.
 use Rattle.std.proofs.Common.{◌≡◌, ℕ, zero, suc, ◌+◌, ◌*◌, ◌/◌, ◌%◌, ◌<◌, ◌≤◌, ◌∙◌, refl, sym, ap, arith}
 use Rattle.std.proofs.lemmas.Nat.{mul-add-lt, div_below, div-mul-add, mod-mul-add}
 use Rattle.integers.proofs.counting.Numbering.{Numbering, pair, Both, Each}

@@ -1,4 +1,4 @@
--- Lists without repetition.
+-- Lists in which nothing stands twice: their pieces and their lengths.
 use Rattle.std.proofs.Common.{◌≡◌, inl, inr, List, [], ◌∷◌, ◌++◌, length, ◌≤◌, refl, sym, subst, ◌∙◌}
 use Rattle.integers.proofs.lists.Counting.{not_longer}
 use Rattle.integers.proofs.lists.Members.{IsIn, AreApart}

@@ -22,7 +22,7 @@ less_by Greater Equal e n f = cc
 less_by Greater Greater e n f = cc
 
 module _ {X : Type 0} (numbers : X → List ℤ) (once : (a b : X) → numbers a ≡ numbers b → a ≡ b) where
-  -- a sorted list of different elements, each of which is told by its numbers, rises strictly
+  -- a sorted list of different elements, each of which is determined by its numbers, rises strictly
   pub rising_from_sorted : (xs : List X) → IsSorted (λ a b. slice_cmp int_cmp (numbers a) (numbers b)) xs → AllPairs (λ a b. a ≢ b) xs → AllPairs (λ a b. IsBelow (numbers a) (numbers b)) xs
   rising_from_sorted xs up different i j d l m =
       let far = sorted_far (λ a b. is_lt (slice_cmp int_cmp (numbers a) (numbers b))) (ranks_by lists_order numbers) xs up i j d (omega arith) m in

@@ -1,4 +1,4 @@
--- Cases of natural numbers.
+-- Cases and order of natural numbers: the next one, and which of two is less.
 use Rattle.std.proofs.Common.{◌≡◌, ◌⊎◌, ℕ, suc, ◌+◌, ◌<◌, ◌≤◌, pos, arith}
 use Rattle.std.proofs.lemmas.Int.{ints}
 

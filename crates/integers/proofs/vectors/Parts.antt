@@ -1,8 +1,8 @@
--- Vectors are told by their parts.
+-- Vectors are determined by their parts.
 use Rattle.std.proofs.Common.{◌≡◌, ℕ, ℤ, pos, [], ◌∷◌}
 use Rattle.integers.specs.Vectors.{Vector, vector, parts}
 
--- the three parts tell a vector
+-- the three parts determine a vector
 pub parts_tell : (v w : Vector) → parts 3 v ≡ parts 3 w → v ≡ w
 parts_tell v w e = by v.x v.y v.z w.x w.y w.z e
   where
@@ -13,6 +13,6 @@ parts_tell v w e = by v.x v.y v.z w.x w.y w.z e
         let c : z ≡ z' = cc in
         λ i. vector (a i) (b i) (c i)
 
--- after two numbers, they tell these too
+-- after two numbers, they determine these too
 pub ends_tell : (u v u' v' : ℕ) (s t : Vector) → (pos u ∷ pos v ∷ parts 3 s) ≡ (pos u' ∷ pos v' ∷ parts 3 t) → (u ≡ u') × (v ≡ v') × (s ≡ t)
 ends_tell u v u' v' s t e = (cc, cc, parts_tell s t (let p : parts 3 s ≡ parts 3 t = cc in p))

@@ -1,4 +1,4 @@
-// Archives: nets that are added, told and found twice, and texts that are none.
+// Archives: nets that are added, reported and found twice, and texts that are none.
 use super::{DIA, DIA_ARCHIVE, PCU, PCU_ARCHIVE, Row, answer_over};
 use statuses::Status;
 use std::test::Fail;
@@ -121,7 +121,7 @@ pub const IN_USE: &[Row] = &[
     },
 ];
 
-// An archive, a part of it, what stands in its place, and what is told.
+// An archive, a part of it, what stands in its place, and what is reported.
 const FORGED: &[(&str, &str, &str, &str)] = &[
     // another version
     (
@@ -235,21 +235,21 @@ const FORGED: &[(&str, &str, &str, &str)] = &[
         "primitive 2\nshells 1 6 18 38 66 102 146 198 258 326 402\nshells 2 6 18 38 66 102 146 198 258 326 402\n",
         "archive refused 8 CountDiffers line=8 kept=2 computed=1\n",
     ),
-    // shells that are forged
+    // a coordination sequence that is forged
     (
         PCU_NEWEST,
         "402",
         "403",
         "archive refused 9 ShellsDiffer line=9 class=1\nkept 6 18 38 66 102 146 198 258 326 403\ncomputed 6 18 38 66 102 146 198 258 326 402\n",
     ),
-    // shells that are left out
+    // a coordination sequence that is left out
     (
         PCU_NEWEST,
         " 402",
         "",
         "archive refused 9 ShellsDiffer line=9 class=1\nkept 6 18 38 66 102 146 198 258 326\ncomputed 6 18 38 66 102 146 198 258 326 402\n",
     ),
-    // vertices in one place, told by their numbers
+    // vertices at one position, reported by their numbers
     (
         PCU_ARCHIVE,
         PCU_ARCHIVE,

@@ -1,4 +1,4 @@
-// What is told of the components of nets.
+// What is reported of the components of nets.
 use super::Row;
 use statuses::Status;
 
@@ -13,7 +13,7 @@ const ICE_SIX: &str =
 const ICE_SIX_REPORT: &str =
     "net 1 line 1 \"ice VI\"\ngraph d=3 vertices=10 edges=20 repeats=0\ncomponents 2\npart 1 vertices=5 copies=1\nkey 3 5 4 1 2 -4 -4 -4 1 3 0 0 4 1 4 0 4 0 1 5 4 0 0 2 3 -6 -6 -12 2 4 -1 3 4 2 5 3 -1 4 3 4 -5 -1 -4 3 5 -1 -5 -4 4 5 -6 6 0\npart 2 vertices=5 copies=1\nkey 3 5 4 1 2 -4 -4 -4 1 3 0 0 4 1 4 0 4 0 1 5 4 0 0 2 3 -6 -6 -12 2 4 -1 3 4 2 5 3 -1 4 3 4 -5 -1 -4 3 5 -1 -5 -4 4 5 -6 6 0\n";
 
-// A net with a key, and one in which two vertices stand in one place.
+// A net with a key, and one in which two vertices have one position.
 const COLLIDING: &str =
     "PERIODIC_GRAPH\nEDGES\n1 1 1 0\n1 1 0 1\n8 7 0 0\n8 7 1 0\n9 7 1 0\n9 7 2 0\n7 7 0 1\nEND\n";
 

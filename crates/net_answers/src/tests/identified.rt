@@ -1,8 +1,8 @@
-// All that is told of a net: its placement, primitive graph, key, shells and names.
+// All that is reported of a net: its placement, primitive graph, key, sequences and names.
 use super::{DIA_ARCHIVE, HCB, Row, SODALITE};
 use statuses::Status;
 
-// The shells are the published sequences of these nets.
+// The coordination sequences are the published ones of these nets.
 pub const IDENTIFIED: &[Row] = &[
     // one vertex
     Row {

@@ -1,4 +1,4 @@
-// What is told of nets: whether they are connected, and where their vertices stand.
+// What is reported of nets: whether they are connected, and where their vertices stand.
 use super::{HCB, HCB_REPORT, Row, SODALITE, answer_on};
 use statuses::Status;
 use std::alloc::Global;
@@ -102,7 +102,7 @@ pub const PLACED: &[Row] = &[
         status: Status::Done,
         written: "net 1 line 1 \"pcu2\"\ngraph d=3 vertices=2 edges=6 repeats=0\nplacement D0=2\nat 1 0 0 0\nat 2 1 0 0\n",
     },
-    // vertices in one place
+    // vertices at one position
     Row {
         words: &["place", "net"],
         net: "PERIODIC_GRAPH\nNAME fold\nEDGES\n2 1 0 0\n2 1 1 0\n3 1 0 0\n3 1 1 0\n1 1 0 1\nEND\n",

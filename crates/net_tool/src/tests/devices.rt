@@ -1,9 +1,9 @@
-// The words, devices that fail, and files past their limits.
+// The arguments, devices that fail, and files past their limits.
 use super::{DIA, DIA_ARCHIVE, DIA_KEY_REPORT, Faults, HCB, NO_FAULTS, run_on, run_over};
 use statuses::Status;
 use std::test::Fail;
 
-// Words, and how a run with them ends, where the files `net` and `--` are there.
+// Arguments, and how a run with them ends, where the files `net` and `--` are there.
 const ROWS: [(&[&str], Status); 40] = [
     (&["check", "net"], Status::Done),
     (&["place", "net"], Status::Done),

@@ -1,4 +1,4 @@
--- Graphs with two vertices.
+-- What holds in graphs with two vertices holds of each.
 use Rattle.std.proofs.Common.{◌≡◌, ℕ, zero, suc, arith}
 use Rattle.periodic_net.specs.Graph.{Graph, IsQuotientVertex}
 

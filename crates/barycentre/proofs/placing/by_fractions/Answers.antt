@@ -14,14 +14,14 @@ use Rattle.barycentre.proofs.placing.by_fractions.Goals as goal
 pub units_in_limits-requires : goal.units_in_limits-requires
 units_in_limits-requires g c =
     let e = c.in-Ok.ensures in
-    let positions = are_positions c.args.g.now c.in-Ok.rows.items c.dimension.ensures.parameter e.solved e.flat in
+    let positions = are_positions c.args.g.now c.in-Ok.rows.items c.recall.ensures.parameter e.solved e.flat in
     rw c.deref.ensures.value (lit< tt, (lit< tt, (e.count, record { reduced = positions.reduced; flat = positions.flat })))
 
 pub returns-in-Ok-clause-normal : goal.returns-in-Ok-clause-normal
 returns-in-Ok-clause-normal g c =
     let G = c.args.g.now in
     let e = c.in-Ok.ensures in
-    let k = c.dimension.ensures in
+    let k = c.recall.ensures in
     let rows = c.in-Ok.rows.items in
     let p = value_in fraction_value rows in
     IfOk-weaker c.units_in_limits.result (λ u. AreLeastUnits G p u.d0 u.at.items) (λ u. IsNormalPlacement G (placement_of u.d0 u.at.items))
@@ -34,4 +34,4 @@ returns-in-Ok-clause-fault g c =
     let rows = c.in-Ok.rows.items in
     let p = value_in fraction_value rows in
     IfErr-weaker c.units_in_limits.result (IsUnitsFault G p) (IsPlaceFault G)
-    (told_of_net G p e.fit (are_positions G rows c.dimension.ensures.parameter e.solved e.flat)) (rw c.deref.ensures.value at c.units_in_limits.ensures.fault)
+    (told_of_net G p e.fit (are_positions G rows c.recall.ensures.parameter e.solved e.flat)) (rw c.deref.ensures.value at c.units_in_limits.ensures.fault)

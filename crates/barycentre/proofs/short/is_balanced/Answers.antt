@@ -17,7 +17,7 @@ of_triple-step-requires g c =
 
 pub plus-sum-requires-clause-left : goal.plus-sum-requires-clause-left
 plus-sum-requires-clause-left g c =
-    let few = few_arcs c.args.g.now c.args.u c.arcs-arc-items.result.now c.dimension.ensures.small c.arcs-arc-items.ensures.star in
+    let few = few_arcs c.args.g.now c.args.u c.arcs-arc-items.result.now c.recall.ensures.small c.arcs-arc-items.ensures.star in
     let below = c.loop-arc-test.true in
     wider (most_units * c.loop-arc.arc-index) (2 ^ 61) (omega (arith, few, below)) c.loop-arc.sum c.loop-arc.invariant.near
 

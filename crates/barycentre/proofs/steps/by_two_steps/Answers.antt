@@ -44,7 +44,7 @@ module _ {M D : ℕ} (least : 2 ≤ M) (G : Graph) (g : IsGraph G) (dimension : 
 
 pub left_rows-requires : goal.left_rows-requires
 left_rows-requires g c =
-    let k = c.dimension.ensures in
+    let k = c.recall.ensures in
     let G = c.args.g.now in
     let firsts = c.args.firsts.now in
     let at_is : c.deref.result.now ≡ map residue_vector firsts = c.deref.ensures.value ∙ c.in_ok-at.ensures in
@@ -52,7 +52,7 @@ left_rows-requires g c =
 
 pub tested-requires : goal.tested-requires
 tested-requires g c =
-    let k = c.dimension.ensures in
+    let k = c.recall.ensures in
     let G = c.args.g.now in
     let firsts = c.args.firsts.now in
     let h = rw c.in-Some.is at c.in_ok-rows.ensures.count in
@@ -62,7 +62,7 @@ tested-requires g c =
 
 pub returns-in-Some-clause-none : goal.returns-in-Some-clause-none
 returns-in-Some-clause-none g c =
-    let k = c.dimension.ensures in
+    let k = c.recall.ensures in
     let G = c.args.g.now in
     let firsts = c.args.firsts.now in
     let lefts = c.in_ok-left.left.items in
@@ -79,7 +79,7 @@ returns-in-Some-clause-none g c =
 
 pub returns-clause-none : goal.returns-clause-none
 returns-clause-none g c =
-    let k = c.dimension.ensures in
+    let k = c.recall.ensures in
     let G = c.args.g.now in
     let firsts = c.args.firsts.now in
     let lefts = c.in_ok-left.left.items in

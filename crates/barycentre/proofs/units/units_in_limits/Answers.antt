@@ -13,20 +13,20 @@ use Rattle.barycentre.proofs.units.units_in_limits.Goals as goal
 
 pub common_denominator-requires : goal.common_denominator-requires
 common_denominator-requires g c =
-    let k = c.dimension.ensures in
+    let k = c.recall.ensures in
     let d : (g.row.D ≡ 2) ⊎ (g.row.D ≡ 3) = subst (λ e. (e ≡ 2) ⊎ (e ≡ 3)) k.parameter k.is_graph.dimension in
     (lit< tt, (d, omega (arith, c.requires.count, k.small.vertices)))
 
 pub returns-in_err-d0-clause-fault : goal.returns-in_err-d0-clause-fault
 returns-in_err-d0-clause-fault g c =
-    let k = c.dimension.ensures in
+    let k = c.recall.ensures in
     let e = c.in_err-d0.ensures in
     let p = err_from_is_err_and c.from_residual.result c.from_residual.ensures.1 in
     rw (p.1, p.2) (λ positions. wide_multiple c.args.g.now k.is_graph (value_in fraction_value c.args.rows.now) positions c.in_err-d0.field-0.0 (e.dimension ∙ sym k.parameter) (e.wide.first c.args.g.now (k.parameter, sym c.requires.count)))
 
 pub rows_in_units-requires : goal.rows_in_units-requires
 rows_in_units-requires g c =
-    let k = c.dimension.ensures in
+    let k = c.recall.ensures in
     let e = c.in_ok-d0.ensures in
     let rd = fits_from_bound c.in_ok-d0.d0 most_units (omega arith) e.common.usable.small in
     let divided = fractions_divided c.args.g.now k.is_graph (value_in fraction_value c.args.rows.now) c.requires.fractions (length c.args.rows.now) (unsigned_abs c.in_ok-d0.d0) c.requires.count (e.common.least c.args.g.now (k.parameter, sym c.requires.count)) in
@@ -34,7 +34,7 @@ rows_in_units-requires g c =
 
 pub check_arcs-requires : goal.check_arcs-requires
 check_arcs-requires g c =
-    let k = c.dimension.ensures in
+    let k = c.recall.ensures in
     let e = c.in_ok-d0.ensures in
     let f = c.in_ok-at.ensures in
     let G = c.args.g.now in
@@ -44,7 +44,7 @@ check_arcs-requires g c =
 
 pub returns-in_err-check_arcs-clause-fault : goal.returns-in_err-check_arcs-clause-fault
 returns-in_err-check_arcs-clause-fault g c =
-    let k = c.dimension.ensures in
+    let k = c.recall.ensures in
     let e = c.in_ok-d0.ensures in
     let f = c.in_ok-at.ensures in
     let G = c.args.g.now in
@@ -64,7 +64,7 @@ returns-in_err-check_arcs-clause-fault g c =
 
 pub returns-clause-units : goal.returns-clause-units
 returns-clause-units g c =
-    let k = c.dimension.ensures in
+    let k = c.recall.ensures in
     let e = c.in_ok-d0.ensures in
     let f = c.in_ok-at.ensures in
     let G = c.args.g.now in

@@ -17,8 +17,8 @@ first_copy-requires g c =
     let G = c.args.g.now in
     let H = c.args.h.now in
     let m = c.args.map.now in
-    let e = c.dimension.ensures in
-    let e' = c.dimension-2.ensures in
+    let e = c.recall.ensures in
+    let e' = c.recall-2.ensures in
     let r = c.requires in
     let n = c.vertices.ensures in
     let s = sym c.as_slice.ensures in
@@ -54,12 +54,12 @@ first_copy-requires g c =
 pub verdict_on_degrees-requires : goal.verdict_on_degrees-requires
 verdict_on_degrees-requires g c =
     let m = c.args.map.now in
-    let e = c.dimension.ensures in
+    let e = c.recall.ensures in
     let r = c.requires in
     let t = rw c.in-None.is at c.in_ok-i.ensures in
     let u = subst (λ (xs : List Vertex). AreNoCopies g.row.D (base_of c.args.rows.now) xs (length xs)) c.as_slice.ensures t in
     let v = subst (λ (rows : List Vector). AreNoCopies g.row.D (base_of rows) m.images (length m.images)) r.rows u in
-    let s = verdict_of_no_copy c.args.g.now c.args.h.now g.row.D m.m m.images m.base e.parameter c.dimension-2.ensures.parameter e.two_or_three r.map r.counts v in
+    let s = verdict_of_no_copy c.args.g.now c.args.h.now g.row.D m.m m.images m.base e.parameter c.recall-2.ensures.parameter e.two_or_three r.map r.counts v in
     (omega arith, (r.map, (r.counts, s)))
 
 pub returns-in-Some : goal.returns-in-Some
@@ -67,10 +67,10 @@ returns-in-Some g c =
     let G = c.args.g.now in
     let H = c.args.h.now in
     let m = c.args.map.now in
-    let e = c.dimension.ensures in
+    let e = c.recall.ensures in
     let r = c.requires in
     let t = rw c.in-Some.is at c.in_ok-i.ensures in
     let u = subst (λ (xs : List Vertex). IsFirstCopy g.row.D (base_of c.args.rows.now) xs c.in-Some.i) c.as_slice.ensures t in
     let v = subst (λ (rows : List Vector). IsFirstCopy g.row.D (base_of rows) m.images c.in-Some.i) r.rows u in
     λ f d. subst (λ (fault : MapFault). IsVerdict G H (table_for G m.m m.images m.base) f (No fault)) (sym c.doubled.ensures)
-    (verdict_of_copy G H g.row.D m.m m.images m.base e.parameter c.dimension-2.ensures.parameter e.two_or_three r.map r.counts c.in-Some.i c.vertex_of.result c.vertex_of.ensures v)
+    (verdict_of_copy G H g.row.D m.m m.images m.base e.parameter c.recall-2.ensures.parameter e.two_or_three r.map r.counts c.in-Some.i c.vertex_of.result c.vertex_of.ensures v)

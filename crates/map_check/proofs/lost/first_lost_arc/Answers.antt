@@ -10,8 +10,8 @@ use Rattle.map_check.proofs.lost.first_lost_arc.Goals as goal
 pub image_of-x-requires-clause-over : goal.image_of-x-requires-clause-over
 image_of-x-requires-clause-over g c =
     let m = c.args.map.now in
-    let e = c.dimension.ensures in
-    has_images c.args.g.now c.args.h.now g.row.D m.m m.images m.base e.parameter c.dimension-2.ensures.parameter e.two_or_three c.requires.map c.args.w.now.over c.requires.inside.over
+    let e = c.recall.ensures in
+    has_images c.args.g.now c.args.h.now g.row.D m.m m.images m.base e.parameter c.recall-2.ensures.parameter e.two_or_three c.requires.map c.args.w.now.over c.requires.inside.over
 
 pub returns-then-not-is_kept : goal.returns-then-not-is_kept
 returns-then-not-is_kept g c =

@@ -9,7 +9,7 @@ use Rattle.net_components.proofs.parts.parts_of.Goals as goal
 
 pub returns-in_err-part-clause-fault : goal.returns-in_err-part-clause-fault
 returns-in_err-part-clause-fault g c =
-    let k = c.dimension.ensures in
+    let k = c.recall.ensures in
     let w = part_fault c.args.g.now k.is_graph k.small c.args.components.now c.requires c.loop-component.component-index c.component-item.result c.loop-component-test.true c.component-item.is
     c.loop-component.parts.items c.loop-component.invariant c.in_err-part.field-0.0 c.in_err-part.ensures.wide in
     search rules

@@ -14,7 +14,7 @@ use Rattle.net_components.proofs.written.written_edge.Goals as goal
 pub shift_in-k-requires : goal.shift_in-k-requires
 shift_in-k-requires g c =
     let G = c.args.g.now in
-    let k = c.dimension.ensures in
+    let k = c.recall.ensures in
     let e = c.args.e.now in
     let C = c.args.c.now in
     let h = c.requires.component in
@@ -42,7 +42,7 @@ shift_in-k-requires g c =
 pub number_of-u-requires-clause-among : goal.number_of-u-requires-clause-among
 number_of-u-requires-clause-among g c =
     let G = c.args.g.now in
-    let k = c.dimension.ensures in
+    let k = c.recall.ensures in
     let C = c.args.c.now in
     let low = from G k.is_graph k.small C c.requires.component c.args.e.now c.requires.edge c.requires.tail in
     subst (λ (us : List ℕ). Contains us c.e.inside.from) (sym c.requires.vertices)
@@ -50,13 +50,13 @@ number_of-u-requires-clause-among g c =
 
 pub number_of-u-requires-clause-few : goal.number_of-u-requires-clause-few
 number_of-u-requires-clause-few g c =
-    let k = c.dimension.ensures in
+    let k = c.recall.ensures in
     subst (λ (us : List ℕ). length us ≤ most_vertices) (sym c.requires.vertices) (few c.args.g.now k.is_graph k.small c.args.c.now c.requires.component)
 
 pub number_of-v-requires-clause-among : goal.number_of-v-requires-clause-among
 number_of-v-requires-clause-among g c =
     let G = c.args.g.now in
-    let k = c.dimension.ensures in
+    let k = c.recall.ensures in
     let C = c.args.c.now in
     let e = c.args.e.now in
     let high = to G k.is_graph k.small C c.requires.component e c.requires.edge c.requires.tail in
@@ -66,13 +66,13 @@ number_of-v-requires-clause-among g c =
 
 pub number_of-v-requires-clause-few : goal.number_of-v-requires-clause-few
 number_of-v-requires-clause-few g c =
-    let k = c.dimension.ensures in
+    let k = c.recall.ensures in
     subst (λ (us : List ℕ). length us ≤ most_vertices) (sym c.requires.vertices) (few c.args.g.now k.is_graph k.small c.args.c.now c.requires.component)
 
 pub returns-in-Some-clause-wide : goal.returns-in-Some-clause-wide
 returns-in-Some-clause-wide g c =
     let G = c.args.g.now in
-    let k = c.dimension.ensures in
+    let k = c.recall.ensures in
     let flat = subst (λ d. HasDimension d c.shift_in-k.result) (sym k.parameter) c.shift_in-k.ensures.dimension in
     let w = wide_at G k.is_graph k.small c.args.c.now c.requires.component c.args.e.now c.requires.edge c.requires.tail c.shift_in-k.result flat c.shift_in-k.ensures.sum c.in-Some.w.c c.in-Some.w.value c.in-Some.ensures.some in (
       (λ i. arc c.e.inside.from c.e.inside.to (c.to_triple.ensures.value i)) ∙ c.e.view_is,

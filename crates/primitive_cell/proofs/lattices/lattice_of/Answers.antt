@@ -16,7 +16,7 @@ returns g c =
     let f : FitsSigned w128 d0 = record { sfits = c.d0.type_inv } in
     let q : to_z w128 (of_z w128 d0) ≡ d0 = simp to_z-of_z refl in
     let z = q ∙ c.d0.ensures.value ∙ ap (λ (n : PlacedNet). pos n.placement.denominator) c.placed.ensures.placed in
-    let dim = sym (ap (λ (h : Graph). h.dimension) k.graph) ∙ c.dimension.ensures.parameter in
+    let dim = sym (ap (λ (h : Graph). h.dimension) k.graph) ∙ c.recall.ensures.parameter in
     let T = c.insert_all.new.self in
     let basis = subst (IsStaircase (Members d T) d) c.rows.ensures.rows c.rows.ensures.basis in
     lattice_made c.args.net.now k.is_graph k.stable c.args.translations.now c.requires c.from_bound-stairs.result T d (to_z w128 (of_z w128 d0)) dim z c.from_bound-stairs.ensures c.insert_all.ensures basis
