@@ -2,6 +2,7 @@
 use Rattle.std.specs.Prelude.{◌≡◌, ℕ, ◌-◌, ◌≤◌, List, [], ◌++◌, map, drop, length, Contains, Bool, slice_index_or}
 use Rattle.integers.specs.Vectors.{zero_vector}
 use Rattle.periodic_net.specs.Graph.{Graph, IsQuotientVertex, Vertex, vertex, AreJoined}
+use Rattle.class_kinds.specs.Kinds.{kind_of}
 use Rattle.coordination.specs.Boxes.{IsBoxOf, IsInside, spot_in}
 use Rattle.coordination.specs.Expanding.{Expands, StandOnce}
 use Rattle.coordination.specs.Extents.{IsCellWithin}
@@ -64,3 +65,10 @@ pub record AreFirstLists (P : Graph) (n : ℕ) (lists : List (List ℕ)) : Type 
 -- and of all
 abbrev pub AreListsOf : Graph → List (List ℕ) → Type 0
 AreListsOf P lists = AreFirstLists P P.vertices lists
+
+-- for each vertex the number of one whose shells, in cell 0, have the same sizes
+pub record AreShellKinds (P : Graph) (kinds : List ℕ) : Type 0 where
+  pub count : length kinds ≡ P.vertices
+  pub positive : (c : ℕ) → IsQuotientVertex P c → 1 ≤ kind_of kinds c
+  pub same : (c : ℕ) (sizes : List ℕ) → IsQuotientVertex P c → IsQuotientVertex P (kind_of kinds c)
+      → AreShellsOf P (vertex (kind_of kinds c) zero_vector) sizes → AreShellsOf P (vertex c zero_vector) sizes

@@ -5,6 +5,7 @@ use Rattle.periodic_net.specs.Classes.{ClassGraph}
 use Rattle.periodic_net.specs.Graph.{Graph, IsGraph, Vertex, IsVertex}
 use Rattle.periodic_net.specs.Shells.{IsShellSize}
 use Rattle.key_theory.specs.Key.{Shape}
+use Rattle.class_kinds.specs.Kinds.{kind_of}
 
 -- shells that are listed
 abbrev pub most_shells : ℕ
@@ -31,6 +32,16 @@ pub record AreShellsOf (G : Graph) (w : Vertex) (sizes : List ℕ) : Type 0 wher
 abbrev pub AreShellsOfClass : ClassGraph → ℕ → List ℕ → Type 0
 AreShellsOfClass K c sizes = (G : Graph) → IsGraph G → (h : Shape G) → h.classes ≡ K
     → (w : Vertex) → IsVertex G w → h.class_of w.over ≡ c → AreShellsOf G w sizes
+
+-- these are the lists of the first n classes
+pub record AreFirstSequences (K : ClassGraph) (n : ℕ) (lists : List (List ℕ)) : Type 0 where
+  pub count : length lists ≡ n
+  pub each : (k : ℕ) → k < n → AreShellsOfClass K (k + 1) (slice_index_or lists k [])
+
+-- class c has the kind of an earlier class, which has this list
+pub record IsOfEarlier (kinds : List ℕ) (lists : List (List ℕ)) (c : ℕ) (sizes : List ℕ) : Type 0 where
+  pub earlier : kind_of kinds c < c
+  pub is_list : sizes ≡ slice_index_or lists (kind_of kinds c - 1) []
 
 -- the lists in these vectors
 abbrev pub numbers_in : List (Vec ℕ Global) → List (List ℕ)

@@ -5,6 +5,7 @@ mod all_classes;
 mod box_count;
 mod box_search;
 mod count;
+mod earlier;
 mod extent;
 mod far;
 mod laws;

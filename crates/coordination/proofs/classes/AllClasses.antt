@@ -7,15 +7,10 @@ use Rattle.periodic_net.specs.Classes.{ClassGraph}
 use Rattle.periodic_net.specs.Graph.{IsGraph}
 use Rattle.key_theory.specs.Key.{Shape}
 use Rattle.quotient_graph.specs.NetClasses.{NetClasses, AreClasses, class_at}
-use Rattle.coordination.specs.Sequences.{AreShellsOfClass, AreSequencesOf}
-
--- these are the lists of the first n classes
-pub record AreFirst (K : ClassGraph) (n : ℕ) (lists : List (List ℕ)) : Type 0 where
-  pub count : length lists ≡ n
-  pub each : (k : ℕ) → k < n → AreShellsOfClass K (k + 1) (get_or lists k [])
+use Rattle.coordination.specs.Sequences.{AreFirstSequences, AreShellsOfClass, AreSequencesOf}
 
 -- one more list is put last
-pub one_more : (K : ClassGraph) (n : ℕ) (lists more : List (List ℕ)) (sizes : List ℕ) → AreFirst K n lists → AreShellsOfClass K (n + 1) sizes → more ≡ lists ++ sizes ∷ [] → AreFirst K (n + 1) more
+pub one_more : (K : ClassGraph) (n : ℕ) (lists more : List (List ℕ)) (sizes : List ℕ) → AreFirstSequences K n lists → AreShellsOfClass K (n + 1) sizes → more ≡ lists ++ sizes ∷ [] → AreFirstSequences K (n + 1) more
 one_more K n lists more sizes h s e = record {
   count = ap length e ∙ length_push lists sizes ∙ ap (λ m. m + 1) h.count;
   each = λ k l. by k (before_or_at k n l);
@@ -30,18 +25,19 @@ one_more K n lists more sizes h s e = record {
         let at = ap (λ xs. get_or xs k []) e ∙ ap (λ j. get_or (lists ++ sizes ∷ []) j []) (q ∙ sym h.count) ∙ get_or-append_seam lists sizes [] [] in
         subst (AreShellsOfClass K (k + 1)) (sym at) (subst (λ j. AreShellsOfClass K (j + 1) sizes) (sym q) s)
 
+-- the classes of a net, with their class graph
+abbrev pub shape_of : (c : NetClasses) → AreClasses c → Shape c.graph
+shape_of c h = record { placement = h.placement; stable = h.at.stable; class_of = class_at c.numbers; classes = c.classes; is_classes = h.at.is_classes }
+
 -- the lists of all classes are those of the graph
-pub all_classes : (c : NetClasses) → IsGraph c.graph → AreClasses c → (lists : List (List ℕ)) → AreFirst c.classes c.classes.count lists → AreSequencesOf c.graph lists
+pub all_classes : (c : NetClasses) → IsGraph c.graph → AreClasses c → (lists : List (List ℕ)) → AreFirstSequences c.classes c.classes.count lists → AreSequencesOf c.graph lists
 all_classes c g h lists f = record {
-  shape = shape;
+  shape = shape_of c h;
   count = f.count;
   each = λ w i.
       let n = h.at.is_classes.numbering.positive w.over i.over in
       let m = h.at.is_classes.below w.over i.over in
       let c' = class_at c.numbers w.over in
       let same : c' ≡ c' - 1 + 1 = omega arith in
-      f.each (c' - 1) (omega arith) c.graph g shape refl w i same;
+      f.each (c' - 1) (omega arith) c.graph g (shape_of c h) refl w i same;
 }
-  where
-    shape : Shape c.graph
-    shape = record { placement = h.placement; stable = h.at.stable; class_of = class_at c.numbers; classes = c.classes; is_classes = h.at.is_classes }

@@ -1,5 +1,5 @@
 -- The lists of the vertices of a primitive graph are those of the classes.
-use Rattle.std.proofs.Common.{◌≡◌, ℕ, ◌-◌, List, [], get_or, sym, subst, ap, ◌∙◌, arith}
+use Rattle.std.proofs.Common.{◌≡◌, ℕ, ◌-◌, ◌≤◌, List, [], get_or, sym, subst, ap, ◌∙◌, arith}
 use Rattle.integers.specs.Vectors.{Vector, zero_vector, plus, opposite}
 use Rattle.integers.proofs.vectors.Laws.{opposite_dimension, plus_opposite, zero_plus}
 use Rattle.periodic_net.specs.Classes.{IsClassNumbering}
@@ -26,7 +26,7 @@ module _ (c : NetClasses) (cell : DividedNet) (g : IsGraph c.graph) (h : HasCell
 
   module _ (k : AreClasses c) where
     -- it has the classes of the net
-    same_class : (u : ℕ) → IsQuotientVertex c.graph u → class_at c.numbers u ≡ class_at cell.class_of u
+    pub same_class : (u : ℕ) → IsQuotientVertex c.graph u → class_at c.numbers u ≡ class_at cell.class_of u
     same_class = one_numbering c.graph h.placement (class_at c.numbers) (class_at cell.class_of) numbering h.numbering
       where
         numbering : IsClassNumbering c.graph h.placement (class_at c.numbers)
@@ -45,20 +45,30 @@ module _ (c : NetClasses) (cell : DividedNet) (g : IsGraph c.graph) (h : HasCell
         let f = sym b.2 ∙ sym (same_class b.0 b.1) in
         omega (arith, low, high, e, f)
 
-    -- a vertex has the list of its class
-    listed : (lists : List (List ℕ)) → AreListsOf cell.graph lists → (w : Vertex) → IsVertex c.graph w → AreShellsOf c.graph w (get_or lists (class_at c.numbers w.over - 1) [])
-    listed lists l w i =
+    -- a vertex has the list of its class in cell 0
+    pub vertex_list : (w : Vertex) → IsVertex c.graph w → (sizes : List ℕ) → AreShellsOf cell.graph (vertex (class_at c.numbers w.over) zero_vector) sizes → AreShellsOf c.graph w sizes
+    vertex_list w i sizes l =
         let e = class_iso c.graph h.placement (class_at cell.class_of) cell.basis cell.graph g h.stable h.numbering h.primitive in
         let m = iso_matching c.graph cell.graph e.iso in
         let x = e.iso.there w in
         let v = m.into w i in
         let p = cell_divides.is_graph in
         let back = opposite x.cell in
+        let class : class_at c.numbers w.over ≡ x.over = same_class w.over i.over ∙ e.over w i in
         let origin : moved x back ≡ vertex x.over zero_vector = ap (vertex x.over) (plus_back x.cell) in
-        let here = subst (λ (y : Vertex). AreShellsOf cell.graph y (get_or lists (x.over - 1) [])) (sym origin) (l.each x.over v.over v.over.1) in
-        let moved_list = sizes_back cell.graph cell.graph p p (λ y. moved y back) (λ y. moved y (opposite back)) (move_matching cell.graph back (opposite_dimension cell.graph.dimension x.cell v.cell)) x v (get_or lists (x.over - 1) []) here in
-        let class : x.over ≡ class_at c.numbers w.over = sym (same_class w.over i.over ∙ e.over w i) in
-        subst (λ n. AreShellsOf c.graph w (get_or lists (n - 1) [])) class (sizes_back c.graph cell.graph g p e.iso.there e.iso.back m w i (get_or lists (x.over - 1) []) moved_list)
+        let here = subst (λ (y : Vertex). AreShellsOf cell.graph y sizes) (ap (λ (u : ℕ). vertex u zero_vector) class ∙ sym origin) l in
+        let moved_list = sizes_back cell.graph cell.graph p p (λ y. moved y back) (λ y. moved y (opposite back)) (move_matching cell.graph back (opposite_dimension cell.graph.dimension x.cell v.cell)) x v sizes here in
+        sizes_back c.graph cell.graph g p e.iso.there e.iso.back m w i sizes moved_list
+
+    -- the class of a vertex is a vertex of the primitive graph
+    class_inside : (u : ℕ) → IsQuotientVertex c.graph u → IsQuotientVertex cell.graph (class_at c.numbers u)
+    class_inside u i = (k.at.is_classes.numbering.positive u i, subst (λ (n : ℕ). class_at c.numbers u ≤ n) (sym same_count) (k.at.is_classes.below u i))
+
+    -- so it has the list of its class
+    listed : (lists : List (List ℕ)) → AreListsOf cell.graph lists → (w : Vertex) → IsVertex c.graph w → AreShellsOf c.graph w (get_or lists (class_at c.numbers w.over - 1) [])
+    listed lists l w i =
+        let j = class_inside w.over i.over in
+        vertex_list w i (get_or lists (class_at c.numbers w.over - 1) []) (l.each (class_at c.numbers w.over) j j.1)
 
     -- so these are the sequences
     pub cell_sequences : (lists : List (List ℕ)) → AreListsOf cell.graph lists → AreSequencesOf c.graph lists

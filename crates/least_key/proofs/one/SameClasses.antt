@@ -6,36 +6,7 @@ use Rattle.periodic_net.specs.Graph.{Graph, IsGraph, IsQuotientVertex}
 use Rattle.periodic_net.specs.Placement.{Placement}
 use Rattle.periodic_net.proofs.CallerLemmas.{arc_inside, one_placement}
 use Rattle.key_theory.specs.Key.{Shape}
-
-module _ (G : Graph) (p : Placement) where
-  -- where two numberings agree before u, the one is not below the other at u
-  not_below : (f g : ℕ → ℕ) → IsClassNumbering G p f → IsClassNumbering G p g → (u : ℕ) → IsQuotientVertex G u → ((v : ℕ) → v < u → IsQuotientVertex G v → f v ≡ g v) → f u < g u → ⊥
-  not_below f g n m u i agree l =
-      let s = m.in_order u (f u) i (n.positive u i) l in
-      let here : f s.0 ≡ f u = agree s.0 s.1 s.2 ∙ s.3 in
-      let there : g s.0 ≡ g u = (m.classes s.0 u s.2 i).1 ((n.classes s.0 u s.2 i).0 here) in
-      let e : g u ≡ f u = sym there ∙ s.3 in
-      omega (arith, e, l)
-
-  module _ (f g : ℕ → ℕ) (n : IsClassNumbering G p f) (m : IsClassNumbering G p g) where
-    agree_at : (u : ℕ) → IsQuotientVertex G u → ((v : ℕ) → v < u → IsQuotientVertex G v → f v ≡ g v) → f u ≡ g u
-    agree_at u i agree = by (order (f u) (g u))
-      where
-        order : (a b : ℕ) → (a < b) ⊎ ((b < a) ⊎ (a ≡ b))
-        order a b = grind arith
-
-        by : (f u < g u) ⊎ ((g u < f u) ⊎ (f u ≡ g u)) → f u ≡ g u
-        by (inl b) = absurd (not_below f g n m u i agree b)
-        by (inr (inl b)) = absurd (not_below g f m n u i (λ v c j. sym (agree v c j)) b)
-        by (inr (inr e)) = e
-
-    agree_before : (k u : ℕ) → u < k → IsQuotientVertex G u → f u ≡ g u
-    agree_before zero u l i = absurd (omega arith)
-    agree_before (suc k) u l i = agree_at u i (λ v b j. agree_before k v (omega arith) j)
-
-    -- the classes of a placed net have one numbering
-    pub one_numbering : (u : ℕ) → IsQuotientVertex G u → f u ≡ g u
-    one_numbering u i = agree_before (u + 1) u (omega arith) i
+pub use Rattle.coordination.proofs.CallerLemmas.{one_numbering}
 
 -- each arc of the one is an arc of the other
 pub record HaveSameArcs (K L : ClassGraph) : Type 0 where

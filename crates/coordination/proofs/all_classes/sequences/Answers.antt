@@ -2,6 +2,7 @@ use Rattle.std.proofs.Common.{◌≤◌, List, ℕ, subst, sym, ◌∙◌, lit<}
 use Rattle.std.specs.Prelude.{Option, IfSome}
 use Rattle.periodic_net.specs.Limits.{most_vertices}
 use Rattle.coordination.specs.BoxSearches.{AreListsOf}
+use Rattle.coordination.proofs.classes.KindLists.{shell_kinds}
 use Rattle.coordination.proofs.classes.CellSequences.{cell_divides, cell_sequences, same_count}
 use Rattle.coordination.proofs.all_classes.sequences.Goals as goal
 
@@ -10,7 +11,8 @@ box_sequences-requires g c =
     let count = same_count c.args.classes.now c.args.cell.now c.net.ensures.is_graph c.requires.cell c.net.ensures.classes in
     let classes = c.count.ensures.count ∙ (λ i. (c.net.ensures.net i).count) in
     let few = subst (λ n. n ≤ most_vertices) (classes ∙ sym count) c.count.ensures.few in
-    (lit< tt, ((cell_divides c.args.classes.now c.args.cell.now c.net.ensures.is_graph c.requires.cell).is_graph, few))
+    let kinds = shell_kinds c.args.classes.now c.args.cell.now c.net.ensures.is_graph c.requires.cell c.net.ensures.classes c.args.kinds.now c.requires.kinds in
+    (lit< tt, ((cell_divides c.args.classes.now c.args.cell.now c.net.ensures.is_graph c.requires.cell).is_graph, (few, kinds)))
 
 pub returns-in-Some-clause-sequences : goal.returns-in-Some-clause-sequences
 returns-in-Some-clause-sequences g c =
