@@ -1,7 +1,7 @@
 -- Archives in bytes that are read.
 use Rattle.std.specs.Prelude.{◌≡◌, ◌≢◌, ℕ, ◌≤◌, List, length, Option, Some, None, option_map, Result, Ok, Err, Vec}
 use Rattle.std.specs.declared.alloc.Global.{Global}
-use Rattle.archive_text.specs.Texts.{most_bytes}
+pub use Rattle.archive_text.specs.Texts.{most_bytes}
 use Rattle.net_archive.specs.Archives.{ArchiveView, IsArchive, archive_text, empty_archive}
 use Rattle.net_archive.specs.Faults.{IsFaultOf}
 use Rattle.net_archive.specs.declared.faults.ArchiveFault.{ArchiveFault}

@@ -1,6 +1,5 @@
 -- The texts of what is reported of archives.
 use Rattle.std.specs.Prelude.{◌≢◌, ℕ, ◌-◌, ℤ, pos, List, [], ◌∷◌, ◌++◌, length, map, Option, None, Some, slice_get, codes}
-use Rattle.least_key.specs.declared.refusal.Refusal.TheVariants as refusal
 use Rattle.net_entries.specs.Entries.{EntryView}
 use Rattle.net_archive.specs.declared.faults.ArchiveFault.{ArchiveFault}
 use Rattle.net_archive.specs.declared.faults.ArchiveFault.TheVariants.{BadLine, RepeatedName, EntryRefused, KeyDiffers, TooManyEntries, Version, CountDiffers, ShellsDiffer, NoMemory}
@@ -9,6 +8,7 @@ use Rattle.net_archive.specs.declared.faults.AddFault.TheVariants as add
 use Rattle.net_report.specs.Headers.{quoted_name}
 use Rattle.line_text.specs.Numbers.{field_text, list_text}
 use Rattle.net_report.specs.Refusals.{refused_text}
+use Rattle.net_report.specs.Refusals as refusal
 
 -- the number and the name of a fault
 abbrev pub fault_name : ArchiveFault → List ℕ

@@ -5,10 +5,9 @@ ghost use Rattle.net_report.specs.Refusals.{refused_text};
 
 use crate::NoMemory;
 use cgd_read::Names;
-use least_key::Refusal;
 use line_text::{push_field, push_wide_list};
 use net_archive::ArchiveFault;
-use net_report::refused_line;
+use net_report::{Refusal, refused_line};
 use std::alloc::Global;
 
 // The number of a line, and the end of the line that reports it.

@@ -6,7 +6,7 @@ use Rattle.std.specs.Str.{bytes_eq}
 use Rattle.std.specs.Str.Parse.{digits_value}
 use Rattle.std.proofs.lemmas.Bool.{and_parts, ltb-true}
 use Rattle.command_words.specs.Words.{Text, Said}
-use Rattle.command_words.specs.Tasks.{Task, Tell, Add, Duplicates, Migrate, Union, Same, Verify, Workload, Cover, are_apart, may_give_cell, task_with, file_of, has_empty_word, may_name_archive, task_in, task_named, task_for, verb_named, sole_archive, sole_count, count_of, is_count, union_with, sole_file, MakesFew}
+use Rattle.command_words.specs.Tasks.{Task, Check, Place, Key, Identify, Components, Add, Duplicates, Migrate, Union, Same, Verify, Workload, Cover, are_apart, may_give_cell, task_with, file_of, has_empty_word, task_in, task_named, task_for, verb_named, sole_archive, sole_count, count_of, is_count, union_with, sole_file, MakesFew}
 use Rattle.command_words.specs.Views.{task_view}
 use Rattle.command_words.specs.declared.tasks.Task.{Task as TaskInCode}
 use Rattle.command_words.specs.declared.tasks.Verb.{Verb}
@@ -33,9 +33,9 @@ few_then : {A : Type 0} (f : A → Option Task) (o : Option A) → ((x : A) → 
 few_then f None h = tt
 few_then f (Some x) h = h x
 
-few_archive : (make : Text → Task) (o : Option Text) → ((x : Text) → MakesFew (make x)) → IsFewTask (option_map make o)
-few_archive make None h = tt
-few_archive make (Some x) h = h x
+few_file : (make : Text → Task) (o : Option Text) → ((x : Text) → MakesFew (make x)) → IsFewTask (option_map make o)
+few_file make None h = tt
+few_file make (Some x) h = h x
 
 few_count : (o : Option ℕ) → IsFewCount o → IsFewTask (option_map Workload o)
 few_count None h = tt
@@ -70,16 +70,20 @@ few_united file None = tt
 few_united file (Some archive) = few_if (are_apart file (Some archive)) (Some (Union file archive)) None tt tt
 
 few_with : (v : Verb) (said : Said) → IsFewTask (task_with v said)
-few_with (verb.Tell command) said =
-    let may = may_name_archive command said.archive && are_apart (file_of said) said.archive in
-    let told = Some (Tell command (file_of said) said.archive) in
-    few_if (is_some said.name) None (if may then told else None) tt (few_if may told None tt tt)
+few_with verb.Check said = few_file Check (sole_file said) (λ x. tt)
+few_with verb.Place said = few_file Place (sole_file said) (λ x. tt)
+few_with verb.Key said = few_file Key (sole_file said) (λ x. tt)
+few_with verb.Identify said =
+    let apart = are_apart (file_of said) said.archive in
+    let told = Some (Identify (file_of said) said.archive) in
+    few_if (is_some said.name) None (if apart then told else None) tt (few_if apart told None tt tt)
+few_with verb.Components said = few_file Components (sole_file said) (λ x. tt)
 few_with verb.Add said = few_if (are_apart (file_of said) said.archive) (Some (Add (file_of said) said.archive said.name)) None tt tt
-few_with verb.Duplicates said = few_archive Duplicates (sole_archive said) (λ x. tt)
-few_with verb.Migrate said = few_archive Migrate (sole_archive said) (λ x. tt)
+few_with verb.Duplicates said = few_file Duplicates (sole_archive said) (λ x. tt)
+few_with verb.Migrate said = few_file Migrate (sole_archive said) (λ x. tt)
 few_with verb.Union said = few_if (is_some said.name) None (union_with (file_of said) said.archive) tt (few_united (file_of said) said.archive)
-few_with verb.Same said = few_archive Same (sole_file said) (λ x. tt)
-few_with verb.Verify said = few_archive Verify (sole_file said) (λ x. tt)
+few_with verb.Same said = few_file Same (sole_file said) (λ x. tt)
+few_with verb.Verify said = few_file Verify (sole_file said) (λ x. tt)
 few_with verb.Workload said =
     let count = option_and_then count_of said.second in
     few_count (sole_count said) (none_or (is_some said.archive) (if is_some said.name then None else count) (none_or (is_some said.name) count (few_word said.second)))

@@ -4,8 +4,6 @@ use Rattle.std.specs.Fmt.{decimal}
 use Rattle.std.specs.Str.{bytes_eq}
 use Rattle.std.specs.Str.Parse.{digits_value}
 use Rattle.command_words.specs.Words.{Text, Said, said_by}
-use Rattle.net_commands.specs.declared.command.Command.{Command}
-use Rattle.net_commands.specs.declared.command.Command.TheVariants.{Check, Place, Key, Identify, Components}
 use Rattle.command_words.specs.declared.tasks.Verb.{Verb}
 use Rattle.command_words.specs.declared.tasks.Verb.TheVariants as verb
 use Rattle.net_cover.specs.Cells.{CellView}
@@ -14,8 +12,16 @@ use Rattle.workload.specs.Workload.{most_nets}
 
 -- what is to be done
 pub data Task : Type 0 where
-  -- to report on each block of a file what the command asks, with the archive where one is named
-  Tell : Command → Text → Option Text → Task
+  -- to report of each net of a file whether it is connected
+  Check : Text → Task
+  -- to report where its vertices stand
+  Place : Text → Task
+  -- to report what its key is
+  Key : Text → Task
+  -- to report which nets it is of the archive, where one is named
+  Identify : Text → Option Text → Task
+  -- to report what its components are
+  Components : Text → Task
   -- to add the nets of a file to the archive where one is named, the first under this name
   Add : Text → Option Text → Option Text → Task
   -- to find the nets that stand in an archive more than once
@@ -35,7 +41,11 @@ pub data Task : Type 0 where
 
 -- the file that a task reads
 abbrev pub file_named : Task → Option Text
-file_named (Tell command file archive) = Some file
+file_named (Check file) = Some file
+file_named (Place file) = Some file
+file_named (Key file) = Some file
+file_named (Identify file archive) = Some file
+file_named (Components file) = Some file
 file_named (Add file archive name) = Some file
 file_named (Duplicates archive) = None
 file_named (Migrate archive) = None
@@ -47,7 +57,11 @@ file_named (Cover file cell) = Some file
 
 -- the archive that it reads
 abbrev pub archive_named : Task → Option Text
-archive_named (Tell command file archive) = archive
+archive_named (Check file) = None
+archive_named (Place file) = None
+archive_named (Key file) = None
+archive_named (Identify file archive) = archive
+archive_named (Components file) = None
 archive_named (Add file archive name) = archive
 archive_named (Duplicates archive) = Some archive
 archive_named (Migrate archive) = Some archive
@@ -60,11 +74,11 @@ archive_named (Cover file cell) = None
 -- the command that an argument names
 abbrev pub verb_named : Text → Option Verb
 verb_named word =
-    if bytes_eq word (codes "check") then Some (verb.Tell Check) else
-    (if bytes_eq word (codes "place") then Some (verb.Tell Place) else
-    (if bytes_eq word (codes "key") then Some (verb.Tell Key) else
-    (if bytes_eq word (codes "identify") then Some (verb.Tell Identify) else
-    (if bytes_eq word (codes "components") then Some (verb.Tell Components) else
+    if bytes_eq word (codes "check") then Some verb.Check else
+    (if bytes_eq word (codes "place") then Some verb.Place else
+    (if bytes_eq word (codes "key") then Some verb.Key else
+    (if bytes_eq word (codes "identify") then Some verb.Identify else
+    (if bytes_eq word (codes "components") then Some verb.Components else
     (if bytes_eq word (codes "add") then Some verb.Add else
     (if bytes_eq word (codes "duplicates") then Some verb.Duplicates else
     (if bytes_eq word (codes "migrate") then Some verb.Migrate else
@@ -97,19 +111,11 @@ abbrev pub are_apart : Text → Option Text → Bool
 are_apart file None = true
 are_apart file (Some archive) = if bytes_eq file (codes "-") then not (bytes_eq archive (codes "-")) else true
 
--- identify takes an archive where one is named, and the other commands that report on each block take none
-abbrev pub may_name_archive : Command → Option Text → Bool
-may_name_archive Identify archive = true
-may_name_archive Check archive = not (is_some archive)
-may_name_archive Place archive = not (is_some archive)
-may_name_archive Key archive = not (is_some archive)
-may_name_archive Components archive = not (is_some archive)
-
 -- a file is read, and the archive where one is named, and no name is given
-abbrev pub tell_in : Command → Said → Option Task
-tell_in command said =
+abbrev pub identify_in : Said → Option Task
+identify_in said =
     if is_some said.name then None else
-    (if may_name_archive command said.archive && are_apart (file_of said) said.archive then Some (Tell command (file_of said) said.archive) else None)
+    (if are_apart (file_of said) said.archive then Some (Identify (file_of said) said.archive) else None)
 
 -- a file is read, and the archive where one is named
 abbrev pub add_in : Said → Option Task
@@ -154,18 +160,15 @@ cover_in said =
 -- cover takes a cell, and the other commands take none
 abbrev pub may_give_cell : Verb → Option Text → Bool
 may_give_cell verb.Cover cell = true
-may_give_cell (verb.Tell command) cell = not (is_some cell)
-may_give_cell verb.Add cell = not (is_some cell)
-may_give_cell verb.Duplicates cell = not (is_some cell)
-may_give_cell verb.Migrate cell = not (is_some cell)
-may_give_cell verb.Union cell = not (is_some cell)
-may_give_cell verb.Same cell = not (is_some cell)
-may_give_cell verb.Verify cell = not (is_some cell)
-may_give_cell verb.Workload cell = not (is_some cell)
+may_give_cell v cell = not (is_some cell)
 
 -- what a command takes beside a cell
 abbrev pub task_with : Verb → Said → Option Task
-task_with (verb.Tell command) said = tell_in command said
+task_with verb.Check said = option_map Check (sole_file said)
+task_with verb.Place said = option_map Place (sole_file said)
+task_with verb.Key said = option_map Key (sole_file said)
+task_with verb.Identify said = identify_in said
+task_with verb.Components said = option_map Components (sole_file said)
 task_with verb.Add said = add_in said
 task_with verb.Duplicates said = option_map Duplicates (sole_archive said)
 task_with verb.Migrate said = option_map Migrate (sole_archive said)

@@ -21,7 +21,11 @@ said_view s = record {
 
 -- the task, in the code
 abbrev pub task_view : TaskInCode → Task
-task_view (code.Tell command file archive) = task.Tell command file.now (option_copied archive)
+task_view (code.Check file) = task.Check file.now
+task_view (code.Place file) = task.Place file.now
+task_view (code.Key file) = task.Key file.now
+task_view (code.Identify file archive) = task.Identify file.now (option_copied archive)
+task_view (code.Components file) = task.Components file.now
 task_view (code.Add file archive name) = task.Add file.now (option_copied archive) (option_copied name)
 task_view (code.Duplicates archive) = task.Duplicates archive.now
 task_view (code.Migrate archive) = task.Migrate archive.now

@@ -2,25 +2,38 @@
 ghost use Rattle.std.specs.Prelude.{◌≡◌, IfOk, IfSome, option_and_then, option_map, option_copied};
 ghost use Rattle.cell_words.specs.Reading.{cell_of};
 ghost use Rattle.command_words.specs.Words.{texts_of};
-ghost use Rattle.command_words.specs.Tasks.{MakesFew, add_in, archive_named, are_apart, cover_in, file_named, file_of, has_empty_word, is_empty_word, may_give_cell, may_name_archive, sole_archive, sole_count, sole_file, task_for, task_in, task_of, task_with, tell_in, union_in, union_with, verb_named};
+ghost use Rattle.command_words.specs.Tasks.{MakesFew, add_in, archive_named, are_apart, cover_in, file_named, file_of, has_empty_word, identify_in, is_empty_word, may_give_cell, sole_archive, sole_count, sole_file, task_for, task_in, task_of, task_with, union_in, union_with, verb_named};
 ghost use Rattle.command_words.specs.Views.{said_view, task_view};
 
 use crate::counts::count_of;
 use crate::parse::{Said, read_words};
 use cell_words::cell_of;
-use net_commands::Command;
 use net_cover::Cell;
 use std::alloc::{AllocError as NoMemory, Global};
 
 /// What is to be done, and the names of the files that it reads. `-` is the standard input.
 #[derive(Clone, Copy, Debug, Drop)]
 pub enum Task<'a> {
-    /// To report on each block of a file what the command asks; only `identify` may name an
-    /// archive.
-    Tell {
-        command: Command,
+    /// To report of each net of a file whether it is connected.
+    Check {
+        file: &'a str,
+    },
+    /// To report of each net of a file where its vertices stand.
+    Place {
+        file: &'a str,
+    },
+    /// To report of each net of a file what its key is.
+    Key {
+        file: &'a str,
+    },
+    /// To report of each net of a file which nets of an archive it is.
+    Identify {
         file: &'a str,
         archive: Option<&'a str>,
+    },
+    /// To report of each net of a file what its components are.
+    Components {
+        file: &'a str,
     },
     /// To add the nets of a file to an archive, the first under this name.
     Add {
@@ -66,7 +79,11 @@ impl<'a> Task<'a> {
         ensures { option_copied result ≡ file_named (task_view self.now) }
     {
         match *self {
-            Task::Tell { file, .. }
+            Task::Check { file }
+            | Task::Place { file }
+            | Task::Key { file }
+            | Task::Identify { file, .. }
+            | Task::Components { file }
             | Task::Add { file, .. }
             | Task::Union { file, .. }
             | Task::Same { file }
@@ -81,12 +98,18 @@ impl<'a> Task<'a> {
         ensures { option_copied result ≡ archive_named (task_view self.now) }
     {
         match *self {
-            Task::Tell { archive, .. } | Task::Add { archive, .. } => archive,
+            Task::Identify { archive, .. } | Task::Add { archive, .. } => archive,
             Task::Duplicates { archive }
             | Task::Migrate { archive }
             | Task::Union { archive, .. } => Some(archive),
-            Task::Same { .. } | Task::Verify { .. } | Task::Workload { .. } | Task::Cover { .. } =>
-                None,
+            Task::Check { .. }
+            | Task::Place { .. }
+            | Task::Key { .. }
+            | Task::Components { .. }
+            | Task::Same { .. }
+            | Task::Verify { .. }
+            | Task::Workload { .. }
+            | Task::Cover { .. } => None,
         }
     }
 }
@@ -94,7 +117,11 @@ impl<'a> Task<'a> {
 /// The command that an argument names.
 #[derive(Clone, Copy, Debug, PartialEq, Eq)]
 pub(crate) enum Verb {
-    Tell(Command),
+    Check,
+    Place,
+    Key,
+    Identify,
+    Components,
     Add,
     Duplicates,
     Migrate,
@@ -109,15 +136,15 @@ fn verb_named(word: &str) -> Option<Verb>
     ensures { result ≡ verb_named word.now }
 {
     if word == "check" {
-        Some(Verb::Tell(Command::Check))
+        Some(Verb::Check)
     } else if word == "place" {
-        Some(Verb::Tell(Command::Place))
+        Some(Verb::Place)
     } else if word == "key" {
-        Some(Verb::Tell(Command::Key))
+        Some(Verb::Key)
     } else if word == "identify" {
-        Some(Verb::Tell(Command::Identify))
+        Some(Verb::Identify)
     } else if word == "components" {
-        Some(Verb::Tell(Command::Components))
+        Some(Verb::Components)
     } else if word == "add" {
         Some(Verb::Add)
     } else if word == "duplicates" {
@@ -173,30 +200,16 @@ fn are_apart(file: &str, archive: Option<&str>) -> bool
     }
 }
 
-// Only `identify` takes an archive.
-fn may_name_archive(command: Command, archive: Option<&str>) -> bool
-    ensures { result ≡ may_name_archive command (option_copied archive.entry) }
-{
-    match command {
-        Command::Identify => true,
-        Command::Check | Command::Place | Command::Key | Command::Components => archive.is_none(),
-    }
-}
-
-fn tell_in<'a>(command: Command, said: &Said<'a>) -> Option<Task<'a>>
-    ensures { option_map task_view result ≡ tell_in command (said_view said.now) }
+fn identify_in<'a>(said: &Said<'a>) -> Option<Task<'a>>
+    ensures { option_map task_view result ≡ identify_in (said_view said.now) }
 {
     if said.name.is_some() {
         return None;
     }
     let file = file_of(said);
     let archive = said.archive;
-    if may_name_archive(command, archive) && are_apart(file, archive) {
-        Some(Task::Tell {
-            command,
-            file,
-            archive,
-        })
+    if are_apart(file, archive) {
+        Some(Task::Identify { file, archive })
     } else {
         None
     }
@@ -300,7 +313,11 @@ fn may_give_cell(verb: Verb, cell: Option<&str>) -> bool
 {
     match verb {
         Verb::Cover => true,
-        Verb::Tell(_)
+        Verb::Check
+        | Verb::Place
+        | Verb::Key
+        | Verb::Identify
+        | Verb::Components
         | Verb::Add
         | Verb::Duplicates
         | Verb::Migrate
@@ -317,7 +334,11 @@ fn task_with<'a>(alloc: Global, verb: Verb, said: &Said<'a>) -> Result<Option<Ta
         option_map task_view task ≡ task_with verb (said_view said.now)) }
 {
     match verb {
-        Verb::Tell(command) => Ok(tell_in(command, said)),
+        Verb::Check => Ok(sole_file(said).map(|file| Task::Check { file })),
+        Verb::Place => Ok(sole_file(said).map(|file| Task::Place { file })),
+        Verb::Key => Ok(sole_file(said).map(|file| Task::Key { file })),
+        Verb::Identify => Ok(identify_in(said)),
+        Verb::Components => Ok(sole_file(said).map(|file| Task::Components { file })),
         Verb::Add => Ok(add_in(said)),
         Verb::Duplicates => Ok(sole_archive(said).map(|archive| Task::Duplicates { archive })),
         Verb::Migrate => Ok(sole_archive(said).map(|archive| Task::Migrate { archive })),

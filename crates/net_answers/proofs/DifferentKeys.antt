@@ -4,7 +4,7 @@ use Rattle.std.specs.List.{Contains}
 use Rattle.std.specs.Prelude.{is_some, unwrap_or}
 use Rattle.std.proofs.lemmas.List.{take_more}
 use Rattle.std.proofs.lemmas.List.Elements.{Contains-append_left, Contains-push, Contains-push_cases}
-use Rattle.net_report.specs.declared.outcome.Outcome.{Outcome}
+use Rattle.net_outcomes.specs.Outcomes.{Outcome}
 use Rattle.net_outcomes.specs.Deciding.{key_told}
 use Rattle.net_answers.specs.KeyLists.{IsPutIn}
 use Rattle.net_answers.specs.Summaries.{AreDifferentKeys}

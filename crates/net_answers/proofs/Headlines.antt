@@ -2,8 +2,8 @@
 use Rattle.std.proofs.Common.{◌≡◌, ◌≢◌, ◌∙◌, ℕ, Bool, true, false, List, Option, refl, ap}
 use Rattle.std.specs.Prelude.{if◌then◌else◌}
 use Rattle.cgd_read.specs.Blocks.{blocks_of}
-use Rattle.command_words.specs.Tasks.{Tell}
-use Rattle.net_commands.specs.declared.command.Command.TheVariants.{Components, Identify}
+use Rattle.command_words.specs.Tasks.{Identify}
+use Rattle.net_commands.specs.declared.command.Command.TheVariants as asks
 use Rattle.net_archive.specs.Archives.{ArchiveView}
 use Rattle.net_outcomes.specs.Reports.{IsReport}
 use Rattle.archive_report.specs.ArchiveBytes.{IsArchiveIn}
@@ -13,12 +13,12 @@ use Rattle.statuses.specs.declared.status.Status.{Status}
 use Rattle.statuses.specs.declared.status.Status.TheVariants.{Done, SomeRefused}
 
 -- to identify is not to ask for components
-identify_is_not_components : Identify ≢ Components
+identify_is_not_components : asks.Identify ≢ asks.Components
 identify_is_not_components e = cc
 
 -- a report on the blocks of these bytes
 headline_with : (file : List ℕ) (archive : Option (List ℕ)) (accepted : Bool) (status : Status) (text : List ℕ) (a : ArchiveView) → IsArchiveIn archive a
-    → IsReport Identify a.entries (blocks_of file) accepted text → status ≡ (if accepted then Done else SomeRefused) → Headline file archive status text
+    → IsReport asks.Identify a.entries (blocks_of file) accepted text → status ≡ (if accepted then Done else SomeRefused) → Headline file archive status text
 headline_with file archive accepted status text a read r e = record {
   known = a;
   read = read;
@@ -34,7 +34,7 @@ headline_with file archive accepted status text a read r e = record {
 
 -- the answer that is due to these bytes
 pub headline_on : (file : List ℕ) (archive : Option (List ℕ)) (name : List ℕ) (archive_name : Option (List ℕ)) (status : Status) (text : List ℕ) → IsReported status
-    → IsDueOn (Tell Identify name archive_name) file archive status text → Headline file archive status text
+    → IsDueOn (Identify name archive_name) file archive status text → Headline file archive status text
 headline_on file archive name archive_name Done text r due = headline_with file archive true Done text due.1 due.2 due.3 refl
 headline_on file archive name archive_name SomeRefused text r due = headline_with file archive false SomeRefused text due.1 due.2 due.3 refl
 headline_on file archive name archive_name status text r due = absurd r

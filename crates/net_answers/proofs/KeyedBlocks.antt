@@ -10,11 +10,8 @@ use Rattle.least_key.specs.AnyNets.{net_view}
 use Rattle.least_key.specs.KeyedNets.{KeyedNet}
 use Rattle.least_key.specs.declared.net.Net.{Net as NetInCode}
 use Rattle.net_entries.specs.Entries.{EntryView}
-use Rattle.net_report.specs.declared.outcome.Outcome.{Outcome}
-use Rattle.net_report.specs.declared.outcome.OutcomeBody.{OutcomeBody}
-use Rattle.net_report.specs.declared.outcome.OutcomeBody.TheVariants.{Unsupported, Malformed, Refused, Keyed}
 use Rattle.net_commands.specs.declared.command.Command.TheVariants.{Key}
-use Rattle.net_outcomes.specs.Outcomes.{AreOutcomesFrom, IsBodyOf, is_accepted, is_accepted_body, net_told}
+use Rattle.net_outcomes.specs.Outcomes.{Outcome, OutcomeBody, Unsupported, Malformed, Refused, Keyed, AreOutcomesFrom, IsBodyOf, is_accepted, is_accepted_body, net_told}
 use Rattle.net_answers.specs.Due.{AreAccepted, IsNetOf}
 
 -- this is reported of a block: its net

@@ -1,6 +1,8 @@
 pub mod CallerLemmas
 mod Added
 mod TaskKinds
+mod TextEndings
+pub mod Endings
 mod KeyedBlocks
 mod Turns
 mod KeyLists

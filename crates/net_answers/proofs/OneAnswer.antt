@@ -6,17 +6,16 @@ use Rattle.net_entries.specs.Entries.{EntryView}
 use Rattle.net_archive.specs.Archives.{ArchiveView, archive_text}
 use Rattle.net_archive.specs.Migrating.{newest}
 use Rattle.archive_report.specs.ArchiveTexts.{add_fault_text, groups_text}
-use Rattle.archive_text.specs.Texts.{most_bytes}
-use Rattle.command_words.specs.Tasks.{Task, Tell, Add, Duplicates, Migrate, Union, Same, Verify, Workload, Cover}
+use Rattle.command_words.specs.Tasks.{Task, Check, Place, Key, Identify, Components, Add, Duplicates, Migrate, Union, Same, Verify, Workload, Cover}
 use Rattle.net_commands.specs.declared.command.Command.{Command}
-use Rattle.net_commands.specs.declared.command.Command.TheVariants.{Key}
+use Rattle.net_commands.specs.declared.command.Command.TheVariants as asks
 use Rattle.net_outcomes.proofs.CallerLemmas.{all_alike, one_report, one_telling}
-use Rattle.archive_report.specs.ArchiveBytes.{IsArchiveIn, IsBadArchive}
+use Rattle.archive_report.specs.ArchiveBytes.{IsArchiveIn, IsBadArchive, most_bytes}
 use Rattle.net_answers.specs.Due.{AreGroupsAs, HasTooMany, IsAddedAs, IsAddedOrRefused, IsDueFor, IsDueOn, IsDueToBlocks, IsDueWith, IsMigratedAs, IsNotAddedAs, IsReportAs, bytes_of}
 use Rattle.net_answers.specs.Laws.{OneDueAnswer}
 use Rattle.net_answers.specs.Summaries.{IsSummary, IsSummaryAs, summary_text}
 use Rattle.statuses.specs.declared.status.Status.{Status}
-use Rattle.statuses.specs.declared.status.Status.TheVariants.{Done, SomeRefused, Usage, ReadFault, WriteFault, BadArchive, TooLarge, NoMemory, TooManyBlocks, AddRefused, MigrateRefused, BadMap}
+use Rattle.statuses.specs.declared.status.Status.TheVariants.{Done, SomeRefused, BadArchive, TooManyBlocks, AddRefused, MigrateRefused}
 use Rattle.net_answers.proofs.OneAddition.{accepted_or_reported, all_or_one, entries_accepted, one_longer, one_not_added}
 use Rattle.archive_report.proofs.CallerLemmas.{not_bad, one_archive_in, one_bad}
 use Rattle.cover_answers.proofs.CallerLemmas.{one_covering}
@@ -42,7 +41,7 @@ one_report_as command entries blocks s t x y h k = absurd h
 -- a summary
 one_summary : (made : ℕ) (blocks : List BlockView) (b c : Bool) (x y : List ℕ) → IsSummary made blocks b x → IsSummary made blocks c y → (b ≡ c) × (x ≡ y)
 one_summary made blocks b c x y h k =
-    let r = one_telling [] Key 1 blocks h.outcomes k.outcomes h.are_outcomes.each k.are_outcomes.each in
+    let r = one_telling [] asks.Key 1 blocks h.outcomes k.outcomes h.are_outcomes.each k.are_outcomes.each in
     let accepted = as_many_accepted h.outcomes k.outcomes r.accepted in
     let keys = as_many_keys h.outcomes k.outcomes h.summary.keys k.summary.keys r.keys h.summary.different k.summary.different in
     (h.all ∙ all_alike h.outcomes k.outcomes r ∙ sym k.all, h.summary.text_is ∙ (λ i. summary_text made (accepted i) (keys i)) ∙ sym k.summary.text_is)
@@ -97,7 +96,7 @@ module _ (given : Option (List ℕ)) (blocks : List BlockView) (a : ArchiveView)
   one_addition Done SomeRefused x y h k = absurd (accepted_or_reported blocks y (entries_accepted given blocks h.added.more h.added.are_entries) k)
   one_addition Done AddRefused x y h k = absurd (not_refused x y h k)
   one_addition SomeRefused Done x y h k = absurd (accepted_or_reported blocks x (entries_accepted given blocks k.added.more k.added.are_entries) h)
-  one_addition SomeRefused SomeRefused x y h k = (refl, (one_report Key [] blocks false false x y h k).1)
+  one_addition SomeRefused SomeRefused x y h k = (refl, (one_report asks.Key [] blocks false false x y h k).1)
   one_addition SomeRefused AddRefused x y h k = absurd (accepted_or_reported blocks x k.accepted h)
   one_addition AddRefused Done x y h k = absurd (not_refused y x k h)
   one_addition AddRefused SomeRefused x y h k = absurd (accepted_or_reported blocks y h.accepted k)
@@ -109,7 +108,11 @@ module _ (given : Option (List ℕ)) (blocks : List BlockView) (a : ArchiveView)
 
 -- what is due to a task, of blocks and of an archive
 one_due_for : (task : Task) (blocks : List BlockView) (a : ArchiveView) (s t : Status) (x y : List ℕ) → IsDueFor task blocks a s x → IsDueFor task blocks a t y → AreOne s t x y
-one_due_for (Tell command file name) blocks a s t x y h k = one_report_as command a.entries blocks s t x y h k
+one_due_for (Check file) blocks a s t x y h k = one_report_as asks.Check a.entries blocks s t x y h k
+one_due_for (Place file) blocks a s t x y h k = one_report_as asks.Place a.entries blocks s t x y h k
+one_due_for (Key file) blocks a s t x y h k = one_report_as asks.Key a.entries blocks s t x y h k
+one_due_for (Identify file name) blocks a s t x y h k = one_report_as asks.Identify a.entries blocks s t x y h k
+one_due_for (Components file) blocks a s t x y h k = one_report_as asks.Components a.entries blocks s t x y h k
 one_due_for (Add file name given) blocks a s t x y h k = one_addition given blocks a s t x y h k
 one_due_for (Duplicates name) blocks a s t x y h k = one_groups a s t x y h k
 one_due_for (Migrate name) blocks a s t x y h k = one_migration a s t x y h k
@@ -126,17 +129,7 @@ data WayOf (task : Task) (bytes : List ℕ) (archive : Option (List ℕ)) (s : S
 
 way_of : (task : Task) (bytes : List ℕ) (archive : Option (List ℕ)) (s : Status) (x : List ℕ) → IsDueToBlocks task bytes archive s x → WayOf task bytes archive s x
 way_of task bytes archive BadArchive x h = Faulty refl h.1
-way_of task bytes archive Done x h = Read h.1 h.2 h.3
-way_of task bytes archive SomeRefused x h = Read h.1 h.2 h.3
-way_of task bytes archive Usage x h = Read h.1 h.2 h.3
-way_of task bytes archive ReadFault x h = Read h.1 h.2 h.3
-way_of task bytes archive WriteFault x h = Read h.1 h.2 h.3
-way_of task bytes archive TooLarge x h = Read h.1 h.2 h.3
-way_of task bytes archive NoMemory x h = Read h.1 h.2 h.3
-way_of task bytes archive TooManyBlocks x h = Read h.1 h.2 h.3
-way_of task bytes archive AddRefused x h = Read h.1 h.2 h.3
-way_of task bytes archive MigrateRefused x h = Read h.1 h.2 h.3
-way_of task bytes archive BadMap x h = Read h.1 h.2 h.3
+way_of task bytes archive s x h = Read h.1 h.2 h.3
 
 one_way : (task : Task) (bytes : List ℕ) (archive : Option (List ℕ)) (s t : Status) (x y : List ℕ) → WayOf task bytes archive s x → WayOf task bytes archive t y → AreOne s t x y
 one_way task bytes archive s t x y (Read a h d) (Read b k e) = one_due_for task (blocks_of bytes) a s t x y d (subst (λ c. IsDueFor task (blocks_of bytes) c t y) (sym (one_archive_in archive a b h k)) e)
@@ -147,47 +140,25 @@ one_way task bytes archive s t x y (Faulty e h) (Faulty f k) = (e ∙ sym f, one
 -- blocks are no more than there may be
 few_blocks : (task : Task) (bytes : List ℕ) (archive : Option (List ℕ)) (s : Status) (x : List ℕ) → IsDueToBlocks task bytes archive s x → length (blocks_of bytes) ≤ most_blocks
 few_blocks task bytes archive BadArchive x h = h.0
-few_blocks task bytes archive Done x h = h.0
-few_blocks task bytes archive SomeRefused x h = h.0
-few_blocks task bytes archive Usage x h = h.0
-few_blocks task bytes archive ReadFault x h = h.0
-few_blocks task bytes archive WriteFault x h = h.0
-few_blocks task bytes archive TooLarge x h = h.0
-few_blocks task bytes archive NoMemory x h = h.0
-few_blocks task bytes archive TooManyBlocks x h = h.0
-few_blocks task bytes archive AddRefused x h = h.0
-few_blocks task bytes archive MigrateRefused x h = h.0
-few_blocks task bytes archive BadMap x h = h.0
+few_blocks task bytes archive s x h = h.0
 
 -- what is due to the blocks of these bytes is one
 one_of_blocks : (task : Task) (bytes : List ℕ) (archive : Option (List ℕ)) (s t : Status) (x y : List ℕ) → IsDueToBlocks task bytes archive s x → IsDueToBlocks task bytes archive t y → AreOne s t x y
 one_of_blocks task bytes archive s t x y h k = one_way task bytes archive s t x y (way_of task bytes archive s x h) (way_of task bytes archive t y k)
 
 one_with : (task : Task) (bytes : List ℕ) (archive : Option (List ℕ)) (s t : Status) (x y : List ℕ) → IsDueWith task bytes archive s x → IsDueWith task bytes archive t y → AreOne s t x y
-one_with (Tell command file name) bytes archive s t x y h k = one_of_blocks (Tell command file name) bytes archive s t x y h k
-one_with (Add file name given) bytes archive s t x y h k = one_of_blocks (Add file name given) bytes archive s t x y h k
-one_with (Duplicates name) bytes archive s t x y h k = one_of_blocks (Duplicates name) bytes archive s t x y h k
-one_with (Migrate name) bytes archive s t x y h k = one_of_blocks (Migrate name) bytes archive s t x y h k
-one_with (Cover file cell) bytes archive s t x y h k = one_of_blocks (Cover file cell) bytes archive s t x y h k
-one_with (Same file) bytes archive s t x y h k = one_of_blocks (Same file) bytes archive s t x y h k
 one_with (Union file name) bytes archive s t x y h k = one_union_due bytes archive s t x y h k
 one_with (Verify file) bytes archive s t x y h k = one_verification bytes s t x y h k
-one_with (Workload count) bytes archive s t x y h k = one_of_blocks (Workload count) bytes archive s t x y h k
+one_with task bytes archive s t x y h k = one_of_blocks task bytes archive s t x y h k
 
 -- where there are too many blocks or items, nothing is due
 many_or_few : (task : Task) (bytes : List ℕ) (archive : Option (List ℕ)) (s : Status) (x : List ℕ) → most_blocks < length (blocks_of bytes) → ¬ IsDueToBlocks task bytes archive s x
 many_or_few task bytes archive s x m h = let few = few_blocks task bytes archive s x h in absurd (omega (arith, m, few))
 
 not_many : (task : Task) (bytes : List ℕ) (archive : Option (List ℕ)) (s : Status) (x : List ℕ) → HasTooMany task bytes → ¬ IsDueWith task bytes archive s x
-not_many (Tell command file name) bytes archive s x m h = many_or_few (Tell command file name) bytes archive s x m h
-not_many (Add file name given) bytes archive s x m h = many_or_few (Add file name given) bytes archive s x m h
-not_many (Duplicates name) bytes archive s x m h = many_or_few (Duplicates name) bytes archive s x m h
-not_many (Migrate name) bytes archive s x m h = many_or_few (Migrate name) bytes archive s x m h
-not_many (Cover file cell) bytes archive s x m h = many_or_few (Cover file cell) bytes archive s x m h
-not_many (Same file) bytes archive s x m h = many_or_few (Same file) bytes archive s x m h
 not_many (Union file name) bytes archive s x m h = many_items bytes archive s x m h
 not_many (Verify file) bytes archive s x m h = absurd m
-not_many (Workload count) bytes archive s x m h = many_or_few (Workload count) bytes archive s x m h
+not_many task bytes archive s x m h = many_or_few task bytes archive s x m h
 
 -- an answer where there are too many blocks or items, or not
 data CountOf (task : Task) (file : List ℕ) (archive : Option (List ℕ)) (s : Status) (x : List ℕ) : Type 0 where
@@ -196,17 +167,7 @@ data CountOf (task : Task) (file : List ℕ) (archive : Option (List ℕ)) (s : 
 
 count_of : (task : Task) (file : List ℕ) (archive : Option (List ℕ)) (s : Status) (x : List ℕ) → IsDueOn task file archive s x → CountOf task file archive s x
 count_of task file archive TooManyBlocks x h = Many refl h.0 h.1
-count_of task file archive BadArchive x h = Few h
-count_of task file archive Done x h = Few h
-count_of task file archive SomeRefused x h = Few h
-count_of task file archive Usage x h = Few h
-count_of task file archive ReadFault x h = Few h
-count_of task file archive WriteFault x h = Few h
-count_of task file archive TooLarge x h = Few h
-count_of task file archive NoMemory x h = Few h
-count_of task file archive AddRefused x h = Few h
-count_of task file archive MigrateRefused x h = Few h
-count_of task file archive BadMap x h = Few h
+count_of task file archive s x h = Few h
 
 one_count : (task : Task) (file : List ℕ) (archive : Option (List ℕ)) (s t : Status) (x y : List ℕ) → CountOf task file archive s x → CountOf task file archive t y → AreOne s t x y
 one_count task file archive s t x y (Many e m f) (Many e' m' f') = (e ∙ sym e', f ∙ sym f')

@@ -7,9 +7,8 @@ use Rattle.integers.proofs.lists.Permutations.{rising_from_pairs, same_rising}
 use Rattle.integers.proofs.lists.Pieces.{in_map, map_in}
 use Rattle.net_entries.specs.Entries.{EntryView}
 use Rattle.net_entries.specs.Groups.{AreGroups, first_of}
-use Rattle.net_report.specs.declared.outcome.Outcome.{Outcome}
 use Rattle.net_outcomes.specs.Deciding.{key_told}
-use Rattle.net_outcomes.specs.Outcomes.{is_accepted}
+use Rattle.net_outcomes.specs.Outcomes.{Outcome, is_accepted}
 use Rattle.net_answers.specs.Summaries.{AreDifferentKeys}
 
 -- the groups of equal keys are one list

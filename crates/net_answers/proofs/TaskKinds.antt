@@ -1,7 +1,7 @@
 -- What is due to a task of blocks.
 use Rattle.std.proofs.Common.{ℕ, ◌<◌, List, length, Option}
 use Rattle.cgd_read.specs.Blocks.{blocks_of, most_blocks}
-use Rattle.command_words.specs.Tasks.{Task, Tell, Add, Duplicates, Migrate, Union, Same, Verify, Workload, Cover}
+use Rattle.command_words.specs.Tasks.{Task, Union, Verify}
 use Rattle.net_answers.specs.Due.{HasTooMany, IsDueToBlocks, IsDueWith, IsOfBlocks}
 use Rattle.statuses.specs.declared.status.Status.{Status}
 
@@ -9,22 +9,10 @@ use Rattle.statuses.specs.declared.status.Status.{Status}
 pub due_to_blocks : (task : Task) (bytes : List ℕ) (archive : Option (List ℕ)) (s : Status) (text : List ℕ) → IsOfBlocks task → IsDueToBlocks task bytes archive s text → IsDueWith task bytes archive s text
 due_to_blocks (Union file name) bytes archive s text o h = absurd o
 due_to_blocks (Verify file) bytes archive s text o h = absurd o
-due_to_blocks (Cover file cell) bytes archive s text o h = h
-due_to_blocks (Same file) bytes archive s text o h = h
-due_to_blocks (Tell command file name) bytes archive s text o h = h
-due_to_blocks (Add file name given) bytes archive s text o h = h
-due_to_blocks (Duplicates name) bytes archive s text o h = h
-due_to_blocks (Migrate name) bytes archive s text o h = h
-due_to_blocks (Workload count) bytes archive s text o h = h
+due_to_blocks task bytes archive s text o h = h
 
 -- where there are too many blocks, there is too much
 pub many_blocks : (task : Task) (bytes : List ℕ) → IsOfBlocks task → most_blocks < length (blocks_of bytes) → HasTooMany task bytes
 many_blocks (Union file name) bytes o h = absurd o
 many_blocks (Verify file) bytes o h = absurd o
-many_blocks (Cover file cell) bytes o h = h
-many_blocks (Same file) bytes o h = h
-many_blocks (Tell command file name) bytes o h = h
-many_blocks (Add file name given) bytes o h = h
-many_blocks (Duplicates name) bytes o h = h
-many_blocks (Migrate name) bytes o h = h
-many_blocks (Workload count) bytes o h = h
+many_blocks task bytes o h = h

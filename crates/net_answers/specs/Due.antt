@@ -14,12 +14,12 @@ use Rattle.net_archive.specs.Migrating.{newest, IsMigrated}
 use Rattle.net_archive.specs.declared.faults.AddFault.{AddFault}
 use Rattle.net_archive.specs.declared.faults.AddFault.TheVariants as add
 use Rattle.archive_report.specs.ArchiveTexts.{add_fault_text, migrate_fault_text, groups_text}
-use Rattle.command_words.specs.Tasks.{Task, Tell, Add, Duplicates, Migrate, Union, Same, Verify, Workload, Cover}
+use Rattle.command_words.specs.Tasks.{Task, Check, Place, Key, Identify, Components, Add, Duplicates, Migrate, Union, Same, Verify, Workload, Cover}
 use Rattle.net_commands.specs.declared.command.Command.{Command}
-use Rattle.net_commands.specs.declared.command.Command.TheVariants.{Key}
+use Rattle.net_commands.specs.declared.command.Command.TheVariants as asks
 use Rattle.workload.specs.Workload.{workload}
 use Rattle.net_outcomes.specs.Reports.{IsReport}
-use Rattle.archive_report.specs.ArchiveBytes.{IsArchiveIn, IsBadArchive}
+use Rattle.archive_report.specs.ArchiveBytes.{IsArchiveIn, IsBadArchive, most_bytes}
 use Rattle.net_answers.specs.Summaries.{IsSummaryAs}
 use Rattle.map_answers.specs.Due.{IsDueToVerify}
 use Rattle.cover_answers.specs.Due.{IsCoveredAs}
@@ -27,7 +27,6 @@ use Rattle.same_answers.specs.Due.{IsSameAs}
 use Rattle.union_answers.specs.Unions.{HasManyItems, IsUnionDue}
 use Rattle.statuses.specs.declared.status.Status.{Status}
 use Rattle.statuses.specs.declared.status.Status.TheVariants as status
-use Rattle.archive_text.specs.Texts.{most_bytes}
 
 -- the bytes whose blocks it is about: those of the file, or those that it makes
 abbrev pub bytes_of : Task → List ℕ → List ℕ
@@ -133,13 +132,17 @@ IsMigratedAs a s text = ⊥
 -- what becomes of an addition
 abbrev pub IsAddedOrRefused : Option (List ℕ) → List BlockView → ArchiveView → Status → List ℕ → Type 0
 IsAddedOrRefused given blocks a status.Done text = IsAddedAs given blocks a text
-IsAddedOrRefused given blocks a status.SomeRefused text = IsReport Key [] blocks false text
+IsAddedOrRefused given blocks a status.SomeRefused text = IsReport asks.Key [] blocks false text
 IsAddedOrRefused given blocks a status.AddRefused text = IsNotAddedAs given blocks a text
 IsAddedOrRefused given blocks a s text = ⊥
 
 -- this task, of these blocks and this archive, has this answer
 abbrev pub IsDueFor : Task → List BlockView → ArchiveView → Status → List ℕ → Type 0
-IsDueFor (Tell command file name) blocks a s text = IsReportAs command a.entries blocks s text
+IsDueFor (Check file) blocks a s text = IsReportAs asks.Check a.entries blocks s text
+IsDueFor (Place file) blocks a s text = IsReportAs asks.Place a.entries blocks s text
+IsDueFor (Key file) blocks a s text = IsReportAs asks.Key a.entries blocks s text
+IsDueFor (Identify file name) blocks a s text = IsReportAs asks.Identify a.entries blocks s text
+IsDueFor (Components file) blocks a s text = IsReportAs asks.Components a.entries blocks s text
 IsDueFor (Add file name given) blocks a s text = IsAddedOrRefused given blocks a s text
 IsDueFor (Duplicates name) blocks a s text = AreGroupsAs a s text
 IsDueFor (Migrate name) blocks a s text = IsMigratedAs a s text

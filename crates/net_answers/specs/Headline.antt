@@ -4,9 +4,8 @@ use Rattle.std.specs.List.{list_all}
 use Rattle.cgd_read.specs.Blocks.{blocks_of}
 use Rattle.net_commands.specs.declared.command.Command.TheVariants.{Identify}
 use Rattle.net_archive.specs.Archives.{ArchiveView}
-use Rattle.net_report.specs.Reports.{report_text}
-use Rattle.net_report.specs.declared.outcome.Outcome.{Outcome}
-use Rattle.net_outcomes.specs.Outcomes.{AreOutcomesFrom, is_accepted}
+use Rattle.net_outcomes.specs.Outcomes.{Outcome, AreOutcomesFrom, is_accepted}
+use Rattle.net_outcomes.specs.Reports.{report_text}
 use Rattle.net_archive.specs.Deciding.{KeysDecideArchive}
 use Rattle.net_outcomes.specs.Deciding.{KeysDecideBlocks, KeysDecideEntries, CertainAreAccepted}
 use Rattle.archive_report.specs.ArchiveBytes.{IsArchiveIn}

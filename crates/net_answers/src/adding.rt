@@ -16,8 +16,7 @@ use cgd_read::Block;
 use least_key::Net;
 use net_archive::{AddFault, Archive};
 use net_commands::Command;
-use net_outcomes::{are_accepted, outcomes_of};
-use net_report::{NoMemory, Outcome, OutcomeBody, report};
+use net_outcomes::{Outcome, OutcomeBody, are_accepted, outcomes_of, report};
 use statuses::{Answer, Status};
 use std::alloc::{AllocError as NoMemory, Global};
 

@@ -4,9 +4,10 @@ ghost use Rattle.cgd_read.specs.Blocks.{IsReadBody, blocks_of, most_blocks};
 ghost use Rattle.cgd_read.specs.Views.{views};
 ghost use Rattle.command_words.specs.Tasks.{MakesFew};
 ghost use Rattle.command_words.specs.Views.{task_view};
-ghost use Rattle.archive_report.specs.ArchiveBytes.{AreFew, bytes_in};
+ghost use Rattle.archive_report.specs.ArchiveBytes.{AreFew};
+ghost use Rattle.net_answers.specs.Bytes.{bytes_in, most_bytes};
 ghost use Rattle.net_answers.specs.Due.{HasTooMany, IsDueFor, IsDueToBlocks, IsDueWith, IsOfBlocks, bytes_of};
-ghost use Rattle.archive_text.specs.Texts.{most_bytes};
+ghost use Rattle.net_answers.specs.Endings.{GoesWithText};
 
 use crate::adding::add_blocks;
 use crate::entries::{groups_of, migration_of};
@@ -18,6 +19,7 @@ use command_words::Task;
 use cover_answers::cover_blocks;
 use map_answers::verify_answer;
 use net_archive::Archive;
+use net_commands::Command;
 use same_answers::same_blocks;
 use statuses::{Answer, Silence, Status};
 use std::alloc::{AllocError as NoMemory, Global};
@@ -38,7 +40,11 @@ fn answer_for(
         IsDueFor (task_view task.now) (views found.now) archive a.status a.text.items) }
 {
     match *task {
-        Task::Tell { command, .. } => report_on(alloc, command, &archive, found),
+        Task::Check { .. } => report_on(alloc, Command::Check, &archive, found),
+        Task::Place { .. } => report_on(alloc, Command::Place, &archive, found),
+        Task::Key { .. } => report_on(alloc, Command::Key, &archive, found),
+        Task::Identify { .. } => report_on(alloc, Command::Identify, &archive, found),
+        Task::Components { .. } => report_on(alloc, Command::Components, &archive, found),
         Task::Add { name, .. } => add_blocks(alloc, archive, name, found),
         Task::Duplicates { .. } => groups_of(alloc, &archive),
         Task::Migrate { .. } => migration_of(alloc, &archive),
@@ -75,7 +81,7 @@ fn answer_on(
 }
 
 /// What is due to a task, of the bytes of its file and of its archive, where it names them.
-#[tactic(auto, using(crate::proofs::TaskKinds::due_to_blocks, crate::proofs::TaskKinds::many_blocks))]
+#[tactic(auto, using(crate::proofs::TaskKinds::due_to_blocks, crate::proofs::TaskKinds::many_blocks, crate::proofs::TextEndings::text_of_blocks, crate::proofs::TextEndings::text_of_union, crate::proofs::TextEndings::text_of_verify))]
 pub fn answer_to(
     alloc: Global,
     task: &Task<'_>,
@@ -88,6 +94,8 @@ pub fn answer_to(
     // The answer is due to the task, of the bytes that it is about.
     ensures due { IfOk result (λ a. IsDueWith (task_view task.now)
         (bytes_of (task_view task.now) file.now) (bytes_in archive) a.status a.text.items) }
+    // Its status is one that goes with a text.
+    ensures told { IfOk result (λ a. GoesWithText a.status) }
     // TooManyBlocks comes only where there are more blocks, or items, than may be.
     ensures many { IsErrOf result Silence.TooManyBlocks →
         HasTooMany (task_view task.now) (bytes_of (task_view task.now) file.now) }

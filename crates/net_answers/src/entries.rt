@@ -4,7 +4,6 @@ ghost use Rattle.net_answers.specs.Due.{AreGroupsAs, IsMigratedAs};
 
 use archive_report::{groups_text, migrate_fault_text};
 use net_archive::{Archive, MigrateFault};
-use net_report::NoMemory;
 use statuses::{Answer, Status};
 use std::alloc::{AllocError as NoMemory, Global};
 

@@ -1,8 +1,14 @@
-// What holds of answers. The function carries a theorem.
-ghost use Rattle.net_answers.specs.Laws.{OneDueAnswer};
+// What holds of answers. Each function carries a theorem.
+ghost use Rattle.net_answers.specs.Laws.{FewEndings, OneDueAnswer};
 
 /// Two answers that are due to a task, of the same bytes of its file and of its archive, have one
 /// status and one text.
 pub fn one_due_answer()
     ensures theorem { OneDueAnswer }
+{}
+
+/// Where the bytes of its files are within their limits, and the archive is one, a task to which an
+/// answer is due ends in few ways.
+pub fn few_endings()
+    ensures theorem { FewEndings }
 {}

@@ -8,9 +8,8 @@ use cgd_read::Block;
 use net_archive::Archive;
 use net_commands::Command;
 use net_outcomes::tell_blocks;
-use net_report::NoMemory;
 use statuses::{Answer, ending_of};
-use std::alloc::Global;
+use std::alloc::{AllocError as NoMemory, Global};
 
 /// What a command reports on each block, beside an archive.
 pub fn report_on(

@@ -12,10 +12,9 @@ use indexmap::IndexSet;
 use line_text::push_field;
 use net_archive::Archive;
 use net_commands::Command;
-use net_outcomes::{are_accepted, is_accepted, outcomes_of};
-use net_report::{NoMemory, Outcome, OutcomeBody};
+use net_outcomes::{Outcome, OutcomeBody, are_accepted, is_accepted, outcomes_of};
 use statuses::{Answer, ending_of};
-use std::alloc::Global;
+use std::alloc::{AllocError as NoMemory, Global};
 
 // A count after its word, on a line of its own.
 fn push_count(text: &mut Vec<u8>, word: &[u8], n: u64) -> Result<(), NoMemory>

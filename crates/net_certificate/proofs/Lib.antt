@@ -1,3 +1,4 @@
+pub mod CallerLemmas
 pub mod OneAnswer
 pub mod FoundMaps
 pub mod SideTables

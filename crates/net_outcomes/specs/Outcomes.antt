@@ -10,9 +10,9 @@ use Rattle.coordination.specs.Sequences.{AreSequencesOf}
 use Rattle.net_entries.specs.Entries.{EntryView}
 use Rattle.net_archive.specs.Deciding.{AreNamesOf}
 use Rattle.net_report.specs.declared.outcome.Size.{Size}
-use Rattle.net_report.specs.declared.outcome.Outcome.{Outcome}
-use Rattle.net_report.specs.declared.outcome.OutcomeBody.{OutcomeBody}
-use Rattle.net_report.specs.declared.outcome.OutcomeBody.TheVariants.{Unsupported, Malformed, Refused, Checked, Located, Keyed, Identified, Lines, Faulty as FaultyItem}
+pub use Rattle.net_report.specs.declared.outcome.Outcome.{Outcome}
+pub use Rattle.net_report.specs.declared.outcome.OutcomeBody.{OutcomeBody}
+pub use Rattle.net_report.specs.declared.outcome.OutcomeBody.TheVariants.{Unsupported, Malformed, Refused, Checked, Located, Keyed, Identified, Lines, Faulty as FaultyItem}
 use Rattle.least_key.specs.AnyPlacements.{placed_view}
 use Rattle.least_key.specs.AnyNets.{net_view}
 use Rattle.least_key.specs.KeyedNets.{IsKeyed}

@@ -7,5 +7,7 @@ mod outcomes;
 mod telling;
 
 pub use laws::one_report;
+pub use net_archive::Archive;
+pub use net_report::{Outcome, OutcomeBody, report};
 pub use outcomes::{are_accepted, is_accepted, outcomes_of};
 pub use telling::{Told, tell_blocks};

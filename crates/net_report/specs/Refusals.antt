@@ -7,7 +7,7 @@ use Rattle.elimination.specs.declared.place.Place.{Place}
 use Rattle.barycentre.specs.declared.faults.WideSite.{WideSite}
 use Rattle.barycentre.specs.declared.faults.WideSite.TheVariants.{Denominator, ArcPart, Beyond}
 use Rattle.least_key.specs.declared.refusal.Refusal.{Refusal}
-use Rattle.least_key.specs.declared.refusal.Refusal.TheVariants.{Disconnected, Degenerate, NoModulus, WidePlacement, Collision, TooMuch, NoMemory}
+pub use Rattle.least_key.specs.declared.refusal.Refusal.TheVariants.{Disconnected, Degenerate, NoModulus, WidePlacement, Collision, TooMuch, NoMemory}
 use Rattle.net_report.specs.Numbers.{IsNamed, vertex_text}
 use Rattle.line_text.specs.Numbers.{field_text, list_text}
 

@@ -14,7 +14,7 @@ mod texts;
 
 pub use headers::push_quoted;
 pub use keys::push_key;
-pub use least_key::AnyPlaced;
+pub use least_key::{AnyPlaced, Refusal};
 pub use numbers::push_vertex;
 pub use outcome::{Outcome, OutcomeBody, Outcomes, Size};
 pub use refused::{push_refused, refused_line};

@@ -3,14 +3,14 @@ use Rattle.std.proofs.Common.{◌≡◌, ℕ, List, [], Option, unwrap_or, subst
 use Rattle.outside.specs.Held.{Holds}
 use Rattle.command_words.specs.Tasks.{Task, archive_named, file_named}
 use Rattle.net_answers.specs.Due.{IsDueWith, bytes_of}
+use Rattle.net_answers.specs.Endings.{GoesWithText}
 use Rattle.statuses.specs.declared.status.Status.{Status}
 use Rattle.statuses.specs.declared.status.Status.TheVariants.{TooLarge, TooManyBlocks}
 use Rattle.net_tool.specs.Run.{AreBytesOf, IsDueOf}
-use Rattle.net_tool.proofs.Endings.{ends_with, no_many}
 
 -- a file without bytes counts as empty
 pub due_over : (task : Task) (holds : Holds) (bytes : List ℕ) (file archive : Option (List ℕ)) → bytes ≡ unwrap_or file [] → AreBytesOf (file_named task) holds file
-    → AreBytesOf (archive_named task) holds archive → (status : Status) (text : List ℕ) → IsDueWith task (bytes_of task bytes) archive status text → IsDueOf task holds status text
-due_over task holds bytes file archive e f a TooLarge text due = absurd (ends_with task (bytes_of task bytes) archive TooLarge text (λ e. cc) due)
-due_over task holds bytes file archive e f a TooManyBlocks text due = absurd (no_many task (bytes_of task bytes) archive text due)
-due_over task holds bytes file archive e f a status text due = (file, archive, f, a, subst (λ b. IsDueWith task (bytes_of task b) archive status text) e due)
+    → AreBytesOf (archive_named task) holds archive → (status : Status) (text : List ℕ) → GoesWithText status → IsDueWith task (bytes_of task bytes) archive status text → IsDueOf task holds status text
+due_over task holds bytes file archive e f a TooLarge text told due = absurd told
+due_over task holds bytes file archive e f a TooManyBlocks text told due = absurd told
+due_over task holds bytes file archive e f a status text told due = (file, archive, f, a, subst (λ b. IsDueWith task (bytes_of task b) archive status text) e due)

@@ -1,5 +1,3 @@
-mod Endings
-mod TextEndings
 mod DueOver
 mod Headlines
 mod Completed

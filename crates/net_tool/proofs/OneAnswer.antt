@@ -4,7 +4,7 @@ use Rattle.std.specs.Prelude.{unwrap_or}
 use Rattle.command_words.specs.Tasks.{Task, archive_named, file_named}
 use Rattle.net_answers.specs.Due.{IsDueOn}
 use Rattle.statuses.specs.declared.status.Status.{Status}
-use Rattle.statuses.specs.declared.status.Status.TheVariants.{Done, SomeRefused, Usage, ReadFault, WriteFault, BadArchive, TooLarge, NoMemory, TooManyBlocks, AddRefused, MigrateRefused, BadMap}
+use Rattle.statuses.specs.declared.status.Status.TheVariants.{TooLarge}
 use Rattle.net_answers.proofs.CallerLemmas.{one_due_answer}
 use Rattle.net_tool.specs.Laws.{OneAnswer}
 use Rattle.net_tool.specs.Run.{AreBytesOf, HasManyBytes, IsDueOf, IsDueOver, IsTooLarge}
@@ -31,17 +31,7 @@ module _ (of : List ℕ → List ℕ) where
   -- so it is of each answer
   way_of : (task : Task) (s : Status) (x : List ℕ) → IsDueOf task (Some of) s x → WayOf task s x
   way_of task TooLarge x h = Large refl h.0 h.1
-  way_of task Done x h = Over h
-  way_of task SomeRefused x h = Over h
-  way_of task Usage x h = Over h
-  way_of task ReadFault x h = Over h
-  way_of task WriteFault x h = Over h
-  way_of task BadArchive x h = Over h
-  way_of task NoMemory x h = Over h
-  way_of task TooManyBlocks x h = Over h
-  way_of task AddRefused x h = Over h
-  way_of task MigrateRefused x h = Over h
-  way_of task BadMap x h = Over h
+  way_of task s x h = Over h
 
   -- not both
   not_large : (task : Task) (s : Status) (x : List ℕ) → IsDueOver task (Some of) s x → ¬ IsTooLarge task (Some of)

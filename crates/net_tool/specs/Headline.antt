@@ -2,8 +2,7 @@
 use Rattle.std.specs.Prelude.{ℕ, List, Option, Some}
 use Rattle.std.specs.Io.KnownBytes.{Appends}
 use Rattle.outside.specs.Held.{Holds}
-use Rattle.command_words.specs.Tasks.{Task, Tell}
-use Rattle.net_commands.specs.declared.command.Command.TheVariants.{Identify}
+use Rattle.command_words.specs.Tasks.{Task, Identify}
 use Rattle.net_answers.specs.Headline.{Headline}
 use Rattle.statuses.specs.declared.status.Status.{Status}
 use Rattle.net_tool.specs.Run.{AreBytesOf}
@@ -20,5 +19,5 @@ pub record IsHeadlineOver (file : List ℕ) (archive : Option (List ℕ)) (holds
 
 -- so it is of each run of `identify` that answers each block
 abbrev pub HasHeadline : Option Task → Holds → Option (List ℕ) → Option (List ℕ) → Status → Type 0
-HasHeadline (Some (Tell Identify file archive)) holds before after status = IsHeadlineOver file archive holds before after status
+HasHeadline (Some (Identify file archive)) holds before after status = IsHeadlineOver file archive holds before after status
 HasHeadline task holds before after status = Unit {0}

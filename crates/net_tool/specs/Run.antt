@@ -6,10 +6,10 @@ use Rattle.outside.specs.Held.{Holds, Are, HasMore}
 use Rattle.command_words.specs.Tasks.{Task, archive_named, file_named, task_of}
 use Rattle.outside.specs.declared.shelf.InFault.{InFault}
 use Rattle.outside.specs.declared.shelf.InFault.TheVariants as unread
+use Rattle.net_answers.specs.Bytes.{most_bytes}
 use Rattle.net_answers.specs.Due.{IsDueOn}
 use Rattle.statuses.specs.declared.status.Status.{Status}
-use Rattle.statuses.specs.declared.status.Status.TheVariants.{Done, SomeRefused, Usage, ReadFault, WriteFault, BadArchive, TooLarge, NoMemory, TooManyBlocks, AddRefused, MigrateRefused, BadMap}
-use Rattle.archive_text.specs.Texts.{most_bytes}
+use Rattle.statuses.specs.declared.status.Status.TheVariants.{Usage, ReadFault, WriteFault, TooLarge, NoMemory, TooManyBlocks}
 
 abbrev pub usage_line : List ℕ
 usage_line = codes "usage: net_tool COMMAND [FILE] [--archive PATH] [--name NAME] [--cell ROWS]\n"
@@ -85,17 +85,6 @@ IsSilent TooLarge = Unit {0}
 IsSilent NoMemory = Unit {0}
 IsSilent TooManyBlocks = Unit {0}
 IsSilent _ = ⊥
-
--- a status that goes with a text
-abbrev pub GoesWithText : Status → Type 0
-GoesWithText Done = Unit {0}
-GoesWithText SomeRefused = Unit {0}
-GoesWithText Usage = Unit {0}
-GoesWithText BadArchive = Unit {0}
-GoesWithText AddRefused = Unit {0}
-GoesWithText MigrateRefused = Unit {0}
-GoesWithText BadMap = Unit {0}
-GoesWithText _ = ⊥
 
 -- how a run ends where a file is not read
 abbrev pub status_of : InFault → Status

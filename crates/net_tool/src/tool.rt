@@ -5,11 +5,12 @@ ghost use Rattle.outside.specs.Causes.{Rose};
 ghost use Rattle.command_words.specs.Words.{texts_of};
 ghost use Rattle.command_words.specs.Tasks.{MakesFew, task_of};
 ghost use Rattle.command_words.specs.Views.{task_view};
-ghost use Rattle.net_tool.specs.Completeness.{AreWithin, HasRoom, IsComplete};
+ghost use Rattle.net_answers.specs.Endings.{GoesWithText, IsComplete};
 ghost use Rattle.net_answers.specs.Headline.{IsReported};
+ghost use Rattle.net_tool.specs.Completeness.{AreWithin, HasRoom};
 ghost use Rattle.net_tool.specs.Headline.{HasHeadline};
 ghost use Rattle.net_tool.specs.Inputs.{AreInputs};
-ghost use Rattle.net_tool.specs.Run.{FailedAtFile, FailedAtTask, IsAnswer, IsAnswered, IsBroken, IsDueOf, IsSilent, GoesWithText, IsUnread, status_of};
+ghost use Rattle.net_tool.specs.Run.{FailedAtFile, FailedAtTask, IsAnswer, IsAnswered, IsBroken, IsDueOf, IsSilent, IsUnread, status_of};
 
 use crate::files::read_named;
 use command_words::{Task, task_of};

@@ -18,10 +18,7 @@ use Rattle.least_key.specs.KeyedNets.{IsKeyed}
 use Rattle.least_key.specs.declared.net.Net.{Net as NetInMemory}
 use Rattle.net_entries.specs.Entries.{EntryView}
 use Rattle.net_commands.specs.declared.command.Command.TheVariants.{Key}
-use Rattle.net_outcomes.specs.Outcomes.{AreOutcomesFrom, IsBodyOf, is_accepted, is_accepted_body, net_told}
-use Rattle.net_report.specs.declared.outcome.Outcome.{Outcome}
-use Rattle.net_report.specs.declared.outcome.OutcomeBody.{OutcomeBody}
-use Rattle.net_report.specs.declared.outcome.OutcomeBody.TheVariants.{Unsupported, Malformed, Refused, Keyed}
+use Rattle.net_outcomes.specs.Outcomes.{Outcome, OutcomeBody, Unsupported, Malformed, Refused, Keyed, AreOutcomesFrom, IsBodyOf, is_accepted, is_accepted_body, net_told}
 use Rattle.same_answers.specs.Nets.{AreNetsOf, IsNetOf}
 use Rattle.same_answers.specs.Steps.{nets_told, with_net}
 

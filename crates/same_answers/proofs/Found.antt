@@ -11,7 +11,7 @@ use Rattle.standard_map_theory.specs.MapNumbers.{IsFound, box_vertices, entries_
 use Rattle.net_certificate.specs.Answers.{IsMapAnswer, PassesIfFound, shape_of}
 use Rattle.net_certificate.specs.declared.answer.MapAnswer.{MapAnswer}
 use Rattle.net_certificate.specs.declared.answer.MapAnswer.TheVariants.{Found}
-use Rattle.map_table.proofs.CallerLemmas.{box_length, map_length}
+use Rattle.net_certificate.proofs.CallerLemmas.{box_length, map_length}
 
 -- it has no more images than there is room for
 pub found_few : (G H : Graph) (g : Shape G) (h : Shape H) (room m : ℕ) (images : List Vertex) (rows : List Vector) → IsGraph G → IsFound G H g h room m images rows → length images ≤ room

@@ -12,12 +12,9 @@ use Rattle.map_text.specs.Items.{ItemView, Maps}
 use Rattle.map_text.specs.Texts.{maps_text}
 use Rattle.map_check.specs.Conditions.{most_images}
 use Rattle.net_commands.specs.declared.command.Command.TheVariants.{Key}
-use Rattle.net_outcomes.specs.Outcomes.{AreOutcomesFrom, IsBodyOf, is_accepted, is_accepted_body}
+use Rattle.net_outcomes.specs.Outcomes.{Outcome, OutcomeBody, Unsupported, Malformed, Refused, Checked, Located, Keyed, Identified, Lines, FaultyItem, AreOutcomesFrom, IsBodyOf, is_accepted, is_accepted_body}
 use Rattle.net_outcomes.specs.Reports.{IsReport}
 use Rattle.net_outcomes.proofs.CallerLemmas.{keyed_not_refused, one_report}
-use Rattle.net_report.specs.declared.outcome.Outcome.{Outcome}
-use Rattle.net_report.specs.declared.outcome.OutcomeBody.{OutcomeBody}
-use Rattle.net_report.specs.declared.outcome.OutcomeBody.TheVariants.{Unsupported, Malformed, Refused, Checked, Located, Keyed, Identified, Lines, Faulty as FaultyItem}
 use Rattle.statuses.specs.declared.status.Status.TheVariants.{Done, SomeRefused}
 use Rattle.same_answers.specs.Due.{AreMapped}
 use Rattle.same_answers.specs.Items.{AreItemsOf, AreMapsOf, IsItemOf, images_in, item_by}

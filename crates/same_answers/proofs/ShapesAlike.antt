@@ -18,7 +18,7 @@ use Rattle.standard_map_theory.specs.StandardMaps.{HaveSameCoordinates, IsFramed
 use Rattle.net_certificate.specs.Answers.{IsAnswerBy, IsMapAnswer, shape_of}
 use Rattle.net_certificate.specs.declared.answer.MapAnswer.{MapAnswer}
 use Rattle.net_certificate.specs.declared.answer.MapAnswer.TheVariants.{Different, Found, LongMap, WideMap}
-use Rattle.net_certificate.proofs.OneAnswer.{one_map_answer}
+use Rattle.net_certificate.proofs.CallerLemmas.{one_map_answer}
 
 -- the class graph with these arcs
 abbrev classes_with : ℕ → ℕ → List ClassArc → ClassGraph

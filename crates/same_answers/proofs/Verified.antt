@@ -24,7 +24,7 @@ use Rattle.map_answers.specs.declared.checking.CheckedMaps.{CheckedMaps}
 use Rattle.net_certificate.specs.Answers.{IsMapAnswer, IsPassing, shape_of}
 use Rattle.net_certificate.specs.declared.answer.MapAnswer.{MapAnswer}
 use Rattle.net_certificate.specs.declared.answer.MapAnswer.TheVariants.{Different, Found, LongMap, WideMap}
-use Rattle.net_certificate.proofs.FoundMaps.{found_maps_pass}
+use Rattle.net_certificate.proofs.CallerLemmas.{found_maps_pass}
 use Rattle.statuses.specs.Statuses.{ending_of}
 use Rattle.statuses.specs.declared.status.Status.{Status}
 use Rattle.statuses.specs.declared.status.Status.TheVariants.{BadMap, Done, SomeRefused}

@@ -7,8 +7,7 @@ use Rattle.least_key.specs.declared.net.Net.{Net as NetInMemory}
 use Rattle.map_text.specs.Items.{ItemView}
 use Rattle.map_text.specs.Rows.{row_lines}
 use Rattle.map_text.specs.Texts.{item_rows, items_rows}
-use Rattle.net_outcomes.specs.Outcomes.{net_told}
-use Rattle.net_report.specs.declared.outcome.Outcome.{Outcome}
+use Rattle.net_outcomes.specs.Outcomes.{Outcome, net_told}
 use Rattle.same_answers.specs.Items.{IsItemOf, AreItemsOf, images_in}
 
 -- the net that is reported of a block, where one is, before those of other blocks

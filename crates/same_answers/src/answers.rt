@@ -8,10 +8,8 @@ use crate::NoMemory;
 use crate::nets::nets_told;
 use crate::texts::maps_text;
 use cgd_read::Block;
-use net_archive::Archive;
 use net_commands::Command;
-use net_outcomes::{are_accepted, outcomes_of};
-use net_report::report;
+use net_outcomes::{Archive, are_accepted, outcomes_of, report};
 use statuses::{Answer, Status};
 use std::alloc::Global;
 

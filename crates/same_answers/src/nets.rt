@@ -6,7 +6,7 @@ ghost use Rattle.same_answers.specs.Steps.{nets_told};
 
 use crate::NoMemory;
 use least_key::Net;
-use net_report::{Outcome, OutcomeBody};
+use net_outcomes::{Outcome, OutcomeBody};
 use std::alloc::Global;
 
 // The net that is reported of a block.

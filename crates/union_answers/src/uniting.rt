@@ -1,7 +1,6 @@
 // Unites an archive with the nets of a file: another archive, or a text of key lines.
 ghost use Rattle.std.specs.Prelude.{◌≡◌, ◌≤◌, ◌<◌, All, IfErr, IfOk, IsErrOf, length};
-ghost use Rattle.archive_report.specs.ArchiveBytes.{AreFew, IsArchiveIn, IsBadArchive, bytes_in};
-ghost use Rattle.archive_text.specs.Texts.{most_bytes};
+ghost use Rattle.archive_report.specs.ArchiveBytes.{AreFew, IsArchiveIn, IsBadArchive, bytes_in, most_bytes};
 ghost use Rattle.keyline_import.specs.Items.{items_of, most_items};
 ghost use Rattle.net_archive.specs.Archives.{IsEntry, most_entries};
 ghost use Rattle.net_entries.specs.Entries.{entry_view, entry_views};
