@@ -13,7 +13,7 @@ pub record IsCertain (G : Graph) : Type 0 where
   pub keyable : IsKeyable G
   pub reached : IsReachable G
 
--- no refusal is true of a certain graph but want of memory
+-- no refusal is true of a certain graph but running out of memory
 abbrev pub CertainIsNotRefused : Type 0
 CertainIsNotRefused = (G : Graph) (refusal : Refusal) → IsGraph G → IsCertain G → IsTrueOf G refusal → refusal ≡ NoMemory
 

@@ -13,7 +13,7 @@ use Rattle.least_key.specs.declared.refusal.Refusal.TheVariants.{NoMemory}
 abbrev pub PlacedIsNotRefused : Type 0
 PlacedIsNotRefused = (G : Graph) (p : PlacedNet) (refusal : Refusal) → IsGraph G → IsPlacedAs G p → IsOfPlacing refusal → IsTrueOf G refusal → refusal ≡ NoMemory
 
--- two refusals that are true of a graph, and tell no want of memory, are one
+-- two refusals that are true of a graph, running out of memory aside, are one
 abbrev pub OneRefusal : Type 0
 OneRefusal = (G : Graph) (a b : Refusal) → IsGraph G → IsTrueOf G a → IsTrueOf G b → a ≢ NoMemory → b ≢ NoMemory → a ≡ b
 

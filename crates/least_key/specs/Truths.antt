@@ -27,7 +27,7 @@ pub record HasTooMuchWork (G : Graph) (done counted : ℕ) : Type 0 where
   pub shape : Shape G
   pub past : IsWorkPast shape.classes done counted
 
--- what the refusal tells is true of G; want of memory tells nothing
+-- what the refusal says is true of G; running out of memory says nothing
 abbrev pub IsTrueOf : Graph → Refusal → Type 0
 IsTrueOf G (Disconnected split) = IsDisconnectedBy G split
 IsTrueOf G (Degenerate split) = IsDegenerateBy G split

@@ -7,7 +7,7 @@ use crate::{Net, Refusal};
 use quotient_graph::AnyGraph;
 use std::alloc::{AllocError as NoMemory, Global};
 
-// What `identify` answers, want of memory aside.
+// What `identify` answers, running out of memory aside.
 fn answer_to(alloc: Global, graph: &AnyGraph) -> Result<Result<Net, Refusal>, NoMemory>
     ensures { IfOk result (IsAnswerTo graph.now) }
 {
@@ -30,7 +30,7 @@ fn answers_to(alloc: Global, graphs: &[AnyGraph]) -> Result<Vec<Result<Net, Refu
 }
 
 #[tactic(auto, using(crate::proofs::KeysTelling::keys_tell))]
-/// What `identify` answers for each graph; want of memory for one of them is want of memory for
+/// What `identify` answers for each graph; where memory runs out for one of them, it ran out for
 /// all. The keys of two accepted graphs are equal exactly where their nets are isomorphic.
 pub fn keys_of(alloc: Global, graphs: &[AnyGraph]) -> Result<Vec<Result<Net, Refusal>>, NoMemory>
     ensures answers { IfOk result (λ answers. AreAnswers graphs.now answers.items) }

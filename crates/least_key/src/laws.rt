@@ -2,7 +2,7 @@
 ghost use Rattle.least_key.specs.Certain.{CertainIsNotRefused, KeyedIsCertain};
 ghost use Rattle.least_key.specs.Laws.{OneNet, OneRefusal, PlacedIsNotRefused};
 
-/// No refusal is true of a certain graph but want of memory.
+/// No refusal is true of a certain graph but running out of memory.
 pub fn certain_is_not_refused()
     ensures theorem { CertainIsNotRefused }
 {}
@@ -12,13 +12,13 @@ pub fn keyed_is_certain()
     ensures theorem { KeyedIsCertain }
 {}
 
-/// No refusal of placing is true of a graph that is placed but want of memory.
+/// No refusal of placing is true of a graph that is placed but running out of memory.
 pub fn placed_is_not_refused()
     ensures theorem { PlacedIsNotRefused }
 {}
 
-/// Two refusals that are true of a graph are one, want of memory aside. So of several causes the
-/// first is told.
+/// Two refusals that are true of a graph are one, running out of memory aside. So of several causes
+/// the first is told.
 pub fn one_refusal()
     ensures theorem { OneRefusal }
 {}

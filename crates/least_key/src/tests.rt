@@ -1,4 +1,5 @@
-// What no clause says, and no text of a run reaches: single frames, and that calls with ample memory answer.
+// What no clause says, and no text of a run reaches: single frames, and that calls with ample
+// memory answer.
 ghost use Rattle.std.specs.Prelude.{◌≤◌, length};
 
 mod frames;

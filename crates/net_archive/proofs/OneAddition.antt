@@ -1,4 +1,4 @@
--- Where a net was added no fault of adding is true but want of memory, and two such faults are one.
+-- Where a net was added no fault of adding is true but running out of memory, and two such faults are one.
 use Rattle.std.proofs.Common.{◌≡◌, ◌≢◌, ⊎_elim, ℕ, ◌<◌, ◌≤◌, true, List, [], ◌∷◌, ◌++◌, length, true≢false, refl, sym, ap, ◌∙◌, subst, arith}
 use mathlib.Core.List.{append_assoc}
 use Rattle.std.specs.List.{All}

@@ -238,7 +238,7 @@ no_later_fault a fault is h = by (states_meet a.version (archive_text a) a.entri
     by (inr (inl ahead)) = no_earlier_fault a.version a.entries Start (are_entries a is) tt h.entries h.place h.part fault h.formed ahead h.cause
     by (inr (inr ahead)) = nothing_left a.version h.entries a.entries h.part Start ahead
 
--- the text of an archive has no fault but want of memory
+-- the text of an archive has no fault but running out of memory
 pub no_fault_but_memory : (a : ArchiveView) (fault : ArchiveFault) → IsArchive a → IsFaultOf (archive_text a) fault → fault ≡ NoMemory
 no_fault_but_memory a fault is (inl memory) = memory
 no_fault_but_memory a fault is (inr (inl first)) = absurd (no_first_line a.version (archive_text a) (rows_text (entry_lines a.version a.entries)) fault refl first)

@@ -25,7 +25,7 @@ are_archive v es text l h e = record {
 pub same_archive : (a b : ArchiveView) (text : List ℕ) → IsArchive a → IsArchive b → text ≡ archive_text a → text ≡ archive_text b → b ≡ a
 same_archive a b text ha hb ea eb = one_archive b a hb ha (sym eb ∙ ea)
 
--- of the text of an archive only want of memory is told
+-- of the text of an archive only running out of memory is reported
 pub only_memory : (a : ArchiveView) (fault : ArchiveFault) (text : List ℕ) → IsArchive a → text ≡ archive_text a → IsFaultOf text fault → fault ≡ NoMemory
 only_memory a fault text h e f = no_fault_but_memory a fault h (subst (λ (t : List ℕ). IsFaultOf t fault) e f)
 

@@ -1,4 +1,4 @@
--- The faults that want of memory becomes.
+-- The faults that running out of memory becomes.
 use Rattle.net_archive.specs.declared.faults.ArchiveFault.{ArchiveFault}
 use Rattle.net_archive.specs.declared.faults.ArchiveFault.TheVariants as archive
 use Rattle.net_archive.specs.declared.faults.AddFault.{AddFault}

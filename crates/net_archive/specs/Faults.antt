@@ -116,6 +116,6 @@ IsFirstLineFault text fault = ⊥
 abbrev pub IsFirstFault : List ℕ → ArchiveFault → Type 0
 IsFirstFault text fault = IsFirstLineFault text fault ⊎ ((v : Version) × HasFault v text fault)
 
--- the fault is the first of the text, or want of memory
+-- the fault is the first of the text, or running out of memory
 abbrev pub IsFaultOf : List ℕ → ArchiveFault → Type 0
 IsFaultOf text fault = (fault ≡ NoMemory) ⊎ IsFirstFault text fault

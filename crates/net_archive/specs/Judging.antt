@@ -70,7 +70,7 @@ abbrev pub IsDifferingClass : List (List ℕ) → List (List ℕ) → Option ℕ
 IsDifferingClass keeps lists None = keeps ≡ lists
 IsDifferingClass keeps lists (Some i) = (kept : List ℕ) × (computed : List ℕ) × IsFirstOther keeps lists i kept computed
 
--- the entry that begins on this line is refused, and not for want of memory
+-- the entry that begins on this line is refused, and memory did not run out
 abbrev pub IsRefusedAt : ℕ → Graph → ArchiveFault → Type 0
 IsRefusedAt line G (EntryRefused n refused) = (n ≡ line) × IsTrueOf G refused × (refused ≢ refusal.NoMemory)
 IsRefusedAt line G NoMemory = Unit {0}

@@ -14,7 +14,7 @@ pub enum ArchiveFault {
     BadLine(u32),
     /// 2: an earlier entry has the name on this line.
     RepeatedName(u32),
-    /// 3: the graph of the entry that begins here is refused, and not for want of memory.
+    /// 3: the graph of the entry that begins here is refused, and memory did not run out.
     EntryRefused(u32, Refusal),
     /// 4: the key on this line is not that of the entry's graph.
     KeyDiffers {

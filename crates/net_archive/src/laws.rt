@@ -1,7 +1,7 @@
 // What holds of the texts of archives. Each function carries a theorem.
 ghost use Rattle.net_archive.specs.Laws.{ArchivesHaveNoFault, OneAddFault, OneArchive, OneFault};
 
-/// The text of an archive has no fault: only want of memory can be told of it.
+/// The text of an archive has no fault: it can only run out of memory.
 pub fn archives_have_no_fault()
     ensures theorem { ArchivesHaveNoFault }
 {}
@@ -11,12 +11,12 @@ pub fn one_archive()
     ensures theorem { OneArchive }
 {}
 
-/// The first fault of a text is one, want of memory aside.
+/// The first fault of a text is one, running out of memory aside.
 pub fn one_fault()
     ensures theorem { OneFault }
 {}
 
-/// The fault of adding under a name is one, want of memory aside.
+/// The fault of adding under a name is one, running out of memory aside.
 pub fn one_add_fault()
     ensures theorem { OneAddFault }
 {}

@@ -14,7 +14,7 @@ returns-in-Err-given_edges-clause-fault g c =
     let k = c.recall.ensures in
     let f = c.in-Ok.ensures.fits in
     let S = c.lattice_in-lattice.result in
-    let h = cell_lattice G R g.row.D S k.is_graph k.parameter f c.recall-2.ensures.written c.lattice_in-lattice.ensures in
+    let h = cell_lattice G R g.row.D S k.is_graph k.parameter f c.recall-2.ensures c.lattice_in-lattice.ensures in
     let fault = c.in-Err-given_edges.fault in
     wide_fault G R k.is_graph k.small S h f fault (told_of G R.rows g.row.D c.edges.result.now k.parameter c.edges.ensures.edges S fault c.in-Err-given_edges.ensures.wide)
 
@@ -25,7 +25,7 @@ from_edges-requires g c =
     let k = c.recall.ensures in
     let f = c.in-Ok.ensures.fits in
     let S = c.lattice_in-lattice.result in
-    let h = cell_lattice G R g.row.D S k.is_graph k.parameter f c.recall-2.ensures.written c.lattice_in-lattice.ensures in
+    let h = cell_lattice G R g.row.D S k.is_graph k.parameter f c.recall-2.ensures c.lattice_in-lattice.ensures in
     let es = c.in-Ok-given_edges.edges.items in
     let index = c.in-Ok.index in
     let a = given_of G R.rows g.row.D c.edges.result.now k.parameter c.edges.ensures.edges S index es c.in-Ok-given_edges.ensures.given in
@@ -43,7 +43,7 @@ returns-in-Ok-from_edges-clause-cover g c =
     let k = c.recall.ensures in
     let f = c.in-Ok.ensures.fits in
     let S = c.lattice_in-lattice.result in
-    let h = cell_lattice G R g.row.D S k.is_graph k.parameter f c.recall-2.ensures.written c.lattice_in-lattice.ensures in
+    let h = cell_lattice G R g.row.D S k.is_graph k.parameter f c.recall-2.ensures c.lattice_in-lattice.ensures in
     let es = c.in-Ok-given_edges.edges.items in
     let index = c.in-Ok.index in
     let a = given_of G R.rows g.row.D c.edges.result.now k.parameter c.edges.ensures.edges S index es c.in-Ok-given_edges.ensures.given in
@@ -59,7 +59,7 @@ returns-in-Ok-from_edges-clause-iso g c =
     let G = c.args.g.now in
     let R = c.args.cell.now in
     let k = c.recall.ensures in
-    let cell = cell_fits G R c.in-Ok.ensures.fits c.recall-2.ensures.written in
+    let cell = cell_fits G R c.in-Ok.ensures.fits c.recall-2.ensures in
     covers_are_isomorphic.iso G R.rows c.in-Ok-from_edges.cover k.is_graph cell (returns-in-Ok-from_edges-clause-cover g c)
 
 pub returns-in-Ok-from_edges-clause-size : goal.returns-in-Ok-from_edges-clause-size
@@ -67,7 +67,7 @@ returns-in-Ok-from_edges-clause-size g c =
     let G = c.args.g.now in
     let R = c.args.cell.now in
     let k = c.recall.ensures in
-    let cell = cell_fits G R c.in-Ok.ensures.fits c.recall-2.ensures.written in
+    let cell = cell_fits G R c.in-Ok.ensures.fits c.recall-2.ensures in
     covers_are_isomorphic.size G R.rows c.in-Ok-from_edges.cover k.is_graph cell (returns-in-Ok-from_edges-clause-cover g c)
 
 pub returns-in-Ok-from_edges-clause-coverable : goal.returns-in-Ok-from_edges-clause-coverable
@@ -77,7 +77,7 @@ returns-in-Ok-from_edges-clause-coverable g c =
     let k = c.recall.ensures in
     let f = c.in-Ok.ensures.fits in
     let S = c.lattice_in-lattice.result in
-    let h = cell_lattice G R g.row.D S k.is_graph k.parameter f c.recall-2.ensures.written c.lattice_in-lattice.ensures in
+    let h = cell_lattice G R g.row.D S k.is_graph k.parameter f c.recall-2.ensures c.lattice_in-lattice.ensures in
     let es = c.in-Ok-given_edges.edges.items in
     let index = c.in-Ok.index in
     let a = given_of G R.rows g.row.D c.edges.result.now k.parameter c.edges.ensures.edges S index es c.in-Ok-given_edges.ensures.given in

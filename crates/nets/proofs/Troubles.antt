@@ -1,0 +1,33 @@
+-- The trouble that comes of a refusal.
+use Rattle.std.proofs.Common.{◌≢◌, ℕ, List, Result, Ok, Err, Some, refl, sym, subst}
+use Rattle.std.specs.Prelude.{IfErr}
+use Rattle.std.specs.Result.{IsErrAnd}
+use Rattle.periodic_net.specs.Graph.{Graph}
+use Rattle.cgd_read.specs.Graphs.{graph_of}
+use Rattle.cgd_read.specs.Views.{RawView}
+use Rattle.least_key.specs.declared.refusal.Refusal.{Refusal}
+use Rattle.least_key.specs.declared.refusal.Refusal.TheVariants as refusal
+use Rattle.nets.specs.Refused.{IsRefusedBy, IsTrueInOrder}
+use Rattle.nets.specs.Texts.{IsFirstIn, IsTroubleIn}
+use Rattle.nets.specs.Troubles.{IsFrom}
+use Rattle.nets.specs.declared.trouble.Trouble.{Trouble}
+use Rattle.nets.specs.declared.trouble.Trouble.TheVariants.{NoGraph, TooManyBlocks, Refused, NoMemory}
+
+-- what a refusal reports is true, unless memory was refused
+true_in_order : (G : Graph) (given : Refusal) → IsRefusedBy G given → given ≢ refusal.NoMemory → IsTrueInOrder G given
+true_in_order G refusal.NoMemory h n = absurd (n refl)
+true_in_order G given h n = h
+
+-- a text whose first graph is refused gives the trouble of the refusal
+trouble_in : (text : List ℕ) (raw : RawView) (given : Refusal) (trouble : Trouble) → IsFirstIn text (Some raw) → IsRefusedBy (graph_of raw) given → IsFrom given trouble → IsTroubleIn text trouble
+trouble_in text raw given NoGraph first h from = absurd from
+trouble_in text raw given TooManyBlocks first h from = absurd from
+trouble_in text raw given (Refused told) first h from =
+    subst (λ (r : Refusal). IsTroubleIn text (Refused r)) (sym from.0) (record { raw = raw; first = first; is_true = true_in_order (graph_of raw) given h from.1; told = from.1 })
+trouble_in text raw given NoMemory first h from = tt
+
+-- so does a result that is that trouble
+pub refused_in : {X : Type 0} (result : Result X Trouble) (text : List ℕ) (raw : RawView) (given : Refusal) → IsFirstIn text (Some raw) → IsRefusedBy (graph_of raw) given → IsErrAnd result (IsFrom given)
+    → IfErr result (IsTroubleIn text)
+refused_in (Ok x) text raw given first h from = tt
+refused_in (Err trouble) text raw given first h from = trouble_in text raw given trouble first h from

@@ -1,0 +1,14 @@
+use Rattle.std.proofs.Common.{sym, ◌∙◌}
+use Rattle.std.proofs.lemmas.Slice.Eq.{slice_eq-Decides}
+use Rattle.std.proofs.lemmas.Bool.Decides.{Decides-int_eq}
+use Rattle.least_key.specs.AnyNets.{net_view}
+use Rattle.least_key.proofs.CallerLemmas.{nets_decide}
+use Rattle.nets.proofs.calls.are_isomorphic.Goals as goal
+
+pub returns : goal.returns
+returns c =
+    let same = slice_eq-Decides Decides-int_eq c.numbers.result.now c.numbers-2.result.now c.eq.result c.eq.ensures in
+    let decide = nets_decide (net_view c.args.a.now) (net_view c.args.b.now) c.key.ensures.keyed c.key-2.ensures.keyed in
+    let left = sym c.key.ensures.key ∙ sym c.numbers.ensures in
+    let right = c.numbers-2.ensures ∙ c.key-2.ensures.key in
+    ((λ t. decide.0 (left ∙ same.0 t ∙ right)), (λ iso. same.1 (sym left ∙ decide.1 iso ∙ sym right)))

@@ -1,0 +1,4 @@
+pub mod Refused
+pub mod Texts
+pub mod Troubles
+pub mod Words

@@ -1,0 +1,15 @@
+//! The library in one crate, for other programs: a net from its edges or from a text, its key,
+//! whether two nets are isomorphic, and the names that an archive has for one.
+#![tactic(auto)]
+
+mod calls;
+mod trouble;
+
+pub use calls::{are_isomorphic, names_of, net_in, net_of};
+pub use least_key::{Net, Refusal, keys_of};
+pub use net_archive::{AddFault, Archive, ArchiveFault, MOST_BYTES, Matches};
+pub use quotient_graph::{AnyGraph, Edge, Key, from_unsorted, normal_edge};
+pub use trouble::Trouble;
+
+#[cfg(test)]
+mod tests;
