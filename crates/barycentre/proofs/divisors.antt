@@ -1,3 +1,4 @@
+-- Denominators, common divisors and common multiples of the positions of a placement.
 pub mod CommonDenominators
 pub mod Fitting
 pub mod LeastOfTwo

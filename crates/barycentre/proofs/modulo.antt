@@ -1,3 +1,4 @@
+-- The placement from residues: rows of residues, recovered fractions, and the two steps.
 pub mod LeftParts
 pub mod LeftRows
 pub mod Reached

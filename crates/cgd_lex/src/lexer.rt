@@ -36,6 +36,7 @@ impl<'a> Lexer<'a> {
     pub fn new(text: &'a [u8]) -> Lexer<'a>
         requires { length text.now ≤ longest_text }
 
+        // The tokens of the definition: slices of the text, in order, each on its line.
         ensures tokens { result ≡ tokens_of text.now }
         ensures few { length result ≤ length text.now }
         ensures slices { All (IsSliceOf text.now) result }

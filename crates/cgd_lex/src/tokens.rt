@@ -34,6 +34,7 @@ pub fn next_first<'a>(lexer: &mut Lexer<'a>) -> Option<Token<'a>>
 }
 
 /// The next token of a line. At its end its Newline is passed over.
+#[inline(always)]
 pub fn next_on_line<'a>(lexer: &mut Lexer<'a>) -> Option<Token<'a>>
     ensures tokens { MatchOption result (rest_of_line lexer.old ≡ [])
         (λ token. rest_of_line lexer.old ≡ token_view token ∷ rest_of_line lexer.new) }

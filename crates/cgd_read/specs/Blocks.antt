@@ -79,7 +79,7 @@ abbrev pub AllPass : List LineView → Type 0
 AllPass [] = Unit {0}
 AllPass (line ∷ earlier) = AllFalse (table earlier line) × (is_end line.kind ≡ false) × AllPass earlier
 
--- the line has a fault, and the block tells it
+-- the line has a fault, and the block reports it
 pub record IsFaulty (opening : ℕ) (earlier : List LineView) (line : LineView) (block : BlockView) : Type 0 where
   pub kind : BlockFaultKind
   pub first : IsFirstTrue (table earlier line) kind

@@ -64,10 +64,13 @@ fn read_line<'a>(lexer: &mut Lexer<'a>, first: &Token<'a>) -> Line<'a>
 /// The next line that has a token, up to its end.
 pub fn next_line<'a>(lexer: &mut Lexer<'a>) -> Option<Line<'a>>
     requires { length lexer.old ≤ longest_text }
+    // The first of the lines that are left, or none where none is left.
     ensures lines { MatchOption result (token_lines lexer.old ≡ [])
         (λ line. token_lines lexer.old ≡ line_view line ∷ token_lines lexer.new) }
     ensures shorter { IfSome result (λ line. length lexer.new < length lexer.old) }
+    // Then all tokens are passed.
     ensures end { IfNone result (lexer.new ≡ []) }
+    // What the fields keep is within the limits, and without dimension 3 has no third part.
     ensures small { IfSome result (λ line. IsSmallFields (fields_view line.fields)) }
     ensures flat { IfSome result (λ line. IsFlat (fields_view line.fields)) }
 {

@@ -12,6 +12,7 @@ use std::alloc::Global;
 /// The graph with the vertices and edges that were read.
 pub fn from_raw(alloc: Global, raw: &RawGraph<'_>) -> Result<AnyGraph, NoMemory>
     requires { IsReadGraph (raw_view raw.now) }
+    // The same graph, with its edges in order.
     ensures { IfOk result (λ g. IsInOrder (graph_of (raw_view raw.now)) (graph_view g)) }
 {
     from_unsorted(alloc, raw.dim, raw.names.len() as u32, raw.edges.as_slice())

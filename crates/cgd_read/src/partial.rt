@@ -132,6 +132,7 @@ impl<'a> PartialGraph<'a> {
         requires small { IsSmallFields (fields_view row.now) }
         requires room { length (names_in self.old.names) ≤ most_vertices }
         requires countable { self.old.repeats < longest_text }
+        // Whatever rows the graph was of, it is of these and one more.
         ensures taken { OnOk result ((rows : List FieldsView) → IsGraphOfRows self.old rows →
             IsGraphOfRows self.new (fields_view row.now ∷ rows)) }
         ensures repeats { OnOk result (self.new.repeats ≤ self.old.repeats + 1) }
@@ -145,6 +146,7 @@ impl<'a> PartialGraph<'a> {
     /// The graph of the rows.
     pub fn finish(&self, alloc: Global) -> Result<RawGraph<'a>, NoMemory>
         requires { self.now.size ≤ 5 }
+        // Whatever rows it is of, it is the graph of them.
         ensures { IfOk result (λ raw. (rows : List FieldsView) → IsGraphOfRows self.now rows →
             raw_view raw ≡ net_of rows) }
     {

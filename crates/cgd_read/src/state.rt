@@ -168,8 +168,10 @@ impl<'a> State<'a> {
         requires small { IsSmallFields (fields_view line.now.fields) }
         requires room { length (names_in self.old.graph.names) ≤ most_vertices }
         requires countable { self.old.graph.repeats < longest_text }
+        // The first fault by the order of the table, whatever lines were read before.
         ensures fault { IfOk result (λ kind. (earlier : List LineView) →
             IsStateAfter self.old earlier → kind ≡ fault_of earlier (line_view line.now)) }
+        // A line without a fault is kept.
         ensures stands { IfOk result (λ kind. kind ≡ None → (earlier : List LineView) →
             IsStateAfter self.old earlier → IsStateAfter self.new (line_view line.now ∷ earlier)) }
         ensures repeats { OnOk result (self.new.graph.repeats ≤ self.old.graph.repeats + 1) }

@@ -1,4 +1,4 @@
--- What is told of a net that is not connected is a split of it.
+-- What is reported of a net that is not connected is a split of it.
 use Rattle.std.proofs.Common.{◌≡◌, inl, inr, ℕ, subst, sym}
 use Rattle.periodic_net.specs.Graph.{Graph, IsGraph, IsConnected}
 use Rattle.periodic_net.specs.Split.{IsFlatSplit, IsPartSplit, IsSparseSplit, Split as NetSplit}

@@ -8,6 +8,6 @@ abbrev pub part_colour : Option Vector → ℤ
 part_colour None = pos 1
 part_colour (Some T) = pos 0
 
--- the colouring that tells the found vertices from the others
+-- the colouring that separates the found vertices from the others
 abbrev pub part_colouring : List (Option Vector) → Split
 part_colouring found = record { q = 0; c = zero_vector; h = map part_colour found }

@@ -38,7 +38,7 @@ fn part_colours<const D: usize>(
     found.iter().map(part_colour).collect(alloc)
 }
 
-/// The colouring that tells the found vertices from the others.
+/// The colouring that separates the found vertices from the others.
 pub fn part_split<const D: usize>(
     alloc: Global,
     dim: u8,

@@ -58,7 +58,8 @@ fn class_sequences<const D: usize>(
     Ok(lists)
 }
 
-/// The sizes of the shells of each class, in the order of their numbers. They are counted once for each kind.
+/// The sizes of the shells of each class, in the order of their numbers. They are counted once for
+/// each kind.
 pub fn sequences<const D: usize>(
     alloc: Global,
     classes: &Classes<D>,
@@ -67,6 +68,7 @@ pub fn sequences<const D: usize>(
 ) -> Result<Sequences, NoMemory>
     requires cell { HasCell classes.now cell.now }
     requires kinds { AreKinds classes.now.classes kinds.now }
+    // A list for each class, by its number: the coordination sequence of each of its vertices.
     ensures sequences { IfOk result (AreSequencesOf classes.now.graph) }
     ensures few { IfOk result (λ lists. length lists ≤ most_vertices) }
 {

@@ -19,7 +19,7 @@ use class_kinds::Kinds;
 use primitive_cell::Primitive;
 use std::alloc::Global;
 
-// The sizes of shells 1, 2 and so on of a vertex of the box, as `shells` tells them of a class.
+// The sizes of shells 1, 2 and so on of a vertex of the box, as `shells` has them for a class.
 fn shells_in(
     alloc: Global,
     net_box: &NetBox,
@@ -56,7 +56,8 @@ fn shells_in(
     Ok(sizes)
 }
 
-// The sizes of the shells of the next vertex in cell 0, if need be counted in a box with these marks.
+// The sizes of the shells of the next vertex in cell 0, if need be counted in a box with these
+// marks.
 fn next_sizes<const D: usize>(
     alloc: Global,
     cell: &Primitive<D>,
@@ -112,7 +113,8 @@ fn lists_in<const D: usize>(
     Ok(lists)
 }
 
-/// The sizes of the shells of each vertex in cell 0, if the box of the net is not too large. They are counted once for each kind.
+/// The sizes of the shells of each vertex in cell 0, if the box of the net is not too large. They
+/// are counted once for each kind.
 pub fn box_sequences<const D: usize>(
     alloc: Global,
     cell: &Primitive<D>,

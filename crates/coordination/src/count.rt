@@ -25,6 +25,7 @@ pub fn shells<const D: usize>(
     class: u32,
 ) -> Result<Vec<u32>, NoMemory>
     requires class { IsClass c.now.classes class }
+    // The shells of the infinite net, by the least number of edges from the vertex.
     ensures sizes { IfOk result (λ sizes. AreShellsOfClass c.now.classes class sizes.items) }
 {
     let net = c.net();

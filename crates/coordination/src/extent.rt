@@ -1,4 +1,4 @@
-// How far vertices lie from a start.
+// How far vertices lie from a start, in lattice steps.
 ghost use Rattle.std.specs.Prelude.{◌≤◌, IfSome};
 ghost use Rattle.coordination.specs.Extents.{AreShiftsWithin, IsCellWithin, IsNarrow, IsWiderBy, IsWithinExtent};
 

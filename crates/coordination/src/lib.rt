@@ -1,4 +1,4 @@
-//! Coordination sequences of nets.
+//! Coordination sequences: the sizes of the shells around the vertices of each class.
 #![tactic(auto)]
 
 mod all_classes;

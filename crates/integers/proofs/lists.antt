@@ -1,3 +1,4 @@
+-- Lists: members, order, sums, filters, permutations.
 pub mod Apart
 pub mod ApartPieces
 pub mod ChosenImages

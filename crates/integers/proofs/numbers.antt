@@ -1,3 +1,4 @@
+-- Whole and natural numbers: the ring laws, division, divisors, order.
 pub mod Bezout
 pub mod Cofactors
 pub mod Division

@@ -1,3 +1,4 @@
+-- Vectors: independence, coordinates, lattices by their staircase bases, and their bounds.
 pub mod BaseSums
 pub mod Bounds
 pub mod Coordinates

@@ -1,4 +1,4 @@
--- The keys of accepted graphs tell their nets apart.
+-- Accepted graphs have equal keys exactly where their nets are isomorphic.
 use Rattle.std.proofs.Common.{◌≡◌, ◌∙◌, sym, ap, subst, ℕ, zero, suc, ◌+◌, ◌<◌, List, [], ◌∷◌, ◌++◌, length, take, Result, Ok, arith}
 use Rattle.std.specs.Prelude.{◌↔◌, slice_index_or}
 use Rattle.std.specs.List.{AllZip}

@@ -1,6 +1,6 @@
--- What the faults of the steps tell is true as a refusal.
-use Rattle.std.proofs.Common.{◌≡◌, ℕ, ℤ, List, Result, Ok, Err, refl, sym, subst}
-use Rattle.std.specs.Prelude.{IfOk, IfErr, IsErrAnd}
+-- What the faults of the steps report is true as a refusal.
+use Rattle.std.proofs.Common.{◌≡◌, ℕ, Result, Ok, Err, refl, sym, subst}
+use Rattle.std.specs.Prelude.{IfErr, IsErrAnd}
 use Rattle.periodic_net.specs.Classes.{ClassGraph}
 use Rattle.periodic_net.specs.Graph.{Graph}
 use Rattle.key_theory.specs.Frames.{IsWorkPast}

@@ -1,4 +1,4 @@
--- Graphs whose keys are told.
+-- Graphs whose keys are reported.
 pub mod Accepted
 pub mod NotWide
 pub mod OnePlacement

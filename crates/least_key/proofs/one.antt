@@ -1,4 +1,4 @@
--- What is told of a graph that is refused is one.
+-- What is reported of a graph that is refused is one.
 pub mod Collisions
 pub mod FirstPlaces
 pub mod Nets

@@ -1,4 +1,4 @@
--- Graphs whose keys are told.
+-- Graphs whose keys are reported.
 use Rattle.std.specs.Prelude.{◌≡◌}
 use Rattle.periodic_net.specs.Graph.{Graph, IsGraph}
 use Rattle.key_theory.specs.Key.{IsKeyable}

@@ -1,4 +1,4 @@
--- What is told of a graph is one.
+-- What is reported of a graph is one.
 use Rattle.std.specs.Prelude.{◌≡◌, ◌≢◌}
 use Rattle.periodic_net.specs.Graph.{Graph, IsGraph}
 use Rattle.quotient_graph.specs.PlacedNets.{PlacedNet}
@@ -24,6 +24,6 @@ pub record TellAlike (m n : KeyedNet) : Type 0 where
   pub basis : m.cell.basis ≡ n.cell.basis
   pub key : m.key ≡ n.key
 
--- what is told of a graph with its key is one
+-- what is reported of a graph with its key is one
 abbrev pub OneNet : Type 0
 OneNet = (m n : KeyedNet) → IsKeyed m → IsKeyed n → m.placed.graph ≡ n.placed.graph → TellAlike m n

@@ -33,7 +33,9 @@ fn answers_to(alloc: Global, graphs: &[AnyGraph]) -> Result<Vec<Result<Net, Refu
 /// What `identify` answers for each graph; where memory runs out for one of them, it ran out for
 /// all. The keys of two accepted graphs are equal exactly where their nets are isomorphic.
 pub fn keys_of(alloc: Global, graphs: &[AnyGraph]) -> Result<Vec<Result<Net, Refusal>>, NoMemory>
+    // For each graph, in order, the net with its key, or a refusal that is true of it.
     ensures answers { IfOk result (λ answers. AreAnswers graphs.now answers.items) }
+    // Two keys are equal exactly where a periodic bijection carries one net to the other.
     ensures keys { IfOk result (λ answers. KeysTell graphs.now answers.items) }
 {
     answers_to(alloc, graphs)

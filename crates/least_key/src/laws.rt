@@ -18,7 +18,7 @@ pub fn placed_is_not_refused()
 {}
 
 /// Two refusals that are true of a graph are one, running out of memory aside. So of several causes
-/// the first is told.
+/// the first is reported.
 pub fn one_refusal()
     ensures theorem { OneRefusal }
 {}

@@ -26,7 +26,9 @@ pub fn connect_graph<const D: usize>(
 ) -> Result<Connected<D>, Refusal>
     ensures same { IfOk result (λ net. net ≡ graph.entry) }
     ensures connected { OnOk result (IsConnected graph.entry) }
+    // What the refusal reports is true of this graph,
     ensures refused { IfErr result (IsTrueOf graph.entry) }
+    // and is a cause that this step can meet.
     ensures early { IfErr result IsOfConnecting }
 {
     let net = connect(alloc, graph)?;
@@ -35,8 +37,11 @@ pub fn connect_graph<const D: usize>(
 
 /// The graph with its normal placement, or why it is refused.
 pub fn place_graph<const D: usize>(alloc: Global, graph: Graph<D>) -> Result<Placed<D>, Refusal>
+    // The normal placement of this graph, within the limits.
     ensures placed { IfOk result (IsPlacedAs graph.entry) }
+    // What the refusal reports is true of this graph,
     ensures refused { IfErr result (IsTrueOf graph.entry) }
+    // and is a cause that a step up to this one can meet.
     ensures early { IfErr result IsOfPlacing }
 {
     let net = connect_graph(alloc, graph)?;
@@ -56,7 +61,9 @@ fn check_graph<const D: usize>(alloc: Global, graph: Graph<D>) -> Result<(), Ref
 /// Nothing where the net is connected, and else why it is refused.
 pub fn check_any(alloc: Global, graph: AnyGraph) -> Result<(), Refusal>
     ensures connected { OnOk result (IsConnected (graph_view graph)) }
+    // What the refusal reports is true of this graph,
     ensures refused { IfErr result (IsTrueOf (graph_view graph)) }
+    // and is a cause that this step can meet.
     ensures early { IfErr result IsOfConnecting }
 {
     match graph {
@@ -67,8 +74,11 @@ pub fn check_any(alloc: Global, graph: AnyGraph) -> Result<(), Refusal>
 
 /// The placement of the net, or why it is refused.
 pub fn place_any(alloc: Global, graph: AnyGraph) -> Result<AnyPlaced, Refusal>
+    // The normal placement of this graph, within the limits.
     ensures placed { IfOk result (λ p. IsPlacedAs (graph_view graph) (placed_view p)) }
+    // What the refusal reports is true of this graph,
     ensures refused { IfErr result (IsTrueOf (graph_view graph)) }
+    // and is a cause that a step up to this one can meet.
     ensures early { IfErr result IsOfPlacing }
 {
     match graph {

@@ -16,7 +16,7 @@ pub enum Refusal {
     /// 2: the closed walks span fewer dimensions than the net has, as the colouring shows.
     Degenerate(Split),
     /// 7: a listed fraction is past 62 bits, and modulo each of the three moduli some weight sum
-    /// has no inverse: the first is that of the vertex told.
+    /// has no inverse: the first is that of the vertex reported.
     NoModulus { first: u32, second: u32, third: u32 },
     /// 4: a number of the normal placement passes its limit.
     WidePlacement(WidePlacement),

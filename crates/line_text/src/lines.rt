@@ -55,12 +55,16 @@ impl<'a> Lines<'a> {
     /// The next line without its line feed. The cursor stays where none is left, or where the last
     /// one has no line feed.
     pub fn next(&mut self) -> Option<&'a [u8]>
+        // The next line, without its line feed, and its number.
         ensures line { IfSome result (λ line. self.old.rest ≡ line.now ++ 10 ∷ self.new.rest) }
         ensures number { IfSome result (λ line. self.new.number ≡ self.old.number + 1) }
+        // The rows that were passed are one more.
         ensures place { (text : List ℕ) (rows : List (List ℕ)) → IsAt text rows self.old →
             IfSome result (λ line. IsAt text (rows ++ line.now ∷ []) self.new) }
+        // Less is left; and where there is no whole line nothing is passed.
         ensures shorter { IfSome result (λ line. length self.new.rest < length self.old.rest) }
         ensures still { IfNone result (self.new ≡ self.old) }
+        // Whatever line stands next is found.
         ensures every { (line rest : List ℕ) → HasNo 10 line → self.old.rest ≡ line ++ 10 ∷ rest →
             MatchOption result ⊥ (λ found. (found.now ≡ line) × (self.new.rest ≡ rest)) }
     {

@@ -12,11 +12,13 @@ impl<'a> Lines<'a> {
     /// held.
     pub fn next_row(&mut self, word: &[u8], numbers: &mut Vec<i128>) -> Result<bool, NoMemory>
         requires { HasNo 10 word.now }
+        // The row was passed, and it is the one that the word and the numbers spell.
         ensures place { (text : List ℕ) (rows : List (List ℕ)) → IsAt text rows self.old →
             result ≡ Ok true →
             IsAt text (rows ++ row_text word.now numbers.new.items ∷ []) self.new }
         ensures wide { result ≡ Ok true → All IsWide numbers.new.items }
         ensures shorter { result ≡ Ok true → length self.new.rest < length self.old.rest }
+        // Whatever row of this word stands next is found.
         ensures every { IfOk result (λ read. (zs : List ℤ) (rest : List ℕ) → All IsWide zs →
             self.old.rest ≡ row_text word.now zs ++ 10 ∷ rest →
             (read ≡ true) × (numbers.new.items ≡ zs)) }

@@ -13,7 +13,7 @@ use Rattle.net_answers.specs.Laws.{FewEndings}
 use Rattle.map_answers.specs.Due.{IsDueToVerify}
 use Rattle.union_answers.specs.Unions.{IsUnionAs, begins_archive}
 use Rattle.statuses.specs.declared.status.Status.{Status}
-use Rattle.statuses.specs.declared.status.Status.TheVariants.{Done, SomeRefused, Usage, ReadFault, WriteFault, BadArchive, TooLarge, NoMemory, TooManyBlocks, AddRefused, MigrateRefused, BadMap}
+use Rattle.statuses.specs.declared.status.Status.TheVariants.{Done, SomeRefused, ReadFault, WriteFault, BadArchive, NoMemory, TooManyBlocks, AddRefused, MigrateRefused, BadMap}
 
 -- what is due to a task of blocks ends it so
 ends_so : (task : Task) (blocks : List BlockView) (a : ArchiveView) (status : Status) (text : List ℕ) → IsDueFor task blocks a status text → IsComplete (Some task) status

@@ -24,7 +24,7 @@ module _ (a : ArchiveView) (name : List ℕ) (n : KeyedNet) (e : EntryView) (nam
   fault_of_net Full h = (subst (λ (m : List ℕ). ¬ IsTaken a m) of.name_is h.0, named, e, of, h.1)
   fault_of_net NoMemory h = tt
 
-  -- where a fault is told
+  -- where a fault is reported
   pub fault_told : {T : Type 0} (r : Result T AddFault) → IfErr r (IsEntryFault a e) → IfErr r (IsAddFault a name n)
   fault_told (Ok done) h = h
   fault_told (Err fault) h = fault_of_net fault h

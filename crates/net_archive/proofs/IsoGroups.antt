@@ -112,7 +112,7 @@ module _ (es : List EntryView) (good : All IsEntry es) (groups : List (List ℕ)
           let two = in_group n f e.key b (sym same) in
           (group, are.every group (record { key = e.key; numbers = refl; two = two_members group m n one two other }), contains_from_in group m one, contains_from_in group n two)
 
--- where groups are told, they are so
+-- where groups are reported, they are so
 pub groups_told : {E : Type 0} (es : List EntryView) (r : Result (List (List ℕ)) E) → All IsEntry es → IfOk r (AreGroups es) → IfOk r (AreIsoGroups es)
 groups_told es (Ok groups) good are = iso_groups es good groups are
 groups_told es (Err e) good are = are

@@ -14,7 +14,7 @@ use Rattle.net_entries.specs.Lookups.{names_of, names_with, same_key}
 use Rattle.net_archive.specs.Archives.{IsEntry}
 use Rattle.net_archive.specs.Deciding.{AreNamesOf}
 
--- two keys are told equal exactly where they are
+-- two keys are found equal exactly where they are
 same_decides : (xs ys : List ℤ) → (same_key xs ys ≡ true → xs ≡ ys) × (xs ≡ ys → same_key xs ys ≡ true)
 same_decides xs ys = slice_eq-Decides Decides-int_eq xs ys (same_key xs ys) refl
 

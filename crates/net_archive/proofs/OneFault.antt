@@ -143,7 +143,7 @@ module _ (v : Version) (es : List EntryView) (part : Part) (place : Place) where
     one_cause a b (inr (inr (inr x))) (inr (inr (inl y))) = absurd (not_start a x.1 y.1)
     one_cause a b (inr (inr (inr x))) (inr (inr (inr y))) = one_judged v (length (rows_before v es) + 1) x.1.form y.1.form (is_graph a x.1) (alike a b x.1 y.1) a b x.0 y.0 x.1.judged y.1.judged
 
--- what entries show of themselves tells them
+-- what entries show of themselves determines them
 same_entry : (v : Version) (x y : EntryView) → IsEntry x → IsEntry y → shown v x ≡ shown v y → x ≡ y
 same_entry Two x y hx hy e = e
 same_entry One x y hx hy e =

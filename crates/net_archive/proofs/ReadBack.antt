@@ -34,7 +34,7 @@ pub matched_error : {A E : Type 0} (Q : A → Type 0) (P : E → Type 0) (x : E)
 matched_error Q P x (Ok a) h p = absurd h
 matched_error Q P x (Err e) h p = subst P (sym h) p
 
--- what is told after the first line is told of the text
+-- what is reported after the first line is reported of the text
 pub told : (v : Version) (text : List ℕ) (fault : ArchiveFault) → IsFaultTold v text fault → IsFaultOf text fault
 told v text fault (inl memory) = inl memory
 told v text fault (inr has) = inr (inr (v, has))

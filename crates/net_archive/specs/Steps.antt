@@ -28,7 +28,7 @@ pub record AreMore (v : Version) (text : List ℕ) (entries : List EntryView) (e
   pub good : AreEntries (entries ++ e ∷ [])
   pub at : IsAt text (rows_before v (entries ++ e ∷ [])) place
 
--- what is told of a text of this version after its first line
+-- what is reported of a text of this version after its first line
 abbrev pub IsFaultTold : Version → List ℕ → ArchiveFault → Type 0
 IsFaultTold v text fault = (fault ≡ NoMemory) ⊎ HasFault v text fault
 

@@ -63,8 +63,11 @@ impl Archive {
     /// shells, is computed anew.
     pub fn read(alloc: Global, text: Vec<u8>) -> Result<Archive, ArchiveFault>
         requires { length text.items ≤ most_bytes }
+        // What is answered has exactly this text.
         ensures read { IfOk result (λ a. text.items ≡ archive_text a) }
+        // The fault is the first one of the text.
         ensures fault { IfErr result (IsFaultOf text.items) }
+        // The text of an archive is read as that archive, unless memory runs out.
         ensures every { (a : ArchiveView) → IsArchive a → text.items ≡ archive_text a →
             MatchResult result (λ b. b ≡ a) (λ fault. fault ≡ ArchiveFault.NoMemory) }
     {
@@ -108,7 +111,9 @@ impl Archive {
     /// The names of exactly the entries with this key, in their order. Where it is the key of a
     /// graph, these are the entries whose nets are isomorphic to that of the graph.
     pub fn lookup<'a, 'k>(&'a self, key: &'k Key) -> Matches<'a, 'k>
+        // The names of exactly the entries with this key, in order,
         ensures names { result ≡ names_with key.now self.now.entries }
+        // which are those whose nets are isomorphic to any net with this key.
         ensures isomorphic { (G : Graph) → IsGraph G → IsKeyOf G key.now →
             AreNamesOf G self.now.entries result }
         ensures archive { IsArchive self.now }
@@ -120,7 +125,9 @@ impl Archive {
     /// the order of their first members. Two entries stand in one group exactly where their nets
     /// are isomorphic.
     pub fn duplicates(&self) -> Result<Groups, NoMemory>
+        // All groups of two or more entries with equal keys,
         ensures groups { IfOk result (AreGroups self.now.entries) }
+        // which are the groups of entries with isomorphic nets.
         ensures isomorphic { IfOk result (AreIsoGroups self.now.entries) }
         ensures archive { IsArchive self.now }
     {
@@ -139,6 +146,7 @@ impl Archive {
 
     /// The text in version 2.
     pub fn migrated(&self) -> Result<Vec<u8>, MigrateFault>
+        // The archive of the same entries in version 2.
         ensures text { IfOk result (λ text. IsMigrated self.now text.items) }
         ensures fault { IfErr result (IsMigrateFault self.now) }
     {
@@ -162,8 +170,10 @@ impl Archive {
     /// Puts an entry last. A refusal changes nothing.
     pub fn add_entry(&mut self, entry: Entry) -> Result<(), AddFault>
         requires { IsEntry (entry_view entry) }
+        // The entry is last, and the others are as they were.
         ensures added { OnOk result (self.new ≡ with_entry self.old (entry_view entry)) }
         ensures same { OnErr result (self.new ≡ self.old) }
+        // The first cause that holds: the name is taken, or the archive is full.
         ensures fault { IfErr result (IsEntryFault self.old (entry_view entry)) }
     {
         if self.entries.has_name(&entry.name) {
@@ -179,9 +189,11 @@ impl Archive {
 
     /// Puts the graph of a net last, under a name. A refusal changes nothing.
     pub fn add(&mut self, name: &[u8], net: &Net) -> Result<(), AddFault>
+        // The entry of this name and net is last, and the others are as they were.
         ensures added { OnOk result ((e : EntryView) × IsEntryOf name.now (net_view net.now) e ×
             (self.new ≡ with_entry self.old e)) }
         ensures same { OnErr result (self.new ≡ self.old) }
+        // The first cause that holds: the name is taken, it is no name, the archive is full.
         ensures fault { IfErr result (IsAddFault self.old name.now (net_view net.now)) }
     {
         if self.entries.has_name(name) {
@@ -198,8 +210,10 @@ impl Archive {
     /// their first entries. Then entries with isomorphic nets stand together. A refusal changes
     /// nothing.
     pub fn regroup(&mut self) -> Result<(), NoMemory>
+        // The same entries, ordered by their groups;
         ensures regrouped { OnOk result (
             self.new ≡ archive_with self.old (regrouped self.old.entries)) }
+        // so entries with isomorphic nets stand together.
         ensures isomorphic { OnOk result (AreIsoTogether self.new.entries) }
         ensures archive { IsArchive self.new }
         ensures same { OnErr result (self.new ≡ self.old) }

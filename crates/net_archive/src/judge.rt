@@ -1,4 +1,4 @@
-// Judges an entry at its end: computes what its rows tell of its graph anew.
+// Judges an entry at its end: computes what its rows say of its graph anew.
 ghost use Rattle.std.specs.Prelude.{◌≡◌, ◌↔◌, ◌⊎◌, ◌≤◌, ℕ, true, IfOk, IfErr, OnOk, length};
 ghost use Rattle.quotient_graph.specs.AnyGraphs.{graph_view};
 ghost use Rattle.coordination.specs.Sequences.{AreSequencesOf};

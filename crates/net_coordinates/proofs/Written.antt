@@ -34,7 +34,7 @@ one_more_written d S K m stars new h n =
           (cases_lt c m);
     }
 
--- lists whose arcs leave their classes, told by places
+-- lists whose arcs leave their classes, stated by places
 pub leave_from : (first : ℕ) (stars : List (List ClassArc)) → ((k : ℕ) → k < length stars → (a : ClassArc) → IsIn (slice_index_or stars k []) a → a.from ≡ first + k)
     → LeaveFrom first stars
 leave_from first [] h = tt

@@ -45,8 +45,9 @@ fn arcs_in<const D: usize>(
     Ok(coordinates)
 }
 
-/// The class graph of these classes, with its vectors in the coordinates of the lattice that they span with `bound` times each
-/// whole vector. The least list is the same in all coordinates; in these, numbers are small.
+/// The class graph of these classes, with its vectors in the coordinates of the lattice that they
+/// span with `bound` times each whole vector. The least list is the same in all coordinates; in
+/// these, numbers are small.
 pub fn in_coordinates<const D: usize>(
     alloc: Global,
     classes: &Classes<D>,

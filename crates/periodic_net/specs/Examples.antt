@@ -20,7 +20,7 @@ honeycomb_net = record {
   edges = arc 1 2 zero_vector ∷ arc 1 2 (vector (pos 1) (pos 0) (pos 0)) ∷ arc 1 2 (vector (pos 0) (pos 1) (pos 0)) ∷ [];
 }
 
--- the square net with a vertex that hangs on its own: both stand in one place
+-- the square net with a vertex that hangs on its own: both have one position
 abbrev pub hanging_net : Graph
 hanging_net = record {
   dimension = 2;

@@ -47,14 +47,14 @@ pub record IsTranslate (G : Graph) (p q : Placement) : Type 0 where
   pub each : (u : ℕ) → IsQuotientVertex G u
       → minus (times (pos p.denominator) (base q u)) (times (pos q.denominator) (base p u)) ≡ by
 
--- (u, 0) and (v, t) are different vertices in one place
+-- (u, 0) and (v, t) are different vertices at one position
 pub record IsCollision (G : Graph) (p : Placement) (u v : ℕ) (t : Vector) : Type 0 where
   pub here : IsQuotientVertex G u
   pub there : IsVertex G (vertex v t)
   pub different : vertex u zero_vector ≢ vertex v t
   pub same_place : position p (vertex u zero_vector) ≡ position p (vertex v t)
 
--- different vertices stand in different places
+-- different vertices have different positions
 abbrev pub HasNoCollision : Graph → Placement → Type 0
 HasNoCollision G p = (u v : ℕ) (t : Vector) → ¬ IsCollision G p u v t
 

@@ -7,7 +7,7 @@ ghost use Rattle.periodic_net.specs.Placement.{HasNoCollision, IsStablePlacement
 use crate::{Graph, Placed};
 use std::marker::Model;
 
-/// A placed graph in whose net different vertices stand in different places. Contracts see the
+/// A placed graph in whose net different vertices have different positions. Contracts see the
 /// graph and the placement.
 #[derive(Drop)]
 pub struct Stable<const D: usize> {

@@ -48,7 +48,7 @@ module _ (G : Graph) (g : IsGraph G) (a : ℕ) (found : List (Option Vector)) (h
       let n = h.count in
       (low, omega (arith, low, l, n))
 
-  -- so the walks that were found tell the component
+  -- so the walks that were found determine the component
   tells : 1 ≤ a → TellsWalks G a (shift_at found)
   tells low = record {
     start = ap shift_of h.first;

@@ -1,4 +1,5 @@
-//! The chosen walks from a vertex of a quotient graph, and the lattice of the shifts of its closed walks.
+//! The chosen walks from a vertex of a quotient graph, and the lattice of the shifts of its closed
+//! walks.
 #![tactic(auto)]
 
 mod closed_walks;

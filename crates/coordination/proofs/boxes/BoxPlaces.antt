@@ -20,7 +20,7 @@ below n a b m h k = let l = mul-le-mul_left n (let s : b + 1 ≤ m = omega arith
 no_less : (n a b a' b' : ℕ) → a < n → b < b' → a + n * b ≡ a' + n * b' → ⊥
 no_less n a b a' b' h k e = let l = mul-le-mul_left n (let s : b + 1 ≤ b' = omega arith in s) in omega (arith, l, e)
 
--- remainder and quotient are told by the number
+-- the number determines remainder and quotient
 digits_once : (n a b a' b' : ℕ) → a < n → a' < n → a + n * b ≡ a' + n * b' → (a ≡ a') × (b ≡ b')
 digits_once n a b a' b' h h' e = by (three_ways b b')
   where
@@ -41,7 +41,7 @@ above_is n s h = by (s +ℤ pos n) refl
 above_below : (n : ℕ) (s : ℤ) → unsigned_abs s ≤ n → above n s < side n
 above_below n s h = let e = above_is n s h in omega (arith, ints, e, h)
 
--- and tells the part
+-- and determines the part
 above_once : (n : ℕ) (s t : ℤ) → unsigned_abs s ≤ n → unsigned_abs t ≤ n → above n s ≡ above n t → s ≡ t
 above_once n s t h k e = by (sym (above_is n s h) ∙ ap pos e ∙ above_is n t k)
   where
@@ -58,7 +58,7 @@ module _ (n : ℕ) (r : Extent) where
       (below (side r.x) (above r.x x.cell.x) _ (side r.y * side r.z) (above_below r.x x.cell.x h.cell.x)
       (below (side r.y) (above r.y x.cell.y) (above r.z x.cell.z) (side r.z) (above_below r.y x.cell.y h.cell.y) (above_below r.z x.cell.z h.cell.z)))
 
-  -- and tells the vertex
+  -- and determines the vertex
   pub place_once : (x y : Vertex) → IsInside n r x → IsInside n r y → place_in n r x ≡ place_in n r y → x ≡ y
   place_once x y h k e =
       let low = h.low in

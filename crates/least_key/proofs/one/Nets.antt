@@ -1,4 +1,4 @@
--- What is told of a graph with its key is one.
+-- What is reported of a graph with its key is one.
 use Rattle.std.proofs.Common.{◌≡◌, ◌∙◌, sym, subst}
 use Rattle.periodic_net.specs.Graph.{Graph}
 use Rattle.periodic_net.proofs.CallerLemmas.{one_placement}

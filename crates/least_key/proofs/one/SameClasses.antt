@@ -1,8 +1,8 @@
 -- The class graph of a net is one: two of them have the same classes and the same arcs.
-use Rattle.std.proofs.Common.{◌≡◌, ◌⊎◌, inl, inr, ℕ, zero, suc, ◌+◌, ◌<◌, sym, subst, ◌∙◌, arith}
+use Rattle.std.proofs.Common.{◌≡◌, ℕ, sym, subst, ◌∙◌}
 use Rattle.std.specs.List.{Contains}
-use Rattle.periodic_net.specs.Classes.{ClassGraph, ClassArc, IsClassNumbering, IsClassGraph}
-use Rattle.periodic_net.specs.Graph.{Graph, IsGraph, IsQuotientVertex}
+use Rattle.periodic_net.specs.Classes.{ClassGraph, ClassArc, IsClassGraph}
+use Rattle.periodic_net.specs.Graph.{Graph, IsGraph}
 use Rattle.periodic_net.specs.Placement.{Placement}
 use Rattle.periodic_net.proofs.CallerLemmas.{arc_inside, one_placement}
 use Rattle.key_theory.specs.Key.{Shape}

@@ -1,4 +1,4 @@
--- The colouring that is told of a net that is not connected is one, in each of the three cases, and no two cases hold of one net.
+-- The colouring that is reported of a net that is not connected is one, in each of the three cases, and no two cases hold of one net.
 use Rattle.std.proofs.Common.{◌≡◌, ◌≢◌, ◌⊎◌, inl, inr, ℕ, zero, suc, ◌+◌, ◌-◌, ◌<◌, ◌≤◌, ℤ, pos, negsuc, ◌+ℤ◌, ◌-ℤ◌, ◌*ℤ◌, neg_ℤ, List, length, get_or, refl, sym, ap, subst, ◌∙◌, arith}
 use Rattle.std.specs.Prelude.{◌<ℤ◌, ◌≤ℤ◌}
 use Rattle.std.proofs.lemmas.Int.{ints}
@@ -211,7 +211,7 @@ module _ (G : Graph) (g : IsGraph G) (S T : Split) (k j : ℕ) (a : IsSparseSpli
   ends_there : EndsBy k T.c
   ends_there = subst (λ i. EndsBy i T.c) (sym same_place) b.ends
 
-  -- the vector is one: at the place it is 1, after it 0, and each part before it is told by those after it
+  -- the vector is one: at the place it is 1, after it 0, and each part before it is determined by those after it
   same_parts_y : (1 < k) → S.c.z ≡ T.c.z → S.c.y ≡ T.c.y
   same_parts_y l z =
       let p = (a.earlier 1 l).reached in

@@ -106,7 +106,7 @@ module _ (G : Graph) (g : IsGraph G) (c : IsConnected G) (w z : WidePlacement) w
       let r = one_wide_at G a.placement a.normal w.site z.site w.value z.value a.wide (subst (λ q. IsWideAt G q z.site z.value) e b.wide) in
       whole (a.dimension ∙ sym b.dimension) r.0 r.1
 
-  -- what is told of a placement past a limit is one
+  -- what is reported of a placement past a limit is one
   pub one_wide_of : IsWideOf G w w.site → IsWideOf G z z.site → w ≡ z
   one_wide_of = by w.site z.site refl refl
     where

@@ -1,4 +1,4 @@
--- A graph with a collision: the square net with a vertex that hangs on the other, so that both stand in one place.
+-- A graph with a collision: the square net with a vertex that hangs on the other, so that both have one position.
 use Rattle.std.proofs.Common.{◌≡◌, ℕ, pos, map, refl, ap, arith}
 use Rattle.std.proofs.Math.Nat.{eq-one_of_dvd-one}
 use Rattle.integers.specs.Vectors.{zero_vector, vector_sum}

@@ -94,7 +94,7 @@ square_normal : IsNormal square_net square_placement
 unfolding square_placement
 square_normal = record { origin = refl; reduced = λ k d h. eq-one_of_dvd-one d }
 
--- different vertices stand in different places
+-- different vertices have different positions
 square_no_collision : HasNoCollision square_net square_placement
 unfolding square_placement
 square_no_collision u v t c =

@@ -16,7 +16,7 @@ use Rattle.periodic_net.proofs.placements.Translates.{placements_translate}
 pub record AreScaled (G : Graph) (p q : Placement) : Type 0 where
   pub each : (u : ℕ) → IsQuotientVertex G u → times (pos p.denominator) (base q u) ≡ times (pos q.denominator) (base p u)
 
--- two normal placements of a connected net have the same places
+-- two normal placements of a connected net have the same positions
 pub normal_scaled : (G : Graph) → IsGraph G → IsConnected G → (p q : Placement) → IsNormalPlacement G p → IsNormalPlacement G q → AreScaled G p q
 normal_scaled G g con p q n k = record {
   each = λ u i.
