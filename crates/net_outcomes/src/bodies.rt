@@ -1,5 +1,6 @@
 // What a command reports on a block.
 ghost use Rattle.std.specs.Prelude.{◌≡◌, ◌≢◌, IfOk, List};
+ghost use Rattle.coordination.specs.Sequences.{AreSequencesOf};
 ghost use Rattle.least_key.specs.AnyNets.{net_view};
 ghost use Rattle.net_archive.specs.Archives.{IsArchive};
 ghost use Rattle.net_entries.specs.Entries.{EntryView};
@@ -11,6 +12,7 @@ ghost use Rattle.net_outcomes.specs.Outcomes.{size_of, IsBodyOf, IsKeyedAs};
 
 use cgd_read::{Block, Body, Names, RawGraph, from_raw};
 use component_report::tell_components;
+use coordination::Sequences;
 use least_key::{Net, Refusal, check_any, identify, place_any};
 use net_archive::Archive;
 use net_commands::Command;
@@ -92,6 +94,26 @@ fn names_for<'a>(alloc: Global, archive: &'a Archive, net: &Net) -> Result<Names
     Ok(names)
 }
 
+// The names of the vertices, the coordination sequences, and the names that an archive has.
+fn lists_of<'a>(
+    alloc: Global,
+    archive: &'a Archive,
+    raw: &RawGraph<'a>,
+    net: &Net,
+) -> Result<(Names<'a>, Sequences, Names<'a>), NoMemory>
+    ensures vertices { IfOk result (λ lists. lists.0 ≡ raw.now.names) }
+    ensures shells { IfOk result (λ lists.
+        AreSequencesOf (net_view net.now).placed.graph lists.1) }
+    ensures names { IfOk result (λ lists.
+        lists.2 ≡ names_with (net_view net.now).key archive.now.entries) }
+    ensures archive { IsArchive archive.now }
+{
+    let names = names_for(alloc, archive, net)?;
+    let shells = net.sequences(alloc)?;
+    let vertices = raw.names.copy()?;
+    Ok((vertices, shells, names))
+}
+
 // What is reported of a net that has a key.
 fn identified_body<'a>(
     alloc: Global,
@@ -104,9 +126,7 @@ fn identified_body<'a>(
     ensures { IfOk result (IsBodyOf archive.now.entries Command.Identify
         (ReadNet (raw_view raw.now))) }
 {
-    let vertices = raw.names.copy()?;
-    let shells = net.sequences(alloc)?;
-    let names = names_for(alloc, archive, &net)?;
+    let (vertices, shells, names) = lists_of(alloc, archive, raw, &net)?;
     Ok(OutcomeBody::Identified {
         size: size_of(raw),
         vertices,

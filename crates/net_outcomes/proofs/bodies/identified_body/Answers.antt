@@ -9,5 +9,6 @@ pub returns : goal.returns
 returns c =
     let raw = raw_view c.args.raw.now in
     let keyed = subst (λ (size : Size). IsKeyedAs raw size c.args.net) (sym c.size_of.ensures) c.requires.keyed in
-    identified_as c.args.archive.now.entries raw c.size_of.result c.in_ok-vertices.vertices c.args.net c.in_ok-shells.shells c.in_ok-names.names keyed c.in_ok-vertices.ensures
-    c.in_ok-shells.ensures.sequences c.names_for.ensures.archive.each c.in_ok-names.ensures.names
+    let lists = c.in_ok-vertices.ensures in
+    identified_as c.args.archive.now.entries raw c.size_of.result c.in_ok-vertices.vertices c.args.net c.in_ok-vertices.shells c.in_ok-vertices.names keyed lists.vertices
+    lists.shells c.lists_of.ensures.archive.each lists.names
