@@ -5,7 +5,7 @@ use Rattle.std.specs.List.{flat_map}
 use Rattle.std.proofs.lemmas.List.{append-nil}
 use Rattle.periodic_net.specs.Graph.{Arc}
 use Rattle.quotient_graph.specs.Stars.{graph_with}
-use Rattle.net_entries.specs.Entries.{EntryView}
+use Rattle.archive_text.specs.Entries.{EntryView}
 use Rattle.graph_rows.specs.declared.size.GraphSize.{GraphSize}
 use Rattle.archive_text.specs.declared.version.Version.{Version}
 use Rattle.archive_text.specs.declared.version.Version.TheVariants.{One, Two}
@@ -74,22 +74,3 @@ pub record EntriesGoOn (v : Version) (all es : List EntryView) (rows : List Row)
   pub is : all ≡ front ++ more
   pub same : map (shown v) front ≡ map (shown v) es
   pub left : rows ≡ flat_map (entry_rows v) more
-
-pub entries_go_on : (v : Version) (all es : List EntryView) (rows : List Row) → flat_map (entry_rows v) all ≡ flat_map (entry_rows v) es ++ rows → EntriesGoOn v all es rows
-entries_go_on v all [] rows e = record { front = []; more = all; is = refl; same = refl; left = sym e }
-entries_go_on v [] (b ∷ bs) rows e = absurd (some v b (flat_map (entry_rows v) bs) rows e)
-  where
-    some : (w : Version) (b : EntryView) (xs ys : List Row) → [] ≡ (entry_rows w b ++ xs) ++ ys → ⊥
-    some One b xs ys e = let long = ap length e in omega (arith, long)
-    some Two b xs ys e = let long = ap length e in omega (arith, long)
-entries_go_on v (a ∷ as') (b ∷ bs) rows e =
-    let cut : record { first = shown v a; rest = flat_map (entry_rows v) as' } ≡ record { first = shown v b; rest = flat_map (entry_rows v) bs ++ rows } =
-    sym (entry_cut v a (flat_map (entry_rows v) as')) ∙ ap (cut_from Start) (e ∙ append_assoc (entry_rows v b) (flat_map (entry_rows v) bs) rows) ∙ entry_cut v b (flat_map (entry_rows v) bs ++ rows) in
-    let later = entries_go_on v as' bs rows (ap (λ (c : Cut). c.rest) cut) in
-    record {
-      front = a ∷ later.front;
-      more = later.more;
-      is = ap (λ l. a ∷ l) later.is;
-      same = ap (λ x. x ∷ map (shown v) later.front) (ap (λ (c : Cut). c.first) cut) ∙ ap (λ l. shown v b ∷ l) later.same;
-      left = later.left;
-    }

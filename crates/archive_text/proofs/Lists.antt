@@ -16,13 +16,6 @@ shells_from c (x ∷ xs) sizes = ap (λ l. shells_row c x ∷ l) (shells_from (c
 shells_pushed : (lists : List (List ℕ)) (sizes : List ℕ) → shells_lines (lists ++ sizes ∷ []) ≡ shells_lines lists ++ shells_row (length lists + 1) sizes ∷ []
 shells_pushed lists sizes = shells_from 1 lists sizes
 
--- no coordination sequence is read yet
-pub no_shells_read : (start : Place) → AreShellsTo start start []
-no_shells_read start = record {
-  at = λ text rows at. subst (λ l. IsAt text l start) (sym (append-nil rows)) at;
-  each = All-nil AreSizes;
-}
-
 -- the coordination sequence of one more class is read
 pub one_more_class : (start now after : Place) (lists : List (List ℕ)) (sizes : List ℕ) → AreShellsTo start now lists → AreSizes sizes
     → ((text : List ℕ) (rows : List (List ℕ)) → IsAt text rows now → IsAt text (rows ++ shells_row (length lists + 1) sizes ∷ []) after)

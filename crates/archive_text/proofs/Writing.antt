@@ -6,16 +6,15 @@ use Rattle.std.proofs.lemmas.Option.{slice_get_within, get_or_from_slice_get}
 use Rattle.std.proofs.lemmas.List.{drop_more, append-nil}
 use Rattle.line_text.specs.Lines.{rows_text}
 use Rattle.line_text.proofs.CallerLemmas.{rows_text_of_sum}
-use Rattle.net_entries.specs.Entries.{EntryView}
+use Rattle.archive_text.specs.Entries.{EntryView}
 use Rattle.archive_text.specs.declared.version.Version.{Version}
 use Rattle.archive_text.specs.declared.version.Version.TheVariants.{One, Two}
 use Rattle.archive_text.specs.Rows.{OfKey, OfEnd, row_lines, name_row, key_row, shells_row, end_row}
-use Rattle.graph_rows.specs.Rows.{size_of_graph}
+use Rattle.graph_rows.specs.Rows.{size_of_graph, graph_lines, size_row}
 use Rattle.archive_text.specs.Parts.{class_rows, drawn_rows, shells_rows, part_rows}
 use Rattle.archive_text.specs.Texts.{entry_rows, entry_lines, whole_part}
 use Rattle.archive_text.proofs.RowSums.{lines_of_sum, edges_same}
 use Rattle.periodic_net.specs.Graph.{Graph}
-use Rattle.graph_rows.specs.Rows.{graph_lines, size_row}
 
 -- rows after rows
 pub rows_written : (before now after : List ℕ) (xs ys : List (List ℕ)) → now ≡ before ++ rows_text xs → after ≡ now ++ rows_text ys → after ≡ before ++ rows_text (xs ++ ys)

@@ -1,5 +1,12 @@
-pub mod Rows
+pub mod Entries
+pub mod Fingerprints
 pub mod Forms
+pub mod Groups
+pub mod Laws
+pub mod Lookups
 pub mod Parts
-pub mod Texts
+pub mod Places
 pub mod Reading
+pub mod Regrouped
+pub mod Rows
+pub mod Texts

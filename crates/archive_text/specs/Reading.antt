@@ -10,7 +10,7 @@ use Rattle.archive_text.specs.declared.version.Version.{Version}
 use Rattle.archive_text.specs.declared.rest.KeyedGraph.{KeyedGraph}
 use Rattle.archive_text.specs.declared.rest.Form.{Form}
 use Rattle.graph_rows.specs.declared.size.GraphSize.{GraphSize}
-use Rattle.quotient_graph.specs.Edges.{edge_of}
+use Rattle.cgd_read.specs.Spelling.{edge_of}
 
 -- what does not stand at the beginning of what is left
 

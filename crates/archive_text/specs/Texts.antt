@@ -1,7 +1,7 @@
 -- The text of an archive.
 use Rattle.std.specs.Prelude.{ℕ, List, [], ◌∷◌, ◌++◌, flat_map}
 use Rattle.line_text.specs.Lines.{rows_text}
-use Rattle.net_entries.specs.Entries.{EntryView}
+use Rattle.archive_text.specs.Entries.{EntryView}
 use Rattle.archive_text.specs.declared.version.Version.{Version}
 use Rattle.archive_text.specs.Rows.{Row, OfEnd, row_lines, first_row}
 use Rattle.graph_rows.specs.Rows.{size_of_graph}

@@ -14,14 +14,14 @@ use crate::steps::{next_count, next_end, next_key};
 use coordination::Sequences;
 use graph_rows::{GraphSize, next_size, read_edges};
 use line_text::Lines;
-use quotient_graph::{Edge, Key};
+use quotient_graph::{Key, RawEdge};
 use std::alloc::AllocError as NoMemory;
 
 /// The graph of an entry and its key, with the line of the key.
 #[derive(Drop)]
 pub struct KeyedGraph {
     pub size: GraphSize,
-    pub edges: Vec<Edge>,
+    pub edges: Vec<RawEdge>,
     pub key: Key,
     pub key_line: u32,
 }

@@ -3,18 +3,17 @@ ghost use Rattle.std.specs.Prelude.{pos, map, length, ◌≤◌, ◌≡◌, ◌+
 ghost use Rattle.line_text.specs.Numbers.{numbers_text};
 ghost use Rattle.line_text.specs.Lines.{rows_text};
 ghost use Rattle.quotient_graph.specs.AnyGraphs.{graph_view};
-ghost use Rattle.net_entries.specs.Entries.{entry_view};
+ghost use Rattle.archive_text.specs.Entries.{entry_view};
 ghost use Rattle.archive_text.specs.Rows.{first_row, row_lines, name_row, key_row, count_row, shells_row, end_row};
 ghost use Rattle.graph_rows.specs.Rows.{size_of_graph};
 ghost use Rattle.archive_text.specs.Parts.{class_rows, drawn_rows, shells_rows};
 ghost use Rattle.archive_text.specs.Texts.{entry_lines};
 ghost use Rattle.periodic_net.specs.Limits.{most_vertices};
 
-use crate::Version;
+use crate::{Entry, Version};
 use coordination::Sequences;
 use graph_rows::push_graph;
 use line_text::{push_inner, push_number, push_numbers, push_row};
-use net_entries::Entry;
 use quotient_graph::{AnyGraph, Key};
 use std::alloc::AllocError as NoMemory;
 

@@ -2,9 +2,9 @@
 use Rattle.std.proofs.Common.{◌≡◌, ◌≢◌, ◌⊎◌, inl, inr, ℕ, ◌+◌, Bool, true, false, cond, List, [], ◌∷◌, ◌++◌, length, get_or, drop, refl, sym, ap, subst, ◌∙◌, arith}
 use Rattle.std.proofs.lemmas.List.{append_assoc, append-nil}
 use Rattle.std.proofs.lemmas.List.Sorted.{IsPermutation-sym}
-use Rattle.net_entries.specs.Entries.{EntryView}
-use Rattle.net_entries.specs.Regrouped.{regrouped}
-use Rattle.net_entries.proofs.CallerLemmas.{is_regrouped}
+use Rattle.archive_text.specs.Entries.{EntryView}
+use Rattle.archive_text.specs.Regrouped.{regrouped}
+use Rattle.archive_text.proofs.CallerLemmas.{is_regrouped}
 use Rattle.net_archive.specs.Archives.{ArchiveView, IsArchive, archive_with}
 use Rattle.net_archive.specs.Deciding.{is_there}
 use Rattle.net_archive.specs.declared.faults.AddFault.{AddFault}

@@ -1,8 +1,8 @@
 -- What one more item makes of a union.
 use Rattle.std.proofs.Common.{◌≡◌, ◌≢◌, ℕ, ◌+◌, List, [], ◌∷◌, ◌++◌, length, refl, sym, ap, subst, ◌∙◌, arith}
 use Rattle.std.proofs.lemmas.List.{length-map, map-append}
-use Rattle.net_entries.specs.Entries.{EntryView, entry_view, entry_views}
-use Rattle.net_entries.specs.declared.entry.Entry.{Entry}
+use Rattle.archive_text.specs.Entries.{EntryView, entry_view, entry_views}
+use Rattle.archive_text.specs.declared.entry.Entry.{Entry}
 use Rattle.net_archive.specs.Archives.{ArchiveView, archive_with}
 use Rattle.net_archive.specs.declared.faults.AddFault.{AddFault}
 use Rattle.net_archive.specs.declared.faults.AddFault.TheVariants.{NameTaken, BadName, Full, NoMemory}

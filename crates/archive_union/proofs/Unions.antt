@@ -9,11 +9,11 @@ use Rattle.periodic_net.specs.Graph.{Graph, IsGraph}
 use Rattle.periodic_net.specs.Maps.{Iso}
 use Rattle.key_theory.specs.Key.{IsKeyOf}
 use Rattle.key_theory.proofs.CallerLemmas.{keys_decide}
-use Rattle.net_entries.specs.Entries.{EntryView}
-use Rattle.net_entries.specs.Lookups.{names_of, names_with, same_key}
+use Rattle.archive_text.specs.Entries.{EntryView}
+use Rattle.archive_text.specs.Lookups.{names_of, names_with, same_key}
 use Rattle.net_archive.specs.Archives.{ArchiveView, IsArchive, IsEntry}
-use Rattle.net_entries.specs.Regrouped.{regrouped, with_key, AreTogether}
-use Rattle.net_entries.proofs.CallerLemmas.{is_regrouped}
+use Rattle.archive_text.specs.Regrouped.{regrouped, with_key, AreTogether}
+use Rattle.archive_text.proofs.CallerLemmas.{is_regrouped}
 use Rattle.net_archive.proofs.CallerLemmas.{iso_together, keys_decide_archive}
 use Rattle.archive_union.specs.Unions.{united, IsUnion, IsOneOf, HasAll}
 use Rattle.archive_union.proofs.Members.{image, preimage, passing}

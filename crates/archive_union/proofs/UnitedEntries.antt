@@ -5,9 +5,9 @@ use Rattle.std.specs.Cmp.Rules.{signed_items}
 use Rattle.std.proofs.lemmas.List.Elements.{Contains-append_left, Contains-append_right, Contains-append_cases}
 use Rattle.std.proofs.lemmas.Map.Views.{Contains-from_any}
 use Rattle.std.proofs.lemmas.Slice.Eq.{bytes_eq-Decides}
-use Rattle.net_entries.specs.Entries.{EntryView}
-use Rattle.net_entries.specs.Lookups.{names_with, same_key}
-use Rattle.net_entries.specs.Regrouped.{with_key}
+use Rattle.archive_text.specs.Entries.{EntryView}
+use Rattle.archive_text.specs.Lookups.{names_with, same_key}
+use Rattle.archive_text.specs.Regrouped.{with_key}
 use Rattle.net_archive.specs.Deciding.{is_there}
 use Rattle.archive_union.specs.Unions.{with_item, united}
 use Rattle.archive_union.proofs.Members.{here, either, no_member, preimage, from_passing}

@@ -1,6 +1,6 @@
 -- What a union is, and that it is one.
 use Rattle.std.specs.Prelude.{◌≡◌, ℕ, List, All}
-use Rattle.net_entries.specs.Entries.{EntryView}
+use Rattle.archive_text.specs.Entries.{EntryView}
 use Rattle.net_archive.specs.Archives.{ArchiveView, IsArchive, IsEntry}
 use Rattle.net_archive.specs.declared.faults.AddFault.{AddFault}
 use Rattle.archive_union.specs.Unions.{IsUnion, IsNotUnited, HasAll}

@@ -1,3 +1,3 @@
-pub mod Unions
 pub mod Faults
 pub mod Laws
+pub mod Unions

@@ -4,9 +4,9 @@ use Rattle.std.specs.Prelude.{◌≡◌, ◌≢◌, ◌⊎◌, ◌↔◌, ℕ, �
 use Rattle.periodic_net.specs.Graph.{Graph, IsGraph}
 use Rattle.periodic_net.specs.Maps.{Iso}
 use Rattle.key_theory.specs.Key.{IsKeyOf}
-use Rattle.net_entries.specs.Entries.{EntryView}
-use Rattle.net_entries.specs.Lookups.{names_of, names_with}
-use Rattle.net_entries.specs.Regrouped.{regrouped, AreTogether}
+use Rattle.archive_text.specs.Entries.{EntryView}
+use Rattle.archive_text.specs.Lookups.{names_of, names_with}
+use Rattle.archive_text.specs.Regrouped.{regrouped, AreTogether}
 use Rattle.net_archive.specs.Adding.{IsEntryFault}
 use Rattle.net_archive.specs.Archives.{ArchiveView, IsArchive, archive_with}
 use Rattle.net_archive.specs.Deciding.{AreIsoTogether, KeysDecideArchive, is_there}

@@ -1,6 +1,6 @@
 // Unites an archive with items.
 ghost use Rattle.std.specs.Prelude.{◌≡◌, ◌≤◌, ℕ, All, length, IfOk, IfErr, OnOk};
-ghost use Rattle.net_entries.specs.Entries.{entry_view, entry_views};
+ghost use Rattle.archive_text.specs.Entries.{entry_view, entry_views};
 ghost use Rattle.net_archive.specs.Archives.{IsEntry, archive_with, most_entries};
 ghost use Rattle.archive_union.specs.Unions.{united, with_item, IsRefused, IsUnion};
 ghost use Rattle.archive_union.specs.Faults.{IsUniteFault, fault_of_add};

@@ -3,7 +3,7 @@ use Rattle.std.specs.Prelude.{ℕ, ◌-◌, pos, List, slice_get}
 use Rattle.std.specs.Option.{option_map_or}
 use Rattle.integers.specs.Vectors.{Vector, vector}
 use Rattle.exact.specs.Ratio.{Ratio, whole}
-use Rattle.elimination.specs.declared.rows.Row.{Row}
+use Rattle.vecdim.specs.declared.rows.Row.{Row}
 use Rattle.residue.specs.declared.numbers.Residue.{Residue}
 use Rattle.barycentre.specs.Recovered.{by_coordinate}
 

@@ -6,12 +6,11 @@ ghost use Rattle.barycentre.specs.Denominators.{IsUsable};
 ghost use Rattle.barycentre.specs.Limits.{AreInReach};
 
 use crate::units::Units;
-use elimination::Row;
 use exact::Exact;
 use periodic_net::MOST_UNITS;
 use residue::{Residue, reconstruct};
 use std::alloc::{AllocError as NoMemory, Global};
-use vecdim::Triple;
+use vecdim::{Row, Triple};
 
 // The product of two residues.
 fn product<const M: u64>(x: Residue<M>, y: Residue<M>) -> Residue<M> {

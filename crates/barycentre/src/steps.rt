@@ -14,11 +14,11 @@ use crate::left::left_rows;
 use crate::recovery::recovered_rows;
 use crate::testing::{are_normal, tested};
 use crate::units::Units;
-use elimination::{Row, SolveFault, solve_with};
+use elimination::{SolveFault, solve_with};
 use quotient_graph::Graph;
 use residue::Residue;
 use std::alloc::{AllocError as NoMemory, Global};
-use vecdim::Triple;
+use vecdim::{Row, Triple};
 
 // A row of residues as whole numbers.
 fn whole_row<const M: u64, const D: usize>(row: &Row<Residue<M>, D>) -> Triple

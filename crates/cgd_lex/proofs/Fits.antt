@@ -51,10 +51,6 @@ piece_fits b l = piece_is (FitsIn b l) b l
     (λ t. (refl, omega arith, refl))
     (λ t. (refl, (run_fits b l).0, (run_fits b l).1))
 
--- the first line fits in the text
-pub line_within : (bs : List ℕ) → length (first_line bs) ≤ length bs
-line_within bs = omega (arith, line_to bs, within (λ x. not (x == 10)) bs)
-
 -- the test shows a byte other than the line feed
 no_line_feed : (b : ℕ) → b ≢ 10 → (b == 10) ≡ false
 no_line_feed b other = grind (arith, common_steps, other)

@@ -1,8 +1,8 @@
-pub mod Pieces
-pub mod Tokens
 pub mod Forms
-pub mod Places
-pub mod Views
 pub mod Limits
 pub mod Lines
+pub mod Pieces
+pub mod Places
+pub mod Tokens
+pub mod Views
 pub mod Words

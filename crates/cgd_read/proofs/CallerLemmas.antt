@@ -1,2 +1,2 @@
 -- The lemmas of this crate that other crates cite.
-pub use Rattle.quotient_graph.proofs.CallerLemmas.{IsZero, normal_spelled}
+pub use Rattle.cgd_read.proofs.Spelling.{IsZero, normal_spelled}

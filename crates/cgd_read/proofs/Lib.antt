@@ -1,4 +1,5 @@
 pub mod CallerLemmas
+pub mod Spelling
 mod SoundLines
 mod FieldLists
 mod NameSets

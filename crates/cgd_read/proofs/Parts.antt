@@ -3,7 +3,7 @@ use Rattle.std.proofs.Common.{◌≡◌, ◌⊎◌, zero, suc, ◌≤◌, ℤ, p
 use Rattle.std.proofs.lemmas.Int.{ints}
 use Rattle.std.specs.Int.RustNames.{unsigned_abs}
 use Rattle.periodic_net.specs.Limits.{most_shift}
-use Rattle.quotient_graph.specs.Edges.{IsSmallPart}
+use Rattle.cgd_read.specs.Spelling.{IsSmallPart}
 use Rattle.cgd_read.specs.Lines.{FieldsView}
 use Rattle.cgd_read.specs.Reading.{IsSmallFields, IsFlat}
 

@@ -8,16 +8,16 @@ use Rattle.periodic_net.specs.Graph.{IsEdge, IsGraph}
 use Rattle.cgd_read.specs.Lines.{FieldsView, LineView}
 use Rattle.cgd_read.specs.Edges.{vertices_of, edges_of, first_size, has_rows}
 use Rattle.cgd_read.specs.Faults.{has_row, rows_in}
-use Rattle.quotient_graph.specs.Edges.{edge_of}
+use Rattle.cgd_read.specs.Spelling.{edge_of}
 use Rattle.cgd_read.specs.Graphs.{graph_of, net_of, IsReadGraph}
 use Rattle.periodic_net.specs.Limits.{IsSmall, most_shift}
 use Rattle.cgd_read.specs.Views.{RawView}
 use Rattle.cgd_read.specs.Graphs.{net_of}
-use Rattle.quotient_graph.specs.declared.edge.Edge.{Edge}
+use Rattle.cgd_read.specs.declared.edge.RawEdge.{RawEdge}
 use Rattle.cgd_read.proofs.Rows.{rows_have_edges}
 use Rattle.cgd_read.proofs.WellEdges.{IsWellEdge, MakeGraph}
 
-has_vertex : (n size : ℕ) (es : List Edge) → 1 ≤ length es → All (IsWellEdge n size) es → 1 ≤ n
+has_vertex : (n size : ℕ) (es : List RawEdge) → 1 ≤ length es → All (IsWellEdge n size) es → 1 ≤ n
 has_vertex n size [] some edges = absurd (omega (arith, some))
 has_vertex n size (e ∷ es) some edges = let w = edges 0 e (omega arith) in omega (arith, w.first.0, w.first.1)
 

@@ -12,23 +12,23 @@ use Rattle.periodic_net.specs.Graph.{Arc}
 use Rattle.periodic_net.specs.Limits.{most_vertices, most_edges}
 use Rattle.cgd_read.specs.Lines.{FieldsView}
 use Rattle.cgd_read.specs.Edges.{with_new, vertices_of, vertex_number, row_edge, same_edge, edges_of, is_self_edge, is_repeat, first_size, has_rows}
-use Rattle.quotient_graph.specs.Edges.{edge_of}
-use Rattle.quotient_graph.specs.declared.edge.Edge.{Edge}
+use Rattle.cgd_read.specs.Spelling.{edge_of}
+use Rattle.cgd_read.specs.declared.edge.RawEdge.{RawEdge}
 use Rattle.cgd_read.proofs.Parts.{IsWellRow, small_part}
 use Rattle.cgd_read.proofs.Places.{all_fail, longer, numbered, same_number}
-use Rattle.quotient_graph.proofs.CallerLemmas.{IsZero}
+use Rattle.cgd_read.proofs.Spelling.{IsZero}
 use Rattle.cgd_read.proofs.WellEdges.{IsWellEdge, wider, well_spelled, MakeGraph}
 
 -- an edge is the same as itself
-same_self : (e : Edge) → same_edge e e ≡ true
+same_self : (e : RawEdge) → same_edge e e ≡ true
 same_self e =
     and_from _ _ ((Decides-eqb e.u e.u).1 refl) (and_from _ _ ((Decides-eqb e.v e.v).1 refl)
     (and_from _ _ ((Decides-int_eq e.x e.x).1 refl) (and_from _ _ ((Decides-int_eq e.y e.y).1 refl) ((Decides-int_eq e.z e.z).1 refl))))
 
-raw_of : Arc → Edge
+raw_of : Arc → RawEdge
 raw_of a = record { u = a.from; v = a.to; x = a.shift.x; y = a.shift.y; z = a.shift.z }
 
-apart : (e f : Edge) → same_edge e f ≡ false → edge_of f ≢ edge_of e
+apart : (e f : RawEdge) → same_edge e f ≡ false → edge_of f ≢ edge_of e
 unfolding raw_of
 apart e f h eq = false≢true (sym h ∙ subst (λ g. same_edge e g ≡ true) (sym (ap raw_of eq)) (same_self e))
 

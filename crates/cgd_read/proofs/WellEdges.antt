@@ -5,15 +5,14 @@ use Rattle.std.specs.Int.RustNames.{unsigned_abs}
 use Rattle.periodic_net.specs.Graph.{IsNormalSpelling}
 use Rattle.periodic_net.specs.Limits.{most_shift, most_vertices, most_edges}
 use Rattle.cgd_read.specs.Lines.{FieldsView}
-use Rattle.quotient_graph.specs.Edges.{spelled, is_forward, normal}
+use Rattle.cgd_read.specs.Spelling.{spelled, is_forward, normal, edge_of}
 use Rattle.cgd_read.specs.Edges.{vertices_of, edges_of, first_size, has_rows}
-use Rattle.quotient_graph.specs.Edges.{edge_of}
-use Rattle.quotient_graph.specs.declared.edge.Edge.{Edge}
+use Rattle.cgd_read.specs.declared.edge.RawEdge.{RawEdge}
 use Rattle.cgd_read.proofs.Parts.{negative_small}
-use Rattle.quotient_graph.proofs.CallerLemmas.{normal_spelled, IsZero}
+use Rattle.cgd_read.proofs.Spelling.{normal_spelled, IsZero}
 
 -- an edge of a graph with n vertices and rows of so many fields, within the limits
-pub record IsWellEdge (n size : ℕ) (e : Edge) : Type 0 where
+pub record IsWellEdge (n size : ℕ) (e : RawEdge) : Type 0 where
   pub first : (1 ≤ e.u) × (e.u ≤ n)
   pub second : (1 ≤ e.v) × (e.v ≤ n)
   pub flat : size ≡ 4 → e.z ≡ pos 0
@@ -22,7 +21,7 @@ pub record IsWellEdge (n size : ℕ) (e : Edge) : Type 0 where
   pub y : unsigned_abs e.y ≤ most_shift
   pub z : unsigned_abs e.z ≤ most_shift
 
-pub wider : (m n size : ℕ) → m ≤ n → (e : Edge) → IsWellEdge m size e → IsWellEdge n size e
+pub wider : (m n size : ℕ) → m ≤ n → (e : RawEdge) → IsWellEdge m size e → IsWellEdge n size e
 wider m n size l e w = record {
   first = (w.first.0, omega (arith, w.first.1, l));
   second = (w.second.0, omega (arith, w.second.1, l));

@@ -4,8 +4,8 @@ use Rattle.std.specs.List.{list_any, position_or_len}
 use Rattle.std.specs.Str.{bytes_eq}
 use Rattle.std.specs.Ordering.{int_eq}
 use Rattle.cgd_read.specs.Lines.{FieldsView}
-use Rattle.quotient_graph.specs.declared.edge.Edge.{Edge}
-use Rattle.quotient_graph.specs.Edges.{normal}
+use Rattle.cgd_read.specs.declared.edge.RawEdge.{RawEdge}
+use Rattle.cgd_read.specs.Spelling.{normal}
 
 -- the list with x last, unless it has one that is the same
 abbrev pub with_new : {X : Type 0} → (X → X → Bool) → List X → X → List X
@@ -21,15 +21,15 @@ abbrev pub vertex_number : List (List ℕ) → List ℕ → ℕ
 vertex_number names name = position_or_len (bytes_eq name) names + 1
 
 -- the edge of a row; these vertices came before it
-abbrev pub row_edge : List (List ℕ) → FieldsView → Edge
+abbrev pub row_edge : List (List ℕ) → FieldsView → RawEdge
 row_edge before row = normal (vertex_number before row.u) (vertex_number (with_new bytes_eq before row.u) row.v) row.x row.y row.z
 
 -- both are the same edge, as they are spelled
-abbrev pub same_edge : Edge → Edge → Bool
+abbrev pub same_edge : RawEdge → RawEdge → Bool
 same_edge e f = e.u == f.u && (e.v == f.v && (int_eq e.x f.x && (int_eq e.y f.y && int_eq e.z f.z)))
 
 -- the different edges in order of appearance
-abbrev pub edges_of : List FieldsView → List Edge
+abbrev pub edges_of : List FieldsView → List RawEdge
 edges_of [] = []
 edges_of (row ∷ rows) = with_new same_edge (edges_of rows) (row_edge (vertices_of rows) row)
 

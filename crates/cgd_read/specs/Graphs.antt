@@ -5,7 +5,7 @@ use Rattle.periodic_net.specs.Limits.{IsSmall}
 use Rattle.cgd_read.specs.Lines.{FieldsView}
 use Rattle.cgd_read.specs.Edges.{vertices_of, edges_of, first_size, repeats_of}
 use Rattle.cgd_read.specs.Views.{RawView}
-use Rattle.quotient_graph.specs.Edges.{edge_of}
+use Rattle.cgd_read.specs.Spelling.{edge_of}
 
 -- what these rows say, the nearest first: a row is two vertices and then a part of the shift for each dimension
 abbrev pub net_of : List FieldsView → RawView

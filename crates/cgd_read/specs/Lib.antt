@@ -1,10 +1,11 @@
-pub mod Names
-pub mod Values
-pub mod Lines
-pub mod Reading
+pub mod Blocks
 pub mod Edges
 pub mod Faults
-pub mod Views
 pub mod Graphs
-pub mod Blocks
+pub mod Lines
+pub mod Names
+pub mod Reading
+pub mod Spelling
 pub mod States
+pub mod Values
+pub mod Views

@@ -2,7 +2,7 @@
 use Rattle.std.specs.Prelude.{◌≡◌, ◌≤◌, pos, ◌+◌, ◌==◌, false, ◌||◌, ◌&&◌, nat_lt, is_none, List, [], ◌∷◌, None, if◌then◌else◌}
 use Rattle.cgd_lex.specs.Tokens.{TokenView}
 use Rattle.cgd_lex.specs.Words.{is_quoted, name_in}
-use Rattle.quotient_graph.specs.Edges.{IsSmallPart}
+use Rattle.cgd_read.specs.Spelling.{IsSmallPart}
 use Rattle.cgd_read.specs.Values.{part_of}
 use Rattle.cgd_read.specs.Lines.{is_strange, part_or_zero, FieldsView, LineView}
 use Rattle.cgd_read.specs.Faults.{is_end}

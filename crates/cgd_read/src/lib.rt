@@ -4,7 +4,7 @@
 
 mod block;
 mod cursor;
-mod graph;
+mod edge;
 mod line;
 mod partial;
 mod read;
@@ -13,7 +13,6 @@ mod state;
 mod values;
 
 pub use block::{Block, BlockFault, BlockFaultKind, Body, Names, RawEdges, RawGraph, ReadRefusal};
-pub use graph::from_raw;
-pub use quotient_graph::Edge as RawEdge;
+pub use edge::{RawEdge, normal_edge};
 pub use read::blocks;
 pub use std::alloc::AllocError as NoMemory;

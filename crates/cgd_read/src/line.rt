@@ -4,7 +4,7 @@ ghost use Rattle.std.specs.Option.{option_copied};
 ghost use Rattle.cgd_lex.specs.Views.{token_view};
 ghost use Rattle.cgd_lex.specs.Words.{is_quoted};
 ghost use Rattle.cgd_read.specs.Lines.{is_strange, is_name_word, is_edges_word, kind_of_word, kind_of, part_or_zero};
-ghost use Rattle.quotient_graph.specs.Edges.{IsSmallPart};
+ghost use Rattle.cgd_read.specs.Spelling.{IsSmallPart};
 ghost use Rattle.std.specs.Char.{to_ascii_lowercase};
 ghost use Rattle.cgd_lex.specs.Limits.{longest_text};
 ghost use Rattle.cgd_read.specs.Views.{fields_view};

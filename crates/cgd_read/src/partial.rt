@@ -12,9 +12,8 @@ ghost use Rattle.cgd_read.specs.Graphs.{net_of};
 ghost use Rattle.cgd_read.specs.States.{names_in, IsGraphOfRows};
 
 use crate::line::Fields;
-use crate::{Names, NoMemory, RawEdges, RawGraph};
+use crate::{Names, NoMemory, RawEdge, RawEdges, RawGraph, normal_edge};
 use indexmap::IndexSet;
-use quotient_graph::{Edge, normal_edge};
 use std::alloc::Global;
 
 /// What is kept of the rows of a block: names and edges once each, in order of appearance.
@@ -24,7 +23,7 @@ pub struct PartialGraph<'a> {
     pub size: u32,
     pub repeats: u32,
     pub names: IndexSet<&'a [u8]>,
-    pub edges: IndexSet<Edge>,
+    pub edges: IndexSet<RawEdge>,
 }
 
 // The place of a name, which is put last where it is new.
@@ -44,7 +43,7 @@ fn place_of<'a>(names: &mut IndexSet<&'a [u8]>, name: &'a [u8]) -> Result<usize,
 }
 
 // Adds an edge, and answers whether it is new.
-fn add_edge(edges: &mut IndexSet<Edge>, edge: Edge) -> Result<bool, NoMemory>
+fn add_edge(edges: &mut IndexSet<RawEdge>, edge: RawEdge) -> Result<bool, NoMemory>
     ensures edges { OnOk result (edges.new.keys ≡ with_new same_edge edges.old.keys edge) }
     ensures added { IfOk result (λ new. new ≡ not (list_any (same_edge edge) edges.old.keys)) }
 {
@@ -63,7 +62,7 @@ pub fn is_self_edge(row: &Fields<'_>) -> bool
 // Adds the vertices and the edge of a row, and answers whether the edge is new.
 fn take_row<'a>(
     names: &mut IndexSet<&'a [u8]>,
-    edges: &mut IndexSet<Edge>,
+    edges: &mut IndexSet<RawEdge>,
     row: &Fields<'a>,
 ) -> Result<bool, NoMemory>
     requires small { IsSmallFields (fields_view row.now) }

@@ -1,6 +1,6 @@
 // Parts of shifts.
 ghost use Rattle.std.specs.Prelude.{◌≡◌, IfSome};
-ghost use Rattle.quotient_graph.specs.Edges.{IsSmallPart};
+ghost use Rattle.cgd_read.specs.Spelling.{IsSmallPart};
 ghost use Rattle.cgd_read.specs.Values.{part_of};
 
 use cgd_lex::number_up_to;

@@ -12,7 +12,7 @@ use Rattle.command_words.specs.declared.tasks.Task.{Task as TaskInCode}
 use Rattle.command_words.specs.declared.tasks.Verb.{Verb}
 use Rattle.command_words.specs.declared.tasks.Verb.TheVariants as verb
 use Rattle.net_cover.specs.Cells.{CellView}
-use Rattle.cell_words.specs.Reading.{cell_of}
+use Rattle.net_cover.specs.Reading.{cell_of}
 use Rattle.workload.specs.Workload.{most_nets}
 
 -- a task that is found makes few nets

@@ -47,9 +47,6 @@ no_rows : (rules : List Rule) (rows : List Row) → HaveNoDefaults rules → fol
 no_rows [] rows b = refl
 no_rows (r ∷ rs) rows b = ap (λ (x : List Row). fold with_default x rs) (no_row rows r b.0) ∙ no_rows rs rows b.1
 
-check_none : (rows : List Row) → check_fault top rows false ≡ []
-check_none rows = refl
-
 -- before the first argument
 abbrev start : Rattle.clap.specs.Walk.Walk
 start = walk_at idle 1 false [] None

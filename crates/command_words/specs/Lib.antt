@@ -1,4 +1,4 @@
 pub mod Grammar
-pub mod Words
 pub mod Tasks
 pub mod Views
+pub mod Words

@@ -7,7 +7,7 @@ use Rattle.command_words.specs.Words.{Text, Said, said_by}
 use Rattle.command_words.specs.declared.tasks.Verb.{Verb}
 use Rattle.command_words.specs.declared.tasks.Verb.TheVariants as verb
 use Rattle.net_cover.specs.Cells.{CellView}
-use Rattle.cell_words.specs.Reading.{cell_of}
+use Rattle.net_cover.specs.Reading.{cell_of}
 use Rattle.workload.specs.Workload.{most_nets}
 
 -- what is to be done

@@ -1,14 +1,13 @@
 // The commands, and what each takes.
 ghost use Rattle.std.specs.Prelude.{◌≡◌, IfOk, IfSome, option_and_then, option_map, option_copied};
-ghost use Rattle.cell_words.specs.Reading.{cell_of};
+ghost use Rattle.net_cover.specs.Reading.{cell_of};
 ghost use Rattle.command_words.specs.Words.{texts_of};
 ghost use Rattle.command_words.specs.Tasks.{MakesFew, add_in, archive_named, are_apart, cover_in, file_named, file_of, has_empty_word, identify_in, is_empty_word, may_give_cell, sole_archive, sole_count, sole_file, task_for, task_in, task_of, task_with, union_in, union_with, verb_named};
 ghost use Rattle.command_words.specs.Views.{said_view, task_view};
 
 use crate::counts::count_of;
 use crate::parse::{Said, read_words};
-use cell_words::cell_of;
-use net_cover::Cell;
+use net_cover::{Cell, cell_of};
 use std::alloc::{AllocError as NoMemory, Global};
 
 /// What is to be done, and the names of the files that it reads. `-` is the standard input.

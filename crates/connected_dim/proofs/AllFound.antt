@@ -3,10 +3,10 @@ use Rattle.std.proofs.Common.{ℕ, ◌-◌, List, Option, None, IsSome, All, ap,
 use Rattle.integers.specs.Vectors.{Vector}
 use Rattle.periodic_net.specs.Graph.{Graph, IsGraph, IsQuotientVertex}
 use Rattle.periodic_net.specs.Split.{IsFound}
-use Rattle.periodic_net.proofs.CallerLemmas.{IsTree, one_vertex}
-use Rattle.walk_lattice.specs.Search.{walk_to, shift_of, AreWalks}
-use Rattle.walk_lattice.specs.Generators.{shift_at}
-use Rattle.walk_lattice.proofs.CallerLemmas.{walk_dimension, walk_at}
+use Rattle.periodic_net.proofs.CallerLemmas.{IsTree, one_vertex, walk_dimension}
+use Rattle.connected_dim.specs.Search.{walk_to, shift_of, AreWalks}
+use Rattle.connected_dim.specs.Generators.{shift_at}
+use Rattle.connected_dim.proofs.Generated.{walk_at}
 
 module _ (G : Graph) (g : IsGraph G) (found : List (Option Vector)) (h : AreWalks G 1 found) (all : All IsSome found) where
   -- each vertex has a walk

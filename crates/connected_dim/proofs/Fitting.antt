@@ -1,7 +1,7 @@
 -- Bounds of the products of a vector and a walk.
 use Rattle.std.proofs.Common.{ℕ, ◌≤◌, ◌*◌, ◌^◌, arith}
 use Rattle.periodic_net.specs.Limits.{most_walk}
-use Rattle.walk_lattice.specs.Bounds.{most_normal}
+use Rattle.connected_dim.specs.Bounds.{most_normal}
 
 -- of a normal
 pub flat_within : (n : ℕ) → n ≤ 3 * (most_normal * most_walk) → n ≤ 2 ^ 62

@@ -5,10 +5,12 @@ use Rattle.integers.specs.Vectors.{Vector, minus}
 use Rattle.integers.proofs.numbers.Ring.{ring, linear}
 use Rattle.periodic_net.specs.Graph.{Graph, IsGraph, IsQuotientVertex}
 use Rattle.periodic_net.specs.Split.{entry, IsOrthogonal, IsFlatSplit}
-use Rattle.walk_lattice.specs.Search.{walk_to, AreWalks}
-use Rattle.walk_lattice.specs.Generators.{shift_at, generators}
-use Rattle.walk_lattice.specs.Flat.{IsFlatNormal}
-use Rattle.walk_lattice.proofs.CallerLemmas.{closed_difference, walk_at, generators_closed, orthogonal_closed}
+use Rattle.connected_dim.specs.Search.{walk_to, AreWalks}
+use Rattle.connected_dim.specs.Generators.{shift_at, generators}
+use Rattle.connected_dim.specs.Orthogonal.{IsFlatNormal}
+use Rattle.periodic_net.proofs.CallerLemmas.{closed_difference}
+use Rattle.connected_dim.proofs.Generated.{walk_at, generators_closed}
+use Rattle.connected_dim.proofs.Orthogonal.{orthogonal_closed}
 use Rattle.connected_dim.specs.Flat.{flat_colour, flat_colouring}
 use Rattle.connected_dim.proofs.AllFound.{each_found, some_walk}
 

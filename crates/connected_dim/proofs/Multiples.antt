@@ -4,8 +4,8 @@ use Rattle.std.specs.Int.{w128}
 use Rattle.std.proofs.lemmas.Int.{ints}
 use Rattle.integers.specs.Vectors.{Vector, vector, dot}
 use Rattle.integers.proofs.numbers.Ring.{ring, linear}
-use Rattle.hermite.specs.Stairs.{Stairs, InStairs, IsReducedStair}
-use Rattle.hermite.proofs.CallerLemmas.{fits_within}
+use Rattle.vecdim.specs.Stairs.{Stairs, InStairs, IsReducedStair}
+use Rattle.vecdim.proofs.CallerLemmas.{fits_within}
 use Rattle.connected_dim.specs.Sparse.{IsComplement, IsFirstDual, IsSecondDual, IsThirdDual}
 
 -- a pivot, and what stands above it

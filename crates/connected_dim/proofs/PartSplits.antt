@@ -4,8 +4,9 @@ use Rattle.std.proofs.lemmas.List.{length-map, get_or-map}
 use Rattle.integers.specs.Vectors.{Vector}
 use Rattle.periodic_net.specs.Graph.{Graph, IsGraph, IsQuotientVertex}
 use Rattle.periodic_net.specs.Split.{IsPartSplit, entry}
-use Rattle.walk_lattice.specs.Search.{walk_to, AreWalks}
-use Rattle.walk_lattice.proofs.CallerLemmas.{all_found, some_value}
+use Rattle.connected_dim.specs.Search.{walk_to, AreWalks}
+use Rattle.connected_dim.proofs.FoundVertices.{all_found}
+use Rattle.connected_dim.proofs.Starting.{some_value}
 use Rattle.connected_dim.specs.Quotient.{part_colour, part_colouring}
 
 some_or : (o : Option Vector) → o ≡ None → IsSome o → ⊥

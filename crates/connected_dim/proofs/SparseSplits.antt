@@ -10,14 +10,15 @@ use Rattle.integers.proofs.numbers.Division.{euclid_rest}
 use Rattle.integers.proofs.numbers.Order.{positive_natural}
 use Rattle.periodic_net.specs.Graph.{Graph, IsGraph, IsQuotientVertex}
 use Rattle.periodic_net.specs.Split.{Split, AreAlike, entry, ClosedShift, IsPivot, IsSparseSplit, EndsBy}
-use Rattle.hermite.specs.Stairs.{Stairs, InStairs, IsReducedStair, HasFlatEnd, HasStairShape, rows_of}
-use Rattle.hermite.specs.Lattices.{Members}
-use Rattle.hermite.proofs.CallerLemmas.{rows_are_basis}
-use Rattle.vecdim.proofs.CallerLemmas.{remainder}
-use Rattle.walk_lattice.specs.Search.{walk_to, AreWalks}
-use Rattle.walk_lattice.specs.Generators.{shift_at}
-use Rattle.walk_lattice.specs.Lattices.{AreClosedWalks}
-use Rattle.walk_lattice.proofs.CallerLemmas.{closed_difference, walk_at, ends_by_zero, ends_by_one, ends_by_two}
+use Rattle.vecdim.specs.Stairs.{Stairs, InStairs, IsReducedStair, HasFlatEnd, HasStairShape, rows_of}
+use Rattle.vecdim.specs.Lattices.{Members}
+use Rattle.vecdim.proofs.CallerLemmas.{rows_are_basis, remainder}
+use Rattle.connected_dim.specs.Search.{walk_to, AreWalks}
+use Rattle.connected_dim.specs.Generators.{shift_at}
+use Rattle.connected_dim.specs.Lattices.{AreClosedWalks}
+use Rattle.periodic_net.proofs.CallerLemmas.{closed_difference}
+use Rattle.connected_dim.proofs.Generated.{walk_at}
+use Rattle.connected_dim.proofs.Ends.{ends_by_zero, ends_by_one, ends_by_two}
 use Rattle.connected_dim.specs.Sparse.{IsDual, sparse_colour, sparse_colouring}
 use Rattle.connected_dim.proofs.AllFound.{each_found, some_walk}
 use Rattle.connected_dim.proofs.Multiples.{Divides, complement_range, first_divides, second_divides, third_divides}

@@ -3,13 +3,13 @@ use Rattle.std.proofs.Common.{◌≡◌, ℕ, ℤ, List, Option, IsSome, All, sy
 use Rattle.integers.specs.Vectors.{Vector}
 use Rattle.periodic_net.specs.Graph.{Graph, IsGraph, IsConnected}
 use Rattle.periodic_net.proofs.CallerLemmas.{connected_by_tree, one_vertex}
-use Rattle.hermite.specs.Stairs.{Stairs, IsWhole}
-use Rattle.hermite.proofs.CallerLemmas.{all_members}
-use Rattle.walk_lattice.specs.Search.{AreWalks}
-use Rattle.walk_lattice.specs.Full.{IsVolume}
-use Rattle.walk_lattice.specs.Generators.{shift_at, generators}
-use Rattle.walk_lattice.specs.Lattices.{IsLatticeOf, AreClosedWalks}
-use Rattle.walk_lattice.proofs.CallerLemmas.{closed_by_volume}
+use Rattle.vecdim.specs.Stairs.{Stairs, IsWhole}
+use Rattle.vecdim.proofs.CallerLemmas.{all_members}
+use Rattle.connected_dim.specs.Search.{AreWalks}
+use Rattle.connected_dim.specs.Full.{IsVolume}
+use Rattle.connected_dim.specs.Generators.{shift_at, generators}
+use Rattle.connected_dim.specs.Lattices.{IsLatticeOf, AreClosedWalks}
+use Rattle.connected_dim.proofs.Spanned.{closed_by_volume}
 use Rattle.connected_dim.proofs.AllFound.{is_tree}
 
 -- each vector is a closed walk then, and the net is connected

@@ -2,7 +2,7 @@
 use Rattle.std.specs.Prelude.{ℤ, neg_ℤ, List, Option, map}
 use Rattle.integers.specs.Vectors.{Vector, dot}
 use Rattle.periodic_net.specs.Split.{Split}
-use Rattle.walk_lattice.specs.Search.{shift_of}
+use Rattle.connected_dim.specs.Search.{shift_of}
 
 -- the entry of a vertex with this walk
 abbrev pub flat_colour : Vector → Option Vector → ℤ

@@ -1,6 +1,14 @@
+pub mod Bounds
 pub mod Connected
 pub mod Flat
+pub mod Full
+pub mod Generators
+pub mod Lattices
+pub mod Orthogonal
+pub mod Paths
 pub mod Quotient
+pub mod Ranks
 pub mod Refusals
+pub mod Search
 pub mod Sparse
 pub mod Verdicts

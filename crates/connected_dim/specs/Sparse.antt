@@ -3,8 +3,8 @@ use Rattle.std.specs.Prelude.{◌≡◌, ◌≢◌, ◌⊎◌, ℤ, pos, neg_ℤ
 use Rattle.std.specs.Int.{int_rem_euclid}
 use Rattle.integers.specs.Vectors.{Vector, vector, dot}
 use Rattle.periodic_net.specs.Split.{Split}
-use Rattle.hermite.specs.Stairs.{Stairs}
-use Rattle.walk_lattice.specs.Search.{shift_of}
+use Rattle.vecdim.specs.Stairs.{Stairs}
+use Rattle.connected_dim.specs.Search.{shift_of}
 
 -- c is -b modulo q, where b is from 0 to below q
 abbrev pub IsComplement : ℤ → ℤ → ℤ → Type 0

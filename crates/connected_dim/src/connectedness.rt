@@ -5,13 +5,12 @@ ghost use Rattle.periodic_net.specs.Limits.{IsSmall};
 ghost use Rattle.connected_dim.specs.Refusals.{IsRefused, IsRefuted};
 ghost use Rattle.connected_dim.specs.Verdicts.{IsVerdict};
 
-use crate::NoMemory;
 use crate::parts::{all_found, part_split};
 use crate::verdicts::{Verdict, verdict_by_walks};
+use crate::{NoMemory, walks};
 use quotient_graph::{Graph, Split};
 use std::alloc::Global;
 use std::marker::Model;
-use walk_lattice::walks;
 
 /// A graph within the limits whose net is connected.
 #[derive(Drop)]

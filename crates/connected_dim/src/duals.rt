@@ -2,11 +2,10 @@
 // of it.
 ghost use Rattle.std.specs.Prelude.{◌≡◌, ◌⊎◌, ◌≤◌, ◌^◌, unsigned_abs, pos, None, IfSome, ◌≤ℤ◌, ◌<ℤ◌};
 ghost use Rattle.integers.specs.Vectors.{vector, IsWithin};
-ghost use Rattle.hermite.specs.Stairs.{stairs, IsReducedStair, HasStairShape, IsWhole};
+ghost use Rattle.vecdim.specs.Stairs.{stairs, IsReducedStair, HasStairShape, IsWhole};
 ghost use Rattle.connected_dim.specs.Sparse.{IsComplement, IsThirdDual, IsDual};
 
-use hermite::Staircase;
-use vecdim::Triple;
+use vecdim::{Staircase, Triple};
 
 /// The rows (a, b, c), (0, e, f) and (0, 0, i) of a staircase, as plain numbers; in dimension 2 the
 /// last is (0, 0, 1).

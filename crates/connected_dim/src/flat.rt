@@ -3,15 +3,14 @@ ghost use Rattle.std.specs.Prelude.{◌≡◌, ◌≤◌, ◌^◌, neg_ℤ, unsi
 ghost use Rattle.integers.specs.Vectors.{IsWithin};
 ghost use Rattle.periodic_net.specs.Limits.{most_walk};
 ghost use Rattle.quotient_graph.specs.Splits.{split_view};
-ghost use Rattle.walk_lattice.specs.Bounds.{most_normal};
-ghost use Rattle.walk_lattice.specs.Search.{shift_of};
+ghost use Rattle.connected_dim.specs.Bounds.{most_normal};
+ghost use Rattle.connected_dim.specs.Search.{shift_of};
 ghost use Rattle.connected_dim.specs.Flat.{flat_colour, flat_colouring};
 
-use crate::NoMemory;
+use crate::{NoMemory, shift_of};
 use quotient_graph::{Entries, Split};
 use std::alloc::Global;
 use vecdim::{Shift, Triple};
-use walk_lattice::shift_of;
 
 // -x.
 fn negative(x: i128) -> i64

@@ -4,15 +4,14 @@ ghost use Rattle.std.specs.Int.{int_rem_euclid};
 ghost use Rattle.integers.specs.Vectors.{IsWithin};
 ghost use Rattle.periodic_net.specs.Limits.{most_walk};
 ghost use Rattle.quotient_graph.specs.Splits.{split_view};
-ghost use Rattle.walk_lattice.specs.Search.{shift_of};
+ghost use Rattle.connected_dim.specs.Search.{shift_of};
 ghost use Rattle.connected_dim.specs.Sparse.{sparse_colour, sparse_colouring};
 
-use crate::NoMemory;
 use crate::duals::Dual;
+use crate::{NoMemory, shift_of};
 use quotient_graph::{Entries, Split};
 use std::alloc::Global;
 use vecdim::Shift;
-use walk_lattice::shift_of;
 
 // -x modulo q.
 fn residue(x: i128, q: i128) -> i64

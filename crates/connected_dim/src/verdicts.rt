@@ -1,20 +1,18 @@
 // Whether the net of a graph is connected, from a walk to each vertex.
 ghost use Rattle.std.specs.Prelude.{◌≡◌, IfOk, All, IsSome};
-ghost use Rattle.walk_lattice.specs.Search.{AreWalks};
-ghost use Rattle.walk_lattice.specs.Full.{IsVolume};
-ghost use Rattle.walk_lattice.specs.Generators.{generators};
-ghost use Rattle.walk_lattice.specs.Lattices.{AreClosedWalks};
+ghost use Rattle.connected_dim.specs.Search.{AreWalks};
+ghost use Rattle.connected_dim.specs.Full.{IsVolume};
+ghost use Rattle.connected_dim.specs.Generators.{generators};
+ghost use Rattle.connected_dim.specs.Lattices.{AreClosedWalks};
 ghost use Rattle.connected_dim.specs.Verdicts.{IsVerdict};
 
-use crate::NoMemory;
 use crate::duals::first_dual_of;
 use crate::flat::flat_split;
 use crate::sparse::sparse_split;
-use hermite::Staircase;
+use crate::{NoMemory, Rank, generators, lattice, rank_of};
 use quotient_graph::{Graph, Split};
 use std::alloc::Global;
-use vecdim::{Shift, Vect};
-use walk_lattice::{Rank, generators, lattice, rank_of};
+use vecdim::{Shift, Staircase, Vect};
 
 /// What is found of a net: that it is connected, or a colouring, where the closed walks have full
 /// rank or not.

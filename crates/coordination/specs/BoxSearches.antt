@@ -2,7 +2,7 @@
 use Rattle.std.specs.Prelude.{◌≡◌, ℕ, ◌-◌, ◌≤◌, List, [], ◌++◌, map, drop, length, Contains, Bool, slice_index_or}
 use Rattle.integers.specs.Vectors.{zero_vector}
 use Rattle.periodic_net.specs.Graph.{Graph, IsQuotientVertex, Vertex, vertex, AreJoined}
-use Rattle.class_kinds.specs.Kinds.{kind_of}
+use Rattle.key_theory.specs.Kinds.{kind_of}
 use Rattle.coordination.specs.Boxes.{IsBoxOf, IsInside, spot_in}
 use Rattle.coordination.specs.Expanding.{Expands, StandOnce}
 use Rattle.coordination.specs.Extents.{IsCellWithin}

@@ -5,7 +5,7 @@ use Rattle.periodic_net.specs.Classes.{ClassGraph}
 use Rattle.periodic_net.specs.Graph.{Graph, IsGraph, Vertex, IsVertex}
 use Rattle.periodic_net.specs.Shells.{IsShellSize}
 use Rattle.key_theory.specs.Key.{Shape}
-use Rattle.class_kinds.specs.Kinds.{kind_of}
+use Rattle.key_theory.specs.Kinds.{kind_of}
 
 -- shells that are listed
 abbrev pub most_shells : ℕ

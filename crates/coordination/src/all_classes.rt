@@ -3,14 +3,14 @@ ghost use Rattle.std.specs.Prelude.{◌≡◌, ◌≤◌, ◌+◌, IfOk, length}
 ghost use Rattle.periodic_net.specs.Correspondence.{IsClass};
 ghost use Rattle.periodic_net.specs.Limits.{most_vertices};
 ghost use Rattle.coordination.specs.Cells.{HasCell};
-ghost use Rattle.class_kinds.specs.Kinds.{AreKinds};
+ghost use Rattle.key_theory.specs.Kinds.{AreKinds};
 ghost use Rattle.coordination.specs.Sequences.{AreFirstSequences, AreSequencesOf, AreShellsOfClass};
 
 use crate::NoMemory;
 use crate::box_count::box_sequences;
 use crate::count::shells;
 use crate::earlier::of_earlier;
-use class_kinds::Kinds;
+use key_theory::Kinds;
 use lists::NumberLists;
 use primitive_cell::Primitive;
 use quotient_graph::Classes;

@@ -15,7 +15,7 @@ use crate::marks::{mark, unmark};
 use crate::net_box::{NetBox, box_of};
 use crate::spot::Spot;
 use crate::{NoMemory, Sequences};
-use class_kinds::Kinds;
+use key_theory::Kinds;
 use primitive_cell::Primitive;
 use std::alloc::Global;
 

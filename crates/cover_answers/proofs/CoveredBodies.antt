@@ -8,7 +8,7 @@ use Rattle.net_cover.specs.Cells.{CellView, IsWritten}
 use Rattle.net_cover.specs.Faults.{IsCoverFault}
 use Rattle.net_cover.specs.declared.faults.CoverFault.{CoverFault}
 use Rattle.net_cover.specs.declared.faults.CoverFault.TheVariants.{NoMemory}
-use Rattle.cover_report.specs.Lines.{refused_text}
+use Rattle.cover_answers.specs.Lines.{refused_text}
 use Rattle.net_report.specs.declared.outcome.Size.{Size}
 use Rattle.net_report.specs.declared.outcome.OutcomeBody.{OutcomeBody}
 use Rattle.net_report.specs.declared.outcome.OutcomeBody.TheVariants.{Lines}

@@ -13,12 +13,12 @@ use Rattle.periodic_net.specs.Graph.{Graph}
 use Rattle.cgd_read.specs.Views.{BlockView, block_view, views}
 use Rattle.cgd_read.specs.declared.block.Block.{Block}
 use Rattle.net_cover.specs.Cells.{CellView}
-use Rattle.cover_report.specs.Blocks.{graph_text}
+use Rattle.cover_answers.specs.Blocks.{graph_text}
 use Rattle.net_report.specs.Reports.{IsPrintable, report_text}
 use Rattle.net_report.specs.declared.outcome.Outcome.{Outcome}
-use Rattle.statuses.specs.declared.answer.Answer.{Answer}
-use Rattle.statuses.specs.declared.status.Status.{Status}
-use Rattle.statuses.specs.declared.status.Status.TheVariants.{Done, SomeRefused}
+use Rattle.net_report.specs.declared.answer.Answer.{Answer}
+use Rattle.net_report.specs.declared.status.Status.{Status}
+use Rattle.net_report.specs.declared.status.Status.TheVariants.{Done, SomeRefused}
 use Rattle.cover_answers.specs.Covers.{AreCovered, AreCoversOf, IsCoverOf, covers_text}
 use Rattle.cover_answers.specs.Due.{IsCoveredAs}
 use Rattle.cover_answers.specs.Outcomes.{AreOutcomesFrom, IsOutcomeOf, is_covered}

@@ -9,15 +9,15 @@ use Rattle.quotient_graph.proofs.CallerLemmas.{one_in_order}
 use Rattle.net_cover.specs.Cells.{CellView}
 use Rattle.net_cover.specs.Faults.{IsCoverFault}
 use Rattle.net_cover.proofs.CallerLemmas.{cover_is_not_refused, one_cover, one_cover_fault}
-use Rattle.cover_report.specs.Blocks.{graph_text}
-use Rattle.cover_report.specs.Lines.{covered_text, refused_text}
+use Rattle.cover_answers.specs.Blocks.{graph_text}
+use Rattle.cover_answers.specs.Lines.{covered_text, refused_text}
 use Rattle.net_report.specs.Headers.{fault_text, header_text, size_text, unsupported_text}
 use Rattle.net_report.specs.Reports.{body_text, outcome_text, report_text}
 use Rattle.net_report.specs.declared.outcome.Outcome.{Outcome}
 use Rattle.net_report.specs.declared.outcome.OutcomeBody.{OutcomeBody}
 use Rattle.net_report.specs.declared.outcome.OutcomeBody.TheVariants.{Unsupported, Malformed, Lines}
 use Rattle.net_report.specs.declared.outcome.Size.{Size}
-use Rattle.statuses.specs.declared.status.Status.TheVariants.{Done, SomeRefused}
+use Rattle.net_report.specs.declared.status.Status.TheVariants.{Done, SomeRefused}
 use Rattle.cover_answers.specs.Covers.{AreCovered, AreCoversOf, IsCoverOf, IsCoverOn, IsGraphOf, covers_text}
 use Rattle.cover_answers.specs.Due.{AreReported}
 use Rattle.cover_answers.specs.Laws.{OneCovering}

@@ -7,10 +7,10 @@ use Rattle.cgd_read.specs.Graphs.{graph_of}
 use Rattle.cgd_read.specs.Views.{RawView, BodyView, Net, BlockView}
 use Rattle.quotient_graph.specs.Order.{AreRising}
 use Rattle.quotient_graph.specs.Stars.{IsInOrder}
-use Rattle.cover_theory.specs.Covers.{IsCover, HasCoverSize}
+use Rattle.net_cover.specs.Covers.{IsCover, HasCoverSize}
 use Rattle.net_cover.specs.Cells.{CellView}
 use Rattle.net_cover.specs.Faults.{IsCoverable}
-use Rattle.cover_report.specs.Blocks.{graph_text}
+use Rattle.cover_answers.specs.Blocks.{graph_text}
 
 -- G is the graph that was read: a quotient graph, with its edges in order
 pub record IsGraphOf (raw : RawView) (G : Graph) : Type 0 where

@@ -5,8 +5,8 @@ use Rattle.cgd_read.specs.Views.{BlockView}
 use Rattle.net_cover.specs.Cells.{CellView}
 use Rattle.net_report.specs.Reports.{report_text}
 use Rattle.net_report.specs.declared.outcome.Outcome.{Outcome}
-use Rattle.statuses.specs.declared.status.Status.{Status}
-use Rattle.statuses.specs.declared.status.Status.TheVariants.{Done, SomeRefused}
+use Rattle.net_report.specs.declared.status.Status.{Status}
+use Rattle.net_report.specs.declared.status.Status.TheVariants.{Done, SomeRefused}
 use Rattle.cover_answers.specs.Covers.{AreCovered}
 use Rattle.cover_answers.specs.Outcomes.{AreOutcomesFrom, is_covered}
 

@@ -2,7 +2,7 @@
 use Rattle.std.specs.Prelude.{◌≡◌, ℕ, List}
 use Rattle.cgd_read.specs.Views.{BlockView}
 use Rattle.net_cover.specs.Cells.{CellView}
-use Rattle.statuses.specs.declared.status.Status.{Status}
+use Rattle.net_report.specs.declared.status.Status.{Status}
 use Rattle.cover_answers.specs.Due.{IsCoveredAs}
 
 -- two answers that are due to one cell and one list of blocks have one status and one text

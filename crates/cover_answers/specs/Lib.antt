@@ -1,5 +1,12 @@
+pub mod Blocks
 pub mod Covers
-pub mod Outcomes
-pub mod Steps
 pub mod Due
 pub mod Laws
+pub mod Lines
+pub mod Outcomes
+pub mod Printed
+pub mod ReadBack
+pub mod RoundLaws
+pub mod Rounds
+pub mod Steps
+pub mod TextLaws

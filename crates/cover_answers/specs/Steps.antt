@@ -3,7 +3,7 @@ use Rattle.std.specs.Prelude.{◌≡◌, ℕ, true, List, ◌++◌, Option}
 use Rattle.periodic_net.specs.Graph.{Graph}
 use Rattle.cgd_read.specs.Views.{BodyView, BlockView}
 use Rattle.net_cover.specs.Cells.{CellView}
-use Rattle.cover_report.specs.Blocks.{graph_text}
+use Rattle.cover_answers.specs.Blocks.{graph_text}
 use Rattle.net_report.specs.declared.outcome.Outcome.{Outcome}
 use Rattle.net_report.specs.declared.outcome.OutcomeBody.{OutcomeBody}
 use Rattle.cover_answers.specs.Covers.{IsCoverOf}

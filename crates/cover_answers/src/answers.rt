@@ -11,8 +11,7 @@ use crate::NoMemory;
 use crate::bodies::cover_block;
 use cgd_read::Block;
 use net_cover::Cell;
-use net_report::{OutcomeBody, Outcomes, report};
-use statuses::{Answer, Status};
+use net_report::{Answer, OutcomeBody, Outcomes, Status, report};
 use std::alloc::Global;
 
 // Whether the block is covered.

@@ -7,18 +7,17 @@ ghost use Rattle.cgd_read.specs.Graphs.{IsReadGraph};
 ghost use Rattle.cgd_read.specs.Views.{Net, block_view, body_view, raw_view};
 ghost use Rattle.quotient_graph.specs.AnyGraphs.{graph_view};
 ghost use Rattle.quotient_graph.specs.Order.{AreRising};
-ghost use Rattle.cover_report.specs.Lines.{covered_text, refused_text};
+ghost use Rattle.cover_answers.specs.Lines.{covered_text, refused_text};
 ghost use Rattle.net_report.specs.Reports.{IsPrintable, IsPrintableBody};
 ghost use Rattle.cover_answers.specs.Outcomes.{size_in};
 ghost use Rattle.cover_answers.specs.Steps.{IsBlockAnswered, IsBodyAnswered};
 
-use crate::NoMemory;
-use cgd_read::{Block, Body, RawGraph, from_raw};
-use cover_report::{push_covered, push_graph, push_refused};
+use crate::{NoMemory, push_covered, push_graph, push_refused};
+use cgd_read::{Block, Body, RawGraph};
 use lists::Items;
 use net_cover::{Cell, CoverFault, cover};
 use net_report::{Outcome, OutcomeBody, Size};
-use quotient_graph::{AnyGraph, Graph};
+use quotient_graph::{AnyGraph, Graph, from_raw};
 use std::alloc::Global;
 
 fn size_of_graph<const D: usize>(graph: &Graph<D>, repeats: u32) -> Size

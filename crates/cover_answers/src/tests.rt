@@ -2,7 +2,7 @@
 use crate::cover_blocks;
 use cgd_read::blocks;
 use net_cover::Cell;
-use statuses::{Answer, Status};
+use net_report::{Answer, Status};
 use std::alloc::Global;
 use std::test::Fail;
 use vecdim::Triple;

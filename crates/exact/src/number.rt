@@ -79,10 +79,14 @@ pub trait Exact: Copy + Eq {
             × Same modulus (ratio_times (value r) (value o)) (value self))
             (IsOverFault fits modulus value self o) };
 
-    /// The inverse, of a type that all values fit; where some do not it is none.
+    /// An inverse to multiply by in place of dividing, or none. Only a type that all values fit may
+    /// have one, and writes this function itself.
     fn reciprocal(self) -> Option<Self>
         ensures inverse { IfSome result (λ r. IsInverseOf modulus (value self) (value r)) }
-        ensures fit { IfSome result (λ r. (a : Ratio) → fits a) };
+        ensures fit { IfSome result (λ r. (a : Ratio) → fits a) }
+    {
+        None
+    }
 
     fn is_zero(&self) -> bool
         ensures zero { IsTrue result ↔ Same modulus (value self.now) (whole (pos 0)) };

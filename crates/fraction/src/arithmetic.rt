@@ -72,10 +72,6 @@ impl Exact for Fraction {
         reduced(cross(self, o), cross(o, self)).ok_or(OverFault::Wide(wide(Op::Over, self, o)))
     }
 
-    fn reciprocal(self) -> Option<Fraction> {
-        None // some fractions do not fit
-    }
-
     fn is_zero(&self) -> bool {
         self.num == 0
     }

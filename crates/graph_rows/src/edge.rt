@@ -3,8 +3,8 @@ ghost use Rattle.std.specs.Prelude.{ℤ, pos, unsigned_abs, ◌≡◌, ◌≢◌
 ghost use Rattle.periodic_net.specs.Graph.{Arc};
 ghost use Rattle.periodic_net.specs.Limits.{most_shift};
 ghost use Rattle.quotient_graph.specs.Order.{AreRising};
-ghost use Rattle.quotient_graph.specs.Edges.{edge_of};
-ghost use Rattle.quotient_graph.specs.declared.edge.Edge.{Edge};
+ghost use Rattle.cgd_read.specs.Spelling.{edge_of};
+ghost use Rattle.cgd_read.specs.declared.edge.RawEdge.{RawEdge};
 ghost use Rattle.graph_rows.specs.Rows.{edge_numbers};
 ghost use Rattle.graph_rows.specs.Forms.{IsEdgeOfSize, IsNextEdge};
 ghost use Rattle.graph_rows.specs.Reading.{IsLastOf};
@@ -12,7 +12,7 @@ ghost use Rattle.graph_rows.specs.Reading.{IsLastOf};
 use crate::GraphSize;
 use crate::form::{between, comes_before, is_normal};
 use periodic_net::MOST_SHIFT;
-use quotient_graph::Edge;
+use quotient_graph::RawEdge;
 
 // The part of a shift, where it is within the limits.
 fn part(n: i128) -> Option<i32>
@@ -28,7 +28,7 @@ fn part(n: i128) -> Option<i32>
 }
 
 // The edge of these numbers, where it is one of a graph of this size.
-fn edge_with(size: &GraphSize, u: i128, v: i128, x: i128, y: i128, z: i128) -> Option<Edge>
+fn edge_with(size: &GraphSize, u: i128, v: i128, x: i128, y: i128, z: i128) -> Option<RawEdge>
     ensures u { IfSome result (λ e. u ≡ pos e.u) }
     ensures v { IfSome result (λ e. v ≡ pos e.v) }
     ensures x { IfSome result (λ e. x ≡ e.x) }
@@ -36,7 +36,7 @@ fn edge_with(size: &GraphSize, u: i128, v: i128, x: i128, y: i128, z: i128) -> O
     ensures z { IfSome result (λ e. z ≡ e.z) }
     ensures form { (size.now.dim ≡ 2 → z ≡ pos 0) →
         IfSome result (λ e. IsEdgeOfSize size.now (edge_of e)) }
-    ensures every { (e : Edge) → IsEdgeOfSize size.now (edge_of e) → u ≡ pos e.u → v ≡ pos e.v →
+    ensures every { (e : RawEdge) → IsEdgeOfSize size.now (edge_of e) → u ≡ pos e.u → v ≡ pos e.v →
         x ≡ e.x → y ≡ e.y → z ≡ e.z → result ≡ Some e }
 {
     let u = between(u, 1, size.vertices)?;
@@ -44,14 +44,14 @@ fn edge_with(size: &GraphSize, u: i128, v: i128, x: i128, y: i128, z: i128) -> O
     let x = part(x)?;
     let y = part(y)?;
     let z = part(z)?;
-    let e = Edge { u, v, x, y, z };
+    let e = RawEdge { u, v, x, y, z };
     if is_normal(&e) { Some(e) } else { None }
 }
 
-fn flat_edge(size: &GraphSize, numbers: &[i128]) -> Option<Edge>
+fn flat_edge(size: &GraphSize, numbers: &[i128]) -> Option<RawEdge>
     ensures found { IfSome result (λ e. numbers.now ≡ edge_numbers 2 (edge_of e)) }
     ensures form { IfSome result (λ e. IsEdgeOfSize size.now (edge_of e)) }
-    ensures every { (e : Edge) → IsEdgeOfSize size.now (edge_of e) → e.z ≡ pos 0 →
+    ensures every { (e : RawEdge) → IsEdgeOfSize size.now (edge_of e) → e.z ≡ pos 0 →
         numbers.now ≡ edge_numbers 2 (edge_of e) → result ≡ Some e }
 {
     let [u, v, x, y] = numbers else {
@@ -60,11 +60,11 @@ fn flat_edge(size: &GraphSize, numbers: &[i128]) -> Option<Edge>
     edge_with(size, *u, *v, *x, *y, 0)
 }
 
-fn space_edge(size: &GraphSize, numbers: &[i128]) -> Option<Edge>
+fn space_edge(size: &GraphSize, numbers: &[i128]) -> Option<RawEdge>
     requires { size.now.dim ≢ 2 }
     ensures found { IfSome result (λ e. numbers.now ≡ edge_numbers 3 (edge_of e)) }
     ensures form { IfSome result (λ e. IsEdgeOfSize size.now (edge_of e)) }
-    ensures every { (e : Edge) → IsEdgeOfSize size.now (edge_of e) →
+    ensures every { (e : RawEdge) → IsEdgeOfSize size.now (edge_of e) →
         numbers.now ≡ edge_numbers 3 (edge_of e) → result ≡ Some e }
 {
     let [u, v, x, y, z] = numbers else {
@@ -74,10 +74,10 @@ fn space_edge(size: &GraphSize, numbers: &[i128]) -> Option<Edge>
 }
 
 /// The edge that the numbers of its row say, in a graph of this size.
-pub fn edge_from(size: &GraphSize, numbers: &[i128]) -> Option<Edge>
+pub fn edge_from(size: &GraphSize, numbers: &[i128]) -> Option<RawEdge>
     ensures found { IfSome result (λ e. numbers.now ≡ edge_numbers size.now.dim (edge_of e)) }
     ensures form { IfSome result (λ e. IsEdgeOfSize size.now (edge_of e)) }
-    ensures every { (e : Edge) → IsEdgeOfSize size.now (edge_of e) →
+    ensures every { (e : RawEdge) → IsEdgeOfSize size.now (edge_of e) →
         numbers.now ≡ edge_numbers size.now.dim (edge_of e) → result ≡ Some e }
 {
     if size.dim == 2 {
@@ -88,7 +88,7 @@ pub fn edge_from(size: &GraphSize, numbers: &[i128]) -> Option<Edge>
 }
 
 // Whether an edge may stand after the last one.
-fn may_follow(last: Option<Edge>, e: &Edge) -> bool
+fn may_follow(last: Option<RawEdge>, e: &RawEdge) -> bool
     ensures above { (edges : List Arc) → IsLastOf last edges → AreRising edges → IsTrue result →
         AreRising (edges ++ edge_of e.now ∷ []) }
     ensures every { (edges : List Arc) → IsLastOf last edges →
@@ -101,11 +101,11 @@ fn may_follow(last: Option<Edge>, e: &Edge) -> bool
 }
 
 /// The edge that the numbers of its row say, where it may stand after the last one.
-pub fn edge_after(size: &GraphSize, last: Option<Edge>, numbers: &[i128]) -> Option<Edge>
+pub fn edge_after(size: &GraphSize, last: Option<RawEdge>, numbers: &[i128]) -> Option<RawEdge>
     ensures found { IfSome result (λ e. numbers.now ≡ edge_numbers size.now.dim (edge_of e)) }
     ensures form { (edges : List Arc) → IsLastOf last edges → AreRising edges →
         IfSome result (λ e. IsNextEdge size.now edges (edge_of e)) }
-    ensures every { (edges : List Arc) (e : Edge) → IsLastOf last edges →
+    ensures every { (edges : List Arc) (e : RawEdge) → IsLastOf last edges →
         IsNextEdge size.now edges (edge_of e) →
         numbers.now ≡ edge_numbers size.now.dim (edge_of e) → result ≡ Some e }
 {

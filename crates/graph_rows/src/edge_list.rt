@@ -1,7 +1,7 @@
 // Reads the edges of a graph.
 ghost use Rattle.std.specs.Prelude.{ℕ, List, ◌≡◌, length, map, IfOk, MatchResult};
 ghost use Rattle.line_text.specs.Lines.{IsAt};
-ghost use Rattle.quotient_graph.specs.Edges.{edge_of};
+ghost use Rattle.cgd_read.specs.Spelling.{edge_of};
 ghost use Rattle.quotient_graph.specs.EdgeLists.{AreEdgesOfGraph};
 ghost use Rattle.graph_rows.specs.Forms.{IsSize};
 ghost use Rattle.graph_rows.specs.Reading.{HasBadEdge, HasEdges};
@@ -9,7 +9,7 @@ ghost use Rattle.graph_rows.specs.Reading.{HasBadEdge, HasEdges};
 use crate::GraphSize;
 use crate::steps::next_edge;
 use line_text::Lines;
-use quotient_graph::Edge;
+use quotient_graph::RawEdge;
 use std::alloc::AllocError as NoMemory;
 
 /// The edges that the size says, or the number of the first line that is no next edge.
@@ -17,7 +17,7 @@ pub fn read_edges(
     lines: &mut Lines<'_>,
     size: &GraphSize,
     numbers: &mut Vec<i128>,
-) -> Result<Result<Vec<Edge>, u32>, NoMemory>
+) -> Result<Result<Vec<RawEdge>, u32>, NoMemory>
     requires { IsSize size.now }
     ensures edges { (text : List ℕ) (rows : List (List ℕ)) → IsAt text rows lines.old →
         IfOk result (λ read. MatchResult read

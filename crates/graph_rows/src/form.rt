@@ -4,7 +4,7 @@ ghost use Rattle.std.specs.Ordering.{int_cmp};
 ghost use Rattle.std.specs.Cmp.Lexicographic.{slice_cmp};
 ghost use Rattle.integers.specs.Vectors.{IsBelow, vector};
 ghost use Rattle.periodic_net.specs.Graph.{IsNormalSpelling};
-ghost use Rattle.quotient_graph.specs.Edges.{edge_of};
+ghost use Rattle.cgd_read.specs.Spelling.{edge_of};
 ghost use Rattle.quotient_graph.specs.Order.{arc_numbers};
 ghost use Rattle.graph_rows.specs.Rows.{size_numbers};
 ghost use Rattle.graph_rows.specs.Forms.{IsSize};
@@ -12,7 +12,7 @@ ghost use Rattle.graph_rows.specs.declared.size.GraphSize.{GraphSize};
 
 use crate::GraphSize;
 use periodic_net::{MOST_EDGES, MOST_VERTICES};
-use quotient_graph::{Edge, is_normal_spelling};
+use quotient_graph::{RawEdge, is_normal_spelling};
 use std::cmp::Ordering;
 use vecdim::Triple;
 
@@ -62,7 +62,7 @@ pub fn size_of(numbers: &[i128]) -> Option<GraphSize>
 }
 
 // The shift of an edge, as a vector of whole numbers.
-fn shift_of(e: &Edge) -> Triple
+fn shift_of(e: &RawEdge) -> Triple
     ensures { result ≡ vector e.now.x e.now.y e.now.z }
 {
     Triple {
@@ -73,14 +73,14 @@ fn shift_of(e: &Edge) -> Triple
 }
 
 /// Whether the edge is in normal spelling.
-pub fn is_normal(e: &Edge) -> bool
+pub fn is_normal(e: &RawEdge) -> bool
     ensures { IsTrue result ↔ IsNormalSpelling (edge_of e.now) }
 {
     is_normal_spelling(e.u, e.v, &shift_of(e))
 }
 
 // Which of two edges stands first.
-fn order(e: &Edge, f: &Edge) -> Ordering
+fn order(e: &RawEdge, f: &RawEdge) -> Ordering
     ensures { result ≡
         slice_cmp int_cmp (arc_numbers (edge_of e.now)) (arc_numbers (edge_of f.now)) }
 {
@@ -89,7 +89,7 @@ fn order(e: &Edge, f: &Edge) -> Ordering
 }
 
 /// Whether the edge stands before another one.
-pub fn comes_before(e: &Edge, f: &Edge) -> bool
+pub fn comes_before(e: &RawEdge, f: &RawEdge) -> bool
     ensures { IsTrue result ↔ IsBelow (arc_numbers (edge_of e.now)) (arc_numbers (edge_of f.now)) }
 {
     order(e, f) == Ordering::Less

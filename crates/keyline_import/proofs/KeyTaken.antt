@@ -9,7 +9,7 @@ use Rattle.std.proofs.lemmas.Int.{ints}
 use Rattle.std.proofs.lemmas.List.{length-append}
 use Rattle.std.proofs.lemmas.List.Elements.{All-head, All-tail}
 use Rattle.periodic_net.specs.Limits.{most_vertices, most_edges, most_shift}
-use Rattle.quotient_graph.specs.Edges.{IsSmallPart}
+use Rattle.cgd_read.specs.Spelling.{IsSmallPart}
 use Rattle.keyline_import.specs.Rows.{Row, row, IsRow, KeyView, no_rows, with_row, is_vertex, is_part, is_row, is_repeat, row_edge, may_follow}
 use Rattle.keyline_import.specs.Keys.{flat_rows, space_rows, if_some_row, key_of_numbers}
 use Rattle.keyline_import.specs.KeyLines.{numbers_of_row, made_of, IsKeyOfNumbers}

@@ -4,7 +4,7 @@ use Rattle.std.proofs.lemmas.Bool.{and_parts}
 use Rattle.std.proofs.lemmas.Int.{ints}
 use Rattle.std.specs.Int.Signed.{le_z}
 use Rattle.periodic_net.specs.Limits.{most_vertices, most_shift}
-use Rattle.quotient_graph.specs.Edges.{IsSmallPart}
+use Rattle.cgd_read.specs.Spelling.{IsSmallPart}
 use Rattle.keyline_import.specs.Rows.{Row, IsRow, is_row, is_part, is_vertex, is_self_edge}
 
 vertex : (n : ℤ) → is_vertex n ≡ true → (pos 1 ≤ℤ n) × (n ≤ℤ pos most_vertices)

@@ -4,14 +4,12 @@ use Rattle.std.proofs.lemmas.Int.{ints}
 use Rattle.std.specs.Int.RustNames.{unsigned_abs}
 use Rattle.periodic_net.specs.Graph.{IsNormalSpelling}
 use Rattle.periodic_net.specs.Limits.{most_shift}
-use Rattle.quotient_graph.specs.Edges.{spelled, is_forward, normal}
-use Rattle.quotient_graph.specs.Edges.{edge_of}
-use Rattle.quotient_graph.specs.Edges.{IsSmallPart}
-use Rattle.quotient_graph.specs.declared.edge.Edge.{Edge}
-use Rattle.quotient_graph.proofs.CallerLemmas.{normal_spelled, IsZero}
+use Rattle.cgd_read.specs.Spelling.{spelled, is_forward, normal, edge_of, IsSmallPart}
+use Rattle.cgd_read.specs.declared.edge.RawEdge.{RawEdge}
+use Rattle.cgd_read.proofs.CallerLemmas.{normal_spelled, IsZero}
 
 -- an edge of a graph of dimension dim with n vertices, within the limits
-pub record IsWellEdge (n dim : ℕ) (e : Edge) : Type 0 where
+pub record IsWellEdge (n dim : ℕ) (e : RawEdge) : Type 0 where
   pub first : (1 ≤ e.u) × (e.u ≤ n)
   pub second : (1 ≤ e.v) × (e.v ≤ n)
   pub flat : dim ≡ 2 → e.z ≡ pos 0
@@ -20,7 +18,7 @@ pub record IsWellEdge (n dim : ℕ) (e : Edge) : Type 0 where
   pub y : unsigned_abs e.y ≤ most_shift
   pub z : unsigned_abs e.z ≤ most_shift
 
-pub wider : (m n dim : ℕ) → m ≤ n → (e : Edge) → IsWellEdge m dim e → IsWellEdge n dim e
+pub wider : (m n dim : ℕ) → m ≤ n → (e : RawEdge) → IsWellEdge m dim e → IsWellEdge n dim e
 wider m n dim l e w = record {
   first = (w.first.0, omega (arith, w.first.1, l));
   second = (w.second.0, omega (arith, w.second.1, l));

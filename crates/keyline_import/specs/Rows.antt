@@ -4,10 +4,9 @@ use Rattle.std.specs.List.{list_any}
 use Rattle.std.specs.Ordering.{int_eq}
 use Rattle.std.specs.Int.Signed.{le_z}
 use Rattle.periodic_net.specs.Limits.{most_vertices, most_edges, most_shift}
-use Rattle.quotient_graph.specs.Edges.{IsSmallPart}
-use Rattle.quotient_graph.specs.Edges.{normal}
+use Rattle.cgd_read.specs.Spelling.{IsSmallPart, normal}
 use Rattle.cgd_read.specs.Edges.{same_edge, with_new}
-use Rattle.quotient_graph.specs.declared.edge.Edge.{Edge}
+use Rattle.cgd_read.specs.declared.edge.RawEdge.{RawEdge}
 
 -- five numbers: two vertices, and the parts of a shift; in the plane the third part is 0
 pub record Row : Type 0 where
@@ -47,14 +46,14 @@ pub record IsRow (r : Row) : Type 0 where
   pub joins : is_self_edge r ≡ false
 
 -- the edge of a row, in its normal spelling
-abbrev pub row_edge : Row → Edge
+abbrev pub row_edge : Row → RawEdge
 row_edge r = normal (unsigned_abs r.u) (unsigned_abs r.v) r.x r.y r.z
 
 -- what rows make: as many vertices as the greatest one named, and the different edges in order of appearance
 pub record KeyView : Type 0 where
   pub dim : ℕ
   pub vertices : ℕ
-  pub edges : List Edge
+  pub edges : List RawEdge
   pub repeats : ℕ
 
 -- no row yet

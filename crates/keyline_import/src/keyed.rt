@@ -14,9 +14,9 @@ ghost use Rattle.keyline_import.specs.Views.{key_view, row_of};
 use crate::NoMemory;
 use crate::values::number_of;
 use cgd_lex::{Lexer, next_on_line};
+use cgd_read::{RawEdge, normal_edge};
 use indexmap::IndexSet;
 use periodic_net::{MOST_EDGES, MOST_SHIFT, MOST_VERTICES};
-use quotient_graph::{Edge, normal_edge};
 use std::alloc::Global;
 
 /// What the rows of a key line make: its edges once each, in order of appearance.
@@ -27,7 +27,7 @@ pub struct KeyRows {
     pub vertices: u32,
     /// The number of rows that repeat an edge of an earlier one.
     pub repeats: u32,
-    pub edges: IndexSet<Edge>,
+    pub edges: IndexSet<RawEdge>,
 }
 
 /// A row as it is read: two vertices and a shift.
@@ -71,7 +71,7 @@ impl RowNumbers {
 }
 
 // Adds an edge, and answers whether it is new.
-fn add_edge(edges: &mut IndexSet<Edge>, edge: Edge) -> Result<bool, NoMemory>
+fn add_edge(edges: &mut IndexSet<RawEdge>, edge: RawEdge) -> Result<bool, NoMemory>
     ensures edges { OnOk result (edges.new.keys ≡ with_new same_edge edges.old.keys edge) }
     ensures added { IfOk result (λ new. new ≡ not (list_any (same_edge edge) edges.old.keys)) }
 {
@@ -82,7 +82,7 @@ fn add_edge(edges: &mut IndexSet<Edge>, edge: Edge) -> Result<bool, NoMemory>
 }
 
 // The edge of a row.
-fn row_edge(row: RowNumbers) -> Edge
+fn row_edge(row: RowNumbers) -> RawEdge
     requires { IsRow (row_of row) }
     ensures { result ≡ row_edge (row_of row) }
 {
@@ -92,7 +92,7 @@ fn row_edge(row: RowNumbers) -> Edge
 }
 
 // Adds the edge of a row, and answers whether it is new.
-fn add_row_edge(edges: &mut IndexSet<Edge>, row: RowNumbers) -> Result<bool, NoMemory>
+fn add_row_edge(edges: &mut IndexSet<RawEdge>, row: RowNumbers) -> Result<bool, NoMemory>
     requires { IsRow (row_of row) }
     ensures edges { OnOk result (
         edges.new.keys ≡ with_new same_edge edges.old.keys (row_edge (row_of row))) }

@@ -5,8 +5,8 @@ ghost use Rattle.std.specs.Prelude.{◌≤◌, length};
 mod frames;
 
 use crate::keys::keys_of;
-use cgd_read::{Body, blocks, from_raw};
-use quotient_graph::AnyGraph;
+use cgd_read::{Body, blocks};
+use quotient_graph::{AnyGraph, from_raw};
 use std::alloc::Global;
 use std::test::Fail;
 

@@ -45,11 +45,6 @@ same_numbers m small (y ∷ ys) (z ∷ zs) wy wz e =
 pub same_row_numbers : (word : List ℕ) (ys zs : List ℤ) → All IsWide ys → All IsWide zs → row_text word ys ≡ row_text word zs → ys ≡ zs
 same_row_numbers word ys zs wy wz e = same_numbers 32 (omega arith) ys zs wy wz (append_cancel_left word (numbers_text ys) (numbers_text zs) e)
 
--- no row has a line feed
-abbrev pub HaveNone : List (List ℕ) → Type 0
-HaveNone [] = Unit {0}
-HaveNone (row ∷ rows) = HasNo 10 row × HaveNone rows
-
 pub record Splits (as' bs : List (List ℕ)) (rest : List ℕ) : Type 0 where
   pub others : List (List ℕ)
   pub is : as' ≡ bs ++ others
@@ -60,11 +55,3 @@ same_row a b x y na nb e = (
   sym (before_is 10 a (10 ∷ x) na refl) ∙ ap (before 10) e ∙ before_is 10 b (10 ∷ y) nb refl,
   ap (drop 1) (sym (onwards_is 10 a (10 ∷ x) na refl) ∙ ap (onwards 10) e ∙ onwards_is 10 b (10 ∷ y) nb refl),
 )
-
-pub splits : (as' bs : List (List ℕ)) (rest : List ℕ) → HaveNone as' → HaveNone bs → rows_text as' ≡ rows_text bs ++ rest → Splits as' bs rest
-splits as' [] rest na nb e = record { others = as'; is = refl; left = sym e }
-splits [] (b ∷ bs) rest na nb e = let long = ap length e in let two = length-append b (10 ∷ (rows_text bs ++ rest)) in let three = ap length (append_assoc b (10 ∷ rows_text bs) rest) in absurd (omega (arith, long, two, three))
-splits (a ∷ as') (b ∷ bs) rest na nb e =
-    let same = same_row a b (rows_text as') (rows_text bs ++ rest) na.0 nb.0 (e ∙ append_assoc b (10 ∷ rows_text bs) rest) in
-    let more = splits as' bs rest na.1 nb.1 same.1 in
-    record { others = more.others; is = ap (λ r. r ∷ as') same.0 ∙ ap (λ l. b ∷ l) more.is; left = more.left }

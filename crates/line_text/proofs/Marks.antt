@@ -54,14 +54,6 @@ onwards_is m [] [] none begins = refl
 onwards_is m [] (b ∷ r) none begins = ap (λ t. cond t (b ∷ r) (onwards m r)) (eq-eqb b m begins)
 onwards_is m (b ∷ f) r none begins = ap (λ t. cond t (b ∷ (f ++ r)) (onwards m (f ++ r))) none.0 ∙ onwards_is m f r none.1 begins
 
-pub has_none : (m : ℕ) (bs : List ℕ) → HasNo m (before m bs)
-has_none m [] = tt
-has_none m (b ∷ bs) = by (b == m) refl (has_none m bs)
-  where
-    by : (t : Bool) → (b == m) ≡ t → HasNo m (before m bs) → HasNo m (cond t [] (b ∷ before m bs))
-    by true e rest = tt
-    by false e rest = (e, rest)
-
 pub begins : (m : ℕ) (bs : List ℕ) → BeginsWith m (onwards m bs)
 begins m [] = tt
 begins m (b ∷ bs) = by (b == m) refl (begins m bs)

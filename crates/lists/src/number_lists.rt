@@ -100,11 +100,11 @@ impl<T: Numbers + Copy> NumberLists<T> {
 
 impl<'a> NumberLists<&'a [u8]> {
     /// The text at a place, counted from 0.
-    pub fn at(&self, i: usize) -> &'a [u8]
+    pub fn at(&self, i: usize) -> &&'a [u8]
         requires { i < length self.now }
-        ensures { slice_get self.now i ≡ Some result.now }
+        ensures { slice_get self.now i ≡ Some result.now.now }
     {
-        self.items[i]
+        &self.items[i]
     }
 }
 

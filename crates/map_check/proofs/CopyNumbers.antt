@@ -10,10 +10,11 @@ use Rattle.integers.specs.Bases.{Base, base_sum}
 use Rattle.integers.specs.Vectors.{Vector, zero_vector, plus, minus}
 use Rattle.integers.proofs.vectors.Laws.{minus_dimension, minus_plus}
 use Rattle.periodic_net.specs.Graph.{Vertex, vertex}
-use Rattle.hermite.specs.Stairs.{Stairs, HasStairShape, size_of}
+use Rattle.vecdim.specs.Stairs.{Stairs, HasStairShape, size_of}
 use Rattle.sublattice.specs.Sublattices.{HasMembersOf, IsCombination}
-use Rattle.map_theory.specs.Numbers.{IsImageNumber}
-use Rattle.map_theory.proofs.CallerLemmas.{alike_image, image_below, same_image, sum_of_difference}
+use Rattle.map_check.specs.Numbers.{IsImageNumber}
+use Rattle.map_check.proofs.ImageNumbers.{alike_image, image_below, same_image}
+use Rattle.map_check.proofs.Onto.{sum_of_difference}
 use Rattle.map_check.specs.Conditions.{IsImage}
 use Rattle.map_check.specs.Images.{image_at, AreNumbersOf, IsCopy, AreNoCopies, IsFirstCopy}
 use Rattle.map_check.specs.Repeats.{AreApartBefore, IsFirstRepeat}

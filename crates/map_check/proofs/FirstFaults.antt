@@ -10,9 +10,10 @@ use Rattle.integers.proofs.vectors.Laws.{vector_equal, minus_dimension}
 use Rattle.periodic_net.specs.Graph.{Graph, Vertex, vertex, moved, arcs_from, arc}
 use Rattle.periodic_net.specs.Maps.{PeriodicMap}
 use Rattle.sublattice.specs.Sublattices.{base_of}
-use Rattle.map_theory.specs.Layouts.{box_size, place_of, table_for, vertex_at}
-use Rattle.map_theory.specs.Tables.{HasNoDouble, DegreesAgree, ArcsAreKept, IsMovedImage, IsBoxVertex}
-use Rattle.map_theory.proofs.CallerLemmas.{box_is_power, earlier_of_place, place_below, place_of_earlier, place_of_vertex, vertex_again, vertex_in_box}
+use Rattle.map_check.specs.Layouts.{box_size, place_of, table_for, vertex_at}
+use Rattle.map_check.specs.Tables.{HasNoDouble, DegreesAgree, ArcsAreKept, IsMovedImage, IsBoxVertex}
+use Rattle.map_check.proofs.Layouts.{box_is_power, place_below, place_of_vertex, vertex_again, vertex_in_box}
+use Rattle.map_check.proofs.PlaceOrder.{earlier_of_place, place_of_earlier}
 use Rattle.map_check.specs.Conditions.{SuitsGraphs}
 use Rattle.map_check.specs.Faults.{IsFirstInBox, IsDoubled, HasOtherDegree, IsFirstLost, LosesArc, KeepsArcs}
 use Rattle.map_check.specs.Images.{image_at, IsCopy, AreNoCopies, IsFirstCopy}

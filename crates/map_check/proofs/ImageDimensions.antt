@@ -5,7 +5,7 @@ use Rattle.integers.specs.Vectors.{Vector, zero_vector, HasDimension}
 use Rattle.integers.proofs.vectors.Laws.{plus_dimension}
 use Rattle.periodic_net.specs.Graph.{Graph, IsGraph, IsQuotientVertex, Vertex, vertex}
 use Rattle.sublattice.specs.Sublattices.{base_of}
-use Rattle.map_theory.specs.Layouts.{place_of, table_of}
+use Rattle.map_check.specs.Layouts.{place_of, table_of}
 use Rattle.map_check.specs.Conditions.{SuitsGraphs}
 use Rattle.map_check.specs.Images.{image_at, IsImageOf}
 use Rattle.map_check.proofs.Splits.{place_inside}

@@ -7,8 +7,8 @@ use Rattle.integers.proofs.vectors.Laws.{vector_equal}
 use Rattle.periodic_net.specs.Graph.{Vertex, vertex, moved}
 use Rattle.periodic_net.specs.Maps.{IsInBox}
 use Rattle.sublattice.specs.Sublattices.{base_of}
-use Rattle.map_theory.specs.Layouts.{box_size, cell_place, place_of, table_of}
-use Rattle.map_theory.proofs.CallerLemmas.{cell_below, side_of_vector}
+use Rattle.map_check.specs.Layouts.{box_size, cell_place, place_of, table_of}
+use Rattle.map_check.proofs.Layouts.{cell_below, side_of_vector}
 use Rattle.map_check.specs.Images.{HasImages, IsImageOf, IsSplit}
 
 -- three divisions

@@ -3,9 +3,9 @@ use Rattle.std.proofs.Common.{◌≡◌, ◌⊎◌, ℕ, ◌*◌, ◌^◌, ◌<�
 use Rattle.std.specs.List.{All}
 use Rattle.integers.specs.Vectors.{Vector}
 use Rattle.periodic_net.specs.Graph.{Graph, IsQuotientVertex, Vertex}
-use Rattle.map_theory.specs.Layouts.{box_size, vertex_at}
-use Rattle.map_theory.specs.Tables.{IsBoxVertex}
-use Rattle.map_theory.proofs.CallerLemmas.{box_is_power, vertex_in_box}
+use Rattle.map_check.specs.Layouts.{box_size, vertex_at}
+use Rattle.map_check.specs.Tables.{IsBoxVertex}
+use Rattle.map_check.proofs.Layouts.{box_is_power, vertex_in_box}
 use Rattle.map_check.specs.Conditions.{HasCounts, IsImage, IsShift, SuitsGraphs}
 use Rattle.map_check.specs.Images.{HasImages, IsSmallTable}
 

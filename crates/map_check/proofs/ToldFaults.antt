@@ -4,9 +4,9 @@ use Rattle.std.proofs.lemmas.Int.{ints}
 use Rattle.integers.specs.Vectors.{Vector, zero_vector}
 use Rattle.periodic_net.specs.Graph.{Graph, IsGraph, Arc, Vertex, vertex, arc}
 use Rattle.sublattice.specs.Sublattices.{base_of, index_of}
-use Rattle.map_theory.specs.Layouts.{table_for, vertex_at}
-use Rattle.map_theory.specs.Laws.{Passes}
-use Rattle.map_theory.specs.Tables.{CountsAgree, HasNoDouble, DegreesAgree}
+use Rattle.map_check.specs.Layouts.{table_for, vertex_at}
+use Rattle.map_check.specs.Laws.{Passes}
+use Rattle.map_check.specs.Tables.{CountsAgree, HasNoDouble, DegreesAgree}
 use Rattle.map_check.specs.Conditions.{SuitsGraphs}
 use Rattle.map_check.specs.Faults.{IsFirstInBox, IsDoubled, HasOtherDegree, IsFirstLost, PassesBefore, double_at, degree_at, lost_at}
 use Rattle.map_check.specs.Images.{AreNoCopies, IsFirstCopy}

@@ -10,19 +10,19 @@ use Rattle.integers.proofs.numbers.Ring.{ring, linear}
 use Rattle.periodic_net.specs.Graph.{Graph, IsGraph, Vertex, vertex}
 use Rattle.periodic_net.specs.Maps.{PeriodicMap, IsDrawnBy, IsMapTable, Iso}
 use Rattle.periodic_net.proofs.CallerLemmas.{drawn, drawn_by_table}
-use Rattle.map_theory.specs.Laws.{IsMapOf, IsIsomorphic, Passes}
+use Rattle.map_check.specs.Laws.{IsMapOf, IsIsomorphic, Passes}
 use Rattle.sublattice.specs.Sublattices.{base_of}
-use Rattle.map_theory.specs.Layouts.{place_of, table_for, ComesBefore}
-use Rattle.map_theory.proofs.CallerLemmas.{tables_give_iso}
+use Rattle.map_check.specs.Layouts.{place_of, table_for, ComesBefore}
+use Rattle.map_check.proofs.Theorems.{tables_give_iso}
 use Rattle.map_check.specs.Conditions.{IsShift, SuitsGraphs}
 use Rattle.map_check.specs.Faults.{IsVerdict, HasFault}
 use Rattle.map_check.specs.Verified.{IsTold, IsVerified}
 use Rattle.map_check.specs.declared.verdict.MapFault.{MapFault}
-use Rattle.map_check.specs.declared.verdict.MapFault.TheVariants.{Dimension, Count, Doubled, Degree}
-use Rattle.map_check.specs.declared.verdict.MapFault.TheVariants.{Arc as LostArc}
+use Rattle.map_check.specs.declared.verdict.MapFault.TheVariants.{Dimension, Count, Doubled, Degree, Arc as LostArc}
 use Rattle.map_check.specs.declared.verdict.Verdict.{Verdict}
 use Rattle.map_check.specs.declared.verdict.Verdict.TheVariants.{Yes, No}
 use Rattle.map_check.proofs.FirstFaults.{inside_list}
+use Rattle.map_check.proofs.SameDimension.{same_dimension}
 
 -- a row of the list, or 0 past its end, is flat
 row_flat : (d : ℕ) (rows : List Vector) (i : ℕ) → All (IsShift d) rows → HasDimension d (slice_index_or rows i zero_vector)
@@ -82,11 +82,13 @@ module _ (G H : Graph) (m : ℕ) (images : List Vertex) (rows : List Vector) (g 
 
   -- Yes exactly where the map is an isomorphism
   yes_exactly : (v : Verdict) (f : Vertex → Vertex) → IsDrawnBy G (table_for G m images rows) f → IsVerdict G H (table_for G m images rows) f v
-      → (v ≡ Yes) ↔ ((G.dimension ≡ H.dimension) × IsIsomorphic G H (table_for G m images rows) f)
-  yes_exactly Yes f t s = (λ e. (s.0, (tables_give_iso.exactly G H (table_for G m images rows) f (map_of f s.0 t)).0 s.1), λ p. refl)
+      → (v ≡ Yes) ↔ IsIsomorphic G H (table_for G m images rows) f
+  yes_exactly Yes f t s = (λ e. (tables_give_iso.exactly G H (table_for G m images rows) f (map_of f s.0 t)).0 s.1, λ p. refl)
   yes_exactly (No fault) f t s = (
     λ e. absurd (let n = ap number_of e in omega (arith, n)),
-    λ p. absurd (no_fault G H (table_for G m images rows) f fault p.0 ((tables_give_iso.exactly G H (table_for G m images rows) f (map_of f p.0 t)).1 p.1) s.1),
+    λ p.
+        let same = same_dimension G H f m (base_of rows) g k p.period p.bijection in
+        absurd (no_fault G H (table_for G m images rows) f fault same ((tables_give_iso.exactly G H (table_for G m images rows) f (map_of f same t)).1 p) s.1),
   )
 
   -- then the nets are isomorphic

@@ -5,12 +5,11 @@ use Rattle.periodic_net.specs.Graph.{Graph, Arc, arc, arcs_from, IsArc, AreJoine
 use Rattle.periodic_net.specs.Maps.{PeriodicMap}
 use Rattle.quotient_graph.specs.Order.{arc_numbers}
 use Rattle.sublattice.specs.Sublattices.{index_of}
-use Rattle.map_theory.specs.Tables.{CountsAgree, HasNoDouble, DegreesAgree, IsMovedImage, IsBoxVertex}
-use Rattle.map_theory.specs.Laws.{Passes}
-use Rattle.map_theory.specs.Layouts.{ComesBefore}
+use Rattle.map_check.specs.Tables.{CountsAgree, HasNoDouble, DegreesAgree, IsMovedImage, IsBoxVertex}
+use Rattle.map_check.specs.Laws.{Passes}
+use Rattle.map_check.specs.Layouts.{ComesBefore}
 use Rattle.map_check.specs.declared.verdict.MapFault.{MapFault}
-use Rattle.map_check.specs.declared.verdict.MapFault.TheVariants.{Dimension, Count, Doubled, Degree}
-use Rattle.map_check.specs.declared.verdict.MapFault.TheVariants.{Arc as LostArc}
+use Rattle.map_check.specs.declared.verdict.MapFault.TheVariants.{Dimension, Count, Doubled, Degree, Arc as LostArc}
 use Rattle.map_check.specs.declared.verdict.Verdict.{Verdict}
 use Rattle.map_check.specs.declared.verdict.Verdict.TheVariants.{Yes, No}
 

@@ -4,9 +4,9 @@ use Rattle.integers.specs.Bases.{Base, base_sum}
 use Rattle.integers.specs.Vectors.{Vector, zero_vector, plus, times, HasDimension, IsWithin}
 use Rattle.periodic_net.specs.Graph.{Vertex, vertex, moved}
 use Rattle.periodic_net.specs.Maps.{PeriodicMap, IsInBox}
-use Rattle.hermite.specs.Stairs.{Stairs}
-use Rattle.map_theory.specs.Layouts.{box_size}
-use Rattle.map_theory.specs.Numbers.{IsImageNumber}
+use Rattle.vecdim.specs.Stairs.{Stairs}
+use Rattle.map_check.specs.Layouts.{box_size}
+use Rattle.map_check.specs.Numbers.{IsImageNumber}
 use Rattle.map_check.specs.Conditions.{most_period, most_images, most_part, IsShift}
 
 -- the image at place i

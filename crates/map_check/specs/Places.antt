@@ -1,7 +1,7 @@
 -- Places in the list of images.
 use Rattle.std.specs.Prelude.{◌≡◌, ◌≢◌, ℕ, ◌<◌, List, length}
 use Rattle.periodic_net.specs.Graph.{Graph, Arc, Vertex, arcs_from}
-use Rattle.map_theory.specs.Layouts.{vertex_at}
+use Rattle.map_check.specs.Layouts.{vertex_at}
 use Rattle.map_check.specs.Faults.{KeepsArcs, IsFirstLostArc}
 use Rattle.map_check.specs.Images.{image_at}
 

@@ -3,8 +3,8 @@ use Rattle.std.specs.Prelude.{◌≡◌, ◌↔◌, ℕ, List}
 use Rattle.integers.specs.Vectors.{Vector}
 use Rattle.periodic_net.specs.Graph.{Graph, Vertex}
 use Rattle.periodic_net.specs.Maps.{IsDrawnBy, Iso}
-use Rattle.map_theory.specs.Laws.{IsIsomorphic}
-use Rattle.map_theory.specs.Layouts.{table_for}
+use Rattle.map_check.specs.Laws.{IsIsomorphic}
+use Rattle.map_check.specs.Layouts.{table_for}
 use Rattle.map_check.specs.Faults.{IsVerdict}
 use Rattle.map_check.specs.declared.verdict.Verdict.{Verdict}
 use Rattle.map_check.specs.declared.verdict.Verdict.TheVariants.{Yes}
@@ -20,5 +20,5 @@ IsTold G H m images rows verdict =
 pub record IsVerified (G H : Graph) (m : ℕ) (images : List Vertex) (rows : List Vector) (verdict : Verdict) : Type 0 where
   pub told : IsTold G H m images rows verdict
   pub exactly : (f : Vertex → Vertex) → IsDrawnBy G (table_for G m images rows) f
-      → (verdict ≡ Yes) ↔ ((G.dimension ≡ H.dimension) × IsIsomorphic G H (table_for G m images rows) f)
+      → (verdict ≡ Yes) ↔ IsIsomorphic G H (table_for G m images rows) f
   pub iso : verdict ≡ Yes → Iso G H

@@ -3,7 +3,7 @@ ghost use Rattle.std.specs.Prelude.{◌≡◌, ◌⊎◌, ◌≤◌, ◌<◌, �
 ghost use Rattle.periodic_net.specs.Graph.{vertex};
 ghost use Rattle.periodic_net.specs.Limits.{most_vertices};
 ghost use Rattle.periodic_net.specs.Maps.{IsInBox};
-ghost use Rattle.map_theory.specs.Layouts.{last_side, box_size, cell_place, place_of, cell_at, vertex_at};
+ghost use Rattle.map_check.specs.Layouts.{last_side, box_size, cell_place, place_of, cell_at, vertex_at};
 ghost use Rattle.map_check.specs.Conditions.{most_images, most_period};
 
 use crate::naturals::natural;

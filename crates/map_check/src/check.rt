@@ -3,8 +3,8 @@ ghost use Rattle.std.specs.Prelude.{◌≡◌, ◌≢◌, ◌≤◌, ◌*◌, �
 ghost use Rattle.periodic_net.specs.Limits.{most_vertices};
 ghost use Rattle.quotient_graph.specs.AnyGraphs.{graph_view};
 ghost use Rattle.sublattice.specs.Sublattices.{base_of, index_of};
-ghost use Rattle.map_theory.specs.Layouts.{table_for};
-ghost use Rattle.map_theory.specs.Tables.{CountsAgree, DegreesAgree, HasNoDouble};
+ghost use Rattle.map_check.specs.Layouts.{table_for};
+ghost use Rattle.map_check.specs.Tables.{CountsAgree, DegreesAgree, HasNoDouble};
 ghost use Rattle.map_check.specs.Conditions.{SuitsGraphs};
 ghost use Rattle.map_check.specs.Faults.{degree_at, double_at, lost_at};
 ghost use Rattle.map_check.specs.Verified.{IsTold, IsVerified};

@@ -3,7 +3,7 @@ ghost use Rattle.std.specs.Prelude.{◌≡◌, ◌⊎◌, ◌↔◌, ◌≤◌, 
 ghost use Rattle.integers.specs.Vectors.{HasDimension};
 ghost use Rattle.periodic_net.specs.Limits.{most_vertices};
 ghost use Rattle.quotient_graph.specs.AnyGraphs.{graph_view};
-ghost use Rattle.map_theory.specs.Layouts.{box_size};
+ghost use Rattle.map_check.specs.Layouts.{box_size};
 ghost use Rattle.map_check.specs.Conditions.{most_images, most_period, HasCounts, IsImage, IsShift, SuitsGraphs};
 
 use crate::boxes::box_size;

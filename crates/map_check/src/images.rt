@@ -5,7 +5,7 @@ ghost use Rattle.integers.specs.Vectors.{zero_vector, plus, times, HasDimension,
 ghost use Rattle.periodic_net.specs.Graph.{moved};
 ghost use Rattle.periodic_net.specs.Limits.{most_vertices};
 ghost use Rattle.sublattice.specs.Sublattices.{base_of};
-ghost use Rattle.map_theory.specs.Layouts.{table_of};
+ghost use Rattle.map_check.specs.Layouts.{table_of};
 ghost use Rattle.map_check.specs.Conditions.{most_part, most_period, IsShift};
 ghost use Rattle.map_check.specs.Images.{image_at, HasImages, IsImageOf, IsSmallTable, IsSplit};
 

@@ -16,12 +16,31 @@ mod repeats;
 mod shifts;
 mod verdict;
 
+ghost use Rattle.map_check.specs.Laws.{TablesOfBijections, TablesThatJoin, TablesGiveIso};
+
 pub use boxes::{NetVertex, box_size, vertex_at};
 pub use check::verify;
 pub use conditions::{MOST_IMAGES, MOST_PART, MOST_PERIOD, fits};
 pub use map::{BaseRows, Image, Images, PeriodicMap};
 pub use quotient_graph::NoMemory;
 pub use verdict::{MapFault, Verdict};
+
+/// The map of a table is a bijection exactly where the counts agree and no image is another, moved
+/// by the shifts.
+pub fn tables_of_bijections()
+    ensures theorem { TablesOfBijections }
+{}
+
+/// A bijection joins images exactly where vertices are joined exactly where degrees agree and arcs
+/// are kept.
+pub fn tables_that_join()
+    ensures theorem { TablesThatJoin }
+{}
+
+/// A table passes exactly where its map is an isomorphism.
+pub fn tables_give_iso()
+    ensures theorem { TablesGiveIso }
+{}
 
 #[cfg(test)]
 mod tests;

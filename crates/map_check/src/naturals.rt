@@ -1,7 +1,7 @@
 // Whole numbers as natural numbers, and small ones divided.
 ghost use Rattle.std.specs.Prelude.{◌≡◌, ◌≤◌, ◌^◌, ◌≤ℤ◌, ◌<ℤ◌, ◌+ℤ◌, ◌*ℤ◌, pos, unsigned_abs};
 
-use hermite::Division;
+use vecdim::Division;
 
 /// A number from 0 on.
 pub fn natural(z: i128) -> usize

@@ -1,16 +1,16 @@
 // The numbers of images up to the lattice of the shifts.
 ghost use Rattle.std.specs.Prelude.{◌≡◌, ◌≤◌, All, IfOk, length};
 ghost use Rattle.periodic_net.specs.Limits.{most_vertices};
-ghost use Rattle.hermite.specs.Stairs.{size_of};
-ghost use Rattle.map_theory.specs.Numbers.{IsImageNumber};
+ghost use Rattle.vecdim.specs.Stairs.{size_of};
+ghost use Rattle.map_check.specs.Numbers.{IsImageNumber};
 ghost use Rattle.map_check.specs.Conditions.{most_images, IsImage};
 ghost use Rattle.map_check.specs.Images.{AreNumbersOf};
 
 use crate::Image;
-use hermite::Staircase;
 use quotient_graph::NoMemory;
 use std::alloc::Global;
 use sublattice::remainder_number;
+use vecdim::Staircase;
 
 // The number of an image.
 fn image_number<const D: usize>(lattice: &Staircase<D>, size: usize, image: &Image) -> usize

@@ -3,7 +3,7 @@ use Rattle.std.proofs.Common.{◌≡◌, ℕ, ◌+◌, ◌<◌, ◌≤◌, List,
 use Rattle.std.proofs.lemmas.List.{append-nil, take_more, take_all, take-append-drop, drop_more, length-take-le}
 use Rattle.cgd_read.specs.Views.{BlockView}
 use Rattle.least_key.specs.KeyedNets.{KeyedNet}
-use Rattle.net_entries.specs.Entries.{EntryView}
+use Rattle.archive_text.specs.Entries.{EntryView}
 use Rattle.net_archive.specs.Adding.{IsEntryOf, IsAddFault}
 use Rattle.net_archive.specs.Archives.{ArchiveView, IsArchive, with_entry}
 use Rattle.net_archive.specs.declared.faults.AddFault.{AddFault}

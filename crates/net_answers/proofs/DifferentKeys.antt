@@ -13,10 +13,6 @@ use Rattle.net_answers.specs.Summaries.{AreDifferentKeys}
 abbrev IsTold : List Outcome → List ℤ → Type 0
 IsTold os xs = (o : Outcome) × Contains os o × (key_told o.body ≡ Some xs)
 
--- of no block no key is reported
-pub keys_none : AreDifferentKeys [] []
-keys_none = record { exact = λ xs. (λ h. absurd (omega (arith, h.1)), λ h. absurd (omega (arith, h.1.1))); once = λ i j d l m. absurd (omega (arith, m)) }
-
 -- the key that is reported of one more block is put in
 put_told : (os : List Outcome) (o : Outcome) (keys keys' : List (List ℤ)) (key : List ℤ) → AreDifferentKeys os keys → key_told o.body ≡ Some key → IsPutIn keys key keys' → AreDifferentKeys (os ++ o ∷ []) keys'
 put_told os o keys keys' key h is p = record { exact = λ xs. (λ c. there xs ((p.exact xs).0 c), λ w. back xs w (Contains-push_cases os o w.0 w.1)); once = p.once h.once }

@@ -4,16 +4,16 @@ use Rattle.cgd_read.specs.Blocks.{blocks_of, most_blocks}
 use Rattle.cgd_read.specs.Views.{BlockView}
 use Rattle.command_words.specs.Tasks.{Task, Check, Place, Key, Identify, Components, Add, Duplicates, Migrate, Union, Same, Verify, Workload, Cover}
 use Rattle.net_archive.specs.Archives.{ArchiveView}
-use Rattle.archive_report.specs.ArchiveBytes.{IsBadArchive}
-use Rattle.archive_report.proofs.CallerLemmas.{not_bad}
+use Rattle.union_answers.specs.ArchiveBytes.{IsBadArchive}
+use Rattle.union_answers.proofs.CallerLemmas.{not_bad}
 use Rattle.net_answers.specs.Bytes.{HasFewBlocks}
 use Rattle.net_answers.specs.Due.{HasTooMany, IsDueFor, IsDueToBlocks, IsDueWith, bytes_of}
 use Rattle.net_answers.specs.Endings.{IsComplete, IsOfUniting}
 use Rattle.net_answers.specs.Laws.{FewEndings}
-use Rattle.map_answers.specs.Due.{IsDueToVerify}
+use Rattle.same_answers.specs.DueToVerify.{IsDueToVerify}
 use Rattle.union_answers.specs.Unions.{IsUnionAs, begins_archive}
-use Rattle.statuses.specs.declared.status.Status.{Status}
-use Rattle.statuses.specs.declared.status.Status.TheVariants.{Done, SomeRefused, ReadFault, WriteFault, BadArchive, NoMemory, TooManyBlocks, AddRefused, MigrateRefused, BadMap}
+use Rattle.net_report.specs.declared.status.Status.{Status}
+use Rattle.net_report.specs.declared.status.Status.TheVariants.{Done, SomeRefused, ReadFault, WriteFault, BadArchive, NoMemory, TooManyBlocks, AddRefused, MigrateRefused, BadMap}
 
 -- what is due to a task of blocks ends it so
 ends_so : (task : Task) (blocks : List BlockView) (a : ArchiveView) (status : Status) (text : List ℕ) → IsDueFor task blocks a status text → IsComplete (Some task) status
@@ -78,6 +78,7 @@ few_and_many bytes many few = absurd (omega (arith, many, few))
 many_ends : (task : Task) (bytes : List ℕ) → HasFewBlocks task bytes → HasTooMany task bytes → IsOfUniting (Some task)
 many_ends (Verify file) bytes few many = absurd many
 many_ends (Union file archive) bytes few many = tt
+many_ends (Workload count) bytes few many = absurd many
 many_ends task bytes few many = absurd (few_and_many bytes many few)
 
 -- within the limits, and beside an archive, a task ends so

@@ -9,8 +9,8 @@ use Rattle.periodic_net.specs.Graph.{Graph}
 use Rattle.least_key.specs.AnyNets.{net_view}
 use Rattle.least_key.specs.KeyedNets.{KeyedNet}
 use Rattle.least_key.specs.declared.net.Net.{Net as NetInCode}
-use Rattle.net_entries.specs.Entries.{EntryView}
-use Rattle.net_commands.specs.declared.command.Command.TheVariants.{Key}
+use Rattle.archive_text.specs.Entries.{EntryView}
+use Rattle.net_report.specs.declared.command.Command.TheVariants.{Key}
 use Rattle.net_outcomes.specs.Outcomes.{Outcome, OutcomeBody, Unsupported, Malformed, Refused, Keyed, AreOutcomesFrom, IsBodyOf, is_accepted, is_accepted_body, net_told}
 use Rattle.net_answers.specs.Due.{AreAccepted, IsNetOf}
 

@@ -6,6 +6,7 @@ pub mod Endings
 mod KeyedBlocks
 mod Turns
 mod KeyLists
+mod MadeBlocks
 mod DifferentKeys
 pub mod Headlines
 mod OneAddition

@@ -9,13 +9,13 @@ use Rattle.quotient_graph.proofs.CallerLemmas.{one_in_order}
 use Rattle.least_key.specs.KeyedNets.{KeyedNet}
 use Rattle.least_key.specs.Laws.{TellAlike}
 use Rattle.least_key.proofs.CallerLemmas.{one_net}
-use Rattle.net_entries.specs.Entries.{EntryView}
+use Rattle.archive_text.specs.Entries.{EntryView}
 use Rattle.net_archive.specs.Adding.{IsAddFault}
 use Rattle.net_archive.specs.Archives.{ArchiveView}
 use Rattle.net_archive.specs.declared.faults.AddFault.{AddFault}
 use Rattle.net_archive.specs.declared.faults.AddFault.TheVariants as add
 use Rattle.net_archive.proofs.CallerLemmas.{added_no_fault, one_add_fault, one_entry}
-use Rattle.net_commands.specs.declared.command.Command.TheVariants.{Key}
+use Rattle.net_report.specs.declared.command.Command.TheVariants.{Key}
 use Rattle.net_outcomes.specs.Outcomes.{Outcome, OutcomeBody, Unsupported, Malformed, Refused, Checked, Located, Keyed, Identified, Lines, FaultyItem, AreOutcomesFrom, IsBodyOf, is_accepted, is_accepted_body}
 use Rattle.net_outcomes.specs.Reports.{IsReport}
 use Rattle.net_outcomes.proofs.CallerLemmas.{keyed_not_refused}

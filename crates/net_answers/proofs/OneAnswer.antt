@@ -2,26 +2,24 @@
 use Rattle.std.proofs.Common.{◌≡◌, ℕ, ◌<◌, ◌≤◌, Bool, true, false, List, [], length, Option, true≢false, refl, sym, ap, subst, ◌∙◌, arith}
 use Rattle.cgd_read.specs.Views.{BlockView}
 use Rattle.cgd_read.specs.Blocks.{blocks_of, most_blocks}
-use Rattle.net_entries.specs.Entries.{EntryView}
+use Rattle.archive_text.specs.Entries.{EntryView}
 use Rattle.net_archive.specs.Archives.{ArchiveView, archive_text}
 use Rattle.net_archive.specs.Migrating.{newest}
-use Rattle.archive_report.specs.ArchiveTexts.{add_fault_text, groups_text}
+use Rattle.union_answers.specs.ArchiveTexts.{add_fault_text, groups_text}
 use Rattle.command_words.specs.Tasks.{Task, Check, Place, Key, Identify, Components, Add, Duplicates, Migrate, Union, Same, Verify, Workload, Cover}
-use Rattle.net_commands.specs.declared.command.Command.{Command}
-use Rattle.net_commands.specs.declared.command.Command.TheVariants as asks
+use Rattle.net_report.specs.declared.command.Command.{Command}
+use Rattle.net_report.specs.declared.command.Command.TheVariants as asks
 use Rattle.net_outcomes.proofs.CallerLemmas.{all_alike, one_report, one_telling}
-use Rattle.archive_report.specs.ArchiveBytes.{IsArchiveIn, IsBadArchive, most_bytes}
+use Rattle.union_answers.specs.ArchiveBytes.{IsArchiveIn, IsBadArchive, most_bytes}
 use Rattle.net_answers.specs.Due.{AreGroupsAs, HasTooMany, IsAddedAs, IsAddedOrRefused, IsDueFor, IsDueOn, IsDueToBlocks, IsDueWith, IsMigratedAs, IsNotAddedAs, IsReportAs, bytes_of}
 use Rattle.net_answers.specs.Laws.{OneDueAnswer}
 use Rattle.net_answers.specs.Summaries.{IsSummary, IsSummaryAs, summary_text}
-use Rattle.statuses.specs.declared.status.Status.{Status}
-use Rattle.statuses.specs.declared.status.Status.TheVariants.{Done, SomeRefused, BadArchive, TooManyBlocks, AddRefused, MigrateRefused}
+use Rattle.net_report.specs.declared.status.Status.{Status}
+use Rattle.net_report.specs.declared.status.Status.TheVariants.{Done, SomeRefused, BadArchive, TooManyBlocks, AddRefused, MigrateRefused}
 use Rattle.net_answers.proofs.OneAddition.{accepted_or_reported, all_or_one, entries_accepted, one_longer, one_not_added}
-use Rattle.archive_report.proofs.CallerLemmas.{not_bad, one_archive_in, one_bad}
+use Rattle.union_answers.proofs.CallerLemmas.{not_bad, one_archive_in, one_bad, many_items, one_union_due}
 use Rattle.cover_answers.proofs.CallerLemmas.{one_covering}
-use Rattle.map_answers.proofs.CallerLemmas.{one_verification}
-use Rattle.same_answers.proofs.CallerLemmas.{one_sameness}
-use Rattle.union_answers.proofs.CallerLemmas.{many_items, one_union_due}
+use Rattle.same_answers.proofs.CallerLemmas.{one_verification, one_sameness}
 use Rattle.net_answers.proofs.OneSummary.{as_many_accepted, as_many_keys, one_list_of_groups}
 
 -- one status and one text
@@ -158,6 +156,7 @@ many_or_few task bytes archive s x m h = let few = few_blocks task bytes archive
 not_many : (task : Task) (bytes : List ℕ) (archive : Option (List ℕ)) (s : Status) (x : List ℕ) → HasTooMany task bytes → ¬ IsDueWith task bytes archive s x
 not_many (Union file name) bytes archive s x m h = many_items bytes archive s x m h
 not_many (Verify file) bytes archive s x m h = absurd m
+not_many (Workload count) bytes archive s x m h = absurd m
 not_many task bytes archive s x m h = many_or_few task bytes archive s x m h
 
 -- an answer where there are too many blocks or items, or not

@@ -5,8 +5,8 @@ use Rattle.integers.proofs.lists.Counting.{not_longer}
 use Rattle.integers.proofs.lists.Members.{IsIn, apart_from_pairs, contains_from_in, is_in}
 use Rattle.integers.proofs.lists.Permutations.{rising_from_pairs, same_rising}
 use Rattle.integers.proofs.lists.Pieces.{in_map, map_in}
-use Rattle.net_entries.specs.Entries.{EntryView}
-use Rattle.net_entries.specs.Groups.{AreGroups, first_of}
+use Rattle.archive_text.specs.Entries.{EntryView}
+use Rattle.archive_text.specs.Groups.{AreGroups, first_of}
 use Rattle.net_outcomes.specs.Deciding.{key_told}
 use Rattle.net_outcomes.specs.Outcomes.{Outcome, is_accepted}
 use Rattle.net_answers.specs.Summaries.{AreDifferentKeys}

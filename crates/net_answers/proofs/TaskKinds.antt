@@ -1,9 +1,11 @@
 -- What is due to a task of blocks.
-use Rattle.std.proofs.Common.{ℕ, ◌<◌, List, length, Option}
+use Rattle.std.proofs.Common.{ℕ, ◌<◌, ◌≤◌, List, length, Option, arith}
 use Rattle.cgd_read.specs.Blocks.{blocks_of, most_blocks}
-use Rattle.command_words.specs.Tasks.{Task, Union, Verify}
-use Rattle.net_answers.specs.Due.{HasTooMany, IsDueToBlocks, IsDueWith, IsOfBlocks}
-use Rattle.statuses.specs.declared.status.Status.{Status}
+use Rattle.command_words.specs.Tasks.{Task, Union, Verify, Workload, MakesFew}
+use Rattle.net_answers.specs.Due.{HasTooMany, IsDueToBlocks, IsDueWith, IsOfBlocks, bytes_of}
+use Rattle.net_report.specs.declared.status.Status.{Status}
+use Rattle.workload.specs.Workload.{most_nets, workload}
+use Rattle.net_answers.proofs.MadeBlocks.{made_blocks}
 
 -- what is due to the blocks is due
 pub due_to_blocks : (task : Task) (bytes : List ℕ) (archive : Option (List ℕ)) (s : Status) (text : List ℕ) → IsOfBlocks task → IsDueToBlocks task bytes archive s text → IsDueWith task bytes archive s text
@@ -11,8 +13,13 @@ due_to_blocks (Union file name) bytes archive s text o h = absurd o
 due_to_blocks (Verify file) bytes archive s text o h = absurd o
 due_to_blocks task bytes archive s text o h = h
 
+-- a workload has few blocks
+pub few_made : (count : ℕ) → count ≤ most_nets → ¬ (most_blocks < length (blocks_of (workload count)))
+few_made count few many = let made = made_blocks count few in absurd (omega (arith, made, few, many))
+
 -- where there are too many blocks, there is too much
-pub many_blocks : (task : Task) (bytes : List ℕ) → IsOfBlocks task → most_blocks < length (blocks_of bytes) → HasTooMany task bytes
-many_blocks (Union file name) bytes o h = absurd o
-many_blocks (Verify file) bytes o h = absurd o
-many_blocks task bytes o h = h
+pub many_blocks : (task : Task) (file : List ℕ) → IsOfBlocks task → MakesFew task → most_blocks < length (blocks_of (bytes_of task file)) → HasTooMany task (bytes_of task file)
+many_blocks (Union file_name name) file o few h = absurd o
+many_blocks (Verify name) file o few h = absurd o
+many_blocks (Workload count) file o few h = few_made count few h
+many_blocks task file o few h = h

@@ -6,10 +6,10 @@ use Rattle.command_words.specs.Tasks.{Task, Check, Place, Key, Identify, Compone
 use Rattle.net_archive.specs.Archives.{ArchiveView}
 use Rattle.net_answers.specs.Due.{IsDueFor, IsDueToBlocks}
 use Rattle.net_answers.specs.Endings.{GoesWithText}
-use Rattle.map_answers.specs.Due.{IsDueToVerify}
+use Rattle.same_answers.specs.DueToVerify.{IsDueToVerify}
 use Rattle.union_answers.specs.Unions.{IsUnionAs, IsUnionDue, begins_archive}
-use Rattle.statuses.specs.declared.status.Status.{Status}
-use Rattle.statuses.specs.declared.status.Status.TheVariants.{Done, SomeRefused, Usage, BadArchive, AddRefused, MigrateRefused, BadMap}
+use Rattle.net_report.specs.declared.status.Status.{Status}
+use Rattle.net_report.specs.declared.status.Status.TheVariants.{Done, SomeRefused, Usage, BadArchive, AddRefused, MigrateRefused, BadMap}
 
 -- to blocks
 text_so : (task : Task) (blocks : List BlockView) (a : ArchiveView) (status : Status) (text : List ℕ) → IsDueFor task blocks a status text → GoesWithText status

@@ -7,8 +7,8 @@ use Rattle.cgd_read.specs.Views.{BlockView, block_view, views}
 use Rattle.cgd_read.specs.declared.block.Block.{Block}
 use Rattle.least_key.specs.AnyNets.{net_view}
 use Rattle.least_key.specs.declared.net.Net.{Net}
-use Rattle.net_entries.specs.Entries.{EntryView}
-use Rattle.net_commands.specs.declared.command.Command.TheVariants.{Key}
+use Rattle.archive_text.specs.Entries.{EntryView}
+use Rattle.net_report.specs.declared.command.Command.TheVariants.{Key}
 use Rattle.net_outcomes.specs.Outcomes.{Outcome, AreOutcomesFrom, is_accepted, net_told}
 use Rattle.net_answers.specs.Due.{IsNetOf}
 use Rattle.net_answers.proofs.KeyedBlocks.{IsToldNet, told_at}

@@ -5,28 +5,28 @@ use Rattle.cgd_read.specs.Views.{RawView, Net, BlockView}
 use Rattle.cgd_read.specs.Blocks.{blocks_of, most_blocks}
 use Rattle.quotient_graph.specs.Stars.{IsInOrder}
 use Rattle.least_key.specs.KeyedNets.{KeyedNet, IsKeyed}
-use Rattle.net_entries.specs.Entries.{EntryView}
-use Rattle.net_entries.specs.Groups.{AreGroups}
+use Rattle.archive_text.specs.Entries.{EntryView}
+use Rattle.archive_text.specs.Groups.{AreGroups}
 use Rattle.net_archive.specs.Adding.{IsEntryOf, IsAddFault}
 use Rattle.net_archive.specs.Archives.{ArchiveView, IsArchive, archive_text}
 use Rattle.net_archive.specs.Deciding.{AreIsoGroups}
 use Rattle.net_archive.specs.Migrating.{newest, IsMigrated}
 use Rattle.net_archive.specs.declared.faults.AddFault.{AddFault}
 use Rattle.net_archive.specs.declared.faults.AddFault.TheVariants as add
-use Rattle.archive_report.specs.ArchiveTexts.{add_fault_text, migrate_fault_text, groups_text}
+use Rattle.union_answers.specs.ArchiveTexts.{add_fault_text, migrate_fault_text, groups_text}
 use Rattle.command_words.specs.Tasks.{Task, Check, Place, Key, Identify, Components, Add, Duplicates, Migrate, Union, Same, Verify, Workload, Cover}
-use Rattle.net_commands.specs.declared.command.Command.{Command}
-use Rattle.net_commands.specs.declared.command.Command.TheVariants as asks
+use Rattle.net_report.specs.declared.command.Command.{Command}
+use Rattle.net_report.specs.declared.command.Command.TheVariants as asks
 use Rattle.workload.specs.Workload.{workload}
 use Rattle.net_outcomes.specs.Reports.{IsReport}
-use Rattle.archive_report.specs.ArchiveBytes.{IsArchiveIn, IsBadArchive, most_bytes}
+use Rattle.union_answers.specs.ArchiveBytes.{IsArchiveIn, IsBadArchive, most_bytes}
 use Rattle.net_answers.specs.Summaries.{IsSummaryAs}
-use Rattle.map_answers.specs.Due.{IsDueToVerify}
+use Rattle.same_answers.specs.DueToVerify.{IsDueToVerify}
 use Rattle.cover_answers.specs.Due.{IsCoveredAs}
 use Rattle.same_answers.specs.Due.{IsSameAs}
 use Rattle.union_answers.specs.Unions.{HasManyItems, IsUnionDue}
-use Rattle.statuses.specs.declared.status.Status.{Status}
-use Rattle.statuses.specs.declared.status.Status.TheVariants as status
+use Rattle.net_report.specs.declared.status.Status.{Status}
+use Rattle.net_report.specs.declared.status.Status.TheVariants as status
 
 -- the bytes whose blocks it is about: those of the file, or those that it makes
 abbrev pub bytes_of : Task → List ℕ → List ℕ
@@ -169,10 +169,11 @@ IsDueWith (Union file name) bytes archive s text = IsUnionDue bytes archive s te
 IsDueWith (Verify file) bytes archive s text = IsDueToVerify bytes s text
 IsDueWith task bytes archive s text = IsDueToBlocks task bytes archive s text
 
--- more blocks, or items, begin in the bytes than may; of maps there may be any number
+-- more blocks, or items, begin in the bytes than may; of maps there may be any number, and a workload is made with few blocks
 abbrev pub HasTooMany : Task → List ℕ → Type 0
 HasTooMany (Union file name) bytes = HasManyItems bytes
 HasTooMany (Verify file) bytes = ⊥
+HasTooMany (Workload count) bytes = ⊥
 HasTooMany task bytes = most_blocks < length (blocks_of bytes)
 
 -- this task, of these bytes of its file and of its archive, where it names them, has this answer

@@ -2,15 +2,15 @@
 use Rattle.std.specs.Prelude.{◌≡◌, ℕ, List, Option, if◌then◌else◌}
 use Rattle.std.specs.List.{list_all}
 use Rattle.cgd_read.specs.Blocks.{blocks_of}
-use Rattle.net_commands.specs.declared.command.Command.TheVariants.{Identify}
+use Rattle.net_report.specs.declared.command.Command.TheVariants.{Identify}
 use Rattle.net_archive.specs.Archives.{ArchiveView}
 use Rattle.net_outcomes.specs.Outcomes.{Outcome, AreOutcomesFrom, is_accepted}
 use Rattle.net_outcomes.specs.Reports.{report_text}
 use Rattle.net_archive.specs.Deciding.{KeysDecideArchive}
 use Rattle.net_outcomes.specs.Deciding.{KeysDecideBlocks, KeysDecideEntries, CertainAreAccepted}
-use Rattle.archive_report.specs.ArchiveBytes.{IsArchiveIn}
-use Rattle.statuses.specs.declared.status.Status.{Status}
-use Rattle.statuses.specs.declared.status.Status.TheVariants.{Done, SomeRefused}
+use Rattle.union_answers.specs.ArchiveBytes.{IsArchiveIn}
+use Rattle.net_report.specs.declared.status.Status.{Status}
+use Rattle.net_report.specs.declared.status.Status.TheVariants.{Done, SomeRefused}
 
 -- Of these bytes of a file, beside those of an archive, `identify` writes this text and ends so:
 --

@@ -1,7 +1,7 @@
-pub mod KeyLists
-pub mod Summaries
-pub mod Due
 pub mod Bytes
+pub mod Due
 pub mod Endings
 pub mod Headline
+pub mod KeyLists
 pub mod Laws
+pub mod Summaries

@@ -3,10 +3,10 @@ use Rattle.std.specs.Prelude.{◌≡◌, ◌≢◌, ◌↔◌, ℕ, ℤ, Bool, t
 use Rattle.std.specs.List.{list_all}
 use Rattle.cgd_read.specs.Views.{BlockView}
 use Rattle.line_text.specs.Numbers.{field_text}
-use Rattle.net_commands.specs.declared.command.Command.TheVariants.{Key}
+use Rattle.net_report.specs.declared.command.Command.TheVariants.{Key}
 use Rattle.net_outcomes.specs.Deciding.{AreOutcomes, key_told}
-use Rattle.statuses.specs.declared.status.Status.{Status}
-use Rattle.statuses.specs.declared.status.Status.TheVariants as status
+use Rattle.net_report.specs.declared.status.Status.{Status}
+use Rattle.net_report.specs.declared.status.Status.TheVariants as status
 use Rattle.net_outcomes.specs.Outcomes.{Outcome, is_accepted}
 
 -- a count after its word, on a line of its own

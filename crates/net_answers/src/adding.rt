@@ -4,21 +4,20 @@ ghost use Rattle.std.specs.List.{list_all};
 ghost use Rattle.cgd_read.specs.Blocks.{IsReadBody, most_blocks};
 ghost use Rattle.cgd_read.specs.Views.{block_view, views};
 ghost use Rattle.least_key.specs.AnyNets.{net_view};
-ghost use Rattle.net_entries.specs.Entries.{EntryView};
+ghost use Rattle.archive_text.specs.Entries.{EntryView};
 ghost use Rattle.net_archive.specs.Adding.{IsAddFault, IsEntryOf};
 ghost use Rattle.net_archive.specs.Archives.{IsArchive, with_entry};
-ghost use Rattle.archive_report.specs.ArchiveTexts.{add_fault_text};
+ghost use Rattle.union_answers.specs.ArchiveTexts.{add_fault_text};
 ghost use Rattle.net_outcomes.specs.Outcomes.{AreOutcomesFrom, is_accepted, net_told};
 ghost use Rattle.net_answers.specs.Due.{IsAdded, IsAddedOrRefused, IsNotAdded, name_to_add};
 
-use archive_report::add_fault_text;
 use cgd_read::Block;
 use least_key::Net;
 use net_archive::{AddFault, Archive};
-use net_commands::Command;
 use net_outcomes::{Outcome, OutcomeBody, are_accepted, outcomes_of, report};
-use statuses::{Answer, Status};
+use net_report::{Answer, Command, Status};
 use std::alloc::{AllocError as NoMemory, Global};
+use union_answers::add_fault_text;
 
 // The block with this number, counted from 1, cannot be added.
 #[derive(Clone, Copy, Debug)]

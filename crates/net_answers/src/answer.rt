@@ -4,7 +4,7 @@ ghost use Rattle.cgd_read.specs.Blocks.{IsReadBody, blocks_of, most_blocks};
 ghost use Rattle.cgd_read.specs.Views.{views};
 ghost use Rattle.command_words.specs.Tasks.{MakesFew};
 ghost use Rattle.command_words.specs.Views.{task_view};
-ghost use Rattle.archive_report.specs.ArchiveBytes.{AreFew};
+ghost use Rattle.union_answers.specs.ArchiveBytes.{AreFew};
 ghost use Rattle.net_answers.specs.Bytes.{bytes_in, most_bytes};
 ghost use Rattle.net_answers.specs.Due.{HasTooMany, IsDueFor, IsDueToBlocks, IsDueWith, IsOfBlocks, bytes_of};
 ghost use Rattle.net_answers.specs.Endings.{GoesWithText};
@@ -13,17 +13,14 @@ use crate::adding::add_blocks;
 use crate::entries::{groups_of, migration_of};
 use crate::reports::report_on;
 use crate::workloads::summary_of;
-use archive_report::archive_in;
 use cgd_read::{Block, blocks};
 use command_words::Task;
 use cover_answers::cover_blocks;
-use map_answers::verify_answer;
 use net_archive::Archive;
-use net_commands::Command;
-use same_answers::same_blocks;
-use statuses::{Answer, Silence, Status};
+use net_report::{Answer, Command, Silence, Status};
+use same_answers::{same_blocks, verify_answer};
 use std::alloc::{AllocError as NoMemory, Global};
-use union_answers::union_of;
+use union_answers::{archive_in, union_of};
 use workload::workload_text;
 
 // The answer to a task, of the blocks of its file and of its archive.
@@ -81,7 +78,7 @@ fn answer_on(
 }
 
 /// What is due to a task, of the bytes of its file and of its archive, where it names them.
-#[tactic(auto, using(crate::proofs::TaskKinds::due_to_blocks, crate::proofs::TaskKinds::many_blocks, crate::proofs::TextEndings::text_of_blocks, crate::proofs::TextEndings::text_of_union, crate::proofs::TextEndings::text_of_verify))]
+#[tactic(auto, using(crate::proofs::TaskKinds::due_to_blocks, crate::proofs::TaskKinds::few_made, crate::proofs::TaskKinds::many_blocks, crate::proofs::TextEndings::text_of_blocks, crate::proofs::TextEndings::text_of_union, crate::proofs::TextEndings::text_of_verify))]
 pub fn answer_to(
     alloc: Global,
     task: &Task<'_>,
@@ -96,7 +93,7 @@ pub fn answer_to(
         (bytes_of (task_view task.now) file.now) (bytes_in archive) a.status a.text.items) }
     // Its status is one that goes with a text.
     ensures told { IfOk result (λ a. GoesWithText a.status) }
-    // TooManyBlocks comes only where there are more blocks, or items, than may be.
+    // TooManyBlocks comes only where there are more blocks, or items, than may be, and never of a workload.
     ensures many { IsErrOf result Silence.TooManyBlocks →
         HasTooMany (task_view task.now) (bytes_of (task_view task.now) file.now) }
 {

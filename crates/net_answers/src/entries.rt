@@ -2,10 +2,10 @@
 ghost use Rattle.std.specs.Prelude.{IfOk};
 ghost use Rattle.net_answers.specs.Due.{AreGroupsAs, IsMigratedAs};
 
-use archive_report::{groups_text, migrate_fault_text};
 use net_archive::{Archive, MigrateFault};
-use statuses::{Answer, Status};
+use net_report::{Answer, Status};
 use std::alloc::{AllocError as NoMemory, Global};
+use union_answers::{groups_text, migrate_fault_text};
 
 /// The groups of entries whose nets are isomorphic.
 pub fn groups_of(alloc: Global, archive: &Archive) -> Result<Answer, NoMemory>

@@ -1,5 +1,5 @@
 // What holds of answers. Each function carries a theorem.
-ghost use Rattle.net_answers.specs.Laws.{FewEndings, OneDueAnswer};
+ghost use Rattle.net_answers.specs.Laws.{BlocksOfWorkload, FewEndings, OneDueAnswer};
 
 /// Two answers that are due to a task, of the same bytes of its file and of its archive, have one
 /// status and one text.
@@ -11,4 +11,9 @@ pub fn one_due_answer()
 /// answer is due ends in few ways.
 pub fn few_endings()
     ensures theorem { FewEndings }
+{}
+
+/// A workload has one block for each of its nets.
+pub fn blocks_of_workload()
+    ensures theorem { BlocksOfWorkload }
 {}

@@ -9,7 +9,7 @@ mod reports;
 mod workloads;
 
 pub use answer::answer_to;
-pub use laws::{few_endings, one_due_answer};
+pub use laws::{blocks_of_workload, few_endings, one_due_answer};
 pub use net_archive::MOST_BYTES;
 
 #[cfg(test)]

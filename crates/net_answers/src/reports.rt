@@ -6,9 +6,8 @@ ghost use Rattle.net_answers.specs.Due.{IsReportAs};
 
 use cgd_read::Block;
 use net_archive::Archive;
-use net_commands::Command;
 use net_outcomes::tell_blocks;
-use statuses::{Answer, ending_of};
+use net_report::{Answer, Command, ending_of};
 use std::alloc::{AllocError as NoMemory, Global};
 
 /// What a command reports on each block, beside an archive.

@@ -11,9 +11,8 @@ use cgd_read::Block;
 use indexmap::IndexSet;
 use line_text::push_field;
 use net_archive::Archive;
-use net_commands::Command;
 use net_outcomes::{Outcome, OutcomeBody, are_accepted, is_accepted, outcomes_of};
-use statuses::{Answer, ending_of};
+use net_report::{Answer, Command, ending_of};
 use std::alloc::{AllocError as NoMemory, Global};
 
 // A count after its word, on a line of its own.

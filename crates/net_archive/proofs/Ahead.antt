@@ -5,7 +5,7 @@ use Rattle.std.specs.List.{flat_map}
 use Rattle.std.proofs.lemmas.List.{append-nil, length-append}
 use Rattle.line_text.specs.Lines.{IsAt, Place, rows_text}
 use Rattle.line_text.proofs.CallerLemmas.{same_row}
-use Rattle.net_entries.specs.Entries.{EntryView}
+use Rattle.archive_text.specs.Entries.{EntryView}
 use Rattle.periodic_net.specs.Graph.{Arc}
 use Rattle.archive_text.specs.Rows.{Row, first_row, OfName, OfSize, OfEdge, OfKey, OfCount, OfShells, OfEnd, row_line, row_lines}
 use Rattle.archive_text.specs.Parts.{Part, Start, Named, Drawn, Keyed, Counted, part_rows, shells_rows, IsFormed, MayStandAfter}

@@ -4,8 +4,8 @@ use mathlib.Core.List.{append_assoc}
 use Rattle.std.proofs.Math.Seq.{take-suc}
 use Rattle.line_text.specs.Lines.{rows_text}
 use Rattle.line_text.proofs.CallerLemmas.{rows_text_of_sum}
-use Rattle.net_entries.specs.Entries.{EntryView, entry_view, entry_views}
-use Rattle.net_entries.specs.declared.entry.Entry.{Entry}
+use Rattle.archive_text.specs.Entries.{EntryView, entry_view, entry_views}
+use Rattle.archive_text.specs.declared.entry.Entry.{Entry}
 use Rattle.archive_text.specs.Rows.{first_row, row_lines}
 use Rattle.archive_text.specs.Texts.{entry_rows, entry_lines, text_of}
 use Rattle.archive_text.specs.declared.version.Version.{Version}

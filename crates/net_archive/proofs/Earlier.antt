@@ -6,9 +6,9 @@ use Rattle.std.proofs.lemmas.List.{length-append, length-map, append-nil}
 use Rattle.std.proofs.lemmas.List.Elements.{All-contains, Contains-append_left, Contains-append_right, Contains-push}
 use Rattle.line_text.specs.Lines.{Place}
 use Rattle.line_text.proofs.CallerLemmas.{same_row}
-use Rattle.quotient_graph.specs.Edges.{edge_of}
-use Rattle.net_entries.specs.Entries.{EntryView}
-use Rattle.net_entries.specs.Lookups.{names_of}
+use Rattle.cgd_read.specs.Spelling.{edge_of}
+use Rattle.archive_text.specs.Entries.{EntryView}
+use Rattle.archive_text.specs.Lookups.{names_of}
 use Rattle.line_text.specs.Names.{is_name}
 use Rattle.archive_text.specs.Rows.{Row, OfName, OfSize, OfEdge, OfKey, OfCount, OfShells, OfEnd, row_line, name_row, end_row}
 use Rattle.archive_text.specs.Parts.{Part, Start, Named, Drawn, Keyed, Counted, part_rows, IsFormed, MayStandAfter}

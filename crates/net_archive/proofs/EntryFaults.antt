@@ -6,7 +6,7 @@ use Rattle.std.proofs.lemmas.List.{length-append}
 use Rattle.line_text.specs.Lines.{rows_text}
 use Rattle.line_text.specs.Names.{is_name}
 use Rattle.least_key.specs.KeyedNets.{KeyedNet}
-use Rattle.net_entries.specs.Entries.{EntryView}
+use Rattle.archive_text.specs.Entries.{EntryView}
 use Rattle.archive_text.specs.Texts.{entry_lines, most_bytes, text_of}
 use Rattle.archive_text.specs.declared.version.Version.{Version}
 use Rattle.net_archive.specs.Adding.{IsAddFault, IsEntryFault, IsEntryOf, IsFull, IsTaken}

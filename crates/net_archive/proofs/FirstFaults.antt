@@ -4,8 +4,8 @@ use Rattle.std.specs.List.{Contains}
 use Rattle.std.proofs.lemmas.Bool.{true≢false, cases_lt}
 use Rattle.std.proofs.lemmas.List.{append-nil}
 use Rattle.line_text.specs.Lines.{Place, IsAt}
-use Rattle.net_entries.specs.Entries.{EntryView}
-use Rattle.net_entries.specs.Lookups.{names_of}
+use Rattle.archive_text.specs.Entries.{EntryView}
+use Rattle.archive_text.specs.Lookups.{names_of}
 use Rattle.line_text.specs.Names.{is_name}
 use Rattle.archive_text.specs.Rows.{OfName, name_row, row_lines, end_row}
 use Rattle.archive_text.specs.Parts.{Part, Start, Named, Drawn, Keyed, Counted, part_rows, NoneFollows}
@@ -24,26 +24,13 @@ use Rattle.net_archive.specs.Archives.{most_entries}
 pub at_start : (v : Version) (text : List ℕ) (es : List EntryView) (place : Place) → IsAt text (rows_before v es) place → IsAt text (rows_before v es ++ row_lines (part_rows Start)) place
 at_start v text es place at = subst (λ l. IsAt text l place) (sym (append-nil (rows_before v es))) at
 
-no_name_follows : (v : Version) (left : List ℕ) → NoName left → NoneFollows v Start left
-no_name_follows v left none (OfName name) rest may e = none name rest may e
-no_name_follows v left none row rest may e = may
-
 -- a fault before the name of an entry
 fault_at_start : (v : Version) (text : List ℕ) (es : List EntryView) (place : Place) (fault : ArchiveFault) → AreEntries es → IsAt text (rows_before v es) place → FaultAt v es Start place fault → HasFault v text fault
 fault_at_start v text es place fault good at cause = record { entries = es; part = Start; place = place; good = good; formed = tt; begun = tt; at = at_start v text es place at; cause = cause }
 
-pub bad_name : (v : Version) (text : List ℕ) (es : List EntryView) (place : Place) (n : ℕ) → AreEntries es → IsAt text (rows_before v es) place → n ≡ place.number → place.rest ≢ [] → NoName place.rest → HasFault v text (BadLine n)
-bad_name v text es place n good at number left none =
-    fault_at_start v text es place (BadLine n) good at (record { number = number; no_end = left; none = no_name_follows v place.rest none })
-
 pub too_many : (v : Version) (text : List ℕ) (es : List EntryView) (place : Place) (name rest : List ℕ) → AreEntries es → IsAt text (rows_before v es) place → most_entries ≤ length es → is_name name ≡ true → place.rest ≡ name_row name ++ 10 ∷ rest → HasFault v text TooManyEntries
 too_many v text es place name rest good at many is stands =
     fault_at_start v text es place TooManyEntries good at (refl, record { all_entries = let few = good.few in omega (arith, many, few); name = name; is_name = is; begins = (rest, stands) })
-
-pub repeated : (v : Version) (text : List ℕ) (es : List EntryView) (place : Place) (name rest : List ℕ) (n : ℕ) → AreEntries es → IsAt text (rows_before v es) place → n ≡ place.number → length es < most_entries → Contains (names_of es) name → is_name name ≡ true
-    → place.rest ≡ name_row name ++ 10 ∷ rest → HasFault v text (RepeatedName n)
-repeated v text es place name rest n good at number few among is stands =
-    fault_at_start v text es place (RepeatedName n) good at (refl, record { number = number; few = few; name = name; is_name = is; among = among; begins = (rest, stands) })
 
 begun_as : (es : List EntryView) (name : List ℕ) (part : Part) → IsOf name part → MayBegin es name → IsBegun es part
 begun_as es name Start none may = tt

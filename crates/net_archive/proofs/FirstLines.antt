@@ -5,7 +5,7 @@ use Rattle.std.proofs.lemmas.List.{append-nil}
 use Rattle.std.proofs.lemmas.List.Elements.{All-nil}
 use Rattle.line_text.specs.Lines.{Place, IsAt, HasNo, rows_text}
 use Rattle.line_text.proofs.CallerLemmas.{less_left}
-use Rattle.net_entries.specs.Entries.{EntryView}
+use Rattle.archive_text.specs.Entries.{EntryView}
 use Rattle.archive_text.specs.Rows.{first_row, name_row, row_lines}
 use Rattle.archive_text.specs.Texts.{rows_before, text_of, entry_rows}
 use Rattle.archive_text.specs.declared.version.Version.{Version}

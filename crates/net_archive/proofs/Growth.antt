@@ -5,9 +5,9 @@ use Rattle.std.proofs.lemmas.List.{get_or-map, length-append, length-map, length
 use Rattle.std.proofs.lemmas.List.Elements.{All-push}
 use Rattle.std.proofs.lemmas.List.Quantifiers.{all_pairs_push}
 use Rattle.line_text.specs.Lines.{rows_text}
-use Rattle.net_entries.specs.Entries.{EntryView, entry_view, entry_views}
-use Rattle.net_entries.specs.declared.entry.Entry.{Entry}
-use Rattle.net_entries.specs.Lookups.{names_of}
+use Rattle.archive_text.specs.Entries.{EntryView, entry_view, entry_views}
+use Rattle.archive_text.specs.declared.entry.Entry.{Entry}
+use Rattle.archive_text.specs.Lookups.{names_of}
 use Rattle.archive_text.specs.Rows.{first_row}
 use Rattle.archive_text.specs.Texts.{entry_lines, text_of, most_bytes}
 use Rattle.archive_text.specs.declared.version.Version.{Version}

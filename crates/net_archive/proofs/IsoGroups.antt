@@ -8,9 +8,9 @@ use Rattle.std.proofs.lemmas.Option.{slice_get_within, get_or_from_slice_get}
 use Rattle.integers.proofs.lists.Members.{IsIn, is_in, contains_from_in}
 use Rattle.periodic_net.specs.Maps.{Iso}
 use Rattle.key_theory.proofs.CallerLemmas.{keys_decide}
-use Rattle.net_entries.specs.Entries.{EntryView}
-use Rattle.net_entries.specs.Groups.{AreGroups, IsGroup, numbers_from, numbers_with}
-use Rattle.net_entries.specs.Lookups.{same_key}
+use Rattle.archive_text.specs.Entries.{EntryView}
+use Rattle.archive_text.specs.Groups.{AreGroups, IsGroup, numbers_from, numbers_with}
+use Rattle.archive_text.specs.Lookups.{same_key}
 use Rattle.net_archive.specs.Archives.{IsEntry}
 use Rattle.net_archive.specs.Deciding.{AreIsoGroups, IsEntryAt, KeysDecideArchive, ShareGroup}
 

@@ -5,9 +5,9 @@ use Rattle.std.proofs.lemmas.List.Elements.{All-contains, Contains-append_left, 
 use Rattle.std.proofs.lemmas.List.Sorted.{All-permutation}
 use Rattle.key_theory.proofs.CallerLemmas.{keys_decide}
 use Rattle.periodic_net.specs.Maps.{Iso}
-use Rattle.net_entries.specs.Entries.{EntryView}
-use Rattle.net_entries.specs.Regrouped.{AreTogether, regrouped}
-use Rattle.net_entries.proofs.CallerLemmas.{is_regrouped}
+use Rattle.archive_text.specs.Entries.{EntryView}
+use Rattle.archive_text.specs.Regrouped.{AreTogether, regrouped}
+use Rattle.archive_text.proofs.CallerLemmas.{is_regrouped}
 use Rattle.net_archive.specs.Archives.{IsEntry}
 use Rattle.net_archive.specs.Deciding.{AreIsoTogether}
 

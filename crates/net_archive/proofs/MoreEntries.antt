@@ -8,9 +8,9 @@ use Rattle.std.proofs.lemmas.List.Quantifiers.{all_pairs_push}
 use Rattle.std.specs.List.{Contains}
 use Rattle.line_text.specs.Lines.{Place, IsAt}
 use Rattle.periodic_net.specs.Graph.{Arc}
-use Rattle.quotient_graph.specs.Edges.{edge_of}
-use Rattle.net_entries.specs.Entries.{EntryView}
-use Rattle.net_entries.specs.Lookups.{names_of}
+use Rattle.cgd_read.specs.Spelling.{edge_of}
+use Rattle.archive_text.specs.Entries.{EntryView}
+use Rattle.archive_text.specs.Lookups.{names_of}
 use Rattle.archive_text.specs.Rows.{OfEnd, row_lines, first_row, end_row}
 use Rattle.graph_rows.specs.Rows.{size_of_graph}
 use Rattle.archive_text.specs.Parts.{Keyed, Counted, part_rows, IsFormed, HasEdgesAndKey}

@@ -3,8 +3,8 @@ use Rattle.std.proofs.Common.{◌≡◌, ◌≢◌, ◌<◌, List, ◌∷◌, �
 use Rattle.std.specs.List.{AllPairs, Contains}
 use Rattle.std.proofs.Math.Seq.{get_or-append_seam}
 use Rattle.std.proofs.lemmas.List.{get_or_append_left, get_or-map, length-append, length-map}
-use Rattle.net_entries.specs.Entries.{EntryView}
-use Rattle.net_entries.specs.Lookups.{names_of}
+use Rattle.archive_text.specs.Entries.{EntryView}
+use Rattle.archive_text.specs.Lookups.{names_of}
 
 pub names_apart : (all front : List EntryView) (e : EntryView) (later : List EntryView) → all ≡ front ++ e ∷ later → AllPairs (λ (x y : EntryView). x.name ≢ y.name) all → ¬ Contains (names_of front) e.name
 names_apart all front e later whole apart among =

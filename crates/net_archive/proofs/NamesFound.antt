@@ -9,8 +9,8 @@ use Rattle.periodic_net.specs.Graph.{Graph, IsGraph}
 use Rattle.periodic_net.specs.Maps.{Iso}
 use Rattle.key_theory.specs.Key.{IsKeyOf}
 use Rattle.key_theory.proofs.CallerLemmas.{keys_decide}
-use Rattle.net_entries.specs.Entries.{EntryView}
-use Rattle.net_entries.specs.Lookups.{names_of, names_with, same_key}
+use Rattle.archive_text.specs.Entries.{EntryView}
+use Rattle.archive_text.specs.Lookups.{names_of, names_with, same_key}
 use Rattle.net_archive.specs.Archives.{IsEntry}
 use Rattle.net_archive.specs.Deciding.{AreNamesOf}
 

@@ -16,7 +16,7 @@ use Rattle.line_text.specs.Numbers.{IsWide}
 use Rattle.least_key.specs.Certain.{IsCertain}
 use Rattle.least_key.specs.KeyedNets.{KeyedNet, IsKeyed}
 use Rattle.least_key.proofs.CallerLemmas.{key_of_graph, keyed_is_certain}
-use Rattle.net_entries.specs.Entries.{EntryView}
+use Rattle.archive_text.specs.Entries.{EntryView}
 use Rattle.archive_text.specs.Forms.{AreSizes}
 use Rattle.graph_rows.specs.Forms.{IsSize}
 use Rattle.line_text.specs.Names.{is_name}

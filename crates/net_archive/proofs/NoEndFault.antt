@@ -8,7 +8,7 @@ use Rattle.least_key.specs.Certain.{IsCertain}
 use Rattle.coordination.proofs.CallerLemmas.{one_list_of_sequences}
 use Rattle.least_key.proofs.CallerLemmas.{certain_is_not_refused}
 use Rattle.key_theory.proofs.CallerLemmas.{one_key}
-use Rattle.net_entries.specs.Entries.{EntryView}
+use Rattle.archive_text.specs.Entries.{EntryView}
 use Rattle.archive_text.specs.Reading.{form_part}
 use Rattle.archive_text.specs.declared.rest.Form.{Form}
 use Rattle.archive_text.specs.declared.version.Version.{Version}

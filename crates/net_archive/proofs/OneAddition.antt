@@ -10,7 +10,7 @@ use Rattle.coordination.specs.Sequences.{AreSequencesOf}
 use Rattle.coordination.proofs.CallerLemmas.{one_list_of_sequences}
 use Rattle.least_key.specs.KeyedNets.{KeyedNet}
 use Rattle.least_key.specs.Laws.{TellAlike}
-use Rattle.net_entries.specs.Entries.{EntryView}
+use Rattle.archive_text.specs.Entries.{EntryView}
 use Rattle.line_text.specs.Names.{is_name}
 use Rattle.archive_text.specs.Texts.{entry_lines, most_bytes, text_of}
 use Rattle.archive_text.specs.declared.version.Version.{Version}

@@ -3,12 +3,12 @@ use Rattle.std.proofs.Common.{◌≡◌, ◌≢◌, ◌⊎◌, inl, inr, ℕ, �
 use Rattle.std.proofs.lemmas.List.{append-nil, length-append, length-map}
 use Rattle.std.proofs.lemmas.List.Elements.{All-head, All-tail}
 use Rattle.line_text.specs.Lines.{HasNo, Place, rows_text}
-use Rattle.quotient_graph.specs.Edges.{edge_of}
+use Rattle.cgd_read.specs.Spelling.{edge_of}
 use Rattle.periodic_net.specs.Graph.{Graph, IsGraph}
 use Rattle.quotient_graph.proofs.EdgeLists.{listed_graph}
 use Rattle.coordination.specs.Sequences.{AreSequencesOf}
 use Rattle.coordination.proofs.CallerLemmas.{one_list_of_sequences}
-use Rattle.net_entries.specs.Entries.{EntryView}
+use Rattle.archive_text.specs.Entries.{EntryView}
 use Rattle.line_text.specs.Names.{is_name}
 use Rattle.archive_text.specs.Rows.{OfName, OfEnd, row_line, row_lines, first_row, name_row}
 use Rattle.archive_text.specs.Parts.{Part, Start, part_rows, IsFormed, MayStandAfter}

@@ -1,7 +1,7 @@
 -- What was read from a text is its archive.
 use Rattle.std.proofs.Common.{◌≡◌, inl, inr, ℕ, ◌≤◌, List, Result, Ok, Err, length, sym, ◌∙◌, subst}
 use Rattle.std.specs.Prelude.{IsErrAnd, MatchResult}
-use Rattle.net_entries.specs.Entries.{EntryView}
+use Rattle.archive_text.specs.Entries.{EntryView}
 use Rattle.archive_text.specs.Texts.{text_of, most_bytes}
 use Rattle.archive_text.specs.declared.version.Version.{Version}
 use Rattle.net_archive.specs.Archives.{ArchiveView, IsArchive, archive_text}

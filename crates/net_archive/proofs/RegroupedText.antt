@@ -8,14 +8,14 @@ use Rattle.std.proofs.lemmas.List.Sums.{sum_by-cons}
 use Rattle.integers.proofs.lists.Apart.{permuted_pairs}
 use Rattle.line_text.specs.Lines.{rows_text}
 use Rattle.line_text.proofs.CallerLemmas.{rows_text_of_sum}
-use Rattle.net_entries.specs.Entries.{EntryView}
+use Rattle.archive_text.specs.Entries.{EntryView}
 use Rattle.archive_text.specs.Texts.{entry_lines}
 use Rattle.archive_text.specs.declared.version.Version.{Version}
 use Rattle.net_archive.specs.Archives.{IsArchive, IsEntry, IsInMemory}
 use Rattle.net_archive.proofs.ArchiveRows.{lines_with}
 use Rattle.net_archive.proofs.Growth.{text_length}
-use Rattle.net_entries.specs.Regrouped.{regrouped}
-use Rattle.net_entries.proofs.CallerLemmas.{is_regrouped}
+use Rattle.archive_text.specs.Regrouped.{regrouped}
+use Rattle.archive_text.proofs.CallerLemmas.{is_regrouped}
 
 abbrev pub size_of : Version → EntryView → ℕ
 size_of v e = length (rows_text (entry_lines v (e ∷ [])))

@@ -2,7 +2,7 @@
 use Rattle.std.proofs.Common.{◌≡◌, ℕ, List, ◌∷◌, ◌++◌, All, get_or, refl, ap, arith}
 use Rattle.std.proofs.lemmas.List.Elements.{All-weaker}
 use Rattle.line_text.proofs.CallerLemmas.{same_row}
-use Rattle.net_entries.specs.Entries.{EntryView}
+use Rattle.archive_text.specs.Entries.{EntryView}
 use Rattle.archive_text.specs.Rows.{first_row}
 use Rattle.archive_text.specs.declared.version.Version.{Version}
 use Rattle.archive_text.specs.declared.version.Version.TheVariants.{One, Two}

@@ -2,8 +2,8 @@
 use Rattle.std.specs.Prelude.{◌≡◌, ◌⊎◌, ℕ, ◌≤◌, ◌<◌, true, false, List, length, Contains}
 use Rattle.coordination.specs.Sequences.{AreSequencesOf}
 use Rattle.least_key.specs.KeyedNets.{KeyedNet}
-use Rattle.net_entries.specs.Entries.{EntryView}
-use Rattle.net_entries.specs.Lookups.{names_of}
+use Rattle.archive_text.specs.Entries.{EntryView}
+use Rattle.archive_text.specs.Lookups.{names_of}
 use Rattle.line_text.specs.Names.{is_name}
 use Rattle.net_archive.specs.Archives.{ArchiveView, archive_text, with_entry, most_entries}
 use Rattle.net_archive.specs.declared.faults.AddFault.{AddFault}

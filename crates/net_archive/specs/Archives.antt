@@ -4,7 +4,7 @@ use Rattle.periodic_net.specs.Graph.{IsGraph}
 use Rattle.key_theory.specs.Key.{IsKeyOf}
 use Rattle.coordination.specs.Sequences.{AreSequencesOf}
 use Rattle.least_key.specs.Certain.{IsCertain}
-use Rattle.net_entries.specs.Entries.{EntryView}
+use Rattle.archive_text.specs.Entries.{EntryView}
 use Rattle.archive_text.specs.Parts.{IsFormed}
 use Rattle.line_text.specs.Lines.{rows_text}
 use Rattle.archive_text.specs.Texts.{entry_lines, most_bytes, text_of, whole_part}

@@ -1,8 +1,8 @@
 -- The first fault of a text that is that of no archive.
 use Rattle.std.specs.Prelude.{◌≡◌, ◌≢◌, ◌⊎◌, ℕ, ◌+◌, ◌≤◌, ◌<◌, true, List, [], ◌∷◌, ◌++◌, length, All, AllPairs, Contains}
 use Rattle.line_text.specs.Lines.{Place, IsAt}
-use Rattle.net_entries.specs.Entries.{EntryView}
-use Rattle.net_entries.specs.Lookups.{names_of}
+use Rattle.archive_text.specs.Entries.{EntryView}
+use Rattle.archive_text.specs.Lookups.{names_of}
 use Rattle.line_text.specs.Names.{is_name}
 use Rattle.archive_text.specs.Rows.{first_row, name_row, end_row, row_lines}
 use Rattle.archive_text.specs.Parts.{Part, Start, Named, Drawn, Keyed, Counted, part_rows, IsFormed, NoneFollows}

@@ -2,13 +2,13 @@
 use Rattle.std.specs.Prelude.{◌≡◌, ◌≢◌, ℕ, ◌+◌, ◌<◌, ℤ, List, length, map, Option, Some, None, slice_get}
 use Rattle.periodic_net.specs.Graph.{Graph, IsGraph}
 use Rattle.key_theory.specs.Key.{IsKeyOf}
-use Rattle.quotient_graph.specs.Edges.{edge_of}
+use Rattle.cgd_read.specs.Spelling.{edge_of}
 use Rattle.quotient_graph.specs.Stars.{graph_with}
 use Rattle.coordination.specs.Sequences.{AreSequencesOf}
 use Rattle.least_key.specs.Certain.{IsCertain}
 use Rattle.least_key.specs.Truths.{IsTrueOf}
 use Rattle.least_key.specs.declared.refusal.Refusal.TheVariants as refusal
-use Rattle.net_entries.specs.Entries.{EntryView}
+use Rattle.archive_text.specs.Entries.{EntryView}
 use Rattle.archive_text.specs.declared.rest.Form.{Form}
 use Rattle.archive_text.specs.declared.rest.KeyedGraph.{KeyedGraph}
 use Rattle.archive_text.specs.declared.version.Version.{Version}

@@ -1,9 +1,9 @@
-pub mod Archives
 pub mod Adding
+pub mod Archives
 pub mod Causes
-pub mod Judging
+pub mod Deciding
 pub mod Faults
-pub mod Steps
+pub mod Judging
 pub mod Laws
 pub mod Migrating
-pub mod Deciding
+pub mod Steps

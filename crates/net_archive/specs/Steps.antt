@@ -1,7 +1,7 @@
 -- Where the reading of a text stands.
 use Rattle.std.specs.Prelude.{◌≡◌, ◌⊎◌, ℕ, ◌+◌, true, List, [], ◌∷◌, ◌++◌, length}
 use Rattle.line_text.specs.Lines.{Place, IsAt}
-use Rattle.net_entries.specs.Entries.{EntryView}
+use Rattle.archive_text.specs.Entries.{EntryView}
 use Rattle.line_text.specs.Names.{is_name}
 use Rattle.archive_text.specs.Rows.{first_row, name_row}
 use Rattle.archive_text.specs.Texts.{rows_before}

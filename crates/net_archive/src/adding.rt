@@ -5,15 +5,14 @@ ghost use Rattle.periodic_net.specs.Limits.{IsSmall};
 ghost use Rattle.quotient_graph.specs.AnyGraphs.{graph_view};
 ghost use Rattle.quotient_graph.specs.Order.{AreRising};
 ghost use Rattle.least_key.specs.AnyNets.{net_view};
-ghost use Rattle.net_entries.specs.Entries.{entry_view};
+ghost use Rattle.archive_text.specs.Entries.{entry_view};
 ghost use Rattle.archive_text.specs.Texts.{entry_lines, most_bytes};
 ghost use Rattle.line_text.specs.Names.{is_name};
 ghost use Rattle.net_archive.specs.Adding.{IsEntryOf};
 ghost use Rattle.net_archive.specs.Archives.{IsEntry, most_entries};
 
-use archive_text::{MOST_BYTES, Version, push_entry};
+use archive_text::{Entries, Entry, MOST_BYTES, Version, push_entry};
 use least_key::Net;
-use net_entries::{Entries, Entry};
 use quotient_graph::AnyGraph;
 use std::alloc::{AllocError as NoMemory, Global};
 

@@ -3,10 +3,10 @@ ghost use Rattle.std.specs.Prelude.{◌≡◌, ◌≤◌, All, IfOk, IfErr, OnOk
 ghost use Rattle.periodic_net.specs.Graph.{Graph, IsGraph};
 ghost use Rattle.key_theory.specs.Key.{IsKeyOf};
 ghost use Rattle.least_key.specs.AnyNets.{net_view};
-ghost use Rattle.net_entries.specs.Entries.{EntryView, entry_view, entry_views};
-ghost use Rattle.net_entries.specs.Groups.{AreGroups};
-ghost use Rattle.net_entries.specs.Lookups.{names_with};
-ghost use Rattle.net_entries.specs.Regrouped.{regrouped};
+ghost use Rattle.archive_text.specs.Entries.{EntryView, entry_view, entry_views};
+ghost use Rattle.archive_text.specs.Groups.{AreGroups};
+ghost use Rattle.archive_text.specs.Lookups.{names_with};
+ghost use Rattle.archive_text.specs.Regrouped.{regrouped};
 ghost use Rattle.net_archive.specs.Adding.{IsAddFault, IsEntryFault, IsEntryOf};
 ghost use Rattle.net_archive.specs.Deciding.{AreIsoGroups, AreIsoTogether, AreNamesOf, is_there};
 ghost use Rattle.net_archive.specs.Faults.{IsFaultOf};
@@ -19,10 +19,9 @@ use crate::migrating::newest_text;
 use crate::reading::{body_of, read_text};
 use crate::regrouping::rows_in_groups;
 use crate::{AddFault, ArchiveFault, MigrateFault};
-use archive_text::{Version, push_first};
+use archive_text::{Entries, Entry, Groups, Matches, Version, push_first};
 use least_key::Net;
 use line_text::is_name;
-use net_entries::{Entries, Entry, Groups, Matches};
 use quotient_graph::Key;
 use std::alloc::{AllocError as NoMemory, Global};
 use std::marker::Model;
@@ -72,11 +71,12 @@ impl Archive {
             MatchResult result (λ b. b ≡ a) (λ fault. fault ≡ ArchiveFault.NoMemory) }
     {
         let (version, entries) = read_text(alloc, &text)?;
-        let body = Vec::from_slice(alloc, body_of(&text, version))?;
+        let body = Vec::from_slice(alloc, body_of(&text, version));
+        drop(text);
         Ok(Archive {
             version,
             entries,
-            body,
+            body: body?,
         })
     }
 
@@ -177,13 +177,18 @@ impl Archive {
         ensures fault { IfErr result (IsEntryFault self.old (entry_view entry)) }
     {
         if self.entries.has_name(&entry.name) {
+            drop(entry);
             return Err(AddFault::NameTaken);
         }
         let rows = rows_of(*self.body.allocator(), self.version, &entry)?;
         if are_many(self.entries.as_slice()) || is_too_long(&self.body, &rows) {
+            drop(entry);
+            drop(rows);
             return Err(AddFault::Full);
         }
-        append(&mut self.entries, &mut self.body, entry, &rows)?;
+        let appended = append(&mut self.entries, &mut self.body, entry, &rows);
+        drop(rows);
+        appended?;
         Ok(())
     }
 

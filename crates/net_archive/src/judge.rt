@@ -5,17 +5,16 @@ ghost use Rattle.coordination.specs.Sequences.{AreSequencesOf};
 ghost use Rattle.least_key.specs.AnyNets.{net_view};
 ghost use Rattle.least_key.specs.KeyedNets.{IsKeyed};
 ghost use Rattle.quotient_graph.specs.EdgeLists.{AreEdgesOfGraph};
-ghost use Rattle.net_entries.specs.Entries.{entry_view};
+ghost use Rattle.archive_text.specs.Entries.{entry_view};
 ghost use Rattle.net_archive.specs.Judging.{AreRefusedShells, HasKey, IsDifferingClass, IsEntryOfForm, IsJudged, IsOtherKey, IsRefusedAt, graph_of_form, graph_of_keyed};
 ghost use Rattle.periodic_net.specs.Limits.{most_vertices};
 ghost use Rattle.line_text.specs.Lines.{last_line};
 
 use crate::ArchiveFault;
-use archive_text::{Form, KeyedGraph, Version};
+use archive_text::{Entry, Form, KeyedGraph, Version};
 use coordination::Sequences;
 use least_key::{Net, Refusal, identify};
 use lists::Items;
-use net_entries::Entry;
 use quotient_graph::{AnyGraph, Key, from_edges};
 use std::alloc::{AllocError as NoMemory, Global};
 
@@ -194,9 +193,9 @@ pub fn judge(
     ensures entry { IfOk result (λ e. IsEntryOfForm version name.now form (entry_view e)) }
     ensures fault { IfErr result (IsJudged version line form) }
 {
+    let name = Vec::from_slice(alloc, name)?;
     let graph = graph_of(alloc, &form.keyed)?;
     let shells = check_form(alloc, line, version, &graph, &form)?;
-    let name = Vec::from_slice(alloc, name)?;
     Ok(Entry {
         name,
         graph,

@@ -1,13 +1,12 @@
 // The text of an archive in the newest version.
 ghost use Rattle.std.specs.Prelude.{◌≡◌, ◌≤◌, All, IfOk, IfErr, length};
-ghost use Rattle.net_entries.specs.Entries.{entry_view, entry_views};
+ghost use Rattle.archive_text.specs.Entries.{entry_view, entry_views};
 ghost use Rattle.archive_text.specs.Texts.{text_of, most_bytes};
 ghost use Rattle.net_archive.specs.Archives.{IsEntry};
 ghost use Rattle.net_archive.specs.Migrating.{IsTooLong};
 
 use crate::MigrateFault;
-use archive_text::{MOST_BYTES, Version, push_entry, push_first};
-use net_entries::Entry;
+use archive_text::{Entry, MOST_BYTES, Version, push_entry, push_first};
 use std::alloc::{AllocError as NoMemory, Global};
 
 // The rows of the entries in version 2, after the first line.

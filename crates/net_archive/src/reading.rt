@@ -1,7 +1,7 @@
 // Reads a text.
 ghost use Rattle.std.specs.Prelude.{ℕ, List, ◌≡◌, ◌≢◌, ◌+◌, ◌≤◌, ◌++◌, ◌∷◌, [], length, IfErr, IfOk, MatchOption, MatchResult};
 ghost use Rattle.line_text.specs.Lines.{IsAt};
-ghost use Rattle.net_entries.specs.Entries.{EntryView, entry_view};
+ghost use Rattle.archive_text.specs.Entries.{EntryView, entry_view};
 ghost use Rattle.archive_text.specs.Rows.{first_row};
 ghost use Rattle.archive_text.specs.Texts.{rows_before, text_of, most_bytes};
 ghost use Rattle.archive_text.specs.declared.version.Version.{Version};
@@ -11,9 +11,8 @@ ghost use Rattle.net_archive.specs.Steps.{AreMore, HasBegun, IsAfterName, IsFaul
 use crate::ArchiveFault;
 use crate::adding::are_many;
 use crate::judge::judge;
-use archive_text::{Version, next_name, read_rest};
+use archive_text::{Entries, Entry, Version, next_name, read_rest};
 use line_text::Lines;
-use net_entries::{Entries, Entry};
 use std::alloc::Global;
 
 // The version that a first line names.

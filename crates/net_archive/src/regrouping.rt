@@ -1,13 +1,12 @@
 // The rows of an archive whose entries are regrouped.
 ghost use Rattle.std.specs.Prelude.{◌≡◌, All, map, IfOk};
 ghost use Rattle.line_text.specs.Lines.{rows_text};
-ghost use Rattle.net_entries.specs.Entries.{entry_view, entry_views};
-ghost use Rattle.net_entries.specs.Regrouped.{regrouped};
+ghost use Rattle.archive_text.specs.Entries.{entry_view, entry_views};
+ghost use Rattle.archive_text.specs.Regrouped.{regrouped};
 ghost use Rattle.archive_text.specs.Texts.{entry_lines};
 ghost use Rattle.net_archive.specs.Archives.{IsEntry};
 
-use archive_text::{Version, push_entry};
-use net_entries::{Entry, lent_in_groups};
+use archive_text::{Entry, Version, lent_in_groups, push_entry};
 use std::alloc::{AllocError as NoMemory, Global};
 
 // The rows of entries that are lent, one after the other.

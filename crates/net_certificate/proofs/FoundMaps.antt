@@ -12,19 +12,19 @@ use Rattle.periodic_net.specs.Graph.{Graph, IsGraph, Vertex, vertex, moved, IsVe
 use Rattle.periodic_net.specs.Limits.{most_vertices}
 use Rattle.periodic_net.specs.Maps.{IsInBox}
 use Rattle.key_theory.specs.Key.{Shape}
-use Rattle.map_theory.specs.Layouts.{place_of, table_for}
-use Rattle.map_theory.specs.Tables.{IsBoxVertex}
+use Rattle.map_check.specs.Layouts.{place_of, table_for}
+use Rattle.map_check.specs.Tables.{IsBoxVertex}
 use Rattle.map_check.specs.Conditions.{IsImage, IsShift, most_images, most_part}
-use Rattle.standard_map_theory.specs.Laws.{HaveOneList, IsTableOfIsomorphism}
-use Rattle.standard_map_theory.specs.MapNumbers.{StandardTable, box_vertices, base_rows, entries_of, images_of, map_numbers}
-use Rattle.standard_map_theory.specs.StandardMaps.{framed_net, IsWrittenBy}
-use Rattle.standard_map_theory.proofs.OneMap.{one_list_of}
-use Rattle.standard_map_theory.proofs.Sides.{same_dimension}
-use Rattle.standard_map_theory.proofs.StandardPeriods.{standard_map_has_period}
-use Rattle.standard_map_theory.proofs.WrittenMaps.{written_maps_pass}
-use Rattle.map_table.proofs.CallerLemmas.{at_map, map_length, read_at}
-use Rattle.map_table.proofs.CallerLemmas.{box_inside, box_length, vertex_stands}
-use Rattle.standard_map_theory.proofs.OneTable.{first_unit, second_unit, third_unit}
+use Rattle.standard_map.specs.Laws.{HaveOneList, IsTableOfIsomorphism}
+use Rattle.standard_map.specs.MapNumbers.{StandardTable, box_vertices, base_rows, entries_of, images_of, map_numbers}
+use Rattle.standard_map.specs.StandardMaps.{framed_net, IsWrittenBy}
+use Rattle.standard_map.proofs.OneMap.{one_list_of}
+use Rattle.standard_map.proofs.Sides.{same_dimension}
+use Rattle.standard_map.proofs.StandardPeriods.{standard_map_has_period}
+use Rattle.standard_map.proofs.WrittenMaps.{written_maps_pass}
+use Rattle.net_certificate.proofs.At.{at_map, map_length, read_at}
+use Rattle.net_certificate.proofs.BoxPlaces.{box_inside, box_length, vertex_stands}
+use Rattle.standard_map.proofs.OneTable.{first_unit, second_unit, third_unit}
 use Rattle.net_certificate.specs.Answers.{IsPassing}
 use Rattle.net_certificate.specs.Laws.{FoundMapsPass}
 
@@ -179,7 +179,7 @@ module _ (G H : Graph) (g : Shape G) (h : Shape H) (ig : IsGraph G) (ih : IsGrap
       };
       yes = λ verdict v.
           let w = isomorphism in
-          (v.exactly t.carry w.drawn).1 (dimensions, record { period = w.periodic; bijection = w.bijection; joins = w.joins });
+          (v.exactly t.carry w.drawn).1 (record { period = w.periodic; bijection = w.bijection; joins = w.joins });
     }
 
 -- a map that is found passes

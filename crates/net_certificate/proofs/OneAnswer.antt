@@ -11,11 +11,11 @@ use Rattle.periodic_net.proofs.CallerLemmas.{moved_vertex, origin_vertex}
 use Rattle.key_theory.specs.Key.{Shape}
 use Rattle.least_key.specs.KeyedNets.{KeyedNet, IsKeyed}
 use Rattle.map_check.specs.declared.map.PeriodicMap.{PeriodicMap}
-use Rattle.standard_map_theory.specs.MapNumbers.{StandardTable, box_vertices, entries_of, images_of, base_rows, IsLong, IsFound}
-use Rattle.standard_map_theory.proofs.Excluding.{causes_exclude}
-use Rattle.standard_map_theory.proofs.OneMap.{one_count, one_period, one_standard_map}
-use Rattle.map_table.proofs.CallerLemmas.{box_inside}
-use Rattle.standard_map_theory.proofs.OneTable.{rows_same}
+use Rattle.standard_map.specs.MapNumbers.{StandardTable, box_vertices, entries_of, images_of, base_rows, IsLong, IsFound}
+use Rattle.standard_map.proofs.Excluding.{causes_exclude}
+use Rattle.standard_map.proofs.OneMap.{one_count, one_period, one_standard_map}
+use Rattle.net_certificate.proofs.BoxPlaces.{box_inside}
+use Rattle.standard_map.proofs.OneTable.{rows_same}
 use Rattle.net_certificate.specs.Answers.{shape_of, IsAnswerBy}
 use Rattle.net_certificate.specs.Laws.{OneMapAnswer}
 use Rattle.net_certificate.specs.declared.answer.MapAnswer.{MapAnswer}

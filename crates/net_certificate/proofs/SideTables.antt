@@ -11,19 +11,19 @@ use Rattle.periodic_net.specs.Placement.{Placement}
 use Rattle.key_theory.specs.Key.{IsLeastList}
 use Rattle.key_theory.specs.Traversal.{axes_of, IsLeastScale, IsListOf}
 use Rattle.map_check.specs.Conditions.{most_period}
-use Rattle.map_theory.specs.Layouts.{box_size}
-use Rattle.map_theory.proofs.CallerLemmas.{box_is_power}
+use Rattle.map_check.specs.Layouts.{box_size}
+use Rattle.map_check.proofs.CallerLemmas.{box_is_power}
 use Rattle.quotient_graph.specs.PlacedNets.{PlacedNet}
 use Rattle.least_key.specs.KeyedNets.{KeyedNet, IsKeyed}
-use Rattle.standard_map_theory.specs.LeastPairs.{IsLeastPair, IsPairOf}
-use Rattle.standard_map_theory.specs.MapNumbers.{StandardTable, base_rows, box_vertices, entries_of, images_of, map_numbers, most_part, IsFirstPast}
-use Rattle.standard_map_theory.specs.StandardMaps.{framed_net, AreCellImages, IsPeriodOf}
-use Rattle.standard_map_theory.proofs.StandardPeriods.{cell_images_give_period}
-use Rattle.standard_map_theory.proofs.Theorems.{standard_map_exists}
-use Rattle.image_walk.specs.Sides.{NetSide, net_side, HaveOneKey, HaveParts, IsStandardBy}
-use Rattle.image_walk.proofs.CallerLemmas.{arc_part}
-use Rattle.image_cells.specs.Turns.{AreImageCells}
-use Rattle.map_table.specs.Tables.{AreImages}
+use Rattle.standard_map.specs.LeastPairs.{IsLeastPair, IsPairOf}
+use Rattle.standard_map.specs.MapNumbers.{StandardTable, base_rows, box_vertices, entries_of, images_of, map_numbers, most_part, IsFirstPast}
+use Rattle.standard_map.specs.StandardMaps.{framed_net, AreCellImages, IsPeriodOf}
+use Rattle.standard_map.proofs.StandardPeriods.{cell_images_give_period}
+use Rattle.standard_map.proofs.Theorems.{standard_map_exists}
+use Rattle.standard_map.specs.Sides.{NetSide, net_side, HaveOneKey, HaveParts, IsStandardBy}
+use Rattle.standard_map.proofs.CallerLemmas.{arc_part}
+use Rattle.standard_map.specs.Turns.{AreImageCells}
+use Rattle.net_certificate.specs.Tables.{AreImages}
 use Rattle.net_certificate.specs.Answers.{shape_of, IsMapAnswer, PassesIfFound}
 use Rattle.net_certificate.proofs.FoundMaps.{found_maps_pass}
 use Rattle.net_certificate.specs.Written.{IsSideOf, IsWritten}
@@ -177,17 +177,6 @@ first_number : (n : KeyedNet) → IsKeyed n → get_or n.key 0 (pos 0) ≡ pos n
 first_number n k =
     let l = k.key.some.list in
     ap (λ xs. get_or xs 0 (pos 0)) l.list ∙ ap pos (k.classes.is_classes.dimension ∙ ap (λ (G : Graph). G.dimension) k.same_graph)
-
--- where the keys differ, that is the answer
-pub different_due : (a b : KeyedNet) → IsKeyed a → IsKeyed b → a.key ≢ b.key → (room : ℕ) → IsMapAnswer a b room Different
-different_due a b ka kb d room = record { here = ka; there = kb; by = record { key = a.key; key' = b.key; is_key = ka.key; is_key' = kb.key; differ = d } }
-
--- they do where the dimensions differ
-pub apart_due : (a b : KeyedNet) → IsKeyed a → IsKeyed b → a.placed.graph.dimension ≢ b.placed.graph.dimension → (room : ℕ) → IsMapAnswer a b room Different
-apart_due a b ka kb d room = different_due a b ka kb (λ e. d (same (sym (first_number a ka) ∙ ap (λ xs. get_or xs 0 (pos 0)) e ∙ first_number b kb))) room
-  where
-    same : {m n : ℕ} → pos m ≡ pos n → m ≡ n
-    same e = ap unsigned_abs e
 
 -- an answer passes
 pub passes_due : (a b : KeyedNet) (room : ℕ) (answer : MapAnswer) → IsMapAnswer a b room answer → b.placed.graph.vertices ≤ most_vertices

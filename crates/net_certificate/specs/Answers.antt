@@ -11,7 +11,7 @@ use Rattle.map_check.specs.declared.verdict.Verdict.{Verdict}
 use Rattle.map_check.specs.declared.verdict.Verdict.TheVariants.{Yes}
 use Rattle.quotient_graph.specs.NetClasses.{class_at}
 use Rattle.least_key.specs.KeyedNets.{KeyedNet, IsKeyed}
-use Rattle.standard_map_theory.specs.MapNumbers.{HaveOtherKeys, IsLong, IsWide, IsFound}
+use Rattle.standard_map.specs.MapNumbers.{HaveOtherKeys, IsLong, IsWide, IsFound}
 use Rattle.net_certificate.specs.declared.answer.MapAnswer.{MapAnswer}
 use Rattle.net_certificate.specs.declared.answer.MapAnswer.TheVariants.{Different, Found, LongMap, WideMap}
 

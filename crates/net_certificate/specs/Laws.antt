@@ -6,7 +6,7 @@ use Rattle.periodic_net.specs.Limits.{most_vertices}
 use Rattle.key_theory.specs.Key.{Shape}
 use Rattle.map_check.specs.Conditions.{most_images}
 use Rattle.least_key.specs.KeyedNets.{KeyedNet}
-use Rattle.standard_map_theory.specs.MapNumbers.{IsFound}
+use Rattle.standard_map.specs.MapNumbers.{IsFound}
 use Rattle.net_certificate.specs.Answers.{IsMapAnswer, IsPassing}
 use Rattle.net_certificate.specs.declared.answer.MapAnswer.{MapAnswer}
 

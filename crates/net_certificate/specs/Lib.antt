@@ -1,3 +1,17 @@
 pub mod Answers
+pub mod Checks
+pub mod Items
 pub mod Laws
+pub mod NetItems
+pub mod NetSteps
+pub mod Pairs
+pub mod Reading
+pub mod ResultLines
+pub mod Results
+pub mod Rows
+pub mod Stages
+pub mod Steps
+pub mod Tables
+pub mod TextLaws
+pub mod Texts
 pub mod Written

@@ -6,9 +6,9 @@ use Rattle.key_theory.specs.Primitive.{IsLeastMember}
 use Rattle.key_theory.specs.Traversal.{axes_of, IsLeastScale}
 use Rattle.quotient_graph.specs.NetClasses.{class_at}
 use Rattle.least_key.specs.KeyedNets.{KeyedNet, IsKeyed}
-use Rattle.standard_map_theory.specs.LeastPairs.{IsLeastPair}
-use Rattle.standard_map_theory.specs.MapNumbers.{map_numbers, most_part, IsFirstPast}
-use Rattle.image_walk.specs.Sides.{NetSide}
+use Rattle.standard_map.specs.LeastPairs.{IsLeastPair}
+use Rattle.standard_map.specs.MapNumbers.{map_numbers, most_part, IsFirstPast}
+use Rattle.standard_map.specs.Sides.{NetSide}
 use Rattle.net_certificate.specs.Answers.{IsMapAnswer}
 use Rattle.net_certificate.specs.declared.answer.MapAnswer.{MapAnswer}
 use Rattle.net_certificate.specs.declared.answer.MapAnswer.TheVariants.{Different, Found, LongMap, WideMap}

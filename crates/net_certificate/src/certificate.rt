@@ -6,10 +6,9 @@ ghost use Rattle.net_certificate.specs.Answers.{IsMapAnswer, PassesIfFound};
 use crate::side::side_of;
 use crate::writing::write_map;
 use crate::{MapAnswer, NoMemory};
-use image_cells::image_cells;
-use image_walk::ends;
 use least_key::{Net, NetOf};
 use quotient_graph::Key;
+use standard_map::{ends, image_cells};
 use std::alloc::Global;
 
 // Whether two keys are equal.

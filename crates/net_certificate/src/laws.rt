@@ -1,5 +1,11 @@
 // What holds of the answers. Each function carries a theorem.
 ghost use Rattle.net_certificate.specs.Laws.{FoundMapsPass, OneMapAnswer};
+ghost use Rattle.net_certificate.specs.TextLaws.{TextsTellMaps};
+
+/// A text is that of one list of maps alone, or has one first bad line, and never both.
+pub fn texts_tell_maps()
+    ensures theorem { TextsTellMaps }
+{}
 
 /// Two nets have one answer by a room.
 pub fn one_map_answer()

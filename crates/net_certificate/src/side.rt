@@ -4,9 +4,8 @@ ghost use Rattle.least_key.specs.KeyedNets.{IsKeyed};
 ghost use Rattle.net_certificate.specs.Written.{IsSideOf};
 
 use crate::NoMemory;
-use image_walk::Side;
 use least_key::NetOf;
-use standard_map::{least_pair, representative};
+use standard_map::{Side, least_pair, representative};
 use std::alloc::Global;
 
 // The scale of a key, its third number.

@@ -1,8 +1,9 @@
 // Maps between small nets, and each other answer.
 use crate::{MapAnswer, map_between};
-use cgd_read::{Body, blocks, from_raw};
+use cgd_read::{Body, blocks};
 use least_key::{Net, identify};
 use map_check::PeriodicMap;
+use quotient_graph::from_raw;
 use std::alloc::Global;
 use std::process::Abort;
 use std::test::Fail;

@@ -4,15 +4,16 @@ use Rattle.std.proofs.Math.Decide.{dec_lt}
 use Rattle.std.proofs.lemmas.List.{get_or_default}
 use Rattle.std.proofs.lemmas.List.Elements.{All-contains}
 use Prim.{Dec, yes, no}
-use Rattle.integers.proofs.lists.Matched.{AreMatched, matched_at, matched_left, matched_length}
+use Rattle.integers.proofs.lists.Matched.{matched_at, matched_left, matched_length}
+use Rattle.integers.specs.Lists.{AreMatched}
 use Rattle.integers.proofs.lists.Members.{is_in, contains_from_in}
-use Rattle.hermite.specs.Stairs.{Stairs, stairs}
+use Rattle.vecdim.specs.Stairs.{Stairs, stairs}
 use Rattle.periodic_net.specs.Graph.{Graph, IsGraph}
 use Rattle.periodic_net.specs.Limits.{IsSmall}
-use Rattle.walk_theory.specs.Components.{InComponent}
-use Rattle.component_theory.specs.Components.{IsLeast}
-use Rattle.component_theory.specs.Ranks.{IsFullAt}
-use Rattle.component_theory.proofs.CallerLemmas.{one_least}
+use Rattle.periodic_net.specs.Components.{InComponent}
+use Rattle.net_components.specs.ComponentSets.{IsLeast}
+use Rattle.net_components.specs.Ranks.{IsFullAt}
+use Rattle.net_components.proofs.Classes.{one_least}
 use Rattle.net_components.specs.Components.{Component, IsComponent, AreComponentsTo}
 use Rattle.net_components.specs.Faults.{IsPartFault}
 use Rattle.net_components.specs.Parts.{root_of, IsPartOf, AreParts}

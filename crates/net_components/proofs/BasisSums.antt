@@ -6,8 +6,8 @@ use Rattle.integers.specs.Bases.{base_sum}
 use Rattle.integers.specs.Vectors.{Vector, vector, plus, times, parts, combination, HasDimension}
 use Rattle.integers.proofs.numbers.Ring.{ring, linear}
 use Rattle.integers.proofs.vectors.Laws.{vector_equal}
-use Rattle.hermite.specs.Stairs.{Stairs, rows_of}
-use Rattle.component_theory.specs.Parts.{stair_base}
+use Rattle.vecdim.specs.Stairs.{Stairs, rows_of}
+use Rattle.net_components.specs.PartGraphs.{stair_base}
 
 -- where the last coordinate is 0
 none : (z r : ℤ) → z ≡ pos 0 → pos 0 ≡ z *ℤ r

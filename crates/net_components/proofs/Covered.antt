@@ -7,14 +7,14 @@ use Rattle.integers.specs.Vectors.{Vector}
 use Rattle.integers.proofs.lists.More.{all_with, pairs_with}
 use Rattle.integers.proofs.numbers.Naturals.{before_or_at}
 use Rattle.periodic_net.specs.Graph.{Graph, IsGraph, IsQuotientVertex}
-use Rattle.walk_theory.specs.Components.{InComponent, TellsWalks}
-use Rattle.component_theory.specs.Components.{IsLeast}
-use Rattle.component_theory.specs.Ranks.{IsFullAt, IsFlatAt, IsLowRank}
-use Rattle.walk_theory.proofs.CallerLemmas.{with_itself, with_turned, with_transitive}
-use Rattle.component_theory.proofs.CallerLemmas.{one_least}
-use Rattle.walk_lattice.specs.Generators.{shift_at}
-use Rattle.walk_lattice.specs.Search.{walk_to, shift_of}
-use Rattle.walk_lattice.proofs.CallerLemmas.{all_found, walk_at}
+use Rattle.periodic_net.specs.Components.{InComponent, TellsWalks}
+use Rattle.net_components.specs.ComponentSets.{IsLeast}
+use Rattle.net_components.specs.Ranks.{IsFullAt, IsFlatAt, IsLowRank}
+use Rattle.periodic_net.proofs.CallerLemmas.{with_itself, with_turned, with_transitive}
+use Rattle.net_components.proofs.Classes.{one_least}
+use Rattle.connected_dim.specs.Generators.{shift_at}
+use Rattle.connected_dim.specs.Search.{walk_to, shift_of}
+use Rattle.connected_dim.proofs.CallerLemmas.{all_found, walk_at}
 use Rattle.net_components.specs.Faults.{IsFlatFault, IsPartFault}
 use Rattle.net_components.specs.declared.fault.PartFault.{PartFault}
 use Rattle.net_components.specs.declared.fault.PartFault.TheVariants.{LowRank, WideShift, NoMemory}
@@ -88,15 +88,6 @@ module _ (G : Graph) (g : IsGraph G) (cs : List Component) (u : ℕ) (q : IsQuot
       | inr d ↦ (c, Contains-append_right cs (c ∷ []) c (0, omega arith, refl), in_found G c i v (subst (λ w. InComponent G w v) (d ∙ sym e) (with_itself G v k)) g)
     ];
   }
-
--- at first there is none
-pub no_components : (G : Graph) → AreComponentsTo G [] 1
-no_components G = record {
-  each = λ k c l. absurd (omega arith);
-  below = λ k c l. absurd (omega arith);
-  rising = λ i j d l m. absurd (omega arith);
-  covers = λ v q l. absurd (let k = q.0 in omega arith);
-}
 
 -- why the next component is not taken
 pub low_fault : (G : Graph) → IsGraph G → (cs : List Component) (u : ℕ) → IsQuotientVertex G u → AreComponentsTo G cs u → ¬ IsFoundIn cs u

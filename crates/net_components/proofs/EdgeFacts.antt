@@ -4,14 +4,13 @@ use Rattle.std.proofs.lemmas.List.Elements.{All-contains}
 use Rattle.integers.specs.Bases.{base_sum}
 use Rattle.integers.specs.Vectors.{Vector, plus, minus, HasDimension, IsWithin}
 use Rattle.integers.proofs.lists.Members.{is_in, contains_from_in}
-use Rattle.hermite.specs.Lattices.{Members}
+use Rattle.vecdim.specs.Lattices.{Members}
 use Rattle.periodic_net.specs.Graph.{Graph, IsGraph, Arc, arc, arcs, IsArc, IsEdge}
 use Rattle.periodic_net.specs.Limits.{IsSmall, most_shift, most_vertices}
-use Rattle.periodic_net.proofs.CallerLemmas.{edge_in}
-use Rattle.component_theory.specs.Parts.{stair_base, IsNumber}
-use Rattle.walk_lattice.specs.Search.{walk_to, shift_of}
-use Rattle.walk_lattice.specs.Generators.{shift_at, generator_of}
-use Rattle.walk_theory.proofs.CallerLemmas.{generator_closed}
+use Rattle.periodic_net.proofs.CallerLemmas.{edge_in, generator_closed}
+use Rattle.net_components.specs.PartGraphs.{stair_base, IsNumber}
+use Rattle.connected_dim.specs.Search.{walk_to, shift_of}
+use Rattle.connected_dim.specs.Generators.{shift_at, generator_of}
 use Rattle.net_components.specs.Components.{Component, IsComponent}
 use Rattle.net_components.specs.Parts.{vertex_at}
 use Rattle.net_components.specs.Shifts.{IsShiftIn, IsFirstWide, IsWideAt}

@@ -3,16 +3,16 @@ use Rattle.std.proofs.Common.{◌≡◌, ℕ, ◌+◌, ◌<◌, List, [], ◌∷
 use Rattle.std.proofs.lemmas.List.{map-append}
 use Rattle.periodic_net.specs.Graph.{Graph, IsGraph, Arc}
 use Rattle.periodic_net.specs.Limits.{IsSmall}
-use Rattle.quotient_graph.specs.Edges.{edge_of}
-use Rattle.quotient_graph.specs.declared.edge.Edge.{Edge}
-use Rattle.walk_theory.specs.Components.{InComponent}
-use Rattle.walk_lattice.specs.Search.{walk_to}
+use Rattle.cgd_read.specs.Spelling.{edge_of}
+use Rattle.cgd_read.specs.declared.edge.RawEdge.{RawEdge}
+use Rattle.periodic_net.specs.Components.{InComponent}
+use Rattle.connected_dim.specs.Search.{walk_to}
 use Rattle.net_components.specs.Components.{Component, IsComponent}
 use Rattle.net_components.specs.Shifts.{AreNarrow}
 use Rattle.net_components.specs.Written.{IsEdgeOf, AreEdgesOf}
 use Rattle.net_components.proofs.Covered.{found_in, in_found}
 use Rattle.net_components.proofs.EdgeFacts.{edge, shift_is}
-use Rattle.component_theory.proofs.CallerLemmas.{passed_over, put_last}
+use Rattle.net_components.proofs.WrittenEdges.{passed_over, put_last}
 use Rattle.net_components.proofs.ListPlaces.{take_more}
 use Rattle.net_components.proofs.WrittenLists.{narrow_more}
 
@@ -27,9 +27,9 @@ module _ (G : Graph) (g : IsGraph G) (s : IsSmall G) (c : Component) (h : IsComp
   inside : Contains G.edges e
   inside = edge_at G row same i e l at
 
-  module _ (some : IsSome (walk_to c.found e.from)) (f : Edge) (w : IsEdgeOf G c e (edge_of f)) where
+  module _ (some : IsSome (walk_to c.found e.from)) (f : RawEdge) (w : IsEdgeOf G c e (edge_of f)) where
     -- an edge of the component
-    pub more_written : (fs next_fs : List Edge) → next_fs ≡ fs ++ f ∷ [] → AreEdgesOf G c (take i row) (map edge_of fs) → AreEdgesOf G c (take (i + 1) row) (map edge_of next_fs)
+    pub more_written : (fs next_fs : List RawEdge) → next_fs ≡ fs ++ f ∷ [] → AreEdgesOf G c (take i row) (map edge_of fs) → AreEdgesOf G c (take (i + 1) row) (map edge_of next_fs)
     more_written fs gs is k =
         subst (λ (es : List Arc). AreEdgesOf G c es (map edge_of gs)) (sym next)
         (subst (λ (hs : List Arc). AreEdgesOf G c (take i row ++ e ∷ []) hs) (sym (map-append edge_of fs (f ∷ [])) ∙ ap (map edge_of) (sym is))
@@ -42,10 +42,10 @@ module _ (G : Graph) (g : IsGraph G) (s : IsSmall G) (c : Component) (h : IsComp
 
   module _ (none : ¬ IsSome (walk_to c.found e.from)) where
     -- an edge of another one
-    pub same_written : (fs next_fs : List Edge) → next_fs ≡ fs → AreEdgesOf G c (take i row) (map edge_of fs) → AreEdgesOf G c (take (i + 1) row) (map edge_of next_fs)
+    pub same_written : (fs next_fs : List RawEdge) → next_fs ≡ fs → AreEdgesOf G c (take i row) (map edge_of fs) → AreEdgesOf G c (take (i + 1) row) (map edge_of next_fs)
     same_written fs gs is k =
         subst (λ (es : List Arc). AreEdgesOf G c es (map edge_of gs)) (sym next)
-        (subst (λ (hs : List Edge). AreEdgesOf G c (take i row ++ e ∷ []) (map edge_of hs)) (sym is)
+        (subst (λ (hs : List RawEdge). AreEdgesOf G c (take i row ++ e ∷ []) (map edge_of hs)) (sym is)
         (passed_over (InComponent G c.root) (IsEdgeOf G c) (take i row) (map edge_of fs) e k (λ t. none (in_found G c h e.from t g))))
 
     pub same_narrow : AreNarrow G c.root (take i row) → AreNarrow G c.root (take (i + 1) row)

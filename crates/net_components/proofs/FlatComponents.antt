@@ -2,12 +2,12 @@
 use Rattle.std.proofs.Common.{ℕ, List, Option}
 use Rattle.integers.specs.Vectors.{Vector}
 use Rattle.periodic_net.specs.Graph.{Graph, IsGraph}
-use Rattle.component_theory.specs.Components.{IsLeast}
-use Rattle.component_theory.specs.Ranks.{IsFlatAt, IsOrthogonalAt}
-use Rattle.walk_lattice.specs.Search.{AreWalks}
-use Rattle.walk_lattice.specs.Generators.{generators}
-use Rattle.walk_lattice.specs.Flat.{IsFlatNormal, IsOrthogonalTo}
-use Rattle.walk_lattice.proofs.CallerLemmas.{generators_closed, orthogonal_closed}
+use Rattle.net_components.specs.ComponentSets.{IsLeast}
+use Rattle.net_components.specs.Ranks.{IsFlatAt, IsOrthogonalAt}
+use Rattle.connected_dim.specs.Search.{AreWalks}
+use Rattle.connected_dim.specs.Generators.{generators}
+use Rattle.connected_dim.specs.Orthogonal.{IsFlatNormal, IsOrthogonalTo}
+use Rattle.connected_dim.proofs.CallerLemmas.{generators_closed, orthogonal_closed}
 
 module _ (G : Graph) (g : IsGraph G) (a : ℕ) (least : IsLeast G a) (found : List (Option Vector)) (h : AreWalks G a found) where
   -- what is orthogonal to the closed walks is so to the generators

@@ -3,17 +3,17 @@ use Rattle.std.proofs.Common.{◌≡◌, ◌≢◌, ◌⊎◌, inl, inr, ℕ, �
 use Rattle.std.proofs.lemmas.Int.{ints}
 use Rattle.std.proofs.lemmas.List.Elements.{All-contains}
 use Rattle.integers.specs.Vectors.{Vector, vector, cross, dot}
-use Rattle.hermite.specs.Stairs.{Stairs, InStairs, HasStairShape, HasFlatEnd, size_of}
-use Rattle.hermite.specs.Lattices.{Members}
+use Rattle.vecdim.specs.Stairs.{Stairs, InStairs, HasStairShape, HasFlatEnd, size_of}
+use Rattle.vecdim.specs.Lattices.{Members}
 use Rattle.periodic_net.specs.Graph.{Graph, IsGraph}
-use Rattle.component_theory.specs.Components.{IsLeast}
-use Rattle.component_theory.specs.Ranks.{IsFullAt}
-use Rattle.walk_lattice.specs.Search.{AreWalks}
-use Rattle.walk_lattice.specs.Generators.{generators}
-use Rattle.walk_lattice.specs.Full.{IsVolume}
-use Rattle.walk_lattice.specs.Lattices.{IsLatticeOf, AreClosedWalks}
-use Rattle.walk_lattice.proofs.CallerLemmas.{closed_by_volume, generators_closed}
-use Rattle.walk_lattice.specs.Paths.{AreChosenWalks}
+use Rattle.net_components.specs.ComponentSets.{IsLeast}
+use Rattle.net_components.specs.Ranks.{IsFullAt}
+use Rattle.connected_dim.specs.Search.{AreWalks}
+use Rattle.connected_dim.specs.Generators.{generators}
+use Rattle.connected_dim.specs.Full.{IsVolume}
+use Rattle.connected_dim.specs.Lattices.{IsLatticeOf, AreClosedWalks}
+use Rattle.connected_dim.proofs.CallerLemmas.{closed_by_volume, generators_closed}
+use Rattle.connected_dim.specs.Paths.{AreChosenWalks}
 use Rattle.net_components.specs.Components.{IsComponent}
 use Rattle.net_components.proofs.IndexBounds.{size_at_most}
 

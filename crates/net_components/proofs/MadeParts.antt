@@ -6,19 +6,20 @@ use Rattle.integers.specs.Staircase.{IsStaircase}
 use Rattle.integers.specs.Vectors.{zero_vector}
 use Rattle.integers.proofs.lists.Members.{is_in}
 use Rattle.integers.proofs.vectors.OneStaircase.{same_staircase}
-use Rattle.hermite.specs.Stairs.{rows_of}
-use Rattle.hermite.specs.Lattices.{Members}
-use Rattle.hermite.proofs.CallerLemmas.{rows_are_basis}
+use Rattle.vecdim.specs.Stairs.{rows_of}
+use Rattle.vecdim.specs.Lattices.{Members}
+use Rattle.vecdim.proofs.CallerLemmas.{rows_are_basis}
 use Rattle.periodic_net.specs.Graph.{Graph, IsGraph}
 use Rattle.periodic_net.specs.Limits.{IsSmall}
 use Rattle.periodic_net.specs.Split.{ClosedShift}
 use Rattle.quotient_graph.specs.Stars.{graph_with}
-use Rattle.walk_theory.specs.Components.{InComponent}
-use Rattle.component_theory.specs.Copies.{HasCopies}
-use Rattle.component_theory.specs.Parts.{IsPart}
-use Rattle.component_theory.proofs.CallerLemmas.{copy_count, edge_written}
-use Rattle.walk_lattice.specs.Search.{walk_to}
-use Rattle.walk_lattice.specs.Generators.{shift_at}
+use Rattle.periodic_net.specs.Components.{InComponent}
+use Rattle.net_components.specs.Copies.{HasCopies}
+use Rattle.net_components.specs.PartGraphs.{IsPart}
+use Rattle.net_components.proofs.CopyCount.{copy_count}
+use Rattle.net_components.proofs.WrittenEdges.{edge_written}
+use Rattle.connected_dim.specs.Search.{walk_to}
+use Rattle.connected_dim.specs.Generators.{shift_at}
 use Rattle.net_components.specs.Components.{Component, IsComponent}
 use Rattle.net_components.specs.Parts.{vertex_at, root_of, IsPartOf}
 use Rattle.net_components.specs.Shifts.{AreNarrow}

@@ -8,10 +8,12 @@ use Rattle.integers.proofs.lists.Permutations.{IsRising, rising_from_pairs, same
 use Rattle.periodic_net.specs.Graph.{Graph, IsGraph, Arc, arc}
 use Rattle.periodic_net.specs.Limits.{most_shift}
 use Rattle.quotient_graph.specs.AnyGraphs.{graph_view}
-use Rattle.walk_theory.specs.Components.{InComponent}
-use Rattle.component_theory.specs.Components.{IsLeast}
-use Rattle.component_theory.specs.Parts.{stair_base, IsWritten}
-use Rattle.component_theory.proofs.CallerLemmas.{edge_written, flat_not_full, one_least}
+use Rattle.periodic_net.specs.Components.{InComponent}
+use Rattle.net_components.specs.ComponentSets.{IsLeast}
+use Rattle.net_components.specs.PartGraphs.{stair_base, IsWritten}
+use Rattle.net_components.proofs.WrittenEdges.{edge_written}
+use Rattle.net_components.proofs.LowRank.{flat_not_full}
+use Rattle.net_components.proofs.Classes.{one_least}
 use Rattle.net_components.specs.Faults.{IsPartFault, no_memory}
 use Rattle.net_components.specs.Laws.{AnswerIsOne}
 use Rattle.net_components.specs.Parts.{vertex_at, root_of, IsPartOf, AreParts, PartView, view_of}

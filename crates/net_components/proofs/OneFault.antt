@@ -8,11 +8,14 @@ use Rattle.integers.proofs.lists.Pieces.{append_right}
 use Rattle.integers.proofs.numbers.Naturals.{three_ways}
 use Rattle.periodic_net.specs.Graph.{Graph, IsGraph, Arc, arc}
 use Rattle.periodic_net.specs.Limits.{most_shift}
-use Rattle.walk_theory.specs.Chosen.{path_shift}
-use Rattle.walk_theory.proofs.CallerLemmas.{one_chosen}
-use Rattle.component_theory.specs.Parts.{stair_base}
-use Rattle.component_theory.specs.Ranks.{IsLowRank}
-use Rattle.component_theory.proofs.CallerLemmas.{flat_not_full, one_normal, one_stair, sum_once}
+use Rattle.periodic_net.specs.Chosen.{path_shift}
+use Rattle.periodic_net.proofs.CallerLemmas.{one_chosen}
+use Rattle.net_components.specs.PartGraphs.{stair_base}
+use Rattle.net_components.specs.Ranks.{IsLowRank}
+use Rattle.net_components.proofs.LowRank.{flat_not_full}
+use Rattle.net_components.proofs.OneNormal.{one_normal}
+use Rattle.net_components.proofs.OneStair.{one_stair}
+use Rattle.net_components.proofs.StairSums.{sum_once}
 use Rattle.net_components.specs.Faults.{IsPartFault, no_memory}
 use Rattle.net_components.specs.Shifts.{IsShiftIn, IsFirstWide, IsWideAt, IsWideShift}
 use Rattle.net_components.specs.declared.fault.PartFault.{PartFault}

@@ -7,14 +7,16 @@ use Rattle.integers.proofs.lists.Pieces.{in_at}
 use Rattle.integers.proofs.lists.Members.{IsIn, contains_from_in}
 use Rattle.integers.proofs.lists.Permutations.{IsRising, rising_from_pairs, same_rising}
 use Rattle.integers.proofs.numbers.Naturals.{three_ways}
-use Rattle.hermite.specs.Stairs.{rows_of, size_of}
+use Rattle.vecdim.specs.Stairs.{rows_of, size_of}
 use Rattle.periodic_net.specs.Graph.{Graph, IsGraph, Arc, arc, IsQuotientVertex}
 use Rattle.quotient_graph.specs.AnyGraphs.{graph_view}
-use Rattle.walk_theory.specs.Chosen.{path_shift}
-use Rattle.walk_theory.specs.Components.{InComponent}
-use Rattle.walk_theory.proofs.CallerLemmas.{one_chosen}
-use Rattle.component_theory.specs.Parts.{stair_base, IsNumber, IsWritten}
-use Rattle.component_theory.proofs.CallerLemmas.{one_stair, sum_once, written_once}
+use Rattle.periodic_net.specs.Chosen.{path_shift}
+use Rattle.periodic_net.specs.Components.{InComponent}
+use Rattle.periodic_net.proofs.CallerLemmas.{one_chosen}
+use Rattle.net_components.specs.PartGraphs.{stair_base, IsNumber, IsWritten}
+use Rattle.net_components.proofs.OneStair.{one_stair}
+use Rattle.net_components.proofs.StairSums.{sum_once}
+use Rattle.net_components.proofs.WrittenEdges.{written_once}
 use Rattle.net_components.specs.Parts.{vertex_at, IsPartOf, view_of}
 use Rattle.net_components.specs.declared.parts.Part.{Part}
 

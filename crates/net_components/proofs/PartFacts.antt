@@ -10,10 +10,12 @@ use Rattle.periodic_net.specs.Graph.{Graph, IsGraph, Arc}
 use Rattle.periodic_net.specs.Limits.{IsSmall, most_shift, most_vertices, most_edges}
 use Rattle.quotient_graph.specs.Order.{arc_numbers, AreRising}
 use Rattle.quotient_graph.specs.Stars.{graph_with}
-use Rattle.walk_theory.specs.Components.{InComponent}
-use Rattle.component_theory.specs.Parts.{stair_base, IsPart, IsWritten, AreWritten, IsNumber}
-use Rattle.component_theory.proofs.CallerLemmas.{part_graph, written_as, written_below, written_few, written_for}
-use Rattle.walk_lattice.specs.Generators.{shift_at}
+use Rattle.periodic_net.specs.Components.{InComponent}
+use Rattle.net_components.specs.PartGraphs.{stair_base, IsPart, IsWritten, AreWritten, IsNumber}
+use Rattle.net_components.proofs.PartGraph.{part_graph}
+use Rattle.net_components.proofs.WrittenEdges.{written_as, written_few, written_for}
+use Rattle.net_components.proofs.EdgeOrder.{written_below}
+use Rattle.connected_dim.specs.Generators.{shift_at}
 use Rattle.net_components.specs.Components.{Component, IsComponent}
 use Rattle.net_components.specs.Parts.{vertex_at}
 use Rattle.net_components.specs.Vertices.{vertices_of}

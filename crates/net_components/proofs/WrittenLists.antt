@@ -5,17 +5,13 @@ use Rattle.std.proofs.lemmas.List.Elements.{Contains-append_cases}
 use Rattle.integers.specs.Vectors.{Vector, IsWithin}
 use Rattle.integers.proofs.lists.Members.{IsIn, is_in}
 use Rattle.periodic_net.specs.Graph.{Graph, Arc}
-use Rattle.walk_theory.specs.Components.{InComponent}
+use Rattle.periodic_net.specs.Components.{InComponent}
 use Rattle.net_components.specs.Components.{Component}
 use Rattle.net_components.specs.Shifts.{IsShiftIn, AreNarrow, IsWideAt}
 use Rattle.net_components.specs.Written.{IsWideEdge, IsWideFault}
 use Rattle.net_components.specs.declared.fault.PartFault.{PartFault}
 use Rattle.net_components.specs.declared.fault.PartFault.TheVariants.{LowRank, WideShift, NoMemory}
 use Rattle.net_components.proofs.ListPlaces.{split_at}
-
--- none among no edges is wide
-pub narrow_none : (G : Graph) (a : ℕ) → AreNarrow G a []
-narrow_none G a e i t = absurd (let l = i.1 in omega arith)
 
 -- one edge more
 pub narrow_more : (G : Graph) (a : ℕ) (es : List Arc) (e : Arc) → AreNarrow G a es → (InComponent G a e.from → (k : Vector) × IsShiftIn G a e k × IsWithin 500 k) → AreNarrow G a (es ++ e ∷ [])
@@ -40,9 +36,3 @@ wide_fault G c es same i e l at h (WideShift u v s p value) k = record {
   wide = subst (λ d. IsWideAt G c.root d p value) (sym k.0) k.1;
 }
 wide_fault G c es same i e l at h NoMemory k = k
-
--- the same of an answer
-pub wide_answer : {X : Type 0} (G : Graph) (c : Component) (es : List Arc) → es ≡ G.edges → (i : ℕ) (e : Arc) → i < length es → get_or es i e ≡ e → AreNarrow G c.root (take i es)
-    → (r : Result X PartFault) → IfErr r (IsWideEdge G c e) → IfErr r (IsWideFault G c)
-wide_answer G c es same i e l at h (Ok x) k = k
-wide_answer G c es same i e l at h (Err f) k = wide_fault G c es same i e l at h f k

@@ -1,12 +1,12 @@
 -- The components of a quotient graph, as they are found.
 use Rattle.std.specs.Prelude.{ℕ, ◌<◌, ◌^◌, List, Option, IsSome, All, AllPairs, Contains}
 use Rattle.integers.specs.Vectors.{Vector}
-use Rattle.hermite.specs.Stairs.{Stairs, size_of}
+use Rattle.vecdim.specs.Stairs.{Stairs, size_of}
 use Rattle.periodic_net.specs.Graph.{Graph, IsQuotientVertex}
-use Rattle.component_theory.specs.Components.{IsLeast}
-use Rattle.component_theory.specs.Ranks.{IsFullAt}
-use Rattle.walk_lattice.specs.Paths.{AreChosenWalks}
-use Rattle.walk_lattice.specs.Search.{walk_to, AreWalks}
+use Rattle.net_components.specs.ComponentSets.{IsLeast}
+use Rattle.net_components.specs.Ranks.{IsFullAt}
+use Rattle.connected_dim.specs.Paths.{AreChosenWalks}
+use Rattle.connected_dim.specs.Search.{walk_to, AreWalks}
 
 -- a vertex, the walks to the vertices of its component, and the staircase of its closed walks
 pub record Component : Type 0 where

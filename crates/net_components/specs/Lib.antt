@@ -1,7 +1,12 @@
+pub mod ComponentSets
 pub mod Components
+pub mod Copies
 pub mod Faults
 pub mod Laws
+pub mod PartGraphs
+pub mod PartLaws
 pub mod Parts
+pub mod Ranks
 pub mod Shifts
 pub mod Vertices
 pub mod Written

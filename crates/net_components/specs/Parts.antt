@@ -2,15 +2,15 @@
 use Rattle.std.specs.Prelude.{◌≡◌, ℕ, ◌<◌, ◌-◌, List, length, All, AllPairs, Contains, slice_index_or}
 use Rattle.integers.specs.Staircase.{IsStaircase}
 use Rattle.integers.specs.Vectors.{Vector}
-use Rattle.hermite.specs.Stairs.{Stairs, rows_of, size_of}
+use Rattle.vecdim.specs.Stairs.{Stairs, rows_of, size_of}
 use Rattle.periodic_net.specs.Graph.{Graph, Arc, IsQuotientVertex}
 use Rattle.periodic_net.specs.Limits.{IsSmall}
 use Rattle.periodic_net.specs.Split.{ClosedShift}
 use Rattle.quotient_graph.specs.AnyGraphs.{graph_view}
-use Rattle.walk_theory.specs.Chosen.{path_shift, IsChosen}
-use Rattle.walk_theory.specs.Components.{InComponent}
-use Rattle.component_theory.specs.Copies.{HasCopies}
-use Rattle.component_theory.specs.Parts.{IsPart}
+use Rattle.periodic_net.specs.Chosen.{path_shift, IsChosen}
+use Rattle.periodic_net.specs.Components.{InComponent}
+use Rattle.net_components.specs.Copies.{HasCopies}
+use Rattle.net_components.specs.PartGraphs.{IsPart}
 use Rattle.net_components.specs.declared.parts.Part.{Part}
 
 -- the vertex with a number, counted from 1

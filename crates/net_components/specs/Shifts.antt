@@ -3,14 +3,14 @@ use Rattle.std.specs.Prelude.{◌≡◌, ℕ, ◌<◌, ◌≤◌, ◌-◌, ℤ, 
 use Rattle.integers.specs.Bases.{base_sum}
 use Rattle.integers.specs.Staircase.{part}
 use Rattle.integers.specs.Vectors.{Vector, plus, minus, HasDimension, IsWithin}
-use Rattle.hermite.specs.Stairs.{Stairs}
+use Rattle.vecdim.specs.Stairs.{Stairs}
 use Rattle.periodic_net.specs.Graph.{Graph, Arc, arc}
 use Rattle.periodic_net.specs.Limits.{most_shift}
-use Rattle.walk_theory.specs.Chosen.{path_shift, IsChosen}
-use Rattle.walk_theory.specs.Components.{InComponent}
-use Rattle.component_theory.specs.Components.{IsLeast}
-use Rattle.component_theory.specs.Parts.{stair_base}
-use Rattle.component_theory.specs.Ranks.{IsFullAt}
+use Rattle.periodic_net.specs.Chosen.{path_shift, IsChosen}
+use Rattle.periodic_net.specs.Components.{InComponent}
+use Rattle.net_components.specs.ComponentSets.{IsLeast}
+use Rattle.net_components.specs.PartGraphs.{stair_base}
+use Rattle.net_components.specs.Ranks.{IsFullAt}
 
 -- e is an edge of the component of a, and k its shift there: with the chosen walks to its ends it makes a closed walk,
 -- whose coordinates are k

@@ -5,10 +5,10 @@ use Rattle.periodic_net.specs.Graph.{Graph, Arc, arc}
 use Rattle.periodic_net.specs.Limits.{most_shift}
 use Rattle.quotient_graph.specs.AnyGraphs.{graph_view}
 use Rattle.quotient_graph.specs.Stars.{graph_with}
-use Rattle.hermite.specs.Stairs.{rows_of, size_of}
-use Rattle.walk_theory.specs.Components.{InComponent}
-use Rattle.component_theory.specs.Parts.{stair_base, IsWritten, AreWritten}
-use Rattle.walk_lattice.specs.Generators.{shift_at}
+use Rattle.vecdim.specs.Stairs.{rows_of, size_of}
+use Rattle.periodic_net.specs.Components.{InComponent}
+use Rattle.net_components.specs.PartGraphs.{stair_base, IsWritten, AreWritten}
+use Rattle.connected_dim.specs.Generators.{shift_at}
 use Rattle.net_components.specs.Components.{Component}
 use Rattle.net_components.specs.Parts.{vertex_at}
 use Rattle.net_components.specs.Shifts.{IsWideAt, IsWideIn}

@@ -1,20 +1,19 @@
 // A component of a quotient graph, with the lattice of its closed walks.
 ghost use Rattle.std.specs.Prelude.{◌≡◌, ◌↔◌, ◌≤◌, length, IsTrue, IsSome, IfOk, IfErr};
-ghost use Rattle.component_theory.specs.Components.{IsLeast};
-ghost use Rattle.walk_lattice.specs.Search.{walk_to, AreWalks};
-ghost use Rattle.walk_lattice.specs.Generators.{generators};
-ghost use Rattle.walk_lattice.specs.Full.{IsVolume};
-ghost use Rattle.walk_lattice.specs.Paths.{AreChosenWalks};
+ghost use Rattle.net_components.specs.ComponentSets.{IsLeast};
+ghost use Rattle.connected_dim.specs.Search.{walk_to, AreWalks};
+ghost use Rattle.connected_dim.specs.Generators.{generators};
+ghost use Rattle.connected_dim.specs.Full.{IsVolume};
+ghost use Rattle.connected_dim.specs.Paths.{AreChosenWalks};
 ghost use Rattle.net_components.specs.Components.{IsComponent};
 ghost use Rattle.net_components.specs.Faults.{IsFlatFault};
 
 use crate::{NoMemory, PartFault};
-use hermite::Staircase;
+use connected_dim::{Rank, generators, lattice, rank_of, walks};
 use quotient_graph::Graph;
 use std::alloc::Global;
 use std::marker::Model;
-use vecdim::{Shift, Vect};
-use walk_lattice::{Rank, generators, lattice, rank_of, walks};
+use vecdim::{Shift, Staircase, Vect};
 
 /// The component of a vertex, the root: the chosen walks from the root, and the lattice of the
 /// closed ones.

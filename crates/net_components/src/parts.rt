@@ -1,7 +1,7 @@
 // The parts of a net.
 ghost use Rattle.std.specs.Prelude.{◌≡◌, ◌+◌, ◌++◌, ◌∷◌, [], OnOk, IfOk, IfErr};
-ghost use Rattle.integers.proofs.lists.Matched.{AreMatched};
-ghost use Rattle.hermite.specs.Stairs.{rows_of};
+ghost use Rattle.integers.specs.Lists.{AreMatched};
+ghost use Rattle.vecdim.specs.Stairs.{rows_of};
 ghost use Rattle.quotient_graph.specs.AnyGraphs.{graph_view};
 ghost use Rattle.net_components.specs.Components.{IsComponent, AreComponentsTo};
 ghost use Rattle.net_components.specs.Faults.{IsPartFault};
@@ -14,11 +14,10 @@ use crate::covering::components_of;
 use crate::vertices::vertices_of;
 use crate::written::written_edges;
 use crate::{NoMemory, PartFault};
-use hermite::Staircase;
 use lists::Items;
 use quotient_graph::{AnyGraph, Graph, from_edges};
 use std::alloc::Global;
-use vecdim::Triple;
+use vecdim::{Staircase, Triple};
 
 /// The graph of one copy of a component: its vertices, in rising order, have these numbers in it,
 /// and its shifts are written in the basis, the staircase basis of the component's closed walks.

@@ -4,18 +4,17 @@ ghost use Rattle.std.specs.Int.{w128};
 ghost use Rattle.integers.specs.Vectors.{IsWithin, HasDimension};
 ghost use Rattle.integers.specs.Bases.{base_sum};
 ghost use Rattle.periodic_net.specs.Limits.{most_walk, most_shift};
-ghost use Rattle.hermite.specs.Lattices.{Members};
-ghost use Rattle.component_theory.specs.Parts.{stair_base};
-ghost use Rattle.walk_lattice.specs.Search.{shift_of};
-ghost use Rattle.walk_lattice.specs.Generators.{generator_of};
+ghost use Rattle.vecdim.specs.Lattices.{Members};
+ghost use Rattle.net_components.specs.PartGraphs.{stair_base};
+ghost use Rattle.connected_dim.specs.Search.{shift_of};
+ghost use Rattle.connected_dim.specs.Generators.{generator_of};
 ghost use Rattle.net_components.specs.Shifts.{IsFirstWide};
 
 use crate::component::Component;
-use hermite::Staircase;
+use connected_dim::edge_walk;
 use periodic_net::MOST_SHIFT;
 use quotient_graph::Arc;
-use vecdim::{Triple, Vect};
-use walk_lattice::edge_walk;
+use vecdim::{Staircase, Triple, Vect};
 
 /// The first part past the limit, counted from 1.
 #[derive(Clone, Copy, Debug, PartialEq, Eq)]

@@ -1,7 +1,7 @@
 // The components of small nets, worked out by hand.
 use crate::{Part, PartFault, components};
-use cgd_read::{Body, blocks, from_raw};
-use quotient_graph::AnyGraph;
+use cgd_read::{Body, blocks};
+use quotient_graph::{AnyGraph, from_raw};
 use std::alloc::Global;
 use std::process::Abort;
 use std::test::Fail;

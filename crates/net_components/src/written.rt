@@ -3,8 +3,8 @@ ghost use Rattle.std.specs.Prelude.{◌≡◌, ◌++◌, ◌∷◌, [], map, Con
 ghost use Rattle.integers.specs.Vectors.{IsWithin};
 ghost use Rattle.periodic_net.specs.Graph.{arc};
 ghost use Rattle.periodic_net.specs.Limits.{most_shift};
-ghost use Rattle.quotient_graph.specs.Edges.{edge_of};
-ghost use Rattle.walk_lattice.specs.Search.{walk_to};
+ghost use Rattle.cgd_read.specs.Spelling.{edge_of};
+ghost use Rattle.connected_dim.specs.Search.{walk_to};
 ghost use Rattle.net_components.specs.Components.{IsComponent};
 ghost use Rattle.net_components.specs.Vertices.{vertices_of};
 ghost use Rattle.net_components.specs.Written.{IsEdgeOf, AreEdgesOf, IsWideEdge, IsWideFault};
@@ -13,16 +13,16 @@ use crate::component::Component;
 use crate::shifts::{first_wide, shift_in};
 use crate::vertices::number_of;
 use crate::{NoMemory, PartFault};
-use quotient_graph::{Arc, Edge, Graph};
+use quotient_graph::{Arc, Graph, RawEdge};
 use std::alloc::Global;
 use vecdim::Triple;
 
 // The edge between two vertices by a shift.
-fn raw_edge(u: u32, v: u32, k: &Triple) -> Edge
+fn raw_edge(u: u32, v: u32, k: &Triple) -> RawEdge
     requires { IsWithin most_shift k.now }
     ensures { edge_of result ≡ arc u v k.now }
 {
-    Edge {
+    RawEdge {
         u,
         v,
         x: k.x as i32,
@@ -37,7 +37,7 @@ fn written_edge<const D: usize>(
     c: &Component<D>,
     vertices: &[u32],
     e: &Arc<D>,
-) -> Result<Edge, PartFault>
+) -> Result<RawEdge, PartFault>
     requires component { IsComponent g.now c.now }
     requires vertices { vertices.now ≡ vertices_of 1 c.now.found }
     requires edge { Contains g.now.edges e.now }
@@ -62,7 +62,7 @@ fn written_edge<const D: usize>(
 }
 
 // Puts an edge last.
-fn push(edges: &mut Vec<Edge>, edge: Edge) -> Result<(), NoMemory>
+fn push(edges: &mut Vec<RawEdge>, edge: RawEdge) -> Result<(), NoMemory>
     ensures { OnOk result (edges.new.items ≡ edges.old.items ++ edge ∷ []) }
 {
     edges.push(edge)?;
@@ -75,7 +75,7 @@ pub fn written_edges<const D: usize>(
     g: &Graph<D>,
     c: &Component<D>,
     vertices: &[u32],
-) -> Result<Vec<Edge>, PartFault>
+) -> Result<Vec<RawEdge>, PartFault>
     requires component { IsComponent g.now c.now }
     requires vertices { vertices.now ≡ vertices_of 1 c.now.found }
     ensures written { IfOk result (λ es.

@@ -5,12 +5,13 @@ use Rattle.std.proofs.lemmas.List.Sorted.{IsPermutation-refl}
 use Rattle.integers.specs.Bases.{Base}
 use Rattle.periodic_net.specs.Graph.{Graph, IsGraph, Arc}
 use Rattle.periodic_net.specs.Limits.{IsSmall, most_vertices, most_edges}
-use Rattle.hermite.specs.Stairs.{Stairs, size_of}
+use Rattle.vecdim.specs.Stairs.{Stairs, size_of}
 use Rattle.quotient_graph.specs.Stars.{IsInOrder, graph_with}
 use Rattle.sublattice.specs.Sublattices.{determinant, index_of, IsSublattice}
-use Rattle.cover_theory.specs.Cells.{IsCell}
-use Rattle.cover_theory.specs.Covers.{edge_at, AreGiven, IsCover}
-use Rattle.cover_theory.proofs.CallerLemmas.{cover_made, given_within}
+use Rattle.net_cover.specs.UnitCells.{IsCell}
+use Rattle.net_cover.specs.Covers.{edge_at, AreGiven, IsCover}
+use Rattle.net_cover.proofs.CoverMade.{cover_made}
+use Rattle.net_cover.proofs.GivenLists.{given_within}
 use Rattle.net_cover.specs.Cells.{CellView, IsLatticeOfCell, IsWritten, index_in}
 use Rattle.net_cover.specs.Faults.{IsCoverFault, FitsEdges, AreShiftsWithin, LiftsWithin}
 use Rattle.net_cover.specs.Lifting.{TellsFirst}

@@ -6,10 +6,11 @@ use Rattle.integers.specs.Bases.{Base}
 use Rattle.integers.specs.Vectors.{zero_vector, IsWithin}
 use Rattle.periodic_net.specs.Graph.{Arc, arc}
 use Rattle.periodic_net.specs.Limits.{most_shift}
-use Rattle.hermite.specs.Stairs.{Stairs, size_of}
+use Rattle.vecdim.specs.Stairs.{Stairs, size_of}
 use Rattle.sublattice.specs.Sublattices.{index_of}
-use Rattle.cover_theory.specs.Covers.{edge_at, IsLift, Spells, AreGiven}
-use Rattle.cover_theory.proofs.CallerLemmas.{given_within, one_given, lift_point}
+use Rattle.net_cover.specs.Covers.{edge_at, IsLift, Spells, AreGiven}
+use Rattle.net_cover.proofs.GivenLists.{given_within, one_given}
+use Rattle.net_cover.proofs.CoverArcs.{lift_point}
 use Rattle.net_cover.specs.Lifting.{TellsLift, TellsEdge, TellsFirst, CanLift}
 use Rattle.net_cover.specs.Cells.{IsLatticeOfCell}
 use Rattle.net_cover.specs.declared.faults.CoverFault.{CoverFault}

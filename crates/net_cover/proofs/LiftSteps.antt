@@ -7,11 +7,11 @@ use Rattle.integers.specs.Vectors.{Vector, plus, minus, HasDimension, IsWithin}
 use Rattle.integers.proofs.vectors.Laws.{plus_minus}
 use Rattle.periodic_net.specs.Graph.{Arc, arc}
 use Rattle.periodic_net.specs.Limits.{most_vertices}
-use Rattle.hermite.specs.Stairs.{Stairs, HasStairShape, IsRemainder, size_of}
+use Rattle.vecdim.specs.Stairs.{Stairs, HasStairShape, IsRemainder, size_of}
 use Rattle.sublattice.specs.Remainders.{HasNumber, remainder_with}
 use Rattle.sublattice.specs.Sublattices.{index_of, IsCombination}
 use Rattle.sublattice.proofs.CallerLemmas.{factors_small, remainders_numbered}
-use Rattle.cover_theory.specs.Covers.{number_in_cover, LeadsTo, IsLift, IsNewShift}
+use Rattle.net_cover.specs.Covers.{number_in_cover, LeadsTo, IsLift, IsNewShift}
 use Rattle.net_cover.specs.Cells.{IsLatticeOfCell}
 use Rattle.net_cover.specs.Lifting.{TellsPart, TellsLift}
 use Rattle.net_cover.specs.declared.faults.CoverFault.{CoverFault}

@@ -6,7 +6,7 @@ use Rattle.integers.proofs.lists.Permutations.{rising_from_pairs, same_rising}
 use Rattle.integers.specs.Vectors.{IsBelow}
 use Rattle.periodic_net.specs.Graph.{Arc}
 use Rattle.quotient_graph.specs.Order.{arc_numbers}
-use Rattle.cover_theory.proofs.CallerLemmas.{cover_vertices, cover_edge}
+use Rattle.net_cover.proofs.OneLattice.{cover_vertices, cover_edge}
 use Rattle.net_cover.specs.Laws.{OneCover}
 
 -- one arc comes before another

@@ -8,10 +8,11 @@ use Rattle.integers.specs.Vectors.{Vector, IsWithin}
 use Rattle.periodic_net.specs.Graph.{Graph, IsGraph, Arc}
 use Rattle.periodic_net.specs.Limits.{most_shift}
 use Rattle.sublattice.specs.Sublattices.{IsSublattice}
-use Rattle.hermite.specs.Stairs.{Stairs, size_of}
-use Rattle.cover_theory.specs.Cells.{IsCell}
-use Rattle.cover_theory.specs.Covers.{edge_at}
-use Rattle.cover_theory.proofs.CallerLemmas.{one_lattice, shift_once}
+use Rattle.vecdim.specs.Stairs.{Stairs, size_of}
+use Rattle.net_cover.specs.UnitCells.{IsCell}
+use Rattle.net_cover.specs.Covers.{edge_at}
+use Rattle.net_cover.proofs.OneLattice.{one_lattice}
+use Rattle.net_cover.proofs.NewShifts.{shift_once}
 use Rattle.net_cover.specs.Cells.{CellView, IsWritten}
 use Rattle.net_cover.specs.Faults.{IsCoverFault, IsWidePart, IsWideLift, IsFirstWide, LiftsWithin}
 use Rattle.net_cover.specs.Laws.{OneCoverFault, CoverIsNotRefused}

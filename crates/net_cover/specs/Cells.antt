@@ -3,9 +3,9 @@ use Rattle.std.specs.Prelude.{◌≡◌, ◌⊎◌, ℕ, ◌≤◌, ℤ, cond, �
 use Rattle.integers.specs.Bases.{Base}
 use Rattle.integers.specs.Vectors.{Vector, vector, zero_vector, up_vector, triple_product, HasDimension, IsWithin}
 use Rattle.periodic_net.specs.Limits.{most_vertices, most_shift}
-use Rattle.hermite.specs.Stairs.{Stairs}
+use Rattle.vecdim.specs.Stairs.{Stairs}
 use Rattle.sublattice.specs.Sublattices.{determinant, index_of, IsSublattice}
-use Rattle.cover_theory.specs.Cells.{IsCell}
+use Rattle.net_cover.specs.UnitCells.{IsCell}
 
 -- a cell as contracts see it: its dimension, and its rows, of which the third counts for nothing in dimension 2
 pub record CellView : Type 0 where

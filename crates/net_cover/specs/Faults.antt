@@ -5,9 +5,9 @@ use Rattle.integers.specs.Staircase.{part}
 use Rattle.integers.specs.Vectors.{Vector, IsWithin}
 use Rattle.periodic_net.specs.Graph.{Graph, Arc}
 use Rattle.periodic_net.specs.Limits.{most_vertices, most_edges, most_shift}
-use Rattle.hermite.specs.Stairs.{Stairs, size_of}
+use Rattle.vecdim.specs.Stairs.{Stairs, size_of}
 use Rattle.sublattice.specs.Sublattices.{IsSublattice}
-use Rattle.cover_theory.specs.Covers.{IsNewShift, edge_at}
+use Rattle.net_cover.specs.Covers.{IsNewShift, edge_at}
 use Rattle.net_cover.specs.Cells.{CellView, determinant_in, index_in}
 use Rattle.net_cover.specs.declared.faults.CoverFault.{CoverFault}
 use Rattle.net_cover.specs.declared.faults.CoverFault.TheVariants.{CellDimension, CellRank, CoverVertices, CoverEdges, CoverShift, NoMemory}

@@ -3,7 +3,7 @@ use Rattle.std.specs.Prelude.{◌≡◌, ◌≢◌}
 use Rattle.integers.specs.Bases.{Base}
 use Rattle.periodic_net.specs.Graph.{Graph, IsGraph}
 use Rattle.quotient_graph.specs.Order.{AreRising}
-use Rattle.cover_theory.specs.Covers.{IsCover}
+use Rattle.net_cover.specs.Covers.{IsCover}
 use Rattle.net_cover.specs.Cells.{CellView, IsWritten}
 use Rattle.net_cover.specs.Faults.{IsCoverFault, IsCoverable}
 use Rattle.net_cover.specs.declared.faults.CoverFault.{CoverFault}

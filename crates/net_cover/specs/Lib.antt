@@ -1,4 +1,10 @@
+pub mod CellWords
 pub mod Cells
+pub mod CoverLaws
+pub mod Covers
 pub mod Faults
 pub mod Laws
 pub mod Lifting
+pub mod Reading
+pub mod UnitCells
+pub mod WordLaws

@@ -4,8 +4,8 @@ use Rattle.integers.specs.Bases.{Base}
 use Rattle.integers.specs.Vectors.{Vector, zero_vector, HasDimension, IsWithin}
 use Rattle.periodic_net.specs.Graph.{Arc}
 use Rattle.periodic_net.specs.Limits.{most_vertices, most_shift}
-use Rattle.hermite.specs.Stairs.{Stairs, size_of}
-use Rattle.cover_theory.specs.Covers.{edge_at}
+use Rattle.vecdim.specs.Stairs.{Stairs, size_of}
+use Rattle.net_cover.specs.Covers.{edge_at}
 use Rattle.net_cover.specs.Faults.{IsWidePart, IsWideLift, LiftsWithin}
 use Rattle.net_cover.specs.declared.faults.CoverFault.{CoverFault}
 use Rattle.net_cover.specs.declared.faults.CoverFault.TheVariants.{CoverShift, NoMemory}

@@ -2,10 +2,9 @@
 ghost use Rattle.std.specs.Prelude.{◌≡◌, ◌⊎◌, ◌≤◌};
 ghost use Rattle.sublattice.specs.Sublattices.{index_of, IsSublattice};
 
-use hermite::Staircase;
 use std::marker::Model;
 use sublattice::lattice_of;
-use vecdim::{Triple, product_of_three};
+use vecdim::{Staircase, Triple, product_of_three};
 
 /// A cell of dimension `dim`, 2 or 3, with the rows `a`, `b` and `c` in whole steps. Their parts
 /// are from -500 to 500; in dimension 2 the row `c` is 0, and so are the parts `z`. Contracts see

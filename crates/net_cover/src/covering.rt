@@ -3,7 +3,7 @@ ghost use Rattle.std.specs.Prelude.{◌≡◌, ◌*◌, ◌≤◌, IfOk, IfErr, 
 ghost use Rattle.periodic_net.specs.Limits.{most_vertices};
 ghost use Rattle.periodic_net.specs.Maps.{Iso};
 ghost use Rattle.quotient_graph.specs.AnyGraphs.{graph_view};
-ghost use Rattle.cover_theory.specs.Covers.{IsCover, HasCoverSize};
+ghost use Rattle.net_cover.specs.Covers.{IsCover, HasCoverSize};
 ghost use Rattle.net_cover.specs.Cells.{index_in};
 ghost use Rattle.net_cover.specs.Faults.{IsCoverFault, IsCoverable, FitsEdges};
 

@@ -3,17 +3,16 @@ ghost use Rattle.std.specs.Prelude.{◌≡◌, ◌≢◌, [], ◌∷◌, ◌++�
 ghost use Rattle.integers.specs.Vectors.{zero_vector, HasDimension, IsWithin};
 ghost use Rattle.periodic_net.specs.Limits.{most_vertices, most_shift};
 ghost use Rattle.sublattice.specs.Sublattices.{index_of};
-ghost use Rattle.cover_theory.specs.Covers.{number_in_cover, IsLift, Spells, AreGiven};
+ghost use Rattle.net_cover.specs.Covers.{number_in_cover, IsLift, Spells, AreGiven};
 ghost use Rattle.net_cover.specs.Cells.{IsLatticeOfCell};
 ghost use Rattle.net_cover.specs.Lifting.{IsWideNumber, TellsPart, TellsLift, TellsEdge, TellsFirst, CanLift, CanLiftAll};
 
 use crate::{Cell, CoverFault, NoMemory};
-use hermite::Staircase;
 use periodic_net::MOST_SHIFT;
 use quotient_graph::Arc;
 use std::alloc::Global;
 use sublattice::{remainder_at, remainder_number};
-use vecdim::{Shift, Triple};
+use vecdim::{Shift, Staircase, Triple};
 
 // A part of a new shift, where it is within the limit.
 fn small_part(x: i128) -> Result<i32, CoverFault>

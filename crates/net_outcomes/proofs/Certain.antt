@@ -14,13 +14,13 @@ use Rattle.cgd_read.specs.declared.block.Body.TheVariants as read
 use Rattle.least_key.specs.Certain.{IsCertain}
 use Rattle.least_key.proofs.CallerLemmas.{certain_is_not_refused}
 use Rattle.quotient_graph.specs.Stars.{IsInOrder}
-use Rattle.net_entries.specs.Entries.{EntryView}
+use Rattle.archive_text.specs.Entries.{EntryView}
 use Rattle.net_archive.specs.Archives.{IsEntry}
 use Rattle.net_report.specs.declared.outcome.Outcome.{Outcome}
 use Rattle.net_report.specs.declared.outcome.OutcomeBody.{OutcomeBody}
 use Rattle.net_report.specs.declared.outcome.OutcomeBody.TheVariants.{Unsupported, Malformed, Refused, Checked, Located, Keyed, Identified, Lines, Faulty as FaultyItem}
-use Rattle.net_commands.specs.declared.command.Command.{Command}
-use Rattle.net_commands.specs.declared.command.Command.TheVariants.{Components}
+use Rattle.net_report.specs.declared.command.Command.{Command}
+use Rattle.net_report.specs.declared.command.Command.TheVariants.{Components}
 use Rattle.net_outcomes.specs.Deciding.{AreOutcomes}
 use Rattle.net_outcomes.specs.Outcomes.{AreOutcomesFrom, IsBodyOf, IsRefusedAs, MayTell, is_accepted_body}
 use Rattle.net_archive.proofs.CallerLemmas.{keys_decide_archive}

@@ -9,8 +9,8 @@ use Rattle.least_key.specs.AnyNets.{net_view}
 use Rattle.least_key.specs.Placings.{IsPlacedAs}
 use Rattle.least_key.specs.declared.net.Net.{Net}
 use Rattle.least_key.proofs.CallerLemmas.{key_of_graph}
-use Rattle.net_entries.specs.Entries.{EntryView}
-use Rattle.net_entries.specs.Lookups.{names_with}
+use Rattle.archive_text.specs.Entries.{EntryView}
+use Rattle.archive_text.specs.Lookups.{names_with}
 use Rattle.net_archive.specs.Archives.{IsEntry}
 use Rattle.net_report.specs.declared.outcome.Size.{Size}
 use Rattle.net_archive.specs.Deciding.{AreNamesOf}

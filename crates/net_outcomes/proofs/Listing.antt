@@ -8,13 +8,13 @@ use Rattle.cgd_read.specs.Blocks.{IsReadBody}
 use Rattle.cgd_read.specs.Views.{BlockView, block_view, views}
 use Rattle.cgd_read.specs.declared.block.Block.{Block}
 use Rattle.net_archive.specs.Archives.{IsEntry}
-use Rattle.net_entries.specs.Entries.{EntryView}
+use Rattle.archive_text.specs.Entries.{EntryView}
 use Rattle.net_report.specs.Reports.{IsPrintable}
 use Rattle.net_report.specs.declared.outcome.Outcome.{Outcome}
 use Rattle.net_outcomes.specs.Deciding.{AreOutcomes}
 use Rattle.net_outcomes.specs.Outcomes.{IsOutcomeOf, AreOutcomesFrom}
 use Rattle.net_outcomes.proofs.Certain.{graphs_read, outcomes_decide}
-use Rattle.net_commands.specs.declared.command.Command.{Command}
+use Rattle.net_report.specs.declared.command.Command.{Command}
 
 -- one more block and its outcome at the end
 outcomes_last : (entries : List EntryView) (command : Command) (n : ℕ) (bs : List BlockView) (os : List Outcome) (b : BlockView) (o : Outcome) → AreOutcomesFrom entries command n bs os → IsOutcomeOf entries command (n + length bs) b o

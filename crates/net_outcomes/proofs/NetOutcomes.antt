@@ -8,12 +8,12 @@ use Rattle.quotient_graph.specs.Stars.{IsInOrder}
 use Rattle.least_key.specs.Truths.{IsTrueOf, IsOfConnecting, IsOfPlacing}
 use Rattle.least_key.specs.declared.refusal.Refusal.{Refusal}
 use Rattle.least_key.specs.declared.refusal.Refusal.TheVariants.{NoMemory}
-use Rattle.net_entries.specs.Entries.{EntryView}
+use Rattle.archive_text.specs.Entries.{EntryView}
 use Rattle.net_report.specs.declared.outcome.OutcomeBody.{OutcomeBody}
 use Rattle.net_report.specs.declared.outcome.OutcomeBody.TheVariants.{Refused}
 use Rattle.net_outcomes.specs.Outcomes.{size_of, MayTell, IsBodyOf}
-use Rattle.net_commands.specs.declared.command.Command.{Command}
-use Rattle.net_commands.specs.declared.command.Command.TheVariants.{Check, Place, Key, Identify}
+use Rattle.net_report.specs.declared.command.Command.{Command}
+use Rattle.net_report.specs.declared.command.Command.TheVariants.{Check, Place, Key, Identify}
 use Rattle.net_outcomes.proofs.OnlyPlacement.{is_graph_in}
 
 -- a test for connectedness may report its refusals

@@ -9,8 +9,8 @@ use Rattle.cgd_read.specs.Views.{RawView, BodyView, Net, Other, Faulty, BlockVie
 use Rattle.quotient_graph.specs.Splits.{split_view}
 use Rattle.quotient_graph.specs.Stars.{IsInOrder}
 use Rattle.quotient_graph.proofs.CallerLemmas.{one_in_order}
-use Rattle.component_report.specs.Told.{AreComponentsTold}
-use Rattle.component_report.proofs.CallerLemmas.{one_telling as one_telling_of_parts}
+use Rattle.net_outcomes.specs.Told.{AreComponentsTold}
+use Rattle.net_outcomes.proofs.OneTelling.{one_telling as one_telling_of_parts}
 use Rattle.coordination.specs.Sequences.{AreSequencesOf}
 use Rattle.coordination.proofs.CallerLemmas.{one_list_of_sequences}
 use Rattle.least_key.specs.AnyNets.{net_view}
@@ -24,7 +24,7 @@ use Rattle.least_key.specs.declared.path.AnyPlaced.{AnyPlaced}
 use Rattle.least_key.specs.declared.refusal.Refusal.{Refusal}
 use Rattle.least_key.specs.declared.refusal.Refusal.TheVariants.{Disconnected, Degenerate, NoModulus, WidePlacement, Collision, TooMuch, NoMemory}
 use Rattle.least_key.proofs.CallerLemmas.{certain_is_not_refused, keyed_is_certain, one_net, one_placed, one_refusal, placed_is_not_refused}
-use Rattle.net_entries.specs.Entries.{EntryView}
+use Rattle.archive_text.specs.Entries.{EntryView}
 use Rattle.net_archive.specs.Deciding.{AreNamesOf}
 use Rattle.net_report.specs.Headers.{fault_text, header_text, size_text, unsupported_text}
 use Rattle.net_report.specs.Identified.{found_names_text, sequences_text}
@@ -37,8 +37,8 @@ use Rattle.net_report.specs.declared.outcome.Outcome.{Outcome}
 use Rattle.net_report.specs.declared.outcome.OutcomeBody.{OutcomeBody}
 use Rattle.net_report.specs.declared.outcome.OutcomeBody.TheVariants.{Unsupported, Malformed, Refused, Checked, Located, Keyed, Identified, Lines}
 use Rattle.net_report.specs.declared.outcome.Size.{Size}
-use Rattle.net_commands.specs.declared.command.Command.{Command}
-use Rattle.net_commands.specs.declared.command.Command.TheVariants.{Check, Place, Key, Identify, Components}
+use Rattle.net_report.specs.declared.command.Command.{Command}
+use Rattle.net_report.specs.declared.command.Command.TheVariants.{Check, Place, Key, Identify, Components}
 use Rattle.net_outcomes.specs.Deciding.{key_told}
 use Rattle.net_outcomes.specs.Laws.{OneReport}
 use Rattle.net_outcomes.specs.Outcomes.{AreOutcomesFrom, IsBodyOf, IsCheckedAs, IsDividedAs, IsGraphOf, IsIdentifiedAs, IsKeyedAs, IsLocatedAs, IsOutcomeOf, IsRefusedAs, MayTell, is_accepted, is_accepted_body}

@@ -5,16 +5,16 @@ use Rattle.cgd_read.specs.Graphs.{graph_of}
 use Rattle.cgd_read.specs.Views.{RawView, BodyView, Net, Other, Faulty}
 use Rattle.quotient_graph.specs.Stars.{IsInOrder}
 use Rattle.least_key.specs.declared.refusal.Refusal.{Refusal}
-use Rattle.net_entries.specs.Entries.{EntryView}
+use Rattle.archive_text.specs.Entries.{EntryView}
 use Rattle.net_report.specs.Refusals.{HasLine}
 use Rattle.net_report.specs.Reports.{IsPrintableBody}
 use Rattle.net_report.specs.declared.outcome.OutcomeBody.{OutcomeBody}
 use Rattle.net_report.specs.declared.outcome.OutcomeBody.TheVariants.{Unsupported, Malformed, Refused, Checked, Located, Keyed, Identified, Lines, Faulty as FaultyItem}
 use Rattle.least_key.specs.Truths.{IsTrueOf}
 use Rattle.net_outcomes.specs.Outcomes.{MayTell, IsBodyOf}
-use Rattle.net_commands.specs.declared.command.Command.{Command}
-use Rattle.net_commands.specs.declared.command.Command.TheVariants.{Place, Identify}
-use Rattle.component_report.proofs.CallerLemmas.{refusal_line}
+use Rattle.net_report.specs.declared.command.Command.{Command}
+use Rattle.net_report.specs.declared.command.Command.TheVariants.{Place, Identify}
+use Rattle.net_outcomes.proofs.RefusalLines.{refusal_line}
 
 -- a true refusal that may be reported has a line with the names of the block
 line_of : (command : Command) (raw : RawView) (H : Graph) (refusal : Refusal) → IsGraph H → IsInOrder (graph_of raw) H

@@ -8,11 +8,11 @@ use Rattle.cgd_read.specs.Blocks.{IsReadBody}
 use Rattle.cgd_read.specs.Views.{BlockView, block_view, views}
 use Rattle.cgd_read.specs.declared.block.Block.{Block}
 use Rattle.net_archive.specs.Archives.{IsEntry}
-use Rattle.net_entries.specs.Entries.{EntryView}
+use Rattle.archive_text.specs.Entries.{EntryView}
 use Rattle.net_report.specs.Reports.{IsPrintable, outcome_text, report_text}
 use Rattle.net_report.specs.declared.outcome.Outcome.{Outcome}
 use Rattle.net_report.proofs.CallerLemmas.{report_last}
-use Rattle.net_commands.specs.declared.command.Command.{Command}
+use Rattle.net_report.specs.declared.command.Command.{Command}
 use Rattle.net_outcomes.specs.Outcomes.{is_accepted}
 use Rattle.net_outcomes.specs.Reports.{IsReport, IsBlockTold}
 use Rattle.net_outcomes.proofs.Listing.{AreOutcomesOn, outcomes_next, outcomes_whole}

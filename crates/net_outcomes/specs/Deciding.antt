@@ -8,13 +8,13 @@ use Rattle.cgd_read.specs.Views.{RawView, Net, BlockView}
 use Rattle.quotient_graph.specs.Stars.{IsInOrder}
 use Rattle.least_key.specs.AnyNets.{net_view}
 use Rattle.least_key.specs.Certain.{IsCertain}
-use Rattle.net_entries.specs.Entries.{EntryView}
+use Rattle.archive_text.specs.Entries.{EntryView}
 use Rattle.net_archive.specs.Deciding.{KeysDecideArchive}
 use Rattle.net_report.specs.declared.outcome.Outcome.{Outcome}
 use Rattle.net_report.specs.declared.outcome.OutcomeBody.{OutcomeBody}
 use Rattle.net_report.specs.declared.outcome.OutcomeBody.TheVariants.{Keyed, Identified}
-use Rattle.net_commands.specs.declared.command.Command.{Command}
-use Rattle.net_commands.specs.declared.command.Command.TheVariants.{Components}
+use Rattle.net_report.specs.declared.command.Command.{Command}
+use Rattle.net_report.specs.declared.command.Command.TheVariants.{Components}
 use Rattle.net_outcomes.specs.Outcomes.{AreOutcomesFrom, is_accepted}
 
 -- the key that is reported of a block

@@ -1,8 +1,8 @@
 -- What is reported of blocks is one.
 use Rattle.std.specs.Prelude.{◌≡◌, ℕ, Bool, List}
 use Rattle.cgd_read.specs.Views.{BlockView}
-use Rattle.net_entries.specs.Entries.{EntryView}
-use Rattle.net_commands.specs.declared.command.Command.{Command}
+use Rattle.archive_text.specs.Entries.{EntryView}
+use Rattle.net_report.specs.declared.command.Command.{Command}
 use Rattle.net_outcomes.specs.Reports.{IsReport}
 
 -- two reports on the same blocks are one

@@ -1,4 +1,7 @@
-pub mod Outcomes
+pub mod ComponentLaws
 pub mod Deciding
-pub mod Reports
 pub mod Laws
+pub mod Outcomes
+pub mod Reports
+pub mod Texts
+pub mod Told

@@ -5,9 +5,9 @@ use Rattle.periodic_net.specs.Placement.{Placement, IsBarycentric, IsTranslate}
 use Rattle.cgd_read.specs.Graphs.{graph_of}
 use Rattle.cgd_read.specs.Views.{RawView, BodyView, Net, Other, Faulty, BlockView}
 use Rattle.quotient_graph.specs.Stars.{IsInOrder}
-use Rattle.component_report.specs.Told.{AreComponentsTold}
+use Rattle.net_outcomes.specs.Told.{AreComponentsTold}
 use Rattle.coordination.specs.Sequences.{AreSequencesOf}
-use Rattle.net_entries.specs.Entries.{EntryView}
+use Rattle.archive_text.specs.Entries.{EntryView}
 use Rattle.net_archive.specs.Deciding.{AreNamesOf}
 use Rattle.net_report.specs.declared.outcome.Size.{Size}
 pub use Rattle.net_report.specs.declared.outcome.Outcome.{Outcome}
@@ -22,8 +22,8 @@ use Rattle.least_key.specs.declared.net.Net.{Net as KeyedNet}
 use Rattle.least_key.specs.declared.path.AnyPlaced.{AnyPlaced}
 use Rattle.least_key.specs.declared.refusal.Refusal.{Refusal}
 use Rattle.least_key.specs.declared.refusal.Refusal.TheVariants.{NoMemory}
-use Rattle.net_commands.specs.declared.command.Command.{Command}
-use Rattle.net_commands.specs.declared.command.Command.TheVariants.{Check, Place, Key, Identify, Components}
+use Rattle.net_report.specs.declared.command.Command.{Command}
+use Rattle.net_report.specs.declared.command.Command.TheVariants.{Check, Place, Key, Identify, Components}
 
 -- its sizes
 abbrev pub size_of : RawView → Size

@@ -2,11 +2,11 @@
 use Rattle.std.specs.Prelude.{◌≡◌, ℕ, Bool, List, ◌++◌}
 use Rattle.std.specs.List.{list_all}
 use Rattle.cgd_read.specs.Views.{BlockView}
-use Rattle.net_entries.specs.Entries.{EntryView}
+use Rattle.archive_text.specs.Entries.{EntryView}
 use Rattle.net_report.specs.Reports.{IsPrintable, outcome_text}
 pub use Rattle.net_report.specs.Reports.{report_text}
 use Rattle.net_report.specs.declared.outcome.Outcome.{Outcome}
-use Rattle.net_commands.specs.declared.command.Command.{Command}
+use Rattle.net_report.specs.declared.command.Command.{Command}
 use Rattle.net_outcomes.specs.Deciding.{AreOutcomes}
 use Rattle.net_outcomes.specs.Outcomes.{IsOutcomeOf, is_accepted}
 

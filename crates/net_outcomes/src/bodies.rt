@@ -3,20 +3,20 @@ ghost use Rattle.std.specs.Prelude.{◌≡◌, ◌≢◌, IfOk, List};
 ghost use Rattle.coordination.specs.Sequences.{AreSequencesOf};
 ghost use Rattle.least_key.specs.AnyNets.{net_view};
 ghost use Rattle.net_archive.specs.Archives.{IsArchive};
-ghost use Rattle.net_entries.specs.Entries.{EntryView};
-ghost use Rattle.net_entries.specs.Lookups.{names_with};
+ghost use Rattle.archive_text.specs.Entries.{EntryView};
+ghost use Rattle.archive_text.specs.Lookups.{names_with};
 ghost use Rattle.cgd_read.specs.Graphs.{IsReadGraph};
 ghost use Rattle.cgd_read.specs.Views.{Net as ReadNet, body_view, raw_view};
 ghost use Rattle.cgd_read.specs.Blocks.{IsReadBody};
 ghost use Rattle.net_outcomes.specs.Outcomes.{size_of, IsBodyOf, IsKeyedAs};
 
-use cgd_read::{Block, Body, Names, RawGraph, from_raw};
-use component_report::tell_components;
+use crate::tell_components;
+use cgd_read::{Block, Body, Names, RawGraph};
 use coordination::Sequences;
 use least_key::{Net, Refusal, check_any, identify, place_any};
 use net_archive::Archive;
-use net_commands::Command;
-use net_report::{NoMemory, OutcomeBody, Size};
+use net_report::{Command, NoMemory, OutcomeBody, Size};
+use quotient_graph::from_raw;
 use std::alloc::Global;
 
 fn size_of(raw: &RawGraph<'_>) -> Size

@@ -10,8 +10,7 @@ ghost use Rattle.net_outcomes.specs.Outcomes.{IsOutcomeOf, is_accepted_body, is_
 use crate::bodies::body_of;
 use cgd_read::Block;
 use net_archive::Archive;
-use net_commands::Command;
-use net_report::{NoMemory, Outcome, OutcomeBody, Outcomes};
+use net_report::{Command, NoMemory, Outcome, OutcomeBody, Outcomes};
 use std::alloc::Global;
 
 /// What a command reports on the block with this number, beside an archive.

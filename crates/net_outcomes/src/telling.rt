@@ -9,8 +9,7 @@ ghost use Rattle.net_outcomes.specs.Reports.{IsReport, IsBlockTold};
 use crate::outcomes::{is_accepted, outcome_of};
 use cgd_read::Block;
 use net_archive::Archive;
-use net_commands::Command;
-use net_report::{NoMemory, Outcome, push_outcome};
+use net_report::{Command, NoMemory, Outcome, push_outcome};
 use std::alloc::Global;
 
 /// The texts of the outcomes of blocks, one after the other, and whether each block was accepted.
@@ -43,7 +42,9 @@ fn tell_block(
         (block_view block.now) accepted text.old.items text.new.items) }
 {
     let outcome = outcome_of(*text.allocator(), command, archive, number, block)?;
-    tell_outcome(text, &outcome)
+    let told = tell_outcome(text, &outcome);
+    drop(outcome);
+    told
 }
 
 /// Writes what a command reports on each block, beside an archive. An outcome is let go once its

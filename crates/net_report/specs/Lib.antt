@@ -1,10 +1,11 @@
-pub mod Numbers
-pub mod KindNames
 pub mod Headers
-pub mod Keys
-pub mod Primitives
-pub mod Sequences
 pub mod Identified
-pub mod Refusals
+pub mod Keys
+pub mod KindNames
+pub mod Numbers
 pub mod Placements
+pub mod Primitives
+pub mod Refusals
 pub mod Reports
+pub mod Sequences
+pub mod Statuses

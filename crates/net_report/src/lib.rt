@@ -1,6 +1,8 @@
 //! The texts that are printed of the blocks of a file.
 #![tactic(auto)]
 
+mod answer;
+mod command;
 mod headers;
 mod identified;
 mod keys;
@@ -10,13 +12,17 @@ mod placements;
 mod primitives;
 mod refused;
 mod sequences;
+mod status;
 mod texts;
 
+pub use answer::{Answer, Silence};
+pub use command::Command;
 pub use headers::push_quoted;
 pub use keys::push_key;
 pub use least_key::{AnyPlaced, Refusal};
 pub use numbers::push_vertex;
 pub use outcome::{Outcome, OutcomeBody, Outcomes, Size};
 pub use refused::{push_refused, refused_line};
+pub use status::{Status, ending_of};
 pub use std::alloc::AllocError as NoMemory;
 pub use texts::{push_outcome, report};

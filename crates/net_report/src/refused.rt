@@ -43,6 +43,29 @@ fn push_pivots(text: &mut Vec<u8>, first: u32, second: u32, third: u32) -> Resul
     push_field(text, b" ", third as u64)
 }
 
+fn push_arc(
+    text: &mut Vec<u8>,
+    names: &Names<'_>,
+    dim: u8,
+    u: u32,
+    v: u32,
+    s: &Triple,
+    c: u8,
+) -> Result<(), NoMemory>
+    requires u { IsNamed names.now u }
+    requires v { IsNamed names.now v }
+    ensures { OnOk result (text.new.items ≡
+        text.old.items ++ site_text names.now dim (WideSite.ArcPart u v s.now c)) }
+{
+    text.extend_from_slice(b" arc u=")?;
+    push_vertex(text, names, u)?;
+    text.extend_from_slice(b" v=")?;
+    push_vertex(text, names, v)?;
+    text.extend_from_slice(b" s=")?;
+    push_parts(text, dim, s)?;
+    push_field(text, b" c=", c as u64)
+}
+
 fn push_site(
     text: &mut Vec<u8>,
     names: &Names<'_>,
@@ -58,15 +81,7 @@ fn push_site(
             push_vertex(text, names, *u)?;
             push_field(text, b" c=", *c as u64)
         }
-        WideSite::ArcPart { u, v, s, c } => {
-            text.extend_from_slice(b" arc u=")?;
-            push_vertex(text, names, *u)?;
-            text.extend_from_slice(b" v=")?;
-            push_vertex(text, names, *v)?;
-            text.extend_from_slice(b" s=")?;
-            push_parts(text, dim, s)?;
-            push_field(text, b" c=", *c as u64)
-        }
+        WideSite::ArcPart { u, v, s, c } => push_arc(text, names, dim, *u, *v, s, *c),
         WideSite::Beyond { at } => {
             text.extend_from_slice(b" beyond")?;
             push_place(text, at)

@@ -6,8 +6,8 @@ use Rattle.net_answers.specs.Bytes.{AreFitting, most_bytes}
 use Rattle.net_answers.specs.Due.{IsDueOn}
 use Rattle.net_answers.specs.Endings.{IsComplete}
 use Rattle.net_answers.proofs.CallerLemmas.{few_endings}
-use Rattle.statuses.specs.declared.status.Status.{Status}
-use Rattle.statuses.specs.declared.status.Status.TheVariants.{ReadFault, WriteFault, TooLarge, NoMemory}
+use Rattle.net_report.specs.declared.status.Status.{Status}
+use Rattle.net_report.specs.declared.status.Status.TheVariants.{ReadFault, WriteFault, TooLarge, NoMemory}
 use Rattle.net_tool.specs.Completeness.{AreWithin, AreFilesWithin, bytes_of_name}
 use Rattle.net_tool.specs.Run.{AreBytesOf, HasManyBytes, IsAnswer, IsAnswered, IsDue, IsDueOver, IsTooLarge}
 

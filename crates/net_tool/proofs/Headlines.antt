@@ -5,8 +5,8 @@ use Rattle.outside.specs.Held.{Holds}
 use Rattle.command_words.specs.Tasks.{Task, Identify, task_of}
 use Rattle.net_answers.specs.Due.{IsDueOn}
 use Rattle.net_answers.specs.Headline.{IsReported}
-use Rattle.statuses.specs.declared.status.Status.{Status}
-use Rattle.statuses.specs.declared.status.Status.TheVariants.{Done, SomeRefused}
+use Rattle.net_report.specs.declared.status.Status.{Status}
+use Rattle.net_report.specs.declared.status.Status.TheVariants.{Done, SomeRefused}
 use Rattle.net_answers.proofs.CallerLemmas.{headline_on}
 use Rattle.net_tool.specs.Headline.{HasHeadline, IsHeadlineOver}
 use Rattle.net_tool.specs.Run.{AreBytesOf, IsAnswer, IsAnswered, IsDue}

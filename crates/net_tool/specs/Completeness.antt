@@ -4,8 +4,8 @@ use Rattle.outside.specs.Held.{Holds}
 use Rattle.command_words.specs.Tasks.{Task, archive_named, file_named}
 use Rattle.net_answers.specs.Bytes.{AreBytesWithin}
 use Rattle.net_answers.specs.Endings.{IsComplete}
-use Rattle.statuses.specs.declared.status.Status.{Status}
-use Rattle.statuses.specs.declared.status.Status.TheVariants.{ReadFault, WriteFault}
+use Rattle.net_report.specs.declared.status.Status.{Status}
+use Rattle.net_report.specs.declared.status.Status.TheVariants.{ReadFault, WriteFault}
 use Rattle.net_tool.specs.Run.{IsDue}
 
 -- the bytes of a file, where one is named

@@ -4,7 +4,7 @@ use Rattle.std.specs.Io.KnownBytes.{Appends}
 use Rattle.outside.specs.Held.{Holds}
 use Rattle.command_words.specs.Tasks.{Task, Identify}
 use Rattle.net_answers.specs.Headline.{Headline}
-use Rattle.statuses.specs.declared.status.Status.{Status}
+use Rattle.net_report.specs.declared.status.Status.{Status}
 use Rattle.net_tool.specs.Run.{AreBytesOf}
 
 -- the headline is true of the bytes of these two files, and of what was written

@@ -1,7 +1,7 @@
 -- What holds of the answers of runs.
 use Rattle.std.specs.Prelude.{◌≡◌, ℕ, List, Option, Some}
 use Rattle.command_words.specs.Tasks.{Task}
-use Rattle.statuses.specs.declared.status.Status.{Status}
+use Rattle.net_report.specs.declared.status.Status.{Status}
 use Rattle.net_tool.specs.Run.{IsDue}
 
 -- two answers that are due to the same arguments, over files whose bytes the shelf shows, have one status and one text

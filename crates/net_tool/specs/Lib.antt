@@ -1,5 +1,5 @@
-pub mod Run
-pub mod Inputs
 pub mod Completeness
 pub mod Headline
+pub mod Inputs
 pub mod Laws
+pub mod Run

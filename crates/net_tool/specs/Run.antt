@@ -8,8 +8,8 @@ use Rattle.outside.specs.declared.shelf.InFault.{InFault}
 use Rattle.outside.specs.declared.shelf.InFault.TheVariants as unread
 use Rattle.net_answers.specs.Bytes.{most_bytes}
 use Rattle.net_answers.specs.Due.{IsDueOn}
-use Rattle.statuses.specs.declared.status.Status.{Status}
-use Rattle.statuses.specs.declared.status.Status.TheVariants.{Usage, ReadFault, WriteFault, TooLarge, NoMemory, TooManyBlocks}
+use Rattle.net_report.specs.declared.status.Status.{Status}
+use Rattle.net_report.specs.declared.status.Status.TheVariants.{Usage, ReadFault, WriteFault, TooLarge, NoMemory, TooManyBlocks}
 
 abbrev pub usage_line : List ℕ
 usage_line = codes "usage: net_tool COMMAND [FILE] [--archive PATH] [--name NAME] [--cell ROWS]\n"

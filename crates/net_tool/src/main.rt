@@ -9,8 +9,8 @@ mod memory;
 mod tests;
 mod tool;
 
+use net_report::Status;
 use outside::{HostShelf, StdoutSink};
-use statuses::Status;
 use std::process::ExitCode;
 use std::{env, io};
 use tool::run;

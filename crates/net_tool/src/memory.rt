@@ -7,8 +7,8 @@ ghost use Rattle.outside.specs.MemorySink.{sure_of};
 ghost use Rattle.net_tool.specs.Completeness.{AreWithin, HasRoom, IsToldWhole};
 
 use crate::tool::run;
+use net_report::Status;
 use outside::{HonestShelf, MemorySink};
-use statuses::Status;
 use std::alloc::Global;
 
 /// Does what the arguments say, over files that never fail to be read, and writes into memory. So

@@ -1,11 +1,12 @@
 // Runs over files in memory: the arguments, the statuses, devices that fail, and files past their
 // limits.
+mod commands;
 mod devices;
 mod endings;
 
 use crate::tool::run;
+use net_report::Status;
 use outside::{MemoryShelf, MemorySink};
-use statuses::Status;
 use std::alloc::Global;
 use std::test::Fail;
 
@@ -19,6 +20,9 @@ const DIA_KEY_REPORT: &str =
 
 const DIA_ARCHIVE: &str =
     "net_archive 1\nentry \"dia\"\ngraph 3 2 4\nedge 1 2 0 0 0\nedge 1 2 0 0 1\nedge 1 2 0 1 0\nedge 1 2 1 0 0\nkey 3 2 1 1 2 -1 -1 -1 1 2 0 0 1 1 2 0 1 0 1 2 1 0 0\nend\n";
+
+const DIA_NEWEST: &str =
+    "net_archive 2\nentry \"dia\"\ngraph 3 2 4\nedge 1 2 0 0 0\nedge 1 2 0 0 1\nedge 1 2 0 1 0\nedge 1 2 1 0 0\nkey 3 2 1 1 2 -1 -1 -1 1 2 0 0 1 1 2 0 1 0 1 2 1 0 0\nprimitive 2\nshells 1 4 12 24 42 64 92 124 162 204 252\nshells 2 4 12 24 42 64 92 124 162 204 252\nend\n";
 
 /// The calls of the devices that fail, and how many bytes a call moves at the most.
 #[derive(Clone, Copy, Drop)]

@@ -15,8 +15,8 @@ ghost use Rattle.net_tool.specs.Run.{FailedAtFile, FailedAtTask, IsAnswer, IsAns
 use crate::files::read_named;
 use command_words::{Task, task_of};
 use net_answers::answer_to;
+use net_report::{Answer, Status};
 use outside::{InFault, Shelf, Sink, write_all};
-use statuses::{Answer, Status};
 use std::alloc::Global;
 
 /// What is printed where the arguments have no form.

@@ -4,7 +4,7 @@ ghost use Rattle.cgd_lex.specs.Limits.{longest_text};
 ghost use Rattle.periodic_net.specs.Graph.{IsGraph};
 ghost use Rattle.periodic_net.specs.Limits.{IsSmall};
 ghost use Rattle.periodic_net.specs.Maps.{Iso};
-ghost use Rattle.quotient_graph.specs.Edges.{edge_of};
+ghost use Rattle.cgd_read.specs.Spelling.{edge_of};
 ghost use Rattle.quotient_graph.specs.Stars.{IsInOrder, graph_with};
 ghost use Rattle.cgd_read.specs.Blocks.{IsReadBody};
 ghost use Rattle.cgd_read.specs.Graphs.{IsReadGraph, graph_of};
@@ -14,15 +14,15 @@ ghost use Rattle.net_archive.specs.Deciding.{AreNamesOf};
 ghost use Rattle.nets.specs.Refused.{IsRefusedBy};
 ghost use Rattle.nets.specs.Texts.{IsGraphIn, IsTroubleIn, first_graph};
 
-use crate::{Archive, Edge, Matches, Net, Refusal, Trouble};
-use cgd_read::{Block, Body, RawGraph, blocks, from_raw};
+use crate::{Archive, Matches, Net, RawEdge, Refusal, Trouble};
+use cgd_read::{Block, Body, RawGraph, blocks};
 use least_key::identify;
-use quotient_graph::from_unsorted;
+use quotient_graph::{from_raw, from_unsorted};
 use std::alloc::Global;
 
 /// The net with its key, or why it gets none. The quotient graph has the vertices 1 to `n` and
 /// these edges, in any order.
-pub fn net_of(alloc: Global, dim: u8, n: u32, edges: &[Edge]) -> Result<Net, Refusal>
+pub fn net_of(alloc: Global, dim: u8, n: u32, edges: &[RawEdge]) -> Result<Net, Refusal>
     requires is_graph { IsGraph (graph_with dim n (map edge_of edges.now)) }
     requires small { IsSmall (graph_with dim n (map edge_of edges.now)) }
     ensures net { IfOk result (λ net.

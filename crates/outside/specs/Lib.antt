@@ -1,11 +1,11 @@
-pub mod Last
 pub mod Causes
 pub mod Counts
-pub mod Held
 pub mod Faults
 pub mod Files
-pub mod Kept
-pub mod MemoryShelf
+pub mod Held
 pub mod HonestShelf
-pub mod MemorySink
 pub mod HostLast
+pub mod Kept
+pub mod Last
+pub mod MemoryShelf
+pub mod MemorySink

@@ -9,8 +9,8 @@ use Rattle.periodic_net.specs.Graph.{IsQuotientVertex, arc}
 use Rattle.periodic_net.proofs.CallerLemmas.{flat_arcs}
 use Rattle.quotient_graph.specs.NetClasses.{NetClasses, class_at}
 use Rattle.quotient_graph.specs.PlacedNets.{PlacedNet}
-use Rattle.hermite.specs.Lattices.{Members}
-use Rattle.hermite.specs.Stairs.{Stairs, rows_of}
+use Rattle.vecdim.specs.Lattices.{Members}
+use Rattle.vecdim.specs.Stairs.{Stairs, rows_of}
 use Rattle.primitive_cell.specs.Given.{move_of, IsGivenBy}
 use Rattle.primitive_cell.specs.PrimitiveCells.{IsPrimitiveCell}
 use Rattle.primitive_cell.specs.Places.{number_at, IsPlace}

@@ -8,7 +8,7 @@ use Rattle.periodic_net.specs.Graph.{Arc, IsNormalSpelling}
 use Rattle.quotient_graph.specs.ClassNets.{arcs_of}
 use Rattle.quotient_graph.specs.NetClasses.{NetClasses, class_at, class_arc_numbers}
 use Rattle.quotient_graph.specs.PlacedNets.{PlacedNet}
-use Rattle.hermite.specs.Stairs.{Stairs, rows_of}
+use Rattle.vecdim.specs.Stairs.{Stairs, rows_of}
 use Rattle.primitive_cell.specs.Given.{IsGivenBy, AreGivenEdges}
 use Rattle.primitive_cell.specs.PrimitiveCells.{IsPrimitiveCell, IsArcBelow, AreEdgesBelow}
 use Rattle.primitive_cell.specs.Places.{number_at}

@@ -14,7 +14,7 @@ use Rattle.periodic_net.specs.Graph.{Graph, IsGraph, Arc, arc, IsArc, vertex, Is
 use Rattle.periodic_net.specs.Placement.{Placement, base, position, arc_vector, IsStablePlacement}
 use Rattle.periodic_net.proofs.CallerLemmas.{arc_inside, at_origin, class_arcs, class_in, origin_vertex, share_move}
 use Rattle.key_theory.specs.Primitive.{Gives, IsLeastMember, edge_label}
-use Rattle.primitive_theory.proofs.CallerLemmas.{one_least, translations_group}
+use Rattle.key_theory.proofs.CallerLemmas.{one_least, translations_group}
 use Rattle.quotient_graph.specs.NetClasses.{class_arc_numbers}
 use Rattle.primitive_cell.specs.Given.{move_of, IsGivenBy}
 use Rattle.integers.proofs.vectors.Precedence.{below_head, below_rest, below_ways, moved_below}

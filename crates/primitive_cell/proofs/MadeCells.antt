@@ -11,7 +11,7 @@ use Rattle.periodic_net.proofs.CallerLemmas.{one_placement}
 use Rattle.key_theory.specs.Primitive.{IsLeastMember}
 use Rattle.quotient_graph.specs.NetClasses.{NetClasses, AreClasses, AreClassesAt, class_at}
 use Rattle.quotient_graph.specs.PlacedNets.{PlacedNet}
-use Rattle.hermite.specs.Stairs.{Stairs}
+use Rattle.vecdim.specs.Stairs.{Stairs}
 use Rattle.primitive_cell.specs.PrimitiveCells.{IsTranslationLattice, IsPrimitiveCell}
 use Rattle.primitive_cell.specs.Places.{number_at, IsPlace, AreInOrder, AreFirstPlaces}
 

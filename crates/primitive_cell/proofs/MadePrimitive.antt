@@ -3,12 +3,12 @@ use Rattle.std.proofs.Common.{◌↔◌, ℕ, ◌+◌, List, sym, subst, arith}
 use Rattle.std.specs.List.{Contains}
 use Rattle.periodic_net.specs.Graph.{Arc, IsNormalSpelling}
 use Rattle.key_theory.specs.Primitive.{Gives, IsPrimitive}
-use Rattle.primitive_theory.specs.Laws.{IsDivided}
-use Rattle.primitive_theory.proofs.CallerLemmas.{primitive_is_divided}
+use Rattle.key_theory.specs.PrimitiveLaws.{IsDivided}
+use Rattle.key_theory.proofs.CallerLemmas.{primitive_is_divided}
 use Rattle.quotient_graph.specs.NetClasses.{NetClasses, class_at}
 use Rattle.quotient_graph.specs.PlacedNets.{PlacedNet}
 use Rattle.quotient_graph.specs.Stars.{graph_with}
-use Rattle.hermite.specs.Stairs.{Stairs, rows_of}
+use Rattle.vecdim.specs.Stairs.{Stairs, rows_of}
 use Rattle.primitive_cell.specs.Given.{IsGivenBy}
 use Rattle.primitive_cell.specs.PrimitiveCells.{IsPrimitiveCell, AreEdgesBelow}
 use Rattle.primitive_cell.specs.Places.{number_at}

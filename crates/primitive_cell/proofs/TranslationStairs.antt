@@ -10,14 +10,13 @@ use Rattle.integers.proofs.vectors.OneStaircase.{same_staircase}
 use Rattle.periodic_net.specs.Classes.{IsTranslation, AreTranslations}
 use Rattle.periodic_net.specs.Graph.{Graph, IsGraph}
 use Rattle.periodic_net.specs.Placement.{Placement, IsStablePlacement}
-use Rattle.periodic_net.proofs.CallerLemmas.{translations_are_group}
-use Rattle.refinement_theory.proofs.CallerLemmas.{moves_are_translations}
-use Rattle.primitive_theory.proofs.CallerLemmas.{translations_group}
+use Rattle.periodic_net.proofs.CallerLemmas.{translations_are_group, moves_are_translations}
+use Rattle.key_theory.proofs.CallerLemmas.{translations_group}
 use Rattle.quotient_graph.specs.PlacedNets.{PlacedNet}
-use Rattle.hermite.specs.Lattices.{IsWith, AreMultiples, Members}
-use Rattle.hermite.specs.Stairs.{Stairs, rows_of}
+use Rattle.vecdim.specs.Lattices.{IsWith, AreMultiples, Members}
+use Rattle.vecdim.specs.Stairs.{Stairs, rows_of}
 use Rattle.primitive_cell.specs.PrimitiveCells.{IsTranslationLattice}
-use Rattle.hermite.proofs.CallerLemmas.{with_inside, with_has}
+use Rattle.vecdim.proofs.CallerLemmas.{with_inside, with_has}
 
 module _ (G : Graph) (p : Placement) (g : IsGraph G) (s : IsStablePlacement G p) (rs : List Vector) (t : AreTranslations G p rs) (L M : Vector → Type 0)
     (flat : (w : Vector) → L w → HasDimension G.dimension w) (m : AreMultiples G.dimension (pos p.denominator) L) (a : IsWith L rs M) where

@@ -11,8 +11,8 @@ use Rattle.key_theory.specs.Primitive.{IsLeastMember}
 use Rattle.quotient_graph.specs.ClassNets.{arcs_of}
 use Rattle.quotient_graph.specs.NetClasses.{NetClasses, class_at, ClassArcsRise}
 use Rattle.quotient_graph.specs.PlacedNets.{PlacedNet, most_position}
-use Rattle.hermite.specs.Lattices.{Members}
-use Rattle.hermite.specs.Stairs.{Stairs, rows_of}
+use Rattle.vecdim.specs.Lattices.{Members}
+use Rattle.vecdim.specs.Stairs.{Stairs, rows_of}
 use Rattle.primitive_cell.specs.Given.{AreGivenEdges}
 use Rattle.primitive_cell.specs.Places.{number_at}
 

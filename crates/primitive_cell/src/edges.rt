@@ -6,17 +6,16 @@ ghost use Rattle.periodic_net.specs.Graph.{IsQuotientVertex};
 ghost use Rattle.periodic_net.specs.Limits.{most_coordinate};
 ghost use Rattle.periodic_net.specs.Placement.{base};
 ghost use Rattle.quotient_graph.specs.PlacedNets.{most_position};
-ghost use Rattle.hermite.specs.Lattices.{Members};
-ghost use Rattle.hermite.specs.Stairs.{rows_of};
+ghost use Rattle.vecdim.specs.Lattices.{Members};
+ghost use Rattle.vecdim.specs.Stairs.{rows_of};
 ghost use Rattle.primitive_cell.specs.Given.{IsGivenBy};
 ghost use Rattle.primitive_cell.specs.PrimitiveCells.{IsPrimitiveCell, AreEdgesBelow, most_move};
 ghost use Rattle.primitive_cell.specs.Places.{number_at, IsPlace};
 
 use crate::{NoMemory, PrimEdge};
-use hermite::Staircase;
 use quotient_graph::{ClassArc, Classes, Stable};
 use std::alloc::Global;
-use vecdim::Vect;
+use vecdim::{Staircase, Vect};
 
 // vector + from - to.
 fn move_between<const D: usize>(vector: &Vect<D>, from: &Vect<D>, to: &Vect<D>) -> Vect<D>

@@ -2,9 +2,8 @@
 ghost use Rattle.periodic_net.specs.Classes.{AreTranslations};
 ghost use Rattle.primitive_cell.specs.PrimitiveCells.{IsTranslationLattice};
 
-use hermite::Staircase;
 use quotient_graph::Stable;
-use vecdim::Vect;
+use vecdim::{Staircase, Vect};
 
 /// The lattice of all translations, from those with parts from 0 to D0 - 1.
 pub fn lattice_of<const D: usize>(net: &Stable<D>, translations: &[Vect<D>]) -> Staircase<D>

@@ -11,8 +11,8 @@ use Rattle.std.proofs.lemmas.List.{length-map}
 use Rattle.integers.specs.Vectors.{vector, HasDimension, IsWithin}
 use Rattle.periodic_net.specs.Graph.{Arc, IsGraph, IsEdge}
 use Rattle.periodic_net.specs.Limits.{most_shift, most_edges, IsSmall}
-use Rattle.quotient_graph.specs.Edges.{edge_of}
-use Rattle.quotient_graph.specs.declared.edge.Edge.{Edge}
+use Rattle.cgd_read.specs.Spelling.{edge_of}
+use Rattle.cgd_read.specs.declared.edge.RawEdge.{RawEdge}
 use Rattle.quotient_graph.specs.Order.{arc_numbers, AreRising}
 use Rattle.quotient_graph.specs.Stars.{graph_with}
 use Rattle.quotient_graph.specs.EdgeLists.{IsEdgeAmong, AreEdgesOfGraph}
@@ -33,7 +33,7 @@ pub different_from_rising : (as' : List Arc) → AreRising as' → AllPairs (λ 
 different_from_rising as' rising i j d l m e = not_below_itself (get_or as' i d) (get_or as' j d) (rising i j d l m) e
 
 -- the edges of such a list are those of a graph
-pub listed_graph : (d n : ℕ) (es : List Edge) → AreEdgesOfGraph d n es → IsGraph (graph_with d n (map edge_of es))
+pub listed_graph : (d n : ℕ) (es : List RawEdge) → AreEdgesOfGraph d n es → IsGraph (graph_with d n (map edge_of es))
 listed_graph d n es h =
     let G = graph_with d n (map edge_of es) in
     record {
@@ -45,7 +45,7 @@ listed_graph d n es h =
     }
 
 -- which is within the limits
-pub listed_small : (d n : ℕ) (es : List Edge) → AreEdgesOfGraph d n es → IsSmall (graph_with d n (map edge_of es))
+pub listed_small : (d n : ℕ) (es : List RawEdge) → AreEdgesOfGraph d n es → IsSmall (graph_with d n (map edge_of es))
 listed_small d n es h = record {
   vertices = h.vertices.1;
   edges = subst (λ k. k ≤ most_edges) (sym (length-map es edge_of)) h.count;
@@ -54,5 +54,5 @@ listed_small d n es h = record {
 }
 
 -- their shifts are flat in dimension 2
-pub listed_flat : (d n : ℕ) (es : List Edge) → AreEdgesOfGraph d n es → All (λ (e : Edge). HasDimension d (vector e.x e.y e.z)) es
+pub listed_flat : (d n : ℕ) (es : List RawEdge) → AreEdgesOfGraph d n es → All (λ (e : RawEdge). HasDimension d (vector e.x e.y e.z)) es
 listed_flat d n es h = All-weaker (IsEdgeAmong d n) (λ e. HasDimension d (vector e.x e.y e.z)) (λ e w. w.flat) es h.each

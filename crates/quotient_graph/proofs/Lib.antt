@@ -1,7 +1,6 @@
 pub mod CallerLemmas
 pub mod Rising
 pub mod InOrder
-pub mod Spelling
 pub mod Lists
 pub mod SortedStars
 pub mod GraphsInMemory

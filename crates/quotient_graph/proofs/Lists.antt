@@ -46,22 +46,6 @@ have_more n stars as' a low high h = record {
     apart : (u : ℕ) → 1 ≤ u → u ≢ a.from → u - 1 ≢ a.from - 1
     apart u p m = omega arith
 
--- one more list without arcs
-pub have_none_more : {S : Type 0} (items : S → List Arc) (n : ℕ) (xs : List S) (new : S) → items new ≡ [] → HaveArcs n (map items xs) [] → HaveArcs (n + 1) (map items (xs ++ new ∷ [])) []
-have_none_more items n xs new e h = record {
-  count = length-map (xs ++ new ∷ []) items ∙ length-append xs (new ∷ []) ∙ ap (λ (k : ℕ). k + 1) (sym (length-map xs items) ∙ h.count);
-  each = λ u p q. ap (λ (ls : List (List Arc)). get_or ls (u - 1) []) (map-append items xs (new ∷ []) ∙ ap (λ (l : List Arc). map items xs ++ l ∷ []) e) ∙ at u p q;
-}
-  where
-    at : (u : ℕ) → 1 ≤ u → u ≤ n + 1 → get_or (map items xs ++ [] ∷ []) (u - 1) [] ≡ []
-    at u p q = elim (before u q) [
-      | inl b ↦ let c = h.count in let lt : u - 1 < length (map items xs) = omega arith in grind (arith, common_steps, h.each u p b)
-      | inr m ↦ let c = h.count in grind (arith, common_steps)
-    ]
-      where
-        before : (u : ℕ) → u ≤ n + 1 → (u ≤ n) ⊎ (u ≡ n + 1)
-        before u q = grind arith
-
 -- both arcs of one more edge
 pub have_edge : (n : ℕ) (stars : List (List Arc)) (es : List Arc) (e : Arc) → (1 ≤ e.from) × (e.from ≤ n) → (1 ≤ e.to) × (e.to ≤ n) → HaveArcs n stars (both_ways es)
     → HaveArcs n (with_arc (with_arc stars e) (reverse_of e)) (both_ways (es ++ e ∷ []))

@@ -6,16 +6,16 @@ use Rattle.std.specs.List.{All}
 use Rattle.std.specs.List.Sorted.{IsPermutation, IsSorted}
 use Rattle.integers.specs.Vectors.{vector, HasDimension}
 use Rattle.periodic_net.specs.Graph.{Arc, IsGraph, IsEdge}
-use Rattle.quotient_graph.specs.Edges.{edge_of}
+use Rattle.cgd_read.specs.Spelling.{edge_of}
 use Rattle.periodic_net.specs.Limits.{IsSmall}
-use Rattle.quotient_graph.specs.declared.edge.Edge.{Edge}
+use Rattle.cgd_read.specs.declared.edge.RawEdge.{RawEdge}
 use Rattle.quotient_graph.specs.Stars.{graph_with}
 use Rattle.quotient_graph.specs.Order.{AreRising}
 use Rattle.quotient_graph.proofs.Rising.{arc_cmp, rising_after_sort}
 use Rattle.quotient_graph.proofs.GraphsInMemory.{reordered, reordered_small}
 
 -- the shifts of a graph in dimension 2 are flat
-pub flat_edges : (d n : ℕ) (es : List Edge) → IsGraph (graph_with d n (map edge_of es)) → All (λ (e : Edge). HasDimension d (vector e.x e.y e.z)) es
+pub flat_edges : (d n : ℕ) (es : List RawEdge) → IsGraph (graph_with d n (map edge_of es)) → All (λ (e : RawEdge). HasDimension d (vector e.x e.y e.z)) es
 flat_edges d n es h k e l two =
     let edge = subst (IsEdge (graph_with d n (map edge_of es))) (get_or-map edge_of es k e)
     (h.edges k (edge_of e) (subst (λ n. k < n) (sym (length-map es edge_of)) l)) in

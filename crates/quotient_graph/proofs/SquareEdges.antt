@@ -1,15 +1,15 @@
 -- The edges of the square net are those of a graph.
 use Rattle.std.proofs.Common.{ℤ, zero, suc, pos, List, [], ◌∷◌, map, inl, inr, refl, arith}
 use Rattle.std.proofs.lemmas.List.Elements.{All-nil, All-cons}
-use Rattle.quotient_graph.specs.Edges.{edge_of}
-use Rattle.quotient_graph.specs.declared.edge.Edge.{Edge}
+use Rattle.cgd_read.specs.Spelling.{edge_of}
+use Rattle.cgd_read.specs.declared.edge.RawEdge.{RawEdge}
 use Rattle.quotient_graph.specs.Order.{AreRising}
 use Rattle.quotient_graph.specs.EdgeLists.{IsEdgeAmong, AreEdgesOfGraph}
 
-abbrev loop_of : ℤ → ℤ → Edge
+abbrev loop_of : ℤ → ℤ → RawEdge
 loop_of x y = record { u = 1; v = 1; x = x; y = y; z = pos 0 }
 
-abbrev pub square_edges : List Edge
+abbrev pub square_edges : List RawEdge
 square_edges = loop_of (pos 0) (pos 1) ∷ loop_of (pos 1) (pos 0) ∷ []
 
 up : IsEdgeAmong 2 1 (loop_of (pos 0) (pos 1))

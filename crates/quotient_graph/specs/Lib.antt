@@ -1,10 +1,9 @@
-pub mod Edges
-pub mod Order
-pub mod Stars
-pub mod Building
 pub mod AnyGraphs
-pub mod EdgeLists
-pub mod Splits
-pub mod PlacedNets
+pub mod Building
 pub mod ClassNets
+pub mod EdgeLists
 pub mod NetClasses
+pub mod Order
+pub mod PlacedNets
+pub mod Splits
+pub mod Stars

@@ -3,13 +3,13 @@ ghost use Rattle.std.specs.Prelude.{◌≡◌, All, map, IfOk};
 ghost use Rattle.integers.specs.Vectors.{vector, HasDimension};
 ghost use Rattle.periodic_net.specs.Graph.{IsGraph};
 ghost use Rattle.periodic_net.specs.Limits.{IsSmall};
-ghost use Rattle.quotient_graph.specs.Edges.{edge_of};
+ghost use Rattle.cgd_read.specs.Spelling.{edge_of};
 ghost use Rattle.quotient_graph.specs.Order.{AreRising};
 ghost use Rattle.quotient_graph.specs.Stars.{IsInOrder, graph_with};
 ghost use Rattle.quotient_graph.specs.EdgeLists.{AreEdgesOfGraph};
 ghost use Rattle.quotient_graph.specs.AnyGraphs.{graph_view};
 
-use crate::{Arc, Edge, Graph, NoMemory};
+use crate::{Arc, Graph, NoMemory, RawEdge};
 use std::alloc::Global;
 use vecdim::Shift;
 
@@ -34,7 +34,7 @@ impl AnyGraph {
     }
 }
 
-fn arc_of<const D: usize>(edge: &Edge) -> Arc<D>
+fn arc_of<const D: usize>(edge: &RawEdge) -> Arc<D>
     requires { HasDimension D (vector edge.now.x edge.now.y edge.now.z) }
     ensures { result ≡ edge_of edge.now }
 {
@@ -49,7 +49,7 @@ fn arc_of<const D: usize>(edge: &Edge) -> Arc<D>
     }
 }
 
-fn edges_of<const D: usize>(alloc: Global, edges: &[Edge]) -> Result<Vec<Arc<D>>, NoMemory>
+fn edges_of<const D: usize>(alloc: Global, edges: &[RawEdge]) -> Result<Vec<Arc<D>>, NoMemory>
     requires { All (λ e. HasDimension D (vector e.x e.y e.z)) edges.now }
     ensures { IfOk result (λ arcs. arcs.items ≡ map edge_of edges.now) }
 {
@@ -60,7 +60,11 @@ fn edges_of<const D: usize>(alloc: Global, edges: &[Edge]) -> Result<Vec<Arc<D>>
     Ok(arcs)
 }
 
-fn graph_from<const D: usize>(alloc: Global, n: u32, edges: &[Edge]) -> Result<Graph<D>, NoMemory>
+fn graph_from<const D: usize>(
+    alloc: Global,
+    n: u32,
+    edges: &[RawEdge],
+) -> Result<Graph<D>, NoMemory>
     requires is_graph { IsGraph (graph_with D n (map edge_of edges.now)) }
     requires small { IsSmall (graph_with D n (map edge_of edges.now)) }
     ensures { IfOk result (IsInOrder (graph_with D n (map edge_of edges.now))) }
@@ -70,7 +74,12 @@ fn graph_from<const D: usize>(alloc: Global, n: u32, edges: &[Edge]) -> Result<G
 }
 
 /// The graph with n vertices and these edges, which stand in any order.
-pub fn from_unsorted(alloc: Global, dim: u8, n: u32, edges: &[Edge]) -> Result<AnyGraph, NoMemory>
+pub fn from_unsorted(
+    alloc: Global,
+    dim: u8,
+    n: u32,
+    edges: &[RawEdge],
+) -> Result<AnyGraph, NoMemory>
     requires is_graph { IsGraph (graph_with dim n (map edge_of edges.now)) }
     requires small { IsSmall (graph_with dim n (map edge_of edges.now)) }
     ensures { IfOk result (λ g. IsInOrder (graph_with dim n (map edge_of edges.now)) (graph_view g)) }
@@ -85,7 +94,7 @@ pub fn from_unsorted(alloc: Global, dim: u8, n: u32, edges: &[Edge]) -> Result<A
 fn graph_from_edges<const D: usize>(
     alloc: Global,
     n: u32,
-    edges: &[Edge],
+    edges: &[RawEdge],
 ) -> Result<Graph<D>, NoMemory>
     requires { AreEdgesOfGraph D n edges.now }
     ensures { IfOk result (λ g. g ≡ graph_with D n (map edge_of edges.now)) }
@@ -95,7 +104,7 @@ fn graph_from_edges<const D: usize>(
 }
 
 /// The graph with exactly n vertices and these edges, which stand in the order of a graph already.
-pub fn from_edges(alloc: Global, dim: u8, n: u32, edges: &[Edge]) -> Result<AnyGraph, NoMemory>
+pub fn from_edges(alloc: Global, dim: u8, n: u32, edges: &[RawEdge]) -> Result<AnyGraph, NoMemory>
     requires { AreEdgesOfGraph dim n edges.now }
     ensures { IfOk result (λ g. graph_view g ≡ graph_with dim n (map edge_of edges.now)) }
 {

@@ -16,8 +16,8 @@ use Rattle.quotient_graph.proofs.GraphsInMemory.{reordered_small}
 use Rattle.least_key.specs.AnyNets.{net_view}
 use Rattle.least_key.specs.KeyedNets.{IsKeyed}
 use Rattle.least_key.specs.declared.net.Net.{Net as NetInMemory}
-use Rattle.net_entries.specs.Entries.{EntryView}
-use Rattle.net_commands.specs.declared.command.Command.TheVariants.{Key}
+use Rattle.archive_text.specs.Entries.{EntryView}
+use Rattle.net_report.specs.declared.command.Command.TheVariants.{Key}
 use Rattle.net_outcomes.specs.Outcomes.{Outcome, OutcomeBody, Unsupported, Malformed, Refused, Keyed, AreOutcomesFrom, IsBodyOf, is_accepted, is_accepted_body, net_told}
 use Rattle.same_answers.specs.Nets.{AreNetsOf, IsNetOf}
 use Rattle.same_answers.specs.Steps.{nets_told, with_net}

@@ -1,7 +1,7 @@
-pub mod CallerLemmas
-pub mod Found
-pub mod Written
 pub mod AcceptedNets
-pub mod ShapesAlike
+pub mod CallerLemmas
 pub mod OneSameness
+pub mod OneVerification
+pub mod ShapesAlike
 pub mod Verified
+pub mod VerifiedTexts

@@ -8,16 +8,16 @@ use Rattle.quotient_graph.specs.Stars.{IsInOrder}
 use Rattle.quotient_graph.proofs.CallerLemmas.{one_in_order}
 use Rattle.least_key.specs.KeyedNets.{KeyedNet}
 use Rattle.least_key.proofs.CallerLemmas.{one_net}
-use Rattle.map_text.specs.Items.{ItemView, Maps}
-use Rattle.map_text.specs.Texts.{maps_text}
+use Rattle.net_certificate.specs.Items.{ItemView, Maps}
+use Rattle.net_certificate.specs.Texts.{maps_text}
 use Rattle.map_check.specs.Conditions.{most_images}
-use Rattle.net_commands.specs.declared.command.Command.TheVariants.{Key}
+use Rattle.net_report.specs.declared.command.Command.TheVariants.{Key}
 use Rattle.net_outcomes.specs.Outcomes.{Outcome, OutcomeBody, Unsupported, Malformed, Refused, Checked, Located, Keyed, Identified, Lines, FaultyItem, AreOutcomesFrom, IsBodyOf, is_accepted, is_accepted_body}
 use Rattle.net_outcomes.specs.Reports.{IsReport}
 use Rattle.net_outcomes.proofs.CallerLemmas.{keyed_not_refused, one_report}
-use Rattle.statuses.specs.declared.status.Status.TheVariants.{Done, SomeRefused}
+use Rattle.net_report.specs.declared.status.Status.TheVariants.{Done, SomeRefused}
 use Rattle.same_answers.specs.Due.{AreMapped}
-use Rattle.same_answers.specs.Items.{AreItemsOf, AreMapsOf, IsItemOf, images_in, item_by}
+use Rattle.net_certificate.specs.NetItems.{AreItemsOf, AreMapsOf, IsItemOf, images_in, item_by}
 use Rattle.same_answers.specs.Laws.{OneSameness}
 use Rattle.same_answers.specs.Nets.{AreNetsOf, IsNetOf}
 use Rattle.same_answers.proofs.ShapesAlike.{one_answer_alike}

@@ -6,15 +6,16 @@ use Rattle.periodic_net.specs.Classes.{ClassArc, ClassGraph, IsClassGraph, Leads
 use Rattle.periodic_net.specs.Graph.{Graph, IsGraph, IsQuotientVertex, Vertex}
 use Rattle.periodic_net.specs.Placement.{Placement}
 use Rattle.periodic_net.proofs.CallerLemmas.{one_placement}
-use Rattle.key_theory.specs.Frames.{IsFrame, IsFrameAfter, IsNext, MayFollow}
+use Rattle.key_theory.specs.Frames.{IsFrame, IsFrameAfter, IsNext}
+use Rattle.periodic_net.specs.ClassNets.{MayFollow}
 use Rattle.key_theory.specs.Key.{IsLeastList, IsSomeList, Shape}
 use Rattle.key_theory.specs.Primitive.{IsLeastMember}
 use Rattle.key_theory.specs.Traversal.{Axes, Enters, IsFirst, IsListOf, axes_of}
 use Rattle.least_key.specs.KeyedNets.{KeyedNet}
 use Rattle.least_key.proofs.one.SameClasses.{one_numbering, same_arcs}
-use Rattle.standard_map_theory.specs.LeastPairs.{IsPairOf}
-use Rattle.standard_map_theory.specs.MapNumbers.{StandardTable}
-use Rattle.standard_map_theory.specs.StandardMaps.{HaveSameCoordinates, IsFramedByKey, IsStandardMap, framed_net, vector_between}
+use Rattle.standard_map.specs.LeastPairs.{IsPairOf}
+use Rattle.standard_map.specs.MapNumbers.{StandardTable}
+use Rattle.standard_map.specs.StandardMaps.{HaveSameCoordinates, IsFramedByKey, IsStandardMap, framed_net, vector_between}
 use Rattle.net_certificate.specs.Answers.{IsAnswerBy, IsMapAnswer, shape_of}
 use Rattle.net_certificate.specs.declared.answer.MapAnswer.{MapAnswer}
 use Rattle.net_certificate.specs.declared.answer.MapAnswer.TheVariants.{Different, Found, LongMap, WideMap}

@@ -14,24 +14,23 @@ use Rattle.least_key.specs.KeyedNets.{KeyedNet}
 use Rattle.least_key.proofs.CallerLemmas.{key_of_graph}
 use Rattle.map_check.specs.Conditions.{most_images}
 use Rattle.map_check.specs.declared.verdict.Verdict.{Verdict}
-use Rattle.map_text.specs.Items.{IsFormedItem, IsTold, ItemView, Maps, With, Without}
-use Rattle.map_text.specs.Reading.{IsTextOf, MayStand}
-use Rattle.map_text.proofs.CallerLemmas.{no_fault, one_text}
-use Rattle.map_answers.specs.Checks.{Tells}
-use Rattle.map_answers.specs.Due.{IsDueToVerify, IsTold as IsToldOf}
-use Rattle.map_answers.specs.Results.{AreVerdicts, IsVerdictOf, refused_count, result_rows}
-use Rattle.map_answers.specs.declared.checking.CheckedMaps.{CheckedMaps}
+use Rattle.net_certificate.specs.Items.{IsFormedItem, IsTold, ItemView, Maps, With, Without}
+use Rattle.net_certificate.specs.Reading.{IsTextOf, MayStand}
+use Rattle.net_certificate.proofs.CallerLemmas.{no_fault, one_text, found_maps_pass}
+use Rattle.net_certificate.specs.Checks.{Tells}
+use Rattle.same_answers.specs.DueToVerify.{IsDueToVerify, IsTold as IsToldOf}
+use Rattle.net_certificate.specs.Results.{AreVerdicts, IsVerdictOf, refused_count, result_rows}
+use Rattle.net_certificate.specs.declared.checking.CheckedMaps.{CheckedMaps}
 use Rattle.net_certificate.specs.Answers.{IsMapAnswer, IsPassing, shape_of}
 use Rattle.net_certificate.specs.declared.answer.MapAnswer.{MapAnswer}
 use Rattle.net_certificate.specs.declared.answer.MapAnswer.TheVariants.{Different, Found, LongMap, WideMap}
-use Rattle.net_certificate.proofs.CallerLemmas.{found_maps_pass}
-use Rattle.statuses.specs.Statuses.{ending_of}
-use Rattle.statuses.specs.declared.status.Status.{Status}
-use Rattle.statuses.specs.declared.status.Status.TheVariants.{BadMap, Done, SomeRefused}
-use Rattle.same_answers.specs.Items.{AreItemsOf, AreMapsOf, HasItsBits, images_in, item_by}
+use Rattle.net_report.specs.Statuses.{ending_of}
+use Rattle.net_report.specs.declared.status.Status.{Status}
+use Rattle.net_report.specs.declared.status.Status.TheVariants.{BadMap, Done, SomeRefused}
+use Rattle.net_certificate.specs.NetItems.{AreItemsOf, AreMapsOf, HasItsBits, images_in, item_by}
 use Rattle.same_answers.specs.Laws.{SameIsVerified, passing, verified_text}
 use Rattle.same_answers.specs.Nets.{AreNetsOf, IsNetOf}
-use Rattle.same_answers.proofs.Found.{found_few}
+use Rattle.net_certificate.proofs.CallerLemmas.{found_few}
 
 -- a graph that has a key has an edge
 positive : (d : ℕ) → (d ≡ 2) ⊎ (d ≡ 3) → 1 ≤ d

@@ -2,12 +2,12 @@
 use Rattle.std.specs.Prelude.{ℕ, false, List, []}
 use Rattle.cgd_read.specs.Views.{BlockView}
 use Rattle.least_key.specs.KeyedNets.{KeyedNet}
-use Rattle.net_commands.specs.declared.command.Command.TheVariants.{Key}
+use Rattle.net_report.specs.declared.command.Command.TheVariants.{Key}
 use Rattle.net_outcomes.specs.Reports.{IsReport}
-use Rattle.statuses.specs.declared.status.Status.{Status}
-use Rattle.statuses.specs.declared.status.Status.TheVariants.{Done, SomeRefused}
+use Rattle.net_report.specs.declared.status.Status.{Status}
+use Rattle.net_report.specs.declared.status.Status.TheVariants.{Done, SomeRefused}
 use Rattle.same_answers.specs.Nets.{AreNetsOf}
-use Rattle.same_answers.specs.Items.{IsMapsTextOf}
+use Rattle.net_certificate.specs.NetItems.{IsMapsTextOf}
 
 -- each block is a graph that has its key, and this is the text of the maps from the net of the first to those of the others
 pub record AreMapped (blocks : List BlockView) (text : List ℕ) : Type 0 where

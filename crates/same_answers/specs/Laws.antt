@@ -5,11 +5,11 @@ use Rattle.cgd_read.specs.Blocks.{most_blocks}
 use Rattle.cgd_read.specs.Views.{BlockView}
 use Rattle.map_check.specs.declared.verdict.Verdict.{Verdict}
 use Rattle.map_check.specs.declared.verdict.Verdict.TheVariants.{Yes}
-use Rattle.map_text.specs.Items.{ItemView, Without, With, Maps}
-use Rattle.map_answers.specs.Due.{IsDueToVerify}
-use Rattle.map_answers.specs.Results.{result_rows}
-use Rattle.statuses.specs.declared.status.Status.{Status}
-use Rattle.statuses.specs.declared.status.Status.TheVariants.{Done}
+use Rattle.net_certificate.specs.Items.{ItemView, Without, With, Maps}
+use Rattle.same_answers.specs.DueToVerify.{IsDueToVerify}
+use Rattle.net_certificate.specs.Results.{result_rows}
+use Rattle.net_report.specs.declared.status.Status.{Status}
+use Rattle.net_report.specs.declared.status.Status.TheVariants.{Done}
 use Rattle.same_answers.specs.Due.{AreMapped, IsSameAs}
 
 -- two answers that are due to one list of blocks have one status and one text

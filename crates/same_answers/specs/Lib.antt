@@ -1,5 +1,6 @@
-pub mod Nets
-pub mod Items
 pub mod Due
-pub mod Steps
+pub mod DueToVerify
 pub mod Laws
+pub mod Nets
+pub mod Steps
+pub mod VerifyingLaws

@@ -6,11 +6,10 @@ ghost use Rattle.same_answers.specs.Due.{IsSameAs};
 
 use crate::NoMemory;
 use crate::nets::nets_told;
-use crate::texts::maps_text;
 use cgd_read::Block;
-use net_commands::Command;
+use net_certificate::maps_text_of;
 use net_outcomes::{Archive, are_accepted, outcomes_of, report};
-use statuses::{Answer, Status};
+use net_report::{Answer, Command, Status};
 use std::alloc::Global;
 
 // The same, beside an archive without entries.
@@ -30,7 +29,7 @@ fn same_beside(alloc: Global, none: &Archive, found: &[Block<'_>]) -> Result<Ans
     let nets = nets_told(alloc, outcomes.as_slice())?;
     Ok(Answer {
         status: Status::Done,
-        text: maps_text(alloc, nets.as_slice())?,
+        text: maps_text_of(alloc, nets.as_slice())?,
     })
 }
 

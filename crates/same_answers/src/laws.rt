@@ -1,5 +1,11 @@
 // What holds of answers to `same`. Each function carries a theorem.
 ghost use Rattle.same_answers.specs.Laws.{OneSameness, SameIsVerified};
+ghost use Rattle.same_answers.specs.VerifyingLaws.{OneVerification};
+
+/// Two answers that are due to the same bytes have one status and one text.
+pub fn one_verification()
+    ensures theorem { OneVerification }
+{}
 
 /// Of blocks one answer is due: one status and one text.
 pub fn one_sameness()

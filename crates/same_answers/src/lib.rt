@@ -1,17 +1,15 @@
-//! What is due to the command `same`, of the blocks of a file.
+//! What is due to the commands `same` and `verify`.
 #![tactic(auto)]
 
 mod answers;
-mod items;
 mod laws;
-mod lends;
 mod nets;
-#[cfg(test)]
-mod tests;
-mod texts;
+mod verifying;
 
 pub use answers::same_blocks;
-pub use laws::{one_sameness, same_is_verified};
-pub use lends::LendsNet;
+pub use laws::{one_sameness, one_verification, same_is_verified};
 pub use std::alloc::AllocError as NoMemory;
-pub use texts::maps_text;
+pub use verifying::verify_answer;
+
+#[cfg(test)]
+mod tests;

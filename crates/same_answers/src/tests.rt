@@ -1,9 +1,10 @@
 // Maps between the nets of texts, and a report, that were worked out by hand.
-use crate::{maps_text, same_blocks};
-use cgd_read::{Body, blocks, from_raw};
+use crate::{same_blocks, verify_answer};
+use cgd_read::{Body, blocks};
 use least_key::{Net, identify};
-use map_answers::verify_answer;
-use statuses::{Answer, Status};
+use net_certificate::maps_text;
+use net_report::{Answer, Status};
+use quotient_graph::from_raw;
 use std::alloc::Global;
 use std::test::Fail;
 

@@ -20,19 +20,6 @@ none_more n c done h e v l m = by (ℕ_discrete v (done + 1))
     by (yes s) = λ k. e (subst (λ (u : ℕ). class_at n.numbers u ≡ c) s k)
     by (no s) = h v l (omega arith)
 
--- the first vertex in the class is its least member
-pub first_member : (n : NetClasses) (G : Graph) (c done : ℕ) → n.graph ≡ G → NoneTo n c done → done + 1 ≤ G.vertices → class_at n.numbers (done + 1) ≡ c
-    → IsLeastMember G (class_at n.numbers) c (done + 1)
-first_member n G c done same h l e = record {
-  is_vertex = (omega arith, l);
-  member = e;
-  least = λ v i k. by v i k (dec_le (done + 1) v);
-}
-  where
-    by : (v : ℕ) → IsQuotientVertex G v → class_at n.numbers v ≡ c → Dec (done + 1 ≤ v) → done + 1 ≤ v
-    by v i k (yes m) = m
-    by v i k (no m) = absurd (h v i.0 (omega arith) k)
-
 -- some vertex is in the class
 pub some_vertex : (n : NetClasses) (G : Graph) (c done : ℕ) → AreClasses n → n.graph ≡ G → IsClass n.classes c → NoneTo n c done → G.vertices ≤ done → ⊥
 some_vertex n G c done a same i h l =

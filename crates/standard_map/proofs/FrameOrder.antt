@@ -7,7 +7,7 @@ use Rattle.std.specs.Cmp.Lexicographic.{slice_cmp}
 use Rattle.integers.specs.Vectors.{IsAtMost}
 use Rattle.integers.proofs.lists.ListOrder.{front_then, lists_order}
 use Rattle.periodic_net.specs.Classes.{ClassArc}
-use Rattle.standard_map_theory.specs.LeastPairs.{arc_numbers, frame_numbers}
+use Rattle.standard_map.specs.LeastPairs.{arc_numbers, frame_numbers}
 
 -- frames compare by their first arcs, their second ones and the others
 pub frames_then : (a b a' b' : ClassArc) (rest rest' : List ClassArc)

@@ -6,10 +6,10 @@ use Rattle.integers.proofs.numbers.Ring.{ring, linear}
 use Rattle.integers.proofs.vectors.Laws.{divided_dimension, vector_equal, plus_dimension, zero_plus, plus_zero, times_zero, zero_times, times_dimension}
 use Rattle.integers.specs.Bases.{Base, base_sum}
 use Rattle.integers.proofs.vectors.BaseSums.{base_sum_plus, base_sum_zero, base_sum_times}
-use Rattle.hermite.specs.Stairs.{Stairs}
+use Rattle.vecdim.specs.Stairs.{Stairs}
 use Rattle.integers.specs.Lattices.{IsVectorGroup}
-use Rattle.hermite.specs.Lattices.{Members, AreMultiples, IsWith}
-use Rattle.hermite.proofs.CallerLemmas.{with_has, with_inside}
+use Rattle.vecdim.specs.Lattices.{Members, AreMultiples, IsWith}
+use Rattle.vecdim.proofs.CallerLemmas.{with_has, with_inside}
 use Rattle.sublattice.specs.Sublattices.{index_of, AreFlat, IsCombination}
 use Rattle.sublattice.proofs.Undoing.{Undoing, undoing}
 

@@ -4,8 +4,8 @@ use Rattle.std.specs.Prelude.{unsigned_abs}
 use Rattle.integers.specs.Vectors.{Vector, vector, minus, HasDimension}
 use Rattle.integers.proofs.numbers.Ring.{ring, linear}
 use Rattle.integers.proofs.vectors.Laws.{vector_equal, minus_dimension}
-use Rattle.hermite.specs.Lattices.{Members}
-use Rattle.hermite.specs.Stairs.{Stairs, HasStairShape}
+use Rattle.vecdim.specs.Lattices.{Members}
+use Rattle.vecdim.specs.Stairs.{Stairs, HasStairShape}
 use Rattle.sublattice.specs.Laws.{RemaindersTellClasses}
 use Rattle.sublattice.specs.Remainders.{IsRemainderOf}
 use Rattle.sublattice.proofs.Numbers.{below_pivot, from_zero, natural_part, residue_of}

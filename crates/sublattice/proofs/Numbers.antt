@@ -5,7 +5,7 @@ use Rattle.std.proofs.lemmas.Int.{ints}
 use Rattle.integers.specs.Vectors.{Vector, minus}
 use Rattle.integers.proofs.numbers.Ring.{ring, linear}
 use Rattle.integers.proofs.vectors.Laws.{vector_equal}
-use Rattle.hermite.specs.Stairs.{Stairs, InStairs, HasStairShape, IsReducedStair, IsRemainder, size_of}
+use Rattle.vecdim.specs.Stairs.{Stairs, InStairs, HasStairShape, IsReducedStair, IsRemainder, size_of}
 use Rattle.sublattice.specs.Laws.{AreNumbered, RemaindersAreNumbered}
 use Rattle.sublattice.specs.Remainders.{HasNumber, number_of, remainder_with}
 use Rattle.sublattice.specs.Digits.{HasDigits}

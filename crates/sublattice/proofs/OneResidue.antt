@@ -2,7 +2,7 @@
 use Rattle.std.proofs.Common.{◌≡◌, ℕ, ℤ, pos, ◌+ℤ◌, ◌-ℤ◌, ◌*ℤ◌, ap, ◌∙◌, arith}
 use Rattle.integers.specs.Vectors.{Vector, minus}
 use Rattle.integers.proofs.numbers.Ring.{ring, linear}
-use Rattle.hermite.specs.Stairs.{Stairs, InStairs}
+use Rattle.vecdim.specs.Stairs.{Stairs, InStairs}
 use Rattle.sublattice.specs.Residues.{Residue}
 use Rattle.sublattice.proofs.Residues.{same_remainder}
 

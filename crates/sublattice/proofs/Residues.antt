@@ -7,7 +7,7 @@ use Rattle.integers.specs.Vectors.{Vector}
 use Rattle.integers.proofs.numbers.Ring.{ring, linear}
 use Rattle.integers.proofs.numbers.Division.{divided}
 use Rattle.integers.proofs.numbers.Naturals.{pos_same}
-use Rattle.hermite.specs.Stairs.{Stairs}
+use Rattle.vecdim.specs.Stairs.{Stairs}
 use Rattle.sublattice.specs.Residues.{Residue}
 
 -- z is r + m·k, with r from 0 to below the absolute value of m

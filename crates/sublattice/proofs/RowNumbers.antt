@@ -3,7 +3,7 @@ use Rattle.std.proofs.Common.{◌≡◌, ◌≢◌, ℕ, ◌*◌, ℤ, pos, ◌*
 use Rattle.std.specs.Prelude.{unsigned_abs}
 use Rattle.std.proofs.lemmas.Int.{ints, unsigned_abs-mul}
 use Rattle.integers.specs.Vectors.{minus}
-use Rattle.hermite.specs.Stairs.{InStairs}
+use Rattle.vecdim.specs.Stairs.{InStairs}
 use Rattle.integers.proofs.counting.Numbering.{Numbering}
 use Rattle.sublattice.proofs.Residues.{HasPivots}
 use Rattle.sublattice.proofs.StairNumbers.{IsAny, DifferBy, stair_numbers}

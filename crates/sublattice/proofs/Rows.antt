@@ -5,8 +5,8 @@ use Rattle.integers.specs.Staircase.{IsStaircase}
 use Rattle.integers.specs.Vectors.{Vector}
 use Rattle.integers.proofs.lists.Members.{IsIn}
 use Rattle.integers.proofs.vectors.OneStaircase.{same_staircase}
-use Rattle.hermite.specs.Lattices.{Members, AreMultiples, IsWith}
-use Rattle.hermite.specs.Stairs.{Stairs, HasStairShape, rows_of}
+use Rattle.vecdim.specs.Lattices.{Members, AreMultiples, IsWith}
+use Rattle.vecdim.specs.Stairs.{Stairs, HasStairShape, rows_of}
 use Rattle.sublattice.specs.Sublattices.{base_of, determinant, index_of, AreFlat, HasMembersOf, IsCombination, IsSublattice}
 use Rattle.sublattice.proofs.Built.{AreRowsOf, built_members, flat_rows_of, full_rows}
 use Rattle.sublattice.proofs.Pivots.{pivots_multiply}

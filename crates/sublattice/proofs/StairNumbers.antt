@@ -3,7 +3,7 @@ use Rattle.std.proofs.Common.{◌≡◌, ℕ, ◌<◌, ◌*◌, ℤ, pos, ◌+�
 use Rattle.std.specs.Prelude.{unsigned_abs}
 use Rattle.integers.specs.Vectors.{Vector, vector, minus}
 use Rattle.integers.proofs.numbers.Ring.{ring, linear}
-use Rattle.hermite.specs.Stairs.{Stairs, InStairs}
+use Rattle.vecdim.specs.Stairs.{Stairs, InStairs}
 use Rattle.integers.proofs.counting.Numbering.{Numbering, Pair, pair, Both, Each, along}
 use Rattle.integers.proofs.counting.NumberedPairs.{numbers_below, pairs}
 use Rattle.sublattice.specs.Residues.{Residue}

@@ -3,7 +3,7 @@ use Rattle.std.proofs.Common.{◌≡◌, ℤ, pos, ◌+ℤ◌, ◌-ℤ◌, ◌*�
 use Rattle.integers.specs.Vectors.{Vector, vector}
 use Rattle.integers.proofs.numbers.Ring.{ring, linear}
 use Rattle.integers.proofs.vectors.Laws.{vector_equal}
-use Rattle.hermite.specs.Stairs.{Stairs, stairs, InStairs}
+use Rattle.vecdim.specs.Stairs.{Stairs, stairs, InStairs}
 use Rattle.sublattice.proofs.RowSteps.{Rows, InRows, product_of, SameLattice, both_steps, turned, turned_same, stepped, step_same}
 use Rattle.sublattice.proofs.Clearing.{clears}
 

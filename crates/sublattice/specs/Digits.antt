@@ -1,7 +1,7 @@
 -- The parts of a remainder as natural numbers.
 use Rattle.std.specs.Prelude.{◌≡◌, ℕ, pos}
 use Rattle.integers.specs.Vectors.{Vector}
-use Rattle.hermite.specs.Stairs.{Stairs, HasStairShape}
+use Rattle.vecdim.specs.Stairs.{Stairs, HasStairShape}
 use Rattle.sublattice.specs.Remainders.{IsRemainderOf}
 
 -- p, q and s are the parts of the remainder of v

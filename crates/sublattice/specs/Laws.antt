@@ -2,8 +2,8 @@
 use Rattle.std.specs.Prelude.{◌≡◌, ◌≢◌, ◌⊎◌, ◌↔◌, ℕ, ◌<◌, pos}
 use Rattle.integers.specs.Bases.{Base}
 use Rattle.integers.specs.Vectors.{Vector, minus, parts, HasDimension, IsBelow}
-use Rattle.hermite.specs.Lattices.{Members}
-use Rattle.hermite.specs.Stairs.{Stairs, HasStairShape, IsRemainder, size_of}
+use Rattle.vecdim.specs.Lattices.{Members}
+use Rattle.vecdim.specs.Stairs.{Stairs, HasStairShape, IsRemainder, size_of}
 use Rattle.sublattice.specs.Remainders.{IsRemainderOf, number_of, remainder_with}
 use Rattle.sublattice.specs.Sublattices.{determinant, index_of, AreFlat, HasMembersOf}
 

@@ -1,8 +1,8 @@
 -- The remainders modulo the lattice of a staircase, and their numbers.
 use Rattle.std.specs.Prelude.{◌≡◌, ℕ, ◌+◌, ◌*◌, ◌/◌, ◌%◌, pos, unsigned_abs}
 use Rattle.integers.specs.Vectors.{Vector, vector, minus}
-use Rattle.hermite.specs.Lattices.{Members}
-use Rattle.hermite.specs.Stairs.{Stairs, IsRemainder}
+use Rattle.vecdim.specs.Lattices.{Members}
+use Rattle.vecdim.specs.Stairs.{Stairs, IsRemainder}
 
 -- r is the remainder of v
 pub record IsRemainderOf (d : ℕ) (S : Stairs) (v r : Vector) : Type 0 where

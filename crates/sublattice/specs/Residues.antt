@@ -1,7 +1,7 @@
 -- A vector as numbers below the pivots and a sum of rows.
 use Rattle.std.specs.Prelude.{◌≡◌, ℕ, ◌<◌, ℤ, pos, ◌+ℤ◌, ◌*ℤ◌, unsigned_abs}
 use Rattle.integers.specs.Vectors.{Vector}
-use Rattle.hermite.specs.Stairs.{Stairs}
+use Rattle.vecdim.specs.Stairs.{Stairs}
 
 -- w is three numbers below the pivots, and a sum of rows
 pub record Residue (S : Stairs) (w : Vector) : Type 0 where

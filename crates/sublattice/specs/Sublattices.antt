@@ -3,7 +3,7 @@ use Rattle.std.specs.Prelude.{◌≡◌, ◌↔◌, ℕ, ◌==◌, ℤ, pos, con
 use Rattle.integers.specs.Bases.{Base, base_sum}
 use Rattle.integers.specs.Staircase.{IsStaircase}
 use Rattle.integers.specs.Vectors.{Vector, zero_vector, up_vector, triple_product, HasDimension}
-use Rattle.hermite.specs.Stairs.{Stairs, InStairs, HasStairShape, rows_of, size_of}
+use Rattle.vecdim.specs.Stairs.{Stairs, InStairs, HasStairShape, rows_of, size_of}
 
 -- the rows in a list; in dimension 2 there are two of them
 abbrev pub base_of : List Vector → Base

@@ -3,8 +3,7 @@ ghost use Rattle.std.specs.Prelude.{◌≡◌, ◌≢◌, ◌⊎◌, ◌≤◌, 
 ghost use Rattle.integers.specs.Vectors.{zero_vector, up_vector, IsWithin};
 ghost use Rattle.sublattice.specs.Sublattices.{base_of, determinant, index_of, IsSublattice};
 
-use hermite::Staircase;
-use vecdim::{Triple, Vect, product_of_three};
+use vecdim::{Staircase, Triple, Vect, product_of_three};
 
 // The third row; in dimension 2 the unit vector there.
 fn last_row<const D: usize>(rows: &[Vect<D>]) -> Triple

@@ -1,11 +1,10 @@
 // The remainders modulo a lattice, by their numbers.
 ghost use Rattle.std.specs.Prelude.{◌≡◌, ◌≤◌, ◌<◌, ◌+◌, ◌*◌, ◌^◌, ℕ, pos, ◌≤ℤ◌, unsigned_abs};
-ghost use Rattle.hermite.specs.Stairs.{HasStairShape, IsRemainder, size_of};
+ghost use Rattle.vecdim.specs.Stairs.{HasStairShape, IsRemainder, size_of};
 ghost use Rattle.sublattice.specs.Remainders.{HasNumber, remainder_with};
 ghost use Rattle.sublattice.specs.Digits.{HasDigits};
 
-use hermite::Staircase;
-use vecdim::Vect;
+use vecdim::{Staircase, Vect};
 
 // A number from 0 on.
 fn natural(z: i128) -> u64

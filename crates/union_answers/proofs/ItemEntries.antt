@@ -4,7 +4,7 @@ use Rattle.std.specs.List.{All, list_all}
 use Rattle.std.specs.Option.{option_copied}
 use Rattle.std.proofs.lemmas.List.{take_more, length-map, map-append}
 use Rattle.std.proofs.lemmas.List.Elements.{All-cons, All-get_or, All-head, All-nil, All-tail}
-use Rattle.item_outcomes.specs.Outcomes.{AreItemOutcomesFrom, IsItemBodyOf, is_accepted, is_accepted_body}
+use Rattle.union_answers.specs.Outcomes.{AreItemOutcomesFrom, IsItemBodyOf, is_accepted, is_accepted_body}
 use Rattle.keyline_import.specs.Items.{BodyView, Net, Faulty as FaultyView, ItemView, items_of, most_items}
 use Rattle.keyline_import.specs.Keys.{graph_of_key}
 use Rattle.keyline_import.specs.NetNames.{IsNamed, IsNamedAs}
@@ -14,8 +14,8 @@ use Rattle.keyline_import.proofs.CallerLemmas.{nets_are_named}
 use Rattle.least_key.specs.AnyNets.{net_view}
 use Rattle.net_archive.specs.Adding.{IsEntryOf}
 use Rattle.net_archive.specs.Archives.{most_entries}
-use Rattle.net_entries.specs.Entries.{EntryView, entry_view, entry_views}
-use Rattle.net_entries.specs.declared.entry.Entry.{Entry}
+use Rattle.archive_text.specs.Entries.{EntryView, entry_view, entry_views}
+use Rattle.archive_text.specs.declared.entry.Entry.{Entry}
 use Rattle.net_report.specs.declared.outcome.Outcome.{Outcome}
 use Rattle.net_report.specs.declared.outcome.OutcomeBody.{OutcomeBody}
 use Rattle.net_report.specs.declared.outcome.OutcomeBody.TheVariants.{Refused, Keyed, Faulty}

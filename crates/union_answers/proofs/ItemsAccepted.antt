@@ -2,8 +2,8 @@
 use Rattle.std.proofs.Common.{◌≡◌, ◌&&◌, ℕ, ◌+◌, true, false, List, [], ◌∷◌, Option, refl, sym, ap, subst, ◌∙◌, true≢false}
 use Rattle.std.specs.List.{list_all}
 use Rattle.std.specs.Prelude.{unwrap_or}
-use Rattle.item_outcomes.specs.Outcomes.{AreItemOutcomesFrom, IsItemBodyOf, IsRefusedAs, is_accepted, is_accepted_body}
-use Rattle.item_outcomes.specs.Reports.{IsItemReport}
+use Rattle.union_answers.specs.Outcomes.{AreItemOutcomesFrom, IsItemBodyOf, IsRefusedAs, is_accepted, is_accepted_body}
+use Rattle.union_answers.specs.Reports.{IsItemReport}
 use Rattle.keyline_import.specs.Items.{BodyView, Net, Faulty as FaultyView, ItemView}
 use Rattle.keyline_import.specs.Keys.{graph_of_key}
 use Rattle.keyline_import.specs.Rows.{KeyView}
@@ -14,7 +14,7 @@ use Rattle.least_key.specs.declared.refusal.Refusal.{Refusal}
 use Rattle.least_key.proofs.CallerLemmas.{certain_is_not_refused, keyed_is_certain, one_net}
 use Rattle.net_archive.specs.Adding.{IsEntryOf}
 use Rattle.net_archive.proofs.CallerLemmas.{one_entry}
-use Rattle.net_entries.specs.Entries.{EntryView}
+use Rattle.archive_text.specs.Entries.{EntryView}
 use Rattle.quotient_graph.proofs.CallerLemmas.{one_in_order}
 use Rattle.net_report.specs.declared.outcome.Outcome.{Outcome}
 use Rattle.net_report.specs.declared.outcome.OutcomeBody.{OutcomeBody}

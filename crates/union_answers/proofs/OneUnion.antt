@@ -1,18 +1,18 @@
 -- What becomes of a union is one.
 use Rattle.std.proofs.Common.{◌≡◌, ◌⊎◌, inl, inr, ℕ, ◌≤◌, Bool, true, false, List, length, Option, Some, refl, sym, ap, subst, ◌∙◌, arith}
-use Rattle.archive_report.specs.ArchiveTexts.{add_fault_text}
+use Rattle.union_answers.specs.ArchiveTexts.{add_fault_text}
 use Rattle.archive_union.proofs.CallerLemmas.{not_both, same_item, same_union}
-use Rattle.item_outcomes.specs.Reports.{IsItemReport}
-use Rattle.item_outcomes.proofs.CallerLemmas.{one_item_report}
+use Rattle.union_answers.specs.Reports.{IsItemReport}
+use Rattle.union_answers.proofs.OneItemOutcome.{one_item_report}
 use Rattle.keyline_import.specs.Items.{ItemView, items_of, most_items}
 use Rattle.net_archive.specs.Archives.{ArchiveView, archive_text}
-use Rattle.net_entries.specs.Entries.{EntryView}
-use Rattle.archive_report.specs.ArchiveBytes.{IsArchiveIn, IsBadArchive}
+use Rattle.archive_text.specs.Entries.{EntryView}
+use Rattle.union_answers.specs.ArchiveBytes.{IsArchiveIn, IsBadArchive}
 use Rattle.union_answers.specs.Unions.{AreEntriesOfItems, AreItemsUnited, HasManyItems, IsUnionAs, IsUnionDue, IsUnionOfArchives, IsUnionOfItems, IsUnitedOrRefused, begins_archive}
-use Rattle.statuses.specs.declared.status.Status.{Status}
-use Rattle.statuses.specs.declared.status.Status.TheVariants.{Done, SomeRefused, BadArchive, AddRefused}
+use Rattle.net_report.specs.declared.status.Status.{Status}
+use Rattle.net_report.specs.declared.status.Status.TheVariants.{Done, SomeRefused, BadArchive, AddRefused}
 use Rattle.union_answers.proofs.ItemsAccepted.{entries_or_report, one_list_of_entries}
-use Rattle.archive_report.proofs.CallerLemmas.{not_bad, one_archive_in, one_bad}
+use Rattle.union_answers.proofs.OneArchive.{not_bad, one_archive_in, one_bad}
 
 -- one status and one text
 abbrev AreOne : Status → Status → List ℕ → List ℕ → Type 0

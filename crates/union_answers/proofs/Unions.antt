@@ -4,22 +4,22 @@ use Rattle.std.specs.Prelude.{IfErr, IfOk, Vec}
 use Rattle.std.specs.declared.alloc.Global.{Global}
 use Rattle.std.specs.List.{All, list_all}
 use Rattle.std.proofs.lemmas.List.Elements.{All-map}
-use Rattle.archive_report.specs.ArchiveTexts.{add_fault_text}
+use Rattle.union_answers.specs.ArchiveTexts.{add_fault_text}
 use Rattle.archive_union.specs.Unions.{IsNotUnited, IsUnion}
 use Rattle.archive_union.proofs.CallerLemmas.{has_all}
-use Rattle.item_outcomes.specs.Outcomes.{AreItemOutcomesFrom, is_accepted}
+use Rattle.union_answers.specs.Outcomes.{AreItemOutcomesFrom, is_accepted}
 use Rattle.keyline_import.specs.Items.{items_of, most_items}
 use Rattle.net_archive.specs.Archives.{ArchiveView, IsArchive, IsEntry, archive_text}
 use Rattle.net_archive.specs.declared.faults.AddFault.{AddFault}
-use Rattle.net_entries.specs.Entries.{EntryView, entry_view, entry_views}
-use Rattle.net_entries.specs.declared.entry.Entry.{Entry}
+use Rattle.archive_text.specs.Entries.{EntryView, entry_view, entry_views}
+use Rattle.archive_text.specs.declared.entry.Entry.{Entry}
 use Rattle.net_report.specs.Reports.{report_text}
 use Rattle.net_report.specs.declared.outcome.Outcome.{Outcome}
-use Rattle.archive_report.specs.ArchiveBytes.{IsArchiveIn, IsArchiveOrText, IsBadArchive}
+use Rattle.union_answers.specs.ArchiveBytes.{IsArchiveIn, IsArchiveOrText, IsBadArchive}
 use Rattle.union_answers.proofs.ItemEntries.{entries_of_items, few_entries, few_read, named_nets}
 use Rattle.union_answers.specs.Unions.{AreEntriesOfItems, IsNotUnitedAs, IsUnionOfArchives, IsUnionOfItems, IsUnitedAs, IsUnitedOrRefused}
-use Rattle.statuses.specs.declared.status.Status.{Status}
-use Rattle.statuses.specs.declared.status.Status.TheVariants.{Done, SomeRefused, AddRefused}
+use Rattle.net_report.specs.declared.status.Status.{Status}
+use Rattle.net_report.specs.declared.status.Status.TheVariants.{Done, SomeRefused, AddRefused}
 
 -- a union has all that it is made of
 pub united_as : (a whole : ArchiveView) (items : List Entry) (text : List ℕ) → IsArchive a → All (λ (e : Entry). IsEntry (entry_view e)) items → IsUnion a (entry_views items) whole → text ≡ archive_text whole

@@ -1,6 +1,6 @@
 -- What is due to a union is one, and nothing is due to a text of too many items.
 use Rattle.std.specs.Prelude.{◌≡◌, ℕ, List, Option}
-use Rattle.statuses.specs.declared.status.Status.{Status}
+use Rattle.net_report.specs.declared.status.Status.{Status}
 use Rattle.union_answers.specs.Unions.{HasManyItems, IsUnionDue}
 
 -- two answers that are due to a union, of the same bytes, have one status and one text

@@ -1,3 +1,8 @@
-pub mod Unions
+pub mod ArchiveBytes
+pub mod ArchiveTexts
 pub mod ItemEntries
+pub mod ItemLaws
 pub mod Laws
+pub mod Outcomes
+pub mod Reports
+pub mod Unions

@@ -1,9 +1,9 @@
 -- What is due to a union: of the bytes of a file and of an archive.
 use Rattle.std.specs.Prelude.{◌≡◌, ◌⊎◌, ℕ, ◌≤◌, ◌<◌, Bool, true, false, List, [], ◌∷◌, nat_eq, length, Option, Some, codes}
 use Rattle.std.specs.List.{starts_with}
-use Rattle.archive_report.specs.ArchiveTexts.{add_fault_text}
+use Rattle.union_answers.specs.ArchiveTexts.{add_fault_text}
 use Rattle.archive_union.specs.Unions.{HasAll, IsNotUnited, IsUnion}
-use Rattle.item_outcomes.specs.Reports.{IsItemReport}
+use Rattle.union_answers.specs.Reports.{IsItemReport}
 use Rattle.keyline_import.specs.Items.{ItemView, Net, items_of, most_items}
 use Rattle.keyline_import.specs.Keys.{graph_of_key}
 use Rattle.keyline_import.specs.Rows.{KeyView}
@@ -11,11 +11,11 @@ use Rattle.least_key.specs.KeyedNets.{KeyedNet, IsKeyed}
 use Rattle.net_archive.specs.Adding.{IsEntryOf}
 use Rattle.net_archive.specs.Archives.{ArchiveView, archive_text}
 use Rattle.net_archive.specs.declared.faults.AddFault.{AddFault}
-use Rattle.net_entries.specs.Entries.{EntryView}
+use Rattle.archive_text.specs.Entries.{EntryView}
 use Rattle.quotient_graph.specs.Stars.{IsInOrder}
-use Rattle.archive_report.specs.ArchiveBytes.{IsArchiveIn, IsBadArchive}
-use Rattle.statuses.specs.declared.status.Status.{Status}
-use Rattle.statuses.specs.declared.status.Status.TheVariants as status
+use Rattle.union_answers.specs.ArchiveBytes.{IsArchiveIn, IsBadArchive}
+use Rattle.net_report.specs.declared.status.Status.{Status}
+use Rattle.net_report.specs.declared.status.Status.TheVariants as status
 
 -- the bytes begin as those of an archive do
 abbrev pub begins_archive : List ℕ → Bool

@@ -1,7 +1,7 @@
 // The entries of items that have keys, under their names.
 ghost use Rattle.std.specs.Prelude.{All, IfOk};
 ghost use Rattle.net_archive.specs.Archives.{IsEntry};
-ghost use Rattle.net_entries.specs.Entries.{entry_view, entry_views};
+ghost use Rattle.archive_text.specs.Entries.{entry_view, entry_views};
 ghost use Rattle.union_answers.specs.ItemEntries.{AreEntriesTold, HasNamedNet, IsEntryTold};
 
 use net_archive::{Entry, entry_of};

@@ -1,7 +1,7 @@
 // What is due to unions of an archive with the nets of a file: rows that were worked out by hand.
 use crate::union_of;
 use net_archive::MOST_BYTES;
-use statuses::{Answer, Status};
+use net_report::{Answer, Status};
 use std::alloc::Global;
 use std::test::Fail;
 

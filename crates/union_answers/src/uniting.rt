@@ -1,19 +1,17 @@
 // Unites an archive with the nets of a file: another archive, or a text of key lines.
 ghost use Rattle.std.specs.Prelude.{◌≡◌, ◌≤◌, ◌<◌, All, IfErr, IfOk, IsErrOf, length};
-ghost use Rattle.archive_report.specs.ArchiveBytes.{AreFew, IsArchiveIn, IsBadArchive, bytes_in, most_bytes};
+ghost use Rattle.union_answers.specs.ArchiveBytes.{AreFew, IsArchiveIn, IsBadArchive, bytes_in, most_bytes};
 ghost use Rattle.keyline_import.specs.Items.{items_of, most_items};
 ghost use Rattle.net_archive.specs.Archives.{IsEntry, most_entries};
-ghost use Rattle.net_entries.specs.Entries.{entry_view, entry_views};
+ghost use Rattle.archive_text.specs.Entries.{entry_view, entry_views};
 ghost use Rattle.union_answers.specs.Unions.{HasManyItems, IsUnionDue, IsUnionOfArchives, IsUnionOfItems, IsUnitedOrRefused, begins_archive};
 
 use crate::entries::entries_of;
-use archive_report::{NoMemory, add_fault_text, archive_in};
+use crate::{NoMemory, add_fault_text, archive_in, are_accepted, outcomes_of};
 use archive_union::{UniteFault, unite};
-use item_outcomes::{are_accepted, outcomes_of};
 use keyline_import::items;
 use net_archive::{Archive, Entry};
-use net_report::report;
-use statuses::{Answer, Silence, Status};
+use net_report::{Answer, Silence, Status, report};
 use std::alloc::Global;
 
 // Whether the bytes begin as those of an archive do.
@@ -97,6 +95,7 @@ fn unite_items(alloc: Global, file: &[u8], archive: Option<Vec<u8>>) -> Result<A
     let archive = match archive_in(alloc, archive)? {
         Ok(archive) => archive,
         Err(text) => {
+            drop(found);
             return Ok(Answer {
                 status: Status::BadArchive,
                 text,
@@ -105,12 +104,17 @@ fn unite_items(alloc: Global, file: &[u8], archive: Option<Vec<u8>>) -> Result<A
     };
     let outcomes = outcomes_of(alloc, found)?;
     if !are_accepted(&outcomes) {
+        drop(archive);
+        let text = report(alloc, &outcomes);
+        drop(outcomes);
         return Ok(Answer {
             status: Status::SomeRefused,
-            text: report(alloc, &outcomes)?,
+            text: text?,
         });
     }
-    let entries = entries_of(alloc, outcomes.as_slice())?;
+    let entries = entries_of(alloc, outcomes.as_slice());
+    drop(outcomes);
+    let entries = entries?;
     Ok(unite_entries(alloc, archive, entries)?)
 }
 

@@ -1,1 +1,4 @@
+pub mod Lattices
 pub mod SmallVectors
+pub mod Stairs
+pub mod Steps

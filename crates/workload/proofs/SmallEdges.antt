@@ -64,9 +64,17 @@ pub split : (a b : Bool) → (a && b) ≡ true → (a ≡ true) × (b ≡ true)
 split true b h = (refl, h)
 split false b h = absurd (true≢false (sym h))
 
--- the line of a base edge from a place
-pub edge_short : (d m k : ℕ) (e : Edge) (r : ℕ) → m ≤ 4 → k < 5 → r < m → is_base_edge e ≡ true → length (edge_line d (edge_at m k e r)) ≤ 15
-edge_short d m k e r a b l h =
+-- the numbers of an edge are small
+pub record IsSmallEdge (e : Edge) : Type 0 where
+  pub u : e.u ≤ 20
+  pub v : e.v ≤ 20
+  pub x : unsigned_abs e.x ≤ 8
+  pub y : unsigned_abs e.y ≤ 1
+  pub z : unsigned_abs e.z ≤ 1
+
+-- so are those of a base edge from a place
+pub edge_small : (m k : ℕ) (e : Edge) (r : ℕ) → m ≤ 4 → k < 5 → r < m → is_base_edge e ≡ true → IsSmallEdge (edge_at m k e r)
+edge_small m k e r a b l h =
     let yz = is_unit e.y && is_unit e.z in
     let xyz = is_unit e.x && yz in
     let s1 = split (nat_lt 0 e.u) (nat_lt e.u 5 && (nat_lt 0 e.v && (nat_lt e.v 5 && xyz))) h in
@@ -76,9 +84,20 @@ edge_short d m k e r a b l h =
     let s5 = split (is_unit e.x) yz s4.1 in
     let s6 = split (is_unit e.y) (is_unit e.z) s5.1 in
     let inside = remainder_within (pos r +ℤ e.x) m (omega arith) in
-    let u = vertex_few m e.u r a l (ltb-true e.u 5 s2.0) in
-    let v = vertex_few m e.v (place_after m r e.x) a inside (ltb-true e.v 5 s4.0) in
-    let x = sheared_few (cells_passed m r e.x) k e.y (passed_few m r e.x a l s5.0) b s6.0 in
     let y = ltb-true (unsigned_abs e.y) 2 s6.0 in
     let z = ltb-true (unsigned_abs e.z) 2 s6.1 in
-    line_short d (edge_at m k e r) u v x (omega (arith, y)) (omega (arith, z))
+    record {
+      u = vertex_few m e.u r a l (ltb-true e.u 5 s2.0);
+      v = vertex_few m e.v (place_after m r e.x) a inside (ltb-true e.v 5 s4.0);
+      x = sheared_few (cells_passed m r e.x) k e.y (passed_few m r e.x a l s5.0) b s6.0;
+      y = omega (arith, y);
+      z = omega (arith, z);
+    }
+
+-- the line of a base edge from a place
+pub edge_short : (d m k : ℕ) (e : Edge) (r : ℕ) → m ≤ 4 → k < 5 → r < m → is_base_edge e ≡ true → length (edge_line d (edge_at m k e r)) ≤ 15
+edge_short d m k e r a b l h =
+    let s = edge_small m k e r a b l h in
+    let y = s.y in
+    let z = s.z in
+    line_short d (edge_at m k e r) s.u s.v s.x (omega (arith, y)) (omega (arith, z))

@@ -13,11 +13,12 @@ use Rattle.periodic_net.specs.Placement.{Placement, base, arc_vector}
 use Rattle.periodic_net.proofs.CallerLemmas.{arc_inside, from_is_arc, total_linear}
 use Rattle.quotient_graph.specs.PlacedNets.{placement_of}
 use Rattle.exact.specs.Ratio.{Ratio, whole}
-use Rattle.elimination.specs.declared.rows.Row.{Row}
+use Rattle.vecdim.specs.declared.rows.Row.{Row}
 use Rattle.elimination.specs.Rows.{row_part, value_in}
 use Rattle.residue.specs.declared.numbers.Residue.{Residue}
-use Rattle.dixon_lifting.specs.Gains.{gains, shifts}
-use Rattle.dixon_lifting.proofs.CallerLemmas.{gained, multiple_zero}
+use Rattle.barycentre.specs.Gains.{gains, shifts}
+use Rattle.barycentre.proofs.Linear.{gained}
+use Rattle.barycentre.proofs.CoprimeDenominators.{multiple_zero}
 use Rattle.barycentre.specs.Left.{star_vector}
 use Rattle.barycentre.specs.Limits.{AreInReach}
 use Rattle.barycentre.specs.ResidueRows.{residue_value, residue_part, residue_at, residue_vector}

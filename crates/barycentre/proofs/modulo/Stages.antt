@@ -10,16 +10,17 @@ use Rattle.integers.proofs.numbers.Division.{exact_quotient}
 use Rattle.periodic_net.specs.Graph.{Graph, IsGraph, IsQuotientVertex}
 use Rattle.exact.specs.Ratio.{Same, whole}
 use Rattle.exact.proofs.CallerLemmas.{equal_residues}
-use Rattle.elimination.specs.declared.rows.Row.{Row}
+use Rattle.vecdim.specs.declared.rows.Row.{Row}
 use Rattle.elimination.specs.Equations.{IsAtMean, IsSolution}
 use Rattle.elimination.specs.Rows.{value_in}
 use Rattle.elimination.specs.RightHand.{IsSolutionWith, SolveWith}
 use Rattle.elimination.specs.Solutions.{SolveAll, SolveOnly, AreFlat}
 use Rattle.residue.specs.declared.numbers.Residue.{Residue}
 use Rattle.residue.specs.Residues.{IsResidue}
-use Rattle.dixon_lifting.specs.Gains.{gains, shifts}
-use Rattle.dixon_lifting.specs.TwoSteps.{AreTwoSteps}
-use Rattle.dixon_lifting.proofs.CallerLemmas.{multiple_zero, same_zero, at_mean}
+use Rattle.barycentre.specs.Gains.{gains, shifts}
+use Rattle.barycentre.specs.TwoSteps.{AreTwoSteps}
+use Rattle.barycentre.proofs.CoprimeDenominators.{multiple_zero}
+use Rattle.barycentre.proofs.Whole.{same_zero, at_mean}
 use Rattle.barycentre.specs.Left.{star_vector, IsLeft, IsLeftRow, IsDividedVector, AreLeftRows}
 use Rattle.barycentre.specs.ResidueRows.{residue_value, residue_part, residue_at, residue_vector}
 use Rattle.integers.proofs.vectors.Coordinates.{below_three}

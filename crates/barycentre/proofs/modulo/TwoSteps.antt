@@ -10,14 +10,15 @@ use Rattle.periodic_net.specs.Limits.{IsSmall}
 use Rattle.quotient_graph.specs.PlacedNets.{most_position}
 use Rattle.quotient_graph.proofs.CallerLemmas.{position_bounded}
 use Rattle.exact.specs.Ratio.{Ratio, whole}
-use Rattle.elimination.specs.declared.rows.Row.{Row}
+use Rattle.vecdim.specs.declared.rows.Row.{Row}
 use Rattle.fraction.specs.declared.numbers.Fraction.{Fraction}
 use Rattle.fraction.specs.Values.{fraction_value}
 use Rattle.elimination.specs.Rows.{row_part, value_in}
 use Rattle.residue.specs.declared.numbers.Residue.{Residue}
 use Rattle.residue.specs.Reconstruction.{IsReconstruction}
-use Rattle.dixon_lifting.specs.TwoSteps.{AreTwoSteps}
-use Rattle.dixon_lifting.proofs.CallerLemmas.{two_steps_recover, Lowest, lowest}
+use Rattle.barycentre.specs.TwoSteps.{AreTwoSteps}
+use Rattle.barycentre.proofs.TwoStages.{two_steps_recover}
+use Rattle.barycentre.proofs.RecoveredFractions.{Lowest, lowest}
 use Rattle.barycentre.specs.Positions.{IsScaled}
 use Rattle.barycentre.specs.Recovered.{lifted_part, IsRecoveredRow, AreRecovered, LacksRow}
 use Rattle.barycentre.specs.ResidueRows.{residue_part, residue_at}

@@ -7,8 +7,8 @@ use Rattle.periodic_net.specs.Graph.{IsGraph, IsQuotientVertex, Vertex, vertex, 
 use Rattle.periodic_net.proofs.CallerLemmas.{iso_matching, one_placement}
 use Rattle.quotient_graph.specs.NetClasses.{NetClasses, AreClasses, class_at}
 use Rattle.primitive_cell.specs.DividedNets.{DividedNet}
-use Rattle.primitive_theory.specs.Laws.{IsDivided}
-use Rattle.primitive_theory.proofs.CallerLemmas.{class_iso, primitive_is_divided}
+use Rattle.key_theory.specs.PrimitiveLaws.{IsDivided}
+use Rattle.key_theory.proofs.CallerLemmas.{class_iso, primitive_is_divided}
 use Rattle.coordination.specs.BoxSearches.{AreListsOf}
 use Rattle.coordination.specs.Cells.{HasCell}
 use Rattle.coordination.specs.Sequences.{AreShellsOf, AreSequencesOf}

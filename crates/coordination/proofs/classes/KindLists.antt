@@ -6,8 +6,8 @@ use Rattle.periodic_net.specs.Graph.{IsGraph, IsQuotientVertex, Vertex, vertex}
 use Rattle.periodic_net.proofs.CallerLemmas.{iso_matching, matching_turned, origin_vertex}
 use Rattle.quotient_graph.specs.NetClasses.{NetClasses, AreClasses, class_at}
 use Rattle.primitive_cell.specs.DividedNets.{DividedNet}
-use Rattle.primitive_theory.proofs.CallerLemmas.{class_iso}
-use Rattle.class_kinds.specs.Kinds.{AreKinds, IsCarriedTo, kind_of}
+use Rattle.key_theory.proofs.CallerLemmas.{class_iso}
+use Rattle.key_theory.specs.Kinds.{AreKinds, IsCarriedTo, kind_of}
 use Rattle.coordination.specs.BoxSearches.{AreShellKinds}
 use Rattle.coordination.specs.Cells.{HasCell}
 use Rattle.coordination.specs.Sequences.{AreShellsOf, AreShellsOfClass}

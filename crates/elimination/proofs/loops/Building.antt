@@ -2,7 +2,7 @@
 use Rattle.std.proofs.Common.{◌≡◌, ℕ, arith, ◌+◌, ◌≤◌, List, [], ◌∷◌, ◌++◌, length, sym, subst, ⊎_elim}
 use Rattle.std.specs.Global.{Vec}
 use Rattle.exact.specs.Ratio.{Ratio}
-use Rattle.elimination.specs.declared.rows.Row.{Row}
+use Rattle.vecdim.specs.declared.rows.Row.{Row}
 use Rattle.periodic_net.specs.Graph.{Graph}
 use Rattle.elimination.specs.Listed.{Level}
 use Rattle.elimination.specs.Lines.{IsUpperWeights, IsRow, AreRowsOfValues, AreWeights, AreWide, AreArcWeights, level_with}

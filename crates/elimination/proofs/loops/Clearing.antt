@@ -26,27 +26,3 @@ pub cleared_none : (arcs : List Arc) (counts : List ℤ) → AreCounts arcs coun
 cleared_none arcs counts h = record {
   zero = λ j d l none. h.each j d l ∙ ap pos (none_leads arcs (j + 1) (λ k a m. none k a (omega arith) m));
 }
-
--- the count of one more arc
-pub cleared_more : (arcs : List Arc) (counts : List ℤ) (t : ℕ) (a : Arc) → t < length arcs → a ≡ get_or arcs t a → 1 ≤ a.to → a.to ≤ length counts → AreCleared arcs counts t → AreCleared arcs (set counts (a.to - 1) (pos 0)) (t + 1)
-cleared_more arcs counts t a l is low high h = record {
-  zero = λ j d m none. ⊎_elim
-      (λ (e : j ≡ a.to - 1).
-      let room : a.to - 1 < length counts = omega (arith, low, high) in
-      subst (λ i. get_or (set counts (a.to - 1) (pos 0)) i d ≡ pos 0) (sym e) (get_or-set_same counts (a.to - 1) (pos 0) d room))
-      (λ (o : j ≢ a.to - 1).
-      get_or-set_other counts (a.to - 1) j (pos 0) d o ∙ h.zero j d (let n = length-set counts (a.to - 1) (pos 0) in omega (arith, m, n))
-      (λ k b from to. ⊎_elim
-      (λ (e : k ≡ t). λ leads. o (let same = at k b e to in omega (arith, leads, same, low)))
-      (λ (p : k ≢ t). none k b (omega (arith, from, p)) to) (cases_eq k t))) (cases_eq j (a.to - 1));
-}
-  where
-    at : (k : ℕ) (b : Arc) → k ≡ t → k < length arcs → (get_or arcs k b).to ≡ a.to
-    at k b e n = ap (λ (c : Arc). c.to) (get_or_default arcs k b a n ∙ ap (λ i. get_or arcs i a) e ∙ sym is)
-
--- at the end
-pub cleared_all : (arcs : List Arc) (counts : List ℤ) (t : ℕ) → length arcs ≤ t → AreCleared arcs counts t → AreCounts [] counts (length counts)
-cleared_all arcs counts t past h = record {
-  length = refl;
-  each = λ j d l. h.zero j d l (λ k a from to. absurd (omega (arith, past, from, to)));
-}

@@ -7,7 +7,7 @@ use Rattle.std.proofs.lemmas.List.Elements.{All-contains, Contains-append_right}
 use Rattle.std.proofs.lemmas.Bool.{cases_eq}
 use borrow.Author.Count.{below_more}
 use Rattle.exact.specs.Ratio.{Ratio, HasInverse}
-use Rattle.elimination.specs.declared.rows.Row.{Row}
+use Rattle.vecdim.specs.declared.rows.Row.{Row}
 use Rattle.elimination.specs.Listed.{Level, Entry, place, over_entry, list_to, pivot_sum, weight_entry, shift_entry, row_entries}
 use Rattle.elimination.specs.Faults.{IsGood, AreGood}
 use Rattle.elimination.specs.Lines.{IsUpperWeights, IsRow, AreRowsOfValues, IsUpperLine, AreWeights, AreLines, AreWide}

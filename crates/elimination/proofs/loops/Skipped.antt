@@ -6,7 +6,7 @@ use Rattle.std.specs.Global.{Vec}
 use Rattle.exact.specs.Ratio.{Ratio, HasInverse, ratio_plus, ratio_times}
 use Rattle.exact.specs.Values.{CanCancel, HasValue}
 use Rattle.exact.proofs.CallerLemmas.{same_refl, same_sym, same_trans, one_cancels, zero_times, over_like}
-use Rattle.elimination.specs.declared.rows.Row.{Row}
+use Rattle.vecdim.specs.declared.rows.Row.{Row}
 use Rattle.elimination.specs.declared.place.Place.{Place}
 use Rattle.elimination.specs.Listed.{Level, Entry, place, term_entries, over_entry, list_to, pivot_sum, factor, next_level, weight_entry, shift_entry, row_entries}
 use Rattle.elimination.specs.Faults.{AreGood}

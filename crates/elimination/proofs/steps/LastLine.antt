@@ -2,7 +2,7 @@
 use Rattle.std.proofs.Common.{◌≡◌, ℕ, suc, ◌-◌, arith, ◌+◌, ◌<◌, ◌≤◌, List, [], ◌∷◌, ◌++◌, length, get_or, subst, sym, ⊎_elim}
 use Rattle.std.specs.Global.{Vec}
 use Rattle.exact.specs.Ratio.{Ratio}
-use Rattle.elimination.specs.declared.rows.Row.{Row}
+use Rattle.vecdim.specs.declared.rows.Row.{Row}
 use Rattle.elimination.specs.declared.joined.Joined.{Joined}
 use Rattle.elimination.specs.Listed.{Level}
 use Rattle.elimination.specs.Lines.{IsUpperWeights, IsSymmetric, IsRow, IsLastLine, AreLines, AreWide, AreRowsOfValues}

@@ -2,7 +2,7 @@
 use Rattle.std.proofs.Common.{◌≡◌, ℕ, suc, ◌+◌, ◌-◌, List}
 use Rattle.std.specs.Global.{Vec}
 use Rattle.exact.specs.Ratio.{Ratio}
-use Rattle.elimination.specs.declared.rows.Row.{Row}
+use Rattle.vecdim.specs.declared.rows.Row.{Row}
 use Rattle.elimination.specs.declared.joined.Joined.{Joined}
 use Rattle.elimination.specs.declared.place.SolveFault.{SolveFault}
 use Rattle.elimination.specs.declared.terms.Pivot.{Pivot}

@@ -1,7 +1,7 @@
 -- Positions, with that of the last vertex.
 use Rattle.std.proofs.Common.{◌≡◌, ℕ, suc, ◌+◌, List, [], ◌∷◌, ◌++◌, length, get_or, sym, subst, ⊎_elim}
 use Rattle.exact.specs.Ratio.{Ratio}
-use Rattle.elimination.specs.declared.rows.Row.{Row}
+use Rattle.vecdim.specs.declared.rows.Row.{Row}
 use Rattle.elimination.specs.Listed.{Level, next_level, last_position, position_up_to}
 use Rattle.elimination.specs.Lines.{IsRow, AreRowsOfValues}
 use Rattle.elimination.proofs.theory.Existence.{position_last, position_below}

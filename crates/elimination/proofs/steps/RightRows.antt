@@ -6,7 +6,7 @@ use Rattle.periodic_net.specs.Graph.{Graph, IsGraph, IsQuotientVertex}
 use Rattle.exact.specs.Ratio.{Ratio, IsDenominator, whole}
 use Rattle.exact.specs.Values.{HasValue, CanCancel}
 use Rattle.exact.proofs.CallerLemmas.{same_refl, one_cancels, denominator_cancels}
-use Rattle.elimination.specs.declared.rows.Row.{Row}
+use Rattle.vecdim.specs.declared.rows.Row.{Row}
 use Rattle.elimination.specs.Faults.{AreGood}
 use Rattle.elimination.specs.Listed.{position_up_to}
 use Rattle.elimination.specs.Lines.{IsRow, AreRowsOfValues, level_with}

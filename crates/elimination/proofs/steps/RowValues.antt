@@ -6,7 +6,7 @@ use Rattle.std.proofs.lemmas.Option.{slice_get_cases}
 use Rattle.periodic_net.specs.Graph.{Graph, IsGraph, IsQuotientVertex}
 use Rattle.exact.specs.Ratio.{Ratio, IsDenominator, whole}
 use Rattle.exact.specs.Values.{HasValue}
-use Rattle.elimination.specs.declared.rows.Row.{Row}
+use Rattle.vecdim.specs.declared.rows.Row.{Row}
 use Rattle.elimination.specs.Lines.{IsRow, AreRowsOfValues}
 use Rattle.elimination.specs.Rows.{value_in, row_part}
 

@@ -4,7 +4,7 @@ use Rattle.std.specs.List.{Contains}
 use Rattle.std.proofs.lemmas.List.Elements.{All-contains, Contains-append_right}
 use Rattle.periodic_net.specs.Graph.{Graph}
 use Rattle.exact.specs.Ratio.{Ratio}
-use Rattle.elimination.specs.declared.rows.Row.{Row}
+use Rattle.vecdim.specs.declared.rows.Row.{Row}
 use Rattle.elimination.specs.declared.place.SolveFault.{SolveFault}
 use Rattle.elimination.specs.declared.place.SolveFault.TheVariants.{NoInverse, NoMemory}
 use Rattle.elimination.specs.declared.place.SolveFault.TheVariants.{Wide as WideAt}

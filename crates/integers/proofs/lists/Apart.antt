@@ -70,10 +70,6 @@ pairs_from_once xs once i j d l m e = let same = once i j d (omega arith) m e in
 pub permuted_pairs : {X : Type 0} (xs ys : List X) → IsPermutation xs ys → AllPairs (λ x y. x ≢ y) xs → AllPairs (λ x y. x ≢ y) ys
 permuted_pairs xs ys p h = pairs_from_once ys (permuted_once xs ys p (once_from_pairs xs h))
 
--- the same, read place by place
-pub permuted_apart : {X : Type 0} (xs ys : List X) → IsPermutation xs ys → AreApart xs → AreApart ys
-permuted_apart xs ys p h = apart_from_pairs ys (permuted_pairs xs ys p (pairs_from_apart xs h))
-
 -- the numbers rise
 abbrev pub rise : List ℕ → Bool
 rise [] = true

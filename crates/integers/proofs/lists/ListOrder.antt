@@ -75,15 +75,6 @@ below_of_at_most xs ys h = by (slice_cmp int_cmp xs ys) refl
     by Equal e = inr (slice_cmp-IsAntisymmetric int_cmp-IsAntisymmetric xs ys e)
     by Greater e = absurd (h e)
 
--- what is not at most another list is above it
-pub at_most_or_below : (xs ys : List ℤ) → IsAtMost xs ys ⊎ IsBelow ys xs
-at_most_or_below xs ys = by (slice_cmp int_cmp xs ys) refl
-  where
-    by : (o : Ordering) → slice_cmp int_cmp xs ys ≡ o → IsAtMost xs ys ⊎ IsBelow ys xs
-    by Less e = inl (λ k. less_greater (sym e ∙ k))
-    by Equal e = inl (λ k. equal_greater (sym e ∙ k))
-    by Greater e = inr (lists_order.antisymm ys xs ∙ ap ordering_reverse e)
-
 -- two lists, each at most the other, are equal
 pub at_most_both : (xs ys : List ℤ) → IsAtMost xs ys → IsAtMost ys xs → xs ≡ ys
 at_most_both xs ys h k = by (below_of_at_most xs ys h)

@@ -101,23 +101,10 @@ total_plus g h (x ∷ xs) = (λ i. (g x +ℤ h x) +ℤ total_plus g h xs i) ∙ 
     four : (a b c d : ℤ) → (a +ℤ b) +ℤ (c +ℤ d) ≡ (a +ℤ c) +ℤ (b +ℤ d)
     four a b c d = omega (arith, linear)
 
--- terms that are no greater have a sum that is no greater
-pub total_order : {X : Type 0} (g h : X → ℤ) (xs : List X) → ((x : X) → IsIn xs x → g x ≤ℤ h x) → total g xs ≤ℤ total h xs
-total_order g h [] l = omega (arith, ints)
-total_order g h (x ∷ xs) l = two (g x) (h x) (total g xs) (total h xs) (l x (inl refl)) (total_order g h xs (λ y i. l y (inr i)))
-  where
-    two : (a b c d : ℤ) → a ≤ℤ b → c ≤ℤ d → (a +ℤ c) ≤ℤ (b +ℤ d)
-    two a b c d p q = omega (arith, linear, p, q)
-
 -- the sum of zeros
 pub total_zeros : {X : Type 0} (xs : List X) → total (λ x. pos 0) xs ≡ pos 0
 total_zeros [] = refl
 total_zeros (x ∷ xs) = ap (λ (s : ℤ). pos 0 +ℤ s) (total_zeros xs)
-
--- two sums may be exchanged
-pub total_exchange : {X Y : Type 0} (f : X → Y → ℤ) (xs : List X) (ys : List Y) → total (λ x. total (f x) ys) xs ≡ total (λ y. total (λ x. f x y) xs) ys
-total_exchange f [] ys = sym (total_zeros ys)
-total_exchange f (x ∷ xs) ys = ap (λ (s : ℤ). total (f x) ys +ℤ s) (total_exchange f xs ys) ∙ sym (total_plus (f x) (λ y. total (λ z. f z y) xs) ys)
 
 -- a sum is the difference of two sums of natural numbers
 total_parts : {X : Type 0} (g : X → ℤ) (xs : List X) → total g xs ≡ pos (sum_by (λ x. up (g x)) xs) -ℤ pos (sum_by (λ x. down (g x)) xs)

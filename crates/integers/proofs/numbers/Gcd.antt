@@ -140,7 +140,3 @@ least_multiple xs = by (bound_of_list (λ n x. x ∣ n) (λ a b c p q. dvd_trans
   where
     by : (m : ℕ) × IsBound (λ n x. x ∣ n) xs m → (m : ℕ) × IsLeastMultiple xs m
     by r = (r.0, record { multiple = r.1.0; least = r.1.1 })
-
--- it is the only one
-pub least_multiple_unique : (xs : List ℕ) (m n : ℕ) → IsLeastMultiple xs m → IsLeastMultiple xs n → m ≡ n
-least_multiple_unique xs m n a b = dvd_antisymm (a.least n b.multiple) (b.least m a.multiple)

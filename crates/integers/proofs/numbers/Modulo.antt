@@ -44,10 +44,3 @@ steps_dimension d m v r dim h e = no_steps m r.z h.steps.z h.low.2 h.high.2 (sym
 -- and so has the vector modulo m
 pub modulo_dimension : (d : ℕ) (m : ℤ) (v r : Vector) → HasDimension d v → IsModulo m v r → HasDimension d r
 modulo_dimension d m v r dim h e = no_rest m r.z h.steps.z (steps_dimension d m v r dim h e) (sym (dim e) ∙ ap (λ (t : Vector). t.z) h.is)
-
--- its parts are small
-pub modulo_within : (n : ℕ) (m : ℤ) (v r : Vector) → unsigned_abs m ≤ n → IsModulo m v r → IsWithin n r
-modulo_within n m v r l h = (small r.x h.low.0 h.high.0, small r.y h.low.1 h.high.1, small r.z h.low.2 h.high.2)
-  where
-    small : (x : ℤ) → pos 0 ≤ℤ x → x <ℤ m → unsigned_abs x ≤ n
-    small x a b = omega (arith, ints)

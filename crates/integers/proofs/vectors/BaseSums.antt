@@ -3,7 +3,7 @@ use Rattle.std.proofs.Common.{ℤ, ◌≡◌, ◌+ℤ◌, ◌-ℤ◌, ◌*ℤ◌
 use Rattle.std.proofs.lemmas.Int.{ints}
 use Rattle.integers.specs.Bases.{Base, base_sum}
 use Rattle.integers.specs.Vectors.{Vector, times, plus, zero_vector, minus, vector, up_vector}
-use Rattle.integers.proofs.vectors.Coordinates.{IsCoordinate}
+use Rattle.integers.specs.Coordinates.{IsCoordinate}
 use Rattle.integers.proofs.numbers.Ring.{ring}
 use Rattle.integers.proofs.vectors.Laws.{vector_equal}
 

@@ -72,16 +72,6 @@ bounded_triple a b c l m n ha hb hc =
     (bounded_product a.y (b.z *ℤ c.x -ℤ b.x *ℤ c.z) l (2 * (m * n)) ha.1 (bounded_minor b.z c.x b.x c.z m n hb.2 hc.0 hb.0 hc.2))
     (bounded_product a.z (b.x *ℤ c.y -ℤ b.y *ℤ c.x) l (2 * (m * n)) ha.2 (bounded_minor b.x c.y b.y c.x m n hb.0 hc.1 hb.1 hc.0))
 
--- a sum over a list whose terms are bounded
-pub bounded_total : {X : Type 0} (g : X → ℤ) (xs : List X) (m : ℕ) → ((x : X) → IsIn xs x → unsigned_abs (g x) ≤ m) → unsigned_abs (total g xs) ≤ length xs * m
-bounded_total g [] m h = omega arith
-bounded_total g (x ∷ xs) m h =
-    let s = bounded_sum (g x) (total g xs) m (length xs * m) (h x (inl refl)) (bounded_total g xs m (λ y i. h y (inr i))) in
-    more (unsigned_abs (g x +ℤ total g xs)) (length xs) m s
-  where
-    more : (t n m : ℕ) → t ≤ m + n * m → t ≤ suc n * m
-    more t n m e = omega arith
-
 -- what is bounded below 2^127 fits in 128 bits
 pub fits_from_bound : (z : ℤ) (n : ℕ) → n < 2 ^ 127 → unsigned_abs z ≤ n → FitsSigned w128 z
 fits_from_bound z n l h = fits_signed_from_abs w128 z (omega arith)
@@ -102,13 +92,6 @@ bounded_plus v w m n h k = (bounded_sum v.x w.x m n h.0 k.0, bounded_sum v.y w.y
 pub bounded_minus : (v w : Vector) (m n : ℕ) → IsWithin m v → IsWithin n w → IsWithin (m + n) (minus v w)
 bounded_minus v w m n h k =
     (bounded_difference v.x w.x m n h.0 k.0, bounded_difference v.y w.y m n h.1 k.1, bounded_difference v.z w.z m n h.2 k.2)
-
--- the opposite of a vector
-pub bounded_opposite : (v : Vector) (n : ℕ) → IsWithin n v → IsWithin n (opposite v)
-bounded_opposite v n h = (turned v.x h.0, turned v.y h.1, turned v.z h.2)
-  where
-    turned : (a : ℤ) → unsigned_abs a ≤ n → unsigned_abs (neg_ℤ a) ≤ n
-    turned a k = subst (λ (t : ℕ). t ≤ n) (sym (abs_negative a)) k
 
 -- a multiple of a vector
 pub bounded_times : (a : ℤ) (v : Vector) (m n : ℕ) → unsigned_abs a ≤ m → IsWithin n v → IsWithin (m * n) (times a v)

@@ -1,14 +1,7 @@
--- Readings of vectors that are linear, among them the three coordinates.
-use Rattle.std.proofs.Common.{arith, ℕ, zero, suc, ◌<◌, pos, ℤ, ◌≡◌, ◌+ℤ◌, ◌-ℤ◌, ◌*ℤ◌, refl}
+-- The three coordinates of a vector.
+use Rattle.std.proofs.Common.{arith, ℕ, zero, suc, ◌<◌, refl}
+use Rattle.integers.specs.Coordinates.{IsCoordinate}
 use Rattle.integers.specs.Staircase.{part}
-use Rattle.integers.specs.Vectors.{zero_vector, Vector, plus, times, minus}
-
--- c reads one coordinate
-pub record IsCoordinate (c : Vector → ℤ) : Type 0 where
-  pub zero : c zero_vector ≡ pos 0
-  pub plus_is : (v w : Vector) → c (plus v w) ≡ c v +ℤ c w
-  pub minus_is : (v w : Vector) → c (minus v w) ≡ c v -ℤ c w
-  pub times_is : (k : ℤ) (v : Vector) → c (times k v) ≡ k *ℤ c v
 
 -- the first coordinate
 pub coordinate_x : IsCoordinate (λ v. v.x)

@@ -110,19 +110,3 @@ independent_of_product a b c n (x ∷ y ∷ z ∷ []) l h =
     (ended (x *ℤ a.z) (y *ℤ b.z) (z *ℤ c.z) (ap (λ (v : Vector). v.z) h))) in
     (ap (λ (v : Vector). v.x) e, (ap (λ (v : Vector). v.y) e, (ap (λ (v : Vector). v.z) e, tt)))
 independent_of_product a b c n (x ∷ y ∷ z ∷ w ∷ ks) l h = absurd (omega arith)
-
--- a sum of two, with 0 times a third at its end
-two_ended : (x y c : ℤ) → x +ℤ (y +ℤ pos 0) ≡ pos 0 → x +ℤ (y +ℤ pos 0 *ℤ c) ≡ pos 0
-two_ended x y c h = omega (arith, ints, h)
-
--- two vectors whose product with (0, 0, 1) is not 0 are independent
-pub independent_of_flat_product : (a b : Vector) → triple_product a b up_vector ≢ pos 0 → AreIndependent (a ∷ b ∷ [])
-independent_of_flat_product a b n [] l h = tt
-independent_of_flat_product a b n (x ∷ []) l h = absurd (omega arith)
-independent_of_flat_product a b n (x ∷ y ∷ []) l h =
-    let e = only_zero a b up_vector n (vector x y (pos 0))
-    (vector_equal (two_ended (x *ℤ a.x) (y *ℤ b.x) (pos 0) (ap (λ (v : Vector). v.x) h))
-    (two_ended (x *ℤ a.y) (y *ℤ b.y) (pos 0) (ap (λ (v : Vector). v.y) h))
-    (two_ended (x *ℤ a.z) (y *ℤ b.z) (pos 1) (ap (λ (v : Vector). v.z) h))) in
-    (ap (λ (v : Vector). v.x) e, (ap (λ (v : Vector). v.y) e, tt))
-independent_of_flat_product a b n (x ∷ y ∷ z ∷ ks) l h = absurd (omega arith)

@@ -113,10 +113,6 @@ one_times v = vector_equal (omega (arith, ints)) (omega (arith, ints)) (omega (a
 pub times_plus : (k : ℤ) (v w : Vector) → times k (plus v w) ≡ plus (times k v) (times k w)
 times_plus k v w = vector_equal (simp ring (omega (arith, linear))) (simp ring (omega (arith, linear))) (simp ring (omega (arith, linear)))
 
--- k·(v - w) = k·v - k·w
-pub times_minus : (k : ℤ) (v w : Vector) → times k (minus v w) ≡ minus (times k v) (times k w)
-times_minus k v w = vector_equal (simp ring (omega (arith, linear))) (simp ring (omega (arith, linear))) (simp ring (omega (arith, linear)))
-
 -- (k + l)·v = k·v + l·v
 pub sum_times : (k l : ℤ) (v : Vector) → times (k +ℤ l) v ≡ plus (times k v) (times l v)
 sum_times k l v = vector_equal (simp ring (omega (arith, linear))) (simp ring (omega (arith, linear))) (simp ring (omega (arith, linear)))

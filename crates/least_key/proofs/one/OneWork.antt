@@ -6,7 +6,8 @@ use Rattle.integers.proofs.lists.Counting.{not_longer}
 use Rattle.integers.proofs.lists.Members.{IsIn, AreApart, is_in, contains_from_in, apart_from_pairs}
 use Rattle.periodic_net.specs.Classes.{ClassGraph, ClassArc, LeadsIn}
 use Rattle.periodic_net.specs.Graph.{Graph, IsGraph}
-use Rattle.key_theory.specs.Frames.{MayFollow, IsNext, IsFrameAfter, IsFrame, IsWorkPast}
+use Rattle.key_theory.specs.Frames.{IsNext, IsFrameAfter, IsFrame, IsWorkPast}
+use Rattle.periodic_net.specs.ClassNets.{MayFollow}
 use Rattle.key_theory.specs.Key.{Shape}
 use Rattle.least_key.proofs.one.SameClasses.{HaveSameArcs, same_turned, same_arcs}
 

@@ -51,12 +51,6 @@ module _ (G : Graph) (S T : Split) where
   pub not_sparse : (k : ℕ) → IsPartSplit G S → ¬ IsSparseSplit G T k
   not_sparse k a b = a.missed.2 (b.found a.missed.0 a.missed.1)
 
-ends_at_two : (v : Vector) → EndsBy 2 v
-ends_at_two v zero l = absurd (omega arith)
-ends_at_two v (suc zero) l = absurd (omega arith)
-ends_at_two v (suc (suc zero)) l = absurd (omega arith)
-ends_at_two v (suc (suc (suc i))) l = refl
-
 -- two vectors with a multiple in common
 record Line (c d : Vector) : Type 0 where
   m : ℤ

@@ -8,7 +8,7 @@ use crate::keying::settle_graph;
 use edge_frames::{Frames, count_work};
 use net_translations::classes;
 use net_traversal::{Head, KeyRow, Walker, traverse};
-use quotient_graph::{AnyGraph, ClassArc, ClassGraph, Classes, Frame, Graph};
+use quotient_graph::{AnyGraph, ClassArc, Classes, Frame, Graph};
 use std::alloc::Global;
 use std::test::Fail;
 use vecdim::Triple;
@@ -52,11 +52,15 @@ fn has_legs<const D: usize>(frame: &Frame<D>, legs: &[Leg; 3]) -> bool {
 }
 
 // The frame of class 1 with these arcs.
-fn frame_of<const D: usize>(alloc: Global, net: &ClassGraph<D>, legs: &[Leg; 3]) -> Option<Frame<D>>
-    requires { IsClass net.now 1 }
-    ensures { IfSome result (IsFrame net.now 1) }
+fn frame_of<const D: usize>(
+    alloc: Global,
+    classes: &Classes<D>,
+    legs: &[Leg; 3],
+) -> Option<Frame<D>>
+    requires { IsClass classes.now.classes 1 }
+    ensures { IfSome result (IsFrame classes.now.classes 1) }
 {
-    let Ok(mut frames) = Frames::new(alloc, net, 1) else {
+    let Ok(mut frames) = Frames::new(alloc, classes, 1) else {
         return None;
     };
     while let Some(frame) = frames.next() {
@@ -75,11 +79,10 @@ fn list_of_a_frame(rt: HostRuntime) -> Result<(), Fail> {
         return Err("graph".into());
     };
     let classes = classes_of(rt.alloc(), graph).ok_or("classes")?;
-    let net = classes.net();
-    assert!(rt; net.count() == 4);
+    assert!(rt; classes.count() == 4);
     let legs = [leg_of(1, 1, 1, 0), leg_of(1, -1, 0, 1), leg_of(4, 1, -2, 1)];
-    let frame = frame_of(rt.alloc(), net, &legs).ok_or("frame")?;
-    let key = traverse(rt.alloc(), net, 1, &frame)?;
+    let frame = frame_of(rt.alloc(), &classes, &legs).ok_or("frame")?;
+    let key = traverse(rt.alloc(), &classes, 1, &frame)?;
     let wanted = [
         3, 4, 1, 1, 2, -1, -1, 0, 1, 3, 0, 1, 0, 1, 4, 1, 0, 0, 2, 3, -1, -1, -1, 2, 4, 0, 0, 1, 3,
         4, -1, 0, -1,
@@ -91,13 +94,13 @@ fn list_of_a_frame(rt: HostRuntime) -> Result<(), Fail> {
 // The head and the rows of a list.
 fn walked<const D: usize>(
     alloc: Global,
-    net: &ClassGraph<D>,
+    classes: &Classes<D>,
     frame: &Frame<D>,
 ) -> Option<(Head, Vec<KeyRow>)>
-    requires start { IsClass net.now 1 }
-    requires frame { IsFrame net.now 1 frame.now }
+    requires start { IsClass classes.now.classes 1 }
+    requires frame { IsFrame classes.now.classes 1 frame.now }
 {
-    let mut walker = Walker::new(alloc, net, 1, frame).ok()?;
+    let mut walker = Walker::new(alloc, classes, 1, frame).ok()?;
     let head = walker.head();
     let mut rows = Vec::new(alloc);
     while let Some(row) = walker.next_row() {
@@ -121,11 +124,10 @@ fn rows_of_a_frame(rt: HostRuntime) -> Result<(), Fail> {
         return Err("graph".into());
     };
     let classes = classes_of(rt.alloc(), graph).ok_or("classes")?;
-    let net = classes.net();
-    assert!(rt; net.count() == 2);
+    assert!(rt; classes.count() == 2);
     let legs = [leg_of(1, 2, -1, 0), leg_of(1, -1, 2, 0), leg_of(1, 0, 0, 0)];
-    let frame = frame_of(rt.alloc(), net, &legs).ok_or("frame")?;
-    let (head, rows) = walked(rt.alloc(), net, &frame).ok_or("walk")?;
+    let frame = frame_of(rt.alloc(), &classes, &legs).ok_or("frame")?;
+    let (head, rows) = walked(rt.alloc(), &classes, &frame).ok_or("walk")?;
     assert_eq!(rt; (head.dim, head.classes, head.q), (2, 2, 1));
     let wanted = [row(1, 2, -1, -1), row(1, 2, 0, 1), row(1, 2, 1, 0)];
     assert_eq!(rt; rows.as_slice(), wanted.as_slice());
@@ -137,8 +139,8 @@ fn work_in(alloc: Global, text: &[u8]) -> Option<u64>
     requires { length text.now ≤ 16777216 }
 {
     match graph_view(alloc, text)? {
-        AnyGraph::Flat(graph) => count_work(alloc, classes_of(alloc, graph)?.net()).ok(),
-        AnyGraph::Space(graph) => count_work(alloc, classes_of(alloc, graph)?.net()).ok(),
+        AnyGraph::Flat(graph) => count_work(alloc, &classes_of(alloc, graph)?).ok(),
+        AnyGraph::Space(graph) => count_work(alloc, &classes_of(alloc, graph)?).ok(),
     }
 }
 

@@ -1,6 +1,6 @@
 // Archives: nets that are added, reported and found twice, and texts that are none.
 use super::{DIA, DIA_ARCHIVE, PCU, PCU_ARCHIVE, Row, answer_over};
-use statuses::Status;
+use net_report::Status;
 use std::test::Fail;
 
 const PCU_NEWEST: &str =

@@ -1,6 +1,6 @@
 // What is reported of the components of nets.
 use super::Row;
-use statuses::Status;
+use net_report::Status;
 
 // Each oxygen of cuprite is joined to four others through copper: two interwoven diamond nets.
 const CUPRITE: &str =

@@ -1,6 +1,6 @@
 // All that is reported of a net: its placement, primitive graph, key, sequences and names.
 use super::{DIA_ARCHIVE, HCB, Row, SODALITE};
-use statuses::Status;
+use net_report::Status;
 
 // The coordination sequences are the published ones of these nets.
 pub const IDENTIFIED: &[Row] = &[
@@ -35,6 +35,14 @@ pub const IDENTIFIED: &[Row] = &[
         archive: "net_archive 1\nentry \"pcu\"\ngraph 3 1 3\nedge 1 1 0 0 1\nedge 1 1 0 1 0\nedge 1 1 1 0 0\nkey 3 1 1 1 1 0 0 1 1 1 0 1 0 1 1 1 0 0\nend\nentry \"cubic\"\ngraph 3 1 3\nedge 1 1 0 0 1\nedge 1 1 0 1 0\nedge 1 1 1 0 0\nkey 3 1 1 1 1 0 0 1 1 1 0 1 0 1 1 1 0 0\nend\n",
         status: Status::Done,
         written: "net 1 line 1 \"pcu2\"\ngraph d=3 vertices=2 edges=6 repeats=0\nplacement D0=2\nat 1 0 0 0\nat 2 1 0 0\nprimitive vertices=1 edges=3\nbasis 1 0 0\nbasis 0 2 0\nbasis 0 0 2\nedge 1 1 0 0 1\nedge 1 1 0 1 0\nedge 1 1 1 0 0\nkey 3 1 1 1 1 0 0 1 1 1 0 1 0 1 1 1 0 0\nshells 1 6 18 38 66 102 146 198 258 326 402\nnames 2\nname \"pcu\"\nname \"cubic\"\n",
+    },
+    // the cubic net on a long basis, whose sequences are not counted in a box
+    Row {
+        words: &["identify", "net"],
+        net: "PERIODIC_GRAPH\nNAME far\nEDGES\n1 1 1 0 0\n1 1 500 1 0\n1 1 0 500 1\nEND\n",
+        archive: "",
+        status: Status::Done,
+        written: "net 1 line 1 \"far\"\ngraph d=3 vertices=1 edges=3 repeats=0\nplacement D0=1\nat 1 0 0 0\nprimitive vertices=1 edges=3\nbasis 1 0 0\nbasis 0 1 0\nbasis 0 0 1\nedge 1 1 0 500 1\nedge 1 1 1 0 0\nedge 1 1 500 1 0\nkey 3 1 1 1 1 0 0 1 1 1 0 1 0 1 1 1 0 0\nshells 1 6 18 38 66 102 146 198 258 326 402\nnames 0\n",
     },
     // arcs at a vertex that lie in a plane
     Row {

@@ -1,7 +1,7 @@
 // Keys, and why a net has none. More keys are in the program's stored run.
 use super::readings::loops;
 use super::{Row, answer_on};
-use statuses::Status;
+use net_report::Status;
 use std::test::Fail;
 
 pub const KEYED: &[Row] = &[

@@ -1,6 +1,6 @@
 // What is reported of nets: whether they are connected, and where their vertices stand.
 use super::{HCB, HCB_REPORT, Row, SODALITE, answer_on};
-use statuses::Status;
+use net_report::Status;
 use std::alloc::Global;
 use std::test::Fail;
 

@@ -1,6 +1,6 @@
 // How texts are read: corners of the form, each fault, and the limits.
 use super::{DIA, answer_on};
-use statuses::Status;
+use net_report::Status;
 use std::alloc::Global;
 use std::test::Fail;
 

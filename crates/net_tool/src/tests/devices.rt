@@ -1,10 +1,10 @@
 // The arguments, devices that fail, and files past their limits.
 use super::{DIA, DIA_ARCHIVE, DIA_KEY_REPORT, Faults, HCB, NO_FAULTS, run_on, run_over};
-use statuses::Status;
+use net_report::Status;
 use std::test::Fail;
 
 // Arguments, and how a run with them ends, where the files `net` and `--` are there.
-const ROWS: [(&[&str], Status); 40] = [
+const ROWS: [(&[&str], Status); 47] = [
     (&["check", "net"], Status::Done),
     (&["place", "net"], Status::Done),
     (&["key", "net"], Status::Done),
@@ -51,6 +51,16 @@ const ROWS: [(&[&str], Status); 40] = [
     (&["-h"], Status::Usage),
     (&["--version"], Status::Usage),
     (&["check", "--help"], Status::Usage),
+    (&["cover", "net", "--cell", "513,0,0,1"], Status::Usage),
+    (&["cover", "net", "--cell=-0,1,1,0"], Status::Usage),
+    (&["cover", "net", "--cell", "01,0,0,1"], Status::Usage),
+    (&["cover", "net", "--cell", "+1,0,0,1"], Status::Usage),
+    (&["cover", "net", "--cell", "1,0,0,1,0"], Status::Usage),
+    (
+        &["cover", "net", "--cell", "1,0,0,0,1,0,0,0"],
+        Status::Usage,
+    ),
+    (&["cover", "net"], Status::Usage),
 ];
 
 #[test]

@@ -1,8 +1,8 @@
 // Runs over files that never fail: each status that goes with a text, and the text.
-use super::{DIA, DIA_ARCHIVE, DIA_KEY_REPORT, named_files, words_of};
+use super::{DIA, DIA_ARCHIVE, DIA_KEY_REPORT, DIA_NEWEST, named_files, words_of};
 use crate::memory::run_in_memory;
+use net_report::Status;
 use outside::{HonestShelf, MemorySink};
-use statuses::Status;
 use std::test::Fail;
 
 const LINE: &str = "PERIODIC_GRAPH\nNAME line\nEDGES\n1 1 1 0\n1 1 2 0\nEND\n";
@@ -15,7 +15,7 @@ const LINE_UNCOVERED: &str =
 
 // Arguments, and what a run with them writes, where the files `dia`, `line` and `archive` are
 // there.
-const ROWS: [(&[&str], Status, &str); 10] = [
+const ROWS: [(&[&str], Status, &str); 9] = [
     (&["key", "dia"], Status::Done, DIA_KEY_REPORT),
     (&["key", "line"], Status::SomeRefused, LINE_REPORT),
     (&["key", "dia", "line"], Status::Usage, crate::tool::USAGE),
@@ -30,11 +30,6 @@ const ROWS: [(&[&str], Status, &str); 10] = [
         "add refused 1 1 NameTaken\n",
     ),
     (&["add", "dia"], Status::Done, DIA_NEWEST),
-    (
-        &["union", "archive", "--archive=archive"],
-        Status::Done,
-        DIA_ARCHIVE,
-    ),
     (&["verify", "dia"], Status::BadMap, "maps refused line=1\n"),
     (
         &["cover", "line", "--cell", "1,1,2,2"],
@@ -47,9 +42,6 @@ const ROWS: [(&[&str], Status, &str); 10] = [
         crate::tool::USAGE,
     ),
 ];
-
-const DIA_NEWEST: &str =
-    "net_archive 2\nentry \"dia\"\ngraph 3 2 4\nedge 1 2 0 0 0\nedge 1 2 0 0 1\nedge 1 2 0 1 0\nedge 1 2 1 0 0\nkey 3 2 1 1 2 -1 -1 -1 1 2 0 0 1 1 2 0 1 0 1 2 1 0 0\nprimitive 2\nshells 1 4 12 24 42 64 92 124 162 204 252\nshells 2 4 12 24 42 64 92 124 162 204 252\nend\n";
 
 #[test]
 fn endings(rt: HostRuntime) -> Result<(), Fail> {

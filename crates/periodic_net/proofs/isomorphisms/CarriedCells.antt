@@ -8,7 +8,7 @@ use Rattle.periodic_net.specs.Maps.{Iso}
 use Rattle.periodic_net.specs.Placement.{IsBarycentric, Placement}
 use Rattle.integers.proofs.vectors.Laws.{sum_times, one_times, zero_times, plus_zero, plus_associative, plus_cancel, times_dimension}
 use Rattle.integers.proofs.numbers.Ring.{sum_product, ring, cancel_factor, positive_not_zero, one_product}
-use Rattle.integers.proofs.vectors.Coordinates.{IsCoordinate}
+use Rattle.integers.specs.Coordinates.{IsCoordinate}
 use Rattle.integers.proofs.vectors.BaseSums.{base_sum_after, base_after}
 use Rattle.periodic_net.proofs.isomorphisms.Periods.{moved_vertex, periodic_after}
 use Rattle.periodic_net.proofs.isomorphisms.CarriedPositions.{further_same, pulled_in, pulled_period}

@@ -5,7 +5,8 @@ use Rattle.integers.specs.Vectors.{vector_sum, Vector, plus, HasDimension, times
 use Rattle.periodic_net.specs.Placement.{Placement, arc_vector, IsBarycentric, base, IsTranslate}
 use Rattle.periodic_net.specs.Graph.{Arc, Graph, IsQuotientVertex, arcs_from, IsGraph, IsConnected}
 use Rattle.integers.specs.Lists.{total}
-use Rattle.integers.proofs.vectors.Coordinates.{IsCoordinate, coordinate_y, coordinate_z, coordinate_x}
+use Rattle.integers.proofs.vectors.Coordinates.{coordinate_y, coordinate_z, coordinate_x}
+use Rattle.integers.specs.Coordinates.{IsCoordinate}
 use Rattle.integers.proofs.vectors.Laws.{vector_equal}
 use Rattle.integers.proofs.numbers.Ring.{ring, linear, other_factor_zero, positive_not_zero}
 use Rattle.integers.proofs.lists.Sums.{total_same, total_zeros}

@@ -1,6 +1,6 @@
 use Rattle.std.proofs.Common.{ℕ, ◌++◌, map, Result, MatchResult, sym, subst, ◌∙◌}
 use Rattle.std.proofs.lemmas.Bool.{true≢false}
-use Rattle.quotient_graph.specs.Edges.{edge_of}
+use Rattle.cgd_read.specs.Spelling.{edge_of}
 use Rattle.archive_text.specs.declared.rest.Form.{Form}
 use Rattle.archive_text.specs.Rows.{row_lines}
 use Rattle.archive_text.specs.Parts.{part_rows, end_part}

@@ -1,8 +1,8 @@
 use Rattle.std.proofs.Common.{◌≡◌, ◌∙◌, ◌++◌, ◌∷◌, [], List, length, sym, ap, subst, arith}
 use Rattle.std.proofs.lemmas.List.{append_assoc, length-append}
 use Rattle.std.specs.Vec.Iter.{into_iter_items}
-use Rattle.net_entries.specs.Entries.{entry_views}
-use Rattle.net_entries.specs.declared.entry.Entry.{Entry}
+use Rattle.archive_text.specs.Entries.{entry_views}
+use Rattle.archive_text.specs.declared.entry.Entry.{Entry}
 use Rattle.archive_union.specs.Faults.{IsUniteFault}
 use Rattle.archive_union.specs.declared.uniting.UniteFault.{UniteFault}
 use Rattle.archive_union.proofs.Steps.{fault_is, item_on}

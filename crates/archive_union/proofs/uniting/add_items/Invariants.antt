@@ -1,6 +1,6 @@
 use Rattle.std.proofs.Common.{◌≡◌, ◌+◌, ◌++◌, length}
 use Rattle.std.specs.Vec.Iter.{into_iter_items, into_iter_len}
-use Rattle.net_entries.specs.Entries.{entry_views}
+use Rattle.archive_text.specs.Entries.{entry_views}
 use Rattle.net_archive.specs.Archives.{archive_with}
 use Rattle.archive_union.specs.Unions.{united}
 use Rattle.archive_union.proofs.uniting.add_items.Given as goal

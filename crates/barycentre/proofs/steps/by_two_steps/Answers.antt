@@ -4,14 +4,14 @@ use Rattle.std.proofs.lemmas.List.{length-map}
 use Rattle.integers.specs.Vectors.{Vector}
 use Rattle.periodic_net.specs.Graph.{Graph, IsGraph, IsConnected}
 use Rattle.periodic_net.specs.Limits.{IsSmall}
-use Rattle.elimination.specs.declared.rows.Row.{Row}
+use Rattle.vecdim.specs.declared.rows.Row.{Row}
 use Rattle.fraction.specs.declared.numbers.Fraction.{Fraction}
 use Rattle.fraction.specs.Values.{fraction_value}
 use Rattle.elimination.specs.RightHand.{SolveWith}
 use Rattle.elimination.specs.Rows.{value_in}
 use Rattle.elimination.specs.Solutions.{SolveAll, SolveOnly, AreFlat}
 use Rattle.residue.specs.declared.numbers.Residue.{Residue}
-use Rattle.dixon_lifting.specs.TwoSteps.{AreTwoSteps}
+use Rattle.barycentre.specs.TwoSteps.{AreTwoSteps}
 use Rattle.barycentre.specs.Left.{AreLeftRows}
 use Rattle.barycentre.specs.Reached.{AreNotWithin}
 use Rattle.barycentre.specs.Recovered.{AreRecovered, LacksRow}

@@ -3,7 +3,7 @@ use Rattle.std.proofs.lemmas.Int.{to_z-of_z}
 use Rattle.integers.specs.Vectors.{IsWithin}
 use Rattle.integers.proofs.vectors.Bounds.{fits_from_bound}
 use Rattle.periodic_net.specs.Limits.{most_walk}
-use Rattle.walk_lattice.specs.Bounds.{most_normal}
+use Rattle.connected_dim.specs.Bounds.{most_normal}
 use Rattle.connected_dim.proofs.Fitting.{flat_within}
 use Rattle.connected_dim.proofs.flat.flat_colour.Goals as goal
 

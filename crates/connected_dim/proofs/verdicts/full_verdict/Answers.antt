@@ -1,6 +1,6 @@
 use Rattle.std.proofs.Common.{ℤ, ◌≤ℤ◌, pos, refl, sym, subst, ◌∙◌, arith}
 use Rattle.std.proofs.lemmas.Int.{ints}
-use Rattle.hermite.specs.Stairs.{HasStairShape}
+use Rattle.vecdim.specs.Stairs.{HasStairShape}
 use Rattle.connected_dim.specs.Sparse.{sparse_colouring}
 use Rattle.connected_dim.proofs.Refuted.{sparse_refusal}
 use Rattle.connected_dim.proofs.SparseSplits.{sparse_from_lattice}

@@ -1,7 +1,7 @@
 use Rattle.std.proofs.Common.{List, subst, sym, ◌∙◌}
 use Rattle.integers.specs.Vectors.{Vector}
-use Rattle.walk_lattice.specs.Generators.{generators}
-use Rattle.walk_lattice.specs.Flat.{IsFlatNormal}
+use Rattle.connected_dim.specs.Generators.{generators}
+use Rattle.connected_dim.specs.Orthogonal.{IsFlatNormal}
 use Rattle.connected_dim.specs.Flat.{flat_colouring}
 use Rattle.connected_dim.proofs.FlatSplits.{flat_split_is}
 use Rattle.connected_dim.proofs.Refuted.{flat_refusal}

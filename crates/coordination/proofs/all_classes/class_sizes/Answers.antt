@@ -1,7 +1,7 @@
 use Rattle.std.proofs.Common.{◌≡◌, ℕ, ◌+◌, ◌-◌, List, sym, subst, arith}
 use Rattle.std.specs.Prelude.{IfSome, Option, Vec}
 use Rattle.std.specs.declared.alloc.Global.{Global}
-use Rattle.class_kinds.specs.Kinds.{kind_of}
+use Rattle.key_theory.specs.Kinds.{kind_of}
 use Rattle.coordination.specs.Sequences.{AreShellsOfClass, IsOfEarlier}
 use Rattle.coordination.proofs.classes.KindLists.{list_of_carried}
 use Rattle.coordination.proofs.all_classes.class_sizes.Goals as goal

@@ -3,7 +3,7 @@ use Rattle.std.specs.Prelude.{IfSome, Option, Vec}
 use Rattle.std.specs.declared.alloc.Global.{Global}
 use Rattle.integers.specs.Vectors.{zero_vector}
 use Rattle.periodic_net.specs.Graph.{IsQuotientVertex, vertex}
-use Rattle.class_kinds.specs.Kinds.{kind_of}
+use Rattle.key_theory.specs.Kinds.{kind_of}
 use Rattle.coordination.specs.Sequences.{AreShellsOf, IsOfEarlier}
 use Rattle.coordination.proofs.box_count.next_sizes.Goals as goal
 

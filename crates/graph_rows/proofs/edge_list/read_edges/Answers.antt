@@ -1,7 +1,7 @@
 use Rattle.std.proofs.Common.{[], ◌∷◌, ◌++◌, length, map, Some, sym, ap, ◌∙◌, subst, arith}
 use Rattle.std.proofs.lemmas.List.{length-append, length-map}
 use Rattle.line_text.specs.Lines.{IsAt}
-use Rattle.quotient_graph.specs.Edges.{edge_of}
+use Rattle.cgd_read.specs.Spelling.{edge_of}
 use Rattle.graph_rows.specs.Rows.{edge_row}
 use Rattle.graph_rows.specs.Forms.{IsNextEdge}
 use Rattle.graph_rows.specs.Reading.{AreReadTo, NoEdge}

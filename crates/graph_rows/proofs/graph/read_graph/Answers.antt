@@ -1,7 +1,7 @@
 use Rattle.std.proofs.Common.{◌≡◌, length, Vec, Global, inl, inr, [], ◌∷◌, ◌++◌, map, ap, sym, ◌∙◌, subst}
 use Rattle.line_text.specs.Lines.{IsAt}
-use Rattle.quotient_graph.specs.Edges.{edge_of}
-use Rattle.quotient_graph.specs.declared.edge.Edge.{Edge}
+use Rattle.cgd_read.specs.Spelling.{edge_of}
+use Rattle.cgd_read.specs.declared.edge.RawEdge.{RawEdge}
 use Rattle.quotient_graph.specs.AnyGraphs.{graph_view}
 use Rattle.quotient_graph.specs.EdgeLists.{AreEdgesOfGraph}
 use Rattle.quotient_graph.specs.Stars.{graph_with}
@@ -16,7 +16,7 @@ pub graph_of-requires : goal.graph_of-requires
 graph_of-requires c =
     let s = c.in-Some.size in
     subst (AreEdgesOfGraph s.dim s.vertices) (sym c.deref.ensures.value)
-    (at_ok c.in_ok-edges.field-0 (λ (es : Vec Edge Global). AreEdgesOfGraph s.dim s.vertices es.items) (λ n. Unit {0}) c.in-Ok.edges c.in-Ok.is c.in_ok-edges.ensures.form)
+    (at_ok c.in_ok-edges.field-0 (λ (es : Vec RawEdge Global). AreEdgesOfGraph s.dim s.vertices es.items) (λ n. Unit {0}) c.in-Ok.edges c.in-Ok.is c.in_ok-edges.ensures.form)
 
 pub returns-in-None-clause-graph : goal.returns-in-None-clause-graph
 returns-in-None-clause-graph c = λ text rows at. inl (record {
@@ -32,7 +32,7 @@ returns-in-Err-clause-graph c = λ text rows at.
     inr (record {
       size = s;
       is_size = at_some c.in_ok-size.field-0 IsSize s c.in-Some.is c.in_ok-size.ensures.form;
-      bad = at_err c.in_ok-edges.field-0 (λ (es : Vec Edge Global). HasEdges text (rows ++ size_row s ∷ []) s (map edge_of es.items) c.read_edges.new.lines) (HasBadEdge text (rows ++ size_row s ∷ []) s) c.in-Err.line c.in-Err.is
+      bad = at_err c.in_ok-edges.field-0 (λ (es : Vec RawEdge Global). HasEdges text (rows ++ size_row s ∷ []) s (map edge_of es.items) c.read_edges.new.lines) (HasBadEdge text (rows ++ size_row s ∷ []) s) c.in-Err.line c.in-Err.is
           (c.in_ok-edges.ensures.edges text (rows ++ size_row s ∷ []) (at_some c.in_ok-size.field-0 (λ t. IsAt text (rows ++ size_row t ∷ []) c.next_size.new.lines) s c.in-Some.is (c.in_ok-size.ensures.place text rows at)));
     })
 
@@ -40,7 +40,7 @@ pub returns-in_ok-graph_of-in-Ok-clause-graph : goal.returns-in_ok-graph_of-in-O
 returns-in_ok-graph_of-in-Ok-clause-graph c = λ text rows at.
     let s = c.in-Some.size in
     let edges = map edge_of c.in-Ok.edges.items in
-    let has : HasEdges text (rows ++ size_row s ∷ []) s edges c.read_edges.new.lines = at_ok c.in_ok-edges.field-0 (λ (es : Vec Edge Global). HasEdges text (rows ++ size_row s ∷ []) s (map edge_of es.items) c.read_edges.new.lines) (HasBadEdge text (rows ++ size_row s ∷ []) s) c.in-Ok.edges c.in-Ok.is
+    let has : HasEdges text (rows ++ size_row s ∷ []) s edges c.read_edges.new.lines = at_ok c.in_ok-edges.field-0 (λ (es : Vec RawEdge Global). HasEdges text (rows ++ size_row s ∷ []) s (map edge_of es.items) c.read_edges.new.lines) (HasBadEdge text (rows ++ size_row s ∷ []) s) c.in-Ok.edges c.in-Ok.is
     (c.in_ok-edges.ensures.edges text (rows ++ size_row s ∷ []) (at_some c.in_ok-size.field-0 (λ t. IsAt text (rows ++ size_row t ∷ []) c.next_size.new.lines) s c.in-Some.is (c.in_ok-size.ensures.place text rows at))) in
     graph_read text rows s edges c.read_edges.new.lines (graph_view c.in_ok-graph_of-in-Ok.field-0) (at_some c.in_ok-size.field-0 IsSize s c.in-Some.is c.in_ok-size.ensures.form) has
     (c.in_ok-graph_of-in-Ok.ensures ∙ ap (λ es. graph_with s.dim s.vertices (map edge_of es)) c.deref.ensures.value)
@@ -49,6 +49,6 @@ pub returns-in_ok-graph_of-in-Ok-clause-form : goal.returns-in_ok-graph_of-in-Ok
 returns-in_ok-graph_of-in-Ok-clause-form c =
     let s = c.in-Some.size in
     graph_formed s c.in-Ok.edges.items (graph_view c.in_ok-graph_of-in-Ok.field-0) (at_some c.in_ok-size.field-0 IsSize s c.in-Some.is c.in_ok-size.ensures.form)
-    (at_ok c.in_ok-edges.field-0 (λ (es : Vec Edge Global). AreEdgesOfGraph s.dim s.vertices es.items) (λ n. Unit {0}) c.in-Ok.edges c.in-Ok.is c.in_ok-edges.ensures.form)
-    (at_ok c.in_ok-edges.field-0 (λ (es : Vec Edge Global). length es.items ≡ s.edges) (λ n. Unit {0}) c.in-Ok.edges c.in-Ok.is c.in_ok-edges.ensures.whole)
+    (at_ok c.in_ok-edges.field-0 (λ (es : Vec RawEdge Global). AreEdgesOfGraph s.dim s.vertices es.items) (λ n. Unit {0}) c.in-Ok.edges c.in-Ok.is c.in_ok-edges.ensures.form)
+    (at_ok c.in_ok-edges.field-0 (λ (es : Vec RawEdge Global). length es.items ≡ s.edges) (λ n. Unit {0}) c.in-Ok.edges c.in-Ok.is c.in_ok-edges.ensures.whole)
     (c.in_ok-graph_of-in-Ok.ensures ∙ ap (λ es. graph_with s.dim s.vertices (map edge_of es)) c.deref.ensures.value)

@@ -4,10 +4,10 @@ use Rattle.std.proofs.lemmas.Option.{none-some}
 use Rattle.std.proofs.lemmas.Bool.{true≢false}
 use Rattle.line_text.specs.Lines.{IsAt}
 use Rattle.line_text.specs.Numbers.{row_text}
-use Rattle.quotient_graph.specs.declared.edge.Edge.{Edge}
+use Rattle.cgd_read.specs.declared.edge.RawEdge.{RawEdge}
 use Rattle.graph_rows.specs.Rows.{edge_row, edge_numbers}
 use Rattle.graph_rows.specs.Reading.{NoEdge}
-use Rattle.quotient_graph.specs.Edges.{edge_of}
+use Rattle.cgd_read.specs.Spelling.{edge_of}
 use Rattle.periodic_net.specs.Graph.{Arc}
 use Rattle.graph_rows.proofs.RowForms.{edge_wide}
 use Rattle.line_text.proofs.CallerLemmas.{none_from, some_from}
@@ -16,11 +16,11 @@ use Rattle.graph_rows.proofs.steps.next_edge.Goals as goal
 pub returns-then-branch-clause-place : goal.returns-then-branch-clause-place
 unfolding edge_row
 returns-then-branch-clause-place c = λ text rows at.
-    some_from c.edge_after.result (λ (e : Edge). c.deref.result.now ≡ edge_numbers c.args.size.now.dim (edge_of e)) (λ (e : Edge). IsAt text (rows ++ edge_row c.args.size.now.dim (edge_of e) ∷ []) c.next_row.new.self)
+    some_from c.edge_after.result (λ (e : RawEdge). c.deref.result.now ≡ edge_numbers c.args.size.now.dim (edge_of e)) (λ (e : RawEdge). IsAt text (rows ++ edge_row c.args.size.now.dim (edge_of e) ∷ []) c.next_row.new.self)
     (λ s e. subst (λ ns. IsAt text (rows ++ row_text (codes "edge") ns ∷ []) c.next_row.new.self) (sym c.deref.ensures.value ∙ e) (c.in_ok-next_row.ensures.place text rows at (ap (λ b. Ok b) c.if-branch.true))) c.edge_after.ensures.found
 
 -- the edge, as it is read
-abbrev raw_of : Arc → Edge
+abbrev raw_of : Arc → RawEdge
 raw_of a = record { u = a.from; v = a.to; x = a.shift.x; y = a.shift.y; z = a.shift.z }
 
 pub returns-then-branch-clause-none : goal.returns-then-branch-clause-none

@@ -3,7 +3,7 @@ use Rattle.std.specs.List.{All}
 use Rattle.integers.specs.Vectors.{Vector}
 use Rattle.sublattice.specs.Sublattices.{base_of, index_of}
 use Rattle.periodic_net.specs.Graph.{Vertex}
-use Rattle.map_theory.specs.Layouts.{table_for}
+use Rattle.map_check.specs.Layouts.{table_for}
 use Rattle.map_check.specs.Conditions.{most_images, IsImage}
 use Rattle.map_check.specs.Faults.{IsVerdict}
 use Rattle.map_check.specs.Images.{AreNoCopies, IsFirstCopy}

@@ -3,7 +3,7 @@ use Rattle.integers.specs.Bases.{base_sum}
 use Rattle.integers.specs.Vectors.{Vector}
 use Rattle.periodic_net.specs.Graph.{Vertex, vertex}
 use Rattle.sublattice.specs.Sublattices.{base_of}
-use Rattle.map_theory.specs.Layouts.{place_of, table_of}
+use Rattle.map_check.specs.Layouts.{place_of, table_of}
 use Rattle.map_check.specs.Images.{image_at, IsSplit, IsImageOf}
 use Rattle.map_check.proofs.Splits.{box_of_split, image_is, place_inside}
 use Rattle.map_check.proofs.images.image_of.Goals as goal

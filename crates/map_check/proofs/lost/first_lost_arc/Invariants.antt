@@ -1,6 +1,6 @@
 use Rattle.periodic_net.specs.Graph.{Vertex}
 use Rattle.periodic_net.specs.Maps.{IsDrawnBy}
-use Rattle.map_theory.specs.Layouts.{table_of}
+use Rattle.map_check.specs.Layouts.{table_of}
 use Rattle.map_check.proofs.LostArcs.{KeepsFirst}
 use Rattle.map_check.proofs.lost.first_lost_arc.Given as goal
 

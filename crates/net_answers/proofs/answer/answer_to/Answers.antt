@@ -1,6 +1,6 @@
 use Rattle.std.proofs.Common.{ℕ, List, Option, Result, Ok, Err}
 use Rattle.std.specs.Prelude.{IfOk}
-use Rattle.statuses.specs.declared.answer.Answer.{Answer}
+use Rattle.net_report.specs.declared.answer.Answer.{Answer}
 use Rattle.union_answers.specs.Unions.{IsUnionDue}
 use Rattle.net_answers.specs.Endings.{GoesWithText}
 use Rattle.net_answers.proofs.TextEndings.{text_of_union}

@@ -3,7 +3,7 @@ use Rattle.periodic_net.specs.Graph.{Graph}
 use Rattle.coordination.specs.Sequences.{AreSequencesOf}
 use Rattle.quotient_graph.specs.AnyGraphs.{graph_view}
 use Rattle.least_key.specs.AnyNets.{net_view}
-use Rattle.net_entries.specs.Entries.{EntryView}
+use Rattle.archive_text.specs.Entries.{EntryView}
 use Rattle.net_archive.specs.Adding.{IsEntryOf}
 use Rattle.net_archive.proofs.NewEntry.{entry_of_net}
 use Rattle.net_archive.proofs.adding.entry_of.Goals as goal

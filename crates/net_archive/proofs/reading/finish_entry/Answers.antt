@@ -1,5 +1,5 @@
 use Rattle.std.proofs.Common.{inr, subst, IfOk, ◌≤◌, length}
-use Rattle.net_entries.specs.Entries.{entry_view}
+use Rattle.archive_text.specs.Entries.{entry_view}
 use Rattle.archive_text.specs.Reading.{HasForm, HasBadLine}
 use Rattle.archive_text.specs.Texts.{rows_before}
 use Rattle.line_text.proofs.CallerLemmas.{at_ok, at_err}

@@ -1,7 +1,7 @@
 use Rattle.std.proofs.Common.{◌++◌, sym, ◌∙◌, subst}
 use Rattle.std.proofs.lemmas.Bool.{eqb-true}
 use Rattle.line_text.specs.Lines.{rows_text}
-use Rattle.net_entries.specs.Entries.{entry_view}
+use Rattle.archive_text.specs.Entries.{entry_view}
 use Rattle.archive_text.specs.Texts.{rows_before}
 use Rattle.net_archive.specs.Steps.{AreRead, IsFaultTold}
 use Rattle.net_archive.proofs.FirstLines.{some_text, less_after, whole_text, read_more}

@@ -1,11 +1,11 @@
 use Rattle.std.proofs.Common.{List, sym, subst, Bor}
 use Rattle.std.specs.List.{All}
 use Rattle.std.proofs.lemmas.List.Sorted.{All-permutation}
-use Rattle.net_entries.specs.Entries.{entry_view, entry_views}
-use Rattle.net_entries.specs.declared.entry.Entry.{Entry}
+use Rattle.archive_text.specs.Entries.{entry_view, entry_views}
+use Rattle.archive_text.specs.declared.entry.Entry.{Entry}
 use Rattle.net_archive.specs.Archives.{IsEntry}
-use Rattle.net_entries.specs.Regrouped.{regrouped}
-use Rattle.net_entries.proofs.CallerLemmas.{is_regrouped}
+use Rattle.archive_text.specs.Regrouped.{regrouped}
+use Rattle.archive_text.proofs.CallerLemmas.{is_regrouped}
 use Rattle.net_archive.proofs.LentRows.{all_lent, all_seen}
 use Rattle.net_archive.proofs.regrouping.rows_in_groups.Goals as goal
 

@@ -1,5 +1,5 @@
 use Rattle.std.proofs.Common.{lit<, sym, subst}
-use Rattle.image_walk.specs.Search.{AreEnds}
+use Rattle.standard_map.specs.Search.{AreEnds}
 use Rattle.net_certificate.specs.Answers.{IsMapAnswer}
 use Rattle.net_certificate.specs.Written.{IsAnswerOf}
 use Rattle.net_certificate.proofs.SideTables.{if_ok, one_key}

@@ -6,8 +6,8 @@ use Rattle.key_theory.specs.Primitive.{IsLeastMember}
 use Rattle.key_theory.specs.Traversal.{axes_of, IsLeastScale}
 use Rattle.quotient_graph.specs.NetClasses.{class_at}
 use Rattle.quotient_graph.specs.PlacedNets.{PlacedNet}
-use Rattle.standard_map_theory.specs.LeastPairs.{IsLeastPair}
-use Rattle.image_walk.specs.Sides.{net_side}
+use Rattle.standard_map.specs.LeastPairs.{IsLeastPair}
+use Rattle.standard_map.specs.Sides.{net_side}
 use Rattle.least_key.specs.KeyedNets.{KeyedNet}
 use Rattle.net_certificate.specs.Written.{IsSideOf}
 use Rattle.net_certificate.proofs.SideTables.{scale_told, side_parts}

@@ -1,9 +1,9 @@
 use Rattle.std.proofs.Common.{ℕ, ◌*◌, ◌≤◌, lit<, sym, subst, ap, ◌∙◌}
 use Rattle.periodic_net.specs.Graph.{Graph}
-use Rattle.map_theory.specs.Layouts.{box_size}
+use Rattle.map_check.specs.Layouts.{box_size}
 use Rattle.map_check.specs.Conditions.{most_period}
-use Rattle.standard_map_theory.specs.MapNumbers.{base_rows}
-use Rattle.map_table.specs.Tables.{AreImages}
+use Rattle.standard_map.specs.MapNumbers.{base_rows}
+use Rattle.net_certificate.specs.Tables.{AreImages}
 use Rattle.net_certificate.specs.Written.{IsWritten}
 use Rattle.net_certificate.proofs.SideTables.{long_due, period_limit, period_small, written_due}
 use Rattle.net_certificate.proofs.writing.write_map.Goals as goal

@@ -2,7 +2,8 @@ use Rattle.std.proofs.Common.{rules, ◌++◌, ◌∷◌, [], take, List, sym, s
 use Rattle.net_components.specs.Components.{Component}
 use Rattle.net_components.specs.Written.{IsMadeOf}
 use Rattle.net_components.specs.declared.parts.Part.{Part}
-use Rattle.integers.proofs.lists.Matched.{AreMatched, matched_more}
+use Rattle.integers.proofs.lists.Matched.{matched_more}
+use Rattle.integers.specs.Lists.{AreMatched}
 use Rattle.net_components.proofs.AllParts.{part_fault}
 use Rattle.net_components.proofs.ListPlaces.{take_more}
 use Rattle.net_components.proofs.parts.parts_of.Goals as goal

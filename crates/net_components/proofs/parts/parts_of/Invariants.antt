@@ -1,5 +1,5 @@
 use Rattle.std.proofs.Common.{take}
-use Rattle.integers.proofs.lists.Matched.{AreMatched}
+use Rattle.integers.specs.Lists.{AreMatched}
 use Rattle.net_components.specs.Written.{IsMadeOf}
 use Rattle.net_components.proofs.parts.parts_of.Given as goal
 

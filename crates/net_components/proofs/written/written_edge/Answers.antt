@@ -3,8 +3,8 @@ use Rattle.std.specs.Int.{w128}
 use Rattle.std.proofs.lemmas.Int.{to_z-of_z}
 use Rattle.periodic_net.specs.Graph.{Arc, arc}
 use Rattle.periodic_net.specs.Limits.{most_vertices}
-use Rattle.hermite.specs.Lattices.{Members}
-use Rattle.walk_lattice.specs.Generators.{generator_of}
+use Rattle.vecdim.specs.Lattices.{Members}
+use Rattle.connected_dim.specs.Generators.{generator_of}
 use Rattle.integers.specs.Vectors.{HasDimension}
 use Rattle.net_components.specs.Vertices.{vertices_of}
 use Rattle.net_components.specs.Shifts.{IsWideAt}

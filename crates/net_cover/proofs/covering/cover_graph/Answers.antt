@@ -2,7 +2,7 @@ use Rattle.std.proofs.Common.{◌≡◌, ◌∙◌, ◌*◌, ℕ, lit<, sym, ap,
 use Rattle.periodic_net.specs.Graph.{IsGraph}
 use Rattle.periodic_net.specs.Limits.{IsSmall}
 use Rattle.quotient_graph.specs.Stars.{IsInOrder, graph_with}
-use Rattle.cover_theory.proofs.CallerLemmas.{covers_are_isomorphic}
+use Rattle.net_cover.proofs.CoverIso.{covers_are_isomorphic}
 use Rattle.sublattice.specs.Sublattices.{index_of}
 use Rattle.net_cover.proofs.Covered.{cell_fits, cell_lattice, given_cover, given_graph, given_of, given_small, given_within_limit, told_of, wide_fault}
 use Rattle.net_cover.proofs.covering.cover_graph.Goals as goal

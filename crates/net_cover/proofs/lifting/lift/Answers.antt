@@ -5,7 +5,7 @@ use Rattle.periodic_net.specs.Graph.{Arc}
 use Rattle.periodic_net.specs.Limits.{most_vertices, most_shift}
 use Rattle.sublattice.specs.Remainders.{remainder_with}
 use Rattle.sublattice.specs.Sublattices.{IsCombination}
-use Rattle.cover_theory.specs.Covers.{number_in_cover}
+use Rattle.net_cover.specs.Covers.{number_in_cover}
 use Rattle.net_cover.proofs.LiftSteps.{few, leads, left_combination, lift_made, part_tells, remainder_small}
 use Rattle.net_cover.proofs.lifting.lift.Goals as goal
 

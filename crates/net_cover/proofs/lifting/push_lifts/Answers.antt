@@ -1,6 +1,6 @@
 use Rattle.std.proofs.Common.{◌+◌, ◌*◌, List, lit<, sym, subst}
 use Rattle.periodic_net.specs.Graph.{Arc}
-use Rattle.cover_theory.specs.Covers.{AreGiven, IsLift}
+use Rattle.net_cover.specs.Covers.{AreGiven, IsLift}
 use Rattle.net_cover.specs.Lifting.{CanLift, TellsLift}
 use Rattle.net_cover.proofs.EdgeSteps.{edge_read, lifted_no_point, one_more, edge_tells}
 use Rattle.net_cover.proofs.lifting.push_lifts.Goals as goal

@@ -1,5 +1,5 @@
 use Rattle.std.proofs.Common.{◌+◌, ◌*◌}
-use Rattle.cover_theory.specs.Covers.{AreGiven}
+use Rattle.net_cover.specs.Covers.{AreGiven}
 use Rattle.net_cover.proofs.lifting.push_lifts.Given as goal
 
 -- the edges at the places before, and this edge at the remainders before

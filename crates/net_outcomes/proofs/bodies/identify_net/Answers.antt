@@ -3,7 +3,7 @@ use Rattle.cgd_read.specs.Views.{raw_view}
 use Rattle.quotient_graph.specs.AnyGraphs.{graph_view}
 use Rattle.net_outcomes.proofs.OnlyPlacement.{is_graph_in}
 use Rattle.net_outcomes.proofs.NetOutcomes.{identify_may, refused_as}
-use Rattle.net_commands.specs.declared.command.Command.TheVariants.{Identify}
+use Rattle.net_report.specs.declared.command.Command.TheVariants.{Identify}
 use Rattle.net_outcomes.proofs.bodies.identify_net.Goals as goal
 
 pub identified_body-requires-clause-keyed : goal.identified_body-requires-clause-keyed

@@ -1,6 +1,6 @@
 use Rattle.std.proofs.Common.{◌≡◌, ◌++◌, length}
 use Rattle.least_key.specs.AnyNets.{net_view}
-use Rattle.net_entries.specs.Lookups.{names_with}
+use Rattle.archive_text.specs.Lookups.{names_with}
 use Rattle.net_outcomes.proofs.bodies.names_for.Given as goal
 
 abbrev pub invariant-loop-name : goal.invariant-loop-name

@@ -3,7 +3,7 @@ use Rattle.quotient_graph.specs.AnyGraphs.{graph_view}
 use Rattle.least_key.specs.AnyPlacements.{placed_view}
 use Rattle.net_outcomes.proofs.OnlyPlacement.{is_graph_in, only_placement}
 use Rattle.net_outcomes.proofs.NetOutcomes.{place_may, refused_as}
-use Rattle.net_commands.specs.declared.command.Command.TheVariants.{Place}
+use Rattle.net_report.specs.declared.command.Command.TheVariants.{Place}
 use Rattle.net_outcomes.proofs.bodies.place_net.Goals as goal
 
 pub returns-in_ok-copy-in-Ok : goal.returns-in_ok-copy-in-Ok

@@ -2,7 +2,7 @@ use Rattle.std.proofs.Common.{rules, ◌≡◌, [], Some, Option, subst}
 use Rattle.command_words.specs.Tasks.{Task, task_of}
 use Rattle.command_words.specs.Views.{task_view}
 use Rattle.command_words.specs.Words.{texts_of}
-use Rattle.statuses.specs.declared.status.Status.TheVariants.{Usage}
+use Rattle.net_report.specs.declared.status.Status.TheVariants.{Usage}
 use Rattle.net_tool.specs.Run.{IsDue}
 use Rattle.net_tool.proofs.Completed.{complete_of}
 use Rattle.net_tool.proofs.Headlines.{headline_of}

@@ -4,7 +4,7 @@ use Rattle.periodic_net.specs.Classes.{ClassArc}
 use Rattle.periodic_net.specs.Correspondence.{IsClass}
 use Rattle.periodic_net.specs.Limits.{most_coordinate}
 use Rattle.quotient_graph.specs.ClassNets.{IsSmallNet}
-use Rattle.hermite.specs.Lattices.{Members}
+use Rattle.vecdim.specs.Lattices.{Members}
 use Rattle.primitive_cell.specs.Given.{move_of}
 use Rattle.primitive_cell.specs.Places.{number_at}
 use Rattle.primitive_cell.proofs.CellFacts.{represented, tail_in, head_in, move_in, is_given}

@@ -1,6 +1,6 @@
 use Rattle.std.proofs.Common.{◌≡◌, ◌+◌, Bool, true, false, List, lit<, sym, subst, Vec, Global}
 use Rattle.periodic_net.specs.Graph.{Arc, IsNormalSpelling}
-use Rattle.hermite.specs.Stairs.{rows_of}
+use Rattle.vecdim.specs.Stairs.{rows_of}
 use Rattle.primitive_cell.specs.Given.{AreGivenEdges}
 use Rattle.primitive_cell.specs.Places.{number_at}
 use Rattle.primitive_cell.proofs.ClassEdges.{IsArcUpTo}

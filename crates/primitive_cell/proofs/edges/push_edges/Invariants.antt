@@ -1,4 +1,4 @@
-use Rattle.hermite.specs.Stairs.{rows_of}
+use Rattle.vecdim.specs.Stairs.{rows_of}
 use Rattle.primitive_cell.specs.Given.{AreGivenEdges}
 use Rattle.primitive_cell.specs.Places.{number_at}
 use Rattle.primitive_cell.proofs.ClassEdges.{IsArcUpTo}

@@ -4,7 +4,7 @@ use Rattle.std.proofs.lemmas.Int.{to_z-of_z}
 use Rattle.integers.specs.Staircase.{IsStaircase}
 use Rattle.periodic_net.specs.Graph.{Graph}
 use Rattle.quotient_graph.specs.PlacedNets.{PlacedNet}
-use Rattle.hermite.specs.Lattices.{Members}
+use Rattle.vecdim.specs.Lattices.{Members}
 use Rattle.primitive_cell.proofs.TranslationStairs.{lattice_made}
 use Rattle.primitive_cell.proofs.lattices.lattice_of.Goals as goal
 

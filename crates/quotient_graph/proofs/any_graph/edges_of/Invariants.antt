@@ -1,5 +1,5 @@
 use Rattle.std.proofs.Common.{◌≡◌, map, take}
-use Rattle.quotient_graph.specs.Edges.{edge_of}
+use Rattle.cgd_read.specs.Spelling.{edge_of}
 use Rattle.quotient_graph.proofs.any_graph.edges_of.Given as goal
 
 abbrev pub invariant-loop-edge : goal.invariant-loop-edge

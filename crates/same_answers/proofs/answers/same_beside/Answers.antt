@@ -4,13 +4,13 @@ use Rattle.cgd_read.specs.Views.{block_view, views}
 use Rattle.least_key.specs.AnyNets.{net_view}
 use Rattle.least_key.specs.KeyedNets.{KeyedNet}
 use Rattle.least_key.specs.declared.net.Net.{Net as NetInMemory}
-use Rattle.same_answers.specs.Items.{IsMapsTextOf}
+use Rattle.net_certificate.specs.NetItems.{IsMapsTextOf}
 use Rattle.same_answers.specs.Steps.{nets_told}
 use Rattle.same_answers.proofs.AcceptedNets.{as_many, nets_of_blocks}
 use Rattle.same_answers.proofs.answers.same_beside.Goals as goal
 
-pub maps_text-requires : goal.maps_text-requires
-maps_text-requires c =
+pub maps_text_of-requires : goal.maps_text_of-requires
+maps_text_of-requires c =
     let os = c.in_ok-outcomes.outcomes in
     let each = c.in_ok-outcomes.ensures.outcomes.each in
     let many = as_many c.args.none.now.entries 1 (views c.args.found.now) os each in
@@ -29,5 +29,5 @@ returns c =
     record {
       nets = nets_told os;
       are_nets = nets_of_blocks c.args.none.now.entries 1 c.args.found.now os c.requires.graphs each (sym c.if-not-are_accepted.ensures);
-      told = subst (λ (ns : List KeyedNet). IsMapsTextOf ns c.in_ok-maps_text.field-0.items) nets c.in_ok-maps_text.ensures;
+      told = subst (λ (ns : List KeyedNet). IsMapsTextOf ns c.in_ok-maps_text_of.field-0.items) nets c.in_ok-maps_text_of.ensures;
     }

@@ -5,9 +5,9 @@ use Rattle.integers.specs.Staircase.{IsStaircase}
 use Rattle.integers.specs.Vectors.{Vector, zero_vector}
 use Rattle.integers.proofs.lists.Members.{IsIn}
 use Rattle.integers.proofs.vectors.Laws.{times_zero}
-use Rattle.hermite.specs.Lattices.{Members, AreMultiples}
-use Rattle.hermite.specs.Stairs.{Stairs}
-use Rattle.hermite.proofs.CallerLemmas.{with_has}
+use Rattle.vecdim.specs.Lattices.{Members, AreMultiples}
+use Rattle.vecdim.specs.Stairs.{Stairs}
+use Rattle.vecdim.proofs.CallerLemmas.{with_has}
 use Rattle.sublattice.proofs.Rows.{made_sublattice}
 use Rattle.sublattice.proofs.generating.lattice_of.Goals as goal
 

@@ -1,5 +1,5 @@
 use Rattle.std.proofs.Common.{rules, sym, subst}
-use Rattle.hermite.specs.Stairs.{IsRemainder}
+use Rattle.vecdim.specs.Stairs.{IsRemainder}
 use Rattle.sublattice.proofs.Numbers.{remainder_stands}
 use Rattle.sublattice.proofs.numbering.remainder_at.Goals as goal
 

@@ -2,8 +2,8 @@ use Rattle.std.proofs.Common.{◌+◌, [], ◌∷◌, List, take, sym, subst}
 use Rattle.std.specs.List.{All}
 use Rattle.std.proofs.lemmas.List.Elements.{All-append, All-cons, All-nil}
 use Rattle.net_archive.specs.Archives.{IsEntry}
-use Rattle.net_entries.specs.Entries.{entry_view, entry_views}
-use Rattle.net_entries.specs.declared.entry.Entry.{Entry}
+use Rattle.archive_text.specs.Entries.{entry_view, entry_views}
+use Rattle.archive_text.specs.declared.entry.Entry.{Entry}
 use Rattle.union_answers.specs.ItemEntries.{AreEntriesTold}
 use Rattle.union_answers.proofs.ItemEntries.{entries_next}
 use Rattle.union_answers.proofs.entries.entries_of.Goals as goal

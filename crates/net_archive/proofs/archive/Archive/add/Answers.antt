@@ -1,7 +1,7 @@
 use Rattle.std.proofs.Common.{◌≡◌, ◌∙◌, true, sym}
 use Rattle.least_key.specs.AnyNets.{net_view}
 use Rattle.line_text.specs.Names.{is_name}
-use Rattle.net_entries.specs.Entries.{entry_view}
+use Rattle.archive_text.specs.Entries.{entry_view}
 use Rattle.net_archive.proofs.EntryFaults.{fault_told}
 use Rattle.net_archive.proofs.archive.Archive.add.Goals as goal
 

@@ -1,7 +1,7 @@
 use Rattle.std.proofs.Common.{◌∙◌, List, ℕ, sym, subst}
 use Rattle.std.specs.List.{Contains}
-use Rattle.net_entries.specs.Entries.{EntryView, entry_view}
-use Rattle.net_entries.specs.Lookups.{names_of}
+use Rattle.archive_text.specs.Entries.{EntryView, entry_view}
+use Rattle.archive_text.specs.Lookups.{names_of}
 use Rattle.net_archive.specs.Adding.{IsEntryFault, IsFull, IsTaken}
 use Rattle.net_archive.specs.Archives.{ArchiveView, IsArchive, IsBody, with_entry}
 use Rattle.net_archive.specs.declared.faults.AddFault.TheVariants.{NameTaken, Full}
@@ -40,8 +40,8 @@ invariant_of-self-2 c =
     let rows = c.deref-else-are_many-2.ensures.value ∙ c.in_ok-rows.ensures in
     let fits = not_long a e c.deref-else-are_many.result.now c.deref-else-are_many-2.result.now c.is_too_long.result body rows c.is_too_long.ensures c.if-is_too_long.false in
     let archive : IsArchive (with_entry a e) = grown a e c.self.invariant.is_archive c.requires free few fits in
-    let longer : IsBody (with_entry a e) c.append.new.body.items =
-    longer_body a e c.self.inside.body.items c.deref-2.result.now c.append.new.body.items c.self.invariant.is_body (c.deref-2.ensures.value ∙ c.in_ok-rows.ensures) c.in_ok-append.ensures.body in record {
-      is_archive = subst (λ (es : List EntryView). IsArchive (record { version = a.version; entries = es })) (sym c.in_ok-append.ensures.entries) archive;
-      is_body = subst (λ (es : List EntryView). IsBody (record { version = a.version; entries = es }) c.append.new.body.items) (sym c.in_ok-append.ensures.entries) longer;
+    let longer : IsBody (with_entry a e) c.append-appended.new.body.items =
+    longer_body a e c.self.inside.body.items c.deref-2.result.now c.append-appended.new.body.items c.self.invariant.is_body (c.deref-2.ensures.value ∙ c.in_ok-rows.ensures) c.in_ok-appended.ensures.body in record {
+      is_archive = subst (λ (es : List EntryView). IsArchive (record { version = a.version; entries = es })) (sym c.in_ok-appended.ensures.entries) archive;
+      is_body = subst (λ (es : List EntryView). IsBody (record { version = a.version; entries = es }) c.append-appended.new.body.items) (sym c.in_ok-appended.ensures.entries) longer;
     }

@@ -1,11 +1,11 @@
 use Rattle.std.proofs.Common.{◌∙◌, List, sym, ap, subst}
 use Rattle.std.specs.List.{All}
 use Rattle.line_text.specs.Lines.{rows_text}
-use Rattle.net_entries.specs.Entries.{EntryView}
+use Rattle.archive_text.specs.Entries.{EntryView}
 use Rattle.archive_text.specs.Texts.{entry_lines}
 use Rattle.net_archive.specs.Archives.{IsEntry}
 use Rattle.net_archive.proofs.Growth.{all_in_memory}
-use Rattle.net_entries.specs.Regrouped.{regrouped}
+use Rattle.archive_text.specs.Regrouped.{regrouped}
 use Rattle.net_archive.proofs.IsoTogether.{regrouped_together}
 use Rattle.net_archive.proofs.RegroupedText.{regrouped_archive}
 use Rattle.net_archive.proofs.archive.Archive.regroup.Goals as goal

@@ -1,2 +1,0 @@
-pub mod ArchiveTexts
-pub mod ArchiveBytes

@@ -1,0 +1,5 @@
+use Rattle.archive_text.proofs.FoundGroups.{AreGroupsTo}
+use Rattle.archive_text.proofs.all.Entries.duplicates.Given as goal
+
+abbrev pub invariant-loop-place : goal.invariant-loop-place
+invariant-loop-place l = AreGroupsTo l.self l.place l.groups

@@ -1,0 +1,47 @@
+// Edges as numbers, and their normal spelling.
+ghost use Rattle.std.specs.Prelude.{◌≡◌, pos, ◌-ℤ◌};
+ghost use Rattle.cgd_read.specs.Spelling.{IsSmallPart, is_forward, normal};
+
+/// An edge from `u` to `v`, by the shift (`x`, `y`, `z`) in cells. Vertices are numbered from 1.
+#[derive(Clone, Copy, Debug, PartialEq, Eq, Hash)]
+pub struct RawEdge {
+    pub u: u32,
+    pub v: u32,
+    pub x: i32,
+    pub y: i32,
+    pub z: i32,
+}
+
+fn is_forward(u: u32, v: u32, x: i32, y: i32, z: i32) -> bool
+    ensures { result ≡ is_forward u v x y z }
+{
+    u < v || (u == v && (0 < x || (x == 0 && (0 < y || (y == 0 && 0 < z)))))
+}
+
+fn negated(part: i32) -> i32
+    requires { IsSmallPart part }
+    ensures { result ≡ pos 0 -ℤ part }
+{
+    -part
+}
+
+/// The edge from `u` to `v` in its normal spelling: from the lesser vertex, and a loop with a shift
+/// that starts positive. The loop without a shift has none.
+pub fn normal_edge(u: u32, v: u32, x: i32, y: i32, z: i32) -> RawEdge
+    requires x { IsSmallPart x }
+    requires y { IsSmallPart y }
+    requires z { IsSmallPart z }
+    ensures { result ≡ normal u v x y z }
+{
+    if is_forward(u, v, x, y, z) {
+        RawEdge { u, v, x, y, z }
+    } else {
+        RawEdge {
+            u: v,
+            v: u,
+            x: negated(x),
+            y: negated(y),
+            z: negated(z),
+        }
+    }
+}

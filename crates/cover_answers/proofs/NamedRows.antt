@@ -1,0 +1,249 @@
+-- The vertices and the edges that rows give. Edges are listed the nearest first.
+use Rattle.std.proofs.Common.{◌≡◌, inl, inr, ℕ, ◌+◌, ◌-◌, ◌<◌, ◌≤◌, ◌^◌, ◌==◌, ◌||◌, not, Bool, true, false, cond, List, [], ◌∷◌, ◌++◌, length, map, get_or, refl, sym, ap, subst, ◌∙◌, arith}
+use Rattle.std.proofs.lemmas.List.{map-append}
+use Rattle.std.specs.Bool.{Decides}
+use Rattle.std.specs.Fmt.{decimal}
+use Rattle.std.specs.List.{list_any, position_or_len}
+use Rattle.std.specs.Ordering.{int_eq}
+use Rattle.std.specs.Str.{bytes_eq}
+use Rattle.std.proofs.lemmas.Bool.{and_parts, and_from}
+use Rattle.std.proofs.lemmas.Bool.Decides.{Decides-eqb, Decides-int_eq}
+use Rattle.std.proofs.lemmas.Fmt.{decimal_injective}
+use Rattle.std.proofs.lemmas.Slice.Eq.{bytes_eq-Decides}
+use Rattle.integers.proofs.counting.Pigeonhole.{no_more}
+use Rattle.integers.proofs.lists.Members.{IsIn, AreApart}
+use Rattle.periodic_net.specs.Graph.{Arc}
+use Rattle.cgd_read.specs.Spelling.{normal}
+use Rattle.cgd_read.specs.Edges.{with_new, vertices_of, vertex_number, row_edge, same_edge, edges_of}
+use Rattle.cgd_read.specs.Lines.{FieldsView}
+use Rattle.cgd_read.specs.declared.edge.RawEdge.{RawEdge}
+use Rattle.cover_answers.specs.ReadBack.{order_after, new_number}
+use Rattle.cover_answers.proofs.NewLists.{place, at_place, has_new, keeps, tells_new, apart_new, few_new, get_in, place_new, place_grown, place_of_get}
+use Rattle.cover_answers.proofs.RowLines.{row_fields, IsRowEdge, AreRowEdges}
+
+-- the test of two numbers
+abbrev pub same_number : ℕ → ℕ → Bool
+same_number u v = u == v
+
+-- the vertices of these edges
+abbrev pub order_back : List Arc → List ℕ
+order_back [] = []
+order_back (e ∷ es) = order_after (order_back es) e
+
+-- all numbers have short names
+abbrev AreNumbers : List ℕ → Type 0
+AreNumbers xs = (u : ℕ) → IsIn xs u → u < 2 ^ 64
+
+-- equal truth of both tests
+same_test : (s t : Bool) → (s ≡ true → t ≡ true) → (t ≡ true → s ≡ true) → s ≡ t
+same_test true true f g = refl
+same_test true false f g = sym (f refl)
+same_test false true f g = g refl
+same_test false false f g = refl
+
+-- numbers are the same where their names are
+test_name : (u v : ℕ) → u < 2 ^ 64 → v < 2 ^ 64 → bytes_eq (decimal u) (decimal v) ≡ (u == v)
+test_name u v h k = same_test (bytes_eq (decimal u) (decimal v)) (u == v)
+    (λ e. (Decides-eqb u v).1 (decimal_injective u v h k ((bytes_eq-Decides (decimal u) (decimal v)).0 e)))
+    (λ e. (bytes_eq-Decides (decimal u) (decimal v)).1 (ap decimal ((Decides-eqb u v).0 e)))
+
+any_name : (u : ℕ) (xs : List ℕ) → u < 2 ^ 64 → AreNumbers xs → list_any (bytes_eq (decimal u)) (map decimal xs) ≡ list_any (same_number u) xs
+any_name u [] h k = refl
+any_name u (x ∷ xs) h k =
+    let e = test_name u x h (k x (inl refl)) in
+    let f = any_name u xs h (λ v i. k v (inr i)) in
+    λ i. e i || f i
+
+place_name : (u : ℕ) (xs : List ℕ) → u < 2 ^ 64 → AreNumbers xs → position_or_len (bytes_eq (decimal u)) (map decimal xs) ≡ position_or_len (same_number u) xs
+place_name u [] h k = refl
+place_name u (x ∷ xs) h k =
+    let e = test_name u x h (k x (inl refl)) in
+    let f = place_name u xs h (λ v i. k v (inr i)) in
+    λ i. cond (not (e i)) (1 + f i) 0
+
+-- a new name is that of a new number
+new_name : (xs : List ℕ) (u : ℕ) → u < 2 ^ 64 → AreNumbers xs → with_new bytes_eq (map decimal xs) (decimal u) ≡ map decimal (with_new same_number xs u)
+new_name xs u h k = ap (λ (t : Bool). cond t (map decimal xs) (map decimal xs ++ decimal u ∷ [])) (any_name u xs h k) ∙ by (list_any (same_number u) xs)
+  where
+    by : (t : Bool) → cond t (map decimal xs) (map decimal xs ++ decimal u ∷ []) ≡ map decimal (cond t xs (xs ++ u ∷ []))
+    by true = refl
+    by false = sym (map-append decimal xs (u ∷ []))
+
+-- both ends of an edge have numbers after it
+first_end : (xs : List ℕ) (e : Arc) → IsIn (order_after xs e) e.from
+first_end xs e = keeps same_number Decides-eqb (with_new same_number xs e.from) e.to e.from (has_new same_number Decides-eqb xs e.from)
+
+second_end : (xs : List ℕ) (e : Arc) → IsIn (order_after xs e) e.to
+second_end xs e = has_new same_number Decides-eqb (with_new same_number xs e.from) e.to
+
+kept : (xs : List ℕ) (e : Arc) (u : ℕ) → IsIn xs u → IsIn (order_after xs e) u
+kept xs e u h = keeps same_number Decides-eqb (with_new same_number xs e.from) e.to u (keeps same_number Decides-eqb xs e.from u h)
+
+-- the ends of each of the edges have numbers
+pub ends_in : (es : List Arc) (e : Arc) → IsIn es e → IsIn (order_back es) e.from × IsIn (order_back es) e.to
+ends_in [] e h = absurd h
+ends_in (f ∷ es) e (inl q) = (subst (λ (x : Arc). IsIn (order_back (f ∷ es)) x.from) q (first_end (order_back es) f), subst (λ (x : Arc). IsIn (order_back (f ∷ es)) x.to) q (second_end (order_back es) f))
+ends_in (f ∷ es) e (inr i) = let h = ends_in es e i in (kept (order_back es) f e.from h.0, kept (order_back es) f e.to h.1)
+
+-- and each number is that of a vertex
+pub numbers_within : (d n : ℕ) (es : List Arc) → AreRowEdges d n es → (u : ℕ) → IsIn (order_back es) u → (1 ≤ u) × (u ≤ n)
+numbers_within d n [] h u i = absurd i
+numbers_within d n (e ∷ es) h u i = elim (tells_new same_number Decides-eqb (with_new same_number (order_back es) e.from) e.to u i) [
+  | inl j ↦ elim (tells_new same_number Decides-eqb (order_back es) e.from u j) [
+    | inl k ↦ numbers_within d n es h.1 u k
+    | inr q ↦ subst (λ (x : ℕ). (1 ≤ x) × (x ≤ n)) q h.0.from
+  ]
+  | inr q ↦ subst (λ (x : ℕ). (1 ≤ x) × (x ≤ n)) q h.0.to
+]
+
+-- no number stands twice
+pub order_apart : (es : List Arc) → AreApart (order_back es)
+order_apart [] = tt
+order_apart (e ∷ es) = apart_new same_number Decides-eqb (with_new same_number (order_back es) e.from) e.to (apart_new same_number Decides-eqb (order_back es) e.from (order_apart es))
+
+few_numbers : (d n : ℕ) (e : Arc) → IsRowEdge d n e → n < 2 ^ 64
+few_numbers d n e h = let l = h.few in omega (arith, l)
+
+are_numbers : (d n : ℕ) (es : List Arc) → AreRowEdges d n es → AreNumbers (order_back es)
+are_numbers d n [] h u i = absurd i
+are_numbers d n (e ∷ es) h u i = let w = numbers_within d n (e ∷ es) h u i in let l = few_numbers d n e h.0 in omega (arith, w, l)
+
+numbers_after : (xs : List ℕ) (u : ℕ) → u < 2 ^ 64 → AreNumbers xs → AreNumbers (with_new same_number xs u)
+numbers_after xs u h k v i = elim (tells_new same_number Decides-eqb xs u v i) [ inl j ↦ k v j | inr q ↦ subst (λ (x : ℕ). x < 2 ^ 64) q h ]
+
+small_from : (d n : ℕ) (e : Arc) → IsRowEdge d n e → e.from < 2 ^ 64
+small_from d n e h = let l = h.few in let m = h.from.1 in omega (arith, l, m)
+
+small_to : (d n : ℕ) (e : Arc) → IsRowEdge d n e → e.to < 2 ^ 64
+small_to d n e h = let l = h.few in let m = h.to.1 in omega (arith, l, m)
+
+-- the rows of edges
+abbrev pub rows_of : ℕ → List Arc → List FieldsView
+rows_of d es = map (row_fields d) es
+
+-- their vertices are named by their numbers
+pub names_are : (d n : ℕ) (es : List Arc) → AreRowEdges d n es → vertices_of (rows_of d es) ≡ map decimal (order_back es)
+names_are d n [] h = refl
+names_are d n (e ∷ es) h =
+    let k = are_numbers d n es h.1 in
+    let f = small_from d n e h.0 in
+    ap (λ (names : List (List ℕ)). with_new bytes_eq (with_new bytes_eq names (decimal e.from)) (decimal e.to)) (names_are d n es h.1)
+    ∙ ap (λ (names : List (List ℕ)). with_new bytes_eq names (decimal e.to)) (new_name (order_back es) e.from f k)
+    ∙ new_name (with_new same_number (order_back es) e.from) e.to (small_to d n e h.0) (numbers_after (order_back es) e.from f k)
+
+-- what stands at the place of a new number
+pub old_number : (order : List ℕ) (u : ℕ) → IsIn order u → get_or order (new_number order u - 1) 0 ≡ u
+old_number order u i =
+    let one_less : new_number order u - 1 ≡ place same_number Decides-eqb u order = omega arith in
+    ap (λ (k : ℕ). get_or order k 0) one_less ∙ at_place same_number Decides-eqb order u 0 i
+
+-- the edge with the new numbers of its ends
+abbrev pub renumbered : List ℕ → Arc → RawEdge
+renumbered order e = normal (new_number order e.from) (new_number order e.to) e.shift.x e.shift.y e.shift.z
+
+-- the numbers are those at the end of the rows
+number_kept : (xs : List ℕ) (e : Arc) (u : ℕ) → IsIn xs u → new_number xs u ≡ new_number (order_after xs e) u
+number_kept xs e u h =
+    ap (λ (k : ℕ). k + 1) (place_grown same_number Decides-eqb xs e.from u h ∙ place_grown same_number Decides-eqb (with_new same_number xs e.from) e.to u (keeps same_number Decides-eqb xs e.from u h))
+
+number_first : (xs : List ℕ) (e : Arc) → new_number xs e.from ≡ new_number (order_after xs e) e.from
+number_first xs e =
+    ap (λ (k : ℕ). k + 1)
+    (place_new same_number Decides-eqb xs e.from ∙ place_grown same_number Decides-eqb (with_new same_number xs e.from) e.to e.from (has_new same_number Decides-eqb xs e.from))
+
+number_second : (xs : List ℕ) (e : Arc) → new_number (with_new same_number xs e.from) e.to ≡ new_number (order_after xs e) e.to
+number_second xs e = ap (λ (k : ℕ). k + 1) (place_new same_number Decides-eqb (with_new same_number xs e.from) e.to)
+
+pub renumbered_kept : (es : List Arc) (f e : Arc) → IsIn es e → renumbered (order_back es) e ≡ renumbered (order_back (f ∷ es)) e
+renumbered_kept es f e h =
+    let i = ends_in es e h in
+    let a = number_kept (order_back es) f e.from i.0 in
+    let b = number_kept (order_back es) f e.to i.1 in
+    λ t. normal (a t) (b t) e.shift.x e.shift.y e.shift.z
+
+-- the edge that a row gives
+pub edge_is : (d n : ℕ) (es : List Arc) (e : Arc) → AreRowEdges d n (e ∷ es) → row_edge (vertices_of (rows_of d es)) (row_fields d e) ≡ renumbered (order_back (e ∷ es)) e
+edge_is d n es e h =
+    let k = are_numbers d n es h.1 in
+    let f = small_from d n e h.0 in
+    let names = names_are d n es h.1 in
+    let grown = ap (λ (names : List (List ℕ)). with_new bytes_eq names (decimal e.from)) names ∙ new_name (order_back es) e.from f k in
+    let first : vertex_number (vertices_of (rows_of d es)) (decimal e.from) ≡ new_number (order_back (e ∷ es)) e.from =
+    ap (λ (names : List (List ℕ)). vertex_number names (decimal e.from)) names ∙ ap (λ (m : ℕ). m + 1) (place_name e.from (order_back es) f k) ∙ number_first (order_back es) e in
+    let second : vertex_number (with_new bytes_eq (vertices_of (rows_of d es)) (decimal e.from)) (decimal e.to) ≡ new_number (order_back (e ∷ es)) e.to =
+    ap (λ (names : List (List ℕ)). vertex_number names (decimal e.to)) grown
+    ∙ ap (λ (m : ℕ). m + 1) (place_name e.to (with_new same_number (order_back es) e.from) (small_to d n e h.0) (numbers_after (order_back es) e.from f k))
+    ∙ number_second (order_back es) e in
+    λ t. normal (first t) (second t) e.shift.x e.shift.y e.shift.z
+
+-- the test of two edges
+pub edge_decides : (e f : RawEdge) → Decides (same_edge e f) (e ≡ f)
+edge_decides e f = (to, from)
+  where
+    to : same_edge e f ≡ true → e ≡ f
+    to h =
+        let a = and_parts (e.u == f.u) _ h in
+        let b = and_parts (e.v == f.v) _ a.1 in
+        let c = and_parts (int_eq e.x f.x) _ b.1 in
+        let g = and_parts (int_eq e.y f.y) _ c.1 in
+        let u = (Decides-eqb e.u f.u).0 a.0 in
+        let v = (Decides-eqb e.v f.v).0 b.0 in
+        let x = (Decides-int_eq e.x f.x).0 c.0 in
+        let y = (Decides-int_eq e.y f.y).0 g.0 in
+        let z = (Decides-int_eq e.z f.z).0 g.1 in
+        λ t. record { u = u t; v = v t; x = x t; y = y t; z = z t }
+
+    from : e ≡ f → same_edge e f ≡ true
+    from q =
+        subst (λ (g : RawEdge). same_edge e g ≡ true) q
+        (and_from _ _ ((Decides-eqb e.u e.u).1 refl) (and_from _ _ ((Decides-eqb e.v e.v).1 refl)
+        (and_from _ _ ((Decides-int_eq e.x e.x).1 refl) (and_from _ _ ((Decides-int_eq e.y e.y).1 refl) ((Decides-int_eq e.z e.z).1 refl)))))
+
+-- each edge that is read is that of a row
+pub read_edges : (d n : ℕ) (es : List Arc) → AreRowEdges d n es → (y : RawEdge) → IsIn (edges_of (rows_of d es)) y → (e : Arc) × IsIn es e × (renumbered (order_back es) e ≡ y)
+read_edges d n [] h y i = absurd i
+read_edges d n (f ∷ es) h y i = elim (tells_new same_edge edge_decides (edges_of (rows_of d es)) (row_edge (vertices_of (rows_of d es)) (row_fields d f)) y i) [
+  | inl j ↦ let r = read_edges d n es h.1 y j in (r.0, inr r.1, sym (renumbered_kept es f r.0 r.1) ∙ r.2)
+  | inr q ↦ (f, inl refl, sym (edge_is d n es f h) ∙ q)
+]
+
+-- and each row gives its edge
+pub edges_in : (d n : ℕ) (es : List Arc) → AreRowEdges d n es → (e : Arc) → IsIn es e → IsIn (edges_of (rows_of d es)) (renumbered (order_back es) e)
+edges_in d n [] h e i = absurd i
+edges_in d n (f ∷ es) h e (inl q) =
+    subst (λ (x : Arc). IsIn (edges_of (rows_of d (f ∷ es))) (renumbered (order_back (f ∷ es)) x)) q
+    (subst (λ (y : RawEdge). IsIn (edges_of (rows_of d (f ∷ es))) y) (edge_is d n es f h)
+    (has_new same_edge edge_decides (edges_of (rows_of d es)) (row_edge (vertices_of (rows_of d es)) (row_fields d f))))
+edges_in d n (f ∷ es) h e (inr i) =
+    subst (λ (y : RawEdge). IsIn (edges_of (rows_of d (f ∷ es))) y) (renumbered_kept es f e i)
+    (keeps same_edge edge_decides (edges_of (rows_of d es)) (row_edge (vertices_of (rows_of d es)) (row_fields d f)) (renumbered (order_back es) e) (edges_in d n es h.1 e i))
+
+-- no more edges than rows
+pub few_edges : (d : ℕ) (es : List Arc) → length (edges_of (rows_of d es)) ≤ length es
+few_edges d [] = omega arith
+few_edges d (e ∷ es) =
+    let l = few_new same_edge edge_decides (edges_of (rows_of d es)) (row_edge (vertices_of (rows_of d es)) (row_fields d e)) in
+    let m = few_edges d es in
+    omega (arith, l, m)
+
+module _ (d n : ℕ) (es : List Arc) (h : AreRowEdges d n es) where
+  -- the number at a place, counted from 1
+  abbrev pub number_at : ℕ → ℕ
+  number_at i = get_or (order_back es) (i - 1) 0
+
+  pub number_within : (i : ℕ) → 1 ≤ i → i ≤ length (order_back es) → (1 ≤ number_at i) × (number_at i ≤ n)
+  number_within i a b = numbers_within d n es h (number_at i) (get_in same_number Decides-eqb (order_back es) (i - 1) 0 (omega (arith, a, b)))
+
+  -- it has this place as its new number
+  pub number_there : (i : ℕ) → 1 ≤ i → i ≤ length (order_back es) → new_number (order_back es) (number_at i) ≡ i
+  number_there i a b =
+      let p = place_of_get same_number Decides-eqb (order_back es) (i - 1) 0 (order_apart es) (omega (arith, a, b)) in
+      omega (arith, p, a)
+
+  -- no more numbers than vertices
+  pub few_vertices : length (order_back es) ≤ n
+  few_vertices = no_more n (length (order_back es)) number_at (record {
+    low = λ i a b. (number_within i a b).0;
+    high = λ i a b. (number_within i a b).1;
+    once = λ i j a b c k e. sym (number_there i a b) ∙ ap (new_number (order_back es)) e ∙ number_there j c k;
+  })

@@ -1,0 +1,256 @@
+-- No line of a printed graph has a fault, and its block is the net of its rows.
+use Rattle.std.proofs.Common.{◌≡◌, ◌⊎◌, inl, inr, ℕ, ◌+◌, ◌≤◌, ◌==◌, ◌||◌, ◌&&◌, not, nat_lt, Bool, true, false, cond, pos, List, [], ◌∷◌, length, Option, None, Some, refl, sym, ap, subst, ◌∙◌, arith}
+use Rattle.std.specs.Prelude.{codes}
+use Rattle.std.specs.Fmt.{decimal}
+use Rattle.std.specs.Ordering.{int_eq}
+use Rattle.std.specs.Str.{bytes_eq}
+use Rattle.std.proofs.lemmas.Bool.{cases_Bool, and_parts, false≢true}
+use Rattle.std.proofs.lemmas.Bool.Decides.{Decides-eqb, Decides-int_eq, nat_tests}
+use Rattle.std.proofs.lemmas.Fmt.{decimal_injective, length-decimal-le}
+use Rattle.std.proofs.lemmas.List.{length-map}
+use Rattle.std.proofs.lemmas.Slice.Eq.{bytes_eq-Decides}
+use Rattle.integers.proofs.vectors.Laws.{vector_equal}
+use Rattle.periodic_net.specs.Graph.{Arc}
+use Rattle.periodic_net.specs.Limits.{most_vertices, most_edges}
+use Rattle.cgd_read.specs.Blocks.{AllFalse, AllPass, in_order, graph_block, blocks_from, with_body, or_fault}
+use Rattle.cgd_read.specs.Edges.{vertices_of, edges_of, is_self_edge, first_size, has_rows}
+use Rattle.cgd_read.specs.Faults.{is_end, name_of, rows_in, under_edges, is_long, first_true, table}
+use Rattle.cgd_read.specs.Graphs.{net_of}
+use Rattle.cgd_read.specs.Lines.{LineView, FieldsView}
+use Rattle.cgd_read.specs.Views.{Net}
+use Rattle.cgd_read.specs.declared.block.BlockFaultKind.{BlockFaultKind}
+use Rattle.cgd_read.specs.declared.line.LineKind.TheVariants.{End}
+use Rattle.cover_answers.specs.Printed.{MayBeName}
+use Rattle.cover_answers.proofs.GraphLines.{head_lines, rows_back}
+use Rattle.cover_answers.proofs.LineTokens.{word_line}
+use Rattle.cover_answers.proofs.NamedRows.{rows_of, names_are, order_back, few_vertices, few_edges}
+use Rattle.cover_answers.proofs.NumberBytes.{within}
+use Rattle.cover_answers.proofs.RowLines.{IsRowEdge, AreRowEdges, row_fields, row_line}
+
+no_fault : (tests : List (BlockFaultKind × Bool)) → AllFalse tests → first_true tests ≡ None
+no_fault [] h = refl
+no_fault (test ∷ tests) h = ap (λ (t : Bool). cond t (Some test.0) (first_true tests)) h.0 ∙ no_fault tests h.1
+
+-- a line that passes is passed over
+passes_on : (opening : ℕ) (earlier : List LineView) (line : LineView) (later : List LineView) → AllFalse (table earlier line) → is_end line.kind ≡ false
+    → graph_block opening earlier (line ∷ later) ≡ graph_block opening (line ∷ earlier) later
+passes_on opening earlier line later h e =
+    ap (λ fault. or_fault fault line.number opening earlier (cond (is_end line.kind) (with_body opening earlier (Net (net_of (rows_in earlier)))) (graph_block opening (line ∷ earlier) later))) (no_fault (table earlier line) h)
+    ∙ ap (λ (t : Bool). cond t (with_body opening earlier (Net (net_of (rows_in earlier)))) (graph_block opening (line ∷ earlier) later)) e
+
+-- lines that pass, and what comes after them
+pub after_passing : (opening : ℕ) (earlier later : List LineView) → AllPass earlier → graph_block opening [] (in_order earlier later) ≡ graph_block opening earlier later
+after_passing opening [] later h = refl
+after_passing opening (line ∷ earlier) later h = after_passing opening earlier (line ∷ later) h.2 ∙ passes_on opening earlier line later h.0 h.1
+
+-- no block begins among them
+pub passed_over : (earlier later : List LineView) → AllPass earlier → blocks_from true (in_order earlier later) ≡ blocks_from true later
+passed_over [] later h = refl
+passed_over (line ∷ earlier) later h = passed_over earlier (line ∷ later) h.2 ∙ ap (λ (t : Bool). cond t (blocks_from false later) (blocks_from true later)) h.1
+
+-- these lines have passed: those before the rows and the rows of these edges, the nearest first
+pub record HavePassed (d : ℕ) (name : Option (List ℕ)) (lines : List LineView) (done : List Arc) : Type 0 where
+  pub pass : AllPass lines
+  pub under : under_edges lines ≡ true
+  pub rows : rows_in lines ≡ rows_of d done
+  pub name_is : name_of lines ≡ name
+
+-- the lines before the rows pass
+pub head_passes : (d : ℕ) (name : Option (List ℕ)) (n : ℕ) → MayBeName name → HavePassed d name (head_lines name n) []
+head_passes d None n h = record {
+  pass = ((refl, (refl, (refl, (refl, (refl, (refl, (refl, (refl, (refl, (refl, (refl, tt))))))))))), refl, tt);
+  under = refl;
+  rows = refl;
+  name_is = refl;
+}
+head_passes d (Some name) n h = record {
+  pass = (
+    (refl, (refl, (refl, (refl, (refl, (refl, (refl, (refl, (refl, (refl, (refl, tt))))))))))),
+    refl,
+    (
+      (refl, (refl, (refl, (ap (λ (t : Bool). t || false) (within 200 (length name) h.0), (refl, (refl, (refl, (refl, (refl, (refl, (refl, tt))))))))))),
+      refl,
+      tt,
+    ),
+  );
+  under = refl;
+  rows = refl;
+  name_is = refl;
+}
+
+-- the name of a vertex is short
+short_name : (u n : ℕ) → u ≤ n → n ≤ most_vertices → is_long (decimal u) ≡ false
+short_name u n l m = within 200 (length (decimal u)) (let k = length-decimal-le 3 u (omega arith) (omega (arith, l, m)) (omega (arith, l, m)) in omega (arith, k))
+
+-- the sizes of rows
+first_size_is : (d : ℕ) (e : Arc) (es : List Arc) → first_size (rows_of d (e ∷ es)) ≡ d + 2
+first_size_is d e [] = refl
+first_size_is d e (f ∷ es) = by (first_size (rows_of d (f ∷ es)) == 0) (first_size_is d f es)
+  where
+    by : (t : Bool) → first_size (rows_of d (f ∷ es)) ≡ d + 2 → cond t (d + 2) (first_size (rows_of d (f ∷ es))) ≡ d + 2
+    by true q = refl
+    by false q = q
+
+pub size_of_rows : (d : ℕ) (es : List Arc) → has_rows (rows_of d es) ≡ true → first_size (rows_of d es) ≡ d + 2
+size_of_rows d [] h = absurd (false≢true h)
+size_of_rows d (e ∷ es) h = first_size_is d e es
+
+-- what the tests say, by parts
+
+bad_token : (under row : Bool) → under ≡ true → (not under || (row && false)) ≡ false
+bad_token true true e = refl
+bad_token true false e = refl
+bad_token false row e = absurd (false≢true e)
+
+long_name : (row u v : Bool) → u ≡ false → v ≡ false → (row && (u || v)) ≡ false
+long_name true u v e f = ap (λ (t : Bool). t || v) e ∙ f
+long_name false u v e f = refl
+
+never : (row t : Bool) → t ≡ false → (row && t) ≡ false
+never true t e = e
+never false t e = refl
+
+wrong_length : (d : ℕ) → (d ≡ 2) ⊎ (d ≡ 3) → not (d + 2 == 4 || d + 2 == 5) ≡ false
+wrong_length d (inl e) = ap (λ (k : ℕ). not (k + 2 == 4 || k + 2 == 5)) e
+wrong_length d (inr e) = ap (λ (k : ℕ). not (k + 2 == 4 || k + 2 == 5)) e
+
+other_length : (some : Bool) (m n : ℕ) → (some ≡ true → n ≡ m) → (some && not (m == n)) ≡ false
+other_length true m n h = ap not ((Decides-eqb m n).1 (sym (h refl)))
+other_length false m n h = refl
+
+self_edge : (d n : ℕ) (e : Arc) → IsRowEdge d n e → is_self_edge (row_fields d e) ≡ false
+self_edge d n e h = elim (cases_Bool (is_self_edge (row_fields d e))) [
+  | inl yes_ ↦
+      let a = and_parts (bytes_eq (decimal e.from) (decimal e.to)) _ yes_ in
+      let b = and_parts (int_eq e.shift.x (pos 0)) _ a.1 in
+      let c = and_parts (int_eq e.shift.y (pos 0)) _ b.1 in
+      let few = h.few in
+      let u = h.from.1 in
+      let v = h.to.1 in
+      let same = decimal_injective e.from e.to (omega (arith, few, u)) (omega (arith, few, v)) ((bytes_eq-Decides (decimal e.from) (decimal e.to)).0 a.0) in
+      absurd (h.no_point same (vector_equal ((Decides-int_eq e.shift.x (pos 0)).0 b.0) ((Decides-int_eq e.shift.y (pos 0)).0 c.0) ((Decides-int_eq e.shift.z (pos 0)).0 c.1)))
+  | inr no_ ↦ no_
+]
+
+some_size : (d : ℕ) → nat_lt 0 (d + 2) ≡ true
+some_size d = grind (arith, nat_tests)
+
+-- a row brings not too many vertices, and not too many edges
+vertices_fit : (d n : ℕ) (es : List Arc) → AreRowEdges d n es → n ≤ most_vertices → nat_lt most_vertices (length (vertices_of (rows_of d es))) ≡ false
+vertices_fit d n es h l =
+    let size : length (vertices_of (rows_of d es)) ≡ length (order_back es) = ap length (names_are d n es h) ∙ length-map (order_back es) decimal in
+    let few = few_vertices d n es h in
+    within most_vertices (length (vertices_of (rows_of d es))) (omega (arith, size, few, l))
+
+edges_fit : (d : ℕ) (es : List Arc) → length es ≤ most_edges → nat_lt most_edges (length (edges_of (rows_of d es))) ≡ false
+edges_fit d es l = let few = few_edges d es in within most_edges (length (edges_of (rows_of d es))) (omega (arith, few, l))
+
+-- these edges and others after them, the nearest first
+abbrev pub done_after : List Arc → List Arc → List Arc
+done_after done [] = done
+done_after done (e ∷ es) = done_after (e ∷ done) es
+
+module _ (d n : ℕ) (dim : (d ≡ 2) ⊎ (d ≡ 3)) (name : Option (List ℕ)) where
+  rows_now : (e : Arc) (done : List Arc) (lines : List LineView) (m : ℕ) → HavePassed d name lines done → rows_in (row_line d e m ∷ lines) ≡ rows_of d (e ∷ done)
+  rows_now e done lines m h =
+      ap (λ (t : Bool). cond t (row_fields d e ∷ rows_in lines) (rows_in lines)) (some_size d) ∙ ap (λ (rows : List FieldsView). row_fields d e ∷ rows) h.rows
+
+  -- one row more
+  row_passes : (e : Arc) (done : List Arc) (lines : List LineView) (m : ℕ) → AreRowEdges d n (e ∷ done) → length (e ∷ done) ≤ most_edges → HavePassed d name lines done
+      → HavePassed d name (row_line d e m ∷ lines) (e ∷ done)
+  row_passes e done lines m edges few h =
+      let row = nat_lt 0 (d + 2) in
+      let now = rows_now e done lines m h in
+      let own = edges.0 in record {
+        pass = (
+          (
+            refl,
+            (
+              refl,
+              (
+                bad_token (under_edges lines) row h.under,
+                (
+                  long_name row (is_long (decimal e.from)) (is_long (decimal e.to)) (short_name e.from n own.from.1 own.few) (short_name e.to n own.to.1 own.few),
+                  (
+                    never row (not (d + 2 == 4 || d + 2 == 5)) (wrong_length d dim),
+                    (
+                      never row (has_rows (rows_in lines) && not (d + 2 == first_size (rows_in lines)))
+                          (other_length (has_rows (rows_in lines)) (d + 2) (first_size (rows_in lines))
+                          (subst (λ (rows : List FieldsView). has_rows rows ≡ true → first_size rows ≡ d + 2) (sym h.rows) (size_of_rows d done))),
+                      (
+                        never row false refl,
+                        (
+                          never row (is_self_edge (row_fields d e)) (self_edge d n e own),
+                          (
+                            ap (λ (rows : List FieldsView). nat_lt most_vertices (length (vertices_of rows))) now ∙ vertices_fit d n (e ∷ done) edges own.few,
+                            (ap (λ (rows : List FieldsView). nat_lt most_edges (length (edges_of rows))) now ∙ edges_fit d (e ∷ done) few, (refl, tt)),
+                          ),
+                        ),
+                      ),
+                    ),
+                  ),
+                ),
+              ),
+            ),
+          ),
+          refl,
+          h.pass,
+        );
+        under = h.under;
+        rows = now;
+        name_is = h.name_is;
+      }
+
+  -- all rows
+  pub rows_pass : (es done : List Arc) (lines : List LineView) (m : ℕ) → AreRowEdges d n done → AreRowEdges d n es → length done + length es ≤ most_edges → HavePassed d name lines done
+      → HavePassed d name (rows_back d m lines es) (done_after done es)
+  rows_pass [] done lines m old new few h = h
+  rows_pass (e ∷ es) done lines m old new few h =
+      rows_pass es (e ∷ done) (row_line d e m ∷ lines) (m + 1) (new.0, old) new.1 (omega (arith, few))
+      (row_passes e done lines m (new.0, old) (omega (arith, few)) h)
+
+  -- the line that ends the block
+  abbrev end_line : ℕ → LineView
+  end_line m = word_line End (codes "END") m
+
+  end_passes : (e : Arc) (done : List Arc) (lines : List LineView) (m : ℕ) → AreRowEdges d n (e ∷ done) → length (e ∷ done) ≤ most_edges → HavePassed d name lines (e ∷ done)
+      → AllFalse (table lines (end_line m))
+  end_passes e done lines m edges few h = (
+    refl,
+    (
+      refl,
+      (
+        refl,
+        (
+          refl,
+          (
+            refl,
+            (
+              refl,
+              (
+                refl,
+                (
+                  refl,
+                  (
+                    ap (λ (rows : List FieldsView). nat_lt most_vertices (length (vertices_of rows))) h.rows ∙ vertices_fit d n (e ∷ done) edges edges.0.few,
+                    (
+                      ap (λ (rows : List FieldsView). nat_lt most_edges (length (edges_of rows))) h.rows ∙ edges_fit d (e ∷ done) few,
+                      (ap (λ (rows : List FieldsView). not (has_rows rows)) h.rows, tt),
+                    ),
+                  ),
+                ),
+              ),
+            ),
+          ),
+        ),
+      ),
+    ),
+  )
+
+  -- the block of lines that have passed, and the blocks after it
+  pub block_is : (opening : LineView) (e : Arc) (done : List Arc) (lines left : List LineView) (m : ℕ) → AreRowEdges d n (e ∷ done) → length (e ∷ done) ≤ most_edges
+      → HavePassed d name lines (e ∷ done)
+      → graph_block opening.number [] (in_order lines (end_line m ∷ left)) ≡ with_body opening.number lines (Net (net_of (rows_in lines)))
+  block_is opening e done lines left m edges few h =
+      after_passing opening.number lines (end_line m ∷ left) h.pass
+      ∙ ap (λ fault. or_fault fault m opening.number lines (with_body opening.number lines (Net (net_of (rows_in lines))))) (no_fault (table lines (end_line m)) (end_passes e done lines m edges few h))

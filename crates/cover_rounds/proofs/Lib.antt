@@ -1,6 +1,0 @@
-mod NewPlaces
-mod RowEdges
-mod FlatNets
-mod SameSizes
-mod RowNets
-mod Rounds

@@ -1,9 +1,0 @@
-use Rattle.std.proofs.Common.{rules}
-use Rattle.hermite.proofs.Splitting.{taken_fits, less_fits}
-use Rattle.hermite.proofs.division.less.Goals as goal
-
-pub overflow_sub-result : goal.overflow_sub-result
-overflow_sub-result c = search (rules, taken_fits, less_fits)
-
-pub returns : goal.returns
-returns c = search (rules, taken_fits, less_fits)

@@ -1,8 +1,0 @@
-use Rattle.std.specs.Prelude.{IsTrue}
-use Rattle.integers.proofs.vectors.OneStaircase.{one_staircase}
-use Rattle.hermite.proofs.staircase.rows_are_one.Goals as goal
-
-pub returns : goal.returns
-returns c = record {
-  theorem = λ L M d rows others s t h. one_staircase (λ v. IsTrue (L v)) (λ v. IsTrue (M v)) d rows others s t h;
-}

@@ -1,3 +1,0 @@
-pub mod Lattices
-pub mod Stairs
-pub mod Steps

@@ -1,5 +1,0 @@
-use Rattle.image_cells.proofs.Independent.{not_all_zero}
-use Rattle.image_cells.proofs.closed.independent.Goals as goal
-
-pub unreachable-requires : goal.unreachable-requires
-unreachable-requires g c = not_all_zero g.row.D c.args.turns.now c.requires.full (c.first_some.ensures.none c.in-None.is)

@@ -1,4 +1,0 @@
-pub mod CallerLemmas
-pub mod ItemBodies
-pub mod ItemListing
-pub mod OneItemOutcome

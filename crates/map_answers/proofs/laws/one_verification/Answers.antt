@@ -1,5 +1,0 @@
-use Rattle.map_answers.proofs.OneVerification.{one_verification}
-use Rattle.map_answers.proofs.laws.one_verification.Goals as goal
-
-pub returns : goal.returns
-returns c = record { theorem = one_verification }

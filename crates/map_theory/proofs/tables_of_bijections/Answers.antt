@@ -1,5 +1,0 @@
-use Rattle.map_theory.proofs.tables_of_bijections.Goals as goal
-use Rattle.map_theory.proofs.Theorems.{tables_of_bijections}
-
-pub returns : goal.returns
-returns c = record { theorem = tables_of_bijections }

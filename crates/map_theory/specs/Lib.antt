@@ -1,4 +1,0 @@
-pub mod Laws
-pub mod Layouts
-pub mod Numbers
-pub mod Tables

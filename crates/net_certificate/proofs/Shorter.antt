@@ -1,0 +1,47 @@
+-- Where one more item was read, less is left.
+use Rattle.std.proofs.Common.{◌≡◌, ◌<◌, ◌≤◌, ℕ, List, [], ◌∷◌, ◌++◌, length, refl, sym, ap, ◌∙◌, subst, arith}
+use Rattle.std.proofs.lemmas.List.{length-append}
+use Rattle.line_text.specs.Lines.{Place, IsAt, rows_text}
+use Rattle.line_text.proofs.CallerLemmas.{less_left}
+use Rattle.net_certificate.specs.Items.{ItemView, Without, With, item_view, item_views}
+use Rattle.net_certificate.specs.declared.item.Item.{Item}
+use Rattle.net_certificate.specs.Rows.{Row, row_line, row_lines}
+use Rattle.net_certificate.specs.Texts.{item_rows}
+use Rattle.net_certificate.specs.Stages.{Stage, Start, Listed, Drawing, next_number, with_item}
+use Rattle.net_certificate.specs.Reading.{IsIn}
+use Rattle.net_certificate.proofs.Places.{lines_of_sum}
+use Rattle.net_certificate.proofs.StageRows.{listed_rows, item_rows_more, walk_rows}
+
+-- an item has a row
+record HasRow (rows : List Row) : Type 0 where
+  pub first : Row
+  pub others : List Row
+  pub is : rows ≡ first ∷ others
+
+has_row : (d k : ℕ) (item : ItemView) → HasRow (item_rows d k item)
+has_row d k (Without why) = record { first = _; others = _; is = refl }
+has_row d k (With H M) = record { first = _; others = _; is = refl }
+
+-- the rows that were passed are those that lead to the stage
+passed : (text : List ℕ) (g : Drawing) (items : List ItemView) (place : Place) → IsIn text (Listed g items) place → IsAt text (row_lines (listed_rows g items)) place
+passed text g items place is = subst (λ l. IsAt text (row_lines l) place) (sym (walk_rows Start (Listed g items) is.rows tt is.walk)) is.at
+
+pub shorter_in : (text : List ℕ) (g : Drawing) (items : List ItemView) (item : ItemView) (before after : Place) → IsIn text (Listed g items) before → IsIn text (Listed g (with_item items item)) after → length after.rest < length before.rest
+shorter_in text g items item before after one two =
+    let row = has_row g.size.dim (next_number items) item in
+    less_left text (row_lines (listed_rows g items)) (row_lines row.others) (row_line row.first) before after (passed text g items before one)
+    (subst (λ l. IsAt text l after)
+    (ap row_lines (item_rows_more g items item ∙ ap (λ l. listed_rows g items ++ l) row.is) ∙ lines_of_sum (listed_rows g items) (row.first ∷ row.others))
+    (passed text g (with_item items item) after two))
+
+-- no more is left than there was
+pub left_few : (text : List ℕ) (p : Stage) (place : Place) (n : ℕ) → IsIn text p place → length text ≤ n → length place.rest ≤ n
+left_few text p place n is few =
+    let whole = ap length is.at.joined in
+    let both = length-append (rows_text (row_lines is.rows)) place.rest in
+    omega (arith, whole, both, few)
+
+-- items in memory with one more
+pub views_more : (items : List Item) (item : Item) → item_views (items ++ item ∷ []) ≡ with_item (item_views items) (item_view item)
+views_more [] item = refl
+views_more (i ∷ items) item = ap (λ l. item_view i ∷ l) (views_more items item)

@@ -1,0 +1,26 @@
+use Rattle.std.proofs.Common.{◌≡◌, Ok, ap, ℕ, pos, [], ◌∷◌, ◌++◌, sym, ◌∙◌, subst}
+use Rattle.std.specs.Prelude.{codes}
+use Rattle.std.proofs.lemmas.Option.{none-some}
+use Rattle.std.proofs.lemmas.Bool.{true≢false}
+use Rattle.line_text.specs.Lines.{IsAt}
+use Rattle.line_text.specs.Numbers.{row_text}
+use Rattle.line_text.proofs.CallerLemmas.{none_from, some_from}
+use Rattle.net_certificate.specs.Rows.{period_row}
+use Rattle.net_certificate.specs.Steps.{NoPeriod}
+use Rattle.net_certificate.proofs.PlainRows.{one_wide}
+use Rattle.net_certificate.proofs.steps.next_period.Goals as goal
+
+pub returns-then-branch-clause-place : goal.returns-then-branch-clause-place
+unfolding period_row
+returns-then-branch-clause-place c = λ text rows at.
+    some_from c.period_from.result (λ (m : ℕ). c.deref.result.now ≡ pos m ∷ []) (λ (m : ℕ). IsAt text (rows ++ period_row m ∷ []) c.next_row.new.self)
+    (λ m e. subst (λ ns. IsAt text (rows ++ row_text (codes "period") ns ∷ []) c.next_row.new.self) (sym c.deref.ensures.value ∙ e) (c.in_ok-next_row.ensures.place text rows at (ap (λ b. Ok b) c.if-branch.true))) c.period_from.ensures.found
+
+pub returns-then-branch-clause-none : goal.returns-then-branch-clause-none
+unfolding period_row
+returns-then-branch-clause-none c = none_from c.period_from.result (NoPeriod c.args.size.now c.args.lines.now.rest) (λ none m rest is e.
+    none-some m (sym none ∙ c.period_from.ensures.every m is (c.deref.ensures.value ∙ (c.in_ok-next_row.ensures.every (pos m ∷ []) rest (one_wide m is.to) e).1)))
+
+pub returns-else-branch-clause-none : goal.returns-else-branch-clause-none
+unfolding period_row
+returns-else-branch-clause-none c = λ m rest is e. true≢false (sym (c.in_ok-next_row.ensures.every (pos m ∷ []) rest (one_wide m is.to) e).0 ∙ c.if-branch.false)

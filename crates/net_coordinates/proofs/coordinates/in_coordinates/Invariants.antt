@@ -1,6 +1,0 @@
-use Rattle.std.proofs.Common.{map}
-use Rattle.net_coordinates.specs.Lattices.{AreInCoordinates}
-use Rattle.net_coordinates.proofs.coordinates.in_coordinates.Given as goal
-
-abbrev pub invariant-loop-c : goal.invariant-loop-c
-invariant-loop-c g l = AreInCoordinates g.row.D l.lattice l.net l.c (map (λ s. s.items) l.stars.items)

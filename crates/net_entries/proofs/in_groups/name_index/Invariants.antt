@@ -1,7 +1,0 @@
-use Rattle.std.proofs.Common.{◌≡◌, map, take}
-use Rattle.net_entries.specs.Entries.{entry_view}
-use Rattle.net_entries.specs.Fingerprints.{name_print}
-use Rattle.net_entries.proofs.in_groups.name_index.Given as goal
-
-abbrev pub invariant-loop-entry : goal.invariant-loop-entry
-invariant-loop-entry l = l.names ≡ map (λ e. name_print (entry_view e.now).name) (take l.entry-index l.entries)

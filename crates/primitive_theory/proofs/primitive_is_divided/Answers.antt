@@ -1,5 +1,0 @@
-use Rattle.primitive_theory.proofs.OnlyShifts as theory
-use Rattle.primitive_theory.proofs.primitive_is_divided.Goals as goal
-
-pub returns : goal.returns
-returns c = record { theorem = theory.primitive_is_divided }

@@ -1,0 +1,11 @@
+//! The callers of the public surface: what another program would use, each item by its own path and
+//! with its whole signature. A call here passes its arguments on, a value is made of all its fields,
+//! and a match has all cases of its enum. So an item that changes does not pass the check.
+#![tactic(auto)]
+
+pub mod files;
+pub mod frames;
+pub mod graphs;
+pub mod numbers;
+pub mod staircases;
+pub mod vectors;

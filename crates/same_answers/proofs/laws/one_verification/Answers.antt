@@ -1,0 +1,5 @@
+use Rattle.same_answers.proofs.OneVerification.{one_verification}
+use Rattle.same_answers.proofs.laws.one_verification.Goals as goal
+
+pub returns : goal.returns
+returns c = record { theorem = one_verification }

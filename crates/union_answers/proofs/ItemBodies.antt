@@ -1,0 +1,51 @@
+-- What is reported of the graph of a key.
+use Rattle.std.proofs.Common.{◌≡◌, ◌≢◌, ℕ, [], map, Result, Ok, Err, refl, sym, subst, ◌∙◌}
+use Rattle.std.specs.Prelude.{IfOk}
+use Rattle.std.proofs.lemmas.List.{length-map}
+use Rattle.std.proofs.lemmas.List.Sorted.{length_permutation}
+use Rattle.periodic_net.specs.Graph.{Graph, IsGraph}
+use Rattle.cgd_read.specs.Spelling.{edge_of}
+use Rattle.keyline_import.specs.Items.{BodyView, Net, Faulty as FaultyView}
+use Rattle.keyline_import.specs.Keys.{graph_of_key}
+use Rattle.keyline_import.specs.Rows.{KeyView}
+use Rattle.keyline_import.specs.Views.{IsBodyOf}
+use Rattle.keyline_import.specs.declared.item.ItemBody.TheVariants.{Graph as ItemGraph}
+use Rattle.quotient_graph.specs.AnyGraphs.{graph_view}
+use Rattle.quotient_graph.specs.Stars.{IsInOrder}
+use Rattle.quotient_graph.specs.declared.any_graph.AnyGraph.{AnyGraph}
+use Rattle.least_key.specs.AnyNets.{net_view}
+use Rattle.least_key.specs.KeyedNets.{IsKeyed}
+use Rattle.least_key.specs.Truths.{IsTrueOf}
+use Rattle.least_key.specs.declared.net.Net.{Net as AnyNet}
+use Rattle.least_key.specs.declared.refusal.Refusal.{Refusal}
+use Rattle.least_key.specs.declared.refusal.Refusal.TheVariants.{NoMemory}
+use Rattle.net_report.specs.declared.outcome.OutcomeBody.{OutcomeBody}
+use Rattle.net_report.specs.declared.outcome.OutcomeBody.TheVariants.{Keyed, Refused}
+use Rattle.net_report.specs.declared.outcome.Size.{Size}
+use Rattle.union_answers.specs.Outcomes.{IsGraphOf, IsItemBodyOf, size_of, sizes_in}
+
+-- a graph with the edges of a key in order has the sizes of the key
+same_sizes : (key : KeyView) (G : Graph) (repeats : ℕ) → IsInOrder (graph_of_key key) G → repeats ≡ key.repeats → sizes_in G repeats ≡ size_of key
+same_sizes key G repeats o r =
+    let edges = length_permutation (map edge_of key.edges) G.edges o.edges ∙ length-map key.edges edge_of in
+    λ i. record { dim = o.dimension i; vertices = o.vertices i; edges = edges i; repeats = r i }
+
+module _ (graph : AnyGraph) (repeats : ℕ) (size : Size) (sizes : size ≡ sizes_in (graph_view graph) repeats) (g : IsGraph (graph_view graph)) where
+  -- it is the graph of the key
+  graph_read : (key : KeyView) → IsInOrder (graph_of_key key) (graph_view graph) × (repeats ≡ key.repeats) → IsGraphOf key size (graph_view graph)
+  graph_read key b = record { size_is = sizes ∙ same_sizes key (graph_view graph) repeats b.0 b.1; in_order = b.0; is_graph = g }
+
+  -- a net with its key is reported of the item
+  pub keyed_as : (net : AnyNet) → (net_view net).placed.graph ≡ graph_view graph → IsKeyed (net_view net) → (view : BodyView) → IsBodyOf view (ItemGraph graph repeats) → IsItemBodyOf view (Keyed size net)
+  keyed_as net is keyed (Net key) b = record { graph = graph_view graph; read = graph_read key b; net_is = is; keyed = keyed }
+  keyed_as net is keyed (FaultyView fault) b = absurd b
+
+  refused_told : (refusal : Refusal) → IsTrueOf (graph_view graph) refusal → refusal ≢ NoMemory → (view : BodyView) → IsBodyOf view (ItemGraph graph repeats) → IsItemBodyOf view (Refused size [] refusal)
+  refused_told refusal t known (Net key) b = record { graph = graph_view graph; read = graph_read key b; no_names = refl; known = known; is_true = t }
+  refused_told refusal t known (FaultyView fault) b = absurd b
+
+  -- so is a refusal
+  pub refused_as : {E : Type 0} (refusal : Refusal) (r : Result OutcomeBody E) → IsTrueOf (graph_view graph) refusal → IfOk r (λ body. body ≡ Refused size [] refusal) → IfOk r (λ body. refusal ≢ NoMemory)
+      → IfOk r (λ body. (view : BodyView) → IsBodyOf view (ItemGraph graph repeats) → IsItemBodyOf view body)
+  refused_as refusal (Ok body) t e known = λ view b. subst (IsItemBodyOf view) (sym e) (refused_told refusal t known view b)
+  refused_as refusal (Err d) t e known = e

@@ -1,0 +1,15 @@
+use Rattle.std.proofs.Common.{◌≡◌, ◌+◌, ◌++◌, length, All}
+use Rattle.std.specs.Vec.Iter.{into_iter_items, into_iter_len}
+use Rattle.net_report.specs.Reports.{IsPrintable}
+use Rattle.union_answers.proofs.ItemListing.{AreOutcomesOfRead}
+use Rattle.union_answers.proofs.outcomes.outcomes_of.Given as goal
+
+-- the items so far
+abbrev pub invariant-loop-item : goal.invariant-loop-item
+invariant-loop-item l = record {
+  all : l.yielded ++ into_iter_items l.item-iterator ≡ l.fn.items.items;
+  left : into_iter_len l.item-iterator ≡ length (into_iter_items l.item-iterator);
+  number : l.number ≡ length l.yielded + 1;
+  told : AreOutcomesOfRead 1 l.yielded l.outcomes;
+  printable : All IsPrintable l.outcomes;
+}

@@ -1,0 +1,90 @@
+// What is reported of what an item holds.
+ghost use Rattle.std.specs.Prelude.{◌≡◌, ◌≢◌, [], ℕ, IfOk};
+ghost use Rattle.periodic_net.specs.Graph.{IsGraph};
+ghost use Rattle.keyline_import.specs.Items.{BodyView};
+ghost use Rattle.keyline_import.specs.Views.{IsBodyOf};
+ghost use Rattle.quotient_graph.specs.AnyGraphs.{graph_view};
+ghost use Rattle.net_report.specs.Reports.{IsPrintableBody};
+ghost use Rattle.union_answers.specs.Outcomes.{IsItemBodyOf, sizes_in};
+
+use cgd_read::Names;
+use keyline_import::{ItemBody, ItemFault};
+use least_key::{Refusal, identify};
+use net_report::{NoMemory, OutcomeBody, Size};
+use quotient_graph::{AnyGraph, Graph};
+use std::alloc::Global;
+
+fn size_of_graph<const D: usize>(graph: &Graph<D>, repeats: u32) -> Size
+    ensures size { result ≡ sizes_in graph.now repeats }
+    ensures is_graph { IsGraph graph.now }
+{
+    Size {
+        dim: graph.dimension(),
+        vertices: graph.vertices(),
+        edges: graph.edge_count(),
+        repeats,
+    }
+}
+
+fn size_of(graph: &AnyGraph, repeats: u32) -> Size
+    ensures size { result ≡ sizes_in (graph_view graph.now) repeats }
+    ensures is_graph { IsGraph (graph_view graph.now) }
+{
+    match graph {
+        AnyGraph::Flat(graph) => size_of_graph(graph, repeats),
+        AnyGraph::Space(graph) => size_of_graph(graph, repeats),
+    }
+}
+
+// The refusal without names, where it is one.
+fn refused_body<'a>(
+    alloc: Global,
+    size: Size,
+    refusal: Refusal,
+) -> Result<OutcomeBody<'a>, NoMemory>
+    ensures told { IfOk result (λ body. body ≡ OutcomeBody.Refused size [] refusal) }
+    ensures refused { IfOk result (λ body. refusal ≢ Refusal.NoMemory) }
+    ensures printable { IfOk result IsPrintableBody }
+{
+    match refusal {
+        Refusal::NoMemory => Err(NoMemory),
+        refusal => Ok(OutcomeBody::Refused(size, Names::new(alloc), refusal)),
+    }
+}
+
+// What is reported of the graph of a key.
+fn graph_body<'a>(alloc: Global, graph: AnyGraph, repeats: u32) -> Result<OutcomeBody<'a>, NoMemory>
+    ensures told { IfOk result (λ told. (view : BodyView) →
+        IsBodyOf view (ItemBody.Graph graph repeats) → IsItemBodyOf view told) }
+    ensures printable { IfOk result IsPrintableBody }
+{
+    let size = size_of(&graph, repeats);
+    match identify(alloc, graph) {
+        Ok(net) => Ok(OutcomeBody::Keyed(size, net)),
+        Err(refusal) => refused_body(alloc, size, refusal),
+    }
+}
+
+fn fault_body<'a>(fault: ItemFault) -> OutcomeBody<'a>
+    ensures told { (view : BodyView) → IsBodyOf view (ItemBody.Faulty fault) →
+        IsItemBodyOf view result }
+    ensures printable { IsPrintableBody result }
+{
+    OutcomeBody::Faulty {
+        line: fault.line,
+        number: fault.kind.number(),
+        kind: fault.kind.name(),
+    }
+}
+
+/// What is reported of what an item holds.
+pub fn body_of<'a>(alloc: Global, body: ItemBody) -> Result<OutcomeBody<'a>, NoMemory>
+    ensures told { IfOk result (λ told. (view : BodyView) →
+        IsBodyOf view body → IsItemBodyOf view told) }
+    ensures printable { IfOk result IsPrintableBody }
+{
+    match body {
+        ItemBody::Graph(graph, repeats) => graph_body(alloc, graph, repeats),
+        ItemBody::Faulty(fault) => Ok(fault_body(fault)),
+    }
+}

@@ -1,0 +1,90 @@
+-- Numbers in a box fit in 128 bits, and the rows of a stair lie in one.
+use Rattle.std.proofs.Common.{◌≡◌, ◌+◌, ◌*◌, ◌≤◌, ◌≤ℤ◌, ◌<ℤ◌, ℤ, pos, ◌-ℤ◌, ◌*ℤ◌, ◌^◌, FitsSigned, arith}
+use Rattle.std.specs.Int.{w128}
+use Rattle.std.specs.Int.RustNames.{unsigned_abs}
+use Rattle.std.proofs.lemmas.Nat.{mul-le}
+use Rattle.std.proofs.lemmas.Int.{ints, unsigned_abs-mul, fits_signed_from_abs}
+use Rattle.integers.specs.Vectors.{Vector, vector, IsWithin}
+use Rattle.integers.proofs.vectors.Bounds.{abs_difference}
+use Rattle.vecdim.specs.Stairs.{Stairs}
+use Rattle.vecdim.specs.Steps.{IsBoxed, IsBoundedStair}
+
+-- the absolute value of a number from 0 to m
+abs_to : (z m : ℤ) → m ≤ℤ pos (2 ^ 60) → pos 0 ≤ℤ z → z ≤ℤ m → unsigned_abs z ≤ 2 ^ 60
+abs_to z m h i j = omega (arith, ints)
+
+-- what `less_times` computes fits in 128 bits
+pub product_fits : (a q b m : ℤ) → m ≤ℤ pos (2 ^ 60) → pos 0 ≤ℤ a → a ≤ℤ m → pos 0 ≤ℤ b → b ≤ℤ m → pos 0 ≤ℤ q → q ≤ℤ m → FitsSigned w128 (q *ℤ b) × FitsSigned w128 (a -ℤ q *ℤ b)
+product_fits a q b m h af at bf bt qf qt =
+    let u = abs_to a m h af at in
+    let v = abs_to b m h bf bt in
+    let w = abs_to q m h qf qt in
+    let p : unsigned_abs (q *ℤ b) ≤ 2 ^ 60 * 2 ^ 60 = rw unsigned_abs-mul (mul-le (unsigned_abs q) (unsigned_abs b) (2 ^ 60) (2 ^ 60) w v) in
+    let r : unsigned_abs (a -ℤ q *ℤ b) ≤ unsigned_abs a + unsigned_abs (q *ℤ b) = abs_difference a (q *ℤ b) in
+    (fits_signed_from_abs w128 (q *ℤ b) (omega arith), fits_signed_from_abs w128 (a -ℤ q *ℤ b) (omega arith))
+
+-- a number from 0 to m fits
+pub fits_within : (z m : ℤ) → m ≤ℤ pos (2 ^ 60) → pos 0 ≤ℤ z → z ≤ℤ m → FitsSigned w128 z
+fits_within z m h i j = let u = abs_to z m h i j in fits_signed_from_abs w128 z (omega arith)
+
+-- below is at most
+pub at_most : (z m : ℤ) → z <ℤ m → z ≤ℤ m
+at_most z m h = omega (arith, ints)
+
+-- what is not negative and not 0 is positive
+pub not_zero : (z : ℤ) → pos 0 ≤ℤ z → (z ≡ pos 0 → ⊥) → pos 0 <ℤ z
+not_zero z h n = omega (arith, ints)
+
+-- at most, and at most again
+pub up_to : (x y z : ℤ) → x ≤ℤ y → y ≤ℤ z → x ≤ℤ z
+up_to x y z h i = omega (arith, ints)
+
+-- the three parts fit in 128 bits
+pub record PartsFit (v : Vector) : Type 0 where
+  pub x : FitsSigned w128 v.x
+  pub y : FitsSigned w128 v.y
+  pub z : FitsSigned w128 v.z
+
+-- the parts of a vector in the box fit
+pub boxed_fits : {m : ℤ} {v : Vector} → m ≤ℤ pos (2 ^ 60) → IsBoxed m v → PartsFit v
+boxed_fits {m} {v} h b = record { x = fits_within v.x m h b.x_from b.x_to; y = fits_within v.y m h b.y_from (at_most v.y m b.y_to); z = fits_within v.z m h b.z_from (at_most v.z m b.z_to) }
+
+-- below, and at most
+below : (x y z : ℤ) → x <ℤ y → y ≤ℤ z → x <ℤ z
+below x y z h i = omega (arith, ints)
+
+-- 0 is at most 0
+zero_most : pos 0 ≤ℤ pos 0
+zero_most = omega (arith, ints)
+
+-- the rows are in the box
+pub boxed_first : {m : ℤ} {S : Stairs} → IsBoundedStair m S → IsBoxed m (vector S.a S.b S.c)
+boxed_first {m} {S} k = let r = k.reduced in let b = k.e_to in let c = k.i_to in record { x_from = at_most (pos 0) S.a r.a; x_to = k.a_to; y_from = r.b_from; y_to = below S.b S.e m r.b_to b; z_from = r.c_from; z_to = below S.c S.i m r.c_to c }
+
+-- the second row, one place to the left
+pub boxed_second : {m : ℤ} {S : Stairs} → IsBoundedStair m S → IsBoxed m (vector S.e S.f (pos 0))
+boxed_second {m} {S} k = let r = k.reduced in record { x_from = at_most (pos 0) S.e r.e; x_to = k.e_to; y_from = r.f_from; y_to = below S.f S.i m r.f_to k.i_to; z_from = zero_most; z_to = k.m_from }
+
+-- the third row, two places to the left
+pub boxed_third : {m : ℤ} {S : Stairs} → IsBoundedStair m S → IsBoxed m (vector S.i (pos 0) (pos 0))
+boxed_third {m} {S} k = let r = k.reduced in record { x_from = at_most (pos 0) S.i r.i; x_to = k.i_to; y_from = zero_most; y_to = k.m_from; z_from = zero_most; z_to = k.m_from }
+
+-- what is at most 2^61 fits
+pub small_fits : (z : ℤ) → unsigned_abs z ≤ 2 ^ 61 → FitsSigned w128 z
+small_fits z h = fits_signed_from_abs w128 z (omega arith)
+
+-- a vector in the box has parts of at most 2^60
+pub boxed_within : {m : ℤ} {v : Vector} → m ≤ℤ pos (2 ^ 60) → IsBoxed m v → IsWithin (2 ^ 60) v
+boxed_within {m} {v} h b = (abs_to v.x m h b.x_from b.x_to, abs_to v.y m h b.y_from (at_most v.y m b.y_to), abs_to v.z m h b.z_from (at_most v.z m b.z_to))
+
+-- what is at most 2^60 is at most 2^61
+weaker : (z : ℤ) → unsigned_abs z ≤ 2 ^ 60 → unsigned_abs z ≤ 2 ^ 61
+weaker z h = omega arith
+
+-- the first row is a vector
+pub first_small : {m : ℤ} {S : Stairs} → IsBoundedStair m S → IsWithin (2 ^ 61) (vector S.a S.b S.c)
+first_small {m} {S} k = let w = boxed_within k.m_to (boxed_first k) in (weaker S.a w.0, weaker S.b w.1, weaker S.c w.2)
+
+-- and so is the second
+pub second_small : {m : ℤ} {S : Stairs} → IsBoundedStair m S → IsWithin (2 ^ 61) (vector (pos 0) S.e S.f)
+second_small {m} {S} k = let w = boxed_within k.m_to (boxed_second k) in (omega arith, weaker S.e w.0, weaker S.f w.1)

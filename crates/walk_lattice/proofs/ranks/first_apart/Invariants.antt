@@ -1,7 +1,0 @@
-use Rattle.std.proofs.Common.{◌≡◌, ℕ, ◌<◌, slice_index_or}
-use Rattle.integers.specs.Vectors.{Vector, vector, zero_vector}
-use Rattle.integers.specs.Vectors.{cross}
-use Rattle.walk_lattice.proofs.ranks.first_apart.Given as goal
-
-abbrev pub invariant-loop-g : goal.invariant-loop-g
-invariant-loop-g g l = (k : ℕ) (w : Vector) → k < l.g-index → cross (vector l.v.x l.v.y l.v.z) (slice_index_or l.gs k w) ≡ zero_vector

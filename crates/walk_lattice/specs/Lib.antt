@@ -1,8 +1,0 @@
-pub mod Bounds
-pub mod Flat
-pub mod Full
-pub mod Generators
-pub mod Lattices
-pub mod Paths
-pub mod Ranks
-pub mod Search

@@ -1,5 +1,0 @@
-pub mod Breadth
-pub mod Chosen
-pub mod Components
-pub mod Laws
-pub mod Settling
