@@ -1,5 +1,6 @@
 # shellcheck shell=sh
-# What ./net_tool and ./preview share: the command that words name, and what is said after a silent status.
+# What ./net_tool and ./preview share: the command that words name, what is said after a silent status, and a sum of
+# the sources, by which a program that was built is known to be the one of the sources that stand here.
 
 usage="usage: net_tool COMMAND [FILE] [--archive PATH] [--name NAME] [--cell ROWS]"
 
@@ -41,4 +42,12 @@ explain() {
     7) echo "net_tool: memory was refused" >&2 ;;
     8) echo "net_tool: the file has more than 4,096 blocks or items" >&2 ;;
     esac
+}
+
+# a sum of all that the program is made of; top is the folder of the repository
+sum_of_sources() {
+    (
+        cd "$top" && find crates.txt TOOLCHAIN crates/*/src crates/*/specs crates/*/proofs -type f | LC_ALL=C sort |
+            xargs sha256sum | sha256sum | cut -d ' ' -f 1
+    ) 2>/dev/null
 }
