@@ -1,4 +1,4 @@
-"""The two texts around net_tool: files of blocks (.cgd), and the reports that it prints on them.
+"""The texts around net_tool: files of blocks (.cgd) or of key lines (.arc), and the reports on them.
 
 Both are handled as bytes, as the program handles them, since a name may hold nearly any.
 What opens a block, what ends it, and what a report says, stands in docs/FORMATS.md."""
@@ -14,6 +14,7 @@ MOST_BYTES = 16_777_216
 
 # the first token of a line, where it has one: a word or number, or else any other byte
 FIRST_TOKEN = re.compile(rb'[ \t\v\f\r]*(?:([^\x00-\x20"#\x7f]+)|([^#\n \t\v\f\r]))')
+ITEM_WORDS = (b"KEY", b"ID")  # begin an item of key lines
 HEADER = re.compile(rb'net (\d+) line (\d+)(?: "([^"\n]*)")?\n?$')
 
 
@@ -36,15 +37,21 @@ class Chunk:
 
 
 def chunks_of(lines: Iterable[bytes]) -> Iterator[Chunk]:
-    """The text in pieces of one block each, so that all of them joined are the text."""
+    """The text in pieces of one block each, so that all of them joined are the text. Where the first token is `key` or
+    `id`, the text is one of key lines, and its items are the blocks: no other lines begin one."""
     chunk = Chunk(1)
+    is_items: bool | None = None
     for number, line in enumerate(lines, start=1):
         chunk.lines.append(line)
         token = FIRST_TOKEN.match(line)
         if token is None:
             continue
-        if (token[1] or b"").upper() != b"END":
-            chunk.opening_line = chunk.opening_line or number
+        word = (token[1] or b"").upper()
+        if is_items is None:
+            is_items = word in ITEM_WORDS
+        if word != b"END":
+            if not is_items or word in ITEM_WORDS:
+                chunk.opening_line = chunk.opening_line or number
         elif chunk.opening_line:
             yield chunk
             chunk = Chunk(number + 1)

@@ -45,6 +45,29 @@ EDGES
 1 1 1 0
 1 1 0 1"""
 
+KEY_LINES = b"""# an archive
+key 3 1 2 0 0 0 1 2 1 0 0 1 2 0 1 0 1 2 0 0 1
+  version 1.0
+  id dia
+end
+between items
+  id pcu
+  key 3 1 1 1 0 0
+ checksum 1
+END
+key 3 1 2 0 0
+end
+"""
+REPORT_ON_ITEMS = b"""net 1 line 2 "dia"
+graph d=3 vertices=2 edges=4 repeats=0
+key 3 2 1 1 2 -1 -1 -1 1 2 0 0 1 1 2 0 1 0 1 2 1 0 0
+net 2 line 7 "pcu"
+graph d=3 vertices=1 edges=1 repeats=0
+refused 2 Degenerate q=0 c=0 1 0 h=0
+net 3 line 11
+malformed line=11 1 BadKey
+"""
+
 
 def fields(rows: bytes) -> list[list[bytes]]:
     return [row.split(b"\t") for row in rows.splitlines()]
@@ -109,6 +132,23 @@ class Texts(FolderTest):
         run(PROGRAM, "add", "-", stdin=done.stdout)
         self.file.write_bytes(b"\n" + ODD_TEXT)
         run(BATCH / "accepted_nets", report, self.file, status=1)
+
+    def test_items_of_key_lines(self):
+        """What `union` reports on the items, and what it takes of them."""
+        items = self.folder / "nets.arc"
+        items.write_bytes(KEY_LINES)
+        report = self.folder / "report"
+        report.write_bytes(REPORT_ON_ITEMS)
+        done = run(BATCH / "accepted_nets", report, items)
+        self.assertEqual(done.stdout, KEY_LINES[KEY_LINES.index(b"key 3 1 2"):KEY_LINES.index(b"between")])
+        self.assertEqual(done.stderr.count(b"\n"), 2)
+        for count, wanted in ((1, ["0 0 1", "1 5 1", "2 10 1"]), (2, ["0 0 2", "2 10 1"]), (9, ["0 0 3"])):
+            folder = self.folder / str(count)
+            run(BATCH / "split_nets", "--blocks", count, items, folder)
+            index = [row.split("\t") for row in (folder / "index.tsv").read_text().splitlines()]
+            self.assertEqual([" ".join(row[1:]) for row in index], wanted)
+            self.assertEqual([row[0] for row in index], [f"p{k + 1:05}.arc" for k in range(len(index))])
+            self.assertEqual(b"".join((folder / row[0]).read_bytes() for row in index), KEY_LINES)
 
     def test_json_has_what_the_rows_have(self):
         report = run(PROGRAM, "identify", TOP / "examples/mystery.cgd", "--archive", ARCHIVE).stdout

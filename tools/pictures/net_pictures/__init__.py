@@ -6,4 +6,6 @@ symmetry    all symmetries of a placed net, and its crystal system
 cell        the cell that a chemist would draw
 shape       all that a picture needs: sites, axes, kinds of vertices, what stands in a window
 view        from which side a net is seen, and how much of it
-svg, page   the two forms that are written"""
+svg, page   the two forms of pictures that are written
+embedding   the net as a crystal: its group in the usual setting, nodes and edges up to the group
+crystal_text  the crystal as a block CRYSTAL, and as a CIF"""

@@ -125,7 +125,7 @@ class Geometry(FolderTest):
         for net in reports_on(file):
             shape = Shape(placed_net(net))
             other = Shape(placed_net(self.reports[net.name.decode().split(",")[0]])) \
-                if not net.name.startswith(b"rows of") else shape
+                if b"rows of" not in net.name else shape
             self.assertEqual((shape.system, shape.order, shape.kinds, len(shape.sites)),
                              (other.system, other.order, other.kinds, len(other.sites)), net.name)
             self.assertLess(np.abs(np.sort(shape.lengths) - np.sort(other.lengths)).max(), 1e-6, net.name)

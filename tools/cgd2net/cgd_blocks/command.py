@@ -1,0 +1,53 @@
+"""The words of the command line, and what is told of each file."""
+
+from __future__ import annotations
+
+import argparse
+import signal
+import sys
+
+from .converter import Converter
+
+DESCRIPTION = """The nets of .cgd and .arc files for net_tool: writes each block CRYSTAL, NET or TILING, and each
+item of key lines, as a block PERIODIC_GRAPH to standard output, and all else as it is. A block
+that gives no net stays as a comment, and the reason goes to standard error."""
+EPILOG = """exit status: 0 each block was turned; 1 some block was refused, or a file cannot be read; 2 usage.
+example: cgd2net RCSRnets.cgd | net_tool identify - --archive common.archive"""
+DONE, SOME_REFUSED = 0, 1
+
+
+def words() -> argparse.Namespace:
+    parser = argparse.ArgumentParser(
+        prog="cgd2net", description=DESCRIPTION, epilog=EPILOG, formatter_class=argparse.RawDescriptionHelpFormatter)
+    parser.add_argument("files", nargs="*", metavar="FILE", default=["-"],
+                        help="a .cgd or .arc file, or - for standard input, which is read where none is given")
+    parser.add_argument("--quiet", action="store_true", help="tell only why a block is refused")
+    return parser.parse_args()
+
+
+def main() -> int:
+    signal.signal(signal.SIGPIPE, signal.SIG_DFL)  # a reader that stops, as head, is no fault
+    signal.signal(signal.SIGINT, signal.SIG_DFL)
+    asked = words()
+    return max([convert_file(file, asked.quiet) for file in asked.files])
+
+
+def convert_file(file: str, is_quiet: bool) -> int:
+    """Writes the nets of a file; 1 where some block is refused, or the file cannot be read."""
+    def tell(text: str, is_refusal: bool) -> None:
+        if is_refusal or not is_quiet:
+            sys.stdout.flush()
+            print(text.encode(errors="replace").decode(), file=sys.stderr)
+
+    converter = Converter("stdin" if file == "-" else file, sys.stdout.buffer.write, tell)
+    try:
+        if file == "-":
+            converter.convert(sys.stdin.buffer)
+        else:
+            with open(file, "rb") as stream:
+                converter.convert(stream)
+    except OSError as error:
+        print(f"{file}: not readable: {error.strerror}", file=sys.stderr)
+        return SOME_REFUSED
+    sys.stdout.flush()
+    return SOME_REFUSED if converter.refused else DONE

@@ -1,0 +1,154 @@
+"""Archives of collections: what is taken and what is refused, more nets than an archive holds, and look-up over all."""
+
+import os
+import pty
+import subprocess
+from pathlib import Path
+
+from odd_cells import edges_of_archive
+from testing import PROGRAM, TOOLS, TOP, FolderTest, need_modules, need_program, run
+from test_blocks import ITEMS, KNOWN, WITH_EDGES, parts_of
+
+need_modules("gemmi", "numpy", "scipy")
+MAKE = TOOLS / "cgd2net/make_archives"
+NAME = TOOLS / "batch/name_nets"
+REFUSED = """OTHER block
+END
+CRYSTAL
+  NAME none
+END
+PERIODIC_GRAPH
+  EDGES 1 1 1 0
+  1 1 0 1
+END
+CRYSTAL
+  NAME pcu
+  CELL 1 1 1 90 90 90
+  NODE 1 6 0 0 0
+END
+CRYSTAL
+  NAME pcu
+  CELL 1 1 90
+  NODE 1 4 0 0
+END
+PERIODIC_GRAPH
+  NAME apart
+  EDGES 1 1 2 0
+  1 1 0 1
+END
+"""
+
+
+def crystals() -> str:
+    """The known embeddings without edges, each once."""
+    blocks = {}
+    for symbol, group, cell, nodes, _ in map(parts_of, KNOWN):
+        blocks[symbol] = f"CRYSTAL\nNAME {symbol}\nGROUP {group}\nCELL {cell}\nNODE {nodes}\nEND\n"
+    return "".join(blocks.values()) + WITH_EDGES
+
+
+def items_of(archive: Path) -> str:
+    """The nets of an archive as key lines."""
+    text = ""
+    for name, edges in edges_of_archive(archive).items():
+        rows = " ".join(f"{u + 1} {v + 1} {' '.join(map(str, shift))}" for u, v, shift in edges)
+        text += f'key {len(edges[0][2])} {rows}\n  version 1.0\n  id "{name}"\n  checksum 0\nend\n'
+    return text
+
+
+def entries(archive: Path) -> list[str]:
+    return [line[7:-1] for line in archive.read_text().splitlines() if line.startswith("entry ")]
+
+
+class Collections(FolderTest):
+    def setUp(self):
+        super().setUp()
+        need_program()
+
+    def write(self, name: str, text: str) -> Path:
+        (self.folder / name).write_text(text)
+        return self.folder / name
+
+    def test_the_command_for_rcsr(self):
+        """The archive lies beside the others, and each tool that looks names up finds it there."""
+        (self.folder / "archives").mkdir()
+        (self.folder / "tools").symlink_to(TOOLS)
+        command = self.folder / "archives/take_rcsr"
+        command.write_bytes((TOP / "archives/take_rcsr").read_bytes())
+        command.chmod(0o755)
+        file = self.write("RCSRnets.cgd", crystals())
+        told = run(command, file).stdout.decode()
+        archive = self.folder / "archives/rcsr.archive"
+        self.assertIn("rcsr.archive: ", told)
+        self.assertEqual((self.folder / "archives/rcsr.refused").read_text(), "")
+        names = entries(archive)
+        self.assertEqual(len(names), len({line.split(" ")[0] for line in KNOWN}) + 1)
+        report = run(PROGRAM, "identify", TOP / "examples/mystery.cgd", "--archive", archive).stdout
+        self.assertEqual(report.count(b'\nname "dia"\n'), 1)
+        named = run(NAME, TOP / "examples/mystery.cgd", self.folder / "archives").stdout.decode().splitlines()
+        self.assertIn("1\tsample A\tdia", named)
+        run(command, status=2)
+        self.assertIn(b"take_rcsr FILE", run(command, "--help").stderr)
+        run(command, self.folder / "absent", status=3)
+
+    def test_what_is_refused_stands_beside_with_reasons(self):
+        file = self.write("nets.cgd", REFUSED)
+        run(MAKE, self.folder / "nets", file, status=1)
+        self.assertEqual(entries(self.folder / "nets.archive"), ["pcu"])
+        told = (self.folder / "nets.refused").read_text().splitlines()
+        self.assertEqual([line.removeprefix(f"{file}: line ") for line in told], [
+            "1: a block 'OTHER block' is not read",
+            '3 "none": refused: there are no nodes',
+            '6 "": PERIODIC_GRAPH: it has no name',
+            f'15 "pcu": CRYSTAL: it is another net than {file} line 10 (CRYSTAL), which has its name',
+            '20 "apart": PERIODIC_GRAPH: refused 1 Disconnected q=2 c=1 0 h=0'])
+
+    def test_key_lines_and_blocks_of_one_name_are_compared(self):
+        blocks, items = self.write("a.cgd", crystals()), self.write("b.arc", ITEMS + ITEMS.replace("id dia", "id srs"))
+        run(MAKE, self.folder / "nets", blocks, items, status=1)
+        told = (self.folder / "nets.refused").read_text()
+        self.assertEqual(told.count("\n"), 1)
+        self.assertIn(f'{items}: line 6 "srs": key line: it is another net than {blocks} line ', told)
+
+    def test_key_lines_give_the_archive_that_they_are_from(self):
+        for name in ("common", "zeolites"):
+            archive = TOP / f"archives/{name}.archive"
+            run(MAKE, self.folder / name, self.write(f"{name}.arc", items_of(archive)))
+            self.assertEqual(*([line for line in path.read_text().splitlines() if line.startswith(("entry ", "key "))]
+                               for path in (self.folder / f"{name}.archive", archive)))
+
+    def test_more_nets_than_an_archive_holds(self):
+        squares = "".join(ITEMS.replace("id dia", f"id net{k}") for k in range(4096))
+        file = self.write("many.arc", squares + crystals())
+        self.write("many.3.archive", "of an earlier collection\n")
+        told = run(MAKE, self.folder / "many", file).stdout.decode().splitlines()
+        self.assertEqual(told[0], f"{self.folder}/many.archive: 4096 nets")
+        self.assertEqual(sorted(path.name for path in self.folder.glob("*.archive")),
+                         ["many.2.archive", "many.archive"])
+        self.assertEqual(len(entries(self.folder / "many.archive")), 4096)
+        self.assertIn("srs", entries(self.folder / "many.2.archive"))
+        named = run(NAME, TOP / "examples/mystery.cgd", self.folder).stdout.decode().splitlines()
+        self.assertIn("4\tsample D\tsrs", named)
+        self.assertEqual(sum(line.startswith("1\tsample A\tnet") for line in named), 4096)
+
+    def test_failures_make_nothing(self):
+        file = self.write("a.cgd", crystals())
+        failing = self.write("failing", "#!/bin/sh\necho no\nexit 7\n")
+        failing.chmod(0o755)
+        done = run(MAKE, self.folder / "nets", file, NET_TOOL=str(failing), status=3)
+        self.assertIn(b"key ended with 7: no", done.stderr)
+        run(MAKE, self.folder / "nets", self.write("empty.cgd", "# nothing\n"), status=3)
+        run(MAKE, status=2)
+        self.assertEqual(list(self.folder.glob("nets*")), [])
+
+    def test_a_terminal_sees_a_bar(self):
+        file = self.write("a.cgd", crystals())
+        ours, theirs = pty.openpty()
+        done = subprocess.run([MAKE, self.folder / "nets", file], stdout=subprocess.DEVNULL, stderr=theirs,
+                              env={**os.environ, "NET_TOOL": PROGRAM})
+        os.close(theirs)
+        told = os.read(ours, 100_000)
+        os.close(ours)
+        self.assertEqual(done.returncode, 0)
+        self.assertIn(b"reading [====", told)
+        self.assertIn(b"keys [====", told)
