@@ -250,6 +250,36 @@ def of_edges(net: Net) -> Net:
     return result
 
 
+def zigzags(directions: tuple[tuple[int, int], ...]) -> Net:
+    """Layers of zigzags, one direction for each, and each vertex joined to a layer above or below it in
+    turn: two directions at a right angle give ths, three at 120 degrees bto, (10,3)-b and (10,3)-c of
+    A. F. Wells."""
+    count = len(directions)
+    net = Net(2 * count)
+    for layer, direction in enumerate(directions):
+        up, down = 2 * layer, 2 * layer + 1
+        net.join(up, down, (0, 0, 0))
+        net.join(down, up, (*direction, 0))
+        net.join(up, 2 * ((layer + 1) % count) + 1, (0, 0, int(layer + 1 == count)))
+    return net
+
+
+def rings_and_paddlewheels() -> Net:
+    """The net nbo in a cubic cell in which it has two colours, at the middles of faces and of edges, and
+    each vertex of the second colour made a pair, as the two rings of a biphenyl: one ring takes the
+    neighbours along two axes, the other those opposite."""
+    net = Net(9)  # three middles of faces, and two rings for each of three edges
+    axes = np.eye(3, dtype=int)
+    for k in range(3):
+        one, other = 3 + 2 * k, 4 + 2 * k
+        net.join(one, other, (0, 0, 0))
+        m, n = (k + 1) % 3, (k + 2) % 3
+        for face, axis in ((n, m), (m, n)):
+            net.join(one, face, (0, 0, 0))
+            net.join(other, face, -axes[axis])
+    return net
+
+
 def _middle(v: int, w: int, shift: tuple[int, ...], number: dict[tuple, int]) -> tuple[int, tuple[int, ...]]:
     """The number of the edge of an arc, and the cell of the edge's first end, seen from the tail."""
     if (v, w, shift) in number:
@@ -354,7 +384,7 @@ BY_SITES = {
     "thp, thorium in Th3P4": Sites("I -4 3 d", cubic(1), {"a": (3 * E, 0, Q)}, {"aa": 8}),
     "cantellated cubic honeycomb": Sites("P m -3 m", cubic(1 + R), {"a": (H / (1 + R), H / (1 + R), H)}, {"aa": 6}),
     "runcitruncated cubic honeycomb": Sites("P m -3 m", cubic(2 + R), {"a": (R / 4, R / 4, H / (2 + R))}, {"aa": 5}),
-    "cantic cubic honeycomb": Sites("F m -3 m", cubic(3 * R), {"a": (0, T / 2, T / 2)}, {"aa": 5}),
+    "ubt, boron in UB12, cantic cubic honeycomb": Sites("F m -3 m", cubic(3 * R), {"a": (0, T / 2, T / 2)}, {"aa": 5}),
     "runcic cubic honeycomb": Sites("F m -3 m", cubic(2 + R), {"a": (R / 4, R / 4, R / 4)}, {"aa": 6}),
     "bsn, beta tin": Sites("I 41/a m d:1", (5.831, 5.831, 3.182, 90, 90, 90), {"a": (0, 0, 0)}, {"aa": 6}),
     "perovskite, all atoms": Sites("P m -3 m", cubic(1), {"a": (0, 0, 0), "b": (H, H, H), "o": (H, H, 0)},
@@ -383,6 +413,57 @@ BY_SITES = {
     "bixbyite": Sites("I a -3", cubic(10.604), {"a": (Q, Q, Q), "b": (0.968, 0, Q), "o": (0.391, 0.154, 0.381)},
                       {"ao": 6, "bo": 6}),
     "skutterudite": Sites("I m -3", cubic(8.2055), {"a": (Q, Q, Q), "b": (0, 0.3442, 0.1514)}, {"ab": 6, "bb": 2}),
+    "kea, keatite": Sites("P 43 21 2", (7.464, 7.464, 8.620, 90, 90, 90),
+                          {"a": (0.326, 0.120, 0.248), "b": (0.410, 0.410, 0)}, {"ba": 4, "aa": 2}),
+    "mog, moganite": Sites("I 1 2/a 1", (8.758, 4.876, 10.715, 90, 90.08, 90),
+                           {"a": (Q, -0.0092, 0), "b": (0.0115, 0.2533, 0.1678)}, {"ab": 4, "bb": 2}),
+    "gsi, silicon of the form BC8": Sites("I a -3", cubic(6.636), {"a": (0.1003, 0.1003, 0.1003)}, {"aa": 4}),
+    "beta manganese, A13": Sites("P 41 3 2", cubic(6.315), {"a": (0.0636, 0.0636, 0.0636), "b": (E, 0.2022, 0.4522)},
+                                 {"aa": 3, "ab": 9, "bb": 8}),
+    "Cr3Si, all contacts, A15": Sites("P m -3 n", cubic(4.556), {"a": (0, 0, 0), "b": (Q, 0, H)}, {"ab": 12, "bb": 10}),
+    "MgCu2, all contacts, C15": Sites("F d -3 m:2", cubic(7.034), {"a": (E, E, E), "b": (H, H, H)},
+                                      {"ab": 12, "bb": 6, "aa": 4}),
+    "MgZn2, all contacts, C14": Sites("P 63/m m c", (5.223, 5.223, 8.566, 90, 90, 120),
+                                      {"m": (T, 2 * T, 0.062), "z": (0, 0, 0), "y": (0.830, 1.660, Q)},
+                                      {"mm": 4, "mz": 3, "my": 9, "zy": 6, "yy": 4}),
+    "CaCu5, all contacts": Sites("P 6/m m m", (5.082, 5.082, 4.078, 90, 90, 120),
+                                 {"a": (0, 0, 0), "b": (T, 2 * T, 0), "g": (H, 0, H)},
+                                 {"ab": 6, "ag": 12, "bb": 3, "bg": 6, "gg": 4}),
+    "CrB, chromium and boron": Sites("C m c m", (2.969, 7.858, 2.932, 90, 90, 90), {"a": (0, 0.146, Q), "b": (0, 0.440, Q)},
+                                     {"ab": 7, "bb": 2}),
+    "FeB, iron and boron": Sites("P n m a", (5.506, 2.952, 4.061, 90, 90, 90), {"a": (0.180, Q, 0.125), "b": (0.036, Q, 0.610)},
+                                 {"ab": 7, "bb": 2}),
+    "FeSi, iron and silicon": Sites("P 21 3", cubic(4.489), {"a": (0.1358,) * 3, "b": (0.844,) * 3}, {"ab": 7}),
+    "AlB2, with the bonds of boron": Sites("P 6/m m m", (3.009, 3.009, 3.262, 90, 90, 120),
+                                           {"a": (0, 0, 0), "b": (T, 2 * T, H)}, {"ab": 12, "bb": 3}),
+    "CaB6, calcium and boron": Sites("P m -3 m", cubic(4.152), {"a": (0, 0, 0), "b": (0.203, H, H)}, {"ab": 24, "bb": 5}),
+    "uranium dodecaboride": Sites("F m -3 m", cubic(7.473), {"a": (0, 0, 0), "b": (H, 0.166, 0.166)}, {"ab": 24, "bb": 5}),
+    "ThCr2Si2": Sites("I 4/m m m", (4.043, 4.043, 10.577, 90, 90, 90),
+                      {"t": (0, 0, 0), "c": (0, H, Q), "s": (0, 0, 0.374)}, {"tc": 8, "ts": 8, "cs": 4, "ss": 1}),
+    "pyrite, with its pairs": Sites("P a -3", cubic(5.4166), {"a": (0, 0, 0), "b": (0.3849,) * 3}, {"ab": 6, "bb": 1}),
+    "marcasite, with its pairs": Sites("P n n m", (4.443, 5.425, 3.387, 90, 90, 90), {"a": (0, 0, 0), "b": (0.2000, 0.3783, 0)},
+                                       {"ab": 6, "bb": 1}),
+    "baddeleyite": Sites("P 1 21/c 1", (5.1505, 5.2116, 5.3173, 90, 99.23, 90),
+                         {"a": (0.2754, 0.0395, 0.2083), "o": (0.0700, 0.3317, 0.3447), "p": (0.4496, 0.7569, 0.4792)},
+                         {"ao": 3, "ap": 4}),
+    "aragonite": Sites("P m c n", (4.9616, 7.9705, 5.7394, 90, 90, 90),
+                       {"a": (Q, 0.4151, 0.2405), "c": (Q, 0.7627, -0.0862), "o": (Q, 0.9231, -0.0952),
+                        "p": (0.4729, 0.6801, -0.0870)}, {"ao": 3, "ap": 6, "co": 1, "cp": 2}),
+    "anhydrite": Sites("A m m a", (6.993, 6.995, 6.245, 90, 90, 90),
+                       {"a": (3 * Q, 0, 0.3476), "s": (Q, 0, 0.1556), "o": (Q, 0.1699, 0.0162), "p": (0.0819, 0, 0.2975)},
+                       {"ao": 4, "ap": 4, "so": 2, "sp": 2}),
+    "olivine": Sites("P b n m", (4.7534, 10.1902, 5.9783, 90, 90, 90),
+                     {"m": (0, 0, 0), "n": (0.9915, 0.2774, Q), "s": (0.4262, 0.0940, Q), "o": (0.7657, 0.0913, Q),
+                      "p": (0.2215, 0.4474, Q), "q": (0.2777, 0.1628, 0.0331)},
+                     {"mo": 2, "mp": 2, "mq": 2, "no": 1, "np": 1, "nq": 4, "so": 1, "sp": 1, "sq": 2}),
+    "garnet, all atoms": Sites("I a -3 d", cubic(11.845),
+                               {"c": (E, 0, Q), "a": (0, 0, 0), "s": (3 * E, 0, Q), "o": (0.038, 0.0450, 0.1513)},
+                               {"co": 8, "ao": 6, "so": 4}),
+    "pyrochlore, all atoms": Sites("F d -3 m:2", cubic(10.42), {"a": (H, H, H), "b": (0, 0, 0), "o": (0.3199, E, E), "p": (3 * E,) * 3},
+                                   {"ao": 6, "ap": 2, "bo": 6}),
+    "K2NiF4": Sites("I 4/m m m", (4.006, 4.006, 13.076, 90, 90, 90),
+                    {"n": (0, 0, 0), "k": (0, 0, 0.352), "f": (0, H, 0), "g": (0, 0, 0.151)},
+                    {"nf": 4, "ng": 2, "kf": 4, "kg": 5}),
 }
 
 
@@ -411,6 +492,16 @@ def recipes() -> dict[str, Net]:
     for symbol in ("lon", "qtz", "sod", "ths", "pts", "pto", "tbo", "ctn"):
         other = {"tbo": "tbo-e, runcicantic cubic honeycomb"}
         nets[other.get(symbol, f"{symbol}-e, edges of {symbol}")] = of_edges(known[symbol])
+    for name, net in list(nets.items()):
+        if name.startswith(("rows of", "tiling")):
+            nets[f"prisms of {name}"] = prisms(net)
+            nets[f"tiles of {name}"] = dual(net)
+    for symbol in ("MTN", "MEP", "RHO", "LTA"):
+        nets["mtn-e, edges of MTN" if symbol == "MTN" else f"{symbol}-e, edges of {symbol}"] = of_edges(known[symbol])
+    for symbol in ("spn", "rtl"):
+        nets[f"{symbol}-a, augmented {symbol}"] = augmented(known[symbol])
+    nets["bto, boron oxide with zigzags in three directions"] = zigzags(((1, 0), (0, 1), (-1, -1)))
+    nets["fof, rings and paddlewheels of MOF-505"] = rings_and_paddlewheels()
     return nets | by_sites
 
 

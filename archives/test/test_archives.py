@@ -22,6 +22,7 @@ class Common(FolderTest):
         report = run(PROGRAM, "identify", ARCHIVES / "common.cgd", "--archive", ARCHIVES / "common.archive").stdout
         cls.nets = list(nets_of_report(report.splitlines(keepends=True)))
         cls.symbol = {net.name.decode().split(",")[0]: net for net in cls.nets}
+        cls.symbol |= {net.name.decode(): net for net in cls.nets}
 
     def test_each_net_has_its_name_in_the_archive(self):
         for net in self.nets:
@@ -117,6 +118,10 @@ class Recipes(FolderTest):
                                                          {"aa": count}))
                 for name, (group, a, place, count) in fillings.items()}
         self.assertEqual(self.symbols_of(nets), wanted)
+
+    def test_zigzags_in_two_directions_are_ths(self):
+        recipes = self.write_nets()
+        self.assertEqual(self.symbols_of({"two": recipes.zigzags(((1, 0), (0, 1)))}), {"two": "ths"})
 
     def test_recipes_give_the_nets_of_the_source(self):
         need_modules("numpy", "gemmi")

@@ -1,10 +1,14 @@
 """The underlying nets of crystal structures: what the command cif2cgd is made of.
 
 The way of one structure, a module for each step:
-structure, symmetry, lattice    the crystals of a file, in their primitive cells
-elements, places, sanity        elements of labels, atoms in one place, whether the atoms can be right
+document, sites, symmetry       the blocks of a file, their atoms as listed, their operations
+structure, lattice, places      the crystal of a block, in its primitive cell; atoms in one place
+disorder                        which of several alternatives is taken
+elements, sanity                elements of labels, whether the atoms can be right
 contacts, bonds, hydrogen       distances, and the rules by which atoms are joined
-net, components, clusters       quotient graphs, their pieces, clusters of metals and linkers as vertices
-supercell                       the primitive cell of a file without symmetry
+net, components                 quotient graphs, their pieces
+units, conventions              building units, and what is a vertex by the conventions of the field
 choice                          what is left out, and what a reader should know of each net
-cgd, command                    the text that is written, and the words of the command line"""
+translations                    the net of a cell that is several times the primitive one
+cgd, conversion                 the text that is written, and what became of a file
+files, progress, command        files and their names, the bar, the words of the command line"""

@@ -2,12 +2,13 @@
 
 from __future__ import annotations
 
-from collections import Counter
+from collections import Counter, defaultdict
 
 from .contacts import TOO_NEAR, Contact, radius
 from .crystal import Crystal
 from .elements import is_metal, is_water
 from .hydrogen import hydrogen_bridges, ice_bonds
+from .lattice import add
 from .net import Edge
 
 Lengths = dict[frozenset[str], float]  # of a pair of elements, the longest bond in angstrom
@@ -19,15 +20,22 @@ NEARLY = 1.10     # times the shortest from the same atom to the same element
 CLOSE = 0.05      # from one of these bounds, or less: told as a doubt
 SHELL_GAP = 1.13  # times the length before: the step that ends the shell of a metal
 SHELL_CLOSE = 0.02  # from that step, or less: told as a doubt
+# Of two atoms of one nonmetal that each have two bonds to other elements, the lengths in angstrom
+# that their bonds have: superoxide and peroxide, disulphide, diphosphide and so on (A. F. Wells,
+# Structural Inorganic Chemistry, 1984). B and C make bonds of all lengths, and are not listed.
+BETWEEN_ANIONS = {"O": ((1.22, 1.35), (1.40, 1.60)), "S": ((1.85, 2.30),), "Se": ((2.10, 2.65),),
+                  "Te": ((2.50, 3.10),), "N": ((1.05, 1.52),), "P": ((1.95, 2.45),), "As": ((2.15, 2.70),),
+                  "Si": ((2.20, 2.50),), "Ge": ((2.30, 2.65),), "F": (), "Cl": (), "Br": (), "I": ((2.60, 3.10),)}
 
 
 def find_bonds(crystal: Crystal, hydrogen_bonds: bool, lengths: Lengths, doubts: list[str]) -> set[Edge]:
     """The bonds by the rule that fits the elements of the crystal, but of the pairs that have
     a length, all up to it; lengths that are close to a bound are told as doubts."""
     elements = {atom.site.element for atom in crystal.atoms}
-    if elements == {"O", "H"} or (elements == {"O"} and is_water(crystal.atoms[0].site.label)):
+    has_hydrogens = any(atom.site.hydrogens for atom in crystal.atoms)
+    if elements == {"O", "H"} or (elements == {"O"} and (has_hydrogens or is_water(crystal.atoms[0].site.label))):
         bonds = ice_bonds(crystal)
-    elif len(elements) == 1 or all(map(is_metal, elements)):
+    elif all(map(is_metal, elements)) or (len(elements) == 1 and not has_hydrogens):
         bonds = shell_bonds(crystal, doubts)
     else:
         bonds = radius_bonds(crystal, doubts)
@@ -89,15 +97,63 @@ def radius_bonds(crystal: Crystal, doubts: list[str]) -> set[Edge]:
     closed = _anion_centres(covalent, elements) | _bound_hydrogens(covalent, elements)
     polar = [c for c in excess if is_metal(elements[c.first]) != is_metal(elements[c.second])
              and c.first not in closed and c.second not in closed]
+    polar = _without_beside(polar, covalent, elements, excess, doubts)
     shortest = _shortest(polar, elements)
     ratio = {c: c.length / shortest[c.first, elements[c.second]] for c in polar}
     taken = [c for c in polar if _is_taken(excess[c], ratio[c])]
+    covalent = _without_between_anions(covalent, taken, elements, doubts)
     edges = {c.edge() for c in covalent + taken}
     close = {f"{elements[c.first]}-{elements[c.second]} {c.length:.2f} "
              + ("taken" if c.edge() in edges else "left out")
              for c in polar if is_metal(elements[c.first]) and _is_close(excess[c], ratio[c])}
     doubts += sorted(close)
     return edges
+
+
+def _without_beside(polar: list[Contact], covalent: list[Contact], elements: list[str],
+                    excess: dict[Contact, float], doubts: list[str]) -> list[Contact]:
+    """The contacts without those of a metal and a carbon beside an atom on that metal, as in
+    pyrazine: a nonmetal other than C, H and B that is bonded to the carbon and joined to the metal.
+    Cyclopentadienyls, carbonyls and cyanides have none. One that is short all the same is told."""
+    joined = {(c.first, c.second, c.shift) for c in polar
+              if excess[c] <= POLAR and elements[c.second] not in ("C", "H", "B")}
+    beside: dict[int, list[Contact]] = defaultdict(list)
+    for c in covalent:
+        if elements[c.first] == "C" and elements[c.second] not in ("C", "H", "B"):
+            beside[c.first].append(c)
+
+    def is_beside(c: Contact) -> bool:
+        """Whether the second atom, a carbon, has a neighbour on the first, a metal."""
+        return elements[c.second] == "C" and any(
+            (c.first, near.second, add(c.shift, near.shift)) in joined for near in beside[c.second])
+
+    left_out = {c.edge() for c in polar if is_beside(c)}
+    doubts += sorted({f"{elements[c.first]}-C {c.length:.2f} left out, beside another bond of that metal"
+                      for c in polar if is_beside(c) and excess[c] <= 0})
+    return [c for c in polar if c.edge() not in left_out]
+
+
+def _without_between_anions(covalent: list[Contact], polar: list[Contact], elements: list[str],
+                            doubts: list[str]) -> list[Contact]:
+    """The bonds without those of two atoms of one nonmetal which both have two bonds to other
+    elements, where the length is not that of such a bond. Oxygens that both have two bonds to
+    other nonmetals, as in silicates, have none."""
+    others = Counter(c.first for c in covalent + polar if elements[c.first] != elements[c.second])
+    nonmetals = Counter(c.first for c in covalent if elements[c.first] != elements[c.second])
+
+    def is_none(c: Contact) -> bool:
+        element = elements[c.first]
+        if element != elements[c.second] or element not in BETWEEN_ANIONS:
+            return False
+        if min(others[c.first], others[c.second]) < 2:
+            return False
+        is_full = element == "O" and min(nonmetals[c.first], nonmetals[c.second]) >= 2
+        return is_full or not any(low <= c.length <= high for low, high in BETWEEN_ANIONS[element])
+
+    left_out = {c for c in covalent if is_none(c)}
+    doubts += sorted({f"{elements[c.first]}-{elements[c.first]} {c.length:.2f} left out, between two anions"
+                      for c in left_out})
+    return [c for c in covalent if c not in left_out]
 
 
 def _is_taken(excess: float, ratio: float) -> bool:

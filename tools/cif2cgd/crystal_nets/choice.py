@@ -3,14 +3,19 @@
 from __future__ import annotations
 
 from collections import Counter
-from dataclasses import dataclass, field
+from dataclasses import dataclass, field, replace
+
+import numpy as np
 
 from .bonds import Lengths, find_bonds
-from .clusters import clustered
 from .components import Component, components
-from .crystal import FULL, Crystal, shorten
-from .net import Edge, Net, contracted, without_ends
+from .conventions import AUTO, Convention, Framework, conventions_for
+from .crystal import FULL, Crystal
+from .hydrogen import hydrogen_bridges
+from .net import Contracted, Edge, Net, contracted, shells, without_ends
+from .notes import CONVENTION, DISORDER, DOUBT, LEFT_OUT, OTHER, Note, shorten
 from .refusal import Unreadable
+from .units import units_of
 
 # Left out where the other atoms make a net in space without them.
 COUNTER_IONS = frozenset("Na K Rb Cs Ca Sr Ba".split())
@@ -29,7 +34,7 @@ class Options:
     partial_as_full: bool = False
     accept_misfit: bool = False
     every_copy: bool = False
-    clusters: bool = False
+    convention: str = "all-atoms"
 
 
 @dataclass
@@ -40,29 +45,54 @@ class NamedNet:
     net: Net
     dimension: int
     made: str          # of how many atoms, and which of them became edges
-    notes: list[str] = field(default_factory=list)
+    convention: str = "all-atoms"  # what its vertices are
+    notes: list[Note] = field(default_factory=list)
 
 
-def nets_of(crystal: Crystal, options: Options) -> tuple[list[NamedNet], list[str]]:
-    """The layers and the nets in space of a crystal, and notes on all of it."""
+def nets_of(crystal: Crystal, options: Options, notes: list[Note]) -> list[NamedNet]:
+    """The layers and the nets in space of a crystal; notes on all of it come to the notes."""
     if crystal.misfit and not options.accept_misfit:
         raise Unreadable(f"{crystal.misfit} (--accept-misfit takes it all the same)")
-    notes = list(crystal.notes) + ([crystal.misfit] if crystal.misfit else [])
+    notes += [Note(DOUBT, crystal.misfit)] if crystal.misfit else []
     doubts: list[str] = []
     bonds = find_bonds(crystal, options.hydrogen_bonds, options.lengths, doubts)
-    pieces = components(_with_atoms_chosen(crystal, bonds, options, notes))
-    notes += _told_pieces(pieces, {atom.name: atom.site.element for atom in crystal.atoms})
+    chosen = _with_atoms_chosen(crystal, bonds, options, notes)
+    pieces = components(chosen)
     if doubts:
-        notes.append("bonds in doubt: " + shorten("; ".join(doubts)))
+        notes.append(Note(DOUBT, "bonds in doubt: " + shorten("; ".join(doubts))))
     periodic = [piece for piece in pieces if piece.dimension >= 2]
+    if not periodic and options.convention in (AUTO, "standard"):
+        return _nets_of_molecules(crystal, chosen, options, notes)
     if not periodic:
         raise Unreadable("no net: " + (_told_count(pieces) or "all atoms are left out"))
+    notes += _told_pieces(pieces, {atom.name: atom.site.element for atom in crystal.atoms})
     groups = [[p] for p in periodic] if options.every_copy else _alike(periodic, crystal)
-    nets = [_named(crystal, group, k, options) for k, group in enumerate(groups)]
-    return nets, notes
+    return [named for k, group in enumerate(groups) for named in _named(crystal, group, k, options)]
 
 
-def _with_atoms_chosen(crystal: Crystal, bonds: set[Edge], options: Options, notes: list[str]) -> Net:
+def _nets_of_molecules(crystal: Crystal, bonded: Net, options: Options, notes: list[Note]) -> list[NamedNet]:
+    """The nets whose vertices are molecules and whose edges are hydrogen bonds."""
+    number = {name: v for v, name in enumerate(bonded.names)}
+    bridges = {(number[crystal.atoms[u].name], number[crystal.atoms[v].name], shift)
+               for u, v, shift in hydrogen_bridges(crystal)
+               if crystal.atoms[u].name in number and crystal.atoms[v].name in number}
+    molecules = units_of(Net(bonded.names, bonded.edges | bridges), bonded.edges) if bonded.edges else None
+    pieces = components(molecules.net) if molecules and molecules.net.edges else []
+    periodic = [piece for piece in pieces if piece.dimension >= 2]
+    if not periodic:
+        raise Unreadable("no net: " + (_told_count(components(bonded)) or "all atoms are left out"))
+    nets = []
+    for k, group in enumerate([[p] for p in periodic] if options.every_copy else _alike(periodic, crystal)):
+        simple = contracted(group[0].net)
+        told = _told_copies(group) + _told_simplification(simple)
+        made = f"{len(group[0].net.names)} molecules, joined by hydrogen bonds; standard: each molecule is a vertex"
+        name = _name_of(crystal, k) + (" standard" if options.convention == AUTO else "")
+        convention = Note(CONVENTION, "standard: each molecule is a vertex, and hydrogen bonds are edges")
+        nets.append(NamedNet(name, simple.net, group[0].dimension, made, "standard", [convention, *told]))
+    return nets
+
+
+def _with_atoms_chosen(crystal: Crystal, bonds: set[Edge], options: Options, notes: list[Note]) -> Net:
     """The net of all atoms but those to be left out, and the counter-ions of a framework."""
     elements = [atom.site.element for atom in crystal.atoms]
     net = Net([atom.name for atom in crystal.atoms], bonds)
@@ -73,7 +103,7 @@ def _with_atoms_chosen(crystal: Crystal, bonds: set[Edge], options: Options, not
     if not any(piece.dimension == 3 for piece in components(net.part(frame))):
         return net.part(kept)
     ions = Counter(elements[v] for v in kept if elements[v] in COUNTER_IONS)
-    notes.append("left out as counter-ions: " + _told_counter(ions))
+    notes.append(Note(LEFT_OUT, "left out as counter-ions: " + _told_counter(ions)))
     return net.part(frame)
 
 
@@ -88,42 +118,111 @@ def _told_count(pieces: list[Component]) -> str:
     return ", ".join(f"{count} {kind}{'s' if count > 1 else ''}" for kind, count in kinds.items())
 
 
-def _told_pieces(pieces: list[Component], element: dict[str, str]) -> list[str]:
+def _told_pieces(pieces: list[Component], element: dict[str, str]) -> list[Note]:
     small = [p for p in pieces if p.dimension < 2 and any(element[n] != "H" for n in p.net.names)]
-    return ["left out: " + _told_count(small)] if small else []
+    return [Note(LEFT_OUT, "left out: " + _told_count(small))] if small else []
 
 
 def _alike(pieces: list[Component], crystal: Crystal) -> list[list[Component]]:
-    """The pieces by what they are made of: those of the same sites are images of each other."""
-    site = {atom.name: atom.site.label for atom in crystal.atoms}
-    groups: dict[tuple, list[Component]] = {}
+    """The pieces by what they are made of: those of the same sites are images of each other. So are,
+    in a file without symmetry, those of the same elements with the same coordination sequences."""
+    atoms = {atom.name: atom.site for atom in crystal.atoms}
+    by_site: dict[tuple, list[Component]] = {}
     for piece in pieces:
-        made_of = tuple(sorted(site[name] for name in piece.net.names))
-        groups.setdefault((piece.dimension, piece.copies, len(piece.net.edges), made_of), []).append(piece)
+        sites = tuple(sorted(atoms[name].label for name in piece.net.names))
+        by_site.setdefault((piece.dimension, piece.copies, len(piece.net.edges), sites), []).append(piece)
+    if len(by_site) == 1:
+        return list(by_site.values())
+    groups: dict[tuple, list[Component]] = {}
+    for (*numbers, _), group in by_site.items():
+        elements = tuple(sorted(atoms[name].element for name in group[0].net.names))
+        sequences = shells(contracted(group[0].net).net)
+        groups.setdefault((*numbers, elements, sequences), []).extend(group)
     return list(groups.values())
 
 
-def _named(crystal: Crystal, group: list[Component], k: int, options: Options) -> NamedNet:
-    """The first of a group of nets alike, simplified, with what must be told of it."""
-    piece = group[0]
-    name = crystal.name if k == 0 else f"{crystal.name} part {k + 1}"
-    element = {atom.name: atom.site.element for atom in crystal.atoms}
-    core = without_ends(piece.net)
-    notes = _partial_notes(crystal, core, options)
-    simple = contracted(clustered(core, element) if options.clusters else core)
-    count = len(group) * piece.copies
-    if count > 1:
-        notes.append(f"{count} {COPIES[piece.dimension]} alike in the cell, one is written")
+def _name_of(crystal: Crystal, k: int) -> str:
+    return crystal.name if k == 0 else f"{crystal.name} part {k + 1}"
+
+
+def _framework(crystal: Crystal, piece: Component) -> Framework:
+    """The atoms of a piece that are not on its ends, with their places."""
+    atoms = {atom.name: atom for atom in crystal.atoms}
+    places = {name: atoms[name].place + np.array(cell) @ crystal.cell
+              for name, cell in zip(piece.net.names, piece.cells)}
+    return Framework(without_ends(piece.net), {name: atoms[name].site.element for name in piece.net.names},
+                     places, np.array(piece.basis) @ crystal.cell)
+
+
+def _named(crystal: Crystal, group: list[Component], k: int, options: Options) -> list[NamedNet]:
+    """The first of a group of nets alike, by each convention that applies and gives another net,
+    with what must be told of it."""
+    framework = _framework(crystal, group[0])
+    notes = _partial_notes(crystal, framework.net, options) + _told_copies(group)
+    is_auto = options.convention == AUTO
+    nets: list[NamedNet] = []
+    seen: dict[tuple, str] = {}
+    unfit: dict[str, list[str]] = {}
+    for convention in conventions_for(options.convention, framework):
+        try:
+            simple = _read_by(convention, framework, group[0].dimension)
+        except Unreadable as reason:
+            if not is_auto:
+                raise Unreadable(f"{convention.name} does not apply: {reason}") from reason
+            unfit.setdefault(str(reason), []).append(convention.name)
+            continue
+        sequences = shells(simple.net) if is_auto else ()
+        if sequences in seen:
+            text = f"{convention.name}: the net of {seen[sequences]}, by its coordination sequences"
+            notes.append(Note(CONVENTION, text))
+            continue
+        seen[sequences] = convention.name
+        nets.append(_named_by(convention, _name_of(crystal, k), group[0], framework, simple, is_auto))
+    notes += [Note(CONVENTION, f"{' and '.join(names)} {'do' if len(names) > 1 else 'does'} not apply: {reason}")
+              for reason, names in unfit.items()]
+    if not nets:
+        nets = _named(crystal, group, k, replace(options, convention="all-atoms"))
+        notes = notes[len(nets[0].notes):]
+    nets[0].notes = notes + nets[0].notes
+    return nets
+
+
+def _read_by(convention: Convention, framework: Framework, dimension: int) -> Contracted:
+    """The simplified net by a convention; raises Unreadable where it does not apply, or where no net
+    of this dimension is left."""
+    simple = contracted(convention.apply(framework))
+    if [piece.dimension for piece in components(simple.net)] != [dimension]:
+        raise Unreadable("what is left is not one net")
+    return simple
+
+
+def _named_by(convention: Convention, name: str, piece: Component, framework: Framework, simple: Contracted,
+              is_auto: bool) -> NamedNet:
+    edges = Counter(framework.element[n] for n in simple.made_edges)
+    told = f", made edges: {_told_counter(edges)}" if edges and convention.name == "all-atoms" else ""
+    made = f"{len(piece.net.names)} atoms{told}; {convention.name}: {convention.text} ({convention.source})"
+    notes = _told_simplification(simple)
+    if is_auto or convention.name != "all-atoms":
+        notes.insert(0, Note(CONVENTION, f"{convention.name}: {convention.text} ({convention.source})"))
+    return NamedNet(f"{name} {convention.name}" if is_auto else name, simple.net, piece.dimension, made,
+                    convention.name, notes)
+
+
+def _told_copies(group: list[Component]) -> list[Note]:
+    count = len(group) * group[0].copies
+    return [Note(OTHER, f"{count} {COPIES[group[0].dimension]} alike in the cell, one is written")] if count > 1 else []
+
+
+def _told_simplification(simple: Contracted) -> list[Note]:
+    told = []
     if simple.doubled:
-        notes.append(f"{simple.doubled} double edges made one")
+        told.append(Note(OTHER, f"{simple.doubled} double edges made one"))
     if simple.closed:
-        notes.append(f"{simple.closed} rings of one vertex left out")
-    edges = Counter(element.get(n, n.split(" ")[0]) for n in simple.made_edges)
-    made = f"{len(piece.net.names)} atoms" + (f", made edges: {_told_counter(edges)}" if edges else "")
-    return NamedNet(name, simple.net, piece.dimension, made, notes)
+        told.append(Note(OTHER, f"{simple.closed} rings of one vertex left out"))
+    return told
 
 
-def _partial_notes(crystal: Crystal, core: Net, options: Options) -> list[str]:
+def _partial_notes(crystal: Crystal, core: Net, options: Options) -> list[Note]:
     names = set(core.names)
     partial = sorted({f"{a.site.label} {a.occupancy:.2f}" for a in crystal.atoms
                       if a.name in names and a.occupancy < FULL})
@@ -132,4 +231,4 @@ def _partial_notes(crystal: Crystal, core: Net, options: Options) -> list[str]:
     text = "partly occupied atoms of the net: " + shorten(", ".join(partial))
     if not options.partial_as_full:
         raise Unreadable(text + " (--partial-as-full takes them as full)")
-    return [text]
+    return [Note(DISORDER, text)]

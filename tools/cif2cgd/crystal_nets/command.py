@@ -1,42 +1,56 @@
-"""The words of the command line, and what is told of each file."""
+"""The words of the command line, and what is told while files are read."""
 
 from __future__ import annotations
 
 import argparse
+import gc
+import os
 import re
 import signal
 import sys
-from pathlib import Path
+from collections import deque
+from collections.abc import Iterable, Iterator
+from concurrent.futures import Future, ProcessPoolExecutor
+from concurrent.futures.process import BrokenProcessPool
+from itertools import islice
 
 import gemmi
 
-from .cgd import MOST_VERTICES, check_limits, text_of_net
-from .choice import Options, nets_of
-from .refusal import Unreadable
-from .structure import blocks_of, read_crystal
-from .supercell import in_primitive_cell
+from .choice import Options
+from .conventions import AUTO, CONVENTIONS
+from .conversion import Conversion, Source, read_and_convert
+from .files import files_of, sources_of
+from .progress import Progress
 
-DESCRIPTION = """The underlying nets of crystal structures, for net_tool: reads CIF files and writes a block
-PERIODIC_GRAPH for each net to standard output. What a reader should know of a net, and why a
-file gives none, goes to standard error."""
-EPILOG = """exit status: 0 a net of each file was written; 1 of some file none was; 2 usage.
+DESCRIPTION = """The underlying nets of crystal structures, for net_tool: reads CIF files, and all of a folder,
+and writes a block PERIODIC_GRAPH for each net to standard output. What a reader should know of
+a net, and why a file gives none, goes to standard error."""
+EPILOG = """exit status: 0 a net of each file was written; 1 of some file none was; 2 usage, or notes that
+could not be written.
 example: cif2cgd quartz.cif | net_tool identify - --archive common.archive"""
-DONE, SOME_REFUSED = 0, 1
+DONE, SOME_REFUSED, USAGE = 0, 1, 2
+OBJECTS_BETWEEN = 200_000  # that are made until the collector of garbage looks again
+PORTION = 8       # files that a process reads at a time
+PORTIONS_AHEAD = 4  # for each process
 
 
 def words() -> argparse.Namespace:
     parser = argparse.ArgumentParser(
         prog="cif2cgd", description=DESCRIPTION, epilog=EPILOG,
         formatter_class=argparse.RawDescriptionHelpFormatter)
-    parser.add_argument("files", nargs="+", metavar="FILE", help="a CIF file, or - for standard input")
+    parser.add_argument("files", nargs="+", metavar="FILE",
+                        help="a CIF file, a folder of them, or - for standard input")
     parser.add_argument("--leave-out", default=frozenset(), metavar="ELEMENTS", type=elements,
                         help="atoms of no concern, as Na,Cl")
     parser.add_argument("--bond", action="append", default=[], type=pair_and_length, metavar="A-B=LENGTH",
                         help="of these two elements, bonds up to the length and no others (0: none)")
     parser.add_argument("--keep-ions", action="store_true",
                         help="keep Na K Rb Cs Ca Sr Ba beside a framework")
-    parser.add_argument("--clusters", action="store_true",
-                        help="metal parts with their carboxylates, and linkers, are vertices")
+    parser.add_argument("--convention", default="all-atoms", choices=[*CONVENTIONS, AUTO], metavar="NAME",
+                        help="what is a vertex: all-atoms (where none is named), single-nodes, all-nodes, pe, pem, "
+                        "standard; auto gives those that apply and differ")
+    parser.add_argument("--clusters", action="store_const", dest="convention", const="single-nodes",
+                        help="the same as --convention single-nodes")
     parser.add_argument("--hydrogen-bonds", action="store_true",
                         help="hydrogen bonds are edges (in ices they always are)")
     parser.add_argument("--partial-as-full", action="store_true",
@@ -45,6 +59,9 @@ def words() -> argparse.Namespace:
                         help="take atoms that do not fit the formula, or are too near")
     parser.add_argument("--every-copy", action="store_true",
                         help="write each of several nets of the same atoms")
+    parser.add_argument("--jobs", type=number_of_jobs, default=1, metavar="N",
+                        help="read files in N processes; what is written is the same (0: one a processor)")
+    parser.add_argument("--notes", metavar="FILE", help="write what is told as JSON, one line a file")
     parser.add_argument("--quiet", action="store_true", help="tell only why a file gives no net")
     return parser.parse_args()
 
@@ -70,58 +87,80 @@ def pair_and_length(text: str) -> tuple[frozenset[str], float]:
     return frozenset(found.group(1, 2)), float(found[3])
 
 
+def number_of_jobs(text: str) -> int:
+    if not re.fullmatch(r"\d{1,4}", text, re.ASCII):
+        raise argparse.ArgumentTypeError(f"{text!r} is no number of processes")
+    return int(text) or len(os.sched_getaffinity(0))
+
+
 def options_of(asked: argparse.Namespace) -> Options:
     return Options(
         leave_out=asked.leave_out, lengths=dict(asked.bond),
         keep_ions=asked.keep_ions, hydrogen_bonds=asked.hydrogen_bonds,
         partial_as_full=asked.partial_as_full, accept_misfit=asked.accept_misfit,
-        every_copy=asked.every_copy, clusters=asked.clusters)
+        every_copy=asked.every_copy, convention=asked.convention)
 
 
 def main() -> int:
     signal.signal(signal.SIGPIPE, signal.SIG_DFL)  # a reader that stops, as head, is no fault
     signal.signal(signal.SIGINT, signal.SIG_DFL)
+    gc.set_threshold(OBJECTS_BETWEEN)
     asked = words()
-    options = options_of(asked)
-    return max([convert_file(file, options, asked.quiet) for file in asked.files])
-
-
-def convert_file(file: str, options: Options, quiet: bool) -> int:
-    """Writes the nets of a file; 1 where it, or one of its blocks, has none."""
-    path = Path("stdin" if file == "-" else file)
+    sources = sources_of(list(files_of(asked.files)))
     try:
-        content = sys.stdin.buffer.read() if file == "-" else path.read_bytes()
-        blocks = blocks_of(content, path.stem)
+        notes = open(asked.notes, "w", encoding="utf-8") if asked.notes else None
     except OSError as error:
-        return refuse(path.name, f"not readable: {error.strerror}")
-    except Unreadable as reason:
-        return refuse(path.name, str(reason))
-    status = DONE
-    for name, block in blocks:
-        try:
-            convert(name, block, path.name, options, quiet)
-        except Unreadable as reason:
-            status = refuse(path.name if len(blocks) == 1 else f"{path.name} {block.name}", str(reason))
-        except Exception as fault:  # of cif2cgd itself, or of a library: the next file may still be read
-            status = refuse(path.name, f"cif2cgd failed: {type(fault).__name__} {fault}")
+        print(f"cif2cgd: {asked.notes}: not writable: {error.strerror}", file=sys.stderr)
+        return USAGE
+    with Progress(len(sources)) as progress:
+        status = DONE
+        for done in conversions(sources, options_of(asked), asked.jobs):
+            progress.tell(done.told(refusals_alone=asked.quiet))
+            sys.stdout.buffer.write(done.text.encode())
+            if notes:
+                print(done.json_line(), file=notes)
+            status = SOME_REFUSED if done.is_refused else status
+            progress.step(done.is_refused)
+    if notes:
+        notes.close()
+    if not sources:
+        print("cif2cgd: no structure files in " + " ".join(asked.files), file=sys.stderr)
+        return SOME_REFUSED
     return status
 
 
-def refuse(what: str, reason: str) -> int:
-    print(f"{what or '.'}: refused: {' '.join(reason.split())}", file=sys.stderr)
-    return SOME_REFUSED
+def conversions(sources: list[Source], options: Options, jobs: int) -> Iterator[Conversion]:
+    """What became of the files, in their order."""
+    stdin = sys.stdin.buffer.read() if any(source.path == "-" for source in sources) else b""
+    if jobs == 1 or len(sources) == 1:
+        yield from convert_portion(sources, options, stdin)
+        return
+    rest = iter(sources)
+    portions = iter(lambda: list(islice(rest, PORTION)), [])
+    with ProcessPoolExecutor(jobs) as pool:
+        ahead: deque[tuple[list[Source], Future]] = deque()
+        for portion in portions:
+            ahead.append((portion, pool.submit(convert_all, portion, options, stdin)))
+            if len(ahead) >= jobs * PORTIONS_AHEAD:
+                yield from result_of(*ahead.popleft())
+        while ahead:
+            yield from result_of(*ahead.popleft())
 
 
-def convert(name: str, block: gemmi.cif.Block, source: str, options: Options, quiet: bool) -> None:
-    """Writes the nets of one crystal, once all of them are known to be within the limits."""
-    crystal = read_crystal(block, name)
-    nets, notes = nets_of(crystal, options)
-    if any(len(named.net.names) > MOST_VERTICES for named in nets):
-        nets, notes = nets_of(in_primitive_cell(crystal), options)
-    for named in nets:
-        check_limits(named)
-    told = [f"{source}: {note}" for note in notes]
-    told += [f'{source}: net "{named.name}": {note}' for named in nets for note in named.notes]
-    if told and not quiet:
-        print("\n".join(told), file=sys.stderr)
-    sys.stdout.buffer.write("".join(text_of_net(named, source) for named in nets).encode())
+def convert_portion(sources: Iterable[Source], options: Options, stdin: bytes) -> Iterator[Conversion]:
+    return (read_and_convert(source, options, stdin) for source in sources)
+
+
+def convert_all(sources: list[Source], options: Options, stdin: bytes) -> list[Conversion]:
+    return list(convert_portion(sources, options, stdin))
+
+
+def result_of(portion: list[Source], future: Future) -> list[Conversion]:
+    """The conversions of a portion; where its process was ended from outside, that is their refusal."""
+    try:
+        return future.result()
+    except BrokenProcessPool:
+        ended = [Conversion(source) for source in portion]
+        for done in ended:
+            done.refuse(done.source.label, "a process of cif2cgd was ended from outside; ask for fewer --jobs")
+        return ended

@@ -13,6 +13,8 @@ class Component:
     net: Net        # connected, with shifts in a basis of its own translations
     dimension: int  # 0 a molecule, 1 a rod, 2 a layer, 3 a net in space
     copies: int     # how many translates of it the lattice of the crystal makes, in dimension 3
+    basis: list[Vector]  # of its translations, in the basis of the crystal
+    cells: list[Vector]  # of each vertex: the cell of the crystal that it is in
 
 
 def components(net: Net) -> list[Component]:
@@ -26,16 +28,22 @@ def rank_and_walks(net: Net) -> tuple[int, list[Vector]]:
     return len(staircase(_closed_shifts(net, cell).values())), cell
 
 
+def lattice_of_walks(net: Net) -> list[Vector]:
+    """Of a connected quotient graph the staircase basis of the shifts of closed walks."""
+    return staircase(_closed_shifts(net, walks(net)).values())
+
+
 def _closed_shifts(net: Net, cell: list[Vector]) -> dict[Edge, Vector]:
     """For each edge the shift of the closed walk along it."""
     return {(u, v, s): subtract(add(cell[u], s), cell[v]) for u, v, s in net.edges}
 
 
 def _component(net: Net) -> Component:
-    closed = _closed_shifts(net, walks(net))
+    cells = walks(net)
+    closed = _closed_shifts(net, cells)
     basis = staircase(closed.values())
     dimension = len(basis)
     copies = index(basis) if dimension == 3 else 1
     if dimension == 3 and copies == 1:
-        return Component(net, 3, 1)
-    return Component(mapped(net, lambda e: coordinates(closed[e], basis)), dimension, copies)
+        return Component(net, 3, 1, basis, [(0, 0, 0)] * len(cells))
+    return Component(mapped(net, lambda e: coordinates(closed[e], basis)), dimension, copies, basis, cells)

@@ -46,7 +46,8 @@ def _is_w_of_water(label: str, formula: dict[str, float]) -> bool:
 def _reading(text: str, formula: dict[str, float]) -> str:
     """The element that the letters at the start are. Of two readings, as CO1 for cobalt or
     carbon, the one that the formula has, and else the longer one."""
-    letters = re.match(r"[A-Za-z]*", text.strip()).group()
+    found = re.match(r"[A-Za-z]*", text.strip())
+    letters = found.group() if found else ""
     readings = [e for e in (letters[:2].capitalize(), letters[:1].upper())
                 if e and gemmi.Element(e).atomic_number > 0]
     return next((e for e in readings if e in formula), readings[0] if readings else "")

@@ -8,15 +8,15 @@ Vector = tuple[int, ...]
 
 
 def add(u: Sequence[int], v: Sequence[int]) -> Vector:
-    return tuple(x + y for x, y in zip(u, v))
+    return tuple([x + y for x, y in zip(u, v)])
 
 
 def subtract(u: Sequence[int], v: Sequence[int]) -> Vector:
-    return tuple(x - y for x, y in zip(u, v))
+    return tuple([x - y for x, y in zip(u, v)])
 
 
 def negate(u: Sequence[int]) -> Vector:
-    return tuple(-x for x in u)
+    return tuple([-x for x in u])
 
 
 def pivot_place(v: Sequence[int]) -> int:

@@ -126,3 +126,19 @@ def walks(net: Net) -> list[Vector]:
 def mapped(net: Net, change: Callable[[Edge], Vector]) -> Net:
     """The net with other shifts."""
     return Net(net.names, {edge(u, v, change((u, v, s))) for u, v, s in net.edges})
+
+
+def shells(net: Net, most: int = 8) -> tuple[tuple[int, ...], ...]:
+    """The coordination sequences of the vertices, up to some shell, each sequence once."""
+    arcs = net.arcs()
+    found = set()
+    for start in range(len(net.names)):
+        before: set[tuple[int, Vector]] = set()
+        shell = {(start, (0,) * len(s)) for _, s in arcs[start][:1]}
+        sizes = []
+        for _ in range(most):
+            following = {(w, add(cell, s)) for v, cell in shell for w, s in arcs[v]} - shell - before
+            before, shell = shell, following
+            sizes.append(len(shell))
+        found.add(tuple(sizes))
+    return tuple(sorted(found))

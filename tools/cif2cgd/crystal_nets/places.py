@@ -7,26 +7,29 @@ import re
 import numpy as np
 from scipy.spatial import cKDTree
 
-from .crystal import FULL, Atom, Crystal, Site, shorten
+from .crystal import FULL, Atom, Crystal, Site
+from .notes import OTHER, Note, shorten
 from .symmetry import Symmetry
 
 SAME_PLACE = 0.1  # angstrom: images nearer than this are one atom on a symmetry element
 ONE_PLACE = 0.3   # angstrom: atoms of several sites nearer than this are in one place
 
 
-def images_of(site: Site, symmetry: Symmetry, cell: np.ndarray, to_angstrom: np.ndarray) -> list[Atom]:
-    """The images of a site in one primitive cell, those in one place taken once."""
-    images = symmetry.rotations @ site.place + symmetry.translations
-    fractions = images @ to_angstrom @ np.linalg.inv(cell)
+def images_of(site: Site, symmetry: Symmetry, cell: np.ndarray, to_cell: np.ndarray) -> list[Atom]:
+    """The images of a site in one primitive cell, those in one place taken once. The matrix leads
+    from fractions of the cell of the file to those of the primitive cell."""
+    fractions = (symmetry.rotations @ site.place + symmetry.translations) @ to_cell
     fractions -= np.floor(fractions + 1e-6)
     steps = fractions[:, None, :] - fractions[None, :, :]
-    steps -= np.round(steps)
-    is_near = np.linalg.norm(steps @ cell, axis=2) < SAME_PLACE
+    steps -= np.rint(steps)
+    steps = steps @ cell
+    is_near = np.einsum("ijk,ijk->ij", steps, steps) < SAME_PLACE ** 2
     is_free = np.ones(len(fractions), dtype=bool)
     atoms = []
-    for k, fraction in enumerate(fractions):
+    for k, place in enumerate(fractions @ cell):
         if is_free[k]:
-            atoms.append(Atom(site, fraction @ cell, site.label, {site.element: site.occupancy}))
+            images = tuple(np.flatnonzero(is_near[k]).tolist())
+            atoms.append(Atom(site, place, site.label, {site.element: site.occupancy}, images))
             is_free &= ~is_near[k]
     return atoms
 
@@ -46,7 +49,7 @@ def take_once(crystal: Crystal) -> None:
             atoms[0].content = _shared_content(atoms)
     crystal.atoms = kept
     if told:
-        crystal.notes.append("in one place, taken as one atom: " + shorten("; ".join(sorted(told))))
+        crystal.notes.append(Note(OTHER, "in one place, taken as one atom: " + shorten("; ".join(sorted(told)))))
 
 
 def _shared_content(atoms: list[Atom]) -> dict[str, float]:

@@ -44,14 +44,19 @@ def _too_near(crystal: Crystal) -> str:
 
 
 def _other_proportions(crystal: Crystal, formula: dict[str, float]) -> str:
-    """What the cell has, where the formula has the elements in other proportions."""
+    """What the cell has, where the formula has the elements in other proportions. The atoms are
+    counted as they are listed, and with repeats once; either may be what the formula means."""
     counts: dict[str, float] = {}
     for atom in crystal.atoms:
         for element, part in atom.content.items():
             counts[element] = counts.get(element, 0.0) + part
+    if _fits(counts, formula) or _fits(crystal.listed, formula):
+        return ""
+    found = " ".join(f"{e}{counts[e]:g}" for e in counts)
+    wanted = " ".join(f"{e}{formula[e]:g}" for e in formula)
+    return f"the cell has {found}, the formula {wanted}"
+
+
+def _fits(counts: dict[str, float], formula: dict[str, float]) -> bool:
     ratios = [counts[e] / formula[e] for e in counts if e != "H" and formula.get(e, 0.0) > 0]
-    if len(ratios) > 1 and max(ratios) > MOST_MISFIT * min(ratios):
-        found = " ".join(f"{e}{counts[e]:g}" for e in counts)
-        wanted = " ".join(f"{e}{formula[e]:g}" for e in formula)
-        return f"the cell has {found}, the formula {wanted}"
-    return ""
+    return len(ratios) < 2 or max(ratios) <= MOST_MISFIT * min(ratios)

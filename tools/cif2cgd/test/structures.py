@@ -87,8 +87,8 @@ def presentations(structure: Structure) -> dict[str, str]:
     """The CIF texts of a structure, by what sort of presentation they are."""
     group = gemmi.find_spacegroup_by_name(structure.group)
     operations = [op.triplet() for op in group.operations()]
-    return {"published": _text(structure.cell, structure.sites, operations=operations),
-            "name": _text(structure.cell, structure.sites, name=group.xhm()),
+    return {"published": cif_text(structure.cell, structure.sites, operations=operations),
+            "name": cif_text(structure.cell, structure.sites, name=group.xhm()),
             "plain": _without_symmetry(structure, group.operations())}
 
 
@@ -97,7 +97,7 @@ def _without_symmetry(structure: Structure, group: gemmi.GroupOps) -> str:
     chance = random.Random(structure.name)
     cell = gemmi.UnitCell(*structure.cell)
     edges = np.array(cell.orthogonalization_matrix.tolist()).T
-    atoms = [(site, place) for site in structure.sites for place in _images(site, group, edges)]
+    atoms = [(site, place) for site in structure.sites for place in images_of(site, group, edges)]
     times = 2 if len(atoms) < 300 else 1
     basis = np.array([[0, 1, 0], [1, 1, 0], [0, chance.choice((-1, 0, 1)), times]])
     moved = np.array([chance.random() for _ in range(3)])
@@ -107,10 +107,10 @@ def _without_symmetry(structure: Structure, group: gemmi.GroupOps) -> str:
             fraction = (place + moved + np.array([0, 0, n])) @ np.linalg.inv(basis)
             sites.append((f"{site[1]}{k}x{n}", site[1], *(fraction - np.floor(fraction)), *site[5:]))
     chance.shuffle(sites)
-    return _text(_lengths_and_angles(basis @ edges), sites, operations=["x,y,z"])
+    return cif_text(lengths_and_angles(basis @ edges), sites, operations=["x,y,z"])
 
 
-def _images(site: tuple, group: gemmi.GroupOps, edges: np.ndarray) -> list[np.ndarray]:
+def images_of(site: tuple, group: gemmi.GroupOps, edges: np.ndarray) -> list[np.ndarray]:
     """The images of a site in the cell, each once."""
     kept: list[np.ndarray] = []
     for op in group:
@@ -121,13 +121,13 @@ def _images(site: tuple, group: gemmi.GroupOps, edges: np.ndarray) -> list[np.nd
     return kept
 
 
-def _lengths_and_angles(edges: np.ndarray) -> list[float]:
+def lengths_and_angles(edges: np.ndarray) -> list[float]:
     lengths = np.linalg.norm(edges, axis=1)
     cosines = [edges[i] @ edges[j] / lengths[i] / lengths[j] for i, j in ((1, 2), (0, 2), (0, 1))]
     return [*lengths, *np.degrees(np.arccos(cosines))]
 
 
-def _text(cell, sites, operations=(), name="") -> str:
+def cif_text(cell, sites, operations=(), name="") -> str:
     """A CIF file of one block."""
     tags = ("length_a", "length_b", "length_c", "angle_alpha", "angle_beta", "angle_gamma")
     lines = ["data_global"] + [f"_cell_{tag} {value:.5f}" for tag, value in zip(tags, cell)]

@@ -1,12 +1,16 @@
 """The command cif2cgd on whole files: published structures, real files, and broken ones."""
 
 import glob
+import json
+import os
+import pty
 import random
 import re
+import subprocess
 
 from testing import PROGRAM, TOOLS, TOP, FolderTest, IS_LONG, need_modules, need_program, run
 
-need_modules("gemmi", "numpy", "scipy", "spglib")
+need_modules("gemmi", "numpy", "scipy")
 from structures import STRUCTURES, presentations  # noqa: E402
 
 COMMAND = TOOLS / "cif2cgd/cif2cgd"
@@ -78,11 +82,11 @@ class Words(FolderTest):
 
     def test_no_bonds_no_net(self):
         done = run(COMMAND, "--bond", "Cs-Cl=0", self.file, status=1)
-        self.assertEqual(done.stderr, b"caesium chloride.cif: refused: no net: 2 single atoms\n")
+        self.assertIn(b"\ncaesium chloride.cif: refused: no net: 2 single atoms\n", done.stderr)
 
     def test_elements_left_out(self):
         done = run(COMMAND, "--leave-out", "Cs,Cl", self.file, status=1)
-        self.assertEqual(done.stderr, b"caesium chloride.cif: refused: no net: all atoms are left out\n")
+        self.assertIn(b"\ncaesium chloride.cif: refused: no net: all atoms are left out\n", done.stderr)
 
     def test_a_refused_file_does_not_hide_the_next(self):
         done = run(COMMAND, self.folder / "absent.cif", self.file, status=1)
@@ -97,18 +101,6 @@ class Words(FolderTest):
     def test_atoms_too_near_are_refused(self):
         self.file.write_text(CAESIUM_CHLORIDE.replace("0.5 0.5 0.5", "0.2 0 0"))
         self.assertIn(b"angstrom apart (--accept-misfit", run(COMMAND, self.file, status=1).stderr)
-
-    def test_of_a_disordered_atom_the_first_group_is_taken(self):
-        text = (TOP / "examples/quartz.cif").read_text()
-        text = text.replace("fract_z\n", "fract_z\n_atom_site_occupancy\n_atom_site_disorder_group\n")
-        text = text.replace("0.66667", "0.66667 1 .").replace("O1 O 0.4133 0.2672 0.7855",
-                                                             "O1A O 0.4133 0.2672 0.7855 0.6 1\n"
-                                                             "O1B O 0.4133 0.3500 0.8500 0.4 2")
-        self.file.write_text(text)
-        done = run(COMMAND, self.file)
-        self.assertIn(b"disorder: the first group is taken, and left out are O1B\n", done.stderr)
-        whole = run(COMMAND, TOP / "examples/quartz.cif").stdout
-        self.assertEqual(done.stdout.split(b"EDGES")[1], whole.split(b"EDGES")[1])
 
     def test_an_origin_that_is_not_told_is_the_one_with_fewer_atoms(self):
         for structure in STRUCTURES:
@@ -127,6 +119,72 @@ class Words(FolderTest):
         done = run(COMMAND, self.file)
         self.assertIn(b"the coordinates fit P n -3 m:1, not the symmetry that is given", done.stderr)
         self.assertIn(b"2 interwoven nets alike", done.stderr)
+
+
+class ManyFiles(FolderTest):
+    def setUp(self):
+        super().setUp()
+        for place in ("a/one", "a/two", "b/one", "b/c/one", "bad"):
+            file = self.folder / f"{place}.cif"
+            file.parent.mkdir(parents=True, exist_ok=True)
+            file.write_text("data_x\n" if place == "bad" else CAESIUM_CHLORIDE)
+        (self.folder / "a/notes.txt").write_text("no structure")
+
+    def test_a_folder_in_several_processes(self):
+        for number in range(40):
+            (self.folder / f"b/{number}.cif").write_text(CAESIUM_CHLORIDE.replace("4.12", f"4.{number + 10}"))
+        alone = run(COMMAND, self.folder, status=1)
+        self.assertEqual(alone.stdout.count(b"PERIODIC_GRAPH"), 44)
+        for jobs in (2, 3, 0):
+            several = run(COMMAND, "--jobs", jobs, self.folder, status=1)
+            self.assertEqual((several.stdout, several.stderr), (alone.stdout, alone.stderr))
+
+    def test_names_keep_the_folder_where_two_stems_agree(self):
+        names = re.findall(rb'(?m)^NAME "(.*)"', run(COMMAND, self.folder, status=1).stdout)
+        self.assertEqual(names, [b"a/one", b"two", b"b/one", b"c/one"])
+
+    def test_notes_as_json(self):
+        file = self.folder / "notes"
+        run(COMMAND, "--notes", file, "--jobs", 2, self.folder, status=1)
+        notes = [json.loads(line) for line in file.read_text().splitlines()]
+        self.assertEqual([note["file"] for note in notes],
+                         [str(self.folder / f"{name}.cif") for name in ("bad", "a/one", "a/two", "b/one", "b/c/one")])
+        self.assertEqual(notes[0]["refused"], ["no atoms with fractional coordinates"])
+        self.assertEqual(notes[0]["nets"], [])
+        net, = notes[2]["nets"]
+        self.assertEqual({key: net[key] for key in ("name", "convention", "dimension", "vertices", "edges")},
+                         {"name": "two", "convention": "all-atoms", "dimension": 3, "vertices": 2, "edges": 8})
+        self.assertEqual(notes[2]["notes"], ["symmetry from name P m -3 m"])
+        self.assertEqual((notes[2]["doubts"], notes[2]["left_out"], notes[2]["refused"]), ([], [], []))
+
+    def test_notes_that_cannot_be_written(self):
+        self.assertIn(b"not writable", run(COMMAND, "--notes", self.folder, self.folder, status=2).stderr)
+
+    def test_a_folder_without_structure_files(self):
+        empty = self.folder / "empty"
+        empty.mkdir()
+        self.assertIn(b"no structure files in", run(COMMAND, empty, status=1).stderr)
+
+    def test_a_bar_on_a_terminal_alone(self):
+        for number in range(30):
+            (self.folder / f"{number}.cif").write_text(CAESIUM_CHLORIDE)
+        self.assertNotIn(b"\r", run(COMMAND, self.folder, status=1).stderr)
+        terminal, end = pty.openpty()
+        with subprocess.Popen([COMMAND, "--quiet", self.folder], stdout=subprocess.DEVNULL, stderr=end) as process:
+            os.close(end)
+            told = b""
+            while True:
+                try:
+                    part = os.read(terminal, 4096)
+                except OSError:  # the other end is closed
+                    break
+                if not part:
+                    break
+                told += part
+        os.close(terminal)
+        self.assertEqual(process.returncode, 1)
+        self.assertRegex(told, rb"\[#+ *\] \d+/35 files, 1 refused, \d+ s to go")
+        self.assertTrue(told.endswith(b"\r\x1b[K"))
 
 
 class RealFiles(FolderTest):
@@ -156,9 +214,10 @@ class RealFiles(FolderTest):
             content = broken(open(chance.choice(AVOGADRO), "rb").read(), chance)
             files.append(self.folder / f"{k}.cif")
             files[-1].write_bytes(content)
-        done = run(COMMAND, "--accept-misfit", "--partial-as-full", *files, status=None, seconds=1200)
-        self.assertIn(done.returncode, (0, 1))
-        self.assert_no_fault(done.stderr)
+        for words in (["--accept-misfit", "--partial-as-full"], ["--convention", "auto"]):
+            done = run(COMMAND, *words, *files, status=None, seconds=1200)
+            self.assertIn(done.returncode, (0, 1))
+            self.assert_no_fault(done.stderr)
 
     def assert_no_fault(self, told: bytes):
         self.assertNotIn(b"Traceback", told)
@@ -177,10 +236,10 @@ class OtherFiles(FolderTest):
         files = [self.folder / f"{k}.cif" for k in range(len(contents))]
         for file, content in zip(files, contents):
             file.write_bytes(content)
-        told = run(COMMAND, *files, self.folder, status=1).stderr.decode()
+        told = run(COMMAND, *files, status=1).stderr.decode()
         self.assertNotIn("Traceback", told)
         self.assertNotIn("cif2cgd failed", told)
-        self.assertEqual(told.count(": refused: "), len(contents) + 1, told)
+        self.assertEqual(told.count(": refused: "), len(contents), told)
 
 
 def broken(content: bytes, chance: random.Random) -> bytes:

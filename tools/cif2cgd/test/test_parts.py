@@ -5,13 +5,15 @@ import unittest
 
 from testing import TOOLS, need_modules
 
-need_modules("gemmi", "numpy", "scipy", "spglib")
+need_modules("gemmi", "numpy", "scipy")
 sys.path.insert(0, str(TOOLS / "cif2cgd"))
 from crystal_nets.bonds import first_gap  # noqa: E402
 from crystal_nets.components import components  # noqa: E402
 from crystal_nets.elements import element_of, elements_of_formula  # noqa: E402
 from crystal_nets.lattice import coordinates, index, staircase  # noqa: E402
 from crystal_nets.net import Net, contracted, edge, without_ends  # noqa: E402
+from crystal_nets.translations import divided_by_translations  # noqa: E402
+from crystal_nets.units import parts_of, ring_edges  # noqa: E402
 
 X, Y, Z = (1, 0, 0), (0, 1, 0), (0, 0, 1)
 
@@ -53,6 +55,49 @@ class Nets(unittest.TestCase):
 
     def test_rod_of_bridges_stays(self):
         self.assertEqual(contracted(net((0, 1, (0, 0, 0)), (1, 0, X))).net.edges, {(0, 0, X)})
+
+
+class Parts(unittest.TestCase):
+    def parts(self, elements: str, *bonds):
+        """Which atoms are donors, centres of anions, and small anions, of a net by its elements and bonds."""
+        names = [f"{element}{k}" for k, element in enumerate(elements.split())]
+        zero = (0, 0, 0)
+        found = parts_of(Net(names, {edge(u, v, zero) for u, v in bonds}), dict(zip(names, elements.split())))
+        return found.donors, found.centres, found.small_anions
+
+    def test_carboxylates_phosphonates_and_sulfonates_belong_to_metals(self):
+        for centre in ("C", "P", "S"):
+            bonds = ((0, 2), (1, 3), (2, 4), (3, 4), (4, 5), (5, 6))
+            self.assertEqual(self.parts(f"Zn Zn O O {centre} C C", *bonds), ({2, 3}, {4}, set()), centre)
+
+    def test_oxalate_squarate_and_formate_are_linkers(self):
+        oxalate = ((0, 2), (0, 3), (2, 4), (3, 5), (4, 5), (4, 6), (5, 7), (6, 1), (7, 1))
+        self.assertEqual(self.parts("Fe Fe O O C C O O", *oxalate), (set(), set(), {2, 3, 4, 5, 6, 7}))
+        squarate = [(4 + k, 4 + (k + 1) % 4) for k in range(4)] + [(4 + k, 8 + k) for k in range(4)]
+        squarate += [(k, 8 + k) for k in range(4)]
+        self.assertEqual(self.parts("Zn Zn Zn Zn C C C C O O O O", *squarate)[2], set(range(4, 12)))
+        self.assertEqual(self.parts("Zn O C O Zn", (0, 1), (1, 2), (2, 3), (3, 4))[2], {1, 2, 3})
+
+    def test_rings_of_linkers_and_not_of_pores(self):
+        def ring(size):
+            return Net([str(k) for k in range(size)], {edge(k, (k + 1) % size, (0, 0, 0)) for k in range(size)})
+
+        self.assertEqual(len(ring_edges(ring(6), set(range(6)))), 6)
+        self.assertEqual(len(ring_edges(ring(16), set(range(16)))), 16)
+        self.assertEqual(ring_edges(ring(18), set(range(18))), set())
+        self.assertEqual(ring_edges(net((0, 1, (0, 0, 0)), (0, 1, X), (0, 1, Y)), {0, 1}), set(net(
+            (0, 1, (0, 0, 0)), (0, 1, X), (0, 1, Y)).edges))
+
+
+class Translations(unittest.TestCase):
+    def test_a_net_in_a_larger_cell_comes_to_its_own(self):
+        cubic = net((0, 1, (0, 0, 0)), (1, 0, X), (0, 0, Y), (1, 1, Y), (0, 0, Z), (1, 1, Z))
+        divided = divided_by_translations(cubic)
+        self.assertEqual((len(divided.names), len(divided.edges)), (1, 3))
+
+    def test_a_net_without_other_translations_stays(self):
+        diamond = net((0, 1, (0, 0, 0)), (0, 1, X), (0, 1, Y), (0, 1, Z))
+        self.assertEqual(divided_by_translations(diamond).edges, diamond.edges)
 
 
 class Components(unittest.TestCase):
