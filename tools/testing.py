@@ -20,7 +20,7 @@ TOP = TOOLS.parent
 PROGRAM = os.environ.get("NET_TOOL", str(TOP / "crates/net_tool/out/net_tool"))
 IS_LONG = os.environ.get("TOOLS_LONG") == "1"
 PACKAGES = {"gemmi": "python3-gemmi", "numpy": "python3-numpy", "scipy": "python3-scipy",
-            "spglib": "python3-spglib", "parallel": "parallel", "slurmctld": "slurm-wlm",
+            "parallel": "parallel", "slurmctld": "slurm-wlm",
             "munged": "munge", "rsvg-convert": "librsvg2-bin", "chromium": "chromium",
             "mandoc": "mandoc", "lintian": "lintian", "debootstrap": "debootstrap",
             "dpkg-deb": "dpkg", "objdump": "binutils", "strip": "binutils", "bash": "bash"}

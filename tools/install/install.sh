@@ -21,18 +21,21 @@ program=${2:-$top/crates/net_tool/out/net_tool}
 [ -x "$program" ] || fail "$program is not there; ./net_tool builds it"
 
 share=$to/share/net_tool
-commands="cif2cgd/cif2cgd pictures/draw_nets pictures/net_gallery batch/split_nets batch/key_piece batch/net_rows
-batch/net_groups batch/net_names batch/accepted_nets batch/archive_nets"
+commands="tools/cif2cgd/cif2cgd tools/cgd2net/cgd2net tools/cgd2net/make_archives archives/take_rcsr
+tools/pictures/draw_nets tools/pictures/net_gallery tools/batch/split_nets tools/batch/key_piece tools/batch/net_rows
+tools/batch/net_groups tools/batch/net_names tools/batch/name_nets tools/batch/accepted_nets tools/batch/archive_nets
+tools/batch/archive_files"
 
 install -D -m 755 -- "$program" "$to/bin/net_tool"
 install -d -- "$share/archives" "$share/examples" "$to/share/doc/net_tool" "$to/share/man/man1"
 install -m 644 -- "$top"/archives/*.archive "$share/archives"
+install -m 755 -- "$top/archives/take_rcsr" "$share/archives"
 install -m 644 -- "$top"/examples/*.c?? "$share/examples"
 install -m 644 -- "$top/README.md" "$top/docs/FORMATS.md" "$to/share/doc/net_tool"
 install -D -m 644 -- "$top/tools/install/net_tool.bash" "$to/share/bash-completion/completions/net_tool"
 
 # The tools keep their layout, since they find their modules beside them; bin has links to those that are commands.
-(cd "$top/tools" && find cif2cgd pictures batch -name test -prune -o -name __pycache__ -prune -o -type f -print) |
+(cd "$top/tools" && find cif2cgd cgd2net pictures batch -name test -prune -o -name __pycache__ -prune -o -type f -print) |
     while read -r file; do
         mode=644
         [ ! -x "$top/tools/$file" ] || mode=755
@@ -43,7 +46,7 @@ install -D -m 644 -- "$top/tools/install/net_tool.bash" "$to/share/bash-completi
         esac
     done
 for command in $commands; do
-    ln -sf -- "../share/net_tool/tools/$command" "$to/bin/$(basename -- "$command")"
+    ln -sf -- "../share/net_tool/$command" "$to/bin/$(basename -- "$command")"
 done
 
 for page in "$top"/docs/*.1 "$top"/tools/*/*.1; do
@@ -52,8 +55,9 @@ done
 for command in $commands; do
     name=$(basename -- "$command")
     case $command in
-    batch/*) ln -sf -- net_batch.1.gz "$to/share/man/man1/$name.1.gz" ;;
-    pictures/net_gallery) ln -sf -- draw_nets.1.gz "$to/share/man/man1/$name.1.gz" ;;
+    tools/batch/*) ln -sf -- net_batch.1.gz "$to/share/man/man1/$name.1.gz" ;;
+    tools/pictures/net_gallery) ln -sf -- draw_nets.1.gz "$to/share/man/man1/$name.1.gz" ;;
+    tools/cgd2net/make_archives | archives/take_rcsr) ln -sf -- cgd2net.1.gz "$to/share/man/man1/$name.1.gz" ;;
     esac
 done
 echo "installed under $to; try: net_tool identify $1/share/net_tool/examples/mystery.cgd" \

@@ -23,6 +23,7 @@ root=$(mktemp -d)
 trap 'rm -rf -- "$root"' EXIT
 chmod 755 "$root"
 DESTDIR=$root "$here/install.sh" /usr "$program" >/dev/null
+rm -f -- "$root"/usr/share/net_tool/archives/rcsr*.archive  # what its owner made is not ours to give
 strip --strip-unneeded --remove-section=.comment "$root/usr/bin/net_tool"
 mv "$root/usr/share/doc/net_tool" "$root/usr/share/doc/$name"
 
@@ -38,7 +39,7 @@ Installed-Size: $(du -sk "$root/usr" | cut -f 1)
 Section: science
 Priority: optional
 Depends: libc6 (>= ${libc:-2.34}), python3
-Recommends: python3-gemmi, python3-numpy, python3-scipy, python3-spglib
+Recommends: python3-gemmi, python3-numpy, python3-scipy
 Suggests: librsvg2-bin, parallel, slurm-client
 Description: tell whether crystal structures have the same underlying net
  net_tool places crystal nets, gives them keys that are equal exactly where

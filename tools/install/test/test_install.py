@@ -60,7 +60,7 @@ class Installed(FolderTest):
         self.assertEqual(len(rows), names)
 
     def test_tools_with_packages(self):
-        need_modules("gemmi", "numpy", "scipy", "spglib")
+        need_modules("gemmi", "numpy", "scipy")
         self.in_shell("cif2cgd --help")
         self.in_shell(f"net_tool identify {self.share}/examples/dia.cgd | draw_nets --svg {self.folder}")
         self.assertEqual(len(list(self.folder.glob("*.svg"))), 1)
