@@ -35,6 +35,8 @@ class Maps(FolderTest):
         known = nets_of_report(run(PROGRAM, "key", COMMON).stdout.splitlines(keepends=True))
         found = set()
         for net, block in zip(known, blocks):
+            if int(net.graph[b"vertices"]) > 256:  # whose covers have more vertices than a block may
+                continue
             covers = [run(PROGRAM, "cover", f"--cell={cell}", stdin=block).stdout for cell in CELLS[net.graph[b"d"]]]
             maps = run(PROGRAM, "same", stdin=block + b"".join(covers)).stdout
             self.assertNotIn(b" different\n", maps, net.name)
