@@ -9,6 +9,12 @@
 # TOOLS is the folder of key_piece, given since Slurm runs a copy of this script. Of 16 tasks each takes every 16th
 # piece: starting a task costs Slurm about as long as a piece takes. Where a task failed, the same command again does
 # what is missing and nothing else.
+case ${1:-} in
+-h | --help)
+    sed -n '/^# The rows/,/^[^#]/{/^#/s/^# //p}' "$0"
+    exit 0
+    ;;
+esac
 set -eu
 tools=$1 folder=$2
 shift 2

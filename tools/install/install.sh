@@ -1,6 +1,7 @@
 #!/bin/sh
 # install.sh PREFIX [PROGRAM]: puts net_tool, its manual pages, archives, examples, the tools beside it and the
-# completion of bash under PREFIX. PROGRAM is the built program; where it is not given, the one of this repository.
+# completion of bash under PREFIX. The program stands in lib/net_tool, and bin/net_tool runs it: it knows help and
+# --version, and explains a status that the program ends with without a word. PROGRAM is the built program; where it is not given, the one of this repository.
 # DESTDIR, where it is set, stands before PREFIX. Nothing is built or proved here.
 set -eu
 umask 022
@@ -10,6 +11,12 @@ fail() {
     exit "${2:-1}"
 }
 
+case ${1:-} in
+-h | --help)
+    sed -n '2,/^set/{/^#/s/^# //p}' "$0"
+    exit 0
+    ;;
+esac
 { [ $# -eq 1 ] || [ $# -eq 2 ]; } || fail "usage: install.sh PREFIX [PROGRAM]" 2
 case $1 in
 /*) ;;
@@ -24,15 +31,27 @@ share=$to/share/net_tool
 commands="tools/cif2cgd/cif2cgd tools/cgd2net/cgd2net tools/cgd2net/make_archives archives/take_rcsr
 tools/pictures/draw_nets tools/pictures/net_gallery tools/batch/split_nets tools/batch/key_piece tools/batch/net_rows
 tools/batch/net_groups tools/batch/net_names tools/batch/name_nets tools/batch/accepted_nets tools/batch/archive_nets
-tools/batch/archive_files"
+tools/batch/archive_files tools/batch/component_nets"
 
-install -D -m 755 -- "$program" "$to/bin/net_tool"
+. "$top/tools/words.sh"
+install -D -m 755 -- "$program" "$to/lib/net_tool/net_tool"
+install -D -m 755 -- "$top/tools/install/net_tool.sh" "$to/bin/net_tool"
+install -D -m 644 -- "$top/tools/words.sh" "$share/tools/words.sh"
 install -d -- "$share/archives" "$share/examples" "$to/share/doc/net_tool" "$to/share/man/man1"
-install -m 644 -- "$top"/archives/*.archive "$share/archives"
+install -m 644 -- "$top"/archives/*.archive "$top/archives/README.md" "$share/archives"
 install -m 755 -- "$top/archives/take_rcsr" "$share/archives"
-install -m 644 -- "$top"/examples/*.c?? "$share/examples"
+install -m 644 -- "$top"/examples/*.c?? "$top"/examples/*.maps "$top/examples/README.md" "$share/examples"
 install -m 644 -- "$top/README.md" "$top/docs/FORMATS.md" "$to/share/doc/net_tool"
 install -D -m 644 -- "$top/tools/install/net_tool.bash" "$to/share/bash-completion/completions/net_tool"
+
+# what `net_tool --version` tells
+{
+    echo "net_tool, commit $(commit_of_sources)"
+    echo "toolchain: $(cat "$top/TOOLCHAIN")"
+    [ "$(cat "$program.sum" 2>/dev/null)" = "$(sum_of_sources)" ] ||
+        echo "the program was given to install.sh; of which sources it was made is not known"
+} >"$share/VERSION"
+chmod 644 "$share/VERSION"
 
 # The tools keep their layout, since they find their modules beside them; bin has links to those that are commands.
 (cd "$top/tools" && find cif2cgd cgd2net pictures batch -name test -prune -o -name __pycache__ -prune -o -type f -print) |

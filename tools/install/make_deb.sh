@@ -9,6 +9,12 @@ fail() {
     exit "${2:-1}"
 }
 
+case ${1:-} in
+-h | --help)
+    sed -n '2,/^set/{/^#/s/^# //p}' "$0"
+    exit 0
+    ;;
+esac
 { [ $# -eq 2 ] || [ $# -eq 3 ]; } || fail "usage: make_deb.sh VERSION FOLDER [PROGRAM]" 2
 version=$1 folder=$2
 here=$(CDPATH='' cd -- "$(dirname -- "$0")" && pwd -P)
@@ -24,11 +30,11 @@ trap 'rm -rf -- "$root"' EXIT
 chmod 755 "$root"
 DESTDIR=$root "$here/install.sh" /usr "$program" >/dev/null
 rm -f -- "$root"/usr/share/net_tool/archives/rcsr*.archive  # what its owner made is not ours to give
-strip --strip-unneeded --remove-section=.comment "$root/usr/bin/net_tool"
+strip --strip-unneeded --remove-section=.comment "$root/usr/lib/net_tool/net_tool"
 mv "$root/usr/share/doc/net_tool" "$root/usr/share/doc/$name"
 
 # the newest version of the C library that a symbol of the program asks for
-libc=$(objdump -T "$root/usr/bin/net_tool" | sed -n 's/.*GLIBC_\([0-9.]*\).*/\1/p' | sort -V | tail -n 1)
+libc=$(objdump -T "$root/usr/lib/net_tool/net_tool" | sed -n 's/.*GLIBC_\([0-9.]*\).*/\1/p' | sort -V | tail -n 1)
 mkdir "$root/DEBIAN"
 cat >"$root/DEBIAN/control" <<CONTROL
 Package: $name

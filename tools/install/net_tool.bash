@@ -22,7 +22,9 @@ _net_tool() {
     elif [ "$before" = --name ] || [ "$before" = --cell ]; then
         return
     elif [ -z "$command" ]; then
-        mapfile -t COMPREPLY < <(compgen -W "$commands" -- "$word")
+        mapfile -t COMPREPLY < <(compgen -W "$commands help --help --version" -- "$word")
+    elif [ "${COMP_WORDS[1]}" = help ]; then
+        return
     elif [[ $word == -* ]]; then
         case $command in
         identify | duplicates | migrate | union) mapfile -t COMPREPLY < <(compgen -W "--archive" -- "$word") ;;

@@ -92,7 +92,7 @@ class Texts(FolderTest):
 
     def whole(self):
         report = run(PROGRAM, "key", self.file, status=1).stdout
-        return run(BATCH / "net_rows", stdin=report).stdout
+        return run(BATCH / "net_rows", "--command", "key", stdin=report).stdout
 
     def test_pieces_of_each_size_tell_what_the_whole_tells(self):
         whole = self.whole()
@@ -159,6 +159,46 @@ class Texts(FolderTest):
             self.assertEqual([str(told[name]) for name in ("number", "line", "name", "outcome", "vertices", "key")],
                              [row[k].decode() for k in (0, 1, 2, 3, 5, 9)])
             self.assertEqual(";".join(told["names"]), row[11].decode())
+
+    def test_rows_say_of_which_command_and_archive_they_are(self):
+        """Rows of another command, or of an archive that was changed, are made anew; others are kept."""
+        pieces, archive = self.folder / "pieces", self.folder / "my nets.archive"
+        archive.write_bytes(ARCHIVE.read_bytes())
+        run(BATCH / "split_nets", TOP / "examples/mystery.cgd", pieces)
+        rows = pieces / "p00001.cgd.rows"
+
+        def made(*words) -> tuple[bytes, set[tuple[bytes, bytes]], int]:
+            told = run(BATCH / "key_piece", pieces, 1, *words).stderr
+            found = fields(rows.read_bytes())
+            return told, {(row[12], row[13]) for row in found}, sum(row[11] != b"" for row in found)
+
+        self.assertEqual(made("check")[1:], ({(b"check", b"")}, 0))
+        told, marks, named = made("identify", archive)
+        self.assertIn(b"is made anew", told)
+        (command, mark), = marks
+        self.assertEqual((command, named), (b"identify", 8))
+        self.assertRegex(mark, b"^my_nets.archive [0-9a-f]{16}$")
+        before = rows.stat().st_mtime_ns
+        self.assertEqual(made("identify", archive)[0], b"")
+        self.assertEqual(rows.stat().st_mtime_ns, before)
+        archive.write_bytes(b"net_archive 2\n")
+        self.assertEqual(made("identify", archive)[2], 0)
+        self.assertEqual(made()[1], {(b"key", b"")})
+        rows.write_bytes(rows.read_bytes()[:-30])
+        self.assertIn(b"is made anew", made()[0])
+        self.assertEqual(len(fields(rows.read_bytes())), 8)
+
+    def test_commands_whose_reports_have_no_rows(self):
+        """Parts of interwoven nets are not put into groups as if the nets were they."""
+        pieces = self.folder / "pieces"
+        run(BATCH / "split_nets", TOP / "examples/interwoven.cgd", pieces)
+        for words in ([1, "components"], [1, "cover"], [1, "Key"], [1, "key", ARCHIVE], ["1,2"], [0], ["x"], []):
+            run(BATCH / "key_piece", pieces, *words, status=2)
+        run(BATCH / "key_piece", pieces, 1, "identify", self.folder / "absent", status=1)
+        self.assertEqual(list(pieces.glob("*.rows")), [])
+        parts = b'net 1 line 1\ngraph d=3 vertices=1 edges=3 repeats=0\ncomponents 1\n'
+        for line in (parts, b"net 1 line 1\nsomething else\n", b"net 1 line 1\n"):
+            self.assertEqual(run(BATCH / "net_rows", stdin=line, status=1).stdout, b"")
 
     def test_what_is_no_report(self):
         run(BATCH / "net_rows", stdin=b"usage: net_tool\n", status=1)

@@ -22,7 +22,7 @@ def names_told(report: bytes) -> list[bytes]:
 
 def commands_taken() -> set[str]:
     """The commands that ./net_tool takes: the first case of the function that asks for one."""
-    case = re.search(r"in\n +(check .*)\) ;;", (TOOLS / "words.sh").read_text())
+    case = re.search(r"in\n +(check .*verify.*)\) ;;", (TOOLS / "words.sh").read_text())
     return set(case[1].split(" | "))
 
 
@@ -49,6 +49,65 @@ class Installed(FolderTest):
         told = self.in_shell(f"net_tool identify {self.share}/examples/mystery.cgd "
                              f"--archive {self.share}/archives/common.archive")
         self.assertEqual(names_told(told), EIGHT_NAMES)
+
+    def told(self, command: str, status: int, stdin: bytes = b"") -> tuple[bytes, str]:
+        """Standard output and standard error of the installed command."""
+        done = run("sh", "-c", command, PATH=self.path, status=status, stdin=stdin)
+        return done.stdout, done.stderr.decode()
+
+    def test_help_and_version(self):
+        listed = self.told("net_tool --help", 0)[0].decode()
+        for command in commands_taken():
+            self.assertRegex(listed, rf"(?m)^  {command} ")
+            more = self.told(f"net_tool help {command}", 0)[0].decode()
+            self.assertRegex(more, rf"^{command} .*\n(.*\n)?Status 0")
+            self.assertEqual(self.told(f"net_tool {command} --help", 0)[0].decode(), more)
+        self.assertEqual(self.told("net_tool help", 0)[0].decode(), listed)
+        self.assertEqual(self.told("net_tool help keys", 2)[0], b"")
+        version = self.told("net_tool --version", 0)[0].decode()
+        self.assertIn((TOOLS.parent / "TOOLCHAIN").read_text().strip(), version)
+        self.assertRegex(version, r"^net_tool, commit ([0-9a-f]{12}|not known)")
+        output, said = self.told("net_tool", 2)
+        self.assertIn(b"usage: net_tool COMMAND", output)
+        self.assertIn("net_tool help", said)
+
+    def test_each_command_has_help_and_does_nothing_else_then(self):
+        need_modules("gemmi", "numpy", "scipy")
+        for command in sorted((self.prefix / "bin").iterdir()):
+            done = subprocess.run([command, "--help"], cwd=self.folder, capture_output=True, stdin=subprocess.DEVNULL)
+            self.assertEqual(done.returncode, 0, command.name)
+            self.assertIn(command.name.encode(), done.stdout + done.stderr)
+        self.assertEqual(list(self.folder.iterdir()), [])
+
+    def test_examples_are_all_installed(self):
+        names = {path.name for path in (TOOLS.parent / "examples").iterdir()}
+        self.assertEqual({path.name for path in (self.share / "examples").iterdir()}, names)
+        self.assertTrue((self.share / "archives/README.md").exists())
+
+    def test_statuses_without_a_word_are_explained(self):
+        many = self.folder / "many.cgd"
+        many.write_bytes(b"PERIODIC_GRAPH\nEND\n" * 4097)
+        large = self.folder / "large.cgd"
+        large.write_bytes(b"#" * 16_777_217)
+        for file, status, word in ((self.folder / "absent", 3, "not there"), (large, 6, "16,777,216"), (many, 8, "4,096")):
+            output, said = self.told(f"net_tool check {file}", status)
+            self.assertEqual((output, said.count("\n")), (b"", 1))
+            self.assertIn(word, said)
+
+    def test_files_without_a_net_are_told(self):
+        examples, archive = self.share / "examples", self.share / "archives/common.archive"
+        (self.folder / "x.arc").write_text("key 2 1 1 1 0 1 1 0 1\n id x\nend\n")
+        (self.folder / "empty").touch()
+        for file, word in ((examples / "quartz.cif", "cif2cgd"), (examples / "embedded.cgd", "cgd2net"),
+                           (archive, "archive_nets"), (examples / "twice.maps", "verify"),
+                           (self.folder / "x.arc", "union"), (self.folder / "empty", "no block")):
+            for words in (f"check {file}", f"check < {file}", f"identify --archive {archive} {file}"):
+                output, said = self.told(f"net_tool {words}", None)
+                self.assertIn(word, said, words)
+                self.assertEqual(said.count("\n"), 1)
+                self.assertEqual(output, run(PROGRAM, "check", file, status=None).stdout if "check" in words else output)
+        self.assertEqual(self.told(f"net_tool check {examples}/dia.cgd", 0)[1], "")
+        self.assertEqual(self.told("net_tool check", 0, b"")[1], "")
 
     def test_commands_find_their_modules(self):
         self.in_shell(f"archive_nets {self.share}/archives/common.archive > {self.folder}/nets.cgd")
@@ -89,6 +148,29 @@ class Installed(FolderTest):
             self.assertEqual(told, b"", page)
 
 
+class InFront(FolderTest):
+    """The command in front of a program that ends as the test wants it."""
+
+    def run_program(self, script: str, *words: object, status: int) -> str:
+        program = self.folder / "program"
+        program.write_text(f"#!/bin/sh\n{script}\n")
+        program.chmod(0o755)
+        run(INSTALL / "install.sh", self.folder / "prefix", program)
+        return run(self.folder / "prefix/bin/net_tool", *words, status=status).stderr.decode()
+
+    def test_a_union_that_took_no_item(self):
+        blocks = TOOLS.parent / "examples/dia.cgd"
+        said = self.run_program("echo net_archive 2", "union", blocks, "--archive", "x", status=0)
+        self.assertIn("blocks PERIODIC_GRAPH, of which union takes none", said)
+        self.assertEqual(run(self.folder / "prefix/bin/net_tool", "union", "--archive=x",
+                             TOOLS.parent / "archives/common.archive").stderr, b"")
+
+    def test_the_status_is_that_of_the_program(self):
+        for status, said in ((0, ""), (5, ""), (7, "memory was refused"), (9, ""), (11, "")):
+            self.assertIn(said, self.run_program(f"exit {status}", "workload", 3, status=status))
+        self.assertIn("not known", run(self.folder / "prefix/bin/net_tool", "--version").stdout.decode())
+
+
 class Words(FolderTest):
     def test_words_without_a_form(self):
         for words in ([], ["relative"], ["/a", "/b", "/c"]):
@@ -115,7 +197,8 @@ class Completion(FolderTest):
             (self.folder / name).touch()
         (self.folder / "deep").mkdir()
         self.assertEqual(self.complete("net_tool", "i"), {"identify"})
-        self.assertEqual(self.complete("net_tool", ""), commands_taken())
+        self.assertEqual(self.complete("net_tool", ""), commands_taken() | {"help", "--help", "--version"})
+        self.assertEqual(self.complete("net_tool", "help", "co"), {"components", "cover"})
         self.assertEqual(self.complete("net_tool", "key", ""), {"a net.cgd", "deep"})
         self.assertEqual(self.complete("net_tool", "identify", "--"), {"--archive"})
         self.assertEqual(self.complete("net_tool", "add", "--"), {"--archive", "--name"})
@@ -141,7 +224,7 @@ class Package(FolderTest):
         depends = run("dpkg-deb", "-f", package, "Depends").stdout.decode()
         self.assertRegex(depends, r"^libc6 \(>= 2\.\d+\), python3\n$")
         content = run("dpkg-deb", "-c", package).stdout.decode()
-        for path in ("./usr/bin/net_tool", "./usr/share/net_tool/archives/zeolites.archive", "./usr/bin/cif2cgd ->"):
+        for path in ("./usr/bin/net_tool", "./usr/lib/net_tool/net_tool", "./usr/share/net_tool/archives/zeolites.archive", "./usr/bin/cif2cgd ->"):
             self.assertIn(path, content)
         self.assertNotIn(" ./root", content)
 

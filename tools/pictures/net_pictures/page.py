@@ -34,11 +34,17 @@ def card_of(report, view: View) -> dict:
     frame = np.eye(3)
     frame[:len(view.frame), :len(view.frame)] = view.frame
     return {"name": label_of(report), "summary": summary_of(view.shape), "key": report.key.decode(),
-            "names": [printable(name) for name in report.names], "frame": _rounded(frame),
+            "names": [printable(name) for name in report.names], "shells": _sequences(report.shells), "frame": _rounded(frame),
             "vertices": _rounded(points - middle), "kinds": [view.shape.kind[c] for c in window.classes],
             "edges": window.whole, "outline": [(outline[m], outline[n]) for m, n in view.outline],
             "leaving": [[i, *end] for (i, _), end in zip(window.leaving, _rounded(ends - middle))],
             "ball": round(view.ball, 3)}
+
+
+def _sequences(shells: list[list[int]]) -> list[str]:
+    """The coordination sequences, each once, with the number of classes that have it."""
+    texts = [" ".join(map(str, shell)) for shell in shells]
+    return [f"{text} ({texts.count(text)} of {len(texts)} vertices)" for text in sorted(set(texts))]
 
 
 def _in_space(view: View, rows: np.ndarray) -> np.ndarray:

@@ -6,6 +6,7 @@ from dataclasses import dataclass
 
 import numpy as np
 
+FARTHEST = 1e-9  # from the mean of its neighbours, in edges of the cell: up to rounding
 Edge = tuple[int, int, tuple[int, ...]]  # two classes from 0 on, and the cell of the second
 
 
@@ -51,10 +52,14 @@ class Placed:
         return float(np.abs(sums / degrees[:, None]).max())
 
 
+class NotPlaced(Exception):
+    """Positions and edges of the report do not fit each other, so that it is of no net."""
+
+
 def placed_net(report) -> Placed:
     """The net of a report that has a key. The report says where each vertex stands; two share a
     class where their places differ by a vector of the lattice, and the classes are numbered by
-    their first vertices."""
+    their first vertices. NotPlaced where this is no net whose vertices are at the means."""
     to_basis = np.linalg.inv(np.array(report.basis, float))
     places, seen = [], set()
     for _, position in report.positions:
@@ -64,4 +69,24 @@ def placed_net(report) -> Placed:
             seen.add(mark)
             places.append(place)
     edges = [(u - 1, v - 1, tuple(shift)) for u, v, *shift in report.edges]
-    return Placed(np.array(places), edges)
+    if len(places) != report.classes:
+        raise NotPlaced(f"its vertices stand in {len(places)} places, and it has {report.classes} classes")
+    net = Placed(np.array(places), edges)
+    if not _is_joined(net):
+        raise NotPlaced("its edges do not join all vertices in all directions")
+    if not net.worst_mean() < FARTHEST:
+        raise NotPlaced("a vertex is not at the mean of its neighbours")
+    return net
+
+
+def _is_joined(net: Placed) -> bool:
+    """Whether the edges join all classes, have a length, are different and reach in all directions."""
+    joined = {0}
+    while True:
+        more = {end for u, v, _ in net.edges if (u in joined) != (v in joined) for end in (u, v)}
+        if not more:
+            break
+        joined |= more
+    vectors = net.vectors()
+    return (len(joined) == len(net.places) and len(set(net.edges)) == len(net.edges)
+            and np.linalg.matrix_rank(vectors) == net.dimension and bool((np.abs(vectors).max(axis=1) > FARTHEST).all()))

@@ -7,11 +7,15 @@ from itertools import combinations, product
 
 import numpy as np
 
+from .placed import marks
 from .shape import Shape, Window
 
 FEWEST_EDGES = {"cubic": 15}  # that are shown whole, where more cells can do it
 OTHER_FEWEST = 24
 MANY_EDGES = 160
+FEW_SITES = 6      # in a hexagonal cell, of which one more is shown where it stands in single sheets
+YAWS, PITCHES = (9, 14, 17, 22, 28, 35), (7, 11, 16, 22, 28)  # of the frames that are tried, in degrees
+CLEARER = 0.12     # by so much less has to be hidden in another frame
 LAYER_HALF = 2.7   # half of the side of the square that is shown of a layer, in lengths of edges
 LAYER_CELLS = 1.1  # the same in lengths of the longer axis, where that is more
 
@@ -47,9 +51,8 @@ class View:
 def view_of(shape: Shape) -> View:
     if shape.dimension == 2:
         return _view_of_layer(shape)
-    if shape.system == "hexagonal":
-        return View(shape, _around_axis(shape), _frame(shape))
-    return View(shape, _cells(shape), _frame(shape))
+    window = _around_axis(shape) if shape.system == "hexagonal" else _cells(shape)
+    return View(shape, window, _clearest_frame(shape, window))
 
 
 def _view_of_layer(shape: Shape) -> View:
@@ -71,7 +74,18 @@ def _around_axis(shape: Shape) -> Window:
     def inside(spots: np.ndarray) -> np.ndarray:
         return np.linalg.norm(spots[:, :2] @ shape.axes[:2, :2], axis=1) <= max(circle, least)
 
-    return shape.window(np.array([-4, -4, 0]), np.array([4, 4, height]), inside)
+    window = shape.window(np.array([-4, -4, 0]), np.array([4, 4, height]), inside)
+    if len(shape.sites) <= FEW_SITES and not _shows_all_edges(shape, window):
+        more = shape.window(np.array([-4, -4, 0]), np.array([4, 4, height + 1]), inside)
+        window = more if len(more.whole) <= MANY_EDGES else window
+    return window
+
+
+def _shows_all_edges(shape: Shape, window: Window) -> bool:
+    """Whether each edge of the net, up to translations, is whole somewhere: not so of one sheet."""
+    shown = {(window.classes[tail], *marks(window.spots[head] - window.spots[tail]).tolist())
+             for i, j in window.whole for tail, head in ((i, j), (j, i))}
+    return all((c, *marks(vector).tolist()) in shown for c, arcs in enumerate(shape.arcs) for vector in arcs)
 
 
 def _cells(shape: Shape) -> Window:
@@ -89,17 +103,53 @@ def _cells(shape: Shape) -> Window:
         count[sides < sides.min() * 1.001] += 1
 
 
-def _frame(shape: Shape) -> np.ndarray:
-    """Nearly along the shortest axis, where channels are, or along the first where all are alike."""
+def _clearest_frame(shape: Shape, window: Window) -> np.ndarray:
+    """The usual frame, nearly along the shortest axis, where channels are, or along the first
+    where all are alike; or another near an axis, where in it clearly less is hidden."""
     lengths = shape.lengths
     along = int(np.argmin(np.round(lengths, 4)))
     if shape.system in ("hexagonal", "tetragonal") and lengths[2] > 1.6 * lengths[0]:
         along = 0
+    usual = _frame(shape, along, *((17, 11) if shape.system == "cubic" else (9, 7)))
+    if len(window.whole) > MANY_EDGES:
+        return usual
+    best, least = usual, hidden_share(shape, window, usual)
+    for axis, yaw, pitch in product((along, *({0, 1, 2} - {along})), YAWS, PITCHES):
+        frame = _frame(shape, axis, yaw, pitch)
+        hidden = hidden_share(shape, window, frame)
+        if hidden < least - CLEARER:
+            best, least = frame, hidden
+    return best
+
+
+def hidden_share(shape: Shape, window: Window, frame: np.ndarray) -> float:
+    """How much is hidden in a frame: vertices in front of each other or of edges of others, for
+    each vertex, and edges that are seen end on, for each edge."""
+    points = window.spots @ shape.axes @ frame.T
+    ends = np.array(window.whole, int).reshape(-1, 2)
+    if not len(ends):
+        return 0.0
+    flat, whole = points[:, :2], points[ends[:, 1]] - points[ends[:, 0]]
+    near = 0.3 * float(np.median(np.linalg.norm(whole, axis=1)))
+    gaps = np.linalg.norm(flat[:, None] - flat[None], axis=2)
+    in_front = np.clip(1 - gaps[np.triu_indices(len(flat), 1)] / near, 0, 1).sum()
+    tails, along = flat[ends[:, 0]], whole[:, :2]
+    squares = np.maximum((along ** 2).sum(axis=1), 1e-9)
+    share = np.clip(((flat[:, None] - tails[None]) * along[None]).sum(axis=2) / squares, 0, 1)
+    off = np.linalg.norm(flat[:, None] - tails[None] - share[:, :, None] * along[None], axis=2)
+    covered = np.clip(1 - off / (0.6 * near), 0, 1)
+    covered[ends[:, 0], np.arange(len(ends))] = covered[ends[:, 1], np.arange(len(ends))] = 0
+    end_on = np.clip(1 - np.sqrt(squares) / (0.45 * np.linalg.norm(whole, axis=1)), 0, 1)
+    return float((2 * in_front + covered.sum()) / len(flat) + 2 * end_on.mean())
+
+
+def _frame(shape: Shape, along: int, yaw: float, pitch: float) -> np.ndarray:
+    """Nearly along an axis, turned by two angles in degrees: about the upright, and upwards."""
     front = _unit(shape.axes[along])
     up = shape.axes[(2, 0, 1)[along]]
     up = _unit(up - up @ front * front)
     right = np.cross(up, front)
-    yaw, pitch = np.radians((17, 11) if shape.system == "cubic" else (9, 7))
+    yaw, pitch = np.radians((yaw, pitch))
     front = _unit(front * np.cos(yaw) + right * np.sin(yaw))
     right = np.cross(up, front)
     front = _unit(front * np.cos(pitch) + up * np.sin(pitch))

@@ -13,7 +13,7 @@ from pathlib import Path
 from shutil import which
 
 from odd_cells import block, edges_of_archive, in_odd_cell
-from testing import (PROGRAM, TOOLS, TOP, FolderTest, long_test, need_commands, need_modules, need_program,
+from testing import (IS_LONG, PROGRAM, TOOLS, TOP, FolderTest, long_test, need_commands, need_modules, need_program,
                      run)
 
 need_modules("numpy")
@@ -21,6 +21,7 @@ sys.path[:0] = [str(TOOLS / "pictures"), str(TOOLS / "batch")]
 import numpy as np  # noqa: E402
 from net_pictures.placed import placed_net  # noqa: E402
 from net_pictures.shape import Shape  # noqa: E402
+from net_pictures.view import hidden_share, view_of  # noqa: E402
 from net_text import nets_of_report  # noqa: E402
 
 DRAW = TOOLS / "pictures/draw_nets"
@@ -33,16 +34,24 @@ HOSTILE = ['</script><b>', "a]]>&amp;\\u003c", "\r\x0b", "@NETS@ @TITLE@", "'; a
 # Run in the page: opens a card, turns and enlarges it, looks for a name, and puts what it saw in the title.
 VISIT = """<script>
 addEventListener("load", () => {
-  document.querySelector("button").click();
+  const cards = [...document.querySelectorAll("main button")];
+  cards[0].click();
+  const told = document.getElementById("told").textContent.includes("coordination sequence ");
   const at = (kind, x, y) => canvas.dispatchEvent(new PointerEvent(kind, { pointerId: 1, clientX: x, clientY: y }));
   canvas.setPointerCapture = () => {};
   at("pointerdown", 0, 0); at("pointermove", 50, 20); at("pointerup", 50, 20);
   canvas.dispatchEvent(new WheelEvent("wheel", { deltaY: 100, cancelable: true }));
   const painted = canvas.getContext("2d").getImageData(0, 0, 1200, 900).data.some(part => part < 200);
   const find = document.getElementById("find");
-  find.value = "cairo"; find.oninput();
-  const shown = [...document.querySelectorAll("button")].filter(card => !card.hidden).length;
-  document.title = failed || `cards ${document.querySelectorAll("button").length} painted ${painted} shown ${shown}`;
+  const shown = wanted => {
+    find.value = wanted;
+    find.oninput();
+    return cards.filter(card => !card.hidden).length;
+  };
+  document.getElementById("close").click();
+  const closed = !document.getElementById("large").open;
+  document.title = failed || `cards ${cards.length} painted ${painted} told ${told} closed ${closed} ` +
+    `shown ${shown("cairo")} ${shown("DIAMOND")} ${shown("nothing has this name")}`;
 });
 </script></html>"""
 
@@ -125,10 +134,25 @@ class Geometry(FolderTest):
         for net in reports_on(file):
             shape = Shape(placed_net(net))
             other = Shape(placed_net(self.reports[net.name.decode().split(",")[0]])) \
-                if b"rows of" not in net.name else shape
+                if b"rows of" not in net.name else shape  # names of several
             self.assertEqual((shape.system, shape.order, shape.kinds, len(shape.sites)),
                              (other.system, other.order, other.kinds, len(other.sites)), net.name)
             self.assertLess(np.abs(np.sort(shape.lengths) - np.sort(other.lengths)).max(), 1e-6, net.name)
+
+
+class Views(FolderTest):
+    def test_little_is_hidden_in_nets_that_look_poor_along_an_axis(self):
+        need_program()
+        text = COMMON.read_text().split("PERIODIC_GRAPH")
+        symbols = ("rtl", "hcp", "hex", "acs", "bcu-x", "pcu", "lon", "qtz")
+        file = self.folder / "nets.cgd"
+        file.write_text("".join("PERIODIC_GRAPH" + part for part in text if any(f'"{s},' in part for s in symbols)))
+        nets = reports_on(file)
+        self.assertEqual(len(nets), len(symbols))
+        for net in nets:
+            view = view_of(Shape(placed_net(net)))
+            self.assertLess(hidden_share(view.shape, view.window, view.frame), 0.2, net.name)
+            self.assertLess(abs(view.frame @ view.frame.T - np.eye(3)).max(), 1e-9)
 
 
 class Files(FolderTest):
@@ -155,9 +179,44 @@ class Files(FolderTest):
         self.assertEqual(*[(self.folder / name / "0005_sample_E.svg").read_bytes() for name in ("one", "other")])
         self.assertEqual(*[(self.folder / f"{name}.html").read_bytes() for name in ("one", "other")])
 
+    def test_processes_side_by_side_write_the_same(self):
+        report = run(PROGRAM, "identify", TOP / "examples/mystery.cgd").stdout
+        for jobs in (1, 3):
+            self.draw("--svg", self.folder / str(jobs), "--page", self.folder / f"{jobs}.html", "--jobs", jobs, report=report)
+        pages = [(self.folder / f"{jobs}.html").read_bytes() for jobs in (1, 3)]
+        self.assertEqual(*pages)
+        files = [{file.name: file.read_bytes() for file in (self.folder / str(jobs)).iterdir()} for jobs in (1, 3)]
+        self.assertEqual(*files)
+        self.draw("--page", self.folder / "x", "--jobs", 0, status=2)
+
+    def test_damaged_reports_are_refused_and_nothing_is_drawn(self):
+        """One number of the report on a net is changed, or the report is cut."""
+        report = run(PROGRAM, "identify", TOP / "examples/dia.cgd").stdout
+        chance = random.Random(4)
+        spots = [found for found in re.finditer(rb"-?\d+", report[report.index(b"placement"):report.index(b"key")])]
+        start = report.index(b"placement")
+        for k in range(120 if IS_LONG else 12):
+            spot, change = chance.choice(spots), chance.choice((-2, -1, 1, 3, 10**6, 10**30))
+            damaged = report[:start + spot.start()] + b"%d" % (int(spot[0]) + change) + report[start + spot.end():]
+            if k % 3 == 2:
+                damaged = report[:chance.randrange(1, len(report) - 1)]
+            done = run(DRAW, "--svg", self.folder / str(k), stdin=damaged, status=None)
+            self.assertNotIn(b"Traceback", done.stderr)
+            self.assertEqual((done.returncode, (self.folder / str(k)).exists()), (0, True) if done.returncode == 0 else (1, False))
+
+    def test_help_makes_nothing(self):
+        for word in ("--help", "-h"):
+            for command in (DRAW, TOOLS / "pictures/net_gallery"):
+                self.assertIn(b"net", subprocess.run([command, word], cwd=self.folder, capture_output=True, check=True).stdout)
+        run(TOOLS / "pictures/net_gallery", status=2)
+        run(TOOLS / "pictures/net_gallery", "--other", status=2)
+        self.assertEqual(list(self.folder.iterdir()), [])
+
     def test_pictures_of_the_documents_are_those_that_are_drawn(self):
         report = run(PROGRAM, "identify", COMMON).stdout
-        for file in (TOP / "docs/pictures").glob("*.svg"):
+        files = [file for file in (TOP / "docs/pictures").glob("*.svg") if file.stem != "crates"]
+        self.assertEqual(len(files), 5)
+        for file in files:
             number = next(net.number for net in nets_of_report(report.splitlines(keepends=True))
                           if net.name.startswith(file.stem.encode() + b","))
             self.draw("--svg", self.folder, "--only", number, report=report)
@@ -199,13 +258,23 @@ class Files(FolderTest):
 
     def test_gallery_in_a_browser(self):
         need_commands("chromium")
-        run(TOOLS / "pictures/net_gallery", self.folder, ARCHIVE)
+        run(TOOLS / "pictures/net_gallery", "--jobs", 2, self.folder, ARCHIVE)
         page = self.folder / "common.html"
+        count = ARCHIVE.read_text().count("\nentry ")
+        diamonds = sum("diamond" in line.lower() for line in ARCHIVE.read_text().splitlines() if line.startswith("entry"))
+        self.assertEqual(self.visit(page), f"cards {count} painted true told true closed true shown 1 {diamonds} 0")
+
+    def test_names_in_the_archive_are_found_on_the_page(self):
+        need_commands("chromium")
+        page = self.folder / "page.html"
+        self.draw("--page", page)
+        self.assertEqual(self.visit(page), "cards 8 painted true told true closed true shown 0 1 0")
+
+    def visit(self, page):
         heard = 'let failed = "";\nwindow.onerror = told => { failed = told; };'
         text = page.read_text().replace('"use strict";', heard, 1)
         page.write_text(text.replace("</html>", VISIT))
-        count = ARCHIVE.read_text().count("\nentry ")
-        self.assertEqual(self.title_in_browser(page), f"cards {count} painted true shown 1")
+        return self.title_in_browser(page)
 
     def title_in_browser(self, page):
         """The title of the page once it was visited; skips where the browser does not start here."""
@@ -224,7 +293,7 @@ class Files(FolderTest):
                 pass
             browser.wait()
         title = re.search(r"<title>(.*?)</title>", told)
-        if title is None or title[1].startswith("Nets of"):
+        if title is None or title[1].startswith("Nets"):
             self.skipTest("chromium does not run here, or is too slow")
         return title[1]
 

@@ -1,0 +1,228 @@
+"""Texts that are cut, damaged or of another kind: each is refused with its line, and nothing is told of it."""
+
+import random
+import subprocess
+import sys
+
+from testing import IS_LONG, PROGRAM, TOOLS, TOP, FolderTest, need_program, run
+
+BATCH = TOOLS / "batch"
+ARCHIVE = TOP / "archives/common.archive"
+EXAMPLES = TOP / "examples"
+MUTANTS = 8_000 if IS_LONG else 2_000
+COMPONENTS = b"""net 1 line 4 "cuprite"
+graph d=3 vertices=2 edges=4 repeats=0
+components 1
+part 1 vertices=2 copies=2
+key 3 2 1 1 2 -1 -1 -1 1 2 0 0 1 1 2 0 1 0 1 2 1 0 0
+net 2 line 48 "a plane in space"
+graph d=3 vertices=1 edges=2 repeats=0
+components refused 1 LowRank u=1 c=1 -1 0
+net 3 line 50 "two of which one collides"
+graph d=2 vertices=5 edges=9 repeats=0
+components 2
+part 1 vertices=1 copies=1
+key 2 1 1 1 1 0 1 1 1 1 0
+part 2 vertices=4 copies=3
+refused 5 Collision u=2 v=3 t=0 0
+net 4 line 60
+unsupported CRYSTAL
+"""
+
+sys.path.insert(0, str(BATCH))
+from archive_text import entries_of  # noqa: E402
+from component_text import parts_of_report  # noqa: E402
+from key_graph import block_rows  # noqa: E402
+from net_text import NoReport, nets_of_report  # noqa: E402
+from row_text import rows_of  # noqa: E402
+
+
+def mutant(text: bytes, chance: random.Random) -> bytes:
+    """The text with one to three faults: cut, lines lost or doubled, bytes changed, parts of lines exchanged."""
+    for _ in range(chance.randint(1, 3)):
+        lines, at = text.splitlines(keepends=True), chance.randrange(len(text) or 1)
+        kind, row = chance.randrange(7), chance.randrange(len(lines) or 1)
+        if not lines:
+            return text
+        if kind == 0:
+            text = text[:at]
+        elif kind == 1:
+            text = text[:at] + bytes((chance.randrange(256),)) + text[at + 1:]
+        elif kind == 2:
+            text = b"".join(lines[:row] + lines[row + 1:])
+        elif kind == 3:
+            text = b"".join(lines[:row] + [lines[row], *lines[row:]])
+        elif kind == 4:
+            text = text[:at] + chance.choice((b" ", b"-", b"9" * 30, b"\n", b"\t", b'"', b"\xff")) + text[at:]
+        elif kind == 5:
+            other = chance.randrange(len(lines))
+            lines[row], lines[other] = lines[other], lines[row]
+            text = b"".join(lines)
+        else:
+            parts = lines[row].split(b" ")
+            del parts[chance.randrange(len(parts))]
+            text = b"".join(lines[:row] + [b" ".join(parts)] + lines[row + 1:])
+    return text
+
+
+def lines_of(text: bytes) -> list[bytes]:
+    return text.splitlines(keepends=True)
+
+
+class Readers(FolderTest):
+    @classmethod
+    def setUpClass(cls):
+        need_program()
+        file, words = EXAMPLES / "mystery.cgd", ["--archive", ARCHIVE]
+        cls.reports = [run(PROGRAM, command, file).stdout for command in ("check", "place", "key")]
+        cls.reports.append(run(PROGRAM, "identify", file, *words).stdout)
+        cls.reports += [run(PROGRAM, "key", EXAMPLES / name, status=1).stdout for name in ("interwoven.cgd", "embedded.cgd")]
+        cls.rows = run(BATCH / "net_rows", stdin=cls.reports[3]).stdout
+
+    def survivors(self, texts: list[bytes], read, count: int) -> int:
+        """How many mutants are read as a text; the others end with NoReport and nothing else."""
+        chance, taken = random.Random(5), 0
+        for _ in range(count):
+            text = mutant(chance.choice(texts), chance)
+            try:
+                list(read(lines_of(text)))
+                taken += 1
+            except NoReport as fault:
+                self.assertRegex(str(fault), "line")
+        return taken
+
+    def test_mutants_of_reports(self):
+        self.assertLess(self.survivors(self.reports, nets_of_report, MUTANTS), MUTANTS // 4)
+
+    def test_mutants_of_archives(self):
+        text = b"".join(lines_of(ARCHIVE.read_bytes())[:160])
+        text = text[:text.rindex(b"end\n") + 4]
+        self.assertGreater(len(list(entries_of(lines_of(text), "a"))), 4)
+        self.assertLess(self.survivors([text], lambda lines: entries_of(lines, "a"), MUTANTS), MUTANTS // 4)
+
+    def test_mutants_of_rows(self):
+        self.assertLess(self.survivors([self.rows], lambda lines: rows_of(lines, "rows"), MUTANTS), MUTANTS // 2)
+
+    def test_mutants_of_components(self):
+        def blocks(lines):
+            return [block_rows(part.key) for net in parts_of_report(lines) for part in net.parts if part.key]
+        self.survivors([COMPONENTS], blocks_or_fault(blocks), MUTANTS)
+
+    def test_reports_cut_anywhere_but_between_nets(self):
+        for report in self.reports[2:4]:
+            starts = {at for at in range(len(report)) if report.startswith(b"net ", at)} | {len(report)}
+            chance = random.Random(7)
+            for at in chance.sample(range(1, len(report)), 200):
+                if at not in starts:
+                    with self.assertRaises(NoReport):
+                        list(nets_of_report(lines_of(report[:at])))
+
+    def test_each_archive_of_the_repository_is_read(self):
+        for archive in (TOP / "archives").glob("*.archive"):
+            with archive.open("rb") as lines:
+                entries = list(entries_of(lines, archive.name))
+            self.assertEqual(len(entries), archive.read_bytes().count(b"\nentry "))
+            whole = run(BATCH / "archive_nets", archive).stdout
+            self.assertEqual(whole, b"".join(entry.block for entry in entries))
+
+
+def blocks_or_fault(blocks):
+    """Parts whose keys are of no net are refused with the reason, which names no line."""
+    def read(lines):
+        try:
+            return blocks(lines)
+        except NoReport as fault:
+            raise NoReport(f"line: {fault}") from None
+    return read
+
+
+class Commands(FolderTest):
+    """No traceback, a status other than 0, and nothing told."""
+
+    def setUp(self):
+        super().setUp()
+        need_program()
+        self.report = self.folder / "report"
+        self.report.write_bytes(run(PROGRAM, "identify", EXAMPLES / "mystery.cgd").stdout)
+        self.rows = self.folder / "rows"
+        self.rows.write_bytes(run(BATCH / "net_rows", stdin=self.report.read_bytes()).stdout)
+
+    def refused(self, *words, stdin: bytes = b"", status: int = 1) -> str:
+        done = run(*words, stdin=stdin, status=status)
+        self.assertEqual(done.stdout, b"")
+        self.assertNotIn(b"Traceback", done.stderr)
+        self.assertEqual(done.stderr.count(b"\n"), 1, done.stderr)
+        return done.stderr.decode()
+
+    def test_files_that_are_not_there(self):
+        absent = self.folder / "absent"
+        for words in (["net_groups", absent], ["net_groups", self.rows, absent], ["net_names", ARCHIVE, absent],
+                      ["archive_nets", absent], ["accepted_nets", absent, self.rows], ["split_nets", absent, self.folder / "p"]):
+            self.assertIn("No such file", self.refused(BATCH / words[0], *words[1:]))
+
+    def test_files_of_another_kind(self):
+        for other in (ARCHIVE, self.report, EXAMPLES / "quartz.cif", EXAMPLES / "dia.cgd"):
+            self.assertIn("line 1 is no row", self.refused(BATCH / "net_groups", other))
+            self.assertIn("line 1 is no row", self.refused(BATCH / "net_names", ARCHIVE, other))
+            self.refused(BATCH / "component_nets", stdin=other.read_bytes())
+            if other != self.report:
+                self.refused(BATCH / "net_rows", stdin=other.read_bytes())
+        self.refused(BATCH / "archive_nets", EXAMPLES / "dia.cgd")
+        for other in (ARCHIVE, self.report, EXAMPLES / "cubic.maps"):
+            self.assertIn("line 1 begins", self.refused(BATCH / "split_nets", other, self.folder / "pieces"))
+            self.assertFalse((self.folder / "pieces").exists())
+
+    def test_rows_of_a_command_without_keys(self):
+        for command in ("check", "place"):
+            report = run(PROGRAM, command, EXAMPLES / "mystery.cgd").stdout
+            self.rows.write_bytes(run(BATCH / "net_rows", stdin=report).stdout)
+            self.assertIn(f"a row of {command}", self.refused(BATCH / "net_groups", self.rows))
+
+    def test_rows_and_reports_that_are_cut(self):
+        rows = self.rows.read_bytes()
+        self.rows.write_bytes(rows[:-40])
+        self.refused(BATCH / "net_groups", self.rows)
+        report = self.report.read_bytes()
+        within = report.rindex(b"key ") + 30
+        self.refused(BATCH / "net_rows", stdin=report[:within])
+        self.report.write_bytes(report[:within])
+        self.refused(BATCH / "accepted_nets", self.report, EXAMPLES / "mystery.cgd")
+        self.report.write_bytes(report[:report.rindex(b"net ")])
+        self.assertIn("does not speak", self.refused(BATCH / "accepted_nets", self.report, EXAMPLES / "mystery.cgd"))
+
+    def test_mutants_on_the_command_line(self):
+        chance = random.Random(9)
+        for name, words, text in (("net_rows", [], self.report.read_bytes()), ("net_groups", [self.rows], self.rows.read_bytes()),
+                                  ("accepted_nets", [self.report, EXAMPLES / "mystery.cgd"], self.report.read_bytes())):
+            for _ in range(60 if IS_LONG else 6):
+                damaged = mutant(text, chance)
+                if words:
+                    words[0].write_bytes(damaged)
+                done = subprocess.run([BATCH / name, *words], input=damaged, capture_output=True)
+                self.assertIn(done.returncode, (0, 1))
+                self.assertNotIn(b"Traceback", done.stderr)
+
+
+class Keys(FolderTest):
+    def test_the_graph_of_each_key_has_this_key(self):
+        need_program()
+        for archive in (ARCHIVE, TOP / "archives/zeolites.archive"):
+            keys = [line[4:] for line in archive.read_bytes().splitlines() if line.startswith(b"key ")]
+            text = b"".join(b"PERIODIC_GRAPH\nEDGES\n%sEND\n" % block_rows(key) for key in keys)
+            report = run(PROGRAM, "key", stdin=text).stdout
+            self.assertEqual([net.key for net in nets_of_report(lines_of(report))], keys)
+
+    def test_parts_of_interwoven_nets_get_names(self):
+        need_program()
+        done = run(BATCH / "component_nets", stdin=COMPONENTS, status=1)
+        self.assertEqual([line.split(": ")[1] for line in done.stderr.decode().splitlines()],
+                         ["net 2", "net 3, part 2", "net 4"])
+        report = run(PROGRAM, "identify", "-", "--archive", ARCHIVE, stdin=done.stdout).stdout
+        nets = [(net.name, net.names) for net in nets_of_report(lines_of(report))]
+        self.assertEqual(nets, [(b"cuprite, part 1 of 1, 2 copies", [b"dia, diamond"]),
+                                (b"two of which one collides, part 1 of 2, 1 copy", [b"sql, square lattice"])])
+
+    def test_keys_of_no_net(self):
+        for key in (b"3 2 1 1 1 0 0 1", b"3 1 1 1 1 0 0 1 1 1 0 1 0", b"2 1 1 1 1 0 0"):
+            with self.assertRaises(NoReport):
+                block_rows(key)
