@@ -19,7 +19,7 @@ TOOLS = Path(__file__).resolve().parent
 TOP = TOOLS.parent
 PROGRAM = os.environ.get("NET_TOOL", str(TOP / "crates/net_tool/out/net_tool"))
 IS_LONG = os.environ.get("TOOLS_LONG") == "1"
-PACKAGES = {"gemmi": "python3-gemmi", "numpy": "python3-numpy", "scipy": "python3-scipy",
+PACKAGES = {"gemmi": "python3-gemmi", "numpy": "python3-numpy", "spglib": "python3-spglib", "scipy": "python3-scipy",
             "parallel": "parallel", "slurmctld": "slurm-wlm",
             "munged": "munge", "rsvg-convert": "librsvg2-bin", "chromium": "chromium",
             "mandoc": "mandoc", "lintian": "lintian", "debootstrap": "debootstrap",
@@ -30,7 +30,7 @@ def need_modules(*names: str) -> None:
     """Skips the tests that follow where a module of Python is not there."""
     for name in names:
         if importlib.util.find_spec(name) is None:
-            raise unittest.SkipTest(f"{PACKAGES[name]} is not there")
+            raise unittest.SkipTest(f"{PACKAGES.get(name, name)} is not there")
 
 
 def need_commands(*names: str) -> None:

@@ -7,11 +7,11 @@ import sys
 import unittest
 from itertools import product
 
-import numpy as np
 from testing import PROGRAM, TOOLS, TOP, long_test, need_modules, need_program, run
 
 need_modules("gemmi", "numpy", "scipy")
 import gemmi  # noqa: E402
+import numpy as np  # noqa: E402
 from frameworks import ASSEMBLED, PUBLISHED, nets_of_archive  # noqa: E402
 from scipy.spatial import cKDTree  # noqa: E402
 from structures import STRUCTURES, Structure, cif_text, images_of, lengths_and_angles, presentations  # noqa: E402

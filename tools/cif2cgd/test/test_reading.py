@@ -6,11 +6,11 @@ import sys
 import unittest
 from itertools import combinations
 
-import numpy as np
 from testing import PROGRAM, TOOLS, TOP, FolderTest, need_modules, need_program, run
 
 need_modules("gemmi", "numpy", "scipy")
 import gemmi  # noqa: E402
+import numpy as np  # noqa: E402
 from structures import STRUCTURES, cif_text, images_of, presentations  # noqa: E402
 
 sys.path.insert(0, str(TOOLS / "cif2cgd"))
