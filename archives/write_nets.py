@@ -264,6 +264,50 @@ def zigzags(directions: tuple[tuple[int, int], ...]) -> Net:
     return net
 
 
+def helices(hands: tuple[int, int]) -> Net:
+    """Fourfold helices on the squares of the tiling 4.8^2, each joined to the four around it, of two hands
+    in turn: helices of one hand give srs, those of both hands utp, (10,3)-a and (10,3)-d of A. F. Wells."""
+    net = Net(8)
+    east, north, west, south = range(4)
+    for first, hand in zip((0, 4), hands):
+        for side in range(4):
+            net.join(first + side, first + (side + 1) % 4, (0, 0, hand * (side == south)))
+    net.join(east, 4 + west, (0, 0, 0))
+    net.join(north, 4 + south, (0, -1, 0))
+    net.join(4 + east, west, (1, 1, 0))
+    net.join(4 + north, south, (1, 0, 0))
+    return net
+
+
+def supertetrahedra(net: Net) -> Net:
+    """Each vertex with four neighbours made a tetrahedron, whose corners are in the middles of its edges, and
+    a vertex on each of its faces, joined to the three corners: dia gives spn."""
+    number = {edge: k for k, edge in enumerate(sorted(net.edges))}
+    result = Net(len(number) + 4 * net.count)
+    for v, arcs in enumerate(net.arcs()):
+        corners = [_middle(v, w, shift, number) for w, shift in arcs]
+        for face, left_out in product(range(4), repeat=2):
+            corner, cell = corners[left_out]
+            if face != left_out:
+                result.join(corner, len(number) + 4 * v + face, cell)
+    return result
+
+
+def in_primitive_cell(net: Net, rows: tuple) -> Net:
+    """The net of a centred cell in the cell of the rows: vertices that these translations carry to each
+    other are one."""
+    inverse = np.linalg.inv(np.array(rows))
+    places = net.places() @ inverse
+    first = [next(u for u in range(v + 1) if np.allclose(places[v] - places[u], np.round(places[v] - places[u])))
+             for v in range(net.count)]
+    kept = sorted(set(first))
+    result = Net(len(kept))
+    for u, v, shift in net.edges:
+        step = shift @ inverse + (places[v] - places[first[v]]) - (places[u] - places[first[u]])
+        result.join(kept.index(first[u]), kept.index(first[v]), np.rint(step))
+    return result
+
+
 def rings_and_paddlewheels() -> Net:
     """The net nbo in a cubic cell in which it has two colours, at the middles of faces and of edges, and
     each vertex of the second colour made a pair, as the two rings of a biphenyl: one ring takes the
@@ -353,12 +397,14 @@ def cubic(a: float) -> tuple:
 Q, H, E, T = 1 / 4, 1 / 2, 1 / 8, 1 / 3
 R = 2 ** 0.5
 HEXAGONAL = (1, 1, 1, 90, 90, 120)
+FACE_CENTRED = ((0, H, H), (H, 0, H), (H, H, 0))
 BY_SITES = {
     "bor, boracite": Sites("P -4 3 m", cubic(1), {"a": (T / 2, T / 2, T / 2), "b": (H, 0, 0)}, {"ab": 3, "ba": 4}),
     "the, triangles and cubes": Sites("P m -3 m", cubic(1), {"a": (T / 2, T / 2, T / 2), "b": (H, 0, 0)},
                                       {"ab": 3, "ba": 8}),
     "she, squares and hexagons": Sites("I m -3 m", cubic(1), {"a": (Q, Q, Q), "b": (Q, 0, H)}, {"ab": 6, "ba": 4}),
     "ocu, octahedra and cubes": Sites("I m -3 m", cubic(1), {"a": (Q, Q, Q), "b": (0, H, H)}, {"ab": 6, "ba": 8}),
+    "soc, squares and octahedra": Sites("I m -3 m", cubic(1), {"a": (Q, Q, Q), "b": (Q, 0, 0)}, {"ab": 6, "ba": 4}),
     "scu, squares and cubes": Sites("P 4/m m m", (1, 1, 1, 90, 90, 90), {"a": (0, 0, 0), "b": (H, 0, H)},
                                     {"ab": 8, "ba": 4}),
     "csq, squares and cubes along kagome": Sites("P 6/m m m", HEXAGONAL, {"a": (H, 0, 0), "b": (Q, H, H)},
@@ -380,6 +426,8 @@ BY_SITES = {
     "gar, aluminium and silicon in garnet": Sites("I a -3 d", cubic(1), {"a": (0, 0, 0), "b": (3 * E, 0, Q)},
                                                   {"ab": 6, "ba": 4}),
     "lcs, sites S* of Ia-3d": Sites("I a -3 d", cubic(1), {"a": (3 * E, 0, Q)}, {"aa": 4}),
+    "lvt, sites vT of I41/amd": Sites("I 41/a m d:2", (1, 1, 1, 90, 90, 90), {"a": (0, 0, 0)}, {"aa": 4}),
+    "rhr, sites h of Im-3m": Sites("I m -3 m", cubic(1), {"a": (0, T, T)}, {"aa": 4}),
     "lcy, sites +Y of P4332": Sites("P 43 3 2", cubic(1), {"a": (E, E, E)}, {"aa": 6}),
     "thp, thorium in Th3P4": Sites("I -4 3 d", cubic(1), {"a": (3 * E, 0, Q)}, {"aa": 8}),
     "cantellated cubic honeycomb": Sites("P m -3 m", cubic(1 + R), {"a": (H / (1 + R), H / (1 + R), H)}, {"aa": 6}),
@@ -418,6 +466,12 @@ BY_SITES = {
     "mog, moganite": Sites("I 1 2/a 1", (8.758, 4.876, 10.715, 90, 90.08, 90),
                            {"a": (Q, -0.0092, 0), "b": (0.0115, 0.2533, 0.1678)}, {"ab": 4, "bb": 2}),
     "gsi, silicon of the form BC8": Sites("I a -3", cubic(6.636), {"a": (0.1003, 0.1003, 0.1003)}, {"aa": 4}),
+    "cag, aluminium and phosphorus in variscite": Sites("P b c a", (9.822, 8.561, 9.630, 90, 90, 90),
+                                                        {"a": (0.1339, 0.1553, 0.1684), "p": (0.1476, 0.4681, 0.3531)},
+                                                        {"ap": 4}),
+    "muo, metal parts and linkers of UMCM-1": Sites("P 63/m", (41.526, 41.526, 17.492, 90, 90, 120),
+                                                    {"z": (0.5726, 0.6319, Q), "b": (T, 2 * T, Q), "w": (0.1882, 0.4030, 3 * Q)},
+                                                    {"zb": 1, "zw": 3, "zz": 2}),
     "beta manganese, A13": Sites("P 41 3 2", cubic(6.315), {"a": (0.0636, 0.0636, 0.0636), "b": (E, 0.2022, 0.4522)},
                                  {"aa": 3, "ab": 9, "bb": 8}),
     "Cr3Si, all contacts, A15": Sites("P m -3 n", cubic(4.556), {"a": (0, 0, 0), "b": (Q, 0, H)}, {"ab": 12, "bb": 10}),
@@ -502,6 +556,8 @@ def recipes() -> dict[str, Net]:
         nets[f"{symbol}-a, augmented {symbol}"] = augmented(known[symbol])
     nets["bto, boron oxide with zigzags in three directions"] = zigzags(((1, 0), (0, 1), (-1, -1)))
     nets["fof, rings and paddlewheels of MOF-505"] = rings_and_paddlewheels()
+    nets["utp, fourfold helices of both hands in turn"] = helices((1, -1))
+    nets["moo, trimers and triangles of MIL-100"] = supertetrahedra(in_primitive_cell(known["MTN"], FACE_CENTRED))
     return nets | by_sites
 
 

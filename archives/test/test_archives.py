@@ -4,14 +4,21 @@ the coordination sequences that they are known by."""
 import re
 import shutil
 import sys
+from collections import Counter, defaultdict
+from itertools import combinations
 
 from testing import PROGRAM, TOOLS, TOP, FolderTest, need_modules, need_program, run
 
-sys.path.insert(0, str(TOOLS / "batch"))
-from net_text import nets_of_report  # noqa: E402
+sys.path.insert(0, str(TOOLS / "python"))
+from crystal_nets.texts.net_text import nets_of_report  # noqa: E402
 
 ARCHIVES = TOP / "archives"
 SHELLS = 10
+# Of nets with one kind of vertex: the shortest cycles of its angles, as the field writes them (Blatov, O'Keeffe and
+# Proserpio, CrystEngComm 12 (2010) 44).
+POINT_SYMBOLS = {"srs": "10^3", "ths": "10^3", "bto": "10^3", "utp": "10^3", "dia": "6^6", "lon": "6^6", "sod": "4^2.6^4",
+                 "nbo": "6^4.8^2", "qtz": "6^4.8^2", "cds": "6^5.8", "cag": "4.6^5", "lvt": "4^2.8^4", "rhr": "4^2.6^2.8^2",
+                 "pcu": "4^12.6^3"}
 SAME_NETS = {("sra, aluminium in strontium dialuminide", "ABW, zeolite Li-A of Barrer and White")}
 
 
@@ -38,6 +45,12 @@ class Common(FolderTest):
             symbol, *sequences = line.split("\t")
             wanted = {tuple(map(int, sequence.split())) for sequence in sequences}
             self.assertEqual({tuple(shell) for shell in self.symbol[symbol].shells}, wanted, symbol)
+
+    def test_known_point_symbols(self):
+        sources = dict(zip((net.name.decode().split(",")[0] for net in self.nets),
+                           nets_of_source(ARCHIVES / "common.cgd")))
+        for symbol, wanted in POINT_SYMBOLS.items():
+            self.assertEqual(point_symbol(sources[symbol]), wanted, symbol)
 
     def test_prisms_have_the_sums_of_their_layers(self):
         for name, symbol in [("kag", "kgm")] + [(f"prisms of {s}", s) for s in ("fes", "hca", "tts", "fsz")]:
@@ -123,6 +136,13 @@ class Recipes(FolderTest):
         recipes = self.write_nets()
         self.assertEqual(self.symbols_of({"two": recipes.zigzags(((1, 0), (0, 1)))}), {"two": "ths"})
 
+    def test_helices_of_one_hand_are_srs(self):
+        self.assertEqual(self.symbols_of({"one": self.write_nets().helices((1, 1))}), {"one": "srs"})
+
+    def test_supertetrahedra_on_diamond_are_spn(self):
+        recipes = self.write_nets()
+        self.assertEqual(self.symbols_of({"dia": recipes.supertetrahedra(recipes.nets_by_hand()["dia"])}), {"dia": "spn"})
+
     def test_recipes_give_the_nets_of_the_source(self):
         need_modules("numpy", "gemmi")
         text = run(ARCHIVES / "write_nets.py").stdout
@@ -142,6 +162,27 @@ def nets_of_source(file):
         if len(words) > 3:
             u, v = (numbers.setdefault(vertex, len(numbers)) for vertex in words[:2])
             edges.append((u, v, tuple(map(int, words[2:]))))
+
+
+def point_symbol(edges) -> str:
+    """Of the first vertex how many of its angles are on shortest cycles of each size."""
+    arcs = defaultdict(list)
+    for u, v, shift in edges:
+        arcs[u].append((v, shift))
+        arcs[v].append((u, tuple(-x for x in shift)))
+    origin = (0, (0,) * len(edges[0][2]))
+    sizes = Counter(2 + steps_without(arcs, origin, one, other) for one, other in combinations(arcs[0], 2))
+    return ".".join(f"{size}^{count}" if count > 1 else str(size) for size, count in sorted(sizes.items()))
+
+
+def steps_without(arcs, origin, start, end) -> int:
+    """How many edges lead from one vertex to another, not by way of the origin."""
+    seen, shell, steps = {origin, start}, [start], 0
+    while end not in seen:
+        shell = sorted({(w, tuple(a + b for a, b in zip(cell, shift))) for v, cell in shell for w, shift in arcs[v]} - seen)
+        seen.update(shell)
+        steps += 1
+    return steps
 
 
 def counted_shells(edges) -> set[tuple[int, ...]]:

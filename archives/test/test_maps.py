@@ -4,8 +4,8 @@ import sys
 
 from testing import PROGRAM, TOOLS, TOP, FolderTest, need_program, run
 
-sys.path.insert(0, str(TOOLS / "batch"))
-from net_text import chunks_of, nets_of_report  # noqa: E402
+sys.path.insert(0, str(TOOLS / "python"))
+from crystal_nets.texts.net_text import chunks_of, nets_of_report  # noqa: E402
 
 COMMON = TOP / "archives/common.cgd"
 EXAMPLES = TOP / "examples"
