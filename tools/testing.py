@@ -20,9 +20,13 @@ TOP = TOOLS.parent
 PROGRAM = os.environ.get("NET_TOOL", str(TOP / "crates/net_tool/out/net_tool"))
 IS_LONG = os.environ.get("TOOLS_LONG") == "1"
 PACKAGES = {"gemmi": "python3-gemmi", "numpy": "python3-numpy", "spglib": "python3-spglib", "scipy": "python3-scipy",
+            "ase": "python3-ase", "pymatgen": "python3-pymatgen", "networkx": "python3-networkx",
+            "pandas": "python3-pandas", "nbconvert": "python3-nbconvert", "ipykernel": "python3-ipykernel",
+            "mypy": "mypy", "pip": "python3-pip", "setuptools": "python3-setuptools",
             "parallel": "parallel", "slurmctld": "slurm-wlm",
             "munged": "munge", "rsvg-convert": "librsvg2-bin", "chromium": "chromium",
-            "mandoc": "mandoc", "lintian": "lintian", "debootstrap": "debootstrap",
+            "flask": "python3-flask", "werkzeug": "python3-werkzeug", "selenium": "python3-selenium",
+            "chromedriver": "chromium-driver", "mandoc": "mandoc", "lintian": "lintian", "debootstrap": "debootstrap",
             "dpkg-deb": "dpkg", "objdump": "binutils", "strip": "binutils", "bash": "bash"}
 
 

@@ -8,7 +8,8 @@
 #   sbatch --array=1-16 nets.sbatch TOOLS FOLDER [COMMAND [ARCHIVE]]
 # TOOLS is the folder of key_piece, given since Slurm runs a copy of this script. Of 16 tasks each takes every 16th
 # piece: starting a task costs Slurm about as long as a piece takes. Where a task failed, the same command again does
-# what is missing and nothing else.
+# what is missing and nothing else. FOLDER may be one that `net_table --plan SOURCE FOLDER` made: then the tasks do its
+# pieces, and `net_table FOLDER` after them writes the table.
 case ${1:-} in
 -h | --help)
     sed -n '/^# The rows/,/^[^#]/{/^#/s/^# //p}' "$0"
@@ -18,6 +19,9 @@ esac
 set -eu
 tools=$1 folder=$2
 shift 2
+if [ -e "$folder/work/plan" ]; then
+    exec "$tools/net_table" "$folder" --part "$SLURM_ARRAY_TASK_ID/$SLURM_ARRAY_TASK_COUNT" --jobs 1
+fi
 total=$(wc -l <"$folder/index.tsv")
 for piece in $(seq "$SLURM_ARRAY_TASK_ID" "$SLURM_ARRAY_TASK_COUNT" "$total"); do
     "$tools/key_piece" "$folder" "$piece" "$@"

@@ -31,7 +31,7 @@ share=$to/share/net_tool
 commands="tools/cif2cgd/cif2cgd tools/cgd2net/cgd2net tools/cgd2net/make_archives archives/take_rcsr
 tools/pictures/draw_nets tools/pictures/net_gallery tools/batch/split_nets tools/batch/key_piece tools/batch/net_rows
 tools/batch/net_groups tools/batch/net_names tools/batch/name_nets tools/batch/accepted_nets tools/batch/archive_nets
-tools/batch/archive_files tools/batch/component_nets"
+tools/batch/archive_files tools/batch/component_nets tools/batch/net_table tools/desk/net_desk"
 
 . "$top/tools/words.sh"
 install -D -m 755 -- "$program" "$to/lib/net_tool/net_tool"
@@ -40,7 +40,7 @@ install -D -m 644 -- "$top/tools/words.sh" "$share/tools/words.sh"
 install -d -- "$share/archives" "$share/examples" "$to/share/doc/net_tool" "$to/share/man/man1"
 install -m 644 -- "$top"/archives/*.archive "$top/archives/README.md" "$share/archives"
 install -m 755 -- "$top/archives/take_rcsr" "$share/archives"
-install -m 644 -- "$top"/examples/*.c?? "$top"/examples/*.maps "$top/examples/README.md" "$share/examples"
+install -m 644 -- "$top"/examples/*.c?? "$top"/examples/*.maps "$top"/examples/*.ipynb "$top/examples/README.md" "$share/examples"
 install -m 644 -- "$top/README.md" "$top/docs/FORMATS.md" "$to/share/doc/net_tool"
 install -D -m 644 -- "$top/tools/install/net_tool.bash" "$to/share/bash-completion/completions/net_tool"
 
@@ -53,8 +53,8 @@ install -D -m 644 -- "$top/tools/install/net_tool.bash" "$to/share/bash-completi
 } >"$share/VERSION"
 chmod 644 "$share/VERSION"
 
-# The tools keep their layout, since they find their modules beside them; bin has links to those that are commands.
-(cd "$top/tools" && find cif2cgd cgd2net pictures batch -name test -prune -o -name __pycache__ -prune -o -type f -print) |
+# The tools keep their layout, since they find their modules in ../python; bin has links to those that are commands.
+(cd "$top/tools" && find cif2cgd cgd2net pictures batch desk python/README.md python/crystal_nets -name test -prune -o -name __pycache__ -prune -o -type f -print) |
     while read -r file; do
         mode=644
         [ ! -x "$top/tools/$file" ] || mode=755
@@ -74,6 +74,7 @@ done
 for command in $commands; do
     name=$(basename -- "$command")
     case $command in
+    tools/batch/net_table) ;; # has a page of its own
     tools/batch/*) ln -sf -- net_batch.1.gz "$to/share/man/man1/$name.1.gz" ;;
     tools/pictures/net_gallery) ln -sf -- draw_nets.1.gz "$to/share/man/man1/$name.1.gz" ;;
     tools/cgd2net/make_archives | archives/take_rcsr) ln -sf -- cgd2net.1.gz "$to/share/man/man1/$name.1.gz" ;;

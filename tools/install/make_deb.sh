@@ -32,6 +32,8 @@ DESTDIR=$root "$here/install.sh" /usr "$program" >/dev/null
 rm -f -- "$root"/usr/share/net_tool/archives/rcsr*.archive  # what its owner made is not ours to give
 strip --strip-unneeded --remove-section=.comment "$root/usr/lib/net_tool/net_tool"
 mv "$root/usr/share/doc/net_tool" "$root/usr/share/doc/$name"
+mkdir -p "$root/usr/lib/python3"
+mv "$root/usr/share/net_tool/tools/python" "$root/usr/lib/python3/dist-packages"
 
 # the newest version of the C library that a symbol of the program asks for
 libc=$(objdump -T "$root/usr/lib/net_tool/net_tool" | sed -n 's/.*GLIBC_\([0-9.]*\).*/\1/p' | sort -V | tail -n 1)
@@ -46,16 +48,25 @@ Section: science
 Priority: optional
 Depends: libc6 (>= ${libc:-2.34}), python3
 Recommends: python3-gemmi, python3-numpy, python3-scipy
-Suggests: librsvg2-bin, parallel, slurm-client
+Suggests: librsvg2-bin, parallel, python3-flask, python3-networkx, python3-pandas, python3-spglib, slurm-client
 Description: tell whether crystal structures have the same underlying net
  net_tool places crystal nets, gives them keys that are equal exactly where
  the nets are isomorphic, and finds the names of nets in an archive. The
  program is proved to do so. Beside it are tools, which are not proved, for
- structure files, pictures and large numbers of nets, and archives of common
- nets and of zeolites.
+ structure files, pictures and large numbers of nets, the Python module
+ crystal_nets, and archives of common nets and of zeolites.
  .
  The program needs a processor of the level x86-64-v2.
 CONTROL
+# what is compiled for python3 comes and goes with the package
+for script in "postinst py3compile" "prerm py3clean"; do
+    cat >"$root/DEBIAN/${script% *}" <<SCRIPT
+#!/bin/sh
+set -e
+! command -v ${script#* } >/dev/null || ${script#* } -p $name
+SCRIPT
+    chmod 755 "$root/DEBIAN/${script% *}"
+done
 gzip -9n >"$root/usr/share/doc/$name/changelog.gz" <<CHANGES
 $name ($version) unstable; urgency=low
 

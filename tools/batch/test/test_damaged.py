@@ -29,12 +29,12 @@ net 4 line 60
 unsupported CRYSTAL
 """
 
-sys.path.insert(0, str(BATCH))
-from archive_text import entries_of  # noqa: E402
-from component_text import parts_of_report  # noqa: E402
-from key_graph import block_rows  # noqa: E402
-from net_text import NoReport, nets_of_report  # noqa: E402
-from row_text import rows_of  # noqa: E402
+sys.path.insert(0, str(TOOLS / "python"))
+from crystal_nets.texts.archive_text import entries_of  # noqa: E402
+from crystal_nets.texts.component_text import parts_of_report  # noqa: E402
+from crystal_nets.texts.key_graph import block_rows  # noqa: E402
+from crystal_nets.texts.net_text import NoReport, nets_of_report  # noqa: E402
+from crystal_nets.texts.row_text import rows_of  # noqa: E402
 
 
 def mutant(text: bytes, chance: random.Random) -> bytes:

@@ -98,9 +98,9 @@ class Slurm(FolderTest):
             time.sleep(0.2)
         self.skipTest("Slurm does not start here")
 
-    def run_array(self, status, **settings):
+    def run_array(self, status, folder="pieces", **settings):
         run("sbatch", "--wait", "--array=1-4", "--mem-per-cpu=100M", f"--chdir={self.folder}",
-            BATCH / "nets.sbatch", BATCH, self.folder / "pieces", status=status, seconds=900,
+            BATCH / "nets.sbatch", BATCH, self.folder / folder, status=status, seconds=900,
             **self.settings, **settings)
 
     @long_test
@@ -120,6 +120,20 @@ class Slurm(FolderTest):
         self.assertEqual({file: file.stat().st_mtime_ns for file in done}, done)
         by_slurm = b"".join(file.read_bytes() for file in sorted(pieces.glob("*.rows")))
         self.assertEqual(by_slurm, self.rows_one_after_the_other(pieces))
+
+    @long_test
+    def test_a_table_by_parts(self):
+        source = self.folder / "nets.cgd"
+        source.write_text(text_of_odd_nets([TOP / "archives/common.archive"], COUNT, seed=13)[0])
+        run(BATCH / "net_table", "--keys-alone", "--plan", source, self.folder / "table")
+        self.run_array(0, "table")
+        by_slurm = {path: path.stat().st_mtime_ns for path in self.folder.glob("table/work/*.rows")}
+        for words in (["table"], [source, "other", "--keys-alone"]):
+            *source_given, folder = words
+            run(BATCH / "net_table", *source_given, self.folder / folder, "--no-names", status=None, seconds=900)
+        self.assertEqual({path: path.stat().st_mtime_ns for path in by_slurm}, by_slurm)
+        for name in ("table.tsv", "groups.tsv", "refused.tsv"):
+            self.assertEqual((self.folder / "table" / name).read_bytes(), (self.folder / "other" / name).read_bytes())
 
     def rows_one_after_the_other(self, pieces):
         other = self.folder / "other"

@@ -9,9 +9,9 @@ import sys
 from testing import IS_LONG, PROGRAM, TOOLS, TOP, FolderTest, long_test, need_modules, need_program, run
 
 need_modules("gemmi", "numpy", "scipy")
-sys.path[:0] = [str(TOOLS / "cgd2net"), str(TOOLS / "cif2cgd"), str(TOOLS / "batch")]
-from cgd_blocks.converter import Converter  # noqa: E402
-from net_text import nets_of_report  # noqa: E402
+sys.path.insert(0, str(TOOLS / "python"))
+from crystal_nets.blocks.converter import Converter  # noqa: E402
+from crystal_nets.texts.net_text import nets_of_report  # noqa: E402
 
 COMMAND = TOOLS / "cgd2net/cgd2net"
 ARCHIVE = TOP / "archives/common.archive"

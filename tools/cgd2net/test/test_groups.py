@@ -7,12 +7,12 @@ from fractions import Fraction
 from testing import IS_LONG, PROGRAM, TOOLS, FolderTest, long_test, need_modules, need_program, run
 
 need_modules("gemmi", "numpy", "scipy")
-sys.path[:0] = [str(TOOLS / "cgd2net"), str(TOOLS / "cif2cgd"), str(TOOLS / "batch"), str(TOOLS / "cgd2net/test")]
+sys.path[:0] = [str(TOOLS / "python"), str(TOOLS / "cgd2net/test")]
 import gemmi  # noqa: E402
-from cgd_blocks.groups import UnknownGroup, find_space_group, group_by_name  # noqa: E402
-from cgd_blocks.plane_groups import BY_NAME, TABLE  # noqa: E402
+from crystal_nets.blocks.groups import UnknownGroup, find_space_group, group_by_name  # noqa: E402
+from crystal_nets.blocks.plane_groups import BY_NAME, TABLE  # noqa: E402
 from generated import (ALONG_THIRD_AXIS, UNIT, Generated, metric_of, operations_of, special_places)  # noqa: E402
-from net_text import nets_of_report  # noqa: E402
+from crystal_nets.texts.net_text import nets_of_report  # noqa: E402
 
 COMMAND = TOOLS / "cgd2net/cgd2net"
 SETTINGS = list(gemmi.spacegroup_table())

@@ -16,8 +16,8 @@ from scipy.optimize import linear_sum_assignment, minimize
 from scipy.spatial import cKDTree
 from testing import TOOLS
 
-sys.path.insert(0, str(TOOLS / "cif2cgd"))
-from crystal_nets.contacts import contacts  # noqa: E402
+sys.path.insert(0, str(TOOLS / "python"))
+from crystal_nets.structures.contacts import contacts  # noqa: E402
 
 BOND = 1.49    # between two rings, or a ring and a carboxylate
 NEAR = 2.7     # pairs of a unit that are nearer keep their distance

@@ -67,7 +67,7 @@ class Assembled:
     name: str
     net: str
     units: Callable[[], dict]                     # by the number of neighbours, and where they are, or the colour
-    link: Callable[[], Unit] | None = None        # along each edge
+    link: Callable[[], Unit] | None = None        # along each edge between vertices with as many neighbours
     conventions: tuple[str, ...] = ("single-nodes", "all-nodes")
     other_nets: tuple[tuple[str, str], ...] = ()  # by conventions under which it is another
     is_crowded: bool = False                      # so that linkers are to be pushed apart
@@ -83,7 +83,8 @@ class Assembled:
         count = 1 + max(max(a, b) for a, b, _ in edges)
         kinds = kinds_of(edges, count, colours)
         chosen = [next(units[kind] for kind in kinds[v] if kind in units) for v in range(count)]
-        return assemble(edges, chosen, [link] * len(edges), self.is_crowded)
+        links = [link if kinds[a][0] == kinds[b][0] else None for a, b, _ in edges]
+        return assemble(edges, chosen, links, self.is_crowded)
 
 
 def kinds_of(edges: list[Edge], count: int, colours: dict[int, int]) -> list[list]:
@@ -146,13 +147,14 @@ ASSEMBLED = (
     Assembled("PCN-224", "she", lambda: {6: u.zirconium_oxide(u.HEXAGON), 4: u.porphyrin("Ni")}),
     Assembled("MOF-808", "spn", lambda: {6: u.zirconium_oxide(u.ANTIPRISM), 3: u.three_arms()}),
     Assembled("MIL-88B", "acs", lambda: {6: u.trimer()}, u.phenylenes),
+    Assembled("UMCM-1", "muo", lambda: {6: u.zinc_oxide(), 3: u.three_arms(arms=1)}, u.phenylenes),
     Assembled("NU-902", "scu", lambda: {8: u.zirconium_oxide(u.EIGHT), 4: u.porphyrin()}),
     Assembled("MOF-11", "pts", lambda: {(4, "flat"): u.paddlewheel(), (4, "round"): u.adamantane()}, None,
               ("single-nodes",)),
     Assembled("MOF-505", "fof", lambda: {4: u.paddlewheel(), 3: u.three_arms()}, None, ("all-nodes",),
               (("single-nodes", "nbo"),)),
     Assembled("zinc squarate", "nbo", lambda: {(4, 0): u.atom("Zn", 4, 2.1), (4, 1): u.squarate()}),
-    zif("ZIF-8", "sod"), zif("ZIF-20", "LTA"), zif("ZIF-11", "RHO"), zif("ZIF-6", "GIS"), zif("ZIF-1", "crb"),
+    zif("ZIF-4", "cag"), zif("ZIF-8", "sod"), zif("ZIF-20", "LTA"), zif("ZIF-11", "RHO"), zif("ZIF-6", "GIS"), zif("ZIF-1", "crb"),
     zif("ZIF-10", "MER"), zif("ZIF-3", "DFT"),
     Assembled("oxalate honeycomb", "hcb", lambda: {3: u.atom("Fe", 3, 2.4)}, u.oxalate),
     Assembled("oxalate of three dimensions", "srs", lambda: {3: u.atom("Mn", 3, 2.45)}, u.oxalate),

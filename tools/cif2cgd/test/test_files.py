@@ -7,14 +7,18 @@ import pty
 import random
 import re
 import subprocess
+from pathlib import Path
 
 from testing import PROGRAM, TOOLS, TOP, FolderTest, IS_LONG, need_modules, need_program, run
 
 need_modules("gemmi", "numpy", "scipy")
-from structures import STRUCTURES, presentations  # noqa: E402
+from structures import STRUCTURES, cif_text, presentations  # noqa: E402
 
 COMMAND = TOOLS / "cif2cgd/cif2cgd"
 AVOGADRO = sorted(glob.glob("/usr/share/avogadro*/crystals/*/*.cif"))
+OTHERS = sorted(file for place in ("gdis/models", "doc/drawxtl/examples", "doc/cif2hkl/examples",
+                                   "doc/python3-openbabel/examples") for file in glob.glob(f"/usr/share/{place}/*.cif"))
+PROTOTYPES = Path("/usr/lib/python3/dist-packages/pymatgen/analysis/aflow_prototypes.json")
 CAESIUM_CHLORIDE = """data_CsCl
 _cell_length_a 4.12
 _cell_length_b 4.12
@@ -209,9 +213,10 @@ class RealFiles(FolderTest):
 
     def test_broken_files_end_in_a_reason(self):
         chance = random.Random(7)
+        real = [Path(file).read_bytes() for file in AVOGADRO + OTHERS] + (prototypes() if IS_LONG else [])
         files = []
         for k in range(2000 if IS_LONG else 120):
-            content = broken(open(chance.choice(AVOGADRO), "rb").read(), chance)
+            content = broken(chance.choice(real), chance)
             files.append(self.folder / f"{k}.cif")
             files[-1].write_bytes(content)
         for words in (["--accept-misfit", "--partial-as-full"], ["--convention", "auto"]):
@@ -240,6 +245,18 @@ class OtherFiles(FolderTest):
         self.assertNotIn("Traceback", told)
         self.assertNotIn("cif2cgd failed", told)
         self.assertEqual(told.count(": refused: "), len(contents), told)
+
+
+def prototypes() -> list[bytes]:
+    """The prototypes of AFLOW, where python3-pymatgen has them, as files without symmetry."""
+    texts = []
+    for prototype in json.loads(PROTOTYPES.read_text()) if PROTOTYPES.exists() else []:
+        structure = prototype["snl"]
+        cell = [structure["lattice"][key] for key in ("a", "b", "c", "alpha", "beta", "gamma")]
+        sites = [(f"{kind['element']}{k}", kind["element"], *site["abc"], kind["occu"])
+                 for k, site in enumerate(structure["sites"]) for kind in site["species"]]
+        texts.append(cif_text(cell, sites, operations=["x,y,z"]).encode())
+    return texts
 
 
 def broken(content: bytes, chance: random.Random) -> bytes:

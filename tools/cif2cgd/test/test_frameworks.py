@@ -16,13 +16,13 @@ from frameworks import ASSEMBLED, PUBLISHED, nets_of_archive  # noqa: E402
 from scipy.spatial import cKDTree  # noqa: E402
 from structures import STRUCTURES, Structure, cif_text, images_of, lengths_and_angles, presentations  # noqa: E402
 
-sys.path.insert(0, str(TOOLS / "cif2cgd"))
-from crystal_nets.choice import Options  # noqa: E402
-from crystal_nets.conventions import CONVENTIONS  # noqa: E402
-from crystal_nets.conversion import Source, convert  # noqa: E402
+sys.path.insert(0, str(TOOLS / "python"))
+from crystal_nets.structures.choice import Options  # noqa: E402
+from crystal_nets.structures.conventions import CONVENTIONS  # noqa: E402
+from crystal_nets.structures.conversion import Source, convert  # noqa: E402
 
 CLUSTERS = [s for s in STRUCTURES if "--clusters" in s.words]
-LARGE = ("PCN-6'", "PCN-222", "PCN-224", "NU-1000", "MOF-808", "UiO-67", "ZIF-6", "ZIF-10", "ZIF-11", "ZIF-20",
+LARGE = ("UMCM-1", "PCN-6'", "PCN-222", "PCN-224", "NU-1000", "MOF-808", "UiO-67", "ZIF-6", "ZIF-10", "ZIF-11", "ZIF-20",
          "COF-102", "COF-108")  # that take long, for tools/test --long
 WATER = (("O", (0, 0, 0)), ("H", (0.76, 0.59, 0)), ("H", (-0.76, 0.59, 0)))
 
@@ -239,17 +239,26 @@ class Conventions(unittest.TestCase):
         for framework in ASSEMBLED:
             self.assertLessEqual(set(framework.nets.values()), set(nets_of_archive()), framework.name)
 
-    def test_of_interwoven_nets_one_is_written(self):
+    def test_of_two_interwoven_nets_one_is_written(self):
+        self.assert_interwoven("zinc cyanide", "single-nodes", 2, (0.5, 0.5, 0.5))
+
+    @long_test
+    def test_of_five_interwoven_nets_one_is_written(self):
+        self.assert_interwoven("COF-300", "standard", 5, (0, 0, 0.2))
+
+    def assert_interwoven(self, name: str, convention: str, count: int, step: tuple) -> None:
+        """That so many nets dia, each a step in the cubic cell from the one before, are told, and one is written."""
         need_program()
-        framework = next(f for f in ASSEMBLED if f.name == "zinc cyanide")
-        assembly = framework.assembly()
+        assembly = next(f for f in ASSEMBLED if f.name == name).assembly()
         atoms = Atoms(assembly.lattice, assembly.elements, np.array(assembly.places))
-        atoms.places = np.vstack((atoms.places, atoms.places + 0.5))
-        atoms.elements, atoms.disorder = 2 * atoms.elements, 2 * atoms.disorder
-        content = atoms.text("zinc cyanide, two nets, made from ideal geometry", np.eye(3), ["x,y,z"], 1).encode()
-        done = convert(Source("two", "two", "two"), content, Options(convention="single-nodes"))
-        self.assertIn("2 interwoven nets alike in the cell, one is written", "\n".join(done.told(refusals_alone=False)))
-        self.assertEqual(symbols_of(done.text), {"two": "dia"})
+        atoms.places = np.vstack([atoms.places + k * np.array(step) for k in range(count)])
+        atoms.elements, atoms.disorder = count * atoms.elements, count * atoms.disorder
+        origin = f"{name}, {count} nets, made from ideal geometry: not measured"
+        for kind, content in files_of(name, origin, atoms).items():
+            done = convert(Source(kind, kind, kind), content.encode(), Options(convention=convention))
+            told = "\n".join(done.told(refusals_alone=False))
+            self.assertIn(f"{count} interwoven nets alike in the cell, one is written", told, kind)
+            self.assertEqual(symbols_of(done.text), {kind: "dia"})
 
     def test_hydrogen_bonds_join_molecules(self):
         need_program()

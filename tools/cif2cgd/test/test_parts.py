@@ -6,14 +6,14 @@ import unittest
 from testing import TOOLS, need_modules
 
 need_modules("gemmi", "numpy", "scipy")
-sys.path.insert(0, str(TOOLS / "cif2cgd"))
-from crystal_nets.bonds import first_gap  # noqa: E402
-from crystal_nets.components import components  # noqa: E402
-from crystal_nets.elements import element_of, elements_of_formula  # noqa: E402
-from crystal_nets.lattice import coordinates, index, staircase  # noqa: E402
-from crystal_nets.net import Net, contracted, edge, without_ends  # noqa: E402
-from crystal_nets.translations import divided_by_translations  # noqa: E402
-from crystal_nets.units import parts_of, ring_edges  # noqa: E402
+sys.path.insert(0, str(TOOLS / "python"))
+from crystal_nets.structures.bonds import first_gap  # noqa: E402
+from crystal_nets.structures.components import components  # noqa: E402
+from crystal_nets.structures.elements import element_of, elements_of_formula  # noqa: E402
+from crystal_nets.structures.lattice import coordinates, index, staircase  # noqa: E402
+from crystal_nets.structures.net import Net, contracted, edge, without_ends  # noqa: E402
+from crystal_nets.structures.translations import divided_by_translations  # noqa: E402
+from crystal_nets.structures.units import parts_of, ring_edges  # noqa: E402
 
 X, Y, Z = (1, 0, 0), (0, 1, 0), (0, 0, 1)
 

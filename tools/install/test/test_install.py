@@ -35,6 +35,7 @@ class Installed(FolderTest):
         cls.install()
         cls.prefix = cls.root / "usr/local"
         cls.share = cls.prefix / "share/net_tool"
+        cls.module = cls.share / "tools/python"
         cls.path = f"{cls.prefix / 'bin'}:{os.environ['PATH']}"
 
     @classmethod
@@ -120,9 +121,20 @@ class Installed(FolderTest):
 
     def test_tools_with_packages(self):
         need_modules("gemmi", "numpy", "scipy")
-        self.in_shell("cif2cgd --help")
+        self.in_shell("cif2cgd --help; net_desk --help")
+        self.assertTrue((self.share / "tools/python/crystal_nets/desk/page/desk.html").is_file())
         self.in_shell(f"net_tool identify {self.share}/examples/dia.cgd | draw_nets --svg {self.folder}")
         self.assertEqual(len(list(self.folder.glob("*.svg"))), 1)
+
+    def test_the_python_module(self):
+        """It finds the installed program and archives, where nothing names them."""
+        code = ("import crystal_nets as c; net = c.Net([(1, 1, (1, 0)), (1, 1, (0, 1))]);"
+                "print(c.keys([net])[0].key, c.find_program(), *c.archive.default_files(), '', sep='|')")
+        told = run("/usr/bin/python3", "-B", "-c", code, PYTHONPATH=str(self.module), NET_TOOL="",
+                   HOME=str(self.folder), XDG_DATA_HOME="").stdout.decode()
+        key, program, *archives = told.split("|")
+        self.assertEqual((key, program), ("2 1 1 1 1 0 1 1 1 1 0", str(self.prefix / "lib/net_tool/net_tool")))
+        self.assertEqual(archives[:-1], list(map(str, sorted((self.share / "archives").glob("*.archive")))))
 
     def test_no_link_is_broken_and_each_command_has_a_page(self):
         for path in self.root.rglob("*"):
@@ -227,6 +239,19 @@ class Package(FolderTest):
         for path in ("./usr/bin/net_tool", "./usr/lib/net_tool/net_tool", "./usr/share/net_tool/archives/zeolites.archive", "./usr/bin/cif2cgd ->"):
             self.assertIn(path, content)
         self.assertNotIn(" ./root", content)
+        self.assertIn("./usr/lib/python3/dist-packages/crystal_nets/py.typed", content)
+        self.assertIn("./usr/lib/python3/dist-packages/crystal_nets/pictures/page.html", content)
+        self.assertNotIn("share/net_tool/tools/python", content)
+
+    def test_the_module_and_the_commands_of_the_package_work_together(self):
+        root = self.folder / "root"
+        run("dpkg-deb", "-x", self.build(), root)
+        code = "import crystal_nets as c; print(c.find_program(), c.keys([c.Net([(1, 1, (1, 0)), (1, 1, (0, 1))])])[0].key)"
+        settings = {"PYTHONPATH": str(root / "usr/lib/python3/dist-packages"), "NET_TOOL": "", "XDG_DATA_HOME": ""}
+        told = run("/usr/bin/python3", "-B", "-c", code, **settings).stdout.decode()
+        self.assertEqual(told, f"{root}/usr/lib/net_tool/net_tool 2 1 1 1 1 0 1 1 1 1 0\n")
+        blocks = run(root / "usr/bin/archive_nets", root / "usr/share/net_tool/archives/common.archive", **settings).stdout
+        self.assertEqual(blocks.count(b"END\n"), (TOOLS.parent / "archives/common.archive").read_bytes().count(b"\nentry "))
 
     def test_the_same_sources_give_the_same_package(self):
         first = self.build().read_bytes()

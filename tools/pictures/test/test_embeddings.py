@@ -6,13 +6,13 @@ from collections import Counter
 from testing import IS_LONG, PROGRAM, TOOLS, TOP, FolderTest, need_modules, need_program, run
 
 need_modules("numpy", "spglib", "gemmi", "scipy")
-sys.path[:0] = [str(TOOLS / "pictures"), str(TOOLS / "batch"), str(TOOLS / "cgd2net")]
+sys.path.insert(0, str(TOOLS / "python"))
 import gemmi  # noqa: E402
 import numpy as np  # noqa: E402
-from net_pictures.crystal_text import block_of, cif_of  # noqa: E402
-from net_pictures.embedding import Embedding  # noqa: E402
-from net_pictures.placed import placed_net  # noqa: E402
-from net_text import nets_of_report  # noqa: E402
+from crystal_nets.pictures.crystal_text import block_of, cif_of  # noqa: E402
+from crystal_nets.pictures.embedding import Embedding  # noqa: E402
+from crystal_nets.pictures.placed import placed_net  # noqa: E402
+from crystal_nets.texts.net_text import nets_of_report  # noqa: E402
 
 SOURCES = [TOP / "archives/common.cgd", TOP / "archives/zeolites.cgd"]
 STEP = 1 if IS_LONG else 3    # of the zeolites every so many

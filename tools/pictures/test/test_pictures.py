@@ -17,12 +17,12 @@ from testing import (IS_LONG, PROGRAM, TOOLS, TOP, FolderTest, long_test, need_c
                      run)
 
 need_modules("numpy")
-sys.path[:0] = [str(TOOLS / "pictures"), str(TOOLS / "batch")]
+sys.path.insert(0, str(TOOLS / "python"))
 import numpy as np  # noqa: E402
-from net_pictures.placed import placed_net  # noqa: E402
-from net_pictures.shape import Shape  # noqa: E402
-from net_pictures.view import hidden_share, view_of  # noqa: E402
-from net_text import nets_of_report  # noqa: E402
+from crystal_nets.pictures.placed import placed_net  # noqa: E402
+from crystal_nets.pictures.shape import Shape  # noqa: E402
+from crystal_nets.pictures.view import hidden_share, view_of  # noqa: E402
+from crystal_nets.texts.net_text import nets_of_report  # noqa: E402
 
 DRAW = TOOLS / "pictures/draw_nets"
 COMMON = TOP / "archives/common.cgd"

@@ -1,0 +1,295 @@
+"""Tables: what net_table writes, that a run that broke off is taken up, and that broken files are told of."""
+
+import json
+import os
+import random
+import shutil
+import signal
+import subprocess
+import sys
+import time
+from pathlib import Path
+
+from odd_cells import text_of_odd_nets
+from testing import IS_LONG, PROGRAM, TOOLS, TOP, FolderTest, long_test, need_commands, need_modules, need_program, run
+
+sys.path.insert(0, str(TOOLS / "python"))
+from crystal_nets.tables.columns import TABLE, escaped, plain, read_table  # noqa: E402
+from crystal_nets.tables.piece import path_of, rows_of  # noqa: E402
+from crystal_nets.tables.plan import Failed, files_of, plan_of, read_plan  # noqa: E402
+
+BATCH = TOOLS / "batch"
+NET_TABLE = BATCH / "net_table"
+FILES = ("table.tsv", "groups.tsv", "names.tsv", "refused.tsv")
+BLOCKS = b"""# a comment
+PERIODIC_GRAPH
+NAME "a;b	tab"
+EDGES
+1 1 1 0
+1 1 0 1
+END
+PERIODIC_GRAPH
+NAME row
+EDGES
+1 1 1 0
+END
+PERIODIC_GRAPH
+EDGES
+"x" "x" 1 1
+"x" "x" 0 1
+END
+CRYSTAL
+NAME x
+END
+PERIODIC_GRAPH
+NAME cut
+EDGES
+1 1 1 0
+"""
+SQL_ARCHIVE = b"""PERIODIC_GRAPH
+NAME "sql, square; lattice"
+EDGES
+1 1 1 0
+1 1 0 1
+END
+"""
+
+
+def table_of(folder: Path) -> list[dict[str, str]]:
+    head, *rows = (folder / "table.tsv").read_text(errors="surrogateescape").splitlines()
+    return [dict(zip(head.split("\t"), row.split("\t"), strict=True)) for row in rows]
+
+
+def contents(folder: Path) -> dict[str, bytes]:
+    return {name: (folder / name).read_bytes() for name in FILES}
+
+
+class Columns(FolderTest):
+    def test_fields_there_and_back(self):
+        for text in ("", "a\tb", 'x"y', "a;b\\", "\\x41", "\x01\n\r", "é\udcff"):
+            self.assertEqual(plain(escaped(text)), text)
+            self.assertFalse({"\t", "\n", '"', ";"} & set(escaped(text).replace("\\;", "")))
+
+
+class Table(FolderTest):
+    def setUp(self):
+        super().setUp()
+        need_program()
+        need_modules("gemmi", "numpy", "scipy", "spglib")
+        self.source = self.folder / "nets.cgd"
+        self.source.write_bytes(BLOCKS)
+        self.result = self.folder / "result"
+        self.archives = self.folder / "archives"
+        self.archives.mkdir()
+        for name in ("one", "two"):
+            block = self.folder / "sql.cgd"
+            block.write_bytes(SQL_ARCHIVE.replace(b"sql", name.encode()))
+            (self.archives / f"{name}.archive").write_bytes(run(PROGRAM, "add", block).stdout)
+
+    def make(self, *words: object, status: int | None = 1) -> subprocess.CompletedProcess:
+        return run(NET_TABLE, self.source, self.result, "--archive", self.archives, *words, status=status)
+
+    def test_a_table_of_blocks(self):
+        told = self.make("--jobs", 1).stdout.decode()
+        self.assertIn("5 nets, 2 with a key, 1 different, 2 with a name, 3 refused", told)
+        rows = table_of(self.result)
+        self.assertEqual([row["number"] for row in rows], list("12345"))
+        self.assertEqual([row["line"] for row in rows], ["2", "8", "13", "18", "21"])
+        self.assertEqual([plain(row["name"]) for row in rows], ["a;b\ttab", "row", "", "x", "cut"])
+        self.assertEqual([row["outcome"] for row in rows],
+                         ["accepted", "refused 2 Degenerate", "accepted", "unreadable", "unreadable"])
+        self.assertEqual([row["group"] for row in rows], ["1", "", "1", "", ""])
+        self.assertEqual(rows[2]["names"], "one, square\\; lattice;two, square\\; lattice")
+        self.assertEqual(rows[0]["sequences"], "4 8 12 16 20 24 28 32 36 40")
+        told = contents(self.result)
+        self.assertEqual(told["groups.tsv"].splitlines()[1:], [b"1\t2\tone, square\\; lattice;two, square\\; lattice\t1 3"])
+        self.assertEqual(len(told["names.tsv"].splitlines()), 5)
+        self.assertIn(b"refused 2 Degenerate q=0 c=0 1 h=0", told["refused.tsv"])
+
+    def test_pandas_reads_it(self):
+        need_modules("pandas")
+        self.make()
+        import pandas
+        for table in (read_table(self.result), pandas.read_csv(self.result / "table.tsv", sep="\t")):
+            self.assertEqual((list(table.columns), len(table)), (list(TABLE), 5))
+            self.assertEqual(table["vertices"].sum(), 3)
+        self.assertEqual(list(read_table(self.result)["names"])[1], "")
+
+    def test_pieces_and_processes_change_nothing(self):
+        self.source.write_bytes((TOP / "archives/common.cgd").read_bytes()[:20_000])
+        run(NET_TABLE, self.source, self.result, "--no-names", "--keys-alone", "--jobs", 1, status=None)
+        whole = contents(self.result)
+        for blocks, jobs in ((1, 3), (7, 2)):
+            other = self.folder / f"by {blocks}"
+            code = (f"import sys; sys.path.insert(0, {str(TOOLS / 'python')!r})\n"
+                    f"from crystal_nets.tables import plan; plan.MOST_BLOCKS = {blocks}\n"
+                    "from crystal_nets.tables.command import main; sys.exit(main())")
+            run(sys.executable, "-B", "-c", code, self.source, other, "--no-names", "--keys-alone", "--jobs", jobs, status=None)
+            self.assertGreater(len(read_plan(other / "work/plan").pieces), 3)
+            self.assertEqual(contents(other), whole)
+
+    def test_it_goes_on_where_it_was_killed(self):
+        """Killed after each of several times, and in the end the bytes are those of a run that was not."""
+        need_modules("ase")
+        shutil.rmtree(self.archives)
+        whole = self.folder / "whole"
+        nets = (TOP / "archives/common.cgd").read_bytes()[:30_000]
+        folder = self.folder / "source"
+        (folder / "deep").mkdir(parents=True)
+        for k in range(12):
+            (folder / f"deep/{k}.cgd").write_bytes(nets[:3000 + 200 * k] + b"\nEND\n")
+        (folder / "quartz.cif").write_bytes((TOP / "examples/quartz.cif").read_bytes())
+        (folder / "empty.cgd").touch()
+        code = (f"import sys; sys.path.insert(0, {str(TOOLS / 'python')!r})\n"
+                "from crystal_nets.tables import plan; plan.MOST_BLOCKS = 5\n"
+                "from crystal_nets.tables.command import main; sys.exit(main())")
+        command = [sys.executable, "-B", "-c", code, folder]
+        run(*command, whole, "--no-names", "--jobs", 2, status=1)
+        killed = 0
+        for _ in range(6):
+            process = subprocess.Popen([*map(str, command), str(self.result), "--no-names", "--jobs", "2"],
+                                       stdout=subprocess.DEVNULL, stderr=subprocess.DEVNULL,
+                                       env={**os.environ, "NET_TOOL": PROGRAM})
+            before = len(list(self.result.glob("work/*.rows")))
+            while process.poll() is None and len(list(self.result.glob("work/*.rows"))) < before + 2:
+                time.sleep(0.01)
+            killed += process.poll() is None
+            process.send_signal(signal.SIGKILL)
+            process.wait()
+        self.assertGreater(killed, 0)
+        run(*command, self.result, "--no-names", "--jobs", 2, status=1)
+        self.assertEqual(contents(self.result), contents(whole))
+        self.assertEqual([path.name for path in self.result.rglob("*.part")], [])
+        rows = table_of(whole)
+        self.assertEqual([row["outcome"] for row in rows if row["source"].endswith("empty.cgd")], ["unreadable"])
+        self.assertEqual([row["name"] for row in rows if row["source"].endswith("quartz.cif")], ["quartz"])
+
+    def test_rows_that_are_spoiled_are_made_anew(self):
+        self.make()
+        whole = contents(self.result)
+        work = self.result / "work"
+        rows = path_of(work, 1)
+        for spoiled in (rows.read_bytes()[:-3], b"", rows.read_bytes().replace(b"\t2\t", b"\t3\t")):
+            rows.write_bytes(spoiled)
+            self.assertIsNone(rows_of(work, read_plan(work / "plan"), 1))
+            self.make()
+            self.assertEqual(contents(self.result), whole)
+
+    def test_parts_as_on_a_cluster(self):
+        self.make("--plan", status=0)
+        run(NET_TABLE, self.result, "--part", "2/3")
+        for k in ("1", "3"):
+            run("sh", BATCH / "nets.sbatch", BATCH, self.result, SLURM_ARRAY_TASK_ID=k, SLURM_ARRAY_TASK_COUNT="3")
+        self.assertEqual(len(list(self.result.glob("work/*.rows"))), len(read_plan(self.result / "work/plan").pieces))
+        run(NET_TABLE, self.result, "--archive", self.archives, status=1)
+        parts = contents(self.result)
+        shutil.rmtree(self.result)
+        self.make()
+        self.assertEqual(contents(self.result), parts)
+
+    def test_a_folder_of_archives_is_one_archive_to_all_tools(self):
+        both = [b"one, square; lattice", b"two, square; lattice"]
+        self.source.write_bytes(SQL_ARCHIVE)
+        pieces = self.folder / "pieces"
+        run(BATCH / "split_nets", self.source, pieces)
+        run(BATCH / "key_piece", pieces, 1, "identify", self.archives)
+        row = (pieces / "p00001.cgd.rows").read_bytes().rstrip(b"\n").split(b"\t")
+        self.assertEqual(row[11], b";".join(name.replace(b";", b"\\;") for name in both))
+        self.assertRegex(row[13], rb"^archives [0-9a-f]{16}$")
+        before = (pieces / "p00001.cgd.rows").stat().st_mtime_ns
+        run(BATCH / "key_piece", pieces, 1, "identify", self.archives)
+        self.assertEqual((pieces / "p00001.cgd.rows").stat().st_mtime_ns, before)
+        told = run(BATCH / "net_names", self.archives, pieces / "p00001.cgd.rows").stdout
+        self.assertEqual(told.count(b"\n"), 2)
+        blocks = run(BATCH / "archive_nets", self.archives).stdout
+        self.assertEqual([name in blocks for name in both], [True, True])
+        told = run(TOOLS / "pictures/net_gallery", "--jobs", 1, self.folder / "gallery", self.archives).stdout.decode()
+        self.assertEqual([Path(line).name for line in told.split()], ["one.html", "two.html"])
+        (self.archives / "two.archive").write_bytes(b"net_archive 2\nentry\n")
+        self.assertIn(b"archive", run(BATCH / "key_piece", pieces, 1, "identify", self.archives, status=1).stderr)
+
+    def test_words_and_sources_that_are_none(self):
+        self.make()
+        for words, status, word in (([], 2, "usage"), ([self.folder / "absent", self.result], 3, "absent"),
+                                    ([self.source, self.result, "--keys-alone"], 3, "another table"),
+                                    ([self.folder / "new"], 3, "nothing is planned"), ([self.archives, self.folder / "new"], 3, "no files"),
+                                    ([self.source, self.result, "--jobs", "0"], 2, "1 to 1024"),
+                                    ([self.source, self.result, "--part", "4/3"], 2, "3/16"),
+                                    ([self.source, self.result, "--archive", self.source], 3, "archive"),
+                                    ([1, 2, 3], 2, "FOLDER")):
+            done = run(NET_TABLE, *words, status=status)
+            self.assertIn(word, done.stderr.decode(), words)
+            self.assertNotIn(b"Traceback", done.stderr)
+        self.source.write_bytes(BLOCKS + BLOCKS)
+        self.assertIn(b"changed since", self.make(status=3).stderr)
+        (self.result / "work/plan").write_text("{}\n")
+        self.assertIn(b"no plan", self.make(status=3).stderr)
+
+    def test_the_status_of_a_program_that_fails(self):
+        failing = self.folder / "failing"
+        failing.write_text("#!/bin/sh\ncat >/dev/null\nexit 7\n")
+        failing.chmod(0o755)
+        for jobs in (1, 2):
+            done = run(NET_TABLE, self.source, self.result, "--no-names", "--jobs", jobs, status=7, NET_TOOL=str(failing))
+            self.assertIn(b"memory was refused", done.stderr)
+        self.assertEqual([name for name in FILES if (self.result / name).exists()], [])
+
+    def test_broken_texts(self):
+        """Damaged files of a folder: each has its rows, and none spoils another."""
+        seed = random.Random(3)
+        folder = self.folder / "many"
+        folder.mkdir()
+        common = (TOP / "archives/common.cgd").read_bytes()[:6_000]
+        cif = (TOP / "examples/quartz.cif").read_bytes()
+        count = 400 if IS_LONG else 60
+        for k in range(count):
+            text = common if k % 2 else cif
+            a, b = sorted(seed.randrange(len(text)) for _ in range(2))
+            text = seed.choice((text[:a], text[:a] + text[b:], text[:a] + os.urandom(3) + text[a:], b""))
+            (folder / f"{k:04}{'.cgd' if k % 2 else '.cif'}").write_bytes(text)
+        (folder / "whole.cgd").write_bytes(SQL_ARCHIVE)
+        (folder / "link.cgd").symlink_to(self.folder / "absent")
+        (folder / "link.cgd").unlink()
+        done = run(NET_TABLE, folder, self.result, "--archive", self.archives, "--jobs", 2, status=1)
+        self.assertEqual(done.stderr, b"")
+        rows = table_of(self.result)
+        self.assertEqual({Path(row["source"]).name for row in rows}, {path.name for path in folder.iterdir()})
+        self.assertEqual(rows[-1]["names"], "one, square\\; lattice;two, square\\; lattice")
+
+
+class Plans(FolderTest):
+    def test_pieces_cover_each_file(self):
+        for number, text in enumerate((BLOCKS, BLOCKS * 700, b"", b"# nothing\n", b"key 2 1 1 1 0 1 1 0 1\n id x\nend\n version 1\n" * 2500)):
+            (self.folder / f"{number}.cgd").write_bytes(text)
+        (self.folder / "x.cif").write_bytes(b"data_x\n")
+        plan = plan_of(files_of(self.folder), {"source": "x"})
+        lengths: dict[str, int] = {}
+        for piece in plan.pieces:
+            for portion in piece:
+                self.assertEqual(lengths.get(portion.path, 0), portion.offset)
+                lengths[portion.path] = portion.offset + portion.length
+        self.assertEqual(lengths, {str(path): path.stat().st_size for path in self.folder.iterdir()})
+        self.assertEqual({portion.kind for piece in plan.pieces for portion in piece}, {"blocks", "items", "structure"})
+        (self.folder / "plan").write_text(plan.text)
+        self.assertEqual(read_plan(self.folder / "plan"), plan)
+        for text in ("", "x", "[]\n", plan.text.replace("net_table 1", "net_table 2"), json.dumps({"form": "net_table 1"}) + "\n[1]\n"):
+            (self.folder / "plan").write_text(text)
+            with self.assertRaises(Failed):
+                read_plan(self.folder / "plan")
+
+
+class Many(FolderTest):
+    @long_test
+    def test_ten_thousand_nets(self):
+        need_program()
+        need_commands("sort")
+        text, truth = text_of_odd_nets([TOP / "archives/common.archive"], 10_000, seed=5)
+        source = self.folder / "many.cgd"
+        source.write_text(text)
+        run(NET_TABLE, source, self.folder / "result", "--no-names", "--keys-alone", status=None, seconds=3000)
+        rows = table_of(self.folder / "result")
+        self.assertEqual([row["name"] for row in rows], [str(k + 1) for k in range(len(truth))])
+        groups: dict[str, set[str]] = {}
+        for row, name in zip(rows, truth):
+            groups.setdefault(name, set()).update({row["group"]} - {""})
+        self.assertEqual({len(found) for found in groups.values()}, {1})

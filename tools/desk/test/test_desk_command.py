@@ -1,0 +1,111 @@
+"""How net_desk begins and ends: one line for each fault, and nothing that is left running."""
+
+import os
+import signal
+import socket
+import subprocess
+import time
+from pathlib import Path
+
+from desk import DESK, Server, form_of, need_desk
+from testing import FolderTest, run
+
+need_desk()
+
+SQL = b"PERIODIC_GRAPH\nEDGES\n1 1 1 0\n1 1 0 1\nEND\n"
+
+
+class Beginning(FolderTest):
+    def fault(self, *words: object, status: int = 1, **settings: str) -> str:
+        told = run(DESK, "--no-browser", *words, status=status, **settings).stderr.decode()
+        self.assertNotIn("Traceback", told)
+        if status == 1:
+            self.assertEqual(told.count("\n"), 1, told)
+        return told
+
+    def test_help(self):
+        self.assertIn(b"--no-browser", run(DESK, "--help").stdout)
+        for words in ("--port 0", "--port 70000", "--port x", "--seconds 0", "--memory 1", "--other"):
+            self.fault(*words.split(), status=2)
+
+    def test_a_port_that_is_taken(self):
+        with socket.socket() as taken:
+            taken.bind(("127.0.0.1", 0))
+            taken.listen()
+            number = taken.getsockname()[1]
+            told = self.fault("--port", number)
+        self.assertIn(f"port {number} cannot be had: Address already in use; give another", told)
+
+    def test_no_program(self):
+        told = self.fault(NET_TOOL=str(self.folder / "absent"))
+        self.assertIn("which is no program", told)
+        self.assertIn("proves and builds it", told)
+
+    def test_files_that_are_not_there(self):
+        self.assertIn("absent.cif cannot be read", self.fault(self.folder / "absent.cif"))
+        self.assertIn("is a folder", self.fault(self.folder))
+
+    def test_packages_that_are_not_there(self):
+        for name in ("flask", "numpy"):
+            (self.folder / f"{name}.py").write_text(f"raise ModuleNotFoundError(\"No module named '{name}'\")\n")
+            self.assertIn("apt-get install python3-flask", self.fault(PYTHONPATH=str(self.folder)))
+            (self.folder / f"{name}.py").unlink()
+
+    def test_no_browser(self):
+        screens = ("DISPLAY", "WAYLAND_DISPLAY", "BROWSER")
+        process = subprocess.Popen([DESK], stdout=subprocess.PIPE, stderr=subprocess.PIPE, text=True,
+                                   env={name: value for name, value in os.environ.items() if name not in screens})
+        told = process.stderr.readline()
+        process.send_signal(signal.SIGINT)
+        out, rest = process.communicate(timeout=60)
+        self.assertIn("no browser was found; open the address above", told)
+        self.assertEqual((process.returncode, rest), (0, ""))
+        self.assertTrue(out.startswith("net_desk: http://127.0.0.1:"))
+
+
+class End(FolderTest):
+    def test_nothing_is_left(self):
+        """While a worker is at work, with each of the signals that end it."""
+        for name in (signal.SIGINT, signal.SIGTERM, signal.SIGHUP):
+            server = Server()
+            body, kind = form_of({"file": ("huge.cgd", SQL * 800_000), "first": "0", "convention": "auto", "choices": "[]"})
+            with server.begun("nets", body, kind):
+                time.sleep(0.3)
+                children = server.children()
+                self.assertGreaterEqual(len(children), 2)
+                status, _, told = server.end(name)
+            self.assertEqual((status, told), (0, ""), told)
+            self.assertEqual(left_of(children), set())
+
+    def test_ended_at_once(self):
+        for wait in (0, 0.05, 0.2, 0.5):
+            process = subprocess.Popen([DESK, "--no-browser"], stdout=subprocess.PIPE, stderr=subprocess.PIPE, text=True)
+            time.sleep(wait)
+            process.send_signal(signal.SIGINT)
+            _, told = process.communicate(timeout=100)
+            if process.returncode == 0:
+                self.assertEqual(told, "")
+            self.assertNotIn("net_desk", told)  # nor is it in a traceback of python3 itself, which begins yet
+
+
+def left_of(pids: set[int]) -> set[int]:
+    """Those that run yet after ten seconds."""
+    for _ in range(100):
+        left = {pid for pid in pids if is_running(pid)}
+        if not left:
+            break
+        time.sleep(0.1)
+    return left
+
+
+def is_running(pid: int) -> bool:
+    try:
+        return Path(f"/proc/{pid}/stat").read_text().rsplit(")", 1)[1].split()[0] != "Z"
+    except OSError:
+        return False
+
+
+if __name__ == "__main__":
+    import unittest
+
+    unittest.main()

@@ -1,0 +1,247 @@
+"""The server: who may ask, what is refused, and that it goes on whatever comes."""
+
+import json
+import os
+import re
+import signal
+import socket
+import time
+import unittest
+from concurrent.futures import ThreadPoolExecutor
+
+from desk import Server, form_of, memory_for_program, need_desk
+from testing import TOP
+
+need_desk()
+from crystal_nets.desk.application import CHOICES, CONVENTIONS, FILES, MOST_BYTES  # noqa: E402
+from crystal_nets.desk.files import AT_ONCE  # noqa: E402
+from crystal_nets.structures.choice import Options  # noqa: E402
+from crystal_nets.structures.conventions import AUTO, CONVENTIONS as OF_CIF2CGD  # noqa: E402
+
+QUARTZ = (TOP / "examples/quartz.cif").read_bytes()
+SQL = b"PERIODIC_GRAPH\nEDGES\n1 1 1 0\n1 1 0 1\nEND\n"
+
+
+class WithServer(unittest.TestCase):
+    words: tuple = ()
+
+    @classmethod
+    def setUpClass(cls):
+        cls.server = Server(*cls.words)
+        cls.addClassCleanup(cls.check_end)
+
+    @classmethod
+    def check_end(cls):
+        status, _, told = cls.server.end()
+        if status != 0 or "Traceback" in told:
+            raise AssertionError(f"net_desk ended with {status}: {told[-2000:]}")
+
+    def reason(self, answer, status) -> str:
+        self.assertEqual(answer[0], status, answer[2][:300])
+        reason = json.loads(answer[2])["reason"]
+        self.assertNotIn("Traceback", reason)
+        self.assertTrue(reason)
+        return reason
+
+
+class WhoMayAsk(WithServer):
+    def test_the_page_and_its_parts(self):
+        for name in FILES:
+            status, headers, body = self.server.request("GET", name, Origin=None)
+            self.assertEqual(status, 200, name)
+            policy = headers["Content-Security-Policy"]
+            self.assertIn("default-src 'none'", policy)
+            self.assertNotRegex(policy, r"https?:|\*|unsafe")
+            self.assertEqual(headers["X-Content-Type-Options"], "nosniff")
+            self.assertEqual(headers["Cache-Control"], "no-store")
+            self.assertNotIn("Access-Control-Allow-Origin", headers)
+            self.assertNotRegex(body, rb"(?i)(src|href|url\()\W{0,2}(https?:)?//", name)  # nothing from elsewhere
+
+    def test_another_origin(self):
+        for origin in ("http://example.org", "null", "https://" + self.server.host, "http://127.0.0.1:1",
+                       self.server.origin + ".example.org", ""):
+            self.reason(self.server.request("GET", "archives", Origin=origin), 403)
+            self.reason(self.server.request("POST", "nets", Origin=origin), 403)
+        self.reason(self.server.request("POST", "nets", Origin=None), 403)
+        self.reason(self.server.request("GET", "", Origin=None, Sec_Fetch_Site="cross-site"), 403)
+
+    def test_another_host(self):
+        for host in ("example.org", "127.0.0.1", "127.0.0.1:1", "example.org:" + self.server.host.split(":")[1], "", None):
+            self.reason(self.server.request("GET", "", Host=host, Origin=None), 403)
+
+    def test_no_or_a_wrong_token(self):
+        token = self.server.path.strip("/")
+        for path in ("/", "/archives", "//", f"/{token}", f"/{token[:-1]}/", f"/{token}x/", f"/x{token}/archives",
+                     f"/%00{token}/", "/../" + token + "/", "/%ff/", "/given/0", f"/{token.swapcase()}/archives"):
+            self.reason(self.server.request("GET", path), 403)
+
+    def test_paths_and_methods_that_are_not_there(self):
+        for path in ("other", "nets", "nets/", "given/0", "given/-1", "given/x", "desk.html", "..%2fdesk.py",
+                     "../../etc/passwd", "%2e%2e/%2e%2e/etc/passwd", "given/99999999999999999999", "desk.js%00",
+                     "viewer.js/x"):
+            self.reason(self.server.request("GET", path), 404)
+        for method, path in (("PUT", "nets"), ("DELETE", ""), ("POST", "archives"), ("POST", ""),
+                             ("MADE-UP", "card"), ("TRACE", "")):
+            self.reason(self.server.request(method, path), 405)
+
+    def test_requests_without_a_form(self):
+        for line in (b"\r\n\r\n", b"GET\r\n\r\n", b"\x16\x03\x01\x02\x00\x01\x00", b"GET / HTTP/9.9\r\n\r\n",
+                     b"A" * 70_000 + b"\r\n\r\n", b"GET / HTTP/1.1\r\n" + b"a: b\r\n" * 200 + b"\r\n"):
+            with socket.create_connection(self.server.host.split(":")) as client:
+                client.settimeout(30)
+                client.sendall(line)
+                client.shutdown(socket.SHUT_WR)
+                try:
+                    client.recv(1000)
+                except ConnectionResetError:
+                    pass
+        self.assertEqual(self.server.request("GET", "")[0], 200)
+
+
+class WhatIsSent(WithServer):
+    def test_malformed_forms(self):
+        good, kind = form_of({"file": ("a.cgd", SQL), "first": "0", "convention": "auto", "choices": "[]"})
+        form = "multipart/form-data"
+        for body, given in ((b"", "text/plain"), (b"x", kind), (good[:90], kind), (good, form), (b"{}", "application/json"),
+                            (good, form + "; boundary=other"), (b"file=a&first=0", "application/x-www-form-urlencoded"),
+                            (good.replace(b"name=", b"nome="), kind), (good, form + "; boundary=" + "x" * 300)):
+            self.reason(self.server.request("POST", "nets", body, Content_Type=given), 400)
+
+    def test_fields_without_a_form(self):
+        fields = {"first": "0", "convention": "auto", "choices": "[]"}
+        for name, value in (("first", "-1"), ("first", "7"), ("first", "1e9"), ("first", "9" * 40), ("first", ""),
+                            ("first", "²"), ("convention", "none"), ("choices", "[1]"), ("choices", "{}"),
+                            ("choices", '["leave_out"]'), ("choices", "[" * 5000), ("choices", "")):
+            body, kind = form_of({"file": ("a.cgd", SQL), **fields, name: value})
+            self.reason(self.server.request("POST", "nets", body, Content_Type=kind), 400)
+        for path in ("card", "pair", "crystal", "nets"):
+            self.reason(self.server.request("POST", path), 400)
+
+    def test_too_large_or_of_unknown_length(self):
+        large = self.server.request("POST", "nets", b"x", Content_Length=str(MOST_BYTES + 1))
+        self.assertIn("64 MB", self.reason(large, 413))
+        self.reason(self.server.request("POST", "nets", b"0\r\n\r\n", Transfer_Encoding="chunked"), 411)
+        self.reason(self.server.request("POST", "nets", b"x", Content_Length="x"), 411)
+
+    def test_names_are_never_paths(self):
+        for name in ("../../../../etc/passwd", "/etc/passwd", "..\\..\\x.cif", "a\x00b.cif", "", ".", "..",
+                     "x" * 5000 + ".cif", "a/../b.cif", "\u202e\U0001f600.cif", "%2e%2e%2f.cif"):
+            answer = self.server.nets(name, QUARTZ)
+            self.assertEqual(len(answer["nets"]), 1, name[:40])
+            self.assertNotRegex(answer["nets"][0]["name"], r"[/\\\x00]")
+            self.assertLess(len(answer["nets"][0]["name"]), 200)
+
+    def test_many_nets_come_some_at_a_time(self):
+        text = b"# first\n" + SQL * 1000
+        answer = self.server.nets("many.cgd", text)
+        self.assertEqual((answer["total"], len(answer["nets"])), (1000, AT_ONCE))
+        last = self.server.nets("many.cgd", text, first=str(1000 // AT_ONCE * AT_ONCE))
+        self.assertEqual(len(last["nets"]), 1000 % AT_ONCE)
+        self.assertEqual(self.server.nets("many.cgd", text, first=str(AT_ONCE * 100))["nets"], [])
+        bad = self.server.nets("bad.cgd", SQL * 30 + b"OTHER\nx\nEND\n", first=str(AT_ONCE))
+        self.assertIn("line 151:", bad["nets"][-1]["refusal"])
+
+    def test_fifty_files_at_once(self):
+        with ThreadPoolExecutor(50) as pool:
+            answers = list(pool.map(lambda k: self.server.nets(f"{k}.cgd", SQL.replace(b"EDGES", b"NAME n%d\nEDGES" % k)),
+                                    range(50)))
+        self.assertEqual([answer["nets"][0]["name"] for answer in answers], [f"n{k}" for k in range(50)])
+
+    def test_clients_that_go_away(self):
+        body, kind = form_of({"file": ("a.cgd", SQL * 2000), "first": "0", "convention": "auto", "choices": "[]"})
+        for most in (40, 300, 1000, len(body) + 1000):
+            for _ in range(3):
+                self.server.begun("nets", body, kind, most).close()
+        self.assertEqual(self.server.nets("a.cgd", SQL)["total"], 1)
+
+    def test_words_agree_with_those_of_cif2cgd(self):
+        self.assertEqual(list(CONVENTIONS), [*OF_CIF2CGD, AUTO])
+        self.assertLessEqual(set(CHOICES), set(Options.__dataclass_fields__))
+        page = FILES[""][0].read_text()
+        self.assertEqual(re.findall(r'<option value="([^"]+)"', page), list(CONVENTIONS))
+        self.assertEqual(re.findall(r'type="checkbox" value="([^"]+)"', page), list(CHOICES))
+
+
+class Bombs(WithServer):
+    """Files that would take too long or too much: each is answered with a reason, and the server goes on."""
+
+    words = ("--seconds", 2, "--memory", 700)
+
+    def test_files_that_take_too_long_or_too_much(self):
+        for name, content in (("many.cif", many_atoms()), ("expands.cgd", many_nodes()), ("empty.cgd", b""),
+                              ("deep.cif", b"data_x\nloop_\n_a\n" + b"[" * 3_000_000), ("zeros.arc", bytes(30_000_000)),
+                              ("long.cif", b"data_" + b"x" * 20_000_000), ("quotes.cgd", b'"' * 20_000_000),
+                              ("blocks.cif", b"data_x\n_a 1\n" * 300_000)):
+            begun = time.monotonic()
+            answer = self.server.nets(name, content)
+            told = answer.get("reason") or answer["nets"][0]["refusal"]
+            self.assertTrue(told, name)
+            self.assertNotIn("Traceback", told)
+            self.assertLess(time.monotonic() - begun, 100, name)
+        self.assertEqual(self.server.nets("a.cgd", SQL)["total"], 1)
+
+    def test_a_huge_number_of_nets(self):
+        answer = self.server.nets("huge.cgd", SQL * 400_000)
+        if "reason" in answer:
+            self.assertRegex(answer["reason"], "stopped")
+        else:
+            self.assertEqual((answer["total"], len(answer["nets"])), (400_000, AT_ONCE))
+
+    def test_a_worker_that_is_killed(self):
+        before = self.server.children()
+        with ThreadPoolExecutor(1) as pool:
+            waiting = pool.submit(self.server.nets, "huge.cgd", SQL * 800_000)
+            for _ in range(400):
+                time.sleep(0.02)
+                new = self.server.children() - before
+                if new:
+                    break
+            for pid in new:
+                try:
+                    os.kill(pid, signal.SIGTERM)
+                except ProcessLookupError:
+                    pass
+            self.assertRegex(waiting.result()["reason"], "ended from outside|stopped")
+
+    def test_work_ends_where_nobody_waits(self):
+        before = self.server.children()
+        body, kind = form_of({"file": ("huge.cgd", SQL * 800_000), "first": "0", "convention": "auto", "choices": "[]"})
+        self.server.begun("nets", body, kind).close()
+        for _ in range(300):
+            time.sleep(0.1)
+            if self.server.children() <= before:
+                return
+        self.fail(f"these go on: {self.server.children() - before}")
+
+
+def many_atoms() -> bytes:
+    """A CIF whose operations make millions of its atoms."""
+    cell = "".join(f"_cell_length_{axis} 40\n" for axis in "abc")
+    cell += "".join(f"_cell_angle_{angle} 90\n" for angle in ("alpha", "beta", "gamma"))
+    columns = "".join(f"_atom_site_{word}\n" for word in ("label", "type_symbol", "fract_x", "fract_y", "fract_z"))
+    atoms = "".join(f"Si{k} Si {k % 97 / 97:.4f} {k % 89 / 89:.4f} {k % 83 / 83:.4f}\n" for k in range(60_000))
+    return f"data_x\n{cell}_symmetry_space_group_name_H-M 'F m -3 m'\nloop_\n{columns}{atoms}".encode()
+
+
+def many_nodes() -> bytes:
+    """A block CRYSTAL whose group makes hundreds of thousands of its nodes."""
+    nodes = "".join(f"NODE {k} 4 {k / 3001:.5f} {k / 2003:.5f} {k / 4001:.5f}\n" for k in range(3000))
+    return f"CRYSTAL\nGROUP Fd-3m\nCELL 900 900 900 90 90 90\n{nodes}END\n".encode()
+
+
+class Given(unittest.TestCase):
+    def test_files_of_the_command_line(self):
+        server = Server(TOP / "examples/quartz.cif", TOP / "examples/dia.cgd", "--memory", memory_for_program())
+        try:
+            self.assertEqual(json.loads(server.request("GET", "given")[2]), ["quartz.cif", "dia.cgd"])
+            self.assertEqual(server.request("GET", "given/0")[2], QUARTZ)
+            self.assertEqual(server.request("GET", "given/2")[0], 404)
+            archives = json.loads(server.request("GET", "archives")[2])
+            self.assertIn("common", [archive["stem"] for archive in archives])
+        finally:
+            status, _, told = server.end()
+        self.assertEqual((status, told), (0, ""))
+
+
+if __name__ == "__main__":
+    unittest.main()

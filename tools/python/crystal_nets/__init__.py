@@ -1,0 +1,78 @@
+"""Crystal nets in Python, by the proved program net_tool.
+
+>>> import crystal_nets
+>>> square = crystal_nets.Net([(1, 1, (1, 0)), (1, 1, (0, 1))], name="square")
+>>> crystal_nets.identify(square, archive=None).sequences
+((4, 8, 12, 16, 20, 24, 28, 32, 36, 40),)
+
+What is proved of an answer, each docstring says. It begins at the block of a net: how that was made of a structure is
+chemistry, and no theorem.
+
+The modules that a user calls:
+net        a net, from edges and whatever else there is
+reading    files, atoms of ase and pymatgen, graphs of networkx
+asking     identify, identify_all, keys
+maps       same: whether two nets are isomorphic, with the map
+parts      components: what interpenetrates
+covers     cover: a net on a larger cell
+groups     group: which of many nets are the same
+archive    archives of named nets, in memory
+answers    what is answered, and tables of it; outcome: what became of a net
+drawing    pictures
+errors     what is raised
+program    where net_tool is, and how it is run
+
+The packages under them:
+tables      tables of many nets, which net_table makes; read_table for pandas
+texts       the texts around net_tool: files of nets, reports, rows, archives, the graph of a key
+structures  from structure files to nets, as cif2cgd reads them
+blocks      from .cgd and .arc files to nets, as cgd2net reads them
+pictures    nets drawn, and written as crystals, as draw_nets does"""
+
+from __future__ import annotations
+
+from importlib import import_module
+from typing import TYPE_CHECKING, Any
+
+if TYPE_CHECKING:
+    from .answers import Answer, Answers, Placement, PrimitiveGraph, to_pandas
+    from .archive import Archive
+    from .asking import identify, identify_all, keys
+    from .covers import Cover, cover
+    from .drawing import svg
+    from .errors import (CrystalNetsError, NotANet, NotAnArchive, PackageMissing, ProgramFailed,
+                         ProgramNotFound)
+    from .groups import Group, Groups, group
+    from .maps import NetMap, Sameness, same
+    from .net import Net
+    from .outcome import Outcome
+    from .parts import Component, Components, components, net_of_key
+    from .program import find_program
+    from .reading import read
+    from .tables.columns import read_table
+
+__version__ = "0.1"
+__all__ = ["Answer", "Answers", "Archive", "Component", "Components", "Cover", "CrystalNetsError", "Group", "Groups",
+           "Net", "NetMap", "NotANet", "NotAnArchive", "Outcome", "PackageMissing", "Placement", "PrimitiveGraph",
+           "ProgramFailed", "ProgramNotFound", "Sameness", "components", "cover", "find_program", "group", "identify",
+           "identify_all", "keys", "net_of_key", "read", "read_table", "same", "svg", "to_pandas"]
+
+HOMES = {"answers": "Answer Answers Placement PrimitiveGraph to_pandas", "archive": "Archive",
+         "asking": "identify identify_all keys", "covers": "Cover cover", "drawing": "svg",
+         "errors": "CrystalNetsError NotANet NotAnArchive PackageMissing ProgramFailed ProgramNotFound",
+         "groups": "Group Groups group", "maps": "NetMap Sameness same", "net": "Net", "outcome": "Outcome",
+         "parts": "Component Components components net_of_key", "program": "find_program", "reading": "read", "tables.columns": "read_table"}
+HOME_OF = {name: module for module, names in HOMES.items() for name in names.split()}
+
+
+def __getattr__(name: str) -> Any:
+    """Loads a module where it is asked for first: the scripts of tools/batch start thousands of times, and need few."""
+    if name not in HOME_OF:
+        raise AttributeError(f"module {__name__!r} has no attribute {name!r}")
+    value = getattr(import_module(f".{HOME_OF[name]}", __name__), name)
+    globals()[name] = value
+    return value
+
+
+def __dir__() -> list[str]:
+    return sorted({*globals(), *__all__})

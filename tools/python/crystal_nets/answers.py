@@ -1,0 +1,244 @@
+"""What the program answers to one net."""
+
+from __future__ import annotations
+
+import re
+from collections.abc import Iterator, Sequence
+from dataclasses import dataclass, field
+from fractions import Fraction
+from functools import cached_property
+from typing import TYPE_CHECKING, Any, overload
+
+from .errors import PackageMissing
+from .net import Edge, Net, Vertex, vertex_of
+from .outcome import Outcome
+from .program import reading_report
+from .texts.net_text import NetReport, nets_of_report
+
+if TYPE_CHECKING:
+    import networkx
+    import pandas
+
+SHELLS = re.compile(rb"(?m)^shells \d+ ?(.*)$")
+CLASSES = re.compile(rb"(?m)^primitive vertices=(\d+) ")
+DENOMINATOR = re.compile(rb"(?m)^placement D0=(\d+)$")
+Sequences = tuple[tuple[int, ...], ...]
+
+
+@dataclass(frozen=True)
+class Placement:
+    """Where the vertices stand: each at the mean of its neighbours, the first in the origin. This barycentric
+    placement is unique up to translation (O. Delgado-Friedrichs and M. O'Keeffe, Acta Cryst. A59 (2003) 351).
+
+    denominator  D0, the least common denominator of all positions
+    positions    of each vertex its position in units of 1/D0, 2 or 3 whole numbers
+
+    >>> Placement(4, {1: (0, 0, 0), 2: (-1, -1, -1)})[2]
+    (Fraction(-1, 4), Fraction(-1, 4), Fraction(-1, 4))"""
+
+    denominator: int
+    positions: dict[Vertex, tuple[int, ...]]
+
+    def __getitem__(self, vertex: Vertex) -> tuple[Fraction, ...]:
+        """The position of a vertex in fractions of the cell."""
+        return tuple(Fraction(part, self.denominator) for part in self.positions[vertex])
+
+    @property
+    def fractions(self) -> dict[Vertex, tuple[Fraction, ...]]:
+        """The positions of all vertices in fractions of the cell."""
+        return {vertex: self[vertex] for vertex in self.positions}
+
+
+@dataclass(frozen=True)
+class PrimitiveGraph:
+    """The net over the lattice of all its translations. Its vertices are classes, 1 to `vertices`: two vertices share
+    one where a translation of the net moves one onto the other.
+
+    basis  2 or 3 rows, a basis of that lattice in units of 1/D0 of the cell that was given
+    edges  (class, class, shift), the shift in steps of that basis"""
+
+    vertices: int
+    basis: tuple[tuple[int, ...], ...]
+    edges: tuple[Edge, ...]
+
+    @property
+    def net(self) -> Net:
+        return Net(self.edges)
+
+    def to_networkx(self) -> networkx.MultiDiGraph[Any]:
+        """A `networkx.MultiDiGraph` with the attribute `shift` of each edge."""
+        return self.net.to_networkx()
+
+
+@dataclass(frozen=True)
+class Answer:
+    """What the program says of one net.
+
+    Proved: the outcome and its values are true of the block that the program read; the placement and the primitive
+    graph are those of the net; two keys are equal exactly where the nets are isomorphic; the sequences are those of
+    the classes. Not proved: how the block was made of a structure or another file, and this reading of the report.
+    The names are those of exactly the entries that have this key, whose keys the program computed anew from their
+    edges; that a name fits its edges is for the archive's author to know.
+
+    net        the net that was asked about
+    outcome    `accepted`, or why there is no key
+    key        a text of whole numbers, the canonical form of the net; empty where there is none
+    names      in the archive
+    dimension  2 or 3; 0 where the block is no graph
+    vertices, edges  of the quotient graph; 0 where the block is no graph
+    notes      what a reader should know of how the net was read
+    text       what the program printed of the net, as of the first one, where `identify` was asked for
+
+    Placement, primitive graph and sequences are read from the text when they are asked for."""
+
+    net: Net
+    outcome: Outcome
+    key: str = ""
+    names: tuple[str, ...] = ()
+    dimension: int = 0
+    vertices: int = 0
+    edges: int = 0
+    notes: tuple[str, ...] = ()
+    text: bytes = field(default=b"", repr=False)
+
+    @cached_property
+    def report(self) -> NetReport | None:
+        """The text by its form; None where there is none."""
+        if not self.text:
+            return None
+        with reading_report("identify"):
+            report, = nets_of_report(self.text.splitlines(keepends=True))
+            return report
+
+    @cached_property
+    def placement(self) -> Placement | None:
+        """Where the vertices stand; None where that was not asked for, or there is no key."""
+        return placement_of(self.report) if self.key and self.report else None
+
+    @cached_property
+    def primitive(self) -> PrimitiveGraph | None:
+        """The primitive graph; None where it was not asked for, or there is no key."""
+        return primitive_of(self.report) if self.key and self.report else None
+
+    @cached_property
+    def sequences(self) -> Sequences:
+        """For each class its coordination sequence: how many neighbours, new neighbours of these and so on, up to 10
+        shells (W. M. Meier and H. J. Moeck, J. Solid State Chem. 27 (1979) 349)."""
+        rows = SHELLS.findall(self.text)
+        found = {row: tuple(map(int, row.split())) for row in set(rows)}
+        return tuple(found[row] for row in rows)
+
+    @property
+    def classes(self) -> int:
+        """The vertices of the primitive graph; 0 where it was not asked for, or there is no key."""
+        found = CLASSES.search(self.text)
+        return int(found[1]) if found else 0
+
+    @property
+    def denominator(self) -> int:
+        """D0, the least common denominator of the positions; 0 where they were not asked for, or there is no key."""
+        found = DENOMINATOR.search(self.text) if self.key else None
+        return int(found[1]) if found else 0
+
+    @property
+    def name(self) -> str:
+        """What the net is called where it came from."""
+        return self.net.name
+
+    @property
+    def accepted(self) -> bool:
+        """Whether the net has a key."""
+        return self.outcome.accepted
+
+    def __str__(self) -> str:
+        what = "; ".join(self.names) or ("no name in the archive" if self.accepted else str(self.outcome))
+        return f"{self.name or 'net'}: {what}"
+
+    def _repr_svg_(self) -> str | None:
+        from .drawing import svg_of_answer
+        return svg_of_answer(self)
+
+    def _repr_html_(self) -> str:
+        from .drawing import html_of_answer
+        return html_of_answer(self)
+
+
+class Answers(Sequence[Answer]):
+    """The answers to several nets, in their order."""
+
+    def __init__(self, answers: Sequence[Answer]) -> None:
+        self._answers = tuple(answers)
+
+    @overload
+    def __getitem__(self, place: int) -> Answer: ...
+    @overload
+    def __getitem__(self, place: slice) -> Answers: ...
+    def __getitem__(self, place: int | slice) -> Answer | Answers:
+        return Answers(self._answers[place]) if isinstance(place, slice) else self._answers[place]
+
+    def __len__(self) -> int:
+        return len(self._answers)
+
+    def __iter__(self) -> Iterator[Answer]:
+        return iter(self._answers)
+
+    def __eq__(self, other: object) -> bool:
+        return isinstance(other, Answers) and self._answers == other._answers
+
+    def __repr__(self) -> str:
+        with_key = sum(answer.accepted for answer in self)
+        return f"<Answers: {len(self)} nets, {with_key} with a key>"
+
+    @property
+    def accepted(self) -> Answers:
+        """Those of nets with a key."""
+        return Answers([answer for answer in self if answer.accepted])
+
+    def to_pandas(self) -> pandas.DataFrame:
+        """A table with a row for each net; `crystal_nets.to_pandas` has the columns."""
+        return to_pandas(self)
+
+    def _repr_html_(self) -> str:
+        from .drawing import html_of_answers
+        return html_of_answers(self)
+
+
+COLUMNS = ("name", "outcome", "names", "dimension", "vertices", "edges", "classes", "D0", "key", "sequences", "notes")
+
+
+def to_pandas(answers: Sequence[Answer]) -> pandas.DataFrame:
+    """A `pandas.DataFrame` with a row for each answer. The columns:
+
+    name, outcome   texts; the outcome is `accepted`, or as `refused 5 Collision`
+    names           in the archive, joined by `; `
+    dimension, vertices, edges   of the quotient graph
+    classes, D0     of the primitive graph and the placement; 0 where they were not asked for
+    key             a text, since its numbers may have 128 bits
+    sequences       a tuple of the different coordination sequences, in rising order
+    notes           joined by `; `"""
+    try:
+        import pandas
+    except ImportError:
+        raise PackageMissing("pandas is not there; apt-get install python3-pandas") from None
+    rows = [(answer.name, short_outcome(answer.outcome), "; ".join(answer.names), answer.dimension, answer.vertices,
+             answer.edges, answer.classes, answer.denominator, answer.key, tuple(sorted(set(answer.sequences))),
+             "; ".join(answer.notes)) for answer in answers]
+    return pandas.DataFrame(rows, columns=list(COLUMNS))
+
+
+def short_outcome(outcome: Outcome) -> str:
+    """The outcome in the words of a row: `refused 5 Collision`."""
+    return f"{outcome.kind} {outcome.number} {outcome.name}" if outcome.number else outcome.kind
+
+
+def placement_of(report: NetReport) -> Placement:
+    words = [word for word, _ in report.positions]
+    vertices: list[Vertex] = [vertex_of(word) for word in words]
+    if len(set(vertices)) < len(words):  # as 01 and "01", which are two vertices
+        vertices = [word.decode(errors="surrogateescape") for word in words]
+    return Placement(report.scale, {vertex: tuple(place) for vertex, (_, place) in zip(vertices, report.positions)})
+
+
+def primitive_of(report: NetReport) -> PrimitiveGraph:
+    edges = tuple((u, v, tuple(shift)) for u, v, *shift in report.edges)
+    return PrimitiveGraph(report.classes, tuple(map(tuple, report.basis)), edges)

@@ -1,0 +1,146 @@
+"""Archives of named nets, held in memory."""
+
+from __future__ import annotations
+
+import os
+import tempfile
+from collections.abc import Iterable, Iterator
+from functools import cache
+from pathlib import Path
+
+from .errors import NotAnArchive, NotANet, ProgramFailed
+from .net import Net
+from .program import run
+from .texts.archive_text import Entry, entries_of
+from .texts.net_text import NoReport
+
+HERE = Path(__file__).resolve().parent
+SHARED = (  # the archives beside the package in the repository or an installation, and in a Debian package; and elsewhere
+    (HERE / "../../../archives").resolve(), (HERE / "../../../../share/net_tool/archives").resolve(),
+    Path("/usr/local/share/net_tool/archives"), Path("/usr/share/net_tool/archives"))
+BAD_ARCHIVE = 5
+
+
+class Archive:
+    """Named nets with their keys. It is read once, and looked up in memory.
+
+    Nothing in a file of an archive is trusted: while it is loaded, the program computes each key anew from the edges
+    of its entry, and an archive in which one differs is refused.
+
+    >>> pcu = Net([(1, 1, (1, 0, 0)), (1, 1, (0, 1, 0)), (1, 1, (0, 0, 1))], name="pcu")
+    >>> archive = Archive.of([pcu])
+    >>> len(archive), "pcu" in archive, archive["pcu"]
+    (1, True, <Net pcu: 1 vertex, 3 edges, dimension 3>)"""
+
+    def __init__(self, entries: Iterable[tuple[str, str, Net]]) -> None:
+        """Of names, keys and nets. That the keys are those of the nets is for the caller to know: `load` and `of` have
+        them computed."""
+        self._nets: dict[str, Net] = {}
+        names: dict[str, list[str]] = {}
+        for name, key, net in entries:
+            self._nets.setdefault(name, net)
+            same = names.setdefault(key, [])
+            if name not in same:
+                same.append(name)
+        self._names = {key: tuple(same) for key, same in names.items()}
+
+    @classmethod
+    def load(cls, *paths: str | os.PathLike[str]) -> Archive:
+        """All archives of files and folders as one; of a folder the files `*.archive` in it. NotAnArchive where one is
+        none, or its keys are not those of its edges; OSError where it cannot be read."""
+        entries: list[tuple[str, str, Net]] = []
+        for path in files_of(paths):
+            entries += _checked_entries(path)
+        return cls(entries)
+
+    @classmethod
+    def default(cls) -> Archive:
+        """The archives beside this package, and those of the user in `net_tool/archives` under XDG_DATA_HOME, which is
+        ~/.local/share where it is not set. They are loaded once."""
+        return _loaded(tuple(map(str, default_files())))
+
+    @classmethod
+    def of(cls, nets: Iterable[Net]) -> Archive:
+        """An archive of nets under their names. NotANet where one has no name, or no key."""
+        from .asking import keys
+        entries = []
+        for answer in keys(list(nets)):
+            if not answer.accepted or not answer.name:
+                reason = answer.outcome if answer.name else "it has no name"
+                raise NotANet(f"{answer.net!r} cannot be in an archive: {reason}")
+            entries.append((answer.name, answer.key, answer.net))
+        return cls(entries)
+
+    def names(self, key: str) -> tuple[str, ...]:
+        """The names of exactly the entries with this key, in the order of the archives."""
+        return self._names.get(key, ())
+
+    def __getitem__(self, name: str) -> Net:
+        """The net of this name, of the first archive that has it."""
+        return self._nets[name]
+
+    def __contains__(self, name: object) -> bool:
+        return name in self._nets
+
+    def __iter__(self) -> Iterator[str]:
+        return iter(self._nets)
+
+    def __len__(self) -> int:
+        return len(self._nets)
+
+    def __repr__(self) -> str:
+        return f"<Archive: {len(self)} names of {len(self._names)} nets>"
+
+
+@cache
+def _loaded(paths: tuple[str, ...]) -> Archive:
+    return Archive.load(*paths)
+
+
+def files_of(paths: Iterable[str | os.PathLike[str]]) -> list[Path]:
+    """The archives of files and folders. NotAnArchive where a folder has none."""
+    files: list[Path] = []
+    for path in map(Path, paths):
+        found = sorted(path.glob("*.archive")) if path.is_dir() else [path]
+        if not found:
+            raise NotAnArchive(f"{path} has no archive")
+        files += found
+    return files
+
+
+def default_files() -> list[Path]:
+    """The archives that look-up goes over where none is named."""
+    home = os.environ.get("XDG_DATA_HOME") or os.path.join(os.path.expanduser("~"), ".local/share")
+    shared = next((folder for folder in SHARED if folder.is_dir()), SHARED[0])
+    return [file for folder in (shared, Path(home, "net_tool/archives")) for file in sorted(folder.glob("*.archive"))]
+
+
+def _checked_entries(path: Path) -> list[tuple[str, str, Net]]:
+    """The entries of a file, whose keys the program has computed anew."""
+    content = path.read_bytes()
+    try:
+        entries = list(entries_of(content.splitlines(keepends=True), str(path)))
+    except NoReport as reason:
+        raise NotAnArchive(str(reason)) from None
+    _check(content, path)
+    return [(_text(entry.name), entry.key.decode(), _net_of(entry)) for entry in entries]
+
+
+def _check(content: bytes, path: Path) -> None:
+    """Has the program read the very bytes that were read here."""
+    with tempfile.NamedTemporaryFile(suffix=".archive") as copy:
+        copy.write(content)
+        copy.flush()
+        status, told = run("duplicates", b"", "--archive", copy.name, allowed=(0, BAD_ARCHIVE))
+    if status == BAD_ARCHIVE:
+        raise NotAnArchive(f"{path}: {told.splitlines()[0].decode(errors='replace')}")
+    if not told.startswith(b"entries "):
+        raise ProgramFailed(f"net_tool duplicates gave no report on {path}", status)
+
+
+def _text(name: bytes) -> str:
+    return name.decode(errors="surrogateescape")
+
+
+def _net_of(entry: Entry) -> Net:
+    return Net.from_block(entry.block, _text(entry.name))

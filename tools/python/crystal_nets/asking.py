@@ -1,0 +1,186 @@
+"""Questions to the program: identify, keys, same, components, cover, group."""
+
+from __future__ import annotations
+
+import os
+import re
+from collections.abc import Iterable, Iterator, Mapping, Sequence
+from dataclasses import replace
+from enum import Enum
+from typing import Any
+
+from .answers import Answer, Answers
+from .archive import Archive
+from .errors import NotANet
+from .net import Net
+from .outcome import ACCEPTED, outcome_of, unreadable
+from .program import each_piece, reading_report, run
+from .reading import one_net, read
+from .texts.net_text import GRAPH
+
+
+class Default(Enum):
+    """What stands for an argument that was not given."""
+
+    ARCHIVES = "the archives beside the package, and those of the user"
+
+    def __repr__(self) -> str:
+        return f"<{self.value}>"
+
+
+DEFAULT = Default.ARCHIVES
+Archives = Archive | str | os.PathLike[str] | Iterable[str | os.PathLike[str]] | Default | None
+
+KINDS = ("refused", "malformed", "unsupported")  # of blocks without a key
+KEYED = re.compile(rb'net \d+ line (\d+)(?: "[^"\n]*")?\n(?:graph d=([23]) vertices=(\d+) edges=(\d+) repeats=\d+\n)?'
+                   rb'(key|refused|malformed|unsupported) ([^\n]+)\n')
+PRIMITIVE = re.compile(rb"primitive vertices=(\d+) edges=(\d+)")
+HEAD = b"\nnet "  # begins the report on a net, and no other line: no name has a line feed
+
+
+def identify(source: Any, archive: Archives = DEFAULT, **options: Any) -> Answer:
+    """Which net it is: placement, primitive graph, key, coordination sequences, and names in the archive.
+
+    source   what `read` reads, with one net; NotANet is raised where it has several
+    archive  an `Archive`, paths of archives and folders, or None; the archives beside the package where none is given
+    options  of structures, as `convention="single-nodes"`
+
+    What is proved and what is not, `Answer` says.
+
+    >>> pcu = Net([(1, 1, (1, 0, 0)), (1, 1, (0, 1, 0)), (1, 1, (0, 0, 1))], name="pcu")
+    >>> doubled = [(1, 2, (0, 0, 0)), (2, 1, (1, 0, 0)), (1, 1, (0, 1, 0)), (2, 2, (0, 1, 0)), (1, 1, (0, 0, 1)),
+    ...            (2, 2, (0, 0, 1))]
+    >>> answer = identify(doubled, archive=Archive.of([pcu]))
+    >>> answer.names, answer.placement[2], answer.primitive.vertices, answer.sequences[0][:3]
+    (('pcu',), (Fraction(1, 2), Fraction(0, 1), Fraction(0, 1)), 1, (6, 18, 38))"""
+    nets = read(source, **options)
+    if len(nets) != 1:
+        raise NotANet(f"there are {len(nets)} nets; identify_all answers each of them" if nets else "there is no net")
+    return _identified(nets, archive_of(archive), 1)[0]
+
+
+def identify_all(sources: Any, archive: Archives = DEFAULT, processes: int = 1, **options: Any) -> Answers:
+    """The same of many nets: of a source that has several, as a file, or of an iterable of sources.
+
+    processes  of the program, side by side"""
+    return _identified(_nets_of(sources, options), archive_of(archive), processes)
+
+
+def keys(sources: Any, archive: Archives = None, processes: int = 1, **options: Any) -> Answers:
+    """The keys of many nets, and their names where an archive is given, without placement, primitive graph and
+    sequences. It takes less time than `identify_all`.
+
+    >>> sql = [(1, 1, (1, 0)), (1, 1, (0, 1))]
+    >>> keys([Net(sql), Net([(1, 1, (1, 0))])])[0].key
+    '2 1 1 1 1 0 1 1 1 1 0'"""
+    nets = _nets_of(sources, options)
+    names = archive_of(archive)
+    given = [net for net in nets if not net.refusal]
+    answers = (answer for piece in each_piece(_keyed, given, processes) for answer in piece)
+    return Answers(list(_with_refusals(nets, answers, names)))
+
+
+def archive_of(archive: Archives) -> Archive | None:
+    """The archive that is meant."""
+    if archive is None or isinstance(archive, Archive):
+        return archive
+    if isinstance(archive, Default):
+        return Archive.default()
+    return Archive.load(*([archive] if isinstance(archive, (str, os.PathLike)) else archive))
+
+
+def _nets_of(sources: Any, options: dict[str, Any]) -> list[Net]:
+    """The nets of a source, or of each of several."""
+    if isinstance(sources, (list, tuple)) and all(isinstance(source, Net) for source in sources):
+        return list(sources)
+    is_many = (isinstance(sources, Iterable) and not isinstance(sources, (str, bytes, Mapping))
+               and not hasattr(sources, "get_scaled_positions") and not hasattr(sources, "frac_coords")
+               and not hasattr(sources, "is_directed"))
+    if is_many:
+        return [net for source in sources for net in read(source, **options)]
+    return read(sources, **options)
+
+
+def _with_refusals(nets: Sequence[Net], answers: Iterator[Answer], archive: Archive | None) -> Iterator[Answer]:
+    """The answers in the order of the nets, with names, and what stands for a net that could not be read."""
+    for net in nets:
+        if net.refusal:
+            yield Answer(net, unreadable(net.refusal), notes=net.notes)
+            continue
+        answer = next(answers)
+        names = archive.names(answer.key) if archive and answer.key else ()
+        yield replace(answer, names=names) if names else answer
+
+
+def _identified(nets: list[Net], archive: Archive | None, processes: int) -> Answers:
+    given = [net for net in nets if not net.refusal]
+    answers = (answer for piece in each_piece(_identified_piece, given, processes) for answer in piece)
+    return Answers(list(_with_refusals(nets, answers, archive)))
+
+
+def _keyed(nets: list[Net]) -> list[Answer]:
+    """The answers with keys alone: a header, the graph where there is one, and its key or a reason."""
+    _, told = run("key", b"".join(net.block for net in nets), "-")
+    with reading_report("key"):
+        place, answers = 0, []
+        for net in nets:
+            found = KEYED.match(told, place)
+            if found is None:
+                raise ValueError(f"{told[place:place + 60]!r} begins no report on a net")
+            place = found.end()
+            answers.append(_answer_of(net, found, b""))
+        if place < len(told):
+            raise ValueError(f"{told[place:place + 60]!r} follows the last net")
+        return answers
+
+
+def _identified_piece(nets: list[Net]) -> list[Answer]:
+    """The answers with all that is known. Of each net with a key the text is kept, and looked at for its end."""
+    _, told = run("identify", b"".join(net.block for net in nets), "-")
+    with reading_report("identify"):
+        if nets and not told.endswith(b"\n"):
+            raise ValueError(f"it is cut after {told[-60:]!r}")
+        first, *parts = (b"\n" + told[:-1]).split(HEAD)
+        if first:
+            raise ValueError(f"it begins with {first[:60]!r}")
+        return [_identified_net(net, part) for net, part in zip(nets, parts, strict=True)]
+
+
+def _identified_net(net: Net, part: bytes) -> Answer:
+    """The answer of the lines on a net, of which the first lacks its word `net`, and the last its line feed."""
+    lines = part.split(b"\n")
+    shown = lines if len(lines) < 4 else [*lines[:2], _key_of(lines)]
+    found = KEYED.fullmatch(b"net " + b"\n".join(shown) + b"\n")
+    if found is None or (found[5] == b"key" and len(lines) < 4):
+        raise ValueError(f"{part[:120]!r} is no report on a net")
+    return _answer_of(net, found, b"net 1" + part[part.index(b" line "):] + b"\n")
+
+
+def _answer_of(net: Net, found: re.Match[bytes], text: bytes) -> Answer:
+    line, dimension, vertices, edges, word, rest = found.groups()
+    sizes = (int(dimension), int(vertices), int(edges)) if dimension else (0, 0, 0)
+    if word == b"key":
+        if not dimension:
+            raise ValueError("there is a key without a graph")
+        return Answer(net, ACCEPTED, rest.decode(), (), *sizes, net.notes, text)
+    return Answer(net, outcome_of(word + b" " + rest, int(line) - 1), "", (), *sizes, net.notes, text)
+
+
+def _key_of(lines: list[bytes]) -> bytes:
+    """The line of the key in a report of `identify` that has as many lines as its numbers say. After the header, the
+    graph and the denominator come the vertices, the primitive graph with its basis and edges, the key, a line for each
+    class, and the names, of which there are none without an archive."""
+    graph, primitive = GRAPH.fullmatch(lines[1].removeprefix(b"graph ")), None
+    if graph and len(lines) > 3 + int(graph[2]):
+        primitive = PRIMITIVE.fullmatch(lines[3 + int(graph[2])])
+    if graph is None or primitive is None or not lines[2].startswith(b"placement D0="):
+        raise ValueError(f"{lines[:3]!r:.120} begin no report on a net with a key")
+    place = 4 + int(graph[2]) + int(graph[1]) + int(primitive[2])
+    if len(lines) != place + 2 + int(primitive[1]) or lines[-1] != b"names 0":
+        raise ValueError("it is cut, or has more lines than its numbers say")
+    return lines[place]
+
+
+def single(source: Any, options: dict[str, Any]) -> Net:
+    """The one net of a source."""
+    return one_net(read(source, **options))

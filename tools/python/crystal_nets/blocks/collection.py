@@ -1,0 +1,218 @@
+"""Archives of many nets from .cgd and .arc files, with what is refused beside them, and why.
+
+Two blocks of one name that are one net are taken once. Where they are different nets, as a published key line and the
+CRYSTAL block of the same name may be, the second is refused, and both are named."""
+
+from __future__ import annotations
+
+import argparse
+import os
+import signal
+import subprocess
+import sys
+import time
+from collections.abc import Iterator
+from dataclasses import dataclass
+from pathlib import Path
+
+from ..program import find_program
+from ..texts.net_text import MOST_BLOCKS, MOST_BYTES, nets_of_report
+
+from .converter import Block, Converter, lines_of
+from .tokens import decoded, shown
+
+DONE, SOME_REFUSED, FAILED = 0, 1, 3
+PIECE = 200            # nets whose keys are asked for at a time
+MOST_TEXT = MOST_BYTES - (1 << 20)
+DESCRIPTION = """Archives of the nets of .cgd and .arc files: NAME.archive, and NAME.2.archive and so on where one
+cannot hold them all. What is refused, and why, goes to NAME.refused."""
+EPILOG = """exit status: 0 each net is taken; 1 some net is refused; 2 usage; 3 nothing is made.
+NET_TOOL is the program; where it is not set, that of the repository, or net_tool on the path."""
+
+
+class Failed(Exception):
+    """No archive can be made."""
+
+
+@dataclass
+class Net:
+    """A block that was turned into a graph."""
+
+    source: str
+    line: int
+    kind: str
+    name: bytes
+    text: bytes
+    key: bytes = b""
+
+    @property
+    def place(self) -> str:
+        return f"{self.source} line {self.line} ({self.kind})"
+
+
+class Collector(Converter):
+    """Keeps the blocks of a text, and why others are refused."""
+
+    def __init__(self, source: str, refused: list[str]) -> None:
+        super().__init__(source, self.pass_over, self.hear)
+        self.nets: list[Net] = []
+        self.refusals = refused
+        self.was_passing = False
+
+    def put(self, block: Block, text: bytes) -> None:
+        self.nets.append(Net(self.source, block.line, block.kind, b"", text))
+
+    def hear(self, text: str, is_refusal: bool) -> None:
+        if is_refusal:
+            self.refusals.append(text)
+
+    def pass_over(self, text: bytes) -> None:
+        """Takes what is written beside the nets; the first line of a block of another kind is told."""
+        if self.is_passing and not self.was_passing:
+            opening = shown(decoded(text).strip())
+            self.refusals.append(f"{self.source}: line {self.number}: a block {opening} is not read")
+        self.was_passing = self.is_passing
+
+
+class Bar:
+    """A bar on a terminal: how much of a task is done."""
+
+    def __init__(self, title: str, total: int) -> None:
+        self.title, self.total, self.done = title, max(1, total), 0
+        self.is_shown = sys.stderr.isatty()
+        self.last = 0.0
+
+    def step(self, count: int) -> None:
+        self.done += count
+        if self.is_shown and (time.monotonic() - self.last > 0.1 or self.done >= self.total):
+            self.last = time.monotonic()
+            share = min(1.0, self.done / self.total)
+            print(f"\r{self.title} [{'=' * round(40 * share):40}] {share:4.0%}", end="", file=sys.stderr, flush=True)
+
+    def end(self) -> None:
+        if self.is_shown:
+            print("\r\033[K", end="", file=sys.stderr, flush=True)
+
+
+def run(program: str, command: str, text: bytes) -> tuple[int, bytes]:
+    """The status and the report of a command on a text."""
+    done = subprocess.run([program, command, "-"], input=text, stdout=subprocess.PIPE)
+    if done.returncode not in (0, 1, 9):
+        raise Failed(f"{program} {command} ended with {done.returncode}: {decoded(done.stdout[:200]).strip()}")
+    return done.returncode, done.stdout
+
+
+def read_nets(files: list[str], refused: list[str]) -> list[Net]:
+    """All blocks of the files."""
+    bar = Bar("reading", sum(os.path.getsize(file) for file in files if os.path.isfile(file)))
+    nets: list[Net] = []
+    for file in files:
+        collector = Collector(file, refused)
+        with open(file, "rb") as stream:
+            for line, is_rest in lines_of(stream):
+                collector.push(line, is_rest)
+                bar.step(len(line))
+        collector.finish()
+        nets += collector.nets
+    bar.end()
+    return nets
+
+
+def find_keys(nets: list[Net], program: str) -> Iterator[tuple[Net, str]]:
+    """The nets with their names and keys, and why one has none."""
+    bar = Bar("keys", len(nets))
+    for k in range(0, len(nets), PIECE):
+        piece = nets[k:k + PIECE]
+        _, told = run(program, "key", b"".join(net.text for net in piece))
+        reports = list(nets_of_report(told.splitlines(keepends=True)))
+        if len(reports) != len(piece):
+            raise Failed(f"{program} reports {len(reports)} nets of {len(piece)}")
+        for net, report in zip(piece, reports):
+            net.name, net.key = report.name, report.key
+            yield net, decoded(report.told)
+        bar.step(len(piece))
+    bar.end()
+
+
+def chosen(nets: Iterator[tuple[Net, str]], refused: list[str]) -> list[Net]:
+    """The nets that an archive may have: with a key, and with a name that no other net has."""
+    by_name: dict[bytes, Net] = {}
+    for net, told in nets:
+        first = by_name.get(net.name)
+        reason = ""
+        if not net.key:
+            reason = told
+        elif not net.name:
+            reason = "it has no name"
+        elif first and first.key != net.key:
+            reason = f"it is another net than {first.place}, which has its name"
+        elif not first:
+            by_name[net.name] = net
+        if reason:
+            refused.append(f'{net.source}: line {net.line} "{decoded(net.name)}": {net.kind}: {reason}')
+    return list(by_name.values())
+
+
+def archives_of(nets: list[Net], program: str) -> Iterator[tuple[bytes, int]]:
+    """The texts of archives that hold all the nets, each with as many as it has room for, and how many these are."""
+    while nets:
+        count, size = 0, 0
+        while count < min(len(nets), MOST_BLOCKS) and size + len(nets[count].text) <= MOST_TEXT:
+            size += len(nets[count].text)
+            count += 1
+        status, text = run(program, "add", b"".join(net.text for net in nets[:count]))
+        if status == 9:  # add refused K ..: the first K - 1 have room
+            count = int(text.split()[2]) - 1
+            status, text = run(program, "add", b"".join(net.text for net in nets[:count]))
+        if status or not count:
+            raise Failed(f"{program} add: {decoded(text[:200]).strip()}")
+        yield text, count
+        nets = nets[count:]
+
+
+def archive_path(stem: Path, number: int) -> Path:
+    return stem.with_name(stem.name + (f".{number}.archive" if number > 1 else ".archive"))
+
+
+def write_whole(path: Path, content: bytes) -> None:
+    """Writes a file beside its place, and moves it there once it is whole."""
+    part = path.with_name(path.name + ".part")
+    part.write_bytes(content)
+    part.replace(path)
+
+
+def make_archives(stem: Path, files: list[str]) -> int:
+    """Makes the archives and the list of refusals, and tells what was made."""
+    program = find_program()
+    refused: list[str] = []
+    nets = read_nets(files, refused)
+    taken = chosen(find_keys(nets, program), refused)
+    stem.parent.mkdir(parents=True, exist_ok=True)
+    number = 0
+    for number, (text, count) in enumerate(archives_of(taken, program), start=1):
+        write_whole(archive_path(stem, number), text)
+        print(f"{archive_path(stem, number)}: {count} nets")
+    if not number:
+        raise Failed("no net can be taken" + (": " + refused[0] if refused else ""))
+    while (old := archive_path(stem, number + 1)).exists():  # of an earlier, longer collection
+        old.unlink()
+        number += 1
+    refusals = stem.with_name(stem.name + ".refused")
+    write_whole(refusals, "".join(line + "\n" for line in refused).encode(errors="surrogateescape"))
+    if refused:
+        print(f"{refusals}: {len(refused)} are left out, and why")
+    return SOME_REFUSED if refused else DONE
+
+
+def main() -> int:
+    signal.signal(signal.SIGINT, signal.SIG_DFL)
+    parser = argparse.ArgumentParser(prog="make_archives", description=DESCRIPTION, epilog=EPILOG,
+                                     formatter_class=argparse.RawDescriptionHelpFormatter)
+    parser.add_argument("stem", metavar="NAME", type=Path, help="the path of the archive without .archive")
+    parser.add_argument("files", nargs="+", metavar="FILE", help="a .cgd or .arc file")
+    asked = parser.parse_args()
+    try:
+        return make_archives(asked.stem, asked.files)
+    except (Failed, OSError) as reason:
+        print(f"make_archives: {reason}", file=sys.stderr)
+        return FAILED

@@ -1,0 +1,195 @@
+"""A text of blocks, line by line, with each block written as what the program reads."""
+
+from __future__ import annotations
+
+from collections.abc import Callable, Iterator
+from dataclasses import dataclass, field
+from typing import BinaryIO
+
+from ..texts.net_text import FIRST_TOKEN
+
+from .crystal import Fields, crystal_of
+from .expansion import graph_of
+from .graph_text import Graph, text_of_graph
+from .key_lines import graph_of_item
+from .periodic_graph import rewritten
+from .refusal import Refused
+from .symbolic import symbolic_graph
+from .tokens import decoded, rows_of, shown, tokens_of
+
+MOST_LINES = 40_000
+MOST_BYTES = 1 << 22
+LONGEST_LINE = 1 << 20
+TOO_LONG = f"more than {MOST_LINES} lines, {MOST_BYTES} bytes, or {LONGEST_LINE} bytes in a line"
+BYTE_ORDER_MARK = b"\xef\xbb\xbf"
+KINDS = {b"CRYSTAL": "CRYSTAL", b"NET": "NET", b"TILING": "TILING", b"PERIODIC_GRAPH": "PERIODIC_GRAPH",
+         b"KEY": "key line", b"ID": "key line"}
+
+
+@dataclass
+class Block:
+    """The lines of a block, as far as they are read."""
+
+    kind: str
+    line: int  # of the file, that opens it
+    lines: list[bytes] = field(default_factory=list)
+    size: int = 0
+
+    @property
+    def numbered(self) -> list[tuple[int, str]]:
+        return [(self.line + k, decoded(line)) for k, line in enumerate(self.lines)]
+
+    def add(self, line: bytes) -> None:
+        self.lines.append(line)
+        self.size += len(line)
+
+    @property
+    def name(self) -> str:
+        """The name that the block has, where it can be read."""
+        for _, text in self.numbered:
+            try:
+                tokens = tokens_of(text)
+            except Refused:
+                continue
+            if tokens and tokens[0].keyword == "NAME":
+                return " ".join(token.text for token in tokens[1:])
+        return ""
+
+
+def first_word(line: bytes) -> bytes:
+    """The first word of a line in capital letters, another first token as it is, or nothing."""
+    match = FIRST_TOKEN.match(line)
+    return (match[1] or match[2]).upper() if match else b""
+
+
+def lines_of(stream: BinaryIO) -> Iterator[tuple[bytes, bool]]:
+    """The lines of a stream, long ones in pieces, and whether a piece goes on with the line before."""
+    is_rest = False
+    while line := stream.readline(LONGEST_LINE + 1):
+        yield line, is_rest
+        is_rest = not line.endswith(b"\n")
+
+
+class Converter:
+    """Writes a text with its blocks turned into graphs. What a reader should know of a block, and why one is refused,
+    is told in one line each."""
+
+    def __init__(self, source: str, write: Callable[[bytes], object], tell: Callable[[str, bool], None]) -> None:
+        self.source, self.write, self._tell = source, write, tell
+        self.number = 0
+        self.block: Block | None = None
+        self.is_passing = False   # within a block that is written as it is
+        self.is_draining = False  # within a block that is refused already
+        self.turned = self.refused = 0
+
+    def convert(self, stream: BinaryIO) -> None:
+        """Reads a stream to its end."""
+        for line, is_rest in lines_of(stream):
+            self.push(line, is_rest)
+        self.finish()
+
+    def push(self, line: bytes, is_rest: bool = False) -> None:
+        """Takes one line, or the rest of a long one."""
+        if not is_rest:
+            self.number += 1
+            if self.number == 1:
+                line = line.removeprefix(BYTE_ORDER_MARK)
+        first = b"" if is_rest else first_word(line)
+        is_end = first == b"END"
+        if self.is_draining:
+            self.write(line if is_rest else b"# " + line)
+            self.is_draining = not is_end
+        elif self.block is None:
+            self._outside(line, first)
+        else:
+            self._inside(self.block, line, is_end)
+
+    def _outside(self, line: bytes, first: bytes) -> None:
+        """Takes a line that stands in no block that is turned; `first` is its first word, empty where it has none."""
+        kind = "" if self.is_passing else KINDS.get(first, "")
+        if kind:
+            self.block = Block(kind, self.number)
+            self._inside(self.block, line, False)
+            return
+        if first:
+            self.is_passing = first != b"END"
+        self.write(line)
+
+    def _inside(self, block: Block, line: bytes, is_end: bool) -> None:
+        block.add(line)
+        if is_end:
+            self.block = None
+            self._turn(block)
+        elif len(line) > LONGEST_LINE or len(block.lines) > MOST_LINES or block.size > MOST_BYTES:
+            self.block = None
+            if block.kind == "PERIODIC_GRAPH":
+                self.is_passing = True
+                self.write(b"".join(block.lines))
+            else:
+                self.is_draining = True
+                self._refuse(block, Refused(TOO_LONG, self.number))
+
+    def finish(self) -> None:
+        """Takes the end of the text."""
+        block, self.block = self.block, None
+        if block is not None and block.kind == "PERIODIC_GRAPH":
+            self.write(b"".join(block.lines))
+        elif block is not None:
+            self._refuse(block, Refused("there is no END"))
+
+    def _turn(self, block: Block) -> None:
+        """Writes the graph of a whole block, or the block as a comment."""
+        notes: list[str] = []
+        try:
+            text = text_of_block(block, notes)
+        except Refused as reason:
+            for note in notes:
+                self.tell(block, note)
+            self._refuse(block, reason)
+            return
+        except Exception as fault:  # of this tool, or of a library: the next block may still be read
+            self._refuse(block, Refused(f"cgd2net failed: {type(fault).__name__} {fault}"))
+            return
+        for note in notes:
+            self.tell(block, note)
+        self.turned += 1
+        self.put(block, text)
+
+    def put(self, block: Block, text: bytes) -> None:
+        """Writes what a block was turned into."""
+        self.write(text)
+
+    def _refuse(self, block: Block, reason: Refused) -> None:
+        self.refused += 1
+        place = f"line {reason.line}: " if reason.line else ""
+        text = f"refused: {place}{' '.join(reason.reason.split())}"
+        self.tell(block, text, True)
+        self.write(f"# {text}\n".encode(errors="replace"))
+        self.write(b"".join(b"# " + line for line in block.lines))
+        if not block.lines[-1].endswith(b"\n") and not self.is_draining:
+            self.write(b"\n")
+
+    def tell(self, block: Block, text: str, is_refusal: bool = False) -> None:
+        name = shown(block.name, 60).strip("'")
+        self._tell(f'{self.source}: line {block.line} "{name}": {text}', is_refusal)
+
+
+def text_of_block(block: Block, notes: list[str]) -> bytes:
+    """What is written of a block; refused by the line where it gives no graph."""
+    if block.kind == "PERIODIC_GRAPH":
+        return b"".join(rewritten(block.lines, notes))
+    graph = graph_of_block(block, notes)
+    return text_of_graph(graph, block.line, block.kind)
+
+
+def graph_of_block(block: Block, notes: list[str]) -> Graph:
+    """The quotient graph of a block of another kind."""
+    numbered = block.numbered
+    if block.kind == "key line":
+        return graph_of_item(numbered[:-1])
+    if len(tokens_of(numbered[0][1], block.line)) > 1:
+        raise Refused(f"more words than {block.kind} stand in the line that opens the block", block.line)
+    fields = Fields(rows_of(numbered[1:-1], notes))
+    if block.kind == "NET":
+        return symbolic_graph(fields)
+    return graph_of(crystal_of(fields, block.kind == "TILING", notes))

@@ -1,0 +1,81 @@
+"""A net on a larger cell, or on another basis."""
+
+from __future__ import annotations
+
+import operator
+import re
+from collections.abc import Iterable
+from dataclasses import dataclass
+from typing import Any
+
+from .asking import KINDS, single
+from .errors import NotANet
+from .net import Net
+from .outcome import ACCEPTED, Outcome, outcome_of
+from .program import reading_report, run
+
+FARTHEST = 500
+COVERED = re.compile(rb"cover refused (\d+) ([A-Za-z]+)(?: (count|value)=(-?\d+))?")
+
+
+@dataclass(frozen=True)
+class Cover:
+    """A net on another cell.
+
+    net      on the new cell: its vertices are numbers, (u - 1)·index + k for the kth image of the vertex u; None where
+             it is refused
+    outcome  `accepted`, or why not, as `refused 3 CoverVertices`
+    index    as many cells of the net go into the new one
+
+    Proved: what comes out is isomorphic to the net that the program read."""
+
+    net: Net | None
+    outcome: Outcome
+    index: int
+
+
+def cover(source: Any, cell: Iterable[Iterable[int]], **options: Any) -> Cover:
+    """A net on a cell of given rows, 2 x 2 or 3 x 3 whole numbers from -500 to 500, in lattice steps.
+
+    >>> cover([(1, 1, (1, 0)), (1, 1, (0, 1))], [(2, 0), (0, 1)]).net.edges
+    ((1, 1, (0, 1)), (1, 2, (-1, 0)), (1, 2, (0, 0)), (2, 2, (0, 1)))"""
+    rows = _rows_of(cell)
+    net = single(source, options)
+    _, told = run("cover", net.block, "-", "--cell=" + ",".join(str(part) for row in rows for part in row))
+    index = abs(_determinant(rows))
+    if told.startswith(b"PERIODIC_GRAPH"):
+        with reading_report("cover"):
+            return Cover(Net.from_block(told, net.name, net.notes), ACCEPTED, index)
+    with reading_report("cover"):
+        return Cover(None, _outcome(told.splitlines()), index)
+
+
+def _rows_of(cell: Iterable[Iterable[int]]) -> list[list[int]]:
+    try:
+        rows = [[operator.index(part) for part in row] for row in cell]
+    except TypeError as fault:
+        raise NotANet(f"a cell has rows of whole numbers: {fault}") from None
+    if len(rows) not in (2, 3) or any(len(row) != len(rows) for row in rows):
+        raise NotANet("a cell has 2 x 2 or 3 x 3 numbers")
+    if max(abs(part) for row in rows for part in row) > FARTHEST:
+        raise NotANet(f"the numbers of a cell are from -{FARTHEST} to {FARTHEST}")
+    return rows
+
+
+def _determinant(rows: list[list[int]]) -> int:
+    if len(rows) == 2:
+        return rows[0][0] * rows[1][1] - rows[0][1] * rows[1][0]
+    (a, b, c), (d, e, f), (g, h, i) = rows
+    return a * (e * i - f * h) - b * (d * i - f * g) + c * (d * h - e * g)
+
+
+def _outcome(lines: list[bytes]) -> Outcome:
+    line = lines[-1]
+    found = COVERED.fullmatch(line)
+    if found is None:
+        outcome = outcome_of(line, int(lines[0].split(b" ", 4)[3]) - 1)
+        if outcome.kind not in KINDS:
+            raise ValueError(f"{line[:60]!r} may not stand there")
+        return outcome
+    values = {found[3].decode(): int(found[4])} if found[3] else {}
+    return Outcome("refused", int(found[1]), found[2].decode(), dict(values), line.decode())

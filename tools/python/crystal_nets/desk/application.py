@@ -1,0 +1,150 @@
+"""The addresses of the page. All of them begin with the token."""
+
+from __future__ import annotations
+
+import json
+from collections.abc import Callable, Sequence
+from pathlib import Path
+from typing import Any
+
+from flask import Flask, Response, request
+from werkzeug.exceptions import BadRequest, HTTPException
+
+from ..pictures.text import PALETTE
+from . import questions
+from .files import AT_ONCE, shown_name
+from .guard import MOST_BYTES, TOO_LARGE, Guard, Refused, with_headers
+from .worker import ClientGone, NoAnswer, Workers
+
+PAGE = Path(__file__).with_name("page")
+VIEWER = Path(__file__).resolve().parents[1] / "pictures/viewer.js"
+FILES = {"": (PAGE / "desk.html", "text/html"), "desk.css": (PAGE / "desk.css", "text/css"),
+         "desk.js": (PAGE / "desk.js", "text/javascript"), "cards.js": (PAGE / "cards.js", "text/javascript"),
+         "viewer.js": (VIEWER, "text/javascript"), "icon.svg": (PAGE / "icon.svg", "image/svg+xml")}
+CONVENTIONS = ("all-atoms", "single-nodes", "all-nodes", "pe", "pem", "standard", "auto")
+CHOICES = ("keep_ions", "hydrogen_bonds", "partial_as_full", "accept_misfit", "every_copy")
+GONE = 499  # nobody reads it
+NOT_THERE = "there is nothing at this address"
+
+
+def application(guard: Guard, workers: Workers, given: Sequence[Path] = ()) -> Flask:
+    """The application that serves the page, and the files that were named at the start."""
+    app = Flask("net_desk", static_folder=None)
+    app.config["MAX_CONTENT_LENGTH"] = MOST_BYTES
+    app.before_request(lambda: guard.check(request))
+    app.after_request(with_headers)
+    app.register_error_handler(Refused, lambda fault: told(fault.reason, fault.status))
+    app.register_error_handler(NoAnswer, lambda fault: told(str(fault), 200))
+    app.register_error_handler(ClientGone, lambda _: told("nobody waits for the answer", GONE))
+    app.register_error_handler(HTTPException, lambda fault: told(reason_of_fault(fault), fault.code or 500))
+    app.register_error_handler(Exception, lambda fault: told(f"net_desk failed: {type(fault).__name__} {fault}", 500))
+    add_pages(app)
+    add_given(app, given)
+    add_questions(app, workers)
+    return app
+
+
+def told(reason: str, status: int) -> Response:
+    return Response(json.dumps({"reason": reason}), status, mimetype="application/json")
+
+
+def reason_of_fault(fault: HTTPException) -> str:
+    """The reason of a fault that Flask finds, in one line."""
+    known = {404: NOT_THERE, 405: "this address is not asked in this way", 413: TOO_LARGE}
+    return known.get(fault.code or 0, str(fault.description))
+
+
+def add_pages(app: Flask) -> None:
+    def page(token: str, name: str = "") -> Response:
+        if name not in FILES:
+            return told(NOT_THERE, 404)
+        file, kind = FILES[name]
+        content = file.read_text(encoding="utf-8")
+        return Response(content if name else content.replace("@PALETTE@", " ".join(PALETTE)), mimetype=kind)
+
+    app.add_url_rule("/<token>/", "page", page)
+    app.add_url_rule("/<token>/<name>", "part_of_page", page)
+
+
+def add_given(app: Flask, given: Sequence[Path]) -> None:
+    """The files of the command line: by their numbers, so that no path comes from outside."""
+
+    def names(token: str) -> Response:
+        return Response(json.dumps([shown_name(path.name) for path in given]), mimetype="application/json")
+
+    def content(token: str, number: int) -> Response:
+        if number >= len(given):
+            return told("there is no such file", 404)
+        try:
+            if given[number].stat().st_size > MOST_BYTES:
+                return told(TOO_LARGE, 413)
+            return Response(given[number].read_bytes(), mimetype="application/octet-stream")
+        except OSError as fault:
+            return told(f"it cannot be read: {fault.strerror}", 404)
+
+    app.add_url_rule("/<token>/given", "given", names)
+    app.add_url_rule("/<token>/given/<int:number>", "given_file", content)
+
+
+def add_questions(app: Flask, workers: Workers) -> None:
+    def ask(question: Callable[..., Any], *arguments: Any) -> Response:
+        client = request.environ.get("werkzeug.socket")
+        return Response(workers.ask(question, *arguments, client=client), mimetype="application/json")
+
+    def archives(token: str) -> Response:
+        return ask(questions.archives)
+
+    def nets(token: str) -> Response:
+        file = request.files.get("file")
+        if file is None:
+            raise BadRequest("the form has no file")
+        return ask(questions.nets, shown_name(file.filename or ""), file.read(), whole_number("first"), options_of_form())
+
+    def card(token: str) -> Response:
+        return ask(questions.card, text("block").encode(), text("name"), list_of_texts("notes"), text("refusal"))
+
+    def pair(token: str) -> Response:
+        return ask(questions.pair, text("one").encode(), text("other").encode())
+
+    def crystal(token: str) -> Response:
+        return ask(questions.crystal, text("block").encode(), text("name"))
+
+    app.add_url_rule("/<token>/archives", "archives", archives)
+    for name, work in (("nets", nets), ("card", card), ("pair", pair), ("crystal", crystal)):
+        app.add_url_rule(f"/<token>/{name}", name, work, methods=["POST"])
+
+
+def text(name: str) -> str:
+    """A field of the form."""
+    value = request.form.get(name)
+    if value is None:
+        raise BadRequest(f"the form has no field {name}")
+    return value.replace("\r\n", "\n").encode(errors="replace").decode()  # a browser sends each line end as two bytes
+
+
+def whole_number(name: str) -> int:
+    value = text(name)
+    if not value.isascii() or not value.isdecimal() or len(value) > 9 or int(value) % AT_ONCE:
+        raise BadRequest(f"{name} is no number of a first net")
+    return int(value)
+
+
+def list_of_texts(name: str) -> list[str]:
+    try:
+        values = json.loads(text(name))
+    except (ValueError, RecursionError):
+        values = None
+    if not isinstance(values, list) or not all(isinstance(value, str) for value in values):
+        raise BadRequest(f"{name} is no list of texts")
+    return values
+
+
+def options_of_form() -> dict[str, Any]:
+    """How structures are read: the convention, and what is ticked."""
+    convention = text("convention")
+    if convention not in CONVENTIONS:
+        raise BadRequest("there is no such convention")
+    ticked = list_of_texts("choices")
+    if not set(ticked) <= set(CHOICES):
+        raise BadRequest("there is no such choice")
+    return {"convention": convention, **{name: True for name in ticked}}

@@ -1,0 +1,132 @@
+"""The words of the command line, the beginning of the server and its clean end."""
+
+from __future__ import annotations
+
+import argparse
+import os
+import signal
+import socket
+import sys
+import threading
+import webbrowser
+from collections.abc import Callable
+from pathlib import Path
+
+from .worker import Limits, Workers
+
+DESCRIPTION = """A page on your own machine that tells which nets structures have: drop CIF, .cgd or .arc files on it.
+Nothing is sent anywhere: the server listens on this machine alone, and the page loads nothing from elsewhere."""
+EPILOG = """Ctrl-C ends it. exit status: 0 it was ended; 1 it could not begin; 2 usage.
+example: net_desk quartz.cif"""
+PACKAGES = "apt-get install python3-flask python3-gemmi python3-numpy python3-scipy python3-spglib"
+FAILED = 1
+ENDS = (signal.SIGINT, signal.SIGTERM, signal.SIGHUP)  # end the server
+
+
+def words() -> argparse.Namespace:
+    parser = argparse.ArgumentParser(prog="net_desk", description=DESCRIPTION, epilog=EPILOG,
+                                     formatter_class=argparse.RawDescriptionHelpFormatter)
+    parser.add_argument("files", nargs="*", metavar="FILE", type=Path, help="files that the page shows at once")
+    parser.add_argument("--port", type=port, default=0, metavar="N", help="listen there; at a free port where none is given")
+    parser.add_argument("--no-browser", action="store_true", help="print the address alone")
+    parser.add_argument("--seconds", type=number(1, 86_400), default=Limits.seconds, metavar="N",
+                        help="of work on one file or net, at most (%(default)s)")
+    parser.add_argument("--memory", type=number(256, 1 << 26), default=Limits.memory >> 20, metavar="MB",
+                        help="of one file or net, at most (%(default)s)")
+    return parser.parse_args()
+
+
+def number(least: int, most: int) -> Callable[[str], int]:
+    """What reads a whole number within bounds."""
+    def read(text: str) -> int:
+        if not text.isdecimal() or not least <= int(text) <= most:
+            raise argparse.ArgumentTypeError(f"{text!r} is not from {least} to {most}")
+        return int(text)
+    return read
+
+
+def port(text: str) -> int:
+    return number(1, 65_535)(text)
+
+
+def main() -> int:
+    asked = words()
+    for name in ENDS:
+        if signal.getsignal(name) != signal.SIG_IGN:  # as by nohup
+            signal.signal(name, interrupt)
+    try:
+        from .service import Service
+    except ModuleNotFoundError as missing:
+        return failed(f"{missing}; {PACKAGES}")
+    fault = fault_of_files(asked.files) or fault_of_program()
+    if fault:
+        return failed(fault)
+    try:
+        listener = listening(asked.port)
+    except OSError as taken:
+        return failed(f"port {asked.port} cannot be had: {taken.strerror}; give another, or none at all")
+    workers = Workers(Limits(asked.seconds, asked.memory << 20))
+    workers.start()
+    with Service(listener, workers, [path.absolute() for path in asked.files]) as service:
+        print(f"net_desk: {service.address}\nnet_desk: Ctrl-C ends it", flush=True)
+        if not asked.no_browser:
+            threading.Thread(target=open_browser, args=(service.address,), daemon=True).start()
+        try:
+            service.serve()
+        except KeyboardInterrupt:  # once is enough: the rest ends what runs
+            for name in ENDS:
+                signal.signal(name, signal.SIG_IGN)
+    return 0
+
+
+def interrupt(*_: object) -> None:
+    raise KeyboardInterrupt
+
+
+def failed(reason: str) -> int:
+    print(f"net_desk: {reason}", file=sys.stderr)
+    return FAILED
+
+
+def fault_of_files(files: list[Path]) -> str:
+    """Why a file of the command line cannot be shown; empty where all can."""
+    for path in files:
+        if path.is_dir():
+            return f"{path} is a folder; name files, or drop them on the page"
+        if not os.access(path, os.R_OK):
+            return f"{path} cannot be read"
+    return ""
+
+
+def fault_of_program() -> str:
+    from ..errors import ProgramNotFound
+    from ..program import find_program
+    try:
+        find_program()
+    except ProgramNotFound as reason:
+        return " ".join(str(reason).split())
+    return ""
+
+
+def listening(wanted: int) -> socket.socket:
+    """A socket that listens on this machine alone."""
+    listener = socket.socket(socket.AF_INET, socket.SOCK_STREAM)
+    try:
+        listener.setsockopt(socket.SOL_SOCKET, socket.SO_REUSEADDR, 1)
+        listener.bind(("127.0.0.1", wanted))
+        listener.listen(128)
+    except OSError:
+        listener.close()
+        raise
+    return listener
+
+
+def open_browser(address: str) -> None:
+    """Opens the page; or says that no browser was found."""
+    has_screen = os.environ.get("DISPLAY") or os.environ.get("WAYLAND_DISPLAY") or os.environ.get("BROWSER")
+    try:
+        is_open = bool(has_screen) and webbrowser.open(address)
+    except (webbrowser.Error, OSError):
+        is_open = False
+    if not is_open:
+        print("net_desk: no browser was found; open the address above in one on this machine", file=sys.stderr, flush=True)

@@ -1,0 +1,87 @@
+"""Pictures of nets, for notebooks and for files. They are not proved; positions are those of the report."""
+
+from __future__ import annotations
+
+import html
+from collections.abc import Sequence
+from typing import TYPE_CHECKING
+
+from .errors import CrystalNetsError, NotANet, PackageMissing
+from .net import Net
+
+if TYPE_CHECKING:
+    from .answers import Answer
+
+MOST_PICTURES = 24  # in the table of many answers
+
+
+def svg(source: Net | Answer) -> str:
+    """The picture of a net as SVG. NotANet where it has no key, and so no picture."""
+    from .answers import Answer
+    from .asking import identify
+    answer = source if isinstance(source, Answer) else identify(source, archive=None)
+    if not answer.accepted:
+        raise NotANet(f"it has no key, and so no picture: {answer.outcome}")
+    report = (answer if answer.text else identify(answer.net, archive=None)).report
+    try:
+        from .pictures.placed import NotPlaced, placed_net
+        from .pictures.shape import Shape
+        from .pictures.svg import picture
+        from .pictures.view import view_of
+    except ModuleNotFoundError as missing:
+        raise PackageMissing(f"pictures: {missing}; apt-get install python3-numpy") from missing
+    try:
+        return picture(view_of(Shape(placed_net(report))), _label(answer))
+    except NotPlaced as reason:
+        raise NotANet(f"the report is damaged: {reason}") from None
+
+
+def _label(answer: Answer) -> str:
+    from .pictures.text import printable
+    return printable(answer.name or (answer.names[0] if answer.names else "net"))
+
+
+def svg_or_none(net: Net) -> str | None:
+    """The picture, or nothing where there is none: a notebook shows the text then."""
+    try:
+        return svg(net)
+    except CrystalNetsError:
+        return None
+
+
+def svg_of_answer(answer: Answer) -> str | None:
+    try:
+        return svg(answer)
+    except CrystalNetsError:
+        return None
+
+
+def html_of_net(net: Net) -> str:
+    return f"<div>{html.escape(repr(net))}{_small(svg_or_none(net))}</div>"
+
+
+def html_of_answer(answer: Answer) -> str:
+    """The names, the picture and what is to be known of an answer."""
+    rows = [("net", answer.name), ("names", "; ".join(answer.names)), ("outcome", str(answer.outcome)),
+            ("vertices, edges", f"{answer.vertices}, {answer.edges}" if answer.vertices else "")]
+    rows += [("sequence", " ".join(map(str, sequence))) for sequence in sorted(set(answer.sequences))]
+    rows += [("note", note) for note in answer.notes]
+    cells = "".join(f"<tr><th>{name}</th><td>{html.escape(text)}</td></tr>" for name, text in rows if text)
+    return f"<div>{_small(svg_of_answer(answer))}<table>{cells}</table></div>"
+
+
+def html_of_answers(answers: Sequence[Answer]) -> str:
+    """A table with a row for each answer, and a picture in the first of them."""
+    rows = []
+    for place, answer in enumerate(answers):
+        drawn = _small(svg_of_answer(answer), 120) if place < MOST_PICTURES and answer.text else ""
+        told = "; ".join(answer.names) or str(answer.outcome)
+        cells = (html.escape(answer.name), html.escape(told), str(answer.vertices or ""), str(answer.edges or ""), drawn)
+        rows.append("<tr>" + "".join(f"<td>{cell}</td>" for cell in cells) + "</tr>")
+    head = "".join(f"<th>{word}</th>" for word in ("net", "names", "vertices", "edges", ""))
+    return f"<table><tr>{head}</tr>{''.join(rows)}</table>"
+
+
+def _small(picture: str | None, size: int = 320) -> str:
+    """A picture of so many pixels; nothing where there is none."""
+    return f'<div style="width:{size}px">{picture}</div>' if picture else ""

@@ -1,0 +1,31 @@
+"""What is raised. What is true of a net, as that it falls into pieces, is no error: it is a value of an answer."""
+
+from __future__ import annotations
+
+
+class CrystalNetsError(Exception):
+    """Anything that this package raises by itself."""
+
+
+class NotANet(CrystalNetsError, ValueError):
+    """What was given cannot be read as one net, for the reason that it is made with."""
+
+
+class NotAnArchive(CrystalNetsError, ValueError):
+    """A file is no archive, or the program computes other keys from its edges."""
+
+
+class ProgramNotFound(CrystalNetsError, FileNotFoundError):
+    """net_tool is not there; the text says how it is built."""
+
+
+class ProgramFailed(CrystalNetsError, RuntimeError):
+    """net_tool gave no answer; `status` is its exit status, negative where a signal ended it."""
+
+    def __init__(self, reason: str, status: int = 0) -> None:
+        super().__init__(reason)
+        self.status = status
+
+
+class PackageMissing(CrystalNetsError, ImportError):
+    """A package of Python is not there; the text has the name of the Debian package."""

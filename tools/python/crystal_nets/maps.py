@@ -1,0 +1,126 @@
+"""Whether two nets are the same, with the map that shows it."""
+
+from __future__ import annotations
+
+import re
+from dataclasses import dataclass, field
+from typing import Any
+
+from .asking import keys, single
+from .errors import NotANet, ProgramFailed
+from .net import Net, Vertex
+from .outcome import ACCEPTED, Outcome
+from .program import reading_report, run
+
+Place = tuple[Vertex, tuple[int, ...]]
+
+BAD_MAP = 11
+
+
+@dataclass(frozen=True)
+class NetMap:
+    """A bijection from the vertices of one net to those of another that keeps edges and is periodic.
+
+    period  it goes on alike after so many cells along each axis
+    images  the vertex u in the cell r goes to a vertex of the other net in a cell: (u, r) -> (v, t), for each u and each
+            cell r with parts from 0 to period - 1, in lattice steps
+    base    where the cells period·e1, period·e2 and so on go: 2 or 3 rows, in lattice steps of the other net
+    text    what `net_tool verify` reads: who reads it need trust no key
+
+    That a map of `same` is right is proved; `is_verified` has the program test it edge by edge, which trusts no key
+    and no placement."""
+
+    period: int
+    images: dict[Place, Place]
+    base: tuple[tuple[int, ...], ...]
+    text: str = field(repr=False)
+
+    def __call__(self, vertex: Vertex, cell: tuple[int, ...] | None = None) -> Place:
+        """Where a vertex of any cell goes; the cell is 0 where none is given."""
+        at = cell if cell is not None else (0,) * len(self.base)
+        home = tuple(part % self.period for part in at)
+        image, there = self.images[vertex, home]
+        steps = [(part - rest) // self.period for part, rest in zip(at, home)]
+        return image, tuple(part + sum(step * row[k] for step, row in zip(steps, self.base))
+                            for k, part in enumerate(there))
+
+    def is_verified(self) -> bool:
+        """Whether `net_tool verify` finds the map right."""
+        _, told = run("verify", self.text.encode(), "-", allowed=(0, 1, BAD_MAP))
+        return told == b"pair 2 verified\n"
+
+
+@dataclass(frozen=True)
+class Sameness:
+    """Whether two nets are isomorphic: whether a bijection keeps edges and carries the lattice of the one onto that of
+    the other. Proved, up to the blocks that the program read.
+
+    same      True or False; None where a net has no key, so that the program does not know
+    map       the map, where they are the same and it can be written
+    outcomes  of the two nets: why there is no answer
+    text      `different`, `map`, or why no map is written
+
+    It is true as a condition where `same` is True, and raises NotANet where `same` is None."""
+
+    same: bool | None
+    map: NetMap | None
+    outcomes: tuple[Outcome, Outcome]
+    text: str
+
+    def __bool__(self) -> bool:
+        if self.same is None:
+            raise NotANet(f"whether the nets are the same is not known: {self.text}")
+        return self.same
+
+
+def same(one: Any, other: Any, **options: Any) -> Sameness:
+    """Whether two nets are the same, with a map from the first to the second.
+
+    >>> pcu = [(1, 1, (1, 0, 0)), (1, 1, (0, 1, 0)), (1, 1, (0, 0, 1))]
+    >>> skewed = [("A", "A", (1, 1, 0)), ("A", "A", (0, 1, 0)), ("A", "A", (0, 0, 1))]
+    >>> answer = same(pcu, skewed)
+    >>> answer.same, answer.map.period, answer.map(1), answer.map.is_verified()
+    (True, 1, ('A', (0, 0, 0)), True)
+    >>> bool(same(pcu, [(1, 1, (1, 0)), (1, 1, (0, 1))]))
+    False"""
+    nets = [single(source, options) for source in (one, other)]
+    _, told = run("same", b"".join(net.block for net in nets), "-")
+    if told.startswith(b"net_maps 1\n"):
+        with reading_report("same"):
+            return _sameness(told, nets)
+    first, second = (answer.outcome for answer in keys(nets))
+    reasons = [str(outcome) for outcome in (first, second) if not outcome.accepted]
+    if not reasons:
+        raise ProgramFailed("net_tool same gave no map, and both nets have keys")
+    return Sameness(None, None, (first, second), reasons[0])
+
+
+def _sameness(told: bytes, nets: list[Net]) -> Sameness:
+    found = re.search(rb"(?m)^pair 2 (.*)$", told)
+    if found is None:
+        raise ValueError("there is no pair")
+    word = found[1].decode()
+    if not re.fullmatch(r"different|map|long entries=\d+|wide value=-?\d+", word):
+        raise ValueError(f"there is no pair {word[:60]!r}")
+    read = _map_of(told, found.end(), nets) if word == "map" else None
+    return Sameness(word != "different", read, (ACCEPTED, ACCEPTED), word)
+
+
+def _map_of(told: bytes, begin: int, nets: list[Net]) -> NetMap:
+    """The map of an item that begins there. Its vertices have the numbers of the graphs, and here their names."""
+    first, second = (net.vertices for net in nets)
+    period, images, base = 0, {}, []
+    for line in told[begin + 1:].decode().splitlines():
+        word, *rest = line.split()
+        if word == "period":
+            period = int(rest[0])
+        elif word == "base":
+            base.append(tuple(map(int, rest)))
+        elif word == "image":
+            numbers = list(map(int, rest))
+            middle = len(numbers) // 2
+            image = (second[numbers[middle] - 1], tuple(numbers[middle + 1:]))
+            images[first[numbers[0] - 1], tuple(numbers[1:middle])] = image
+    if not period or not images or len(base) != nets[0].dimension:
+        raise ValueError("the map is cut")
+    return NetMap(period, images, tuple(base), told.decode())

@@ -1,0 +1,76 @@
+"""What became of a net: that it was answered, or why it was not, by values that are true of it."""
+
+from __future__ import annotations
+
+import re
+from dataclasses import dataclass, field
+
+from .net import Vertex, vertex_of
+from .texts.net_text import LIST, VERTEX
+
+Value = int | tuple[int, ...] | Vertex
+
+WORDS = re.compile(rb"(refused|malformed) (?:line=(\d+) )?(\d+) ([A-Za-z]+)((?: .*)?)")
+VALUE = re.compile(rb" ([A-Za-z0-9]+)=(" + VERTEX + rb"(?= [a-z]+=|$)|" + LIST + rb")")
+
+
+@dataclass(frozen=True)
+class Outcome:
+    """What became of a net.
+
+    kind    `accepted`, `refused`, `malformed`, `unsupported`; or `unreadable`, where a structure or a block gave no
+            net before the program saw one
+    number  of a refusal or a fault, as docs/FORMATS.md has them; 0 where there is none
+    name    its word, as `Collision`
+    values  what is true of the net, as {'u': 'Si1', 'v': 'Si2', 't': (0, 0, 1)}: vertices, cells in lattice steps,
+            and numbers. That they are true is proved for `refused` and `malformed`
+    text    the line of the report, or the reason"""
+
+    kind: str = "accepted"
+    number: int = 0
+    name: str = ""
+    values: dict[str, Value] = field(default_factory=dict)
+    text: str = ""
+
+    @property
+    def accepted(self) -> bool:
+        return self.kind == "accepted"
+
+    def __str__(self) -> str:
+        return self.text or self.kind
+
+
+ACCEPTED = Outcome()
+
+
+def unreadable(reason: str) -> Outcome:
+    return Outcome("unreadable", text=reason)
+
+
+def outcome_of(line: bytes, lines_before: int = 0) -> Outcome:
+    """The outcome of a line that begins with `refused`, `malformed` or `unsupported`. The lines before the block are
+    taken off from the number of a line, so that the first line of the block is 1."""
+    text = line.decode(errors="replace")
+    found = WORDS.fullmatch(line)
+    if found is None:
+        return Outcome(text.partition(" ")[0], text=text)
+    kind, at, number, name, rest = found.groups()
+    values: dict[str, Value] = {}
+    if at:
+        values["line"] = int(at) - lines_before
+        text = f"malformed line={values['line']} {number.decode()} {name.decode()}"
+    word = rest.split()[0].decode() if rest.strip() and b"=" not in rest.split()[0] else ""
+    if word:
+        values["what"] = word
+    for letter, value in VALUE.findall(rest):
+        values[letter.decode()] = _value(letter, value)
+    return Outcome(kind.decode(), int(number), name.decode(), values, text)
+
+
+def _value(letter: bytes, value: bytes) -> Value:
+    """A vertex under u and v, a list under those letters that are lists, and else a number."""
+    if letter in (b"u", b"v"):
+        return vertex_of(value)
+    numbers = tuple(int(part) for part in value.split())
+    is_list = letter in (b"h", b"s", b"t", b"pivots") or len(numbers) > 1
+    return numbers if is_list else numbers[0]

@@ -1,0 +1,315 @@
+"""From what a user has to nets: edges, files and texts, atoms of ase and pymatgen, graphs of networkx.
+
+None of this is proved: what is proved of an answer begins at the block of a net."""
+
+from __future__ import annotations
+
+import os
+import re
+from collections.abc import Iterable, Iterator, Mapping
+from contextlib import contextmanager
+from dataclasses import fields
+from io import BytesIO
+from pathlib import Path
+from typing import TYPE_CHECKING, Any
+
+from .errors import NotANet, PackageMissing
+from .net import TOO_LONG, Net
+from .texts.net_text import FIRST_TOKEN, HEADER, MOST_BYTES, OTHER_TEXTS, Chunk, chunks_of
+
+if TYPE_CHECKING:
+    import networkx
+
+    from .structures.choice import Options
+    from .structures.conversion import Conversion
+    from .structures.crystal import Crystal
+
+CIF = re.compile(rb"(?im)^[ \t]*(?:data_|_cell_|_atom_site_)")
+CIF_SUFFIXES = (".cif", ".mcif")
+SUFFIXES = (*CIF_SUFFIXES, ".cgd", ".arc")  # of the files of a folder
+ROW = rb'(?:[+-]?\d++|"[^"\n]*+")[ \t]++(?:[+-]?\d++|"[^"\n]*+")[ \t]++[-+\d \t]++'
+PLAIN_BLOCK = re.compile(  # line by line: a row; a keyword; or nothing. ++ and *+ never take back what they took
+    rb'(?:[ \t]*+(?:' + ROW + rb'|(?i:END|(?:EDGES?|BONDS?)(?:[ \t]++' + ROW + rb')?|PERIODIC_GRAPH'
+    rb'|(?:NAME|ID)[ \t]++(?:"[^"\n]*+"|[^\s"#]++))|)[ \t\r]*+(?:#[^\n]*+)?\n)*+')
+NAME_LINE = re.compile(rb'(?i)[ \t]*(?:NAME|ID)[ \t]+(?:"([^"\n]*)"|([^\s"#]+))')
+BYTE_ORDER_MARK = b"\xef\xbb\xbf"
+STRUCTURE_PACKAGES = "apt-get install python3-gemmi python3-numpy python3-scipy python3-spglib"
+
+
+def read(source: Any, name: str = "", **options: Any) -> list[Net]:
+    """All nets of what is given.
+
+    source   a `Net`; a path of a file; a text, which is a str with a line feed, or bytes; an `ase.Atoms`; a
+             `pymatgen` Structure or StructureGraph; a directed `networkx` graph with shifts; or edges (u, v, shift)
+    name     what a text is called, as its file would be: `quartz.cif`; its ending tells the kind
+    options  those of `Net.from_cif`, for structures
+
+    A file may be a CIF, or one of blocks or key lines as `.cgd` and `.arc`; of a folder all such files are read. Where a
+    block gives no net, a Net with its `refusal` stands in its place. NotANet is raised where the source is of no such
+    kind, and OSError where a file cannot be read.
+
+    >>> read("PERIODIC_GRAPH\\nNAME sql\\nEDGES\\n1 1 1 0\\n1 1 0 1\\nEND\\n")
+    [<Net sql: 1 vertex, 2 edges, dimension 2>]"""
+    if isinstance(source, Net):
+        return [source]
+    if isinstance(source, (str, bytes, os.PathLike)):
+        return _nets_of_text(source, name, options)
+    if hasattr(source, "get_scaled_positions"):
+        return nets_of_ase(source, options)
+    if hasattr(source, "frac_coords"):
+        return nets_of_pymatgen(source, options)
+    if hasattr(source, "graph") and hasattr(source, "structure"):
+        return _without_options([net_of_networkx(source.graph)], options)
+    if hasattr(source, "is_directed") and hasattr(source, "edges"):
+        return _without_options([net_of_networkx(source)], options)
+    if isinstance(source, Iterable) and not isinstance(source, Mapping):
+        return _without_options([Net(source)], options)
+    raise NotANet(f"no net is read from {type(source).__name__}")
+
+
+def _nets_of_text(source: str | bytes | os.PathLike[str], name: str, options: Mapping[str, Any]) -> list[Net]:
+    """The nets of a text, of a file, or of all files of a folder."""
+    if not isinstance(source, bytes) and "\n" not in str(source) and os.path.isdir(source):
+        files = [file for file in sorted(Path(source).iterdir()) if file.suffix.lower() in SUFFIXES]
+        return [net for file in files for net in _nets_of_text(file, "", _options_for(file.name, options))]
+    content, file = _content_of(source)
+    file = name or file
+    if _is_cif(content, file):
+        return nets_of_cif(content, options, file)
+    return _without_options(nets_of_cgd(content), options)
+
+
+def _is_cif(content: bytes, file: str) -> bool:
+    """By the ending of the name, and where there is none of those by what stands in the text."""
+    suffix = Path(file).suffix.lower()
+    return suffix in CIF_SUFFIXES or (suffix not in SUFFIXES and CIF.search(content) is not None)
+
+
+def _options_for(file: str, options: Mapping[str, Any]) -> Mapping[str, Any]:
+    """The options, where the file is a structure."""
+    return options if Path(file).suffix.lower() in CIF_SUFFIXES else {}
+
+
+def _without_options(nets: list[Net], options: Mapping[str, Any]) -> list[Net]:
+    if options:
+        raise TypeError(f"these options are for structures alone: {', '.join(sorted(options))}")
+    return nets
+
+
+def one_net(nets: list[Net], name: str | None = None) -> Net:
+    """The only net of a list, under a name where one is given. NotANet where there are none or several."""
+    if len(nets) != 1:
+        told = ", ".join(net.name or "?" for net in nets[:5]) + (" .." if len(nets) > 5 else "")
+        raise NotANet(f"there are {len(nets)} nets, and one is asked for; read gives all: {told}" if nets
+                      else "there is no net")
+    net, = nets
+    if net.refusal:
+        raise NotANet(net.refusal)
+    return net if name is None else Net._of(net.block, name, net.notes)
+
+
+def _content_of(source: str | bytes | os.PathLike[str]) -> tuple[bytes, str]:
+    """The bytes of a text or of a file, and the name of the file; a text has none."""
+    if isinstance(source, bytes):
+        return source, ""
+    if isinstance(source, str) and ("\n" in source or not source.strip()):
+        return source.encode(errors="surrogateescape"), ""
+    return Path(source).read_bytes(), Path(source).name
+
+
+@contextmanager
+def _packages_of(what: str) -> Iterator[None]:
+    """PackageMissing with what to install, where a package of Python is not there."""
+    try:
+        yield
+    except ModuleNotFoundError as missing:
+        raise PackageMissing(f"{what}: {missing}; {STRUCTURE_PACKAGES}") from missing
+
+
+def nets_of_cgd(source: str | bytes | os.PathLike[str]) -> list[Net]:
+    """The nets of a text of blocks or key lines. A block PERIODIC_GRAPH that the program reads is left byte for byte."""
+    content, _ = _content_of(source)
+    return [net_of_chunk(chunk) for chunk in chunks_of(BytesIO(content)) if chunk.opening_line]
+
+
+def net_of_chunk(chunk: Chunk) -> Net:
+    """The net of one block, or why it gives none. NotANet where a text of another kind begins there."""
+    lines = chunk.block_lines
+    if chunk.opening_line == 1:
+        lines[0] = lines[0].removeprefix(BYTE_ORDER_MARK)
+    word = lines[0].split(None, 1)[0].upper() if lines[0].strip() else b""
+    kind = "a report of net_tool" if HEADER.fullmatch(lines[0]) else OTHER_TEXTS.get(word)
+    if kind:
+        raise NotANet(f"line {chunk.opening_line} begins {kind}")
+    if chunk.size > MOST_BYTES:
+        return Net.refused(f"line {chunk.opening_line}: {TOO_LONG}")
+    if not is_ended(lines):
+        return Net.refused(f"line {chunk.opening_line}: the block has no END", _name_of(lines))
+    text = b"".join(lines)
+    text = text if text.endswith(b"\n") else text + b"\n"
+    if word.startswith(b"PERIODIC_GRAPH") and PLAIN_BLOCK.fullmatch(text):
+        return Net._of(text, _name_of(lines), ())
+    with _packages_of("a block that is no plain PERIODIC_GRAPH"):
+        return _net_of_block(chunk, lines)
+
+
+def _net_of_block(chunk: Chunk, lines: list[bytes]) -> Net:
+    """The net of a block of another kind, as cgd2net reads it."""
+    from .blocks.converter import KINDS, MOST_LINES, Block, first_word, text_of_block
+    from .blocks.converter import MOST_BYTES as MOST_OF_A_BLOCK
+    from .blocks.refusal import Refused
+    kind = KINDS.get(first_word(lines[0]), "")
+    block = Block(kind, chunk.opening_line, lines, chunk.size)
+    if not kind:
+        opening = lines[0].strip()[:40].decode(errors="replace")
+        return Net.refused(f"line {chunk.opening_line}: a block {opening!r} is not read")
+    if len(lines) > MOST_LINES or chunk.size > MOST_OF_A_BLOCK:
+        return Net.refused(f"line {chunk.opening_line}: more than {MOST_LINES} lines, or {MOST_OF_A_BLOCK} bytes")
+    notes: list[str] = []
+    name = block.name
+    try:
+        text = text_of_block(block, notes)
+    except Refused as reason:
+        return Net.refused(f"line {reason.line or chunk.opening_line}: {reason.reason}", name, notes)
+    except Exception as fault:  # of the reader, or of a library: the next block may still be read
+        return Net.refused(f"line {chunk.opening_line}: {type(fault).__name__} {fault}", name, notes)
+    return Net._of(text, name, tuple(notes))
+
+
+def want_one_block(text: bytes) -> None:
+    """NotANet where a text is not one block PERIODIC_GRAPH with its END."""
+    chunks = list(chunks_of(BytesIO(text)))
+    if len(chunks) != 1 or not chunks[0].opening_line:
+        raise NotANet(f"a net is one block, and not {sum(chunk.opening_line > 0 for chunk in chunks)}")
+    lines = chunks[0].block_lines
+    if lines[0].split(None, 1)[0].upper() != b"PERIODIC_GRAPH" or not is_ended(lines):
+        raise NotANet("a net is a block that begins with PERIODIC_GRAPH and ends with END")
+
+
+def is_ended(lines: list[bytes]) -> bool:
+    """Whether the last line of a block ends it."""
+    found = FIRST_TOKEN.match(lines[-1])
+    return len(lines) > 1 and found is not None and (found[1] or b"").upper() == b"END"
+
+
+def _name_of(lines: list[bytes]) -> str:
+    for line in lines[1:]:
+        found = NAME_LINE.match(line)
+        if found:
+            return (found[1] if found[1] is not None else found[2]).decode(errors="surrogateescape")
+    return ""
+
+
+def nets_of_cif(source: str | bytes | os.PathLike[str], options: Mapping[str, Any], name: str = "") -> list[Net]:
+    """The nets of all blocks of a CIF, as cif2cgd reads them; the name is that of the file."""
+    content, file = _content_of(source)
+    file = name or file
+    wanted = _options_of(options)
+    with _packages_of("a structure file"):
+        from .structures.conversion import Conversion, Source, convert_block
+        from .structures.document import blocks_of
+        from .structures.refusal import Unreadable
+    stem = Path(file).stem if file else "structure"
+    try:
+        blocks = blocks_of(content, stem)
+    except Unreadable as reason:
+        return [Net.refused(str(reason), stem)]
+    nets: list[Net] = []
+    for block in blocks:
+        done = Conversion(Source(file or "-", stem, stem))
+        convert_block(block, block.name, wanted, done)
+        nets += _nets_of_conversion(done, block.name)
+    return nets
+
+
+def _nets_of_conversion(done: Conversion, name: str) -> list[Net]:
+    """The nets of one block, each with the notes on the block and its own; or why it gives none."""
+    reasons = [note.text for _, note in done.notes if note.kind == "refused"]
+    general = [note.text for what, note in done.notes if what == name and note.kind != "refused"]
+    if reasons:
+        return [Net.refused("; ".join(reasons), name, general)]
+    blocks = nets_of_cgd(done.text) if done.text else []
+    return [Net._of(net.block, net.name, (*general, *told["notes"]))
+            for net, told in zip(blocks, done.nets, strict=True)]
+
+
+def _options_of(options: Mapping[str, Any]) -> Options:
+    """The options of cif2cgd. TypeError with the names that there are, where one is another."""
+    with _packages_of("a structure"):
+        from .structures.choice import Options
+        from .structures.conventions import AUTO, CONVENTIONS
+    known = [entry.name for entry in fields(Options)]
+    unknown = sorted(set(options) - set(known))
+    if unknown:
+        raise TypeError(f"there is no option {unknown[0]!r}; there are {', '.join(known)}")
+    wanted = Options(**options)
+    if wanted.convention not in (AUTO, *CONVENTIONS):
+        raise NotANet(f"there is no convention {wanted.convention!r}; there are {', '.join([*CONVENTIONS, AUTO])}")
+    return wanted
+
+
+def nets_of_ase(atoms: Any, options: Mapping[str, Any]) -> list[Net]:
+    """The nets of an `ase.Atoms`."""
+    wanted = _options_of(options)
+    name = str(atoms.info.get("name") or atoms.get_chemical_formula(empirical=True))
+    with _packages_of("a structure"):
+        from .structures.atoms import bounded_cell, crystal_of_atoms
+    cell, places = bounded_cell(atoms.cell.array, atoms.get_positions(), atoms.pbc)
+    contents = [{symbol: 1.0} for symbol in atoms.get_chemical_symbols()]
+    return _nets_of_crystal(lambda: crystal_of_atoms(name, cell, contents, places), name, wanted)
+
+
+def nets_of_pymatgen(structure: Any, options: Mapping[str, Any]) -> list[Net]:
+    """The nets of a `pymatgen` structure; a site may have several elements with their occupancies."""
+    wanted = _options_of(options)
+    name = str(structure.composition.reduced_formula)
+    with _packages_of("a structure"):
+        from .structures.atoms import crystal_of_atoms
+    contents = [{_symbol_of(species): float(part) for species, part in site.species.items()} for site in structure]
+    return _nets_of_crystal(
+        lambda: crystal_of_atoms(name, structure.lattice.matrix, contents, structure.cart_coords), name, wanted)
+
+
+def _symbol_of(species: Any) -> str:
+    return str(getattr(species, "symbol", species))
+
+
+def _nets_of_crystal(make: Any, name: str, options: Options) -> list[Net]:
+    """The nets of a crystal, or why it gives none."""
+    from .structures.cgd import text_of_net
+    from .structures.choice import nets_of
+    from .structures.conversion import within_limits
+    from .structures.refusal import Unreadable
+    notes: list[Any] = []
+    try:
+        crystal: Crystal = make()
+        named = [within_limits(net) for net in nets_of(crystal, options, notes)]
+    except Unreadable as reason:
+        return [Net.refused(str(reason), name, [note.text for note in notes])]
+    except Exception as fault:  # of the reader, or of a library, as with places that are no numbers
+        return [Net.refused(f"{type(fault).__name__} {fault}", name)]
+    told = [note.text for note in [*crystal.notes, *notes]]
+    blocks = nets_of_cgd("".join(text_of_net(net, name) for net in named).encode())
+    return [Net._of(block.block, block.name, (*told, *(note.text for note in net.notes)))
+            for block, net in zip(blocks, named, strict=True)]
+
+
+def net_of_networkx(graph: networkx.DiGraph[Any], name: str | None = None) -> Net:
+    """The net of a directed graph with shifts; its vertices are numbered in order where a node is no number and no
+    text."""
+    if not graph.is_directed():
+        raise NotANet("the graph has no directions, so that a shift has no meaning: make it a MultiDiGraph")
+    nodes = list(graph.nodes)
+    is_plain = all(isinstance(node, str) or (isinstance(node, int) and not isinstance(node, bool)) for node in nodes)
+    words: dict[Any, Any] = {node: node if is_plain else k for k, node in enumerate(nodes, start=1)}
+    edges = []
+    for u, v, data in graph.edges(data=True):
+        shift = data.get("shift", data.get("to_jimage"))
+        if shift is None:
+            raise NotANet(f"the edge from {u!r} to {v!r} has no attribute shift or to_jimage")
+        edges.append((words[u], words[v], shift))
+    lonely = [node for node in nodes if graph.degree(node) == 0]
+    if lonely:
+        raise NotANet(f"the vertex {lonely[0]!r} has no edge")
+    notes = () if is_plain else ("vertices are numbered in the order of the nodes",)
+    return Net(edges, str(graph.graph.get("name") or "") if name is None else name, notes)

@@ -1,0 +1,7 @@
+"""Tables of many nets, which net_table makes.
+
+plan      what there is to do: files and parts of files, in pieces that one process does at a time
+piece     the rows of one piece, which are kept until all are there
+columns   the columns of the table, and how it is read
+join      the table, groups, names and refusals, from the rows of all pieces
+command   the words of the command line, processes side by side, the bar"""

@@ -1,0 +1,56 @@
+"""The columns of a table, and how it is read."""
+
+from __future__ import annotations
+
+import os
+import re
+from pathlib import Path
+from typing import TYPE_CHECKING
+
+from ..errors import PackageMissing
+from ..texts.row_text import ESCAPES
+
+if TYPE_CHECKING:
+    import pandas
+
+OF_A_PIECE = ("source", "line", "name", "outcome", "dimension", "vertices", "edges", "classes", "D0", "key", "sequences",
+              "notes", "reason")
+TABLE = ("number", *OF_A_PIECE[:-2], "group", "names", "notes")
+NUMBERS = ("number", "line", "dimension", "vertices", "edges", "classes", "D0", "group")
+QUOTE_NONE = 3  # of the module csv
+MARKS = {**{bytes((byte,)).decode("latin-1"): text.decode() for byte, text in ESCAPES.items()}, '"': "\\x22"}
+ESCAPED = re.compile(r"\\(x[0-9a-f]{2}|.)")
+LETTERS = {"t": "\t", "r": "\r"}
+
+
+def escaped(text: str) -> str:
+    """A text as a field has it: no tab, no line feed, no quote, and `;` for what parts several texts alone."""
+    return "".join(MARKS.get(sign, sign) for sign in text)
+
+
+def joined(texts: tuple[str, ...]) -> str:
+    return ";".join(map(escaped, texts))
+
+
+def plain(field: str) -> str:
+    """The text of a field."""
+    return ESCAPED.sub(lambda found: chr(int(found[1][1:], 16)) if found[1][0] == "x" and len(found[1]) == 3
+                       else LETTERS.get(found[1], found[1]), field)
+
+
+def line_of(fields: tuple[str, ...]) -> bytes:
+    return "\t".join(fields).encode(errors="surrogateescape") + b"\n"
+
+
+def read_table(path: str | os.PathLike[str]) -> pandas.DataFrame:
+    """The table that net_table made, of its folder or file, as a `pandas.DataFrame`. Numbers that are not there are NA,
+    texts are empty. The fields `sequences`, `names` and `notes` have `;` between their parts, as README.md of
+    tools/batch says."""
+    try:
+        import pandas
+    except ImportError:
+        raise PackageMissing("pandas is not there; apt-get install python3-pandas") from None
+    file = Path(path) / "table.tsv" if Path(path).is_dir() else Path(path)
+    return pandas.read_csv(file, sep="\t", dtype={name: "Int64" if name in NUMBERS else "str" for name in TABLE},
+                           keep_default_na=False, na_values={name: [""] for name in NUMBERS}, quoting=QUOTE_NONE,
+                           encoding_errors="surrogateescape")

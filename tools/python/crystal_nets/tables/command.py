@@ -1,0 +1,199 @@
+"""The words of the command line of net_table, processes side by side, and the bar."""
+
+from __future__ import annotations
+
+import argparse
+import contextlib
+import ctypes
+import fcntl
+import gc
+import os
+import signal
+import sys
+from collections.abc import Iterator
+from concurrent.futures import ProcessPoolExecutor, as_completed
+from concurrent.futures.process import BrokenProcessPool
+from pathlib import Path
+from typing import Any
+
+from ..archive import Archive, default_files, files_of as archive_files
+from ..errors import CrystalNetsError, ProgramFailed
+from ..pictures.side_by_side import Bar, processors
+from .join import FILES, join
+from .piece import make_rows, rows_of
+from .plan import Failed, Plan, files_of, plan_of, read_plan, state_of, write_whole
+
+DESCRIPTION = """The table of all nets of a source: a folder of structure files (.cif) and files of nets (.cgd,
+.arc), or one such file, with any number of nets. FOLDER gets table.tsv, a line for each net; groups.tsv, the nets
+that are the same; names.tsv, those that archives have; and refused.tsv, those without a key, and why. A run that
+broke off is taken up by the same command: what was done is kept in FOLDER/work."""
+EPILOG = """exit status: 0 each net has a key; 1 some net has none; 2 usage; 3 nothing can be done, or a process was
+ended from outside; else that of net_tool. NET_TOOL is the program, net_tool where it is not set.
+example: net_table structures results --jobs 4 --archive archives"""
+SOME_REFUSED, FAILED = 1, 3
+SWITCHES = {"keep_ions": "keep Na K Rb Cs Ca Sr Ba beside a framework", "hydrogen_bonds": "hydrogen bonds are edges",
+            "partial_as_full": "take partly occupied atoms as full", "accept_misfit": "take atoms that cannot be right",
+            "every_copy": "each of several nets of the same atoms"}
+PARENT_ENDED = 1  # of prctl: the signal that a process gets where its parent ends
+
+
+def words() -> argparse.Namespace:
+    parser = argparse.ArgumentParser(prog="net_table", description=DESCRIPTION, epilog=EPILOG,
+                                     formatter_class=argparse.RawDescriptionHelpFormatter)
+    parser.add_argument("paths", metavar="[SOURCE] FOLDER", nargs="+", type=Path,
+                        help="FOLDER alone takes up what is planned there")
+    parser.add_argument("--archive", metavar="PATH", action="append", type=Path,
+                        help="an archive, or a folder of them, for names; several may be given. Without it they are those "
+                        "that archive_files lists")
+    parser.add_argument("--no-names", action="store_true", help="look no names up")
+    parser.add_argument("--keys-alone", action="store_true",
+                        help="no placement and no sequences, which takes less time")
+    parser.add_argument("--jobs", metavar="N", type=number_of_jobs, default=processors(),
+                        help="processes side by side, as many as processors where it is not given")
+    parser.add_argument("--plan", action="store_true", help="write the plan alone, for --part")
+    parser.add_argument("--part", metavar="K/N", type=part, help="do each Nth piece from the Kth on, and no table")
+    structures = parser.add_argument_group("of structure files, as cif2cgd has them")
+    structures.add_argument("--convention", metavar="NAME", help="what is a vertex")
+    structures.add_argument("--leave-out", metavar="ELEMENTS", help="atoms of no concern, as Na,Cl")
+    for name, text in SWITCHES.items():
+        structures.add_argument("--" + name.replace("_", "-"), action="store_true", help=text)
+    asked = parser.parse_args()
+    if len(asked.paths) > 2:
+        parser.error("give a SOURCE and a FOLDER, or a FOLDER alone")
+    return asked
+
+
+def number_of_jobs(text: str) -> int:
+    if not text.isdecimal() or not 1 <= int(text) <= 1024:
+        raise argparse.ArgumentTypeError(f"{text!r} is not from 1 to 1024")
+    return int(text)
+
+
+def part(text: str) -> tuple[int, int]:
+    first, _, step = text.partition("/")
+    if not (first.isdecimal() and step.isdecimal() and 1 <= int(first) <= int(step)):
+        raise argparse.ArgumentTypeError(f"{text!r} is not as 3/16")
+    return int(first), int(step)
+
+
+def settings_of(asked: argparse.Namespace, source: Path, files: list[Path]) -> dict[str, Any]:
+    """What the rows depend on."""
+    options: dict[str, Any] = {name: True for name in SWITCHES if getattr(asked, name)}
+    if asked.convention:
+        options["convention"] = asked.convention
+    if asked.leave_out:
+        options["leave_out"] = sorted(asked.leave_out.replace(",", " ").split())
+    return {"source": str(source), "state": state_of(files), "options": options,
+            "command": "key" if asked.keys_alone else "identify"}
+
+
+def planned(asked: argparse.Namespace, folder: Path, work: Path) -> Plan:
+    """The plan that is there, or a new one. Failed where the one that is there is of other words, or of a source that
+    was changed since."""
+    path = work / "plan"
+    if len(asked.paths) == 1:
+        if not path.exists():
+            raise Failed(f"nothing is planned in {folder}; give the source before it")
+        return read_plan(path)
+    source = asked.paths[0]
+    files = files_of(source)
+    if not files:
+        raise Failed(f"{source} has no files .cif, .mcif, .cgd or .arc")
+    settings = settings_of(asked, source, files)
+    if path.exists():
+        plan = read_plan(path)
+        for name, value in settings.items():
+            if plan.settings.get(name) != value:
+                what = f"{source} was changed since" if name == "state" else f"its {name} is {plan.settings.get(name)!r}"
+                raise Failed(f"{folder} has another table: {what}; take another folder, or remove it")
+        return plan
+    plan = plan_of(files, settings)
+    work.mkdir(parents=True, exist_ok=True)
+    write_whole(path, plan.text.encode(errors="surrogateescape"))
+    return plan
+
+
+def make_pieces(work: Path, plan: Plan, numbers: list[int], jobs: int) -> None:
+    """Makes the rows of those pieces that have none."""
+    missing = [number for number in numbers if rows_of(work, plan, number) is None]
+    bar = Bar("net_table", len(missing))
+    try:
+        if jobs == 1 or len(missing) < 2:
+            for number in missing:
+                make_rows(work, plan, number)
+                bar.step()
+            return
+        with ProcessPoolExecutor(min(jobs, len(missing)), initializer=end_with_parent, initargs=(os.getpid(),)) as pool:
+            futures = [pool.submit(make_rows, work, plan, number) for number in missing]
+            try:
+                for future in as_completed(futures):
+                    future.result()
+                    bar.step()
+            except BaseException:
+                pool.shutdown(cancel_futures=True)
+                raise
+    finally:
+        bar.end()
+
+
+def end_with_parent(parent: int) -> None:
+    """Has this process end where its parent does, so that no run that was killed leaves one behind."""
+    signal.signal(signal.SIGINT, signal.SIG_DFL)
+    with contextlib.suppress(OSError, AttributeError):
+        ctypes.CDLL(None).prctl(PARENT_ENDED, signal.SIGKILL)
+    if os.getppid() != parent:
+        os._exit(1)
+
+
+@contextlib.contextmanager
+def alone(work: Path) -> Iterator[None]:
+    """Keeps a second run out of a folder. Failed where one is there."""
+    work.mkdir(parents=True, exist_ok=True)
+    with open(work / "lock", "w") as lock:
+        try:
+            fcntl.flock(lock, fcntl.LOCK_EX | fcntl.LOCK_NB)
+        except OSError:
+            raise Failed(f"another net_table is at work in {work.parent}") from None
+        yield
+
+
+def archive_of(asked: argparse.Namespace) -> Archive | None:
+    if asked.no_names:
+        return None
+    return Archive.load(*(archive_files(asked.archive) if asked.archive else default_files()))
+
+
+def make_table(asked: argparse.Namespace) -> int:
+    folder = asked.paths[-1]
+    work = folder / "work"
+    if asked.part:
+        plan = planned(asked, folder, work)
+        make_pieces(work, plan, list(range(asked.part[0], len(plan.pieces) + 1, asked.part[1])), asked.jobs)
+        return 0
+    with alone(work):
+        plan = planned(asked, folder, work)
+        if asked.plan:
+            print(f"{folder}: {len(plan.pieces)} pieces")
+            return 0
+        archive = archive_of(asked)
+        make_pieces(work, plan, list(range(1, len(plan.pieces) + 1)), asked.jobs)
+        counts = join(folder, work, plan, archive)
+    print(f"{folder / FILES[0]}: {counts.nets} nets, {counts.with_key} with a key, {counts.kinds} different, "
+          f"{counts.named} with a name, {counts.nets - counts.with_key} refused")
+    return SOME_REFUSED if counts.with_key < counts.nets else 0
+
+
+def main() -> int:
+    signal.signal(signal.SIGINT, signal.SIG_DFL)
+    gc.set_threshold(200_000)
+    asked = words()
+    try:
+        return make_table(asked)
+    except ProgramFailed as fault:
+        print(f"net_table: {fault}", file=sys.stderr)
+        return fault.status if 0 < fault.status < 126 else FAILED
+    except BrokenProcessPool:
+        print("net_table: a process was ended from outside; the same command again goes on", file=sys.stderr)
+    except (Failed, CrystalNetsError, OSError) as fault:
+        print(f"net_table: {fault}", file=sys.stderr)
+    return FAILED

@@ -1,0 +1,89 @@
+"""The rows of one piece, kept in a file with a sum of its content, so that a file that is cut is known."""
+
+from __future__ import annotations
+
+import hashlib
+import os
+from collections.abc import Iterator
+from io import BytesIO
+from pathlib import Path
+from typing import Any
+
+from ..answers import Answer, short_outcome
+from ..asking import identify_all, keys
+from ..errors import NotANet
+from ..net import Net
+from ..reading import net_of_chunk, nets_of_cif
+from ..texts.net_text import chunks_of
+from .columns import OF_A_PIECE, escaped, joined, line_of
+from .plan import FORM, Plan, Portion, write_whole
+
+Found = tuple[str, int, Net]  # the file, the line of the block or 0, and the net
+
+
+def path_of(folder: Path, number: int) -> Path:
+    return folder / f"{number:06}.rows"
+
+
+def make_rows(folder: Path, plan: Plan, number: int) -> None:
+    """Writes the rows of the piece with this number, counted from 1."""
+    found = [item for portion in plan.pieces[number - 1] for item in nets_of_portion(portion, plan.settings)]
+    nets = [net for _, _, net in found]
+    answers = identify_all(nets, archive=None) if plan.settings["command"] == "identify" else keys(nets)
+    content = b"".join(_row(source, line, answer) for (source, line, _), answer in zip(found, answers, strict=True))
+    write_whole(path_of(folder, number), _head(plan, content) + content)
+
+
+def rows_of(folder: Path, plan: Plan, number: int) -> list[bytes] | None:
+    """The rows of a piece, each with its line feed; None where they are not there, or not whole, or of another plan."""
+    try:
+        content = path_of(folder, number).read_bytes()
+    except FileNotFoundError:
+        return None
+    head, _, rows = content.partition(b"\n")
+    return rows.splitlines(keepends=True) if head + b"\n" == _head(plan, rows) else None
+
+
+def _head(plan: Plan, rows: bytes) -> bytes:
+    return f"{FORM} {plan.mark} {hashlib.sha256(rows).hexdigest()}\n".encode()
+
+
+def nets_of_portion(portion: Portion, settings: dict[str, Any]) -> list[Found]:
+    """The nets of a portion. What cannot be read is a refusal in their place."""
+    try:
+        with open(portion.path, "rb") as file:
+            file.seek(portion.offset)
+            content = file.read(portion.length)
+        nets = list(_nets_of(portion, content, settings))
+    except OSError as fault:
+        nets = [(0, Net.refused(f"not readable: {fault.strerror}"))]
+    if not nets and portion.offset == 0:
+        nets = [(0, Net.refused("there is no net in it"))]
+    return [(portion.path, line, net) for line, net in nets]
+
+
+def _nets_of(portion: Portion, content: bytes, settings: dict[str, Any]) -> Iterator[tuple[int, Net]]:
+    """The nets with the lines that open their blocks, counted in the whole file."""
+    if portion.kind == "structure":
+        options = {**settings["options"], "leave_out": frozenset(settings["options"].get("leave_out", ()))}
+        yield from ((0, net) for net in nets_of_cif(content, options, os.path.basename(portion.path)))
+        return
+    for chunk in chunks_of(BytesIO(content), portion.kind == "items"):
+        if chunk.opening_line:
+            chunk.first_line += portion.lines_before
+            chunk.opening_line += portion.lines_before
+            try:
+                yield chunk.opening_line, net_of_chunk(chunk)
+            except NotANet as reason:  # a text of another kind begins there
+                yield chunk.opening_line, Net.refused(str(reason))
+
+
+def _row(source: str, line: int, answer: Answer) -> bytes:
+    sizes = (line, answer.dimension, answer.vertices, answer.edges, answer.classes, answer.denominator)
+    at, dimension, vertices, edges, classes, scale = (str(size or "") for size in sizes)
+    sequences = ";".join(" ".join(map(str, sequence)) for sequence in sorted(set(answer.sequences)))
+    reason = "" if answer.accepted else str(answer.outcome)
+    fields = (escaped(source), at, escaped(answer.name), short_outcome(answer.outcome), dimension, vertices, edges, classes,
+              scale, answer.key, sequences, joined(answer.notes), escaped(reason))
+    assert len(fields) == len(OF_A_PIECE)
+    return line_of(fields)

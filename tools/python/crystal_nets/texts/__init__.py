@@ -1,0 +1,7 @@
+"""The texts around net_tool.
+
+net_text        files of nets, and reports of check, place, key and identify
+component_text  reports of components
+archive_text    archives
+row_text        rows, one line for each net
+key_graph       the graph of a key"""

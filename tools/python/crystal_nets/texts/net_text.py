@@ -1,0 +1,295 @@
+"""The texts around net_tool: files of blocks (.cgd) or of key lines (.arc), and the reports on them.
+
+Both are handled as bytes, as the program handles them, since a name may hold nearly any.
+What opens a block, what ends it, and what a report says, stands in docs/FORMATS.md. A report is
+read whole and line by line: one that is cut, or changed in its form, is refused with its line."""
+
+from __future__ import annotations
+
+import re
+from collections.abc import Iterable, Iterator
+from dataclasses import dataclass, field
+
+MOST_BLOCKS = 4_096
+MOST_BYTES = 16_777_216
+MOST_VERTICES = 512
+MOST_EDGES = 4_096
+MOST_SHELLS = 10
+WIDEST = 1 << 60  # no position of a report is as wide
+
+# the first token of a line, where it has one: a word or number, or else any other byte
+FIRST_TOKEN = re.compile(rb'[ \t\v\f\r]*(?:([^\x00-\x20"#\x7f]+)|([^#\n \t\v\f\r]))')
+ITEM_WORDS = (b"KEY", b"ID")  # begin an item of key lines
+OTHER_TEXTS = {b"NET_ARCHIVE": "an archive; archive_nets writes its nets as blocks",
+               b"NET_MAPS": "a text of maps; net_tool verify reads it"}
+
+LIST = rb"-?\d+(?: -?\d+)*"
+VERTEX = rb'(?:"[^"\n]*"|[+-]?\d+)'
+HEADER = re.compile(rb'net (\d+) line (\d+)(?: "([^"\n]*)")?\n')
+GRAPH = re.compile(rb"d=([23]) vertices=(\d+) edges=(\d+) repeats=(\d+)")
+AT = re.compile(rb"(%s) (%s)" % (VERTEX, LIST))
+MALFORMED = re.compile(rb"line=(\d+) (\d+ [A-Za-z]+)")
+REASONS = tuple(re.compile(form) for form in (
+    rb"1 Disconnected q=\d+ c=" + LIST + rb" h=" + LIST,
+    rb"2 Degenerate q=0 c=" + LIST + rb" h=" + LIST,
+    rb"4 WidePlacement denominator u=" + VERTEX + rb" c=\d+ value=\d+",
+    rb"4 WidePlacement arc u=" + VERTEX + rb" v=" + VERTEX + rb" s=" + LIST + rb" c=\d+ value=-?\d+",
+    rb"4 WidePlacement beyond part=\d+ k=\d+ i=\d+ j=\d+ c=\d+",
+    rb"5 Collision u=" + VERTEX + rb" v=" + VERTEX + rb" t=" + LIST,
+    rb"6 TooMuch starts=\d+ counted=\d+",
+    rb"7 NoModulus pivots=" + LIST))
+
+
+@dataclass
+class Chunk:
+    """A block with the lines before it that belong to no other; or what follows the last block."""
+
+    first_line: int         # counted from 1
+    opening_line: int = 0   # the line that opens the block; 0 where there is none
+    lines: list[bytes] = field(default_factory=list)
+
+    @property
+    def size(self) -> int:
+        return sum(map(len, self.lines))
+
+    @property
+    def block_lines(self) -> list[bytes]:
+        """The lines of the block alone."""
+        return self.lines[self.opening_line - self.first_line:]
+
+
+def chunks_of(lines: Iterable[bytes], is_items: bool | None = None) -> Iterator[Chunk]:
+    """The text in pieces of one block each, so that all of them joined are the text. Where the first token is `key` or
+    `id`, the text is one of key lines, and its items are the blocks: no other lines begin one. Of a text that is cut out
+    of a longer one, whether that has items is to be given."""
+    chunk = Chunk(1)
+    for number, line in enumerate(lines, start=1):
+        chunk.lines.append(line)
+        token = FIRST_TOKEN.match(line)
+        if token is None:
+            continue
+        word = (token[1] or b"").upper()
+        if is_items is None:
+            is_items = word in ITEM_WORDS
+        if word != b"END":
+            if not is_items or word in ITEM_WORDS:
+                chunk.opening_line = chunk.opening_line or number
+        elif chunk.opening_line:
+            yield chunk
+            chunk = Chunk(number + 1)
+    if chunk.lines:
+        yield chunk
+
+
+class NoReport(Exception):
+    """The text has not the form that is asked for; the first bad line is named."""
+
+
+def key_numbers(text: bytes) -> list[int]:
+    """The numbers of a key: dimension, classes, scale, and rows of two classes and a vector.
+
+    ValueError where it has another form, as where it was cut within a row."""
+    numbers = _numbers(text)
+    dimension, classes, scale = numbers[:3]
+    if dimension not in (2, 3) or not 1 <= classes <= MOST_VERTICES or scale < 1:
+        raise ValueError("a key of another form")
+    size = dimension + 2
+    if len(numbers) == 3 or (len(numbers) - 3) % size:
+        raise ValueError("a key that is cut")
+    tails, heads = numbers[3::size], numbers[4::size]
+    if tails != sorted(tails) or min(tails) != 1 or max(heads) > classes or any(map(int.__gt__, tails, heads)):
+        raise ValueError("a key of another form")
+    return numbers
+
+
+@dataclass
+class NetReport:
+    """What a report says of one block. Fields that it does not speak of are empty."""
+
+    number: int
+    line: int
+    name: bytes
+    outcome: bytes = b"accepted"  # or as `refused 5 Collision`, `malformed 8 TooManyVertices`
+    told: bytes = b""             # the whole line of a block that was not accepted
+    graph: dict[bytes, int] = field(default_factory=dict)  # d, vertices, edges, repeats
+    scale: int = 0                # D0
+    positions: list[tuple[bytes, list[int]]] = field(default_factory=list)
+    classes: int = 0
+    rows: int = 0                 # edges of the primitive graph
+    basis: list[list[int]] = field(default_factory=list)
+    edges: list[list[int]] = field(default_factory=list)  # of the primitive graph
+    key: bytes = b""
+    shells: list[list[int]] = field(default_factory=list)
+    entries: int = 0              # of the archive, of which it is the net
+    names: list[bytes] = field(default_factory=list)
+    command: bytes = b""          # that reports so, where it can be told: check, place, key, identify
+    following: tuple[bytes, ...] = (b"unsupported", b"malformed", b"graph")  # first words; empty: the end
+
+    def read(self, line: bytes) -> None:
+        """Takes the next line; ValueError where it may not stand there, or is cut."""
+        word, _, rest = line.partition(b" ")
+        if word == b"connected\n":
+            word, rest = b"connected", b"\n"
+        if word not in self.following or not rest.endswith(b"\n"):
+            raise ValueError("it may not stand there, or is cut")
+        self.following = getattr(self, "_" + word.decode())(rest[:-1])
+
+    @property
+    def is_whole(self) -> bool:
+        return b"" in self.following
+
+    def _unsupported(self, rest: bytes) -> tuple[bytes, ...]:
+        return self._not_accepted(b"unsupported", rest, b"unsupported", rest != b"")
+
+    def _malformed(self, rest: bytes) -> tuple[bytes, ...]:
+        found = MALFORMED.fullmatch(rest)
+        return self._not_accepted(b"malformed", rest, b"malformed " + found[2] if found else b"",
+                                  found is not None and int(found[1]) >= self.line)
+
+    def _refused(self, rest: bytes) -> tuple[bytes, ...]:
+        return self._not_accepted(b"refused", rest, b"refused " + b" ".join(rest.split()[:2]),
+                                  any(reason.fullmatch(rest) for reason in REASONS))
+
+    def _not_accepted(self, word: bytes, rest: bytes, outcome: bytes, is_right: bool) -> tuple[bytes, ...]:
+        _want(is_right)
+        self.told, self.outcome = word + b" " + rest, outcome
+        return (b"",)
+
+    def _graph(self, rest: bytes) -> tuple[bytes, ...]:
+        found = _matched(GRAPH.fullmatch(rest))
+        self.graph = dict(zip((b"d", b"vertices", b"edges", b"repeats"), map(int, found.groups())))
+        _want(1 <= self.graph[b"vertices"] <= MOST_VERTICES and 1 <= self.graph[b"edges"] <= MOST_EDGES)
+        return b"refused", b"connected", b"placement", b"key"
+
+    def _connected(self, rest: bytes) -> tuple[bytes, ...]:
+        _want(not rest)
+        self.command = b"check"
+        return (b"",)
+
+    def _placement(self, rest: bytes) -> tuple[bytes, ...]:
+        self.scale = _counts(rest, b"D0")[0]
+        self.command = b"place"
+        return (b"at",)
+
+    def _at(self, rest: bytes) -> tuple[bytes, ...]:
+        found = _matched(AT.fullmatch(rest))
+        self.positions.append((found[1], self._vector(found[2])))
+        return (b"at",) if len(self.positions) < self.graph[b"vertices"] else (b"primitive", b"")
+
+    def _primitive(self, rest: bytes) -> tuple[bytes, ...]:
+        self.classes, self.rows = _counts(rest, b"vertices", b"edges")
+        _want(self.classes <= self.graph[b"vertices"] and self.rows <= self.graph[b"edges"])
+        self.command = b"identify"
+        return (b"basis",)
+
+    def _basis(self, rest: bytes) -> tuple[bytes, ...]:
+        row, place = self._vector(rest), len(self.basis)
+        _want(not any(row[:place]) and row[place] > 0)
+        self.basis.append(row)
+        return (b"basis",) if len(self.basis) < self.graph[b"d"] else (b"edge",)
+
+    def _edge(self, rest: bytes) -> tuple[bytes, ...]:
+        tail, head, *shift = row = _numbers(rest)
+        _want(1 <= tail <= head <= self.classes and len(shift) == self.graph[b"d"] and max(abs(part) for part in shift) < WIDEST)
+        self.edges.append(row)
+        return (b"edge",) if len(self.edges) < self.rows else (b"key",)
+
+    def _key(self, rest: bytes) -> tuple[bytes, ...]:
+        numbers = key_numbers(rest)
+        rows = (len(numbers) - 3) // (numbers[0] + 2)
+        _want(numbers[0] == self.graph[b"d"])
+        if self.command:
+            _want(numbers[1] == self.classes and rows == self.rows)
+        _want(numbers[1] <= self.graph[b"vertices"] and rows <= self.graph[b"edges"])
+        self.key = rest
+        if self.command:
+            return (b"shells",)
+        self.command = b"key"
+        return (b"",)
+
+    def _shells(self, rest: bytes) -> tuple[bytes, ...]:
+        number, *shells = _numbers(rest)
+        self.shells.append(shells)
+        _want(number == len(self.shells) and len(shells) <= MOST_SHELLS and all(shell > 0 for shell in shells))
+        return (b"shells",) if number < self.classes else (b"names",)
+
+    def _names(self, rest: bytes) -> tuple[bytes, ...]:
+        _want(re.fullmatch(rb"\d+", rest) is not None)
+        self.entries = int(rest)
+        return (b"name",) if self.entries else (b"",)
+
+    def _name(self, rest: bytes) -> tuple[bytes, ...]:
+        _want(re.fullmatch(rb'"[^"]+"', rest) is not None)
+        self.names.append(rest[1:-1])
+        return (b"name",) if len(self.names) < self.entries else (b"",)
+
+    def _vector(self, text: bytes) -> list[int]:
+        vector = _numbers(text)
+        _want(len(vector) == self.graph[b"d"] and max(abs(part) for part in vector) < WIDEST)
+        return vector
+
+
+def _want(is_right: bool) -> None:
+    if not is_right:
+        raise ValueError("it has not the form of a line that may stand there")
+
+
+def _matched(found: re.Match[bytes] | None) -> re.Match[bytes]:
+    if found is None:
+        raise ValueError("it has not the form of a line that may stand there")
+    return found
+
+
+def _numbers(text: bytes) -> list[int]:
+    return [int(part) for part in text.split(b" ")]
+
+
+def _counts(text: bytes, *names: bytes) -> list[int]:
+    """The numbers from 1 on of a line `NAME=NUMBER NAME=NUMBER`."""
+    found = _matched(re.fullmatch(b" ".join(name + rb"=([1-9]\d*)" for name in names), text))
+    return [int(number) for number in found.groups()]
+
+
+def nets_of_report(lines: Iterable[bytes]) -> Iterator[NetReport]:
+    """The nets that a report of check, place, key or identify speaks of, in order, or those of
+    several reports of one command, one after the other.
+
+    NoReport with the number of the first line that may not stand where it stands, also after the
+    last one where the text is cut: a net that is given is whole."""
+    net, command, count = None, b"", 0
+    number = line_number = 0  # of the last header
+    for count, line in enumerate(lines, start=1):
+        header = HEADER.fullmatch(line)
+        if header is None:
+            _read(net, line, count)
+            continue
+        if net:
+            command = _ended(net, command, count)
+            yield net
+        net = NetReport(int(header[1]), int(header[2]), header[3] or b"")
+        if not (net.number == number + 1 and net.line > line_number) and not (net.number == 1 and net.line >= 1):
+            raise NoReport(f"line {count}: net {net.number} at line {net.line} does not follow: {line[:60]!r}")
+        number, line_number = net.number, net.line
+    if net:
+        _ended(net, command, count + 1)
+        yield net
+
+
+def _read(net: NetReport | None, line: bytes, count: int) -> None:
+    if net is None:
+        raise NoReport(f"line {count}: this begins no report of check, place, key or identify: {line[:60]!r}")
+    try:
+        net.read(line)
+    except ValueError:
+        told = f"{line[:60]!r} may not stand there, or is cut"
+        raise NoReport(f"line {count}: no report of check, place, key or identify: {told}") from None
+
+
+def _ended(net: NetReport, command: bytes, count: int) -> bytes:
+    """The command of the report, where it is known."""
+    if not net.is_whole:
+        raise NoReport(f"line {count}: the report on net {net.number} is cut before this line")
+    if command and net.command not in (b"", command):
+        told = f"net {net.number} is reported by {net.command.decode()}, others by {command.decode()}"
+        raise NoReport(f"line {count}: {told}")
+    return command or net.command

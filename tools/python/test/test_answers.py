@@ -1,0 +1,260 @@
+"""What is asked and answered: identify, keys, same, components, cover, group, tables and pictures."""
+
+import random
+import sys
+import unittest
+import unittest.mock
+from fractions import Fraction
+
+from testing import PROGRAM, TOOLS, TOP, FolderTest, need_modules, need_program, run
+
+sys.path.insert(0, str(TOOLS / "python"))
+from crystal_nets import (Archive, Net, NotAnArchive, NotANet, ProgramFailed, components, cover, group,  # noqa: E402
+                          identify, identify_all, keys, net_of_key, read, same, svg)
+
+DIA = Net([(1, 2, (0, 0, 0)), (1, 2, (1, 0, 0)), (1, 2, (0, 1, 0)), (1, 2, (0, 0, 1))], name="dia")
+PCU = Net([(1, 1, (1, 0, 0)), (1, 1, (0, 1, 0)), (1, 1, (0, 0, 1))], name="pcu")
+SQL = Net([("A", "A", (1, 0)), ("A", "A", (0, 1))], name="sql")
+REFUSED = {  # by the words of the outcome
+    "refused 1 Disconnected": [(1, 1, (1, 0)), (1, 1, (0, 1)), (2, 2, (1, 0)), (2, 2, (0, 1))],
+    "refused 2 Degenerate": [(1, 1, (1, 0))],
+    "refused 5 Collision": [("c", "l1", (0, 0)), ("c", "l2", (0, 0)), ("c", "c", (1, 0)), ("c", "c", (0, 1))],
+    "malformed 6 SelfEdge": [(1, 1, (0, 0))],
+    "malformed 3 MixedDimension": [(1, 1, (0, 1)), (1, 1, (0, 1, 0))],
+    "malformed 2 RowLength": [(1, 1, (1,))],
+    "malformed 7 ShiftRange": [(1, 1, (501, 0))],
+    "malformed 8 TooManyVertices": [(k, k + 1, (0, 0)) for k in range(600)],
+    "malformed 5 NoEdges": [],
+}
+
+
+class AnswerTest(FolderTest):
+    @classmethod
+    def setUpClass(cls):
+        need_program()
+        cls.archive = Archive.of([DIA, PCU, SQL])
+
+
+class Identify(AnswerTest):
+    def test_all_that_is_told_of_a_net(self):
+        need_program()
+        doubled = cover(DIA, [(-1, 1, 1), (1, -1, 1), (1, 1, -1)]).net
+        answer = identify(doubled, archive=self.archive)
+        self.assertEqual((answer.names, answer.vertices, answer.edges, answer.dimension), (("dia",), 8, 16, 3))
+        self.assertEqual((answer.primitive.vertices, len(answer.primitive.edges)), (2, 4))
+        self.assertEqual(answer.sequences, ((4, 12, 24, 42, 64, 92, 124, 162, 204, 252),) * 2)
+        self.assertEqual(set(answer.placement.fractions), set(range(1, 9)))
+        self.assertTrue(all(isinstance(part, Fraction) for part in answer.placement[8]))
+        self.assertEqual(identify(answer.primitive.net, archive=self.archive).key, answer.key)
+        self.assertEqual(str(answer), "dia: dia")
+
+    def test_each_vertex_is_at_the_mean_of_its_neighbours(self):
+        for answer in identify_all(read(TOP / "archives/common.cgd")[:12], archive=None):
+            places = answer.placement.fractions
+            for vertex, place in places.items():
+                ends = [(v, shift) for u, v, shift in answer.net.edges if u == vertex]
+                ends += [(u, tuple(-part for part in shift)) for u, v, shift in answer.net.edges if v == vertex]
+                for k, part in enumerate(place):
+                    self.assertEqual(sum(places[v][k] + shift[k] - part for v, shift in ends), 0)
+
+    def test_refusals_are_values(self):
+        nets = [Net(edges, name=word) for word, edges in REFUSED.items()]
+        for answers in (keys(nets), identify_all(nets, archive=self.archive)):
+            for answer, word in zip(answers, REFUSED, strict=True):
+                outcome = answer.outcome
+                self.assertEqual(f"{outcome.kind} {outcome.number} {outcome.name}", word)
+                self.assertEqual((answer.key, answer.names, answer.accepted), ("", (), False))
+        by_word = {answer.name: answer.outcome.values for answer in keys(nets)}
+        self.assertEqual({by_word["refused 5 Collision"]["u"], by_word["refused 5 Collision"]["v"]}, {"c", "l1"})
+        self.assertEqual(by_word["refused 2 Degenerate"], {"q": 0, "c": (0, 1), "h": (0,)})
+        self.assertEqual(by_word["malformed 3 MixedDimension"], {"line": 5})
+
+    def test_a_structure_that_gives_no_net_stands_in_its_place(self):
+        answers = identify_all([DIA, Net.refused("no atoms", "x"), PCU], archive=self.archive)
+        self.assertEqual([answer.outcome.kind for answer in answers], ["accepted", "unreadable", "accepted"])
+        self.assertEqual([answer.names for answer in answers], [("dia",), (), ("pcu",)])
+
+    def test_one_and_many(self):
+        with self.assertRaises(NotANet):
+            identify(TOP / "examples/twice.cgd", archive=None)
+        answers = identify_all(TOP / "examples/twice.cgd", archive=self.archive)
+        self.assertEqual([answer.names for answer in answers], [("dia",)] * 2)
+        self.assertEqual(len(answers[:1]), 1)
+        self.assertEqual(len(identify_all([], archive=None)), 0)
+
+    def test_the_number_of_processes_changes_nothing(self):
+        nets = read(TOP / "archives/common.cgd")[:40] * 3
+        self.assertEqual(keys(nets, processes=3), keys(nets))
+        with self.assertRaises(ValueError):
+            keys(nets, processes=0)
+
+    def test_keys_are_those_of_the_program(self):
+        path = TOP / "examples/mystery.cgd"
+        told = run(PROGRAM, "key", path).stdout.decode()
+        self.assertEqual([f"key {answer.key}" for answer in keys(path)],
+                         [line for line in told.splitlines() if line.startswith("key ")])
+
+
+class Same(AnswerTest):
+    def test_a_map_is_a_map(self):
+        doubled = cover(DIA, [(1, 0, 0), (0, 2, 0), (0, 1, 1)]).net
+        answer = same(DIA, doubled)
+        self.assertTrue(answer)
+        self.assertTrue(answer.map.is_verified())
+        joined = {(u, v, shift) for u, v, shift in doubled.edges}
+        joined |= {(v, u, tuple(-part for part in shift)) for u, v, shift in doubled.edges}
+        for u, v, shift in DIA.edges:
+            for cell in ((0, 0, 0), (3, -2, 5), (-7, 1, 1)):
+                (a, r), (b, t) = answer.map(u, cell), answer.map(v, tuple(x + y for x, y in zip(cell, shift)))
+                self.assertIn((a, b, tuple(y - x for x, y in zip(r, t))), joined)
+
+    def test_different_and_not_known(self):
+        self.assertFalse(same(DIA, PCU))
+        self.assertIsNone(same(DIA, PCU).map)
+        unknown = same(DIA, Net(REFUSED["refused 1 Disconnected"]))
+        self.assertIsNone(unknown.same)
+        self.assertEqual([outcome.accepted for outcome in unknown.outcomes], [True, False])
+        with self.assertRaises(NotANet):
+            bool(unknown)
+
+    def test_a_map_that_is_spoiled_is_not_verified(self):
+        answer = same(DIA, cover(DIA, [(1, 0, 0), (0, 2, 0), (0, 1, 1)]).net)
+        lines = answer.map.text.splitlines()
+        place = next(k for k, line in enumerate(lines) if line.startswith("image"))
+        lines[place] = lines[place + 1].rsplit(" ", 4)[0] + " " + " ".join(lines[place].rsplit(" ", 4)[1:])
+        spoiled = type(answer.map)(answer.map.period, answer.map.images, answer.map.base, "\n".join(lines) + "\n")
+        self.assertFalse(spoiled.is_verified())
+
+
+class Parts(AnswerTest):
+    def test_interwoven_nets_get_names(self):
+        for net, names, pieces in zip(read(TOP / "examples/interwoven.cgd"),
+                                      ((("dia",),), (("pcu",),), ((), ())), (2, 2, 2)):
+            found = components(net, archive=self.archive)
+            self.assertEqual((tuple(part.names for part in found.parts)[:len(names)], found.pieces), (names, pieces))
+        part = components(read(TOP / "examples/interwoven.cgd")[0], archive=None).parts[0]
+        self.assertTrue(same(part.net, DIA))
+
+    def test_layers_in_space_are_a_refusal(self):
+        found = components(Net([(1, 1, (1, 0, 0)), (1, 1, (0, 1, 0))]), archive=None)
+        self.assertEqual((found.outcome.name, found.outcome.values["c"], found.parts), ("LowRank", (0, 0, 1), ()))
+
+    def test_a_text_that_is_no_key_is_told(self):
+        for text in ("", "x", "3 1 1", "3 1 1 1 1 0 0 1", "9" * 5000):
+            with self.assertRaises(NotANet):
+                net_of_key(text)
+
+
+class Covers(AnswerTest):
+    def test_the_cover_is_the_same_net(self):
+        answer = cover(SQL, [(2, 1), (0, 3)])
+        self.assertEqual((answer.index, len(answer.net.vertices), bool(same(SQL, answer.net))), (6, 6, True))
+
+    def test_refusals_are_values_and_other_cells_are_told(self):
+        for cell, name in (([(1, 0), (0, 1)], "CellDimension"), ([(1, 0, 0), (0, 1, 0), (1, 1, 0)], "CellRank"),
+                           ([(9, 0, 0), (0, 9, 0), (0, 0, 9)], "CoverVertices")):
+            answer = cover(DIA, cell)
+            self.assertEqual((answer.net, answer.outcome.name), (None, name))
+        for cell in ([], [(1, 0)], [(1, 0), (0,)], [(501, 0), (0, 1)], 3, [(0.5, 0), (0, 1)], [("a", 0), (0, 1)]):
+            with self.assertRaises(NotANet, msg=repr(cell)):
+                cover(DIA, cell)
+
+
+class Groups(AnswerTest):
+    def test_groups_of_nets_in_other_cells(self):
+        order = random.Random(1)
+        nets = [DIA, PCU, cover(DIA, [(1, 1, 0), (0, 2, 0), (0, 0, 1)]).net, cover(PCU, [(1, 2, 0), (0, 1, 1), (0, 0, 3)]).net,
+                Net(REFUSED["refused 2 Degenerate"])]
+        order.shuffle(nets)
+        found = group(nets, archive=self.archive)
+        self.assertEqual(sorted(entry.names for entry in found), [("dia",), ("pcu",)])
+        self.assertEqual(sorted(len(entry) for entry in found), [2, 2])
+        self.assertEqual(len(found.keyless), 1)
+        for entry in found:
+            self.assertEqual([nets[place] for place in entry.places], [answer.net for answer in entry.members])
+
+
+class Archives(AnswerTest):
+    def write(self, text: bytes) -> str:
+        path = self.folder / "x.archive"
+        path.write_bytes(text)
+        return str(path)
+
+    def test_archives_are_loaded_and_joined(self):
+        source = self.folder / "nets.cgd"
+        source.write_bytes(DIA.block + PCU.block)
+        first = self.write(run(PROGRAM, "add", source).stdout)
+        source.write_bytes(DIA.block.replace(b'"dia"', b'"diamond"'))
+        (self.folder / "y.archive").write_bytes(run(PROGRAM, "add", source).stdout)
+        joined = Archive.load(self.folder)
+        self.assertEqual((list(joined), len(joined)), (["dia", "pcu", "diamond"], 3))
+        for archive in (joined, self.folder, [first, self.folder / "y.archive"]):
+            self.assertEqual(identify(DIA, archive=archive).names, ("dia", "diamond"))
+        self.assertTrue(same(joined["diamond"], DIA))
+
+    def test_nothing_in_a_file_is_trusted(self):
+        source = self.folder / "nets.cgd"
+        source.write_bytes(PCU.block)
+        text = run(PROGRAM, "add", source).stdout
+        for other in (text.replace(b"key 3 1 1 1 1 0 0 1", b"key 3 1 1 1 1 0 0 2"), text[:-4], b"", text.upper(),
+                      text.replace(b"shells 1 6", b"shells 1 7")):
+            with self.assertRaises(NotAnArchive, msg=other):
+                Archive.load(self.write(other))
+        with self.assertRaises(OSError):
+            Archive.load(self.folder / "absent")
+        (self.folder / "empty").mkdir()
+        with self.assertRaises(NotAnArchive):
+            Archive.load(self.folder / "empty")
+        with self.assertRaises(NotANet):
+            Archive.of([Net(DIA.edges)])
+
+
+class Tables(AnswerTest):
+    def test_a_table_for_pandas(self):
+        need_modules("pandas")
+        nets = [DIA, PCU, Net(REFUSED["refused 2 Degenerate"], name="row")]
+        table = identify_all(nets, archive=self.archive).to_pandas()
+        self.assertEqual(list(table["names"]), ["dia", "pcu", ""])
+        self.assertEqual(list(table["outcome"]), ["accepted", "accepted", "refused 2 Degenerate"])
+        self.assertEqual(list(table["D0"]), [4, 1, 0])
+        self.assertEqual(len(table.groupby("key")), 3)
+
+
+class Pictures(AnswerTest):
+    def test_pictures_in_a_notebook(self):
+        need_modules("numpy")
+        answer = identify(DIA, archive=self.archive)
+        self.assertTrue(svg(answer).startswith("<svg"))
+        self.assertEqual(answer._repr_svg_(), DIA._repr_svg_())
+        self.assertIn("<svg", DIA._repr_html_())
+        self.assertIn("<svg", identify_all([DIA, PCU], archive=None)._repr_html_())
+
+    def test_what_has_no_key_has_words(self):
+        net = Net(REFUSED["refused 2 Degenerate"], name="<b>")
+        self.assertIsNone(net._repr_svg_())
+        self.assertIn("&lt;b&gt;", net._repr_html_())
+        self.assertIn("Degenerate", identify(net, archive=None)._repr_html_())
+        with self.assertRaises(NotANet):
+            svg(net)
+
+
+class Program(FolderTest):
+    def fake(self, script: str) -> None:
+        """A program in the place of net_tool, which does as the test wants."""
+        program = self.folder / "fake"
+        program.write_text(f"#!/bin/sh\ncat >/dev/null\n{script}\n")
+        program.chmod(0o755)
+        patch = unittest.mock.patch.dict("os.environ", {"NET_TOOL": str(program)})
+        patch.start()
+        self.addCleanup(patch.stop)
+
+    def test_a_program_that_gives_no_report(self):
+        for script, word in (("exit 7", "memory was refused"), ("kill -9 $$", "-9"), ("echo hello", "another report"),
+                             ("echo 'net 1 line 1'; echo 'graph d=3'", "another report"), ("exit 3", "could not be read")):
+            self.fake(script)
+            with self.assertRaises(ProgramFailed) as raised:
+                keys([DIA])
+            self.assertIn(word, str(raised.exception))
+        self.fake("echo 'net 1 line 1'; echo connected")
+        with self.assertRaises(ProgramFailed):
+            identify_all([DIA], archive=None)

@@ -1,0 +1,102 @@
+"""The package: what it loads, what its docstrings say, its types, and that it can be installed elsewhere."""
+
+import doctest
+import importlib
+import os
+import shutil
+import subprocess
+import sys
+import unittest
+
+from testing import PROGRAM, TOOLS, FolderTest, long_test, need_modules, need_program, run
+
+FOLDER = TOOLS / "python"
+PACKAGE = FOLDER / "crystal_nets"
+sys.path.insert(0, str(FOLDER))
+MODULES = sorted(path.stem for path in PACKAGE.glob("*.py") if path.stem != "__init__")
+
+
+class Imports(unittest.TestCase):
+    def test_texts_need_python_alone(self):
+        """Neither a package beside python3 nor slow modules of its own are loaded for the texts."""
+        names = sorted(path.stem for path in (PACKAGE / "texts").glob("*_*.py") if path.stem != "__init__")
+        code = (f"import sys; sys.path.insert(0, {str(FOLDER)!r})\n"
+                + "".join(f"import crystal_nets.texts.{name}\n" for name in names)
+                + "print(*({'numpy', 'gemmi', 'scipy', 'subprocess', 'fractions'} & set(sys.modules)))")
+        self.assertEqual(run(sys.executable, "-I", "-c", code).stdout, b"\n")
+
+    def test_nets_need_python_alone(self):
+        """A net from edges or a plain text is asked about without a package beside python3."""
+        need_program()
+        code = (f"import sys; sys.path.insert(0, {str(FOLDER)!r})\n"
+                "import crystal_nets as c\n"
+                "nets = [c.Net([(1, 1, (1, 0)), (1, 1, (0, 1))]),\n"
+                f"        c.Net.from_cgd({str(TOOLS.parent / 'examples/sql.cgd')!r})]\n"
+                "assert len(c.group(nets)) == 1 and c.same(*nets) and c.identify(nets[0], archive=None).accepted\n"
+                "print(*({'numpy', 'gemmi', 'scipy', 'pandas', 'networkx'} & set(sys.modules)))")
+        self.assertEqual(run(sys.executable, "-I", "-c", code, NET_TOOL=PROGRAM).stdout, b"\n")
+
+    def test_each_module_is_named_in_the_map(self):
+        told = (PACKAGE / "__init__.py").read_text()
+        for name in MODULES:
+            self.assertRegex(told, rf"\b{name} ", name)
+
+    def test_each_name_is_there(self):
+        import crystal_nets
+        for name in crystal_nets.__all__:
+            self.assertTrue(hasattr(crystal_nets, name), name)
+        self.assertEqual(set(crystal_nets.HOME_OF), set(crystal_nets.__all__))
+        with self.assertRaises(AttributeError):
+            crystal_nets.no_such_name
+
+
+class Docstrings(unittest.TestCase):
+    def test_examples_in_docstrings(self):
+        need_program()
+        import crystal_nets
+        names = {name: getattr(crystal_nets, name) for name in ("Net", "Archive")}
+        tried = 0
+        for name in ("crystal_nets", *(f"crystal_nets.{module}" for module in MODULES)):
+            done = doctest.testmod(importlib.import_module(name), extraglobs=names)
+            self.assertEqual(done.failed, 0, name)
+            tried += done.attempted
+        self.assertGreater(tried, 25)
+
+    def test_each_public_name_has_a_docstring(self):
+        import crystal_nets
+        for name in crystal_nets.__all__:
+            self.assertTrue(getattr(crystal_nets, name).__doc__, name)
+
+
+class Types(unittest.TestCase):
+    @long_test
+    def test_mypy_has_no_complaint(self):
+        need_modules("mypy", "numpy")
+        done = subprocess.run([sys.executable, "-m", "mypy", "--cache-dir", os.devnull], cwd=FOLDER, capture_output=True)
+        self.assertEqual(done.returncode, 0, done.stdout.decode())
+
+
+class Installed(FolderTest):
+    def test_pip_installs_it(self):
+        """In an environment of its own, without the network; it finds its page, its types and the program."""
+        need_program()
+        need_modules("pip", "setuptools", "venv")
+        source = self.folder / "source"
+        shutil.copytree(FOLDER, source, ignore=shutil.ignore_patterns("test", "__pycache__"))
+        place = self.folder / "place"
+        run(sys.executable, "-m", "pip", "install", "--quiet", "--no-deps", "--no-build-isolation", "--no-index",
+            "--no-compile", "--disable-pip-version-check", "--target", place, source, seconds=1800)
+        self.assertTrue((place / "crystal_nets/py.typed").exists())
+        self.assertTrue((place / "crystal_nets/pictures/page.html").exists())
+        code = ("import crystal_nets as c; net = c.Net([(1, 1, (1, 0)), (1, 1, (0, 1))]); print(c.__file__);"
+                "print(c.keys([net])[0].key)")
+        told = run(sys.executable, "-B", "-c", code, NET_TOOL=PROGRAM, PYTHONPATH=str(place)).stdout.decode()
+        self.assertEqual(told, f"{place}/crystal_nets/__init__.py\n2 1 1 1 1 0 1 1 1 1 0\n")
+
+    def test_the_program_is_told_how_to_be_built(self):
+        code = ("import sys; sys.path.insert(0, sys.argv[1])\nimport crystal_nets as c\n"
+                "try: c.keys([c.Net([(1, 1, (1, 0)), (1, 1, (0, 1))])])\n"
+                "except c.ProgramNotFound as fault: print(fault)")
+        told = run(sys.executable, "-B", "-c", code, FOLDER, NET_TOOL=str(self.folder / "absent")).stdout.decode()
+        self.assertIn("./net_tool check examples/dia.cgd", told)
+        self.assertIn("install.sh", told)

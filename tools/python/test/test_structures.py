@@ -1,0 +1,148 @@
+"""Structures of other programs: atoms of ase, prototypes and graphs of pymatgen, structure files."""
+
+import json
+import sys
+from pathlib import Path
+
+from testing import IS_LONG, TOOLS, TOP, FolderTest, need_modules, need_program
+
+sys.path.insert(0, str(TOOLS / "python"))
+from crystal_nets import Archive, Net, NotANet, identify, identify_all, read  # noqa: E402
+
+KNOWN = ("dia,", "hcb,", "pcu,", "fcu,", "bcu,", "hcp,", "lon,", "flu,", "qtz,", "sql,", "nbo,")
+
+
+class StructureTest(FolderTest):
+    @classmethod
+    def setUpClass(cls):
+        need_program()
+        need_modules("gemmi", "numpy", "scipy")
+        nets = read(TOP / "archives/common.cgd")
+        cls.archive = Archive.of([net for net in nets if net.name.startswith(KNOWN)])
+
+    def name_of(self, structure: object, **options: object) -> str:
+        answer = identify(structure, archive=self.archive, **options)
+        return answer.names[0].split(",")[0] if answer.names else str(answer.outcome)
+
+
+class Ase(StructureTest):
+    def setUp(self):
+        super().setUp()
+        need_modules("ase")
+
+    def test_crystals_of_ase_get_their_names(self):
+        from ase.build import bulk
+        for words, name in ((("C", "diamond", 3.567), "dia"), (("Cu", "fcc", 3.61), "fcu"), (("Fe", "bcc", 2.87), "bcu"),
+                            (("NaCl", "rocksalt", 5.64), "pcu"), (("ZnS", "zincblende", 5.41), "dia"),
+                            (("CsCl", "cesiumchloride", 4.12), "bcu"), (("CaF2", "fluorite", 5.46), "flu"),
+                            (("Mg", "hcp", 3.21), "hcp"), (("ZnO", "wurtzite", 3.25), "lon"), (("Po", "sc", 3.34), "pcu")):
+            self.assertEqual(self.name_of(bulk(*words)), name, words)
+
+    def test_cells_and_origins_do_not_matter(self):
+        from ase.build import bulk, make_supercell
+        atoms = bulk("Si", "diamond", 5.43, cubic=True)
+        moved = make_supercell(atoms, [[1, 1, 0], [0, 1, 0], [0, 0, 2]])
+        moved.translate((17.3, -4.1, 0.9))
+        self.assertEqual(self.name_of(moved), "dia")
+        moved.rattle(0.02, seed=1)
+        self.assertEqual(self.name_of(moved), "dia")
+        self.assertEqual(self.name_of(atoms.repeat((5, 5, 5))), "dia")  # 1,000 atoms, divided to the primitive cell
+
+    def test_layers_and_molecules(self):
+        from ase.build import graphene, molecule
+        layer = graphene("C2", 2.46, vacuum=5.0)
+        for periodic in ((True, True, False), True):
+            layer.set_pbc(periodic)
+            self.assertEqual(self.name_of(layer), "hcb")
+        layer.cell[2] = (0, 0, 1.0)  # too thin for a repeat: there is none along this axis
+        layer.set_pbc((True, True, False))
+        self.assertEqual(self.name_of(layer), "hcb")
+        self.assertIn("1 molecule", self.name_of(molecule("C6H6")))
+
+    def test_atoms_that_are_no_crystal_are_refusals(self):
+        from ase import Atoms
+        cell = [3.0, 3.0, 3.0]
+        for atoms, word in ((Atoms(cell=cell, pbc=True), "no atoms"), (Atoms("C", pbc=True), "no unit cell"),
+                            (Atoms("X", cell=cell, pbc=True), "element"), (Atoms("C2", [[0, 0, 0], [0, 0, 0.4]], cell=cell, pbc=True), "apart"),
+                            (Atoms("C", [[float("nan"), 0, 0]], cell=cell, pbc=True), "no place")):
+            outcome = identify(atoms, archive=None).outcome
+            self.assertEqual((outcome.kind, word in outcome.text), ("unreadable", True), outcome)
+        with self.assertRaises(NotANet):
+            Net.from_ase(Atoms("C", pbc=True))
+
+    def test_options_are_those_of_cif2cgd(self):
+        from ase.build import bulk
+        atoms = bulk("NaCl", "rocksalt", 5.64)
+        self.assertEqual(self.name_of(atoms, leave_out={"Na"}, lengths={frozenset(("Cl",)): 4.1}), "fcu")
+        with self.assertRaises(TypeError):
+            read(atoms, no_such_option=True)
+        with self.assertRaises(NotANet):
+            read(atoms, convention="nobody's")
+
+
+class Pymatgen(StructureTest):
+    def setUp(self):
+        super().setUp()
+        need_modules("pymatgen")
+
+    def test_prototypes_of_aflow(self):
+        """Each of them is a net, or says why it is none; and files of the same structures say the same."""
+        import pymatgen.analysis
+        from pymatgen.core import Structure
+        file = Path(pymatgen.analysis.__path__[0]) / "aflow_prototypes.json"
+        told = json.loads(file.read_text())
+        structures = [Structure.from_dict(entry["snl"]) for entry in told[::1 if IS_LONG else 12]]
+        nets = [read(structure) for structure in structures]
+        self.assertTrue(all(len(found) >= 1 for found in nets))
+        answers = identify_all([net for found in nets for net in found], archive=self.archive)
+        self.assertGreater(sum(answer.accepted for answer in answers), 0.65 * len(structures))  # others are molecules or rods
+        for structure, found in list(zip(structures, nets))[:4 if not IS_LONG else 40]:
+            by_file = identify_all(structure.to(fmt="cif").encode(), archive=self.archive)
+            self.assertEqual([answer.key for answer in by_file if answer.key],
+                             [answer.key for answer in identify_all(found, archive=None) if answer.key])
+
+    def test_sites_that_are_shared(self):
+        from pymatgen.core import Lattice, Structure
+        structure = Structure.from_spacegroup("Fd-3m", Lattice.cubic(5.5), [{"Si": 0.5, "Ge": 0.5}], [[0, 0, 0]])
+        self.assertEqual(self.name_of(structure), "dia")
+        half = Structure.from_spacegroup("Fd-3m", Lattice.cubic(5.43), [{"Si": 0.5}], [[0, 0, 0]])
+        self.assertIn("partly occupied", self.name_of(half))
+        self.assertEqual(self.name_of(half, partial_as_full=True), "dia")
+
+    def test_graphs_of_structures(self):
+        need_modules("networkx")
+        from pymatgen.analysis.graphs import StructureGraph
+        from pymatgen.analysis.local_env import MinimumDistanceNN
+        from pymatgen.core import Lattice, Structure
+        structure = Structure.from_spacegroup("Fd-3m", Lattice.cubic(3.567), ["C"], [[0, 0, 0]])
+        graph = StructureGraph.with_local_env_strategy(structure, MinimumDistanceNN())
+        self.assertEqual(self.name_of(graph), "dia")
+        self.assertEqual(self.name_of(graph.graph), "dia")
+
+
+class Files(StructureTest):
+    def test_a_file_and_its_text(self):
+        path = TOP / "examples/quartz.cif"
+        net = Net.from_cif(path)
+        self.assertEqual((net.name, net.notes, self.name_of(net)), ("quartz", ("symmetry from name P 32 2 1",), "qtz"))
+        text = path.read_text()
+        self.assertEqual(read(text, name="a/quartz.cif")[0].block, net.block)
+        two = text + text.replace("data_", "data_other_")
+        self.assertEqual([found.name.split()[0] for found in read(two)], ["structure", "structure"])
+        self.assertEqual([found.name.split()[0] for found in read(two, name="my.cif")], ["my", "my"])
+
+    def test_what_is_no_structure_is_a_refusal(self):
+        text = (TOP / "examples/quartz.cif").read_text()
+        for other, word in ((text.replace("_cell_length_a", "_cell_length_x"), "no unit cell"), ("data_x\n", "no atoms"),
+                            ("data_x\nloop_\n", "no CIF")):
+            answer, = identify_all(other.encode(), archive=None)
+            self.assertEqual((answer.outcome.kind, word in answer.outcome.text), ("unreadable", True), answer.outcome)
+            with self.assertRaises(NotANet):
+                Net.from_cif(other.encode())
+
+    def test_notes_are_those_of_each_block(self):
+        text = (TOP / "examples/quartz.cif").read_text()
+        without = text.replace("data_", "data_b").replace("Si1 Si", "Xx1 Xx")
+        first, second = read(text + without, name="q.cif")
+        self.assertEqual((first.refusal, first.notes), ("", ("symmetry from name P 32 2 1",)))
+        self.assertNotEqual((second.refusal, second.notes), ("", first.notes))
