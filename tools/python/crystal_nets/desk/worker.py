@@ -184,7 +184,9 @@ def serve(writer: Connection, limits: Limits, question: Callable[..., Any], argu
     for what, most in ((resource.RLIMIT_CPU, limits.seconds), (resource.RLIMIT_AS, limits.memory),
                        (resource.RLIMIT_CORE, 0)):
         resource.setrlimit(what, (most, most + 5 if what == resource.RLIMIT_CPU else most))
-    writer.send_bytes(json.dumps(answer_to(question, arguments, limits)).encode())
+    answer = json.dumps(answer_to(question, arguments, limits)).encode()
+    with suppress(BrokenPipeError):  # the server is gone
+        writer.send_bytes(answer)
 
 
 def answer_to(question: Callable[..., Any], arguments: tuple, limits: Limits) -> Any:
