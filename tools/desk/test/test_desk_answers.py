@@ -90,7 +90,7 @@ class Cards(unittest.TestCase):
                   "malformed line=3 6": head + b"1 1 0 0\nEND\n", "unsupported": b"OTHER\nEND\n",
                   "malformed line=514 8": head + many + b"END\n"}
         for begin, block in blocks.items():
-            told = card(Net.from_block(block))
+            told = card(Net._of(block, "", ()))  # as it stands, also where it is not one whole block
             self.assertTrue(told["reason"]["told"].startswith(begin), told["reason"])
             self.assertTrue(told["reason"]["what"] and told["reason"]["advice"])
         self.assertIn("They are", card(Net(COLLISION))["reason"]["what"])
