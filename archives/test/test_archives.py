@@ -91,7 +91,7 @@ class Zeolites(FolderTest):
 class Recipes(FolderTest):
     def test_archives_come_from_their_sources(self):
         need_program()
-        for part in ("archives", "tools/batch"):
+        for part in ("archives", "tools/batch", "tools/python"):
             shutil.copytree(TOP / part, self.folder / part)
         run(self.folder / "archives/make", PROGRAM)
         for name in ("common.archive", "zeolites.archive", "zeolites.refused"):
