@@ -10,6 +10,7 @@ pub mod Examples
 pub mod Following
 pub mod Graph
 pub mod Harmonic
+pub mod Instances
 pub mod Laws
 pub mod Legs
 pub mod Limits

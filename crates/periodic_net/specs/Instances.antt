@@ -1,0 +1,25 @@
+-- Small nets that meet the definitions: none of these is empty.
+use Rattle.std.specs.Prelude.{pos}
+use Rattle.integers.specs.Vectors.{vector, zero_vector}
+use Rattle.periodic_net.specs.Classes.{ClassGraph, IsClassGraph, IsDistance}
+use Rattle.periodic_net.specs.Examples.{square_net, doubled_net, honeycomb_net, hanging_net, square_placement, honeycomb_placement, hanging_placement}
+use Rattle.periodic_net.specs.Graph.{IsGraph, IsConnected, vertex}
+use Rattle.periodic_net.specs.Placement.{IsCollision, IsNormalPlacement, IsStablePlacement}
+use Rattle.periodic_net.specs.Shells.{IsInShell}
+use Rattle.periodic_net.specs.Split.{Split, IsSplit}
+
+-- a class graph of the square net, in which its class is at distance 0 from itself
+pub record IsOfSquareNet (classes : ClassGraph) : Type 0 where
+  pub class_graph : IsClassGraph square_net square_placement (λ u. 1) classes
+  pub distance : IsDistance classes 1 1 0
+
+-- an instance of each: of the square net, of that of half as many edges along one axis, of the honeycomb net, and of a net with a vertex that hangs on another
+pub record DefinitionsHaveInstances : Type 0 where
+  pub graph : IsGraph square_net
+  pub connected : IsConnected square_net
+  pub stable : IsStablePlacement square_net square_placement
+  pub classes : (classes : ClassGraph) × IsOfSquareNet classes
+  pub shell : IsInShell square_net (vertex 1 zero_vector) 1 (vertex 1 (vector (pos 1) (pos 0) (pos 0)))
+  pub split : (S : Split) × IsSplit doubled_net S
+  pub normal : IsNormalPlacement honeycomb_net honeycomb_placement
+  pub collision : IsCollision hanging_net hanging_placement 1 2 zero_vector
