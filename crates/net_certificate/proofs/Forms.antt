@@ -1,10 +1,9 @@
 -- The form of each stage, and that a row that may follow keeps it.
-use Rattle.std.proofs.Common.{◌≡◌, ◌≤◌, ◌<◌, ◌+◌, ◌^◌, ℕ, List, [], ◌∷◌, All, length, refl, sym, ap, subst, arith}
+use Rattle.std.proofs.Common.{◌≡◌, ◌<◌, ℕ, List, [], ◌∷◌, All, length, refl, sym, ap, subst, arith}
 use Rattle.std.proofs.lemmas.List.{length-append}
 use Rattle.std.proofs.lemmas.List.Elements.{All-nil, All-push}
 use Rattle.integers.specs.Vectors.{Vector}
 use Rattle.periodic_net.specs.Graph.{Arc, Vertex}
-use Rattle.quotient_graph.specs.Order.{AreRising}
 use Rattle.graph_rows.specs.declared.size.GraphSize.{GraphSize}
 use Rattle.graph_rows.specs.Rows.{size_of_graph}
 use Rattle.graph_rows.specs.Forms.{IsSize, IsEdgeOfSize}
@@ -14,45 +13,8 @@ use Rattle.map_check.specs.Conditions.{IsImage, IsShift}
 use Rattle.map_check.specs.declared.map.PeriodicMap.{PeriodicMap}
 use Rattle.net_certificate.specs.Items.{ItemView, Without, With, IsPeriod, IsFormedMap, IsFormedItem}
 use Rattle.net_certificate.specs.Rows.{Row, OfSize, OfEdge, OfReason, OfMap, OfPeriod, OfImage, OfBase, OfEnd}
-use Rattle.net_certificate.specs.Stages.{Stage, Start, Titled, Listed, Opened, Drawn, Mapped, Drawing, drawn_graph, IsWhole, next_number, IsNextPair, with_edge, with_item, with_image, with_shift, begun_map, begun_drawing, image_count, stage_with, IsNextOf, MayFollow}
-
--- a graph that is being drawn
-pub record IsDrawing (g : Drawing) : Type 0 where
-  pub is_size : IsSize g.size
-  pub each : All (IsEdgeOfSize g.size) g.edges
-  pub rising : AreRising g.edges
-  pub few : length g.edges ≤ g.size.edges
-
--- items stand only after a whole graph
-pub record AreItems (g : Drawing) (items : List ItemView) : Type 0 where
-  pub drawing : IsDrawing g
-  pub after : length g.edges < g.size.edges → items ≡ []
-  pub each : All (IsFormedItem (drawn_graph g)) items
-  pub few : length items + 1 < 2 ^ 32
-
--- after a whole graph and items one more item may begin
-pub record IsOpened (g : Drawing) (items : List ItemView) : Type 0 where
-  pub items_are : AreItems g items
-  pub whole : IsWhole g
-  pub short : next_number items < 2 ^ 32
-
--- images from the start, and shifts only after all of them
-pub record IsMapping (g h : Drawing) (M : PeriodicMap) : Type 0 where
-  pub graph : IsDrawing h
-  pub whole : IsWhole h
-  pub period : IsPeriod g.size M.m
-  pub images : All (IsImage h.size.dim h.size.vertices) M.images
-  pub shifts : All (IsShift h.size.dim) M.base
-  pub after : length M.images < image_count g M → M.base ≡ []
-
--- what is known of a stage
-abbrev pub IsFormed : Stage → Type 0
-IsFormed Start = Unit {0}
-IsFormed Titled = Unit {0}
-IsFormed (Listed g items) = AreItems g items
-IsFormed (Opened g items) = IsOpened g items
-IsFormed (Drawn g items h) = IsOpened g items × IsDrawing h
-IsFormed (Mapped g items h M) = IsOpened g items × IsMapping g h M
+use Rattle.net_certificate.specs.FirstRows.{IsDrawing, AreItems, IsOpened, IsMapping, IsFormed}
+use Rattle.net_certificate.specs.Stages.{Stage, Start, Titled, Listed, Opened, Drawn, Mapped, Drawing, drawn_graph, IsWhole, IsNextPair, with_edge, with_item, with_image, with_shift, begun_map, begun_drawing, image_count, stage_with, IsNextOf, MayFollow}
 
 -- a graph that is wholly drawn
 pub whole_graph : (g : Drawing) → IsDrawing g → IsWhole g → IsFormedGraph (drawn_graph g)
@@ -103,7 +65,9 @@ map_begun g h m graph whole period = record {
   whole = whole;
   period = period;
   images = All-nil (IsImage h.size.dim h.size.vertices);
+  images_few = omega arith;
   shifts = All-nil (IsShift h.size.dim);
+  shifts_few = omega arith;
   after = λ less. refl;
 }
 
@@ -113,17 +77,21 @@ image_mapped g h M x is less image = record {
   whole = is.whole;
   period = is.period;
   images = All-push (IsImage h.size.dim h.size.vertices) M.images x is.images image;
+  images_few = let long = length-append M.images (x ∷ []) in omega (arith, long, less);
   shifts = is.shifts;
+  shifts_few = is.shifts_few;
   after = λ more. is.after less;
 }
 
-shift_mapped : (g h : Drawing) (M : PeriodicMap) (v : Vector) → IsMapping g h M → length M.images ≡ image_count g M → IsShift h.size.dim v → IsMapping g h (with_shift M v)
-shift_mapped g h M v is all shift = record {
+shift_mapped : (g h : Drawing) (M : PeriodicMap) (v : Vector) → IsMapping g h M → length M.images ≡ image_count g M → length M.base < g.size.dim → IsShift h.size.dim v → IsMapping g h (with_shift M v)
+shift_mapped g h M v is all more shift = record {
   graph = is.graph;
   whole = is.whole;
   period = is.period;
   images = is.images;
+  images_few = is.images_few;
   shifts = All-push (IsShift h.size.dim) M.base v is.shifts shift;
+  shifts_few = let long = length-append M.base (v ∷ []) in omega (arith, long, more);
   after = λ less. absurd (omega (arith, less, all));
 }
 
@@ -156,6 +124,6 @@ formed_with (Drawn g items h) (OfEdge d e) formed may = (formed.0, edge_drawn h 
 formed_with (Drawn g items h) (OfPeriod m) formed may = (formed.0, map_begun g h m formed.1 may.0 may.1)
 formed_with (Drawn g items h) r formed may = tt
 formed_with (Mapped g items h M) (OfImage d e w x) formed may = (formed.0, image_mapped g h M x formed.1 may.3 may.4)
-formed_with (Mapped g items h M) (OfBase e v) formed may = (formed.0, shift_mapped g h M v formed.1 may.1 (subst (λ n. IsShift n v) may.0 may.3))
+formed_with (Mapped g items h M) (OfBase e v) formed may = (formed.0, shift_mapped g h M v formed.1 may.1 may.2 (subst (λ n. IsShift n v) may.0 may.3))
 formed_with (Mapped g items h M) OfEnd formed may = item_listed g items (With (drawn_graph h) M) formed.0 (map_whole g h M formed.1 may.0 may.1)
 formed_with (Mapped g items h M) r formed may = tt

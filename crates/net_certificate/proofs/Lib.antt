@@ -3,6 +3,7 @@ pub mod At
 pub mod BoxLists
 pub mod BoxPlaces
 pub mod CallerLemmas
+pub mod FirstBadLine
 pub mod FirstWide
 pub mod Following
 pub mod FormedWalks

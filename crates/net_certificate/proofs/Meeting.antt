@@ -6,7 +6,8 @@ use Rattle.line_text.specs.Lines.{rows_text}
 use Rattle.line_text.proofs.CallerLemmas.{same_row}
 use Rattle.net_certificate.specs.Rows.{Row, row_line, row_lines}
 use Rattle.net_certificate.specs.Stages.{Stage, stage_with, Walk}
-use Rattle.net_certificate.proofs.Forms.{IsFormed, formed_with}
+use Rattle.net_certificate.specs.FirstRows.{IsFormed}
+use Rattle.net_certificate.proofs.Forms.{formed_with}
 use Rattle.net_certificate.proofs.Walks.{row_none, same_row_of}
 
 -- these rows begin with those, and what follows is the rest

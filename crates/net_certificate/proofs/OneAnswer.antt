@@ -1,4 +1,4 @@
--- Two nets have one answer by a room.
+-- Two nets have one answer by a room at most.
 use Rattle.std.proofs.Common.{◌≡◌, ℕ, ◌≤◌, pos, map, refl, sym, ap, subst, ◌∙◌, arith}
 use Rattle.integers.specs.Bases.{base_sum}
 use Rattle.integers.specs.Vectors.{vector, times}
@@ -80,7 +80,7 @@ module _ (G H : Graph) (g : Shape G) (h : Shape H) (ig : IsGraph G) (ih : IsGrap
       plus_cancel (s.carry o).cell (base_sum s.shifts k) (base_sum t.shifts k)
       (ap (λ (w : Vertex). w.cell) (sym (p.repeats o k io d) ∙ same (moved o (times (pos s.m) k)) (moved_vertex G o (times (pos s.m) k) io (times_dimension G.dimension (pos s.m) k d)) ∙ q.repeats o k io d ∙ ap (λ (w : Vertex). moved w (base_sum t.shifts k)) (sym (same o io)))))
 
-  -- what is found is one
+  -- two maps that are found are one
   one_found : (room : ℕ) (s t : PeriodicMap) → IsFound G H g h room s.m s.images s.base → IsFound G H g h room t.m t.images t.base → s ≡ t
   one_found room s t p q =
       let m = p.period ∙ one_period G H g h p.table q.table ig ih ∙ sym q.period in
@@ -92,7 +92,7 @@ module _ (G H : Graph) (g : Shape G) (h : Shape H) (ig : IsGraph G) (ih : IsGrap
   no_room : (room entries : ℕ) (l : IsLong G H g h room entries) (t : StandardTable G H g h) → entries_of G t.m ≤ room → ⊥
   no_room room entries l t r = let p = causes_exclude.long G H g h room entries t ig ih l in absurd (omega (arith, p, r))
 
-  -- the answers are one
+  -- two answers are one
   one_answer : (room : ℕ) (s t : MapAnswer) → IsAnswerBy G H g h room s → IsAnswerBy G H g h room t → s ≡ t
   one_answer room Different Different p q = refl
   one_answer room Different (LongMap n) p q = absurd (causes_exclude.different G H g h p q.table)
@@ -111,7 +111,7 @@ module _ (G H : Graph) (g : Shape G) (h : Shape H) (ig : IsGraph G) (ih : IsGrap
   one_answer room (Found f) (WideMap v) p q = absurd (causes_exclude.wide G H g h room v room f.m f.images f.base ig ih q p)
   one_answer room (Found f) (Found k) p q = ap Found (one_found room f k p q)
 
--- two nets have one answer
+-- two nets have one answer at most
 pub one_map_answer : OneMapAnswer
 one_map_answer a b room s t p q =
     one_answer a.placed.graph b.placed.graph (shape_of a p.here) (shape_of b p.there) p.here.is_graph p.there.is_graph room s t p.by

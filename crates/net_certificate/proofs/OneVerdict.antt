@@ -1,4 +1,4 @@
--- The verdict on a map is one.
+-- A map has one true verdict at most.
 use Rattle.std.proofs.Common.{◌≡◌, inl, inr, ◌⊎◌, ℕ, ◌≤◌, pos, List, ◌∷◌, refl, sym, ap, subst, ◌∙◌}
 use Rattle.integers.specs.Vectors.{IsBelow, Vector, parts}
 use Rattle.integers.proofs.lists.ListOrder.{below_or_equal, not_below_itself}

@@ -5,7 +5,7 @@ use Rattle.line_text.specs.Lines.{Place, IsAt}
 use Rattle.net_certificate.specs.Rows.{Row, row_line, row_lines}
 use Rattle.net_certificate.specs.Stages.{Stage, Start, MayFollow, MayEnd, stage_with, Walk, NoneFollows}
 use Rattle.net_certificate.specs.Reading.{IsIn, HasBadLine}
-use Rattle.net_certificate.proofs.Forms.{IsFormed}
+use Rattle.net_certificate.specs.FirstRows.{IsFormed}
 use Rattle.net_certificate.proofs.StageRows.{walk_formed}
 
 -- one walk after another

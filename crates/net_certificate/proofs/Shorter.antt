@@ -10,7 +10,8 @@ use Rattle.net_certificate.specs.Texts.{item_rows}
 use Rattle.net_certificate.specs.Stages.{Stage, Start, Listed, Drawing, next_number, with_item}
 use Rattle.net_certificate.specs.Reading.{IsIn}
 use Rattle.net_certificate.proofs.Places.{lines_of_sum}
-use Rattle.net_certificate.proofs.StageRows.{listed_rows, item_rows_more, walk_rows}
+use Rattle.net_certificate.specs.FirstRows.{listed_rows}
+use Rattle.net_certificate.proofs.StageRows.{item_rows_more, walk_rows}
 
 -- an item has a row
 record HasRow (rows : List Row) : Type 0 where

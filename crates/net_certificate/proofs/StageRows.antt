@@ -10,24 +10,8 @@ use Rattle.net_certificate.specs.Items.{ItemView, Without, With}
 use Rattle.net_certificate.specs.Rows.{Row, OfTitle, OfSize, OfEdge, OfReason, OfMap, OfPeriod, OfImage, OfBase, OfEnd}
 use Rattle.net_certificate.specs.Texts.{graph_rows, image_rows, map_rows, item_rows, items_rows}
 use Rattle.net_certificate.specs.Stages.{Stage, Start, Titled, Listed, Opened, Drawn, Mapped, Drawing, drawn_graph, IsWhole, next_number, with_edge, with_item, with_image, with_shift, stage_with, MayFollow, Walk}
-use Rattle.net_certificate.proofs.Forms.{IsFormed, formed_with}
-
--- a size, and the first edges
-abbrev pub drawing_rows : Drawing → List Row
-drawing_rows g = OfSize g.size ∷ map (OfEdge g.size.dim) g.edges
-
--- the first line, the first graph, and items
-abbrev pub listed_rows : Drawing → List ItemView → List Row
-listed_rows g items = OfTitle ∷ (drawing_rows g ++ items_rows g.size.dim 2 items)
-
--- the rows that lead to a stage
-abbrev pub stage_rows : Stage → List Row
-stage_rows Start = []
-stage_rows Titled = OfTitle ∷ []
-stage_rows (Listed g items) = listed_rows g items
-stage_rows (Opened g items) = listed_rows g items ++ OfMap (next_number items) ∷ []
-stage_rows (Drawn g items h) = listed_rows g items ++ OfMap (next_number items) ∷ drawing_rows h
-stage_rows (Mapped g items h M) = listed_rows g items ++ OfMap (next_number items) ∷ (drawing_rows h ++ map_rows g.size.dim h.size.dim M)
+use Rattle.net_certificate.specs.FirstRows.{IsFormed, drawing_rows, listed_rows, stage_rows}
+use Rattle.net_certificate.proofs.Forms.{formed_with}
 
 -- the rows of a graph that is wholly drawn
 pub rows_of_whole : (g : Drawing) → IsWhole g → drawing_rows g ≡ graph_rows (drawn_graph g)

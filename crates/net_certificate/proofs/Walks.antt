@@ -10,7 +10,7 @@ use Rattle.map_check.specs.declared.map.PeriodicMap.{PeriodicMap}
 use Rattle.net_certificate.specs.Items.{ItemView}
 use Rattle.net_certificate.specs.Rows.{Row, OfTitle, OfSize, OfEdge, OfReason, OfMap, OfPeriod, OfImage, OfBase, OfEnd, row_line, reason_row, image_row, base_row}
 use Rattle.net_certificate.specs.Stages.{Stage, Start, Titled, Listed, Opened, Drawn, Mapped, Drawing, image_count, IsNextOf, MayFollow}
-use Rattle.net_certificate.proofs.Forms.{IsFormed, IsDrawing, IsMapping}
+use Rattle.net_certificate.specs.FirstRows.{IsFormed, IsDrawing, IsMapping}
 use Rattle.net_certificate.proofs.PlainRows.{title_none, reason_row_none, map_row_none, period_none, image_none, base_none, end_none}
 use Rattle.net_certificate.proofs.SameRows.{same_reason, no_reason, same_period, same_image, same_base}
 

@@ -9,8 +9,9 @@ use Rattle.net_certificate.specs.Texts.{items_rows, maps_rows, maps_text}
 use Rattle.net_certificate.specs.Stages.{Stage, Start, Titled, Listed, drawing_of, drawn_graph, MayFollow, MayEnd, Walk}
 use Rattle.net_certificate.specs.Reading.{IsIn, HasBadLine, MayStand, IsTextOf}
 use Rattle.net_certificate.specs.TextLaws.{TextsTellMaps}
-use Rattle.net_certificate.proofs.Forms.{IsFormed, whole_graph}
-use Rattle.net_certificate.proofs.StageRows.{stage_rows, rows_of_whole, walk_rows, walk_formed}
+use Rattle.net_certificate.specs.FirstRows.{IsFormed, stage_rows}
+use Rattle.net_certificate.proofs.Forms.{whole_graph}
+use Rattle.net_certificate.proofs.StageRows.{rows_of_whole, walk_rows, walk_formed}
 use Rattle.net_certificate.proofs.Meeting.{Meet, Further, Nearer, Same, meet}
 use Rattle.net_certificate.proofs.FormedWalks.{maps_walk}
 

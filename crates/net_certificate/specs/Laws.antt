@@ -10,7 +10,7 @@ use Rattle.standard_map.specs.MapNumbers.{IsFound}
 use Rattle.net_certificate.specs.Answers.{IsMapAnswer, IsPassing}
 use Rattle.net_certificate.specs.declared.answer.MapAnswer.{MapAnswer}
 
--- two nets have one answer by a room
+-- two nets have one answer by a room at most
 abbrev pub OneMapAnswer : Type 0
 OneMapAnswer = (a b : KeyedNet) (room : ℕ) (s t : MapAnswer) → IsMapAnswer a b room s → IsMapAnswer a b room t → s ≡ t
 

@@ -1,5 +1,6 @@
 pub mod Answers
 pub mod Checks
+pub mod FirstRows
 pub mod Items
 pub mod Laws
 pub mod NetItems

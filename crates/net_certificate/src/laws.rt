@@ -1,13 +1,19 @@
 // What holds of the answers. Each function carries a theorem.
 ghost use Rattle.net_certificate.specs.Laws.{FoundMapsPass, OneMapAnswer};
-ghost use Rattle.net_certificate.specs.TextLaws.{TextsTellMaps};
+ghost use Rattle.net_certificate.specs.TextLaws.{BadLineIsFirst, TextsTellMaps};
 
-/// A text is that of one list of maps alone, or has one first bad line, and never both.
+/// A text is that of one list of maps at most, and has one first bad line at most, and never both.
 pub fn texts_tell_maps()
     ensures theorem { TextsTellMaps }
 {}
 
-/// Two nets have one answer by a room.
+/// No text of maps has the same lines up to the first bad one, and the lines before it meet every
+/// condition that they alone decide.
+pub fn bad_line_is_first()
+    ensures theorem { BadLineIsFirst }
+{}
+
+/// Two nets have one answer by a room at most.
 pub fn one_map_answer()
     ensures theorem { OneMapAnswer }
 {}

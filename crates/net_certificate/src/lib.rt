@@ -36,7 +36,7 @@ pub use checking::{CheckedMaps, MapsFault, check_maps};
 pub use headings::push_title;
 pub use images::box_images;
 pub use item::{Item, MapsText, NoMap};
-pub use laws::{found_maps_pass, one_map_answer, texts_tell_maps};
+pub use laws::{bad_line_is_first, found_maps_pass, one_map_answer, texts_tell_maps};
 pub use lends::LendsNet;
 pub use net_texts::{maps_text, maps_text_of};
 pub use pair::Heading;

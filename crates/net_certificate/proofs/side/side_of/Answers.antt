@@ -37,4 +37,4 @@ new-requires g c =
       scale = scale';
       scale_is = c.scale_of-scale.ensures ∙ ap (λ (xs : List ℤ). unsigned_abs (get_or xs 2 (pos 0))) c.numbers-key.ensures;
     } in
-    (lit< tt, (lit< tt, (lit< tt, (lit< tt, (pair.pair.is_frame, (scale, side_parts n c.net.invariant.0 (net_side c.placed-placed.result.now origin frame q) side))))))
+    (lit< tt, (lit< tt, (lit< tt, (lit< tt, (pair.pair.is_frame, (scale, side_parts n c.net.invariant (net_side c.placed-placed.result.now origin frame q) side))))))
