@@ -1,9 +1,11 @@
 -- The groups that were found before a place.
-use Rattle.std.proofs.Common.{◌≡◌, ◌⊎◌, ⊎_elim, ℕ, zero, suc, ◌+◌, ◌<◌, ◌≤◌, List, [], ◌∷◌, ◌++◌, length, get_or, Contains, AllPairs, refl, ap, sym, subst, ◌∙◌, arith}
+use Rattle.std.proofs.Common.{◌≡◌, ◌⊎◌, ⊎_elim, ℕ, zero, suc, ◌+◌, ◌<◌, ◌≤◌, List, [], ◌∷◌, ◌++◌, length, get_or, Contains, AllPairs, Vec, refl, ap, sym, subst, ◌∙◌, arith}
+use Rattle.std.specs.declared.alloc.Global.{Global}
+use Rattle.std.proofs.lemmas.List.{map-append}
 use Rattle.std.proofs.lemmas.List.Elements.{Contains-append_left, Contains-append_cases, Contains-get_or, Contains-push}
 use Rattle.std.proofs.lemmas.List.Quantifiers.{all_pairs_push}
 use Rattle.archive_text.specs.Entries.{EntryView}
-use Rattle.archive_text.specs.Groups.{IsGroup, IsGroupFrom, AreGroups, first_of}
+use Rattle.archive_text.specs.Groups.{IsGroup, IsGroupFrom, AreGroups, first_of, numbers_in}
 use Rattle.archive_text.proofs.KeyNumbers.{group_begins, one_group}
 
 -- these are the groups whose first numbers are at most n
@@ -74,3 +76,7 @@ module _ (es : List EntryView) where
     in_order = all_pairs_push (λ g h. first_of g < first_of h) groups group a.in_order
         (λ k d l. let w = a.within (get_or groups k d) (Contains-get_or groups k d l) in let e = new.first in omega (arith, w, e));
   })
+
+-- the lists in vectors, where one more vector is put last
+pub one_vector_more : (vs more : List (Vec ℕ Global)) (v : Vec ℕ Global) → more ≡ vs ++ v ∷ [] → numbers_in more ≡ numbers_in vs ++ v.items ∷ []
+one_vector_more vs more v q = ap numbers_in q ∙ map-append (λ (w : Vec ℕ Global). w.items) vs (v ∷ [])

@@ -1,11 +1,11 @@
 // The list of entries, which are found by name and by key through fingerprints.
 ghost use Rattle.std.specs.Prelude.{◌≡◌, ◌+◌, ◌<◌, ◌++◌, ◌∷◌, ◌↔◌, [], ℕ, List, length, IsTrue, Contains, IfNone, IfSome, IfOk, OnOk, OnErr};
 ghost use Rattle.archive_text.specs.Entries.{entry_view, entry_views};
-ghost use Rattle.archive_text.specs.Groups.{AreGroups, IsGroupFrom};
+ghost use Rattle.archive_text.specs.Groups.{AreGroups, IsGroupFrom, numbers_in};
 ghost use Rattle.archive_text.specs.Lookups.{names_of, names_with};
 ghost use Rattle.archive_text.specs.Regrouped.{regrouped};
 
-use crate::groups_of::{Groups, first_number, numbers_at};
+use crate::groups_of::{first_number, numbers_at};
 use crate::in_groups::indexes_in_groups;
 use crate::matches_of::{Matches, has_name_at};
 use crate::prints::{key_print, name_print};
@@ -142,10 +142,10 @@ impl Entries {
 
     /// The groups of two or more entries with equal keys, as rising entry numbers from 1, in the
     /// order of their first members.
-    pub fn duplicates(&self) -> Result<Groups, NoMemory>
-        ensures { IfOk result (AreGroups self.now) }
+    pub fn duplicates(&self) -> Result<Vec<Vec<u32>>, NoMemory>
+        ensures { IfOk result (λ groups. AreGroups self.now (numbers_in groups.items)) }
     {
-        let mut groups = Groups::new(*self.items.allocator());
+        let mut groups = Vec::new(*self.items.allocator());
         for place in 0..self.items.len() {
             if let Some(group) = self.group_from(place)? {
                 groups.push(group)?;

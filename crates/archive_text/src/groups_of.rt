@@ -5,12 +5,8 @@ ghost use Rattle.archive_text.specs.Groups.{numbers_at};
 
 use crate::matches_of::has_key;
 use crate::{Entry, NoMemory};
-use lists::NumberLists;
 use quotient_graph::Key;
 use std::alloc::Global;
-
-/// Groups of entry numbers, which are counted from 1.
-pub type Groups = NumberLists<Vec<u32>>;
 
 // The number of the first entry at these places that has the key.
 pub fn first_number(entries: &[Entry], places: &[u32], key: &Key) -> Option<u32>

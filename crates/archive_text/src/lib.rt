@@ -20,7 +20,6 @@ mod write;
 
 pub use all::Entries;
 pub use entry::Entry;
-pub use groups_of::Groups;
 pub use in_groups::lent_in_groups;
 pub use index::PlaceIndex;
 pub use laws::{entries_are_regrouped, one_regrouping};

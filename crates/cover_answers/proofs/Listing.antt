@@ -1,7 +1,6 @@
 -- The outcomes of blocks and the texts of their covers grow by those of the next block.
 use Rattle.std.proofs.Common.{◌≡◌, ◌∙◌, ◌&&◌, ℕ, ◌+◌, ◌<◌, ◌≤◌, Bool, true, false, List, [], ◌∷◌, ◌++◌, length, take, get_or, All, Result, Ok, Err, refl, sym, ap, subst, add-one, arith, append_assoc}
 use Rattle.std.specs.Prelude.{IfOk}
-use Rattle.std.specs.List.{list_all}
 use Rattle.std.proofs.Math.Bool.{and-true}
 use Rattle.std.proofs.Math.Seq.{take-suc}
 use Rattle.std.proofs.lemmas.Bool.{false≢true}
@@ -21,17 +20,20 @@ use Rattle.net_report.specs.declared.status.Status.{Status}
 use Rattle.net_report.specs.declared.status.Status.TheVariants.{Done, SomeRefused}
 use Rattle.cover_answers.specs.Covers.{AreCovered, AreCoversOf, IsCoverOf, covers_text}
 use Rattle.cover_answers.specs.Due.{IsCoveredAs}
-use Rattle.cover_answers.specs.Outcomes.{AreOutcomesFrom, IsOutcomeOf, is_covered}
+use Rattle.cover_answers.specs.Outcomes.{AreOutcomesFrom, IsOutcomeOf, all_of}
 use Rattle.cover_answers.specs.Steps.{IsBlockAnswered, IsCoverLast}
 
 -- one more block and its outcome at the end
-outcomes_last : (cell : CellView) (n : ℕ) (bs : List BlockView) (os : List Outcome) (b : BlockView) (o : Outcome) → AreOutcomesFrom cell n bs os → IsOutcomeOf cell (n + length bs) b o → AreOutcomesFrom cell n (bs ++ b ∷ []) (os ++ o ∷ [])
-outcomes_last cell n [] [] b o h k = (subst (λ m. IsOutcomeOf cell m b o) (omega arith) k, tt)
-outcomes_last cell n [] (x ∷ os) b o h k = absurd h
-outcomes_last cell n (c ∷ bs) [] b o h k = absurd h
-outcomes_last cell n (c ∷ bs) (x ∷ os) b o h k =
-    let further : n + length (c ∷ bs) ≡ (n + 1) + length bs = grind (arith, common_steps) in
-    (h.0, outcomes_last cell (n + 1) bs os b o h.1 (subst (λ m. IsOutcomeOf cell m b o) further k))
+outcomes_last : (cell : CellView) (n : ℕ) (bs : List BlockView) (cs : List Bool) (os : List Outcome) (b : BlockView) (c : Bool) (o : Outcome) → AreOutcomesFrom cell n bs cs os → IsOutcomeOf cell (n + length bs) b c o
+    → AreOutcomesFrom cell n (bs ++ b ∷ []) (cs ++ c ∷ []) (os ++ o ∷ [])
+outcomes_last cell n [] [] [] b c o h k = (subst (λ m. IsOutcomeOf cell m b c o) (omega arith) k, tt)
+outcomes_last cell n [] [] (x ∷ os) b c o h k = absurd h
+outcomes_last cell n [] (d ∷ cs) os b c o h k = absurd h
+outcomes_last cell n (a ∷ bs) [] os b c o h k = absurd h
+outcomes_last cell n (a ∷ bs) (d ∷ cs) [] b c o h k = absurd h
+outcomes_last cell n (a ∷ bs) (d ∷ cs) (x ∷ os) b c o h k =
+    let further : n + length (a ∷ bs) ≡ (n + 1) + length bs = grind (arith, common_steps) in
+    (h.0, outcomes_last cell (n + 1) bs cs os b c o h.1 (subst (λ m. IsOutcomeOf cell m b c o) further k))
 
 -- one more block and its cover
 covers_last : (cell : CellView) (bs : List BlockView) (Cs : List Graph) (b : BlockView) (C : Graph) → AreCoversOf cell bs Cs → IsCoverOf cell b.body C → AreCoversOf cell (bs ++ b ∷ []) (Cs ++ C ∷ [])
@@ -64,55 +66,70 @@ both_true false true e = absurd (false≢true e)
 both_true false false e = absurd (false≢true e)
 
 -- each of them is covered, and this one
-all_last : (os : List Outcome) (o : Outcome) → list_all is_covered (os ++ o ∷ []) ≡ (list_all is_covered os && is_covered o)
-all_last os o = list_all-append is_covered os (o ∷ []) ∙ ap (λ (b : Bool). list_all is_covered os && b) (and-true (is_covered o))
+all_last : (cs : List Bool) (c : Bool) → all_of (cs ++ c ∷ []) ≡ (all_of cs && c)
+all_last cs c = list_all-append (λ (b : Bool). b) cs (c ∷ []) ∙ ap (λ (b : Bool). all_of cs && b) (and-true c)
 
--- the outcomes of the first i blocks, and where each of them is covered, the text of their covers
-pub record AreAnsweredOn (cell : CellView) (bs : List BlockView) (i number : ℕ) (os : List Outcome) (text : List ℕ) : Type 0 where
-  pub outcomes : AreOutcomesFrom cell 1 (take i bs) os
+-- the outcomes of the first i blocks, whether all of them are covered, and then the text of their covers
+pub record AreAnsweredOn (cell : CellView) (bs : List BlockView) (i number : ℕ) (all : Bool) (os : List Outcome) (text : List ℕ) : Type 0 where
+  pub each : List Bool
+  pub outcomes : AreOutcomesFrom cell 1 (take i bs) each os
+  pub all_is : all ≡ all_of each
   pub number_is : number ≡ i + 1
   pub printable : All IsPrintable os
-  pub covered : list_all is_covered os ≡ true → AreCovered cell (take i bs) text
+  pub covered : all ≡ true → AreCovered cell (take i bs) text
+
+-- at first no block is answered
+pub answered_none : (cell : CellView) (bs : List BlockView) → AreAnsweredOn cell bs 0 1 true [] []
+answered_none cell bs = record {
+  each = [];
+  outcomes = tt;
+  all_is = refl;
+  number_is = refl;
+  printable = All-nil IsPrintable;
+  covered = λ e. record { covers = []; are_covers = tt; text_is = refl };
+}
 
 -- the next block
-answered_more : (cell : CellView) (bs : List BlockView) (i number : ℕ) (os : List Outcome) (text new : List ℕ) (b : BlockView) (o : Outcome) → i < length bs → get_or bs i b ≡ b
-    → AreAnsweredOn cell bs i number os text → IsBlockAnswered cell number b o text new → IsPrintable o → AreAnsweredOn cell bs (i + 1) (number + 1) (os ++ o ∷ []) new
-answered_more cell bs i number os text new b o l is h k p =
+answered_more : (cell : CellView) (bs : List BlockView) (i number : ℕ) (all c : Bool) (os : List Outcome) (text new : List ℕ) (b : BlockView) (o : Outcome) → i < length bs → get_or bs i b ≡ b
+    → AreAnsweredOn cell bs i number all os text → IsBlockAnswered cell number b c o text new → IsPrintable o → AreAnsweredOn cell bs (i + 1) (number + 1) (all && c) (os ++ o ∷ []) new
+answered_more cell bs i number all c os text new b o l is h k p =
     let longer : take (i + 1) bs ≡ take i bs ++ b ∷ [] = ap (λ (n : ℕ). take n bs) (add-one i) ∙ take-suc bs i b l ∙ ap (λ (x : BlockView). take i bs ++ x ∷ []) is in
     let count : length (take i bs) ≡ i = grind (arith, common_steps) in
     let place : number ≡ 1 + length (take i bs) = let n = h.number_is in omega arith in
     record {
-      outcomes = subst (λ cs. AreOutcomesFrom cell 1 cs (os ++ o ∷ [])) (sym longer) (outcomes_last cell 1 (take i bs) os b o h.outcomes (subst (λ m. IsOutcomeOf cell m b o) place k.is_outcome));
+      each = h.each ++ c ∷ [];
+      outcomes = subst (λ as'. AreOutcomesFrom cell 1 as' (h.each ++ c ∷ []) (os ++ o ∷ [])) (sym longer) (outcomes_last cell 1 (take i bs) h.each os b c o h.outcomes (subst (λ m. IsOutcomeOf cell m b c o) place k.is_outcome));
+      all_is = ap (λ (a : Bool). a && c) h.all_is ∙ sym (all_last h.each c);
       number_is = let n = h.number_is in omega arith;
       printable = All-append IsPrintable os (o ∷ []) h.printable (All-cons IsPrintable o [] p (All-nil IsPrintable));
-      covered = λ e. let each = both_true (list_all is_covered os) (is_covered o) (sym (all_last os o) ∙ e) in
-          subst (λ cs. AreCovered cell cs new) (sym longer) (covered_last cell (take i bs) b text new (h.covered each.0) (k.cover_last each.1));
+      covered = λ e. let both = both_true all c e in
+          subst (λ as'. AreCovered cell as' new) (sym longer) (covered_last cell (take i bs) b text new (h.covered both.0) (k.cover_last both.1));
     }
 
 -- the next block of those that were read
-pub answered_next : (cell : CellView) (found : List Block) (i number : ℕ) (os : List Outcome) (text new : List ℕ) (block : Block) (o : Outcome) → i < length found → block ≡ get_or found i block
-    → AreAnsweredOn cell (views found) i number os text → IsBlockAnswered cell number (block_view block) o text new → IsPrintable o → AreAnsweredOn cell (views found) (i + 1) (number + 1) (os ++ o ∷ []) new
-answered_next cell found i number os text new block o l is h k p =
+pub answered_next : (cell : CellView) (found : List Block) (i number : ℕ) (all c : Bool) (os : List Outcome) (text new : List ℕ) (block : Block) (o : Outcome) → i < length found → block ≡ get_or found i block
+    → AreAnsweredOn cell (views found) i number all os text → IsBlockAnswered cell number (block_view block) c o text new → IsPrintable o → AreAnsweredOn cell (views found) (i + 1) (number + 1) (all && c) (os ++ o ∷ []) new
+answered_next cell found i number all c os text new block o l is h k p =
     let inside : i < length (views found) = subst (λ (n : ℕ). i < n) (sym (length-map found block_view)) l in
     let there = get_or-map block_view found i block (block_view block) l ∙ ap block_view (sym is) in
-    answered_more cell (views found) i number os text new (block_view block) o inside there h k p
+    answered_more cell (views found) i number all c os text new (block_view block) o inside there h k p
 
 -- what is answered to all blocks, by whether each of them is covered
-answer_due : (cell : CellView) (bs : List BlockView) (os : List Outcome) (text : List ℕ) (a : Answer) (all : Bool) → list_all is_covered os ≡ all → AreOutcomesFrom cell 1 bs os → (list_all is_covered os ≡ true → AreCovered cell bs text)
-    → (list_all is_covered os ≡ true → (a.status ≡ Done) × (a.text.items ≡ text)) → (list_all is_covered os ≡ false → (a.status ≡ SomeRefused) × (a.text.items ≡ report_text os)) → IsCoveredAs cell bs a.status a.text.items
-answer_due cell bs os text a true e h covered done refused =
-    let d = done e in
-    subst (λ (s : Status). IsCoveredAs cell bs s a.text.items) (sym d.0) (subst (λ (t : List ℕ). AreCovered cell bs t) (sym d.1) (covered e))
-answer_due cell bs os text a false e h covered done refused =
-    let r = refused e in
-    subst (λ (s : Status). IsCoveredAs cell bs s a.text.items) (sym r.0) (record { outcomes = os; are_outcomes = h; some_refused = e; report = r.1 })
+answer_due : (cell : CellView) (bs : List BlockView) (cs : List Bool) (os : List Outcome) (text : List ℕ) (a : Answer) (all : Bool) → all ≡ all_of cs → AreOutcomesFrom cell 1 bs cs os → (all ≡ true → AreCovered cell bs text)
+    → (all ≡ true → (a.status ≡ Done) × (a.text.items ≡ text)) → (all ≡ false → (a.status ≡ SomeRefused) × (a.text.items ≡ report_text os)) → IsCoveredAs cell bs a.status a.text.items
+answer_due cell bs cs os text a true e h covered done refused =
+    let d = done refl in
+    subst (λ (s : Status). IsCoveredAs cell bs s a.text.items) (sym d.0) (subst (λ (t : List ℕ). AreCovered cell bs t) (sym d.1) (covered refl))
+answer_due cell bs cs os text a false e h covered done refused =
+    let r = refused refl in
+    subst (λ (s : Status). IsCoveredAs cell bs s a.text.items) (sym r.0) (record { each = cs; outcomes = os; are_outcomes = h; some_refused = sym e; report = r.1 })
 
 -- all blocks are answered
-pub answered_whole : {E : Type 0} (cell : CellView) (found : List Block) (i number : ℕ) (os : List Outcome) (text : List ℕ) (r : Result Answer E) → length found ≤ i → AreAnsweredOn cell (views found) i number os text
-    → IfOk r (λ a. list_all is_covered os ≡ true → (a.status ≡ Done) × (a.text.items ≡ text)) → IfOk r (λ a. list_all is_covered os ≡ false → (a.status ≡ SomeRefused) × (a.text.items ≡ report_text os))
+pub answered_whole : {E : Type 0} (cell : CellView) (found : List Block) (i number : ℕ) (all : Bool) (os : List Outcome) (text : List ℕ) (r : Result Answer E) → length found ≤ i → AreAnsweredOn cell (views found) i number all os text
+    → IfOk r (λ a. all ≡ true → (a.status ≡ Done) × (a.text.items ≡ text)) → IfOk r (λ a. all ≡ false → (a.status ≡ SomeRefused) × (a.text.items ≡ report_text os))
     → IfOk r (λ a. IsCoveredAs cell (views found) a.status a.text.items)
-answered_whole cell found i number os text (Ok a) l h done refused =
+answered_whole cell found i number all os text (Ok a) l h done refused =
     let past : length (views found) ≤ i = subst (λ (n : ℕ). n ≤ i) (sym (length-map found block_view)) l in
     let whole = take_all i (views found) past in
-    answer_due cell (views found) os text a (list_all is_covered os) refl (subst (λ bs. AreOutcomesFrom cell 1 bs os) whole h.outcomes) (λ e. subst (λ bs. AreCovered cell bs text) whole (h.covered e)) done refused
-answered_whole cell found i number os text (Err e) l h done refused = done
+    answer_due cell (views found) h.each os text a all h.all_is (subst (λ bs. AreOutcomesFrom cell 1 bs h.each os) whole h.outcomes) (λ e. subst (λ bs. AreCovered cell bs text) whole (h.covered e)) done refused
+answered_whole cell found i number all os text (Err e) l h done refused = done

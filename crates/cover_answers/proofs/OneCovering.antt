@@ -1,6 +1,5 @@
 -- What is due to a cell and to blocks is one.
 use Rattle.std.proofs.Common.{◌≡◌, ◌∙◌, ◌&&◌, ◌⊎◌, inl, inr, ℕ, ◌+◌, Bool, true, List, [], ◌∷◌, ◌++◌, length, refl, sym, ap, subst}
-use Rattle.std.specs.List.{list_all}
 use Rattle.std.proofs.lemmas.Bool.{false≢true}
 use Rattle.periodic_net.specs.Graph.{Graph}
 use Rattle.cgd_read.specs.Graphs.{graph_of}
@@ -21,7 +20,7 @@ use Rattle.net_report.specs.declared.status.Status.TheVariants.{Done, SomeRefuse
 use Rattle.cover_answers.specs.Covers.{AreCovered, AreCoversOf, IsCoverOf, IsCoverOn, IsGraphOf, covers_text}
 use Rattle.cover_answers.specs.Due.{AreReported}
 use Rattle.cover_answers.specs.Laws.{OneCovering}
-use Rattle.cover_answers.specs.Outcomes.{AreOutcomesFrom, IsBodyOf, IsCoverTold, IsFaultTold, IsNetTold, IsOutcomeOf, is_covered, is_covered_body, size_in}
+use Rattle.cover_answers.specs.Outcomes.{AreOutcomesFrom, IsBodyOf, IsCoverTold, IsFaultTold, IsNetTold, IsOutcomeOf, all_of, size_in}
 
 -- the graph of a block is one
 same_graph : (raw : RawView) (G H : Graph) → IsGraphOf raw G → IsGraphOf raw H → G ≡ H
@@ -44,7 +43,7 @@ module _ (cell : CellView) where
       → IsCoverTold cell G x s ⊎ IsFaultTold cell G x s → IsCoverTold cell H y t ⊎ IsFaultTold cell H y t → (x ≡ y) × (s ≡ t)
   one_line raw G H x y s t g h (inl a) (inl b) =
       let cover = same_cover G H a.cover b.cover (same_graph raw G H g h) a.is_cover b.is_cover in
-      (a.covered ∙ sym b.covered, a.line_is ∙ ap (λ (C : Graph). covered_text C.vertices (length C.edges)) cover ∙ sym b.line_is)
+      (a.is_covered ∙ sym b.is_covered, a.line_is ∙ ap (λ (C : Graph). covered_text C.vertices (length C.edges)) cover ∙ sym b.line_is)
   one_line raw G H x y s t g h (inl a) (inr b) = absurd (cover_or_fault raw G H a.cover y t g h a.is_cover b)
   one_line raw G H x y s t g h (inr a) (inl b) = absurd (cover_or_fault raw H G b.cover x s h g b.is_cover a)
   one_line raw G H x y s t g h (inr a) (inr b) =
@@ -52,48 +51,47 @@ module _ (cell : CellView) where
       let fault = one_cover_fault G cell a.fault b.fault g.is_graph a.written a.is_fault moved a.told b.told in
       (a.refused ∙ sym b.refused, a.line_is ∙ ap refused_text fault ∙ sym b.line_is)
 
-  -- two bodies have one text, and say alike whether the block is covered
-  record SpeakAlike (a b : OutcomeBody) : Type 0 where
-    text : body_text a ≡ body_text b
-    covered : is_covered_body a ≡ is_covered_body b
-
-  one_net : (raw : RawView) (s t : Size) (x y : Bool) (xs ys : List ℕ) → IsNetTold cell raw s x xs → IsNetTold cell raw t y ys → SpeakAlike (Lines s x xs) (Lines t y ys)
+  one_net : (raw : RawView) (s t : Size) (x y : Bool) (xs ys : List ℕ) → IsNetTold cell raw s x xs → IsNetTold cell raw t y ys → body_text (Lines s xs) ≡ body_text (Lines t ys)
   one_net raw s t x y xs ys a b =
       let size = a.size_is ∙ ap (λ (G : Graph). size_in G raw.repeats) (same_graph raw a.graph b.graph a.read b.read) ∙ sym b.size_is in
       let line = one_line raw a.graph b.graph x y xs ys a.read b.read a.line_told b.line_told in
-      record { text = λ i. size_text (size i) ++ line.1 i; covered = line.0 }
+      λ i. size_text (size i) ++ line.1 i
 
   -- what is reported of what a block holds is one
-  one_body : (body : BodyView) (a b : OutcomeBody) → IsBodyOf cell body a → IsBodyOf cell body b → SpeakAlike a b
-  one_body (Other token) (Unsupported t) (Unsupported u) h k = record { text = ap unsupported_text (h ∙ sym k); covered = refl }
-  one_body (Other token) (Unsupported t) b h k = absurd k
-  one_body (Other token) a b h k = absurd h
-  one_body (Faulty fault) (Malformed t) (Malformed u) h k = record { text = ap fault_text (h ∙ sym k); covered = refl }
-  one_body (Faulty fault) (Malformed t) b h k = absurd k
-  one_body (Faulty fault) a b h k = absurd h
-  one_body (Net raw) (Lines s x xs) (Lines t y ys) h k = one_net raw s t x y xs ys h k
-  one_body (Net raw) (Lines s x xs) b h k = absurd k
-  one_body (Net raw) a b h k = absurd h
+  one_body : (body : BodyView) (x y : Bool) (a b : OutcomeBody) → IsBodyOf cell body x a → IsBodyOf cell body y b → body_text a ≡ body_text b
+  one_body (Other token) x y (Unsupported t) (Unsupported u) h k = ap unsupported_text (h.1 ∙ sym k.1)
+  one_body (Other token) x y (Unsupported t) b h k = absurd k
+  one_body (Other token) x y a b h k = absurd h
+  one_body (Faulty fault) x y (Malformed t) (Malformed u) h k = ap fault_text (h.1 ∙ sym k.1)
+  one_body (Faulty fault) x y (Malformed t) b h k = absurd k
+  one_body (Faulty fault) x y a b h k = absurd h
+  one_body (Net raw) x y (Lines s xs) (Lines t ys) h k = one_net raw s t x y xs ys h k
+  one_body (Net raw) x y (Lines s xs) b h k = absurd k
+  one_body (Net raw) x y a b h k = absurd h
 
   -- an outcome has one text
-  one_text : (number : ℕ) (block : BlockView) (o p : Outcome) → IsOutcomeOf cell number block o → IsOutcomeOf cell number block p → outcome_text o ≡ outcome_text p
-  one_text number block o p h k =
+  one_text : (number : ℕ) (block : BlockView) (x y : Bool) (o p : Outcome) → IsOutcomeOf cell number block x o → IsOutcomeOf cell number block y p → outcome_text o ≡ outcome_text p
+  one_text number block x y o p h k =
       let n = h.number_is ∙ sym k.number_is in
       let line = h.line ∙ sym k.line in
       let name = h.name ∙ sym k.name in
-      let body = (one_body block.body o.body p.body h.body k.body).text in
+      let body = one_body block.body x y o.body p.body h.body k.body in
       λ i. header_text (n i) (line i) (name i) ++ body i
 
   -- and so has the report
-  one_report : (n : ℕ) (bs : List BlockView) (os ps : List Outcome) → AreOutcomesFrom cell n bs os → AreOutcomesFrom cell n bs ps → report_text os ≡ report_text ps
-  one_report n [] [] [] h k = refl
-  one_report n [] (o ∷ os) ps h k = absurd h
-  one_report n [] [] (p ∷ ps) h k = absurd k
-  one_report n (b ∷ bs) [] ps h k = absurd h
-  one_report n (b ∷ bs) (o ∷ os) [] h k = absurd k
-  one_report n (b ∷ bs) (o ∷ os) (p ∷ ps) h k =
-      let first = one_text n b o p h.0 k.0 in
-      let rest = one_report (n + 1) bs os ps h.1 k.1 in
+  one_report : (n : ℕ) (bs : List BlockView) (xs ys : List Bool) (os ps : List Outcome) → AreOutcomesFrom cell n bs xs os → AreOutcomesFrom cell n bs ys ps → report_text os ≡ report_text ps
+  one_report n [] [] [] [] [] h k = refl
+  one_report n [] [] [] [] (p ∷ ps) h k = absurd k
+  one_report n [] [] (y ∷ ys) [] ps h k = absurd k
+  one_report n [] [] ys (o ∷ os) ps h k = absurd h
+  one_report n [] (x ∷ xs) ys os ps h k = absurd h
+  one_report n (b ∷ bs) [] ys os ps h k = absurd h
+  one_report n (b ∷ bs) (x ∷ xs) ys [] ps h k = absurd h
+  one_report n (b ∷ bs) (x ∷ xs) [] (o ∷ os) ps h k = absurd k
+  one_report n (b ∷ bs) (x ∷ xs) (y ∷ ys) (o ∷ os) [] h k = absurd k
+  one_report n (b ∷ bs) (x ∷ xs) (y ∷ ys) (o ∷ os) (p ∷ ps) h k =
+      let first = one_text n b x y o p h.0 k.0 in
+      let rest = one_report (n + 1) bs xs ys os ps h.1 k.1 in
       λ i. first i ++ rest i
 
   -- the cover of what a block holds is one
@@ -113,36 +111,37 @@ module _ (cell : CellView) where
       λ i. graph_text b.name (first i) ++ rest i
 
   -- what is reported of a graph that is covered says so
-  told_covered : (body : BodyView) (C : Graph) (told : OutcomeBody) → IsCoverOf cell body C → IsBodyOf cell body told → is_covered_body told ≡ true
-  told_covered (Net raw) C (Lines s x xs) c h = by h.line_told
+  told_covered : (body : BodyView) (C : Graph) (x : Bool) (told : OutcomeBody) → IsCoverOf cell body C → IsBodyOf cell body x told → x ≡ true
+  told_covered (Net raw) C x (Lines s xs) c h = by h.line_told
     where
       by : IsCoverTold cell h.graph x xs ⊎ IsFaultTold cell h.graph x xs → x ≡ true
-      by (inl a) = a.covered
+      by (inl a) = a.is_covered
       by (inr b) = absurd (cover_or_fault raw c.graph h.graph C x xs c.read h.read c.is_cover b)
-  told_covered (Net raw) C told c h = absurd h
-  told_covered (Other token) C told c h = absurd c
-  told_covered (Faulty fault) C told c h = absurd c
+  told_covered (Net raw) C x told c h = absurd h
+  told_covered (Other token) C x told c h = absurd c
+  told_covered (Faulty fault) C x told c h = absurd c
 
-  -- so where each block is covered no outcome says otherwise
-  all_covered : (n : ℕ) (bs : List BlockView) (Cs : List Graph) (os : List Outcome) → AreCoversOf cell bs Cs → AreOutcomesFrom cell n bs os → list_all is_covered os ≡ true
-  all_covered n [] Cs [] h k = refl
-  all_covered n [] Cs (o ∷ os) h k = absurd k
-  all_covered n (b ∷ bs) [] os h k = absurd h
-  all_covered n (b ∷ bs) (C ∷ Cs) [] h k = absurd k
-  all_covered n (b ∷ bs) (C ∷ Cs) (o ∷ os) h k =
-      let first = told_covered b.body C o.body h.0 k.0.body in
-      let rest = all_covered (n + 1) bs Cs os h.1 k.1 in
+  -- so where each block is covered none is reported otherwise
+  all_covered : (n : ℕ) (bs : List BlockView) (Cs : List Graph) (xs : List Bool) (os : List Outcome) → AreCoversOf cell bs Cs → AreOutcomesFrom cell n bs xs os → all_of xs ≡ true
+  all_covered n [] Cs [] os h k = refl
+  all_covered n [] Cs (x ∷ xs) os h k = absurd k
+  all_covered n (b ∷ bs) [] xs os h k = absurd h
+  all_covered n (b ∷ bs) (C ∷ Cs) [] os h k = absurd k
+  all_covered n (b ∷ bs) (C ∷ Cs) (x ∷ xs) [] h k = absurd k
+  all_covered n (b ∷ bs) (C ∷ Cs) (x ∷ xs) (o ∷ os) h k =
+      let first = told_covered b.body C x o.body h.0 k.0.body in
+      let rest = all_covered (n + 1) bs Cs xs os h.1 k.1 in
       λ i. first i && rest i
 
   covered_or_reported : (bs : List BlockView) (s t : List ℕ) → AreCovered cell bs s → ¬ AreReported cell bs t
-  covered_or_reported bs s t a b = false≢true (sym b.some_refused ∙ all_covered 1 bs a.covers b.outcomes a.are_covers b.are_outcomes)
+  covered_or_reported bs s t a b = false≢true (sym b.some_refused ∙ all_covered 1 bs a.covers b.each b.outcomes a.are_covers b.are_outcomes)
 
 -- what is due is one
 pub one_covering : OneCovering
 one_covering cell bs Done Done s t a b = (refl, a.text_is ∙ one_covers_text cell bs a.covers b.covers a.are_covers b.are_covers ∙ sym b.text_is)
 one_covering cell bs Done SomeRefused s t a b = absurd (covered_or_reported cell bs s t a b)
 one_covering cell bs SomeRefused Done s t a b = absurd (covered_or_reported cell bs t s b a)
-one_covering cell bs SomeRefused SomeRefused s t a b = (refl, a.report ∙ one_report cell 1 bs a.outcomes b.outcomes a.are_outcomes b.are_outcomes ∙ sym b.report)
+one_covering cell bs SomeRefused SomeRefused s t a b = (refl, a.report ∙ one_report cell 1 bs a.each b.each a.outcomes b.outcomes a.are_outcomes b.are_outcomes ∙ sym b.report)
 one_covering cell bs Done other s t a b = absurd b
 one_covering cell bs SomeRefused other s t a b = absurd b
 one_covering cell bs other status s t a b = absurd a

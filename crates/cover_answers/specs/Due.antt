@@ -1,6 +1,5 @@
 -- What is due to the command `cover`, of a cell and of the blocks of a file.
-use Rattle.std.specs.Prelude.{◌≡◌, ℕ, false, List}
-use Rattle.std.specs.List.{list_all}
+use Rattle.std.specs.Prelude.{◌≡◌, ℕ, Bool, false, List}
 use Rattle.cgd_read.specs.Views.{BlockView}
 use Rattle.net_cover.specs.Cells.{CellView}
 use Rattle.net_report.specs.Reports.{report_text}
@@ -8,13 +7,14 @@ use Rattle.net_report.specs.declared.outcome.Outcome.{Outcome}
 use Rattle.net_report.specs.declared.status.Status.{Status}
 use Rattle.net_report.specs.declared.status.Status.TheVariants.{Done, SomeRefused}
 use Rattle.cover_answers.specs.Covers.{AreCovered}
-use Rattle.cover_answers.specs.Outcomes.{AreOutcomesFrom, is_covered}
+use Rattle.cover_answers.specs.Outcomes.{AreOutcomesFrom, all_of}
 
 -- some block is not covered, and this is the report on all blocks
 pub record AreReported (cell : CellView) (blocks : List BlockView) (text : List ℕ) : Type 0 where
+  pub each : List Bool
   pub outcomes : List Outcome
-  pub are_outcomes : AreOutcomesFrom cell 1 blocks outcomes
-  pub some_refused : list_all is_covered outcomes ≡ false
+  pub are_outcomes : AreOutcomesFrom cell 1 blocks each outcomes
+  pub some_refused : all_of each ≡ false
   pub report : text ≡ report_text outcomes
 
 -- the texts of the covers where each block is covered, and else the report, by the status that goes with it

@@ -1,48 +1,31 @@
 // The answer to `cover`: the covers of all blocks, or the report on them.
 ghost use Rattle.std.specs.Prelude.{◌≡◌, ◌≤◌, All, IfOk, length, true, false};
-ghost use Rattle.std.specs.List.{list_all};
 ghost use Rattle.cgd_read.specs.Blocks.{IsReadBody, most_blocks};
 ghost use Rattle.cgd_read.specs.Views.{views};
 ghost use Rattle.net_report.specs.Reports.{IsPrintable, report_text};
 ghost use Rattle.cover_answers.specs.Due.{IsCoveredAs};
-ghost use Rattle.cover_answers.specs.Outcomes.{is_covered, is_covered_body};
 
 use crate::NoMemory;
 use crate::bodies::cover_block;
 use cgd_read::Block;
 use net_cover::Cell;
-use net_report::{Answer, OutcomeBody, Outcomes, Status, report};
+use net_report::{Answer, Outcomes, Status, report};
 use std::alloc::Global;
 
-// Whether the block is covered.
-fn is_covered(body: &OutcomeBody<'_>) -> bool
-    ensures { result ≡ is_covered_body body.now }
-{
-    match body {
-        OutcomeBody::Lines { accepted, .. } => *accepted,
-        _ => false,
-    }
-}
-
-// Whether each block is covered.
-fn are_covered(outcomes: &Outcomes<'_>) -> bool
-    ensures { result ≡ list_all is_covered outcomes.now }
-{
-    outcomes
-        .as_slice()
-        .iter()
-        .all(|outcome| is_covered(&outcome.body))
-}
-
 // The covers where each block is covered, and else the report.
-fn answer_of(alloc: Global, covers: Vec<u8>, outcomes: &Outcomes<'_>) -> Result<Answer, NoMemory>
+fn answer_of(
+    alloc: Global,
+    covers: Vec<u8>,
+    all_covered: bool,
+    outcomes: &Outcomes<'_>,
+) -> Result<Answer, NoMemory>
     requires { All IsPrintable outcomes.now }
-    ensures covered { IfOk result (λ a. list_all is_covered outcomes.now ≡ true →
+    ensures covered { IfOk result (λ a. all_covered ≡ true →
         (a.status ≡ Status.Done) × (a.text.items ≡ covers.items)) }
-    ensures refused { IfOk result (λ a. list_all is_covered outcomes.now ≡ false →
+    ensures refused { IfOk result (λ a. all_covered ≡ false →
         (a.status ≡ Status.SomeRefused) × (a.text.items ≡ report_text outcomes.now)) }
 {
-    if are_covered(outcomes) {
+    if all_covered {
         return Ok(Answer {
             status: Status::Done,
             text: covers,
@@ -64,10 +47,13 @@ pub fn cover_blocks(alloc: Global, cell: &Cell, found: &[Block<'_>]) -> Result<A
 {
     let mut covers = Vec::new(alloc);
     let mut outcomes = Outcomes::new(alloc);
+    let mut all_covered = true;
     let mut number = 1u32;
     for block in found {
-        outcomes.push(cover_block(&mut covers, cell, number, block)?)?;
+        let (outcome, covered) = cover_block(&mut covers, cell, number, block)?;
+        outcomes.push(outcome)?;
+        all_covered &= covered;
         number += 1;
     }
-    answer_of(alloc, covers, &outcomes)
+    answer_of(alloc, covers, all_covered, &outcomes)
 }

@@ -1,5 +1,5 @@
 // What is reported of a block on a cell, and the text of its cover.
-ghost use Rattle.std.specs.Prelude.{◌≡◌, ◌≢◌, IfOk, OnOk, length, option_copied, true, false};
+ghost use Rattle.std.specs.Prelude.{◌≡◌, ◌≢◌, IfOk, OnOk, length, option_copied};
 ghost use Rattle.periodic_net.specs.Graph.{IsGraph};
 ghost use Rattle.periodic_net.specs.Limits.{IsSmall};
 ghost use Rattle.cgd_read.specs.Blocks.{IsReadBody};
@@ -53,7 +53,7 @@ fn covered_body<'a>(
     size: Size,
     cover: &AnyGraph,
 ) -> Result<OutcomeBody<'a>, NoMemory>
-    ensures told { IfOk result (λ body. body ≡ OutcomeBody.Lines size true
+    ensures told { IfOk result (λ body. body ≡ OutcomeBody.Lines size
         (covered_text (graph_view cover.now).vertices (length (graph_view cover.now).edges))) }
     ensures rising { AreRising (graph_view cover.now).edges }
     ensures small { IsSmall (graph_view cover.now) }
@@ -61,11 +61,7 @@ fn covered_body<'a>(
     let own = size_of(cover, 0);
     let mut line = Vec::new(alloc);
     push_covered(&mut line, own.vertices, own.edges)?;
-    Ok(OutcomeBody::Lines {
-        size,
-        accepted: true,
-        lines: Items::from_vec(line),
-    })
+    Ok(OutcomeBody::Lines(size, Items::from_vec(line)))
 }
 
 // What is reported of a graph that is not: the fault, where it is one.
@@ -75,7 +71,7 @@ fn refused_body<'a>(
     fault: CoverFault,
 ) -> Result<OutcomeBody<'a>, NoMemory>
     ensures told { IfOk result (λ body.
-        body ≡ OutcomeBody.Lines size false (refused_text fault)) }
+        body ≡ OutcomeBody.Lines size (refused_text fault)) }
     ensures some { OnOk result (fault ≢ CoverFault.NoMemory) }
 {
     if fault == CoverFault::NoMemory {
@@ -83,24 +79,21 @@ fn refused_body<'a>(
     }
     let mut line = Vec::new(alloc);
     push_refused(&mut line, fault)?;
-    Ok(OutcomeBody::Lines {
-        size,
-        accepted: false,
-        lines: Items::from_vec(line),
-    })
+    Ok(OutcomeBody::Lines(size, Items::from_vec(line)))
 }
 
-// What is reported of a graph. Where it is covered, its cover is put last under the name.
+// What is reported of a graph, and whether it is covered. Then its cover is put last under the
+// name.
 fn cover_net<'a>(
     covers: &mut Vec<u8>,
     cell: &Cell,
     name: Option<&[u8]>,
     raw: &RawGraph<'_>,
-) -> Result<OutcomeBody<'a>, NoMemory>
+) -> Result<(OutcomeBody<'a>, bool), NoMemory>
     requires { IsReadGraph (raw_view raw.now) }
     ensures answered { IfOk result (λ told. IsBodyAnswered cell.now (option_copied name.entry)
-        (Net (raw_view raw.now)) told covers.old.items covers.new.items) }
-    ensures printable { IfOk result IsPrintableBody }
+        (Net (raw_view raw.now)) told.1 told.0 covers.old.items covers.new.items) }
+    ensures printable { IfOk result (λ told. IsPrintableBody told.0) }
 {
     cell.recall(); // that the rows are written so stands in this contract
     let alloc = *covers.allocator();
@@ -109,48 +102,54 @@ fn cover_net<'a>(
     match cover(alloc, &graph, cell) {
         Ok(cover) => {
             push_graph(covers, name, &cover)?;
-            covered_body(alloc, size, &cover)
+            let body = covered_body(alloc, size, &cover)?;
+            Ok((body, true))
         }
-        Err(fault) => refused_body(alloc, size, fault),
+        Err(fault) => {
+            let body = refused_body(alloc, size, fault)?;
+            Ok((body, false))
+        }
     }
 }
 
-// What is reported of what a block holds. Where it is covered, its cover is put last.
+// What is reported of what a block holds, and whether it is covered. Then its cover is put last.
 fn cover_body<'a>(
     covers: &mut Vec<u8>,
     cell: &Cell,
     block: &Block<'a>,
-) -> Result<OutcomeBody<'a>, NoMemory>
+) -> Result<(OutcomeBody<'a>, bool), NoMemory>
     requires { IsReadBody block.now.body }
     ensures answered { IfOk result (λ told. IsBodyAnswered cell.now
-        (option_copied block.now.name) (body_view block.now.body) told
+        (option_copied block.now.name) (body_view block.now.body) told.1 told.0
         covers.old.items covers.new.items) }
-    ensures printable { IfOk result IsPrintableBody }
+    ensures printable { IfOk result (λ told. IsPrintableBody told.0) }
 {
     match &block.body {
         Body::Graph(raw) => cover_net(covers, cell, block.name, raw),
-        Body::Unsupported(token) => Ok(OutcomeBody::Unsupported(token)),
-        Body::Malformed(fault) => Ok(OutcomeBody::Malformed(*fault)),
+        Body::Unsupported(token) => Ok((OutcomeBody::Unsupported(token), false)),
+        Body::Malformed(fault) => Ok((OutcomeBody::Malformed(*fault), false)),
     }
 }
 
-/// The outcome of the block with this number. Where it is covered, its cover is put last.
+/// The outcome of the block with this number, and whether it is covered. Then its cover is put
+/// last.
 pub fn cover_block<'a>(
     covers: &mut Vec<u8>,
     cell: &Cell,
     number: u32,
     block: &Block<'a>,
-) -> Result<Outcome<'a>, NoMemory>
+) -> Result<(Outcome<'a>, bool), NoMemory>
     requires { IsReadBody block.now.body }
-    ensures answered { IfOk result (λ o. IsBlockAnswered cell.now number
-        (block_view block.now) o covers.old.items covers.new.items) }
-    ensures printable { IfOk result IsPrintable }
+    ensures answered { IfOk result (λ told. IsBlockAnswered cell.now number
+        (block_view block.now) told.1 told.0 covers.old.items covers.new.items) }
+    ensures printable { IfOk result (λ told. IsPrintable told.0) }
 {
-    let body = cover_body(covers, cell, block)?;
-    Ok(Outcome {
+    let (body, covered) = cover_body(covers, cell, block)?;
+    let outcome = Outcome {
         number,
         line: block.line,
         name: block.name,
         body,
-    })
+    };
+    Ok((outcome, covered))
 }

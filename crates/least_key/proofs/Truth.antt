@@ -7,8 +7,8 @@ use Rattle.key_theory.specs.Frames.{IsWorkPast}
 use Rattle.key_theory.specs.Key.{Shape}
 use Rattle.quotient_graph.specs.NetClasses.{NetClasses, AreClasses, class_at}
 use Rattle.quotient_graph.specs.PlacedNets.{PlacedNet}
-use Rattle.edge_frames.specs.declared.key_work.KeyWork.{KeyWork}
-use Rattle.edge_frames.specs.declared.key_work.KeyWork.TheVariants as work
+use Rattle.edge_frames.specs.declared.work.KeyWork.{KeyWork}
+use Rattle.edge_frames.specs.declared.work.KeyWork.TheVariants as work
 use Rattle.connected_dim.specs.Refusals.{IsRefused}
 use Rattle.connected_dim.specs.declared.connectedness.Unconnected.{Unconnected}
 use Rattle.connected_dim.specs.declared.connectedness.Unconnected.TheVariants.{Disconnected, Degenerate, NoMemory}

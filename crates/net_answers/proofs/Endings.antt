@@ -1,5 +1,5 @@
 -- How a task ends to which an answer is due.
-use Rattle.std.proofs.Common.{◌≢◌, ℕ, ◌<◌, ◌≤◌, Bool, true, false, List, [], length, Option, Some, unwrap_or, refl, arith}
+use Rattle.std.proofs.Common.{◌≡◌, ◌≢◌, inl, inr, ℕ, ◌<◌, ◌≤◌, Bool, true, false, List, [], length, Option, Some, unwrap_or, refl, arith}
 use Rattle.cgd_read.specs.Blocks.{blocks_of, most_blocks}
 use Rattle.cgd_read.specs.Views.{BlockView}
 use Rattle.command_words.specs.Tasks.{Task, Check, Place, Key, Identify, Components, Add, Duplicates, Migrate, Union, Same, Verify, Workload, Cover}
@@ -9,7 +9,7 @@ use Rattle.union_answers.proofs.CallerLemmas.{not_bad}
 use Rattle.net_answers.specs.Bytes.{HasFewBlocks}
 use Rattle.net_answers.specs.Due.{HasTooMany, IsDueFor, IsDueToBlocks, IsDueWith, bytes_of}
 use Rattle.net_answers.specs.Endings.{IsComplete, IsOfUniting}
-use Rattle.net_answers.specs.Laws.{FewEndings}
+use Rattle.net_answers.specs.Laws.{FewEndings, UnionEndings}
 use Rattle.same_answers.specs.DueToVerify.{IsDueToVerify}
 use Rattle.union_answers.specs.Unions.{IsUnionAs, begins_archive}
 use Rattle.net_report.specs.declared.status.Status.{Status}
@@ -87,3 +87,16 @@ few_endings task file archive BadArchive text within due =
     bad_ends task (bytes_of task (unwrap_or file [])) archive text (not_bad archive within.entries text within.is_archive) due
 few_endings task file archive TooManyBlocks text within due = many_ends task (bytes_of task (unwrap_or file [])) within.blocks due.0
 few_endings task file archive status text within due = ends_with task (bytes_of task (unwrap_or file [])) archive status text (λ e. cc) due
+
+-- beside an archive it is the file of a union that is bad
+bad_file : (begins : Bool) (bytes : List ℕ) (archive : Option (List ℕ)) (text : List ℕ) → begins_archive bytes ≡ begins → ¬ IsBadArchive archive text → IsUnionAs begins bytes archive BadArchive text → (begins_archive bytes ≡ true) × IsBadArchive (Some bytes) text
+bad_file true bytes archive text begins good (inl bad) = (begins, bad)
+bad_file true bytes archive text begins good (inr (b, read, bad)) = absurd (good bad)
+bad_file false bytes archive text begins good due = absurd (good due.1)
+
+-- so a union ends as its file says
+pub union_endings : UnionEndings
+union_endings = record {
+  bad = λ name archive_name file archive text within due. bad_file (begins_archive (unwrap_or file [])) (unwrap_or file []) archive text refl (not_bad archive within.entries text within.is_archive) due;
+  many = λ name archive_name file archive text due. due.0;
+}

@@ -12,3 +12,4 @@ pub mod Headlines
 mod OneAddition
 mod OneSummary
 pub mod OneAnswer
+mod DueAnswers

@@ -159,7 +159,7 @@ accepted_body block (Net raw) net (Refused size names refusal) e is h =
 accepted_body block (Net raw) net (Unsupported token) e is h = absurd h
 accepted_body block (Net raw) net (Malformed fault) e is h = absurd h
 accepted_body block (Net raw) net (FaultyItem line number kind) e is h = absurd h
-accepted_body block (Net raw) net (Lines size accepted lines) e is h = absurd h
+accepted_body block (Net raw) net (Lines size lines) e is h = absurd h
 accepted_body block (Other token) net told e is h = let other : Other token ≡ Net is.raw = sym e ∙ is.graph in absurd (cc)
 accepted_body block (Faulty fault) net told e is h = let other : Faulty fault ≡ Net is.raw = sym e ∙ is.graph in absurd (cc)
 

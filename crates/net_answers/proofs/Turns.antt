@@ -1,15 +1,18 @@
 -- A block and its outcome, as they come in turn.
-use Rattle.std.proofs.Common.{◌≡◌, ℕ, ◌<◌, true, List, length, get_or, Option, Some, None, sym, ap, subst, ◌∙◌, true≢false}
+use Rattle.std.proofs.Common.{◌≡◌, ℕ, ◌+◌, ◌-◌, ◌<◌, true, List, length, get_or, Option, Some, None, sym, ap, subst, ◌∙◌, true≢false, arith}
 use Rattle.std.specs.List.{list_all}
 use Rattle.std.specs.Prelude.{is_some, unwrap_or}
 use Rattle.std.proofs.lemmas.List.{get_or-map, length-map}
 use Rattle.cgd_read.specs.Views.{BlockView, block_view, views}
 use Rattle.cgd_read.specs.declared.block.Block.{Block}
 use Rattle.least_key.specs.AnyNets.{net_view}
+use Rattle.least_key.specs.KeyedNets.{HasKinds}
 use Rattle.least_key.specs.declared.net.Net.{Net}
 use Rattle.archive_text.specs.Entries.{EntryView}
+use Rattle.net_report.specs.KindsTold.{AreKindsOfAll, AreKindsTold}
 use Rattle.net_report.specs.declared.command.Command.TheVariants.{Key}
-use Rattle.net_outcomes.specs.Outcomes.{Outcome, AreOutcomesFrom, is_accepted, net_told}
+use Rattle.net_report.proofs.CallerLemmas.{as_many_kinds, kinds_at}
+use Rattle.net_outcomes.specs.Outcomes.{Outcome, OutcomeBody, Keyed, AreOutcomesFrom, is_accepted, net_told}
 use Rattle.net_answers.specs.Due.{IsNetOf}
 use Rattle.net_answers.proofs.KeyedBlocks.{IsToldNet, told_at}
 
@@ -33,3 +36,19 @@ net_is block o net h e = subst (λ (n : Net). IsNetOf block (net_view n)) (ap (�
 -- and one is reported
 pub one_told : (block : BlockView) (o : Outcome) → IsToldNet block o.body → None ≡ net_told o.body → ⊥
 one_told block o h e = true≢false (ap is_some (sym h.told_is ∙ sym e))
+
+-- kinds beside the net that is reported are kinds of its classes
+kinds_told : (body : OutcomeBody) (net : Net) (ks : List ℕ) → AreKindsTold body ks → Some net ≡ net_told body → HasKinds (net_view net) ks
+kinds_told (Keyed size own) net ks h e = subst (λ (n : Net). HasKinds (net_view n) ks) (ap (λ (t : Option Net). unwrap_or t net) (sym e)) h
+kinds_told body net ks h e = absurd (true≢false (ap is_some e))
+
+-- the kinds of the outcome with this number, and that it has them
+pub kinds_inside : (os : List Outcome) (kinds : List (List ℕ)) (i number : ℕ) → AreKindsOfAll os kinds → i < length os → number ≡ i + 1 → number - 1 < length kinds
+kinds_inside os kinds i number h l n = let m = as_many_kinds os kinds h in omega (arith, m, l, n)
+
+pub kinds_are : (os : List Outcome) (kinds : List (List ℕ)) (i number : ℕ) (o : Outcome) (net : Net) (ks : List ℕ) → AreKindsOfAll os kinds → i < length os → o ≡ get_or os i o → number ≡ i + 1 → ks ≡ get_or kinds (number - 1) ks
+    → Some net ≡ net_told o.body → HasKinds (net_view net) ks
+kinds_are os kinds i number o net ks h l e n s t =
+    let place : number - 1 ≡ i = omega (arith, n) in
+    let at = sym (s ∙ ap (λ (k : ℕ). get_or kinds k ks) place) in
+    kinds_told o.body net ks (kinds_at os kinds i o ks h l (sym e) at) t

@@ -4,6 +4,8 @@ ghost use Rattle.std.specs.List.{list_all};
 ghost use Rattle.cgd_read.specs.Blocks.{IsReadBody, most_blocks};
 ghost use Rattle.cgd_read.specs.Views.{block_view, views};
 ghost use Rattle.least_key.specs.AnyNets.{net_view};
+ghost use Rattle.least_key.specs.KeyedNets.{HasKinds};
+ghost use Rattle.net_report.specs.KindsTold.{AreKindsOfAll};
 ghost use Rattle.archive_text.specs.Entries.{EntryView};
 ghost use Rattle.net_archive.specs.Adding.{IsAddFault, IsEntryOf};
 ghost use Rattle.net_archive.specs.Archives.{IsArchive, with_entry};
@@ -12,7 +14,7 @@ ghost use Rattle.net_outcomes.specs.Outcomes.{AreOutcomesFrom, is_accepted, net_
 ghost use Rattle.net_answers.specs.Due.{IsAdded, IsAddedOrRefused, IsNotAdded, name_to_add};
 
 use cgd_read::Block;
-use least_key::Net;
+use least_key::{Kinds, Net};
 use net_archive::{AddFault, Archive};
 use net_outcomes::{Outcome, OutcomeBody, are_accepted, outcomes_of, report};
 use net_report::{Answer, Command, Status};
@@ -49,7 +51,9 @@ fn add_block(
     given: Option<&[u8]>,
     block: &Block<'_>,
     net: &Net,
+    kinds: &Kinds,
 ) -> Result<(), AddFault>
+    requires { HasKinds (net_view net.now) kinds.now }
     ensures added { OnOk result ((e : EntryView) ×
         IsEntryOf (name_to_add (option_copied given.entry) (block_view block.now))
         (net_view net.now) e × (archive.new ≡ with_entry archive.old e)) }
@@ -58,7 +62,7 @@ fn add_block(
     ensures fault { IfErr result (IsAddFault archive.old
         (name_to_add (option_copied given.entry) (block_view block.now)) (net_view net.now)) }
 {
-    let added = archive.add(name_to_add(given, block), net);
+    let added = archive.add_with_kinds(name_to_add(given, block), net, kinds);
     let _ = archive.entries(); // which are those of an archive
     added
 }
@@ -69,9 +73,11 @@ fn add_all<'x>(
     given: Option<&[u8]>,
     found: &'x [Block<'_>],
     outcomes: &'x [Outcome<'_>],
+    kinds: &[Kinds],
 ) -> Result<(), NotAdded>
     requires few { length found.now ≤ most_blocks }
     requires outcomes { AreOutcomesFrom [] Command.Key 1 (views found.now) outcomes.now }
+    requires kinds { AreKindsOfAll outcomes.now kinds.now }
     requires accepted { list_all is_accepted outcomes.now ≡ true }
     ensures added { OnOk result
         (IsAdded (option_copied given.entry) (views found.now) archive.old archive.new) }
@@ -83,7 +89,8 @@ fn add_all<'x>(
     let mut number = 1u32;
     for (block, outcome) in found.iter().zip(outcomes) {
         if let Some(net) = net_told(outcome) {
-            if let Err(fault) = add_block(archive, given, block, net) {
+            let place = number as usize - 1;
+            if let Err(fault) = add_block(archive, given, block, net, &kinds[place]) {
                 return Err(NotAdded {
                     block: number,
                     fault,
@@ -122,15 +129,17 @@ fn add_accepted<'x>(
     given: Option<&[u8]>,
     found: &'x [Block<'_>],
     outcomes: &'x [Outcome<'_>],
+    kinds: &[Kinds],
 ) -> Result<Answer, NoMemory>
     requires few { length found.now ≤ most_blocks }
     requires outcomes { AreOutcomesFrom [] Command.Key 1 (views found.now) outcomes.now }
+    requires kinds { AreKindsOfAll outcomes.now kinds.now }
     requires accepted { list_all is_accepted outcomes.now ≡ true }
     ensures { IfOk result (λ a. IsAddedOrRefused (option_copied given.entry)
         (views found.now) archive a.status a.text.items) }
 {
     let mut longer = archive;
-    match add_all(&mut longer, given, found, outcomes) {
+    match add_all(&mut longer, given, found, outcomes, kinds) {
         Ok(()) => Ok(Answer {
             status: Status::Done,
             text: longer.text()?,
@@ -140,36 +149,6 @@ fn add_accepted<'x>(
             text: refused_text(alloc, refused)?,
         }),
     }
-}
-
-// The answer to an addition, beside an archive without entries.
-fn add_beside(
-    alloc: Global,
-    archive: Archive,
-    name: Option<&str>,
-    none: &Archive,
-    found: &[Block<'_>],
-) -> Result<Answer, NoMemory>
-    requires empty { none.now.entries ≡ [] }
-    requires graphs { All (λ block. IsReadBody block.body) found.now }
-    requires few { length found.now ≤ most_blocks }
-    ensures { IfOk result (λ a. IsAddedOrRefused (option_copied name.entry)
-        (views found.now) archive a.status a.text.items) }
-{
-    let outcomes = outcomes_of(alloc, Command::Key, none, found)?;
-    if !are_accepted(&outcomes) {
-        return Ok(Answer {
-            status: Status::SomeRefused,
-            text: report(alloc, &outcomes)?,
-        });
-    }
-    add_accepted(
-        alloc,
-        archive,
-        given_bytes(name),
-        found,
-        outcomes.as_slice(),
-    )
 }
 
 /// The text of the archive with the nets of these blocks, or the report on them where one has no
@@ -185,6 +164,19 @@ pub fn add_blocks(
     ensures { IfOk result (λ a. IsAddedOrRefused (option_copied name.entry)
         (views found.now) archive a.status a.text.items) }
 {
-    let none = Archive::empty(alloc);
-    add_beside(alloc, archive, name, &none, found)
+    let keyed = outcomes_of(alloc, found)?;
+    if !are_accepted(&keyed.outcomes) {
+        return Ok(Answer {
+            status: Status::SomeRefused,
+            text: report(alloc, &keyed.outcomes)?,
+        });
+    }
+    add_accepted(
+        alloc,
+        archive,
+        given_bytes(name),
+        found,
+        keyed.outcomes.as_slice(),
+        &keyed.kinds,
+    )
 }

@@ -1,5 +1,5 @@
 // What holds of answers. Each function carries a theorem.
-ghost use Rattle.net_answers.specs.Laws.{BlocksOfWorkload, FewEndings, OneDueAnswer};
+ghost use Rattle.net_answers.specs.Laws.{BlocksOfWorkload, FewEndings, OneDueAnswer, SomeAnswerIsDue, UnionEndings};
 
 /// Two answers that are due to a task, of the same bytes of its file and of its archive, have one
 /// status and one text.
@@ -11,6 +11,18 @@ pub fn one_due_answer()
 /// answer is due ends in few ways.
 pub fn few_endings()
     ensures theorem { FewEndings }
+{}
+
+/// Of a union whose bytes are within their limits it is the file that is a bad archive, and the file
+/// in which too many items begin.
+pub fn union_endings()
+    ensures theorem { UnionEndings }
+{}
+
+/// An answer is due where too many blocks or items begin, and where an archive is migrated: there no
+/// net has to be computed.
+pub fn some_answer_is_due()
+    ensures theorem { SomeAnswerIsDue }
 {}
 
 /// A workload has one block for each of its nets.

@@ -9,7 +9,9 @@ mod reports;
 mod workloads;
 
 pub use answer::answer_to;
-pub use laws::{blocks_of_workload, few_endings, one_due_answer};
+pub use laws::{
+    blocks_of_workload, few_endings, one_due_answer, some_answer_is_due, union_endings,
+};
 pub use net_archive::MOST_BYTES;
 
 #[cfg(test)]

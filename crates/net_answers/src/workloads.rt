@@ -1,5 +1,5 @@
 // What is reported of many nets.
-ghost use Rattle.std.specs.Prelude.{◌≡◌, ◌++◌, ◌≤◌, [], All, IfOk, OnOk, length, filter, option_copied};
+ghost use Rattle.std.specs.Prelude.{◌≡◌, ◌++◌, ◌≤◌, All, IfOk, OnOk, length, filter, option_copied};
 ghost use Rattle.cgd_read.specs.Blocks.{IsReadBody, most_blocks};
 ghost use Rattle.cgd_read.specs.Views.{views};
 ghost use Rattle.net_outcomes.specs.Deciding.{key_told};
@@ -10,9 +10,8 @@ ghost use Rattle.net_answers.specs.Summaries.{AreSoManyKeys, IsSummaryAs, count_
 use cgd_read::Block;
 use indexmap::IndexSet;
 use line_text::push_field;
-use net_archive::Archive;
 use net_outcomes::{Outcome, OutcomeBody, are_accepted, is_accepted, outcomes_of};
-use net_report::{Answer, Command, ending_of};
+use net_report::{Answer, ending_of};
 use std::alloc::{AllocError as NoMemory, Global};
 
 // A count after its word, on a line of its own.
@@ -38,7 +37,7 @@ fn key_told<'a>(outcome: &'a Outcome<'_>) -> Option<&'a [i128]>
     ensures { option_copied result ≡ key_told outcome.now.body }
 {
     match &outcome.body {
-        OutcomeBody::Keyed(_, net) | OutcomeBody::Identified { net, .. } => {
+        OutcomeBody::Keyed(_, net) | OutcomeBody::Identified(_, _, net, _, _) => {
             Some(net.key().numbers())
         }
         _ => None,
@@ -76,33 +75,17 @@ fn count_accepted(outcomes: &[Outcome<'_>]) -> u64
         .count() as u64
 }
 
-// The summary on these blocks, beside an archive without entries.
-fn summary_beside(
-    alloc: Global,
-    made: u32,
-    archive: &Archive,
-    found: &[Block<'_>],
-) -> Result<Answer, NoMemory>
-    requires empty { archive.now.entries ≡ [] }
-    requires graphs { All (λ block. IsReadBody block.body) found.now }
-    requires few { length found.now ≤ most_blocks }
-    ensures { IfOk result (λ a. IsSummaryAs made (views found.now) a.status a.text.items) }
-{
-    let outcomes = outcomes_of(alloc, Command::Key, archive, found)?;
-    let accepted = count_accepted(outcomes.as_slice());
-    let keys = count_keys(alloc, outcomes.as_slice())?;
-    Ok(Answer {
-        status: ending_of(are_accepted(&outcomes)),
-        text: summary_text(alloc, made as u64, accepted, keys)?,
-    })
-}
-
 /// The summary on the blocks of a workload.
 pub fn summary_of(alloc: Global, made: u32, found: &[Block<'_>]) -> Result<Answer, NoMemory>
     requires graphs { All (λ block. IsReadBody block.body) found.now }
     requires few { length found.now ≤ most_blocks }
     ensures { IfOk result (λ a. IsSummaryAs made (views found.now) a.status a.text.items) }
 {
-    let none = Archive::empty(alloc);
-    summary_beside(alloc, made, &none, found)
+    let keyed = outcomes_of(alloc, found)?;
+    let accepted = count_accepted(keyed.outcomes.as_slice());
+    let keys = count_keys(alloc, keyed.outcomes.as_slice())?;
+    Ok(Answer {
+        status: ending_of(are_accepted(&keyed.outcomes)),
+        text: summary_text(alloc, made as u64, accepted, keys)?,
+    })
 }

@@ -1,7 +1,8 @@
 -- Groups of entries with equal keys are groups of entries with isomorphic nets.
-use Rattle.std.proofs.Common.{◌≡◌, ◌≢◌, inl, inr, ◌∙◌, ℕ, zero, suc, ◌+◌, ◌-◌, ◌≤◌, ℤ, Bool, true, false, cond, List, [], ◌∷◌, length, map, filter, slice_get, Some, Result, Ok, Err, true≢false, refl, sym, ap, subst, arith}
+use Rattle.std.proofs.Common.{◌≡◌, ◌≢◌, inl, inr, ◌∙◌, ℕ, zero, suc, ◌+◌, ◌-◌, ◌≤◌, ℤ, Bool, true, false, cond, List, [], ◌∷◌, length, map, filter, slice_get, Some, Result, Ok, Err, Vec, true≢false, refl, sym, ap, subst, arith}
 use Rattle.std.specs.List.{All, Contains, enumerate_from}
 use Rattle.std.specs.Prelude.{IfOk}
+use Rattle.std.specs.declared.alloc.Global.{Global}
 use Rattle.std.specs.Cmp.Rules.{signed_items}
 use Rattle.std.proofs.lemmas.List.Elements.{All-contains}
 use Rattle.std.proofs.lemmas.Option.{slice_get_within, get_or_from_slice_get}
@@ -9,7 +10,7 @@ use Rattle.integers.proofs.lists.Members.{IsIn, is_in, contains_from_in}
 use Rattle.periodic_net.specs.Maps.{Iso}
 use Rattle.key_theory.proofs.CallerLemmas.{keys_decide}
 use Rattle.archive_text.specs.Entries.{EntryView}
-use Rattle.archive_text.specs.Groups.{AreGroups, IsGroup, numbers_from, numbers_with}
+use Rattle.archive_text.specs.Groups.{AreGroups, IsGroup, numbers_from, numbers_in, numbers_with}
 use Rattle.archive_text.specs.Lookups.{same_key}
 use Rattle.net_archive.specs.Archives.{IsEntry}
 use Rattle.net_archive.specs.Deciding.{AreIsoGroups, IsEntryAt, KeysDecideArchive, ShareGroup}
@@ -113,6 +114,7 @@ module _ (es : List EntryView) (good : All IsEntry es) (groups : List (List ℕ)
           (group, are.every group (record { key = e.key; numbers = refl; two = two_members group m n one two other }), contains_from_in group m one, contains_from_in group n two)
 
 -- where groups are reported, they are so
-pub groups_told : {E : Type 0} (es : List EntryView) (r : Result (List (List ℕ)) E) → All IsEntry es → IfOk r (AreGroups es) → IfOk r (AreIsoGroups es)
-groups_told es (Ok groups) good are = iso_groups es good groups are
+pub groups_told : {E : Type 0} (es : List EntryView) (r : Result (Vec (Vec ℕ Global) Global) E) → All IsEntry es → IfOk r (λ groups. AreGroups es (numbers_in groups.items))
+    → IfOk r (λ groups. AreIsoGroups es (numbers_in groups.items))
+groups_told es (Ok groups) good are = iso_groups es good (numbers_in groups.items) are
 groups_told es (Err e) good are = are

@@ -5,6 +5,7 @@ ghost use Rattle.periodic_net.specs.Limits.{IsSmall};
 ghost use Rattle.quotient_graph.specs.AnyGraphs.{graph_view};
 ghost use Rattle.quotient_graph.specs.Order.{AreRising};
 ghost use Rattle.least_key.specs.AnyNets.{net_view};
+ghost use Rattle.least_key.specs.KeyedNets.{HasKinds};
 ghost use Rattle.archive_text.specs.Entries.{entry_view};
 ghost use Rattle.archive_text.specs.Texts.{entry_lines, most_bytes};
 ghost use Rattle.line_text.specs.Names.{is_name};
@@ -12,7 +13,7 @@ ghost use Rattle.net_archive.specs.Adding.{IsEntryOf};
 ghost use Rattle.net_archive.specs.Archives.{IsEntry, most_entries};
 
 use archive_text::{Entries, Entry, MOST_BYTES, Version, push_entry};
-use least_key::Net;
+use least_key::{Kinds, Net};
 use quotient_graph::AnyGraph;
 use std::alloc::{AllocError as NoMemory, Global};
 
@@ -34,12 +35,14 @@ fn graph_of(net: &Net) -> Result<AnyGraph, NoMemory>
     }
 }
 
-/// The entry of a net under a name.
-pub fn entry_of(alloc: Global, name: &[u8], net: &Net) -> Result<Entry, NoMemory>
+/// The entry of a net under a name. Its coordination sequences are counted once for each of these
+/// kinds of its classes.
+pub fn entry_of(alloc: Global, name: &[u8], net: &Net, kinds: &Kinds) -> Result<Entry, NoMemory>
+    requires { HasKinds (net_view net.now) kinds.now }
     ensures entry { IfOk result (λ e. IsEntryOf name.now (net_view net.now) (entry_view e)) }
     ensures is_entry { is_name name.now ≡ true → IfOk result (λ e. IsEntry (entry_view e)) }
 {
-    let shells = net.sequences(alloc)?;
+    let shells = net.sequences(alloc, kinds)?;
     let graph = graph_of(net)?;
     let name = Vec::from_slice(alloc, name)?;
     let key = net.key().copy()?;

@@ -3,8 +3,9 @@ ghost use Rattle.std.specs.Prelude.{◌≡◌, ◌≤◌, All, IfOk, IfErr, OnOk
 ghost use Rattle.periodic_net.specs.Graph.{Graph, IsGraph};
 ghost use Rattle.key_theory.specs.Key.{IsKeyOf};
 ghost use Rattle.least_key.specs.AnyNets.{net_view};
+ghost use Rattle.least_key.specs.KeyedNets.{HasKinds};
 ghost use Rattle.archive_text.specs.Entries.{EntryView, entry_view, entry_views};
-ghost use Rattle.archive_text.specs.Groups.{AreGroups};
+ghost use Rattle.archive_text.specs.Groups.{AreGroups, numbers_in};
 ghost use Rattle.archive_text.specs.Lookups.{names_with};
 ghost use Rattle.archive_text.specs.Regrouped.{regrouped};
 ghost use Rattle.net_archive.specs.Adding.{IsAddFault, IsEntryFault, IsEntryOf};
@@ -19,8 +20,8 @@ use crate::migrating::newest_text;
 use crate::reading::{body_of, read_text};
 use crate::regrouping::rows_in_groups;
 use crate::{AddFault, ArchiveFault, MigrateFault};
-use archive_text::{Entries, Entry, Groups, Matches, Version, push_first};
-use least_key::Net;
+use archive_text::{Entries, Entry, Matches, Version, push_first};
+use least_key::{Kinds, Net};
 use line_text::is_name;
 use quotient_graph::Key;
 use std::alloc::{AllocError as NoMemory, Global};
@@ -124,11 +125,13 @@ impl Archive {
     /// The groups of two or more entries with equal keys, as rising numbers of entries from 1, in
     /// the order of their first members. Two entries stand in one group exactly where their nets
     /// are isomorphic.
-    pub fn duplicates(&self) -> Result<Groups, NoMemory>
+    pub fn duplicates(&self) -> Result<Vec<Vec<u32>>, NoMemory>
         // All groups of two or more entries with equal keys,
-        ensures groups { IfOk result (AreGroups self.now.entries) }
+        ensures groups { IfOk result (λ groups.
+            AreGroups self.now.entries (numbers_in groups.items)) }
         // which are the groups of entries with isomorphic nets.
-        ensures isomorphic { IfOk result (AreIsoGroups self.now.entries) }
+        ensures isomorphic { IfOk result (λ groups.
+            AreIsoGroups self.now.entries (numbers_in groups.items)) }
         ensures archive { IsArchive self.now }
     {
         self.entries.duplicates()
@@ -192,8 +195,23 @@ impl Archive {
         Ok(())
     }
 
-    /// Puts the graph of a net last, under a name. A refusal changes nothing.
+    /// Puts the graph of a net last, under a name. A refusal changes nothing. The coordination
+    /// sequence of each class is counted; `add_with_kinds` counts one for each kind of class.
     pub fn add(&mut self, name: &[u8], net: &Net) -> Result<(), AddFault>
+        // The entry of this name and net is last, and the others are as they were.
+        ensures added { OnOk result ((e : EntryView) × IsEntryOf name.now (net_view net.now) e ×
+            (self.new ≡ with_entry self.old e)) }
+        ensures same { OnErr result (self.new ≡ self.old) }
+        // The first cause that holds: the name is taken, it is no name, the archive is full.
+        ensures fault { IfErr result (IsAddFault self.old name.now (net_view net.now)) }
+    {
+        let kinds = net.separate_kinds(*self.body.allocator())?;
+        self.add_with_kinds(name, net, &kinds)
+    }
+
+    /// The same as `add`, with kinds of the classes of the net at hand.
+    pub fn add_with_kinds(&mut self, name: &[u8], net: &Net, kinds: &Kinds) -> Result<(), AddFault>
+        requires { HasKinds (net_view net.now) kinds.now }
         // The entry of this name and net is last, and the others are as they were.
         ensures added { OnOk result ((e : EntryView) × IsEntryOf name.now (net_view net.now) e ×
             (self.new ≡ with_entry self.old e)) }
@@ -207,7 +225,7 @@ impl Archive {
         if !is_name(name) {
             return Err(AddFault::BadName);
         }
-        let entry = entry_of(*self.body.allocator(), name, net)?;
+        let entry = entry_of(*self.body.allocator(), name, net, kinds)?;
         self.add_entry(entry)
     }
 

@@ -3,7 +3,7 @@ ghost use Rattle.std.specs.Prelude.{◌≡◌, ◌↔◌, ◌⊎◌, ◌≤◌, 
 ghost use Rattle.quotient_graph.specs.AnyGraphs.{graph_view};
 ghost use Rattle.coordination.specs.Sequences.{AreSequencesOf};
 ghost use Rattle.least_key.specs.AnyNets.{net_view};
-ghost use Rattle.least_key.specs.KeyedNets.{IsKeyed};
+ghost use Rattle.least_key.specs.KeyedNets.{HasKinds, IsKeyed};
 ghost use Rattle.quotient_graph.specs.EdgeLists.{AreEdgesOfGraph};
 ghost use Rattle.archive_text.specs.Entries.{entry_view};
 ghost use Rattle.net_archive.specs.Judging.{AreRefusedShells, HasKey, IsDifferingClass, IsEntryOfForm, IsJudged, IsOtherKey, IsRefusedAt, graph_of_form, graph_of_keyed};
@@ -13,7 +13,7 @@ ghost use Rattle.line_text.specs.Lines.{last_line};
 use crate::ArchiveFault;
 use archive_text::{Entry, Form, KeyedGraph, Version};
 use coordination::Sequences;
-use least_key::{Net, Refusal, identify};
+use least_key::{KindedNet, Net, Refusal, identify_with_kinds};
 use lists::Items;
 use quotient_graph::{AnyGraph, Key, from_edges};
 use std::alloc::{AllocError as NoMemory, Global};
@@ -24,13 +24,15 @@ fn same_key(a: &Key, b: &Key) -> bool
     a.numbers() == b.numbers()
 }
 
-// The net of a graph, or why the entry that begins on this line is refused.
-fn identify_at(alloc: Global, line: u32, graph: &AnyGraph) -> Result<Net, ArchiveFault>
-    ensures net { IfOk result (λ n. (net_view n).placed.graph ≡ graph_view graph.now) }
-    ensures keyed { IfOk result (λ n. IsKeyed (net_view n)) }
+// The net of a graph, and kinds of its classes, or why the entry that begins on this line is
+// refused.
+fn identify_at(alloc: Global, line: u32, graph: &AnyGraph) -> Result<KindedNet, ArchiveFault>
+    ensures net { IfOk result (λ n. (net_view n.net).placed.graph ≡ graph_view graph.now) }
+    ensures keyed { IfOk result (λ n. IsKeyed (net_view n.net)) }
+    ensures kinds { IfOk result (λ n. HasKinds (net_view n.net) n.kinds) }
     ensures fault { IfErr result (IsRefusedAt line (graph_view graph.now)) }
 {
-    match identify(alloc, graph.copy()?) {
+    match identify_with_kinds(alloc, graph.copy()?) {
         Ok(net) => Ok(net),
         Err(Refusal::NoMemory) => Err(ArchiveFault::NoMemory),
         Err(refusal) => Err(ArchiveFault::EntryRefused(line, refusal)),
@@ -130,10 +132,11 @@ fn check_net(
     alloc: Global,
     version: Version,
     form: &Form,
-    net: &Net,
+    found: &KindedNet,
 ) -> Result<Sequences, ArchiveFault>
-    requires graph { (net_view net.now).placed.graph ≡ graph_of_form form.now }
-    requires keyed { IsKeyed (net_view net.now) }
+    requires graph { (net_view found.now.net).placed.graph ≡ graph_of_form form.now }
+    requires keyed { IsKeyed (net_view found.now.net) }
+    requires kinds { HasKinds (net_view found.now.net) found.now.kinds }
     requires line { form.now.keyed.key_line ≤ last_line }
     requires few { length form.now.shells ≤ most_vertices }
     ensures key { OnOk result (HasKey form.now) }
@@ -141,8 +144,8 @@ fn check_net(
     ensures kept { IfOk result (λ lists. version ≡ Version.Two → form.now.shells ≡ lists) }
     ensures fault { (line : ℕ) → IfErr result (IsJudged version line form.now) }
 {
-    check_key(&form.keyed, net)?;
-    let shells = net.sequences(alloc)?;
+    check_key(&form.keyed, &found.net)?;
+    let shells = found.net.sequences(alloc, &found.kinds)?;
     let key_line = form.keyed.key_line;
     check_version(alloc, version, key_line, &form.shells, &shells)?;
     Ok(shells)

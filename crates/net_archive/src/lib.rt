@@ -12,6 +12,6 @@ mod regrouping;
 
 pub use adding::entry_of;
 pub use archive::Archive;
-pub use archive_text::{Entry, Groups, MOST_BYTES, Matches, Version};
+pub use archive_text::{Entry, MOST_BYTES, Matches, Version};
 pub use faults::{AddFault, ArchiveFault, MigrateFault};
 pub use laws::{archives_have_no_fault, one_add_fault, one_archive, one_fault};

@@ -46,8 +46,8 @@ accepted_told entries command raw (Checked size) g h other certain = refl
 accepted_told entries command raw (Located size names placed) g h other certain = refl
 accepted_told entries command raw (Keyed size net) g h other certain = refl
 accepted_told entries command raw (Identified size vertices net shells names) g h other certain = refl
-accepted_told entries Components raw (Lines size accepted lines) g h other certain = absurd (other refl)
-accepted_told entries command raw (Lines size accepted lines) g h other certain = absurd h
+accepted_told entries Components raw (Lines size lines) g h other certain = absurd (other refl)
+accepted_told entries command raw (Lines size lines) g h other certain = absurd h
 
 -- each block that is a net is a graph
 abbrev pub AreGraphs : List BlockView → Type 0

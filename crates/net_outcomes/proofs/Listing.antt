@@ -1,5 +1,5 @@
 -- The list of outcomes grows by that of the next block.
-use Rattle.std.proofs.Common.{◌≡◌, ℕ, ◌+◌, ◌<◌, ◌≤◌, List, [], ◌∷◌, ◌++◌, length, take, get_or, All, sym, ap, subst, ◌∙◌, arith, add-one}
+use Rattle.std.proofs.Common.{◌≡◌, ℕ, ◌+◌, ◌<◌, ◌≤◌, List, [], ◌∷◌, ◌++◌, length, take, get_or, All, refl, sym, ap, subst, ◌∙◌, arith, add-one}
 use Rattle.std.proofs.lemmas.Grind.{common_steps}
 use Rattle.std.proofs.lemmas.List.{get_or-map, length-map, take_all}
 use Rattle.std.proofs.lemmas.List.Elements.{All-append, All-cons, All-nil}
@@ -32,6 +32,10 @@ pub record AreOutcomesOn (entries : List EntryView) (command : Command) (bs : Li
   pub number_is : number ≡ i + 1
   pub printable : All IsPrintable os
 
+-- at first there is none
+pub outcomes_none : (entries : List EntryView) (command : Command) (bs : List BlockView) → AreOutcomesOn entries command bs 0 1 []
+outcomes_none entries command bs = record { outcomes = tt; number_is = refl; printable = All-nil IsPrintable }
+
 -- the outcome of the next block
 outcomes_more : (entries : List EntryView) (command : Command) (bs : List BlockView) (i number : ℕ) (os : List Outcome) (b : BlockView) (o : Outcome) → i < length bs → get_or bs i b ≡ b → AreOutcomesOn entries command bs i number os
     → IsOutcomeOf entries command number b o → IsPrintable o → AreOutcomesOn entries command bs (i + 1) (number + 1) (os ++ o ∷ [])
@@ -52,6 +56,19 @@ outcomes_next entries command found i number os block o l is h k p =
     let inside : i < length (views found) = subst (λ (n : ℕ). i < n) (sym (length-map found block_view)) l in
     let there = get_or-map block_view found i block (block_view block) l ∙ ap block_view (sym is) in
     outcomes_more entries command (views found) i number os (block_view block) o inside there h k p
+
+-- the blocks up to the next of those that were read
+pub next_taken : (found : List Block) (i : ℕ) (block : Block) → i < length found → block ≡ get_or found i block → take (i + 1) (views found) ≡ take i (views found) ++ block_view block ∷ []
+next_taken found i block l is =
+    let bs = views found in
+    let b = block_view block in
+    let inside : i < length bs = subst (λ (n : ℕ). i < n) (sym (length-map found block_view)) l in
+    let there = get_or-map block_view found i block b l ∙ ap block_view (sym is) in
+    ap (λ (n : ℕ). take n bs) (add-one i) ∙ take-suc bs i b inside ∙ ap (λ (x : BlockView). take i bs ++ x ∷ []) there
+
+-- and all of them
+pub all_taken : (found : List Block) (i : ℕ) → length found ≤ i → take i (views found) ≡ views found
+all_taken found i l = take_all i (views found) (subst (λ (n : ℕ). n ≤ i) (sym (length-map found block_view)) l)
 
 -- the outcomes of all blocks that were read, beside the entries of an archive
 pub outcomes_whole : (entries : List EntryView) (command : Command) (found : List Block) (i number : ℕ) (os : List Outcome) → length found ≤ i → AreOutcomesOn entries command (views found) i number os

@@ -41,7 +41,7 @@ use Rattle.net_report.specs.declared.command.Command.{Command}
 use Rattle.net_report.specs.declared.command.Command.TheVariants.{Check, Place, Key, Identify, Components}
 use Rattle.net_outcomes.specs.Deciding.{key_told}
 use Rattle.net_outcomes.specs.Laws.{OneReport}
-use Rattle.net_outcomes.specs.Outcomes.{AreOutcomesFrom, IsBodyOf, IsCheckedAs, IsDividedAs, IsGraphOf, IsIdentifiedAs, IsKeyedAs, IsLocatedAs, IsOutcomeOf, IsRefusedAs, MayTell, is_accepted, is_accepted_body}
+use Rattle.net_outcomes.specs.Outcomes.{AreAcceptedInParts, AreAllAccepted, AreOutcomesFrom, IsAcceptedInParts, IsBodyOf, IsCheckedAs, IsDividedAs, IsGraphOf, IsIdentifiedAs, IsKeyedAs, IsLocatedAs, IsOutcomeOf, IsRefusedAs, MayTell, is_accepted, is_accepted_body}
 
 -- the names of the isomorphic entries are one list
 one_list_of_names : (G : Graph) (es : List EntryView) (xs ys : List (List ℕ)) → AreNamesOf G es xs → AreNamesOf G es ys → xs ≡ ys
@@ -58,7 +58,7 @@ one_list_of_names G (e ∷ es) (x ∷ xs) (y ∷ ys) (inl h) (inr k) = absurd (k
 one_list_of_names G (e ∷ es) (x ∷ xs) (y ∷ ys) (inr h) (inl k) = absurd (h.0 k.0)
 one_list_of_names G (e ∷ es) (x ∷ xs) (y ∷ ys) (inr h) (inr k) = one_list_of_names G es (x ∷ xs) (y ∷ ys) h.1 k.1
 
--- two bodies have one text, and say one key and whether the block was accepted
+-- two bodies have one text, and say one key and show alike whether the block was accepted
 pub record SpeakAlike (a b : OutcomeBody) : Type 0 where
   pub text : body_text a ≡ body_text b
   pub accepted : is_accepted_body a ≡ is_accepted_body b
@@ -169,12 +169,17 @@ module _ (raw : RawView) where
         key = ap (λ k. Some k) net.key;
       }
 
-  one_divided : (s t : Size) (x y : Bool) (xs ys : List ℕ) → IsDividedAs raw s x xs → IsDividedAs raw t y ys → SpeakAlike (Lines s x xs) (Lines t y ys)
-  one_divided s t x y xs ys a b =
+  -- of its components one text is reported, and whether it was accepted is one
+  divided_alike : (s t : Size) (x y : Bool) (xs ys : List ℕ) → IsDividedAs raw s x xs → IsDividedAs raw t y ys → (x ≡ y) × (xs ≡ ys)
+  divided_alike s t x y xs ys a b =
       let graph = same_graph s t a.graph b.graph a.read b.read in
+      one_telling_of_parts a.graph raw.names x y xs ys a.read.is_graph a.told (subst (λ G. AreComponentsTold G raw.names y ys) (sym graph) b.told)
+
+  one_divided : (s t : Size) (x y : Bool) (xs ys : List ℕ) → IsDividedAs raw s x xs → IsDividedAs raw t y ys → SpeakAlike (Lines s xs) (Lines t ys)
+  one_divided s t x y xs ys a b =
       let size = same_size s t a.graph b.graph a.read b.read in
-      let told = one_telling_of_parts a.graph raw.names x y xs ys a.read.is_graph a.told (subst (λ G. AreComponentsTold G raw.names y ys) (sym graph) b.told) in
-      record { text = λ i. size_text (size i) ++ told.1 i; accepted = told.0; key = refl }
+      let told = divided_alike s t x y xs ys a b in
+      record { text = λ i. size_text (size i) ++ told.1 i; accepted = refl; key = refl }
 
 -- what a command reports on a block is one
 pub one_body : (entries : List EntryView) (command : Command) (body : BodyView) (a b : OutcomeBody) → IsBodyOf entries command body a → IsBodyOf entries command body b → SpeakAlike a b
@@ -203,9 +208,9 @@ one_body entries Key (Net raw) (Keyed s m) b h k = absurd k
 one_body entries Identify (Net raw) (Identified s us m xs ms) (Refused t ns r) h k = absurd (keyed_as_not_refused raw Identify s t ns m r h.keyed k)
 one_body entries Identify (Net raw) (Identified s us m xs ms) (Identified t vs n ys ns) h k = one_identified raw entries s t us vs m n xs ys ms ns h k
 one_body entries Identify (Net raw) (Identified s us m xs ms) b h k = absurd k
-one_body entries Components (Net raw) (Lines s x xs) (Lines t y ys) h k = one_divided raw s t x y xs ys h k
-one_body entries Components (Net raw) (Lines s x xs) (Refused t ns r) h k = absurd (none_of_components r k.may)
-one_body entries Components (Net raw) (Lines s x xs) b h k = absurd k
+one_body entries Components (Net raw) (Lines s xs) (Lines t ys) h k = one_divided raw s t h.0 k.0 xs ys h.1 k.1
+one_body entries Components (Net raw) (Lines s xs) (Refused t ns r) h k = absurd (none_of_components r k.may)
+one_body entries Components (Net raw) (Lines s xs) b h k = absurd k
 one_body entries command (Net raw) a b h k = absurd h
 
 -- two lists of outcomes say the same
@@ -248,8 +253,44 @@ all_of (o ∷ os) = ap (λ b. is_accepted o && b) (all_of os)
 pub all_alike : (os ps : List Outcome) → TellTheSame os ps → list_all is_accepted os ≡ list_all is_accepted ps
 all_alike os ps r = all_of os ∙ ap (list_all (λ (c : Bool). c)) r.accepted ∙ sym (all_of ps)
 
+-- whether a block whose components are reported was accepted is one
+one_in_parts : (entries : List EntryView) (body : BodyView) (a b : OutcomeBody) (x y : Bool) → IsBodyOf entries Components body a → IsBodyOf entries Components body b → IsAcceptedInParts body a x → IsAcceptedInParts body b y → x ≡ y
+one_in_parts entries (Other token) a b x y h k p q = p ∙ sym q
+one_in_parts entries (Faulty fault) a b x y h k p q = p ∙ sym q
+one_in_parts entries (Net raw) (Lines s xs) (Lines t ys) x y h k p q = (divided_alike raw s t x y xs ys p q).0
+one_in_parts entries (Net raw) (Lines s xs) (Refused t ns r) x y h k p q = absurd (none_of_components r k.may)
+one_in_parts entries (Net raw) (Lines s xs) b x y h k p q = absurd k
+one_in_parts entries (Net raw) (Refused t ns r) b x y h k p q = absurd (none_of_components r h.may)
+one_in_parts entries (Net raw) a b x y h k p q = absurd h
+
+-- so it is of each of them
+each_in_parts : (entries : List EntryView) (n : ℕ) (bs : List BlockView) (os ps : List Outcome) (xs ys : List Bool) → AreOutcomesFrom entries Components n bs os → AreOutcomesFrom entries Components n bs ps
+    → AreAcceptedInParts bs os xs → AreAcceptedInParts bs ps ys → xs ≡ ys
+each_in_parts entries n [] [] [] [] [] h k p q = refl
+each_in_parts entries n [] [] [] [] (y ∷ ys) h k p q = absurd q
+each_in_parts entries n [] [] [] (x ∷ xs) ys h k p q = absurd p
+each_in_parts entries n [] [] (r ∷ ps) xs ys h k p q = absurd k
+each_in_parts entries n [] (o ∷ os) ps xs ys h k p q = absurd h
+each_in_parts entries n (b ∷ bs) [] ps xs ys h k p q = absurd h
+each_in_parts entries n (b ∷ bs) (o ∷ os) [] xs ys h k p q = absurd k
+each_in_parts entries n (b ∷ bs) (o ∷ os) (r ∷ ps) [] ys h k p q = absurd p
+each_in_parts entries n (b ∷ bs) (o ∷ os) (r ∷ ps) (x ∷ xs) [] h k p q = absurd q
+each_in_parts entries n (b ∷ bs) (o ∷ os) (r ∷ ps) (x ∷ xs) (y ∷ ys) h k p q =
+    let first = one_in_parts entries b.body o.body r.body x y h.0.body k.0.body p.0 q.0 in
+    let rest = each_in_parts entries (n + 1) bs os ps xs ys h.1 k.1 p.1 q.1 in
+    λ i. first i ∷ rest i
+
+-- and so whether all were accepted is one
+all_one : (entries : List EntryView) (command : Command) (bs : List BlockView) (os ps : List Outcome) (x y : Bool) → AreOutcomesFrom entries command 1 bs os → AreOutcomesFrom entries command 1 bs ps → TellTheSame os ps
+    → AreAllAccepted command bs os x → AreAllAccepted command bs ps y → x ≡ y
+all_one entries Check bs os ps x y h k r p q = p ∙ all_alike os ps r ∙ sym q
+all_one entries Place bs os ps x y h k r p q = p ∙ all_alike os ps r ∙ sym q
+all_one entries Key bs os ps x y h k r p q = p ∙ all_alike os ps r ∙ sym q
+all_one entries Identify bs os ps x y h k r p q = p ∙ all_alike os ps r ∙ sym q
+all_one entries Components bs os ps x y h k r p q = p.all ∙ ap (list_all (λ (b : Bool). b)) (each_in_parts entries 1 bs os ps p.each q.each h k p.are_each q.are_each) ∙ sym q.all
+
 -- the report on blocks is one
 pub one_report : OneReport
 one_report command entries blocks x y s t a b =
     let r = one_telling entries command 1 blocks a.outcomes b.outcomes a.are_outcomes.each b.are_outcomes.each in
-    (a.all ∙ all_alike a.outcomes b.outcomes r ∙ sym b.all, a.report ∙ r.text ∙ sym b.report)
+    (all_one entries command blocks a.outcomes b.outcomes x y a.are_outcomes.each b.are_outcomes.each r a.all b.all, a.report ∙ r.text ∙ sym b.report)

@@ -27,7 +27,7 @@ told_of_body entries command body (Unsupported token) h = tt
 told_of_body entries command body (Malformed fault) h = tt
 told_of_body entries command body (Checked size) h = tt
 told_of_body entries command body (Keyed size net) h = tt
-told_of_body entries command body (Lines size accepted lines) h = tt
+told_of_body entries command body (Lines size lines) h = tt
 told_of_body entries command body (FaultyItem line number kind) h = tt
 told_of_body entries command (Net raw) (Refused size names refusal) h =
     subst (λ ns. HasLine ns refusal) (sym h.names_are) (line_of command raw h.graph refusal h.read.is_graph h.read.in_order h.may h.is_true)

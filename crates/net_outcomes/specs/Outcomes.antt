@@ -1,5 +1,6 @@
 -- What becomes of each block under a command.
 use Rattle.std.specs.Prelude.{◌≡◌, ℕ, ◌+◌, Bool, true, false, List, [], ◌∷◌, length, Option, Some, None, option_copied}
+use Rattle.std.specs.List.{list_all}
 use Rattle.periodic_net.specs.Graph.{Graph, IsConnected, IsGraph}
 use Rattle.periodic_net.specs.Placement.{Placement, IsBarycentric, IsTranslate}
 use Rattle.cgd_read.specs.Graphs.{graph_of}
@@ -101,7 +102,7 @@ IsBodyOf entries Check (Net raw) (Checked size) = IsCheckedAs raw size
 IsBodyOf entries Place (Net raw) (Located size names placed) = IsLocatedAs raw size names placed
 IsBodyOf entries Key (Net raw) (Keyed size net) = IsKeyedAs raw size net
 IsBodyOf entries Identify (Net raw) (Identified size vertices net shells names) = IsIdentifiedAs entries raw size vertices net shells names
-IsBodyOf entries Components (Net raw) (Lines size accepted lines) = IsDividedAs raw size accepted lines
+IsBodyOf entries Components (Net raw) (Lines size lines) = (accepted : Bool) × IsDividedAs raw size accepted lines
 IsBodyOf entries command body told = ⊥
 
 -- the outcome of the block with this number
@@ -117,7 +118,7 @@ AreOutcomesFrom entries command number [] [] = Unit {0}
 AreOutcomesFrom entries command number (block ∷ blocks) (o ∷ os) = IsOutcomeOf entries command number block o × AreOutcomesFrom entries command (number + 1) blocks os
 AreOutcomesFrom entries command number blocks os = ⊥
 
--- whether the block was accepted
+-- whether the outcome shows that its block was accepted; lines do not show it
 abbrev pub is_accepted_body : OutcomeBody → Bool
 is_accepted_body (Unsupported token) = false
 is_accepted_body (Malformed fault) = false
@@ -127,10 +128,37 @@ is_accepted_body (Checked size) = true
 is_accepted_body (Located size names placed) = true
 is_accepted_body (Keyed size net) = true
 is_accepted_body (Identified size vertices net shells names) = true
-is_accepted_body (Lines size accepted lines) = accepted
+is_accepted_body (Lines size lines) = false
 
 abbrev pub is_accepted : Outcome → Bool
 is_accepted o = is_accepted_body o.body
+
+-- whether a block whose components are reported in these lines was accepted, and with it its lines; another one was not
+abbrev pub IsAcceptedInParts : BodyView → OutcomeBody → Bool → Type 0
+IsAcceptedInParts (Net raw) (Lines size lines) accepted = IsDividedAs raw size accepted lines
+IsAcceptedInParts body told accepted = accepted ≡ false
+
+-- whether a block of which a command reports this was accepted: but for components its outcome shows it
+abbrev pub IsAcceptedAs : Command → BodyView → OutcomeBody → Bool → Type 0
+IsAcceptedAs Components body told accepted = IsAcceptedInParts body told accepted
+IsAcceptedAs command body told accepted = accepted ≡ is_accepted_body told
+
+-- whether each of the blocks whose components are reported was accepted
+abbrev pub AreAcceptedInParts : List BlockView → List Outcome → List Bool → Type 0
+AreAcceptedInParts [] [] [] = Unit {0}
+AreAcceptedInParts (block ∷ blocks) (o ∷ os) (accepted ∷ each) = IsAcceptedInParts block.body o.body accepted × AreAcceptedInParts blocks os each
+AreAcceptedInParts blocks os each = ⊥
+
+-- and whether all of them were
+pub record AreAllInParts (blocks : List BlockView) (outcomes : List Outcome) (accepted : Bool) : Type 0 where
+  pub each : List Bool
+  pub are_each : AreAcceptedInParts blocks outcomes each
+  pub all : accepted ≡ list_all (λ (b : Bool). b) each
+
+-- whether all blocks of which a command reports these outcomes were accepted
+abbrev pub AreAllAccepted : Command → List BlockView → List Outcome → Bool → Type 0
+AreAllAccepted Components blocks outcomes accepted = AreAllInParts blocks outcomes accepted
+AreAllAccepted command blocks outcomes accepted = accepted ≡ list_all is_accepted outcomes
 
 -- the net that is reported of a block with its key alone
 abbrev pub net_told : OutcomeBody → Option KeyedNet

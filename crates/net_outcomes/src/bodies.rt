@@ -1,19 +1,22 @@
 // What a command reports on a block.
-ghost use Rattle.std.specs.Prelude.{◌≡◌, ◌≢◌, IfOk, List};
+ghost use Rattle.std.specs.Prelude.{◌≡◌, ◌≢◌, [], IfOk, List};
 ghost use Rattle.coordination.specs.Sequences.{AreSequencesOf};
 ghost use Rattle.least_key.specs.AnyNets.{net_view};
+ghost use Rattle.least_key.specs.KeyedNets.{HasKinds};
 ghost use Rattle.net_archive.specs.Archives.{IsArchive};
 ghost use Rattle.archive_text.specs.Entries.{EntryView};
 ghost use Rattle.archive_text.specs.Lookups.{names_with};
 ghost use Rattle.cgd_read.specs.Graphs.{IsReadGraph};
 ghost use Rattle.cgd_read.specs.Views.{Net as ReadNet, body_view, raw_view};
 ghost use Rattle.cgd_read.specs.Blocks.{IsReadBody};
-ghost use Rattle.net_outcomes.specs.Outcomes.{size_of, IsBodyOf, IsKeyedAs};
+ghost use Rattle.net_report.specs.KindsTold.{AreKindsTold};
+ghost use Rattle.net_outcomes.specs.Outcomes.{size_of, is_accepted_body, IsAcceptedAs, IsBodyOf, IsKeyedAs};
 
+use crate::accepted::is_accepted;
 use crate::tell_components;
 use cgd_read::{Block, Body, Names, RawGraph};
 use coordination::Sequences;
-use least_key::{Net, Refusal, check_any, identify, place_any};
+use least_key::{KindedNet, Kinds, Net, Refusal, check_any, identify_with_kinds, place_any};
 use net_archive::Archive;
 use net_report::{Command, NoMemory, OutcomeBody, Size};
 use quotient_graph::from_raw;
@@ -46,8 +49,8 @@ fn refused_body<'a>(raw: &RawGraph<'a>, refusal: Refusal) -> Result<OutcomeBody<
 
 fn check_net<'a>(alloc: Global, raw: &RawGraph<'a>) -> Result<OutcomeBody<'a>, NoMemory>
     requires { IsReadGraph (raw_view raw.now) }
-    ensures { (entries : List EntryView) →
-        IfOk result (IsBodyOf entries Command.Check (ReadNet (raw_view raw.now))) }
+    ensures { IfOk result (λ body. (entries : List EntryView) →
+        IsBodyOf entries Command.Check (ReadNet (raw_view raw.now)) body) }
 {
     let graph = from_raw(alloc, raw)?;
     match check_any(alloc, graph) {
@@ -58,8 +61,8 @@ fn check_net<'a>(alloc: Global, raw: &RawGraph<'a>) -> Result<OutcomeBody<'a>, N
 
 fn place_net<'a>(alloc: Global, raw: &RawGraph<'a>) -> Result<OutcomeBody<'a>, NoMemory>
     requires { IsReadGraph (raw_view raw.now) }
-    ensures { (entries : List EntryView) →
-        IfOk result (IsBodyOf entries Command.Place (ReadNet (raw_view raw.now))) }
+    ensures { IfOk result (λ body. (entries : List EntryView) →
+        IsBodyOf entries Command.Place (ReadNet (raw_view raw.now)) body) }
 {
     let graph = from_raw(alloc, raw)?;
     match place_any(alloc, graph) {
@@ -68,15 +71,20 @@ fn place_net<'a>(alloc: Global, raw: &RawGraph<'a>) -> Result<OutcomeBody<'a>, N
     }
 }
 
-fn key_net<'a>(alloc: Global, raw: &RawGraph<'a>) -> Result<OutcomeBody<'a>, NoMemory>
+// What `key` reports on a net, and kinds of its classes.
+fn key_net<'a>(alloc: Global, raw: &RawGraph<'a>) -> Result<(OutcomeBody<'a>, Kinds), NoMemory>
     requires { IsReadGraph (raw_view raw.now) }
-    ensures { (entries : List EntryView) →
-        IfOk result (IsBodyOf entries Command.Key (ReadNet (raw_view raw.now))) }
+    ensures told { IfOk result (λ keyed. (entries : List EntryView) →
+        IsBodyOf entries Command.Key (ReadNet (raw_view raw.now)) keyed.0) }
+    ensures kinds { IfOk result (λ keyed. AreKindsTold keyed.0 keyed.1) }
 {
     let graph = from_raw(alloc, raw)?;
-    match identify(alloc, graph) {
-        Ok(net) => Ok(OutcomeBody::Keyed(size_of(raw), net)),
-        Err(refusal) => refused_body(raw, refusal),
+    match identify_with_kinds(alloc, graph) {
+        Ok(KindedNet { net, kinds }) => Ok((OutcomeBody::Keyed(size_of(raw), net), kinds)),
+        Err(refusal) => {
+            let body = refused_body(raw, refusal)?;
+            Ok((body, Kinds::new(alloc)))
+        }
     }
 }
 
@@ -99,17 +107,18 @@ fn lists_of<'a>(
     alloc: Global,
     archive: &'a Archive,
     raw: &RawGraph<'a>,
-    net: &Net,
+    found: &KindedNet,
 ) -> Result<(Names<'a>, Sequences, Names<'a>), NoMemory>
+    requires { HasKinds (net_view found.now.net) found.now.kinds }
     ensures vertices { IfOk result (λ lists. lists.0 ≡ raw.now.names) }
     ensures shells { IfOk result (λ lists.
-        AreSequencesOf (net_view net.now).placed.graph lists.1) }
+        AreSequencesOf (net_view found.now.net).placed.graph lists.1) }
     ensures names { IfOk result (λ lists.
-        lists.2 ≡ names_with (net_view net.now).key archive.now.entries) }
+        lists.2 ≡ names_with (net_view found.now.net).key archive.now.entries) }
     ensures archive { IsArchive archive.now }
 {
-    let names = names_for(alloc, archive, net)?;
-    let shells = net.sequences(alloc)?;
+    let names = names_for(alloc, archive, &found.net)?;
+    let shells = found.net.sequences(alloc, &found.kinds)?;
     let vertices = raw.names.copy()?;
     Ok((vertices, shells, names))
 }
@@ -119,21 +128,16 @@ fn identified_body<'a>(
     alloc: Global,
     archive: &'a Archive,
     raw: &RawGraph<'a>,
-    net: Net,
+    found: KindedNet,
 ) -> Result<OutcomeBody<'a>, NoMemory>
     requires read { IsReadGraph (raw_view raw.now) }
-    requires keyed { IsKeyedAs (raw_view raw.now) (size_of (raw_view raw.now)) net }
+    requires keyed { IsKeyedAs (raw_view raw.now) (size_of (raw_view raw.now)) found.net }
+    requires kinds { HasKinds (net_view found.net) found.kinds }
     ensures { IfOk result (IsBodyOf archive.now.entries Command.Identify
         (ReadNet (raw_view raw.now))) }
 {
-    let (vertices, shells, names) = lists_of(alloc, archive, raw, &net)?;
-    Ok(OutcomeBody::Identified {
-        size: size_of(raw),
-        vertices,
-        net,
-        shells,
-        names,
-    })
+    let (vertices, shells, names) = lists_of(alloc, archive, raw, &found)?;
+    Ok(OutcomeBody::Identified(size_of(raw), vertices, found.net, shells, names))
 }
 
 fn identify_net<'a>(
@@ -146,46 +150,80 @@ fn identify_net<'a>(
         (ReadNet (raw_view raw.now))) }
 {
     let graph = from_raw(alloc, raw)?;
-    match identify(alloc, graph) {
-        Ok(net) => identified_body(alloc, archive, raw, net),
+    match identify_with_kinds(alloc, graph) {
+        Ok(found) => identified_body(alloc, archive, raw, found),
         Err(refusal) => refused_body(raw, refusal),
     }
 }
 
-// What is reported of the components of a net.
-fn components_net<'a>(alloc: Global, raw: &RawGraph<'a>) -> Result<OutcomeBody<'a>, NoMemory>
+// What is reported of the components of a net, and whether it is accepted.
+fn components_net<'a>(
+    alloc: Global,
+    raw: &RawGraph<'a>,
+) -> Result<(OutcomeBody<'a>, bool), NoMemory>
     requires { IsReadGraph (raw_view raw.now) }
-    ensures { (entries : List EntryView) →
-        IfOk result (IsBodyOf entries Command.Components (ReadNet (raw_view raw.now))) }
+    ensures told { IfOk result (λ judged. (entries : List EntryView) →
+        IsBodyOf entries Command.Components (ReadNet (raw_view raw.now)) judged.0) }
+    ensures accepted { IfOk result (λ judged.
+        IsAcceptedAs Command.Components (ReadNet (raw_view raw.now)) judged.0 judged.1) }
 {
     let graph = from_raw(alloc, raw)?;
     let told = tell_components(alloc, &raw.names, &graph)?;
-    Ok(OutcomeBody::Lines {
-        size: size_of(raw),
-        accepted: told.accepted,
-        lines: told.lines,
-    })
+    let body = OutcomeBody::Lines(size_of(raw), told.lines);
+    Ok((body, told.accepted))
 }
 
-/// What a command reports on a block, beside an archive.
+// What is reported of a block, and what it shows of whether the block is accepted.
+fn judged<'a>(body: OutcomeBody<'a>) -> (OutcomeBody<'a>, bool)
+    ensures body { result.0 ≡ body.entry }
+    ensures accepted { result.1 ≡ is_accepted_body body.entry }
+{
+    let accepted = is_accepted(&body);
+    (body, accepted)
+}
+
+/// What a command reports on a block, beside an archive, and whether the block is accepted.
 pub fn body_of<'a>(
     alloc: Global,
     command: Command,
     archive: &'a Archive,
     block: &Block<'a>,
-) -> Result<OutcomeBody<'a>, NoMemory>
+) -> Result<(OutcomeBody<'a>, bool), NoMemory>
     requires { IsReadBody block.now.body }
-    ensures { IfOk result (IsBodyOf archive.now.entries command (body_view block.now.body)) }
+    ensures told { IfOk result (λ judged.
+        IsBodyOf archive.now.entries command (body_view block.now.body) judged.0) }
+    ensures accepted { IfOk result (λ judged.
+        IsAcceptedAs command (body_view block.now.body) judged.0 judged.1) }
 {
     match &block.body {
         Body::Graph(raw) => match command {
-            Command::Check => check_net(alloc, raw),
-            Command::Place => place_net(alloc, raw),
-            Command::Key => key_net(alloc, raw),
-            Command::Identify => identify_net(alloc, archive, raw),
+            Command::Check => Ok(judged(check_net(alloc, raw)?)),
+            Command::Place => Ok(judged(place_net(alloc, raw)?)),
+            Command::Key => {
+                let (body, _) = key_net(alloc, raw)?;
+                Ok(judged(body))
+            }
+            Command::Identify => Ok(judged(identify_net(alloc, archive, raw)?)),
             Command::Components => components_net(alloc, raw),
         },
-        Body::Unsupported(token) => Ok(OutcomeBody::Unsupported(token)),
-        Body::Malformed(fault) => Ok(OutcomeBody::Malformed(*fault)),
+        Body::Unsupported(token) => Ok((OutcomeBody::Unsupported(token), false)),
+        Body::Malformed(fault) => Ok((OutcomeBody::Malformed(*fault), false)),
+    }
+}
+
+/// What `key` reports on a block, and kinds of the classes of its net, where it has one.
+pub fn keyed_body_of<'a>(
+    alloc: Global,
+    block: &Block<'a>,
+) -> Result<(OutcomeBody<'a>, Kinds), NoMemory>
+    requires { IsReadBody block.now.body }
+    ensures told { IfOk result (λ keyed.
+        IsBodyOf [] Command.Key (body_view block.now.body) keyed.0) }
+    ensures kinds { IfOk result (λ keyed. AreKindsTold keyed.0 keyed.1) }
+{
+    match &block.body {
+        Body::Graph(raw) => key_net(alloc, raw),
+        Body::Unsupported(token) => Ok((OutcomeBody::Unsupported(token), Kinds::new(alloc))),
+        Body::Malformed(fault) => Ok((OutcomeBody::Malformed(*fault), Kinds::new(alloc))),
     }
 }

@@ -1,17 +1,25 @@
 // The outcome of each block of a text for a command.
-ghost use Rattle.std.specs.Prelude.{◌≡◌, ◌≤◌, All, IfOk, length};
-ghost use Rattle.std.specs.List.{list_all};
-ghost use Rattle.cgd_read.specs.Views.{block_view, views};
+ghost use Rattle.std.specs.Prelude.{◌≡◌, ◌≤◌, [], All, IfOk, length};
+ghost use Rattle.cgd_read.specs.Views.{block_view, body_view, views};
 ghost use Rattle.cgd_read.specs.Blocks.{IsReadBody, most_blocks};
+ghost use Rattle.net_report.specs.KindsTold.{AreKindsOfAll, AreKindsTold};
 ghost use Rattle.net_report.specs.Reports.{IsPrintable};
 ghost use Rattle.net_outcomes.specs.Deciding.{AreOutcomes};
-ghost use Rattle.net_outcomes.specs.Outcomes.{IsOutcomeOf, is_accepted_body, is_accepted};
+ghost use Rattle.net_outcomes.specs.Outcomes.{IsAcceptedAs, IsOutcomeOf};
 
-use crate::bodies::body_of;
+use crate::bodies::{body_of, keyed_body_of};
 use cgd_read::Block;
+use least_key::Kinds;
 use net_archive::Archive;
-use net_report::{Command, NoMemory, Outcome, OutcomeBody, Outcomes};
+use net_report::{Command, KeyedOutcomes, NoMemory, Outcome};
 use std::alloc::Global;
+
+/// The outcome of a block, and whether the block was accepted.
+#[derive(Drop)]
+pub struct JudgedOutcome<'a> {
+    pub outcome: Outcome<'a>,
+    pub accepted: bool,
+}
 
 /// What a command reports on the block with this number, beside an archive.
 pub fn outcome_of<'a>(
@@ -20,63 +28,62 @@ pub fn outcome_of<'a>(
     archive: &'a Archive,
     number: u32,
     block: &Block<'a>,
-) -> Result<Outcome<'a>, NoMemory>
+) -> Result<JudgedOutcome<'a>, NoMemory>
     requires { IsReadBody block.now.body }
-    ensures outcome { IfOk result
-        (IsOutcomeOf archive.now.entries command number (block_view block.now)) }
-    ensures printable { IfOk result IsPrintable }
+    ensures outcome { IfOk result (λ judged. IsOutcomeOf archive.now.entries command number
+        (block_view block.now) judged.outcome) }
+    ensures accepted { IfOk result (λ judged. IsAcceptedAs command (body_view block.now.body)
+        judged.outcome.body judged.accepted) }
+    ensures printable { IfOk result (λ judged. IsPrintable judged.outcome) }
 {
-    let body = body_of(alloc, command, archive, block)?;
-    Ok(Outcome {
+    let (body, accepted) = body_of(alloc, command, archive, block)?;
+    let outcome = Outcome {
         number,
         line: block.line,
         name: block.name,
         body,
-    })
+    };
+    Ok(JudgedOutcome { outcome, accepted })
 }
 
-/// What a command reports on each block, beside an archive. All outcomes stand in memory.
-pub fn outcomes_of<'a>(
+// What `key` reports on the block with this number, and kinds of the classes of its net.
+fn keyed_outcome_of<'a>(
     alloc: Global,
-    command: Command,
-    archive: &'a Archive,
-    found: &[Block<'a>],
-) -> Result<Outcomes<'a>, NoMemory>
+    number: u32,
+    block: &Block<'a>,
+) -> Result<(Outcome<'a>, Kinds), NoMemory>
+    requires { IsReadBody block.now.body }
+    ensures outcome { IfOk result (λ keyed.
+        IsOutcomeOf [] Command.Key number (block_view block.now) keyed.0) }
+    ensures kinds { IfOk result (λ keyed. AreKindsTold keyed.0.body keyed.1) }
+    ensures printable { IfOk result (λ keyed. IsPrintable keyed.0) }
+{
+    let (body, kinds) = keyed_body_of(alloc, block)?;
+    let outcome = Outcome {
+        number,
+        line: block.line,
+        name: block.name,
+        body,
+    };
+    Ok((outcome, kinds))
+}
+
+/// What `key` reports on each block, and kinds of the classes of each net. All outcomes stand in
+/// memory.
+pub fn outcomes_of<'a>(alloc: Global, found: &[Block<'a>]) -> Result<KeyedOutcomes<'a>, NoMemory>
     requires graphs { All (λ block. IsReadBody block.body) found.now }
     requires few { length found.now ≤ most_blocks }
-    ensures outcomes { IfOk result (AreOutcomes command archive.now.entries (views found.now)) }
-    ensures printable { IfOk result (All IsPrintable) }
+    ensures outcomes { IfOk result (λ keyed.
+        AreOutcomes Command.Key [] (views found.now) keyed.outcomes) }
+    ensures kinds { IfOk result (λ keyed. AreKindsOfAll keyed.outcomes keyed.kinds.items) }
+    ensures printable { IfOk result (λ keyed. All IsPrintable keyed.outcomes) }
 {
-    let _ = archive.entries(); // that each has the key of its graph stands in this contract
-    let mut outcomes = Outcomes::new(alloc);
+    let mut keyed = KeyedOutcomes::new(alloc);
     let mut number = 1u32;
     for block in found {
-        outcomes.push(outcome_of(alloc, command, archive, number, block)?)?;
+        let (outcome, kinds) = keyed_outcome_of(alloc, number, block)?;
+        keyed.push(outcome, kinds)?;
         number += 1;
     }
-    Ok(outcomes)
-}
-
-/// Whether the block was accepted.
-pub fn is_accepted(body: &OutcomeBody<'_>) -> bool
-    ensures { result ≡ is_accepted_body body.now }
-{
-    match body {
-        OutcomeBody::Unsupported(_)
-        | OutcomeBody::Malformed(_)
-        | OutcomeBody::Faulty { .. }
-        | OutcomeBody::Refused(_, _, _) => false,
-        OutcomeBody::Lines { accepted, .. } => *accepted,
-        _ => true,
-    }
-}
-
-/// Whether each block was accepted.
-pub fn are_accepted(outcomes: &Outcomes<'_>) -> bool
-    ensures { result ≡ list_all is_accepted outcomes.now }
-{
-    outcomes
-        .as_slice()
-        .iter()
-        .all(|outcome| is_accepted(&outcome.body))
+    Ok(keyed)
 }

@@ -1,15 +1,13 @@
 // The report on the blocks of a text, which are reported one by one.
-ghost use Rattle.std.specs.Prelude.{◌≡◌, ◌≤◌, ◌++◌, All, IfOk, OnOk, length};
+ghost use Rattle.std.specs.Prelude.{◌≤◌, All, IfOk, length};
 ghost use Rattle.cgd_read.specs.Views.{block_view, views};
 ghost use Rattle.cgd_read.specs.Blocks.{IsReadBody, most_blocks};
-ghost use Rattle.net_report.specs.Reports.{IsPrintable, outcome_text};
-ghost use Rattle.net_outcomes.specs.Outcomes.{is_accepted};
 ghost use Rattle.net_outcomes.specs.Reports.{IsReport, IsBlockTold};
 
-use crate::outcomes::{is_accepted, outcome_of};
+use crate::outcomes::outcome_of;
 use cgd_read::Block;
 use net_archive::Archive;
-use net_report::{Command, NoMemory, Outcome, push_outcome};
+use net_report::{Command, NoMemory, push_outcome};
 use std::alloc::Global;
 
 /// The texts of the outcomes of blocks, one after the other, and whether each block was accepted.
@@ -19,17 +17,8 @@ pub struct Told {
     pub all_accepted: bool,
 }
 
-// Puts the text of an outcome last, and shows whether its block was accepted.
-fn tell_outcome(text: &mut Vec<u8>, outcome: &Outcome<'_>) -> Result<bool, NoMemory>
-    requires { IsPrintable outcome.now }
-    ensures text { OnOk result (text.new.items ≡ text.old.items ++ outcome_text outcome.now) }
-    ensures accepted { IfOk result (λ accepted. accepted ≡ is_accepted outcome.now) }
-{
-    push_outcome(text, outcome)?;
-    Ok(is_accepted(&outcome.body))
-}
-
-// The same of the block with this number, for a command, beside an archive. The outcome is let go.
+// Puts the text of the outcome of the block with this number last, for a command, beside an
+// archive, and shows whether the block was accepted. The outcome is let go.
 fn tell_block(
     text: &mut Vec<u8>,
     command: Command,
@@ -41,10 +30,12 @@ fn tell_block(
     ensures { IfOk result (λ accepted. IsBlockTold archive.now.entries command number
         (block_view block.now) accepted text.old.items text.new.items) }
 {
-    let outcome = outcome_of(*text.allocator(), command, archive, number, block)?;
-    let told = tell_outcome(text, &outcome);
-    drop(outcome);
-    told
+    let judged = outcome_of(*text.allocator(), command, archive, number, block)?;
+    let accepted = judged.accepted;
+    let pushed = push_outcome(text, &judged.outcome);
+    drop(judged);
+    pushed?;
+    Ok(accepted)
 }
 
 /// Writes what a command reports on each block, beside an archive. An outcome is let go once its

@@ -2,6 +2,7 @@ pub mod Headers
 pub mod Identified
 pub mod Keys
 pub mod KindNames
+pub mod KindsTold
 pub mod Numbers
 pub mod Placements
 pub mod Primitives

@@ -21,7 +21,7 @@ body_text (Checked size) = size_text size ++ codes "connected\n"
 body_text (Located size names placed) = size_text size ++ placement_text names (placed_view placed)
 body_text (Keyed size net) = size_text size ++ key_text (net_view net).key
 body_text (Identified size vertices net shells names) = size_text size ++ identified_text vertices (net_view net) shells names
-body_text (Lines size accepted lines) = size_text size ++ lines
+body_text (Lines size lines) = size_text size ++ lines
 
 -- the header, and the lines after it
 abbrev pub outcome_text : Outcome → List ℕ
@@ -42,7 +42,7 @@ IsPrintableBody (Checked size) = Unit {0}
 IsPrintableBody (Located size names placed) = length names ≡ (placed_view placed).graph.vertices
 IsPrintableBody (Keyed size net) = Unit {0}
 IsPrintableBody (Identified size vertices net shells names) = length vertices ≡ (net_view net).placed.graph.vertices
-IsPrintableBody (Lines size accepted lines) = Unit {0}
+IsPrintableBody (Lines size lines) = Unit {0}
 
 -- an outcome has a text
 abbrev pub IsPrintable : Outcome → Type 0

@@ -36,19 +36,9 @@ pub enum OutcomeBody<'a> {
     /// The net has a key.
     Keyed(Size, Net),
     /// The net has a key, these coordination sequences, and these names in an archive.
-    Identified {
-        size: Size,
-        vertices: Names<'a>,
-        net: Net,
-        shells: Sequences,
-        names: Names<'a>,
-    },
-    /// The graph has these lines after its sizes, and is accepted or not.
-    Lines {
-        size: Size,
-        accepted: bool,
-        lines: Items<u8>,
-    },
+    Identified(Size, Names<'a>, Net, Sequences, Names<'a>),
+    /// The graph has these lines after its sizes. Whether it is accepted they do not show.
+    Lines(Size, Items<u8>),
 }
 
 /// What is reported of a block: its number, the line that opens it, and its name.

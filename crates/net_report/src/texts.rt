@@ -39,17 +39,11 @@ fn push_body(text: &mut Vec<u8>, body: &OutcomeBody<'_>) -> Result<(), NoMemory>
             push_size(text, *size)?;
             push_key(text, net.key())
         }
-        OutcomeBody::Identified {
-            size,
-            vertices,
-            net,
-            shells,
-            names,
-        } => {
+        OutcomeBody::Identified(size, vertices, net, shells, names) => {
             push_size(text, *size)?;
             push_identified(text, vertices, net, shells, names)
         }
-        OutcomeBody::Lines { size, lines, .. } => {
+        OutcomeBody::Lines(size, lines) => {
             push_size(text, *size)?;
             text.extend_from_slice(lines.as_slice())
         }

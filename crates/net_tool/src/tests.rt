@@ -12,6 +12,11 @@ use std::test::Fail;
 
 const HCB: &str = "PERIODIC_GRAPH\nNAME hcb\nEDGES\n1 2 0 0\n1 2 1 0\n1 2 0 1\nEND\n";
 
+const SQL: &str = "PERIODIC_GRAPH\nNAME sql\nEDGES\n1 1 1 0\n1 1 0 1\nEND\n";
+
+const SQL_KEY_REPORT: &str =
+    "net 1 line 1 \"sql\"\ngraph d=2 vertices=1 edges=2 repeats=0\nkey 2 1 1 1 1 0 1 1 1 1 0\n";
+
 const DIA: &str =
     "PERIODIC_GRAPH\nNAME dia\nEDGES\n1 2 0 0 0\n1 2 1 0 0\n1 2 0 1 0\n1 2 0 0 1\nEND\n";
 
@@ -70,14 +75,15 @@ fn run_over(
     Ok((status, out))
 }
 
-// A run over two files of the same bytes, `net` and `--`.
+// A run over three files of the same bytes, `net`, `--` and `-x`.
 fn run_on(
     alloc: Global,
     words: &[&str],
     bytes: &[u8],
     faults: &Faults<'_>,
 ) -> Result<(Status, MemorySink), Fail> {
-    run_over(alloc, words, &[("net", bytes), ("--", bytes)], faults)
+    let files = [("net", bytes), ("--", bytes), ("-x", bytes)];
+    run_over(alloc, words, &files, faults)
 }
 
 const NO_FAULTS: Faults<'static> = Faults {

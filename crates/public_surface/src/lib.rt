@@ -3,9 +3,12 @@
 //! and a match has all cases of its enum. So an item that changes does not pass the check.
 #![tactic(auto)]
 
+pub mod archives;
 pub mod files;
 pub mod frames;
 pub mod graphs;
+pub mod nets;
 pub mod numbers;
+pub mod reports;
 pub mod staircases;
 pub mod vectors;

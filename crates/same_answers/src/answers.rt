@@ -1,5 +1,5 @@
 // The answer to `same`: the maps from the first net to the others, or the report on the blocks.
-ghost use Rattle.std.specs.Prelude.{◌≡◌, ◌≤◌, [], All, IfOk, length};
+ghost use Rattle.std.specs.Prelude.{◌≤◌, All, IfOk, length};
 ghost use Rattle.cgd_read.specs.Blocks.{IsReadBody, most_blocks};
 ghost use Rattle.cgd_read.specs.Views.{views};
 ghost use Rattle.same_answers.specs.Due.{IsSameAs};
@@ -8,30 +8,9 @@ use crate::NoMemory;
 use crate::nets::nets_told;
 use cgd_read::Block;
 use net_certificate::maps_text_of;
-use net_outcomes::{Archive, are_accepted, outcomes_of, report};
-use net_report::{Answer, Command, Status};
+use net_outcomes::{are_accepted, outcomes_of, report};
+use net_report::{Answer, Status};
 use std::alloc::Global;
-
-// The same, beside an archive without entries.
-fn same_beside(alloc: Global, none: &Archive, found: &[Block<'_>]) -> Result<Answer, NoMemory>
-    requires empty { none.now.entries ≡ [] }
-    requires graphs { All (λ block. IsReadBody block.body) found.now }
-    requires few { length found.now ≤ most_blocks }
-    ensures { IfOk result (λ a. IsSameAs (views found.now) a.status a.text.items) }
-{
-    let outcomes = outcomes_of(alloc, Command::Key, none, found)?;
-    if !are_accepted(&outcomes) {
-        return Ok(Answer {
-            status: Status::SomeRefused,
-            text: report(alloc, &outcomes)?,
-        });
-    }
-    let nets = nets_told(alloc, outcomes.as_slice())?;
-    Ok(Answer {
-        status: Status::Done,
-        text: maps_text_of(alloc, nets.as_slice())?,
-    })
-}
 
 /// The text of the maps from the net of the first block to those of the others, or the report on
 /// the blocks where one of them is not accepted. The key of each block is sought once.
@@ -40,6 +19,16 @@ pub fn same_blocks(alloc: Global, found: &[Block<'_>]) -> Result<Answer, NoMemor
     requires few { length found.now ≤ most_blocks }
     ensures { IfOk result (λ a. IsSameAs (views found.now) a.status a.text.items) }
 {
-    let none = Archive::empty(alloc);
-    same_beside(alloc, &none, found)
+    let keyed = outcomes_of(alloc, found)?;
+    if !are_accepted(&keyed.outcomes) {
+        return Ok(Answer {
+            status: Status::SomeRefused,
+            text: report(alloc, &keyed.outcomes)?,
+        });
+    }
+    let nets = nets_told(alloc, keyed.outcomes.as_slice())?;
+    Ok(Answer {
+        status: Status::Done,
+        text: maps_text_of(alloc, nets.as_slice())?,
+    })
 }

@@ -1,6 +1,5 @@
 -- What is reported of the graph of a key.
-use Rattle.std.proofs.Common.{◌≡◌, ◌≢◌, ℕ, [], map, Result, Ok, Err, refl, sym, subst, ◌∙◌}
-use Rattle.std.specs.Prelude.{IfOk}
+use Rattle.std.proofs.Common.{◌≡◌, ◌≢◌, ℕ, [], map, refl, sym, subst, ◌∙◌}
 use Rattle.std.proofs.lemmas.List.{length-map}
 use Rattle.std.proofs.lemmas.List.Sorted.{length_permutation}
 use Rattle.periodic_net.specs.Graph.{Graph, IsGraph}
@@ -45,7 +44,6 @@ module _ (graph : AnyGraph) (repeats : ℕ) (size : Size) (sizes : size ≡ size
   refused_told refusal t known (FaultyView fault) b = absurd b
 
   -- so is a refusal
-  pub refused_as : {E : Type 0} (refusal : Refusal) (r : Result OutcomeBody E) → IsTrueOf (graph_view graph) refusal → IfOk r (λ body. body ≡ Refused size [] refusal) → IfOk r (λ body. refusal ≢ NoMemory)
-      → IfOk r (λ body. (view : BodyView) → IsBodyOf view (ItemGraph graph repeats) → IsItemBodyOf view body)
-  refused_as refusal (Ok body) t e known = λ view b. subst (IsItemBodyOf view) (sym e) (refused_told refusal t known view b)
-  refused_as refusal (Err d) t e known = e
+  pub refused_as : (refusal : Refusal) (body : OutcomeBody) → IsTrueOf (graph_view graph) refusal → body ≡ Refused size [] refusal → refusal ≢ NoMemory
+      → (view : BodyView) → IsBodyOf view (ItemGraph graph repeats) → IsItemBodyOf view body
+  refused_as refusal body t e known view b = subst (IsItemBodyOf view) (sym e) (refused_told refusal t known view b)

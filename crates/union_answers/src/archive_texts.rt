@@ -6,7 +6,7 @@ ghost use Rattle.union_answers.specs.ArchiveTexts.{add_fault_name, add_fault_tex
 
 use crate::NoMemory;
 use line_text::push_field;
-use net_archive::{AddFault, Entry, Groups};
+use net_archive::{AddFault, Entry};
 use net_report::push_quoted;
 use std::alloc::Global;
 
@@ -83,12 +83,17 @@ fn push_groups(text: &mut Vec<u8>, entries: &[Entry], groups: &[Vec<u32>]) -> Re
 }
 
 /// How many entries there are, and the names of the entries of each group.
-pub fn groups_text(alloc: Global, entries: &[Entry], groups: &Groups) -> Result<Vec<u8>, NoMemory>
-    ensures { IfOk result (λ text. text.items ≡ groups_text (entry_views entries.now) groups.now) }
+pub fn groups_text(
+    alloc: Global,
+    entries: &[Entry],
+    groups: &[Vec<u32>],
+) -> Result<Vec<u8>, NoMemory>
+    ensures { IfOk result (λ text.
+        text.items ≡ groups_text (entry_views entries.now) (numbers_in groups.now)) }
 {
     let mut text = Vec::new(alloc);
     push_field(&mut text, b"entries ", entries.len() as u64)?;
     text.extend_from_slice(b"\n")?;
-    push_groups(&mut text, entries, groups.as_slice())?;
+    push_groups(&mut text, entries, groups)?;
     Ok(text)
 }

@@ -3,43 +3,54 @@ ghost use Rattle.std.specs.Prelude.{◌≡◌, ◌≤◌, List, All, IfOk, lengt
 ghost use Rattle.std.specs.List.{list_all};
 ghost use Rattle.keyline_import.specs.Items.{ItemView, most_items};
 ghost use Rattle.keyline_import.specs.Views.{AreRead, IsItemRead};
+ghost use Rattle.net_report.specs.KindsTold.{AreKindsOfAll, AreKindsTold};
 ghost use Rattle.net_report.specs.Reports.{IsPrintable};
 ghost use Rattle.union_answers.specs.Outcomes.{AreItemOutcomesFrom, IsItemOutcomeOf, is_accepted, is_accepted_body};
 
 use crate::bodies::body_of;
 use keyline_import::Item;
-use net_report::{NoMemory, Outcome, OutcomeBody, Outcomes};
+use least_key::Kinds;
+use net_report::{KeyedOutcomes, NoMemory, Outcome, OutcomeBody, Outcomes};
 use std::alloc::Global;
 
-// What is reported of the item with this number.
-fn outcome_of<'a>(alloc: Global, number: u32, item: Item<'a>) -> Result<Outcome<'a>, NoMemory>
-    ensures outcome { IfOk result (λ outcome. (view : ItemView) →
-        IsItemRead view item.entry → IsItemOutcomeOf number view outcome) }
-    ensures printable { IfOk result IsPrintable }
+// What is reported of the item with this number, and kinds of the classes of its net.
+fn outcome_of<'a>(
+    alloc: Global,
+    number: u32,
+    item: Item<'a>,
+) -> Result<(Outcome<'a>, Kinds), NoMemory>
+    ensures outcome { IfOk result (λ keyed. (view : ItemView) →
+        IsItemRead view item.entry → IsItemOutcomeOf number view keyed.0) }
+    ensures kinds { IfOk result (λ keyed. AreKindsTold keyed.0.body keyed.1) }
+    ensures printable { IfOk result (λ keyed. IsPrintable keyed.0) }
 {
-    let body = body_of(alloc, item.body)?;
-    Ok(Outcome {
+    let (body, kinds) = body_of(alloc, item.body)?;
+    let outcome = Outcome {
         number,
         line: item.line,
         name: item.name,
         body,
-    })
+    };
+    Ok((outcome, kinds))
 }
 
-/// What is reported of each item. All outcomes stand in memory.
-pub fn outcomes_of<'a>(alloc: Global, items: Vec<Item<'a>>) -> Result<Outcomes<'a>, NoMemory>
+/// What is reported of each item, and kinds of the classes of each net. All outcomes stand in
+/// memory.
+pub fn outcomes_of<'a>(alloc: Global, items: Vec<Item<'a>>) -> Result<KeyedOutcomes<'a>, NoMemory>
     requires { length items.items ≤ most_items }
-    ensures outcomes { IfOk result (λ outcomes. (views : List ItemView) →
-        AreRead views items.entry.items → AreItemOutcomesFrom 1 views outcomes) }
-    ensures printable { IfOk result (All IsPrintable) }
+    ensures outcomes { IfOk result (λ keyed. (views : List ItemView) →
+        AreRead views items.entry.items → AreItemOutcomesFrom 1 views keyed.outcomes) }
+    ensures kinds { IfOk result (λ keyed. AreKindsOfAll keyed.outcomes keyed.kinds.items) }
+    ensures printable { IfOk result (λ keyed. All IsPrintable keyed.outcomes) }
 {
-    let mut outcomes = Outcomes::new(alloc);
+    let mut keyed = KeyedOutcomes::new(alloc);
     let mut number = 1u32;
     for item in items {
-        outcomes.push(outcome_of(alloc, number, item)?)?;
+        let (outcome, kinds) = outcome_of(alloc, number, item)?;
+        keyed.push(outcome, kinds)?;
         number += 1;
     }
-    Ok(outcomes)
+    Ok(keyed)
 }
 
 // Whether the item was accepted.

@@ -102,18 +102,18 @@ fn unite_items(alloc: Global, file: &[u8], archive: Option<Vec<u8>>) -> Result<A
             });
         }
     };
-    let outcomes = outcomes_of(alloc, found)?;
-    if !are_accepted(&outcomes) {
+    let keyed = outcomes_of(alloc, found)?;
+    if !are_accepted(&keyed.outcomes) {
         drop(archive);
-        let text = report(alloc, &outcomes);
-        drop(outcomes);
+        let text = report(alloc, &keyed.outcomes);
+        drop(keyed);
         return Ok(Answer {
             status: Status::SomeRefused,
             text: text?,
         });
     }
-    let entries = entries_of(alloc, outcomes.as_slice());
-    drop(outcomes);
+    let entries = entries_of(alloc, keyed.outcomes.as_slice(), &keyed.kinds);
+    drop(keyed);
     let entries = entries?;
     Ok(unite_entries(alloc, archive, entries)?)
 }

@@ -1,5 +1,5 @@
 // All that is reported of a net: its placement, primitive graph, key, sequences and names.
-use super::{DIA_ARCHIVE, HCB, Row, SODALITE};
+use super::{DIA_ARCHIVE, HCB, PCU, Row, SODALITE};
 use net_report::Status;
 
 // The coordination sequences are the published ones of these nets.
@@ -27,6 +27,14 @@ pub const IDENTIFIED: &[Row] = &[
         archive: DIA_ARCHIVE,
         status: Status::Done,
         written: "net 1 line 1 \"dia\"\ngraph d=3 vertices=2 edges=4 repeats=0\nplacement D0=4\nat 1 0 0 0\nat 2 -1 -1 -1\nprimitive vertices=2 edges=4\nbasis 4 0 0\nbasis 0 4 0\nbasis 0 0 4\nedge 1 2 0 0 0\nedge 1 2 0 0 1\nedge 1 2 0 1 0\nedge 1 2 1 0 0\nkey 3 2 1 1 2 -1 -1 -1 1 2 0 0 1 1 2 0 1 0 1 2 1 0 0\nshells 1 4 12 24 42 64 92 124 162 204 252\nshells 2 4 12 24 42 64 92 124 162 204 252\nnames 1\nname \"dia\"\nnet 2 line 9 \"tilted\"\ngraph d=3 vertices=2 edges=4 repeats=0\nplacement D0=4\nat 4 0 0 0\nat 7 2 2 1\nprimitive vertices=2 edges=4\nbasis 4 0 0\nbasis 0 4 0\nbasis 0 0 4\nedge 1 2 -1 -1 0\nedge 1 2 -1 0 0\nedge 1 2 0 -1 -1\nedge 1 2 0 0 0\nkey 3 2 1 1 2 -1 -1 -1 1 2 0 0 1 1 2 0 1 0 1 2 1 0 0\nshells 1 4 12 24 42 64 92 124 162 204 252\nshells 2 4 12 24 42 64 92 124 162 204 252\nnames 1\nname \"dia\"\nnet 3 line 17 \"again\"\ngraph d=3 vertices=2 edges=4 repeats=1\nplacement D0=4\nat 1 0 0 0\nat 2 -1 -1 -1\nprimitive vertices=2 edges=4\nbasis 4 0 0\nbasis 0 4 0\nbasis 0 0 4\nedge 1 2 0 0 0\nedge 1 2 0 0 1\nedge 1 2 0 1 0\nedge 1 2 1 0 0\nkey 3 2 1 1 2 -1 -1 -1 1 2 0 0 1 1 2 0 1 0 1 2 1 0 0\nshells 1 4 12 24 42 64 92 124 162 204 252\nshells 2 4 12 24 42 64 92 124 162 204 252\nnames 1\nname \"dia\"\n",
+    },
+    // a net that has two names
+    Row {
+        words: &["identify", "--archive", "archive", "net"],
+        net: PCU,
+        archive: "net_archive 1\nentry \"pcu\"\ngraph 3 1 3\nedge 1 1 0 0 1\nedge 1 1 0 1 0\nedge 1 1 1 0 0\nkey 3 1 1 1 1 0 0 1 1 1 0 1 0 1 1 1 0 0\nend\nentry \"cubic\"\ngraph 3 1 3\nedge 1 1 0 0 1\nedge 1 1 0 1 0\nedge 1 1 1 0 0\nkey 3 1 1 1 1 0 0 1 1 1 0 1 0 1 1 1 0 0\nend\n",
+        status: Status::Done,
+        written: "net 1 line 1 \"pcu\"\ngraph d=3 vertices=1 edges=3 repeats=0\nplacement D0=1\nat 1 0 0 0\nprimitive vertices=1 edges=3\nbasis 1 0 0\nbasis 0 1 0\nbasis 0 0 1\nedge 1 1 0 0 1\nedge 1 1 0 1 0\nedge 1 1 1 0 0\nkey 3 1 1 1 1 0 0 1 1 1 0 1 0 1 1 1 0 0\nshells 1 6 18 38 66 102 146 198 258 326 402\nnames 2\nname \"pcu\"\nname \"cubic\"\n",
     },
     // a larger cell of a net that has two names
     Row {

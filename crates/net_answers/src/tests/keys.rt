@@ -105,7 +105,7 @@ fn many_frames(rt: HostRuntime) -> Result<(), Fail> {
 // A vertex with 4,096 loops: as many edges as a block may have, and one more.
 #[test]
 fn most_loops(rt: HostRuntime) -> Result<(), Fail> {
-    let header = "net 1 line 1\ngraph d=2 vertices=1 edges=4096 repeats=0\n";
+    let header = "net 1 line 1 \"star\"\ngraph d=2 vertices=1 edges=4096 repeats=0\n";
     let rows = [
         (4096, "check", Status::Done, header, "connected\n"),
         (
@@ -119,8 +119,8 @@ fn most_loops(rt: HostRuntime) -> Result<(), Fail> {
             4097,
             "key",
             Status::SomeRefused,
-            "net 1 line 1\n",
-            "malformed line=4099 9 TooManyEdges\n",
+            "net 1 line 1 \"star\"\n",
+            "malformed line=4100 9 TooManyEdges\n",
         ),
     ];
     for (edges, command, status, header, line) in rows {

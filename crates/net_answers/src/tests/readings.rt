@@ -247,7 +247,7 @@ fn star(alloc: Global, vertices: u32) -> Result<String, Fail> {
 
 // So many loops at one vertex.
 pub fn loops(alloc: Global, edges: u32) -> Result<String, Fail> {
-    let mut text = String::from_str(alloc, "PERIODIC_GRAPH\nEDGES\n")?;
+    let mut text = String::from_str(alloc, "PERIODIC_GRAPH\nNAME star\nEDGES\n")?;
     for k in 0..edges {
         let (x, y) = (k / 256 + 1, k % 256);
         text.push_str(&format!(in alloc; "1 1 {x} {y}\n")?)?;
@@ -305,7 +305,7 @@ fn blocks_apart(rt: HostRuntime) -> Result<(), Fail> {
     let mut text = loops(alloc, 4096)?;
     text.push_str("PERIODIC_GRAPH\nEDGES 1 1 1 0\n1 1 0 1\nEND\n")?;
     let answer = answer_on(alloc, "check", text.as_bytes())?;
-    let second = "net 2 line 4100\ngraph d=2 vertices=1 edges=2 repeats=0\nconnected\n";
+    let second = "net 2 line 4101\ngraph d=2 vertices=1 edges=2 repeats=0\nconnected\n";
     assert!(rt; answer.text.ends_with(second.as_bytes()));
     assert_eq!(rt; answer.status, Status::Done);
     Ok(())

@@ -1,10 +1,12 @@
 // The arguments, devices that fail, and files past their limits.
-use super::{DIA, DIA_ARCHIVE, DIA_KEY_REPORT, Faults, HCB, NO_FAULTS, run_on, run_over};
+use super::{
+    DIA, DIA_ARCHIVE, DIA_KEY_REPORT, Faults, HCB, NO_FAULTS, SQL, SQL_KEY_REPORT, run_on, run_over,
+};
 use net_report::Status;
 use std::test::Fail;
 
-// Arguments, and how a run with them ends, where the files `net` and `--` are there.
-const ROWS: [(&[&str], Status); 47] = [
+// Arguments, and how a run with them ends, where the files `net`, `--` and `-x` are there.
+const ROWS: [(&[&str], Status); 48] = [
     (&["check", "net"], Status::Done),
     (&["place", "net"], Status::Done),
     (&["key", "net"], Status::Done),
@@ -15,7 +17,8 @@ const ROWS: [(&[&str], Status); 47] = [
     (&["check", "--", "--"], Status::Done),
     (&["check"], Status::ReadFault),
     (&["check", "-"], Status::ReadFault),
-    (&["key", "--", "-x"], Status::ReadFault),
+    (&["key", "--", "-x"], Status::Done),
+    (&["key", "--", "-y"], Status::ReadFault),
     (&["identify", "net", "--archive", "none"], Status::ReadFault),
     (&["identify", "none", "--archive=net"], Status::ReadFault),
     (&["duplicates", "--archive", "-"], Status::ReadFault),
@@ -119,6 +122,20 @@ fn failing_writes(rt: HostRuntime) -> Result<(), Fail> {
     Ok(())
 }
 
+// The second write of seven bytes fails: the first seven are written.
+#[test]
+fn failing_second_write(rt: HostRuntime) -> Result<(), Fail> {
+    let faults = Faults {
+        step: 7,
+        reads: &[],
+        writes: &[2],
+    };
+    let (status, out) = run_on(rt.alloc(), &["key", "net"], SQL.as_bytes(), &faults)?;
+    assert_eq!(rt; status, Status::WriteFault);
+    assert_eq!(rt; out.written(), "net 1 l".as_bytes());
+    Ok(())
+}
+
 // A file is read, and its archive is not.
 #[test]
 fn failing_archive(rt: HostRuntime) -> Result<(), Fail> {
@@ -138,7 +155,7 @@ fn failing_archive(rt: HostRuntime) -> Result<(), Fail> {
 // The first read gives a whole net, and the second, of the comments after it, fails.
 #[test]
 fn failing_second_read(rt: HostRuntime) -> Result<(), Fail> {
-    let mut text = Vec::from_slice(rt.alloc(), DIA.as_bytes())?;
+    let mut text = Vec::from_slice(rt.alloc(), SQL.as_bytes())?;
     for _ in 0..10 {
         text.extend_from_slice(b"# a comment\n")?;
     }
@@ -152,7 +169,7 @@ fn failing_second_read(rt: HostRuntime) -> Result<(), Fail> {
     assert_eq!(rt; out.written().len(), 0);
     let (status, out) = run_on(rt.alloc(), &["key", "net"], &text, &NO_FAULTS)?;
     assert_eq!(rt; status, Status::Done);
-    assert_eq!(rt; out.written(), DIA_KEY_REPORT.as_bytes());
+    assert_eq!(rt; out.written(), SQL_KEY_REPORT.as_bytes());
     Ok(())
 }
 

@@ -1,6 +1,6 @@
 // Runs over files that never fail: each status that goes with a text, and the text.
 use super::{DIA, DIA_ARCHIVE, DIA_KEY_REPORT, DIA_NEWEST, named_files, words_of};
-use crate::memory::run_in_memory;
+use crate::memory::{run_in_memory, run_on_files};
 use net_report::Status;
 use outside::{HonestShelf, MemorySink};
 use std::test::Fail;
@@ -59,5 +59,19 @@ fn endings(rt: HostRuntime) -> Result<(), Fail> {
         assert_eq!(rt; ended, *status);
         assert_eq!(rt; out.written(), written.as_bytes());
     }
+    Ok(())
+}
+
+// Files that never fail, and a sink without room: no read fails, whatever becomes of the text.
+#[test]
+fn sink_without_room(rt: HostRuntime) -> Result<(), Fail> {
+    let alloc = rt.alloc();
+    let mut shelf = HonestShelf::new(named_files(alloc, &[("dia", DIA.as_bytes())])?);
+    let mut out = MemorySink::new(alloc, 10, 7, Vec::new(alloc))?;
+    let words = words_of(alloc, &["key", "dia"])?;
+    let ended = run_on_files(alloc, &words, &mut shelf, &mut out);
+    assert_eq!(rt; ended, Status::WriteFault);
+    assert!(rt; DIA_KEY_REPORT.as_bytes().starts_with(out.written()));
+    assert!(rt; out.written().len() <= 10);
     Ok(())
 }

@@ -1,18 +1,28 @@
-use Rattle.std.proofs.Common.{◌+◌, sym, subst}
+use Rattle.std.proofs.Common.{ℕ, ◌+◌, ◌&&◌, true, [], List, sym, subst}
 use Rattle.cgd_read.specs.Views.{views}
-use Rattle.cover_answers.proofs.Listing.{AreAnsweredOn, answered_next, answered_whole}
+use Rattle.net_report.specs.declared.outcome.Outcome.{Outcome}
+use Rattle.cover_answers.proofs.Listing.{AreAnsweredOn, answered_next, answered_none, answered_whole}
 use Rattle.cover_answers.proofs.answers.cover_blocks.Goals as goal
+
+pub loop-block-init : goal.loop-block-init
+loop-block-init c =
+    let cell = c.args.cell.now in
+    let bs = views c.args.found.now in
+    subst (λ (text : List ℕ). AreAnsweredOn cell bs 0 1 true c.new-outcomes.result text) (sym c.new-covers.ensures.items)
+    (subst (λ (os : List Outcome). AreAnsweredOn cell bs 0 1 true os []) (sym c.new-outcomes.ensures) (answered_none cell bs))
 
 pub loop-block-preserved : goal.loop-block-preserved
 loop-block-preserved c =
     let cell = c.args.cell.now in
     let found = c.args.found.now in
-    let i = c.loop-block.block-index in
-    subst (λ os. AreAnsweredOn cell (views found) (i + 1) (c.loop-block.number + 1) os c.cover_block.new.covers.items) (sym c.in_ok-push.ensures.ok)
-    (answered_next cell found i c.loop-block.number c.loop-block.outcomes c.loop-block.covers.items c.cover_block.new.covers.items c.block-item.result c.in_ok-cover_block.field-0 c.loop-block-test.true c.block-item.is
-    c.loop-block.invariant c.in_ok-cover_block.ensures.answered c.in_ok-cover_block.ensures.printable)
+    let at = c.loop-block in
+    let i = at.block-index in
+    subst (λ os. AreAnsweredOn cell (views found) (i + 1) (at.number + 1) (at.all_covered && c.in_ok-outcome.covered) os c.cover_block.new.covers.items) (sym c.in_ok-push.ensures.ok)
+    (answered_next cell found i at.number at.all_covered c.in_ok-outcome.covered at.outcomes at.covers.items c.cover_block.new.covers.items c.block-item.result c.in_ok-outcome.outcome c.loop-block-test.true c.block-item.is
+    at.invariant c.in_ok-outcome.ensures.answered c.in_ok-outcome.ensures.printable)
 
 pub returns : goal.returns
 returns c =
-    answered_whole c.args.cell.now c.args.found.now c.loop-block.block-index c.loop-block.number c.loop-block.outcomes c.loop-block.covers.items c.answer_of.result c.loop-block-test.false c.loop-block.invariant
+    let at = c.loop-block in
+    answered_whole c.args.cell.now c.args.found.now at.block-index at.number at.all_covered at.outcomes at.covers.items c.answer_of.result c.loop-block-test.false at.invariant
     c.answer_of.ensures.covered c.answer_of.ensures.refused

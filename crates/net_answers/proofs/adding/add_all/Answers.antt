@@ -6,7 +6,7 @@ use Rattle.cgd_read.specs.Views.{block_view, views}
 use Rattle.least_key.specs.AnyNets.{net_view}
 use Rattle.net_answers.proofs.Added.{added_first, added_next, all_added, not_added}
 use Rattle.net_answers.proofs.KeyedBlocks.{as_many}
-use Rattle.net_answers.proofs.Turns.{net_is, one_told, turn_is}
+use Rattle.net_answers.proofs.Turns.{kinds_are, kinds_inside, net_is, one_told, turn_is}
 use Rattle.net_answers.proofs.adding.add_all.Goals as goal
 use Rattle.net_answers.proofs.adding.add_all.Goals.{in-Some-net_told+in_default-add_block, in_default}
 
@@ -56,3 +56,33 @@ returns-clause-added c =
     let many = as_many _ 1 (views found) c.args.outcomes.now c.requires.outcomes in
     let long = length-map found block_view in
     all_added (option_copied c.args.given) (views found) c.args.archive.now c.loop-block.archive (length c.loop-block.yielded) c.loop-block.number (option_copied c.loop-block.given) c.loop-block.invariant (omega arith)
+
+pub overflow_sub-place : goal.overflow_sub-place
+overflow_sub-place c = let n = c.loop-block.invariant.number_is in omega (arith, n)
+
+pub bounds-kinds-place : goal.bounds-kinds-place
+bounds-kinds-place c =
+    let found = c.args.found.now in
+    let block = c.in-Some.block.now in
+    let outcome = c.in-Some.outcome.now in
+    let i = length c.loop-block.yielded in
+    let first : c.into_iter-block-iterator.result.a.rest.now ≡ found = cc (c.into_iter-block-iterator.ensures.into_iter_gives, c.zip-block-items.ensures.first, c.iter.ensures.rest) in
+    let second : c.into_iter-block-iterator.result.b.rest.now ≡ c.args.outcomes.now = cc (c.into_iter-block-iterator.ensures.into_iter_gives, c.zip-block-items.ensures.second.0) in
+    let turn = zip_turn found c.args.outcomes.now c.loop-block.yielded c.into_iter-block-iterator.result c.loop-block.block-iterator c.next.new.self c.next.result first second c.loop-block.yielded_by (c.in-Some.block, c.in-Some.outcome) c.in-Some.is c.next.ensures.steps in
+    let many = as_many _ 1 (views found) c.args.outcomes.now c.requires.outcomes in
+    let long = length-map found block_view in
+    kinds_inside c.args.outcomes.now c.args.kinds.now i c.loop-block.number c.requires.kinds (omega (arith, many, long, turn.0)) c.loop-block.invariant.number_is
+
+pub add_block-requires : goal.add_block-requires
+add_block-requires c =
+    let found = c.args.found.now in
+    let block = c.in-Some.block.now in
+    let outcome = c.in-Some.outcome.now in
+    let i = length c.loop-block.yielded in
+    let first : c.into_iter-block-iterator.result.a.rest.now ≡ found = cc (c.into_iter-block-iterator.ensures.into_iter_gives, c.zip-block-items.ensures.first, c.iter.ensures.rest) in
+    let second : c.into_iter-block-iterator.result.b.rest.now ≡ c.args.outcomes.now = cc (c.into_iter-block-iterator.ensures.into_iter_gives, c.zip-block-items.ensures.second.0) in
+    let turn = zip_turn found c.args.outcomes.now c.loop-block.yielded c.into_iter-block-iterator.result c.loop-block.block-iterator c.next.new.self c.next.result first second c.loop-block.yielded_by (c.in-Some.block, c.in-Some.outcome) c.in-Some.is c.next.ensures.steps in
+    let many = as_many _ 1 (views found) c.args.outcomes.now c.requires.outcomes in
+    let long = length-map found block_view in
+    kinds_are c.args.outcomes.now c.args.kinds.now i c.loop-block.number outcome c.in-Some-net_told.net.now c.index-kinds-place.result c.requires.kinds (omega (arith, many, long, turn.0)) (turn.3 outcome) c.loop-block.invariant.number_is
+    c.index-kinds-place.is c.in-Some-net_told.ensures

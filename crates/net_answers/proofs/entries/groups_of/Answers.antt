@@ -1,9 +1,10 @@
+use Rattle.archive_text.specs.Groups.{numbers_in}
 use Rattle.net_answers.proofs.entries.groups_of.Goals as goal
 
 pub returns : goal.returns
 returns c = record {
-  groups = c.in_ok-groups.groups;
+  groups = numbers_in c.in_ok-groups.groups.items;
   are_groups = c.in_ok-groups.ensures.groups;
   isomorphic = c.in_ok-groups.ensures.isomorphic;
-  text_is = rw (← c.entries.ensures.entries) c.in_ok-text.ensures;
+  text_is = rw (← c.entries.ensures.entries, ← c.deref.ensures.value) c.in_ok-text.ensures;
 }

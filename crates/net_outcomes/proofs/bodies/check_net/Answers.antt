@@ -13,6 +13,6 @@ returns-in-Ok c = λ entries. record {
 }
 
 pub returns-in-Err : goal.returns-in-Err
-returns-in-Err c = λ entries.
-    refused_as entries Check (raw_view c.args.raw.now) (graph_view c.in_ok-graph.graph) c.in-Err.refusal c.refused_body.result c.requires.is_graph c.in_ok-graph.ensures
+returns-in-Err c =
+    refused_as Check (raw_view c.args.raw.now) (graph_view c.in_ok-graph.graph) c.in-Err.refusal c.refused_body.result c.requires.is_graph c.in_ok-graph.ensures
     c.in-Err.ensures.refused (check_may c.in-Err.refusal c.in-Err.ensures.early) c.refused_body.ensures.told c.refused_body.ensures.refused

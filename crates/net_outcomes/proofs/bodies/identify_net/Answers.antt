@@ -1,5 +1,8 @@
-use Rattle.std.proofs.Common.{refl}
-use Rattle.cgd_read.specs.Views.{raw_view}
+use Rattle.std.proofs.Common.{List, refl}
+use Rattle.std.proofs.lemmas.Result.{IfOk-weaker}
+use Rattle.cgd_read.specs.Views.{Net, raw_view}
+use Rattle.archive_text.specs.Entries.{EntryView}
+use Rattle.net_outcomes.specs.Outcomes.{IsBodyOf}
 use Rattle.quotient_graph.specs.AnyGraphs.{graph_view}
 use Rattle.net_outcomes.proofs.OnlyPlacement.{is_graph_in}
 use Rattle.net_outcomes.proofs.NetOutcomes.{identify_may, refused_as}
@@ -16,5 +19,8 @@ identified_body-requires-clause-keyed c = record {
 
 pub returns-in-Err : goal.returns-in-Err
 returns-in-Err c =
-    refused_as c.args.archive.now.entries Identify (raw_view c.args.raw.now) (graph_view c.in_ok-graph.graph) c.in-Err.refusal c.refused_body.result c.requires.is_graph c.in_ok-graph.ensures
-    c.in-Err.ensures.refused (identify_may c.in-Err.refusal) c.refused_body.ensures.told c.refused_body.ensures.refused
+    let raw = raw_view c.args.raw.now in
+    let entries = c.args.archive.now.entries in
+    IfOk-weaker c.refused_body.result (λ body. (es : List EntryView) → IsBodyOf es Identify (Net raw) body) (λ body. IsBodyOf entries Identify (Net raw) body) (λ body h. h entries)
+    (refused_as Identify raw (graph_view c.in_ok-graph.graph) c.in-Err.refusal c.refused_body.result c.requires.is_graph c.in_ok-graph.ensures
+    c.in-Err.ensures.refused (identify_may c.in-Err.refusal) c.refused_body.ensures.told c.refused_body.ensures.refused)

@@ -16,6 +16,6 @@ returns-in_ok-copy-in-Ok c = λ entries. record {
 }
 
 pub returns-in-Err : goal.returns-in-Err
-returns-in-Err c = λ entries.
-    refused_as entries Place (raw_view c.args.raw.now) (graph_view c.in_ok-graph.graph) c.in-Err.refusal c.refused_body.result c.requires.is_graph c.in_ok-graph.ensures
+returns-in-Err c =
+    refused_as Place (raw_view c.args.raw.now) (graph_view c.in_ok-graph.graph) c.in-Err.refusal c.refused_body.result c.requires.is_graph c.in_ok-graph.ensures
     c.in-Err.ensures.refused (place_may c.in-Err.refusal c.in-Err.ensures.early) c.refused_body.ensures.told c.refused_body.ensures.refused

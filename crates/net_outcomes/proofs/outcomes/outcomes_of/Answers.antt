@@ -1,18 +1,39 @@
-use Rattle.std.proofs.Common.{◌+◌, sym, subst}
+use Rattle.std.proofs.Common.{◌+◌, ◌++◌, ◌∷◌, [], ℕ, List, sym, subst}
+use Rattle.std.proofs.lemmas.List.Elements.{All-nil}
 use Rattle.cgd_read.specs.Views.{views}
-use Rattle.net_outcomes.proofs.Listing.{AreOutcomesOn, outcomes_next, outcomes_whole}
+use Rattle.net_archive.specs.Archives.{IsEntry}
+use Rattle.net_report.specs.KindsTold.{AreKindsOfAll}
+use Rattle.net_report.specs.declared.command.Command.TheVariants.{Key}
+use Rattle.net_report.specs.declared.outcome.Outcome.{Outcome}
+use Rattle.net_report.proofs.CallerLemmas.{kinds_last}
+use Rattle.net_outcomes.proofs.Listing.{AreOutcomesOn, outcomes_next, outcomes_none, outcomes_whole}
 use Rattle.net_outcomes.proofs.outcomes.outcomes_of.Goals as goal
+
+pub loop-block-init : goal.loop-block-init
+loop-block-init c =
+    let none = sym c.new-keyed.ensures.outcomes in
+    record {
+      outcomes = subst (AreOutcomesOn [] Key (views c.args.found.now) 0 1) none (outcomes_none [] Key (views c.args.found.now));
+      kinds = subst (AreKindsOfAll c.new-keyed.result.outcomes) (sym c.new-keyed.ensures.kinds) (subst (λ (os : List Outcome). AreKindsOfAll os []) none tt);
+    }
 
 pub loop-block-preserved : goal.loop-block-preserved
 loop-block-preserved c =
-    let entries = c.args.archive.now.entries in
     let found = c.args.found.now in
-    let i = c.loop-block.block-index in
-    subst (AreOutcomesOn entries c.args.command (views found) (i + 1) (c.loop-block.number + 1)) (sym c.in_ok-push.ensures.ok)
-    (outcomes_next entries c.args.command found i c.loop-block.number c.loop-block.outcomes c.block-item.result c.in_ok-outcome_of.field-0 c.loop-block-test.true c.block-item.is c.loop-block.invariant
-    c.in_ok-outcome_of.ensures.outcome c.in_ok-outcome_of.ensures.printable)
+    let at = c.loop-block in
+    let i = at.block-index in
+    let os = at.keyed.outcomes in
+    let o = c.in_ok-outcome.outcome in
+    let longer = sym c.in_ok-push.ensures.outcomes in
+    record {
+      outcomes = subst (AreOutcomesOn [] Key (views found) (i + 1) (at.number + 1)) longer
+          (outcomes_next [] Key found i at.number os c.block-item.result o c.loop-block-test.true c.block-item.is at.invariant.outcomes c.in_ok-outcome.ensures.outcome c.in_ok-outcome.ensures.printable);
+      kinds = subst (AreKindsOfAll c.push.new.self.outcomes) (sym c.in_ok-push.ensures.kinds)
+          (subst (λ (ps : List Outcome). AreKindsOfAll ps (at.keyed.kinds.items ++ c.in_ok-outcome.kinds ∷ [])) longer
+          (kinds_last os at.keyed.kinds.items o c.in_ok-outcome.kinds at.invariant.kinds c.in_ok-outcome.ensures.kinds));
+    }
 
 pub returns-clause-outcomes : goal.returns-clause-outcomes
 returns-clause-outcomes c =
-    outcomes_whole c.args.archive.now.entries c.args.command c.args.found.now c.loop-block.block-index c.loop-block.number c.loop-block.outcomes c.loop-block-test.false c.loop-block.invariant c.entries.ensures.archive.each
-    c.requires.graphs
+    let at = c.loop-block in
+    outcomes_whole [] Key c.args.found.now at.block-index at.number at.keyed.outcomes c.loop-block-test.false at.invariant.outcomes (All-nil IsEntry) c.requires.graphs

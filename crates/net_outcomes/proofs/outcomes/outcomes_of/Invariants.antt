@@ -1,6 +1,12 @@
+use Rattle.std.proofs.Common.{[]}
 use Rattle.cgd_read.specs.Views.{views}
+use Rattle.net_report.specs.KindsTold.{AreKindsOfAll}
+use Rattle.net_report.specs.declared.command.Command.TheVariants.{Key}
 use Rattle.net_outcomes.proofs.Listing.{AreOutcomesOn}
 use Rattle.net_outcomes.proofs.outcomes.outcomes_of.Given as goal
 
 abbrev pub invariant-loop-block : goal.invariant-loop-block
-invariant-loop-block l = AreOutcomesOn l.archive.entries l.command (views l.found) l.block-index l.number l.outcomes
+invariant-loop-block l = record {
+  outcomes : AreOutcomesOn [] Key (views l.found) l.block-index l.number l.keyed.outcomes;
+  kinds : AreKindsOfAll l.keyed.outcomes l.keyed.kinds.items;
+}

@@ -1,7 +1,8 @@
-use Rattle.std.proofs.Common.{◌+◌, [], ◌∷◌, List, take, sym, subst}
+use Rattle.std.proofs.Common.{◌≡◌, ◌<◌, ◌+◌, [], ◌∷◌, List, length, take, sym, subst, arith}
 use Rattle.std.specs.List.{All}
 use Rattle.std.proofs.lemmas.List.Elements.{All-append, All-cons, All-nil}
 use Rattle.net_archive.specs.Archives.{IsEntry}
+use Rattle.net_report.proofs.CallerLemmas.{as_many_kinds, kinds_at}
 use Rattle.archive_text.specs.Entries.{entry_view, entry_views}
 use Rattle.archive_text.specs.declared.entry.Entry.{Entry}
 use Rattle.union_answers.specs.ItemEntries.{AreEntriesTold}
@@ -11,15 +12,22 @@ use Rattle.union_answers.proofs.entries.entries_of.Goals as goal
 abbrev IsGood : Entry → Type 0
 IsGood e = IsEntry (entry_view e)
 
-pub loop-outcome-preserved : goal.loop-outcome-preserved
-loop-outcome-preserved c =
+pub bounds-kinds-i : goal.bounds-kinds-i
+bounds-kinds-i c = let n = as_many_kinds c.args.outcomes.now c.args.kinds.now c.requires.kinds in omega (arith, n, c.loop-i-test.true)
+
+pub entry_told-requires-clause-kinds : goal.entry_told-requires-clause-kinds
+entry_told-requires-clause-kinds c =
+    kinds_at c.args.outcomes.now c.args.kinds.now c.loop-i.i c.index-outcomes-i.result c.index-kinds-i.result c.requires.kinds c.loop-i-test.true (sym c.index-outcomes-i.is) (sym c.index-kinds-i.is)
+
+pub loop-i-preserved : goal.loop-i-preserved
+loop-i-preserved c =
     let os = c.args.outcomes.now in
-    let at = c.loop-outcome in
-    let i = at.outcome-index in
+    let at = c.loop-i in
+    let i = at.i in
     let e = c.in_ok-entry_told.field-0 in
     let pushed = sym {A = List Entry} c.in_ok-push.ensures.items in
     record {
       told = subst (λ (es : List Entry). AreEntriesTold (take (i + 1) os) (entry_views es)) pushed
-          (entries_next os i c.outcome-item.result at.entries.items e c.loop-outcome-test.true (sym c.outcome-item.is) at.invariant.told c.in_ok-entry_told.ensures.told);
+          (entries_next os i c.index-outcomes-i.result at.entries.items e c.loop-i-test.true (sym c.index-outcomes-i.is) at.invariant.told c.in_ok-entry_told.ensures.told);
       each = subst (All IsGood) pushed (All-append IsGood at.entries.items (e ∷ []) at.invariant.each (All-cons IsGood e [] c.in_ok-entry_told.ensures.entry (All-nil IsGood)));
     }

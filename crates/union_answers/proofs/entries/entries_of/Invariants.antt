@@ -6,8 +6,8 @@ use Rattle.archive_text.specs.declared.entry.Entry.{Entry}
 use Rattle.union_answers.specs.ItemEntries.{AreEntriesTold}
 use Rattle.union_answers.proofs.entries.entries_of.Given as goal
 
-abbrev pub invariant-loop-outcome : goal.invariant-loop-outcome
-invariant-loop-outcome l = record {
-  told : AreEntriesTold (take l.outcome-index l.outcomes) (entry_views l.entries.items);
+abbrev pub invariant-loop-i : goal.invariant-loop-i
+invariant-loop-i l = record {
+  told : AreEntriesTold (take l.i l.outcomes) (entry_views l.entries.items);
   each : All (λ (e : Entry). IsEntry (entry_view e)) l.entries.items;
 }

@@ -1,5 +1,6 @@
 use Rattle.std.proofs.Common.{◌≡◌, ◌+◌, ◌++◌, length, All}
 use Rattle.std.specs.Vec.Iter.{into_iter_items, into_iter_len}
+use Rattle.net_report.specs.KindsTold.{AreKindsOfAll}
 use Rattle.net_report.specs.Reports.{IsPrintable}
 use Rattle.union_answers.proofs.ItemListing.{AreOutcomesOfRead}
 use Rattle.union_answers.proofs.outcomes.outcomes_of.Given as goal
@@ -10,6 +11,7 @@ invariant-loop-item l = record {
   all : l.yielded ++ into_iter_items l.item-iterator ≡ l.fn.items.items;
   left : into_iter_len l.item-iterator ≡ length (into_iter_items l.item-iterator);
   number : l.number ≡ length l.yielded + 1;
-  told : AreOutcomesOfRead 1 l.yielded l.outcomes;
-  printable : All IsPrintable l.outcomes;
+  told : AreOutcomesOfRead 1 l.yielded l.keyed.outcomes;
+  kinds : AreKindsOfAll l.keyed.outcomes l.keyed.kinds.items;
+  printable : All IsPrintable l.keyed.outcomes;
 }

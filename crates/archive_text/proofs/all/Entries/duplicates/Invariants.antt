@@ -1,5 +1,6 @@
+use Rattle.archive_text.specs.Groups.{numbers_in}
 use Rattle.archive_text.proofs.FoundGroups.{AreGroupsTo}
 use Rattle.archive_text.proofs.all.Entries.duplicates.Given as goal
 
 abbrev pub invariant-loop-place : goal.invariant-loop-place
-invariant-loop-place l = AreGroupsTo l.self l.place l.groups
+invariant-loop-place l = AreGroupsTo l.self l.place (numbers_in l.groups.items)

@@ -1,5 +1,6 @@
 use Rattle.std.proofs.Common.{subst}
 use Rattle.std.specs.Prelude.{IfOk}
+use Rattle.archive_text.specs.Groups.{numbers_in}
 use Rattle.net_archive.specs.Archives.{ArchiveView}
 use Rattle.net_archive.specs.Deciding.{AreIsoGroups}
 use Rattle.net_archive.proofs.IsoGroups.{groups_told}
@@ -7,5 +8,5 @@ use Rattle.net_archive.proofs.archive.Archive.duplicates.Goals as goal
 
 pub returns-clause-isomorphic : goal.returns-clause-isomorphic
 returns-clause-isomorphic c =
-    subst (λ (a : ArchiveView). IfOk c.duplicates.result (AreIsoGroups a.entries)) c.self.view_is
+    subst (λ (a : ArchiveView). IfOk c.duplicates.result (λ groups. AreIsoGroups a.entries (numbers_in groups.items))) c.self.view_is
     (groups_told c.self.inside.entries c.duplicates.result c.self.invariant.is_archive.each c.duplicates.ensures)
