@@ -9,6 +9,7 @@ MOST_VERTICES = 512
 MOST_EDGES = 4096
 GREATEST_SHIFT = 500
 LONGEST_NAME = 200
+NOT_IN_QUOTES = str.maketrans({mark: "_" for mark in ['"', "\x7f", *map(chr, range(32))]})
 
 
 def text_of_net(named: NamedNet, source: str) -> str:
@@ -27,8 +28,7 @@ def quoted(text: str) -> str:
 
 def plain(text: str) -> str:
     """The text with _ for quotes, control characters, and what UTF-8 has not."""
-    marks = "".join("_" if c == '"' or ord(c) < 32 or ord(c) == 127 else c for c in text)
-    return marks.encode(errors="replace").decode()
+    return text.translate(NOT_IN_QUOTES).encode(errors="replace").decode()
 
 
 def check_limits(named: NamedNet) -> None:

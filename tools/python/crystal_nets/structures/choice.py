@@ -147,11 +147,11 @@ def _name_of(crystal: Crystal, k: int) -> str:
 
 def _framework(crystal: Crystal, piece: Component) -> Framework:
     """The atoms of a piece that are not on its ends, with their places."""
-    atoms = {atom.name: atom for atom in crystal.atoms}
-    places = {name: atoms[name].place + np.array(cell) @ crystal.cell
-              for name, cell in zip(piece.net.names, piece.cells)}
-    return Framework(without_ends(piece.net), {name: atoms[name].site.element for name in piece.net.names},
-                     places, np.array(piece.basis) @ crystal.cell)
+    by_name = {atom.name: atom for atom in crystal.atoms}
+    atoms = [by_name[name] for name in piece.net.names]
+    places = np.array([atom.place for atom in atoms]) + np.array(piece.cells) @ crystal.cell
+    return Framework(without_ends(piece.net), {atom.name: atom.site.element for atom in atoms},
+                     dict(zip(piece.net.names, places)), np.array(piece.basis) @ crystal.cell)
 
 
 def _named(crystal: Crystal, group: list[Component], k: int, options: Options) -> list[NamedNet]:
@@ -189,9 +189,10 @@ def _named(crystal: Crystal, group: list[Component], k: int, options: Options) -
 
 def _read_by(convention: Convention, framework: Framework, dimension: int) -> Contracted:
     """The simplified net by a convention; raises Unreadable where it does not apply, or where no net
-    of this dimension is left."""
-    simple = contracted(convention.apply(framework))
-    if [piece.dimension for piece in components(simple.net)] != [dimension]:
+    of this dimension is left. A net of all atoms stays one, whatever is simplified."""
+    net = convention.apply(framework)
+    simple = contracted(net)
+    if net is not framework.net and [piece.dimension for piece in components(simple.net)] != [dimension]:
         raise Unreadable("what is left is not one net")
     return simple
 

@@ -5,7 +5,6 @@ from __future__ import annotations
 from collections.abc import Callable
 from dataclasses import dataclass
 from functools import cache
-from itertools import product
 
 import gemmi
 import numpy as np
@@ -69,8 +68,11 @@ def _images_near(cell: np.ndarray, places: np.ndarray, reach: float) -> tuple[np
     cells = np.prod(2 * np.ceil(margin) + 1)
     if cells * len(places) > MOST_IMAGES:
         raise Unreadable("the cell is too flat, or has too many atoms")
-    shifts = np.array(list(product(*(range(-m, m + 1) for m in np.ceil(margin).astype(int)))))
-    moved = fractions[:, None, :] + shifts[None, :, :]
-    near = np.all((moved >= -margin - SAME) & (moved <= 1 + margin + SAME), axis=2)
-    number, which = np.nonzero(near)
-    return number, shifts[which], places[number] + shifts[which] @ cell
+    numbers, shifts = np.arange(len(places)), np.zeros((len(places), 3), dtype=int)
+    for axis in range(3):
+        steps = np.arange(-np.ceil(margin[axis]), np.ceil(margin[axis]) + 1, dtype=int)
+        moved = fractions[numbers, axis, None] + steps
+        which, step = np.nonzero((moved >= -margin[axis] - SAME) & (moved <= 1 + margin[axis] + SAME))
+        numbers, shifts = numbers[which], shifts[which]
+        shifts[:, axis] = steps[step]
+    return numbers, shifts, places[numbers] + shifts @ cell

@@ -28,7 +28,7 @@ ALIKE = 0.02       # occupancies that differ by less are one
 
 def resolve_disorder(crystal: Crystal) -> None:
     """Leaves of all alternatives one, and tells in one note what was taken."""
-    if all(atom.occupancy >= FULL and not atom.site.group for atom in crystal.atoms):
+    if all(site.occupancy >= FULL and not site.group for site in {id(a.site): a.site for a in crystal.atoms}.values()):
         return
     told = [*_resolve_groups(crystal), *_resolve_images(crystal), *_resolve_overlaps(crystal)]
     if told:

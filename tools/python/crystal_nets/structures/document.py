@@ -92,10 +92,11 @@ def check_block(block: Block) -> None:
     lines: dict[str, int] = {}
     for item in block.cif:
         tags = [item.pair[0]] if item.pair else item.loop.tags if item.loop else []
-        for tag in tags:
+        plain = [tag.lower() for tag in tags]
+        for tag, name in zip(tags, plain):
             _check_kind(tag)
-            first = lines.setdefault(tag.lower(), item.line_number)
-            in_one_loop = len(tags) > 1 and sum(tag.lower() == other.lower() for other in tags) > 1
+            first = lines.setdefault(name, item.line_number)
+            in_one_loop = len(tags) > 1 and plain.count(name) > 1
             if in_one_loop or first != item.line_number:
                 told = f"the tag {tag} stands twice, in " + (
                     f"the loop of line {first}" if in_one_loop else f"lines {first} and {item.line_number}")

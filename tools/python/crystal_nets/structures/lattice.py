@@ -2,21 +2,22 @@
 
 from __future__ import annotations
 
+import operator
 from collections.abc import Iterable, Sequence
 
 Vector = tuple[int, ...]
 
 
 def add(u: Sequence[int], v: Sequence[int]) -> Vector:
-    return tuple([x + y for x, y in zip(u, v)])
+    return tuple(map(operator.add, u, v))
 
 
 def subtract(u: Sequence[int], v: Sequence[int]) -> Vector:
-    return tuple([x - y for x, y in zip(u, v)])
+    return tuple(map(operator.sub, u, v))
 
 
 def negate(u: Sequence[int]) -> Vector:
-    return tuple([-x for x in u])
+    return tuple(map(operator.neg, u))
 
 
 def pivot_place(v: Sequence[int]) -> int:

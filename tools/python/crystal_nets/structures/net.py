@@ -5,17 +5,16 @@ from __future__ import annotations
 from collections.abc import Callable, Iterable
 from dataclasses import dataclass
 
-from .lattice import Vector, add, negate, pivot_place, subtract
+from .lattice import Vector, add, negate, subtract
 
 Edge = tuple[int, int, Vector]  # u, v and the cell of v, where u stands in cell 0
 
 
 def edge(u: int, v: int, shift: Vector) -> Edge:
     """One of the two ways to write an edge: from the lower vertex, or with a positive shift."""
-    at = pivot_place(shift)
-    if u > v or (u == v and at < len(shift) and shift[at] < 0):
-        return v, u, negate(shift)
-    return u, v, shift
+    if u < v or (u == v and shift >= negate(shift)):
+        return u, v, shift
+    return v, u, negate(shift)
 
 
 @dataclass
@@ -34,6 +33,8 @@ class Net:
     def part(self, keep: Iterable[int]) -> "Net":
         """The net of some vertices, with the edges between them."""
         kept = sorted(keep)
+        if len(kept) == len(self.names):
+            return self
         number = {v: i for i, v in enumerate(kept)}
         edges = {(number[u], number[v], shift) for u, v, shift in self.edges
                  if u in number and v in number}

@@ -5,6 +5,9 @@ attached hydrogens, the assembly and the group of disorder."""
 from __future__ import annotations
 
 import re
+from collections.abc import Iterator
+from itertools import repeat
+from math import isfinite, nan
 
 import gemmi
 import numpy as np
@@ -26,21 +29,19 @@ FRACTION = re.compile(r"([-+]?\d+)/(\d+)$")
 def read_sites(block: gemmi.cif.Block, formula: dict[str, float], notes: list[Note]) -> list[Site]:
     """The sites that have a place and are occupied; notes on the others."""
     sites, dummies, absent = [], [], []
-    for row in block.find("_atom_site_", COLUMNS):
-        values = [gemmi.cif.as_string(row[k]) if row.has(k) else "" for k in range(len(COLUMNS))]
-        label, symbol, occupancy, flag, hydrogens, assembly, group = values[3:]
+    for x, y, z, label, symbol, occupancy, flag, hydrogens, assembly, group in _rows(block):
         label = label or symbol
         if flag.lower() == DUMMY:
             dummies.append(label)
             continue
-        place = np.array([number_of(text, label) for text in values[:3]])
-        if np.any(np.abs(place) > FARTHEST):
+        place = [number_of(text, label) for text in (x, y, z)]
+        if any(abs(part) > FARTHEST for part in place):
             raise Unreadable(f"the coordinates of {label} are no fractions of the cell")
         part = number_of(occupancy, label, absent=1.0)
-        if not np.all(np.isfinite(place)) or part <= 0:
+        if not all(map(isfinite, place)) or part <= 0:
             absent.append(label)
             continue
-        sites.append(Site(label, element_of(symbol, label, formula), place, part,
+        sites.append(Site(label, element_of(symbol, label, formula), np.array(place), part,
                           number_of(hydrogens, label, absent=0.0), _group(assembly), _group(group)))
     if dummies:
         notes.append(Note(LEFT_OUT, "left out, dummy atoms: " + shorten(" ".join(dummies))))
@@ -51,7 +52,14 @@ def read_sites(block: gemmi.cif.Block, formula: dict[str, float], notes: list[No
     return sites
 
 
-def number_of(text: str, what: str, absent: float = np.nan) -> float:
+def _rows(block: gemmi.cif.Block) -> Iterator[tuple[str, ...]]:
+    """The values of each atom, in the order of COLUMNS; of a column that is not there, empty texts."""
+    table = block.find("_atom_site_", COLUMNS)
+    return zip(*(map(gemmi.cif.as_string, table.column(k)) if table.has_column(k) else repeat("", len(table))
+                 for k in range(len(COLUMNS))))
+
+
+def number_of(text: str, what: str, absent: float = nan) -> float:
     """A number of CIF, with or without its uncertainty, or a fraction as 1/3; raises Unreadable
     where the text is another."""
     if text in NO_VALUE:

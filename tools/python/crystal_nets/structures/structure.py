@@ -77,18 +77,17 @@ def _read_cell(block: gemmi.cif.Block) -> gemmi.UnitCell:
 def _expand(block: Block, sites: list[Site], symmetry: Symmetry, cell: gemmi.UnitCell) -> Crystal:
     """The crystal of the sites and all their images, with one of the alternatives of disorder,
     and those in one place taken as one atom."""
+    if len(sites) > MOST_ATOMS:
+        raise Unreadable(f"more than {MOST_ATOMS} atoms in a primitive cell")
     to_angstrom = np.array(cell.orthogonalization_matrix.tolist()).T
     crystal = Crystal(block.name, symmetry.lattice @ to_angstrom, [], list(block.notes))
     if symmetry.source != "operations":
         crystal.notes.append(Note(SYMMETRY, f"symmetry from {symmetry.source}"))
-    to_cell = np.linalg.inv(symmetry.lattice)
-    for site in sites:
-        crystal.atoms += images_of(site, symmetry, crystal.cell, to_cell)
+    for site, images in zip(sites, images_of(sites, symmetry, crystal.cell)):
+        crystal.atoms += images
+        crystal.listed[site.element] = crystal.listed.get(site.element, 0.0) + len(images) * min(1.0, site.occupancy)
         if len(crystal.atoms) > MOST_ATOMS:
             raise Unreadable(f"more than {MOST_ATOMS} atoms in a primitive cell")
-    for atom in crystal.atoms:
-        element = atom.site.element
-        crystal.listed[element] = crystal.listed.get(element, 0.0) + atom.occupancy
     resolve_disorder(crystal)
     take_once(crystal)
     name_apart(crystal)

@@ -81,8 +81,9 @@ def _name_of_number(number: str) -> str:
 
 def _symmetry(group: gemmi.GroupOps, source: str, has_origin: bool = True) -> Symmetry:
     den = gemmi.Op.DEN
-    rotations = np.array([op.rot for op in group.sym_ops], dtype=float) / den
-    translations = np.array([op.tran for op in group.sym_ops], dtype=float) / den
+    operations = group.sym_ops
+    rotations = np.array([op.rot for op in operations], dtype=float) / den
+    translations = np.array([op.tran for op in operations], dtype=float) / den
     units = [tuple(den * (i == j) for j in range(3)) for i in range(3)]
     rows = staircase(units + [tuple(c) for c in group.cen_ops])
     return Symmetry(rotations, translations, np.array(rows, dtype=float) / den, source, has_origin)
@@ -96,7 +97,7 @@ def _listed_group(listed: list[str]) -> gemmi.GroupOps:
         group.add_missing_elements()
     except (RuntimeError, ValueError) as error:
         raise Unreadable(f"symmetry operations: {error}") from error
-    wanted = {op.wrap().triplet() for op in operations}
-    if {op.wrap().triplet() for op in group} != wanted:
+    wanted = {op.wrap() for op in operations}
+    if len(group) != len(wanted):
         raise Unreadable(f"the {len(wanted)} symmetry operations are no group")
     return group
