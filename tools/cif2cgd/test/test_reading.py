@@ -107,6 +107,26 @@ class Bonds(Reading):
         self.assertEqual(moved.count("Si"), rows.count("Si"))
         self.assertEqual(bonds_between(text, "O", "O")[0], 0)
 
+    def test_two_oxygens_that_are_too_near_for_no_bond_are_told(self):
+        rutile = presentations(structure("rutile"))["published"]
+        near = rutile.replace("0.305300 0.305300", "0.350000 0.350000")
+        self.assertEqual(self.convert(rutile)[1], "")
+        rows, told = self.convert(near)
+        self.assertEqual(rows, self.convert(rutile)[0])
+        self.assertEqual(told, "test.cif: bonds in doubt: O-O 1.95 left out, too near for no bond\n")
+
+    def test_neighbours_of_a_nonmetal_that_are_farther_than_bonds_are_told(self):
+        for edge, doubts in ((5.43, ""), (6.9, "test.cif: bonds in doubt: Si-Si 2.99 taken, longer than a bond\n")):
+            silicon = cif_text((edge, edge, edge, 90, 90, 90), [("Si1", "Si", 0.125, 0.125, 0.125)], name="F d -3 m:2")
+            rows, told = self.convert(silicon)
+            self.assertEqual(rows.count('"Si1'), 8)
+            self.assertEqual(told, "test.cif: symmetry from name F d -3 m:2\n" + doubts)
+
+    def test_layers_of_metals_are_told(self):
+        for height, are_layers in ((3.2, False), (5.0, True)):
+            told = self.convert(cif_text((3.0, 3.0, height, 90, 90, 90), [("Sn1", "Sn", 0, 0, 0)], operations=["x,y,z"]))[1]
+            self.assertEqual("the nearest neighbours of these metals make layers" in told, are_layers)
+
     def test_peroxide_and_disulphide_are_bonds(self):
         for metal, anion, edge, x, length in (("Zn", "O", 4.871, 0.413, 1.47), ("Fe", "S", 5.4166, 0.3849, 2.16)):
             text = cif_text((edge,) * 3 + (90,) * 3, [("M1", metal, 0, 0, 0), ("X1", anion, x, x, x)], name="P a -3")

@@ -3,11 +3,12 @@
 from __future__ import annotations
 
 from collections import Counter, defaultdict
+from collections.abc import Iterable
 
 import numpy as np
 
 from .contacts import TOO_NEAR, Contact, Wanted, radius
-from .crystal import Crystal
+from .crystal import FULL, Crystal
 from .elements import is_metal, is_water
 from .hydrogen import hydrogen_bridges, ice_bonds
 from .lattice import add
@@ -23,6 +24,11 @@ CLOSE = 0.05      # from one of these bounds, or less: told as a doubt
 ROUNDING = 1e-6   # angstrom
 SHELL_GAP = 1.13  # times the length before: the step that ends the shell of a metal
 SHELL_CLOSE = 0.02  # from that step, or less: told as a doubt
+LONG = 0.50        # angstrom above the radii: neighbours in a nonmetal that are farther are told as a doubt
+# Two oxygens or fluorines that are not joined are at least so far from each other, in angstrom: it
+# is 2.14 in nitrates, and 2.16 in carbon tetrafluoride. Those that are nearer are told as a doubt.
+LEAST_APART = 2.10
+NEVER_NEAR = frozenset(("O", "F"))
 # Of two atoms of one nonmetal that each have two bonds to other elements, the lengths in angstrom
 # that their bonds have: superoxide and peroxide, disulphide, diphosphide and so on (A. F. Wells,
 # Structural Inorganic Chemistry, 1984). B and C make bonds of all lengths, and are not listed.
@@ -65,8 +71,16 @@ def shell_bonds(crystal: Crystal, doubts: list[str]) -> set[Edge]:
         bonds |= {c.edge() for c in near[:end]}
         close |= {f"{end} neighbours up to {lengths[end - 1]:.2f}, {other} up to {lengths[other - 1]:.2f}"
                   for other in {first_gap(lengths, -SHELL_CLOSE), first_gap(lengths, SHELL_CLOSE)} - {end}}
+        close |= _too_long(crystal, near[end - 1])
     doubts += sorted(close)
     return bonds
+
+
+def _too_long(crystal: Crystal, contact: Contact) -> set[str]:
+    """The doubt that two atoms of a nonmetal are farther from each other than its bonds are long."""
+    one, other = (crystal.atoms[v].site.element for v in (contact.first, contact.second))
+    is_long = not is_metal(one) and contact.length > radius(one) + radius(other) + LONG
+    return {f"{one}-{other} {contact.length:.2f} taken, longer than a bond"} if is_long else set()
 
 
 def _contacts_by_atom(crystal: Crystal) -> list[list[Contact]]:
@@ -108,19 +122,32 @@ def radius_bonds(crystal: Crystal, doubts: list[str]) -> set[Edge]:
     close = {f"{elements[c.first]}-{elements[c.second]} {c.length:.2f} "
              + ("taken" if c.edge() in edges else "left out")
              for c in polar if is_metal(elements[c.first]) and _is_close(excess[c], ratio[c])}
-    doubts += sorted(close)
+    doubts += sorted(close | _too_near(crystal, (c for c, more in excess.items() if more > COVALENT)))
     return edges
 
 
+def _too_near(crystal: Crystal, contacts: Iterable[Contact]) -> set[str]:
+    """The doubts about full oxygens and fluorines that are too far from each other for a bond, and
+    too near for none."""
+    elements = [atom.site.element for atom in crystal.atoms]
+    is_full = [atom.occupancy >= FULL for atom in crystal.atoms]
+    return {f"{'-'.join(sorted((elements[c.first], elements[c.second])))} {c.length:.2f} left out, too near for no bond"
+            for c in contacts if c.length < LEAST_APART and {elements[c.first], elements[c.second]} <= NEVER_NEAR
+            and is_full[c.first] and is_full[c.second]}
+
+
 def _may_be_bonds(elements: list[str]) -> Wanted:
-    """Which contacts may be bonds, or close to a bound: not of two metals, nor too near, nor too far."""
+    """Which contacts may be bonds, or close to a bound: not of two metals, nor too near, nor too far.
+    So are oxygens that are too near for no bond."""
     radii = np.array([radius(element) for element in elements])
     metals = np.array([is_metal(element) for element in elements], dtype=int)
     most = np.array([COVALENT, STRETCHED + CLOSE, -np.inf])  # above the radii, by how many of the two are metals
+    least = np.array([LEAST_APART if element in NEVER_NEAR else 0.0 for element in elements])
 
     def are_wanted(first: np.ndarray, second: np.ndarray, length: np.ndarray) -> np.ndarray:
         sums = radii[first] + radii[second]
-        return (length > TOO_NEAR * sums) & (length - sums <= most[metals[first] + metals[second]] + ROUNDING)
+        may_be = length - sums <= most[metals[first] + metals[second]] + ROUNDING
+        return (length > TOO_NEAR * sums) & (may_be | (length < np.minimum(least[first], least[second])))
 
     return are_wanted
 
@@ -184,7 +211,8 @@ def _reach(elements: set[str]) -> float:
     """How long a bond between two of the elements may be."""
     metals = [radius(e) for e in elements if is_metal(e)]
     others = [radius(e) for e in elements if not is_metal(e)]
-    return max(max(metals, default=0.0) + max(others) + STRETCHED, 2 * max(others) + COVALENT)
+    least = LEAST_APART if elements & NEVER_NEAR else 0.0
+    return max(max(metals, default=0.0) + max(others) + STRETCHED, 2 * max(others) + COVALENT, least)
 
 
 def _are_covalent(one: str, other: str) -> bool:

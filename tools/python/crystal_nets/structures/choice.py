@@ -11,6 +11,7 @@ from .bonds import Lengths, find_bonds
 from .components import Component, components
 from .conventions import AUTO, Convention, Framework, conventions_for
 from .crystal import FULL, Crystal
+from .elements import is_metal
 from .hydrogen import hydrogen_bridges
 from .net import Contracted, Edge, Net, contracted, shells, without_ends
 from .notes import CONVENTION, DISORDER, DOUBT, LEFT_OUT, OTHER, Note, shorten
@@ -61,6 +62,8 @@ def nets_of(crystal: Crystal, options: Options, notes: list[Note]) -> list[Named
     if doubts:
         notes.append(Note(DOUBT, "bonds in doubt: " + shorten("; ".join(doubts))))
     periodic = [piece for piece in pieces if piece.dimension >= 2]
+    if any(piece.dimension == 2 for piece in periodic) and all(is_metal(atom.site.element) for atom in crystal.atoms):
+        notes.append(Note(DOUBT, "the nearest neighbours of these metals make layers: farther ones may belong to the net"))
     if not periodic and options.convention in (AUTO, "standard"):
         return _nets_of_molecules(crystal, chosen, options, notes)
     if not periodic:
