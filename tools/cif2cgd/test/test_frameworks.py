@@ -262,15 +262,16 @@ class Conventions(unittest.TestCase):
 
     def test_hydrogen_bonds_join_molecules(self):
         need_program()
-        text = trimesic_acid()
-        done = convert(Source("acid", "acid", "acid"), text.encode(), Options(convention="standard"))
-        self.assertEqual(symbols_of(done.text), {"acid": "hcb"})
-        self.assertIn("each molecule is a vertex", done.text.splitlines()[0])
-        done = convert(Source("acid", "acid", "acid"), text.encode(), Options())
-        self.assertIn("no net: ", done.told(refusals_alone=True)[0])
+        origin = "trimesic acid, made from ideal geometry: not measured"
+        for kind, content in files_of("trimesic acid", origin, trimesic_acid()).items():
+            done = convert(Source(kind, kind, kind), content.encode(), Options(convention="standard"))
+            self.assertEqual(symbols_of(done.text), {kind: "hcb"})
+            self.assertIn("each molecule is a vertex", done.text.splitlines()[0])
+            done = convert(Source(kind, kind, kind), content.encode(), Options())
+            self.assertIn("no net: ", done.told(refusals_alone=True)[0])
 
 
-def trimesic_acid() -> str:
+def trimesic_acid() -> Atoms:
     """A flat layer of benzenetricarboxylic acid, made from ideal geometry: each pair of acids is joined by
     two hydrogen bonds."""
     ring, arm = 1.39, 1.39 + 1.49
@@ -283,8 +284,6 @@ def trimesic_acid() -> str:
             out, side = np.array([np.cos(angle), np.sin(angle)]), np.array([-np.sin(angle), np.cos(angle)])
             for element, x, y in (("C", ring, 0), ("C", arm, 0), ("O", arm + 0.62, 1.11), ("O", arm + 0.62, -1.15),
                                   ("H", arm + 1.6, -1.15), ("C", -ring, 0), ("H", -ring - 1.08, 0)):
-                atoms.append((element, middle + x * out + y * side))
-    lattice = np.array([[edge, 0], [-edge / 2, edge * 3 ** 0.5 / 2]])
-    sites = [(f"{e}{k}", e, *(place @ np.linalg.inv(lattice)), 0.25) for k, (e, place) in enumerate(atoms)]
-    return "# trimesic acid, made from ideal geometry\n" + cif_text(
-        (edge, edge, 6.5, 90, 90, 120), sites, operations=["x,y,z"])
+                atoms.append((element, (*(middle + x * out + y * side), 1.6)))
+    lattice = np.array([[edge, 0, 0], [-edge / 2, edge * 3 ** 0.5 / 2, 0], [0, 0, 6.5]])
+    return Atoms(lattice, [element for element, _ in atoms], np.array([place for _, place in atoms]))
