@@ -298,6 +298,20 @@ class Files(Reading):
         told = self.convert("#\\#CIF_2.0\ndata_a\n_x [1 2]\n", status=1)[1]
         self.assertIn("refused: no CIF (CIF 2.0): ", told)
 
+    def test_operations_with_decimals_and_operations_that_stand_twice(self):
+        text = presentations(structure("quartz"))["published"]
+        rows = self.convert(text)
+        decimals = text.replace("+2/3", "+0.66667").replace("+1/3", "+.3333")
+        self.assertNotEqual(decimals, text)
+        self.assertEqual(self.convert(decimals), rows)
+        self.assertEqual(self.convert(text.replace("'x,y,z'\n", "'x,y,z'\n'x,y,z'\n'x+1,y,z'\n")), rows)
+        self.assertIn("refused: symmetry operations: ", self.convert(decimals.replace("0.66667", "0.61"), status=1)[1])
+        self.assertIn("the 5 symmetry operations are no group", self.convert(text.replace("'x,y,z'\n", ""), status=1)[1])
+
+    def test_line_ends_of_other_systems(self):
+        for end in ("\r\n", "\r"):
+            self.assertEqual(self.convert(QUARTZ.replace("\n", end).encode()), self.convert(QUARTZ))
+
     def test_byte_order_marks_are_passed_over(self):
         rows = self.convert(QUARTZ)[0]
         for content in (b"\xef\xbb\xbf" + QUARTZ.encode(), QUARTZ.encode("utf-16"),

@@ -53,10 +53,11 @@ def blocks_of(content: bytes, stem: str) -> list[Block]:
 
 
 def text_of_file(content: bytes) -> str:
-    """The text without a byte order mark, and _ for what a CIF file may not have."""
+    """The text without a byte order mark, with the line ends of this system, and _ for what a CIF
+    file may not have."""
     if content.startswith((codecs.BOM_UTF16_LE, codecs.BOM_UTF16_BE)):
         content = content.decode("utf-16", errors="replace").encode("ascii", errors="replace")
-    plain = content.removeprefix(codecs.BOM_UTF8).replace(b"\0", b"_")
+    plain = content.removeprefix(codecs.BOM_UTF8).replace(b"\0", b"_").replace(b"\r\n", b"\n").replace(b"\r", b"\n")
     return plain.decode("ascii", errors="replace").replace("\ufffd", "_")
 
 

@@ -2,7 +2,9 @@
 
 from __future__ import annotations
 
+import re
 from dataclasses import dataclass
+from fractions import Fraction
 
 import gemmi
 import numpy as np
@@ -16,6 +18,8 @@ HALL_TAGS = ("_space_group_name_Hall", "_symmetry_space_group_name_Hall")
 NAME_TAGS = ("_space_group_name_H-M_alt", "_symmetry_space_group_name_H-M",
              "_space_group.name_H-M_full")
 NUMBER_TAGS = ("_space_group_IT_number", "_symmetry_Int_Tables_number")
+DECIMAL = re.compile(r"\d*\.\d+")
+OF_FRACTION = 0.001     # between a decimal of an operation and the fraction that it means
 ORIGINS = (":1", ":2")  # how the table of groups names the two, where there are two
 
 
@@ -90,14 +94,21 @@ def _symmetry(group: gemmi.GroupOps, source: str, has_origin: bool = True) -> Sy
 
 
 def _listed_group(listed: list[str]) -> gemmi.GroupOps:
-    """The group of the operations, if they are one."""
+    """The group of the operations, if they are one. What is listed twice counts once."""
     try:
-        operations = [gemmi.Op(text) for text in listed]
+        operations = list(dict.fromkeys(gemmi.Op(DECIMAL.sub(_as_fraction, text)).wrap() for text in listed))
         group = gemmi.GroupOps(operations)
         group.add_missing_elements()
     except (RuntimeError, ValueError) as error:
         raise Unreadable(f"symmetry operations: {error}") from error
-    wanted = {op.wrap() for op in operations}
-    if len(group) != len(wanted):
-        raise Unreadable(f"the {len(wanted)} symmetry operations are no group")
+    if len(group) != len(operations):
+        raise Unreadable(f"the {len(operations)} symmetry operations are no group")
     return group
+
+
+def _as_fraction(found: re.Match[str]) -> str:
+    """The fraction that a decimal of an operation means, as 2/3 for 0.66667; the decimal itself,
+    where it means none that a space group has."""
+    value = float(found[0])
+    fraction = Fraction(round(value * gemmi.Op.DEN), gemmi.Op.DEN)
+    return f"{fraction.numerator}/{fraction.denominator}" if abs(value - fraction) < OF_FRACTION else found[0]
