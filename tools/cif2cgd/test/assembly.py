@@ -23,6 +23,7 @@ BOND = 1.49    # between two rings, or a ring and a carboxylate
 NEAR = 2.7     # pairs of a unit that are nearer keep their distance
 LEAST = 2.2    # other pairs are not nearer
 LEAST_OF_HYDROGEN = 1.7
+Places = tuple[np.ndarray, np.ndarray]  # of vertices, in fractions of a cell, and its edges as rows, of any length
 
 
 @dataclass
@@ -125,18 +126,20 @@ class Assembly:
         self.places = list(done.x[9:].reshape(count, 3) @ self.lattice)
 
 
-def assemble(edges: list[Edge], units: list[Unit], link: list[Unit | None], is_crowded: bool = False) -> Assembly:
+def assemble(edges: list[Edge], units: list[Unit], link: list[Unit | None], is_crowded: bool = False,
+             start: Places | None = None) -> Assembly:
     """The framework of a net: a unit for each vertex, and for each edge a linker with two ends, or none
-    where the units are joined to each other."""
+    where the units are joined to each other. Where no places to start from are given, they are the
+    means of their neighbours."""
     edges = [(u, v, tuple(s) + (0,) * (3 - len(s))) for u, v, s in edges]
-    places, lattice = placed(edges, len(units))
+    places, lattice = start or placed(edges, len(units))
     arcs = arcs_of(edges, len(units))
     sizes = [np.mean([np.linalg.norm(unit.places[end]) for end in unit.ends]) for unit in units]
     wanted = [sizes[u] + sizes[v] + (bond(units[u], units[v]) if part is None else
                                      bond(units[u], part) + length_of(part) + bond(part, units[v]))
               for (u, v, _), part in zip(edges, link)]
     found = [np.linalg.norm((places[v] + s - places[u]) @ lattice) for u, v, s in edges]
-    lattice *= float(np.mean(wanted) / np.mean(found))
+    lattice = lattice * float(np.mean(wanted) / np.mean(found))
     assembly = Assembly(lattice)
     ends: dict[tuple, int] = {}
     for v, unit in enumerate(units):
@@ -149,9 +152,8 @@ def assemble(edges: list[Edge], units: list[Unit], link: list[Unit | None], is_c
         if part is None:
             assembly.join(one, other, shift, bond(units[u], units[v]))
             continue
-        start = assembly.places[one]
-        step = assembly.places[other] + np.array(shift) @ lattice - start
-        near, far = assembly.add(part, assembly.with_most_room(part, start, step))
+        step = assembly.places[other] + np.array(shift) @ lattice - assembly.places[one]
+        near, far = assembly.add(part, assembly.with_most_room(part, assembly.places[one], step))
         assembly.join(one, near, (0, 0, 0), bond(units[u], part))
         assembly.join(far, other, shift, bond(part, units[v]))
     assembly.relax(is_crowded)

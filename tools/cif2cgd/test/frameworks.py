@@ -13,9 +13,10 @@ from pathlib import Path
 
 import building_units as u
 import numpy as np
-from assembly import Assembly, Unit, arcs_of, assemble, placed
+from assembly import Assembly, Places, Unit, arcs_of, assemble, placed
 from odd_cells import Edge, edges_of_archive, in_larger_cell, small_lattices
 from structures import Structure
+from supertetrahedra import with_faces
 from testing import TOP
 
 Nets = dict[str, str]  # by the convention, the symbol of the archive
@@ -71,6 +72,7 @@ class Assembled:
     conventions: tuple[str, ...] = ("single-nodes", "all-nodes")
     other_nets: tuple[tuple[str, str], ...] = ()  # by conventions under which it is another
     is_crowded: bool = False                      # so that linkers are to be pushed apart
+    made: Callable[[], tuple[list[Edge], Places]] | None = None  # the net with the places to start from
 
     @property
     def nets(self) -> Nets:
@@ -78,13 +80,13 @@ class Assembled:
 
     def assembly(self) -> Assembly:
         units, link = self.units(), self.link() if self.link else None
-        edges = nets_of_archive()[self.net]
+        edges, start = self.made() if self.made else (nets_of_archive()[self.net], None)
         edges, colours = in_two_colours(edges) if (4, 0) in units else (edges, {})
         count = 1 + max(max(a, b) for a, b, _ in edges)
         kinds = kinds_of(edges, count, colours)
         chosen = [next(units[kind] for kind in kinds[v] if kind in units) for v in range(count)]
         links = [link if kinds[a][0] == kinds[b][0] else None for a, b, _ in edges]
-        return assemble(edges, chosen, links, self.is_crowded)
+        return assemble(edges, chosen, links, self.is_crowded, start)
 
 
 def kinds_of(edges: list[Edge], count: int, colours: dict[int, int]) -> list[list]:
@@ -147,6 +149,8 @@ ASSEMBLED = (
     Assembled("PCN-224", "she", lambda: {6: u.zirconium_oxide(u.HEXAGON), 4: u.porphyrin("Ni")}),
     Assembled("MOF-808", "spn", lambda: {6: u.zirconium_oxide(u.ANTIPRISM), 3: u.three_arms()}),
     Assembled("MIL-88B", "acs", lambda: {6: u.trimer()}, u.phenylenes),
+    Assembled("MIL-100", "moo", lambda: {6: u.trimer(), 3: u.three_arms()},
+              made=lambda: with_faces(nets_of_archive()["MTN"])),
     Assembled("UMCM-1", "muo", lambda: {6: u.zinc_oxide(), 3: u.three_arms(arms=1)}, u.phenylenes),
     Assembled("NU-902", "scu", lambda: {8: u.zirconium_oxide(u.EIGHT), 4: u.porphyrin()}),
     Assembled("MOF-11", "pts", lambda: {(4, "flat"): u.paddlewheel(), (4, "round"): u.adamantane()}, None,

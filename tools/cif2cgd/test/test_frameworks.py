@@ -22,8 +22,8 @@ from crystal_nets.structures.conventions import CONVENTIONS  # noqa: E402
 from crystal_nets.structures.conversion import Source, convert  # noqa: E402
 
 CLUSTERS = [s for s in STRUCTURES if "--clusters" in s.words]
-LARGE = ("UMCM-1", "PCN-6'", "PCN-222", "PCN-224", "NU-1000", "MOF-808", "UiO-67", "ZIF-6", "ZIF-10", "ZIF-11", "ZIF-20",
-         "COF-102", "COF-108")  # that take long, for tools/test --long
+LARGE = ("MIL-100", "UMCM-1", "PCN-6'", "PCN-224", "NU-1000", "MOF-808", "UiO-67", "ZIF-6", "ZIF-10", "ZIF-11", "ZIF-20",
+         "PCN-222", "COF-102", "COF-108")  # that take long, for tools/test --long
 WATER = (("O", (0, 0, 0)), ("H", (0.76, 0.59, 0)), ("H", (-0.76, 0.59, 0)))
 
 

@@ -62,8 +62,9 @@ def nets_of(crystal: Crystal, options: Options, notes: list[Note]) -> list[Named
     if doubts:
         notes.append(Note(DOUBT, "bonds in doubt: " + shorten("; ".join(doubts))))
     periodic = [piece for piece in pieces if piece.dimension >= 2]
-    if any(piece.dimension == 2 for piece in periodic) and all(is_metal(atom.site.element) for atom in crystal.atoms):
-        notes.append(Note(DOUBT, "the nearest neighbours of these metals make layers: farther ones may belong to the net"))
+    has_layers = any(piece.dimension == 2 for piece in periodic)
+    if has_layers and all(is_metal(atom.site.element) for atom in crystal.atoms):
+        notes.append(Note(DOUBT, "the nearest neighbours of these metals make layers: farther ones may be of the net"))
     if not periodic and options.convention in (AUTO, "standard"):
         return _nets_of_molecules(crystal, chosen, options, notes)
     if not periodic:
