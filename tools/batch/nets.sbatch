@@ -17,6 +17,7 @@ case ${1:-} in
     ;;
 esac
 set -eu
+[ $# -ge 2 ] || { echo "usage: sbatch --array=1-16 nets.sbatch TOOLS FOLDER [COMMAND [ARCHIVE]]" >&2; exit 2; }
 tools=$1 folder=$2
 shift 2
 if [ -e "$folder/work/plan" ]; then

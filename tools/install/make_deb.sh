@@ -1,6 +1,6 @@
 #!/bin/sh
 # make_deb.sh VERSION FOLDER [PROGRAM]: the Debian package crystal-net-tool of the built program and its tools, in
-# FOLDER, by dpkg-deb. MAINTAINER is told in it. The package has no copyright file, as this repository has none yet.
+# FOLDER, by dpkg-deb. MAINTAINER is told in it. Its copyright file says that the repository states no licence.
 set -eu
 umask 022
 
@@ -32,6 +32,7 @@ DESTDIR=$root "$here/install.sh" /usr "$program" >/dev/null
 rm -f -- "$root"/usr/share/net_tool/archives/rcsr*.archive  # what its owner made is not ours to give
 strip --strip-unneeded --remove-section=.comment "$root/usr/lib/net_tool/net_tool"
 mv "$root/usr/share/doc/net_tool" "$root/usr/share/doc/$name"
+install -m 644 -- "$here/copyright" "$root/usr/share/doc/$name/copyright"
 mkdir -p "$root/usr/lib/python3"
 mv "$root/usr/share/net_tool/tools/python" "$root/usr/lib/python3/dist-packages"
 

@@ -4,6 +4,7 @@ import random
 import subprocess
 import sys
 
+from mutants import mutant
 from testing import IS_LONG, PROGRAM, TOOLS, TOP, FolderTest, need_program, run
 
 BATCH = TOOLS / "batch"
@@ -35,34 +36,6 @@ from crystal_nets.texts.component_text import parts_of_report  # noqa: E402
 from crystal_nets.texts.key_graph import block_rows  # noqa: E402
 from crystal_nets.texts.net_text import NoReport, nets_of_report  # noqa: E402
 from crystal_nets.texts.row_text import rows_of  # noqa: E402
-
-
-def mutant(text: bytes, chance: random.Random) -> bytes:
-    """The text with one to three faults: cut, lines lost or doubled, bytes changed, parts of lines exchanged."""
-    for _ in range(chance.randint(1, 3)):
-        lines, at = text.splitlines(keepends=True), chance.randrange(len(text) or 1)
-        kind, row = chance.randrange(7), chance.randrange(len(lines) or 1)
-        if not lines:
-            return text
-        if kind == 0:
-            text = text[:at]
-        elif kind == 1:
-            text = text[:at] + bytes((chance.randrange(256),)) + text[at + 1:]
-        elif kind == 2:
-            text = b"".join(lines[:row] + lines[row + 1:])
-        elif kind == 3:
-            text = b"".join(lines[:row] + [lines[row], *lines[row:]])
-        elif kind == 4:
-            text = text[:at] + chance.choice((b" ", b"-", b"9" * 30, b"\n", b"\t", b'"', b"\xff")) + text[at:]
-        elif kind == 5:
-            other = chance.randrange(len(lines))
-            lines[row], lines[other] = lines[other], lines[row]
-            text = b"".join(lines)
-        else:
-            parts = lines[row].split(b" ")
-            del parts[chance.randrange(len(parts))]
-            text = b"".join(lines[:row] + [b" ".join(parts)] + lines[row + 1:])
-    return text
 
 
 def lines_of(text: bytes) -> list[bytes]:

@@ -2,11 +2,13 @@
 
 import os
 import pty
+import random
 import subprocess
 from pathlib import Path
 
+from mutants import Script, mutant
 from odd_cells import edges_of_archive
-from testing import PROGRAM, TOOLS, TOP, FolderTest, need_modules, need_program, run
+from testing import IS_LONG, PROGRAM, TOOLS, TOP, FolderTest, need_modules, need_program, run
 from test_blocks import ITEMS, KNOWN, WITH_EDGES, parts_of
 
 need_modules("gemmi", "numpy", "scipy")
@@ -88,7 +90,7 @@ class Collections(FolderTest):
         named = run(NAME, TOP / "examples/mystery.cgd", self.folder / "archives").stdout.decode().splitlines()
         self.assertIn("1\tsample A\tdia", named)
         run(command, status=2)
-        self.assertIn(b"take_rcsr FILE", run(command, "--help").stderr)
+        self.assertIn(b"take_rcsr FILE", run(command, "--help").stdout)
         run(command, self.folder / "absent", status=3)
 
     def test_what_is_refused_stands_beside_with_reasons(self):
@@ -137,9 +139,33 @@ class Collections(FolderTest):
         failing.chmod(0o755)
         done = run(MAKE, self.folder / "nets", file, NET_TOOL=str(failing), status=3)
         self.assertIn(b"key ended with 7: no", done.stderr)
+        other = self.write("other", "#!/bin/sh\necho net 1 x\n")
+        other.chmod(0o755)
+        done = run(MAKE, self.folder / "nets", file, NET_TOOL=str(other), status=3)
+        self.assertIn(b"gave no report", done.stderr)
         run(MAKE, self.folder / "nets", self.write("empty.cgd", "# nothing\n"), status=3)
         run(MAKE, status=2)
         self.assertEqual(list(self.folder.glob("nets*")), [])
+
+    def test_mutants(self):
+        """Of a damaged file an archive is made that the program reads, or nothing, and each refusal has its reason."""
+        chance = random.Random(6)
+        make = Script(MAKE, self.folder)
+        texts = [(TOP / f"examples/{name}.cgd").read_bytes() for name in ("mystery", "embedded", "twice")]
+        for _ in range(2_000 if IS_LONG else 25):
+            file = self.folder / "x.cgd"
+            file.write_bytes(mutant(chance.choice([*texts, ITEMS.encode(), REFUSED.encode()]), chance))
+            done = make.run(self.folder / "nets", file)
+            self.assertNotIn(b"Traceback", done.stderr)
+            self.assertIn(done.status, (0, 1, 3), done)
+            self.assertEqual((done.status == 3, done.stdout == b""), (done.stderr != b"", done.stderr != b""), done)
+            refused = self.folder / "nets.refused"
+            self.assertEqual((self.folder / "nets.archive").exists(), done.status < 3)
+            self.assertEqual(refused.exists() and refused.stat().st_size > 0, done.status == 1)
+            if done.status < 3:
+                run(PROGRAM, "duplicates", "--archive", self.folder / "nets.archive")
+            for path in self.folder.glob("nets.*"):
+                path.unlink()
 
     def test_a_terminal_sees_a_bar(self):
         file = self.write("a.cgd", crystals())

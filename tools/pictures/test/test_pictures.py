@@ -12,6 +12,7 @@ import xml.etree.ElementTree as ElementTree
 from pathlib import Path
 from shutil import which
 
+from mutants import Script, mutant
 from odd_cells import block, edges_of_archive, in_odd_cell
 from testing import (IS_LONG, PROGRAM, TOOLS, TOP, FolderTest, long_test, need_commands, need_modules, need_program,
                      run)
@@ -203,6 +204,34 @@ class Files(FolderTest):
             done = run(DRAW, "--svg", self.folder / str(k), stdin=damaged, status=None)
             self.assertNotIn(b"Traceback", done.stderr)
             self.assertEqual((done.returncode, (self.folder / str(k)).exists()), (0, True) if done.returncode == 0 else (1, False))
+
+    def test_mutants_of_reports(self):
+        """Of a damaged report each net with a key is drawn, or nothing; what has no picture is told."""
+        script, chance = Script(DRAW, self.folder), random.Random(5)
+        reports = [run(PROGRAM, "identify", TOP / f"examples/{name}.cgd", status=None).stdout for name in ("dia", "sql", "embedded")]
+        for k in range(2_000 if IS_LONG else 12):
+            damaged = mutant(b"".join(chance.sample(reports, 2)) if k % 2 else chance.choice(reports), chance)
+            page, crystals = self.folder / f"{k}.html", self.folder / f"{k}.cgd"
+            done = script.run("--jobs", 1, "--page", page, "--cgd", crystals, stdin=damaged)
+            self.assertNotIn(b"Traceback", done.stderr)
+            self.assertIn(done.status, (0, 1), done)
+            self.assertEqual(done.status == 1, done.stderr != b"", done)
+            if page.exists():
+                count = len(json.loads(re.search(r"(?m)^const nets = (.*);$", page.read_text())[1]))
+                missing = len(set(re.findall(rb"(?m)^net (\d+) .*: no picture", done.stderr)))
+                self.assertEqual(count + missing, len(list(nets_of_report(damaged.splitlines(keepends=True)))))
+                page.unlink()
+            crystals.unlink(missing_ok=True)
+
+    def test_mutants_of_archives(self):
+        chance, text = random.Random(6), ARCHIVE.read_bytes()
+        text = text[:text.index(b"end\n", 6_000) + 4]
+        for k in range(200 if IS_LONG else 3):
+            archive = self.folder / f"{k}.archive"
+            archive.write_bytes(mutant(text, chance))
+            done = run(TOOLS / "pictures/net_gallery", "--jobs", 1, self.folder / "pages", archive, status=None)
+            self.assertNotIn(b"Traceback", done.stderr)
+            self.assertEqual((done.returncode != 0, (self.folder / f"pages/{k}.html").exists()), (done.stderr != b"", done.stdout != b""))
 
     def test_help_makes_nothing(self):
         for word in ("--help", "-h"):

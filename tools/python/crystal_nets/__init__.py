@@ -27,6 +27,7 @@ tables      tables of many nets, which net_table makes; read_table for pandas
 texts       the texts around net_tool: files of nets, reports, rows, archives, the graph of a key
 structures  from structure files to nets, as cif2cgd reads them
 blocks      from .cgd and .arc files to nets, as cgd2net reads them
+desk        the page of net_desk and its server
 pictures    nets drawn, and written as crystals, as draw_nets does"""
 
 from __future__ import annotations
@@ -61,7 +62,8 @@ HOMES = {"answers": "Answer Answers Placement PrimitiveGraph to_pandas", "archiv
          "asking": "identify identify_all keys", "covers": "Cover cover", "drawing": "svg",
          "errors": "CrystalNetsError NotANet NotAnArchive PackageMissing ProgramFailed ProgramNotFound",
          "groups": "Group Groups group", "maps": "NetMap Sameness same", "net": "Net", "outcome": "Outcome",
-         "parts": "Component Components components net_of_key", "program": "find_program", "reading": "read", "tables.columns": "read_table"}
+         "parts": "Component Components components net_of_key", "program": "find_program", "reading": "read",
+         "tables.columns": "read_table"}
 HOME_OF = {name: module for module, names in HOMES.items() for name in names.split()}
 
 

@@ -30,6 +30,8 @@ def svg(source: Net | Answer) -> str:
         from .pictures.view import view_of
     except ModuleNotFoundError as missing:
         raise PackageMissing(f"pictures: {missing}; apt-get install python3-numpy") from missing
+    if report is None:
+        raise NotANet("the program says nothing of the net of this answer")
     try:
         return picture(view_of(Shape(placed_net(report))), _label(answer))
     except NotPlaced as reason:

@@ -3,6 +3,7 @@
 import doctest
 import importlib
 import os
+import pkgutil
 import shutil
 import subprocess
 import sys
@@ -14,6 +15,7 @@ FOLDER = TOOLS / "python"
 PACKAGE = FOLDER / "crystal_nets"
 sys.path.insert(0, str(FOLDER))
 MODULES = sorted(path.stem for path in PACKAGE.glob("*.py") if path.stem != "__init__")
+PACKAGES = sorted(path.parent.name for path in PACKAGE.glob("*/__init__.py"))
 
 
 class Imports(unittest.TestCase):
@@ -38,7 +40,7 @@ class Imports(unittest.TestCase):
 
     def test_each_module_is_named_in_the_map(self):
         told = (PACKAGE / "__init__.py").read_text()
-        for name in MODULES:
+        for name in MODULES + PACKAGES:
             self.assertRegex(told, rf"\b{name} ", name)
 
     def test_each_name_is_there(self):
@@ -53,10 +55,14 @@ class Imports(unittest.TestCase):
 class Docstrings(unittest.TestCase):
     def test_examples_in_docstrings(self):
         need_program()
+        need_modules("gemmi", "numpy", "scipy", "spglib", "flask")
         import crystal_nets
         names = {name: getattr(crystal_nets, name) for name in ("Net", "Archive")}
         tried = 0
-        for name in ("crystal_nets", *(f"crystal_nets.{module}" for module in MODULES)):
+        for found in pkgutil.walk_packages([str(FOLDER)]):
+            name = found.name
+            if not name.startswith("crystal_nets"):
+                continue
             done = doctest.testmod(importlib.import_module(name), extraglobs=names)
             self.assertEqual(done.failed, 0, name)
             tried += done.attempted

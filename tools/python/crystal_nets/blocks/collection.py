@@ -16,7 +16,7 @@ from dataclasses import dataclass
 from pathlib import Path
 
 from ..program import find_program
-from ..texts.net_text import MOST_BLOCKS, MOST_BYTES, nets_of_report
+from ..texts.net_text import MOST_BLOCKS, MOST_BYTES, NoReport, nets_of_report
 
 from .converter import Block, Converter, lines_of
 from .tokens import decoded, shown
@@ -124,7 +124,10 @@ def find_keys(nets: list[Net], program: str) -> Iterator[tuple[Net, str]]:
     for k in range(0, len(nets), PIECE):
         piece = nets[k:k + PIECE]
         _, told = run(program, "key", b"".join(net.text for net in piece))
-        reports = list(nets_of_report(told.splitlines(keepends=True)))
+        try:
+            reports = list(nets_of_report(told.splitlines(keepends=True)))
+        except NoReport as fault:
+            raise Failed(f"{program} key gave no report: {fault}") from fault
         if len(reports) != len(piece):
             raise Failed(f"{program} reports {len(reports)} nets of {len(piece)}")
         for net, report in zip(piece, reports):

@@ -6,7 +6,7 @@ are cubic or hexagonal by accident, and more symmetric than their nets."""
 from __future__ import annotations
 
 import math
-from collections.abc import Iterator
+from collections.abc import Callable, Iterator
 from itertools import combinations, product
 
 import numpy as np
@@ -82,7 +82,7 @@ class Axes:
                    "hexagonal": self._with_one_axis(3) if in_space else self._alike(3, 2)}
         return (cell for cell in choices[word]() if _volume(cell))
 
-    def _alike(self, size: int, count: int):
+    def _alike(self, size: int, count: int) -> Callable[[], Iterator[list[Row]]]:
         """Axes of one orbit."""
         def cells() -> Iterator[list[Row]]:
             for orbit in self.orbits_of(size):
@@ -90,7 +90,7 @@ class Axes:
                     yield orbit[:count]
         return cells
 
-    def _with_one_axis(self, size: int):
+    def _with_one_axis(self, size: int) -> Callable[[], Iterator[list[Row]]]:
         """Two axes of one orbit, of two or three, and one axis by itself at right angles to them.
         The turn of order 3 or 4 joins the two, whatever else there is."""
         def cells() -> Iterator[list[Row]]:

@@ -8,6 +8,8 @@ from pathlib import Path
 
 import numpy as np
 
+from ..texts.net_text import NetReport
+
 from .svg import STUB
 from .text import PALETTE, label_of, printable, summary_of
 from .view import View
@@ -24,7 +26,7 @@ def page_of(title: str, cards: list[dict]) -> str:
     return text.replace("@NETS@", nets)
 
 
-def card_of(report, view: View) -> dict:
+def card_of(report: NetReport, view: View) -> dict:
     """What the script draws from: places around the middle of what is shown."""
     window, corners = view.window, view.corners
     points = _in_space(view, window.spots)

@@ -6,6 +6,8 @@ from dataclasses import dataclass
 
 import numpy as np
 
+from ..texts.net_text import NetReport
+
 FARTHEST = 1e-9  # from the mean of its neighbours, in edges of the cell: up to rounding
 Edge = tuple[int, int, tuple[int, ...]]  # two classes from 0 on, and the cell of the second
 
@@ -56,7 +58,7 @@ class NotPlaced(Exception):
     """Positions and edges of the report do not fit each other, so that it is of no net."""
 
 
-def placed_net(report) -> Placed:
+def placed_net(report: NetReport) -> Placed:
     """The net of a report that has a key. The report says where each vertex stands; two share a
     class where their places differ by a vector of the lattice, and the classes are numbered by
     their first vertices. NotPlaced where this is no net whose vertices are at the means."""

@@ -95,13 +95,13 @@ def _lattice_points(to_cell: np.ndarray, count: int) -> list[np.ndarray]:
 def _origin(places: np.ndarray, found: list[Symmetry], is_far: bool) -> np.ndarray:
     """The point that most symmetries fix, of vertices and of points that single symmetries fix; of
     equals the one nearest to a vertex, or farthest from all where a channel is to be in the middle."""
-    points = list(places)
+    fixed = list(places)
     shifts = np.array(list(product(range(-1, 3), repeat=places.shape[1])))
     for symmetry in found:
         still = np.eye(places.shape[1]) - symmetry.turn
         if round(np.linalg.det(still)) != 0:
-            points += list((symmetry.move + shifts) @ np.linalg.inv(still))
-    points = into_cell(np.array(points))
+            fixed += list((symmetry.move + shifts) @ np.linalg.inv(still))
+    points = into_cell(np.array(fixed))
     points = points[np.sort(np.unique(marks(points), axis=0, return_index=True)[1])]
     fixed_by = np.zeros(len(points), int)
     for symmetry in found:

@@ -4,6 +4,8 @@ from __future__ import annotations
 
 import numpy as np
 
+from ..texts.net_text import NetReport
+
 from .shape import Shape
 
 # Okabe and Ito's colours, which colour-blind readers tell apart. From the ninth kind of vertex on
@@ -42,7 +44,7 @@ def is_no_xml(c: str) -> bool:
     return c < " " or c == "\x7f" or 0xD800 <= ord(c) <= 0xDFFF or ord(c) in (0xFFFE, 0xFFFF)
 
 
-def label_of(report) -> str:
+def label_of(report: NetReport) -> str:
     """The name of a net, or else its first name in the archive, or else its number."""
     names = [report.name, *report.names]
     return printable(next((name for name in names if name), b"net %d" % report.number))

@@ -1,0 +1,186 @@
+"""Each command of many nets on damaged texts: no traceback, no status that is lost, nothing told beside a reason."""
+
+import random
+import sys
+import unittest
+from pathlib import Path
+
+from mutants import Done, Script, mutant
+from test_damaged import ARCHIVE, BATCH, COMPONENTS, EXAMPLES
+from testing import IS_LONG, PROGRAM, TOOLS, FolderTest, need_program, run
+
+sys.path.insert(0, str(TOOLS / "python"))
+from crystal_nets.texts.net_text import nets_of_report  # noqa: E402
+
+MUTANTS = 2_000 if IS_LONG else 25
+SHELLS = 200 if IS_LONG else 5  # mutants for a script of sh, of which each run starts several processes
+STATUSES = {0, 1, 2, 3, 5, 6, 8, 11}  # of net_tool and of the commands here
+
+
+def nets_in(report: bytes) -> int:
+    return len(list(nets_of_report(report.splitlines(keepends=True))))
+
+
+class Mutants(FolderTest):
+    """Seeded mutants of what a command reads."""
+
+    @classmethod
+    def setUpClass(cls):
+        need_program()
+        cls.nets = (EXAMPLES / "mystery.cgd").read_bytes()
+        cls.report = run(PROGRAM, "identify", EXAMPLES / "mystery.cgd", "--archive", ARCHIVE).stdout
+        cls.keys = run(PROGRAM, "key", EXAMPLES / "interwoven.cgd", status=1).stdout
+        cls.rows = run(BATCH / "net_rows", stdin=cls.report).stdout
+        archive = ARCHIVE.read_bytes()
+        cls.archive = archive[:archive.index(b"end\n", 9_000) + 4]
+
+    def setUp(self):
+        super().setUp()
+        self.chance = random.Random(self.id())
+
+    def mutants(self, *texts: bytes, count: int = MUTANTS):
+        for _ in range(count):
+            yield mutant(self.chance.choice(texts), self.chance)
+
+    def written(self, name: str, content: bytes) -> Path:
+        (self.folder / name).write_bytes(content)
+        return self.folder / name
+
+    def check(self, done: Done, is_silent: bool = True) -> None:
+        """It ended with a status of its own, with its reason where there is one, and told nothing then."""
+        told = done.stderr.decode(errors="replace")
+        self.assertNotIn("Traceback", told)
+        self.assertIn(done.status, STATUSES, told)
+        if is_silent:
+            self.assertEqual(done.status > 0, told != "", done)
+            self.assertTrue(done.status == 0 or not done.stdout, done)
+
+
+class Scripts(Mutants):
+    """Those of python3."""
+
+    def test_net_rows(self):
+        script, count = Script(BATCH / "net_rows", self.folder), 0
+        for text in self.mutants(self.report, self.keys):
+            for words in ([], ["--json"]):
+                done = script.run(*words, stdin=text)
+                self.check(done)
+                if done.status == 0:
+                    count += 1
+                    self.assertEqual(done.stdout.count(b"\n"), nets_in(text))
+        self.assertLess(count, MUTANTS // 2)
+
+    def test_net_groups(self):
+        script = Script(BATCH / "net_groups", self.folder)
+        for text in self.mutants(self.rows + self.rows.replace(b"\tsample", b"\tother")):
+            self.check(script.run(self.written("rows", text)))
+
+    def test_net_names(self):
+        script, rows = Script(BATCH / "net_names", self.folder), self.written("rows", self.rows)
+        for text in self.mutants(self.archive):
+            self.check(script.run(self.written("x.archive", text), rows))
+        archive = self.written("y.archive", self.archive)
+        for text in self.mutants(self.rows):
+            self.check(script.run(archive, self.written("other", text)))
+
+    def test_accepted_nets(self):
+        script = Script(BATCH / "accepted_nets", self.folder)
+        report, nets = self.written("report", self.report), self.written("nets", self.nets)
+        for text in self.mutants(self.report):
+            done = script.run(self.written("other", text), nets, *self.chance.choice(([], ["--new-names", "--new-keys"])))
+            self.check(done, is_silent=False)
+            self.assertEqual(done.stdout == b"", done.status != 0)
+        for text in self.mutants(self.nets):
+            done = script.run(report, self.written("other", text))
+            self.check(done, is_silent=False)
+            self.assertTrue(done.status == 0 or not done.stdout)
+
+    def test_split_nets(self):
+        script = Script(BATCH / "split_nets", self.folder)
+        items = b'key 2 1 1 1 0 1 1 0 1\n  version 1\n  id "square"\nend\n' * 5
+        for k, text in enumerate(self.mutants(self.nets, items, self.archive, self.report)):
+            pieces = self.folder / f"p{k}"
+            done = script.run("--blocks", 2, "-", pieces, stdin=text)
+            self.check(done)
+            if done.status == 0:
+                names = [row.split("\t")[0] for row in (pieces / "index.tsv").read_text().splitlines()]
+                self.assertEqual(b"".join((pieces / name).read_bytes() for name in names), text)
+
+    def test_archive_nets(self):
+        script = Script(BATCH / "archive_nets", self.folder)
+        for text in self.mutants(self.archive):
+            self.check(script.run(self.written("x.archive", text)))
+
+    def test_component_nets(self):
+        script = Script(BATCH / "component_nets", self.folder)
+        for text in self.mutants(COMPONENTS):
+            done = script.run(stdin=text)
+            self.check(done, is_silent=False)
+            self.assertEqual(done.status > 0, done.stderr != b"")
+
+    def test_net_table(self):
+        """Of a damaged source each net or file has its row."""
+        script = Script(BATCH / "net_table", self.folder)
+        archive = self.written("x.archive", self.archive)
+        for k, text in enumerate(self.mutants(self.nets, (EXAMPLES / "embedded.cgd").read_bytes())):
+            result = self.folder / f"r{k}"
+            words = ["--archive", archive] if k % 8 == 0 else ["--no-names"]
+            done = script.run("--jobs", 1, *words, self.written("nets.cgd", text), result)
+            self.check(done, is_silent=False)
+            self.assertIn(done.status, (0, 1), done.stderr)
+            self.assertEqual(done.stderr, b"")
+            rows = (result / "table.tsv").read_bytes().splitlines()[1:]
+            refused = (result / "refused.tsv").read_bytes().splitlines()[1:]
+            self.assertEqual(done.status, int(bool(refused)))
+            self.assertTrue(done.stdout.endswith(b": %d nets, " % len(rows) + done.stdout.partition(b" nets, ")[2]))
+
+    def test_what_net_table_keeps(self):
+        """Where a plan or rows were damaged, it makes them anew or says why not, and the table is that of a whole run."""
+        script, source = Script(BATCH / "net_table", self.folder), self.written("nets.cgd", self.nets)
+        result = self.folder / "result"
+        self.check(script.run("--no-names", source, result), is_silent=False)
+        kept = {path: path.read_bytes() for path in (result / "work").iterdir() if path.name != "lock"}
+        table = (result / "table.tsv").read_bytes()
+        for path in self.chance.choices(sorted(kept), k=MUTANTS):
+            path.write_bytes(mutant(kept[path], self.chance))
+            done = script.run("--no-names", "--jobs", 1, source, result)
+            self.check(done, is_silent=False)
+            self.assertIn(done.status, (0, 3))
+            if done.status == 0:
+                self.assertEqual((result / "table.tsv").read_bytes(), table, path)
+            path.write_bytes(kept[path])
+
+
+class ShellScripts(Mutants):
+    """Those of sh."""
+
+    def ran(self, *words: object) -> Done:
+        done = run(*words, status=None)
+        return Done(done.returncode, done.stdout, done.stderr)
+
+    def test_key_piece(self):
+        """Rows come of a whole piece with its index alone; they are as many as its blocks."""
+        run(BATCH / "split_nets", self.written("nets.cgd", self.nets), self.folder / "pieces")
+        kept = {name: (self.folder / "pieces" / name).read_bytes() for name in ("p00001.cgd", "index.tsv")}
+        rows = self.folder / "pieces/p00001.cgd.rows"
+        for k, name in enumerate(self.chance.choices(sorted(kept), k=SHELLS)):
+            (self.folder / "pieces" / name).write_bytes(mutant(kept[name], self.chance))
+            done = self.ran(BATCH / "key_piece", self.folder / "pieces", 1, ("key", "identify")[k % 2])
+            self.assertNotIn(b"Traceback", done.stderr)
+            self.assertEqual((done.status != 0, done.stdout), (done.stderr != b"", b""), done)
+            self.assertEqual(rows.exists(), done.status == 0, done)
+            rows.unlink(missing_ok=True)
+            (self.folder / "pieces" / name).write_bytes(kept[name])
+        self.assertEqual(len(list((self.folder / "pieces").iterdir())), 2)
+
+    def test_name_nets(self):
+        archive = self.written("x.archive", self.archive)
+        for text in self.mutants(self.nets, count=SHELLS):
+            self.check(self.ran(BATCH / "name_nets", self.written("nets.cgd", text), archive))
+        nets = self.written("whole.cgd", self.nets)
+        for text in self.mutants(self.archive, count=SHELLS):
+            self.check(self.ran(BATCH / "name_nets", nets, self.written("y.archive", text)))
+
+
+if __name__ == "__main__":
+    unittest.main()
