@@ -22,6 +22,7 @@ sys.path.insert(0, str(TOOLS / "python"))
 import numpy as np  # noqa: E402
 from crystal_nets.pictures.placed import placed_net  # noqa: E402
 from crystal_nets.pictures.shape import Shape  # noqa: E402
+from crystal_nets.pictures.svg import SIZE, picture  # noqa: E402
 from crystal_nets.pictures.view import hidden_share, view_of  # noqa: E402
 from crystal_nets.texts.net_text import nets_of_report  # noqa: E402
 
@@ -154,6 +155,8 @@ class Views(FolderTest):
             view = view_of(Shape(placed_net(net)))
             self.assertLess(hidden_share(view.shape, view.window, view.frame), 0.2, net.name)
             self.assertLess(abs(view.frame @ view.frame.T - np.eye(3)).max(), 1e-9)
+            ends = [float(x) for path in re.findall(r'd="M([^"]+)"', picture(view, "")) for x in re.split("[ L]", path)]
+            self.assertTrue(0 <= min(ends) and max(ends) <= SIZE, f"{net.name}: an edge is cut")
 
 
 class Files(FolderTest):

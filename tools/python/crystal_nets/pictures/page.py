@@ -10,7 +10,6 @@ import numpy as np
 
 from ..texts.net_text import NetReport
 
-from .svg import STUB
 from .text import PALETTE, label_of, printable, summary_of
 from .view import View
 
@@ -31,8 +30,7 @@ def card_of(report: NetReport, view: View) -> dict:
     window, corners = view.window, view.corners
     points = _in_space(view, window.spots)
     middle = (points.max(axis=0) + points.min(axis=0)) / 2
-    ends = _in_space(view, np.array([window.spots[i] + STUB[view.shape.dimension] * vector
-                                     for i, vector in window.leaving]).reshape(-1, view.shape.dimension))
+    ends = _in_space(view, view.stubs)
     outline = _rounded(_in_space(view, corners) - middle)
     frame = np.eye(3)
     frame[:len(view.frame), :len(view.frame)] = view.frame

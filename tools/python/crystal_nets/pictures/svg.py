@@ -10,10 +10,10 @@ from .text import PALETTE, misty, mixed
 from .view import View
 
 SIZE, MARGIN = 400, 26
+RIM_WIDTH = 4          # around the ends of edges that leave
 EDGE, LEAVING, OUTLINE, RIM = "#5b6672", "#a3acb5", "#1b1f24", "#20262c"
 LEVELS = 5             # of mist on balls
 HALO = 2.4             # white beside an edge, where it passes in front of another
-STUB = {2: 0.42, 3: 0.27}  # how much is shown of an edge that leaves
 
 
 def picture(view: View, label: str) -> str:
@@ -57,8 +57,7 @@ class Drawing:
         for i, j in self.window.whole:
             p, q = points[i], points[j]
             self._line(self._surface(p, q), self._surface(q, p), EDGE, self.width)
-        for i, vector in self.window.leaving:
-            end = self.lens.seen(self.window.spots[i] + STUB[self.shape.dimension] * vector)[0]
+        for (i, _), end in zip(self.window.leaving, self.lens.seen(self.view.stubs)):
             self._line(self._surface(points[i], end), end, LEAVING, self.width * 0.8)
 
     def _surface(self, p: np.ndarray, q: np.ndarray) -> np.ndarray:
@@ -131,7 +130,9 @@ class Lens:
             self.eye = self.near + 3.2 * float(np.ptp(points, axis=0).max())  # a mild perspective
             seen = np.vstack([self.seen(rows) for rows in shown])[:, :2]
             self.shift = (seen.max(axis=0) + seen.min(axis=0)) / 2
-            self.scale = (SIZE - 2 * MARGIN) / float(np.ptp(seen, axis=0).max())
+            stubs = np.abs(self.seen(view.stubs)[:, :2] - self.shift).max(initial=0)
+            self.scale = min((SIZE - 2 * MARGIN) / float(np.ptp(seen, axis=0).max()),
+                             (SIZE / 2 - RIM_WIDTH) / max(float(stubs), 1e-9))
         else:
             self.middle = self._turned(np.full((1, 2), 0.5))[0]
             self.shift = np.zeros(2)

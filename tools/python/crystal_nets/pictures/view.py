@@ -17,6 +17,7 @@ FEW_SITES = 6      # in a hexagonal cell, of which one more is shown where it st
 YAWS, PITCHES = (9, 14, 17, 22, 28, 35), (7, 11, 16, 22, 28)  # of the frames that are tried, in degrees
 CLEARER = 0.12     # by so much less has to be hidden in another frame
 LAYER_HALF = 2.7   # half of the side of the square that is shown of a layer, in lengths of edges
+STUB = {2: 0.42, 3: 0.27}  # how much is shown of an edge that leaves
 LAYER_CELLS = 1.1  # the same in lengths of the longer axis, where that is more
 
 
@@ -40,6 +41,13 @@ class View:
         corners = self.corners
         return [(m, n) for m, n in combinations(range(len(corners)), 2)
                 if abs(corners[m] - corners[n]).sum() == 1]
+
+    @property
+    def stubs(self) -> np.ndarray:
+        """Where the shown parts of the edges that leave end, in the order of `window.leaving`."""
+        share, dimension = STUB[self.shape.dimension], self.shape.dimension
+        ends = [self.window.spots[i] + share * vector for i, vector in self.window.leaving]
+        return np.array(ends).reshape(-1, dimension)
 
     @property
     def ball(self) -> float:
