@@ -3,6 +3,13 @@
 from __future__ import annotations
 
 
+def in_words(fault: Exception) -> str:
+    """The reason of a fault in one line, as commands tell it: of a file its name and what is wrong with it."""
+    if isinstance(fault, OSError) and fault.filename is not None and fault.strerror:
+        return f"{fault.filename}: {fault.strerror}"
+    return str(fault)
+
+
 class CrystalNetsError(Exception):
     """Anything that this package raises by itself."""
 

@@ -15,6 +15,7 @@ from collections.abc import Iterator
 from dataclasses import dataclass
 from pathlib import Path
 
+from ..errors import in_words
 from ..program import find_program
 from ..texts.net_text import MOST_BLOCKS, MOST_BYTES, NoReport, nets_of_report
 
@@ -217,5 +218,5 @@ def main() -> int:
     try:
         return make_archives(asked.stem, asked.files)
     except (Failed, OSError) as reason:
-        print(f"make_archives: {reason}", file=sys.stderr)
+        print(f"make_archives: {in_words(reason)}", file=sys.stderr)
         return FAILED

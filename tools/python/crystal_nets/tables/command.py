@@ -17,7 +17,7 @@ from pathlib import Path
 from typing import Any
 
 from ..archive import Archive, default_files, files_of as archive_files
-from ..errors import CrystalNetsError, ProgramFailed
+from ..errors import CrystalNetsError, ProgramFailed, in_words
 from ..pictures.side_by_side import Bar, processors
 from .join import FILES, join
 from .piece import make_rows, rows_of
@@ -195,5 +195,5 @@ def main() -> int:
     except BrokenProcessPool:
         print("net_table: a process was ended from outside; the same command again goes on", file=sys.stderr)
     except (Failed, CrystalNetsError, OSError) as fault:
-        print(f"net_table: {fault}", file=sys.stderr)
+        print(f"net_table: {in_words(fault)}", file=sys.stderr)
     return FAILED
