@@ -88,6 +88,24 @@ class Identify(AnswerTest):
         with self.assertRaises(ValueError):
             keys(nets, processes=0)
 
+    def test_processes_run_side_by_side(self):
+        """A program that answers once three of it run at the same time, each on a part of the nets."""
+        meeting = self.folder / "meeting"
+        meeting.write_text(f"""#!/bin/sh
+touch {self.folder}/here.$$
+tries=0
+while [ "$(ls {self.folder} | grep -c here)" -lt 3 ]; do
+    [ $((tries += 1)) -lt 600 ] || exit 20
+    sleep 0.1
+done
+exec {PROGRAM} "$@"
+""")
+        meeting.chmod(0o755)
+        nets = [PCU, DIA, SQL] * 16
+        with unittest.mock.patch.dict("os.environ", NET_TOOL=str(meeting)):
+            found = keys(nets, processes=3)
+        self.assertEqual(found, keys(nets))
+
     def test_keys_are_those_of_the_program(self):
         path = TOP / "examples/mystery.cgd"
         told = run(PROGRAM, "key", path).stdout.decode()
