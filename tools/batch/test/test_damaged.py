@@ -81,6 +81,21 @@ class Readers(FolderTest):
             return [block_rows(part.key) for net in parts_of_report(lines) for part in net.parts if part.key]
         self.survivors([COMPONENTS], blocks_or_fault(blocks), MUTANTS)
 
+    def test_lines_that_look_like_others(self):
+        report, long = self.reports[3], b"9" * 5000
+        for old, new in ((b"\nnet 2 ", b"\n x\nnet 2 "), (b"\nnet 2 ", b"\n\nnet 2 "), (b"net 2 line", b"net " + long + b" line"),
+                         (b" line ", b" line " + long), (b"vertices=", b"vertices=" + long), (b"\nshells 1 4", b"\nshells 1 4_0"),
+                         (b"\nshells 1 4", b"\nshells 1 +4"), (b"\nshells 1 4", b"\nshells 1 4\t"), (b"names 1", b"names " + long),
+                         (b"repeats=", b"repeats=" + long), (b"D0=", b"D0=" + long)):
+            self.assertIn(old, report)
+            with self.assertRaises(NoReport, msg=new[:40]):
+                list(nets_of_report(lines_of(report.replace(old, new, 1))))
+        with self.assertRaises(NoReport):
+            list(rows_of([long + self.rows.splitlines(keepends=True)[0]], "rows"))
+        for old in (b"net 1", b"components ", b"copies=", b"part "):
+            with self.assertRaises(NoReport):
+                list(parts_of_report(lines_of(COMPONENTS.replace(old, old + long, 1))))
+
     def test_reports_cut_anywhere_but_between_nets(self):
         for report in self.reports[2:4]:
             starts = {at for at in range(len(report)) if report.startswith(b"net ", at)} | {len(report)}

@@ -8,7 +8,8 @@ from dataclasses import dataclass, field
 
 from .net_text import GRAPH, HEADER, LIST, MALFORMED, REASONS, VERTEX, NoReport, key_numbers
 
-PART = re.compile(rb"part ([1-9]\d*) vertices=([1-9]\d*) copies=([1-9]\d*)")
+COUNT = rb"([1-9]\d{0,17})"
+PART = re.compile(rb"part %s vertices=%s copies=%s" % (COUNT, COUNT, COUNT))
 WHOLE_REFUSALS = tuple(re.compile(form) for form in (
     rb"components refused 1 LowRank u=" + VERTEX + rb" c=" + LIST,
     rb"components refused 2 WideShift u=" + VERTEX + rb" v=" + VERTEX + rb" s=" + LIST + rb" c=\d+ value=-?\d+"))
@@ -84,7 +85,7 @@ def _read(net: NetParts, source: Lines) -> None:
     if any(form.fullmatch(line) for form in WHOLE_REFUSALS):
         net.told = line
         return
-    count = re.fullmatch(rb"components ([1-9]\d*)", line)
+    count = re.fullmatch(rb"components " + COUNT, line)
     if count is None or int(count[1]) > int(graph[2]):
         raise source.fault()
     net.parts = [_part(number, int(graph[1]), source) for number in range(1, int(count[1]) + 1)]

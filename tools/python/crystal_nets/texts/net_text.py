@@ -25,10 +25,11 @@ OTHER_TEXTS = {b"NET_ARCHIVE": "an archive; archive_nets writes its nets as bloc
 
 LIST = rb"-?\d+(?: -?\d+)*"
 VERTEX = rb'(?:"[^"\n]*"|[+-]?\d+)'
-HEADER = re.compile(rb'net (\d+) line (\d+)(?: "([^"\n]*)")?\n')
-GRAPH = re.compile(rb"d=([23]) vertices=(\d+) edges=(\d+) repeats=(\d+)")
+COUNT = rb"(\d{1,18})"
+HEADER = re.compile(rb'net %s line %s(?: "([^"\n]*)")?\n' % (COUNT, COUNT))
+GRAPH = re.compile(rb"d=([23]) vertices=%s edges=%s repeats=%s" % (COUNT, COUNT, COUNT))
 AT = re.compile(rb"(%s) (%s)" % (VERTEX, LIST))
-MALFORMED = re.compile(rb"line=(\d+) (\d+ [A-Za-z]+)")
+MALFORMED = re.compile(rb"line=%s (\d+ [A-Za-z]+)" % COUNT)
 REASONS = tuple(re.compile(form) for form in (
     rb"1 Disconnected q=\d+ c=" + LIST + rb" h=" + LIST,
     rb"2 Degenerate q=0 c=" + LIST + rb" h=" + LIST,
@@ -130,7 +131,7 @@ class NetReport:
         word, _, rest = line.partition(b" ")
         if word == b"connected\n":
             word, rest = b"connected", b"\n"
-        if word not in self.following or not rest.endswith(b"\n"):
+        if not word or word not in self.following or not rest.endswith(b"\n"):
             raise ValueError("it may not stand there, or is cut")
         self.following = getattr(self, "_" + word.decode())(rest[:-1])
 
@@ -241,6 +242,8 @@ def _matched(found: re.Match[bytes] | None) -> re.Match[bytes]:
 
 
 def _numbers(text: bytes) -> list[int]:
+    if text.translate(None, b"0123456789- "):
+        raise ValueError("other signs than those of whole numbers")
     return [int(part) for part in text.split(b" ")]
 
 
