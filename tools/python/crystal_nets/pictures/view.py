@@ -118,50 +118,70 @@ def _clearest_frame(shape: Shape, window: Window) -> np.ndarray:
     along = int(np.argmin(np.round(lengths, 4)))
     if shape.system in ("hexagonal", "tetragonal") and lengths[2] > 1.6 * lengths[0]:
         along = 0
-    usual = _frame(shape, along, *((17, 11) if shape.system == "cubic" else (9, 7)))
+    usual = _frames(shape, along, [(17, 11) if shape.system == "cubic" else (9, 7)])
     if len(window.whole) > MANY_EDGES:
-        return usual
-    best, least = usual, hidden_share(shape, window, usual)
-    for axis, yaw, pitch in product((along, *({0, 1, 2} - {along})), YAWS, PITCHES):
-        frame = _frame(shape, axis, yaw, pitch)
-        hidden = hidden_share(shape, window, frame)
-        if hidden < least - CLEARER:
-            best, least = frame, hidden
-    return best
+        return usual[0]
+    turns = list(product(YAWS, PITCHES))
+    frames = np.concatenate([usual, *(_frames(shape, axis, turns) for axis in (along, *({0, 1, 2} - {along})))])
+    hidden = hidden_shares(shape, window, frames)
+    best = 0
+    for k, share in enumerate(hidden):
+        best = k if share < hidden[best] - CLEARER else best
+    return frames[best]
 
 
 def hidden_share(shape: Shape, window: Window, frame: np.ndarray) -> float:
-    """How much is hidden in a frame: vertices in front of each other or of edges of others, for
-    each vertex, and edges that are seen end on, for each edge."""
-    points = window.spots @ shape.axes @ frame.T
+    """How much is hidden in a frame, as `hidden_shares` has it."""
+    return float(hidden_shares(shape, window, frame[None])[0])
+
+
+def hidden_shares(shape: Shape, window: Window, frames: np.ndarray) -> np.ndarray:
+    """How much is hidden in each of several frames: vertices in front of each other or of edges of
+    others, for each vertex, and edges that are seen end on, for each edge.
+
+    frames  of shape (n, 3, 3); the result has the shape (n,)"""
     ends = np.array(window.whole, int).reshape(-1, 2)
     if not len(ends):
-        return 0.0
-    flat, whole = points[:, :2], points[ends[:, 1]] - points[ends[:, 0]]
-    near = 0.3 * float(np.median(np.linalg.norm(whole, axis=1)))
-    gaps = np.linalg.norm(flat[:, None] - flat[None], axis=2)
-    in_front = np.clip(1 - gaps[np.triu_indices(len(flat), 1)] / near, 0, 1).sum()
-    tails, along = flat[ends[:, 0]], whole[:, :2]
-    squares = np.maximum((along ** 2).sum(axis=1), 1e-9)
-    share = np.clip(((flat[:, None] - tails[None]) * along[None]).sum(axis=2) / squares, 0, 1)
-    off = np.linalg.norm(flat[:, None] - tails[None] - share[:, :, None] * along[None], axis=2)
-    covered = np.clip(1 - off / (0.6 * near), 0, 1)
-    covered[ends[:, 0], np.arange(len(ends))] = covered[ends[:, 1], np.arange(len(ends))] = 0
-    end_on = np.clip(1 - np.sqrt(squares) / (0.45 * np.linalg.norm(whole, axis=1)), 0, 1)
-    return float((2 * in_front + covered.sum()) / len(flat) + 2 * end_on.mean())
+        return np.zeros(len(frames))
+    points = np.einsum("pi,nji->npj", window.spots @ shape.axes, frames)
+    whole = points[:, ends[:, 1]] - points[:, ends[:, 0]]
+    lengths = np.linalg.norm(whole[0], axis=1)
+    near = 0.3 * float(np.median(lengths))
+    squares = np.maximum((whole[:, :, :2] ** 2).sum(axis=2), 1e-9)
+    end_on = np.clip(1 - np.sqrt(squares) / (0.45 * lengths), 0, 1).mean(axis=1)
+    in_front = np.clip(1 - _gaps(points) / near, 0, 1).sum(axis=1)
+    covered = np.clip(1 - _gaps_to_edges(points, whole, squares, ends) / (0.6 * near), 0, 1).sum(axis=(1, 2))
+    return (2 * in_front + covered) / points.shape[1] + 2 * end_on
 
 
-def _frame(shape: Shape, along: int, yaw: float, pitch: float) -> np.ndarray:
-    """Nearly along an axis, turned by two angles in degrees: about the upright, and upwards."""
+def _gaps(points: np.ndarray) -> np.ndarray:
+    """How far each two vertices are apart in the picture, for each frame."""
+    one, other = np.triu_indices(points.shape[1], 1)
+    return np.hypot(*np.moveaxis(points[:, one, :2] - points[:, other, :2], 2, 0))
+
+
+def _gaps_to_edges(points: np.ndarray, whole: np.ndarray, squares: np.ndarray, ends: np.ndarray) -> np.ndarray:
+    """How far each vertex is from each edge in the picture, for each frame; of the ends of an edge it is as if they were far."""
+    x, y = (points[:, :, None, k] - points[:, None, ends[:, 0], k] for k in (0, 1))
+    u, v = (whole[:, None, :, k] for k in (0, 1))
+    share = np.clip((x * u + y * v) / squares[:, None], 0, 1)
+    gaps = np.hypot(x - share * u, y - share * v)
+    numbers = np.arange(len(ends))
+    gaps[:, ends[:, 0], numbers] = gaps[:, ends[:, 1], numbers] = np.inf
+    return gaps
+
+
+def _frames(shape: Shape, along: int, turns: list[tuple[int, int]]) -> np.ndarray:
+    """Nearly along an axis, turned by two angles in degrees: about the upright, and upwards. One frame for each pair."""
     front = _unit(shape.axes[along])
     up = shape.axes[(2, 0, 1)[along]]
     up = _unit(up - up @ front * front)
     right = np.cross(up, front)
-    yaw, pitch = np.radians((yaw, pitch))
-    front = _unit(front * np.cos(yaw) + right * np.sin(yaw))
-    right = np.cross(up, front)
-    front = _unit(front * np.cos(pitch) + up * np.sin(pitch))
-    return np.array([right, np.cross(front, right), front])
+    yaw, pitch = np.radians(turns).T[:, :, None]
+    aside = front * np.cos(yaw) + right * np.sin(yaw)
+    rows = (right * np.cos(yaw) - front * np.sin(yaw), up * np.cos(pitch) - aside * np.sin(pitch),
+            aside * np.cos(pitch) + up * np.sin(pitch))
+    return np.stack(rows, axis=1)
 
 
 def _unit(vector: np.ndarray) -> np.ndarray:
