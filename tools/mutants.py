@@ -74,7 +74,7 @@ class Script:
         return Done(status, streams[1].read_bytes(), streams[2].read_bytes())
 
     def main(self, words: list[str], streams: list[Path]) -> None:
-        """In the child: the script with its words and streams, which it does not come back from."""
+        """In the child: runs the script with its words and streams."""
         for number, path in enumerate(streams):
             file = os.open(path, os.O_RDONLY if number == 0 else os.O_WRONLY | os.O_CREAT | os.O_TRUNC)
             os.dup2(file, number)
