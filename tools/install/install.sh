@@ -1,8 +1,8 @@
 #!/bin/sh
 # install.sh PREFIX [PROGRAM]: puts net_tool, its manual pages, archives, examples, the tools beside it and the
 # completion of bash under PREFIX. The program stands in lib/net_tool, and bin/net_tool runs it: it knows help and
-# --version, and explains a status that the program ends with without a word. PROGRAM is the built program; where it is not given, the one of this repository.
-# DESTDIR, where it is set, stands before PREFIX. Nothing is built or proved here.
+# --version, and explains a status that the program ends with without a word. PROGRAM is the built program; where it is
+# not given, the one of this repository. DESTDIR, where it is set, stands before PREFIX. Nothing is built or proved here.
 set -eu
 umask 022
 
