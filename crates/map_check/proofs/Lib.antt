@@ -1,5 +1,6 @@
 pub mod ArcSearch
 pub mod CallerLemmas
+pub mod CarriedArcs
 pub mod Conversely
 pub mod CopyNumbers
 pub mod CountOfBijection
@@ -11,8 +12,10 @@ pub mod IsoOfTable
 pub mod Joins
 pub mod JoinsConversely
 pub mod Layouts
+pub mod Losses
 pub mod LostArcs
 pub mod Marking
+pub mod NextCells
 pub mod OneToOne
 pub mod Onto
 pub mod PlaceOrder
@@ -20,6 +23,7 @@ pub mod PlacesBelow
 pub mod Rows
 pub mod SameDimension
 pub mod Setting
+pub mod SmallParts
 pub mod Splits
 pub mod Suiting
 pub mod Theorems

@@ -14,11 +14,11 @@ use Rattle.map_check.specs.Tables.{IsBoxVertex}
 use Rattle.map_check.specs.Laws.{IsMapOf}
 
 -- r + m·0 is r
-at_zero : (m : ℤ) (r : Vector) → plus r (times m zero_vector) ≡ r
+pub at_zero : (m : ℤ) (r : Vector) → plus r (times m zero_vector) ≡ r
 at_zero m r = ap (plus r) (times_zero m) ∙ plus_zero r
 
 -- a vertex moved by nothing
-moved_none : (b : Base) (w : Vertex) → moved w (base_sum b zero_vector) ≡ w
+pub moved_none : (b : Base) (w : Vertex) → moved w (base_sum b zero_vector) ≡ w
 moved_none b w = ap (moved w) (base_sum_zero b) ∙ ap (vertex w.over) (plus_zero w.cell)
 
 -- a vertex in the box goes to its image

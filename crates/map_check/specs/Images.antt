@@ -1,9 +1,10 @@
 -- Images and their numbers, as the code finds them.
-use Rattle.std.specs.Prelude.{◌≡◌, ◌⊎◌, ℕ, ◌*◌, ◌<◌, ◌≤◌, ◌<ℤ◌, ◌≤ℤ◌, pos, List, All, length, slice_index_or}
+use Rattle.std.specs.Prelude.{◌≡◌, ◌⊎◌, ℕ, ◌*◌, ◌^◌, ◌<◌, ◌≤◌, ◌<ℤ◌, ◌≤ℤ◌, pos, List, All, length, slice_index_or}
 use Rattle.integers.specs.Bases.{Base, base_sum}
 use Rattle.integers.specs.Vectors.{Vector, zero_vector, plus, times, HasDimension, IsWithin}
 use Rattle.periodic_net.specs.Graph.{Vertex, vertex, moved}
 use Rattle.periodic_net.specs.Maps.{PeriodicMap, IsInBox}
+use Rattle.sublattice.specs.Sublattices.{base_of}
 use Rattle.vecdim.specs.Stairs.{Stairs}
 use Rattle.map_check.specs.Layouts.{box_size}
 use Rattle.map_check.specs.Numbers.{IsImageNumber}
@@ -42,6 +43,22 @@ pub record IsSplit (m : ℕ) (t r k : Vector) : Type 0 where
   pub low : (pos 0 ≤ℤ r.x) × (pos 0 ≤ℤ r.y) × (pos 0 ≤ℤ r.z)
   pub high : (r.x <ℤ pos m) × (r.y <ℤ pos m) × (r.z <ℤ pos m)
   pub sum : t ≡ plus r (times (pos m) k)
+
+-- the shift s is a cell of the box and m times the steps, which are small
+pub record IsCarried (m : ℕ) (s rest steps : Vector) : Type 0 where
+  pub split : IsSplit m s rest steps
+  pub small : IsWithin (2 ^ 19) steps
+
+-- three small shifts
+pub record IsSmallBase (b : Base) : Type 0 where
+  pub first : IsWithin most_part b.first
+  pub second : IsWithin most_part b.second
+  pub third : IsWithin most_part b.third
+
+-- they are these shifts
+pub record AreSmallRows (rows : List Vector) (b : Base) : Type 0 where
+  pub same : b ≡ base_of rows
+  pub small : IsSmallBase b
 
 -- x is the image of w: w lies m·k further than a cell r of the box, and x as many shifts further than the image there
 pub record IsImageOf (d : ℕ) (M : PeriodicMap) (w x : Vertex) : Type 0 where

@@ -1,5 +1,5 @@
 // The box of cells with parts from 0 to m - 1, and the places of the vertices in it.
-ghost use Rattle.std.specs.Prelude.{◌≡◌, ◌⊎◌, ◌≤◌, ◌<◌, ◌+◌, ◌*◌, ◌^◌};
+ghost use Rattle.std.specs.Prelude.{◌≡◌, ◌⊎◌, ℕ, ◌≤◌, ◌<◌, ◌+◌, ◌-◌, ◌*◌, ◌^◌};
 ghost use Rattle.periodic_net.specs.Graph.{vertex};
 ghost use Rattle.periodic_net.specs.Limits.{most_vertices};
 ghost use Rattle.periodic_net.specs.Maps.{IsInBox};
@@ -8,10 +8,10 @@ ghost use Rattle.map_check.specs.Conditions.{most_images, most_period};
 
 use crate::naturals::natural;
 use std::marker::Model;
-use vecdim::Triple;
+use vecdim::{SmallVector, Triple};
 
 /// A vertex of the first net: the one over a vertex of the graph in a cell.
-#[derive(Clone, Copy)]
+#[derive(Clone, Copy, Debug)]
 pub struct NetVertex {
     pub over: u32,
     pub cell: Triple,
@@ -58,6 +58,37 @@ fn cell_at(dim: u8, m: u32, i: u32) -> Triple
     }
 }
 
+/// The cell at the next place.
+pub(crate) fn next_cell<const D: usize>(m: u32, cell: &SmallVector) -> SmallVector
+    requires dimension { (D ≡ 2) ⊎ (D ≡ 3) }
+    requires from { 1 ≤ m }
+    requires to { m ≤ most_period }
+    requires inside { IsInBox D m cell.now }
+    ensures { (i : ℕ) → cell.now ≡ cell_at D m i → result ≡ cell_at D m (i + 1) }
+{
+    let last = i64::from(last_side(D as u8, m));
+    let side = i64::from(m);
+    if cell.z + 1 < last {
+        return SmallVector {
+            x: cell.x,
+            y: cell.y,
+            z: cell.z + 1,
+        };
+    }
+    if cell.y + 1 < side {
+        return SmallVector {
+            x: cell.x,
+            y: cell.y + 1,
+            z: 0,
+        };
+    }
+    SmallVector {
+        x: cell.x + 1,
+        y: 0,
+        z: 0,
+    }
+}
+
 /// The vertex in the box at a place, counted from 0: they stand in rising order of vertex and cell.
 pub fn vertex_at(dim: u8, m: u32, i: u32) -> NetVertex
     requires from { 1 ≤ m }
@@ -94,6 +125,18 @@ fn mixed(p: usize, q: usize, s: usize, e: usize, i: usize) -> usize
     ensures small { result ≤ 2 ^ 28 }
 {
     p * (e * i) + (q * i + s)
+}
+
+/// The place of the first vertex over u.
+pub(crate) fn first_place<const D: usize>(m: u32, u: u32) -> usize
+    requires dimension { (D ≡ 2) ⊎ (D ≡ 3) }
+    requires to { m ≤ most_period }
+    requires over_from { 1 ≤ u }
+    requires over_to { u ≤ most_vertices }
+    ensures value { result ≡ (u - 1) * box_size D m }
+    ensures small { result ≤ 2 ^ 36 }
+{
+    (u as usize - 1) * box_size(D as u8, m) as usize
 }
 
 /// The place of a vertex in the box.

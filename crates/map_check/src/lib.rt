@@ -3,6 +3,7 @@
 
 mod arcs;
 mod boxes;
+mod carrying;
 mod check;
 mod conditions;
 mod copies;
@@ -14,6 +15,7 @@ mod naturals;
 mod numbers;
 mod repeats;
 mod shifts;
+mod small_rows;
 mod verdict;
 
 ghost use Rattle.map_check.specs.Laws.{TablesOfBijections, TablesThatJoin, TablesGiveIso};

@@ -15,11 +15,11 @@ pub fn natural(z: i128) -> usize
 // The quotient of small numbers, rounded down, and the rest.
 fn divide(z: i32, m: i32) -> Division
     requires m { pos 0 <ℤ m }
-    requires z { unsigned_abs z ≤ 2 ^ 20 }
+    requires z { unsigned_abs z ≤ 2 ^ 19 }
     ensures from { pos 0 ≤ℤ result.rest }
     ensures to { result.rest <ℤ m }
     ensures same { z ≡ result.rest +ℤ m *ℤ result.quotient }
-    ensures small { unsigned_abs result.quotient ≤ 2 ^ 20 }
+    ensures small { unsigned_abs result.quotient ≤ 2 ^ 19 }
 {
     let quotient = z.div_euclid(m);
     let rest = z.rem_euclid(m);
@@ -29,16 +29,15 @@ fn divide(z: i32, m: i32) -> Division
     }
 }
 
-/// A small number as a multiple of m and a rest from 0 to below m. In 32 bits, since it is done for
-/// each arc of each image.
+/// A small number as a multiple of m and a rest from 0 to below m. In 32 bits.
 pub fn split_small(z: i128, m: u32) -> Division
     requires from { 1 ≤ m }
     requires to { m ≤ 2 ^ 20 }
-    requires z { unsigned_abs z ≤ 2 ^ 20 }
+    requires z { unsigned_abs z ≤ 2 ^ 19 }
     ensures from { pos 0 ≤ℤ result.rest }
     ensures to { result.rest <ℤ pos m }
     ensures same { z ≡ result.rest +ℤ pos m *ℤ result.quotient }
-    ensures small { unsigned_abs result.quotient ≤ 2 ^ 20 }
+    ensures small { unsigned_abs result.quotient ≤ 2 ^ 19 }
 {
     divide(z as i32, m as i32)
 }

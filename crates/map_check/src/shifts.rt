@@ -1,8 +1,8 @@
 // The shifts of a map, and the index of the lattice that they span.
 ghost use Rattle.std.specs.Prelude.{◌≡◌, ◌⊎◌, ◌≤◌, ◌<◌, ◌^◌, slice_index_or, length, All, IfOk};
-ghost use Rattle.integers.specs.Vectors.{zero_vector};
+ghost use Rattle.integers.specs.Vectors.{zero_vector, IsWithin};
 ghost use Rattle.sublattice.specs.Sublattices.{base_of, index_of};
-ghost use Rattle.map_check.specs.Conditions.{IsShift};
+ghost use Rattle.map_check.specs.Conditions.{most_part, IsShift};
 
 use quotient_graph::NoMemory;
 use std::alloc::Global;
@@ -17,6 +17,20 @@ pub fn row_at<const D: usize>(rows: &[Triple], i: usize) -> Triple
     ensures shift { IsShift D result }
 {
     rows[i]
+}
+
+/// The shift in the third place; in dimension 2 there is none.
+pub fn third_row<const D: usize>(rows: &[Triple]) -> Triple
+    requires dimension { (D ≡ 2) ⊎ (D ≡ 3) }
+    requires count { length rows.now ≡ D }
+    requires shifts { All (IsShift D) rows.now }
+    ensures value { result ≡ slice_index_or rows.now 2 zero_vector }
+    ensures small { IsWithin most_part result }
+{
+    if D == 2 {
+        return Triple { x: 0, y: 0, z: 0 };
+    }
+    row_at::<D>(rows, 2)
 }
 
 /// The shifts as vectors.

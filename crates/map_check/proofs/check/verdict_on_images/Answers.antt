@@ -1,3 +1,4 @@
+-- Of `verdict_on_images`: what it ensures; what `first_copy` and `verdict_on_degrees` require.
 use Rattle.std.proofs.Common.{◌*◌, ◌≤◌, ◌∙◌, ℕ, List, length, sym, subst, ap, arith}
 use Rattle.std.specs.List.{All}
 use Rattle.integers.specs.Vectors.{Vector}
