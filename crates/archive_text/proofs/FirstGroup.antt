@@ -1,7 +1,7 @@
 -- The first group, and the others.
 use Rattle.std.proofs.Common.{◌≡◌, ℤ, Bool, true, false, cond, not, List, [], ◌∷◌, ◌++◌, flat_map, refl, sym, ap, subst, ◌∙◌}
 use Rattle.std.specs.Cmp.Rules.{signed_items}
-use Rattle.std.proofs.lemmas.Bool.{false≢true}
+use Rattle.std.proofs.lemmas.Bool.{false≢true, not-true}
 use Rattle.archive_text.specs.Entries.{EntryView}
 use Rattle.archive_text.specs.Lookups.{same_key}
 use Rattle.archive_text.specs.Regrouped.{keys_but, keys_in, with_key, without_key, regrouped}
@@ -17,10 +17,6 @@ key_itself k = (signed_items k k).1 refl
 -- a key is the same as one only of two different keys
 pub not_both : (k l m : List ℤ) → not (same_key l k) ≡ true → same_key m l ≡ true → not (same_key m k) ≡ true
 not_both k l m a b = subst (λ x. not (same_key x k) ≡ true) (sym (same_keys m l b)) a
-
-turned : (t : Bool) → not t ≡ true → t ≡ false
-turned true e = absurd cc
-turned false e = refl
 
 -- the keys of the entries with another key
 pub keys_of_others : (key : List ℤ) (es : List EntryView) → keys_in (without_key key es) ≡ keys_but key (keys_in es)
@@ -45,7 +41,7 @@ other_group e es key other =
   where
     by : (t : Bool) → same_key e.key key ≡ t → same_key e.key key ≡ false
     by false h = h
-    by true h = absurd (false≢true (sym (turned (same_key key e.key) other) ∙ ap (λ k. same_key k e.key) (sym (same_keys e.key key h)) ∙ key_itself e.key))
+    by true h = absurd (false≢true (sym (not-true (same_key key e.key) other) ∙ ap (λ k. same_key k e.key) (sym (same_keys e.key key h)) ∙ key_itself e.key))
 
 -- the first group stands first, and then the others
 pub first_group : (e : EntryView) (es : List EntryView) → regrouped (e ∷ es) ≡ e ∷ (with_key e.key es ++ regrouped (without_key e.key es))

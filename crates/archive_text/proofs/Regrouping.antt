@@ -1,7 +1,7 @@
 -- What regrouping keeps: the same entries, groups together, and their order.
 use Rattle.std.proofs.Common.{◌≡◌, ℕ, zero, suc, ◌≤◌, ℤ, Bool, true, false, cond, not, List, [], ◌∷◌, ◌++◌, length, refl, sym, ap, subst, ◌∙◌, arith}
 use Rattle.std.specs.List.Sorted.{IsPermutation}
-use Rattle.std.proofs.lemmas.Bool.{false≢true}
+use Rattle.std.proofs.lemmas.Bool.{false≢true, not-true}
 use Rattle.std.proofs.lemmas.List.{append-nil}
 use Rattle.std.proofs.lemmas.List.Elements.{filter-append}
 use Rattle.std.proofs.lemmas.List.Filters.{length-filter_both}
@@ -41,10 +41,6 @@ excluded key k other x is = by (same_key x.key key) refl
     by false e = e
     by true e = absurd (false≢true (sym other ∙ ap (λ l. same_key l k) (sym (same_keys x.key key e)) ∙ is))
 
-turned : (t : Bool) → not t ≡ true → t ≡ false
-turned true e = absurd cc
-turned false e = refl
-
 -- those with a key are among those with one key and those with others
 both_parts : (key k : List ℤ) (es : List EntryView) → with_key key (with_key k es) ++ with_key key (without_key k es) ≡ with_key key es
 both_parts key k es = by (same_key key k) refl
@@ -54,7 +50,7 @@ both_parts key k es = by (same_key key k) refl
         let here = same_keys key k same in
         ap (λ l. with_key key (with_key l es) ++ with_key key (without_key l es)) (sym here)
         ∙ ap (λ l. l ++ with_key key (without_key key es)) (filter_again (λ (x : EntryView). same_key x.key key) es)
-        ∙ ap (λ l. with_key key es ++ l) (filters_exclude (λ (x : EntryView). same_key x.key key) (λ (x : EntryView). not (same_key x.key key)) es (λ x. turned (same_key x.key key)))
+        ∙ ap (λ l. with_key key es ++ l) (filters_exclude (λ (x : EntryView). same_key x.key key) (λ (x : EntryView). not (same_key x.key key)) es (λ x. not-true (same_key x.key key)))
         ∙ append-nil (with_key key es)
     by false other =
         ap (λ l. l ++ with_key key (without_key k es)) (filters_exclude (λ (x : EntryView). same_key x.key key) (λ (x : EntryView). same_key x.key k) es (excluded key k other))

@@ -1,8 +1,9 @@
--- The rows of an entry have no line feed, and their numbers are within 128 bits.
-use Rattle.std.proofs.Common.{◌≡◌, ℕ, ℤ, pos, List, [], ◌∷◌, ◌++◌, All, map, true, refl, sym, ap, ◌∙◌, arith}
+-- The rows of an entry have no line feed, and their numbers are within 128 bits, and few.
+use Rattle.std.proofs.Common.{◌≡◌, ◌≤◌, ℕ, pos, List, [], ◌∷◌, ◌++◌, length, All, map, true, refl, sym, ap, ◌∙◌, arith}
 use Rattle.std.specs.Prelude.{codes}
 use Rattle.std.specs.List.{list_all}
 use Rattle.std.proofs.lemmas.Bool.{ne_eqb, true≢false, and_parts}
+use Rattle.std.proofs.lemmas.List.{length-map}
 use Rattle.std.proofs.lemmas.List.Elements.{All-nil, All-cons, All-head, All-tail}
 use Rattle.line_text.specs.Lines.{HasNo}
 use Rattle.line_text.specs.Numbers.{IsWide}
@@ -23,6 +24,12 @@ all_wide (n ∷ ns) all = All-cons IsWide (pos n) (map pos ns) (short_wide n (Al
 -- the numbers of a `shells` row
 pub shells_wide : (c : ℕ) (sizes : List ℕ) → IsCount c → AreSizes sizes → All IsWide (shells_numbers c sizes)
 shells_wide c sizes is are = All-cons IsWide (pos c) (map pos sizes) (short_wide c (omega (arith, is.1))) (all_wide sizes are.short)
+
+pub count_few : (n : ℕ) → length (pos n ∷ []) ≤ 1
+count_few n = omega arith
+
+pub shells_few : (c : ℕ) (sizes : List ℕ) → AreSizes sizes → length (shells_numbers c sizes) ≤ 11
+shells_few c sizes are = let same = length-map sizes pos in let few = are.few in omega (arith, same, few)
 
 plain_has_no : (name : List ℕ) → list_all is_name_byte name ≡ true → HasNo 10 name
 plain_has_no [] is = tt

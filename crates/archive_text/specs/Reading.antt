@@ -1,6 +1,8 @@
 -- Where the reading of an entry stands.
-use Rattle.std.specs.Prelude.{ℕ, ℤ, ◌≡◌, true, ◌<◌, ◌≤◌, ◌+◌, List, [], ◌∷◌, ◌++◌, length, map, All, Result, IfOk, MatchResult}
+use Rattle.std.specs.Prelude.{ℕ, ℤ, ◌≡◌, true, ◌<◌, ◌≤◌, ◌+◌, List, [], ◌∷◌, ◌++◌, length, map, All, Result, MatchResult}
+use Rattle.line_text.specs.Faults.{IfBadLine}
 use Rattle.line_text.specs.Lines.{Place, IsAt, last_line}
+use Rattle.line_text.specs.declared.faults.RowFault.{RowFault}
 use Rattle.periodic_net.specs.Graph.{Arc}
 use Rattle.line_text.specs.Names.{is_name}
 use Rattle.archive_text.specs.Rows.{name_row, key_row, count_row, shells_row, end_row, row_lines}
@@ -86,10 +88,10 @@ pub record HasWhole (v : Version) (text : List ℕ) (rows : List (List ℕ)) (pa
   pub formed : IsFormed v part
 
 -- after the key of an entry coordination sequences are read from the one place to the other, or a line is none that may follow
-abbrev pub AreShellsRead : {E : Type 0} → Version → Place → Place → Result (Result (List (List ℕ)) ℕ) E → Type 0
+abbrev pub AreShellsRead : Version → Place → Place → Result (List (List ℕ)) RowFault → Type 0
 AreShellsRead v before after result = (text : List ℕ) (rows : List (List ℕ)) (name : List ℕ) (s : GraphSize) (edges : List Arc) (key : List ℤ)
     → HasEdgesAndKey name s edges key → IsAt text (rows ++ row_lines (part_rows (Keyed name s edges key))) before
-    → IfOk result (λ read. MatchResult read (λ lists. HasWhole v text rows (end_part v name s edges key lists) after) (HasBadLine v text rows name))
+    → MatchResult result (λ lists. HasWhole v text rows (end_part v name s edges key lists) after) (IfBadLine (HasBadLine v text rows name))
 
 -- what the rows of an entry before its end say
 abbrev pub form_part : Version → List ℕ → Form → Part

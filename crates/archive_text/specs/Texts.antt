@@ -1,4 +1,5 @@
 -- The text of an archive.
+pub use Rattle.line_text.specs.Lines.{most_bytes}
 use Rattle.std.specs.Prelude.{ℕ, List, [], ◌∷◌, ◌++◌, flat_map}
 use Rattle.line_text.specs.Lines.{rows_text}
 use Rattle.archive_text.specs.Entries.{EntryView}
@@ -6,10 +7,6 @@ use Rattle.archive_text.specs.declared.version.Version.{Version}
 use Rattle.archive_text.specs.Rows.{Row, OfEnd, row_lines, first_row}
 use Rattle.graph_rows.specs.Rows.{size_of_graph}
 use Rattle.archive_text.specs.Parts.{Part, end_part, part_rows}
-
--- the bytes of a text, at most
-abbrev pub most_bytes : ℕ
-most_bytes = 16777216
 
 -- the entry without its end
 abbrev pub whole_part : Version → EntryView → Part

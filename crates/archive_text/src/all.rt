@@ -20,7 +20,7 @@ const FEWEST: usize = 2;
 
 /// Entries in order, fewer than 2^32, which are found by name and by key through fingerprints.
 /// Contracts see the list of what each entry has.
-#[derive(Drop)]
+#[derive(Debug, Drop)]
 pub struct Entries {
     items: Vec<Entry>,
     names: PlaceIndex,

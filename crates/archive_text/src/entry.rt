@@ -3,7 +3,7 @@ use coordination::Sequences;
 use quotient_graph::{AnyGraph, Key};
 
 /// A name, a graph, the key of the graph, and the coordination sequence of each of its classes.
-#[derive(Drop)]
+#[derive(Debug, Drop)]
 pub struct Entry {
     pub name: Vec<u8>,
     pub graph: AnyGraph,

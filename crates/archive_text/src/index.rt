@@ -10,7 +10,7 @@ use std::alloc::Global;
 use std::marker::Model;
 
 /// A list of at most 2^32 numbers, which gives the places of each. Contracts see the list.
-#[derive(Drop)]
+#[derive(Debug, Drop)]
 pub struct PlaceIndex {
     values: Vec<u64>,
     places: IndexMap<u64, Vec<u32>>,

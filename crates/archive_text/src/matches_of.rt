@@ -10,7 +10,7 @@ use quotient_graph::Key;
 use std::marker::Model;
 
 /// The names of the entries with a key that are left.
-#[derive(Drop)]
+#[derive(Debug, Drop)]
 pub struct Matches<'a, 'k> {
     entries: &'a [Entry],
     places: &'a [u32],

@@ -1,5 +1,6 @@
 // Reads the coordination sequences of an entry, class by class.
 ghost use Rattle.std.specs.Prelude.{ℕ, List, length, ◌≤◌, IfOk, MatchResult};
+ghost use Rattle.line_text.specs.Faults.{IfBadLine};
 ghost use Rattle.line_text.specs.Lines.{IsAt};
 ghost use Rattle.archive_text.specs.Forms.{IsCount};
 ghost use Rattle.archive_text.specs.Reading.{HasBadShells, HasShells};
@@ -7,8 +8,7 @@ ghost use Rattle.periodic_net.specs.Limits.{most_vertices};
 
 use crate::steps::next_shells;
 use coordination::Sequences;
-use line_text::Lines;
-use std::alloc::AllocError as NoMemory;
+use line_text::{Lines, RowFault};
 
 /// The sequences of so many classes, or the number of the first line that has not those of the
 /// next.
@@ -16,21 +16,20 @@ pub fn read_lists(
     lines: &mut Lines<'_>,
     count: u32,
     numbers: &mut Vec<i128>,
-) -> Result<Result<Sequences, u32>, NoMemory>
+) -> Result<Sequences, RowFault>
     requires { IsCount count }
     ensures shells { (text : List ℕ) (rows : List (List ℕ)) → IsAt text rows lines.old →
-        IfOk result (λ read. MatchResult read
-        (λ lists. HasShells text rows count lists lines.new)
-        (HasBadShells text rows count)) }
-    ensures few { IfOk result (λ read. IfOk read (λ lists. length lists ≤ most_vertices)) }
+        MatchResult result (λ lists. HasShells text rows count lists lines.new)
+        (IfBadLine (HasBadShells text rows count)) }
+    ensures few { IfOk result (λ lists. length lists ≤ most_vertices) }
 {
     let mut lists = Sequences::new(*numbers.allocator());
     for done in 0..count {
         let line = lines.number();
-        match next_shells(lines, done + 1, numbers)? {
-            Some(sizes) => lists.push(sizes)?,
-            None => return Ok(Err(line)),
-        }
+        let Some(sizes) = next_shells(lines, done + 1, numbers)? else {
+            return Err(RowFault::BadLine(line));
+        };
+        lists.push(sizes)?;
     }
-    Ok(Ok(lists))
+    Ok(lists)
 }

@@ -1,12 +1,13 @@
 // Reads the rows of an entry, one by one.
-ghost use Rattle.std.specs.Prelude.{ℕ, List, ◌≡◌, ◌≤◌, ◌↔◌, ◌++◌, ◌∷◌, [], true, IsTrue, IfOk, IfSome, IfNone, length};
+ghost use Rattle.std.specs.Prelude.{ℕ, List, ◌≡◌, ◌++◌, ◌∷◌, [], true, IfOk, IfSome, IfNone};
 ghost use Rattle.line_text.specs.Lines.{IsAt};
 ghost use Rattle.line_text.specs.Names.{is_name};
 ghost use Rattle.archive_text.specs.Rows.{name_row, key_row, count_row, shells_row, end_row};
-ghost use Rattle.archive_text.specs.Forms.{IsKeyList, IsCount, AreSizes, most_numbers};
+ghost use Rattle.archive_text.specs.Forms.{IsKeyList, IsCount, AreSizes};
 ghost use Rattle.archive_text.specs.Reading.{NoName, NoKey, NoCount, NoShells};
 
 use crate::shells::{count_from, sizes_from};
+use coordination::MOST_SHELLS;
 use line_text::{Lines, is_name};
 use periodic_net::MOST_EDGES;
 use quotient_graph::Key;
@@ -14,6 +15,13 @@ use std::alloc::AllocError as NoMemory;
 
 /// So many numbers has a key at most.
 const MOST_NUMBERS: usize = 3 + 5 * MOST_EDGES;
+
+/// So many numbers has the row of a number of classes.
+const COUNT_NUMBERS: usize = 1;
+
+/// So many numbers has the row of a coordination sequence at most: its class, and the sizes of its
+/// shells.
+const SHELLS_NUMBERS: usize = 1 + MOST_SHELLS as usize;
 
 /// The name on the next line, where an entry begins there.
 pub fn next_name<'a>(lines: &mut Lines<'a>) -> Option<&'a [u8]>
@@ -39,12 +47,6 @@ fn key_from(numbers: &Vec<i128>) -> Result<Key, NoMemory>
     Ok(Key::from_parts(copy))
 }
 
-fn is_key_length(numbers: &[i128]) -> bool
-    ensures { IsTrue result ↔ ((1 ≤ length numbers.now) × (length numbers.now ≤ most_numbers)) }
-{
-    0 < numbers.len() && numbers.len() <= MOST_NUMBERS
-}
-
 /// The key on the next line.
 pub fn next_key(lines: &mut Lines<'_>, numbers: &mut Vec<i128>) -> Result<Option<Key>, NoMemory>
     ensures place { (text : List ℕ) (rows : List (List ℕ)) → IsAt text rows lines.old →
@@ -53,12 +55,8 @@ pub fn next_key(lines: &mut Lines<'_>, numbers: &mut Vec<i128>) -> Result<Option
     ensures form { IfOk result (λ found. IfSome found IsKeyList) }
     ensures none { IfOk result (λ found. IfNone found (NoKey lines.old.rest)) }
 {
-    if lines.next_row(b"key", numbers)? {
-        if is_key_length(numbers) {
-            Ok(Some(key_from(numbers)?))
-        } else {
-            Ok(None)
-        }
+    if lines.next_row(b"key", MOST_NUMBERS, numbers)? && !numbers.is_empty() {
+        Ok(Some(key_from(numbers)?))
     } else {
         Ok(None)
     }
@@ -71,7 +69,7 @@ pub fn next_count(lines: &mut Lines<'_>, numbers: &mut Vec<i128>) -> Result<Opti
     ensures form { IfOk result (λ found. IfSome found IsCount) }
     ensures none { IfOk result (λ found. IfNone found (NoCount lines.old.rest)) }
 {
-    if lines.next_row(b"primitive", numbers)? {
+    if lines.next_row(b"primitive", COUNT_NUMBERS, numbers)? {
         Ok(count_from(numbers))
     } else {
         Ok(None)
@@ -91,7 +89,7 @@ pub fn next_shells(
     ensures form { IfOk result (λ found. IfSome found (λ sizes. AreSizes sizes.items)) }
     ensures none { IfOk result (λ found. IfNone found (NoShells class lines.old.rest)) }
 {
-    if lines.next_row(b"shells", numbers)? {
+    if lines.next_row(b"shells", SHELLS_NUMBERS, numbers)? {
         sizes_from(*numbers.allocator(), class, numbers)
     } else {
         Ok(None)

@@ -1,11 +1,10 @@
 -- A text of rows and numbers is that of one list alone.
 use Rattle.std.proofs.Common.{◌≡◌, ℕ, ◌<◌, suc, ℤ, pos, negsuc, List, [], ◌∷◌, ◌++◌, All, length, drop, get_or, refl, sym, ap, ◌∙◌, arith}
-use mathlib.Core.List.{append_assoc}
 use Rattle.std.specs.Fmt.{signed_decimal, decimal}
 use Rattle.std.specs.Str.Parse.{digits_value}
 use Rattle.std.proofs.lemmas.Fmt.{decimal_is_IsNumeral_wide}
 use Rattle.std.proofs.lemmas.Bool.{true≢false, eq-eqb}
-use Rattle.std.proofs.lemmas.List.{append_cancel_left, length-append}
+use Rattle.std.proofs.lemmas.List.{append_cancel_left}
 use Rattle.std.proofs.lemmas.List.Elements.{All-head, All-tail}
 use Rattle.line_text.specs.Lines.{before, onwards, HasNo, rows_text}
 use Rattle.line_text.specs.Numbers.{IsWide, marked_text, numbers_text, row_text}

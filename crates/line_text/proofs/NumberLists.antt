@@ -1,7 +1,8 @@
 -- The steps of the reading of a list of numbers.
-use Rattle.std.proofs.Common.{◌≡◌, ℕ, ◌<◌, ℤ, List, [], ◌∷◌, ◌++◌, All, length, take, drop, ◌-◌, get_or, Some, refl, sym, ap, ◌∙◌, arith}
+use Rattle.std.proofs.Common.{◌≡◌, ℕ, ◌<◌, ◌≤◌, ℤ, List, [], ◌∷◌, ◌++◌, All, length, take, drop, ◌-◌, get_or, Some, refl, sym, ap, ◌∙◌, arith}
 use Rattle.std.proofs.lemmas.List.Elements.{All-nil, All-head, All-tail, All-push}
 use Rattle.std.proofs.lemmas.Grind.{common_steps}
+use Rattle.std.proofs.lemmas.List.{length-append}
 use mathlib.Core.List.{append_assoc, append-nil}
 use Rattle.std.specs.Option.{unwrap_or}
 use Rattle.std.specs.Fmt.{signed_decimal}
@@ -72,6 +73,17 @@ module _ (m : ℕ) (small : m < 45) where
       let w = read.every zs all e in
       let next = next_number rest w.0 w.3 some w.2 in
       none next.first next.wide next.begins next.field
+
+  -- as many numbers as there may be were read, and something is left
+  pub too_many : (most : ℕ) (text : List ℕ) (numbers : List ℤ) (rest : List ℕ) → IsReadTo m text numbers rest → 0 < length rest → length numbers ≡ most
+      → (zs : List ℤ) → All IsWide zs → length zs ≤ most → text ≡ marked_text m zs → ⊥
+  too_many most text numbers rest read some full zs all few e =
+      let w = read.every zs all e in
+      let next = next_number rest w.0 w.3 some w.2 in
+      let one = ap length w.1 in
+      let two = length-append numbers w.0 in
+      let three = ap length next.is in
+      omega (arith, few, full, one, two, three)
 
   pub finished : (text : List ℕ) (numbers : List ℤ) (rest : List ℕ) → IsReadTo m text numbers rest → rest ≡ [] → (zs : List ℤ) → All IsWide zs → text ≡ marked_text m zs → numbers ≡ zs
   finished text numbers rest read none zs all e =

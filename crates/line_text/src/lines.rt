@@ -1,13 +1,13 @@
 // One cursor over the lines of a text.
 ghost use Rattle.std.specs.Prelude.{ℕ, List, ◌≡◌, ◌==◌, [], ◌∷◌, ◌++◌, ◌+◌, ◌<◌, ◌≤◌, length, IfSome, IfNone, MatchOption};
-ghost use Rattle.line_text.specs.Lines.{longest_text, last_line, HasNo, IsAt};
+ghost use Rattle.line_text.specs.Lines.{longest_lines, last_line, HasNo, IsAt};
 
 use crate::cuts::cut;
 use std::marker::Model;
 
 /// The lines of a text that are left. Contracts see the bytes that are left, and the number of the
 /// next line.
-#[derive(Drop)]
+#[derive(Debug, Drop)]
 pub struct Lines<'a> {
     rest: &'a [u8],
     number: u32,
@@ -27,7 +27,7 @@ impl<'a> Model for Lines<'a> {
 impl<'a> Lines<'a> {
     /// All lines of a text.
     pub fn new(text: &'a [u8]) -> Lines<'a>
-        requires { length text.now ≤ longest_text }
+        requires { length text.now ≤ longest_lines }
         ensures rest { result.rest ≡ text.now }
         ensures number { result.number ≡ 1 }
     {

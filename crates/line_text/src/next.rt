@@ -1,5 +1,5 @@
 // Lines of a form that is asked for.
-ghost use Rattle.std.specs.Prelude.{ℕ, ℤ, List, ◌≡◌, ◌++◌, ◌∷◌, [], All, IfOk, Ok, true, IfSome, MatchOption, ◌<◌, length};
+ghost use Rattle.std.specs.Prelude.{ℕ, ℤ, List, ◌≡◌, ◌++◌, ◌∷◌, [], All, IfOk, Ok, true, IfSome, MatchOption, ◌<◌, ◌≤◌, length};
 ghost use Rattle.line_text.specs.Numbers.{IsWide, row_text};
 ghost use Rattle.line_text.specs.Lines.{HasNo, IsAt};
 
@@ -8,23 +8,29 @@ use crate::rows::{inner, read_row};
 use std::alloc::AllocError as NoMemory;
 
 impl<'a> Lines<'a> {
-    /// Whether the next line is a word and then numbers; these take the place of those that were
-    /// held.
-    pub fn next_row(&mut self, word: &[u8], numbers: &mut Vec<i128>) -> Result<bool, NoMemory>
+    /// Whether the next line is a word and then so many numbers at most; these take the place of
+    /// those that were held. No number past these is kept.
+    pub fn next_row(
+        &mut self,
+        word: &[u8],
+        most: usize,
+        numbers: &mut Vec<i128>,
+    ) -> Result<bool, NoMemory>
         requires { HasNo 10 word.now }
         // The row was passed, and it is the one that the word and the numbers spell.
         ensures place { (text : List ℕ) (rows : List (List ℕ)) → IsAt text rows self.old →
             result ≡ Ok true →
             IsAt text (rows ++ row_text word.now numbers.new.items ∷ []) self.new }
         ensures wide { result ≡ Ok true → All IsWide numbers.new.items }
+        ensures few { result ≡ Ok true → length numbers.new.items ≤ most }
         ensures shorter { result ≡ Ok true → length self.new.rest < length self.old.rest }
         // Whatever row of this word stands next is found.
         ensures every { IfOk result (λ read. (zs : List ℤ) (rest : List ℕ) → All IsWide zs →
-            self.old.rest ≡ row_text word.now zs ++ 10 ∷ rest →
+            length zs ≤ most → self.old.rest ≡ row_text word.now zs ++ 10 ∷ rest →
             (read ≡ true) × (numbers.new.items ≡ zs)) }
     {
         match self.next() {
-            Some(line) => read_row(line, word, numbers),
+            Some(line) => read_row(line, word, most, numbers),
             None => Ok(false),
         }
     }

@@ -1,24 +1,33 @@
 // Reads lines of a word and numbers, and cuts words from a line.
-ghost use Rattle.std.specs.Prelude.{ℕ, ℤ, List, ◌++◌, ◌≡◌, ◌≢◌, ◌<◌, All, IfOk, Ok, true, MatchOption, IfSome};
+ghost use Rattle.std.specs.Prelude.{ℕ, ℤ, List, ◌++◌, ◌≡◌, ◌≢◌, ◌<◌, ◌≤◌, length, All, IfOk, Ok, true, MatchOption, IfSome};
 ghost use Rattle.line_text.specs.Numbers.{IsWide, marked_text, row_text};
 
 use crate::cuts::cut;
 use crate::numbers::read_number;
 use std::alloc::AllocError as NoMemory;
 
-/// Whether the text is numbers, each after one mark; they take the place of those that were held.
-/// The mark is a byte below the minus, so that no number has it.
-pub fn read_numbers(text: &[u8], mark: u8, numbers: &mut Vec<i128>) -> Result<bool, NoMemory>
+/// Whether the text is so many numbers at most, each after one mark; they take the place of those
+/// that were held. The mark is a byte below the minus, so that no number has it.
+pub fn read_numbers(
+    text: &[u8],
+    mark: u8,
+    most: usize,
+    numbers: &mut Vec<i128>,
+) -> Result<bool, NoMemory>
     requires { mark < 45 }
     ensures spelling { result ≡ Ok true → text.now ≡ marked_text mark numbers.new.items }
     ensures wide { result ≡ Ok true → All IsWide numbers.new.items }
-    ensures every { IfOk result (λ read. (zs : List ℤ) → All IsWide zs →
+    ensures few { result ≡ Ok true → length numbers.new.items ≤ most }
+    ensures every { IfOk result (λ read. (zs : List ℤ) → All IsWide zs → length zs ≤ most →
         text.now ≡ marked_text mark zs → (read ≡ true) × (numbers.new.items ≡ zs)) }
 {
     numbers.clear();
     let mut rest = text;
     while let [first, others @ ..] = rest {
         if *first != mark {
+            return Ok(false);
+        }
+        if numbers.len() == most {
             return Ok(false);
         }
         let (field, after) = cut(others, mark);
@@ -38,15 +47,22 @@ fn after_word<'a>(line: &'a [u8], word: &[u8]) -> Option<&'a [u8]>
     line.strip_prefix(word)
 }
 
-/// Whether the line is a word and then numbers; these take the place of those that were held.
-pub fn read_row(line: &[u8], word: &[u8], numbers: &mut Vec<i128>) -> Result<bool, NoMemory>
+/// Whether the line is a word and then so many numbers at most; these take the place of those that
+/// were held.
+pub fn read_row(
+    line: &[u8],
+    word: &[u8],
+    most: usize,
+    numbers: &mut Vec<i128>,
+) -> Result<bool, NoMemory>
     ensures spelling { result ≡ Ok true → line.now ≡ row_text word.now numbers.new.items }
     ensures wide { result ≡ Ok true → All IsWide numbers.new.items }
-    ensures every { IfOk result (λ read. (zs : List ℤ) → All IsWide zs →
+    ensures few { result ≡ Ok true → length numbers.new.items ≤ most }
+    ensures every { IfOk result (λ read. (zs : List ℤ) → All IsWide zs → length zs ≤ most →
         line.now ≡ row_text word.now zs → (read ≡ true) × (numbers.new.items ≡ zs)) }
 {
     match after_word(line, word) {
-        Some(rest) => read_numbers(rest, b' ', numbers),
+        Some(rest) => read_numbers(rest, b' ', most, numbers),
         None => Ok(false),
     }
 }

@@ -3,7 +3,10 @@ use Rattle.std.proofs.Common.{◌≡◌, ◌≢◌, inl, inr, ℕ, ◌+◌, ◌<
 use Rattle.std.specs.List.{Contains}
 use Rattle.std.proofs.lemmas.Bool.{true≢false, cases_lt}
 use Rattle.std.proofs.lemmas.List.{append-nil}
+use Rattle.line_text.specs.Faults.{IfBadLine}
 use Rattle.line_text.specs.Lines.{Place, IsAt}
+use Rattle.line_text.specs.declared.faults.RowFault.{RowFault}
+use Rattle.line_text.specs.declared.faults.RowFault.TheVariants.{BadLine as BadRow, NoMemory as NoRoom}
 use Rattle.archive_text.specs.Entries.{EntryView}
 use Rattle.archive_text.specs.Lookups.{names_of}
 use Rattle.line_text.specs.Names.{is_name}
@@ -14,6 +17,7 @@ use Rattle.archive_text.specs.Texts.{rows_before}
 use Rattle.archive_text.specs.declared.rest.Form.{Form}
 use Rattle.archive_text.specs.declared.version.Version.{Version}
 use Rattle.archive_text.specs.declared.version.Version.TheVariants.{One, Two}
+use Rattle.net_archive.specs.Causes.{of_rows}
 use Rattle.net_archive.specs.Faults.{AreEntries, MayBegin, IsBegun, MayEnd, HasFault, FaultAt, IsFaultAtEnd}
 use Rattle.net_archive.specs.Steps.{IsFaultTold}
 use Rattle.net_archive.specs.Judging.{IsJudged}
@@ -114,3 +118,8 @@ few_entries n many when none = elim (cases_lt n most_entries) [
   | inl few ↦ few
   | inr full ↦ absurd (true≢false (sym (when full) ∙ none))
 ]
+
+-- a fault of the rows of an entry is reported of the text
+pub rows_told : (v : Version) (text : List ℕ) (es : List EntryView) (name : List ℕ) (fault : RowFault) → AreEntries es → MayBegin es name → IfBadLine (HasBadLine v text (rows_before v es) name) fault → IsFaultTold v text (of_rows fault)
+rows_told v text es name (BadRow n) good may bad = inr (bad_line v text es name n good may bad)
+rows_told v text es name NoRoom good may bad = inl refl

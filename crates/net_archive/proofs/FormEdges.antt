@@ -1,5 +1,5 @@
 -- The edges of a form are those of a graph.
-use Rattle.std.proofs.Common.{List, All, map, get_or, ℕ, subst, arith}
+use Rattle.std.proofs.Common.{List, map, ℕ, arith}
 use Rattle.std.proofs.lemmas.List.{length-map, get_or-map}
 use Rattle.cgd_read.specs.Spelling.{edge_of}
 use Rattle.cgd_read.specs.declared.edge.RawEdge.{RawEdge}
@@ -11,13 +11,10 @@ use Rattle.graph_rows.specs.Forms.{IsEdgeOfSize}
 use Rattle.archive_text.specs.Parts.{IsFormed}
 use Rattle.archive_text.specs.Reading.{form_part}
 use Rattle.net_archive.proofs.MoreEntries.{keyed_in}
+use Rattle.graph_rows.proofs.CallerLemmas.{edges_among}
 
 edge_among : (s : GraphSize) (e : RawEdge) → IsEdgeOfSize s (edge_of e) → IsEdgeAmong s.dim s.vertices e
 edge_among s e is = record { first = is.is_edge.from; second = is.is_edge.to; flat = is.is_edge.shift; small = is.small; spelling = is.is_edge.spelling }
-
-edges_among : (s : GraphSize) (edges : List RawEdge) → All (IsEdgeOfSize s) (map edge_of edges) → All (IsEdgeAmong s.dim s.vertices) edges
-edges_among s edges all k d within =
-    edge_among s (get_or edges k d) (subst (IsEdgeOfSize s) (get_or-map edge_of edges k d (edge_of d) within) (all k (edge_of d) (let count = length-map edges edge_of in omega (arith, within, count))))
 
 -- these are the edges of a graph
 pub are_edges : (v : Version) (name : List ℕ) (f : Form) → IsFormed v (form_part v name f) → AreEdgesOfGraph f.keyed.size.dim f.keyed.size.vertices f.keyed.edges.items

@@ -47,7 +47,7 @@ longer_text v es e =
     omega (arith, whole, body, sum)
 
 -- no entry has the name
-other_names : (es : List EntryView) (name : List ℕ) → ¬ Contains (names_of es) name → (k : ℕ) (d : EntryView) → k < length es → (get_or es k d).name ≢ name
+pub other_names : (es : List EntryView) (name : List ℕ) → ¬ Contains (names_of es) name → (k : ℕ) (d : EntryView) → k < length es → (get_or es k d).name ≢ name
 other_names es name free k d l e =
     let view : EntryView → List ℕ = λ (f : EntryView). f.name in
     let there : get_or (names_of es) k name ≡ name = get_or-map view es k d name l ∙ e in

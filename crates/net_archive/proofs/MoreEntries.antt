@@ -1,16 +1,14 @@
 -- One more entry of an archive that is read.
-use Rattle.std.proofs.Common.{◌≡◌, ◌≢◌, ℕ, ◌<◌, List, [], ◌∷◌, ◌++◌, length, map, get_or, refl, sym, ap, ◌∙◌, subst, arith}
+use Rattle.std.proofs.Common.{◌≡◌, ◌≢◌, ℕ, ◌<◌, List, [], ◌∷◌, ◌++◌, length, map, refl, sym, ap, ◌∙◌, subst, arith}
 use mathlib.Core.List.{append_assoc}
 use Rattle.std.proofs.lemmas.Grind.{flat_map-append}
 use Rattle.std.proofs.lemmas.List.{append-nil, length-append, length-map, get_or-map}
 use Rattle.std.proofs.lemmas.List.Elements.{All-push, Contains-get_or}
 use Rattle.std.proofs.lemmas.List.Quantifiers.{all_pairs_push}
-use Rattle.std.specs.List.{Contains}
 use Rattle.line_text.specs.Lines.{Place, IsAt}
 use Rattle.periodic_net.specs.Graph.{Arc}
 use Rattle.cgd_read.specs.Spelling.{edge_of}
 use Rattle.archive_text.specs.Entries.{EntryView}
-use Rattle.archive_text.specs.Lookups.{names_of}
 use Rattle.archive_text.specs.Rows.{OfEnd, row_lines, first_row, end_row}
 use Rattle.graph_rows.specs.Rows.{size_of_graph}
 use Rattle.archive_text.specs.Parts.{Keyed, Counted, part_rows, IsFormed, HasEdgesAndKey}
@@ -26,6 +24,7 @@ use Rattle.net_archive.specs.Faults.{AreEntries, MayBegin}
 use Rattle.net_archive.specs.Steps.{AreMore}
 use Rattle.net_archive.specs.Judging.{IsEntryOfForm, graph_of_form}
 use Rattle.net_archive.proofs.SequenceForms.{are_counted}
+use Rattle.net_archive.proofs.Growth.{other_names}
 
 -- the entry that is judged
 abbrev entry_in : List ℕ → Form → List (List ℕ) → EntryView
@@ -67,18 +66,10 @@ pub rows_with : (v : Version) (es : List EntryView) (e : EntryView) → rows_bef
 rows_with v es e = ap (λ l. first_row v ∷ l)
     (flat_map-append (λ (x : EntryView). row_lines (entry_rows v x)) es (e ∷ []) ∙ ap (λ l. entry_lines v es ++ l) (append-nil (row_lines (entry_rows v e))))
 
-fresh_names : (es : List EntryView) (name : List ℕ) → ¬ Contains (names_of es) name → (k : ℕ) (d : EntryView) → k < length es → (get_or es k d).name ≢ name
-fresh_names es name none k d within same = none (named es name k d within same)
-  where
-    named : (xs : List EntryView) (name : List ℕ) (k : ℕ) (d : EntryView) → k < length xs → (get_or xs k d).name ≡ name → Contains (names_of xs) name
-    named xs name k d within same =
-        let here = Contains-get_or (names_of xs) k d.name (omega (arith, within, length-map xs (λ (e : EntryView). e.name))) in
-        subst (λ n. Contains (names_of xs) n) (get_or-map (λ (e : EntryView). e.name) xs k d d.name within ∙ same) here
-
 pub entries_pushed : (es : List EntryView) (e : EntryView) → AreEntries es → MayBegin es e.name → IsEntry e → AreEntries (es ++ e ∷ [])
 entries_pushed es e good may is = record {
   each = All-push IsEntry es e good.each is;
-  names = all_pairs_push (λ (a b : EntryView). a.name ≢ b.name) es e good.names (fresh_names es e.name may.fresh);
+  names = all_pairs_push (λ (a b : EntryView). a.name ≢ b.name) es e good.names (other_names es e.name may.fresh);
   few = let long = length-append es (e ∷ []) in let few = may.few in omega (arith, long, few);
 }
 

@@ -1,13 +1,11 @@
 -- The entry of a net is an entry of an archive.
-use Rattle.std.proofs.Common.{◌≡◌, ◌⊎◌, inl, inr, ◌∙◌, true, ℕ, ◌+◌, ◌-◌, ◌<◌, ◌≤◌, ℤ, List, [], ◌∷◌, length, get_or, sym, ap, subst, refl, arith}
-use Rattle.std.specs.List.{All, Contains}
+use Rattle.std.proofs.Common.{◌≡◌, ◌⊎◌, ◌∙◌, true, ℕ, ◌+◌, ◌-◌, ◌<◌, ◌≤◌, ℤ, List, [], ◌∷◌, length, get_or, sym, ap, subst, refl, arith}
+use Rattle.std.specs.List.{All}
 use Rattle.std.proofs.lemmas.List.Elements.{All-from_get_or}
 use Rattle.std.proofs.lemmas.List.Sums.{get_or-le-sum_by}
 use Rattle.integers.specs.Vectors.{zero_vector}
-use Rattle.periodic_net.specs.Classes.{ClassArc, ClassGraph}
-use Rattle.periodic_net.specs.Graph.{Arc, Graph, IsGraph, Vertex, both_ways, vertex}
+use Rattle.periodic_net.specs.Graph.{Graph, IsGraph, Vertex, vertex}
 use Rattle.periodic_net.specs.Limits.{IsSmall, most_vertices}
-use Rattle.key_theory.specs.Frames.{IsFrameAfter}
 use Rattle.key_theory.specs.Key.{IsKeyOf}
 use Rattle.quotient_graph.specs.Order.{AreRising}
 use Rattle.coordination.specs.Sequences.{AreSequencesOf, AreShellsOf}
@@ -24,31 +22,7 @@ use Rattle.archive_text.specs.Parts.{IsCounted, HasEdgesAndKey}
 use Rattle.graph_rows.specs.Rows.{size_of_graph}
 use Rattle.net_archive.specs.Adding.{IsEntryOf}
 use Rattle.net_archive.specs.Archives.{IsEntry}
-use Rattle.key_theory.proofs.CallerLemmas.{key_is_short}
-
-positive : (d : ℕ) → (d ≡ 2) ⊎ (d ≡ 3) → 1 ≤ d
-positive d (inl e) = omega (arith, e)
-positive d (inr e) = omega (arith, e)
-
--- the first arc of a frame
-frame_arc : (K : ClassGraph) (c : ℕ) (frame : List ClassArc) → 1 ≤ length frame → IsFrameAfter K c [] frame → (a : ClassArc) × Contains K.arcs a
-frame_arc K c [] l each = absurd (omega arith)
-frame_arc K c (a ∷ rest) l each = (a, each.0.may.is_arc)
-
-arc_edge : (edges : List Arc) (a : Arc) → Contains (both_ways edges) a → 1 ≤ length edges
-arc_edge [] a c = absurd (let l = c.1 in omega (arith, l))
-arc_edge (e ∷ edges) a c = omega arith
-
--- a graph that has a key has an edge
-has_edge : (G : Graph) (xs : List ℤ) → IsGraph G → IsKeyOf G xs → 1 ≤ length G.edges
-has_edge G xs g k =
-    let s = k.least.some in
-    let K = k.shape.classes in
-    let d : length s.frame ≡ G.dimension = s.is_frame.count ∙ k.shape.is_classes.dimension in
-    let p : 1 ≤ G.dimension = positive G.dimension g.dimension in
-    let a = frame_arc K s.start s.frame (omega (arith, d, p)) s.is_frame.each in
-    let b = (k.shape.is_classes.arcs a.0).0 a.1 in
-    arc_edge G.edges b.0 b.1
+use Rattle.key_theory.proofs.CallerLemmas.{has_edge, key_is_short}
 
 has_number : (G : Graph) (xs : List ℤ) → IsKeyOf G xs → 1 ≤ length xs
 has_number G xs k =

@@ -29,7 +29,7 @@ use std::marker::Model;
 
 /// Named nets, each with its key and the sizes of shells of its classes, in a version of the
 /// format. Contracts see the version and the entries.
-#[derive(Drop)]
+#[derive(Debug, Drop)]
 pub struct Archive {
     version: Version,
     entries: Entries,
@@ -87,6 +87,13 @@ impl Archive {
         ensures archive { IsArchive self.now }
     {
         self.entries.as_slice()
+    }
+
+    /// What holds of each archive, for a proof that needs it. It does nothing.
+    pub fn recall(&self)
+        ensures { IsArchive self.now }
+    {
+        let _ = &self.entries;
     }
 
     /// The entries in their order, given away.

@@ -2,13 +2,14 @@
 ghost use Rattle.std.specs.Prelude.{◌≡◌};
 
 use least_key::Refusal;
+use line_text::RowFault;
 use lists::Items;
 use quotient_graph::Key;
 use std::alloc::AllocError as NoMemory;
 
 /// Why a text is no archive, by the first fault in it. Each `u32` but `class`, `kept` and
 /// `computed` is the number of a line. The numbers are those of the report.
-#[derive(Drop)]
+#[derive(Debug, Drop)]
 pub enum ArchiveFault {
     /// 1: the line breaks the format otherwise than below.
     BadLine(u32),
@@ -50,6 +51,19 @@ impl From<NoMemory> for ArchiveFault {
 
     fn from(_fault: NoMemory) -> ArchiveFault {
         ArchiveFault::NoMemory
+    }
+}
+
+impl From<RowFault> for ArchiveFault {
+    ghost use Rattle.net_archive.specs.Causes.{of_rows};
+
+    ghost from_gives = { λ fault told. told ≡ of_rows fault };
+
+    fn from(fault: RowFault) -> ArchiveFault {
+        match fault {
+            RowFault::BadLine(line) => ArchiveFault::BadLine(line),
+            RowFault::NoMemory => ArchiveFault::NoMemory,
+        }
     }
 }
 

@@ -83,10 +83,8 @@ fn finish_entry(
         MatchResult result (λ e. AreMore version text entries (entry_view e) lines.new)
         (IsFaultTold version text) }
 {
-    match read_rest(lines, version, numbers)? {
-        Ok(form) => judge(*numbers.allocator(), name, line, version, form),
-        Err(bad) => Err(ArchiveFault::BadLine(bad)),
-    }
+    let form = read_rest(lines, version, numbers)?;
+    judge(*numbers.allocator(), name, line, version, form)
 }
 
 // The next entry, or the first fault.

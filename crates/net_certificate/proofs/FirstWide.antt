@@ -6,6 +6,7 @@ use Rattle.integers.proofs.lists.Members.{IsIn, contains_from_in}
 use Rattle.integers.proofs.lists.Pieces.{all_from_in, in_append}
 use Rattle.standard_map.specs.MapNumbers.{most_part}
 use Rattle.net_certificate.specs.Tables.{IsFirstWide}
+use Rattle.integers.proofs.lists.More.{drop_all}
 
 -- what holds of all holds of a member
 of_member : {X : Type 0} (P : X → Type 0) (xs : List X) (x : X) → All P xs → IsIn xs x → P x
@@ -75,12 +76,6 @@ left_at (y ∷ xs) (suc k) x l e = left_at xs k x (omega (arith, l)) e ∙ ap (�
     next : (k : ℕ) → suc (k + 1) ≡ suc k + 1
     next k = omega arith
 
-pub none_left : {X : Type 0} (xs : List X) (k : ℕ) → length xs ≤ k → drop k xs ≡ []
-none_left [] zero l = refl
-none_left [] (suc k) l = refl
-none_left (x ∷ xs) zero l = absurd (omega (arith, l))
-none_left (x ∷ xs) (suc k) l = none_left xs k (omega (arith, l))
-
 module _ {X : Type 0} (f : X → List ℤ) (xs : List X) (k : ℕ) where
   -- what is left decides for the whole list
   abbrev pub IsPassed : Type 0
@@ -97,4 +92,4 @@ module _ {X : Type 0} (f : X → List ℤ) (xs : List X) (k : ℕ) where
 
   -- where all are passed, there is none
   pub passed_all : IsPassed → length xs ≤ k → IsFirstWide (flat_map f xs) None
-  passed_all h l = h None (subst (λ ts. IsFirstWide (flat_map f ts) None) (sym (none_left xs k l)) wide_none)
+  passed_all h l = h None (subst (λ ts. IsFirstWide (flat_map f ts) None) (sym (drop_all xs k l)) wide_none)

@@ -1,6 +1,7 @@
--- The numbers of rows are within 128 bits.
-use Rattle.std.proofs.Common.{◌≤◌, ◌<◌, ◌^◌, ◌*◌, ◌%◌, ℕ, ℤ, pos, negsuc, [], ◌∷◌, All, Bool, true, false, unsigned_abs, cond, ◌==◌, arith}
+-- The numbers of rows are within 128 bits, and few.
+use Rattle.std.proofs.Common.{◌≤◌, ◌<◌, ◌^◌, ◌*◌, ◌%◌, ℕ, ℤ, pos, negsuc, [], ◌∷◌, length, All, Bool, true, false, unsigned_abs, cond, ◌==◌, arith}
 use Rattle.std.proofs.Math.Nat.{div-le_self, mod-le}
+use Rattle.std.proofs.lemmas.List.{length-append}
 use Rattle.std.proofs.lemmas.List.Elements.{All-nil, All-cons, All-append}
 use Rattle.integers.specs.Vectors.{Vector, IsWithin, parts}
 use Rattle.periodic_net.specs.Graph.{Vertex}
@@ -46,3 +47,23 @@ place_wide d m i few =
 pub image_wide : (d e m i n : ℕ) (x : Vertex) → i ≤ most_images → n < 2 ^ 32 → IsImage e n x → All IsWide (image_numbers d e (vertex_at d m i) x)
 image_wide d e m i n x few vertices is = All-append IsWide (vertex_numbers d (vertex_at d m i)) (vertex_numbers e x) (place_wide d m i few)
     (vertex_wide e x (let to = is.to in omega (arith, vertices, to)) is.small)
+
+pub parts_few : (d : ℕ) (v : Vector) → length (parts d v) ≤ 3
+parts_few d v = by (d == 2)
+  where
+    by : (t : Bool) → length (v.x ∷ v.y ∷ cond t [] (v.z ∷ [])) ≤ 3
+    by true = omega arith
+    by false = omega arith
+
+vertex_few : (d : ℕ) (w : Vertex) → length (vertex_numbers d w) ≤ 4
+vertex_few d w = let few = parts_few d w.cell in omega (arith, few)
+
+pub image_few : (d e : ℕ) (w x : Vertex) → length (image_numbers d e w x) ≤ 8
+image_few d e w x =
+    let both = length-append (vertex_numbers d w) (vertex_numbers e x) in
+    let one = vertex_few d w in
+    let two = vertex_few e x in
+    omega (arith, both, one, two)
+
+pub one_few : (m : ℕ) → length (pos m ∷ []) ≤ 1
+one_few m = omega arith

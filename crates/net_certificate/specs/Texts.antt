@@ -1,4 +1,5 @@
 -- The text of maps between nets, row by row, as it is written.
+pub use Rattle.line_text.specs.Lines.{most_bytes}
 use Rattle.std.specs.Prelude.{ℕ, ◌+◌, List, [], ◌∷◌, ◌++◌, map, Option, None, Some}
 use Rattle.integers.specs.Vectors.{Vector}
 use Rattle.periodic_net.specs.Graph.{Graph, Vertex}
@@ -44,7 +45,3 @@ maps_rows (Some maps) = OfTitle ∷ (graph_rows maps.first ++ items_rows maps.fi
 -- the text
 abbrev pub maps_text : Option Maps → List ℕ
 maps_text maps = rows_text (row_lines (maps_rows maps))
-
--- the bytes of a text, at most
-abbrev pub most_bytes : ℕ
-most_bytes = 16777216

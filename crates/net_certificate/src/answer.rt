@@ -2,7 +2,7 @@
 use map_check::PeriodicMap;
 
 /// What is reported of the map between two nets.
-#[derive(Drop)]
+#[derive(Debug, Drop)]
 pub enum MapAnswer {
     /// The keys differ, so there is no map.
     Different,

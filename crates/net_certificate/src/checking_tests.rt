@@ -33,14 +33,6 @@ fn checked(alloc: Global, text: &[u8]) -> Result<CheckedMaps, MapsFault> {
     check_maps(alloc, text)
 }
 
-// The first bad line of a text, or 0.
-fn bad_line(alloc: Global, text: &[u8]) -> Result<u32, Fail> {
-    match checked(alloc, text) {
-        Err(MapsFault::Bad { line }) => Ok(line),
-        _ => Ok(0),
-    }
-}
-
 #[test]
 fn items_are_told(rt: HostRuntime) -> Result<(), Fail> {
     let alloc = rt.alloc();
@@ -50,10 +42,6 @@ fn items_are_told(rt: HostRuntime) -> Result<(), Fail> {
             assert!(rt; checked.text.as_slice() == TOLD.as_bytes());
             assert_eq!(rt; checked.refused, 0);
         }
-        Err(_) => assert!(rt; false),
-    }
-    match checked(alloc, b"net_maps 1\n") {
-        Ok(checked) => assert_eq!(rt; checked.text.len(), 0),
         Err(_) => assert!(rt; false),
     }
     Ok(())
@@ -89,51 +77,6 @@ fn kept_cubic(alloc: Global, one: u32, other: u32, base: &str) -> Result<Vec<u8>
     text.extend_from_slice(base.as_bytes())?;
     text.extend_from_slice(b"end\n")?;
     Ok(text)
-}
-
-#[test]
-fn faults_are_told(rt: HostRuntime) -> Result<(), Fail> {
-    let alloc = rt.alloc();
-    let rows: [(&str, &str); 4] = [
-        (MAP, "pair 2 verified\n"),
-        (
-            "period 1\nimage 1 0 0 0 1 0 0 0\nimage 2 0 0 0 1 2 0 0\nbase 2 0 0\nbase 0 1 0\nbase 0 0 1\nend\n",
-            "pair 2 refused 3 Doubled u=2 r=0 0 0\n",
-        ),
-        (
-            "period 1\nimage 1 0 0 0 1 0 0 0\nimage 2 0 0 0 1 1 0 0\nbase 2 0 0\nbase 0 1 0\nbase 0 0 2\nend\n",
-            "pair 2 refused 2 Count entries=2 product=4\n",
-        ),
-        (
-            "period 1\nimage 1 0 0 0 1 1 0 0\nimage 2 0 0 0 1 0 0 0\nbase 2 0 0\nbase 0 1 0\nbase 0 0 1\nend\n",
-            "pair 2 refused 5 Arc u=1 r=0 0 0 v=2 s=-1 0 0\n",
-        ),
-    ];
-    for (map, line) in &rows {
-        let text = joined(alloc, &[GRAPHS, map])?;
-        assert!(rt; told(alloc, &text)?.as_slice() == line.as_bytes());
-    }
-    let firsts: [(&str, &str); 2] = [
-        (
-            "pair 2 map\ngraph 2 1 2\nedge 1 1 0 1\nedge 1 1 1 0\nperiod 1\nimage 1 0 0 0 1 0 0\nbase 1 0\nbase 0 1\nbase 0 0\nend\n",
-            "pair 2 refused 1 Dimension\n",
-        ),
-        (
-            "pair 2 map\ngraph 3 1 2\nedge 1 1 0 0 1\nedge 1 1 1 0 0\nperiod 1\nimage 1 0 0 0 1 0 0 0\nbase 1 0 0\nbase 0 1 0\nbase 0 0 1\nend\n",
-            "pair 2 refused 4 Degree u=1 r=0 0 0\n",
-        ),
-    ];
-    for (item, line) in &firsts {
-        let text = joined(
-            alloc,
-            &[
-                "net_maps 1\ngraph 3 1 3\nedge 1 1 0 0 1\nedge 1 1 0 1 0\nedge 1 1 1 0 0\n",
-                item,
-            ],
-        )?;
-        assert!(rt; told(alloc, &text)?.as_slice() == line.as_bytes());
-    }
-    Ok(())
 }
 
 #[test]
@@ -174,58 +117,19 @@ fn forged_maps_are_refused(rt: HostRuntime) -> Result<(), Fail> {
 }
 
 #[test]
-fn bad_lines_are_told(rt: HostRuntime) -> Result<(), Fail> {
-    let alloc = rt.alloc();
-    let rows: [(&str, u32); 12] = [
-        ("", 14),
-        ("period 0\n", 14),
-        ("period 37\n", 14),
-        ("period 1", 14),
-        ("period 1\nimage 1 0 0 0 2 0 0 0\n", 15),
-        ("period 1\nimage 1 0 0 0 1 0 0 274877906945\n", 15),
-        ("period 1\nimage 2 0 0 0 1 1 0 0\n", 15),
-        ("period 1\nimage 1 0 0 0 1 0 0 0\n", 16),
-        (
-            "period 1\nimage 1 0 0 0 1 0 0 0\nimage 2 0 0 0 1 1 0 0\nbase 2 0 0\nend\n",
-            18,
-        ),
-        (
-            "period 1\nimage 1 0 0 0 1 0 0 0\nimage 2 0 0 0 1 1 0 0\nbase +2 0 0\n",
-            17,
-        ),
-        (
-            "period 1\nimage 1 0 0 0 1 0 0 0\nimage 2 0 0 0 1 1 0 0\nbase 2 0 0\nbase 0 1 0\nbase 0 0 1\n",
-            20,
-        ),
-        (
-            "period 1\nimage 1 0 0 0 1 0 0 0\nimage 2 0 0 0 1 1 0 0\nbase 2 0 0\nbase 0 1 0\nbase 0 0 1\nend\npair 4 map\n",
-            21,
-        ),
-    ];
-    for (rest, line) in &rows {
-        let text = joined(alloc, &[GRAPHS, rest])?;
-        assert_eq!(rt; bad_line(alloc, &text)?, *line);
-    }
-    assert_eq!(rt; bad_line(alloc, b"")?, 1);
-    assert_eq!(rt; bad_line(alloc, b"net_maps 1")?, 1);
-    assert_eq!(rt; bad_line(alloc, b"net_maps 1\n\n")?, 2);
-    assert_eq!(rt; bad_line(alloc, b"net_maps 1\npair 2 different\n")?, 2);
-    Ok(())
-}
-
-#[test]
 fn what_is_read_is_written(rt: HostRuntime) -> Result<(), Fail> {
     let alloc = rt.alloc();
     let whole = joined(alloc, &[GRAPHS, MAP, OTHERS])?;
     let mut text = Vec::new(alloc);
     if whole.len() > 1000 {
-        return Ok(());
+        return Err("too many bytes".into());
     }
-    if let Ok(Some(maps)) = read(alloc, &whole)? {
-        assert_eq!(rt; maps.items.len(), 4);
-        push_title(&mut text)?;
-        push_graph(&mut text, &maps.first)?;
-    }
+    let Ok(Some(maps)) = read(alloc, &whole) else {
+        return Err("not read".into());
+    };
+    assert_eq!(rt; maps.items.len(), 4);
+    push_title(&mut text)?;
+    push_graph(&mut text, &maps.first)?;
     assert!(rt; whole.as_slice().starts_with(&text));
     Ok(())
 }

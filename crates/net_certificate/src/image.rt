@@ -80,7 +80,8 @@ pub fn image_of<const D: usize>(
     requires small { IsWithin most_period w.now.cell }
     ensures { IsImageOf here.now there.now w.now result }
 {
-    let _ = (here.origin(), there.graph().vertices());
+    here.recall();
+    there.graph().recall();
     let end = end_of(ends, w.over);
     let place = place_of(there.placed(), there.origin(), &end, cells, &w.cell);
     let (v, t) = vertex_standing(there.placed(), &place);

@@ -15,14 +15,14 @@ pub enum NoMap {
 }
 
 /// A later graph of a text: why there is no map, or the graph and a map from the first one to it.
-#[derive(Drop)]
+#[derive(Debug, Drop)]
 pub enum Item {
     Without(NoMap),
     With(AnyGraph, PeriodicMap),
 }
 
 /// What a text says where it has a graph: the first graph, and the items of the others.
-#[derive(Drop)]
+#[derive(Debug, Drop)]
 pub struct MapsText {
     pub first: AnyGraph,
     pub items: Items<Item>,

@@ -1,6 +1,7 @@
 // Reads the items of a text.
-ghost use Rattle.std.specs.Prelude.{ℕ, List, ◌≡◌, ◌≢◌, [], length, IfOk, MatchResult};
+ghost use Rattle.std.specs.Prelude.{ℕ, List, ◌≡◌, ◌≢◌, [], length, MatchResult};
 ghost use Rattle.periodic_net.specs.Graph.{Arc};
+ghost use Rattle.line_text.specs.Faults.{IfBadLine};
 ghost use Rattle.quotient_graph.specs.AnyGraphs.{graph_view};
 ghost use Rattle.graph_rows.specs.Forms.{IsSize};
 ghost use Rattle.graph_rows.specs.Rows.{size_of_graph};
@@ -13,10 +14,9 @@ use crate::steps::{next_end, next_period};
 use crate::tables::{read_images, read_shifts};
 use crate::{Heading, Item};
 use graph_rows::{GraphSize, read_graph};
-use line_text::Lines;
+use line_text::{Lines, RowFault};
 use map_check::PeriodicMap;
 use quotient_graph::{AnyGraph, Graph};
-use std::alloc::AllocError as NoMemory;
 
 fn drawn_size<const D: usize>(graph: &Graph<D>) -> GraphSize
     ensures { result ≡ size_of_graph graph.now }
@@ -45,29 +45,23 @@ fn read_map(
     first: &GraphSize,
     second: &GraphSize,
     numbers: &mut Vec<i128>,
-) -> Result<Result<PeriodicMap, u32>, NoMemory>
+) -> Result<PeriodicMap, RowFault>
     requires first { IsSize first.now }
     requires second { IsSize second.now }
     ensures { (text : List ℕ) (items : List ItemView) (edges others : List Arc) →
         length others ≡ second.now.edges →
         IsIn text (Drawn (drawing first.now edges) items (drawing second.now others)) lines.old →
-        IfOk result (λ read. MatchResult read
+        MatchResult result
         (HasMap text (drawing first.now edges) items (drawing second.now others) lines.new)
-        (HasBadLine text)) }
+        (IfBadLine (HasBadLine text)) }
 {
     let line = lines.number();
-    let m = match next_period(lines, first, numbers)? {
-        Some(m) => m,
-        None => return Ok(Err(line)),
+    let Some(m) = next_period(lines, first, numbers)? else {
+        return Err(RowFault::BadLine(line));
     };
-    let images = match read_images(lines, first, second, m, numbers)? {
-        Ok(images) => images,
-        Err(line) => return Ok(Err(line)),
-    };
-    match read_shifts(lines, first, second, numbers)? {
-        Ok(base) => Ok(Ok(PeriodicMap { m, images, base })),
-        Err(line) => Ok(Err(line)),
-    }
+    let images = read_images(lines, first, second, m, numbers)?;
+    let base = read_shifts(lines, first, second, numbers)?;
+    Ok(PeriodicMap { m, images, base })
 }
 
 // What the item says whose first line says that there is a map from a graph of this size.
@@ -75,29 +69,23 @@ fn read_pair(
     lines: &mut Lines<'_>,
     first: &GraphSize,
     numbers: &mut Vec<i128>,
-) -> Result<Result<Item, u32>, NoMemory>
+) -> Result<Item, RowFault>
     requires { IsSize first.now }
     ensures { (text : List ℕ) (items : List ItemView) (edges : List Arc) →
         IsIn text (Opened (drawing first.now edges) items) lines.old →
-        IfOk result (λ read. MatchResult read
+        MatchResult result
         (λ item. IsIn text (Listed (drawing first.now edges) (with_item items (item_view item)))
         lines.new)
-        (HasBadLine text)) }
+        (IfBadLine (HasBadLine text)) }
 {
-    let graph = match read_graph(lines, numbers)? {
-        Ok(graph) => graph,
-        Err(line) => return Ok(Err(line)),
-    };
+    let graph = read_graph(lines, numbers)?;
     let second = size_of(&graph);
-    let map = match read_map(lines, first, &second, numbers)? {
-        Ok(map) => map,
-        Err(line) => return Ok(Err(line)),
-    };
+    let map = read_map(lines, first, &second, numbers)?;
     let line = lines.number();
     if next_end(lines) {
-        Ok(Ok(Item::With(graph, map)))
+        Ok(Item::With(graph, map))
     } else {
-        Ok(Err(line))
+        Err(RowFault::BadLine(line))
     }
 }
 
@@ -108,21 +96,21 @@ pub fn read_item(
     first: &GraphSize,
     k: u32,
     numbers: &mut Vec<i128>,
-) -> Result<Result<Item, u32>, NoMemory>
+) -> Result<Item, RowFault>
     requires size { IsSize first.now }
     requires left { lines.old.rest ≢ [] }
     ensures { (text : List ℕ) (items : List ItemView) (edges : List Arc) →
         length edges ≡ first.now.edges → k ≡ next_number items →
         IsIn text (Listed (drawing first.now edges) items) lines.old →
-        IfOk result (λ read. MatchResult read
+        MatchResult result
         (λ item. IsIn text (Listed (drawing first.now edges) (with_item items (item_view item)))
         lines.new)
-        (HasBadLine text)) }
+        (IfBadLine (HasBadLine text)) }
 {
     let line = lines.number();
     match next_heading(lines, k) {
-        Some(Heading::Reason(why)) => Ok(Ok(Item::Without(why))),
+        Some(Heading::Reason(why)) => Ok(Item::Without(why)),
         Some(Heading::Map) => read_pair(lines, first, numbers),
-        None => Ok(Err(line)),
+        None => Err(RowFault::BadLine(line)),
     }
 }

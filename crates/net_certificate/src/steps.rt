@@ -16,6 +16,18 @@ use map_check::{Image, vertex_at};
 use std::alloc::AllocError as NoMemory;
 use vecdim::Triple;
 
+/// So many numbers has the row of a period.
+const PERIOD_NUMBERS: usize = 1;
+
+/// So many numbers has a vertex at most: its class, and the parts of its cell.
+const VERTEX_NUMBERS: usize = 4;
+
+/// So many numbers has the row of an image at most: those of a vertex and of its image.
+const IMAGE_NUMBERS: usize = 2 * VERTEX_NUMBERS;
+
+/// So many numbers has the row of a shift at most.
+const SHIFT_NUMBERS: usize = 3;
+
 /// Whether the next line is the first one of a text.
 pub fn next_title(lines: &mut Lines<'_>) -> bool
     ensures place { (text : List ℕ) (rows : List (List ℕ)) → IsAt text rows lines.old →
@@ -38,7 +50,7 @@ pub fn next_period(
     ensures form { IfOk result (λ found. IfSome found (IsPeriod size.now)) }
     ensures none { IfOk result (λ found. IfNone found (NoPeriod size.now lines.old.rest)) }
 {
-    if lines.next_row(b"period", numbers)? {
+    if lines.next_row(b"period", PERIOD_NUMBERS, numbers)? {
         Ok(period_from(size, numbers))
     } else {
         Ok(None)
@@ -66,7 +78,7 @@ pub fn next_image(
     ensures none { IfOk result (λ found.
         IfNone found (NoImage dim (vertex_at dim m i) size.now lines.old.rest)) }
 {
-    if lines.next_row(b"image", numbers)? {
+    if lines.next_row(b"image", IMAGE_NUMBERS, numbers)? {
         Ok(image_from(dim, &vertex_at(dim, m, i), size, numbers))
     } else {
         Ok(None)
@@ -86,7 +98,7 @@ pub fn next_shift(
     ensures form { IfOk result (λ found. IfSome found (IsShift dim)) }
     ensures none { IfOk result (λ found. IfNone found (NoShift dim lines.old.rest)) }
 {
-    if lines.next_row(b"base", numbers)? {
+    if lines.next_row(b"base", SHIFT_NUMBERS, numbers)? {
         Ok(shift_from(dim, numbers))
     } else {
         Ok(None)

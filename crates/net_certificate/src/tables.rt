@@ -1,6 +1,7 @@
 // Reads the images and the shifts of a map.
 ghost use Rattle.std.specs.Prelude.{ℕ, List, ◌≡◌, ◌*◌, ◌^◌, [], length, IfOk, MatchResult};
 ghost use Rattle.periodic_net.specs.Graph.{Arc, Vertex};
+ghost use Rattle.line_text.specs.Faults.{IfBadLine};
 ghost use Rattle.graph_rows.specs.Forms.{IsSize};
 ghost use Rattle.net_certificate.specs.Items.{IsPeriod, ItemView};
 ghost use Rattle.net_certificate.specs.Reading.{HasBadLine, IsIn};
@@ -9,9 +10,8 @@ ghost use Rattle.net_certificate.specs.Stages.{Mapped, begun_map, drawing, map_w
 use crate::period::image_count;
 use crate::steps::{next_image, next_shift};
 use graph_rows::GraphSize;
-use line_text::Lines;
+use line_text::{Lines, RowFault};
 use map_check::{BaseRows, Images};
-use std::alloc::AllocError as NoMemory;
 
 /// The images of a map of this period between graphs of these sizes, or the number of the first
 /// line that is no next image.
@@ -21,28 +21,28 @@ pub fn read_images(
     second: &GraphSize,
     m: u32,
     numbers: &mut Vec<i128>,
-) -> Result<Result<Images, u32>, NoMemory>
+) -> Result<Images, RowFault>
     requires first { IsSize first.now }
     requires second { IsSize second.now }
     requires period { IsPeriod first.now m }
-    ensures count { IfOk result (λ read. IfOk read (λ images.
-        length images ≡ first.now.vertices * m ^ first.now.dim)) }
+    ensures count { IfOk result (λ images.
+        length images ≡ first.now.vertices * m ^ first.now.dim) }
     ensures images { (text : List ℕ) (items : List ItemView) (edges others : List Arc) →
         IsIn text (Mapped (drawing first.now edges) items (drawing second.now others) (begun_map m))
-        lines.old → IfOk result (λ read. MatchResult read
+        lines.old → MatchResult result
         (λ images. IsIn text (Mapped (drawing first.now edges) items (drawing second.now others)
         (map_with m images [])) lines.new)
-        (HasBadLine text)) }
+        (IfBadLine (HasBadLine text)) }
 {
     let mut images = Images::new(*numbers.allocator());
     for i in 0..image_count(first, m) as u32 {
         let line = lines.number();
-        match next_image(lines, first.dim, m, i, second, numbers)? {
-            Some(x) => images.push(x)?,
-            None => return Ok(Err(line)),
-        }
+        let Some(x) = next_image(lines, first.dim, m, i, second, numbers)? else {
+            return Err(RowFault::BadLine(line));
+        };
+        images.push(x)?;
     }
-    Ok(Ok(images))
+    Ok(images)
 }
 
 /// The shifts of a map between graphs of these sizes, or the number of the first line that is no
@@ -52,25 +52,25 @@ pub fn read_shifts(
     first: &GraphSize,
     second: &GraphSize,
     numbers: &mut Vec<i128>,
-) -> Result<Result<BaseRows, u32>, NoMemory>
+) -> Result<BaseRows, RowFault>
     requires first { IsSize first.now }
     requires second { IsSize second.now }
-    ensures count { IfOk result (λ read. IfOk read (λ base. length base ≡ first.now.dim)) }
+    ensures count { IfOk result (λ base. length base ≡ first.now.dim) }
     ensures shifts { (text : List ℕ) (items : List ItemView) (edges others : List Arc) (m : ℕ)
         (images : List Vertex) → length images ≡ first.now.vertices * m ^ first.now.dim →
         IsIn text (Mapped (drawing first.now edges) items (drawing second.now others)
-        (map_with m images [])) lines.old → IfOk result (λ read. MatchResult read
+        (map_with m images [])) lines.old → MatchResult result
         (λ base. IsIn text (Mapped (drawing first.now edges) items (drawing second.now others)
         (map_with m images base)) lines.new)
-        (HasBadLine text)) }
+        (IfBadLine (HasBadLine text)) }
 {
     let mut base = BaseRows::new(*numbers.allocator());
     for _ in 0..first.dim {
         let line = lines.number();
-        match next_shift(lines, second.dim, numbers)? {
-            Some(v) => base.push(v)?,
-            None => return Ok(Err(line)),
-        }
+        let Some(v) = next_shift(lines, second.dim, numbers)? else {
+            return Err(RowFault::BadLine(line));
+        };
+        base.push(v)?;
     }
-    Ok(Ok(base))
+    Ok(base)
 }

@@ -1,5 +1,5 @@
 -- The numbers of a cell's rows, in the order in which a word spells them.
-use Rattle.std.proofs.Common.{◌≡◌, ◌⊎◌, inl, inr, ℕ, ◌≤◌, ℤ, List, [], ◌∷◌, All, length, refl, sym, ap, subst, ◌∙◌, arith}
+use Rattle.std.proofs.Common.{◌≡◌, ◌⊎◌, inl, inr, ℕ, ◌≤◌, ◌==◌, Bool, true, false, cond, ℤ, List, [], ◌∷◌, All, length, refl, sym, ap, subst, ◌∙◌, arith}
 use Rattle.std.specs.Prelude.{unsigned_abs}
 use Rattle.std.proofs.lemmas.List.Elements.{All-nil, All-cons}
 use Rattle.integers.specs.Vectors.{Vector, IsWithin}
@@ -42,6 +42,14 @@ numbers_wide R w = by w.dimension
         let y = wide_row R.rows.second (R.rows.third.x ∷ R.rows.third.y ∷ R.rows.third.z ∷ []) w.small.second z in
         subst (All IsWide) (sym (numbers_space R e))
         (wide_row R.rows.first (R.rows.second.x ∷ R.rows.second.y ∷ R.rows.second.z ∷ R.rows.third.x ∷ R.rows.third.y ∷ R.rows.third.z ∷ []) w.small.first y)
+
+-- and there are nine of them at most
+pub numbers_few : (R : CellView) → length (cell_numbers R) ≤ 9
+numbers_few R = by (R.dimension == 2)
+  where
+    by : (t : Bool) → length (cond t (flat_numbers R.rows) (space_numbers R.rows)) ≤ 9
+    by true = omega arith
+    by false = omega arith
 
 -- a list of nine numbers is that of its places
 nine_places : (zs : List ℤ) → length zs ≡ 9 → space_numbers (cell_view 3 (row_in zs 0) (row_in zs 3) (row_in zs 6)).rows ≡ zs

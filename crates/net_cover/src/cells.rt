@@ -109,13 +109,16 @@ fn cell_from(numbers: &[i128]) -> Option<Cell>
     }
 }
 
+/// So many numbers spell a cell at most.
+const MOST_NUMBERS: usize = 9;
+
 // The cell that a word spells.
 fn find_cell(alloc: Global, word: &[u8]) -> Result<Option<Cell>, NoMemory>
     ensures cell { IfOk result (λ o. IfSome o (SpellsCell word.now)) }
     ensures none { IfOk result (λ o. o ≡ None → (R : CellView) → ¬ SpellsCell word.now R) }
 {
     let mut numbers = Vec::new(alloc);
-    if read_joined(alloc, word, &mut numbers)? {
+    if read_joined(alloc, word, MOST_NUMBERS, &mut numbers)? {
         Ok(cell_from(&numbers))
     } else {
         Ok(None)

@@ -6,7 +6,7 @@ use Rattle.line_text.specs.Lines.{IsAt}
 use Rattle.line_text.specs.Numbers.{row_text}
 use Rattle.archive_text.specs.Rows.{count_row}
 use Rattle.archive_text.specs.Reading.{NoCount}
-use Rattle.archive_text.proofs.RowForms.{count_wide}
+use Rattle.archive_text.proofs.RowForms.{count_few, count_wide}
 use Rattle.line_text.proofs.CallerLemmas.{none_from, some_from}
 use Rattle.archive_text.proofs.steps.next_count.Goals as goal
 
@@ -19,8 +19,8 @@ returns-then-branch-clause-place c = λ text rows at.
 pub returns-then-branch-clause-none : goal.returns-then-branch-clause-none
 unfolding count_row
 returns-then-branch-clause-none c = none_from c.count_from.result (NoCount c.args.lines.now.rest) (λ none n rest is e.
-    none-some n (sym none ∙ c.count_from.ensures.every n is (c.deref.ensures.value ∙ (c.in_ok-next_row.ensures.every (pos n ∷ []) rest (count_wide n is) e).1)))
+    none-some n (sym none ∙ c.count_from.ensures.every n is (c.deref.ensures.value ∙ (c.in_ok-next_row.ensures.every (pos n ∷ []) rest (count_wide n is) (count_few n) e).1)))
 
 pub returns-else-branch-clause-none : goal.returns-else-branch-clause-none
 unfolding count_row
-returns-else-branch-clause-none c = λ n rest is e. true≢false (sym (c.in_ok-next_row.ensures.every (pos n ∷ []) rest (count_wide n is) e).0 ∙ c.if-branch.false)
+returns-else-branch-clause-none c = λ n rest is e. true≢false (sym (c.in_ok-next_row.ensures.every (pos n ∷ []) rest (count_wide n is) (count_few n) e).0 ∙ c.if-branch.false)

@@ -7,7 +7,7 @@ use Rattle.line_text.specs.Numbers.{row_text}
 use Rattle.archive_text.specs.Rows.{shells_row, shells_numbers}
 use Rattle.archive_text.specs.Forms.{AreSizes}
 use Rattle.archive_text.specs.Reading.{NoShells}
-use Rattle.archive_text.proofs.RowForms.{shells_wide}
+use Rattle.archive_text.proofs.RowForms.{shells_few, shells_wide}
 use Rattle.line_text.proofs.CallerLemmas.{some_from}
 use Rattle.archive_text.proofs.ShortLists.{no_shells}
 use Rattle.archive_text.proofs.steps.next_shells.Goals as goal
@@ -24,8 +24,8 @@ unfolding shells_row
 returns-then-branch-clause-none c =
     IfOk-weaker c.sizes_from.result (λ (o : Option (Vec ℕ Global)). (sizes : List ℕ) → AreSizes sizes → c.deref.result.now ≡ shells_numbers c.args.class sizes → IfNone o ⊥) (λ (o : Option (Vec ℕ Global)). IfNone o (NoShells c.args.class c.args.lines.now.rest))
     (λ o none. no_shells o c.deref.result.now c.args.class c.args.lines.now.rest
-    (λ sizes rest are e. c.deref.ensures.value ∙ (c.in_ok-next_row.ensures.every (shells_numbers c.args.class sizes) rest (shells_wide c.args.class sizes c.requires are) e).1) none) c.sizes_from.ensures.none
+    (λ sizes rest are e. c.deref.ensures.value ∙ (c.in_ok-next_row.ensures.every (shells_numbers c.args.class sizes) rest (shells_wide c.args.class sizes c.requires are) (shells_few c.args.class sizes are) e).1) none) c.sizes_from.ensures.none
 
 pub returns-else-branch-clause-none : goal.returns-else-branch-clause-none
 unfolding shells_row
-returns-else-branch-clause-none c = λ sizes rest are e. true≢false (sym (c.in_ok-next_row.ensures.every (shells_numbers c.args.class sizes) rest (shells_wide c.args.class sizes c.requires are) e).0 ∙ c.if-branch.false)
+returns-else-branch-clause-none c = λ sizes rest are e. true≢false (sym (c.in_ok-next_row.ensures.every (shells_numbers c.args.class sizes) rest (shells_wide c.args.class sizes c.requires are) (shells_few c.args.class sizes are) e).0 ∙ c.if-branch.false)

@@ -9,7 +9,7 @@ use Rattle.graph_rows.specs.Rows.{edge_row, edge_numbers}
 use Rattle.graph_rows.specs.Reading.{NoEdge}
 use Rattle.cgd_read.specs.Spelling.{edge_of}
 use Rattle.periodic_net.specs.Graph.{Arc}
-use Rattle.graph_rows.proofs.RowForms.{edge_wide}
+use Rattle.graph_rows.proofs.RowForms.{edge_few, edge_wide}
 use Rattle.line_text.proofs.CallerLemmas.{none_from, some_from}
 use Rattle.graph_rows.proofs.steps.next_edge.Goals as goal
 
@@ -26,9 +26,9 @@ raw_of a = record { u = a.from; v = a.to; x = a.shift.x; y = a.shift.y; z = a.sh
 pub returns-then-branch-clause-none : goal.returns-then-branch-clause-none
 unfolding edge_row
 returns-then-branch-clause-none c = λ edges last. none_from c.edge_after.result (NoEdge c.args.size.now edges c.args.lines.now.rest) (λ none e rest next is.
-    none-some (raw_of e) (sym none ∙ c.edge_after.ensures.every edges (raw_of e) last next (c.deref.ensures.value ∙ (c.in_ok-next_row.ensures.every (edge_numbers c.args.size.now.dim e) rest (edge_wide c.args.size.now e c.requires next.is_edge) is).1)))
+    none-some (raw_of e) (sym none ∙ c.edge_after.ensures.every edges (raw_of e) last next (c.deref.ensures.value ∙ (c.in_ok-next_row.ensures.every (edge_numbers c.args.size.now.dim e) rest (edge_wide c.args.size.now e c.requires next.is_edge) (edge_few c.args.size.now.dim e) is).1)))
 
 pub returns-else-branch-clause-none : goal.returns-else-branch-clause-none
 unfolding edge_row
 returns-else-branch-clause-none c = λ edges last e rest next is.
-    true≢false (sym (c.in_ok-next_row.ensures.every (edge_numbers c.args.size.now.dim e) rest (edge_wide c.args.size.now e c.requires next.is_edge) is).0 ∙ c.if-branch.false)
+    true≢false (sym (c.in_ok-next_row.ensures.every (edge_numbers c.args.size.now.dim e) rest (edge_wide c.args.size.now e c.requires next.is_edge) (edge_few c.args.size.now.dim e) is).0 ∙ c.if-branch.false)

@@ -7,7 +7,7 @@ use Rattle.line_text.specs.Numbers.{row_text}
 use Rattle.graph_rows.specs.declared.size.GraphSize.{GraphSize}
 use Rattle.graph_rows.specs.Rows.{size_row, size_numbers}
 use Rattle.graph_rows.specs.Reading.{NoSize}
-use Rattle.graph_rows.proofs.RowForms.{size_wide}
+use Rattle.graph_rows.proofs.RowForms.{size_few, size_wide}
 use Rattle.line_text.proofs.CallerLemmas.{none_from, some_from}
 use Rattle.graph_rows.proofs.steps.next_size.Goals as goal
 
@@ -20,8 +20,8 @@ returns-then-branch-clause-place c = λ text rows at.
 pub returns-then-branch-clause-none : goal.returns-then-branch-clause-none
 unfolding size_row
 returns-then-branch-clause-none c = none_from c.size_of.result (NoSize c.args.lines.now.rest) (λ none size rest is e.
-    none-some size (sym none ∙ c.size_of.ensures.every size is (c.deref.ensures.value ∙ (c.in_ok-next_row.ensures.every (size_numbers size) rest (size_wide size is) e).1)))
+    none-some size (sym none ∙ c.size_of.ensures.every size is (c.deref.ensures.value ∙ (c.in_ok-next_row.ensures.every (size_numbers size) rest (size_wide size is) (size_few size) e).1)))
 
 pub returns-else-branch-clause-none : goal.returns-else-branch-clause-none
 unfolding size_row
-returns-else-branch-clause-none c = λ size rest is e. true≢false (sym (c.in_ok-next_row.ensures.every (size_numbers size) rest (size_wide size is) e).0 ∙ c.if-branch.false)
+returns-else-branch-clause-none c = λ size rest is e. true≢false (sym (c.in_ok-next_row.ensures.every (size_numbers size) rest (size_wide size is) (size_few size) e).0 ∙ c.if-branch.false)

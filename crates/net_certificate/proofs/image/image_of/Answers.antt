@@ -1,3 +1,4 @@
+-- Of `image_of`: what it ensures; what `place_of` and `vertex_standing` require.
 use Rattle.std.proofs.Common.{◌≡◌, lit<, sym, subst, ap, ◌∙◌}
 use Rattle.integers.specs.Bases.{base_sum}
 use Rattle.integers.specs.Vectors.{plus, minus, IsWithin}
@@ -19,8 +20,8 @@ place_of-place-requires g c =
     let w = c.args.w.now in
     let is = c.end_of-end.ensures ∙ ap (λ (x : Vertex). end_over c.args.ends.now x.over) c.w.view_is in
     let r = found_end S T c.args.ends.now c.requires.ends w.over c.requires.vertex.over c.end_of-end.result is in
-    let origin = subst (λ (n : PlacedNet). IsQuotientVertex n.graph c.origin-2.result) (sym c.placed.ensures.net)
-    (subst (IsQuotientVertex T.net.graph) (sym c.origin-2.ensures) k.same_there.origin.is_vertex) in
+    let origin = subst (λ (n : PlacedNet). IsQuotientVertex n.graph c.origin.result) (sym c.placed.ensures.net)
+    (subst (IsQuotientVertex T.net.graph) (sym c.origin.ensures) k.same_there.origin.is_vertex) in
     let small = subst (λ (x : Vertex). IsWithin most_period x.cell) (sym c.w.view_is) c.requires.small in
     (lit< tt, (lit< tt, (origin, (r.1, (c.requires.first, (c.requires.second, (c.requires.third, small)))))))
 
@@ -35,7 +36,7 @@ vertex_standing-v-requires g c =
     let is = c.end_of-end.ensures ∙ ap (λ (x : Vertex). end_over c.args.ends.now x.over) c.w.view_is in
     let r = found_end S T c.args.ends.now c.requires.ends w.over c.requires.vertex.over e is in
     let net = c.placed.ensures.net in
-    let origin = c.origin-2.ensures in
+    let origin = c.origin.ensures in
     let view = c.w.view_is in
     let value = c.place_of-place.ensures.value ∙ (λ i. plus (plus (base (net i).placement (origin i)) e.at) (base_sum C (minus (view i).cell e.shift))) in (
       lit< tt,
@@ -57,7 +58,7 @@ returns g c =
     let is = c.end_of-end.ensures ∙ ap (λ (x : Vertex). end_over c.args.ends.now x.over) c.w.view_is in
     let r = found_end S T c.args.ends.now c.requires.ends w.over c.requires.vertex.over e is in
     let net = c.placed.ensures.net in
-    let origin = c.origin-2.ensures in
+    let origin = c.origin.ensures in
     let view = c.w.view_is in
     let value = c.place_of-place.ensures.value ∙ (λ i. plus (plus (base (net i).placement (origin i)) e.at) (base_sum C (minus (view i).cell e.shift))) in
     let v = c.vertex_standing-v.result.0 in

@@ -1,3 +1,4 @@
+-- Of `next_image`: the clauses `place` and `none`.
 use Rattle.std.proofs.Common.{◌≡◌, Ok, ap, [], ◌∷◌, ◌++◌, sym, ◌∙◌, subst, arith}
 use Rattle.std.specs.Prelude.{codes}
 use Rattle.std.proofs.lemmas.Option.{none-some}
@@ -9,7 +10,7 @@ use Rattle.line_text.proofs.CallerLemmas.{none_from, some_from}
 use Rattle.map_check.specs.Layouts.{vertex_at}
 use Rattle.net_certificate.specs.Rows.{image_numbers, image_row}
 use Rattle.net_certificate.specs.Steps.{NoImage}
-use Rattle.net_certificate.proofs.RowForms.{image_wide}
+use Rattle.net_certificate.proofs.RowForms.{image_few, image_wide}
 use Rattle.net_certificate.proofs.steps.next_image.Goals as goal
 
 pub returns-then-branch-clause-place : goal.returns-then-branch-clause-place
@@ -29,7 +30,7 @@ returns-then-branch-clause-none c =
     let w = vertex_at d c.args.m c.args.i in
     none_from c.image_from.result (NoImage d w s c.args.lines.now.rest) (λ none x rest is e.
     none-some x (sym none ∙ c.image_from.ensures.every x is (c.deref.ensures.value
-    ∙ (c.in_ok-next_row.ensures.every (image_numbers d s.dim w x) rest (image_wide d s.dim c.args.m c.args.i s.vertices x c.requires.few (omega (arith, c.requires.size.vertices.1)) is) e).1
+    ∙ (c.in_ok-next_row.ensures.every (image_numbers d s.dim w x) rest (image_wide d s.dim c.args.m c.args.i s.vertices x c.requires.few (omega (arith, c.requires.size.vertices.1)) is) (image_few d s.dim w x) e).1
     ∙ ap (λ v. image_numbers d s.dim v x) (sym c.vertex_at.ensures))))
 
 pub returns-else-branch-clause-none : goal.returns-else-branch-clause-none
@@ -38,4 +39,4 @@ returns-else-branch-clause-none c = λ x rest is e.
     let d = c.args.dim in
     let s = c.args.size.now in
     let w = vertex_at d c.args.m c.args.i in
-    true≢false (sym (c.in_ok-next_row.ensures.every (image_numbers d s.dim w x) rest (image_wide d s.dim c.args.m c.args.i s.vertices x c.requires.few (omega (arith, c.requires.size.vertices.1)) is) e).0 ∙ c.if-branch.false)
+    true≢false (sym (c.in_ok-next_row.ensures.every (image_numbers d s.dim w x) rest (image_wide d s.dim c.args.m c.args.i s.vertices x c.requires.few (omega (arith, c.requires.size.vertices.1)) is) (image_few d s.dim w x) e).0 ∙ c.if-branch.false)

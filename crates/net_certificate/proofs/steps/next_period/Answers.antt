@@ -8,6 +8,7 @@ use Rattle.line_text.proofs.CallerLemmas.{none_from, some_from}
 use Rattle.net_certificate.specs.Rows.{period_row}
 use Rattle.net_certificate.specs.Steps.{NoPeriod}
 use Rattle.net_certificate.proofs.PlainRows.{one_wide}
+use Rattle.net_certificate.proofs.RowForms.{one_few}
 use Rattle.net_certificate.proofs.steps.next_period.Goals as goal
 
 pub returns-then-branch-clause-place : goal.returns-then-branch-clause-place
@@ -19,8 +20,8 @@ returns-then-branch-clause-place c = λ text rows at.
 pub returns-then-branch-clause-none : goal.returns-then-branch-clause-none
 unfolding period_row
 returns-then-branch-clause-none c = none_from c.period_from.result (NoPeriod c.args.size.now c.args.lines.now.rest) (λ none m rest is e.
-    none-some m (sym none ∙ c.period_from.ensures.every m is (c.deref.ensures.value ∙ (c.in_ok-next_row.ensures.every (pos m ∷ []) rest (one_wide m is.to) e).1)))
+    none-some m (sym none ∙ c.period_from.ensures.every m is (c.deref.ensures.value ∙ (c.in_ok-next_row.ensures.every (pos m ∷ []) rest (one_wide m is.to) (one_few m) e).1)))
 
 pub returns-else-branch-clause-none : goal.returns-else-branch-clause-none
 unfolding period_row
-returns-else-branch-clause-none c = λ m rest is e. true≢false (sym (c.in_ok-next_row.ensures.every (pos m ∷ []) rest (one_wide m is.to) e).0 ∙ c.if-branch.false)
+returns-else-branch-clause-none c = λ m rest is e. true≢false (sym (c.in_ok-next_row.ensures.every (pos m ∷ []) rest (one_wide m is.to) (one_few m) e).0 ∙ c.if-branch.false)

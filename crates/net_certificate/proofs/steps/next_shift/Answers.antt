@@ -8,7 +8,7 @@ use Rattle.line_text.specs.Numbers.{row_text}
 use Rattle.line_text.proofs.CallerLemmas.{none_from, some_from}
 use Rattle.net_certificate.specs.Rows.{base_row}
 use Rattle.net_certificate.specs.Steps.{NoShift}
-use Rattle.net_certificate.proofs.RowForms.{parts_wide}
+use Rattle.net_certificate.proofs.RowForms.{parts_few, parts_wide}
 use Rattle.net_certificate.proofs.steps.next_shift.Goals as goal
 
 pub returns-then-branch-clause-place : goal.returns-then-branch-clause-place
@@ -20,8 +20,8 @@ returns-then-branch-clause-place c = λ text rows at.
 pub returns-then-branch-clause-none : goal.returns-then-branch-clause-none
 unfolding base_row
 returns-then-branch-clause-none c = none_from c.shift_from.result (NoShift c.args.dim c.args.lines.now.rest) (λ none v rest is e.
-    none-some v (sym none ∙ c.shift_from.ensures.every v is (c.deref.ensures.value ∙ (c.in_ok-next_row.ensures.every (parts c.args.dim v) rest (parts_wide c.args.dim v is.small) e).1)))
+    none-some v (sym none ∙ c.shift_from.ensures.every v is (c.deref.ensures.value ∙ (c.in_ok-next_row.ensures.every (parts c.args.dim v) rest (parts_wide c.args.dim v is.small) (parts_few c.args.dim v) e).1)))
 
 pub returns-else-branch-clause-none : goal.returns-else-branch-clause-none
 unfolding base_row
-returns-else-branch-clause-none c = λ v rest is e. true≢false (sym (c.in_ok-next_row.ensures.every (parts c.args.dim v) rest (parts_wide c.args.dim v is.small) e).0 ∙ c.if-branch.false)
+returns-else-branch-clause-none c = λ v rest is e. true≢false (sym (c.in_ok-next_row.ensures.every (parts c.args.dim v) rest (parts_wide c.args.dim v is.small) (parts_few c.args.dim v) e).0 ∙ c.if-branch.false)

@@ -1,3 +1,4 @@
+-- Of `read_images`: the loop over `i`; the clause `images`.
 use Rattle.std.proofs.Common.{◌<◌, ◌*◌, ◌^◌, [], ◌∷◌, ◌++◌, length, refl, sym, ap, ◌∙◌, subst, arith}
 use Rattle.std.proofs.lemmas.List.{length-append}
 use Rattle.periodic_net.specs.Graph.{Vertex}
@@ -13,8 +14,8 @@ use Rattle.net_certificate.proofs.Following.{no_image}
 use Rattle.net_certificate.proofs.Places.{row_in, bad_in}
 use Rattle.net_certificate.proofs.tables.read_images.Goals as goal
 
-pub returns-in-None-clause-images : goal.returns-in-None-clause-images
-returns-in-None-clause-images c = λ text items edges others is.
+pub returns-in_default-clause-images : goal.returns-in_default-clause-images
+returns-in_default-clause-images c = λ text items edges others is.
     let s = c.args.first.now in
     let t = c.args.second.now in
     let m = c.args.m in
@@ -22,7 +23,7 @@ returns-in-None-clause-images c = λ text items edges others is.
     bad_in text (Mapped (drawing s edges) items (drawing t others) M) c.loop-i.lines c.number-line.result (c.loop-i.invariant.0 text items edges others is) c.number-line.ensures.number
     (no_image (drawing s edges) items (drawing t others) M c.loop-i.lines.rest (omega (arith, c.loop-i.invariant.1, c.loop-i-test.true, c.image_count-i-end.ensures, c.requires.period.few))
     (subst (λ n. NoImage s.dim (vertex_at s.dim m n) t c.loop-i.lines.rest) (sym c.loop-i.invariant.1)
-    (at_none c.in_ok-x.field-0 (NoImage s.dim (vertex_at s.dim m c.loop-i.i) t c.loop-i.lines.rest) c.in-None.is c.in_ok-x.ensures.none)))
+    (at_none c.in_ok-x.field-0 (NoImage s.dim (vertex_at s.dim m c.loop-i.i) t c.loop-i.lines.rest) c.in_default.is c.in_ok-x.ensures.none)))
     (λ may. absurd may)
 
 pub loop-i-preserved : goal.loop-i-preserved
@@ -35,7 +36,7 @@ loop-i-preserved c =
     let w = vertex_at s.dim m c.loop-i.i in
     let less : length c.loop-i.images < s.vertices * m ^ s.dim = omega (arith, c.loop-i.invariant.1, c.loop-i-test.true, c.image_count-i-end.ensures, c.requires.period.few) in (
       (λ text items edges others is.
-          subst (λ l. IsIn text (Mapped (drawing s edges) items (drawing t others) (map_with m l [])) c.next_image.new.lines) (sym c.in_ok-push-in-Some.ensures.ok)
+          subst (λ l. IsIn text (Mapped (drawing s edges) items (drawing t others) (map_with m l [])) c.next_image.new.lines) (sym c.in_ok-push.ensures.ok)
           (row_in text (Mapped (drawing s edges) items (drawing t others) M) (OfImage s.dim t.dim w x) c.loop-i.lines c.next_image.new.lines (c.loop-i.invariant.0 text items edges others is) (
             refl,
             refl,
@@ -44,5 +45,5 @@ loop-i-preserved c =
             at_some c.in_ok-x.field-0 (λ (y : Vertex). IsImage t.dim t.vertices y) x c.in-Some.is c.in_ok-x.ensures.form,
           )
           (λ rows at. at_some c.in_ok-x.field-0 (λ (y : Vertex). IsAt text (rows ++ image_row s.dim t.dim w y ∷ []) c.next_image.new.lines) x c.in-Some.is (c.in_ok-x.ensures.place text rows at)))),
-      (let long = ap length c.in_ok-push-in-Some.ensures.ok ∙ length-append c.loop-i.images (x ∷ []) in omega (arith, long, c.loop-i.invariant.1)),
+      (let long = ap length c.in_ok-push.ensures.ok ∙ length-append c.loop-i.images (x ∷ []) in omega (arith, long, c.loop-i.invariant.1)),
     )

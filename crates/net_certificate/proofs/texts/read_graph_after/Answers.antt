@@ -1,21 +1,26 @@
-use Rattle.std.proofs.Common.{sym, ◌∙◌}
+use Rattle.std.proofs.Common.{Option, sym, ◌∙◌}
+use Rattle.std.specs.Prelude.{MatchOption}
 use Rattle.quotient_graph.specs.AnyGraphs.{graph_view}
 use Rattle.quotient_graph.specs.declared.any_graph.AnyGraph.{AnyGraph}
-use Rattle.graph_rows.specs.Reading.{HasGraph, HasBadGraph, IsFormedGraph}
-use Rattle.line_text.proofs.CallerLemmas.{at_ok, at_err}
+use Rattle.graph_rows.specs.Reading.{HasBadGraph}
+use Rattle.line_text.proofs.CallerLemmas.{bad_line_from, handed_on}
 use Rattle.net_certificate.specs.Rows.{row_lines}
+use Rattle.net_certificate.specs.Reading.{HasNoGraph, IsBegun, HasBadLine}
 use Rattle.net_certificate.proofs.GraphReads.{first_in, first_bad, nothing, something}
 use Rattle.net_certificate.proofs.texts.read_graph_after.Goals as goal
 
 pub returns-then-is_empty-clause-first : goal.returns-then-is_empty-clause-first
 returns-then-is_empty-clause-first c = λ text is. record { at = is; none = nothing c.args.lines.now.rest (sym c.is_empty.ensures ∙ c.if-is_empty.true) }
 
-pub returns-in-Ok-clause-first : goal.returns-in-Ok-clause-first
-returns-in-Ok-clause-first c = λ text is.
-    let formed = at_ok c.in_ok-graph.field-0 (λ (a : AnyGraph). IsFormedGraph (graph_view a)) (λ n. Unit {0}) c.in-Ok.graph c.in-Ok.is c.in_ok-graph.ensures.form in
-    first_in text (graph_view c.in-Ok.graph) c.args.lines.now c.read_graph.new.lines formed is
-    (λ rows at. at_ok c.in_ok-graph.field-0 (λ (a : AnyGraph). HasGraph text rows c.read_graph.new.lines (graph_view a)) (HasBadGraph text rows) c.in-Ok.graph c.in-Ok.is (c.in_ok-graph.ensures.graph text rows at))
+pub returns-clause-first : goal.returns-clause-first
+returns-clause-first c = λ text is.
+    first_in text (graph_view c.in_ok-graph.graph) c.args.lines.now c.read_graph.new.lines c.in_ok-graph.ensures.form is (λ rows at. c.in_ok-graph.ensures.graph text rows at)
 
-pub returns-in-Err-clause-first : goal.returns-in-Err-clause-first
-returns-in-Err-clause-first c = λ text is. first_bad text c.args.lines.now c.in-Err.line is (something c.args.lines.now.rest (sym c.is_empty.ensures ∙ c.if-is_empty.false))
-    (at_err c.in_ok-graph.field-0 (λ (a : AnyGraph). HasGraph text (row_lines is.rows) c.read_graph.new.lines (graph_view a)) (HasBadGraph text (row_lines is.rows)) c.in-Err.line c.in-Err.is (c.in_ok-graph.ensures.graph text (row_lines is.rows) is.at))
+pub returns-in_err-graph-clause-first : goal.returns-in_err-graph-clause-first
+returns-in_err-graph-clause-first c = λ text is.
+    let fault = c.in_err-graph.field-0.0 in
+    let place = c.read_graph.new.lines in
+    handed_on (λ (first : Option AnyGraph). MatchOption first (HasNoGraph text place) (λ (g : AnyGraph). IsBegun (graph_view g) text place)) (HasBadLine text) fault c.from_residual.result c.from_residual.ensures.1
+    (bad_line_from fault (HasBadGraph text (row_lines is.rows)) (HasBadLine text)
+    (λ n bad. first_bad text c.args.lines.now n is (something c.args.lines.now.rest (sym c.is_empty.ensures ∙ c.if-is_empty.false)) bad)
+    (c.in_err-graph.ensures.graph text (row_lines is.rows) is.at))

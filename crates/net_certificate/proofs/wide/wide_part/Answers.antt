@@ -1,3 +1,4 @@
+-- Of `wide_part`: what it ensures.
 use Rattle.std.proofs.Common.{rules, ◌≡◌, ◌∷◌, [], ◌==◌, false, cond, sym, subst, ◌∙◌, FitsSigned}
 use Rattle.std.specs.Int.{w128}
 use Rattle.std.proofs.lemmas.Int.{to_z-of_z}

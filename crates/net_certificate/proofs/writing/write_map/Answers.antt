@@ -1,3 +1,4 @@
+-- Of `write_map`: what it ensures; what `period_number`, `entries` and `box_images` require.
 use Rattle.std.proofs.Common.{ℕ, ◌*◌, ◌≤◌, lit<, sym, subst, ap, ◌∙◌}
 use Rattle.periodic_net.specs.Graph.{Graph}
 use Rattle.map_check.specs.Layouts.{box_size}
@@ -12,14 +13,14 @@ pub period_number-m-requires : goal.period_number-m-requires
 period_number-m-requires g c =
     let p = c.period_of-period in
     period_limit c.args.here.now c.args.there.now c.requires.one_key c.args.cells.now c.requires.cells p.result.m p.result.shifts p.ensures
-    c.graph-2.result.now c.graph-2.ensures c.vertices.ensures.small
+    c.graph-2.result.now c.graph-2.ensures c.recall.ensures.small
 
 pub entries-entries-requires-clause-period : goal.entries-entries-requires-clause-period
 entries-entries-requires-clause-period g c =
     let p = c.period_of-period in
     subst (λ (n : ℕ). n ≤ most_period) (sym c.period_number-m.ensures)
     (period_limit c.args.here.now c.args.there.now c.requires.one_key c.args.cells.now c.requires.cells p.result.m p.result.shifts p.ensures
-    c.graph-2.result.now c.graph-2.ensures c.vertices.ensures.small)
+    c.graph-2.result.now c.graph-2.ensures c.recall.ensures.small)
 
 pub returns-then-room-entries : goal.returns-then-room-entries
 returns-then-room-entries g c = λ a b ka kb s t e.
@@ -38,7 +39,7 @@ box_images-requires g c =
     let r = c.requires in
     let from = (period_small c.args.here.now c.args.there.now r.one_key c.args.cells.now r.cells p.result.m p.result.shifts p.ensures).0 in
     let to = period_limit c.args.here.now c.args.there.now r.one_key c.args.cells.now r.cells p.result.m p.result.shifts p.ensures
-    c.graph-2.result.now c.graph-2.ensures c.vertices.ensures.small in
+    c.graph-2.result.now c.graph-2.ensures c.recall.ensures.small in
     let from' = subst (λ (n : ℕ). 1 ≤ n) (sym c.period_number-m.ensures) from in
     let to' = subst (λ (n : ℕ). n ≤ most_period) (sym c.period_number-m.ensures) to in
     (lit< tt, (lit< tt, (lit< tt, (r.one_key, (r.ends, (r.cells, (r.first, (r.second, (r.third, (from', to'))))))))))

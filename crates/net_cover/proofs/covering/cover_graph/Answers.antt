@@ -1,3 +1,4 @@
+-- Of `cover_graph`: the clauses `fault`, `cover`, `iso`, `size` and `coverable`; what `from_edges` requires.
 use Rattle.std.proofs.Common.{◌≡◌, ◌∙◌, ◌*◌, ℕ, lit<, sym, ap, subst}
 use Rattle.periodic_net.specs.Graph.{IsGraph}
 use Rattle.periodic_net.specs.Limits.{IsSmall}

@@ -1,3 +1,4 @@
+-- Of `lift`: the clauses `lift` and `wide`; what `coefficients` requires.
 use Rattle.std.proofs.Common.{◌≡◌, ◌∙◌, ◌<◌, ◌+◌, ◌^◌, ℕ, sym, ap, subst, arith}
 use Rattle.integers.specs.Vectors.{plus, minus, HasDimension, IsWithin}
 use Rattle.integers.proofs.vectors.Bounds.{wider}

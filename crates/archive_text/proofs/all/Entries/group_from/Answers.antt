@@ -1,3 +1,4 @@
+-- Of `group_from`: the clauses `none` and `some`.
 use Rattle.std.proofs.Common.{◌≡◌, ◌<◌, ◌≤◌, ◌+◌, ℕ, length, slice_get, Some, ap, sym, subst, ◌∙◌, arith}
 use Rattle.archive_text.specs.Entries.{entry_view}
 use Rattle.archive_text.specs.Groups.{numbers_with}

@@ -1,3 +1,4 @@
+-- Of `add_entry`: the clause `fault`; invariants.
 use Rattle.std.proofs.Common.{◌∙◌, List, ℕ, sym, subst}
 use Rattle.std.specs.List.{Contains}
 use Rattle.archive_text.specs.Entries.{EntryView, entry_view}
