@@ -12,7 +12,7 @@ use crate::token::Token;
 use std::marker::Model;
 
 /// Seen as the tokens that are left.
-#[derive(Drop)]
+#[derive(Debug, Drop)]
 pub struct Lexer<'a> {
     rest: &'a [u8],
     at: usize,

@@ -36,7 +36,7 @@ abbrev ended : ℕ → List LineView → BlockView
 ended opening earlier = with_body opening earlier (Net (net_of (rows_in earlier)))
 
 -- a line that passes is passed over
-passes_on : (opening : ℕ) (earlier : List LineView) (line : LineView) (later : List LineView) → AllFalse (table earlier line) → is_end line.kind ≡ false
+pub passes_on : (opening : ℕ) (earlier : List LineView) (line : LineView) (later : List LineView) → AllFalse (table earlier line) → is_end line.kind ≡ false
     → graph_block opening earlier (line ∷ later) ≡ graph_block opening (line ∷ earlier) later
 passes_on opening earlier line later h e =
     ap (λ fault. or_fault fault line.number opening earlier (cond (is_end line.kind) (ended opening earlier) (graph_block opening (line ∷ earlier) later))) (none_true (table earlier line) h)

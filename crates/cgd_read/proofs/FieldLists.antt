@@ -129,7 +129,7 @@ pub fields_after : (bare : Bool) (first : TokenView) (others : List TokenView) �
 fields_after true first others = all_fields (first ∷ others)
 fields_after false first others = all_fields others
 
-flat_tokens : (ts : List TokenView) → length ts ≤ 4 → part_of_first (drop 4 ts) ≡ pos 0
+pub flat_tokens : (ts : List TokenView) → length ts ≤ 4 → part_of_first (drop 4 ts) ≡ pos 0
 flat_tokens [] l = refl
 flat_tokens (a ∷ []) l = refl
 flat_tokens (a ∷ b ∷ []) l = refl

@@ -11,11 +11,11 @@ use Rattle.cgd_read.specs.declared.block.BlockFaultKind.{BlockFaultKind}
 use Rattle.cgd_read.proofs.WellEdges.{MakeGraph}
 use Rattle.cgd_read.proofs.RowGraph.{make_nothing, make_row}
 
-this_false : (t : Bool) (kind : BlockFaultKind) (later : Option BlockFaultKind) → cond t (Some kind) later ≡ None → (t ≡ false) × (later ≡ None)
+pub this_false : (t : Bool) (kind : BlockFaultKind) (later : Option BlockFaultKind) → cond t (Some kind) later ≡ None → (t ≡ false) × (later ≡ None)
 this_false true kind later e = absurd cc
 this_false false kind later e = (refl, e)
 
-all_false : (tests : List (BlockFaultKind × Bool)) → first_true tests ≡ None → AllFalse tests
+pub all_false : (tests : List (BlockFaultKind × Bool)) → first_true tests ≡ None → AllFalse tests
 all_false [] e = tt
 all_false (test ∷ tests) e =
     let h = this_false test.1 test.0 (first_true tests) e in

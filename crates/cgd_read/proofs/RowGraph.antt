@@ -20,7 +20,7 @@ use Rattle.cgd_read.proofs.Spelling.{IsZero}
 use Rattle.cgd_read.proofs.WellEdges.{IsWellEdge, wider, well_spelled, MakeGraph}
 
 -- an edge is the same as itself
-same_self : (e : RawEdge) → same_edge e e ≡ true
+pub same_self : (e : RawEdge) → same_edge e e ≡ true
 same_self e =
     and_from _ _ ((Decides-eqb e.u e.u).1 refl) (and_from _ _ ((Decides-eqb e.v e.v).1 refl)
     (and_from _ _ ((Decides-int_eq e.x e.x).1 refl) (and_from _ _ ((Decides-int_eq e.y e.y).1 refl) ((Decides-int_eq e.z e.z).1 refl))))
@@ -28,7 +28,7 @@ same_self e =
 raw_of : Arc → RawEdge
 raw_of a = record { u = a.from; v = a.to; x = a.shift.x; y = a.shift.y; z = a.shift.z }
 
-apart : (e f : RawEdge) → same_edge e f ≡ false → edge_of f ≢ edge_of e
+pub apart : (e f : RawEdge) → same_edge e f ≡ false → edge_of f ≢ edge_of e
 unfolding raw_of
 apart e f h eq = false≢true (sym h ∙ subst (λ g. same_edge e g ≡ true) (sym (ap raw_of eq)) (same_self e))
 

@@ -12,7 +12,7 @@ pub type Names<'a> = NumberLists<&'a [u8]>;
 pub type RawEdges = Items<RawEdge>;
 
 /// A block of a text.
-#[derive(Drop)]
+#[derive(Debug, Drop)]
 pub struct Block<'a> {
     /// What its first name line says, if one was read.
     pub name: Option<&'a [u8]>,
@@ -22,7 +22,7 @@ pub struct Block<'a> {
 }
 
 /// What a block holds.
-#[derive(Drop)]
+#[derive(Debug, Drop)]
 pub enum Body<'a> {
     Graph(RawGraph<'a>),
     /// A block of another kind: the token that opens it.
@@ -33,7 +33,7 @@ pub enum Body<'a> {
 
 /// A quotient graph as it was read. `names` are the vertices as they were first spelled, in order
 /// of appearance; `repeats` counts the rows of an edge after its first.
-#[derive(Drop)]
+#[derive(Debug, Drop)]
 pub struct RawGraph<'a> {
     pub dim: u8,
     pub names: Names<'a>,

@@ -6,4 +6,4 @@ mod grammar;
 mod parse;
 mod tasks;
 
-pub use tasks::{Task, task_of};
+pub use tasks::{BlocksTask, Task, task_of};

@@ -3,7 +3,7 @@ ghost use Rattle.std.specs.Prelude.{◌≡◌, IfOk, IfSome, option_and_then, op
 ghost use Rattle.net_cover.specs.Reading.{cell_of};
 ghost use Rattle.command_words.specs.Words.{texts_of};
 ghost use Rattle.command_words.specs.Tasks.{MakesFew, add_in, archive_named, are_apart, cover_in, file_named, file_of, has_empty_word, identify_in, is_empty_word, may_give_cell, sole_archive, sole_count, sole_file, task_for, task_in, task_of, task_with, union_in, union_with, verb_named};
-ghost use Rattle.command_words.specs.Views.{said_view, task_view};
+ghost use Rattle.command_words.specs.Views.{blocks_view, said_view, task_view};
 
 use crate::counts::count_of;
 use crate::parse::{Said, read_words};
@@ -13,6 +13,17 @@ use std::alloc::{AllocError as NoMemory, Global};
 /// What is to be done, and the names of the files that it reads. `-` is the standard input.
 #[derive(Clone, Copy, Debug, Drop)]
 pub enum Task<'a> {
+    /// What asks for the blocks of a text, or for none.
+    OnBlocks(BlocksTask<'a>),
+    /// To unite an archive with the nets of a file: another archive, or a text of key lines.
+    Union { file: &'a str, archive: &'a str },
+    /// To check the maps of a file.
+    Verify { file: &'a str },
+}
+
+/// What is to be done with the blocks of a text, or with an archive alone.
+#[derive(Clone, Copy, Debug, Drop)]
+pub enum BlocksTask<'a> {
     /// To report of each net of a file whether it is connected.
     Check {
         file: &'a str,
@@ -48,17 +59,8 @@ pub enum Task<'a> {
     Migrate {
         archive: &'a str,
     },
-    /// To unite an archive with the nets of a file: another archive, or a text of key lines.
-    Union {
-        file: &'a str,
-        archive: &'a str,
-    },
     /// To map the first net of a file to each other one.
     Same {
-        file: &'a str,
-    },
-    /// To check the maps of a file.
-    Verify {
         file: &'a str,
     },
     /// To make so many nets, from 1 to 4,096, and to find their keys.
@@ -72,23 +74,52 @@ pub enum Task<'a> {
     },
 }
 
+impl<'a> BlocksTask<'a> {
+    /// The file that the task reads.
+    pub fn file(&self) -> Option<&'a str>
+        ensures { option_copied result ≡ file_named (blocks_view self.now) }
+    {
+        match *self {
+            BlocksTask::Check { file }
+            | BlocksTask::Place { file }
+            | BlocksTask::Key { file }
+            | BlocksTask::Identify { file, .. }
+            | BlocksTask::Components { file }
+            | BlocksTask::Add { file, .. }
+            | BlocksTask::Same { file }
+            | BlocksTask::Cover { file, .. } => Some(file),
+            BlocksTask::Duplicates { .. }
+            | BlocksTask::Migrate { .. }
+            | BlocksTask::Workload { .. } => None,
+        }
+    }
+
+    /// The archive that the task reads.
+    pub fn archive(&self) -> Option<&'a str>
+        ensures { option_copied result ≡ archive_named (blocks_view self.now) }
+    {
+        match *self {
+            BlocksTask::Identify { archive, .. } | BlocksTask::Add { archive, .. } => archive,
+            BlocksTask::Duplicates { archive } | BlocksTask::Migrate { archive } => Some(archive),
+            BlocksTask::Check { .. }
+            | BlocksTask::Place { .. }
+            | BlocksTask::Key { .. }
+            | BlocksTask::Components { .. }
+            | BlocksTask::Same { .. }
+            | BlocksTask::Workload { .. }
+            | BlocksTask::Cover { .. } => None,
+        }
+    }
+}
+
 impl<'a> Task<'a> {
     /// The file that the task reads.
     pub fn file(&self) -> Option<&'a str>
         ensures { option_copied result ≡ file_named (task_view self.now) }
     {
-        match *self {
-            Task::Check { file }
-            | Task::Place { file }
-            | Task::Key { file }
-            | Task::Identify { file, .. }
-            | Task::Components { file }
-            | Task::Add { file, .. }
-            | Task::Union { file, .. }
-            | Task::Same { file }
-            | Task::Verify { file }
-            | Task::Cover { file, .. } => Some(file),
-            Task::Duplicates { .. } | Task::Migrate { .. } | Task::Workload { .. } => None,
+        match self {
+            Task::OnBlocks(task) => task.file(),
+            Task::Union { file, .. } | Task::Verify { file } => Some(*file),
         }
     }
 
@@ -96,19 +127,10 @@ impl<'a> Task<'a> {
     pub fn archive(&self) -> Option<&'a str>
         ensures { option_copied result ≡ archive_named (task_view self.now) }
     {
-        match *self {
-            Task::Identify { archive, .. } | Task::Add { archive, .. } => archive,
-            Task::Duplicates { archive }
-            | Task::Migrate { archive }
-            | Task::Union { archive, .. } => Some(archive),
-            Task::Check { .. }
-            | Task::Place { .. }
-            | Task::Key { .. }
-            | Task::Components { .. }
-            | Task::Same { .. }
-            | Task::Verify { .. }
-            | Task::Workload { .. }
-            | Task::Cover { .. } => None,
+        match self {
+            Task::OnBlocks(task) => task.archive(),
+            Task::Union { archive, .. } => Some(*archive),
+            Task::Verify { .. } => None,
         }
     }
 }
@@ -208,7 +230,7 @@ fn identify_in<'a>(said: &Said<'a>) -> Option<Task<'a>>
     let file = file_of(said);
     let archive = said.archive;
     if are_apart(file, archive) {
-        Some(Task::Identify { file, archive })
+        Some(Task::OnBlocks(BlocksTask::Identify { file, archive }))
     } else {
         None
     }
@@ -221,11 +243,11 @@ fn add_in<'a>(said: &Said<'a>) -> Option<Task<'a>>
     let archive = said.archive;
     let name = said.name;
     if are_apart(file, archive) {
-        Some(Task::Add {
+        Some(Task::OnBlocks(BlocksTask::Add {
             file,
             archive,
             name,
-        })
+        }))
     } else {
         None
     }
@@ -301,7 +323,7 @@ fn cover_in<'a>(alloc: Global, said: &Said<'a>) -> Result<Option<Task<'a>>, NoMe
     }
     let file = file_of(said);
     match cell_in(alloc, said.cell)? {
-        Some(cell) => Ok(Some(Task::Cover { file, cell })),
+        Some(cell) => Ok(Some(Task::OnBlocks(BlocksTask::Cover { file, cell }))),
         None => Ok(None),
     }
 }
@@ -333,18 +355,26 @@ fn task_with<'a>(alloc: Global, verb: Verb, said: &Said<'a>) -> Result<Option<Ta
         option_map task_view task ≡ task_with verb (said_view said.now)) }
 {
     match verb {
-        Verb::Check => Ok(sole_file(said).map(|file| Task::Check { file })),
-        Verb::Place => Ok(sole_file(said).map(|file| Task::Place { file })),
-        Verb::Key => Ok(sole_file(said).map(|file| Task::Key { file })),
+        Verb::Check => Ok(sole_file(said).map(|file| Task::OnBlocks(BlocksTask::Check { file }))),
+        Verb::Place => Ok(sole_file(said).map(|file| Task::OnBlocks(BlocksTask::Place { file }))),
+        Verb::Key => Ok(sole_file(said).map(|file| Task::OnBlocks(BlocksTask::Key { file }))),
         Verb::Identify => Ok(identify_in(said)),
-        Verb::Components => Ok(sole_file(said).map(|file| Task::Components { file })),
+        Verb::Components => Ok(sole_file(said).map(|file| Task::OnBlocks(BlocksTask::Components {
+            file,
+        }))),
         Verb::Add => Ok(add_in(said)),
-        Verb::Duplicates => Ok(sole_archive(said).map(|archive| Task::Duplicates { archive })),
-        Verb::Migrate => Ok(sole_archive(said).map(|archive| Task::Migrate { archive })),
+        Verb::Duplicates => Ok(sole_archive(said).map(|archive| Task::OnBlocks(
+            BlocksTask::Duplicates { archive },
+        ))),
+        Verb::Migrate => Ok(sole_archive(said).map(|archive| Task::OnBlocks(BlocksTask::Migrate {
+            archive,
+        }))),
         Verb::Union => Ok(union_in(said)),
-        Verb::Same => Ok(sole_file(said).map(|file| Task::Same { file })),
+        Verb::Same => Ok(sole_file(said).map(|file| Task::OnBlocks(BlocksTask::Same { file }))),
         Verb::Verify => Ok(sole_file(said).map(|file| Task::Verify { file })),
-        Verb::Workload => Ok(sole_count(said).map(|count| Task::Workload { count })),
+        Verb::Workload => Ok(sole_count(said).map(|count| Task::OnBlocks(BlocksTask::Workload {
+            count,
+        }))),
         Verb::Cover => cover_in(alloc, said),
     }
 }

@@ -21,7 +21,7 @@ image_all L f [] h = tt
 image_all L f (x ∷ xs) h = (h.0, image_all L f xs h.1)
 
 -- the walk that was found, where one was
-walk_is : (o : Option Vector) → IsSome o → o ≡ Some (shift_of o)
+pub walk_is : (o : Option Vector) → IsSome o → o ≡ Some (shift_of o)
 walk_is None h = cc
 walk_is (Some T) h = refl
 

@@ -13,7 +13,7 @@ use std::alloc::Global;
 use std::marker::Model;
 
 /// A graph within the limits whose net is connected.
-#[derive(Drop)]
+#[derive(Debug, Drop)]
 pub struct Connected<const D: usize> {
     pub graph: Graph<D>,
 }
@@ -30,7 +30,7 @@ impl<const D: usize> Model for Connected<D> {
 }
 
 /// Why a graph was not taken; it is handed back.
-#[derive(Drop)]
+#[derive(Debug, Drop)]
 pub enum Unconnected<const D: usize> {
     Disconnected(Split, Graph<D>),
     Degenerate(Split, Graph<D>),

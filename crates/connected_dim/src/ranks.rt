@@ -12,7 +12,7 @@ use vecdim::{Triple, Vect};
 
 /// Below the dimension, with a vector orthogonal to all; or full, with the volume that independent
 /// vectors span.
-#[derive(Drop)]
+#[derive(Debug, Drop)]
 pub enum Rank {
     Below(Triple),
     Full(i128),

@@ -72,7 +72,7 @@ pub fn sequences<const D: usize>(
     ensures sequences { IfOk result (AreSequencesOf classes.now.graph) }
     ensures few { IfOk result (λ lists. length lists ≤ most_vertices) }
 {
-    let _ = classes.net().count();
+    classes.net().recall();
     match box_sequences(alloc, cell, kinds)? {
         Some(lists) => Ok(lists),
         None => class_sequences(alloc, classes, kinds),

@@ -29,7 +29,7 @@ pub fn shells<const D: usize>(
     ensures sizes { IfOk result (λ sizes. AreShellsOfClass c.now.classes class sizes.items) }
 {
     let net = c.net();
-    let _ = net.count();
+    net.recall();
     let mut found = IndexSet::new(alloc);
     let mut shell = Vec::new(alloc);
     reach(

@@ -1,14 +1,14 @@
 -- Each net of a text is that of rows whose edges have no third part where the first row has four fields.
-use Rattle.std.proofs.Common.{◌≡◌, ℕ, ◌≤◌, ◌==◌, ◌&&◌, not, pos, Bool, true, false, cond, List, [], ◌∷◌, length, drop, Option, None, Some, refl, arith}
+use Rattle.std.proofs.Common.{◌≡◌, ℕ, ◌≤◌, ◌==◌, ◌&&◌, not, Bool, true, false, cond, List, [], ◌∷◌, Option, None, Some, refl, arith}
 use Rattle.std.specs.List.{AllByRecursion, flat_map}
 use Rattle.std.proofs.lemmas.Bool.Decides.{nat_tests}
 use Rattle.cgd_lex.specs.Lines.{filled_lines}
 use Rattle.cgd_lex.specs.Tokens.{TokenView, tokens_of}
-use Rattle.cgd_read.specs.Blocks.{with_body, malformed, or_fault, graph_block, block_by, block_of, blocks_from, blocks_of, AllFalse}
+use Rattle.cgd_read.specs.Blocks.{with_body, malformed, or_fault, graph_block, block_by, block_of, blocks_from, blocks_of}
 use Rattle.cgd_read.specs.Edges.{first_size, has_rows}
-use Rattle.cgd_read.specs.Faults.{is_end, has_row, rows_in, first_true, table, fault_of}
+use Rattle.cgd_read.specs.Faults.{is_end, has_row, rows_in, table, fault_of}
 use Rattle.cgd_read.specs.Graphs.{net_of}
-use Rattle.cgd_read.specs.Lines.{FieldsView, LineView, fields_from, kind_of, line_of, part_of_first, token_lines}
+use Rattle.cgd_read.specs.Lines.{FieldsView, LineView, fields_from, kind_of, line_of, token_lines}
 use Rattle.cgd_read.specs.Reading.{IsFlat}
 use Rattle.cgd_read.specs.Views.{RawView, BodyView, Net, Other, Faulty, BlockView}
 use Rattle.cgd_read.specs.declared.block.BlockFaultKind.{BlockFaultKind}
@@ -16,36 +16,19 @@ use Rattle.cgd_read.specs.declared.block.BlockFaultKind.TheVariants.{BadToken}
 use Rattle.cgd_read.specs.declared.line.LineKind.{LineKind}
 use Rattle.cgd_read.specs.declared.line.LineKind.TheVariants.{Opening}
 use Rattle.cover_answers.proofs.RowEdges.{AreFlatRows, flat_with}
+use Rattle.cgd_read.proofs.CallerLemmas.{flat_tokens, all_false}
 
 -- a short row on the line has no third part of a shift
 abbrev IsFlatLine : LineView → Type 0
 IsFlatLine line = IsFlat line.fields
 
-fields_flat : (ts : List TokenView) → length ts ≤ 4 → part_of_first (drop 4 ts) ≡ pos 0
-fields_flat [] l = refl
-fields_flat (a ∷ []) l = refl
-fields_flat (a ∷ b ∷ []) l = refl
-fields_flat (a ∷ b ∷ c ∷ []) l = refl
-fields_flat (a ∷ b ∷ c ∷ d ∷ []) l = refl
-fields_flat (a ∷ b ∷ c ∷ d ∷ e ∷ ts) l = absurd (omega (arith, l))
-
 -- so it is with the lines that tokens make
 lines_flat : (parts : List (List TokenView)) → AllByRecursion IsFlatLine (flat_map line_of parts)
 lines_flat [] = tt
 lines_flat ([] ∷ parts) = lines_flat parts
-lines_flat ((first ∷ others) ∷ parts) = (fields_flat (fields_from (kind_of first.kind first.text) first others), lines_flat parts)
+lines_flat ((first ∷ others) ∷ parts) = (flat_tokens (fields_from (kind_of first.kind first.text) first others), lines_flat parts)
 
 -- what a line without a fault passes
-
-this_false : (t : Bool) (kind : BlockFaultKind) (later : Option BlockFaultKind) → cond t (Some kind) later ≡ None → (t ≡ false) × (later ≡ None)
-this_false true kind later e = absurd cc
-this_false false kind later e = (refl, e)
-
-all_false : (tests : List (BlockFaultKind × Bool)) → first_true tests ≡ None → AllFalse tests
-all_false [] e = tt
-all_false (test ∷ tests) e =
-    let h = this_false test.1 test.0 (first_true tests) e in
-    (h.0, all_false tests h.1)
 
 same_size : (some : Bool) (m n : ℕ) → (some && not (m == n)) ≡ false → some ≡ true → m ≡ n
 same_size true m n h k = grind (arith, nat_tests, h)

@@ -3,7 +3,7 @@ use Rattle.std.proofs.Common.{◌≡◌, ◌∙◌, ◌&&◌, ℕ, ◌+◌, ◌<
 use Rattle.std.specs.Prelude.{IfOk}
 use Rattle.std.proofs.Math.Bool.{and-true}
 use Rattle.std.proofs.Math.Seq.{take-suc}
-use Rattle.std.proofs.lemmas.Bool.{false≢true}
+use Rattle.std.proofs.lemmas.Bool.{false≢true, and_parts}
 use Rattle.std.proofs.lemmas.Grind.{common_steps}
 use Rattle.std.proofs.lemmas.List.{get_or-map, length-map, take_all}
 use Rattle.std.proofs.lemmas.List.Elements.{All-append, All-cons, All-nil}
@@ -58,13 +58,6 @@ covered_last cell bs b text new h k = record {
   text_is = k.text ∙ ap (λ (t : List ℕ). t ++ graph_text b.name k.cover) h.text_is ∙ sym (text_last cell bs h.covers b k.cover h.are_covers);
 }
 
--- where both are true each is
-both_true : (a b : Bool) → (a && b) ≡ true → (a ≡ true) × (b ≡ true)
-both_true true true e = (refl, refl)
-both_true true false e = absurd (false≢true e)
-both_true false true e = absurd (false≢true e)
-both_true false false e = absurd (false≢true e)
-
 -- each of them is covered, and this one
 all_last : (cs : List Bool) (c : Bool) → all_of (cs ++ c ∷ []) ≡ (all_of cs && c)
 all_last cs c = list_all-append (λ (b : Bool). b) cs (c ∷ []) ∙ ap (λ (b : Bool). all_of cs && b) (and-true c)
@@ -102,7 +95,7 @@ answered_more cell bs i number all c os text new b o l is h k p =
       all_is = ap (λ (a : Bool). a && c) h.all_is ∙ sym (all_last h.each c);
       number_is = let n = h.number_is in omega arith;
       printable = All-append IsPrintable os (o ∷ []) h.printable (All-cons IsPrintable o [] p (All-nil IsPrintable));
-      covered = λ e. let both = both_true all c e in
+      covered = λ e. let both = and_parts all c e in
           subst (λ as'. AreCovered cell as' new) (sym longer) (covered_last cell (take i bs) b text new (h.covered both.0) (k.cover_last both.1));
     }
 

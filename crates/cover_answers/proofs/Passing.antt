@@ -14,11 +14,10 @@ use Rattle.periodic_net.specs.Graph.{Arc}
 use Rattle.periodic_net.specs.Limits.{most_vertices, most_edges}
 use Rattle.cgd_read.specs.Blocks.{AllFalse, AllPass, in_order, graph_block, blocks_from, with_body, or_fault}
 use Rattle.cgd_read.specs.Edges.{vertices_of, edges_of, is_self_edge, first_size, has_rows}
-use Rattle.cgd_read.specs.Faults.{is_end, name_of, rows_in, under_edges, is_long, first_true, table}
+use Rattle.cgd_read.specs.Faults.{name_of, rows_in, under_edges, is_long, table}
 use Rattle.cgd_read.specs.Graphs.{net_of}
 use Rattle.cgd_read.specs.Lines.{LineView, FieldsView}
 use Rattle.cgd_read.specs.Views.{Net}
-use Rattle.cgd_read.specs.declared.block.BlockFaultKind.{BlockFaultKind}
 use Rattle.cgd_read.specs.declared.line.LineKind.TheVariants.{End}
 use Rattle.cover_answers.specs.Printed.{MayBeName}
 use Rattle.cover_answers.proofs.GraphLines.{head_lines, rows_back}
@@ -26,17 +25,7 @@ use Rattle.cover_answers.proofs.LineTokens.{word_line}
 use Rattle.cover_answers.proofs.NamedRows.{rows_of, names_are, order_back, few_vertices, few_edges}
 use Rattle.cover_answers.proofs.NumberBytes.{within}
 use Rattle.cover_answers.proofs.RowLines.{IsRowEdge, AreRowEdges, row_fields, row_line}
-
-no_fault : (tests : List (BlockFaultKind × Bool)) → AllFalse tests → first_true tests ≡ None
-no_fault [] h = refl
-no_fault (test ∷ tests) h = ap (λ (t : Bool). cond t (Some test.0) (first_true tests)) h.0 ∙ no_fault tests h.1
-
--- a line that passes is passed over
-passes_on : (opening : ℕ) (earlier : List LineView) (line : LineView) (later : List LineView) → AllFalse (table earlier line) → is_end line.kind ≡ false
-    → graph_block opening earlier (line ∷ later) ≡ graph_block opening (line ∷ earlier) later
-passes_on opening earlier line later h e =
-    ap (λ fault. or_fault fault line.number opening earlier (cond (is_end line.kind) (with_body opening earlier (Net (net_of (rows_in earlier)))) (graph_block opening (line ∷ earlier) later))) (no_fault (table earlier line) h)
-    ∙ ap (λ (t : Bool). cond t (with_body opening earlier (Net (net_of (rows_in earlier)))) (graph_block opening (line ∷ earlier) later)) e
+use Rattle.cgd_read.proofs.CallerLemmas.{none_true, passes_on}
 
 -- lines that pass, and what comes after them
 pub after_passing : (opening : ℕ) (earlier later : List LineView) → AllPass earlier → graph_block opening [] (in_order earlier later) ≡ graph_block opening earlier later
@@ -253,4 +242,4 @@ module _ (d n : ℕ) (dim : (d ≡ 2) ⊎ (d ≡ 3)) (name : Option (List ℕ)) 
       → graph_block opening.number [] (in_order lines (end_line m ∷ left)) ≡ with_body opening.number lines (Net (net_of (rows_in lines)))
   block_is opening e done lines left m edges few h =
       after_passing opening.number lines (end_line m ∷ left) h.pass
-      ∙ ap (λ fault. or_fault fault m opening.number lines (with_body opening.number lines (Net (net_of (rows_in lines))))) (no_fault (table lines (end_line m)) (end_passes e done lines m edges few h))
+      ∙ ap (λ fault. or_fault fault m opening.number lines (with_body opening.number lines (Net (net_of (rows_in lines))))) (none_true (table lines (end_line m)) (end_passes e done lines m edges few h))

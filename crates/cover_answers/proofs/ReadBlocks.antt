@@ -6,8 +6,8 @@ use Rattle.std.proofs.lemmas.List.Elements.{All-nil, All-cons, All-head, All-tai
 use Rattle.std.proofs.lemmas.Option.{none-some}
 use Rattle.periodic_net.specs.Graph.{IsQuotientVertex}
 use Rattle.cgd_lex.specs.Tokens.{tokens_of}
-use Rattle.cgd_read.specs.Blocks.{AllFalse, blocks_from, block_by, block_of, graph_block, or_fault, malformed, with_body}
-use Rattle.cgd_read.specs.Faults.{is_end, is_name, is_long_name, first_true, name_after, name_of, rows_in, fault_of, table}
+use Rattle.cgd_read.specs.Blocks.{blocks_from, block_by, block_of, graph_block, or_fault, malformed, with_body}
+use Rattle.cgd_read.specs.Faults.{is_end, is_name, is_long_name, name_after, name_of, rows_in, fault_of, table}
 use Rattle.cgd_read.specs.Graphs.{graph_of, net_of}
 use Rattle.cgd_read.specs.Lines.{LineView, FieldsView, token_lines}
 use Rattle.cgd_read.specs.Views.{BlockView, BodyView, Net, Other, Faulty, RawView}
@@ -19,6 +19,7 @@ use Rattle.cover_answers.specs.TextLaws.{CoversMayBePrinted}
 use Rattle.cover_answers.specs.Printed.{MayBeName, EndsAt}
 use Rattle.cover_answers.proofs.ReadNames.{IsNameByte, LineGivesName, text_names}
 use Rattle.cover_answers.proofs.RowEnds.{read_ends, order_ends, iso_ends}
+use Rattle.cgd_read.proofs.CallerLemmas.{all_false}
 
 -- the block has a name that may stand between quotes, and its net is that of some rows
 record IsOfRows (block : BlockView) (raw : RawView) : Type 0 where
@@ -46,14 +47,6 @@ net_inside r s e = ap (by r) e
     by d (Net t) = t
     by d (Other token) = d
     by d (Faulty fault) = d
-
-first_false : (t : Bool) (kind : BlockFaultKind) (later : Option BlockFaultKind) → cond t (Some kind) later ≡ None → (t ≡ false) × (later ≡ None)
-first_false true kind later e = absurd (none-some kind (sym e))
-first_false false kind later e = (refl, e)
-
-all_false : (tests : List (BlockFaultKind × Bool)) → first_true tests ≡ None → AllFalse tests
-all_false [] e = tt
-all_false (test ∷ tests) e = let h = first_false test.1 test.0 (first_true tests) e in (h.0, all_false tests h.1)
 
 not_long : (n : ℕ) → nat_lt 200 n ≡ false → n ≤ 200
 not_long n e = grind (arith, nat_tests, e)

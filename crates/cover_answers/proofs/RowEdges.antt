@@ -1,9 +1,8 @@
 -- The edges of rows: each is between the vertices, none stands twice, and they are flat where the rows are.
-use Rattle.std.proofs.Common.{◌≡◌, ◌⊎◌, inl, inr, ℕ, ◌≤◌, ◌==◌, ℤ, pos, ◌-ℤ◌, Bool, true, false, cond, List, [], ◌∷◌, length, refl, sym, ap, subst, ◌∙◌, arith}
-use Rattle.std.specs.Bool.{Decides}
+use Rattle.std.proofs.Common.{◌≡◌, ◌⊎◌, inl, inr, ℕ, ◌≤◌, ◌==◌, ℤ, pos, ◌-ℤ◌, Bool, true, false, List, [], ◌∷◌, length, refl, sym, ap, subst, ◌∙◌, arith}
 use Rattle.std.specs.Ordering.{int_eq}
 use Rattle.std.specs.Str.{bytes_eq}
-use Rattle.std.proofs.lemmas.Bool.{cases_Bool, and_parts, and_from, false≢true}
+use Rattle.std.proofs.lemmas.Bool.{cases_Bool, false≢true}
 use Rattle.std.proofs.lemmas.Bool.Decides.{Decides-eqb, Decides-int_eq}
 use Rattle.std.proofs.lemmas.Slice.Eq.{bytes_eq-Decides}
 use Rattle.integers.proofs.lists.Members.{IsIn, AreApart}
@@ -13,31 +12,9 @@ use Rattle.cgd_read.specs.Edges.{with_new, vertices_of, vertex_number, row_edge,
 use Rattle.cgd_read.specs.Lines.{FieldsView}
 use Rattle.cgd_read.specs.Reading.{IsFlat}
 use Rattle.cgd_read.specs.declared.edge.RawEdge.{RawEdge}
-use Rattle.cgd_read.proofs.CallerLemmas.{IsZero, normal_spelled}
+use Rattle.cgd_read.proofs.CallerLemmas.{IsZero, normal_spelled, size_now}
 use Rattle.cover_answers.proofs.NewPlaces.{tells_new, apart_new, has_place}
-
--- the test of two edges
-pub edge_decides : (e f : RawEdge) → Decides (same_edge e f) (e ≡ f)
-edge_decides e f = (to, from)
-  where
-    to : same_edge e f ≡ true → e ≡ f
-    to h =
-        let a = and_parts (e.u == f.u) _ h in
-        let b = and_parts (e.v == f.v) _ a.1 in
-        let c = and_parts (int_eq e.x f.x) _ b.1 in
-        let g = and_parts (int_eq e.y f.y) _ c.1 in
-        let u = (Decides-eqb e.u f.u).0 a.0 in
-        let v = (Decides-eqb e.v f.v).0 b.0 in
-        let x = (Decides-int_eq e.x f.x).0 c.0 in
-        let y = (Decides-int_eq e.y f.y).0 g.0 in
-        let z = (Decides-int_eq e.z f.z).0 g.1 in
-        λ t. record { u = u t; v = v t; x = x t; y = y t; z = z t }
-
-    from : e ≡ f → same_edge e f ≡ true
-    from q =
-        subst (λ (g : RawEdge). same_edge e g ≡ true) q
-        (and_from _ _ ((Decides-eqb e.u e.u).1 refl) (and_from _ _ ((Decides-eqb e.v e.v).1 refl)
-        (and_from _ _ ((Decides-int_eq e.x e.x).1 refl) (and_from _ _ ((Decides-int_eq e.y e.y).1 refl) ((Decides-int_eq e.z e.z).1 refl)))))
+use Rattle.cover_answers.proofs.NamedRows.{edge_decides}
 
 -- no edge stands twice
 pub edges_apart : (rows : List FieldsView) → AreApart (edges_of rows)
@@ -121,15 +98,6 @@ each_between (row ∷ rows) e i = by (each_between rows e)
 -- where the first row has four fields, no edge has a third part
 abbrev pub AreFlatRows : List FieldsView → Type 0
 AreFlatRows rows = (e : RawEdge) → IsIn (edges_of rows) e → first_size rows ≡ 4 → e.z ≡ pos 0
-
--- the first row has as many fields as the last
-size_now : (rows : List FieldsView) (row : FieldsView) → (has_rows rows ≡ true → row.size ≡ first_size rows) → first_size (row ∷ rows) ≡ row.size
-size_now [] row e = refl
-size_now (first ∷ rows) row e = by (first_size (first ∷ rows) == 0)
-  where
-    by : (t : Bool) → cond t row.size (first_size (first ∷ rows)) ≡ row.size
-    by true = refl
-    by false = sym (e refl)
 
 -- where there is an edge, there is a row
 some_row : (rows : List FieldsView) (e : RawEdge) → IsIn (edges_of rows) e → has_rows rows ≡ true

@@ -2,7 +2,7 @@
 use Rattle.std.proofs.Common.{◌≡◌, ℕ, ◌+◌, ◌==◌, not, Bool, true, false, cond, List, [], ◌∷◌, ◌++◌, length, Some, refl, sym, ap, ◌∙◌, append_assoc}
 use Rattle.std.specs.Prelude.{All}
 use Rattle.std.specs.List.{flat_map, list_all}
-use Rattle.std.proofs.lemmas.Bool.{and_parts, false≢true}
+use Rattle.std.proofs.lemmas.Bool.{and_parts, false≢true, not-true}
 use Rattle.std.proofs.lemmas.List.Elements.{All-nil, All-cons, All-append}
 use Rattle.std.proofs.lemmas.List.Splits.{slice_split_at}
 use Rattle.cgd_lex.specs.Lines.{is_newline, filled_line, filled_lines}
@@ -17,16 +17,12 @@ use Rattle.cgd_read.specs.Lines.{LineView, line_of, token_lines}
 abbrev pub HasNoFeed : List ℕ → Type 0
 HasNoFeed bytes = All (λ b. (b == 10) ≡ false) bytes
 
-not_true : (t : Bool) → not t ≡ true → t ≡ false
-not_true true e = absurd (false≢true e)
-not_true false e = refl
-
 -- the same by a test
 pub no_feed : (bs : List ℕ) → list_all (λ b. not (b == 10)) bs ≡ true → HasNoFeed bs
 no_feed [] e = All-nil (λ b. (b == 10) ≡ false)
 no_feed (b ∷ bs) e =
     let p = and_parts (not (b == 10)) (list_all (λ b. not (b == 10)) bs) e in
-    All-cons (λ b. (b == 10) ≡ false) b bs (not_true (b == 10) p.0) (no_feed bs p.1)
+    All-cons (λ b. (b == 10) ≡ false) b bs (not-true (b == 10) p.0) (no_feed bs p.1)
 
 -- no token of a line is a Newline
 abbrev IsInLine : TokenView → Type 0

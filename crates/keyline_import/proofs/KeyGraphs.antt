@@ -1,6 +1,6 @@
 -- The graph of a key line is a quotient graph within the limits.
 use Rattle.std.proofs.Common.{◌≡◌, ◌≢◌, ℕ, ◌≤◌, ℤ, pos, negsuc, ◌≤ℤ◌, Bool, true, false, cond, ◌||◌, not, nat_lt, List, [], ◌∷◌, ◌++◌, map, length, refl, sym, ap, subst, ◌∙◌, arith}
-use Rattle.std.specs.List.{All, AllPairs, list_any}
+use Rattle.std.specs.List.{All, AllPairs}
 use Rattle.std.specs.Int.RustNames.{unsigned_abs}
 use Rattle.std.proofs.lemmas.Bool.{and_from, and_parts, false≢true}
 use Rattle.std.proofs.lemmas.Bool.Decides.{Decides-int_eq, Decides-eqb, nat_tests}
@@ -15,8 +15,9 @@ use Rattle.cgd_read.specs.Spelling.{edge_of}
 use Rattle.cgd_read.specs.declared.edge.RawEdge.{RawEdge}
 use Rattle.keyline_import.specs.Rows.{Row, IsRow, KeyView, no_rows, is_row, row_edge, is_repeat, with_row, may_follow}
 use Rattle.keyline_import.proofs.RowTests.{passes}
-use Rattle.cgd_read.proofs.CallerLemmas.{IsZero}
+use Rattle.cgd_read.proofs.CallerLemmas.{IsZero, all_fail}
 use Rattle.keyline_import.proofs.WellEdges.{IsWellEdge, wider, small_part, well_spelled}
+use Rattle.cgd_read.proofs.CallerLemmas.{apart}
 
 -- what rows make
 pub record IsWellKey (k : KeyView) : Type 0 where
@@ -33,27 +34,8 @@ well_nothing dim = record {
   few_edges = omega arith;
 }
 
--- a test that fails at each element
-all_fail : {X : Type 0} (p : X → Bool) (xs : List X) → list_any p xs ≡ false → All (λ x. p x ≡ false) xs
-all_fail p [] e = All-nil (λ x. p x ≡ false)
-all_fail p (x ∷ xs) e = by (p x) refl (all_fail p xs) e
-  where
-    by : (t : Bool) → p x ≡ t → (list_any p xs ≡ false → All (λ x. p x ≡ false) xs) → (t || list_any p xs) ≡ false → All (λ x. p x ≡ false) (x ∷ xs)
-    by true f h e = absurd (false≢true (sym e))
-    by false f h e = All-cons (λ x. p x ≡ false) x xs f (h e)
-
--- an edge is the same as itself
-same_self : (e : RawEdge) → same_edge e e ≡ true
-same_self e =
-    and_from _ _ ((Decides-eqb e.u e.u).1 refl) (and_from _ _ ((Decides-eqb e.v e.v).1 refl)
-    (and_from _ _ ((Decides-int_eq e.x e.x).1 refl) (and_from _ _ ((Decides-int_eq e.y e.y).1 refl) ((Decides-int_eq e.z e.z).1 refl))))
-
 raw_of : Arc → RawEdge
 raw_of a = record { u = a.from; v = a.to; x = a.shift.x; y = a.shift.y; z = a.shift.z }
-
-apart : (e f : RawEdge) → same_edge e f ≡ false → edge_of f ≢ edge_of e
-unfolding raw_of
-apart e f h eq = false≢true (sym h ∙ subst (λ g. same_edge e g ≡ true) (sym (ap raw_of eq)) (same_self e))
 
 -- vertices that have the same number are the same
 same_vertex : (u v : ℤ) → pos 1 ≤ℤ u → pos 1 ≤ℤ v → unsigned_abs u ≡ unsigned_abs v → u ≡ v

@@ -1,6 +1,6 @@
 -- What the test of a row says of its numbers.
 use Rattle.std.proofs.Common.{◌≡◌, ℤ, pos, ◌-ℤ◌, ◌≤ℤ◌, Bool, true, false, not, arith}
-use Rattle.std.proofs.lemmas.Bool.{and_parts}
+use Rattle.std.proofs.lemmas.Bool.{and_parts, not-true}
 use Rattle.std.proofs.lemmas.Int.{ints}
 use Rattle.std.specs.Int.Signed.{le_z}
 use Rattle.periodic_net.specs.Limits.{most_vertices, most_shift}
@@ -17,10 +17,6 @@ part n e =
     let both = and_parts (le_z (pos 0 -ℤ pos most_shift) n) _ e in
     (grind (arith, ints, both.0), grind (arith, ints, both.1))
 
-none : (t : Bool) → not t ≡ true → t ≡ false
-none true e = absurd cc
-none false e = cc
-
 -- numbers that pass the test are a row
 pub passes : (r : Row) → is_row r ≡ true → IsRow r
 passes r e =
@@ -35,5 +31,5 @@ passes r e =
       x = part r.x c.0;
       y = part r.y d.0;
       z = part r.z f.0;
-      joins = none (is_self_edge r) f.1;
+      joins = not-true (is_self_edge r) f.1;
     }

@@ -1,12 +1,13 @@
 -- Edges of a graph within the limits.
-use Rattle.std.proofs.Common.{◌≡◌, ℕ, zero, suc, ◌≤◌, ℤ, pos, negsuc, ◌-ℤ◌, neg_ℤ, Bool, true, false, ap, sym, subst, arith}
+use Rattle.std.proofs.Common.{◌≡◌, ℕ, ◌≤◌, ℤ, pos, ◌-ℤ◌, neg_ℤ, Bool, true, false, ap, arith}
 use Rattle.std.proofs.lemmas.Int.{ints}
 use Rattle.std.specs.Int.RustNames.{unsigned_abs}
 use Rattle.periodic_net.specs.Graph.{IsNormalSpelling}
 use Rattle.periodic_net.specs.Limits.{most_shift}
-use Rattle.cgd_read.specs.Spelling.{spelled, is_forward, normal, edge_of, IsSmallPart}
+use Rattle.cgd_read.specs.Spelling.{spelled, is_forward, normal, edge_of}
 use Rattle.cgd_read.specs.declared.edge.RawEdge.{RawEdge}
-use Rattle.cgd_read.proofs.CallerLemmas.{normal_spelled, IsZero}
+use Rattle.cgd_read.proofs.CallerLemmas.{normal_spelled, IsZero, negative_small}
+pub use Rattle.cgd_read.proofs.CallerLemmas.{small_part}
 
 -- an edge of a graph of dimension dim with n vertices, within the limits
 pub record IsWellEdge (n dim : ℕ) (e : RawEdge) : Type 0 where
@@ -31,18 +32,6 @@ wider m n dim l e w = record {
 
 negative : (x : ℤ) → pos 0 -ℤ x ≡ neg_ℤ x
 negative x = omega (arith, ints)
-
-negative_small : (x : ℤ) → unsigned_abs x ≤ most_shift → unsigned_abs (pos 0 -ℤ x) ≤ most_shift
-negative_small x h = subst (λ w. unsigned_abs w ≤ most_shift) (sym (negative x)) (by x h)
-  where
-    by : (x : ℤ) → unsigned_abs x ≤ most_shift → unsigned_abs (neg_ℤ x) ≤ most_shift
-    by (pos zero) h = h
-    by (pos (suc n)) h = h
-    by (negsuc n) h = h
-
-pub small_part : (x : ℤ) → IsSmallPart x → unsigned_abs x ≤ most_shift
-small_part (pos n) h = omega (arith, ints, h)
-small_part (negsuc n) h = omega (arith, ints, h)
 
 pub well_spelled : (n dim u v : ℕ) (x y z : ℤ) → (1 ≤ u) × (u ≤ n) → (1 ≤ v) × (v ≤ n) → (dim ≡ 2 → z ≡ pos 0)
     → unsigned_abs x ≤ most_shift → unsigned_abs y ≤ most_shift → unsigned_abs z ≤ most_shift → (u ≡ v → IsZero x y z → ⊥)

@@ -6,7 +6,7 @@ use crate::NoMemory;
 use quotient_graph::AnyGraph;
 
 /// A net under a name, or the first fault of an item that is none.
-#[derive(Drop)]
+#[derive(Debug, Drop)]
 pub struct Item<'a> {
     /// The line that begins it, numbered from 1.
     pub line: u32,
@@ -16,7 +16,7 @@ pub struct Item<'a> {
 }
 
 /// What an item holds.
-#[derive(Drop)]
+#[derive(Debug, Drop)]
 pub enum ItemBody {
     /// The graph of its key line, and the number of rows that repeat an edge of an earlier one.
     Graph(AnyGraph, u32),

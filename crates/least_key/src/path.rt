@@ -13,7 +13,7 @@ use quotient_graph::{AnyGraph, Graph, Placed};
 use std::alloc::Global;
 
 /// A graph of dimension 2 or 3 with its normal placement.
-#[derive(Drop)]
+#[derive(Debug, Drop)]
 pub enum AnyPlaced {
     Flat(Placed<2>),
     Space(Placed<3>),

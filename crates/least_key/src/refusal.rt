@@ -9,7 +9,7 @@ use std::alloc::AllocError as NoMemory;
 use vecdim::Triple;
 
 /// Why a graph is refused, by the first that applies. The numbers are those of the report.
-#[derive(Drop)]
+#[derive(Debug, Drop)]
 pub enum Refusal {
     /// 1: the net is in several parts, as the colouring shows.
     Disconnected(Split),

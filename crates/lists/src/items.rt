@@ -8,7 +8,7 @@ use std::marker::Model;
 use std::slice;
 
 /// Values in their order. Contracts see the list.
-#[derive(Drop)]
+#[derive(Debug, Drop)]
 pub struct Items<T> {
     items: Vec<T>,
 }

@@ -21,7 +21,7 @@ impl Numbers for Vec<u32> {
 }
 
 /// Lists of numbers in their order: texts, or vectors. Contracts see a list of lists of numbers.
-#[derive(Drop)]
+#[derive(Debug, Drop)]
 pub struct NumberLists<T: Numbers> {
     items: Vec<T>,
 }

@@ -1,5 +1,6 @@
 -- The nets of blocks that are accepted where their keys are asked for.
-use Rattle.std.proofs.Common.{◌≡◌, ◌&&◌, ℕ, zero, suc, ◌+◌, ◌<◌, Bool, true, false, List, [], ◌∷◌, length, get_or, Some, refl, sym, subst, true≢false, arith}
+use Rattle.std.proofs.Common.{◌≡◌, ◌&&◌, ℕ, zero, suc, ◌+◌, ◌<◌, true, false, List, [], ◌∷◌, length, get_or, Some, refl, sym, subst, true≢false, arith}
+use Rattle.std.proofs.lemmas.Bool.{and_parts}
 use Rattle.std.specs.List.{list_all}
 use Rattle.std.proofs.lemmas.List.Elements.{All-cons, All-nil}
 use Rattle.cgd_read.specs.Graphs.{graph_of}
@@ -13,6 +14,7 @@ use Rattle.archive_text.specs.Entries.{EntryView}
 use Rattle.net_report.specs.declared.command.Command.TheVariants.{Key}
 use Rattle.net_outcomes.specs.Outcomes.{Outcome, OutcomeBody, Unsupported, Malformed, Refused, Keyed, AreOutcomesFrom, IsBodyOf, is_accepted, is_accepted_body, net_told}
 use Rattle.net_answers.specs.Due.{AreAccepted, IsNetOf}
+pub use Rattle.same_answers.proofs.CallerLemmas.{as_many}
 
 -- this is reported of a block: its net
 pub record IsToldNet (block : BlockView) (told : OutcomeBody) : Type 0 where
@@ -34,34 +36,22 @@ keyed_told entries block (Net raw) told is h a = absurd h
 keyed_told entries block (Other token) told is h a = absurd h
 keyed_told entries block (Faulty fault) told is h a = absurd h
 
--- both tests are true
-both : (a b : Bool) → (a && b) ≡ true → (a ≡ true) × (b ≡ true)
-both true b e = (refl, e)
-both false b e = absurd (true≢false (sym e))
-
 -- so it is at each place
 pub told_at : (entries : List EntryView) (n i : ℕ) (bs : List BlockView) (os : List Outcome) (b : BlockView) (o : Outcome) → AreOutcomesFrom entries Key n bs os → list_all is_accepted os ≡ true → i < length bs → get_or bs i b ≡ b
     → get_or os i o ≡ o → IsToldNet b o.body
 told_at entries n i [] os b o h a l e f = absurd (omega (arith, l))
 told_at entries n i (c ∷ bs) [] b o h a l e f = absurd h
 told_at entries n zero (c ∷ bs) (x ∷ os) b o h a l e f =
-    let first = keyed_told entries c c.body x.body refl h.0.body (both (is_accepted x) (list_all is_accepted os) a).0 in
+    let first = keyed_told entries c c.body x.body refl h.0.body (and_parts (is_accepted x) (list_all is_accepted os) a).0 in
     subst (λ (y : Outcome). IsToldNet b y.body) f (subst (λ (y : BlockView). IsToldNet y x.body) e first)
 told_at entries n (suc i) (c ∷ bs) (x ∷ os) b o h a l e f =
-    told_at entries (n + 1) i bs os b o h.1 (both (is_accepted x) (list_all is_accepted os) a).1 (omega (arith, l)) e f
+    told_at entries (n + 1) i bs os b o h.1 (and_parts (is_accepted x) (list_all is_accepted os) a).1 (omega (arith, l)) e f
 
 -- so each block is accepted
 pub all_accepted : (entries : List EntryView) (n : ℕ) (bs : List BlockView) (os : List Outcome) → AreOutcomesFrom entries Key n bs os → list_all is_accepted os ≡ true → AreAccepted bs
 all_accepted entries n [] os h a = All-nil (λ (block : BlockView). (net : KeyedNet) × IsNetOf block net)
 all_accepted entries n (c ∷ bs) [] h a = absurd h
 all_accepted entries n (c ∷ bs) (x ∷ os) h a =
-    let tests = both (is_accepted x) (list_all is_accepted os) a in
+    let tests = and_parts (is_accepted x) (list_all is_accepted os) a in
     let first = keyed_told entries c c.body x.body refl h.0.body tests.0 in
     All-cons (λ (block : BlockView). (net : KeyedNet) × IsNetOf block net) c bs (net_view first.net, first.is_net) (all_accepted entries (n + 1) bs os h.1 tests.1)
-
--- there are as many outcomes as blocks
-pub as_many : (entries : List EntryView) (n : ℕ) (bs : List BlockView) (os : List Outcome) → AreOutcomesFrom entries Key n bs os → length os ≡ length bs
-as_many entries n [] [] h = refl
-as_many entries n [] (x ∷ os) h = absurd h
-as_many entries n (c ∷ bs) [] h = absurd h
-as_many entries n (c ∷ bs) (x ∷ os) h = let e = as_many entries (n + 1) bs os h.1 in omega arith

@@ -2,10 +2,27 @@
 use Rattle.std.proofs.Common.{ℕ, ◌<◌, ◌≤◌, List, length, Option, arith}
 use Rattle.cgd_read.specs.Blocks.{blocks_of, most_blocks}
 use Rattle.command_words.specs.Tasks.{Task, Union, Verify, Workload, MakesFew}
+use Rattle.command_words.specs.Views.{blocks_view}
+use Rattle.command_words.specs.declared.tasks.BlocksTask.{BlocksTask}
+use Rattle.command_words.specs.declared.tasks.BlocksTask.TheVariants as blocks
 use Rattle.net_answers.specs.Due.{HasTooMany, IsDueToBlocks, IsDueWith, IsOfBlocks, bytes_of}
 use Rattle.net_report.specs.declared.status.Status.{Status}
 use Rattle.workload.specs.Workload.{most_nets, workload}
 use Rattle.net_answers.proofs.MadeBlocks.{made_blocks}
+
+-- a task on blocks is one
+pub of_blocks : (on : BlocksTask) → IsOfBlocks (blocks_view on)
+of_blocks (blocks.Check file) = tt
+of_blocks (blocks.Place file) = tt
+of_blocks (blocks.Key file) = tt
+of_blocks (blocks.Identify file archive) = tt
+of_blocks (blocks.Components file) = tt
+of_blocks (blocks.Add file archive name) = tt
+of_blocks (blocks.Duplicates archive) = tt
+of_blocks (blocks.Migrate archive) = tt
+of_blocks (blocks.Same file) = tt
+of_blocks (blocks.Workload count) = tt
+of_blocks (blocks.Cover file cell) = tt
 
 -- what is due to the blocks is due
 pub due_to_blocks : (task : Task) (bytes : List ℕ) (archive : Option (List ℕ)) (s : Status) (text : List ℕ) → IsOfBlocks task → IsDueToBlocks task bytes archive s text → IsDueWith task bytes archive s text

@@ -63,7 +63,7 @@ fn add_block(
         (name_to_add (option_copied given.entry) (block_view block.now)) (net_view net.now)) }
 {
     let added = archive.add_with_kinds(name_to_add(given, block), net, kinds);
-    let _ = archive.entries(); // which are those of an archive
+    archive.recall(); // that its entries are those of an archive
     added
 }
 
@@ -84,7 +84,7 @@ fn add_all<'x>(
     ensures fault { IfErr result (λ n. n.fault ≢ AddFault.NoMemory →
         IsNotAdded (option_copied given.entry) (views found.now) archive.old n.block n.fault) }
 {
-    let _ = archive.entries(); // which are those of an archive
+    archive.recall(); // that its entries are those of an archive
     let mut given = given;
     let mut number = 1u32;
     for (block, outcome) in found.iter().zip(outcomes) {

@@ -3,10 +3,10 @@ ghost use Rattle.std.specs.Prelude.{◌≡◌, ◌≤◌, ◌<◌, All, IfOk, Is
 ghost use Rattle.cgd_read.specs.Blocks.{IsReadBody, blocks_of, most_blocks};
 ghost use Rattle.cgd_read.specs.Views.{views};
 ghost use Rattle.command_words.specs.Tasks.{MakesFew};
-ghost use Rattle.command_words.specs.Views.{task_view};
+ghost use Rattle.command_words.specs.Views.{blocks_view, task_view};
 ghost use Rattle.union_answers.specs.ArchiveBytes.{AreFew};
 ghost use Rattle.net_answers.specs.Bytes.{bytes_in, most_bytes};
-ghost use Rattle.net_answers.specs.Due.{HasTooMany, IsDueFor, IsDueToBlocks, IsDueWith, IsOfBlocks, bytes_of};
+ghost use Rattle.net_answers.specs.Due.{HasTooMany, IsDueFor, IsDueToBlocks, IsDueWith, bytes_of};
 ghost use Rattle.net_answers.specs.Endings.{GoesWithText};
 
 use crate::adding::add_blocks;
@@ -14,7 +14,7 @@ use crate::entries::{groups_of, migration_of};
 use crate::reports::report_on;
 use crate::workloads::summary_of;
 use cgd_read::{Block, blocks};
-use command_words::Task;
+use command_words::{BlocksTask, Task};
 use cover_answers::cover_blocks;
 use net_archive::Archive;
 use net_report::{Answer, Command, Silence, Status};
@@ -26,44 +26,41 @@ use workload::workload_text;
 // The answer to a task, of the blocks of its file and of its archive.
 fn answer_for(
     alloc: Global,
-    task: &Task<'_>,
+    task: &BlocksTask<'_>,
     archive: Archive,
     found: &[Block<'_>],
 ) -> Result<Answer, NoMemory>
-    requires blocks { IsOfBlocks (task_view task.now) }
     requires graphs { All (λ block. IsReadBody block.body) found.now }
     requires few { length found.now ≤ most_blocks }
     ensures { IfOk result (λ a.
-        IsDueFor (task_view task.now) (views found.now) archive a.status a.text.items) }
+        IsDueFor (blocks_view task.now) (views found.now) archive a.status a.text.items) }
 {
     match *task {
-        Task::Check { .. } => report_on(alloc, Command::Check, &archive, found),
-        Task::Place { .. } => report_on(alloc, Command::Place, &archive, found),
-        Task::Key { .. } => report_on(alloc, Command::Key, &archive, found),
-        Task::Identify { .. } => report_on(alloc, Command::Identify, &archive, found),
-        Task::Components { .. } => report_on(alloc, Command::Components, &archive, found),
-        Task::Add { name, .. } => add_blocks(alloc, archive, name, found),
-        Task::Duplicates { .. } => groups_of(alloc, &archive),
-        Task::Migrate { .. } => migration_of(alloc, &archive),
-        Task::Workload { count } => summary_of(alloc, count, found),
-        Task::Cover { cell, .. } => cover_blocks(alloc, &cell, found),
-        Task::Same { .. } => same_blocks(alloc, found),
-        Task::Union { .. } | Task::Verify { .. } => unreachable!(), // which ask for no blocks
+        BlocksTask::Check { .. } => report_on(alloc, Command::Check, &archive, found),
+        BlocksTask::Place { .. } => report_on(alloc, Command::Place, &archive, found),
+        BlocksTask::Key { .. } => report_on(alloc, Command::Key, &archive, found),
+        BlocksTask::Identify { .. } => report_on(alloc, Command::Identify, &archive, found),
+        BlocksTask::Components { .. } => report_on(alloc, Command::Components, &archive, found),
+        BlocksTask::Add { name, .. } => add_blocks(alloc, archive, name, found),
+        BlocksTask::Duplicates { .. } => groups_of(alloc, &archive),
+        BlocksTask::Migrate { .. } => migration_of(alloc, &archive),
+        BlocksTask::Workload { count } => summary_of(alloc, count, found),
+        BlocksTask::Cover { cell, .. } => cover_blocks(alloc, &cell, found),
+        BlocksTask::Same { .. } => same_blocks(alloc, found),
     }
 }
 
 // The answer to a task, of the bytes whose blocks it is about.
 fn answer_on(
     alloc: Global,
-    task: &Task<'_>,
+    task: &BlocksTask<'_>,
     bytes: &[u8],
     archive: Option<Vec<u8>>,
 ) -> Result<Answer, Silence>
-    requires blocks { IsOfBlocks (task_view task.now) }
     requires small { length bytes.now ≤ most_bytes }
     requires archive { AreFew archive }
     ensures due { IfOk result (λ a.
-        IsDueToBlocks (task_view task.now) bytes.now (bytes_in archive) a.status a.text.items) }
+        IsDueToBlocks (blocks_view task.now) bytes.now (bytes_in archive) a.status a.text.items) }
     ensures many { IsErrOf result Silence.TooManyBlocks →
         most_blocks < length (blocks_of bytes.now) }
 {
@@ -77,8 +74,32 @@ fn answer_on(
     }
 }
 
+// The answer to a task on blocks: those of its file, or those of the text that it makes.
+fn answer_to_blocks(
+    alloc: Global,
+    task: &BlocksTask<'_>,
+    file: &[u8],
+    archive: Option<Vec<u8>>,
+) -> Result<Answer, Silence>
+    requires small { length file.now ≤ most_bytes }
+    requires archive { AreFew archive }
+    requires few { MakesFew (blocks_view task.now) }
+    ensures due { IfOk result (λ a. IsDueToBlocks (blocks_view task.now)
+        (bytes_of (blocks_view task.now) file.now) (bytes_in archive) a.status a.text.items) }
+    ensures many { IsErrOf result Silence.TooManyBlocks →
+        most_blocks < length (blocks_of (bytes_of (blocks_view task.now) file.now)) }
+{
+    match task {
+        BlocksTask::Workload { count } => {
+            let made = workload_text(alloc, *count)?;
+            answer_on(alloc, task, &made, archive)
+        }
+        _ => answer_on(alloc, task, file, archive),
+    }
+}
+
 /// What is due to a task, of the bytes of its file and of its archive, where it names them.
-#[tactic(auto, using(crate::proofs::TaskKinds::due_to_blocks, crate::proofs::TaskKinds::few_made, crate::proofs::TaskKinds::many_blocks, crate::proofs::TextEndings::text_of_blocks, crate::proofs::TextEndings::text_of_union, crate::proofs::TextEndings::text_of_verify))]
+#[tactic(auto, using(crate::proofs::TaskKinds::due_to_blocks, crate::proofs::TaskKinds::few_made, crate::proofs::TaskKinds::many_blocks, crate::proofs::TaskKinds::of_blocks, crate::proofs::TextEndings::text_of_blocks, crate::proofs::TextEndings::text_of_union, crate::proofs::TextEndings::text_of_verify))]
 pub fn answer_to(
     alloc: Global,
     task: &Task<'_>,
@@ -98,12 +119,8 @@ pub fn answer_to(
         HasTooMany (task_view task.now) (bytes_of (task_view task.now) file.now) }
 {
     match task {
-        Task::Workload { count } => {
-            let made = workload_text(alloc, *count)?;
-            answer_on(alloc, task, &made, archive)
-        }
+        Task::OnBlocks(task) => answer_to_blocks(alloc, task, file, archive),
         Task::Union { .. } => union_of(alloc, file, archive),
         Task::Verify { .. } => Ok(verify_answer(alloc, file)?),
-        _ => answer_on(alloc, task, file, archive),
     }
 }

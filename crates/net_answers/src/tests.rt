@@ -3,6 +3,7 @@ mod archives;
 mod components;
 mod identified;
 mod keys;
+mod maps;
 mod nets;
 mod readings;
 
@@ -12,6 +13,7 @@ use command_words::task_of;
 use components::DIVIDED;
 use identified::IDENTIFIED;
 use keys::KEYED;
+use maps::VERIFIED;
 use net_archive::MOST_BYTES;
 use net_report::{Answer, Status};
 use nets::{CONNECTED, PLACED};
@@ -96,7 +98,9 @@ fn check_rows(alloc: Global, rt: &impl Abort, rows: &[Row]) -> Result<(), Fail> 
 
 #[test]
 fn rows(rt: HostRuntime) -> Result<(), Fail> {
-    let tables = [CONNECTED, PLACED, KEYED, IDENTIFIED, DIVIDED, IN_USE];
+    let tables = [
+        CONNECTED, PLACED, KEYED, IDENTIFIED, DIVIDED, IN_USE, VERIFIED,
+    ];
     for table in tables {
         check_rows(rt.alloc(), &rt, table)?;
     }

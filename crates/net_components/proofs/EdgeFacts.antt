@@ -1,5 +1,5 @@
 -- An edge of a component: where it stands, its closed walk, and its shift in the graph of the component.
-use Rattle.std.proofs.Common.{◌≡◌, ◌⊎◌, inl, inr, ℕ, zero, suc, ◌+◌, ◌-◌, ◌<◌, ◌≤◌, ℤ, pos, unsigned_abs, List, length, Option, Some, None, IsSome, Contains, refl, sym, ap, subst, ◌∙◌, arith}
+use Rattle.std.proofs.Common.{◌≡◌, ◌⊎◌, inl, inr, ℕ, zero, suc, ◌+◌, ◌-◌, ◌<◌, ◌≤◌, ℤ, pos, unsigned_abs, List, length, Option, IsSome, Contains, refl, sym, ap, subst, ◌∙◌, arith}
 use Rattle.std.proofs.lemmas.List.Elements.{All-contains}
 use Rattle.integers.specs.Bases.{base_sum}
 use Rattle.integers.specs.Vectors.{Vector, plus, minus, HasDimension, IsWithin}
@@ -9,7 +9,7 @@ use Rattle.periodic_net.specs.Graph.{Graph, IsGraph, Arc, arc, arcs, IsArc, IsEd
 use Rattle.periodic_net.specs.Limits.{IsSmall, most_shift, most_vertices}
 use Rattle.periodic_net.proofs.CallerLemmas.{edge_in, generator_closed}
 use Rattle.net_components.specs.PartGraphs.{stair_base, IsNumber}
-use Rattle.connected_dim.specs.Search.{walk_to, shift_of}
+use Rattle.connected_dim.specs.Search.{walk_to}
 use Rattle.connected_dim.specs.Generators.{shift_at, generator_of}
 use Rattle.net_components.specs.Components.{Component, IsComponent}
 use Rattle.net_components.specs.Parts.{vertex_at}
@@ -18,11 +18,7 @@ use Rattle.net_components.specs.Vertices.{vertices_of}
 use Rattle.net_components.specs.Written.{IsEdgeOf}
 use Rattle.net_components.proofs.Covered.{found_in, tells}
 use Rattle.net_components.proofs.FoundLists.{back, in_list, vertices_few}
-
--- the walk that was found, where one was
-pub walk_is : (o : Option Vector) → IsSome o → o ≡ Some (shift_of o)
-walk_is None h = cc
-walk_is (Some T) h = refl
+pub use Rattle.connected_dim.proofs.CallerLemmas.{walk_is}
 
 -- a vertex that was found is in the list
 pub among : (found : List (Option Vector)) (u : ℕ) → 1 ≤ u → u ≤ length found → IsSome (walk_to found u) → Contains (vertices_of 1 found) u

@@ -1,5 +1,5 @@
 -- A part that is made of a component is the part of that component.
-use Rattle.std.proofs.Common.{◌≡◌, ◌⊎◌, inl, inr, ℕ, ◌<◌, ◌≤◌, List, length, sym, ap, subst, ◌∙◌, arith}
+use Rattle.std.proofs.Common.{◌≡◌, ◌⊎◌, ℕ, ◌<◌, ◌≤◌, List, length, sym, ap, subst, ◌∙◌, arith}
 use Rattle.std.proofs.Math.Decide.{dec_lt}
 use Prim.{Dec, yes, no}
 use Rattle.integers.specs.Staircase.{IsStaircase}
@@ -29,14 +29,7 @@ use Rattle.net_components.specs.declared.parts.Part.{Part}
 use Rattle.net_components.proofs.Covered.{in_found, tells}
 use Rattle.net_components.proofs.EdgeFacts.{walk_is, shift_is}
 use Rattle.net_components.proofs.PartFacts.{is_part, number_for, number_in, numbers_rise, some_number, graph_small}
-
-at_least_two : (d : ℕ) → (d ≡ 2) ⊎ (d ≡ 3) → 2 ≤ d
-at_least_two d (inl e) = omega (arith, e)
-at_least_two d (inr e) = omega (arith, e)
-
-at_most_three : (d : ℕ) → (d ≡ 2) ⊎ (d ≡ 3) → d ≤ 3
-at_most_three d (inl e) = omega (arith, e)
-at_most_three d (inr e) = omega (arith, e)
+use Rattle.net_components.proofs.OneStair.{at_least_two, at_most_three}
 
 module _ (G : Graph) (g : IsGraph G) (s : IsSmall G) (c : Component) (h : IsComponent G c) (p : Part) (m : IsMadeOf G c p) where
   basis : IsStaircase (ClosedShift G c.root) G.dimension p.basis

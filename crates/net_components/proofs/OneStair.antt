@@ -26,11 +26,11 @@ rows_tell d S S' h h' w e =
     let i = last_same d S S' h h' w e in
     λ t. stairs (one t).x (one t).y (one t).z (two t).y (two t).z (i t)
 
-at_least_two : (d : ℕ) → (d ≡ 2) ⊎ (d ≡ 3) → 2 ≤ d
+pub at_least_two : (d : ℕ) → (d ≡ 2) ⊎ (d ≡ 3) → 2 ≤ d
 at_least_two d (inl e) = omega (arith, e)
 at_least_two d (inr e) = omega (arith, e)
 
-at_most_three : (d : ℕ) → (d ≡ 2) ⊎ (d ≡ 3) → d ≤ 3
+pub at_most_three : (d : ℕ) → (d ≡ 2) ⊎ (d ≡ 3) → d ≤ 3
 at_most_three d (inl e) = omega (arith, e)
 at_most_three d (inr e) = omega (arith, e)
 

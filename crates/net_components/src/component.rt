@@ -61,7 +61,7 @@ fn full_component<const D: usize>(
 {
     g.recall();
     let lattice = lattice(gs, m);
-    let _ = lattice.pivots();
+    lattice.recall();
     Component {
         root,
         found,

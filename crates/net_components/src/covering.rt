@@ -49,7 +49,6 @@ fn next_component<const D: usize>(
     ensures component { IfOk result (IsComponent g.now) }
     ensures low { IfErr result (IsPartFault g.now) }
 {
-    let _ = components.len();
     g.recall();
     component_of(alloc, g, u)
 }

@@ -21,7 +21,7 @@ use vecdim::{Staircase, Triple};
 
 /// The graph of one copy of a component: its vertices, in rising order, have these numbers in it,
 /// and its shifts are written in the basis, the staircase basis of the component's closed walks.
-#[derive(Drop)]
+#[derive(Debug, Drop)]
 pub struct Part {
     pub vertices: Items<u32>,
     pub basis: Items<Triple>,
@@ -43,7 +43,7 @@ fn graph_of<const D: usize>(
 {
     let dim = g.dimension();
     let edges = written_edges(alloc, g, c, vertices)?;
-    let _ = g.edges();
+    g.edges(); // which rise
     let graph = from_edges(alloc, dim, vertices.len() as u32, &edges)?;
     Ok(graph)
 }

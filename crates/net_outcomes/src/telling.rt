@@ -11,7 +11,7 @@ use net_report::{Command, NoMemory, push_outcome};
 use std::alloc::Global;
 
 /// The texts of the outcomes of blocks, one after the other, and whether each block was accepted.
-#[derive(Drop)]
+#[derive(Debug, Drop)]
 pub struct Told {
     pub text: Vec<u8>,
     pub all_accepted: bool,
@@ -51,7 +51,7 @@ pub fn tell_blocks(
     ensures { IfOk result (λ told. IsReport command archive.now.entries
         (views found.now) told.all_accepted told.text.items) }
 {
-    let _ = archive.entries(); // that each has the key of its graph stands in this contract
+    archive.recall(); // each entry has the key of its graph
     let mut text = Vec::new(alloc);
     let mut all_accepted = true;
     let mut number = 1u32;

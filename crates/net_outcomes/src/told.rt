@@ -20,7 +20,7 @@ use quotient_graph::AnyGraph;
 use std::alloc::Global;
 
 /// The lines of the components of a net, and whether it is divided into parts that all have a key.
-#[derive(Drop)]
+#[derive(Debug, Drop)]
 pub struct ToldLines {
     pub accepted: bool,
     pub lines: Items<u8>,
@@ -152,7 +152,7 @@ fn tell_parts(
     ensures { IfOk result (λ told.
         ArePartsTold (graph_view g.now) names.now told.accepted told.lines) }
 {
-    let _ = dimension_of(g);
+    dimension_of(g);
     let mut text = Vec::new(alloc);
     push_count_line(&mut text, parts.len() as u64)?;
     let accepted = push_told(&mut text, names, parts)?;

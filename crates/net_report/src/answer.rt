@@ -7,7 +7,7 @@ use keyline_import::ItemRefusal;
 use std::alloc::AllocError as NoMemory;
 
 /// How a run ends, and what it writes.
-#[derive(Drop)]
+#[derive(Debug, Drop)]
 pub struct Answer {
     pub status: Status,
     pub text: Vec<u8>,

@@ -14,7 +14,7 @@ pub struct Size {
 }
 
 /// What is reported of a block, after its header. The names are those of the graph's vertices.
-#[derive(Drop)]
+#[derive(Debug, Drop)]
 pub enum OutcomeBody<'a> {
     /// The token that opens a block which is no graph block.
     Unsupported(&'a [u8]),
@@ -42,7 +42,7 @@ pub enum OutcomeBody<'a> {
 }
 
 /// What is reported of a block: its number, the line that opens it, and its name.
-#[derive(Drop)]
+#[derive(Debug, Drop)]
 pub struct Outcome<'a> {
     pub number: u32,
     pub line: u32,

@@ -5,7 +5,7 @@ use cgd_read::ReadRefusal;
 use least_key::Refusal;
 
 /// Why a text gives no net.
-#[derive(Drop)]
+#[derive(Debug, Drop)]
 pub enum Trouble {
     /// No block of the text is a graph.
     NoGraph,

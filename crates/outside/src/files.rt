@@ -5,7 +5,7 @@ ghost use Rattle.std.specs.Str.{bytes_eq};
 ghost use Rattle.outside.specs.Files.{named_bytes, file_of};
 
 /// What the last read left: nothing, bytes of a name up to a place, or a failure at a name.
-#[derive(Drop)]
+#[derive(Debug, Drop)]
 pub enum LastRead {
     Unset,
     Gave(String, u64),

@@ -11,7 +11,7 @@ use std::marker::Model;
 
 /// Files in memory. A read gives all that there is room for, and of an absent name nothing; it
 /// never fails.
-#[derive(Drop)]
+#[derive(Debug, Drop)]
 pub struct HonestShelf {
     files: Vec<(String, Vec<u8>)>,
     last: LastRead,

@@ -12,13 +12,13 @@ use std::{fs, io, mem};
 /// The name of standard input.
 const STANDARD_INPUT: &str = "-";
 
-#[derive(Drop)]
+#[derive(Debug, Drop)]
 enum Source<F: Drop> {
     File(F),
     Input,
 }
 
-#[derive(Drop)]
+#[derive(Debug, Drop)]
 enum HostRead<F: Drop> {
     Unset,
     Gave(Source<F>, String, u64),
@@ -26,7 +26,7 @@ enum HostRead<F: Drop> {
 }
 
 /// Files, and under the name `-` standard input.
-#[derive(Drop)]
+#[derive(Debug, Drop)]
 pub struct HostShelf<R: Files + Input + Drop> {
     rt: R,
     alloc: Global,

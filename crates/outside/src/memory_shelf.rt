@@ -12,7 +12,7 @@ use std::marker::Model;
 
 /// Files in memory. A read gives at most `step` bytes, and fails at the listed numbers of its
 /// calls, counted from 1, and for absent names.
-#[derive(Drop)]
+#[derive(Debug, Drop)]
 pub struct MemoryShelf {
     files: Vec<(String, Vec<u8>)>,
     step: usize,

@@ -11,7 +11,7 @@ use std::marker::Model;
 /// Bytes in memory, in room that is taken when the sink is made. A write takes the lesser of `step`
 /// and the piece's length, and fails at the listed numbers of its calls, counted from 1, and where
 /// that does not fit.
-#[derive(Drop)]
+#[derive(Debug, Drop)]
 pub struct MemorySink {
     bytes: Vec<u8>,
     room: usize,

@@ -4,7 +4,7 @@ ghost use Rattle.std.specs.Prelude.{◌≡◌, None};
 use crate::sink::{Sink, SinkFault};
 
 /// Standard output. A write by the host that takes nothing of a piece is a fault too.
-#[derive(Drop)]
+#[derive(Debug, Drop)]
 pub struct StdoutSink<R: Print + Drop> {
     rt: R,
     faults: u64,

@@ -34,7 +34,7 @@ pub use Rattle.periodic_net.proofs.nets.Arcs.{IsInside, arc_inside, joined_insid
 pub use Rattle.periodic_net.proofs.nets.Ends.{crossed, dot_difference, ends_at_one, ends_at_zero, no_part, not_zero}
 pub use Rattle.periodic_net.proofs.nets.Generators.{IsTree, connected_by_tree}
 pub use Rattle.periodic_net.proofs.nets.Loops.{reached_by_shift}
-pub use Rattle.periodic_net.proofs.nets.SplitCases.{one_not_alike, split_by_parts}
+pub use Rattle.periodic_net.proofs.nets.SplitCases.{equal_if_not_unequal, one_not_alike, split_by_parts}
 pub use Rattle.periodic_net.proofs.nets.Splits.{split_shows_not_connected}
 pub use Rattle.periodic_net.proofs.nets.Walks.{joined_moved, joined_turned, moved_to, reached_by_arc, reached_itself, reached_moved, reached_transitive, reached_turned, same_joined, same_reached, walks_joined}
 pub use Rattle.periodic_net.proofs.placements.MaximumPrinciple.{gain}

@@ -60,7 +60,7 @@ pub fn in_coordinates<const D: usize>(
     let net = classes.net();
     let count = net.count();
     let lattice = lattice_of(net, bound);
-    let _ = lattice.rows();
+    lattice.recall();
     let mut stars = Vec::with_capacity(alloc, count as usize)?;
     for c in 1..count + 1 {
         stars.push(arcs_in(alloc, &lattice, net.arcs(c))?)?;

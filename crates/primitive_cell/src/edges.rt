@@ -61,7 +61,7 @@ fn edge_of<const D: usize>(
     ensures { IsGivenBy D net.now.placement (number_at firsts.now) (rows_of D stairs.now) arc.now
         result }
 {
-    let _ = classes.net().count();
+    classes.net().recall();
     let from = position_of(net, firsts, arc.from);
     let to = position_of(net, firsts, arc.to);
     let v = move_between(&arc.vector, &from, &to);

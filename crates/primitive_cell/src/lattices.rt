@@ -13,6 +13,6 @@ pub fn lattice_of<const D: usize>(net: &Stable<D>, translations: &[Vect<D>]) -> 
     net.graph().recall();
     let mut stairs = Staircase::from_bound(net.placed().d0());
     stairs.insert_all(translations);
-    let _ = stairs.rows();
+    stairs.recall();
     stairs
 }

@@ -7,7 +7,7 @@ use vecdim::Vect;
 /// spelling, rising by `u`, `v` and shift. `basis` is the staircase basis of the translations, in
 /// units of 1/D0, in whose coordinates the shifts are written; vertex `u` of the graph that was
 /// divided is in class `class_of[u - 1]`. Contracts see the basis, the graph and the classes.
-#[derive(Drop)]
+#[derive(Debug, Drop)]
 pub struct Primitive<const D: usize> {
     pub basis: Vec<Vect<D>>,
     pub vertices: u32,

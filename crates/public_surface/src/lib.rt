@@ -4,11 +4,19 @@
 #![tactic(auto)]
 
 pub mod archives;
+pub mod certificates;
+pub mod classes;
+pub mod components;
+pub mod covers;
 pub mod files;
 pub mod frames;
 pub mod graphs;
+pub mod key_lines;
+pub mod maps;
 pub mod nets;
 pub mod numbers;
+pub mod placements;
 pub mod reports;
 pub mod staircases;
+pub mod texts;
 pub mod vectors;

@@ -14,7 +14,7 @@ use std::alloc::Global;
 use vecdim::Shift;
 
 /// A graph of dimension 2 or 3.
-#[derive(Drop)]
+#[derive(Debug, Drop)]
 pub enum AnyGraph {
     Flat(Graph<2>),
     Space(Graph<3>),

@@ -9,7 +9,7 @@ use std::marker::Model;
 
 /// The class graph of a connected stable net, with vectors in units of 1/D0 or in the coordinates
 /// of another basis. Contracts see the class graph.
-#[derive(Drop)]
+#[derive(Debug, Drop)]
 pub struct ClassGraph<const D: usize> {
     stars: Vec<Vec<ClassArc<D>>>,
 }
@@ -57,6 +57,15 @@ impl<const D: usize> ClassGraph<D> {
         ensures stars { HasStars self.now }
     {
         self.stars.len() as u32
+    }
+
+    /// What holds of each class graph in memory, for a proof that needs it. It does nothing.
+    pub fn recall(&self)
+        ensures dimension { self.now.dimension ≡ D }
+        ensures small { IsSmallNet self.now }
+        ensures stars { HasStars self.now }
+    {
+        let _ = &self.stars;
     }
 
     /// The arcs from a class.

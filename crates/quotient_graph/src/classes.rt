@@ -14,7 +14,7 @@ use vecdim::Vect;
 /// to D0 - 1. Two vertices share a class where a translation moves one over the first onto one over
 /// the second; classes are numbered from 1, by their least members. Contracts see the graph, the
 /// class of each vertex, the class graph, and the translations.
-#[derive(Drop)]
+#[derive(Debug, Drop)]
 pub struct Classes<const D: usize> {
     graph: Graph<D>,
     class_of: Vec<u32>,
@@ -62,6 +62,15 @@ impl<const D: usize> Classes<D> {
         }
     }
 
+    /// What holds of each set of classes in memory, for a proof that needs it. It does nothing.
+    pub fn recall(&self)
+        ensures classes { AreClasses self.now }
+        ensures is_graph { IsGraph self.now.graph }
+        ensures small { IsSmall self.now.graph }
+    {
+        self.graph.recall();
+    }
+
     /// The class graph.
     pub fn net(&self) -> &ClassGraph<D>
         ensures net { result.now ≡ self.now.classes }
@@ -69,7 +78,7 @@ impl<const D: usize> Classes<D> {
         ensures is_graph { IsGraph self.now.graph }
         ensures small { IsSmall self.now.graph }
     {
-        let _ = self.graph.vertices();
+        self.graph.recall();
         &self.net
     }
 

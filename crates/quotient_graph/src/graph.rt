@@ -13,7 +13,7 @@ use std::marker::Model;
 
 /// A labelled quotient graph: its vertices are numbered from 1, and its different edges stand in
 /// normal spelling, rising by tail, head and shift. Contracts see the graph that it stands for.
-#[derive(Drop)]
+#[derive(Debug, Drop)]
 pub struct Graph<const D: usize> {
     vertices: u32,
     edges: Vec<Arc<D>>,

@@ -12,7 +12,7 @@ use vecdim::{Shift, Vect};
 
 /// A graph whose net is connected, with its normal barycentric placement, which is within the
 /// limits. Contracts see the graph and the placement.
-#[derive(Drop)]
+#[derive(Debug, Drop)]
 pub struct Placed<const D: usize> {
     graph: Graph<D>,
     d0: i128,
@@ -79,8 +79,19 @@ impl<const D: usize> Placed<D> {
         ensures normal { IsNormalPlacement self.now.graph self.now.placement }
         ensures limits { IsWithinLimits self.now.graph self.now.placement }
     {
-        let _ = self.graph.vertices();
+        self.graph.recall();
         &self.graph
+    }
+
+    /// What holds of each placed graph in memory, for a proof that needs it. It does nothing.
+    pub fn recall(&self)
+        ensures is_graph { IsGraph self.now.graph }
+        ensures small { IsSmall self.now.graph }
+        ensures connected { IsConnected self.now.graph }
+        ensures normal { IsNormalPlacement self.now.graph self.now.placement }
+        ensures limits { IsWithinLimits self.now.graph self.now.placement }
+    {
+        self.graph();
     }
 
     /// The common denominator of the positions.
@@ -105,7 +116,7 @@ impl<const D: usize> Placed<D> {
         ensures value { result ≡ base self.now.placement u }
         ensures small { IsWithin most_position result }
     {
-        let _ = self.graph();
+        self.recall();
         self.position(u)
     }
 
@@ -115,7 +126,7 @@ impl<const D: usize> Placed<D> {
         ensures value { result ≡ arc_vector self.now.placement arc.now }
         ensures small { IsWithin most_units result }
     {
-        let _ = self.graph();
+        self.recall();
         let from = self.at(arc.from);
         let to = self.at(arc.to);
         vector_between(&from, &to, self.d0(), &arc.shift)

@@ -5,7 +5,7 @@ use vecdim::Triple;
 /// A colouring of the vertices of a net of dimension `dim`: the vertex over `u` in the cell `t` has
 /// the colour `h(u) + c·t`, taken modulo `q` where `q` is not 0. `h` has an entry for each vertex
 /// of the quotient graph.
-#[derive(Drop)]
+#[derive(Debug, Drop)]
 pub struct Split {
     pub dim: u8,
     pub q: u64,

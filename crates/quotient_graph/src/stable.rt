@@ -9,7 +9,7 @@ use std::marker::Model;
 
 /// A placed graph in whose net different vertices have different positions. Contracts see the
 /// graph and the placement.
-#[derive(Drop)]
+#[derive(Debug, Drop)]
 pub struct Stable<const D: usize> {
     placed: Placed<D>,
 }
@@ -38,6 +38,16 @@ impl<const D: usize> Stable<D> {
         ensures no_collision { HasNoCollision self.now.graph self.now.placement }
     {
         &self.placed
+    }
+
+    /// What holds of each stable graph in memory, for a proof that needs it. It does nothing.
+    pub fn recall(&self)
+        ensures is_graph { IsGraph self.now.graph }
+        ensures small { IsSmall self.now.graph }
+        ensures stable { IsStablePlacement self.now.graph self.now.placement }
+        ensures limits { IsWithinLimits self.now.graph self.now.placement }
+    {
+        self.graph();
     }
 
     pub fn graph(&self) -> &Graph<D>

@@ -1,5 +1,6 @@
 -- The nets of blocks that are accepted where their keys are asked for.
 use Rattle.std.proofs.Common.{◌≡◌, ◌&&◌, ℕ, ◌+◌, ◌≤◌, length, arith, Bool, true, false, List, [], ◌∷◌, Option, Some, refl, sym, subst, true≢false}
+use Rattle.std.proofs.lemmas.Bool.{and_parts}
 use Rattle.std.specs.List.{list_all}
 use Rattle.std.specs.Prelude.{All}
 use Rattle.std.proofs.lemmas.List.Elements.{All-head, All-tail}
@@ -58,18 +59,13 @@ told_net entries (GraphBody raw) told read h a = absurd h
 told_net entries (UnsupportedBody token) told read h a = absurd h
 told_net entries (MalformedBody fault) told read h a = absurd h
 
--- both tests are true
-both : (a b : Bool) → (a && b) ≡ true → (a ≡ true) × (b ≡ true)
-both true b e = (refl, e)
-both false b e = absurd (true≢false (sym e))
-
 -- so the nets that are reported are those of the blocks
 pub nets_of_blocks : (entries : List EntryView) (n : ℕ) (found : List Block) (os : List Outcome) → All (λ (b : Block). IsReadBody b.body) found → AreOutcomesFrom entries Key n (views found) os → list_all is_accepted os ≡ true → AreNetsOf (views found) (nets_told os)
 nets_of_blocks entries n [] [] read h a = tt
 nets_of_blocks entries n [] (o ∷ os) read h a = absurd h
 nets_of_blocks entries n (b ∷ found) [] read h a = absurd h
 nets_of_blocks entries n (b ∷ found) (o ∷ os) read h a =
-    let tests = both (is_accepted o) (list_all is_accepted os) a in
+    let tests = and_parts (is_accepted o) (list_all is_accepted os) a in
     let t = told_net entries b.body o.body (All-head (λ (x : Block). IsReadBody x.body) b found read) h.0.body tests.0 in
     let first : IsNetOf (block_view b) (net_view t.net) = record { raw = t.raw; graph = t.graph; read = t.read; small = t.small; keyed = t.keyed } in
     let rest = nets_of_blocks entries (n + 1) found os (All-tail (λ (x : Block). IsReadBody x.body) b found read) h.1 tests.1 in

@@ -86,7 +86,7 @@ one_maps (m ∷ ms) (n ∷ ns) (Some x) (Some y) s a b =
     λ i. Some (record { first = first i; items = items i })
 
 -- of a block that has its key no refusal is reported
-accepted_body : (block : BlockView) (body : BodyView) (net : KeyedNet) (told : OutcomeBody) → block.body ≡ body → IsNetOf block net → IsBodyOf [] Key body told → is_accepted_body told ≡ true
+pub accepted_body : (block : BlockView) (body : BodyView) (net : KeyedNet) (told : OutcomeBody) → block.body ≡ body → IsNetOf block net → IsBodyOf [] Key body told → is_accepted_body told ≡ true
 accepted_body block body net (Checked size) e is h = refl
 accepted_body block body net (Located size names placed) e is h = refl
 accepted_body block body net (Keyed size own) e is h = refl

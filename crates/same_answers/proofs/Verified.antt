@@ -1,11 +1,7 @@
 -- The text of maps that is printed is verified when it is read again.
-use Rattle.std.proofs.Common.{◌≡◌, ◌⊎◌, inl, inr, ℕ, ◌-◌, ◌≤◌, ◌==◌, ℤ, List, [], ◌∷◌, Option, None, Some, All, length, map, refl, sym, ap, subst, ◌∙◌, arith}
-use Rattle.std.specs.List.{Contains}
+use Rattle.std.proofs.Common.{◌≡◌, ◌⊎◌, ℕ, ◌-◌, ◌≤◌, ◌==◌, List, [], ◌∷◌, Option, None, Some, All, length, map, refl, sym, ap, subst, ◌∙◌, arith}
 use Rattle.std.proofs.lemmas.List.Elements.{All-cons, All-nil}
-use Rattle.periodic_net.specs.Classes.{ClassArc, ClassGraph}
-use Rattle.periodic_net.specs.Graph.{Arc, Graph, IsGraph, both_ways}
-use Rattle.key_theory.specs.Frames.{IsFrameAfter}
-use Rattle.key_theory.specs.Key.{IsKeyOf}
+use Rattle.periodic_net.specs.Graph.{Graph}
 use Rattle.line_text.specs.Lines.{rows_text}
 use Rattle.cgd_read.specs.Blocks.{most_blocks}
 use Rattle.cgd_read.specs.Views.{BlockView}
@@ -31,29 +27,7 @@ use Rattle.net_certificate.specs.NetItems.{AreItemsOf, AreMapsOf, HasItsBits, im
 use Rattle.same_answers.specs.Laws.{SameIsVerified, passing, verified_text}
 use Rattle.same_answers.specs.Nets.{AreNetsOf, IsNetOf}
 use Rattle.net_certificate.proofs.CallerLemmas.{found_few}
-
--- a graph that has a key has an edge
-positive : (d : ℕ) → (d ≡ 2) ⊎ (d ≡ 3) → 1 ≤ d
-positive d (inl e) = omega (arith, e)
-positive d (inr e) = omega (arith, e)
-
-frame_arc : (K : ClassGraph) (c : ℕ) (frame : List ClassArc) → 1 ≤ length frame → IsFrameAfter K c [] frame → (a : ClassArc) × Contains K.arcs a
-frame_arc K c [] l each = absurd (omega arith)
-frame_arc K c (a ∷ rest) l each = (a, each.0.may.is_arc)
-
-arc_edge : (edges : List Arc) (a : Arc) → Contains (both_ways edges) a → 1 ≤ length edges
-arc_edge [] a c = absurd (let l = c.1 in omega (arith, l))
-arc_edge (e ∷ edges) a c = omega arith
-
-has_edge : (G : Graph) (xs : List ℤ) → IsGraph G → IsKeyOf G xs → 1 ≤ length G.edges
-has_edge G xs g k =
-    let s = k.least.some in
-    let K = k.shape.classes in
-    let d : length s.frame ≡ G.dimension = s.is_frame.count ∙ k.shape.is_classes.dimension in
-    let p : 1 ≤ G.dimension = positive G.dimension g.dimension in
-    let a = frame_arc K s.start s.frame (omega (arith, d, p)) s.is_frame.each in
-    let b = (k.shape.is_classes.arcs a.0).0 a.1 in
-    arc_edge G.edges b.0 b.1
+use Rattle.key_theory.proofs.CallerLemmas.{has_edge}
 
 -- the graph of a net of a block may stand in a text
 graph_formed : (block : BlockView) (net : KeyedNet) → IsNetOf block net → IsFormedGraph net.placed.graph

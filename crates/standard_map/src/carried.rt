@@ -20,7 +20,8 @@ fn cells_by<const D: usize>(here: &Side<'_, D>, there: &Side<'_, D>, closed: &Ca
     ensures second { IsWithin most_cell result.second }
     ensures third { IsWithin most_cell result.third }
 {
-    let _ = (here.origin(), there.origin());
+    here.recall();
+    there.recall();
     cells_of(&closed.shifts, &closed.images)
 }
 
@@ -40,7 +41,7 @@ pub fn image_cells<const D: usize>(
     ensures second { IfOk result (λ C. IsWithin most_cell C.second) }
     ensures third { IfOk result (λ C. IsWithin most_cell C.third) }
 {
-    let _ = here.graph().vertices();
+    here.graph().recall();
     let found = turns(alloc, here, there, ends)?;
     Ok(cells_by(here, there, &independent(&found)))
 }

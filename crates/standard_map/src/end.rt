@@ -7,7 +7,7 @@ use vecdim::{Shift, Vect};
 
 /// A vertex of a quotient graph, the shift of a walk to it from the origin, the vertex over which
 /// the image of the walk's end stands, and how far from the other origin it stands.
-#[derive(Clone, Copy)]
+#[derive(Clone, Copy, Debug)]
 pub struct End<const D: usize> {
     pub over: u32,
     pub shift: Shift<D>,

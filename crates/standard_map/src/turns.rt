@@ -95,7 +95,7 @@ pub fn turns<const D: usize>(
     ensures full { IfOk result (λ ts. AreFull D ts.items) }
 {
     let graph = here.graph();
-    let _ = graph.vertices();
+    graph.recall();
     let edges = graph.edges();
     let mut found = Vec::with_capacity(alloc, edges.len())?;
     for edge in edges {

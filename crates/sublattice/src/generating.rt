@@ -42,6 +42,6 @@ pub fn lattice_of<const D: usize>(rows: &[Vect<D>], index: u64) -> Staircase<D>
 {
     let mut lattice = Staircase::from_bound(i128::from(index));
     lattice.insert_all(rows);
-    let _ = lattice.rows();
+    lattice.recall();
     lattice
 }

@@ -46,8 +46,7 @@ struct Digits {
 fn digits_of<const D: usize>(lattice: &Staircase<D>, v: &Vect<D>) -> Digits
     ensures { HasDigits D lattice.now v.now result.first result.second result.third }
 {
-    let pivots = lattice.pivots();
-    let _ = pivots;
+    lattice.pivots();
     let rest = lattice.remainder(v);
     Digits {
         first: natural(rest.x),

@@ -1,5 +1,6 @@
 -- The entries of items that are accepted.
 use Rattle.std.proofs.Common.{◌≡◌, ◌&&◌, ℕ, ◌+◌, ◌<◌, ◌≤◌, Bool, true, false, List, [], ◌∷◌, ◌++◌, length, get_or, take, Option, None, Some, refl, sym, ap, subst, ◌∙◌, true≢false, arith}
+use Rattle.std.proofs.lemmas.Bool.{and_parts}
 use Rattle.std.specs.List.{All, list_all}
 use Rattle.std.specs.Option.{option_copied}
 use Rattle.std.proofs.lemmas.List.{take_more, length-map, map-append}
@@ -48,11 +49,6 @@ as_many (o ∷ os) (x ∷ es) h = let n = as_many os es h.1 in omega (arith, n)
 pub as_many_entries : (os : List Outcome) (entries : List Entry) → AreEntriesTold os (entry_views entries) → length entries ≡ length os
 as_many_entries os entries h = sym (length-map entries entry_view) ∙ as_many os (entry_views entries) h
 
--- both tests are true
-both : (a b : Bool) → (a && b) ≡ true → (a ≡ true) × (b ≡ true)
-both true b e = (refl, e)
-both false b e = absurd (true≢false (sym e))
-
 -- an item that is accepted is a net under its name
 named : (body : BodyView) (name : Option (List ℕ)) (told : OutcomeBody) → IsItemBodyOf body told → IsNamedAs body name → is_accepted_body told ≡ true → IsUnderName told name
 named (Net key) None (Keyed size net) h k a = absurd k
@@ -67,7 +63,7 @@ all_named n [] [] h k a = All-nil HasNamedNet
 all_named n [] (o ∷ os) h k a = absurd h
 all_named n (item ∷ items) [] h k a = absurd h
 all_named n (item ∷ items) (o ∷ os) h k a =
-    let tests = both (is_accepted o) (list_all is_accepted os) a in
+    let tests = and_parts (is_accepted o) (list_all is_accepted os) a in
     let name = subst (IsNamedAs item.body) (sym h.0.name) (All-head IsNamed item items k) in
     All-cons HasNamedNet o os (named item.body (option_copied o.name) o.body h.0.body name tests.0)
     (all_named (n + 1) items os h.1 (All-tail IsNamed item items k) tests.1)

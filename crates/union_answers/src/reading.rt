@@ -20,7 +20,7 @@ pub fn archive_in(
     };
     match Archive::read(alloc, bytes) {
         Ok(archive) => {
-            let _ = archive.entries(); // which are those of an archive
+            archive.recall(); // that its entries are those of an archive
             Ok(Ok(archive))
         }
         Err(ArchiveFault::NoMemory) => Err(NoMemory),

@@ -29,7 +29,7 @@ fn unite_entries(alloc: Global, archive: Archive, entries: Vec<Entry>) -> Result
     ensures { IfOk result (λ a.
         IsUnitedOrRefused archive (entry_views entries.items) a.status a.text.items) }
 {
-    let _ = archive.entries(); // which are those of an archive
+    archive.recall(); // that its entries are those of an archive
     match unite(archive, entries) {
         Ok(whole) => Ok(Answer {
             status: Status::Done,

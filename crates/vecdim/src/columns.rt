@@ -6,7 +6,7 @@ ghost use Rattle.vecdim.specs.Steps.{Exchange, IsBoxed};
 use crate::modulo;
 
 /// A quotient and the rest.
-#[derive(Clone, Copy)]
+#[derive(Clone, Copy, Debug)]
 pub struct Division {
     pub quotient: i128,
     pub rest: i128,

@@ -7,7 +7,7 @@ use crate::columns::{Line, column, divide, less_times};
 use crate::modulo;
 
 // The rows (a, b, c), (0, e, f) and (0, 0, i), as plain numbers.
-#[derive(Clone, Copy)]
+#[derive(Clone, Copy, Debug)]
 pub(crate) struct Rows {
     pub(crate) a: i128,
     pub(crate) b: i128,

@@ -14,7 +14,7 @@ use std::marker::Model;
 
 /// A lattice of full rank.
 // The rows stand in it twice: as plain numbers to reckon with, and as vectors to lend.
-#[derive(Drop)]
+#[derive(Debug, Drop)]
 pub struct Staircase<const D: usize> {
     list: [Vect<D>; 3],
     rows: Rows,
@@ -130,6 +130,14 @@ impl<const D: usize> Staircase<D> {
         ensures small { All (IsWithin (2 ^ 60)) result.now }
     {
         &self.list[..D]
+    }
+
+    /// What holds of each staircase, for a proof that needs it. It does nothing.
+    pub fn recall(&self)
+        ensures stair { HasStairShape D self.now }
+        ensures basis { IsStaircase (Members D self.now) D (rows_of D self.now) }
+    {
+        self.rows();
     }
 
     /// The first parts of the rows that are not 0; in dimension 2 the part `z` is 0.

@@ -2,7 +2,7 @@
 use Rattle.std.proofs.Common.{◌≡◌, ℕ, ◌-◌, ◌<◌, ◌≤◌, ℤ, pos, negsuc, ◌+ℤ◌, ◌*ℤ◌, Bool, true, false, cond, ◌&&◌, ◌==◌, nat_lt, [], length, true≢false, refl, sym, lit<, arith}
 use Rattle.std.specs.Prelude.{unsigned_abs}
 use Rattle.std.specs.Int.{int_rem_euclid, int_div_euclid}
-use Rattle.std.proofs.lemmas.Bool.{ltb-true}
+use Rattle.std.proofs.lemmas.Bool.{ltb-true, and_parts}
 use Rattle.std.proofs.lemmas.Int.{ints}
 use Rattle.std.proofs.lemmas.Nat.{mul-le}
 use Rattle.std.proofs.Math.Nat.{div-le_self}
@@ -59,11 +59,6 @@ line_short d e a b x y z =
     let pz = third_short d e.z z in
     simp (length-append) (omega (arith, u, v, px, py, pz))
 
--- what two tests show together
-pub split : (a b : Bool) → (a && b) ≡ true → (a ≡ true) × (b ≡ true)
-split true b h = (refl, h)
-split false b h = absurd (true≢false (sym h))
-
 -- the numbers of an edge are small
 pub record IsSmallEdge (e : Edge) : Type 0 where
   pub u : e.u ≤ 20
@@ -77,12 +72,12 @@ pub edge_small : (m k : ℕ) (e : Edge) (r : ℕ) → m ≤ 4 → k < 5 → r < 
 edge_small m k e r a b l h =
     let yz = is_unit e.y && is_unit e.z in
     let xyz = is_unit e.x && yz in
-    let s1 = split (nat_lt 0 e.u) (nat_lt e.u 5 && (nat_lt 0 e.v && (nat_lt e.v 5 && xyz))) h in
-    let s2 = split (nat_lt e.u 5) (nat_lt 0 e.v && (nat_lt e.v 5 && xyz)) s1.1 in
-    let s3 = split (nat_lt 0 e.v) (nat_lt e.v 5 && xyz) s2.1 in
-    let s4 = split (nat_lt e.v 5) xyz s3.1 in
-    let s5 = split (is_unit e.x) yz s4.1 in
-    let s6 = split (is_unit e.y) (is_unit e.z) s5.1 in
+    let s1 = and_parts (nat_lt 0 e.u) (nat_lt e.u 5 && (nat_lt 0 e.v && (nat_lt e.v 5 && xyz))) h in
+    let s2 = and_parts (nat_lt e.u 5) (nat_lt 0 e.v && (nat_lt e.v 5 && xyz)) s1.1 in
+    let s3 = and_parts (nat_lt 0 e.v) (nat_lt e.v 5 && xyz) s2.1 in
+    let s4 = and_parts (nat_lt e.v 5) xyz s3.1 in
+    let s5 = and_parts (is_unit e.x) yz s4.1 in
+    let s6 = and_parts (is_unit e.y) (is_unit e.z) s5.1 in
     let inside = remainder_within (pos r +ℤ e.x) m (omega arith) in
     let y = ltb-true (unsigned_abs e.y) 2 s6.0 in
     let z = ltb-true (unsigned_abs e.z) 2 s6.1 in

@@ -1,5 +1,6 @@
 -- The text of the workload is small.
 use Rattle.std.proofs.Common.{◌≡◌, ℕ, zero, suc, ◌+◌, ◌*◌, ◌<◌, ◌≤◌, true, List, [], ◌∷◌, length, flat_map, lit<, arith}
+use Rattle.std.proofs.lemmas.Bool.{and_parts}
 use Rattle.std.specs.List.{list_all, range_with_len}
 use Rattle.std.proofs.lemmas.Nat.{mul-le}
 use Rattle.std.proofs.lemmas.List.{length-append}
@@ -8,7 +9,7 @@ use Rattle.workload.specs.BaseNets.{is_base_edge, base_edges, dimension}
 use Rattle.workload.specs.Workload.{edge_line, edge_at, place_lines, edges_text, block_text, workload, base_of, cells_of, shear_of, most_nets, most_text}
 use Rattle.workload.specs.declared.edge.Edge.{Edge}
 use Rattle.workload.proofs.BaseEdges.{all_base, few_base}
-use Rattle.workload.proofs.SmallEdges.{edge_short, split}
+use Rattle.workload.proofs.SmallEdges.{edge_short}
 
 -- as many pieces, of at most b bytes each
 pieces_short : (f : ℕ → List ℕ) (b a n : ℕ) → ((r : ℕ) → r < a + n → length (f r) ≤ b) → length (flat_map f (range_with_len a n)) ≤ n * b
@@ -23,7 +24,7 @@ pieces_short f b a (suc n) h =
 lines_short : (f : Edge → List ℕ) (b : ℕ) → ((e : Edge) → is_base_edge e ≡ true → length (f e) ≤ b) → (es : List Edge) → list_all is_base_edge es ≡ true → length (flat_map f es) ≤ length es * b
 lines_short f b h [] t = omega arith
 lines_short f b h (e ∷ es) t =
-    let s = split (is_base_edge e) (list_all is_base_edge es) t in
+    let s = and_parts (is_base_edge e) (list_all is_base_edge es) t in
     let first = h e s.0 in
     let rest = lines_short f b h es s.1 in
     let both = length-append (f e) (flat_map f es) in

@@ -1,5 +1,5 @@
 -- Values at the vertices of a graph, with 0 at all other numbers, so that each denominator can be cancelled.
-use Rattle.std.proofs.Common.{◌≡◌, ℕ, List, [], ◌∷◌, sym, refl, subst, inl, inr, cond}
+use Rattle.std.proofs.Common.{◌≡◌, ℕ, [], ◌∷◌, sym, subst, cond}
 use Rattle.std.specs.Prelude.{pos, map, ◌&&◌}
 use Rattle.std.proofs.lemmas.Bool.{cond_both, cond-true, and_parts, and_from, leb-true, le-leb}
 use Rattle.std.proofs.Math.Dec.{leb}
@@ -11,6 +11,7 @@ use Rattle.exact.specs.Ratio.{Ratio, Same, IsDenominator, ratio_plus, ratio_minu
 use Rattle.exact.specs.Values.{CanCancel}
 use Rattle.exact.proofs.CallerLemmas.{one_cancels, denominator_cancels}
 use Rattle.elimination.specs.Equations.{arc_gain, ratio_sum, IsAtMean}
+pub use Rattle.integers.proofs.lists.Pieces.{map_same}
 
 -- p at the vertices, and 0 elsewhere
 abbrev pub kept : Graph → (ℕ → Ratio) → ℕ → Ratio
@@ -28,11 +29,6 @@ same_from_kept m G p q u h s = subst (Same m (p u)) (kept_is G q u h) (subst (λ
 pub kept_cancels : (m : ℕ) (G : Graph) (p : ℕ → Ratio) → ((u : ℕ) → IsQuotientVertex G u → IsDenominator m (p u).den) → (u : ℕ) → CanCancel m (pos (kept G p u).den)
 kept_cancels m G p h u = cond_both (leb 1 u && leb u G.vertices) (p u) (whole (pos 0)) (λ (t : Ratio). CanCancel m (pos t.den))
     (λ e. let q = and_parts (leb 1 u) (leb u G.vertices) e in denominator_cancels (h u (leb-true 1 u q.0, leb-true u G.vertices q.1))) (λ e. one_cancels)
-
--- functions that agree on a list map it alike
-pub map_same : {X Y : Type 0} (f g : X → Y) (xs : List X) → ((x : X) → IsIn xs x → f x ≡ g x) → map f xs ≡ map g xs
-map_same f g [] h = refl
-map_same f g (x ∷ xs) h = λ i. h x (inl refl) i ∷ map_same f g xs (λ y k. h y (inr k)) i
 
 -- so the gains of the arcs stay
 gains_stay : (G : Graph) → IsGraph G → (c : ℕ) (p : ℕ → Ratio) (u : ℕ) → map (arc_gain (kept G p) c) (arcs_from G u) ≡ map (arc_gain p c) (arcs_from G u)

@@ -4,23 +4,14 @@ use Rattle.std.specs.Prelude.{ℤ, pos, ◌+ℤ◌, ◌-ℤ◌, ◌*ℤ◌}
 use mathlib.Core.Logic.{∥∥₁_elim}
 use Rattle.integers.proofs.numbers.Ring.{ring, linear, zero_or_not, zero_product}
 use Rattle.integers.proofs.numbers.Division.{divided}
-use Rattle.integers.proofs.numbers.Gcd.{natural_multiple}
 use Rattle.exact.specs.Ratio.{Ratio, Same}
 use Rattle.exact.specs.Values.{CanCancel}
-use Rattle.exact.proofs.CallerLemmas.{same_of, difference_multiple, class, same_from_class}
+use Rattle.exact.proofs.CallerLemmas.{same_of, difference_multiple, class, same_from_class, small_multiple}
 use Rattle.integers.specs.Divisors.{DividesInteger}
 
 -- 0 divides 0 alone
 by_zero : (z : ℤ) → DividesInteger 0 z ⊎ (¬ DividesInteger 0 z)
 by_zero z = ⊎_elim (λ (e : z ≡ pos 0). inl (pos 0, e)) (λ n. inr (λ d. n (d.1 ∙ zero_product d.0))) (zero_or_not z)
-
--- a number below m that m divides is 0
-below_divisor : (m r : ℕ) → r < m → DividesInteger m (pos r) → r ≡ 0
-below_divisor m r l d = by (natural_multiple m r d.0 d.1)
-  where
-    by : (k : ℕ) × (r ≡ m * k) → r ≡ 0
-    by (zero, e) = omega arith
-    by (suc k, e) = omega arith
 
 -- what is left by a division by m is a multiple where the number is
 left_multiple : (m r k d z : ℤ) → z ≡ r +ℤ m *ℤ k → z ≡ m *ℤ d → r ≡ m *ℤ (d -ℤ k)
@@ -36,7 +27,7 @@ divides_or_not (suc m) z = by (divided (suc m) (omega arith) z)
       where
         nothing_left : (x : ℤ) → pos 0 +ℤ x ≡ x
         nothing_left x = omega (arith, linear)
-    by (suc r, k, l, e) = inr (λ d. let z : suc r ≡ 0 = below_divisor (suc m) (suc r) l (_, left_multiple (pos (suc m)) (pos (suc r)) k d.0 z e d.1) in omega arith)
+    by (suc r, k, l, e) = inr (λ d. let z : suc r ≡ 0 = small_multiple (suc m) (suc r) l (_, left_multiple (pos (suc m)) (pos (suc r)) k d.0 z e d.1) in omega arith)
 
 -- so what is merely the same value is the same value
 pub same_of_mere : {m : ℕ} {a b : Ratio} → ∥ Same m a b ∥₁ → Same m a b

@@ -1,6 +1,6 @@
 -- Members of a list and lists without repetition, read place by place, as lemmas use them; contracts say `Contains` and
 -- `AllPairs` of std, and the bridges stand at the end.
-use Rattle.std.proofs.Common.{List, ◌≡◌, ◌≢◌, ◌⊎◌, ◌+ℤ◌, ◌<◌, [], ◌∷◌, ◌∙◌, ℤ, arith, sym, ap, inr, subst, inl, suc, length, zero, ℕ, get_or}
+use Rattle.std.proofs.Common.{refl, List, ◌≡◌, ◌≢◌, ◌⊎◌, ◌+ℤ◌, ◌<◌, [], ◌∷◌, ◌∙◌, ℤ, arith, sym, ap, inr, subst, inl, suc, length, zero, ℕ, get_or}
 use Rattle.std.proofs.lemmas.Int.{ints}
 use Rattle.std.specs.List.{Contains, AllPairs}
 use Rattle.std.proofs.lemmas.List.{get_or_default}
@@ -92,3 +92,23 @@ pairs_from_apart (x ∷ xs) h zero zero d a b = absurd (omega arith)
 pairs_from_apart (x ∷ xs) h zero (suc j) d a b = λ e. h.0 (in_from_contains xs x j (omega arith) (get_or_default xs j x d (omega arith) ∙ sym e))
 pairs_from_apart (x ∷ xs) h (suc i) zero d a b = absurd (omega arith)
 pairs_from_apart (x ∷ xs) h (suc i) (suc j) d a b = pairs_from_apart xs h.1 i j d (omega arith) (omega arith)
+
+-- the first member of a list, or one of the others
+pub first_or_other : {X : Type 0} (x : X) (xs : List X) (y : X) → Contains (x ∷ xs) y → (x ≡ y) ⊎ Contains xs y
+first_or_other {X} x xs y h = by (is_in (x ∷ xs) y h)
+  where
+    by : IsIn (x ∷ xs) y → (x ≡ y) ⊎ Contains xs y
+    by (inl e) = inl e
+    by (inr i) = inr (contains_from_in xs y i)
+
+-- the first member is a member
+pub first_in : {X : Type 0} (x : X) (xs : List X) → Contains (x ∷ xs) x
+first_in x xs = contains_from_in (x ∷ xs) x (inl refl)
+
+-- and so is each of the others
+pub other_in : {X : Type 0} (x : X) (xs : List X) (y : X) → Contains xs y → Contains (x ∷ xs) y
+other_in x xs y h = contains_from_in (x ∷ xs) y (inr (is_in xs y h))
+
+-- nothing is a member of no list
+pub none_in : {X : Type 0} (y : X) → Contains [] y → ⊥
+none_in y h = absurd (is_in [] y h)

@@ -77,7 +77,7 @@ lowest_terms (negsuc m) (negsuc n) some =
     negated (pos (suc m)) (negsuc n) (turned (negsuc n) (pos (suc m)) (negated (pos (suc n)) (pos (suc m)) (of_naturals (suc n) (suc m) (omega arith))))
 
 -- no vector and its opposite both start positive
-not_both : (v : Vector) → StartsPositive v → StartsPositive (opposite v) → ⊥
+pub not_both : (v : Vector) → StartsPositive v → StartsPositive (opposite v) → ⊥
 not_both v h k = by (start_of v h) (start_of (opposite v) k)
   where
     by : Start v → Start (opposite v) → ⊥

@@ -10,7 +10,7 @@ use Rattle.integers.proofs.vectors.FewVectors.{zero_or_other}
 use Rattle.integers.proofs.vectors.Laws.{vector_equal, minus_dimension, times_dimension, equal_of_minus}
 use Rattle.periodic_net.specs.Graph.{Graph, IsGraph, IsQuotientVertex}
 use Rattle.periodic_net.specs.Split.{AreAlike, Split, entry, ClosedShift, IsFound, IsOrthogonal, IsPartSplit, IsFlatSplit, IsPivot, IsSparseSplit, EndsBy}
-use Rattle.periodic_net.proofs.CallerLemmas.{crossed, dot_difference, ends_at_one, ends_at_zero, no_part, not_zero}
+use Rattle.periodic_net.proofs.CallerLemmas.{crossed, dot_difference, ends_at_one, ends_at_zero, no_part, not_zero, equal_if_not_unequal}
 use Rattle.integers.proofs.vectors.CoprimeLines.{one_direction}
 
 -- entries that agree at each vertex are one list
@@ -22,14 +22,6 @@ same_entries n h k a b same = ext_get_or (pos 0) h k (a ∙ sym b) (λ i l. by i
         let place : i + 1 - 1 ≡ i = omega arith in
         subst (λ j. get_or h j (pos 0) ≡ get_or k j (pos 0)) place (same (i + 1) (omega arith) (omega (arith, l)))
 
--- numbers that are not unequal are equal
-decided : (x y : ℤ) → (x ≢ y → ⊥) → x ≡ y
-decided x y n = by (zero_or_not (x -ℤ y))
-  where
-    by : (x -ℤ y ≡ pos 0) ⊎ (x -ℤ y ≢ pos 0) → x ≡ y
-    by (inl e) = omega (arith, linear, e)
-    by (inr m) = absurd (n (λ e. m (omega (arith, linear, e))))
-
 same_split : (S T : Split) → S.q ≡ T.q → S.c ≡ T.c → S.h ≡ T.h → S ≡ T
 same_split S T q c h = λ i. record { q = q i; c = c i; h = h i }
 
@@ -39,7 +31,7 @@ module _ (G : Graph) (S T : Split) where
   one_part_split a b = same_split S T (a.q ∙ sym b.q) (a.c ∙ sym b.c) (same_entries G.vertices S.h T.h a.count b.count at)
     where
       at : (u : ℕ) → 1 ≤ u → u ≤ G.vertices → entry S.h u ≡ entry T.h u
-      at u low high = decided (entry S.h u) (entry T.h u) (λ other.
+      at u low high = equal_if_not_unequal (entry S.h u) (entry T.h u) (λ other.
           let i : IsQuotientVertex G u = (low, high) in
           let none : ¬ IsFound G 1 u = λ f. other (a.found u i f ∙ sym (b.found u i f)) in
           other (a.elsewhere u i none ∙ sym (b.elsewhere u i none)))

@@ -37,7 +37,7 @@ iso_transitive G H K e f = record {
 }
 
 -- each net is isomorphic to itself
-pub iso_reflexive : (G : Graph) → Iso G G
+abbrev pub iso_reflexive : (G : Graph) → Iso G G
 iso_reflexive G = record {
   dimension = refl;
   there = λ w. w;

@@ -1,30 +1,21 @@
 -- No arc of a graph stands twice in its list.
-use Rattle.std.specs.declared.cmp.Ordering.TheVariants.{Greater, Less}
-use Rattle.std.specs.Ordering.{ordering_reverse}
 use Rattle.std.proofs.Common.{◌*◌, length, refl, arith, sym, ap, ◌≡◌, ◌⊎◌, ◌==◌, [], ◌∷◌, ◌∙◌, inr, inl, List, subst, ℕ, eq-eqb}
 use Rattle.std.proofs.Math.IntN.{neg_ℤ-neg_ℤ}
 use Rattle.std.specs.List.{AllByRecursion}
 use Rattle.std.proofs.lemmas.List.Elements.{recursion_from_All}
 use Rattle.std.proofs.lemmas.Bool.{eqb-true}
-use Rattle.integers.specs.Vectors.{Vector, StartsPositive, opposite, vector}
+use Rattle.integers.specs.Vectors.{vector}
 use Rattle.periodic_net.specs.Graph.{IsNormalSpelling, Arc, reverse_of, arc, both_ways, IsEdge, Graph, IsGraph, arcs, arcs_from, IsArc}
 use Rattle.integers.proofs.lists.Members.{contains_from_in, is_in, IsIn, AreApart, apart_from_pairs}
 use Rattle.integers.proofs.lists.Filters.{all_in, filter_apart, in_filter, filter_in}
-use Rattle.integers.proofs.vectors.Opposites.{opposite_cmp}
-
--- not both a vector and its opposite start positive
-one_way : (s : Vector) → StartsPositive s → StartsPositive (opposite s) → ⊥
-one_way s h k = less_greater (sym k ∙ opposite_cmp s ∙ ap ordering_reverse h)
-  where
-    less_greater : Less ≡ Greater → ⊥
-    less_greater f = cc
+use Rattle.integers.proofs.vectors.CoprimeLines.{not_both}
 
 -- an edge has one normal spelling
 pub one_spelling : (e : Arc) → IsNormalSpelling e → IsNormalSpelling (reverse_of e) → ⊥
 one_spelling e (inl h) (inl k) = omega arith
 one_spelling e (inl h) (inr k) = let q = k.0 in omega arith
 one_spelling e (inr h) (inl k) = let q = h.0 in omega arith
-one_spelling e (inr h) (inr k) = one_way e.shift h.1 k.1
+one_spelling e (inr h) (inr k) = not_both e.shift h.1 k.1
 
 -- an arc turned twice is the arc
 pub reverse_twice : (a : Arc) → reverse_of (reverse_of a) ≡ a

@@ -1,3 +1,4 @@
+-- Of `are_stars_balanced`: the loop over `u`; the clauses `within` and `balanced`.
 use Rattle.std.proofs.Common.{◌≡◌, ℕ, ◌+◌, ◌-◌, ◌<◌, arith, map, refl, below_more}
 use Rattle.std.proofs.lemmas.Int.{to_z-of_z}
 use Rattle.integers.specs.Vectors.{zero_vector, vector_sum}

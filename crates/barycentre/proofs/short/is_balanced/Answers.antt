@@ -1,3 +1,4 @@
+-- Of `is_balanced`: the loop over `arc`; the clauses `within` and `balanced`; what `of_triple` and `plus` require.
 use Rattle.std.proofs.Common.{◌≡◌, ◌∙◌, ◌+◌, ◌*◌, ◌^◌, arith, sym, subst, refl}
 use Rattle.std.proofs.lemmas.Int.{to_z-of_z}
 use Rattle.integers.specs.Vectors.{IsWithin}

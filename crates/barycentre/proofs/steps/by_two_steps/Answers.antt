@@ -1,3 +1,4 @@
+-- Of `by_two_steps`: the clause `none`; what `left_rows` and `tested` require.
 use Rattle.std.proofs.Common.{lit<, ◌≡◌, ◌∙◌, ◌<◌, ◌≤◌, ℕ, List, length, map, subst, Option, Some, None, Result, Ok, Err, IfOk, MatchOption}
 use Rattle.std.specs.Prelude.{⊤}
 use Rattle.std.proofs.lemmas.List.{length-map}

@@ -1,3 +1,4 @@
+-- Of `units_in_limits`: the clauses `fault` and `units`; what `common_denominator`, `rows_in_units` and `check_arcs` require.
 use Rattle.std.proofs.Common.{arith, lit<, ◌≡◌, ◌⊎◌, ◌∙◌, sym, subst, length, unsigned_abs}
 use Rattle.std.proofs.lemmas.Int.{to_z-of_z}
 use Rattle.std.proofs.lemmas.Result.{err_from_is_err_and}

@@ -1,3 +1,4 @@
+-- Of `blocks`: the loop over `line`; the clause `only`.
 use Rattle.std.proofs.Common.{◌∙◌, ◌++◌, List, false, sym, ap, subst, length, arith}
 use Rattle.std.specs.List.{All}
 use Rattle.std.proofs.lemmas.List.Elements.{All-nil}

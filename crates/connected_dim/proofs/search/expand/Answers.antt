@@ -1,3 +1,4 @@
+-- Of `expand`: the loop over `arc`; what it ensures; what `plus` and `find` require.
 use Rattle.std.proofs.Common.{◌+◌, ◌∷◌, ◌-◌, ◌*◌, ◌^◌, ◌≤◌, length, lit<, arith, subst, sym, ap, ◌∙◌}
 use Rattle.integers.proofs.lists.More.{drop_all}
 use Rattle.integers.proofs.vectors.Bounds.{wider}

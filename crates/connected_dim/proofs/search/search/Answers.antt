@@ -1,3 +1,4 @@
+-- Of `search`: the loop over `i`; what it ensures; what `walk_at` and `expand` require.
 use Rattle.std.proofs.Common.{◌≡◌, ◌<◌, length, slice_index_or, Some, lit<, arith, subst, sym, ap, ◌∙◌}
 use Rattle.periodic_net.specs.Graph.{IsQuotientVertex}
 use Rattle.connected_dim.specs.Search.{walk_to, Expands}

@@ -1,5 +1,6 @@
-use Rattle.std.proofs.Common.{◌≤◌, List, ℕ, subst, sym, ◌∙◌, lit<}
+use Rattle.std.proofs.Common.{◌≤◌, List, ℕ, ap, subst, sym, ◌∙◌, lit<}
 use Rattle.std.specs.Prelude.{Option, IfSome}
+use Rattle.periodic_net.specs.Classes.{ClassGraph}
 use Rattle.periodic_net.specs.Limits.{most_vertices}
 use Rattle.coordination.specs.BoxSearches.{AreListsOf}
 use Rattle.coordination.proofs.classes.KindLists.{shell_kinds}
@@ -9,8 +10,8 @@ use Rattle.coordination.proofs.all_classes.sequences.Goals as goal
 pub box_sequences-requires : goal.box_sequences-requires
 box_sequences-requires g c =
     let count = same_count c.args.classes.now c.args.cell.now c.net.ensures.is_graph c.requires.cell c.net.ensures.classes in
-    let classes = c.count.ensures.count ∙ (λ i. (c.net.ensures.net i).count) in
-    let few = subst (λ n. n ≤ most_vertices) (classes ∙ sym count) c.count.ensures.few in
+    let classes = ap (λ (K : ClassGraph). K.count) c.net.ensures.net in
+    let few = subst (λ n. n ≤ most_vertices) (classes ∙ sym count) c.recall.ensures.small.few in
     let kinds = shell_kinds c.args.classes.now c.args.cell.now c.net.ensures.is_graph c.requires.cell c.net.ensures.classes c.args.kinds.now c.requires.kinds in
     (lit< tt, ((cell_divides c.args.classes.now c.args.cell.now c.net.ensures.is_graph c.requires.cell).is_graph, (few, kinds)))
 
@@ -23,5 +24,5 @@ pub returns-in-Some-clause-few : goal.returns-in-Some-clause-few
 returns-in-Some-clause-few g c =
     let lists = subst (λ (o : Option (List (List ℕ))). IfSome o (AreListsOf c.args.cell.now.graph)) c.in-Some.is c.in_ok-lists.ensures in
     let count = same_count c.args.classes.now c.args.cell.now c.net.ensures.is_graph c.requires.cell c.net.ensures.classes in
-    let classes = c.count.ensures.count ∙ (λ i. (c.net.ensures.net i).count) in
-    subst (λ n. n ≤ most_vertices) (classes ∙ sym count ∙ sym lists.count) c.count.ensures.few
+    let classes = ap (λ (K : ClassGraph). K.count) c.net.ensures.net in
+    subst (λ n. n ≤ most_vertices) (classes ∙ sym count ∙ sym lists.count) c.recall.ensures.small.few

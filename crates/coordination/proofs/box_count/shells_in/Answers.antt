@@ -1,3 +1,4 @@
+-- Of `shells_in`: the loop over `k`; the clauses `sizes` and `marked`; what `next_shell` requires; that numbers fit.
 use Rattle.std.proofs.Common.{◌≡◌, ◌+◌, ◌-◌, ◌<◌, ◌≤◌, length, refl, sym, ap, subst, arith}
 use Rattle.coordination.specs.Sequences.{most_in_shells}
 use Rattle.coordination.proofs.boxes.BoxCounting.{IsCountedIn, counting_past, counting_starts, counting_ten, counting_turn, next_counted, searchable}

@@ -1,3 +1,4 @@
+-- Of `next_shell`: the loop over `i`; what it ensures; what `at` and `follow` require; that numbers fit.
 use Rattle.std.proofs.Common.{◌≡◌, ◌+◌, ◌-◌, ◌<◌, ◌≤◌, length, subst, arith}
 use Rattle.coordination.specs.declared.spot.Spot.{Spot}
 use Rattle.coordination.proofs.boxes.BoxTurns.{as_many, found_since, next_at, next_lands, searching_starts, searching_on, searching_ends, searching_stops, star_within}

@@ -1,3 +1,4 @@
+-- Of `shells`: the loop over `k`; what it ensures; what `next_shell` requires.
 use Rattle.std.proofs.Common.{◌≡◌, ◌+◌, ◌<◌, ◌≤◌, length, subst, sym, lit<, arith}
 use Rattle.periodic_net.specs.Classes.{ClassGraph}
 use Rattle.periodic_net.specs.Correspondence.{IsClass}
@@ -16,7 +17,7 @@ next_shell-requires g c =
     let count = c.loop-k.invariant.count in
     let fewer : length c.loop-k.sizes.items < 10 = omega arith in
     let inside = subst (λ (L : ClassGraph). IsClass L c.args.class) (sym c.net-net.ensures.net) c.requires.class in
-    let r = ready K c.args.class c.loop-k.sizes.items c.loop-k.room c.loop-k.found.keys c.loop-k.shell.items c.deref.result.now c.count.ensures.small inside c.loop-k.invariant.counted fewer c.deref.ensures.value in
+    let r = ready K c.args.class c.loop-k.sizes.items c.loop-k.room c.loop-k.found.keys c.loop-k.shell.items c.deref.result.now c.recall.ensures.small inside c.loop-k.invariant.counted fewer c.deref.ensures.value in
     (lit< tt, (r.classes, (r.near, r.once)))
 
 pub returns-then-len-room : goal.returns-then-len-room

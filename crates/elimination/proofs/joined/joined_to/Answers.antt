@@ -1,3 +1,4 @@
+-- Of `joined_to`: the loop over `i`; the clauses `below` and `values`.
 use Rattle.std.proofs.Common.{rules, ◌≡◌, ◌+◌, ◌-◌, ◌<◌, ◌∙◌, get_or, arith, ap, subst}
 use Rattle.std.specs.Global.{Vec}
 use Rattle.std.specs.List.{All}

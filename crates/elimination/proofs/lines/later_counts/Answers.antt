@@ -1,3 +1,4 @@
+-- Of `later_counts`: the loop over `arc`; what it ensures.
 use Rattle.std.proofs.Common.{rules, ◌≡◌, ◌+◌, ◌-◌, ◌≤◌, ◌<◌, FitsSigned, pos, get_or, length, arith, ap, sym, subst, ◌∙◌}
 use Rattle.std.specs.Int.{w32}
 use Rattle.std.proofs.lemmas.Int.{to_z-of_z}

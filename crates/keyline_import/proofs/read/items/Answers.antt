@@ -1,3 +1,4 @@
+-- Of `items`: the loop over `head`; the clauses `only` and `few`.
 use Rattle.std.proofs.Common.{◌∙◌, ◌++◌, ◌∷◌, ◌≤◌, [], List, false, sym, ap, subst, length, arith, rules}
 use Rattle.std.proofs.lemmas.Grind.{common_steps}
 use Rattle.std.proofs.lemmas.List.{length-append}

@@ -1,3 +1,4 @@
+-- Of `add_all`: the loop over `block`; the clauses `fault` and `added`; what `add_block` requires; that numbers fit.
 use Rattle.std.proofs.Common.{◌≡◌, length, arith}
 use Rattle.std.proofs.lemmas.List.{length-map, length_push}
 use Rattle.std.proofs.lemmas.Slice.Zip.{zip_turn, zip_end}
@@ -11,7 +12,7 @@ use Rattle.net_answers.proofs.adding.add_all.Goals as goal
 use Rattle.net_answers.proofs.adding.add_all.Goals.{in-Some-net_told+in_default-add_block, in_default}
 
 pub loop-block-init : goal.loop-block-init
-loop-block-init c = added_first _ _ c.args.archive.now c.entries.ensures.archive
+loop-block-init c = added_first _ _ c.args.archive.now c.recall.ensures
 
 pub returns-in-Err-clause-fault : goal.returns-in-Err-clause-fault
 returns-in-Err-clause-fault c = λ told.

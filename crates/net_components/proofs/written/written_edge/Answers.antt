@@ -1,3 +1,4 @@
+-- Of `written_edge`: the clause `wide`; what `shift_in` and `number_of` require.
 use Rattle.std.proofs.Common.{◌≤◌, ℕ, List, length, Contains, lit<, sym, ap, subst, ◌∙◌}
 use Rattle.std.specs.Int.{w128}
 use Rattle.std.proofs.lemmas.Int.{to_z-of_z}

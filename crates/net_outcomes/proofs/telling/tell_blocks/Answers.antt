@@ -17,4 +17,4 @@ loop-block-preserved c =
 pub returns : goal.returns
 returns c =
     told_whole c.args.archive.now.entries c.args.command c.args.found.now c.loop-block.block-index c.loop-block.number c.loop-block.all_accepted c.loop-block.text.items c.loop-block-test.false c.loop-block.invariant
-    c.entries.ensures.archive.each c.requires.graphs
+    c.recall.ensures.each c.requires.graphs

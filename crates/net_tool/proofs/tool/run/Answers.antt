@@ -1,3 +1,4 @@
+-- Of `run`: the clauses `broken`, `answer`, `headline`, `complete` and `sure`.
 use Rattle.std.proofs.Common.{rules, ◌≡◌, [], Some, Option, subst}
 use Rattle.command_words.specs.Tasks.{Task, task_of}
 use Rattle.command_words.specs.Views.{task_view}

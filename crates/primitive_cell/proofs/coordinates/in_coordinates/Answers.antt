@@ -1,3 +1,4 @@
+-- Of `in_coordinates`: the loop over `c`; what it ensures; what `arcs_in` and `from_parts` require.
 use Rattle.std.proofs.Common.{◌≡◌, ◌⊎◌, ◌∙◌, sym, ap, subst, ℕ, ◌+◌, ◌≤◌, lit<, arith, map, List, [], ◌∷◌}
 use Rattle.std.proofs.lemmas.List.{map-append}
 use Rattle.periodic_net.specs.Classes.{ClassGraph, ClassArc}
@@ -43,7 +44,7 @@ from_parts-requires g c =
     let known = c.count-count.ensures in
     let stars = map (λ s. s.items) c.loop-c.stars.items in
     let written = last_written g.row.D c.lattice_of-lattice.result K c.loop-c.c c.count-count.result stars known.count c.loop-c-test.false (c.loop-c.auto.c-end (omega arith)) c.loop-c.invariant in
-    (lit< tt, (lit< tt, is_net_in_memory g.row.D c.lattice_of-lattice.result c.rows.ensures.stair K known.small known.stars known.dimension stars written))
+    (lit< tt, (lit< tt, is_net_in_memory g.row.D c.lattice_of-lattice.result c.recall.ensures.stair K known.small known.stars known.dimension stars written))
 
 pub returns : goal.returns
 returns g c =
@@ -51,6 +52,6 @@ returns g c =
     let known = c.count-count.ensures in
     let stars = map (λ s. s.items) c.loop-c.stars.items in
     let written = last_written g.row.D c.lattice_of-lattice.result K c.loop-c.c c.count-count.result stars known.count c.loop-c-test.false (c.loop-c.auto.c-end (omega arith)) c.loop-c.invariant in
-    let same = are_coordinates g.row.D c.lattice_of-lattice.result c.rows.ensures.stair K known.small known.stars known.dimension stars written in
+    let same = are_coordinates g.row.D c.lattice_of-lattice.result c.recall.ensures.stair K known.small known.stars known.dimension stars written in
     subst (λ (M : ClassGraph). AreCoordinates M c.args.classes.now.classes) (sym c.from_parts.ensures)
     (subst (AreCoordinates _) c.net-net.ensures.net same)

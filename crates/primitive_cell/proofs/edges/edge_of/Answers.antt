@@ -1,3 +1,4 @@
+-- Of `edge_of`: what it ensures; what `position_of`, `move_between` and `coordinates` require.
 use Rattle.std.proofs.Common.{rules, ◌≡◌, lit<, sym, ap, subst}
 use Rattle.integers.specs.Vectors.{IsWithin}
 use Rattle.periodic_net.specs.Classes.{ClassArc}
@@ -24,7 +25,7 @@ position_of-to-requires g c =
 
 pub move_between-v-requires : goal.move_between-v-requires
 move_between-v-requires g c =
-    let small = subst IsSmallNet c.net.ensures.net c.count.ensures.small in
+    let small = subst IsSmallNet c.net.ensures.net c.recall.ensures.small in
     let within = subst (IsWithin most_coordinate) (sym (ap (λ (b : ClassArc). b.vector) c.arc.view_is)) (small.within c.args.arc.now c.requires.arc) in
     (lit< tt, (within, (c.position_of-from.ensures.small, c.position_of-to.ensures.small)))
 

@@ -1,3 +1,4 @@
+-- Of `push_edges`: the loop over `arc`; what it ensures; what `edge_of` requires.
 use Rattle.std.proofs.Common.{◌≡◌, ◌+◌, Bool, true, false, List, lit<, sym, subst, Vec, Global}
 use Rattle.periodic_net.specs.Graph.{Arc, IsNormalSpelling}
 use Rattle.vecdim.specs.Stairs.{rows_of}

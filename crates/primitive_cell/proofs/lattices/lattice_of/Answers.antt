@@ -1,10 +1,8 @@
 use Rattle.std.proofs.Common.{◌≡◌, ◌∙◌, pos, sym, ap, subst, FitsSigned, to_z, of_z, refl}
 use Rattle.std.specs.Int.{w128}
 use Rattle.std.proofs.lemmas.Int.{to_z-of_z}
-use Rattle.integers.specs.Staircase.{IsStaircase}
 use Rattle.periodic_net.specs.Graph.{Graph}
 use Rattle.quotient_graph.specs.PlacedNets.{PlacedNet}
-use Rattle.vecdim.specs.Lattices.{Members}
 use Rattle.primitive_cell.proofs.TranslationStairs.{lattice_made}
 use Rattle.primitive_cell.proofs.lattices.lattice_of.Goals as goal
 
@@ -18,5 +16,4 @@ returns g c =
     let z = q ∙ c.d0.ensures.value ∙ ap (λ (n : PlacedNet). pos n.placement.denominator) c.placed.ensures.placed in
     let dim = sym (ap (λ (h : Graph). h.dimension) k.graph) ∙ c.recall.ensures.parameter in
     let T = c.insert_all.new.self in
-    let basis = subst (IsStaircase (Members d T) d) c.rows.ensures.rows c.rows.ensures.basis in
-    lattice_made c.args.net.now k.is_graph k.stable c.args.translations.now c.requires c.from_bound-stairs.result T d (to_z w128 (of_z w128 d0)) dim z c.from_bound-stairs.ensures c.insert_all.ensures basis
+    lattice_made c.args.net.now k.is_graph k.stable c.args.translations.now c.requires c.from_bound-stairs.result T d (to_z w128 (of_z w128 d0)) dim z c.from_bound-stairs.ensures c.insert_all.ensures c.recall-2.ensures.basis

@@ -1,3 +1,4 @@
+-- Of `turn_of`: the clause `turn`; what `end_of`, `head_of` and `turn_between` require.
 use Rattle.std.proofs.Common.{◌-◌, lit<, sym, subst, ap, ◌∙◌, arith}
 use Rattle.integers.specs.Bases.{base_sum}
 use Rattle.integers.specs.Vectors.{HasDimension}

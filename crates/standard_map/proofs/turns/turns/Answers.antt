@@ -1,3 +1,4 @@
+-- Of `turns`: the loop over `edge`; what it ensures; what `turn_of` requires.
 use Rattle.std.proofs.Common.{◌+◌, ◌∷◌, [], lit<, length, sym, subst, ap, ◌∙◌, arith, length-append}
 use Rattle.std.specs.List.{All, Contains}
 use Rattle.periodic_net.specs.Graph.{Graph}
@@ -16,7 +17,7 @@ turn_of-requires g c =
     let G = c.args.here.now.net.graph in
     let item = c.edge-item.result in
     let same = c.edges-edges.ensures.edges ∙ ap (λ (H : Graph). H.edges) c.graph-graph.ensures in
-    let small = subst IsSmall c.graph-graph.ensures c.vertices.ensures.small in
+    let small = subst IsSmall c.graph-graph.ensures c.recall.ensures.small in
     let in_row : Contains c.edges-edges.result.now item = (c.loop-edge.edge-index, c.loop-edge-test.true, sym c.edge-item.is) in
     let from = edge_from G c.requires.one_key.one_list.here small item (subst (λ row. Contains row item) same in_row) in
     (lit< tt, (lit< tt, (lit< tt, (lit< tt, (lit< tt, (c.requires.one_key, (c.requires.ends, from)))))))
@@ -50,5 +51,5 @@ returns g c =
     let same = c.edges-edges.ensures.edges ∙ ap (λ (H : Graph). H.edges) c.graph-graph.ensures in
     let all : AreOfEdges c.edges-edges.result.now es ts = λ j a t l. (omega (arith, l, end, count), i.of_edges j a t (omega (arith, l, end))) in
     let full = edges_full G k.here.shape.stable.connected c.args.here.now.origin k.same_here.origin.is_vertex es ts (subst (λ row. AreOfEdges row es ts) same all) in
-    let dimension = ap (λ (H : Graph). H.dimension) (sym c.graph-graph.ensures) ∙ c.vertices.ensures.parameter in
+    let dimension = ap (λ (H : Graph). H.dimension) (sym c.graph-graph.ensures) ∙ c.recall.ensures.parameter in
     record { each = i.each; full = subst (λ d. AreFull d ts) dimension full }

@@ -1,7 +1,6 @@
-use Rattle.std.proofs.Common.{◌≡◌, ◌∙◌, ℤ, List, FitsSigned, to_z, of_z, pos, refl, sym, subst}
+use Rattle.std.proofs.Common.{◌≡◌, ◌∙◌, ℤ, FitsSigned, to_z, of_z, pos, refl, sym, subst}
 use Rattle.std.specs.Int.{w128}
 use Rattle.std.proofs.lemmas.Int.{to_z-of_z}
-use Rattle.integers.specs.Staircase.{IsStaircase}
 use Rattle.integers.specs.Vectors.{Vector, zero_vector}
 use Rattle.integers.proofs.lists.Members.{IsIn}
 use Rattle.integers.proofs.vectors.Laws.{times_zero}
@@ -23,5 +22,4 @@ returns g c =
     let m = subst (λ (z : ℤ). AreMultiples d z (Members d S)) e c.from_bound-lattice.ensures in
     let zero : Members d S zero_vector = (m zero_vector (λ _. refl)).1 (zero_vector, sym (times_zero (pos c.args.index))) in
     let flat : (v : Vector) → IsIn rows v → d ≡ 2 → v.z ≡ pos 0 = λ v i. (with_has (Members d S) (Members d T) rows c.insert_all.ensures zero v i).1 in
-    made_sublattice d rows c.args.index S T c.requires.dimension c.requires.count flat c.requires.index c.requires.from m c.insert_all.ensures c.rows.ensures.stair
-    (subst (λ (vs : List Vector). IsStaircase (Members d T) d vs) c.rows.ensures.rows c.rows.ensures.basis)
+    made_sublattice d rows c.args.index S T c.requires.dimension c.requires.count flat c.requires.index c.requires.from m c.insert_all.ensures c.recall.ensures.stair c.recall.ensures.basis

@@ -1,3 +1,4 @@
+-- Of `insert_rows`: what it ensures; what `column` and `less_times` require.
 use Rattle.std.proofs.Common.{rules, arith, FitsSigned}
 use Rattle.std.specs.Int.{w128}
 use Rattle.std.proofs.lemmas.Int.{ints, to_z-of_z}

@@ -1,3 +1,4 @@
+-- Of `from_bound`: what it ensures; what `with_list` requires.
 use Rattle.std.proofs.Common.{arith, subst, sym}
 use Rattle.std.proofs.lemmas.Int.{to_z-of_z}
 use Rattle.vecdim.proofs.Starting.{start_one, start_same, flat_start, positive, flat_multiples, start_multiples}
