@@ -1,5 +1,6 @@
 -- What stands at the places of a number in a list of fingerprints.
-use Rattle.std.proofs.Common.{◌≡◌, ℕ, suc, ◌+◌, ◌==◌, ◌<◌, ◌||◌, Bool, true, false, cond, List, [], ◌∷◌, length, map, filter, slice_get, Option, Some, true≢false, refl, ap, sym, ◌∙◌, arith}
+use Rattle.std.proofs.Common.{◌≡◌, ℕ, suc, ◌+◌, ◌==◌, ◌<◌, ◌||◌, Bool, true, false, cond, List, [], ◌∷◌, length, map, filter, slice_get, Option, Some}
+use Rattle.std.proofs.Common.{true≢false, refl, ap, sym, ◌∙◌, arith}
 use Rattle.std.specs.List.{cons_option, enumerate_from, filter_map, list_any}
 use Rattle.archive_text.specs.Places.{places_of}
 
@@ -15,7 +16,8 @@ module _ {X : Type 0} (f : X → ℕ) (x : ℕ) where
     where
       by : (b : Bool) → at n ≡ Some e
           → filter_map at (map (λ (p : ℕ × ℕ). p.0) (filter (λ (p : ℕ × ℕ). p.1 == x) (enumerate_from (n + 1) (map f es)))) ≡ filter (λ e. f e == x) es
-          → filter_map at (map (λ (p : ℕ × ℕ). p.0) (cond b ((n, f e) ∷ filter (λ (p : ℕ × ℕ). p.1 == x) (enumerate_from (n + 1) (map f es))) (filter (λ (p : ℕ × ℕ). p.1 == x) (enumerate_from (n + 1) (map f es))))) ≡ cond b (e ∷ filter (λ e. f e == x) es) (filter (λ e. f e == x) es)
+          → filter_map at (map (λ (p : ℕ × ℕ). p.0) (cond b ((n, f e) ∷ filter (λ (p : ℕ × ℕ). p.1 == x) (enumerate_from (n + 1) (map f es)))
+          (filter (λ (p : ℕ × ℕ). p.1 == x) (enumerate_from (n + 1) (map f es))))) ≡ cond b (e ∷ filter (λ e. f e == x) es) (filter (λ e. f e == x) es)
       by true first rest = λ i. cons_option (first i) (rest i)
       by false first rest = rest
 

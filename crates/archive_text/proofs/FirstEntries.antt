@@ -1,5 +1,5 @@
 -- The first entry of a list of rows.
-use Rattle.std.proofs.Common.{◌≡◌, ℕ, ℤ, ◌+◌, List, [], ◌∷◌, ◌++◌, length, map, refl, sym, ap, ◌∙◌, arith}
+use Rattle.std.proofs.Common.{◌≡◌, ℕ, ℤ, ◌+◌, List, [], ◌∷◌, ◌++◌, map, refl, sym, ap, ◌∙◌}
 use mathlib.Core.List.{append_assoc}
 use Rattle.std.specs.List.{flat_map}
 use Rattle.std.proofs.lemmas.List.{append-nil}
@@ -8,7 +8,6 @@ use Rattle.quotient_graph.specs.Stars.{graph_with}
 use Rattle.archive_text.specs.Entries.{EntryView}
 use Rattle.graph_rows.specs.declared.size.GraphSize.{GraphSize}
 use Rattle.archive_text.specs.declared.version.Version.{Version}
-use Rattle.archive_text.specs.declared.version.Version.TheVariants.{One, Two}
 use Rattle.archive_text.specs.Rows.{Row, OfName, OfSize, OfEdge, OfKey, OfCount, OfShells, OfEnd}
 use Rattle.archive_text.specs.Parts.{Part, Start, Named, Drawn, Keyed, Counted, part_rows, shells_rows}
 use Rattle.archive_text.specs.Texts.{whole_part, entry_rows}
@@ -41,20 +40,24 @@ cut_from p (OfKey key ∷ rs) = cut_from (part_with p (OfKey key)) rs
 cut_from p (OfCount n ∷ rs) = cut_from (part_with p (OfCount n)) rs
 cut_from p (OfShells c sizes ∷ rs) = cut_from (part_with p (OfShells c sizes)) rs
 
-edges_cut : (name : List ℕ) (s : GraphSize) (done more : List Arc) (rs : List Row) → cut_from (Drawn name s done) (map (OfEdge s.dim) more ++ rs) ≡ cut_from (Drawn name s (done ++ more)) rs
+edges_cut : (name : List ℕ) (s : GraphSize) (done more : List Arc) (rs : List Row)
+    → cut_from (Drawn name s done) (map (OfEdge s.dim) more ++ rs) ≡ cut_from (Drawn name s (done ++ more)) rs
 edges_cut name s done [] rs = ap (λ l. cut_from (Drawn name s l) rs) (sym (append-nil done))
 edges_cut name s done (e ∷ es) rs = edges_cut name s (done ++ e ∷ []) es rs ∙ ap (λ l. cut_from (Drawn name s l) rs) (append_assoc done (e ∷ []) es)
 
-shells_cut : (name : List ℕ) (s : GraphSize) (edges : List Arc) (key : List ℤ) (n c : ℕ) (done more : List (List ℕ)) (rs : List Row) → cut_from (Counted name s edges key n done) (shells_rows c more ++ rs) ≡ cut_from (Counted name s edges key n (done ++ more)) rs
+shells_cut : (name : List ℕ) (s : GraphSize) (edges : List Arc) (key : List ℤ) (n c : ℕ) (done more : List (List ℕ)) (rs : List Row)
+    → cut_from (Counted name s edges key n done) (shells_rows c more ++ rs) ≡ cut_from (Counted name s edges key n (done ++ more)) rs
 shells_cut name s edges key n c done [] rs = ap (λ l. cut_from (Counted name s edges key n l) rs) (sym (append-nil done))
-shells_cut name s edges key n c done (x ∷ xs) rs = shells_cut name s edges key n (c + 1) (done ++ x ∷ []) xs rs ∙ ap (λ l. cut_from (Counted name s edges key n l) rs) (append_assoc done (x ∷ []) xs)
+shells_cut name s edges key n c done (x ∷ xs) rs = shells_cut name s edges key n (c + 1) (done ++ x ∷ []) xs rs
+    ∙ ap (λ l. cut_from (Counted name s edges key n l) rs) (append_assoc done (x ∷ []) xs)
 
 -- the rows of a part say that part
 pub part_cut : (p : Part) (rs : List Row) → cut_from Start (part_rows p ++ rs) ≡ cut_from p rs
 part_cut Start rs = refl
 part_cut (Named name) rs = refl
 part_cut (Drawn name s edges) rs = edges_cut name s [] edges rs
-part_cut (Keyed name s edges key) rs = ap (cut_from (Drawn name s [])) (append_assoc (map (OfEdge s.dim) edges) (OfKey key ∷ []) rs) ∙ edges_cut name s [] edges (OfKey key ∷ rs)
+part_cut (Keyed name s edges key) rs = ap (cut_from (Drawn name s [])) (append_assoc (map (OfEdge s.dim) edges) (OfKey key ∷ []) rs)
+    ∙ edges_cut name s [] edges (OfKey key ∷ rs)
 part_cut (Counted name s edges key n lists) rs =
     ap (cut_from (Drawn name s [])) (append_assoc (map (OfEdge s.dim) edges) (OfKey key ∷ OfCount n ∷ shells_rows 1 lists) rs)
     ∙ edges_cut name s [] edges (OfKey key ∷ OfCount n ∷ (shells_rows 1 lists ++ rs)) ∙ shells_cut name s edges key n 1 [] lists rs

@@ -24,7 +24,8 @@ keys_of_others key [] = refl
 keys_of_others key (e ∷ es) = by (same_key e.key key) refl (keys_of_others key es)
   where
     by : (t : Bool) → same_key e.key key ≡ t → keys_in (without_key key es) ≡ keys_but key (keys_in es)
-        → keys_in (cond (not t) (e ∷ without_key key es) (without_key key es)) ≡ cond (not t) (e.key ∷ keys_but key (keys_but e.key (keys_in es))) (keys_but key (keys_but e.key (keys_in es)))
+        → keys_in (cond (not t) (e ∷ without_key key es) (without_key key es)) ≡ cond (not t) (e.key ∷ keys_but key (keys_but e.key (keys_in es)))
+        (keys_but key (keys_but e.key (keys_in es)))
     by true same h =
         h
         ∙ sym (filter_again (λ k. not (same_key k key)) (keys_in es))
@@ -34,10 +35,12 @@ keys_of_others key (e ∷ es) = by (same_key e.key key) refl (keys_of_others key
         ∙ ap (λ (ks : List (List ℤ)). e.key ∷ ks) (filters_swap (λ k. not (same_key k e.key)) (λ k. not (same_key k key)) (keys_in es))
 
 -- a group that is not the first has none of its entries in the first
-other_group : (e : EntryView) (es : List EntryView) (key : List ℤ) → not (same_key key e.key) ≡ true → with_key key (e ∷ es) ≡ with_key key (without_key e.key es)
+other_group : (e : EntryView) (es : List EntryView) (key : List ℤ) → not (same_key key e.key) ≡ true
+    → with_key key (e ∷ es) ≡ with_key key (without_key e.key es)
 other_group e es key other =
     ap (λ t. cond t (e ∷ with_key key es) (with_key key es)) (by (same_key e.key key) refl)
-    ∙ sym (filter_within (λ (x : EntryView). same_key x.key key) (λ (x : EntryView). not (same_key x.key e.key)) es (λ x same. not_both e.key key x.key other same))
+    ∙ sym (filter_within (λ (x : EntryView). same_key x.key key) (λ (x : EntryView). not (same_key x.key e.key)) es
+    (λ x same. not_both e.key key x.key other same))
   where
     by : (t : Bool) → same_key e.key key ≡ t → same_key e.key key ≡ false
     by false h = h

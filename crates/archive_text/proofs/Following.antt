@@ -14,12 +14,14 @@ pub after_name : (v : Version) (name left : List ℕ) → NoSize left → NoneFo
 after_name v name left none (OfSize s) rest may e = none s rest may e
 after_name v name left none row rest may e = may
 
-pub after_edges : (v : Version) (name : List ℕ) (s : GraphSize) (edges : List Arc) (left : List ℕ) → length edges < s.edges → NoEdge s edges left → NoneFollows v (Drawn name s edges) left
+pub after_edges : (v : Version) (name : List ℕ) (s : GraphSize) (edges : List Arc) (left : List ℕ) → length edges < s.edges → NoEdge s edges left
+    → NoneFollows v (Drawn name s edges) left
 after_edges v name s edges left few none (OfEdge dim e) rest may is = none e rest may.2 (is ∙ ap (λ d. edge_row d e ++ 10 ∷ rest) may.0)
 after_edges v name s edges left few none (OfKey key) rest may is = absurd (omega (arith, may.0, few))
 after_edges v name s edges left few none row rest may is = may
 
-pub after_all_edges : (v : Version) (name : List ℕ) (s : GraphSize) (edges : List Arc) (left : List ℕ) → length edges ≡ s.edges → NoKey left → NoneFollows v (Drawn name s edges) left
+pub after_all_edges : (v : Version) (name : List ℕ) (s : GraphSize) (edges : List Arc) (left : List ℕ) → length edges ≡ s.edges → NoKey left
+    → NoneFollows v (Drawn name s edges) left
 after_all_edges v name s edges left whole none (OfEdge dim e) rest may is = absurd (omega (arith, may.1, whole))
 after_all_edges v name s edges left whole none (OfKey key) rest may is = none key rest may.1 is
 after_all_edges v name s edges left whole none row rest may is = may
@@ -28,14 +30,17 @@ pub after_key : (name : List ℕ) (s : GraphSize) (edges : List Arc) (key : List
 after_key name s edges key left none (OfCount n) rest may is = none n rest may is
 after_key name s edges key left none row rest may is = may
 
-pub after_shells : (v : Version) (name : List ℕ) (s : GraphSize) (edges : List Arc) (key : List ℤ) (n : ℕ) (lists : List (List ℕ)) (left : List ℕ) → length lists < n → NoShells (length lists + 1) left
+pub after_shells : (v : Version) (name : List ℕ) (s : GraphSize) (edges : List Arc) (key : List ℤ) (n : ℕ) (lists : List (List ℕ)) (left : List ℕ)
+    → length lists < n → NoShells (length lists + 1) left
     → NoneFollows v (Counted name s edges key n lists) left
-after_shells v name s edges key n lists left few none (OfShells c sizes) rest may is = none sizes rest may.2 (is ∙ ap (λ k. shells_row k sizes ++ 10 ∷ rest) may.0)
+after_shells v name s edges key n lists left few none (OfShells c sizes) rest may is =
+    none sizes rest may.2 (is ∙ ap (λ k. shells_row k sizes ++ 10 ∷ rest) may.0)
 after_shells v name s edges key n lists left few none OfEnd rest may is = absurd (omega (arith, may, few))
 after_shells v name s edges key n lists left few none row rest may is = may
 
 -- after all rows of an entry but the last only this may stand
-pub before_end : (v : Version) (name : List ℕ) (s : GraphSize) (edges : List Arc) (key : List ℤ) (lists : List (List ℕ)) (left : List ℕ) → ((rest : List ℕ) → left ≡ end_row ++ 10 ∷ rest → ⊥)
+pub before_end : (v : Version) (name : List ℕ) (s : GraphSize) (edges : List Arc) (key : List ℤ) (lists : List (List ℕ)) (left : List ℕ)
+    → ((rest : List ℕ) → left ≡ end_row ++ 10 ∷ rest → ⊥)
     → NoneFollows v (end_part v name s edges key lists) left
 before_end One name s edges key lists left none OfEnd rest may is = none rest is
 before_end One name s edges key lists left none row rest may is = may

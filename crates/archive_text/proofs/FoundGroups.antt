@@ -1,5 +1,6 @@
 -- The groups that were found before a place.
-use Rattle.std.proofs.Common.{◌≡◌, ◌⊎◌, ⊎_elim, ℕ, zero, suc, ◌+◌, ◌<◌, ◌≤◌, List, [], ◌∷◌, ◌++◌, length, get_or, Contains, AllPairs, Vec, refl, ap, sym, subst, ◌∙◌, arith}
+use Rattle.std.proofs.Common.{◌≡◌, ◌⊎◌, ⊎_elim, ℕ, zero, suc, ◌+◌, ◌<◌, ◌≤◌, List, [], ◌∷◌, ◌++◌, length, get_or, Contains, AllPairs, Vec, refl, ap, sym, subst}
+use Rattle.std.proofs.Common.{◌∙◌, arith}
 use Rattle.std.specs.declared.alloc.Global.{Global}
 use Rattle.std.proofs.lemmas.List.{map-append}
 use Rattle.std.proofs.lemmas.List.Elements.{Contains-append_left, Contains-append_cases, Contains-get_or, Contains-push}
@@ -62,7 +63,8 @@ module _ (es : List EntryView) where
   }
 
   -- where one begins, there is one more
-  pub one_more : (n : ℕ) (groups more : List (List ℕ)) (group : List ℕ) → AreGroupsTo es n groups → IsGroupFrom es (n + 1) group → more ≡ groups ++ group ∷ [] → AreGroupsTo es (n + 1) more
+  pub one_more : (n : ℕ) (groups more : List (List ℕ)) (group : List ℕ) → AreGroupsTo es n groups → IsGroupFrom es (n + 1) group → more ≡ groups ++ group ∷ []
+      → AreGroupsTo es (n + 1) more
   one_more n groups more group a new q = subst (AreGroupsTo es (n + 1)) (sym q) (record {
     each = λ g c. ⊎_elim (λ d. a.each g d) (λ d. subst (IsGroup es) (sym (only_one group g d)) new.is_group) (Contains-append_cases groups (group ∷ []) g c);
     within = λ g c. ⊎_elim

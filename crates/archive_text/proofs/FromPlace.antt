@@ -16,10 +16,12 @@ module _ (items : List Entry) (views : List EntryView) (v : entry_views items �
   pub entry_there : (place : ℕ) (e : Entry) → e ≡ get_or items place e → place < length views → slice_get views place ≡ Some (entry_view e)
   entry_there place e at l =
       let inside : place < length items = subst (λ n. place < n) (ap length (sym v) ∙ length-map items entry_view) l in
-      ap (λ es. slice_get es place) (sym v) ∙ slice_get-map entry_view items place ∙ ap (option_map entry_view) (slice_get-get_or items place e inside ∙ ap (λ (x : Entry). Some x) (sym at))
+      ap (λ es. slice_get es place) (sym v) ∙ slice_get-map entry_view items place
+      ∙ ap (option_map entry_view) (slice_get-get_or items place e inside ∙ ap (λ (x : Entry). Some x) (sym at))
 
   -- the numbers at the places of the fingerprint of a key
-  pub numbers_there : (lent : List Entry) (names keys : List ℕ) (key numbers : List ℤ) (print : ℕ) (places : List ℕ) → lent ≡ items → AreIndexed (entry_views items) names keys
+  pub numbers_there : (lent : List Entry) (names keys : List ℕ) (key numbers : List ℤ) (print : ℕ) (places : List ℕ) → lent ≡ items
+      → AreIndexed (entry_views items) names keys
       → numbers ≡ key → print ≡ key_print numbers → places ≡ places_of keys print → numbers_at (entry_views lent) key places ≡ numbers_with key views
   numbers_there lent names keys key numbers print places l i n p h =
       ap (λ (es : List Entry). numbers_at (entry_views es) key places) l

@@ -1,5 +1,6 @@
 -- The numbers of the entries with a key.
-use Rattle.std.proofs.Common.{◌≡◌, ℕ, suc, ℤ, ◌+◌, ◌==◌, ◌<◌, ◌≤◌, Bool, true, false, cond, List, [], ◌∷◌, length, map, filter, slice_get, Option, Some, true≢false, refl, ap, sym, ◌∙◌, subst, eq-eqb, arith}
+use Rattle.std.proofs.Common.{◌≡◌, ℕ, suc, ℤ, ◌+◌, ◌==◌, ◌<◌, ◌≤◌, Bool, true, false, cond, List, [], ◌∷◌, length, map, filter, slice_get, Option, Some}
+use Rattle.std.proofs.Common.{true≢false, refl, ap, sym, ◌∙◌, subst, eq-eqb, arith}
 use Rattle.std.specs.List.{enumerate_from}
 use Rattle.archive_text.specs.Places.{places_of}
 use Rattle.archive_text.specs.Entries.{EntryView}
@@ -23,7 +24,9 @@ module _ (key : List ℤ) where
   first_keyed n [] m h = absurd (cc)
   first_keyed n (e ∷ es) m h = by (same_key e.key key) refl h (λ g. first_keyed (n + 1) es m g)
     where
-      by : (b : Bool) → same_key e.key key ≡ b → slice_get (map (λ (p : ℕ × EntryView). p.0) (cond b ((n, e) ∷ filter (λ (p : ℕ × EntryView). same_key p.1.key key) (enumerate_from (n + 1) es)) (filter (λ (p : ℕ × EntryView). same_key p.1.key key) (enumerate_from (n + 1) es)))) 0 ≡ Some m
+      by : (b : Bool) → same_key e.key key ≡ b
+          → slice_get (map (λ (p : ℕ × EntryView). p.0) (cond b ((n, e) ∷ filter (λ (p : ℕ × EntryView). same_key p.1.key key) (enumerate_from (n + 1) es))
+          (filter (λ (p : ℕ × EntryView). same_key p.1.key key) (enumerate_from (n + 1) es)))) 0 ≡ Some m
           → (slice_get (numbers_from (n + 1) key es) 0 ≡ Some m → HasKeyAt es (n + 1) key m) → HasKeyAt (e ∷ es) n key m
       by true q g rest =
           let here : n ≡ m = cc in
@@ -44,30 +47,37 @@ module _ (key : List ℤ) where
         by false g = refl
 
     -- the pairs of an entry and those after it
-    one_step : (b c : Bool) (n : ℕ) (e : EntryView) (at : ℕ → Option EntryView) (before : List (ℕ × ℕ)) (after : List (ℕ × EntryView)) → (b ≡ false → c ≡ false) → is_keyed key (at n) ≡ c
+    one_step : (b c : Bool) (n : ℕ) (e : EntryView) (at : ℕ → Option EntryView) (before : List (ℕ × ℕ)) (after : List (ℕ × EntryView))
+        → (b ≡ false → c ≡ false) → is_keyed key (at n) ≡ c
         → map (λ i. i + 1) (filter (λ i. is_keyed key (at i)) (map (λ (p : ℕ × ℕ). p.0) before)) ≡ map (λ (p : ℕ × EntryView). p.0) after
-        → map (λ i. i + 1) (filter (λ i. is_keyed key (at i)) (map (λ (p : ℕ × ℕ). p.0) (cond b ((n, key_print e.key) ∷ before) before))) ≡ map (λ (p : ℕ × EntryView). p.0) (cond c ((n + 1, e) ∷ after) after)
+        → map (λ i. i + 1) (filter (λ i. is_keyed key (at i)) (map (λ (p : ℕ × ℕ). p.0) (cond b ((n, key_print e.key) ∷ before) before))) ≡ map
+        (λ (p : ℕ × EntryView). p.0) (cond c ((n + 1, e) ∷ after) after)
     one_step true true n e at before after u k rest =
-        ap (λ d. map (λ i. i + 1) (cond d (n ∷ filter (λ i. is_keyed key (at i)) (map (λ (p : ℕ × ℕ). p.0) before)) (filter (λ i. is_keyed key (at i)) (map (λ (p : ℕ × ℕ). p.0) before)))) k
+        ap (λ d. map (λ i. i + 1) (cond d (n ∷ filter (λ i. is_keyed key (at i)) (map (λ (p : ℕ × ℕ). p.0) before))
+        (filter (λ i. is_keyed key (at i)) (map (λ (p : ℕ × ℕ). p.0) before)))) k
         ∙ ap (λ ns. (n + 1) ∷ ns) rest
     one_step true false n e at before after u k rest =
-        ap (λ d. map (λ i. i + 1) (cond d (n ∷ filter (λ i. is_keyed key (at i)) (map (λ (p : ℕ × ℕ). p.0) before)) (filter (λ i. is_keyed key (at i)) (map (λ (p : ℕ × ℕ). p.0) before)))) k
+        ap (λ d. map (λ i. i + 1) (cond d (n ∷ filter (λ i. is_keyed key (at i)) (map (λ (p : ℕ × ℕ). p.0) before))
+        (filter (λ i. is_keyed key (at i)) (map (λ (p : ℕ × ℕ). p.0) before)))) k
         ∙ rest
     one_step false true n e at before after u k rest = absurd (true≢false (u refl))
     one_step false false n e at before after u k rest = rest
 
     -- the entries at the places of a fingerprint
     numbered_from : x ≡ key_print key → (n : ℕ) (es : List EntryView) (at : ℕ → Option EntryView) → ((k : ℕ) → k < length es → at (n + k) ≡ slice_get es k)
-        → map (λ i. i + 1) (filter (λ i. is_keyed key (at i)) (map (λ (p : ℕ × ℕ). p.0) (filter (λ (p : ℕ × ℕ). p.1 == x) (enumerate_from n (map (λ (e : EntryView). key_print e.key) es))))) ≡ numbers_from (n + 1) key es
+        → map (λ i. i + 1) (filter (λ i. is_keyed key (at i)) (map (λ (p : ℕ × ℕ). p.0)
+        (filter (λ (p : ℕ × ℕ). p.1 == x) (enumerate_from n (map (λ (e : EntryView). key_print e.key) es))))) ≡ numbers_from (n + 1) key es
     numbered_from hx n [] at h = refl
     numbered_from hx n (e ∷ es) at h =
         let first : at n ≡ Some e = ap at (let q : n ≡ n + 0 = omega arith in q) ∙ h 0 (omega arith) in
         let rest = numbered_from hx (n + 1) es at (λ k l. ap at (let q : n + 1 + k ≡ n + suc k = omega arith in q) ∙ h (suc k) (omega arith)) in
-        one_step (key_print e.key == x) (same_key e.key key) n e at (filter (λ (p : ℕ × ℕ). p.1 == x) (enumerate_from (n + 1) (map (λ (e : EntryView). key_print e.key) es)))
+        one_step (key_print e.key == x) (same_key e.key key) n e at (filter (λ (p : ℕ × ℕ). p.1 == x)
+        (enumerate_from (n + 1) (map (λ (e : EntryView). key_print e.key) es)))
         (filter (λ (p : ℕ × EntryView). same_key p.1.key key) (enumerate_from (n + 1 + 1) es)) (other_key e hx) (ap (is_keyed key) first) rest
 
 -- the numbers at the places of a key's fingerprint are those of the entries with the key
-pub numbers_found : (es : List EntryView) (key : List ℤ) (places keys : List ℕ) → keys ≡ map (λ (e : EntryView). key_print e.key) es → places ≡ places_of keys (key_print key)
+pub numbers_found : (es : List EntryView) (key : List ℤ) (places keys : List ℕ) → keys ≡ map (λ (e : EntryView). key_print e.key) es
+    → places ≡ places_of keys (key_print key)
     → numbers_at es key places ≡ numbers_with key es
 numbers_found es key places keys i h =
     ap (numbers_at es key) (h ∙ ap (λ ns. places_of ns (key_print key)) i)
@@ -85,7 +95,8 @@ group_begins es n g h =
     first_keyed k 1 es n (ap (λ ns. slice_get ns 0) (sym h.is_group.numbers) ∙ first_there g h.is_group.two ∙ ap (λ (m : ℕ). Some m) h.first)
 
 -- so it has the numbers with the key of that entry
-pub only_group : (es : List EntryView) (place : ℕ) (e : EntryView) → slice_get es place ≡ Some e → (g : List ℕ) → IsGroupFrom es (place + 1) g → g ≡ numbers_with e.key es
+pub only_group : (es : List EntryView) (place : ℕ) (e : EntryView) → slice_get es place ≡ Some e → (g : List ℕ) → IsGroupFrom es (place + 1) g
+    → g ≡ numbers_with e.key es
 only_group es place e at g h =
     let b = group_begins es (place + 1) g h in
     let number = b.number in
@@ -104,14 +115,16 @@ one_group es place g h a b =
     only_group es place k.entry at g a ∙ sym (only_group es place k.entry at h b)
 
 -- none begins where the numbers with the key of the entry there are fewer than two, or begin elsewhere
-pub no_group : (es : List EntryView) (place : ℕ) (e : EntryView) → slice_get es place ≡ Some e → (slice_get (numbers_with e.key es) 0 ≡ Some (place + 1) → 2 ≤ length (numbers_with e.key es) → ⊥)
+pub no_group : (es : List EntryView) (place : ℕ) (e : EntryView) → slice_get es place ≡ Some e
+    → (slice_get (numbers_with e.key es) 0 ≡ Some (place + 1) → 2 ≤ length (numbers_with e.key es) → ⊥)
     → (g : List ℕ) → IsGroupFrom es (place + 1) g → ⊥
 no_group es place e at not g h =
     let same = only_group es place e at g h in
     not (ap (λ ns. slice_get ns 0) (sym same) ∙ first_there g h.is_group.two ∙ ap (λ (m : ℕ). Some m) h.first) (subst (λ ns. 2 ≤ length ns) same h.is_group.two)
 
 -- one begins where they are two or more and begin there
-pub some_group : (es : List EntryView) (place : ℕ) (key : List ℤ) (g : List ℕ) → g ≡ numbers_with key es → slice_get (numbers_with key es) 0 ≡ Some (place + 1) → 2 ≤ length g → IsGroupFrom es (place + 1) g
+pub some_group : (es : List EntryView) (place : ℕ) (key : List ℤ) (g : List ℕ) → g ≡ numbers_with key es → slice_get (numbers_with key es) 0 ≡ Some (place + 1)
+    → 2 ≤ length g → IsGroupFrom es (place + 1) g
 some_group es place key g same begins two =
     let first : Some (first_of g) ≡ Some (place + 1) = sym (first_there g two) ∙ ap (λ ns. slice_get ns 0) same ∙ begins in
     record { is_group = record { key = key; numbers = same; two = two }; first = cc }

@@ -29,7 +29,8 @@ module _ (es : List EntryView) where
       let p : EntryView → Bool = λ e. f e == name_print name in
       let q : EntryView → Bool = λ e. bytes_eq name e.name in
       let here = ap (entries_at es) (h ∙ ap (λ ns. places_of ns (name_print name)) i) ∙ at_places f (name_print name) es in
-      let finer : (e : EntryView) → q e ≡ true → p e ≡ true = λ e g. eq-eqb (f e) (name_print name) (ap name_print (sym ((bytes_eq-Decides name e.name).0 g))) in
+      let finer : (e : EntryView) → q e ≡ true → p e ≡ true = λ e g. eq-eqb (f e) (name_print name)
+      (ap name_print (sym ((bytes_eq-Decides name e.name).0 g))) in
       any_named (bytes_eq name) (entries_at es places) ∙ ap (list_any q) here ∙ any_finer p q finer es ∙ sym (any_named (bytes_eq name) es)
 
   -- so are the entries with a key
@@ -45,5 +46,7 @@ module _ (es : List EntryView) where
 
   -- the test shows whether the name is there
   pub name_told : (b : Bool) (name : List ℕ) → b ≡ list_any (bytes_eq name) (names_of es) → IsTrue b ↔ Contains (names_of es) name
-  name_told b name e =
-      ((λ t. Contains-from_any (λ xs ys. (bytes_eq-Decides xs ys).0) name (names_of es) (sym e ∙ t)), (λ c. e ∙ list_any-from_Contains nat_list_eq_equiv name (names_of es) c))
+  name_told b name e = (
+    (λ t. Contains-from_any (λ xs ys. (bytes_eq-Decides xs ys).0) name (names_of es) (sym e ∙ t)),
+    (λ c. e ∙ list_any-from_Contains nat_list_eq_equiv name (names_of es) c),
+  )

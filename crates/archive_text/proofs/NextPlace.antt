@@ -1,5 +1,6 @@
 -- The entry that comes next.
-use Rattle.std.proofs.Common.{◌≡◌, ℕ, suc, ◌≤◌, ◌<◌, Bool, true, false, cond, nat_lt, List, [], ◌∷◌, ◌++◌, length, ◌-◌, map, get_or, Option, None, Some, unwrap_or, refl, sym, ap, ◌∙◌, arith}
+use Rattle.std.proofs.Common.{◌≡◌, ℕ, suc, ◌≤◌, ◌<◌, Bool, true, false, cond, nat_lt, List, [], ◌∷◌, ◌++◌, length, ◌-◌, map, get_or, Option, None, Some}
+use Rattle.std.proofs.Common.{unwrap_or, refl, sym, ap, ◌∙◌, arith}
 use Rattle.std.specs.List.{position_or_len, remove}
 use Rattle.std.proofs.lemmas.Bool.Decides.{nat_tests}
 use Rattle.std.proofs.lemmas.List.{append_assoc}
@@ -10,7 +11,8 @@ use Rattle.archive_text.proofs.FirstGroup.{same_keys, first_group}
 use Rattle.archive_text.proofs.FirstPlaces.{first_found, none_found, passing_first, failing_others, is_found}
 
 -- the first entry of all that are left
-pub from_first : (left : List EntryView) (n : ℕ) (e : EntryView) → n ≡ 0 → 0 < length left → e ≡ get_or left n e → regrouped left ≡ e ∷ going_on (Some e) (remove left n)
+pub from_first : (left : List EntryView) (n : ℕ) (e : EntryView) → n ≡ 0 → 0 < length left → e ≡ get_or left n e
+    → regrouped left ≡ e ∷ going_on (Some e) (remove left n)
 from_first [] n e zero some is = absurd (omega (arith, some))
 from_first (x ∷ xs) n e zero some is =
     let same : e ≡ x = is ∙ ap (λ m. get_or (x ∷ xs) m e) zero in

@@ -1,5 +1,6 @@
 -- Only one list is a regrouping.
-use Rattle.std.proofs.Common.{◌≡◌, ℕ, zero, suc, ◌≤◌, ℤ, Bool, true, false, cond, not, nat_lt, List, [], ◌∷◌, ◌++◌, length, flat_map, refl, sym, ap, subst, ◌∙◌, arith}
+use Rattle.std.proofs.Common.{◌≡◌, ℕ, zero, suc, ◌≤◌, ℤ, Bool, true, false, cond, not, nat_lt, List, [], ◌∷◌, ◌++◌, length, flat_map, refl, sym, ap, subst, ◌∙◌}
+use Rattle.std.proofs.Common.{arith}
 use Rattle.std.specs.List.{position_or_len}
 use Rattle.std.proofs.lemmas.Bool.{false≢true}
 use Rattle.std.proofs.lemmas.List.{append_assoc}
@@ -18,7 +19,8 @@ end_together xs ys t = λ before between after e f eq same.
     t (xs ++ before) between after e f (ap (λ (l : List EntryView). xs ++ l) eq ∙ sym (append_assoc xs before (e ∷ (between ++ f ∷ after)))) same
 
 -- behind an entry with another key none has the key
-none_later : (e x : EntryView) (xs : List EntryView) → AreTogether (e ∷ x ∷ xs) → same_key x.key e.key ≡ false → length xs ≤ position_or_len (λ (y : EntryView). same_key y.key e.key) xs
+none_later : (e x : EntryView) (xs : List EntryView) → AreTogether (e ∷ x ∷ xs) → same_key x.key e.key ≡ false
+    → length xs ≤ position_or_len (λ (y : EntryView). same_key y.key e.key) xs
 none_later e x xs t other = by (nat_lt at (length xs)) refl
   where
     q : EntryView → Bool

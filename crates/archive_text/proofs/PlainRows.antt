@@ -24,7 +24,8 @@ count_none n is = row_has_no (codes "primitive") (pos n ∷ []) (refl, (refl, (r
 
 pub shells_none : (c : ℕ) (sizes : List ℕ) → IsCount c → AreSizes sizes → HasNo 10 (shells_row c sizes)
 unfolding shells_row
-shells_none c sizes is are = row_has_no (codes "shells") (shells_numbers c sizes) (refl, (refl, (refl, (refl, (refl, (refl, tt)))))) (shells_wide c sizes is are)
+shells_none c sizes is are = row_has_no (codes "shells") (shells_numbers c sizes) (refl, (refl, (refl, (refl, (refl, (refl, tt))))))
+    (shells_wide c sizes is are)
 
 pub end_none : HasNo 10 end_row
 unfolding end_row
@@ -50,4 +51,6 @@ same_list (x ∷ xs) (y ∷ ys) e = ap (λ n. n ∷ xs) (same_pos x y (ap (numbe
 
 pub same_sizes : (c : ℕ) (xs ys : List ℕ) → IsCount c → AreSizes xs → AreSizes ys → shells_row c xs ≡ shells_row c ys → xs ≡ ys
 unfolding shells_row
-same_sizes c xs ys is hx hy e = same_list xs ys (ap (drop 1) (same_row_numbers (codes "shells") (shells_numbers c xs) (shells_numbers c ys) (shells_wide c xs is hx) (shells_wide c ys is hy) e))
+same_sizes c xs ys is hx hy e =
+    same_list xs ys (ap (drop 1) (same_row_numbers (codes "shells") (shells_numbers c xs) (shells_numbers c ys) (shells_wide c xs is hx)
+    (shells_wide c ys is hy) e))

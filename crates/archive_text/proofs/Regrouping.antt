@@ -50,11 +50,14 @@ both_parts key k es = by (same_key key k) refl
         let here = same_keys key k same in
         ap (λ l. with_key key (with_key l es) ++ with_key key (without_key l es)) (sym here)
         ∙ ap (λ l. l ++ with_key key (without_key key es)) (filter_again (λ (x : EntryView). same_key x.key key) es)
-        ∙ ap (λ l. with_key key es ++ l) (filters_exclude (λ (x : EntryView). same_key x.key key) (λ (x : EntryView). not (same_key x.key key)) es (λ x. not-true (same_key x.key key)))
+        ∙ ap (λ l. with_key key es ++ l) (filters_exclude (λ (x : EntryView). same_key x.key key) (λ (x : EntryView). not (same_key x.key key)) es
+        (λ x. not-true (same_key x.key key)))
         ∙ append-nil (with_key key es)
     by false other =
-        ap (λ l. l ++ with_key key (without_key k es)) (filters_exclude (λ (x : EntryView). same_key x.key key) (λ (x : EntryView). same_key x.key k) es (excluded key k other))
-        ∙ filter_within (λ (x : EntryView). same_key x.key key) (λ (x : EntryView). not (same_key x.key k)) es (λ x is. ap not (ap (λ l. same_key l k) (same_keys x.key key is) ∙ other))
+        ap (λ l. l ++ with_key key (without_key k es)) (filters_exclude (λ (x : EntryView). same_key x.key key) (λ (x : EntryView). same_key x.key k) es
+        (excluded key k other))
+        ∙ filter_within (λ (x : EntryView). same_key x.key key) (λ (x : EntryView). not (same_key x.key k)) es
+        (λ x is. ap not (ap (λ l. same_key l k) (same_keys x.key key is) ∙ other))
 
 -- the entries with one key stand in their old order
 pub old_order : (n : ℕ) (es : List EntryView) → length es ≤ n → (key : List ℤ) → with_key key (regrouped es) ≡ with_key key es
@@ -81,7 +84,8 @@ first_order (suc n) (e ∷ es) l =
     ap keys_in (first_group e es)
     ∙ ap (λ (ks : List (List ℤ)). k ∷ ks)
     (sym (keys_of_others k (group ++ regrouped others))
-    ∙ ap keys_in (filter-append lacking group (regrouped others) ∙ ap (λ l. l ++ without_key k (regrouped others)) (filters_exclude lacking (λ (x : EntryView). same_key x.key k) es (λ x is. ap not is)))
+    ∙ ap keys_in (filter-append lacking group (regrouped others) ∙ ap (λ l. l ++ without_key k (regrouped others))
+    (filters_exclude lacking (λ (x : EntryView). same_key x.key k) es (λ x is. ap not is)))
     ∙ keys_of_others k (regrouped others)
     ∙ ap (keys_but k) (first_order n others (omega (arith, l, fewer_others k es)))
     ∙ sym (keys_of_others k others)

@@ -33,8 +33,12 @@ shells_few c sizes are = let same = length-map sizes pos in let few = are.few in
 
 plain_has_no : (name : List ℕ) → list_all is_name_byte name ≡ true → HasNo 10 name
 plain_has_no [] is = tt
-plain_has_no (b ∷ bs) is = (ne_eqb b 10 (λ e. true≢false (sym (and_parts (is_name_byte b) (list_all is_name_byte bs) is).0 ∙ ap is_name_byte e)), plain_has_no bs (and_parts (is_name_byte b) (list_all is_name_byte bs) is).1)
+plain_has_no (b ∷ bs) is = (
+  ne_eqb b 10 (λ e. true≢false (sym (and_parts (is_name_byte b) (list_all is_name_byte bs) is).0 ∙ ap is_name_byte e)),
+  plain_has_no bs (and_parts (is_name_byte b) (list_all is_name_byte bs) is).1,
+)
 
 -- a name between quotes has no line feed
 pub entry_has_no : (name : List ℕ) → is_name name ≡ true → HasNo 10 (codes "entry \"" ++ (name ++ codes "\""))
-entry_has_no name is = sum_has_no 10 (codes "entry \"") (name ++ codes "\"") (refl, (refl, (refl, (refl, (refl, (refl, (refl, tt))))))) (sum_has_no 10 name (codes "\"") (plain_has_no name (and_parts _ _ (and_parts _ _ is).1).1) (refl, tt))
+entry_has_no name is = sum_has_no 10 (codes "entry \"") (name ++ codes "\"") (refl, (refl, (refl, (refl, (refl, (refl, (refl, tt)))))))
+    (sum_has_no 10 name (codes "\"") (plain_has_no name (and_parts _ _ (and_parts _ _ is).1).1) (refl, tt))

@@ -22,22 +22,27 @@ edges_same dim (e ∷ es) = ap (λ l. edge_row dim e ∷ l) (edges_same dim es)
 abbrev pub heads : List (List ℕ) → List ℕ → GraphSize → List (List ℕ)
 heads rows name s = (rows ++ name_row name ∷ []) ++ size_row s ∷ []
 
-pub drawn_same : (rows : List (List ℕ)) (name : List ℕ) (s : GraphSize) (edges : List Arc) → heads rows name s ++ edge_lines s.dim edges ≡ rows ++ row_lines (drawn_rows name s edges)
+pub drawn_same : (rows : List (List ℕ)) (name : List ℕ) (s : GraphSize) (edges : List Arc)
+    → heads rows name s ++ edge_lines s.dim edges ≡ rows ++ row_lines (drawn_rows name s edges)
 drawn_same rows name s edges =
-    append_assoc (rows ++ name_row name ∷ []) (size_row s ∷ []) (edge_lines s.dim edges) ∙ append_assoc rows (name_row name ∷ []) (size_row s ∷ edge_lines s.dim edges)
+    append_assoc (rows ++ name_row name ∷ []) (size_row s ∷ []) (edge_lines s.dim edges)
+    ∙ append_assoc rows (name_row name ∷ []) (size_row s ∷ edge_lines s.dim edges)
     ∙ ap (λ l. rows ++ name_row name ∷ size_row s ∷ l) (sym (edges_same s.dim edges))
 
-pub keyed_same : (rows : List (List ℕ)) (name : List ℕ) (s : GraphSize) (edges : List Arc) (key : List ℤ) → (heads rows name s ++ edge_lines s.dim edges) ++ key_row key ∷ [] ≡ rows ++ row_lines (part_rows (Keyed name s edges key))
+pub keyed_same : (rows : List (List ℕ)) (name : List ℕ) (s : GraphSize) (edges : List Arc) (key : List ℤ)
+    → (heads rows name s ++ edge_lines s.dim edges) ++ key_row key ∷ [] ≡ rows ++ row_lines (part_rows (Keyed name s edges key))
 keyed_same rows name s edges key =
     ap (λ l. l ++ key_row key ∷ []) (drawn_same rows name s edges) ∙ append_assoc rows (row_lines (drawn_rows name s edges)) (key_row key ∷ [])
     ∙ ap (λ l. rows ++ l) (sym (lines_of_sum (drawn_rows name s edges) (OfKey key ∷ [])))
 
 pub counted_same : (rows : List (List ℕ)) (name : List ℕ) (s : GraphSize) (edges : List Arc) (key : List ℤ) (n : ℕ) (lists : List (List ℕ))
-    → ((rows ++ row_lines (part_rows (Keyed name s edges key))) ++ count_row n ∷ []) ++ shells_lines lists ≡ rows ++ row_lines (part_rows (Counted name s edges key n lists))
+    → ((rows ++ row_lines (part_rows (Keyed name s edges key))) ++ count_row n ∷ []) ++ shells_lines lists ≡ rows
+    ++ row_lines (part_rows (Counted name s edges key n lists))
 counted_same rows name s edges key n lists =
     let keyed = row_lines (part_rows (Keyed name s edges key)) in
     append_assoc (rows ++ keyed) (count_row n ∷ []) (shells_lines lists) ∙ append_assoc rows keyed (count_row n ∷ shells_lines lists)
-    ∙ ap (λ l. rows ++ l) (sym (lines_of_sum (part_rows (Keyed name s edges key)) (OfCount n ∷ shells_rows 1 lists)) ∙ ap row_lines (append_assoc (drawn_rows name s edges) (OfKey key ∷ []) (OfCount n ∷ shells_rows 1 lists)))
+    ∙ ap (λ l. rows ++ l) (sym (lines_of_sum (part_rows (Keyed name s edges key)) (OfCount n ∷ shells_rows 1 lists))
+    ∙ ap row_lines (append_assoc (drawn_rows name s edges) (OfKey key ∷ []) (OfCount n ∷ shells_rows 1 lists)))
 
 -- an edge has one row
 pub lines_count : (dim : ℕ) (edges : List Arc) → length (edge_lines dim edges) ≡ length edges

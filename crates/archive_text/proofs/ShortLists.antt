@@ -1,5 +1,6 @@
 -- Lists of numbers of 32 bits.
-use Rattle.std.proofs.Common.{◌≡◌, ℕ, ℤ, pos, List, [], ◌∷◌, ◌++◌, ◌≤◌, ◌-◌, map, All, length, get_or, take, drop, refl, Option, None, Some, IfNone, sym, ap, ◌∙◌, arith}
+use Rattle.std.proofs.Common.{◌≡◌, ℕ, ℤ, pos, List, [], ◌∷◌, ◌++◌, ◌≤◌, ◌-◌, map, All, length, get_or, take, drop, refl, Option, None, Some, IfNone, sym, ap}
+use Rattle.std.proofs.Common.{◌∙◌, arith}
 use Rattle.std.proofs.lemmas.Grind.{common_steps}
 use Rattle.std.proofs.lemmas.List.Elements.{All-head, All-tail}
 use Rattle.archive_text.specs.Rows.{shells_numbers, shells_row}
@@ -27,17 +28,20 @@ after_first [] x d some is = absurd (omega (arith, some))
 after_first (y ∷ ys) x d some is = ap (λ z. z ∷ ys) is ∙ ap (λ l. x ∷ l) (sym (without_first (y ∷ ys)))
 
 -- one more number of a list
-pub one_more_number : (sizes new : List ℕ) (left numbers : List ℤ) (size : ℕ) (d : ℤ) → map pos sizes ++ left ≡ numbers → 1 ≤ length left → get_or left 0 d ≡ pos size → new ≡ sizes ++ size ∷ []
+pub one_more_number : (sizes new : List ℕ) (left numbers : List ℤ) (size : ℕ) (d : ℤ) → map pos sizes ++ left ≡ numbers → 1 ≤ length left
+    → get_or left 0 d ≡ pos size → new ≡ sizes ++ size ∷ []
     → map pos new ++ take (length left - 1) (drop 1 left) ≡ numbers
 one_more_number sizes new left numbers size d joined some is put =
-    ap (λ l. map pos l ++ take (length left - 1) (drop 1 left)) put ∙ moved sizes (take (length left - 1) (drop 1 left)) ∙ ap (λ l. map pos sizes ++ l) (sym (after_first left (pos size) d some is)) ∙ joined
+    ap (λ l. map pos l ++ take (length left - 1) (drop 1 left)) put ∙ moved sizes (take (length left - 1) (drop 1 left))
+    ∙ ap (λ l. map pos sizes ++ l) (sym (after_first left (pos size) d some is)) ∙ joined
   where
     moved : (xs : List ℕ) (rest : List ℤ) → map pos (xs ++ size ∷ []) ++ rest ≡ map pos xs ++ pos size ∷ rest
     moved [] rest = refl
     moved (x ∷ xs) rest = ap (λ l. pos x ∷ l) (moved xs rest)
 
 -- the first number that is left of such a list
-pub first_left : (sizes all : List ℕ) (left numbers : List ℤ) (z d : ℤ) → map pos sizes ++ left ≡ numbers → numbers ≡ map pos all → All IsShort all → 1 ≤ length left → get_or left 0 d ≡ z → IsShortNumber z
+pub first_left : (sizes all : List ℕ) (left numbers : List ℤ) (z d : ℤ) → map pos sizes ++ left ≡ numbers → numbers ≡ map pos all → All IsShort all
+    → 1 ≤ length left → get_or left 0 d ≡ z → IsShortNumber z
 first_left sizes all left numbers z d joined whole short some is =
     number_there sizes z (take (length left - 1) (drop 1 left)) all short (ap (λ l. map pos sizes ++ l) (sym (after_first left z d some is)) ∙ joined ∙ whole)
 

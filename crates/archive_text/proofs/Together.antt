@@ -1,5 +1,6 @@
 -- Entries with equal keys stand together.
-use Rattle.std.proofs.Common.{◌≡◌, ◌≢◌, ℕ, zero, suc, ◌≤◌, ℤ, Bool, true, false, not, List, [], ◌∷◌, ◌++◌, length, drop, get_or, refl, sym, ap, subst, ◌∙◌, arith}
+use Rattle.std.proofs.Common.{◌≡◌, ◌≢◌, ℕ, zero, suc, ◌≤◌, ℤ, Bool, true, false, not, List, [], ◌∷◌, ◌++◌, length, drop, get_or, refl, sym, ap, subst, ◌∙◌}
+use Rattle.std.proofs.Common.{arith}
 use Rattle.std.specs.List.{All}
 use Rattle.std.proofs.lemmas.Bool.{false≢true}
 use Rattle.std.proofs.lemmas.List.{length-append}
@@ -24,7 +25,8 @@ among key [] f after h = All-head (λ (x : EntryView). x.key ≢ key) f after h
 among key (b ∷ before) f after h = among key before f after (All-tail (λ (x : EntryView). x.key ≢ key) b (before ++ f ∷ after) h)
 
 -- up to an entry with the key all have it
-until : (key : List ℤ) (xs ys between : List EntryView) (f : EntryView) (after : List EntryView) → HaveKey key xs → LackKey key ys → xs ++ ys ≡ between ++ f ∷ after → f.key ≡ key → HaveKey key between
+until : (key : List ℤ) (xs ys between : List EntryView) (f : EntryView) (after : List EntryView) → HaveKey key xs → LackKey key ys
+    → xs ++ ys ≡ between ++ f ∷ after → f.key ≡ key → HaveKey key between
 until key xs ys [] f after hx hy e k = All-nil (λ (x : EntryView). x.key ≡ key)
 until key [] ys (b ∷ bs) f after hx hy e k = absurd (among key (b ∷ bs) f after (subst (LackKey key) e hy) k)
 until key (x ∷ xs) ys (b ∷ bs) f after hx hy e k =
@@ -38,7 +40,8 @@ then_others : (key : List ℤ) (xs ys before between after : List EntryView) (e 
 then_others key [] ys before between after e f hx hy t eq same = t before between after e f eq same
 then_others key (x ∷ xs) ys [] between after e f hx hy t eq same =
     let key_is : e.key ≡ key = ap (λ (l : List EntryView). (get_or l 0 x).key) (sym eq) ∙ All-head (λ (x : EntryView). x.key ≡ key) x xs hx in
-    subst (λ k. HaveKey k between) (sym key_is) (until key xs ys between f after (All-tail (λ (x : EntryView). x.key ≡ key) x xs hx) hy (ap (drop 1) eq) (sym same ∙ key_is))
+    subst (λ k. HaveKey k between) (sym key_is) (until key xs ys between f after (All-tail (λ (x : EntryView). x.key ≡ key) x xs hx) hy (ap (drop 1) eq)
+    (sym same ∙ key_is))
 then_others key (x ∷ xs) ys (b ∷ bs) between after e f hx hy t eq same =
     then_others key xs ys bs between after e f (All-tail (λ (x : EntryView). x.key ≡ key) x xs hx) hy t (ap (drop 1) eq) same
 
@@ -57,10 +60,13 @@ together (suc n) (e ∷ es) l =
     let others = without_key e.key es in
     let few : length others ≤ n = omega (arith, l, fewer_others e.key es) in
     let hx : HaveKey e.key (e ∷ group) = All-cons (λ (x : EntryView). x.key ≡ e.key) e group refl
-    (All-weaker (λ (x : EntryView). same_key x.key e.key ≡ true) (λ (x : EntryView). x.key ≡ e.key) (λ (x : EntryView) is. same_keys x.key e.key is) group (filter_passes (λ (x : EntryView). same_key x.key e.key) es)) in
-    let hy : LackKey e.key others = All-weaker (λ (x : EntryView). not (same_key x.key e.key) ≡ true) (λ (x : EntryView). x.key ≢ e.key) (other_key e.key) others (filter_passes (λ (x : EntryView). not (same_key x.key e.key)) es) in
+    (All-weaker (λ (x : EntryView). same_key x.key e.key ≡ true) (λ (x : EntryView). x.key ≡ e.key) (λ (x : EntryView) is. same_keys x.key e.key is) group
+    (filter_passes (λ (x : EntryView). same_key x.key e.key) es)) in
+    let hy : LackKey e.key others = All-weaker (λ (x : EntryView). not (same_key x.key e.key) ≡ true) (λ (x : EntryView). x.key ≢ e.key)
+    (other_key e.key) others (filter_passes (λ (x : EntryView). not (same_key x.key e.key)) es) in
     subst AreTogether (sym (first_group e es)) (λ before between after d f eq same.
-    then_others e.key (e ∷ group) (regrouped others) before between after d f hx (All-permutation (λ (x : EntryView). x.key ≢ e.key) others (regrouped others) (same_entries n others few) hy) (together n others few) eq same)
+    then_others e.key (e ∷ group) (regrouped others) before between after d f hx
+    (All-permutation (λ (x : EntryView). x.key ≢ e.key) others (regrouped others) (same_entries n others few) hy) (together n others few) eq same)
 
 -- the regrouped list is a regrouping
 pub is_regrouped : (es : List EntryView) → IsRegrouping es (regrouped es)

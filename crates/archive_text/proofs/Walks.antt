@@ -36,7 +36,14 @@ Walk v p (r ∷ rs) q = MayStandAfter v p r × Walk v (part_with p r) rs q
 pub formed_with : (v : Version) (p : Part) (r : Row) → IsFormed v p → MayStandAfter v p r → IsFormed v (part_with p r)
 formed_with v Start (OfName name) formed may = may
 formed_with v Start row formed may = tt
-formed_with v (Named name) (OfSize s) formed may = record { is_name = formed; is_size = may; each = All-nil (IsEdgeOfSize s); rising = none_rises; few = omega arith }
+formed_with v (Named name) (OfSize s) formed may = record {
+  is_name = formed;
+  is_size = may;
+  each = All-nil (IsEdgeOfSize s);
+  rising = none_rises;
+  few =
+      omega arith;
+}
 formed_with v (Named name) row formed may = tt
 formed_with v (Drawn name s edges) (OfEdge dim e) formed may = record {
   is_name = formed.is_name;
@@ -77,7 +84,8 @@ row_none v (Drawn name s edges) row formed may = absurd may
 row_none One (Keyed name s edges key) OfEnd formed may = end_none
 row_none Two (Keyed name s edges key) (OfCount n) formed may = count_none n may
 row_none v (Keyed name s edges key) row formed may = absurd may
-row_none v (Counted name s edges key n lists) (OfShells c sizes) formed may = shells_none c sizes (class_counts c n (length lists) may.0 may.1 formed.2.is_count) may.2
+row_none v (Counted name s edges key n lists) (OfShells c sizes) formed may =
+    shells_none c sizes (class_counts c n (length lists) may.0 may.1 formed.2.is_count) may.2
 row_none v (Counted name s edges key n lists) OfEnd formed may = end_none
 row_none v (Counted name s edges key n lists) row formed may = absurd may
 
@@ -106,7 +114,8 @@ same_row_of Two (Keyed name s edges key) (OfCount a) t formed ha hb e = absurd h
 same_row_of v (Keyed name s edges key) r t formed ha hb e = absurd ha
 same_row_of v (Counted name s edges key n lists) (OfShells c a) (OfShells c' b) formed ha hb e =
     let same : c ≡ c' = ha.0 ∙ sym hb.0 in
-    ap (λ k. OfShells k a) same ∙ ap (OfShells c') (same_sizes c' a b (class_counts c' n (length lists) hb.0 hb.1 formed.2.is_count) ha.2 hb.2 (ap (λ k. shells_row k a) (sym same) ∙ e))
+    ap (λ k. OfShells k a) same ∙ ap (OfShells c') (same_sizes c' a b (class_counts c' n (length lists) hb.0 hb.1 formed.2.is_count) ha.2 hb.2
+    (ap (λ k. shells_row k a) (sym same) ∙ e))
 same_row_of v (Counted name s edges key n lists) OfEnd OfEnd formed ha hb e = refl
 same_row_of v (Counted name s edges key n lists) (OfShells c a) OfEnd formed ha hb e = absurd (omega (arith, ha.1, hb))
 same_row_of v (Counted name s edges key n lists) OfEnd (OfShells c b) formed ha hb e = absurd (omega (arith, hb.1, ha))

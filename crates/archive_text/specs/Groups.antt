@@ -1,5 +1,6 @@
 -- Groups of entries with equal keys.
-use Rattle.std.specs.Prelude.{ℕ, ◌+◌, ◌≡◌, ◌≤◌, ◌<◌, ℤ, Bool, false, List, length, map, filter, slice_get, slice_index_or, Option, None, Some, Contains, AllPairs}
+use Rattle.std.specs.Prelude.{ℕ, ◌+◌, ◌≡◌, ◌≤◌, ◌<◌, ℤ, Bool, false, List, length, map, filter, slice_get, slice_index_or, Option, None, Some, Contains}
+use Rattle.std.specs.Prelude.{AllPairs}
 use Rattle.std.specs.List.{enumerate_from}
 pub use Rattle.coordination.specs.Sequences.{numbers_in}
 use Rattle.archive_text.specs.Entries.{EntryView}

@@ -53,7 +53,8 @@ pub from_passing : {X : Type 0} (p : X → Bool) (xs : List X) (x : X) → Conta
 from_passing p [] x c = absurd (no_member x c)
 from_passing p (y ∷ xs) x c = by (p y) refl c (λ later. from_passing p xs x later)
   where
-    by : (t : Bool) → p y ≡ t → Contains (cond t (y ∷ filter p xs) (filter p xs)) x → (Contains (filter p xs) x → Contains xs x × (p x ≡ true)) → Contains (y ∷ xs) x × (p x ≡ true)
+    by : (t : Bool) → p y ≡ t → Contains (cond t (y ∷ filter p xs) (filter p xs)) x → (Contains (filter p xs) x → Contains xs x × (p x ≡ true))
+        → Contains (y ∷ xs) x × (p x ≡ true)
     by true h c on = elim (either y x (filter p xs) c) [
       | inl same ↦ ((0, omega arith, same), sym (ap p same) ∙ h)
       | inr later ↦ let both = on later in (further y x xs both.0, both.1)

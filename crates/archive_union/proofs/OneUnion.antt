@@ -1,5 +1,6 @@
 -- There is one union, or one item that is refused.
-use Rattle.std.proofs.Common.{◌≡◌, ◌≢◌, ◌⊎◌, inl, inr, ℕ, ◌+◌, Bool, true, false, cond, List, [], ◌∷◌, ◌++◌, length, get_or, drop, refl, sym, ap, subst, ◌∙◌, arith}
+use Rattle.std.proofs.Common.{◌≡◌, ◌≢◌, ◌⊎◌, inl, inr, ℕ, ◌+◌, Bool, true, false, cond, List, [], ◌∷◌, ◌++◌, length, get_or, drop, refl, sym, ap, subst, ◌∙◌}
+use Rattle.std.proofs.Common.{arith}
 use Rattle.std.proofs.lemmas.List.{append_assoc, append-nil}
 use Rattle.std.proofs.lemmas.List.Sorted.{IsPermutation-sym}
 use Rattle.archive_text.specs.Entries.{EntryView}
@@ -36,13 +37,16 @@ united_sum entries [] ys = refl
 united_sum entries (x ∷ xs) ys = united_sum (with_item entries x) xs ys
 
 -- an item that is refused is in no archive that goes on with it
-stays_out : (a : ArchiveView) (entries items : List EntryView) (item : EntryView) (fault : AddFault) → IsRefused (archive_with a entries) item fault → fault ≢ NoMemory
+stays_out : (a : ArchiveView) (entries items : List EntryView) (item : EntryView) (fault : AddFault) → IsRefused (archive_with a entries) item fault
+    → fault ≢ NoMemory
     → IsArchive (archive_with a (united entries (item ∷ items))) → ⊥
 stays_out a entries items item fault refused known is =
     let rest = goes_on (with_item entries item) items in
     let new : with_item entries item ≡ entries ++ item ∷ [] = ap (λ t. cond t entries (entries ++ item ∷ [])) refused.new in
-    let whole : united entries (item ∷ items) ≡ entries ++ item ∷ rest.more = rest.whole ∙ ap (λ (l : List EntryView). l ++ rest.more) new ∙ append_assoc entries (item ∷ []) rest.more in
-    known (entry_no_fault (archive_with a entries) (archive_with a (united entries (item ∷ items))) item rest.more (ap (archive_with a) whole) is fault refused.cause)
+    let whole : united entries (item ∷ items) ≡ entries ++ item ∷ rest.more = rest.whole ∙ ap (λ (l : List EntryView). l ++ rest.more) new
+    ∙ append_assoc entries (item ∷ []) rest.more in
+    known (entry_no_fault (archive_with a entries) (archive_with a (united entries (item ∷ items))) item rest.more
+    (ap (archive_with a) whole) is fault refused.cause)
 
 -- one item stands before another in a list, or they are one
 record Before (xs : List EntryView) (x : EntryView) (ys : List EntryView) : Type 0 where
@@ -53,24 +57,37 @@ record Same (xs : List EntryView) (x : EntryView) (ys : List EntryView) (y : Ent
   fronts : xs ≡ ys
   items : x ≡ y
 
-order : (xs : List EntryView) (x : EntryView) (after : List EntryView) (ys : List EntryView) (y : EntryView) (later : List EntryView) → xs ++ x ∷ after ≡ ys ++ y ∷ later
+order : (xs : List EntryView) (x : EntryView) (after : List EntryView) (ys : List EntryView) (y : EntryView) (later : List EntryView)
+    → xs ++ x ∷ after ≡ ys ++ y ∷ later
     → Same xs x ys y ⊎ (Before xs x ys ⊎ Before ys y xs)
 order [] x after [] y later e = inl (record { fronts = refl; items = ap (λ (l : List EntryView). get_or l 0 x) e })
-order [] x after (z ∷ ys) y later e = inr (inl (record { between = ys; is = ap (λ (w : EntryView). w ∷ ys) (sym (ap (λ (l : List EntryView). get_or l 0 x) e)) }))
+order [] x after (z ∷ ys) y later e =
+    inr (inl (record { between = ys; is = ap (λ (w : EntryView). w ∷ ys) (sym (ap (λ (l : List EntryView). get_or l 0 x) e)) }))
 order (z ∷ xs) x after [] y later e = inr (inr (record { between = xs; is = ap (λ (w : EntryView). w ∷ xs) (ap (λ (l : List EntryView). get_or l 0 z) e) }))
 order (w ∷ xs) x after (z ∷ ys) y later e =
     let first : w ≡ z = ap (λ (l : List EntryView). get_or l 0 w) e in
     elim (order xs x after ys y later (ap (drop 1) e)) [
       | inl s ↦ inl (record { fronts = ap (λ (v : EntryView). v ∷ xs) first ∙ ap (λ (l : List EntryView). z ∷ l) s.fronts; items = s.items })
-      | inr (inl b) ↦ inr (inl (record { between = b.between; is = ap (λ (l : List EntryView). z ∷ l) b.is ∙ ap (λ (v : EntryView). v ∷ (xs ++ x ∷ b.between)) (sym first) }))
-      | inr (inr b) ↦ inr (inr (record { between = b.between; is = ap (λ (l : List EntryView). w ∷ l) b.is ∙ ap (λ (v : EntryView). v ∷ (ys ++ y ∷ b.between)) first }))
+      | inr (inl b) ↦ inr (inl (record {
+        between = b.between;
+        is = ap (λ (l : List EntryView). z ∷ l) b.is
+            ∙ ap (λ (v : EntryView). v ∷ (xs ++ x ∷ b.between)) (sym first);
+      }))
+      | inr (inr b) ↦ inr (inr (record {
+        between = b.between;
+        is = ap (λ (l : List EntryView). w ∷ l) b.is
+            ∙ ap (λ (v : EntryView). v ∷ (ys ++ y ∷ b.between)) first;
+      }))
     ]
 
 -- no item is refused that stands before another one that is
-not_before : (a : ArchiveView) (items : List EntryView) (m n : ℕ) (f g : AddFault) (h : IsNotUnited a items m f) (k : IsNotUnited a items n g) → Before h.before h.item k.before → ⊥
+not_before : (a : ArchiveView) (items : List EntryView) (m n : ℕ) (f g : AddFault) (h : IsNotUnited a items m f) (k : IsNotUnited a items n g)
+    → Before h.before h.item k.before → ⊥
 not_before a items m n f g h k b =
-    let whole : united a.entries k.before ≡ united (united a.entries h.before) (h.item ∷ b.between) = ap (united a.entries) b.is ∙ united_sum a.entries h.before (h.item ∷ b.between) in
-    stays_out a (united a.entries h.before) b.between h.item f h.refused h.known (subst (λ (es : List EntryView). IsArchive (archive_with a es)) whole k.refused.is_archive)
+    let whole : united a.entries k.before ≡ united (united a.entries h.before) (h.item ∷ b.between) = ap (united a.entries) b.is
+    ∙ united_sum a.entries h.before (h.item ∷ b.between) in
+    stays_out a (united a.entries h.before) b.between h.item f h.refused h.known
+    (subst (λ (es : List EntryView). IsArchive (archive_with a es)) whole k.refused.is_archive)
 
 pub same_item : (a : ArchiveView) (items : List EntryView) (m n : ℕ) (f g : AddFault) → IsNotUnited a items m f → IsNotUnited a items n g → (m ≡ n) × (f ≡ g)
 same_item a items m n f g h k = elim (order h.before h.item h.after k.before k.item k.after (sym h.split ∙ k.split)) [
@@ -92,5 +109,6 @@ not_both a b items n f u h =
     let all = united a.entries items in
     let moved = IsPermutation-sym all (regrouped all) (is_regrouped all).same_entries in
     let is = permuted_archive a.version (regrouped all) all moved (subst IsArchive u.is u.is_archive) in
-    let whole : all ≡ united (united a.entries h.before) (h.item ∷ h.after) = ap (united a.entries) h.split ∙ united_sum a.entries h.before (h.item ∷ h.after) in
+    let whole : all ≡ united (united a.entries h.before) (h.item ∷ h.after) = ap (united a.entries) h.split
+    ∙ united_sum a.entries h.before (h.item ∷ h.after) in
     stays_out a (united a.entries h.before) h.after h.item f h.refused h.known (subst (λ (es : List EntryView). IsArchive (archive_with a es)) whole is)

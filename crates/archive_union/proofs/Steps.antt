@@ -14,18 +14,21 @@ united_more entries [] item = refl
 united_more entries (x ∷ items) item = united_more (with_item entries x) items item
 
 -- the entries after one more item in memory
-views_united : (a : ArchiveView) (items : List Entry) (item : Entry) → united a.entries (entry_views (items ++ item ∷ [])) ≡ with_item (united a.entries (entry_views items)) (entry_view item)
+views_united : (a : ArchiveView) (items : List Entry) (item : Entry) → united a.entries (entry_views (items ++ item ∷ [])) ≡ with_item
+    (united a.entries (entry_views items)) (entry_view item)
 views_united a items item = ap (united a.entries) (map-append entry_view items (item ∷ [])) ∙ united_more a.entries (entry_views items) (entry_view item)
 
 module _ (a now : ArchiveView) (items : List Entry) (item : Entry) (is : now ≡ archive_with a (united a.entries (entry_views items))) where
   -- the archive goes on
-  pub item_on : (next : ArchiveView) → next ≡ archive_with now (with_item now.entries (entry_view item)) → next ≡ archive_with a (united a.entries (entry_views (items ++ item ∷ [])))
+  pub item_on : (next : ArchiveView) → next ≡ archive_with now (with_item now.entries (entry_view item))
+      → next ≡ archive_with a (united a.entries (entry_views (items ++ item ∷ [])))
   item_on next goes =
       goes ∙ ap (λ (x : ArchiveView). archive_with x (with_item x.entries (entry_view item))) is
       ∙ ap (archive_with a) (sym (views_united a items item))
 
   -- the item is refused
-  not_united : (all later : List Entry) (number : ℕ) (fault : AddFault) → all ≡ items ++ item ∷ later → number ≡ length items + 1 → IsRefused now (entry_view item) fault → fault ≢ NoMemory
+  not_united : (all later : List Entry) (number : ℕ) (fault : AddFault) → all ≡ items ++ item ∷ later → number ≡ length items + 1
+      → IsRefused now (entry_view item) fault → fault ≢ NoMemory
       → IsNotUnited a (entry_views all) number fault
   not_united all later number fault whole counted refused known = record {
     before = entry_views items;
@@ -38,7 +41,8 @@ module _ (a now : ArchiveView) (items : List Entry) (item : Entry) (is : now ≡
   }
 
   -- what is reported of it
-  pub fault_is : (all later : List Entry) (number : ℕ) (fault : AddFault) → all ≡ items ++ item ∷ later → number ≡ length items + 1 → IsRefused now (entry_view item) fault
+  pub fault_is : (all later : List Entry) (number : ℕ) (fault : AddFault) → all ≡ items ++ item ∷ later → number ≡ length items + 1
+      → IsRefused now (entry_view item) fault
       → IsUniteFault a (entry_views all) (fault_of_add number fault)
   fault_is all later number NameTaken whole counted refused = not_united all later number NameTaken whole counted refused (λ e. absurd cc)
   fault_is all later number BadName whole counted refused = not_united all later number BadName whole counted refused (λ e. absurd cc)

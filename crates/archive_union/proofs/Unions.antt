@@ -62,7 +62,8 @@ module _ (a b : ArchiveView) (items : List EntryView) (archive : IsArchive a) (g
   stand_together : AreTogether b.entries
   stand_together = subst AreTogether (sym entries_are) (is_regrouped all_of).together
 
-  found : (G : Graph) (key : List ℤ) (e : EntryView) → IsGraph G → IsKeyOf G key → IsOneOf a items e → Iso G e.graph → Contains (names_with key b.entries) e.name
+  found : (G : Graph) (key : List ℤ) (e : EntryView) → IsGraph G → IsKeyOf G key → IsOneOf a items e → Iso G e.graph
+      → Contains (names_with key b.entries) e.name
   found G key e g k c iso =
       let s = stands e c in
       let x = good_one e c in

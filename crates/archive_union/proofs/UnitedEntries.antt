@@ -25,7 +25,8 @@ pub all_stay : (items entries : List EntryView) (e : EntryView) → Contains ent
 all_stay [] entries e c = c
 all_stay (item ∷ items) entries e c = all_stay items (with_item entries item) e (stays entries item e (is_there entries item.name item.key) c)
 
-came : (entries : List EntryView) (item : EntryView) (items : List EntryView) (e : EntryView) (t : Bool) → Contains (after_item entries item t) e ⊎ Contains items e → Contains entries e ⊎ Contains (item ∷ items) e
+came : (entries : List EntryView) (item : EntryView) (items : List EntryView) (e : EntryView) (t : Bool)
+    → Contains (after_item entries item t) e ⊎ Contains items e → Contains entries e ⊎ Contains (item ∷ items) e
 came entries item items e t (inr later) = inr (Contains-append_right (item ∷ []) items e later)
 came entries item items e true (inl c) = inl c
 came entries item items e false (inl c) = elim (Contains-append_cases entries (item ∷ []) e c) [

@@ -57,4 +57,5 @@ pub record HasAll (a : ArchiveView) (items : List EntryView) (b : ArchiveView) :
   pub together : AreTogether b.entries
   pub decide : KeysDecideArchive b.entries
   pub iso_together : AreIsoTogether b.entries
-  pub found : (G : Graph) (key : List ℤ) (e : EntryView) → IsGraph G → IsKeyOf G key → IsOneOf a items e → Iso G e.graph → Contains (names_with key b.entries) e.name
+  pub found : (G : Graph) (key : List ℤ) (e : EntryView) → IsGraph G → IsKeyOf G key → IsOneOf a items e → Iso G e.graph
+      → Contains (names_with key b.entries) e.name

@@ -14,7 +14,8 @@ use Rattle.barycentre.specs.Tested.{AreBalanced, AreCoprime, IsCommonDivisor}
 use Rattle.barycentre.proofs.Together.{each_position}
 
 -- the greatest common divisor, one number after another
-pub divisor_of_parts : (n : ℕ) (v : Vector) (a b g : ℕ) → IsGcd n (unsigned_abs v.x) a → IsGcd a (unsigned_abs v.y) b → IsGcd b (unsigned_abs v.z) g → IsCommonDivisor n v g
+pub divisor_of_parts : (n : ℕ) (v : Vector) (a b g : ℕ) → IsGcd n (unsigned_abs v.x) a → IsGcd a (unsigned_abs v.y) b → IsGcd b (unsigned_abs v.z) g
+    → IsCommonDivisor n v g
 divisor_of_parts n v a b g h i j = record {
   number = dvd_trans g j.0 (dvd_trans b i.0 h.0);
   x = dvd_trans g j.0 (dvd_trans b i.0 h.1);

@@ -33,7 +33,8 @@ module _ (P : Placement) (c : Vector → ℤ) (i : IsCoordinate c) where
   reading : (a : Arc) → c (arc_vector P a) ≡ (c (base P a.to) +ℤ pos P.denominator *ℤ c a.shift) -ℤ c (base P a.from)
   reading a =
       i.minus_is (plus (base P a.to) (times (pos P.denominator) a.shift)) (base P a.from)
-      ∙ ap (λ k. k -ℤ c (base P a.from)) (i.plus_is (base P a.to) (times (pos P.denominator) a.shift) ∙ ap (λ k. c (base P a.to) +ℤ k) (i.times_is (pos P.denominator) a.shift))
+      ∙ ap (λ k. k -ℤ c (base P a.from)) (i.plus_is (base P a.to) (times (pos P.denominator) a.shift)
+      ∙ ap (λ k. c (base P a.to) +ℤ k) (i.times_is (pos P.denominator) a.shift))
 
   list_step : (d t s f r w : ℤ) → ((t +ℤ d *ℤ s) -ℤ f) +ℤ (r +ℤ d *ℤ w) ≡ ((t -ℤ f) +ℤ r) +ℤ d *ℤ (s +ℤ w)
   list_step d t s f r w = simp ring (omega (arith, linear))
@@ -65,11 +66,13 @@ module _ (m : ℕ) (positive : 1 ≤ m) (G : Graph) (g : IsGraph G) (only : HasO
     -- m over g, times the placement, solves the homogeneous equations
     solves : (c : Vector → ℤ) → IsCoordinate c → Solves m G (λ u. pos 0) (λ u. pos z.l *ℤ c (base P u))
     solves c i = record {
-      origin = multiple_like m (pos 0) (pos z.l *ℤ c (base P 1)) (ap (λ v. pos z.l *ℤ c v) n.normal.origin ∙ ap (λ t. pos z.l *ℤ t) i.zero ∙ product_zero (pos z.l)) (multiple_zero m);
+      origin = multiple_like m (pos 0) (pos z.l *ℤ c (base P 1)) (ap (λ v. pos z.l *ℤ c v) n.normal.origin ∙ ap (λ t. pos z.l *ℤ t) i.zero
+          ∙ product_zero (pos z.l)) (multiple_zero m);
       means = λ u q h. (
         neg_ℤ (pos z.k *ℤ shifts G c u),
         ap (λ t. t +ℤ pos 0) (gains_times G (pos z.l) (λ v. c (base P v)) u)
-            ∙ solves_step (pos z.l) (pos P.denominator) (shifts G c u) (gains G (λ v. c (base P v)) u) (pos z.k) (pos z.g) (cancels P c i G n.barycentric u q) (ap pos z.a_is)
+            ∙ solves_step (pos z.l) (pos P.denominator) (shifts G c u) (gains G (λ v. c (base P v)) u) (pos z.k) (pos z.g) (cancels P c i G n.barycentric u q)
+            (ap pos z.a_is)
             ∙ ap (λ t. pos t *ℤ neg_ℤ (pos z.k *ℤ shifts G c u)) (sym z.b_is),
       );
     }
@@ -104,7 +107,8 @@ module _ (m : ℕ) (positive : 1 ≤ m) (G : Graph) (g : IsGraph G) (only : HasO
   pub coprime : IsGcd P.denominator m 1
   coprime = is_coprime (bezout P.denominator m)
 
-module _ (m : ℕ) (G : Graph) (g : IsGraph G) (only : HasOnlyZero m G) (P : Placement) (n : IsNormalPlacement G P) (c : Vector → ℤ) (i : IsCoordinate c) (x : ℕ → ℤ) (s : Solves m G (shifts G c) x) where
+module _ (m : ℕ) (G : Graph) (g : IsGraph G) (only : HasOnlyZero m G) (P : Placement) (n : IsNormalPlacement G P) (c : Vector → ℤ) (i : IsCoordinate c)
+    (x : ℕ → ℤ) (s : Solves m G (shifts G c) x) where
   means_step : (d y w a m k : ℤ) → y +ℤ w ≡ m *ℤ k → a +ℤ d *ℤ w ≡ pos 0 → (d *ℤ y -ℤ a) +ℤ pos 0 ≡ m *ℤ (d *ℤ k)
   means_step d y w a m k e f = let p = ap (λ t. d *ℤ t) e in simp ring (omega (arith, linear, simp ring at p, f))
 
@@ -113,7 +117,11 @@ module _ (m : ℕ) (G : Graph) (g : IsGraph G) (only : HasOnlyZero m G) (P : Pla
 
   difference_solves : Solves m G (λ u. pos 0) (λ u. pos P.denominator *ℤ x u -ℤ c (base P u))
   difference_solves = record {
-    origin = (pos P.denominator *ℤ s.origin.0, ap (λ t. pos P.denominator *ℤ x 1 -ℤ t) (ap c n.normal.origin ∙ i.zero) ∙ origin_step (pos P.denominator) (x 1) (pos m) s.origin.0 s.origin.1);
+    origin = (
+      pos P.denominator *ℤ s.origin.0,
+      ap (λ t. pos P.denominator *ℤ x 1 -ℤ t) (ap c n.normal.origin ∙ i.zero)
+          ∙ origin_step (pos P.denominator) (x 1) (pos m) s.origin.0 s.origin.1,
+    );
     means = λ u q h. let e = s.means u q h in (
       pos P.denominator *ℤ e.0,
       ap (λ t. t +ℤ pos 0) (gains_minus G (pos P.denominator) x (λ v. c (base P v)) u)

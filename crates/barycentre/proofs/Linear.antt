@@ -20,7 +20,8 @@ zero_step k = simp ring refl
 
 sum_list : (k : ℤ) (x y : ℕ → ℤ) (as' : List Arc) → gained (λ u. x u +ℤ k *ℤ y u) as' ≡ gained x as' +ℤ k *ℤ gained y as'
 sum_list k x y [] = zero_step k
-sum_list k x y (a ∷ as') = ap (λ t. ((x a.to +ℤ k *ℤ y a.to) -ℤ (x a.from +ℤ k *ℤ y a.from)) +ℤ t) (sum_list k x y as') ∙ plus_step k (x a.to) (y a.to) (x a.from) (y a.from) (gained x as') (gained y as')
+sum_list k x y (a ∷ as') = ap (λ t. ((x a.to +ℤ k *ℤ y a.to) -ℤ (x a.from +ℤ k *ℤ y a.from)) +ℤ t) (sum_list k x y as')
+    ∙ plus_step k (x a.to) (y a.to) (x a.from) (y a.from) (gained x as') (gained y as')
 
 -- gains of x + k·y
 pub gains_plus : (G : Graph) (k : ℤ) (x y : ℕ → ℤ) (u : ℕ) → gains G (λ v. x v +ℤ k *ℤ y v) u ≡ gains G x u +ℤ k *ℤ gains G y u
@@ -34,7 +35,8 @@ minus_zero k = simp ring refl
 
 minus_list : (k : ℤ) (x y : ℕ → ℤ) (as' : List Arc) → gained (λ u. k *ℤ x u -ℤ y u) as' ≡ k *ℤ gained x as' -ℤ gained y as'
 minus_list k x y [] = minus_zero k
-minus_list k x y (a ∷ as') = ap (λ t. ((k *ℤ x a.to -ℤ y a.to) -ℤ (k *ℤ x a.from -ℤ y a.from)) +ℤ t) (minus_list k x y as') ∙ minus_step k (x a.to) (y a.to) (x a.from) (y a.from) (gained x as') (gained y as')
+minus_list k x y (a ∷ as') = ap (λ t. ((k *ℤ x a.to -ℤ y a.to) -ℤ (k *ℤ x a.from -ℤ y a.from)) +ℤ t) (minus_list k x y as')
+    ∙ minus_step k (x a.to) (y a.to) (x a.from) (y a.from) (gained x as') (gained y as')
 
 -- gains of k·x - y
 pub gains_minus : (G : Graph) (k : ℤ) (x y : ℕ → ℤ) (u : ℕ) → gains G (λ v. k *ℤ x v -ℤ y v) u ≡ k *ℤ gains G x u -ℤ gains G y u

@@ -29,7 +29,8 @@ times_factor k l z h = (h.0, ap (λ t. pos k *ℤ t) h.1 ∙ step (pos k) (pos l
     step : (k l q : ℤ) → k *ℤ (l *ℤ q) ≡ (k *ℤ l) *ℤ q
     step k l q = simp ring refl
 
-module _ (k l : ℕ) (positive : 1 ≤ k) (G : Graph) (g : IsGraph G) (first : HasOnlyZero k G) (second : HasOnlyZero l G) (x : ℕ → ℤ) (s : Solves (k * l) G (λ u. pos 0) x) where
+module _ (k l : ℕ) (positive : 1 ≤ k) (G : Graph) (g : IsGraph G) (first : HasOnlyZero k G) (second : HasOnlyZero l G) (x : ℕ → ℤ)
+    (s : Solves (k * l) G (λ u. pos 0) x) where
   -- k divides x
   by_first : (u : ℕ) → IsQuotientVertex G u → DividesInteger k (x u)
   by_first = first.only x (record { origin = left_factor k l (x 1) s.origin; means = λ u q h. left_factor k l (gains G x u +ℤ pos 0) (s.means u q h) })
@@ -55,7 +56,8 @@ module _ (k l : ℕ) (positive : 1 ≤ k) (G : Graph) (g : IsGraph G) (first : H
   }
 
   product_divides : (u : ℕ) → IsQuotientVertex G u → DividesInteger (k * l) (x u)
-  product_divides u q = subst (DividesInteger (k * l)) (sym (whole u q)) (times_factor k l (part u) (second.only part (part_solves (omega arith, g.vertices)) u q))
+  product_divides u q = subst (DividesInteger (k * l)) (sym (whole u q))
+      (times_factor k l (part u) (second.only part (part_solves (omega arith, g.vertices)) u q))
 
 pub only_product : (k l : ℕ) → 1 ≤ k → (G : Graph) → IsGraph G → HasOnlyZero k G → HasOnlyZero l G → HasOnlyZero (k * l) G
 only_product k l positive G g first second = record { only = product_divides k l positive G g first second }

@@ -20,14 +20,16 @@ use Rattle.barycentre.specs.Recovery.{IsLowest}
 -- where x/n is num/den in lowest terms, den divides n
 pub lowest_divides : (x num : ℤ) (n den : ℕ) → IsLowest x n num den → den ∣ n
 lowest_divides x num n den h =
-    let sizes : unsigned_abs num * n ≡ den * unsigned_abs x = sym (unsigned_abs-mul num (pos n)) ∙ ap unsigned_abs (sym h.same) ∙ unsigned_abs-mul x (pos den) ∙ mul_comm (unsigned_abs x) den in
+    let sizes : unsigned_abs num * n ≡ den * unsigned_abs x = sym (unsigned_abs-mul num (pos n)) ∙ ap unsigned_abs (sym h.same) ∙ unsigned_abs-mul x (pos den)
+    ∙ mul_comm (unsigned_abs x) den in
     euclid den (unsigned_abs num) n (IsGcd-swap (unsigned_abs num) den 1 h.reduced) (divides_multiple den (unsigned_abs num * n) (unsigned_abs x, sizes))
 
 -- the numerator is no greater than x
 pub lowest_small : (x num : ℤ) (n den bound : ℕ) → 1 ≤ n → IsLowest x n num den → unsigned_abs x ≤ bound → unsigned_abs num ≤ bound
 lowest_small x num n den bound one h l =
     let q = quotient_of den n (lowest_divides x num n den h) in
-    let scaled : x ≡ num *ℤ pos q.0 = cancel_factor (pos den) x (num *ℤ pos q.0) (positive_not_zero den h.positive) (*ℤ_comm (pos den) x ∙ h.same ∙ ap (λ k. num *ℤ pos k) q.1 ∙ product_exchange num (pos den) (pos q.0)) in
+    let scaled : x ≡ num *ℤ pos q.0 = cancel_factor (pos den) x (num *ℤ pos q.0) (positive_not_zero den h.positive)
+    (*ℤ_comm (pos den) x ∙ h.same ∙ ap (λ k. num *ℤ pos k) q.1 ∙ product_exchange num (pos den) (pos q.0)) in
     let sizes : unsigned_abs x ≡ unsigned_abs num * q.0 = ap unsigned_abs scaled ∙ unsigned_abs-mul num (pos q.0) in
     let factor : 1 ≤ q.0 = factor_positive den q.0 (subst (λ k. 1 ≤ k) q.1 one) in
     let p : unsigned_abs num ≤ unsigned_abs num = omega arith in
@@ -83,7 +85,8 @@ module _ (n : ℕ) (one : 1 ≤ n) where
   lowest (negsuc a) = of_negative (suc a) (of_natural (suc a) (bezout (suc a) n))
 
 -- from lowest terms to a reconstruction modulo m
-module _ (m bound : ℕ) (d : ℕ) (one : 1 ≤ d) (coprime : IsGcd d m 1) (a num : ℤ) (den : ℕ) (h : IsLowest a d num den) (small : unsigned_abs a ≤ bound) (limit : d ≤ bound) (x : ℕ) (is : DividesInteger m (pos d *ℤ pos x -ℤ a)) where
+module _ (m bound : ℕ) (d : ℕ) (one : 1 ≤ d) (coprime : IsGcd d m 1) (a num : ℤ) (den : ℕ) (h : IsLowest a d num den) (small : unsigned_abs a ≤ bound)
+    (limit : d ≤ bound) (x : ℕ) (is : DividesInteger m (pos d *ℤ pos x -ℤ a)) where
   product_step : (d x a den num m k : ℤ) → d *ℤ x -ℤ a ≡ m *ℤ k → a *ℤ den ≡ num *ℤ d → d *ℤ (num -ℤ x *ℤ den) ≡ m *ℤ neg_ℤ (k *ℤ den)
   product_step d x a den num m k e f = let p = ap (λ t. t *ℤ den) e in simp ring (omega (arith, linear, simp ring at p, simp ring at f))
 
@@ -97,5 +100,6 @@ module _ (m bound : ℕ) (d : ℕ) (one : 1 ≤ d) (coprime : IsGcd d m 1) (a nu
     denominator = let l = le_of_dvd one den_divides in omega (arith, l, limit);
     reduced = h.reduced;
     coprime = (one-dvd den, one-dvd m, λ k p q. coprime.2 k (dvd_trans k p den_divides) q);
-    same = cancel (coprime_cancels m d coprime) (num -ℤ pos x *ℤ pos den) (neg_ℤ (is.0 *ℤ pos den), product_step (pos d) (pos x) a (pos den) num (pos m) is.0 is.1 h.same);
+    same = cancel (coprime_cancels m d coprime) (num -ℤ pos x *ℤ pos den)
+        (neg_ℤ (is.0 *ℤ pos den), product_step (pos d) (pos x) a (pos den) num (pos m) is.0 is.1 h.same);
   }

@@ -16,7 +16,8 @@ use Rattle.barycentre.proofs.RecoveredFractions.{recovered}
 use Rattle.barycentre.specs.TwoSteps.{AreTwoSteps, TwoStepsRecover}
 use Rattle.barycentre.proofs.Whole.{whole_solutions}
 
-module _ (m : ℕ) (least : 2 ≤ m) (G : Graph) (g : IsGraph G) (c : ℕ) (below : c < 3) (s t r : ℕ → ℕ) (left : ℕ → ℤ) (h : AreTwoSteps m G c s t r left) (P : Placement) (n : IsNormalPlacement G P) where
+module _ (m : ℕ) (least : 2 ≤ m) (G : Graph) (g : IsGraph G) (c : ℕ) (below : c < 3) (s t r : ℕ → ℕ) (left : ℕ → ℤ) (h : AreTwoSteps m G c s t r left)
+    (P : Placement) (n : IsNormalPlacement G P) where
   not_one : m ≢ 1
   not_one e = omega (arith, e)
 
@@ -53,7 +54,8 @@ module _ (m : ℕ) (least : 2 ≤ m) (G : Graph) (g : IsGraph G) (c : ℕ) (belo
   is_reconstruction : (bound : ℕ) → P.denominator ≤ bound → (u : ℕ) → IsQuotientVertex G u → unsigned_abs (part c (base P u)) ≤ bound
       → (num : ℤ) (den : ℕ) → IsLowest (part c (base P u)) P.denominator num den → IsReconstruction (s u + m * t u) (m * m) bound num den
   is_reconstruction bound d u q small num den low =
-      recovered (m * m) bound P.denominator n.barycentric.positive (lifting.coprime (m * m) square_positive G g only_square P n) (part c (base P u)) num den low small d (s u + m * t u)
+      recovered (m * m) bound P.denominator n.barycentric.positive (lifting.coprime (m * m) square_positive G g only_square P n)
+      (part c (base P u)) num den low small d (s u + m * t u)
       (lifting.placement (m * m) G g only_square P n (part c) (part_is_coordinate c below) (λ v. pos (s v) +ℤ pos m *ℤ pos (t v)) solves_square u q)
 
 pub two_steps_recover : TwoStepsRecover

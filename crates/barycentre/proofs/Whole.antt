@@ -80,7 +80,8 @@ module _ (m : ℕ) (G : Graph) where
   solves c s h = record { origin = same_zero m (s 1) h.origin; means = λ u q l. at_mean c s u (h.means u q l) }
 
   balanced : (right s : ℕ → ℤ) (u : ℕ) → IsBalanced m G (λ v. whole (right v)) (λ v. whole (s v)) u → DividesInteger m (gains G s u +ℤ right u)
-  balanced right s u h = same_zero m _ (subst (λ r. Same m r (whole (pos 0))) ((λ i. ratio_plus (differences s (arcs_from G u) i) (whole (right u))) ∙ plus_whole (gains G s u) (right u)) h.balance)
+  balanced right s u h = same_zero m _ (subst (λ r. Same m r (whole (pos 0)))
+      ((λ i. ratio_plus (differences s (arcs_from G u) i) (whole (right u))) ∙ plus_whole (gains G s u) (right u)) h.balance)
 
   solves_with : (right s : ℕ → ℤ) → IsSolutionWith m G (λ u. whole (right u)) (λ u. whole (s u)) → Solves m G right s
   solves_with right s h = record { origin = same_zero m (s 1) h.origin; means = λ u q l. balanced right s u (h.balanced u q l) }
@@ -102,12 +103,14 @@ module _ (m : ℕ) (G : Graph) where
           let b = z.means u q l in
           mean_at c (λ v. s v +ℤ pos 1 *ℤ x v) u (
             a.0 +ℤ b.0,
-            ap (λ t. t +ℤ shifts G (part c) u) (gains_plus G (pos 1) s x u) ∙ sum_step (gains G s u) (shifts G (part c) u) (gains G x u) (pos m) a.0 b.0 a.1 b.1,
+            ap (λ t. t +ℤ shifts G (part c) u) (gains_plus G (pos 1) s x u)
+                ∙ sum_step (gains G s u) (shifts G (part c) u) (gains G x u) (pos m) a.0 b.0 a.1 b.1,
           );
     }
 
     is_zero : IsOnlySolution m G c → (u : ℕ) → IsQuotientVertex G u → DividesInteger m (x u)
-    is_zero only u q = subst (DividesInteger m) (one_product (x u)) (same_difference m (s u) (pos 1 *ℤ x u) (only (λ v. whole (s v)) (λ v. whole (s v +ℤ pos 1 *ℤ x v)) h moved u q))
+    is_zero only u q = subst (DividesInteger m) (one_product (x u)) (same_difference m (s u) (pos 1 *ℤ x u)
+        (only (λ v. whole (s v)) (λ v. whole (s v +ℤ pos 1 *ℤ x v)) h moved u q))
 
 pub whole_solutions : WholeSolutions
 whole_solutions = record {

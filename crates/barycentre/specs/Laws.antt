@@ -18,6 +18,7 @@ pub record IsLift (m : ℕ) (G : Graph) (c : Vector → ℤ) (s left t : ℕ →
 pub record LiftingGivesPlacement : Type 0 where
   pub coprime : (m : ℕ) → 1 ≤ m → (G : Graph) → IsGraph G → HasOnlyZero m G → (P : Placement) → IsNormalPlacement G P → IsGcd P.denominator m 1
   pub square : (m : ℕ) → 1 ≤ m → (G : Graph) → IsGraph G → HasOnlyZero m G → HasOnlyZero (m * m) G
-  pub solves : (m : ℕ) (G : Graph) → IsGraph G → (c : Vector → ℤ) → IsCoordinate c → (s left t : ℕ → ℤ) → IsLift m G c s left t → Solves (m * m) G (shifts G c) (λ u. s u +ℤ pos m *ℤ t u)
+  pub solves : (m : ℕ) (G : Graph) → IsGraph G → (c : Vector → ℤ) → IsCoordinate c → (s left t : ℕ → ℤ) → IsLift m G c s left t
+      → Solves (m * m) G (shifts G c) (λ u. s u +ℤ pos m *ℤ t u)
   pub placement : (m : ℕ) (G : Graph) → IsGraph G → HasOnlyZero m G → (P : Placement) → IsNormalPlacement G P → (c : Vector → ℤ) → IsCoordinate c
       → (x : ℕ → ℤ) → Solves m G (shifts G c) x → (u : ℕ) → IsQuotientVertex G u → DividesInteger m (pos P.denominator *ℤ x u -ℤ c (base P u))

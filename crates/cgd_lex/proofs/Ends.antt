@@ -1,5 +1,6 @@
 -- Where a piece ends in its line.
-use Rattle.std.proofs.Common.{◌≡◌, ℕ, zero, suc, ◌+◌, ◌<◌, ◌≤◌, Bool, true, false, List, [], ◌∷◌, ◌++◌, length, take, Option, None, Some, cond, ◌==◌, arith, refl, sym, ap, ◌∙◌, not, ◌||◌, inl, inr, get_or}
+use Rattle.std.proofs.Common.{◌≡◌, ℕ, zero, suc, ◌+◌, ◌<◌, ◌≤◌, Bool, true, false, List, [], ◌∷◌, ◌++◌, length, take, Option, None, Some, cond, ◌==◌, arith}
+use Rattle.std.proofs.Common.{refl, sym, ap, ◌∙◌, not, ◌||◌, inl, inr, get_or}
 use Rattle.std.specs.Prelude.{position, is_some, unwrap_or}
 use Rattle.std.proofs.lemmas.List.{length-append, length-take}
 use Rattle.std.specs.List.{prefix_len, onto_first}
@@ -134,7 +135,8 @@ size_by : (l : List ℕ) (o : Option ℕ) → position (λ x. x == 34) l ≡ o �
 size_by l o e = (ap is_some e, ap (λ o. length (other_bytes (quoted_piece o l))) e)
 
 -- a quote before the end of the line closes the text
-pub quote_closed : (bs : List ℕ) (k d : ℕ) → position (λ x. x == 34 || x == 10) bs ≡ Some k → get_or bs k d ≡ 34 → (is_closed (first_line bs) ≡ true) × (quoted_size (first_line bs) ≡ k + 1)
+pub quote_closed : (bs : List ℕ) (k d : ℕ) → position (λ x. x == 34 || x == 10) bs ≡ Some k → get_or bs k d ≡ 34
+    → (is_closed (first_line bs) ≡ true) × (quoted_size (first_line bs) ≡ k + 1)
 quote_closed bs k d at quote =
     let within_ = found_within (λ x. x == 34 || x == 10) bs k at in
     let is = end_at (λ x. x == 34 || x == 10) bs k at in
@@ -143,7 +145,8 @@ quote_closed bs k d at quote =
     (e.0, e.1 ∙ closed_size (first_line bs) k less)
 
 -- a line feed before any quote leaves the text open
-pub quote_open : (bs : List ℕ) (k d : ℕ) → position (λ x. x == 34 || x == 10) bs ≡ Some k → (get_or bs k d ≡ 34 → ⊥) → (is_closed (first_line bs) ≡ false) × (quoted_size (first_line bs) ≡ k)
+pub quote_open : (bs : List ℕ) (k d : ℕ) → position (λ x. x == 34 || x == 10) bs ≡ Some k → (get_or bs k d ≡ 34 → ⊥)
+    → (is_closed (first_line bs) ≡ false) × (quoted_size (first_line bs) ≡ k)
 quote_open bs k d at other =
     let within_ = found_within (λ x. x == 34 || x == 10) bs k at in
     let is = end_at (λ x. x == 34 || x == 10) bs k at in
@@ -175,8 +178,10 @@ run_is bs = up_to_on ends_run (first_line bs) ∙ take_line (prefix_len is_run_b
 
 -- the size of a run
 pub run_size : (bs : List ℕ) → length (run_bytes (first_line bs)) ≡ prefix_len is_run_byte (first_line bs)
-run_size bs = ap length (up_to_on ends_run (first_line bs)) ∙ omega (arith, length-take (prefix_len is_run_byte (first_line bs)) (first_line bs), within is_run_byte (first_line bs))
+run_size bs = ap length (up_to_on ends_run (first_line bs))
+    ∙ omega (arith, length-take (prefix_len is_run_byte (first_line bs)) (first_line bs), within is_run_byte (first_line bs))
 
 -- the kind of a run, from the test of its bytes
-pub kind_by : (b : ℕ) (bs : List ℕ) (n : ℕ) (t : Bool) → n ≡ prefix_len is_run_byte (first_line bs) → t ≡ is_whole (b ∷ take n bs) → cond t Whole Word ≡ kind_of_run (b ∷ run_bytes (first_line bs))
+pub kind_by : (b : ℕ) (bs : List ℕ) (n : ℕ) (t : Bool) → n ≡ prefix_len is_run_byte (first_line bs) → t ≡ is_whole (b ∷ take n bs)
+    → cond t Whole Word ≡ kind_of_run (b ∷ run_bytes (first_line bs))
 kind_by b bs n t size is = ap (λ t. cond t Whole Word) (is ∙ ap (λ n. is_whole (b ∷ take n bs)) size ∙ ap (λ run. is_whole (b ∷ run)) (sym (run_is bs)))

@@ -1,5 +1,6 @@
 -- The cut that is found is one.
-use Rattle.std.proofs.Common.{◌≡◌, ◌≢◌, ℕ, zero, suc, ◌+◌, ◌≤◌, Bool, true, List, [], ◌∷◌, ◌++◌, length, take, drop, Option, None, Some, ◌==◌, arith, refl, sym, ap, ◌∙◌, not, subst, inl, inr}
+use Rattle.std.proofs.Common.{◌≡◌, ◌≢◌, ℕ, zero, suc, ◌+◌, ◌≤◌, Bool, true, List, [], ◌∷◌, ◌++◌, length, take, drop, Option, None, Some, ◌==◌, arith, refl, sym}
+use Rattle.std.proofs.Common.{ap, ◌∙◌, not, subst, inl, inr}
 use Rattle.std.proofs.lemmas.Bool.{cases_Bool}
 use Rattle.std.specs.Prelude.{position, All}
 use Rattle.std.specs.List.{prefix_len}
@@ -18,7 +19,8 @@ use Rattle.cgd_lex.proofs.Fits.{piece_fits}
 before : (p : ℕ → Bool) (l : List ℕ) → All (λ b. p b ≡ true) (take (prefix_len p l) l)
 before p [] = All-nil (λ b. p b ≡ true)
 before p (b ∷ l) = elim (cases_Bool (p b)) [
-  | inl yes_ ↦ rw yes_ (let e : 1 + prefix_len p l ≡ suc (prefix_len p l) = omega arith in rw e (All-cons (λ b. p b ≡ true) b (take (prefix_len p l) l) yes_ (before p l)))
+  | inl yes_ ↦ rw yes_ (let e : 1 + prefix_len p l ≡ suc (prefix_len p l) = omega arith in
+      rw e (All-cons (λ b. p b ≡ true) b (take (prefix_len p l) l) yes_ (before p l)))
   | inr no_ ↦ rw no_ (All-nil (λ b. p b ≡ true))
 ]
 
@@ -38,11 +40,15 @@ no_quote b h e = grind (arith, common_steps, h, e)
 quoted_stands : (l : List ℕ) (o : Option ℕ) → position (λ x. x == 34) l ≡ o → MayStand (quoted_piece o l) (drop (length (other_bytes (quoted_piece o l))) l)
 quoted_stands l None e =
     let n = no_end (λ x. x == 34) l e in
-    let all = before (λ x. not (x == 34)) l in
-    (All-map (λ b. not (b == 34) ≡ true) (λ b. b ≢ 34) no_quote l (subst (λ m. All (λ b. not (b == 34) ≡ true) m) (ap (λ n. take n l) n ∙ take_all (length l) l (omega arith)) all), drop-length l)
+    let all = before (λ x. not (x == 34)) l in (
+      All-map (λ b. not (b == 34) ≡ true) (λ b. b ≢ 34) no_quote l (subst (λ m. All (λ b. not (b == 34) ≡ true) m)
+          (ap (λ n. take n l) n ∙ take_all (length l) l (omega arith)) all),
+      drop-length l,
+    )
 quoted_stands l (Some k) e =
     let n = end_at (λ x. x == 34) l k e in
-    All-map (λ b. not (b == 34) ≡ true) (λ b. b ≢ 34) no_quote (take k l) (subst (λ m. All (λ b. not (b == 34) ≡ true) (take m l)) n (before (λ x. not (x == 34)) l))
+    All-map (λ b. not (b == 34) ≡ true) (λ b. b ≢ 34) no_quote (take k l)
+    (subst (λ m. All (λ b. not (b == 34) ≡ true) (take m l)) n (before (λ x. not (x == 34)) l))
 
 -- a run may stand where it does
 run_stands : (b : ℕ) (l : List ℕ) → is_run_byte b ≡ true → MayStand (Run b (run_bytes l)) (drop (length (run_bytes l)) l)
@@ -68,5 +74,11 @@ is_cut (suc n) (b ∷ l) fits =
     let p = first_piece b l in
     let k = length (other_bytes p) in
     let f = piece_fits b l in
-    let e : b ∷ l ≡ bytes_of p ++ drop k l = ap (λ t. b ∷ t) (sym (take-append-drop k l)) ∙ ap (λ t. b ∷ t ++ drop k l) (sym f.2) ∙ ap (λ c. c ∷ other_bytes p ++ drop k l) (sym f.0) in
-    (drop k l, e, stands b l, subst (λ ps. IsCut ps (drop k l)) (sym (passed (other_bytes p) l f.1)) (is_cut n (drop k l) (omega (arith, fits, length-drop k l))))
+    let e : b ∷ l ≡ bytes_of p ++ drop k l = ap (λ t. b ∷ t) (sym (take-append-drop k l)) ∙ ap (λ t. b ∷ t ++ drop k l) (sym f.2)
+    ∙ ap (λ c. c ∷ other_bytes p ++ drop k l) (sym f.0) in (
+      drop k l,
+      e,
+      stands b l,
+      subst (λ ps. IsCut ps (drop k l)) (sym (passed (other_bytes p) l f.1))
+          (is_cut n (drop k l) (omega (arith, fits, length-drop k l))),
+    )

@@ -1,5 +1,6 @@
 -- A piece is a part of its line.
-use Rattle.std.proofs.Common.{◌≡◌, ◌≢◌, ℕ, suc, ◌+◌, ◌-◌, ◌≤◌, false, List, [], ◌∷◌, ◌++◌, length, take, drop, Option, None, Some, ◌==◌, arith, refl, sym, ap, ◌∙◌, get_or, not, take-suc}
+use Rattle.std.proofs.Common.{◌≡◌, ◌≢◌, ℕ, suc, ◌+◌, ◌-◌, ◌≤◌, false, List, [], ◌∷◌, ◌++◌, length, take, drop, Option, None, Some, ◌==◌, arith, refl, sym, ap}
+use Rattle.std.proofs.Common.{◌∙◌, get_or, not, take-suc}
 use Rattle.std.specs.Prelude.{position}
 use Rattle.std.specs.List.{prefix_len}
 use Rattle.std.proofs.lemmas.List.{length-append, length-take, take_all, take_rest}
@@ -58,7 +59,8 @@ no_line_feed b other = grind (arith, common_steps, other)
 -- the bytes that were measured are a part of the text, whatever its place and line
 pub part_is : (text : List ℕ) (b : ℕ) (bs : List ℕ) (n : ℕ) (kind : Option TokenKind) → text ≡ b ∷ bs → b ≢ 10
     → n ≡ length (other_bytes (first_piece b (first_line bs))) → kind ≡ kind_of_piece (first_piece b (first_line bs)) → n ≤ length bs
-    → (at line : ℕ) → tokens_from at line text ≡ token_at at line (take (n + 1) text) kind ++ tokens_from (at + length (take (n + 1) text)) (line + 0) (take (length bs - n) (drop n bs))
+    → (at line : ℕ) → tokens_from at line text ≡ token_at at line (take (n + 1) text) kind
+    ++ tokens_from (at + length (take (n + 1) text)) (line + 0) (take (length bs - n) (drop n bs))
 part_is text b bs n kind whole other size kind_is room at line =
     let p = first_piece b (first_line bs) in
     let fits = piece_fits b (first_line bs) in

@@ -1,5 +1,6 @@
 -- Where the tokens of a text stand, and what their texts are.
-use Rattle.std.proofs.Common.{◌≡◌, ℕ, zero, suc, ◌+◌, ◌≤◌, false, List, [], ◌∷◌, ◌++◌, length, take, drop, cond, ◌==◌, arith, refl, sym, ap, ◌∙◌, inl, inr, subst, Option, None, Some}
+use Rattle.std.proofs.Common.{◌≡◌, ℕ, zero, suc, ◌+◌, ◌≤◌, false, List, [], ◌∷◌, ◌++◌, length, take, drop, cond, ◌==◌, arith, refl, sym, ap, ◌∙◌, inl, inr}
+use Rattle.std.proofs.Common.{subst, Option, None, Some}
 use Rattle.std.proofs.lemmas.Bool.{cases_Bool}
 use Rattle.std.specs.Prelude.{All, count_by}
 use Rattle.std.proofs.Math.Seq.{drop-append_seam, take-append_seam}
@@ -42,7 +43,8 @@ feeds_in_line zero bs = refl
 feeds_in_line (suc k) [] = refl
 feeds_in_line (suc k) (b ∷ bs) = elim (cases_Bool (b == line_feed)) [
   | inl yes_ ↦ let e : b ≡ line_feed = same b line_feed yes_ in rw e refl
-  | inr no_ ↦ rw (first_line_on b bs no_) (feeds-cons b (take k (first_line bs)) ∙ ap (λ t. cond t 1 0 + feeds (take k (first_line bs))) no_ ∙ omega (arith, feeds_in_line k bs))
+  | inr no_ ↦ rw (first_line_on b bs no_) (feeds-cons b (take k (first_line bs)) ∙ ap (λ t. cond t 1 0 + feeds (take k (first_line bs))) no_
+      ∙ omega (arith, feeds_in_line k bs))
 ]
 
 -- no line ends within a piece
@@ -109,7 +111,8 @@ placed (suc n) before (b ∷ bs) from at line fits place number less = elim (cas
       let feed : List ℕ = line_feed ∷ [] in
       let later = placed n (before ++ feed) bs (at + 1) (at + 1) (line + 1)
       (omega (arith, fits)) (omega (arith, place, length-append before feed)) (omega (arith, number, feeds-append before feed)) (omega arith) in
-      rw e (rw (at_newline at line bs) (with_part before feed bs (Some Newline) from at line _ place number less refl (rw (sym (append_assoc before feed bs)) later)))
+      rw e (rw (at_newline at line bs) (with_part before feed bs (Some Newline) from at line _ place number less refl
+      (rw (sym (append_assoc before feed bs)) later)))
   | inr no_ ↦
       let p = first_piece b (first_line bs) in
       let k = length (other_bytes p) in
@@ -120,7 +123,8 @@ placed (suc n) before (b ∷ bs) from at line fits place number less = elim (cas
       let form : IsOfItsKind (kind_of_piece p) part = subst (λ b. IsOfItsKind (kind_of_piece p) (b ∷ other_bytes p)) f.0 (first_form b (first_line bs)) in
       let none : feeds part ≡ 0 = feeds_in_part b bs no_ in
       let later = placed n (before ++ part) (drop k bs) (at + length part) (at + 1 + k) line
-      (omega (arith, fits, length-drop k bs)) (omega (arith, place, length-append before part)) (omega (arith, number, feeds-append before part, none)) (omega arith) in
+      (omega (arith, fits, length-drop k bs)) (omega (arith, place, length-append before part)) (omega (arith, number, feeds-append before part, none))
+      (omega arith) in
       rw (one_piece at line b bs p no_ refl f.1 f.0)
       (subst (λ text. ArePlaced (before ++ text) from (token_at at line part (kind_of_piece p) ++ tokens_from (at + 1 + k) line (drop k bs))) whole
       (with_part before part (drop k bs) (kind_of_piece p) from at line _ place number less form (rw (sym (append_assoc before part (drop k bs))) later)))

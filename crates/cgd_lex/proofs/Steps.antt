@@ -1,23 +1,28 @@
 -- Tokens and pieces of a text, one after another from its front.
-use Rattle.std.proofs.Common.{◌≡◌, ℕ, ◌+◌, ◌≤◌, Bool, true, false, List, [], ◌∷◌, ◌++◌, length, take, drop, cond, ◌==◌, arith, refl, sym, ap, ◌∙◌, not, ◌||◌, inl, inr}
+use Rattle.std.proofs.Common.{◌≡◌, ℕ, ◌+◌, ◌≤◌, Bool, true, false, List, [], ◌∷◌, ◌++◌, length, take, drop, cond, ◌==◌, arith, refl, sym, ap, ◌∙◌, not, ◌||◌}
+use Rattle.std.proofs.Common.{inl, inr}
 use Rattle.std.proofs.lemmas.Bool.{cases_Bool}
 use Rattle.std.specs.Prelude.{position}
 use Rattle.std.specs.List.{onto_first, prefix_len}
 use Rattle.std.proofs.lemmas.Grind.{common_steps}
 use Rattle.std.proofs.lemmas.List.{append_assoc, length-drop}
-use Rattle.cgd_lex.specs.Pieces.{pieces_after, cut_of, up_to, Piece, Blank, Comment, Control, Run, first_byte, other_bytes, bytes_of, first_piece, quoted_piece, is_run_byte, ends_run, is_blank, is_control}
-use Rattle.cgd_lex.specs.Tokens.{tokens_from, first_line, lines_of, first_of, others_of, newline, token_at, later_lines, tokens_of_pieces, tokens_of_line, kind_of_piece}
+use Rattle.cgd_lex.specs.Pieces.{pieces_after, cut_of, up_to, Piece, Blank, Comment, Control, Run, first_byte, other_bytes, bytes_of, first_piece, quoted_piece}
+use Rattle.cgd_lex.specs.Pieces.{is_run_byte, ends_run, is_blank, is_control}
+use Rattle.cgd_lex.specs.Tokens.{tokens_from, first_line, lines_of, first_of, others_of, newline, token_at, later_lines, tokens_of_pieces, tokens_of_line}
+use Rattle.cgd_lex.specs.Tokens.{kind_of_piece}
 
 -- a text has a first line
 pub split_some : (bs : List ℕ) → lines_of bs ≡ first_line bs ∷ others_of (lines_of bs)
 split_some [] = refl
-split_some (b ∷ bs) = elim (b == 10) as (λ t. cond t ([] ∷ lines_of bs) (onto_first b (lines_of bs)) ≡ first_of (cond t ([] ∷ lines_of bs) (onto_first b (lines_of bs))) ∷ others_of (cond t ([] ∷ lines_of bs) (onto_first b (lines_of bs)))) [
-  | true ↦ refl
-  | false ↦ rw (split_some bs) refl
-]
+split_some (b ∷ bs) = elim (b == 10) as (λ t. cond t ([] ∷ lines_of bs) (onto_first b (lines_of bs)) ≡ first_of
+    (cond t ([] ∷ lines_of bs) (onto_first b (lines_of bs))) ∷ others_of (cond t ([] ∷ lines_of bs) (onto_first b (lines_of bs)))) [
+      | true ↦ refl
+      | false ↦ rw (split_some bs) refl
+    ]
 
 -- the tokens from a line feed on
-later : (at line : ℕ) (l : List ℕ) (ls : List (List ℕ)) → later_lines (at + 0) line (l ∷ ls) ≡ newline at line ∷ tokens_of_line (at + 1) (line + 1) l ++ later_lines (at + 1 + length l) (line + 1) ls
+later : (at line : ℕ) (l : List ℕ) (ls : List (List ℕ)) → later_lines (at + 0) line (l ∷ ls) ≡ newline at line ∷ tokens_of_line (at + 1) (line + 1) l
+    ++ later_lines (at + 1 + length l) (line + 1) ls
 later at line l ls = let e : at + 0 ≡ at = omega arith in rw e refl
 
 -- a line feed is a Newline, and the next line follows
@@ -73,7 +78,8 @@ pub up_to_on : (p : ℕ → Bool) (bs : List ℕ) → up_to (position p bs) bs �
 up_to_on p bs = grind (arith, common_steps)
 
 -- bytes of the first line dropped from the text are dropped from that line alone
-pub lines_dropped : (taken bs : List ℕ) → length taken ≤ length (first_line bs) → lines_of (drop (length taken) bs) ≡ drop (length taken) (first_line bs) ∷ others_of (lines_of bs)
+pub lines_dropped : (taken bs : List ℕ) → length taken ≤ length (first_line bs)
+    → lines_of (drop (length taken) bs) ≡ drop (length taken) (first_line bs) ∷ others_of (lines_of bs)
 lines_dropped [] bs fits = split_some bs
 lines_dropped (t ∷ taken) [] fits = absurd (omega (arith, fits))
 lines_dropped (t ∷ taken) (b ∷ bs) fits = elim (cases_Bool (b == 10)) [
@@ -83,17 +89,21 @@ lines_dropped (t ∷ taken) (b ∷ bs) fits = elim (cases_Bool (b == 10)) [
 
 -- the tokens of a line, after its first piece
 with_piece : (at line b : ℕ) (l : List ℕ) (p : Piece) → first_piece b l ≡ p → length (other_bytes p) ≤ length l → first_byte p ≡ b →
-    tokens_of_line at line (b ∷ l) ≡ token_at at line (b ∷ other_bytes p) (kind_of_piece p) ++ tokens_of_line (at + 1 + length (other_bytes p)) line (drop (length (other_bytes p)) l)
+    tokens_of_line at line (b ∷ l) ≡ token_at at line (b ∷ other_bytes p) (kind_of_piece p)
+    ++ tokens_of_line (at + 1 + length (other_bytes p)) line (drop (length (other_bytes p)) l)
 with_piece at line b l p is fits first =
     let e : at + length (bytes_of p) ≡ at + 1 + length (other_bytes p) = omega arith in
     ap (λ p. tokens_of_pieces at line (p ∷ pieces_after (other_bytes p) l)) is
     ∙ ap (λ ps. tokens_of_pieces at line (p ∷ ps)) (passed (other_bytes p) l fits)
     ∙ ap (λ n. token_at at line (bytes_of p) (kind_of_piece p) ++ tokens_of_line n line (drop (length (other_bytes p)) l)) e
-    ∙ ap (λ b. token_at at line (b ∷ other_bytes p) (kind_of_piece p) ++ tokens_of_line (at + 1 + length (other_bytes p)) line (drop (length (other_bytes p)) l)) first
+    ∙ ap (λ b. token_at at line (b ∷ other_bytes p) (kind_of_piece p) ++ tokens_of_line (at + 1 + length (other_bytes p)) line
+    (drop (length (other_bytes p)) l)) first
 
 -- where the first line has room for the first piece
-pub one_piece : (at line b : ℕ) (bs : List ℕ) (p : Piece) → (b == 10) ≡ false → first_piece b (first_line bs) ≡ p → length (other_bytes p) ≤ length (first_line bs) → first_byte p ≡ b →
-    tokens_from at line (b ∷ bs) ≡ token_at at line (b ∷ other_bytes p) (kind_of_piece p) ++ tokens_from (at + 1 + length (other_bytes p)) line (drop (length (other_bytes p)) bs)
+pub one_piece : (at line b : ℕ) (bs : List ℕ) (p : Piece) → (b == 10) ≡ false → first_piece b (first_line bs) ≡ p
+    → length (other_bytes p) ≤ length (first_line bs) → first_byte p ≡ b →
+    tokens_from at line (b ∷ bs) ≡ token_at at line (b ∷ other_bytes p) (kind_of_piece p)
+    ++ tokens_from (at + 1 + length (other_bytes p)) line (drop (length (other_bytes p)) bs)
 one_piece at line b bs p other is fits first =
     let k = length (other_bytes p) in
     let l = first_line bs in
@@ -104,4 +114,6 @@ one_piece at line b bs p other is fits first =
     ∙ ap (λ t. t ++ later_lines (at + length (b ∷ l)) line o) (with_piece at line b l p is fits first)
     ∙ ap (λ n. (token_at at line (b ∷ other_bytes p) (kind_of_piece p) ++ tokens_of_line (at + 1 + k) line (drop k l)) ++ later_lines n line o) e
     ∙ append_assoc (token_at at line (b ∷ other_bytes p) (kind_of_piece p)) _ _
-    ∙ ap (λ ls. token_at at line (b ∷ other_bytes p) (kind_of_piece p) ++ (tokens_of_line (at + 1 + k) line (first_of ls) ++ later_lines (at + 1 + k + length (first_of ls)) line (others_of ls))) (sym (lines_dropped (other_bytes p) bs fits))
+    ∙ ap (λ ls. token_at at line (b ∷ other_bytes p) (kind_of_piece p) ++
+    (tokens_of_line (at + 1 + k) line (first_of ls) ++ later_lines (at + 1 + k + length (first_of ls)) line (others_of ls)))
+    (sym (lines_dropped (other_bytes p) bs fits))

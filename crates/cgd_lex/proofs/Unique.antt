@@ -1,5 +1,6 @@
 -- A line has exactly one cut.
-use Rattle.std.proofs.Common.{◌≡◌, ◌≢◌, ℕ, Bool, true, false, List, [], ◌∷◌, ◌++◌, length, take, cond, ◌==◌, arith, refl, sym, ap, ◌∙◌, not, ◌||◌, ◌&&◌, nat_lt, inl, inr}
+use Rattle.std.proofs.Common.{◌≡◌, ◌≢◌, ℕ, Bool, true, false, List, [], ◌∷◌, ◌++◌, length, take, cond, ◌==◌, arith, refl, sym, ap, ◌∙◌, not, ◌||◌, ◌&&◌, nat_lt}
+use Rattle.std.proofs.Common.{inl, inr}
 use Rattle.std.proofs.lemmas.Bool.{cases_Bool}
 use Rattle.std.specs.Prelude.{position, All}
 use Rattle.std.specs.List.{prefix_len}
@@ -7,7 +8,8 @@ use Rattle.std.proofs.lemmas.List.{append_assoc, append-nil, length-append}
 use Rattle.std.proofs.Math.Seq.{take-append_seam}
 use Rattle.std.proofs.lemmas.List.Elements.{All-head, All-cons, All-tail, All-nil}
 use Rattle.std.proofs.lemmas.Grind.{common_steps}
-use Rattle.cgd_lex.specs.Pieces.{Piece, Blank, Comment, Closed, Unclosed, Control, Run, first_byte, other_bytes, first_piece, quoted_piece, pieces_after, cut_of, run_bytes, is_run_byte, ends_run, is_blank, is_control, MayStand, IsCut, StartsNoRun}
+use Rattle.cgd_lex.specs.Pieces.{Piece, Blank, Comment, Closed, Unclosed, Control, Run, first_byte, other_bytes, first_piece, quoted_piece, pieces_after}
+use Rattle.cgd_lex.specs.Pieces.{cut_of, run_bytes, is_run_byte, ends_run, is_blank, is_control, MayStand, IsCut, StartsNoRun}
 use Rattle.cgd_lex.proofs.Steps.{up_to_on}
 use Rattle.cgd_lex.proofs.Ends.{found_at, found_none, same}
 
@@ -37,7 +39,8 @@ All-map P Q f [] all = All-nil Q
 All-map P Q f (b ∷ bs) all = All-cons Q b bs (f b (All-head P b bs all)) (All-map P Q f bs (All-tail P b bs all))
 
 -- a closed text is found
-quoted_is : (bs rest : List ℕ) → All (λ b. not (b == 34) ≡ true) bs → quoted_piece (position (λ x. x == 34) ((bs ++ 34 ∷ []) ++ rest)) ((bs ++ 34 ∷ []) ++ rest) ≡ Closed bs
+quoted_is : (bs rest : List ℕ) → All (λ b. not (b == 34) ≡ true) bs → quoted_piece (position (λ x. x == 34) ((bs ++ 34 ∷ []) ++ rest))
+    ((bs ++ 34 ∷ []) ++ rest) ≡ Closed bs
 quoted_is bs rest all =
     let e : (bs ++ 34 ∷ []) ++ rest ≡ bs ++ 34 ∷ rest = append_assoc bs (34 ∷ []) rest in
     let n = passes (λ x. not (x == 34)) bs (34 ∷ rest) all refl in
@@ -77,7 +80,8 @@ stops (b ∷ bs) h = rw h refl
 
 -- the bytes of a run are found
 run_of : (bs rest : List ℕ) → All (λ b. is_run_byte b ≡ true) bs → StartsNoRun rest → run_bytes (bs ++ rest) ≡ bs
-run_of bs rest all none = up_to_on ends_run (bs ++ rest) ∙ ap (λ n. take n (bs ++ rest)) (passes is_run_byte bs rest all (stops rest none)) ∙ take-append_seam bs rest
+run_of bs rest all none = up_to_on ends_run (bs ++ rest) ∙ ap (λ n. take n (bs ++ rest)) (passes is_run_byte bs rest all (stops rest none))
+    ∙ take-append_seam bs rest
 
 -- a piece that may stand where it does is the one that is found
 is_first : (p : Piece) (rest : List ℕ) → MayStand p rest → first_piece (first_byte p) (other_bytes p ++ rest) ≡ p
@@ -85,7 +89,8 @@ is_first (Blank b) rest stands = rw stands refl
 is_first (Comment bs) rest stands = rw stands (ap Comment (append-nil bs))
 is_first (Closed bs) rest stands = quoted_is bs rest (All-map (λ b. b ≢ 34) (λ b. not (b == 34) ≡ true) other_than bs stands)
 is_first (Unclosed bs) rest stands = rw stands.1 (rw (append-nil bs) (open_is bs (All-map (λ b. b ≢ 34) (λ b. not (b == 34) ≡ true) other_than bs stands.0)))
-is_first (Control b) rest stands = only_last (is_blank b) (b == 35) (b == 34) (nat_lt b 32 || b == 127) _ _ _ _ _ stands (no_control b 35 refl stands) (no_control b 34 refl stands)
+is_first (Control b) rest stands = only_last (is_blank b) (b == 35) (b == 34) (nat_lt b 32 || b == 127) _ _ _ _ _ stands (no_control b 35 refl stands)
+    (no_control b 34 refl stands)
 is_first (Run b bs) rest stands = all_false (is_blank b) (b == 35) (b == 34) (is_control b) _ _ _ _ _ stands.0 ∙ ap (Run b) (run_of bs rest stands.1 stands.2)
 
 -- each cut of a line is the one that is found

@@ -1,5 +1,6 @@
 -- A line is cut into pieces.
-use Rattle.std.specs.Prelude.{ℕ, Bool, ◌||◌, ◌&&◌, not, nat_lt, ◌==◌, List, [], ◌∷◌, ◌++◌, take, position, Option, None, Some, if◌then◌else◌, ◌≡◌, ◌≢◌, All, IsTrue, false}
+use Rattle.std.specs.Prelude.{ℕ, Bool, ◌||◌, ◌&&◌, not, nat_lt, ◌==◌, List, [], ◌∷◌, ◌++◌, take, position, Option, None, Some, if◌then◌else◌, ◌≡◌, ◌≢◌, All}
+use Rattle.std.specs.Prelude.{IsTrue, false}
 
 -- the byte that ends a line
 abbrev pub line_feed : ℕ

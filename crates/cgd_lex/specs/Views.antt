@@ -11,4 +11,5 @@ token_view token = record { kind = token.kind; text = token.text.now; start = to
 -- the text is this part and what follows it, wherever the text begins
 abbrev pub IsPartOf : List ℕ → Part → Type 0
 IsPartOf text part = (at line : ℕ) →
-    tokens_from at line text ≡ token_at at line part.text.now part.kind ++ tokens_from (at + length part.text.now) (line + (if part.ends_line then 1 else 0)) part.rest.now
+    tokens_from at line text ≡ token_at at line part.text.now part.kind
+    ++ tokens_from (at + length part.text.now) (line + (if part.ends_line then 1 else 0)) part.rest.now

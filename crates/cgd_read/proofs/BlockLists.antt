@@ -12,12 +12,14 @@ pub passed_over : (lines : List LineView) → blocks_from true lines ≡ blocks_
 passed_over [] = refl
 passed_over (line ∷ lines) = by (is_end line.kind) (passed_over lines)
   where
-    by : (t : Bool) → blocks_from true lines ≡ blocks_from false (after_end lines) → cond t (blocks_from false lines) (blocks_from true lines) ≡ blocks_from false (cond t lines (after_end lines))
+    by : (t : Bool) → blocks_from true lines ≡ blocks_from false (after_end lines)
+        → cond t (blocks_from false lines) (blocks_from true lines) ≡ blocks_from false (cond t lines (after_end lines))
     by true e = refl
     by false e = e
 
 -- a line other than END opens a block
-pub one_block : (line : LineView) (lines : List LineView) → is_end line.kind ≡ false → blocks_from false (line ∷ lines) ≡ block_of line lines ∷ blocks_from false (after_end lines)
+pub one_block : (line : LineView) (lines : List LineView) → is_end line.kind ≡ false
+    → blocks_from false (line ∷ lines) ≡ block_of line lines ∷ blocks_from false (after_end lines)
 one_block line lines e =
     ap (λ t. cond t (blocks_from false lines) (block_of line lines ∷ blocks_from true lines)) e
     ∙ ap (λ (bs : List BlockView). block_of line lines ∷ bs) (passed_over lines)

@@ -6,4 +6,3 @@ pub use Rattle.cgd_read.proofs.FieldLists.{flat_tokens}
 pub use Rattle.cgd_read.proofs.Parts.{negative_small, small_part}
 pub use Rattle.cgd_read.proofs.Places.{all_fail}
 pub use Rattle.cgd_read.proofs.RowGraph.{apart, same_self, size_now}
-pub use Rattle.cgd_read.proofs.WellEdges.{wider}

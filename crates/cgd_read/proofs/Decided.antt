@@ -39,26 +39,31 @@ ended opening earlier = with_body opening earlier (Net (net_of (rows_in earlier)
 pub passes_on : (opening : ℕ) (earlier : List LineView) (line : LineView) (later : List LineView) → AllFalse (table earlier line) → is_end line.kind ≡ false
     → graph_block opening earlier (line ∷ later) ≡ graph_block opening (line ∷ earlier) later
 passes_on opening earlier line later h e =
-    ap (λ fault. or_fault fault line.number opening earlier (cond (is_end line.kind) (ended opening earlier) (graph_block opening (line ∷ earlier) later))) (none_true (table earlier line) h)
+    ap (λ fault. or_fault fault line.number opening earlier (cond (is_end line.kind) (ended opening earlier) (graph_block opening (line ∷ earlier) later)))
+    (none_true (table earlier line) h)
     ∙ ap (λ t. cond t (ended opening earlier) (graph_block opening (line ∷ earlier) later)) e
 
 faulty : (opening : ℕ) (earlier : List LineView) (line : LineView) (later : List LineView) (kind : BlockFaultKind) → IsFirstTrue (table earlier line) kind
     → graph_block opening earlier (line ∷ later) ≡ with_body opening earlier (malformed line.number kind)
 faulty opening earlier line later kind h =
-    ap (λ fault. or_fault fault line.number opening earlier (cond (is_end line.kind) (ended opening earlier) (graph_block opening (line ∷ earlier) later))) (one_true (table earlier line) kind h)
+    ap (λ fault. or_fault fault line.number opening earlier (cond (is_end line.kind) (ended opening earlier) (graph_block opening (line ∷ earlier) later)))
+    (one_true (table earlier line) kind h)
 
 ends_here : (opening : ℕ) (earlier : List LineView) (line : LineView) (later : List LineView) → AllFalse (table earlier line) → is_end line.kind ≡ true
     → graph_block opening earlier (line ∷ later) ≡ ended opening earlier
 ends_here opening earlier line later h e =
-    ap (λ fault. or_fault fault line.number opening earlier (cond (is_end line.kind) (ended opening earlier) (graph_block opening (line ∷ earlier) later))) (none_true (table earlier line) h)
+    ap (λ fault. or_fault fault line.number opening earlier (cond (is_end line.kind) (ended opening earlier) (graph_block opening (line ∷ earlier) later)))
+    (none_true (table earlier line) h)
     ∙ ap (λ t. cond t (ended opening earlier) (graph_block opening (line ∷ earlier) later)) e
 
 -- after lines that pass
-from_start : (opening : ℕ) (earlier later : List LineView) → AllPass earlier → graph_block opening [] (in_order earlier later) ≡ graph_block opening earlier later
+from_start : (opening : ℕ) (earlier later : List LineView) → AllPass earlier
+    → graph_block opening [] (in_order earlier later) ≡ graph_block opening earlier later
 from_start opening [] later h = refl
 from_start opening (line ∷ earlier) later h = from_start opening earlier (line ∷ later) h.2 ∙ passes_on opening earlier line later h.0 h.1
 
-decided_block : (opening : ℕ) (earlier later : List LineView) (block : BlockView) → IsDecided opening earlier later block → block ≡ graph_block opening earlier later
+decided_block : (opening : ℕ) (earlier later : List LineView) (block : BlockView) → IsDecided opening earlier later block
+    → block ≡ graph_block opening earlier later
 decided_block opening earlier [] block h = h
 decided_block opening earlier (line ∷ later) block (inl f) = f.told ∙ sym (faulty opening earlier line later f.kind f.first)
 decided_block opening earlier (line ∷ later) block (inr e) = e.told ∙ sym (ends_here opening earlier line later e.faultless e.ends)
@@ -70,7 +75,8 @@ only_block opening lines block b =
     ∙ sym (from_start opening b.earlier b.later b.passed)
     ∙ ap (graph_block opening []) b.whole
 
-some_block : (opening : ℕ) (lines earlier later : List LineView) → in_order earlier later ≡ lines → AllPass earlier → IsGraphBlock opening lines (graph_block opening earlier later)
+some_block : (opening : ℕ) (lines earlier later : List LineView) → in_order earlier later ≡ lines → AllPass earlier
+    → IsGraphBlock opening lines (graph_block opening earlier later)
 some_block opening lines earlier [] whole passed = record { earlier = earlier; later = []; whole = whole; passed = passed; decided = refl }
 some_block opening lines earlier (line ∷ later) whole passed = elim (search_table (table earlier line)) [
   | inr found ↦ record {
@@ -88,7 +94,8 @@ some_block opening lines earlier (line ∷ later) whole passed = elim (search_ta
       passed = passed;
       decided = inr (record { faultless = none; ends = yes_; told = ends_here opening earlier line later none yes_ });
     }
-    | inr no_ ↦ subst (IsGraphBlock opening lines) (sym (passes_on opening earlier line later none no_)) (some_block opening lines (line ∷ earlier) later whole (none, no_, passed))
+    | inr no_ ↦ subst (IsGraphBlock opening lines) (sym (passes_on opening earlier line later none no_))
+        (some_block opening lines (line ∷ earlier) later whole (none, no_, passed))
   ]
 ]
 

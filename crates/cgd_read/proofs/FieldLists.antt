@@ -1,12 +1,14 @@
 -- What the fields of a line say, read one by one.
-use Rattle.std.proofs.Common.{◌≡◌, ℕ, ℤ, ◌+◌, ◌≤◌, ◌<◌, ◌==◌, nat_lt, Bool, true, false, cond, ◌||◌, ◌&&◌, List, [], ◌∷◌, length, drop, fold, Option, None, is_none, pos, refl, sym, ap, subst, ◌∙◌, arith}
+use Rattle.std.proofs.Common.{◌≡◌, ℕ, ℤ, ◌+◌, ◌≤◌, ◌<◌, ◌==◌, nat_lt, Bool, true, false, cond, ◌||◌, ◌&&◌, List, [], ◌∷◌, length, drop, fold, Option, None}
+use Rattle.std.proofs.Common.{is_none, pos, refl, sym, ap, subst, ◌∙◌, arith}
 use Rattle.std.specs.List.{list_any}
 use Rattle.std.proofs.lemmas.Bool.Decides.{nat_tests}
 use Rattle.std.proofs.Math.Bool.{or_assoc, or-false}
 use Rattle.cgd_lex.specs.Tokens.{TokenView}
 use Rattle.cgd_read.specs.Values.{part_of}
 use Rattle.cgd_lex.specs.Words.{is_quoted, name_in}
-use Rattle.cgd_read.specs.Lines.{FieldsView, fields_of, is_strange, name_of_fields, part_or_zero, text_of_first, part_of_first, LineView, line_with, fields_from, kind_of}
+use Rattle.cgd_read.specs.Lines.{FieldsView, fields_of, is_strange, name_of_fields, part_or_zero, text_of_first, part_of_first, LineView, line_with}
+use Rattle.cgd_read.specs.Lines.{fields_from, kind_of}
 use Rattle.cgd_read.specs.Reading.{no_fields, with_field, IsFlat}
 
 abbrev pub with_all : FieldsView → List TokenView → FieldsView
@@ -35,14 +37,16 @@ any_strange : (f : FieldsView) (ts : List TokenView) → (with_all f ts).has_str
 any_strange f [] = sym (or-false f.has_strange)
 any_strange f (t ∷ ts) = any_strange (with_field f t) ts ∙ or_assoc f.has_strange (is_strange t.kind) _
 
-quotes_after : (f : FieldsView) (ts : List TokenView) → 2 ≤ f.size → (with_all f ts).has_late_quote ≡ (f.has_late_quote || list_any (λ (t : TokenView). is_quoted t.kind) ts)
+quotes_after : (f : FieldsView) (ts : List TokenView) → 2 ≤ f.size → (with_all f ts).has_late_quote ≡
+    (f.has_late_quote || list_any (λ (t : TokenView). is_quoted t.kind) ts)
 quotes_after f [] l = sym (or-false f.has_late_quote)
 quotes_after f (t ∷ ts) l =
     quotes_after (with_field f t) ts (omega (arith, l))
     ∙ ap (λ b. (f.has_late_quote || (b && is_quoted t.kind)) || list_any (λ (t : TokenView). is_quoted t.kind) ts) (late f.size l)
     ∙ or_assoc f.has_late_quote (is_quoted t.kind) _
 
-parts_after : (f : FieldsView) (ts : List TokenView) → 2 ≤ f.size → (with_all f ts).has_far_part ≡ (f.has_far_part || list_any (λ (t : TokenView). is_none (part_of t.text)) ts)
+parts_after : (f : FieldsView) (ts : List TokenView) → 2 ≤ f.size → (with_all f ts).has_far_part ≡
+    (f.has_far_part || list_any (λ (t : TokenView). is_none (part_of t.text)) ts)
 parts_after f [] l = sym (or-false f.has_far_part)
 parts_after f (t ∷ ts) l =
     parts_after (with_field f t) ts (omega (arith, l))
@@ -114,18 +118,22 @@ zs (a ∷ b ∷ c ∷ d ∷ e ∷ ts) = z_stays (with_all no_fields (a ∷ b ∷
 abbrev record_of : ℕ → Option (List ℕ) → Bool → Bool → Bool → List ℕ → List ℕ → ℤ → ℤ → ℤ → FieldsView
 record_of a b c d e h i j k l = record { size = a; name = b; has_strange = c; has_late_quote = d; has_far_part = e; u = h; v = i; x = j; y = k; z = l }
 
-same : (f g : FieldsView) → f.size ≡ g.size → f.name ≡ g.name → f.has_strange ≡ g.has_strange → f.has_late_quote ≡ g.has_late_quote → f.has_far_part ≡ g.has_far_part
+same : (f g : FieldsView) → f.size ≡ g.size → f.name ≡ g.name → f.has_strange ≡ g.has_strange → f.has_late_quote ≡ g.has_late_quote
+    → f.has_far_part ≡ g.has_far_part
     → f.u ≡ g.u → f.v ≡ g.v → f.x ≡ g.x → f.y ≡ g.y → f.z ≡ g.z → f ≡ g
 same f g a b c d e h i j k l =
-    let p : record_of f.size f.name f.has_strange f.has_late_quote f.has_far_part f.u f.v f.x f.y f.z ≡ record_of g.size g.name g.has_strange g.has_late_quote g.has_far_part g.u g.v g.x g.y g.z = cc in
+    let p : record_of f.size f.name f.has_strange f.has_late_quote f.has_far_part f.u f.v f.x f.y f.z ≡ record_of g.size g.name g.has_strange g.has_late_quote
+    g.has_far_part g.u g.v g.x g.y g.z = cc in
     p
 
 -- the fields read one by one are the fields of the line
 pub all_fields : (ts : List TokenView) → with_all no_fields ts ≡ fields_of ts
-all_fields ts = same (with_all no_fields ts) (fields_of ts) (sizes no_fields ts ∙ omega arith) (names ts) (any_strange no_fields ts) (late_quotes ts) (far_parts ts) (us ts) (vs ts) (xs ts) (ys ts) (zs ts)
+all_fields ts = same (with_all no_fields ts) (fields_of ts) (sizes no_fields ts ∙ omega arith) (names ts) (any_strange no_fields ts) (late_quotes ts)
+    (far_parts ts) (us ts) (vs ts) (xs ts) (ys ts) (zs ts)
 
 -- the same, with the first token before them where it is a field
-pub fields_after : (bare : Bool) (first : TokenView) (others : List TokenView) → with_all (cond bare (with_field no_fields first) no_fields) others ≡ fields_of (cond bare (first ∷ others) others)
+pub fields_after : (bare : Bool) (first : TokenView) (others : List TokenView)
+    → with_all (cond bare (with_field no_fields first) no_fields) others ≡ fields_of (cond bare (first ∷ others) others)
 fields_after true first others = all_fields (first ∷ others)
 fields_after false first others = all_fields others
 

@@ -1,10 +1,12 @@
 -- Lines without a fault make a graph that may be read.
-use Rattle.std.proofs.Common.{◌≡◌, ◌⊎◌, ℕ, ◌≤◌, ◌==◌, nat_lt, Bool, true, false, cond, not, ◌||◌, ◌&&◌, List, [], ◌∷◌, length, Option, None, Some, refl, sym, ap, subst, arith}
+use Rattle.std.proofs.Common.{◌≡◌, ◌⊎◌, ℕ, ◌≤◌, ◌==◌, nat_lt, Bool, true, false, cond, not, ◌||◌, ◌&&◌, List, [], ◌∷◌, length, Option, None, Some, refl, sym}
+use Rattle.std.proofs.Common.{ap, subst, arith}
 use Rattle.std.proofs.lemmas.Bool.Decides.{nat_tests}
 use Rattle.periodic_net.specs.Limits.{most_vertices, most_edges}
 use Rattle.cgd_read.specs.Lines.{LineView}
 use Rattle.cgd_read.specs.Edges.{vertices_of, edges_of, is_self_edge, first_size, has_rows}
-use Rattle.cgd_read.specs.Faults.{has_row, is_end, rows_in, first_true, table, fault_of, has_wrong_length, has_other_length, has_self_edge, brings_many_vertices, brings_many_edges, ends_without_rows}
+use Rattle.cgd_read.specs.Faults.{has_row, is_end, rows_in, first_true, table, fault_of, has_wrong_length, has_other_length, has_self_edge}
+use Rattle.cgd_read.specs.Faults.{brings_many_vertices, brings_many_edges, ends_without_rows}
 use Rattle.cgd_read.specs.Blocks.{AllFalse}
 use Rattle.cgd_read.proofs.SoundLines.{IsSound, AllSound}
 use Rattle.cgd_read.specs.declared.block.BlockFaultKind.{BlockFaultKind}
@@ -58,10 +60,12 @@ of_row : (r t : Bool) → r ≡ true → (r && t) ≡ false → t ≡ false
 of_row true t e h = h
 of_row false t e h = absurd cc
 
-rows_now : (earlier : List LineView) (line : LineView) (t : Bool) → has_row line ≡ t → rows_in (line ∷ earlier) ≡ cond t (line.fields ∷ rows_in earlier) (rows_in earlier)
+rows_now : (earlier : List LineView) (line : LineView) (t : Bool) → has_row line ≡ t
+    → rows_in (line ∷ earlier) ≡ cond t (line.fields ∷ rows_in earlier) (rows_in earlier)
 rows_now earlier line t e = ap (λ t. cond t (line.fields ∷ rows_in earlier) (rows_in earlier)) e
 
-make_line : (earlier : List LineView) (line : LineView) (t : Bool) → has_row line ≡ t → IsSound earlier line → MakeGraph (rows_in earlier) → MakeGraph (cond t (line.fields ∷ rows_in earlier) (rows_in earlier))
+make_line : (earlier : List LineView) (line : LineView) (t : Bool) → has_row line ≡ t → IsSound earlier line → MakeGraph (rows_in earlier)
+    → MakeGraph (cond t (line.fields ∷ rows_in earlier) (rows_in earlier))
 make_line earlier line true e s make =
     let p = passes earlier line s.fault in
     let now = rows_now earlier line true e in

@@ -21,7 +21,8 @@ pub place_found : {X : Type 0} (p : X → Bool) (xs : List X) → list_any p xs 
 place_found p [] e = absurd (false≢true e)
 place_found p (x ∷ xs) e = by (p x) (place_found p xs) e
   where
-    by : (t : Bool) → (list_any p xs ≡ true → position_or_len p xs < length xs) → (t || list_any p xs) ≡ true → cond (not t) (1 + position_or_len p xs) 0 < suc (length xs)
+    by : (t : Bool) → (list_any p xs ≡ true → position_or_len p xs < length xs) → (t || list_any p xs) ≡ true
+        → cond (not t) (1 + position_or_len p xs) 0 < suc (length xs)
     by true h e = omega arith
     by false h e = omega (arith, h e)
 
@@ -29,7 +30,8 @@ pub place_none : {X : Type 0} (p : X → Bool) (xs : List X) → list_any p xs �
 place_none p [] e = refl
 place_none p (x ∷ xs) e = by (p x) (place_none p xs) e
   where
-    by : (t : Bool) → (list_any p xs ≡ false → position_or_len p xs ≡ length xs) → (t || list_any p xs) ≡ false → cond (not t) (1 + position_or_len p xs) 0 ≡ suc (length xs)
+    by : (t : Bool) → (list_any p xs ≡ false → position_or_len p xs ≡ length xs) → (t || list_any p xs) ≡ false
+        → cond (not t) (1 + position_or_len p xs) 0 ≡ suc (length xs)
     by true h e = absurd (false≢true (sym e))
     by false h e = omega (arith, h e)
 
@@ -88,6 +90,7 @@ last_place (x ∷ xs) u v e = by (bytes_eq v x) (last_place xs u v) e
 pub same_number : (names : List (List ℕ)) (u v : List ℕ) → vertex_number names u ≡ vertex_number (with_new bytes_eq names u) v → u ≡ v
 same_number names u v e = by (list_any (bytes_eq u) names) refl (omega (arith, e))
   where
-    by : (t : Bool) → list_any (bytes_eq u) names ≡ t → position_or_len (bytes_eq u) names ≡ position_or_len (bytes_eq v) (cond t names (names ++ u ∷ [])) → u ≡ v
+    by : (t : Bool) → list_any (bytes_eq u) names ≡ t → position_or_len (bytes_eq u) names ≡ position_or_len (bytes_eq v) (cond t names (names ++ u ∷ []))
+        → u ≡ v
     by true h e = same_place names u v h e
     by false h e = last_place names u v (sym e ∙ place_none (bytes_eq u) names h)

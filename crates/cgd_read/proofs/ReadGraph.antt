@@ -39,7 +39,8 @@ rows_are_graph rows make some =
       vertices = has_vertex n size (edges_of rows) (rows_have_edges rows some) edges;
       edges = All-map (IsEdge (graph_of (net_of rows))) edge_of (edges_of rows)
           (All-weaker (IsWellEdge n size) (λ e. IsEdge (graph_of (net_of rows)) (edge_of e))
-          (λ e w. record { from = w.first; to = w.second; shift = λ two. w.flat (four size (make.size some) two); spelling = w.spelling }) (edges_of rows) edges);
+          (λ e w. record { from = w.first; to = w.second; shift = λ two. w.flat (four size (make.size some) two); spelling = w.spelling })
+          (edges_of rows) edges);
       different = make.different;
     }
 
@@ -51,7 +52,8 @@ rows_are_small rows make =
       vertices = make.few_vertices;
       edges = omega (arith, length-map (edges_of rows) edge_of, make.few_edges);
       shifts = All-map (λ a. IsWithin most_shift a.shift) edge_of (edges_of rows)
-          (All-weaker (IsWellEdge n size) (λ e. IsWithin most_shift (vector e.x e.y e.z)) (λ e w. (w.x, w.y, w.z)) (edges_of rows) (make.edges size (λ h. refl)));
+          (All-weaker (IsWellEdge n size) (λ e. IsWithin most_shift (vector e.x e.y e.z)) (λ e w. (w.x, w.y, w.z)) (edges_of rows)
+          (make.edges size (λ h. refl)));
     }
 
 pub rows_read : (rows : List FieldsView) (raw : RawView) → MakeGraph rows → has_rows rows ≡ true → raw ≡ net_of rows → IsReadGraph raw

@@ -50,7 +50,8 @@ size_now (first ∷ rows) row e = by (first_size (first ∷ rows) == 0)
     by true = refl
     by false = sym (e refl)
 
-no_loop : (names : List (List ℕ)) (row : FieldsView) → is_self_edge row ≡ false → vertex_number names row.u ≡ vertex_number (with_new bytes_eq names row.u) row.v → IsZero row.x row.y row.z → ⊥
+no_loop : (names : List (List ℕ)) (row : FieldsView) → is_self_edge row ≡ false
+    → vertex_number names row.u ≡ vertex_number (with_new bytes_eq names row.u) row.v → IsZero row.x row.y row.z → ⊥
 no_loop names row h e zero =
     false≢true (sym h ∙ and_from _ _ ((bytes_eq-Decides row.u row.v).1 (same_number names row.u row.v e))
     (and_from _ _ ((Decides-int_eq row.x (pos 0)).1 zero.0) (and_from _ _ ((Decides-int_eq row.y (pos 0)).1 zero.1) ((Decides-int_eq row.z (pos 0)).1 zero.2))))
@@ -70,7 +71,8 @@ edges_well : (rows : List FieldsView) (row : FieldsView) (size : ℕ) → IsWell
     → All (IsWellEdge (length (vertices_of rows)) size) (edges_of rows) → All (IsWellEdge (length (vertices_of (row ∷ rows))) size) (edges_of (row ∷ rows))
 edges_well rows row size edge old = by (is_repeat rows row)
     (All-weaker (IsWellEdge (length (vertices_of rows)) size) (IsWellEdge (length (vertices_of (row ∷ rows))) size)
-    (wider (length (vertices_of rows)) (length (vertices_of (row ∷ rows))) size (omega (arith, longer bytes_eq (vertices_of rows) row.u, longer bytes_eq (with_new bytes_eq (vertices_of rows) row.u) row.v))) (edges_of rows) old)
+    (wider (length (vertices_of rows)) (length (vertices_of (row ∷ rows))) size
+    (omega (arith, longer bytes_eq (vertices_of rows) row.u, longer bytes_eq (with_new bytes_eq (vertices_of rows) row.u) row.v))) (edges_of rows) old)
   where
     by : (t : Bool) → All (IsWellEdge (length (vertices_of (row ∷ rows))) size) (edges_of rows)
         → All (IsWellEdge (length (vertices_of (row ∷ rows))) size) (cond t (edges_of rows) (edges_of rows ++ row_edge (vertices_of rows) row ∷ []))
@@ -78,10 +80,12 @@ edges_well rows row size edge old = by (is_repeat rows row)
     by false h = All-push (IsWellEdge (length (vertices_of (row ∷ rows))) size) (edges_of rows) (row_edge (vertices_of rows) row) h edge
 
 -- all edges are different, with that of one more row
-edges_different : (rows : List FieldsView) (row : FieldsView) → AllPairs (λ a b. a ≢ b) (map edge_of (edges_of rows)) → AllPairs (λ a b. a ≢ b) (map edge_of (edges_of (row ∷ rows)))
+edges_different : (rows : List FieldsView) (row : FieldsView) → AllPairs (λ a b. a ≢ b) (map edge_of (edges_of rows))
+    → AllPairs (λ a b. a ≢ b) (map edge_of (edges_of (row ∷ rows)))
 edges_different rows row old = by (is_repeat rows row) refl
   where
-    by : (t : Bool) → is_repeat rows row ≡ t → AllPairs (λ a b. a ≢ b) (map edge_of (cond t (edges_of rows) (edges_of rows ++ row_edge (vertices_of rows) row ∷ [])))
+    by : (t : Bool) → is_repeat rows row ≡ t
+        → AllPairs (λ a b. a ≢ b) (map edge_of (cond t (edges_of rows) (edges_of rows ++ row_edge (vertices_of rows) row ∷ [])))
     by true e = old
     by false e =
         let edge = row_edge (vertices_of rows) row in

@@ -8,11 +8,13 @@ pub first_of_two : (as_ bs : List (BlockFaultKind × Bool)) → first_true (as_ 
 first_of_two [] bs = refl
 first_of_two (a ∷ as_) bs = by a.1 (first_of_two as_ bs)
   where
-    by : (t : Bool) → first_true (as_ ++ bs) ≡ or_later (first_true as_) (first_true bs) → cond t (Some a.0) (first_true (as_ ++ bs)) ≡ or_later (cond t (Some a.0) (first_true as_)) (first_true bs)
+    by : (t : Bool) → first_true (as_ ++ bs) ≡ or_later (first_true as_) (first_true bs)
+        → cond t (Some a.0) (first_true (as_ ++ bs)) ≡ or_later (cond t (Some a.0) (first_true as_)) (first_true bs)
     by true e = refl
     by false e = e
 
-pub first_of_three : (as_ bs cs : List (BlockFaultKind × Bool)) → first_true (as_ ++ (bs ++ cs)) ≡ or_later (or_later (first_true as_) (first_true bs)) (first_true cs)
+pub first_of_three : (as_ bs cs : List (BlockFaultKind × Bool)) → first_true (as_ ++ (bs ++ cs)) ≡ or_later (or_later (first_true as_) (first_true bs))
+    (first_true cs)
 first_of_three as_ bs cs = first_of_two as_ (bs ++ cs) ∙ ap (or_later (first_true as_)) (first_of_two bs cs) ∙ together (first_true as_)
   where
     together : (o : Option BlockFaultKind) → or_later o (or_later (first_true bs) (first_true cs)) ≡ or_later (or_later o (first_true bs)) (first_true cs)

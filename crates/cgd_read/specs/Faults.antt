@@ -1,13 +1,15 @@
 -- The faults of a line in a graph block: each is a sentence about the line and the lines of its block before it,
 -- the nearest first.
-use Rattle.std.specs.Prelude.{ℕ, Bool, true, false, ◌||◌, ◌&&◌, ◌==◌, not, nat_lt, is_some, is_none, List, [], ◌∷◌, ◌++◌, length, Option, None, Some, if◌then◌else◌}
+use Rattle.std.specs.Prelude.{ℕ, Bool, true, false, ◌||◌, ◌&&◌, ◌==◌, not, nat_lt, is_some, is_none, List, [], ◌∷◌, ◌++◌, length, Option, None, Some}
+use Rattle.std.specs.Prelude.{if◌then◌else◌}
 use Rattle.periodic_net.specs.Limits.{most_vertices, most_edges}
 use Rattle.cgd_read.specs.Lines.{FieldsView, LineView, is_bare}
 use Rattle.cgd_read.specs.Edges.{vertices_of, edges_of, is_self_edge, first_size, has_rows}
 use Rattle.cgd_read.specs.declared.line.LineKind.{LineKind}
 use Rattle.cgd_read.specs.declared.line.LineKind.TheVariants.{Opening, Name, Edges, End, Unknown, Bare, Broken}
 use Rattle.cgd_read.specs.declared.block.BlockFaultKind.{BlockFaultKind}
-use Rattle.cgd_read.specs.declared.block.BlockFaultKind.TheVariants.{BadToken, RowLength, MixedDimension, UnknownField, NoEdges, SelfEdge, ShiftRange, TooManyVertices, TooManyEdges, NameTooLong, TwoNames, NoEnd}
+use Rattle.cgd_read.specs.declared.block.BlockFaultKind.TheVariants.{BadToken, RowLength, MixedDimension, UnknownField, NoEdges, SelfEdge, ShiftRange}
+use Rattle.cgd_read.specs.declared.block.BlockFaultKind.TheVariants.{TooManyVertices, TooManyEdges, NameTooLong, TwoNames, NoEnd}
 
 -- a line of this kind names the block
 abbrev pub is_name : LineKind → Bool
@@ -74,7 +76,8 @@ name_of (line ∷ earlier) = name_after line.kind line.fields.name (name_of earl
 abbrev pub is_second_name : List LineView → LineView → Bool
 is_second_name earlier line = is_name line.kind && is_some (name_of earlier)
 
--- the line begins with a bad token; or begins with a field but follows no line of edges; or is a name line without one good field; or has a row with a token that may not stand there
+-- the line begins with a bad token; or begins with a field but follows no line of edges; or is a name line without one
+-- good field; or has a row with a token that may not stand there
 abbrev pub has_bad_token : List LineView → LineView → Bool
 has_bad_token earlier line =
     is_broken line.kind

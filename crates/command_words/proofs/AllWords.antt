@@ -16,12 +16,14 @@ use Rattle.command_words.proofs.LongTurns.{refused_turn}
 use Rattle.command_words.proofs.OtherTurns.{given_moved, given_turn, plain_moved, plain_turn, short_turn}
 use Rattle.command_words.proofs.Looks.{Look, dashes, long, plain, short}
 use Rattle.command_words.proofs.WordLooks.{look}
-use Rattle.command_words.proofs.Readings.{AreReadAlike, IsMeaningAt, AreUtf8, IsWaiting, as_read, bad_idle, no_step, plain_step, read_as, read_dashes, stands_option}
+use Rattle.command_words.proofs.Readings.{AreReadAlike, IsMeaningAt, AreUtf8, IsWaiting, as_read, bad_idle, no_step, plain_step, read_as, read_dashes}
+use Rattle.command_words.proofs.Readings.{stands_option}
 use Rattle.command_words.proofs.OptionWords.{fill_once, fill_twice, long_read}
 
 -- a positional argument
 module _ (said : Said) (word : Text) (words : List Text) (later : AreReadAlike words) (rows : List Row) (pending : Pending) (g : IsSound said rows pending)
-    (ed : bytes_eq word (45 ∷ 45 ∷ []) ≡ false) (el : long_of word ≡ None) (es : short_of word ≡ None) (eo : option_word word ≡ None) (ep : is_plain word ≡ true) where
+    (ed : bytes_eq word (45 ∷ 45 ∷ []) ≡ false) (el : long_of word ≡ None) (es : short_of word ≡ None) (eo : option_word word ≡ None)
+    (ep : is_plain word ≡ true) where
   -- that goes to a place
   filled_read : (from to : Stage) (p : Place) → IsFilled from to p said word → IsMeaningAt (read said None (word ∷ words)) from None rows pending (word ∷ words)
   filled_read from to p f = as_read _ (read (put p word said) None words) from None rows pending (word ∷ words)
@@ -29,7 +31,8 @@ module _ (said : Said) (word : Text) (words : List Text) (later : AreReadAlike w
       (means_cons (read (put p word said) None words) _ _ word words
       (plain_turn (place_of from) word rows pending ed el es ∙ f.turn rows pending ∙ g.passes)
       (plain_moved (place_of from) word rows pending ed el es ∙ f.kept false idle rows pending)
-      (later to (put p word said) None (end_rows rows pending) (Some (id_of p, word ∷ [])) (f.stands, good_pending said (end_rows rows pending) p word g.shows f.free)))
+      (later to (put p word said) None (end_rows rows pending) (Some (id_of p, word ∷ []))
+      (f.stands, good_pending said (end_rows rows pending) p word g.shows f.free)))
 
   -- at each stage
   plain_read : (stage : Stage) → IsStageOf stage said → IsMeaningAt (read said None (word ∷ words)) stage None rows pending (word ∷ words)
@@ -44,7 +47,8 @@ idle_read : (stage : Stage) (said : Said) (word : Text) (words : List Text) (row
     → IsStageOf stage said → IsSound said rows pending → IsMeaningAt (read said None (word ∷ words)) stage None rows pending (word ∷ words)
 idle_read stage said word words rows pending later (dashes ed) s g = as_read _ (read_positional said words) stage None rows pending (word ∷ words)
     (read_dashes said None word words ed)
-    (means_cons (read_positional said words) _ _ word words (dashes_turn None (place_of stage) word rows pending ed) (dashes_moved None (place_of stage) word rows pending ed)
+    (means_cons (read_positional said words) _ _ word words (dashes_turn None (place_of stage) word rows pending ed)
+    (dashes_moved None (place_of stage) word rows pending ed)
     (trailing stage said idle words rows pending s g))
 idle_read stage said word words rows pending later (long name v ed el eo ep) s g = long_read stage said word words later rows pending s g name ed v el eo ep
 idle_read stage said word words rows pending later (short x flags c ed el es first eo ep) s g = as_read _ None stage None rows pending (word ∷ words)
@@ -52,7 +56,8 @@ idle_read stage said word words rows pending later (short x flags c ed el es fir
     (means_none _ word words (short_turn None (place_of stage) word rows pending ed el x flags c es first))
 idle_read stage said word words rows pending later (plain ed el es eo ep) s g = plain_read said word words later rows pending g ed el es eo ep stage s
 
-value_step : (said : Said) (p : Place) (word : Text) (b : Bool) → is_plain word ≡ b → step said (Some p) word ≡ cond b (option_map without_wait (fill p word said)) None
+value_step : (said : Said) (p : Place) (word : Text) (b : Bool) → is_plain word ≡ b
+    → step said (Some p) word ≡ cond b (option_map without_wait (fill p word said)) None
 value_step said p word b e = ap (λ (b : Bool). cond b (option_map without_wait (fill p word said)) None) e
 
 -- an option with no value is refused
@@ -61,10 +66,12 @@ no_value p rows e = some_kind kind.InvalidValue [] _ (pending_fault p [] rows �
 
 -- an argument where a value is awaited
 value_read : (stage : Stage) (said : Said) (p : Place) (word : Text) (words : List Text) (rows : List Row) → AreReadAlike words → AreUtf8 words → Look word
-    → IsStageOf stage said → IsWaiting said p rows (Some (id_of p, [])) → IsMeaningAt (read said (Some p) (word ∷ words)) stage (Some p) rows (Some (id_of p, [])) (word ∷ words)
+    → IsStageOf stage said → IsWaiting said p rows (Some (id_of p, []))
+    → IsMeaningAt (read said (Some p) (word ∷ words)) stage (Some p) rows (Some (id_of p, [])) (word ∷ words)
 value_read stage said p word words rows later u (dashes ed) s w = as_read _ None stage (Some p) rows _ (word ∷ words)
     (read_dashes said (Some p) word words ed)
-    (none_cons _ _ word words (dashes_moved (Some p) (place_of stage) word rows _ ed) (bad_trailing stage (waiting_for (Some p)) words rows _ (no_value p rows)))
+    (none_cons _ _ word words (dashes_moved (Some p) (place_of stage) word rows _ ed)
+    (bad_trailing stage (waiting_for (Some p)) words rows _ (no_value p rows)))
 value_read stage said p word words rows later u (long name v ed el eo ep) s w = as_read _ None stage (Some p) rows _ (word ∷ words)
     (read_as said (Some p) word words None ed (value_step said p word false ep))
     (means_none _ word words (refused_turn (Some p) (place_of stage) word rows _ name v ed el (no_value p rows)))
@@ -80,7 +87,8 @@ value_read stage said p word words rows later u (plain ed el es eo ep) s w = go 
         (bad_idle stage words rows (Some (id_of p, word ∷ [])) look u (some_kind kind.ArgumentConflict [] _ (bad_pending said rows p word w.shows e))))
     go false e = as_read _ (read (put p word said) None words) stage (Some p) rows _ (word ∷ words)
         (read_as said (Some p) word words (Some (put p word said, None)) ed (value_step said p word true ep ∙ fill_once p word said e))
-        (means_cons (read (put p word said) None words) _ _ word words (given_turn p (place_of stage) word rows ed el es) (given_moved p (place_of stage) word rows ed el es)
+        (means_cons (read (put p word said) None words) _ _ word words (given_turn p (place_of stage) word rows ed el es)
+        (given_moved p (place_of stage) word rows ed el es)
         (later stage (put p word said) None rows (Some (id_of p, word ∷ []))
         (stands_option stage said p word w.is_option s, good_pending said rows p word w.shows e)))
 

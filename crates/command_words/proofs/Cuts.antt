@@ -57,7 +57,8 @@ pub before_whole : (text : Text) → has_byte 61 text ≡ false → before_first
 before_whole [] e = refl
 before_whole (x ∷ xs) e = before_cons x xs ∙ go (before_whole xs) (x == 61) e
   where
-    go : (has_byte 61 xs ≡ false → before_first is_equals xs ≡ xs) → (q : Bool) → (q || has_byte 61 xs) ≡ false → cond q [] (x ∷ before_first is_equals xs) ≡ x ∷ xs
+    go : (has_byte 61 xs ≡ false → before_first is_equals xs ≡ xs) → (q : Bool) → (q || has_byte 61 xs) ≡ false
+        → cond q [] (x ∷ before_first is_equals xs) ≡ x ∷ xs
     go later true h = absurd (true≢false h)
     go later false h = ap (λ (t : Text). x ∷ t) (later h)
 

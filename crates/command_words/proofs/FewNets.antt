@@ -6,7 +6,9 @@ use Rattle.std.specs.Str.{bytes_eq}
 use Rattle.std.specs.Str.Parse.{digits_value}
 use Rattle.std.proofs.lemmas.Bool.{and_parts, ltb-true}
 use Rattle.command_words.specs.Words.{Text, Said}
-use Rattle.command_words.specs.Tasks.{Task, Check, Place, Key, Identify, Components, Add, Duplicates, Migrate, Union, Same, Verify, Workload, Cover, are_apart, may_give_cell, task_with, file_of, has_empty_word, task_in, task_named, task_for, verb_named, sole_archive, sole_count, count_of, is_count, union_with, sole_file, MakesFew}
+use Rattle.command_words.specs.Tasks.{Task, Check, Place, Key, Identify, Components, Add, Duplicates, Migrate, Union, Same, Verify, Workload, Cover, are_apart}
+use Rattle.command_words.specs.Tasks.{may_give_cell, task_with, file_of, has_empty_word, task_in, task_named, task_for, verb_named, sole_archive, sole_count}
+use Rattle.command_words.specs.Tasks.{count_of, is_count, union_with, sole_file, MakesFew}
 use Rattle.command_words.specs.Views.{task_view}
 use Rattle.command_words.specs.declared.tasks.Task.{Task as TaskInCode}
 use Rattle.command_words.specs.declared.tasks.Verb.{Verb}
@@ -86,11 +88,13 @@ few_with verb.Same said = few_file Same (sole_file said) (λ x. tt)
 few_with verb.Verify said = few_file Verify (sole_file said) (λ x. tt)
 few_with verb.Workload said =
     let count = option_and_then count_of said.second in
-    few_count (sole_count said) (none_or (is_some said.archive) (if is_some said.name then None else count) (none_or (is_some said.name) count (few_word said.second)))
+    few_count (sole_count said) (none_or (is_some said.archive) (if is_some said.name then None else count)
+    (none_or (is_some said.name) count (few_word said.second)))
 few_with verb.Cover said =
     let cell = option_and_then cell_of said.cell in
     let covered = option_map (Cover (file_of said)) cell in
-    few_if (is_some said.archive) None (if is_some said.name then None else covered) tt (few_if (is_some said.name) None covered tt (few_cell (file_of said) cell))
+    few_if (is_some said.archive) None (if is_some said.name then None else covered) tt
+    (few_if (is_some said.name) None covered tt (few_cell (file_of said) cell))
 
 -- so does each task
 few_for : (v : Verb) (said : Said) → IsFewTask (task_for v said)

@@ -35,7 +35,8 @@ asks Archive v h = refl
 asks Name v h = refl
 asks Cell v h = refl
 
-settles_first : (p : Place) (v : Option Text) (rows : List Row) (pending : Pending) → option_fault rules_list false (rule_at p) v (state rows pending) ≡ [] → end_fault rows pending ≡ []
+settles_first : (p : Place) (v : Option Text) (rows : List Row) (pending : Pending) → option_fault rules_list false (rule_at p) v (state rows pending) ≡ []
+    → end_fault rows pending ≡ []
 settles_first p None rows pending e = e
 settles_first p (Some v) rows pending e = first_empty _ _ e
 
@@ -48,7 +49,8 @@ waits_turn Name wanted position word rows pending = refl
 waits_turn Cell wanted position word rows pending = refl
 
 waits_moved : (p : Place) (wanted : Option Place) (position : ℕ) (word : Text) (rows : List Row) (pending : Pending)
-    → long_moved wanted position word rows pending None (Some (rule_at p)) ≡ walk_at (option (id_of p)) position false (end_rows rows pending) (Some (id_of p, []))
+    → long_moved wanted position word rows pending None (Some (rule_at p)) ≡ walk_at (option (id_of p)) position false (end_rows rows pending)
+    (Some (id_of p, []))
 waits_moved Command wanted position word rows pending = refl
 waits_moved Second wanted position word rows pending = refl
 waits_moved Archive wanted position word rows pending = refl
@@ -65,14 +67,16 @@ gives_turn Name wanted position word v rows pending = refl
 gives_turn Cell wanted position word v rows pending = refl
 
 gives_moved : (p : Place) (wanted : Option Place) (position : ℕ) (word v : Text) (rows : List Row) (pending : Pending)
-    → long_moved wanted position word rows pending (Some v) (Some (rule_at p)) ≡ walk_at idle position false (used (rule_at p) (v ∷ []) (end_rows rows pending)) None
+    → long_moved wanted position word rows pending (Some v) (Some (rule_at p)) ≡ walk_at idle position false
+    (used (rule_at p) (v ∷ []) (end_rows rows pending)) None
 gives_moved Command wanted position word v rows pending = refl
 gives_moved Second wanted position word v rows pending = refl
 gives_moved Archive wanted position word v rows pending = refl
 gives_moved Name wanted position word v rows pending = refl
 gives_moved Cell wanted position word v rows pending = refl
 
-module _ (wanted : Option Place) (position : ℕ) (word : Text) (rows : List Row) (pending : Pending) (name : Text) (v : Option Text) (ed : bytes_eq word (45 ∷ 45 ∷ []) ≡ false)
+module _ (wanted : Option Place) (position : ℕ) (word : Text) (rows : List Row) (pending : Pending) (name : Text) (v : Option Text)
+    (ed : bytes_eq word (45 ∷ 45 ∷ []) ≡ false)
     (el : long_of word ≡ Some (name, v)) where
   turn_found : (found : Option Place) → place_named name ≡ found
       → turn_fault top [] (here wanted position rows pending) word ≡ long_turn wanted position word rows pending v (option_map rule_at found)

@@ -52,7 +52,8 @@ value_of t = cond (has_byte 61 t) (Some (after_first is_equals t)) None
 -- an argument without `=`
 long_alone : (t : Text) → has_byte 61 t ≡ false → option_word (45 ∷ 45 ∷ t) ≡ found_as None (place_named (before_first is_equals t))
 long_alone t e =
-    (λ i. option_spelled (bytes_eq t archive_text) (bytes_eq t name_text) (bytes_eq t cell_text) (never_after archive_text t e i) (never_after name_text t e i) (never_after cell_text t e i))
+    (λ i. option_spelled (bytes_eq t archive_text) (bytes_eq t name_text) (bytes_eq t cell_text) (never_after archive_text t e i) (never_after name_text t e i)
+    (never_after cell_text t e i))
     ∙ (λ i. option_spelled (same_text t archive_text i) (same_text t name_text i) (same_text t cell_text i) None None None)
     ∙ go (bytes_eq archive_text t) (bytes_eq name_text t) (bytes_eq cell_text t)
     ∙ ap (λ (s : Text). found_as None (place_named s)) (sym (before_whole t e))
@@ -66,12 +67,15 @@ long_alone t e =
 -- an argument with `=`
 long_given : (t : Text) → has_byte 61 t ≡ true → option_word (45 ∷ 45 ∷ t) ≡ found_as (Some (after_first is_equals t)) (place_named (before_first is_equals t))
 long_given t e =
-    (λ i. option_spelled (other_text archive_text t refl e i) (other_text name_text t refl e i) (other_text cell_text t refl e i) (after (archive_text ++ equals) t) (after (name_text ++ equals) t)
+    (λ i. option_spelled (other_text archive_text t refl e i) (other_text name_text t refl e i) (other_text cell_text t refl e i)
+    (after (archive_text ++ equals) t) (after (name_text ++ equals) t)
     (after (cell_text ++ equals) t))
     ∙ (λ i. option_with_value (after_name archive_text t refl e i) (after_name name_text t refl e i) (after_name cell_text t refl e i))
-    ∙ go (bytes_eq archive_text (before_first is_equals t)) (bytes_eq name_text (before_first is_equals t)) (bytes_eq cell_text (before_first is_equals t)) (after_first is_equals t)
+    ∙ go (bytes_eq archive_text (before_first is_equals t)) (bytes_eq name_text (before_first is_equals t)) (bytes_eq cell_text (before_first is_equals t))
+    (after_first is_equals t)
   where
-    go : (a n c : Bool) (r : Text) → option_with_value (cond a (Some r) None) (cond n (Some r) None) (cond c (Some r) None) ≡ found_as (Some r) (option_named a n c)
+    go : (a n c : Bool) (r : Text) → option_with_value (cond a (Some r) None) (cond n (Some r) None) (cond c (Some r) None) ≡ found_as (Some r)
+        (option_named a n c)
     go true n c r = refl
     go false true c r = refl
     go false false true r = refl
@@ -81,6 +85,7 @@ long_given t e =
 pub option_long : (t : Text) → option_word (45 ∷ 45 ∷ t) ≡ found_as (value_of t) (place_named (before_first is_equals t))
 option_long t = go (has_byte 61 t) refl
   where
-    go : (b : Bool) → has_byte 61 t ≡ b → option_word (45 ∷ 45 ∷ t) ≡ found_as (cond b (Some (after_first is_equals t)) None) (place_named (before_first is_equals t))
+    go : (b : Bool) → has_byte 61 t ≡ b → option_word (45 ∷ 45 ∷ t) ≡ found_as (cond b (Some (after_first is_equals t)) None)
+        (place_named (before_first is_equals t))
     go true e = long_given t e
     go false e = long_alone t e

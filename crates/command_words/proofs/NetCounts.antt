@@ -31,7 +31,8 @@ value_is word n s =
 pub count_is : (word : Text) (n : ℕ) → is_count word n ≡ true → Some n ≡ count_of word
 count_is word n h =
     let v = value_is word n (spells word n h) in
-    ap (λ (m : ℕ). Some m) (sym v) ∙ sym (cond-true (is_count word (digits_value 10 word)) (Some (digits_value 10 word)) None (subst (λ (m : ℕ). is_count word m ≡ true) (sym v) h))
+    ap (λ (m : ℕ). Some m) (sym v)
+    ∙ sym (cond-true (is_count word (digits_value 10 word)) (Some (digits_value 10 word)) None (subst (λ (m : ℕ). is_count word m ≡ true) (sym v) h))
 
 -- an argument that spells a count is read as it
 pub count_parsed : {E : Type 0} (word : Text) (n : ℕ) (r : Result ℕ E) → is_count word n ≡ true → ParsesUnsigned 32 10 word r → r ≡ Ok n
@@ -42,4 +43,5 @@ count_parsed word n r h p =
 
 -- where the value of its digits is no count, the argument spells none
 pub no_count : (word : Text) → (is_count word (digits_value 10 word) ≡ true → ⊥) → None ≡ count_of word
-no_count word h = sym (cond-false (is_count word (digits_value 10 word)) (Some (digits_value 10 word)) None (false_from_ne_true (is_count word (digits_value 10 word)) h))
+no_count word h = sym (cond-false (is_count word (digits_value 10 word)) (Some (digits_value 10 word)) None
+    (false_from_ne_true (is_count word (digits_value 10 word)) h))

@@ -25,9 +25,11 @@ pub fill_once : (p : Place) (v : Text) (said : Said) → is_some (at said p) ≡
 fill_once p v said e = ap (λ (b : Bool). option_map without_wait (cond b None (Some (put p v said)))) e
 
 -- an option, or an argument like one
-module _ (stage : Stage) (said : Said) (word : Text) (words : List Text) (later : AreReadAlike words) (rows : List Row) (pending : Pending) (s : IsStageOf stage said) (g : IsSound said rows pending)
+module _ (stage : Stage) (said : Said) (word : Text) (words : List Text) (later : AreReadAlike words) (rows : List Row) (pending : Pending)
+    (s : IsStageOf stage said) (g : IsSound said rows pending)
     (name : Text) (ed : bytes_eq word (45 ∷ 45 ∷ []) ≡ false) where
-  unknown : (v : Option Text) → long_of word ≡ Some (name, v) → option_word word ≡ found_as v (place_named name) → is_plain word ≡ false → place_named name ≡ None
+  unknown : (v : Option Text) → long_of word ≡ Some (name, v) → option_word word ≡ found_as v (place_named name) → is_plain word ≡ false
+      → place_named name ≡ None
       → IsMeaningAt (read said None (word ∷ words)) stage None rows pending (word ∷ words)
   unknown v el eo ep ef = as_read _ None stage None rows pending (word ∷ words)
       (read_as said None word words None ed (no_step said word (eo ∙ ap (found_as v) ef) ep))
@@ -40,9 +42,11 @@ module _ (stage : Stage) (said : Said) (word : Text) (words : List Text) (later 
       (means_cons (read said (Some p) words) _ _ word words
       (option_turn None (place_of stage) word rows pending name ed p ef g.passes el)
       (option_moved None (place_of stage) word rows pending name ed p ef g.passes el)
-      (later stage said (Some p) (end_rows rows pending) (Some (id_of p, [])) (s, record { shows = g.shows; empty = refl; is_option = named_option name p ef })))
+      (later stage said (Some p) (end_rows rows pending) (Some (id_of p, []))
+      (s, record { shows = g.shows; empty = refl; is_option = named_option name p ef })))
 
-  option_given : (p : Place) (v : Text) → long_of word ≡ Some (name, Some v) → option_word word ≡ found_as (Some v) (place_named name) → place_named name ≡ Some p
+  option_given : (p : Place) (v : Text) → long_of word ≡ Some (name, Some v) → option_word word ≡ found_as (Some v) (place_named name)
+      → place_named name ≡ Some p
       → IsMeaningAt (read said None (word ∷ words)) stage None rows pending (word ∷ words)
   option_given p v el eo ef = go (is_some (at said p)) refl
     where
@@ -55,7 +59,8 @@ module _ (stage : Stage) (said : Said) (word : Text) (words : List Text) (later 
       go : (b : Bool) → is_some (at said p) ≡ b → IsMeaningAt (read said None (word ∷ words)) stage None rows pending (word ∷ words)
       go true e = as_read _ None stage None rows pending (word ∷ words)
           (read_as said None word words None ed (step_is ∙ fill_twice p v said e))
-          (means_none _ word words (some_kind kind.ArgumentConflict [] _ (turn_is ∙ ap (λ (k : Kinds). or_else k []) (use_twice p v (end_rows rows pending) ((g.shows p).has ∙ e)))))
+          (means_none _ word words (some_kind kind.ArgumentConflict [] _
+          (turn_is ∙ ap (λ (k : Kinds). or_else k []) (use_twice p v (end_rows rows pending) ((g.shows p).has ∙ e)))))
       go false e = as_read _ (read (put p v said) None words) stage None rows pending (word ∷ words)
           (read_as said None word words (Some (put p v said, None)) ed (step_is ∙ fill_once p v said e))
           (means_cons (read (put p v said) None words) _ _ word words
@@ -68,7 +73,8 @@ module _ (stage : Stage) (said : Said) (word : Text) (words : List Text) (later 
       → IsMeaningAt (read said None (word ∷ words)) stage None rows pending (word ∷ words)
   long_read v el eo ep = go v (place_named name) el eo refl
     where
-      go : (v : Option Text) (found : Option Place) → long_of word ≡ Some (name, v) → option_word word ≡ found_as v (place_named name) → place_named name ≡ found
+      go : (v : Option Text) (found : Option Place) → long_of word ≡ Some (name, v) → option_word word ≡ found_as v (place_named name)
+          → place_named name ≡ found
           → IsMeaningAt (read said None (word ∷ words)) stage None rows pending (word ∷ words)
       go v None el eo ef = unknown v el eo ep ef
       go None (Some p) el eo ef = option_alone p el eo ef

@@ -36,11 +36,14 @@ bundle_is x flags c h first none =
     ap (λ (o : Option ℕ). bundle_step_fault rules_list false o (x ∷ flags) h.skip (record h { skip = 0 }) (flags_fault rules_list false (length flags))) first
     ∙ ap (λ (s : ℕ). bundle_step_fault rules_list false (Some c) (x ∷ flags) s (record h { skip = 0 }) (flags_fault rules_list false (length flags))) none
 
-module _ (wanted : Option Place) (position : ℕ) (word : Text) (rows : List Row) (pending : Pending) (ed : bytes_eq word (45 ∷ 45 ∷ []) ≡ false) (el : long_of word ≡ None) where
-  turn_other : (so : Option Text) → short_of word ≡ so → turn_fault top [] (here wanted position rows pending) word ≡ other_turn wanted position word rows pending so
+module _ (wanted : Option Place) (position : ℕ) (word : Text) (rows : List Row) (pending : Pending) (ed : bytes_eq word (45 ∷ 45 ∷ []) ≡ false)
+    (el : long_of word ≡ None) where
+  turn_other : (so : Option Text) → short_of word ≡ so → turn_fault top []
+      (here wanted position rows pending) word ≡ other_turn wanted position word rows pending so
   turn_other so es = turn_as wanted position word rows pending false None ed el ∙ ap (other_turn wanted position word rows pending) es
 
-  moved_other : (so : Option Text) → short_of word ≡ so → walked rules_list [] (here wanted position rows pending) word ≡ other_moved wanted position word rows pending so
+  moved_other : (so : Option Text) → short_of word ≡ so → walked rules_list []
+      (here wanted position rows pending) word ≡ other_moved wanted position word rows pending so
   moved_other so es = moved_as wanted position word rows pending false None ed el ∙ ap (other_moved wanted position word rows pending) es
 
   -- a bundle of flags is refused
@@ -49,7 +52,8 @@ module _ (wanted : Option Place) (position : ℕ) (word : Text) (rows : List Row
   short_turn x flags c es first e =
       some_kind kind.UnknownArgument [] _ (bundle_is x flags c (state rows pending) first refl) (first_empty _ _ (sym (turn_other (Some (x ∷ flags)) es) ∙ e))
 
-module _ (position : ℕ) (word : Text) (rows : List Row) (pending : Pending) (ed : bytes_eq word (45 ∷ 45 ∷ []) ≡ false) (el : long_of word ≡ None) (es : short_of word ≡ None) where
+module _ (position : ℕ) (word : Text) (rows : List Row) (pending : Pending) (ed : bytes_eq word (45 ∷ 45 ∷ []) ≡ false) (el : long_of word ≡ None)
+    (es : short_of word ≡ None) where
   -- a positional argument
   pub plain_turn : turn_fault top [] (here None position rows pending) word ≡ step_fault top position (state rows pending) value
   plain_turn = turn_other None position word rows pending ed el None es
@@ -58,7 +62,8 @@ module _ (position : ℕ) (word : Text) (rows : List Row) (pending : Pending) (e
       ≡ to_positional rules_list (arg_by_index rules_list position) word (here None position rows pending) (state rows pending)
   plain_moved = moved_other None position word rows pending ed el None es
 
-module _ (p : Place) (position : ℕ) (word : Text) (rows : List Row) (ed : bytes_eq word (45 ∷ 45 ∷ []) ≡ false) (el : long_of word ≡ None) (es : short_of word ≡ None) where
+module _ (p : Place) (position : ℕ) (word : Text) (rows : List Row) (ed : bytes_eq word (45 ∷ 45 ∷ []) ≡ false) (el : long_of word ≡ None)
+    (es : short_of word ≡ None) where
   no_fault : (p : Place) → other_turn (Some p) position word rows (Some (id_of p, [])) None ≡ []
   no_fault Command = refl
   no_fault Second = refl

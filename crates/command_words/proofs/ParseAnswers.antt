@@ -25,13 +25,21 @@ texts_valid (word ∷ words) = (IsUtf8-string_bytes word, texts_valid words)
 
 -- what clap found is what its rows show
 said_is : (found : Found) (said : Said) → IsShown said (rows_of found) → said_in found ≡ said
-said_is found said s = λ i. record { command = (value Command) i; second = (value Second) i; archive = (value Archive) i; name = (value Name) i; cell = (value Cell) i }
+said_is found said s = λ i. record {
+  command = (value Command) i;
+  second = (value Second) i;
+  archive = (value Archive) i;
+  name = (value Name) i;
+  cell =
+      (value Cell) i;
+}
   where
     value : (p : Place) → first_value found (id_of p) ≡ at said p
     value p = first_value-rows found (id_of p) ∙ (s p).value
 
 -- what clap found is what the arguments say
-pub said_ok : (found : Found) (words : List Text) → AreUtf8 words → fault_of grammar words ≡ [] → rows_of found ≡ matches_of grammar words → Some (said_in found) ≡ said_by words
+pub said_ok : (found : Found) (words : List Text) → AreUtf8 words → fault_of grammar words ≡ [] → rows_of found ≡ matches_of grammar words
+    → Some (said_in found) ≡ said_by words
 said_ok found words u passes rows = go (said_by words) refl
   where
     go : (o : Option Said) → said_by words ≡ o → Some (said_in found) ≡ o

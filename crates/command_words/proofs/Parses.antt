@@ -25,7 +25,8 @@ no_defaults : HaveNoDefaults rules_list
 no_defaults = (refl, (refl, (refl, (refl, (refl, tt)))))
 
 no_default : (rows : List Row) (r : Rule) → r.defaults ≡ [] → default_fault rows r ≡ []
-no_default rows r e = ap (λ (d : List Text). cond (has_row r.id rows || is_empty d) [] (given_default_fault r d)) e ∙ go (has_row r.id rows) (given_default_fault r [])
+no_default rows r e = ap (λ (d : List Text). cond (has_row r.id rows || is_empty d) [] (given_default_fault r d)) e
+    ∙ go (has_row r.id rows) (given_default_fault r [])
   where
     go : (b : Bool) (k : Kinds) → cond (b || true) [] k ≡ []
     go true k = refl
@@ -41,7 +42,8 @@ no_row rows r e = ap (λ (d : List Text). cond (has_row r.id rows) rows (default
 no_faults : (rules : List Rule) (rows : List Row) → HaveNoDefaults rules → defaults_fault rows rules ≡ []
 unfolding defaults_fault
 no_faults [] rows b = refl
-no_faults (r ∷ rs) rows b = ap (λ (k : Kinds). or_else k (defaults_fault (with_default rows r) rs)) (no_default rows r b.0) ∙ no_faults rs (with_default rows r) b.1
+no_faults (r ∷ rs) rows b = ap (λ (k : Kinds). or_else k (defaults_fault (with_default rows r) rs)) (no_default rows r b.0)
+    ∙ no_faults rs (with_default rows r) b.1
 
 no_rows : (rules : List Rule) (rows : List Row) → HaveNoDefaults rules → fold with_default rows rules ≡ rows
 no_rows [] rows b = refl
@@ -81,7 +83,8 @@ means : (words : List Text) → AreUtf8 words → IsMeaning (said_by words) star
 means words u = reads words u First nothing None [] None (record { command = refl; second = refl }, record { passes = refl; shows = shows_nothing })
 
 -- arguments that say something are taken, and clap shows it
-pub words_taken : (words : List Text) (said : Said) → AreUtf8 words → said_by words ≡ Some said → (fault_of grammar words ≡ []) × IsShown said (matches_of grammar words)
+pub words_taken : (words : List Text) (said : Said) → AreUtf8 words → said_by words ≡ Some said
+    → (fault_of grammar words ≡ []) × IsShown said (matches_of grammar words)
 words_taken words said u e =
     let m : IsMeaning (Some said) start words = subst (λ (o : Option Said). IsMeaning o start words) e (means words u) in
     (fault_none words m.0, subst (IsShown said) (sym (rows_are words)) m.1)

@@ -4,7 +4,8 @@ use Rattle.std.specs.Prelude.{option_and_then}
 use Rattle.std.specs.Str.{IsUtf8, bytes_eq}
 use Rattle.clap.specs.Words.{Row, Text}
 use Rattle.clap.specs.Walk.{idle}
-use Rattle.command_words.specs.Words.{Place, Command, Second, Archive, Name, Cell, Reading, Said, without_wait, is_plain, option_step, option_word, fill_next, read_positional, put, read, step}
+use Rattle.command_words.specs.Words.{Place, Command, Second, Archive, Name, Cell, Reading, Said, without_wait, is_plain, option_step, option_word, fill_next}
+use Rattle.command_words.specs.Words.{read_positional, put, read, step}
 use Rattle.command_words.proofs.Rules.{id_of}
 use Rattle.command_words.proofs.Rows.{IsShown}
 use Rattle.command_words.proofs.States.{IsSound, Pending, end_fault}
@@ -73,7 +74,8 @@ next words = option_and_then (λ r. read r.0 r.1 words)
 abbrev read_by : Bool → Option Reading → Said → Option Place → List Text → Option Said
 read_by d s said wanted words = cond d (cond (is_some wanted) None (read_positional said words)) (next words s)
 
-pub read_as : (said : Said) (wanted : Option Place) (word : Text) (words : List Text) (s : Option Reading) → bytes_eq word (45 ∷ 45 ∷ []) ≡ false → step said wanted word ≡ s
+pub read_as : (said : Said) (wanted : Option Place) (word : Text) (words : List Text) (s : Option Reading) → bytes_eq word (45 ∷ 45 ∷ []) ≡ false
+    → step said wanted word ≡ s
     → read said wanted (word ∷ words) ≡ next words s
 read_as said wanted word words s ed es = ap (λ (d : Bool). read_by d (step said wanted word) said wanted words) ed ∙ ap (next words) es
 
@@ -108,4 +110,5 @@ bad_idle stage (word ∷ words) rows pending look u bad = go (look word u.0)
     go (dashes ed) = none_cons _ _ word words (dashes_moved None (place_of stage) word rows pending ed) (bad_trailing stage idle words rows pending bad)
     go (long name v ed el eo ep) = means_none _ word words (refused_turn None (place_of stage) word rows pending name v ed el bad)
     go (short x flags c ed el es first eo ep) = means_none _ word words (short_turn None (place_of stage) word rows pending ed el x flags c es first)
-    go (plain ed el es eo ep) = means_none _ word words (λ e. turn_bad stage rows pending bad (sym (plain_turn (place_of stage) word rows pending ed el es) ∙ e))
+    go (plain ed el es eo ep) = means_none _ word words (λ e. turn_bad stage rows pending bad
+        (sym (plain_turn (place_of stage) word rows pending ed el es) ∙ e))

@@ -13,7 +13,8 @@ abbrev pub row : Place → Text → Row
 row p v = record { id = id_of p; values = v ∷ []; count = None; source = Some CommandLine; reading = reading_by (rule_at p) }
 
 -- the row of this id is missing: nothing is changed, and what is missing comes last
-pub at_missing : (id : Text) (change : Row → List Row) (missing : List Row) (rows : List Row) → has_row id rows ≡ false → at_row id change missing rows ≡ rows ++ missing
+pub at_missing : (id : Text) (change : Row → List Row) (missing : List Row) (rows : List Row) → has_row id rows ≡ false
+    → at_row id change missing rows ≡ rows ++ missing
 at_missing id change missing [] e = refl
 at_missing id change missing (r ∷ rs) e = go (at_missing id change missing rs) (bytes_eq r.id id) e
   where
@@ -26,7 +27,8 @@ append_nil : (rows : List Row) → rows ++ [] ≡ rows
 append_nil [] = refl
 append_nil (r ∷ rs) = ap (λ (xs : List Row). r ∷ xs) (append_nil rs)
 
-used_as_values : (p : Place) (v : Text) (rows : List Row) → used (rule_at p) (v ∷ []) rows ≡ with_values (id_of p) (reading_by (rule_at p)) CommandLine (v ∷ []) (without (id_of p) rows)
+used_as_values : (p : Place) (v : Text) (rows : List Row) → used (rule_at p) (v ∷ []) rows ≡ with_values (id_of p) (reading_by (rule_at p)) CommandLine
+    (v ∷ []) (without (id_of p) rows)
 used_as_values Command v rows = refl
 used_as_values Second v rows = refl
 used_as_values Archive v rows = refl
@@ -50,7 +52,8 @@ has_more id [] r = go (bytes_eq r.id id)
     go false = refl
 has_more id (x ∷ xs) r = go (has_more id xs r) (bytes_eq x.id id)
   where
-    go : has_row id (xs ++ r ∷ []) ≡ (has_row id xs || bytes_eq r.id id) → (b : Bool) → (b || has_row id (xs ++ r ∷ [])) ≡ ((b || has_row id xs) || bytes_eq r.id id)
+    go : has_row id (xs ++ r ∷ []) ≡ (has_row id xs || bytes_eq r.id id) → (b : Bool)
+        → (b || has_row id (xs ++ r ∷ [])) ≡ ((b || has_row id xs) || bytes_eq r.id id)
     go later true = refl
     go later false = later
 
@@ -63,7 +66,8 @@ pub first_more : (id : Text) (rows : List Row) (r : Row) → first_of id (rows +
 first_more id [] r = refl
 first_more id (x ∷ xs) r = go (first_more id xs r) (bytes_eq x.id id)
   where
-    go : first_of id (xs ++ r ∷ []) ≡ cond (has_row id xs) (first_of id xs) (first_of id (r ∷ [])) → (b : Bool) → value_in (cond b (Some x) (find (λ y. bytes_eq y.id id) (xs ++ r ∷ [])))
+    go : first_of id (xs ++ r ∷ []) ≡ cond (has_row id xs) (first_of id xs) (first_of id (r ∷ [])) → (b : Bool)
+        → value_in (cond b (Some x) (find (λ y. bytes_eq y.id id) (xs ++ r ∷ [])))
         ≡ cond (b || has_row id xs) (value_in (cond b (Some x) (find (λ y. bytes_eq y.id id) xs))) (first_of id (r ∷ []))
     go later true = refl
     go later false = later

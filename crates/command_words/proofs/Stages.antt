@@ -66,7 +66,9 @@ filled_first said word s = record {
   kept = kept;
 }
   where
-    kept : (t : Bool) (waiting : Waiting) (rows : List Row) (pending : Pending) → to_positional rules_list (arg_by_index rules_list 1) word (walk_at waiting 1 t rows pending) (state rows pending) ≡ walk_at idle 2 t (end_rows rows pending) (Some (id_of Command, word ∷ []))
+    kept : (t : Bool) (waiting : Waiting) (rows : List Row) (pending : Pending)
+        → to_positional rules_list (arg_by_index rules_list 1) word (walk_at waiting 1 t rows pending) (state rows pending) ≡ walk_at idle 2 t
+        (end_rows rows pending) (Some (id_of Command, word ∷ []))
     kept true waiting rows pending = ap (walk_with 2 true) (positional_kept Command word rows pending)
     kept false waiting rows pending = ap (walk_with 2 false) (positional_kept Command word rows pending)
 
@@ -74,13 +76,16 @@ filled_first said word s = record {
 pub filled_next : (said : Said) (word : Text) → IsStageOf Next said → IsFilled Next Full Second said word
 filled_next said word s = record {
   free = s.second;
-  says = ap (λ (b : Bool). cond b (fill Second word said) (fill Command word said)) s.command ∙ ap (λ (b : Bool). cond b None (Some (put Second word said))) s.second;
+  says = ap (λ (b : Bool). cond b (fill Second word said) (fill Command word said)) s.command
+      ∙ ap (λ (b : Bool). cond b None (Some (put Second word said))) s.second;
   stands = record { command = s.command; second = refl };
   turn = positional_turn Second;
   kept = kept;
 }
   where
-    kept : (t : Bool) (waiting : Waiting) (rows : List Row) (pending : Pending) → to_positional rules_list (arg_by_index rules_list 2) word (walk_at waiting 2 t rows pending) (state rows pending) ≡ walk_at idle 3 t (end_rows rows pending) (Some (id_of Second, word ∷ []))
+    kept : (t : Bool) (waiting : Waiting) (rows : List Row) (pending : Pending)
+        → to_positional rules_list (arg_by_index rules_list 2) word (walk_at waiting 2 t rows pending) (state rows pending) ≡ walk_at idle 3 t
+        (end_rows rows pending) (Some (id_of Second, word ∷ []))
     kept true waiting rows pending = ap (walk_with 3 true) (positional_kept Second word rows pending)
     kept false waiting rows pending = ap (walk_with 3 false) (positional_kept Second word rows pending)
 
@@ -92,7 +97,8 @@ some_kind k ks kinds e f = subst tag (sym e ∙ f) tt
     tag (x ∷ xs) = Unit {0}
 
 -- a positional argument is refused where what is pending is
-pub turn_bad : (stage : Stage) (rows : List Row) (pending : Pending) → (end_fault rows pending ≡ [] → ⊥) → step_fault top (place_of stage) (state rows pending) value ≡ [] → ⊥
+pub turn_bad : (stage : Stage) (rows : List Row) (pending : Pending) → (end_fault rows pending ≡ [] → ⊥)
+    → step_fault top (place_of stage) (state rows pending) value ≡ [] → ⊥
 turn_bad First rows pending bad e = bad (sym (positional_turn Command rows pending) ∙ e)
 turn_bad Next rows pending bad e = bad (sym (positional_turn Second rows pending) ∙ e)
 turn_bad Full rows pending bad e = some_kind kind.UnknownArgument [] _ refl e

@@ -45,7 +45,8 @@ fault_is Cell v rows = refl
 pub use_once : (p : Place) (v : Text) (rows : List Row) → has_row (id_of p) rows ≡ false → use_fault false (rule_at p) (v ∷ []) rows ≡ []
 use_once p v rows e = fault_is p v rows ∙ ap set_fault_of e
 
-pub use_twice : (p : Place) (v : Text) (rows : List Row) → has_row (id_of p) rows ≡ true → use_fault false (rule_at p) (v ∷ []) rows ≡ kind.ArgumentConflict ∷ []
+pub use_twice : (p : Place) (v : Text) (rows : List Row) → has_row (id_of p) rows ≡ true
+    → use_fault false (rule_at p) (v ∷ []) rows ≡ kind.ArgumentConflict ∷ []
 use_twice p v rows e = fault_is p v rows ∙ ap set_fault_of e
 
 pub pending_fault : (p : Place) (vs : List Text) (rows : List Row) → end_fault rows (Some (id_of p, vs)) ≡ use_fault false (rule_at p) vs rows
@@ -102,7 +103,8 @@ never_more : (p : Place) (pending : Pending) → (is_pending (rule_at p) pending
 never_more p pending = ap (λ (b : Bool). is_pending (rule_at p) pending && b) (one_value p) ∙ and_false (is_pending (rule_at p) pending)
 
 -- a positional argument first has what was pending used
-pub positional_turn : (p : Place) (rows : List Row) (pending : Pending) → positional_fault rules_list false (rule_at p) (state rows pending) ≡ end_fault rows pending
+pub positional_turn : (p : Place) (rows : List Row) (pending : Pending)
+    → positional_fault rules_list false (rule_at p) (state rows pending) ≡ end_fault rows pending
 positional_turn p rows pending = ap (λ (b : Bool). cond b [] (end_fault rows pending)) (never_more p pending)
 
 rule_id : (p : Place) → (rule_at p).id ≡ id_of p

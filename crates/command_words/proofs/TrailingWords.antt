@@ -33,7 +33,8 @@ abbrev then : List Text → Option Said → Option Said
 then words s = option_and_then (λ s. read_positional s words) s
 
 -- an argument that goes to a place, and the arguments after it
-filled_trailing : (from to : Stage) (p : Place) (said : Said) (waiting : Waiting) (word : Text) (words : List Text) (rows : List Row) (pending : Pending) → IsFilled from to p said word → IsSound said rows pending
+filled_trailing : (from to : Stage) (p : Place) (said : Said) (waiting : Waiting) (word : Text) (words : List Text) (rows : List Row) (pending : Pending)
+    → IsFilled from to p said word → IsSound said rows pending
     → IsMeaning (read_positional (put p word said) words) (walk_at idle (place_of to) true (end_rows rows pending) (Some (id_of p, word ∷ []))) words
     → IsMeaning (read_positional said (word ∷ words)) (walk_at waiting (place_of from) true rows pending) (word ∷ words)
 filled_trailing from to p said waiting word words rows pending f g later =
@@ -42,17 +43,20 @@ filled_trailing from to p said waiting word words rows pending f g later =
     (move_is waiting (place_of from) word rows pending ∙ f.kept true waiting rows pending) later)
 
 -- clap reads the arguments after `--` as they are said
-pub trailing : (stage : Stage) (said : Said) (waiting : Waiting) (words : List Text) (rows : List Row) (pending : Pending) → IsStageOf stage said → IsSound said rows pending
+pub trailing : (stage : Stage) (said : Said) (waiting : Waiting) (words : List Text) (rows : List Row) (pending : Pending) → IsStageOf stage said
+    → IsSound said rows pending
     → IsMeaning (read_positional said words) (walk_at waiting (place_of stage) true rows pending) words
 trailing stage said waiting [] rows pending s g = means_nil said waiting (place_of stage) true rows pending g
 trailing First said waiting (word ∷ words) rows pending s g =
     let f = filled_first said word s in
     filled_trailing First Next Command said waiting word words rows pending f g
-    (trailing Next (put Command word said) idle words (end_rows rows pending) (Some (id_of Command, word ∷ [])) f.stands (good_pending said (end_rows rows pending) Command word g.shows f.free))
+    (trailing Next (put Command word said) idle words (end_rows rows pending) (Some (id_of Command, word ∷ [])) f.stands
+    (good_pending said (end_rows rows pending) Command word g.shows f.free))
 trailing Next said waiting (word ∷ words) rows pending s g =
     let f = filled_next said word s in
     filled_trailing Next Full Second said waiting word words rows pending f g
-    (trailing Full (put Second word said) idle words (end_rows rows pending) (Some (id_of Second, word ∷ [])) f.stands (good_pending said (end_rows rows pending) Second word g.shows f.free))
+    (trailing Full (put Second word said) idle words (end_rows rows pending) (Some (id_of Second, word ∷ [])) f.stands
+    (good_pending said (end_rows rows pending) Second word g.shows f.free))
 trailing Full said waiting (word ∷ words) rows pending s g =
     subst (λ (o : Option Said). IsMeaning (then words o) (walk_at waiting 3 true rows pending) (word ∷ words)) (sym (said_full said word s))
     (means_none _ word words (some_kind kind.UnknownArgument [] _ refl))

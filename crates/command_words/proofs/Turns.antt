@@ -34,7 +34,8 @@ turn_by wanted d lo position word h = or_else (cond d [] (flag_word_fault rules_
 abbrev pub here : Option Place → ℕ → List Row → Pending → Walk
 here wanted position rows pending = walk_at (waiting_for wanted) position false rows pending
 
-turn_is : (wanted : Option Place) (position : ℕ) (word : Text) (rows : List Row) (pending : Pending) → turn_fault top [] (here wanted position rows pending) word
+turn_is : (wanted : Option Place) (position : ℕ) (word : Text) (rows : List Row) (pending : Pending)
+    → turn_fault top [] (here wanted position rows pending) word
     ≡ turn_by wanted (bytes_eq word (45 ∷ 45 ∷ [])) (long_of word) position word (state rows pending)
 turn_is None position word rows pending = refl
 turn_is (Some p) position word rows pending = refl
@@ -44,7 +45,8 @@ abbrev pub moved_by : Option Place → Bool → Long → ℕ → Text → List R
 moved_by wanted d lo position word rows pending = after_step rules_list word (here wanted position rows pending)
     (met wanted d lo position word (state rows pending)).0 (met wanted d lo position word (state rows pending)).1
 
-moved_is : (wanted : Option Place) (position : ℕ) (word : Text) (rows : List Row) (pending : Pending) → walked rules_list [] (here wanted position rows pending) word
+moved_is : (wanted : Option Place) (position : ℕ) (word : Text) (rows : List Row) (pending : Pending)
+    → walked rules_list [] (here wanted position rows pending) word
     ≡ moved_by wanted (bytes_eq word (45 ∷ 45 ∷ [])) (long_of word) position word rows pending
 unfolding walked
 moved_is None position word rows pending = refl

@@ -48,7 +48,8 @@ second_empty (k ∷ ks) b e = absurd (kinds_apart k ks e)
     kinds_apart : (k : _) (ks : Kinds) → k ∷ ks ≡ [] → ⊥
     kinds_apart k ks e = subst tag e tt
 
-fault_cons : (w : Walk) (word : Text) (words : List Text) → fault_from w (word ∷ words) ≡ or_else (turn_fault top [] w word) (fault_from (walked rules_list [] w word) words)
+fault_cons : (w : Walk) (word : Text) (words : List Text) → fault_from w (word ∷ words) ≡ or_else (turn_fault top [] w word)
+    (fault_from (walked rules_list [] w word) words)
 unfolding walk_fault
 fault_cons w word words = refl
 
@@ -62,7 +63,8 @@ passes_tail w now word words is p = subst (λ (x : Walk). AreTaken x words) is (
   end = p.end;
 })
 
-passes_cons : (w now : Walk) (word : Text) (words : List Text) → turn_fault top [] w word ≡ [] → walked rules_list [] w word ≡ now → AreTaken now words → AreTaken w (word ∷ words)
+passes_cons : (w now : Walk) (word : Text) (words : List Text) → turn_fault top [] w word ≡ [] → walked rules_list [] w word ≡ now → AreTaken now words
+    → AreTaken w (word ∷ words)
 passes_cons w now word words turn is p =
     let q : AreTaken (walked rules_list [] w word) words = subst (λ (x : Walk). AreTaken x words) (sym is) p in
     record {
@@ -83,7 +85,8 @@ means_cons (Some said) w now word words turn is m = (
 pub means_none : (w : Walk) (word : Text) (words : List Text) → (turn_fault top [] w word ≡ [] → ⊥) → IsMeaning None w (word ∷ words)
 means_none w word words refused = λ p. refused (first_empty _ _ (sym (fault_cons w word words) ∙ p.turns))
 
-pub none_cons : (w now : Walk) (word : Text) (words : List Text) → walked rules_list [] w word ≡ now → IsMeaning None now words → IsMeaning None w (word ∷ words)
+pub none_cons : (w now : Walk) (word : Text) (words : List Text) → walked rules_list [] w word ≡ now → IsMeaning None now words
+    → IsMeaning None w (word ∷ words)
 none_cons w now word words is m = λ p. m (passes_tail w now word words is p)
 
 pub means_nil : (said : Said) (waiting : Waiting) (position : ℕ) (trailing : Bool) (rows : List Row) (pending : Pending) → IsSound said rows pending

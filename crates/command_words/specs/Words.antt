@@ -1,6 +1,7 @@
 -- What the arguments of a command line say. The first `--` ends the options. Before it an option is `--archive`,
 -- `--name` or `--cell` with the next argument as its value, or one argument, as `--archive=V`. All others are positional.
-use Rattle.std.specs.Prelude.{ℕ, Bool, false, not, ◌==◌, ◌||◌, List, [], ◌∷◌, Option, Some, None, String, string_bytes, map, is_some, option_map, option_and_then, if◌then◌else◌, codes}
+use Rattle.std.specs.Prelude.{ℕ, Bool, false, not, ◌==◌, ◌||◌, List, [], ◌∷◌, Option, Some, None, String, string_bytes, map, is_some, option_map}
+use Rattle.std.specs.Prelude.{option_and_then, if◌then◌else◌, codes}
 use Rattle.std.specs.Str.{bytes_eq}
 use Rattle.std.specs.declared.alloc.Global.{Global}
 

@@ -20,13 +20,10 @@ fn bare_grammar<'a>(alloc: Global) -> Command<'a>
 pub(crate) fn grammar<'a>(alloc: Global) -> Result<Command<'a>, NoMemory>
     ensures { IfOk result (λ c. app_of c ≡ grammar) }
 {
-    let archive = Arg::new(alloc, "archive").long("archive");
-    let name = Arg::new(alloc, "name").long("name");
-    let cell = Arg::new(alloc, "cell").long("cell");
     bare_grammar(alloc)
         .arg(Arg::new(alloc, "command"))?
         .arg(Arg::new(alloc, "second"))?
-        .arg(archive)?
-        .arg(name)?
-        .arg(cell)
+        .arg(Arg::new(alloc, "archive").long("archive"))?
+        .arg(Arg::new(alloc, "name").long("name"))?
+        .arg(Arg::new(alloc, "cell").long("cell"))
 }

@@ -1,5 +1,6 @@
 -- The closed walks of the edges, one edge more.
-use Rattle.std.proofs.Common.{◌≡◌, ℕ, zero, suc, ◌+◌, ◌-◌, ◌<◌, ◌≤◌, List, [], ◌∷◌, ◌++◌, length, take, map, get_or, Bool, true, false, Option, None, All, sym, ap, subst, ◌∙◌, arith}
+use Rattle.std.proofs.Common.{◌≡◌, ℕ, zero, suc, ◌+◌, ◌-◌, ◌<◌, ◌≤◌, List, [], ◌∷◌, ◌++◌, length, take, map, get_or, Bool, true, false, Option, None, All, sym}
+use Rattle.std.proofs.Common.{ap, subst, ◌∙◌, arith}
 use Rattle.std.specs.Option.{is_some}
 use Rattle.std.specs.List.{filter}
 use Rattle.std.proofs.lemmas.List.{get_or_default, take_all}
@@ -17,34 +18,40 @@ pub record IsReady (found : List (Option Vector)) (e : Arc) : Type 0 where
   pub to : (1 ≤ e.to) × (e.to ≤ length found)
   pub shift : IsWithin most_shift e.shift
 
-pub edge_ready : (G : Graph) (found : List (Option Vector)) (row : List Arc) (i : ℕ) (e : Arc) → IsGraph G → IsSmall G → length found ≡ G.vertices → row ≡ G.edges → i < length row → e ≡ get_or row i e → IsReady found e
+pub edge_ready : (G : Graph) (found : List (Option Vector)) (row : List Arc) (i : ℕ) (e : Arc) → IsGraph G → IsSmall G → length found ≡ G.vertices
+    → row ≡ G.edges → i < length row → e ≡ get_or row i e → IsReady found e
 edge_ready G found row i e g s count same l at =
     let edge = subst (IsEdge G) (sym at) (subst (λ es. IsEdge G (get_or es i e)) (sym same) (g.edges i e (subst (λ es. i < length es) same l))) in
     record {
       from = (edge.from.0, subst (λ n. e.from ≤ n) (sym count) edge.from.1);
       to = (edge.to.0, subst (λ n. e.to ≤ n) (sym count) edge.to.1);
-      shift = subst (λ (a : Arc). IsWithin most_shift a.shift) (sym at) (subst (λ es. IsWithin most_shift (get_or es i e).shift) (sym same) (s.shifts i e (subst (λ es. i < length es) same l)));
+      shift = subst (λ (a : Arc). IsWithin most_shift a.shift) (sym at)
+          (subst (λ es. IsWithin most_shift (get_or es i e).shift) (sym same) (s.shifts i e (subst (λ es. i < length es) same l)));
     }
 
 -- whether the tail was found
-pub tail_is : (found : List (Option Vector)) (e : Arc) (k : ℕ) (o : Option Vector) (b : Bool) → IsReady found e → k ≡ e.from → o ≡ get_or found (k - 1) o → is_some o ≡ b → is_some (walk_to found e.from) ≡ b
+pub tail_is : (found : List (Option Vector)) (e : Arc) (k : ℕ) (o : Option Vector) (b : Bool) → IsReady found e → k ≡ e.from → o ≡ get_or found (k - 1) o
+    → is_some o ≡ b → is_some (walk_to found e.from) ≡ b
 tail_is found e k o b r f at is =
     let low = r.from.0 in
     let high = r.from.1 in
     ap (λ (j : ℕ). is_some (get_or found (j - 1) None)) (sym f) ∙ ap is_some (get_or_default found (k - 1) None o (omega arith) ∙ sym at) ∙ is
 
 -- an edge from a found vertex
-pub walks_more : (found : List (Option Vector)) (row : List Arc) (i : ℕ) (e : Arc) (ws next : List Vector) (v : Vector) → i < length row → e ≡ get_or row i e → is_some (walk_to found e.from) ≡ true → v ≡ generator_of found e → next ≡ ws ++ v ∷ []
+pub walks_more : (found : List (Option Vector)) (row : List Arc) (i : ℕ) (e : Arc) (ws next : List Vector) (v : Vector) → i < length row → e ≡ get_or row i e
+    → is_some (walk_to found e.from) ≡ true → v ≡ generator_of found e → next ≡ ws ++ v ∷ []
     → ws ≡ map (generator_of found) (filter (λ e. is_some (walk_to found e.from)) (take i row))
     → next ≡ map (generator_of found) (filter (λ e. is_some (walk_to found e.from)) (take (i + 1) row))
 walks_more found row i e ws next v l at t is longer made =
     longer ∙ (λ j. made j ++ is j ∷ []) ∙ sym (images_more (generator_of found) (λ e. is_some (walk_to found e.from)) row i e l (sym at) t)
 
 -- another edge
-pub walks_same : (found : List (Option Vector)) (row : List Arc) (i : ℕ) (e : Arc) (ws next : List Vector) → i < length row → e ≡ get_or row i e → is_some (walk_to found e.from) ≡ false → next ≡ ws
+pub walks_same : (found : List (Option Vector)) (row : List Arc) (i : ℕ) (e : Arc) (ws next : List Vector) → i < length row → e ≡ get_or row i e
+    → is_some (walk_to found e.from) ≡ false → next ≡ ws
     → ws ≡ map (generator_of found) (filter (λ e. is_some (walk_to found e.from)) (take i row))
     → next ≡ map (generator_of found) (filter (λ e. is_some (walk_to found e.from)) (take (i + 1) row))
-walks_same found row i e ws next l at t same made = same ∙ made ∙ sym (images_same (generator_of found) (λ e. is_some (walk_to found e.from)) row i e l (sym at) t)
+walks_same found row i e ws next l at t same made = same ∙ made
+    ∙ sym (images_same (generator_of found) (λ e. is_some (walk_to found e.from)) row i e l (sym at) t)
 
 -- all edges
 pub walks_all : (G : Graph) (found : List (Option Vector)) (row : List Arc) (i : ℕ) (ws : List Vector) → row ≡ G.edges → length row ≤ i

@@ -12,7 +12,8 @@ use Rattle.connected_dim.specs.Search.{IsSearch, Grows}
 pub walk_further : (G : Graph) (start : ℕ) (u v : ℕ) (T s : Vector) → WalkShift G start u T → IsArc G (arc u v s) → WalkShift G start v (plus T s)
 walk_further G start u v T s h a =
     let back : minus (plus T s) T ≡ s = vector_equal (omega (arith, ints)) (omega (arith, ints)) (omega (arith, ints)) in
-    reached_transitive G (vertex start zero_vector) (vertex u T) (vertex v (plus T s)) h (reached_by_arc G (vertex u T) (vertex v (plus T s)) (subst (λ t. IsArc G (arc u v t)) (sym back) a))
+    reached_transitive G (vertex start zero_vector) (vertex u T) (vertex v (plus T s)) h
+    (reached_by_arc G (vertex u T) (vertex v (plus T s)) (subst (λ t. IsArc G (arc u v t)) (sym back) a))
 
 -- a search has grown by nothing
 pub grows_none : (G : Graph) (start : ℕ) (found : List (Option Vector)) (order : List ℕ) → IsSearch G start found order → Grows G start found order found order

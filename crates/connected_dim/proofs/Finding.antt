@@ -1,5 +1,6 @@
 -- One vertex more that is found.
-use Rattle.std.proofs.Common.{◌≡◌, ◌≢◌, ◌⊎◌, inl, inr, ℕ, ◌+◌, ◌-◌, ◌*◌, ◌<◌, ◌≤◌, List, [], ◌∷◌, ◌++◌, length, get_or, set, Option, Some, None, IsSome, refl, sym, ap, subst, ◌∙◌, arith, rules, get_or-set_same, get_or-set_other, length-set, length-append}
+use Rattle.std.proofs.Common.{◌≡◌, ◌≢◌, ◌⊎◌, inl, inr, ℕ, ◌+◌, ◌-◌, ◌*◌, ◌<◌, ◌≤◌, List, [], ◌∷◌, ◌++◌, length, get_or, set, Option, Some, None, IsSome, refl}
+use Rattle.std.proofs.Common.{sym, ap, subst, ◌∙◌, arith, rules, get_or-set_same, get_or-set_other, length-set, length-append}
 use Rattle.std.specs.List.{Contains}
 use Rattle.std.proofs.Math.Seq.{get_or-append_seam}
 use Rattle.std.proofs.lemmas.List.{get_or_append_left}
@@ -24,7 +25,8 @@ set_elsewhere found u v T low low' n = get_or-set_other found (u - 1) (v - 1) (S
 
 -- an answer is one of two
 pub record Found (found : List (Option Vector)) (order : List ℕ) (u : ℕ) (T : Vector) (found' : List (Option Vector)) (order' : List ℕ) : Type 0 where
-  pub which : (IsSome (walk_to found u) × (found' ≡ found) × (order' ≡ order)) ⊎ ((walk_to found u ≡ None) × (found' ≡ set found (u - 1) (Some T)) × (order' ≡ order ++ u ∷ []))
+  pub which : (IsSome (walk_to found u) × (found' ≡ found) × (order' ≡ order))
+      ⊎ ((walk_to found u ≡ None) × (found' ≡ set found (u - 1) (Some T)) × (order' ≡ order ++ u ∷ []))
 
 pub found_is : (found : List (Option Vector)) (order : List ℕ) (u : ℕ) (T : Vector) → Found found order u T (found_with found u T) (order_with found order u)
 found_is found order u T = by (walk_to found u) refl
@@ -46,14 +48,16 @@ at_last : (order : List ℕ) (u : ℕ) → get_or (order ++ u ∷ []) (length or
 at_last order u = get_or-append_seam order u [] 0
 
 -- a vertex that was not found before, to which a walk leads
-module _ (G : Graph) (start : ℕ) (found : List (Option Vector)) (order : List ℕ) (u : ℕ) (T : Vector) (h : IsSearch G start found order) (v : IsQuotientVertex G u) (new : walk_to found u ≡ None) (walk : WalkShift G start u T)
+module _ (G : Graph) (start : ℕ) (found : List (Option Vector)) (order : List ℕ) (u : ℕ) (T : Vector) (h : IsSearch G start found order)
+    (v : IsQuotientVertex G u) (new : walk_to found u ≡ None) (walk : WalkShift G start u T)
     (near : IsWithin (most_shift * length order) T) where
   inside : u ≤ length found
   inside = let c = h.count in let a = v.1 in omega arith
 
   walks : (w : ℕ) (S : Vector) → 1 ≤ w → walk_to (set found (u - 1) (Some T)) w ≡ Some S → WalkShift G start w S
   walks w S low e = elim (cases_eq w u) [
-    | inl s ↦ subst (λ x. WalkShift G start x S) (sym s) (subst (WalkShift G start u) (one_value _ T S (set_there found u T v.0 inside) (subst (λ x. walk_to (set found (u - 1) (Some T)) x ≡ Some S) s e)) walk)
+    | inl s ↦ subst (λ x. WalkShift G start x S) (sym s) (subst (WalkShift G start u)
+        (one_value _ T S (set_there found u T v.0 inside) (subst (λ x. walk_to (set found (u - 1) (Some T)) x ≡ Some S) s e)) walk)
     | inr n ↦ h.walks w S low (sym (set_elsewhere found u w T v.0 low n) ∙ e)
   ]
 

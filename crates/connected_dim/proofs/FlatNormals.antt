@@ -29,7 +29,8 @@ axis_normal d vs h = record {
 }
 
 -- the product of a multiple
-scaled : (k c1 c2 c3 v1 v2 v3 w1 w2 w3 : ℤ) → v1 ≡ k *ℤ c1 → v2 ≡ k *ℤ c2 → v3 ≡ k *ℤ c3 → v1 *ℤ w1 +ℤ v2 *ℤ w2 +ℤ v3 *ℤ w3 ≡ k *ℤ (c1 *ℤ w1 +ℤ c2 *ℤ w2 +ℤ c3 *ℤ w3)
+scaled : (k c1 c2 c3 v1 v2 v3 w1 w2 w3 : ℤ) → v1 ≡ k *ℤ c1 → v2 ≡ k *ℤ c2 → v3 ≡ k *ℤ c3
+    → v1 *ℤ w1 +ℤ v2 *ℤ w2 +ℤ v3 *ℤ w3 ≡ k *ℤ (c1 *ℤ w1 +ℤ c2 *ℤ w2 +ℤ c3 *ℤ w3)
 scaled k c1 c2 c3 v1 v2 v3 w1 w2 w3 a b d =
     let p = ap (λ t. t *ℤ w1) a in
     let q = ap (λ t. t *ℤ w2) b in
@@ -45,7 +46,8 @@ module _ (v c : Vector) (some : v ≢ zero_vector) (r : IsReduction v c) where
   reduced_orthogonal : (w : Vector) → dot v w ≡ pos 0 → dot c w ≡ pos 0
   reduced_orthogonal w e =
       other_factor_zero r.k (dot c w)
-      (sym (scaled r.k c.x c.y c.z v.x v.y v.z w.x w.y w.z (ap (λ (t : Vector). t.x) r.multiple) (ap (λ (t : Vector). t.y) r.multiple) (ap (λ (t : Vector). t.z) r.multiple)) ∙ e) factor
+      (sym (scaled r.k c.x c.y c.z v.x v.y v.z w.x w.y w.z (ap (λ (t : Vector). t.x) r.multiple) (ap (λ (t : Vector). t.y) r.multiple)
+      (ap (λ (t : Vector). t.z) r.multiple)) ∙ e) factor
 
   -- where v has no part there, c has none
   reduced_y : v.y ≡ pos 0 → c.y ≡ pos 0
@@ -102,11 +104,13 @@ flat_product x y z a1 a2 a3 hz e = let r = ap (λ t. t *ℤ a3) hz in omega (ari
 
 -- where it is orthogonal to two vectors, its first part times the third part of their cross product is 0
 first_times : (x y a1 a2 b1 b2 : ℤ) → x *ℤ a1 +ℤ y *ℤ a2 ≡ pos 0 → x *ℤ b1 +ℤ y *ℤ b2 ≡ pos 0 → x *ℤ (a1 *ℤ b2 -ℤ a2 *ℤ b1) ≡ pos 0
-first_times x y a1 a2 b1 b2 e f = let p = ap (λ t. t *ℤ b2) e in let q = ap (λ t. t *ℤ a2) f in simp ring (omega (arith, linear, simp ring at p, simp ring at q))
+first_times x y a1 a2 b1 b2 e f = let p = ap (λ t. t *ℤ b2) e in let q = ap (λ t. t *ℤ a2) f in
+    simp ring (omega (arith, linear, simp ring at p, simp ring at q))
 
 -- and so is its second part
 second_times : (x y a1 a2 b1 b2 : ℤ) → x *ℤ a1 +ℤ y *ℤ a2 ≡ pos 0 → x *ℤ b1 +ℤ y *ℤ b2 ≡ pos 0 → y *ℤ (a1 *ℤ b2 -ℤ a2 *ℤ b1) ≡ pos 0
-second_times x y a1 a2 b1 b2 e f = let p = ap (λ t. t *ℤ b1) e in let q = ap (λ t. t *ℤ a1) f in simp ring (omega (arith, linear, simp ring at p, simp ring at q))
+second_times x y a1 a2 b1 b2 e f = let p = ap (λ t. t *ℤ b1) e in let q = ap (λ t. t *ℤ a1) f in
+    simp ring (omega (arith, linear, simp ring at p, simp ring at q))
 
 -- vectors with no first part have a cross product on the first axis
 no_first : (a1 a3 b1 b3 : ℤ) → a1 ≡ pos 0 → b1 ≡ pos 0 → a3 *ℤ b1 -ℤ a1 *ℤ b3 ≡ pos 0
@@ -120,7 +124,8 @@ no_first_too : (a1 a2 b1 b2 : ℤ) → a1 ≡ pos 0 → b1 ≡ pos 0 → a1 *ℤ
 no_first_too a1 a2 b1 b2 e f = let h = no_first a1 a2 b1 b2 e f in omega (arith, linear, h)
 
 -- where all are in the plane of two
-pub plane_normal : (d : ℕ) (vs : List Vector) (a b c : Vector) → d ≢ 2 → Contains vs a → Contains vs b → cross a b ≢ zero_vector → All (λ v. dot (cross a b) v ≡ pos 0) vs
+pub plane_normal : (d : ℕ) (vs : List Vector) (a b c : Vector) → d ≢ 2 → Contains vs a → Contains vs b → cross a b ≢ zero_vector
+    → All (λ v. dot (cross a b) v ≡ pos 0) vs
     → IsReduction (cross a b) c → IsFlatNormal d vs c
 plane_normal d vs a b c three i j some all r = record {
   dimension = λ e. absurd (three e);
@@ -139,7 +144,8 @@ plane_normal d vs a b c three i j some all r = record {
         let n : e.x ≢ pos 0 = λ x. ne (vector_equal x y z) in
         let ax = other_factor_zero e.x a.x p n in
         let bx = other_factor_zero e.x b.x q n in
-        ends_by_zero c zero (reduced_y (cross a b) c some r (no_first a.x a.z b.x b.z ax bx)) (reduced_z (cross a b) c some r (no_first_too a.x a.y b.x b.y ax bx))
+        ends_by_zero c zero (reduced_y (cross a b) c some r (no_first a.x a.z b.x b.z ax bx))
+        (reduced_z (cross a b) c some r (no_first_too a.x a.y b.x b.y ax bx))
     lowest e (suc zero) dim o ne ends =
         let z : e.z ≡ pos 0 = ends 2 (omega arith) in
         let oa = flat_product e.x e.y e.z a.x a.y a.z z (All-contains (λ v. dot e v ≡ pos 0) vs a o i) in
@@ -157,7 +163,8 @@ plane_normal d vs a b c three i j some all r = record {
 pub no_first_part : (a w : Vector) → a ≢ zero_vector → a.x ≡ pos 0 → cross a w ≡ zero_vector → w.x ≡ pos 0
 no_first_part a w some x e = elim (zero_or_not w.x) [
   | inl z ↦ z
-  | inr n ↦ absurd (some (vector_equal x (factor a.y (product_y a.x a.y w.x w.y x (ap (λ (t : Vector). t.z) e)) n) (factor a.z (product_z a.x a.z w.x w.z x (ap (λ (t : Vector). t.y) e)) n)))
+  | inr n ↦ absurd (some (vector_equal x (factor a.y (product_y a.x a.y w.x w.y x (ap (λ (t : Vector). t.z) e)) n)
+      (factor a.z (product_z a.x a.z w.x w.z x (ap (λ (t : Vector). t.y) e)) n)))
 ]
   where
     factor : (b : ℤ) → w.x *ℤ b ≡ pos 0 → w.x ≢ pos 0 → b ≡ pos 0

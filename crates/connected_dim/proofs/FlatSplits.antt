@@ -20,7 +20,8 @@ same_dot : (c1 c2 c3 s1 s2 s3 t1 t2 t3 : ℤ) → c1 *ℤ (s1 -ℤ t1) +ℤ c2 *
 same_dot c1 c2 c3 s1 s2 s3 t1 t2 t3 e = omega (arith, linear, simp ring at e)
 
 -- the colouring by a normal
-pub flat_split_is : (G : Graph) (found : List (Option Vector)) (c : Vector) → IsGraph G → AreWalks G 1 found → All IsSome found → IsFlatNormal G.dimension (generators G found) c
+pub flat_split_is : (G : Graph) (found : List (Option Vector)) (c : Vector) → IsGraph G → AreWalks G 1 found → All IsSome found
+    → IsFlatNormal G.dimension (generators G found) c
     → IsFlatSplit G (flat_colouring c found)
 flat_split_is G found c g w all n = record {
   found = each_found G g found w all;

@@ -1,5 +1,6 @@
 -- The edges between the vertices that were found generate the shifts of the closed walks.
-use Rattle.std.proofs.Common.{◌≡◌, ℕ, zero, suc, ◌-◌, ◌≤◌, ◌<◌, List, [], ◌∷◌, length, get_or, map, true, Bool, false, cond, Option, Some, None, IsSome, All, refl, sym, ap, subst, arith, inl, inr}
+use Rattle.std.proofs.Common.{◌≡◌, ℕ, zero, suc, ◌-◌, ◌≤◌, ◌<◌, List, [], ◌∷◌, length, get_or, map, true, Bool, false, cond, Option, Some, None, IsSome, All}
+use Rattle.std.proofs.Common.{refl, sym, ap, subst, arith, inl, inr}
 use Rattle.std.specs.Option.{is_some}
 use Rattle.std.specs.List.{filter, AllByRecursion}
 use Rattle.std.proofs.lemmas.List.Elements.{recursion_from_All, All-from_recursion}
@@ -56,14 +57,18 @@ module _ (G : Graph) (g : IsGraph G) (a : ℕ) (found : List (Option Vector)) (h
 
   -- the generators are closed walks
   pub generators_closed : 1 ≤ a → All (ClosedShift G a) (generators G found)
-  generators_closed low = All-from_recursion (ClosedShift G a) (generators G found) (of_edges G.edges (λ e i. contains_from_in (arcs G) e (edge_in G.edges e i)))
+  generators_closed low = All-from_recursion (ClosedShift G a) (generators G found)
+      (of_edges G.edges (λ e i. contains_from_in (arcs G) e (edge_in G.edges e i)))
     where
-      of_edges : (es : List Arc) → ((e : Arc) → IsIn es e → IsArc G e) → AllByRecursion (ClosedShift G a) (map (generator_of found) (filter (λ e. is_some (walk_to found e.from)) es))
+      of_edges : (es : List Arc) → ((e : Arc) → IsIn es e → IsArc G e) → AllByRecursion (ClosedShift G a)
+          (map (generator_of found) (filter (λ e. is_some (walk_to found e.from)) es))
       of_edges [] within = tt
       of_edges (e ∷ es) within = by (is_some (walk_to found e.from)) refl (of_edges es (λ f i. within f (inr i)))
         where
-          by : (b : Bool) → is_some (walk_to found e.from) ≡ b → AllByRecursion (ClosedShift G a) (map (generator_of found) (filter (λ e. is_some (walk_to found e.from)) es))
-              → AllByRecursion (ClosedShift G a) (map (generator_of found) (cond b (e ∷ filter (λ e. is_some (walk_to found e.from)) es) (filter (λ e. is_some (walk_to found e.from)) es)))
+          by : (b : Bool) → is_some (walk_to found e.from) ≡ b → AllByRecursion (ClosedShift G a)
+              (map (generator_of found) (filter (λ e. is_some (walk_to found e.from)) es))
+              → AllByRecursion (ClosedShift G a) (map (generator_of found)
+              (cond b (e ∷ filter (λ e. is_some (walk_to found e.from)) es) (filter (λ e. is_some (walk_to found e.from)) es)))
           by true t r =
               let i = within e (inl refl) in
               (generator_closed G g a (shift_at found) (tells low) e i (found_in e.from (arc_inside G g e i).from t), r)

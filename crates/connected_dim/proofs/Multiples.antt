@@ -1,5 +1,6 @@
 -- The vector that takes the members of a staircase to multiples of a pivot.
-use Rattle.std.proofs.Common.{◌≡◌, ◌≢◌, zero, suc, ◌^◌, ℤ, pos, negsuc, neg_ℤ, ◌+ℤ◌, ◌-ℤ◌, ◌*ℤ◌, ◌≤ℤ◌, ◌<ℤ◌, inl, inr, refl, sym, ap, subst, ◌∙◌, arith, FitsSigned}
+use Rattle.std.proofs.Common.{◌≡◌, ◌≢◌, zero, suc, ◌^◌, ℤ, pos, negsuc, neg_ℤ, ◌+ℤ◌, ◌-ℤ◌, ◌*ℤ◌, ◌≤ℤ◌, ◌<ℤ◌, inl, inr, refl, sym, ap, subst, ◌∙◌, arith}
+use Rattle.std.proofs.Common.{FitsSigned}
 use Rattle.std.specs.Int.{w128}
 use Rattle.std.proofs.lemmas.Int.{ints}
 use Rattle.integers.specs.Vectors.{Vector, vector, dot}
@@ -45,7 +46,8 @@ second c x y z k l b e j ec ex ey =
     simp ring (omega (arith, linear, ey, simp ring at p, simp ring at q))
 
 -- and at the third
-third : (c d x y z k l n c0 f i j h : ℤ) → c ≡ neg_ℤ c0 +ℤ i *ℤ j → d ≡ neg_ℤ f +ℤ i *ℤ h → x ≡ k *ℤ pos 1 → y ≡ k *ℤ pos 0 +ℤ l *ℤ pos 1 → z ≡ k *ℤ c0 +ℤ l *ℤ f +ℤ n *ℤ i
+third : (c d x y z k l n c0 f i j h : ℤ) → c ≡ neg_ℤ c0 +ℤ i *ℤ j → d ≡ neg_ℤ f +ℤ i *ℤ h → x ≡ k *ℤ pos 1 → y ≡ k *ℤ pos 0 +ℤ l *ℤ pos 1
+    → z ≡ k *ℤ c0 +ℤ l *ℤ f +ℤ n *ℤ i
     → c *ℤ x +ℤ d *ℤ y +ℤ pos 1 *ℤ z ≡ i *ℤ (j *ℤ k +ℤ h *ℤ l +ℤ n)
 third c d x y z k l n c0 f i j h ec ed ex ey ez =
     let p = ap (λ t. c *ℤ t) ex in

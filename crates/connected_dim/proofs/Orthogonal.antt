@@ -28,6 +28,7 @@ orthogonal_group c = record {
 }
 
 -- so c is orthogonal to the closed walks
-pub orthogonal_closed : (G : Graph) (a : ℕ) (found : List (Option Vector)) (c : Vector) → IsGraph G → 1 ≤ a → AreWalks G a found → IsOrthogonalTo (generators G found) c
+pub orthogonal_closed : (G : Graph) (a : ℕ) (found : List (Option Vector)) (c : Vector) → IsGraph G → 1 ≤ a → AreWalks G a found
+    → IsOrthogonalTo (generators G found) c
     → (v : Vector) → ClosedShift G a v → dot c v ≡ pos 0
 orthogonal_closed G a found c g low h o v k = closed_in G g a found h (λ v. dot c v ≡ pos 0) (orthogonal_group c) o low v k

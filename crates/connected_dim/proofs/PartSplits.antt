@@ -1,5 +1,6 @@
 -- The vertices that a walk from vertex 1 leads to, and the colouring of the two parts.
-use Rattle.std.proofs.Common.{◌≡◌, ℕ, ◌+◌, ◌-◌, ◌<◌, ◌≤◌, pos, List, length, map, get_or, Option, Some, None, IsSome, Contains, refl, ap, subst, ◌∙◌, arith, rules}
+use Rattle.std.proofs.Common.{◌≡◌, ℕ, ◌+◌, ◌-◌, ◌<◌, ◌≤◌, pos, List, length, map, get_or, Option, Some, None, IsSome, Contains, refl, ap, subst, ◌∙◌, arith}
+use Rattle.std.proofs.Common.{rules}
 use Rattle.std.proofs.lemmas.List.{length-map, get_or-map}
 use Rattle.integers.specs.Vectors.{Vector}
 use Rattle.periodic_net.specs.Graph.{Graph, IsGraph, IsQuotientVertex}
@@ -32,7 +33,8 @@ part_split_is G found g h missed = record {
   missed = (
     missed.0 + 1,
     (omega arith, subst (λ n. missed.0 + 1 ≤ n) h.count (omega (arith, missed.1))),
-    λ f. some_or (walk_to found (missed.0 + 1)) (ap (λ (k : ℕ). get_or found k None) (less missed.0) ∙ missed.2) (all_found G g 1 found h (omega arith) (missed.0 + 1) f),
+    λ f. some_or (walk_to found (missed.0 + 1)) (ap (λ (k : ℕ). get_or found k None) (less missed.0) ∙ missed.2)
+        (all_found G g 1 found h (omega arith) (missed.0 + 1) f),
   );
 }
   where

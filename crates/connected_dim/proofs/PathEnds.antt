@@ -41,7 +41,8 @@ module _ (G : Graph) (a : ℕ) (found : List (Option Vector)) (order : List ℕ)
   back_again i l = omega arith
 
   -- a later one
-  path_later : (i u : ℕ) → 1 ≤ i → i < length order → IsPathSearch G a found order (i - 1) [] → get_or order i 0 ≡ u → (row : List Arc) → AreArcsOf G u row → IsPathSearch G a found order i row
+  path_later : (i u : ℕ) → 1 ≤ i → i < length order → IsPathSearch G a found order (i - 1) [] → get_or order i 0 ≡ u → (row : List Arc) → AreArcsOf G u row
+      → IsPathSearch G a found order i row
   path_later i u one l s at row r =
       let inside : i < length s.known = let e = as_many s.known in let d = ap length s.vertices in omega arith in
       let next = get_or s.known i (entry a []) in
@@ -58,7 +59,8 @@ module _ (G : Graph) (a : ℕ) (found : List (Option Vector)) (order : List ℕ)
       }
 
   -- the next vertex is gone on from
-  pub path_begin : (i u : ℕ) → i < length order → get_or order i 0 ≡ u → IsSettledTo G a found order i → (row : List Arc) → AreArcsOf G u row → IsPathSearch G a found order i row
+  pub path_begin : (i u : ℕ) → i < length order → get_or order i 0 ≡ u → IsSettledTo G a found order i → (row : List Arc) → AreArcsOf G u row
+      → IsPathSearch G a found order i row
   path_begin i u l at s row r = elim s.which [
     | inl k ↦ subst (λ j. IsPathSearch G a found order j row) (sym k.0) (path_first u k.1 (subst (λ j. get_or order j 0 ≡ u) k.0 at) row r)
     | inr k ↦ path_later i u k.0 l k.1 at row r
@@ -91,7 +93,8 @@ module _ (G : Graph) (a : ℕ) (found : List (Option Vector)) (order : List ℕ)
             let y = entry_of p.known u (subst (λ us. IsIn us u) (sym p.vertices) c) in
             let whole = path_complete (i - 1) (omega (arith, one, l)) p in
             let is_chosen = complete_chosen G a p.known whole y.0 y.1 in
-            let shift = one_value (walk_to found u) (path_shift y.0.path) T (subst (λ v. walk_to found v ≡ Some (path_shift y.0.path)) y.2 (p.shifts y.0 y.1)) e in
+            let shift = one_value (walk_to found u) (path_shift y.0.path) T
+            (subst (λ v. walk_to found v ≡ Some (path_shift y.0.path)) y.2 (p.shifts y.0 y.1)) e in
             (y.0.path, subst (λ v. IsChosen G a v y.0.path) y.2 is_chosen, shift);
       }
 

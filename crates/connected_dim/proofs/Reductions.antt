@@ -42,7 +42,8 @@ divided : (g s a w : ℤ) (z : ℤ) → z ≡ s *ℤ a → a ≡ g *ℤ w → z 
 divided g s a w z e f = let p = ap (λ t. s *ℤ t) f in omega (arith, linear, e, simp ring at p)
 
 -- the greatest common divisor of the first two parts, and of it and the third
-pub divisor_is : (v : Vector) (h g : ℕ) → v ≢ zero_vector → IsGcd (unsigned_abs v.x) (unsigned_abs v.y) h → IsCombination (unsigned_abs v.x) (unsigned_abs v.y) h
+pub divisor_is : (v : Vector) (h g : ℕ) → v ≢ zero_vector → IsGcd (unsigned_abs v.x) (unsigned_abs v.y) h
+    → IsCombination (unsigned_abs v.x) (unsigned_abs v.y) h
     → IsGcd h (unsigned_abs v.z) g → IsCombination h (unsigned_abs v.z) g → IsDivisor v (pos g)
 divisor_is v h g n a ac b bc =
     let p = quotient_of g h b.0 in
@@ -62,7 +63,8 @@ divisor_is v h g n a ac b bc =
       w = w;
       multiple = multiple;
       s = vector (bc.s *ℤ (ac.s *ℤ sx.0)) (bc.s *ℤ (ac.t *ℤ sy.0)) (bc.t *ℤ sz.0);
-      combination = combined bc.s bc.t ac.s ac.t (pos g) (pos h) v.x v.y v.z sx.0 sy.0 sz.0 (pos (unsigned_abs v.x)) (pos (unsigned_abs v.y)) (pos (unsigned_abs v.z)) bc.is ac.is sx.1 sy.1 sz.1;
+      combination = combined bc.s bc.t ac.s ac.t (pos g) (pos h) v.x v.y v.z sx.0 sy.0 sz.0 (pos (unsigned_abs v.x)) (pos (unsigned_abs v.y))
+          (pos (unsigned_abs v.z)) bc.is ac.is sx.1 sy.1 sz.1;
     }
   where
     twice : (g p x h a : ℕ) → h ≡ g * p → a ≡ h * x → pos a ≡ pos g *ℤ (pos p *ℤ pos x)
@@ -95,7 +97,8 @@ quotient_coprime v g c d m e k h =
     let some : g ≢ pos 0 = λ z. absurd (omega (arith, ints, z, positive)) in
     let s = d.s in
     let one = one_of g s.x s.y s.z c.x c.y c.z some (d.combination ∙ ap (dot s) m) in
-    unit k (s.x *ℤ e.x +ℤ s.y *ℤ e.y +ℤ s.z *ℤ e.z) (part_of k s.x s.y s.z c.x c.y c.z e.x e.y e.z one (ap (λ (t : Vector). t.x) h) (ap (λ (t : Vector). t.y) h) (ap (λ (t : Vector). t.z) h))
+    unit k (s.x *ℤ e.x +ℤ s.y *ℤ e.y +ℤ s.z *ℤ e.z) (part_of k s.x s.y s.z c.x c.y c.z e.x e.y e.z one (ap (λ (t : Vector). t.x) h)
+    (ap (λ (t : Vector). t.y) h) (ap (λ (t : Vector). t.z) h))
 
 -- a multiple, turned
 turned_back : (k e c : ℤ) → neg_ℤ c ≡ k *ℤ e → c ≡ k *ℤ neg_ℤ e
@@ -104,7 +107,8 @@ turned_back k e c h = simp ring (omega (arith, linear, h))
 -- and so is its opposite
 pub opposite_coprime : (c : Vector) → IsCoprime c → IsCoprime (opposite c)
 opposite_coprime c h e k m =
-    h (opposite e) k (vector_equal (turned_back k e.x c.x (ap (λ (t : Vector). t.x) m)) (turned_back k e.y c.y (ap (λ (t : Vector). t.y) m)) (turned_back k e.z c.z (ap (λ (t : Vector). t.z) m)))
+    h (opposite e) k (vector_equal (turned_back k e.x c.x (ap (λ (t : Vector). t.x) m)) (turned_back k e.y c.y (ap (λ (t : Vector). t.y) m))
+    (turned_back k e.z c.z (ap (λ (t : Vector). t.z) m)))
 
 -- two signs cancel
 negative_times : (g c : ℤ) → g *ℤ c ≡ neg_ℤ g *ℤ neg_ℤ c

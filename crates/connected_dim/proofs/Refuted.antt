@@ -17,7 +17,8 @@ pub flat_refusal : (G : Graph) (s : Split) (S : NetSplit) → IsGraph G → s.di
 flat_refusal G s S g d e p = let q = subst (IsFlatSplit G) (sym e) p in (d, flat_is_split G (split_view s) g q, q)
 
 -- the third
-pub sparse_refusal : (G : Graph) (s : Split) (S : NetSplit) → IsGraph G → s.dim ≡ G.dimension → split_view s ≡ S → (k : ℕ) × IsSparseSplit G S k → IsDisconnectedBy G s
+pub sparse_refusal : (G : Graph) (s : Split) (S : NetSplit) → IsGraph G → s.dim ≡ G.dimension → split_view s ≡ S → (k : ℕ) × IsSparseSplit G S k
+    → IsDisconnectedBy G s
 sparse_refusal G s S g d e p = let q = subst (λ S. IsSparseSplit G S p.0) (sym e) p.1 in (d, sparse_is_split G (split_view s) p.0 g q, inr (p.0, q))
 
 -- so the net is not connected

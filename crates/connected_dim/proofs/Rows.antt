@@ -11,7 +11,8 @@ use Rattle.connected_dim.proofs.Sorted.{rising_sorted}
 use Rattle.connected_dim.proofs.PathEnds.{AreArcsOf}
 
 -- a star has all arcs from its vertex, in rising order
-pub arcs_of_star : (G : Graph) (u : ℕ) (row : List Arc) → IsStar G u row → All (IsArcFrom G u) row → ((a : Arc) → IsArc G a → a.from ≡ u → Contains row a) → AreArcsOf G u row
+pub arcs_of_star : (G : Graph) (u : ℕ) (row : List Arc) → IsStar G u row → All (IsArcFrom G u) row → ((a : Arc) → IsArc G a → a.from ≡ u → Contains row a)
+    → AreArcsOf G u row
 arcs_of_star G u row star each every = record {
   sorted = rising_sorted row u (λ f i. (here f i).from) star.rising;
   from = λ f i. ((here f i).is_arc, (here f i).from);

@@ -19,7 +19,8 @@ rising_sorted (f ∷ fs) u from h = (
   (λ g i.
       let c = contains_from_in fs g i in
       let b = h 0 (suc c.0) g (omega arith) (omega arith) in
-      let b' : IsBelow (pos f.from ∷ step_key f) (pos g.from ∷ step_key g) = subst (λ (x : Arc). IsBelow (pos f.from ∷ step_key f) (pos x.from ∷ step_key x)) c.2 b in
+      let b' : IsBelow (pos f.from ∷ step_key f) (pos g.from ∷ step_key g) =
+      subst (λ (x : Arc). IsBelow (pos f.from ∷ step_key f) (pos x.from ∷ step_key x)) c.2 b in
       elim (below_ways (pos f.from) (pos g.from) (step_key f) (step_key g) b') [
         | inl l ↦ absurd (less_not_same f.from g.from l (from f (inl refl) ∙ sym (from g (inr i))))
         | inr r ↦ r.1

@@ -61,7 +61,8 @@ module _ (d : ℕ) (L : Vector → Type 0) (h : IsVectorGroup L) (dim : (v : Vec
       let k = products a b up v in
       let none : k.z ≡ pos 0 = flat_triple a.x a.y a.z b.x b.y b.z v.x v.y v.z (dim a i two) (dim b j two) (flat two) in
       let same : times (triple_product a b up) v ≡ plus (times k.x a) (times k.y b) =
-      cramer a b up v ∙ vector_equal (sum_zero a.x b.x k.x k.y k.z (pos 0) none) (sum_zero a.y b.y k.x k.y k.z (pos 0) none) (sum_zero a.z b.z k.x k.y k.z (pos 1) none) in
+      cramer a b up v ∙ vector_equal (sum_zero a.x b.x k.x k.y k.z (pos 0) none) (sum_zero a.y b.y k.x k.y k.z (pos 0) none)
+      (sum_zero a.z b.z k.x k.y k.z (pos 1) none) in
       subst L (sym same) (h.sums (times k.x a) (times k.y b) (times_in L h k.x a i) (times_in L h k.y b j))
 
   -- in space
@@ -97,7 +98,8 @@ module _ (d : ℕ) (L : Vector → Type 0) (h : IsVectorGroup L) (dim : (v : Vec
 
   -- and so is all of the lattice
   pub lattice_inside : (m : ℤ) (S : Stairs) → (d ≡ 2) ⊎ (d ≢ 2) → IsVolume d vs m → IsLatticeOf d m vs S → (v : Vector) → Members d S v → L v
-  lattice_inside m S which s t v i = with_inside (Members d t.start) (Members d S) L vs t.with h multiples (λ w k. All-contains L vs w all (contains_from_in vs w k)) v i
+  lattice_inside m S which s t v i = with_inside (Members d t.start) (Members d S) L vs t.with h multiples
+      (λ w k. All-contains L vs w all (contains_from_in vs w k)) v i
     where
       multiples : (u : Vector) → Members d t.start u → L u
       multiples u k =
@@ -113,6 +115,7 @@ two_or_not d = grind arith
 pub closed_by_volume : (G : Graph) (a : ℕ) (found : List (Option Vector)) (m : ℤ) (S : Stairs) → IsGraph G → IsQuotientVertex G a → AreWalks G a found
     → IsVolume G.dimension (generators G found) m → IsLatticeOf G.dimension m (generators G found) S → AreClosedWalks G a S
 closed_by_volume G a found m S g q h s l = record {
-  out = λ v i. lattice_inside G.dimension (ClosedShift G a) (closed_group G a) (λ v c. walk_dimension G g a a v q c) (generators G found) (generators_closed G g a found h q.0) m S (two_or_not G.dimension) s l v i;
+  out = λ v i. lattice_inside G.dimension (ClosedShift G a) (closed_group G a) (λ v c. walk_dimension G g a a v q c) (generators G found)
+      (generators_closed G g a found h q.0) m S (two_or_not G.dimension) s l v i;
   into = λ v c. closed_in G g a found h (Members G.dimension S) (members_group G.dimension S) (added_members G.dimension m (generators G found) S l) q.0 v c;
 }

@@ -1,5 +1,6 @@
 -- The colouring of a net whose closed walks have full rank and are not all shifts.
-use Rattle.std.proofs.Common.{◌≡◌, ℕ, zero, suc, ◌-◌, ◌<◌, ◌≤◌, ℤ, pos, negsuc, neg_ℤ, ◌+ℤ◌, ◌-ℤ◌, ◌*ℤ◌, ◌≤ℤ◌, ◌<ℤ◌, Bool, true, false, cond, ◌==◌, List, [], ◌∷◌, length, map, get_or, Option, None, IsSome, All, ◌⊎◌, inl, inr, refl, sym, ap, subst, ◌∙◌, arith, unsigned_abs}
+use Rattle.std.proofs.Common.{◌≡◌, ℕ, zero, suc, ◌-◌, ◌<◌, ◌≤◌, ℤ, pos, negsuc, neg_ℤ, ◌+ℤ◌, ◌-ℤ◌, ◌*ℤ◌, ◌≤ℤ◌, ◌<ℤ◌, Bool, true, false, cond, ◌==◌, List, []}
+use Rattle.std.proofs.Common.{◌∷◌, length, map, get_or, Option, None, IsSome, All, ◌⊎◌, inl, inr, refl, sym, ap, subst, ◌∙◌, arith, unsigned_abs}
 use Rattle.std.proofs.lemmas.Int.{ints}
 use Rattle.std.proofs.lemmas.Bool.{ne_eqb}
 use Rattle.std.proofs.lemmas.List.{length-map, get_or-map}
@@ -43,7 +44,8 @@ third_row : (d : ℕ) (R : Stairs) → 2 < d → part 2 (get_or (rows_of d R) 2 
 third_row d R h = third_of (d == 2) (vector R.a R.b R.c) (vector (pos 0) R.e R.f) (vector (pos 0) (pos 0) R.i) (not_two d h)
 
 -- each part is from 0 to below q
-parts_range : (q : ℕ) (c : Vector) → 2 ≤ q → (pos 0 ≤ℤ c.x) × (c.x <ℤ pos q) → (pos 0 ≤ℤ c.y) × (c.y <ℤ pos q) → (pos 0 ≤ℤ c.z) × (c.z <ℤ pos q) → (i : ℕ) → (pos 0 ≤ℤ part i c) × (part i c <ℤ pos q)
+parts_range : (q : ℕ) (c : Vector) → 2 ≤ q → (pos 0 ≤ℤ c.x) × (c.x <ℤ pos q) → (pos 0 ≤ℤ c.y) × (c.y <ℤ pos q) → (pos 0 ≤ℤ c.z) × (c.z <ℤ pos q) → (i : ℕ)
+    → (pos 0 ≤ℤ part i c) × (part i c <ℤ pos q)
 parts_range q c h x y z zero = x
 parts_range q c h x y z (suc zero) = y
 parts_range q c h x y z (suc (suc zero)) = z
@@ -65,7 +67,8 @@ above_two q h = omega (arith, ints, h)
 plus_nothing : (z w : ℤ) → z ≡ w → z ≡ pos 0 +ℤ w
 plus_nothing z w e = omega (arith, ints, e)
 
-module _ (G : Graph) (found : List (Option Vector)) (R : Stairs) (S : Split) (g : IsGraph G) (w : AreWalks G 1 found) (all : All IsSome found) (two : 2 ≤ G.dimension) (l : AreClosedWalks G 1 R)
+module _ (G : Graph) (found : List (Option Vector)) (R : Stairs) (S : Split) (g : IsGraph G) (w : AreWalks G 1 found) (all : All IsSome found)
+    (two : 2 ≤ G.dimension) (l : AreClosedWalks G 1 R)
     (basis : IsStaircase (Members G.dimension R) G.dimension (rows_of G.dimension R)) (reduced : IsReducedStair R) (flat : G.dimension ≡ 2 → HasFlatEnd R)
     (sh : S.h ≡ map (sparse_colour (pos S.q) S.c) found) where
   -- the row at a place gives the pivot there
@@ -99,7 +102,8 @@ module _ (G : Graph) (found : List (Option Vector)) (R : Stairs) (S : Split) (g 
       ap (λ hs. entry hs u) sh ∙ get_or-map (sparse_colour (pos S.q) S.c) found (u - 1) None (pos 0) (omega arith)
 
   -- the colouring, for the place of the first pivot above 1
-  assembled : (k : ℕ) → k < G.dimension → 2 ≤ S.q → IsPivot G k S.q → ((i : ℕ) → i < k → IsPivot G i 1) → ((i : ℕ) → (pos 0 ≤ℤ part i S.c) × (part i S.c <ℤ pos S.q))
+  assembled : (k : ℕ) → k < G.dimension → 2 ≤ S.q → IsPivot G k S.q → ((i : ℕ) → i < k → IsPivot G i 1)
+      → ((i : ℕ) → (pos 0 ≤ℤ part i S.c) × (part i S.c <ℤ pos S.q))
       → part k S.c ≡ pos 1 → EndsBy k S.c → ((v : Vector) → InStairs R v → Divides (pos S.q) (dot S.c v)) → IsSparseSplit G S k
   assembled k place above pivot earlier range one ends divides = record {
     found = each_found G g found w all;
@@ -113,7 +117,8 @@ module _ (G : Graph) (found : List (Option Vector)) (R : Stairs) (S : Split) (g 
     ends = ends;
     divides = closed;
     count = ap length sh ∙ length-map found (sparse_colour (pos S.q) S.c) ∙ w.count;
-    h_range = λ u v. subst (λ z. (pos 0 ≤ℤ z) × (z <ℤ pos S.q)) (sym (at u v)) (euclid_rest (neg_ℤ (dot S.c (shift_at found u))) (pos S.q) (omega (arith, ints, above)));
+    h_range = λ u v. subst (λ z. (pos 0 ≤ℤ z) × (z <ℤ pos S.q)) (sym (at u v))
+        (euclid_rest (neg_ℤ (dot S.c (shift_at found u))) (pos S.q) (omega (arith, ints, above)));
     h = λ u T v walk.
         let U = shift_at found u in
         let c = S.c in
@@ -136,14 +141,16 @@ module _ (G : Graph) (found : List (Option Vector)) (R : Stairs) (S : Split) (g 
       let z = ap (λ (c : Vector). c.z) h.is in (
         0,
         assembled 0 (omega arith) above (pivot_at 0 S.q (omega arith) (omega arith) (sym h.pivot)) (λ i l. absurd (omega arith))
-            (parts_range S.q S.c above (one_range S.q S.c.x above x) (zero_range S.q S.c.y above y) (zero_range S.q S.c.z above z)) x (ends_by_zero S.c 0 y z) (first_divides R (pos S.q) S.c h),
+            (parts_range S.q S.c above (one_range S.q S.c.x above x) (zero_range S.q S.c.y above y) (zero_range S.q S.c.z above z)) x (ends_by_zero S.c 0 y z)
+            (first_divides R (pos S.q) S.c h),
       )
   sparse_split_is (inr (inl h)) =
       let above = above_two S.q h.above in
       let x = complement_range (pos S.q) R.b S.c.x reduced.b_from (subst (λ e. R.b <ℤ e) (sym h.pivot) reduced.b_to) h.x in (
         1,
         assembled 1 (omega arith) above (pivot_at 1 S.q (omega arith) (omega arith) (sym h.pivot)) earlier
-            (parts_range S.q S.c above x (one_range S.q S.c.y above h.y) (zero_range S.q S.c.z above h.z)) h.y (ends_by_one S.c 1 h.z (omega arith)) (second_divides R (pos S.q) S.c h),
+            (parts_range S.q S.c above x (one_range S.q S.c.y above h.y) (zero_range S.q S.c.z above h.z)) h.y (ends_by_one S.c 1 h.z (omega arith))
+            (second_divides R (pos S.q) S.c h),
       )
     where
       earlier : (i : ℕ) → i < 1 → IsPivot G i 1
@@ -154,7 +161,8 @@ module _ (G : Graph) (found : List (Option Vector)) (R : Stairs) (S : Split) (g 
       let x = complement_range (pos S.q) R.c S.c.x reduced.c_from (subst (λ e. R.c <ℤ e) (sym h.pivot) reduced.c_to) h.x in
       let y = complement_range (pos S.q) R.f S.c.y reduced.f_from (subst (λ e. R.f <ℤ e) (sym h.pivot) reduced.f_to) h.y in (
         2,
-        assembled 2 (space h.pivot h.above) above (pivot_at 2 S.q (space h.pivot h.above) (omega arith) (third_row G.dimension R (space h.pivot h.above) ∙ sym h.pivot)) earlier
+        assembled 2 (space h.pivot h.above) above (pivot_at 2 S.q (space h.pivot h.above) (omega arith)
+            (third_row G.dimension R (space h.pivot h.above) ∙ sym h.pivot)) earlier
             (parts_range S.q S.c above x y (one_range S.q S.c.z above h.z)) h.z (ends_by_two S.c 2 (omega arith)) (third_divides R (pos S.q) S.c reduced h),
       )
     where
@@ -171,7 +179,8 @@ module _ (G : Graph) (found : List (Option Vector)) (R : Stairs) (S : Split) (g 
           by (inr d) = omega (arith, d)
 
 -- the colouring, from the lattice
-pub sparse_from_lattice : (G : Graph) (found : List (Option Vector)) (R : Stairs) (q : ℤ) (c : Vector) → IsGraph G → AreWalks G 1 found → All IsSome found → AreClosedWalks G 1 R
+pub sparse_from_lattice : (G : Graph) (found : List (Option Vector)) (R : Stairs) (q : ℤ) (c : Vector) → IsGraph G → AreWalks G 1 found → All IsSome found
+    → AreClosedWalks G 1 R
     → HasStairShape G.dimension R → pos 1 ≤ℤ q → IsDual R q c → (k : ℕ) × IsSparseSplit G (sparse_colouring q c found) k
 sparse_from_lattice G found R q c g w all l s low d =
     sparse_split_is G found R (sparse_colouring q c found) g w all (two g.dimension) l

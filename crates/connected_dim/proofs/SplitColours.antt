@@ -34,7 +34,8 @@ joined_alike G S found h w x i j joined =
     let a = h w.over T i.over f.1 in
     let b = h x.over (plus x.cell (minus T w.cell)) j.over (further_walk G w x T joined f.1) in (
       a.0 -ℤ b.0,
-      same_colours (pos S.q) S.c.x S.c.y S.c.z T.x T.y T.z w.cell.x w.cell.y w.cell.z x.cell.x x.cell.y x.cell.z (entry S.h w.over) (entry S.h x.over) a.0 b.0 a.1 b.1,
+      same_colours (pos S.q) S.c.x S.c.y S.c.z T.x T.y T.z w.cell.x w.cell.y w.cell.z x.cell.x x.cell.y x.cell.z (entry S.h w.over)
+          (entry S.h x.over) a.0 b.0 a.1 b.1,
     )
 
 -- where (1, 0) and (1, v) have one colour, c·v is 0 modulo q
@@ -95,10 +96,13 @@ flat_is_split G S g p = by (start_of S.c p.positive)
 
     by : Start S.c → IsSplit G S
     by s = elim s.which [
-      | inl l ↦ split_by_vector G S g p.found h (vector (pos 1) (pos 0) (pos 0)) (λ d. refl) (not_alike S.q (dot S.c (vector (pos 1) (pos 0) (pos 0))) S.c.x p.q (first_part S.c.x S.c.y S.c.z) l)
+      | inl l ↦ split_by_vector G S g p.found h (vector (pos 1) (pos 0) (pos 0)) (λ d. refl)
+          (not_alike S.q (dot S.c (vector (pos 1) (pos 0) (pos 0))) S.c.x p.q (first_part S.c.x S.c.y S.c.z) l)
       | inr m ↦ elim m [
-        | inl l ↦ split_by_vector G S g p.found h (vector (pos 0) (pos 1) (pos 0)) (λ d. refl) (not_alike S.q (dot S.c (vector (pos 0) (pos 1) (pos 0))) S.c.y p.q (second_part S.c.x S.c.y S.c.z) l.1)
-        | inr l ↦ split_by_vector G S g p.found h (vector (pos 0) (pos 0) (pos 1)) (λ d. absurd (flat d l.2)) (not_alike S.q (dot S.c (vector (pos 0) (pos 0) (pos 1))) S.c.z p.q (third_part S.c.x S.c.y S.c.z) l.2)
+        | inl l ↦ split_by_vector G S g p.found h (vector (pos 0) (pos 1) (pos 0)) (λ d. refl)
+            (not_alike S.q (dot S.c (vector (pos 0) (pos 1) (pos 0))) S.c.y p.q (second_part S.c.x S.c.y S.c.z) l.1)
+        | inr l ↦ split_by_vector G S g p.found h (vector (pos 0) (pos 0) (pos 1)) (λ d. absurd (flat d l.2))
+            (not_alike S.q (dot S.c (vector (pos 0) (pos 0) (pos 1))) S.c.z p.q (third_part S.c.x S.c.y S.c.z) l.2)
       ]
     ]
 

@@ -1,5 +1,6 @@
 -- The search begins at a vertex, and what it has found at its end.
-use Rattle.std.proofs.Common.{◌≡◌, inl, inr, ℕ, zero, suc, ◌+◌, ◌-◌, ◌*◌, ◌≤◌, List, [], length, get_or, set, Option, Some, None, IsSome, refl, sym, ap, subst, ◌∙◌, arith}
+use Rattle.std.proofs.Common.{◌≡◌, inl, inr, ℕ, zero, suc, ◌+◌, ◌-◌, ◌*◌, ◌≤◌, List, [], length, get_or, set, Option, Some, None, IsSome, refl, sym, ap, subst}
+use Rattle.std.proofs.Common.{◌∙◌, arith}
 use Rattle.std.proofs.lemmas.Grind.{common_steps}
 use Rattle.std.proofs.lemmas.List.{length-replicate, get_or_default}
 use Rattle.integers.specs.Vectors.{Vector, zero_vector, IsWithin}
@@ -31,7 +32,8 @@ search_none G start = record {
 }
 
 -- the start alone is found, by the walk that goes nowhere
-pub search_start : (G : Graph) (start : ℕ) (found : List (Option Vector)) (order : List ℕ) → IsQuotientVertex G start → found ≡ found_with (none_found G.vertices) start zero_vector → order ≡ order_with (none_found G.vertices) [] start
+pub search_start : (G : Graph) (start : ℕ) (found : List (Option Vector)) (order : List ℕ) → IsQuotientVertex G start
+    → found ≡ found_with (none_found G.vertices) start zero_vector → order ≡ order_with (none_found G.vertices) [] start
     → missing_count found + length order ≡ missing_count (none_found G.vertices) + 0 → IsSearchedTo G start found order 0
 search_start G start found order q e f together =
     let none = none_found G.vertices in
@@ -39,11 +41,13 @@ search_start G start found order q e f together =
     let is = found_is none [] start zero_vector in
     let inside : start ≤ length none = omega (arith, length-replicate {A = Option Vector} G.vertices None, q.1) in
     let there = set_there none start zero_vector q.0 inside in
-    let grown = search_grows G start none [] start zero_vector (search_none G start) q unknown (reached_itself G (vertex start zero_vector)) (omega arith, omega arith, omega arith) in
+    let grown = search_grows G start none [] start zero_vector (search_none G start) q unknown (reached_itself G (vertex start zero_vector))
+    (omega arith, omega arith, omega arith) in
     elim is.which [
       | inl w ↦ absurd (no_some (walk_to none start) unknown w.0)
       | inr w ↦ record {
-        search = subst (λ fs. IsSearch G start fs order) (sym (e ∙ w.1)) (subst (IsSearch G start (set none (start - 1) (Some zero_vector))) (sym (f ∙ w.2)) grown);
+        search = subst (λ fs. IsSearch G start fs order) (sym (e ∙ w.1))
+            (subst (IsSearch G start (set none (start - 1) (Some zero_vector))) (sym (f ∙ w.2)) grown);
         first = ap (λ fs. walk_to fs start) (e ∙ w.1) ∙ there;
         together = let m = missing_none G.vertices in omega arith;
         done = λ k l. absurd (omega arith);
@@ -60,7 +64,8 @@ some_value None h = cc
 some_value (Some T) h = (T, refl)
 
 -- where all are followed, the walks are all there are
-pub walks_found : (G : Graph) (start : ℕ) (found : List (Option Vector)) (order : List ℕ) → G.vertices ≤ most_vertices → IsSearchedTo G start found order (length order) → AreWalks G start found
+pub walks_found : (G : Graph) (start : ℕ) (found : List (Option Vector)) (order : List ℕ) → G.vertices ≤ most_vertices
+    → IsSearchedTo G start found order (length order) → AreWalks G start found
 walks_found G start found order small h = record {
   count = h.search.count;
   first = h.first;
@@ -80,7 +85,8 @@ walks_found G start found order small h = record {
         let n = h.search.near k l in
         let few = few_found G start found order (length order) small h in
         let at : get_or order k 0 ≡ u = get_or_default order k 0 u l ∙ c.2 in
-        wider (most_shift * k) most_walk (omega arith) T (subst (IsWithin (most_shift * k)) (one_value (walk_to found u) n.0 T (subst (λ x. walk_to found x ≡ Some n.0) at n.1) e) n.2)
+        wider (most_shift * k) most_walk (omega arith) T (subst (IsWithin (most_shift * k))
+        (one_value (walk_to found u) n.0 T (subst (λ x. walk_to found x ≡ Some n.0) at n.1) e) n.2)
 
     less : (k : ℕ) → k + 1 - 1 ≡ k
     less k = omega arith

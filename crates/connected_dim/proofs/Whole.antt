@@ -13,11 +13,13 @@ use Rattle.connected_dim.proofs.Spanned.{closed_by_volume}
 use Rattle.connected_dim.proofs.AllFound.{is_tree}
 
 -- each vector is a closed walk then, and the net is connected
-pub whole_connected : (G : Graph) (found : List (Option Vector)) (S : Stairs) → IsGraph G → AreWalks G 1 found → All IsSome found → AreClosedWalks G 1 S → IsWhole S → IsConnected G
+pub whole_connected : (G : Graph) (found : List (Option Vector)) (S : Stairs) → IsGraph G → AreWalks G 1 found → All IsSome found → AreClosedWalks G 1 S
+    → IsWhole S → IsConnected G
 whole_connected G found S g h all l w = connected_by_tree G (shift_at found) (is_tree G g found h all) (λ v d. l.out v (all_members S w v, d))
 
 -- the closed walks, where the dimension and the vectors are those of the graph
-pub closed_of : (G : Graph) (found : List (Option Vector)) (d : ℕ) (vs : List Vector) (m : ℤ) (S : Stairs) → IsGraph G → AreWalks G 1 found → G.dimension ≡ d → vs ≡ generators G found
+pub closed_of : (G : Graph) (found : List (Option Vector)) (d : ℕ) (vs : List Vector) (m : ℤ) (S : Stairs) → IsGraph G → AreWalks G 1 found → G.dimension ≡ d
+    → vs ≡ generators G found
     → IsVolume d vs m → IsLatticeOf d m vs S → AreClosedWalks G 1 S
 closed_of G found d vs m S g h e f v l =
     closed_by_volume G 1 found m S g (one_vertex G g) h

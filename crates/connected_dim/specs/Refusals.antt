@@ -9,7 +9,8 @@ use Rattle.connected_dim.specs.declared.connectedness.Unconnected.TheVariants.{D
 
 -- a split of the net, reported where the quotient graph is not connected, or the closed walks have full rank and are not all shifts
 abbrev pub IsDisconnectedBy : Graph → Split → Type 0
-IsDisconnectedBy G split = (split.dim ≡ G.dimension) × IsSplit G (split_view split) × (IsPartSplit G (split_view split) ⊎ ((k : ℕ) × IsSparseSplit G (split_view split) k))
+IsDisconnectedBy G split = (split.dim ≡ G.dimension) × IsSplit G (split_view split)
+    × (IsPartSplit G (split_view split) ⊎ ((k : ℕ) × IsSparseSplit G (split_view split) k))
 
 -- a split of the net, reported where the closed walks have a rank below the dimension
 abbrev pub IsDegenerateBy : Graph → Split → Type 0

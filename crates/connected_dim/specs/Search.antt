@@ -1,5 +1,6 @@
 -- What a search of a quotient graph from a vertex has found.
-use Rattle.std.specs.Prelude.{◌≡◌, ℕ, ◌+◌, ◌-◌, ◌*◌, ◌<◌, ◌≤◌, List, [], ◌∷◌, ◌++◌, length, slice_index_or, slice_set, All, Contains, count_by, replicate, Option, Some, None, IsSome, is_some, is_none, if◌then◌else◌}
+use Rattle.std.specs.Prelude.{◌≡◌, ℕ, ◌+◌, ◌-◌, ◌*◌, ◌<◌, ◌≤◌, List, [], ◌∷◌, ◌++◌, length, slice_index_or, slice_set, All, Contains, count_by, replicate}
+use Rattle.std.specs.Prelude.{Option, Some, None, IsSome, is_some, is_none, if◌then◌else◌}
 use Rattle.integers.specs.Vectors.{Vector, zero_vector, IsWithin}
 use Rattle.periodic_net.specs.Graph.{Graph, Arc, IsArc, IsQuotientVertex}
 use Rattle.periodic_net.specs.Split.{WalkShift}
@@ -59,7 +60,8 @@ pub record Grows (G : Graph) (start : ℕ) (found : List (Option Vector)) (order
   pub together : missing_count found' + length order' ≡ missing_count found + length order
 
 -- and the arcs from u lead to found vertices
-pub record Expands (G : Graph) (start : ℕ) (found : List (Option Vector)) (order : List ℕ) (u : ℕ) (found' : List (Option Vector)) (order' : List ℕ) : Type 0 where
+pub record Expands (G : Graph) (start : ℕ) (found : List (Option Vector)) (order : List ℕ) (u : ℕ) (found' : List (Option Vector))
+    (order' : List ℕ) : Type 0 where
   pub grows : Grows G start found order found' order'
   pub leads : LeadsToFound G found' u
 

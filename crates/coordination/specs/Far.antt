@@ -51,9 +51,11 @@ pub record AreFarther (axis : Axis) (n : ℕ) (edges : List Arc) (far next next'
 -- no walk of at most n steps leads farther along the axis than the number of the vertex that it starts over
 pub record AreFarAfter (P : Graph) (axis : Axis) (n : ℕ) (far : List ℕ) : Type 0 where
   pub count : length far ≡ P.vertices
-  pub walks : (k : ℕ) (w x : Vertex) → k ≤ n → IsQuotientVertex P w.over → StepsLead P k w x → (part_of axis x.cell -ℤ part_of axis w.cell) ≤ℤ pos (far_of far w.over)
+  pub walks : (k : ℕ) (w x : Vertex) → k ≤ n → IsQuotientVertex P w.over → StepsLead P k w x
+      → (part_of axis x.cell -ℤ part_of axis w.cell) ≤ℤ pos (far_of far w.over)
   pub bound : AreAtMost (n * LONGEST) far
 
 -- no walk of at most ten steps leads farther than m along the axis, one way or the other
 abbrev pub IsFarthest : Graph → Axis → ℕ → Type 0
-IsFarthest P axis m = (k : ℕ) (w x : Vertex) → k ≤ most_shells → IsQuotientVertex P w.over → StepsLead P k w x → unsigned_abs (part_of axis x.cell -ℤ part_of axis w.cell) ≤ m
+IsFarthest P axis m = (k : ℕ) (w x : Vertex) → k ≤ most_shells → IsQuotientVertex P w.over → StepsLead P k w x
+    → unsigned_abs (part_of axis x.cell -ℤ part_of axis w.cell) ≤ m

@@ -1,5 +1,5 @@
 -- Each net of a text is that of rows whose edges have no third part where the first row has four fields.
-use Rattle.std.proofs.Common.{◌≡◌, ℕ, ◌≤◌, ◌==◌, ◌&&◌, not, Bool, true, false, cond, List, [], ◌∷◌, Option, None, Some, refl, arith}
+use Rattle.std.proofs.Common.{◌≡◌, ℕ, ◌==◌, ◌&&◌, not, Bool, true, false, cond, List, [], ◌∷◌, Option, None, Some, refl, arith}
 use Rattle.std.specs.List.{AllByRecursion, flat_map}
 use Rattle.std.proofs.lemmas.Bool.Decides.{nat_tests}
 use Rattle.cgd_lex.specs.Lines.{filled_lines}
@@ -35,10 +35,12 @@ same_size true m n h k = grind (arith, nat_tests, h)
 same_size false m n h k = absurd cc
 
 -- the rows so far are flat, with one more line that has no fault
-one_more : (earlier : List LineView) (line : LineView) → fault_of earlier line ≡ None → IsFlatLine line → AreFlatRows (rows_in earlier) → AreFlatRows (rows_in (line ∷ earlier))
+one_more : (earlier : List LineView) (line : LineView) → fault_of earlier line ≡ None → IsFlatLine line → AreFlatRows (rows_in earlier)
+    → AreFlatRows (rows_in (line ∷ earlier))
 one_more earlier line none flat old = by (has_row line) (all_false (table earlier line) none).1.1.1.1.1.0
   where
-    by : (t : Bool) → (t && (has_rows (rows_in earlier) && not (line.fields.size == first_size (rows_in earlier)))) ≡ false → AreFlatRows (cond t (line.fields ∷ rows_in earlier) (rows_in earlier))
+    by : (t : Bool) → (t && (has_rows (rows_in earlier) && not (line.fields.size == first_size (rows_in earlier)))) ≡ false
+        → AreFlatRows (cond t (line.fields ∷ rows_in earlier) (rows_in earlier))
     by true e = flat_with (rows_in earlier) line.fields flat (same_size (has_rows (rows_in earlier)) line.fields.size (first_size (rows_in earlier)) e) old
     by false e = old
 
@@ -58,12 +60,15 @@ abbrev pub IsFlatBlock : BlockView → Type 0
 IsFlatBlock block = IsFlatBody block.body
 
 -- what a graph block holds, from these lines on
-graph_flat : (opening : ℕ) (earlier lines : List LineView) → AllByRecursion IsFlatLine lines → AreFlatRows (rows_in earlier) → IsFlatBlock (graph_block opening earlier lines)
+graph_flat : (opening : ℕ) (earlier lines : List LineView) → AllByRecursion IsFlatLine lines → AreFlatRows (rows_in earlier)
+    → IsFlatBlock (graph_block opening earlier lines)
 graph_flat opening earlier [] h old = tt
 graph_flat opening earlier (line ∷ lines) h old = by (fault_of earlier line) (is_end line.kind) refl (graph_flat opening (line ∷ earlier) lines h.1)
   where
-    by : (fault : Option BlockFaultKind) (t : Bool) → fault_of earlier line ≡ fault → (AreFlatRows (rows_in (line ∷ earlier)) → IsFlatBlock (graph_block opening (line ∷ earlier) lines))
-        → IsFlatBlock (or_fault fault line.number opening earlier (cond t (with_body opening earlier (Net (net_of (rows_in earlier)))) (graph_block opening (line ∷ earlier) lines)))
+    by : (fault : Option BlockFaultKind) (t : Bool) → fault_of earlier line ≡ fault
+        → (AreFlatRows (rows_in (line ∷ earlier)) → IsFlatBlock (graph_block opening (line ∷ earlier) lines))
+        → IsFlatBlock (or_fault fault line.number opening earlier (cond t (with_body opening earlier (Net (net_of (rows_in earlier))))
+        (graph_block opening (line ∷ earlier) lines)))
     by (Some kind) t e on = tt
     by None true e on = record { rows = rows_in earlier; is = refl; flat = old }
     by None false e on = on (one_more earlier line e h.0 old)

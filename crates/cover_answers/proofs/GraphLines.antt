@@ -28,7 +28,8 @@ abbrev pub rows_back : ℕ → ℕ → List LineView → List Arc → List LineV
 rows_back d m head [] = head
 rows_back d m head (e ∷ es) = rows_back d (m + 1) (row_line d e m ∷ head) es
 
-in_order_rows : (d m : ℕ) (head : List LineView) (es : List Arc) (later : List LineView) → in_order head (row_lines d m es ++ later) ≡ in_order (rows_back d m head es) later
+in_order_rows : (d m : ℕ) (head : List LineView) (es : List Arc) (later : List LineView)
+    → in_order head (row_lines d m es ++ later) ≡ in_order (rows_back d m head es) later
 in_order_rows d m head [] later = refl
 in_order_rows d m head (e ∷ es) later = in_order_rows d (m + 1) (row_line d e m ∷ head) es later
 
@@ -61,20 +62,25 @@ name_text name rest =
     ∙ ap (λ (t : List ℕ). start ++ t) (sym (append_assoc name (34 ∷ []) (10 ∷ rest)))
     ∙ sym (append_assoc start (name ++ 34 ∷ []) (10 ∷ rest))
 
-head_read : (name : Option (List ℕ)) (n : ℕ) (rest : List ℕ) → MayBeName name → HasLines n (name_line name ++ (codes "EDGES\n" ++ rest)) (head_forward name n) (after_name name n + 1) rest
+head_read : (name : Option (List ℕ)) (n : ℕ) (rest : List ℕ) → MayBeName name
+    → HasLines n (name_line name ++ (codes "EDGES\n" ++ rest)) (head_forward name n) (after_name name n + 1) rest
 head_read None n rest h = edges_line n rest
 head_read (Some name) n rest h =
     let own : HasLines n (name_row name ++ 10 ∷ (codes "EDGES\n" ++ rest)) (named_line name n ∷ []) (n + 1) (codes "EDGES\n" ++ rest) =
     one_line n (name_row name) (codes "EDGES\n" ++ rest) (named_line name n) (name_bytes name h.1)
     (λ at. name_read name at n (All-weaker (λ b. (b ≢ 34) × (b ≢ 10)) (λ b. b ≢ 34) (λ b p. p.0) name h.1)) in
-    more_lines n (n + 1) (n + 1 + 1) (name_line (Some name) ++ (codes "EDGES\n" ++ rest)) (codes "EDGES\n" ++ rest) rest (named_line name n ∷ []) (word_line Edges (codes "EDGES") (n + 1) ∷ [])
-    (subst (λ (text : List ℕ). HasLines n text (named_line name n ∷ []) (n + 1) (codes "EDGES\n" ++ rest)) (sym (name_text name (codes "EDGES\n" ++ rest))) own) (edges_line (n + 1) rest)
+    more_lines n (n + 1) (n + 1 + 1) (name_line (Some name) ++ (codes "EDGES\n" ++ rest)) (codes "EDGES\n" ++ rest) rest (named_line name n ∷ [])
+    (word_line Edges (codes "EDGES") (n + 1) ∷ [])
+    (subst (λ (text : List ℕ). HasLines n text (named_line name n ∷ []) (n + 1) (codes "EDGES\n" ++ rest))
+    (sym (name_text name (codes "EDGES\n" ++ rest))) own) (edges_line (n + 1) rest)
 
 five : (a b c d e rest : List ℕ) → (a ++ b ++ c ++ d ++ e) ++ rest ≡ a ++ (b ++ (c ++ (d ++ (e ++ rest))))
 five a b c d e rest =
-    append_assoc (a ++ b ++ c ++ d) e rest ∙ append_assoc (a ++ b ++ c) d (e ++ rest) ∙ append_assoc (a ++ b) c (d ++ (e ++ rest)) ∙ append_assoc a b (c ++ (d ++ (e ++ rest)))
+    append_assoc (a ++ b ++ c ++ d) e rest ∙ append_assoc (a ++ b ++ c) d (e ++ rest) ∙ append_assoc (a ++ b) c (d ++ (e ++ rest))
+    ∙ append_assoc a b (c ++ (d ++ (e ++ rest)))
 
-module _ (name : Option (List ℕ)) (G : Graph) (v n : ℕ) (rest : List ℕ) (dim : (G.dimension ≡ 2) ⊎ (G.dimension ≡ 3)) (rows : AreRowEdges G.dimension v G.edges) (named : MayBeName name) where
+module _ (name : Option (List ℕ)) (G : Graph) (v n : ℕ) (rest : List ℕ) (dim : (G.dimension ≡ 2) ⊎ (G.dimension ≡ 3))
+    (rows : AreRowEdges G.dimension v G.edges) (named : MayBeName name) where
   -- the number of the first row
   abbrev pub first_row : ℕ
   first_row = after_name name (n + 1) + 1
@@ -97,14 +103,18 @@ module _ (name : Option (List ℕ)) (G : Graph) (v n : ℕ) (rest : List ℕ) (d
   end_line = one_line last_line (codes "END") rest last (no_feed (codes "END") refl) (λ at. end_read at last_line)
 
   after_head : HasLines first_row (edge_lines G.dimension G.edges ++ (codes "END\n" ++ rest)) (forward ++ last ∷ []) (last_line + 1) rest
-  after_head = more_lines first_row last_line (last_line + 1) (edge_lines G.dimension G.edges ++ (codes "END\n" ++ rest)) (codes "END\n" ++ rest) rest forward (last ∷ [])
+  after_head = more_lines first_row last_line (last_line + 1) (edge_lines G.dimension G.edges ++ (codes "END\n" ++ rest)) (codes "END\n" ++ rest) rest forward
+      (last ∷ [])
       (rows_read G.dimension v G.edges first_row (codes "END\n" ++ rest) dim rows) end_line
 
-  after_first : HasLines (n + 1) (name_line name ++ (codes "EDGES\n" ++ (edge_lines G.dimension G.edges ++ (codes "END\n" ++ rest)))) (head_forward name (n + 1) ++ (forward ++ last ∷ [])) (last_line + 1) rest
-  after_first = more_lines (n + 1) first_row (last_line + 1) (name_line name ++ (codes "EDGES\n" ++ (edge_lines G.dimension G.edges ++ (codes "END\n" ++ rest)))) (edge_lines G.dimension G.edges ++ (codes "END\n" ++ rest)) rest
+  after_first : HasLines (n + 1) (name_line name ++ (codes "EDGES\n" ++ (edge_lines G.dimension G.edges ++ (codes "END\n" ++ rest))))
+      (head_forward name (n + 1) ++ (forward ++ last ∷ [])) (last_line + 1) rest
+  after_first = more_lines (n + 1) first_row (last_line + 1) (name_line name
+      ++ (codes "EDGES\n" ++ (edge_lines G.dimension G.edges ++ (codes "END\n" ++ rest)))) (edge_lines G.dimension G.edges ++ (codes "END\n" ++ rest)) rest
       (head_forward name (n + 1)) (forward ++ last ∷ []) (head_read name (n + 1) (edge_lines G.dimension G.edges ++ (codes "END\n" ++ rest)) named) after_head
 
-  whole : HasLines n (graph_text name G ++ rest) (word_line Opening (codes "PERIODIC_GRAPH") n ∷ [] ++ (head_forward name (n + 1) ++ (forward ++ last ∷ []))) (last_line + 1) rest
+  whole : HasLines n (graph_text name G ++ rest) (word_line Opening (codes "PERIODIC_GRAPH") n ∷ [] ++ (head_forward name (n + 1) ++ (forward ++ last ∷ [])))
+      (last_line + 1) rest
   whole =
       let tail = name_line name ++ (codes "EDGES\n" ++ (edge_lines G.dimension G.edges ++ (codes "END\n" ++ rest))) in
       let opening = word_line Opening (codes "PERIODIC_GRAPH") n in
@@ -118,7 +128,8 @@ module _ (name : Option (List ℕ)) (G : Graph) (v n : ℕ) (rest : List ℕ) (d
   place_after at = whole.place at
 
   pub graph_lines : (at : ℕ) → lines_at at n (graph_text name G ++ rest)
-      ≡ word_line Opening (codes "PERIODIC_GRAPH") n ∷ in_order inner_lines (word_line End (codes "END") last_line ∷ lines_at (place_after at) (last_line + 1) rest)
+      ≡ word_line Opening (codes "PERIODIC_GRAPH") n ∷ in_order inner_lines
+      (word_line End (codes "END") last_line ∷ lines_at (place_after at) (last_line + 1) rest)
   unfolding place_after
   graph_lines at =
       let left = lines_at (whole.place at) (last_line + 1) rest in

@@ -1,5 +1,6 @@
 -- The lines of a printed graph.
-use Rattle.std.proofs.Common.{◌≡◌, ◌≢◌, ℕ, ◌+◌, ◌-◌, Bool, true, false, cond, ℤ, pos, List, [], ◌∷◌, ◌++◌, length, take, Some, refl, sym, ap, subst, ◌∙◌, arith, length-append}
+use Rattle.std.proofs.Common.{◌≡◌, ◌≢◌, ℕ, ◌+◌, ◌-◌, Bool, true, false, cond, ℤ, pos, List, [], ◌∷◌, ◌++◌, length, take, Some, refl, sym, ap, subst, ◌∙◌, arith}
+use Rattle.std.proofs.Common.{length-append}
 use Rattle.std.specs.Prelude.{All, codes}
 use Rattle.std.specs.Fmt.{signed_decimal}
 use Rattle.std.proofs.Math.Seq.{take-append_seam}
@@ -37,7 +38,8 @@ no_run [] = tt
 no_run (x ∷ xs) = refl
 
 -- a number, and what follows it
-cut_number : (x : ℤ) (rest : List ℕ) (ps : List Piece) → IsShort x → StartsNoRun rest → IsCut ps rest → IsCut (run_piece (signed_decimal x) ∷ ps) (signed_decimal x ++ rest)
+cut_number : (x : ℤ) (rest : List ℕ) (ps : List Piece) → IsShort x → StartsNoRun rest → IsCut ps rest
+    → IsCut (run_piece (signed_decimal x) ∷ ps) (signed_decimal x ++ rest)
 cut_number x rest ps h s c =
     let n = number_bytes x h in
     subst (λ (bs : List ℕ). IsCut (run_piece bs ∷ ps) (bs ++ rest)) (sym n.is) (rest, refl, (n.run, n.runs, s), c)
@@ -68,7 +70,8 @@ token_number x at line ps h =
 tokens_marked : (xs : List ℤ) (at line : ℕ) → AreShort xs → tokens_of_pieces at line (marked_pieces xs) ≡ marked_tokens at line xs
 tokens_marked [] at line h = refl
 tokens_marked (x ∷ xs) at line h =
-    token_number x (at + 1) line (marked_pieces xs) h.0 ∙ ap (λ (ts : List TokenView). number_token (at + 1) line x ∷ ts) (tokens_marked xs (at + 1 + length (signed_decimal x)) line h.1)
+    token_number x (at + 1) line (marked_pieces xs) h.0 ∙ ap (λ (ts : List TokenView). number_token (at + 1) line x ∷ ts)
+    (tokens_marked xs (at + 1 + length (signed_decimal x)) line h.1)
 
 -- the tokens of a line of numbers
 pub list_tokens : (x : ℤ) (xs : List ℤ) (at line : ℕ) → AreShort (x ∷ xs)
@@ -134,5 +137,7 @@ inner_is name =
 
 pub name_read : (name : List ℕ) (at n : ℕ) → All (λ b. b ≢ 34) name → line_of (tokens_of_line at n (name_row name)) ≡ named_line name n ∷ []
 name_read name at n h =
-    ap (λ (ps : List Piece). line_of (tokens_of_pieces at n ps)) (sym (one_cut (Run 78 (65 ∷ 77 ∷ 69 ∷ []) ∷ Blank 32 ∷ Closed name ∷ []) (name_row name) (name_cut name h)))
-    ∙ ap (λ (text : List ℕ). record { number = n; kind = Name; first = codes "NAME"; fields = record (name_fields name) { name = Some text } } ∷ []) (inner_is name)
+    ap (λ (ps : List Piece). line_of (tokens_of_pieces at n ps))
+    (sym (one_cut (Run 78 (65 ∷ 77 ∷ 69 ∷ []) ∷ Blank 32 ∷ Closed name ∷ []) (name_row name) (name_cut name h)))
+    ∙ ap (λ (text : List ℕ). record { number = n; kind = Name; first = codes "NAME"; fields = record (name_fields name) { name = Some text } } ∷ [])
+    (inner_is name)

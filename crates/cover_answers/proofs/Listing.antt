@@ -1,9 +1,10 @@
 -- The outcomes of blocks and the texts of their covers grow by those of the next block.
-use Rattle.std.proofs.Common.{◌≡◌, ◌∙◌, ◌&&◌, ℕ, ◌+◌, ◌<◌, ◌≤◌, Bool, true, false, List, [], ◌∷◌, ◌++◌, length, take, get_or, All, Result, Ok, Err, refl, sym, ap, subst, add-one, arith, append_assoc}
+use Rattle.std.proofs.Common.{◌≡◌, ◌∙◌, ◌&&◌, ℕ, ◌+◌, ◌<◌, ◌≤◌, Bool, true, false, List, [], ◌∷◌, ◌++◌, length, take, get_or, All, Result, Ok, Err, refl, sym}
+use Rattle.std.proofs.Common.{ap, subst, add-one, arith, append_assoc}
 use Rattle.std.specs.Prelude.{IfOk}
 use Rattle.std.proofs.Math.Bool.{and-true}
 use Rattle.std.proofs.Math.Seq.{take-suc}
-use Rattle.std.proofs.lemmas.Bool.{false≢true, and_parts}
+use Rattle.std.proofs.lemmas.Bool.{and_parts}
 use Rattle.std.proofs.lemmas.Grind.{common_steps}
 use Rattle.std.proofs.lemmas.List.{get_or-map, length-map, take_all}
 use Rattle.std.proofs.lemmas.List.Elements.{All-append, All-cons, All-nil}
@@ -24,7 +25,8 @@ use Rattle.cover_answers.specs.Outcomes.{AreOutcomesFrom, IsOutcomeOf, all_of}
 use Rattle.cover_answers.specs.Steps.{IsBlockAnswered, IsCoverLast}
 
 -- one more block and its outcome at the end
-outcomes_last : (cell : CellView) (n : ℕ) (bs : List BlockView) (cs : List Bool) (os : List Outcome) (b : BlockView) (c : Bool) (o : Outcome) → AreOutcomesFrom cell n bs cs os → IsOutcomeOf cell (n + length bs) b c o
+outcomes_last : (cell : CellView) (n : ℕ) (bs : List BlockView) (cs : List Bool) (os : List Outcome) (b : BlockView) (c : Bool) (o : Outcome)
+    → AreOutcomesFrom cell n bs cs os → IsOutcomeOf cell (n + length bs) b c o
     → AreOutcomesFrom cell n (bs ++ b ∷ []) (cs ++ c ∷ []) (os ++ o ∷ [])
 outcomes_last cell n [] [] [] b c o h k = (subst (λ m. IsOutcomeOf cell m b c o) (omega arith) k, tt)
 outcomes_last cell n [] [] (x ∷ os) b c o h k = absurd h
@@ -36,22 +38,26 @@ outcomes_last cell n (a ∷ bs) (d ∷ cs) (x ∷ os) b c o h k =
     (h.0, outcomes_last cell (n + 1) bs cs os b c o h.1 (subst (λ m. IsOutcomeOf cell m b c o) further k))
 
 -- one more block and its cover
-covers_last : (cell : CellView) (bs : List BlockView) (Cs : List Graph) (b : BlockView) (C : Graph) → AreCoversOf cell bs Cs → IsCoverOf cell b.body C → AreCoversOf cell (bs ++ b ∷ []) (Cs ++ C ∷ [])
+covers_last : (cell : CellView) (bs : List BlockView) (Cs : List Graph) (b : BlockView) (C : Graph) → AreCoversOf cell bs Cs → IsCoverOf cell b.body C
+    → AreCoversOf cell (bs ++ b ∷ []) (Cs ++ C ∷ [])
 covers_last cell [] [] b C h k = (k, tt)
 covers_last cell [] (D ∷ Cs) b C h k = absurd h
 covers_last cell (c ∷ bs) [] b C h k = absurd h
 covers_last cell (c ∷ bs) (D ∷ Cs) b C h k = (h.0, covers_last cell bs Cs b C h.1 k)
 
 -- and its text
-text_last : (cell : CellView) (bs : List BlockView) (Cs : List Graph) (b : BlockView) (C : Graph) → AreCoversOf cell bs Cs → covers_text (bs ++ b ∷ []) (Cs ++ C ∷ []) ≡ covers_text bs Cs ++ graph_text b.name C
+text_last : (cell : CellView) (bs : List BlockView) (Cs : List Graph) (b : BlockView) (C : Graph) → AreCoversOf cell bs Cs
+    → covers_text (bs ++ b ∷ []) (Cs ++ C ∷ []) ≡ covers_text bs Cs ++ graph_text b.name C
 text_last cell [] [] b C h = grind (arith, common_steps)
 text_last cell [] (D ∷ Cs) b C h = absurd h
 text_last cell (c ∷ bs) [] b C h = absurd h
 text_last cell (c ∷ bs) (D ∷ Cs) b C h =
-    ap (λ (t : List ℕ). graph_text c.name D ++ t) (text_last cell bs Cs b C h.1) ∙ sym (append_assoc (graph_text c.name D) (covers_text bs Cs) (graph_text b.name C))
+    ap (λ (t : List ℕ). graph_text c.name D ++ t) (text_last cell bs Cs b C h.1)
+    ∙ sym (append_assoc (graph_text c.name D) (covers_text bs Cs) (graph_text b.name C))
 
 -- the text of the covers grows by that of one more block
-covered_last : (cell : CellView) (bs : List BlockView) (b : BlockView) (text new : List ℕ) → AreCovered cell bs text → IsCoverLast cell b.name b.body text new → AreCovered cell (bs ++ b ∷ []) new
+covered_last : (cell : CellView) (bs : List BlockView) (b : BlockView) (text new : List ℕ) → AreCovered cell bs text → IsCoverLast cell b.name b.body text new
+    → AreCovered cell (bs ++ b ∷ []) new
 covered_last cell bs b text new h k = record {
   covers = h.covers ++ k.cover ∷ [];
   are_covers = covers_last cell bs h.covers b k.cover h.are_covers k.is_cover;
@@ -83,15 +89,19 @@ answered_none cell bs = record {
 }
 
 -- the next block
-answered_more : (cell : CellView) (bs : List BlockView) (i number : ℕ) (all c : Bool) (os : List Outcome) (text new : List ℕ) (b : BlockView) (o : Outcome) → i < length bs → get_or bs i b ≡ b
-    → AreAnsweredOn cell bs i number all os text → IsBlockAnswered cell number b c o text new → IsPrintable o → AreAnsweredOn cell bs (i + 1) (number + 1) (all && c) (os ++ o ∷ []) new
+answered_more : (cell : CellView) (bs : List BlockView) (i number : ℕ) (all c : Bool) (os : List Outcome) (text new : List ℕ) (b : BlockView) (o : Outcome)
+    → i < length bs → get_or bs i b ≡ b
+    → AreAnsweredOn cell bs i number all os text → IsBlockAnswered cell number b c o text new → IsPrintable o
+    → AreAnsweredOn cell bs (i + 1) (number + 1) (all && c) (os ++ o ∷ []) new
 answered_more cell bs i number all c os text new b o l is h k p =
-    let longer : take (i + 1) bs ≡ take i bs ++ b ∷ [] = ap (λ (n : ℕ). take n bs) (add-one i) ∙ take-suc bs i b l ∙ ap (λ (x : BlockView). take i bs ++ x ∷ []) is in
+    let longer : take (i + 1) bs ≡ take i bs ++ b ∷ [] = ap (λ (n : ℕ). take n bs) (add-one i) ∙ take-suc bs i b l
+    ∙ ap (λ (x : BlockView). take i bs ++ x ∷ []) is in
     let count : length (take i bs) ≡ i = grind (arith, common_steps) in
     let place : number ≡ 1 + length (take i bs) = let n = h.number_is in omega arith in
     record {
       each = h.each ++ c ∷ [];
-      outcomes = subst (λ as'. AreOutcomesFrom cell 1 as' (h.each ++ c ∷ []) (os ++ o ∷ [])) (sym longer) (outcomes_last cell 1 (take i bs) h.each os b c o h.outcomes (subst (λ m. IsOutcomeOf cell m b c o) place k.is_outcome));
+      outcomes = subst (λ as'. AreOutcomesFrom cell 1 as' (h.each ++ c ∷ []) (os ++ o ∷ [])) (sym longer)
+          (outcomes_last cell 1 (take i bs) h.each os b c o h.outcomes (subst (λ m. IsOutcomeOf cell m b c o) place k.is_outcome));
       all_is = ap (λ (a : Bool). a && c) h.all_is ∙ sym (all_last h.each c);
       number_is = let n = h.number_is in omega arith;
       printable = All-append IsPrintable os (o ∷ []) h.printable (All-cons IsPrintable o [] p (All-nil IsPrintable));
@@ -100,29 +110,37 @@ answered_more cell bs i number all c os text new b o l is h k p =
     }
 
 -- the next block of those that were read
-pub answered_next : (cell : CellView) (found : List Block) (i number : ℕ) (all c : Bool) (os : List Outcome) (text new : List ℕ) (block : Block) (o : Outcome) → i < length found → block ≡ get_or found i block
-    → AreAnsweredOn cell (views found) i number all os text → IsBlockAnswered cell number (block_view block) c o text new → IsPrintable o → AreAnsweredOn cell (views found) (i + 1) (number + 1) (all && c) (os ++ o ∷ []) new
+pub answered_next : (cell : CellView) (found : List Block) (i number : ℕ) (all c : Bool) (os : List Outcome) (text new : List ℕ) (block : Block) (o : Outcome)
+    → i < length found → block ≡ get_or found i block
+    → AreAnsweredOn cell (views found) i number all os text → IsBlockAnswered cell number (block_view block) c o text new → IsPrintable o
+    → AreAnsweredOn cell (views found) (i + 1) (number + 1) (all && c) (os ++ o ∷ []) new
 answered_next cell found i number all c os text new block o l is h k p =
     let inside : i < length (views found) = subst (λ (n : ℕ). i < n) (sym (length-map found block_view)) l in
     let there = get_or-map block_view found i block (block_view block) l ∙ ap block_view (sym is) in
     answered_more cell (views found) i number all c os text new (block_view block) o inside there h k p
 
 -- what is answered to all blocks, by whether each of them is covered
-answer_due : (cell : CellView) (bs : List BlockView) (cs : List Bool) (os : List Outcome) (text : List ℕ) (a : Answer) (all : Bool) → all ≡ all_of cs → AreOutcomesFrom cell 1 bs cs os → (all ≡ true → AreCovered cell bs text)
-    → (all ≡ true → (a.status ≡ Done) × (a.text.items ≡ text)) → (all ≡ false → (a.status ≡ SomeRefused) × (a.text.items ≡ report_text os)) → IsCoveredAs cell bs a.status a.text.items
+answer_due : (cell : CellView) (bs : List BlockView) (cs : List Bool) (os : List Outcome) (text : List ℕ) (a : Answer) (all : Bool) → all ≡ all_of cs
+    → AreOutcomesFrom cell 1 bs cs os → (all ≡ true → AreCovered cell bs text)
+    → (all ≡ true → (a.status ≡ Done) × (a.text.items ≡ text)) → (all ≡ false → (a.status ≡ SomeRefused) × (a.text.items ≡ report_text os))
+    → IsCoveredAs cell bs a.status a.text.items
 answer_due cell bs cs os text a true e h covered done refused =
     let d = done refl in
     subst (λ (s : Status). IsCoveredAs cell bs s a.text.items) (sym d.0) (subst (λ (t : List ℕ). AreCovered cell bs t) (sym d.1) (covered refl))
 answer_due cell bs cs os text a false e h covered done refused =
     let r = refused refl in
-    subst (λ (s : Status). IsCoveredAs cell bs s a.text.items) (sym r.0) (record { each = cs; outcomes = os; are_outcomes = h; some_refused = sym e; report = r.1 })
+    subst (λ (s : Status). IsCoveredAs cell bs s a.text.items) (sym r.0)
+    (record { each = cs; outcomes = os; are_outcomes = h; some_refused = sym e; report = r.1 })
 
 -- all blocks are answered
-pub answered_whole : {E : Type 0} (cell : CellView) (found : List Block) (i number : ℕ) (all : Bool) (os : List Outcome) (text : List ℕ) (r : Result Answer E) → length found ≤ i → AreAnsweredOn cell (views found) i number all os text
-    → IfOk r (λ a. all ≡ true → (a.status ≡ Done) × (a.text.items ≡ text)) → IfOk r (λ a. all ≡ false → (a.status ≡ SomeRefused) × (a.text.items ≡ report_text os))
+pub answered_whole : {E : Type 0} (cell : CellView) (found : List Block) (i number : ℕ) (all : Bool) (os : List Outcome) (text : List ℕ) (r : Result Answer E)
+    → length found ≤ i → AreAnsweredOn cell (views found) i number all os text
+    → IfOk r (λ a. all ≡ true → (a.status ≡ Done) × (a.text.items ≡ text))
+    → IfOk r (λ a. all ≡ false → (a.status ≡ SomeRefused) × (a.text.items ≡ report_text os))
     → IfOk r (λ a. IsCoveredAs cell (views found) a.status a.text.items)
 answered_whole cell found i number all os text (Ok a) l h done refused =
     let past : length (views found) ≤ i = subst (λ (n : ℕ). n ≤ i) (sym (length-map found block_view)) l in
     let whole = take_all i (views found) past in
-    answer_due cell (views found) h.each os text a all h.all_is (subst (λ bs. AreOutcomesFrom cell 1 bs h.each os) whole h.outcomes) (λ e. subst (λ bs. AreCovered cell bs text) whole (h.covered e)) done refused
+    answer_due cell (views found) h.each os text a all h.all_is (subst (λ bs. AreOutcomesFrom cell 1 bs h.each os) whole h.outcomes)
+    (λ e. subst (λ bs. AreCovered cell bs text) whole (h.covered e)) done refused
 answered_whole cell found i number all os text (Err e) l h done refused = done

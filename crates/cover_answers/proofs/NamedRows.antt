@@ -1,5 +1,6 @@
 -- The vertices and the edges that rows give. Edges are listed the nearest first.
-use Rattle.std.proofs.Common.{◌≡◌, inl, inr, ℕ, ◌+◌, ◌-◌, ◌<◌, ◌≤◌, ◌^◌, ◌==◌, ◌||◌, not, Bool, true, false, cond, List, [], ◌∷◌, ◌++◌, length, map, get_or, refl, sym, ap, subst, ◌∙◌, arith}
+use Rattle.std.proofs.Common.{◌≡◌, inl, inr, ℕ, ◌+◌, ◌-◌, ◌<◌, ◌≤◌, ◌^◌, ◌==◌, ◌||◌, not, Bool, true, false, cond, List, [], ◌∷◌, ◌++◌, length, map, get_or}
+use Rattle.std.proofs.Common.{refl, sym, ap, subst, ◌∙◌, arith}
 use Rattle.std.proofs.lemmas.List.{map-append}
 use Rattle.std.specs.Bool.{Decides}
 use Rattle.std.specs.Fmt.{decimal}
@@ -82,7 +83,11 @@ kept xs e u h = keeps same_number Decides-eqb (with_new same_number xs e.from) e
 -- the ends of each of the edges have numbers
 pub ends_in : (es : List Arc) (e : Arc) → IsIn es e → IsIn (order_back es) e.from × IsIn (order_back es) e.to
 ends_in [] e h = absurd h
-ends_in (f ∷ es) e (inl q) = (subst (λ (x : Arc). IsIn (order_back (f ∷ es)) x.from) q (first_end (order_back es) f), subst (λ (x : Arc). IsIn (order_back (f ∷ es)) x.to) q (second_end (order_back es) f))
+ends_in (f ∷ es) e (inl q) = (
+  subst (λ (x : Arc). IsIn (order_back (f ∷ es)) x.from) q (first_end (order_back es) f),
+  subst
+      (λ (x : Arc). IsIn (order_back (f ∷ es)) x.to) q (second_end (order_back es) f),
+)
 ends_in (f ∷ es) e (inr i) = let h = ends_in es e i in (kept (order_back es) f e.from h.0, kept (order_back es) f e.to h.1)
 
 -- and each number is that of a vertex
@@ -99,7 +104,8 @@ numbers_within d n (e ∷ es) h u i = elim (tells_new same_number Decides-eqb (w
 -- no number stands twice
 pub order_apart : (es : List Arc) → AreApart (order_back es)
 order_apart [] = tt
-order_apart (e ∷ es) = apart_new same_number Decides-eqb (with_new same_number (order_back es) e.from) e.to (apart_new same_number Decides-eqb (order_back es) e.from (order_apart es))
+order_apart (e ∷ es) = apart_new same_number Decides-eqb (with_new same_number (order_back es) e.from) e.to
+    (apart_new same_number Decides-eqb (order_back es) e.from (order_apart es))
 
 few_numbers : (d n : ℕ) (e : Arc) → IsRowEdge d n e → n < 2 ^ 64
 few_numbers d n e h = let l = h.few in omega (arith, l)
@@ -144,12 +150,14 @@ renumbered order e = normal (new_number order e.from) (new_number order e.to) e.
 -- the numbers are those at the end of the rows
 number_kept : (xs : List ℕ) (e : Arc) (u : ℕ) → IsIn xs u → new_number xs u ≡ new_number (order_after xs e) u
 number_kept xs e u h =
-    ap (λ (k : ℕ). k + 1) (place_grown same_number Decides-eqb xs e.from u h ∙ place_grown same_number Decides-eqb (with_new same_number xs e.from) e.to u (keeps same_number Decides-eqb xs e.from u h))
+    ap (λ (k : ℕ). k + 1) (place_grown same_number Decides-eqb xs e.from u h
+    ∙ place_grown same_number Decides-eqb (with_new same_number xs e.from) e.to u (keeps same_number Decides-eqb xs e.from u h))
 
 number_first : (xs : List ℕ) (e : Arc) → new_number xs e.from ≡ new_number (order_after xs e) e.from
 number_first xs e =
     ap (λ (k : ℕ). k + 1)
-    (place_new same_number Decides-eqb xs e.from ∙ place_grown same_number Decides-eqb (with_new same_number xs e.from) e.to e.from (has_new same_number Decides-eqb xs e.from))
+    (place_new same_number Decides-eqb xs e.from ∙ place_grown same_number Decides-eqb (with_new same_number xs e.from) e.to e.from
+    (has_new same_number Decides-eqb xs e.from))
 
 number_second : (xs : List ℕ) (e : Arc) → new_number (with_new same_number xs e.from) e.to ≡ new_number (order_after xs e) e.to
 number_second xs e = ap (λ (k : ℕ). k + 1) (place_new same_number Decides-eqb (with_new same_number xs e.from) e.to)
@@ -162,14 +170,16 @@ renumbered_kept es f e h =
     λ t. normal (a t) (b t) e.shift.x e.shift.y e.shift.z
 
 -- the edge that a row gives
-pub edge_is : (d n : ℕ) (es : List Arc) (e : Arc) → AreRowEdges d n (e ∷ es) → row_edge (vertices_of (rows_of d es)) (row_fields d e) ≡ renumbered (order_back (e ∷ es)) e
+pub edge_is : (d n : ℕ) (es : List Arc) (e : Arc) → AreRowEdges d n (e ∷ es)
+    → row_edge (vertices_of (rows_of d es)) (row_fields d e) ≡ renumbered (order_back (e ∷ es)) e
 edge_is d n es e h =
     let k = are_numbers d n es h.1 in
     let f = small_from d n e h.0 in
     let names = names_are d n es h.1 in
     let grown = ap (λ (names : List (List ℕ)). with_new bytes_eq names (decimal e.from)) names ∙ new_name (order_back es) e.from f k in
     let first : vertex_number (vertices_of (rows_of d es)) (decimal e.from) ≡ new_number (order_back (e ∷ es)) e.from =
-    ap (λ (names : List (List ℕ)). vertex_number names (decimal e.from)) names ∙ ap (λ (m : ℕ). m + 1) (place_name e.from (order_back es) f k) ∙ number_first (order_back es) e in
+    ap (λ (names : List (List ℕ)). vertex_number names (decimal e.from)) names ∙ ap (λ (m : ℕ). m + 1) (place_name e.from (order_back es) f k)
+    ∙ number_first (order_back es) e in
     let second : vertex_number (with_new bytes_eq (vertices_of (rows_of d es)) (decimal e.from)) (decimal e.to) ≡ new_number (order_back (e ∷ es)) e.to =
     ap (λ (names : List (List ℕ)). vertex_number names (decimal e.to)) grown
     ∙ ap (λ (m : ℕ). m + 1) (place_name e.to (with_new same_number (order_back es) e.from) (small_to d n e h.0) (numbers_after (order_back es) e.from f k))
@@ -200,7 +210,8 @@ edge_decides e f = (to, from)
         (and_from _ _ ((Decides-int_eq e.x e.x).1 refl) (and_from _ _ ((Decides-int_eq e.y e.y).1 refl) ((Decides-int_eq e.z e.z).1 refl)))))
 
 -- each edge that is read is that of a row
-pub read_edges : (d n : ℕ) (es : List Arc) → AreRowEdges d n es → (y : RawEdge) → IsIn (edges_of (rows_of d es)) y → (e : Arc) × IsIn es e × (renumbered (order_back es) e ≡ y)
+pub read_edges : (d n : ℕ) (es : List Arc) → AreRowEdges d n es → (y : RawEdge) → IsIn (edges_of (rows_of d es)) y
+    → (e : Arc) × IsIn es e × (renumbered (order_back es) e ≡ y)
 read_edges d n [] h y i = absurd i
 read_edges d n (f ∷ es) h y i = elim (tells_new same_edge edge_decides (edges_of (rows_of d es)) (row_edge (vertices_of (rows_of d es)) (row_fields d f)) y i) [
   | inl j ↦ let r = read_edges d n es h.1 y j in (r.0, inr r.1, sym (renumbered_kept es f r.0 r.1) ∙ r.2)
@@ -216,7 +227,8 @@ edges_in d n (f ∷ es) h e (inl q) =
     (has_new same_edge edge_decides (edges_of (rows_of d es)) (row_edge (vertices_of (rows_of d es)) (row_fields d f))))
 edges_in d n (f ∷ es) h e (inr i) =
     subst (λ (y : RawEdge). IsIn (edges_of (rows_of d (f ∷ es))) y) (renumbered_kept es f e i)
-    (keeps same_edge edge_decides (edges_of (rows_of d es)) (row_edge (vertices_of (rows_of d es)) (row_fields d f)) (renumbered (order_back es) e) (edges_in d n es h.1 e i))
+    (keeps same_edge edge_decides (edges_of (rows_of d es)) (row_edge (vertices_of (rows_of d es)) (row_fields d f)) (renumbered (order_back es) e)
+    (edges_in d n es h.1 e i))
 
 -- no more edges than rows
 pub few_edges : (d : ℕ) (es : List Arc) → length (edges_of (rows_of d es)) ≤ length es

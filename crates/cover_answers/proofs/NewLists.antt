@@ -1,5 +1,6 @@
 -- Lists that take what is new at their end.
-use Rattle.std.proofs.Common.{◌≡◌, ◌⊎◌, inl, inr, ℕ, zero, suc, ◌+◌, ◌<◌, ◌≤◌, ◌||◌, not, Bool, true, false, cond, List, [], ◌∷◌, ◌++◌, length, get_or, refl, sym, ap, subst, ◌∙◌, arith, length-append}
+use Rattle.std.proofs.Common.{◌≡◌, ◌⊎◌, inl, inr, ℕ, zero, suc, ◌+◌, ◌<◌, ◌≤◌, ◌||◌, not, Bool, true, false, cond, List, [], ◌∷◌, ◌++◌, length, get_or, refl}
+use Rattle.std.proofs.Common.{sym, ap, subst, ◌∙◌, arith, length-append}
 use Rattle.std.specs.Bool.{Decides}
 use Rattle.std.specs.List.{list_any, position_or_len}
 use Rattle.std.proofs.lemmas.Bool.{false≢true}
@@ -86,7 +87,8 @@ module _ {X : Type 0} (same : X → X → Bool) (decides : (x y : X) → Decides
   place_kept [] ys x h = absurd h
   place_kept (y ∷ xs) ys x h = by (same x y) refl (place_kept xs ys x) h
     where
-      by : (t : Bool) → same x y ≡ t → (IsIn xs x → place x (xs ++ ys) ≡ place x xs) → IsIn (y ∷ xs) x → cond (not t) (1 + place x (xs ++ ys)) 0 ≡ cond (not t) (1 + place x xs) 0
+      by : (t : Bool) → same x y ≡ t → (IsIn xs x → place x (xs ++ ys) ≡ place x xs) → IsIn (y ∷ xs) x
+          → cond (not t) (1 + place x (xs ++ ys)) 0 ≡ cond (not t) (1 + place x xs) 0
       by true f on h = refl
       by false f on (inl e) = absurd (false≢true (sym f ∙ (decides x y).1 (sym e)))
       by false f on (inr i) = ap (λ (n : ℕ). 1 + n) (on i)

@@ -1,5 +1,6 @@
 -- The bytes of a number: a run that is a whole number, and its value.
-use Rattle.std.proofs.Common.{◌≡◌, ℕ, suc, ◌+◌, ◌-◌, ◌*◌, ◌<◌, ◌≤◌, ◌^◌, ◌==◌, nat_lt, true, false, ℤ, pos, negsuc, ◌-ℤ◌, List, [], ◌∷◌, length, fold, Some, refl, sym, ap, ◌∙◌, arith}
+use Rattle.std.proofs.Common.{◌≡◌, ℕ, suc, ◌+◌, ◌-◌, ◌*◌, ◌<◌, ◌≤◌, ◌^◌, ◌==◌, nat_lt, true, false, ℤ, pos, negsuc, ◌-ℤ◌, List, [], ◌∷◌, length, fold, Some}
+use Rattle.std.proofs.Common.{refl, sym, ap, ◌∙◌, arith}
 use Rattle.std.specs.Prelude.{All, unsigned_abs}
 use Rattle.std.specs.List.{list_all}
 use Rattle.std.specs.Option.{option_map}
@@ -38,7 +39,8 @@ digits_are (d ∷ ds) h = and_from _ _ (digit_is d (digit_from_value d h.0)) (di
 -- both ways to take the value agree
 values_agree : (ds : List ℕ) (n : ℕ) → AllDigits 10 ds → fold next_value n ds ≡ digits_value_after 10 n ds
 values_agree [] n h = refl
-values_agree (d ∷ ds) n h = values_agree ds (n * 10 + (d - 48)) h.1 ∙ ap (λ (m : ℕ). digits_value_after 10 (n * 10 + m) ds) (sym (digit_of d (digit_from_value d h.0)))
+values_agree (d ∷ ds) n h = values_agree ds (n * 10 + (d - 48)) h.1 ∙ ap (λ (m : ℕ). digits_value_after 10 (n * 10 + m) ds)
+    (sym (digit_of d (digit_from_value d h.0)))
 
 -- a number that is small enough for its digits
 abbrev pub IsShort : ℤ → Type 0

@@ -34,7 +34,8 @@ module _ (cell : CellView) where
       one_cover G C D cell.rows c.cover c.rising moved.cover moved.rising
 
   -- and a graph that is covered has no fault that is reported
-  cover_or_fault : (raw : RawView) (G H C : Graph) (x : Bool) (line : List ℕ) → IsGraphOf raw G → IsGraphOf raw H → IsCoverOn cell G C → ¬ IsFaultTold cell H x line
+  cover_or_fault : (raw : RawView) (G H C : Graph) (x : Bool) (line : List ℕ) → IsGraphOf raw G → IsGraphOf raw H → IsCoverOn cell G C
+      → ¬ IsFaultTold cell H x line
   cover_or_fault raw G H C x line g h c f =
       f.told (cover_is_not_refused G cell f.fault g.is_graph c.coverable (subst (λ K. IsCoverFault K cell f.fault) (same_graph raw H G h g) f.is_fault))
 
@@ -51,7 +52,8 @@ module _ (cell : CellView) where
       let fault = one_cover_fault G cell a.fault b.fault g.is_graph a.written a.is_fault moved a.told b.told in
       (a.refused ∙ sym b.refused, a.line_is ∙ ap refused_text fault ∙ sym b.line_is)
 
-  one_net : (raw : RawView) (s t : Size) (x y : Bool) (xs ys : List ℕ) → IsNetTold cell raw s x xs → IsNetTold cell raw t y ys → body_text (Lines s xs) ≡ body_text (Lines t ys)
+  one_net : (raw : RawView) (s t : Size) (x y : Bool) (xs ys : List ℕ) → IsNetTold cell raw s x xs → IsNetTold cell raw t y ys
+      → body_text (Lines s xs) ≡ body_text (Lines t ys)
   one_net raw s t x y xs ys a b =
       let size = a.size_is ∙ ap (λ (G : Graph). size_in G raw.repeats) (same_graph raw a.graph b.graph a.read b.read) ∙ sym b.size_is in
       let line = one_line raw a.graph b.graph x y xs ys a.read b.read a.line_told b.line_told in
@@ -70,7 +72,8 @@ module _ (cell : CellView) where
   one_body (Net raw) x y a b h k = absurd h
 
   -- an outcome has one text
-  one_text : (number : ℕ) (block : BlockView) (x y : Bool) (o p : Outcome) → IsOutcomeOf cell number block x o → IsOutcomeOf cell number block y p → outcome_text o ≡ outcome_text p
+  one_text : (number : ℕ) (block : BlockView) (x y : Bool) (o p : Outcome) → IsOutcomeOf cell number block x o → IsOutcomeOf cell number block y p
+      → outcome_text o ≡ outcome_text p
   one_text number block x y o p h k =
       let n = h.number_is ∙ sym k.number_is in
       let line = h.line ∙ sym k.line in
@@ -79,7 +82,8 @@ module _ (cell : CellView) where
       λ i. header_text (n i) (line i) (name i) ++ body i
 
   -- and so has the report
-  one_report : (n : ℕ) (bs : List BlockView) (xs ys : List Bool) (os ps : List Outcome) → AreOutcomesFrom cell n bs xs os → AreOutcomesFrom cell n bs ys ps → report_text os ≡ report_text ps
+  one_report : (n : ℕ) (bs : List BlockView) (xs ys : List Bool) (os ps : List Outcome) → AreOutcomesFrom cell n bs xs os → AreOutcomesFrom cell n bs ys ps
+      → report_text os ≡ report_text ps
   one_report n [] [] [] [] [] h k = refl
   one_report n [] [] [] [] (p ∷ ps) h k = absurd k
   one_report n [] [] (y ∷ ys) [] ps h k = absurd k
@@ -122,7 +126,8 @@ module _ (cell : CellView) where
   told_covered (Faulty fault) C x told c h = absurd c
 
   -- so where each block is covered none is reported otherwise
-  all_covered : (n : ℕ) (bs : List BlockView) (Cs : List Graph) (xs : List Bool) (os : List Outcome) → AreCoversOf cell bs Cs → AreOutcomesFrom cell n bs xs os → all_of xs ≡ true
+  all_covered : (n : ℕ) (bs : List BlockView) (Cs : List Graph) (xs : List Bool) (os : List Outcome) → AreCoversOf cell bs Cs → AreOutcomesFrom cell n bs xs os
+      → all_of xs ≡ true
   all_covered n [] Cs [] os h k = refl
   all_covered n [] Cs (x ∷ xs) os h k = absurd k
   all_covered n (b ∷ bs) [] xs os h k = absurd h
@@ -141,7 +146,11 @@ pub one_covering : OneCovering
 one_covering cell bs Done Done s t a b = (refl, a.text_is ∙ one_covers_text cell bs a.covers b.covers a.are_covers b.are_covers ∙ sym b.text_is)
 one_covering cell bs Done SomeRefused s t a b = absurd (covered_or_reported cell bs s t a b)
 one_covering cell bs SomeRefused Done s t a b = absurd (covered_or_reported cell bs t s b a)
-one_covering cell bs SomeRefused SomeRefused s t a b = (refl, a.report ∙ one_report cell 1 bs a.each b.each a.outcomes b.outcomes a.are_outcomes b.are_outcomes ∙ sym b.report)
+one_covering cell bs SomeRefused SomeRefused s t a b = (
+  refl,
+  a.report ∙ one_report cell 1 bs a.each b.each a.outcomes b.outcomes a.are_outcomes b.are_outcomes
+      ∙ sym b.report,
+)
 one_covering cell bs Done other s t a b = absurd b
 one_covering cell bs SomeRefused other s t a b = absurd b
 one_covering cell bs other status s t a b = absurd a

@@ -1,5 +1,6 @@
 -- No line of a printed graph has a fault, and its block is the net of its rows.
-use Rattle.std.proofs.Common.{◌≡◌, ◌⊎◌, inl, inr, ℕ, ◌+◌, ◌≤◌, ◌==◌, ◌||◌, ◌&&◌, not, nat_lt, Bool, true, false, cond, pos, List, [], ◌∷◌, length, Option, None, Some, refl, sym, ap, subst, ◌∙◌, arith}
+use Rattle.std.proofs.Common.{◌≡◌, ◌⊎◌, inl, inr, ℕ, ◌+◌, ◌≤◌, ◌==◌, ◌||◌, ◌&&◌, not, nat_lt, Bool, true, false, cond, pos, List, [], ◌∷◌, length, Option, None}
+use Rattle.std.proofs.Common.{Some, refl, sym, ap, subst, ◌∙◌, arith}
 use Rattle.std.specs.Prelude.{codes}
 use Rattle.std.specs.Fmt.{decimal}
 use Rattle.std.specs.Ordering.{int_eq}
@@ -28,7 +29,8 @@ use Rattle.cover_answers.proofs.RowLines.{IsRowEdge, AreRowEdges, row_fields, ro
 use Rattle.cgd_read.proofs.CallerLemmas.{none_true, passes_on}
 
 -- lines that pass, and what comes after them
-pub after_passing : (opening : ℕ) (earlier later : List LineView) → AllPass earlier → graph_block opening [] (in_order earlier later) ≡ graph_block opening earlier later
+pub after_passing : (opening : ℕ) (earlier later : List LineView) → AllPass earlier
+    → graph_block opening [] (in_order earlier later) ≡ graph_block opening earlier later
 after_passing opening [] later h = refl
 after_passing opening (line ∷ earlier) later h = after_passing opening earlier (line ∷ later) h.2 ∙ passes_on opening earlier line later h.0 h.1
 
@@ -69,7 +71,8 @@ head_passes d (Some name) n h = record {
 
 -- the name of a vertex is short
 short_name : (u n : ℕ) → u ≤ n → n ≤ most_vertices → is_long (decimal u) ≡ false
-short_name u n l m = within 200 (length (decimal u)) (let k = length-decimal-le 3 u (omega arith) (omega (arith, l, m)) (omega (arith, l, m)) in omega (arith, k))
+short_name u n l m = within 200 (length (decimal u)) (let k = length-decimal-le 3 u (omega arith) (omega (arith, l, m)) (omega (arith, l, m)) in
+    omega (arith, k))
 
 -- the sizes of rows
 first_size_is : (d : ℕ) (e : Arc) (es : List Arc) → first_size (rows_of d (e ∷ es)) ≡ d + 2
@@ -117,7 +120,8 @@ self_edge d n e h = elim (cases_Bool (is_self_edge (row_fields d e))) [
       let u = h.from.1 in
       let v = h.to.1 in
       let same = decimal_injective e.from e.to (omega (arith, few, u)) (omega (arith, few, v)) ((bytes_eq-Decides (decimal e.from) (decimal e.to)).0 a.0) in
-      absurd (h.no_point same (vector_equal ((Decides-int_eq e.shift.x (pos 0)).0 b.0) ((Decides-int_eq e.shift.y (pos 0)).0 c.0) ((Decides-int_eq e.shift.z (pos 0)).0 c.1)))
+      absurd (h.no_point same (vector_equal ((Decides-int_eq e.shift.x (pos 0)).0 b.0) ((Decides-int_eq e.shift.y (pos 0)).0 c.0)
+      ((Decides-int_eq e.shift.z (pos 0)).0 c.1)))
   | inr no_ ↦ no_
 ]
 
@@ -140,58 +144,40 @@ done_after done [] = done
 done_after done (e ∷ es) = done_after (e ∷ done) es
 
 module _ (d n : ℕ) (dim : (d ≡ 2) ⊎ (d ≡ 3)) (name : Option (List ℕ)) where
-  rows_now : (e : Arc) (done : List Arc) (lines : List LineView) (m : ℕ) → HavePassed d name lines done → rows_in (row_line d e m ∷ lines) ≡ rows_of d (e ∷ done)
+  rows_now : (e : Arc) (done : List Arc) (lines : List LineView) (m : ℕ) → HavePassed d name lines done
+      → rows_in (row_line d e m ∷ lines) ≡ rows_of d (e ∷ done)
   rows_now e done lines m h =
       ap (λ (t : Bool). cond t (row_fields d e ∷ rows_in lines) (rows_in lines)) (some_size d) ∙ ap (λ (rows : List FieldsView). row_fields d e ∷ rows) h.rows
 
   -- one row more
-  row_passes : (e : Arc) (done : List Arc) (lines : List LineView) (m : ℕ) → AreRowEdges d n (e ∷ done) → length (e ∷ done) ≤ most_edges → HavePassed d name lines done
+  row_passes : (e : Arc) (done : List Arc) (lines : List LineView) (m : ℕ) → AreRowEdges d n (e ∷ done) → length (e ∷ done) ≤ most_edges
+      → HavePassed d name lines done
       → HavePassed d name (row_line d e m ∷ lines) (e ∷ done)
   row_passes e done lines m edges few h =
       let row = nat_lt 0 (d + 2) in
       let now = rows_now e done lines m h in
-      let own = edges.0 in record {
-        pass = (
-          (
-            refl,
-            (
-              refl,
-              (
-                bad_token (under_edges lines) row h.under,
-                (
-                  long_name row (is_long (decimal e.from)) (is_long (decimal e.to)) (short_name e.from n own.from.1 own.few) (short_name e.to n own.to.1 own.few),
-                  (
-                    never row (not (d + 2 == 4 || d + 2 == 5)) (wrong_length d dim),
-                    (
-                      never row (has_rows (rows_in lines) && not (d + 2 == first_size (rows_in lines)))
-                          (other_length (has_rows (rows_in lines)) (d + 2) (first_size (rows_in lines))
-                          (subst (λ (rows : List FieldsView). has_rows rows ≡ true → first_size rows ≡ d + 2) (sym h.rows) (size_of_rows d done))),
-                      (
-                        never row false refl,
-                        (
-                          never row (is_self_edge (row_fields d e)) (self_edge d n e own),
-                          (
-                            ap (λ (rows : List FieldsView). nat_lt most_vertices (length (vertices_of rows))) now ∙ vertices_fit d n (e ∷ done) edges own.few,
-                            (ap (λ (rows : List FieldsView). nat_lt most_edges (length (edges_of rows))) now ∙ edges_fit d (e ∷ done) few, (refl, tt)),
-                          ),
-                        ),
-                      ),
-                    ),
-                  ),
-                ),
-              ),
-            ),
-          ),
-          refl,
-          h.pass,
-        );
+      let own = edges.0 in
+      let short = long_name row (is_long (decimal e.from)) (is_long (decimal e.to)) (short_name e.from n own.from.1 own.few)
+      (short_name e.to n own.to.1 own.few) in
+      let length_is = never row (not (d + 2 == 4 || d + 2 == 5)) (wrong_length d dim) in
+      let same_length = never row (has_rows (rows_in lines) && not (d + 2 == first_size (rows_in lines)))
+      (other_length (has_rows (rows_in lines)) (d + 2) (first_size (rows_in lines))
+      (subst (λ (rows : List FieldsView). has_rows rows ≡ true → first_size rows ≡ d + 2) (sym h.rows) (size_of_rows d done))) in
+      let no_self = never row (is_self_edge (row_fields d e)) (self_edge d n e own) in
+      let vertices = ap (λ (rows : List FieldsView). nat_lt most_vertices (length (vertices_of rows))) now ∙ vertices_fit d n (e ∷ done) edges own.few in
+      let count = ap (λ (rows : List FieldsView). nat_lt most_edges (length (edges_of rows))) now ∙ edges_fit d (e ∷ done) few in
+      let token = bad_token (under_edges lines) row h.under in
+      let bound = never row false refl in
+      record {
+        pass = ((refl, (refl, (token, (short, (length_is, (same_length, (bound, (no_self, (vertices, (count, (refl, tt))))))))))), refl, h.pass);
         under = h.under;
         rows = now;
         name_is = h.name_is;
       }
 
   -- all rows
-  pub rows_pass : (es done : List Arc) (lines : List LineView) (m : ℕ) → AreRowEdges d n done → AreRowEdges d n es → length done + length es ≤ most_edges → HavePassed d name lines done
+  pub rows_pass : (es done : List Arc) (lines : List LineView) (m : ℕ) → AreRowEdges d n done → AreRowEdges d n es → length done + length es ≤ most_edges
+      → HavePassed d name lines done
       → HavePassed d name (rows_back d m lines es) (done_after done es)
   rows_pass [] done lines m old new few h = h
   rows_pass (e ∷ es) done lines m old new few h =
@@ -202,44 +188,21 @@ module _ (d n : ℕ) (dim : (d ≡ 2) ⊎ (d ≡ 3)) (name : Option (List ℕ)) 
   abbrev end_line : ℕ → LineView
   end_line m = word_line End (codes "END") m
 
-  end_passes : (e : Arc) (done : List Arc) (lines : List LineView) (m : ℕ) → AreRowEdges d n (e ∷ done) → length (e ∷ done) ≤ most_edges → HavePassed d name lines (e ∷ done)
+  end_passes : (e : Arc) (done : List Arc) (lines : List LineView) (m : ℕ) → AreRowEdges d n (e ∷ done) → length (e ∷ done) ≤ most_edges
+      → HavePassed d name lines (e ∷ done)
       → AllFalse (table lines (end_line m))
-  end_passes e done lines m edges few h = (
-    refl,
-    (
-      refl,
-      (
-        refl,
-        (
-          refl,
-          (
-            refl,
-            (
-              refl,
-              (
-                refl,
-                (
-                  refl,
-                  (
-                    ap (λ (rows : List FieldsView). nat_lt most_vertices (length (vertices_of rows))) h.rows ∙ vertices_fit d n (e ∷ done) edges edges.0.few,
-                    (
-                      ap (λ (rows : List FieldsView). nat_lt most_edges (length (edges_of rows))) h.rows ∙ edges_fit d (e ∷ done) few,
-                      (ap (λ (rows : List FieldsView). not (has_rows rows)) h.rows, tt),
-                    ),
-                  ),
-                ),
-              ),
-            ),
-          ),
-        ),
-      ),
-    ),
-  )
+  end_passes e done lines m edges few h =
+      let vertices = ap (λ (rows : List FieldsView). nat_lt most_vertices (length (vertices_of rows))) h.rows ∙ vertices_fit d n (e ∷ done) edges edges.0.few in
+      let count = ap (λ (rows : List FieldsView). nat_lt most_edges (length (edges_of rows))) h.rows ∙ edges_fit d (e ∷ done) few in
+      let some = ap (λ (rows : List FieldsView). not (has_rows rows)) h.rows in
+      (refl, (refl, (refl, (refl, (refl, (refl, (refl, (refl, (vertices, (count, (some, tt)))))))))))
 
   -- the block of lines that have passed, and the blocks after it
-  pub block_is : (opening : LineView) (e : Arc) (done : List Arc) (lines left : List LineView) (m : ℕ) → AreRowEdges d n (e ∷ done) → length (e ∷ done) ≤ most_edges
+  pub block_is : (opening : LineView) (e : Arc) (done : List Arc) (lines left : List LineView) (m : ℕ) → AreRowEdges d n (e ∷ done)
+      → length (e ∷ done) ≤ most_edges
       → HavePassed d name lines (e ∷ done)
       → graph_block opening.number [] (in_order lines (end_line m ∷ left)) ≡ with_body opening.number lines (Net (net_of (rows_in lines)))
   block_is opening e done lines left m edges few h =
       after_passing opening.number lines (end_line m ∷ left) h.pass
-      ∙ ap (λ fault. or_fault fault m opening.number lines (with_body opening.number lines (Net (net_of (rows_in lines))))) (none_true (table lines (end_line m)) (end_passes e done lines m edges few h))
+      ∙ ap (λ fault. or_fault fault m opening.number lines (with_body opening.number lines (Net (net_of (rows_in lines)))))
+      (none_true (table lines (end_line m)) (end_passes e done lines m edges few h))

@@ -38,11 +38,21 @@ no_point e (inl l) same none = omega (arith, l, same)
 no_point e (inr s) same none = not_below_itself (parts 3 zero_vector) (subst (λ (v : Vector). IsBelow (parts 3 zero_vector) (parts 3 v)) none s.1)
 
 -- the edges of a graph within the limits are printed as rows
-row_edges : (G : Graph) (es : List Arc) → G.vertices ≤ most_vertices → All (IsEdge G) es → All (λ e. IsWithin most_shift e.shift) es → AreRowEdges G.dimension G.vertices es
+row_edges : (G : Graph) (es : List Arc) → G.vertices ≤ most_vertices → All (IsEdge G) es → All (λ e. IsWithin most_shift e.shift) es
+    → AreRowEdges G.dimension G.vertices es
 row_edges G [] l a b = tt
 row_edges G (e ∷ es) l a b =
     let i = All-head (IsEdge G) e es a in (
-      record { from = i.from; to = i.to; few = l; flat = i.shift; small = All-head (λ (e : Arc). IsWithin most_shift e.shift) e es b; no_point = no_point e i.spelling; spelling = i.spelling },
+      record {
+        from = i.from;
+        to = i.to;
+        few = l;
+        flat = i.shift;
+        small = All-head (λ (e : Arc). IsWithin most_shift e.shift) e es b;
+        no_point =
+            no_point e i.spelling;
+        spelling = i.spelling;
+      },
       row_edges G es l (All-tail (IsEdge G) e es a) (All-tail (λ (e : Arc). IsWithin most_shift e.shift) e es b),
     )
 
@@ -80,7 +90,8 @@ AreNew done es = (e : Arc) → IsIn es e → ¬ IsIn done e
 
 apart_done : (done es : List Arc) → AreApart done → AreApart es → AreNew done es → AreApart (done_after done es)
 apart_done done [] a b n = a
-apart_done done (e ∷ es) a b n = apart_done (e ∷ done) es (n e (inl refl), a) b.1 (λ f i j. elim j [ inl q ↦ b.0 (subst (IsIn es) (sym q) i) | inr k ↦ n f (inr i) k ])
+apart_done done (e ∷ es) a b n = apart_done (e ∷ done) es (n e (inl refl), a) b.1
+    (λ f i j. elim j [ inl q ↦ b.0 (subst (IsIn es) (sym q) i) | inr k ↦ n f (inr i) k ])
 
 -- what a list that is mapped has
 map_in : {X Y : Type 0} (f : X → Y) (xs : List X) (y : Y) → IsIn (map f xs) y → (x : X) × IsIn xs x × (f x ≡ y)
@@ -166,7 +177,8 @@ module _ (p : NamedGraph) (h : MayBePrinted p) where
     lines = inner_lines p.name G G.vertices n rest h.is_graph.dimension edges h.name
 
     passed : HavePassed G.dimension p.name lines done
-    passed = rows_pass G.dimension G.vertices h.is_graph.dimension p.name G.edges [] (head_lines p.name (n + 1)) (first_row p.name G G.vertices n rest h.is_graph.dimension edges h.name) tt edges
+    passed = rows_pass G.dimension G.vertices h.is_graph.dimension p.name G.edges [] (head_lines p.name (n + 1))
+        (first_row p.name G G.vertices n rest h.is_graph.dimension edges h.name) tt edges
         (let l = h.small.edges in omega (arith, l)) (head_passes G.dimension p.name (n + 1) h.name)
 
     -- the block
@@ -210,8 +222,11 @@ blocks_back [] at n h = tt
 blocks_back (p ∷ ps) at n h =
     let own = All-head MayBePrinted p ps h in
     let others = All-tail MayBePrinted p ps h in
-    subst (AreReadBack (p ∷ ps)) (sym (one_block p own at n (blocks_text ps)))
-    (block_is_back p own at n (blocks_text ps), blocks_back ps (place_after p.name p.graph p.graph.vertices n (blocks_text ps) own.is_graph.dimension (edges p own) own.name at) (last_number p own at n (blocks_text ps) + 1) others)
+    subst (AreReadBack (p ∷ ps)) (sym (one_block p own at n (blocks_text ps))) (
+      block_is_back p own at n (blocks_text ps),
+      blocks_back ps (place_after p.name p.graph p.graph.vertices n (blocks_text ps) own.is_graph.dimension
+          (edges p own) own.name at) (last_number p own at n (blocks_text ps) + 1) others,
+    )
 
 pub blocks_are_read_back : BlocksAreReadBack
 blocks_are_read_back ps h = blocks_back ps 0 1 h

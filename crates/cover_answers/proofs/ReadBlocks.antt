@@ -1,9 +1,9 @@
 -- The nets that are read, and their covers, may be printed.
-use Rattle.std.proofs.Common.{◌≡◌, ℕ, ◌≤◌, ◌==◌, ◌||◌, ◌&&◌, nat_lt, Bool, true, false, cond, List, [], ◌∷◌, length, Option, None, Some, refl, sym, ap, subst, arith}
+use Rattle.std.proofs.Common.{◌≡◌, ℕ, ◌≤◌, ◌==◌, ◌||◌, ◌&&◌, nat_lt, Bool, true, false, cond, List, [], ◌∷◌, length, Option, None, Some, refl, sym, ap, subst}
+use Rattle.std.proofs.Common.{arith}
 use Rattle.std.specs.Prelude.{All}
 use Rattle.std.proofs.lemmas.Bool.Decides.{nat_tests}
 use Rattle.std.proofs.lemmas.List.Elements.{All-nil, All-cons, All-head, All-tail}
-use Rattle.std.proofs.lemmas.Option.{none-some}
 use Rattle.periodic_net.specs.Graph.{IsQuotientVertex}
 use Rattle.cgd_lex.specs.Tokens.{tokens_of}
 use Rattle.cgd_read.specs.Blocks.{blocks_from, block_by, block_of, graph_block, or_fault, malformed, with_body}
@@ -57,14 +57,17 @@ first_test true t e = e
 first_test false t e = refl
 
 -- a line without a fault leaves a name that may stand between quotes
-name_now : (earlier : List LineView) (line : LineView) → LineGivesName line → fault_of earlier line ≡ None → MayBeName (name_of earlier) → MayBeName (name_of (line ∷ earlier))
-name_now earlier line gives none before = by line.kind line.fields.name (first_test (is_name line.kind && is_long_name line.fields.name) _ (all_false (table earlier line) none).1.1.1.0) gives
+name_now : (earlier : List LineView) (line : LineView) → LineGivesName line → fault_of earlier line ≡ None → MayBeName (name_of earlier)
+    → MayBeName (name_of (line ∷ earlier))
+name_now earlier line gives none before = by line.kind line.fields.name
+    (first_test (is_name line.kind && is_long_name line.fields.name) _ (all_false (table earlier line) none).1.1.1.0) gives
   where
     named : (name : Option (List ℕ)) → is_long_name name ≡ false → ((text : List ℕ) → name ≡ Some text → All IsNameByte text) → MayBeName name
     named None e g = tt
     named (Some text) e g = (not_long (length text) e, g text refl)
 
-    by : (kind : LineKind) (name : Option (List ℕ)) → (is_name kind && is_long_name name) ≡ false → ((text : List ℕ) → name ≡ Some text → All IsNameByte text) → MayBeName (name_after kind name (name_of earlier))
+    by : (kind : LineKind) (name : Option (List ℕ)) → (is_name kind && is_long_name name) ≡ false → ((text : List ℕ) → name ≡ Some text → All IsNameByte text)
+        → MayBeName (name_after kind name (name_of earlier))
     by Name name e g = named name e g
     by Opening name e g = before
     by Edges name e g = before
@@ -77,10 +80,13 @@ name_now earlier line gives none before = by line.kind line.fields.name (first_t
 graph_fit : (opening : ℕ) (lines earlier : List LineView) → All LineGivesName lines → MayBeName (name_of earlier) → IsFit (graph_block opening earlier lines)
 graph_fit opening [] earlier h named = λ raw e. absurd (no_net (malformed opening NoEnd) raw e (λ n. n))
 graph_fit opening (line ∷ lines) earlier h named = by (fault_of earlier line) (is_end line.kind) refl
-    (λ none. graph_fit opening lines (line ∷ earlier) (All-tail LineGivesName line lines h) (name_now earlier line (All-head LineGivesName line lines h) none named))
+    (λ none. graph_fit opening lines (line ∷ earlier) (All-tail LineGivesName line lines h)
+    (name_now earlier line (All-head LineGivesName line lines h) none named))
   where
-    by : (fault : Option BlockFaultKind) (ends : Bool) → fault_of earlier line ≡ fault → (fault_of earlier line ≡ None → IsFit (graph_block opening (line ∷ earlier) lines))
-        → IsFit (or_fault fault line.number opening earlier (cond ends (with_body opening earlier (Net (net_of (rows_in earlier)))) (graph_block opening (line ∷ earlier) lines)))
+    by : (fault : Option BlockFaultKind) (ends : Bool) → fault_of earlier line ≡ fault
+        → (fault_of earlier line ≡ None → IsFit (graph_block opening (line ∷ earlier) lines))
+        → IsFit (or_fault fault line.number opening earlier (cond ends (with_body opening earlier (Net (net_of (rows_in earlier))))
+        (graph_block opening (line ∷ earlier) lines)))
     by (Some kind) ends is on = λ raw e. absurd (no_net (malformed line.number kind) raw e (λ n. n))
     by None true is on = λ raw e. record { name = named; rows = rows_in earlier; is = sym (net_inside (net_of (rows_in earlier)) raw e) }
     by None false is on = on is
@@ -113,7 +119,8 @@ all_fit (line ∷ lines) true h = by (is_end line.kind) (all_fit lines false oth
     others : All LineGivesName lines
     others = All-tail LineGivesName line lines h
 
-    by : (t : Bool) → All IsFit (blocks_from false lines) → All IsFit (blocks_from true lines) → All IsFit (cond t (blocks_from false lines) (blocks_from true lines))
+    by : (t : Bool) → All IsFit (blocks_from false lines) → All IsFit (blocks_from true lines)
+        → All IsFit (cond t (blocks_from false lines) (blocks_from true lines))
     by true a b = a
     by false a b = b
 all_fit (line ∷ lines) false h = by (is_end line.kind) (all_fit lines false others) (all_fit lines true others)
@@ -121,7 +128,8 @@ all_fit (line ∷ lines) false h = by (is_end line.kind) (all_fit lines false ot
     others : All LineGivesName lines
     others = All-tail LineGivesName line lines h
 
-    by : (t : Bool) → All IsFit (blocks_from false lines) → All IsFit (blocks_from true lines) → All IsFit (cond t (blocks_from false lines) (block_of line lines ∷ blocks_from true lines))
+    by : (t : Bool) → All IsFit (blocks_from false lines) → All IsFit (blocks_from true lines)
+        → All IsFit (cond t (blocks_from false lines) (block_of line lines ∷ blocks_from true lines))
     by true a b = a
     by false a b = All-cons IsFit (block_of line lines) (blocks_from true lines) (block_fit line lines others) b
 

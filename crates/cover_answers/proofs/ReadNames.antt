@@ -1,5 +1,6 @@
 -- The names that lines give may stand between quotes.
-use Rattle.std.proofs.Common.{◌≡◌, ◌≢◌, ℕ, ◌+◌, ◌==◌, Bool, true, false, cond, List, [], ◌∷◌, ◌++◌, length, Option, None, Some, refl, sym, ap, subst, ◌∙◌, arith}
+use Rattle.std.proofs.Common.{◌≡◌, ◌≢◌, ℕ, ◌+◌, ◌==◌, Bool, true, false, cond, List, [], ◌∷◌, ◌++◌, length, Option, None, Some, refl, sym, ap, subst, ◌∙◌}
+use Rattle.std.proofs.Common.{arith}
 use Rattle.std.specs.Prelude.{All}
 use Rattle.std.specs.List.{slice_split, onto_first, flat_map}
 use Rattle.std.proofs.lemmas.Bool.{false≢true, true≢false}
@@ -7,7 +8,8 @@ use Rattle.std.proofs.lemmas.List.Elements.{All-nil, All-cons, All-head, All-tai
 use Rattle.std.proofs.lemmas.Option.{none-some}
 use Rattle.cgd_lex.specs.Lines.{is_newline, filled_line}
 use Rattle.cgd_lex.specs.Pieces.{Piece, Blank, Comment, Closed, Unclosed, Control, Run, bytes_of, cut_of, is_run_byte, IsCut, MayStand}
-use Rattle.cgd_lex.specs.Tokens.{TokenView, tokens_of, tokens_of_line, tokens_of_pieces, token_at, kind_of_piece, is_whole, newline, later_lines, lines_of, first_line, others_of}
+use Rattle.cgd_lex.specs.Tokens.{TokenView, tokens_of, tokens_of_line, tokens_of_pieces, token_at, kind_of_piece, is_whole, newline, later_lines, lines_of}
+use Rattle.cgd_lex.specs.Tokens.{first_line, others_of}
 use Rattle.cgd_lex.specs.Words.{name_in}
 use Rattle.cgd_lex.specs.declared.token.TokenKind.{TokenKind}
 use Rattle.cgd_lex.specs.declared.token.TokenKind.TheVariants.{Word, Whole, Quoted, Bad}
@@ -40,9 +42,11 @@ module _ {X : Type 0} (p : X → Bool) (P : X → Type 0) where
   ArePieces ls = All (λ (l : List X). All IsInPiece l) ls
 
   onto_piece : (x : X) (ls : List (List X)) → IsInPiece x → ArePieces ls → ArePieces (onto_first x ls)
-  onto_piece x [] h k = All-cons (λ (l : List X). All IsInPiece l) (x ∷ []) [] (All-cons IsInPiece x [] h (All-nil IsInPiece)) (All-nil (λ (l : List X). All IsInPiece l))
+  onto_piece x [] h k = All-cons (λ (l : List X). All IsInPiece l) (x ∷ []) [] (All-cons IsInPiece x [] h (All-nil IsInPiece))
+      (All-nil (λ (l : List X). All IsInPiece l))
   onto_piece x (l ∷ ls) h k =
-      All-cons (λ (l : List X). All IsInPiece l) (x ∷ l) ls (All-cons IsInPiece x l h (All-head (λ (l : List X). All IsInPiece l) l ls k)) (All-tail (λ (l : List X). All IsInPiece l) l ls k)
+      All-cons (λ (l : List X). All IsInPiece l) (x ∷ l) ls (All-cons IsInPiece x l h (All-head (λ (l : List X). All IsInPiece l) l ls k))
+      (All-tail (λ (l : List X). All IsInPiece l) l ls k)
 
   pub split_pieces : (xs : List X) → All P xs → ArePieces (slice_split p xs)
   split_pieces [] h = All-cons (λ (l : List X). All IsInPiece l) [] [] (All-nil IsInPiece) (All-nil (λ (l : List X). All IsInPiece l))
@@ -75,7 +79,8 @@ both_facts (b ∷ bs) h k =
     All-cons IsNameByte b bs (All-head (λ b. b ≢ 34) b bs h, not_feed b (All-head (λ b. (b == 10) ≡ false) b bs k))
     (both_facts bs (All-tail (λ b. b ≢ 34) b bs h) (All-tail (λ b. (b == 10) ≡ false) b bs k))
 
-one_token : (at n : ℕ) (bytes : List ℕ) (kind : TokenKind) → ((name : List ℕ) → name_in (record { kind = kind; text = bytes; start = at; line = n }) ≡ Some name → All IsNameByte name)
+one_token : (at n : ℕ) (bytes : List ℕ) (kind : TokenKind) → ((name : List ℕ)
+    → name_in (record { kind = kind; text = bytes; start = at; line = n }) ≡ Some name → All IsNameByte name)
     → All GivesName (token_at at n bytes (Some kind))
 one_token at n bytes kind h = All-cons GivesName (record { kind = kind; text = bytes; start = at; line = n }) [] (λ e. h) (All-nil GivesName)
 
@@ -112,7 +117,8 @@ later_give : (at n : ℕ) (ls : List (List ℕ)) → All HasNoFeed ls → All Gi
 later_give at n [] h = All-nil GivesName
 later_give at n (l ∷ ls) h =
     All-cons GivesName (newline at n) (tokens_of_line (at + 1) (n + 1) l ++ later_lines (at + 1 + length l) (n + 1) ls) (λ e. absurd (true≢false e))
-    (All-append GivesName (tokens_of_line (at + 1) (n + 1) l) (later_lines (at + 1 + length l) (n + 1) ls) (line_gives (at + 1) (n + 1) l (All-head HasNoFeed l ls h))
+    (All-append GivesName (tokens_of_line (at + 1) (n + 1) l) (later_lines (at + 1 + length l) (n + 1) ls)
+    (line_gives (at + 1) (n + 1) l (All-head HasNoFeed l ls h))
     (later_give (at + 1 + length l) (n + 1) ls (All-tail HasNoFeed l ls h)))
 
 all_units : (bs : List ℕ) → All (λ (b : ℕ). Unit {0}) bs
@@ -151,13 +157,16 @@ line_name (t ∷ ts) h = All-cons LineGivesName (line_with t ts) [] (by (is_bare
     by true = fields_name (t ∷ ts) h
     by false = fields_name ts (All-tail IsGood t ts h)
 
-lines_name : (ls : List (List TokenView)) → ArePieces (λ (t : TokenView). is_newline t.kind) GivesName ls → All LineGivesName (flat_map line_of (flat_map filled_line ls))
+lines_name : (ls : List (List TokenView)) → ArePieces (λ (t : TokenView). is_newline t.kind) GivesName ls
+    → All LineGivesName (flat_map line_of (flat_map filled_line ls))
 lines_name [] h = All-nil LineGivesName
 lines_name ([] ∷ ls) h = lines_name ls (All-tail (λ (l : List TokenView). All IsGood l) [] ls h)
 lines_name ((t ∷ ts) ∷ ls) h =
-    All-append LineGivesName (line_of (t ∷ ts)) (flat_map line_of (flat_map filled_line ls)) (line_name (t ∷ ts) (All-head (λ (l : List TokenView). All IsGood l) (t ∷ ts) ls h))
+    All-append LineGivesName (line_of (t ∷ ts)) (flat_map line_of (flat_map filled_line ls))
+    (line_name (t ∷ ts) (All-head (λ (l : List TokenView). All IsGood l) (t ∷ ts) ls h))
     (lines_name ls (All-tail (λ (l : List TokenView). All IsGood l) (t ∷ ts) ls h))
 
 -- so it is of each line of a text
 pub text_names : (text : List ℕ) → All LineGivesName (token_lines (tokens_of text))
-text_names text = lines_name (slice_split (λ (t : TokenView). is_newline t.kind) (tokens_of text)) (split_pieces (λ (t : TokenView). is_newline t.kind) GivesName (tokens_of text) (text_gives text))
+text_names text = lines_name (slice_split (λ (t : TokenView). is_newline t.kind) (tokens_of text))
+    (split_pieces (λ (t : TokenView). is_newline t.kind) GivesName (tokens_of text) (text_gives text))

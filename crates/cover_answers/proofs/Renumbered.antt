@@ -19,11 +19,13 @@ negative : (x : ℤ) → pos 0 -ℤ x ≡ neg_ℤ x
 negative x = omega (arith, ints)
 
 -- the spelling of an arc is the arc or its reverse
-pub spelling_is : (t : Bool) (u v : ℕ) (s : Vector) → (edge_of (spelled t u v s.x s.y s.z) ≡ arc u v s) ⊎ (edge_of (spelled t u v s.x s.y s.z) ≡ reverse_of (arc u v s))
+pub spelling_is : (t : Bool) (u v : ℕ) (s : Vector) → (edge_of (spelled t u v s.x s.y s.z) ≡ arc u v s)
+    ⊎ (edge_of (spelled t u v s.x s.y s.z) ≡ reverse_of (arc u v s))
 spelling_is true u v s = inl refl
 spelling_is false u v s = inr (λ i. arc v u (vector (negative s.x i) (negative s.y i) (negative s.z i)))
 
-module _ (G H : Graph) (done : List Arc) (rows : AreRowEdges G.dimension G.vertices done) (dimension : G.dimension ≡ H.dimension) (count : H.vertices ≡ length (order_back done))
+module _ (G H : Graph) (done : List Arc) (rows : AreRowEdges G.dimension G.vertices done) (dimension : G.dimension ≡ H.dimension)
+    (count : H.vertices ≡ length (order_back done))
     (listed : (e : Arc) → IsIn G.edges e → IsIn done e) (mentioned : (u : ℕ) → IsQuotientVertex G u → IsIn (order_back done) u)
     (there_edge : (e : Arc) → IsIn G.edges e → IsIn H.edges (edge_of (renumbered (order_back done) e)))
     (back_edge : (y : Arc) → IsIn H.edges y → (e : Arc) × IsIn G.edges e × (edge_of (renumbered (order_back done) e) ≡ y)) where
@@ -59,7 +61,8 @@ module _ (G H : Graph) (done : List Arc) (rows : AreRowEdges G.dimension G.verti
   -- an edge with new numbers is an arc
   edge_there : (e : Arc) → IsIn G.edges e → IsArc H (arc (to_new e.from) (to_new e.to) e.shift)
   edge_there e i = elim (spelling_is (is_forward (to_new e.from) (to_new e.to) e.shift.x e.shift.y e.shift.z) (to_new e.from) (to_new e.to) e.shift) [
-    | inl q ↦ edge_is_arc H (arc (to_new e.from) (to_new e.to) e.shift) (contains_from_in H.edges (arc (to_new e.from) (to_new e.to) e.shift) (subst (λ (a : Arc). IsIn H.edges a) q (there_edge e i)))
+    | inl q ↦ edge_is_arc H (arc (to_new e.from) (to_new e.to) e.shift)
+        (contains_from_in H.edges (arc (to_new e.from) (to_new e.to) e.shift) (subst (λ (a : Arc). IsIn H.edges a) q (there_edge e i)))
     | inr q ↦
         reverse_is_arc H (arc (to_new e.from) (to_new e.to) e.shift)
         (contains_from_in H.edges (reverse_of (arc (to_new e.from) (to_new e.to) e.shift)) (subst (λ (a : Arc). IsIn H.edges a) q (there_edge e i)))
@@ -115,10 +118,20 @@ module _ (G H : Graph) (done : List Arc) (rows : AreRowEdges G.dimension G.verti
   vertex_back x v = record { over = old_vertex x.over v.over; cell = subst (λ (d : ℕ). HasDimension d x.cell) (sym dimension) v.cell }
 
   there_period : IsPeriodic G H there 1 unit_base
-  there_period = record { positive = omega arith; into = vertex_there; repeats = λ w k v f. ap (λ (s : Vector). vertex (to_new w.over) (plus w.cell s)) (unit_sum k) }
+  there_period = record {
+    positive = omega arith;
+    into = vertex_there;
+    repeats =
+        λ w k v f. ap (λ (s : Vector). vertex (to_new w.over) (plus w.cell s)) (unit_sum k);
+  }
 
   back_period : IsPeriodic H G back 1 unit_base
-  back_period = record { positive = omega arith; into = vertex_back; repeats = λ x k v f. ap (λ (s : Vector). vertex (to_old x.over) (plus x.cell s)) (unit_sum k) }
+  back_period = record {
+    positive = omega arith;
+    into = vertex_back;
+    repeats =
+        λ x k v f. ap (λ (s : Vector). vertex (to_old x.over) (plus x.cell s)) (unit_sum k);
+  }
 
   -- so the two are isomorphic
   pub renumbered_iso : Iso G H

@@ -23,9 +23,12 @@ old_edge : (order : List ℕ) (e : Arc) → IsIn order e.from → IsIn order e.t
 old_edge order e i j =
     let from = old_number order e.from i in
     let to = old_number order e.to j in
-    elim (spelling_is (is_forward (new_number order e.from) (new_number order e.to) e.shift.x e.shift.y e.shift.z) (new_number order e.from) (new_number order e.to) e.shift) [
+    elim (spelling_is (is_forward (new_number order e.from) (new_number order e.to) e.shift.x e.shift.y e.shift.z) (new_number order e.from)
+    (new_number order e.to) e.shift) [
       | inl q ↦ inl (ap (old_arc order) q ∙ (λ t. arc (from t) (to t) e.shift))
-      | inr q ↦ inr (ap (old_arc order) q ∙ ap reverse_of (let p : arc (get_or order (new_number order e.from - 1) 0) (get_or order (new_number order e.to - 1) 0) e.shift ≡ e = λ t. arc (from t) (to t) e.shift in p))
+      | inr q ↦ inr (ap (old_arc order) q
+          ∙ ap reverse_of (let p : arc (get_or order (new_number order e.from - 1) 0) (get_or order (new_number order e.to - 1) 0) e.shift ≡ e =
+          λ t. arc (from t) (to t) e.shift in p))
     ]
 
 -- edges in normal spelling with the same new numbers are one

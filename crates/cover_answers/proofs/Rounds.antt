@@ -39,13 +39,15 @@ all_named blocks covers = []
 
 module _ (cell : CellView) where
   -- the cover of a block may be printed
-  printed : (file : List ℕ) (block : BlockView) (C : Graph) (body : BodyView) → Contains (blocks_of file) block → block.body ≡ body → IsCoverOf cell body C → MayBePrinted (named_graph block.name C)
+  printed : (file : List ℕ) (block : BlockView) (C : Graph) (body : BodyView) → Contains (blocks_of file) block → block.body ≡ body → IsCoverOf cell body C
+      → MayBePrinted (named_graph block.name C)
   printed file block C (Net raw) there is c =
       covers_may_be_printed file block raw c.graph C there is c.read.in_order c.read.is_graph c.is_cover.iso c.is_cover.cover.is_graph c.is_cover.small
   printed file block C (Other token) there is c = absurd c
   printed file block C (Faulty fault) there is c = absurd c
 
-  all_printed : (file : List ℕ) (blocks : List BlockView) (covers : List Graph) → ((block : BlockView) → IsIn blocks block → Contains (blocks_of file) block) → AreCoversOf cell blocks covers
+  all_printed : (file : List ℕ) (blocks : List BlockView) (covers : List Graph) → ((block : BlockView) → IsIn blocks block → Contains (blocks_of file) block)
+      → AreCoversOf cell blocks covers
       → AllByRecursion MayBePrinted (all_named blocks covers)
   all_printed file [] covers there c = tt
   all_printed file (block ∷ blocks) [] there c = tt
@@ -53,7 +55,8 @@ module _ (cell : CellView) where
       (printed file block C block.body (there block (inl refl)) refl c.0, all_printed file blocks covers (λ b i. there b (inr i)) c.1)
 
   -- what is read of the cover of a net
-  net_back : (block back : BlockView) (C : Graph) (given : RawView) → block.body ≡ Net given → IsCoverOfNet cell given C → IsFlatBlock back → IsReadBack (named_graph block.name C) back
+  net_back : (block back : BlockView) (C : Graph) (given : RawView) → block.body ≡ Net given → IsCoverOfNet cell given C → IsFlatBlock back
+      → IsReadBack (named_graph block.name C) back
       → IsReadAsCover cell block back
   net_back block back C given is c h r =
       let G = c.graph in
@@ -78,7 +81,8 @@ module _ (cell : CellView) where
         repeats = r.repeats;
       }
 
-  block_back : (block back : BlockView) (C : Graph) (body : BodyView) → block.body ≡ body → IsCoverOf cell body C → IsFlatBlock back → IsReadBack (named_graph block.name C) back → IsReadAsCover cell block back
+  block_back : (block back : BlockView) (C : Graph) (body : BodyView) → block.body ≡ body → IsCoverOf cell body C → IsFlatBlock back
+      → IsReadBack (named_graph block.name C) back → IsReadAsCover cell block back
   block_back block back C (Net given) is c h r = net_back block back C given is c h r
   block_back block back C (Other token) is c h r = absurd c
   block_back block back C (Faulty fault) is c h r = absurd c
@@ -103,6 +107,8 @@ pub covers_are_read_back : CoversAreReadBack
 covers_are_read_back cell file text c =
     let blocks = blocks_of file in
     let same = c.text_is ∙ texts_same blocks c.covers in
-    let may = All-from_recursion MayBePrinted (all_named blocks c.covers) (all_printed cell file blocks c.covers (λ b i. contains_from_in blocks b i) c.are_covers) in
-    let back = subst (λ (t : List ℕ). AreReadBack (all_named blocks c.covers) (blocks_of t)) (sym same) (blocks_are_read_back (all_named blocks c.covers) may) in
+    let may = All-from_recursion MayBePrinted (all_named blocks c.covers)
+    (all_printed cell file blocks c.covers (λ b i. contains_from_in blocks b i) c.are_covers) in
+    let back = subst (λ (t : List ℕ). AreReadBack (all_named blocks c.covers) (blocks_of t)) (sym same)
+    (blocks_are_read_back (all_named blocks c.covers) may) in
     all_back cell blocks c.covers (blocks_of text) c.are_covers (blocks_flat text) back

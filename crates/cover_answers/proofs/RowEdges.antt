@@ -91,7 +91,8 @@ each_between (row ∷ rows) e i = by (each_between rows e)
           | inr q ↦
               let u = vertex_number (vertices_of rows) row.u in
               let v = vertex_number (with_new bytes_eq (vertices_of rows) row.u) row.v in
-              let s = spelled_between (length (vertices_of (row ∷ rows))) (is_forward u v row.x row.y row.z) u v row.x row.y row.z (omega arith, omega (arith, a, m)) (omega arith, b) in
+              let s = spelled_between (length (vertices_of (row ∷ rows))) (is_forward u v row.x row.y row.z) u v row.x row.y row.z
+              (omega arith, omega (arith, a, m)) (omega arith, b) in
               subst (IsBetween (length (vertices_of (row ∷ rows)))) q (record { first = s.0; second = s.1; spelling = edge_spelled u v row.x row.y row.z })
         ]
 
@@ -109,7 +110,8 @@ spelled_flat true u v x y z h = h
 spelled_flat false u v x y z h = ap (λ (w : ℤ). pos 0 -ℤ w) h
 
 -- the same with one more row, which has as many fields
-pub flat_with : (rows : List FieldsView) (row : FieldsView) → IsFlat row → (has_rows rows ≡ true → row.size ≡ first_size rows) → AreFlatRows rows → AreFlatRows (row ∷ rows)
+pub flat_with : (rows : List FieldsView) (row : FieldsView) → IsFlat row → (has_rows rows ≡ true → row.size ≡ first_size rows) → AreFlatRows rows
+    → AreFlatRows (row ∷ rows)
 flat_with rows row flat same old e i four =
     let size : row.size ≡ 4 = sym (size_now rows row same) ∙ four in
     elim (tells_new same_edge edge_decides (edges_of rows) (row_edge (vertices_of rows) row) e i) [

@@ -32,17 +32,21 @@ meets_kept es e k h = record { edge = h.edge; is_edge = keeps same_edge edge_dec
 
 -- a spelled edge has both ends
 spelled_ends : (t : Bool) (u v : ℕ) (row : FieldsView)
-    → (((spelled t u v row.x row.y row.z).u ≡ u) ⊎ ((spelled t u v row.x row.y row.z).v ≡ u)) × (((spelled t u v row.x row.y row.z).u ≡ v) ⊎ ((spelled t u v row.x row.y row.z).v ≡ v))
+    → (((spelled t u v row.x row.y row.z).u ≡ u) ⊎ ((spelled t u v row.x row.y row.z).v ≡ u))
+    × (((spelled t u v row.x row.y row.z).u ≡ v) ⊎ ((spelled t u v row.x row.y row.z).v ≡ v))
 spelled_ends true u v row = (inl refl, inr refl)
 spelled_ends false u v row = (inr refl, inl refl)
 
 -- a list that has grown has the old places, and where it has a new one it is that of the new name
-grown_places : (names : List (List ℕ)) (name : List ℕ) (k : ℕ) → 1 ≤ k → k ≤ length (with_new bytes_eq names name) → (k ≤ length names) ⊎ (vertex_number names name ≡ k)
-grown_places names name = grown_is bytes_eq bytes_eq-Decides (λ (l : List (List ℕ)). (k : ℕ) → 1 ≤ k → k ≤ length l → (k ≤ length names) ⊎ (vertex_number names name ≡ k)) names name
+grown_places : (names : List (List ℕ)) (name : List ℕ) (k : ℕ) → 1 ≤ k → k ≤ length (with_new bytes_eq names name)
+    → (k ≤ length names) ⊎ (vertex_number names name ≡ k)
+grown_places names name = grown_is bytes_eq bytes_eq-Decides (λ (l : List (List ℕ)). (k : ℕ) → 1 ≤ k → k ≤ length l
+    → (k ≤ length names) ⊎ (vertex_number names name ≡ k)) names name
     (λ h k a b. inl b)
     (λ n k a b. by n k a b (cases_lt (length names) k))
   where
-    by : ¬ IsIn names name → (k : ℕ) → 1 ≤ k → k ≤ length (names ++ name ∷ []) → (length names < k) ⊎ (k ≤ length names) → (k ≤ length names) ⊎ (vertex_number names name ≡ k)
+    by : ¬ IsIn names name → (k : ℕ) → 1 ≤ k → k ≤ length (names ++ name ∷ []) → (length names < k) ⊎ (k ≤ length names)
+        → (k ≤ length names) ⊎ (vertex_number names name ≡ k)
     by n k a b (inr l) = inl l
     by n k a b (inl l) = inr (let p = place_none bytes_eq bytes_eq-Decides names name n in let q = length-append names (name ∷ []) in omega (arith, p, q, b, l))
 
@@ -72,7 +76,12 @@ in_map f (y ∷ ys) x (inr h) = inr (in_map f ys x h)
 pub read_ends : (rows : List FieldsView) (k : ℕ) → IsQuotientVertex (graph_of (net_of rows)) k → EndsAt (graph_of (net_of rows)) k
 read_ends rows k v =
     let m = rows_meet rows k v.0 v.1 in
-    record { edge = edge_of m.edge; is_edge = contains_from_in (map edge_of (edges_of rows)) (edge_of m.edge) (in_map edge_of (edges_of rows) m.edge m.is_edge); meets = m.meets }
+    record {
+      edge = edge_of m.edge;
+      is_edge = contains_from_in (map edge_of (edges_of rows)) (edge_of m.edge)
+          (in_map edge_of (edges_of rows) m.edge m.is_edge);
+      meets = m.meets;
+    }
 
 -- the same edges in another order have the same ends
 pub order_ends : (G H : Graph) → IsInOrder G H → ((u : ℕ) → IsQuotientVertex G u → EndsAt G u) → (u : ℕ) → IsQuotientVertex H u → EndsAt H u

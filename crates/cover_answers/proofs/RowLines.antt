@@ -1,5 +1,6 @@
 -- The rows of a printed graph, as lines.
-use Rattle.std.proofs.Common.{◌≡◌, ◌≢◌, ◌⊎◌, inl, inr, ℕ, ◌+◌, ◌≤◌, ◌==◌, ◌||◌, true, false, ℤ, pos, List, [], ◌∷◌, ◌++◌, Option, None, Some, refl, sym, ap, subst, ◌∙◌, arith, append_assoc}
+use Rattle.std.proofs.Common.{◌≡◌, ◌≢◌, ◌⊎◌, inl, inr, ℕ, ◌+◌, ◌≤◌, ◌==◌, ◌||◌, true, false, ℤ, pos, List, [], ◌∷◌, ◌++◌, Option, None, Some, refl, sym, ap}
+use Rattle.std.proofs.Common.{subst, ◌∙◌, arith, append_assoc}
 use Rattle.std.specs.Prelude.{is_none, unsigned_abs}
 use Rattle.std.specs.Fmt.{decimal, signed_decimal}
 use Rattle.std.proofs.lemmas.Bool.{cases_Bool, true≢false}
@@ -63,11 +64,22 @@ part_read : (x : ℤ) → unsigned_abs x ≤ most_shift → part_of (signed_deci
 part_read x l = number_read most_shift x (short_part x l) l
 
 short_flat : (n : ℕ) (e : Arc) → IsRowEdge 2 n e → AreShort (edge_numbers 2 e)
-short_flat n e h = (short_vertex e.from n h.from.1 h.few, (short_vertex e.to n h.to.1 h.few, (short_part e.shift.x h.small.0, (short_part e.shift.y h.small.1, tt))))
+short_flat n e h = (
+  short_vertex e.from n h.from.1 h.few,
+  (
+    short_vertex e.to n h.to.1 h.few,
+    (short_part e.shift.x h.small.0, (short_part e.shift.y h.small.1, tt)),
+  ),
+)
 
 short_space : (n : ℕ) (e : Arc) → IsRowEdge 3 n e → AreShort (edge_numbers 3 e)
-short_space n e h =
-    (short_vertex e.from n h.from.1 h.few, (short_vertex e.to n h.to.1 h.few, (short_part e.shift.x h.small.0, (short_part e.shift.y h.small.1, (short_part e.shift.z h.small.2, tt)))))
+short_space n e h = (
+  short_vertex e.from n h.from.1 h.few,
+  (
+    short_vertex e.to n h.to.1 h.few,
+    (short_part e.shift.x h.small.0, (short_part e.shift.y h.small.1, (short_part e.shift.z h.small.2, tt))),
+  ),
+)
 
 -- the line of the tokens of a row
 flat_line : (n : ℕ) (e : Arc) (at m : ℕ) → IsRowEdge 2 n e → line_of (tokens_of_line at m (list_text (edge_numbers 2 e))) ≡ row_line 2 e m ∷ []
@@ -84,7 +96,10 @@ flat_line n e at m h =
     z = sym (h.flat refl)
 
     by : Option ℤ → Option ℤ → ℤ → LineView
-    by p q r = record (row_line 2 e m) { fields = record (row_fields 2 e) { has_far_part = is_none p || (is_none q || false); x = part_or_zero p; y = part_or_zero q; z = r } }
+    by p q r = record (row_line 2 e m) {
+      fields = record (row_fields 2 e)
+          { has_far_part = is_none p || (is_none q || false); x = part_or_zero p; y = part_or_zero q; z = r };
+    }
 
 space_line : (n : ℕ) (e : Arc) (at m : ℕ) → IsRowEdge 3 n e → line_of (tokens_of_line at m (list_text (edge_numbers 3 e))) ≡ row_line 3 e m ∷ []
 space_line n e at m h =
@@ -100,7 +115,10 @@ space_line n e at m h =
     z = part_read e.shift.z h.small.2
 
     by : Option ℤ → Option ℤ → Option ℤ → LineView
-    by p q r = record (row_line 3 e m) { fields = record (row_fields 3 e) { has_far_part = is_none p || (is_none q || (is_none r || false)); x = part_or_zero p; y = part_or_zero q; z = part_or_zero r } }
+    by p q r = record (row_line 3 e m) {
+      fields = record (row_fields 3 e)
+          { has_far_part = is_none p || (is_none q || (is_none r || false)); x = part_or_zero p; y = part_or_zero q; z = part_or_zero r };
+    }
 
 -- a byte of a run is no line feed
 run_no_feed : (b : ℕ) → is_run_byte b ≡ true → (b == 10) ≡ false
@@ -113,7 +131,8 @@ pub number_no_feed : (x : ℤ) → IsShort x → HasNoFeed (signed_decimal x)
 number_no_feed x h =
     let n = number_bytes x h in
     subst HasNoFeed (sym n.is)
-    (All-cons (λ b. (b == 10) ≡ false) n.first n.others (run_no_feed n.first n.run) (All-weaker (λ b. is_run_byte b ≡ true) (λ b. (b == 10) ≡ false) run_no_feed n.others n.runs))
+    (All-cons (λ b. (b == 10) ≡ false) n.first n.others (run_no_feed n.first n.run)
+    (All-weaker (λ b. is_run_byte b ≡ true) (λ b. (b == 10) ≡ false) run_no_feed n.others n.runs))
 
 marked_no_feed : (xs : List ℤ) → AreShort xs → HasNoFeed (numbers_text xs)
 marked_no_feed [] h = All-nil (λ b. (b == 10) ≡ false)
@@ -125,19 +144,24 @@ pub list_no_feed : (x : ℤ) (xs : List ℤ) → AreShort (x ∷ xs) → HasNoFe
 list_no_feed x xs h = All-append (λ b. (b == 10) ≡ false) (signed_decimal x) (numbers_text xs) (number_no_feed x h.0) (marked_no_feed xs h.1)
 
 -- the line of an edge
-pub edge_read : (d n : ℕ) (e : Arc) (m : ℕ) (rest : List ℕ) → (d ≡ 2) ⊎ (d ≡ 3) → IsRowEdge d n e → HasLines m (edge_line d e ++ rest) (row_line d e m ∷ []) (m + 1) rest
+pub edge_read : (d n : ℕ) (e : Arc) (m : ℕ) (rest : List ℕ) → (d ≡ 2) ⊎ (d ≡ 3) → IsRowEdge d n e
+    → HasLines m (edge_line d e ++ rest) (row_line d e m ∷ []) (m + 1) rest
 edge_read d n e m rest dim h =
     subst (λ (text : List ℕ). HasLines m text (row_line d e m ∷ []) (m + 1) rest) (sym (append_assoc (list_text (edge_numbers d e)) (10 ∷ []) rest)) (by dim)
   where
     flat : IsRowEdge 2 n e → HasLines m (list_text (edge_numbers 2 e) ++ 10 ∷ rest) (row_line 2 e m ∷ []) (m + 1) rest
-    flat h = one_line m (list_text (edge_numbers 2 e)) rest (row_line 2 e m) (list_no_feed (pos e.from) (pos e.to ∷ e.shift.x ∷ e.shift.y ∷ []) (short_flat n e h)) (λ at. flat_line n e at m h)
+    flat h = one_line m (list_text (edge_numbers 2 e)) rest (row_line 2 e m)
+        (list_no_feed (pos e.from) (pos e.to ∷ e.shift.x ∷ e.shift.y ∷ []) (short_flat n e h)) (λ at. flat_line n e at m h)
 
     space : IsRowEdge 3 n e → HasLines m (list_text (edge_numbers 3 e) ++ 10 ∷ rest) (row_line 3 e m ∷ []) (m + 1) rest
-    space h = one_line m (list_text (edge_numbers 3 e)) rest (row_line 3 e m) (list_no_feed (pos e.from) (pos e.to ∷ e.shift.x ∷ e.shift.y ∷ e.shift.z ∷ []) (short_space n e h)) (λ at. space_line n e at m h)
+    space h = one_line m (list_text (edge_numbers 3 e)) rest (row_line 3 e m)
+        (list_no_feed (pos e.from) (pos e.to ∷ e.shift.x ∷ e.shift.y ∷ e.shift.z ∷ []) (short_space n e h)) (λ at. space_line n e at m h)
 
     by : (d ≡ 2) ⊎ (d ≡ 3) → HasLines m (list_text (edge_numbers d e) ++ 10 ∷ rest) (row_line d e m ∷ []) (m + 1) rest
-    by (inl two) = subst (λ (k : ℕ). HasLines m (list_text (edge_numbers k e) ++ 10 ∷ rest) (row_line k e m ∷ []) (m + 1) rest) (sym two) (flat (subst (λ (k : ℕ). IsRowEdge k n e) two h))
-    by (inr three) = subst (λ (k : ℕ). HasLines m (list_text (edge_numbers k e) ++ 10 ∷ rest) (row_line k e m ∷ []) (m + 1) rest) (sym three) (space (subst (λ (k : ℕ). IsRowEdge k n e) three h))
+    by (inl two) = subst (λ (k : ℕ). HasLines m (list_text (edge_numbers k e) ++ 10 ∷ rest) (row_line k e m ∷ []) (m + 1) rest) (sym two)
+        (flat (subst (λ (k : ℕ). IsRowEdge k n e) two h))
+    by (inr three) = subst (λ (k : ℕ). HasLines m (list_text (edge_numbers k e) ++ 10 ∷ rest) (row_line k e m ∷ []) (m + 1) rest) (sym three)
+        (space (subst (λ (k : ℕ). IsRowEdge k n e) three h))
 
 -- the lines of edges, the first of which has this number
 abbrev pub row_lines : ℕ → ℕ → List Arc → List LineView
@@ -149,9 +173,12 @@ abbrev pub after_rows : ℕ → List Arc → ℕ
 after_rows m [] = m
 after_rows m (e ∷ es) = after_rows (m + 1) es
 
-pub rows_read : (d n : ℕ) (es : List Arc) (m : ℕ) (rest : List ℕ) → (d ≡ 2) ⊎ (d ≡ 3) → AreRowEdges d n es → HasLines m (edge_lines d es ++ rest) (row_lines d m es) (after_rows m es) rest
+pub rows_read : (d n : ℕ) (es : List Arc) (m : ℕ) (rest : List ℕ) → (d ≡ 2) ⊎ (d ≡ 3) → AreRowEdges d n es
+    → HasLines m (edge_lines d es ++ rest) (row_lines d m es) (after_rows m es) rest
 rows_read d n [] m rest dim h = no_line m rest
 rows_read d n (e ∷ es) m rest dim h =
-    let more = more_lines m (m + 1) (after_rows (m + 1) es) (edge_line d e ++ (edge_lines d es ++ rest)) (edge_lines d es ++ rest) rest (row_line d e m ∷ []) (row_lines d (m + 1) es)
+    let more = more_lines m (m + 1) (after_rows (m + 1) es) (edge_line d e ++ (edge_lines d es ++ rest)) (edge_lines d es ++ rest) rest (row_line d e m ∷ [])
+    (row_lines d (m + 1) es)
     (edge_read d n e m (edge_lines d es ++ rest) dim h.0) (rows_read d n es (m + 1) rest dim h.1) in
-    subst (λ (text : List ℕ). HasLines m text (row_lines d m (e ∷ es)) (after_rows m (e ∷ es)) rest) (sym (append_assoc (edge_line d e) (edge_lines d es) rest)) more
+    subst (λ (text : List ℕ). HasLines m text (row_lines d m (e ∷ es)) (after_rows m (e ∷ es)) rest)
+    (sym (append_assoc (edge_line d e) (edge_lines d es) rest)) more

@@ -2,12 +2,13 @@
 use Rattle.std.proofs.Common.{◌≡◌, ℕ, ◌+◌, ◌==◌, not, Bool, true, false, cond, List, [], ◌∷◌, ◌++◌, length, Some, refl, sym, ap, ◌∙◌, append_assoc}
 use Rattle.std.specs.Prelude.{All}
 use Rattle.std.specs.List.{flat_map, list_all}
-use Rattle.std.proofs.lemmas.Bool.{and_parts, false≢true, not-true}
+use Rattle.std.proofs.lemmas.Bool.{and_parts, not-true}
 use Rattle.std.proofs.lemmas.List.Elements.{All-nil, All-cons, All-append}
 use Rattle.std.proofs.lemmas.List.Splits.{slice_split_at}
 use Rattle.cgd_lex.specs.Lines.{is_newline, filled_line, filled_lines}
 use Rattle.cgd_lex.specs.Pieces.{Piece, Blank, Comment, Closed, Unclosed, Control, Run, bytes_of, cut_of}
-use Rattle.cgd_lex.specs.Tokens.{TokenView, tokens_of_line, tokens_of_pieces, token_at, tokens_from, kind_of_piece, kind_of_run, is_whole, newline, later_lines, first_of, others_of}
+use Rattle.cgd_lex.specs.Tokens.{TokenView, tokens_of_line, tokens_of_pieces, token_at, tokens_from, kind_of_piece, kind_of_run, is_whole, newline, later_lines}
+use Rattle.cgd_lex.specs.Tokens.{first_of, others_of}
 use Rattle.cgd_lex.specs.declared.token.TokenKind.{TokenKind}
 use Rattle.cgd_lex.specs.declared.token.TokenKind.TheVariants.{Word, Whole, Quoted, Bad}
 use Rattle.cgd_lex.proofs.Steps.{split_some}
@@ -46,7 +47,8 @@ piece_in_line at line (Run b bs) = one_in_line at line (bytes_of (Run b bs)) (ki
 all_in_line : (at line : ℕ) (ps : List Piece) → All IsInLine (tokens_of_pieces at line ps)
 all_in_line at line [] = All-nil IsInLine
 all_in_line at line (p ∷ ps) =
-    All-append IsInLine (token_at at line (bytes_of p) (kind_of_piece p)) (tokens_of_pieces (at + length (bytes_of p)) line ps) (piece_in_line at line p) (all_in_line (at + length (bytes_of p)) line ps)
+    All-append IsInLine (token_at at line (bytes_of p) (kind_of_piece p)) (tokens_of_pieces (at + length (bytes_of p)) line ps) (piece_in_line at line p)
+    (all_in_line (at + length (bytes_of p)) line ps)
 
 -- the tokens of a line, its Newline, and the tokens of the rest
 abbrev from_lines : ℕ → ℕ → List (List ℕ) → List TokenView
@@ -59,8 +61,10 @@ line_tokens at n bytes rest h =
     ∙ ap (λ (ls : List (List ℕ)). tokens_of_line at n bytes ++ later_lines (at + length bytes) n ls) (split_some rest)
 
 -- the line of tokens before a Newline, and the lines of those after it
-before_newline : (ts us : List TokenView) (t : TokenView) → All IsInLine ts → is_newline t.kind ≡ true → token_lines (ts ++ t ∷ us) ≡ line_of ts ++ token_lines us
-before_newline ts us t h e = ap (λ (ls : List (List TokenView)). flat_map line_of (flat_map filled_line ls)) (slice_split_at (λ (t : TokenView). is_newline t.kind) ts t us h e) ∙ by ts
+before_newline : (ts us : List TokenView) (t : TokenView) → All IsInLine ts → is_newline t.kind ≡ true
+    → token_lines (ts ++ t ∷ us) ≡ line_of ts ++ token_lines us
+before_newline ts us t h e = ap (λ (ls : List (List TokenView)). flat_map line_of (flat_map filled_line ls))
+    (slice_split_at (λ (t : TokenView). is_newline t.kind) ts t us h e) ∙ by ts
   where
     by : (ts : List TokenView) → flat_map line_of (filled_line ts ++ filled_lines us) ≡ line_of ts ++ token_lines us
     by [] = refl
@@ -82,7 +86,8 @@ one_line n bytes rest line h e = record {
   place = λ at. at + length bytes + 1;
   is = λ at.
       ap token_lines (line_tokens at n bytes rest h)
-      ∙ before_newline (tokens_of_line at n bytes) (tokens_from (at + length bytes + 1) (n + 1) rest) (newline (at + length bytes) n) (all_in_line at n (cut_of bytes)) refl
+      ∙ before_newline (tokens_of_line at n bytes) (tokens_from (at + length bytes + 1) (n + 1) rest) (newline (at + length bytes) n)
+      (all_in_line at n (cut_of bytes)) refl
       ∙ ap (λ (ls : List LineView). ls ++ lines_at (at + length bytes + 1) (n + 1) rest) (e at);
 }
 

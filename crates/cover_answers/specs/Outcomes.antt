@@ -58,7 +58,8 @@ pub record IsOutcomeOf (cell : CellView) (number : ℕ) (block : BlockView) (cov
 -- one outcome for each block, with the blocks numbered from this number on, and whether each of them is covered
 abbrev pub AreOutcomesFrom : CellView → ℕ → List BlockView → List Bool → List Outcome → Type 0
 AreOutcomesFrom cell number [] [] [] = Unit {0}
-AreOutcomesFrom cell number (block ∷ blocks) (covered ∷ each) (o ∷ os) = IsOutcomeOf cell number block covered o × AreOutcomesFrom cell (number + 1) blocks each os
+AreOutcomesFrom cell number (block ∷ blocks) (covered ∷ each) (o ∷ os) = IsOutcomeOf cell number block covered o
+    × AreOutcomesFrom cell (number + 1) blocks each os
 AreOutcomesFrom cell number blocks each os = ⊥
 
 -- whether all of them are covered

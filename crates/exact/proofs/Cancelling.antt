@@ -1,6 +1,6 @@
 -- What can be cancelled modulo m: the denominators of the number types, and the numerators of what has an inverse.
-use Rattle.std.proofs.Common.{◌≡◌, ◌≢◌, ◌⊎◌, inl, inr, ℕ, zero, suc, arith, ◌*◌, ◌≤◌, ap, sym, refl, subst, ◌∙◌, ⊎_elim}
-use Rattle.std.specs.Prelude.{ℤ, pos, negsuc, ◌+ℤ◌, ◌*ℤ◌, neg_ℤ, unsigned_abs}
+use Rattle.std.proofs.Common.{◌≡◌, ◌≢◌, ◌⊎◌, ℕ, zero, suc, arith, ◌*◌, ◌≤◌, ap, sym, refl, subst, ◌∙◌, ⊎_elim}
+use Rattle.std.specs.Prelude.{ℤ, pos, ◌+ℤ◌, ◌*ℤ◌, neg_ℤ, unsigned_abs}
 use Rattle.std.specs.Int.{IsGcd}
 use Rattle.std.proofs.lemmas.Nat.Gcd.{same_from_IsGcd}
 use Rattle.std.proofs.lemmas.Bool.{cases_eq}
@@ -19,8 +19,7 @@ abbrev IsSigned : ℤ → ℕ → Type 0
 IsSigned z n = (z ≡ pos n) ⊎ (z ≡ neg_ℤ (pos n))
 
 signed : (z : ℤ) → IsSigned z (unsigned_abs z)
-signed (pos n) = inl refl
-signed (negsuc n) = inr refl
+signed z = search arith
 
 -- a number coprime to m can be cancelled
 coprime_step : (m d z k s t : ℤ) → d *ℤ z ≡ m *ℤ k → pos 1 ≡ s *ℤ d +ℤ t *ℤ m → z ≡ m *ℤ (k *ℤ s +ℤ t *ℤ z)
@@ -73,8 +72,7 @@ common_is_one g k l n h = by (cancel h (pos l) (pos k, exchange (pos g) (pos k) 
     exchange g k l = simp ring refl
 
     positive : (l : ℕ) → g * l ≢ 0 → 1 ≤ l
-    positive zero n = absurd (n (omega arith))
-    positive (suc l) n = omega arith
+    positive l h = search arith
 
     by : DividesInteger (g * l) (pos l) → g ≡ 1
     by d = let m = natural_multiple (g * l) l d.0 d.1 in only_one l g m.0 (positive l n) (m.1 ∙ ap (λ t. t * m.0) (mul_comm g l))
@@ -109,7 +107,8 @@ cancelled_has_inverse {m} {a} h = record {
 
 -- what can be cancelled modulo something other than 1 is no 0
 positive_from : (m d : ℕ) → m ≢ 1 → CanCancel m (pos d) → 1 ≤ d
-positive_from m zero n h = let d = cancel h (pos 1) (pos 0, zeros (pos m)) in let k = natural_multiple m 1 d.0 d.1 in absurd (n (only_one 1 m k.0 (omega arith) (k.1 ∙ ap (λ t. t * k.0) (sym (one m)))))
+positive_from m zero n h = let d = cancel h (pos 1) (pos 0, zeros (pos m)) in let k = natural_multiple m 1 d.0 d.1 in
+    absurd (n (only_one 1 m k.0 (omega arith) (k.1 ∙ ap (λ t. t * k.0) (sym (one m)))))
   where
     zeros : (m : ℤ) → pos 0 *ℤ pos 1 ≡ m *ℤ pos 0
     zeros m = simp ring refl

@@ -48,8 +48,7 @@ difference_step x y k e = let p = simp ring at e in omega (arith, linear, p)
 
 -- equal values have equal cross products
 pub crossed : (p q : Ratio) → Same 0 p q → p.num *ℤ pos q.den ≡ q.num *ℤ pos p.den
-crossed p q s =
-    difference_step (p.num *ℤ pos q.den) (q.num *ℤ pos p.den) (difference_multiple s).0 (difference_multiple s).1
+crossed p q s = search (arith, difference_step, difference_multiple)
 
 -- equal cross products have equal absolute values
 pub sizes_crossed : (x y : ℤ) (a b : ℕ) → x *ℤ pos b ≡ y *ℤ pos a → unsigned_abs x * b ≡ unsigned_abs y * a

@@ -9,7 +9,8 @@ use Rattle.exact.proofs.WholeMultiples.{same_of, difference_multiple, cancels_of
 use Rattle.exact.proofs.Values.{product_cancels}
 use Rattle.exact.proofs.Cancelling.{inverse_cancels, cancelled_has_inverse, opposite_cancels}
 
-over_step : (m rn rd on od sn sd an ad bn bd k l j : ℤ) → (rn *ℤ on) *ℤ sd -ℤ sn *ℤ (rd *ℤ od) ≡ m *ℤ k → sn *ℤ bd -ℤ bn *ℤ sd ≡ m *ℤ l → on *ℤ ad -ℤ an *ℤ od ≡ m *ℤ j
+over_step : (m rn rd on od sn sd an ad bn bd k l j : ℤ) → (rn *ℤ on) *ℤ sd -ℤ sn *ℤ (rd *ℤ od) ≡ m *ℤ k → sn *ℤ bd -ℤ bn *ℤ sd ≡ m *ℤ l
+    → on *ℤ ad -ℤ an *ℤ od ≡ m *ℤ j
     → (od *ℤ sd) *ℤ (rn *ℤ (bd *ℤ an) -ℤ (bn *ℤ ad) *ℤ rd) ≡ m *ℤ ((k *ℤ (bd *ℤ ad) +ℤ l *ℤ (ad *ℤ (rd *ℤ od))) -ℤ j *ℤ (rn *ℤ (bd *ℤ sd)))
 over_step m rn rd on od sn sd an ad bn bd k l j e f h =
     let p = ap (λ t. t *ℤ (bd *ℤ ad)) e in
@@ -17,7 +18,8 @@ over_step m rn rd on od sn sd an ad bn bd k l j e f h =
     let r = ap (λ t. t *ℤ (rn *ℤ (bd *ℤ sd))) h in
     simp ring (omega (arith, linear, simp ring at p, simp ring at q, simp ring at r))
 
-over_step_neg : (m rn rd on od sn sd an ad bn bd k l j : ℤ) → (rn *ℤ on) *ℤ sd -ℤ sn *ℤ (rd *ℤ od) ≡ m *ℤ k → sn *ℤ bd -ℤ bn *ℤ sd ≡ m *ℤ l → on *ℤ ad -ℤ an *ℤ od ≡ m *ℤ j
+over_step_neg : (m rn rd on od sn sd an ad bn bd k l j : ℤ) → (rn *ℤ on) *ℤ sd -ℤ sn *ℤ (rd *ℤ od) ≡ m *ℤ k → sn *ℤ bd -ℤ bn *ℤ sd ≡ m *ℤ l
+    → on *ℤ ad -ℤ an *ℤ od ≡ m *ℤ j
     → (od *ℤ sd) *ℤ (rn *ℤ (bd *ℤ neg_ℤ an) -ℤ (bn *ℤ neg_ℤ ad) *ℤ rd) ≡ m *ℤ (j *ℤ (rn *ℤ (bd *ℤ sd)) -ℤ (k *ℤ (bd *ℤ ad) +ℤ l *ℤ (ad *ℤ (rd *ℤ od))))
 over_step_neg m rn rd on od sn sd an ad bn bd k l j e f h =
     let p = ap (λ t. t *ℤ (bd *ℤ ad)) e in
@@ -26,14 +28,23 @@ over_step_neg m rn rd on od sn sd an ad bn bd k l j e f h =
     simp ring (omega (arith, linear, simp ring at p, simp ring at q, simp ring at r))
 
 -- r times o is s, so r is like the quotient of what s and o are like
-pub over_same : {m : ℕ} (r o s : Ratio) (an : ℤ) (ad : ℕ) (b : Ratio) → CanCancel m (pos o.den) → CanCancel m (pos s.den) → Same m (ratio_times r o) s → Same m o (record { num = an; den = ad }) → Same m s b → Same m r (ratio_times b (inverse_of an ad))
+pub over_same : {m : ℕ} (r o s : Ratio) (an : ℤ) (ad : ℕ) (b : Ratio) → CanCancel m (pos o.den) → CanCancel m (pos s.den) → Same m (ratio_times r o) s
+    → Same m o (record { num = an; den = ad }) → Same m s b → Same m r (ratio_times b (inverse_of an ad))
 unfolding ratio_times
 over_same {m} r o s (pos n) ad b x y e f g =
     let h = difference_multiple e in let i = difference_multiple f in let j = difference_multiple g in
-    same_of (cancel (product_cancels x y) _ (_, over_step (pos m) r.num (pos r.den) o.num (pos o.den) s.num (pos s.den) (pos n) (pos ad) b.num (pos b.den) h.0 j.0 i.0 h.1 j.1 i.1))
+    same_of (cancel (product_cancels x y) _ (
+      _,
+      over_step (pos m) r.num (pos r.den) o.num (pos o.den) s.num (pos s.den) (pos n) (pos ad) b.num
+          (pos b.den) h.0 j.0 i.0 h.1 j.1 i.1,
+    ))
 over_same {m} r o s (negsuc n) ad b x y e f g =
     let h = difference_multiple e in let i = difference_multiple f in let j = difference_multiple g in
-    same_of (cancel (product_cancels x y) _ (_, over_step_neg (pos m) r.num (pos r.den) o.num (pos o.den) s.num (pos s.den) (negsuc n) (pos ad) b.num (pos b.den) h.0 j.0 i.0 h.1 j.1 i.1))
+    same_of (cancel (product_cancels x y) _ (
+      _,
+      over_step_neg (pos m) r.num (pos r.den) o.num (pos o.den) s.num (pos s.den) (negsuc n) (pos ad) b.num
+          (pos b.den) h.0 j.0 i.0 h.1 j.1 i.1,
+    ))
 
 move_step : (m on od an ad z j t : ℤ) → on *ℤ ad -ℤ an *ℤ od ≡ m *ℤ j → an *ℤ z ≡ m *ℤ t → on *ℤ (ad *ℤ z) ≡ m *ℤ (j *ℤ z +ℤ t *ℤ od)
 move_step m on od an ad z j t e f =
@@ -44,7 +55,8 @@ move_step m on od an ad z j t e f =
 -- what has the value of something with an inverse has one
 pub inverse_same : {m : ℕ} {a b : Ratio} → Same m a b → CanCancel m (pos b.den) → HasInverse m a → HasInverse m b
 inverse_same {m} {a} {b} s r h = let i = difference_multiple s in let n = inverse_cancels h in
-    cancelled_has_inverse (cancels_of (λ z d. cancel r z (cancel n (pos b.den *ℤ z) (_, move_step (pos m) a.num (pos a.den) b.num (pos b.den) z i.0 d.0 i.1 d.1))))
+    cancelled_has_inverse (cancels_of
+    (λ z d. cancel r z (cancel n (pos b.den *ℤ z) (_, move_step (pos m) a.num (pos a.den) b.num (pos b.den) z i.0 d.0 i.1 d.1))))
 
 -- the denominator of an inverse is a numerator
 numerator_cancels : {m : ℕ} (an : ℤ) (ad : ℕ) → CanCancel m an → CanCancel m (pos (inverse_of an ad).den)
@@ -58,9 +70,10 @@ pub over_cancels : {m : ℕ} (a b : Ratio) → CanCancel m (pos a.den) → HasIn
 unfolding ratio_over ratio_times
 over_cancels a b x h = product_cancels x (inverse_denominator_cancels b.num b.den h)
 
-pub over_like : {m : ℕ} (r o s : Ratio) (a b : Ratio) → CanCancel m (pos o.den) → CanCancel m (pos s.den) → Same m (ratio_times r o) s → HasInverse m o → HasValue m s a → HasValue m o b → HasValue m r (ratio_over a b)
+pub over_like : {m : ℕ} (r o s : Ratio) (a b : Ratio) → CanCancel m (pos o.den) → CanCancel m (pos s.den) → Same m (ratio_times r o) s → HasInverse m o
+    → HasValue m s a → HasValue m o b → HasValue m r (ratio_over a b)
 unfolding ratio_over
-over_like r o s a b x y e h i j = record { same = over_same r o s b.num b.den a x y e j.same i.same; denominator = over_cancels a b i.denominator (inverse_same j.same j.denominator h) }
+over_like r o s a b x y e h i j = grind (arith, over_same, over_cancels, inverse_same)
 
 -- quotients of the same values are the same
 both_step : (m sn sd on od an ad bn bd k l : ℤ) → sn *ℤ ad -ℤ an *ℤ sd ≡ m *ℤ k → on *ℤ bd -ℤ bn *ℤ od ≡ m *ℤ l
@@ -91,12 +104,17 @@ neg_both_step m sn sd on od an ad bn bd k l e f =
     let q = ap (λ t. t *ℤ (an *ℤ sd)) f in
     simp ring (omega (arith, linear, simp ring at p, simp ring at q))
 
-quotients : {m : ℕ} (s a : Ratio) (on : ℤ) (od : ℕ) (bn : ℤ) (bd : ℕ) → Same m s a → Same m (record { num = on; den = od }) (record { num = bn; den = bd }) → Same m (ratio_times s (inverse_of on od)) (ratio_times a (inverse_of bn bd))
+quotients : {m : ℕ} (s a : Ratio) (on : ℤ) (od : ℕ) (bn : ℤ) (bd : ℕ) → Same m s a → Same m (record { num = on; den = od }) (record { num = bn; den = bd })
+    → Same m (ratio_times s (inverse_of on od)) (ratio_times a (inverse_of bn bd))
 unfolding ratio_times
-quotients {m} s a (pos x) od (pos y) bd e f = let h = difference_multiple e in let i = difference_multiple f in same_of (_, both_step (pos m) s.num (pos s.den) (pos x) (pos od) a.num (pos a.den) (pos y) (pos bd) h.0 i.0 h.1 i.1)
-quotients {m} s a (pos x) od (negsuc y) bd e f = let h = difference_multiple e in let i = difference_multiple f in same_of (_, both_step_neg (pos m) s.num (pos s.den) (pos x) (pos od) a.num (pos a.den) (negsuc y) (pos bd) h.0 i.0 h.1 i.1)
-quotients {m} s a (negsuc x) od (pos y) bd e f = let h = difference_multiple e in let i = difference_multiple f in same_of (_, neg_left_step (pos m) s.num (pos s.den) (negsuc x) (pos od) a.num (pos a.den) (pos y) (pos bd) h.0 i.0 h.1 i.1)
-quotients {m} s a (negsuc x) od (negsuc y) bd e f = let h = difference_multiple e in let i = difference_multiple f in same_of (_, neg_both_step (pos m) s.num (pos s.den) (negsuc x) (pos od) a.num (pos a.den) (negsuc y) (pos bd) h.0 i.0 h.1 i.1)
+quotients {m} s a (pos x) od (pos y) bd e f = let h = difference_multiple e in let i = difference_multiple f in
+    same_of (_, both_step (pos m) s.num (pos s.den) (pos x) (pos od) a.num (pos a.den) (pos y) (pos bd) h.0 i.0 h.1 i.1)
+quotients {m} s a (pos x) od (negsuc y) bd e f = let h = difference_multiple e in let i = difference_multiple f in
+    same_of (_, both_step_neg (pos m) s.num (pos s.den) (pos x) (pos od) a.num (pos a.den) (negsuc y) (pos bd) h.0 i.0 h.1 i.1)
+quotients {m} s a (negsuc x) od (pos y) bd e f = let h = difference_multiple e in let i = difference_multiple f in
+    same_of (_, neg_left_step (pos m) s.num (pos s.den) (negsuc x) (pos od) a.num (pos a.den) (pos y) (pos bd) h.0 i.0 h.1 i.1)
+quotients {m} s a (negsuc x) od (negsuc y) bd e f = let h = difference_multiple e in let i = difference_multiple f in
+    same_of (_, neg_both_step (pos m) s.num (pos s.den) (negsuc x) (pos od) a.num (pos a.den) (negsuc y) (pos bd) h.0 i.0 h.1 i.1)
 
 pub over_both : {m : ℕ} (s o a b : Ratio) → Same m s a → Same m o b → Same m (ratio_over s o) (ratio_over a b)
 unfolding ratio_over

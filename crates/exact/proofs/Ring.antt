@@ -48,20 +48,25 @@ module _ (m : ℕ) where
   -- an operation that gives equal results of equal numbers, as one on values
   abbrev pub lifted : (f : Exact → Exact → Exact) → ((a b a' b' : Exact) → same a a' → same b b' → same (f a b) (f a' b')) → Value → Value → Value
   unfolding same
-  lifted f keeps = Quotient.lift₂ by_value by_value value-set (λ a b. Quotient.mk by_value (f a b)) (λ a b a' b' s t. Quotient.sound by_value (keeps a b a' b' s t))
+  lifted f keeps = Quotient.lift₂ by_value by_value value-set (λ a b. Quotient.mk by_value (f a b))
+      (λ a b a' b' s t. Quotient.sound by_value (keeps a b a' b' s t))
 
   -- it commutes where the one on numbers does
-  lifted_comm : (f : Exact → Exact → Exact) (keeps : (a b a' b' : Exact) → same a a' → same b b' → same (f a b) (f a' b')) → ((a b : Exact) → same (f a b) (f b a))
+  lifted_comm : (f : Exact → Exact → Exact) (keeps : (a b a' b' : Exact) → same a a' → same b b' → same (f a b) (f a' b'))
+      → ((a b : Exact) → same (f a b) (f b a))
       → (x y : Value) → lifted f keeps x y ≡ lifted f keeps y x
   unfolding same Quotient.lift₂
-  lifted_comm f keeps turned = Quotient.ind₂ by_value by_value (λ q r. value-set (lifted f keeps q r) (lifted f keeps r q)) (λ a b. Quotient.sound by_value (turned a b))
+  lifted_comm f keeps turned = Quotient.ind₂ by_value by_value (λ q r. value-set (lifted f keeps q r) (lifted f keeps r q))
+      (λ a b. Quotient.sound by_value (turned a b))
 
   -- and is associative where that one is
-  lifted_assoc : (f : Exact → Exact → Exact) (keeps : (a b a' b' : Exact) → same a a' → same b b' → same (f a b) (f a' b')) → ((a b c : Exact) → same (f (f a b) c) (f a (f b c)))
+  lifted_assoc : (f : Exact → Exact → Exact) (keeps : (a b a' b' : Exact) → same a a' → same b b' → same (f a b) (f a' b'))
+      → ((a b c : Exact) → same (f (f a b) c) (f a (f b c)))
       → (x y z : Value) → lifted f keeps (lifted f keeps x y) z ≡ lifted f keeps x (lifted f keeps y z)
   unfolding same Quotient.lift₂
   lifted_assoc f keeps grouped x y z =
-      Quotient.induction_on₃ by_value by_value by_value (λ q r s. value-set (lifted f keeps (lifted f keeps q r) s) (lifted f keeps q (lifted f keeps r s))) x y z
+      Quotient.induction_on₃ by_value by_value by_value (λ q r s. value-set (lifted f keeps (lifted f keeps q r) s) (lifted f keeps q (lifted f keeps r s))) x
+      y z
       (λ a b c. Quotient.sound by_value (grouped a b c))
 
   -- equal numbers have equal sums
@@ -100,27 +105,33 @@ module _ (m : ℕ) where
   unfolding plus_value same plus_exact
   plus_value_comm = lifted_comm plus_exact plus_keeps (λ a b. ∣ comm_formal a.ratio b.ratio ∣₁)
 
-  assoc_step : (an ad bn bd cn cd : ℤ) → ((an *ℤ bd +ℤ bn *ℤ ad) *ℤ cd +ℤ cn *ℤ (ad *ℤ bd)) *ℤ (ad *ℤ (bd *ℤ cd)) ≡ (an *ℤ (bd *ℤ cd) +ℤ (bn *ℤ cd +ℤ cn *ℤ bd) *ℤ ad) *ℤ ((ad *ℤ bd) *ℤ cd)
+  assoc_step : (an ad bn bd cn cd : ℤ) → ((an *ℤ bd +ℤ bn *ℤ ad) *ℤ cd +ℤ cn *ℤ (ad *ℤ bd)) *ℤ (ad *ℤ (bd *ℤ cd)) ≡
+      (an *ℤ (bd *ℤ cd) +ℤ (bn *ℤ cd +ℤ cn *ℤ bd) *ℤ ad) *ℤ ((ad *ℤ bd) *ℤ cd)
   assoc_step an ad bn bd cn cd = simp ring (omega (arith, linear))
 
   assoc_formal : (a b c : Ratio) → Same m (ratio_plus (ratio_plus a b) c) (ratio_plus a (ratio_plus b c))
   unfolding ratio_plus
-  assoc_formal a b c = formal _ _ _ _ (ratio_plus (ratio_plus a b) c) (ratio_plus a (ratio_plus b c)) refl refl refl refl (assoc_step a.num (pos a.den) b.num (pos b.den) c.num (pos c.den))
+  assoc_formal a b c = formal _ _ _ _ (ratio_plus (ratio_plus a b) c) (ratio_plus a (ratio_plus b c)) refl refl refl refl
+      (assoc_step a.num (pos a.den) b.num (pos b.den) c.num (pos c.den))
 
   pub plus_value_assoc : (a b c : Value) → plus_value (plus_value a b) c ≡ plus_value a (plus_value b c)
   unfolding plus_value same plus_exact
   plus_value_assoc = lifted_assoc plus_exact plus_keeps (λ a b c. ∣ assoc_formal a.ratio b.ratio c.ratio ∣₁)
 
-  times_plus_step : (an ad bn bd cn cd : ℤ) → (an *ℤ (bn *ℤ cd +ℤ cn *ℤ bd)) *ℤ ((ad *ℤ bd) *ℤ (ad *ℤ cd)) ≡ ((an *ℤ bn) *ℤ (ad *ℤ cd) +ℤ (an *ℤ cn) *ℤ (ad *ℤ bd)) *ℤ (ad *ℤ (bd *ℤ cd))
+  times_plus_step : (an ad bn bd cn cd : ℤ) → (an *ℤ (bn *ℤ cd +ℤ cn *ℤ bd)) *ℤ ((ad *ℤ bd) *ℤ (ad *ℤ cd)) ≡
+      ((an *ℤ bn) *ℤ (ad *ℤ cd) +ℤ (an *ℤ cn) *ℤ (ad *ℤ bd)) *ℤ (ad *ℤ (bd *ℤ cd))
   times_plus_step an ad bn bd cn cd = simp ring (omega (arith, linear))
 
   times_plus_formal : (a b c : Ratio) → Same m (ratio_times a (ratio_plus b c)) (ratio_plus (ratio_times a b) (ratio_times a c))
   unfolding ratio_plus ratio_times
-  times_plus_formal a b c = formal _ _ _ _ (ratio_times a (ratio_plus b c)) (ratio_plus (ratio_times a b) (ratio_times a c)) refl refl refl refl (times_plus_step a.num (pos a.den) b.num (pos b.den) c.num (pos c.den))
+  times_plus_formal a b c = formal _ _ _ _ (ratio_times a (ratio_plus b c)) (ratio_plus (ratio_times a b) (ratio_times a c)) refl refl refl refl
+      (times_plus_step a.num (pos a.den) b.num (pos b.den) c.num (pos c.den))
 
   pub times_value_plus : (a b c : Value) → times_value a (plus_value b c) ≡ plus_value (times_value a b) (times_value a c)
   unfolding plus_value times_value same plus_exact times_exact Quotient.lift₂
-  times_value_plus x y z = Quotient.induction_on₃ by_value by_value by_value (λ q r s. value-set (times_value q (plus_value r s)) (plus_value (times_value q r) (times_value q s))) x y z (λ a b c. Quotient.sound by_value ∣ times_plus_formal a.ratio b.ratio c.ratio ∣₁)
+  times_value_plus x y z = Quotient.induction_on₃ by_value by_value by_value
+      (λ q r s. value-set (times_value q (plus_value r s)) (plus_value (times_value q r) (times_value q s))) x y z
+      (λ a b c. Quotient.sound by_value ∣ times_plus_formal a.ratio b.ratio c.ratio ∣₁)
 
   -- equal classes are the same value
   pub same_from_class : (a b : Ratio) (h : CanCancel m (pos a.den)) (i : CanCancel m (pos b.den)) → class a h ≡ class b i → ∥ Same m a b ∥₁
@@ -143,7 +154,8 @@ module _ (m : ℕ) where
 
   times_assoc_formal : (a b c : Ratio) → Same m (ratio_times (ratio_times a b) c) (ratio_times a (ratio_times b c))
   unfolding ratio_times
-  times_assoc_formal a b c = formal _ _ _ _ (ratio_times (ratio_times a b) c) (ratio_times a (ratio_times b c)) refl refl refl refl (times_assoc_step a.num (pos a.den) b.num (pos b.den) c.num (pos c.den))
+  times_assoc_formal a b c = formal _ _ _ _ (ratio_times (ratio_times a b) c) (ratio_times a (ratio_times b c)) refl refl refl refl
+      (times_assoc_step a.num (pos a.den) b.num (pos b.den) c.num (pos c.den))
 
   pub times_value_assoc : (a b c : Value) → times_value (times_value a b) c ≡ times_value a (times_value b c)
   unfolding times_value same times_exact
@@ -172,18 +184,21 @@ module _ (m : ℕ) where
 
   pub times_value_zero : (a : Value) → times_value a (whole_value (pos 0)) ≡ whole_value (pos 0)
   unfolding times_value whole_value same times_exact Quotient.lift₂
-  times_value_zero = Quotient.ind by_value (λ q. value-set (times_value q (whole_value (pos 0))) (whole_value (pos 0))) (λ a. Quotient.sound by_value ∣ times_zero_formal a.ratio ∣₁)
+  times_value_zero = Quotient.ind by_value (λ q. value-set (times_value q (whole_value (pos 0))) (whole_value (pos 0)))
+      (λ a. Quotient.sound by_value ∣ times_zero_formal a.ratio ∣₁)
 
   opposite_step : (an ad : ℤ) → (an *ℤ (pos 1 *ℤ ad) +ℤ (neg_ℤ (pos 1) *ℤ an) *ℤ ad) *ℤ pos 1 ≡ pos 0 *ℤ (ad *ℤ (pos 1 *ℤ ad))
   opposite_step an ad = simp ring (omega (arith, linear))
 
   opposite_formal : (a : Ratio) → Same m (ratio_plus a (ratio_times (whole (neg_ℤ (pos 1))) a)) (whole (pos 0))
   unfolding ratio_times ratio_plus
-  opposite_formal a = formal _ _ _ _ (ratio_plus a (ratio_times (whole (neg_ℤ (pos 1))) a)) (whole (pos 0)) refl refl refl refl (opposite_step a.num (pos a.den))
+  opposite_formal a = formal _ _ _ _ (ratio_plus a (ratio_times (whole (neg_ℤ (pos 1))) a)) (whole (pos 0)) refl refl refl refl
+      (opposite_step a.num (pos a.den))
 
   opposite : (a : Value) → plus_value a (times_value (whole_value (neg_ℤ (pos 1))) a) ≡ whole_value (pos 0)
   unfolding times_value plus_value whole_value same times_exact plus_exact Quotient.lift₂
-  opposite = Quotient.ind by_value (λ q. value-set (plus_value q (times_value (whole_value (neg_ℤ (pos 1))) q)) (whole_value (pos 0))) (λ a. Quotient.sound by_value ∣ opposite_formal a.ratio ∣₁)
+  opposite = Quotient.ind by_value (λ q. value-set (plus_value q (times_value (whole_value (neg_ℤ (pos 1))) q)) (whole_value (pos 0)))
+      (λ a. Quotient.sound by_value ∣ opposite_formal a.ratio ∣₁)
 
   pub plus_value_cancel : (a b c : Value) → plus_value a c ≡ plus_value b c → a ≡ b
   plus_value_cancel a b c e = sym (undo a) ∙ ap (λ t. plus_value t (times_value (whole_value (neg_ℤ (pos 1))) c)) e ∙ undo b

@@ -1,5 +1,5 @@
 -- `Same` is an equivalence, and sums and products respect it.
-use Rattle.std.proofs.Common.{◌≡◌, ℕ, arith, ◌*◌, ap, sym, refl, ◌∙◌}
+use Rattle.std.proofs.Common.{◌≡◌, ℕ, arith, ◌*◌, ap, sym, ◌∙◌}
 use Rattle.std.specs.Prelude.{ℤ, pos, ◌+ℤ◌, ◌-ℤ◌, ◌*ℤ◌, neg_ℤ}
 use Rattle.std.proofs.lemmas.Int.{ints}
 use Rattle.integers.proofs.numbers.Ring.{ring, linear, product_associative}
@@ -25,7 +25,12 @@ plus_step m an ad bn bd an' ad' bn' bd' k l e f =
 
 pub plus_same : {m : ℕ} {a a' b b' : Ratio} → Same m a a' → Same m b b' → Same m (ratio_plus a b) (ratio_plus a' b')
 unfolding ratio_plus
-plus_same {m} {a} {a'} {b} {b'} s t = let h = difference_multiple s in let i = difference_multiple t in same_of (h.0 *ℤ (pos b.den *ℤ pos b'.den) +ℤ i.0 *ℤ (pos a.den *ℤ pos a'.den), plus_step (pos m) a.num (pos a.den) b.num (pos b.den) a'.num (pos a'.den) b'.num (pos b'.den) h.0 i.0 h.1 i.1)
+plus_same {m} {a} {a'} {b} {b'} s t = let h = difference_multiple s in let i = difference_multiple t in
+    same_of (
+      h.0 *ℤ (pos b.den *ℤ pos b'.den) +ℤ i.0 *ℤ (pos a.den *ℤ pos a'.den),
+      plus_step (pos m) a.num (pos a.den) b.num (pos b.den) a'.num
+          (pos a'.den) b'.num (pos b'.den) h.0 i.0 h.1 i.1,
+    )
 
 times_step : (m an ad bn bd an' ad' bn' bd' k l : ℤ) → an *ℤ ad' -ℤ an' *ℤ ad ≡ m *ℤ k → bn *ℤ bd' -ℤ bn' *ℤ bd ≡ m *ℤ l
     → (an *ℤ bn) *ℤ (ad' *ℤ bd') -ℤ (an' *ℤ bn') *ℤ (ad *ℤ bd) ≡ m *ℤ (k *ℤ (bn *ℤ bd') +ℤ l *ℤ (an' *ℤ ad))
@@ -36,7 +41,12 @@ times_step m an ad bn bd an' ad' bn' bd' k l e f =
 
 pub times_same : {m : ℕ} {a a' b b' : Ratio} → Same m a a' → Same m b b' → Same m (ratio_times a b) (ratio_times a' b')
 unfolding ratio_times
-times_same {m} {a} {a'} {b} {b'} s t = let h = difference_multiple s in let i = difference_multiple t in same_of (h.0 *ℤ (b.num *ℤ pos b'.den) +ℤ i.0 *ℤ (a'.num *ℤ pos a.den), times_step (pos m) a.num (pos a.den) b.num (pos b.den) a'.num (pos a'.den) b'.num (pos b'.den) h.0 i.0 h.1 i.1)
+times_same {m} {a} {a'} {b} {b'} s t = let h = difference_multiple s in let i = difference_multiple t in
+    same_of (
+      h.0 *ℤ (b.num *ℤ pos b'.den) +ℤ i.0 *ℤ (a'.num *ℤ pos a.den),
+      times_step (pos m) a.num (pos a.den) b.num (pos b.den) a'.num (pos a'.den) b'.num
+          (pos b'.den) h.0 i.0 h.1 i.1,
+    )
 
 trans_step : (m an ad bn bd cn cd k l : ℤ) → an *ℤ bd -ℤ bn *ℤ ad ≡ m *ℤ k → bn *ℤ cd -ℤ cn *ℤ bd ≡ m *ℤ l
     → bd *ℤ (an *ℤ cd -ℤ cn *ℤ ad) ≡ m *ℤ (k *ℤ cd +ℤ l *ℤ ad)
@@ -57,13 +67,11 @@ unfolding ratio_times
 times_cancels a b h i = product_cancels h i
 
 pub one_cancels : {m : ℕ} → CanCancel m (pos 1)
-one_cancels = cancels_of (λ z h. (h.0, one_step z ∙ h.1))
-  where
-    one_step : (z : ℤ) → z ≡ pos 1 *ℤ z
-    one_step z = simp ring refl
+one_cancels = search (arith, cancels_of)
 
 pub same_trans : {m : ℕ} {a b c : Ratio} → CanCancel m (pos b.den) → Same m a b → Same m b c → Same m a c
-same_trans {m} {a} {b} {c} d s t = let h = difference_multiple s in let i = difference_multiple t in same_of (cancel d _ (h.0 *ℤ pos c.den +ℤ i.0 *ℤ pos a.den, trans_step (pos m) a.num (pos a.den) b.num (pos b.den) c.num (pos c.den) h.0 i.0 h.1 i.1))
+same_trans {m} {a} {b} {c} d s t = let h = difference_multiple s in let i = difference_multiple t in
+    same_of (cancel d _ (h.0 *ℤ pos c.den +ℤ i.0 *ℤ pos a.den, trans_step (pos m) a.num (pos a.den) b.num (pos b.den) c.num (pos c.den) h.0 i.0 h.1 i.1))
 
 -- equal by their parts, up to a common factor
 formal_step : (m x y d e : ℤ) → x *ℤ e ≡ y *ℤ d → x *ℤ e -ℤ y *ℤ d ≡ m *ℤ pos 0
@@ -74,7 +82,11 @@ plus_zero_step an ad = simp ring (omega (arith, linear))
 
 pub plus_zero : {m : ℕ} (a : Ratio) → Same m (ratio_plus a (whole (pos 0))) a
 unfolding ratio_plus
-plus_zero {m} a = same_of (pos 0, formal_step (pos m) (a.num *ℤ pos 1 +ℤ pos 0 *ℤ pos a.den) a.num (pos a.den *ℤ pos 1) (pos a.den) (plus_zero_step a.num (pos a.den)))
+plus_zero {m} a = same_of (
+  pos 0,
+  formal_step (pos m) (a.num *ℤ pos 1 +ℤ pos 0 *ℤ pos a.den) a.num (pos a.den *ℤ pos 1) (pos a.den)
+      (plus_zero_step a.num (pos a.den)),
+)
 
 zero_times_step : (m ln ld rn rd k : ℤ) → ln *ℤ pos 1 -ℤ pos 0 *ℤ ld ≡ m *ℤ k → (ln *ℤ rn) *ℤ pos 1 -ℤ pos 0 *ℤ (ld *ℤ rd) ≡ m *ℤ (k *ℤ rn)
 zero_times_step m ln ld rn rd k e =

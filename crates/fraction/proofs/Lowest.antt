@@ -12,7 +12,15 @@ coprime_to_one n = (one-dvd n, dvd_refl 1, λ d p q. q)
 
 -- a whole number is in lowest terms
 pub lowest_whole : (a b : ℕ) → b ≡ 1 → IsLowest a b a b
-lowest_whole a b e = record { g = 1; top = omega arith; bottom = omega arith; common = omega arith; positive = omega arith; coprime = subst (λ t. IsGcd a t 1) (sym e) (coprime_to_one a) }
+lowest_whole a b e = record {
+  g = 1;
+  top = omega arith;
+  bottom = omega arith;
+  common = omega arith;
+  positive = omega arith;
+  coprime =
+      subst (λ t. IsGcd a t 1) (sym e) (coprime_to_one a);
+}
 
 -- dividing by the greatest common divisor gives lowest terms
 pub lowest : (a b g : ℕ) → 1 ≤ b → IsGcd a b g → IsLowest a b (a / g) (b / g)

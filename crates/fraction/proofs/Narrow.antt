@@ -39,7 +39,8 @@ scaled true g k l = same_crossed (signed_ratio true k l) (signed_ratio true (g *
 
 -- lowest terms keep the value
 pub lowest_same : (s : Bool) (a b k l : ℕ) → IsLowest a b k l → Same 0 (signed_ratio s k l) (signed_ratio s a b)
-lowest_same s a b k l h = subst (λ t. Same 0 (signed_ratio s k l) (signed_ratio s t b)) (sym h.top) (subst (λ t. Same 0 (signed_ratio s k l) (signed_ratio s (h.g * k) t)) (sym h.bottom) (scaled s h.g k l))
+lowest_same s a b k l h = subst (λ t. Same 0 (signed_ratio s k l) (signed_ratio s t b)) (sym h.top)
+    (subst (λ t. Same 0 (signed_ratio s k l) (signed_ratio s (h.g * k) t)) (sym h.bottom) (scaled s h.g k l))
 
 -- a factor of both sides cancels
 cancelled : (g n k l d : ℕ) → 1 ≤ g → n * (g * l) ≡ (g * k) * d → n * l ≡ k * d
@@ -53,8 +54,10 @@ cancelled g n k l d h e =
 pub narrow_small : (s : Bool) (a b k l : ℕ) → IsLowest a b k l → IsNarrow (signed_ratio s a b) → AreSmall k l
 narrow_small s a b k l h n =
     let q = n.reduced in
-    let e : unsigned_abs q.num * b ≡ a * q.den = sizes_crossed q.num (signed_ratio s a b).num q.den b (crossed q (signed_ratio s a b) n.same) ∙ ap (λ t. t * q.den) (signed_size s a) in
-    let f : unsigned_abs q.num * (h.g * l) ≡ (h.g * k) * q.den = subst (λ t. unsigned_abs q.num * t ≡ (h.g * k) * q.den) h.bottom (subst (λ t. unsigned_abs q.num * b ≡ t * q.den) h.top e) in
+    let e : unsigned_abs q.num * b ≡ a * q.den = sizes_crossed q.num (signed_ratio s a b).num q.den b (crossed q (signed_ratio s a b) n.same)
+    ∙ ap (λ t. t * q.den) (signed_size s a) in
+    let f : unsigned_abs q.num * (h.g * l) ≡ (h.g * k) * q.den = subst (λ t. unsigned_abs q.num * t ≡ (h.g * k) * q.den) h.bottom
+    (subst (λ t. unsigned_abs q.num * b ≡ t * q.den) h.top e) in
     let c = cancelled h.g (unsigned_abs q.num) k l q.den h.common f in
     let x = numerators_equal (unsigned_abs q.num) q.den k l n.lowest.positive n.lowest.coprime h.coprime c in
     let y = denominators_equal (unsigned_abs q.num) q.den k l n.lowest.coprime h.coprime c in

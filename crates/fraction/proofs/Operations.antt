@@ -36,7 +36,8 @@ unfolding ratio_times
 times_is a b = refl
 
 -- what an operation answers, where q is its exact result r
-pub exact_is : (op : Op) (a b : Fraction) (q r : Ratio) (x : Result Fraction (Wide Fraction)) → q ≡ r → MatchResult x (λ f. Same 0 (fraction_value f) q) (IsWide IsNarrow op a b q)
+pub exact_is : (op : Op) (a b : Fraction) (q r : Ratio) (x : Result Fraction (Wide Fraction)) → q ≡ r
+    → MatchResult x (λ f. Same 0 (fraction_value f) q) (IsWide IsNarrow op a b q)
     → MatchResult x (λ f. Same 0 (fraction_value f) r) (IsWide IsNarrow op a b r)
 exact_is op a b q r x e = subst (λ t. MatchResult x (λ f. Same 0 (fraction_value f) t) (IsWide IsNarrow op a b t)) e
 
@@ -75,7 +76,8 @@ times_step x y an ad bn bd e = let p = simp ring at e in simp ring (omega (arith
 -- the quotient times the divisor is the dividend
 over_times : (a b q : Ratio) → Same 0 q (crosses a b) → Same 0 (ratio_times q b) a
 unfolding ratio_times
-over_times a b q s = same_crossed (ratio_times q b) a (times_step q.num (pos q.den) a.num (pos a.den) b.num (pos b.den) (quotient_crossed (a.num *ℤ pos b.den) (b.num *ℤ pos a.den) q s))
+over_times a b q s = same_crossed (ratio_times q b) a (times_step q.num (pos q.den) a.num (pos a.den) b.num (pos b.den)
+    (quotient_crossed (a.num *ℤ pos b.den) (b.num *ℤ pos a.den) q s))
 
 -- a quotient by a number that is not negative
 over_step : (x y an ad m bd : ℤ) → x *ℤ (ad *ℤ m) ≡ (an *ℤ bd) *ℤ y → x *ℤ (m *ℤ ad) ≡ (an *ℤ bd) *ℤ y
@@ -89,12 +91,19 @@ over_negative x y an ad m bd e = let p = simp ring at e in simp ring (omega (ari
 over_crossed : (q a : Ratio) (bn : ℤ) (bd : ℕ) → Same 0 q (ratio_times a (inverse_of bn bd)) → q.num *ℤ (bn *ℤ pos a.den) ≡ (a.num *ℤ pos bd) *ℤ pos q.den
 unfolding ratio_times
 over_crossed q a (pos m) bd s = over_step q.num (pos q.den) a.num (pos a.den) (pos m) (pos bd) (crossed q (ratio_times a (inverse_of (pos m) bd)) s)
-over_crossed q a (negsuc m) bd s = over_negative q.num (pos q.den) a.num (pos a.den) (pos (suc m)) (pos bd) (crossed q (ratio_times a (inverse_of (negsuc m) bd)) s)
+over_crossed q a (negsuc m) bd s = over_negative q.num (pos q.den) a.num (pos a.den) (pos (suc m)) (pos bd)
+    (crossed q (ratio_times a (inverse_of (negsuc m) bd)) s)
 
 -- so where the one has a reduced fraction, the other has it
 over_narrow : (a b : Ratio) → IsNarrow (ratio_over a b) → IsNarrow (crosses a b)
 unfolding ratio_over
-over_narrow a b n = record { reduced = n.reduced; lowest = n.lowest; small = n.small; same = crossed_quotient (a.num *ℤ pos b.den) (b.num *ℤ pos a.den) n.reduced (over_crossed n.reduced a b.num b.den n.same) }
+over_narrow a b n = record {
+  reduced = n.reduced;
+  lowest = n.lowest;
+  small = n.small;
+  same =
+      crossed_quotient (a.num *ℤ pos b.den) (b.num *ℤ pos a.den) n.reduced (over_crossed n.reduced a b.num b.den n.same);
+}
 
 -- a value other than 0 has an inverse
 has_inverse : (b : Ratio) → b.num ≢ pos 0 → HasInverse 0 b
@@ -103,16 +112,25 @@ has_inverse b n = record { not_zero = λ e. n; coprime = λ e. absurd (e refl) }
 -- a division answers the quotient, or its operands where it does not fit
 over_by_option : (a b : Fraction) (o : Option Fraction) → (fraction_value b).num ≢ pos 0
     → IsFractionOf (crosses (fraction_value a) (fraction_value b)) o
-    → MatchResult (ok_or o (WideQuotient (record { op = Over; left = a; right = b }))) (λ f. HasInverse 0 (fraction_value b) × Same 0 (ratio_times (fraction_value f) (fraction_value b)) (fraction_value a)) (IsOverFault IsNarrow 0 fraction_value a b)
-over_by_option a b None z m = record { inverse = has_inverse (fraction_value b) z; wide = record { op = refl; left = refl; right = refl; unfit = λ n. m (over_narrow (fraction_value a) (fraction_value b) n) } }
+    → MatchResult (ok_or o (WideQuotient (record { op = Over; left = a; right = b })))
+    (λ f. HasInverse 0 (fraction_value b) × Same 0 (ratio_times (fraction_value f) (fraction_value b)) (fraction_value a))
+    (IsOverFault IsNarrow 0 fraction_value a b)
+over_by_option a b None z m = record {
+  inverse = has_inverse (fraction_value b) z;
+  wide =
+      record { op = refl; left = refl; right = refl; unfit = λ n. m (over_narrow (fraction_value a) (fraction_value b) n) };
+}
 over_by_option a b (Some f) z m = (has_inverse (fraction_value b) z, over_times (fraction_value a) (fraction_value b) (fraction_value f) m)
 
 -- the same, over what the code computes
-pub over_or : (a b : Fraction) (q : Ratio) (o : Option Fraction) (w : Wide Fraction) (x : Result Fraction (OverFault Fraction)) → (fraction_value b).num ≢ pos 0 → q ≡ crosses (fraction_value a) (fraction_value b)
+pub over_or : (a b : Fraction) (q : Ratio) (o : Option Fraction) (w : Wide Fraction) (x : Result Fraction (OverFault Fraction))
+    → (fraction_value b).num ≢ pos 0 → q ≡ crosses (fraction_value a) (fraction_value b)
     → w ≡ record { op = Over; left = a; right = b } → x ≡ ok_or o (WideQuotient w) → IsFractionOf q o
-    → MatchResult x (λ f. HasInverse 0 (fraction_value b) × Same 0 (ratio_times (fraction_value f) (fraction_value b)) (fraction_value a)) (IsOverFault IsNarrow 0 fraction_value a b)
+    → MatchResult x (λ f. HasInverse 0 (fraction_value b) × Same 0 (ratio_times (fraction_value f) (fraction_value b)) (fraction_value a))
+    (IsOverFault IsNarrow 0 fraction_value a b)
 over_or a b q o w x z e h f m =
-    subst (λ y. MatchResult y (λ f. HasInverse 0 (fraction_value b) × Same 0 (ratio_times (fraction_value f) (fraction_value b)) (fraction_value a)) (IsOverFault IsNarrow 0 fraction_value a b)) (sym (f ∙ ap (λ y. ok_or o (WideQuotient y)) h))
+    subst (λ y. MatchResult y (λ f. HasInverse 0 (fraction_value b) × Same 0 (ratio_times (fraction_value f) (fraction_value b)) (fraction_value a))
+    (IsOverFault IsNarrow 0 fraction_value a b)) (sym (f ∙ ap (λ y. ok_or o (WideQuotient y)) h))
     (over_by_option a b o z (subst (λ t. IsFractionOf t o) e m))
 
 -- the cross product with a denominator is 0 only where the numerator is

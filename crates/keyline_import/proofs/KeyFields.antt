@@ -1,5 +1,6 @@
 -- Fields that are small whole numbers.
-use Rattle.std.proofs.Common.{◌≡◌, ◌≢◌, ℕ, ◌≤◌, ℤ, pos, ◌-ℤ◌, Bool, true, false, cond, ◌==◌, nat_lt, is_some, List, [], ◌∷◌, map, Option, None, Some, refl, ap, ◌∙◌, arith}
+use Rattle.std.proofs.Common.{◌≡◌, ◌≢◌, ℕ, ◌≤◌, ℤ, pos, ◌-ℤ◌, Bool, true, false, cond, ◌==◌, nat_lt, is_some, List, [], ◌∷◌, map, Option, None, Some, refl, ap}
+use Rattle.std.proofs.Common.{◌∙◌, arith}
 use Rattle.std.specs.List.{All}
 use Rattle.std.specs.Option.{option_map, unwrap_or}
 use Rattle.std.specs.Int.RustNames.{unsigned_abs}
@@ -26,7 +27,8 @@ minus n = pos 0 -ℤ pos n
 known : (f : ℕ → ℤ) (digits : List ℕ) → is_some (small f digits) ≡ true → unwrap_or (small f digits) (pos 0) ≡ f (whole_value digits)
 known f digits = by (nat_lt most_vertices (whole_value digits))
   where
-    by : (t : Bool) → is_some (option_map f (cond t None (Some (whole_value digits)))) ≡ true → unwrap_or (option_map f (cond t None (Some (whole_value digits)))) (pos 0) ≡ f (whole_value digits)
+    by : (t : Bool) → is_some (option_map f (cond t None (Some (whole_value digits)))) ≡ true
+        → unwrap_or (option_map f (cond t None (Some (whole_value digits)))) (pos 0) ≡ f (whole_value digits)
     by true e = absurd cc
     by false e = refl
 

@@ -1,5 +1,6 @@
 -- The graph of a key line is a quotient graph within the limits.
-use Rattle.std.proofs.Common.{◌≡◌, ◌≢◌, ℕ, ◌≤◌, ℤ, pos, negsuc, ◌≤ℤ◌, Bool, true, false, cond, ◌||◌, not, nat_lt, List, [], ◌∷◌, ◌++◌, map, length, refl, sym, ap, subst, ◌∙◌, arith}
+use Rattle.std.proofs.Common.{◌≡◌, ◌≢◌, ℕ, ◌≤◌, ℤ, pos, negsuc, ◌≤ℤ◌, Bool, true, false, cond, ◌||◌, not, nat_lt, List, [], ◌∷◌, ◌++◌, map, length, refl, sym}
+use Rattle.std.proofs.Common.{ap, subst, ◌∙◌, arith}
 use Rattle.std.specs.List.{All, AllPairs}
 use Rattle.std.specs.Int.RustNames.{unsigned_abs}
 use Rattle.std.proofs.lemmas.Bool.{and_from, and_parts, false≢true}
@@ -61,11 +62,14 @@ row_makes k r h flat =
     (u.0, omega arith) (v.0, omega arith) flat
     (small_part r.x h.x) (small_part r.y h.y) (small_part r.z h.z) (no_loop r h)
 
-edges_well : (k : KeyView) (r : Row) → IsWellEdge (with_row k r).vertices k.dim (row_edge r) → All (IsWellEdge k.vertices k.dim) k.edges → All (IsWellEdge (with_row k r).vertices k.dim) (with_row k r).edges
+edges_well : (k : KeyView) (r : Row) → IsWellEdge (with_row k r).vertices k.dim (row_edge r) → All (IsWellEdge k.vertices k.dim) k.edges
+    → All (IsWellEdge (with_row k r).vertices k.dim) (with_row k r).edges
 edges_well k r edge old = by (is_repeat k r)
-    (All-weaker (IsWellEdge k.vertices k.dim) (IsWellEdge (with_row k r).vertices k.dim) (wider k.vertices (with_row k r).vertices k.dim (omega arith)) k.edges old)
+    (All-weaker (IsWellEdge k.vertices k.dim) (IsWellEdge (with_row k r).vertices k.dim)
+    (wider k.vertices (with_row k r).vertices k.dim (omega arith)) k.edges old)
   where
-    by : (t : Bool) → All (IsWellEdge (with_row k r).vertices k.dim) k.edges → All (IsWellEdge (with_row k r).vertices k.dim) (cond t k.edges (k.edges ++ row_edge r ∷ []))
+    by : (t : Bool) → All (IsWellEdge (with_row k r).vertices k.dim) k.edges
+        → All (IsWellEdge (with_row k r).vertices k.dim) (cond t k.edges (k.edges ++ row_edge r ∷ []))
     by true h = h
     by false h = All-push (IsWellEdge (with_row k r).vertices k.dim) k.edges (row_edge r) h edge
 

@@ -1,5 +1,6 @@
 -- A dimension and rows are taken for a key.
-use Rattle.std.proofs.Common.{◌≡◌, ◌⊎◌, inl, inr, ℕ, ◌≤◌, ℤ, pos, negsuc, ◌-ℤ◌, ◌≤ℤ◌, Bool, true, false, cond, ◌==◌, not, nat_lt, List, [], ◌∷◌, ◌++◌, length, flat_map, fold, Option, None, Some, refl, sym, ap, subst, ◌∙◌, arith}
+use Rattle.std.proofs.Common.{◌≡◌, ◌⊎◌, inl, inr, ℕ, ◌≤◌, ℤ, pos, negsuc, ◌-ℤ◌, ◌≤ℤ◌, Bool, true, false, cond, ◌==◌, not, nat_lt, List, [], ◌∷◌, ◌++◌, length}
+use Rattle.std.proofs.Common.{flat_map, fold, Option, None, Some, refl, sym, ap, subst, ◌∙◌, arith}
 use Rattle.std.specs.List.{All}
 use Rattle.std.specs.Int.RustNames.{unsigned_abs}
 use Rattle.std.specs.Int.Signed.{le_z}
@@ -52,7 +53,8 @@ follows k r rows h few = and_from (is_row r) _ (row_test r h) (few_test (length 
 abbrev IsFlatRow : Row → Type 0
 IsFlatRow r = r.z ≡ pos 0
 
-flat_taken : (rows : List Row) (k : KeyView) → All IsRow rows → All IsFlatRow rows → length (fold with_row k rows).edges ≤ most_edges → flat_rows k (flat_map (numbers_of_row 2) rows) ≡ Some (fold with_row k rows)
+flat_taken : (rows : List Row) (k : KeyView) → All IsRow rows → All IsFlatRow rows → length (fold with_row k rows).edges ≤ most_edges
+    → flat_rows k (flat_map (numbers_of_row 2) rows) ≡ Some (fold with_row k rows)
 flat_taken [] k each flat few = refl
 flat_taken (r ∷ rows) k each flat few =
     let left = flat_map (numbers_of_row 2) rows in
@@ -61,7 +63,8 @@ flat_taken (r ∷ rows) k each flat few =
     ∙ ap (λ t. cond t (flat_rows (with_row k r) left) None) (follows k r rows (All-head IsRow r rows each) few)
     ∙ flat_taken rows (with_row k r) (All-tail IsRow r rows each) (All-tail IsFlatRow r rows flat) few
 
-space_taken : (rows : List Row) (k : KeyView) → All IsRow rows → length (fold with_row k rows).edges ≤ most_edges → space_rows k (flat_map (numbers_of_row 3) rows) ≡ Some (fold with_row k rows)
+space_taken : (rows : List Row) (k : KeyView) → All IsRow rows → length (fold with_row k rows).edges ≤ most_edges
+    → space_rows k (flat_map (numbers_of_row 3) rows) ≡ Some (fold with_row k rows)
 space_taken [] k each few = refl
 space_taken (r ∷ rows) k each few =
     let left = flat_map (numbers_of_row 3) rows in
@@ -81,14 +84,19 @@ has_vertex (r ∷ rows) dim each some =
 some_test : (n : ℕ) → 1 ≤ n → (n == 0) ≡ false
 some_test n l = grind (arith, nat_tests, l)
 
-some_taken : (rows : List Row) (dim : ℕ) (o : Option KeyView) → o ≡ Some (made_of dim rows) → 1 ≤ (made_of dim rows).vertices → if_some_row o ≡ Some (made_of dim rows)
+some_taken : (rows : List Row) (dim : ℕ) (o : Option KeyView) → o ≡ Some (made_of dim rows) → 1 ≤ (made_of dim rows).vertices
+    → if_some_row o ≡ Some (made_of dim rows)
 some_taken rows dim o is some = ap if_some_row is ∙ ap (λ t. cond t None (Some (made_of dim rows))) (some_test (made_of dim rows).vertices some)
 
-in_plane : (rows : List Row) → All IsRow rows → All IsFlatRow rows → 1 ≤ length rows → length (made_of 2 rows).edges ≤ most_edges → key_of_numbers (pos 2 ∷ flat_map (numbers_of_row 2) rows) ≡ Some (made_of 2 rows)
-in_plane rows each flat some few = some_taken rows 2 (flat_rows (no_rows 2) (flat_map (numbers_of_row 2) rows)) (flat_taken rows (no_rows 2) each flat few) (has_vertex rows 2 each some)
+in_plane : (rows : List Row) → All IsRow rows → All IsFlatRow rows → 1 ≤ length rows → length (made_of 2 rows).edges ≤ most_edges
+    → key_of_numbers (pos 2 ∷ flat_map (numbers_of_row 2) rows) ≡ Some (made_of 2 rows)
+in_plane rows each flat some few = some_taken rows 2 (flat_rows (no_rows 2) (flat_map (numbers_of_row 2) rows)) (flat_taken rows (no_rows 2) each flat few)
+    (has_vertex rows 2 each some)
 
-in_space : (rows : List Row) → All IsRow rows → 1 ≤ length rows → length (made_of 3 rows).edges ≤ most_edges → key_of_numbers (pos 3 ∷ flat_map (numbers_of_row 3) rows) ≡ Some (made_of 3 rows)
-in_space rows each some few = some_taken rows 3 (space_rows (no_rows 3) (flat_map (numbers_of_row 3) rows)) (space_taken rows (no_rows 3) each few) (has_vertex rows 3 each some)
+in_space : (rows : List Row) → All IsRow rows → 1 ≤ length rows → length (made_of 3 rows).edges ≤ most_edges
+    → key_of_numbers (pos 3 ∷ flat_map (numbers_of_row 3) rows) ≡ Some (made_of 3 rows)
+in_space rows each some few = some_taken rows 3 (space_rows (no_rows 3) (flat_map (numbers_of_row 3) rows)) (space_taken rows (no_rows 3) each few)
+    (has_vertex rows 3 each some)
 
 -- a key is taken for one
 pub key_taken : (numbers : List ℤ) (k : KeyView) → IsKeyOfNumbers numbers k → key_of_numbers numbers ≡ Some k

@@ -51,7 +51,8 @@ ends_named opening line earlier key (Some name) e = subst (IsNamedAs (Net key)) 
 
 -- a line has a fault, or ends the item, or is passed over
 one_line : (a b c end : Bool) (key : Option KeyView) (opening line : ℕ) (earlier : List LineView) (later : ItemView) → IsNamed later
-    → IsNamed (or_fault (first_true ((Twice, a) ∷ (BadKey, b) ∷ (BadId, c) ∷ (Missing, end && (is_none key || is_none (name_of earlier))) ∷ [])) line opening earlier (cond end (with_body opening earlier (body_with line key)) later))
+    → IsNamed (or_fault (first_true ((Twice, a) ∷ (BadKey, b) ∷ (BadId, c) ∷ (Missing, end && (is_none key || is_none (name_of earlier))) ∷ [])) line opening
+    earlier (cond end (with_body opening earlier (body_with line key)) later))
 one_line true b c end key opening line earlier later h = tt
 one_line false true c end key opening line earlier later h = tt
 one_line false false true end key opening line earlier later h = tt
@@ -62,7 +63,8 @@ one_line false false false true (Some key) opening line earlier later h = ends_n
 of_item : (opening : ℕ) (earlier lines : List LineView) → IsNamed (item_after opening earlier lines)
 of_item opening earlier [] = tt
 of_item opening earlier (line ∷ lines) =
-    one_line (is_second earlier line) (is_bad_key line) (is_bad_id line) (is_end line.kind) (key_of earlier) opening line.number earlier (item_after opening (line ∷ earlier) lines) (of_item opening (line ∷ earlier) lines)
+    one_line (is_second earlier line) (is_bad_key line) (is_bad_id line) (is_end line.kind) (key_of earlier) opening line.number earlier
+    (item_after opening (line ∷ earlier) lines) (of_item opening (line ∷ earlier) lines)
 
 either : (t : Bool) (xs ys : List ItemView) → All IsNamed xs → All IsNamed ys → All IsNamed (cond t xs ys)
 either true xs ys h k = h

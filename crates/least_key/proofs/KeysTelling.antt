@@ -20,7 +20,8 @@ use Rattle.least_key.specs.declared.refusal.Refusal.{Refusal}
 -- the key of a keyed net is the key of its graph
 pub key_of_graph : (n : KeyedNet) → IsKeyed n → IsKeyOf n.placed.graph n.key
 key_of_graph n h =
-    subst (λ (G : Graph). IsKeyOf G n.key) h.same_graph (record { shape = shape_of n.classes (record { placement = n.placed.placement; at = h.classes }); least = h.key })
+    subst (λ (G : Graph). IsKeyOf G n.key) h.same_graph
+    (record { shape = shape_of n.classes (record { placement = n.placed.placement; at = h.classes }); least = h.key })
 
 -- the keys of two keyed nets are equal exactly where the nets are isomorphic
 pub nets_decide : (m n : KeyedNet) → IsKeyed m → IsKeyed n → (m.key ≡ n.key) ↔ Iso m.placed.graph n.placed.graph
@@ -34,7 +35,8 @@ zip_more R (w ∷ xs) [] x y h r = absurd h
 zip_more R (w ∷ xs) (z ∷ ys) x y h r = (h.0, zip_more R xs ys x y h.1 r)
 
 -- one answer more
-pub answers_more : (graphs : List AnyGraph) (answers : List (Result Net Refusal)) (i : ℕ) (g : AnyGraph) (r : Result Net Refusal) → i < length graphs → g ≡ get_or graphs i g
+pub answers_more : (graphs : List AnyGraph) (answers : List (Result Net Refusal)) (i : ℕ) (g : AnyGraph) (r : Result Net Refusal) → i < length graphs
+    → g ≡ get_or graphs i g
     → AreAnswers (take i graphs) answers → IsAnswerTo g r → AreAnswers (take (i + 1) graphs) (answers ++ r ∷ [])
 answers_more graphs answers i g r l e h k =
     let longer : take (i + 1) graphs ≡ take i graphs ++ g ∷ [] = take_more graphs i g l ∙ ap (λ (x : AnyGraph). take i graphs ++ x ∷ []) (sym e) in

@@ -34,7 +34,8 @@ too_much G p settled n h e done counted w =
     record { net = p; settled = settled; shape = pair.0; past = pair.1 }
 
 -- where the key work is not counted
-pub work_true : (G : Graph) (p : PlacedNet) → IsSettledAs G p → (n : NetClasses) → AreClasses n → n.graph ≡ G → (K : ClassGraph) → K ≡ n.classes → (fault : KeyWork)
+pub work_true : (G : Graph) (p : PlacedNet) → IsSettledAs G p → (n : NetClasses) → AreClasses n → n.graph ≡ G → (K : ClassGraph) → K ≡ n.classes
+    → (fault : KeyWork)
     → ((done counted : ℕ) → fault ≡ work.TooMuch done counted → IsWorkPast K done counted) → IsTrueOf G (work_refusal fault)
 work_true G p settled n h e K k (work.TooMuch done counted) past =
     too_much G p settled n h e done counted (subst (λ (L : ClassGraph). IsWorkPast L done counted) k (past done counted refl))

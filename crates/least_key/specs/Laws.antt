@@ -11,7 +11,8 @@ use Rattle.least_key.specs.declared.refusal.Refusal.TheVariants.{NoMemory}
 -- no refusal of placing is true of a graph with a normal placement within the limits, which fractions or residues reach, but want
 -- of memory
 abbrev pub PlacedIsNotRefused : Type 0
-PlacedIsNotRefused = (G : Graph) (p : PlacedNet) (refusal : Refusal) → IsGraph G → IsPlacedAs G p → IsOfPlacing refusal → IsTrueOf G refusal → refusal ≡ NoMemory
+PlacedIsNotRefused = (G : Graph) (p : PlacedNet) (refusal : Refusal) → IsGraph G → IsPlacedAs G p → IsOfPlacing refusal → IsTrueOf G refusal
+    → refusal ≡ NoMemory
 
 -- two refusals that are true of a graph, running out of memory aside, are one
 abbrev pub OneRefusal : Type 0

@@ -14,7 +14,11 @@ digits_have_no m small (d ∷ ds) h = (ne_eqb d m (λ e. let r = digit_from_valu
 
 pub number_has_no : (m : ℕ) → m < 45 → (z : ℤ) → IsWide z → HasNo m (signed_decimal z)
 number_has_no m small (pos n) fits = digits_have_no m (omega (arith, small)) (decimal n) (decimal_is_IsNumeral_wide n (omega (arith, fits.sfits))).0.1
-number_has_no m small (negsuc n) fits = (ne_eqb 45 m (λ e. omega (arith, e)), digits_have_no m (omega (arith, small)) (decimal (suc n)) (decimal_is_IsNumeral_wide (suc n) (omega (arith, fits.sfits))).0.1)
+number_has_no m small (negsuc n) fits = (
+  ne_eqb 45 m (λ e. omega (arith, e)),
+  digits_have_no m (omega (arith, small)) (decimal (suc n))
+      (decimal_is_IsNumeral_wide (suc n) (omega (arith, fits.sfits))).0.1,
+)
 
 pub numbers_begin : (m : ℕ) (zs : List ℤ) → BeginsWith m (marked_text m zs)
 numbers_begin m [] = tt

@@ -22,12 +22,16 @@ no_sign (d ∷ ds) es none e = true≢false (sym (eq-eqb d 45 (sym (ap (λ l. ge
 
 pub same_number : (y z : ℤ) → IsWide y → IsWide z → signed_decimal y ≡ signed_decimal z → y ≡ z
 same_number (pos m) (pos n) wy wz e = ap pos (same_decimal m n wy wz e)
-same_number (pos m) (negsuc n) wy wz e = absurd (no_sign (decimal m) (decimal (suc n)) (digits_have_no 45 (omega arith) (decimal m) (decimal_is_IsNumeral_wide m (omega (arith, wy.sfits))).0.1) (sym e))
-same_number (negsuc m) (pos n) wy wz e = absurd (no_sign (decimal n) (decimal (suc m)) (digits_have_no 45 (omega arith) (decimal n) (decimal_is_IsNumeral_wide n (omega (arith, wz.sfits))).0.1) e)
+same_number (pos m) (negsuc n) wy wz e =
+    absurd (no_sign (decimal m) (decimal (suc n)) (digits_have_no 45 (omega arith) (decimal m) (decimal_is_IsNumeral_wide m (omega (arith, wy.sfits))).0.1)
+    (sym e))
+same_number (negsuc m) (pos n) wy wz e =
+    absurd (no_sign (decimal n) (decimal (suc m)) (digits_have_no 45 (omega arith) (decimal n) (decimal_is_IsNumeral_wide n (omega (arith, wz.sfits))).0.1) e)
 same_number (negsuc m) (negsuc n) wy wz e = ap negsuc (omega (arith, values))
   where
     values : suc m ≡ suc n
-    values = sym (decimal_is_IsNumeral_wide (suc m) (omega (arith, wy.sfits))).1 ∙ ap (λ l. digits_value 10 (drop 1 l)) e ∙ (decimal_is_IsNumeral_wide (suc n) (omega (arith, wz.sfits))).1
+    values = sym (decimal_is_IsNumeral_wide (suc m) (omega (arith, wy.sfits))).1 ∙ ap (λ l. digits_value 10 (drop 1 l)) e
+        ∙ (decimal_is_IsNumeral_wide (suc n) (omega (arith, wz.sfits))).1
 
 pub same_numbers : (m : ℕ) → m < 45 → (ys zs : List ℤ) → All IsWide ys → All IsWide zs → marked_text m ys ≡ marked_text m zs → ys ≡ zs
 same_numbers m small [] [] wy wz e = refl
@@ -37,8 +41,10 @@ same_numbers m small (y ∷ ys) (z ∷ zs) wy wz e =
     let hy = All-head IsWide y ys wy in
     let hz = All-head IsWide z zs wz in
     let both : signed_decimal y ++ marked_text m ys ≡ signed_decimal z ++ marked_text m zs = ap (drop 1) e in
-    let field = sym (before_is m (signed_decimal y) (marked_text m ys) (number_has_no m small y hy) (numbers_begin m ys)) ∙ ap (before m) both ∙ before_is m (signed_decimal z) (marked_text m zs) (number_has_no m small z hz) (numbers_begin m zs) in
-    let after = sym (onwards_is m (signed_decimal y) (marked_text m ys) (number_has_no m small y hy) (numbers_begin m ys)) ∙ ap (onwards m) both ∙ onwards_is m (signed_decimal z) (marked_text m zs) (number_has_no m small z hz) (numbers_begin m zs) in
+    let field = sym (before_is m (signed_decimal y) (marked_text m ys) (number_has_no m small y hy) (numbers_begin m ys)) ∙ ap (before m) both
+    ∙ before_is m (signed_decimal z) (marked_text m zs) (number_has_no m small z hz) (numbers_begin m zs) in
+    let after = sym (onwards_is m (signed_decimal y) (marked_text m ys) (number_has_no m small y hy) (numbers_begin m ys)) ∙ ap (onwards m) both
+    ∙ onwards_is m (signed_decimal z) (marked_text m zs) (number_has_no m small z hz) (numbers_begin m zs) in
     ap (λ x. x ∷ ys) (same_number y z hy hz field) ∙ ap (λ l. z ∷ l) (same_numbers m small ys zs (All-tail IsWide y ys wy) (All-tail IsWide z zs wz) after)
 
 pub same_row_numbers : (word : List ℕ) (ys zs : List ℤ) → All IsWide ys → All IsWide zs → row_text word ys ≡ row_text word zs → ys ≡ zs

@@ -35,7 +35,8 @@ prefix_is : (m : ℕ) (bs : List ℕ) → prefix_len (λ b. not (b == m)) bs ≡
 prefix_is m [] = refl
 prefix_is m (b ∷ bs) = by (b == m) (prefix_is m bs)
   where
-    by : (t : Bool) → prefix_len (λ x. not (x == m)) bs ≡ length (before m bs) → cond (not t) (1 + prefix_len (λ x. not (x == m)) bs) 0 ≡ length (cond t [] (b ∷ before m bs))
+    by : (t : Bool) → prefix_len (λ x. not (x == m)) bs ≡ length (before m bs)
+        → cond (not t) (1 + prefix_len (λ x. not (x == m)) bs) 0 ≡ length (cond t [] (b ∷ before m bs))
     by true rest = refl
     by false rest = omega (arith, rest)
 

@@ -15,7 +15,8 @@ use Rattle.line_text.proofs.Digits.{number_has_no, numbers_begin}
 module _ (m : ℕ) (small : m < 45) where
   pub text_of_sum : (xs ys : List ℤ) → marked_text m (xs ++ ys) ≡ marked_text m xs ++ marked_text m ys
   text_of_sum [] ys = refl
-  text_of_sum (x ∷ xs) ys = ap (λ l. m ∷ l) (ap (λ l. signed_decimal x ++ l) (text_of_sum xs ys) ∙ sym (append_assoc (signed_decimal x) (marked_text m xs) (marked_text m ys)))
+  text_of_sum (x ∷ xs) ys = ap (λ l. m ∷ l) (ap (λ l. signed_decimal x ++ l) (text_of_sum xs ys)
+      ∙ sym (append_assoc (signed_decimal x) (marked_text m xs) (marked_text m ys)))
 
   pub at_start : (text : List ℕ) → IsReadTo m text [] text
   at_start text = record { joined = refl; wide = All-nil IsWide; every = λ zs wide e. (zs, refl, e, wide) }
@@ -38,8 +39,10 @@ module _ (m : ℕ) (small : m < 45) where
     later = ws;
     is = refl;
     begins = ap (λ l. get_or l 0 0) e;
-    field = ap (λ l. before m (drop 1 l)) e ∙ before_is m (signed_decimal w) (marked_text m ws) (number_has_no m small w (All-head IsWide w ws wide)) (numbers_begin m ws);
-    after = ap (λ l. onwards m (drop 1 l)) e ∙ onwards_is m (signed_decimal w) (marked_text m ws) (number_has_no m small w (All-head IsWide w ws wide)) (numbers_begin m ws);
+    field = ap (λ l. before m (drop 1 l)) e ∙ before_is m (signed_decimal w) (marked_text m ws) (number_has_no m small w (All-head IsWide w ws wide))
+        (numbers_begin m ws);
+    after = ap (λ l. onwards m (drop 1 l)) e ∙ onwards_is m (signed_decimal w) (marked_text m ws) (number_has_no m small w (All-head IsWide w ws wide))
+        (numbers_begin m ws);
     wide = All-head IsWide w ws wide;
     all_wide = All-tail IsWide w ws wide;
   }
@@ -49,21 +52,28 @@ module _ (m : ℕ) (small : m < 45) where
   from_mark [] some e = absurd (omega (arith, some))
   from_mark (b ∷ bs) some e = ap (λ x. x ∷ bs) e ∙ ap (λ l. m ∷ l) (sym (joined m bs))
 
-  pub pushed : (text : List ℕ) (numbers : List ℤ) (rest : List ℕ) (n : ℤ) (field after : List ℕ) → IsReadTo m text numbers rest → 0 < length rest → get_or rest 0 0 ≡ m
+  pub pushed : (text : List ℕ) (numbers : List ℤ) (rest : List ℕ) (n : ℤ) (field after : List ℕ) → IsReadTo m text numbers rest → 0 < length rest
+      → get_or rest 0 0 ≡ m
       → field ≡ before m (drop 1 rest) → after ≡ onwards m (drop 1 rest)
       → field ≡ signed_decimal n → IsWide n → ((w : ℤ) → IsWide w → field ≡ signed_decimal w → Some n ≡ Some w)
       → IsReadTo m text (numbers ++ n ∷ []) after
   pushed text numbers rest n field after read some begins first second spelled wide only = record {
     joined = read.joined
-        ∙ ap (λ l. marked_text m numbers ++ l) (from_mark rest some begins ∙ ap (λ f. m ∷ f ++ onwards m (drop 1 rest)) (sym first ∙ spelled) ∙ ap (λ l. m ∷ signed_decimal n ++ l) (sym second))
+        ∙ ap (λ l. marked_text m numbers ++ l) (from_mark rest some begins ∙ ap (λ f. m ∷ f ++ onwards m (drop 1 rest)) (sym first ∙ spelled)
+        ∙ ap (λ l. m ∷ signed_decimal n ++ l) (sym second))
         ∙ sym (append_assoc (marked_text m numbers) (m ∷ signed_decimal n) after)
         ∙ ap (λ l. l ++ after) (ap (λ l. marked_text m numbers ++ m ∷ l) (sym (append-nil (signed_decimal n))) ∙ sym (text_of_sum numbers (n ∷ [])));
     wide = All-push IsWide numbers n read.wide wide;
     every = λ zs all e.
         let w = read.every zs all e in
         let next = next_number rest w.0 w.3 some w.2 in
-        let same : n ≡ next.first = ap (λ o. unwrap_or o n) (only next.first next.wide (first ∙ next.field)) in
-        (next.later, w.1 ∙ ap (λ l. numbers ++ l) (next.is ∙ ap (λ x. x ∷ next.later) (sym same)) ∙ sym (append_assoc numbers (n ∷ []) next.later), second ∙ next.after, next.all_wide);
+        let same : n ≡ next.first = ap (λ o. unwrap_or o n) (only next.first next.wide (first ∙ next.field)) in (
+          next.later,
+          w.1 ∙ ap (λ l. numbers ++ l) (next.is ∙ ap (λ x. x ∷ next.later) (sym same)) ∙ sym (append_assoc numbers (n ∷ []) next.later),
+          second
+              ∙ next.after,
+          next.all_wide,
+        );
   }
 
   pub stuck : (text : List ℕ) (numbers : List ℤ) (rest : List ℕ) → IsReadTo m text numbers rest → 0 < length rest
@@ -85,7 +95,8 @@ module _ (m : ℕ) (small : m < 45) where
       let three = ap length next.is in
       omega (arith, few, full, one, two, three)
 
-  pub finished : (text : List ℕ) (numbers : List ℤ) (rest : List ℕ) → IsReadTo m text numbers rest → rest ≡ [] → (zs : List ℤ) → All IsWide zs → text ≡ marked_text m zs → numbers ≡ zs
+  pub finished : (text : List ℕ) (numbers : List ℤ) (rest : List ℕ) → IsReadTo m text numbers rest → rest ≡ [] → (zs : List ℤ) → All IsWide zs
+      → text ≡ marked_text m zs → numbers ≡ zs
   finished text numbers rest read none zs all e =
       let w = read.every zs all e in
       sym (w.1 ∙ ap (λ l. numbers ++ l) (no_numbers w.0 (sym w.2 ∙ none)) ∙ append-nil numbers)

@@ -23,4 +23,5 @@ parsed_again (negsuc n) bs r fits is h =
 
 pub number_is_text : (z : ℤ) (bs : List ℕ) → IsWide z → bs ≡ signed_decimal z → IsUtf8 bs
 number_is_text (pos n) bs fits is = IsUtf8-from_ascii bs (subst IsAscii (sym is) (IsAscii-decimal_wide n (omega (arith, fits.sfits))))
-number_is_text (negsuc n) bs fits is = IsUtf8-from_ascii bs (subst IsAscii (sym is) (IsAscii-cons 45 (decimal (suc n)) (omega arith) (IsAscii-decimal_wide (suc n) (omega (arith, fits.sfits)))))
+number_is_text (negsuc n) bs fits is =
+    IsUtf8-from_ascii bs (subst IsAscii (sym is) (IsAscii-cons 45 (decimal (suc n)) (omega arith) (IsAscii-decimal_wide (suc n) (omega (arith, fits.sfits)))))

@@ -13,7 +13,8 @@ rows_text_of_sum [] ys = refl
 rows_text_of_sum (x ∷ xs) ys = ap (λ l. x ++ 10 ∷ l) (rows_text_of_sum xs ys) ∙ sym (append_assoc x (10 ∷ rows_text xs) (rows_text ys))
 
 -- one more row is passed
-pub one_more_row : (text : List ℕ) (rows : List (List ℕ)) (before after : Place) (row : List ℕ) → IsAt text rows before → before.rest ≡ row ++ 10 ∷ after.rest → after.number ≡ before.number + 1 → IsAt text (rows ++ row ∷ []) after
+pub one_more_row : (text : List ℕ) (rows : List (List ℕ)) (before after : Place) (row : List ℕ) → IsAt text rows before → before.rest ≡ row ++ 10 ∷ after.rest
+    → after.number ≡ before.number + 1 → IsAt text (rows ++ row ∷ []) after
 one_more_row text rows before after row at rest number = record {
   joined = at.joined
       ∙ ap (λ l. rows_text rows ++ l) (rest ∙ sym (append_assoc row (10 ∷ []) after.rest))
@@ -29,16 +30,22 @@ sum_has_no m (x ∷ xs) ys h g = (h.0, sum_has_no m xs ys h.1 g)
 -- no line feed stands among numbers
 pub numbers_have_no : (zs : List ℤ) → All IsWide zs → HasNo 10 (numbers_text zs)
 numbers_have_no [] wide = tt
-numbers_have_no (z ∷ zs) wide = (refl, sum_has_no 10 (signed_decimal z) (numbers_text zs) (number_has_no 10 (omega arith) z (All-head IsWide z zs wide)) (numbers_have_no zs (All-tail IsWide z zs wide)))
+numbers_have_no (z ∷ zs) wide = (
+  refl,
+  sum_has_no 10 (signed_decimal z) (numbers_text zs) (number_has_no 10 (omega arith) z (All-head IsWide z zs wide))
+      (numbers_have_no zs (All-tail IsWide z zs wide)),
+)
 
 pub row_has_no : (word : List ℕ) (zs : List ℤ) → HasNo 10 word → All IsWide zs → HasNo 10 (row_text word zs)
 row_has_no word zs none wide = sum_has_no 10 word (numbers_text zs) none (numbers_have_no zs wide)
 
 -- where more rows were passed, less is left
-pub less_left : (text : List ℕ) (rows more : List (List ℕ)) (row : List ℕ) (p q : Place) → IsAt text rows p → IsAt text (rows ++ row ∷ more) q → length q.rest < length p.rest
+pub less_left : (text : List ℕ) (rows more : List (List ℕ)) (row : List ℕ) (p q : Place) → IsAt text rows p → IsAt text (rows ++ row ∷ more) q
+    → length q.rest < length p.rest
 less_left text rows more row p q earlier later =
     let same : p.rest ≡ rows_text (row ∷ more) ++ q.rest = append_cancel_left (rows_text rows) p.rest (rows_text (row ∷ more) ++ q.rest)
-    (sym earlier.joined ∙ later.joined ∙ ap (λ l. l ++ q.rest) (rows_text_of_sum rows (row ∷ more)) ∙ append_assoc (rows_text rows) (rows_text (row ∷ more)) q.rest) in
+    (sym earlier.joined ∙ later.joined ∙ ap (λ l. l ++ q.rest) (rows_text_of_sum rows (row ∷ more))
+    ∙ append_assoc (rows_text rows) (rows_text (row ∷ more)) q.rest) in
     let whole = ap length same in
     let two = length-append (rows_text (row ∷ more)) q.rest in
     let one = length-append row (10 ∷ rows_text more) in

@@ -13,7 +13,8 @@ use Rattle.map_check.specs.Arcs.{ComeBefore, DoNotComeBefore, SplitsAt, StandsAt
 use Rattle.std.proofs.lemmas.List.{get_or_default}
 
 -- what comes before an arc that comes before a does so
-pub all_before : (arcs : List Arc) (a x : Arc) (m : ℕ) → AreRising arcs → m < length arcs → x ≡ get_or arcs m x → IsBelow (arc_numbers x) (arc_numbers a) → ComeBefore arcs a (m + 1)
+pub all_before : (arcs : List Arc) (a x : Arc) (m : ℕ) → AreRising arcs → m < length arcs → x ≡ get_or arcs m x → IsBelow (arc_numbers x) (arc_numbers a)
+    → ComeBefore arcs a (m + 1)
 all_before arcs a x m rising l e h k d b = by (ℕ_discrete k m)
   where
     here : (t : Arc) → IsBelow (arc_numbers (get_or arcs m t)) (arc_numbers a)
@@ -24,7 +25,8 @@ all_before arcs a x m rising l e h k d b = by (ℕ_discrete k m)
     by (no n) = below_transitive (arc_numbers (get_or arcs k d)) (arc_numbers (get_or arcs m d)) (arc_numbers a) (rising k m d (omega (arith, b, n)) l) (here d)
 
 -- and what comes after one that does not, does not
-pub none_after : (arcs : List Arc) (a x : Arc) (m : ℕ) → AreRising arcs → m < length arcs → x ≡ get_or arcs m x → (IsBelow (arc_numbers x) (arc_numbers a) → ⊥) → DoNotComeBefore arcs a m
+pub none_after : (arcs : List Arc) (a x : Arc) (m : ℕ) → AreRising arcs → m < length arcs → x ≡ get_or arcs m x → (IsBelow (arc_numbers x) (arc_numbers a) → ⊥)
+    → DoNotComeBefore arcs a m
 none_after arcs a x m rising l e h k d b i t = by (ℕ_discrete k m)
   where
     here : (t : Arc) → IsBelow (arc_numbers (get_or arcs m t)) (arc_numbers a) → ⊥
@@ -32,7 +34,8 @@ none_after arcs a x m rising l e h k d b i t = by (ℕ_discrete k m)
 
     by : Dec (k ≡ m) → ⊥
     by (yes s) = here d (subst (λ (j : ℕ). IsBelow (arc_numbers (get_or arcs j d)) (arc_numbers a)) s t)
-    by (no n) = here d (below_transitive (arc_numbers (get_or arcs m d)) (arc_numbers (get_or arcs k d)) (arc_numbers a) (rising m k d (omega (arith, b, n)) i) t)
+    by (no n) = here d (below_transitive (arc_numbers (get_or arcs m d)) (arc_numbers (get_or arcs k d)) (arc_numbers a)
+        (rising m k d (omega (arith, b, n)) i) t)
 
 -- what is in the list stands at the place
 pub stands_there : (arcs : List Arc) (a : Arc) (n : ℕ) → AreRising arcs → SplitsAt arcs a n → Contains arcs a → StandsAt arcs a n
@@ -43,10 +46,12 @@ stands_there arcs a n rising s c = by (dec_lt c.0 n) (ℕ_discrete c.0 n)
     by (no m) (yes e) = subst (StandsAt arcs a) e (c.1, c.2)
     by (no m) (no e) =
         let r = rising n c.0 a (omega (arith, m, e)) c.1 in
-        absurd (s.after n a (omega arith) (let l = c.1 in omega (arith, m, e, l)) (subst (λ (y : Arc). IsBelow (arc_numbers (get_or arcs n a)) (arc_numbers y)) c.2 r))
+        absurd (s.after n a (omega arith) (let l = c.1 in omega (arith, m, e, l))
+        (subst (λ (y : Arc). IsBelow (arc_numbers (get_or arcs n a)) (arc_numbers y)) c.2 r))
 
 -- joined vertices have a short arc between them, which stands in the list
-pub joined_short : (H : Graph) (x y : Vertex) (star : List Arc) → All (IsArcFrom H x.over) star → ((a : Arc) → IsArc H a → a.from ≡ x.over → Contains star a) → AreJoined H x y
+pub joined_short : (H : Graph) (x y : Vertex) (star : List Arc) → All (IsArcFrom H x.over) star → ((a : Arc) → IsArc H a → a.from ≡ x.over → Contains star a)
+    → AreJoined H x y
     → IsWithin most_shift (minus y.cell x.cell)
 joined_short H x y star each every j =
     let a = arc x.over y.over (minus y.cell x.cell) in

@@ -102,5 +102,6 @@ determinant_by d b (inl e) = subst (OnlyNothing b) (sym e) (flat_determinant b)
 determinant_by d b (inr e) = subst (OnlyNothing b) (sym e) (full_determinant b)
 
 -- the determinant of the shifts is not 0
-pub determinant_of_bijection : {G H : Graph} {M : PeriodicMap} {f : Vertex → Vertex} → IsMapOf G H M f → IsBijection G H f → determinant G.dimension M.base ≢ pos 0
+pub determinant_of_bijection : {G H : Graph} {M : PeriodicMap} {f : Vertex → Vertex} → IsMapOf G H M f → IsBijection G H f
+    → determinant G.dimension M.base ≢ pos 0
 determinant_of_bijection {G} {H} {M} {f} h b = determinant_by G.dimension M.base h.graph.dimension (λ e. flat_shifts h (sym h.same ∙ e)) (only_nothing h b)

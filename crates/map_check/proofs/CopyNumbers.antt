@@ -63,13 +63,15 @@ module _ (d v : ℕ) (S : Stairs) (b : Base) (shape : HasStairShape d S) (a : Ha
           inside = inside;
           earlier = s.at;
           before = s.before;
-          copy = copy_of_number (image_at images j) (image_at images s.at) (slice_index_or numbers j 0) (slice_index_or numbers s.at 0) (is_image j inside) (is_image s.at (omega (arith, l, inside)))
+          copy = copy_of_number (image_at images j) (image_at images s.at) (slice_index_or numbers j 0) (slice_index_or numbers s.at 0) (is_image j inside)
+              (is_image s.at (omega (arith, l, inside)))
               (h.each j inside) (h.each s.at (omega (arith, l, inside))) (sym s.is);
           none = no_copies j (omega (arith, inside)) r.first;
         }
 
 -- the numbers are below their count
-pub numbers_below : (d v size : ℕ) (S : Stairs) → HasStairShape d S → (images : List Vertex) (numbers : List ℕ) → All (IsImage d v) images → AreNumbersOf d S images numbers (length images)
+pub numbers_below : (d v size : ℕ) (S : Stairs) → HasStairShape d S → (images : List Vertex) (numbers : List ℕ) → All (IsImage d v) images
+    → AreNumbersOf d S images numbers (length images)
     → size_of S ≡ size → length images ≡ v * size → (i : ℕ) → i < length numbers → slice_index_or numbers i 0 < length numbers
 numbers_below d v size S shape images numbers each h e f i l =
     let c = h.count in
@@ -78,16 +80,19 @@ numbers_below d v size S shape images numbers each h e f i l =
     (image_below d S shape (image_at images i) (slice_index_or numbers i 0) v p.from p.to (h.each i (omega (arith, l, c))))
 
 -- what the numbers say of the images, where they are looked through
-pub copies_found : {E : Type 0} (d v : ℕ) (S : Stairs) (b : Base) → HasStairShape d S → HasMembersOf d S b → (images : List Vertex) (numbers : List ℕ) → All (IsImage d v) images
+pub copies_found : {E : Type 0} (d v : ℕ) (S : Stairs) (b : Base) → HasStairShape d S → HasMembersOf d S b → (images : List Vertex) (numbers : List ℕ)
+    → All (IsImage d v) images
     → AreNumbersOf d S images numbers (length images) → (found : Result (Option ℕ) E)
     → IfOk found (λ f. MatchOption f (AreApartBefore numbers (length numbers)) (IsFirstRepeat numbers))
     → IfOk found (λ f. MatchOption f (AreNoCopies d b images (length images)) (IsFirstCopy d b images))
-copies_found d v S b shape a images numbers each h (Ok None) t = no_copies d v S b shape a images numbers each h (length images) (omega arith) (subst (AreApartBefore numbers) h.count t)
+copies_found d v S b shape a images numbers each h (Ok None) t = no_copies d v S b shape a images numbers each h (length images) (omega arith)
+    (subst (AreApartBefore numbers) h.count t)
 copies_found d v S b shape a images numbers each h (Ok (Some j)) t = first_copy d v S b shape a images numbers each h j t
 copies_found d v S b shape a images numbers each h (Err e) t = tt
 
 -- one more number
-pub numbers_more : (d : ℕ) (S : Stairs) (images : List Vertex) (numbers more : List ℕ) (n number : ℕ) (x : Vertex) → n < length images → x ≡ slice_index_or images n x
+pub numbers_more : (d : ℕ) (S : Stairs) (images : List Vertex) (numbers more : List ℕ) (n number : ℕ) (x : Vertex) → n < length images
+    → x ≡ slice_index_or images n x
     → more ≡ numbers ++ number ∷ [] → AreNumbersOf d S images numbers n → IsImageNumber d S x number → AreNumbersOf d S images more (n + 1)
 numbers_more d S images numbers more n number x l e p h i = record {
   count = ap length p ∙ length-append numbers (number ∷ []) ∙ ap (λ (k : ℕ). k + 1) h.count;
@@ -102,5 +107,6 @@ numbers_more d S images numbers more n number x l e p h i = record {
         subst (λ (y : Vertex). IsImageNumber d S y (slice_index_or more j 0)) image (subst (IsImageNumber d S x) new i)
     by j k (no other) =
         let old : slice_index_or numbers j 0 ≡ slice_index_or more j 0 =
-        sym (get_or_append_left numbers (number ∷ []) 0 j (let c = h.count in omega (arith, k, other, c))) ∙ ap (λ (xs : List ℕ). slice_index_or xs j 0) (sym p) in
+        sym (get_or_append_left numbers (number ∷ []) 0 j (let c = h.count in omega (arith, k, other, c)))
+        ∙ ap (λ (xs : List ℕ). slice_index_or xs j 0) (sym p) in
         subst (IsImageNumber d S (image_at images j)) old (h.each j (omega (arith, k, other)))

@@ -55,13 +55,15 @@ module _ {G H : Graph} {M : PeriodicMap} {f : Vertex → Vertex} (h : IsMapOf G 
       let p = image_moved x i in
       let q = image_moved y j ∙ ap (λ (w : Vertex). moved (image_of M w) (base_sum M.base (split y j).k)) (sym e) in
       record {
-        over = ap (λ (w : Vertex). w.over) (p ∙ ap (λ (w : Vertex). vertex (image_of M w).over (plus (image_of M (place x i)).cell (base_sum M.base (split x i).k))) e)
+        over = ap (λ (w : Vertex). w.over)
+            (p ∙ ap (λ (w : Vertex). vertex (image_of M w).over (plus (image_of M (place x i)).cell (base_sum M.base (split x i).k))) e)
             ∙ sym (ap (λ (w : Vertex). w.over) (image_moved y j));
         cell = record {
           k = minus (split x i).k (split y j).k;
           dimension = subst (λ (d : ℕ). HasDimension d (minus (split x i).k (split y j).k)) h.same
               (minus_dimension G.dimension (split x i).k (split y j).k (split x i).dimension (split y j).dimension);
-          sum = (λ t. minus (p t).cell (q t).cell) ∙ difference_vector (image_of M (place x i)).cell (base_sum M.base (split x i).k) (base_sum M.base (split y j).k)
+          sum = (λ t. minus (p t).cell (q t).cell) ∙ difference_vector (image_of M (place x i)).cell (base_sum M.base (split x i).k)
+              (base_sum M.base (split y j).k)
               ∙ sym (base_sum_minus M.base (split x i).k (split y j).k);
         };
       }
@@ -71,7 +73,8 @@ module _ {G H : Graph} {M : PeriodicMap} {f : Vertex → Vertex} (h : IsMapOf G 
   count_of_bijection =
       let n = H.vertices * index_of H.dimension M.base in
       equal_numbers (G.vertices * M.m ^ G.dimension) n
-      (no_fewer (IsBoxVertex G M.m) AreSameVertex (IsVertex H) (AreMovedCopies H.dimension M.base) (G.vertices * M.m ^ G.dimension) n places copies (image_of M) (images_apart h (no_double h b)))
+      (no_fewer (IsBoxVertex G M.m) AreSameVertex (IsVertex H) (AreMovedCopies H.dimension M.base) (G.vertices * M.m ^ G.dimension) n places copies
+      (image_of M) (images_apart h (no_double h b)))
       (no_fewer_given (IsVertex H) (AreMovedCopies H.dimension M.base) (IsBoxVertex G M.m) AreSameVertex n (G.vertices * M.m ^ G.dimension) copies places place
       (λ y j. record { over = (b.onto y j).1.over; box = (split y j).box }) copies_of_place)
       ∙ ap (λ (d : ℕ). H.vertices * index_of d M.base) (sym h.same)

@@ -29,7 +29,8 @@ copy_turned d b x y c =
     let cell = ap (λ (w : Vertex). w.cell) c.is in
     let s = base_sum b c.k in
     let back : y.cell ≡ plus x.cell (minus zero_vector s) =
-    vector_equal (part_back x.cell.x y.cell.x s.x (ap (λ (v : Vector). v.x) cell)) (part_back x.cell.y y.cell.y s.y (ap (λ (v : Vector). v.y) cell)) (part_back x.cell.z y.cell.z s.z (ap (λ (v : Vector). v.z) cell)) in
+    vector_equal (part_back x.cell.x y.cell.x s.x (ap (λ (v : Vector). v.x) cell)) (part_back x.cell.y y.cell.y s.y (ap (λ (v : Vector). v.y) cell))
+    (part_back x.cell.z y.cell.z s.z (ap (λ (v : Vector). v.z) cell)) in
     let sum : base_sum b (minus zero_vector c.k) ≡ minus zero_vector s = base_sum_minus b zero_vector c.k ∙ ap (λ (v : Vector). minus v s) (base_sum_zero b) in
     let over = ap (λ (w : Vertex). w.over) (sym c.is) in
     let cells = back ∙ ap (plus x.cell) (sym sum) in
@@ -69,7 +70,8 @@ module _ (G H : Graph) (m : ℕ) (images : List Vertex) (rows : List Vector) (c 
   its_image i = ap (image_at images) (its_place i)
 
   -- moved images are copies
-  copy_of_moved : (u v : ℕ) (r s : Vector) → IsMovedImage G M u r v s → IsCopy d (base_of rows) (image_at images (place_of d m (vertex u r))) (image_at images (place_of d m (vertex v s)))
+  copy_of_moved : (u v : ℕ) (r s : Vector) → IsMovedImage G M u r v s → IsCopy d (base_of rows) (image_at images (place_of d m (vertex u r)))
+      (image_at images (place_of d m (vertex v s)))
   copy_of_moved u v r s t = record { k = t.k; dimension = t.dimension; is = t.is }
 
   -- without copies no image is doubled
@@ -114,18 +116,26 @@ module _ (G H : Graph) (m : ℕ) (images : List Vertex) (rows : List Vector) (c 
         is = record {
           earlier = vertex_at d m t.earlier;
           inside = inside_box t.earlier (omega (arith, k, l));
-          before = earlier_of_place G m c h.period_from (vertex_at d m t.earlier) (vertex_at d m j) (inside_box t.earlier (omega (arith, k, l))) (inside_box j t.inside)
+          before = earlier_of_place G m c h.period_from (vertex_at d m t.earlier) (vertex_at d m j) (inside_box t.earlier (omega (arith, k, l)))
+              (inside_box j t.inside)
               (let a = its_place t.earlier in let b = its_place j in omega (arith, k, a, b));
-          moved = record { k = t.copy.k; dimension = t.copy.dimension; is = its_image j ∙ t.copy.is ∙ ap (λ (y : Vertex). moved y (base_sum (base_of rows) t.copy.k)) (sym (its_image t.earlier)) };
+          moved = record {
+            k = t.copy.k;
+            dimension = t.copy.dimension;
+            is = its_image j ∙ t.copy.is
+                ∙ ap (λ (y : Vertex). moved y (base_sum (base_of rows) t.copy.k)) (sym (its_image t.earlier));
+          };
         };
         none = λ x b n s.
             let a = its_place j in
             let p = place_of_earlier G m c h.period_from x (vertex_at d m j) b (inside_box j t.inside) n in
-            t.none (place_of d m s.earlier) (place_of d m x) (place_of_earlier G m c h.period_from s.earlier x s.inside b s.before) (omega (arith, p, a)) (copy_of_moved x.over s.earlier.over x.cell s.earlier.cell s.moved);
+            t.none (place_of d m s.earlier) (place_of d m x) (place_of_earlier G m c h.period_from s.earlier x s.inside b s.before) (omega (arith, p, a))
+            (copy_of_moved x.over s.earlier.over x.cell s.earlier.cell s.moved);
       }
 
   -- what holds at the first place holds of the first vertex
-  first_of_place : (P : Vertex → Type 0) (i : ℕ) → i < length images → P (vertex_at d m i) → ((j : ℕ) → j < i → P (vertex_at d m j) → ⊥) → IsFirstInBox G m P (vertex_at d m i)
+  first_of_place : (P : Vertex → Type 0) (i : ℕ) → i < length images → P (vertex_at d m i) → ((j : ℕ) → j < i → P (vertex_at d m j) → ⊥)
+      → IsFirstInBox G m P (vertex_at d m i)
   first_of_place P i l p none = record {
     inside = inside_box i l;
     is = p;
@@ -174,6 +184,7 @@ module _ (G H : Graph) (m : ℕ) (images : List Vertex) (rows : List Vector) (c 
     pub first_lost : (w : Vertex) (a : _) → IsFirstLostAt G H d m f (length images) w a → IsFirstLost G H m f w a
     first_lost w a t = record {
       vertex = subst (IsFirstInBox G m (LosesArc G H f)) (sym t.vertex)
-          (first_of_place (LosesArc G H f) t.at t.inside (subst (LosesArc G H f) t.vertex (a, t.arc.lost)) (λ j l s. s.1.lost (t.none j l s.0 s.1.is_arc s.1.from)));
+          (first_of_place (LosesArc G H f) t.at t.inside (subst (LosesArc G H f) t.vertex (a, t.arc.lost))
+          (λ j l s. s.1.lost (t.none j l s.0 s.1.is_arc s.1.from)));
       arc = t.arc;
     }

@@ -13,7 +13,8 @@ use Rattle.map_check.proofs.Suiting.{has_images}
 use Rattle.map_check.proofs.Verification.{suits_table}
 
 -- it has that dimension
-pub image_flat : (G H : Graph) (d m : ℕ) (images : List Vertex) (rows : List Vector) → G.dimension ≡ d → H.dimension ≡ d → (d ≡ 2) ⊎ (d ≡ 3) → IsGraph G → SuitsGraphs G H m images rows
+pub image_flat : (G H : Graph) (d m : ℕ) (images : List Vertex) (rows : List Vector) → G.dimension ≡ d → H.dimension ≡ d → (d ≡ 2) ⊎ (d ≡ 3) → IsGraph G
+    → SuitsGraphs G H m images rows
     → (w x : Vertex) → IsQuotientVertex G w.over → IsImageOf d (table_of d m images rows) w x → HasDimension d x.cell
 image_flat G H d m images rows e f c g h w x q i =
     let l = place_inside d m images w.over i.r c (has_images G H d m images rows e f c h w.over q) i.box in

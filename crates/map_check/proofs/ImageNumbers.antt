@@ -29,9 +29,11 @@ module _ (d : ℕ) (S : Stairs) (shape : HasStairShape d S) where
   alike_cell v w n m h k i = h.is ∙ ap (number_of S) ((tell_classes.same d S v w h.r k.r h.remainder k.remainder).1 i) ∙ sym k.is
 
   -- vertices of one number
-  pub same_image : (x y : Vertex) (n m : ℕ) → 1 ≤ x.over → 1 ≤ y.over → IsImageNumber d S x n → IsImageNumber d S y m → n ≡ m → (x.over ≡ y.over) × Members d S (minus x.cell y.cell)
+  pub same_image : (x y : Vertex) (n m : ℕ) → 1 ≤ x.over → 1 ≤ y.over → IsImageNumber d S x n → IsImageNumber d S y m → n ≡ m
+      → (x.over ≡ y.over) × Members d S (minus x.cell y.cell)
   same_image x y n m a b h k e =
-      let s = parts_same (size_of S) (x.over - 1) h.number (y.over - 1) k.number (cell_below x.cell h.number h.of_cell) (cell_below y.cell k.number k.of_cell) (sym h.is ∙ e ∙ k.is) in
+      let s = parts_same (size_of S) (x.over - 1) h.number (y.over - 1) k.number (cell_below x.cell h.number h.of_cell) (cell_below y.cell k.number k.of_cell)
+      (sym h.is ∙ e ∙ k.is) in
       (again x.over y.over a b s.0, same_cell x.cell y.cell h.number k.number h.of_cell k.of_cell s.1)
     where
       again : (u v : ℕ) → 1 ≤ u → 1 ≤ v → u - 1 ≡ v - 1 → u ≡ v

@@ -89,7 +89,8 @@ module _ {G H : Graph} {M : PeriodicMap} {f : Vertex → Vertex} (h : IsMapOf G 
   size = index_of G.dimension M.base
 
   -- the map back repeats
-  back_repeats : (y : Vertex) (k : Vector) → IsVertex H y → HasDimension H.dimension k → back (moved y (times (pos size) k)) ≡ moved (back y) (base_sum (scaled (pos M.m) undo.rows) k)
+  back_repeats : (y : Vertex) (k : Vector) → IsVertex H y → HasDimension H.dimension k
+      → back (moved y (times (pos size) k)) ≡ moved (back y) (base_sum (scaled (pos M.m) undo.rows) k)
   back_repeats y k j d =
       let dk : HasDimension G.dimension k = subst (λ (n : ℕ). HasDimension n k) (sym h.same) d in
       let p = periodic_of_drawn G H M f h.table h.drawn in

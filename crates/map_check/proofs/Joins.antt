@@ -7,7 +7,8 @@ use Rattle.integers.proofs.lists.Counting.{TakesOnce, taken_length}
 use Rattle.periodic_net.specs.Graph.{Graph, Arc, arc, arcs_from, Vertex, vertex, IsVertex, AreJoined}
 use Rattle.integers.specs.Bases.{base_sum}
 use Rattle.periodic_net.specs.Maps.{PeriodicMap, IsBijection, JoinsAlike}
-use Rattle.periodic_net.proofs.CallerLemmas.{arc_between, arc_is_from, arcs_apart, between_end, carried, end_between, end_joined, end_of, from_is_arc, in_box, joined_inside, joined_moved, periodic_of_drawn}
+use Rattle.periodic_net.proofs.CallerLemmas.{arc_between, arc_is_from, arcs_apart, between_end, carried, end_between, end_joined, end_of, from_is_arc, in_box}
+use Rattle.periodic_net.proofs.CallerLemmas.{joined_inside, joined_moved, periodic_of_drawn}
 use Rattle.map_check.specs.Tables.{DegreesAgree, ArcsAreKept}
 use Rattle.map_check.specs.Laws.{IsMapOf}
 
@@ -56,7 +57,8 @@ module _ {G H : Graph} {M : PeriodicMap} {f : Vertex → Vertex} (h : IsMapOf G 
         let s = from_is_arc G w.over c l in
         let va = joined_inside G h.graph w (end_of w a) i (end_joined G w a r.0 r.1) in
         let vc = joined_inside G h.graph w (end_of w c) i (end_joined G w c s.0 s.1) in
-        let ends : f (end_of w a) ≡ f (end_of w c) = sym (end_between (f w) (f (end_of w a))) ∙ ap (end_of (f w)) (p ∙ sym q) ∙ end_between (f w) (f (end_of w c)) in
+        let ends : f (end_of w a) ≡ f (end_of w c) = sym (end_between (f w) (f (end_of w a))) ∙ ap (end_of (f w)) (p ∙ sym q)
+        ∙ end_between (f w) (f (end_of w c)) in
         sym (between_end w a r.1) ∙ ap (arc_between w) (b.once (end_of w a) (end_of w c) va vc ends) ∙ between_end w c s.1;
   }
 
@@ -89,7 +91,8 @@ module _ {G H : Graph} {M : PeriodicMap} {f : Vertex → Vertex} (h : IsMapOf G 
   joined_back : DegreesAgree G H M → ArcsAreKept G H M f → (w x : Vertex) → IsVertex G w → IsVertex G x → AreJoined H (f w) (f x) → AreJoined G w x
   joined_back degrees kept w x i j a =
       let r = each_taken (Goes f w) (arcs_from G w.over) (arcs_from H (f w).over) (arcs_apart G h.graph w.over)
-      (arcs_go_once w i (λ y v. joined_there kept w y i v)) (as_many degrees w i) (arc_between (f w) (f x)) (arc_is_from H (f w).over (arc_between (f w) (f x)) a refl) in
+      (arcs_go_once w i (λ y v. joined_there kept w y i v)) (as_many degrees w i) (arc_between (f w) (f x))
+      (arc_is_from H (f w).over (arc_between (f w) (f x)) a refl) in
       let c = r.0 in
       let k = from_is_arc G w.over c r.1 in
       let joined = end_joined G w c k.0 k.1 in

@@ -132,7 +132,8 @@ module _ (G : Graph) (m : ℕ) (c : (G.dimension ≡ 2) ⊎ (G.dimension ≡ 3))
   -- its place is that one
   pub place_of_vertex : (i : ℕ) → place_of G.dimension m (vertex_at G.dimension m i) ≡ i
   place_of_vertex i =
-      ap (λ (t : ℕ). t * box_size G.dimension m + cell_place G.dimension m (cell_at G.dimension m (i % box_size G.dimension m))) (one_less (i / box_size G.dimension m))
+      ap (λ (t : ℕ). t * box_size G.dimension m + cell_place G.dimension m (cell_at G.dimension m (i % box_size G.dimension m)))
+      (one_less (i / box_size G.dimension m))
       ∙ ap (λ (t : ℕ). (i / box_size G.dimension m) * box_size G.dimension m + t) (place_of_cell G.dimension m c h (i % box_size G.dimension m))
       ∙ made_again i (box_size G.dimension m) positive
     where

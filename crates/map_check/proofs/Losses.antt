@@ -17,7 +17,8 @@ pub record IsLoss (H : Graph) (f : Vertex → Vertex) (w : Vertex) (star : List 
   pub kept : KeepsFirst H f w star n
   pub lost : (a : Arc) → a ≡ get_or star n a → ¬ KeepsArc H f w a
 
-module _ (H : Graph) (f : Vertex → Vertex) (d m u : ℕ) (star : List Arc) (k e p : ℕ) (a : Arc) (l : k < length star) (s : a ≡ get_or star k a) (from : a.from ≡ u)
+module _ (H : Graph) (f : Vertex → Vertex) (d m u : ℕ) (star : List Arc) (k e p : ℕ) (a : Arc) (l : k < length star) (s : a ≡ get_or star k a)
+    (from : a.from ≡ u)
     (first : IsFirstLosingCell H d m f a e p) (kept : KeepCells H f d m u star k e) where
   -- one arc more, from the cells before it is lost
   pub cells_more : p ≤ e → KeepCells H f d m u star (k + 1) p
@@ -29,7 +30,8 @@ module _ (H : Graph) (f : Vertex → Vertex) (d m u : ℕ) (star : List Arc) (k 
   pub loss_here : p < e → IsLoss H f (vertex u (cell_at d m p)) star k
   loss_here b = record {
     kept = kept p b;
-    lost = λ x t j. first.lost b (subst (λ (v : ℕ). KeepsArc H f (vertex v (cell_at d m p)) a) (sym from) (subst (KeepsArc H f (vertex u (cell_at d m p))) (t ∙ get_or_default star k x a l ∙ sym s) j));
+    lost = λ x t j. first.lost b (subst (λ (v : ℕ). KeepsArc H f (vertex v (cell_at d m p)) a) (sym from)
+        (subst (KeepsArc H f (vertex u (cell_at d m p))) (t ∙ get_or_default star k x a l ∙ sym s) j));
   }
 
   -- the first loss so far: r is k where it is this one, and otherwise the one before

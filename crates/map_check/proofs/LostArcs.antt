@@ -17,12 +17,14 @@ KeepsFirst H f w star n = (k : ℕ) (d : Arc) → k < n → AreJoined H (f w) (f
 
 module _ (G H : Graph) (f : Vertex → Vertex) (w : Vertex) (star : List Arc) where
   -- one more
-  pub keeps_more : (n : ℕ) (a : Arc) → n < length star → a ≡ get_or star n a → AreJoined H (f w) (f (vertex a.to (plus w.cell a.shift))) → KeepsFirst H f w star n
+  pub keeps_more : (n : ℕ) (a : Arc) → n < length star → a ≡ get_or star n a → AreJoined H (f w) (f (vertex a.to (plus w.cell a.shift)))
+      → KeepsFirst H f w star n
       → KeepsFirst H f w star (n + 1)
   keeps_more n a l e j h k d m = by (ℕ_discrete k n)
     where
       by : Dec (k ≡ n) → AreJoined H (f w) (f (vertex (get_or star k d).to (plus w.cell (get_or star k d).shift)))
-      by (yes same) = subst (λ (b : Arc). AreJoined H (f w) (f (vertex b.to (plus w.cell b.shift)))) (sym (ap (λ (i : ℕ). get_or star i d) same ∙ get_or_default star n d a l ∙ sym e)) j
+      by (yes same) = subst (λ (b : Arc). AreJoined H (f w) (f (vertex b.to (plus w.cell b.shift))))
+          (sym (ap (λ (i : ℕ). get_or star i d) same ∙ get_or_default star n d a l ∙ sym e)) j
       by (no other) = h k d (omega (arith, m, other))
 
   -- a lost arc does not stand among those that are kept
@@ -38,7 +40,8 @@ module _ (G H : Graph) (f : Vertex → Vertex) (w : Vertex) (star : List Arc) wh
 
   -- the first that is not kept is the first lost one
   pub first_lost_arc : All (IsArcFrom G w.over) star → ((a : Arc) → IsArc G a → a.from ≡ w.over → Contains star a) → AreRising star
-      → (n : ℕ) (a : Arc) → n < length star → a ≡ get_or star n a → (AreJoined H (f w) (f (vertex a.to (plus w.cell a.shift))) → ⊥) → KeepsFirst H f w star n → IsFirstLostArc G H f w a
+      → (n : ℕ) (a : Arc) → n < length star → a ≡ get_or star n a → (AreJoined H (f w) (f (vertex a.to (plus w.cell a.shift))) → ⊥) → KeepsFirst H f w star n
+      → IsFirstLostArc G H f w a
   first_lost_arc each every rising n a l e no_join h =
       let i = subst (IsArcFrom G w.over) (sym e) (each n a l) in
       record { lost = record { is_arc = i.is_arc; from = i.from; lost = no_join }; none = none }
@@ -57,4 +60,5 @@ module _ (G H : Graph) (f : Vertex → Vertex) (w : Vertex) (star : List Arc) wh
           by (no after) (no other) =
               let r = rising n j.0 c (omega (arith, after, other)) j.1 in
               below_one_way (arc_numbers c) (arc_numbers a) b
-              (subst (λ (x : Arc). IsBelow (arc_numbers a) (arc_numbers x)) j.2 (subst (λ (x : Arc). IsBelow (arc_numbers x) (arc_numbers (get_or star j.0 c))) (get_or_default star n c a l ∙ sym e) r))
+              (subst (λ (x : Arc). IsBelow (arc_numbers a) (arc_numbers x)) j.2
+              (subst (λ (x : Arc). IsBelow (arc_numbers x) (arc_numbers (get_or star j.0 c))) (get_or_default star n c a l ∙ sym e) r))

@@ -65,7 +65,8 @@ module _ (d m : ℕ) (c : (d ≡ 2) ⊎ (d ≡ 3)) (h : 1 ≤ m) (cell : Vector)
   z_below = third_below m (last_side d m) h s i
 
   -- a cell by its number
-  at_number : (a b t : ℕ) → b < m → t < last_side d m → i + 1 ≡ a * (m * last_side d m) + (b * last_side d m + t) → vector (pos a) (pos b) (pos t) ≡ cell_at d m (i + 1)
+  at_number : (a b t : ℕ) → b < m → t < last_side d m → i + 1 ≡ a * (m * last_side d m) + (b * last_side d m + t)
+      → vector (pos a) (pos b) (pos t) ≡ cell_at d m (i + 1)
   at_number a b t k l f = sym (ap (cell_at d m) f ∙ vector_there m (last_side d m) h s a b t k l)
 
   -- where the row goes on
@@ -104,7 +105,8 @@ vertex_over d m u p h l =
     again n k = omega arith
 
 -- what holds of the vertices over the first v, and of those over the next in the first p cells
-pub each_until : (P : Vertex → Type 0) (d m v p : ℕ) → p ≤ box_size d m → ((i : ℕ) → i < v * box_size d m → P (vertex_at d m i)) → ((q : ℕ) → q < p → P (vertex (v + 1) (cell_at d m q)))
+pub each_until : (P : Vertex → Type 0) (d m v p : ℕ) → p ≤ box_size d m → ((i : ℕ) → i < v * box_size d m → P (vertex_at d m i))
+    → ((q : ℕ) → q < p → P (vertex (v + 1) (cell_at d m q)))
     → (i : ℕ) → i < v * box_size d m + p → P (vertex_at d m i)
 each_until P d m v p l h k i b = by (dec_lt i (v * box_size d m))
   where
@@ -126,7 +128,8 @@ vertex_next d m v p l =
     ap (λ (u : ℕ). vertex_at d m (u * box_size d m + p)) e ∙ vertex_over d m (v + 1) p (omega arith) l
 
 -- what holds of the vertices over one more
-pub each_next : (P : Vertex → Type 0) (d m v : ℕ) → ((i : ℕ) → i < v * box_size d m → P (vertex_at d m i)) → ((q : ℕ) → q < box_size d m → P (vertex (v + 1) (cell_at d m q)))
+pub each_next : (P : Vertex → Type 0) (d m v : ℕ) → ((i : ℕ) → i < v * box_size d m → P (vertex_at d m i))
+    → ((q : ℕ) → q < box_size d m → P (vertex (v + 1) (cell_at d m q)))
     → (i : ℕ) → i < (v + 1) * box_size d m → P (vertex_at d m i)
 each_next P d m v h k i b = each_until P d m v (box_size d m) (omega arith) h k i (subst (λ (n : ℕ). i < n) (more v (box_size d m)) b)
   where

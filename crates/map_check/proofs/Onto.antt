@@ -66,7 +66,8 @@ back_part a y s e = omega (arith, linear, e)
 
 -- the same of vectors
 back_vector : (a y s : Vector) → minus a y ≡ s → plus a (minus zero_vector s) ≡ y
-back_vector a y s e = vector_equal (back_part a.x y.x s.x (ap (λ (v : Vector). v.x) e)) (back_part a.y y.y s.y (ap (λ (v : Vector). v.y) e)) (back_part a.z y.z s.z (ap (λ (v : Vector). v.z) e))
+back_vector a y s e = vector_equal (back_part a.x y.x s.x (ap (λ (v : Vector). v.x) e)) (back_part a.y y.y s.y (ap (λ (v : Vector). v.y) e))
+    (back_part a.z y.z s.z (ap (λ (v : Vector). v.z) e))
 
 -- each vertex is met
 pub met : {G H : Graph} {M : PeriodicMap} {f : Vertex → Vertex} → IsMapOf G H M f → CountsAgree G H M → HasNoDouble G M
@@ -89,7 +90,8 @@ met {G} {H} {M} {f} h c a y j = by
         let k = minus zero_vector s.cell.k in
         let dk = minus_dimension G.dimension zero_vector s.cell.k (λ _. refl) (subst (λ (d : ℕ). HasDimension d s.cell.k) (sym h.same) s.cell.dimension) in
         let o = s.over in
-        let cell = ap (plus (image_of M w).cell) (opposite_shift M.base s.cell.k) ∙ back_vector (image_of M w).cell y.cell (base_sum M.base s.cell.k) s.cell.sum in (
+        let cell = ap (plus (image_of M w).cell) (opposite_shift M.base s.cell.k)
+        ∙ back_vector (image_of M w).cell y.cell (base_sum M.base s.cell.k) s.cell.sum in (
           vertex w.over (plus w.cell (times (pos M.m) k)),
           moved_vertex G w (times (pos M.m) k) (place_vertex w p) (times_dimension G.dimension (pos M.m) k dk),
           h.drawn w.over w.cell k p.over p.box dk ∙ (λ i. vertex (o i) (cell i)),

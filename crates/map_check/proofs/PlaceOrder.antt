@@ -70,11 +70,14 @@ module _ (G : Graph) (m : ℕ) (c : (G.dimension ≡ 2) ⊎ (G.dimension ≡ 3))
 
   -- and the other way
   pub place_of_earlier : (w x : Vertex) → IsBoxVertex G m w → IsBoxVertex G m x → ComesBefore w x → place_of G.dimension m w < place_of G.dimension m x
-  place_of_earlier w x b b' before = by (dec_lt (place_of G.dimension m w) (place_of G.dimension m x)) (ℕ_discrete (place_of G.dimension m w) (place_of G.dimension m x))
+  place_of_earlier w x b b' before = by (dec_lt (place_of G.dimension m w) (place_of G.dimension m x))
+      (ℕ_discrete (place_of G.dimension m w) (place_of G.dimension m x))
     where
-      by : Dec (place_of G.dimension m w < place_of G.dimension m x) → Dec (place_of G.dimension m w ≡ place_of G.dimension m x) → place_of G.dimension m w < place_of G.dimension m x
+      by : Dec (place_of G.dimension m w < place_of G.dimension m x) → Dec (place_of G.dimension m w ≡ place_of G.dimension m x)
+          → place_of G.dimension m w < place_of G.dimension m x
       by (yes less) e = less
       by (no n) (yes e) =
           let same : w ≡ x = sym (vertex_again G m c h w b) ∙ ap (vertex_at G.dimension m) e ∙ vertex_again G m c h x b' in
           absurd (not_below_itself (pos x.over ∷ parts 3 x.cell) (subst (λ (y : Vertex). ComesBefore y x) same before))
-      by (no n) (no e) = absurd (below_one_way (pos w.over ∷ parts 3 w.cell) (pos x.over ∷ parts 3 x.cell) before (earlier_of_place x w b' b (omega (arith, n, e))))
+      by (no n) (no e) = absurd (below_one_way (pos w.over ∷ parts 3 w.cell) (pos x.over ∷ parts 3 x.cell) before
+          (earlier_of_place x w b' b (omega (arith, n, e))))

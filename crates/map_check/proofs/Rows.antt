@@ -26,7 +26,8 @@ last_within d rows (inr e) n h =
 pub index_within : (d : ℕ) (rows : List Vector) → (d ≡ 2) ⊎ (d ≡ 3) → length rows ≡ d → All (IsShift d) rows → index_of d (base_of rows) ≤ 2 ^ 117
 index_within d rows c n h =
     let b = base_of rows in
-    let t = bounded_triple b.first b.second (cond (d == 2) up_vector b.third) (2 ^ 38) (2 ^ 38) (2 ^ 38) (h 0 zero_vector (more c)).small (h 1 zero_vector (two c)).small (last_within d rows c n h) in
+    let t = bounded_triple b.first b.second (cond (d == 2) up_vector b.third) (2 ^ 38) (2 ^ 38) (2 ^ 38) (h 0 zero_vector (more c)).small
+    (h 1 zero_vector (two c)).small (last_within d rows c n h) in
     omega (arith, t)
   where
     two : (d ≡ 2) ⊎ (d ≡ 3) → 1 < length rows

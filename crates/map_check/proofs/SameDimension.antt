@@ -31,7 +31,8 @@ added_zero : (x y : ℤ) → x ≡ pos 0 → x +ℤ y ≡ pos 0 → y ≡ pos 0
 added_zero x y e f = omega (arith, linear, e, f)
 
 -- no bijection leads to a net of dimension 2 from one of dimension 3: three shifts have a relation, so two vertices have one image
-pub not_to_plane : (G H : Graph) (f : Vertex → Vertex) (m : ℕ) (b : Base) → IsGraph G → IsPeriodic G H f m b → IsBijection G H f → G.dimension ≡ 3 → H.dimension ≡ 2 → ⊥
+pub not_to_plane : (G H : Graph) (f : Vertex → Vertex) (m : ℕ) (b : Base) → IsGraph G → IsPeriodic G H f m b → IsBijection G H f → G.dimension ≡ 3
+    → H.dimension ≡ 2 → ⊥
 not_to_plane G H f m b g p j dg dh = r.some (ap (λ (v : Vector). v.x) none, ap (λ (v : Vector). v.y) none, ap (λ (v : Vector). v.z) none)
   where
     r : Relation b.first.x b.first.y (pos 0) b.second.x b.second.y (pos 0) b.third.x b.third.y (pos 0)
@@ -56,10 +57,12 @@ not_to_plane G H f m b g p j dg dh = r.some (ap (λ (v : Vector). v.x) none, ap 
     is_further = moved_vertex G w (times (pos m) k) is_vertex (times_dimension G.dimension (pos m) k flat)
 
     last : (base_sum b k).z ≡ pos 0
-    last = added_zero (f w).cell.z (base_sum b k).z ((p.into w is_vertex).cell dh) (ap (λ (x : Vertex). x.cell.z) (sym (p.repeats w k is_vertex flat)) ∙ (p.into further is_further).cell dh)
+    last = added_zero (f w).cell.z (base_sum b k).z ((p.into w is_vertex).cell dh)
+        (ap (λ (x : Vertex). x.cell.z) (sym (p.repeats w k is_vertex flat)) ∙ (p.into further is_further).cell dh)
 
     sum : base_sum b k ≡ zero_vector
-    sum = vector_equal (grouped (r.x *ℤ b.first.x) (r.y *ℤ b.second.x) (r.z *ℤ b.third.x) r.first) (grouped (r.x *ℤ b.first.y) (r.y *ℤ b.second.y) (r.z *ℤ b.third.y) r.second) last
+    sum = vector_equal (grouped (r.x *ℤ b.first.x) (r.y *ℤ b.second.x) (r.z *ℤ b.third.x) r.first)
+        (grouped (r.x *ℤ b.first.y) (r.y *ℤ b.second.y) (r.z *ℤ b.third.y) r.second) last
 
     same : further ≡ w
     same = j.once further w is_further is_vertex (p.repeats w k is_vertex flat ∙ ap (moved (f w)) sum ∙ ap (vertex (f w).over) (plus_zero (f w).cell))
@@ -105,10 +108,12 @@ sum_orthogonal n b k p q z =
     simp ring (omega (arith, linear, simp ring at r, simp ring at s, simp ring at t))
 
 -- none leads to a net of dimension 3 from one of dimension 2: the images lie within some distance of a plane along two shifts
-pub not_from_plane : (G H : Graph) (f : Vertex → Vertex) (m : ℕ) (b : Base) → IsGraph H → IsPeriodic G H f m b → IsBijection G H f → G.dimension ≡ 2 → H.dimension ≡ 3 → ⊥
+pub not_from_plane : (G H : Graph) (f : Vertex → Vertex) (m : ℕ) (b : Base) → IsGraph H → IsPeriodic G H f m b → IsBijection G H f → G.dimension ≡ 2
+    → H.dimension ≡ 3 → ⊥
 not_from_plane G H f m b h p j dg dh =
     let high = multiple_above (suc bound) (dot n away.0) away.1 in
-    let low = subst (λ (t : ℕ). t ≤ bound) (ap (λ (x : Vertex). unsigned_abs (dot n x.cell)) hit.2 ∙ ap unsigned_abs (dot_times n (pos (suc bound)) away.0)) (within hit.0 hit.1) in
+    let low = subst (λ (t : ℕ). t ≤ bound) (ap (λ (x : Vertex). unsigned_abs (dot n x.cell)) hit.2 ∙ ap unsigned_abs (dot_times n (pos (suc bound)) away.0))
+    (within hit.0 hit.1) in
     omega (arith, high, low)
   where
     r : Relation b.first.x b.second.x (pos 0) b.first.y b.second.y (pos 0) b.first.z b.second.z (pos 0)
@@ -172,20 +177,23 @@ not_from_plane G H f m b h p j dg dh =
 
         level : dot n (f w).cell ≡ dot n (f (vertex w.over s)).cell
         level = ap (λ (x : Vertex). dot n x.cell) image ∙ dot_plus n (f (vertex w.over s)).cell (base_sum b k)
-            ∙ ap (λ (t : ℤ). dot n (f (vertex w.over s)).cell +ℤ t) (sum_orthogonal n b k r.first r.second (flat dg)) ∙ plus_nothing (dot n (f (vertex w.over s)).cell)
+            ∙ ap (λ (t : ℤ). dot n (f (vertex w.over s)).cell +ℤ t) (sum_orthogonal n b k r.first r.second (flat dg))
+            ∙ plus_nothing (dot n (f (vertex w.over s)).cell)
           where
             plus_nothing : (t : ℤ) → t +ℤ pos 0 ≡ t
             plus_nothing t = omega (arith, linear)
 
         same : distance w ≡ in_box w.over (unsigned_abs s.x) (unsigned_abs s.y)
-        same = ap unsigned_abs level ∙ ap (λ (t : Vector). distance (vertex w.over t)) (vector_equal {v = s} {w = vector (pos (unsigned_abs s.x)) (pos (unsigned_abs s.y)) (pos 0)} x.0 y.0 z)
+        same = ap unsigned_abs level ∙ ap (λ (t : Vector). distance (vertex w.over t))
+            (vector_equal {v = s} {w = vector (pos (unsigned_abs s.x)) (pos (unsigned_abs s.y)) (pos 0)} x.0 y.0 z)
 
     -- a vertex whose image lies further out than all of them
     hit : (w : Vertex) × IsVertex G w × (f w ≡ vertex 1 (times (pos (suc bound)) away.0))
     hit = j.onto (vertex 1 (times (pos (suc bound)) away.0)) (record { over = (omega arith, h.vertices); cell = λ e. absurd (omega (arith, e, dh)) })
 
 -- a periodic bijection between nets has equal dimensions
-pub same_dimension : (G H : Graph) (f : Vertex → Vertex) (m : ℕ) (b : Base) → IsGraph G → IsGraph H → IsPeriodic G H f m b → IsBijection G H f → G.dimension ≡ H.dimension
+pub same_dimension : (G H : Graph) (f : Vertex → Vertex) (m : ℕ) (b : Base) → IsGraph G → IsGraph H → IsPeriodic G H f m b → IsBijection G H f
+    → G.dimension ≡ H.dimension
 same_dimension G H f m b g h p j = by g.dimension h.dimension
   where
     by : (G.dimension ≡ 2) ⊎ (G.dimension ≡ 3) → (H.dimension ≡ 2) ⊎ (H.dimension ≡ 3) → G.dimension ≡ H.dimension

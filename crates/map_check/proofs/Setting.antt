@@ -53,9 +53,11 @@ SumsTell b d = determinant d b ≢ pos 0 → (k l : Vector) → HasDimension d k
 -- in dimension 2
 flat_sums : (b : Base) → SumsTell b 2
 flat_sums b n k l p q e =
-    coordinates_unique b.first b.second up_vector n k l (any_last b.first b.second up_vector b.third k (p refl) ∙ e ∙ any_last b.first b.second b.third up_vector l (q refl))
+    coordinates_unique b.first b.second up_vector n k l (any_last b.first b.second up_vector b.third k (p refl) ∙ e
+    ∙ any_last b.first b.second b.third up_vector l (q refl))
 
 -- where the product is not 0
-pub sums_tell : (d : ℕ) (b : Base) → (d ≡ 2) ⊎ (d ≡ 3) → determinant d b ≢ pos 0 → (k l : Vector) → HasDimension d k → HasDimension d l → base_sum b k ≡ base_sum b l → k ≡ l
+pub sums_tell : (d : ℕ) (b : Base) → (d ≡ 2) ⊎ (d ≡ 3) → determinant d b ≢ pos 0 → (k l : Vector) → HasDimension d k → HasDimension d l
+    → base_sum b k ≡ base_sum b l → k ≡ l
 sums_tell d b (inl e) = subst (SumsTell b) (sym e) (flat_sums b)
 sums_tell d b (inr e) = subst (SumsTell b) (sym e) (λ n k l _ _ h. coordinates_unique b.first b.second b.third n k l h)

@@ -24,7 +24,8 @@ pub sum_fits : (a b : ℤ) → unsigned_abs a ≤ 2 ^ 20 → unsigned_abs b ≤ 
 sum_fits a b h k = small_fits (a +ℤ b) (let p = bounded_sum a b (2 ^ 20) (2 ^ 20) h k in omega (arith, p))
 
 pub difference_fits : (a b c : ℤ) → unsigned_abs a ≤ 2 ^ 20 → unsigned_abs b ≤ 2 ^ 20 → unsigned_abs c ≤ 2 ^ 20 → FitsSigned w64 (a +ℤ b -ℤ c)
-difference_fits a b c h k l = small_fits (a +ℤ b -ℤ c) (let p = bounded_difference (a +ℤ b) c (2 ^ 20 + 2 ^ 20) (2 ^ 20) (bounded_sum a b (2 ^ 20) (2 ^ 20) h k) l in omega (arith, p))
+difference_fits a b c h k l =
+    small_fits (a +ℤ b -ℤ c) (let p = bounded_difference (a +ℤ b) c (2 ^ 20 + 2 ^ 20) (2 ^ 20) (bounded_sum a b (2 ^ 20) (2 ^ 20) h k) l in omega (arith, p))
 
 -- a wider bound
 pub wide : (z : ℤ) (n : ℕ) → n ≤ 2 ^ 20 → unsigned_abs z ≤ n → unsigned_abs z ≤ 2 ^ 20

@@ -12,7 +12,8 @@ use Rattle.map_check.proofs.Layouts.{cell_below, side_of_vector}
 use Rattle.map_check.specs.Images.{HasImages, IsImageOf, IsSplit}
 
 -- three divisions
-pub split_is : {m : ℕ} {t r k : Vector} → (pos 0 ≤ℤ r.x) × (r.x <ℤ pos m) × (t.x ≡ r.x +ℤ pos m *ℤ k.x) → (pos 0 ≤ℤ r.y) × (r.y <ℤ pos m) × (t.y ≡ r.y +ℤ pos m *ℤ k.y)
+pub split_is : {m : ℕ} {t r k : Vector} → (pos 0 ≤ℤ r.x) × (r.x <ℤ pos m) × (t.x ≡ r.x +ℤ pos m *ℤ k.x)
+    → (pos 0 ≤ℤ r.y) × (r.y <ℤ pos m) × (t.y ≡ r.y +ℤ pos m *ℤ k.y)
     → (pos 0 ≤ℤ r.z) × (r.z <ℤ pos m) × (t.z ≡ r.z +ℤ pos m *ℤ k.z) → IsSplit m t r k
 split_is {m} {t} {r} {k} a b c = record { low = (a.0, b.0, c.0); high = (a.1, b.1, c.1); sum = vector_equal {v = t} {w = plus r (times (pos m) k)} a.2 b.2 c.2 }
 

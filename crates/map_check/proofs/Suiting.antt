@@ -9,7 +9,8 @@ use Rattle.map_check.proofs.Layouts.{box_is_power, vertex_in_box}
 use Rattle.map_check.specs.Conditions.{HasCounts, IsImage, IsShift, SuitsGraphs}
 use Rattle.map_check.specs.Images.{HasImages, IsSmallTable}
 
-module _ (G H : Graph) (d m : ℕ) (images : List Vertex) (rows : List Vector) (e : G.dimension ≡ d) (f : H.dimension ≡ d) (c : (d ≡ 2) ⊎ (d ≡ 3)) (h : SuitsGraphs G H m images rows) where
+module _ (G H : Graph) (d m : ℕ) (images : List Vertex) (rows : List Vector) (e : G.dimension ≡ d) (f : H.dimension ≡ d) (c : (d ≡ 2) ⊎ (d ≡ 3))
+    (h : SuitsGraphs G H m images rows) where
   -- the images are as many as the vertices over the box
   pub count_by_box : length images ≡ G.vertices * box_size d m
   count_by_box = h.count ∙ ap (λ (n : ℕ). G.vertices * m ^ n) e ∙ ap (λ (n : ℕ). G.vertices * n) (sym (box_is_power d m c))
@@ -40,7 +41,8 @@ module _ (G H : Graph) (d m : ℕ) (images : List Vertex) (rows : List Vector) (
       (subst (λ (n : ℕ). i < G.vertices * box_size n m) (sym e) (subst (λ (n : ℕ). i < n) count_by_box l)))
 
 -- the conditions, one after the other
-pub suits_of_counts : (G H : Graph) (d e n v m : ℕ) (images : List Vertex) (rows : List Vector) → G.dimension ≡ d → H.dimension ≡ e → (d ≡ 2) ⊎ (d ≡ 3) → n ≡ G.vertices → v ≡ H.vertices
+pub suits_of_counts : (G H : Graph) (d e n v m : ℕ) (images : List Vertex) (rows : List Vector) → G.dimension ≡ d → H.dimension ≡ e → (d ≡ 2) ⊎ (d ≡ 3)
+    → n ≡ G.vertices → v ≡ H.vertices
     → HasCounts d n m images rows → All (IsImage e v) images → All (IsShift e) rows → SuitsGraphs G H m images rows
 suits_of_counts G H d e n v m images rows gd hd c gn hn h i s = record {
   period_from = h.period_from;
@@ -53,7 +55,8 @@ suits_of_counts G H d e n v m images rows gd hd c gn hn h i s = record {
 }
 
 -- and back
-pub counts_of_suits : (G H : Graph) (d e n v m : ℕ) (images : List Vertex) (rows : List Vector) → G.dimension ≡ d → H.dimension ≡ e → (d ≡ 2) ⊎ (d ≡ 3) → n ≡ G.vertices → v ≡ H.vertices
+pub counts_of_suits : (G H : Graph) (d e n v m : ℕ) (images : List Vertex) (rows : List Vector) → G.dimension ≡ d → H.dimension ≡ e → (d ≡ 2) ⊎ (d ≡ 3)
+    → n ≡ G.vertices → v ≡ H.vertices
     → SuitsGraphs G H m images rows → HasCounts d n m images rows × All (IsImage e v) images × All (IsShift e) rows
 counts_of_suits G H d e n v m images rows gd hd c gn hn h = (
   record {

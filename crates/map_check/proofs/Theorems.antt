@@ -20,8 +20,20 @@ tables_that_join G H M f h b = (λ a. (degrees_of_joins h b a, arcs_of_joins h b
 pub tables_give_iso : TablesGiveIso
 tables_give_iso = record {
   exactly = λ G H M f h. (
-    λ p. let b = bijection_of_count h p.counts p.no_double in record { period = periodic_of_drawn G H M f h.table h.drawn; bijection = b; joins = joins_of_arcs h b p.degrees p.arcs },
-    λ p. record { counts = count_of_bijection h p.bijection; no_double = no_double h p.bijection; degrees = degrees_of_joins h p.bijection p.joins; arcs = arcs_of_joins h p.bijection p.joins },
+    λ p. let b = bijection_of_count h p.counts p.no_double in record {
+      period = periodic_of_drawn G H M f h.table h.drawn;
+      bijection = b;
+      joins =
+          joins_of_arcs h b p.degrees p.arcs;
+    },
+    λ p. record {
+      counts = count_of_bijection h p.bijection;
+      no_double = no_double h p.bijection;
+      degrees = degrees_of_joins h p.bijection p.joins;
+      arcs =
+          arcs_of_joins h p.bijection p.joins;
+    },
   );
-  iso = λ G H M f h p. let b = bijection_of_count h p.counts p.no_double in let j = joins_of_arcs h b p.degrees p.arcs in (iso_of_bijection h b j, iso_there h b j);
+  iso = λ G H M f h p. let b = bijection_of_count h p.counts p.no_double in let j = joins_of_arcs h b p.degrees p.arcs in
+      (iso_of_bijection h b j, iso_there h b j);
 }

@@ -17,7 +17,8 @@ use Rattle.map_check.proofs.FirstFaults.{inside_list, no_double, first_doubled, 
 dimension_known : (G : Graph) (d : ℕ) → G.dimension ≡ d → (d ≡ 2) ⊎ (d ≡ 3) → (G.dimension ≡ 2) ⊎ (G.dimension ≡ 3)
 dimension_known G d e c = subst (λ (n : ℕ). (n ≡ 2) ⊎ (n ≡ 3)) (sym e) c
 
-module _ (G H : Graph) (d m : ℕ) (images : List Vertex) (rows : List Vector) (e : G.dimension ≡ d) (e' : H.dimension ≡ d) (c : (d ≡ 2) ⊎ (d ≡ 3)) (h : SuitsGraphs G H m images rows)
+module _ (G H : Graph) (d m : ℕ) (images : List Vertex) (rows : List Vector) (e : G.dimension ≡ d) (e' : H.dimension ≡ d) (c : (d ≡ 2) ⊎ (d ≡ 3))
+    (h : SuitsGraphs G H m images rows)
     (counts : CountsAgree G H (table_for G m images rows)) where
   -- the first copy
   pub verdict_of_copy : (j : ℕ) (w : Vertex) → w ≡ vertex_at d m j → IsFirstCopy d (base_of rows) images j
@@ -30,7 +31,8 @@ module _ (G H : Graph) (d m : ℕ) (images : List Vertex) (rows : List Vector) (
 
   -- no copy
   pub verdict_of_no_copy : AreNoCopies d (base_of rows) images (length images) → HasNoDouble G (table_for G m images rows)
-  verdict_of_no_copy t = no_double G H m images rows (dimension_known G d e c) h (subst (λ (n : ℕ). AreNoCopies n (base_of rows) images (length images)) (sym e) t)
+  verdict_of_no_copy t = no_double G H m images rows (dimension_known G d e c) h
+      (subst (λ (n : ℕ). AreNoCopies n (base_of rows) images (length images)) (sym e) t)
 
   module _ (single : HasNoDouble G (table_for G m images rows)) where
     -- the first other degree
@@ -39,12 +41,14 @@ module _ (G H : Graph) (d m : ℕ) (images : List Vertex) (rows : List Vector) (
     verdict_of_degree i w s t = (
       (e ∙ sym e', counts, single),
       subst (IsFirstInBox G m (HasOtherDegree G H (table_for G m images rows))) (sym (s ∙ ap (λ (n : ℕ). vertex_at n m i) (sym e)))
-          (first_degree G H m images rows (dimension_known G d e c) h i (subst (λ (n : ℕ). IsFirstPlace (HasOtherDegreeAt G H n m images) (length images) i) (sym e) t)),
+          (first_degree G H m images rows (dimension_known G d e c) h i
+          (subst (λ (n : ℕ). IsFirstPlace (HasOtherDegreeAt G H n m images) (length images) i) (sym e) t)),
     )
 
     -- no other degree
     pub verdict_of_degrees : HoldsNowhere (HasOtherDegreeAt G H d m images) (length images) → DegreesAgree G H (table_for G m images rows)
-    verdict_of_degrees t = degrees_agree G H m images rows (dimension_known G d e c) h (subst (λ (n : ℕ). HoldsNowhere (HasOtherDegreeAt G H n m images) (length images)) (sym e) t)
+    verdict_of_degrees t = degrees_agree G H m images rows (dimension_known G d e c) h
+        (subst (λ (n : ℕ). HoldsNowhere (HasOtherDegreeAt G H n m images) (length images)) (sym e) t)
 
     module _ (degrees : DegreesAgree G H (table_for G m images rows)) (f : Vertex → Vertex) where
       -- the first lost arc

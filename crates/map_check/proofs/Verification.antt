@@ -46,14 +46,17 @@ flat_sum x y z a b c e f g =
     omega (arith, linear, simp ring at p, simp ring at q, simp ring at r)
 
 -- what suits two graphs is a table of a map between them
-pub suits_table : (G H : Graph) (m : ℕ) (images : List Vertex) (rows : List Vector) → IsGraph G → SuitsGraphs G H m images rows → IsMapTable G H (table_for G m images rows)
+pub suits_table : (G H : Graph) (m : ℕ) (images : List Vertex) (rows : List Vector) → IsGraph G → SuitsGraphs G H m images rows
+    → IsMapTable G H (table_for G m images rows)
 suits_table G H m images rows g h = record {
   positive = h.period_from;
   into = λ u r q b.
-      let p = h.each_image (place_of G.dimension m (vertex u r)) (vertex 0 zero_vector) (inside_list G H m images rows g.dimension h (vertex u r) (record { over = q; box = b })) in
+      let p = h.each_image (place_of G.dimension m (vertex u r)) (vertex 0 zero_vector)
+      (inside_list G H m images rows g.dimension h (vertex u r) (record { over = q; box = b })) in
       record { over = (p.from, p.to); cell = p.flat };
   dimension = λ k d e.
-      flat_sum k.x k.y k.z (base_of rows).first.z (base_of rows).second.z (base_of rows).third.z (row_flat H.dimension rows 0 h.each_row e) (row_flat H.dimension rows 1 h.each_row e)
+      flat_sum k.x k.y k.z (base_of rows).first.z (base_of rows).second.z (base_of rows).third.z (row_flat H.dimension rows 0 h.each_row e)
+      (row_flat H.dimension rows 1 h.each_row e)
       (row_flat H.dimension rows 2 h.each_row e);
 }
 
@@ -97,7 +100,8 @@ module _ (G H : Graph) (m : ℕ) (images : List Vertex) (rows : List Vector) (g 
   yes_iso (No fault) f t s e = absurd (let n = ap number_of e in omega (arith, n))
 
   -- a true verdict
-  pub verified : (v : Verdict) → ((f : Vertex → Vertex) → IsDrawnBy G (table_for G m images rows) f → IsVerdict G H (table_for G m images rows) f v) → IsVerified G H m images rows v
+  pub verified : (v : Verdict) → ((f : Vertex → Vertex) → IsDrawnBy G (table_for G m images rows) f → IsVerdict G H (table_for G m images rows) f v)
+      → IsVerified G H m images rows v
   verified v s = record {
     told = s;
     exactly = λ f t. yes_exactly v f t (s f t);

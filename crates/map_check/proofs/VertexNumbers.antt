@@ -21,7 +21,8 @@ pub record AreMovedCopies (d : ℕ) (b : Base) (w x : Vertex) : Type 0 where
   pub cell : IsCombination d b (minus w.cell x.cell)
 
 -- the vertices in the box have their places as numbers
-pub place_numbers : (G : Graph) (m : ℕ) → (G.dimension ≡ 2) ⊎ (G.dimension ≡ 3) → 1 ≤ m → Numbering (IsBoxVertex G m) AreSameVertex (G.vertices * m ^ G.dimension)
+pub place_numbers : (G : Graph) (m : ℕ) → (G.dimension ≡ 2) ⊎ (G.dimension ≡ 3) → 1 ≤ m
+    → Numbering (IsBoxVertex G m) AreSameVertex (G.vertices * m ^ G.dimension)
 place_numbers G m c h =
     subst (λ (n : ℕ). Numbering (IsBoxVertex G m) AreSameVertex (G.vertices * n)) (box_is_power G.dimension m c)
     (record {
@@ -62,9 +63,11 @@ vertex_of t = vertex t.left t.right
 pub copy_numbers : (H : Graph) (b : Base) → (H.dimension ≡ 2) ⊎ (H.dimension ≡ 3) → AreFlat H.dimension b → determinant H.dimension b ≢ pos 0
     → Numbering (IsVertex H) (AreMovedCopies H.dimension b) (H.vertices * index_of H.dimension b)
 copy_numbers H b d f n =
-    along (IsVertex H) (AreMovedCopies H.dimension b) (Both (IsQuotientVertex H) (HasDimension H.dimension)) (Each AreEqualNumbers (DifferBy (IsCombination H.dimension b)))
+    along (IsVertex H) (AreMovedCopies H.dimension b) (Both (IsQuotientVertex H) (HasDimension H.dimension))
+    (Each AreEqualNumbers (DifferBy (IsCombination H.dimension b)))
     (H.vertices * index_of H.dimension b)
-    (pairs (IsQuotientVertex H) AreEqualNumbers (HasDimension H.dimension) (DifferBy (IsCombination H.dimension b)) H.vertices (index_of H.dimension b) (quotient_numbers H.vertices)
+    (pairs (IsQuotientVertex H) AreEqualNumbers (HasDimension H.dimension) (DifferBy (IsCombination H.dimension b)) H.vertices (index_of H.dimension b)
+    (quotient_numbers H.vertices)
     (class_numbers H.dimension b d f n))
     pair_of
     (record { into = λ w p. record { left = p.over; right = p.cell }; once = λ w x p q e. record { over = e.left; cell = e.right } })

@@ -1,5 +1,6 @@
 -- The archive grows by the entry of the next block.
-use Rattle.std.proofs.Common.{◌≡◌, ℕ, ◌+◌, ◌<◌, ◌≤◌, List, [], ◌∷◌, ◌++◌, length, get_or, take, drop, Option, None, refl, sym, ap, subst, ◌∙◌, append_assoc, arith}
+use Rattle.std.proofs.Common.{◌≡◌, ℕ, ◌+◌, ◌<◌, ◌≤◌, List, [], ◌∷◌, ◌++◌, length, get_or, take, drop, Option, None, refl, sym, ap, subst, ◌∙◌, append_assoc}
+use Rattle.std.proofs.Common.{arith}
 use Rattle.std.proofs.lemmas.List.{append-nil, take_more, take_all, take-append-drop, drop_more, length-take-le}
 use Rattle.cgd_read.specs.Views.{BlockView}
 use Rattle.least_key.specs.KeyedNets.{KeyedNet}
@@ -20,7 +21,8 @@ none_past given [] b = refl
 none_past given (c ∷ bs) b = refl
 
 -- the entry of one more block
-entries_last : (given : Option (List ℕ)) (bs : List BlockView) (es : List EntryView) (b : BlockView) (e : EntryView) → AreEntriesOf given bs es → IsEntryOfBlock (name_to_add (given_after given bs) b) b e
+entries_last : (given : Option (List ℕ)) (bs : List BlockView) (es : List EntryView) (b : BlockView) (e : EntryView) → AreEntriesOf given bs es
+    → IsEntryOfBlock (name_to_add (given_after given bs) b) b e
     → AreEntriesOf given (bs ++ b ∷ []) (es ++ e ∷ [])
 entries_last given [] [] b e h k = (k, tt)
 entries_last given [] (x ∷ es) b e h k = absurd h
@@ -38,7 +40,8 @@ added_none given a h = record {
 }
 
 -- one more block is added after the others
-added_more : (given : Option (List ℕ)) (bs : List BlockView) (a b c : ArchiveView) (block : BlockView) (e : EntryView) → IsAdded given bs a b → IsEntryOfBlock (name_to_add (given_after given bs) block) block e
+added_more : (given : Option (List ℕ)) (bs : List BlockView) (a b c : ArchiveView) (block : BlockView) (e : EntryView) → IsAdded given bs a b
+    → IsEntryOfBlock (name_to_add (given_after given bs) block) block e
     → c ≡ with_entry b e → IsArchive c → IsAdded given (bs ++ block ∷ []) a c
 added_more given bs a b c block e h k w good = record {
   more = h.more ++ e ∷ [];
@@ -49,7 +52,8 @@ added_more given bs a b c block e h k w good = record {
 }
 
 -- the first i blocks are added to a, which makes b, and next is the name for the next block, which has this number
-pub record AreAddedTo (given : Option (List ℕ)) (bs : List BlockView) (a : ArchiveView) (i : ℕ) (next : Option (List ℕ)) (number : ℕ) (b : ArchiveView) : Type 0 where
+pub record AreAddedTo (given : Option (List ℕ)) (bs : List BlockView) (a : ArchiveView) (i : ℕ) (next : Option (List ℕ)) (number : ℕ)
+    (b : ArchiveView) : Type 0 where
   pub added : IsAdded given (take i bs) a b
   pub next_is : next ≡ given_after given (take i bs)
   pub number_is : number ≡ i + 1
@@ -57,8 +61,10 @@ pub record AreAddedTo (given : Option (List ℕ)) (bs : List BlockView) (a : Arc
 pub added_first : (given : Option (List ℕ)) (bs : List BlockView) (a : ArchiveView) → IsArchive a → AreAddedTo given bs a 0 given 1 a
 added_first given bs a h = record { added = added_none given a h; next_is = refl; number_is = refl }
 
-pub added_next : (given : Option (List ℕ)) (bs : List BlockView) (a b c : ArchiveView) (i number : ℕ) (next : Option (List ℕ)) (block : BlockView) (net : KeyedNet) (e : EntryView)
-    → AreAddedTo given bs a i next number b → i < length bs → get_or bs i block ≡ block → IsNetOf block net → IsEntryOf (name_to_add next block) net e → c ≡ with_entry b e → IsArchive c
+pub added_next : (given : Option (List ℕ)) (bs : List BlockView) (a b c : ArchiveView) (i number : ℕ) (next : Option (List ℕ)) (block : BlockView)
+    (net : KeyedNet) (e : EntryView)
+    → AreAddedTo given bs a i next number b → i < length bs → get_or bs i block ≡ block → IsNetOf block net → IsEntryOf (name_to_add next block) net e
+    → c ≡ with_entry b e → IsArchive c
     → AreAddedTo given bs a (i + 1) None (number + 1) c
 added_next given bs a b c i number next block net e h l at is k w good =
     let longer : take (i + 1) bs ≡ take i bs ++ block ∷ [] = take_more bs i block l ∙ ap (λ (x : BlockView). take i bs ++ x ∷ []) at in
@@ -71,8 +77,10 @@ added_next given bs a b c i number next block net e h l at is k w good =
     }
 
 -- the next block cannot be added
-pub not_added : (given : Option (List ℕ)) (bs : List BlockView) (a b : ArchiveView) (i number : ℕ) (next : Option (List ℕ)) (block : BlockView) (net : KeyedNet) (fault : AddFault)
-    → AreAddedTo given bs a i next number b → i < length bs → get_or bs i block ≡ block → IsNetOf block net → IsAddFault b (name_to_add next block) net fault → IsNotAdded given bs a number fault
+pub not_added : (given : Option (List ℕ)) (bs : List BlockView) (a b : ArchiveView) (i number : ℕ) (next : Option (List ℕ)) (block : BlockView)
+    (net : KeyedNet) (fault : AddFault)
+    → AreAddedTo given bs a i next number b → i < length bs → get_or bs i block ≡ block → IsNetOf block net → IsAddFault b (name_to_add next block) net fault
+    → IsNotAdded given bs a number fault
 not_added given bs a b i number next block net fault h l at is f = record {
   before = take i bs;
   block = block;
@@ -87,5 +95,6 @@ not_added given bs a b i number next block net fault h l at is f = record {
 }
 
 -- no block is left
-pub all_added : (given : Option (List ℕ)) (bs : List BlockView) (a b : ArchiveView) (i number : ℕ) (next : Option (List ℕ)) → AreAddedTo given bs a i next number b → length bs ≤ i → IsAdded given bs a b
+pub all_added : (given : Option (List ℕ)) (bs : List BlockView) (a b : ArchiveView) (i number : ℕ) (next : Option (List ℕ))
+    → AreAddedTo given bs a i next number b → length bs ≤ i → IsAdded given bs a b
 all_added given bs a b i number next h l = subst (λ (cs : List BlockView). IsAdded given cs a b) (take_all i bs l) h.added

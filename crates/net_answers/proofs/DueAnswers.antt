@@ -12,7 +12,8 @@ use Rattle.net_report.specs.declared.status.Status.{Status}
 use Rattle.net_report.specs.declared.status.Status.TheVariants.{Done, MigrateRefused}
 
 -- what is due to a migration
-migrated : (name : List ℕ) (archive : Option (List ℕ)) (a : ArchiveView) → IsArchiveIn archive a → (s : Status) × (x : List ℕ) × IsDueOn (Migrate name) [] archive s x
+migrated : (name : List ℕ) (archive : Option (List ℕ)) (a : ArchiveView) → IsArchiveIn archive a
+    → (s : Status) × (x : List ℕ) × IsDueOn (Migrate name) [] archive s x
 migrated name archive a is = by (cases_lt most_bytes (length (newest a)))
   where
     by : (most_bytes < length (newest a)) ⊎ (length (newest a) ≤ most_bytes) → (s : Status) × (x : List ℕ) × IsDueOn (Migrate name) [] archive s x

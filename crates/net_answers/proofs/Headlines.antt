@@ -33,7 +33,8 @@ headline_with file archive accepted status text a read r e = record {
 }
 
 -- the answer that is due to these bytes
-pub headline_on : (file : List ℕ) (archive : Option (List ℕ)) (name : List ℕ) (archive_name : Option (List ℕ)) (status : Status) (text : List ℕ) → IsReported status
+pub headline_on : (file : List ℕ) (archive : Option (List ℕ)) (name : List ℕ) (archive_name : Option (List ℕ)) (status : Status) (text : List ℕ)
+    → IsReported status
     → IsDueOn (Identify name archive_name) file archive status text → Headline file archive status text
 headline_on file archive name archive_name Done text r due = headline_with file archive true Done text due.1 due.2 due.3 refl
 headline_on file archive name archive_name SomeRefused text r due = headline_with file archive false SomeRefused text due.1 due.2 due.3 refl

@@ -51,11 +51,13 @@ put_in k ks ks' e = by (known_or_fresh (λ (b : Bor (List ℤ)). b.now) same_key
     long : length (keys_of ks) ≡ length ks
     long = length-map ks (λ (b : Bor (List ℤ)). b.now)
 
-    by : IsKnown (λ (b : Bor (List ℤ)). b.now) same_key key-Decides k ks ⊎ IsFresh (λ (b : Bor (List ℤ)). b.now) same_key key-Decides k ks → IsPutIn (keys_of ks) k.now (keys_of ks')
+    by : IsKnown (λ (b : Bor (List ℤ)). b.now) same_key key-Decides k ks ⊎ IsFresh (λ (b : Bor (List ℤ)). b.now) same_key key-Decides k ks
+        → IsPutIn (keys_of ks) k.now (keys_of ks')
     by (inl r) =
         let l = r.low in
         subst (λ (new : List (List ℤ)). IsPutIn (keys_of ks) k.now new) (sym (is true r.any))
-        (known_stays (keys_of ks) k.now (subst (Contains (keys_of ks)) (r.at []) (Contains-get_or (keys_of ks) (position_or_len (same_key k) ks) [] (omega (arith, l, long)))))
+        (known_stays (keys_of ks) k.now (subst (Contains (keys_of ks)) (r.at [])
+        (Contains-get_or (keys_of ks) (position_or_len (same_key k) ks) [] (omega (arith, l, long)))))
     by (inr r) =
         subst (λ (new : List (List ℤ)). IsPutIn (keys_of ks) k.now new) (sym (is false r.any ∙ map-append (λ (b : Bor (List ℤ)). b.now) ks (k ∷ [])))
         (fresh_last (keys_of ks) k.now (All-from_get_or (λ x. x ≢ k.now) (keys_of ks) [] (λ j l. r.none j [] (omega (arith, l, long)))))

@@ -1,5 +1,6 @@
 -- The blocks of a workload: one for each net.
-use Rattle.std.proofs.Common.{◌≡◌, ℕ, zero, suc, ◌+◌, ◌<◌, ◌≤◌, ◌==◌, Bool, true, false, cond, ℤ, pos, List, [], ◌∷◌, ◌++◌, length, flat_map, refl, sym, ap, subst, ◌∙◌, arith, append_assoc}
+use Rattle.std.proofs.Common.{◌≡◌, ℕ, zero, suc, ◌+◌, ◌<◌, ◌≤◌, ◌==◌, Bool, true, false, cond, ℤ, pos, List, [], ◌∷◌, ◌++◌, length, flat_map, refl, sym, ap}
+use Rattle.std.proofs.Common.{subst, ◌∙◌, arith, append_assoc}
 use Rattle.std.specs.Prelude.{All, codes}
 use Rattle.std.specs.Fmt.{decimal, signed_decimal}
 use Rattle.std.specs.List.{list_all, range_with_len}
@@ -16,11 +17,13 @@ use Rattle.cgd_read.specs.Faults.{is_end}
 use Rattle.cgd_read.specs.Lines.{LineView, line_of, line_with}
 use Rattle.cgd_read.specs.declared.line.LineKind.TheVariants.{Opening, Edges, End}
 use Rattle.workload.specs.BaseNets.{base_edges, dimension, is_base_edge}
-use Rattle.workload.specs.Workload.{all_lines, base_of, block_text, cells_of, edge_at, edge_line, edges_text, ends_text, most_nets, part_text, place_lines, shear_of, third_text, workload}
+use Rattle.workload.specs.Workload.{all_lines, base_of, block_text, cells_of, edge_at, edge_line, edges_text, ends_text, most_nets, part_text, place_lines}
+use Rattle.workload.specs.Workload.{shear_of, third_text, workload}
 use Rattle.workload.specs.declared.edge.Edge.{Edge}
 use Rattle.workload.proofs.BaseEdges.{all_base}
 use Rattle.workload.proofs.SmallEdges.{edge_small}
-use Rattle.cover_answers.proofs.CallerLemmas.{AreShort, HasLines, HasNoFeed, IsShort, edges_read, end_read, lines_at, list_no_feed, list_tokens, marked_tokens, more_lines, no_feed, no_line, number_bytes, number_no_feed, number_token, one_line, opening_read, word_line}
+use Rattle.cover_answers.proofs.CallerLemmas.{AreShort, HasLines, HasNoFeed, IsShort, edges_read, end_read, lines_at, list_no_feed, list_tokens, marked_tokens}
+use Rattle.cover_answers.proofs.CallerLemmas.{more_lines, no_feed, no_line, number_bytes, number_no_feed, number_token, one_line, opening_read, word_line}
 
 -- none of these lines ends a block
 abbrev AreInner : List LineView → Type 0
@@ -34,7 +37,8 @@ inner_append (x ∷ xs) ys h k = (h.0, inner_append xs ys h.1 k)
 -- inside a block they are passed over
 inner_passed : (lines left : List LineView) → AreInner lines → blocks_from true (lines ++ left) ≡ blocks_from true left
 inner_passed [] left h = refl
-inner_passed (line ∷ lines) left h = ap (λ (t : Bool). cond t (blocks_from false (lines ++ left)) (blocks_from true (lines ++ left))) h.0 ∙ inner_passed lines left h.1
+inner_passed (line ∷ lines) left h = ap (λ (t : Bool). cond t (blocks_from false (lines ++ left)) (blocks_from true (lines ++ left))) h.0
+    ∙ inner_passed lines left h.1
 
 -- from line n on a text has lines that end no block, and then those of the rest
 record HasInner (n : ℕ) (text rest : List ℕ) : Type 0 where
@@ -63,19 +67,22 @@ inner_both a b p q n rest =
     }
 
 -- a line
-inner_line : (bytes : List ℕ) (line : ℕ → LineView) → HasNoFeed bytes → ((at n : ℕ) → line_of (tokens_of_line at n bytes) ≡ line n ∷ []) → ((n : ℕ) → is_end (line n).kind ≡ false)
+inner_line : (bytes : List ℕ) (line : ℕ → LineView) → HasNoFeed bytes → ((at n : ℕ) → line_of (tokens_of_line at n bytes) ≡ line n ∷ [])
+    → ((n : ℕ) → is_end (line n).kind ≡ false)
     → IsInner (bytes ++ 10 ∷ [])
 inner_line bytes line h e k n rest = record {
   next = n + 1;
   lines = line n ∷ [];
   inner = (k n, tt);
-  has = subst (λ (text : List ℕ). HasLines n text (line n ∷ []) (n + 1) rest) (sym (append_assoc bytes (10 ∷ []) rest)) (one_line n bytes rest (line n) h (λ at. e at n));
+  has = subst (λ (text : List ℕ). HasLines n text (line n ∷ []) (n + 1) rest) (sym (append_assoc bytes (10 ∷ []) rest))
+      (one_line n bytes rest (line n) h (λ at. e at n));
 }
 
 -- pieces for the numbers from a on
 inner_pieces : (f : ℕ → List ℕ) (a n m : ℕ) → a + n ≤ m → ((r : ℕ) → r < m → IsInner (f r)) → IsInner (flat_map f (range_with_len a n))
 inner_pieces f a zero m l h = inner_none
-inner_pieces f a (suc n) m l h = inner_both (f a) (flat_map f (range_with_len (a + 1) n)) (h a (omega (arith, l))) (inner_pieces f (a + 1) n m (omega (arith, l)) h)
+inner_pieces f a (suc n) m l h = inner_both (f a) (flat_map f (range_with_len (a + 1) n)) (h a (omega (arith, l)))
+    (inner_pieces f (a + 1) n m (omega (arith, l)) h)
 
 -- a row of four numbers
 flat_row : (u v x y : ℤ) → AreShort (u ∷ v ∷ x ∷ y ∷ []) → IsInner (list_text (u ∷ v ∷ x ∷ y ∷ []) ++ 10 ∷ [])
@@ -86,7 +93,8 @@ flat_row u v x y h =
 -- and of five
 space_row : (u v x y z : ℤ) → AreShort (u ∷ v ∷ x ∷ y ∷ z ∷ []) → IsInner (list_text (u ∷ v ∷ x ∷ y ∷ z ∷ []) ++ 10 ∷ [])
 space_row u v x y z h =
-    inner_line (list_text (u ∷ v ∷ x ∷ y ∷ z ∷ [])) (λ n. line_with (number_token 0 n u) (marked_tokens 0 n (v ∷ x ∷ y ∷ z ∷ []))) (list_no_feed u (v ∷ x ∷ y ∷ z ∷ []) h)
+    inner_line (list_text (u ∷ v ∷ x ∷ y ∷ z ∷ [])) (λ n. line_with (number_token 0 n u) (marked_tokens 0 n (v ∷ x ∷ y ∷ z ∷ [])))
+    (list_no_feed u (v ∷ x ∷ y ∷ z ∷ []) h)
     (λ at n. ap line_of (list_tokens u (v ∷ x ∷ y ∷ z ∷ []) at n h)) (λ n. refl)
 
 -- the same bytes, grouped
@@ -124,7 +132,8 @@ inner_edge d m k e r a b l h = by (d == 2)
     by : (t : Bool) → IsInner ((ends_text f ++ ((part_text f.x ++ part_text f.y) ++ cond t [] (part_text f.z))) ++ 10 ∷ [])
     by true = subst (λ (bytes : List ℕ). IsInner (bytes ++ 10 ∷ [])) (sym (flat_bytes (decimal f.u) (decimal f.v) (signed_decimal f.x) (signed_decimal f.y)))
         (flat_row (pos f.u) (pos f.v) f.x f.y (u, (v, (x, (y, tt)))))
-    by false = subst (λ (bytes : List ℕ). IsInner (bytes ++ 10 ∷ [])) (sym (space_bytes (decimal f.u) (decimal f.v) (signed_decimal f.x) (signed_decimal f.y) (signed_decimal f.z)))
+    by false = subst (λ (bytes : List ℕ). IsInner (bytes ++ 10 ∷ [])) (sym
+        (space_bytes (decimal f.u) (decimal f.v) (signed_decimal f.x) (signed_decimal f.y) (signed_decimal f.z)))
         (space_row (pos f.u) (pos f.v) f.x f.y f.z (u, (v, (x, (y, (z, tt))))))
 
 -- the lines of base edges
@@ -132,7 +141,8 @@ inner_edges : (d m k : ℕ) (es : List Edge) → m ≤ 4 → k < 5 → list_all 
 inner_edges d m k [] a b h = inner_none
 inner_edges d m k (e ∷ es) a b h =
     let s = and_parts (is_base_edge e) (list_all is_base_edge es) h in
-    inner_both (place_lines d m k e) (all_lines d m k es) (inner_pieces (λ r. edge_line d (edge_at m k e r)) 0 m m (omega arith) (λ r l. inner_edge d m k e r a b l s.0)) (inner_edges d m k es a b s.1)
+    inner_both (place_lines d m k e) (all_lines d m k es) (inner_pieces (λ r. edge_line d (edge_at m k e r)) 0 m m (omega arith)
+    (λ r l. inner_edge d m k e r a b l s.0)) (inner_edges d m k es a b s.1)
 
 -- the line that names a net
 abbrev name_bytes : ℕ → List ℕ
@@ -148,7 +158,8 @@ abbrev first_token : ℕ → TokenView
 first_token n = record { kind = Word; text = codes "NAME"; start = 0; line = n }
 
 inner_name : (i : ℕ) → i < most_nets → IsInner (name_bytes i ++ 10 ∷ [])
-inner_name i l = inner_line (name_bytes i) (λ n. line_with (first_token n) (name_token n i ∷ [])) feed (λ at n. ap (λ (ps : List Piece). line_of (tokens_of_pieces at n ps)) (sym (one_cut (name_pieces i) (name_bytes i) cut))) (λ n. refl)
+inner_name i l = inner_line (name_bytes i) (λ n. line_with (first_token n) (name_token n i ∷ [])) feed
+    (λ at n. ap (λ (ps : List Piece). line_of (tokens_of_pieces at n ps)) (sym (one_cut (name_pieces i) (name_bytes i) cut))) (λ n. refl)
   where
     short : IsShort (pos i)
     short = omega (arith, l)
@@ -157,13 +168,19 @@ inner_name i l = inner_line (name_bytes i) (λ n. line_with (first_token n) (nam
     feed = All-append (λ b. (b == 10) ≡ false) (codes "NAME w") (decimal i) (no_feed (codes "NAME w") refl) (number_no_feed (pos i) short)
 
     digits : All (λ b. is_run_byte b ≡ true) (decimal i)
-    digits = let n = number_bytes (pos i) short in subst (All (λ b. is_run_byte b ≡ true)) (sym n.is) (All-cons (λ b. is_run_byte b ≡ true) n.first n.others n.run n.runs)
+    digits = let n = number_bytes (pos i) short in subst (All (λ b. is_run_byte b ≡ true)) (sym n.is)
+        (All-cons (λ b. is_run_byte b ≡ true) n.first n.others n.run n.runs)
 
     cut : IsCut (name_pieces i) (name_bytes i)
     cut = (
       32 ∷ 119 ∷ decimal i,
       refl,
-      (refl, All-cons (λ b. is_run_byte b ≡ true) 65 (77 ∷ 69 ∷ []) refl (All-cons (λ b. is_run_byte b ≡ true) 77 (69 ∷ []) refl (All-cons (λ b. is_run_byte b ≡ true) 69 [] refl (All-nil (λ b. is_run_byte b ≡ true)))), refl),
+      (
+        refl,
+        All-cons (λ b. is_run_byte b ≡ true) 65 (77 ∷ 69 ∷ []) refl
+            (All-cons (λ b. is_run_byte b ≡ true) 77 (69 ∷ []) refl (All-cons (λ b. is_run_byte b ≡ true) 69 [] refl (All-nil (λ b. is_run_byte b ≡ true)))),
+        refl,
+      ),
       (119 ∷ decimal i, refl, refl, ([], sym (append-nil (119 ∷ decimal i)), (refl, digits, tt), refl)),
     )
 
@@ -174,7 +191,8 @@ inner_text i = (name_bytes i ++ 10 ∷ []) ++ ((codes "EDGES" ++ 10 ∷ []) ++ e
 inner_of_block : (i : ℕ) → i < most_nets → IsInner (inner_text i)
 inner_of_block i l =
     inner_both (name_bytes i ++ 10 ∷ []) ((codes "EDGES" ++ 10 ∷ []) ++ edges_text i) (inner_name i l)
-    (inner_both (codes "EDGES" ++ 10 ∷ []) (edges_text i) (inner_line (codes "EDGES") (word_line Edges (codes "EDGES")) (no_feed (codes "EDGES") refl) edges_read (λ n. refl))
+    (inner_both (codes "EDGES" ++ 10 ∷ []) (edges_text i) (inner_line (codes "EDGES") (word_line Edges (codes "EDGES"))
+    (no_feed (codes "EDGES") refl) edges_read (λ n. refl))
     (inner_edges (dimension (base_of i)) (cells_of i) (shear_of i) (base_edges (base_of i)) (omega arith) (omega arith) (all_base (base_of i) (omega arith))))
 
 -- the bytes of a block and of the rest, grouped by lines
@@ -202,7 +220,8 @@ counted : (first last : LineView) (lines left : List LineView) → is_end first.
     → length (blocks_from false ((first ∷ (lines ++ last ∷ [])) ++ left)) ≡ suc (length (blocks_from false left))
 counted first last lines left a h b =
     let inside = (lines ++ last ∷ []) ++ left in
-    let ended = ap (blocks_from true) (append_assoc lines (last ∷ []) left) ∙ inner_passed lines (last ∷ left) h ∙ ap (λ (t : Bool). cond t (blocks_from false left) (blocks_from true left)) b in
+    let ended = ap (blocks_from true) (append_assoc lines (last ∷ []) left) ∙ inner_passed lines (last ∷ left) h
+    ∙ ap (λ (t : Bool). cond t (blocks_from false left) (blocks_from true left)) b in
     let opened = ap (λ (t : Bool). length (cond t (blocks_from false inside) (block_of first inside ∷ blocks_from true inside))) a in
     let size = ap length ended in
     opened ∙ omega (arith, size)
@@ -212,14 +231,16 @@ one_more i at n rest l =
     let x = inner_of_block i l (n + 1) (codes "END" ++ 10 ∷ rest) in
     let first = word_line Opening (codes "PERIODIC_GRAPH") n in
     let last = word_line End (codes "END") x.next in
-    let has = more_lines n (n + 1) (x.next + 1) (codes "PERIODIC_GRAPH" ++ 10 ∷ (inner_text i ++ (codes "END" ++ 10 ∷ rest))) (inner_text i ++ (codes "END" ++ 10 ∷ rest)) rest (first ∷ []) (x.lines ++ last ∷ [])
+    let has = more_lines n (n + 1) (x.next + 1) (codes "PERIODIC_GRAPH" ++ 10 ∷ (inner_text i ++ (codes "END" ++ 10 ∷ rest)))
+    (inner_text i ++ (codes "END" ++ 10 ∷ rest)) rest (first ∷ []) (x.lines ++ last ∷ [])
     (one_line n (codes "PERIODIC_GRAPH") (inner_text i ++ (codes "END" ++ 10 ∷ rest)) first (no_feed (codes "PERIODIC_GRAPH") refl) (λ at. opening_read at n))
     (more_lines (n + 1) x.next (x.next + 1) (inner_text i ++ (codes "END" ++ 10 ∷ rest)) (codes "END" ++ 10 ∷ rest) rest x.lines (last ∷ []) x.has
     (one_line x.next (codes "END") rest last (no_feed (codes "END") refl) (λ at. end_read at x.next))) in
     record {
       place = has.place at;
       line = x.next + 1;
-      count = ap (λ (text : List ℕ). length (blocks_from false (lines_at at n text))) (block_bytes i rest) ∙ ap (λ (ls : List LineView). length (blocks_from false ls)) (has.is at)
+      count = ap (λ (text : List ℕ). length (blocks_from false (lines_at at n text))) (block_bytes i rest)
+          ∙ ap (λ (ls : List LineView). length (blocks_from false ls)) (has.is at)
           ∙ counted first last x.lines (lines_at (has.place at) (x.next + 1) rest) refl x.inner refl;
     }
 

@@ -1,5 +1,6 @@
 -- What becomes of an addition is one.
-use Rattle.std.proofs.Common.{◌≡◌, ◌≢◌, ◌⊎◌, inl, inr, ℕ, ◌+◌, ◌&&◌, true, false, List, [], ◌∷◌, ◌++◌, length, Option, None, drop, get_or, true≢false, refl, sym, ap, subst, ◌∙◌, append_assoc}
+use Rattle.std.proofs.Common.{◌≡◌, ◌≢◌, ◌⊎◌, inl, inr, ℕ, ◌+◌, ◌&&◌, true, false, List, [], ◌∷◌, ◌++◌, length, Option, None, drop, get_or, true≢false, refl}
+use Rattle.std.proofs.Common.{sym, ap, subst, ◌∙◌, append_assoc}
 use Rattle.std.specs.List.{list_all}
 use Rattle.std.proofs.lemmas.List.Elements.{All-cons, All-head, All-nil, All-tail}
 use Rattle.cgd_read.specs.Graphs.{graph_of}
@@ -16,7 +17,8 @@ use Rattle.net_archive.specs.declared.faults.AddFault.{AddFault}
 use Rattle.net_archive.specs.declared.faults.AddFault.TheVariants as add
 use Rattle.net_archive.proofs.CallerLemmas.{added_no_fault, one_add_fault, one_entry}
 use Rattle.net_report.specs.declared.command.Command.TheVariants.{Key}
-use Rattle.net_outcomes.specs.Outcomes.{Outcome, OutcomeBody, Unsupported, Malformed, Refused, Checked, Located, Keyed, Identified, Lines, FaultyItem, AreOutcomesFrom, IsBodyOf, is_accepted, is_accepted_body}
+use Rattle.net_outcomes.specs.Outcomes.{Outcome, OutcomeBody, Unsupported, Malformed, Refused, Checked, Located, Keyed, Identified, Lines, FaultyItem}
+use Rattle.net_outcomes.specs.Outcomes.{AreOutcomesFrom, IsBodyOf, is_accepted, is_accepted_body}
 use Rattle.net_outcomes.specs.Reports.{IsReport}
 use Rattle.net_outcomes.proofs.CallerLemmas.{keyed_not_refused}
 use Rattle.net_answers.specs.Due.{AreAccepted, AreEntriesOf, IsAdded, IsEntryOfBlock, IsNetOf, IsNotAdded, given_after, name_to_add, with_entries}
@@ -64,7 +66,8 @@ record Parts (given : Option (List ℕ)) (before : List BlockView) (block : Bloc
   of_front : AreEntriesOf given before front
   of_block : IsEntryOfBlock (name_to_add (given_after given before) block) block entry
 
-parts_of : (given : Option (List ℕ)) (before : List BlockView) (block : BlockView) (after : List BlockView) (es : List EntryView) → AreEntriesOf given (before ++ block ∷ after) es → Parts given before block es
+parts_of : (given : Option (List ℕ)) (before : List BlockView) (block : BlockView) (after : List BlockView) (es : List EntryView)
+    → AreEntriesOf given (before ++ block ∷ after) es → Parts given before block es
 parts_of given [] block after [] h = absurd h
 parts_of given [] block after (e ∷ es) h = record { front = []; entry = e; later = es; is = refl; of_front = tt; of_block = h.0 }
 parts_of given (c ∷ cs) block after [] h = absurd h
@@ -80,11 +83,13 @@ parts_of given (c ∷ cs) block after (e ∷ es) h =
     }
 
 -- a block that is added can be added
-added_not_refused : (given : Option (List ℕ)) (a b longer : ArchiveView) (before : List BlockView) (block : BlockView) (after : List BlockView) (net : KeyedNet) (fault : AddFault) → IsAdded given (before ++ block ∷ after) a b
+added_not_refused : (given : Option (List ℕ)) (a b longer : ArchiveView) (before : List BlockView) (block : BlockView) (after : List BlockView)
+    (net : KeyedNet) (fault : AddFault) → IsAdded given (before ++ block ∷ after) a b
     → IsAdded given before a longer → IsNetOf block net → IsAddFault longer (name_to_add (given_after given before) block) net fault → fault ≡ add.NoMemory
 added_not_refused given a b longer before block after net fault all some is cause =
     added_no_fault longer b name net r.entry r.later whole all.is_archive r.of_block.entry.name_is
-    (λ x of. one_entry name net r.of_block.net x r.entry is.keyed.is_graph (same_net block net r.of_block.net is r.of_block.is_net) of r.of_block.entry) fault cause
+    (λ x of. one_entry name net r.of_block.net x r.entry is.keyed.is_graph (same_net block net r.of_block.net is r.of_block.is_net) of r.of_block.entry) fault
+    cause
   where
     name : List ℕ
     name = name_to_add (given_after given before) block
@@ -98,19 +103,24 @@ added_not_refused given a b longer before block after net fault all some is caus
 
     whole : b ≡ record { version = longer.version; entries = longer.entries ++ r.entry ∷ r.later }
     whole =
-        all.longer ∙ ap (with_entries a) r.is ∙ ap (λ (es : List EntryView). record { version = a.version; entries = es }) (sym (append_assoc a.entries r.front (r.entry ∷ r.later)))
+        all.longer ∙ ap (with_entries a) r.is ∙ ap (λ (es : List EntryView). record { version = a.version; entries = es })
+        (sym (append_assoc a.entries r.front (r.entry ∷ r.later)))
         ∙ ap (λ (c : ArchiveView). record { version = c.version; entries = c.entries ++ r.entry ∷ r.later }) (sym so_far)
 
 -- where all blocks are added, none is refused
-pub all_or_one : (given : Option (List ℕ)) (bs : List BlockView) (a b : ArchiveView) (number : ℕ) (fault : AddFault) → IsAdded given bs a b → IsNotAdded given bs a number fault → fault ≡ add.NoMemory
-all_or_one given bs a b number fault h k = added_not_refused given a b k.longer k.before k.block k.after k.net fault (subst (λ (cs : List BlockView). IsAdded given cs a b) k.split h) k.added k.is_net k.cause
+pub all_or_one : (given : Option (List ℕ)) (bs : List BlockView) (a b : ArchiveView) (number : ℕ) (fault : AddFault) → IsAdded given bs a b
+    → IsNotAdded given bs a number fault → fault ≡ add.NoMemory
+all_or_one given bs a b number fault h k = added_not_refused given a b k.longer k.before k.block k.after k.net fault
+    (subst (λ (cs : List BlockView). IsAdded given cs a b) k.split h) k.added k.is_net k.cause
 
 -- of two places in a list one comes before the other, or they are one
 abbrev Order : List BlockView → BlockView → List BlockView → BlockView → Type 0
 Order before block before' block' =
-    ((mid : List BlockView) × (before' ≡ before ++ block ∷ mid)) ⊎ (((mid : List BlockView) × (before ≡ before' ++ block' ∷ mid)) ⊎ ((before ≡ before') × (block ≡ block')))
+    ((mid : List BlockView) × (before' ≡ before ++ block ∷ mid)) ⊎ (((mid : List BlockView) × (before ≡ before' ++ block' ∷ mid))
+    ⊎ ((before ≡ before') × (block ≡ block')))
 
-order : (before : List BlockView) (block : BlockView) (after before' : List BlockView) (block' : BlockView) (after' : List BlockView) → before ++ block ∷ after ≡ before' ++ block' ∷ after' → Order before block before' block'
+order : (before : List BlockView) (block : BlockView) (after before' : List BlockView) (block' : BlockView) (after' : List BlockView)
+    → before ++ block ∷ after ≡ before' ++ block' ∷ after' → Order before block before' block'
 order [] block after [] block' after' e = inr (inr (refl, ap (λ l. get_or l 0 block) e))
 order [] block after (c ∷ cs) block' after' e = inl (cs, ap (λ b. b ∷ cs) (sym (ap (λ l. get_or l 0 block) e)))
 order (c ∷ cs) block after [] block' after' e = inr (inl (cs, ap (λ b. b ∷ cs) (ap (λ l. get_or l 0 c) e)))
@@ -125,15 +135,21 @@ order (c ∷ cs) block after (d ∷ ds) block' after' e = by (order cs block aft
     by (inr (inr m)) = inr (inr ((λ i. first i ∷ m.0 i), m.1))
 
 -- the first block that is refused is one, and so is the cause
-pub one_not_added : (given : Option (List ℕ)) (bs : List BlockView) (a : ArchiveView) (m n : ℕ) (f g : AddFault) → IsNotAdded given bs a m f → IsNotAdded given bs a n g → f ≢ add.NoMemory → g ≢ add.NoMemory → (m ≡ n) × (f ≡ g)
+pub one_not_added : (given : Option (List ℕ)) (bs : List BlockView) (a : ArchiveView) (m n : ℕ) (f g : AddFault) → IsNotAdded given bs a m f
+    → IsNotAdded given bs a n g → f ≢ add.NoMemory → g ≢ add.NoMemory → (m ≡ n) × (f ≡ g)
 one_not_added given bs a m n f g h k p q = by (order h.before h.block h.after k.before k.block k.after (sym h.split ∙ k.split))
   where
     by : Order h.before h.block k.before k.block → (m ≡ n) × (f ≡ g)
-    by (inl (mid, e)) = absurd (p (added_not_refused given a k.longer h.longer h.before h.block mid h.net f (subst (λ (cs : List BlockView). IsAdded given cs a k.longer) e k.added) h.added h.is_net h.cause))
-    by (inr (inl (mid, e))) = absurd (q (added_not_refused given a h.longer k.longer k.before k.block mid k.net g (subst (λ (cs : List BlockView). IsAdded given cs a h.longer) e h.added) k.added k.is_net k.cause))
+    by (inl (mid, e)) = absurd (p (added_not_refused given a k.longer h.longer h.before h.block mid h.net f
+        (subst (λ (cs : List BlockView). IsAdded given cs a k.longer) e k.added) h.added h.is_net h.cause))
+    by (inr (inl (mid, e))) = absurd
+        (q (added_not_refused given a h.longer k.longer k.before k.block mid k.net g
+        (subst (λ (cs : List BlockView). IsAdded given cs a h.longer) e h.added) k.added k.is_net k.cause))
     by (inr (inr (e, b))) =
-        let longer : h.longer ≡ k.longer = one_longer given h.before a h.longer k.longer h.added (subst (λ (cs : List BlockView). IsAdded given cs a k.longer) (sym e) k.added) in
-        let name : name_to_add (given_after given h.before) h.block ≡ name_to_add (given_after given k.before) k.block = λ i. name_to_add (given_after given (e i)) (b i) in
+        let longer : h.longer ≡ k.longer = one_longer given h.before a h.longer k.longer h.added
+        (subst (λ (cs : List BlockView). IsAdded given cs a k.longer) (sym e) k.added) in
+        let name : name_to_add (given_after given h.before) h.block ≡ name_to_add (given_after given k.before) k.block =
+        λ i. name_to_add (given_after given (e i)) (b i) in
         let cause = subst (λ (c : ArchiveView). IsAddFault c (name_to_add (given_after given h.before) h.block) k.net g) (sym longer)
         (subst (λ l. IsAddFault k.longer l k.net g) (sym name) k.cause) in (
           h.number_is ∙ ap (λ (cs : List BlockView). length cs + 1) e ∙ sym k.number_is,
@@ -145,10 +161,12 @@ pub entries_accepted : (given : Option (List ℕ)) (bs : List BlockView) (es : L
 entries_accepted given [] [] h = All-nil (λ (block : BlockView). (net : KeyedNet) × IsNetOf block net)
 entries_accepted given [] (e ∷ es) h = absurd h
 entries_accepted given (b ∷ bs) [] h = absurd h
-entries_accepted given (b ∷ bs) (e ∷ es) h = All-cons (λ (block : BlockView). (net : KeyedNet) × IsNetOf block net) b bs (h.0.net, h.0.is_net) (entries_accepted None bs es h.1)
+entries_accepted given (b ∷ bs) (e ∷ es) h = All-cons (λ (block : BlockView). (net : KeyedNet) × IsNetOf block net) b bs (h.0.net, h.0.is_net)
+    (entries_accepted None bs es h.1)
 
 -- of a block that has its key no refusal is reported
-accepted_body : (block : BlockView) (body : BodyView) (net : KeyedNet) (told : OutcomeBody) → block.body ≡ body → IsNetOf block net → IsBodyOf [] Key body told → is_accepted_body told ≡ true
+accepted_body : (block : BlockView) (body : BodyView) (net : KeyedNet) (told : OutcomeBody) → block.body ≡ body → IsNetOf block net → IsBodyOf [] Key body told
+    → is_accepted_body told ≡ true
 accepted_body block body net (Checked size) e is h = refl
 accepted_body block body net (Located size names placed) e is h = refl
 accepted_body block body net (Keyed size own) e is h = refl

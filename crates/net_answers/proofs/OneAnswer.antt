@@ -11,7 +11,8 @@ use Rattle.net_report.specs.declared.command.Command.{Command}
 use Rattle.net_report.specs.declared.command.Command.TheVariants as asks
 use Rattle.net_outcomes.proofs.CallerLemmas.{all_alike, one_report, one_telling}
 use Rattle.union_answers.specs.ArchiveBytes.{IsArchiveIn, IsBadArchive, most_bytes}
-use Rattle.net_answers.specs.Due.{AreGroupsAs, HasTooMany, IsAddedAs, IsAddedOrRefused, IsDueFor, IsDueOn, IsDueToBlocks, IsDueWith, IsMigratedAs, IsNotAddedAs, IsReportAs, bytes_of}
+use Rattle.net_answers.specs.Due.{AreGroupsAs, HasTooMany, IsAddedAs, IsAddedOrRefused, IsDueFor, IsDueOn, IsDueToBlocks, IsDueWith, IsMigratedAs, IsNotAddedAs}
+use Rattle.net_answers.specs.Due.{IsReportAs, bytes_of}
 use Rattle.net_answers.specs.Laws.{OneDueAnswer}
 use Rattle.net_answers.specs.Summaries.{IsSummary, IsSummaryAs, summary_text}
 use Rattle.net_report.specs.declared.status.Status.{Status}
@@ -27,7 +28,8 @@ abbrev AreOne : Status → Status → List ℕ → List ℕ → Type 0
 AreOne s t x y = (s ≡ t) × (x ≡ y)
 
 -- a report
-one_report_as : (command : Command) (entries : List EntryView) (blocks : List BlockView) (s t : Status) (x y : List ℕ) → IsReportAs command entries blocks s x → IsReportAs command entries blocks t y → AreOne s t x y
+one_report_as : (command : Command) (entries : List EntryView) (blocks : List BlockView) (s t : Status) (x y : List ℕ) → IsReportAs command entries blocks s x
+    → IsReportAs command entries blocks t y → AreOne s t x y
 one_report_as command entries blocks Done Done x y h k = (refl, (one_report command entries blocks true true x y h k).1)
 one_report_as command entries blocks Done SomeRefused x y h k = absurd (true≢false (one_report command entries blocks true false x y h k).0)
 one_report_as command entries blocks SomeRefused Done x y h k = absurd (true≢false (sym (one_report command entries blocks false true x y h k).0))
@@ -55,7 +57,11 @@ one_summary_as made blocks s t x y h k = absurd h
 
 -- the groups
 one_groups : (a : ArchiveView) (s t : Status) (x y : List ℕ) → AreGroupsAs a s x → AreGroupsAs a t y → AreOne s t x y
-one_groups a Done Done x y h k = (refl, h.text_is ∙ ap (groups_text a.entries) (one_list_of_groups a.entries h.groups k.groups h.are_groups k.are_groups) ∙ sym k.text_is)
+one_groups a Done Done x y h k = (
+  refl,
+  h.text_is ∙ ap (groups_text a.entries) (one_list_of_groups a.entries h.groups k.groups h.are_groups k.are_groups)
+      ∙ sym k.text_is,
+)
 one_groups a Done t x y h k = absurd k
 one_groups a s t x y h k = absurd h
 
@@ -105,7 +111,8 @@ module _ (given : Option (List ℕ)) (blocks : List BlockView) (a : ArchiveView)
   one_addition s t x y h k = absurd h
 
 -- what is due to a task, of blocks and of an archive
-one_due_for : (task : Task) (blocks : List BlockView) (a : ArchiveView) (s t : Status) (x y : List ℕ) → IsDueFor task blocks a s x → IsDueFor task blocks a t y → AreOne s t x y
+one_due_for : (task : Task) (blocks : List BlockView) (a : ArchiveView) (s t : Status) (x y : List ℕ) → IsDueFor task blocks a s x → IsDueFor task blocks a t y
+    → AreOne s t x y
 one_due_for (Check file) blocks a s t x y h k = one_report_as asks.Check a.entries blocks s t x y h k
 one_due_for (Place file) blocks a s t x y h k = one_report_as asks.Place a.entries blocks s t x y h k
 one_due_for (Key file) blocks a s t x y h k = one_report_as asks.Key a.entries blocks s t x y h k
@@ -125,32 +132,39 @@ data WayOf (task : Task) (bytes : List ℕ) (archive : Option (List ℕ)) (s : S
   Read : (a : ArchiveView) → IsArchiveIn archive a → IsDueFor task (blocks_of bytes) a s x → WayOf task bytes archive s x
   Faulty : s ≡ BadArchive → IsBadArchive archive x → WayOf task bytes archive s x
 
-way_of : (task : Task) (bytes : List ℕ) (archive : Option (List ℕ)) (s : Status) (x : List ℕ) → IsDueToBlocks task bytes archive s x → WayOf task bytes archive s x
+way_of : (task : Task) (bytes : List ℕ) (archive : Option (List ℕ)) (s : Status) (x : List ℕ) → IsDueToBlocks task bytes archive s x
+    → WayOf task bytes archive s x
 way_of task bytes archive BadArchive x h = Faulty refl h.1
 way_of task bytes archive s x h = Read h.1 h.2 h.3
 
-one_way : (task : Task) (bytes : List ℕ) (archive : Option (List ℕ)) (s t : Status) (x y : List ℕ) → WayOf task bytes archive s x → WayOf task bytes archive t y → AreOne s t x y
-one_way task bytes archive s t x y (Read a h d) (Read b k e) = one_due_for task (blocks_of bytes) a s t x y d (subst (λ c. IsDueFor task (blocks_of bytes) c t y) (sym (one_archive_in archive a b h k)) e)
+one_way : (task : Task) (bytes : List ℕ) (archive : Option (List ℕ)) (s t : Status) (x y : List ℕ) → WayOf task bytes archive s x
+    → WayOf task bytes archive t y → AreOne s t x y
+one_way task bytes archive s t x y (Read a h d) (Read b k e) = one_due_for task (blocks_of bytes) a s t x y d
+    (subst (λ c. IsDueFor task (blocks_of bytes) c t y) (sym (one_archive_in archive a b h k)) e)
 one_way task bytes archive s t x y (Read a h d) (Faulty e k) = absurd (not_bad archive a y h k)
 one_way task bytes archive s t x y (Faulty e h) (Read b k d) = absurd (not_bad archive b x k h)
 one_way task bytes archive s t x y (Faulty e h) (Faulty f k) = (e ∙ sym f, one_bad archive x y h k)
 
 -- blocks are no more than there may be
-few_blocks : (task : Task) (bytes : List ℕ) (archive : Option (List ℕ)) (s : Status) (x : List ℕ) → IsDueToBlocks task bytes archive s x → length (blocks_of bytes) ≤ most_blocks
+few_blocks : (task : Task) (bytes : List ℕ) (archive : Option (List ℕ)) (s : Status) (x : List ℕ) → IsDueToBlocks task bytes archive s x
+    → length (blocks_of bytes) ≤ most_blocks
 few_blocks task bytes archive BadArchive x h = h.0
 few_blocks task bytes archive s x h = h.0
 
 -- what is due to the blocks of these bytes is one
-one_of_blocks : (task : Task) (bytes : List ℕ) (archive : Option (List ℕ)) (s t : Status) (x y : List ℕ) → IsDueToBlocks task bytes archive s x → IsDueToBlocks task bytes archive t y → AreOne s t x y
+one_of_blocks : (task : Task) (bytes : List ℕ) (archive : Option (List ℕ)) (s t : Status) (x y : List ℕ) → IsDueToBlocks task bytes archive s x
+    → IsDueToBlocks task bytes archive t y → AreOne s t x y
 one_of_blocks task bytes archive s t x y h k = one_way task bytes archive s t x y (way_of task bytes archive s x h) (way_of task bytes archive t y k)
 
-one_with : (task : Task) (bytes : List ℕ) (archive : Option (List ℕ)) (s t : Status) (x y : List ℕ) → IsDueWith task bytes archive s x → IsDueWith task bytes archive t y → AreOne s t x y
+one_with : (task : Task) (bytes : List ℕ) (archive : Option (List ℕ)) (s t : Status) (x y : List ℕ) → IsDueWith task bytes archive s x
+    → IsDueWith task bytes archive t y → AreOne s t x y
 one_with (Union file name) bytes archive s t x y h k = one_union_due bytes archive s t x y h k
 one_with (Verify file) bytes archive s t x y h k = one_verification bytes s t x y h k
 one_with task bytes archive s t x y h k = one_of_blocks task bytes archive s t x y h k
 
 -- where there are too many blocks or items, nothing is due
-many_or_few : (task : Task) (bytes : List ℕ) (archive : Option (List ℕ)) (s : Status) (x : List ℕ) → most_blocks < length (blocks_of bytes) → ¬ IsDueToBlocks task bytes archive s x
+many_or_few : (task : Task) (bytes : List ℕ) (archive : Option (List ℕ)) (s : Status) (x : List ℕ) → most_blocks < length (blocks_of bytes)
+    → ¬ IsDueToBlocks task bytes archive s x
 many_or_few task bytes archive s x m h = let few = few_blocks task bytes archive s x h in absurd (omega (arith, m, few))
 
 not_many : (task : Task) (bytes : List ℕ) (archive : Option (List ℕ)) (s : Status) (x : List ℕ) → HasTooMany task bytes → ¬ IsDueWith task bytes archive s x
@@ -168,7 +182,8 @@ count_of : (task : Task) (file : List ℕ) (archive : Option (List ℕ)) (s : St
 count_of task file archive TooManyBlocks x h = Many refl h.0 h.1
 count_of task file archive s x h = Few h
 
-one_count : (task : Task) (file : List ℕ) (archive : Option (List ℕ)) (s t : Status) (x y : List ℕ) → CountOf task file archive s x → CountOf task file archive t y → AreOne s t x y
+one_count : (task : Task) (file : List ℕ) (archive : Option (List ℕ)) (s t : Status) (x y : List ℕ) → CountOf task file archive s x
+    → CountOf task file archive t y → AreOne s t x y
 one_count task file archive s t x y (Many e m f) (Many e' m' f') = (e ∙ sym e', f ∙ sym f')
 one_count task file archive s t x y (Many e m f) (Few h) = absurd (not_many task (bytes_of task file) archive t y m h)
 one_count task file archive s t x y (Few h) (Many e m f) = absurd (not_many task (bytes_of task file) archive s x m h)

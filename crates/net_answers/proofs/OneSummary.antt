@@ -1,5 +1,6 @@
 -- The groups of entries are one list, and the summary of a workload is one.
-use Rattle.std.proofs.Common.{◌≡◌, ℕ, suc, ◌<◌, ◌≤◌, ℤ, Bool, true, false, cond, List, [], ◌∷◌, length, map, filter, Option, Some, refl, sym, ap, subst, ◌∙◌, arith}
+use Rattle.std.proofs.Common.{◌≡◌, ℕ, suc, ◌<◌, ◌≤◌, ℤ, Bool, true, false, cond, List, [], ◌∷◌, length, map, filter, Option, Some, refl, sym, ap, subst, ◌∙◌}
+use Rattle.std.proofs.Common.{arith}
 use Rattle.std.proofs.Math.Nat.{le_antisymm}
 use Rattle.integers.proofs.lists.Counting.{not_longer}
 use Rattle.integers.proofs.lists.Members.{IsIn, apart_from_pairs, contains_from_in, is_in}
@@ -26,19 +27,23 @@ abbrev keys_of : List Outcome → List (Option (List ℤ))
 keys_of os = map (λ (o : Outcome). key_told o.body) os
 
 -- a key of the one is a key of the other
-key_there : (os ps : List Outcome) (keys others : List (List ℤ)) → keys_of os ≡ keys_of ps → AreDifferentKeys os keys → AreDifferentKeys ps others → (xs : List ℤ) → IsIn keys xs → IsIn others xs
+key_there : (os ps : List Outcome) (keys others : List (List ℤ)) → keys_of os ≡ keys_of ps → AreDifferentKeys os keys → AreDifferentKeys ps others
+    → (xs : List ℤ) → IsIn keys xs → IsIn others xs
 key_there os ps keys others same a b xs i =
     let w = (a.exact xs).0 (contains_from_in keys xs i) in
     let told : IsIn (keys_of os) (Some xs) = subst (IsIn (keys_of os)) w.2 (map_in (λ (o : Outcome). key_told o.body) os w.0 (is_in os w.0 w.1)) in
     let r = in_map (λ (o : Outcome). key_told o.body) ps (Some xs) (subst (λ l. IsIn l (Some xs)) same told) in
     is_in others xs ((b.exact xs).1 (r.0, contains_from_in ps r.0 r.1, r.2))
 
-no_more_keys : (os ps : List Outcome) (keys others : List (List ℤ)) → keys_of os ≡ keys_of ps → AreDifferentKeys os keys → AreDifferentKeys ps others → length keys ≤ length others
+no_more_keys : (os ps : List Outcome) (keys others : List (List ℤ)) → keys_of os ≡ keys_of ps → AreDifferentKeys os keys → AreDifferentKeys ps others
+    → length keys ≤ length others
 no_more_keys os ps keys others same a b =
-    not_longer (λ (x y : List ℤ). x ≡ y) keys others (apart_from_pairs keys a.once) (record { into = λ x i. (x, key_there os ps keys others same a b x i, refl); once = λ x x' y i j e f. e ∙ sym f })
+    not_longer (λ (x y : List ℤ). x ≡ y) keys others (apart_from_pairs keys a.once)
+    (record { into = λ x i. (x, key_there os ps keys others same a b x i, refl); once = λ x x' y i j e f. e ∙ sym f })
 
 -- there are as many different keys
-pub as_many_keys : (os ps : List Outcome) (keys others : List (List ℤ)) → keys_of os ≡ keys_of ps → AreDifferentKeys os keys → AreDifferentKeys ps others → length keys ≡ length others
+pub as_many_keys : (os ps : List Outcome) (keys others : List (List ℤ)) → keys_of os ≡ keys_of ps → AreDifferentKeys os keys → AreDifferentKeys ps others
+    → length keys ≡ length others
 as_many_keys os ps keys others same a b = le_antisymm (no_more_keys os ps keys others same a b) (no_more_keys ps os others keys (sym same) b a)
 
 -- how many are accepted is known from whether each is
@@ -47,7 +52,8 @@ counted [] = refl
 counted (o ∷ os) = by (is_accepted o) (counted os)
   where
     by : (b : Bool) → length (filter is_accepted os) ≡ length (filter (λ (b : Bool). b) (map is_accepted os))
-        → length (cond b (o ∷ filter is_accepted os) (filter is_accepted os)) ≡ length (cond b (b ∷ filter (λ (b : Bool). b) (map is_accepted os)) (filter (λ (b : Bool). b) (map is_accepted os)))
+        → length (cond b (o ∷ filter is_accepted os) (filter is_accepted os)) ≡ length
+        (cond b (b ∷ filter (λ (b : Bool). b) (map is_accepted os)) (filter (λ (b : Bool). b) (map is_accepted os)))
     by true e = ap (λ n. suc n) e
     by false e = e
 

@@ -35,11 +35,13 @@ text_so (Verify file) blocks a status text due = absurd due
 text_so (Workload count) blocks a status text due = absurd due
 
 -- to the blocks of bytes
-pub text_of_blocks : (task : Task) (bytes : List ℕ) (archive : Option (List ℕ)) (status : Status) (text : List ℕ) → IsDueToBlocks task bytes archive status text → GoesWithText status
+pub text_of_blocks : (task : Task) (bytes : List ℕ) (archive : Option (List ℕ)) (status : Status) (text : List ℕ)
+    → IsDueToBlocks task bytes archive status text → GoesWithText status
 text_of_blocks task bytes archive BadArchive text due = tt
 text_of_blocks task bytes archive status text due = text_so task (blocks_of bytes) due.1 status text due.3
 
-text_of_either : (begins : Bool) (bytes : List ℕ) (archive : Option (List ℕ)) (status : Status) (text : List ℕ) → IsUnionAs begins bytes archive status text → GoesWithText status
+text_of_either : (begins : Bool) (bytes : List ℕ) (archive : Option (List ℕ)) (status : Status) (text : List ℕ) → IsUnionAs begins bytes archive status text
+    → GoesWithText status
 text_of_either begins bytes archive Done text due = tt
 text_of_either begins bytes archive SomeRefused text due = tt
 text_of_either begins bytes archive Usage text due = tt

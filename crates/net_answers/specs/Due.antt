@@ -161,7 +161,8 @@ IsOfBlocks task = Unit {0}
 -- this task, of the blocks of these bytes and of the archive of those, has this answer
 abbrev pub IsDueToBlocks : Task → List ℕ → Option (List ℕ) → Status → List ℕ → Type 0
 IsDueToBlocks task bytes archive status.BadArchive text = (length (blocks_of bytes) ≤ most_blocks) × IsBadArchive archive text
-IsDueToBlocks task bytes archive s text = (length (blocks_of bytes) ≤ most_blocks) × (a : ArchiveView) × IsArchiveIn archive a × IsDueFor task (blocks_of bytes) a s text
+IsDueToBlocks task bytes archive s text = (length (blocks_of bytes) ≤ most_blocks) × (a : ArchiveView) × IsArchiveIn archive a
+    × IsDueFor task (blocks_of bytes) a s text
 
 -- this task, of these bytes and of the archive of those, has this answer
 abbrev pub IsDueWith : Task → List ℕ → Option (List ℕ) → Status → List ℕ → Type 0

@@ -2,7 +2,8 @@
 use Rattle.std.specs.Prelude.{Option, Some}
 use Rattle.command_words.specs.Tasks.{Task, Add, Migrate, Union, Verify}
 use Rattle.net_report.specs.declared.status.Status.{Status}
-use Rattle.net_report.specs.declared.status.Status.TheVariants.{Done, SomeRefused, Usage, ReadFault, WriteFault, BadArchive, NoMemory, TooManyBlocks, AddRefused, MigrateRefused, BadMap}
+use Rattle.net_report.specs.declared.status.Status.TheVariants.{Done, SomeRefused, Usage, ReadFault, WriteFault, BadArchive, NoMemory, TooManyBlocks}
+use Rattle.net_report.specs.declared.status.Status.TheVariants.{AddRefused, MigrateRefused, BadMap}
 
 -- the nets are united with an archive
 abbrev pub IsOfUniting : Option Task → Type 0

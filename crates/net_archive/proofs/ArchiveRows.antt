@@ -20,7 +20,8 @@ lines_with v (e ∷ es) more =
 -- the text with more entries
 pub text_with : (v : Version) (es more : List EntryView) → text_of v es ++ rows_text (entry_lines v more) ≡ text_of v (es ++ more)
 text_with v es more =
-    sym (rows_text_of_sum (first_row v ∷ entry_lines v es) (entry_lines v more)) ∙ ap (λ (rows : List (List ℕ)). rows_text (first_row v ∷ rows)) (sym (lines_with v es more))
+    sym (rows_text_of_sum (first_row v ∷ entry_lines v es) (entry_lines v more))
+    ∙ ap (λ (rows : List (List ℕ)). rows_text (first_row v ∷ rows)) (sym (lines_with v es more))
 
 -- the text is the first line, and the rows of the entries
 pub first_and_body : (v : Version) (es : List EntryView) → rows_text (first_row v ∷ []) ++ rows_text (entry_lines v es) ≡ text_of v es
@@ -33,8 +34,10 @@ views_pushed (x ∷ items) e = ap (λ (es : List EntryView). entry_view x ∷ es
 
 -- the text of the next entry, after those of the first i
 pub next_entry : (v : Version) (items : List Entry) (i : ℕ) (e : Entry) (before after : List ℕ) → i < length items → e ≡ get_or items i e
-    → before ≡ text_of v (entry_views (take i items)) → after ≡ before ++ rows_text (entry_lines v (entry_view e ∷ [])) → after ≡ text_of v (entry_views (take (i + 1) items))
+    → before ≡ text_of v (entry_views (take i items)) → after ≡ before ++ rows_text (entry_lines v (entry_view e ∷ []))
+    → after ≡ text_of v (entry_views (take (i + 1) items))
 next_entry v items i e before after l is b a =
-    let longer : take (i + 1) items ≡ take i items ++ e ∷ [] = ap (λ (n : ℕ). take n items) (add-one i) ∙ take-suc items i e l ∙ ap (λ (x : Entry). take i items ++ x ∷ []) (sym is) in
+    let longer : take (i + 1) items ≡ take i items ++ e ∷ [] = ap (λ (n : ℕ). take n items) (add-one i) ∙ take-suc items i e l
+    ∙ ap (λ (x : Entry). take i items ++ x ∷ []) (sym is) in
     a ∙ ap (λ (t : List ℕ). t ++ rows_text (entry_lines v (entry_view e ∷ []))) b ∙ text_with v (entry_views (take i items)) (entry_view e ∷ [])
     ∙ ap (text_of v) (sym (views_pushed (take i items) e)) ∙ ap (λ (xs : List Entry). text_of v (entry_views xs)) (sym longer)

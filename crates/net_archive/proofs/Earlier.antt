@@ -20,7 +20,8 @@ use Rattle.archive_text.proofs.CallerLemmas.{Cut, cut_from, end_follows, entry_c
 use Rattle.net_archive.specs.Archives.{IsEntry, most_entries}
 use Rattle.net_archive.specs.Faults.{AreEntries, FaultAt, IsBegun, IsBadLine, IsFaultAtEnd, IsRepeated, IsTooMany, Stands}
 use Rattle.net_archive.specs.declared.faults.ArchiveFault.{ArchiveFault}
-use Rattle.net_archive.specs.declared.faults.ArchiveFault.TheVariants.{BadLine, RepeatedName, EntryRefused, KeyDiffers, TooManyEntries, Version as OtherVersion, CountDiffers, ShellsDiffer, NoMemory}
+use Rattle.net_archive.specs.declared.faults.ArchiveFault.TheVariants.{BadLine, RepeatedName, EntryRefused, KeyDiffers, TooManyEntries, Version as OtherVersion}
+use Rattle.net_archive.specs.declared.faults.ArchiveFault.TheVariants.{CountDiffers, ShellsDiffer, NoMemory}
 use Rattle.net_archive.proofs.Ahead.{IsAhead, no_end}
 use Rattle.net_archive.proofs.NamesApart.{names_apart}
 use Rattle.net_archive.proofs.NoEndFault.{no_judged}
@@ -55,7 +56,8 @@ same_length : (v : Version) (xs ys : List EntryView) → map (shown v) xs ≡ ma
 same_length v xs ys e = sym (length-map xs (shown v)) ∙ ap length e ∙ length-map ys (shown v)
 
 -- after a name one more entry of this name is begun
-begun_with : (all : List EntryView) (last : Part) (name : List ℕ) (others : List Row) → OfName name ∷ others ≡ part_rows last → IsBegun all last → (¬ Contains (names_of all) name) × (length all < most_entries)
+begun_with : (all : List EntryView) (last : Part) (name : List ℕ) (others : List Row) → OfName name ∷ others ≡ part_rows last → IsBegun all last
+    → (¬ Contains (names_of all) name) × (length all < most_entries)
 begun_with all Start name others e may = let long = ap length e in absurd (omega (arith, long))
 begun_with all (Named own) name others e may = (subst (λ n. ¬ Contains (names_of all) n) (sym (ap name_in e)) may.fresh, may.few)
 begun_with all (Drawn own s edges) name others e may = (subst (λ n. ¬ Contains (names_of all) n) (sym (ap name_in e)) may.fresh, may.few)
@@ -76,7 +78,8 @@ module _ (v : Version) (all : List EntryView) (last : Part) (good : AreEntries a
     row_is = by a.row a.may a.stands
       where
         by : (r : Row) → MayStandAfter v Start r → place.rest ≡ row_line r ++ 10 ∷ a.after → r ≡ OfName name
-        by (OfName other) may at = ap OfName (same_name other name (same_row (name_row other) (name_row name) a.after stands.0 (name_none other may) (name_none name is) (sym at ∙ stands.1)).0)
+        by (OfName other) may at = ap OfName
+            (same_name other name (same_row (name_row other) (name_row name) a.after stands.0 (name_none other may) (name_none name is) (sym at ∙ stands.1)).0)
         by (OfSize s) may at = absurd may
         by (OfEdge dim e) may at = absurd may
         by (OfKey key) may at = absurd may
@@ -88,14 +91,16 @@ module _ (v : Version) (all : List EntryView) (last : Part) (good : AreEntries a
     rows_are = ap (λ r. r ∷ a.others) (sym row_is) ∙ a.rows
 
     -- the name is new, and there is room for one more
-    fresh : (more : List EntryView) → all ≡ a.front ++ more → OfName name ∷ a.others ≡ flat_map (entry_rows v) more ++ part_rows last → (¬ Contains (names_of a.front) name) × (length a.front < most_entries)
+    fresh : (more : List EntryView) → all ≡ a.front ++ more → OfName name ∷ a.others ≡ flat_map (entry_rows v) more ++ part_rows last
+        → (¬ Contains (names_of a.front) name) × (length a.front < most_entries)
     fresh [] whole rows =
         let same : all ≡ a.front = whole ∙ append-nil a.front in
         subst (λ l. (¬ Contains (names_of l) name) × (length l < most_entries)) same (begun_with all last name a.others rows begun)
     fresh (e ∷ later) whole rows = (none, room)
       where
         own : e.name ≡ name
-        own = sym (first_name v e (flat_map (entry_rows v) later ++ part_rows last)) ∙ ap name_in (sym (append_assoc (entry_rows v e) (flat_map (entry_rows v) later) (part_rows last)) ∙ sym rows)
+        own = sym (first_name v e (flat_map (entry_rows v) later ++ part_rows last))
+            ∙ ap name_in (sym (append_assoc (entry_rows v e) (flat_map (entry_rows v) later) (part_rows last)) ∙ sym rows)
 
         long : length all ≡ length (a.front ++ e ∷ later)
         long = ap length whole
@@ -107,7 +112,8 @@ module _ (v : Version) (all : List EntryView) (last : Part) (good : AreEntries a
         none = subst (λ n. ¬ Contains (names_of a.front) n) own (names_apart all a.front e later whole good.names)
 
   no_repeated : (n : ℕ) → IsAhead v all last es Start place.rest → IsRepeated es place n → ⊥
-  no_repeated n a bad = (fresh a bad.name bad.is_name bad.begins a.more a.is (rows_are a bad.name bad.is_name bad.begins)).0 (subst (λ l. Contains l bad.name) (sym (same_names v a.front es a.same)) bad.among)
+  no_repeated n a bad = (fresh a bad.name bad.is_name bad.begins a.more a.is (rows_are a bad.name bad.is_name bad.begins)).0
+      (subst (λ l. Contains l bad.name) (sym (same_names v a.front es a.same)) bad.among)
 
   no_too_many : IsAhead v all last es Start place.rest → IsTooMany es place → ⊥
   no_too_many a bad =
@@ -116,15 +122,18 @@ module _ (v : Version) (all : List EntryView) (last : Part) (good : AreEntries a
       omega (arith, room, count, bad.all_entries)
 
   -- what is judged at the end of an entry that was read is nothing
-  no_end_fault : (part : Part) (fault : ArchiveFault) → fault ≢ NoMemory → IsFormed v part → IsAhead v all last es part place.rest → IsFaultAtEnd v es part place fault → ⊥
+  no_end_fault : (part : Part) (fault : ArchiveFault) → fault ≢ NoMemory → IsFormed v part → IsAhead v all last es part place.rest
+      → IsFaultAtEnd v es part place fault → ⊥
   no_end_fault part fault memory formed a c = by a.more a.is (ap (λ r. part_rows part ++ r ∷ a.others) (sym ends) ∙ a.rows)
     where
       follows : MayStandAfter v part OfEnd
-      follows = subst (λ q. MayStandAfter v q OfEnd) (sym c.is) (end_follows v c.name c.form.keyed.size (map edge_of c.form.keyed.edges.items) c.form.keyed.key c.form.shells)
+      follows = subst (λ q. MayStandAfter v q OfEnd) (sym c.is) (end_follows v c.name c.form.keyed.size
+          (map edge_of c.form.keyed.edges.items) c.form.keyed.key c.form.shells)
 
       ends : a.row ≡ OfEnd
       ends = same_row_of v part a.row OfEnd formed a.may follows
-          (same_row (row_line a.row) end_row a.after c.ends.0 (row_none v part a.row formed a.may) (row_none v part OfEnd formed follows) (sym a.stands ∙ c.ends.1)).0
+          (same_row (row_line a.row) end_row a.after c.ends.0 (row_none v part a.row formed a.may) (row_none v part OfEnd formed follows)
+          (sym a.stands ∙ c.ends.1)).0
 
       by : (more : List EntryView) → all ≡ a.front ++ more → part_rows part ++ OfEnd ∷ a.others ≡ flat_map (entry_rows v) more ++ part_rows last → ⊥
       by [] whole rows = no_end last (part_rows part) a.others (sym rows)

@@ -37,7 +37,8 @@ no_shorter v es more =
     omega (arith, whole, two)
 
 -- an entry of an archive after others
-module _ (a b : ArchiveView) (e : EntryView) (later : List EntryView) (whole : b ≡ record { version = a.version; entries = a.entries ++ e ∷ later }) (is : IsArchive b) where
+module _ (a b : ArchiveView) (e : EntryView) (later : List EntryView) (whole : b ≡ record { version = a.version; entries = a.entries ++ e ∷ later })
+    (is : IsArchive b) where
   pub entries_are : b.entries ≡ a.entries ++ e ∷ later
   entries_are = ap (λ (c : ArchiveView). c.entries) whole
 
@@ -58,7 +59,8 @@ module _ (a b : ArchiveView) (e : EntryView) (later : List EntryView) (whole : b
       long m =
           let more = no_shorter a.version (a.entries ++ e ∷ []) later in
           let all : length (archive_text b) ≡ length (text_of a.version ((a.entries ++ e ∷ []) ++ later)) =
-          ap (λ (c : ArchiveView). length (archive_text c)) whole ∙ ap (λ (es : List EntryView). length (text_of a.version es)) (sym (append_assoc a.entries (e ∷ []) later)) in
+          ap (λ (c : ArchiveView). length (archive_text c)) whole ∙ ap (λ (es : List EntryView). length (text_of a.version es))
+          (sym (append_assoc a.entries (e ∷ []) later)) in
           let fits = is.fits in
           omega (arith, m, more, all, fits)
 

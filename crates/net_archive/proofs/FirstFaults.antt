@@ -1,5 +1,6 @@
 -- The next fault, after entries that go right.
-use Rattle.std.proofs.Common.{◌≡◌, ◌≢◌, inl, inr, ℕ, ◌+◌, ◌<◌, ◌≤◌, List, [], ◌∷◌, ◌++◌, length, Bool, true, false, Result, Ok, Err, IfOk, IfErr, MatchResult, refl, sym, ◌∙◌, subst, arith}
+use Rattle.std.proofs.Common.{◌≡◌, ◌≢◌, inl, inr, ℕ, ◌+◌, ◌<◌, ◌≤◌, List, [], ◌∷◌, ◌++◌, length, Bool, true, false, Result, Ok, Err, IfOk, IfErr, MatchResult}
+use Rattle.std.proofs.Common.{refl, sym, ◌∙◌, subst, arith}
 use Rattle.std.specs.List.{Contains}
 use Rattle.std.proofs.lemmas.Bool.{true≢false, cases_lt}
 use Rattle.std.proofs.lemmas.List.{append-nil}
@@ -22,19 +23,37 @@ use Rattle.net_archive.specs.Faults.{AreEntries, MayBegin, IsBegun, MayEnd, HasF
 use Rattle.net_archive.specs.Steps.{IsFaultTold}
 use Rattle.net_archive.specs.Judging.{IsJudged}
 use Rattle.net_archive.specs.declared.faults.ArchiveFault.{ArchiveFault}
-use Rattle.net_archive.specs.declared.faults.ArchiveFault.TheVariants.{BadLine, RepeatedName, EntryRefused, KeyDiffers, TooManyEntries, Version as OtherVersion, CountDiffers, ShellsDiffer, NoMemory}
+use Rattle.net_archive.specs.declared.faults.ArchiveFault.TheVariants.{BadLine, RepeatedName, EntryRefused, KeyDiffers, TooManyEntries, Version as OtherVersion}
+use Rattle.net_archive.specs.declared.faults.ArchiveFault.TheVariants.{CountDiffers, ShellsDiffer, NoMemory}
 use Rattle.net_archive.specs.Archives.{most_entries}
 
-pub at_start : (v : Version) (text : List ℕ) (es : List EntryView) (place : Place) → IsAt text (rows_before v es) place → IsAt text (rows_before v es ++ row_lines (part_rows Start)) place
+pub at_start : (v : Version) (text : List ℕ) (es : List EntryView) (place : Place) → IsAt text (rows_before v es) place
+    → IsAt text (rows_before v es ++ row_lines (part_rows Start)) place
 at_start v text es place at = subst (λ l. IsAt text l place) (sym (append-nil (rows_before v es))) at
 
 -- a fault before the name of an entry
-fault_at_start : (v : Version) (text : List ℕ) (es : List EntryView) (place : Place) (fault : ArchiveFault) → AreEntries es → IsAt text (rows_before v es) place → FaultAt v es Start place fault → HasFault v text fault
-fault_at_start v text es place fault good at cause = record { entries = es; part = Start; place = place; good = good; formed = tt; begun = tt; at = at_start v text es place at; cause = cause }
+fault_at_start : (v : Version) (text : List ℕ) (es : List EntryView) (place : Place) (fault : ArchiveFault) → AreEntries es
+    → IsAt text (rows_before v es) place → FaultAt v es Start place fault → HasFault v text fault
+fault_at_start v text es place fault good at cause = record {
+  entries = es;
+  part = Start;
+  place = place;
+  good = good;
+  formed = tt;
+  begun = tt;
+  at =
+      at_start v text es place at;
+  cause = cause;
+}
 
-pub too_many : (v : Version) (text : List ℕ) (es : List EntryView) (place : Place) (name rest : List ℕ) → AreEntries es → IsAt text (rows_before v es) place → most_entries ≤ length es → is_name name ≡ true → place.rest ≡ name_row name ++ 10 ∷ rest → HasFault v text TooManyEntries
+pub too_many : (v : Version) (text : List ℕ) (es : List EntryView) (place : Place) (name rest : List ℕ) → AreEntries es → IsAt text (rows_before v es) place
+    → most_entries ≤ length es → is_name name ≡ true → place.rest ≡ name_row name ++ 10 ∷ rest → HasFault v text TooManyEntries
 too_many v text es place name rest good at many is stands =
-    fault_at_start v text es place TooManyEntries good at (refl, record { all_entries = let few = good.few in omega (arith, many, few); name = name; is_name = is; begins = (rest, stands) })
+    fault_at_start v text es place TooManyEntries good at (
+      refl,
+      record
+          { all_entries = let few = good.few in omega (arith, many, few); name = name; is_name = is; begins = (rest, stands) },
+    )
 
 begun_as : (es : List EntryView) (name : List ℕ) (part : Part) → IsOf name part → MayBegin es name → IsBegun es part
 begun_as es name Start none may = tt
@@ -50,7 +69,8 @@ goes_on name (Drawn own s edges) rest same end = end
 goes_on name (Keyed own s edges key) rest same end = end
 goes_on name (Counted own s edges key n lists) rest same end = end
 
-pub bad_line : (v : Version) (text : List ℕ) (es : List EntryView) (name : List ℕ) (n : ℕ) → AreEntries es → MayBegin es name → HasBadLine v text (rows_before v es) name n → HasFault v text (BadLine n)
+pub bad_line : (v : Version) (text : List ℕ) (es : List EntryView) (name : List ℕ) (n : ℕ) → AreEntries es → MayBegin es name
+    → HasBadLine v text (rows_before v es) name n → HasFault v text (BadLine n)
 bad_line v text es name n good may bad = record {
   entries = es;
   part = bad.part;
@@ -66,7 +86,8 @@ whole_begun : (v : Version) (es : List EntryView) (name : List ℕ) (f : Form) �
 whole_begun One es name f may = may
 whole_begun Two es name f may = may
 
-at_end : (v : Version) (text : List ℕ) (es : List EntryView) (name : List ℕ) (after : Place) (f : Form) (line : ℕ) (fault : ArchiveFault) → HasForm v text (rows_before v es) name after f → line ≡ length (rows_before v es) + 1 → IsJudged v line f fault
+at_end : (v : Version) (text : List ℕ) (es : List EntryView) (name : List ℕ) (after : Place) (f : Form) (line : ℕ) (fault : ArchiveFault)
+    → HasForm v text (rows_before v es) name after f → line ≡ length (rows_before v es) + 1 → IsJudged v line f fault
     → (here : Place) → here ≡ here → (rest : List ℕ) → here.rest ≡ end_row ++ 10 ∷ rest → IsFaultAtEnd v es (form_part v name f) here fault
 at_end v text es name after f line fault has at judged here same rest ends = record {
   name = name;
@@ -78,7 +99,8 @@ at_end v text es name after f line fault has at judged here same rest ends = rec
 }
 
 -- the fault that is judged at the end of an entry
-pub judged : (v : Version) (text : List ℕ) (es : List EntryView) (name : List ℕ) (after : Place) (f : Form) (line : ℕ) (fault : ArchiveFault) → AreEntries es → MayBegin es name → HasForm v text (rows_before v es) name after f → line ≡ length (rows_before v es) + 1
+pub judged : (v : Version) (text : List ℕ) (es : List EntryView) (name : List ℕ) (after : Place) (f : Form) (line : ℕ) (fault : ArchiveFault) → AreEntries es
+    → MayBegin es name → HasForm v text (rows_before v es) name after f → line ≡ length (rows_before v es) + 1
     → IsJudged v line f fault → IsFaultTold v text fault
 judged v text es name after f line fault good may has at is = by fault is
   where
@@ -108,7 +130,8 @@ judged v text es name after f line fault good may has at is = by fault is
     by (ShellsDiffer n class kept computed) is = told (ShellsDiffer n class kept computed) (end (ShellsDiffer n class kept computed) is)
     by NoMemory is = inl refl
 
-pub result_both : {T E : Type 0} (r : Result T E) (P P' : T → Type 0) (Q Q' : E → Type 0) → ((x : T) → P x → P' x) → ((e : E) → Q e → Q' e) → IfOk r P → IfErr r Q → MatchResult r P' Q'
+pub result_both : {T E : Type 0} (r : Result T E) (P P' : T → Type 0) (Q Q' : E → Type 0) → ((x : T) → P x → P' x) → ((e : E) → Q e → Q' e) → IfOk r P
+    → IfErr r Q → MatchResult r P' Q'
 result_both (Ok x) P P' Q Q' f g one two = f x one
 result_both (Err e) P P' Q Q' f g one two = g e two
 
@@ -120,6 +143,7 @@ few_entries n many when none = elim (cases_lt n most_entries) [
 ]
 
 -- a fault of the rows of an entry is reported of the text
-pub rows_told : (v : Version) (text : List ℕ) (es : List EntryView) (name : List ℕ) (fault : RowFault) → AreEntries es → MayBegin es name → IfBadLine (HasBadLine v text (rows_before v es) name) fault → IsFaultTold v text (of_rows fault)
+pub rows_told : (v : Version) (text : List ℕ) (es : List EntryView) (name : List ℕ) (fault : RowFault) → AreEntries es → MayBegin es name
+    → IfBadLine (HasBadLine v text (rows_before v es) name) fault → IsFaultTold v text (of_rows fault)
 rows_told v text es name (BadRow n) good may bad = inr (bad_line v text es name n good may bad)
 rows_told v text es name NoRoom good may bad = inl refl

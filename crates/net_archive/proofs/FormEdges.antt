@@ -17,7 +17,8 @@ edge_among : (s : GraphSize) (e : RawEdge) → IsEdgeOfSize s (edge_of e) → Is
 edge_among s e is = record { first = is.is_edge.from; second = is.is_edge.to; flat = is.is_edge.shift; small = is.small; spelling = is.is_edge.spelling }
 
 -- these are the edges of a graph
-pub are_edges : (v : Version) (name : List ℕ) (f : Form) → IsFormed v (form_part v name f) → AreEdgesOfGraph f.keyed.size.dim f.keyed.size.vertices f.keyed.edges.items
+pub are_edges : (v : Version) (name : List ℕ) (f : Form) → IsFormed v (form_part v name f)
+    → AreEdgesOfGraph f.keyed.size.dim f.keyed.size.vertices f.keyed.edges.items
 are_edges v name f formed =
     let k = keyed_in v name f formed in
     let count = length-map f.keyed.edges.items edge_of in

@@ -1,5 +1,6 @@
 -- An archive with one more entry.
-use Rattle.std.proofs.Common.{◌≡◌, ◌≢◌, ◌↔◌, ◌⊎◌, inl, inr, ◌∙◌, Bool, true, false, IsTrue, ℕ, ◌+◌, ◌<◌, ◌≤◌, List, [], ◌∷◌, ◌++◌, length, get_or, sym, ap, subst, refl, arith}
+use Rattle.std.proofs.Common.{◌≡◌, ◌≢◌, ◌↔◌, ◌⊎◌, inl, inr, ◌∙◌, Bool, true, false, IsTrue, ℕ, ◌+◌, ◌<◌, ◌≤◌, List, [], ◌∷◌, ◌++◌, length, get_or, sym, ap}
+use Rattle.std.proofs.Common.{subst, refl, arith}
 use Rattle.std.specs.List.{All, Contains}
 use Rattle.std.proofs.lemmas.List.{get_or-map, length-append, length-map, length_push}
 use Rattle.std.proofs.lemmas.List.Elements.{All-push}
@@ -35,7 +36,8 @@ text_length v es =
     omega (arith, whole, sum, first)
 
 -- the rows of one more entry stand last
-pub body_with : (v : Version) (es : List EntryView) (e : EntryView) → rows_text (entry_lines v es) ++ rows_text (entry_lines v (e ∷ [])) ≡ rows_text (entry_lines v (es ++ e ∷ []))
+pub body_with : (v : Version) (es : List EntryView) (e : EntryView) → rows_text (entry_lines v es)
+    ++ rows_text (entry_lines v (e ∷ [])) ≡ rows_text (entry_lines v (es ++ e ∷ []))
 body_with v es e = sym (rows_text_of_sum (entry_lines v es) (entry_lines v (e ∷ []))) ∙ ap rows_text (sym (lines_with v es (e ∷ [])))
 
 pub longer_text : (v : Version) (es : List EntryView) (e : EntryView)
@@ -73,7 +75,8 @@ module _ (a : ArchiveView) (e : EntryView) where
       let m = says.0 holds in
       inl (omega (arith, n, m))
 
-  pub not_many : (items : List Entry) (many : Bool) → entry_views items ≡ a.entries → (IsTrue many ↔ (most_entries ≤ length items)) → many ≡ false → length a.entries < most_entries
+  pub not_many : (items : List Entry) (many : Bool) → entry_views items ≡ a.entries → (IsTrue many ↔ (most_entries ≤ length items)) → many ≡ false
+      → length a.entries < most_entries
   not_many items many are says fails = by (order (length items))
     where
       n : length items ≡ length a.entries
@@ -87,20 +90,23 @@ module _ (a : ArchiveView) (e : EntryView) where
       by (inr l) = omega (arith, n, l)
 
   -- the length of the text with the entry, whose rows stand after the others
-  with_length : (body rows : List ℕ) → IsBody a body → rows ≡ rows_text (entry_lines a.version (e ∷ [])) → length (archive_text (with_entry a e)) ≡ 14 + length body + length rows
+  with_length : (body rows : List ℕ) → IsBody a body → rows ≡ rows_text (entry_lines a.version (e ∷ []))
+      → length (archive_text (with_entry a e)) ≡ 14 + length body + length rows
   with_length body rows b r =
       let whole = longer_text a.version a.entries e in
       let x = ap length b in
       let y = ap length r in
       omega (arith, whole, x, y)
 
-  pub long_full : (body rows : List ℕ) (long : Bool) → IsBody a body → rows ≡ rows_text (entry_lines a.version (e ∷ [])) → (IsTrue long ↔ (most_bytes < 14 + length body + length rows)) → long ≡ true → IsFull a e
+  pub long_full : (body rows : List ℕ) (long : Bool) → IsBody a body → rows ≡ rows_text (entry_lines a.version (e ∷ []))
+      → (IsTrue long ↔ (most_bytes < 14 + length body + length rows)) → long ≡ true → IsFull a e
   long_full body rows long b r says holds =
       let n = with_length body rows b r in
       let m = says.0 holds in
       inr (omega (arith, n, m))
 
-  pub not_long : (body rows : List ℕ) (long : Bool) → IsBody a body → rows ≡ rows_text (entry_lines a.version (e ∷ [])) → (IsTrue long ↔ (most_bytes < 14 + length body + length rows)) → long ≡ false
+  pub not_long : (body rows : List ℕ) (long : Bool) → IsBody a body → rows ≡ rows_text (entry_lines a.version (e ∷ []))
+      → (IsTrue long ↔ (most_bytes < 14 + length body + length rows)) → long ≡ false
       → length (archive_text (with_entry a e)) ≤ most_bytes
   not_long body rows long b r says fails = by (order (14 + length body + length rows))
     where
@@ -115,6 +121,7 @@ module _ (a : ArchiveView) (e : EntryView) where
       by (inr l) = omega (arith, n, l)
 
   -- the rows after the others
-  pub longer_body : (body rows new : List ℕ) → IsBody a body → rows ≡ rows_text (entry_lines a.version (e ∷ [])) → new ≡ body ++ rows → IsBody (with_entry a e) new
+  pub longer_body : (body rows new : List ℕ) → IsBody a body → rows ≡ rows_text (entry_lines a.version (e ∷ [])) → new ≡ body ++ rows
+      → IsBody (with_entry a e) new
   longer_body body rows new b r is =
       is ∙ ap (λ (t : List ℕ). t ++ rows) b ∙ ap (λ (t : List ℕ). rows_text (entry_lines a.version a.entries) ++ t) r ∙ body_with a.version a.entries e

@@ -1,5 +1,6 @@
 -- Groups of entries with equal keys are groups of entries with isomorphic nets.
-use Rattle.std.proofs.Common.{◌≡◌, ◌≢◌, inl, inr, ◌∙◌, ℕ, zero, suc, ◌+◌, ◌-◌, ◌≤◌, ℤ, Bool, true, false, cond, List, [], ◌∷◌, length, map, filter, slice_get, Some, Result, Ok, Err, Vec, true≢false, refl, sym, ap, subst, arith}
+use Rattle.std.proofs.Common.{◌≡◌, ◌≢◌, inl, inr, ◌∙◌, ℕ, zero, suc, ◌+◌, ◌-◌, ◌≤◌, ℤ, Bool, true, false, cond, List, [], ◌∷◌, length, map, filter, slice_get}
+use Rattle.std.proofs.Common.{Some, Result, Ok, Err, Vec, true≢false, refl, sym, ap, subst, arith}
 use Rattle.std.specs.List.{All, Contains, enumerate_from}
 use Rattle.std.specs.Prelude.{IfOk}
 use Rattle.std.specs.declared.alloc.Global.{Global}
@@ -35,7 +36,8 @@ module _ (key : List ℤ) where
   abbrev numbers_by : Bool → ℕ → EntryView → List EntryView → List ℕ
   numbers_by b n e es =
       map (λ (p : ℕ × EntryView). p.0)
-      (cond b ((n, e) ∷ filter (λ (p : ℕ × EntryView). same_key p.1.key key) (enumerate_from (n + 1) es)) (filter (λ (p : ℕ × EntryView). same_key p.1.key key) (enumerate_from (n + 1) es)))
+      (cond b ((n, e) ∷ filter (λ (p : ℕ × EntryView). same_key p.1.key key) (enumerate_from (n + 1) es))
+      (filter (λ (p : ℕ × EntryView). same_key p.1.key key) (enumerate_from (n + 1) es)))
 
   -- each of the numbers is that of an entry with the key
   keyed_in : (n : ℕ) (es : List EntryView) (m : ℕ) → IsIn (numbers_from n key es) m → HasKeyAt es n key m
@@ -45,7 +47,8 @@ module _ (key : List ℤ) where
       later : HasKeyAt es (n + 1) key m → HasKeyAt (e ∷ es) n key m
       later r = let number = r.number in record { place = suc r.place; entry = r.entry; stands = r.stands; number = omega (arith, number); same = r.same }
 
-      by : (b : Bool) → same_key e.key key ≡ b → IsIn (numbers_by b n e es) m → (IsIn (numbers_from (n + 1) key es) m → HasKeyAt es (n + 1) key m) → HasKeyAt (e ∷ es) n key m
+      by : (b : Bool) → same_key e.key key ≡ b → IsIn (numbers_by b n e es) m → (IsIn (numbers_from (n + 1) key es) m → HasKeyAt es (n + 1) key m)
+          → HasKeyAt (e ∷ es) n key m
       by true q (inl here) rest = record { place = 0; entry = e; stands = refl; number = omega (arith, here); same = (signed_items e.key key).0 q }
       by true q (inr i) rest = later (rest i)
       by false q i rest = later (rest i)
@@ -110,11 +113,16 @@ module _ (es : List EntryView) (good : All IsEntry es) (groups : List (List ℕ)
           let same = (keys_decide_archive es good e f (among m e a) (among n f b)).1 i in
           let group = numbers_with e.key es in
           let one = in_group m e e.key a refl in
-          let two = in_group n f e.key b (sym same) in
-          (group, are.every group (record { key = e.key; numbers = refl; two = two_members group m n one two other }), contains_from_in group m one, contains_from_in group n two)
+          let two = in_group n f e.key b (sym same) in (
+            group,
+            are.every group (record { key = e.key; numbers = refl; two = two_members group m n one two other }),
+            contains_from_in group m one,
+            contains_from_in group n two,
+          )
 
 -- where groups are reported, they are so
-pub groups_told : {E : Type 0} (es : List EntryView) (r : Result (Vec (Vec ℕ Global) Global) E) → All IsEntry es → IfOk r (λ groups. AreGroups es (numbers_in groups.items))
+pub groups_told : {E : Type 0} (es : List EntryView) (r : Result (Vec (Vec ℕ Global) Global) E) → All IsEntry es
+    → IfOk r (λ groups. AreGroups es (numbers_in groups.items))
     → IfOk r (λ groups. AreIsoGroups es (numbers_in groups.items))
 groups_told es (Ok groups) good are = iso_groups es good (numbers_in groups.items) are
 groups_told es (Err e) good are = are

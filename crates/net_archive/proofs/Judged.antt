@@ -11,7 +11,8 @@ use Rattle.archive_text.specs.declared.version.Version.{Version}
 use Rattle.archive_text.specs.declared.version.Version.TheVariants.{Two}
 use Rattle.net_archive.specs.Judging.{AreRefusedShells, HasKey, IsJudged, IsOtherKey, IsRefusedAt, graph_of_form}
 use Rattle.net_archive.specs.declared.faults.ArchiveFault.{ArchiveFault}
-use Rattle.net_archive.specs.declared.faults.ArchiveFault.TheVariants.{BadLine, RepeatedName, EntryRefused, KeyDiffers, TooManyEntries, Version as VersionAt, NoMemory, CountDiffers, ShellsDiffer}
+use Rattle.net_archive.specs.declared.faults.ArchiveFault.TheVariants.{BadLine, RepeatedName, EntryRefused, KeyDiffers, TooManyEntries, Version as VersionAt}
+use Rattle.net_archive.specs.declared.faults.ArchiveFault.TheVariants.{NoMemory, CountDiffers, ShellsDiffer}
 
 -- where the graph is refused
 pub refused_judged : (v : Version) (line : ℕ) (f : Form) (fault : ArchiveFault) → IsRefusedAt line (graph_of_form f) fault → IsJudged v line f fault
@@ -51,7 +52,8 @@ shells_judged v line f lists fault k s (inr (two, h)) = by fault h
     by (VersionAt n) h = absurd h
 
 -- where another key is kept
-pub other_judged : (v : Version) (line : ℕ) (f : Form) (n : KeyedNet) (fault : ArchiveFault) → IsKeyed n → n.placed.graph ≡ graph_of_form f → IsOtherKey f.keyed n.key fault → IsJudged v line f fault
+pub other_judged : (v : Version) (line : ℕ) (f : Form) (n : KeyedNet) (fault : ArchiveFault) → IsKeyed n → n.placed.graph ≡ graph_of_form f
+    → IsOtherKey f.keyed n.key fault → IsJudged v line f fault
 other_judged v line f n (KeyDiffers m kept computed) k g h = record {
   line = h.0;
   is_graph = subst IsGraph g k.is_graph;

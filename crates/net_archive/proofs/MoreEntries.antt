@@ -44,17 +44,25 @@ keyed_in One name f formed = formed
 keyed_in Two name f formed = formed.1
 
 -- the whole part of the entry is what was read
-part_same : (v : Version) (name : List ℕ) (f : Form) (lists : List (List ℕ)) → length (edges_in f) ≡ f.keyed.size.edges → (v ≡ Two → lists ≡ f.shells) → whole_part v (entry_in name f lists) ≡ form_part v name f
+part_same : (v : Version) (name : List ℕ) (f : Form) (lists : List (List ℕ)) → length (edges_in f) ≡ f.keyed.size.edges → (v ≡ Two → lists ≡ f.shells)
+    → whole_part v (entry_in name f lists) ≡ form_part v name f
 part_same One name f lists whole kept = ap (λ s. Keyed name s (edges_in f) f.keyed.key) (size_same f whole)
 part_same Two name f lists whole kept =
-    ap (λ s. Counted name s (edges_in f) f.keyed.key (length lists) lists) (size_same f whole) ∙ ap (λ l. Counted name f.keyed.size (edges_in f) f.keyed.key (length l) l) (kept refl)
+    ap (λ s. Counted name s (edges_in f) f.keyed.key (length lists) lists) (size_same f whole)
+    ∙ ap (λ l. Counted name f.keyed.size (edges_in f) f.keyed.key (length l) l) (kept refl)
 
-is_entry : (v : Version) (name : List ℕ) (f : Form) (e : EntryView) → IsFormed v (form_part v name f) → IsEntryOfForm v name f e → IsEntry (entry_in name f e.shells)
+is_entry : (v : Version) (name : List ℕ) (f : Form) (e : EntryView) → IsFormed v (form_part v name f) → IsEntryOfForm v name f e
+    → IsEntry (entry_in name f e.shells)
 is_entry v name f e formed of =
     let keyed = keyed_in v name f formed in
     let shells = subst (λ G. AreSequencesOf G e.shells) of.graph of.shells in
     record {
-      formed = (refl, subst (λ s. HasEdgesAndKey name s (edges_in f) f.keyed.key) (sym (size_same f keyed.whole)) keyed, are_counted (graph_of_form f) e.shells keyed.drawn.is_size.vertices.1 shells);
+      formed = (
+        refl,
+        subst (λ s. HasEdgesAndKey name s (edges_in f) f.keyed.key) (sym (size_same f keyed.whole)) keyed,
+        are_counted
+            (graph_of_form f) e.shells keyed.drawn.is_size.vertices.1 shells,
+      );
       is_graph = of.has_key.is_graph;
       certain = of.has_key.certain;
       key = of.has_key.key;
@@ -74,14 +82,16 @@ entries_pushed es e good may is = record {
 }
 
 -- an entry that was read and judged stands after the others
-pub one_more_entry : (v : Version) (text : List ℕ) (es : List EntryView) (name : List ℕ) (f : Form) (after : Place) (e : EntryView) → AreEntries es → MayBegin es name → HasForm v text (rows_before v es) name after f → IsEntryOfForm v name f e
+pub one_more_entry : (v : Version) (text : List ℕ) (es : List EntryView) (name : List ℕ) (f : Form) (after : Place) (e : EntryView) → AreEntries es
+    → MayBegin es name → HasForm v text (rows_before v es) name after f → IsEntryOfForm v name f e
     → AreMore v text es e after
 one_more_entry v text es name f after e good may has of =
     let keyed = keyed_in v name f has.whole.formed in
     let part = part_same v name f e.shells keyed.whole (λ two. of.kept two) in
     let rows : (rows_before v es ++ row_lines (part_rows (form_part v name f))) ++ end_row ∷ [] ≡ rows_before v (es ++ entry_in name f e.shells ∷ []) =
     append_assoc (rows_before v es) (row_lines (part_rows (form_part v name f))) (end_row ∷ [])
-    ∙ ap (λ l. rows_before v es ++ l) (ap (λ p. row_lines (part_rows p) ++ end_row ∷ []) (sym part) ∙ sym (lines_of_sum (part_rows (whole_part v (entry_in name f e.shells))) (OfEnd ∷ [])))
+    ∙ ap (λ l. rows_before v es ++ l) (ap (λ p. row_lines (part_rows p) ++ end_row ∷ []) (sym part)
+    ∙ sym (lines_of_sum (part_rows (whole_part v (entry_in name f e.shells))) (OfEnd ∷ [])))
     ∙ sym (rows_with v es (entry_in name f e.shells)) in
     subst (λ x. AreMore v text es x after) (sym (entry_same v name f e of)) (record {
       good = entries_pushed es (entry_in name f e.shells) good may (is_entry v name f e has.whole.formed of);

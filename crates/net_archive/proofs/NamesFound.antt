@@ -39,9 +39,11 @@ module _ (G : Graph) (g : IsGraph G) (key : List ℤ) (k : IsKeyOf G key) where
   first_name b e es = names_of (cond b (e ∷ filter (λ (x : EntryView). same_key x.key key) es) (filter (λ (x : EntryView). same_key x.key key) es))
 
   -- the names with one more entry
-  one_more : (e : EntryView) (es : List EntryView) → IsEntry e → AreNamesOf G es (names_with key es) → (b : Bool) → same_key e.key key ≡ b → AreNamesOf G (e ∷ es) (names_with key (e ∷ es))
+  one_more : (e : EntryView) (es : List EntryView) → IsEntry e → AreNamesOf G es (names_with key es) → (b : Bool) → same_key e.key key ≡ b
+      → AreNamesOf G (e ∷ es) (names_with key (e ∷ es))
   one_more e es h rest true s = subst (AreNamesOf G (e ∷ es)) (sym (ap (λ (b : Bool). first_name b e es) s)) (inl (found_iso e h s, refl, rest))
-  one_more e es h rest false s = subst (AreNamesOf G (e ∷ es)) (sym (ap (λ (b : Bool). first_name b e es) s)) (missed e es (names_with key es) (missed_iso e h s) rest)
+  one_more e es h rest false s = subst (AreNamesOf G (e ∷ es)) (sym (ap (λ (b : Bool). first_name b e es) s))
+      (missed e es (names_with key es) (missed_iso e h s) rest)
 
   -- the names that the key finds
   pub names_found : (es : List EntryView) → All IsEntry es → AreNamesOf G es (names_with key es)

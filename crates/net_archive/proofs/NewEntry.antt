@@ -69,7 +69,11 @@ is_keyed_part name G xs is g small rising k wide =
       drawn = record {
         is_name = is;
         is_size = size;
-        each = λ i d l. let h = g.edges i d l in record { is_edge = record { from = h.from; to = h.to; shift = h.shift; spelling = h.spelling }; small = small.shifts i d l };
+        each = λ i d l. let h = g.edges i d l in record {
+          is_edge = record { from = h.from; to = h.to; shift = h.shift; spelling = h.spelling };
+          small =
+              small.shifts i d l;
+        };
         rising = rising;
         few = omega arith;
       };

@@ -23,7 +23,8 @@ use Rattle.net_archive.proofs.EntryFaults.{entries_are, not_taken, not_full}
 entry_there : (P : EntryView → Type 0) (xs : List EntryView) (y : EntryView) (ys : List EntryView) → All P (xs ++ y ∷ ys) → P y
 entry_there P xs y ys all = All-contains P (xs ++ y ∷ ys) y all (Contains-append_right xs (y ∷ ys) y (Contains-append_left (y ∷ []) ys y (Contains-push [] y)))
 
-module _ (a b : ArchiveView) (name : List ℕ) (n : KeyedNet) (e : EntryView) (later : List EntryView) (whole : b ≡ record { version = a.version; entries = a.entries ++ e ∷ later }) (is : IsArchive b)
+module _ (a b : ArchiveView) (name : List ℕ) (n : KeyedNet) (e : EntryView) (later : List EntryView)
+    (whole : b ≡ record { version = a.version; entries = a.entries ++ e ∷ later }) (is : IsArchive b)
     (named : e.name ≡ name) (only : (x : EntryView) → IsEntryOf name n x → x ≡ e) where
   free : ¬ IsTaken a name
   free = subst (λ m. ¬ IsTaken a m) named (not_taken a b e later whole is)
@@ -44,7 +45,8 @@ module _ (a b : ArchiveView) (name : List ℕ) (n : KeyedNet) (e : EntryView) (l
   added_no_fault NoMemory h = refl
 
 -- two faults of adding under one name are one
-pub one_add_fault : (a : ArchiveView) (name : List ℕ) (m n : KeyedNet) (f g : AddFault) → IsAddFault a name m f → IsAddFault a name n g → f ≢ NoMemory → g ≢ NoMemory → f ≡ g
+pub one_add_fault : (a : ArchiveView) (name : List ℕ) (m n : KeyedNet) (f g : AddFault) → IsAddFault a name m f → IsAddFault a name n g → f ≢ NoMemory
+    → g ≢ NoMemory → f ≡ g
 one_add_fault a name m n NameTaken NameTaken h k p q = refl
 one_add_fault a name m n NameTaken BadName h k p q = absurd (k.0 h)
 one_add_fault a name m n NameTaken Full h k p q = absurd (k.0 h)

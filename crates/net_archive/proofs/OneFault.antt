@@ -22,7 +22,8 @@ use Rattle.net_archive.specs.Archives.{ArchiveView, IsArchive, IsEntry, archive_
 use Rattle.net_archive.specs.Faults.{AreEntries, FaultAt, HasFault, IsBadLine, IsFaultAtEnd, IsFaultOf, IsFirstLineFault, IsRepeated, IsTooMany, MayEnd, Stands}
 use Rattle.net_archive.specs.Judging.{graph_of_form}
 use Rattle.net_archive.specs.declared.faults.ArchiveFault.{ArchiveFault}
-use Rattle.net_archive.specs.declared.faults.ArchiveFault.TheVariants.{BadLine, RepeatedName, EntryRefused, KeyDiffers, TooManyEntries, Version as OtherVersion, CountDiffers, ShellsDiffer, NoMemory}
+use Rattle.net_archive.specs.declared.faults.ArchiveFault.TheVariants.{BadLine, RepeatedName, EntryRefused, KeyDiffers, TooManyEntries, Version as OtherVersion}
+use Rattle.net_archive.specs.declared.faults.ArchiveFault.TheVariants.{CountDiffers, ShellsDiffer, NoMemory}
 use Rattle.net_archive.proofs.Ahead.{HasRead, IsAhead, IsThere, rest_of, states_meet}
 use Rattle.net_archive.proofs.Earlier.{no_earlier_fault}
 use Rattle.net_archive.proofs.FirstLines.{no_feed, feed_there}
@@ -90,7 +91,8 @@ module _ (v : Version) (es : List EntryView) (part : Part) (place : Place) where
   -- nor where the end stands
   not_bad_end : (n : ℕ) (fault : ArchiveFault) → IsFaultAtEnd v es part place fault → ¬ IsBadLine v part place n
   not_bad_end n fault c bad =
-      bad.none OfEnd c.ends.0 (subst (λ q. MayStandAfter v q OfEnd) (sym c.is) (end_follows v c.name c.form.keyed.size (map edge_of c.form.keyed.edges.items) c.form.keyed.key c.form.shells)) c.ends.1
+      bad.none OfEnd c.ends.0 (subst (λ q. MayStandAfter v q OfEnd) (sym c.is)
+      (end_follows v c.name c.form.keyed.size (map edge_of c.form.keyed.edges.items) c.form.keyed.key c.form.shells)) c.ends.1
 
   not_start : (fault : ArchiveFault) → IsFaultAtEnd v es part place fault → part ≢ Start
   not_start fault c start = by v c.name c.form (sym c.is ∙ start)
@@ -122,7 +124,8 @@ module _ (v : Version) (es : List EntryView) (part : Part) (place : Place) where
         shells One two m n f g e = absurd (cc)
 
     is_graph : (a : ArchiveFault) (c : IsFaultAtEnd v es part place a) → IsGraph (graph_of_form c.form)
-    is_graph a c = listed_graph c.form.keyed.size.dim c.form.keyed.size.vertices c.form.keyed.edges.items (are_edges v c.name c.form (subst (IsFormed v) c.is formed))
+    is_graph a c = listed_graph c.form.keyed.size.dim c.form.keyed.size.vertices c.form.keyed.edges.items
+        (are_edges v c.name c.form (subst (IsFormed v) c.is formed))
 
     -- after some entries and a part of one more the next fault is one
     one_cause : (a b : ArchiveFault) → Cause a → Cause b → a ≡ b
@@ -141,14 +144,16 @@ module _ (v : Version) (es : List EntryView) (part : Part) (place : Place) where
     one_cause a b (inr (inr (inr x))) (inl y) = absurd (not_bad_end y.0 a x.1 y.2)
     one_cause a b (inr (inr (inr x))) (inr (inl y)) = absurd (not_start a x.1 y.2)
     one_cause a b (inr (inr (inr x))) (inr (inr (inl y))) = absurd (not_start a x.1 y.1)
-    one_cause a b (inr (inr (inr x))) (inr (inr (inr y))) = one_judged v (length (rows_before v es) + 1) x.1.form y.1.form (is_graph a x.1) (alike a b x.1 y.1) a b x.0 y.0 x.1.judged y.1.judged
+    one_cause a b (inr (inr (inr x))) (inr (inr (inr y))) = one_judged v (length (rows_before v es) + 1) x.1.form y.1.form (is_graph a x.1)
+        (alike a b x.1 y.1) a b x.0 y.0 x.1.judged y.1.judged
 
 -- what entries show of themselves determines them
 same_entry : (v : Version) (x y : EntryView) → IsEntry x → IsEntry y → shown v x ≡ shown v y → x ≡ y
 same_entry Two x y hx hy e = e
 same_entry One x y hx hy e =
     let graph : x.graph ≡ y.graph = ap (λ (z : EntryView). z.graph) e in
-    let lists : x.shells ≡ y.shells = one_list_of_sequences y.graph hy.is_graph x.shells y.shells (subst (λ G. AreSequencesOf G x.shells) graph hx.shells) hy.shells in
+    let lists : x.shells ≡ y.shells = one_list_of_sequences y.graph hy.is_graph x.shells y.shells
+    (subst (λ G. AreSequencesOf G x.shells) graph hx.shells) hy.shells in
     λ i. record { name = (e i).name; graph = graph i; key = (e i).key; shells = lists i }
 
 same_entries : (v : Version) (xs ys : List EntryView) → All IsEntry xs → All IsEntry ys → map (shown v) xs ≡ map (shown v) ys → xs ≡ ys
@@ -173,10 +178,12 @@ one_later_fault v text a b h k = by (states_meet v text h.entries k.entries h.pa
         let number = h.at.number ∙ (λ i. length (rows_before v (entries i) ++ row_lines (part_rows (sym t.part_is i))) + 1) ∙ sym k.at.number in
         let place : h.place ≡ k.place = λ i. record { rest = sym t.left_is i; number = number i } in
         one_cause v k.entries k.part k.place k.formed a b
-        (cause_of v k.entries k.part k.place a (subst (λ (l : Place). FaultAt v k.entries k.part l a) place (subst (λ p. FaultAt v k.entries p h.place a) (sym t.part_is) (subst (λ es. FaultAt v es h.part h.place a) entries h.cause))))
+        (cause_of v k.entries k.part k.place a (subst (λ (l : Place). FaultAt v k.entries k.part l a) place
+        (subst (λ p. FaultAt v k.entries p h.place a) (sym t.part_is) (subst (λ es. FaultAt v es h.part h.place a) entries h.cause))))
         (cause_of v k.entries k.part k.place b k.cause)
 
-    by : IsThere v h.entries h.part k.entries k.part h.place.rest k.place.rest ⊎ (IsAhead v h.entries h.part k.entries k.part k.place.rest ⊎ IsAhead v k.entries k.part h.entries h.part h.place.rest) → a ≡ b
+    by : IsThere v h.entries h.part k.entries k.part h.place.rest k.place.rest
+        ⊎ (IsAhead v h.entries h.part k.entries k.part k.place.rest ⊎ IsAhead v k.entries k.part h.entries h.part h.place.rest) → a ≡ b
     by (inl t) = there t
     by (inr (inl ahead)) = absurd (no_earlier_fault v h.entries h.part h.good h.begun k.entries k.place k.part b k.formed ahead k.cause)
     by (inr (inr ahead)) = absurd (no_earlier_fault v k.entries k.part k.good k.begun h.entries h.place h.part a h.formed ahead h.cause)
@@ -196,7 +203,8 @@ one_fault text a b (inr (inl h)) (inr (inl k)) p q = one_first_line text a b h k
 one_fault text a b (inr (inl h)) (inr (inr (w, k))) p q = absurd (no_first_line w text (rest_after w k.entries k.part k.place) a (first_of w text b k) h)
 one_fault text a b (inr (inr (v, h))) (inr (inl k)) p q = absurd (no_first_line v text (rest_after v h.entries h.part h.place) b (first_of v text a h) k)
 one_fault text a b (inr (inr (v, h))) (inr (inr (w, k))) p q =
-    let same = same_version v w (rest_after v h.entries h.part h.place) (rest_after w k.entries k.part k.place) (sym (first_of v text a h) ∙ first_of w text b k) in
+    let same = same_version v w (rest_after v h.entries h.part h.place) (rest_after w k.entries k.part k.place)
+    (sym (first_of v text a h) ∙ first_of w text b k) in
     one_later_fault v text a b h (subst (λ u. HasFault u text b) (sym same.version) k)
 
 -- the state after all entries of an archive
@@ -207,7 +215,10 @@ read_all : (a : ArchiveView) → IsArchive a → HasRead a.version (archive_text
 read_all a is = record {
   each = is.each;
   formed = tt;
-  at = record { joined = sym (append-nil (rows_text (rows_before a.version a.entries ++ [])) ∙ ap rows_text (append-nil (rows_before a.version a.entries))); number = refl };
+  at = record {
+    joined = sym (append-nil (rows_text (rows_before a.version a.entries ++ [])) ∙ ap rows_text (append-nil (rows_before a.version a.entries)));
+    number = refl;
+  };
 }
 
 -- nothing is left there
@@ -215,7 +226,8 @@ nothing_left : (v : Version) (all es : List EntryView) (last part : Part) → Is
 nothing_left v all es last part h = let long = ap length h.stands in let two = length-append (row_line h.row) (10 ∷ h.after) in omega (arith, long, two)
 
 -- so there is no fault
-no_fault_at_end : (v : Version) (es : List EntryView) (part : Part) (place : Place) (fault : ArchiveFault) → part ≡ Start → place.rest ≡ [] → FaultAt v es part place fault → ⊥
+no_fault_at_end : (v : Version) (es : List EntryView) (part : Part) (place : Place) (fault : ArchiveFault) → part ≡ Start → place.rest ≡ []
+    → FaultAt v es part place fault → ⊥
 no_fault_at_end v es part place fault start left c = by (cause_of v es part place fault c)
   where
     none : (row : List ℕ) → Stands row place → ⊥
@@ -231,9 +243,12 @@ are_entries : (a : ArchiveView) → IsArchive a → AreEntries a.entries
 are_entries a is = record { each = is.each; names = is.names; few = is.few }
 
 no_later_fault : (a : ArchiveView) (fault : ArchiveFault) → IsArchive a → HasFault a.version (archive_text a) fault → ⊥
-no_later_fault a fault is h = by (states_meet a.version (archive_text a) a.entries h.entries Start h.part (end_of a) h.place (read_all a is) (record { each = h.good.each; formed = h.formed; at = h.at }))
+no_later_fault a fault is h =
+    by (states_meet a.version (archive_text a) a.entries h.entries Start h.part (end_of a) h.place (read_all a is)
+    (record { each = h.good.each; formed = h.formed; at = h.at }))
   where
-    by : IsThere a.version a.entries Start h.entries h.part [] h.place.rest ⊎ (IsAhead a.version a.entries Start h.entries h.part h.place.rest ⊎ IsAhead a.version h.entries h.part a.entries Start []) → ⊥
+    by : IsThere a.version a.entries Start h.entries h.part [] h.place.rest
+        ⊎ (IsAhead a.version a.entries Start h.entries h.part h.place.rest ⊎ IsAhead a.version h.entries h.part a.entries Start []) → ⊥
     by (inl t) = no_fault_at_end a.version h.entries h.part h.place fault t.part_is t.left_is h.cause
     by (inr (inl ahead)) = no_earlier_fault a.version a.entries Start (are_entries a is) tt h.entries h.place h.part fault h.formed ahead h.cause
     by (inr (inr ahead)) = nothing_left a.version h.entries a.entries h.part Start ahead
@@ -241,9 +256,11 @@ no_later_fault a fault is h = by (states_meet a.version (archive_text a) a.entri
 -- the text of an archive has no fault but running out of memory
 pub no_fault_but_memory : (a : ArchiveView) (fault : ArchiveFault) → IsArchive a → IsFaultOf (archive_text a) fault → fault ≡ NoMemory
 no_fault_but_memory a fault is (inl memory) = memory
-no_fault_but_memory a fault is (inr (inl first)) = absurd (no_first_line a.version (archive_text a) (rows_text (entry_lines a.version a.entries)) fault refl first)
+no_fault_but_memory a fault is (inr (inl first)) =
+    absurd (no_first_line a.version (archive_text a) (rows_text (entry_lines a.version a.entries)) fault refl first)
 no_fault_but_memory a fault is (inr (inr (w, h))) =
-    let same = same_version a.version w (rows_text (entry_lines a.version a.entries)) (rest_after w h.entries h.part h.place) (first_of w (archive_text a) fault h) in
+    let same = same_version a.version w (rows_text (entry_lines a.version a.entries)) (rest_after w h.entries h.part h.place)
+    (first_of w (archive_text a) fault h) in
     absurd (no_later_fault a fault is (subst (λ u. HasFault u (archive_text a) fault) (sym same.version) h))
 
 -- a text is that of one archive alone
@@ -260,12 +277,14 @@ one_archive a b ha hb e = λ i. record { version = version i; entries = entries 
     is_other = subst (λ w. IsArchive (record { version = w; entries = b.entries })) (sym version) hb
 
     read_other : HasRead a.version (archive_text a) b.entries Start (end_of other)
-    read_other = subst (λ t. HasRead a.version t b.entries Start (end_of other)) (ap (λ w. archive_text (record { version = w; entries = b.entries })) version ∙ sym e) (read_all other is_other)
+    read_other = subst (λ t. HasRead a.version t b.entries Start (end_of other))
+        (ap (λ w. archive_text (record { version = w; entries = b.entries })) version ∙ sym e) (read_all other is_other)
 
     entries : a.entries ≡ b.entries
     entries = by (states_meet a.version (archive_text a) a.entries b.entries Start Start (end_of a) (end_of other) (read_all a ha) read_other)
       where
-        by : IsThere a.version a.entries Start b.entries Start [] [] ⊎ (IsAhead a.version a.entries Start b.entries Start [] ⊎ IsAhead a.version b.entries Start a.entries Start []) → a.entries ≡ b.entries
+        by : IsThere a.version a.entries Start b.entries Start [] [] ⊎ (IsAhead a.version a.entries Start b.entries Start []
+            ⊎ IsAhead a.version b.entries Start a.entries Start []) → a.entries ≡ b.entries
         by (inl t) = same_entries a.version a.entries b.entries ha.each hb.each t.same
         by (inr (inl ahead)) = absurd (nothing_left a.version a.entries b.entries Start Start ahead)
         by (inr (inr ahead)) = absurd (nothing_left a.version b.entries a.entries Start Start ahead)

@@ -13,13 +13,15 @@ use Rattle.archive_text.specs.declared.version.Version.{Version}
 use Rattle.archive_text.specs.declared.version.Version.TheVariants.{Two}
 use Rattle.net_archive.specs.Judging.{AreRefusedShells, HasKey, HasOtherKey, HasOtherShells, IsFirstOther, IsJudged, IsRefusedAt, graph_of_form}
 use Rattle.net_archive.specs.declared.faults.ArchiveFault.{ArchiveFault}
-use Rattle.net_archive.specs.declared.faults.ArchiveFault.TheVariants.{BadLine, RepeatedName, EntryRefused, KeyDiffers, TooManyEntries, Version as OtherVersion, CountDiffers, ShellsDiffer, NoMemory}
+use Rattle.net_archive.specs.declared.faults.ArchiveFault.TheVariants.{BadLine, RepeatedName, EntryRefused, KeyDiffers, TooManyEntries, Version as OtherVersion}
+use Rattle.net_archive.specs.declared.faults.ArchiveFault.TheVariants.{CountDiffers, ShellsDiffer, NoMemory}
 
 order : (m n : ℕ) → (m < n) ⊎ ((n < m) ⊎ (m ≡ n))
 order m n = grind arith
 
 -- the first place at which another list is kept is one
-one_first_other : (keeps lists : List (List ℕ)) (i j : ℕ) (a b c d : List ℕ) → IsFirstOther keeps lists i a b → IsFirstOther keeps lists j c d → (i ≡ j) × (a ≡ c) × (b ≡ d)
+one_first_other : (keeps lists : List (List ℕ)) (i j : ℕ) (a b c d : List ℕ) → IsFirstOther keeps lists i a b → IsFirstOther keeps lists j c d
+    → (i ≡ j) × (a ≡ c) × (b ≡ d)
 one_first_other keeps lists i j a b c d h k = by (order i j)
   where
     -- what stands at a place where the lists agree
@@ -35,7 +37,8 @@ one_first_other keeps lists i j a b c d h k = by (order i j)
         (e, cc, cc)
 
 -- other lists are refused in one way
-one_shells : (key_line : ℕ) (keeps lists : List (List ℕ)) (a b : ArchiveFault) → AreRefusedShells key_line keeps lists a → AreRefusedShells key_line keeps lists b → a ≢ NoMemory → b ≢ NoMemory → a ≡ b
+one_shells : (key_line : ℕ) (keeps lists : List (List ℕ)) (a b : ArchiveFault) → AreRefusedShells key_line keeps lists a
+    → AreRefusedShells key_line keeps lists b → a ≢ NoMemory → b ≢ NoMemory → a ≡ b
 one_shells key_line keeps lists (CountDiffers n x y) (CountDiffers m z w) h k p q =
     let line : n ≡ m = h.line ∙ sym k.line in
     let kept : x ≡ z = h.kept_is ∙ sym k.kept_is in
@@ -77,7 +80,8 @@ module _ (v : Version) (line : ℕ) (f g : Form) (is : IsGraph (graph_of_form f)
   not_refused : (n : ℕ) (r : Refusal) → IsCertain (graph_of_form f) → ¬ IsRefusedAt line (graph_of_form f) (EntryRefused n r)
   not_refused n r certain h = h.2 (certain_is_not_refused (graph_of_form f) r is certain h.1)
 
-  one_refused : (n m : ℕ) (r s : Refusal) → IsRefusedAt line (graph_of_form f) (EntryRefused n r) → IsRefusedAt line (graph_of_form f) (EntryRefused m s) → EntryRefused n r ≡ EntryRefused m s
+  one_refused : (n m : ℕ) (r s : Refusal) → IsRefusedAt line (graph_of_form f) (EntryRefused n r) → IsRefusedAt line (graph_of_form f) (EntryRefused m s)
+      → EntryRefused n r ≡ EntryRefused m s
   one_refused n m r s h k =
       let at : n ≡ m = h.0 ∙ sym k.0 in
       let same = one_refusal (graph_of_form f) r s is h.1 k.1 h.2 k.2 in
@@ -92,17 +96,20 @@ module _ (v : Version) (line : ℕ) (f g : Form) (is : IsGraph (graph_of_form f)
 
   -- a key that is kept is not another one
   not_other : (n : ℕ) (a b : List ℤ) → HasOtherKey f n a b → ¬ HasKey g
-  not_other n a b h k = h.differ (h.kept_is ∙ one_key (graph_of_form f) is f.keyed.key b (subst (IsKeyOf (graph_of_form f)) (sym alike.key) (key_there g.keyed.key k.key)) h.key)
+  not_other n a b h k = h.differ (h.kept_is ∙ one_key (graph_of_form f) is f.keyed.key b
+      (subst (IsKeyOf (graph_of_form f)) (sym alike.key) (key_there g.keyed.key k.key)) h.key)
 
   not_other_back : (n : ℕ) (a b : List ℤ) → HasKey f → ¬ HasOtherKey g n a b
   not_other_back n a b k h = h.differ (h.kept_is ∙ sym alike.key ∙ one_key (graph_of_form f) is f.keyed.key b k.key (key_there b h.key))
 
   one_other_shells : (a b : ArchiveFault) → HasOtherShells v f a → HasOtherShells v g b → a ≢ NoMemory → b ≢ NoMemory → a ≡ b
   one_other_shells a b h k p q =
-      let lists : k.lists ≡ h.lists = one_list_of_sequences (graph_of_form f) is k.lists h.lists (subst (λ G. AreSequencesOf G k.lists) (sym alike.graph) k.are_sequences) h.are_sequences in
+      let lists : k.lists ≡ h.lists = one_list_of_sequences (graph_of_form f) is k.lists h.lists
+      (subst (λ G. AreSequencesOf G k.lists) (sym alike.graph) k.are_sequences) h.are_sequences in
       let shells : g.shells ≡ f.shells = sym (alike.shells h.version) in
       let moved = subst (λ l. AreRefusedShells l g.shells k.lists b) (sym alike.key_line) k.refused in
-      one_shells f.keyed.key_line f.shells h.lists a b h.refused (subst (λ l. AreRefusedShells f.keyed.key_line f.shells l b) lists (subst (λ s. AreRefusedShells f.keyed.key_line s k.lists b) shells moved)) p q
+      one_shells f.keyed.key_line f.shells h.lists a b h.refused (subst (λ l. AreRefusedShells f.keyed.key_line f.shells l b) lists
+      (subst (λ s. AreRefusedShells f.keyed.key_line s k.lists b) shells moved)) p q
 
   -- so what is judged is one
   pub one_judged : (a b : ArchiveFault) → a ≢ NoMemory → b ≢ NoMemory → IsJudged v line f a → IsJudged v line g b → a ≡ b

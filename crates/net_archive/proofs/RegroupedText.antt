@@ -25,7 +25,8 @@ sizes : (v : Version) (es : List EntryView) → length (rows_text (entry_lines v
 sizes v [] = refl
 sizes v (e ∷ es) =
     let whole = ap (λ rows. length (rows_text rows)) (lines_with v (e ∷ []) es) ∙ ap length (rows_text_of_sum (entry_lines v (e ∷ [])) (entry_lines v es)) in
-    whole ∙ length-append (rows_text (entry_lines v (e ∷ []))) (rows_text (entry_lines v es)) ∙ ap (λ n. size_of v e + n) (sizes v es) ∙ sym (sum_by-cons (size_of v) e es)
+    whole ∙ length-append (rows_text (entry_lines v (e ∷ []))) (rows_text (entry_lines v es)) ∙ ap (λ n. size_of v e + n) (sizes v es)
+    ∙ sym (sum_by-cons (size_of v) e es)
 
 -- the same entries in another order have a text of the same length
 same_length : (v : Version) (es fs : List EntryView) → IsPermutation es fs → length (rows_text (entry_lines v fs)) ≡ length (rows_text (entry_lines v es))
@@ -49,11 +50,13 @@ apart_again es h i j d l m eq =
     h i j (name_in d) l (omega (arith, n, m)) (get_or-map name_in es i d (name_in d) (omega (arith, l, m)) ∙ eq ∙ sym (get_or-map name_in es j d (name_in d) m))
 
 -- the same entries in another order have different names
-names_differ : (es fs : List EntryView) → IsPermutation es fs → AllPairs (λ (e f : EntryView). e.name ≢ f.name) es → AllPairs (λ (e f : EntryView). e.name ≢ f.name) fs
+names_differ : (es fs : List EntryView) → IsPermutation es fs → AllPairs (λ (e f : EntryView). e.name ≢ f.name) es
+    → AllPairs (λ (e f : EntryView). e.name ≢ f.name) fs
 names_differ es fs p h = apart_again fs (permuted_pairs (map name_in es) (map name_in fs) (IsPermutation-map name_in es fs p) (names_apart es h))
 
 -- the same entries in another order are an archive
-pub permuted_archive : (v : Version) (es fs : List EntryView) → IsPermutation es fs → IsArchive (record { version = v; entries = es }) → IsArchive (record { version = v; entries = fs })
+pub permuted_archive : (v : Version) (es fs : List EntryView) → IsPermutation es fs → IsArchive (record { version = v; entries = es })
+    → IsArchive (record { version = v; entries = fs })
 permuted_archive v es fs p a =
     let l = length_permutation es fs p in
     let old = text_length v es in
@@ -68,9 +71,11 @@ permuted_archive v es fs p a =
     }
 
 -- the archive with its entries regrouped, and their rows
-pub regrouped_archive : (v : Version) (es now : List EntryView) (body rows : List ℕ) → IsInMemory (record { version = v; entries = es }) body → now ≡ regrouped es
+pub regrouped_archive : (v : Version) (es now : List EntryView) (body rows : List ℕ) → IsInMemory (record { version = v; entries = es }) body
+    → now ≡ regrouped es
     → rows ≡ rows_text (entry_lines v (regrouped es)) → IsInMemory (record { version = v; entries = now }) rows
 regrouped_archive v es now body rows m is r = record {
-  is_archive = subst (λ (xs : List EntryView). IsArchive (record { version = v; entries = xs })) (sym is) (permuted_archive v es (regrouped es) (is_regrouped es).same_entries m.is_archive);
+  is_archive = subst (λ (xs : List EntryView). IsArchive (record { version = v; entries = xs })) (sym is)
+      (permuted_archive v es (regrouped es) (is_regrouped es).same_entries m.is_archive);
   is_body = r ∙ ap (λ (xs : List EntryView). rows_text (entry_lines v xs)) (sym is);
 }

@@ -14,7 +14,8 @@ same_lists (x ∷ xs) (y ∷ ys) e h =
     λ i. first i ∷ rest i
 
 -- they agree at one more place
-pub next_same : {A : Type 0} (xs ys : List A) (n : ℕ) (x y : A) → ((j : ℕ) → j < n → slice_get xs j ≡ slice_get ys j) → slice_get xs n ≡ Some x → slice_get ys n ≡ Some y → x ≡ y
+pub next_same : {A : Type 0} (xs ys : List A) (n : ℕ) (x y : A) → ((j : ℕ) → j < n → slice_get xs j ≡ slice_get ys j) → slice_get xs n ≡ Some x
+    → slice_get ys n ≡ Some y → x ≡ y
     → (j : ℕ) → j < n + 1 → slice_get xs j ≡ slice_get ys j
 next_same xs ys n x y h a b e j l = by (order j n l)
   where

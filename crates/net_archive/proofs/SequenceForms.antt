@@ -26,7 +26,8 @@ low_class G p f n (suc k) u below is = elim (cases_lt 1 (f u)) [
 short_sizes : (G : Graph) (sizes : List ℕ) (u : ℕ) → AreShellsOf G (vertex u zero_vector) sizes → AreSizes sizes
 short_sizes G sizes u are = record {
   few = are.few;
-  short = All-from_get_or IsShort sizes 0 (λ i within. let one = get_or-le-sum_by (λ (n : ℕ). n) sizes i 0 within in let all = are.within in omega (arith, one, all));
+  short = All-from_get_or IsShort sizes 0 (λ i within. let one = get_or-le-sum_by (λ (n : ℕ). n) sizes i 0 within in let all = are.within in
+      omega (arith, one, all));
 }
 
 -- there is a class at least, no more than there may be, and ten sizes at most for each
@@ -48,6 +49,8 @@ are_counted G lists small are = record {
 
     each : (k : ℕ) → k < length lists → AreSizes (get_or lists k [])
     each k within =
-        let u = class_met G are.shape.placement are.shape.class_of are.shape.classes are.shape.is_classes (k + 1) (omega arith) (omega (arith, within, are.count)) in
+        let u = class_met G are.shape.placement are.shape.class_of are.shape.classes are.shape.is_classes (k + 1) (omega arith)
+        (omega (arith, within, are.count)) in
         let place : k + 1 - 1 ≡ k = omega arith in
-        short_sizes G (get_or lists k []) u.0 (subst (λ c. AreShellsOf G (vertex u.0 zero_vector) (get_or lists c [])) (ap (λ c. c - 1) u.2 ∙ place) (are.each (vertex u.0 zero_vector) (origin_vertex G u.0 u.1)))
+        short_sizes G (get_or lists k []) u.0 (subst (λ c. AreShellsOf G (vertex u.0 zero_vector) (get_or lists c [])) (ap (λ c. c - 1) u.2 ∙ place)
+        (are.each (vertex u.0 zero_vector) (origin_vertex G u.0 u.1)))

@@ -30,4 +30,5 @@ pub record SameVersion (v w : Version) (x y : List ℕ) : Type 0 where
   pub rest : x ≡ y
 
 pub same_version : (v w : Version) (x y : List ℕ) → first_row v ++ 10 ∷ x ≡ first_row w ++ 10 ∷ y → SameVersion v w x y
-same_version v w x y e = let both = same_row (first_row v) (first_row w) x y (no_feed v) (no_feed w) e in record { version = one_version v w both.0; rest = both.1 }
+same_version v w x y e = let both = same_row (first_row v) (first_row w) x y (no_feed v) (no_feed w) e in
+    record { version = one_version v w both.0; rest = both.1 }

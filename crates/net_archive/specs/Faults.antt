@@ -13,7 +13,8 @@ use Rattle.archive_text.specs.declared.version.Version.{Version}
 use Rattle.net_archive.specs.Archives.{IsEntry, most_entries}
 use Rattle.net_archive.specs.Judging.{IsJudged}
 use Rattle.net_archive.specs.declared.faults.ArchiveFault.{ArchiveFault}
-use Rattle.net_archive.specs.declared.faults.ArchiveFault.TheVariants.{BadLine, RepeatedName, EntryRefused, KeyDiffers, TooManyEntries, Version as OtherVersion, CountDiffers, ShellsDiffer, NoMemory}
+use Rattle.net_archive.specs.declared.faults.ArchiveFault.TheVariants.{BadLine, RepeatedName, EntryRefused, KeyDiffers, TooManyEntries, Version as OtherVersion}
+use Rattle.net_archive.specs.declared.faults.ArchiveFault.TheVariants.{CountDiffers, ShellsDiffer, NoMemory}
 
 -- entries of an archive, or the first of them
 pub record AreEntries (entries : List EntryView) : Type 0 where

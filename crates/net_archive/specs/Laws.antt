@@ -23,4 +23,5 @@ OneFault = (text : List ℕ) (a b : ArchiveFault) → IsFaultOf text a → IsFau
 
 -- two faults of adding under one name, running out of memory aside, are one
 abbrev pub OneAddFault : Type 0
-OneAddFault = (a : ArchiveView) (name : List ℕ) (m n : KeyedNet) (f g : AddFault) → IsAddFault a name m f → IsAddFault a name n g → f ≢ add.NoMemory → g ≢ add.NoMemory → f ≡ g
+OneAddFault = (a : ArchiveView) (name : List ℕ) (m n : KeyedNet) (f g : AddFault) → IsAddFault a name m f → IsAddFault a name n g → f ≢ add.NoMemory
+    → g ≢ add.NoMemory → f ≡ g

@@ -68,27 +68,32 @@ module _ (S T : NetSide) (m : ℕ) where
   no_images carry s = refl
 
   -- one image more
-  pub one_more : (n : ℕ) (xs ys : List Vertex) (x : Vertex) → AreFirstImages S T m n xs → IsImageOf S T (vertex_at S.net.graph.dimension m n) x → ys ≡ xs ++ x ∷ []
+  pub one_more : (n : ℕ) (xs ys : List Vertex) (x : Vertex) → AreFirstImages S T m n xs → IsImageOf S T (vertex_at S.net.graph.dimension m n) x
+      → ys ≡ xs ++ x ∷ []
       → AreFirstImages S T m (n + 1) ys
   one_more n xs ys x h i e carry s =
       let v = vertex_at S.net.graph.dimension m in
       let old = h carry s in
       let new = i carry s in
-      e ∙ (λ t. old t ++ new t ∷ []) ∙ sym (map_joined carry (map v (range_with_len 0 n)) (v n ∷ [])) ∙ ap (map carry) (sym (map_joined v (range_with_len 0 n) (n ∷ [])))
+      e ∙ (λ t. old t ++ new t ∷ []) ∙ sym (map_joined carry (map v (range_with_len 0 n)) (v n ∷ []))
+      ∙ ap (map carry) (sym (map_joined v (range_with_len 0 n) (n ∷ [])))
       ∙ ap (λ ts. map carry (map v ts)) (ap (λ t. range_with_len 0 n ++ t ∷ []) (none n) ∙ sym (range_more 0 n))
     where
       none : (n : ℕ) → n ≡ 0 + n
       none n = omega arith
 
   -- the images of all
-  pub all_images : IsGraph S.net.graph → 1 ≤ m → (n : ℕ) (xs : List Vertex) → n ≡ S.net.graph.vertices * box_size S.net.graph.dimension m → AreFirstImages S T m n xs → AreImages S T m xs
+  pub all_images : IsGraph S.net.graph → 1 ≤ m → (n : ℕ) (xs : List Vertex) → n ≡ S.net.graph.vertices * box_size S.net.graph.dimension m
+      → AreFirstImages S T m n xs → AreImages S T m xs
   all_images g h n xs e f carry s =
       f carry s ∙ ap (λ k. map carry (map (vertex_at S.net.graph.dimension m) (range_with_len 0 k))) e ∙ ap (map carry) (sym (box_list S.net.graph m g h))
 
 -- a vertex at a place of a box is near cell 0
-pub place_inside : (G : Graph) (d m n i : ℕ) → IsGraph G → G.dimension ≡ d → 1 ≤ m → m ≤ n → i < G.vertices * box_size d m → (w : Vertex) → w ≡ vertex_at d m i → IsVertex G w × IsWithin n w.cell
+pub place_inside : (G : Graph) (d m n i : ℕ) → IsGraph G → G.dimension ≡ d → 1 ≤ m → m ≤ n → i < G.vertices * box_size d m → (w : Vertex) → w ≡ vertex_at d m i
+    → IsVertex G w × IsWithin n w.cell
 place_inside G d m n i g e h l k w f =
-    let b = subst (IsBoxVertex G m) (ap (λ t. vertex_at t m i) e ∙ sym f) (vertex_in_box G m g.dimension h i (subst (λ t. i < G.vertices * box_size t m) (sym e) k)) in
+    let b = subst (IsBoxVertex G m) (ap (λ t. vertex_at t m i) e ∙ sym f)
+    (vertex_in_box G m g.dimension h i (subst (λ t. i < G.vertices * box_size t m) (sym e) k)) in
     let r = w.cell in
     let x = (natural_part r.x (pos m) b.box.low.0 b.box.high.0).1 in
     let y = (natural_part r.y (pos m) b.box.low.1 b.box.high.1).1 in

@@ -59,9 +59,11 @@ module _ (d m : ℕ) (c : (d ≡ 2) ⊎ (d ≡ 3)) where
       let x = in_pieces _ (below m) r h in
       let y = in_pieces _ (below m) r x.2 in
       let z = in_map _ _ r y.2 in
-      subst (IsInBox d m) z.2 (inside x.0 y.0 z.0 (range_in 0 m x.0 x.1) (range_in 0 m y.0 y.1) (range_in 0 (last_side d m) z.0 (subst (λ (zs : List ℕ). IsIn zs z.0) (lasts_are d m c) z.1)) c)
+      subst (IsInBox d m) z.2 (inside x.0 y.0 z.0 (range_in 0 m x.0 x.1) (range_in 0 m y.0 y.1)
+      (range_in 0 (last_side d m) z.0 (subst (λ (zs : List ℕ). IsIn zs z.0) (lasts_are d m c) z.1)) c)
     where
-      inside : (x y z : ℕ) → (0 ≤ x) × (x < 0 + m) → (0 ≤ y) × (y < 0 + m) → (0 ≤ z) × (z < 0 + last_side d m) → (d ≡ 2) ⊎ (d ≡ 3) → IsInBox d m (vector (pos x) (pos y) (pos z))
+      inside : (x y z : ℕ) → (0 ≤ x) × (x < 0 + m) → (0 ≤ y) × (y < 0 + m) → (0 ≤ z) × (z < 0 + last_side d m) → (d ≡ 2) ⊎ (d ≡ 3)
+          → IsInBox d m (vector (pos x) (pos y) (pos z))
       inside x y z (a, p) (b, q) (o, r) (inl e) =
           let s : z < 0 + 1 = subst (λ (t : ℕ). z < 0 + last_side t m) e r in
           record {
@@ -107,7 +109,8 @@ module _ (G : Graph) (m : ℕ) (c : (G.dimension ≡ 2) ⊎ (G.dimension ≡ 3))
       let cell = vector_equal (sym x.0) (sym y.0) (sym z.0) in
       let low = b.over.0 in
       let high = b.over.1 in
-      let stands = subst (At (box_cells d m) (cell_place d m r)) cell (cell_stands d m c (unsigned_abs r.x) (unsigned_abs r.y) (unsigned_abs r.z) x.1 y.1 (third_below d m r c b.box z.1)) in
+      let stands = subst (At (box_cells d m) (cell_place d m r)) cell (cell_stands d m c (unsigned_abs r.x) (unsigned_abs r.y) (unsigned_abs r.z) x.1 y.1
+      (third_below d m r c b.box z.1)) in
       let at = at_map (vertex w.over) (box_cells d m) (cell_place d m r) r stands in
       at_piece (λ u. map (vertex u) (box_cells d m)) (box_size d m) piece_length 1 G.vertices (w.over - 1) (cell_place d m r) w (omega (arith, low, high))
       (subst (λ (u : ℕ). At (map (vertex u) (box_cells d m)) (cell_place d m r) w) (again w.over low) at)

@@ -20,7 +20,8 @@ no_lines (b ∷ text) = refl
 -- the first line of a text that begins with a line
 first_line : (n : ℕ) (line rest : List ℕ) → HasNo 10 line → first_lines (suc n) (line ++ 10 ∷ rest) ≡ line ++ 10 ∷ first_lines n rest
 first_line n [] rest none = refl
-first_line n (b ∷ line) rest none = ap (λ t. b ∷ first_lines (if t then n else suc n) (line ++ 10 ∷ rest)) none.0 ∙ ap (λ l. b ∷ l) (first_line n line rest none.1)
+first_line n (b ∷ line) rest none = ap (λ t. b ∷ first_lines (if t then n else suc n) (line ++ 10 ∷ rest)) none.0
+    ∙ ap (λ l. b ∷ l) (first_line n line rest none.1)
 
 -- what follows a line of a text
 record Follows (n : ℕ) (line text rest : List ℕ) : Type 0 where
@@ -49,7 +50,8 @@ record Shares (rows : List Row) (left other : List ℕ) : Type 0 where
   pub joined : other ≡ rows_text (row_lines rows) ++ others
   pub same : first_lines 1 left ≡ first_lines 1 others
 
-shared : (p q : Stage) (rows : List Row) (left other : List ℕ) → IsFormed p → Walk p rows q → first_lines (length rows + 1) (rows_text (row_lines rows) ++ left) ≡ first_lines (length rows + 1) other → Shares rows left other
+shared : (p q : Stage) (rows : List Row) (left other : List ℕ) → IsFormed p → Walk p rows q
+    → first_lines (length rows + 1) (rows_text (row_lines rows) ++ left) ≡ first_lines (length rows + 1) other → Shares rows left other
 shared p q [] left other formed walk e = record { others = other; joined = refl; same = e }
 shared p q (r ∷ rows) left other formed walk e =
     let n = length rows + 1 in
@@ -71,7 +73,8 @@ shared p q (r ∷ rows) left other formed walk e =
 none_there : (p : Stage) (left others : List ℕ) → IsFormed p → first_lines 1 left ≡ first_lines 1 others → NoneFollows p left → NoneFollows p others
 none_there p left others formed same none row rest may e =
     let no = row_none p row formed may in
-    let here : first_lines 1 left ≡ row_line row ++ 10 ∷ [] = same ∙ ap (first_lines 1) e ∙ first_line 0 (row_line row) rest no ∙ ap (λ l. row_line row ++ 10 ∷ l) (no_lines rest) in
+    let here : first_lines 1 left ≡ row_line row ++ 10 ∷ [] = same ∙ ap (first_lines 1) e ∙ first_line 0 (row_line row) rest no
+    ∙ ap (λ l. row_line row ++ 10 ∷ l) (no_lines rest) in
     let f = cut 0 (row_line row) left [] no here in
     none row f.left may f.joined
 

@@ -14,7 +14,8 @@ use Rattle.map_check.specs.declared.map.PeriodicMap.{PeriodicMap}
 use Rattle.net_certificate.specs.Items.{ItemView, Without, With, IsPeriod, IsFormedMap, IsFormedItem}
 use Rattle.net_certificate.specs.Rows.{Row, OfSize, OfEdge, OfReason, OfMap, OfPeriod, OfImage, OfBase, OfEnd}
 use Rattle.net_certificate.specs.FirstRows.{IsDrawing, AreItems, IsOpened, IsMapping, IsFormed}
-use Rattle.net_certificate.specs.Stages.{Stage, Start, Titled, Listed, Opened, Drawn, Mapped, Drawing, drawn_graph, IsWhole, IsNextPair, with_edge, with_item, with_image, with_shift, begun_map, begun_drawing, image_count, stage_with, IsNextOf, MayFollow}
+use Rattle.net_certificate.specs.Stages.{Stage, Start, Titled, Listed, Opened, Drawn, Mapped, Drawing, drawn_graph, IsWhole, IsNextPair, with_edge, with_item}
+use Rattle.net_certificate.specs.Stages.{with_image, with_shift, begun_map, begun_drawing, image_count, stage_with, IsNextOf, MayFollow}
 
 -- a graph that is wholly drawn
 pub whole_graph : (g : Drawing) → IsDrawing g → IsWhole g → IsFormedGraph (drawn_graph g)
@@ -71,7 +72,8 @@ map_begun g h m graph whole period = record {
   after = λ less. refl;
 }
 
-image_mapped : (g h : Drawing) (M : PeriodicMap) (x : Vertex) → IsMapping g h M → length M.images < image_count g M → IsImage h.size.dim h.size.vertices x → IsMapping g h (with_image M x)
+image_mapped : (g h : Drawing) (M : PeriodicMap) (x : Vertex) → IsMapping g h M → length M.images < image_count g M → IsImage h.size.dim h.size.vertices x
+    → IsMapping g h (with_image M x)
 image_mapped g h M x is less image = record {
   graph = is.graph;
   whole = is.whole;
@@ -83,7 +85,8 @@ image_mapped g h M x is less image = record {
   after = λ more. is.after less;
 }
 
-shift_mapped : (g h : Drawing) (M : PeriodicMap) (v : Vector) → IsMapping g h M → length M.images ≡ image_count g M → length M.base < g.size.dim → IsShift h.size.dim v → IsMapping g h (with_shift M v)
+shift_mapped : (g h : Drawing) (M : PeriodicMap) (v : Vector) → IsMapping g h M → length M.images ≡ image_count g M → length M.base < g.size.dim
+    → IsShift h.size.dim v → IsMapping g h (with_shift M v)
 shift_mapped g h M v is all more shift = record {
   graph = is.graph;
   whole = is.whole;
@@ -95,7 +98,8 @@ shift_mapped g h M v is all more shift = record {
   after = λ less. absurd (omega (arith, less, all));
 }
 
-map_whole : (g h : Drawing) (M : PeriodicMap) → IsMapping g h M → length M.images ≡ image_count g M → length M.base ≡ g.size.dim → IsFormedMap (drawn_graph g) (drawn_graph h) M
+map_whole : (g h : Drawing) (M : PeriodicMap) → IsMapping g h M → length M.images ≡ image_count g M → length M.base ≡ g.size.dim
+    → IsFormedMap (drawn_graph g) (drawn_graph h) M
 map_whole g h M is images base = record {
   graph = whole_graph h is.graph is.whole;
   suits = record {
@@ -112,7 +116,13 @@ map_whole g h M is images base = record {
 -- a row that may follow makes a stage of its form
 pub formed_with : (p : Stage) (r : Row) → IsFormed p → MayFollow p r → IsFormed (stage_with p r)
 formed_with Start r formed may = tt
-formed_with Titled (OfSize s) formed may = record { drawing = drawing_begun s may; after = λ less. refl; each = All-nil (IsFormedItem (drawn_graph (begun_drawing s))); few = omega arith }
+formed_with Titled (OfSize s) formed may = record {
+  drawing = drawing_begun s may;
+  after = λ less. refl;
+  each =
+      All-nil (IsFormedItem (drawn_graph (begun_drawing s)));
+  few = omega arith;
+}
 formed_with Titled r formed may = tt
 formed_with (Listed g items) (OfEdge d e) formed may = edge_listed g items d e formed may
 formed_with (Listed g items) (OfReason k why) formed may = item_listed g items (Without why) (opens g items k formed may.0 may.1) may.2

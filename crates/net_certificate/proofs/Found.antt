@@ -15,7 +15,8 @@ use Rattle.net_certificate.proofs.BoxPlaces.{box_length}
 use Rattle.net_certificate.proofs.At.{map_length}
 
 -- it has no more images than there is room for
-pub found_few : (G H : Graph) (g : Shape G) (h : Shape H) (room m : ℕ) (images : List Vertex) (rows : List Vector) → IsGraph G → IsFound G H g h room m images rows → length images ≤ room
+pub found_few : (G H : Graph) (g : Shape G) (h : Shape H) (room m : ℕ) (images : List Vertex) (rows : List Vector) → IsGraph G
+    → IsFound G H g h room m images rows → length images ≤ room
 found_few G H g h room m images rows ig f =
     let t = f.table in
     let count : length images ≡ entries_of G t.m = ap length f.images_are ∙ map_length t.carry (box_vertices G t.m) ∙ box_length G t.m ig.dimension in
@@ -29,7 +30,8 @@ answer_few a b room answer M e is =
     found_few a.placed.graph b.placed.graph (shape_of a q.here) (shape_of b q.there) room M.m M.images M.base q.here.is_graph q.by
 
 -- and it can be written
-pub answer_writable : (G H : Graph) (answer : MapAnswer) (M : PeriodicMap) → answer ≡ Found M → PassesIfFound G H answer → length M.images ≤ most_images → IsWritable (With H M)
+pub answer_writable : (G H : Graph) (answer : MapAnswer) (M : PeriodicMap) → answer ≡ Found M → PassesIfFound G H answer → length M.images ≤ most_images
+    → IsWritable (With H M)
 answer_writable G H answer M e is few =
     let p = subst (PassesIfFound G H) e is few in
     (p.suits.period_from, p.suits.period_to, few)

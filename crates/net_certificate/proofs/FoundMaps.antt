@@ -51,7 +51,8 @@ rows_count d b (inl e) = subst (λ (n : ℕ). length (base_rows n b) ≡ n) (sym
 rows_count d b (inr e) = subst (λ (n : ℕ). length (base_rows n b) ≡ n) (sym e) refl
 
 -- each row is a sum along a unit vector
-rows_flat : (d e : ℕ) (b : Base) → (d ≡ 2) ⊎ (d ≡ 3) → ((k : Vector) → HasDimension d k → HasDimension e (base_sum b k)) → (v : Vector) → IsIn (base_rows d b) v → HasDimension e v
+rows_flat : (d e : ℕ) (b : Base) → (d ≡ 2) ⊎ (d ≡ 3) → ((k : Vector) → HasDimension d k → HasDimension e (base_sum b k)) → (v : Vector)
+    → IsIn (base_rows d b) v → HasDimension e v
 rows_flat d e b c h v i = by c
   where
     first : HasDimension e b.first
@@ -85,7 +86,8 @@ module _ (G H : Graph) (g : Shape G) (h : Shape H) (ig : IsGraph G) (ih : IsGrap
   -- the period is at most the number of vertices of the second graph
   period_small : t.m ≤ H.vertices
   period_small =
-      let p = standard_map_has_period G H (framed_net G g t.standard.start t.standard.frame) (framed_net H h t.standard.start' t.standard.frame') t.carry l t.standard.carries in
+      let p = standard_map_has_period G H (framed_net G g t.standard.start t.standard.frame)
+      (framed_net H h t.standard.start' t.standard.frame') t.carry l t.standard.carries in
       let a = t.period.least p.0 p.1 p.2.periodic in
       let b = p.3 in
       omega (arith, a, b)
@@ -101,13 +103,16 @@ module _ (G H : Graph) (g : Shape G) (h : Shape H) (ig : IsGraph G) (ih : IsGrap
       let b = box_inside G t.m ig.dimension w.0 w.1 in
       subst (IsVertex H) w.2 (t.standard.carries.into w.0 (record { over = b.over; cell = b.box.dimension }))
 
-  module _ (room m : ℕ) (images : List Vertex) (rows : List Vector) (n : H.vertices ≤ most_vertices) (period : m ≡ t.m) (images_are : images ≡ images_of G H g h t)
-      (rows_are : rows ≡ base_rows G.dimension t.shifts) (within : All (λ x. unsigned_abs x ≤ most_part) (map_numbers G.dimension images rows)) (few : length images ≤ most_images) where
+  module _ (room m : ℕ) (images : List Vertex) (rows : List Vector) (n : H.vertices ≤ most_vertices) (period : m ≡ t.m)
+      (images_are : images ≡ images_of G H g h t)
+      (rows_are : rows ≡ base_rows G.dimension t.shifts) (within : All (λ x. unsigned_abs x ≤ most_part) (map_numbers G.dimension images rows))
+      (few : length images ≤ most_images) where
     -- a part of an image is small
     image_part : (x : Vertex) → IsIn images x → (v : ℤ) → IsIn (parts G.dimension x.cell) v → unsigned_abs v ≤ most_part
     image_part x i v j =
         of_member (λ z. unsigned_abs z ≤ most_part) (map_numbers G.dimension images rows) v within
-        (append_left (flat_map (λ w. parts G.dimension w.cell) images) (flat_map (parts G.dimension) rows) v (pieces_in (λ w. parts G.dimension w.cell) images x v i j))
+        (append_left (flat_map (λ w. parts G.dimension w.cell) images) (flat_map (parts G.dimension) rows) v
+        (pieces_in (λ w. parts G.dimension w.cell) images x v i j))
 
     -- so is one of a row
     row_part : (r : Vector) → IsIn rows r → (v : ℤ) → IsIn (parts G.dimension r) v → unsigned_abs v ≤ most_part
@@ -129,7 +134,8 @@ module _ (G H : Graph) (g : Shape G) (h : Shape H) (ig : IsGraph G) (ih : IsGrap
     -- the table of what is found
     written : IsWrittenBy G H t.carry (table_for G m images rows)
     written =
-        let base = λ (k : Vector) (d : HasDimension G.dimension k). ap (λ (rs : List Vector). base_sum (base_of rs) k) rows_are ∙ rows_base G.dimension t.shifts k ig.dimension d in
+        let base = λ (k : Vector) (d : HasDimension G.dimension k). ap (λ (rs : List Vector). base_sum (base_of rs) k) rows_are
+        ∙ rows_base G.dimension t.shifts k ig.dimension d in
         let p = t.period.periodic in
         record {
           period = record {
@@ -143,7 +149,8 @@ module _ (G H : Graph) (g : Shape G) (h : Shape H) (ig : IsGraph G) (ih : IsGrap
           };
           images = λ u r q b.
               let inside : IsBoxVertex G t.m (vertex u r) = record { over = q; box = subst (λ (n : ℕ). IsInBox G.dimension n r) period b } in
-              let stands = at_map t.carry (box_vertices G t.m) (place_of G.dimension t.m (vertex u r)) (vertex u r) (vertex_stands G t.m ig.dimension (vertex u r) inside) in
+              let stands = at_map t.carry (box_vertices G t.m) (place_of G.dimension t.m (vertex u r)) (vertex u r)
+              (vertex_stands G t.m ig.dimension (vertex u r) inside) in
               ap (λ (n : ℕ). get_or images (place_of G.dimension n (vertex u r)) (vertex 0 zero_vector)) period
               ∙ ap (λ (xs : List Vertex). get_or xs (place_of G.dimension t.m (vertex u r)) (vertex 0 zero_vector)) images_are
               ∙ read_at (images_of G H g h t) (place_of G.dimension t.m (vertex u r)) (t.carry (vertex u r)) (vertex 0 zero_vector) stands;
@@ -152,13 +159,15 @@ module _ (G H : Graph) (g : Shape G) (h : Shape H) (ig : IsGraph G) (ih : IsGrap
     -- it is a table of an isomorphism
     isomorphism : IsTableOfIsomorphism G H t.carry (table_for G m images rows)
     isomorphism =
-        written_maps_pass G H (framed_net G g t.standard.start t.standard.frame) (framed_net H h t.standard.start' t.standard.frame') t.carry (table_for G m images rows) l t.standard.carries written
+        written_maps_pass G H (framed_net G g t.standard.start t.standard.frame) (framed_net H h t.standard.start' t.standard.frame') t.carry
+        (table_for G m images rows) l t.standard.carries written
 
     -- a row is one that can be checked
     row_suits : (r : Vector) → IsIn rows r → IsShift H.dimension r
     row_suits r i =
         let flat = λ (k : Vector) (d : HasDimension G.dimension k).
-        subst (HasDimension H.dimension) (ap (λ (rs : List Vector). base_sum (base_of rs) k) rows_are ∙ rows_base G.dimension t.shifts k ig.dimension d) (isomorphism.table.dimension k d) in
+        subst (HasDimension H.dimension) (ap (λ (rs : List Vector). base_sum (base_of rs) k) rows_are ∙ rows_base G.dimension t.shifts k ig.dimension d)
+        (isomorphism.table.dimension k d) in
         let v = rows_flat G.dimension H.dimension t.shifts ig.dimension flat r (subst (λ (rs : List Vector). IsIn rs r) rows_are i) in
         record {
           dimension = v;

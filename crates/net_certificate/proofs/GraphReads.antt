@@ -30,22 +30,27 @@ size_same : (s : GraphSize) (edges : List Arc) → row_lines (OfSize s ∷ map (
 size_same s edges = ap (λ l. size_row s ∷ l) (edges_same s.dim edges)
 
 -- the first graph
-pub first_in : (text : List ℕ) (G : Graph) (before after : Place) → IsFormedGraph G → IsIn text Titled before → ((rows : List (List ℕ)) → IsAt text rows before → HasGraph text rows after G) → IsIn text (Listed (drawing_of G) []) after
+pub first_in : (text : List ℕ) (G : Graph) (before after : Place) → IsFormedGraph G → IsIn text Titled before
+    → ((rows : List (List ℕ)) → IsAt text rows before → HasGraph text rows after G) → IsIn text (Listed (drawing_of G) []) after
 first_in text G before after formed is read = rows_in text Titled (Listed (drawing_of G) []) (graph_rows G) before after is (first_walk G formed)
     (λ rows at. subst (λ l. IsAt text (rows ++ l) after) (sym (graph_same G)) (read rows at).at)
 
 -- a second graph
-pub second_in : (text : List ℕ) (g : Drawing) (items : List ItemView) (H : Graph) (before after : Place) → IsFormedGraph H → IsIn text (Opened g items) before → ((rows : List (List ℕ)) → IsAt text rows before → HasGraph text rows after H) → IsIn text (Drawn g items (drawing_of H)) after
-second_in text g items H before after formed is read = rows_in text (Opened g items) (Drawn g items (drawing_of H)) (graph_rows H) before after is (second_walk g items H formed)
+pub second_in : (text : List ℕ) (g : Drawing) (items : List ItemView) (H : Graph) (before after : Place) → IsFormedGraph H → IsIn text (Opened g items) before
+    → ((rows : List (List ℕ)) → IsAt text rows before → HasGraph text rows after H) → IsIn text (Drawn g items (drawing_of H)) after
+second_in text g items H before after formed is read = rows_in text (Opened g items) (Drawn g items (drawing_of H)) (graph_rows H) before after is
+    (second_walk g items H formed)
     (λ rows at. subst (λ l. IsAt text (rows ++ l) after) (sym (graph_same H)) (read rows at).at)
 
 -- where p has a size and then edges, and the first of them were read
-cut_in : (text : List ℕ) (p q : Stage) (before : Place) (is : IsIn text p before) (s : GraphSize) (edges : List Arc) (place : Place) → Walk p (OfSize s ∷ map (OfEdge s.dim) edges) q
+cut_in : (text : List ℕ) (p q : Stage) (before : Place) (is : IsIn text p before) (s : GraphSize) (edges : List Arc) (place : Place)
+    → Walk p (OfSize s ∷ map (OfEdge s.dim) edges) q
     → IsAt text ((row_lines is.rows ++ size_row s ∷ []) ++ edge_lines s.dim edges) place → IsIn text q place
 cut_in text p q before is s edges place walk at = record {
   rows = is.rows ++ OfSize s ∷ map (OfEdge s.dim) edges;
   walk = walk_on Start p q is.rows (OfSize s ∷ map (OfEdge s.dim) edges) is.walk walk;
-  at = subst (λ l. IsAt text l place) (append_assoc (row_lines is.rows) (size_row s ∷ []) (edge_lines s.dim edges) ∙ ap (λ l. row_lines is.rows ++ l) (sym (size_same s edges)) ∙ sym (lines_of_sum is.rows (OfSize s ∷ map (OfEdge s.dim) edges))) at;
+  at = subst (λ l. IsAt text l place) (append_assoc (row_lines is.rows) (size_row s ∷ []) (edge_lines s.dim edges)
+      ∙ ap (λ l. row_lines is.rows ++ l) (sym (size_same s edges)) ∙ sym (lines_of_sum is.rows (OfSize s ∷ map (OfEdge s.dim) edges))) at;
 }
 
 some_edges : (s : GraphSize) (text : List ℕ) (rows : List (List ℕ)) (n : ℕ) → (bad : HasBadEdge text rows s n) → AreMore s [] bad.edges
@@ -56,24 +61,30 @@ same_rest : (text : List ℕ) (rows : List (List ℕ)) (p q : Place) → IsAt te
 same_rest text rows p q one two = append_cancel_left (rows_text rows) p.rest q.rest (sym one.joined ∙ two.joined)
 
 -- the first graph has a bad line
-pub first_bad : (text : List ℕ) (before : Place) (n : ℕ) → (is : IsIn text Titled before) → before.rest ≢ [] → HasBadGraph text (row_lines is.rows) n → HasBadLine text n
-first_bad text before n is left (inl bad) = bad_in text Titled bad.place n (record { rows = is.rows; walk = is.walk; at = bad.at }) bad.number (no_first_size bad.place.rest bad.none)
+pub first_bad : (text : List ℕ) (before : Place) (n : ℕ) → (is : IsIn text Titled before) → before.rest ≢ [] → HasBadGraph text (row_lines is.rows) n
+    → HasBadLine text n
+first_bad text before n is left (inl bad) = bad_in text Titled bad.place n (record { rows = is.rows; walk = is.walk; at = bad.at }) bad.number
+    (no_first_size bad.place.rest bad.none)
     (λ may none. left (same_rest text (row_lines is.rows) before bad.place is.at bad.at ∙ none))
 first_bad text before n is left (inr bad) =
     let s = bad.size in
     let edges = bad.bad.edges in
     let q = Listed (drawing s edges) [] in
-    bad_in text q bad.bad.place n (cut_in text Titled q before is s edges bad.bad.place (bad.is_size, first_edges_walk s [] edges (some_edges s text (row_lines is.rows ++ size_row s ∷ []) n bad.bad)) bad.bad.at) bad.bad.number
+    bad_in text q bad.bad.place n (cut_in text Titled q before is s edges bad.bad.place
+    (bad.is_size, first_edges_walk s [] edges (some_edges s text (row_lines is.rows ++ size_row s ∷ []) n bad.bad)) bad.bad.at) bad.bad.number
     (no_first_edge (drawing s edges) [] bad.bad.place.rest bad.bad.few bad.bad.none) (λ may none. let few = bad.bad.few in omega (arith, may, few))
 
 -- a second graph has one
-pub second_bad : (text : List ℕ) (g : Drawing) (items : List ItemView) (before : Place) (n : ℕ) → (is : IsIn text (Opened g items) before) → HasBadGraph text (row_lines is.rows) n → HasBadLine text n
-second_bad text g items before n is (inl bad) = bad_in text (Opened g items) bad.place n (record { rows = is.rows; walk = is.walk; at = bad.at }) bad.number (no_second_size g items bad.place.rest bad.none) (λ may. absurd may)
+pub second_bad : (text : List ℕ) (g : Drawing) (items : List ItemView) (before : Place) (n : ℕ) → (is : IsIn text (Opened g items) before)
+    → HasBadGraph text (row_lines is.rows) n → HasBadLine text n
+second_bad text g items before n is (inl bad) = bad_in text (Opened g items) bad.place n (record { rows = is.rows; walk = is.walk; at = bad.at }) bad.number
+    (no_second_size g items bad.place.rest bad.none) (λ may. absurd may)
 second_bad text g items before n is (inr bad) =
     let s = bad.size in
     let edges = bad.bad.edges in
     let q = Drawn g items (drawing s edges) in
-    bad_in text q bad.bad.place n (cut_in text (Opened g items) q before is s edges bad.bad.place (bad.is_size, second_edges_walk g items s [] edges (some_edges s text (row_lines is.rows ++ size_row s ∷ []) n bad.bad)) bad.bad.at) bad.bad.number
+    bad_in text q bad.bad.place n (cut_in text (Opened g items) q before is s edges bad.bad.place
+    (bad.is_size, second_edges_walk g items s [] edges (some_edges s text (row_lines is.rows ++ size_row s ∷ []) n bad.bad)) bad.bad.at) bad.bad.number
     (no_second_edge g items (drawing s edges) bad.bad.place.rest bad.bad.few bad.bad.none) (λ may. absurd may)
 
 -- nothing is left where no byte is

@@ -16,7 +16,8 @@ use Rattle.net_certificate.specs.Checks.{ArePassed, AreAll, IsChecked}
 use Rattle.net_certificate.specs.declared.checking.CheckedMaps.{CheckedMaps}
 use Rattle.map_check.specs.declared.map.PeriodicMap.{PeriodicMap}
 
-verdicts_more : (G : Graph) (items : List ItemView) (verdicts : List (Option Verdict)) (item : ItemView) (verdict : Option Verdict) → AreVerdicts G items verdicts → IsVerdictOf G item verdict → AreVerdicts G (items ++ item ∷ []) (verdicts ++ verdict ∷ [])
+verdicts_more : (G : Graph) (items : List ItemView) (verdicts : List (Option Verdict)) (item : ItemView) (verdict : Option Verdict)
+    → AreVerdicts G items verdicts → IsVerdictOf G item verdict → AreVerdicts G (items ++ item ∷ []) (verdicts ++ verdict ∷ [])
 verdicts_more G [] [] item verdict are is = (is, tt)
 verdicts_more G (i ∷ items) (v ∷ verdicts) item verdict are is = (are.0, verdicts_more G items verdicts item verdict are.1 is)
 verdicts_more G [] (v ∷ verdicts) item verdict are is = absurd are
@@ -28,11 +29,14 @@ same_count G (i ∷ items) (v ∷ verdicts) are = let later = same_count G items
 same_count G [] (v ∷ verdicts) are = absurd are
 same_count G (i ∷ items) [] are = absurd are
 
-rows_more : (k d : ℕ) (verdicts : List (Option Verdict)) (verdict : Option Verdict) → result_rows k d (verdicts ++ verdict ∷ []) ≡ result_rows k d verdicts ++ result_row (length verdicts + k) d verdict ∷ []
+rows_more : (k d : ℕ) (verdicts : List (Option Verdict)) (verdict : Option Verdict)
+    → result_rows k d (verdicts ++ verdict ∷ []) ≡ result_rows k d verdicts ++ result_row (length verdicts + k) d verdict ∷ []
 rows_more k d [] verdict = ap (λ n. result_row n d verdict ∷ []) (omega arith)
-rows_more k d (v ∷ verdicts) verdict = ap (λ l. result_row k d v ∷ l) (rows_more (k + 1) d verdicts verdict ∙ ap (λ n. result_rows (k + 1) d verdicts ++ result_row n d verdict ∷ []) (omega arith))
+rows_more k d (v ∷ verdicts) verdict = ap (λ l. result_row k d v ∷ l) (rows_more (k + 1) d verdicts verdict
+    ∙ ap (λ n. result_rows (k + 1) d verdicts ++ result_row n d verdict ∷ []) (omega arith))
 
-refused_more : (verdicts : List (Option Verdict)) (verdict : Option Verdict) → refused_count (verdicts ++ verdict ∷ []) ≡ refused_count verdicts + one_where (is_refused verdict)
+refused_more : (verdicts : List (Option Verdict)) (verdict : Option Verdict)
+    → refused_count (verdicts ++ verdict ∷ []) ≡ refused_count verdicts + one_where (is_refused verdict)
 refused_more [] verdict = omega arith
 refused_more (v ∷ verdicts) verdict = let later = refused_more verdicts verdict in omega (arith, later)
 
@@ -51,7 +55,8 @@ none_passed G start text none = record {
 }
 
 -- one more item was passed
-pub one_more : (G : Graph) (start now after : Place) (k : ℕ) (text new : List ℕ) (refused sum : ℕ) (item : ItemView) (verdict : Option Verdict) → (p : ArePassed G start now k text refused)
+pub one_more : (G : Graph) (start now after : Place) (k : ℕ) (text new : List ℕ) (refused sum : ℕ) (item : ItemView) (verdict : Option Verdict)
+    → (p : ArePassed G start now k text refused)
     → ((whole : List ℕ) → IsBegun G whole start → IsIn whole (Listed (drawing_of G) (with_item p.items item)) after) → IsVerdictOf G item verdict
     → new ≡ text ++ rows_text (result_row k G.dimension verdict ∷ []) → sum ≡ refused + one_where (is_refused verdict) → ArePassed G start after (k + 1) new sum
 one_more G start now after k text new refused sum item verdict p at is put added =
@@ -67,7 +72,8 @@ one_more G start now after k text new refused sum item verdict p at is put added
       tells = record {
         verdicts = verdicts ++ verdict ∷ [];
         are = verdicts_more G p.items verdicts item verdict p.tells.are is;
-        text_is = two_written [] text new (rows_text (result_rows 2 G.dimension verdicts)) (rows_text (result_row k G.dimension verdict ∷ [])) p.tells.text_is put
+        text_is = two_written [] text new (rows_text (result_rows 2 G.dimension verdicts))
+            (rows_text (result_row k G.dimension verdict ∷ [])) p.tells.text_is put
             ∙ sym (rows_text_of_sum (result_rows 2 G.dimension verdicts) (result_row k G.dimension verdict ∷ []))
             ∙ ap (λ n. rows_text (result_rows 2 G.dimension verdicts ++ result_row n G.dimension verdict ∷ [])) at_k
             ∙ ap rows_text (sym (rows_more 2 G.dimension verdicts verdict));
@@ -93,5 +99,6 @@ all_checked whole G place checked all = record {
 }
 
 -- the result of an item with a map
-pub with_result : (G H : Graph) (map : PeriodicMap) (k : ℕ) (before after : List ℕ) (refused : Bool) → HasMapResult G H map k before after refused → HasResult G k (With H map) before after refused
+pub with_result : (G H : Graph) (map : PeriodicMap) (k : ℕ) (before after : List ℕ) (refused : Bool) → HasMapResult G H map k before after refused
+    → HasResult G k (With H map) before after refused
 with_result G H map k before after refused has = record { verdict = Some has.verdict; is = has.is; text_is = has.text_is; refused_is = has.refused_is }

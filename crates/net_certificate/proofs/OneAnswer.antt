@@ -23,7 +23,8 @@ use Rattle.net_certificate.specs.declared.answer.MapAnswer.TheVariants.{Differen
 
 module _ (a b : KeyedNet) (k k' : IsKeyed a) (l l' : IsKeyed b) where
   -- a table does not depend on how it is known that the nets have their keys
-  abbrev table_again : StandardTable a.placed.graph b.placed.graph (shape_of a k) (shape_of b l) → StandardTable a.placed.graph b.placed.graph (shape_of a k') (shape_of b l')
+  abbrev table_again : StandardTable a.placed.graph b.placed.graph (shape_of a k) (shape_of b l)
+      → StandardTable a.placed.graph b.placed.graph (shape_of a k') (shape_of b l')
   table_again t =
       let s = t.standard in
       let c = s.carries in
@@ -64,7 +65,8 @@ module _ (G H : Graph) (g : Shape G) (h : Shape H) (ig : IsGraph G) (ih : IsGrap
   one_images : (s t : StandardTable G H g h) → images_of G H g h s ≡ images_of G H g h t
   one_images s t =
       let same = one_standard_map G H g h s.carry t.carry ig ih s.standard t.standard in
-      let inside = λ (w : Vertex) (i : IsIn (box_vertices G s.m) w). let b = box_inside G s.m ig.dimension w i in same w (record { over = b.over; cell = b.box.dimension }) in
+      let inside = λ (w : Vertex) (i : IsIn (box_vertices G s.m) w). let b = box_inside G s.m ig.dimension w i in
+      same w (record { over = b.over; cell = b.box.dimension }) in
       map_same s.carry t.carry (box_vertices G s.m) inside ∙ ap (λ (n : ℕ). map t.carry (box_vertices G n)) (one_period G H g h s t ig ih)
 
   -- and the same rows
@@ -78,7 +80,9 @@ module _ (G H : Graph) (g : Shape G) (h : Shape H) (ig : IsGraph G) (ih : IsGrap
       let q : IsPeriodic G H t.carry s.m t.shifts = subst (λ (n : ℕ). IsPeriodic G H t.carry n t.shifts) (sym m) t.period.periodic in
       rows_same G.dimension ig.dimension s.shifts t.shifts (λ k d.
       plus_cancel (s.carry o).cell (base_sum s.shifts k) (base_sum t.shifts k)
-      (ap (λ (w : Vertex). w.cell) (sym (p.repeats o k io d) ∙ same (moved o (times (pos s.m) k)) (moved_vertex G o (times (pos s.m) k) io (times_dimension G.dimension (pos s.m) k d)) ∙ q.repeats o k io d ∙ ap (λ (w : Vertex). moved w (base_sum t.shifts k)) (sym (same o io)))))
+      (ap (λ (w : Vertex). w.cell) (sym (p.repeats o k io d) ∙ same (moved o (times (pos s.m) k))
+      (moved_vertex G o (times (pos s.m) k) io (times_dimension G.dimension (pos s.m) k d)) ∙ q.repeats o k io d
+      ∙ ap (λ (w : Vertex). moved w (base_sum t.shifts k)) (sym (same o io)))))
 
   -- two maps that are found are one
   one_found : (room : ℕ) (s t : PeriodicMap) → IsFound G H g h room s.m s.images s.base → IsFound G H g h room t.m t.images t.base → s ≡ t

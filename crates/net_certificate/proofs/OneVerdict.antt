@@ -23,7 +23,8 @@ vertex_told : (u v : ℕ) (r s : Vector) → (pos u ∷ parts 3 r) ≡ (pos v �
 vertex_told u v r s e = (cc, parts_tell r s (let p : parts 3 r ≡ parts 3 s = cc in p))
 
 -- the first vertex of the box that P holds of is one
-one_in_box : (G : Graph) (m : ℕ) (P : Vertex → Type 0) (u v : ℕ) (r s : Vector) → IsFirstInBox G m P (vertex u r) → IsFirstInBox G m P (vertex v s) → (u ≡ v) × (r ≡ s)
+one_in_box : (G : Graph) (m : ℕ) (P : Vertex → Type 0) (u v : ℕ) (r s : Vector) → IsFirstInBox G m P (vertex u r) → IsFirstInBox G m P (vertex v s)
+    → (u ≡ v) × (r ≡ s)
 one_in_box G m P u v r s h k = by (below_or_equal (pos u ∷ parts 3 r) (pos v ∷ parts 3 s))
   where
     by : ComesBefore (vertex u r) (vertex v s) ⊎ (((pos u ∷ parts 3 r) ≡ (pos v ∷ parts 3 s)) ⊎ ComesBefore (vertex v s) (vertex u r)) → (u ≡ v) × (r ≡ s)
@@ -66,7 +67,8 @@ module _ (G H : Graph) (M : PeriodicMap) (f : Vertex → Vertex) where
       → LostArc u r v s ≡ LostArc u' r' v' s'
   one_lost u v u' v' r s r' s' h k =
       let p = one_in_box G M.m (LosesArc G H f) u u' r r' h.vertex k.vertex in
-      let there : IsFirstLostArc G H f (vertex u r) (arc u' v' s') = subst (λ (w : Vertex). IsFirstLostArc G H f w (arc u' v' s')) (sym (λ i. vertex (p.0 i) (p.1 i))) k.arc in
+      let there : IsFirstLostArc G H f (vertex u r) (arc u' v' s') = subst (λ (w : Vertex). IsFirstLostArc G H f w (arc u' v' s'))
+      (sym (λ i. vertex (p.0 i) (p.1 i))) k.arc in
       let a = one_lost_arc G H f (vertex u r) (arc u v s) (arc u' v' s') h.arc there in
       λ i. LostArc (p.0 i) (p.1 i) ((a i).to) ((a i).shift)
 
@@ -106,7 +108,8 @@ module _ (G H : Graph) (M : PeriodicMap) (f : Vertex → Vertex) where
   verdict_of (No a) (No b) h k = ap (λ (fault : MapFault). No fault) (one_fault a b h.0 k.0 h.1 k.1)
 
 -- two true verdicts on a map with a period are equal
-pub one_verdict : (G H : Graph) (m : ℕ) (images : List Vertex) (rows : List Vector) (v w : Verdict) → 1 ≤ m → IsTold G H m images rows v → IsTold G H m images rows w → v ≡ w
+pub one_verdict : (G H : Graph) (m : ℕ) (images : List Vertex) (rows : List Vector) (v w : Verdict) → 1 ≤ m → IsTold G H m images rows v
+    → IsTold G H m images rows w → v ≡ w
 one_verdict G H m images rows v w from h k =
     let f = drawn (table_for G m images rows) from in
     let t = drawn_by_table G (table_for G m images rows) from in

@@ -16,7 +16,8 @@ use Rattle.net_certificate.specs.Pairs.{heading_text, heading_row, IsToldHeading
 use Rattle.net_certificate.proofs.PlainRows.{reason_row_none, map_row_none, told_wide}
 use Rattle.net_certificate.proofs.SameRows.{same_reason_text, no_reason_text}
 
-pub is_long : (text digits : List ℕ) (z : ℤ) (n : ℕ) → text ≡ codes " long entries=" ++ digits → digits ≡ signed_decimal z → z ≡ pos n → text ≡ reason_text (Long n)
+pub is_long : (text digits : List ℕ) (z : ℤ) (n : ℕ) → text ≡ codes " long entries=" ++ digits → digits ≡ signed_decimal z → z ≡ pos n
+    → text ≡ reason_text (Long n)
 unfolding reason_text
 is_long text digits z n one two three = one ∙ ap (λ l. codes " long entries=" ++ l) (two ∙ ap signed_decimal three)
 
@@ -25,7 +26,8 @@ unfolding reason_text
 long_digits text digits n one two = append_cancel_left (codes " long entries=") digits (signed_decimal (pos n)) (sym one ∙ two)
 
 -- the number that was read is the one that is reported
-pub long_number : (text digits : List ℕ) (z : ℤ) (n : ℕ) → text ≡ codes " long entries=" ++ digits → digits ≡ signed_decimal z → IsWide z → n < 2 ^ 64 → text ≡ reason_text (Long n) → z ≡ pos n
+pub long_number : (text digits : List ℕ) (z : ℤ) (n : ℕ) → text ≡ codes " long entries=" ++ digits → digits ≡ signed_decimal z → IsWide z → n < 2 ^ 64
+    → text ≡ reason_text (Long n) → z ≡ pos n
 long_number text digits z n one two wide short three = same_number z (pos n) wide (told_wide n short) (sym two ∙ long_digits text digits n one three)
 
 pub no_long : (text : List ℕ) (n : ℕ) → ((rest : List ℕ) → text ≡ codes " long entries=" ++ rest → ⊥) → text ≡ reason_text (Long n) → ⊥
@@ -82,17 +84,20 @@ pub heading_left : (line text : List ℕ) (k : ℕ) (h : Heading) → line ≡ p
 heading_left line text k h one two = append_cancel_left (pair_text k) text (heading_text h) (sym one ∙ two ∙ heading_line k h)
 
 -- the reason of this text, where it is a reason
-pub heading_told : (text : List ℕ) (a : NoMap) (h : Heading) → IsTold a → text ≡ reason_text a → IsToldHeading h → text ≡ heading_text h → Some (Reason a) ≡ Some h
+pub heading_told : (text : List ℕ) (a : NoMap) (h : Heading) → IsTold a → text ≡ reason_text a → IsToldHeading h → text ≡ heading_text h
+    → Some (Reason a) ≡ Some h
 heading_told text a (Reason why) ha one hb two = ap (λ w. Some (Reason w)) (same_reason_text a why ha hb (sym one ∙ two))
 heading_told text a Map ha one hb two = absurd (no_reason_text a (sym one ∙ two))
 
 -- a text that is none of these is no reason
-pub no_reason_at : (text : List ℕ) → (text ≡ codes " different" → ⊥) → ((n : ℕ) → n < 2 ^ 64 → text ≡ reason_text (Long n) → ⊥) → ((z : ℤ) → IsWide z → text ≡ reason_text (Wide z) → ⊥)
+pub no_reason_at : (text : List ℕ) → (text ≡ codes " different" → ⊥) → ((n : ℕ) → n < 2 ^ 64 → text ≡ reason_text (Long n) → ⊥)
+    → ((z : ℤ) → IsWide z → text ≡ reason_text (Wide z) → ⊥)
     → (why : NoMap) → IsTold why → text ≡ reason_text why → ⊥
 no_reason_at text different long wide Different told e = different (different_is text e)
 no_reason_at text different long wide (Long n) told e = long n told e
 no_reason_at text different long wide (Wide z) told e = wide z told e
 
-pub no_heading : (text : List ℕ) → (text ≡ codes " map" → ⊥) → ((why : NoMap) → IsTold why → text ≡ reason_text why → ⊥) → (h : Heading) → IsToldHeading h → text ≡ heading_text h → ⊥
+pub no_heading : (text : List ℕ) → (text ≡ codes " map" → ⊥) → ((why : NoMap) → IsTold why → text ≡ reason_text why → ⊥) → (h : Heading) → IsToldHeading h
+    → text ≡ heading_text h → ⊥
 no_heading text map_ reason (Reason why) told e = reason why told e
 no_heading text map_ reason Map told e = map_ (is_map text e)

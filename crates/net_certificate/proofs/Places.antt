@@ -22,18 +22,21 @@ lines_of_sum (x ∷ xs) ys = ap (λ l. row_line x ∷ l) (lines_of_sum xs ys)
 abbrev pub ArePassed : List ℕ → List Row → Place → Place → Type 0
 ArePassed text more before after = (rows : List (List ℕ)) → IsAt text rows before → IsAt text (rows ++ row_lines more) after
 
-pub rows_in : (text : List ℕ) (p q : Stage) (more : List Row) (before after : Place) → IsIn text p before → Walk p more q → ArePassed text more before after → IsIn text q after
+pub rows_in : (text : List ℕ) (p q : Stage) (more : List Row) (before after : Place) → IsIn text p before → Walk p more q → ArePassed text more before after
+    → IsIn text q after
 rows_in text p q more before after is walk passed = record {
   rows = is.rows ++ more;
   walk = walk_on Start p q is.rows more is.walk walk;
   at = subst (λ l. IsAt text l after) (sym (lines_of_sum is.rows more)) (passed (row_lines is.rows) is.at);
 }
 
-pub row_in : (text : List ℕ) (p : Stage) (r : Row) (before after : Place) → IsIn text p before → MayFollow p r → ArePassed text (r ∷ []) before after → IsIn text (stage_with p r) after
+pub row_in : (text : List ℕ) (p : Stage) (r : Row) (before after : Place) → IsIn text p before → MayFollow p r → ArePassed text (r ∷ []) before after
+    → IsIn text (stage_with p r) after
 row_in text p r before after is may passed = rows_in text p (stage_with p r) (r ∷ []) before after is (may, refl) passed
 
 -- what stands here may not follow, or is missing
-pub bad_in : (text : List ℕ) (p : Stage) (place : Place) (n : ℕ) → IsIn text p place → n ≡ place.number → NoneFollows p place.rest → (MayEnd p → place.rest ≢ []) → HasBadLine text n
+pub bad_in : (text : List ℕ) (p : Stage) (place : Place) (n : ℕ) → IsIn text p place → n ≡ place.number → NoneFollows p place.rest
+    → (MayEnd p → place.rest ≢ []) → HasBadLine text n
 bad_in text p place n is number none more = record {
   rows = is.rows;
   stage = p;

@@ -14,7 +14,8 @@ use Rattle.map_check.specs.Layouts.{vertex_at}
 use Rattle.net_certificate.specs.declared.item.NoMap.{NoMap}
 use Rattle.net_certificate.specs.declared.item.NoMap.TheVariants.{Different, Long, Wide}
 use Rattle.net_certificate.specs.Items.{IsTold}
-use Rattle.net_certificate.specs.Rows.{title_row, pair_text, reason_text, reason_row, map_word, map_row, period_row, image_numbers, image_row, base_row, end_row}
+use Rattle.net_certificate.specs.Rows.{title_row, pair_text, reason_text, reason_row, map_word, map_row, period_row, image_numbers, image_row, base_row}
+use Rattle.net_certificate.specs.Rows.{end_row}
 use Rattle.net_certificate.proofs.RowForms.{parts_wide, image_wide}
 
 pub title_none : HasNo 10 title_row
@@ -23,7 +24,8 @@ title_none = (refl, (refl, (refl, (refl, (refl, (refl, (refl, (refl, (refl, (ref
 
 pair_none : (k : ℕ) → k < 2 ^ 32 → HasNo 10 (pair_text k)
 unfolding pair_text
-pair_none k short = sum_has_no 10 (codes "pair ") (signed_decimal (pos k)) (refl, (refl, (refl, (refl, (refl, tt))))) (number_has_no 10 (omega arith) (pos k) (short_wide k short))
+pair_none k short = sum_has_no 10 (codes "pair ") (signed_decimal (pos k)) (refl, (refl, (refl, (refl, (refl, tt)))))
+    (number_has_no 10 (omega arith) (pos k) (short_wide k short))
 
 pub told_wide : (n : ℕ) → n < 2 ^ 64 → IsWide (pos n)
 told_wide n h = record { sfits = omega (arith, h) }
@@ -32,7 +34,8 @@ reason_none : (why : NoMap) → IsTold why → HasNo 10 (reason_text why)
 unfolding reason_text
 reason_none Different is = (refl, (refl, (refl, (refl, (refl, (refl, (refl, (refl, (refl, (refl, tt))))))))))
 reason_none (Long n) is = sum_has_no 10 (codes " long entries=") (signed_decimal (pos n))
-    (refl, (refl, (refl, (refl, (refl, (refl, (refl, (refl, (refl, (refl, (refl, (refl, (refl, (refl, tt)))))))))))))) (number_has_no 10 (omega arith) (pos n) (told_wide n is))
+    (refl, (refl, (refl, (refl, (refl, (refl, (refl, (refl, (refl, (refl, (refl, (refl, (refl, (refl, tt))))))))))))))
+    (number_has_no 10 (omega arith) (pos n) (told_wide n is))
 reason_none (Wide z) is = sum_has_no 10 (codes " wide value=") (signed_decimal z)
     (refl, (refl, (refl, (refl, (refl, (refl, (refl, (refl, (refl, (refl, (refl, (refl, tt)))))))))))) (number_has_no 10 (omega arith) z is)
 
@@ -55,7 +58,8 @@ period_none m few = row_has_no (codes "period") (pos m ∷ []) (refl, (refl, (re
 
 pub image_none : (d e m i n : ℕ) (x : Vertex) → i ≤ most_images → n < 2 ^ 32 → IsImage e n x → HasNo 10 (image_row d e (vertex_at d m i) x)
 unfolding image_row
-image_none d e m i n x few vertices is = row_has_no (codes "image") (image_numbers d e (vertex_at d m i) x) (refl, (refl, (refl, (refl, (refl, tt))))) (image_wide d e m i n x few vertices is)
+image_none d e m i n x few vertices is = row_has_no (codes "image") (image_numbers d e (vertex_at d m i) x) (refl, (refl, (refl, (refl, (refl, tt)))))
+    (image_wide d e m i n x few vertices is)
 
 pub base_none : (e : ℕ) (v : Vector) → IsShift e v → HasNo 10 (base_row e v)
 unfolding base_row

@@ -21,7 +21,8 @@ parts_wide d v small = by (d == 2)
   where
     by : (t : Bool) → All IsWide (v.x ∷ v.y ∷ cond t [] (v.z ∷ []))
     by true = All-cons IsWide v.x (v.y ∷ []) (part_wide v.x small.0) (All-cons IsWide v.y [] (part_wide v.y small.1) (All-nil IsWide))
-    by false = All-cons IsWide v.x (v.y ∷ v.z ∷ []) (part_wide v.x small.0) (All-cons IsWide v.y (v.z ∷ []) (part_wide v.y small.1) (All-cons IsWide v.z [] (part_wide v.z small.2) (All-nil IsWide)))
+    by false = All-cons IsWide v.x (v.y ∷ v.z ∷ []) (part_wide v.x small.0)
+        (All-cons IsWide v.y (v.z ∷ []) (part_wide v.y small.1) (All-cons IsWide v.z [] (part_wide v.z small.2) (All-nil IsWide)))
 
 -- the numbers of a vertex
 pub vertex_wide : (d : ℕ) (w : Vertex) → w.over < 2 ^ 32 → IsWithin most_part w.cell → All IsWide (vertex_numbers d w)

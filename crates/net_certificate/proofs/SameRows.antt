@@ -23,7 +23,9 @@ second bytes = get_or bytes 1 0
 pub same_reason_text : (a b : NoMap) → IsTold a → IsTold b → reason_text a ≡ reason_text b → a ≡ b
 unfolding reason_text
 same_reason_text Different Different ha hb e = refl
-same_reason_text (Long m) (Long n) ha hb e = ap Long (same_pos m n (same_number (pos m) (pos n) (told_wide m ha) (told_wide n hb) (append_cancel_left (codes " long entries=") (signed_decimal (pos m)) (signed_decimal (pos n)) e)))
+same_reason_text (Long m) (Long n) ha hb e =
+    ap Long (same_pos m n (same_number (pos m) (pos n) (told_wide m ha) (told_wide n hb)
+    (append_cancel_left (codes " long entries=") (signed_decimal (pos m)) (signed_decimal (pos n)) e)))
 same_reason_text (Wide y) (Wide z) ha hb e = ap Wide (same_number y z ha hb (append_cancel_left (codes " wide value=") (signed_decimal y) (signed_decimal z) e))
 same_reason_text Different (Long n) ha hb e = let byte = ap second e in absurd (omega (arith, byte))
 same_reason_text Different (Wide z) ha hb e = let byte = ap second e in absurd (omega (arith, byte))
@@ -57,11 +59,13 @@ same_parts d v w hv hw same = by (d == 2) (λ two. let dim = eqb-true d 2 two in
     by true flat e = λ i. vector (ap (number_at 0) e i) (ap (number_at 1) e i) (flat refl i)
     by false flat e = λ i. vector (ap (number_at 0) e i) (ap (number_at 1) e i) (ap (number_at 2) e i)
 
-pub same_image : (d e m i n : ℕ) (x y : Vertex) → i ≤ most_images → n < 2 ^ 32 → IsImage e n x → IsImage e n y → image_row d e (vertex_at d m i) x ≡ image_row d e (vertex_at d m i) y → x ≡ y
+pub same_image : (d e m i n : ℕ) (x y : Vertex) → i ≤ most_images → n < 2 ^ 32 → IsImage e n x → IsImage e n y
+    → image_row d e (vertex_at d m i) x ≡ image_row d e (vertex_at d m i) y → x ≡ y
 unfolding image_row
 same_image d e m i n x y few vertices hx hy same =
     let w = vertex_at d m i in
-    let numbers = same_row_numbers (codes "image") (image_numbers d e w x) (image_numbers d e w y) (image_wide d e m i n x few vertices hx) (image_wide d e m i n y few vertices hy) same in
+    let numbers = same_row_numbers (codes "image") (image_numbers d e w x) (image_numbers d e w y) (image_wide d e m i n x few vertices hx)
+    (image_wide d e m i n y few vertices hy) same in
     let images : vertex_numbers e x ≡ vertex_numbers e y = append_cancel_left (vertex_numbers d w) (vertex_numbers e x) (vertex_numbers e y) numbers in
     let over : x.over ≡ y.over = same_pos x.over y.over (ap (number_at 0) images) in
     let cell : x.cell ≡ y.cell = same_parts e x.cell y.cell hx.flat hy.flat (ap (drop 1) images) in
@@ -69,4 +73,5 @@ same_image d e m i n x y few vertices hx hy same =
 
 pub same_base : (e : ℕ) (v w : Vector) → IsShift e v → IsShift e w → base_row e v ≡ base_row e w → v ≡ w
 unfolding base_row
-same_base e v w hv hw same = same_parts e v w hv.dimension hw.dimension (same_row_numbers (codes "base") (parts e v) (parts e w) (parts_wide e v hv.small) (parts_wide e w hw.small) same)
+same_base e v w hv hw same = same_parts e v w hv.dimension hw.dimension
+    (same_row_numbers (codes "base") (parts e v) (parts e w) (parts_wide e v hv.small) (parts_wide e w hw.small) same)

@@ -1,5 +1,5 @@
 -- The table of the standard map of two nets with one key, from their sides.
-use Rattle.std.proofs.Common.{◌≡◌, ◌≢◌, ℕ, ℤ, ◌≤◌, ◌<◌, ◌*◌, pos, List, get_or, map, refl, sym, ap, subst, ◌∙◌, arith}
+use Rattle.std.proofs.Common.{◌≡◌, ℕ, ℤ, ◌≤◌, ◌<◌, ◌*◌, pos, List, get_or, map, refl, sym, ap, subst, ◌∙◌, arith}
 use Rattle.std.specs.Prelude.{unsigned_abs, All, Result, Ok, Err, IfOk}
 use Rattle.std.proofs.lemmas.Nat.Gcd.{le_of_dvd}
 use Rattle.integers.specs.Bases.{Base}
@@ -31,7 +31,8 @@ use Rattle.net_certificate.specs.declared.answer.MapAnswer.{MapAnswer}
 use Rattle.net_certificate.specs.declared.answer.MapAnswer.TheVariants.{Different, Found, LongMap, WideMap}
 
 -- the third number of a list is the least scale
-pub scale_told : (K : ClassGraph) (c : ℕ) (frame : List ClassArc) (xs : List _) (q : ℕ) → IsListOf K c frame xs → q ≡ unsigned_abs (get_or xs 2 (pos 0)) → IsLeastScale K (axes_of frame) q
+pub scale_told : (K : ClassGraph) (c : ℕ) (frame : List ClassArc) (xs : List _) (q : ℕ) → IsListOf K c frame xs → q ≡ unsigned_abs (get_or xs 2 (pos 0))
+    → IsLeastScale K (axes_of frame) q
 scale_told K c frame xs q l h = subst (IsLeastScale K (axes_of frame)) (sym (h ∙ ap (λ ys. unsigned_abs (get_or ys 2 (pos 0))) l.list)) l.scale
 
 -- a side of a net, written out
@@ -45,7 +46,8 @@ written_is n S e = λ i. net_side (sym e i) S.origin S.frame S.scale
 pub side_parts : (n : KeyedNet) (k : IsKeyed n) (S : NetSide) → IsSideOf n S → HaveParts S
 side_parts n k S s =
     subst HaveParts (written_is n S s.net)
-    (arc_part (written n S) (framed_net n.placed.graph (shape_of n k) s.start S.frame) (record { placement = refl; frame = refl; origin = s.origin; scale = s.scale }))
+    (arc_part (written n S) (framed_net n.placed.graph (shape_of n k) s.start S.frame)
+    (record { placement = refl; frame = refl; origin = s.origin; scale = s.scale }))
 
 module _ (a b : KeyedNet) (ka : IsKeyed a) (kb : IsKeyed b) (S T : NetSide) (s : IsSideOf a S) (t : IsSideOf b T) (e : a.key ≡ b.key) where
   abbrev G : Graph
@@ -87,8 +89,10 @@ module _ (a b : KeyedNet) (ka : IsKeyed a) (kb : IsKeyed b) (S T : NetSide) (s :
       let k = written_key in
       let f = standard_map_exists a.placed.graph b.placed.graph k.here k.there k.one_list in
       let by : IsStandardBy (written a S) (written b T) f.0 = record { one_key = k; standard = f.1 } in
-      let by' : IsStandardBy S T f.0 = subst (λ N. IsStandardBy S N f.0) (written_is b T t.net) (subst (λ M. IsStandardBy M (written b T) f.0) (written_is a S s.net) by) in
-      let cells = subst (λ N. AreImageCells (written a S) N C) (sym (written_is b T t.net)) (subst (λ M. AreImageCells M T C) (sym (written_is a S s.net)) c) f.0 by in
+      let by' : IsStandardBy S T f.0 = subst (λ N. IsStandardBy S N f.0) (written_is b T t.net)
+      (subst (λ M. IsStandardBy M (written b T) f.0) (written_is a S s.net) by) in
+      let cells = subst (λ N. AreImageCells (written a S) N C) (sym (written_is b T t.net))
+      (subst (λ M. AreImageCells M T C) (sym (written_is a S s.net)) c) f.0 by in
       let p' = subst (λ (n : PlacedNet). IsPeriodOf n.placement.denominator C m shifts) t.net p in
       let r = cell_images_give_period a.placed.graph b.placed.graph k.here k.there f.0 C m shifts k.one_list f.1 cells.0 cells.1 p' in
       record {
@@ -116,7 +120,8 @@ module _ (a b : KeyedNet) (ka : IsKeyed a) (kb : IsKeyed b) (S T : NetSide) (s :
         rows = refl;
       }
 
-  module _ (C : Base) (c : AreImageCells S T C) (m : ℕ) (shifts : Base) (p : IsPeriodOf T.net.placement.denominator C m shifts) (room n : ℕ) (count : n ≡ S.net.graph.vertices * box_size S.net.graph.dimension m) where
+  module _ (C : Base) (c : AreImageCells S T C) (m : ℕ) (shifts : Base) (p : IsPeriodOf T.net.placement.denominator C m shifts) (room n : ℕ)
+      (count : n ≡ S.net.graph.vertices * box_size S.net.graph.dimension m) where
     -- the number of the images
     count_is : (d : TableBy m shifts) → n ≡ entries_of a.placed.graph d.table.m
     count_is d =
@@ -124,13 +129,15 @@ module _ (a b : KeyedNet) (ka : IsKeyed a) (kb : IsKeyed b) (S T : NetSide) (s :
         ∙ ap (λ k. a.placed.graph.vertices * k) (box_is_power a.placed.graph.dimension m ka.is_graph.dimension) ∙ ap (entries_of a.placed.graph) (sym d.period)
 
     -- the images
-    images_is : (d : TableBy m shifts) (images : List Vertex) → AreImages S T m images → images ≡ images_of a.placed.graph b.placed.graph (shape_of a ka) (shape_of b kb) d.table
+    images_is : (d : TableBy m shifts) (images : List Vertex) → AreImages S T m images
+        → images ≡ images_of a.placed.graph b.placed.graph (shape_of a ka) (shape_of b kb) d.table
     images_is d images i =
         i d.table.carry d.by ∙ ap (λ (q : PlacedNet). map d.table.carry (box_vertices q.graph m)) s.net
         ∙ ap (λ k. map d.table.carry (box_vertices a.placed.graph k)) (sym d.period)
 
     -- the rows
-    rows_is : (d : TableBy m shifts) (rows : List Vector) → rows ≡ base_rows S.net.graph.dimension shifts → rows ≡ base_rows a.placed.graph.dimension d.table.shifts
+    rows_is : (d : TableBy m shifts) (rows : List Vector) → rows ≡ base_rows S.net.graph.dimension shifts
+        → rows ≡ base_rows a.placed.graph.dimension d.table.shifts
     rows_is d rows r = r ∙ ap (λ (q : PlacedNet). base_rows q.graph.dimension shifts) s.net ∙ ap (base_rows a.placed.graph.dimension) (sym d.rows)
 
     -- a long map
@@ -188,17 +195,20 @@ passes_due a b room (Found f) m n = λ few.
     found_maps_pass a.placed.graph b.placed.graph (shape_of a m.here) (shape_of b m.there) room f.m f.images f.base m.here.is_graph m.there.is_graph n m.by few
 
 -- the least period is within the limit
-pub period_small : (S T : NetSide) → HaveOneKey S T → (C : Base) → AreImageCells S T C → (m : ℕ) (shifts : Base) → IsPeriodOf T.net.placement.denominator C m shifts
+pub period_small : (S T : NetSide) → HaveOneKey S T → (C : Base) → AreImageCells S T C → (m : ℕ) (shifts : Base)
+    → IsPeriodOf T.net.placement.denominator C m shifts
     → (1 ≤ m) × (m ≤ T.net.graph.vertices)
 period_small S T k C c m shifts p =
     let f = standard_map_exists S.net.graph T.net.graph k.here k.there k.one_list in
     let cells = c f.0 (record { one_key = k; standard = f.1 }) in
     let q = sym k.same_there.placement in
     let r = cell_images_give_period S.net.graph T.net.graph k.here k.there f.0 C m shifts k.one_list f.1
-    (subst (λ (t : Placement). AreCellImages S.net.graph T.net.graph t f.0 C) q cells.0) cells.1 (subst (λ (t : Placement). IsPeriodOf t.denominator C m shifts) q p) in
+    (subst (λ (t : Placement). AreCellImages S.net.graph T.net.graph t f.0 C) q cells.0) cells.1
+    (subst (λ (t : Placement). IsPeriodOf t.denominator C m shifts) q p) in
     (r.0.periodic.positive, le_of_dvd k.one_list.there.vertices r.1)
 
-pub period_limit : (S T : NetSide) → HaveOneKey S T → (C : Base) → AreImageCells S T C → (m : ℕ) (shifts : Base) → IsPeriodOf T.net.placement.denominator C m shifts
+pub period_limit : (S T : NetSide) → HaveOneKey S T → (C : Base) → AreImageCells S T C → (m : ℕ) (shifts : Base)
+    → IsPeriodOf T.net.placement.denominator C m shifts
     → (H : Graph) → H ≡ T.net.graph → IsSmall H → m ≤ most_period
 period_limit S T k C c m shifts p H e h =
     let a = (period_small S T k C c m shifts p).1 in

@@ -22,7 +22,8 @@ module _ (S T : NetSide) (k : HaveOneKey S T) where
   image_place e C w = plus (plus (base T.net.placement T.origin) e.at) (base_sum C (minus w.cell e.shift))
 
   -- it stands there
-  stands_there : (e : End) → IsEnd S T e → (C : Base) → AreImageCells S T C → (w : Vertex) → IsVertex S.net.graph w → e.over ≡ w.over → (carry : Vertex → Vertex) → IsStandardBy S T carry
+  stands_there : (e : End) → IsEnd S T e → (C : Base) → AreImageCells S T C → (w : Vertex) → IsVertex S.net.graph w → e.over ≡ w.over
+      → (carry : Vertex → Vertex) → IsStandardBy S T carry
       → position T.net.placement (carry w) ≡ image_place e C w
   stands_there e i C c w j o carry s =
       let G = S.net.graph in
@@ -32,7 +33,8 @@ module _ (S T : NetSide) (k : HaveOneKey S T) where
       ∙ ap (λ t. plus t (base_sum C (minus w.cell e.shift))) (i.at carry s)
 
   -- so some vertex does
-  pub some_stands : (e : End) → IsEnd S T e → (C : Base) → AreImageCells S T C → (w : Vertex) → IsVertex S.net.graph w → e.over ≡ w.over → (place : Vector) → place ≡ image_place e C w
+  pub some_stands : (e : End) → IsEnd S T e → (C : Base) → AreImageCells S T C → (w : Vertex) → IsVertex S.net.graph w → e.over ≡ w.over → (place : Vector)
+      → place ≡ image_place e C w
       → StandsSomewhere T.net place
   some_stands e i C c w j o place p =
       let f = some_map S T k in
@@ -43,7 +45,8 @@ module _ (S T : NetSide) (k : HaveOneKey S T) where
   stable = subst (IsStablePlacement T.net.graph) k.same_there.placement k.there.shape.stable
 
   -- what stands at a flat place stands in a flat cell
-  flat_cell : (v : ℕ) (t : Vector) → IsQuotientVertex T.net.graph v → (x : Vertex) → IsVertex T.net.graph x → position T.net.placement (vertex v t) ≡ position T.net.placement x → HasDimension T.net.graph.dimension t
+  flat_cell : (v : ℕ) (t : Vector) → IsQuotientVertex T.net.graph v → (x : Vertex) → IsVertex T.net.graph x
+      → position T.net.placement (vertex v t) ≡ position T.net.placement x → HasDimension T.net.graph.dimension t
   flat_cell v t i x j e d =
       let b = stable.placement.barycentric in
       let p = place_dimension T.net.graph T.net.placement b.dimension x j d in
@@ -56,9 +59,11 @@ module _ (S T : NetSide) (k : HaveOneKey S T) where
           none z = omega (arith, linear)
 
   -- what stands there is the image
-  pub image_is : (e : End) → IsEnd S T e → (C : Base) → AreImageCells S T C → (w : Vertex) → IsVertex S.net.graph w → e.over ≡ w.over → (v : ℕ) (t : Vector) → IsQuotientVertex T.net.graph v
+  pub image_is : (e : End) → IsEnd S T e → (C : Base) → AreImageCells S T C → (w : Vertex) → IsVertex S.net.graph w → e.over ≡ w.over → (v : ℕ) (t : Vector)
+      → IsQuotientVertex T.net.graph v
       → position T.net.placement (vertex v t) ≡ image_place e C w → IsImageOf S T w (vertex v t)
   image_is e i C c w j o v t q p carry s =
       let x = s.standard.into w j in
       let same = p ∙ sym (stands_there e i C c w j o carry s) in
-      positions_tell T.net.graph T.net.placement stable.no_collision (vertex v t) (carry w) (record { over = q; cell = flat_cell v t q (carry w) x same }) x same
+      positions_tell T.net.graph T.net.placement stable.no_collision (vertex v t) (carry w)
+      (record { over = q; cell = flat_cell v t q (carry w) x same }) x same

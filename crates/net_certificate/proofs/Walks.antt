@@ -8,7 +8,8 @@ use Rattle.map_check.specs.Conditions.{most_images, IsImage, IsShift}
 use Rattle.map_check.specs.Layouts.{vertex_at}
 use Rattle.map_check.specs.declared.map.PeriodicMap.{PeriodicMap}
 use Rattle.net_certificate.specs.Items.{ItemView}
-use Rattle.net_certificate.specs.Rows.{Row, OfTitle, OfSize, OfEdge, OfReason, OfMap, OfPeriod, OfImage, OfBase, OfEnd, row_line, reason_row, image_row, base_row}
+use Rattle.net_certificate.specs.Rows.{Row, OfTitle, OfSize, OfEdge, OfReason, OfMap, OfPeriod, OfImage, OfBase, OfEnd, row_line, reason_row, image_row}
+use Rattle.net_certificate.specs.Rows.{base_row}
 use Rattle.net_certificate.specs.Stages.{Stage, Start, Titled, Listed, Opened, Drawn, Mapped, Drawing, image_count, IsNextOf, MayFollow}
 use Rattle.net_certificate.specs.FirstRows.{IsFormed, IsDrawing, IsMapping}
 use Rattle.net_certificate.proofs.PlainRows.{title_none, reason_row_none, map_row_none, period_none, image_none, base_none, end_none}
@@ -53,13 +54,16 @@ next_same g d d' a b is ha hb e =
     ap (λ n. OfEdge n a) (ha.0 ∙ sym hb.0) ∙ ap (OfEdge d') (same_edge g.size a b is.is_size ha.2.is_edge hb.2.is_edge (sym first ∙ e ∙ second))
 
 -- the row of the next image, where one may follow
-pub image_there : (g : Drawing) (items : List ItemView) (h : Drawing) (M : PeriodicMap) (d b : ℕ) (w x : Vertex) → MayFollow (Mapped g items h M) (OfImage d b w x) → OfImage d b w x ≡ OfImage g.size.dim h.size.dim (vertex_at g.size.dim M.m (length M.images)) x
+pub image_there : (g : Drawing) (items : List ItemView) (h : Drawing) (M : PeriodicMap) (d b : ℕ) (w x : Vertex)
+    → MayFollow (Mapped g items h M) (OfImage d b w x) → OfImage d b w x ≡ OfImage g.size.dim h.size.dim (vertex_at g.size.dim M.m (length M.images)) x
 image_there g items h M d b w x may =
-    ap (λ v. OfImage d b v x) may.2 ∙ ap (λ n. OfImage n b (vertex_at n M.m (length M.images)) x) may.0 ∙ ap (λ n. OfImage g.size.dim n (vertex_at g.size.dim M.m (length M.images)) x) may.1
+    ap (λ v. OfImage d b v x) may.2 ∙ ap (λ n. OfImage n b (vertex_at n M.m (length M.images)) x) may.0
+    ∙ ap (λ n. OfImage g.size.dim n (vertex_at g.size.dim M.m (length M.images)) x) may.1
 
 -- the images of one vertex
 one_image : (g : Drawing) (items : List ItemView) (h : Drawing) (M : PeriodicMap) (d b : ℕ) (w x : Vertex) (d' b' : ℕ) (w' y : Vertex) → IsMapping g h M
-    → MayFollow (Mapped g items h M) (OfImage d b w x) → MayFollow (Mapped g items h M) (OfImage d' b' w' y) → image_row d b w x ≡ image_row d' b' w' y → OfImage d b w x ≡ OfImage d' b' w' y
+    → MayFollow (Mapped g items h M) (OfImage d b w x) → MayFollow (Mapped g items h M) (OfImage d' b' w' y) → image_row d b w x ≡ image_row d' b' w' y
+    → OfImage d b w x ≡ OfImage d' b' w' y
 one_image g items h M d b w x d' b' w' y is ha hb e =
     let first = image_there g items h M d b w x ha in
     let second = image_there g items h M d' b' w' y hb in

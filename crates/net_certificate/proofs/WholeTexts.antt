@@ -22,7 +22,11 @@ said stage = None
 
 -- a text that was passed and may end is that of what was said
 pub text_said : (text : List ℕ) (p : Stage) (place : Place) → IsIn text p place → MayEnd p → place.rest ≡ [] → IsTextOf text (said p)
-text_said text p place is may none = record { formed = forms p (walk_formed Start p is.rows tt is.walk) may; is = joined ∙ ap (λ l. rows_text (row_lines l)) (same p may) }
+text_said text p place is may none = record {
+  formed = forms p (walk_formed Start p is.rows tt is.walk) may;
+  is = joined
+      ∙ ap (λ l. rows_text (row_lines l)) (same p may);
+}
   where
     forms : (q : Stage) → IsFormed q → MayEnd q → MayStand (said q)
     forms Titled formed may = tt
@@ -36,7 +40,8 @@ text_said text p place is may none = record { formed = forms p (walk_formed Star
     same q may = absurd may
 
     joined : text ≡ rows_text (row_lines (stage_rows p))
-    joined = is.at.joined ∙ ap (λ l. rows_text (row_lines is.rows) ++ l) none ∙ append-nil (rows_text (row_lines is.rows)) ∙ ap (λ l. rows_text (row_lines l)) (sym (walk_rows Start p is.rows tt is.walk))
+    joined = is.at.joined ∙ ap (λ l. rows_text (row_lines is.rows) ++ l) none ∙ append-nil (rows_text (row_lines is.rows))
+        ∙ ap (λ l. rows_text (row_lines l)) (sym (walk_rows Start p is.rows tt is.walk))
 
 -- the stage after a text
 abbrev last_stage : Option Maps → Stage
@@ -64,11 +69,15 @@ no_row r others left e =
     omega (arith, whole, two, one)
 
 -- a row that may follow does not stand where none follows
-stands : (p : Stage) (r : Row) (others : List Row) (rest left : List ℕ) → ((row : Row) (tail : List ℕ) → MayFollow p row → rest ≡ row_line row ++ 10 ∷ tail → ⊥) → MayFollow p r → rest ≡ rows_text (row_lines (r ∷ others)) ++ left → ⊥
-stands p r others rest left none may e = none r (rows_text (row_lines others) ++ left) may (e ∙ append_assoc (row_line r) (10 ∷ rows_text (row_lines others)) left)
+stands : (p : Stage) (r : Row) (others : List Row) (rest left : List ℕ)
+    → ((row : Row) (tail : List ℕ) → MayFollow p row → rest ≡ row_line row ++ 10 ∷ tail → ⊥) → MayFollow p r
+    → rest ≡ rows_text (row_lines (r ∷ others)) ++ left → ⊥
+stands p r others rest left none may e = none r (rows_text (row_lines others) ++ left) may
+    (e ∙ append_assoc (row_line r) (10 ∷ rows_text (row_lines others)) left)
 
 pub no_fault : (text : List ℕ) (a : Option Maps) (n : ℕ) → IsTextOf text a → HasBadLine text n → ⊥
-no_fault text a n is bad = by (meet Start (last_stage a) bad.stage (maps_rows a) bad.rows [] bad.left tt (last_walk a is.formed) bad.walk (append-nil (maps_text a) ∙ sym is.is ∙ bad.joined))
+no_fault text a n is bad = by (meet Start (last_stage a) bad.stage (maps_rows a) bad.rows [] bad.left tt (last_walk a is.formed) bad.walk
+    (append-nil (maps_text a) ∙ sym is.is ∙ bad.joined))
   where
     by : Meet (last_stage a) bad.stage (maps_rows a) bad.rows [] bad.left → ⊥
     by (Further r others walk e tail) = no_row r others bad.left tail
@@ -84,7 +93,8 @@ one_fault text m n a b = by (meet Start a.stage b.stage a.rows b.rows a.left b.l
     by (Same one e tail) = a.number ∙ ap (λ l. length l + 1) e ∙ sym b.number
 
 pub one_text : (text : List ℕ) (a b : Option Maps) → IsTextOf text a → IsTextOf text b → a ≡ b
-one_text text a b ha hb = by (meet Start (last_stage a) (last_stage b) (maps_rows a) (maps_rows b) [] [] tt (last_walk a ha.formed) (last_walk b hb.formed) (append-nil (maps_text a) ∙ sym ha.is ∙ hb.is ∙ sym (append-nil (maps_text b))))
+one_text text a b ha hb = by (meet Start (last_stage a) (last_stage b) (maps_rows a) (maps_rows b) [] [] tt (last_walk a ha.formed) (last_walk b hb.formed)
+    (append-nil (maps_text a) ∙ sym ha.is ∙ hb.is ∙ sym (append-nil (maps_text b))))
   where
     by : Meet (last_stage a) (last_stage b) (maps_rows a) (maps_rows b) [] [] → a ≡ b
     by (Further r others walk e tail) = absurd (no_row r others [] tail)

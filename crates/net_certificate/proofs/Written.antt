@@ -1,6 +1,6 @@
 -- Items that are written one after the other.
-use Rattle.std.proofs.Common.{◌≡◌, ℕ, ◌+◌, ◌-◌, ◌<◌, ◌≤◌, List, [], ◌∷◌, ◌++◌, None, Some, length, map, get_or, drop, take, refl, sym, ap, subst, ◌∙◌, arith}
-use Rattle.std.proofs.lemmas.List.{append-nil, drop_more, length-drop, take_all}
+use Rattle.std.proofs.Common.{◌≡◌, ℕ, ◌+◌, ◌-◌, ◌<◌, ◌≤◌, List, [], ◌∷◌, ◌++◌, Some, length, map, get_or, drop, take, refl, sym, ap, subst, ◌∙◌, arith}
+use Rattle.std.proofs.lemmas.List.{drop_more, length-drop, take_all}
 use Rattle.line_text.specs.Lines.{rows_text}
 use Rattle.graph_rows.specs.Rows.{graph_lines}
 use Rattle.least_key.specs.KeyedNets.{KeyedNet}
@@ -13,7 +13,8 @@ use Rattle.net_certificate.specs.NetItems.{AreItemsOf, IsMapsTextOf}
 use Rattle.net_certificate.specs.NetSteps.{AreItemsLast, IsItemLast}
 
 -- an item, and those after it
-pub more_last : (first : KeyedNet) (k room left : ℕ) (net : KeyedNet) (nets : List KeyedNet) (old now new : List ℕ) → IsItemLast first k room net left old now → AreItemsLast first (k + 1) left nets now new
+pub more_last : (first : KeyedNet) (k room left : ℕ) (net : KeyedNet) (nets : List KeyedNet) (old now new : List ℕ) → IsItemLast first k room net left old now
+    → AreItemsLast first (k + 1) left nets now new
     → AreItemsLast first k room (net ∷ nets) old new
 more_last first k room left net nets old now new one more = record {
   items = one.item ∷ more.items;
@@ -24,7 +25,8 @@ more_last first k room left net nets old now new one more = record {
 }
 
 -- less room is left
-pub less_room : (first : KeyedNet) (k room left : ℕ) (net : KeyedNet) (old now : List ℕ) → IsItemLast first k room net left old now → room ≤ most_images → left ≤ most_images
+pub less_room : (first : KeyedNet) (k room left : ℕ) (net : KeyedNet) (old now : List ℕ) → IsItemLast first k room net left old now → room ≤ most_images
+    → left ≤ most_images
 less_room first k room left net old now one few = let e = one.left_is in omega (arith, e, few)
 
 -- what is put last from here on is all that is put last
@@ -38,9 +40,11 @@ module _ {A : Type 0} (net : A → KeyedNet) where
 
   -- the item of the next net was put last
   pub leads_on : (first : KeyedNet) (k room left : ℕ) (xs : List A) (i : ℕ) (x : A) (old now next : List ℕ) → i < length xs → x ≡ get_or xs i x
-      → LeadsTo first k room (map net (drop i xs)) now (map net xs) old → IsItemLast first k room (net x) left now next → LeadsTo first (k + 1) left (map net (drop (i + 1) xs)) next (map net xs) old
+      → LeadsTo first k room (map net (drop i xs)) now (map net xs) old → IsItemLast first k room (net x) left now next
+      → LeadsTo first (k + 1) left (map net (drop (i + 1) xs)) next (map net xs) old
   leads_on first k room left xs i x old now next inside at leads one new more =
-      leads new (subst (λ (nets : List KeyedNet). AreItemsLast first k room nets now new) (sym (left_at xs i x inside at)) (more_last first k room left (net x) (map net (drop (i + 1) xs)) now next new one more))
+      leads new (subst (λ (nets : List KeyedNet). AreItemsLast first k room nets now new) (sym (left_at xs i x inside at))
+      (more_last first k room left (net x) (map net (drop (i + 1) xs)) now next new one more))
 
   -- the first net, and the others
   pub first_and_others : (xs : List A) (x : A) → 1 ≤ length xs → x ≡ get_or xs 0 x → map net xs ≡ net x ∷ map net (take (length xs - 1) (drop 1 xs))
@@ -49,10 +53,12 @@ module _ {A : Type 0} (net : A → KeyedNet) where
       left_at xs 0 x some at ∙ ap (λ (l : List A). net x ∷ map net l) (sym others)
 
 -- the text of some nets
-pub maps_written : (first : KeyedNet) (nets : List KeyedNet) (a b c : List ℕ) → a ≡ rows_text (title_row ∷ []) → b ≡ a ++ rows_text (graph_lines first.placed.graph) → AreItemsLast first 2 most_images nets b c → IsMapsTextOf (first ∷ nets) c
+pub maps_written : (first : KeyedNet) (nets : List KeyedNet) (a b c : List ℕ) → a ≡ rows_text (title_row ∷ [])
+    → b ≡ a ++ rows_text (graph_lines first.placed.graph) → AreItemsLast first 2 most_images nets b c → IsMapsTextOf (first ∷ nets) c
 maps_written first nets a b c one two more =
     let G = first.placed.graph in
-    let drawn : b ≡ [] ++ rows_text (row_lines (OfTitle ∷ graph_rows G)) = rows_written [] a b (OfTitle ∷ []) (graph_rows G) one (two ∙ ap (λ l. a ++ rows_text l) (sym (graph_same G))) in
+    let drawn : b ≡ [] ++ rows_text (row_lines (OfTitle ∷ graph_rows G)) =
+    rows_written [] a b (OfTitle ∷ []) (graph_rows G) one (two ∙ ap (λ l. a ++ rows_text l) (sym (graph_same G))) in
     record {
       maps = Some (record { first = G; items = more.items });
       are_maps = record { first_is = refl; are_items = more.are_items };

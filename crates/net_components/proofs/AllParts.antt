@@ -1,5 +1,6 @@
 -- The parts that are made of all components are the parts of the net.
-use Rattle.std.proofs.Common.{◌≡◌, ◌⊎◌, inl, inr, ℕ, ◌+◌, ◌<◌, pos, List, [], length, take, get_or, Contains, Result, Ok, Err, IfOk, Vec, Global, sym, ap, subst, ◌∙◌, arith}
+use Rattle.std.proofs.Common.{◌≡◌, ◌⊎◌, inl, inr, ℕ, ◌+◌, ◌<◌, pos, List, [], length, take, get_or, Contains, Result, Ok, Err, IfOk, Vec, Global, sym, ap}
+use Rattle.std.proofs.Common.{subst, ◌∙◌, arith}
 use Rattle.std.proofs.Math.Decide.{dec_lt}
 use Rattle.std.proofs.lemmas.List.{get_or_default}
 use Rattle.std.proofs.lemmas.List.Elements.{All-contains}
@@ -106,7 +107,8 @@ module _ (G : Graph) (g : IsGraph G) (s : IsSmall G) (cs : List Component) (h : 
     part_fault NoMemory k = k
 
 -- the same of an answer
-pub parts_answer : (G : Graph) → IsGraph G → IsSmall G → (cs : List Component) → AreComponentsTo G cs (G.vertices + 1) → (r : Result (Vec Part Global) PartFault)
+pub parts_answer : (G : Graph) → IsGraph G → IsSmall G → (cs : List Component) → AreComponentsTo G cs (G.vertices + 1)
+    → (r : Result (Vec Part Global) PartFault)
     → IfOk r (λ v. AreMatched (IsMadeOf G) cs v.items) → IfOk r (λ v. AreParts G v.items)
 parts_answer G g s cs h (Ok v) m = are_parts G g s cs h v.items m
 parts_answer G g s cs h (Err f) m = m

@@ -46,7 +46,8 @@ module _ (G : Graph) (a : ℕ) (T : ℕ → Vector) where
       let p = minus w.cell (T w.over) in
       record {
         over = h.over;
-        cell = subst (ClosedShift G a) (vector_equal (together p.x r.x s.x) (together p.y r.y s.y) (together p.z r.z s.z)) ((closed_group G a).sums (minus p r) (minus r s) h.cell d);
+        cell = subst (ClosedShift G a) (vector_equal (together p.x r.x s.x) (together p.y r.y s.y) (together p.z r.z s.z))
+            ((closed_group G a).sums (minus p r) (minus r s) h.cell d);
       }
 
 -- a component has one least vertex
@@ -57,5 +58,6 @@ one_least G a b h k w =
     omega arith
 
 -- copies that share a vertex are of one component
-pub one_component : (G : Graph) (a b : ℕ) (S T : ℕ → Vector) (r s : Vector) (w : Vertex) → IsLeast G a → IsLeast G b → InCopy G a S r w → InCopy G b T s w → a ≡ b
+pub one_component : (G : Graph) (a b : ℕ) (S T : ℕ → Vector) (r s : Vector) (w : Vertex) → IsLeast G a → IsLeast G b → InCopy G a S r w → InCopy G b T s w
+    → a ≡ b
 one_component G a b S T r s w h k i j = one_least G a b h k (with_transitive G a w.over b i.over (with_turned G b w.over k.vertex j.over))

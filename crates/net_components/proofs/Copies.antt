@@ -23,7 +23,9 @@ module _ (G : Graph) (a : ℕ) (T : ℕ → Vector) (t : TellsWalks G a T) where
       let two = reached_moved G (vertex a zero_vector) (vertex w.over (T w.over)) k (t.walks w.over h.over) in
       reached_transitive G (vertex a r) (vertex a (plus l r)) w
       (same_reached G (ap (vertex a) (zero_plus r)) refl one)
-      (same_reached G (ap (vertex a) (sym (vector_equal (to_start w.cell.x (T w.over).x r.x) (to_start w.cell.y (T w.over).y r.y) (to_start w.cell.z (T w.over).z r.z)))) (ap (vertex w.over) (plus_minus (T w.over) w.cell)) two)
+      (same_reached G (ap (vertex a)
+      (sym (vector_equal (to_start w.cell.x (T w.over).x r.x) (to_start w.cell.y (T w.over).y r.y) (to_start w.cell.z (T w.over).z r.z))))
+      (ap (vertex w.over) (plus_minus (T w.over) w.cell)) two)
 
   -- 0 + (t - r)
   from_start : (v r : ℤ) → r +ℤ (pos 0 -ℤ r) ≡ pos 0
@@ -49,7 +51,8 @@ module _ (G : Graph) (a : ℕ) (T : ℕ → Vector) (t : TellsWalks G a T) where
       let c = from_zero r w h in
       let i : InComponent G a w.over = record { vertex = q; shift = minus w.cell r; walk = c } in
       let k = minus (minus w.cell r) (T w.over) in
-      let back = reached_moved G (vertex w.over (T w.over)) (vertex a zero_vector) k (reached_turned G (vertex a zero_vector) (vertex w.over (T w.over)) (t.walks w.over i)) in
+      let back = reached_moved G (vertex w.over (T w.over)) (vertex a zero_vector) k
+      (reached_turned G (vertex a zero_vector) (vertex w.over (T w.over)) (t.walks w.over i)) in
       record {
         over = i;
         cell = reached_transitive G (vertex a zero_vector) (vertex w.over (minus w.cell r)) (vertex a (minus (minus w.cell (T w.over)) r)) c

@@ -21,7 +21,8 @@ use Rattle.net_components.specs.declared.fault.PartFault.TheVariants.{LowRank, W
 use Rattle.net_components.specs.Components.{Component, IsComponent, IsFoundIn, AreComponentsTo}
 
 -- a walk leads exactly to the vertices that were found
-pub found_in : (G : Graph) (c : Component) → IsComponent G c → (u : ℕ) → IsQuotientVertex G u → (o : IsSome (walk_to c.found u)) → IsGraph G → InComponent G c.root u
+pub found_in : (G : Graph) (c : Component) → IsComponent G c → (u : ℕ) → IsQuotientVertex G u → (o : IsSome (walk_to c.found u)) → IsGraph G
+    → InComponent G c.root u
 found_in G c h u q o g = let T = walk_at G g c.root c.found h.walks u q.0 o in record { vertex = q; shift = _; walk = T }
 
 pub in_found : (G : Graph) (c : Component) → IsComponent G c → (u : ℕ) → InComponent G c.root u → IsGraph G → IsSome (walk_to c.found u)
@@ -85,7 +86,12 @@ module _ (G : Graph) (g : IsGraph G) (cs : List Component) (u : ℕ) (q : IsQuot
     rising = pairs_with (λ b c. b.root < c.root) cs c h.rising (λ b j. subst (λ n. b.root < n) (sym e) (All-contains (λ c. c.root < u) cs b h.below j));
     covers = λ v k l. elim (before_or_at v u l) [
       | inl m ↦ let f = h.covers v k m in (f.0, Contains-append_left cs (c ∷ []) f.0 f.1, f.2)
-      | inr d ↦ (c, Contains-append_right cs (c ∷ []) c (0, omega arith, refl), in_found G c i v (subst (λ w. InComponent G w v) (d ∙ sym e) (with_itself G v k)) g)
+      | inr d ↦ (
+        c,
+        Contains-append_right cs (c ∷ []) c (0, omega arith, refl),
+        in_found G c i v
+            (subst (λ w. InComponent G w v) (d ∙ sym e) (with_itself G v k)) g,
+      )
     ];
   }
 

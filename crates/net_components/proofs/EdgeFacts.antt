@@ -1,5 +1,6 @@
 -- An edge of a component: where it stands, its closed walk, and its shift in the graph of the component.
-use Rattle.std.proofs.Common.{◌≡◌, ◌⊎◌, inl, inr, ℕ, zero, suc, ◌+◌, ◌-◌, ◌<◌, ◌≤◌, ℤ, pos, unsigned_abs, List, length, Option, IsSome, Contains, refl, sym, ap, subst, ◌∙◌, arith}
+use Rattle.std.proofs.Common.{◌≡◌, ◌⊎◌, inl, inr, ℕ, zero, suc, ◌+◌, ◌-◌, ◌<◌, ◌≤◌, ℤ, pos, unsigned_abs, List, length, Option, IsSome, Contains, refl, sym, ap}
+use Rattle.std.proofs.Common.{subst, ◌∙◌, arith}
 use Rattle.std.proofs.lemmas.List.Elements.{All-contains}
 use Rattle.integers.specs.Bases.{base_sum}
 use Rattle.integers.specs.Vectors.{Vector, plus, minus, HasDimension, IsWithin}
@@ -74,7 +75,8 @@ module _ (G : Graph) (g : IsGraph G) (s : IsSmall G) (c : Component) (h : IsComp
 
     -- its closed walk is in the lattice
     pub member : Members G.dimension c.stairs (generator_of c.found e)
-    member = h.full.inside (generator_of c.found e) (generator_closed G g c.root (shift_at c.found) (tells G g c h) e is_arc (found_in G c h e.from edge.from some g))
+    member = h.full.inside (generator_of c.found e) (generator_closed G g c.root (shift_at c.found) (tells G g c h) e is_arc
+        (found_in G c h e.from edge.from some g))
 
     module _ (k : Vector) (flat : HasDimension G.dimension k) (sum : base_sum (stair_base c.stairs) k ≡ generator_of c.found e) where
       -- its shift
@@ -99,7 +101,8 @@ module _ (G : Graph) (g : IsGraph G) (s : IsSmall G) (c : Component) (h : IsComp
       wide_at p value w = record { k = k; shift = shift_is; first = w; inside = inside_of G.dimension p k value g.dimension flat w }
 
       -- and where it is not
-      pub edge_is : (u v : ℕ) → IsNumber (length (vertices_of 1 c.found)) u → IsNumber (length (vertices_of 1 c.found)) v → vertex_at (vertices_of 1 c.found) u ≡ e.from
+      pub edge_is : (u v : ℕ) → IsNumber (length (vertices_of 1 c.found)) u → IsNumber (length (vertices_of 1 c.found)) v
+          → vertex_at (vertices_of 1 c.found) u ≡ e.from
           → vertex_at (vertices_of 1 c.found) v ≡ e.to → IsWithin most_shift k → IsEdgeOf G c e (arc u v k)
       edge_is u v p q a b w = record {
         written = record { from = a; to = b; from_number = p; to_number = q; dimension = flat; shift = sum };

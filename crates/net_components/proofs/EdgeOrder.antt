@@ -45,7 +45,8 @@ apart : (t s r u : ℤ) → ((t +ℤ r) -ℤ u) -ℤ ((t +ℤ s) -ℤ u) ≡ r -
 apart t s r u = omega (arith, linear)
 
 -- coordinates keep the order of the shifts of two edges with the same ends
-pub shifts_below : (d : ℕ) (S : Stairs) → HasStairShape d S → (k l s r t u : Vector) → base_sum (stair_base S) k ≡ minus (plus t s) u → base_sum (stair_base S) l ≡ minus (plus t r) u
+pub shifts_below : (d : ℕ) (S : Stairs) → HasStairShape d S → (k l s r t u : Vector) → base_sum (stair_base S) k ≡ minus (plus t s) u
+    → base_sum (stair_base S) l ≡ minus (plus t r) u
     → IsBelow (parts 3 s) (parts 3 r) → IsBelow (parts 3 k) (parts 3 l)
 shifts_below d S h k l s r t u e f b =
     parts_below k l (starts_difference k l (coordinates_start d S h (minus l k) (minus r s)
@@ -76,11 +77,17 @@ module _ (G : Graph) (a : ℕ) (T : ℕ → Vector) (S : Stairs) (at : ℕ → �
   pub written_below : (e e' f f' : Arc) → IsWritten G.dimension H.vertices T (stair_base S) at e f → IsWritten G.dimension H.vertices T (stair_base S) at e' f'
       → IsBelow (numbers_of e) (numbers_of e') → IsBelow (numbers_of f) (numbers_of f')
   written_below e e' f f' w w' h = elim (below_ways (pos e.from) (pos e'.from) (pos e.to ∷ parts 3 e.shift) (pos e'.to ∷ parts 3 e'.shift) h) [
-    | inl l ↦ below_head (pos f.from) (pos f'.from) (pos f.to ∷ parts 3 f.shift) (pos f'.to ∷ parts 3 f'.shift) (number_below f.from f'.from w.from_number w'.from_number (subst (λ x. pos x <ℤ pos (at f'.from)) (sym w.from) (subst (λ x. pos e.from <ℤ pos x) (sym w'.from) l)))
-    | inr q ↦ below_rest (pos f.from) (pos f'.from) (pos f.to ∷ parts 3 f.shift) (pos f'.to ∷ parts 3 f'.shift) (number_same f.from f'.from w.from_number w'.from_number (ap pos w.from ∙ q.0 ∙ ap pos (sym w'.from)))
+    | inl l ↦ below_head (pos f.from) (pos f'.from) (pos f.to ∷ parts 3 f.shift) (pos f'.to ∷ parts 3 f'.shift)
+        (number_below f.from f'.from w.from_number w'.from_number (subst (λ x. pos x <ℤ pos (at f'.from)) (sym w.from)
+        (subst (λ x. pos e.from <ℤ pos x) (sym w'.from) l)))
+    | inr q ↦ below_rest (pos f.from) (pos f'.from) (pos f.to ∷ parts 3 f.shift) (pos f'.to ∷ parts 3 f'.shift)
+        (number_same f.from f'.from w.from_number w'.from_number (ap pos w.from ∙ q.0 ∙ ap pos (sym w'.from)))
         (elim (below_ways (pos e.to) (pos e'.to) (parts 3 e.shift) (parts 3 e'.shift) q.1) [
-          | inl l ↦ below_head (pos f.to) (pos f'.to) (parts 3 f.shift) (parts 3 f'.shift) (number_below f.to f'.to w.to_number w'.to_number (subst (λ x. pos x <ℤ pos (at f'.to)) (sym w.to) (subst (λ x. pos e.to <ℤ pos x) (sym w'.to) l)))
-          | inr r ↦ below_rest (pos f.to) (pos f'.to) (parts 3 f.shift) (parts 3 f'.shift) (number_same f.to f'.to w.to_number w'.to_number (ap pos w.to ∙ r.0 ∙ ap pos (sym w'.to)))
+          | inl l ↦ below_head (pos f.to) (pos f'.to) (parts 3 f.shift) (parts 3 f'.shift)
+              (number_below f.to f'.to w.to_number w'.to_number (subst (λ x. pos x <ℤ pos (at f'.to)) (sym w.to)
+              (subst (λ x. pos e.to <ℤ pos x) (sym w'.to) l)))
+          | inr r ↦ below_rest (pos f.to) (pos f'.to) (parts 3 f.shift) (parts 3 f'.shift)
+              (number_same f.to f'.to w.to_number w'.to_number (ap pos w.to ∙ r.0 ∙ ap pos (sym w'.to)))
               (shifts_below G.dimension S p.full.shape f.shift f'.shift e.shift e'.shift (T e.from) (T e.to) w.shift
               (w'.shift ∙ (λ i. minus (plus (T (pos_same e'.from e.from (sym q.0) i)) e'.shift) (T (pos_same e'.to e.to (sym r.0) i)))) r.1)
         ])

@@ -1,5 +1,6 @@
 -- The vertices that were found, as a list.
-use Rattle.std.proofs.Common.{◌≡◌, ℕ, zero, suc, ◌+◌, ◌-◌, ◌<◌, ◌≤◌, inl, inr, List, [], ◌∷◌, length, get_or, Option, Some, None, IsSome, refl, subst, ◌∙◌, arith}
+use Rattle.std.proofs.Common.{◌≡◌, ℕ, zero, suc, ◌+◌, ◌-◌, ◌<◌, ◌≤◌, inl, inr, List, [], ◌∷◌, length, get_or, Option, Some, None, IsSome, refl, subst, ◌∙◌}
+use Rattle.std.proofs.Common.{arith}
 use Rattle.std.proofs.lemmas.List.{get_or_default}
 use Rattle.integers.specs.Vectors.{Vector}
 use Rattle.integers.proofs.lists.Pieces.{in_at}
@@ -58,7 +59,8 @@ pub listed_at : (u : ℕ) (found : List (Option Vector)) (i : ℕ) → i < lengt
 listed_at u found i l = listed u found (get_or (vertices_of u found) i 0) (in_at (vertices_of u found) i 0 l)
 
 -- they rise
-pub vertices_rise : (u : ℕ) (found : List (Option Vector)) (i j : ℕ) → i < j → j < length (vertices_of u found) → get_or (vertices_of u found) i 0 < get_or (vertices_of u found) j 0
+pub vertices_rise : (u : ℕ) (found : List (Option Vector)) (i j : ℕ) → i < j → j < length (vertices_of u found)
+    → get_or (vertices_of u found) i 0 < get_or (vertices_of u found) j 0
 vertices_rise u [] i j l m = absurd (omega arith)
 vertices_rise u (None ∷ found) i j l m = vertices_rise (u + 1) found i j l m
 vertices_rise u (Some T ∷ found) i zero l m = absurd (omega arith)

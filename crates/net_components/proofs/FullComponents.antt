@@ -53,7 +53,8 @@ module _ (G : Graph) (g : IsGraph G) (a : ℕ) (least : IsLeast G a) (found : Li
       let low = v.from in
       let high = v.to in
       let is = v.is in
-      let b = size_at_most S v.a v.b v.c (All-contains (Members G.dimension S) (generators G found) v.a members v.first).0 (All-contains (Members G.dimension S) (generators G found) v.b members v.second).0 (third_in (two_or_not G.dimension))
+      let b = size_at_most S v.a v.b v.c (All-contains (Members G.dimension S) (generators G found) v.a members v.first).0
+      (All-contains (Members G.dimension S) (generators G found) v.b members v.second).0 (third_in (two_or_not G.dimension))
       (some m (unsigned_abs (dot (cross v.a v.b) v.c)) is low) in
       below m (unsigned_abs (dot (cross v.a v.b) v.c)) is high b
     where

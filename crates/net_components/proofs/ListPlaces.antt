@@ -23,7 +23,8 @@ split_at (y ∷ xs) zero x l at = ap (λ z. z ∷ xs) at
 split_at (y ∷ xs) (suc i) x l at = ap (λ zs. y ∷ zs) (split_at xs i x (omega arith) at)
 
 -- a list is split in one way at the first member of a kind: where neither of two members stands before the other
-pub split_once : {X : Type 0} (before before' after after' : List X) (x x' : X) → before ++ x ∷ after ≡ before' ++ x' ∷ after' → ¬ IsIn before x' → ¬ IsIn before' x → x ≡ x'
+pub split_once : {X : Type 0} (before before' after after' : List X) (x x' : X) → before ++ x ∷ after ≡ before' ++ x' ∷ after' → ¬ IsIn before x'
+    → ¬ IsIn before' x → x ≡ x'
 split_once [] [] after after' x x' e m n = cc
 split_once [] (y ∷ before') after after' x x' e m n = absurd (n (inl (let h : x ≡ y = cc in sym h)))
 split_once (y ∷ before) [] after after' x x' e m n = absurd (m (inl (let h : y ≡ x' = cc in h)))

@@ -1,5 +1,5 @@
 -- A part that is made of a component is the part of that component.
-use Rattle.std.proofs.Common.{◌≡◌, ◌⊎◌, ℕ, ◌<◌, ◌≤◌, List, length, sym, ap, subst, ◌∙◌, arith}
+use Rattle.std.proofs.Common.{◌≡◌, ℕ, ◌<◌, ◌≤◌, List, length, sym, ap, subst, ◌∙◌, arith}
 use Rattle.std.proofs.Math.Decide.{dec_lt}
 use Prim.{Dec, yes, no}
 use Rattle.integers.specs.Staircase.{IsStaircase}
@@ -45,7 +45,8 @@ module _ (G : Graph) (g : IsGraph G) (s : IsSmall G) (c : Component) (h : IsComp
     chosen = λ u i. h.chosen.each u (shift_at c.found u) i.vertex.0 (walk_is (walk_to c.found u) (in_found G c h u i g));
     stairs = c.stairs;
     part = subst (λ (H : Graph). IsPart G c.root (shift_at c.found) c.stairs (vertex_at p.vertices) H) (sym m.graph.same)
-        (subst (λ (vs : List ℕ). IsPart G c.root (shift_at c.found) c.stairs (vertex_at vs) (graph_with G.dimension (length (vertices_of 1 c.found)) m.graph.edges)) (sym m.vertices) (is_part G g s c h m.graph.edges m.graph.each));
+        (subst (λ (vs : List ℕ). IsPart G c.root (shift_at c.found) c.stairs (vertex_at vs)
+        (graph_with G.dimension (length (vertices_of 1 c.found)) m.graph.edges)) (sym m.vertices) (is_part G g s c h m.graph.edges m.graph.each));
     count = ap length m.vertices ∙ sym (ap (λ (H : Graph). H.vertices) m.graph.same);
     rows = m.basis;
     basis = basis;
@@ -58,12 +59,14 @@ module _ (G : Graph) (g : IsGraph G) (s : IsSmall G) (c : Component) (h : IsComp
   first_vertex : vertex_at (vertices_of 1 c.found) 1 ≡ c.root
   first_vertex =
       let vs = vertices_of 1 c.found in
-      let here = number_for G g s c h c.root (record { vertex = h.least.vertex; shift = zero_vector; walk = h.walks.walks c.root zero_vector h.least.vertex.0 h.walks.first }) in
+      let here = number_for G g s c h c.root
+      (record { vertex = h.least.vertex; shift = zero_vector; walk = h.walks.walks c.root zero_vector h.least.vertex.0 h.walks.first }) in
       let one = some_number G g s c h in
       let least = h.least.least (vertex_at vs 1) (number_in G g s c h 1 (omega arith, one)) in
       by here.0 here.1 here.2 one least (dec_lt 1 here.0)
     where
-      by : (i : ℕ) → (1 ≤ i) × (i ≤ length (vertices_of 1 c.found)) → vertex_at (vertices_of 1 c.found) i ≡ c.root → 1 ≤ length (vertices_of 1 c.found) → c.root ≤ vertex_at (vertices_of 1 c.found) 1
+      by : (i : ℕ) → (1 ≤ i) × (i ≤ length (vertices_of 1 c.found)) → vertex_at (vertices_of 1 c.found) i ≡ c.root → 1 ≤ length (vertices_of 1 c.found)
+          → c.root ≤ vertex_at (vertices_of 1 c.found) 1
           → Dec (1 < i) → vertex_at (vertices_of 1 c.found) 1 ≡ c.root
       by i n e one least (yes l) = absurd (let r = numbers_rise G g s c h 1 i (omega arith, one) n l in omega (arith, r, e, least))
       by i n e one least (no l) = ap (vertex_at (vertices_of 1 c.found)) (same i n.0 l) ∙ e

@@ -53,13 +53,16 @@ module _ (G : Graph) (g : IsGraph G) where
   one_list ps qs h k =
       same_rising (λ (v w : PartView). vertex_at v.vertices 1 < vertex_at w.vertices 1) (λ v l. omega (arith, l)) (λ u v w l m. omega (arith, l, m))
       (map view_of ps) (map view_of qs)
-      (views_rise ps (rising_from_pairs (λ p q. root_of p < root_of q) ps h.rising)) (views_rise qs (rising_from_pairs (λ p q. root_of p < root_of q) qs k.rising))
+      (views_rise ps (rising_from_pairs (λ p q. root_of p < root_of q) ps h.rising))
+      (views_rise qs (rising_from_pairs (λ p q. root_of p < root_of q) qs k.rising))
       (λ v. (in_other ps qs h k v, in_other qs ps k h v))
 
   -- an edge of a part has its shift in the graph of the part, which is within the limit
-  part_shift : (a : ℕ) (p : Part) → IsPartOf G a p → (e : Arc) → IsIn G.edges e → InComponent G a e.from → (k : Vector) × IsShiftIn G a e k × IsWithin most_shift k
+  part_shift : (a : ℕ) (p : Part) → IsPartOf G a p → (e : Arc) → IsIn G.edges e → InComponent G a e.from
+      → (k : Vector) × IsShiftIn G a e k × IsWithin most_shift k
   part_shift a p h e i tail =
-      let f = edge_written (InComponent G a) (IsWritten G.dimension (graph_view p.graph).vertices h.T (stair_base h.stairs) (vertex_at p.vertices)) G.edges (graph_view p.graph).edges h.part.edges e i tail in
+      let f = edge_written (InComponent G a) (IsWritten G.dimension (graph_view p.graph).vertices h.T (stair_base h.stairs) (vertex_at p.vertices)) G.edges
+      (graph_view p.graph).edges h.part.edges e i tail in
       let head = subst (InComponent G a) f.2.to (h.part.vertices f.0.to f.2.to_number) in
       let there = h.chosen e.from tail in
       let back = h.chosen e.to head in (
@@ -75,7 +78,8 @@ module _ (G : Graph) (g : IsGraph G) where
           dimension = f.2.dimension;
           coordinates = f.2.shift ∙ (λ t. minus (plus (sym there.2 t) e.shift) (sym back.2 t));
         },
-        All-contains (λ (x : Arc). IsWithin most_shift x.shift) (graph_view p.graph).edges f.0 h.small.shifts (contains_from_in (graph_view p.graph).edges f.0 f.1),
+        All-contains (λ (x : Arc). IsWithin most_shift x.shift) (graph_view p.graph).edges f.0 h.small.shifts
+            (contains_from_in (graph_view p.graph).edges f.0 f.1),
       )
 
   -- a graph with parts has no fault
@@ -86,7 +90,8 @@ module _ (G : Graph) (g : IsGraph G) where
       let e = arc u v s in
       let p = part_at G ps h k.root k.least in
       let w = k.wide.wide in
-      let n = part_shift k.root p.0 p.2 e (subst (λ es. IsIn es e) (sym k.wide.edges) (append_right k.wide.before (e ∷ k.wide.after) e (inl refl))) w.shift.tail in
+      let n = part_shift k.root p.0 p.2 e (subst (λ es. IsIn es e) (sym k.wide.edges) (append_right k.wide.before (e ∷ k.wide.after) e (inl refl)))
+      w.shift.tail in
       absurd (not_wide w.k c value (subst (IsWithin most_shift) (one_shift G g k.root e n.0 w.k n.1 w.shift) n.2) w.first)
 
 pub answer_is_one : AnswerIsOne

@@ -39,7 +39,8 @@ one_place k c c' value value' h h' = by (three_ways c c')
 
     by : (c < c') ⊎ ((c' < c) ⊎ (c ≡ c')) → c ≡ c'
     by (inl l) = absurd (let p = h.past in let e = ap unsigned_abs h.is in let b = h'.first (c - 1) (earlier c c' l h.place.0) in omega (arith, p, e, b))
-    by (inr (inl l)) = absurd (let p = h'.past in let e = ap unsigned_abs h'.is in let b = h.first (c' - 1) (earlier c' c l h'.place.0) in omega (arith, p, e, b))
+    by (inr (inl l)) = absurd (let p = h'.past in let e = ap unsigned_abs h'.is in let b = h.first (c' - 1) (earlier c' c l h'.place.0) in
+        omega (arith, p, e, b))
     by (inr (inr e)) = e
 
 module _ (G : Graph) (g : IsGraph G) where
@@ -61,11 +62,13 @@ module _ (G : Graph) (g : IsGraph G) where
     not_earlier : ¬ (w.root < x.root)
     not_earlier l =
         let e = arc u v s in
-        let n = x.earlier w.root w.least l e (contains_from_in G.edges e (subst (λ es. IsIn es e) (sym w.wide.edges) (append_right w.wide.before (e ∷ w.wide.after) e (inl refl)))) w.wide.wide.shift.tail in
+        let n = x.earlier w.root w.least l e (contains_from_in G.edges e
+        (subst (λ es. IsIn es e) (sym w.wide.edges) (append_right w.wide.before (e ∷ w.wide.after) e (inl refl)))) w.wide.wide.shift.tail in
         wide_or_narrow w.root e c value w.wide.wide n.0 n.1 n.2
 
   -- two wide shifts are one
-  pub one_wide : (u v u' v' : ℕ) (s s' : Vector) (c c' : ℕ) (value value' : ℤ) → IsWideShift G u v s c value → IsWideShift G u' v' s' c' value' → WideShift u v s c value ≡ WideShift u' v' s' c' value'
+  pub one_wide : (u v u' v' : ℕ) (s s' : Vector) (c c' : ℕ) (value value' : ℤ) → IsWideShift G u v s c value → IsWideShift G u' v' s' c' value'
+      → WideShift u v s c value ≡ WideShift u' v' s' c' value'
   one_wide u v u' v' s s' c c' value value' w x = by (three_ways w.root x.root)
     where
       same : w.root ≡ x.root → WideShift u v s c value ≡ WideShift u' v' s' c' value'
@@ -73,8 +76,10 @@ module _ (G : Graph) (g : IsGraph G) where
           let e = arc u v s in
           let e' = arc u' v' s' in
           let wide' : IsWideAt G w.root e' c' value' = subst (λ a. IsWideAt G a e' c' value') (sym r) x.wide.wide in
-          let no = λ (i : IsIn w.wide.before e'). let n = w.wide.narrow e' (contains_from_in w.wide.before e' i) wide'.shift.tail in wide_or_narrow w.root e' c' value' wide' n.0 n.1 n.2 in
-          let no' = λ (i : IsIn x.wide.before e). let n = x.wide.narrow e (contains_from_in x.wide.before e i) (subst (λ a. IsWideAt G a e c value) r w.wide.wide).shift.tail in
+          let no = λ (i : IsIn w.wide.before e'). let n = w.wide.narrow e' (contains_from_in w.wide.before e' i) wide'.shift.tail in
+          wide_or_narrow w.root e' c' value' wide' n.0 n.1 n.2 in
+          let no' = λ (i : IsIn x.wide.before e). let n = x.wide.narrow e (contains_from_in x.wide.before e i)
+          (subst (λ a. IsWideAt G a e c value) r w.wide.wide).shift.tail in
           wide_or_narrow x.root e c value (subst (λ a. IsWideAt G a e c value) r w.wide.wide) n.0 n.1 n.2 in
           let one : e ≡ e' = split_once w.wide.before x.wide.before w.wide.after x.wide.after e e' (sym w.wide.edges ∙ x.wide.edges) no no' in
           let k = one_shift w.root e w.wide.wide.k wide'.k w.wide.wide.shift (subst (λ f. IsShiftIn G w.root f wide'.k) (sym one) wide'.shift) in

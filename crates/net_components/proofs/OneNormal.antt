@@ -1,5 +1,5 @@
 -- Closed walks of a rank below the dimension have one normal: a combination of two of them that ends earlier is 0.
-use Rattle.std.proofs.Common.{◌≡◌, ◌≢◌, ◌⊎◌, inl, inr, ℕ, zero, ℤ, pos, sym, ap, arith}
+use Rattle.std.proofs.Common.{◌≡◌, ◌≢◌, ◌⊎◌, inl, inr, ℕ, ℤ, pos, sym, arith}
 use Rattle.integers.specs.Vectors.{Vector, zero_vector, minus, times, HasDimension}
 use Rattle.integers.proofs.numbers.Ring.{zero_or_not}
 use Rattle.integers.proofs.vectors.FewVectors.{zero_or_other}
@@ -26,7 +26,8 @@ module _ (G : Graph) (a : ℕ) (c e : Vector) (h : IsFlatAt G a c) (k : IsFlatAt
   between_orthogonal m n v w = dot_difference m n e.x e.y e.z c.x c.y c.z v.x v.y v.z (k.orthogonal v w) (h.orthogonal v w)
 
   between_dimension : (m n : ℤ) → HasDimension G.dimension (between m n)
-  between_dimension m n = minus_dimension G.dimension (times m e) (times n c) (times_dimension G.dimension m e k.dimension) (times_dimension G.dimension n c h.dimension)
+  between_dimension m n = minus_dimension G.dimension (times m e) (times n c) (times_dimension G.dimension m e k.dimension)
+      (times_dimension G.dimension n c h.dimension)
 
   -- a combination that ends before both normals do is 0
   ends_early : (m n : ℤ) (i : ℕ) → EndsBy i (between m n) → ¬ EndsBy i c → between m n ≡ zero_vector

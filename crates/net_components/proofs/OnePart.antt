@@ -52,13 +52,15 @@ module _ (G : Graph) (a : ℕ) (p : Part) (h : IsPartOf G a p) where
     where
       pairs : AllPairs (λ (u v : ℕ). u < v) p.vertices
       pairs i j d l m =
-          let n = h.part.rising (i + 1) (j + 1) (number (i + 1) (omega arith, omega (arith, l, m))) (number (j + 1) (omega arith, omega (arith, m))) (omega (arith, l)) in
+          let n = h.part.rising (i + 1) (j + 1) (number (i + 1) (omega arith, omega (arith, l, m))) (number (j + 1) (omega arith, omega (arith, m)))
+          (omega (arith, l)) in
           let x = ap (λ k. get_or p.vertices k 0) (less i) ∙ get_or_default p.vertices i 0 d (omega (arith, l, m)) in
           let y = ap (λ k. get_or p.vertices k 0) (less j) ∙ get_or_default p.vertices j 0 d m in
           omega (arith, n, x, y)
 
   -- different numbers are of different vertices
-  at_once : (i j : ℕ) → IsQuotientVertex (graph_view p.graph) i → IsQuotientVertex (graph_view p.graph) j → vertex_at p.vertices i ≡ vertex_at p.vertices j → i ≡ j
+  at_once : (i j : ℕ) → IsQuotientVertex (graph_view p.graph) i → IsQuotientVertex (graph_view p.graph) j → vertex_at p.vertices i ≡ vertex_at p.vertices j
+      → i ≡ j
   at_once i j m n e = by (three_ways i j)
     where
       by : (i < j) ⊎ ((j < i) ⊎ (i ≡ j)) → i ≡ j
@@ -71,7 +73,8 @@ module _ (G : Graph) (g : IsGraph G) (a : ℕ) (p q : Part) (h : IsPartOf G a p)
   same_stairs = one_stair G g a h.stairs k.stairs h.part.full k.part.full
 
   same_vertices : p.vertices ≡ q.vertices
-  same_vertices = same_rising (λ (u v : ℕ). u < v) (λ u l. omega (arith, l)) (λ u v w l m. omega (arith, l, m)) p.vertices q.vertices (vertices_rise G a p h) (vertices_rise G a q k)
+  same_vertices = same_rising (λ (u v : ℕ). u < v) (λ u l. omega (arith, l)) (λ u v w l m. omega (arith, l, m)) p.vertices q.vertices (vertices_rise G a p h)
+      (vertices_rise G a q k)
       (λ u. ((λ i. in_vertices G a q k u (vertex_in G a p h u i)), λ i. in_vertices G a p h u (vertex_in G a q k u i)))
 
   same_count : (graph_view p.graph).vertices ≡ (graph_view q.graph).vertices
@@ -89,7 +92,8 @@ module _ (G : Graph) (g : IsGraph G) (a : ℕ) (p q : Part) (h : IsPartOf G a p)
       → IsWritten G.dimension (graph_view q.graph).vertices k.T (stair_base k.stairs) (vertex_at q.vertices) e f' → f ≡ f'
   one_edge e f f' tail w v =
       let at = ap vertex_at same_vertices in
-      let here : (i : ℕ) → IsQuotientVertex (graph_view q.graph) i → IsQuotientVertex (graph_view p.graph) i = λ i n. (n.0, subst (λ m. i ≤ m) (sym same_count) n.1) in
+      let here : (i : ℕ) → IsQuotientVertex (graph_view q.graph) i → IsQuotientVertex (graph_view p.graph) i =
+      λ i n. (n.0, subst (λ m. i ≤ m) (sym same_count) n.1) in
       let from = at_once G a p h f.from f'.from w.from_number (here f'.from v.from_number) (w.from ∙ sym v.from ∙ sym (ap (λ (t : ℕ → ℕ). t f'.from) at)) in
       let to = at_once G a p h f.to f'.to w.to_number (here f'.to v.to_number) (w.to ∙ sym v.to ∙ sym (ap (λ (t : ℕ → ℕ). t f'.to) at)) in
       let head = subst (InComponent G a) w.to (h.part.vertices f.to w.to_number) in

@@ -16,7 +16,8 @@ row k vs ws e = ap (λ us. slice_index_or us k zero_vector) e
 -- in dimension 2 the last row is (0, 0, 1), and else it is among the rows
 last_same : (d : ℕ) (S S' : Stairs) → HasStairShape d S → HasStairShape d S' → (d ≡ 2) ⊎ (d ≡ 3) → rows_of d S ≡ rows_of d S' → S.i ≡ S'.i
 last_same d S S' h h' (inl two) e = (h.flat two).i ∙ sym (h'.flat two).i
-last_same d S S' h h' (inr three) e = ap (λ (v : Vector). v.z) (row 2 (rows_of 3 S) (rows_of 3 S') (sym (ap (λ n. rows_of n S) three) ∙ e ∙ ap (λ n. rows_of n S') three))
+last_same d S S' h h' (inr three) e =
+    ap (λ (v : Vector). v.z) (row 2 (rows_of 3 S) (rows_of 3 S') (sym (ap (λ n. rows_of n S) three) ∙ e ∙ ap (λ n. rows_of n S') three))
 
 -- stairs with the same rows are the same
 rows_tell : (d : ℕ) (S S' : Stairs) → HasStairShape d S → HasStairShape d S' → (d ≡ 2) ⊎ (d ≡ 3) → rows_of d S ≡ rows_of d S' → S ≡ S'

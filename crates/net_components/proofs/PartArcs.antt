@@ -21,7 +21,8 @@ module _ (d n : ℕ) (K : ℕ → Type 0) (T : ℕ → Vector) (b : Base) (at : 
   pub lifted_is : (e f : Arc) → IsWritten d n T b at e f → lifted f ≡ e
   lifted_is e f w =
       (λ i. arc (w.from i) (w.to i) (minus (plus (w.shift i) (T (w.to i))) (T (w.from i))))
-      ∙ ap (arc e.from e.to) (vector_equal (back (T e.from).x e.shift.x (T e.to).x) (back (T e.from).y e.shift.y (T e.to).y) (back (T e.from).z e.shift.z (T e.to).z))
+      ∙ ap (arc e.from e.to) (vector_equal (back (T e.from).x e.shift.x (T e.to).x) (back (T e.from).y e.shift.y (T e.to).y)
+      (back (T e.from).z e.shift.z (T e.to).z))
 
   turned : (x y z p q : ℤ) → x ≡ neg_ℤ y → (x +ℤ p) -ℤ q ≡ neg_ℤ ((y +ℤ q) -ℤ p)
   turned x y z p q e = omega (arith, linear, e)

@@ -76,7 +76,12 @@ module _ (G : Graph) (g : IsGraph G) (s : IsSmall G) (c : Component) (h : IsComp
   -- some vertex has one
   pub some_number : 1 ≤ length vs
   some_number =
-      let n = number_for c.root (record { vertex = h.least.vertex; shift = zero_vector; walk = h.walks.walks c.root zero_vector h.least.vertex.0 h.walks.first }) in
+      let n = number_for c.root (record {
+        vertex = h.least.vertex;
+        shift = zero_vector;
+        walk =
+            h.walks.walks c.root zero_vector h.least.vertex.0 h.walks.first;
+      }) in
       let a = n.1.0 in let b = n.1.1 in omega (arith, a, b)
 
   -- the vertices rise
@@ -97,7 +102,8 @@ module _ (G : Graph) (g : IsGraph G) (s : IsSmall G) (c : Component) (h : IsComp
       each = number_for;
       rising = numbers_rise;
       full = h.full;
-      edges = written_as (InComponent G c.root) (IsEdgeOf G c) (IsWritten G.dimension (length vs) (shift_at c.found) (stair_base c.stairs) (vertex_at vs)) (λ e f _ k. k.written) G.edges fs w;
+      edges = written_as (InComponent G c.root) (IsEdgeOf G c) (IsWritten G.dimension (length vs) (shift_at c.found) (stair_base c.stairs) (vertex_at vs))
+          (λ e f _ k. k.written) G.edges fs w;
     }
 
     -- so it is a graph

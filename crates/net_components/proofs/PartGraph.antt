@@ -26,7 +26,8 @@ positive_factor k (negsuc n) h p = absurd (omega (arith, ints))
 positive_factor (pos zero) (pos (suc n)) h p = absurd (omega (arith, ints))
 positive_factor (pos (suc m)) (pos (suc n)) h p = omega (arith, ints)
 positive_factor (negsuc m) (pos (suc n)) h p =
-    absurd (impossible (pos (suc n) *ℤ negsuc m) (pos (suc n) *ℤ pos 0) (negsuc m *ℤ pos (suc n)) (multiple_below n (negsuc m) (pos 0) (omega (arith, ints))) (omega (arith, ints)) (*ℤ_comm (pos (suc n)) (negsuc m)) p)
+    absurd (impossible (pos (suc n) *ℤ negsuc m) (pos (suc n) *ℤ pos 0) (negsuc m *ℤ pos (suc n)) (multiple_below n (negsuc m) (pos 0) (omega (arith, ints)))
+    (omega (arith, ints)) (*ℤ_comm (pos (suc n)) (negsuc m)) p)
   where
     impossible : (x y z : ℤ) → x <ℤ y → y ≡ pos 0 → x ≡ z → pos 0 <ℤ z → ⊥
     impossible x y z l e f p = omega (arith, linear, e, f)
@@ -83,8 +84,13 @@ module _ (G : Graph) (g : IsGraph G) (a : ℕ) (T : ℕ → Vector) (S : Stairs)
       by s (inl l) = inl l
       by (inl s) (inr (inl l)) = absurd (let r = p.rising f.to f.from w.to_number w.from_number l in let x = w.from in let y = w.to in omega arith)
       by (inl s) (inr (inr q)) = absurd (let x = w.from in let y = w.to in let z = ap at q in omega arith)
-      by (inr s) (inr (inl l)) = absurd (let r = p.rising f.to f.from w.to_number w.from_number l in let x = w.from in let y = w.to in let z = s.0 in omega arith)
-      by (inr s) (inr (inr q)) = inr (q, coordinates_start G.dimension S p.full.shape f.shift e.shift (w.shift ∙ around (T e.from) e.shift (T e.to) (ap T s.0)) s.1)
+      by (inr s) (inr (inl l)) = absurd (let r = p.rising f.to f.from w.to_number w.from_number l in let x = w.from in let y = w.to in let z = s.0 in
+          omega arith)
+      by (inr s) (inr (inr q)) = inr (
+        q,
+        coordinates_start G.dimension S p.full.shape f.shift e.shift
+            (w.shift ∙ around (T e.from) e.shift (T e.to) (ap T s.0)) s.1,
+      )
 
   -- and an edge
   edge : (e f : Arc) → IsEdge G e → IsWritten G.dimension H.vertices T (stair_base S) at e f → IsEdge H f
@@ -102,7 +108,9 @@ module _ (G : Graph) (g : IsGraph G) (a : ℕ) (T : ℕ → Vector) (S : Stairs)
     dimension = subst (λ n. (n ≡ 2) ⊎ (n ≡ 3)) (sym p.dimension) g.dimension;
     vertices = let n = p.each a (with_itself G a p.least.vertex) in let l = n.1 in omega arith;
     edges = All-from_recursion (IsEdge H) H.edges
-        (written_all (InComponent G a) (IsWritten G.dimension H.vertices T (stair_base S) at) (IsEdge G) (IsEdge H) edge G.edges H.edges p.edges (recursion_from_All (IsEdge G) G.edges g.edges));
+        (written_all (InComponent G a) (IsWritten G.dimension H.vertices T (stair_base S) at) (IsEdge G) (IsEdge H) edge G.edges H.edges p.edges
+        (recursion_from_All (IsEdge G) G.edges g.edges));
     different = pairs_from_apart H.edges
-        (written_apart (InComponent G a) (IsWritten G.dimension H.vertices T (stair_base S) at) once G.edges H.edges p.edges (apart_from_pairs G.edges g.different));
+        (written_apart (InComponent G a) (IsWritten G.dimension H.vertices T (stair_base S) at) once G.edges H.edges p.edges
+        (apart_from_pairs G.edges g.different));
   }

@@ -17,7 +17,8 @@ use Rattle.net_components.proofs.StairSums.{sum_member, member_sum, sum_once}
 use Rattle.net_components.proofs.PartArcs.{lifted, arcs_lifted, arcs_written}
 use Rattle.net_components.proofs.PartMap.{at_once, lifted_once}
 
-module _ (G : Graph) (g : IsGraph G) (a : ℕ) (T : ℕ → Vector) (S : Stairs) (at : ℕ → ℕ) (H : Graph) (p : IsPart G a T S at H) (r : Vector) (rd : HasDimension G.dimension r) where
+module _ (G : Graph) (g : IsGraph G) (a : ℕ) (T : ℕ → Vector) (S : Stairs) (at : ℕ → ℕ) (H : Graph) (p : IsPart G a T S at H) (r : Vector)
+    (rd : HasDimension G.dimension r) where
   abbrev d : ℕ
   d = G.dimension
 
@@ -46,7 +47,8 @@ module _ (G : Graph) (g : IsGraph G) (a : ℕ) (T : ℕ → Vector) (S : Stairs)
         },
         record {
           over = u;
-          cell = p.full.all (minus (minus (plus (plus t r) s) t) r) (subst (λ v. vecdim_members v) (sym (vector_equal (less t.x r.x s.x) (less t.y r.y s.y) (less t.z r.z s.z))) m);
+          cell = p.full.all (minus (minus (plus (plus t r) s) t) r) (subst (λ v. vecdim_members v)
+              (sym (vector_equal (less t.x r.x s.x) (less t.y r.y s.y) (less t.z r.z s.z))) m);
         },
       )
     where
@@ -67,7 +69,8 @@ module _ (G : Graph) (g : IsGraph G) (a : ℕ) (T : ℕ → Vector) (S : Stairs)
         vertex n.0 k,
         record { over = n.1; cell = λ e. m.1 (sym p.dimension ∙ e) },
         (λ j. vertex (n.2 j) (plus (plus (T (n.2 j)) r) s))
-            ∙ ap (vertex x.over) (vector_equal (again t.x r.x s.x x.cell.x (ap (λ (y : Vector). y.x) m.2)) (again t.y r.y s.y x.cell.y (ap (λ (y : Vector). y.y) m.2)) (again t.z r.z s.z x.cell.z (ap (λ (y : Vector). y.z) m.2))),
+            ∙ ap (vertex x.over) (vector_equal (again t.x r.x s.x x.cell.x (ap (λ (y : Vector). y.x) m.2))
+            (again t.y r.y s.y x.cell.y (ap (λ (y : Vector). y.y) m.2)) (again t.z r.z s.z x.cell.z (ap (λ (y : Vector). y.z) m.2))),
       )
 
   one : (w x : Vertex) → IsVertex H w → IsVertex H x → map w ≡ map x → w ≡ x
@@ -87,7 +90,8 @@ module _ (G : Graph) (g : IsGraph G) (a : ℕ) (T : ℕ → Vector) (S : Stairs)
   step t r s t' s' k e = omega (arith, linear, e)
 
   -- the arc between the images is the one that the arc between the vertices is written for
-  pub step_is : (w x : Vertex) → lifted d H.vertices (InComponent G a) T b at (arc w.over x.over (minus x.cell w.cell)) ≡ arc (at w.over) (at x.over) (minus (map x).cell (map w).cell)
+  pub step_is : (w x : Vertex) → lifted d H.vertices (InComponent G a) T b at (arc w.over x.over (minus x.cell w.cell)) ≡ arc (at w.over) (at x.over)
+      (minus (map x).cell (map w).cell)
   step_is w x =
       let t = T (at w.over) in
       let t' = T (at x.over) in
@@ -96,7 +100,8 @@ module _ (G : Graph) (g : IsGraph G) (a : ℕ) (T : ℕ → Vector) (S : Stairs)
       let k = base_sum b (minus x.cell w.cell) in
       let e = base_sum_minus b x.cell w.cell in
       ap (arc (at w.over) (at x.over)) (vector_equal
-      (step t.x r.x s.x t'.x s'.x k.x (ap (λ (y : Vector). y.x) e)) (step t.y r.y s.y t'.y s'.y k.y (ap (λ (y : Vector). y.y) e)) (step t.z r.z s.z t'.z s'.z k.z (ap (λ (y : Vector). y.z) e)))
+      (step t.x r.x s.x t'.x s'.x k.x (ap (λ (y : Vector). y.x) e)) (step t.y r.y s.y t'.y s'.y k.y (ap (λ (y : Vector). y.y) e))
+      (step t.z r.z s.z t'.z s'.z k.z (ap (λ (y : Vector). y.z) e)))
 
   there_joined : (w x : Vertex) → AreJoined H w x → AreJoined G (map w) (map x)
   there_joined w x h =
@@ -109,7 +114,8 @@ module _ (G : Graph) (g : IsGraph G) (a : ℕ) (T : ℕ → Vector) (S : Stairs)
       let f = arc w.over x.over (minus x.cell w.cell) in
       let e = arc (at w.over) (at x.over) (minus (map x).cell (map w).cell) in
       contains_from_in (arcs H) f
-      (arcs_written d H.vertices (InComponent G a) T b at (lifted_once G g a T S at H p) p.vertices G.edges H.edges p.edges f (record { from = i.over; to = j.over })
+      (arcs_written d H.vertices (InComponent G a) T b at (lifted_once G g a T S at H p) p.vertices G.edges H.edges p.edges f
+      (record { from = i.over; to = j.over })
       (subst (IsIn (arcs G)) (sym (step_is w x)) (is_in (arcs G) e h)))
 
   -- the net of the part is that of the copy

@@ -5,6 +5,7 @@ use Rattle.std.proofs.Math.IntN.{*ℤ_comm}
 use Rattle.integers.specs.Vectors.{Vector, vector, HasDimension}
 use Rattle.integers.proofs.numbers.Order.{positive_is_some}
 use Rattle.integers.proofs.numbers.Ring.{ring, linear, cancel_factor}
+use Rattle.integers.proofs.vectors.BaseSums.{flat_sum}
 use Rattle.integers.proofs.vectors.Laws.{vector_equal}
 use Rattle.vecdim.specs.Stairs.{Stairs, HasStairShape}
 use Rattle.vecdim.specs.Lattices.{Members}
@@ -21,9 +22,6 @@ module _ (d : ℕ) (S : Stairs) (h : HasStairShape d S) where
   sum_z : (k l n c f i : ℤ) → k *ℤ c +ℤ l *ℤ f +ℤ n *ℤ i ≡ k *ℤ c +ℤ (l *ℤ f +ℤ n *ℤ i)
   sum_z k l n c f i = omega (arith, linear)
 
-  flat_sum : (k l n c f i : ℤ) → c ≡ pos 0 → f ≡ pos 0 → n ≡ pos 0 → k *ℤ c +ℤ (l *ℤ f +ℤ n *ℤ i) ≡ pos 0
-  flat_sum k l n c f i p q r = let p' = ap (λ t. k *ℤ t) p in let q' = ap (λ t. l *ℤ t) q in let r' = ap (λ t. t *ℤ i) r in omega (arith, linear, simp ring at p', simp ring at q', simp ring at r')
-
   -- a sum of rows is a member
   pub sum_member : (k : Vector) → HasDimension d k → Members d S (base_sum (stair_base S) k)
   sum_member k q = (
@@ -32,7 +30,8 @@ module _ (d : ℕ) (S : Stairs) (h : HasStairShape d S) where
   )
 
   flat_last : (k l n c f i z : ℤ) → c ≡ pos 0 → f ≡ pos 0 → i ≡ pos 1 → z ≡ pos 0 → z ≡ k *ℤ c +ℤ l *ℤ f +ℤ n *ℤ i → n ≡ pos 0
-  flat_last k l n c f i z p q r s e = let p' = ap (λ t. k *ℤ t) p in let q' = ap (λ t. l *ℤ t) q in let r' = ap (λ t. n *ℤ t) r in omega (arith, linear, s, e, simp ring at p', simp ring at q', simp ring at r')
+  flat_last k l n c f i z p q r s e = let p' = ap (λ t. k *ℤ t) p in let q' = ap (λ t. l *ℤ t) q in let r' = ap (λ t. n *ℤ t) r in
+      omega (arith, linear, s, e, simp ring at p', simp ring at q', simp ring at r')
 
   -- a member is a sum of rows
   pub member_sum : (v : Vector) → Members d S v → (k : Vector) × HasDimension d k × (base_sum (stair_base S) k ≡ v)

@@ -7,7 +7,8 @@ use Rattle.net_components.specs.PartGraphs.{AreWritten}
 
 module _ (K : ℕ → Type 0) (W : Arc → Arc → Type 0) where
   -- what holds of the edges that are written holds, by what each is written for
-  pub written_all : (P Q : Arc → Type 0) → ((e f : Arc) → P e → W e f → Q f) → (es fs : List Arc) → AreWritten K W es fs → AllByRecursion P es → AllByRecursion Q fs
+  pub written_all : (P Q : Arc → Type 0) → ((e f : Arc) → P e → W e f → Q f) → (es fs : List Arc) → AreWritten K W es fs → AllByRecursion P es
+      → AllByRecursion Q fs
   written_all P Q one [] [] w h = tt
   written_all P Q one [] (f ∷ fs) w h = elim w [ ]
   written_all P Q one (e ∷ es) [] w h = written_all P Q one es [] w.1 h.1
@@ -68,7 +69,8 @@ module _ (K : ℕ → Type 0) (W : Arc → Arc → Type 0) where
   put_last (d ∷ es) (g ∷ fs) e f (inr h) k w = inr (h.0, h.1, put_last es fs e f h.2 k w)
 
 -- by another way of writing that follows
-pub written_as : (K : ℕ → Type 0) (V W : Arc → Arc → Type 0) → ((e f : Arc) → K e.from → V e f → W e f) → (es fs : List Arc) → AreWritten K V es fs → AreWritten K W es fs
+pub written_as : (K : ℕ → Type 0) (V W : Arc → Arc → Type 0) → ((e f : Arc) → K e.from → V e f → W e f) → (es fs : List Arc) → AreWritten K V es fs
+    → AreWritten K W es fs
 written_as K V W g [] [] h = tt
 written_as K V W g [] (f ∷ fs) h = absurd h
 written_as K V W g (e ∷ es) [] h = (h.0, written_as K V W g es [] h.1)
@@ -76,7 +78,8 @@ written_as K V W g (e ∷ es) (f ∷ fs) (inl h) = inl (h.0, written_as K V W g 
 written_as K V W g (e ∷ es) (f ∷ fs) (inr h) = inr (h.0, g e f h.0 h.1, written_as K V W g es fs h.2)
 
 -- where an edge is written in one way, one list is written
-pub written_once : (K : ℕ → Type 0) (V W : Arc → Arc → Type 0) → ((e f g : Arc) → K e.from → V e f → W e g → f ≡ g) → (es fs gs : List Arc) → AreWritten K V es fs → AreWritten K W es gs → fs ≡ gs
+pub written_once : (K : ℕ → Type 0) (V W : Arc → Arc → Type 0) → ((e f g : Arc) → K e.from → V e f → W e g → f ≡ g) → (es fs gs : List Arc)
+    → AreWritten K V es fs → AreWritten K W es gs → fs ≡ gs
 written_once K V W once [] [] [] h k = refl
 written_once K V W once [] (f ∷ fs) gs h k = absurd h
 written_once K V W once [] [] (g ∷ gs) h k = absurd k

@@ -1,5 +1,5 @@
 -- Edges within the limit, one more, and the first that is not.
-use Rattle.std.proofs.Common.{◌≡◌, inl, inr, ℕ, suc, ◌<◌, List, [], ◌∷◌, ◌++◌, length, take, get_or, Result, Ok, Err, IfErr, sym, ap, subst, ◌∙◌, arith}
+use Rattle.std.proofs.Common.{◌≡◌, inl, inr, ℕ, suc, ◌<◌, List, [], ◌∷◌, ◌++◌, length, take, get_or, sym, ap, subst, ◌∙◌}
 use Rattle.std.specs.Prelude.{drop}
 use Rattle.std.proofs.lemmas.List.Elements.{Contains-append_cases}
 use Rattle.integers.specs.Vectors.{Vector, IsWithin}
@@ -14,7 +14,8 @@ use Rattle.net_components.specs.declared.fault.PartFault.TheVariants.{LowRank, W
 use Rattle.net_components.proofs.ListPlaces.{split_at}
 
 -- one edge more
-pub narrow_more : (G : Graph) (a : ℕ) (es : List Arc) (e : Arc) → AreNarrow G a es → (InComponent G a e.from → (k : Vector) × IsShiftIn G a e k × IsWithin 500 k) → AreNarrow G a (es ++ e ∷ [])
+pub narrow_more : (G : Graph) (a : ℕ) (es : List Arc) (e : Arc) → AreNarrow G a es
+    → (InComponent G a e.from → (k : Vector) × IsShiftIn G a e k × IsWithin 500 k) → AreNarrow G a (es ++ e ∷ [])
 narrow_more G a es e h k f i t = elim (Contains-append_cases es (e ∷ []) f i) [
   | inl j ↦ h f j t
   | inr j ↦ by f (is_in (e ∷ []) f j) t
@@ -25,7 +26,8 @@ narrow_more G a es e h k f i t = elim (Contains-append_cases es (e ∷ []) f i) 
     by f (inr n) t = elim n [ ]
 
 -- why the edges are not written
-pub wide_fault : (G : Graph) (c : Component) (es : List Arc) → es ≡ G.edges → (i : ℕ) (e : Arc) → i < length es → get_or es i e ≡ e → AreNarrow G c.root (take i es)
+pub wide_fault : (G : Graph) (c : Component) (es : List Arc) → es ≡ G.edges → (i : ℕ) (e : Arc) → i < length es → get_or es i e ≡ e
+    → AreNarrow G c.root (take i es)
     → (f : PartFault) → IsWideEdge G c e f → IsWideFault G c f
 wide_fault G c es same i e l at h (LowRank u v) k = k
 wide_fault G c es same i e l at h (WideShift u v s p value) k = record {

@@ -1,9 +1,9 @@
 -- Coefficients in the rows of a cell: they are one, and their sums are flat.
-use Rattle.std.proofs.Common.{◌≡◌, ◌≢◌, ◌⊎◌, inl, inr, ℕ, zero, suc, ◌≤◌, ℤ, pos, negsuc, ◌+ℤ◌, ◌*ℤ◌, refl, sym, subst, ◌∙◌, arith}
+use Rattle.std.proofs.Common.{◌≡◌, ◌≢◌, ◌⊎◌, inl, inr, ℕ, zero, suc, ◌≤◌, ℤ, pos, negsuc, refl, sym, subst, ◌∙◌, arith}
 use Rattle.std.specs.Prelude.{unsigned_abs}
 use Rattle.integers.specs.Bases.{Base, base_sum}
 use Rattle.integers.specs.Vectors.{Vector, up_vector, HasDimension}
-use Rattle.integers.proofs.numbers.Ring.{ring, linear}
+use Rattle.integers.proofs.vectors.BaseSums.{flat_sum}
 use Rattle.integers.proofs.vectors.Cramer.{coordinates_unique}
 use Rattle.sublattice.specs.Sublattices.{determinant, index_of, AreFlat}
 use Rattle.sublattice.proofs.CallerLemmas.{any_last}
@@ -16,23 +16,18 @@ Once b d = determinant d b ≢ pos 0 → (k l : Vector) → HasDimension d k →
 -- in dimension 2
 flat_once : (b : Base) → Once b 2
 flat_once b n k l f g e =
-    coordinates_unique b.first b.second up_vector n k l (any_last b.first b.second up_vector b.third k (f refl) ∙ e ∙ any_last b.first b.second b.third up_vector l (g refl))
+    coordinates_unique b.first b.second up_vector n k l (any_last b.first b.second up_vector b.third k (f refl) ∙ e
+    ∙ any_last b.first b.second b.third up_vector l (g refl))
 
 -- in dimension 3
 full_once : (b : Base) → Once b 3
 full_once b n k l f g e = coordinates_unique b.first b.second b.third n k l e
 
 -- in both
-pub coefficients_once : (d : ℕ) (b : Base) → (d ≡ 2) ⊎ (d ≡ 3) → IsCell d b → (k l : Vector) → HasDimension d k → HasDimension d l → base_sum b k ≡ base_sum b l → k ≡ l
+pub coefficients_once : (d : ℕ) (b : Base) → (d ≡ 2) ⊎ (d ≡ 3) → IsCell d b → (k l : Vector) → HasDimension d k → HasDimension d l
+    → base_sum b k ≡ base_sum b l → k ≡ l
 coefficients_once d b (inl e) c = (subst (Once b) (sym e) (flat_once b)) c.rank
 coefficients_once d b (inr e) c = (subst (Once b) (sym e) (full_once b)) c.rank
-
--- a sum of three, each with a factor 0
-flat_sum : (x y z a b c : ℤ) → a ≡ pos 0 → b ≡ pos 0 → z ≡ pos 0 → x *ℤ a +ℤ (y *ℤ b +ℤ z *ℤ c) ≡ pos 0
-flat_sum x y z a b c e f g = (λ i. x *ℤ e i +ℤ (y *ℤ f i +ℤ g i *ℤ c)) ∙ plain x y c
-  where
-    plain : (x y c : ℤ) → x *ℤ pos 0 +ℤ (y *ℤ pos 0 +ℤ pos 0 *ℤ c) ≡ pos 0
-    plain x y c = simp ring (omega (arith, linear))
 
 -- sums with coefficients of the dimension have it
 pub sum_flat : (d : ℕ) (b : Base) → AreFlat d b → (k : Vector) → HasDimension d k → HasDimension d (base_sum b k)

@@ -24,7 +24,8 @@ small_wide z h = fits_from_bound z most_shift (omega arith) h
 -- three more
 wide_row : (v : Vector) (zs : List ℤ) → IsWithin most_shift v → All IsWide zs → All IsWide (v.x ∷ v.y ∷ v.z ∷ zs)
 wide_row v zs s h =
-    All-cons IsWide v.x (v.y ∷ v.z ∷ zs) (small_wide v.x s.0) (All-cons IsWide v.y (v.z ∷ zs) (small_wide v.y s.1) (All-cons IsWide v.z zs (small_wide v.z s.2) h))
+    All-cons IsWide v.x (v.y ∷ v.z ∷ zs) (small_wide v.x s.0) (All-cons IsWide v.y (v.z ∷ zs) (small_wide v.y s.1)
+    (All-cons IsWide v.z zs (small_wide v.z s.2) h))
 
 -- two more
 wide_flat_row : (v : Vector) (zs : List ℤ) → IsWithin most_shift v → All IsWide zs → All IsWide (v.x ∷ v.y ∷ zs)
@@ -36,7 +37,8 @@ numbers_wide R w = by w.dimension
   where
     by : (R.dimension ≡ 2) ⊎ (R.dimension ≡ 3) → All IsWide (cell_numbers R)
     by (inl e) =
-        subst (All IsWide) (sym (numbers_flat R e)) (wide_flat_row R.rows.first (R.rows.second.x ∷ R.rows.second.y ∷ []) w.small.first (wide_flat_row R.rows.second [] w.small.second (All-nil IsWide)))
+        subst (All IsWide) (sym (numbers_flat R e)) (wide_flat_row R.rows.first (R.rows.second.x ∷ R.rows.second.y ∷ []) w.small.first
+        (wide_flat_row R.rows.second [] w.small.second (All-nil IsWide)))
     by (inr e) =
         let z = wide_row R.rows.third [] w.small.third (All-nil IsWide) in
         let y = wide_row R.rows.second (R.rows.third.x ∷ R.rows.third.y ∷ R.rows.third.z ∷ []) w.small.second z in
@@ -80,7 +82,8 @@ space_written a b c s = record {
 }
 
 -- nine numbers are those of the cell of their rows
-pub space_of : (zs : List ℤ) (a b c : Vector) → a ≡ row_in zs 0 → b ≡ row_in zs 3 → c ≡ row_in zs 6 → length zs ≡ 9 → (R : CellView) → R ≡ cell_view 3 a b c → AreSmall a b c
+pub space_of : (zs : List ℤ) (a b c : Vector) → a ≡ row_in zs 0 → b ≡ row_in zs 3 → c ≡ row_in zs 6 → length zs ≡ 9 → (R : CellView) → R ≡ cell_view 3 a b c
+    → AreSmall a b c
     → AreNumbersOf zs R
 space_of zs a b c ea eb ec l R e s = subst (AreNumbersOf zs) (sym e) (record {
   written = space_written a b c s;

@@ -1,5 +1,6 @@
 -- The cell that is read from a word is the one that it spells.
-use Rattle.std.proofs.Common.{◌≡◌, ◌⊎◌, inl, inr, ℕ, suc, ◌<◌, ◌≤◌, ◌^◌, ◌==◌, ◌&&◌, Bool, true, false, cond, not, nat_lt, ℤ, pos, negsuc, neg_ℤ, List, [], ◌∷◌, ◌++◌, length, map, Option, Some, None, refl, sym, ap, subst, ◌∙◌, arith}
+use Rattle.std.proofs.Common.{◌≡◌, ◌⊎◌, inl, inr, ℕ, suc, ◌<◌, ◌≤◌, ◌^◌, ◌==◌, ◌&&◌, Bool, true, false, cond, not, nat_lt, ℤ, pos, negsuc, neg_ℤ, List, [], ◌∷◌}
+use Rattle.std.proofs.Common.{◌++◌, length, map, Option, Some, None, refl, sym, ap, subst, ◌∙◌, arith}
 use Rattle.std.specs.Prelude.{unsigned_abs, unwrap_or, IfSome}
 use Rattle.std.specs.List.{list_all}
 use Rattle.std.specs.Fmt.{decimal, signed_decimal}
@@ -23,7 +24,8 @@ use Rattle.net_cover.proofs.CellNumbers.{numbers_flat, numbers_space, small_wide
 piece_first : (ds rest : List ℕ) → HasNo comma ds → pieces_of (ds ++ comma ∷ rest) ≡ ds ∷ pieces_of rest
 piece_first [] rest h = refl
 piece_first (b ∷ ds) rest h =
-    ap (λ (t : Bool). cond t ([] ∷ pieces_of (ds ++ comma ∷ rest)) (with_byte b (pieces_of (ds ++ comma ∷ rest)))) h.0 ∙ ap (with_byte b) (piece_first ds rest h.1)
+    ap (λ (t : Bool). cond t ([] ∷ pieces_of (ds ++ comma ∷ rest)) (with_byte b (pieces_of (ds ++ comma ∷ rest)))) h.0
+    ∙ ap (with_byte b) (piece_first ds rest h.1)
 
 -- a piece without commas alone
 piece_alone : (ds : List ℕ) → HasNo comma ds → pieces_of ds ≡ ds ∷ []
@@ -42,7 +44,8 @@ digits_read n l = by (decimal n) (decimal_is_IsNumeral n l).0 (decimal_is_IsNume
     by : (ds : List ℕ) → IsNumeral 10 ds → digits_value 10 ds ≡ n → number_of ds ≡ pos n
     by [] i v = absurd (let h = i.0 in omega (arith, h))
     by (b ∷ ds) i v =
-        ap (λ (t : Bool). cond t (neg_ℤ (pos (digits_value 10 ds))) (pos (digits_value 10 (b ∷ ds)))) (digits_have_no 45 (omega arith) (b ∷ ds) i.1).0 ∙ ap pos v
+        ap (λ (t : Bool). cond t (neg_ℤ (pos (digits_value 10 ds))) (pos (digits_value 10 (b ∷ ds)))) (digits_have_no 45 (omega arith) (b ∷ ds) i.1).0
+        ∙ ap pos v
 
 -- so is each small number
 number_read : (z : ℤ) → unsigned_abs z ≤ most_shift → number_of (signed_decimal z) ≡ z
@@ -108,7 +111,8 @@ cell_again R w = by w.dimension
     by : (R.dimension ≡ 2) ⊎ (R.dimension ≡ 3) → cell_with (cell_numbers R) ≡ R
     by (inl e) =
         ap cell_with (numbers_flat R e)
-        ∙ (λ i. cell_view (back e i) (vector R.rows.first.x R.rows.first.y (back (w.first e) i)) (vector R.rows.second.x R.rows.second.y (back (w.second e) i)) (back (w.third e) i))
+        ∙ (λ i. cell_view (back e i) (vector R.rows.first.x R.rows.first.y (back (w.first e) i)) (vector R.rows.second.x R.rows.second.y (back (w.second e) i))
+        (back (w.third e) i))
     by (inr e) = ap cell_with (numbers_space R e) ∙ (λ i. cell_view (back e i) R.rows.first R.rows.second R.rows.third)
 
 -- a cell that a word spells passes the test
@@ -122,7 +126,8 @@ spelled_read word R s =
     let zs = map number_of (pieces_of word) in
     let numbers : zs ≡ cell_numbers R = ap (λ (bytes : List ℕ). map number_of (pieces_of bytes)) s.text ∙ list_read (cell_numbers R) small.1 small.0 in
     let same : cell_with zs ≡ R = ap cell_with numbers ∙ cell_again R s.written in
-    cond-true (is_spelled word (cell_with zs)) (Some (cell_with zs)) None (subst (λ (C : CellView). is_spelled word C ≡ true) (sym same) (spelled_true word R s)) ∙ ap Some same
+    cond-true (is_spelled word (cell_with zs)) (Some (cell_with zs)) None
+    (subst (λ (C : CellView). is_spelled word C ≡ true) (sym same) (spelled_true word R s)) ∙ ap Some same
 
 -- the cell of small numbers is written
 written_with : (zs : List ℤ) → list_all is_small (cell_numbers (cell_with zs)) ≡ true → IsWritten (cell_with zs)

@@ -28,14 +28,18 @@ lift_turned d b S a i j e h = record {
     end = h.leads.start;
     dimension = opposite_dimension d e.shift h.leads.dimension;
     shift = vector_equal
-        (turned_back (remainder_with S i).x a.shift.x (remainder_with S j).x b.first.x b.second.x b.third.x e.shift.x e.shift.y e.shift.z (ap (λ (v : Vector). v.x) h.leads.shift))
-        (turned_back (remainder_with S i).y a.shift.y (remainder_with S j).y b.first.y b.second.y b.third.y e.shift.x e.shift.y e.shift.z (ap (λ (v : Vector). v.y) h.leads.shift))
-        (turned_back (remainder_with S i).z a.shift.z (remainder_with S j).z b.first.z b.second.z b.third.z e.shift.x e.shift.y e.shift.z (ap (λ (v : Vector). v.z) h.leads.shift));
+        (turned_back (remainder_with S i).x a.shift.x (remainder_with S j).x b.first.x b.second.x b.third.x e.shift.x e.shift.y e.shift.z
+        (ap (λ (v : Vector). v.x) h.leads.shift))
+        (turned_back (remainder_with S i).y a.shift.y (remainder_with S j).y b.first.y b.second.y b.third.y e.shift.x e.shift.y e.shift.z
+        (ap (λ (v : Vector). v.y) h.leads.shift))
+        (turned_back (remainder_with S i).z a.shift.z (remainder_with S j).z b.first.z b.second.z b.third.z e.shift.x e.shift.y e.shift.z
+        (ap (λ (v : Vector). v.z) h.leads.shift));
   };
 }
 
 -- where a lift is a loop with shift 0, so is what it lifts
-pub lift_point : (d : ℕ) (b : Base) (S : Stairs) (a : Arc) (i : ℕ) (e : Arc) → 1 ≤ a.from → 1 ≤ a.to → IsLift d b S a i e → e.from ≡ e.to → e.shift ≡ zero_vector
+pub lift_point : (d : ℕ) (b : Base) (S : Stairs) (a : Arc) (i : ℕ) (e : Arc) → 1 ≤ a.from → 1 ≤ a.to → IsLift d b S a i e → e.from ≡ e.to
+    → e.shift ≡ zero_vector
     → (a.from ≡ a.to) × (a.shift ≡ zero_vector)
 lift_point d b S a i e u v l same none =
     let t = l.1 in
@@ -79,7 +83,8 @@ module _ (G : Graph) (b : Base) (C : Graph) (g : IsGraph G) (h : IsCover G b C) 
   arc_lifts e m = elim (arc_by_edge C e m) [
     | inl k ↦ given_lifts G b h.lattice e ((h.edges e).0 k)
     | inr k ↦
-        subst (IsLifted G b h.lattice) (reverse_twice e) (lifted_turned G b h.lattice (reverse_of e) (given_lifts G b h.lattice (reverse_of e) ((h.edges (reverse_of e)).0 k)))
+        subst (IsLifted G b h.lattice) (reverse_twice e) (lifted_turned G b h.lattice (reverse_of e)
+        (given_lifts G b h.lattice (reverse_of e) ((h.edges (reverse_of e)).0 k)))
   ]
 
   -- the lift of an edge is an arc of the cover

@@ -87,7 +87,8 @@ module _ (G : Graph) (b : Base) (C : Graph) (g : IsGraph G) (c : IsCell G.dimens
   some_back x v =
       let p = number_found n G.vertices x.over v.over.0 (subst (λ (t : ℕ). x.over ≤ t) h.vertices v.over.1) in
       let r = remainder_with S p.1 in
-      let flat = plus_dimension G.dimension r (base_sum b x.cell) (remainder_flat G.dimension b S h.is_lattice p.1 p.4) (sum_flat G.dimension b c.flat x.cell (flat_back x.cell v.cell)) in
+      let flat = plus_dimension G.dimension r (base_sum b x.cell) (remainder_flat G.dimension b S h.is_lattice p.1 p.4)
+      (sum_flat G.dimension b c.flat x.cell (flat_back x.cell v.cell)) in
       (vertex p.0 (plus r (base_sum b x.cell)), record { over = (p.2, p.3); cell = flat }, record { i = p.1; below = p.4; over = sym p.5; cell = refl })
 
   -- and over one alone
@@ -142,9 +143,12 @@ module _ (G : Graph) (b : Base) (C : Graph) (g : IsGraph G) (c : IsCell G.dimens
       ap (λ (m : ℕ). plus (remainder_with S m) a.below.shift) (sym f.1) ∙ e.leads.shift
       ∙ (λ m. plus (remainder_with S (o.1 m)) (base_sum_minus b y.cell x.cell m)) in
       let shift : a.below.shift ≡ minus v.cell w.cell =
-      vector_equal (across r.x q.x k.x l.x w.cell.x v.cell.x a.below.shift.x (ap (λ (u : Vector). u.x) s.cell) (ap (λ (u : Vector). u.x) t.cell) (ap (λ (u : Vector). u.x) lead))
-      (across r.y q.y k.y l.y w.cell.y v.cell.y a.below.shift.y (ap (λ (u : Vector). u.y) s.cell) (ap (λ (u : Vector). u.y) t.cell) (ap (λ (u : Vector). u.y) lead))
-      (across r.z q.z k.z l.z w.cell.z v.cell.z a.below.shift.z (ap (λ (u : Vector). u.z) s.cell) (ap (λ (u : Vector). u.z) t.cell) (ap (λ (u : Vector). u.z) lead)) in
+      vector_equal (across r.x q.x k.x l.x w.cell.x v.cell.x a.below.shift.x (ap (λ (u : Vector). u.x) s.cell) (ap (λ (u : Vector). u.x) t.cell)
+      (ap (λ (u : Vector). u.x) lead))
+      (across r.y q.y k.y l.y w.cell.y v.cell.y a.below.shift.y (ap (λ (u : Vector). u.y) s.cell) (ap (λ (u : Vector). u.y) t.cell)
+      (ap (λ (u : Vector). u.y) lead))
+      (across r.z q.z k.z l.z w.cell.z v.cell.z a.below.shift.z (ap (λ (u : Vector). u.z) s.cell) (ap (λ (u : Vector). u.z) t.cell)
+      (ap (λ (u : Vector). u.z) lead)) in
       subst (IsArc G) (λ m. arc (f.0 m) (o.0 m) (shift m)) a.is_arc
 
   -- what is further by as much in both lies over
@@ -164,7 +168,8 @@ module _ (G : Graph) (b : Base) (C : Graph) (g : IsGraph G) (c : IsCell G.dimens
   pub cover_iso : PairedIso G C Over
   cover_iso =
       paired_iso G C Over (sym h.dimension) (record { some = some_there; one = one_there; joins = joins_there })
-      (record { some = some_back; one = one_back; joins = λ x y w v vx vy vw vv s t j. joins_back x y w v vx vy vw vv s t j }) (index_of G.dimension b) undo.rows
+      (record { some = some_back; one = one_back; joins = λ x y w v vx vy vw vv s t j. joins_back x y w v vx vy vw vv s t j })
+      (index_of G.dimension b) undo.rows
       (record {
         positive = index_positive G.dimension b c;
         flat = λ k f. flat_there (base_sum undo.rows k) (undo.dimension k f);

@@ -73,11 +73,18 @@ module _ (G : Graph) (b : Base) (S : Stairs) (ls fs : List Arc) (g : IsGraph G) 
       let m = q.2.0 in
       let i = q.1 in
       let place : i < n = q.3.1.1.leads.start in
-      let l : m * n + i < length G.edges * n = let r = mul-add-lt m n i (length G.edges) q.2.1 place in let s : n * length G.edges ≡ length G.edges * n = omega arith in omega (arith, r, s) in
+      let l : m * n + i < length G.edges * n = let r = mul-add-lt m n i (length G.edges) q.2.1 place in let s : n * length G.edges ≡ length G.edges * n =
+      omega arith in omega (arith, r, s) in
       let is : edge_at G.edges m ≡ q.0 = get_or_default G.edges m (arc 0 0 zero_vector) q.0 q.2.1 ∙ q.2.2 in
-      let at : IsGivenAt G.dimension b S q.0 i (edge_at ls (m * n + i)) = subst (λ (x : Arc). IsGivenAt G.dimension b S x i (edge_at ls (m * n + i))) is (given_at G.dimension b S G.edges (length G.edges * n) ls m i a place l) in
-      let inside : m * n + i < length ls = subst (λ (x : ℕ). m * n + i < x) (sym a.length_is) l in
-      (m * n + i, inside, get_or_default ls (m * n + i) e (arc 0 0 zero_vector) inside ∙ given_once G.dimension b S g.dimension c h q.0 i (edge_at ls (m * n + i)) e at q.3)
+      let at : IsGivenAt G.dimension b S q.0 i (edge_at ls (m * n + i)) =
+      subst (λ (x : Arc). IsGivenAt G.dimension b S x i (edge_at ls (m * n + i))) is
+      (given_at G.dimension b S G.edges (length G.edges * n) ls m i a place l) in
+      let inside : m * n + i < length ls = subst (λ (x : ℕ). m * n + i < x) (sym a.length_is) l in (
+        m * n + i,
+        inside,
+        get_or_default ls (m * n + i) e (arc 0 0 zero_vector) inside
+            ∙ given_once G.dimension b S g.dimension c h q.0 i (edge_at ls (m * n + i)) e at q.3,
+      )
 
   -- the edges of the graph are determined by their places
   edge_once : (k m : ℕ) → k < length G.edges → m < length G.edges → edge_at G.edges k ≡ edge_at G.edges m → k ≡ m
@@ -96,8 +103,10 @@ module _ (G : Graph) (b : Base) (S : Stairs) (ls fs : List Arc) (g : IsGraph G) 
       let es = is_edge (s / n) ms in
       let et = is_edge (t / n) mt in
       let eq : edge_at ls s ≡ edge_at ls t =
-      get_or_default ls s (arc 0 0 zero_vector) d (subst (λ (x : ℕ). s < x) (sym a.length_is) ls') ∙ same ∙ sym (get_or_default ls t (arc 0 0 zero_vector) d last) in
-      let r = given_tells G.dimension b S (edge_at G.edges (s / n)) (edge_at G.edges (t / n)) (s % n) (t % n) (edge_at ls t) (has_vertices (edge_at G.edges (s / n)) es)
+      get_or_default ls s (arc 0 0 zero_vector) d (subst (λ (x : ℕ). s < x) (sym a.length_is) ls') ∙ same
+      ∙ sym (get_or_default ls t (arc 0 0 zero_vector) d last) in
+      let r = given_tells G.dimension b S (edge_at G.edges (s / n)) (edge_at G.edges (t / n)) (s % n) (t % n) (edge_at ls t)
+      (has_vertices (edge_at G.edges (s / n)) es)
       (has_vertices (edge_at G.edges (t / n)) et) es.spelling et.spelling
       (subst (IsGivenAt G.dimension b S (edge_at G.edges (s / n)) (s % n)) eq (a.each s ls')) (a.each t lt) in
       let e = told_by_parts s t n some_remainder (edge_once (s / n) (t / n) ms mt r.0) r.1 in
@@ -129,7 +138,8 @@ module _ (G : Graph) (b : Base) (S : Stairs) (ls fs : List Arc) (g : IsGraph G) 
 
   -- the edges of the cover
   cover_edges : All (IsEdge C) fs
-  cover_edges k d l = given_edge (get_or fs k d) (listed_given (get_or fs k d) (same_members ls fs p (get_or fs k d) (k, l, get_or_default fs k (get_or fs k d) d l)))
+  cover_edges k d l = given_edge (get_or fs k d) (listed_given (get_or fs k d)
+      (same_members ls fs p (get_or fs k d) (k, l, get_or_default fs k (get_or fs k d) d l)))
 
   -- so this graph is the cover
   pub cover_made : IsCover G b C
@@ -138,7 +148,8 @@ module _ (G : Graph) (b : Base) (S : Stairs) (ls fs : List Arc) (g : IsGraph G) 
     is_lattice = h;
     is_graph = record {
       dimension = g.dimension;
-      vertices = let s = some_remainder in let q = mul-add-lt 0 n 0 G.vertices (let v = g.vertices in omega (arith, v)) (omega (arith, s)) in let r : n * G.vertices ≡ G.vertices * n = omega arith in omega (arith, q, r);
+      vertices = let s = some_remainder in let q = mul-add-lt 0 n 0 G.vertices (let v = g.vertices in omega (arith, v)) (omega (arith, s)) in
+          let r : n * G.vertices ≡ G.vertices * n = omega arith in omega (arith, q, r);
       edges = cover_edges;
       different = permuted_pairs ls fs p listed_apart;
     };

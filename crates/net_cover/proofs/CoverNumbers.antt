@@ -30,5 +30,12 @@ number_found n m x a b =
     let q = div_below (x - 1) n m (omega (arith, h)) (omega (arith, a, b)) in
     let r : (x - 1) % n < n = omega (arith, h) in
     let s : (x - 1) / n * n + (x - 1) % n ≡ x - 1 = omega (arith, h) in
-    let p : (x - 1) / n + 1 - 1 ≡ (x - 1) / n = omega arith in
-    ((x - 1) / n + 1, (x - 1) % n, omega arith, omega (arith, q), r, (λ t. p t * n + (x - 1) % n + 1) ∙ (let z : (x - 1) / n * n + (x - 1) % n + 1 ≡ x = omega (arith, s, a) in z))
+    let p : (x - 1) / n + 1 - 1 ≡ (x - 1) / n = omega arith in (
+      (x - 1) / n + 1,
+      (x - 1) % n,
+      omega arith,
+      omega (arith, q),
+      r,
+      (λ t. p t * n + (x - 1) % n + 1)
+          ∙ (let z : (x - 1) / n * n + (x - 1) % n + 1 ≡ x = omega (arith, s, a) in z),
+    )

@@ -22,79 +22,89 @@ use Rattle.net_cover.specs.declared.faults.CoverFault.TheVariants.{CellDimension
 index_same : (G : Graph) (R : CellView) → FitsEdges G R → index_in R ≡ index_of G.dimension R.rows
 index_same G R f = ap (λ (d : ℕ). index_of d R.rows) f.0.0.0
 
-module _ (G : Graph) (R : CellView) (g : IsGraph G) (small : IsSmall G) (S : Stairs) (h : IsLatticeOfCell G.dimension R.rows S) where
+-- edges and a number of vertices, as they are made from a graph and a cell that it fits
+pub record AreMade (G : Graph) (R : CellView) (S : Stairs) (es : List Arc) (index n : ℕ) : Type 0 where
+  pub is_graph : IsGraph G
+  pub fits : FitsEdges G R
+  pub lattice : IsLatticeOfCell G.dimension R.rows S
+  pub index_is : index ≡ index_of G.dimension R.rows
+  pub given : AreGiven G.dimension R.rows S G.edges (length G.edges * index) es
+  pub count_is : n ≡ G.vertices * index
+
+module _ {G : Graph} {R : CellView} {S : Stairs} {es : List Arc} {index n : ℕ} (made : AreMade G R S es index n) where
   -- the list is whole
-  whole : (es : List Arc) (index : ℕ) → index ≡ index_of G.dimension R.rows → AreGiven G.dimension R.rows S G.edges (length G.edges * index) es
-      → AreGiven G.dimension R.rows S G.edges (length G.edges * size_of S) es
-  whole es index e a = subst (λ (n : ℕ). AreGiven G.dimension R.rows S G.edges (length G.edges * n) es) (e ∙ sym h.lattice.size) a
+  whole : AreGiven G.dimension R.rows S G.edges (length G.edges * size_of S) es
+  whole = subst (λ (n : ℕ). AreGiven G.dimension R.rows S G.edges (length G.edges * n) es) (made.index_is ∙ sym made.lattice.lattice.size) made.given
 
-  module _ (es : List Arc) (index : ℕ) (ei : index ≡ index_of G.dimension R.rows) (a : AreGiven G.dimension R.rows S G.edges (length G.edges * index) es)
-      (n : ℕ) (en : n ≡ G.vertices * index) where
-    -- so many vertices
-    vertices_are : n ≡ G.vertices * size_of S
-    vertices_are = en ∙ ap (λ (m : ℕ). G.vertices * m) (ei ∙ sym h.lattice.size)
+  -- so many vertices
+  vertices_are : n ≡ G.vertices * size_of S
+  vertices_are = made.count_is ∙ ap (λ (m : ℕ). G.vertices * m) (made.index_is ∙ sym made.lattice.lattice.size)
 
-    -- the edges that are given, in any order, are a graph
-    pub given_graph : IsGraph (graph_with G.dimension n es)
-    given_graph = subst (λ (m : ℕ). IsGraph (graph_with G.dimension m es)) (sym vertices_are)
-        (cover_made G R.rows S es es g h.cell h.lattice (whole es index ei a) (IsPermutation-refl es)).is_graph
+  -- the edges that are given, in any order, are a graph
+  pub given_graph : IsGraph (graph_with G.dimension n es)
+  given_graph = subst (λ (m : ℕ). IsGraph (graph_with G.dimension m es)) (sym vertices_are)
+      (cover_made G R.rows S es es made.is_graph made.lattice.cell made.lattice.lattice whole (IsPermutation-refl es)).is_graph
 
-    -- within the limits
-    pub given_small : FitsEdges G R → IsSmall (graph_with G.dimension n es)
-    given_small f = record {
-      vertices = subst (λ (m : ℕ). m ≤ most_vertices) (ap (λ (m : ℕ). G.vertices * m) (index_same G R f ∙ sym ei) ∙ sym en) f.0.1;
-      edges = subst (λ (m : ℕ). m ≤ most_edges) (ap (λ (m : ℕ). length G.edges * m) (index_same G R f ∙ sym ei) ∙ sym a.length_is) f.1;
-      shifts = a.small;
-    }
+  same_index : index_in R ≡ index
+  same_index = index_same G R made.fits ∙ sym made.index_is
 
-    -- and in order they are the cover
-    pub given_cover : (H : Graph) → IsInOrder (graph_with G.dimension n es) H → IsCover G R.rows H
-    given_cover H o =
-        subst (IsCover G R.rows) (λ i. graph_with (back o.dimension i) ((sym vertices_are ∙ back o.vertices) i) H.edges)
-        (cover_made G R.rows S es H.edges g h.cell h.lattice (whole es index ei a) o.edges)
-      where
-        back : {x y : ℕ} → x ≡ y → y ≡ x
-        back e = sym e
+  -- within the limits
+  pub given_small : IsSmall (graph_with G.dimension n es)
+  given_small = record {
+    vertices = subst (λ (m : ℕ). m ≤ most_vertices) (ap (λ (m : ℕ). G.vertices * m) same_index ∙ sym made.count_is) made.fits.0.1;
+    edges = subst (λ (m : ℕ). m ≤ most_edges) (ap (λ (m : ℕ). length G.edges * m) same_index ∙ sym made.given.length_is) made.fits.1;
+    shifts = made.given.small;
+  }
 
-    -- the new shifts are within the limit
-    pub given_within_limit : AreShiftsWithin G R.rows
-    given_within_limit = record {
-      lattice = S;
-      is_lattice = h.lattice;
-      within = λ m j l k. given_within G.dimension R.rows S G.edges h.dimension h.cell h.lattice (length G.edges * size_of S) es m j (whole es index ei a) k
-          (below m j l k);
-    }
-      where
-        below : (m j : ℕ) → m < length G.edges → j < size_of S → m * size_of S + j < length G.edges * size_of S
-        below m j l k =
-            let n = size_of S in
-            let p = mul-add-lt m n j (length G.edges) l k in
-            let e : n * length G.edges ≡ length G.edges * n = omega arith in
-            omega (arith, p, e)
-
-  -- what reports the first wide part is the fault of the cell
-  pub wide_fault : FitsEdges G R → (f : CoverFault) → TellsFirst G.dimension R.rows S G.edges f → IsCoverFault G R f
-  wide_fault e (CoverShift y) t = (
-    e,
-    record {
-      lattice = S;
-      is_lattice = h.lattice;
-      m = t.0;
-      i = t.2.i;
-      edge = t.1;
-      place = t.2.place;
-      wide = t.2.wide;
-      before = λ n j o l. elim o [ inl k ↦ t.3 n j k l | inr k ↦ at n j k.0 k.1 ];
-    },
-  )
+  -- and in order they are the cover
+  pub given_cover : (H : Graph) → IsInOrder (graph_with G.dimension n es) H → IsCover G R.rows H
+  given_cover H o =
+      subst (IsCover G R.rows) (λ i. graph_with (back o.dimension i) ((sym vertices_are ∙ back o.vertices) i) H.edges)
+      (cover_made G R.rows S es H.edges made.is_graph made.lattice.cell made.lattice.lattice whole o.edges)
     where
-      at : (n j : ℕ) → n ≡ t.0 → j < t.2.i → LiftsWithin G.dimension R.rows S (edge_at G.edges n) j
-      at n j s l = subst (λ (m : ℕ). LiftsWithin G.dimension R.rows S (edge_at G.edges m) j) (sym s) (t.2.before j l)
-  wide_fault e NoMemory t = t
-  wide_fault e CellDimension t = absurd t
-  wide_fault e CellRank t = absurd t
-  wide_fault e (CoverVertices n) t = absurd t
-  wide_fault e (CoverEdges n) t = absurd t
+      back : {x y : ℕ} → x ≡ y → y ≡ x
+      back e = sym e
+
+  -- the new shifts are within the limit
+  pub given_within_limit : AreShiftsWithin G R.rows
+  given_within_limit = record {
+    lattice = S;
+    is_lattice = made.lattice.lattice;
+    within = λ m j l k. given_within G.dimension R.rows S G.edges made.lattice.dimension made.lattice.cell made.lattice.lattice
+        (length G.edges * size_of S) es m j whole k (below m j l k);
+  }
+    where
+      below : (m j : ℕ) → m < length G.edges → j < size_of S → m * size_of S + j < length G.edges * size_of S
+      below m j l k =
+          let n = size_of S in
+          let p = mul-add-lt m n j (length G.edges) l k in
+          let e : n * length G.edges ≡ length G.edges * n = omega arith in
+          omega (arith, p, e)
+
+-- what reports the first wide part is the fault of the cell
+pub wide_fault : (G : Graph) (R : CellView) (S : Stairs) → IsLatticeOfCell G.dimension R.rows S → FitsEdges G R → (f : CoverFault)
+    → TellsFirst G.dimension R.rows S G.edges f → IsCoverFault G R f
+wide_fault G R S h e (CoverShift y) t = (
+  e,
+  record {
+    lattice = S;
+    is_lattice = h.lattice;
+    m = t.0;
+    i = t.2.i;
+    edge = t.1;
+    place = t.2.place;
+    wide = t.2.wide;
+    before = λ n j o l. elim o [ inl k ↦ t.3 n j k l | inr k ↦ at n j k.0 k.1 ];
+  },
+)
+  where
+    at : (n j : ℕ) → n ≡ t.0 → j < t.2.i → LiftsWithin G.dimension R.rows S (edge_at G.edges n) j
+    at n j s l = subst (λ (m : ℕ). LiftsWithin G.dimension R.rows S (edge_at G.edges m) j) (sym s) (t.2.before j l)
+wide_fault G R S h e NoMemory t = t
+wide_fault G R S h e CellDimension t = absurd t
+wide_fault G R S h e CellRank t = absurd t
+wide_fault G R S h e (CoverVertices n) t = absurd t
+wide_fault G R S h e (CoverEdges n) t = absurd t
 
 -- a cell that fits a graph is one
 pub cell_fits : (G : Graph) (R : CellView) → FitsEdges G R → IsWritten R → IsCell G.dimension R.rows
@@ -109,7 +119,8 @@ index_few (suc n) i h l = let e : suc n * i ≡ i + n * i = omega arith in omega
 index_few zero i h l = absurd (omega (arith, h))
 
 -- the lattice of a cell that fits a graph
-pub cell_lattice : (G : Graph) (R : CellView) (d : ℕ) (S : Stairs) → IsGraph G → G.dimension ≡ d → FitsEdges G R → IsWritten R → IsSublattice d R.rows S → IsLatticeOfCell G.dimension R.rows S
+pub cell_lattice : (G : Graph) (R : CellView) (d : ℕ) (S : Stairs) → IsGraph G → G.dimension ≡ d → FitsEdges G R → IsWritten R → IsSublattice d R.rows S
+    → IsLatticeOfCell G.dimension R.rows S
 cell_lattice G R d S g e f w s = record {
   dimension = g.dimension;
   cell = cell_fits G R f w;

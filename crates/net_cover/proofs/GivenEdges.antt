@@ -41,7 +41,8 @@ pub record HasVertices (a : Arc) : Type 0 where
   pub to : 1 ≤ a.to
 
 -- a lift determines the arc and the remainder
-lift_tells : (d : ℕ) (b : Base) (S : Stairs) (a a' : Arc) (i i' j j' : ℕ) (l : Arc) → HasVertices a → HasVertices a' → IsLiftTo d b S a i j l → IsLiftTo d b S a' i' j' l
+lift_tells : (d : ℕ) (b : Base) (S : Stairs) (a a' : Arc) (i i' j j' : ℕ) (l : Arc) → HasVertices a → HasVertices a' → IsLiftTo d b S a i j l
+    → IsLiftTo d b S a' i' j' l
     → (a ≡ a') × (i ≡ i')
 lift_tells d b S a a' i i' j j' l v w s t =
     let n = size_of S in
@@ -49,7 +50,8 @@ lift_tells d b S a a' i i' j j' l v w s t =
     let o = number_once n a.to a'.to j j' v.to w.to s.leads.end t.leads.end (sym s.to ∙ t.to) in
     let k : a.shift ≡ a'.shift =
     plus_cancel (remainder_with S i) a.shift a'.shift
-    (s.leads.shift ∙ ap (λ (x : ℕ). plus (remainder_with S x) (base_sum b l.shift)) o.1 ∙ sym t.leads.shift ∙ ap (λ (x : ℕ). plus (remainder_with S x) a'.shift) (sym f.1)) in
+    (s.leads.shift ∙ ap (λ (x : ℕ). plus (remainder_with S x) (base_sum b l.shift)) o.1 ∙ sym t.leads.shift
+    ∙ ap (λ (x : ℕ). plus (remainder_with S x) a'.shift) (sym f.1)) in
     ((λ x. arc (f.0 x) (o.0 x) (k x)), f.1)
 
 -- what is given by edges in normal spelling determines the edge and the remainder
@@ -62,7 +64,8 @@ given_tells d b S a a' i i' e v w m n p q = by p.2.1 q.2.1
 
     other : p.0 ≡ reverse_of q.0 → ⊥
     other s =
-        let t = lift_tells d b S a (reverse_of a') i q.1.0 p.1.0 i' (reverse_of q.0) v (record { from = w.to; to = w.from }) (subst (IsLiftTo d b S a i p.1.0) s p.1.1)
+        let t = lift_tells d b S a (reverse_of a') i q.1.0 p.1.0 i' (reverse_of q.0) v (record { from = w.to; to = w.from })
+        (subst (IsLiftTo d b S a i p.1.0) s p.1.1)
         (lift_turned d b S a' i' q.1.0 q.0 q.1.1) in
         one_spelling a' n (subst IsNormalSpelling t.0 m)
 

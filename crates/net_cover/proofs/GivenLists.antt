@@ -1,5 +1,6 @@
 -- The list of the edges that edges give, at its places.
-use Rattle.std.proofs.Common.{◌≡◌, ◌⊎◌, inl, inr, ℕ, zero, suc, ◌+◌, ◌*◌, ◌/◌, ◌%◌, ◌<◌, ◌≤◌, List, [], ◌∷◌, ◌++◌, get_or, refl, sym, ap, subst, ◌∙◌, arith, length-append}
+use Rattle.std.proofs.Common.{◌≡◌, ◌⊎◌, inl, inr, ℕ, zero, suc, ◌+◌, ◌*◌, ◌/◌, ◌%◌, ◌<◌, ◌≤◌, List, [], ◌∷◌, ◌++◌, get_or, refl, sym, ap, subst, ◌∙◌, arith}
+use Rattle.std.proofs.Common.{length-append}
 use Rattle.std.proofs.Math.Decide.{dec_lt}
 use Prim.{Dec, yes, no}
 use Rattle.std.proofs.Math.Seq.{get_or-append_seam}
@@ -20,7 +21,12 @@ use Rattle.net_cover.proofs.NewShifts.{shift_once}
 
 -- the opposite of what is within a limit is
 opposite_within : (n : ℕ) (v : Vector) → IsWithin n (opposite v) → IsWithin n v
-opposite_within n v h = (subst (λ (x : ℕ). x ≤ n) (abs_negative v.x) h.0, subst (λ (x : ℕ). x ≤ n) (abs_negative v.y) h.1, subst (λ (x : ℕ). x ≤ n) (abs_negative v.z) h.2)
+opposite_within n v h = (
+  subst (λ (x : ℕ). x ≤ n) (abs_negative v.x) h.0,
+  subst (λ (x : ℕ). x ≤ n) (abs_negative v.y) h.1,
+  subst (λ (x : ℕ). x ≤ n)
+      (abs_negative v.z) h.2,
+)
 
 module _ (d : ℕ) (b : Base) (S : Stairs) (es : List Arc) where
   -- at first there are none
@@ -28,7 +34,8 @@ module _ (d : ℕ) (b : Base) (S : Stairs) (es : List Arc) where
   none_given = record { length_is = refl; each = λ t l. absurd (omega (arith, l)); small = λ k e l. absurd (omega (arith, l)) }
 
   -- one more
-  pub one_given : (count m i : ℕ) (given : List Arc) (e : Arc) → i < size_of S → count ≡ m * size_of S + i → AreGiven d b S es count given → IsGivenAt d b S (edge_at es m) i e
+  pub one_given : (count m i : ℕ) (given : List Arc) (e : Arc) → i < size_of S → count ≡ m * size_of S + i → AreGiven d b S es count given
+      → IsGivenAt d b S (edge_at es m) i e
       → IsWithin most_shift e.shift → AreGiven d b S es (count + 1) (given ++ e ∷ [])
   one_given count m i given e l is h g small = record {
     length_is = length-append given (e ∷ []) ∙ (let q = h.length_is in omega (arith, q));
@@ -51,12 +58,14 @@ module _ (d : ℕ) (b : Base) (S : Stairs) (es : List Arc) where
 
       at : (t : ℕ) → t < count + 1 → Dec (t < count) → IsGivenAt d b S (edge_at es (t / size_of S)) (t % size_of S) (edge_at (given ++ e ∷ []) t)
       at t k (yes a) =
-          subst (IsGivenAt d b S (edge_at es (t / size_of S)) (t % size_of S)) (sym (get_or_append_left given (e ∷ []) (arc 0 0 zero_vector) t (let q = h.length_is in omega (arith, a, q)))) (h.each t a)
+          subst (IsGivenAt d b S (edge_at es (t / size_of S)) (t % size_of S))
+          (sym (get_or_append_left given (e ∷ []) (arc 0 0 zero_vector) t (let q = h.length_is in omega (arith, a, q)))) (h.each t a)
       at t k (no a) =
           let s : count ≡ t = omega (arith, a, k) in
           let p : IsGivenAt d b S (edge_at es (count / size_of S)) (count % size_of S) (edge_at (given ++ e ∷ []) count) =
           subst (IsGivenAt d b S (edge_at es (count / size_of S)) (count % size_of S)) (sym last)
-          (subst (λ (x : ℕ). IsGivenAt d b S (edge_at es (count / size_of S)) x e) (sym rest) (subst (λ (x : ℕ). IsGivenAt d b S (edge_at es x) i e) (sym quotient) g)) in
+          (subst (λ (x : ℕ). IsGivenAt d b S (edge_at es (count / size_of S)) x e) (sym rest)
+          (subst (λ (x : ℕ). IsGivenAt d b S (edge_at es x) i e) (sym quotient) g)) in
           subst (λ (x : ℕ). IsGivenAt d b S (edge_at es (x / size_of S)) (x % size_of S) (edge_at (given ++ e ∷ []) x)) s p
 
   -- what the list has at the place of an edge and a remainder
@@ -64,10 +73,12 @@ module _ (d : ℕ) (b : Base) (S : Stairs) (es : List Arc) where
       → IsGivenAt d b S (edge_at es m) i (edge_at given (m * size_of S + i))
   given_at count given m i h l k =
       subst (λ (x : ℕ). IsGivenAt d b S (edge_at es m) x (edge_at given (m * size_of S + i))) (mod-mul-add m (size_of S) i l)
-      (subst (λ (x : ℕ). IsGivenAt d b S (edge_at es x) ((m * size_of S + i) % size_of S) (edge_at given (m * size_of S + i))) (div-mul-add m (size_of S) i l) (h.each (m * size_of S + i) k))
+      (subst (λ (x : ℕ). IsGivenAt d b S (edge_at es x) ((m * size_of S + i) % size_of S) (edge_at given (m * size_of S + i))) (div-mul-add m (size_of S) i l)
+      (h.each (m * size_of S + i) k))
 
   -- the shifts of the lifts of edges that gave theirs are within the limit
-  pub given_within : (d ≡ 2) ⊎ (d ≡ 3) → IsCell d b → IsSublattice d b S → (count : ℕ) (given : List Arc) (m i : ℕ) → AreGiven d b S es count given → i < size_of S
+  pub given_within : (d ≡ 2) ⊎ (d ≡ 3) → IsCell d b → IsSublattice d b S → (count : ℕ) (given : List Arc) (m i : ℕ) → AreGiven d b S es count given
+      → i < size_of S
       → m * size_of S + i < count → (k : Vector) → IsNewShift d b S (edge_at es m) i k → IsWithin most_shift k
   given_within dim c r count given m i h l below k s =
       let t = m * size_of S + i in

@@ -56,21 +56,22 @@ module _ (d : ℕ) (b : Base) (S : Stairs) (h : IsLatticeOfCell d b S) where
       shift = sym to ∙ sym (plus_minus (remainder_with S j) target) ∙ ap (plus (remainder_with S j)) sum;
     }
 
-    -- the edge with this shift, between the numbers of its ends, is the lift
-    pub lift_made : (n u v : ℕ) (s : Vector) → n ≡ index_of d b → u ≡ number_in_cover n a.from i → v ≡ number_in_cover n a.to j → s ≡ k → IsLift d b S a i (arc u v s)
-    unfolding leads
-    lift_made n u v s en eu ev es =
-        let c : n ≡ size_of S = en ∙ sym h.lattice.size in (
-          j,
-          record {
-            from = eu ∙ ap (λ (x : ℕ). number_in_cover x a.from i) c;
-            to = ev ∙ ap (λ (x : ℕ). number_in_cover x a.to j) c;
-            leads = subst (LeadsTo d b S a i j) (sym es) leads;
-          },
-        )
+  -- the edge with the new shift, between the numbers of its ends, is the lift
+  pub lift_made : (a : Arc) (i j : ℕ) (k : Vector) → LeadsTo d b S a i j k → (n u v : ℕ) (s : Vector) → n ≡ index_of d b
+      → u ≡ number_in_cover n a.from i → v ≡ number_in_cover n a.to j → s ≡ k → IsLift d b S a i (arc u v s)
+  lift_made a i j k leads n u v s en eu ev es =
+      let c : n ≡ size_of S = en ∙ sym h.lattice.size in (
+        j,
+        record {
+          from = eu ∙ ap (λ (x : ℕ). number_in_cover x a.from i) c;
+          to = ev ∙ ap (λ (x : ℕ). number_in_cover x a.to j) c;
+          leads = subst (LeadsTo d b S a i j) (sym es) leads;
+        },
+      )
 
 -- what reports the first wide part of the new shift reports it of the lift
-pub part_tells : (d : ℕ) (b : Base) (S : Stairs) (a : Arc) (i : ℕ) (k : Vector) → IsNewShift d b S a i k → (f : CoverFault) → TellsPart k f → TellsLift d b S a i f
+pub part_tells : (d : ℕ) (b : Base) (S : Stairs) (a : Arc) (i : ℕ) (k : Vector) → IsNewShift d b S a i k → (f : CoverFault) → TellsPart k f
+    → TellsLift d b S a i f
 part_tells d b S a i k s (CoverShift y) h = record { k = k; shift = s; j = h.0; wide = h.1 }
 part_tells d b S a i k s CellDimension h = absurd h
 part_tells d b S a i k s CellRank h = absurd h

@@ -21,7 +21,8 @@ one_cover G H K b h rise k rises =
     λ i. record { dimension = dimension i; vertices = vertices i; edges = edges i }
   where
     edges : H.edges ≡ K.edges
-    edges = same_rising Precedes (λ e. not_below_itself (arc_numbers e)) (λ e f g. below_transitive (arc_numbers e) (arc_numbers f) (arc_numbers g)) H.edges K.edges
+    edges = same_rising Precedes (λ e. not_below_itself (arc_numbers e))
+        (λ e f g. below_transitive (arc_numbers e) (arc_numbers f) (arc_numbers g)) H.edges K.edges
         (rising_from_pairs Precedes H.edges rise) (rising_from_pairs Precedes K.edges rises)
         (λ e. (
           (λ m. is_in K.edges e (cover_edge G H K b h k e (contains_from_in H.edges e m))),

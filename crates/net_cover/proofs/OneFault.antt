@@ -83,7 +83,8 @@ one_wide G b x y g c s t =
     let d = G.dimension in
     let e : t.lattice ≡ s.lattice = one_lattice d b t.lattice s.lattice g.dimension t.is_lattice s.is_lattice in
     first_wide_once d b G.edges g.dimension c s.lattice s.is_lattice s.m s.i t.m t.i x y s.place (subst (λ (S : Stairs). t.i < size_of S) e t.place) s.wide
-    (subst (λ (S : Stairs). IsWideLift d b S (edge_at G.edges t.m) t.i y) e t.wide) s.before (subst (λ (S : Stairs). AllBefore d b G.edges g.dimension c S t.m t.i) e t.before)
+    (subst (λ (S : Stairs). IsWideLift d b S (edge_at G.edges t.m) t.i y) e t.wide) s.before
+    (subst (λ (S : Stairs). AllBefore d b G.edges g.dimension c S t.m t.i) e t.before)
 
 -- a count past a limit is not within it
 past_limit : (count n most : ℕ) → count ≡ n → most < count → ¬ (n ≤ most)

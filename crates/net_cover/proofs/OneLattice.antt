@@ -18,7 +18,8 @@ last_pivot d S (inr e) h = ap (λ (n : ℕ). (slice_index_or (rows_of n S) 2 up_
 -- the staircase of the lattice of rows is one
 pub one_lattice : (d : ℕ) (b : Base) (S R : Stairs) → (d ≡ 2) ⊎ (d ≡ 3) → IsSublattice d b S → IsSublattice d b R → S ≡ R
 one_lattice d b S R dim s r =
-    let rows : rows_of d S ≡ rows_of d R = one_staircase (IsCombination d b) (IsCombination d b) d (rows_of d S) (rows_of d R) s.basis r.basis (λ w. ((λ m. m), (λ m. m))) in
+    let rows : rows_of d S ≡ rows_of d R = one_staircase (IsCombination d b) (IsCombination d b) d (rows_of d S) (rows_of d R) s.basis r.basis
+    (λ w. ((λ m. m), (λ m. m))) in
     let first = ap (λ (vs : List Vector). slice_index_or vs 0 zero_vector) rows in
     let second = ap (λ (vs : List Vector). slice_index_or vs 1 zero_vector) rows in
     let third = ap (λ (vs : List Vector). slice_index_or vs 2 up_vector) rows in
@@ -28,7 +29,8 @@ one_lattice d b S R dim s r =
 module _ (G H K : Graph) (b : Base) (h : IsCover G b H) (k : IsCover G b K) where
   -- two covers are made with one staircase
   cover_lattice : h.lattice ≡ k.lattice
-  cover_lattice = one_lattice G.dimension b h.lattice k.lattice (subst (λ (d : ℕ). (d ≡ 2) ⊎ (d ≡ 3)) h.dimension h.is_graph.dimension) h.is_lattice k.is_lattice
+  cover_lattice = one_lattice G.dimension b h.lattice k.lattice (subst (λ (d : ℕ). (d ≡ 2) ⊎ (d ≡ 3)) h.dimension h.is_graph.dimension) h.is_lattice
+      k.is_lattice
 
   -- so they have as many vertices
   pub cover_vertices : H.vertices ≡ K.vertices

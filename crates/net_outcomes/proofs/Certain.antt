@@ -18,7 +18,8 @@ use Rattle.archive_text.specs.Entries.{EntryView}
 use Rattle.net_archive.specs.Archives.{IsEntry}
 use Rattle.net_report.specs.declared.outcome.Outcome.{Outcome}
 use Rattle.net_report.specs.declared.outcome.OutcomeBody.{OutcomeBody}
-use Rattle.net_report.specs.declared.outcome.OutcomeBody.TheVariants.{Unsupported, Malformed, Refused, Checked, Located, Keyed, Identified, Lines, Faulty as FaultyItem}
+use Rattle.net_report.specs.declared.outcome.OutcomeBody.TheVariants.{Unsupported, Malformed, Refused, Checked, Located, Keyed, Identified, Lines}
+use Rattle.net_report.specs.declared.outcome.OutcomeBody.TheVariants.{Faulty as FaultyItem}
 use Rattle.net_report.specs.declared.command.Command.{Command}
 use Rattle.net_report.specs.declared.command.Command.TheVariants.{Components}
 use Rattle.net_outcomes.specs.Deciding.{AreOutcomes}
@@ -28,7 +29,8 @@ use Rattle.net_outcomes.proofs.KeysDecideNets.{keys_decide_blocks, keys_decide_e
 use Rattle.net_outcomes.proofs.OnlyPlacement.{is_graph_in}
 
 -- a refusal of a certain graph is none
-certain_not_refused : (command : Command) (raw : RawView) (size : _) (names : List (List ℕ)) (refusal : _) → IsGraph (graph_of raw) → IsRefusedAs command raw size names refusal
+certain_not_refused : (command : Command) (raw : RawView) (size : _) (names : List (List ℕ)) (refusal : _) → IsGraph (graph_of raw)
+    → IsRefusedAs command raw size names refusal
     → ((G : Graph) → IsInOrder (graph_of raw) G → IsCertain G) → ⊥
 certain_not_refused command raw size names refusal g h certain =
     let is_graph = is_graph_in raw h.graph g h.read.in_order in
@@ -36,7 +38,8 @@ certain_not_refused command raw size names refusal g h certain =
     subst (MayTell command) none h.may
 
 -- so what is reported of a certain graph accepts it, but where its components are asked for
-accepted_told : (entries : List EntryView) (command : Command) (raw : RawView) (told : OutcomeBody) → IsGraph (graph_of raw) → IsBodyOf entries command (Net raw) told → command ≢ Components
+accepted_told : (entries : List EntryView) (command : Command) (raw : RawView) (told : OutcomeBody) → IsGraph (graph_of raw)
+    → IsBodyOf entries command (Net raw) told → command ≢ Components
     → ((G : Graph) → IsInOrder (graph_of raw) G → IsCertain G) → is_accepted_body told ≡ true
 accepted_told entries command raw (Unsupported token) g h other certain = absurd h
 accepted_told entries command raw (Malformed fault) g h other certain = absurd h
@@ -51,10 +54,12 @@ accepted_told entries command raw (Lines size lines) g h other certain = absurd 
 
 -- each block that is a net is a graph
 abbrev pub AreGraphs : List BlockView → Type 0
-AreGraphs blocks = (i : ℕ) (block : BlockView) (raw : RawView) → i < length blocks → slice_index_or blocks i block ≡ block → block.body ≡ Net raw → IsGraph (graph_of raw)
+AreGraphs blocks = (i : ℕ) (block : BlockView) (raw : RawView) → i < length blocks → slice_index_or blocks i block ≡ block → block.body ≡ Net raw
+    → IsGraph (graph_of raw)
 
 -- outcomes of the blocks that were read, beside the entries of an archive, decide
-pub outcomes_decide : (entries : List EntryView) (command : Command) (blocks : List BlockView) (outcomes : List Outcome) → AreOutcomesFrom entries command 1 blocks outcomes → All IsEntry entries → AreGraphs blocks
+pub outcomes_decide : (entries : List EntryView) (command : Command) (blocks : List BlockView) (outcomes : List Outcome)
+    → AreOutcomesFrom entries command 1 blocks outcomes → All IsEntry entries → AreGraphs blocks
     → AreOutcomes command entries blocks outcomes
 outcomes_decide entries command blocks outcomes h good graphs = record {
   each = h;
@@ -62,7 +67,8 @@ outcomes_decide entries command blocks outcomes h good graphs = record {
   entry_keys = keys_decide_entries entries command blocks outcomes h good;
   archive_keys = keys_decide_archive entries good;
   certain = λ other i block outcome raw at is certain.
-      accepted_told entries command raw outcome.body (graphs i block raw at.inside at.block_is is) (told_at entries command blocks outcomes h i block outcome raw at is) other certain;
+      accepted_told entries command raw outcome.body (graphs i block raw at.inside at.block_is is)
+      (told_at entries command blocks outcomes h i block outcome raw at is) other certain;
 }
 
 -- the net of a body, or this one where it is none
@@ -88,4 +94,5 @@ pub graphs_read : (found : List Block) → All (λ (b : Block). IsReadBody b.bod
 graphs_read [] h i block raw l at is = absurd (omega (arith, l))
 graphs_read (b ∷ found) h zero block raw l at is =
     read_graph b.body raw (All-head (λ (b : Block). IsReadBody b.body) b found h) (ap (λ (x : BlockView). x.body) at ∙ is)
-graphs_read (b ∷ found) h (suc i) block raw l at is = graphs_read found (All-tail (λ (b : Block). IsReadBody b.body) b found h) i block raw (omega (arith, l)) at is
+graphs_read (b ∷ found) h (suc i) block raw l at is = graphs_read found (All-tail (λ (b : Block). IsReadBody b.body) b found h) i block raw
+    (omega (arith, l)) at is

@@ -20,7 +20,8 @@ module _ (names : List (List ℕ)) (G : Graph) (g : IsGraph G) (count : length n
   fault_line (LowRank u c) h n = named_vertex u h.least.vertex
   fault_line (WideShift u v s c value) h n =
       let e = arc u v s in
-      let i = contains_from_in G.edges e (subst (λ (es : List Arc). IsIn es e) (sym h.wide.edges) (append_right h.wide.before (e ∷ h.wide.after) e (inl refl))) in
+      let i = contains_from_in G.edges e (subst (λ (es : List Arc). IsIn es e) (sym h.wide.edges)
+      (append_right h.wide.before (e ∷ h.wide.after) e (inl refl))) in
       let edge = All-contains (IsEdge G) G.edges e g.edges i in
       (named_vertex u edge.from, named_vertex v edge.to)
   fault_line NoMemory h n = absurd (n refl)

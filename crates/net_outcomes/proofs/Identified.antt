@@ -19,8 +19,10 @@ use Rattle.net_outcomes.specs.Outcomes.{IsIdentifiedAs, IsKeyedAs}
 use Rattle.net_outcomes.proofs.OnlyPlacement.{only_placement}
 
 -- a net with its key and sequences is reported with the names that its key finds
-pub identified_as : (entries : List EntryView) (raw : RawView) (size : Size) (vertices : List (List ℕ)) (net : Net) (shells names : List (List ℕ)) → IsKeyedAs raw size net → vertices ≡ raw.names
-    → AreSequencesOf (net_view net).placed.graph shells → All IsEntry entries → names ≡ names_with (net_view net).key entries → IsIdentifiedAs entries raw size vertices net shells names
+pub identified_as : (entries : List EntryView) (raw : RawView) (size : Size) (vertices : List (List ℕ)) (net : Net) (shells names : List (List ℕ))
+    → IsKeyedAs raw size net → vertices ≡ raw.names
+    → AreSequencesOf (net_view net).placed.graph shells → All IsEntry entries → names ≡ names_with (net_view net).key entries
+    → IsIdentifiedAs entries raw size vertices net shells names
 identified_as entries raw size vertices net shells names h v s good found =
     let n = net_view net in
     let is_graph = subst IsGraph h.net_is h.keyed.is_graph in

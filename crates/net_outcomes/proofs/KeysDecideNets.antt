@@ -36,7 +36,8 @@ read_decide G H G' H' P o o' d =
     )
 
 -- what is reported of the block at place i
-body_at : (entries : List EntryView) (command : Command) (n i : ℕ) (bs : List BlockView) (os : List Outcome) (b : BlockView) (o : Outcome) → AreOutcomesFrom entries command n bs os
+body_at : (entries : List EntryView) (command : Command) (n i : ℕ) (bs : List BlockView) (os : List Outcome) (b : BlockView) (o : Outcome)
+    → AreOutcomesFrom entries command n bs os
     → i < length bs → slice_index_or bs i b ≡ b → slice_index_or os i o ≡ o → IsBodyOf entries command b.body o.body
 body_at entries command n i [] os b o h l e f = absurd (omega (arith, l))
 body_at entries command n i (c ∷ bs) [] b o h l e f = absurd h
@@ -45,7 +46,8 @@ body_at entries command n zero (c ∷ bs) (x ∷ os) b o h l e f =
 body_at entries command n (suc i) (c ∷ bs) (x ∷ os) b o h l e f = body_at entries command (n + 1) i bs os b o h.1 (omega (arith, l)) e f
 
 -- what is reported of the net at place i
-pub told_at : (entries : List EntryView) (command : Command) (bs : List BlockView) (os : List Outcome) → AreOutcomesFrom entries command 1 bs os → (i : ℕ) (b : BlockView) (o : Outcome) (raw : RawView)
+pub told_at : (entries : List EntryView) (command : Command) (bs : List BlockView) (os : List Outcome) → AreOutcomesFrom entries command 1 bs os
+    → (i : ℕ) (b : BlockView) (o : Outcome) (raw : RawView)
     → IsBlockAt bs os i b o → b.body ≡ Net raw → IsBodyOf entries command (Net raw) o.body
 told_at entries command bs os h i b o raw at is =
     subst (λ (x : BodyView). IsBodyOf entries command x o.body) is (body_at entries command 1 i bs os b o h at.inside at.block_is at.outcome_is)
@@ -64,7 +66,8 @@ some_is : {A : Type 0} (x y : A) → Some x ≡ Some y → x ≡ y
 some_is x y e = ap (λ o. unwrap_or o x) e
 
 -- a net with a key is reported only where the key is asked for
-keyed_told : (entries : List EntryView) (command : Command) (raw : RawView) (body : OutcomeBody) (xs : List ℤ) → IsBodyOf entries command (Net raw) body → key_told body ≡ Some xs → HasKeyedGraph raw xs
+keyed_told : (entries : List EntryView) (command : Command) (raw : RawView) (body : OutcomeBody) (xs : List ℤ) → IsBodyOf entries command (Net raw) body
+    → key_told body ≡ Some xs → HasKeyedGraph raw xs
 keyed_told entries Key raw (Keyed size net) xs h e = record {
   graph = h.graph;
   in_order = h.read.in_order;
@@ -95,8 +98,10 @@ module _ (entries : List EntryView) (command : Command) (bs : List BlockView) (o
   keys_decide_blocks i j raw raw' xs ys k l =
       let a = keyed_at i raw xs k in
       let b = keyed_at j raw' ys l in
-      let nets : (a.net.key ≡ b.net.key) ↔ Iso a.graph b.graph = subst (λ (H : Graph). (a.net.key ≡ b.net.key) ↔ Iso a.graph H) b.net_is (subst (λ (G : Graph). (a.net.key ≡ b.net.key) ↔ Iso G b.net.placed.graph) a.net_is (nets_decide a.net b.net a.keyed b.keyed)) in
-      let keys : (xs ≡ ys) ↔ Iso a.graph b.graph = subst (λ (y : List ℤ). (xs ≡ y) ↔ Iso a.graph b.graph) b.key (subst (λ (x : List ℤ). (x ≡ b.net.key) ↔ Iso a.graph b.graph) a.key nets) in
+      let nets : (a.net.key ≡ b.net.key) ↔ Iso a.graph b.graph = subst (λ (H : Graph). (a.net.key ≡ b.net.key) ↔ Iso a.graph H) b.net_is
+      (subst (λ (G : Graph). (a.net.key ≡ b.net.key) ↔ Iso G b.net.placed.graph) a.net_is (nets_decide a.net b.net a.keyed b.keyed)) in
+      let keys : (xs ≡ ys) ↔ Iso a.graph b.graph = subst (λ (y : List ℤ). (xs ≡ y) ↔ Iso a.graph b.graph) b.key
+      (subst (λ (x : List ℤ). (x ≡ b.net.key) ↔ Iso a.graph b.graph) a.key nets) in
       read_decide (graph_of raw) a.graph (graph_of raw') b.graph (xs ≡ ys) a.in_order b.in_order keys
 
   -- and those of a block and of an entry

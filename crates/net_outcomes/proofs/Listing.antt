@@ -17,7 +17,8 @@ use Rattle.net_outcomes.proofs.Certain.{graphs_read, outcomes_decide}
 use Rattle.net_report.specs.declared.command.Command.{Command}
 
 -- one more block and its outcome at the end
-outcomes_last : (entries : List EntryView) (command : Command) (n : ℕ) (bs : List BlockView) (os : List Outcome) (b : BlockView) (o : Outcome) → AreOutcomesFrom entries command n bs os → IsOutcomeOf entries command (n + length bs) b o
+outcomes_last : (entries : List EntryView) (command : Command) (n : ℕ) (bs : List BlockView) (os : List Outcome) (b : BlockView) (o : Outcome)
+    → AreOutcomesFrom entries command n bs os → IsOutcomeOf entries command (n + length bs) b o
     → AreOutcomesFrom entries command n (bs ++ b ∷ []) (os ++ o ∷ [])
 outcomes_last entries command n [] [] b o h k = (subst (λ m. IsOutcomeOf entries command m b o) (omega arith) k, tt)
 outcomes_last entries command n [] (x ∷ os) b o h k = absurd h
@@ -37,28 +38,34 @@ pub outcomes_none : (entries : List EntryView) (command : Command) (bs : List Bl
 outcomes_none entries command bs = record { outcomes = tt; number_is = refl; printable = All-nil IsPrintable }
 
 -- the outcome of the next block
-outcomes_more : (entries : List EntryView) (command : Command) (bs : List BlockView) (i number : ℕ) (os : List Outcome) (b : BlockView) (o : Outcome) → i < length bs → get_or bs i b ≡ b → AreOutcomesOn entries command bs i number os
+outcomes_more : (entries : List EntryView) (command : Command) (bs : List BlockView) (i number : ℕ) (os : List Outcome) (b : BlockView) (o : Outcome)
+    → i < length bs → get_or bs i b ≡ b → AreOutcomesOn entries command bs i number os
     → IsOutcomeOf entries command number b o → IsPrintable o → AreOutcomesOn entries command bs (i + 1) (number + 1) (os ++ o ∷ [])
 outcomes_more entries command bs i number os b o l is h k p =
-    let longer : take (i + 1) bs ≡ take i bs ++ b ∷ [] = ap (λ (n : ℕ). take n bs) (add-one i) ∙ take-suc bs i b l ∙ ap (λ (x : BlockView). take i bs ++ x ∷ []) is in
+    let longer : take (i + 1) bs ≡ take i bs ++ b ∷ [] = ap (λ (n : ℕ). take n bs) (add-one i) ∙ take-suc bs i b l
+    ∙ ap (λ (x : BlockView). take i bs ++ x ∷ []) is in
     let count : length (take i bs) ≡ i = grind (arith, common_steps) in
     let place : number ≡ 1 + length (take i bs) = let n = h.number_is in omega arith in
     record {
-      outcomes = subst (λ cs. AreOutcomesFrom entries command 1 cs (os ++ o ∷ [])) (sym longer) (outcomes_last entries command 1 (take i bs) os b o h.outcomes (subst (λ m. IsOutcomeOf entries command m b o) place k));
+      outcomes = subst (λ cs. AreOutcomesFrom entries command 1 cs (os ++ o ∷ [])) (sym longer)
+          (outcomes_last entries command 1 (take i bs) os b o h.outcomes (subst (λ m. IsOutcomeOf entries command m b o) place k));
       number_is = let n = h.number_is in omega arith;
       printable = All-append IsPrintable os (o ∷ []) h.printable (All-cons IsPrintable o [] p (All-nil IsPrintable));
     }
 
 -- the outcome of the next block of those that were read
-pub outcomes_next : (entries : List EntryView) (command : Command) (found : List Block) (i number : ℕ) (os : List Outcome) (block : Block) (o : Outcome) → i < length found → block ≡ get_or found i block
-    → AreOutcomesOn entries command (views found) i number os → IsOutcomeOf entries command number (block_view block) o → IsPrintable o → AreOutcomesOn entries command (views found) (i + 1) (number + 1) (os ++ o ∷ [])
+pub outcomes_next : (entries : List EntryView) (command : Command) (found : List Block) (i number : ℕ) (os : List Outcome) (block : Block) (o : Outcome)
+    → i < length found → block ≡ get_or found i block
+    → AreOutcomesOn entries command (views found) i number os → IsOutcomeOf entries command number (block_view block) o → IsPrintable o
+    → AreOutcomesOn entries command (views found) (i + 1) (number + 1) (os ++ o ∷ [])
 outcomes_next entries command found i number os block o l is h k p =
     let inside : i < length (views found) = subst (λ (n : ℕ). i < n) (sym (length-map found block_view)) l in
     let there = get_or-map block_view found i block (block_view block) l ∙ ap block_view (sym is) in
     outcomes_more entries command (views found) i number os (block_view block) o inside there h k p
 
 -- the blocks up to the next of those that were read
-pub next_taken : (found : List Block) (i : ℕ) (block : Block) → i < length found → block ≡ get_or found i block → take (i + 1) (views found) ≡ take i (views found) ++ block_view block ∷ []
+pub next_taken : (found : List Block) (i : ℕ) (block : Block) → i < length found → block ≡ get_or found i block
+    → take (i + 1) (views found) ≡ take i (views found) ++ block_view block ∷ []
 next_taken found i block l is =
     let bs = views found in
     let b = block_view block in
@@ -71,7 +78,8 @@ pub all_taken : (found : List Block) (i : ℕ) → length found ≤ i → take i
 all_taken found i l = take_all i (views found) (subst (λ (n : ℕ). n ≤ i) (sym (length-map found block_view)) l)
 
 -- the outcomes of all blocks that were read, beside the entries of an archive
-pub outcomes_whole : (entries : List EntryView) (command : Command) (found : List Block) (i number : ℕ) (os : List Outcome) → length found ≤ i → AreOutcomesOn entries command (views found) i number os
+pub outcomes_whole : (entries : List EntryView) (command : Command) (found : List Block) (i number : ℕ) (os : List Outcome) → length found ≤ i
+    → AreOutcomesOn entries command (views found) i number os
     → All IsEntry entries → All (λ (b : Block). IsReadBody b.body) found → AreOutcomes command entries (views found) os
 outcomes_whole entries command found i number os l h good read =
     let past : length (views found) ≤ i = subst (λ (n : ℕ). n ≤ i) (sym (length-map found block_view)) l in

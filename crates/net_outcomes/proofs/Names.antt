@@ -19,4 +19,5 @@ names_count ns us = length-map us (λ v. get_or ns (v - 1) [])
 pub names_at : (ns : List (List ℕ)) (us : List ℕ) (i : ℕ) (x : List ℕ) → i < length us → slice_get ns (get_or us i 0 - 1) ≡ Some x
     → names_of ns (take (i + 1) us) ≡ names_of ns (take i us) ++ x ∷ []
 names_at ns us i x l e =
-    names_more ns us i (get_or us i 0) l (sym (get_or_default us i 0 (get_or us i 0) l)) ∙ ap (λ y. names_of ns (take i us) ++ y ∷ []) (get_or_from_slice_get ns (get_or us i 0 - 1) x [] e)
+    names_more ns us i (get_or us i 0) l (sym (get_or_default us i 0 (get_or us i 0) l))
+    ∙ ap (λ y. names_of ns (take i us) ++ y ∷ []) (get_or_from_slice_get ns (get_or us i 0 - 1) x [] e)

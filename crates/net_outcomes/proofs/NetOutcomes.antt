@@ -48,7 +48,8 @@ refused_told entries command raw G refusal body g o t m e n =
 -- so is one that was made of a refusal
 pub refused_as : {E : Type 0} (command : Command) (raw : RawView) (G : Graph) (refusal : Refusal) (r : Result OutcomeBody E)
     → IsGraph (graph_of raw) → IsInOrder (graph_of raw) G → IsTrueOf G refusal → (refusal ≢ NoMemory → MayTell command refusal)
-    → IfOk r (λ body. body ≡ Refused (size_of raw) raw.names refusal) → IfOk r (λ body. refusal ≢ NoMemory) → IfOk r (λ body. (entries : List EntryView) → IsBodyOf entries command (Net raw) body)
+    → IfOk r (λ body. body ≡ Refused (size_of raw) raw.names refusal) → IfOk r (λ body. refusal ≢ NoMemory)
+    → IfOk r (λ body. (entries : List EntryView) → IsBodyOf entries command (Net raw) body)
 refused_as command raw G refusal (Ok body) g o t m e n = λ entries. refused_told entries command raw G refusal body g o t m e n
 refused_as command raw G refusal (Err d) g o t m e n = e
 

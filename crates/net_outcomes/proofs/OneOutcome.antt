@@ -41,7 +41,8 @@ use Rattle.net_report.specs.declared.command.Command.{Command}
 use Rattle.net_report.specs.declared.command.Command.TheVariants.{Check, Place, Key, Identify, Components}
 use Rattle.net_outcomes.specs.Deciding.{key_told}
 use Rattle.net_outcomes.specs.Laws.{OneReport}
-use Rattle.net_outcomes.specs.Outcomes.{AreAcceptedInParts, AreAllAccepted, AreOutcomesFrom, IsAcceptedInParts, IsBodyOf, IsCheckedAs, IsDividedAs, IsGraphOf, IsIdentifiedAs, IsKeyedAs, IsLocatedAs, IsOutcomeOf, IsRefusedAs, MayTell, is_accepted, is_accepted_body}
+use Rattle.net_outcomes.specs.Outcomes.{AreAcceptedInParts, AreAllAccepted, AreOutcomesFrom, IsAcceptedInParts, IsBodyOf, IsCheckedAs, IsDividedAs, IsGraphOf}
+use Rattle.net_outcomes.specs.Outcomes.{IsIdentifiedAs, IsKeyedAs, IsLocatedAs, IsOutcomeOf, IsRefusedAs, MayTell, is_accepted, is_accepted_body}
 
 -- the names of the isomorphic entries are one list
 one_list_of_names : (G : Graph) (es : List EntryView) (xs ys : List (List ℕ)) → AreNamesOf G es xs → AreNamesOf G es ys → xs ≡ ys
@@ -86,12 +87,14 @@ module _ (raw : RawView) where
   told : (command : Command) (refusal : Refusal) → MayTell command refusal → refusal ≢ NoMemory
   told command refusal may e = subst (MayTell command) e may
 
-  one_refused : (command : Command) (s t : Size) (ms ns : List (List ℕ)) (r q : Refusal) → IsRefusedAs command raw s ms r → IsRefusedAs command raw t ns q → SpeakAlike (Refused s ms r) (Refused t ns q)
+  one_refused : (command : Command) (s t : Size) (ms ns : List (List ℕ)) (r q : Refusal) → IsRefusedAs command raw s ms r → IsRefusedAs command raw t ns q
+      → SpeakAlike (Refused s ms r) (Refused t ns q)
   one_refused command s t ms ns r q a b =
       let graph = same_graph s t a.graph b.graph a.read b.read in
       let size = same_size s t a.graph b.graph a.read b.read in
       let names = a.names_are ∙ sym b.names_are in
-      let refusal = one_refusal a.graph r q a.read.is_graph a.is_true (subst (λ G. IsTrueOf G q) (sym graph) b.is_true) (told command r a.may) (told command q b.may) in
+      let refusal = one_refusal a.graph r q a.read.is_graph a.is_true (subst (λ G. IsTrueOf G q) (sym graph) b.is_true) (told command r a.may)
+      (told command q b.may) in
       record { text = λ i. size_text (size i) ++ refused_text (names i) (refusal i); accepted = refl; key = refl }
 
   -- a connected net is not refused as if it were not
@@ -126,7 +129,8 @@ module _ (raw : RawView) where
       told Place r b.may (placed_is_not_refused b.graph (placed_view p) r b.read.is_graph placed (place_of r b.may) b.is_true)
 
   -- nor one with a key
-  pub keyed_not_refused : (command : Command) (t : Size) (ns : List (List ℕ)) (n : KeyedNet) (r : Refusal) → IsInOrder (graph_of raw) n.placed.graph → IsKeyed n → ¬ IsRefusedAs command raw t ns r
+  pub keyed_not_refused : (command : Command) (t : Size) (ns : List (List ℕ)) (n : KeyedNet) (r : Refusal) → IsInOrder (graph_of raw) n.placed.graph
+      → IsKeyed n → ¬ IsRefusedAs command raw t ns r
   keyed_not_refused command t ns n r o k b =
       let e = one_in_order (graph_of raw) n.placed.graph b.graph o b.read.in_order in
       told command r b.may (certain_is_not_refused n.placed.graph r k.is_graph (keyed_is_certain n k) (subst (λ G. IsTrueOf G r) (sym e) b.is_true))
@@ -135,12 +139,14 @@ module _ (raw : RawView) where
   keyed_as_not_refused command s t ns n r a =
       keyed_not_refused command t ns (net_view n) r (subst (λ G. IsInOrder (graph_of raw) G) (sym a.net_is) a.read.in_order) a.keyed
 
-  one_located : (s t : Size) (ms ns : List (List ℕ)) (p q : AnyPlaced) → IsLocatedAs raw s ms p → IsLocatedAs raw t ns q → SpeakAlike (Located s ms p) (Located t ns q)
+  one_located : (s t : Size) (ms ns : List (List ℕ)) (p q : AnyPlaced) → IsLocatedAs raw s ms p → IsLocatedAs raw t ns q
+      → SpeakAlike (Located s ms p) (Located t ns q)
   one_located s t ms ns p q a b =
       let graph = same_graph s t a.graph b.graph a.read b.read in
       let size = same_size s t a.graph b.graph a.read b.read in
       let names = a.names_are ∙ sym b.names_are in
-      let placed = one_placed a.graph a.read.is_graph (placed_view p) (placed_view q) a.placed_as (subst (λ G. IsPlacedAs G (placed_view q)) (sym graph) b.placed_as) in
+      let placed = one_placed a.graph a.read.is_graph (placed_view p) (placed_view q) a.placed_as
+      (subst (λ G. IsPlacedAs G (placed_view q)) (sym graph) b.placed_as) in
       record { text = λ i. size_text (size i) ++ placement_text (names i) (placed i); accepted = refl; key = refl }
 
   same_net : (s t : Size) (m n : AnyNet) → IsKeyedAs raw s m → IsKeyedAs raw t n → TellAlike (net_view m) (net_view n)
@@ -152,7 +158,8 @@ module _ (raw : RawView) where
       let net = same_net s t m n a b in
       record { text = λ i. size_text (size i) ++ key_text (net.key i); accepted = refl; key = ap (λ k. Some k) net.key }
 
-  one_identified : (entries : List EntryView) (s t : Size) (us vs : List (List ℕ)) (m n : AnyNet) (xs ys ms ns : List (List ℕ)) → IsIdentifiedAs entries raw s us m xs ms → IsIdentifiedAs entries raw t vs n ys ns
+  one_identified : (entries : List EntryView) (s t : Size) (us vs : List (List ℕ)) (m n : AnyNet) (xs ys ms ns : List (List ℕ))
+      → IsIdentifiedAs entries raw s us m xs ms → IsIdentifiedAs entries raw t vs n ys ns
       → SpeakAlike (Identified s us m xs ms) (Identified t vs n ys ns)
   one_identified entries s t us vs m n xs ys ms ns a b =
       let graph = same_graph s t a.keyed.graph b.keyed.graph a.keyed.read b.keyed.read in
@@ -163,7 +170,8 @@ module _ (raw : RawView) where
       let names = one_list_of_names a.keyed.graph entries ms ns a.names_are (subst (λ G. AreNamesOf G entries ns) (sym graph) b.names_are) in
       record {
         text = λ i. size_text (size i) ++ ((placement_text (vertices i) (net.placed i)
-            ++ (sizes_text (net.cell i).vertices (length (net.cell i).edges) ++ bases_text (net.cell i).dimension (net.basis i) ++ edges_text (net.cell i).dimension (net.cell i).edges)
+            ++ (sizes_text (net.cell i).vertices (length (net.cell i).edges) ++ bases_text (net.cell i).dimension (net.basis i)
+            ++ edges_text (net.cell i).dimension (net.cell i).edges)
             ++ key_text (net.key i)) ++ sequences_text 1 (shells i) ++ found_names_text (names i));
         accepted = refl;
         key = ap (λ k. Some k) net.key;
@@ -182,8 +190,10 @@ module _ (raw : RawView) where
       record { text = λ i. size_text (size i) ++ told.1 i; accepted = refl; key = refl }
 
 -- what a command reports on a block is one
-pub one_body : (entries : List EntryView) (command : Command) (body : BodyView) (a b : OutcomeBody) → IsBodyOf entries command body a → IsBodyOf entries command body b → SpeakAlike a b
-one_body entries command (Other token) (Unsupported t) (Unsupported u) h k = record { text = λ i. unsupported_text ((h ∙ sym k) i); accepted = refl; key = refl }
+pub one_body : (entries : List EntryView) (command : Command) (body : BodyView) (a b : OutcomeBody) → IsBodyOf entries command body a
+    → IsBodyOf entries command body b → SpeakAlike a b
+one_body entries command (Other token) (Unsupported t) (Unsupported u) h k =
+    record { text = λ i. unsupported_text ((h ∙ sym k) i); accepted = refl; key = refl }
 one_body entries command (Other token) (Unsupported t) b h k = absurd k
 one_body entries command (Other token) a b h k = absurd h
 one_body entries command (Faulty fault) (Malformed f) (Malformed g) h k = record { text = λ i. fault_text ((h ∙ sym k) i); accepted = refl; key = refl }
@@ -197,7 +207,12 @@ one_body entries Identify (Net raw) (Refused t ns r) (Identified s us n xs ms) h
 one_body entries Components (Net raw) (Refused s ms r) b h k = absurd (none_of_components r h.may)
 one_body entries command (Net raw) (Refused s ms r) b h k = absurd k
 one_body entries Check (Net raw) (Checked s) (Refused t ns r) h k = absurd (checked_not_refused raw s t ns r h k)
-one_body entries Check (Net raw) (Checked s) (Checked t) h k = record { text = λ i. size_text (same_size raw s t h.graph k.graph h.read k.read i) ++ codes "connected\n"; accepted = refl; key = refl }
+one_body entries Check (Net raw) (Checked s) (Checked t) h k = record {
+  text = λ i. size_text (same_size raw s t h.graph k.graph h.read k.read i)
+      ++ codes "connected\n";
+  accepted = refl;
+  key = refl;
+}
 one_body entries Check (Net raw) (Checked s) b h k = absurd k
 one_body entries Place (Net raw) (Located s ms p) (Refused t ns r) h k = absurd (located_not_refused raw s t ms ns p r h k)
 one_body entries Place (Net raw) (Located s ms p) (Located t ns q) h k = one_located raw s t ms ns p q h k
@@ -220,7 +235,8 @@ pub record TellTheSame (os ps : List Outcome) : Type 0 where
   pub keys : map (λ (o : Outcome). key_told o.body) os ≡ map (λ (o : Outcome). key_told o.body) ps
 
 -- an outcome has one text
-one_text : (entries : List EntryView) (command : Command) (number : ℕ) (block : BlockView) (o p : Outcome) → IsOutcomeOf entries command number block o → IsOutcomeOf entries command number block p → outcome_text o ≡ outcome_text p
+one_text : (entries : List EntryView) (command : Command) (number : ℕ) (block : BlockView) (o p : Outcome) → IsOutcomeOf entries command number block o
+    → IsOutcomeOf entries command number block p → outcome_text o ≡ outcome_text p
 one_text entries command number block o p h k =
     let n = h.number_is ∙ sym k.number_is in
     let line = h.line ∙ sym k.line in
@@ -229,7 +245,8 @@ one_text entries command number block o p h k =
     λ i. header_text (n i) (line i) (name i) ++ body i
 
 -- the outcomes of blocks say the same
-pub one_telling : (entries : List EntryView) (command : Command) (n : ℕ) (bs : List BlockView) (os ps : List Outcome) → AreOutcomesFrom entries command n bs os → AreOutcomesFrom entries command n bs ps → TellTheSame os ps
+pub one_telling : (entries : List EntryView) (command : Command) (n : ℕ) (bs : List BlockView) (os ps : List Outcome) → AreOutcomesFrom entries command n bs os
+    → AreOutcomesFrom entries command n bs ps → TellTheSame os ps
 one_telling entries command n [] [] [] h k = record { text = refl; accepted = refl; keys = refl }
 one_telling entries command n [] (o ∷ os) ps h k = absurd h
 one_telling entries command n [] [] (p ∷ ps) h k = absurd k
@@ -254,7 +271,8 @@ pub all_alike : (os ps : List Outcome) → TellTheSame os ps → list_all is_acc
 all_alike os ps r = all_of os ∙ ap (list_all (λ (c : Bool). c)) r.accepted ∙ sym (all_of ps)
 
 -- whether a block whose components are reported was accepted is one
-one_in_parts : (entries : List EntryView) (body : BodyView) (a b : OutcomeBody) (x y : Bool) → IsBodyOf entries Components body a → IsBodyOf entries Components body b → IsAcceptedInParts body a x → IsAcceptedInParts body b y → x ≡ y
+one_in_parts : (entries : List EntryView) (body : BodyView) (a b : OutcomeBody) (x y : Bool) → IsBodyOf entries Components body a
+    → IsBodyOf entries Components body b → IsAcceptedInParts body a x → IsAcceptedInParts body b y → x ≡ y
 one_in_parts entries (Other token) a b x y h k p q = p ∙ sym q
 one_in_parts entries (Faulty fault) a b x y h k p q = p ∙ sym q
 one_in_parts entries (Net raw) (Lines s xs) (Lines t ys) x y h k p q = (divided_alike raw s t x y xs ys p q).0
@@ -264,7 +282,8 @@ one_in_parts entries (Net raw) (Refused t ns r) b x y h k p q = absurd (none_of_
 one_in_parts entries (Net raw) a b x y h k p q = absurd h
 
 -- so it is of each of them
-each_in_parts : (entries : List EntryView) (n : ℕ) (bs : List BlockView) (os ps : List Outcome) (xs ys : List Bool) → AreOutcomesFrom entries Components n bs os → AreOutcomesFrom entries Components n bs ps
+each_in_parts : (entries : List EntryView) (n : ℕ) (bs : List BlockView) (os ps : List Outcome) (xs ys : List Bool)
+    → AreOutcomesFrom entries Components n bs os → AreOutcomesFrom entries Components n bs ps
     → AreAcceptedInParts bs os xs → AreAcceptedInParts bs ps ys → xs ≡ ys
 each_in_parts entries n [] [] [] [] [] h k p q = refl
 each_in_parts entries n [] [] [] [] (y ∷ ys) h k p q = absurd q
@@ -281,13 +300,15 @@ each_in_parts entries n (b ∷ bs) (o ∷ os) (r ∷ ps) (x ∷ xs) (y ∷ ys) h
     λ i. first i ∷ rest i
 
 -- and so whether all were accepted is one
-all_one : (entries : List EntryView) (command : Command) (bs : List BlockView) (os ps : List Outcome) (x y : Bool) → AreOutcomesFrom entries command 1 bs os → AreOutcomesFrom entries command 1 bs ps → TellTheSame os ps
+all_one : (entries : List EntryView) (command : Command) (bs : List BlockView) (os ps : List Outcome) (x y : Bool) → AreOutcomesFrom entries command 1 bs os
+    → AreOutcomesFrom entries command 1 bs ps → TellTheSame os ps
     → AreAllAccepted command bs os x → AreAllAccepted command bs ps y → x ≡ y
 all_one entries Check bs os ps x y h k r p q = p ∙ all_alike os ps r ∙ sym q
 all_one entries Place bs os ps x y h k r p q = p ∙ all_alike os ps r ∙ sym q
 all_one entries Key bs os ps x y h k r p q = p ∙ all_alike os ps r ∙ sym q
 all_one entries Identify bs os ps x y h k r p q = p ∙ all_alike os ps r ∙ sym q
-all_one entries Components bs os ps x y h k r p q = p.all ∙ ap (list_all (λ (b : Bool). b)) (each_in_parts entries 1 bs os ps p.each q.each h k p.are_each q.are_each) ∙ sym q.all
+all_one entries Components bs os ps x y h k r p q = p.all ∙ ap (list_all (λ (b : Bool). b))
+    (each_in_parts entries 1 bs os ps p.each q.each h k p.are_each q.are_each) ∙ sym q.all
 
 -- the report on blocks is one
 pub one_report : OneReport

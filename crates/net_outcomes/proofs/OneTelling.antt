@@ -1,5 +1,6 @@
 -- What is reported of the components of a net is one.
-use Rattle.std.proofs.Common.{◌≡◌, ◌≢◌, ◌∙◌, ◌&&◌, inl, inr, ℕ, ◌+◌, suc, Bool, List, [], ◌∷◌, ◌++◌, length, map, get_or, drop, All, Result, Ok, Err, refl, sym, ap, subst}
+use Rattle.std.proofs.Common.{◌≡◌, ◌≢◌, ◌∙◌, ◌&&◌, inl, inr, ℕ, ◌+◌, suc, Bool, List, [], ◌∷◌, ◌++◌, length, map, get_or, drop, All, Result, Ok, Err, refl, sym}
+use Rattle.std.proofs.Common.{ap, subst}
 use Rattle.std.specs.List.{list_all}
 use Rattle.std.proofs.lemmas.List.Elements.{All-head, All-tail}
 use Rattle.integers.specs.Lists.{AreMatched}
@@ -50,7 +51,8 @@ module _ (names : List (List ℕ)) where
     accepted : list_all has_key as' ≡ list_all has_key bs
     text : parts_from names n ps as' ≡ parts_from names n qs bs
 
-  alike : (n : ℕ) (ps qs : List Part) (as' bs : List (Result Net Refusal)) → map view_of ps ≡ map view_of qs → All (λ (p : Part). IsGraph (graph_view p.graph)) ps
+  alike : (n : ℕ) (ps qs : List Part) (as' bs : List (Result Net Refusal)) → map view_of ps ≡ map view_of qs
+      → All (λ (p : Part). IsGraph (graph_view p.graph)) ps
       → AreMatched IsAnswerOf ps as' → AreMatched IsAnswerOf qs bs → TellAlike n ps qs as' bs
   alike n [] [] [] [] e g h k = record { count = refl; accepted = refl; text = refl }
   alike n [] [] (a ∷ as') bs e g h k = absurd h
@@ -79,7 +81,8 @@ graphs G g ps h k d l =
 -- what is reported of a graph is one
 pub one_telling : OneTelling
 one_telling G names x y s t g (inl a) (inl b) =
-    let r = alike names 1 a.ps b.ps a.answers b.answers (answer_is_one.parts G g a.ps b.ps a.are_parts b.are_parts) (graphs G g a.ps a.are_parts) a.are_answers b.are_answers in
+    let r = alike names 1 a.ps b.ps a.answers b.answers (answer_is_one.parts G g a.ps b.ps a.are_parts b.are_parts)
+    (graphs G g a.ps a.are_parts) a.are_answers b.are_answers in
     (a.all ∙ r.accepted ∙ sym b.all, a.text ∙ (λ i. count_line (r.count i) ++ r.text i) ∙ sym b.text)
 one_telling G names x y s t g (inl a) (inr b) = absurd (b.some (answer_is_one.exclude G g a.ps b.told a.are_parts b.is_fault))
 one_telling G names x y s t g (inr a) (inl b) = absurd (a.some (answer_is_one.exclude G g b.ps a.told b.are_parts a.is_fault))

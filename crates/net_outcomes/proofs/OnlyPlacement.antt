@@ -20,7 +20,8 @@ is_graph_in raw H g o =
     record {
       dimension = subst (λ (d : ℕ). (d ≡ 2) ⊎ (d ≡ 3)) (sym o.dimension) g.dimension;
       vertices = subst (λ (n : ℕ). 1 ≤ n) (sym o.vertices) g.vertices;
-      edges = All-permutation (IsEdge H) G.edges H.edges o.edges (All-weaker (IsEdge G) (IsEdge H) (λ e h. same_edge G H o.dimension o.vertices e h) G.edges g.edges);
+      edges = All-permutation (IsEdge H) G.edges H.edges o.edges (All-weaker (IsEdge G) (IsEdge H)
+          (λ e h. same_edge G H o.dimension o.vertices e h) G.edges g.edges);
       different = permuted_pairs G.edges H.edges o.edges g.different;
     }
   where

@@ -9,7 +9,8 @@ use Rattle.archive_text.specs.Entries.{EntryView}
 use Rattle.net_report.specs.Refusals.{HasLine}
 use Rattle.net_report.specs.Reports.{IsPrintableBody}
 use Rattle.net_report.specs.declared.outcome.OutcomeBody.{OutcomeBody}
-use Rattle.net_report.specs.declared.outcome.OutcomeBody.TheVariants.{Unsupported, Malformed, Refused, Checked, Located, Keyed, Identified, Lines, Faulty as FaultyItem}
+use Rattle.net_report.specs.declared.outcome.OutcomeBody.TheVariants.{Unsupported, Malformed, Refused, Checked, Located, Keyed, Identified, Lines}
+use Rattle.net_report.specs.declared.outcome.OutcomeBody.TheVariants.{Faulty as FaultyItem}
 use Rattle.least_key.specs.Truths.{IsTrueOf}
 use Rattle.net_outcomes.specs.Outcomes.{MayTell, IsBodyOf}
 use Rattle.net_report.specs.declared.command.Command.{Command}
@@ -22,7 +23,8 @@ line_of : (command : Command) (raw : RawView) (H : Graph) (refusal : Refusal) �
 line_of command raw H refusal g o m h = refusal_line raw.names H g (sym o.vertices) refusal h (λ e. subst (λ (r : Refusal). MayTell command r) e m)
 
 -- what a command reports on a body can be printed
-pub told_of_body : (entries : List EntryView) (command : Command) (body : BodyView) (told : OutcomeBody) → IsBodyOf entries command body told → IsPrintableBody told
+pub told_of_body : (entries : List EntryView) (command : Command) (body : BodyView) (told : OutcomeBody) → IsBodyOf entries command body told
+    → IsPrintableBody told
 told_of_body entries command body (Unsupported token) h = tt
 told_of_body entries command body (Malformed fault) h = tt
 told_of_body entries command body (Checked size) h = tt
@@ -31,7 +33,8 @@ told_of_body entries command body (Lines size lines) h = tt
 told_of_body entries command body (FaultyItem line number kind) h = tt
 told_of_body entries command (Net raw) (Refused size names refusal) h =
     subst (λ ns. HasLine ns refusal) (sym h.names_are) (line_of command raw h.graph refusal h.read.is_graph h.read.in_order h.may h.is_true)
-told_of_body entries Place (Net raw) (Located size names placed) h = ap length h.names_are ∙ sym (ap (λ (G : Graph). G.vertices) h.placed_as.graph ∙ h.read.in_order.vertices)
+told_of_body entries Place (Net raw) (Located size names placed) h = ap length h.names_are
+    ∙ sym (ap (λ (G : Graph). G.vertices) h.placed_as.graph ∙ h.read.in_order.vertices)
 told_of_body entries Identify (Net raw) (Identified size vertices net shells names) h =
     ap length h.vertices_are ∙ sym (ap (λ (G : Graph). G.vertices) h.keyed.net_is ∙ h.keyed.read.in_order.vertices)
 told_of_body entries command (Net raw) told h = absurd h

@@ -45,11 +45,13 @@ told_none entries command bs = record {
 accepted_last : (os : List Outcome) (o : Outcome) → list_all is_accepted (os ++ o ∷ []) ≡ (list_all is_accepted os && is_accepted o)
 accepted_last os o = list_all-append is_accepted os (o ∷ []) ∙ ap (λ (b : Bool). list_all is_accepted os && b) (and-true (is_accepted o))
 
-shown_next : (os : List Outcome) (o : Outcome) (accepted this : Bool) → accepted ≡ list_all is_accepted os → this ≡ is_accepted o → (accepted && this) ≡ list_all is_accepted (os ++ o ∷ [])
+shown_next : (os : List Outcome) (o : Outcome) (accepted this : Bool) → accepted ≡ list_all is_accepted os → this ≡ is_accepted o
+    → (accepted && this) ≡ list_all is_accepted (os ++ o ∷ [])
 shown_next os o accepted this h k = ap (λ (b : Bool). accepted && b) k ∙ ap (λ (b : Bool). b && is_accepted o) h ∙ sym (accepted_last os o)
 
 -- so it is where the components are reported
-parts_last : (bs : List BlockView) (os : List Outcome) (each : List Bool) (b : BlockView) (o : Outcome) (this : Bool) → AreAcceptedInParts bs os each → IsAcceptedInParts b.body o.body this
+parts_last : (bs : List BlockView) (os : List Outcome) (each : List Bool) (b : BlockView) (o : Outcome) (this : Bool) → AreAcceptedInParts bs os each
+    → IsAcceptedInParts b.body o.body this
     → AreAcceptedInParts (bs ++ b ∷ []) (os ++ o ∷ []) (each ++ this ∷ [])
 parts_last [] [] [] b o this h k = (k, tt)
 parts_last [] [] (x ∷ each) b o this h k = absurd h
@@ -62,7 +64,8 @@ all_last : (each : List Bool) (this : Bool) → list_all (λ (b : Bool). b) (eac
 all_last each this = list_all-append (λ (b : Bool). b) each (this ∷ []) ∙ ap (λ (b : Bool). list_all (λ (c : Bool). c) each && b) (and-true this)
 
 -- whether all were accepted, with one block more
-all_next : (command : Command) (bs : List BlockView) (os : List Outcome) (b : BlockView) (o : Outcome) (accepted this : Bool) → AreAllAccepted command bs os accepted → IsAcceptedAs command b.body o.body this
+all_next : (command : Command) (bs : List BlockView) (os : List Outcome) (b : BlockView) (o : Outcome) (accepted this : Bool)
+    → AreAllAccepted command bs os accepted → IsAcceptedAs command b.body o.body this
     → AreAllAccepted command (bs ++ b ∷ []) (os ++ o ∷ []) (accepted && this)
 all_next Check bs os b o accepted this h k = shown_next os o accepted this h k
 all_next Place bs os b o accepted this h k = shown_next os o accepted this h k
@@ -75,8 +78,10 @@ all_next Components bs os b o accepted this h k = record {
 }
 
 -- the next block is reported
-pub told_next : (entries : List EntryView) (command : Command) (found : List Block) (i number : ℕ) (accepted this : Bool) (text new : List ℕ) (block : Block) → i < length found → block ≡ get_or found i block
-    → AreToldOn entries command (views found) i number accepted text → IsBlockTold entries command number (block_view block) this text new → AreToldOn entries command (views found) (i + 1) (number + 1) (accepted && this) new
+pub told_next : (entries : List EntryView) (command : Command) (found : List Block) (i number : ℕ) (accepted this : Bool) (text new : List ℕ) (block : Block)
+    → i < length found → block ≡ get_or found i block
+    → AreToldOn entries command (views found) i number accepted text → IsBlockTold entries command number (block_view block) this text new
+    → AreToldOn entries command (views found) (i + 1) (number + 1) (accepted && this) new
 told_next entries command found i number accepted this text new block l is h t = record {
   outcomes = h.outcomes ++ t.outcome ∷ [];
   on = outcomes_next entries command found i number h.outcomes block t.outcome l is h.on t.is_outcome t.printable;
@@ -86,7 +91,8 @@ told_next entries command found i number accepted this text new block l is h t =
 }
 
 -- all blocks are reported
-pub told_whole : (entries : List EntryView) (command : Command) (found : List Block) (i number : ℕ) (accepted : Bool) (text : List ℕ) → length found ≤ i → AreToldOn entries command (views found) i number accepted text
+pub told_whole : (entries : List EntryView) (command : Command) (found : List Block) (i number : ℕ) (accepted : Bool) (text : List ℕ) → length found ≤ i
+    → AreToldOn entries command (views found) i number accepted text
     → All IsEntry entries → All (λ (b : Block). IsReadBody b.body) found → IsReport command entries (views found) accepted text
 told_whole entries command found i number accepted text l h good read = record {
   outcomes = h.outcomes;

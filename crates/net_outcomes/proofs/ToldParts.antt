@@ -14,7 +14,8 @@ use Rattle.net_outcomes.specs.Texts.{part_text, parts_from}
 use Rattle.net_outcomes.specs.Told.{IsAnswerOf, has_key, IsPartTold, ArePartsToldFrom}
 
 -- the lines of one part more
-parts_last : (names : List (List ℕ)) (number : ℕ) (ps : List Part) (answers : List (Result Net Refusal)) (p : Part) (answer : Result Net Refusal) → AreMatched IsAnswerOf ps answers
+parts_last : (names : List (List ℕ)) (number : ℕ) (ps : List Part) (answers : List (Result Net Refusal)) (p : Part) (answer : Result Net Refusal)
+    → AreMatched IsAnswerOf ps answers
     → parts_from names number (ps ++ p ∷ []) (answers ++ answer ∷ []) ≡ parts_from names number ps answers ++ part_text names (number + length ps) p answer
 parts_last names number [] [] p answer h = append-nil (part_text names number p answer) ∙ ap (λ n. part_text names n p answer) (none number)
   where
@@ -40,12 +41,15 @@ pub told_none : (names : List (List ℕ)) (ps : List Part) (text : List ℕ) →
 told_none names ps text = record { number_is = refl; told = record { answers = []; are_answers = tt; all = refl; text = sym (append-nil text) } }
 
 -- each of them has a key, and this one
-accepted_last : (answers : List (Result Net Refusal)) (answer : Result Net Refusal) → list_all has_key (answers ++ answer ∷ []) ≡ (list_all has_key answers && has_key answer)
+accepted_last : (answers : List (Result Net Refusal)) (answer : Result Net Refusal)
+    → list_all has_key (answers ++ answer ∷ []) ≡ (list_all has_key answers && has_key answer)
 accepted_last answers answer = list_all-append has_key answers (answer ∷ []) ∙ ap (λ (b : Bool). list_all has_key answers && b) (and-true (has_key answer))
 
 -- the next part is reported
-pub told_next : (names : List (List ℕ)) (ps : List Part) (i number : ℕ) (accepted this : Bool) (old text new : List ℕ) (p : Part) → i < length ps → p ≡ get_or ps i p
-    → AreToldTo names ps i number accepted old text → IsPartTold names number p this text new → AreToldTo names ps (i + 1) (number + 1) (accepted && this) old new
+pub told_next : (names : List (List ℕ)) (ps : List Part) (i number : ℕ) (accepted this : Bool) (old text new : List ℕ) (p : Part) → i < length ps
+    → p ≡ get_or ps i p
+    → AreToldTo names ps i number accepted old text → IsPartTold names number p this text new
+    → AreToldTo names ps (i + 1) (number + 1) (accepted && this) old new
 told_next names ps i number accepted this old text new p l is h t = record {
   number_is = let e = h.number_is in omega (arith, e);
   told = subst (λ (qs : List Part). ArePartsToldFrom names 1 qs (accepted && this) old new) (sym (take_more ps i p l (sym is))) (record {

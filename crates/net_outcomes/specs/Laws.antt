@@ -7,5 +7,6 @@ use Rattle.net_outcomes.specs.Reports.{IsReport}
 
 -- two reports on the same blocks are one
 abbrev pub OneReport : Type 0
-OneReport = (command : Command) (entries : List EntryView) (blocks : List BlockView) (x y : Bool) (s t : List ℕ) → IsReport command entries blocks x s → IsReport command entries blocks y t
+OneReport = (command : Command) (entries : List EntryView) (blocks : List BlockView) (x y : Bool) (s t : List ℕ) → IsReport command entries blocks x s
+    → IsReport command entries blocks y t
     → (x ≡ y) × (s ≡ t)

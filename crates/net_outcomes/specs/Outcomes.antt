@@ -13,7 +13,8 @@ use Rattle.net_archive.specs.Deciding.{AreNamesOf}
 use Rattle.net_report.specs.declared.outcome.Size.{Size}
 pub use Rattle.net_report.specs.declared.outcome.Outcome.{Outcome}
 pub use Rattle.net_report.specs.declared.outcome.OutcomeBody.{OutcomeBody}
-pub use Rattle.net_report.specs.declared.outcome.OutcomeBody.TheVariants.{Unsupported, Malformed, Refused, Checked, Located, Keyed, Identified, Lines, Faulty as FaultyItem}
+pub use Rattle.net_report.specs.declared.outcome.OutcomeBody.TheVariants.{Unsupported, Malformed, Refused, Checked, Located, Keyed, Identified, Lines}
+pub use Rattle.net_report.specs.declared.outcome.OutcomeBody.TheVariants.{Faulty as FaultyItem}
 use Rattle.least_key.specs.AnyPlacements.{placed_view}
 use Rattle.least_key.specs.AnyNets.{net_view}
 use Rattle.least_key.specs.KeyedNets.{IsKeyed}
@@ -80,7 +81,8 @@ pub record IsKeyedAs (raw : RawView) (size : Size) (net : KeyedNet) : Type 0 whe
 
 -- the block's graph has a key, and this is its net, with the placement, the only one but for translates, the primitive graph, the
 -- key and the coordination sequences; and these are the names of exactly the isomorphic entries
-pub record IsIdentifiedAs (entries : List EntryView) (raw : RawView) (size : Size) (vertices : List (List ℕ)) (net : KeyedNet) (shells names : List (List ℕ)) : Type 0 where
+pub record IsIdentifiedAs (entries : List EntryView) (raw : RawView) (size : Size) (vertices : List (List ℕ)) (net : KeyedNet)
+    (shells names : List (List ℕ)) : Type 0 where
   pub keyed : IsKeyedAs raw size net
   pub vertices_are : vertices ≡ raw.names
   pub only : IsOnlyPlacement keyed.graph (net_view net).placed.placement
@@ -115,7 +117,8 @@ pub record IsOutcomeOf (entries : List EntryView) (command : Command) (number : 
 -- one outcome for each block, with the blocks numbered from this number on
 abbrev pub AreOutcomesFrom : List EntryView → Command → ℕ → List BlockView → List Outcome → Type 0
 AreOutcomesFrom entries command number [] [] = Unit {0}
-AreOutcomesFrom entries command number (block ∷ blocks) (o ∷ os) = IsOutcomeOf entries command number block o × AreOutcomesFrom entries command (number + 1) blocks os
+AreOutcomesFrom entries command number (block ∷ blocks) (o ∷ os) = IsOutcomeOf entries command number block o
+    × AreOutcomesFrom entries command (number + 1) blocks os
 AreOutcomesFrom entries command number blocks os = ⊥
 
 -- whether the outcome shows that its block was accepted; lines do not show it

@@ -21,7 +21,8 @@ header_text number line name = field_text (codes "net ") number ++ field_text (c
 
 -- the sizes of a graph
 abbrev pub size_text : Size → List ℕ
-size_text s = field_text (codes "graph d=") s.dim ++ field_text (codes " vertices=") s.vertices ++ field_text (codes " edges=") s.edges ++ field_text (codes " repeats=") s.repeats ++ codes "\n"
+size_text s = field_text (codes "graph d=") s.dim ++ field_text (codes " vertices=") s.vertices ++ field_text (codes " edges=") s.edges
+    ++ field_text (codes " repeats=") s.repeats ++ codes "\n"
 
 unfoldable pub unsupported_word : List ℕ
 unsupported_word = codes "unsupported "

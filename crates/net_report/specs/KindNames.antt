@@ -1,7 +1,8 @@
 -- The names of the kinds of faults, as they are printed.
 use Rattle.std.specs.Prelude.{ℕ, List, codes}
 use Rattle.cgd_read.specs.declared.block.BlockFaultKind.{BlockFaultKind}
-use Rattle.cgd_read.specs.declared.block.BlockFaultKind.TheVariants.{BadToken, RowLength, MixedDimension, UnknownField, NoEdges, SelfEdge, ShiftRange, TooManyVertices, TooManyEdges, NameTooLong, NoEnd, TwoNames}
+use Rattle.cgd_read.specs.declared.block.BlockFaultKind.TheVariants.{BadToken, RowLength, MixedDimension, UnknownField, NoEdges, SelfEdge, ShiftRange}
+use Rattle.cgd_read.specs.declared.block.BlockFaultKind.TheVariants.{TooManyVertices, TooManyEdges, NameTooLong, NoEnd, TwoNames}
 
 abbrev pub kind_name : BlockFaultKind → List ℕ
 kind_name BadToken = codes "BadToken"

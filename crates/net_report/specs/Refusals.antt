@@ -18,7 +18,8 @@ split_text s = field_text (codes " q=") s.q ++ codes " c=" ++ list_text (parts s
 -- the place of a listed number
 abbrev pub place_text : Place → List ℕ
 place_text at =
-    field_text (codes " part=") at.part ++ field_text (codes " k=") at.k ++ field_text (codes " i=") at.i ++ field_text (codes " j=") at.j ++ field_text (codes " c=") at.c
+    field_text (codes " part=") at.part ++ field_text (codes " k=") at.k ++ field_text (codes " i=") at.i ++ field_text (codes " j=") at.j
+    ++ field_text (codes " c=") at.c
 
 -- the vertices whose weight sums have no inverse, by their numbers
 abbrev pub pivots_text : ℕ → ℕ → ℕ → List ℕ
@@ -28,7 +29,8 @@ pivots_text first second third =
 -- where a number of a placement in this dimension stands
 abbrev pub site_text : List (List ℕ) → ℕ → WideSite → List ℕ
 site_text names dim (Denominator u c) = codes " denominator u=" ++ vertex_text names u ++ field_text (codes " c=") c
-site_text names dim (ArcPart u v s c) = codes " arc u=" ++ vertex_text names u ++ codes " v=" ++ vertex_text names v ++ codes " s=" ++ list_text (parts dim s) ++ field_text (codes " c=") c
+site_text names dim (ArcPart u v s c) = codes " arc u=" ++ vertex_text names u ++ codes " v=" ++ vertex_text names v ++ codes " s=" ++ list_text (parts dim s)
+    ++ field_text (codes " c=") c
 site_text names dim (Beyond at) = codes " beyond" ++ place_text at
 
 -- a number past its limit, where it is reported

@@ -7,7 +7,8 @@ use Rattle.keyline_import.specs.declared.item.ItemRefusal.TheVariants as items
 use Rattle.net_report.specs.declared.answer.Silence.{Silence}
 use Rattle.net_report.specs.declared.answer.Silence.TheVariants as silence
 use Rattle.net_report.specs.declared.status.Status.{Status}
-use Rattle.net_report.specs.declared.status.Status.TheVariants.{Done, SomeRefused, Usage, ReadFault, WriteFault, BadArchive, TooLarge, NoMemory, TooManyBlocks, AddRefused, MigrateRefused, BadMap}
+use Rattle.net_report.specs.declared.status.Status.TheVariants.{Done, SomeRefused, Usage, ReadFault, WriteFault, BadArchive, TooLarge, NoMemory, TooManyBlocks}
+use Rattle.net_report.specs.declared.status.Status.TheVariants.{AddRefused, MigrateRefused, BadMap}
 
 abbrev pub number_of : Status → ℕ
 number_of Done = 0

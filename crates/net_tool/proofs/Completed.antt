@@ -30,21 +30,25 @@ not_too_large task holds within (inl many) = not_many (file_named task) holds wi
 not_too_large task holds within (inr many) = not_many (archive_named task) holds within.of within.told within.bytes.archive_fits many.1
 
 -- what is due to the bytes that are held
-over : (task : Task) (holds : Holds) (status : Status) (text : List ℕ) → IsDueOver task holds status text → AreFilesWithin task holds → IsComplete (Some task) status
+over : (task : Task) (holds : Holds) (status : Status) (text : List ℕ) → IsDueOver task holds status text → AreFilesWithin task holds
+    → IsComplete (Some task) status
 over task holds status text due within =
     let file = read_bytes (file_named task) holds within.of within.told due.0 due.2 in
     let archive = read_bytes (archive_named task) holds within.of within.told due.1 due.3 in
-    let there = subst (λ f. IsDueOn task (unwrap_or f []) (bytes_of_name within.of (archive_named task)) status text) file (subst (λ a. IsDueOn task (unwrap_or due.0 []) a status text) archive due.4) in
+    let there = subst (λ f. IsDueOn task (unwrap_or f []) (bytes_of_name within.of (archive_named task)) status text) file
+    (subst (λ a. IsDueOn task (unwrap_or due.0 []) a status text) archive due.4) in
     few_endings task (bytes_of_name within.of (file_named task)) (bytes_of_name within.of (archive_named task)) status text within.bytes there
 
 -- what is due to the words
-completed : (task : Option Task) (holds : Holds) (status : Status) (text : List ℕ) → IsDue task holds status text → AreWithin task holds → IsComplete task status
+completed : (task : Option Task) (holds : Holds) (status : Status) (text : List ℕ) → IsDue task holds status text → AreWithin task holds
+    → IsComplete task status
 completed None holds status text due within = absurd within
 completed (Some task) holds TooLarge text due within = absurd (not_too_large task holds within due.0)
 completed (Some task) holds status text due within = over task holds status text due within
 
 -- where each answer is due
-pub complete_of : (words : List (List ℕ)) (holds : Holds) (before after : Option (List ℕ)) (status : Status) → (IsAnswered status → IsAnswer words holds before after status)
+pub complete_of : (words : List (List ℕ)) (holds : Holds) (before after : Option (List ℕ)) (status : Status)
+    → (IsAnswered status → IsAnswer words holds before after status)
     → AreWithin (task_of words) holds → IsComplete (task_of words) status
 complete_of words holds before after ReadFault answer within = tt
 complete_of words holds before after WriteFault answer within = tt

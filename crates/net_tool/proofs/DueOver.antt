@@ -9,8 +9,11 @@ use Rattle.net_report.specs.declared.status.Status.TheVariants.{TooLarge, TooMan
 use Rattle.net_tool.specs.Run.{AreBytesOf, IsDueOf}
 
 -- a file without bytes counts as empty
-pub due_over : (task : Task) (holds : Holds) (bytes : List ℕ) (file archive : Option (List ℕ)) → bytes ≡ unwrap_or file [] → AreBytesOf (file_named task) holds file
-    → AreBytesOf (archive_named task) holds archive → (status : Status) (text : List ℕ) → GoesWithText status → IsDueWith task (bytes_of task bytes) archive status text → IsDueOf task holds status text
+pub due_over : (task : Task) (holds : Holds) (bytes : List ℕ) (file archive : Option (List ℕ)) → bytes ≡ unwrap_or file []
+    → AreBytesOf (file_named task) holds file
+    → AreBytesOf (archive_named task) holds archive → (status : Status) (text : List ℕ) → GoesWithText status
+    → IsDueWith task (bytes_of task bytes) archive status text → IsDueOf task holds status text
 due_over task holds bytes file archive e f a TooLarge text told due = absurd told
 due_over task holds bytes file archive e f a TooManyBlocks text told due = absurd told
-due_over task holds bytes file archive e f a status text told due = (file, archive, f, a, subst (λ b. IsDueWith task (bytes_of task b) archive status text) e due)
+due_over task holds bytes file archive e f a status text told due =
+    (file, archive, f, a, subst (λ b. IsDueWith task (bytes_of task b) archive status text) e due)

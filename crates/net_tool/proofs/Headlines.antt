@@ -12,7 +12,8 @@ use Rattle.net_tool.specs.Headline.{HasHeadline, IsHeadlineOver}
 use Rattle.net_tool.specs.Run.{AreBytesOf, IsAnswer, IsAnswered, IsDue}
 
 -- and to the bytes of these files
-headline_over : (name : List ℕ) (archive_name : Option (List ℕ)) (holds : Holds) (before after : Option (List ℕ)) (status : Status) (text : List ℕ) (file archive : Option (List ℕ))
+headline_over : (name : List ℕ) (archive_name : Option (List ℕ)) (holds : Holds) (before after : Option (List ℕ)) (status : Status) (text : List ℕ)
+    (file archive : Option (List ℕ))
     → AreBytesOf (Some name) holds file → AreBytesOf archive_name holds archive → IsDueOn (Identify name archive_name) (unwrap_or file []) archive status text
     → Appends before after text → IsReported status → IsHeadlineOver name archive_name holds before after status
 headline_over name archive_name holds before after status text None archive f a due wrote r = absurd f
@@ -27,7 +28,8 @@ headline_over name archive_name holds before after status text (Some bytes) arch
 }
 
 -- and so to the arguments
-headline_due : (task : Option Task) (holds : Holds) (before after : Option (List ℕ)) (status : Status) (text : List ℕ) → IsDue task holds status text → Appends before after text
+headline_due : (task : Option Task) (holds : Holds) (before after : Option (List ℕ)) (status : Status) (text : List ℕ) → IsDue task holds status text
+    → Appends before after text
     → IsReported status → HasHeadline task holds before after status
 headline_due (Some (Identify name archive)) holds before after Done text due wrote r =
     headline_over name archive holds before after Done text due.0 due.1 due.2 due.3 due.4 wrote r
@@ -37,7 +39,8 @@ headline_due (Some (Identify name archive)) holds before after status text due w
 headline_due task holds before after status text due wrote r = tt
 
 -- an answer to the arguments has the headline
-pub headline_of : (words : List (List ℕ)) (holds : Holds) (before after : Option (List ℕ)) (status : Status) → (IsAnswered status → IsAnswer words holds before after status)
+pub headline_of : (words : List (List ℕ)) (holds : Holds) (before after : Option (List ℕ)) (status : Status)
+    → (IsAnswered status → IsAnswer words holds before after status)
     → IsReported status → HasHeadline (task_of words) holds before after status
 headline_of words holds before after Done answer r = let a = answer tt in headline_due (task_of words) holds before after Done a.0 a.1 a.2 r
 headline_of words holds before after SomeRefused answer r = let a = answer tt in headline_due (task_of words) holds before after SomeRefused a.0 a.1 a.2 r

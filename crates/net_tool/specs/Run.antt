@@ -36,7 +36,8 @@ IsTooLarge task holds = HasManyBytes (file_named task) holds ⊎ (HasFewBytes (f
 -- the task, of the bytes of its files, has this answer
 abbrev pub IsDueOver : Task → Holds → Status → List ℕ → Type 0
 IsDueOver task holds status text =
-    (file : Option (List ℕ)) × (archive : Option (List ℕ)) × AreBytesOf (file_named task) holds file × AreBytesOf (archive_named task) holds archive × IsDueOn task (unwrap_or file []) archive status text
+    (file : Option (List ℕ)) × (archive : Option (List ℕ)) × AreBytesOf (file_named task) holds file × AreBytesOf (archive_named task) holds archive
+    × IsDueOn task (unwrap_or file []) archive status text
 
 -- this task asks for this answer
 abbrev pub IsDueOf : Task → Holds → Status → List ℕ → Type 0
@@ -55,7 +56,8 @@ IsAnswer words holds before after status = (text : List ℕ) × IsDue (task_of w
 -- an answer was due, less than its text was written, and there was a cause to stop
 abbrev pub IsBroken : List (List ℕ) → Holds → Option (List ℕ) → Option (List ℕ) → ℕ → Type 0
 IsBroken words holds before after sure =
-    (status : Status) × (text : List ℕ) × (taken : ℕ) × (taken < length text) × IsDue (task_of words) holds status text × Appends before after (take taken text) × (sure < length text)
+    (status : Status) × (text : List ℕ) × (taken : ℕ) × (taken < length text) × IsDue (task_of words) holds status text
+    × Appends before after (take taken text) × (sure < length text)
 
 -- the last read failed, of this file
 abbrev pub FailedAt : Option (List ℕ) → Last → Type 0

@@ -19,15 +19,18 @@ true_in_order G refusal.NoMemory h n = absurd (n refl)
 true_in_order G given h n = h
 
 -- a text whose first graph is refused gives the trouble of the refusal
-trouble_in : (text : List ℕ) (raw : RawView) (given : Refusal) (trouble : Trouble) → IsFirstIn text (Some raw) → IsRefusedBy (graph_of raw) given → IsFrom given trouble → IsTroubleIn text trouble
+trouble_in : (text : List ℕ) (raw : RawView) (given : Refusal) (trouble : Trouble) → IsFirstIn text (Some raw) → IsRefusedBy (graph_of raw) given
+    → IsFrom given trouble → IsTroubleIn text trouble
 trouble_in text raw given NoGraph first h from = absurd from
 trouble_in text raw given TooManyBlocks first h from = absurd from
 trouble_in text raw given (Refused told) first h from =
-    subst (λ (r : Refusal). IsTroubleIn text (Refused r)) (sym from.0) (record { raw = raw; first = first; is_true = true_in_order (graph_of raw) given h from.1; told = from.1 })
+    subst (λ (r : Refusal). IsTroubleIn text (Refused r)) (sym from.0) (record
+    { raw = raw; first = first; is_true = true_in_order (graph_of raw) given h from.1; told = from.1 })
 trouble_in text raw given NoMemory first h from = tt
 
 -- so does a result that is that trouble
-pub refused_in : {X : Type 0} (result : Result X Trouble) (text : List ℕ) (raw : RawView) (given : Refusal) → IsFirstIn text (Some raw) → IsRefusedBy (graph_of raw) given → IsErrAnd result (IsFrom given)
+pub refused_in : {X : Type 0} (result : Result X Trouble) (text : List ℕ) (raw : RawView) (given : Refusal) → IsFirstIn text (Some raw)
+    → IsRefusedBy (graph_of raw) given → IsErrAnd result (IsFrom given)
     → IfErr result (IsTroubleIn text)
 refused_in (Ok x) text raw given first h from = tt
 refused_in (Err trouble) text raw given first h from = trouble_in text raw given trouble first h from

@@ -1,19 +1,16 @@
 -- A search in breadth finds the paths in their order: what is found is never later than what would be found next.
-use Rattle.std.proofs.Common.{◌≡◌, ◌⊎◌, inl, inr, List, [], ◌∷◌, ◌++◌, refl, subst, ◌∙◌, arith}
+use Rattle.std.proofs.Common.{◌≡◌, ◌⊎◌, inl, inr, List, [], ◌∷◌, ◌++◌, refl, subst, arith}
 use Rattle.integers.proofs.lists.Members.{IsIn}
 use Rattle.integers.proofs.lists.ListOrder.{below_transitive}
 use Rattle.integers.proofs.lists.More.{in_more, more_in}
 use Rattle.periodic_net.specs.Graph.{Arc}
-use Rattle.periodic_net.specs.Chosen.{path_key, IsBefore}
+use Rattle.periodic_net.specs.Chosen.{IsBefore}
 use Rattle.periodic_net.specs.Breadth.{AreRising, AreSortedArcs, IsBreadth}
 use Rattle.periodic_net.proofs.PathOrder.{before_more, before_arc, one_more}
 
 -- before, and before again
 before_transitive : (P Q R : List Arc) → IsBefore P Q → IsBefore Q R → IsBefore P R
-before_transitive P Q R (inl l) (inl m) = inl (omega arith)
-before_transitive P Q R (inl l) (inr m) = inl (let e = m.0 in omega arith)
-before_transitive P Q R (inr l) (inl m) = inl (let e = l.0 in omega arith)
-before_transitive P Q R (inr l) (inr m) = inr (l.0 ∙ m.0, below_transitive (path_key P) (path_key Q) (path_key R) l.1 m.1)
+before_transitive P Q R h k = search (arith, below_transitive)
 
 -- a path is before the one that goes on from it
 before_longer : (P : List Arc) (f : Arc) → IsBefore P (P ++ f ∷ [])
@@ -30,15 +27,9 @@ rising_more (P ∷ Ps) N r h = (
 )
 
 -- the arc leads to a vertex that was found: nothing is added
-pub step_known : (found waiting : List (List Arc)) (P : List Arc) (f : Arc) (left : List Arc) → IsBreadth found waiting P (f ∷ left) → IsBreadth found waiting P left
-step_known found waiting P f left b = record {
-  inside = b.inside;
-  rising = b.rising;
-  after = b.after;
-  sorted = b.sorted.1;
-  here = λ Q g i j. b.here Q g i (inr j);
-  later = b.later;
-}
+pub step_known : (found waiting : List (List Arc)) (P : List Arc) (f : Arc) (left : List Arc) → IsBreadth found waiting P (f ∷ left)
+    → IsBreadth found waiting P left
+step_known found waiting P f left b = search arith
 
 -- it leads to another: the path by it is added at the end
 pub step_new : (found waiting : List (List Arc)) (P : List Arc) (f : Arc) (left : List Arc) → IsBreadth found waiting P (f ∷ left)
@@ -71,26 +62,10 @@ step_new found waiting P f left b = record {
     by Q W g (inr d) (inr e) = subst (λ x. IsBefore x (W ++ g ∷ [])) d (subst (λ x. IsBefore N (x ++ g ∷ [])) e (before_longer N g))
 
 -- the next path that waits is gone on from
-pub step_next : (found waiting : List (List Arc)) (P W : List Arc) (left : List Arc) → IsBreadth found (W ∷ waiting) P [] → AreSortedArcs left → IsBreadth found waiting W left
-step_next found waiting P W left b s = record {
-  inside = λ X i. b.inside X (inr i);
-  rising = b.rising.1;
-  after = b.rising.0;
-  sorted = s;
-  here = λ Q f i j. b.later Q W f i (inl refl);
-  later = λ Q X g i j. b.later Q X g i (inr j);
-}
+pub step_next : (found waiting : List (List Arc)) (P W : List Arc) (left : List Arc) → IsBreadth found (W ∷ waiting) P [] → AreSortedArcs left
+    → IsBreadth found waiting W left
+step_next found waiting P W left b s = search arith
 
 -- the start: the empty path alone was found
 pub breadth_start : (left : List Arc) → AreSortedArcs left → IsBreadth ([] ∷ []) [] [] left
-breadth_start left s = record {
-  inside = λ W i. elim i [ ];
-  rising = tt;
-  after = λ W i. elim i [ ];
-  sorted = s;
-  here = λ Q f i j. elim i [
-    | inl e ↦ subst (λ x. IsBefore x (f ∷ [])) e (before_longer [] f)
-    | inr h ↦ elim h [ ]
-  ];
-  later = λ Q W g i j. elim j [ ];
-}
+breadth_start left s = search (arith, before_longer)

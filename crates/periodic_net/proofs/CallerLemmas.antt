@@ -16,7 +16,8 @@ pub use Rattle.periodic_net.proofs.PathOrder.{no_later_itself, no_later_transiti
 pub use Rattle.periodic_net.proofs.Settled.{complete_chosen, complete_finds, complete_with}
 pub use Rattle.periodic_net.proofs.SettlingSteps.{settle_end, settle_known, settle_new, settle_next, settle_start}
 pub use Rattle.periodic_net.proofs.Splitting.{cells_few, finer_next, grows, stays}
-pub use Rattle.periodic_net.proofs.Theorems.{barycentric_placements_translate, isomorphisms_carry, isomorphisms_keep, normal_placement_is_one, translations_are_group}
+pub use Rattle.periodic_net.proofs.Theorems.{barycentric_placements_translate, isomorphisms_carry, isomorphisms_keep, normal_placement_is_one}
+pub use Rattle.periodic_net.proofs.Theorems.{translations_are_group}
 pub use Rattle.periodic_net.proofs.examples.HoneycombNet.{honeycomb_normal_placement}
 pub use Rattle.periodic_net.proofs.examples.SquareClasses.{loop, right, square_classes, square_is_classes, up}
 pub use Rattle.periodic_net.proofs.examples.SquareNet.{square_graph, square_stable}
@@ -29,14 +30,16 @@ pub use Rattle.periodic_net.proofs.isomorphisms.Matchings.{IsMatching, iso_match
 pub use Rattle.periodic_net.proofs.isomorphisms.Neighbours.{arc_between, between_end, carried, end_between, end_joined, end_of}
 pub use Rattle.periodic_net.proofs.isomorphisms.Periods.{identity_periodic, moved_vertex}
 pub use Rattle.periodic_net.proofs.isomorphisms.Transport.{iso_classes}
-pub use Rattle.periodic_net.proofs.nets.ArcLists.{arc_is_from, arc_turned, arcs_apart, both_length, edge_in, either_way, from_is_arc, one_spelling, reverse_in, reverse_twice}
+pub use Rattle.periodic_net.proofs.nets.ArcLists.{arc_is_from, arc_turned, arcs_apart, both_length, edge_in, either_way, from_is_arc, one_spelling, reverse_in}
+pub use Rattle.periodic_net.proofs.nets.ArcLists.{reverse_twice}
 pub use Rattle.periodic_net.proofs.nets.Arcs.{IsInside, arc_inside, joined_inside, origin_vertex}
 pub use Rattle.periodic_net.proofs.nets.Ends.{crossed, dot_difference, ends_at_one, ends_at_zero, no_part, not_zero}
 pub use Rattle.periodic_net.proofs.nets.Generators.{IsTree, connected_by_tree}
 pub use Rattle.periodic_net.proofs.nets.Loops.{reached_by_shift}
 pub use Rattle.periodic_net.proofs.nets.SplitCases.{equal_if_not_unequal, one_not_alike, split_by_parts}
 pub use Rattle.periodic_net.proofs.nets.Splits.{split_shows_not_connected}
-pub use Rattle.periodic_net.proofs.nets.Walks.{joined_moved, joined_turned, moved_to, reached_by_arc, reached_itself, reached_moved, reached_transitive, reached_turned, same_joined, same_reached, walks_joined}
+pub use Rattle.periodic_net.proofs.nets.Walks.{joined_moved, joined_turned, moved_to, reached_by_arc, reached_itself, reached_moved, reached_transitive}
+pub use Rattle.periodic_net.proofs.nets.Walks.{reached_turned, same_joined, same_reached, walks_joined}
 pub use Rattle.periodic_net.proofs.placements.MaximumPrinciple.{gain}
 pub use Rattle.periodic_net.proofs.placements.OnePlacement.{one_placement}
 pub use Rattle.periodic_net.proofs.placements.Positions.{at_origin, end_vector, move_dimension, moves_by, position_moved, positions_tell, vertex_decided}

@@ -41,11 +41,7 @@ walk_back G a b v h =
 
 -- the shifts of closed walks are a group
 pub closed_group : (G : Graph) (a : ℕ) → IsVectorGroup (ClosedShift G a)
-closed_group G a = record {
-  zero = reached_itself G (vertex a zero_vector);
-  sums = λ v w h k. walks_add G a a a w v k h;
-  opposites = λ v h. walk_back G a a v h;
-}
+closed_group G a = search (arith, reached_itself, walks_add, walk_back)
 
 -- two walks to one vertex differ by a closed walk
 pub closed_difference : (G : Graph) (a u : ℕ) (S T : Vector) → WalkShift G a u S → WalkShift G a u T → ClosedShift G a (minus S T)

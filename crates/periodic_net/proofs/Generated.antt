@@ -15,7 +15,7 @@ use Rattle.periodic_net.proofs.Components.{with_transitive}
 
 -- the walk along one arc
 pub arc_walk : (G : Graph) (f : Arc) → IsArc G f → WalkShift G f.from f.to f.shift
-arc_walk G f h = reached_by_arc G (vertex f.from zero_vector) (vertex f.to f.shift) (subst (λ (s : Vector). IsArc G (arc f.from f.to s)) (sym (minus_zero f.shift)) h)
+arc_walk G f h = search (arith, reached_by_arc, minus_zero)
 
 -- an arc leads to the same component
 pub arc_with : (G : Graph) → IsGraph G → (f : Arc) → IsArc G f → InComponent G f.from f.to
@@ -45,7 +45,8 @@ module _ (G : Graph) (g : IsGraph G) (a : ℕ) (T : ℕ → Vector) (t : TellsWa
   generated L l gens (y ∷ ys) w x i h m =
       let f = arc w.over y.over (minus y.cell w.cell) in
       generated L l gens ys y x (with_transitive G a w.over y.over i (arc_with G g f h.0)) h.1
-      (subst L (vector_equal (sum_part w.cell.x (T w.over).x y.cell.x (T y.over).x) (sum_part w.cell.y (T w.over).y y.cell.y (T y.over).y) (sum_part w.cell.z (T w.over).z y.cell.z (T y.over).z))
+      (subst L (vector_equal (sum_part w.cell.x (T w.over).x y.cell.x (T y.over).x) (sum_part w.cell.y (T w.over).y y.cell.y (T y.over).y)
+      (sum_part w.cell.z (T w.over).z y.cell.z (T y.over).z))
       (l.sums (minus w.cell (T w.over)) (generator T f) m (gens f h.0 i)))
 
   at_start : (v r : Vector) → r ≡ zero_vector → minus v r ≡ v
@@ -55,8 +56,7 @@ module _ (G : Graph) (g : IsGraph G) (a : ℕ) (T : ℕ → Vector) (t : TellsWa
   turned_part p s q = omega (arith, linear)
 
   turned : (e : Arc) → opposite (generator T e) ≡ generator T (reverse_of e)
-  turned e = let p = T e.from in let q = T e.to in let s = e.shift in
-      vector_equal (turned_part p.x s.x q.x) (turned_part p.y s.y q.y) (turned_part p.z s.z q.z)
+  turned e = simp (vector_equal, turned_part)
 
   -- what holds for the edges of the component holds for its arcs
   arcs_of_edges : (L : Vector → Type 0) → IsVectorGroup L → (es : List Arc) → ((f : Arc) → IsIn (both_ways es) f → IsArc G f)

@@ -1,12 +1,12 @@
 -- The shift of a path is that of a walk, and there is one chosen path.
-use Rattle.std.proofs.Common.{◌≡◌, inl, inr, ℕ, List, [], ◌∷◌, refl, sym, ap, subst, ◌∙◌, arith}
+use Rattle.std.proofs.Common.{◌≡◌, ℕ, List, [], ◌∷◌, refl, sym, ap, subst, ◌∙◌, arith}
 use Rattle.integers.specs.Vectors.{vector, zero_vector, plus}
 use Rattle.integers.proofs.lists.ListOrder.{at_most_both}
 use Rattle.integers.proofs.vectors.Laws.{plus_commutative}
 use Rattle.periodic_net.specs.Graph.{Graph, Arc, arc, vertex}
 use Rattle.periodic_net.specs.Split.{WalkShift}
 use Rattle.periodic_net.proofs.nets.Walks.{reached_itself, same_reached}
-use Rattle.periodic_net.specs.Chosen.{IsPath, path_shift, path_key, IsNoLater, IsChosen}
+use Rattle.periodic_net.specs.Chosen.{IsPath, path_shift, path_key, IsChosen}
 use Rattle.periodic_net.proofs.ClosedWalks.{walks_add}
 use Rattle.periodic_net.proofs.Generated.{arc_walk}
 
@@ -15,7 +15,8 @@ pub path_walk : (G : Graph) (a u : ℕ) (fs : List Arc) → IsPath G a fs u → 
 path_walk G a u [] p = same_reached G refl (ap (λ v. vertex v zero_vector) p) (reached_itself G (vertex a zero_vector))
 path_walk G a u (f ∷ fs) p =
     subst (λ b. WalkShift G b u (plus f.shift (path_shift fs))) p.1
-    (subst (WalkShift G f.from u) (plus_commutative (path_shift fs) f.shift) (walks_add G f.from f.to u f.shift (path_shift fs) (arc_walk G f p.0) (path_walk G f.to u fs p.2)))
+    (subst (WalkShift G f.from u) (plus_commutative (path_shift fs) f.shift)
+    (walks_add G f.from f.to u f.shift (path_shift fs) (arc_walk G f p.0) (path_walk G f.to u fs p.2)))
 
 -- paths from one vertex with one list are equal
 one_list : (G : Graph) (a b u v : ℕ) (fs gs : List Arc) → a ≡ b → IsPath G a fs u → IsPath G b gs v → path_key fs ≡ path_key gs → fs ≡ gs
@@ -33,10 +34,4 @@ one_list G a b u v (f ∷ fs) (h ∷ gs) e p q k =
 
 -- there is one chosen path
 pub one_chosen : (G : Graph) (a u : ℕ) (P Q : List Arc) → IsChosen G a u P → IsChosen G a u Q → P ≡ Q
-one_chosen G a u P Q h k = by (h.least Q k.path) (k.least P h.path)
-  where
-    by : IsNoLater P Q → IsNoLater Q P → P ≡ Q
-    by (inl l) (inl m) = absurd (omega arith)
-    by (inl l) (inr m) = absurd (let e = m.0 in omega arith)
-    by (inr l) (inl m) = absurd (let e = l.0 in omega arith)
-    by (inr l) (inr m) = one_list G a a u u P Q refl h.path k.path (at_most_both (path_key P) (path_key Q) l.1 m.1)
+one_chosen G a u P Q h k = search (arith, one_list, at_most_both)

@@ -25,34 +25,27 @@ pub before_more : (P Q : List Arc) (f g : Arc) → IsBefore P Q → IsBefore (P 
 before_more P Q f g (inl l) = inl (let p = one_more P f in let q = one_more Q g in omega arith)
 before_more P Q f g (inr h) = inr (
   one_more P f ∙ ap (λ n. n + 1) h.0 ∙ sym (one_more Q g),
-  subst (λ k. IsBelow k (path_key (Q ++ g ∷ []))) (sym (key_more P f)) (subst (IsBelow (path_key P ++ step_key f)) (sym (key_more Q g)) (below_front (path_key P) (path_key Q) (step_key f) (step_key g) (key_length P Q h.0) h.1)),
+  subst (λ k. IsBelow k (path_key (Q ++ g ∷ []))) (sym (key_more P f)) (subst (IsBelow (path_key P ++ step_key f)) (sym (key_more Q g))
+      (below_front (path_key P) (path_key Q) (step_key f) (step_key g) (key_length P Q h.0) h.1)),
 )
 
 -- and on from one path the earlier arc
 pub before_arc : (P : List Arc) (f g : Arc) → IsBelow (step_key f) (step_key g) → IsBefore (P ++ f ∷ []) (P ++ g ∷ [])
 before_arc P f g h = inr (
   one_more P f ∙ sym (one_more P g),
-  subst (λ k. IsBelow k (path_key (P ++ g ∷ []))) (sym (key_more P f)) (subst (IsBelow (path_key P ++ step_key f)) (sym (key_more P g)) (below_after (path_key P) (step_key f) (step_key g) h)),
+  subst (λ k. IsBelow k (path_key (P ++ g ∷ []))) (sym (key_more P f)) (subst (IsBelow (path_key P ++ step_key f)) (sym (key_more P g))
+      (below_after (path_key P) (step_key f) (step_key g) h)),
 )
 
 pub no_later_of_before : (P Q : List Arc) → IsBefore P Q → IsNoLater P Q
-no_later_of_before P Q (inl l) = inl l
-no_later_of_before P Q (inr h) = inr (h.0, at_most_of_below (path_key P) (path_key Q) h.1)
+no_later_of_before P Q k = search (arith, at_most_of_below)
 
 pub no_later_itself : (P : List Arc) → IsNoLater P P
 no_later_itself P = inr (refl, at_most_itself (path_key P))
 
 -- no later, and no later again
 pub no_later_transitive : (P Q R : List Arc) → IsNoLater P Q → IsNoLater Q R → IsNoLater P R
-no_later_transitive P Q R (inl l) (inl m) = inl (omega arith)
-no_later_transitive P Q R (inl l) (inr m) = inl (let e = m.0 in omega arith)
-no_later_transitive P Q R (inr l) (inl m) = inl (let e = l.0 in omega arith)
-no_later_transitive P Q R (inr l) (inr m) = inr (l.0 ∙ m.0, by (below_of_at_most (path_key P) (path_key Q) l.1) (below_of_at_most (path_key Q) (path_key R) m.1))
-  where
-    by : IsBelow (path_key P) (path_key Q) ⊎ (path_key P ≡ path_key Q) → IsBelow (path_key Q) (path_key R) ⊎ (path_key Q ≡ path_key R) → IsAtMost (path_key P) (path_key R)
-    by (inl x) (inl y) = at_most_of_below (path_key P) (path_key R) (below_transitive (path_key P) (path_key Q) (path_key R) x y)
-    by (inl x) (inr y) = subst (IsAtMost (path_key P)) y l.1
-    by (inr x) y = subst (λ k. IsAtMost k (path_key R)) (sym x) m.1
+no_later_transitive P Q R h p = search (arith, below_of_at_most, at_most_of_below, below_transitive)
 
 -- what goes on from a path no later by the same arc is no later
 pub no_later_more : (P Q : List Arc) (f : Arc) → IsNoLater P Q → IsNoLater (P ++ f ∷ []) (Q ++ f ∷ [])

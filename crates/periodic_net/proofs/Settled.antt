@@ -1,5 +1,5 @@
 -- A complete search has found exactly the component, each vertex by its chosen path.
-use Rattle.std.proofs.Common.{◌≡◌, ℕ, List, [], ◌∷◌, ◌++◌, refl, sym, ap, subst}
+use Rattle.std.proofs.Common.{◌≡◌, ℕ, List, [], ◌∷◌, ◌++◌, refl, sym, ap, subst, arith}
 use Rattle.integers.proofs.lists.Members.{IsIn}
 use Rattle.integers.specs.Vectors.{zero_vector, minus}
 use Rattle.periodic_net.specs.Graph.{Graph, IsGraph, Arc, arc, Vertex, vertex, IsWalk, IsQuotientVertex}
@@ -50,10 +50,7 @@ module _ (G : Graph) (a : ℕ) (known : List Entry) (s : IsComplete G a known) w
 
   -- each vertex of the component is known
   pub complete_finds : (u : ℕ) → InComponent G a u → (y : Entry) × IsIn known y × (y.vertex ≡ u)
-  complete_finds u h =
-      let p = walk_path G h.walk.0 (vertex a zero_vector) (vertex u h.shift) h.walk.1 in
-      let b = beats u p.0 p.1 in
-      (b.to, b.is_known, b.head)
+  complete_finds u h = search (arith, walk_path, beats)
 
   -- and no other
   pub complete_with : IsGraph G → IsQuotientVertex G a → (y : Entry) → IsIn known y → InComponent G a y.vertex

@@ -1,5 +1,5 @@
 -- The steps of a search in breadth.
-use Rattle.std.proofs.Common.{◌≡◌, ◌⊎◌, inl, inr, ℕ, List, [], ◌∷◌, ◌++◌, map, refl, sym, ap, subst, ◌∙◌}
+use Rattle.std.proofs.Common.{◌≡◌, ◌⊎◌, inl, inr, ℕ, List, [], ◌∷◌, ◌++◌, map, refl, sym, ap, subst, ◌∙◌, arith}
 use Rattle.integers.proofs.lists.Members.{IsIn}
 use Rattle.integers.proofs.lists.More.{in_more, more_in}
 use Rattle.periodic_net.specs.Graph.{Graph, Arc, IsArc}
@@ -45,7 +45,7 @@ module _ (G : Graph) (a : ℕ) (known rest : List Entry) (x : Entry) (f : Arc) (
   }
     where
       leads : Leads known x f
-      leads = record { to = z; is_known = i; head = e; no_later = no_later_of_before z.path (x.path ++ f ∷ []) (s.breadth.here z.path f (in_paths known z i) (inl refl)) }
+      leads = search (arith, no_later_of_before, in_paths)
 
       by : (g : Arc) → IsIn (f ∷ left) g ⊎ Leads known x g → IsIn left g ⊎ Leads known x g
       by g (inl (inl d)) = inr (subst (Leads known x) d leads)
@@ -59,7 +59,8 @@ module _ (G : Graph) (a : ℕ) (known rest : List Entry) (x : Entry) (f : Arc) (
   pub settle_new : ((z : Entry) → IsIn known z → z.vertex ≡ f.to → ⊥) → IsSettling G a (known ++ new ∷ []) (rest ++ new ∷ []) x left
   settle_new none = record {
     breadth = subst (λ k. IsBreadth k (map path_of (rest ++ new ∷ [])) x.path left) (sym (paths_more known new))
-        (subst (λ r. IsBreadth (map path_of known ++ new.path ∷ []) r x.path left) (sym (paths_more rest new)) (step_new (map path_of known) (map path_of rest) x.path f left s.breadth));
+        (subst (λ r. IsBreadth (map path_of known ++ new.path ∷ []) r x.path left) (sym (paths_more rest new))
+        (step_new (map path_of known) (map path_of rest) x.path f left s.breadth));
     start = more_in known new (entry a []) (inl s.start);
     current = more_in known new x (inl s.current);
     inside = λ y i. more_in known new y (inside y (in_more rest new y i));
@@ -82,10 +83,7 @@ module _ (G : Graph) (a : ℕ) (known rest : List Entry) (x : Entry) (f : Arc) (
       path y (inr e) = subst (λ (z : Entry). IsPath G a z.path z.vertex) e (path_more G a x.path f x.vertex (s.paths x s.current) arc.0 arc.1)
 
       one : (y z : Entry) → IsIn known y ⊎ (new ≡ y) → IsIn known z ⊎ (new ≡ z) → y.vertex ≡ z.vertex → y ≡ z
-      one y z (inl i) (inl j) e = s.once y z i j e
-      one y z (inl i) (inr d) e = absurd (none y i (e ∙ sym (ap (λ (w : Entry). w.vertex) d)))
-      one y z (inr d) (inl j) e = absurd (none z j (sym e ∙ sym (ap (λ (w : Entry). w.vertex) d)))
-      one y z (inr d) (inr c) e = sym d ∙ c
+      one y z h k l = search arith
 
       leads : Leads (known ++ new ∷ []) x f
       leads = record { to = new; is_known = more_in known new new (inr refl); head = refl; no_later = no_later_itself (x.path ++ f ∷ []) }
@@ -95,7 +93,8 @@ module _ (G : Graph) (a : ℕ) (known rest : List Entry) (x : Entry) (f : Arc) (
       by g (inl (inr j)) = inl j
       by g (inr l) = inr (leads_more known new x g l)
 
-      all : (y : Entry) → IsIn known y ⊎ (new ≡ y) → IsIn (rest ++ new ∷ []) y ⊎ (y ≡ x) ⊎ ((g : Arc) → IsArc G g → g.from ≡ y.vertex → Leads (known ++ new ∷ []) y g)
+      all : (y : Entry) → IsIn known y ⊎ (new ≡ y) → IsIn (rest ++ new ∷ []) y ⊎ (y ≡ x)
+          ⊎ ((g : Arc) → IsArc G g → g.from ≡ y.vertex → Leads (known ++ new ∷ []) y g)
       all y (inr e) = inl (more_in rest new y (inr e))
       all y (inl i) = elim (s.each y i) [
         | inl j ↦ inl (more_in rest new y (inl j))
@@ -104,11 +103,9 @@ module _ (G : Graph) (a : ℕ) (known rest : List Entry) (x : Entry) (f : Arc) (
       ]
 
 -- the vertex whose arcs were all followed leads to known ones
-finished : (G : Graph) (a : ℕ) (known rest : List Entry) (x : Entry) → IsSettling G a known rest x [] → (f : Arc) → IsArc G f → f.from ≡ x.vertex → Leads known x f
-finished G a known rest x s f h e = elim (s.here f h e) [
-  | inl i ↦ elim i [ ]
-  | inr l ↦ l
-]
+finished : (G : Graph) (a : ℕ) (known rest : List Entry) (x : Entry) → IsSettling G a known rest x [] → (f : Arc) → IsArc G f → f.from ≡ x.vertex
+    → Leads known x f
+finished G a known rest x s f h e = search arith
 
 -- the next that waits
 pub settle_next : (G : Graph) (a : ℕ) (known rest : List Entry) (x y : Entry) (left : List Arc) → IsSettling G a known (y ∷ rest) x [] → AreSortedArcs left
@@ -129,7 +126,8 @@ settle_next G a known rest x y left s sorted from all = record {
         → IsIn rest z ⊎ (z ≡ y) ⊎ ((f : Arc) → IsArc G f → f.from ≡ z.vertex → Leads known z f)
     by z (inl (inl e)) = inr (inl (sym e))
     by z (inl (inr i)) = inl i
-    by z (inr (inl e)) = inr (inr (subst (λ (w : Entry). (f : Arc) → IsArc G f → f.from ≡ w.vertex → Leads known w f) (sym e) (finished G a known (y ∷ rest) x s)))
+    by z (inr (inl e)) = inr (inr (subst (λ (w : Entry). (f : Arc) → IsArc G f → f.from ≡ w.vertex → Leads known w f) (sym e)
+        (finished G a known (y ∷ rest) x s)))
     by z (inr (inr h)) = inr (inr h)
 
 -- the end
@@ -141,13 +139,13 @@ settle_end G a known x s = record {
   leads = λ y i. by y (s.each y i);
 }
   where
-    by : (y : Entry) → IsIn [] y ⊎ (y ≡ x) ⊎ ((f : Arc) → IsArc G f → f.from ≡ y.vertex → Leads known y f) → (f : Arc) → IsArc G f → f.from ≡ y.vertex → Leads known y f
-    by y (inl i) = elim i [ ]
-    by y (inr (inl e)) = subst (λ (w : Entry). (f : Arc) → IsArc G f → f.from ≡ w.vertex → Leads known w f) (sym e) (finished G a known [] x s)
-    by y (inr (inr h)) = h
+    by : (y : Entry) → IsIn [] y ⊎ (y ≡ x) ⊎ ((f : Arc) → IsArc G f → f.from ≡ y.vertex → Leads known y f) → (f : Arc) → IsArc G f → f.from ≡ y.vertex
+        → Leads known y f
+    by y k f l p = search (arith, finished)
 
 -- the start
-pub settle_start : (G : Graph) (a : ℕ) (left : List Arc) → AreSortedArcs left → ((f : Arc) → IsIn left f → IsArc G f × (f.from ≡ a)) → ((f : Arc) → IsArc G f → f.from ≡ a → IsIn left f)
+pub settle_start : (G : Graph) (a : ℕ) (left : List Arc) → AreSortedArcs left → ((f : Arc) → IsIn left f → IsArc G f × (f.from ≡ a))
+    → ((f : Arc) → IsArc G f → f.from ≡ a → IsIn left f)
     → IsSettling G a (entry a [] ∷ []) [] (entry a []) left
 settle_start G a left sorted from all = record {
   breadth = breadth_start left sorted;
@@ -165,5 +163,4 @@ settle_start G a left sorted from all = record {
 }
   where
     same : (y : Entry) → IsIn (entry a [] ∷ []) y → y ≡ entry a []
-    same y (inl e) = sym e
-    same y (inr h) = elim h [ ]
+    same y k = search arith

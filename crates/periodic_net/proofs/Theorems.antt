@@ -5,7 +5,9 @@ use Rattle.periodic_net.specs.Graph.{Graph, IsGraph, arcs}
 use Rattle.periodic_net.specs.Placement.{Placement, IsStablePlacement, HasNoCollision}
 use Rattle.periodic_net.specs.Maps.{Iso}
 use Rattle.periodic_net.specs.Classes.{IsTranslation}
-use Rattle.periodic_net.specs.Laws.{ArcsStandOnce, BarycentricPlacementsTranslate, ClassesAreEquivalence, IsomorphismIsEquivalence, IsomorphismsAreAffine, IsomorphismsCarry, IsomorphismsKeep, NormalPlacementExists, NormalPlacementIsOne, PositionsTell, SplitsRefute, TranslationsAreGroup, MovesAlike, MaximumPrinciple, TablesAreMaps}
+use Rattle.periodic_net.specs.Laws.{ArcsStandOnce, BarycentricPlacementsTranslate, ClassesAreEquivalence, IsomorphismIsEquivalence, IsomorphismsAreAffine}
+use Rattle.periodic_net.specs.Laws.{IsomorphismsCarry, IsomorphismsKeep, NormalPlacementExists, NormalPlacementIsOne, PositionsTell, SplitsRefute}
+use Rattle.periodic_net.specs.Laws.{TranslationsAreGroup, MovesAlike, MaximumPrinciple, TablesAreMaps}
 use Rattle.periodic_net.proofs.placements.MaximumPrinciple.{periodic_constant}
 use Rattle.periodic_net.proofs.isomorphisms.MapTables.{drawn, drawn_by_table, drawn_once, periodic_of_drawn, table_of, is_table_of, drawn_of_periodic}
 use Rattle.integers.proofs.vectors.Laws.{times_zero}

@@ -1,5 +1,6 @@
 -- Translations of a placed net, its classes, and the class graph.
--- Translations are those of Delgado-Friedrichs and O'Keeffe, Acta Cryst. A59 (2003) 351; the numbering of the classes and the class graph are this project's own.
+-- Translations are those of Delgado-Friedrichs and O'Keeffe, Acta Cryst. A59 (2003) 351; the numbering of the classes
+-- and the class graph are this project's own.
 use Rattle.std.specs.Prelude.{◌≡◌, ◌≢◌, ◌↔◌, ℕ, zero, suc, ◌≤◌, ◌<◌, List, Contains, AllPairs}
 use Rattle.integers.specs.Vectors.{Vector, plus, parts, HasDimension, IsBelow}
 use Rattle.periodic_net.specs.Graph.{Graph, Arc, IsArc, IsQuotientVertex, Vertex, IsVertex, AreJoined}

@@ -101,6 +101,7 @@ MaximumPrinciple = (G : Graph) → IsGraph G → IsConnected G → (m : ℕ) →
 -- and each function with a period is written down by the table of its values
 pub record TablesAreMaps : Type 0 where
   pub drawn : (G H : Graph) (M : PeriodicMap) → IsMapTable G H M → (f : Vertex → Vertex) × IsDrawnBy G M f × IsPeriodic G H f M.m M.base
-  pub once : (G H : Graph) (M : PeriodicMap) (f g : Vertex → Vertex) → IsMapTable G H M → IsDrawnBy G M f → IsDrawnBy G M g → (w : Vertex) → IsVertex G w → f w ≡ g w
+  pub once : (G H : Graph) (M : PeriodicMap) (f g : Vertex → Vertex) → IsMapTable G H M → IsDrawnBy G M f → IsDrawnBy G M g → (w : Vertex) → IsVertex G w
+      → f w ≡ g w
   pub written : (G H : Graph) (f : Vertex → Vertex) (m : ℕ) (b : Base) → IsGraph G → IsPeriodic G H f m b
       → (M : PeriodicMap) × IsMapTable G H M × (M.m ≡ m) × (M.base ≡ b) × IsDrawnBy G M f

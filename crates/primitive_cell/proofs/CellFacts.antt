@@ -1,9 +1,8 @@
 -- What is known of a primitive cell.
-use Rattle.std.proofs.Common.{◌≡◌, ℕ, ◌≤◌, List, sym, ap, subst, ◌∙◌}
+use Rattle.std.proofs.Common.{◌≡◌, ℕ, ◌≤◌, List, sym, ap, subst, ◌∙◌, arith}
 use Rattle.std.specs.List.{Contains}
-use Rattle.integers.specs.Staircase.{IsStaircase}
 use Rattle.integers.specs.Vectors.{Vector, parts, combination, HasDimension}
-use Rattle.periodic_net.specs.Classes.{IsTranslation, ClassArc}
+use Rattle.periodic_net.specs.Classes.{ClassArc}
 use Rattle.periodic_net.specs.Correspondence.{IsClass}
 use Rattle.periodic_net.specs.Graph.{IsQuotientVertex, arc}
 use Rattle.periodic_net.proofs.CallerLemmas.{flat_arcs}
@@ -19,13 +18,7 @@ use Rattle.primitive_cell.proofs.GivenEdges.{IsCell, move_translates}
 module _ (d : ℕ) (N : PlacedNet) (c : NetClasses) (us : List ℕ) (S : Stairs) (p : IsPrimitiveCell d N c us S) where
   -- it is a cell of the net
   pub cell_of : IsCell N.graph N.placement (class_at c.numbers) c.classes (number_at us) (rows_of d S)
-  cell_of = record {
-    graph = p.graph;
-    stable = p.stable;
-    classes = p.classes;
-    representatives = p.representatives;
-    basis = subst (λ (n : ℕ). IsStaircase (IsTranslation N.graph N.placement) n (rows_of d S)) (sym p.lattice.dimension) p.lattice.basis;
-  }
+  cell_of = search arith
 
   -- an arc leads between classes
   pub tail_in : (b : ClassArc) → Contains c.classes.arcs b → IsClass c.classes b.from

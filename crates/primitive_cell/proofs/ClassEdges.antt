@@ -31,18 +31,11 @@ arc_in_star K n b h e = contains_from_in (arcs_of K n) b (filter_in (λ a. a.fro
 
 -- what the first elements of a list have stands in the list before them
 taken : {X : Type 0} (xs : List X) (i : ℕ) (x : X) → Contains (take i xs) x → (j : ℕ) × (j < i) × (j < length xs) × (get_or xs j x ≡ x)
-taken xs i x h =
-    let l = length-take i xs in
-    let a = h.1 in
-    let b : h.0 < i = omega (arith, l, a) in
-    (h.0, b, omega (arith, l, a), sym (get_or-take i xs h.0 x b) ∙ h.2)
+taken xs i x h = search (arith, length-take, get_or-take)
 
 -- and the other way
 take_has : {X : Type 0} (xs : List X) (i : ℕ) (x : X) → length xs ≤ i → Contains xs x → Contains (take i xs) x
-take_has xs i x l h =
-    let e = length-take i xs in
-    let a = h.1 in
-    (h.0, omega (arith, e, a, l), get_or-take i xs h.0 x (omega (arith, a, l)) ∙ h.2)
+take_has xs i x l h = search (arith, length-take, get_or-take)
 
 -- before the first arc of a class there are those of the classes below
 pub star_starts : (K : ClassGraph) (n : ℕ) (star : List ClassArc) (b : ClassArc) → IsArcBelow K n b ↔ IsArcUpTo K n star 0 b
@@ -59,7 +52,8 @@ star_goes_on K n star i b l e b' = (there, back)
     there : With (IsArcUpTo K n star i) b b' → IsArcUpTo K n star (i + 1) b'
     there (inl (inl a)) = inl a
     there (inl (inr h)) = inr (subst (λ (xs : List ClassArc). Contains xs b') (sym more) (Contains-append_left (take i star) (get_or star i b ∷ []) b' h))
-    there (inr f) = inr (subst (λ (xs : List ClassArc). Contains xs b') (sym more) (Contains-append_right (take i star) (get_or star i b ∷ []) b' (0, omega arith, sym e ∙ f)))
+    there (inr f) = inr (subst (λ (xs : List ClassArc). Contains xs b') (sym more)
+        (Contains-append_right (take i star) (get_or star i b ∷ []) b' (0, omega arith, sym e ∙ f)))
 
     back : IsArcUpTo K n star (i + 1) b' → With (IsArcUpTo K n star i) b b'
     back (inl a) = inl (inl a)
@@ -80,7 +74,8 @@ star_rises K n i b rising l e b' = by
     from = (star_arc K n b (i, l, sym e)).1
 
     by : IsArcUpTo K n (arcs_of K n) i b' → IsBelow (class_arc_numbers b') (class_arc_numbers b)
-    by (inl a) = below_head (pos b'.from) (pos b.from) (pos b'.to ∷ parts 3 b'.vector) (pos b.to ∷ parts 3 b.vector) (let k = a.1 in omega (arith, ints, k, from))
+    by (inl a) = below_head (pos b'.from) (pos b.from) (pos b'.to ∷ parts 3 b'.vector) (pos b.to ∷ parts 3 b.vector)
+        (let k = a.1 in omega (arith, ints, k, from))
     by (inr h) =
         let t = taken (arcs_of K n) i b' h in
         let r = rising t.0 i b' t.1 l in

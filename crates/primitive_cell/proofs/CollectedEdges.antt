@@ -22,11 +22,9 @@ abbrev pub With : (ClassArc → Type 0) → ClassArc → ClassArc → Type 0
 With Q b b' = Q b' ⊎ (b ≡ b')
 
 -- from no arcs come no edges
-pub none_given : (d : ℕ) (p : Placement) (first : ℕ → ℕ) (rows : List Vector) (Q : ClassArc → Type 0) → ((b : ClassArc) → ¬ Q b) → AreGivenEdges d p first rows Q []
-none_given d p first rows Q none = record {
-  exact = λ e. ((λ h. absurd (let k = h.1 in omega arith)), (λ h. absurd (none h.1.0 h.1.1)));
-  rising = λ i j d l m. absurd (omega arith);
-}
+pub none_given : (d : ℕ) (p : Placement) (first : ℕ → ℕ) (rows : List Vector) (Q : ClassArc → Type 0) → ((b : ClassArc) → ¬ Q b)
+    → AreGivenEdges d p first rows Q []
+none_given d p first rows Q q = search arith
 
 -- the same arcs give the same edges
 pub same_given : (d : ℕ) (p : Placement) (first : ℕ → ℕ) (rows : List Vector) (Q R : ClassArc → Type 0) (es : List Arc) → ((b : ClassArc) → Q b ↔ R b)
@@ -40,7 +38,8 @@ same_given d p first rows Q R es same g = record {
 }
 
 module _ (G : Graph) (p : Placement) (class_of : ℕ → ℕ) (K : ClassGraph) (first : ℕ → ℕ) (rows : List Vector) (c : IsCell G p class_of K first rows)
-    (Q : ClassArc → Type 0) (es : List Arc) (g : AreGivenEdges G.dimension p first rows Q es) (b : ClassArc) (e : Arc) (given : IsGivenBy G.dimension p first rows b e) where
+    (Q : ClassArc → Type 0) (es : List Arc) (g : AreGivenEdges G.dimension p first rows Q es) (b : ClassArc) (e : Arc)
+    (given : IsGivenBy G.dimension p first rows b e) where
   -- an edge that b gives is e
   same_edge : (f : Arc) (b' : ClassArc) → b ≡ b' → IsGivenBy G.dimension p first rows b' f → f ≡ e
   same_edge f b' s h = given_once G p class_of K first rows c b f e (subst (λ (x : ClassArc). IsGivenBy G.dimension p first rows x f) (sym s) h) given
@@ -60,7 +59,8 @@ module _ (G : Graph) (p : Placement) (class_of : ℕ → ℕ) (K : ClassGraph) (
       back f n b' h (inr s) = absurd (other (subst IsNormalSpelling (same_edge f b' s h) n))
 
   -- an edge in normal spelling is put last
-  pub edge_added : IsNormalSpelling e → ((b' : ClassArc) → Q b' → IsBelow (class_arc_numbers b') (class_arc_numbers b)) → AreGivenEdges G.dimension p first rows (With Q b) (es ++ e ∷ [])
+  pub edge_added : IsNormalSpelling e → ((b' : ClassArc) → Q b' → IsBelow (class_arc_numbers b') (class_arc_numbers b))
+      → AreGivenEdges G.dimension p first rows (With Q b) (es ++ e ∷ [])
   edge_added normal later = record {
     exact = λ f. ((λ h. there f (Contains-append_cases es (e ∷ []) f h)), (λ k. back f k.0 k.1.0 k.1.2 k.1.1));
     rising = pairs_with (λ x y. IsBelow (edge_label x) (edge_label y)) es e g.rising

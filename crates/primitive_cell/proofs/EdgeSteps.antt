@@ -27,15 +27,18 @@ module _ (d : ℕ) (N : PlacedNet) (c : NetClasses) (us : List ℕ) (S : Stairs)
 
   module _ (p : IsPrimitiveCell d N c us S) where
     -- an edge in another spelling is passed over
-    passed : (Q : ClassArc → Type 0) (es : List Arc) (b : ClassArc) (e : Arc) → IsCollected d Q es → IsGiven d b e → ¬ IsNormalSpelling e → IsCollected d (With Q b) es
+    passed : (Q : ClassArc → Type 0) (es : List Arc) (b : ClassArc) (e : Arc) → IsCollected d Q es → IsGiven d b e → ¬ IsNormalSpelling e
+        → IsCollected d (With Q b) es
     passed Q es b e = subst (λ (n : ℕ). IsCollected n Q es → IsGiven n b e → ¬ IsNormalSpelling e → IsCollected n (With Q b) es) p.lattice.dimension
         (λ g h other. edge_passed N.graph N.placement (class_at c.numbers) c.classes (number_at us) (rows_of d S) (cell_of d N c us S p) Q es g b e h other)
 
     -- an edge in normal spelling is put last
     added : (Q : ClassArc → Type 0) (es : List Arc) (b : ClassArc) (e : Arc) → IsCollected d Q es → IsGiven d b e → IsNormalSpelling e
         → ((b' : ClassArc) → Q b' → IsBelow (class_arc_numbers b') (class_arc_numbers b)) → IsCollected d (With Q b) (es ++ e ∷ [])
-    added Q es b e = subst (λ (n : ℕ). IsCollected n Q es → IsGiven n b e → IsNormalSpelling e → ((b' : ClassArc) → Q b' → IsBelow (class_arc_numbers b') (class_arc_numbers b)) → IsCollected n (With Q b) (es ++ e ∷ [])) p.lattice.dimension
-        (λ g h normal later. edge_added N.graph N.placement (class_at c.numbers) c.classes (number_at us) (rows_of d S) (cell_of d N c us S p) Q es g b e h normal later)
+    added Q es b e = subst (λ (n : ℕ). IsCollected n Q es → IsGiven n b e → IsNormalSpelling e
+        → ((b' : ClassArc) → Q b' → IsBelow (class_arc_numbers b') (class_arc_numbers b)) → IsCollected n (With Q b) (es ++ e ∷ [])) p.lattice.dimension
+        (λ g h normal later. edge_added N.graph N.placement (class_at c.numbers) c.classes (number_at us) (rows_of d S)
+        (cell_of d N c us S p) Q es g b e h normal later)
 
     -- no arc leads from a class below 1
     pub before_classes : AreEdgesBelow d N c us S 1 []
@@ -49,26 +52,32 @@ module _ (d : ℕ) (N : PlacedNet) (c : NetClasses) (us : List ℕ) (S : Stairs)
 
       -- before the first arc
       pub class_starts : (es : List Arc) → AreEdgesBelow d N c us S n es → IsCollected d (IsArcUpTo c.classes n star 0) es
-      class_starts es = same_given d N.placement (number_at us) (rows_of d S) (IsArcBelow c.classes n) (IsArcUpTo c.classes n star 0) es (star_starts c.classes n star)
+      class_starts es h = search (arith, same_given, star_starts)
 
       -- after an arc whose edge is in another spelling
-      pub class_passes : (es : List Arc) (i : ℕ) (b : ClassArc) (e : Arc) → i < length star → b ≡ get_or star i b → IsCollected d (IsArcUpTo c.classes n star i) es → IsGiven d b e
+      pub class_passes : (es : List Arc) (i : ℕ) (b : ClassArc) (e : Arc) → i < length star → b ≡ get_or star i b
+          → IsCollected d (IsArcUpTo c.classes n star i) es → IsGiven d b e
           → ¬ IsNormalSpelling e → IsCollected d (IsArcUpTo c.classes n star (i + 1)) es
       class_passes es i b e l f g h other =
-          same_given d N.placement (number_at us) (rows_of d S) (With (IsArcUpTo c.classes n star i) b) (IsArcUpTo c.classes n star (i + 1)) es (star_goes_on c.classes n star i b l f)
+          same_given d N.placement (number_at us) (rows_of d S) (With (IsArcUpTo c.classes n star i) b) (IsArcUpTo c.classes n star (i + 1)) es
+          (star_goes_on c.classes n star i b l f)
           (passed (IsArcUpTo c.classes n star i) es b e g h other)
 
       -- after an arc whose edge is in normal spelling
-      pub class_adds : (es : List Arc) (i : ℕ) (b : ClassArc) (e : Arc) → i < length star → b ≡ get_or star i b → IsCollected d (IsArcUpTo c.classes n star i) es → IsGiven d b e
+      pub class_adds : (es : List Arc) (i : ℕ) (b : ClassArc) (e : Arc) → i < length star → b ≡ get_or star i b
+          → IsCollected d (IsArcUpTo c.classes n star i) es → IsGiven d b e
           → IsNormalSpelling e → IsCollected d (IsArcUpTo c.classes n star (i + 1)) (es ++ e ∷ [])
       class_adds es i b e l f g h normal =
-          let later = subst (λ (xs : List ClassArc). i < length xs → b ≡ get_or xs i b → (b' : ClassArc) → IsArcUpTo c.classes n xs i b' → IsBelow (class_arc_numbers b') (class_arc_numbers b)) (sym is)
+          let later = subst (λ (xs : List ClassArc). i < length xs → b ≡ get_or xs i b → (b' : ClassArc) → IsArcUpTo c.classes n xs i b'
+          → IsBelow (class_arc_numbers b') (class_arc_numbers b)) (sym is)
           (star_rises c.classes n i b (p.rising n k)) in
-          same_given d N.placement (number_at us) (rows_of d S) (With (IsArcUpTo c.classes n star i) b) (IsArcUpTo c.classes n star (i + 1)) (es ++ e ∷ []) (star_goes_on c.classes n star i b l f)
+          same_given d N.placement (number_at us) (rows_of d S) (With (IsArcUpTo c.classes n star i) b) (IsArcUpTo c.classes n star (i + 1)) (es ++ e ∷ [])
+          (star_goes_on c.classes n star i b l f)
           (added (IsArcUpTo c.classes n star i) es b e g h normal (later l f))
 
       -- after the last arc
       pub class_ends : (es : List Arc) (i : ℕ) → length star ≤ i → IsCollected d (IsArcUpTo c.classes n star i) es → AreEdgesBelow d N c us S (n + 1) es
       class_ends es i l =
-          let ends = subst (λ (xs : List ClassArc). length xs ≤ i → (b : ClassArc) → IsArcUpTo c.classes n xs i b ↔ IsArcBelow c.classes (n + 1) b) (sym is) (star_ends c.classes n i) in
+          let ends = subst (λ (xs : List ClassArc). length xs ≤ i → (b : ClassArc) → IsArcUpTo c.classes n xs i b ↔ IsArcBelow c.classes (n + 1) b) (sym is)
+          (star_ends c.classes n i) in
           same_given d N.placement (number_at us) (rows_of d S) (IsArcUpTo c.classes n star i) (IsArcBelow c.classes (n + 1)) es (ends l)

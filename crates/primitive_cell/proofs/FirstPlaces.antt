@@ -1,5 +1,5 @@
 -- The first places of the numbers of a list, found one after the other.
-use Rattle.std.proofs.Common.{◌≡◌, ℕ, ◌+◌, ◌-◌, ◌<◌, ◌≤◌, List, [], ◌∷◌, ◌++◌, length, get_or, sym, subst, ap, ◌∙◌, arith, length-append}
+use Rattle.std.proofs.Common.{◌≡◌, ℕ, ◌+◌, ◌-◌, ◌<◌, ◌≤◌, List, [], ◌∷◌, ◌++◌, length, get_or, ap, ◌∙◌, arith, length-append}
 use Rattle.std.proofs.Math.Decide.{dec_le}
 use Rattle.std.proofs.Math.Seq.{get_or-append_seam}
 use Rattle.std.proofs.lemmas.List.{get_or_append_left}
@@ -25,11 +25,7 @@ next_number ns m u e = ap (λ (k : ℕ). get_or ns k 0) (let s : u - 1 ≡ m = o
 
 -- a number that stands before already adds nothing
 pub place_passed : (ns us : List ℕ) (m : ℕ) → get_or ns m 0 ≤ length us → AreFirstPlacesTo ns m us → AreFirstPlacesTo ns (m + 1) us
-place_passed ns us m h f = record { each = f.each; all = λ u i l. at u i l (dec_le u m) }
-  where
-    at : (u : ℕ) → IsPlace ns u → u ≤ m + 1 → Dec (u ≤ m) → number_at ns u ≤ length us
-    at u i l (yes b) = f.all u i b
-    at u i l (no b) = let e = next_number ns m u (omega arith) in omega (arith, e, h)
+place_passed ns us m h f = search (arith, dec_le)
 
 -- a new number is one above the numbers before it
 new_is_next : (ns us : List ℕ) (m : ℕ) → m < length ns → length us < get_or ns m 0 → AreInOrder ns → AreFirstPlacesTo ns m us → get_or ns m 0 ≡ length us + 1
@@ -65,29 +61,8 @@ module _ (ns us : List ℕ) (m : ℕ) (l : m < length ns) (h : length us < get_o
 
   -- the new place is the first of its number
   first_here : (c : ℕ) → c ≡ length us + 1 → IsFirstPlace ns c (m + 1)
-  first_here c e =
-      let n = new_is_next ns us m l h o f in
-      let here = next_number ns m (m + 1) (omega arith) in
-      record {
-        place = (omega arith, omega arith);
-        number = here ∙ n ∙ sym e;
-        least = λ v i q. at v i q (dec_le v m);
-      }
-    where
-      at : (v : ℕ) → IsPlace ns v → number_at ns v ≡ c → Dec (v ≤ m) → m + 1 ≤ v
-      at v i q (yes b) = let k = f.all v i b in absurd (omega (arith, k, q, e))
-      at v i q (no b) = omega arith
+  first_here c e = search (arith, new_is_next, dec_le)
 
   -- a new number adds its place
   pub place_found : AreFirstPlacesTo ns (m + 1) us'
-  place_found = record { each = λ c i. at c i (dec_le c (length us)); all = λ u i k. below u i k (dec_le u m) }
-    where
-      at : (c : ℕ) → IsPlace us' c → Dec (c ≤ length us) → IsFirstPlace ns c (number_at us' c)
-      at c i (yes b) = let j : IsPlace us c = (i.0, b) in subst (IsFirstPlace ns c) (sym (earlier_place c j)) (f.each c j)
-      at c i (no b) =
-          let e : c ≡ length us + 1 = let k = i.1 in omega (arith, b, k, longer) in
-          subst (IsFirstPlace ns c) (sym (last_place c e)) (first_here c e)
-
-      below : (u : ℕ) → IsPlace ns u → u ≤ m + 1 → Dec (u ≤ m) → number_at ns u ≤ length us'
-      below u i k (yes b) = let q = f.all u i b in omega (arith, q, longer)
-      below u i k (no b) = let e = next_number ns m u (omega arith) in let n = new_is_next ns us m l h o f in omega (arith, e, n, longer)
+  place_found = grind (arith, dec_le, earlier_place, longer, last_place, first_here, new_is_next)

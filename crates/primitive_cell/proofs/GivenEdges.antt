@@ -88,7 +88,8 @@ module _ (G : Graph) (p : Placement) (class_of : ℕ → ℕ) (K : ClassGraph) (
       record {
         u = s.along.from;
         v = first b.to;
-        from = subst (λ (u : ℕ). IsLeastMember G class_of e.from u) (sym s.from) (subst (λ (n : ℕ). IsLeastMember G class_of n (first b.from)) (sym g.from) s.tail);
+        from = subst (λ (u : ℕ). IsLeastMember G class_of e.from u) (sym s.from)
+            (subst (λ (n : ℕ). IsLeastMember G class_of n (first b.from)) (sym g.from) s.tail);
         to = subst (λ (n : ℕ). IsLeastMember G class_of n (first b.to)) (sym g.to) s.head;
         via = s.along;
         is_arc = s.is_arc;
@@ -105,8 +106,17 @@ module _ (G : Graph) (p : Placement) (class_of : ℕ → ℕ) (K : ClassGraph) (
       let h = (c.classes.arcs b).1 (g.via, g.is_arc, record { from = ap class_of g.tail ∙ g.from.member; to = g.head; vector = refl }) in
       let s = shown b h in
       let u : g.u ≡ first e.from = one_least G class_of e.from g.u (first e.from) g.from s.tail in
-      let v : g.v ≡ first e.to = one_least G class_of e.to g.v (first e.to) g.to s.head in
-      (b, h, record { from = refl; to = refl; dimension = g.dimension; shift = g.shift ∙ (λ j. minus (plus (arc_vector p g.via) (base p (u j))) (base p (v j))) })
+      let v : g.v ≡ first e.to = one_least G class_of e.to g.v (first e.to) g.to s.head in (
+        b,
+        h,
+        record {
+          from = refl;
+          to = refl;
+          dimension = g.dimension;
+          shift = g.shift
+              ∙ (λ j. minus (plus (arc_vector p g.via) (base p (u j))) (base p (v j)));
+        },
+      )
 
   -- the shift, as a sum of the rows
   sum_is : (b : ClassArc) (e : Arc) → IsGivenBy G.dimension p first rows b e → row_sum rows e.shift ≡ move_of p first b
@@ -137,12 +147,16 @@ module _ (G : Graph) (p : Placement) (class_of : ℕ → ℕ) (K : ClassGraph) (
           let tail : b.from ≡ b'.from = cc in
           let head : b.to ≡ b'.to = cc in
           let m = moved_below b.vector b'.vector (base p (first b.from)) (base p (first b.to)) z in
-          let n : minus (plus b'.vector (base p (first b.from))) (base p (first b.to)) ≡ move_of p first b' = λ j. minus (plus b'.vector (base p (first (tail j)))) (base p (first (head j))) in
+          let n : minus (plus b'.vector (base p (first b.from))) (base p (first b.to)) ≡ move_of p first b' =
+          λ j. minus (plus b'.vector (base p (first (tail j)))) (base p (first (head j))) in
           coordinates_rise (IsTranslation G p) G.dimension rows c.basis c.graph.dimension e.shift f.shift g.dimension g'.dimension
-          (subst (λ (v : Vector). IsBelow (parts 3 v) (parts 3 (row_sum rows f.shift))) (sym (sum_is b e g)) (subst (λ (v : Vector). IsBelow (parts 3 (move_of p first b)) (parts 3 v)) (n ∙ sym (sum_is b' f g')) m))
+          (subst (λ (v : Vector). IsBelow (parts 3 v) (parts 3 (row_sum rows f.shift))) (sym (sum_is b e g))
+          (subst (λ (v : Vector). IsBelow (parts 3 (move_of p first b)) (parts 3 v)) (n ∙ sym (sum_is b' f g')) m))
 
-      by : (pos b.from <ℤ pos b'.from) ⊎ ((pos b.from ≡ pos b'.from) × IsBelow (pos b.to ∷ parts 3 b.vector) (pos b'.to ∷ parts 3 b'.vector)) → IsBelow (edge_label e) (edge_label f)
-      by (inl x) = below_head (pos e.from) (pos f.from) (pos e.to ∷ parts 3 e.shift) (pos f.to ∷ parts 3 f.shift) (let a = g.from in let d = g'.from in omega (arith, ints, x, a, d))
+      by : (pos b.from <ℤ pos b'.from) ⊎ ((pos b.from ≡ pos b'.from) × IsBelow (pos b.to ∷ parts 3 b.vector) (pos b'.to ∷ parts 3 b'.vector))
+          → IsBelow (edge_label e) (edge_label f)
+      by (inl x) = below_head (pos e.from) (pos f.from) (pos e.to ∷ parts 3 e.shift) (pos f.to ∷ parts 3 f.shift)
+          (let a = g.from in let d = g'.from in omega (arith, ints, x, a, d))
       by (inr (x, r)) = below_rest (pos e.from) (pos f.from) (pos e.to ∷ parts 3 e.shift) (pos f.to ∷ parts 3 f.shift) (from x)
           (elim (below_ways (pos b.to) (pos b'.to) (parts 3 b.vector) (parts 3 b'.vector) r) [
             | inl y ↦ below_head (pos e.to) (pos f.to) (parts 3 e.shift) (parts 3 f.shift) (let a = g.to in let d = g'.to in omega (arith, ints, y, a, d))

@@ -34,7 +34,8 @@ pub record IsKnown (N : PlacedNet) (c : NetClasses) : Type 0 where
   pub at : AreClassesAt N.graph N.placement c.numbers c.classes c.translations
 
 -- from what the types promise
-pub known : (N : PlacedNet) (c : NetClasses) → IsGraph N.graph → IsSmall N.graph → IsStablePlacement N.graph N.placement → c.graph ≡ N.graph → AreClasses c → IsKnown N c
+pub known : (N : PlacedNet) (c : NetClasses) → IsGraph N.graph → IsSmall N.graph → IsStablePlacement N.graph N.placement → c.graph ≡ N.graph → AreClasses c
+    → IsKnown N c
 known N c g small stable same a = record { graph = g; small = small; stable = stable; at = classes_at N c g stable same a }
 
 module _ (G : Graph) (p : Placement) (ns : List ℕ) (K : ClassGraph) (count : length ns ≡ G.vertices) (k : IsClassGraph G p (class_at ns) K) where
@@ -71,18 +72,9 @@ module _ (G : Graph) (p : Placement) (ns : List ℕ) (K : ClassGraph) (count : l
 
     -- the first place of a class is its least member
     pub least_members : (c : ℕ) → IsClass K c → IsLeastMember G (class_at ns) c (number_at us c)
-    least_members c i =
-        let r = f.each c (i.0, let b = i.1 in omega (arith, b, as_many)) in
-        record { is_vertex = vertex_of (number_at us c) r.place; member = r.number; least = λ v j e. r.least v (place_of v j) e }
+    least_members c i = search (arith, as_many)
 
 -- so the primitive cell is made
-pub cell_made : (d : ℕ) (N : PlacedNet) (c : NetClasses) (us : List ℕ) (S : Stairs) → IsKnown N c → AreFirstPlaces c.numbers us → IsTranslationLattice d N S → IsPrimitiveCell d N c us S
-cell_made d N c us S k f l = record {
-  graph = k.graph;
-  stable = k.stable;
-  classes = k.at.is_classes;
-  rising = k.at.rising;
-  count = as_many N.graph N.placement c.numbers c.classes k.at.count k.at.is_classes us f;
-  representatives = least_members N.graph N.placement c.numbers c.classes k.at.count k.at.is_classes us f;
-  lattice = l;
-}
+pub cell_made : (d : ℕ) (N : PlacedNet) (c : NetClasses) (us : List ℕ) (S : Stairs) → IsKnown N c → AreFirstPlaces c.numbers us → IsTranslationLattice d N S
+    → IsPrimitiveCell d N c us S
+cell_made d N c us S k f l = search (arith, as_many, least_members)

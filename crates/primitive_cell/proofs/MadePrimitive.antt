@@ -15,7 +15,8 @@ use Rattle.primitive_cell.specs.Places.{number_at}
 use Rattle.primitive_cell.proofs.GivenEdges.{gives_of, given_of}
 use Rattle.primitive_cell.proofs.CellFacts.{cell_of, tail_in}
 
-module _ (d : ℕ) (N : PlacedNet) (c : NetClasses) (us : List ℕ) (S : Stairs) (p : IsPrimitiveCell d N c us S) (es : List Arc) (g : AreEdgesBelow d N c us S (c.classes.count + 1) es) where
+module _ (d : ℕ) (N : PlacedNet) (c : NetClasses) (us : List ℕ) (S : Stairs) (p : IsPrimitiveCell d N c us S) (es : List Arc)
+    (g : AreEdgesBelow d N c us S (c.classes.count + 1) es) where
   -- the edges are what the primitive graph gives
   edges_are : (e : Arc) → Contains es e ↔ (IsNormalSpelling e × Gives N.graph N.placement (class_at c.numbers) (rows_of d S) e)
   edges_are e = (there, back)
@@ -36,16 +37,8 @@ module _ (d : ℕ) (N : PlacedNet) (c : NetClasses) (us : List ℕ) (S : Stairs)
 
   -- so this is the primitive graph
   pub primitive_made : IsPrimitive N.graph N.placement (class_at c.numbers) (rows_of d S) (graph_with d c.classes.count es)
-  primitive_made = record {
-    basis_is = (cell_of d N c us S p).basis;
-    dimension = sym p.lattice.dimension;
-    below = p.classes.below;
-    last = p.classes.last;
-    edges = edges_are;
-    sorted = g.rising;
-  }
+  primitive_made = search (arith, edges_are)
 
   -- and it is divided
   pub divided_made : IsDivided N.graph (graph_with d c.classes.count es)
-  divided_made =
-      primitive_is_divided N.graph N.placement (class_at c.numbers) (rows_of d S) (graph_with d c.classes.count es) p.graph p.stable p.classes.numbering primitive_made
+  divided_made = search (arith, primitive_is_divided, primitive_made)

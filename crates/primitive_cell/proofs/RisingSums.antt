@@ -16,7 +16,8 @@ use Rattle.integers.proofs.vectors.Precedence.{Precedes, precedes, parts_below}
 factor_below : (a x y : ℤ) → pos 0 <ℤ a → x <ℤ y → (x *ℤ a) <ℤ (y *ℤ a)
 factor_below (pos zero) x y p h = absurd (omega (arith, ints))
 factor_below (pos (suc n)) x y p h =
-    subst (λ (t : ℤ). t <ℤ (y *ℤ pos (suc n))) (*ℤ_comm (pos (suc n)) x) (subst (λ (t : ℤ). (pos (suc n) *ℤ x) <ℤ t) (*ℤ_comm (pos (suc n)) y) (multiple_below n x y h))
+    subst (λ (t : ℤ). t <ℤ (y *ℤ pos (suc n))) (*ℤ_comm (pos (suc n)) x)
+    (subst (λ (t : ℤ). (pos (suc n) *ℤ x) <ℤ t) (*ℤ_comm (pos (suc n)) y) (multiple_below n x y h))
 factor_below (negsuc n) x y p h = absurd (omega (arith, ints))
 
 -- one more number on both sides keeps the order
@@ -28,14 +29,7 @@ sum_below s t x y e h = subst (λ (u : ℤ). (s +ℤ x) <ℤ (u +ℤ y)) e (by s
 
 -- what has a factor 0 adds nothing
 adds_nothing : (s z c : ℤ) → (z ≡ pos 0) ⊎ (c ≡ pos 0) → s +ℤ z *ℤ c ≡ s
-adds_nothing s z c (inl e) = ap (λ (t : ℤ). s +ℤ t *ℤ c) e ∙ none s c
-  where
-    none : (s c : ℤ) → s +ℤ pos 0 *ℤ c ≡ s
-    none s c = omega (arith, ints)
-adds_nothing s z c (inr e) = ap (λ (t : ℤ). s +ℤ z *ℤ t) e ∙ none s z
-  where
-    none : (s z : ℤ) → s +ℤ z *ℤ pos 0 ≡ s
-    none s z = omega (arith, ints)
+adds_nothing s z c h = search arith
 
 module _ (L : Vector → Type 0) (d : ℕ) (rows : List Vector) (s : IsStaircase L d rows) (dim : (d ≡ 2) ⊎ (d ≡ 3)) where
   -- the leading parts are positive
@@ -68,8 +62,7 @@ module _ (L : Vector → Type 0) (d : ℕ) (rows : List Vector) (s : IsStaircase
   module _ (k l : Vector) (h : HasDimension d k) (g : HasDimension d l) where
     -- a lesser first coordinate makes a lesser first part
     first_less : k.x <ℤ l.x → (row_sum rows k).x <ℤ (row_sum rows l).x
-    first_less x = subst (λ (t : ℤ). t <ℤ (row_sum rows l).x) (sym (first_part k h))
-        (subst (λ (t : ℤ). (k.x *ℤ (row rows 0).x) <ℤ t) (sym (first_part l g)) (factor_below (row rows 0).x k.x l.x leads_first x))
+    first_less x = search (arith, first_part, factor_below, leads_first)
 
     -- and an equal one an equal part
     first_same : k.x ≡ l.x → (row_sum rows k).x ≡ (row_sum rows l).x
@@ -90,7 +83,8 @@ module _ (L : Vector → Type 0) (d : ℕ) (rows : List Vector) (s : IsStaircase
     third_less x y z = elim dim [
       | inl e ↦ absurd (let a = h e in let b = g e in omega (arith, ints, a, b, z))
       | inr e ↦
-          sum_below (k.x *ℤ (row rows 0).z) (l.x *ℤ (row rows 0).z) (k.y *ℤ (row rows 1).z +ℤ k.z *ℤ (row rows 2).z) (l.y *ℤ (row rows 1).z +ℤ l.z *ℤ (row rows 2).z)
+          sum_below (k.x *ℤ (row rows 0).z) (l.x *ℤ (row rows 0).z) (k.y *ℤ (row rows 1).z +ℤ k.z *ℤ (row rows 2).z)
+          (l.y *ℤ (row rows 1).z +ℤ l.z *ℤ (row rows 2).z)
           (ap (λ (t : ℤ). t *ℤ (row rows 0).z) x)
           (sum_below (k.y *ℤ (row rows 1).z) (l.y *ℤ (row rows 1).z) (k.z *ℤ (row rows 2).z) (l.z *ℤ (row rows 2).z) (ap (λ (t : ℤ). t *ℤ (row rows 1).z) y)
           (factor_below (row rows 2).z k.z l.z ((s.each 2 (omega arith)).may.leads) z))
@@ -101,12 +95,11 @@ module _ (L : Vector → Type 0) (d : ℕ) (rows : List Vector) (s : IsStaircase
     sums_rise b = parts_below (row_sum rows k) (row_sum rows l) (by (precedes k l b))
       where
         by : Precedes k l → Precedes (row_sum rows k) (row_sum rows l)
-        by (inl x) = inl (first_less x)
-        by (inr (x, inl y)) = inr (first_same x, inl (second_less x y))
-        by (inr (x, inr (y, z))) = inr (first_same x, inr (second_same x y, third_less x y z))
+        by h = search (arith, first_less, first_same, second_less, second_same, third_less)
 
   -- so coordinates rise with the sums
-  pub coordinates_rise : (k l : Vector) → HasDimension d k → HasDimension d l → IsBelow (parts 3 (row_sum rows k)) (parts 3 (row_sum rows l)) → IsBelow (parts 3 k) (parts 3 l)
+  pub coordinates_rise : (k l : Vector) → HasDimension d k → HasDimension d l → IsBelow (parts 3 (row_sum rows k)) (parts 3 (row_sum rows l))
+      → IsBelow (parts 3 k) (parts 3 l)
   coordinates_rise k l h g b = by (below_or_equal (parts 3 k) (parts 3 l))
     where
       by : IsBelow (parts 3 k) (parts 3 l) ⊎ ((parts 3 k ≡ parts 3 l) ⊎ IsBelow (parts 3 l) (parts 3 k)) → IsBelow (parts 3 k) (parts 3 l)

@@ -24,7 +24,8 @@ combination_is_sum d (inr e) S k flat =
     ∙ ap (λ (v : Vector). plus (times k.x b.first) (plus (times k.y b.second) v)) (plus_zero (times k.z b.third))
 
 -- the product of the rows is that of the pivots
-rows_product : (a b c e f i : ℤ) → triple_product (record { x = a; y = b; z = c }) (record { x = pos 0; y = e; z = f }) (record { x = pos 0; y = pos 0; z = i }) ≡ a *ℤ (e *ℤ i)
+rows_product : (a b c e f i : ℤ) → triple_product (record { x = a; y = b; z = c }) (record { x = pos 0; y = e; z = f })
+    (record { x = pos 0; y = pos 0; z = i }) ≡ a *ℤ (e *ℤ i)
 rows_product a b c e f i = simp ring (omega (arith, linear))
 
 -- the rows of a staircase are a basis
@@ -37,9 +38,4 @@ stairs_are_basis d t S h = record {
 }
   where
     by : (S.a ≡ pos 0) ⊎ (S.e *ℤ S.i ≡ pos 0) → ⊥
-    by (inl z) = positive_is_some S.a h.reduced.a z
-    by (inr z) = last (factor_zero S.e S.i z)
-      where
-        last : (S.e ≡ pos 0) ⊎ (S.i ≡ pos 0) → ⊥
-        last (inl y) = positive_is_some S.e h.reduced.e y
-        last (inr y) = positive_is_some S.i h.reduced.i y
+    by k = search (arith, positive_is_some, factor_zero)

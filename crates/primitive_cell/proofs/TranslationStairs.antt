@@ -51,14 +51,16 @@ module _ (G : Graph) (p : Placement) (g : IsGraph G) (s : IsStablePlacement G p)
       let first : v ≡ plus (times D b.2.steps) b.0 = b.2.is ∙ plus_commutative b.0 (times D b.2.steps) in
       let second : plus (times D b.2.steps) b.0 ≡ plus (times D b.2.steps) (plus (times D x.0) (combination o.ks rs)) =
       ap (plus (times D b.2.steps)) (o.sum ∙ ap (λ (w : Vector). plus w (combination o.ks rs)) x.1) in
-      let third = sym (plus_associative (times D b.2.steps) (times D x.0) (combination o.ks rs)) ∙ ap (λ (w : Vector). plus w (combination o.ks rs)) (sym (times_plus D b.2.steps x.0)) in
+      let third = sym (plus_associative (times D b.2.steps) (times D x.0) (combination o.ks rs))
+      ∙ ap (λ (w : Vector). plus w (combination o.ks rs)) (sym (times_plus D b.2.steps x.0)) in
       a.into v (record { u = u; member = u_in; ks = o.ks; sum = first ∙ second ∙ third })
 
   -- so the members of what is made are the translations
   pub made_are_translations : (v : Vector) → M v ↔ IsTranslation G p v
   made_are_translations v = (made_translation v, translation_made v)
 
-module _ (N : PlacedNet) (g : IsGraph N.graph) (s : IsStablePlacement N.graph N.placement) (rs : List Vector) (t : AreTranslations N.graph N.placement rs) (S T : Stairs) where
+module _ (N : PlacedNet) (g : IsGraph N.graph) (s : IsStablePlacement N.graph N.placement) (rs : List Vector) (t : AreTranslations N.graph N.placement rs)
+    (S T : Stairs) where
   -- from the multiples of z, in dimension d
   abbrev Made : ℕ → ℤ → Type 0
   Made d z = AreMultiples d z (Members d S) → IsWith (Members d S) rs (Members d T) → IsStaircase (Members d T) d (rows_of d T) → IsTranslationLattice d N T

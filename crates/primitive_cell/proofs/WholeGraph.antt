@@ -1,6 +1,6 @@
 -- The lists of all classes, written in coordinates, are a class graph in memory.
 use Rattle.std.proofs.Common.{◌≡◌, ◌∙◌, ◌⊎◌, sym, ap, subst, ℕ, suc, ◌+◌, ◌-◌, ◌<◌, ◌≤◌, List, [], length, map, arith}
-use Rattle.std.specs.Prelude.{flat_map, slice_index_or, ◌==◌}
+use Rattle.std.specs.Prelude.{slice_index_or, ◌==◌}
 use Rattle.std.specs.List.{Contains}
 use Rattle.std.proofs.Math.ListN.{get_or}
 use Rattle.std.proofs.lemmas.List.{length-map, same_lists, get_or-map, get_or_default}
@@ -40,9 +40,7 @@ module _ (d : ℕ) (S : Stairs) (shape : HasStairShape d S) (L : ClassGraph) (sm
 
   -- the list at place k
   at_place : (k : ℕ) → k < length stars → IsInCoordinates d S (arcs_of L (suc k)) (slice_index_or stars k [])
-  at_place k l =
-      let c = count in
-      subst (IsInCoordinates d S (arcs_of L (suc k))) (star_after stars k) (written.each (suc k) (omega arith) (omega (arith, l, c)))
+  at_place k l = search (arith, star_after)
 
   -- it spells the list of L
   list_spelled : (k : ℕ) → k < length stars → map spelled (slice_index_or stars k []) ≡ slice_index_or whole.stars k []
@@ -64,10 +62,7 @@ module _ (d : ℕ) (S : Stairs) (shape : HasStairShape d S) (L : ClassGraph) (sm
 
   -- and the class graph is L in coordinates
   spells : graph_by_basis (basis_of S) K ≡ L
-  spells =
-      let n = count in
-      let arcs : map spelled K.arcs ≡ L.arcs = joined_images spelled stars ∙ ap (flat_map (λ s. s)) lists_spelled ∙ ap (λ (M : ClassGraph). M.arcs) whole.same in
-      λ i. record { dimension = sym dimension i; count = n i; arcs = arcs i }
+  spells = search (arith, joined_images, lists_spelled)
 
   -- an arc of a list is one of its class, with a proper vector
   record IsPlaced (k : ℕ) (a : ClassArc) : Type 0 where
@@ -95,7 +90,8 @@ module _ (d : ℕ) (S : Stairs) (shape : HasStairShape d S) (L : ClassGraph) (sm
   -- it leads between classes, since what it spells does, by a vector of the dimension
   proper_arc : (a : ClassArc) → Contains K.arcs a → IsProperArc K a
   proper_arc a c =
-      let image = subst (λ (M : ClassGraph). Contains M.arcs (spelled a)) spells (contains_from_in (map spelled K.arcs) (spelled a) (map_in spelled K.arcs a (is_in K.arcs a c))) in
+      let image = subst (λ (M : ClassGraph). Contains M.arcs (spelled a)) spells
+      (contains_from_in (map spelled K.arcs) (spelled a) (map_in spelled K.arcs a (is_in K.arcs a c))) in
       let p = small.net.balanced.arcs (spelled a) image in
       let inside = λ (n : ℕ) (i : IsClass L n). subst (λ (m : ℕ). (1 ≤ n) × (n ≤ m)) (sym count) i in
       record { from = inside a.from p.from; to = inside a.to p.to; vector = (each_placed a c).2.proper.dimension }

@@ -1,5 +1,5 @@
 -- A class graph whose lists of arcs are written in coordinates, one after the other.
-use Rattle.std.proofs.Common.{◌≡◌, ◌∙◌, refl, sym, ap, subst, ℕ, suc, ◌+◌, ◌-◌, ◌<◌, ◌≤◌, List, [], ◌∷◌, ◌++◌, length, map, arith, ⊎_elim}
+use Rattle.std.proofs.Common.{◌≡◌, ◌∙◌, refl, ap, ℕ, suc, ◌+◌, ◌-◌, ◌<◌, ◌≤◌, List, [], ◌∷◌, ◌++◌, length, map, arith}
 use Rattle.std.specs.Prelude.{flat_map, slice_index_or}
 use Rattle.std.proofs.Math.ListN.{get_or}
 use Rattle.std.proofs.lemmas.Bool.{cases_lt}
@@ -14,24 +14,11 @@ use Rattle.primitive_cell.specs.Lattices.{IsInCoordinates, AreInCoordinates}
 -- one class more
 pub one_more_written : (d : ℕ) (S : Stairs) (K : ClassGraph) (m : ℕ) (stars : List (List ClassArc)) (new : List ClassArc)
     → AreInCoordinates d S K m stars → IsInCoordinates d S (arcs_of K m) new → AreInCoordinates d S K (m + 1) (stars ++ new ∷ [])
-one_more_written d S K m stars new h n =
-    let count = h.count in
-    let longer = length-append stars (new ∷ []) in
-    record {
-      count = omega (arith, count, longer);
-      each = λ c low high.
-          ⊎_elim (λ (l : c < m).
-          let k : c - 1 < length stars = omega (arith, l, low, count) in
-          subst (IsInCoordinates d S (arcs_of K c)) (sym (get_or_append_left stars (new ∷ []) [] (c - 1) k)) (h.each c low l))
-          (λ (l : m ≤ c).
-          let e : m ≡ c = omega (arith, l, high) in
-          let k : length stars ≡ c - 1 = omega (arith, e, count) in
-          subst (IsInCoordinates d S (arcs_of K c)) (sym (get_or_push stars new [] (c - 1) k)) (subst (λ (x : ℕ). IsInCoordinates d S (arcs_of K x) new) e n))
-          (cases_lt c m);
-    }
+one_more_written d S K m stars new h n = search (arith, length-append, get_or_append_left, get_or_push, cases_lt)
 
 -- lists whose arcs leave their classes, stated by places
-pub leave_from : (first : ℕ) (stars : List (List ClassArc)) → ((k : ℕ) → k < length stars → (a : ClassArc) → IsIn (slice_index_or stars k []) a → a.from ≡ first + k)
+pub leave_from : (first : ℕ) (stars : List (List ClassArc)) → ((k : ℕ) → k < length stars → (a : ClassArc) → IsIn (slice_index_or stars k []) a
+    → a.from ≡ first + k)
     → LeaveFrom first stars
 leave_from first [] h = tt
 leave_from first (s ∷ rest) h = (

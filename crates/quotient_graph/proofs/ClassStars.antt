@@ -56,10 +56,12 @@ at_place first (suc k) (s ∷ rest) l h =
     let r = at_place (suc first) k rest (omega (arith, l)) h.1 in
     rw e (r ∙ sym (
     filter-append (leaves (suc first + k)) s (flat_map (λ t. t) rest)
-    ∙ ap (λ (t : List ClassArc). t ++ filter (leaves (suc first + k)) (flat_map (λ u. u) rest)) (none_leaves (suc first + k) s (λ a i d. let f = h.0 a i in omega (arith, d, f)))))
+    ∙ ap (λ (t : List ClassArc). t ++ filter (leaves (suc first + k)) (flat_map (λ u. u) rest))
+    (none_leaves (suc first + k) s (λ a i d. let f = h.0 a i in omega (arith, d, f)))))
 
 -- lists whose arcs leave their classes are the arcs from the classes
 pub stars_are_arcs : (stars : List (List ClassArc)) → LeaveFrom 1 stars → (c : ℕ) → 1 ≤ c → c ≤ length stars
     → class_star stars c ≡ filter (λ a. a.from == c) (flat_map (λ s. s) stars)
 stars_are_arcs stars h zero low high = absurd (omega (arith, low))
-stars_are_arcs stars h (suc k) low high = let e : suc k - 1 ≡ k = omega arith in let f : 1 + k ≡ suc k = omega arith in rw e (at_place 1 k stars (omega (arith, high)) h ∙ ap (λ (c : ℕ). filter (leaves c) (flat_map (λ s. s) stars)) f)
+stars_are_arcs stars h (suc k) low high = let e : suc k - 1 ≡ k = omega arith in let f : 1 + k ≡ suc k = omega arith in
+    rw e (at_place 1 k stars (omega (arith, high)) h ∙ ap (λ (c : ℕ). filter (leaves c) (flat_map (λ s. s) stars)) f)

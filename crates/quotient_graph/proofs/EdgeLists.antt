@@ -40,7 +40,8 @@ listed_graph d n es h =
       dimension = h.dimension;
       vertices = h.vertices.0;
       edges = All-map (IsEdge G) edge_of es
-          (All-weaker (IsEdgeAmong d n) (λ e. IsEdge G (edge_of e)) (λ e w. record { from = w.first; to = w.second; shift = w.flat; spelling = w.spelling }) es h.each);
+          (All-weaker (IsEdgeAmong d n) (λ e. IsEdge G (edge_of e)) (λ e w. record { from = w.first; to = w.second; shift = w.flat; spelling = w.spelling }) es
+          h.each);
       different = different_from_rising (map edge_of es) h.rising;
     }
 

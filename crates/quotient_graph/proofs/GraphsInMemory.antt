@@ -22,7 +22,8 @@ edges_fit G g s k d l = record {
 }
 
 -- a graph with its lists of arcs
-pub is_in_memory : (G : Graph) (stars : List (List Arc)) → IsGraph G → IsSmall G → AreRising G.edges → AreStars G.vertices G.edges stars → IsGraphInMemory G stars
+pub is_in_memory : (G : Graph) (stars : List (List Arc)) → IsGraph G → IsSmall G → AreRising G.edges → AreStars G.vertices G.edges stars
+    → IsGraphInMemory G stars
 is_in_memory G stars g s r h = record {
   is_graph = g;
   small = s;
@@ -30,7 +31,8 @@ is_in_memory G stars g s r h = record {
   count = h.count;
   each = λ u v. record {
     all = (h.each u v.0 v.1).same;
-    rising = rising_from_sorted _ (h.each u v.0 v.1).sorted (permuted_pairs (arcs_from G u) _ (h.each u v.0 v.1).same (pairs_from_apart (arcs_from G u) (arcs_apart G g u)));
+    rising = rising_from_sorted _ (h.each u v.0 v.1).sorted (permuted_pairs (arcs_from G u) _ (h.each u v.0 v.1).same
+        (pairs_from_apart (arcs_from G u) (arcs_apart G g u)));
   };
 }
 
@@ -39,7 +41,8 @@ pub reordered : (d n : ℕ) (es fs : List Arc) → IsPermutation es fs → IsGra
 reordered d n es fs p g = record {
   dimension = g.dimension;
   vertices = g.vertices;
-  edges = λ k e l. let h = All-permutation (IsEdge (graph_with d n es)) es fs p g.edges k e l in record { from = h.from; to = h.to; shift = h.shift; spelling = h.spelling };
+  edges = λ k e l. let h = All-permutation (IsEdge (graph_with d n es)) es fs p g.edges k e l in
+      record { from = h.from; to = h.to; shift = h.shift; spelling = h.spelling };
   different = permuted_pairs es fs p g.different;
 }
 

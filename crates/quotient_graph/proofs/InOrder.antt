@@ -37,7 +37,8 @@ pub same_arc : (G H : Graph) → IsPermutation G.edges H.edges → (a : Arc) →
 same_arc G H p a h =
     let r = edge_of_arc G.edges a (is_in (both_ways G.edges) a h) in
     let moved = arcs_of_edge H.edges r.edge (is_in H.edges r.edge (Contains-permutation G.edges H.edges r.edge p (contains_from_in G.edges r.edge r.there))) in
-    contains_from_in (both_ways H.edges) a (elim r.way [ inl e ↦ subst (IsIn (both_ways H.edges)) e moved.0 | inr e ↦ subst (IsIn (both_ways H.edges)) e moved.1 ])
+    contains_from_in (both_ways H.edges) a
+    (elim r.way [ inl e ↦ subst (IsIn (both_ways H.edges)) e moved.0 | inr e ↦ subst (IsIn (both_ways H.edges)) e moved.1 ])
 
 -- graphs of one dimension with as many vertices have the same vertices in their nets
 vertex_in : (G H : Graph) → G.vertices ≡ H.vertices → G.dimension ≡ H.dimension → (w : Vertex) → IsVertex G w → IsVertex H w
@@ -70,9 +71,13 @@ one_in_order G H K a b =
     λ i. record { dimension = dimension i; vertices = vertices i; edges = edges i }
   where
     edges : H.edges ≡ K.edges
-    edges = same_rising (λ (e d : Arc). IsBelow (arc_numbers e) (arc_numbers d)) (λ e. not_below_itself (arc_numbers e)) (λ x y z. below_transitive (arc_numbers x) (arc_numbers y) (arc_numbers z)) H.edges K.edges
-        (rising_from_pairs (λ (e d : Arc). IsBelow (arc_numbers e) (arc_numbers d)) H.edges a.rising) (rising_from_pairs (λ (e d : Arc). IsBelow (arc_numbers e) (arc_numbers d)) K.edges b.rising)
+    edges = same_rising (λ (e d : Arc). IsBelow (arc_numbers e) (arc_numbers d)) (λ e. not_below_itself (arc_numbers e))
+        (λ x y z. below_transitive (arc_numbers x) (arc_numbers y) (arc_numbers z)) H.edges K.edges
+        (rising_from_pairs (λ (e d : Arc). IsBelow (arc_numbers e) (arc_numbers d)) H.edges a.rising)
+        (rising_from_pairs (λ (e d : Arc). IsBelow (arc_numbers e) (arc_numbers d)) K.edges b.rising)
         (λ e. (
-          (λ i. is_in K.edges e (Contains-permutation G.edges K.edges e b.edges (Contains-permutation H.edges G.edges e (IsPermutation-sym G.edges H.edges a.edges) (contains_from_in H.edges e i)))),
-          (λ i. is_in H.edges e (Contains-permutation G.edges H.edges e a.edges (Contains-permutation K.edges G.edges e (IsPermutation-sym G.edges K.edges b.edges) (contains_from_in K.edges e i)))),
+          (λ i. is_in K.edges e (Contains-permutation G.edges K.edges e b.edges
+              (Contains-permutation H.edges G.edges e (IsPermutation-sym G.edges H.edges a.edges) (contains_from_in H.edges e i)))),
+          (λ i. is_in H.edges e (Contains-permutation G.edges H.edges e a.edges
+              (Contains-permutation K.edges G.edges e (IsPermutation-sym G.edges K.edges b.edges) (contains_from_in K.edges e i)))),
         ))

@@ -1,5 +1,6 @@
 -- Lists of arcs by their tails, while arcs are put into them.
-use Rattle.std.proofs.Common.{◌≡◌, ◌≢◌, ◌⊎◌, inl, inr, ℕ, ◌-◌, ◌+◌, ◌<◌, ◌≤◌, ◌==◌, true, false, List, [], ◌∷◌, ◌++◌, length, take, All, map, get_or, set, refl, sym, ap, subst, ◌∙◌, arith, get_or-set_same, get_or-set_other, length-set, length-append, add-one}
+use Rattle.std.proofs.Common.{◌≡◌, ◌≢◌, ◌⊎◌, inl, inr, ℕ, ◌-◌, ◌+◌, ◌<◌, ◌≤◌, ◌==◌, true, false, List, [], ◌∷◌, ◌++◌, length, take, All, map, get_or, set, refl}
+use Rattle.std.proofs.Common.{sym, ap, subst, ◌∙◌, arith, get_or-set_same, get_or-set_other, length-set, length-append, add-one}
 use Rattle.std.proofs.lemmas.Bool.{cases_eq}
 use Rattle.std.proofs.Math.Seq.{take-suc}
 use Rattle.std.proofs.lemmas.List.{map-set, map-append, length-map, get_or-map}
@@ -24,18 +25,21 @@ other_test : (u v : ℕ) → u ≢ v → (v == u) ≡ false
 other_test u v n = grind (arith, common_steps)
 
 filtered_same : (u : ℕ) (a : Arc) (as' : List Arc) → u ≡ a.from → filter (λ b. b.from == u) (as' ++ a ∷ []) ≡ filter (λ b. b.from == u) as' ++ a ∷ []
-filtered_same u a as' e = filter-append (λ (b : Arc). b.from == u) as' (a ∷ []) ∙ ap (λ (t : List Arc). filter (λ b. b.from == u) as' ++ t) (rw (subst (λ v. (v == u) ≡ true) e (same_test u)) refl)
+filtered_same u a as' e = filter-append (λ (b : Arc). b.from == u) as' (a ∷ [])
+    ∙ ap (λ (t : List Arc). filter (λ b. b.from == u) as' ++ t) (rw (subst (λ v. (v == u) ≡ true) e (same_test u)) refl)
 
 filtered_other : (u : ℕ) (a : Arc) (as' : List Arc) → u ≢ a.from → filter (λ b. b.from == u) (as' ++ a ∷ []) ≡ filter (λ b. b.from == u) as'
 filtered_other u a as' n = filter-append (λ (b : Arc). b.from == u) as' (a ∷ []) ∙ (rw (other_test u a.from n) (grind (arith, common_steps)))
 
 -- one more arc, in the list of its tail
-pub have_more : (n : ℕ) (stars : List (List Arc)) (as' : List Arc) (a : Arc) → 1 ≤ a.from → a.from ≤ n → HaveArcs n stars as' → HaveArcs n (with_arc stars a) (as' ++ a ∷ [])
+pub have_more : (n : ℕ) (stars : List (List Arc)) (as' : List Arc) (a : Arc) → 1 ≤ a.from → a.from ≤ n → HaveArcs n stars as'
+    → HaveArcs n (with_arc stars a) (as' ++ a ∷ [])
 have_more n stars as' a low high h = record {
   count = length-set stars (a.from - 1) (star_at stars a.from ++ a ∷ []) ∙ h.count;
   each = λ u p q. elim (cases_eq u a.from) [
     | inl e ↦ subst (λ v. star_at (with_arc stars a) v ≡ filter (λ b. b.from == v) (as' ++ a ∷ [])) (sym e)
-        (get_or-set_same stars (a.from - 1) (star_at stars a.from ++ a ∷ []) [] (below a.from low high) ∙ ap (λ (t : List Arc). t ++ a ∷ []) (h.each a.from low high) ∙ sym (filtered_same a.from a as' refl))
+        (get_or-set_same stars (a.from - 1) (star_at stars a.from ++ a ∷ []) [] (below a.from low high)
+        ∙ ap (λ (t : List Arc). t ++ a ∷ []) (h.each a.from low high) ∙ sym (filtered_same a.from a as' refl))
     | inr m ↦ get_or-set_other stars (a.from - 1) (u - 1) (star_at stars a.from ++ a ∷ []) [] (apart u p m) ∙ h.each u p q ∙ sym (filtered_other u a as' m)
   ];
 }
@@ -47,7 +51,8 @@ have_more n stars as' a low high h = record {
     apart u p m = omega arith
 
 -- both arcs of one more edge
-pub have_edge : (n : ℕ) (stars : List (List Arc)) (es : List Arc) (e : Arc) → (1 ≤ e.from) × (e.from ≤ n) → (1 ≤ e.to) × (e.to ≤ n) → HaveArcs n stars (both_ways es)
+pub have_edge : (n : ℕ) (stars : List (List Arc)) (es : List Arc) (e : Arc) → (1 ≤ e.from) × (e.from ≤ n) → (1 ≤ e.to) × (e.to ≤ n)
+    → HaveArcs n stars (both_ways es)
     → HaveArcs n (with_arc (with_arc stars e) (reverse_of e)) (both_ways (es ++ e ∷ []))
 have_edge n stars es e from to h =
     subst (HaveArcs n (with_arc (with_arc stars e) (reverse_of e))) (sym (both_more es e))
@@ -62,5 +67,6 @@ pub have_edge_at : (n : ℕ) (stars : List (List Arc)) (es : List Arc) (i : ℕ)
     → HaveArcs n stars (both_ways (take i es)) → HaveArcs n (with_arc (with_arc stars e) (reverse_of e)) (both_ways (take (i + 1) es))
 have_edge_at n stars es i e l is fit h =
     let fits = subst (EdgeFits n) (sym is) (fit i e l) in
-    subst (λ t. HaveArcs n (with_arc (with_arc stars e) (reverse_of e)) (both_ways t)) (sym (ap (λ (k : ℕ). take k es) (add-one i) ∙ take-suc es i e l ∙ ap (λ (a : Arc). take i es ++ a ∷ []) (sym is)))
+    subst (λ t. HaveArcs n (with_arc (with_arc stars e) (reverse_of e)) (both_ways t))
+    (sym (ap (λ (k : ℕ). take k es) (add-one i) ∙ take-suc es i e l ∙ ap (λ (a : Arc). take i es ++ a ∷ []) (sym is)))
     (have_edge n stars (take i es) e fits.from fits.to h)

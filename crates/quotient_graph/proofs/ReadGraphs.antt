@@ -27,7 +27,8 @@ pub record SortedEdges (d n : ℕ) (es : List Arc) : Type 0 where
   pub small : IsSmall (graph_with d n es)
   pub rising : AreRising es
 
-pub sorted_edges : (d n : ℕ) (given es : List Arc) → IsGraph (graph_with d n given) → IsSmall (graph_with d n given) → IsPermutation given es → IsSorted arc_cmp es → SortedEdges d n es
+pub sorted_edges : (d n : ℕ) (given es : List Arc) → IsGraph (graph_with d n given) → IsSmall (graph_with d n given) → IsPermutation given es
+    → IsSorted arc_cmp es → SortedEdges d n es
 sorted_edges d n given es g s p up = record {
   is_graph = reordered d n given es p g;
   small = reordered_small d n given es p s;

@@ -13,10 +13,22 @@ abbrev pub square_edges : List RawEdge
 square_edges = loop_of (pos 0) (pos 1) ∷ loop_of (pos 1) (pos 0) ∷ []
 
 up : IsEdgeAmong 2 1 (loop_of (pos 0) (pos 1))
-up = record { first = (omega arith, omega arith); second = (omega arith, omega arith); flat = λ two. refl; small = (omega arith, omega arith, omega arith); spelling = inr (refl, refl) }
+up = record {
+  first = (omega arith, omega arith);
+  second = (omega arith, omega arith);
+  flat = λ two. refl;
+  small = (omega arith, omega arith, omega arith);
+  spelling = inr (refl, refl);
+}
 
 right : IsEdgeAmong 2 1 (loop_of (pos 1) (pos 0))
-right = record { first = (omega arith, omega arith); second = (omega arith, omega arith); flat = λ two. refl; small = (omega arith, omega arith, omega arith); spelling = inr (refl, refl) }
+right = record {
+  first = (omega arith, omega arith);
+  second = (omega arith, omega arith);
+  flat = λ two. refl;
+  small = (omega arith, omega arith, omega arith);
+  spelling = inr (refl, refl);
+}
 
 rising : AreRising (map edge_of square_edges)
 rising zero zero d l m = absurd (omega (arith, l))
@@ -31,6 +43,7 @@ square_is_graph = record {
   dimension = inl refl;
   vertices = (omega arith, omega arith);
   count = omega arith;
-  each = All-cons (IsEdgeAmong 2 1) (loop_of (pos 0) (pos 1)) (loop_of (pos 1) (pos 0) ∷ []) up (All-cons (IsEdgeAmong 2 1) (loop_of (pos 1) (pos 0)) [] right (All-nil (IsEdgeAmong 2 1)));
+  each = All-cons (IsEdgeAmong 2 1) (loop_of (pos 0) (pos 1)) (loop_of (pos 1) (pos 0) ∷ []) up
+      (All-cons (IsEdgeAmong 2 1) (loop_of (pos 1) (pos 0)) [] right (All-nil (IsEdgeAmong 2 1)));
   rising = rising;
 }

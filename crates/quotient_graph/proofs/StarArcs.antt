@@ -27,7 +27,8 @@ both_within (e ∷ es) h = (h.0, (opposite_within most_shift e.shift h.0, both_w
 pub arc_within : (G : Graph) → IsSmall G → (a : Arc) → IsArc G a → IsWithin most_shift a.shift
 arc_within G s a h =
     all_at (λ b. IsWithin most_shift b.shift) (arcs G) a
-    (All-from_recursion (λ b. IsWithin most_shift b.shift) (arcs G) (both_within G.edges (recursion_from_All (λ e. IsWithin most_shift e.shift) G.edges s.shifts))) h
+    (All-from_recursion (λ b. IsWithin most_shift b.shift) (arcs G) (both_within G.edges
+    (recursion_from_All (λ e. IsWithin most_shift e.shift) G.edges s.shifts))) h
 
 member : (star : List Arc) (k : ℕ) (d : Arc) → k < length star → Contains star (get_or star k d)
 member [] k d l = absurd (omega arith)

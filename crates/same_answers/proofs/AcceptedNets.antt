@@ -19,7 +19,8 @@ use Rattle.least_key.specs.KeyedNets.{IsKeyed}
 use Rattle.least_key.specs.declared.net.Net.{Net as NetInMemory}
 use Rattle.archive_text.specs.Entries.{EntryView}
 use Rattle.net_report.specs.declared.command.Command.TheVariants.{Key}
-use Rattle.net_outcomes.specs.Outcomes.{Outcome, OutcomeBody, Unsupported, Malformed, Refused, Keyed, AreOutcomesFrom, IsBodyOf, is_accepted, is_accepted_body, net_told}
+use Rattle.net_outcomes.specs.Outcomes.{Outcome, OutcomeBody, Unsupported, Malformed, Refused, Keyed, AreOutcomesFrom, IsBodyOf, is_accepted, is_accepted_body}
+use Rattle.net_outcomes.specs.Outcomes.{net_told}
 use Rattle.same_answers.specs.Nets.{AreNetsOf, IsNetOf}
 use Rattle.same_answers.specs.Steps.{nets_told, with_net}
 
@@ -40,7 +41,8 @@ record IsToldNet (view : BodyView) (told : OutcomeBody) : Type 0 where
   keyed : IsKeyed (net_view net)
 
 -- where a block is accepted its net is reported
-told_net : (entries : List EntryView) (body : Body) (told : OutcomeBody) → IsReadBody body → IsBodyOf entries Key (body_view body) told → is_accepted_body told ≡ true → IsToldNet (body_view body) told
+told_net : (entries : List EntryView) (body : Body) (told : OutcomeBody) → IsReadBody body → IsBodyOf entries Key (body_view body) told
+    → is_accepted_body told ≡ true → IsToldNet (body_view body) told
 told_net entries body (Unsupported token) read h a = absurd (true≢false (sym a))
 told_net entries body (Malformed fault) read h a = absurd (true≢false (sym a))
 told_net entries body (Refused size names refusal) read h a = absurd (true≢false (sym a))
@@ -60,7 +62,8 @@ told_net entries (UnsupportedBody token) told read h a = absurd h
 told_net entries (MalformedBody fault) told read h a = absurd h
 
 -- so the nets that are reported are those of the blocks
-pub nets_of_blocks : (entries : List EntryView) (n : ℕ) (found : List Block) (os : List Outcome) → All (λ (b : Block). IsReadBody b.body) found → AreOutcomesFrom entries Key n (views found) os → list_all is_accepted os ≡ true → AreNetsOf (views found) (nets_told os)
+pub nets_of_blocks : (entries : List EntryView) (n : ℕ) (found : List Block) (os : List Outcome) → All (λ (b : Block). IsReadBody b.body) found
+    → AreOutcomesFrom entries Key n (views found) os → list_all is_accepted os ≡ true → AreNetsOf (views found) (nets_told os)
 nets_of_blocks entries n [] [] read h a = tt
 nets_of_blocks entries n [] (o ∷ os) read h a = absurd h
 nets_of_blocks entries n (b ∷ found) [] read h a = absurd h

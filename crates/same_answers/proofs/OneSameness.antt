@@ -12,7 +12,8 @@ use Rattle.net_certificate.specs.Items.{ItemView, Maps}
 use Rattle.net_certificate.specs.Texts.{maps_text}
 use Rattle.map_check.specs.Conditions.{most_images}
 use Rattle.net_report.specs.declared.command.Command.TheVariants.{Key}
-use Rattle.net_outcomes.specs.Outcomes.{Outcome, OutcomeBody, Unsupported, Malformed, Refused, Checked, Located, Keyed, Identified, Lines, FaultyItem, AreOutcomesFrom, IsBodyOf, is_accepted, is_accepted_body}
+use Rattle.net_outcomes.specs.Outcomes.{Outcome, OutcomeBody, Unsupported, Malformed, Refused, Checked, Located, Keyed, Identified, Lines, FaultyItem}
+use Rattle.net_outcomes.specs.Outcomes.{AreOutcomesFrom, IsBodyOf, is_accepted, is_accepted_body}
 use Rattle.net_outcomes.specs.Reports.{IsReport}
 use Rattle.net_outcomes.proofs.CallerLemmas.{keyed_not_refused, one_report}
 use Rattle.net_report.specs.declared.status.Status.TheVariants.{Done, SomeRefused}
@@ -51,13 +52,15 @@ nets_alike (c ∷ bs) (m ∷ ms) [] a b = absurd b
 nets_alike (c ∷ bs) (m ∷ ms) (n ∷ ns) a b = (same_placed c m n a.0 b.0, nets_alike bs ms ns a.1 b.1)
 
 -- the item of a net is one
-one_item : (first first' : KeyedNet) (room : ℕ) (m n : KeyedNet) (x y : ItemView) → first.placed ≡ first'.placed → m.placed ≡ n.placed → IsItemOf first room m x → IsItemOf first' room n y → x ≡ y
+one_item : (first first' : KeyedNet) (room : ℕ) (m n : KeyedNet) (x y : ItemView) → first.placed ≡ first'.placed → m.placed ≡ n.placed
+    → IsItemOf first room m x → IsItemOf first' room n y → x ≡ y
 one_item first first' room m n x y e f a b =
     let answer = one_answer_alike first first' m n room a.answer b.answer e f a.is_answer b.is_answer in
     a.item_is ∙ (λ i. item_by (f i).graph (answer i)) ∙ sym b.item_is
 
 -- the items of nets are one list
-one_items : (first first' : KeyedNet) (room : ℕ) (ms ns : List KeyedNet) (xs ys : List ItemView) → first.placed ≡ first'.placed → ArePlacedAlike ms ns → AreItemsOf first room ms xs → AreItemsOf first' room ns ys → xs ≡ ys
+one_items : (first first' : KeyedNet) (room : ℕ) (ms ns : List KeyedNet) (xs ys : List ItemView) → first.placed ≡ first'.placed → ArePlacedAlike ms ns
+    → AreItemsOf first room ms xs → AreItemsOf first' room ns ys → xs ≡ ys
 one_items first first' room [] [] [] [] e s a b = refl
 one_items first first' room [] [] [] (y ∷ ys) e s a b = absurd b
 one_items first first' room [] [] (x ∷ xs) ys e s a b = absurd a
@@ -86,7 +89,8 @@ one_maps (m ∷ ms) (n ∷ ns) (Some x) (Some y) s a b =
     λ i. Some (record { first = first i; items = items i })
 
 -- of a block that has its key no refusal is reported
-pub accepted_body : (block : BlockView) (body : BodyView) (net : KeyedNet) (told : OutcomeBody) → block.body ≡ body → IsNetOf block net → IsBodyOf [] Key body told → is_accepted_body told ≡ true
+pub accepted_body : (block : BlockView) (body : BodyView) (net : KeyedNet) (told : OutcomeBody) → block.body ≡ body → IsNetOf block net
+    → IsBodyOf [] Key body told → is_accepted_body told ≡ true
 accepted_body block body net (Checked size) e is h = refl
 accepted_body block body net (Located size names placed) e is h = refl
 accepted_body block body net (Keyed size own) e is h = refl
@@ -101,7 +105,8 @@ accepted_body block (Net raw) net (Lines size lines) e is h = absurd h
 accepted_body block (Other token) net told e is h = let other : Other token ≡ Net is.raw = sym e ∙ is.graph in absurd (cc)
 accepted_body block (Faulty fault) net told e is h = let other : Faulty fault ≡ Net is.raw = sym e ∙ is.graph in absurd (cc)
 
-all_told : (n : ℕ) (bs : List BlockView) (ns : List KeyedNet) (os : List Outcome) → AreNetsOf bs ns → AreOutcomesFrom [] Key n bs os → list_all is_accepted os ≡ true
+all_told : (n : ℕ) (bs : List BlockView) (ns : List KeyedNet) (os : List Outcome) → AreNetsOf bs ns → AreOutcomesFrom [] Key n bs os
+    → list_all is_accepted os ≡ true
 all_told n [] ns [] a h = refl
 all_told n [] ns (o ∷ os) a h = absurd h
 all_told n (b ∷ bs) ns [] a h = absurd h

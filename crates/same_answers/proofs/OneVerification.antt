@@ -29,7 +29,8 @@ one_of_item G (With H map) (Some v) (Some w) f h k =
     ap (λ (x : Verdict). Some x) (one_verdict G H map.m map.images map.base v w f.suits.period_from h.told k.told)
 
 -- the verdicts on items are one list
-one_list : (G : Graph) (items : List ItemView) (vs ws : List (Option Verdict)) → All (IsFormedItem G) items → AreVerdicts G items vs → AreVerdicts G items ws → vs ≡ ws
+one_list : (G : Graph) (items : List ItemView) (vs ws : List (Option Verdict)) → All (IsFormedItem G) items → AreVerdicts G items vs → AreVerdicts G items ws
+    → vs ≡ ws
 one_list G [] [] [] f h k = refl
 one_list G [] [] (w ∷ ws) f h k = absurd k
 one_list G [] (v ∷ vs) ws f h k = absurd h

@@ -38,10 +38,12 @@ module _ (d n : ℕ) where
   leads xs ys h zero c e l = l
   leads xs ys h (suc k) c e l = (l.0, h.there l.0 l.1, l.2, leads xs ys h k (l.0).to e l.3)
 
-  may_follow : (xs ys : List ClassArc) → HaveSame xs ys → (earlier : List ClassArc) (a : ClassArc) → MayFollow (classes_with d n xs) earlier a → MayFollow (classes_with d n ys) earlier a
+  may_follow : (xs ys : List ClassArc) → HaveSame xs ys → (earlier : List ClassArc) (a : ClassArc) → MayFollow (classes_with d n xs) earlier a
+      → MayFollow (classes_with d n ys) earlier a
   may_follow xs ys h earlier a m = record { is_arc = h.there a m.is_arc; independent = m.independent }
 
-  next : (xs ys : List ClassArc) → HaveSame xs ys → (c : ℕ) (earlier : List ClassArc) (a : ClassArc) → IsNext (classes_with d n xs) c earlier a → IsNext (classes_with d n ys) c earlier a
+  next : (xs ys : List ClassArc) → HaveSame xs ys → (c : ℕ) (earlier : List ClassArc) (a : ClassArc) → IsNext (classes_with d n xs) c earlier a
+      → IsNext (classes_with d n ys) c earlier a
   next xs ys h c earlier a m = record {
     may = may_follow xs ys h earlier a m.may;
     nearest = λ b f k l.
@@ -49,7 +51,8 @@ module _ (d n : ℕ) where
         (r.0, r.1, leads xs ys h r.0 c a.from r.2);
   }
 
-  frame_after : (xs ys : List ClassArc) → HaveSame xs ys → (c : ℕ) (earlier f : List ClassArc) → IsFrameAfter (classes_with d n xs) c earlier f → IsFrameAfter (classes_with d n ys) c earlier f
+  frame_after : (xs ys : List ClassArc) → HaveSame xs ys → (c : ℕ) (earlier f : List ClassArc) → IsFrameAfter (classes_with d n xs) c earlier f
+      → IsFrameAfter (classes_with d n ys) c earlier f
   frame_after xs ys h c earlier [] f = tt
   frame_after xs ys h c earlier (a ∷ rest) f = (next xs ys h c earlier a f.0, frame_after xs ys h c (earlier ++ a ∷ []) rest f.1)
 
@@ -57,14 +60,17 @@ module _ (d n : ℕ) where
   frame : (xs ys : List ClassArc) → HaveSame xs ys → (c : ℕ) (f : List ClassArc) → IsFrame (classes_with d n xs) c f → IsFrame (classes_with d n ys) c f
   frame xs ys h c f i = record { count = i.count; each = frame_after xs ys h c [] f i.each }
 
-  enters : (xs ys : List ClassArc) → HaveSame xs ys → (number : ℕ → ℕ) (j : ℕ) (a : ClassArc) → Enters (classes_with d n xs) number j a → Enters (classes_with d n ys) number j a
+  enters : (xs ys : List ClassArc) → HaveSame xs ys → (number : ℕ → ℕ) (j : ℕ) (a : ClassArc) → Enters (classes_with d n xs) number j a
+      → Enters (classes_with d n ys) number j a
   enters xs ys h number j a e = record { is_arc = h.there a e.is_arc; to = e.to; rises = e.rises }
 
-  first : (xs ys : List ClassArc) → HaveSame xs ys → (f : Axes) (number : ℕ → ℕ) (j : ℕ) (a : ClassArc) → IsFirst (classes_with d n xs) f number j a → IsFirst (classes_with d n ys) f number j a
+  first : (xs ys : List ClassArc) → HaveSame xs ys → (f : Axes) (number : ℕ → ℕ) (j : ℕ) (a : ClassArc) → IsFirst (classes_with d n xs) f number j a
+      → IsFirst (classes_with d n ys) f number j a
   first xs ys h f number j a i = record { enters = enters xs ys h number j a i.enters; least = λ b e. i.least b (enters ys xs (turned xs ys h) number j b e) }
 
   -- and lists are lists
-  list : (xs ys : List ClassArc) → HaveSame xs ys → (c : ℕ) (f : List ClassArc) (zs : List ℤ) → IsListOf (classes_with d n xs) c f zs → IsListOf (classes_with d n ys) c f zs
+  list : (xs ys : List ClassArc) → HaveSame xs ys → (c : ℕ) (f : List ClassArc) (zs : List ℤ) → IsListOf (classes_with d n xs) c f zs
+      → IsListOf (classes_with d n ys) c f zs
   list xs ys h c f zs l =
       let t = l.traversal in
       let h' = turned xs ys h in
@@ -74,7 +80,8 @@ module _ (d n : ℕ) where
           numbering = record { range = t.numbering.range; once = t.numbering.once; all = t.numbering.all };
           start = t.start;
           first = λ j low high. let r = t.first j low high in (r.0, first xs ys h (axes_of f) l.number j r.0 r.1);
-          rising = λ j k a b low less high p q. t.rising j k a b low less high (first ys xs h' (axes_of f) l.number j a p) (first ys xs h' (axes_of f) l.number k b q);
+          rising = λ j k a b low less high p q. t.rising j k a b low less high (first ys xs h' (axes_of f) l.number j a p)
+              (first ys xs h' (axes_of f) l.number k b q);
         };
         q = l.q;
         scale = record {
@@ -103,10 +110,12 @@ module _ (d n : ℕ) where
   least_list : (xs ys : List ClassArc) → HaveSame xs ys → (zs : List ℤ) → IsLeastList (classes_with d n xs) zs → IsLeastList (classes_with d n ys) zs
   least_list xs ys h zs l = record { some = some_list xs ys h zs l.some; least = λ ws s. l.least ws (some_list ys xs (turned xs ys h) ws s) }
 
-  pair : (xs ys : List ClassArc) → HaveSame xs ys → (zs : List ℤ) (c : ℕ) (f : List ClassArc) → IsPairOf (classes_with d n xs) zs c f → IsPairOf (classes_with d n ys) zs c f
+  pair : (xs ys : List ClassArc) → HaveSame xs ys → (zs : List ℤ) (c : ℕ) (f : List ClassArc) → IsPairOf (classes_with d n xs) zs c f
+      → IsPairOf (classes_with d n ys) zs c f
   pair xs ys h zs c f p = record { is_class = p.is_class; is_frame = frame xs ys h c f p.is_frame; list = list xs ys h c f zs p.list }
 
-  framed : (xs ys : List ClassArc) → HaveSame xs ys → (key : List ℤ) (c : ℕ) (f : List ClassArc) → IsFramedByKey (classes_with d n xs) key c f → IsFramedByKey (classes_with d n ys) key c f
+  framed : (xs ys : List ClassArc) → HaveSame xs ys → (key : List ℤ) (c : ℕ) (f : List ClassArc) → IsFramedByKey (classes_with d n xs) key c f
+      → IsFramedByKey (classes_with d n ys) key c f
   framed xs ys h key c f k =
       let h' = turned xs ys h in
       record {
@@ -148,11 +157,13 @@ module _ (G : Graph) (ig : IsGraph G) (g g' : Shape G) where
 
   -- the key is a key
   key_there : (key : List ℤ) → IsLeastList g.classes key → IsLeastList g'.classes key
-  key_there key l = subst (λ (K : ClassGraph). IsLeastList K key) other_graph (least_list g.classes.dimension g.classes.count g.classes.arcs g'.classes.arcs same key l)
+  key_there key l = subst (λ (K : ClassGraph). IsLeastList K key) other_graph
+      (least_list g.classes.dimension g.classes.count g.classes.arcs g'.classes.arcs same key l)
 
   -- with its least start and frame
   framed_there : (key : List ℤ) (c : ℕ) (f : List ClassArc) → IsFramedByKey g.classes key c f → IsFramedByKey g'.classes key c f
-  framed_there key c f k = subst (λ (K : ClassGraph). IsFramedByKey K key c f) other_graph (framed g.classes.dimension g.classes.count g.classes.arcs g'.classes.arcs same key c f k)
+  framed_there key c f k = subst (λ (K : ClassGraph). IsFramedByKey K key c f) other_graph
+      (framed g.classes.dimension g.classes.count g.classes.arcs g'.classes.arcs same key c f k)
 
   -- and least members are least
   member_back : (c u : ℕ) → IsLeastMember G g'.class_of c u → IsLeastMember G g.class_of c u
@@ -164,14 +175,17 @@ module _ (G : Graph) (ig : IsGraph G) (g g' : Shape G) where
 
 module _ (G H : Graph) (ig : IsGraph G) (ih : IsGraph H) (g g' : Shape G) (h h' : Shape H) where
   -- a standard map is one by other shapes
-  standard_there : (c e : ℕ) (f k : List ClassArc) (carry : Vertex → Vertex) → IsStandardMap G H (framed_net G g c f) (framed_net H h e k) carry → IsStandardMap G H (framed_net G g' c f) (framed_net H h' e k) carry
+  standard_there : (c e : ℕ) (f k : List ClassArc) (carry : Vertex → Vertex) → IsStandardMap G H (framed_net G g c f) (framed_net H h e k) carry
+      → IsStandardMap G H (framed_net G g' c f) (framed_net H h' e k) carry
   standard_there c e f k carry s = record {
     into = s.into;
     start = λ u v m l. s.start u v (member_back G ig g g' c u m) (member_back H ih h h' e v l);
     joined = s.joined;
     arcs = λ w x i j a.
-        subst (λ (p : Placement). HaveSameCoordinates (axes_of f) (axes_of k) (vector_between p w x) (vector_between h'.placement (carry w) (carry x))) (sym (placement G ig g g'))
-        (subst (λ (q : Placement). HaveSameCoordinates (axes_of f) (axes_of k) (vector_between g.placement w x) (vector_between q (carry w) (carry x))) (sym (placement H ih h h')) (s.arcs w x i j a));
+        subst (λ (p : Placement). HaveSameCoordinates (axes_of f) (axes_of k) (vector_between p w x) (vector_between h'.placement (carry w) (carry x)))
+        (sym (placement G ig g g'))
+        (subst (λ (q : Placement). HaveSameCoordinates (axes_of f) (axes_of k) (vector_between g.placement w x) (vector_between q (carry w) (carry x)))
+        (sym (placement H ih h h')) (s.arcs w x i j a));
   }
 
   -- so is a table
@@ -223,7 +237,8 @@ placed_same : (m n : KeyedNet) → m.placed ≡ n.placed → n ≡ placed_as m n
 placed_same m n e i = record { placed = sym e i; classes = n.classes; cell = n.cell; key = n.key }
 
 -- the answer to two nets is one, whatever nets stand for their placed graphs
-pub one_answer_alike : (m m' n n' : KeyedNet) (room : ℕ) (s t : MapAnswer) → m.placed ≡ m'.placed → n.placed ≡ n'.placed → IsMapAnswer m n room s → IsMapAnswer m' n' room t → s ≡ t
+pub one_answer_alike : (m m' n n' : KeyedNet) (room : ℕ) (s t : MapAnswer) → m.placed ≡ m'.placed → n.placed ≡ n'.placed → IsMapAnswer m n room s
+    → IsMapAnswer m' n' room t → s ≡ t
 one_answer_alike m m' n n' room s t e f p q = one_map_answer m n room s t p (record { here = p.here; there = p.there; by = by })
   where
     moved : IsMapAnswer (placed_as m m') (placed_as n n') room t

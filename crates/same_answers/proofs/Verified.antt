@@ -35,8 +35,17 @@ graph_formed block net is =
     let G = net.placed.graph in
     let g = is.keyed.is_graph in
     record {
-      is_size = record { dim = g.dimension; vertices = (g.vertices, is.small.vertices); edges = (has_edge G net.key g (key_of_graph net is.keyed), is.small.edges) };
-      each = λ i d l. let h = g.edges i d l in record { is_edge = record { from = h.from; to = h.to; shift = h.shift; spelling = h.spelling }; small = is.small.shifts i d l };
+      is_size = record {
+        dim = g.dimension;
+        vertices = (g.vertices, is.small.vertices);
+        edges =
+            (has_edge G net.key g (key_of_graph net is.keyed), is.small.edges);
+      };
+      each = λ i d l. let h = g.edges i d l in record {
+        is_edge = record { from = h.from; to = h.to; shift = h.shift; spelling = h.spelling };
+        small =
+            is.small.shifts i d l;
+      };
       rising = is.read.rising;
     }
 
@@ -50,7 +59,8 @@ AreSound G [] = Unit {0}
 AreSound G (item ∷ items) = IsSound G item × AreSound G items
 
 -- so it is with the item of a net
-sound_by : (first : KeyedNet) (room : ℕ) (block : BlockView) (net : KeyedNet) (answer : MapAnswer) (item : ItemView) → room ≤ most_images → IsNetOf block net → IsMapAnswer first net room answer → item ≡ item_by net.placed.graph answer
+sound_by : (first : KeyedNet) (room : ℕ) (block : BlockView) (net : KeyedNet) (answer : MapAnswer) (item : ItemView) → room ≤ most_images → IsNetOf block net
+    → IsMapAnswer first net room answer → item ≡ item_by net.placed.graph answer
     → HasItsBits item → IsSound first.placed.graph item
 sound_by first room block net Different item few is q e bits = subst (IsSound first.placed.graph) (sym e) tt
 sound_by first room block net (LongMap entries) item few is q e bits = subst (IsSound first.placed.graph) (sym e) (subst HasItsBits e bits)
@@ -64,7 +74,8 @@ sound_by first room block net (Found M) item few is q e bits =
     let pass = found_maps_pass G H g h room M.m M.images M.base q.here.is_graph q.there.is_graph is.small.vertices q.by (omega (arith, count, few)) in
     subst (IsSound G) (sym e) (graph_formed block net is, pass)
 
-all_sound : (first : KeyedNet) (room : ℕ) (blocks : List BlockView) (nets : List KeyedNet) (items : List ItemView) → room ≤ most_images → AreNetsOf blocks nets → AreItemsOf first room nets items → AreSound first.placed.graph items
+all_sound : (first : KeyedNet) (room : ℕ) (blocks : List BlockView) (nets : List KeyedNet) (items : List ItemView) → room ≤ most_images → AreNetsOf blocks nets
+    → AreItemsOf first room nets items → AreSound first.placed.graph items
 all_sound first room [] [] [] few are of = tt
 all_sound first room [] [] (item ∷ items) few are of = absurd of
 all_sound first room [] (net ∷ nets) items few are of = absurd are
@@ -77,13 +88,15 @@ all_sound first room (block ∷ blocks) (net ∷ nets) (item ∷ items) few are 
     )
 
 -- there is an item for each net after the first
-as_many_items : (first : KeyedNet) (room : ℕ) (blocks : List BlockView) (nets : List KeyedNet) (items : List ItemView) → AreNetsOf blocks nets → AreItemsOf first room nets items → length items ≡ length blocks
+as_many_items : (first : KeyedNet) (room : ℕ) (blocks : List BlockView) (nets : List KeyedNet) (items : List ItemView) → AreNetsOf blocks nets
+    → AreItemsOf first room nets items → length items ≡ length blocks
 as_many_items first room [] [] [] are of = refl
 as_many_items first room [] [] (item ∷ items) are of = absurd of
 as_many_items first room [] (net ∷ nets) items are of = absurd are
 as_many_items first room (block ∷ blocks) [] items are of = absurd are
 as_many_items first room (block ∷ blocks) (net ∷ nets) [] are of = absurd of
-as_many_items first room (block ∷ blocks) (net ∷ nets) (item ∷ items) are of = let e = as_many_items first (room - images_in item) blocks nets items are.1 of.1 in omega (arith, e)
+as_many_items first room (block ∷ blocks) (net ∷ nets) (item ∷ items) are of = let e =
+    as_many_items first (room - images_in item) blocks nets items are.1 of.1 in omega (arith, e)
 
 -- what is sound may stand
 sound_formed : (G : Graph) (item : ItemView) → IsSound G item → IsFormedItem G item
@@ -124,14 +137,16 @@ record AreGood (maps : Option Maps) : Type 0 where
   stand : MayStand maps
   sound : SoundMaps maps
 
-maps_good : (blocks : List BlockView) (nets : List KeyedNet) (maps : Option Maps) → length blocks ≤ most_blocks → AreNetsOf blocks nets → AreMapsOf nets maps → AreGood maps
+maps_good : (blocks : List BlockView) (nets : List KeyedNet) (maps : Option Maps) → length blocks ≤ most_blocks → AreNetsOf blocks nets → AreMapsOf nets maps
+    → AreGood maps
 maps_good [] [] None few are of = record { stand = tt; sound = tt }
 maps_good [] [] (Some maps) few are of = absurd of
 maps_good [] (net ∷ nets) maps few are of = absurd are
 maps_good (block ∷ blocks) [] maps few are of = absurd are
 maps_good (block ∷ blocks) (first ∷ nets) None few are of = absurd of
 maps_good (block ∷ blocks) (first ∷ nets) (Some maps) few are of =
-    let sound = subst (λ (G : Graph). AreSound G maps.items) (sym of.first_is) (all_sound first most_images blocks nets maps.items (omega arith) are.1 of.are_items) in
+    let sound = subst (λ (G : Graph). AreSound G maps.items) (sym of.first_is)
+    (all_sound first most_images blocks nets maps.items (omega arith) are.1 of.are_items) in
     let count = as_many_items first most_images blocks nets maps.items are.1 of.are_items in
     record {
       stand = record {
@@ -143,7 +158,8 @@ maps_good (block ∷ blocks) (first ∷ nets) (Some maps) few are of =
     }
 
 -- what is reported of them
-told_good : (maps : Option Maps) (checked : CheckedMaps) → SoundMaps maps → Tells maps checked → (checked.refused ≡ 0) × (checked.text.items ≡ verified_text maps)
+told_good : (maps : Option Maps) (checked : CheckedMaps) → SoundMaps maps → Tells maps checked
+    → (checked.refused ≡ 0) × (checked.text.items ≡ verified_text maps)
 told_good None checked s t = (t.1, t.0)
 told_good (Some maps) checked s t =
     let vs = all_pass maps.first maps.items t.verdicts s t.are in (

@@ -35,7 +35,8 @@ module _ (S T : NetSide) where
     carried : (map : Vertex → Vertex) → IsStandardBy S T map → (C : Base) → AreCellImages S.net.graph T.net.graph T.net.placement map C
         → HasNoThird S.net.graph.dimension C → base_sum C shift ≡ image
 
-  third_is : (ts : List Turn) → All (IsTurn S T) ts → (shift image : Vector) → (d ≡ 2 → (shift ≡ up_vector) × (image ≡ zero_vector)) → (d ≢ 2 → AreTurn ts shift image) → Dec (d ≡ 2)
+  third_is : (ts : List Turn) → All (IsTurn S T) ts → (shift image : Vector) → (d ≡ 2 → (shift ≡ up_vector) × (image ≡ zero_vector))
+      → (d ≢ 2 → AreTurn ts shift image) → Dec (d ≡ 2)
       → IsThird shift image
   third_is ts h shift image up other (yes e) =
       let u = up e in

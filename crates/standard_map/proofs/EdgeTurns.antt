@@ -17,9 +17,11 @@ use Rattle.standard_map.specs.Turns.{AreFull, shift_over, Turn}
 
 -- there is a turn for each edge, with the shift of its closed walk
 abbrev pub AreOfEdges : List Arc → List End → List Turn → Type 0
-AreOfEdges edges es ts = (k : ℕ) (a : Arc) (t : Turn) → k < length edges → (k < length ts) × ((get_or ts k t).shift ≡ generator (shift_over es) (get_or edges k a))
+AreOfEdges edges es ts = (k : ℕ) (a : Arc) (t : Turn) → k < length edges
+    → (k < length ts) × ((get_or ts k t).shift ≡ generator (shift_over es) (get_or edges k a))
 
-pub edges_full : (G : Graph) → IsConnected G → (u : ℕ) → IsQuotientVertex G u → (es : List End) (ts : List Turn) → AreOfEdges G.edges es ts → AreFull G.dimension ts
+pub edges_full : (G : Graph) → IsConnected G → (u : ℕ) → IsQuotientVertex G u → (es : List End) (ts : List Turn) → AreOfEdges G.edges es ts
+    → AreFull G.dimension ts
 edges_full G connected u i es ts h c l none k d =
     vanishes G (shift_over es) c l
     (λ e m.
@@ -40,7 +42,8 @@ last_place ts t d k l = by (before_or_at k (length ts) (omega (arith, l, length-
     last [] = refl
     last (x ∷ xs) = last xs
 
-    by : (k < length ts) ⊎ (k ≡ length ts) → ((k < length ts) × (get_or (ts ++ t ∷ []) k d ≡ get_or ts k d)) ⊎ ((k ≡ length ts) × (get_or (ts ++ t ∷ []) k d ≡ t))
+    by : (k < length ts) ⊎ (k ≡ length ts) → ((k < length ts) × (get_or (ts ++ t ∷ []) k d ≡ get_or ts k d))
+        ⊎ ((k ≡ length ts) × (get_or (ts ++ t ∷ []) k d ≡ t))
     by (inl b) = inl (b, get_or_append_left ts (t ∷ []) d k b)
     by (inr b) = inr (b, ap (λ (j : ℕ). get_or (ts ++ t ∷ []) j d) b ∙ last ts)
 
@@ -56,7 +59,8 @@ pub first_more : (edges : List Arc) (es : List End) (ts : List Turn) (n : ℕ) (
 first_more edges es ts n e t count l is shift h k a d b =
     elim (last_place ts t d k (omega (arith, b, count, length-append ts (t ∷ [])))) [
       | inl w ↦ ap (λ (x : Turn). x.shift) w.1 ∙ h k a d (omega (arith, w.0, count))
-      | inr w ↦ ap (λ (x : Turn). x.shift) w.1 ∙ shift ∙ ap (generator (shift_over es)) (is ∙ sym (ap (λ (j : ℕ). get_or edges j a) (w.0 ∙ count) ∙ get_or_default edges n a e l))
+      | inr w ↦ ap (λ (x : Turn). x.shift) w.1 ∙ shift ∙ ap (generator (shift_over es))
+          (is ∙ sym (ap (λ (j : ℕ). get_or edges j a) (w.0 ∙ count) ∙ get_or_default edges n a e l))
     ]
 
 -- an edge is an arc from its tail, within the limits

@@ -98,7 +98,8 @@ flat_product a b h k n e =
         zero : (p q : ℤ) → pos 0 *ℤ q -ℤ p *ℤ pos 0 ≡ pos 0
         zero p q = omega (arith, ints)
 
-    height : (a b c d e f : ℤ) → c ≡ pos 0 → a *ℤ e -ℤ b *ℤ d ≡ a *ℤ (e *ℤ pos 1 -ℤ f *ℤ pos 0) +ℤ b *ℤ (f *ℤ pos 0 -ℤ d *ℤ pos 1) +ℤ c *ℤ (d *ℤ pos 0 -ℤ e *ℤ pos 0)
+    height : (a b c d e f : ℤ) → c ≡ pos 0 → a *ℤ e -ℤ b *ℤ d ≡ a *ℤ (e *ℤ pos 1 -ℤ f *ℤ pos 0) +ℤ b *ℤ (f *ℤ pos 0 -ℤ d *ℤ pos 1) +ℤ c *ℤ
+        (d *ℤ pos 0 -ℤ e *ℤ pos 0)
     height a b c d e f h = simp ring (omega (arith, linear))
 
 -- a turn, by its shift and its image
@@ -110,8 +111,10 @@ same_product : (a b t a' b' t' : Vector) → a ≡ a' → b ≡ b' → t ≡ t' 
 same_product a b t a' b' t' e f h n k = n (sym (λ i. triple_product (e i) (f i) (h i)) ∙ k)
 
 -- two turns in dimension 2, and (0, 0, 1)
-pub flat_turns : (d : ℕ) (ts : List Turn) (a b : Turn) → Contains ts a → Contains ts b → cross a.shift b.shift ≢ zero_vector → HasDimension d a.shift → HasDimension d b.shift
-    → d ≡ 2 → (shifts images : Base) → shifts.first ≡ a.shift → shifts.second ≡ b.shift → shifts.third ≡ up_vector → images.first ≡ a.image → images.second ≡ b.image → images.third ≡ zero_vector
+pub flat_turns : (d : ℕ) (ts : List Turn) (a b : Turn) → Contains ts a → Contains ts b → cross a.shift b.shift ≢ zero_vector → HasDimension d a.shift
+    → HasDimension d b.shift
+    → d ≡ 2 → (shifts images : Base) → shifts.first ≡ a.shift → shifts.second ≡ b.shift → shifts.third ≡ up_vector → images.first ≡ a.image
+    → images.second ≡ b.image → images.third ≡ zero_vector
     → AreIndependentTurns d ts shifts images
 flat_turns d ts a b ca cb apart da db two shifts images e f g e' f' g' = record {
   some = same_product shifts.first shifts.second shifts.third a.shift b.shift up_vector e f g (flat_product a.shift b.shift (da two) (db two) apart);
@@ -123,7 +126,8 @@ flat_turns d ts a b ca cb apart da db two shifts images e f g e' f' g' = record 
 
 -- three turns in dimension 3
 pub space_turns : (d : ℕ) (ts : List Turn) (a b t : Turn) → Contains ts a → Contains ts b → Contains ts t → dot (cross a.shift b.shift) t.shift ≢ pos 0 → d ≢ 2
-    → (shifts images : Base) → shifts.first ≡ a.shift → shifts.second ≡ b.shift → shifts.third ≡ t.shift → images.first ≡ a.image → images.second ≡ b.image → images.third ≡ t.image
+    → (shifts images : Base) → shifts.first ≡ a.shift → shifts.second ≡ b.shift → shifts.third ≡ t.shift → images.first ≡ a.image → images.second ≡ b.image
+    → images.third ≡ t.image
     → AreIndependentTurns d ts shifts images
 space_turns d ts a b t ca cb ct off n shifts images e f g e' f' g' = record {
   some = same_product shifts.first shifts.second shifts.third a.shift b.shift t.shift e f g (off_product a.shift b.shift t.shift off);

@@ -17,7 +17,8 @@ module _ (S : NetSide) (row : List Arc) (x : Vector) where
   pub none_more : (i : ℕ) (a : Arc) → i < length row → a ≡ get_or row i a → ¬ IsPart S (arc_vector S.net.placement a) x → NoneTo i → NoneTo (i + 1)
   none_more i a l e other none k d b = elim (before_or_at k i b) [
     | inl c ↦ none k d c
-    | inr f ↦ λ p. other (subst (λ (c : Arc). IsPart S (arc_vector S.net.placement c) x) (ap (λ (j : ℕ). get_or row j d) f ∙ get_or_default row i d a l ∙ sym e) p)
+    | inr f ↦ λ p. other (subst (λ (c : Arc). IsPart S (arc_vector S.net.placement c) x)
+        (ap (λ (j : ℕ). get_or row j d) f ∙ get_or_default row i d a l ∙ sym e) p)
   ]
 
   -- where none of all has it, no arc of the row has

@@ -26,7 +26,8 @@ pub record Turn : Type 0 where
 
 -- it is carried so by the images of the cells under the standard map
 pub record IsTurn (S T : NetSide) (t : Turn) : Type 0 where
-  pub carried : (map : Vertex → Vertex) → IsStandardBy S T map → (C : Base) → AreCellImages S.net.graph T.net.graph T.net.placement map C → base_sum C t.shift ≡ t.image
+  pub carried : (map : Vertex → Vertex) → IsStandardBy S T map → (C : Base) → AreCellImages S.net.graph T.net.graph T.net.placement map C
+      → base_sum C t.shift ≡ t.image
   pub shift : IsWithin most_closed t.shift
   pub image : IsWithin most_turn t.image
   pub dimension : HasDimension S.net.graph.dimension t.shift

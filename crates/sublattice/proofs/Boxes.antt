@@ -16,11 +16,7 @@ quotients_rise s t m h l = le-div (s / m) t m (omega arith) (let q = div-mul-le_
 
 -- of numbers with one quotient the lesser has the lesser remainder
 remainders_rise : (s t m : ℕ) → 1 ≤ m → s < t → s / m ≡ t / m → s % m < t % m
-remainders_rise s t m h l e =
-    let p : (s / m) * m + s % m ≡ s = omega arith in
-    let q : (t / m) * m + t % m ≡ t = omega arith in
-    let r = ap (λ (x : ℕ). x * m) e in
-    omega (arith, p, q, r)
+remainders_rise s t m h l e = search arith
 
 -- a product of positive numbers
 pub product_positive : (n l : ℕ) → 1 ≤ n → 1 ≤ l → 1 ≤ n * l
@@ -54,20 +50,11 @@ module _ (n l : ℕ) (hn : 1 ≤ n) (hl : 1 ≤ l) where
 
   -- the number of a vector of the box is below the size of the box
   pub number_below : (m i j k : ℕ) → i < m → j < n → k < l → box_number i j k < m * (n * l)
-  number_below m i j k a b c =
-      let p = mul-add-lt j l k n b c in
-      let q = mul-add-lt i w (j * l + k) m a (let r : l * n ≡ n * l = omega arith in omega (arith, p, r)) in
-      let r : w * m ≡ m * w = omega arith in
-      omega (arith, q, r)
+  number_below m i j k a b c = search (arith, mul-add-lt)
 
   -- the vector with the number of a vector
   pub vector_there : (i j k : ℕ) → j < n → k < l → box_vector (box_number i j k) ≡ vector (pos i) (pos j) (pos k)
-  vector_there i j k b c =
-      let p = mul-add-lt j l k n b c in
-      let q : j * l + k < w = let r : l * n ≡ n * l = omega arith in omega (arith, p, r) in
-      let x = div-mul-add i w (j * l + k) q in
-      let y = mod-mul-add i w (j * l + k) q in
-      λ a. vector (pos (x a)) (pos ((ap (λ (t : ℕ). t / l) y ∙ div-mul-add j l k c) a)) (pos ((ap (λ (t : ℕ). t % l) y ∙ mod-mul-add j l k c) a))
+  vector_there i j k b c = search (arith, mul-add-lt, div-mul-add, mod-mul-add)
 
   -- the number of the vector with a number
   pub number_back : (t : ℕ) → box_number (t / (n * l)) (t % (n * l) / l) (t % (n * l) % l) ≡ t

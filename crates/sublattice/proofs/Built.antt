@@ -28,7 +28,12 @@ opposite_times v = vector_equal (negative v.x ∙ opposite_part v.x) (negative v
 pub combination_group : (d : ℕ) (b : Base) → IsVectorGroup (IsCombination d b)
 combination_group d b = record {
   zero = record { k = zero_vector; dimension = λ _. refl; sum = sym (base_sum_zero b) };
-  sums = λ v w i j. record { k = plus i.k j.k; dimension = plus_dimension d i.k j.k i.dimension j.dimension; sum = (λ t. plus (i.sum t) (j.sum t)) ∙ sym (base_sum_plus b i.k j.k) };
+  sums = λ v w i j. record {
+    k = plus i.k j.k;
+    dimension = plus_dimension d i.k j.k i.dimension j.dimension;
+    sum = (λ t. plus (i.sum t) (j.sum t))
+        ∙ sym (base_sum_plus b i.k j.k);
+  };
   opposites = λ v i. record {
     k = times (pos 0 -ℤ pos 1) i.k;
     dimension = times_dimension d (pos 0 -ℤ pos 1) i.k i.dimension;

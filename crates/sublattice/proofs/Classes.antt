@@ -27,10 +27,7 @@ off_z v p i n f l c k h = simp ring (omega (arith, linear, h))
 
 -- a vector that differs from a flat one by a flat one is flat
 flat_again : (d : ℕ) (v r : Vector) → HasDimension d (minus v r) → HasDimension d r → HasDimension d v
-flat_again d v r h g e = back v.z r.z (h e) (g e)
-  where
-    back : (a b : ℤ) → a -ℤ b ≡ pos 0 → b ≡ pos 0 → a ≡ pos 0
-    back a b p q = omega (arith, linear, p, q)
+flat_again d v r h g e = search arith
 
 -- each vector has a remainder
 some_remainder : (d : ℕ) (S : Stairs) (v : Vector) → HasStairShape d S → HasDimension d v → (r : Vector) × IsRemainderOf d S v r
@@ -90,7 +87,4 @@ module _ (d : ℕ) (S : Stairs) (v w r s : Vector) (h : IsRemainderOf d S v r) (
 
 -- the remainders determine the classes
 pub tell_classes : RemaindersTellClasses
-tell_classes = record {
-  some = some_remainder;
-  same = λ d S v w r s h g. (differ d S v w r s h g, agree d S v w r s h g);
-}
+tell_classes = search (arith, some_remainder, differ, agree)

@@ -46,8 +46,7 @@ nothing_cleared a b e = simp ring (omega (arith, linear, e))
 
 -- a number without size is 0
 no_size : (x : ℤ) → unsigned_abs x ≡ 0 → x ≡ pos 0
-no_size (pos n) e = ap pos e
-no_size (negsuc n) e = absurd (omega arith)
+no_size x h = search arith
 
 -- there is such a step for any two numbers
 pub clears : (x y : ℤ) → Clears x y
@@ -68,7 +67,10 @@ clears x y = by (bezout (unsigned_abs x) (unsigned_abs y)) (signed x) (signed y)
             p = sx.sign *ℤ pos b.k;
             q = sy.sign *ℤ pos b.l;
             one = signed_one sx.sign sy.sign b.s b.t (pos b.k) (pos b.l) sx.square sy.square
-                (coprime_combination (pos b.g) (pos b.k) (pos b.l) b.s b.t (λ z. omega (arith, ints, e, z)) (b.g_is ∙ ap (λ (n : ℕ). b.s *ℤ pos n +ℤ b.t *ℤ pos (unsigned_abs y)) b.a_is ∙ ap (λ (n : ℕ). b.s *ℤ pos (b.g * b.k) +ℤ b.t *ℤ pos n) b.b_is));
+                (coprime_combination (pos b.g) (pos b.k) (pos b.l) b.s b.t (λ z. omega (arith, ints, e, z))
+                (b.g_is ∙ ap (λ (n : ℕ). b.s *ℤ pos n +ℤ b.t *ℤ pos (unsigned_abs y)) b.a_is
+                ∙ ap (λ (n : ℕ). b.s *ℤ pos (b.g * b.k) +ℤ b.t *ℤ pos n) b.b_is));
           };
-          cleared = signed_cleared sx.sign sy.sign (pos b.g) (pos b.k) (pos b.l) x y (sx.is ∙ ap (λ (n : ℕ). sx.sign *ℤ pos n) b.a_is) (sy.is ∙ ap (λ (n : ℕ). sy.sign *ℤ pos n) b.b_is);
+          cleared = signed_cleared sx.sign sy.sign (pos b.g) (pos b.k) (pos b.l) x y (sx.is ∙ ap (λ (n : ℕ). sx.sign *ℤ pos n) b.a_is)
+              (sy.is ∙ ap (λ (n : ℕ). sy.sign *ℤ pos n) b.b_is);
         }

@@ -1,5 +1,5 @@
 -- The remainders modulo a staircase and their numbers.
-use Rattle.std.proofs.Common.{◌≡◌, ℕ, ◌+◌, ◌*◌, ◌/◌, ◌%◌, ◌≤◌, ◌<◌, ℤ, pos, negsuc, ◌+ℤ◌, ◌-ℤ◌, ◌*ℤ◌, refl, sym, ap, subst, ◌∙◌, arith}
+use Rattle.std.proofs.Common.{◌≡◌, ℕ, ◌+◌, ◌*◌, ◌≤◌, ◌<◌, ℤ, pos, ◌+ℤ◌, ◌-ℤ◌, ◌*ℤ◌, sym, ap, subst, arith}
 use Rattle.std.specs.Prelude.{unsigned_abs, ◌≤ℤ◌, ◌<ℤ◌}
 use Rattle.std.proofs.lemmas.Int.{ints}
 use Rattle.integers.specs.Vectors.{Vector, minus}
@@ -14,19 +14,15 @@ use Rattle.sublattice.proofs.Boxes.{first_below, second_below, third_below, numb
 
 -- a positive number has a size of at least 1
 pub size_positive : (z : ℤ) → pos 0 <ℤ z → 1 ≤ unsigned_abs z
-size_positive (pos n) h = omega (arith, ints, h)
-size_positive (negsuc n) h = omega arith
+size_positive z k = search arith
 
 -- a number from 0 to below p, by its size
 pub natural_part : (z p : ℤ) → pos 0 ≤ℤ z → z <ℤ p → (z ≡ pos (unsigned_abs z)) × (unsigned_abs z < unsigned_abs p)
-natural_part (pos n) (pos m) l h = (refl, omega (arith, ints, h))
-natural_part (pos n) (negsuc m) l h = absurd (omega (arith, ints, h))
-natural_part (negsuc n) p l h = absurd (omega (arith, ints, l))
+natural_part z p k q = search arith
 
 -- a natural number below the size of a positive number is below it
 pub below_pivot : (n : ℕ) (p : ℤ) → pos 0 <ℤ p → n < unsigned_abs p → pos n <ℤ p
-below_pivot n (pos m) h l = omega (arith, ints, l)
-below_pivot n (negsuc m) h l = absurd (omega (arith, ints, h))
+below_pivot n p k q = search arith
 
 -- 0 is no greater than a natural number
 pub from_zero : (n : ℕ) → pos 0 ≤ℤ pos n
@@ -51,42 +47,18 @@ module _ (d : ℕ) (S : Stairs) (s : HasStairShape d S) where
 
     -- the number of a remainder is below the size
     pub remainder_below : number_of S r < size_of S
-    remainder_below = number_below (unsigned_abs S.e) (unsigned_abs S.i) second_positive third_positive (unsigned_abs S.a) (unsigned_abs r.x) (unsigned_abs r.y) (unsigned_abs r.z)
-        x_part.1 y_part.1 z_part.1
+    remainder_below = grind (arith, number_below, second_positive, third_positive, x_part, y_part, z_part)
 
     -- and the remainder stands there
     pub remainder_there : remainder_with S (number_of S r) ≡ r
-    remainder_there =
-        vector_there (unsigned_abs S.e) (unsigned_abs S.i) second_positive third_positive (unsigned_abs r.x) (unsigned_abs r.y) (unsigned_abs r.z) y_part.1 z_part.1
-        ∙ vector_equal (sym x_part.0) (sym y_part.0) (sym z_part.0)
+    remainder_there = search (arith, vector_there, second_positive, third_positive, y_part, z_part, vector_equal, x_part)
 
   -- what stands at a number is a remainder
   pub remainder_stands : (n : ℕ) → n < size_of S → IsRemainder d S (remainder_with S n)
-  remainder_stands n h =
-      let e = unsigned_abs S.e in
-      let i = unsigned_abs S.i in
-      let third = third_below e i second_positive third_positive n in
-      record {
-        dimension = λ t. flat (n % (e * i) % i) (ap unsigned_abs ((s.flat t).i)) third;
-        low = (from_zero (n / (e * i)), from_zero (n % (e * i) / i), from_zero (n % (e * i) % i));
-        high = (
-          below_pivot (n / (e * i)) S.a s.reduced.a (first_below e i second_positive third_positive (unsigned_abs S.a) n h),
-          below_pivot (n % (e * i) / i) S.e s.reduced.e (second_below e i second_positive third_positive n),
-          below_pivot (n % (e * i) % i) S.i s.reduced.i third,
-        );
-      }
-    where
-      flat : (t : ℕ) → unsigned_abs S.i ≡ 1 → t < unsigned_abs S.i → pos t ≡ pos 0
-      flat t e l = ap pos (omega (arith, e, l))
+  remainder_stands n h = search (arith, third_below, second_positive, third_positive, from_zero, below_pivot, first_below, second_below)
 
   pub are_numbered : AreNumbered d S
-  are_numbered = record {
-    below = remainder_below;
-    remainder = remainder_stands;
-    there = remainder_there;
-    back = λ n _. number_back (unsigned_abs S.e) (unsigned_abs S.i) second_positive third_positive n;
-    rising = vectors_rise (unsigned_abs S.e) (unsigned_abs S.i) second_positive third_positive;
-  }
+  are_numbered = search (arith, remainder_below, remainder_stands, remainder_there, number_back, second_positive, third_positive, vectors_rise)
 
 -- the remainders are numbered
 pub remainders_numbered : RemaindersAreNumbered
@@ -122,15 +94,7 @@ below_most {n} p z a e l m = omega (arith, ints, e, l, m)
 -- the number, from the parts
 pub number_of_digits : (d : ℕ) (S : Stairs) (v : Vector) (p q s e i n : ℕ) → HasDigits d S v p q s → e ≡ unsigned_abs S.e → i ≡ unsigned_abs S.i
     → n ≡ p * (e * i) + (q * i + s) → HasNumber d S v n
-number_of_digits d S v p q s e i n h f g k =
-    let x = size_of_part p h.r.x h.first in
-    let y = size_of_part q h.r.y h.second in
-    let z = size_of_part s h.r.z h.third in
-    record {
-      r = h.r;
-      remainder = h.remainder;
-      is = k ∙ (λ j. x j * (f j * g j) + (y j * g j + z j));
-    }
+number_of_digits d S v p q s e i n h f g k = search (arith, size_of_part)
 
 -- it is below the size
 pub digits_below : (d : ℕ) (S : Stairs) (v : Vector) (n : ℕ) → HasStairShape d S → HasNumber d S v n → n < size_of S

@@ -15,7 +15,8 @@ second_side : (w q q' e b k k' l l' : ℤ) → k' -ℤ k ≡ pos 0 → w ≡ q +
 second_side w q q' e b k k' l l' h f g = let u = ap (λ (t : ℤ). b *ℤ t) h in simp ring (omega (arith, linear, f, g, simp ring at u))
 
 -- and where two later terms are
-third_side : (w s s' i n n' f l l' c k k' : ℤ) → k' -ℤ k ≡ pos 0 → l' -ℤ l ≡ pos 0 → w ≡ s +ℤ i *ℤ n +ℤ f *ℤ l +ℤ c *ℤ k → w ≡ s' +ℤ i *ℤ n' +ℤ f *ℤ l' +ℤ c *ℤ k'
+third_side : (w s s' i n n' f l l' c k k' : ℤ) → k' -ℤ k ≡ pos 0 → l' -ℤ l ≡ pos 0 → w ≡ s +ℤ i *ℤ n +ℤ f *ℤ l +ℤ c *ℤ k
+    → w ≡ s' +ℤ i *ℤ n' +ℤ f *ℤ l' +ℤ c *ℤ k'
     → s ≡ s' +ℤ i *ℤ (n' -ℤ n)
 third_side w s s' i n n' f l l' c k k' h j p q =
     let u = ap (λ (t : ℤ). c *ℤ t) h in

@@ -1,5 +1,5 @@
 -- A staircase with the lattice of given rows: its pivots multiply to the absolute value of their determinant.
-use Rattle.std.proofs.Common.{◌≡◌, ◌≢◌, ◌⊎◌, inl, inr, ℕ, ◌*◌, ℤ, pos, ◌+ℤ◌, ◌-ℤ◌, ◌*ℤ◌, refl, sym, ap, subst, arith}
+use Rattle.std.proofs.Common.{◌≡◌, ◌≢◌, ◌⊎◌, ℕ, ◌*◌, ℤ, pos, ◌+ℤ◌, ◌-ℤ◌, ◌*ℤ◌, refl, ap, arith}
 use Rattle.std.specs.Prelude.{unsigned_abs}
 use Rattle.integers.specs.Vectors.{Vector, vector, minus, HasDimension}
 use Rattle.integers.proofs.numbers.Ring.{ring, linear}
@@ -44,7 +44,8 @@ level S h y = record {
 -- the numbers of the pivots, for the vectors of dimension 2
 flat_stair : (S : Stairs) → HasStairShape 2 S → Numbering (HasDimension 2) (DifferBy (InStairs S)) (unsigned_abs S.a * (unsigned_abs S.e * unsigned_abs S.i))
 flat_stair S h =
-    along (HasDimension 2) (DifferBy (InStairs S)) IsAny (DifferBy (InStairs S)) (unsigned_abs S.a * (unsigned_abs S.e * unsigned_abs S.i)) (stair_numbers S (shape_pivots 2 S h)) (λ w. w)
+    along (HasDimension 2) (DifferBy (InStairs S)) IsAny (DifferBy (InStairs S)) (unsigned_abs S.a * (unsigned_abs S.e * unsigned_abs S.i))
+    (stair_numbers S (shape_pivots 2 S h)) (λ w. w)
     (record { into = λ _ _. tt; once = λ v w p q i. i }) (λ v w _ _ i. i) (λ y. vector y.x y.y (pos 0)) (λ _ _ _. refl) (λ y _. level S (h.flat refl) y)
 
 -- and of dimension 3
@@ -82,9 +83,9 @@ pivots_multiply d S b c h f n same =
       again = a.again;
     }) (class_numbers d b c f n)
   where
-    shaped : (d ≡ 2) ⊎ (d ≡ 3) → HasStairShape d S → Numbering (HasDimension d) (DifferBy (InStairs S)) (unsigned_abs S.a * (unsigned_abs S.e * unsigned_abs S.i))
-    shaped (inl e) = subst (Shaped S) (sym e) (flat_stair S)
-    shaped (inr e) = subst (Shaped S) (sym e) (full_stair S)
+    shaped : (d ≡ 2) ⊎ (d ≡ 3) → HasStairShape d S → Numbering (HasDimension d) (DifferBy (InStairs S))
+        (unsigned_abs S.a * (unsigned_abs S.e * unsigned_abs S.i))
+    shaped h k = search (arith, flat_stair, full_stair)
 
 -- as it is stated
 pub pivots_are : PivotsMultiply

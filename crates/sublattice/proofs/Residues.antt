@@ -1,5 +1,5 @@
 -- Residues modulo the lattice of a stair: each vector has one, and they are the lists of numbers below the pivots.
-use Rattle.std.proofs.Common.{◌≡◌, ◌≢◌, ℕ, zero, suc, ◌<◌, ℤ, pos, negsuc, neg_ℤ, ◌+ℤ◌, ◌-ℤ◌, ◌*ℤ◌, refl, ap, ◌∙◌, arith}
+use Rattle.std.proofs.Common.{◌≡◌, ◌≢◌, ℕ, zero, suc, ◌<◌, ℤ, pos, negsuc, neg_ℤ, ◌+ℤ◌, ◌-ℤ◌, ◌*ℤ◌, refl, arith}
 use Rattle.std.specs.Prelude.{unsigned_abs}
 use Rattle.std.proofs.lemmas.Int.{ints}
 use borrow.Author.Differences.{product_is}
@@ -39,10 +39,7 @@ same_quotient (negsuc m) r s (negsuc n) h k e = absurd (let p = product_is (negs
 
 -- then the remainders are equal too
 pub same_remainder : (m : ℤ) (r s : ℕ) (d : ℤ) → r < unsigned_abs m → s < unsigned_abs m → pos r ≡ pos s +ℤ m *ℤ d → (r ≡ s) × (d ≡ pos 0)
-same_remainder m r s d h k e = let z = same_quotient m r s d h k e in (pos_same r s (e ∙ ap (λ (t : ℤ). pos s +ℤ m *ℤ t) z ∙ nothing (pos s) m), z)
-  where
-    nothing : (a b : ℤ) → a +ℤ b *ℤ pos 0 ≡ a
-    nothing a b = simp ring (omega (arith, linear))
+same_remainder m r s d h k e = search (arith, same_quotient, pos_same)
 
 -- no pivot is 0
 pub record HasPivots (S : Stairs) : Type 0 where

@@ -1,5 +1,5 @@
 -- The vectors up to the lattice of three rows are numbered below the absolute value of their product.
-use Rattle.std.proofs.Common.{◌≡◌, ◌≢◌, ℕ, ◌*◌, ℤ, pos, ◌*ℤ◌, sym, ap, subst, ◌∙◌, arith}
+use Rattle.std.proofs.Common.{◌≡◌, ◌≢◌, ℕ, ◌*◌, ℤ, pos, ◌*ℤ◌, ap, subst, ◌∙◌, arith}
 use Rattle.std.specs.Prelude.{unsigned_abs}
 use Rattle.std.proofs.lemmas.Int.{ints, unsigned_abs-mul}
 use Rattle.integers.specs.Vectors.{minus}
@@ -27,11 +27,11 @@ pivots R n s =
 
 -- their product
 pivot_product : (R : Rows) (s : StairOf R) → unsigned_abs s.stair.a * (unsigned_abs s.stair.e * unsigned_abs s.stair.i) ≡ unsigned_abs (product_of R)
-pivot_product R s =
-    ap (λ (n : ℕ). unsigned_abs s.stair.a * n) (sym (unsigned_abs-mul s.stair.e s.stair.i)) ∙ sym (unsigned_abs-mul s.stair.a (s.stair.e *ℤ s.stair.i)) ∙ ap unsigned_abs (sym s.product)
+pivot_product R s = search (arith, unsigned_abs-mul)
 
 -- a numbering holds of a relation with the same members
-pub renumbered : {X : Type 0} (P : X → Type 0) (R S : X → X → Type 0) (n m : ℕ) → Numbering P R n → n ≡ m → ((x y : X) → R x y → S x y) → ((x y : X) → S x y → R x y) → Numbering P S m
+pub renumbered : {X : Type 0} (P : X → Type 0) (R S : X → X → Type 0) (n m : ℕ) → Numbering P R n → n ≡ m → ((x y : X) → R x y → S x y)
+    → ((x y : X) → S x y → R x y) → Numbering P S m
 renumbered P R S n m a e there back = subst (Numbering P S) e (record {
   code = a.code;
   below = a.below;
@@ -46,5 +46,6 @@ renumbered P R S n m a e there back = subst (Numbering P S) e (record {
 pub row_numbers : (R : Rows) → product_of R ≢ pos 0 → Numbering IsAny (DifferBy (InRows R)) (unsigned_abs (product_of R))
 row_numbers R n =
     let s = stair_of R in
-    renumbered IsAny (DifferBy (InStairs s.stair)) (DifferBy (InRows R)) (unsigned_abs s.stair.a * (unsigned_abs s.stair.e * unsigned_abs s.stair.i)) (unsigned_abs (product_of R))
+    renumbered IsAny (DifferBy (InStairs s.stair)) (DifferBy (InRows R)) (unsigned_abs s.stair.a * (unsigned_abs s.stair.e * unsigned_abs s.stair.i))
+    (unsigned_abs (product_of R))
     (stair_numbers s.stair (pivots R n s)) (pivot_product R s) (λ x y. s.back (minus x y)) (λ x y. s.out (minus x y))

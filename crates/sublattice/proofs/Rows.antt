@@ -13,16 +13,13 @@ use Rattle.sublattice.proofs.Pivots.{pivots_multiply}
 
 -- the dimension is neither 0 nor 1 nor above 3
 none : {d : ℕ} → (d ≡ 2) ⊎ (d ≡ 3) → d ≡ 0 → ⊥
-none (inl e) n = omega (arith, n, e)
-none (inr e) n = omega (arith, n, e)
+none h k = omega arith
 
 one : {d : ℕ} → (d ≡ 2) ⊎ (d ≡ 3) → d ≡ 1 → ⊥
-one (inl e) n = omega (arith, n, e)
-one (inr e) n = omega (arith, n, e)
+one h k = omega arith
 
 more : {d : ℕ} → (d ≡ 2) ⊎ (d ≡ 3) → 4 ≤ d → ⊥
-more (inl e) n = omega (arith, n, e)
-more (inr e) n = omega (arith, n, e)
+more h k = omega arith
 
 -- the rows in a list have the combinations of the base of the list
 pub rows_span : (d : ℕ) (rows : List Vector) → (d ≡ 2) ⊎ (d ≡ 3) → length rows ≡ d → AreRowsOf d (base_of rows) rows
@@ -33,7 +30,8 @@ rows_span d (a ∷ b ∷ c' ∷ []) c n = subst (λ (d : ℕ). AreRowsOf d (base
 rows_span d (a ∷ b ∷ c' ∷ e ∷ rows) c n = absurd (more c (omega (arith, n)))
 
 -- the first two rows of a list whose members have the dimension are flat
-pub rows_flat : (d : ℕ) (rows : List Vector) → (d ≡ 2) ⊎ (d ≡ 3) → length rows ≡ d → ((v : Vector) → IsIn rows v → d ≡ 2 → v.z ≡ pos 0) → AreFlat d (base_of rows)
+pub rows_flat : (d : ℕ) (rows : List Vector) → (d ≡ 2) ⊎ (d ≡ 3) → length rows ≡ d → ((v : Vector) → IsIn rows v → d ≡ 2 → v.z ≡ pos 0)
+    → AreFlat d (base_of rows)
 rows_flat d [] c n h e = absurd (none c (sym n))
 rows_flat d (a ∷ []) c n h e = absurd (one c (sym n))
 rows_flat d (a ∷ b ∷ rows) c n h e = (h a (inl refl) e, h b (inr (inl refl)) e)

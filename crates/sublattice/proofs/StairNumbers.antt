@@ -25,7 +25,8 @@ AreSame = Each (λ (x y : ℕ). x ≡ y) (Each (λ (x y : ℕ). x ≡ y) (λ (x 
 -- three numbers below these are numbered below their product
 pub threes : (a e i : ℕ) → Numbering (AreBelow a e i) AreSame (a * (e * i))
 threes a e i =
-    pairs (λ (x : ℕ). x < a) (λ (x y : ℕ). x ≡ y) (Both (λ (x : ℕ). x < e) (λ (x : ℕ). x < i)) (Each (λ (x y : ℕ). x ≡ y) (λ (x y : ℕ). x ≡ y)) a (e * i) (numbers_below a)
+    pairs (λ (x : ℕ). x < a) (λ (x y : ℕ). x ≡ y) (Both (λ (x : ℕ). x < e) (λ (x : ℕ). x < i)) (Each (λ (x y : ℕ). x ≡ y) (λ (x y : ℕ). x ≡ y)) a (e * i)
+    (numbers_below a)
     (pairs (λ (x : ℕ). x < e) (λ (x y : ℕ). x ≡ y) (λ (x : ℕ). x < i) (λ (x y : ℕ). x ≡ y) e i (numbers_below e) (numbers_below i))
 
 -- any vector
@@ -76,7 +77,8 @@ own_residue S t h = record {
 -- the vectors up to the lattice are numbered below the product of the pivots
 pub stair_numbers : (S : Stairs) → HasPivots S → Numbering IsAny (DifferBy (InStairs S)) (unsigned_abs S.a * (unsigned_abs S.e * unsigned_abs S.i))
 stair_numbers S h =
-    along IsAny (DifferBy (InStairs S)) (AreBelow (unsigned_abs S.a) (unsigned_abs S.e) (unsigned_abs S.i)) AreSame (unsigned_abs S.a * (unsigned_abs S.e * unsigned_abs S.i))
+    along IsAny (DifferBy (InStairs S)) (AreBelow (unsigned_abs S.a) (unsigned_abs S.e) (unsigned_abs S.i)) AreSame
+    (unsigned_abs S.a * (unsigned_abs S.e * unsigned_abs S.i))
     (threes (unsigned_abs S.a) (unsigned_abs S.e) (unsigned_abs S.i)) (λ w. numbers_of S w (residue S h w))
     (record {
       into = λ w _. let r = residue S h w in record { left = r.p_below; right = record { left = r.q_below; right = r.s_below } };
@@ -84,4 +86,5 @@ stair_numbers S h =
     })
     (λ v w _ _ m. let e = residue_of_member S v w (residue S h v) (residue S h w) m in record { left = e.p; right = record { left = e.q; right = e.s } })
     vector_of (λ t _. tt)
-    (λ t b. let e = residue_once S (vector_of t) (residue S h (vector_of t)) (own_residue S t b) in record { left = e.p; right = record { left = e.q; right = e.s } })
+    (λ t b. let e = residue_once S (vector_of t) (residue S h (vector_of t)) (own_residue S t b) in
+    record { left = e.p; right = record { left = e.q; right = e.s } })

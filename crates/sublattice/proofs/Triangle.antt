@@ -30,8 +30,14 @@ cleared_first R = let z = clears R.a.x R.b.x in (stepped z.step R, step_same z.s
 -- the second part of the second row cleared, where the first parts are 0
 cleared_second : (R : Rows) → R.a.x ≡ pos 0 → R.b.x ≡ pos 0 → (T : Rows) × SameLattice R T × (T.a.x ≡ pos 0) × (T.b.x ≡ pos 0) × (T.b.y ≡ pos 0) × (T.c ≡ R.c)
 cleared_second R e f =
-    let z = clears R.a.y R.b.y in
-    (stepped z.step R, step_same z.step R, zero_combination z.step.s z.step.t R.a.x R.b.x e f, zero_difference z.step.p z.step.q R.b.x R.a.x f e, z.cleared, refl)
+    let z = clears R.a.y R.b.y in (
+      stepped z.step R,
+      step_same z.step R,
+      zero_combination z.step.s z.step.t R.a.x R.b.x e f,
+      zero_difference z.step.p z.step.q R.b.x R.a.x f e,
+      z.cleared,
+      refl,
+    )
 
 -- any rows have such ones
 pub triangle : (R : Rows) → Triangle R
@@ -46,7 +52,8 @@ triangle R =
     let w = three.0 in
     record {
       to = turned (turned w);
-      same = both_steps one.1 (both_steps round (both_steps two.1 (both_steps (turned_same u) (both_steps three.1 (both_steps (turned_same w) (turned_same (turned w)))))));
+      same = both_steps one.1 (both_steps round
+          (both_steps two.1 (both_steps (turned_same u) (both_steps three.1 (both_steps (turned_same w) (turned_same (turned w)))))));
       second_x = three.2;
       third_x = three.3;
       third_y = three.4;

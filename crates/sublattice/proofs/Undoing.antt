@@ -1,5 +1,5 @@
 -- Rows whose determinant is not 0 have rows that undo them, up to the determinant.
-use Rattle.std.proofs.Common.{◌≡◌, ◌⊎◌, inl, inr, ℕ, ℤ, pos, ◌+ℤ◌, ◌-ℤ◌, ◌*ℤ◌, refl, sym, ap, subst, ◌∙◌, arith}
+use Rattle.std.proofs.Common.{◌≡◌, ◌⊎◌, ℕ, ℤ, pos, ◌+ℤ◌, ◌-ℤ◌, ◌*ℤ◌, refl, sym, ap, ◌∙◌, arith}
 use Rattle.std.specs.Prelude.{unsigned_abs}
 use Rattle.std.proofs.lemmas.Int.{ints}
 use Rattle.integers.specs.Vectors.{Vector, vector, up_vector, times, triple_product, HasDimension}
@@ -49,18 +49,15 @@ third_part s x y z a b c d e f = simp ring (omega (arith, linear))
 
 -- the sum is the products of k, with the sign
 products_of : (s : ℤ) (a b c k : Vector) → base_sum (adjugate s a b c) k ≡ times s (products a b c k)
-products_of s a b c k =
-    vector_equal (first_part s k.x k.y k.z b.x b.y b.z c.x c.y c.z) (second_part s k.x k.y k.z a.x a.y a.z c.x c.y c.z) (third_part s k.x k.y k.z a.x a.y a.z b.x b.y b.z)
+products_of s a b c k = simp (vector_equal, first_part, second_part, third_part)
 
 -- the sign times the number is its absolute value
 sign_off : (x : ℤ) (g : Signed x) → g.sign *ℤ x ≡ pos (unsigned_abs x)
-sign_off x g = ap (λ (t : ℤ). g.sign *ℤ t) g.is ∙ squared g.sign (pos (unsigned_abs x)) g.square
-  where
-    squared : (s n : ℤ) → s *ℤ s ≡ pos 1 → s *ℤ (s *ℤ n) ≡ n
-    squared s n e = let u = ap (λ (t : ℤ). t *ℤ n) e in omega (arith, linear, simp ring at u)
+sign_off x g = search arith
 
 -- so it undoes the rows
-undone : (a b c k : Vector) (g : Signed (triple_product a b c)) → sum_along a b c (base_sum (adjugate g.sign a b c) k) ≡ times (pos (unsigned_abs (triple_product a b c))) k
+undone : (a b c k : Vector) (g : Signed (triple_product a b c)) → sum_along a b c (base_sum (adjugate g.sign a b c) k) ≡ times
+    (pos (unsigned_abs (triple_product a b c))) k
 undone a b c k g =
     ap (sum_along a b c) (products_of g.sign a b c k)
     ∙ base_sum_times (record { first = a; second = b; third = c }) g.sign (products a b c k)
@@ -78,7 +75,8 @@ flat_undoing b f =
     let a = adjugate (signed (determinant 2 b)).sign b.first b.second up_vector in
     let z : (k : Vector) → HasDimension 2 k → (base_sum a k).z ≡ pos 0 =
     (λ k d. sym (flat_part (base_sum a k).x (base_sum a k).y (base_sum a k).z b.first.z b.second.z (f refl).0 (f refl).1)
-    ∙ ap (λ (v : Vector). v.z) (undone b.first b.second up_vector k (signed (determinant 2 b))) ∙ times_nothing (pos (unsigned_abs (determinant 2 b))) k.z (d refl)) in
+    ∙ ap (λ (v : Vector). v.z) (undone b.first b.second up_vector k (signed (determinant 2 b)))
+    ∙ times_nothing (pos (unsigned_abs (determinant 2 b))) k.z (d refl)) in
     record {
       rows = a;
       dimension = λ k d _. z k d;
@@ -93,11 +91,6 @@ full_undoing b = record {
   is = λ k d. undone b.first b.second b.third k (signed (determinant 3 b));
 }
 
--- what undoes them, by the dimension
-abbrev Undone : Base → ℕ → Type 0
-Undone b d = AreFlat d b → Undoing d b
-
 -- rows have such
 pub undoing : (d : ℕ) (b : Base) → (d ≡ 2) ⊎ (d ≡ 3) → AreFlat d b → Undoing d b
-undoing d b (inl e) = subst (Undone b) (sym e) (flat_undoing b)
-undoing d b (inr e) = subst (Undone b) (sym e) (λ _. full_undoing b)
+undoing d b h k = search (arith, flat_undoing, full_undoing)

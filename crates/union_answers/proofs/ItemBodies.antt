@@ -35,11 +35,13 @@ module _ (graph : AnyGraph) (repeats : ℕ) (size : Size) (sizes : size ≡ size
   graph_read key b = record { size_is = sizes ∙ same_sizes key (graph_view graph) repeats b.0 b.1; in_order = b.0; is_graph = g }
 
   -- a net with its key is reported of the item
-  pub keyed_as : (net : AnyNet) → (net_view net).placed.graph ≡ graph_view graph → IsKeyed (net_view net) → (view : BodyView) → IsBodyOf view (ItemGraph graph repeats) → IsItemBodyOf view (Keyed size net)
+  pub keyed_as : (net : AnyNet) → (net_view net).placed.graph ≡ graph_view graph → IsKeyed (net_view net) → (view : BodyView)
+      → IsBodyOf view (ItemGraph graph repeats) → IsItemBodyOf view (Keyed size net)
   keyed_as net is keyed (Net key) b = record { graph = graph_view graph; read = graph_read key b; net_is = is; keyed = keyed }
   keyed_as net is keyed (FaultyView fault) b = absurd b
 
-  refused_told : (refusal : Refusal) → IsTrueOf (graph_view graph) refusal → refusal ≢ NoMemory → (view : BodyView) → IsBodyOf view (ItemGraph graph repeats) → IsItemBodyOf view (Refused size [] refusal)
+  refused_told : (refusal : Refusal) → IsTrueOf (graph_view graph) refusal → refusal ≢ NoMemory → (view : BodyView) → IsBodyOf view (ItemGraph graph repeats)
+      → IsItemBodyOf view (Refused size [] refusal)
   refused_told refusal t known (Net key) b = record { graph = graph_view graph; read = graph_read key b; no_names = refl; known = known; is_true = t }
   refused_told refusal t known (FaultyView fault) b = absurd b
 

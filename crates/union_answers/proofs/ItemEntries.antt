@@ -1,5 +1,6 @@
 -- The entries of items that are accepted.
-use Rattle.std.proofs.Common.{◌≡◌, ◌&&◌, ℕ, ◌+◌, ◌<◌, ◌≤◌, Bool, true, false, List, [], ◌∷◌, ◌++◌, length, get_or, take, Option, None, Some, refl, sym, ap, subst, ◌∙◌, true≢false, arith}
+use Rattle.std.proofs.Common.{◌≡◌, ◌&&◌, ℕ, ◌+◌, ◌<◌, ◌≤◌, Bool, true, false, List, [], ◌∷◌, ◌++◌, length, get_or, take, Option, None, Some, refl, sym, ap}
+use Rattle.std.proofs.Common.{subst, ◌∙◌, true≢false, arith}
 use Rattle.std.proofs.lemmas.Bool.{and_parts}
 use Rattle.std.specs.List.{All, list_all}
 use Rattle.std.specs.Option.{option_copied}
@@ -25,13 +26,15 @@ use Rattle.union_answers.specs.ItemEntries.{AreEntriesTold, HasNamedNet, IsEntry
 use Rattle.union_answers.specs.Unions.{AreEntriesOfItems, IsEntryOfItem}
 
 -- one entry more
-entries_last : (os : List Outcome) (es : List EntryView) (o : Outcome) (e : EntryView) → AreEntriesTold os es → IsEntryTold o e → AreEntriesTold (os ++ o ∷ []) (es ++ e ∷ [])
+entries_last : (os : List Outcome) (es : List EntryView) (o : Outcome) (e : EntryView) → AreEntriesTold os es → IsEntryTold o e
+    → AreEntriesTold (os ++ o ∷ []) (es ++ e ∷ [])
 entries_last [] [] o e h k = (k, tt)
 entries_last [] (x ∷ es) o e h k = absurd h
 entries_last (p ∷ os) [] o e h k = absurd h
 entries_last (p ∷ os) (x ∷ es) o e h k = (h.0, entries_last os es o e h.1 k)
 
-pub entries_next : (os : List Outcome) (i : ℕ) (o : Outcome) (entries : List Entry) (e : Entry) → i < length os → get_or os i o ≡ o → AreEntriesTold (take i os) (entry_views entries) → IsEntryTold o (entry_view e)
+pub entries_next : (os : List Outcome) (i : ℕ) (o : Outcome) (entries : List Entry) (e : Entry) → i < length os → get_or os i o ≡ o
+    → AreEntriesTold (take i os) (entry_views entries) → IsEntryTold o (entry_view e)
     → AreEntriesTold (take (i + 1) os) (entry_views (entries ++ e ∷ []))
 entries_next os i o entries e l at h k =
     let longer : take (i + 1) os ≡ take i os ++ o ∷ [] = take_more os i o l ∙ ap (λ (x : Outcome). take i os ++ x ∷ []) at in
@@ -50,7 +53,8 @@ pub as_many_entries : (os : List Outcome) (entries : List Entry) → AreEntriesT
 as_many_entries os entries h = sym (length-map entries entry_view) ∙ as_many os (entry_views entries) h
 
 -- an item that is accepted is a net under its name
-named : (body : BodyView) (name : Option (List ℕ)) (told : OutcomeBody) → IsItemBodyOf body told → IsNamedAs body name → is_accepted_body told ≡ true → IsUnderName told name
+named : (body : BodyView) (name : Option (List ℕ)) (told : OutcomeBody) → IsItemBodyOf body told → IsNamedAs body name → is_accepted_body told ≡ true
+    → IsUnderName told name
 named (Net key) None (Keyed size net) h k a = absurd k
 named (Net key) (Some name) (Keyed size net) h k a = k
 named (Net key) name (Refused size names refusal) h k a = absurd (true≢false (sym a))
@@ -58,7 +62,8 @@ named (Net key) name told h k a = absurd h
 named (FaultyView fault) name (Faulty line number kind) h k a = absurd (true≢false (sym a))
 named (FaultyView fault) name told h k a = absurd h
 
-pub all_named : (n : ℕ) (items : List ItemView) (os : List Outcome) → AreItemOutcomesFrom n items os → All IsNamed items → list_all is_accepted os ≡ true → All HasNamedNet os
+pub all_named : (n : ℕ) (items : List ItemView) (os : List Outcome) → AreItemOutcomesFrom n items os → All IsNamed items → list_all is_accepted os ≡ true
+    → All HasNamedNet os
 all_named n [] [] h k a = All-nil HasNamedNet
 all_named n [] (o ∷ os) h k a = absurd h
 all_named n (item ∷ items) [] h k a = absurd h
@@ -77,7 +82,8 @@ pub named_at : (os : List Outcome) (i : ℕ) (o : Outcome) → i < length os →
 named_at os i o l at h = subst HasNamedNet at (All-get_or HasNamedNet os i o l h)
 
 -- what is reported of a net with its key is its entry
-entry_of_net : (item : ItemView) (body : BodyView) (name : Option (List ℕ)) (told : OutcomeBody) (e : EntryView) → item.body ≡ body → name ≡ item.name → IsItemBodyOf body told → IsEntryAs told name e → IsEntryOfItem item e
+entry_of_net : (item : ItemView) (body : BodyView) (name : Option (List ℕ)) (told : OutcomeBody) (e : EntryView) → item.body ≡ body → name ≡ item.name
+    → IsItemBodyOf body told → IsEntryAs told name e → IsEntryOfItem item e
 entry_of_net item (Net key) (Some name) (Keyed size net) e b n h k = record {
   key = key;
   body = b;
@@ -94,7 +100,8 @@ entry_of_net item (FaultyView fault) name (Faulty line number kind) e b n h k = 
 entry_of_net item (FaultyView fault) name told e b n h k = absurd h
 
 -- and so it is of all items
-pub entries_of_items : (n : ℕ) (items : List ItemView) (os : List Outcome) (es : List EntryView) → AreItemOutcomesFrom n items os → AreEntriesTold os es → AreEntriesOfItems items es
+pub entries_of_items : (n : ℕ) (items : List ItemView) (os : List Outcome) (es : List EntryView) → AreItemOutcomesFrom n items os → AreEntriesTold os es
+    → AreEntriesOfItems items es
 entries_of_items n [] [] [] h k = tt
 entries_of_items n [] [] (e ∷ es) h k = absurd k
 entries_of_items n [] (o ∷ os) es h k = absurd h
@@ -117,7 +124,8 @@ as_many_outcomes n (item ∷ items) [] h = absurd h
 as_many_outcomes n (item ∷ items) (o ∷ os) h = let m = as_many_outcomes (n + 1) items os h.1 in omega (arith, m)
 
 -- and so there are no more entries than there may be
-pub few_entries : (items : List ItemView) (os : List Outcome) (entries : List Entry) → AreItemOutcomesFrom 1 items os → AreEntriesTold os (entry_views entries) → length items ≤ most_items → length entries ≤ most_entries
+pub few_entries : (items : List ItemView) (os : List Outcome) (entries : List Entry) → AreItemOutcomesFrom 1 items os → AreEntriesTold os (entry_views entries)
+    → length items ≤ most_items → length entries ≤ most_entries
 few_entries items os entries h k few =
     let m = as_many_outcomes 1 items os h in
     let n = as_many_entries os entries k in

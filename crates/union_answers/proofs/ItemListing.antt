@@ -41,7 +41,8 @@ read_then (view ∷ views) (x ∷ items) item h =
     }
 
 -- one more item and its outcome at the end
-outcomes_last : (n : ℕ) (views : List ItemView) (os : List Outcome) (view : ItemView) (o : Outcome) → AreItemOutcomesFrom n views os → IsItemOutcomeOf (n + length views) view o
+outcomes_last : (n : ℕ) (views : List ItemView) (os : List Outcome) (view : ItemView) (o : Outcome) → AreItemOutcomesFrom n views os
+    → IsItemOutcomeOf (n + length views) view o
     → AreItemOutcomesFrom n (views ++ view ∷ []) (os ++ o ∷ [])
 outcomes_last n [] [] view o h k = (subst (λ m. IsItemOutcomeOf m view o) (omega arith) k, tt)
 outcomes_last n [] (x ∷ os) view o h k = absurd h

@@ -54,13 +54,15 @@ one_list_of_entries (item ∷ items) (e ∷ es) (f ∷ fs) h k =
     λ i. first i ∷ rest i
 
 -- a net with its key is not refused
-not_refused : (key : KeyView) (net : KeyedNet) (size : Size) (names : List (List ℕ)) (r : Refusal) → IsInOrder (graph_of_key key) net.placed.graph → IsKeyed net → ¬ IsRefusedAs key size names r
+not_refused : (key : KeyView) (net : KeyedNet) (size : Size) (names : List (List ℕ)) (r : Refusal) → IsInOrder (graph_of_key key) net.placed.graph
+    → IsKeyed net → ¬ IsRefusedAs key size names r
 not_refused key net size names r read keyed b =
     let graph = one_in_order (graph_of_key key) net.placed.graph b.graph read b.read.in_order in
     b.known (certain_is_not_refused net.placed.graph r keyed.is_graph (keyed_is_certain net keyed) (subst (λ G. IsTrueOf G r) (sym graph) b.is_true))
 
 -- a net with its key is accepted
-accepted_body : (key : KeyView) (net : KeyedNet) (told : OutcomeBody) → IsInOrder (graph_of_key key) net.placed.graph → IsKeyed net → IsItemBodyOf (Net key) told → is_accepted_body told ≡ true
+accepted_body : (key : KeyView) (net : KeyedNet) (told : OutcomeBody) → IsInOrder (graph_of_key key) net.placed.graph → IsKeyed net
+    → IsItemBodyOf (Net key) told → is_accepted_body told ≡ true
 accepted_body key net (Keyed size known) read keyed h = refl
 accepted_body key net (Refused size names refusal) read keyed h = absurd (not_refused key net size names refusal read keyed h)
 accepted_body key net told read keyed h = absurd h
@@ -68,7 +70,8 @@ accepted_body key net told read keyed h = absurd h
 accepted : (item : ItemView) (e : EntryView) (told : OutcomeBody) → IsEntryOfItem item e → IsItemBodyOf item.body told → is_accepted_body told ≡ true
 accepted item e told a h = accepted_body a.key a.net told a.read a.keyed (subst (λ (b : BodyView). IsItemBodyOf b told) a.body h)
 
-all_accepted : (n : ℕ) (items : List ItemView) (es : List EntryView) (os : List Outcome) → AreEntriesOfItems items es → AreItemOutcomesFrom n items os → list_all is_accepted os ≡ true
+all_accepted : (n : ℕ) (items : List ItemView) (es : List EntryView) (os : List Outcome) → AreEntriesOfItems items es → AreItemOutcomesFrom n items os
+    → list_all is_accepted os ≡ true
 all_accepted n [] es [] h k = refl
 all_accepted n [] es (o ∷ os) h k = absurd k
 all_accepted n (item ∷ items) [] os h k = absurd h

@@ -31,7 +31,8 @@ module _ (key : KeyView) where
   same_graph : (s t : Size) (G H : Graph) → IsGraphOf key s G → IsGraphOf key t H → G ≡ H
   same_graph s t G H a b = one_in_order (graph_of_key key) G H a.in_order b.in_order
 
-  one_refused : (s t : Size) (ms ns : List (List ℕ)) (r q : Refusal) → IsRefusedAs key s ms r → IsRefusedAs key t ns q → SpeakAlike (Refused s ms r) (Refused t ns q)
+  one_refused : (s t : Size) (ms ns : List (List ℕ)) (r q : Refusal) → IsRefusedAs key s ms r → IsRefusedAs key t ns q
+      → SpeakAlike (Refused s ms r) (Refused t ns q)
   one_refused s t ms ns r q a b =
       let graph = same_graph s t a.graph b.graph a.read b.read in
       let size = a.read.size_is ∙ sym b.read.size_is in
@@ -43,7 +44,8 @@ module _ (key : KeyView) where
   keyed_not_refused : (s t : Size) (n : AnyNet) (ns : List (List ℕ)) (r : Refusal) → IsKeyedAs key s (net_view n) → ¬ IsRefusedAs key t ns r
   keyed_not_refused s t n ns r a b =
       let graph = a.net_is ∙ same_graph s t a.graph b.graph a.read b.read in
-      b.known (certain_is_not_refused (net_view n).placed.graph r a.keyed.is_graph (keyed_is_certain (net_view n) a.keyed) (subst (λ G. IsTrueOf G r) (sym graph) b.is_true))
+      b.known (certain_is_not_refused (net_view n).placed.graph r a.keyed.is_graph (keyed_is_certain (net_view n) a.keyed)
+      (subst (λ G. IsTrueOf G r) (sym graph) b.is_true))
 
   one_keyed : (s t : Size) (m n : AnyNet) → IsKeyedAs key s (net_view m) → IsKeyedAs key t (net_view n) → SpeakAlike (Keyed s m) (Keyed t n)
   one_keyed s t m n a b =

@@ -8,7 +8,8 @@ use Rattle.keyline_import.specs.Items.{ItemView, items_of, most_items}
 use Rattle.net_archive.specs.Archives.{ArchiveView, archive_text}
 use Rattle.archive_text.specs.Entries.{EntryView}
 use Rattle.union_answers.specs.ArchiveBytes.{IsArchiveIn, IsBadArchive}
-use Rattle.union_answers.specs.Unions.{AreEntriesOfItems, AreItemsUnited, HasManyItems, IsUnionAs, IsUnionDue, IsUnionOfArchives, IsUnionOfItems, IsUnitedOrRefused, begins_archive}
+use Rattle.union_answers.specs.Unions.{AreEntriesOfItems, AreItemsUnited, HasManyItems, IsUnionAs, IsUnionDue, IsUnionOfArchives, IsUnionOfItems}
+use Rattle.union_answers.specs.Unions.{IsUnitedOrRefused, begins_archive}
 use Rattle.net_report.specs.declared.status.Status.{Status}
 use Rattle.net_report.specs.declared.status.Status.TheVariants.{Done, SomeRefused, BadArchive, AddRefused}
 use Rattle.union_answers.proofs.ItemsAccepted.{entries_or_report, one_list_of_entries}
@@ -19,7 +20,8 @@ abbrev AreOne : Status → Status → List ℕ → List ℕ → Type 0
 AreOne s t x y = (s ≡ t) × (x ≡ y)
 
 -- the union with entries
-one_united : (a : ArchiveView) (items : List EntryView) (s t : Status) (x y : List ℕ) → IsUnitedOrRefused a items s x → IsUnitedOrRefused a items t y → AreOne s t x y
+one_united : (a : ArchiveView) (items : List EntryView) (s t : Status) (x y : List ℕ) → IsUnitedOrRefused a items s x → IsUnitedOrRefused a items t y
+    → AreOne s t x y
 one_united a items Done Done x y h k = (refl, h.text_is ∙ ap archive_text (same_union a h.whole k.whole items h.union k.union) ∙ sym k.text_is)
 one_united a items Done AddRefused x y h k = absurd (not_both a h.whole items k.number k.fault h.union k.not_united)
 one_united a items AddRefused Done x y h k = absurd (not_both a k.whole items h.number h.fault k.union h.not_united)
@@ -31,9 +33,11 @@ one_united a items AddRefused t x y h k = absurd k
 one_united a items s t x y h k = absurd h
 
 -- of one archive and of the entries of one list
-united_alike : (a b : ArchiveView) (es fs : List EntryView) (s t : Status) (x y : List ℕ) → a ≡ b → es ≡ fs → IsUnitedOrRefused a es s x → IsUnitedOrRefused b fs t y → AreOne s t x y
+united_alike : (a b : ArchiveView) (es fs : List EntryView) (s t : Status) (x y : List ℕ) → a ≡ b → es ≡ fs → IsUnitedOrRefused a es s x
+    → IsUnitedOrRefused b fs t y → AreOne s t x y
 united_alike a b es fs s t x y d e h k =
-    one_united a es s t x y h (subst (λ (l : List EntryView). IsUnitedOrRefused a l t y) (sym e) (subst (λ (c : ArchiveView). IsUnitedOrRefused c fs t y) (sym d) k))
+    one_united a es s t x y h (subst (λ (l : List EntryView). IsUnitedOrRefused a l t y) (sym e)
+    (subst (λ (c : ArchiveView). IsUnitedOrRefused c fs t y) (sym d) k))
 
 -- the first of two archives that has a fault
 abbrev IsFirstBad : List ℕ → Option (List ℕ) → List ℕ → Type 0
@@ -56,7 +60,8 @@ way_of_two file archive Done x h = BothRead h.0 h.1 h.2 h.3 h.4
 way_of_two file archive AddRefused x h = BothRead h.0 h.1 h.2 h.3 h.4
 way_of_two file archive s x h = absurd h.4
 
-bad_and_read : (file : List ℕ) (archive : Option (List ℕ)) (x : List ℕ) (b a : ArchiveView) → IsFirstBad file archive x → IsArchiveIn (Some file) b → IsArchiveIn archive a → ⊥
+bad_and_read : (file : List ℕ) (archive : Option (List ℕ)) (x : List ℕ) (b a : ArchiveView) → IsFirstBad file archive x → IsArchiveIn (Some file) b
+    → IsArchiveIn archive a → ⊥
 bad_and_read file archive x b a (inl h) read given = not_bad (Some file) b x read h
 bad_and_read file archive x b a (inr h) read given = not_bad archive a x given h.2
 
@@ -78,7 +83,8 @@ way_of_items a items Done x h = United h.0 h.1 h.2
 way_of_items a items AddRefused x h = United h.0 h.1 h.2
 way_of_items a items s x h = absurd h.2
 
-one_of_items : (a b : ArchiveView) (items : List ItemView) (s t : Status) (x y : List ℕ) → a ≡ b → WayOfItems a items s x → WayOfItems b items t y → AreOne s t x y
+one_of_items : (a b : ArchiveView) (items : List ItemView) (s t : Status) (x y : List ℕ) → a ≡ b → WayOfItems a items s x → WayOfItems b items t y
+    → AreOne s t x y
 one_of_items a b items s t x y d (Told e h) (Told f k) = (e ∙ sym f, (one_item_report items false false x y h k).1)
 one_of_items a b items s t x y d (Told e h) (United es i k) = absurd (entries_or_report items es x i h)
 one_of_items a b items s t x y d (United es i h) (Told e k) = absurd (entries_or_report items es y i k)
@@ -93,18 +99,21 @@ way_of_text : (file : List ℕ) (archive : Option (List ℕ)) (s : Status) (x : 
 way_of_text file archive BadArchive x h = IsBad refl h.1
 way_of_text file archive s x h = IsRead h.1 h.2 (way_of_items h.1 (items_of file) s x h.3)
 
-one_of_text : (file : List ℕ) (archive : Option (List ℕ)) (s t : Status) (x y : List ℕ) → WayOfText file archive s x → WayOfText file archive t y → AreOne s t x y
+one_of_text : (file : List ℕ) (archive : Option (List ℕ)) (s t : Status) (x y : List ℕ) → WayOfText file archive s x → WayOfText file archive t y
+    → AreOne s t x y
 one_of_text file archive s t x y (IsBad e h) (IsBad f k) = (e ∙ sym f, one_bad archive x y h k)
 one_of_text file archive s t x y (IsBad e h) (IsRead a i k) = absurd (not_bad archive a x i h)
 one_of_text file archive s t x y (IsRead a i h) (IsBad e k) = absurd (not_bad archive a y i k)
 one_of_text file archive s t x y (IsRead a i h) (IsRead b j k) = one_of_items a b (items_of file) s t x y (one_archive_in archive a b i j) h k
 
-one_as : (begins : Bool) (file : List ℕ) (archive : Option (List ℕ)) (s t : Status) (x y : List ℕ) → IsUnionAs begins file archive s x → IsUnionAs begins file archive t y → AreOne s t x y
+one_as : (begins : Bool) (file : List ℕ) (archive : Option (List ℕ)) (s t : Status) (x y : List ℕ) → IsUnionAs begins file archive s x
+    → IsUnionAs begins file archive t y → AreOne s t x y
 one_as true file archive s t x y h k = one_of_two file archive s t x y (way_of_two file archive s x h) (way_of_two file archive t y k)
 one_as false file archive s t x y h k = one_of_text file archive s t x y (way_of_text file archive s x h) (way_of_text file archive t y k)
 
 -- what is due to a union is one
-pub one_union_due : (file : List ℕ) (archive : Option (List ℕ)) (s t : Status) (x y : List ℕ) → IsUnionDue file archive s x → IsUnionDue file archive t y → AreOne s t x y
+pub one_union_due : (file : List ℕ) (archive : Option (List ℕ)) (s t : Status) (x y : List ℕ) → IsUnionDue file archive s x → IsUnionDue file archive t y
+    → AreOne s t x y
 one_union_due file archive s t x y h k = one_as (begins_archive file) file archive s t x y h k
 
 -- items are no more than there may be

@@ -2,7 +2,8 @@
 use Rattle.std.specs.Prelude.{◌≢◌, ℕ, ◌-◌, ℤ, pos, List, [], ◌∷◌, ◌++◌, length, map, Option, None, Some, slice_get, codes}
 use Rattle.archive_text.specs.Entries.{EntryView}
 use Rattle.net_archive.specs.declared.faults.ArchiveFault.{ArchiveFault}
-use Rattle.net_archive.specs.declared.faults.ArchiveFault.TheVariants.{BadLine, RepeatedName, EntryRefused, KeyDiffers, TooManyEntries, Version, CountDiffers, ShellsDiffer, NoMemory}
+use Rattle.net_archive.specs.declared.faults.ArchiveFault.TheVariants.{BadLine, RepeatedName, EntryRefused, KeyDiffers, TooManyEntries, Version, CountDiffers}
+use Rattle.net_archive.specs.declared.faults.ArchiveFault.TheVariants.{ShellsDiffer, NoMemory}
 use Rattle.net_archive.specs.declared.faults.AddFault.{AddFault}
 use Rattle.net_archive.specs.declared.faults.AddFault.TheVariants as add
 use Rattle.net_report.specs.Headers.{quoted_name}

@@ -5,7 +5,8 @@ use Rattle.union_answers.specs.Unions.{HasManyItems, IsUnionDue}
 
 -- two answers that are due to a union, of the same bytes, have one status and one text
 abbrev pub OneUnionDue : Type 0
-OneUnionDue = (file : List ℕ) (archive : Option (List ℕ)) (s t : Status) (x y : List ℕ) → IsUnionDue file archive s x → IsUnionDue file archive t y → (s ≡ t) × (x ≡ y)
+OneUnionDue = (file : List ℕ) (archive : Option (List ℕ)) (s t : Status) (x y : List ℕ) → IsUnionDue file archive s x → IsUnionDue file archive t y
+    → (s ≡ t) × (x ≡ y)
 
 -- where too many items begin, no answer is due
 abbrev pub ManyItemsAreNotAnswered : Type 0

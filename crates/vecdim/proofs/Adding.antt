@@ -43,7 +43,15 @@ with_of_added d S T v dim a = record {
   into = λ w s.
       let c = combination_one s.ks v in
       let e : w ≡ plus s.u (times c.0 v) = s.sum ∙ ap (plus s.u) c.1 in (
-        a.into w (record { k = c.0; u = s.u; member = s.member.0; x = ap (λ (t : Vector). t.x) e; y = ap (λ (t : Vector). t.y) e; z = ap (λ (t : Vector). t.z) e }),
+        a.into w (record {
+          k = c.0;
+          u = s.u;
+          member = s.member.0;
+          x = ap (λ (t : Vector). t.x) e;
+          y = ap (λ (t : Vector). t.y) e;
+          z =
+              ap (λ (t : Vector). t.z) e;
+        }),
         subst (HasDimension d) (sym e) (plus_dimension d s.u (times c.0 v) s.member.1 (times_dimension d c.0 v dim)),
       );
 }
@@ -68,7 +76,8 @@ with_more L K M v vs h i = record { out = out; into = into }
           u = t.u;
           member = t.member;
           ks = c.0 ∷ s.ks;
-          sum = s.sum ∙ ap (λ (u : Vector). plus u (combination s.ks vs)) (t.sum ∙ ap (plus t.u) c.1) ∙ plus_associative t.u (times c.0 v) (combination s.ks vs);
+          sum = s.sum ∙ ap (λ (u : Vector). plus u (combination s.ks vs)) (t.sum ∙ ap (plus t.u) c.1)
+              ∙ plus_associative t.u (times c.0 v) (combination s.ks vs);
         }
 
     from : (w u : Vector) → L u → (ks : List ℤ) → w ≡ plus u (combination ks (v ∷ vs)) → M w

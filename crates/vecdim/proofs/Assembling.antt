@@ -69,7 +69,17 @@ assemble m S v x y z a b1 c1 y1 z1 e f1 g1 z2 g2 i j1 j2 j3 j4 f q b c0 c k hx h
       kept = record {
         m_from = k.m_from;
         m_to = k.m_to;
-        reduced = record { a = one.pivot; e = two.pivot; i = three.pivot; b_from = b_from; b_to = b_to; c_from = hc.from; c_to = hc.to; f_from = hf.from; f_to = hf.to };
+        reduced = record {
+          a = one.pivot;
+          e = two.pivot;
+          i = three.pivot;
+          b_from = b_from;
+          b_to = b_to;
+          c_from = hc.from;
+          c_to = hc.to;
+          f_from = hf.from;
+          f_to = hf.to;
+        };
         bound = steps_bound k.bound steps one.pivot two.pivot;
         a_to = one.upper.x_to;
         e_to = two.upper.x_to;

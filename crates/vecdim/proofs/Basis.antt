@@ -61,7 +61,8 @@ pub first_rest : {S : Stairs} (w : Vector) → IsReducedStair S → InStairs S w
 first_rest {S} w r m h j i =
     let k = once m.k S.a (sym m.x ∙ h) r.a in
     ⊎_elim (λ (t : S.b <ℤ w.y). inl t)
-    (λ (t : (w.y ≡ S.b) × (m.l ≡ pos 0)). inr (t.0, at_most_of S.c w.z (least_rest m.n S.c S.i w.z r.c_from r.c_to i (z_at_one m.k m.l m.n S.c S.f S.i w.z k t.1 m.z))))
+    (λ (t : (w.y ≡ S.b) × (m.l ≡ pos 0)). inr
+    (t.0, at_most_of S.c w.z (least_rest m.n S.c S.i w.z r.c_from r.c_to i (z_at_one m.k m.l m.n S.c S.f S.i w.z k t.1 m.z))))
     (least_rest m.l S.b S.e w.y r.b_from r.b_to j (y_at_one m.k m.l S.b S.e w.y k m.y))
 
 -- a member with first part 0 has the first coefficient 0

@@ -14,7 +14,8 @@ abs_to : (z m : ℤ) → m ≤ℤ pos (2 ^ 60) → pos 0 ≤ℤ z → z ≤ℤ m
 abs_to z m h i j = omega (arith, ints)
 
 -- what `less_times` computes fits in 128 bits
-pub product_fits : (a q b m : ℤ) → m ≤ℤ pos (2 ^ 60) → pos 0 ≤ℤ a → a ≤ℤ m → pos 0 ≤ℤ b → b ≤ℤ m → pos 0 ≤ℤ q → q ≤ℤ m → FitsSigned w128 (q *ℤ b) × FitsSigned w128 (a -ℤ q *ℤ b)
+pub product_fits : (a q b m : ℤ) → m ≤ℤ pos (2 ^ 60) → pos 0 ≤ℤ a → a ≤ℤ m → pos 0 ≤ℤ b → b ≤ℤ m → pos 0 ≤ℤ q → q ≤ℤ m
+    → FitsSigned w128 (q *ℤ b) × FitsSigned w128 (a -ℤ q *ℤ b)
 product_fits a q b m h af at bf bt qf qt =
     let u = abs_to a m h af at in
     let v = abs_to b m h bf bt in
@@ -47,7 +48,12 @@ pub record PartsFit (v : Vector) : Type 0 where
 
 -- the parts of a vector in the box fit
 pub boxed_fits : {m : ℤ} {v : Vector} → m ≤ℤ pos (2 ^ 60) → IsBoxed m v → PartsFit v
-boxed_fits {m} {v} h b = record { x = fits_within v.x m h b.x_from b.x_to; y = fits_within v.y m h b.y_from (at_most v.y m b.y_to); z = fits_within v.z m h b.z_from (at_most v.z m b.z_to) }
+boxed_fits {m} {v} h b = record {
+  x = fits_within v.x m h b.x_from b.x_to;
+  y = fits_within v.y m h b.y_from (at_most v.y m b.y_to);
+  z =
+      fits_within v.z m h b.z_from (at_most v.z m b.z_to);
+}
 
 -- below, and at most
 below : (x y z : ℤ) → x <ℤ y → y ≤ℤ z → x <ℤ z
@@ -59,15 +65,39 @@ zero_most = omega (arith, ints)
 
 -- the rows are in the box
 pub boxed_first : {m : ℤ} {S : Stairs} → IsBoundedStair m S → IsBoxed m (vector S.a S.b S.c)
-boxed_first {m} {S} k = let r = k.reduced in let b = k.e_to in let c = k.i_to in record { x_from = at_most (pos 0) S.a r.a; x_to = k.a_to; y_from = r.b_from; y_to = below S.b S.e m r.b_to b; z_from = r.c_from; z_to = below S.c S.i m r.c_to c }
+boxed_first {m} {S} k = let r = k.reduced in let b = k.e_to in let c = k.i_to in
+    record {
+      x_from = at_most (pos 0) S.a r.a;
+      x_to = k.a_to;
+      y_from = r.b_from;
+      y_to = below S.b S.e m r.b_to b;
+      z_from = r.c_from;
+      z_to =
+          below S.c S.i m r.c_to c;
+    }
 
 -- the second row, one place to the left
 pub boxed_second : {m : ℤ} {S : Stairs} → IsBoundedStair m S → IsBoxed m (vector S.e S.f (pos 0))
-boxed_second {m} {S} k = let r = k.reduced in record { x_from = at_most (pos 0) S.e r.e; x_to = k.e_to; y_from = r.f_from; y_to = below S.f S.i m r.f_to k.i_to; z_from = zero_most; z_to = k.m_from }
+boxed_second {m} {S} k = let r = k.reduced in record {
+  x_from = at_most (pos 0) S.e r.e;
+  x_to = k.e_to;
+  y_from = r.f_from;
+  y_to =
+      below S.f S.i m r.f_to k.i_to;
+  z_from = zero_most;
+  z_to = k.m_from;
+}
 
 -- the third row, two places to the left
 pub boxed_third : {m : ℤ} {S : Stairs} → IsBoundedStair m S → IsBoxed m (vector S.i (pos 0) (pos 0))
-boxed_third {m} {S} k = let r = k.reduced in record { x_from = at_most (pos 0) S.i r.i; x_to = k.i_to; y_from = zero_most; y_to = k.m_from; z_from = zero_most; z_to = k.m_from }
+boxed_third {m} {S} k = let r = k.reduced in record {
+  x_from = at_most (pos 0) S.i r.i;
+  x_to = k.i_to;
+  y_from = zero_most;
+  y_to = k.m_from;
+  z_from = zero_most;
+  z_to = k.m_from;
+}
 
 -- what is at most 2^61 fits
 pub small_fits : (z : ℤ) → unsigned_abs z ≤ 2 ^ 61 → FitsSigned w128 z

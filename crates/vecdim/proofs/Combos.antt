@@ -7,7 +7,8 @@ use Rattle.vecdim.proofs.Lattice.{two_terms}
 use Rattle.vecdim.specs.Steps.{Combo, Exchange, IsBoxed}
 
 -- the later parts, up to multiples of m
-tail : (m p q s pr qr sr pv qv sv ry vy ay by wy : ℤ) → ay ≡ pr *ℤ ry +ℤ qr *ℤ vy +ℤ m *ℤ sr → by ≡ pv *ℤ ry +ℤ qv *ℤ vy +ℤ m *ℤ sv → wy ≡ p *ℤ ay +ℤ q *ℤ by +ℤ m *ℤ s
+tail : (m p q s pr qr sr pv qv sv ry vy ay by wy : ℤ) → ay ≡ pr *ℤ ry +ℤ qr *ℤ vy +ℤ m *ℤ sr → by ≡ pv *ℤ ry +ℤ qv *ℤ vy +ℤ m *ℤ sv
+    → wy ≡ p *ℤ ay +ℤ q *ℤ by +ℤ m *ℤ s
     → wy ≡ (p *ℤ pr +ℤ q *ℤ pv) *ℤ ry +ℤ (p *ℤ qr +ℤ q *ℤ qv) *ℤ vy +ℤ m *ℤ (p *ℤ sr +ℤ q *ℤ sv +ℤ s)
 tail m p q s pr qr sr pv qv sv ry vy ay by wy e f g =
     let e' = ap (λ t. p *ℤ t) e in
@@ -28,11 +29,29 @@ combo_of_combos {m} {r} {v} {a} {b} {w} h e f = record {
 
 -- the first of two vectors
 pub combo_first : (m : ℤ) (r v : Vector) → Combo m r v r
-combo_first m r v = record { p = pos 1; q = pos 0; s = pos 0; t = pos 0; x = simp ring (omega (arith, linear)); y = simp ring (omega (arith, linear)); z = simp ring (omega (arith, linear)) }
+combo_first m r v = record {
+  p = pos 1;
+  q = pos 0;
+  s = pos 0;
+  t = pos 0;
+  x = simp ring (omega (arith, linear));
+  y = simp ring (omega (arith, linear));
+  z =
+      simp ring (omega (arith, linear));
+}
 
 -- the second
 pub combo_second : (m : ℤ) (r v : Vector) → Combo m r v v
-combo_second m r v = record { p = pos 0; q = pos 1; s = pos 0; t = pos 0; x = simp ring (omega (arith, linear)); y = simp ring (omega (arith, linear)); z = simp ring (omega (arith, linear)) }
+combo_second m r v = record {
+  p = pos 0;
+  q = pos 1;
+  s = pos 0;
+  t = pos 0;
+  x = simp ring (omega (arith, linear));
+  y = simp ring (omega (arith, linear));
+  z =
+      simp ring (omega (arith, linear));
+}
 
 -- a pair generates the same as itself
 pub exchange_refl : (m : ℤ) (r v : Vector) → Exchange m r v r v
@@ -52,11 +71,30 @@ back : (m q k ry vy wy : ℤ) → wy ≡ ry -ℤ q *ℤ vy +ℤ m *ℤ k → ry 
 back m q k ry vy wy e = simp ring (omega (arith, linear, e))
 
 -- one step of Euclid
-pub exchange_step : {m : ℤ} {r v w : Vector} (q k l : ℤ) → w.x ≡ r.x -ℤ q *ℤ v.x → w.y ≡ r.y -ℤ q *ℤ v.y +ℤ m *ℤ k → w.z ≡ r.z -ℤ q *ℤ v.z +ℤ m *ℤ l → Exchange m r v v w
+pub exchange_step : {m : ℤ} {r v w : Vector} (q k l : ℤ) → w.x ≡ r.x -ℤ q *ℤ v.x → w.y ≡ r.y -ℤ q *ℤ v.y +ℤ m *ℤ k → w.z ≡ r.z -ℤ q *ℤ v.z +ℤ m *ℤ l
+    → Exchange m r v v w
 exchange_step {m} {r} {v} {w} q k l ex ey ez = record {
   upper = combo_second m r v;
-  lower = record { p = pos 1; q = neg_ℤ q; s = k; t = l; x = simp ring (omega (arith, linear, ex)); y = simp ring (omega (arith, linear, ey)); z = simp ring (omega (arith, linear, ez)) };
-  old_upper = record { p = q; q = pos 1; s = neg_ℤ k; t = neg_ℤ l; x = simp ring (omega (arith, linear, ex)); y = back m q k r.y v.y w.y ey; z = back m q l r.z v.z w.z ez };
+  lower = record {
+    p = pos 1;
+    q = neg_ℤ q;
+    s = k;
+    t = l;
+    x = simp ring (omega (arith, linear, ex));
+    y = simp ring (omega (arith, linear, ey));
+    z =
+        simp ring (omega (arith, linear, ez));
+  };
+  old_upper = record {
+    p = q;
+    q = pos 1;
+    s = neg_ℤ k;
+    t = neg_ℤ l;
+    x = simp ring (omega (arith, linear, ex));
+    y = back m q k r.y v.y w.y ey;
+    z =
+        back m q l r.z v.z w.z ez;
+  };
   old_lower = combo_first m v w;
 }
 

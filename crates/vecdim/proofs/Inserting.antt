@@ -64,8 +64,10 @@ module _ {L : Vector → Type 0} (h : IsClosed L) (m : ℤ) where
       (first_two c.p c.q c.s c.t r.x v.x w.x c.x) (first_three m c.p c.q c.s c.t r.y v.y w.y c.y) (all_four m c.p c.q c.s c.t r.z v.z w.z c.z)
 
   -- in the second column
-  in_second : (r v w : Vector) → L (vector (pos 0) (pos 0) m) → L (vector (pos 0) r.x r.y) → L (vector (pos 0) v.x v.y) → Combo m r v w → L (vector (pos 0) w.x w.y)
-  in_second r v w j lr lv c = four_in h c.p c.q c.s (pos 0) (vector (pos 0) r.x r.y) (vector (pos 0) v.x v.y) (vector (pos 0) (pos 0) m) (vector (pos 0) (pos 0) m) (vector (pos 0) w.x w.y) lr lv j j
+  in_second : (r v w : Vector) → L (vector (pos 0) (pos 0) m) → L (vector (pos 0) r.x r.y) → L (vector (pos 0) v.x v.y) → Combo m r v w
+      → L (vector (pos 0) w.x w.y)
+  in_second r v w j lr lv c = four_in h c.p c.q c.s (pos 0) (vector (pos 0) r.x r.y) (vector (pos 0) v.x v.y) (vector (pos 0) (pos 0) m)
+      (vector (pos 0) (pos 0) m) (vector (pos 0) w.x w.y) lr lv j j
       (nothing c.p c.q c.s (pos 0)) (first_two c.p c.q c.s (pos 0) r.x v.x w.x c.x) (first_three' c.p c.q c.s r.y v.y w.y c.y)
     where
       first_three' : (p q r a b w : ℤ) → w ≡ p *ℤ a +ℤ q *ℤ b +ℤ m *ℤ r → w ≡ p *ℤ a +ℤ q *ℤ b +ℤ r *ℤ m +ℤ pos 0 *ℤ m
@@ -73,7 +75,8 @@ module _ {L : Vector → Type 0} (h : IsClosed L) (m : ℤ) where
 
   -- in the third column
   in_third : (r v w : Vector) → L (vector (pos 0) (pos 0) r.x) → L (vector (pos 0) (pos 0) v.x) → Combo m r v w → L (vector (pos 0) (pos 0) w.x)
-  in_third r v w lr lv c = four_in h c.p c.q (pos 0) (pos 0) (vector (pos 0) (pos 0) r.x) (vector (pos 0) (pos 0) v.x) (vector (pos 0) (pos 0) (pos 0)) (vector (pos 0) (pos 0) (pos 0)) (vector (pos 0) (pos 0) w.x) lr lv (zero_in lr) (zero_in lr)
+  in_third r v w lr lv c = four_in h c.p c.q (pos 0) (pos 0) (vector (pos 0) (pos 0) r.x) (vector (pos 0) (pos 0) v.x) (vector (pos 0) (pos 0) (pos 0))
+      (vector (pos 0) (pos 0) (pos 0)) (vector (pos 0) (pos 0) w.x) lr lv (zero_in lr) (zero_in lr)
       (nothing c.p c.q (pos 0) (pos 0)) (nothing c.p c.q (pos 0) (pos 0)) (first_two c.p c.q (pos 0) (pos 0) r.x v.x w.x c.x)
     where
       -- a closed set with a member has 0
@@ -82,11 +85,13 @@ module _ {L : Vector → Type 0} (h : IsClosed L) (m : ℤ) where
 
   -- a closed set with the third row has (0, 0, m)
   third_multiple : {S : Stairs} → HasBound S m → L (vector (pos 0) (pos 0) S.i) → L (vector (pos 0) (pos 0) m)
-  third_multiple {S} b l = h.pair b.third_k (pos 0) (vector (pos 0) (pos 0) S.i) (vector (pos 0) (pos 0) S.i) (vector (pos 0) (pos 0) m) l l (simp ring refl) (simp ring refl) (let e = b.third_z in simp ring (omega (arith, linear, e)))
+  third_multiple {S} b l = h.pair b.third_k (pos 0) (vector (pos 0) (pos 0) S.i) (vector (pos 0) (pos 0) S.i) (vector (pos 0) (pos 0) m) l l (simp ring refl)
+      (simp ring refl) (let e = b.third_z in simp ring (omega (arith, linear, e)))
 
   -- with the second row too it has (0, m, 0)
   second_multiple : {S : Stairs} → HasBound S m → L (vector (pos 0) S.e S.f) → L (vector (pos 0) (pos 0) S.i) → L (vector (pos 0) m (pos 0))
-  second_multiple {S} b l l' = h.pair b.second_k b.second_l (vector (pos 0) S.e S.f) (vector (pos 0) (pos 0) S.i) (vector (pos 0) m (pos 0)) l l' (simp ring refl) (let e = b.second_y in simp ring (omega (arith, linear, e))) b.second_z
+  second_multiple {S} b l l' = h.pair b.second_k b.second_l (vector (pos 0) S.e S.f) (vector (pos 0) (pos 0) S.i) (vector (pos 0) m (pos 0)) l l'
+      (simp ring refl) (let e = b.second_y in simp ring (omega (arith, linear, e))) b.second_z
 
   module _ {S T : Stairs} {v : Vector} (bound : HasBound S m) (t : Steps m S T v) where
     -- f before its reduction
@@ -118,15 +123,18 @@ module _ {L : Vector → Type 0} (h : IsClosed L) (m : ℤ) where
     same_a a q r s = simp ring (omega (arith, linear))
 
     -- the first part of v, and of v modulo m
-    x_part : (x v k r s : ℤ) → x ≡ v +ℤ m *ℤ k → (v ≡ pos 1 *ℤ x +ℤ neg_ℤ k *ℤ m +ℤ r *ℤ pos 0 +ℤ s *ℤ pos 0) × (x ≡ pos 1 *ℤ v +ℤ k *ℤ m +ℤ r *ℤ pos 0 +ℤ s *ℤ pos 0)
+    x_part : (x v k r s : ℤ) → x ≡ v +ℤ m *ℤ k → (v ≡ pos 1 *ℤ x +ℤ neg_ℤ k *ℤ m +ℤ r *ℤ pos 0 +ℤ s *ℤ pos 0)
+        × (x ≡ pos 1 *ℤ v +ℤ k *ℤ m +ℤ r *ℤ pos 0 +ℤ s *ℤ pos 0)
     x_part x v k r s h = (simp ring (omega (arith, linear, h)), simp ring (omega (arith, linear, h)))
 
     -- the second part
-    y_part : (x v k r s : ℤ) → x ≡ v +ℤ m *ℤ k → (v ≡ pos 1 *ℤ x +ℤ r *ℤ pos 0 +ℤ neg_ℤ k *ℤ m +ℤ s *ℤ pos 0) × (x ≡ pos 1 *ℤ v +ℤ r *ℤ pos 0 +ℤ k *ℤ m +ℤ s *ℤ pos 0)
+    y_part : (x v k r s : ℤ) → x ≡ v +ℤ m *ℤ k → (v ≡ pos 1 *ℤ x +ℤ r *ℤ pos 0 +ℤ neg_ℤ k *ℤ m +ℤ s *ℤ pos 0)
+        × (x ≡ pos 1 *ℤ v +ℤ r *ℤ pos 0 +ℤ k *ℤ m +ℤ s *ℤ pos 0)
     y_part x v k r s h = (simp ring (omega (arith, linear, h)), simp ring (omega (arith, linear, h)))
 
     -- the third part
-    z_part : (x v k r s : ℤ) → x ≡ v +ℤ m *ℤ k → (v ≡ pos 1 *ℤ x +ℤ r *ℤ pos 0 +ℤ s *ℤ pos 0 +ℤ neg_ℤ k *ℤ m) × (x ≡ pos 1 *ℤ v +ℤ r *ℤ pos 0 +ℤ s *ℤ pos 0 +ℤ k *ℤ m)
+    z_part : (x v k r s : ℤ) → x ≡ v +ℤ m *ℤ k → (v ≡ pos 1 *ℤ x +ℤ r *ℤ pos 0 +ℤ s *ℤ pos 0 +ℤ neg_ℤ k *ℤ m)
+        × (x ≡ pos 1 *ℤ v +ℤ r *ℤ pos 0 +ℤ s *ℤ pos 0 +ℤ k *ℤ m)
     z_part x v k r s h = (simp ring (omega (arith, linear, h)), simp ring (omega (arith, linear, h)))
 
     -- a closed set with a member has 0
@@ -139,19 +147,24 @@ module _ {L : Vector → Type 0} (h : IsClosed L) (m : ℤ) where
         let third = in_third (vector T.i t.j1 t.j2) (vector (pos 0) t.j3 t.j4) (vector S.i (pos 0) (pos 0)) r.third (zero_in r.third) t.three.old_upper in
         let low3 = in_third (vector T.i t.j1 t.j2) (vector (pos 0) t.j3 t.j4) (vector t.z2 (pos 0) (pos 0)) r.third (zero_in r.third) t.three.old_lower in
         let m3 = third_multiple bound third in
-        let up2 = h.pair (pos 1) (neg_ℤ t.kf) (vector (pos 0) T.e T.f) (vector (pos 0) (pos 0) T.i) (vector (pos 0) T.e t.f1) r.second r.third (simp ring refl) (simp ring (omega (arith, linear))) (undo_f T.f t.f1 T.i t.kf t.f_is) in
+        let up2 = h.pair (pos 1) (neg_ℤ t.kf) (vector (pos 0) T.e T.f) (vector (pos 0) (pos 0) T.i) (vector (pos 0) T.e t.f1) r.second r.third (simp ring refl)
+        (simp ring (omega (arith, linear))) (undo_f T.f t.f1 T.i t.kf t.f_is) in
         let second = in_second (vector T.e t.f1 t.g1) (vector (pos 0) t.z2 t.g2) (vector S.e S.f (pos 0)) m3 up2 low3 t.two.old_upper in
         let low2 = in_second (vector T.e t.f1 t.g1) (vector (pos 0) t.z2 t.g2) (vector t.y1 t.z1 (pos 0)) m3 up2 low3 t.two.old_lower in
         let m2 = second_multiple bound second third in
-        let up1 = four_in h (pos 1) t.q (neg_ℤ t.k1) (neg_ℤ t.k2) (vector T.a T.b T.c) (vector (pos 0) T.e T.f) (vector (pos 0) (pos 0) m) (vector (pos 0) (pos 0) T.i) (vector T.a t.b1 t.c1) r.first r.second m3 r.third
-        (same_a T.a t.q (neg_ℤ t.k1) (neg_ℤ t.k2)) (undo_b T.b t.b1 t.q T.e (neg_ℤ t.k1) (neg_ℤ t.k2) t.b_is) (undo_c T.c t.c1 t.q T.f m t.k1 T.i t.k2 t.c_is) in
+        let up1 = four_in h (pos 1) t.q (neg_ℤ t.k1) (neg_ℤ t.k2) (vector T.a T.b T.c) (vector (pos 0) T.e T.f) (vector (pos 0) (pos 0) m)
+        (vector (pos 0) (pos 0) T.i) (vector T.a t.b1 t.c1) r.first r.second m3 r.third
+        (same_a T.a t.q (neg_ℤ t.k1) (neg_ℤ t.k2)) (undo_b T.b t.b1 t.q T.e (neg_ℤ t.k1) (neg_ℤ t.k2) t.b_is)
+        (undo_c T.c t.c1 t.q T.f m t.k1 T.i t.k2 t.c_is) in
         let first = in_first (vector T.a t.b1 t.c1) (vector (pos 0) t.y1 t.z1) (vector S.a S.b S.c) m2 m3 up1 low2 t.one.old_upper in
         let low1 = in_first (vector T.a t.b1 t.c1) (vector (pos 0) t.y1 t.z1) (vector t.x t.y t.z) m2 m3 up1 low2 t.one.old_lower in
         let rows : HasRows L S = record { first = first; second = second; third = third } in
         let m1 = has_all h rows (vector m (pos 0) (pos 0)) bound.first in (
           rows,
-          four_in h (pos 1) (neg_ℤ t.kx) (neg_ℤ t.ky) (neg_ℤ t.kz) (vector t.x t.y t.z) (vector m (pos 0) (pos 0)) (vector (pos 0) m (pos 0)) (vector (pos 0) (pos 0) m) v low1 m1 m2 m3
-              (x_part t.x v.x t.kx (neg_ℤ t.ky) (neg_ℤ t.kz) t.x_is).0 (y_part t.y v.y t.ky (neg_ℤ t.kx) (neg_ℤ t.kz) t.y_is).0 (z_part t.z v.z t.kz (neg_ℤ t.kx) (neg_ℤ t.ky) t.z_is).0,
+          four_in h (pos 1) (neg_ℤ t.kx) (neg_ℤ t.ky) (neg_ℤ t.kz) (vector t.x t.y t.z) (vector m (pos 0) (pos 0)) (vector (pos 0) m (pos 0))
+              (vector (pos 0) (pos 0) m) v low1 m1 m2 m3
+              (x_part t.x v.x t.kx (neg_ℤ t.ky) (neg_ℤ t.kz) t.x_is).0 (y_part t.y v.y t.ky (neg_ℤ t.kx) (neg_ℤ t.kz) t.y_is).0
+              (z_part t.z v.z t.kz (neg_ℤ t.kx) (neg_ℤ t.ky) t.z_is).0,
         )
 
     -- the old rows and v give the new ones
@@ -160,16 +173,19 @@ module _ {L : Vector → Type 0} (h : IsClosed L) (m : ℤ) where
         let m3 = third_multiple bound r.third in
         let m2 = second_multiple bound r.second r.third in
         let m1 = has_all h r (vector m (pos 0) (pos 0)) bound.first in
-        let low1 = four_in h (pos 1) t.kx t.ky t.kz v (vector m (pos 0) (pos 0)) (vector (pos 0) m (pos 0)) (vector (pos 0) (pos 0) m) (vector t.x t.y t.z) l m1 m2 m3
+        let low1 = four_in h (pos 1) t.kx t.ky t.kz v (vector m (pos 0) (pos 0)) (vector (pos 0) m (pos 0)) (vector (pos 0) (pos 0) m)
+        (vector t.x t.y t.z) l m1 m2 m3
         (x_part t.x v.x t.kx t.ky t.kz t.x_is).1 (y_part t.y v.y t.ky t.kx t.kz t.y_is).1 (z_part t.z v.z t.kz t.kx t.ky t.z_is).1 in
         let up1 = in_first (vector S.a S.b S.c) (vector t.x t.y t.z) (vector T.a t.b1 t.c1) m2 m3 r.first low1 t.one.upper in
         let low2 = in_first (vector S.a S.b S.c) (vector t.x t.y t.z) (vector (pos 0) t.y1 t.z1) m2 m3 r.first low1 t.one.lower in
         let up2 = in_second (vector S.e S.f (pos 0)) (vector t.y1 t.z1 (pos 0)) (vector T.e t.f1 t.g1) m3 r.second low2 t.two.upper in
         let low3 = in_second (vector S.e S.f (pos 0)) (vector t.y1 t.z1 (pos 0)) (vector (pos 0) t.z2 t.g2) m3 r.second low2 t.two.lower in
         let third = in_third (vector S.i (pos 0) (pos 0)) (vector t.z2 (pos 0) (pos 0)) (vector T.i t.j1 t.j2) r.third low3 t.three.upper in
-        let second = h.pair (pos 1) t.kf (vector (pos 0) T.e t.f1) (vector (pos 0) (pos 0) T.i) (vector (pos 0) T.e T.f) up2 third (simp ring refl) (simp ring (omega (arith, linear))) (do_f T.f t.f1 T.i t.kf t.f_is) in
+        let second = h.pair (pos 1) t.kf (vector (pos 0) T.e t.f1) (vector (pos 0) (pos 0) T.i) (vector (pos 0) T.e T.f) up2 third (simp ring refl)
+        (simp ring (omega (arith, linear))) (do_f T.f t.f1 T.i t.kf t.f_is) in
         record {
-          first = four_in h (pos 1) (neg_ℤ t.q) t.k1 t.k2 (vector T.a t.b1 t.c1) (vector (pos 0) T.e T.f) (vector (pos 0) (pos 0) m) (vector (pos 0) (pos 0) T.i) (vector T.a T.b T.c) up1 second m3 third
+          first = four_in h (pos 1) (neg_ℤ t.q) t.k1 t.k2 (vector T.a t.b1 t.c1) (vector (pos 0) T.e T.f) (vector (pos 0) (pos 0) m)
+              (vector (pos 0) (pos 0) T.i) (vector T.a T.b T.c) up1 second m3 third
               (same_a T.a (neg_ℤ t.q) t.k1 t.k2) (do_b T.b t.b1 t.q T.e t.k1 t.k2 t.b_is) (do_c T.c t.c1 t.q T.f m t.k1 T.i t.k2 t.c_is);
           second = second;
           third = third;
@@ -200,11 +216,13 @@ pub steps_with : {m : ℤ} {S T : Stairs} {v : Vector} → HasBound S m → Step
 steps_with {m} {S} {T} {v} b t =
     let o = own_rows S in
     record {
-      out = λ w i. has_all {L = InSum S v} (sum_closed S v) (new_of_old (sum_closed S v) m b t (record { first = in_sum v _ o.first; second = in_sum v _ o.second; third = in_sum v _ o.third })
+      out = λ w i. has_all {L = InSum S v} (sum_closed S v) (new_of_old (sum_closed S v) m b t
+          (record { first = in_sum v _ o.first; second = in_sum v _ o.second; third = in_sum v _ o.third })
           (record { k = pos 1; u = vector (pos 0) (pos 0) (pos 0); member = zero_member S; x = zero_sum v.x; y = zero_sum v.y; z = zero_sum v.z })) w i;
       into = λ w s.
           let r = old_of_new (stairs_closed T) m b t (own_rows T) in
-          (stairs_closed T).pair (pos 1) s.k s.u v w (has_all {L = InStairs T} (stairs_closed T) r.0 s.u s.member) r.1 (own s.u.x s.k v.x w.x s.x) (own s.u.y s.k v.y w.y s.y) (own s.u.z s.k v.z w.z s.z);
+          (stairs_closed T).pair (pos 1) s.k s.u v w (has_all {L = InStairs T} (stairs_closed T) r.0 s.u s.member) r.1 (own s.u.x s.k v.x w.x s.x)
+          (own s.u.y s.k v.y w.y s.y) (own s.u.z s.k v.z w.z s.z);
     }
 
 -- a multiple of a positive number is 0 only for the factor 0

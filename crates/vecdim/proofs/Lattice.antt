@@ -13,7 +13,8 @@ one_term p q k l a x y w e f g =
     simp ring (omega (arith, linear, g, e', f'))
 
 -- a pair of combinations of two numbers
-pub two_terms : (p q k k' l l' a b x y w : ℤ) → x ≡ k *ℤ a +ℤ k' *ℤ b → y ≡ l *ℤ a +ℤ l' *ℤ b → w ≡ p *ℤ x +ℤ q *ℤ y → w ≡ (p *ℤ k +ℤ q *ℤ l) *ℤ a +ℤ (p *ℤ k' +ℤ q *ℤ l') *ℤ b
+pub two_terms : (p q k k' l l' a b x y w : ℤ) → x ≡ k *ℤ a +ℤ k' *ℤ b → y ≡ l *ℤ a +ℤ l' *ℤ b → w ≡ p *ℤ x +ℤ q *ℤ y
+    → w ≡ (p *ℤ k +ℤ q *ℤ l) *ℤ a +ℤ (p *ℤ k' +ℤ q *ℤ l') *ℤ b
 two_terms p q k k' l l' a b x y w e f g =
     let e' = ap (λ t. p *ℤ t) e in
     let f' = ap (λ t. q *ℤ t) f in
@@ -28,7 +29,8 @@ three_terms p q k k' k'' l l' l'' a b c x y w e f g =
     simp ring (omega (arith, linear, g, simp ring at e', simp ring at f'))
 
 -- the members of a stair are closed under combinations of two
-pub in_pair : {S : Stairs} {u v w : Vector} (p q : ℤ) → InStairs S u → InStairs S v → w.x ≡ p *ℤ u.x +ℤ q *ℤ v.x → w.y ≡ p *ℤ u.y +ℤ q *ℤ v.y → w.z ≡ p *ℤ u.z +ℤ q *ℤ v.z → InStairs S w
+pub in_pair : {S : Stairs} {u v w : Vector} (p q : ℤ) → InStairs S u → InStairs S v → w.x ≡ p *ℤ u.x +ℤ q *ℤ v.x → w.y ≡ p *ℤ u.y +ℤ q *ℤ v.y
+    → w.z ≡ p *ℤ u.z +ℤ q *ℤ v.z → InStairs S w
 in_pair {S} {u} {v} {w} p q h i ex ey ez = record {
   k = p *ℤ h.k +ℤ q *ℤ i.k;
   l = p *ℤ h.l +ℤ q *ℤ i.l;
@@ -102,7 +104,8 @@ no_z k l n c f i = simp ring (omega (arith, linear))
 
 -- it has all that the rows generate
 pub has_all : {L : Vector → Type 0} {S : Stairs} → IsClosed L → HasRows L S → (w : Vector) → InStairs S w → L w
-has_all {L} {S} h r w i = four_in h i.k i.l i.n (pos 0) (vector S.a S.b S.c) (vector (pos 0) S.e S.f) (vector (pos 0) (pos 0) S.i) (vector (pos 0) (pos 0) S.i) w r.first r.second r.third r.third
+has_all {L} {S} h r w i = four_in h i.k i.l i.n (pos 0) (vector S.a S.b S.c) (vector (pos 0) S.e S.f) (vector (pos 0) (pos 0) S.i)
+    (vector (pos 0) (pos 0) S.i) w r.first r.second r.third r.third
     (i.x ∙ no_x i.k i.l i.n S.a) (i.y ∙ no_y i.k i.l i.n S.b S.e) (i.z ∙ no_z i.k i.l i.n S.c S.f S.i)
 
 -- a number is 1 times itself
@@ -112,7 +115,31 @@ row a = simp ring refl
 -- the rows of a stair are members
 pub own_rows : (S : Stairs) → HasRows (InStairs S) S
 own_rows S = record {
-  first = record { k = pos 1; l = pos 0; n = pos 0; x = simp ring (omega (arith, linear)); y = simp ring (omega (arith, linear)); z = simp ring (omega (arith, linear)) };
-  second = record { k = pos 0; l = pos 1; n = pos 0; x = simp ring (omega (arith, linear)); y = simp ring (omega (arith, linear)); z = simp ring (omega (arith, linear)) };
-  third = record { k = pos 0; l = pos 0; n = pos 1; x = simp ring (omega (arith, linear)); y = simp ring (omega (arith, linear)); z = simp ring (omega (arith, linear)) };
+  first = record {
+    k = pos 1;
+    l = pos 0;
+    n = pos 0;
+    x = simp ring (omega (arith, linear));
+    y = simp ring (omega (arith, linear));
+    z =
+        simp ring (omega (arith, linear));
+  };
+  second = record {
+    k = pos 0;
+    l = pos 1;
+    n = pos 0;
+    x = simp ring (omega (arith, linear));
+    y = simp ring (omega (arith, linear));
+    z =
+        simp ring (omega (arith, linear));
+  };
+  third = record {
+    k = pos 0;
+    l = pos 0;
+    n = pos 1;
+    x = simp ring (omega (arith, linear));
+    y = simp ring (omega (arith, linear));
+    z =
+        simp ring (omega (arith, linear));
+  };
 }

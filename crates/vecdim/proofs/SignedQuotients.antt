@@ -15,7 +15,8 @@ opposite_divides g size v u w e o d =
 -- and back
 pub opposite_back : (g size : ℤ) (v u w : Vector) → size ≡ neg_ℤ g → u ≡ opposite v → u ≡ times size w → v ≡ times g w
 opposite_back g size v u w e o d =
-    vector_equal (twice v.x) (twice v.y) (twice v.z) ∙ ap opposite (sym o ∙ d ∙ ap (λ (k : ℤ). times k w) e) ∙ vector_equal (turned g w.x) (turned g w.y) (turned g w.z)
+    vector_equal (twice v.x) (twice v.y) (twice v.z) ∙ ap opposite (sym o ∙ d ∙ ap (λ (k : ℤ). times k w) e)
+    ∙ vector_equal (turned g w.x) (turned g w.y) (turned g w.z)
   where
     twice : (z : ℤ) → z ≡ neg_ℤ (neg_ℤ z)
     twice z = omega (arith, linear)

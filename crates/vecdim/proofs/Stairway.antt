@@ -1,5 +1,6 @@
 -- The rows of a staircase are the staircase basis of its members.
-use Rattle.std.proofs.Common.{◌≡◌, ◌≢◌, ℕ, zero, suc, ℤ, pos, negsuc, ◌-ℤ◌, ◌<ℤ◌, ◌≤ℤ◌, ◌<◌, ◌≤◌, List, [], ◌∷◌, refl, sym, ap, subst, ◌∙◌, arith, ◌⊎◌, inl, inr}
+use Rattle.std.proofs.Common.{◌≡◌, ◌≢◌, ℕ, zero, suc, ℤ, pos, negsuc, ◌-ℤ◌, ◌<ℤ◌, ◌≤ℤ◌, ◌<◌, ◌≤◌, List, [], ◌∷◌, refl, sym, ap, subst, ◌∙◌, arith, ◌⊎◌, inl}
+use Rattle.std.proofs.Common.{inr}
 use Rattle.std.proofs.lemmas.Int.{ints}
 use Rattle.std.specs.Prelude.{slice_index_or, take, cond, ◌==◌, ◌^◌, All, Bool, true, false}
 use Rattle.std.proofs.lemmas.List.Elements.{All-cons}
@@ -173,7 +174,8 @@ rows_within d h k {m} S kept =
     let s = boxed_within kept.m_to (boxed_second kept) in
     let t = boxed_within kept.m_to (boxed_third kept) in
     All-cons P (vector S.a S.b S.c) (vector (pos 0) S.e S.f ∷ cond (d == 2) [] (vector (pos 0) (pos 0) S.i ∷ [])) (boxed_within kept.m_to (boxed_first kept))
-    (All-cons P (vector (pos 0) S.e S.f) (cond (d == 2) [] (vector (pos 0) (pos 0) S.i ∷ [])) (omega arith, s.0, s.1) (last (d == 2) (omega arith, omega arith, t.0)))
+    (All-cons P (vector (pos 0) S.e S.f) (cond (d == 2) [] (vector (pos 0) (pos 0) S.i ∷ [])) (omega arith, s.0, s.1)
+    (last (d == 2) (omega arith, omega arith, t.0)))
   where
     last : (b : Bool) → IsWithin (2 ^ 60) (vector (pos 0) (pos 0) S.i) → All (IsWithin (2 ^ 60)) (cond b [] (vector (pos 0) (pos 0) S.i ∷ []))
     last true t = λ i x l. absurd (omega arith)
@@ -188,7 +190,8 @@ pub record AreRows (d : ℕ) (S : Stairs) (vs : List Vector) : Type 0 where
 -- and that they are the rows
 pub lent_rows : (d : ℕ) → 2 ≤ d → d ≤ 3 → {m : ℤ} {S : Stairs} → (d ≡ 2 → HasFlatEnd S) → IsBoundedStair m S → {vs : List Vector}
     → vs ≡ vector S.a S.b S.c ∷ vector (pos 0) S.e S.f ∷ vector (pos 0) (pos 0) (cond (d == 2) (pos 0) S.i) ∷ [] → AreRows d S (take d vs)
-lent_rows d h k {m} {S} flat kept {vs} e = subst (AreRows d S) (sym (ap (take d) e ∙ lent d h k S)) (record { basis = rows_are_basis d S h k shape; small = rows_within d h k S kept; spans = rows_span d S shape })
+lent_rows d h k {m} {S} flat kept {vs} e = subst (AreRows d S) (sym (ap (take d) e ∙ lent d h k S))
+    (record { basis = rows_are_basis d S h k shape; small = rows_within d h k S kept; spans = rows_span d S shape })
   where
     shape : HasStairShape d S
     shape = record { reduced = kept.reduced; flat = flat }

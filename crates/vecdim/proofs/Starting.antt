@@ -25,11 +25,22 @@ start_bound b last k e = record {
 }
 
 -- what holds of it
-pub start_kept : (b last k : ℤ) → pos 0 <ℤ b → b <ℤ pos (2 ^ 60) → pos 0 <ℤ last → last ≤ℤ b → b ≡ k *ℤ last → IsBoundedStair b (stairs b (pos 0) (pos 0) b (pos 0) last)
+pub start_kept : (b last k : ℤ) → pos 0 <ℤ b → b <ℤ pos (2 ^ 60) → pos 0 <ℤ last → last ≤ℤ b → b ≡ k *ℤ last
+    → IsBoundedStair b (stairs b (pos 0) (pos 0) b (pos 0) last)
 start_kept b last k h i l m e = record {
   m_from = h;
   m_to = omega (arith, linear, i);
-  reduced = record { a = h; e = h; i = l; b_from = omega (arith, linear); b_to = h; c_from = omega (arith, linear); c_to = l; f_from = omega (arith, linear); f_to = l };
+  reduced = record {
+    a = h;
+    e = h;
+    i = l;
+    b_from = omega (arith, linear);
+    b_to = h;
+    c_from = omega (arith, linear);
+    c_to = l;
+    f_from = omega (arith, linear);
+    f_to = l;
+  };
   bound = start_bound b last k e;
   a_to = omega (arith, linear);
   e_to = omega (arith, linear);
@@ -49,7 +60,16 @@ pub flat_kept : {m : ℤ} {S T : Stairs} {v : Vector} → HasFlatEnd S → IsIns
 flat_kept {m} {S} {T} {v} h n =
     let r = n.kept.reduced in
     let s = own_rows S in
-    let t = n.added.into (vector (pos 0) (pos 0) S.i) (record { k = pos 0; u = vector (pos 0) (pos 0) S.i; member = s.third; x = simp ring refl; y = simp ring refl; z = simp ring (omega (arith, linear)) }) in
+    let t = n.added.into (vector (pos 0) (pos 0) S.i)
+    (record {
+      k = pos 0;
+      u = vector (pos 0) (pos 0) S.i;
+      member = s.third;
+      x = simp ring refl;
+      y = simp ring refl;
+      z =
+          simp ring (omega (arith, linear));
+    }) in
     let e = one_or T.i S.i r.i (third_least (vector (pos 0) (pos 0) S.i) r t refl refl (subst (λ t. pos 0 <ℤ t) (sym h.i) (omega (arith, ints)))) h.i in
     record { c = zero_below T.i T.c e r.c_from r.c_to; f = zero_below T.i T.f e r.f_from r.f_to; i = e }
 
@@ -59,7 +79,8 @@ flat_start b last e = record { c = refl; f = refl; i = e }
 
 -- with (0, 0, 1) for the last row
 pub start_one : (b last : ℤ) → pos 0 <ℤ b → b <ℤ pos (2 ^ 60) → last ≡ pos 1 → IsBoundedStair b (stairs b (pos 0) (pos 0) b (pos 0) last)
-start_one b last h i e = start_kept b last b h i (subst (λ t. pos 0 <ℤ t) (sym e) (omega (arith, ints))) (subst (λ t. t ≤ℤ b) (sym e) (omega (arith, ints, h))) (subst (λ t. b ≡ b *ℤ t) (sym e) (simp ring refl))
+start_one b last h i e = start_kept b last b h i (subst (λ t. pos 0 <ℤ t) (sym e) (omega (arith, ints))) (subst (λ t. t ≤ℤ b) (sym e) (omega (arith, ints, h)))
+    (subst (λ t. b ≡ b *ℤ t) (sym e) (simp ring refl))
 
 -- with (0, 0, b) for the last row
 pub start_same : (b last : ℤ) → pos 0 <ℤ b → b <ℤ pos (2 ^ 60) → last ≡ b → IsBoundedStair b (stairs b (pos 0) (pos 0) b (pos 0) last)

@@ -21,7 +21,8 @@ pieces_short f b a (suc n) h =
     omega (arith, first, rest, both)
 
 -- the lines of base edges, each of at most b bytes
-lines_short : (f : Edge → List ℕ) (b : ℕ) → ((e : Edge) → is_base_edge e ≡ true → length (f e) ≤ b) → (es : List Edge) → list_all is_base_edge es ≡ true → length (flat_map f es) ≤ length es * b
+lines_short : (f : Edge → List ℕ) (b : ℕ) → ((e : Edge) → is_base_edge e ≡ true → length (f e) ≤ b) → (es : List Edge) → list_all is_base_edge es ≡ true
+    → length (flat_map f es) ≤ length es * b
 lines_short f b h [] t = omega arith
 lines_short f b h (e ∷ es) t =
     let s = and_parts (is_base_edge e) (list_all is_base_edge es) t in
@@ -42,7 +43,8 @@ edges_short i =
     let b : base_of i < 8 = omega arith in
     let m : cells_of i ≤ 4 = omega arith in
     let k : shear_of i < 5 = omega arith in
-    let l = lines_short (place_lines (dimension (base_of i)) (cells_of i) (shear_of i)) 60 (λ e h. places_short (dimension (base_of i)) (cells_of i) (shear_of i) e m k h) (base_edges (base_of i)) (all_base (base_of i) b) in
+    let l = lines_short (place_lines (dimension (base_of i)) (cells_of i) (shear_of i)) 60
+    (λ e h. places_short (dimension (base_of i)) (cells_of i) (shear_of i) e m k h) (base_edges (base_of i)) (all_base (base_of i) b) in
     let few = mul-le (length (base_edges (base_of i))) 60 6 60 (few_base (base_of i) b) (omega arith) in
     omega (arith, l, few)
 

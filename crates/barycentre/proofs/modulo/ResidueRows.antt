@@ -30,14 +30,16 @@ element_of [] i l = absurd (omega arith)
 element_of (x ∷ xs) i l = x
 
 module _ {M D : ℕ} where
-  option_value : (o : Option (Row (Residue M) D)) (c : ℕ) → option_map_or (λ r. row_part residue_value r c) o (whole (pos 0)) ≡ whole (pos (option_map_or (λ r. residue_part r c) o 0))
+  option_value : (o : Option (Row (Residue M) D)) (c : ℕ) → option_map_or (λ r. row_part residue_value r c) o (whole (pos 0)) ≡ whole
+      (pos (option_map_or (λ r. residue_part r c) o 0))
   option_value None c = refl
   option_value (Some r) zero = refl
   option_value (Some r) (suc zero) = refl
   option_value (Some r) (suc (suc c)) = refl
 
   -- the values of rows are whole
-  pub values_are : (rows : List (Row (Residue M) D)) (c : ℕ) → ◌≡◌ {A = ℕ → Ratio} (λ u. value_in residue_value rows u c) (λ u. whole (pos (residue_at rows c u)))
+  pub values_are : (rows : List (Row (Residue M) D)) (c : ℕ) → ◌≡◌ {A = ℕ → Ratio} (λ u. value_in residue_value rows u c)
+      (λ u. whole (pos (residue_at rows c u)))
   values_are rows c = λ i u. option_value (slice_get rows (u - 1)) c i
 
   option_below : 0 < M → (o : Option (Row (Residue M) D)) (c : ℕ) → option_map_or (λ r. residue_part r c) o 0 < M
@@ -50,12 +52,14 @@ module _ {M D : ℕ} where
   at_below l rows c u = option_below l (slice_get rows (u - 1)) c
 
   -- of a row that is there
-  pub part_there : (rows : List (Row (Residue M) D)) (i c : ℕ) (d : Row (Residue M) D) → i < length rows → option_map_or (λ r. residue_part r c) (slice_get rows i) 0 ≡ residue_part (get_or rows i d) c
+  pub part_there : (rows : List (Row (Residue M) D)) (i c : ℕ) (d : Row (Residue M) D) → i < length rows
+      → option_map_or (λ r. residue_part r c) (slice_get rows i) 0 ≡ residue_part (get_or rows i d) c
   part_there [] i c d l = absurd (omega arith)
   part_there (r ∷ rs) zero c d l = refl
   part_there (r ∷ rs) (suc i) c d l = part_there rs i c d (omega arith)
 
-  part_of : (rows : List (Row (Residue M) D)) (i c : ℕ) → c < 3 → part c (slice_index_or (map residue_vector rows) i zero_vector) ≡ pos (option_map_or (λ r. residue_part r c) (slice_get rows i) 0)
+  part_of : (rows : List (Row (Residue M) D)) (i c : ℕ) → c < 3 → part c (slice_index_or (map residue_vector rows) i zero_vector) ≡ pos
+      (option_map_or (λ r. residue_part r c) (slice_get rows i) 0)
   part_of [] i c l = below_three (λ c. part c zero_vector ≡ pos 0) refl refl refl c l
   part_of (r ∷ rs) zero c l = below_three (λ c. part c (residue_vector r) ≡ pos (residue_part r c)) refl refl refl c l
   part_of (r ∷ rs) (suc i) c l = part_of rs i c l
@@ -82,7 +86,8 @@ module _ {M D : ℕ} where
     arc_is a =
         let k = part_is_coordinate c below in
         k.minus_is (plus (base P a.to) (times (pos 1) a.shift)) (base P a.from)
-        ∙ ap (λ x. x -ℤ part c (base P a.from)) (k.plus_is (base P a.to) (times (pos 1) a.shift) ∙ ap (λ x. part c (base P a.to) +ℤ x) (k.times_is (pos 1) a.shift))
+        ∙ ap (λ x. x -ℤ part c (base P a.from)) (k.plus_is (base P a.to) (times (pos 1) a.shift)
+        ∙ ap (λ x. part c (base P a.to) +ℤ x) (k.times_is (pos 1) a.shift))
         ∙ (λ i. (part_of rows (a.to - 1) c below i +ℤ pos 1 *ℤ part c a.shift) -ℤ part_of rows (a.from - 1) c below i)
 
     step : (t s f g w : ℤ) → ((t +ℤ pos 1 *ℤ s) -ℤ f) +ℤ (g +ℤ w) ≡ ((t -ℤ f) +ℤ g) +ℤ (s +ℤ w)
@@ -90,7 +95,8 @@ module _ {M D : ℕ} where
 
     list_is : (as' : List Arc) → total (λ a. part c (arc_vector P a)) as' ≡ gained at as' +ℤ total (λ (a : Arc). part c a.shift) as'
     list_is [] = refl
-    list_is (a ∷ as') = (λ i. arc_is a i +ℤ list_is as' i) ∙ step (at a.to) (part c a.shift) (at a.from) (gained at as') (total (λ (b : Arc). part c b.shift) as')
+    list_is (a ∷ as') = (λ i. arc_is a i +ℤ list_is as' i) ∙ step (at a.to) (part c a.shift) (at a.from) (gained at as')
+        (total (λ (b : Arc). part c b.shift) as')
 
     -- what the arcs of a vertex lead: what they gain, and their shifts
     pub star_is : (G : Graph) (u : ℕ) → part c (star_vector G (map residue_vector rows) u) ≡ gains G at u +ℤ shifts G (part c) u

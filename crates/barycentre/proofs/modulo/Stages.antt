@@ -1,5 +1,6 @@
 -- A solution modulo M and one of what is left of it, in rows: two steps, whose reconstructions are the normal placement.
-use Rattle.std.proofs.Common.{◌≡◌, ⊎_elim, ℕ, zero, suc, arith, ◌+◌, ◌-◌, ◌<◌, ◌≤◌, List, length, map, get_or, ap, sym, refl, subst, ◌∙◌, Option, Some, None, IsTrue, nat_eq, rules}
+use Rattle.std.proofs.Common.{◌≡◌, ⊎_elim, ℕ, zero, suc, arith, ◌+◌, ◌-◌, ◌<◌, ◌≤◌, List, length, map, get_or, ap, sym, refl, subst, ◌∙◌, Option, Some, None}
+use Rattle.std.proofs.Common.{IsTrue, nat_eq, rules}
 use Rattle.std.specs.Prelude.{ℤ, pos, ◌+ℤ◌, ◌*ℤ◌, int_div, slice_get}
 use Rattle.std.specs.Option.{option_map_or}
 use Rattle.std.proofs.lemmas.Option.{get_or_from_slice_get, slice_get_within}
@@ -32,7 +33,8 @@ use Rattle.integers.specs.Divisors.{DividesInteger}
 left_part_is : {M D : ℕ} (v : Vector) (r : Row (Residue M) D) → IsLeftRow v r → (c : ℕ) → c < 3 → IsLeft M (part c v) (residue_part r c)
 left_part_is {M} v r h = below_three (λ c. IsLeft M (part c v) (residue_part r c)) h.x h.y h.z
 
-module _ {M D : ℕ} (least : 2 ≤ M) (G : Graph) (g : IsGraph G) (dimension : G.dimension ≡ D) (firsts : List (Row (Residue M) D)) (solved : SolveAll M residue_value G firsts) (flat : AreFlat M residue_value firsts) where
+module _ {M D : ℕ} (least : 2 ≤ M) (G : Graph) (g : IsGraph G) (dimension : G.dimension ≡ D) (firsts : List (Row (Residue M) D))
+    (solved : SolveAll M residue_value G firsts) (flat : AreFlat M residue_value firsts) where
   abbrev first : ℕ → ℕ → ℤ
   first c u = pos (residue_at firsts c u)
 
@@ -53,7 +55,8 @@ module _ {M D : ℕ} (least : 2 ≤ M) (G : Graph) (g : IsGraph G) (dimension : 
 
   flat_option : D ≡ 2 → (i : ℕ) (o : Option (Row (Residue M) D)) → slice_get firsts i ≡ o → DividesInteger M (pos (option_map_or (λ r. residue_part r 2) o 0))
   flat_option e i None s = multiple_zero M
-  flat_option e i (Some r) s = same_zero M (pos r.z.value) (subst (λ (t : Row (Residue M) D). Same M (residue_value t.z) (whole (pos 0))) (get_or_from_slice_get firsts i r r s) (flat e i r (slice_get_within firsts i r s)))
+  flat_option e i (Some r) s = same_zero M (pos r.z.value) (subst (λ (t : Row (Residue M) D). Same M (residue_value t.z) (whole (pos 0)))
+      (get_or_from_slice_get firsts i r r s) (flat e i r (slice_get_within firsts i r s)))
 
   sum_zero : (x y m k : ℤ) → x ≡ m *ℤ k → y ≡ pos 0 → x +ℤ y ≡ m *ℤ k
   sum_zero x y m k e f = omega (arith, linear, e, f)
@@ -76,14 +79,16 @@ module _ {M D : ℕ} (least : 2 ≤ M) (G : Graph) (g : IsGraph G) (dimension : 
   quotient c u = int_div (part c (star u)) (pos M)
 
   quotient_is : (c : ℕ) (l : c < G.dimension) (u : ℕ) (q : IsQuotientVertex G u) → quotient c u ≡ (mean c l u q).0
-  quotient_is c l u q = let h = mean c l u q in ap (λ t. int_div t (pos M)) (star_is firsts c (dimension_below G g c l) G u ∙ h.1) ∙ exact_quotient M (omega arith) h.0
+  quotient_is c l u q = let h = mean c l u q in ap (λ t. int_div t (pos M)) (star_is firsts c (dimension_below G g c l) G u ∙ h.1)
+      ∙ exact_quotient M (omega arith) h.0
 
   rest : (c : ℕ) → c < G.dimension → (u : ℕ) → IsQuotientVertex G u → gains G (first c) u +ℤ shifts G (part c) u ≡ pos M *ℤ quotient c u
   rest c l u q = (mean c l u q).1 ∙ ap (λ t. pos M *ℤ t) (sym (quotient_is c l u q))
 
   -- 0 at vertex 1
   origin : (c : ℕ) → c < G.dimension → residue_at firsts c 1 ≡ 0
-  origin c l = let t = (equal_residues M (residue_at firsts c 1) 0 (at_below (omega arith) firsts c 1) (omega arith)).1 (solution c l).origin in by (residue_at firsts c 1) t
+  origin c l = let t = (equal_residues M (residue_at firsts c 1) 0 (at_below (omega arith) firsts c 1) (omega arith)).1 (solution c l).origin in
+      by (residue_at firsts c 1) t
     where
       by : (a : ℕ) → IsTrue (nat_eq a 0) → a ≡ 0
       by a t = search rules

@@ -1,5 +1,6 @@
 -- What two solutions by residues recover: the normal placement, where it is within the limits.
-use Rattle.std.proofs.Common.{◌≡◌, ⊎_elim, ℕ, zero, suc, arith, ◌+◌, ◌-◌, ◌*◌, ◌<◌, ◌≤◌, ◌^◌, List, [], ◌∷◌, length, get_or, ap, sym, refl, subst, ◌∙◌, unsigned_abs}
+use Rattle.std.proofs.Common.{◌≡◌, ⊎_elim, ℕ, zero, suc, arith, ◌+◌, ◌-◌, ◌*◌, ◌<◌, ◌≤◌, ◌^◌, List, [], ◌∷◌, length, get_or, ap, sym, refl, subst, ◌∙◌}
+use Rattle.std.proofs.Common.{unsigned_abs}
 use Rattle.std.specs.Prelude.{ℤ, pos, ◌*ℤ◌, slice_get}
 use Rattle.std.specs.Option.{option_map_or}
 use Rattle.integers.specs.Staircase.{part}
@@ -29,7 +30,8 @@ use Rattle.barycentre.proofs.modulo.ResidueRows.{element_of, part_there}
 use Rattle.barycentre.proofs.Solved.{option_reduced}
 
 -- the part of a row that is there
-fraction_there : {D : ℕ} (rows : List (Row Fraction D)) (i c : ℕ) (d : Row Fraction D) → i < length rows → option_map_or (λ r. row_part fraction_value r c) (slice_get rows i) (whole (pos 0)) ≡ row_part fraction_value (get_or rows i d) c
+fraction_there : {D : ℕ} (rows : List (Row Fraction D)) (i c : ℕ) (d : Row Fraction D) → i < length rows
+    → option_map_or (λ r. row_part fraction_value r c) (slice_get rows i) (whole (pos 0)) ≡ row_part fraction_value (get_or rows i d) c
 fraction_there [] i c d l = absurd (omega arith)
 fraction_there (r ∷ rs) zero c d l = refl
 fraction_there (r ∷ rs) (suc i) c d l = fraction_there rs i c d (omega arith)
@@ -39,7 +41,8 @@ lifted_is f n zero = refl
 lifted_is f n (suc zero) = refl
 lifted_is f n (suc (suc c)) = refl
 
-module _ {M D : ℕ} (G : Graph) (g : IsGraph G) (dimension : G.dimension ≡ D) (firsts nexts : List (Row (Residue M) D)) (count : length firsts ≡ G.vertices) (next_count : length nexts ≡ G.vertices) where
+module _ {M D : ℕ} (G : Graph) (g : IsGraph G) (dimension : G.dimension ≡ D) (firsts nexts : List (Row (Residue M) D)) (count : length firsts ≡ G.vertices)
+    (next_count : length nexts ≡ G.vertices) where
   -- the row of a vertex
   inside : (u : ℕ) → IsQuotientVertex G u → u - 1 < length firsts
   inside u q = let a = q.0 in let b = q.1 in omega (arith, count, a, b)
@@ -50,7 +53,8 @@ module _ {M D : ℕ} (G : Graph) (g : IsGraph G) (dimension : G.dimension ≡ D)
   abbrev lifted_at : ℕ → ℕ → ℕ
   lifted_at c u = residue_at firsts c u + M * residue_at nexts c u
 
-  lifted_there : (u : ℕ) → IsQuotientVertex G u → (c : ℕ) (a b : Row (Residue M) D) → lifted_at c u ≡ lifted_part (get_or firsts (u - 1) a) (get_or nexts (u - 1) b) c
+  lifted_there : (u : ℕ) → IsQuotientVertex G u → (c : ℕ) (a b : Row (Residue M) D)
+      → lifted_at c u ≡ lifted_part (get_or firsts (u - 1) a) (get_or nexts (u - 1) b) c
   lifted_there u q c a b =
       (λ i. part_there firsts (u - 1) c a (inside u q) i + M * part_there nexts (u - 1) c b (next_inside u q) i)
       ∙ sym (lifted_is (get_or firsts (u - 1) a) (get_or nexts (u - 1) b) c)
@@ -73,7 +77,8 @@ module _ {M D : ℕ} (G : Graph) (g : IsGraph G) (dimension : G.dimension ≡ D)
         let a = element_of firsts (u - 1) (inside u q) in
         let b = element_of nexts (u - 1) (next_inside u q) in
         let h = recovered.each (u - 1) (element_of rows (u - 1) (row_inside u q)) a b (inside u q) in
-        subst (λ (x : ℕ → ℕ). IsRecoveredRow (M * M) (2 ^ 58) x (get_or rows (u - 1) (element_of rows (u - 1) (row_inside u q)))) (λ i c. sym (lifted_there u q c a b) i) h
+        subst (λ (x : ℕ → ℕ). IsRecoveredRow (M * M) (2 ^ 58) x (get_or rows (u - 1) (element_of rows (u - 1) (row_inside u q))))
+        (λ i c. sym (lifted_there u q c a b) i) h
 
     no_third : G.dimension ≡ 2 → (u : ℕ) → IsQuotientVertex G u → (value_in fraction_value rows u 2).num ≡ pos 0
     no_third e u q = ap (λ (r : Ratio). r.num) (value_there u q 2) ∙ (is_row u q).flat (sym dimension ∙ e)
@@ -96,11 +101,13 @@ module _ {M D : ℕ} (G : Graph) (g : IsGraph G) (dimension : G.dimension ≡ D)
         omega (arith, b)
 
     -- is a reconstruction
-    is_reconstruction : (c : ℕ) → c < G.dimension → (u : ℕ) → IsQuotientVertex G u → IsReconstruction (lifted_at c u) (M * M) (2 ^ 58) (terms c u).num (terms c u).den
+    is_reconstruction : (c : ℕ) → c < G.dimension → (u : ℕ) → IsQuotientVertex G u
+        → IsReconstruction (lifted_at c u) (M * M) (2 ^ 58) (terms c u).num (terms c u).den
     is_reconstruction c l u q =
         let k = dimension_below G g c l in
         let d = limits.denominator in
-        two_steps_recover M least G g c k (residue_at firsts c) (residue_at nexts c) (residue_at lefts c) (quotient c) (steps c l) P normal (2 ^ 58) (omega (arith, d)) u q (small_part c u k q)
+        two_steps_recover M least G g c k (residue_at firsts c) (residue_at nexts c) (residue_at lefts c) (quotient c) (steps c l) P normal (2 ^ 58)
+        (omega (arith, d)) u q (small_part c u k q)
         (terms c u).num (terms c u).den (terms c u).is
 
     -- so no row lacks one
@@ -116,7 +123,8 @@ module _ {M D : ℕ} (G : Graph) (g : IsGraph G) (dimension : G.dimension ≡ D)
         let l : k.c < G.dimension = (let s = k.below in omega (arith, s, dimension)) in
         let r = is_reconstruction k.c l (h.i + 1) q in
         let same = lifted_there (h.i + 1) q k.c first next ∙ ap (λ j. lifted_part (get_or firsts j first) (get_or nexts j next) k.c) back in
-        k.none (terms k.c (h.i + 1)).num (terms k.c (h.i + 1)).den (subst (λ x. IsReconstruction x (M * M) (2 ^ 58) (terms k.c (h.i + 1)).num (terms k.c (h.i + 1)).den) same r)
+        k.none (terms k.c (h.i + 1)).num (terms k.c (h.i + 1)).den (subst
+        (λ x. IsReconstruction x (M * M) (2 ^ 58) (terms k.c (h.i + 1)).num (terms k.c (h.i + 1)).den) same r)
 
     module _ (rows : List (Row Fraction D)) (rows_count : length rows ≡ G.vertices) (recovered : AreRecovered firsts nexts rows (length firsts)) where
       abbrev p : ℕ → ℕ → Ratio
@@ -144,6 +152,7 @@ module _ {M D : ℕ} (G : Graph) (g : IsGraph G) (dimension : G.dimension ≡ D)
         at = λ u c q l. ⊎_elim
             (λ (d : c < G.dimension). stands u c q d)
             (λ (s : (c ≡ 2) × (G.dimension ≡ 2)). subst (λ e. part e (base P u) *ℤ pos (p u e).den ≡ (p u e).num *ℤ pos P.denominator) (sym s.0)
-            (zero_times (part 2 (base P u)) (pos (p u 2).den) (p u 2).num (pos P.denominator) (normal.barycentric.dimension u q s.1) (no_third rows rows_count recovered s.1 u q)))
+            (zero_times (part 2 (base P u)) (pos (p u 2).den) (p u 2).num (pos P.denominator) (normal.barycentric.dimension u q s.1)
+            (no_third rows rows_count recovered s.1 u q)))
             (coordinate_cases G g c l);
       }

@@ -1,5 +1,6 @@
 -- The shells of a vertex are counted in a box.
-use Rattle.std.proofs.Common.{◌≡◌, ℕ, suc, ◌+◌, ◌-◌, ◌*◌, ◌<◌, ◌≤◌, ℤ, pos, ◌+ℤ◌, List, [], ◌∷◌, ◌++◌, length, set, drop, Bool, true, false, cond, refl, sym, ap, subst, ◌∙◌, arith, length-append}
+use Rattle.std.proofs.Common.{◌≡◌, ℕ, suc, ◌+◌, ◌-◌, ◌*◌, ◌<◌, ◌≤◌, ℤ, pos, ◌+ℤ◌, List, [], ◌∷◌, ◌++◌, length, set, drop, Bool, true, false, cond, refl, sym}
+use Rattle.std.proofs.Common.{ap, subst, ◌∙◌, arith, length-append}
 use Rattle.std.specs.Prelude.{unsigned_abs}
 use Rattle.std.proofs.lemmas.Int.{ints}
 use Rattle.std.proofs.Math.Seq.{drop-append_seam}
@@ -60,8 +61,10 @@ module _ (P : Graph) (b : NetBox) (q : IsBoxOf P b) (c : ℕ) (i : IsQuotientVer
       same = sym (e ∙ ap (λ n. n + (c - 1)) q.origin ∙ start_place P.vertices c b.extent)
 
   -- at first it alone is found
-  pub counting_starts : (marks marks' : List Bool) (found found' : List Spot) (at : ℕ) → length marks ≡ b.size → IsUnmarked marks → found ≡ [] → at ≡ b.origin + (c - 1)
-      → marks' ≡ marks_with marks (record { over = c; at = at }) → found' ≡ spots_with marks found (record { over = c; at = at }) → IsCountedIn P b c [] most_in_shells 0 marks' found'
+  pub counting_starts : (marks marks' : List Bool) (found found' : List Spot) (at : ℕ) → length marks ≡ b.size → IsUnmarked marks → found ≡ []
+      → at ≡ b.origin + (c - 1)
+      → marks' ≡ marks_with marks (record { over = c; at = at }) → found' ≡ spots_with marks found (record { over = c; at = at })
+      → IsCountedIn P b c [] most_in_shells 0 marks' found'
   counting_starts marks marks' found found' at size none empty e m f = record {
     vertices = start c ∷ [];
     shell = start c ∷ [];
@@ -73,7 +76,8 @@ module _ (P : Graph) (b : NetBox) (q : IsBoxOf P b) (c : ℕ) (i : IsQuotientVer
       total = omega arith;
       few = omega arith;
     };
-    is_found = subst (λ (ms : List Bool). AreFoundAndMarked P b (start c ∷ []) ms found') (sym marks_are) (subst (AreFoundAndMarked P b (start c ∷ []) (set marks s.at true)) (sym found_are) alone);
+    is_found = subst (λ (ms : List Bool). AreFoundAndMarked P b (start c ∷ []) ms found') (sym marks_are)
+        (subst (AreFoundAndMarked P b (start c ∷ []) (set marks s.at true)) (sym found_are) alone);
     begin_is = refl;
   }
     where
@@ -90,10 +94,12 @@ module _ (P : Graph) (b : NetBox) (q : IsBoxOf P b) (c : ℕ) (i : IsQuotientVer
       marks_are = m ∙ ap (λ (t : Spot). marks_with marks t) same ∙ ap (λ v. cond v marks (set marks s.at true)) fresh
 
       found_are : found' ≡ s ∷ []
-      found_are = f ∙ ap (λ (t : Spot). spots_with marks found t) same ∙ ap (λ v. cond v found (found ++ s ∷ [])) fresh ∙ ap (λ (ss : List Spot). ss ++ s ∷ []) empty
+      found_are = f ∙ ap (λ (t : Spot). spots_with marks found t) same ∙ ap (λ v. cond v found (found ++ s ∷ [])) fresh
+          ∙ ap (λ (ss : List Spot). ss ++ s ∷ []) empty
 
       alone : AreFoundAndMarked P b (start c ∷ []) (set marks s.at true) (s ∷ [])
-      alone = found_more P b q [] marks [] (start c) (record { size = size; inside = λ x k. absurd (is_in [] x k); spots = refl; marked = unmarked_marked marks none }) start_inside
+      alone = found_more P b q [] marks [] (start c)
+          (record { size = size; inside = λ x k. absurd (is_in [] x k); spots = refl; marked = unmarked_marked marks none }) start_inside
 
   module _ (sizes : List ℕ) (room begin : ℕ) (marks : List Bool) (found : List Spot) (h : IsCountedIn P b c sizes room begin marks found) where
     -- where the last shell begins
@@ -134,15 +140,18 @@ module _ (P : Graph) (b : NetBox) (q : IsBoxOf P b) (c : ℕ) (i : IsQuotientVer
       pub counting_past : room < length n.next → AreShellsOf P (start c) sizes
       counting_past more =
           vertex_sizes P (start c) sizes (counted_past (AreJoined P) (start c) sizes room h.vertices h.shell n.next h.counted
-          (subst (λ (xs : List Vertex). Expands (AreJoined P) room xs h.vertices n.next) shell_is n.expands) more (some_vertex_shell P (start c) (length sizes + 1)))
+          (subst (λ (xs : List Vertex). Expands (AreJoined P) room xs h.vertices n.next) shell_is n.expands) more
+          (some_vertex_shell P (start c) (length sizes + 1)))
 
       -- a turn of the loop
-      pub counting_turn : (sizes' : List ℕ) (size size' begin' : ℕ) → length sizes < most_shells → size ≡ length n.next → size ≤ room → size' ≡ size → sizes' ≡ sizes ++ size' ∷ [] → begin' ≡ length found
+      pub counting_turn : (sizes' : List ℕ) (size size' begin' : ℕ) → length sizes < most_shells → size ≡ length n.next → size ≤ room → size' ≡ size
+          → sizes' ≡ sizes ++ size' ∷ [] → begin' ≡ length found
           → IsCountedIn P b c sizes' (room - size) begin' marks' found'
       counting_turn sizes' size size' begin' few e fits same p l = record {
         vertices = h.vertices ++ n.next;
         shell = n.next;
-        counted = counted_turn (AreJoined P) (start c) sizes room h.vertices h.shell (drop begin h.vertices) n.next (h.vertices ++ n.next) sizes' size size' h.counted shell_is n.expands refl few e fits same p;
+        counted = counted_turn (AreJoined P) (start c) sizes room h.vertices h.shell (drop begin h.vertices) n.next
+            (h.vertices ++ n.next) sizes' size size' h.counted shell_is n.expands refl few e fits same p;
         is_found = n.is_found;
         begin_is =
             let f = ap length h.is_found.spots in
@@ -158,7 +167,8 @@ module _ (P : Graph) (b : NetBox) (q : IsBoxOf P b) (c : ℕ) (i : IsQuotientVer
       pub size : length found' ≡ length found + length shell.next
 
     -- at a turn of the loop it is so
-    pub next_counted : (k : ℕ) → length sizes ≡ k → k < most_shells → (marks' : List Bool) (found' : List Spot) → IsNextShell b begin room marks found marks' found' → IsNextCounted marks' found'
+    pub next_counted : (k : ℕ) → length sizes ≡ k → k < most_shells → (marks' : List Bool) (found' : List Spot)
+        → IsNextShell b begin room marks found marks' found' → IsNextCounted marks' found'
     next_counted k count below marks' found' next =
         let few : length sizes < most_shells = omega (arith, count, below) in
         let n = next P h.vertices (searchable few) in

@@ -9,7 +9,8 @@ use Rattle.coordination.specs.BoxSearches.{AreFirstLists}
 use Rattle.coordination.specs.Sequences.{AreShellsOf}
 
 -- one list more
-pub lists_more : (P : Graph) (m : ℕ) (lists more : List (List ℕ)) (sizes : List ℕ) → AreFirstLists P m lists → (IsQuotientVertex P (m + 1) → AreShellsOf P (vertex (m + 1) zero_vector) sizes) → more ≡ lists ++ sizes ∷ []
+pub lists_more : (P : Graph) (m : ℕ) (lists more : List (List ℕ)) (sizes : List ℕ) → AreFirstLists P m lists
+    → (IsQuotientVertex P (m + 1) → AreShellsOf P (vertex (m + 1) zero_vector) sizes) → more ≡ lists ++ sizes ∷ []
     → AreFirstLists P (m + 1) more
 lists_more P m lists more sizes h s e = record {
   count = ap length e ∙ length_push lists sizes ∙ ap (λ k. k + 1) h.count;
@@ -27,4 +28,5 @@ lists_more P m lists more sizes h s e = record {
         let count = h.count in
         let place : c - 1 ≡ length lists = omega (arith, q, count) in
         let at = ap (λ ss. get_or ss (c - 1) []) e ∙ ap (λ j. get_or (lists ++ sizes ∷ []) j []) place ∙ get_or-append_seam lists sizes [] [] in
-        subst (AreShellsOf P (vertex c zero_vector)) (sym at) (subst (λ d. AreShellsOf P (vertex d zero_vector) sizes) (sym q) (s (subst (IsQuotientVertex P) q i)))
+        subst (AreShellsOf P (vertex c zero_vector)) (sym at) (subst (λ d. AreShellsOf P (vertex d zero_vector) sizes) (sym q)
+        (s (subst (IsQuotientVertex P) q i)))

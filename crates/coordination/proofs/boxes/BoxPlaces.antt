@@ -66,10 +66,13 @@ module _ (n : ℕ) (r : Extent) where
       let low' = k.low in
       let high' = k.high in
       let first = digits_once n (x.over - 1) _ (y.over - 1) _ (omega arith) (omega arith) e in
-      let second = digits_once (side r.x) (above r.x x.cell.x) _ (above r.x y.cell.x) _ (above_below r.x x.cell.x h.cell.x) (above_below r.x y.cell.x k.cell.x) first.1 in
-      let third = digits_once (side r.y) (above r.y x.cell.y) (above r.z x.cell.z) (above r.y y.cell.y) (above r.z y.cell.z) (above_below r.y x.cell.y h.cell.y) (above_below r.y y.cell.y k.cell.y) second.1 in
+      let second = digits_once (side r.x) (above r.x x.cell.x) _ (above r.x y.cell.x) _ (above_below r.x x.cell.x h.cell.x)
+      (above_below r.x y.cell.x k.cell.x) first.1 in
+      let third = digits_once (side r.y) (above r.y x.cell.y) (above r.z x.cell.z) (above r.y y.cell.y) (above r.z y.cell.z)
+      (above_below r.y x.cell.y h.cell.y) (above_below r.y y.cell.y k.cell.y) second.1 in
       let over : x.over ≡ y.over = let f = first.0 in omega (arith, f) in
-      let cell = vector_equal {v = x.cell} {w = y.cell} (above_once r.x x.cell.x y.cell.x h.cell.x k.cell.x second.0) (above_once r.y x.cell.y y.cell.y h.cell.y k.cell.y third.0)
+      let cell = vector_equal {v = x.cell} {w = y.cell} (above_once r.x x.cell.x y.cell.x h.cell.x k.cell.x second.0)
+      (above_once r.y x.cell.y y.cell.y h.cell.y k.cell.y third.0)
       (above_once r.z x.cell.z y.cell.z h.cell.z k.cell.z third.1) in
       λ i. vertex (over i) (cell i)
 
@@ -100,13 +103,16 @@ module _ (n : ℕ) (r : Extent) where
       let cells = above r.x x.cell.x + side r.x * rows in
       pos_digits (x.over - 1) n cells
       ∙ (λ i. over i +ℤ pos n *ℤ (pos_digits (above r.x x.cell.x) (side r.x) rows i))
-      ∙ (λ i. (pos x.over -ℤ pos 1) +ℤ pos n *ℤ (above_is r.x x.cell.x h.cell.x i +ℤ pos (side r.x) *ℤ (pos_digits (above r.y x.cell.y) (side r.y) (above r.z x.cell.z) i)))
-      ∙ (λ i. (pos x.over -ℤ pos 1) +ℤ pos n *ℤ ((x.cell.x +ℤ pos r.x) +ℤ pos (side r.x) *ℤ (above_is r.y x.cell.y h.cell.y i +ℤ pos (side r.y) *ℤ above_is r.z x.cell.z h.cell.z i)))
+      ∙ (λ i. (pos x.over -ℤ pos 1) +ℤ pos n *ℤ (above_is r.x x.cell.x h.cell.x i +ℤ pos (side r.x) *ℤ
+      (pos_digits (above r.y x.cell.y) (side r.y) (above r.z x.cell.z) i)))
+      ∙ (λ i. (pos x.over -ℤ pos 1) +ℤ pos n *ℤ ((x.cell.x +ℤ pos r.x) +ℤ pos (side r.x) *ℤ
+      (above_is r.y x.cell.y h.cell.y i +ℤ pos (side r.y) *ℤ above_is r.z x.cell.z h.cell.z i)))
 
   -- along an arc the number grows as the step says
   pub place_grows : (x y : Vertex) → IsInside n r x → IsInside n r y
       → pos (place_in n r x) +ℤ growth_of n r (arc x.over y.over (minus y.cell x.cell)) ≡ pos (place_in n r y)
   place_grows x y h k =
       ap (λ (t : ℤ). t +ℤ growth_of n r (arc x.over y.over (minus y.cell x.cell))) (place_is x h)
-      ∙ number_grows (pos n) (pos (side r.x)) (pos (side r.y)) (pos r.x) (pos r.y) (pos r.z) (pos x.over) x.cell.x x.cell.y x.cell.z (pos y.over) y.cell.x y.cell.y y.cell.z
+      ∙ number_grows (pos n) (pos (side r.x)) (pos (side r.y)) (pos r.x) (pos r.y) (pos r.z) (pos x.over) x.cell.x x.cell.y x.cell.z
+      (pos y.over) y.cell.x y.cell.y y.cell.z
       ∙ sym (place_is y k)

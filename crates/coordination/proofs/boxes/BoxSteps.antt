@@ -24,14 +24,17 @@ module _ (P : Graph) (b : NetBox) (q : IsBoxOf P b) (x : Vertex) (i : IsInside P
       record { low = t.0; high = t.1; cell = o (end_of x a) (end_joined P x a r.0 r.1) }
 
   -- the number to which the step along it leads
-  lands_at : (a : Arc) → IsIn (arcs_from P x.over) a → place_along (spot_in P.vertices b.extent x) (step_of P.vertices b.extent a) ≡ pos (place_in P.vertices b.extent (end_of x a))
+  lands_at : (a : Arc) → IsIn (arcs_from P x.over) a → place_along (spot_in P.vertices b.extent x) (step_of P.vertices b.extent a) ≡ pos
+      (place_in P.vertices b.extent (end_of x a))
   lands_at a j =
       let r = from_is_arc P x.over a j in
-      subst (λ (t : Arc). pos (place_in P.vertices b.extent x) +ℤ growth_of P.vertices b.extent t ≡ pos (place_in P.vertices b.extent (end_of x a))) (between_end x a r.1)
+      subst (λ (t : Arc). pos (place_in P.vertices b.extent x) +ℤ growth_of P.vertices b.extent t ≡ pos (place_in P.vertices b.extent (end_of x a)))
+      (between_end x a r.1)
       (place_grows P.vertices b.extent x (end_of x a) i (end_inside a j))
 
   -- so it leads to the spot of the end
-  leads_to : (a : Arc) → IsIn (arcs_from P x.over) a → spot_along (spot_in P.vertices b.extent x) (step_of P.vertices b.extent a) ≡ spot_in P.vertices b.extent (end_of x a)
+  leads_to : (a : Arc) → IsIn (arcs_from P x.over) a → spot_along (spot_in P.vertices b.extent x) (step_of P.vertices b.extent a) ≡ spot_in P.vertices b.extent
+      (end_of x a)
   leads_to a j = λ k. record { over = a.to; at = unsigned_abs (lands_at a j k) }
 
   -- and to one of the marks
@@ -63,7 +66,8 @@ module _ (P : Graph) (b : NetBox) (q : IsBoxOf P b) (x : Vertex) (i : IsInside P
     -- and to the marks
     pub star_lands : (n : ℕ) → n ≡ b.size → All (IsLandingWithin n (spot_in P.vertices b.extent x)) star
     star_lands n e = subst (All (IsLandingWithin n (spot_in P.vertices b.extent x))) (sym s)
-        (all_from_in (IsLandingWithin n (spot_in P.vertices b.extent x)) (map (step_of P.vertices b.extent) (arcs_from P x.over)) (λ t j. by t (in_map (step_of P.vertices b.extent) (arcs_from P x.over) t j)))
+        (all_from_in (IsLandingWithin n (spot_in P.vertices b.extent x)) (map (step_of P.vertices b.extent) (arcs_from P x.over))
+        (λ t j. by t (in_map (step_of P.vertices b.extent) (arcs_from P x.over) t j)))
       where
         by : (t : Step) → (a : Arc) × IsIn (arcs_from P x.over) a × (step_of P.vertices b.extent a ≡ t) → IsLandingWithin n (spot_in P.vertices b.extent x) t
         by t r = subst (IsLandingWithin n (spot_in P.vertices b.extent x)) r.2 (lands n e r.0 r.1)

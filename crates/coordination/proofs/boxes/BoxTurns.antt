@@ -1,5 +1,6 @@
 -- A search of a shell in a box goes on by one vertex.
-use Rattle.std.proofs.Common.{◌≡◌, ℕ, ◌+◌, ◌-◌, ◌<◌, ◌≤◌, List, [], ◌∷◌, ◌++◌, length, get_or, map, drop, Bool, Some, refl, sym, ap, subst, ◌∙◌, arith, append-nil, length-append, length-drop}
+use Rattle.std.proofs.Common.{◌≡◌, ℕ, ◌+◌, ◌-◌, ◌<◌, ◌≤◌, List, [], ◌∷◌, ◌++◌, length, get_or, map, drop, Bool, Some, refl, sym, ap, subst, ◌∙◌, arith}
+use Rattle.std.proofs.Common.{append-nil, length-append, length-drop}
 use Rattle.std.specs.Prelude.{slice_get}
 use Rattle.std.specs.List.{between, All}
 use Rattle.std.proofs.lemmas.List.{get_or-drop, get_or-map, get_or_append_left, length-map, map-append}
@@ -31,14 +32,16 @@ pub record IsSearching (P : Graph) (b : NetBox) (vertices done : List Vertex) (m
 pub star_within : (P : Graph) (b : NetBox) → IsBoxOf P b → (x : Vertex) → IsInside P.vertices b.extent x → x.over - 1 < length b.stars
 star_within P b q x i = let n = q.stars.count in let low = i.low in let high = i.high in omega (arith, n)
 
-module _ (P : Graph) (b : NetBox) (vertices : List Vertex) (first_marks : List Bool) (first_found : List Spot) (begin : ℕ) (h : IsSearchable P b vertices first_marks first_found begin) where
+module _ (P : Graph) (b : NetBox) (vertices : List Vertex) (first_marks : List Bool) (first_found : List Spot) (begin : ℕ)
+    (h : IsSearchable P b vertices first_marks first_found begin) where
   -- no step was made yet
   pub searching_starts : IsSearching P b vertices (between begin begin vertices) first_marks first_found
   searching_starts = record {
     next = [];
     is_found = subst (λ (xs : List Vertex). AreFoundAndMarked P b xs first_marks first_found) (sym (append-nil vertices)) h.is_found;
     searched = subst (λ (xs : List Vertex). AreSearched (AreJoined P) xs vertices (vertices ++ []) []) (sym (between_none vertices begin))
-        (subst (λ (xs : List Vertex). AreSearched (AreJoined P) [] vertices xs []) (sym (append-nil vertices)) (search_starts (AreJoined P) vertices [] h.once refl));
+        (subst (λ (xs : List Vertex). AreSearched (AreJoined P) [] vertices xs []) (sym (append-nil vertices))
+        (search_starts (AreJoined P) vertices [] h.once refl));
   }
 
   -- as many vertices were found
@@ -65,7 +68,8 @@ module _ (P : Graph) (b : NetBox) (vertices : List Vertex) (first_marks : List B
       inside = h.is_found.inside x (contains_from_in vertices x (in_at vertices i o l));
       is_open = h.open_from x (contains_from_in (drop begin vertices) x (in_drop vertices begin i low l));
       spot = sym (get_or-map (spot_in P.vertices b.extent) vertices i o from l)
-          ∙ sym (get_or_append_left (map (spot_in P.vertices b.extent) vertices) (map (spot_in P.vertices b.extent) s.next) from i (subst (λ m. i < m) (sym (length-map vertices (spot_in P.vertices b.extent))) l))
+          ∙ sym (get_or_append_left (map (spot_in P.vertices b.extent) vertices) (map (spot_in P.vertices b.extent) s.next) from i
+          (subst (λ m. i < m) (sym (length-map vertices (spot_in P.vertices b.extent))) l))
           ∙ ap (λ (ss : List Spot). get_or ss i from) (sym (map-append (spot_in P.vertices b.extent) vertices s.next) ∙ s.is_found.spots) ∙ sym e;
       place = between_more vertices begin i o low l;
     }
@@ -80,7 +84,8 @@ module _ (P : Graph) (b : NetBox) (vertices : List Vertex) (first_marks : List B
         x = get_or vertices i o
 
         in_drop : (xs : List Vertex) (j k : ℕ) → j ≤ k → k < length xs → IsIn (drop j xs) (get_or xs k o)
-        in_drop xs j k m l = subst (λ (y : Vertex). IsIn (drop j xs) y) (get_or-drop j xs (k - j) o ∙ ap (λ n. get_or xs n o) (let e : j + (k - j) ≡ k = omega arith in e))
+        in_drop xs j k m l = subst (λ (y : Vertex). IsIn (drop j xs) y)
+            (get_or-drop j xs (k - j) o ∙ ap (λ n. get_or xs n o) (let e : j + (k - j) ≡ k = omega arith in e))
             (in_at (drop j xs) (k - j) o (let e = length-drop j xs in omega (arith, e)))
 
     module _ (from : Spot) (n : IsNext from) (star : List Step) (t : slice_get b.stars (from.over - 1) ≡ Some star) where
@@ -88,34 +93,41 @@ module _ (P : Graph) (b : NetBox) (vertices : List Vertex) (first_marks : List B
       star_is : star ≡ steps_from P.vertices b.extent n.at.over P.edges
       star_is =
           let over : from.over ≡ n.at.over = sym (ap (λ (r : Spot). r.over) n.spot) in
-          sym (get_or_from_slice_get b.stars (from.over - 1) star [] t) ∙ ap (λ c. get_or b.stars (c - 1) []) over ∙ h.is_box.stars.each n.at.over (n.inside.low, n.inside.high)
+          sym (get_or_from_slice_get b.stars (from.over - 1) star [] t) ∙ ap (λ c. get_or b.stars (c - 1) []) over
+          ∙ h.is_box.stars.each n.at.over (n.inside.low, n.inside.high)
 
       -- they lead to marks
       pub next_lands : (m : ℕ) → m ≡ b.size → All (IsLandingWithin m from) star
       next_lands m e = subst (λ (r : Spot). All (IsLandingWithin m r) star) n.spot (star_lands P b h.is_box n.at n.inside n.is_open star star_is m e)
 
       -- the steps are made
-      pub searching_on : (marks' : List Bool) (found' : List Spot) → marks' ≡ all_marks marks (spots_along from star) → found' ≡ all_spots marks found (spots_along from star)
+      pub searching_on : (marks' : List Bool) (found' : List Spot) → marks' ≡ all_marks marks (spots_along from star)
+          → found' ≡ all_spots marks found (spots_along from star)
           → IsSearching P b vertices (between begin (i + 1) vertices) marks' found'
       searching_on marks' found' e f =
           let targets : spots_along from star ≡ map (spot_in P.vertices b.extent) (ends P n.at) =
           ap (λ (r : Spot). spots_along r star) (sym n.spot) ∙ spots_of_ends P b h.is_box n.at n.inside n.is_open star star_is in
-          by (mark_all P b h.is_box (ends P n.at) (vertices ++ s.next) s.next marks found s.is_found (λ y j. ends_inside y (in_map (end_of n.at) (arcs_from P n.at.over) y j)))
+          by (mark_all P b h.is_box (ends P n.at) (vertices ++ s.next) s.next marks found s.is_found
+          (λ y j. ends_inside y (in_map (end_of n.at) (arcs_from P n.at.over) y j)))
           (e ∙ ap (all_marks marks) targets) (f ∙ ap (all_spots marks found) targets)
         where
           ends_inside : (y : Vertex) → (a : Arc) × IsIn (arcs_from P n.at.over) a × (end_of n.at a ≡ y) → IsInside P.vertices b.extent y
           ends_inside y r = subst (IsInside P.vertices b.extent) r.2 (end_inside P b h.is_box n.at n.inside n.is_open r.0 r.1)
 
-          by : Marked P b h.is_box (ends P n.at) (vertices ++ s.next) s.next (all_marks marks (map (spot_in P.vertices b.extent) (ends P n.at))) (all_spots marks found (map (spot_in P.vertices b.extent) (ends P n.at)))
-              → marks' ≡ all_marks marks (map (spot_in P.vertices b.extent) (ends P n.at)) → found' ≡ all_spots marks found (map (spot_in P.vertices b.extent) (ends P n.at))
+          by : Marked P b h.is_box (ends P n.at) (vertices ++ s.next) s.next (all_marks marks (map (spot_in P.vertices b.extent) (ends P n.at)))
+              (all_spots marks found (map (spot_in P.vertices b.extent) (ends P n.at)))
+              → marks' ≡ all_marks marks (map (spot_in P.vertices b.extent) (ends P n.at))
+              → found' ≡ all_spots marks found (map (spot_in P.vertices b.extent) (ends P n.at))
               → IsSearching P b vertices (between begin (i + 1) vertices) marks' found'
           by r e' f' =
-              let more = search_more (AreJoined P) (ends P) (vertices_around P) (between begin i vertices) vertices (vertices ++ s.next) s.next r.vertices' r.next' n.at s.searched r.grows in
+              let more = search_more (AreJoined P) (ends P) (vertices_around P) (between begin i vertices) vertices
+              (vertices ++ s.next) s.next r.vertices' r.next' n.at s.searched r.grows in
               let whole : r.vertices' ≡ vertices ++ r.next' = more.found_is in
               record {
                 next = r.next';
                 is_found = subst (λ (xs : List Vertex). AreFoundAndMarked P b xs marks' found') whole
-                    (subst (λ (ms : List Bool). AreFoundAndMarked P b r.vertices' ms found') (sym e') (subst (AreFoundAndMarked P b r.vertices' (all_marks marks (map (spot_in P.vertices b.extent) (ends P n.at)))) (sym f') r.is_found));
+                    (subst (λ (ms : List Bool). AreFoundAndMarked P b r.vertices' ms found') (sym e')
+                    (subst (AreFoundAndMarked P b r.vertices' (all_marks marks (map (spot_in P.vertices b.extent) (ends P n.at)))) (sym f') r.is_found));
                 searched = subst (λ (xs : List Vertex). AreSearched (AreJoined P) xs vertices (vertices ++ r.next') r.next') (sym n.place)
                     (subst (λ (xs : List Vertex). AreSearched (AreJoined P) (between begin i vertices ++ n.at ∷ []) vertices xs r.next') whole more);
               }
@@ -129,7 +141,8 @@ module _ (P : Graph) (b : NetBox) (vertices : List Vertex) (first_marks : List B
     searching_ends room l = record {
       next = s.next;
       is_found = s.is_found;
-      expands = search_ends (AreJoined P) room (i - begin) (drop begin vertices) vertices (vertices ++ s.next) s.next (let e = length-drop begin vertices in omega (arith, e)) s.searched;
+      expands = search_ends (AreJoined P) room (i - begin) (drop begin vertices) vertices (vertices ++ s.next) s.next
+          (let e = length-drop begin vertices in omega (arith, e)) s.searched;
     }
 
     -- or where too many were found

@@ -1,5 +1,6 @@
 -- How far walks lead along an axis, round by round.
-use Rattle.std.proofs.Common.{◌≡◌, ◌⊎◌, inl, inr, ℕ, zero, suc, ◌+◌, ◌-◌, ◌*◌, ◌<◌, ◌≤◌, ℤ, pos, neg_ℤ, ◌+ℤ◌, ◌-ℤ◌, ◌≤ℤ◌, List, [], ◌∷◌, length, get_or, refl, sym, ap, subst, ◌∙◌, arith}
+use Rattle.std.proofs.Common.{◌≡◌, ◌⊎◌, inl, inr, ℕ, zero, suc, ◌+◌, ◌-◌, ◌*◌, ◌<◌, ◌≤◌, ℤ, pos, neg_ℤ, ◌+ℤ◌, ◌-ℤ◌, ◌≤ℤ◌, List, [], ◌∷◌, length, get_or, refl}
+use Rattle.std.proofs.Common.{sym, ap, subst, ◌∙◌, arith}
 use Rattle.std.specs.Prelude.{unsigned_abs}
 use Rattle.std.proofs.lemmas.Int.{ints}
 use Rattle.std.proofs.lemmas.List.{get_or_default}
@@ -23,8 +24,10 @@ at_most_more : (a : ℤ) (m n : ℕ) → a ≤ℤ pos m → m ≤ n → a ≤ℤ
 at_most_more a m n h l = omega (arith, ints)
 
 -- both ways along one edge more
-pub farther_more : (axis : Axis) (i : ℕ) (edges : List Arc) (far next0 next1 next2 next3 : List ℕ) (e : Arc) (a b : ℤ) → AreFarther axis i edges far next0 next1 → i < length edges → e ≡ get_or edges i e
-    → IsRaised next1 e.from a next2 → a ≡ pos (far_of far e.to) +ℤ part_of axis e.shift → IsRaised next2 e.to b next3 → b ≡ pos (far_of far e.from) -ℤ part_of axis e.shift
+pub farther_more : (axis : Axis) (i : ℕ) (edges : List Arc) (far next0 next1 next2 next3 : List ℕ) (e : Arc) (a b : ℤ)
+    → AreFarther axis i edges far next0 next1 → i < length edges → e ≡ get_or edges i e
+    → IsRaised next1 e.from a next2 → a ≡ pos (far_of far e.to) +ℤ part_of axis e.shift → IsRaised next2 e.to b next3
+    → b ≡ pos (far_of far e.from) -ℤ part_of axis e.shift
     → unsigned_abs (part_of axis e.shift) ≤ LONGEST → AreFarther axis (i + 1) edges far next0 next3
 farther_more axis i edges far next0 next1 next2 next3 e a b h l s r p q t w = record {
   count = q.count ∙ r.count ∙ h.count;
@@ -40,7 +43,8 @@ farther_more axis i edges far next0 next1 next2 next3 e a b h l s r p q t w = re
     here : (k : ℕ) (d : Arc) → k < length edges → k ≡ i → get_or edges k d ≡ e
     here k d n o = ap (λ j. get_or edges j d) o ∙ get_or_default edges i d e l ∙ sym s
 
-    forth : (k : ℕ) (d : Arc) → k < length edges → (k < i) ⊎ (k ≡ i) → (pos (far_of far (get_or edges k d).to) +ℤ part_of axis (get_or edges k d).shift) ≤ℤ pos (far_of next3 (get_or edges k d).from)
+    forth : (k : ℕ) (d : Arc) → k < length edges → (k < i) ⊎ (k ≡ i) → (pos (far_of far (get_or edges k d).to) +ℤ part_of axis (get_or edges k d).shift) ≤ℤ pos
+        (far_of next3 (get_or edges k d).from)
     forth k d n (inl c) =
         let u = (get_or edges k d).from - 1 in
         let x = r.no_less u in
@@ -49,13 +53,15 @@ farther_more axis i edges far next0 next1 next2 next3 e a b h l s r p q t w = re
     forth k d n (inr o) = subst (λ (f : Arc). (pos (far_of far f.to) +ℤ part_of axis f.shift) ≤ℤ pos (far_of next3 f.from)) (sym (here k d n o))
         (at_most_more _ (far_of next2 e.from) (far_of next3 e.from) (subst (λ (z : ℤ). z ≤ℤ pos (far_of next2 e.from)) p r.raised) (q.no_less (e.from - 1)))
 
-    back : (k : ℕ) (d : Arc) → k < length edges → (k < i) ⊎ (k ≡ i) → (pos (far_of far (get_or edges k d).from) -ℤ part_of axis (get_or edges k d).shift) ≤ℤ pos (far_of next3 (get_or edges k d).to)
+    back : (k : ℕ) (d : Arc) → k < length edges → (k < i) ⊎ (k ≡ i)
+        → (pos (far_of far (get_or edges k d).from) -ℤ part_of axis (get_or edges k d).shift) ≤ℤ pos (far_of next3 (get_or edges k d).to)
     back k d n (inl c) =
         let u = (get_or edges k d).to - 1 in
         let x = r.no_less u in
         let y = q.no_less u in
         at_most_more _ (get_or next1 u 0) (get_or next3 u 0) (h.back k d c n) (omega (arith, x, y))
-    back k d n (inr o) = subst (λ (f : Arc). (pos (far_of far f.from) -ℤ part_of axis f.shift) ≤ℤ pos (far_of next3 f.to)) (sym (here k d n o)) (subst (λ (z : ℤ). z ≤ℤ pos (far_of next3 e.to)) t q.raised)
+    back k d n (inr o) = subst (λ (f : Arc). (pos (far_of far f.from) -ℤ part_of axis f.shift) ≤ℤ pos (far_of next3 f.to)) (sym (here k d n o))
+        (subst (λ (z : ℤ). z ≤ℤ pos (far_of next3 e.to)) t q.raised)
 
     part : (n m : ℕ) (z : ℤ) → z ≡ pos n +ℤ part_of axis e.shift → n ≤ m → z ≤ℤ pos (m + LONGEST)
     part n m z f g = omega (arith, ints, f, w)
@@ -64,8 +70,10 @@ farther_more axis i edges far next0 next1 next2 next3 e a b h l s r p q t w = re
     part' n m z f g = omega (arith, ints, f, w)
 
 -- a turn of the loop, as the calls made it
-pub farther_turn : (axis : Axis) (i : ℕ) (edges : List Arc) (far next0 next1 next2 next3 : List ℕ) (e : Arc) (u v : ℕ) (s t : Vector) (part a b : ℤ) → AreFarther axis i edges far next0 next1 → i < length edges
-    → e ≡ get_or edges i e → arc u v s ≡ e → t ≡ s → part ≡ part_of axis t → unsigned_abs part ≤ LONGEST → IsRaised next1 u a next2 → a ≡ pos (far_of far v) +ℤ part → IsRaised next2 v b next3
+pub farther_turn : (axis : Axis) (i : ℕ) (edges : List Arc) (far next0 next1 next2 next3 : List ℕ) (e : Arc) (u v : ℕ) (s t : Vector) (part a b : ℤ)
+    → AreFarther axis i edges far next0 next1 → i < length edges
+    → e ≡ get_or edges i e → arc u v s ≡ e → t ≡ s → part ≡ part_of axis t → unsigned_abs part ≤ LONGEST → IsRaised next1 u a next2
+    → a ≡ pos (far_of far v) +ℤ part → IsRaised next2 v b next3
     → b ≡ pos (far_of far u) -ℤ part → AreFarther axis (i + 1) edges far next0 next3
 farther_turn axis i edges far next0 next1 next2 next3 e u v s t part a b h l is view k p w r f q n =
     farther_more axis i edges far next0 next1 next2 next3 e a b h l is
@@ -90,11 +98,13 @@ part_back Z e = refl
 
 module _ (P : Graph) (g : IsGraph P) (axis : Axis) where
   -- along each arc as along the edges
-  along_arcs : (far next next' : List ℕ) → AreFarther axis (length P.edges) P.edges far next next' → (a : Arc) → IsArc P a → (pos (far_of far a.to) +ℤ part_of axis a.shift) ≤ℤ pos (far_of next' a.from)
+  along_arcs : (far next next' : List ℕ) → AreFarther axis (length P.edges) P.edges far next next' → (a : Arc) → IsArc P a
+      → (pos (far_of far a.to) +ℤ part_of axis a.shift) ≤ℤ pos (far_of next' a.from)
   along_arcs far next next' h a i = by (either_way P.edges a (is_in (arcs P) a i))
     where
       by : IsIn P.edges a ⊎ IsIn P.edges (reverse_of a) → (pos (far_of far a.to) +ℤ part_of axis a.shift) ≤ℤ pos (far_of next' a.from)
-      by (inl j) = let c = contains_from_in P.edges a j in subst (λ (e : Arc). (pos (far_of far e.to) +ℤ part_of axis e.shift) ≤ℤ pos (far_of next' e.from)) c.2 (h.forth c.0 a c.1 c.1)
+      by (inl j) = let c = contains_from_in P.edges a j in subst (λ (e : Arc). (pos (far_of far e.to) +ℤ part_of axis e.shift) ≤ℤ pos (far_of next' e.from))
+          c.2 (h.forth c.0 a c.1 c.1)
       by (inr j) =
           let e = reverse_of a in
           let c = contains_from_in P.edges e j in
@@ -105,7 +115,8 @@ module _ (P : Graph) (g : IsGraph P) (axis : Axis) where
           sign n s t m e h = omega (arith, ints, e, h)
 
   -- one round more
-  pub far_after_more : (n : ℕ) (far next : List ℕ) → AreFarAfter P axis n far → AreFarther axis (length P.edges) P.edges far far next → AreFarAfter P axis (n + 1) next
+  pub far_after_more : (n : ℕ) (far next : List ℕ) → AreFarAfter P axis n far → AreFarther axis (length P.edges) P.edges far far next
+      → AreFarAfter P axis (n + 1) next
   far_after_more n far next h f = record {
     count = f.count ∙ h.count;
     walks = λ k w x l i s. walks w x i s.0 (omega (arith, s.1, l)) s.2;
@@ -115,13 +126,15 @@ module _ (P : Graph) (g : IsGraph P) (axis : Axis) where
       join : (x v w : ℤ) (m k : ℕ) → (x -ℤ v) ≤ℤ pos m → (pos m +ℤ (v -ℤ w)) ≤ℤ pos k → (x -ℤ w) ≤ℤ pos k
       join x v w m k a b = omega (arith, ints, a, b)
 
-      walks : (w x : Vertex) → IsQuotientVertex P w.over → (vs : List Vertex) → length vs ≤ n + 1 → IsWalk P w vs x → (part_of axis x.cell -ℤ part_of axis w.cell) ≤ℤ pos (far_of next w.over)
+      walks : (w x : Vertex) → IsQuotientVertex P w.over → (vs : List Vertex) → length vs ≤ n + 1 → IsWalk P w vs x
+          → (part_of axis x.cell -ℤ part_of axis w.cell) ≤ℤ pos (far_of next w.over)
       walks w x i [] l k = at_most_more _ (far_of far w.over) (far_of next w.over) (h.walks 0 w x (omega arith) i ([], refl, k)) (f.no_less (w.over - 1))
       walks w x i (v ∷ vs) l k =
           let a = arc w.over v.over (minus v.cell w.cell) in
           let to = (arc_inside P g a k.0).to in
           let rest = h.walks (length vs) v x (omega (arith, l)) to (vs, refl, k.1) in
-          let first = subst (λ (s : ℤ). (pos (far_of far v.over) +ℤ s) ≤ℤ pos (far_of next w.over)) (part_minus axis v.cell w.cell) (along_arcs far far next f a k.0) in
+          let first = subst (λ (s : ℤ). (pos (far_of far v.over) +ℤ s) ≤ℤ pos (far_of next w.over)) (part_minus axis v.cell w.cell)
+          (along_arcs far far next f a k.0) in
           join (part_of axis x.cell) (part_of axis v.cell) (part_of axis w.cell) (far_of far v.over) (far_of next w.over) rest first
 
 -- a walk can be gone back

@@ -23,7 +23,8 @@ module _ (P : Graph) (b : NetBox) (q : IsBoxOf P b) where
   spot_inside x marks e i = subst (λ n. place_in P.vertices b.extent x < n) (sym (e ∙ q.size)) (place_below P.vertices b.extent x i)
 
   -- one vertex more
-  pub found_more : (vertices : List Vertex) (marks : List Bool) (found : List Spot) (x : Vertex) → AreFoundAndMarked P b vertices marks found → IsInside P.vertices b.extent x
+  pub found_more : (vertices : List Vertex) (marks : List Bool) (found : List Spot) (x : Vertex) → AreFoundAndMarked P b vertices marks found
+      → IsInside P.vertices b.extent x
       → AreFoundAndMarked P b (vertices ++ x ∷ []) (set marks (spot x).at true) (found ++ spot x ∷ [])
   found_more vertices marks found x h i = record {
     size = length-set marks (spot x).at true ∙ h.size;
@@ -37,7 +38,8 @@ module _ (P : Graph) (b : NetBox) (q : IsBoxOf P b) where
       inside y (inr (inl e)) = subst (IsInside P.vertices b.extent) e i
       inside y (inr (inr j)) = absurd j
 
-  module _ (vertices : List Vertex) (marks : List Bool) (found : List Spot) (h : AreFoundAndMarked P b vertices marks found) (x : Vertex) (i : IsInside P.vertices b.extent x) where
+  module _ (vertices : List Vertex) (marks : List Bool) (found : List Spot) (h : AreFoundAndMarked P b vertices marks found) (x : Vertex)
+      (i : IsInside P.vertices b.extent x) where
     -- a vertex that is marked was found
     was_found : is_marked marks (spot x).at ≡ true → IsIn vertices x
     was_found m =
@@ -61,17 +63,21 @@ module _ (P : Graph) (b : NetBox) (q : IsBoxOf P b) where
     pub is_found : AreFoundAndMarked P b vertices' marks found
 
   -- all of some vertices are marked
-  pub mark_all : (xs vertices next : List Vertex) (marks : List Bool) (found : List Spot) → AreFoundAndMarked P b vertices marks found → ((x : Vertex) → IsIn xs x → IsInside P.vertices b.extent x)
+  pub mark_all : (xs vertices next : List Vertex) (marks : List Bool) (found : List Spot) → AreFoundAndMarked P b vertices marks found
+      → ((x : Vertex) → IsIn xs x → IsInside P.vertices b.extent x)
       → Marked xs vertices next (all_marks marks (map spot xs)) (all_spots marks found (map spot xs))
   mark_all [] vertices next marks found h i = record { vertices' = vertices; next' = next; grows = grows_none vertices next; is_found = h }
   mark_all (x ∷ xs) vertices next marks found h i =
       by (is_marked marks (spot x).at) refl
       (mark_all xs vertices next marks found h (λ y j. i y (inr j)))
-      (mark_all xs (vertices ++ x ∷ []) (next ++ x ∷ []) (set marks (spot x).at true) (found ++ spot x ∷ []) (found_more vertices marks found x h (i x (inl refl))) (λ y j. i y (inr j)))
+      (mark_all xs (vertices ++ x ∷ []) (next ++ x ∷ []) (set marks (spot x).at true) (found ++ spot x ∷ [])
+      (found_more vertices marks found x h (i x (inl refl))) (λ y j. i y (inr j)))
     where
       by : (m : Bool) → is_marked marks (spot x).at ≡ m → Marked xs vertices next (all_marks marks (map spot xs)) (all_spots marks found (map spot xs))
-          → Marked xs (vertices ++ x ∷ []) (next ++ x ∷ []) (all_marks (set marks (spot x).at true) (map spot xs)) (all_spots (set marks (spot x).at true) (found ++ spot x ∷ []) (map spot xs))
-          → Marked (x ∷ xs) vertices next (all_marks (cond m marks (set marks (spot x).at true)) (map spot xs)) (all_spots (cond m marks (set marks (spot x).at true)) (cond m found (found ++ spot x ∷ [])) (map spot xs))
+          → Marked xs (vertices ++ x ∷ []) (next ++ x ∷ []) (all_marks (set marks (spot x).at true) (map spot xs))
+          (all_spots (set marks (spot x).at true) (found ++ spot x ∷ []) (map spot xs))
+          → Marked (x ∷ xs) vertices next (all_marks (cond m marks (set marks (spot x).at true)) (map spot xs))
+          (all_spots (cond m marks (set marks (spot x).at true)) (cond m found (found ++ spot x ∷ [])) (map spot xs))
       by true e old new = record {
         vertices' = old.vertices';
         next' = old.next';

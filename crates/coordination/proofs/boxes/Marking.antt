@@ -1,5 +1,6 @@
 -- The marks of what is found, with one vertex more, and taken back.
-use Rattle.std.proofs.Common.{◌≡◌, ◌≢◌, ◌⊎◌, inl, inr, ℕ, suc, ◌+◌, ◌<◌, ◌≤◌, List, [], ◌∷◌, ◌++◌, length, get_or, set, drop, Bool, true, false, refl, sym, ap, subst, ◌∙◌, arith, get_or-set_other, get_or-set_same, length-set, drop-cons}
+use Rattle.std.proofs.Common.{◌≡◌, ◌≢◌, ◌⊎◌, inl, inr, ℕ, suc, ◌+◌, ◌<◌, ◌≤◌, List, [], ◌∷◌, ◌++◌, length, get_or, set, drop, Bool, true, false, refl, sym, ap}
+use Rattle.std.proofs.Common.{subst, ◌∙◌, arith, get_or-set_other, get_or-set_same, length-set, drop-cons}
 use Rattle.std.proofs.Math.Decide.{ℕ_discrete}
 use Prim.{Dec, yes, no}
 use Rattle.std.specs.List.{Contains}
@@ -19,7 +20,8 @@ module _ (marks : List Bool) (at : ℕ) (l : at < length marks) (v : Bool) where
   unwritten i n = get_or-set_other marks at i v false n
 
 -- with the mark of s, and s last
-pub marked_more : (marks : List Bool) (found : List Spot) (s : Spot) → AreMarked marks found → s.at < length marks → AreMarked (set marks s.at true) (found ++ s ∷ [])
+pub marked_more : (marks : List Bool) (found : List Spot) (s : Spot) → AreMarked marks found → s.at < length marks
+    → AreMarked (set marks s.at true) (found ++ s ∷ [])
 marked_more marks found s h l = record {
   within = λ t c. subst (λ n. t.at < n) (sym (length-set marks s.at true)) (within t (in_append found (s ∷ []) t (is_in (found ++ s ∷ []) t c)));
   marked = λ t c. marked t (ℕ_discrete t.at s.at) (in_append found (s ∷ []) t (is_in (found ++ s ∷ []) t c));
@@ -58,11 +60,13 @@ left_all marks found h = record {
 }
 
 -- the next that is taken back is one of the marks
-pub left_within : (marks : List Bool) (found : List Spot) (k n : ℕ) (d : Spot) → AreLeft marks found k n → k < length found → (get_or found k d).at < length marks
+pub left_within : (marks : List Bool) (found : List Spot) (k n : ℕ) (d : Spot) → AreLeft marks found k n → k < length found
+    → (get_or found k d).at < length marks
 left_within marks found k n d h l = subst (λ t. (get_or found k d).at < t) (sym h.count) (h.within (get_or found k d) (in_at found k d l))
 
 -- one mark is taken back
-pub left_fewer : (marks : List Bool) (found : List Spot) (k n : ℕ) (d : Spot) → AreLeft marks found k n → k < length found → AreLeft (set marks (get_or found k d).at false) found (k + 1) n
+pub left_fewer : (marks : List Bool) (found : List Spot) (k n : ℕ) (d : Spot) → AreLeft marks found k n → k < length found
+    → AreLeft (set marks (get_or found k d).at false) found (k + 1) n
 left_fewer marks found k n d h l = record {
   count = length-set marks s.at false ∙ h.count;
   within = h.within;

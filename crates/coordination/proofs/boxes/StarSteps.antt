@@ -1,5 +1,6 @@
 -- The steps from a vertex, edge by edge.
-use Rattle.std.proofs.Common.{◌≡◌, ◌≢◌, ◌⊎◌, inl, inr, ℕ, suc, ◌+◌, ◌-◌, ◌<◌, ◌≤◌, ℤ, pos, neg_ℤ, ◌+ℤ◌, ◌-ℤ◌, ◌*ℤ◌, List, [], ◌∷◌, ◌++◌, length, get_or, set, map, replicate, drop, Vec, Global, Bool, true, false, cond, refl, sym, ap, subst, ◌∙◌, arith, append_assoc, append-nil, drop-cons}
+use Rattle.std.proofs.Common.{◌≡◌, ◌≢◌, ◌⊎◌, inl, inr, ℕ, suc, ◌+◌, ◌-◌, ◌<◌, ◌≤◌, ℤ, pos, neg_ℤ, ◌+ℤ◌, ◌-ℤ◌, ◌*ℤ◌, List, [], ◌∷◌, ◌++◌, length, get_or, set}
+use Rattle.std.proofs.Common.{map, replicate, drop, Vec, Global, Bool, true, false, cond, refl, sym, ap, subst, ◌∙◌, arith, append_assoc, append-nil, drop-cons}
 use Rattle.std.proofs.lemmas.Bool.{cases_eq}
 use Rattle.std.specs.Prelude.{◌==◌}
 use Rattle.std.specs.List.{filter}
@@ -51,19 +52,23 @@ module _ (n : ℕ) (r : Extent) (u : ℕ) where
       ∙ ap (λ (ts : List Step). star ++ ts) (sym (kept f (e.from == u) once e))
 
   -- a turn of the loop
-  pub star_more : (es items : List Arc) (i : ℕ) (star more all : List Step) (e : Arc) → items ≡ es → i < length items → e ≡ get_or items i e → more ≡ star_along star n r e u
+  pub star_more : (es items : List Arc) (i : ℕ) (star more all : List Step) (e : Arc) → items ≡ es → i < length items → e ≡ get_or items i e
+      → more ≡ star_along star n r e u
       → star ++ steps_from n r u (drop i es) ≡ all → more ++ steps_from n r u (drop (i + 1) es) ≡ all
   star_more es items i star more all e same l s q h =
-      ap (λ (ts : List Step). ts ++ steps_from n r u (drop (i + 1) es)) q ∙ edge_steps e (drop (i + 1) es) star ∙ ap (λ (fs : List Arc). star ++ steps_from n r u fs) (sym split) ∙ h
+      ap (λ (ts : List Step). ts ++ steps_from n r u (drop (i + 1) es)) q ∙ edge_steps e (drop (i + 1) es) star
+      ∙ ap (λ (fs : List Arc). star ++ steps_from n r u fs) (sym split) ∙ h
     where
       split : drop i es ≡ e ∷ drop (i + 1) es
       split =
           let one : suc i ≡ i + 1 = omega arith in
           let here : e ≡ get_or es i e = subst (λ (fs : List Arc). e ≡ get_or fs i e) same s in
-          drop-cons es i e (subst (λ (fs : List Arc). i < length fs) same l) ∙ ap (λ (j : ℕ). get_or es i e ∷ drop j es) one ∙ ap (λ (f : Arc). f ∷ drop (i + 1) es) (sym here)
+          drop-cons es i e (subst (λ (fs : List Arc). i < length fs) same l) ∙ ap (λ (j : ℕ). get_or es i e ∷ drop j es) one
+          ∙ ap (λ (f : Arc). f ∷ drop (i + 1) es) (sym here)
 
 -- the list of vertex c once a step was put last in that of u
-step_at : (stars : List (List Step)) (u c : ℕ) (t : Step) → 1 ≤ u → u ≤ length stars → 1 ≤ c → get_or (with_step stars u t) (c - 1) [] ≡ star_with (get_or stars (c - 1) []) (u == c) t
+step_at : (stars : List (List Step)) (u c : ℕ) (t : Step) → 1 ≤ u → u ≤ length stars → 1 ≤ c
+    → get_or (with_step stars u t) (c - 1) [] ≡ star_with (get_or stars (c - 1) []) (u == c) t
 step_at stars u c t l h k = by (cases_eq u c)
   where
     inside : u - 1 < length stars
@@ -100,7 +105,8 @@ module _ (P : Graph) (r : Extent) where
     pub stars_turn : (e : Arc) → i < length items → e ≡ get_or items i e → IsEdge P e → AreStepsBut P r (drop (i + 1) P.edges) (with_edge stars P.vertices r e)
     stars_turn e l is edge = record {
       count = length-set once (e.to - 1) (get_or once (e.to - 1) [] ++ step_of P.vertices r (reverse_of e) ∷ []) ∙ length_once ∙ h.count;
-      each = λ c q. star_more P.vertices r c P.edges items i (get_or stars (c - 1) []) (get_or (with_edge stars P.vertices r e) (c - 1) []) (steps_from P.vertices r c P.edges) e same l is (twice c q) (h.each c q);
+      each = λ c q. star_more P.vertices r c P.edges items i (get_or stars (c - 1) []) (get_or (with_edge stars P.vertices r e) (c - 1) [])
+          (steps_from P.vertices r c P.edges) e same l is (twice c q) (h.each c q);
     }
       where
         once : List (List Step)
@@ -112,7 +118,8 @@ module _ (P : Graph) (r : Extent) where
         twice : (c : ℕ) → IsQuotientVertex P c → get_or (with_edge stars P.vertices r e) (c - 1) [] ≡ star_along (get_or stars (c - 1) []) P.vertices r e c
         twice c q =
             step_at once e.to c (step_of P.vertices r (reverse_of e)) edge.to.0 (omega (arith, length_once, h.count, edge.to.1)) q.0
-            ∙ ap (λ (ts : List Step). star_with ts (e.to == c) (step_of P.vertices r (reverse_of e))) (step_at stars e.from c (step_of P.vertices r e) edge.from.0 (omega (arith, h.count, edge.from.1)) q.0)
+            ∙ ap (λ (ts : List Step). star_with ts (e.to == c) (step_of P.vertices r (reverse_of e)))
+            (step_at stars e.from c (step_of P.vertices r e) edge.from.0 (omega (arith, h.count, edge.from.1)) q.0)
 
     -- all edges were passed
     pub stars_end : length items ≤ i → AreStepsFromVertices P r stars
@@ -120,12 +127,14 @@ module _ (P : Graph) (r : Extent) where
       count = h.count;
       each = λ c q.
           sym (append-nil (get_or stars (c - 1) []))
-          ∙ ap (λ (es : List Arc). get_or stars (c - 1) [] ++ steps_from P.vertices r c es) (sym (drop_all i P.edges (subst (λ (es : List Arc). length es ≤ i) same l)))
+          ∙ ap (λ (es : List Arc). get_or stars (c - 1) [] ++ steps_from P.vertices r c es)
+          (sym (drop_all i P.edges (subst (λ (es : List Arc). length es ≤ i) same l)))
           ∙ h.each c q;
     }
 
 -- a step put last in one list, seen in what the lists hold
-pub step_put : (stars : List (Vec Step Global)) (u : ℕ) (d new : Vec Step Global) (t : Step) → u - 1 < length stars → new.items ≡ (get_or stars (u - 1) d).items ++ t ∷ []
+pub step_put : (stars : List (Vec Step Global)) (u : ℕ) (d new : Vec Step Global) (t : Step) → u - 1 < length stars
+    → new.items ≡ (get_or stars (u - 1) d).items ++ t ∷ []
     → map (λ (star : Vec Step Global). star.items) (set stars (u - 1) new) ≡ with_step (map (λ (star : Vec Step Global). star.items) stars) u t
 step_put stars u d new t l e =
     map-set items_of stars (u - 1) new
@@ -135,10 +144,12 @@ step_put stars u d new t l e =
     items_of star = star.items
 
 -- an edge, as the calls put it
-pub edge_put : (n : ℕ) (r : Extent) (stars once : List (List Step)) (e : Arc) (from to : ℕ) (s : Vector) (by back : ℤ) → arc from to s ≡ e → by ≡ growth_of n r e → back ≡ neg_ℤ by
+pub edge_put : (n : ℕ) (r : Extent) (stars once : List (List Step)) (e : Arc) (from to : ℕ) (s : Vector) (by back : ℤ) → arc from to s ≡ e
+    → by ≡ growth_of n r e → back ≡ neg_ℤ by
     → once ≡ with_step stars from (record { to = to; by = by }) → with_step once to (record { to = from; by = back }) ≡ with_edge stars n r e
 edge_put n r stars once e from to s by back view b k o =
-    ap (λ (ss : List (List Step)). with_step ss to (record { to = from; by = back })) o ∙ (λ j. with_step (with_step stars (view j).from (first j)) (view j).to (second j))
+    ap (λ (ss : List (List Step)). with_step ss to (record { to = from; by = back })) o
+    ∙ (λ j. with_step (with_step stars (view j).from (first j)) (view j).to (second j))
   where
     first : record { to = to; by = by } ≡ step_of n r e
     first = λ j. record { to = (view j).to; by = b j }

@@ -10,7 +10,8 @@ use Rattle.quotient_graph.specs.NetClasses.{NetClasses, AreClasses, class_at}
 use Rattle.coordination.specs.Sequences.{AreFirstSequences, AreShellsOfClass, AreSequencesOf}
 
 -- one more list is put last
-pub one_more : (K : ClassGraph) (n : ℕ) (lists more : List (List ℕ)) (sizes : List ℕ) → AreFirstSequences K n lists → AreShellsOfClass K (n + 1) sizes → more ≡ lists ++ sizes ∷ [] → AreFirstSequences K (n + 1) more
+pub one_more : (K : ClassGraph) (n : ℕ) (lists more : List (List ℕ)) (sizes : List ℕ) → AreFirstSequences K n lists → AreShellsOfClass K (n + 1) sizes
+    → more ≡ lists ++ sizes ∷ [] → AreFirstSequences K (n + 1) more
 one_more K n lists more sizes h s e = record {
   count = ap length e ∙ length_push lists sizes ∙ ap (λ m. m + 1) h.count;
   each = λ k l. by k (before_or_at k n l);
@@ -30,7 +31,8 @@ abbrev pub shape_of : (c : NetClasses) → AreClasses c → Shape c.graph
 shape_of c h = record { placement = h.placement; stable = h.at.stable; class_of = class_at c.numbers; classes = c.classes; is_classes = h.at.is_classes }
 
 -- the lists of all classes are those of the graph
-pub all_classes : (c : NetClasses) → IsGraph c.graph → AreClasses c → (lists : List (List ℕ)) → AreFirstSequences c.classes c.classes.count lists → AreSequencesOf c.graph lists
+pub all_classes : (c : NetClasses) → IsGraph c.graph → AreClasses c → (lists : List (List ℕ)) → AreFirstSequences c.classes c.classes.count lists
+    → AreSequencesOf c.graph lists
 all_classes c g h lists f = record {
   shape = shape_of c h;
   count = f.count;

@@ -46,7 +46,8 @@ module _ (c : NetClasses) (cell : DividedNet) (g : IsGraph c.graph) (h : HasCell
         omega (arith, low, high, e, f)
 
     -- a vertex has the list of its class in cell 0
-    pub vertex_list : (w : Vertex) → IsVertex c.graph w → (sizes : List ℕ) → AreShellsOf cell.graph (vertex (class_at c.numbers w.over) zero_vector) sizes → AreShellsOf c.graph w sizes
+    pub vertex_list : (w : Vertex) → IsVertex c.graph w → (sizes : List ℕ) → AreShellsOf cell.graph (vertex (class_at c.numbers w.over) zero_vector) sizes
+        → AreShellsOf c.graph w sizes
     vertex_list w i sizes l =
         let e = class_iso c.graph h.placement (class_at cell.class_of) cell.basis cell.graph g h.stable h.numbering h.primitive in
         let m = iso_matching c.graph cell.graph e.iso in
@@ -57,7 +58,8 @@ module _ (c : NetClasses) (cell : DividedNet) (g : IsGraph c.graph) (h : HasCell
         let class : class_at c.numbers w.over ≡ x.over = same_class w.over i.over ∙ e.over w i in
         let origin : moved x back ≡ vertex x.over zero_vector = ap (vertex x.over) (plus_back x.cell) in
         let here = subst (λ (y : Vertex). AreShellsOf cell.graph y sizes) (ap (λ (u : ℕ). vertex u zero_vector) class ∙ sym origin) l in
-        let moved_list = sizes_back cell.graph cell.graph p p (λ y. moved y back) (λ y. moved y (opposite back)) (move_matching cell.graph back (opposite_dimension cell.graph.dimension x.cell v.cell)) x v sizes here in
+        let moved_list = sizes_back cell.graph cell.graph p p (λ y. moved y back) (λ y. moved y (opposite back))
+        (move_matching cell.graph back (opposite_dimension cell.graph.dimension x.cell v.cell)) x v sizes here in
         sizes_back c.graph cell.graph g p e.iso.there e.iso.back m w i sizes moved_list
 
     -- the class of a vertex is a vertex of the primitive graph
@@ -65,7 +67,8 @@ module _ (c : NetClasses) (cell : DividedNet) (g : IsGraph c.graph) (h : HasCell
     class_inside u i = (k.at.is_classes.numbering.positive u i, subst (λ (n : ℕ). class_at c.numbers u ≤ n) (sym same_count) (k.at.is_classes.below u i))
 
     -- so it has the list of its class
-    listed : (lists : List (List ℕ)) → AreListsOf cell.graph lists → (w : Vertex) → IsVertex c.graph w → AreShellsOf c.graph w (get_or lists (class_at c.numbers w.over - 1) [])
+    listed : (lists : List (List ℕ)) → AreListsOf cell.graph lists → (w : Vertex) → IsVertex c.graph w
+        → AreShellsOf c.graph w (get_or lists (class_at c.numbers w.over - 1) [])
     listed lists l w i =
         let j = class_inside w.over i.over in
         vertex_list w i (get_or lists (class_at c.numbers w.over - 1) []) (l.each (class_at c.numbers w.over) j j.1)

@@ -22,13 +22,15 @@ list_of_carried K c e sizes k l G g h q w i n =
     let m = iso_matching G G r.0 in
     sizes_back G G g g r.0.there r.0.back m w i sizes (l G g h q (r.0.there w) (m.into w i) r.1)
 
-module _ (c : NetClasses) (cell : DividedNet) (g : IsGraph c.graph) (h : HasCell c cell) (k : AreClasses c) (kinds : List ℕ) (s : AreKinds c.classes kinds) where
+module _ (c : NetClasses) (cell : DividedNet) (g : IsGraph c.graph) (h : HasCell c cell) (k : AreClasses c) (kinds : List ℕ)
+    (s : AreKinds c.classes kinds) where
   -- a vertex of the primitive graph is a class
   class_here : (v : ℕ) → IsQuotientVertex cell.graph v → (1 ≤ v) × (v ≤ c.classes.count)
   class_here v i = (i.0, subst (λ (n : ℕ). v ≤ n) (same_count c cell g h k) i.1)
 
   -- the list of the vertex of its kind is its own
-  kind_list : (v : ℕ) (sizes : List ℕ) → IsQuotientVertex cell.graph v → AreShellsOf cell.graph (vertex (kind_of kinds v) zero_vector) sizes → AreShellsOf cell.graph (vertex v zero_vector) sizes
+  kind_list : (v : ℕ) (sizes : List ℕ) → IsQuotientVertex cell.graph v → AreShellsOf cell.graph (vertex (kind_of kinds v) zero_vector) sizes
+      → AreShellsOf cell.graph (vertex v zero_vector) sizes
   kind_list v sizes i l =
       let e = class_iso c.graph h.placement (class_at cell.class_of) cell.basis cell.graph g h.stable h.numbering h.primitive in
       let m = iso_matching c.graph cell.graph e.iso in

@@ -7,7 +7,8 @@ use Rattle.periodic_net.specs.Placement.{Placement}
 
 module _ (G : Graph) (p : Placement) where
   -- where two numberings agree before u, the one is not below the other at u
-  not_below : (f g : ℕ → ℕ) → IsClassNumbering G p f → IsClassNumbering G p g → (u : ℕ) → IsQuotientVertex G u → ((v : ℕ) → v < u → IsQuotientVertex G v → f v ≡ g v) → f u < g u → ⊥
+  not_below : (f g : ℕ → ℕ) → IsClassNumbering G p f → IsClassNumbering G p g → (u : ℕ) → IsQuotientVertex G u
+      → ((v : ℕ) → v < u → IsQuotientVertex G v → f v ≡ g v) → f u < g u → ⊥
   not_below f g n m u i agree l =
       let s = m.in_order u (f u) i (n.positive u i) l in
       let here : f s.0 ≡ f u = agree s.0 s.1 s.2 ∙ s.3 in

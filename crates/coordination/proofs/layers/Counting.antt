@@ -1,5 +1,6 @@
 -- The shells are counted one after the other.
-use Rattle.std.proofs.Common.{◌≡◌, ◌⊎◌, inl, inr, ℕ, ◌+◌, ◌-◌, ◌<◌, ◌≤◌, List, [], ◌∷◌, ◌++◌, length, get_or, sum, refl, sym, ap, subst, ◌∙◌, arith, length-append}
+use Rattle.std.proofs.Common.{◌≡◌, ◌⊎◌, inl, inr, ℕ, ◌+◌, ◌-◌, ◌<◌, ◌≤◌, List, [], ◌∷◌, ◌++◌, length, get_or, sum, refl, sym, ap, subst, ◌∙◌, arith}
+use Rattle.std.proofs.Common.{length-append}
 use Rattle.std.proofs.lemmas.List.{get_or_append_left}
 use Rattle.std.proofs.lemmas.List.Sums.{sum_by_push}
 use Rattle.std.specs.Prelude.{slice_index_or}
@@ -81,9 +82,11 @@ module _ {X : Type 0} (Step : X → X → Type 0) (s : X) where
         below_or_last : (k n : ℕ) → k < n + 1 → (k < n) ⊎ (n ≡ k)
         below_or_last k n b = grind arith
 
-        each : (k : ℕ) → (k < length sizes) ⊎ (length sizes ≡ k) → HasSize Step s (length sizes + 1) (length next) → HasSize Step s (k + 1) (get_or (sizes ++ length next ∷ []) k 0)
+        each : (k : ℕ) → (k < length sizes) ⊎ (length sizes ≡ k) → HasSize Step s (length sizes + 1) (length next)
+            → HasSize Step s (k + 1) (get_or (sizes ++ length next ∷ []) k 0)
         each k (inl b) n = subst (HasSize Step s (k + 1)) (sym (get_or_append_left sizes (length next ∷ []) 0 k b)) (h.each k b)
-        each k (inr q) n = subst (λ j. HasSize Step s (j + 1) (get_or (sizes ++ length next ∷ []) j 0)) q (subst (HasSize Step s (length sizes + 1)) (sym (last_is sizes (length next))) n)
+        each k (inr q) n = subst (λ j. HasSize Step s (j + 1) (get_or (sizes ++ length next ∷ []) j 0)) q
+            (subst (HasSize Step s (length sizes + 1)) (sym (last_is sizes (length next))) n)
 
     -- with the next shell the total passes the limit
     pub counted_past : room < length next → (whole : List X) × AreShell Step s (length sizes + 1) whole → AreSizes Step s sizes
@@ -99,7 +102,8 @@ module _ {X : Type 0} (Step : X → X → Type 0) (s : X) where
         }
 
   -- ten shells were counted
-  pub counted_ten : (sizes : List ℕ) (room : ℕ) (found shell : List X) → AreCounted Step s sizes room found shell → most_shells ≤ length sizes → AreSizes Step s sizes
+  pub counted_ten : (sizes : List ℕ) (room : ℕ) (found shell : List X) → AreCounted Step s sizes room found shell → most_shells ≤ length sizes
+      → AreSizes Step s sizes
   counted_ten sizes room found shell h l = let total = h.total in let few = h.few in record {
     each = h.each;
     within = omega arith;
@@ -108,8 +112,10 @@ module _ {X : Type 0} (Step : X → X → Type 0) (s : X) where
   }
 
 -- a turn of the loop
-pub counted_turn : {X : Type 0} (Step : X → X → Type 0) (s : X) (sizes : List ℕ) (room : ℕ) (found shell lent next found' : List X) (sizes' : List ℕ) (size size' : ℕ) → AreCounted Step s sizes room found shell
-    → lent ≡ shell → Expands Step room lent found next → found' ≡ found ++ next → length sizes < most_shells → size ≡ length next → size ≤ room → size' ≡ size → sizes' ≡ sizes ++ size' ∷ []
+pub counted_turn : {X : Type 0} (Step : X → X → Type 0) (s : X) (sizes : List ℕ) (room : ℕ) (found shell lent next found' : List X) (sizes' : List ℕ)
+    (size size' : ℕ) → AreCounted Step s sizes room found shell
+    → lent ≡ shell → Expands Step room lent found next → found' ≡ found ++ next → length sizes < most_shells → size ≡ length next → size ≤ room → size' ≡ size
+    → sizes' ≡ sizes ++ size' ∷ []
     → AreCounted Step s sizes' (room - size) found' next
 counted_turn Step s sizes room found shell lent next found' sizes' size size' h e x f few n fits m p =
     let t = counted_more Step s sizes room found shell next h (subst (λ xs. Expands Step room xs found next) e x) few (subst (λ k. k ≤ room) n fits) found' f in

@@ -17,5 +17,6 @@ vertices_around P = record {
       let m = in_map (end_of x) (arcs_from P x.over) y i in
       let r = from_is_arc P x.over m.0 m.1 in
       subst (AreJoined P x) m.2 (end_joined P x m.0 r.0 r.1);
-  every = λ x y j. subst (IsIn (ends P x)) (end_between x y) (map_in (end_of x) (arcs_from P x.over) (arc_between x y) (arc_is_from P x.over (arc_between x y) j refl));
+  every = λ x y j. subst (IsIn (ends P x)) (end_between x y) (map_in (end_of x) (arcs_from P x.over) (arc_between x y)
+      (arc_is_from P x.over (arc_between x y) j refl));
 }

@@ -30,7 +30,8 @@ module _ {X : Type 0} (Step : X → X → Type 0) (same : (x y : X) → Dec (x �
         expands = record {
           each = λ x i. let m = in_pieces neighbours shell x (r.each x (is_in r.more x i)) in (m.0, contains_from_in shell m.0 m.1, h.each m.0 x m.2);
           once = pairs_from_apart (found ++ r.more) (subst AreApart r.found_is (r.once a));
-          every = λ f y x i t. contains_from_in (found ++ r.more) x (subst (λ (xs : List X). IsIn xs x) r.found_is (r.every x (pieces_in neighbours shell y x (is_in shell y i) (h.every y x t))));
+          every = λ f y x i t. contains_from_in (found ++ r.more) x (subst (λ (xs : List X). IsIn xs x) r.found_is
+              (r.every x (pieces_in neighbours shell y x (is_in shell y i) (h.every y x t))));
         };
       }
 
@@ -52,7 +53,8 @@ module _ {X : Type 0} (Step : X → X → Type 0) (same : (x y : X) → Dec (x �
           record {
             before = l.before ++ l.shell;
             shell = x.next;
-            layers = subst (λ n. AreLayers Step s n (l.before ++ l.shell) x.next) more (next_layers Step s k l.before l.shell l.layers (length x.next) x.next x.expands (omega arith));
+            layers = subst (λ n. AreLayers Step s n (l.before ++ l.shell) x.next) more
+                (next_layers Step s k l.before l.shell l.layers (length x.next) x.next x.expands (omega arith));
           }
 
   -- each shell can be listed

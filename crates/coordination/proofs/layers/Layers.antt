@@ -78,7 +78,8 @@ module _ {X : Type 0} (Step : X → X → Type 0) where
         inner = λ p i. inner p (in_append before shell p i);
         outer = λ p i. (next_inside.inside p i).reached;
         all_inner = λ j p b l. within j p (below_or_at j b) l;
-        all_outer = λ p l. let r = last_step k s p (subst (λ n. Leads Step n s p) (sym (next_number k)) l) in outer p r.0 r.1 r.2 (in_append before shell r.0 (h.all_outer r.0 r.1));
+        all_outer = λ p l. let r = last_step k s p (subst (λ n. Leads Step n s p) (sym (next_number k)) l) in
+            outer p r.0 r.1 r.2 (in_append before shell r.0 (h.all_outer r.0 r.1));
         once = apart;
       }
         where

@@ -26,7 +26,8 @@ neighbour_step K p q i =
 pub step_neighbour : (K : ClassGraph) (p q : Point) → IsStep K p q → IsIn (neighbours K p) q
 step_neighbour K p q t =
     subst (IsIn (neighbours K p)) t.onto
-    (map_in (along p) (arcs_of K p.class) t.arc (filter_in (λ (a : ClassArc). a.from == p.class) K.arcs t.arc (is_in K.arcs t.arc t.is_arc) ((Decides-eqb t.arc.from p.class).1 t.from)))
+    (map_in (along p) (arcs_of K p.class) t.arc (filter_in (λ (a : ClassArc). a.from == p.class) K.arcs t.arc (is_in K.arcs t.arc t.is_arc)
+    ((Decides-eqb t.arc.from p.class).1 t.from)))
 
 -- these are all
 pub points_around : (K : ClassGraph) → AreNeighbours (IsStep K) (neighbours K)

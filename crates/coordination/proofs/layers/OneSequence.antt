@@ -17,12 +17,14 @@ beginning (x ∷ xs) (y ∷ ys) l h = let e = beginning xs ys (omega arith) (λ 
 
 module _ (G : Graph) (w : Vertex) where
   -- members of a shell are no more than its size
-  at_most : (k n : ℕ) (members : List Vertex) → AreApart members → ((x : Vertex) → IsIn members x → IsInShell G w k x) → IsShellSize G w k n → length members ≤ n
+  at_most : (k n : ℕ) (members : List Vertex) → AreApart members → ((x : Vertex) → IsIn members x → IsInShell G w k x) → IsShellSize G w k n
+      → length members ≤ n
   at_most k n members a h s = subst (λ m. length members ≤ m) s.count (no_longer members s.members a (λ x i. is_in s.members x ((s.exact x).1 (h x i))))
 
   -- a size of a shell is at most any other
   size_at_most : (k m n : ℕ) → IsShellSize G w k m → IsShellSize G w k n → m ≤ n
-  size_at_most k m n s t = subst (λ l. l ≤ n) s.count (at_most k n s.members (apart_from_pairs s.members s.once) (λ x i. (s.exact x).0 (contains_from_in s.members x i)) t)
+  size_at_most k m n s t = subst (λ l. l ≤ n) s.count (at_most k n s.members (apart_from_pairs s.members s.once)
+      (λ x i. (s.exact x).0 (contains_from_in s.members x i)) t)
 
   -- a shell has one size
   one_size : (k m n : ℕ) → IsShellSize G w k m → IsShellSize G w k n → m ≡ n

@@ -45,7 +45,8 @@ module _ {X : Type 0} (Step : X → X → Type 0) where
         every y x t (inr (inr i)) = absurd i
 
   -- the search has come to the end of the shell
-  pub search_ends : (room i : ℕ) (shell before found next : List X) → length shell ≤ i → AreSearched Step (take i shell) before found next → Expands Step room shell before next
+  pub search_ends : (room i : ℕ) (shell before found next : List X) → length shell ≤ i → AreSearched Step (take i shell) before found next
+      → Expands Step room shell before next
   search_ends room i shell before found next l h =
       let s = subst (λ xs. AreSearched Step xs before found next) (take_all i shell l) h in
       record {
@@ -55,7 +56,8 @@ module _ {X : Type 0} (Step : X → X → Type 0) where
       }
 
   -- or has found too many
-  pub search_stops : (room i : ℕ) (shell before found next : List X) → room < length next → AreSearched Step (take i shell) before found next → Expands Step room shell before next
+  pub search_stops : (room i : ℕ) (shell before found next : List X) → room < length next → AreSearched Step (take i shell) before found next
+      → Expands Step room shell before next
   search_stops room i shell before found next l h = record {
     each = λ x j. let r = h.each x (is_in next x j) in (r.0, contains_from_in shell r.0 (in_take i shell r.0 r.1), r.2);
     once = pairs_from_apart (before ++ next) (subst AreApart h.found_is h.once);

@@ -55,6 +55,7 @@ module _ (P : Graph) where
       ends = by h.ends;
     }
       where
-        by : (length sizes ≡ most_shells) ⊎ IsPast (AreJoined P) w (length sizes + 1) (sum sizes) → (length sizes ≡ most_shells) ⊎ IsShellPast P w (length sizes + 1) (sum sizes)
+        by : (length sizes ≡ most_shells) ⊎ IsPast (AreJoined P) w (length sizes + 1) (sum sizes)
+            → (length sizes ≡ most_shells) ⊎ IsShellPast P w (length sizes + 1) (sum sizes)
         by (inl e) = inl e
         by (inr s) = inr (record { size = length s.members; is_size = vertex_size (length sizes + 1) s.members s.shell; past = s.past })

@@ -52,4 +52,5 @@ grows (p ∷ ps) found next = by (is_found found p) refl (grows ps found next) (
         → Grows (p ∷ ps) found next (all_found (cond b found (found ++ p ∷ [])) ps) (all_new (cond b found (found ++ p ∷ [])) (cond b next (next ++ p ∷ [])) ps)
     by true e r s = grows_old p ps found next (all_found found ps) (all_new found next ps) ((found_decides found p).0 e) r
     by false e r s =
-        grows_new p ps found next (all_found (found ++ p ∷ []) ps) (all_new (found ++ p ∷ []) (next ++ p ∷ []) ps) (not_from_Decides (is_found found p) (found_decides found p) e) s
+        grows_new p ps found next (all_found (found ++ p ∷ []) ps) (all_new (found ++ p ∷ []) (next ++ p ∷ []) ps)
+        (not_from_Decides (is_found found p) (found_decides found p) e) s

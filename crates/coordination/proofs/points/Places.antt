@@ -22,7 +22,8 @@ module _ (K : ClassGraph) (s : IsSmallNet K) where
   pub star_short : (c : ℕ) (star : List ClassArc) → star ≡ arcs_of K c → AreShort star
   star_short c star e =
       subst AreShort (sym e)
-      (all_from_in (λ (a : ClassArc). IsWithin most_coordinate a.vector) (arcs_of K c) (λ a i. s.within a (contains_from_in K.arcs a (in_filter (λ (b : ClassArc). b.from == c) K.arcs a i).0)))
+      (all_from_in (λ (a : ClassArc). IsWithin most_coordinate a.vector) (arcs_of K c)
+      (λ a i. s.within a (contains_from_in K.arcs a (in_filter (λ (b : ClassArc). b.from == c) K.arcs a i).0)))
 
   -- k steps lead to a class
   leads_class : (k : ℕ) (p q : Point) → IsClass K p.class → Leads (IsStep K) k p q → IsClass K q.class

@@ -18,7 +18,8 @@ use Rattle.coordination.proofs.points.Sizes.{size_shown}
 use Rattle.coordination.proofs.points.Starts.{start_at}
 
 -- the sizes for points are those for vertices
-sizes_shown : (G : Graph) → IsGraph G → (h : Shape G) (w : Vertex) → IsVertex G w → (c : ℕ) → h.class_of w.over ≡ c → (sizes : List ℕ) → AreSizes (IsStep h.classes) (start_at c) sizes → AreShellsOf G w sizes
+sizes_shown : (G : Graph) → IsGraph G → (h : Shape G) (w : Vertex) → IsVertex G w → (c : ℕ) → h.class_of w.over ≡ c → (sizes : List ℕ)
+    → AreSizes (IsStep h.classes) (start_at c) sizes → AreShellsOf G w sizes
 sizes_shown G g h w i c e sizes p = record {
   each = λ k l. let s = p.each k l in subst (IsShellSize G w (k + 1)) s.count (size_shown G g h w i c e (k + 1) s.members s.shell);
   within = p.within;
@@ -26,13 +27,15 @@ sizes_shown G g h w i c e sizes p = record {
   ends = ends p.ends;
 }
   where
-    ends : (length sizes ≡ most_shells) ⊎ IsPast (IsStep h.classes) (start_at c) (length sizes + 1) (sum sizes) → (length sizes ≡ most_shells) ⊎ IsShellPast G w (length sizes + 1) (sum sizes)
+    ends : (length sizes ≡ most_shells) ⊎ IsPast (IsStep h.classes) (start_at c) (length sizes + 1) (sum sizes)
+        → (length sizes ≡ most_shells) ⊎ IsShellPast G w (length sizes + 1) (sum sizes)
     ends (inl t) = inl t
     ends (inr s) = inr (record { size = length s.members; is_size = size_shown G g h w i c e (length sizes + 1) s.members s.shell; past = s.past })
 
 -- those for the points of a class graph are those for a class
 pub class_shown : (K L : ClassGraph) → K ≡ L → (c : ℕ) (sizes : List ℕ) → AreSizes (IsStep K) (start_at c) sizes → AreShellsOfClass L c sizes
-class_shown K L q c sizes p = λ G g h k w i e. sizes_shown G g h w i c e sizes (subst (λ (M : ClassGraph). AreSizes (IsStep M) (start_at c) sizes) (q ∙ sym k) p)
+class_shown K L q c sizes p = λ G g h k w i e. sizes_shown G g h w i c e sizes
+    (subst (λ (M : ClassGraph). AreSizes (IsStep M) (start_at c) sizes) (q ∙ sym k) p)
 
 -- what the search for the next shell asks
 pub record IsReady (K : ClassGraph) (found shell : List Point) : Type 0 where
@@ -41,7 +44,8 @@ pub record IsReady (K : ClassGraph) (found shell : List Point) : Type 0 where
   pub once : StandOnce found
 
 -- it holds of a shell that was counted before the last
-pub ready : (K : ClassGraph) (c : ℕ) (sizes : List ℕ) (room : ℕ) (found shell lent : List Point) → IsSmallNet K → IsClass K c → AreCounted (IsStep K) (start_at c) sizes room found shell → length sizes < most_shells → lent ≡ shell
+pub ready : (K : ClassGraph) (c : ℕ) (sizes : List ℕ) (room : ℕ) (found shell lent : List Point) → IsSmallNet K → IsClass K c
+    → AreCounted (IsStep K) (start_at c) sizes room found shell → length sizes < most_shells → lent ≡ shell
     → IsReady K found lent
 ready K c sizes room found shell lent s i h few e = record {
   classes = subst (λ xs. All (λ (p : Point). IsClass K p.class) xs) (sym e) (layer_classes K s c (length sizes) h.before shell i h.layers);

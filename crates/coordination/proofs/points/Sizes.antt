@@ -56,7 +56,8 @@ module _ (G : Graph) (g : IsGraph G) where
           is_vertex = r.is_vertex;
           inside = record {
             reached = r.leads;
-            no_fewer = λ j l. m.no_fewer j (subst (λ (s : Point). Leads (IsStep h.classes) j s p) starts (subst (Leads (IsStep h.classes) j (seen_from G h w w)) r.shown (seen_leads G h w j w r.end l)));
+            no_fewer = λ j l. m.no_fewer j (subst (λ (s : Point). Leads (IsStep h.classes) j s p) starts
+                (subst (Leads (IsStep h.classes) j (seen_from G h w w)) r.shown (seen_leads G h w j w r.end l)));
           };
           shown = r.shown;
         }

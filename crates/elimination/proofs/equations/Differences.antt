@@ -4,7 +4,8 @@ use Rattle.std.specs.Prelude.{pos, map}
 use Rattle.periodic_net.specs.Graph.{Graph, Arc, IsGraph, arcs_from}
 use Rattle.exact.specs.Ratio.{Ratio, ratio_plus, whole}
 use Rattle.exact.specs.Values.{CanCancel}
-use Rattle.exact.proofs.CallerLemmas.{one_cancels, plus_cancels, Value, class, plus_value, times_value, plus_value_cancel, whole_value, values, class_same, class_plus, class_whole}
+use Rattle.exact.proofs.CallerLemmas.{one_cancels, plus_cancels, Value, class, plus_value, times_value, plus_value_cancel, whole_value, values, class_same}
+use Rattle.exact.proofs.CallerLemmas.{class_plus, class_whole}
 use Rattle.elimination.specs.Equations.{ratio_sum}
 use Rattle.elimination.specs.RightHand.{arc_difference, IsBalanced}
 use Rattle.elimination.proofs.theory.Divides.{same_of_class}
@@ -26,21 +27,26 @@ module _ (m : ℕ) (p : ℕ → Ratio) (h : (u : ℕ) → CanCancel m (pos (p u)
   pub difference_plus : (a : Arc) → plus_value m (difference a) (class m (p a.from) (h a.from)) ≡ class m (p a.to) (h a.to)
   unfolding difference
   difference_plus a =
-      class_plus m (arc_difference p a) (p a.from) (difference_cancels a) (h a.from) (plus_cancels (arc_difference p a) (p a.from) (difference_cancels a) (h a.from))
+      class_plus m (arc_difference p a) (p a.from) (difference_cancels a) (h a.from)
+      (plus_cancels (arc_difference p a) (p a.from) (difference_cancels a) (h a.from))
       ∙ class_same m (ratio_plus (arc_difference p a) (p a.from)) (p a.to) _ (h a.to) (minus_plus m (p a.to) (p a.from))
 
   -- so the differences and the tails of a list are its ends
-  pub differences_plus : (as' : List Arc) → plus_value m (sum_over (values m) difference as') (sum_over (values m) (λ a. class m (p a.from) (h a.from)) as') ≡ sum_over (values m) (λ a. class m (p a.to) (h a.to)) as'
-  differences_plus as' = sym (over_plus (values m) difference (λ a. class m (p a.from) (h a.from)) as') ∙ (λ i. sum_over (values m) (λ a. difference_plus a i) as')
+  pub differences_plus : (as' : List Arc) → plus_value m (sum_over (values m) difference as')
+      (sum_over (values m) (λ a. class m (p a.from) (h a.from)) as') ≡ sum_over (values m) (λ a. class m (p a.to) (h a.to)) as'
+  differences_plus as' = sym (over_plus (values m) difference (λ a. class m (p a.from) (h a.from)) as')
+      ∙ (λ i. sum_over (values m) (λ a. difference_plus a i) as')
 
   module _ (G : Graph) (part : ℕ → Ratio) (k : (u : ℕ) → CanCancel m (pos (part u).den)) (u : ℕ) where
     sum_cancels : CanCancel m (pos (ratio_sum (map (arc_difference p) (arcs_from G u))).den)
     sum_cancels = over_cancels m (arc_difference p) difference_cancels (arcs_from G u)
 
     both : plus_value m (sum_over (values m) difference (arcs_from G u)) (class m (part u) (k u))
-        ≡ class m (ratio_plus (ratio_sum (map (arc_difference p) (arcs_from G u))) (part u)) (plus_cancels (ratio_sum (map (arc_difference p) (arcs_from G u))) (part u) sum_cancels (k u))
+        ≡ class m (ratio_plus (ratio_sum (map (arc_difference p) (arcs_from G u))) (part u))
+        (plus_cancels (ratio_sum (map (arc_difference p) (arcs_from G u))) (part u) sum_cancels (k u))
     unfolding difference sum_cancels
-    both = ap (λ t. plus_value m t (class m (part u) (k u))) (sym (over_class m (arc_difference p) difference_cancels (arcs_from G u))) ∙ class_plus m (ratio_sum (map (arc_difference p) (arcs_from G u))) (part u) sum_cancels (k u) _
+    both = ap (λ t. plus_value m t (class m (part u) (k u))) (sym (over_class m (arc_difference p) difference_cancels (arcs_from G u)))
+        ∙ class_plus m (ratio_sum (map (arc_difference p) (arcs_from G u))) (part u) sum_cancels (k u) _
 
     -- a vertex is balanced where its differences and its part add up to 0
     pub of_balance : IsBalanced m G part p u → plus_value m (sum_over (values m) difference (arcs_from G u)) (class m (part u) (k u)) ≡ whole_value m (pos 0)
@@ -61,9 +67,13 @@ module _ (m : ℕ) (p : ℕ → Ratio) (h : (u : ℕ) → CanCancel m (pos (p u)
         ∙ swap_last (values m) (sum_over (values m) difference (arcs_from G (i + 1))) (tails m G g 0 p h i) (b i)
 
     -- where the mean equation by weights holds, the differences and the part add up to 0
-    pub differences_of_weights : IsMean (values m) G.vertices (weight m G g) b places i → plus_value m (sum_over (values m) difference (arcs_from G (i + 1))) (b i) ≡ whole_value m (pos 0)
-    differences_of_weights e = plus_value_cancel m _ (whole_value m (pos 0)) (tails m G g 0 p h i) (sym left ∙ e ∙ right m G g 0 p h i ∙ sym (nought_plus (values m) (tails m G g 0 p h i)))
+    pub differences_of_weights : IsMean (values m) G.vertices (weight m G g) b places i
+        → plus_value m (sum_over (values m) difference (arcs_from G (i + 1))) (b i) ≡ whole_value m (pos 0)
+    differences_of_weights e = plus_value_cancel m _ (whole_value m (pos 0)) (tails m G g 0 p h i)
+        (sym left ∙ e ∙ right m G g 0 p h i ∙ sym (nought_plus (values m) (tails m G g 0 p h i)))
 
     -- and the other way
-    pub weights_of_differences : plus_value m (sum_over (values m) difference (arcs_from G (i + 1))) (b i) ≡ whole_value m (pos 0) → IsMean (values m) G.vertices (weight m G g) b places i
-    weights_of_differences e = left ∙ ap (λ t. plus_value m t (tails m G g 0 p h i)) e ∙ nought_plus (values m) (tails m G g 0 p h i) ∙ sym (right m G g 0 p h i)
+    pub weights_of_differences : plus_value m (sum_over (values m) difference (arcs_from G (i + 1))) (b i) ≡ whole_value m (pos 0)
+        → IsMean (values m) G.vertices (weight m G g) b places i
+    weights_of_differences e = left ∙ ap (λ t. plus_value m t (tails m G g 0 p h i)) e ∙ nought_plus (values m) (tails m G g 0 p h i)
+        ∙ sym (right m G g 0 p h i)

@@ -25,7 +25,8 @@ starts_inside G g a h = (arc_inside G g a (contains_from_in (arcs G) a h)).from
 module _ (m c : ℕ) (p : ℕ → Ratio) (h : (u : ℕ) → CanCancel m (pos (p u).den)) where
   -- the shifts of the two arcs of an edge are opposite
   opposite_steps : (e : Arc) → plus_value m (step m c p h e) (step m c p h (reverse_of e)) ≡ whole_value m (pos 0)
-  opposite_steps e = sym (whole_plus m (part c e.shift) (part c (reverse_of e).shift)) ∙ ap (whole_value m) (no_way (part c e.shift) _ (part_opposite c e.shift))
+  opposite_steps e = sym (whole_plus m (part c e.shift) (part c (reverse_of e).shift))
+      ∙ ap (whole_value m) (no_way (part c e.shift) _ (part_opposite c e.shift))
 
   -- and so are their gains
   opposite_gains : (e : Arc) → plus_value m (gain m c p h e) (gain m c p h (reverse_of e)) ≡ whole_value m (pos 0)
@@ -43,14 +44,17 @@ module _ (m c : ℕ) (p : ℕ → Ratio) (h : (u : ℕ) → CanCancel m (pos (p 
   all_gains : (es : List Arc) → sum_over (values m) (gain m c p h) (both_ways es) ≡ whole_value m (pos 0)
   all_gains [] = refl
   all_gains (e ∷ es) =
-      sym (plus_value_assoc m (gain m c p h e) (gain m c p h (reverse_of e)) _) ∙ (λ i. plus_value m (opposite_gains e i) (all_gains es i)) ∙ nought_plus (values m) (whole_value m (pos 0))
+      sym (plus_value_assoc m (gain m c p h e) (gain m c p h (reverse_of e)) _) ∙ (λ i. plus_value m (opposite_gains e i) (all_gains es i))
+      ∙ nought_plus (values m) (whole_value m (pos 0))
 
   -- so where those of each other vertex do, those of vertex 1 do
-  pub first_gains : (G : Graph) → IsGraph G → ((j : ℕ) → 0 < j → j < G.vertices → sum_over (values m) (gain m c p h) (arcs_from G (j + 1)) ≡ whole_value m (pos 0))
+  pub first_gains : (G : Graph) → IsGraph G → ((j : ℕ) → 0 < j → j < G.vertices
+      → sum_over (values m) (gain m c p h) (arcs_from G (j + 1)) ≡ whole_value m (pos 0))
       → sum_over (values m) (gain m c p h) (arcs_from G 1) ≡ whole_value m (pos 0)
   first_gains G g others =
       let of_vertex = λ (j : ℕ). sum_over (values m) (gain m c p h) (arcs_from G (j + 1)) in
       sym (sum_first (values m) G.vertices of_vertex g.vertices others)
-      ∙ sum_same (values m) G.vertices of_vertex (λ j. sum_over (values m) (λ a. at_number (values m) a.from (gain m c p h a) j) (arcs G)) (λ j l. over_filter (values m) (gain m c p h) (λ a. a.from == j + 1) (arcs G))
+      ∙ sum_same (values m) G.vertices of_vertex (λ j. sum_over (values m) (λ a. at_number (values m) a.from (gain m c p h a) j) (arcs G))
+      (λ j l. over_filter (values m) (gain m c p h) (λ a. a.from == j + 1) (arcs G))
       ∙ grouped (values m) G.vertices (λ (a : Arc). a.from) (gain m c p h) (arcs G) (starts_inside G g)
       ∙ all_gains G.edges

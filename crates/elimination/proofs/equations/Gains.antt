@@ -7,7 +7,8 @@ use Rattle.integers.proofs.numbers.Ring.{ring, linear}
 use Rattle.periodic_net.specs.Graph.{Graph, Arc, arcs_from}
 use Rattle.exact.specs.Ratio.{Ratio, Same, ratio_plus, ratio_minus, whole}
 use Rattle.exact.specs.Values.{CanCancel}
-use Rattle.exact.proofs.CallerLemmas.{one_cancels, plus_cancels, product_cancels, Value, class, formal, plus_value, whole_value, values, class_same, class_plus, class_whole}
+use Rattle.exact.proofs.CallerLemmas.{one_cancels, plus_cancels, product_cancels, Value, class, formal, plus_value, whole_value, values, class_same, class_plus}
+use Rattle.exact.proofs.CallerLemmas.{class_whole}
 use Rattle.elimination.specs.Equations.{ratio_sum, arc_gain, IsAtMean}
 use Rattle.elimination.proofs.theory.Divides.{same_of_class}
 use Rattle.elimination.proofs.theory.ListSums.{sum_over, over_plus}
@@ -38,7 +39,8 @@ module _ (m : ℕ) where
   pub whole_plus : (x y : ℤ) → whole_value m (x +ℤ y) ≡ plus_value m (whole_value m x) (whole_value m y)
   whole_plus x y =
       class_whole m (x +ℤ y) one_cancels
-      ∙ sym (class_same m (ratio_plus (whole x) (whole y)) (whole (x +ℤ y)) (plus_cancels (whole x) (whole y) one_cancels one_cancels) one_cancels (whole_formal x y))
+      ∙ sym (class_same m (ratio_plus (whole x) (whole y)) (whole (x +ℤ y)) (plus_cancels (whole x) (whole y) one_cancels one_cancels) one_cancels
+      (whole_formal x y))
       ∙ sym (class_plus m (whole x) (whole y) one_cancels one_cancels _)
       ∙ (λ i. plus_value m (sym (class_whole m x one_cancels) i) (sym (class_whole m y one_cancels) i))
 
@@ -53,7 +55,8 @@ module _ (m : ℕ) where
   over_cancels f h (x ∷ xs) = plus_cancels (f x) (ratio_sum (map f xs)) (h x) (over_cancels f h xs)
 
   -- its class is the sum of the classes
-  pub over_class : {X : Type 0} (f : X → Ratio) (h : (x : X) → CanCancel m (pos (f x).den)) (xs : List X) → class m (ratio_sum (map f xs)) (over_cancels f h xs) ≡ sum_over (values m) (λ x. class m (f x) (h x)) xs
+  pub over_class : {X : Type 0} (f : X → Ratio) (h : (x : X) → CanCancel m (pos (f x).den)) (xs : List X)
+      → class m (ratio_sum (map f xs)) (over_cancels f h xs) ≡ sum_over (values m) (λ x. class m (f x) (h x)) xs
   unfolding over_cancels
   over_class f h [] = sym (class_whole m (pos 0) one_cancels)
   over_class f h (x ∷ xs) =
@@ -62,7 +65,8 @@ module _ (m : ℕ) where
   module _ (c : ℕ) (p : ℕ → Ratio) (h : (u : ℕ) → CanCancel m (pos (p u).den)) where
     -- the denominator of a gain
     pub gain_cancels : (a : Arc) → CanCancel m (pos (arc_gain p c a).den)
-    gain_cancels a = minus_cancels (ratio_plus (p a.to) (whole (part c a.shift))) (p a.from) (plus_cancels (p a.to) (whole (part c a.shift)) (h a.to) one_cancels) (h a.from)
+    gain_cancels a = minus_cancels (ratio_plus (p a.to) (whole (part c a.shift))) (p a.from)
+        (plus_cancels (p a.to) (whole (part c a.shift)) (h a.to) one_cancels) (h a.from)
 
     -- where a vertex stands, as a value
     abbrev pub stand : ℕ → Value m
@@ -91,18 +95,21 @@ module _ (m : ℕ) where
     pub gains_plus : (as' : List Arc) → plus_value m (sum_over (values m) gain as') (sum_over (values m) (λ a. stand a.from) as')
         ≡ plus_value m (sum_over (values m) (λ a. stand a.to) as') (sum_over (values m) step as')
     gains_plus as' =
-        sym (over_plus (values m) gain (λ a. stand a.from) as') ∙ (λ i. sum_over (values m) (λ a. gain_plus a i) as') ∙ over_plus (values m) (λ a. stand a.to) step as'
+        sym (over_plus (values m) gain (λ a. stand a.from) as') ∙ (λ i. sum_over (values m) (λ a. gain_plus a i) as')
+        ∙ over_plus (values m) (λ a. stand a.to) step as'
 
     -- a vertex is at its mean where the gains of its arcs add up to 0
     pub gains_of_mean : (G : Graph) (u : ℕ) → IsAtMean m G c p u → sum_over (values m) gain (arcs_from G u) ≡ whole_value m (pos 0)
     unfolding gain
     gains_of_mean G u e =
-        sym (over_class (arc_gain p c) gain_cancels (arcs_from G u)) ∙ class_same m (ratio_sum (map (arc_gain p c) (arcs_from G u))) (whole (pos 0)) _ one_cancels e.balance ∙ sym (class_whole m (pos 0) one_cancels)
+        sym (over_class (arc_gain p c) gain_cancels (arcs_from G u)) ∙ class_same m (ratio_sum (map (arc_gain p c) (arcs_from G u)))
+        (whole (pos 0)) _ one_cancels e.balance ∙ sym (class_whole m (pos 0) one_cancels)
 
     -- and the other way
     pub mean_of_gains : (G : Graph) (u : ℕ) → sum_over (values m) gain (arcs_from G u) ≡ whole_value m (pos 0) → IsAtMean m G c p u
     unfolding gain
     mean_of_gains G u e = record {
-      balance = same_of_class m (ratio_sum (map (arc_gain p c) (arcs_from G u))) (whole (pos 0)) (over_cancels (arc_gain p c) gain_cancels (arcs_from G u)) one_cancels
+      balance = same_of_class m (ratio_sum (map (arc_gain p c) (arcs_from G u))) (whole (pos 0))
+          (over_cancels (arc_gain p c) gain_cancels (arcs_from G u)) one_cancels
           (over_class (arc_gain p c) gain_cancels (arcs_from G u) ∙ e ∙ class_whole m (pos 0) one_cancels);
     }

@@ -19,14 +19,16 @@ kept G p u = cond (leb 1 u && leb u G.vertices) (p u) (whole (pos 0))
 
 -- at a vertex it is p
 pub kept_is : (G : Graph) (p : ℕ → Ratio) (u : ℕ) → IsQuotientVertex G u → kept G p u ≡ p u
-kept_is G p u h = cond-true (leb 1 u && leb u G.vertices) (p u) (whole (pos 0)) (and_from (leb 1 u) (leb u G.vertices) (le-leb 1 u h.0) (le-leb u G.vertices h.1))
+kept_is G p u h = cond-true (leb 1 u && leb u G.vertices) (p u) (whole (pos 0))
+    (and_from (leb 1 u) (leb u G.vertices) (le-leb 1 u h.0) (le-leb u G.vertices h.1))
 
 -- so values that are the same when kept are the same at a vertex
 pub same_from_kept : (m : ℕ) (G : Graph) (p q : ℕ → Ratio) (u : ℕ) → IsQuotientVertex G u → Same m (kept G p u) (kept G q u) → Same m (p u) (q u)
 same_from_kept m G p q u h s = subst (Same m (p u)) (kept_is G q u h) (subst (λ x. Same m x (kept G q u)) (kept_is G p u h) s)
 
 -- its denominators can be cancelled
-pub kept_cancels : (m : ℕ) (G : Graph) (p : ℕ → Ratio) → ((u : ℕ) → IsQuotientVertex G u → IsDenominator m (p u).den) → (u : ℕ) → CanCancel m (pos (kept G p u).den)
+pub kept_cancels : (m : ℕ) (G : Graph) (p : ℕ → Ratio) → ((u : ℕ) → IsQuotientVertex G u → IsDenominator m (p u).den) → (u : ℕ)
+    → CanCancel m (pos (kept G p u).den)
 kept_cancels m G p h u = cond_both (leb 1 u && leb u G.vertices) (p u) (whole (pos 0)) (λ (t : Ratio). CanCancel m (pos t.den))
     (λ e. let q = and_parts (leb 1 u) (leb u G.vertices) e in denominator_cancels (h u (leb-true 1 u q.0, leb-true u G.vertices q.1))) (λ e. one_cancels)
 

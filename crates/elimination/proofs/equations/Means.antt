@@ -9,7 +9,8 @@ use Rattle.periodic_net.specs.Graph.{Graph, Arc, IsGraph, arcs_from}
 use Rattle.periodic_net.proofs.CallerLemmas.{from_is_arc, arc_inside}
 use Rattle.exact.specs.Ratio.{Ratio}
 use Rattle.exact.specs.Values.{CanCancel}
-use Rattle.exact.proofs.CallerLemmas.{Value, plus_value, plus_value_cancel, times_value, times_value_comm, times_value_zero, whole_value, values, times_value_one}
+use Rattle.exact.proofs.CallerLemmas.{Value, plus_value, plus_value_cancel, times_value, times_value_comm, times_value_zero, whole_value, values}
+use Rattle.exact.proofs.CallerLemmas.{times_value_one}
 use Rattle.elimination.specs.Listed.{arc_count, shift_sum}
 use Rattle.elimination.proofs.theory.Semirings.{nought_plus, plus_times, sum_below, sum_same, times_sum}
 use Rattle.elimination.proofs.theory.ListSums.{sum_over, over_same, at_number, grouped}
@@ -41,7 +42,8 @@ module _ (m : ℕ) where
   -- at the place of t, P (j + 1) is P t
   at_its_place : (P : ℕ → Value m) (t j : ℕ) → cond (t == j + 1) (P (j + 1)) (whole_value m (pos 0)) ≡ at_number (values m) t (P t) j
   at_its_place P t j = ⊎_elim (λ (e : t ≡ j + 1). λ i. cond (t == j + 1) (P (sym e i)) (whole_value m (pos 0)))
-      (λ ne. let f = ne_eqb t (j + 1) ne in cond-false (t == j + 1) (P (j + 1)) (whole_value m (pos 0)) f ∙ sym (cond-false (t == j + 1) (P t) (whole_value m (pos 0)) f)) (cases_eq t (j + 1))
+      (λ ne. let f = ne_eqb t (j + 1) ne in cond-false (t == j + 1) (P (j + 1)) (whole_value m (pos 0)) f
+      ∙ sym (cond-false (t == j + 1) (P t) (whole_value m (pos 0)) f)) (cases_eq t (j + 1))
 
   module _ (G : Graph) (g : IsGraph G) where
     -- the weight of i and j, as a value
@@ -53,9 +55,11 @@ module _ (m : ℕ) where
     shifts c i = whole_value m (part c (shift_sum G (i + 1)))
 
     -- the weights of i, times values of the vertices, are the values at the ends of its arcs
-    pub by_ends : (P : ℕ → Value m) (i : ℕ) → sum_below (values m) G.vertices (λ j. times_value m (weight i j) (P (j + 1))) ≡ sum_over (values m) (λ a. P a.to) (arcs_from G (i + 1))
+    pub by_ends : (P : ℕ → Value m) (i : ℕ) → sum_below (values m) G.vertices (λ j. times_value m (weight i j) (P (j + 1))) ≡ sum_over (values m) (λ a. P a.to)
+        (arcs_from G (i + 1))
     by_ends P i =
-        sum_same (values m) G.vertices (λ j. times_value m (weight i j) (P (j + 1))) (λ j. sum_over (values m) (λ a. at_number (values m) a.to (P a.to) j) (arcs_from G (i + 1)))
+        sum_same (values m) G.vertices (λ j. times_value m (weight i j) (P (j + 1)))
+        (λ j. sum_over (values m) (λ a. at_number (values m) a.to (P a.to) j) (arcs_from G (i + 1)))
         (λ j l. counted (j + 1) (P (j + 1)) (arcs_from G (i + 1)) ∙ (λ x. sum_over (values m) (λ a. at_its_place P a.to j x) (arcs_from G (i + 1))))
         ∙ grouped (values m) G.vertices (λ (a : Arc). a.to) (λ a. P a.to) (arcs_from G (i + 1)) (ends_inside G g (i + 1))
 
@@ -65,7 +69,8 @@ module _ (m : ℕ) where
       tails = sum_over (values m) (λ a. stand m c p h a.from) (arcs_from G (i + 1))
 
       -- the left side of the mean equation is the gains and the tails
-      left : plus_value m (sum_below (values m) G.vertices (λ j. times_value m (weight i j) (stand m c p h (j + 1)))) (shifts c i) ≡ plus_value m (sum_over (values m) (gain m c p h) (arcs_from G (i + 1))) tails
+      left : plus_value m (sum_below (values m) G.vertices (λ j. times_value m (weight i j) (stand m c p h (j + 1)))) (shifts c i) ≡ plus_value m
+          (sum_over (values m) (gain m c p h) (arcs_from G (i + 1))) tails
       left =
           let sums = ap (whole_value m) (shift_sum_total G c (i + 1)) ∙ whole_total m (λ (a : Arc). part c a.shift) (arcs_from G (i + 1)) in
           (λ x. plus_value m (by_ends (stand m c p h) i x) (sums x)) ∙ sym (gains_plus m c p h (arcs_from G (i + 1)))
@@ -75,13 +80,16 @@ module _ (m : ℕ) where
       right =
           sym (times_sum (values m) G.vertices (stand m c p h (i + 1)) (weight i))
           ∙ by_ends (λ u. stand m c p h (i + 1)) i
-          ∙ over_same (values m) (λ a. stand m c p h (i + 1)) (λ a. stand m c p h a.from) (arcs_from G (i + 1)) (λ a k. ap (stand m c p h) (sym (from_is_arc G (i + 1) a k).1))
+          ∙ over_same (values m) (λ a. stand m c p h (i + 1)) (λ a. stand m c p h a.from) (arcs_from G (i + 1))
+          (λ a k. ap (stand m c p h) (sym (from_is_arc G (i + 1) a k).1))
 
       -- where the mean equation holds, the gains of the arcs add up to 0
-      pub gains_of_weights : IsMean (values m) G.vertices weight (shifts c) (λ j. stand m c p h (j + 1)) i → sum_over (values m) (gain m c p h) (arcs_from G (i + 1)) ≡ whole_value m (pos 0)
+      pub gains_of_weights : IsMean (values m) G.vertices weight (shifts c) (λ j. stand m c p h (j + 1)) i
+          → sum_over (values m) (gain m c p h) (arcs_from G (i + 1)) ≡ whole_value m (pos 0)
       gains_of_weights e =
           plus_value_cancel m _ (whole_value m (pos 0)) tails (sym left ∙ e ∙ right ∙ sym (nought_plus (values m) tails))
 
       -- and the other way
-      pub weights_of_gains : sum_over (values m) (gain m c p h) (arcs_from G (i + 1)) ≡ whole_value m (pos 0) → IsMean (values m) G.vertices weight (shifts c) (λ j. stand m c p h (j + 1)) i
+      pub weights_of_gains : sum_over (values m) (gain m c p h) (arcs_from G (i + 1)) ≡ whole_value m (pos 0)
+          → IsMean (values m) G.vertices weight (shifts c) (λ j. stand m c p h (j + 1)) i
       weights_of_gains e = left ∙ ap (λ t. plus_value m t tails) e ∙ nought_plus (values m) tails ∙ sym right

@@ -7,7 +7,9 @@ use Rattle.std.proofs.lemmas.List.Elements.{All-append, All-nil, All-cons}
 use Rattle.exact.specs.Ratio.{Ratio, HasInverse, ratio_times}
 use Rattle.exact.specs.declared.number.Op.TheVariants.{Plus, Times, Over}
 use Rattle.elimination.specs.declared.place.Place.{Place}
-use Rattle.elimination.specs.Listed.{Level, Entry, level_entries, list_to, listed, next_level, pivot_sum, position_entries, position_up_to, row_entries, sum_entries, sum_entry, weight_entry, shift_entry, back_entry, back_sum, over_entry, plus_entry, times_entry, term_entries, place, factor}
+use Rattle.elimination.specs.Listed.{Level, Entry, level_entries, list_to, listed, next_level, pivot_sum, position_entries, position_up_to, row_entries}
+use Rattle.elimination.specs.Listed.{sum_entries, sum_entry, weight_entry, shift_entry, back_entry, back_sum, over_entry, plus_entry, times_entry, term_entries}
+use Rattle.elimination.specs.Listed.{place, factor}
 use Rattle.elimination.proofs.theory.Levels.{HaveInverses}
 
 -- what holds of all that f lists in turn holds of the whole list
@@ -37,13 +39,15 @@ module _ (m : ℕ) where
   module _ (D : ℕ) (l : Level) (k : ℕ) (h : HasInverse m (pivot_sum l k)) where
     -- the divisors where vertex k is eliminated
     level_divides : All CanDivide (level_entries D l k)
-    level_divides = All-append CanDivide (sum_entries l k) (list_to k (row_entries D l k)) (all_to CanDivide k (sum_entry l k) sum) (all_to CanDivide k (row_entries D l k) row)
+    level_divides = All-append CanDivide (sum_entries l k) (list_to k (row_entries D l k)) (all_to CanDivide k (sum_entry l k) sum)
+        (all_to CanDivide k (row_entries D l k) row)
       where
         sum : (j : ℕ) → All CanDivide (sum_entry l k j)
         sum j = All-cons CanDivide _ [] (λ e. absurd (plus_not_over e)) (All-nil CanDivide)
 
         weight : (i j : ℕ) → All CanDivide (weight_entry l k i j)
-        weight i j = cond_both (j == i) [] (term_entries (place 3 (k + 1) (i + 1) (j + 1) 0) (place 4 (k + 1) (i + 1) (j + 1) 0) (l.w i j) (factor l k i) (l.w k j)) (All CanDivide)
+        weight i j = cond_both (j == i) [] (term_entries (place 3 (k + 1) (i + 1) (j + 1) 0) (place 4 (k + 1) (i + 1) (j + 1) 0) (l.w i j) (factor l k i)
+            (l.w k j)) (All CanDivide)
             (λ e. All-nil CanDivide) (λ e. term_divides _ _ (l.w i j) (factor l k i) (l.w k j))
 
         shift : (i c : ℕ) → All CanDivide (shift_entry l k i c)
@@ -51,13 +55,15 @@ module _ (m : ℕ) where
 
         row : (i : ℕ) → All CanDivide (row_entries D l k i)
         row i = All-cons CanDivide _ (list_to k (weight_entry l k i) ++ list_to D (shift_entry l k i)) (λ e. h)
-            (All-append CanDivide (list_to k (weight_entry l k i)) (list_to D (shift_entry l k i)) (all_to CanDivide k (weight_entry l k i) (weight i)) (all_to CanDivide D (shift_entry l k i) (shift i)))
+            (All-append CanDivide (list_to k (weight_entry l k i)) (list_to D (shift_entry l k i)) (all_to CanDivide k (weight_entry l k i) (weight i))
+            (all_to CanDivide D (shift_entry l k i) (shift i)))
 
     -- the divisor where vertex k is placed
     position_divides : (p : ℕ → ℕ → Ratio) (c : ℕ) → All CanDivide (position_entries l k p c)
     position_divides p c =
         All-append CanDivide (list_to k (back_entry l k p c)) (over_entry (place 9 (k + 1) 0 0 (c + 1)) (back_sum l k p c k) (pivot_sum l k) ∷ [])
-        (all_to CanDivide k (back_entry l k p c) (λ j. term_divides _ _ (back_sum l k p c j) (l.w k j) (p j c))) (All-cons CanDivide _ [] (λ e. h) (All-nil CanDivide))
+        (all_to CanDivide k (back_entry l k p c) (λ j. term_divides _ _ (back_sum l k p c j) (l.w k j) (p j c)))
+        (All-cons CanDivide _ [] (λ e. h) (All-nil CanDivide))
 
   -- where the weight sums have inverses, all divisors do
   pub all_divide : (D k : ℕ) (l : Level) → HaveInverses m k l → All CanDivide (listed D k l)
@@ -66,4 +72,5 @@ module _ (m : ℕ) where
       let next = next_level (suc k) l in
       let last = list_to D (position_entries l (suc k) (position_up_to k next)) in
       All-append CanDivide (level_entries D l (suc k)) (listed D k next ++ last) (level_divides D l (suc k) h.0)
-      (All-append CanDivide (listed D k next) last (all_divide D k next h.1) (all_to CanDivide D (position_entries l (suc k) (position_up_to k next)) (position_divides D l (suc k) h.0 (position_up_to k next))))
+      (All-append CanDivide (listed D k next) last (all_divide D k next h.1)
+      (all_to CanDivide D (position_entries l (suc k) (position_up_to k next)) (position_divides D l (suc k) h.0 (position_up_to k next))))

@@ -3,7 +3,8 @@ use Rattle.std.proofs.Common.{ℕ, zero, suc, ◌+◌, ◌++◌, [], ◌∷◌, 
 use Rattle.std.specs.List.{All}
 use Rattle.std.proofs.lemmas.List.Elements.{All-head, All-tail, All-nil, All-cons}
 use Rattle.exact.specs.Ratio.{Ratio, HasInverse}
-use Rattle.elimination.specs.Listed.{Level, level_entries, list_to, listed, next_level, pivot_sum, position_entries, position_up_to, row_entries, sum_entries, weight_entry, shift_entry, over_entry, place}
+use Rattle.elimination.specs.Listed.{Level, level_entries, list_to, listed, next_level, pivot_sum, position_entries, position_up_to, row_entries, sum_entries}
+use Rattle.elimination.specs.Listed.{weight_entry, shift_entry, over_entry, place}
 use Rattle.elimination.specs.Faults.{IsGood, AreGood}
 use Rattle.elimination.proofs.theory.Levels.{HaveInverses}
 
@@ -23,7 +24,8 @@ module _ (m : ℕ) (fits : Ratio → Type 0) (D : ℕ) where
   level_inverse k l h =
       let rows = all_after (IsGood m fits) (sum_entries l (suc k)) (list_to (suc k) (row_entries D l (suc k))) h in
       let row = all_after (IsGood m fits) (list_to k (row_entries D l (suc k))) (row_entries D l (suc k) k) rows in
-      (All-head (IsGood m fits) (over_entry (place 2 (suc k + 1) (k + 1) 0 0) (l.w k (suc k)) (pivot_sum l (suc k))) (list_to (suc k) (weight_entry l (suc k) k) ++ list_to D (shift_entry l (suc k) k)) row).divisor refl
+      (All-head (IsGood m fits) (over_entry (place 2 (suc k + 1) (k + 1) 0 0) (l.w k (suc k)) (pivot_sum l (suc k)))
+      (list_to (suc k) (weight_entry l (suc k) k) ++ list_to D (shift_entry l (suc k) k)) row).divisor refl
 
   -- so each weight sum has an inverse
   all_inverses : (k : ℕ) (l : Level) → All (IsGood m fits) (listed D k l) → HaveInverses m k l

@@ -3,7 +3,8 @@ use Rattle.std.proofs.Common.{ℕ, zero, suc, ◌≤◌, arith, inl, inr}
 use Rattle.exact.specs.Ratio.{ratio_times}
 use Rattle.elimination.specs.Listed.{Level, pivot_sum, factor, next_level}
 use Rattle.elimination.proofs.inverses.Paths.{AreLinked, Without, weaker_path, first_step, still_linked}
-use Rattle.elimination.proofs.inverses.Signs.{NotNegative, IsPositive, plus_not_negative, plus_left, plus_right, times_not_negative, times_positive, over_not_negative, over_positive, sum_to_positive, positive_has_inverse}
+use Rattle.elimination.proofs.inverses.Signs.{NotNegative, IsPositive, plus_not_negative, plus_left, plus_right, times_not_negative, times_positive}
+use Rattle.elimination.proofs.inverses.Signs.{over_not_negative, over_positive, sum_to_positive, positive_has_inverse}
 use Rattle.elimination.proofs.theory.Levels.{HaveInverses}
 
 -- a positive weight joins i and j
@@ -25,7 +26,8 @@ module _ (k : ℕ) (l : Level) (h : IsJoined (suc k) l) where
 
   -- what is added to a weight is not negative
   share_not_negative : (i j : ℕ) → NotNegative (ratio_times (factor l (suc k) i) (l.w (suc k) j))
-  share_not_negative i j = times_not_negative (factor l (suc k) i) (l.w (suc k) j) (over_not_negative (l.w i (suc k)) (pivot_sum l (suc k)) (h.weights i (suc k)) pivot_positive) (h.weights (suc k) j)
+  share_not_negative i j = times_not_negative (factor l (suc k) i) (l.w (suc k) j)
+      (over_not_negative (l.w i (suc k)) (pivot_sum l (suc k)) (h.weights i (suc k)) pivot_positive) (h.weights (suc k) j)
 
   -- what was joined, or both joined to the last vertex, is joined once it is gone
   next_joins : (i j : ℕ) → Without (suc k) (Joins l) i j → Joins (next_level (suc k) l) i j

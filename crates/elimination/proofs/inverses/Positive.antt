@@ -42,10 +42,12 @@ module _ (G : Graph) (g : IsGraph G) where
       let ends = arc_inside G g a h in
       let from : a.from ≡ a.from - 1 + 1 = let l = ends.from.0 in omega arith in
       let to : a.to ≡ a.to - 1 + 1 = let l = ends.to.0 in omega arith in
-      natural_positive (arc_count G (a.from - 1 + 1) (a.to - 1 + 1)) (subst (λ u. 1 ≤ arc_count G u (a.to - 1 + 1)) from (subst (λ v. 1 ≤ arc_count G a.from v) to (arc_counts G a h)))
+      natural_positive (arc_count G (a.from - 1 + 1) (a.to - 1 + 1)) (subst (λ u. 1 ≤ arc_count G u (a.to - 1 + 1)) from
+      (subst (λ v. 1 ≤ arc_count G a.from v) to (arc_counts G a h)))
 
   -- a walk of the net passes along a path of positive weights
-  walk_path : (w : Vertex) (steps : List Vertex) (x : Vertex) → IsWalk G w steps x → IsPath G.vertices (Joins (start_level G)) (w.over - 1) (map (λ y. y.over - 1) steps) (x.over - 1)
+  walk_path : (w : Vertex) (steps : List Vertex) (x : Vertex) → IsWalk G w steps x
+      → IsPath G.vertices (Joins (start_level G)) (w.over - 1) (map (λ y. y.over - 1) steps) (x.over - 1)
   walk_path w [] x h = ap (λ (y : Vertex). y.over - 1) h
   walk_path w (y ∷ steps) x h =
       let ends = arc_inside G g (arc w.over y.over (minus y.cell w.cell)) h.0 in
@@ -67,12 +69,16 @@ module _ (G : Graph) (g : IsGraph G) where
             let found = connected (i + 1) (omega arith, (let e = g.vertices in omega arith)) in
             let walk = reached_turned G (vertex 1 zero_vector) (vertex (i + 1) found.0) found.1 in
             let path = walk_path (vertex (i + 1) found.0) walk.0 (vertex 1 zero_vector) walk.1 in
-            let back : i + 1 - 1 ≡ i = omega arith in
-            (map (λ y. y.over - 1) walk.0, subst (λ n. IsPath n (Joins (start_level G)) i (map (λ y. y.over - 1) walk.0) 0) last (subst (λ j. IsPath G.vertices (Joins (start_level G)) j (map (λ y. y.over - 1) walk.0) 0) back path))
+            let back : i + 1 - 1 ≡ i = omega arith in (
+              map (λ y. y.over - 1) walk.0,
+              subst (λ n. IsPath n (Joins (start_level G)) i (map (λ y. y.over - 1) walk.0) 0) last
+                  (subst (λ j. IsPath G.vertices (Joins (start_level G)) j (map (λ y. y.over - 1) walk.0) 0) back path),
+            )
 
     -- so each divisor has an inverse
     divisors_have_inverses : (e : Entry) → Contains (listed_numbers G) e → e.op ≡ Over → HasInverse 0 e.right
-    divisors_have_inverses e h = All-contains (CanDivide 0) (listed_numbers G) e (all_divide 0 G.dimension (G.vertices - 1) (start_level G) (joined_inverses (G.vertices - 1) (start_level G) start_joined)) h
+    divisors_have_inverses e h = All-contains (CanDivide 0) (listed_numbers G) e
+        (all_divide 0 G.dimension (G.vertices - 1) (start_level G) (joined_inverses (G.vertices - 1) (start_level G) start_joined)) h
 
 -- where the net is connected, its quotient graph is
 pub connected_quotient : (G : Graph) → IsConnected G → HasConnectedQuotient G

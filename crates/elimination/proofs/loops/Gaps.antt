@@ -71,8 +71,10 @@ pub passed_more : {N : Type 0} (xs : List (Joined N)) (a i j : ℕ) → i ≤ j 
 passed_more xs a i j l h = λ b d t m. let u = h b d t m in omega (arith, l, u)
 
 -- what is kept by each vertex without weight is kept by all between
-pub over_gap : {N : Type 0} {m : ℕ} {value : N → Ratio} (xs : List (Joined N)) (l : Level) (h n k : ℕ) → AreJoinedVertices m value xs l h n k → (Done : ℕ → Type 0) (a i j : ℕ)
-    → ((q : ℕ) → i ≤ q → q < j → 0 < q → IsNought m value (l.w k q) → Done q → Done (q + 1)) → IsReached xs a i → IsReached xs a j → h ≤ i → i ≤ j → j ≤ n → Done i → Done j
+pub over_gap : {N : Type 0} {m : ℕ} {value : N → Ratio} (xs : List (Joined N)) (l : Level) (h n k : ℕ) → AreJoinedVertices m value xs l h n k
+    → (Done : ℕ → Type 0) (a i j : ℕ)
+    → ((q : ℕ) → i ≤ q → q < j → 0 < q → IsNought m value (l.w k q) → Done q → Done (q + 1)) → IsReached xs a i → IsReached xs a j → h ≤ i → i ≤ j → j ≤ n
+    → Done i → Done j
 over_gap xs l h n k joined Done a i j step r s f b c d = subst Done (omega (arith, b)) (along (j - i) (omega (arith, b)))
   where
     along : (t : ℕ) → i + t ≤ j → Done (i + t)

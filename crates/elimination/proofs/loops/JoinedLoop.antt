@@ -34,11 +34,14 @@ module _ {N : Type 0} (m : ℕ) (value : N → Ratio) (fits : Ratio → Type 0) 
   abbrev pub Passes : ℕ → Type 0
   Passes i = (q : ℕ) → i ≤ q → q < n → 0 < q → IsNought m value (l.w k q) → IsDone m fits f Has q → Has (q + 1) × AreGood m fits (f q)
 
-module _ {N : Type 0} {m : ℕ} {value : N → Ratio} (fits : Ratio → Type 0) (f : ℕ → List Entry) (xs : List (Joined N)) (l : Level) (h n k : ℕ) (joined : AreJoinedVertices m value xs l h n k) where
-  from_here : (Has : ℕ → Type 0) (a i : ℕ) → Passes m value fits f l n k Has i → IsReached xs a i → h ≤ i → ((j : ℕ) → h ≤ j → IsReached xs a j → i ≤ j) → IsDone m fits f Has i → AreDone m fits f Has xs h n a
+module _ {N : Type 0} {m : ℕ} {value : N → Ratio} (fits : Ratio → Type 0) (f : ℕ → List Entry) (xs : List (Joined N)) (l : Level) (h n k : ℕ)
+    (joined : AreJoinedVertices m value xs l h n k) where
+  from_here : (Has : ℕ → Type 0) (a i : ℕ) → Passes m value fits f l n k Has i → IsReached xs a i → h ≤ i → ((j : ℕ) → h ≤ j → IsReached xs a j → i ≤ j)
+      → IsDone m fits f Has i → AreDone m fits f Has xs h n a
   from_here Has a i pass reached low first done = record {
     at = λ j b c r. over_gap xs l h n k joined (IsDone m fits f Has) a i j
-        (λ q t u z o d. let s = pass q t (omega (arith, u, c)) z o d in record { has = s.0; good = good_turn m fits f q d.good s.1 }) reached r low (first j b r) c done;
+        (λ q t u z o d. let s = pass q t (omega (arith, u, c)) z o d in record { has = s.0; good = good_turn m fits f q d.good s.1 }) reached r low
+        (first j b r) c done;
   }
 
   -- at the start
@@ -65,11 +68,13 @@ module _ {N : Type 0} {m : ℕ} {value : N → Ratio} (fits : Ratio → Type 0) 
           }
 
       -- its turn ends in a fault
-      pub fault_next : (e : SolveFault N) → (IsNext m value fits f l n k Has xs h a x → IsFault m fits value (f x.place) e) → IsFault m fits value (list_to n f) e
+      pub fault_next : (e : SolveFault N) → (IsNext m value fits f l n k Has xs h a x → IsFault m fits value (f x.place) e)
+          → IsFault m fits value (list_to n f) e
       fault_next e turn = fault_turn m fits f value x.place n e next.below next.done.good (turn next)
 
       -- its turn is good
-      pub done_next : (Then : ℕ → Type 0) → Passes m value fits f l n k Then (x.place + 1) → (IsNext m value fits f l n k Has xs h a x → Then (x.place + 1) × AreGood m fits (f x.place)) → AreDone m fits f Then xs h n (a + 1)
+      pub done_next : (Then : ℕ → Type 0) → Passes m value fits f l n k Then (x.place + 1)
+          → (IsNext m value fits f l n k Has xs h a x → Then (x.place + 1) × AreGood m fits (f x.place)) → AreDone m fits f Then xs h n (a + 1)
       done_next Then pass turn =
           let t = turn next in
           from_here Then (a + 1) (x.place + 1) pass (reached_past xs joined.rising a within x is) (let b = next.from in omega (arith, b))

@@ -14,7 +14,8 @@ use Rattle.elimination.proofs.loops.Gaps.{place_is}
 all_after : {X : Type 0} (P : X → Type 0) (xs : List X) (n : ℕ) → All P xs → All P (drop n xs)
 all_after P xs n h = λ b d l. subst P (sym (get_or-drop n xs b d)) (h (n + b) d (omega (arith, l, length-drop n xs)))
 
-module _ {N : Type 0} (xs : List (Joined N)) (rising : AllPairs (λ x y. x.place < y.place) xs) (a : ℕ) (within : a < length xs) (x : Joined N) (is : x ≡ get_or xs a x) where
+module _ {N : Type 0} (xs : List (Joined N)) (rising : AllPairs (λ x y. x.place < y.place) xs) (a : ℕ) (within : a < length xs) (x : Joined N)
+    (is : x ≡ get_or xs a x) where
   above : All (λ y. x.place < y.place) (drop (a + 1) xs)
   above = λ b d t. subst (λ (y : Joined N). x.place < y.place) (sym (get_or-drop (a + 1) xs b d))
       (let u = rising a (a + 1 + b) d (omega arith) (omega (arith, t, length-drop (a + 1) xs)) in omega (arith, u, place_is xs rising a within x is d))
@@ -24,7 +25,8 @@ module _ {N : Type 0} (xs : List (Joined N)) (rising : AllPairs (λ x y. x.place
   places_later k h = subst (All (λ (y : Joined N). (x.place < y.place) × (y.place < k))) (sym (take_rest xs (a + 1)))
       (λ b d l. (above b d l, all_after (λ (y : Joined N). y.place < k) xs (a + 1) h b d l))
 
-module _ {N : Type 0} {m : ℕ} {value : N → Ratio} (xs : List (Joined N)) (l : Level) (h n k : ℕ) (joined : AreJoinedVertices m value xs l h n k) (a : ℕ) (within : a < length xs) (x : Joined N) (is : x ≡ get_or xs a x) where
+module _ {N : Type 0} {m : ℕ} {value : N → Ratio} (xs : List (Joined N)) (l : Level) (h n k : ℕ) (joined : AreJoinedVertices m value xs l h n k) (a : ℕ)
+    (within : a < length xs) (x : Joined N) (is : x ≡ get_or xs a x) where
   own : (d : Joined N) → (get_or xs a d).place ≡ x.place
   own d = place_is xs joined.rising a within x is d
 
@@ -34,8 +36,10 @@ module _ {N : Type 0} {m : ℕ} {value : N → Ratio} (xs : List (Joined N)) (l 
       (λ u. ⊎_elim
       (λ (v : a < p).
       let q : a + 1 + (p - (a + 1)) ≡ p = omega (arith, v) in
-      o (p - (a + 1)) d (omega (arith, t, v, length-drop (a + 1) xs)) (subst (λ (y : Joined N). y.place ≡ j) (sym (get_or-drop (a + 1) xs (p - (a + 1)) d)) (subst (λ r. (get_or xs r d).place ≡ j) (sym q) e)))
-      (λ v. let q : a ≡ p = omega (arith, u, v) in let w = subst (λ r. (get_or xs r d).place ≡ x.place) q (own d) in omega (arith, w, e, f)) (cases_lt a p)) (cases_lt p a)
+      o (p - (a + 1)) d (omega (arith, t, v, length-drop (a + 1) xs)) (subst (λ (y : Joined N). y.place ≡ j) (sym (get_or-drop (a + 1) xs (p - (a + 1)) d))
+      (subst (λ r. (get_or xs r d).place ≡ j) (sym q) e)))
+      (λ v. let q : a ≡ p = omega (arith, u, v) in let w = subst (λ r. (get_or xs r d).place ≡ x.place) q (own d) in omega (arith, w, e, f)) (cases_lt a p))
+      (cases_lt p a)
 
   -- they are joined, from the next vertex on
   pub joined_later : AreJoinedVertices m value (take (length xs - (a + 1)) (drop (a + 1) xs)) l (x.place + 1) n k

@@ -13,11 +13,13 @@ use Rattle.elimination.proofs.inverses.Inverses.{all_before, all_after}
 
 module _ {N : Type 0} {m : ℕ} {value : N → Ratio} (xs : List (Joined N)) (l : Level) (i k : ℕ) (h : AreJoinedVertices m value xs l 0 i k) where
   -- vertex i is listed
-  pub joined_pushed : (x : Joined N) → All (λ y. y.place < i) xs → x.place ≡ i → HasValue m (value x.weight) (l.w k i) → AreJoinedVertices m value (xs ++ (x ∷ [])) l 0 (i + 1) k
+  pub joined_pushed : (x : Joined N) → All (λ y. y.place < i) xs → x.place ≡ i → HasValue m (value x.weight) (l.w k i)
+      → AreJoinedVertices m value (xs ++ (x ∷ [])) l 0 (i + 1) k
   joined_pushed x below place has = record {
     rising = all_pairs_push (λ (y z : Joined N). y.place < z.place) xs x h.rising (λ a d b. let u = below a d b in omega (arith, u, place));
     from = λ a d b. omega arith;
-    has = All-push (λ (y : Joined N). HasValue m (value y.weight) (l.w k y.place)) xs x h.has (subst (λ q. HasValue m (value x.weight) (l.w k q)) (sym place) has);
+    has = All-push (λ (y : Joined N). HasValue m (value y.weight) (l.w k y.place)) xs x h.has
+        (subst (λ q. HasValue m (value x.weight) (l.w k q)) (sym place) has);
     others = λ j f b. below_more (λ j. All (λ y. y.place ≢ j) (xs ++ (x ∷ [])) → (0 < j) × IsNought m value (l.w k j)) i
         (λ j u o. h.others j (omega arith) u (all_before (λ (y : Joined N). y.place ≢ j) xs (x ∷ []) o))
         (λ o. absurd (All-head (λ (y : Joined N). y.place ≢ i) x [] (all_after (λ (y : Joined N). y.place ≢ i) xs (x ∷ []) o) place)) j b;
@@ -29,7 +31,8 @@ module _ {N : Type 0} {m : ℕ} {value : N → Ratio} (xs : List (Joined N)) (l 
     rising = h.rising;
     from = h.from;
     has = h.has;
-    others = λ j f b. below_more (λ j. All (λ y. y.place ≢ j) xs → (0 < j) × IsNought m value (l.w k j)) i (λ j u o. h.others j (omega arith) u o) (λ o. (later, nothing)) j b;
+    others = λ j f b. below_more (λ j. All (λ y. y.place ≢ j) xs → (0 < j) × IsNought m value (l.w k j)) i (λ j u o. h.others j (omega arith) u o)
+        (λ o. (later, nothing)) j b;
   }
 
 -- no vertex is listed yet

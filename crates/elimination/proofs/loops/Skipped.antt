@@ -1,5 +1,6 @@
 -- A vertex without weight with the last one: its factor is 0, and its line stays as it is.
-use Rattle.std.proofs.Common.{rules, ◌≡◌, ◌≢◌, ℕ, zero, suc, pos, arith, ◌+◌, ◌-◌, ◌<◌, ◌≤◌, ◌==◌, if◌then◌else◌, true, false, List, [], ◌∷◌, ◌++◌, length, get_or, ◌⊎◌, ⊎_elim, eq-eqb}
+use Rattle.std.proofs.Common.{rules, ◌≡◌, ◌≢◌, ℕ, zero, suc, pos, arith, ◌+◌, ◌-◌, ◌<◌, ◌≤◌, ◌==◌, if◌then◌else◌, true, false, List, [], ◌∷◌, ◌++◌, length}
+use Rattle.std.proofs.Common.{get_or, ◌⊎◌, ⊎_elim, eq-eqb}
 use Rattle.std.proofs.lemmas.Bool.{cases_eq, cases_lt}
 use borrow.Author.Count.{below_more}
 use Rattle.std.specs.Global.{Vec}
@@ -8,7 +9,8 @@ use Rattle.exact.specs.Values.{CanCancel, HasValue}
 use Rattle.exact.proofs.CallerLemmas.{same_refl, same_sym, same_trans, one_cancels, zero_times, over_like}
 use Rattle.vecdim.specs.declared.rows.Row.{Row}
 use Rattle.elimination.specs.declared.place.Place.{Place}
-use Rattle.elimination.specs.Listed.{Level, Entry, place, term_entries, over_entry, list_to, pivot_sum, factor, next_level, weight_entry, shift_entry, row_entries}
+use Rattle.elimination.specs.Listed.{Level, Entry, place, term_entries, over_entry, list_to, pivot_sum, factor, next_level, weight_entry, shift_entry}
+use Rattle.elimination.specs.Listed.{row_entries}
 use Rattle.elimination.specs.Faults.{AreGood}
 use Rattle.elimination.specs.Lines.{IsNought, IsSymmetric, IsRow, IsUpperWeights, IsUpperLine, AreLines}
 use Rattle.elimination.proofs.loops.LineLoop.{pivot_inverse}
@@ -24,34 +26,43 @@ good_unless i j es h = ⊎_elim
     (λ (e : j ≡ i). let same : (j == i) ≡ true = eq-eqb j i e in rw same good_none)
     (λ (o : j ≢ i). let other : (j == i) ≡ false = search rules in rw other (h o)) (cases_eq j i)
 
-module _ {N : Type 0} {m : ℕ} {value : N → Ratio} {fits : Ratio → Type 0} (laws : Laws m value fits) (l : Level) (k i : ℕ) (below : i < k) (s : IsSymmetric m l (k + 1)) where
+module _ {N : Type 0} {m : ℕ} {value : N → Ratio} {fits : Ratio → Type 0} (laws : Laws m value fits) (l : Level) (k i : ℕ) (below : i < k)
+    (s : IsSymmetric m l (k + 1)) where
   module _ (nought : IsNought m value (l.w k i)) (pivot : CanCancel m (pos (pivot_sum l k).den)) (inverse : HasInverse m (pivot_sum l k)) where
     -- its weight is the factor too
     share_has : HasValue m (value nought.number) (factor l k i)
     share_has = over_like (value nought.number) (pivot_sum l k) (value nought.number) (l.w i k) (pivot_sum l k) pivot (own_cancels laws nought.number)
-        (same_trans one_cancels (zero_times (pivot_sum l k) nought.zero) (same_sym nought.zero)) inverse (own_weight l k i below s nought.has) (record { same = same_refl (pivot_sum l k); denominator = pivot })
+        (same_trans one_cancels (zero_times (pivot_sum l k) nought.zero) (same_sym nought.zero)) inverse (own_weight l k i below s nought.has)
+        (record { same = same_refl (pivot_sum l k); denominator = pivot })
 
     -- a product with it adds nothing
-    adds_nothing : (at next : Place) (y : N) (a b : Ratio) → HasValue m (value y) a → CanCancel m (pos b.den) → HasValue m (value y) (ratio_plus a (ratio_times (factor l k i) b)) × AreGood m fits (term_entries at next a (factor l k i) b)
+    adds_nothing : (at next : Place) (y : N) (a b : Ratio) → HasValue m (value y) a → CanCancel m (pos b.den)
+        → HasValue m (value y) (ratio_plus a (ratio_times (factor l k i) b)) × AreGood m fits (term_entries at next a (factor l k i) b)
     adds_nothing at next y a b h c = nought_added laws at next y a (factor l k i) b h nought.number share_has nought.zero c
 
     -- the denominator of a weight of k
     weight_cancels : (j : ℕ) → j < k → CanCancel m (pos (l.w k j).den)
     weight_cancels j b = (s.has j k (omega (arith, b)) (omega arith) (λ e. omega (arith, b, e))).denominator
 
-    module _ {D : ℕ} (xs : List N) (sums last_sums : Row N D) (mine : IsUpperLine m value xs sums l k i) (theirs : IsRow m value last_sums (l.b k)) (before : AreGood m fits (list_to i (weight_entry l k i))) where
+    module _ {D : ℕ} (xs : List N) (sums last_sums : Row N D) (mine : IsUpperLine m value xs sums l k i) (theirs : IsRow m value last_sums (l.b k))
+        (before : AreGood m fits (list_to i (weight_entry l k i))) where
       weight_stays : (j : ℕ) (e : N) → i < j → j < k → HasValue m (value (get_or xs (j - (i + 1)) e)) ((next_level k l).w i j)
-      weight_stays j e o b = (adds_nothing (place 0 0 0 0 0) (place 0 0 0 0 0) (get_or xs (j - (i + 1)) e) (l.w i j) (l.w k j) (mine.weights.has j e o b) (weight_cancels j b)).0
+      weight_stays j e o b = (adds_nothing (place 0 0 0 0 0) (place 0 0 0 0 0) (get_or xs (j - (i + 1)) e) (l.w i j) (l.w k j) (mine.weights.has j e o b)
+          (weight_cancels j b)).0
 
       weight_good : (j : ℕ) → j < k → AreGood m fits (weight_entry l k i j)
       weight_good j b = ⊎_elim (λ (r : j < i). good_part (weight_entry l k i) i j before r)
-          (λ r. good_unless i j _ (λ o. (adds_nothing (place 3 (k + 1) (i + 1) (j + 1) 0) (place 4 (k + 1) (i + 1) (j + 1) 0) (get_or xs (j - (i + 1)) nought.number) (l.w i j) (l.w k j) (mine.weights.has j nought.number (omega (arith, r, o)) b) (weight_cancels j b)).1)) (cases_lt j i)
+          (λ r. good_unless i j _ (λ o. (adds_nothing (place 3 (k + 1) (i + 1) (j + 1) 0) (place 4 (k + 1) (i + 1) (j + 1) 0)
+          (get_or xs (j - (i + 1)) nought.number) (l.w i j) (l.w k j) (mine.weights.has j nought.number (omega (arith, r, o)) b) (weight_cancels j b)).1))
+          (cases_lt j i)
 
       weights_good : (n : ℕ) → n ≤ k → AreGood m fits (list_to n (weight_entry l k i))
       weights_good zero b = good_none
-      weights_good (suc n) b = good_append (list_to n (weight_entry l k i)) (weight_entry l k i n) (weights_good n (omega (arith, b))) (weight_good n (omega (arith, b)))
+      weights_good (suc n) b = good_append (list_to n (weight_entry l k i)) (weight_entry l k i n) (weights_good n (omega (arith, b)))
+          (weight_good n (omega (arith, b)))
 
-      sum_stays : (c : ℕ) (y : N) → HasValue m (value y) (l.b i c) → CanCancel m (pos (l.b k c).den) → HasValue m (value y) ((next_level k l).b i c) × AreGood m fits (shift_entry l k i c)
+      sum_stays : (c : ℕ) (y : N) → HasValue m (value y) (l.b i c) → CanCancel m (pos (l.b k c).den)
+          → HasValue m (value y) ((next_level k l).b i c) × AreGood m fits (shift_entry l k i c)
       sum_stays c y p q = adds_nothing (place 5 (k + 1) (i + 1) 0 (c + 1)) (place 6 (k + 1) (i + 1) 0 (c + 1)) y (l.b i c) (l.b k c) p q
 
       first_stays : HasValue m (value sums.x) ((next_level k l).b i 0) × AreGood m fits (shift_entry l k i 0)
@@ -93,13 +104,18 @@ some_of [] q l = absurd (omega (arith, l))
 some_of (x ∷ xs) q l = x
 
 -- one line more that stays
-module _ {N : Type 0} {m D : ℕ} {value : N → Ratio} {fits : Ratio → Type 0} (laws : Laws m value fits) (dimension : (D ≡ 2) ⊎ (D ≡ 3)) (l : Level) (k : ℕ) (s : IsSymmetric m l (k + 1)) (pivot : CanCancel m (pos (pivot_sum l k).den)) (last_sums : Row N D) (theirs : IsRow m value last_sums (l.b k)) where
+module _ {N : Type 0} {m D : ℕ} {value : N → Ratio} {fits : Ratio → Type 0} (laws : Laws m value fits) (dimension : (D ≡ 2) ⊎ (D ≡ 3)) (l : Level) (k : ℕ)
+    (s : IsSymmetric m l (k + 1)) (pivot : CanCancel m (pos (pivot_sum l k).den)) (last_sums : Row N D) (theirs : IsRow m value last_sums (l.b k)) where
   pub line_passed : (lines : List (Vec N)) (sums : List (Row N D)) (q : ℕ) → q < k → q < length lines → 0 < q → IsNought m value (l.w k q)
-      → ((d : Vec N) (e : Row N D) → IsUpperLine m value (get_or lines q d).items (get_or sums q e) l (k + 1) q) → AreLines m value lines sums (next_level k l) k q → AreGood m fits (list_to q (row_entries D l k))
+      → ((d : Vec N) (e : Row N D) → IsUpperLine m value (get_or lines q d).items (get_or sums q e) l (k + 1) q)
+      → AreLines m value lines sums (next_level k l) k q → AreGood m fits (list_to q (row_entries D l k))
       → AreLines m value lines sums (next_level k l) k (q + 1) × AreGood m fits (row_entries D l k q)
   line_passed lines sums q b within later o mine h good = (
     record {
-      weights = record { has = λ i d. below_more (λ t. IsUpperWeights m value (get_or lines t d).items (next_level k l) k t) q (λ i. h.weights.has i d) (stays d last_sums).0.weights i };
+      weights = record {
+        has = λ i d. below_more (λ t. IsUpperWeights m value (get_or lines t d).items (next_level k l) k t) q (λ i. h.weights.has i d)
+            (stays d last_sums).0.weights i;
+      };
       sums = record { has = λ i d. below_more (λ t. IsRow m value (get_or sums t d) ((next_level k l).b t)) q (λ i. h.sums.has i d) (stays some d).0.sums i };
     },
     (stays some last_sums).1,
@@ -108,5 +124,7 @@ module _ {N : Type 0} {m D : ℕ} {value : N → Ratio} {fits : Ratio → Type 0
       some : Vec N
       some = some_of lines q within
 
-      stays : (d : Vec N) (e : Row N D) → IsUpperLine m value (get_or lines q d).items (get_or sums q e) (next_level k l) k q × AreGood m fits (row_entries D l k q)
-      stays d e = line_stays laws l k q b s o pivot (pivot_inverse m fits D k l q good later) (get_or lines q d).items (get_or sums q e) last_sums (narrow_line m value _ _ l k q (mine d e)) theirs (turned_good laws D l k q b s good) dimension
+      stays : (d : Vec N) (e : Row N D) → IsUpperLine m value (get_or lines q d).items (get_or sums q e) (next_level k l) k q
+          × AreGood m fits (row_entries D l k q)
+      stays d e = line_stays laws l k q b s o pivot (pivot_inverse m fits D k l q good later) (get_or lines q d).items (get_or sums q e) last_sums
+          (narrow_line m value _ _ l k q (mine d e)) theirs (turned_good laws D l k q b s good) dimension

@@ -23,7 +23,8 @@ module _ (m : ℕ) (fits : Ratio → Type 0) (f : ℕ → List Entry) where
         (λ b. let s : k ≡ j = omega arith in rw s (fault_after m fits value (list_to j f) (f j) e h i)) (cases_lt j k)
 
 -- what a result says, said otherwise
-pub match_map : {A B : Type 0} (P P' : A → Type 0) (Q Q' : B → Type 0) (r : Result A B) → MatchResult r P Q → ((x : A) → P x → P' x) → ((e : B) → Q e → Q' e) → MatchResult r P' Q'
+pub match_map : {A B : Type 0} (P P' : A → Type 0) (Q Q' : B → Type 0) (r : Result A B) → MatchResult r P Q → ((x : A) → P x → P' x) → ((e : B) → Q e → Q' e)
+    → MatchResult r P' Q'
 match_map P P' Q Q' (Ok x) h f g = f x h
 match_map P P' Q Q' (Err e) h f g = g e h
 

@@ -23,10 +23,14 @@ module _ {N : Type 0} (xs : List (Vec N)) (x : Vec N) (k : ℕ) (count : length 
   pub wide_rest : AreWide (xs ++ (x ∷ [])) (k + 1) (k + 1) → AreWide xs (k + 1) k
   wide_rest h = record { wide = λ i d b. subst (λ t. k + 1 ≤ length t.items + (i + 1)) (get_rest xs x d k i count b) (h.wide i d (omega (arith, b))) }
 
-  module _ {D : ℕ} (m : ℕ) (value : N → Ratio) (rows : List (Row N D)) (row : Row N D) (row_count : length rows ≡ k) (l : Level) (h : AreLines m value (xs ++ (x ∷ [])) (rows ++ (row ∷ [])) l (k + 1) (k + 1)) where
+  module _ {D : ℕ} (m : ℕ) (value : N → Ratio) (rows : List (Row N D)) (row : Row N D) (row_count : length rows ≡ k) (l : Level)
+      (h : AreLines m value (xs ++ (x ∷ [])) (rows ++ (row ∷ [])) l (k + 1) (k + 1)) where
     pub lines_rest : AreLines m value xs rows l (k + 1) k
     lines_rest = record {
-      weights = record { has = λ i d b. subst (λ t. IsUpperWeights m value t.items l (k + 1) i) (get_rest xs x d k i count b) (h.weights.has i d (omega (arith, b))) };
+      weights = record {
+        has = λ i d b. subst (λ t. IsUpperWeights m value t.items l (k + 1) i) (get_rest xs x d k i count b)
+            (h.weights.has i d (omega (arith, b)));
+      };
       sums = record { has = λ i d b. subst (λ t. IsRow m value t (l.b i)) (get_rest rows row d k i row_count b) (h.sums.has i d (omega (arith, b))) };
     }
 
@@ -34,10 +38,12 @@ module _ {N : Type 0} (xs : List (Vec N)) (x : Vec N) (k : ℕ) (count : length 
     row_last = subst (λ t. IsRow m value t (l.b k)) (get_last rows row row k row_count) (h.sums.has k row (omega arith))
 
 -- equal weights and sums have the same values
-pub lines_at : {N : Type 0} {D : ℕ} (m : ℕ) (value : N → Ratio) {xs ys : List (Vec N)} {rows others : List (Row N D)} (l : Level) (n count : ℕ) → xs ≡ ys → rows ≡ others → AreLines m value xs rows l n count → AreLines m value ys others l n count
+pub lines_at : {N : Type 0} {D : ℕ} (m : ℕ) (value : N → Ratio) {xs ys : List (Vec N)} {rows others : List (Row N D)} (l : Level) (n count : ℕ) → xs ≡ ys
+    → rows ≡ others → AreLines m value xs rows l n count → AreLines m value ys others l n count
 lines_at m value {xs} {ys} {rows} {others} l n count e f h = subst (λ r. AreLines m value ys r l n count) f (subst (λ t. AreLines m value t rows l n count) e h)
 
-pub last_line_at : {N : Type 0} {D : ℕ} (m : ℕ) (value : N → Ratio) {xs ys : List (Joined N)} (row : Row N D) (l : Level) (k : ℕ) → xs ≡ ys → IsLastLine m value xs row l k → IsLastLine m value ys row l k
+pub last_line_at : {N : Type 0} {D : ℕ} (m : ℕ) (value : N → Ratio) {xs ys : List (Joined N)} (row : Row N D) (l : Level) (k : ℕ) → xs ≡ ys
+    → IsLastLine m value xs row l k → IsLastLine m value ys row l k
 last_line_at m value row l k e h = subst (λ t. IsLastLine m value t row l k) e h
 
 -- k is k - 1 and one more
@@ -50,7 +56,8 @@ symmetric_before m k e l h = subst (IsSymmetric m l) (again k e) h
 
 -- what is known of the first k lines and rows, said of k - 1 and one more
 module _ {N : Type 0} {D : ℕ} (m : ℕ) (value : N → Ratio) (k : ℕ) (e : k ≡ suc (k - 1)) where
-  pub lines_before : (xs : List (Vec N)) (rows : List (Row N D)) (l : Level) → AreLines m value xs rows l k k → AreLines m value xs rows l (k - 1 + 1) (k - 1 + 1)
+  pub lines_before : (xs : List (Vec N)) (rows : List (Row N D)) (l : Level) → AreLines m value xs rows l k k
+      → AreLines m value xs rows l (k - 1 + 1) (k - 1 + 1)
   lines_before xs rows l h = subst (λ q. AreLines m value xs rows l q q) (again k e) h
 
   pub rows_before : (rows : List (Row N D)) (p : ℕ → ℕ → Ratio) → AreRowsOfValues m value rows p (k - 1 + 1) → AreRowsOfValues m value rows p k

@@ -11,7 +11,8 @@ use Rattle.elimination.specs.Lines.{IsRow, AreRowsOfValues}
 use Rattle.elimination.specs.Rows.{value_in, row_part}
 
 -- part c of a row has the value b c
-pub part_has : {N : Type 0} {D : ℕ} (m : ℕ) (value : N → Ratio) (r : Row N D) (b : ℕ → Ratio) → IsRow m value r b → (D ≡ 2) ⊎ (D ≡ 3) → (c : ℕ) → c < D → HasValue m (row_part value r c) (b c)
+pub part_has : {N : Type 0} {D : ℕ} (m : ℕ) (value : N → Ratio) (r : Row N D) (b : ℕ → Ratio) → IsRow m value r b → (D ≡ 2) ⊎ (D ≡ 3) → (c : ℕ) → c < D
+    → HasValue m (row_part value r c) (b c)
 part_has {D = D} m value r b h d zero l = h.first
 part_has {D = D} m value r b h d (suc zero) l = h.second
 part_has {D = D} m value r b h d (suc (suc zero)) l = h.third (⊎_elim (λ (e : D ≡ 2). absurd (omega (arith, l, e))) (λ (e : D ≡ 3). e) d)
@@ -31,7 +32,8 @@ module _ {N : Type 0} {D : ℕ} (m : ℕ) (value : N → Ratio) (denominator : (
         (λ h. let f = q.0 in let l = q.1 in let m = h.0 in absurd (omega (arith, f, l, m, count))) (slice_get_cases rows (u - 1)).1
 
     -- the value at vertex u is that of its row
-    pub value_has : (p : ℕ → ℕ → Ratio) → AreRowsOfValues m value rows p G.vertices → (u c : ℕ) → IsQuotientVertex G u → c < G.dimension → HasValue m (value_in value rows u c) (p (u - 1) c)
+    pub value_has : (p : ℕ → ℕ → Ratio) → AreRowsOfValues m value rows p G.vertices → (u c : ℕ) → IsQuotientVertex G u → c < G.dimension
+        → HasValue m (value_in value rows u c) (p (u - 1) c)
     value_has p like u c q l =
         let r = row_of u q in
         let row = subst (λ t. IsRow m value t (p (u - 1))) r.2 (like.has (u - 1) r.0 (let f = q.0 in let n = q.1 in omega arith)) in

@@ -22,12 +22,15 @@ inverses_any m zero w b b' h = tt
 inverses_any m (suc k) w b b' h = (h.0, inverses_any m k _ _ _ h.1)
 
 -- so where the numbers of the graph are good, no weight sum lacks an inverse, whatever the right-hand rows are
-pub never_without : {N : Type 0} {D : ℕ} (m : ℕ) (value : N → Ratio) (fits : Ratio → Type 0) (G : Graph) (right : List (Row N D)) → AreGood m fits (listed_numbers G)
+pub never_without : {N : Type 0} {D : ℕ} (m : ℕ) (value : N → Ratio) (fits : Ratio → Type 0) (G : Graph) (right : List (Row N D))
+    → AreGood m fits (listed_numbers G)
     → (e : SolveFault N) → IsFault m fits value (listed_with value G right) e → IsNotNoInverse e
 never_without m value fits G right good (WideAt at w) h = tt
 never_without m value fits G right good NoMemory h = tt
 never_without m value fits G right good (NoInverse pivot d) h =
     let level = level_with G (right_values value right) in
-    let inverses = inverses_any m (G.vertices - 1) (start_level G).w (start_level G).b level.b (good_inverses m fits G.dimension (G.vertices - 1) (start_level G) good) in
-    let stands = subst (λ xs. Contains xs h.entry) (sym h.first.split) (Contains-append_right h.first.before (h.entry ∷ h.first.after) h.entry (0, (let l : 0 < suc (length h.first.after) = omega arith in l), refl)) in
+    let inverses = inverses_any m (G.vertices - 1) (start_level G).w (start_level G).b level.b
+    (good_inverses m fits G.dimension (G.vertices - 1) (start_level G) good) in
+    let stands = subst (λ xs. Contains xs h.entry) (sym h.first.split) (Contains-append_right h.first.before (h.entry ∷ h.first.after) h.entry
+    (0, (let l : 0 < suc (length h.first.after) = omega arith in l), refl)) in
     h.none (All-contains (CanDivide m) (listed_with value G right) h.entry (all_divide m G.dimension (G.vertices - 1) level inverses) stands h.op)

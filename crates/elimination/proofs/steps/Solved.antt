@@ -57,7 +57,8 @@ module _ (m : ℕ) (fits : Ratio → Type 0) (G : Graph) (g : IsGraph G) (good :
     places j = stand m c (kept G p) (kept_cancels m G p denominators) (j + 1)
 
     -- where the gains of its arcs add up to 0, vertex j + 1 is at its mean
-    mean_at : (j : ℕ) → sum_over (values m) (gain m c (kept G p) (kept_cancels m G p denominators)) (arcs_from G (j + 1)) ≡ whole_value m (pos 0) → IsAtMean m G c p (j + 1)
+    mean_at : (j : ℕ) → sum_over (values m) (gain m c (kept G p) (kept_cancels m G p denominators)) (arcs_from G (j + 1)) ≡ whole_value m (pos 0)
+        → IsAtMean m G c p (j + 1)
     mean_at j e = mean_from_kept m G g c p (j + 1) (mean_of_gains m c (kept G p) (kept_cancels m G p denominators) G (j + 1) e)
 
     -- a solution meets the weighted equations
@@ -69,25 +70,30 @@ module _ (m : ℕ) (fits : Ratio → Type 0) (G : Graph) (g : IsGraph G) (good :
     -- and has vertex 1 at 0
     solution_origin : IsSolution m G c p → places 0 ≡ class m (whole (pos 0)) one_cancels
     solution_origin s =
-        class_same m (kept G p 1) (whole (pos 0)) (kept_cancels m G p denominators 1) one_cancels (subst (λ t. Same m t (whole (pos 0))) (sym (kept_is G p 1 (vertex 0 g.vertices))) s.origin)
+        class_same m (kept G p 1) (whole (pos 0)) (kept_cancels m G p denominators 1) one_cancels
+        (subst (λ t. Same m t (whole (pos 0))) (sym (kept_is G p 1 (vertex 0 g.vertices))) s.origin)
 
     module _ (like : (u : ℕ) → IsQuotientVertex G u → HasValue m (p u) (position_up_to (G.vertices - 1) (start_level G) (u - 1) c)) where
       -- the values are those of the listed positions
-      listed_places : (j : ℕ) → j < suc (G.vertices - 1) → places j ≡ class m (position_up_to (G.vertices - 1) (start_level G) j c) (position_cancels m (G.vertices - 1) (start_level G) (start_is_level m G) inverses j c)
+      listed_places : (j : ℕ) → j < suc (G.vertices - 1) → places j ≡ class m (position_up_to (G.vertices - 1) (start_level G) j c)
+          (position_cancels m (G.vertices - 1) (start_level G) (start_is_level m G) inverses j c)
       listed_places j l =
           let listed = position_up_to (G.vertices - 1) (start_level G) in
           let v = vertex j (omega (arith, all_vertices)) in
           let back : j + 1 - 1 ≡ j = omega arith in
           let same = subst (λ i. Same m (p (j + 1)) (listed i c)) back (like (j + 1) v).same in
-          class_same m (kept G p (j + 1)) (listed j c) (kept_cancels m G p denominators (j + 1)) _ (subst (λ t. Same m t (listed j c)) (sym (kept_is G p (j + 1) v)) same)
+          class_same m (kept G p (j + 1)) (listed j c) (kept_cancels m G p denominators (j + 1)) _
+          (subst (λ t. Same m t (listed j c)) (sym (kept_is G p (j + 1) v)) same)
 
       -- so they meet the weighted equations
       places_solve : SolvesWeights (values m) G.vertices (weight m G g) (shifts m G g c) places
       places_solve = subst (λ n. SolvesWeights (values m) n (weight m G g) (shifts m G g c) places) all_vertices
-          (positions_solve m (G.vertices - 1) (start_level G) (start_is_level m G) (weight m G g) start_weights inverses c (shifts m G g c) start_sums places listed_places)
+          (positions_solve m (G.vertices - 1) (start_level G) (start_is_level m G) (weight m G g) start_weights inverses c
+          (shifts m G g c) start_sums places listed_places)
 
       -- and the gains of the arcs of each vertex but the first add up to 0
-      no_gains : (j : ℕ) → 0 < j → j < G.vertices → sum_over (values m) (gain m c (kept G p) (kept_cancels m G p denominators)) (arcs_from G (j + 1)) ≡ whole_value m (pos 0)
+      no_gains : (j : ℕ) → 0 < j → j < G.vertices → sum_over (values m) (gain m c (kept G p) (kept_cancels m G p denominators))
+          (arcs_from G (j + 1)) ≡ whole_value m (pos 0)
       no_gains j u v = gains_of_weights m G g c (kept G p) (kept_cancels m G p denominators) j (places_solve j u v)
 
       -- each vertex but the first is at its mean
@@ -104,18 +110,25 @@ module _ (m : ℕ) (fits : Ratio → Type 0) (G : Graph) (g : IsGraph G) (good :
 
   -- values of the listed positions solve the mean equations, and put vertex 1 at its mean
   pub solved : (p : ℕ → Ratio) → ((u : ℕ) → IsQuotientVertex G u → IsDenominator m (p u).den)
-      → ((u : ℕ) → IsQuotientVertex G u → HasValue m (p u) (position_up_to (G.vertices - 1) (start_level G) (u - 1) c)) → IsSolution m G c p × IsAtMean m G c p 1
-  solved p denominators like = (record { denominators = denominators; origin = origin_at p denominators like; means = means_at p denominators like }, first_mean p denominators like)
+      → ((u : ℕ) → IsQuotientVertex G u → HasValue m (p u) (position_up_to (G.vertices - 1) (start_level G) (u - 1) c))
+      → IsSolution m G c p × IsAtMean m G c p 1
+  solved p denominators like = (
+    record { denominators = denominators; origin = origin_at p denominators like; means = means_at p denominators like },
+    first_mean p denominators like,
+  )
 
   -- there is no other solution
   pub only : IsOnlySolution m G c
   only p q s t u v =
       let places_p = places p s.denominators in
       let places_q = places q t.denominators in
-      let up_to_last = λ (r : ℕ → Value m) (h : SolvesWeights (values m) G.vertices (weight m G g) (shifts m G g c) r). subst (λ n. SolvesWeights (values m) n (weight m G g) (shifts m G g c) r) (sym all_vertices) h in
+      let up_to_last = λ (r : ℕ → Value m) (h : SolvesWeights (values m) G.vertices (weight m G g) (shifts m G g c) r). subst
+      (λ n. SolvesWeights (values m) n (weight m G g) (shifts m G g c) r) (sym all_vertices) h in
       let pivots = all_pivots m (G.vertices - 1) (start_level G) (start_is_level m G) (weight m G g) start_weights inverses in
-      let equal = unique (values m) (G.vertices - 1) (weight m G g) (shifts m G g c) places_p places_q pivots (up_to_last places_p (solution_by_weights p s.denominators s))
+      let equal = unique (values m) (G.vertices - 1) (weight m G g) (shifts m G g c) places_p places_q pivots
+      (up_to_last places_p (solution_by_weights p s.denominators s))
       (up_to_last places_q (solution_by_weights q t.denominators t)) (solution_origin p s.denominators s ∙ sym (solution_origin q t.denominators t)) in
       let place : u - 1 < suc (G.vertices - 1) = let first = v.0 in let last = v.1 in omega arith in
       from_one (λ w. IsQuotientVertex G w → Same m (p w) (q w)) u v.0
-      (λ w. same_from_kept m G p q (u - 1 + 1) w (same_of_class m _ _ (kept_cancels m G p s.denominators (u - 1 + 1)) (kept_cancels m G q t.denominators (u - 1 + 1)) (equal (u - 1) place))) v
+      (λ w. same_from_kept m G p q (u - 1 + 1) w (same_of_class m _ _ (kept_cancels m G p s.denominators (u - 1 + 1))
+      (kept_cancels m G q t.denominators (u - 1 + 1)) (equal (u - 1) place))) v

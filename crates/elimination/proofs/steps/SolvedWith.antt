@@ -80,19 +80,23 @@ module _ (m : ℕ) (fits : Ratio → Type 0) (G : Graph) (g : IsGraph G) (right 
       solution_by_weights : IsSolutionWith m G (λ u. right u c) p → SolvesWeights (values m) G.vertices (weight m G g) parts places
       solution_by_weights s i l h =
           weights_of_differences m (kept G p) (kept_cancels m G p denominators) G g parts i
-          (of_balance m (kept G p) (kept_cancels m G p denominators) G (λ u. right u c) (λ u. k u c) (i + 1) (kept_balance m G g (λ u. right u c) p (i + 1) (s.balanced (i + 1) (vertex i h) (omega arith))))
+          (of_balance m (kept G p) (kept_cancels m G p denominators) G (λ u. right u c) (λ u. k u c) (i + 1)
+          (kept_balance m G g (λ u. right u c) p (i + 1) (s.balanced (i + 1) (vertex i h) (omega arith))))
 
       solution_origin : IsSolutionWith m G (λ u. right u c) p → places 0 ≡ class m (whole (pos 0)) one_cancels
       solution_origin s =
-          class_same m (kept G p 1) (whole (pos 0)) (kept_cancels m G p denominators 1) one_cancels (subst (λ t. Same m t (whole (pos 0))) (sym (kept_is G p 1 (vertex 0 g.vertices))) s.origin)
+          class_same m (kept G p 1) (whole (pos 0)) (kept_cancels m G p denominators 1) one_cancels
+          (subst (λ t. Same m t (whole (pos 0))) (sym (kept_is G p 1 (vertex 0 g.vertices))) s.origin)
 
       module _ (like : (u : ℕ) → IsQuotientVertex G u → HasValue m (p u) (position_up_to (G.vertices - 1) level (u - 1) c)) where
-        listed_places : (j : ℕ) → j < suc (G.vertices - 1) → places j ≡ class m (position_up_to (G.vertices - 1) level j c) (position_cancels m (G.vertices - 1) level is_level inverses j c)
+        listed_places : (j : ℕ) → j < suc (G.vertices - 1) → places j ≡ class m (position_up_to (G.vertices - 1) level j c)
+            (position_cancels m (G.vertices - 1) level is_level inverses j c)
         listed_places j l =
             let v = vertex j (omega (arith, all_vertices)) in
             let back : j + 1 - 1 ≡ j = omega arith in
             let same = subst (λ i. Same m (p (j + 1)) (position_up_to (G.vertices - 1) level i c)) back (like (j + 1) v).same in
-            class_same m (kept G p (j + 1)) (position_up_to (G.vertices - 1) level j c) (kept_cancels m G p denominators (j + 1)) _ (subst (λ t. Same m t (position_up_to (G.vertices - 1) level j c)) (sym (kept_is G p (j + 1) v)) same)
+            class_same m (kept G p (j + 1)) (position_up_to (G.vertices - 1) level j c) (kept_cancels m G p denominators (j + 1)) _
+            (subst (λ t. Same m t (position_up_to (G.vertices - 1) level j c)) (sym (kept_is G p (j + 1) v)) same)
 
         places_solve : SolvesWeights (values m) G.vertices (weight m G g) parts places
         places_solve = subst (λ n. SolvesWeights (values m) n (weight m G g) parts places) all_vertices
@@ -109,7 +113,8 @@ module _ (m : ℕ) (fits : Ratio → Type 0) (G : Graph) (g : IsGraph G) (right 
             (to_balance m (kept G p) (kept_cancels m G p denominators) G (λ u. right u c) (λ u. k u c) 1
             (first_balance m (kept G p) (kept_cancels m G p denominators) G g parts
             (λ j u v. differences_of_weights m (kept G p) (kept_cancels m G p denominators) G g parts j (places_solve j u v))
-            (total_class m (λ u. right u c) (λ u. k u c) G.vertices ∙ class_same m (ratio_total G.vertices (λ u. right u c)) (whole (pos 0)) _ one_cancels e ∙ sym (class_whole m (pos 0) one_cancels))))
+            (total_class m (λ u. right u c) (λ u. k u c) G.vertices ∙ class_same m (ratio_total G.vertices (λ u. right u c)) (whole (pos 0)) _ one_cancels e
+            ∙ sym (class_whole m (pos 0) one_cancels))))
 
         origin_at : Same m (p 1) (whole (pos 0))
         origin_at = subst (Same m (p 1)) (position_origin (G.vertices - 1) level c) (like 1 (vertex 0 g.vertices)).same
@@ -120,7 +125,8 @@ module _ (m : ℕ) (fits : Ratio → Type 0) (G : Graph) (g : IsGraph G) (right 
     solved_with p denominators like = record {
       denominators = denominators;
       origin = origin_at p denominators like;
-      balanced = λ u v l. from_one (IsBalanced m G (λ u. right u c) p) u v.0 (balanced_at p denominators like (u - 1) (omega arith) (let w = v.1 in omega arith));
+      balanced = λ u v l. from_one (IsBalanced m G (λ u. right u c) p) u v.0
+          (balanced_at p denominators like (u - 1) (omega arith) (let w = v.1 in omega arith));
     }
 
     -- and the equation of vertex 1, where the right-hand parts add up to 0
@@ -134,10 +140,13 @@ module _ (m : ℕ) (fits : Ratio → Type 0) (G : Graph) (g : IsGraph G) (right 
     only_with p q s t u v =
         let places_p = places p s.denominators in
         let places_q = places q t.denominators in
-        let up_to_last = λ (r : ℕ → Value m) (h : SolvesWeights (values m) G.vertices (weight m G g) parts r). subst (λ n. SolvesWeights (values m) n (weight m G g) parts r) (sym all_vertices) h in
+        let up_to_last = λ (r : ℕ → Value m) (h : SolvesWeights (values m) G.vertices (weight m G g) parts r). subst
+        (λ n. SolvesWeights (values m) n (weight m G g) parts r) (sym all_vertices) h in
         let pivots = all_pivots m (G.vertices - 1) level is_level (weight m G g) level_weights inverses in
-        let equal = unique (values m) (G.vertices - 1) (weight m G g) parts places_p places_q pivots (up_to_last places_p (solution_by_weights p s.denominators s))
+        let equal = unique (values m) (G.vertices - 1) (weight m G g) parts places_p places_q pivots
+        (up_to_last places_p (solution_by_weights p s.denominators s))
         (up_to_last places_q (solution_by_weights q t.denominators t)) (solution_origin p s.denominators s ∙ sym (solution_origin q t.denominators t)) in
         let place : u - 1 < suc (G.vertices - 1) = let first = v.0 in let last = v.1 in omega arith in
         from_one (λ w. IsQuotientVertex G w → Same m (p w) (q w)) u v.0
-        (λ w. same_from_kept m G p q (u - 1 + 1) w (same_of_class m _ _ (kept_cancels m G p s.denominators (u - 1 + 1)) (kept_cancels m G q t.denominators (u - 1 + 1)) (equal (u - 1) place))) v
+        (λ w. same_from_kept m G p q (u - 1 + 1) w (same_of_class m _ _ (kept_cancels m G p s.denominators (u - 1 + 1))
+        (kept_cancels m G q t.denominators (u - 1 + 1)) (equal (u - 1) place))) v

@@ -18,7 +18,8 @@ use Rattle.elimination.proofs.steps.Solved.{solved, only}
 use Rattle.elimination.proofs.inverses.Positive.{never_without_inverse}
 
 module _ {N : Type 0} {D : ℕ} (m : ℕ) (value : N → Ratio) (denominator : (x : N) → IsDenominator m (value x).den) where
-  module _ (fits : Ratio → Type 0) (G : Graph) (g : IsGraph G) (d : G.dimension ≡ D) (good : AreGood m fits (listed_numbers G)) (rows : List (Row N D)) (count : length rows ≡ G.vertices)
+  module _ (fits : Ratio → Type 0) (G : Graph) (g : IsGraph G) (d : G.dimension ≡ D) (good : AreGood m fits (listed_numbers G)) (rows : List (Row N D))
+      (count : length rows ≡ G.vertices)
       (like : AreRowsOfValues m value rows (position_up_to (G.vertices - 1) (start_level G)) G.vertices) where
     -- the rows solve the mean equations
     pub solve_all : SolveAll m value G rows
@@ -34,8 +35,10 @@ pub solve_only : (m : ℕ) (fits : Ratio → Type 0) (G : Graph) → IsGraph G �
 solve_only m fits G g good c l = only m fits G g good c
 
 -- among fractions no weight sum of a connected quotient graph lacks an inverse
-pub has_inverses : {N : Type 0} (value : N → Ratio) (fits : Ratio → Type 0) (G : Graph) → IsGraph G → HasConnectedQuotient G → (e : SolveFault N) → IsFault 0 fits value (listed_numbers G) e → IsNotNoInverse e
+pub has_inverses : {N : Type 0} (value : N → Ratio) (fits : Ratio → Type 0) (G : Graph) → IsGraph G → HasConnectedQuotient G → (e : SolveFault N)
+    → IsFault 0 fits value (listed_numbers G) e → IsNotNoInverse e
 has_inverses value fits G g connected (WideAt at w) h = tt
 has_inverses value fits G g connected NoMemory h = tt
 has_inverses value fits G g connected (NoInverse pivot d) h =
-    h.none (never_without_inverse G g connected h.entry (subst (λ xs. Contains xs h.entry) (sym h.first.split) (Contains-append_right h.first.before (h.entry ∷ h.first.after) h.entry (0, (let l : 0 < suc (length h.first.after) = omega arith in l), refl))) h.op)
+    h.none (never_without_inverse G g connected h.entry (subst (λ xs. Contains xs h.entry) (sym h.first.split)
+    (Contains-append_right h.first.before (h.entry ∷ h.first.after) h.entry (0, (let l : 0 < suc (length h.first.after) = omega arith in l), refl))) h.op)

@@ -49,7 +49,8 @@ counts_turned (e ∷ es) u v =
 pub start_symmetric : (m : ℕ) (G : Graph) (b : ℕ → ℕ → Ratio) (n : ℕ) → IsSymmetric m (level_with G b) n
 start_symmetric m G b n = record {
   has = λ i j p q o. record {
-    same = subst (λ c. Same m (whole (pos (arc_count G (i + 1) (j + 1)))) (whole (pos c))) (counts_turned G.edges (i + 1) (j + 1)) (same_refl (whole (pos (arc_count G (i + 1) (j + 1)))));
+    same = subst (λ c. Same m (whole (pos (arc_count G (i + 1) (j + 1)))) (whole (pos c))) (counts_turned G.edges (i + 1) (j + 1))
+        (same_refl (whole (pos (arc_count G (i + 1) (j + 1)))));
     denominator = one_cancels;
   };
 }

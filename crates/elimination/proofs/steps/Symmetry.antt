@@ -6,8 +6,10 @@ use Rattle.std.proofs.lemmas.List.Elements.{All-head, All-tail}
 use Rattle.integers.proofs.numbers.Ring.{ring, linear}
 use Rattle.exact.specs.Ratio.{Ratio, Same, HasInverse, inverse_of, ratio_times, ratio_over}
 use Rattle.exact.specs.Values.{CanCancel, HasValue}
-use Rattle.exact.proofs.CallerLemmas.{formal, same_refl, same_trans, plus_same, times_same, plus_cancels, times_cancels, over_cancels, inverse_denominator_cancels}
-use Rattle.elimination.specs.Listed.{Level, Entry, place, list_to, pivot_sum, factor, next_level, times_entry, plus_entry, term_entries, over_entry, weight_entry, shift_entry, row_entries}
+use Rattle.exact.proofs.CallerLemmas.{formal, same_refl, same_trans, plus_same, times_same, plus_cancels, times_cancels, over_cancels}
+use Rattle.exact.proofs.CallerLemmas.{inverse_denominator_cancels}
+use Rattle.elimination.specs.Listed.{Level, Entry, place, list_to, pivot_sum, factor, next_level, times_entry, plus_entry, term_entries, over_entry}
+use Rattle.elimination.specs.Listed.{weight_entry, shift_entry, row_entries}
 use Rattle.elimination.specs.Faults.{IsGood, AreGood}
 use Rattle.elimination.specs.Lines.{IsSymmetric}
 use Rattle.elimination.proofs.inverses.Inverses.{all_before, all_after}
@@ -24,10 +26,12 @@ turned_step an ad bn bd vn vd = simp ring (omega (arith, linear))
 
 turned_formal : (m : ℕ) (a v b : Ratio) → Same m (ratio_times (ratio_times a v) b) (ratio_times (ratio_times b v) a)
 unfolding ratio_times
-turned_formal m a v b = formal m _ _ _ _ (ratio_times (ratio_times a v) b) (ratio_times (ratio_times b v) a) refl refl refl refl (turned_step a.num (pos a.den) b.num (pos b.den) v.num (pos v.den))
+turned_formal m a v b = formal m _ _ _ _ (ratio_times (ratio_times a v) b) (ratio_times (ratio_times b v) a) refl refl refl refl
+    (turned_step a.num (pos a.den) b.num (pos b.den) v.num (pos v.den))
 
 -- (a·v)·b is (b'·v)·a' for the same values a and a', b and b'
-turned : {m : ℕ} (a a' v b b' : Ratio) → CanCancel m (pos v.den) → HasValue m a a' → HasValue m b b' → Same m (ratio_times (ratio_times a v) b) (ratio_times (ratio_times b' v) a')
+turned : {m : ℕ} (a a' v b b' : Ratio) → CanCancel m (pos v.den) → HasValue m a a' → HasValue m b b'
+    → Same m (ratio_times (ratio_times a v) b) (ratio_times (ratio_times b' v) a')
 turned {m} a a' v b b' c h i =
     same_trans (times_cancels (ratio_times a' v) b' (times_cancels a' v h.denominator c) i.denominator)
     (times_same (times_same h.same (same_refl v)) i.same) (turned_formal m a' v b')
@@ -37,10 +41,12 @@ module _ {m : ℕ} (l : Level) (k : ℕ) (s : IsSymmetric m l (k + 1)) (inverse 
   share_turned : Same m (ratio_times (factor l k i) (l.w k j)) (ratio_times (factor l k j) (l.w k i))
   unfolding ratio_over
   share_turned = turned (l.w i k) (l.w k i) (inverse_of (pivot_sum l k).num (pivot_sum l k).den) (l.w k j) (l.w j k)
-      (inverse_denominator_cancels (pivot_sum l k).num (pivot_sum l k).den inverse) (s.has i k (omega (arith, b)) (omega arith) (λ e. omega (arith, b, e))) (s.has k j (omega arith) (omega (arith, d)) (λ e. omega (arith, d, e)))
+      (inverse_denominator_cancels (pivot_sum l k).num (pivot_sum l k).den inverse) (s.has i k (omega (arith, b)) (omega arith) (λ e. omega (arith, b, e)))
+      (s.has k j (omega arith) (omega (arith, d)) (λ e. omega (arith, d, e)))
 
   share_cancels : CanCancel m (pos (ratio_times (factor l k j) (l.w k i)).den)
-  share_cancels = times_cancels (factor l k j) (l.w k i) (over_cancels (l.w j k) (pivot_sum l k) (s.has k j (omega arith) (omega (arith, d)) (λ e. omega (arith, d, e))).denominator inverse)
+  share_cancels = times_cancels (factor l k j) (l.w k i) (over_cancels (l.w j k) (pivot_sum l k)
+      (s.has k j (omega arith) (omega (arith, d)) (λ e. omega (arith, d, e))).denominator inverse)
       (s.has i k (omega (arith, b)) (omega arith) (λ e. omega (arith, b, e))).denominator
 
   next_has : i ≢ j → HasValue m ((next_level k l).w i j) ((next_level k l).w j i)
@@ -53,7 +59,8 @@ pub next_symmetric : {m : ℕ} (l : Level) (k : ℕ) → IsSymmetric m l (k + 1)
 next_symmetric l k s inverse = record { has = λ i j b d o. next_has l k s inverse i j b d o }
 
 -- so it is where the numbers of the level are good
-pub level_symmetric : (m : ℕ) (fits : Ratio → Type 0) (D : ℕ) (l : Level) (k : ℕ) → IsSymmetric m l (k + 1) → AreGood m fits (list_to k (row_entries D l k)) → IsSymmetric m (next_level k l) k
+pub level_symmetric : (m : ℕ) (fits : Ratio → Type 0) (D : ℕ) (l : Level) (k : ℕ) → IsSymmetric m l (k + 1) → AreGood m fits (list_to k (row_entries D l k))
+    → IsSymmetric m (next_level k l) k
 level_symmetric m fits D l zero s h = record { has = λ i j b d o. absurd (omega (arith, b)) }
 level_symmetric m fits D l (suc k) s h = next_symmetric l (suc k) s (pivot_inverse m fits D (suc k) l (suc k) h (omega arith))
 
@@ -66,23 +73,28 @@ pub good_part : {m : ℕ} {fits : Ratio → Type 0} (f : ℕ → List Entry) (n 
 good_part f zero j h b = absurd (omega arith)
 good_part {m} {fits} f (suc n) j h b = ⊎_elim
     (λ (r : j < n). good_part f n j (record { all = all_before (IsGood m fits) (list_to n f) (f n) h.all }) r)
-    (λ r. let e : n ≡ j = omega (arith, b, r) in subst (λ q. AreGood m fits (f q)) e (record { all = all_after (IsGood m fits) (list_to n f) (f n) h.all })) (cases_lt j n)
+    (λ r. let e : n ≡ j = omega (arith, b, r) in subst (λ q. AreGood m fits (f q)) e (record { all = all_after (IsGood m fits) (list_to n f) (f n) h.all }))
+    (cases_lt j n)
 
-module _ {N : Type 0} {m : ℕ} {value : N → Ratio} {fits : Ratio → Type 0} (laws : Laws m value fits) (D : ℕ) (l : Level) (k i : ℕ) (b : i < k) (s : IsSymmetric m l (k + 1)) where
+module _ {N : Type 0} {m : ℕ} {value : N → Ratio} {fits : Ratio → Type 0} (laws : Laws m value fits) (D : ℕ) (l : Level) (k i : ℕ) (b : i < k)
+    (s : IsSymmetric m l (k + 1)) where
   -- the numbers of i and j are good where those of j and i are
   entry_turned : HasInverse m (pivot_sum l k) → (j : ℕ) → j < i → AreGood m fits (weight_entry l k j i) → AreGood m fits (weight_entry l k i j)
   entry_turned inverse j d h =
       let below : j < k = omega (arith, b, d) in
-      let terms = subst (λ t. AreGood m fits (if t then [] else term_entries (place 3 (k + 1) (j + 1) (i + 1) 0) (place 4 (k + 1) (j + 1) (i + 1) 0) (l.w j i) (factor l k j) (l.w k i))) (ne_eqb i j (λ e. omega (arith, d, e))) h in
+      let terms = subst (λ t. AreGood m fits (if t then [] else term_entries (place 3 (k + 1) (j + 1) (i + 1) 0) (place 4 (k + 1) (j + 1) (i + 1) 0) (l.w j i)
+      (factor l k j) (l.w k i))) (ne_eqb i j (λ e. omega (arith, d, e))) h in
       let product = times_entry (place 3 (k + 1) (j + 1) (i + 1) 0) (factor l k j) (l.w k i) in
       let sum = plus_entry (place 4 (k + 1) (j + 1) (i + 1) 0) (l.w j i) (ratio_times (factor l k j) (l.w k i)) in
       let fit = (All-head (IsGood m fits) product (sum ∷ []) terms.all).fit in
       let sum_fit = (All-head (IsGood m fits) sum [] (All-tail (IsGood m fits) product (sum ∷ []) terms.all)).fit in
       let mine = next_has l k s inverse j i below b (λ e. omega (arith, d, e)) in
       let other = next_has l k s inverse i j b below (λ e. omega (arith, d, e)) in
-      subst (λ t. AreGood m fits (if t then [] else term_entries (place 3 (k + 1) (i + 1) (j + 1) 0) (place 4 (k + 1) (i + 1) (j + 1) 0) (l.w i j) (factor l k i) (l.w k j))) (sym (ne_eqb j i (λ e. omega (arith, d, e))))
+      subst (λ t. AreGood m fits (if t then [] else term_entries (place 3 (k + 1) (i + 1) (j + 1) 0) (place 4 (k + 1) (i + 1) (j + 1) 0) (l.w i j)
+      (factor l k i) (l.w k j))) (sym (ne_eqb j i (λ e. omega (arith, d, e))))
       (terms_good laws (place 3 (k + 1) (i + 1) (j + 1) 0) (place 4 (k + 1) (i + 1) (j + 1) 0) (l.w i j) (factor l k i) (l.w k j)
-      (fits_too laws (ratio_times (factor l k j) (l.w k i)) (ratio_times (factor l k i) (l.w k j)) (share_cancels l k s inverse i j b below) (share_cancels l k s inverse j i below b) (share_turned l k s inverse j i below b) fit)
+      (fits_too laws (ratio_times (factor l k j) (l.w k i)) (ratio_times (factor l k i) (l.w k j)) (share_cancels l k s inverse i j b below)
+      (share_cancels l k s inverse j i below b) (share_turned l k s inverse j i below b) fit)
       (fits_too laws ((next_level k l).w j i) ((next_level k l).w i j) other.denominator mine.denominator mine.same sum_fit))
 
   -- the numbers of i and the vertices before it are good where those of these vertices are
@@ -94,7 +106,8 @@ module _ {N : Type 0} {m : ℕ} {value : N → Ratio} {fits : Ratio → Type 0} 
           let row = good_part (row_entries D l k) i n good c in
           let over = over_entry (place 2 (k + 1) (n + 1) 0 0) (l.w n k) (pivot_sum l k) in
           let rest = All-tail (IsGood m fits) over (list_to k (weight_entry l k n) ++ list_to D (shift_entry l k n)) row.all in
-          good_part (weight_entry l k n) k i (record { all = all_before (IsGood m fits) (list_to k (weight_entry l k n)) (list_to D (shift_entry l k n)) rest }) b
+          good_part (weight_entry l k n) k i
+          (record { all = all_before (IsGood m fits) (list_to k (weight_entry l k n)) (list_to D (shift_entry l k n)) rest }) b
 
       up_to : (n : ℕ) → n ≤ i → AreGood m fits (list_to n (weight_entry l k i))
       up_to zero c = good_none

@@ -27,11 +27,13 @@ divides_or_not (suc m) z = by (divided (suc m) (omega arith) z)
       where
         nothing_left : (x : ℤ) → pos 0 +ℤ x ≡ x
         nothing_left x = omega (arith, linear)
-    by (suc r, k, l, e) = inr (λ d. let z : suc r ≡ 0 = small_multiple (suc m) (suc r) l (_, left_multiple (pos (suc m)) (pos (suc r)) k d.0 z e d.1) in omega arith)
+    by (suc r, k, l, e) = inr (λ d. let z : suc r ≡ 0 = small_multiple (suc m) (suc r) l (_, left_multiple (pos (suc m)) (pos (suc r)) k d.0 z e d.1) in
+        omega arith)
 
 -- so what is merely the same value is the same value
 pub same_of_mere : {m : ℕ} {a b : Ratio} → ∥ Same m a b ∥₁ → Same m a b
-same_of_mere {m} {a} {b} h = ⊎_elim (λ d. same_of d) (λ n. absurd (∥∥₁_elim h no_two (λ s. n (difference_multiple s)))) (divides_or_not m (a.num *ℤ pos b.den -ℤ b.num *ℤ pos a.den))
+same_of_mere {m} {a} {b} h = ⊎_elim (λ d. same_of d) (λ n. absurd (∥∥₁_elim h no_two (λ s. n (difference_multiple s))))
+    (divides_or_not m (a.num *ℤ pos b.den -ℤ b.num *ℤ pos a.den))
   where
     no_two : IsProp ⊥
     no_two x y = absurd x

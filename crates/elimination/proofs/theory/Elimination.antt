@@ -31,7 +31,8 @@ module _ (S : Semiring) where
       rw (e, f, h, times_plus) (simp (plus_assoc, plus_comm, plus_exchange S))
 
   -- the new weight sum of i is its old one, up to k, and g i times that of k
-  new_weight_sum : (k : ℕ) (g : ℕ → Carrier) (w : ℕ → ℕ → Carrier) (i : ℕ) → sum_below S k (next_weights k g w i) ≡ plus (sum_below S k (w i)) (times (g i) (sum_below S k (w k)))
+  new_weight_sum : (k : ℕ) (g : ℕ → Carrier) (w : ℕ → ℕ → Carrier) (i : ℕ)
+      → sum_below S k (next_weights k g w i) ≡ plus (sum_below S k (w i)) (times (g i) (sum_below S k (w k)))
   new_weight_sum k g w i = sum_plus S k (w i) (λ j. times (g i) (w k j)) ∙ ap (λ t. plus (sum_below S k (w i)) t) (sum_times S k (g i) (w k))
 
   -- each vertex below n but 0 meets its mean equation
@@ -46,14 +47,17 @@ module _ (S : Semiring) where
   -- and the other way
   with_own : (k : ℕ) (w : ℕ → ℕ → Carrier) (b p : ℕ → Carrier) → IsMean k w b p k → IsMean (suc k) w b p k
   with_own k w b p h =
-      swap_last S (sum_below S k (λ j. times (w k j) (p j))) (times (w k k) (p k)) (b k) ∙ ap (λ t. plus t (times (w k k) (p k))) h ∙ sym (plus_times S (sum_below S k (w k)) (w k k) (p k))
+      swap_last S (sum_below S k (λ j. times (w k j) (p j))) (times (w k k) (p k)) (b k) ∙ ap (λ t. plus t (times (w k k) (p k))) h
+      ∙ sym (plus_times S (sum_below S k (w k)) (w k k) (p k))
 
-  module _ (k : ℕ) (g : ℕ → Carrier) (w : ℕ → ℕ → Carrier) (b p : ℕ → Carrier) (mean : IsMean k w b p k) (i : ℕ) (factor : times (g i) (sum_below S k (w k)) ≡ w i k) where
+  module _ (k : ℕ) (g : ℕ → Carrier) (w : ℕ → ℕ → Carrier) (b p : ℕ → Carrier) (mean : IsMean k w b p k) (i : ℕ)
+      (factor : times (g i) (sum_below S k (w k)) ≡ w i k) where
     -- where k is at its mean, the left side of i stays
     lefts : plus (sum_below S k (λ j. times (next_weights k g w i j) (p j))) (next_parts k g b i) ≡ plus (sum_below S (suc k) (λ j. times (w i j) (p j))) (b i)
     lefts =
         left_side k g w b p i
-        ∙ ap (λ t. plus (plus (sum_below S k (λ j. times (w i j) (p j))) (b i)) t) (ap (times (g i)) mean ∙ sym (times_assoc (g i) (sum_below S k (w k)) (p k)) ∙ ap (λ t. times t (p k)) factor)
+        ∙ ap (λ t. plus (plus (sum_below S k (λ j. times (w i j) (p j))) (b i)) t)
+        (ap (times (g i)) mean ∙ sym (times_assoc (g i) (sum_below S k (w k)) (p k)) ∙ ap (λ t. times t (p k)) factor)
         ∙ swap_last S (sum_below S k (λ j. times (w i j) (p j))) (b i) (times (w i k) (p k))
 
     -- and so does the right side
@@ -77,7 +81,8 @@ module _ (S : Semiring) where
   abbrev pub ArePlaced : (k : ℕ) (w : ℕ → ℕ → Carrier) → (ℕ → Carrier) → AllPivots k w → (ℕ → Carrier) → Type 0
   ArePlaced zero w b d p = Unit {0}
   ArePlaced (suc k) w b d p =
-      IsMean (suc k) w b p (suc k) × ArePlaced k (next_weights (suc k) (λ i. d.0.over (w i (suc k))) w) (next_parts (suc k) (λ i. d.0.over (w i (suc k))) b) d.1 p
+      IsMean (suc k) w b p (suc k) × ArePlaced k (next_weights (suc k) (λ i. d.0.over (w i (suc k))) w)
+      (next_parts (suc k) (λ i. d.0.over (w i (suc k))) b) d.1 p
 
   -- then they meet their mean equations
   pub placed_solve : (k : ℕ) (w : ℕ → ℕ → Carrier) (b p : ℕ → Carrier) (d : AllPivots k w) → ArePlaced k w b d p → IsSolution (suc k) w b p
@@ -85,10 +90,12 @@ module _ (S : Semiring) where
   placed_solve (suc k) w b p d h i u l =
       let g : ℕ → Carrier = λ i. d.0.over (w i (suc k)) in
       let below = placed_solve k (next_weights (suc k) g w) (next_parts (suc k) g b) p d.1 h.1 in
-      ⊎_elim (λ v. more (suc k) g w b p h.0 i (d.0.divides (w i (suc k))) (below i u v)) (λ v. let z : i ≡ suc k = omega arith in rw z (with_own (suc k) w b p h.0)) (cases_lt i (suc k))
+      ⊎_elim (λ v. more (suc k) g w b p h.0 i (d.0.divides (w i (suc k))) (below i u v))
+      (λ v. let z : i ≡ suc k = omega arith in rw z (with_own (suc k) w b p h.0)) (cases_lt i (suc k))
 
   -- there is only one solution with a given position of vertex 0
-  pub unique : (k : ℕ) (w : ℕ → ℕ → Carrier) (b p q : ℕ → Carrier) → AllPivots k w → IsSolution (suc k) w b p → IsSolution (suc k) w b q → p 0 ≡ q 0 → (i : ℕ) → i < suc k → p i ≡ q i
+  pub unique : (k : ℕ) (w : ℕ → ℕ → Carrier) (b p q : ℕ → Carrier) → AllPivots k w → IsSolution (suc k) w b p → IsSolution (suc k) w b q → p 0 ≡ q 0 → (i : ℕ)
+      → i < suc k → p i ≡ q i
   unique zero w b p q a s t e i l = let z : i ≡ 0 = omega arith in rw z e
   unique (suc k) w b p q a s t e i l =
       let g : ℕ → Carrier = λ i. a.0.over (w i (suc k)) in

@@ -41,7 +41,8 @@ module _ (S : Semiring) where
   one_place : (n t : ℕ) (x : Carrier) → 1 ≤ t → t ≤ n → sum_below S n (at_number t x) ≡ x
   one_place zero t x h l = absurd (omega arith)
   one_place (suc n) t x h l = ⊎_elim
-      (λ (e : t ≡ n + 1). (λ i. plus (sum_noughts S n (at_number t x) (λ j u. cond-false (t == j + 1) x nought (ne_eqb t (j + 1) (λ q. omega arith))) i) (cond-true (t == n + 1) x nought (eq-eqb t (n + 1) e) i)) ∙ nought_plus S x)
+      (λ (e : t ≡ n + 1). (λ i. plus (sum_noughts S n (at_number t x) (λ j u. cond-false (t == j + 1) x nought (ne_eqb t (j + 1) (λ q. omega arith))) i)
+      (cond-true (t == n + 1) x nought (eq-eqb t (n + 1) e) i)) ∙ nought_plus S x)
       (λ ne. (λ i. plus (one_place n t x h (omega arith) i) (cond-false (t == n + 1) x nought (ne_eqb t (n + 1) ne) i)) ∙ plus_nought x) (cases_eq t (n + 1))
 
   -- the sums over the groups of a list together are the sum over the list

@@ -58,4 +58,5 @@ module _ (S : Semiring) where
   pub sum_first : (n : ℕ) (f : ℕ → Carrier) → 0 < n → ((j : ℕ) → 0 < j → j < n → f j ≡ nought) → sum_below n f ≡ f 0
   sum_first zero f l h = absurd (omega arith)
   sum_first (suc zero) f l h = nought_plus (f 0)
-  sum_first (suc (suc n)) f l h = ap (λ t. plus t (f (suc n))) (sum_first (suc n) f (omega arith) (λ j u v. h j u (omega arith))) ∙ ap (plus (f 0)) (h (suc n) (omega arith) (omega arith)) ∙ plus_nought (f 0)
+  sum_first (suc (suc n)) f l h = ap (λ t. plus t (f (suc n))) (sum_first (suc n) f (omega arith) (λ j u v. h j u (omega arith)))
+      ∙ ap (plus (f 0)) (h (suc n) (omega arith) (omega arith)) ∙ plus_nought (f 0)

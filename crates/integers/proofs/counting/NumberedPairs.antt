@@ -1,5 +1,5 @@
 -- Pairs are numbered by products: as many pairs as n times m.
-use Rattle.std.proofs.Common.{◌≡◌, ℕ, zero, suc, ◌+◌, ◌*◌, ◌/◌, ◌%◌, ◌<◌, ◌≤◌, ◌∙◌, refl, sym, ap, arith}
+use Rattle.std.proofs.Common.{◌≡◌, ℕ, ◌+◌, ◌*◌, ◌/◌, ◌%◌, ◌<◌, ◌≤◌, ◌∙◌, refl, sym, ap, arith}
 use Rattle.std.proofs.lemmas.Nat.{mul-add-lt, div_below, div-mul-add, mod-mul-add}
 use Rattle.integers.proofs.counting.Numbering.{Numbering, pair, Both, Each}
 
@@ -17,8 +17,7 @@ numbers_below n = record {
 
 -- what is below n·m shows that m is not 0
 second_positive : (i n m : ℕ) → i < n * m → 1 ≤ m
-second_positive i n zero l = absurd (omega arith)
-second_positive i n (suc m) l = omega arith
+second_positive i n m h = grind arith
 
 -- a quotient is below n
 quotient_below : (i n m : ℕ) → i < n * m → i / m < n
@@ -55,7 +54,8 @@ pairs P R Q S n m a b = record {
       let s = parts_same m (a.code t.left) (b.code t.right) (a.code u.left) (b.code u.right) (b.below t.right h.right) (b.below u.right k.right) e in
       record { left = a.same t.left u.left h.left k.left s.0; right = b.same t.right u.right h.right k.right s.1 };
   alike = λ t u h k r.
-      sum_turned (a.code t.left) (b.code t.right) (a.code u.left) (b.code u.right) m (a.alike t.left u.left h.left k.left r.left) (b.alike t.right u.right h.right k.right r.right);
+      sum_turned (a.code t.left) (b.code t.right) (a.code u.left) (b.code u.right) m (a.alike t.left u.left h.left k.left r.left)
+      (b.alike t.right u.right h.right k.right r.right);
   of = λ i. pair (a.of (i / m)) (b.of (i % m));
   is = λ i l. record { left = a.is (i / m) (quotient_below i n m l); right = b.is (i % m) (remainder_below i m (second_positive i n m l)) };
   again = λ i l.

@@ -1,11 +1,11 @@
 -- Lists in which nothing stands twice: also after their elements have changed places, and where numbers of them rise.
 use Rattle.std.proofs.Common.{◌≡◌, ◌≢◌, ◌⊎◌, inl, inr, ℕ, ◌<◌, Bool, true, ltb, ◌&&◌, List, [], ◌∷◌, length, get_or, map, refl, sym, ap, ◌∙◌, arith}
-use Rattle.std.proofs.lemmas.Bool.{cases_eq, cases_order, and_parts, ltb-true}
+use Rattle.std.proofs.lemmas.Bool.{cases_eq, and_parts, ltb-true}
 use Rattle.std.specs.List as lists
 use Rattle.std.specs.List.{AllPairs}
 use Rattle.std.specs.List.Sorted.{IsPermutation}
 use Rattle.std.proofs.lemmas.List.Sorted.{IsPermutation-keeps}
-use Rattle.integers.proofs.lists.Members.{IsIn, AreApart, apart_from_pairs, pairs_from_apart}
+use Rattle.integers.proofs.lists.Members.{IsIn, AreApart, pairs_from_apart}
 use Rattle.std.proofs.lemmas.List.Edits.{Swapped, swapped_from_swap, length-swap}
 
 -- two places that hold the same are one place
@@ -57,10 +57,7 @@ permuted_once xs ys p once = IsPermutation-keeps xs StandsOnce once swap_once ys
 
 -- std's `AllPairs` says the same
 once_from_pairs : {X : Type 0} (xs : List X) → AllPairs (λ x y. x ≢ y) xs → StandsOnce xs
-once_from_pairs xs apart i j d k m e = elim (cases_order i j) [
-  | inl q ↦ q
-  | inr r ↦ elim r [ inl l ↦ absurd (apart i j d l m e) | inr l ↦ absurd (apart j i d l k (sym e)) ]
-]
+once_from_pairs xs apart i j d k m e = grind arith
 
 -- and the other way
 pairs_from_once : {X : Type 0} (xs : List X) → StandsOnce xs → AllPairs (λ x y. x ≢ y) xs

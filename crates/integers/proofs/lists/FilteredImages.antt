@@ -22,4 +22,5 @@ images_more {X} f t xs i x l e p = images_of f t xs i x l e ∙ ap (λ (b : Bool
 -- one that does not
 pub images_same : {X Y : Type 0} (f : X → Y) (t : X → Bool) (xs : List X) (i : ℕ) (x : X) → i < length xs → get_or xs i x ≡ x → t x ≡ false
     → map f (filter t (take (i + 1) xs)) ≡ map f (filter t (take i xs))
-images_same {X} {Y} f t xs i x l e p = images_of f t xs i x l e ∙ ap (λ (b : Bool). map f (filter t (take i xs)) ++ map f (cond b (x ∷ []) [])) p ∙ append-nil (map f (filter t (take i xs)))
+images_same {X} {Y} f t xs i x l e p = images_of f t xs i x l e ∙ ap (λ (b : Bool). map f (filter t (take i xs)) ++ map f (cond b (x ∷ []) [])) p
+    ∙ append-nil (map f (filter t (take i xs)))

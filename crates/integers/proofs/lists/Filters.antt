@@ -18,7 +18,8 @@ pub in_filter : {X : Type 0} (t : X → Bool) (xs : List X) (x : X) → IsIn (fi
 in_filter t [] x h = elim h [ ]
 in_filter {X} t (y ∷ ys) x h = by (t y) refl h (λ k. in_filter t ys x k)
   where
-    by : (b : Bool) → t y ≡ b → IsIn (cond b (y ∷ filter t ys) (filter t ys)) x → (IsIn (filter t ys) x → IsIn ys x × (t x ≡ true)) → IsIn (y ∷ ys) x × (t x ≡ true)
+    by : (b : Bool) → t y ≡ b → IsIn (cond b (y ∷ filter t ys) (filter t ys)) x → (IsIn (filter t ys) x → IsIn ys x × (t x ≡ true))
+        → IsIn (y ∷ ys) x × (t x ≡ true)
     by true e (inl k) go = (inl k, ap t (sym k) ∙ e)
     by true e (inr k) go = (inr (go k).0, (go k).1)
     by false e k go = (inr (go k).0, (go k).1)

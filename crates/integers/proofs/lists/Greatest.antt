@@ -1,13 +1,11 @@
 -- The greatest value of a function on a finite table.
-use Rattle.std.proofs.Common.{suc, arith, sym, ℕ, subst, inr, inl, ◌≡◌, ◌≤ℤ◌, ◌≤◌, ◌<◌, ◌-◌, zero, ℤ}
-use Rattle.std.proofs.lemmas.Bool.Decides.{eqb_tells}
+use Rattle.std.proofs.Common.{suc, arith, sym, ℕ, subst, ◌≡◌, ◌≤ℤ◌, ◌≤◌, ◌<◌, ◌-◌, zero, ℤ}
 use Rattle.std.proofs.lemmas.Int.{ints, by_lt_z}
 use Rattle.std.proofs.Math.Nat.{le_refl}
 
 -- what holds up to n and at n + 1 holds up to n + 1
 pub at_or_below : (P : ℕ → Type 0) (v n : ℕ) → v ≤ suc n → (v ≤ n → P v) → P (suc n) → P v
-at_or_below P v n b below here =
-    elim (eqb_tells v (suc n)) [ inl e ↦ subst P (sym e.1) here | inr e ↦ let d = e.1 in below (omega arith) ]
+at_or_below P v n b below here = grind arith
 
 -- a place from 1 to n + 1 where f is greatest
 pub greatest_at : (f : ℕ → ℤ) (n : ℕ) → (u : ℕ) × (1 ≤ u) × (u ≤ suc n) × ((v : ℕ) → 1 ≤ v → v ≤ suc n → f v ≤ℤ f u)
@@ -51,7 +49,6 @@ search_pair P Q s t f =
 pub search_below : (m : ℕ) → 1 ≤ m → Searchable ℕ (λ r. r < m)
 search_below m h f =
     let r = greatest_at (λ k. f (k - 1)) (m - 1) in
-    let one = r.1 in
     let top = r.2 in (
       r.0 - 1,
       omega arith,

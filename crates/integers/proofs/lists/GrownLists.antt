@@ -1,5 +1,5 @@
 -- What a search has found, and what is new, grow by the same things.
-use Rattle.std.proofs.Common.{◌≡◌, inl, inr, List, [], ◌∷◌, ◌++◌, sym, subst, ◌∙◌, append_assoc, append-nil}
+use Rattle.std.proofs.Common.{◌≡◌, inl, inr, List, [], ◌∷◌, ◌++◌, sym, subst, ◌∙◌, append_assoc, append-nil, arith}
 use Prim.{Dec, yes, no}
 use Rattle.integers.proofs.lists.Members.{IsIn, AreApart}
 use Rattle.integers.proofs.lists.Pieces.{append_left, append_right, append_apart}
@@ -16,32 +16,15 @@ pub record Grows {X : Type 0} (things found next found' next' : List X) : Type 0
 module _ {X : Type 0} where
   -- after nothing
   pub grows_none : (found next : List X) → Grows [] found next found next
-  grows_none found next = record {
-    more = [];
-    found_is = sym (append-nil found);
-    next_is = sym (append-nil next);
-    each = λ x i. i;
-    every = λ x i. absurd i;
-    once = λ h. h;
-  }
+  grows_none found next = search (arith, append-nil)
 
   -- after what was found before
   pub grows_old : (x : X) (xs found next found' next' : List X) → IsIn found x → Grows xs found next found' next' → Grows (x ∷ xs) found next found' next'
-  grows_old x xs found next found' next' there r = record {
-    more = r.more;
-    found_is = r.found_is;
-    next_is = r.next_is;
-    each = λ y i. inr (r.each y i);
-    every = λ y i. every y i;
-    once = r.once;
-  }
-    where
-      every : (y : X) → IsIn (x ∷ xs) y → IsIn found' y
-      every y (inl s) = subst (IsIn found') s (subst (λ (ys : List X). IsIn ys x) (sym r.found_is) (append_left found r.more x there))
-      every y (inr i) = r.every y i
+  grows_old x xs found next found' next' there r = search (arith, append_left)
 
   -- and after what is new
-  pub grows_new : (x : X) (xs found next found' next' : List X) → ¬ IsIn found x → Grows xs (found ++ x ∷ []) (next ++ x ∷ []) found' next' → Grows (x ∷ xs) found next found' next'
+  pub grows_new : (x : X) (xs found next found' next' : List X) → ¬ IsIn found x → Grows xs (found ++ x ∷ []) (next ++ x ∷ []) found' next'
+      → Grows (x ∷ xs) found next found' next'
   grows_new x xs found next found' next' absent r = record {
     more = x ∷ r.more;
     found_is = r.found_is ∙ append_assoc found (x ∷ []) r.more;

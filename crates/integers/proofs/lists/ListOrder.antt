@@ -11,15 +11,11 @@ use Rattle.integers.specs.Vectors.{IsBelow, IsAtMost}
 
 -- of comparisons one after the other the last needs none after it
 pub then_equal : (o : Ordering) → ordering_then o Equal ≡ o
-then_equal Less = refl
-then_equal Equal = refl
-then_equal Greater = refl
+then_equal o = grind arith
 
 -- they may be grouped in any way
 pub then_grouped : (o p q : Ordering) → ordering_then (ordering_then o p) q ≡ ordering_then o (ordering_then p q)
-then_grouped Less p q = refl
-then_grouped Equal p q = refl
-then_grouped Greater p q = refl
+then_grouped o p q = grind arith
 
 -- the order of lists is total
 pub lists_order : IsTotalOrder (slice_cmp int_cmp)
@@ -28,10 +24,6 @@ lists_order = lists_total int_cmp_total
 -- the three answers of a comparison differ
 less_greater : Less ≡ Greater → ⊥
 less_greater e = cc
-
--- and these
-less_equal : Less ≡ Equal → ⊥
-less_equal e = cc
 
 -- and these
 equal_greater : Equal ≡ Greater → ⊥
@@ -77,19 +69,17 @@ below_of_at_most xs ys h = by (slice_cmp int_cmp xs ys) refl
 
 -- two lists, each at most the other, are equal
 pub at_most_both : (xs ys : List ℤ) → IsAtMost xs ys → IsAtMost ys xs → xs ≡ ys
-at_most_both xs ys h k = by (below_of_at_most xs ys h)
-  where
-    by : IsBelow xs ys ⊎ (xs ≡ ys) → xs ≡ ys
-    by (inl b) = absurd (k (lists_order.antisymm ys xs ∙ ap ordering_reverse b))
-    by (inr e) = e
+at_most_both xs ys h k = search (arith, below_of_at_most, lists_order)
 
 -- lists are compared by their first parts of one length, and then by the others
-pub front_then : (xs ys zs ws : List ℤ) → length xs ≡ length ys → slice_cmp int_cmp (xs ++ zs) (ys ++ ws) ≡ ordering_then (slice_cmp int_cmp xs ys) (slice_cmp int_cmp zs ws)
+pub front_then : (xs ys zs ws : List ℤ) → length xs ≡ length ys → slice_cmp int_cmp (xs ++ zs) (ys ++ ws) ≡ ordering_then (slice_cmp int_cmp xs ys)
+    (slice_cmp int_cmp zs ws)
 front_then [] [] zs ws e = refl
 front_then [] (y ∷ ys) zs ws e = absurd (omega arith)
 front_then (x ∷ xs) [] zs ws e = absurd (omega arith)
 front_then (x ∷ xs) (y ∷ ys) zs ws e =
-    ap (ordering_then (int_cmp x y)) (front_then xs ys zs ws (omega arith)) ∙ sym (then_grouped (int_cmp x y) (slice_cmp int_cmp xs ys) (slice_cmp int_cmp zs ws))
+    ap (ordering_then (int_cmp x y)) (front_then xs ys zs ws (omega arith))
+    ∙ sym (then_grouped (int_cmp x y) (slice_cmp int_cmp xs ys) (slice_cmp int_cmp zs ws))
 
 -- a list that begins with a lesser one is below
 pub below_front : (xs ys zs ws : List ℤ) → length xs ≡ length ys → IsBelow xs ys → IsBelow (xs ++ zs) (ys ++ ws)
@@ -97,12 +87,7 @@ below_front xs ys zs ws e h = front_then xs ys zs ws e ∙ ap (λ (o : Ordering)
 
 -- a list is equal to itself, as they are compared
 level : (xs : List ℤ) → slice_cmp int_cmp xs xs ≡ Equal
-level xs = by (slice_cmp int_cmp xs xs) refl
-  where
-    by : (o : Ordering) → slice_cmp int_cmp xs xs ≡ o → slice_cmp int_cmp xs xs ≡ Equal
-    by Less e = absurd (not_below_itself xs e)
-    by Equal e = e
-    by Greater e = absurd (at_most_itself xs e)
+level xs = search (arith, not_below_itself, at_most_itself)
 
 -- of lists that begin alike the others decide
 pub below_after : (xs zs ws : List ℤ) → IsBelow zs ws → IsBelow (xs ++ zs) (xs ++ ws)

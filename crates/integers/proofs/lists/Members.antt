@@ -48,7 +48,8 @@ take_out {X} (y ∷ ys) x (inr h) = more (take_out ys x h)
     more t = record {
       rest = y ∷ t.rest;
       sum_is = λ g. ap (λ (s : ℤ). g y +ℤ s) (t.sum_is g) ∙ swap_sum (g y) (g x) (total g t.rest);
-      permuted = IsPermutation-trans (y ∷ ys) (y ∷ x ∷ t.rest) (x ∷ y ∷ t.rest) (IsPermutation-cons y ys (x ∷ t.rest) t.permuted) (IsPermutation-middle (y ∷ []) x t.rest);
+      permuted = IsPermutation-trans (y ∷ ys) (y ∷ x ∷ t.rest) (x ∷ y ∷ t.rest) (IsPermutation-cons y ys (x ∷ t.rest) t.permuted)
+          (IsPermutation-middle (y ∷ []) x t.rest);
       inside = λ z. elim [ inl e ↦ inl e | inr k ↦ inr (t.inside z k) ];
       others = λ z. elim [ inl e ↦ inr (inl e) | inr k ↦ elim (t.others z k) [ inl e ↦ inl e | inr l ↦ inr (inr l) ] ];
       apart = λ a. let b = t.apart a.1 in
@@ -95,11 +96,7 @@ pairs_from_apart (x ∷ xs) h (suc i) (suc j) d a b = pairs_from_apart xs h.1 i 
 
 -- the first member of a list, or one of the others
 pub first_or_other : {X : Type 0} (x : X) (xs : List X) (y : X) → Contains (x ∷ xs) y → (x ≡ y) ⊎ Contains xs y
-first_or_other {X} x xs y h = by (is_in (x ∷ xs) y h)
-  where
-    by : IsIn (x ∷ xs) y → (x ≡ y) ⊎ Contains xs y
-    by (inl e) = inl e
-    by (inr i) = inr (contains_from_in xs y i)
+first_or_other {X} x xs y h = grind arith
 
 -- the first member is a member
 pub first_in : {X : Type 0} (x : X) (xs : List X) → Contains (x ∷ xs) x

@@ -1,5 +1,6 @@
 -- Lists with one more at their end, and lists from a place on.
-use Rattle.std.proofs.Common.{◌≡◌, ◌⊎◌, inl, inr, ℕ, zero, suc, ◌+◌, ◌<◌, ◌≤◌, List, [], ◌∷◌, ◌++◌, length, get_or, refl, sym, ap, subst, ◌∙◌, arith, length-append}
+use Rattle.std.proofs.Common.{◌≡◌, ◌⊎◌, inl, inr, ℕ, zero, suc, ◌+◌, ◌<◌, ◌≤◌, List, [], ◌∷◌, ◌++◌, length, get_or, refl, sym, ap, subst, ◌∙◌, arith}
+use Rattle.std.proofs.Common.{length-append}
 use Rattle.std.proofs.Math.Decide.{dec_lt}
 use Rattle.std.proofs.Math.Seq.{get_or-append_seam}
 use Rattle.std.proofs.lemmas.List.{get_or_append_left, get_or_default}
@@ -90,8 +91,4 @@ module _ {X : Type 0} (d : X) (m : ℕ) (xs : List X) (x : X) (long : length xs 
 
   -- what holds of each element, by its place, holds of one more
   pub each_more : (P : ℕ → X → Type 0) → ((k : ℕ) → k < m → P k (get_or xs k d)) → P m x → (k : ℕ) → k < m + 1 → P k (get_or (xs ++ x ∷ []) k d)
-  each_more P h l k b = by (dec_lt k m)
-    where
-      by : Dec (k < m) → P k (get_or (xs ++ x ∷ []) k d)
-      by (yes c) = subst (P k) (sym (before_last k c)) (h k c)
-      by (no c) = let e : m ≡ k = omega arith in subst (λ (n : ℕ). P n (get_or (xs ++ x ∷ []) n d)) e (subst (P m) (sym at_last) l)
+  each_more P h l k b = search (arith, dec_lt, before_last, at_last)

@@ -57,4 +57,5 @@ pub total_equal : (n : ℕ) (z : ℤ) → total (λ u. z) (all_to n) ≡ pos n *
 total_equal zero z = omega (arith, ints)
 total_equal (suc n) z =
     let e : pos (suc n) ≡ pos 1 +ℤ pos n = omega (arith, ints) in
-    ap (λ (t : ℤ). z +ℤ t) (total_equal n z) ∙ ap (λ (t : ℤ). t +ℤ pos n *ℤ z) (sym (one_product z)) ∙ sym (sum_product (pos 1) (pos n) z) ∙ ap (λ (t : ℤ). t *ℤ z) (sym e)
+    ap (λ (t : ℤ). z +ℤ t) (total_equal n z) ∙ ap (λ (t : ℤ). t +ℤ pos n *ℤ z) (sym (one_product z)) ∙ sym (sum_product (pos 1) (pos n) z)
+    ∙ ap (λ (t : ℤ). t *ℤ z) (sym e)

@@ -19,7 +19,8 @@ permutation_of_members {X} (x ∷ xs) ys a h l = by (take_out ys x (h x (inl ref
           | inl e ↦ absurd (a.0 (subst (IsIn xs) (sym e) i))
           | inr k ↦ k
         ] in
-        IsPermutation-trans (x ∷ xs) (x ∷ t.rest) ys (IsPermutation-cons x xs t.rest (go t.rest inside (omega arith))) (IsPermutation-sym ys (x ∷ t.rest) t.permuted)
+        IsPermutation-trans (x ∷ xs) (x ∷ t.rest) ys (IsPermutation-cons x xs t.rest (go t.rest inside (omega arith)))
+        (IsPermutation-sym ys (x ∷ t.rest) t.permuted)
 
 -- each member stands before all later ones
 abbrev pub IsRising : {X : Type 0} → (X → X → Type 0) → List X → Type 0

@@ -83,10 +83,12 @@ module _ {X Y : Type 0} (f : X → List Y) where
   pieces_in (z ∷ xs) x y (inr i) j = append_right (f z) (flat_map f xs) y (pieces_in xs x y i j)
 
   -- pieces without repetition that share nothing make a list without repetition
-  pub pieces_apart : (xs : List X) → AreApart xs → ((x : X) → IsIn xs x → AreApart (f x)) → ((x x' : X) (y : Y) → IsIn xs x → IsIn xs x' → IsIn (f x) y → IsIn (f x') y → x ≡ x')
+  pub pieces_apart : (xs : List X) → AreApart xs → ((x : X) → IsIn xs x → AreApart (f x))
+      → ((x x' : X) (y : Y) → IsIn xs x → IsIn xs x' → IsIn (f x) y → IsIn (f x') y → x ≡ x')
       → AreApart (flat_map f xs)
   pieces_apart [] h k o = tt
-  pieces_apart (x ∷ xs) h k o = append_apart (f x) (flat_map f xs) (k x (inl refl)) (pieces_apart xs h.1 (λ y i. k y (inr i)) (λ y z w i j. o y z w (inr i) (inr j)))
+  pieces_apart (x ∷ xs) h k o = append_apart (f x) (flat_map f xs) (k x (inl refl))
+      (pieces_apart xs h.1 (λ y i. k y (inr i)) (λ y z w i j. o y z w (inr i) (inr j)))
       (λ y i j. let r = in_pieces xs y j in h.0 (subst (IsIn xs) (sym (o x r.0 y (inl refl) (inr r.1) i r.2)) r.1))
 
 -- the first elements of a list are members

@@ -1,12 +1,12 @@
 -- Sorted lists without repetition rise strictly.
-use Rattle.std.proofs.Common.{◌≡◌, ◌≢◌, ℤ, true, false, List, get_or, refl, subst, arith}
+use Rattle.std.proofs.Common.{◌≡◌, ◌≢◌, ℤ, false, List, get_or, subst, arith}
 use Rattle.std.specs.List.{AllPairs}
 use Rattle.std.specs.List.Sorted.{IsSorted, IsPermutation}
 use Rattle.std.specs.Ordering.{int_cmp, is_lt, ordering_reverse}
 use Rattle.std.specs.Cmp.Lexicographic.{slice_cmp}
 use Rattle.std.specs.FinMap.{slice_cmp-IsAntisymmetric, int_cmp-IsAntisymmetric}
 use Rattle.std.specs.declared.cmp.Ordering.{Ordering}
-use Rattle.std.specs.declared.cmp.Ordering.TheVariants.{Less, Equal, Greater}
+use Rattle.std.specs.declared.cmp.Ordering.TheVariants.{Less, Equal}
 use Rattle.std.proofs.lemmas.List.Sorted.{sorted_far, ranks_by}
 use Rattle.integers.specs.Vectors.{IsBelow}
 use Rattle.integers.proofs.lists.Apart.{permuted_pairs}
@@ -15,15 +15,12 @@ use Rattle.integers.proofs.lists.Members.{AreApart, apart_from_pairs}
 
 -- the lower of two orders that are not equal, where the other is not lower
 less_by : (o p : Ordering) → o ≡ ordering_reverse p → (o ≢ Equal) → is_lt p ≡ false → o ≡ Less
-less_by Less p e n f = refl
-less_by Equal p e n f = absurd (n refl)
-less_by Greater Less e n f = let bad : true ≡ false = f in cc
-less_by Greater Equal e n f = cc
-less_by Greater Greater e n f = cc
+less_by o p h k l = grind arith
 
 module _ {X : Type 0} (numbers : X → List ℤ) (once : (a b : X) → numbers a ≡ numbers b → a ≡ b) where
   -- a sorted list of different elements, each of which is determined by its numbers, rises strictly
-  pub rising_from_sorted : (xs : List X) → IsSorted (λ a b. slice_cmp int_cmp (numbers a) (numbers b)) xs → AllPairs (λ a b. a ≢ b) xs → AllPairs (λ a b. IsBelow (numbers a) (numbers b)) xs
+  pub rising_from_sorted : (xs : List X) → IsSorted (λ a b. slice_cmp int_cmp (numbers a) (numbers b)) xs → AllPairs (λ a b. a ≢ b) xs
+      → AllPairs (λ a b. IsBelow (numbers a) (numbers b)) xs
   rising_from_sorted xs up different i j d l m =
       let far = sorted_far (λ a b. is_lt (slice_cmp int_cmp (numbers a) (numbers b))) (ranks_by lists_order numbers) xs up i j d (omega arith) m in
       less_by (slice_cmp int_cmp (numbers (get_or xs i d)) (numbers (get_or xs j d))) (slice_cmp int_cmp (numbers (get_or xs j d)) (numbers (get_or xs i d)))
@@ -31,9 +28,12 @@ module _ {X : Type 0} (numbers : X → List ℤ) (once : (a b : X) → numbers a
       (λ e. different i j d l m (once _ _ (slice_cmp-IsAntisymmetric int_cmp-IsAntisymmetric (numbers (get_or xs i d)) (numbers (get_or xs j d)) e))) far
 
   -- the same after a sort
-  pub rising_after_sort : (xs ys : List X) → IsPermutation xs ys → IsSorted (λ a b. slice_cmp int_cmp (numbers a) (numbers b)) ys → AllPairs (λ a b. a ≢ b) xs → AllPairs (λ a b. IsBelow (numbers a) (numbers b)) ys
+  pub rising_after_sort : (xs ys : List X) → IsPermutation xs ys → IsSorted (λ a b. slice_cmp int_cmp (numbers a) (numbers b)) ys → AllPairs (λ a b. a ≢ b) xs
+      → AllPairs (λ a b. IsBelow (numbers a) (numbers b)) ys
   rising_after_sort xs ys p up apart = rising_from_sorted ys up (permuted_pairs xs ys p apart)
 
 -- what rises by its numbers has no repetition
 pub apart_of_rising : {X : Type 0} (numbers : X → List ℤ) (xs : List X) → AllPairs (λ a b. IsBelow (numbers a) (numbers b)) xs → AreApart xs
-apart_of_rising numbers xs r = apart_from_pairs xs (λ i j d l m e. not_below_itself (numbers (get_or xs j d)) (subst (λ (x : _). IsBelow (numbers x) (numbers (get_or xs j d))) e (r i j d l m)))
+apart_of_rising numbers xs r =
+    apart_from_pairs xs (λ i j d l m e. not_below_itself (numbers (get_or xs j d))
+    (subst (λ (x : _). IsBelow (numbers x) (numbers (get_or xs j d))) e (r i j d l m)))

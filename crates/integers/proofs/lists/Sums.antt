@@ -17,7 +17,8 @@ same_total f g [] [] a b c = refl
 same_total f g [] (y ∷ ys) a b c = let r = c.onto y (inl refl) in absurd r.1
 same_total {X} {Y} f g (x ∷ xs) ys a b c = by (take_out ys (f x) (c.into x (inl refl))) (λ rest ar cr. same_total f g xs rest a.1 ar cr)
   where
-    by : TakenOut ys (f x) → ((rest : List Y) → AreApart rest → Carries f xs rest → total g rest ≡ total (λ z. g (f z)) xs) → total g ys ≡ g (f x) +ℤ total (λ z. g (f z)) xs
+    by : TakenOut ys (f x) → ((rest : List Y) → AreApart rest → Carries f xs rest → total g rest ≡ total (λ z. g (f z)) xs)
+        → total g ys ≡ g (f x) +ℤ total (λ z. g (f z)) xs
     by t go =
         let ap' = t.apart b in
         t.sum_is g ∙ ap (λ (s : ℤ). g (f x) +ℤ s) (go t.rest ap'.0 (record {
@@ -120,7 +121,4 @@ total_parts g (x ∷ xs) =
 
 -- a permuted list has the same sum
 pub total_permuted : {X : Type 0} (g : X → ℤ) (xs ys : List X) → IsPermutation xs ys → total g ys ≡ total g xs
-total_permuted g xs ys h =
-    let u = sum_by-IsPermutation (λ z. up (g z)) xs ys h in
-    let d = sum_by-IsPermutation (λ z. down (g z)) xs ys h in
-    total_parts g ys ∙ (λ i. pos (u i) -ℤ pos (d i)) ∙ sym (total_parts g xs)
+total_permuted g xs ys h = search (arith, sum_by-IsPermutation, total_parts)

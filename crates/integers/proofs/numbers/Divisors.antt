@@ -12,13 +12,11 @@ use Rattle.integers.proofs.vectors.Laws.{vector_equal}
 
 -- the second factor of a positive product is positive
 pub factor_positive : (g k : ℕ) → 1 ≤ g * k → 1 ≤ k
-factor_positive g zero h = absurd (omega arith)
-factor_positive g (suc k) h = omega arith
+factor_positive g k l = grind arith
 
 -- and so is the first
 pub first_factor_positive : (g k : ℕ) → 1 ≤ g * k → 1 ≤ g
-first_factor_positive zero k h = absurd (omega arith)
-first_factor_positive (suc g) k h = omega arith
+first_factor_positive g k l = grind arith
 
 -- j divides each part of each of these vectors
 abbrev pub AllDivided : ℕ → List Vector → Type 0
@@ -32,10 +30,7 @@ all_table j f (suc n) h = (h 0 (omega arith), all_table j (λ i. f (suc i)) n (�
 
 -- only 1 divides 1
 product_one : (j l : ℕ) → 1 ≡ j * l → j ≡ 1
-product_one zero l e = absurd (omega arith)
-product_one (suc zero) l e = refl
-product_one (suc (suc j)) zero e = absurd (omega arith)
-product_one (suc (suc j)) (suc l) e = absurd (omega arith)
+product_one j l h = grind arith
 
 -- where g·j divides g, j is 1
 pub only_one : (g j l : ℕ) → 1 ≤ g → g ≡ (g * j) * l → j ≡ 1
@@ -123,8 +118,8 @@ common d (v ∷ vs) = more (common d vs)
         let z = common_with y.h v.z in
         let a = z.a * (y.a * x.a) in
         let g_is : c.g ≡ z.h * a = assoc c.g y.h (y.a * x.a) z.h z.a (assoc c.g x.h x.a y.h y.a x.g_is y.g_is) z.g_is in
-        let y_is = y.g_is in
-        let xw : v.x ≡ pos z.h *ℤ (pos z.a *ℤ (pos y.a *ℤ x.w)) = x.z_is ∙ ap (λ (t : ℕ). pos t *ℤ x.w) (assoc x.h y.h y.a z.h z.a y.g_is z.g_is) ∙ group (pos z.h) (pos z.a) (pos y.a) x.w in
+        let xw : v.x ≡ pos z.h *ℤ (pos z.a *ℤ (pos y.a *ℤ x.w)) = x.z_is ∙ ap (λ (t : ℕ). pos t *ℤ x.w) (assoc x.h y.h y.a z.h z.a y.g_is z.g_is)
+        ∙ group (pos z.h) (pos z.a) (pos y.a) x.w in
         let yw : v.y ≡ pos z.h *ℤ (pos z.a *ℤ y.w) = y.z_is ∙ ap (λ (t : ℕ). pos t *ℤ y.w) z.g_is ∙ group2 (pos z.h) (pos z.a) y.w in
         record {
           g = z.h;
@@ -134,7 +129,8 @@ common d (v ∷ vs) = more (common d vs)
           vs_is = (λ i. vector (xw i) (yw i) (z.z_is i) ∷ (c.vs_is ∙ ap (λ (t : ℕ). map (times (pos t)) c.ws) g_is ∙ map_twice z.h a c.ws) i);
           greatest = λ j e f.
               let w = f.0 in
-              z.greatest j (y.greatest j (x.greatest j (c.greatest j e f.1) (w.0.x, ap (λ (t : Vector). t.x) w.1)) (w.0.y, ap (λ (t : Vector). t.y) w.1)) (w.0.z, ap (λ (t : Vector). t.z) w.1);
+              z.greatest j (y.greatest j (x.greatest j (c.greatest j e f.1) (w.0.x, ap (λ (t : Vector). t.x) w.1)) (w.0.y, ap (λ (t : Vector). t.y) w.1))
+              (w.0.z, ap (λ (t : Vector). t.z) w.1);
         }
       where
         group : (h a b x : ℤ) → (h *ℤ (a *ℤ b)) *ℤ x ≡ h *ℤ (a *ℤ (b *ℤ x))

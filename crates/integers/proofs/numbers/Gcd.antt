@@ -1,11 +1,9 @@
 -- Divisibility: greatest common divisors, Euclid's lemma, and least common multiples.
-use Rattle.std.proofs.Common.{◌≡◌, ℕ, zero, suc, ◌*◌, ◌/◌, ◌≤◌, ℤ, pos, negsuc, ◌+ℤ◌, ◌*ℤ◌, List, [], ◌∷◌, refl, sym, ap, subst, ◌∙◌, arith, inl, inr}
+use Rattle.std.proofs.Common.{◌≡◌, ℕ, zero, suc, ◌*◌, ◌≤◌, ℤ, pos, ◌+ℤ◌, ◌*ℤ◌, List, [], ◌∷◌, refl, sym, ap, subst, ◌∙◌, arith, inl, inr}
 use Rattle.std.specs.Int.{◌∣◌, IsGcd}
 use Rattle.std.specs.List.{Contains}
-use Rattle.std.proofs.lemmas.Int.{ints}
 use Rattle.std.proofs.lemmas.Nat.Gcd.{mod-eq-zero_of_dvd, same_from_IsGcd, dvd_trans, dvd_antisymm, dvd-zero}
 use Rattle.std.proofs.Math.Nat.{eq-zero_of_zero-dvd, dvd-mul_right, one-dvd, mul_assoc, mul_comm, eq_of_mul-eq-mul_left}
-use borrow.Author.Differences.{product_is}
 use Rattle.integers.specs.Divisors.{IsGreatestDivisor, IsLeastMultiple}
 use Rattle.integers.proofs.numbers.Ring.{ring, linear, positive_not_zero}
 use Rattle.integers.proofs.lists.Members.{is_in, contains_from_in}
@@ -17,8 +15,7 @@ IsMultiple j k = (l : ℕ) × (k ≡ j * l)
 
 -- the quotient, where j divides k
 pub quotient_of : (j k : ℕ) → j ∣ k → IsMultiple j k
-quotient_of zero k d = let e = eq-zero_of_zero-dvd d in (0, omega arith)
-quotient_of (suc j) k d = let e = mod-eq-zero_of_dvd (suc j) d in (k / suc j, omega arith)
+quotient_of j k h = search (arith, eq-zero_of_zero-dvd, mod-eq-zero_of_dvd)
 
 -- and back
 pub divides_multiple : (j k : ℕ) → IsMultiple j k → j ∣ k
@@ -26,8 +23,7 @@ divides_multiple j k m = subst (λ (x : ℕ). j ∣ x) (sym m.1) (dvd-mul_right 
 
 -- a natural number that is j times an integer is j times a natural number
 pub natural_multiple : (j k : ℕ) (r : ℤ) → pos k ≡ pos j *ℤ r → IsMultiple j k
-natural_multiple j k (pos l) e = (l, omega (arith, ints))
-natural_multiple j k (negsuc l) e = (0, let p = product_is (pos j) (negsuc l) in omega (arith, ints))
+natural_multiple j k r h = grind arith
 
 -- j divides a combination of its multiples
 pub combination_of_multiples : (s t x y j : ℤ) → s *ℤ (j *ℤ x) +ℤ t *ℤ (j *ℤ y) ≡ j *ℤ (s *ℤ x +ℤ t *ℤ y)
@@ -62,7 +58,8 @@ euclid a b c h d = by (bezout a b)
     by z =
         let one : 1 ≡ z.g = same_from_IsGcd a b 1 z.g h (bezout_gcd a b z) in
         let q = quotient_of a (b * c) d in
-        divides_multiple a c (natural_multiple a c (z.s *ℤ pos c +ℤ z.t *ℤ pos q.0) (euclid_step (pos a) (pos b) (pos c) (pos q.0) z.s z.t (ap pos one ∙ z.g_is) (ap pos q.1)))
+        divides_multiple a c (natural_multiple a c (z.s *ℤ pos c +ℤ z.t *ℤ pos q.0)
+        (euclid_step (pos a) (pos b) (pos c) (pos q.0) z.s z.t (ap pos one ∙ z.g_is) (ap pos q.1)))
 
 -- c is in the relation to each number of the list, and whatever is so is in it to c
 abbrev pub IsBound : (ℕ → ℕ → Type 0) → List ℕ → ℕ → Type 0
@@ -73,7 +70,8 @@ abbrev pub IsBoundOfTwo : (ℕ → ℕ → Type 0) → ℕ → ℕ → ℕ → T
 IsBoundOfTwo R a b c = R c a × R c b × ((d : ℕ) → R d a → R d b → R d c)
 
 -- where any two numbers have such a number, and all are in the relation to e, any list has one
-bound_of_list : (R : ℕ → ℕ → Type 0) → ((a b c : ℕ) → R a b → R b c → R a c) → ((a b : ℕ) → (c : ℕ) × IsBoundOfTwo R a b c) → (e : ℕ) → ((d : ℕ) → R d e) → (xs : List ℕ) → (c : ℕ) × IsBound R xs c
+bound_of_list : (R : ℕ → ℕ → Type 0) → ((a b c : ℕ) → R a b → R b c → R a c) → ((a b : ℕ) → (c : ℕ) × IsBoundOfTwo R a b c) → (e : ℕ) → ((d : ℕ) → R d e)
+    → (xs : List ℕ) → (c : ℕ) × IsBound R xs c
 bound_of_list R chain two e all [] = (e, (λ x c. absurd (omega (arith, c.1)), λ d h. all d))
 bound_of_list R chain two e all (x ∷ xs) = by (bound_of_list R chain two e all xs)
   where
@@ -94,7 +92,8 @@ bound_of_list R chain two e all (x ∷ xs) = by (bound_of_list R chain two e all
 
 -- the greatest common divisor of any list
 pub greatest_divisor : (xs : List ℕ) → (g : ℕ) × IsGreatestDivisor xs g
-greatest_divisor xs = by (bound_of_list (λ d x. d ∣ x) (λ a b c p q. dvd_trans a p q) (λ a b. let z = bezout a b in (z.g, bezout_gcd a b z)) 0 (λ d. dvd-zero d) xs)
+greatest_divisor xs = by (bound_of_list (λ d x. d ∣ x) (λ a b c p q. dvd_trans a p q) (λ a b. let z = bezout a b in (z.g, bezout_gcd a b z)) 0
+    (λ d. dvd-zero d) xs)
   where
     by : (g : ℕ) × IsBound (λ d x. d ∣ x) xs g → (g : ℕ) × IsGreatestDivisor xs g
     by r = (r.0, record { divides = r.1.0; greatest = r.1.1 })
@@ -104,7 +103,8 @@ pub greatest_divisor_unique : (xs : List ℕ) (g h : ℕ) → IsGreatestDivisor 
 greatest_divisor_unique xs g h a b = dvd_antisymm (b.greatest g a.divides) (a.greatest h b.divides)
 
 -- n is a multiple of g·(k·l) where it is one of g·k and of g·l, and k and l are coprime
-common_multiple : (g k l n x y : ℕ) (s t : ℤ) → 1 ≤ g → pos g ≡ s *ℤ (pos g *ℤ pos k) +ℤ t *ℤ (pos g *ℤ pos l) → n ≡ (g * k) * x → n ≡ (g * l) * y → IsMultiple (g * (k * l)) n
+common_multiple : (g k l n x y : ℕ) (s t : ℤ) → 1 ≤ g → pos g ≡ s *ℤ (pos g *ℤ pos k) +ℤ t *ℤ (pos g *ℤ pos l) → n ≡ (g * k) * x → n ≡ (g * l) * y
+    → IsMultiple (g * (k * l)) n
 common_multiple zero k l n x y s t h e f f' = absurd (omega arith)
 common_multiple (suc g) k l n x y s t h e f f' =
     let one = coprime_combination (pos (suc g)) (pos k) (pos l) s t (positive_not_zero (suc g) h) e in
@@ -136,7 +136,8 @@ least_multiple_of_two a b z = (
 
 -- the least common multiple of any list
 pub least_multiple : (xs : List ℕ) → (m : ℕ) × IsLeastMultiple xs m
-least_multiple xs = by (bound_of_list (λ n x. x ∣ n) (λ a b c p q. dvd_trans c q p) (λ a b. let z = bezout a b in (z.g * (z.k * z.l), least_multiple_of_two a b z)) 1 (λ n. one-dvd n) xs)
+least_multiple xs = by (bound_of_list (λ n x. x ∣ n) (λ a b c p q. dvd_trans c q p)
+    (λ a b. let z = bezout a b in (z.g * (z.k * z.l), least_multiple_of_two a b z)) 1 (λ n. one-dvd n) xs)
   where
     by : (m : ℕ) × IsBound (λ n x. x ∣ n) xs m → (m : ℕ) × IsLeastMultiple xs m
     by r = (r.0, record { multiple = r.1.0; least = r.1.1 })

@@ -2,10 +2,8 @@
 use Rattle.std.proofs.Common.{◌≡◌, ◌≢◌, ℕ, zero, suc, ℤ, pos, negsuc, ◌+ℤ◌, ◌-ℤ◌, ◌*ℤ◌, ◌≤◌, ◌-◌, ◌*◌, arith, ap, sym, refl, subst, ◌∙◌}
 use Rattle.std.specs.Prelude.{◌<ℤ◌}
 use Rattle.std.proofs.lemmas.Int.{ints}
-use Rattle.std.specs.Ordering.{int_cmp, MatchOrdering, ordering_then}
-use Rattle.std.specs.Cmp.{int_cmp_is, int_ranks}
-use Rattle.std.specs.declared.cmp.Ordering.{Ordering}
-use Rattle.std.specs.declared.cmp.Ordering.TheVariants.{Less, Equal, Greater}
+use Rattle.std.specs.Ordering.{int_cmp, ordering_then}
+use Rattle.std.specs.declared.cmp.Ordering.TheVariants.{Equal}
 use Rattle.std.specs.Cmp.Lexicographic.{slice_cmp}
 use Rattle.integers.specs.Vectors.{Vector, times, parts}
 use Rattle.integers.proofs.numbers.Ring.{product_sum}
@@ -16,8 +14,7 @@ positive_is_some x h e = omega (arith, ints, h, e)
 
 -- a positive number is a natural one
 pub positive_natural : (x : ℤ) → pos 0 <ℤ x → (n : ℕ) × (1 ≤ n) × (x ≡ pos n)
-positive_natural (pos n) h = (n, omega (arith, ints, h), refl)
-positive_natural (negsuc n) h = absurd (omega (arith, ints, h))
+positive_natural x k = grind arith
 
 -- what is above x is x and a positive number
 step_between : (x y : ℤ) → x <ℤ y → (d : ℕ) × (y ≡ x +ℤ pos (suc d))
@@ -43,12 +40,7 @@ multiple_below n x y h =
 
 -- so multiples compare as the numbers do
 compare_scaled : (n : ℕ) (x y : ℤ) → int_cmp x y ≡ int_cmp (pos (suc n) *ℤ x) (pos (suc n) *ℤ y)
-compare_scaled n x y = by (int_cmp x y) (int_ranks x y)
-  where
-    by : (o : Ordering) → MatchOrdering o (x <ℤ y) (x ≡ y) (y <ℤ x) → o ≡ int_cmp (pos (suc n) *ℤ x) (pos (suc n) *ℤ y)
-    by Less h = int_cmp_is (pos (suc n) *ℤ x) (pos (suc n) *ℤ y) Less (multiple_below n x y h)
-    by Equal h = int_cmp_is (pos (suc n) *ℤ x) (pos (suc n) *ℤ y) Equal (ap (λ t. pos (suc n) *ℤ t) h)
-    by Greater h = int_cmp_is (pos (suc n) *ℤ x) (pos (suc n) *ℤ y) Greater (multiple_below n y x h)
+compare_scaled n x y = search (arith, multiple_below)
 
 -- the same, of any positive factor
 pub compare_multiples : (n : ℕ) → 1 ≤ n → (x y : ℤ) → int_cmp x y ≡ int_cmp (pos n *ℤ x) (pos n *ℤ y)

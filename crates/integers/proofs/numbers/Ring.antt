@@ -1,7 +1,7 @@
 -- The laws of ℤ as a commutative ring, and the two rulesets that serve as a ring tactic: `simp ring (omega (arith, linear))`
 -- multiplies out and compares; a hypothesis h is multiplied out by `simp ring at h` in omega's list.
 use Rattle.std.specs.Prelude.{ℤ, ◌+ℤ◌, ◌*ℤ◌, pos}
-use Rattle.std.proofs.Common.{◌⊎◌, inl, inr, ◌≡◌, ◌+◌, ◌*◌, ◌∙◌, arith, ap, sym, negsuc, suc, pos, zero, ℤ, refl, ◌≢◌, ◌+ℤ◌, ◌-ℤ◌, ◌*ℤ◌, ℕ, ◌≤◌}
+use Rattle.std.proofs.Common.{◌⊎◌, ◌≡◌, ◌+◌, ◌*◌, ◌∙◌, arith, ap, sym, pos, ℤ, ◌≢◌, ◌+ℤ◌, ◌-ℤ◌, ◌*ℤ◌, ℕ, ◌≤◌}
 use Rattle.std.proofs.Math.IntN.{*ℤ_comm, neg_ℤ}
 use Rattle.std.proofs.lemmas.Int.{ints}
 use Rattle.std.proofs.Math.Nat.{eq_of_mul-eq-mul_left}
@@ -33,7 +33,7 @@ sum_product a b c = *ℤ_comm (a +ℤ b) c ∙ product_sum c a b ∙ ap (λ t. t
 
 -- (-a)·b = -(a·b)
 pub negative_product : (a b : ℤ) → neg_ℤ a *ℤ b ≡ neg_ℤ (a *ℤ b)
-negative_product a b = same_in _ _ (omega (arith, neg_is a, neg_is (a *ℤ b), product_is (neg_ℤ a) b, product_is a b, ap (λ n. n * up b) (neg_is a).0, ap (λ n. n * down b) (neg_is a).0, ap (λ n. n * up b) (neg_is a).1, ap (λ n. n * down b) (neg_is a).1))
+negative_product a b = grind arith
 
 -- a·(-b) = -(a·b)
 pub product_negative : (a b : ℤ) → a *ℤ neg_ℤ b ≡ neg_ℤ (a *ℤ b)
@@ -60,18 +60,26 @@ pub product_zero : (a : ℤ) → a *ℤ pos 0 ≡ pos 0
 product_zero a = omega (arith, ints)
 
 -- multiplies out, and sorts the factors of each product
-pub ruleset ring = (one_product, product_one, zero_product, product_zero, product_sum, sum_product, negative_product, product_negative, product_associative, *ℤ_comm, product_exchange)
+pub ruleset ring = (
+  one_product,
+  product_one,
+  zero_product,
+  product_zero,
+  product_sum,
+  sum_product,
+  negative_product,
+  product_negative,
+  product_associative,
+  *ℤ_comm,
+  product_exchange,
+)
 
 -- what omega needs of sums, with each product an atom
 pub ruleset linear = (same_out, same_in, sum_is_lem, neg_is, lt_out, le_out, below_in, at_most_in)
 
 -- the same, by the signs
 other_factor_zero_by : (a b : ℤ) → up a * up b + down a * down b ≡ up a * down b + down a * up b → a *ℤ b ≡ pos 0 → a ≢ pos 0 → b ≡ pos 0
-other_factor_zero_by (pos zero) b e h n = absurd (n refl)
-other_factor_zero_by (pos (suc a)) (pos b) e h n = ap pos (eq_of_mul-eq-mul_left (suc a) (omega arith) b 0 (omega arith))
-other_factor_zero_by (pos (suc a)) (negsuc b) e h n = absurd (omega (arith, ints))
-other_factor_zero_by (negsuc a) (pos b) e h n = ap pos (eq_of_mul-eq-mul_left (suc a) (omega arith) b 0 (omega arith))
-other_factor_zero_by (negsuc a) (negsuc b) e h n = absurd (omega (arith, ints))
+other_factor_zero_by a b k l p = search (arith, eq_of_mul-eq-mul_left)
 
 -- where a product is 0 and a factor is not, the other is
 pub other_factor_zero : (a b : ℤ) → a *ℤ b ≡ pos 0 → a ≢ pos 0 → b ≡ pos 0
@@ -90,14 +98,8 @@ positive_not_zero n h e = omega (arith, ints)
 
 -- a number is 0 or not
 pub zero_or_not : (z : ℤ) → (z ≡ pos 0) ⊎ (z ≢ pos 0)
-zero_or_not (pos zero) = inl refl
-zero_or_not (pos (suc n)) = inr (λ e. omega (arith, ints))
-zero_or_not (negsuc n) = inr (λ e. omega (arith, ints))
+zero_or_not z = grind arith
 
 -- a product is 0 only where a factor is
 pub factor_zero : (a b : ℤ) → a *ℤ b ≡ pos 0 → (a ≡ pos 0) ⊎ (b ≡ pos 0)
-factor_zero a b e = by (zero_or_not a)
-  where
-    by : (a ≡ pos 0) ⊎ (a ≢ pos 0) → (a ≡ pos 0) ⊎ (b ≡ pos 0)
-    by (inl h) = inl h
-    by (inr n) = inr (other_factor_zero a b e n)
+factor_zero a b e = search (arith, zero_or_not, other_factor_zero)

@@ -1,5 +1,5 @@
 -- The sum along three vectors, and along those of one base after another.
-use Rattle.std.proofs.Common.{ℤ, ◌≡◌, ◌+ℤ◌, ◌-ℤ◌, ◌*ℤ◌, ◌∙◌, pos, arith, sym}
+use Rattle.std.proofs.Common.{ℤ, ◌≡◌, ◌+ℤ◌, ◌-ℤ◌, ◌*ℤ◌, ◌∙◌, pos, arith}
 use Rattle.std.proofs.lemmas.Int.{ints}
 use Rattle.integers.specs.Bases.{Base, base_sum}
 use Rattle.integers.specs.Vectors.{Vector, times, plus, zero_vector, minus, vector, up_vector}
@@ -9,21 +9,27 @@ use Rattle.integers.proofs.vectors.Laws.{vector_equal}
 
 -- a coordinate of the sum of v_i times B_i
 pub base_is : (c : Vector → ℤ) → IsCoordinate c → (b : Base) (v : Vector) → c (base_sum b v) ≡ v.x *ℤ c b.first +ℤ (v.y *ℤ c b.second +ℤ v.z *ℤ c b.third)
-base_is c l b v =
-    l.plus_is (times v.x b.first) (plus (times v.y b.second) (times v.z b.third))
-    ∙ (λ i. l.times_is v.x b.first i +ℤ l.plus_is (times v.y b.second) (times v.z b.third) i)
-    ∙ (λ i. v.x *ℤ c b.first +ℤ (l.times_is v.y b.second i +ℤ l.times_is v.z b.third i))
+base_is c l b v = grind arith
+
+-- a sum of three, each with a factor 0
+pub flat_sum : (x y z a b c : ℤ) → a ≡ pos 0 → b ≡ pos 0 → z ≡ pos 0 → x *ℤ a +ℤ (y *ℤ b +ℤ z *ℤ c) ≡ pos 0
+flat_sum x y z a b c e f g = (λ i. x *ℤ e i +ℤ (y *ℤ f i +ℤ g i *ℤ c)) ∙ plain
+  where
+    plain : x *ℤ pos 0 +ℤ (y *ℤ pos 0 +ℤ pos 0 *ℤ c) ≡ pos 0
+    plain = simp ring (omega (arith, ints))
 
 -- the sum along shifts is 0 at 0
 after_zero : (x y z : ℤ) → pos 0 *ℤ x +ℤ (pos 0 *ℤ y +ℤ pos 0 *ℤ z) ≡ pos 0
 after_zero x y z = omega (arith, ints)
 
 -- it takes sums to sums
-after_plus : (a b c a' b' c' x y z : ℤ) → (a +ℤ a') *ℤ x +ℤ ((b +ℤ b') *ℤ y +ℤ (c +ℤ c') *ℤ z) ≡ (a *ℤ x +ℤ (b *ℤ y +ℤ c *ℤ z)) +ℤ (a' *ℤ x +ℤ (b' *ℤ y +ℤ c' *ℤ z))
+after_plus : (a b c a' b' c' x y z : ℤ) → (a +ℤ a') *ℤ x +ℤ ((b +ℤ b') *ℤ y +ℤ (c +ℤ c') *ℤ z) ≡ (a *ℤ x +ℤ (b *ℤ y +ℤ c *ℤ z)) +ℤ
+    (a' *ℤ x +ℤ (b' *ℤ y +ℤ c' *ℤ z))
 after_plus a b c a' b' c' x y z = simp ring (omega (arith, ints))
 
 -- differences to differences
-after_minus : (a b c a' b' c' x y z : ℤ) → (a -ℤ a') *ℤ x +ℤ ((b -ℤ b') *ℤ y +ℤ (c -ℤ c') *ℤ z) ≡ (a *ℤ x +ℤ (b *ℤ y +ℤ c *ℤ z)) -ℤ (a' *ℤ x +ℤ (b' *ℤ y +ℤ c' *ℤ z))
+after_minus : (a b c a' b' c' x y z : ℤ) → (a -ℤ a') *ℤ x +ℤ ((b -ℤ b') *ℤ y +ℤ (c -ℤ c') *ℤ z) ≡ (a *ℤ x +ℤ (b *ℤ y +ℤ c *ℤ z)) -ℤ
+    (a' *ℤ x +ℤ (b' *ℤ y +ℤ c' *ℤ z))
 after_minus a b c a' b' c' x y z = simp ring (omega (arith, ints))
 
 -- multiples to multiples
@@ -32,12 +38,7 @@ after_times k a b c x y z = simp ring (omega (arith, ints))
 
 -- a linear reading of the sum is a linear reading
 pub coordinate_after : (c : Vector → ℤ) → IsCoordinate c → (b : Base) → IsCoordinate (λ v. c (base_sum b v))
-coordinate_after c l b = record {
-  zero = base_is c l b zero_vector ∙ after_zero (c b.first) (c b.second) (c b.third);
-  plus_is = λ v w. base_is c l b (plus v w) ∙ after_plus v.x v.y v.z w.x w.y w.z (c b.first) (c b.second) (c b.third) ∙ sym (λ i. base_is c l b v i +ℤ base_is c l b w i);
-  minus_is = λ v w. base_is c l b (minus v w) ∙ after_minus v.x v.y v.z w.x w.y w.z (c b.first) (c b.second) (c b.third) ∙ sym (λ i. base_is c l b v i -ℤ base_is c l b w i);
-  times_is = λ k v. base_is c l b (times k v) ∙ after_times k v.x v.y v.z (c b.first) (c b.second) (c b.third) ∙ sym (λ i. k *ℤ base_is c l b v i);
-}
+coordinate_after c l b = search (arith, base_is, after_zero, after_plus, after_minus, after_times)
 
 -- the sum of v_i·B_i takes sums to sums
 pub base_sum_plus : (b : Base) (v w : Vector) → base_sum b (plus v w) ≡ plus (base_sum b v) (base_sum b w)

@@ -1,5 +1,5 @@
 -- The three coordinates of a vector.
-use Rattle.std.proofs.Common.{arith, ℕ, zero, suc, ◌<◌, refl}
+use Rattle.std.proofs.Common.{arith, ℕ, ◌<◌, refl}
 use Rattle.integers.specs.Coordinates.{IsCoordinate}
 use Rattle.integers.specs.Staircase.{part}
 
@@ -17,10 +17,7 @@ coordinate_z = record { zero = refl; plus_is = λ v w. refl; minus_is = λ v w. 
 
 -- a number of three
 pub below_three : (P : ℕ → Type 0) → P 0 → P 1 → P 2 → (c : ℕ) → c < 3 → P c
-below_three P a b d zero l = a
-below_three P a b d (suc zero) l = b
-below_three P a b d (suc (suc zero)) l = d
-below_three P a b d (suc (suc (suc c))) l = absurd (omega arith)
+below_three P h k p c q = grind arith
 
 -- each part of a vector is a coordinate
 pub part_is_coordinate : (c : ℕ) → c < 3 → IsCoordinate (part c)

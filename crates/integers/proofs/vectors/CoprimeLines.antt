@@ -4,7 +4,6 @@ use Rattle.std.proofs.lemmas.Int.{ints}
 use Rattle.integers.specs.Vectors.{Vector, plus, times, opposite, StartsPositive}
 use Rattle.integers.proofs.numbers.Bezout.{bezout, coprime_combination, coprime_multiple, cancel_common}
 use Rattle.integers.proofs.numbers.Ring.{ring, linear, positive_not_zero}
-use Rattle.integers.proofs.vectors.Directions.{Start, start_of}
 use Rattle.integers.proofs.vectors.Laws.{vector_equal}
 
 -- c is a multiple of no vector but itself and its opposite
@@ -24,7 +23,7 @@ record LowestTerms (a b : ℤ) : Type 0 where
   one : s *ℤ k +ℤ t *ℤ l ≡ pos 1
 
 turned : (a b : ℤ) → LowestTerms a b → LowestTerms b a
-turned a b r = record { g = r.g; k = r.l; l = r.k; s = r.t; t = r.s; some = r.some; a_is = r.b_is; b_is = r.a_is; one = let e = r.one in omega (arith, linear, e) }
+turned a b r = search arith
 
 negated : (a b : ℤ) → LowestTerms a b → LowestTerms (neg_ℤ a) b
 negated a b r = record {
@@ -78,16 +77,7 @@ lowest_terms (negsuc m) (negsuc n) some =
 
 -- no vector and its opposite both start positive
 pub not_both : (v : Vector) → StartsPositive v → StartsPositive (opposite v) → ⊥
-not_both v h k = by (start_of v h) (start_of (opposite v) k)
-  where
-    by : Start v → Start (opposite v) → ⊥
-    by a b = elim a.which [
-      | inl p ↦ elim b.which [ inl q ↦ omega (arith, ints, p, q) | inr r ↦ elim r [ inl q ↦ omega (arith, ints, p, q.0) | inr q ↦ omega (arith, ints, p, q.0) ] ]
-      | inr w ↦ elim w [
-        | inl p ↦ elim b.which [ inl q ↦ omega (arith, ints, p.0, q) | inr r ↦ elim r [ inl q ↦ omega (arith, ints, p.1, q.1) | inr q ↦ omega (arith, ints, p.1, q.1) ] ]
-        | inr p ↦ elim b.which [ inl q ↦ omega (arith, ints, p.0, q) | inr r ↦ elim r [ inl q ↦ omega (arith, ints, p.1, q.1) | inr q ↦ omega (arith, ints, p.2, q.2) ] ]
-      ]
-    ]
+not_both v h k = grind arith
 
 -- coprime vectors that start positive and have a multiple in common are one
 pub one_direction : (a b : ℤ) (c d : Vector) → a ≢ pos 0 → times a c ≡ times b d → IsCoprime c → IsCoprime d → StartsPositive c → StartsPositive d → c ≡ d
@@ -131,7 +121,8 @@ one_direction a b c d some e hc hd pc pd = by (hd (multiple c d k l s t) k first
     first = vector_equal (coprime_multiple k l s t d.x c.x r.one x) (coprime_multiple k l s t d.y c.y r.one y) (coprime_multiple k l s t d.z c.z r.one z)
 
     second : c ≡ times l (multiple d c l k t s)
-    second = vector_equal (coprime_multiple l k t s c.x d.x turned_one (sym x)) (coprime_multiple l k t s c.y d.y turned_one (sym y)) (coprime_multiple l k t s c.z d.z turned_one (sym z))
+    second = vector_equal (coprime_multiple l k t s c.x d.x turned_one (sym x)) (coprime_multiple l k t s c.y d.y turned_one (sym y))
+        (coprime_multiple l k t s c.z d.z turned_one (sym z))
 
     equal : (u v : ℤ) → k *ℤ u ≡ l *ℤ v → k ≡ l → (k ≡ pos 1) ⊎ (k ≡ neg_ℤ (pos 1)) → u ≡ v
     equal u v f same (inl one) =

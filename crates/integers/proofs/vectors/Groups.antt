@@ -38,4 +38,5 @@ times_in K h (negsuc n) v i = subst K (sym (negative_times n v)) (h.opposites (t
 pub combination_in : (K : Vector → Type 0) → IsVectorGroup K → (ks : List ℤ) (vs : List Vector) → ((v : Vector) → IsIn vs v → K v) → K (combination ks vs)
 combination_in K h [] vs i = h.zero
 combination_in K h (k ∷ ks) [] i = h.zero
-combination_in K h (k ∷ ks) (v ∷ vs) i = h.sums (times k v) (combination ks vs) (times_in K h k v (i v (inl (λ j. v)))) (combination_in K h ks vs (λ w m. i w (inr m)))
+combination_in K h (k ∷ ks) (v ∷ vs) i = h.sums (times k v) (combination ks vs) (times_in K h k v (i v (inl (λ j. v))))
+    (combination_in K h ks vs (λ w m. i w (inr m)))

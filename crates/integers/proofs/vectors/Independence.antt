@@ -21,7 +21,8 @@ pub record Relation (a b c d e f g h i : ℤ) : Type 0 where
 
 module _ (a b c d e f g h i : ℤ) where
   -- a relation of the rows makes 0 of its first number times the determinant
-  relation_times_determinant : (x y z : ℤ) → x *ℤ a +ℤ y *ℤ d +ℤ z *ℤ g ≡ pos 0 → x *ℤ b +ℤ y *ℤ e +ℤ z *ℤ h ≡ pos 0 → x *ℤ c +ℤ y *ℤ f +ℤ z *ℤ i ≡ pos 0 → x *ℤ determinant a b c d e f g h i ≡ pos 0
+  relation_times_determinant : (x y z : ℤ) → x *ℤ a +ℤ y *ℤ d +ℤ z *ℤ g ≡ pos 0 → x *ℤ b +ℤ y *ℤ e +ℤ z *ℤ h ≡ pos 0 → x *ℤ c +ℤ y *ℤ f +ℤ z *ℤ i ≡ pos 0
+      → x *ℤ determinant a b c d e f g h i ≡ pos 0
   relation_times_determinant x y z p q r =
       let p' = ap (λ t. t *ℤ (e *ℤ i -ℤ f *ℤ h)) p in
       let q' = ap (λ t. t *ℤ (d *ℤ i -ℤ f *ℤ g)) q in
@@ -29,7 +30,8 @@ module _ (a b c d e f g h i : ℤ) where
       simp ring (omega (arith, linear, simp ring at p', simp ring at q', simp ring at r'))
 
   -- a relation, by its numbers
-  relation : (x y z : ℤ) → ((x ≡ pos 0) × (y ≡ pos 0) × (z ≡ pos 0) → ⊥) → x *ℤ a +ℤ y *ℤ d +ℤ z *ℤ g ≡ pos 0 → x *ℤ b +ℤ y *ℤ e +ℤ z *ℤ h ≡ pos 0 → x *ℤ c +ℤ y *ℤ f +ℤ z *ℤ i ≡ pos 0 → Relation a b c d e f g h i
+  relation : (x y z : ℤ) → ((x ≡ pos 0) × (y ≡ pos 0) × (z ≡ pos 0) → ⊥) → x *ℤ a +ℤ y *ℤ d +ℤ z *ℤ g ≡ pos 0 → x *ℤ b +ℤ y *ℤ e +ℤ z *ℤ h ≡ pos 0
+      → x *ℤ c +ℤ y *ℤ f +ℤ z *ℤ i ≡ pos 0 → Relation a b c d e f g h i
   relation x y z n p q r = record { x = x; y = y; z = z; some = n; first = p; second = q; third = r }
 
   -- where q times the second row is p times the third, and p is not 0, they have a relation
@@ -47,9 +49,11 @@ module _ (a b c d e f g h i : ℤ) where
       by : (d ≡ pos 0) ⊎ (d ≢ pos 0) → (e ≡ pos 0) ⊎ (e ≢ pos 0) → (f ≡ pos 0) ⊎ (f ≢ pos 0) → Relation a b c d e f g h i
       by (inr n) v w = relation_of_two d g n (simp ring (omega (arith, linear))) (simp ring (omega (arith, linear))) (simp ring (omega (arith, linear)))
       by (inl u) (inr n) w = relation_of_two e h n (simp ring (omega (arith, linear))) (simp ring (omega (arith, linear))) (simp ring (omega (arith, linear)))
-      by (inl u) (inl v) (inr n) = relation_of_two f i n (simp ring (omega (arith, linear))) (simp ring (omega (arith, linear))) (simp ring (omega (arith, linear)))
+      by (inl u) (inl v) (inr n) = relation_of_two f i n (simp ring (omega (arith, linear))) (simp ring (omega (arith, linear)))
+          (simp ring (omega (arith, linear)))
       by (inl u) (inl v) (inl w) =
-          relation (pos 0) (pos 1) (pos 0) (λ t. let s = t.1 in omega (arith, ints)) (simp ring (omega (arith, linear))) (simp ring (omega (arith, linear))) (simp ring (omega (arith, linear)))
+          relation (pos 0) (pos 1) (pos 0) (λ t. let s = t.1 in omega (arith, ints)) (simp ring (omega (arith, linear))) (simp ring (omega (arith, linear)))
+          (simp ring (omega (arith, linear)))
 
   -- where the determinant is 0 the rows have a relation
   pub relation_of_zero : determinant a b c d e f g h i ≡ pos 0 → Relation a b c d e f g h i
@@ -58,19 +62,24 @@ module _ (a b c d e f g h i : ℤ) where
       by : (d *ℤ h -ℤ e *ℤ g ≡ pos 0) ⊎ (d *ℤ h -ℤ e *ℤ g ≢ pos 0) → (d *ℤ i -ℤ f *ℤ g ≡ pos 0) ⊎ (d *ℤ i -ℤ f *ℤ g ≢ pos 0)
           → (e *ℤ i -ℤ f *ℤ h ≡ pos 0) ⊎ (e *ℤ i -ℤ f *ℤ h ≢ pos 0) → Relation a b c d e f g h i
       by (inr nz) v w =
-          relation (d *ℤ h -ℤ e *ℤ g) (b *ℤ g -ℤ a *ℤ h) (a *ℤ e -ℤ b *ℤ d) (λ t. nz t.0) (simp ring (omega (arith, linear))) (simp ring (omega (arith, linear))) (simp ring (omega (arith, linear, simp ring at z)))
+          relation (d *ℤ h -ℤ e *ℤ g) (b *ℤ g -ℤ a *ℤ h) (a *ℤ e -ℤ b *ℤ d) (λ t. nz t.0) (simp ring (omega (arith, linear)))
+          (simp ring (omega (arith, linear))) (simp ring (omega (arith, linear, simp ring at z)))
       by (inl nz) (inr ny) w =
-          relation (d *ℤ i -ℤ f *ℤ g) (c *ℤ g -ℤ a *ℤ i) (a *ℤ f -ℤ c *ℤ d) (λ t. ny t.0) (simp ring (omega (arith, linear))) (simp ring (omega (arith, linear, simp ring at z))) (simp ring (omega (arith, linear)))
+          relation (d *ℤ i -ℤ f *ℤ g) (c *ℤ g -ℤ a *ℤ i) (a *ℤ f -ℤ c *ℤ d) (λ t. ny t.0) (simp ring (omega (arith, linear)))
+          (simp ring (omega (arith, linear, simp ring at z))) (simp ring (omega (arith, linear)))
       by (inl nz) (inl ny) (inr nx) =
-          relation (e *ℤ i -ℤ f *ℤ h) (c *ℤ h -ℤ b *ℤ i) (b *ℤ f -ℤ c *ℤ e) (λ t. nx t.0) (simp ring (omega (arith, linear, simp ring at z))) (simp ring (omega (arith, linear))) (simp ring (omega (arith, linear)))
+          relation (e *ℤ i -ℤ f *ℤ h) (c *ℤ h -ℤ b *ℤ i) (b *ℤ f -ℤ c *ℤ e) (λ t. nx t.0) (simp ring (omega (arith, linear, simp ring at z)))
+          (simp ring (omega (arith, linear))) (simp ring (omega (arith, linear)))
       by (inl nz) (inl ny) (inl nx) = relation_of_parallel nz ny nx
 
   -- where it is not 0, the first number of a relation is 0
-  pub first_is_zero : (determinant a b c d e f g h i ≡ pos 0 → ⊥) → (x y z : ℤ) → x *ℤ a +ℤ y *ℤ d +ℤ z *ℤ g ≡ pos 0 → x *ℤ b +ℤ y *ℤ e +ℤ z *ℤ h ≡ pos 0 → x *ℤ c +ℤ y *ℤ f +ℤ z *ℤ i ≡ pos 0 → x ≡ pos 0
+  pub first_is_zero : (determinant a b c d e f g h i ≡ pos 0 → ⊥) → (x y z : ℤ) → x *ℤ a +ℤ y *ℤ d +ℤ z *ℤ g ≡ pos 0 → x *ℤ b +ℤ y *ℤ e +ℤ z *ℤ h ≡ pos 0
+      → x *ℤ c +ℤ y *ℤ f +ℤ z *ℤ i ≡ pos 0 → x ≡ pos 0
   first_is_zero n x y z p q r = ⊎_elim (λ u. u) (λ u. absurd (n u)) (factor_zero x (determinant a b c d e f g h i) (relation_times_determinant x y z p q r))
 
 -- the triple product is the determinant
-pub product_is_determinant : (a b c d e f g h i : ℤ) → a *ℤ (e *ℤ i -ℤ f *ℤ h) +ℤ b *ℤ (f *ℤ g -ℤ d *ℤ i) +ℤ c *ℤ (d *ℤ h -ℤ e *ℤ g) ≡ determinant a b c d e f g h i
+pub product_is_determinant : (a b c d e f g h i : ℤ) → a *ℤ (e *ℤ i -ℤ f *ℤ h) +ℤ b *ℤ (f *ℤ g -ℤ d *ℤ i) +ℤ c *ℤ
+    (d *ℤ h -ℤ e *ℤ g) ≡ determinant a b c d e f g h i
 product_is_determinant a b c d e f g h i = simp ring (omega (arith, linear))
 
 -- a sum of three, with 0 at its end
@@ -86,7 +95,8 @@ pub product_of_independent : (a b c : Vector) → AreIndependent (a ∷ b ∷ c 
 product_of_independent a b c i h =
     let r = relation_of_zero a.x a.y a.z b.x b.y b.z c.x c.y c.z (sym (product_is_determinant a.x a.y a.z b.x b.y b.z c.x c.y c.z) ∙ h) in
     let z = i (r.x ∷ r.y ∷ r.z ∷ []) refl
-    (vector_equal (add_zero (r.x *ℤ a.x) (r.y *ℤ b.x) (r.z *ℤ c.x) r.first) (add_zero (r.x *ℤ a.y) (r.y *ℤ b.y) (r.z *ℤ c.y) r.second) (add_zero (r.x *ℤ a.z) (r.y *ℤ b.z) (r.z *ℤ c.z) r.third)) in
+    (vector_equal (add_zero (r.x *ℤ a.x) (r.y *ℤ b.x) (r.z *ℤ c.x) r.first) (add_zero (r.x *ℤ a.y) (r.y *ℤ b.y) (r.z *ℤ c.y) r.second)
+    (add_zero (r.x *ℤ a.z) (r.y *ℤ b.z) (r.z *ℤ c.z) r.third)) in
     r.some (z.0, z.1.0, z.1.1.0)
 
 -- a third term of 0 may be left out
@@ -100,7 +110,8 @@ flat_sum x y a b e h = (λ i. x *ℤ e i +ℤ (y *ℤ h i +ℤ pos 0)) ∙ omega
 -- two independent flat vectors have a cross product other than 0
 pub flat_product_of_independent : (a b : Vector) → a.z ≡ pos 0 → b.z ≡ pos 0 → AreIndependent (a ∷ b ∷ []) → triple_product a b up_vector ≢ pos 0
 flat_product_of_independent a b fa fb i h =
-    let r = relation_of_zero a.x a.y a.z b.x b.y b.z (pos 0) (pos 0) (pos 1) (sym (product_is_determinant a.x a.y a.z b.x b.y b.z (pos 0) (pos 0) (pos 1)) ∙ h) in
+    let r = relation_of_zero a.x a.y a.z b.x b.y b.z (pos 0) (pos 0) (pos 1)
+    (sym (product_is_determinant a.x a.y a.z b.x b.y b.z (pos 0) (pos 0) (pos 1)) ∙ h) in
     let third : r.x *ℤ pos 0 +ℤ r.y *ℤ pos 0 +ℤ r.z *ℤ pos 1 ≡ pos 0 = (λ j. r.x *ℤ sym fa j +ℤ r.y *ℤ sym fb j +ℤ r.z *ℤ pos 1) ∙ r.third in
     let z0 = flat_zero r.x r.y r.z third in
     let z = i (r.x ∷ r.y ∷ []) refl

@@ -79,7 +79,8 @@ same_number x y e = omega (arith, linear, e)
 
 -- where v - w is 0, v is w
 pub equal_of_minus : (v w : Vector) → minus v w ≡ zero_vector → v ≡ w
-equal_of_minus v w e = vector_equal (same_number v.x w.x (ap (λ (a : Vector). a.x) e)) (same_number v.y w.y (ap (λ (a : Vector). a.y) e)) (same_number v.z w.z (ap (λ (a : Vector). a.z) e))
+equal_of_minus v w e = vector_equal (same_number v.x w.x (ap (λ (a : Vector). a.x) e)) (same_number v.y w.y (ap (λ (a : Vector). a.y) e))
+    (same_number v.z w.z (ap (λ (a : Vector). a.z) e))
 
 -- t cancels
 cancel_number : (t x y : ℤ) → t +ℤ x ≡ t +ℤ y → x ≡ y
@@ -87,7 +88,8 @@ cancel_number t x y e = omega (arith, linear, e)
 
 -- where t + v is t + w, v is w
 pub plus_cancel : (t v w : Vector) → plus t v ≡ plus t w → v ≡ w
-plus_cancel t v w e = vector_equal (cancel_number t.x v.x w.x (ap (λ (a : Vector). a.x) e)) (cancel_number t.y v.y w.y (ap (λ (a : Vector). a.y) e)) (cancel_number t.z v.z w.z (ap (λ (a : Vector). a.z) e))
+plus_cancel t v w e = vector_equal (cancel_number t.x v.x w.x (ap (λ (a : Vector). a.x) e)) (cancel_number t.y v.y w.y (ap (λ (a : Vector). a.y) e))
+    (cancel_number t.z v.z w.z (ap (λ (a : Vector). a.z) e))
 
 -- what is taken off both cancels
 pub minus_cancel : (a b c : Vector) → minus a c ≡ minus b c → a ≡ b
@@ -140,21 +142,16 @@ numbers_times m n v = ap (λ (k : ℤ). times k v) (sym (pos-*ℤ-pos m n)) ∙ 
 -- a factor other than 0 cancels
 pub times_cancel : (d : ℤ) (v w : Vector) → d ≢ pos 0 → times d v ≡ times d w → v ≡ w
 times_cancel d v w n e =
-    vector_equal (cancel_factor d v.x w.x n (ap (λ (a : Vector). a.x) e)) (cancel_factor d v.y w.y n (ap (λ (a : Vector). a.y) e)) (cancel_factor d v.z w.z n (ap (λ (a : Vector). a.z) e))
+    vector_equal (cancel_factor d v.x w.x n (ap (λ (a : Vector). a.x) e)) (cancel_factor d v.y w.y n (ap (λ (a : Vector). a.y) e))
+    (cancel_factor d v.z w.z n (ap (λ (a : Vector). a.z) e))
 
 -- c·(v + w) = c·v + c·w
 pub dot_plus : (c v w : Vector) → dot c (plus v w) ≡ dot c v +ℤ dot c w
-dot_plus c v w = parts c.x c.y c.z v.x v.y v.z w.x w.y w.z
-  where
-    parts : (a b c x y z u v w : ℤ) → a *ℤ (x +ℤ u) +ℤ b *ℤ (y +ℤ v) +ℤ c *ℤ (z +ℤ w) ≡ (a *ℤ x +ℤ b *ℤ y +ℤ c *ℤ z) +ℤ (a *ℤ u +ℤ b *ℤ v +ℤ c *ℤ w)
-    parts a b c x y z u v w = simp ring (omega (arith, linear))
+dot_plus c v w = simp ring (omega (arith, linear))
 
 -- c·(k·v) = k·(c·v)
 pub dot_times : (c : Vector) (k : ℤ) (v : Vector) → dot c (times k v) ≡ k *ℤ dot c v
-dot_times c k v = parts k c.x c.y c.z v.x v.y v.z
-  where
-    parts : (k a b c x y z : ℤ) → a *ℤ (k *ℤ x) +ℤ b *ℤ (k *ℤ y) +ℤ c *ℤ (k *ℤ z) ≡ k *ℤ (a *ℤ x +ℤ b *ℤ y +ℤ c *ℤ z)
-    parts k a b c x y z = simp ring (omega (arith, linear))
+dot_times c k v = simp ring (omega (arith, linear))
 
 -- c·0 = 0
 pub dot_zero : (c : Vector) → dot c zero_vector ≡ pos 0
@@ -174,10 +171,7 @@ opposite_dimension d v h e = ap neg_ℤ (h e)
 
 -- and so has a multiple
 pub times_dimension : (d : ℕ) (k : ℤ) (v : Vector) → HasDimension d v → HasDimension d (times k v)
-times_dimension d k v h e = ap (λ (z : ℤ). k *ℤ z) (h e) ∙ zero_is k
-  where
-    zero_is : (a : ℤ) → a *ℤ pos 0 ≡ pos 0
-    zero_is a = omega (arith, ints)
+times_dimension d k v h e = grind arith
 
 -- a vector that has the dimension once it is multiplied by a positive number has it
 pub divided_dimension : (d n : ℕ) → 1 ≤ n → (u : Vector) → HasDimension d (times (pos n) u) → HasDimension d u
@@ -185,7 +179,4 @@ divided_dimension d n h u f e = other_factor_zero (pos n) u.z (f e) (positive_no
 
 -- the product of the cross product of b and c with a
 pub dot_cross : (a b c : Vector) → dot (cross b c) a ≡ triple_product a b c
-dot_cross a b c = parts (b.y *ℤ c.z -ℤ b.z *ℤ c.y) (b.z *ℤ c.x -ℤ b.x *ℤ c.z) (b.x *ℤ c.y -ℤ b.y *ℤ c.x) a.x a.y a.z
-  where
-    parts : (x y z u v w : ℤ) → x *ℤ u +ℤ y *ℤ v +ℤ z *ℤ w ≡ u *ℤ x +ℤ v *ℤ y +ℤ w *ℤ z
-    parts x y z u v w = simp ring (omega (arith, linear))
+dot_cross a b c = simp ring (omega (arith, linear))

@@ -1,20 +1,15 @@
 -- Sets with the same members have one staircase basis.
-use Rattle.std.proofs.Common.{◌≡◌, ℕ, zero, suc, ◌<◌, ℤ, pos, ◌≤ℤ◌, List, length, sym, ◌∙◌, arith}
+use Rattle.std.proofs.Common.{◌≡◌, ℕ, ◌<◌, ℤ, pos, ◌≤ℤ◌, List, length, sym, ◌∙◌, arith}
 use Rattle.std.specs.Prelude.{◌<ℤ◌, ◌↔◌, drop, slice_index_or}
 use Rattle.std.proofs.lemmas.Int.{ints}
 use Rattle.std.proofs.lemmas.List.{ext_get_or}
 use Rattle.integers.specs.Vectors.{Vector, zero_vector, parts}
 use Rattle.integers.specs.Staircase.{part, IsZeroBefore, MayLead, IsStair, IsStaircase}
 use Rattle.integers.proofs.lists.ListOrder.{at_most_both}
-use Rattle.integers.proofs.vectors.Laws.{vector_equal}
 
 -- less or equal both ways
 equal_of_both : (x y : ℤ) → x ≤ℤ y → y ≤ℤ x → x ≡ y
 equal_of_both x y h k = omega (arith, ints, h, k)
-
--- 0 is not positive
-none_positive : pos 0 <ℤ pos 0 → ⊥
-none_positive h = absurd (omega (arith, ints, h))
 
 -- a row that may lead in one set may lead in the other
 other_may : {L M : Vector → Type 0} → ((w : Vector) → L w → M w) → (i : ℕ) (v : Vector) → MayLead L i v → MayLead M i v
@@ -22,11 +17,7 @@ other_may h i v m = record { member = h v m.member; before = m.before; leads = m
 
 -- vectors that are equal from place i on, with 0 before it, are equal
 equal_from : (i : ℕ) (v w : Vector) → pos 0 <ℤ part i v → IsZeroBefore i v → IsZeroBefore i w → drop i (parts 3 v) ≡ drop i (parts 3 w) → v ≡ w
-equal_from zero v w p b c e = vector_equal (cc) (cc) (cc)
-equal_from (suc zero) v w p b c e = vector_equal (b 0 (omega arith) ∙ sym (c 0 (omega arith))) (cc) (cc)
-equal_from (suc (suc zero)) v w p b c e =
-    vector_equal (b 0 (omega arith) ∙ sym (c 0 (omega arith))) (b 1 (omega arith) ∙ sym (c 1 (omega arith))) (cc)
-equal_from (suc (suc (suc i))) v w p b c e = absurd (none_positive p)
+equal_from i v w h k l q = grind arith
 
 -- the row at i of two such sets
 pub one_stair : (L M : Vector → Type 0) → ((w : Vector) → L w → M w) → ((w : Vector) → M w → L w) → (i : ℕ) (v w : Vector)

@@ -1,17 +1,10 @@
 -- Vectors are determined by their parts.
-use Rattle.std.proofs.Common.{◌≡◌, ℕ, ℤ, pos, [], ◌∷◌}
-use Rattle.integers.specs.Vectors.{Vector, vector, parts}
+use Rattle.std.proofs.Common.{◌≡◌, ℕ, pos, ◌∷◌, arith}
+use Rattle.integers.specs.Vectors.{Vector, parts}
 
 -- the three parts determine a vector
 pub parts_tell : (v w : Vector) → parts 3 v ≡ parts 3 w → v ≡ w
-parts_tell v w e = by v.x v.y v.z w.x w.y w.z e
-  where
-    by : (x y z x' y' z' : ℤ) → (x ∷ y ∷ z ∷ []) ≡ (x' ∷ y' ∷ z' ∷ []) → vector x y z ≡ vector x' y' z'
-    by x y z x' y' z' e =
-        let a : x ≡ x' = cc in
-        let b : y ≡ y' = cc in
-        let c : z ≡ z' = cc in
-        λ i. vector (a i) (b i) (c i)
+parts_tell v w e = grind arith
 
 -- after two numbers, they determine these too
 pub ends_tell : (u v u' v' : ℕ) (s t : Vector) → (pos u ∷ pos v ∷ parts 3 s) ≡ (pos u' ∷ pos v' ∷ parts 3 t) → (u ≡ u') × (v ≡ v') × (s ≡ t)

@@ -1,11 +1,11 @@
 -- The order of vectors as lists of parts, part by part, and of lists by their first numbers.
 use Rattle.std.proofs.Common.{◌≡◌, ◌⊎◌, inl, inr, ℤ, ◌+ℤ◌, ◌-ℤ◌, List, [], ◌∷◌, sym, ap, ◌∙◌, arith}
 use Rattle.std.specs.Prelude.{◌<ℤ◌}
-use Rattle.std.specs.Cmp.{int_ranks, int_cmp_is}
+use Rattle.std.specs.Cmp.{int_cmp_is}
 use Rattle.std.specs.Cmp.Lexicographic.{slice_cmp}
-use Rattle.std.specs.Ordering.{int_cmp, ordering_then, MatchOrdering}
+use Rattle.std.specs.Ordering.{int_cmp, ordering_then}
 use Rattle.std.specs.declared.cmp.Ordering.{Ordering}
-use Rattle.std.specs.declared.cmp.Ordering.TheVariants.{Less, Equal, Greater}
+use Rattle.std.specs.declared.cmp.Ordering.TheVariants.{Less, Equal}
 use Rattle.integers.specs.Vectors.{Vector, plus, minus, parts, IsBelow}
 use Rattle.integers.proofs.numbers.Ring.{linear}
 
@@ -19,22 +19,11 @@ below_rest x y xs ys e h = ap (λ (o : Ordering). ordering_then o (slice_cmp int
 
 -- these are the two ways
 pub below_ways : (x y : ℤ) (xs ys : List ℤ) → IsBelow (x ∷ xs) (y ∷ ys) → (x <ℤ y) ⊎ ((x ≡ y) × IsBelow xs ys)
-below_ways x y xs ys h = by (int_cmp x y) (int_ranks x y) h
-  where
-    by : (o : Ordering) → MatchOrdering o (x <ℤ y) (x ≡ y) (y <ℤ x) → ordering_then o (slice_cmp int_cmp xs ys) ≡ Less → (x <ℤ y) ⊎ ((x ≡ y) × IsBelow xs ys)
-    by Less m e = inl m
-    by Equal m e = inr (m, e)
-    by Greater m e = absurd (greater_less e)
-      where
-        greater_less : Greater ≡ Less → ⊥
-        greater_less f = cc
+below_ways x y xs ys h = grind arith
 
 -- no list is below the empty list
 none_below : IsBelow [] [] → ⊥
-none_below h = equal_less h
-  where
-    equal_less : Equal ≡ Less → ⊥
-    equal_less f = cc
+none_below h = grind arith
 
 -- v is below w: by the first part, the second or the third
 abbrev pub Precedes : Vector → Vector → Type 0
@@ -42,23 +31,11 @@ Precedes v w = (v.x <ℤ w.x) ⊎ ((v.x ≡ w.x) × ((v.y <ℤ w.y) ⊎ ((v.y �
 
 -- as lists of parts
 pub precedes : (v w : Vector) → IsBelow (parts 3 v) (parts 3 w) → Precedes v w
-precedes v w h = elim (below_ways v.x w.x (v.y ∷ v.z ∷ []) (w.y ∷ w.z ∷ []) h) [
-  | inl a ↦ inl a
-  | inr a ↦ inr (
-    a.0,
-    elim (below_ways v.y w.y (v.z ∷ []) (w.z ∷ []) a.1) [
-      | inl b ↦ inl b
-      | inr b ↦ inr (b.0, elim (below_ways v.z w.z [] [] b.1) [ inl c ↦ c | inr c ↦ absurd (none_below c.1) ])
-    ],
-  )
-]
+precedes v w h = search (arith, below_ways, none_below)
 
 -- and the other way
 pub parts_below : (v w : Vector) → Precedes v w → IsBelow (parts 3 v) (parts 3 w)
-parts_below v w (inl x) = below_head v.x w.x (v.y ∷ v.z ∷ []) (w.y ∷ w.z ∷ []) x
-parts_below v w (inr (x, inl y)) = below_rest v.x w.x (v.y ∷ v.z ∷ []) (w.y ∷ w.z ∷ []) x (below_head v.y w.y (v.z ∷ []) (w.z ∷ []) y)
-parts_below v w (inr (x, inr (y, z))) =
-    below_rest v.x w.x (v.y ∷ v.z ∷ []) (w.y ∷ w.z ∷ []) x (below_rest v.y w.y (v.z ∷ []) (w.z ∷ []) y (below_head v.z w.z [] [] z))
+parts_below v w h = grind arith
 
 -- moved alike, vectors keep their order
 pub moved_below : (v w s t : Vector) → IsBelow (parts 3 v) (parts 3 w) → IsBelow (parts 3 (minus (plus v s) t)) (parts 3 (minus (plus w s) t))

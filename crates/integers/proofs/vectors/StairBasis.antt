@@ -26,10 +26,7 @@ row_sum_minus rows v w = by (row rows 0) (row rows 1) (row rows 2)
 
 -- a factor of 0, beside positive numbers
 factor : (m a : ℤ) → pos 0 <ℤ a → m *ℤ a ≡ pos 0 → m ≡ pos 0
-factor m a h e = other_factor_zero a m (turned m a e) (λ z. omega (arith, ints, z, h))
-  where
-    turned : (m a : ℤ) → m *ℤ a ≡ pos 0 → a *ℤ m ≡ pos 0
-    turned m a e = omega (arith, ints, e)
+factor m a h e = search (arith, other_factor_zero)
 
 -- the first of three terms, where the others are 0
 first_zero : (k l n a b c : ℤ) → pos 0 <ℤ a → b ≡ pos 0 → (n ≡ pos 0) ⊎ (c ≡ pos 0) → k *ℤ a +ℤ (l *ℤ b +ℤ n *ℤ c) ≡ pos 0 → k ≡ pos 0
@@ -78,21 +75,25 @@ only_zero L d rows (inl e) s m h z =
     let r0 = s.each 0 (omega arith) in
     let r1 = s.each 1 (omega arith) in
     let n = h e in
-    let x = first_zero m.x m.y m.z (row rows 0).x (row rows 1).x (row rows 2).x r0.may.leads (r1.may.before 0 (omega arith)) (inl n) (ap (λ (t : Vector). t.x) z) in
+    let x = first_zero m.x m.y m.z (row rows 0).x (row rows 1).x (row rows 2).x r0.may.leads (r1.may.before 0 (omega arith)) (inl n)
+    (ap (λ (t : Vector). t.x) z) in
     let y = second_zero m.x m.y m.z (row rows 0).y (row rows 1).y (row rows 2).y x r1.may.leads (inl n) (ap (λ (t : Vector). t.y) z) in
     vector_equal x y n
 only_zero L d rows (inr e) s m h z =
     let r0 = s.each 0 (omega arith) in
     let r1 = s.each 1 (omega arith) in
     let r2 = s.each 2 (omega arith) in
-    let x = first_zero m.x m.y m.z (row rows 0).x (row rows 1).x (row rows 2).x r0.may.leads (r1.may.before 0 (omega arith)) (inr (r2.may.before 0 (omega arith))) (ap (λ (t : Vector). t.x) z) in
-    let y = second_zero m.x m.y m.z (row rows 0).y (row rows 1).y (row rows 2).y x r1.may.leads (inr (r2.may.before 1 (omega arith))) (ap (λ (t : Vector). t.y) z) in
+    let x = first_zero m.x m.y m.z (row rows 0).x (row rows 1).x (row rows 2).x r0.may.leads (r1.may.before 0 (omega arith))
+    (inr (r2.may.before 0 (omega arith))) (ap (λ (t : Vector). t.x) z) in
+    let y = second_zero m.x m.y m.z (row rows 0).y (row rows 1).y (row rows 2).y x r1.may.leads (inr (r2.may.before 1 (omega arith)))
+    (ap (λ (t : Vector). t.y) z) in
     vector_equal x y (third_zero m.x m.y m.z (row rows 0).z (row rows 1).z (row rows 2).z x y r2.may.leads (ap (λ (t : Vector). t.z) z))
 
 module _ (L : Vector → Type 0) (l : IsVectorGroup L) (d : ℕ) (rows : List Vector) (s : IsStaircase L d rows) where
   -- the sums of rows are members
   sums_in : (d ≡ 2) ⊎ (d ≡ 3) → (k : Vector) → HasDimension d k → L (row_sum rows k)
-  sums_in c k h = l.sums (times k.x (row rows 0)) (plus (times k.y (row rows 1)) (times k.z (row rows 2))) (times_in L l k.x (row rows 0) (s.each 0 (zeroth c)).may.member)
+  sums_in c k h = l.sums (times k.x (row rows 0)) (plus (times k.y (row rows 1)) (times k.z (row rows 2)))
+      (times_in L l k.x (row rows 0) (s.each 0 (zeroth c)).may.member)
       (l.sums (times k.y (row rows 1)) (times k.z (row rows 2)) (times_in L l k.y (row rows 1) (s.each 1 (first c)).may.member) (third c))
     where
       zeroth : (d ≡ 2) ⊎ (d ≡ 3) → 0 < d
@@ -118,7 +119,8 @@ module _ (L : Vector → Type 0) (l : IsVectorGroup L) (d : ℕ) (rows : List Ve
   }
 
 -- a combination of the rows, as a sum of the shifts of a map
-pub combination_is : (d : ℕ) → (d ≡ 2) ⊎ (d ≡ 3) → (rows : List Vector) → length rows ≡ d → (k : Vector) → HasDimension d k → combination (parts 3 k) rows ≡ row_sum rows k
+pub combination_is : (d : ℕ) → (d ≡ 2) ⊎ (d ≡ 3) → (rows : List Vector) → length rows ≡ d → (k : Vector) → HasDimension d k
+    → combination (parts 3 k) rows ≡ row_sum rows k
 combination_is d (inl e) (a ∷ b ∷ []) l k h = ap (λ (t : Vector). plus (times k.x a) (plus (times k.y b) t)) (sym (times_zero k.z))
 combination_is d (inr e) (a ∷ b ∷ c ∷ []) l k h = ap (λ (t : Vector). plus (times k.x a) (plus (times k.y b) t)) (plus_zero (times k.z c))
 combination_is d (inl e) [] l k h = absurd (omega arith)

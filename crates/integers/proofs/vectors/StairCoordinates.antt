@@ -27,10 +27,7 @@ none q = omega (arith, ints)
 
 -- a part of v - q·r
 part_less : (i : ℕ) (q : ℤ) (v r : Vector) → part i (minus v (times q r)) ≡ part i v -ℤ q *ℤ part i r
-part_less zero q v r = refl
-part_less (suc zero) q v r = refl
-part_less (suc (suc zero)) q v r = refl
-part_less (suc (suc (suc i))) q v r = none q
+part_less i q v r = search arith
 
 -- a lattice has differences with multiples
 less_in : (L : Vector → Type 0) → IsVectorGroup L → (q : ℤ) (v r : Vector) → L v → L r → L (minus v (times q r))
@@ -81,22 +78,26 @@ all_zero v h e = vector_equal (h 0 (omega arith)) (h 1 (omega arith)) e
 
 -- v is the sum of what was taken off
 sum_back : (v a b : Vector) → minus (minus v a) b ≡ zero_vector → v ≡ plus a b
-sum_back v a b e = vector_equal (back v.x a.x b.x (ap (λ (t : Vector). t.x) e)) (back v.y a.y b.y (ap (λ (t : Vector). t.y) e)) (back v.z a.z b.z (ap (λ (t : Vector). t.z) e))
+sum_back v a b e = vector_equal (back v.x a.x b.x (ap (λ (t : Vector). t.x) e)) (back v.y a.y b.y (ap (λ (t : Vector). t.y) e))
+    (back v.z a.z b.z (ap (λ (t : Vector). t.z) e))
   where
     back : (v a b : ℤ) → (v -ℤ a) -ℤ b ≡ pos 0 → v ≡ a +ℤ b
     back v a b e = omega (arith, linear, e)
 
 -- the same, of three
 sum_back_three : (v a b c : Vector) → minus (minus (minus v a) b) c ≡ zero_vector → v ≡ plus a (plus b c)
-sum_back_three v a b c e = vector_equal (back v.x a.x b.x c.x (ap (λ (t : Vector). t.x) e)) (back v.y a.y b.y c.y (ap (λ (t : Vector). t.y) e)) (back v.z a.z b.z c.z (ap (λ (t : Vector). t.z) e))
+sum_back_three v a b c e = vector_equal (back v.x a.x b.x c.x (ap (λ (t : Vector). t.x) e)) (back v.y a.y b.y c.y (ap (λ (t : Vector). t.y) e))
+    (back v.z a.z b.z c.z (ap (λ (t : Vector). t.z) e))
   where
     back : (v a b c : ℤ) → ((v -ℤ a) -ℤ b) -ℤ c ≡ pos 0 → v ≡ a +ℤ (b +ℤ c)
     back v a b c e = omega (arith, linear, e)
 
-module _ (L : Vector → Type 0) (l : IsVectorGroup L) (d : ℕ) (rows : List Vector) (s : IsStaircase L d rows) (flat : (v : Vector) → L v → HasDimension d v) where
+module _ (L : Vector → Type 0) (l : IsVectorGroup L) (d : ℕ) (rows : List Vector) (s : IsStaircase L d rows)
+    (flat : (v : Vector) → L v → HasDimension d v) where
   -- what the first two rows leave of a member
   cleared_twice : 2 ≤ d → (v : Vector) → L v
-      → (p : ℤ) × (q : ℤ) × L (minus (minus v (times p (row rows 0))) (times q (row rows 1))) × IsZeroBefore 2 (minus (minus v (times p (row rows 0))) (times q (row rows 1)))
+      → (p : ℤ) × (q : ℤ) × L (minus (minus v (times p (row rows 0))) (times q (row rows 1)))
+      × IsZeroBefore 2 (minus (minus v (times p (row rows 0))) (times q (row rows 1)))
   cleared_twice h v m =
       let one = clear L l 0 (row rows 0) v (s.each 0 (omega (arith, h))) m (λ k h. absurd (omega arith)) in
       let two = clear L l 1 (row rows 1) (minus v (times one.quotient (row rows 0))) (s.each 1 (omega (arith, h))) one.member one.before in
@@ -118,5 +119,6 @@ module _ (L : Vector → Type 0) (l : IsVectorGroup L) (d : ℕ) (rows : List Ve
       let a = times t.0 (row rows 0) in
       let b = times t.1 (row rows 1) in
       let three = clear L l 2 (row rows 2) (minus (minus v a) b) (s.each 2 (omega arith)) t.2 t.3 in
-      let zero = all_zero (minus (minus (minus v a) b) (times three.quotient (row rows 2))) (λ k h. three.before k (omega arith)) (three.before 2 (omega arith)) in
+      let zero = all_zero (minus (minus (minus v a) b) (times three.quotient (row rows 2))) (λ k h. three.before k (omega arith))
+      (three.before 2 (omega arith)) in
       (vector t.0 t.1 three.quotient, (λ h. absurd (omega arith)), sym (sum_back_three v a b (times three.quotient (row rows 2)) zero))

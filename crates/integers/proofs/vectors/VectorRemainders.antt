@@ -26,7 +26,8 @@ one_rest m r r' s s' a b c d e =
 -- vectors a multiple of m apart have one remainder
 pub one_modulo : (m : ℕ) (v w r q t : Vector) → IsModulo (pos m) v r → IsModulo (pos m) w q → v ≡ plus w (times (pos m) t) → r ≡ q
 one_modulo m v w r q t x y e =
-    let h : plus r (times (pos m) x.steps) ≡ plus q (times (pos m) (plus y.steps t)) = sym x.is ∙ e ∙ ap (λ (a : Vector). plus a (times (pos m) t)) y.is ∙ joined (pos m) q y.steps t in
+    let h : plus r (times (pos m) x.steps) ≡ plus q (times (pos m) (plus y.steps t)) = sym x.is ∙ e ∙ ap (λ (a : Vector). plus a (times (pos m) t)) y.is
+    ∙ joined (pos m) q y.steps t in
     vector_equal
     (one_rest m r.x q.x x.steps.x (plus y.steps t).x x.low.0 x.high.0 y.low.0 y.high.0 (ap (λ (a : Vector). a.x) h))
     (one_rest m r.y q.y x.steps.y (plus y.steps t).y x.low.1 x.high.1 y.low.1 y.high.1 (ap (λ (a : Vector). a.y) h))

@@ -23,7 +23,8 @@ module _ (G : Graph) (g : IsGraph G) (c : IsCertain G) where
   not_wide_placement : (w : Wide) → ¬ IsWidePlacement G w
   not_wide_placement w h =
       let s = c.keyable.shape in
-      not_wide G h.placement h.normal (same_limits G g s.stable.connected s.placement h.placement s.stable.placement h.normal c.keyable.limits) w.site w.value h.wide
+      not_wide G h.placement h.normal (same_limits G g s.stable.connected s.placement h.placement s.stable.placement h.normal c.keyable.limits) w.site w.value
+      h.wide
 
   not_wide_of : (w : Wide) (site : WideSite) → ¬ IsWideOf G w site
   not_wide_of w (Denominator u v) h = not_wide_placement w h.1
@@ -40,7 +41,8 @@ certain_is_not_refused G (NoModulus first second third) g c h = absurd (not_reac
 certain_is_not_refused G (WidePlacement w) g c h = absurd (not_wide_of G g c w w.site h.1)
 certain_is_not_refused G (Collision dim u v t) g c h =
     let s = c.keyable.shape in
-    absurd (s.stable.no_collision u v t (same_collision G g s.stable.connected h.net.placement s.placement h.placed.normal s.stable.placement u v t h.first.collision))
+    absurd (s.stable.no_collision u v t
+    (same_collision G g s.stable.connected h.net.placement s.placement h.placed.normal s.stable.placement u v t h.first.collision))
 certain_is_not_refused G (TooMuch done counted) g c h =
     absurd (work_not_past G g c.keyable.shape h.shape c.keyable.work done counted c.keyable.is_work c.keyable.work_limit h.past)
 certain_is_not_refused G NoMemory g c h = refl

@@ -1,21 +1,15 @@
 -- Within the limits no number of a normal placement passes one.
 use Rattle.std.proofs.Common.{ℕ, zero, suc, ℤ, ◌-◌, ◌≤◌, ◌<◌, sym, subst, unsigned_abs, arith}
-use Rattle.std.specs.Int.{◌∣◌}
 use Rattle.std.proofs.lemmas.Nat.Gcd.{le_of_dvd}
 use Rattle.integers.specs.Vectors.{Vector, IsWithin}
 use Rattle.integers.specs.Staircase.{part}
 use Rattle.periodic_net.specs.Graph.{Graph, arc}
 use Rattle.periodic_net.specs.Limits.{most_units}
 use Rattle.periodic_net.specs.Placement.{Placement, base, arc_vector, IsNormalPlacement, IsWithinLimits}
-use Rattle.barycentre.specs.WidePlacements.{IsLowestDenominator, IsWideDenominator, IsWideArc, IsWideAt, coordinate}
+use Rattle.barycentre.specs.WidePlacements.{IsWideDenominator, IsWideArc, IsWideAt, coordinate}
 use Rattle.barycentre.specs.declared.faults.WideSite.{WideSite}
 use Rattle.barycentre.specs.declared.faults.WideSite.TheVariants.{Denominator, ArcPart, Beyond}
-use Rattle.barycentre.proofs.CallerLemmas.{denominator_divides}
-
--- a denominator in lowest terms divides the denominator
-lowest_divides : (x : ℤ) (n d : ℕ) → IsLowestDenominator x n d → d ∣ n
-lowest_divides x n d h =
-    denominator_divides (record { num = h.numerator; den = d }) n x (record { positive = h.positive; coprime = h.coprime }) (sym h.same)
+use Rattle.barycentre.proofs.CallerLemmas.{lowest_divides}
 
 -- each part of a vector is within its bound
 part_within : (n : ℕ) (v : Vector) (i : ℕ) → IsWithin n v → unsigned_abs (part i v) ≤ n

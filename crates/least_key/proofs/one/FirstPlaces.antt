@@ -21,7 +21,9 @@ one_first P (z ∷ xs) (w ∷ ys) us vs x y a b n m e = one_first P xs ys us vs 
 pub one_wide_place : (G : Graph) (at there : Place) → IsFirstWidePlace G at → IsFirstWidePlace G there → at ≡ there
 one_wide_place G at there a b =
     a.stands
-    ∙ ap (λ (e : Entry). e.place) (one_first (IsGood 0 IsNarrow) a.first.before b.first.before a.first.after b.first.after a.entry b.entry a.first.good.all b.first.good.all (λ g. a.unfit g.fit) (λ g. b.unfit g.fit) (sym a.first.split ∙ b.first.split))
+    ∙ ap (λ (e : Entry). e.place)
+    (one_first (IsGood 0 IsNarrow) a.first.before b.first.before a.first.after b.first.after a.entry b.entry a.first.good.all b.first.good.all
+    (λ g. a.unfit g.fit) (λ g. b.unfit g.fit) (sym a.first.split ∙ b.first.split))
     ∙ sym b.stands
 
 -- where there is one, not all have 62 bits
@@ -29,12 +31,15 @@ pub not_narrow : (G : Graph) (at : Place) → IsFirstWidePlace G at → ¬ AreNa
 not_narrow G at h narrow =
     let first : 0 < suc (length h.first.after) = omega arith in
     let stands = Contains-append_right h.first.before (h.entry ∷ h.first.after) h.entry (0, first, refl) in
-    let good = All-contains (IsGood 0 IsNarrow) (h.first.before ++ h.entry ∷ h.first.after) h.entry (subst (All (IsGood 0 IsNarrow)) h.first.split narrow.all) stands in
+    let good = All-contains (IsGood 0 IsNarrow) (h.first.before ++ h.entry ∷ h.first.after) h.entry
+    (subst (All (IsGood 0 IsNarrow)) h.first.split narrow.all) stands in
     h.unfit good.fit
 
 -- the first pivot without an inverse
 pub one_pivot : (m : ℕ) (G : Graph) (k j : ℕ) → IsFirstPivot m G k → IsFirstPivot m G j → k ≡ j
 one_pivot m G k j a b =
     a.vertex
-    ∙ ap (λ (e : Entry). (e.place).k) (one_first (IsGood m Any) a.first.before b.first.before a.first.after b.first.after a.entry b.entry a.first.good.all b.first.good.all (λ g. a.none (g.divisor a.op)) (λ g. b.none (g.divisor b.op)) (sym a.first.split ∙ b.first.split))
+    ∙ ap (λ (e : Entry). (e.place).k)
+    (one_first (IsGood m Any) a.first.before b.first.before a.first.after b.first.after a.entry b.entry a.first.good.all b.first.good.all
+    (λ g. a.none (g.divisor a.op)) (λ g. b.none (g.divisor b.op)) (sym a.first.split ∙ b.first.split))
     ∙ sym b.vertex

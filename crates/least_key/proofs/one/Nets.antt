@@ -21,7 +21,16 @@ one_placed G g p q a b =
     λ i. record { graph = graph i; placement = same i }
 
 pub one_net : OneNet
-one_net m n k l e = record { placed = placed; cell = one_primitive G k.is_graph m.placed.placement (class_at m.cell.class_of) (class_at n.cell.class_of) k.cell.numbering there.numbering m.cell.basis n.cell.basis m.cell.graph n.cell.graph k.cell.primitive there.primitive; basis = one_basis G k.is_graph m.placed.placement (class_at m.cell.class_of) (class_at n.cell.class_of) k.cell.numbering there.numbering m.cell.basis n.cell.basis m.cell.graph n.cell.graph k.cell.primitive there.primitive; key = one_key G k.is_graph m.key n.key (key_of_graph m k) (subst (λ H. IsKeyOf H n.key) (sym e) (key_of_graph n l)) }
+one_net m n k l e = record {
+  placed = placed;
+  cell = one_primitive G k.is_graph m.placed.placement (class_at m.cell.class_of)
+      (class_at n.cell.class_of) k.cell.numbering there.numbering m.cell.basis n.cell.basis m.cell.graph n.cell.graph k.cell.primitive there.primitive;
+  basis =
+      one_basis G k.is_graph m.placed.placement (class_at m.cell.class_of)
+      (class_at n.cell.class_of) k.cell.numbering there.numbering m.cell.basis n.cell.basis m.cell.graph n.cell.graph k.cell.primitive there.primitive;
+  key =
+      one_key G k.is_graph m.key n.key (key_of_graph m k) (subst (λ H. IsKeyOf H n.key) (sym e) (key_of_graph n l));
+}
   where
     G : Graph
     G = m.placed.graph

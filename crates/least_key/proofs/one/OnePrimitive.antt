@@ -40,7 +40,8 @@ module _ (G : Graph) (g : IsGraph G) (p : Placement) (f h : ℕ → ℕ) (n : Is
     shift = a.shift;
   }
 
-  edges_there : (basis others : List Vector) (P Q : Graph) → basis ≡ others → IsPrimitive G p f basis P → IsPrimitive G p h others Q → (e : Arc) → Contains P.edges e → Contains Q.edges e
+  edges_there : (basis others : List Vector) (P Q : Graph) → basis ≡ others → IsPrimitive G p f basis P → IsPrimitive G p h others Q → (e : Arc)
+      → Contains P.edges e → Contains Q.edges e
   edges_there basis others P Q same a b e i =
       let r = (a.edges e).0 i in
       (b.edges e).1 (r.0, subst (λ rows. Gives G p h rows e) same (gives_there basis e r.1))
@@ -51,14 +52,17 @@ module _ (G : Graph) (g : IsGraph G) (p : Placement) (f h : ℕ → ℕ) (n : Is
       let e = sym u.2 ∙ same_class u.0 u.1 in
       omega (arith, e, b.below u.0 u.1)
 
-module _ (G : Graph) (g : IsGraph G) (p : Placement) (f h : ℕ → ℕ) (n : IsClassNumbering G p f) (m : IsClassNumbering G p h) (basis others : List Vector) (P Q : Graph) (a : IsPrimitive G p f basis P) (b : IsPrimitive G p h others Q) where
+module _ (G : Graph) (g : IsGraph G) (p : Placement) (f h : ℕ → ℕ) (n : IsClassNumbering G p f) (m : IsClassNumbering G p h) (basis others : List Vector)
+    (P Q : Graph) (a : IsPrimitive G p f basis P) (b : IsPrimitive G p h others Q) where
   pub one_basis : basis ≡ others
   one_basis = one_staircase (IsTranslation G p) (IsTranslation G p) G.dimension basis others a.basis_is b.basis_is (λ w. ((λ t. t), (λ t. t)))
 
   same_edges : P.edges ≡ Q.edges
   same_edges =
-      same_rising (λ (e d : Arc). IsBelow (edge_label e) (edge_label d)) (λ e. not_below_itself (edge_label e)) (λ x y z. below_transitive (edge_label x) (edge_label y) (edge_label z)) P.edges Q.edges
-      (rising_from_pairs (λ (e d : Arc). IsBelow (edge_label e) (edge_label d)) P.edges a.sorted) (rising_from_pairs (λ (e d : Arc). IsBelow (edge_label e) (edge_label d)) Q.edges b.sorted)
+      same_rising (λ (e d : Arc). IsBelow (edge_label e) (edge_label d)) (λ e. not_below_itself (edge_label e))
+      (λ x y z. below_transitive (edge_label x) (edge_label y) (edge_label z)) P.edges Q.edges
+      (rising_from_pairs (λ (e d : Arc). IsBelow (edge_label e) (edge_label d)) P.edges a.sorted)
+      (rising_from_pairs (λ (e d : Arc). IsBelow (edge_label e) (edge_label d)) Q.edges b.sorted)
       (λ e. (
         (λ i. is_in Q.edges e (edges_there G g p f h n m basis others P Q one_basis a b e (contains_from_in P.edges e i))),
         (λ i. is_in P.edges e (edges_there G g p h f m n others basis Q P (sym one_basis) b a e (contains_from_in Q.edges e i))),

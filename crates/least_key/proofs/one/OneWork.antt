@@ -82,7 +82,8 @@ module _ (K L : ClassGraph) (h : HaveSameArcs K L) where
             omega (arith, q)
 
 -- the number of starts and the count are one
-one_work : (K L : ClassGraph) → HaveSameArcs K L → AllPairs (λ a b. a ≢ b) K.arcs → AllPairs (λ a b. a ≢ b) L.arcs → (d c e b : ℕ) → IsWorkPast K d c → IsWorkPast L e b → (d ≡ e) × (c ≡ b)
+one_work : (K L : ClassGraph) → HaveSameArcs K L → AllPairs (λ a b. a ≢ b) K.arcs → AllPairs (λ a b. a ≢ b) L.arcs → (d c e b : ℕ) → IsWorkPast K d c
+    → IsWorkPast L e b → (d ≡ e) × (c ≡ b)
 one_work K L h a a' d c e b k l = (by (order d e), k.product ∙ (λ i. pairs i * arcs i) ∙ sym l.product)
   where
     h' : HaveSameArcs L K

@@ -37,7 +37,8 @@ module _ (G : Graph) (g : IsGraph G) where
   one_disconnected : (s t : Split) → IsDisconnectedBy G s → IsDisconnectedBy G t → s ≡ t
   one_disconnected s t a b = same_colouring s t (a.0 ∙ sym b.0) (by a.2 b.2)
     where
-      by : IsPartSplit G (split_view s) ⊎ ((k : ℕ) × IsSparseSplit G (split_view s) k) → IsPartSplit G (split_view t) ⊎ ((k : ℕ) × IsSparseSplit G (split_view t) k) → split_view s ≡ split_view t
+      by : IsPartSplit G (split_view s) ⊎ ((k : ℕ) × IsSparseSplit G (split_view s) k)
+          → IsPartSplit G (split_view t) ⊎ ((k : ℕ) × IsSparseSplit G (split_view t) k) → split_view s ≡ split_view t
       by (inl h) (inl k) = one_part_split G (split_view s) (split_view t) h k
       by (inl h) (inr k) = absurd (not_sparse G (split_view s) (split_view t) k.0 h k.1)
       by (inr h) (inl k) = absurd (not_sparse G (split_view t) (split_view s) h.0 k h.1)
@@ -97,7 +98,8 @@ module _ (G : Graph) (g : IsGraph G) where
   -- a net without collisions has none
   settled_not_colliding : (d u v : ℕ) (t : Vector) (done counted : ℕ) → IsCollidingAt G d u v t → ¬ HasTooMuchWork G done counted
   settled_not_colliding d u v t done counted a b =
-      b.settled.no_collision u v t (same_collision G g a.placed.connected a.net.placement b.net.placement a.placed.normal b.settled.placed.normal u v t a.first.collision)
+      b.settled.no_collision u v t (same_collision G g a.placed.connected a.net.placement b.net.placement a.placed.normal b.settled.placed.normal u v t
+      a.first.collision)
 
   one_too_much : (d c e b : ℕ) → HasTooMuchWork G d c → HasTooMuchWork G e b → TooMuch d c ≡ TooMuch e b
   one_too_much d c e b h k =

@@ -18,7 +18,8 @@ pub same_turned : (K L : ClassGraph) → HaveSameArcs K L → HaveSameArcs L K
 same_turned K L h = record { dimension = sym h.dimension; there = h.back; back = h.there }
 
 -- an arc that is seen by one numbering is seen by the other
-arcs_there : (G : Graph) → IsGraph G → (p : Placement) (f g : ℕ → ℕ) (K L : ClassGraph) → IsClassGraph G p f K → IsClassGraph G p g L → (b : ClassArc) → Contains K.arcs b → Contains L.arcs b
+arcs_there : (G : Graph) → IsGraph G → (p : Placement) (f g : ℕ → ℕ) (K L : ClassGraph) → IsClassGraph G p f K → IsClassGraph G p g L → (b : ClassArc)
+    → Contains K.arcs b → Contains L.arcs b
 arcs_there G is p f g K L k l b h =
     let r = (k.arcs b).0 h in
     let i = arc_inside G is r.0 r.1 in

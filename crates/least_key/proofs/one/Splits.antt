@@ -1,5 +1,6 @@
 -- The colouring that is reported of a net that is not connected is one, in each of the three cases, and no two cases hold of one net.
-use Rattle.std.proofs.Common.{◌≡◌, ◌≢◌, ◌⊎◌, inl, inr, ℕ, zero, suc, ◌+◌, ◌-◌, ◌<◌, ◌≤◌, ℤ, pos, negsuc, ◌+ℤ◌, ◌-ℤ◌, ◌*ℤ◌, neg_ℤ, List, length, get_or, refl, sym, ap, subst, ◌∙◌, arith}
+use Rattle.std.proofs.Common.{◌≡◌, ◌≢◌, ◌⊎◌, inl, inr, ℕ, zero, suc, ◌+◌, ◌-◌, ◌<◌, ◌≤◌, ℤ, pos, negsuc, ◌+ℤ◌, ◌-ℤ◌, ◌*ℤ◌, neg_ℤ, List, length, get_or, refl}
+use Rattle.std.proofs.Common.{sym, ap, subst, ◌∙◌, arith}
 use Rattle.std.specs.Prelude.{◌<ℤ◌, ◌≤ℤ◌}
 use Rattle.std.proofs.lemmas.Int.{ints}
 use Rattle.std.proofs.lemmas.List.{ext_get_or}
@@ -59,7 +60,8 @@ module _ (G : Graph) (S T : Split) (a : IsFlatSplit G S) (b : IsFlatSplit G T) w
   between_orthogonal m n v h = dot_difference m n T.c.x T.c.y T.c.z S.c.x S.c.y S.c.z v.x v.y v.z (b.orthogonal v h) (a.orthogonal v h)
 
   between_dimension : (m n : ℤ) → HasDimension G.dimension (between m n)
-  between_dimension m n = minus_dimension G.dimension (times m T.c) (times n S.c) (times_dimension G.dimension m T.c b.dimension) (times_dimension G.dimension n S.c a.dimension)
+  between_dimension m n = minus_dimension G.dimension (times m T.c) (times n S.c) (times_dimension G.dimension m T.c b.dimension)
+      (times_dimension G.dimension n S.c a.dimension)
 
   -- a combination that ends before both vectors do is 0
   ends_early : (m n : ℤ) (k : ℕ) → EndsBy k (between m n) → ¬ EndsBy k S.c → between m n ≡ zero_vector
@@ -214,7 +216,8 @@ module _ (G : Graph) (g : IsGraph G) (S T : Split) (k j : ℕ) (a : IsSparseSpli
       let v = p.0 in
       let m = a.divides v p.1 in
       let n = divides_there v p.1 in
-      one_rest S.q S.c.x T.c.x (S.c.y *ℤ v.y +ℤ S.c.z *ℤ v.z) m.0 n.0 (a.range 0) (range_there 0) (dot_from_x (pos S.q) S.c.x S.c.y S.c.z v.x v.y v.z m.0 p.3 m.1)
+      one_rest S.q S.c.x T.c.x (S.c.y *ℤ v.y +ℤ S.c.z *ℤ v.z) m.0 n.0 (a.range 0) (range_there 0)
+      (dot_from_x (pos S.q) S.c.x S.c.y S.c.z v.x v.y v.z m.0 p.3 m.1)
       ((λ i. T.c.x +ℤ (y i *ℤ v.y +ℤ z i *ℤ v.z)) ∙ dot_from_x (pos S.q) T.c.x T.c.y T.c.z v.x v.y v.z n.0 p.3 n.1)
 
   same_sparse_vector : S.c ≡ T.c

@@ -49,8 +49,12 @@ module _ (G : Graph) (p : Placement) where
       by : ComesBefore u c v e ⊎ (ComesBefore v e u c ⊎ ((u ≡ v) × (c ≡ e))) → (u ≡ v) × (c ≡ e) × (k ≡ j)
       by (inl before) = absurd (not_before u c k v e j a b before)
       by (inr (inl before)) = absurd (not_before v e j u c k b a before)
-      by (inr (inr same)) =
-          (same.0, same.1, same_multiple u c k j a.value (subst (λ x. IsLeastMultipleUpTo G (HasDenominator p) x c j) (sym same.0) (subst (λ d. IsLeastMultipleUpTo G (HasDenominator p) v d j) (sym same.1) b.value)))
+      by (inr (inr same)) = (
+        same.0,
+        same.1,
+        same_multiple u c k j a.value (subst (λ x. IsLeastMultipleUpTo G (HasDenominator p) x c j) (sym same.0)
+            (subst (λ d. IsLeastMultipleUpTo G (HasDenominator p) v d j) (sym same.1) b.value)),
+      )
 
   -- no part before the first is too great
   not_past : (a b : Arc) (c e : ℕ) (x y : ℤ) → IsWideArc G p a c x → IsWideArc G p b e y → ¬ (IsBelow (arc_numbers a) (arc_numbers b) ⊎ ((a ≡ b) × (c < e)))
@@ -67,7 +71,8 @@ module _ (G : Graph) (p : Placement) where
   one_arc : (a b : Arc) (c e : ℕ) (x y : ℤ) → IsWideArc G p a c x → IsWideArc G p b e y → (a ≡ b) × (c ≡ e) × (x ≡ y)
   one_arc a b c e x y h k = by (below_or_equal (arc_numbers a) (arc_numbers b)) (order c e)
     where
-      by : IsBelow (arc_numbers a) (arc_numbers b) ⊎ ((arc_numbers a ≡ arc_numbers b) ⊎ IsBelow (arc_numbers b) (arc_numbers a)) → (c < e) ⊎ ((e < c) ⊎ (c ≡ e)) → (a ≡ b) × (c ≡ e) × (x ≡ y)
+      by : IsBelow (arc_numbers a) (arc_numbers b) ⊎ ((arc_numbers a ≡ arc_numbers b) ⊎ IsBelow (arc_numbers b) (arc_numbers a))
+          → (c < e) ⊎ ((e < c) ⊎ (c ≡ e)) → (a ≡ b) × (c ≡ e) × (x ≡ y)
       by (inl below) _ = absurd (not_past a b c e x y h k (inl below))
       by (inr (inr below)) _ = absurd (not_past b a e c y x k h (inl below))
       by (inr (inl same)) (inl l) = absurd (not_past a b c e x y h k (inr (same_arc a b same, l)))

@@ -27,7 +27,6 @@ step w x (inr (inr (inr (inr h)))) = absurd h
 same_colour : (w x : Vertex) → IsVertex doubled_net w → IsVertex doubled_net x → AreJoined doubled_net w x → AreAlike 2 (colour columns w) (colour columns x)
 same_colour w x i j a =
     let s = step w x (is_in (arcs doubled_net) (arc w.over x.over (minus x.cell w.cell)) a) in
-    let e = s.1 in
     let p = no_entry w i in
     let q = no_entry x j in
     (neg_ℤ s.0, omega (arith, ints))
@@ -36,7 +35,13 @@ same_colour w x i j a =
 pub doubled_split : IsSplit doubled_net columns
 doubled_split = record {
   joined = same_colour;
-  two = (vertex 1 zero_vector, vertex 1 (vector (pos 1) (pos 0) (pos 0)), inside zero_vector (λ d. refl), inside (vector (pos 1) (pos 0) (pos 0)) (λ d. refl), λ k. let e = k.1 in omega (arith, ints));
+  two = (
+    vertex 1 zero_vector,
+    vertex 1 (vector (pos 1) (pos 0) (pos 0)),
+    inside zero_vector (λ d. refl),
+    inside (vector (pos 1) (pos 0) (pos 0)) (λ d. refl),
+    λ k. let e = k.1 in omega (arith, ints),
+  );
 }
   where
     inside : (v : Vector) → HasDimension 2 v → IsVertex doubled_net (vertex 1 v)

@@ -36,7 +36,11 @@ square_classes = record { dimension = 2; count = 1; arcs = loop right ∷ loop l
 square_numbering : IsClassNumbering square_net square_placement (λ u. 1)
 square_numbering = record {
   positive = λ u i. omega arith;
-  classes = λ u v i j. ((λ e. subst (λ (w : ℕ). ShareClass square_net square_placement u w) (only_vertex u i ∙ sym (only_vertex v j)) (share_reflexive square_net square_placement square_stable.no_collision u i)), (λ s. refl));
+  classes = λ u v i j. (
+    (λ e. subst (λ (w : ℕ). ShareClass square_net square_placement u w) (only_vertex u i ∙ sym (only_vertex v j))
+        (share_reflexive square_net square_placement square_stable.no_collision u i)),
+    (λ s. refl),
+  );
   in_order = λ u c i a b. absurd (omega arith);
 }
 

@@ -31,7 +31,8 @@ shifts_back G H e y k i d =
 -- k cells further, n + 1 times
 times_more : (n : ℕ) (k : Vector) (y : Vertex) → moved y (times (pos (suc n)) k) ≡ moved (moved y (times (pos n) k)) k
 times_more n k y =
-    ap (vertex y.over) (ap (plus y.cell) (ap (λ (t : ℤ). times t k) (next n) ∙ sum_times (pos n) (pos 1) k ∙ ap (plus (times (pos n) k)) (one_times k)) ∙ sym (plus_associative y.cell (times (pos n) k) k))
+    ap (vertex y.over) (ap (plus y.cell) (ap (λ (t : ℤ). times t k) (next n) ∙ sum_times (pos n) (pos 1) k ∙ ap (plus (times (pos n) k)) (one_times k))
+    ∙ sym (plus_associative y.cell (times (pos n) k) k))
   where
     next : (i : ℕ) → pos (suc i) ≡ pos i +ℤ pos 1
     next i = omega (arith, ints)
@@ -48,7 +49,8 @@ cells_grow H F k A d h (suc n) y i =
     let z = moved y nk in
     let before = cells_grow H F k A d h n y i in
     let last = h z (moved_vertex H y nk i (times_dimension H.dimension (pos n) k d)) in
-    ap (λ (w : Vertex). F w -ℤ F y) (times_more n k y) ∙ sum (F (moved z k)) (F z) (F y) (pos n *ℤ A) A before last ∙ sym (ap (λ (t : ℤ). t *ℤ A) (next n) ∙ sum_product (pos n) (pos 1) A ∙ ap (λ (t : ℤ). pos n *ℤ A +ℤ t) (one_product A))
+    ap (λ (w : Vertex). F w -ℤ F y) (times_more n k y) ∙ sum (F (moved z k)) (F z) (F y) (pos n *ℤ A) A before last
+    ∙ sym (ap (λ (t : ℤ). t *ℤ A) (next n) ∙ sum_product (pos n) (pos 1) A ∙ ap (λ (t : ℤ). pos n *ℤ A +ℤ t) (one_product A))
   where
     next : (i : ℕ) → pos (suc i) ≡ pos i +ℤ pos 1
     next i = omega (arith, ints)
@@ -64,7 +66,8 @@ cancel_n n a d m x z h = cancel_factor n a ((m *ℤ d) *ℤ x) z (h ∙ turn n d
     turn n d m x = simp ring (omega (arith, ints))
 
 -- a cell further, the carried position is a fixed vector further
-pub pulled_moved : (G H : Graph) → IsGraph G → IsGraph H → IsConnected H → (e : Iso H G) → (p : Placement) → IsBarycentric G p → (c : Vector → ℤ) → IsCoordinate c
+pub pulled_moved : (G H : Graph) → IsGraph G → IsGraph H → IsConnected H → (e : Iso H G) → (p : Placement) → IsBarycentric G p → (c : Vector → ℤ)
+    → IsCoordinate c
     → (y : Vertex) (k : Vector) → IsVertex H y → HasDimension H.dimension k
     → pulled_in c p e.there e.back_period.1 (moved y k) -ℤ pulled_in c p e.there e.back_period.1 y ≡ (pos e.back_period.0 *ℤ pos p.denominator) *ℤ c k
 pulled_moved G H g h con e p bp c l y k i d =
@@ -77,7 +80,8 @@ pulled_moved G H g h con e p bp c l y k i d =
     let period = pulled_period G H p e.there n e.there_period.1 e.there_period.2 b c l y k i d in
     let shifts : c (base_sum b (base_sum e.there_period.1 k)) ≡ (pos m *ℤ pos n) *ℤ c k = ap c (shifts_back G H e y k i d) ∙ l.times_is (pos (m * n)) k in
     cancel_n (pos n) A (pos p.denominator) (pos m) (c k) (positive_not_zero n e.there_period.2.positive)
-    (sym steps ∙ difference (F (moved y (times (pos n) k))) (F y) (pos p.denominator *ℤ c (base_sum b (base_sum e.there_period.1 k))) period ∙ ap (λ (t : ℤ). pos p.denominator *ℤ t) shifts)
+    (sym steps ∙ difference (F (moved y (times (pos n) k))) (F y) (pos p.denominator *ℤ c (base_sum b (base_sum e.there_period.1 k))) period
+    ∙ ap (λ (t : ℤ). pos p.denominator *ℤ t) shifts)
   where
     difference : (a b x : ℤ) → a ≡ b +ℤ x → a -ℤ b ≡ x
     difference a b x e = omega (arith, ints)

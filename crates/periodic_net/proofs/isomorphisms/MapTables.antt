@@ -1,5 +1,5 @@
 -- A periodic map as a function with a period, and as a table: the two say the same.
-use Rattle.std.proofs.Common.{◌≡◌, ℕ, zero, suc, ◌≤◌, ◌<◌, ℤ, pos, negsuc, ◌+ℤ◌, ◌-ℤ◌, ◌*ℤ◌, ◌≤ℤ◌, ◌<ℤ◌, refl, sym, ap, subst, ◌∙◌, arith}
+use Rattle.std.proofs.Common.{◌≡◌, ℕ, ◌≤◌, ◌<◌, ℤ, pos, ◌+ℤ◌, ◌-ℤ◌, ◌*ℤ◌, ◌≤ℤ◌, ◌<ℤ◌, refl, sym, ap, subst, ◌∙◌, arith}
 use Rattle.std.proofs.lemmas.Int.{ints}
 use Rattle.std.proofs.Math.Decide.{ℕ_discrete}
 use Prim.{Dec, yes, no}
@@ -17,9 +17,7 @@ use Rattle.periodic_net.proofs.isomorphisms.Periods.{base_dimension, moved_verte
 
 -- the difference of quotients, where the remainders are below m
 same_quotient : (m r s : ℕ) (d : ℤ) → r < m → s < m → pos r ≡ pos s +ℤ pos m *ℤ d → d ≡ pos 0
-same_quotient m r s (pos zero) h k e = refl
-same_quotient m r s (pos (suc n)) h k e = absurd (let p = product_is (pos m) (pos (suc n)) in omega (arith, ints))
-same_quotient m r s (negsuc n) h k e = absurd (let p = product_is (pos m) (negsuc n) in omega (arith, ints))
+same_quotient m r s d l q t = search (arith, product_is)
 
 -- r + m·k = s + m·l, moved to one side
 one_side : (r s m k l : ℤ) → r +ℤ m *ℤ k ≡ s +ℤ m *ℤ l → r ≡ s +ℤ m *ℤ (l -ℤ k)
@@ -37,16 +35,11 @@ divided_once m r s k l h i e =
 
 -- a part from 0 to m - 1 is a natural number below m
 natural_below : (m : ℕ) (z : ℤ) → pos 0 ≤ℤ z → z <ℤ pos m → (r : ℕ) × (r < m) × (z ≡ pos r)
-natural_below m (pos n) h k = (n, omega (arith, ints), refl)
-natural_below m (negsuc n) h k = absurd (omega (arith, ints))
+natural_below m z l p = search arith
 
 -- where a part of the box is divided, the remainder is the part
 divided_part : (m : ℕ) (h : 1 ≤ m) (z k : ℤ) → pos 0 ≤ℤ z → z <ℤ pos m → (pos (divided m h (z +ℤ pos m *ℤ k)).0 ≡ z) × ((divided m h (z +ℤ pos m *ℤ k)).1 ≡ k)
-divided_part m h z k low high =
-    let n = natural_below m z low high in
-    let q = divided m h (z +ℤ pos m *ℤ k) in
-    let e = divided_once m q.0 n.0 q.1 k q.2 n.1 (sym q.3 ∙ ap (λ (t : ℤ). t +ℤ pos m *ℤ k) n.2) in
-    (e.0 ∙ sym n.2, e.1)
+divided_part m h z k low high = search (arith, natural_below, divided, divided_once)
 
 -- the map that a table writes down
 pub drawn : (M : PeriodicMap) → 1 ≤ M.m → Vertex → Vertex
@@ -59,11 +52,7 @@ drawn M h w =
 -- each table writes down a map
 pub drawn_by_table : (G : Graph) (M : PeriodicMap) (h : 1 ≤ M.m) → IsDrawnBy G M (drawn M h)
 unfolding drawn
-drawn_by_table G M h u r k i b d =
-    let x = divided_part M.m h r.x k.x b.low.0 b.high.0 in
-    let y = divided_part M.m h r.y k.y b.low.1 b.high.1 in
-    let z = divided_part M.m h r.z k.z b.low.2 b.high.2 in
-    λ j. moved (M.image u (vector_equal {v = vector _ _ _} {w = r} x.0 y.0 z.0 j)) (base_sum M.base (vector_equal {v = vector _ _ _} {w = k} x.1 y.1 z.1 j))
+drawn_by_table G M h u r k i b d = search (arith, divided_part, vector_equal)
 
 -- a vector as a part in the box and m times another
 pub record InBox (d m : ℕ) (t : Vector) : Type 0 where

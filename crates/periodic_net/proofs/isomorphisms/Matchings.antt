@@ -1,5 +1,5 @@
 -- Maps that undo each other and carry joined vertices to joined ones.
-use Rattle.std.proofs.Common.{◌≡◌, List, [], ◌∷◌, map, ap}
+use Rattle.std.proofs.Common.{◌≡◌, List, [], ◌∷◌, map, ap, arith}
 use Rattle.periodic_net.specs.Graph.{Graph, IsGraph, IsVertex, Vertex, AreJoined, IsWalk}
 use Rattle.periodic_net.specs.Maps.{Iso}
 use Rattle.periodic_net.proofs.nets.Arcs.{joined_inside}
@@ -15,18 +15,11 @@ pub record IsMatching (G H : Graph) (there back : Vertex → Vertex) : Type 0 wh
 
 -- the other way
 pub matching_turned : (G H : Graph) (there back : Vertex → Vertex) → IsMatching G H there back → IsMatching H G back there
-matching_turned G H there back m = record { into = m.onto; onto = m.into; back_there = m.there_back; there_back = m.back_there; there_joins = m.back_joins; back_joins = m.there_joins }
+matching_turned G H there back m = search arith
 
 -- an isomorphism is one
 pub iso_matching : (G H : Graph) (e : Iso G H) → IsMatching G H e.there e.back
-iso_matching G H e = record {
-  into = e.there_period.2.into;
-  onto = e.back_period.2.into;
-  back_there = e.back_there;
-  there_back = e.there_back;
-  there_joins = e.there_joins;
-  back_joins = e.back_joins;
-}
+iso_matching G H e = search arith
 
 -- a walk goes to a walk
 pub walk_there : (G H : Graph) → IsGraph G → (there back : Vertex → Vertex) → IsMatching G H there back

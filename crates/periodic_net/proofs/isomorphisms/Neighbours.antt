@@ -25,10 +25,7 @@ end_between w x = ap (vertex x.over) (plus_minus w.cell x.cell)
 
 -- and is the arc by which x was found
 pub between_end : (w : Vertex) (a : Arc) → a.from ≡ w.over → arc_between w (end_of w a) ≡ a
-between_end w a e = λ i. arc (e' i) a.to (minus_plus w.cell a.shift i)
-  where
-    e' : w.over ≡ a.from
-    e' = sym e
+between_end w a e = search (arith, minus_plus)
 
 -- an arc from w joins w to its end
 pub end_joined : (G : Graph) (w : Vertex) (a : Arc) → IsArc G a → a.from ≡ w.over → AreJoined G w (end_of w a)
@@ -76,7 +73,8 @@ carries_arcs G H g h e w i = record {
 pub same_arcs_total : (G H : Graph) → IsGraph G → IsGraph H → (e : Iso G H) → (w : Vertex) → IsVertex G w → (g : Arc → ℤ)
     → total g (arcs_from H (e.there w).over) ≡ total (λ a. g (carried e.there w a)) (arcs_from G w.over)
 same_arcs_total G H g h e w i f =
-    same_total (carried e.there w) f (arcs_from G w.over) (arcs_from H (e.there w).over) (arcs_apart G g w.over) (arcs_apart H h (e.there w).over) (carries_arcs G H g h e w i)
+    same_total (carried e.there w) f (arcs_from G w.over) (arcs_from H (e.there w).over) (arcs_apart G g w.over) (arcs_apart H h (e.there w).over)
+    (carries_arcs G H g h e w i)
 
 -- the end of an arc, moved by cells
 pub moved_end : (y : Vertex) (k : Vector) (a : Arc) → moved (end_of y a) k ≡ end_of (moved y k) a

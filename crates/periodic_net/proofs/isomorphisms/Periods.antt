@@ -45,8 +45,4 @@ moved_same w k l e = ap (moved w) e
 
 -- the identity has the period 1
 pub identity_periodic : (G : Graph) → IsPeriodic G G (λ w. w) 1 unit_base
-identity_periodic G = record {
-  positive = omega arith;
-  into = λ w i. i;
-  repeats = λ w k i d. moved_same w (times (pos 1) k) (base_sum unit_base k) (unit_sum k);
-}
+identity_periodic G = search (arith, moved_same, unit_sum)

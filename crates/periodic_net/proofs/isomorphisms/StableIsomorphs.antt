@@ -21,6 +21,7 @@ iso_stable G H g h e s =
       record {
         connected = con;
         placement = n.is_normal;
-        no_collision = reduced_apart H q n.normal n.factor n.reduced (placed_apart H (λ y. base_sum e.there_period.1 (position p (e.back y))) (e.there_period.0 * p.denominator) steady);
+        no_collision = reduced_apart H q n.normal n.factor n.reduced (placed_apart H (λ y. base_sum e.there_period.1 (position p (e.back y)))
+            (e.there_period.0 * p.denominator) steady);
       },
     )

@@ -12,10 +12,7 @@ use Rattle.integers.proofs.vectors.CoprimeLines.{not_both}
 
 -- an edge has one normal spelling
 pub one_spelling : (e : Arc) → IsNormalSpelling e → IsNormalSpelling (reverse_of e) → ⊥
-one_spelling e (inl h) (inl k) = omega arith
-one_spelling e (inl h) (inr k) = let q = k.0 in omega arith
-one_spelling e (inr h) (inl k) = let q = h.0 in omega arith
-one_spelling e (inr h) (inr k) = not_both e.shift h.1 k.1
+one_spelling e l p = search (arith, not_both)
 
 -- an arc turned twice is the arc
 pub reverse_twice : (a : Arc) → reverse_of (reverse_of a) ≡ a

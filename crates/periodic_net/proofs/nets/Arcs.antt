@@ -4,7 +4,8 @@ use Rattle.std.specs.List.{AllByRecursion}
 use Rattle.std.proofs.lemmas.List.Elements.{recursion_from_All, All-from_recursion, All-contains}
 use Rattle.std.proofs.lemmas.Int.{ints}
 use Rattle.integers.specs.Vectors.{HasDimension, minus, zero_vector}
-use Rattle.periodic_net.specs.Graph.{Graph, Arc, IsQuotientVertex, IsEdge, reverse_of, both_ways, IsArc, IsGraph, arcs, arc, IsVertex, Vertex, AreJoined, vertex}
+use Rattle.periodic_net.specs.Graph.{Graph, Arc, IsQuotientVertex, IsEdge, reverse_of, both_ways, IsArc, IsGraph, arcs, arc, IsVertex, Vertex, AreJoined}
+use Rattle.periodic_net.specs.Graph.{vertex}
 
 -- the ends of a are vertices of the quotient graph, and its shift has the dimension
 pub record IsInside (G : Graph) (a : Arc) : Type 0 where
@@ -29,7 +30,8 @@ both_inside G (e ∷ es) h =
 
 -- and of each arc of a graph
 pub arc_inside : (G : Graph) → IsGraph G → (a : Arc) → IsArc G a → IsInside G a
-arc_inside G g a h = All-contains (IsInside G) (arcs G) a (All-from_recursion (IsInside G) (arcs G) (both_inside G G.edges (recursion_from_All (IsEdge G) G.edges g.edges))) h
+arc_inside G g a h = All-contains (IsInside G) (arcs G) a (All-from_recursion (IsInside G) (arcs G)
+    (both_inside G G.edges (recursion_from_All (IsEdge G) G.edges g.edges))) h
 
 -- what is joined to a vertex of the net is one
 pub joined_inside : (G : Graph) → IsGraph G → (w x : Vertex) → IsVertex G w → AreJoined G w x → IsVertex G x

@@ -27,7 +27,8 @@ steps_back : (n : ℕ) (a b : ℤ) → a +ℤ negsuc n *ℤ b ≡ a +ℤ pos (su
 steps_back n a b = let h : negsuc n *ℤ b ≡ neg_ℤ (pos (suc n) *ℤ b) = negative_product (pos (suc n)) b in rw (h, product_negative)
 
 -- n reached_by_loops reached_along_loop a loop
-pub reached_by_loops : (G : Graph) (u : ℕ) (s : Vector) → IsArc G (arc u u s) → (n : ℕ) (t t' : Vector) → t' ≡ plus t (times (pos n) s) → IsReached G (vertex u t) (vertex u t')
+pub reached_by_loops : (G : Graph) (u : ℕ) (s : Vector) → IsArc G (arc u u s) → (n : ℕ) (t t' : Vector) → t' ≡ plus t (times (pos n) s)
+    → IsReached G (vertex u t) (vertex u t')
 reached_by_loops G u s a zero t t' e =
     let h : t ≡ t' = vector_equal (no_steps t.x s.x) (no_steps t.y s.y) (no_steps t.z s.z) ∙ sym e in
     subst (λ (x : Vector). IsReached G (vertex u t) (vertex u x)) h (reached_itself G (vertex u t))

@@ -15,7 +15,8 @@ joined_moved G w x k = ap (λ (v : Vector). IsArc G (arc w.over x.over v)) (minu
 
 -- a step can be gone back
 pub joined_turned : (G : Graph) (w x : Vertex) → AreJoined G w x → AreJoined G x w
-joined_turned G w x h = subst (λ (s : Vector). IsArc G (arc x.over w.over s)) (opposite_minus x.cell w.cell) (arc_turned G (arc w.over x.over (minus x.cell w.cell)) h)
+joined_turned G w x h = subst (λ (s : Vector). IsArc G (arc x.over w.over s)) (opposite_minus x.cell w.cell)
+    (arc_turned G (arc w.over x.over (minus x.cell w.cell)) h)
 
 -- a vertex, moved by the difference of the cells, is the other vertex over the same
 pub moved_to : (x y : Vertex) → x.over ≡ y.over → moved x (minus y.cell x.cell) ≡ y
@@ -46,7 +47,8 @@ same_reached G h k = subst (λ (t : Type 0). t) (λ i. IsReached G (h i) (k i))
 walk_moved : (G : Graph) (k : Vector) (steps : List Vertex) (w x : Vertex) → IsWalk G w steps x → IsReached G (moved w k) (moved x k)
 walk_moved G k [] w x h = same_reached G refl (ap (λ (y : Vertex). moved y k) h) (reached_itself G (moved w k))
 walk_moved G k (y ∷ ys) w x h =
-    reached_transitive G (moved w k) (moved y k) (moved x k) (reached_by_arc G (moved w k) (moved y k) (subst (λ (t : Type 0). t) (sym (joined_moved G w y k)) h.0)) (walk_moved G k ys y x h.1)
+    reached_transitive G (moved w k) (moved y k) (moved x k) (reached_by_arc G (moved w k) (moved y k)
+    (subst (λ (t : Type 0). t) (sym (joined_moved G w y k)) h.0)) (walk_moved G k ys y x h.1)
 
 -- moved by one vector, what is reached is reached
 pub reached_moved : (G : Graph) (w x : Vertex) (k : Vector) → IsReached G w x → IsReached G (moved w k) (moved x k)

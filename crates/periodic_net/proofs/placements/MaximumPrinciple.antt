@@ -1,4 +1,5 @@
--- A function that is at each vertex the mean over its neighbours is constant where the net is connected: on the vertices of the quotient graph, and on the net, if it has a period.
+-- A function that is at each vertex the mean over its neighbours is constant where the net is connected: on the
+-- vertices of the quotient graph, and on the net, if it has a period.
 use Rattle.std.proofs.Common.{List, pos, ℤ, ℕ, ◌≡◌, ◌⊎◌, ◌+ℤ◌, ◌-ℤ◌, ◌*ℤ◌, ◌≤ℤ◌, ◌≤◌, ◌<◌, ◌-◌, [], ◌∷◌, ◌∙◌, arith, ap, subst, sym, refl, suc, inl, inr}
 use Rattle.std.proofs.lemmas.Int.{ints}
 use Rattle.integers.specs.Vectors.{minus, zero_vector, plus, Vector, times, vector}
@@ -16,7 +17,6 @@ use Rattle.periodic_net.proofs.nets.Arcs.{arc_inside, IsInside, joined_inside, o
 -- a function on the vertices of the quotient graph has a greatest value
 pub search_vertices : (G : Graph) → IsGraph G → Searchable ℕ (IsQuotientVertex G)
 search_vertices G g f =
-    let n = g.vertices in
     let e : suc (G.vertices - 1) ≡ G.vertices = omega arith in
     let r = greatest_at f (G.vertices - 1) in
     (r.0, (r.1, subst (λ (k : ℕ). r.0 ≤ k) e r.2), λ v h. r.3 v h.0 (subst (λ (k : ℕ). v ≤ k) (sym e) h.1))
@@ -31,7 +31,8 @@ level_at : (G : Graph) → IsGraph G → (F : Vertex → ℤ) → IsNetHarmonic 
 level_at G g F h w i top a isa e =
     let gain = λ (b : Arc). F (vertex b.to (plus w.cell b.shift)) -ℤ F w in
     let low = λ (b : Arc) (k : IsIn (arcs_from G w.over) b).
-    at_most_zero (F (vertex b.to (plus w.cell b.shift))) (F w) (top (vertex b.to (plus w.cell b.shift)) (neighbour G w b i (arc_inside G g b (from_is_arc G w.over b k).0))) in
+    at_most_zero (F (vertex b.to (plus w.cell b.shift))) (F w) (top (vertex b.to (plus w.cell b.shift))
+    (neighbour G w b i (arc_inside G g b (from_is_arc G w.over b k).0))) in
     same_from_zero (F (vertex a.to (plus w.cell a.shift))) (F w) (each_zero gain (arcs_from G w.over) low (h w i) a (arc_is_from G w.over a isa e))
 
 -- along a walk from such a vertex F stays the same
@@ -52,7 +53,8 @@ greatest_vertex G g m one F rep = by g.dimension
   where
     by : (G.dimension ≡ 2) ⊎ (G.dimension ≡ 3) → (w : Vertex) × IsVertex G w × ((x : Vertex) → IsVertex G x → F x ≤ℤ F w)
     by (inl two) =
-        let s = search_pair (IsQuotientVertex G) (λ p. (p.0 < m) × (p.1 < m)) (search_vertices G g) (search_pair (λ r. r < m) (λ r. r < m) (search_below m one) (search_below m one)) in
+        let s = search_pair (IsQuotientVertex G) (λ p. (p.0 < m) × (p.1 < m)) (search_vertices G g)
+        (search_pair (λ r. r < m) (λ r. r < m) (search_below m one) (search_below m one)) in
         let at = λ (p : ℕ × (ℕ × ℕ)). vertex p.0 (vector (pos p.1.0) (pos p.1.1) (pos 0)) in
         let r = s (λ p. F (at p)) in (
           at r.0,
@@ -71,7 +73,8 @@ greatest_vertex G g m one F rep = by g.dimension
         )
     by (inr three) =
         let s = search_pair (IsQuotientVertex G) (λ p. (p.0 < m) × ((p.1.0 < m) × (p.1.1 < m))) (search_vertices G g)
-        (search_pair (λ r. r < m) (λ p. (p.0 < m) × (p.1 < m)) (search_below m one) (search_pair (λ r. r < m) (λ r. r < m) (search_below m one) (search_below m one))) in
+        (search_pair (λ r. r < m) (λ p. (p.0 < m) × (p.1 < m)) (search_below m one)
+        (search_pair (λ r. r < m) (λ r. r < m) (search_below m one) (search_below m one))) in
         let at = λ (p : ℕ × (ℕ × (ℕ × ℕ))). vertex p.0 (vector (pos p.1.0) (pos p.1.1.0) (pos p.1.1.1)) in
         let r = s (λ p. F (at p)) in (
           at r.0,
@@ -112,5 +115,6 @@ pub harmonic_constant : (G : Graph) → IsGraph G → IsConnected G → (f : ℕ
     → (u v : ℕ) → IsQuotientVertex G u → IsQuotientVertex G v → f u ≡ f v
 harmonic_constant G g c f h u v i j =
     periodic_constant G g c 1 (omega arith) (λ w. f w.over) (λ w k k' d. refl)
-    (λ w k. total_same (λ a. f a.to -ℤ f w.over) (λ a. f a.to -ℤ f a.from) (arcs_from G w.over) (λ a l. ap (λ (n : ℕ). f a.to -ℤ f n) (sym (from_is_arc G w.over a l).1)) ∙ h w.over k.over)
+    (λ w k. total_same (λ a. f a.to -ℤ f w.over) (λ a. f a.to -ℤ f a.from) (arcs_from G w.over)
+    (λ a l. ap (λ (n : ℕ). f a.to -ℤ f n) (sym (from_is_arc G w.over a l).1)) ∙ h w.over k.over)
     (vertex u zero_vector) (vertex v zero_vector) (origin_vertex G u i) (origin_vertex G v j)

@@ -28,7 +28,8 @@ reduced_step : (g b b' s e f o : ℤ) → ((g *ℤ b +ℤ o) +ℤ (g *ℤ e) *�
 reduced_step g b b' s e f o = simp ring (omega (arith, ints))
 
 -- the vectors of arcs are reduced by g
-reduced_vector : (G : Graph) (p q : Placement) (g : ℕ) → IsReduced G p q g → (a : Arc) → IsQuotientVertex G a.from → IsQuotientVertex G a.to → arc_vector p a ≡ times (pos g) (arc_vector q a)
+reduced_vector : (G : Graph) (p q : Placement) (g : ℕ) → IsReduced G p q g → (a : Arc) → IsQuotientVertex G a.from → IsQuotientVertex G a.to
+    → arc_vector p a ≡ times (pos g) (arc_vector q a)
 reduced_vector G p q g r a i j =
     let d = ap pos r.denominator in
     let f = r.each a.from i in
@@ -73,7 +74,8 @@ place_is : (g b e s o : ℤ) → (g *ℤ b +ℤ o) +ℤ (g *ℤ e) *ℤ s ≡ g 
 place_is g b e s o = simp ring (omega (arith, ints))
 
 -- positions are g times the reduced ones, moved
-reduced_position : (G : Graph) (p q : Placement) (g : ℕ) → IsReduced G p q g → (w : Vertex) → IsVertex G w → position p w ≡ plus (times (pos g) (position q w)) (base p 1)
+reduced_position : (G : Graph) (p q : Placement) (g : ℕ) → IsReduced G p q g → (w : Vertex) → IsVertex G w
+    → position p w ≡ plus (times (pos g) (position q w)) (base p 1)
 reduced_position G p q g r w i =
     let d = ap pos r.denominator in
     let f = r.each w.over i.over in
@@ -93,7 +95,8 @@ reduced_apart G p q g r n u v t k =
       here = k.here;
       there = k.there;
       different = k.different;
-      same_place = reduced_position G p q g r o (record { over = k.here; cell = λ d. refl }) ∙ ap (λ (z : Vector). plus (times (pos g) z) (base p 1)) k.same_place ∙ sym (reduced_position G p q g r x k.there);
+      same_place = reduced_position G p q g r o (record { over = k.here; cell = λ d. refl })
+          ∙ ap (λ (z : Vector). plus (times (pos g) z) (base p 1)) k.same_place ∙ sym (reduced_position G p q g r x k.there);
     })
 
 -- the shifts of all vertices from vertex 1
@@ -107,8 +110,6 @@ module _ (G : Graph) (gr : IsGraph G) (p : Placement) (b : IsBarycentric G p) wh
   smaller : (c : Common p.denominator (table (shifts_of G p) G.vertices)) → (u : ℕ) → IsQuotientVertex G u
       → times (pos c.g) (base (record { denominator = c.k; at = c.ws }) u) ≡ minus (base p u) (base p 1)
   smaller c u i =
-      let a = i.0 in
-      let l = i.1 in
       let e : suc (u - 1) ≡ u = omega arith in
       sym (at_scaled (pos c.g) c.ws (u - 1))
       ∙ ap (λ (vs : List Vector). slice_index_or vs (u - 1) zero_vector) (sym c.vs_is)
@@ -134,8 +135,6 @@ module _ (G : Graph) (gr : IsGraph G) (p : Placement) (b : IsBarycentric G p) wh
     origin = times_cancel (pos c.g) (base (record { denominator = c.k; at = c.ws }) 1) zero_vector (positive_not_zero c.g (divisor_positive c))
         (smaller c 1 (omega arith, gr.vertices) ∙ minus_itself (base p 1) ∙ sym (times_zero (pos c.g)));
     reduced = λ j d each.
-        let q : Placement = record { denominator = c.k; at = c.ws } in
-        let k1 = (reduced_barycentric G gr p q c.g (is_reduced c) b).positive in
         let l = quotient_of j c.k d in
         let dd : p.denominator ≡ (c.g * j) * l.0 = c.d_is ∙ ap (λ (t : ℕ). c.g * t) l.1 ∙ sym (mul_assoc c.g j l.0) in
         let all = all_table (c.g * j) (shifts_of G p) G.vertices (λ i m.

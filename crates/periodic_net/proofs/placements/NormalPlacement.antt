@@ -24,7 +24,8 @@ normal_scaled G g con p q n k = record {
       let d = pos p.denominator in
       let e = pos q.denominator in
       let at_one : t.by ≡ zero_vector =
-      sym (t.each 1 (omega arith, g.vertices)) ∙ (λ j. minus (times d (k.normal.origin j)) (times e (n.normal.origin j))) ∙ (λ j. minus (times_zero d j) (times_zero e j)) ∙ minus_zero zero_vector in
+      sym (t.each 1 (omega arith, g.vertices)) ∙ (λ j. minus (times d (k.normal.origin j)) (times e (n.normal.origin j)))
+      ∙ (λ j. minus (times_zero d j) (times_zero e j)) ∙ minus_zero zero_vector in
       equal_of_minus (times d (base q u)) (times e (base p u)) (t.each u i ∙ at_one);
 }
 
@@ -64,7 +65,8 @@ normal_unique G g con p q n m = by (bezout p.denominator q.denominator)
     by : Bezout p.denominator q.denominator → AreSamePlacements G p q
     by z =
         let k1 = first_is_one G p q sc n.normal z.g z.k z.l z.s z.t n.barycentric.positive z.a_is z.b_is z.g_is in
-        let l1 = first_is_one G q p (scaled_back G p q sc) m.normal z.g z.l z.k z.t z.s m.barycentric.positive z.b_is z.a_is (z.g_is ∙ swap (z.s *ℤ pos p.denominator) (z.t *ℤ pos q.denominator)) in
+        let l1 = first_is_one G q p (scaled_back G p q sc) m.normal z.g z.l z.k z.t z.s m.barycentric.positive z.b_is z.a_is
+        (z.g_is ∙ swap (z.s *ℤ pos p.denominator) (z.t *ℤ pos q.denominator)) in
         let same : p.denominator ≡ q.denominator = z.a_is ∙ ap (λ (x : ℕ). z.g * x) (k1 ∙ sym l1) ∙ sym z.b_is in
         record {
           denominator = same;

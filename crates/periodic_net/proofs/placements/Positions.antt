@@ -1,8 +1,6 @@
 -- Positions of vertices; where there is no collision, a position fixes its vertex.
 use Rattle.std.proofs.lemmas.Int.{ints}
 use Rattle.std.proofs.Common.{arith, ℤ, ◌≡◌, ◌+ℤ◌, ◌-ℤ◌, ◌*ℤ◌, ◌∙◌, pos, ℕ, ap, sym}
-use Rattle.std.proofs.Math.Decide.{ℕ_discrete}
-use Rattle.std.proofs.Math.IntN.{ℤ_discrete}
 use Prim.{yes, no, Dec}
 use Rattle.integers.specs.Vectors.{minus, Vector, times, plus, HasDimension, zero_vector}
 use Rattle.periodic_net.specs.Placement.{Placement, base, position, arc_vector, HasNoCollision}
@@ -17,12 +15,7 @@ step_part a b c d s t = simp ring (omega (arith, ints))
 
 -- the move along an arc is the arc's vector
 pub moves_by : (p : Placement) (w x : Vertex) → minus (position p x) (position p w) ≡ arc_vector p (arc w.over x.over (minus x.cell w.cell))
-moves_by p w x =
-    let d = pos p.denominator in
-    vector_equal
-    (step_part (base p x.over).x (base p w.over).x (pos 0) d x.cell.x w.cell.x)
-    (step_part (base p x.over).y (base p w.over).y (pos 0) d x.cell.y w.cell.y)
-    (step_part (base p x.over).z (base p w.over).z (pos 0) d x.cell.z w.cell.z)
+moves_by p w x = search (arith, vector_equal, step_part)
 
 -- a cell further, in numbers
 pub further : (k k' d m x y z : ℤ) → (m *ℤ d) *ℤ (x +ℤ k' *ℤ z) -ℤ k' *ℤ (y +ℤ d *ℤ (m *ℤ z)) ≡ (m *ℤ d) *ℤ x -ℤ k' *ℤ y
@@ -34,19 +27,16 @@ place_further a d t v = simp ring (omega (arith, ints))
 
 -- k cells further a place is D·k further
 pub position_moved : (p : Placement) (w : Vertex) (v : Vector) → position p (moved w v) ≡ plus (position p w) (times (pos p.denominator) v)
-position_moved p w v = let d = pos p.denominator in
-    vector_equal (place_further (base p w.over).x d w.cell.x v.x) (place_further (base p w.over).y d w.cell.y v.y) (place_further (base p w.over).z d w.cell.z v.z)
+position_moved p w v = simp (vector_equal, place_further)
 
 -- a place has the dimension of the net
 pub place_dimension : (G : Graph) (p : Placement) → ((u : ℕ) → IsQuotientVertex G u → HasDimension G.dimension (base p u)) → (w : Vertex) → IsVertex G w
     → HasDimension G.dimension (position p w)
-place_dimension G p d w i e = let a = d w.over i.over e in let c = i.cell e in (λ j. a j +ℤ pos p.denominator *ℤ c j) ∙ none (pos p.denominator)
-  where
-    none : (k : ℤ) → pos 0 +ℤ k *ℤ pos 0 ≡ pos 0
-    none k = omega (arith, ints)
+place_dimension G p d w i e = search arith
 
 -- and so has a difference of places
-pub move_dimension : (G : Graph) (p : Placement) → ((u : ℕ) → IsQuotientVertex G u → HasDimension G.dimension (base p u)) → (w x : Vertex) → IsVertex G w → IsVertex G x
+pub move_dimension : (G : Graph) (p : Placement) → ((u : ℕ) → IsQuotientVertex G u → HasDimension G.dimension (base p u)) → (w x : Vertex) → IsVertex G w
+    → IsVertex G x
     → HasDimension G.dimension (minus (position p x) (position p w))
 move_dimension G p d w x i j = minus_dimension G.dimension (position p x) (position p w) (place_dimension G p d x j) (place_dimension G p d w i)
 
@@ -56,22 +46,11 @@ end_vector p w a e = moves_by p w (end_of w a) ∙ ap (arc_vector p) (between_en
 
 -- in cell 0 a vertex stands at its base
 pub at_origin : (p : Placement) (u : ℕ) → position p (vertex u zero_vector) ≡ base p u
-at_origin p u = vector_equal (by (base p u).x (pos p.denominator)) (by (base p u).y (pos p.denominator)) (by (base p u).z (pos p.denominator))
-  where
-    by : (a d : ℤ) → a +ℤ d *ℤ pos 0 ≡ a
-    by a d = omega (arith, ints)
+at_origin p u = search (arith, vector_equal)
 
 -- whether two vertices are equal can be decided
 pub vertex_decided : (w x : Vertex) → Dec (w ≡ x)
-vertex_decided w x =
-    by (ℕ_discrete w.over x.over) (ℤ_discrete w.cell.x x.cell.x) (ℤ_discrete w.cell.y x.cell.y) (ℤ_discrete w.cell.z x.cell.z)
-  where
-    by : Dec (w.over ≡ x.over) → Dec (w.cell.x ≡ x.cell.x) → Dec (w.cell.y ≡ x.cell.y) → Dec (w.cell.z ≡ x.cell.z) → Dec (w ≡ x)
-    by (yes a) (yes b) (yes c) (yes d) = yes (λ i. record { over = a i; cell = record { x = b i; y = c i; z = d i } })
-    by (no a) q r s = no (λ h. a (ap (λ (v : Vertex). v.over) h))
-    by (yes a) (no b) r s = no (λ h. b (ap (λ (v : Vertex). v.cell.x) h))
-    by (yes a) (yes b) (no c) s = no (λ h. c (ap (λ (v : Vertex). v.cell.y) h))
-    by (yes a) (yes b) (yes c) (no d) = no (λ h. d (ap (λ (v : Vertex). v.cell.z) h))
+vertex_decided w x = search arith
 
 -- equal cells, by their difference
 back : (s t : Vector) → minus t s ≡ zero_vector → s ≡ t
@@ -94,6 +73,9 @@ positions_tell G p n w x i j e = by (vertex_decided w x)
     by (no h) = absurd (n w.over x.over (minus x.cell w.cell) (record {
       here = i.over;
       there = record { over = j.over; cell = λ d. let a = i.cell d in let b = j.cell d in omega (arith, ints) };
-      different = λ k. h (λ l. let a = ap (λ (v : Vertex). v.over) k in let b : minus x.cell w.cell ≡ zero_vector = sym (ap (λ (v : Vertex). v.cell) k) in record { over = a l; cell = back w.cell x.cell b l });
-      same_place = vector_equal (shifted (pos p.denominator) (base p w.over).x (base p x.over).x w.cell.x x.cell.x (ap (λ (v : Vector). v.x) e)) (shifted (pos p.denominator) (base p w.over).y (base p x.over).y w.cell.y x.cell.y (ap (λ (v : Vector). v.y) e)) (shifted (pos p.denominator) (base p w.over).z (base p x.over).z w.cell.z x.cell.z (ap (λ (v : Vector). v.z) e));
+      different = λ k. h (λ l. let a = ap (λ (v : Vertex). v.over) k in let b : minus x.cell w.cell ≡ zero_vector = sym (ap (λ (v : Vertex). v.cell) k) in
+          record { over = a l; cell = back w.cell x.cell b l });
+      same_place = vector_equal (shifted (pos p.denominator) (base p w.over).x (base p x.over).x w.cell.x x.cell.x (ap (λ (v : Vector). v.x) e))
+          (shifted (pos p.denominator) (base p w.over).y (base p x.over).y w.cell.y x.cell.y (ap (λ (v : Vector). v.y) e))
+          (shifted (pos p.denominator) (base p w.over).z (base p x.over).z w.cell.z x.cell.z (ap (λ (v : Vector). v.z) e));
     }))

@@ -15,7 +15,8 @@ use Rattle.periodic_net.proofs.nets.ArcLists.{from_is_arc}
 use Rattle.periodic_net.proofs.placements.MaximumPrinciple.{gain, IsHarmonic, harmonic_constant}
 
 -- a linear reading of the arcs' vectors, summed
-pub total_linear : (c : Vector → ℤ) → IsCoordinate c → (p : Placement) (as' : List Arc) → total (λ a. c (arc_vector p a)) as' ≡ c (vector_sum (map (arc_vector p) as'))
+pub total_linear : (c : Vector → ℤ) → IsCoordinate c → (p : Placement) (as' : List Arc)
+    → total (λ a. c (arc_vector p a)) as' ≡ c (vector_sum (map (arc_vector p) as'))
 total_linear c l p [] = sym l.zero
 total_linear c l p (a ∷ as') = (λ i. c (arc_vector p a) +ℤ total_linear c l p as' i) ∙ sym (l.plus_is (arc_vector p a) (vector_sum (map (arc_vector p) as')))
 
@@ -33,10 +34,12 @@ apart_step : (d e a b a' b' s : ℤ) → (d *ℤ b -ℤ e *ℤ a) -ℤ (d *ℤ b
 apart_step d e a b a' b' s = simp ring (omega (arith, ints))
 
 -- a linear reading of the vector of an arc
-coordinate_of_arc : (c : Vector → ℤ) → IsCoordinate c → (p : Placement) (a : Arc) → c (arc_vector p a) ≡ c (base p a.to) +ℤ pos p.denominator *ℤ c a.shift -ℤ c (base p a.from)
+coordinate_of_arc : (c : Vector → ℤ) → IsCoordinate c → (p : Placement) (a : Arc)
+    → c (arc_vector p a) ≡ c (base p a.to) +ℤ pos p.denominator *ℤ c a.shift -ℤ c (base p a.from)
 coordinate_of_arc c i p a =
     i.minus_is (plus (base p a.to) (times (pos p.denominator) a.shift)) (base p a.from)
-    ∙ ap (λ (k : ℤ). k -ℤ c (base p a.from)) (i.plus_is (base p a.to) (times (pos p.denominator) a.shift) ∙ ap (λ (k : ℤ). c (base p a.to) +ℤ k) (i.times_is (pos p.denominator) a.shift))
+    ∙ ap (λ (k : ℤ). k -ℤ c (base p a.from)) (i.plus_is (base p a.to) (times (pos p.denominator) a.shift)
+    ∙ ap (λ (k : ℤ). c (base p a.to) +ℤ k) (i.times_is (pos p.denominator) a.shift))
 
 -- sums of such differences
 apart_sum : (d e x y x' y' : ℤ) → (d *ℤ x -ℤ e *ℤ y) +ℤ (d *ℤ x' -ℤ e *ℤ y') ≡ d *ℤ (x +ℤ x') -ℤ e *ℤ (y +ℤ y')
@@ -73,11 +76,7 @@ same_apart : (G : Graph) → IsGraph G → IsConnected G → (p q : Placement) �
 same_apart G g con p q bp bq c i u v iu iv = harmonic_constant G g con (apart p q c) harmonic u v iu iv
   where
     harmonic : IsHarmonic G (apart p q c)
-    harmonic w iw =
-        gain_is c i p q (arcs_from G w)
-        ∙ (λ k. pos p.denominator *ℤ c (bq.balanced w iw k) -ℤ pos q.denominator *ℤ c (bp.balanced w iw k))
-        ∙ (λ k. pos p.denominator *ℤ i.zero k -ℤ pos q.denominator *ℤ i.zero k)
-        ∙ apart_zero (pos p.denominator) (pos q.denominator)
+    harmonic w iw = grind (arith, gain_is, apart_zero)
 
 -- a graph has vertex 1
 pub one_vertex : (G : Graph) → IsGraph G → IsQuotientVertex G 1

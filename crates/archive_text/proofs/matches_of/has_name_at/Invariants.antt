@@ -7,7 +7,8 @@ use Rattle.archive_text.proofs.matches_of.has_name_at.Given as goal
 
 abbrev pub invariant-loop-left : goal.invariant-loop-left
 invariant-loop-left l =
-    list_any (bytes_eq l.name) (names_of (entries_at (entry_views l.entries) l.places)) ≡ list_any (bytes_eq l.name) (names_of (entries_at (entry_views l.entries) l.left))
+    list_any (bytes_eq l.name) (names_of (entries_at (entry_views l.entries) l.places)) ≡ list_any (bytes_eq l.name)
+    (names_of (entries_at (entry_views l.entries) l.left))
 
 abbrev pub decreases-loop-left : goal.decreases-loop-left
 decreases-loop-left l = length l.left

@@ -15,5 +15,6 @@ returns-in-len1-up-clause-next g c =
     let last = c.last-item.result in
     let last_is : last_of (map f grouped) ≡ Some (f last) = last_image f grouped last c.in-len1-up.len_at_least c.last-item.is in
     c.unwrap_or.ensures
-    ∙ ap (λ (o : Option ℕ). unwrap_or o 0) (c.place_with.ensures ∙ ap (λ (k : List ℤ). position (λ item. same_key (f item).key k) left) c.key.ensures ∙ sym (places_agree (λ (e : EntryView). same_key e.key (f last).key) f left))
+    ∙ ap (λ (o : Option ℕ). unwrap_or o 0) (c.place_with.ensures ∙ ap (λ (k : List ℤ). position (λ item. same_key (f item).key k) left) c.key.ensures
+    ∙ sym (places_agree (λ (e : EntryView). same_key e.key (f last).key) f left))
     ∙ ap (λ o. place_after o (map f left)) (sym last_is)

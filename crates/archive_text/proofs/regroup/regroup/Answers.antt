@@ -31,5 +31,14 @@ loop-grouped-preserved g c =
           ∙ ap (λ (es : List EntryView). (map f grouped ++ f x ∷ []) ++ going_on (last_of (map f grouped ++ f x ∷ [])) es) rest
           ∙ next_on (map f grouped) (map f left) n (f x) place some is
           ∙ i.whole;
-      room = omega (arith, i.room, within, ap length c.in-Ok.ensures.items, length-append grouped (x ∷ []), ap length c.remove-item.ensures.items, length-remove left n within, c.in-Ok.ensures.capacity);
+      room = omega (
+        arith,
+        i.room,
+        within,
+        ap length c.in-Ok.ensures.items,
+        length-append grouped (x ∷ []),
+        ap length c.remove-item.ensures.items,
+        length-remove left n within,
+        c.in-Ok.ensures.capacity,
+      );
     }

@@ -19,7 +19,8 @@ returns-in_default-clause-shells c = λ text rows at.
       number = c.number-line.ensures.number;
       each = read.each;
       few = omega (arith, c.loop-done.invariant.1, c.loop-done-test.true);
-      none = subst (λ k. NoShells (k + 1) c.loop-done.lines.rest) (sym c.loop-done.invariant.1) (at_none c.in_ok-sizes.field-0 (NoShells (c.loop-done.done + 1) c.loop-done.lines.rest) c.in_default.is c.in_ok-sizes.ensures.none);
+      none = subst (λ k. NoShells (k + 1) c.loop-done.lines.rest) (sym c.loop-done.invariant.1)
+          (at_none c.in_ok-sizes.field-0 (NoShells (c.loop-done.done + 1) c.loop-done.lines.rest) c.in_default.is c.in_ok-sizes.ensures.none);
     }
 
 pub loop-done-preserved : goal.loop-done-preserved
@@ -28,9 +29,11 @@ loop-done-preserved c =
     let more = one_more_class c.args.lines.now c.loop-done.lines c.next_shells.new.lines c.loop-done.lists c.in-Some.sizes.items read
     (at_some c.in_ok-sizes.field-0 (λ (s : Vec ℕ Global). AreSizes s.items) c.in-Some.sizes c.in-Some.is c.in_ok-sizes.ensures.form)
     (λ text rows at. subst (λ k. IsAt text (rows ++ shells_row (k + 1) c.in-Some.sizes.items ∷ []) c.next_shells.new.lines) (sym c.loop-done.invariant.1)
-    (at_some c.in_ok-sizes.field-0 (λ (s : Vec ℕ Global). IsAt text (rows ++ shells_row (c.loop-done.done + 1) s.items ∷ []) c.next_shells.new.lines) c.in-Some.sizes c.in-Some.is (c.in_ok-sizes.ensures.place text rows at))) in (
+    (at_some c.in_ok-sizes.field-0 (λ (s : Vec ℕ Global). IsAt text (rows ++ shells_row (c.loop-done.done + 1) s.items ∷ []) c.next_shells.new.lines)
+    c.in-Some.sizes c.in-Some.is (c.in_ok-sizes.ensures.place text rows at))) in (
       subst (λ ls. AreShellsTo c.args.lines.now c.next_shells.new.lines ls) (sym c.in_ok-push.ensures.ok) more,
-      let long = ap length c.in_ok-push.ensures.ok ∙ length-append c.loop-done.lists (c.in-Some.sizes.items ∷ []) in omega (arith, long, c.loop-done.invariant.1),
+      let long = ap length c.in_ok-push.ensures.ok ∙ length-append c.loop-done.lists (c.in-Some.sizes.items ∷ []) in
+          omega (arith, long, c.loop-done.invariant.1),
     )
 
 pub returns-clause-shells : goal.returns-clause-shells

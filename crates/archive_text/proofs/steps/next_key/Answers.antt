@@ -9,7 +9,8 @@ use Rattle.archive_text.proofs.steps.next_key.Goals.{else-branch-via-then-branch
 
 pub returns-in_ok-key_from-clause-place : goal.returns-in_ok-key_from-clause-place
 unfolding key_row
-returns-in_ok-key_from-clause-place c = λ text rows at. subst (λ ns. IsAt text (rows ++ row_text (codes "key") ns ∷ []) c.next_row.new.self) (sym c.in_ok-key_from.ensures) (c.in_ok-next_row.ensures.place text rows at (ap (λ b. Ok b) c.if-branch.true))
+returns-in_ok-key_from-clause-place c = λ text rows at. subst (λ ns. IsAt text (rows ++ row_text (codes "key") ns ∷ []) c.next_row.new.self)
+    (sym c.in_ok-key_from.ensures) (c.in_ok-next_row.ensures.place text rows at (ap (λ b. Ok b) c.if-branch.true))
 
 pub returns-else-branch-clause-none : goal.returns-else-branch-clause-none
 unfolding key_row

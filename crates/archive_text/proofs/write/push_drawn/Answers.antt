@@ -1,11 +1,9 @@
-use Rattle.std.proofs.Common.{[], ◌∷◌, ◌++◌}
 use Rattle.std.proofs.lemmas.Result.{on_ok_weaker}
 use Rattle.quotient_graph.specs.AnyGraphs.{graph_view}
-use Rattle.archive_text.specs.Rows.{name_row}
-use Rattle.graph_rows.specs.Rows.{graph_lines}
 use Rattle.archive_text.proofs.Writing.{drawn_written}
 use Rattle.archive_text.proofs.write.push_drawn.Goals as goal
 
 pub returns : goal.returns
 returns c = on_ok_weaker c.push_graph.result (λ last.
-    drawn_written c.args.name.now (graph_view c.args.graph.now) c.args.text.now.items c.push_name.new.text.items c.push_graph.new.text.items c.in_ok-push_name.ensures last) c.push_graph.ensures
+    drawn_written c.args.name.now (graph_view c.args.graph.now) c.args.text.now.items c.push_name.new.text.items c.push_graph.new.text.items
+    c.in_ok-push_name.ensures last) c.push_graph.ensures

@@ -11,6 +11,8 @@ use Rattle.archive_text.proofs.write.push_entry.Goals as goal
 
 pub returns : goal.returns
 returns c = on_ok_weaker c.push_end.result (λ last.
-    entry_written c.args.version (entry_view c.args.entry.now) c.args.text.now.items c.push_drawn.new.text.items c.push_key.new.text.items c.push_classes.new.text.items c.push_end.new.text.items
-    (c.in_ok-push_drawn.ensures ∙ ap (λ n. c.args.text.now.items ++ rows_text (row_lines (drawn_rows n (size_of_graph (graph_view c.args.entry.now.graph)) (graph_view c.args.entry.now.graph).edges))) c.deref.ensures.value)
+    entry_written c.args.version (entry_view c.args.entry.now) c.args.text.now.items c.push_drawn.new.text.items c.push_key.new.text.items
+    c.push_classes.new.text.items c.push_end.new.text.items
+    (c.in_ok-push_drawn.ensures ∙ ap (λ n. c.args.text.now.items ++ rows_text
+    (row_lines (drawn_rows n (size_of_graph (graph_view c.args.entry.now.graph)) (graph_view c.args.entry.now.graph).edges))) c.deref.ensures.value)
     c.in_ok-push_key.ensures c.in_ok-push_classes.ensures last) c.push_end.ensures

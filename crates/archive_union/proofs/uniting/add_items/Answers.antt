@@ -12,9 +12,11 @@ pub returns-in-Err-clause-fault : goal.returns-in-Err-clause-fault
 returns-in-Err-clause-fault c =
     let at = c.loop-item in
     let later = into_iter_items c.next.new.self in
-    let whole : c.args.items.items ≡ at.yielded ++ c.in-Some.item ∷ later = sym at.invariant.all ∙ ap (λ (l : List Entry). at.yielded ++ l) c.in-Some.ensures.steps.0 in
+    let whole : c.args.items.items ≡ at.yielded ++ c.in-Some.item ∷ later = sym at.invariant.all
+    ∙ ap (λ (l : List Entry). at.yielded ++ l) c.in-Some.ensures.steps.0 in
     subst (λ (f : UniteFault). IsUniteFault c.args.archive.now (entry_views c.args.items.items) f) (sym c.not_added.ensures)
-    (fault_is c.args.archive.now at.archive at.yielded c.in-Some.item at.invariant.archive c.args.items.items later at.number c.in-Err.fault whole at.invariant.number c.in-Err.ensures.refused)
+    (fault_is c.args.archive.now at.archive at.yielded c.in-Some.item at.invariant.archive c.args.items.items later at.number c.in-Err.fault whole
+    at.invariant.number c.in-Err.ensures.refused)
 
 pub loop-item-preserved : goal.loop-item-preserved
 loop-item-preserved c =

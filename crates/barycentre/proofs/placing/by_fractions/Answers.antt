@@ -25,7 +25,8 @@ returns-in-Ok-clause-normal g c =
     let rows = c.in-Ok.rows.items in
     let p = value_in fraction_value rows in
     IfOk-weaker c.units_in_limits.result (λ u. AreLeastUnits G p u.d0 u.at.items) (λ u. IsNormalPlacement G (placement_of u.d0 u.at.items))
-    (λ u h. normal_units G k.is_graph p (are_positions G rows k.parameter e.solved e.flat) u.d0 u.at.items h) (rw c.deref.ensures.value at c.units_in_limits.ensures.units)
+    (λ u h. normal_units G k.is_graph p (are_positions G rows k.parameter e.solved e.flat) u.d0 u.at.items h)
+    (rw c.deref.ensures.value at c.units_in_limits.ensures.units)
 
 pub returns-in-Ok-clause-fault : goal.returns-in-Ok-clause-fault
 returns-in-Ok-clause-fault g c =

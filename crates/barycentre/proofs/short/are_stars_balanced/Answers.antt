@@ -47,7 +47,9 @@ returns-clause-balanced g c t =
     let rd = c.ranges.d0 in
     let G = c.args.g.now in
     let P = placement_of c.args.d0 c.args.at.now in
-    let before : (j : ℕ) → j < c.loop-u.u → vector_sum (map (arc_vector P) (arcs_from G (j + 1))) ≡ zero_vector = simp to_z-of_z at c.loop-u.invariant.balanced in
+    let before : (j : ℕ) → j < c.loop-u.u → vector_sum (map (arc_vector P) (arcs_from G (j + 1))) ≡ zero_vector =
+    simp to_z-of_z at c.loop-u.invariant.balanced in
     let count = c.vertices-u-end.ensures.count in
     let end = c.loop-u-test.false in
-    λ u q. from_one (λ v. vector_sum (map (arc_vector P) (arcs_from G v)) ≡ zero_vector) u q.0 (before (u - 1) (let a = q.0 in let b = q.1 in omega (arith, a, b, count, end)))
+    λ u q. from_one (λ v. vector_sum (map (arc_vector P) (arcs_from G v)) ≡ zero_vector) u q.0
+    (before (u - 1) (let a = q.0 in let b = q.1 in omega (arith, a, b, count, end)))

@@ -34,7 +34,8 @@ loop-arc-preserved g c =
     let here : IsWithin most_units v = c.if-not-is_within.ensures.0 refl in
     let within : AreWithinTo P star i = simp to_z-of_z at c.loop-arc.invariant.within in
     simp to_z-of_z (record {
-      added = sum_step P star i a c.loop-arc.sum v c.plus-sum.result c.loop-arc-test.true c.arc-item.is (simp to_z-of_z at c.loop-arc.invariant.added) vector c.plus-sum.ensures;
+      added = sum_step P star i a c.loop-arc.sum v c.plus-sum.result c.loop-arc-test.true c.arc-item.is
+          (simp to_z-of_z at c.loop-arc.invariant.added) vector c.plus-sum.ensures;
       near = near_step most_units i c.loop-arc.sum v c.plus-sum.result c.loop-arc.invariant.near here c.plus-sum.ensures;
       within = within_more P star i a c.arc-item.is c.loop-arc-test.true within (subst (IsWithin most_units) vector here);
     })
@@ -52,5 +53,6 @@ returns-clause-balanced g c t =
     let rd = c.ranges.d0 in
     let P = placement_of c.args.d0 c.args.at.now in
     let star = c.arcs-arc-items in
-    let whole = sum_whole P c.args.g.now c.args.u star.result.now star.ensures.star c.loop-arc.arc-index c.loop-arc.sum c.loop-arc-test.false (simp to_z-of_z at c.loop-arc.invariant.added) in
+    let whole = sum_whole P c.args.g.now c.args.u star.result.now star.ensures.star c.loop-arc.arc-index c.loop-arc.sum c.loop-arc-test.false
+    (simp to_z-of_z at c.loop-arc.invariant.added) in
     sym whole ∙ sym c.to_triple.ensures ∙ c.is_zero.ensures.0 t

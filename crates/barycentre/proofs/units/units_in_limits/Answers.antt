@@ -23,14 +23,16 @@ returns-in_err-d0-clause-fault g c =
     let k = c.recall.ensures in
     let e = c.in_err-d0.ensures in
     let p = err_from_is_err_and c.from_residual.result c.from_residual.ensures.1 in
-    rw (p.1, p.2) (λ positions. wide_multiple c.args.g.now k.is_graph (value_in fraction_value c.args.rows.now) positions c.in_err-d0.field-0.0 (e.dimension ∙ sym k.parameter) (e.wide.first c.args.g.now (k.parameter, sym c.requires.count)))
+    rw (p.1, p.2) (λ positions. wide_multiple c.args.g.now k.is_graph (value_in fraction_value c.args.rows.now) positions c.in_err-d0.field-0.0
+    (e.dimension ∙ sym k.parameter) (e.wide.first c.args.g.now (k.parameter, sym c.requires.count)))
 
 pub rows_in_units-requires : goal.rows_in_units-requires
 rows_in_units-requires g c =
     let k = c.recall.ensures in
     let e = c.in_ok-d0.ensures in
     let rd = fits_from_bound c.in_ok-d0.d0 most_units (omega arith) e.common.usable.small in
-    let divided = fractions_divided c.args.g.now k.is_graph (value_in fraction_value c.args.rows.now) c.requires.fractions (length c.args.rows.now) (unsigned_abs c.in_ok-d0.d0) c.requires.count (e.common.least c.args.g.now (k.parameter, sym c.requires.count)) in
+    let divided = fractions_divided c.args.g.now k.is_graph (value_in fraction_value c.args.rows.now) c.requires.fractions (length c.args.rows.now)
+    (unsigned_abs c.in_ok-d0.d0) c.requires.count (e.common.least c.args.g.now (k.parameter, sym c.requires.count)) in
     simp to_z-of_z (lit< tt, (e.positive, (e.common.usable.small, divided)))
 
 pub check_arcs-requires : goal.check_arcs-requires
@@ -40,7 +42,8 @@ check_arcs-requires g c =
     let f = c.in_ok-at.ensures in
     let G = c.args.g.now in
     let rd = fits_from_bound c.in_ok-d0.d0 most_units (omega arith) e.common.usable.small in
-    let u = least_units G k.is_graph (value_in fraction_value c.args.rows.now) c.requires.fractions c.in_ok-d0.d0 c.in_ok-at.at.items e.positive (f.count ∙ c.requires.count) (simp to_z-of_z at f.units) (e.common.least G (k.parameter, sym c.requires.count)) (simp to_z-of_z at f.reach) in
+    let u = least_units G k.is_graph (value_in fraction_value c.args.rows.now) c.requires.fractions c.in_ok-d0.d0 c.in_ok-at.at.items e.positive
+    (f.count ∙ c.requires.count) (simp to_z-of_z at f.units) (e.common.least G (k.parameter, sym c.requires.count)) (simp to_z-of_z at f.reach) in
     simp to_z-of_z (rw c.deref.ensures.value (lit< tt, (u.scaled.count, (u.positive, (u.flat, u.reach)))))
 
 pub returns-in_err-check_arcs-clause-fault : goal.returns-in_err-check_arcs-clause-fault
@@ -52,7 +55,8 @@ returns-in_err-check_arcs-clause-fault g c =
     let d0 = c.in_ok-d0.d0 in
     let at = c.in_ok-at.at.items in
     let rd = fits_from_bound d0 most_units (omega arith) e.common.usable.small in
-    let u = least_units G k.is_graph (value_in fraction_value c.args.rows.now) c.requires.fractions d0 at e.positive (f.count ∙ c.requires.count) (simp to_z-of_z at f.units) (e.common.least G (k.parameter, sym c.requires.count)) (simp to_z-of_z at f.reach) in
+    let u = least_units G k.is_graph (value_in fraction_value c.args.rows.now) c.requires.fractions d0 at e.positive (f.count ∙ c.requires.count)
+    (simp to_z-of_z at f.units) (e.common.least G (k.parameter, sym c.requires.count)) (simp to_z-of_z at f.reach) in
     let w = c.in_err-check_arcs.field-0.0 in
     let told : IsWideAt G (placement_of d0 c.deref.result.now) w.site w.value = simp to_z-of_z at c.in_err-check_arcs.ensures.wide in
     let p = err_from_is_err_and c.from_residual-in_err-check_arcs.result c.from_residual-in_err-check_arcs.ensures.1 in
@@ -70,4 +74,5 @@ returns-clause-units g c =
     let f = c.in_ok-at.ensures in
     let G = c.args.g.now in
     let rd = fits_from_bound c.in_ok-d0.d0 most_units (omega arith) e.common.usable.small in
-    simp to_z-of_z (least_units G k.is_graph (value_in fraction_value c.args.rows.now) c.requires.fractions c.in_ok-d0.d0 c.in_ok-at.at.items e.positive (f.count ∙ c.requires.count) (simp to_z-of_z at f.units) (e.common.least G (k.parameter, sym c.requires.count)) (simp to_z-of_z at f.reach))
+    simp to_z-of_z (least_units G k.is_graph (value_in fraction_value c.args.rows.now) c.requires.fractions c.in_ok-d0.d0 c.in_ok-at.at.items e.positive
+    (f.count ∙ c.requires.count) (simp to_z-of_z at f.units) (e.common.least G (k.parameter, sym c.requires.count)) (simp to_z-of_z at f.reach))

@@ -5,4 +5,5 @@ use Rattle.cgd_lex.proofs.bytes.run_length.Goals as goal
 
 pub returns-clause-length : goal.returns-clause-length
 returns-clause-length c =
-    c.unwrap_or.ensures ∙ end_or_length ends_run c.args.bytes.now c.run_end.result (sym c.run_end.ensures) ∙ sym (ends_in_line is_run_byte c.args.bytes.now refl)
+    c.unwrap_or.ensures ∙ end_or_length ends_run c.args.bytes.now c.run_end.result (sym c.run_end.ensures)
+    ∙ sym (ends_in_line is_run_byte c.args.bytes.now refl)

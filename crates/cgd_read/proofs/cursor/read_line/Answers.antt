@@ -13,7 +13,8 @@ returns-clause-line c =
     let others = rest_of_line c.args.lexer.now in
     let line : LineKind → FieldsView → LineView = λ kind fields. record { number = first.line; kind = kind; first = first.text; fields = fields } in
     ap (line c.of-kind.result)
-    (c.read_fields.ensures.fields ∙ ap (λ fields. fold with_field fields others) c.first_field.ensures.fields ∙ fields_after (is_bare c.of-kind.result) first others)
+    (c.read_fields.ensures.fields ∙ ap (λ fields. fold with_field fields others) c.first_field.ensures.fields
+    ∙ fields_after (is_bare c.of-kind.result) first others)
     ∙ ap (λ kind. line kind (fields_of (fields_from kind first others))) c.of-kind.ensures
 
 pub returns-clause-flat : goal.returns-clause-flat

@@ -17,7 +17,8 @@ loop-line-init c =
     let tokens = c.new-lexer.ensures.tokens in
     let few = c.new-lexer.ensures.few in
     record {
-      whole = ap (λ (bs : List Block). views bs ++ blocks_from false (token_lines c.new-lexer.result)) none ∙ ap (λ ts. blocks_from false (token_lines ts)) tokens;
+      whole = ap (λ (bs : List Block). views bs ++ blocks_from false (token_lines c.new-lexer.result)) none
+          ∙ ap (λ ts. blocks_from false (token_lines ts)) tokens;
       few = omega (arith, ap length none);
       graphs = subst (λ (bs : List Block). All (λ block. IsReadBody block.body) bs) (sym none) (All-nil (λ (block : Block). IsReadBody block.body));
       room = omega (arith, few, c.requires);

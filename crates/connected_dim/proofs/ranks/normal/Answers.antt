@@ -13,4 +13,5 @@ pub returns-clause-flat : goal.returns-clause-flat
 returns-clause-flat g c d some =
     let e = c.cross.ensures.value in
     subst (λ (v : Vector). v.z ≢ pos 0) (sym e)
-    (flat_cross c.to_triple.result c.to_triple-2.result (c.to_triple.ensures.dimension d) (c.to_triple-2.ensures.dimension d) (subst (λ v. v ≢ zero_vector) e some))
+    (flat_cross c.to_triple.result c.to_triple-2.result (c.to_triple.ensures.dimension d) (c.to_triple-2.ensures.dimension d)
+    (subst (λ v. v ≢ zero_vector) e some))

@@ -19,6 +19,7 @@ returns-in-None g c =
 pub returns-in-None-2 : goal.returns-in-None-2
 returns-in-None-2 g c = (
   line_across g.row.D c.args.gs.now c.args.a.now c.across.result c.reduction.result c.requires.a
-      (λ e. c.if-a-eq0.false (ap (of_z w128) (ap (λ (t : Vector). t.x) c.a.view_is ∙ e))) (c.in-None.ensures.none refl) c.across.ensures.value c.reduction.ensures.reduction,
+      (λ e. c.if-a-eq0.false (ap (of_z w128) (ap (λ (t : Vector). t.x) c.a.view_is ∙ e)))
+      (c.in-None.ensures.none refl) c.across.ensures.value c.reduction.ensures.reduction,
   c.reduction.ensures.within,
 )

@@ -12,7 +12,8 @@ returns-clause-divisor c =
     let near = subst (IsWithin most_normal) (sym c.v.view_is) c.requires.within in
     subst (λ w. IsDivisor w (pos c.gcd.result)) c.v.view_is
     (divisor_found v c.unsigned_abs.result c.unsigned_abs-2.result c.unsigned_abs-3.result c.gcd-first.result c.gcd.result some
-    (c.unsigned_abs.ensures.value ∙ same_abs c.v.inside.x near.0) (c.unsigned_abs-2.ensures.value ∙ same_abs c.v.inside.y near.1) (c.unsigned_abs-3.ensures.value ∙ same_abs c.v.inside.z near.2)
+    (c.unsigned_abs.ensures.value ∙ same_abs c.v.inside.x near.0) (c.unsigned_abs-2.ensures.value ∙ same_abs c.v.inside.y near.1)
+    (c.unsigned_abs-3.ensures.value ∙ same_abs c.v.inside.z near.2)
     c.gcd-first.ensures.greatest c.gcd-first.ensures.combination c.gcd.ensures.greatest c.gcd.ensures.combination)
 
 pub returns-clause-within : goal.returns-clause-within

@@ -18,12 +18,20 @@ use Rattle.periodic_net.specs.Limits.{most_shift}
 pub plus-requires : goal.plus-requires
 plus-requires g c =
     let few = c.requires.few in
-    let here = subst (IsArcFrom c.args.g.now c.args.u) (sym c.arc-item.is ∙ sym c.arc.view_is) (c.arcs-arc-items.ensures.each c.loop-arc.arc-index c.arc-item.result c.loop-arc-test.true) in
-    (lit< tt, (wider (most_shift * (length c.args.order.now.items - 1)) (2 ^ 29) (omega arith) c.args.walk.now c.requires.near, wider most_shift (2 ^ 29) (omega arith) c.arc.inside.shift here.shift))
+    let here = subst (IsArcFrom c.args.g.now c.args.u) (sym c.arc-item.is ∙ sym c.arc.view_is)
+    (c.arcs-arc-items.ensures.each c.loop-arc.arc-index c.arc-item.result c.loop-arc-test.true) in (
+      lit< tt,
+      (
+        wider (most_shift * (length c.args.order.now.items - 1)) (2 ^ 29) (omega arith) c.args.walk.now c.requires.near,
+        wider most_shift (2 ^ 29)
+            (omega arith) c.arc.inside.shift here.shift,
+      ),
+    )
 
 pub find-requires : goal.find-requires
 find-requires g c =
-    let here = subst (IsArcFrom c.args.g.now c.args.u) (sym c.arc-item.is ∙ sym c.arc.view_is) (c.arcs-arc-items.ensures.each c.loop-arc.arc-index c.arc-item.result c.loop-arc-test.true) in
+    let here = subst (IsArcFrom c.args.g.now c.args.u) (sym c.arc-item.is ∙ sym c.arc.view_is)
+    (c.arcs-arc-items.ensures.each c.loop-arc.arc-index c.arc-item.result c.loop-arc-test.true) in
     (lit< tt, (here.to.0, subst (λ n. c.arc.inside.to ≤ n) (sym c.loop-arc.invariant.grows.search.count) here.to.1))
 
 pub loop-arc-init : goal.loop-arc-init
@@ -41,14 +49,17 @@ pub loop-arc-preserved : goal.loop-arc-preserved
 loop-arc-preserved g c =
     let G = c.args.g.now in
     let row = c.arcs-arc-items.result.now in
-    let here = subst (IsArcFrom G c.args.u) (sym c.arc-item.is ∙ sym c.arc.view_is) (c.arcs-arc-items.ensures.each c.loop-arc.arc-index c.arc-item.result c.loop-arc-test.true) in
+    let here = subst (IsArcFrom G c.args.u) (sym c.arc-item.is ∙ sym c.arc.view_is)
+    (c.arcs-arc-items.ensures.each c.loop-arc.arc-index c.arc-item.result c.loop-arc-test.true) in
     let is_arc = subst (λ u. IsArc G (arc u c.arc.inside.to c.arc.inside.shift)) here.from here.is_arc in
-    let t = turn G c.args.start c.args.found.now c.args.order.now.items c.args.u c.arc.inside.to c.args.walk.now c.arc.inside.shift c.requires.some c.requires.vertex c.requires.known c.requires.near is_arc here.to here.shift
+    let t = turn G c.args.start c.args.found.now c.args.order.now.items c.args.u c.arc.inside.to c.args.walk.now c.arc.inside.shift c.requires.some
+    c.requires.vertex c.requires.known c.requires.near is_arc here.to here.shift
     c.loop-arc.found c.loop-arc.order.items c.find.new.found c.find.new.order.items c.loop-arc.invariant.grows
     (c.in_ok-find.ensures.found ∙ ap (found_with c.loop-arc.found c.arc.inside.to) c.plus.ensures) c.in_ok-find.ensures.order c.in_ok-find.ensures.together in
     record {
       grows = t.grows;
-      leads = leads_more row c.loop-arc.found c.find.new.found c.loop-arc.arc-index c.arc-item.result c.arc.inside.to (sym c.arc-item.is) (ap (λ (a : Arc). a.to) c.arc.view_is) c.loop-arc-test.true t.still c.loop-arc.invariant.leads t.leads;
+      leads = leads_more row c.loop-arc.found c.find.new.found c.loop-arc.arc-index c.arc-item.result c.arc.inside.to (sym c.arc-item.is)
+          (ap (λ (a : Arc). a.to) c.arc.view_is) c.loop-arc-test.true t.still c.loop-arc.invariant.leads t.leads;
       paths = λ i l at s.
           let f = arc c.arc.inside.from c.arc.inside.to c.arc.inside.shift in
           let rest = drop (c.loop-arc.arc-index + 1) row in
@@ -58,17 +69,20 @@ loop-arc-preserved g c =
           (subst (IsPathSearch G c.args.start c.loop-arc.found c.loop-arc.order.items i) left (c.loop-arc.invariant.paths i l at s)) in
           path_step G c.args.start c.loop-arc.found c.loop-arc.order.items i f rest p h.search c.args.u c.args.walk.now (omega (arith, h.longer, l))
           (h.same i l ∙ at) (h.kept (c.args.u - 1) c.args.walk.now c.requires.known) here.to.0 (subst (λ n. c.arc.inside.to ≤ n) (sym h.search.count) here.to.1)
-          c.find.new.found c.find.new.order.items (c.in_ok-find.ensures.found ∙ ap (found_with c.loop-arc.found c.arc.inside.to) c.plus.ensures) c.in_ok-find.ensures.order;
+          c.find.new.found c.find.new.order.items (c.in_ok-find.ensures.found ∙ ap (found_with c.loop-arc.found c.arc.inside.to) c.plus.ensures)
+          c.in_ok-find.ensures.order;
     }
 
 pub returns : goal.returns
 returns g c = record {
   expands = record {
     grows = c.loop-arc.invariant.grows;
-    leads = leads_all c.args.g.now c.args.start c.arcs-arc-items.result.now c.loop-arc.found c.args.u c.loop-arc.arc-index c.loop-arc-test.false c.arcs-arc-items.ensures.every c.loop-arc.invariant.leads;
+    leads = leads_all c.args.g.now c.args.start c.arcs-arc-items.result.now c.loop-arc.found c.args.u c.loop-arc.arc-index c.loop-arc-test.false
+        c.arcs-arc-items.ensures.every c.loop-arc.invariant.leads;
   };
   paths = λ i l at s.
       path_end c.args.g.now c.args.start c.loop-arc.found c.loop-arc.order.items i
-      (subst (IsPathSearch c.args.g.now c.args.start c.loop-arc.found c.loop-arc.order.items i) (drop_all c.arcs-arc-items.result.now c.loop-arc.arc-index c.loop-arc-test.false)
+      (subst (IsPathSearch c.args.g.now c.args.start c.loop-arc.found c.loop-arc.order.items i)
+      (drop_all c.arcs-arc-items.result.now c.loop-arc.arc-index c.loop-arc-test.false)
       (c.loop-arc.invariant.paths i l at s));
 }

@@ -25,7 +25,17 @@ expand-requires g c =
           c.loop-i.invariant.searched.search,
           (
             subst (IsQuotientVertex c.args.g.now) same n.vertex,
-            (c.walk_at-u.ensures.walk, (n.near c.walk_at-u.result.1 walk, (omega arith, few_found c.args.g.now c.args.start c.loop-i.found c.loop-i.order.items c.loop-i.i c.requires.small c.loop-i.invariant.searched))),
+            (
+              c.walk_at-u.ensures.walk,
+              (
+                n.near c.walk_at-u.result.1 walk,
+                (
+                  omega arith,
+                  few_found c.args.g.now c.args.start c.loop-i.found c.loop-i.order.items c.loop-i.i c.requires.small
+                      c.loop-i.invariant.searched,
+                ),
+              ),
+            ),
           ),
         ),
       ),
@@ -36,8 +46,10 @@ loop-i-preserved g c =
     let place : c.loop-i.i < length c.loop-i.order.items = omega (arith, c.loop-i-test.true, c.len.ensures) in
     let same = c.walk_at-u.ensures.vertex ∙ ap (λ os. slice_index_or os c.loop-i.i 0) c.deref.ensures.value in
     record {
-      searched = searched_more c.args.g.now c.args.start c.loop-i.found c.loop-i.order.items c.expand.new.found c.expand.new.order.items c.loop-i.i place c.loop-i.invariant.searched
-          (subst (λ u. Expands c.args.g.now c.args.start c.loop-i.found c.loop-i.order.items u c.expand.new.found c.expand.new.order.items) same c.in_ok-expand.ensures.expands);
+      searched = searched_more c.args.g.now c.args.start c.loop-i.found c.loop-i.order.items c.expand.new.found c.expand.new.order.items c.loop-i.i place
+          c.loop-i.invariant.searched
+          (subst (λ u. Expands c.args.g.now c.args.start c.loop-i.found c.loop-i.order.items u c.expand.new.found c.expand.new.order.items) same
+          c.in_ok-expand.ensures.expands);
       settled = c.in_ok-expand.ensures.paths c.loop-i.i place (sym same) c.loop-i.invariant.settled;
     }
 
@@ -49,5 +61,6 @@ returns g c = record {
     together = c.loop-i.invariant.searched.together;
     done = λ k l. c.loop-i.invariant.searched.done k (omega (arith, l, c.loop-i-test.false, c.len.ensures));
   };
-  chosen = paths_chosen c.args.g.now c.args.start c.loop-i.found c.loop-i.order.items c.loop-i.i (omega (arith, c.loop-i-test.false, c.len.ensures)) c.loop-i.invariant.searched.search c.loop-i.invariant.settled;
+  chosen = paths_chosen c.args.g.now c.args.start c.loop-i.found c.loop-i.order.items c.loop-i.i
+      (omega (arith, c.loop-i-test.false, c.len.ensures)) c.loop-i.invariant.searched.search c.loop-i.invariant.settled;
 }

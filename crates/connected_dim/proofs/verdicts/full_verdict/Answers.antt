@@ -25,6 +25,8 @@ returns-in_ok-sparse_split-in-Some g c =
     let S = c.closed_lattice-s.result in
     let graph = c.dimension-dim.ensures.is_graph in
     let stair = subst (λ d. HasStairShape d S) (sym c.dimension-dim.ensures.parameter) c.first_dual_of.ensures.stair in
-    sparse_refusal G c.in_ok-sparse_split-in-Some.field-0 (sparse_colouring c.in-Some.d.q c.in-Some.d.c found) graph (c.in_ok-sparse_split-in-Some.ensures.dimension ∙ c.dimension-dim.ensures.value)
+    sparse_refusal G c.in_ok-sparse_split-in-Some.field-0 (sparse_colouring c.in-Some.d.q c.in-Some.d.c found) graph
+    (c.in_ok-sparse_split-in-Some.ensures.dimension ∙ c.dimension-dim.ensures.value)
     c.in_ok-sparse_split-in-Some.ensures.split
-    (sparse_from_lattice G found S c.in-Some.d.q c.in-Some.d.c graph c.requires.walks c.requires.all c.closed_lattice-s.ensures stair (one_of_two c.in-Some.d.q c.in-Some.ensures.above) c.in-Some.ensures.dual)
+    (sparse_from_lattice G found S c.in-Some.d.q c.in-Some.d.c graph c.requires.walks c.requires.all c.closed_lattice-s.ensures stair
+    (one_of_two c.in-Some.d.q c.in-Some.ensures.above) c.in-Some.ensures.dual)

@@ -13,6 +13,8 @@ returns g c =
     let found = c.args.found.now in
     let graph = c.dimension-dim.ensures.is_graph in
     let vs = c.deref.ensures.value ∙ c.in_ok-gs.ensures.generators in
-    let normal = subst (λ d. IsFlatNormal d (generators G found) c.in-Below.c) (sym c.dimension-dim.ensures.parameter) (subst (λ (xs : List Vector). IsFlatNormal g.row.D xs c.in-Below.c) vs c.in-Below.ensures.0) in
-    flat_refusal G c.in_ok-flat_split-in-Below.field-0 (flat_colouring c.in-Below.c found) graph (c.in_ok-flat_split-in-Below.ensures.dimension ∙ c.dimension-dim.ensures.value) c.in_ok-flat_split-in-Below.ensures.split
+    let normal = subst (λ d. IsFlatNormal d (generators G found) c.in-Below.c) (sym c.dimension-dim.ensures.parameter)
+    (subst (λ (xs : List Vector). IsFlatNormal g.row.D xs c.in-Below.c) vs c.in-Below.ensures.0) in
+    flat_refusal G c.in_ok-flat_split-in-Below.field-0 (flat_colouring c.in-Below.c found) graph
+    (c.in_ok-flat_split-in-Below.ensures.dimension ∙ c.dimension-dim.ensures.value) c.in_ok-flat_split-in-Below.ensures.split
     (flat_split_is G found c.in-Below.c graph c.requires.walks c.requires.all normal)

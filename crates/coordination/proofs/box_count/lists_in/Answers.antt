@@ -12,7 +12,8 @@ loop-before-preserved g c =
     let sizes = c.in_ok-sizes.sizes.items in
     record {
       lists = lists_more P c.loop-before._before lists c.push.new.self sizes c.loop-before.invariant.lists
-          (λ i. subst (λ n. AreShellsOf P (vertex (n + 1) zero_vector) sizes) c.loop-before.invariant.lists.count c.in_ok-sizes.ensures.sizes) c.in_ok-push.ensures.ok;
+          (λ i. subst (λ n. AreShellsOf P (vertex (n + 1) zero_vector) sizes) c.loop-before.invariant.lists.count c.in_ok-sizes.ensures.sizes)
+          c.in_ok-push.ensures.ok;
       size = search rules;
       unmarked = c.in_ok-sizes.ensures.unmarked;
       empty = c.in_ok-sizes.ensures.empty;

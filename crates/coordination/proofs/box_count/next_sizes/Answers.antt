@@ -15,7 +15,8 @@ returns-in-Some-clause-sizes g c =
     let v = length lists + 1 in
     let k = kind_of kinds v in
     let more = c.requires.more in
-    let found = subst (λ (o : Option (Vec ℕ Global)). IfSome o (λ sizes. IsOfEarlier kinds lists (c.len.result + 1) sizes.items)) c.in-Some.is c.in_ok-sizes.ensures in
+    let found = subst (λ (o : Option (Vec ℕ Global)). IfSome o (λ sizes. IsOfEarlier kinds lists (c.len.result + 1) sizes.items)) c.in-Some.is
+    c.in_ok-sizes.ensures in
     let e : IsOfEarlier kinds lists v c.in-Some.sizes.items = subst (λ (n : ℕ). IsOfEarlier kinds lists (n + 1) c.in-Some.sizes.items) c.len.ensures found in
     let iv : IsQuotientVertex P v = (omega arith, omega (arith, more)) in
     let before = e.earlier in

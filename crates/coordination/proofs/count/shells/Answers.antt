@@ -17,7 +17,8 @@ next_shell-requires g c =
     let count = c.loop-k.invariant.count in
     let fewer : length c.loop-k.sizes.items < 10 = omega arith in
     let inside = subst (λ (L : ClassGraph). IsClass L c.args.class) (sym c.net-net.ensures.net) c.requires.class in
-    let r = ready K c.args.class c.loop-k.sizes.items c.loop-k.room c.loop-k.found.keys c.loop-k.shell.items c.deref.result.now c.recall.ensures.small inside c.loop-k.invariant.counted fewer c.deref.ensures.value in
+    let r = ready K c.args.class c.loop-k.sizes.items c.loop-k.room c.loop-k.found.keys c.loop-k.shell.items c.deref.result.now c.recall.ensures.small inside
+    c.loop-k.invariant.counted fewer c.deref.ensures.value in
     (lit< tt, (r.classes, (r.near, r.once)))
 
 pub returns-then-len-room : goal.returns-then-len-room
@@ -25,7 +26,8 @@ returns-then-len-room g c =
     let K = c.net-net.result.now in
     let past : c.loop-k.room < length c.in_ok-next.next.items = omega (arith, c.if-len-room.true, c.len.ensures) in
     let x = subst (λ xs. Expands (IsStep K) c.loop-k.room xs c.loop-k.found.keys c.in_ok-next.next.items) c.deref.ensures.value c.in_ok-next.ensures.next in
-    let p = counted_past (IsStep K) (start_at c.args.class) c.loop-k.sizes.items c.loop-k.room c.loop-k.found.keys c.loop-k.shell.items c.in_ok-next.next.items c.loop-k.invariant.counted x past (some_point_shell K (start_at c.args.class) (length c.loop-k.sizes.items + 1)) in
+    let p = counted_past (IsStep K) (start_at c.args.class) c.loop-k.sizes.items c.loop-k.room c.loop-k.found.keys c.loop-k.shell.items c.in_ok-next.next.items
+    c.loop-k.invariant.counted x past (some_point_shell K (start_at c.args.class) (length c.loop-k.sizes.items + 1)) in
     record { sizes = class_shown K c.args.c.now.classes c.net-net.ensures.net c.args.class c.loop-k.sizes.items p }
 
 pub loop-k-preserved : goal.loop-k-preserved
@@ -40,8 +42,10 @@ loop-k-preserved g c =
     let again : c.len-in-loop-k.result ≡ c.len-room.result = omega (arith, c.len-in-loop-k.ensures, c.len-room.ensures) in
     let pushed = c.in_ok-push.ensures.items in
     record {
-      counted = counted_turn (IsStep K) (start_at c.args.class) sizes c.loop-k.room c.loop-k.found.keys c.loop-k.shell.items c.deref.result.now c.in_ok-next.next.items c.next_shell.new.found.keys c.push.new.self.items
-          c.len-room.result c.len-in-loop-k.result c.loop-k.invariant.counted c.deref.ensures.value c.in_ok-next.ensures.next c.in_ok-next.ensures.found fewer size fits again pushed;
+      counted = counted_turn (IsStep K) (start_at c.args.class) sizes c.loop-k.room c.loop-k.found.keys c.loop-k.shell.items c.deref.result.now
+          c.in_ok-next.next.items c.next_shell.new.found.keys c.push.new.self.items
+          c.len-room.result c.len-in-loop-k.result c.loop-k.invariant.counted c.deref.ensures.value c.in_ok-next.ensures.next c.in_ok-next.ensures.found fewer
+          size fits again pushed;
       count = grown sizes c.push.new.self.items c.len-in-loop-k.result c.loop-k._k pushed count;
     }
 
@@ -51,5 +55,6 @@ returns g c =
     let test = c.loop-k-test.false in
     let count = c.loop-k.invariant.count in
     let ten : 10 ≤ length c.loop-k.sizes.items = omega arith in
-    let p = counted_ten (IsStep K) (start_at c.args.class) c.loop-k.sizes.items c.loop-k.room c.loop-k.found.keys c.loop-k.shell.items c.loop-k.invariant.counted ten in
+    let p = counted_ten (IsStep K) (start_at c.args.class) c.loop-k.sizes.items c.loop-k.room c.loop-k.found.keys c.loop-k.shell.items
+    c.loop-k.invariant.counted ten in
     record { sizes = class_shown K c.args.c.now.classes c.net-net.ensures.net c.args.class c.loop-k.sizes.items p }

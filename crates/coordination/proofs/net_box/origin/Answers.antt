@@ -8,5 +8,6 @@ overflow_mul-result-2 c =
     let a = n.x in
     let b = n.y in
     let d = n.z in
-    let bound = origin_small c.from-4.result c.from-6.result c.from-2.result c.from-5.result c.from.result c.from-3.result (omega arith) (omega arith) (omega arith) (omega arith) (omega arith) (omega arith) in
+    let bound = origin_small c.from-4.result c.from-6.result c.from-2.result c.from-5.result c.from.result c.from-3.result (omega arith) (omega arith)
+    (omega arith) (omega arith) (omega arith) (omega arith) in
     omega (arith, bound)

@@ -17,11 +17,14 @@ loop-edge-preserved g c =
     let same = c.deref-edge-items.ensures.value ∙ ap (λ (n : DividedNet). n.graph.edges) c.cell.view_is in
     let here = subst (λ (es : List Arc). e ≡ get_or es i e) same c.edge-item.is in
     let edge = subst (IsEdge P) (sym here) (c.requires.graph.edges i e (subst (λ (es : List Arc). i < length es) same c.loop-edge-test.true)) in
-    let turn = stars_turn P c.args.extent items same i (map (λ star. star.items) c.loop-edge.stars) c.loop-edge.invariant e c.loop-edge-test.true c.edge-item.is edge in
-    let put = subst (λ (n : DividedNet). map (λ star. star.items) c.push_edge.new.stars ≡ with_edge (map (λ star. star.items) c.loop-edge.stars) n.graph.vertices c.args.extent e) c.cell.view_is c.in_ok-push_edge.ensures in
+    let turn = stars_turn P c.args.extent items same i (map (λ star. star.items) c.loop-edge.stars) c.loop-edge.invariant e c.loop-edge-test.true
+    c.edge-item.is edge in
+    let put = subst (λ (n : DividedNet). map (λ star. star.items) c.push_edge.new.stars ≡ with_edge
+    (map (λ star. star.items) c.loop-edge.stars) n.graph.vertices c.args.extent e) c.cell.view_is c.in_ok-push_edge.ensures in
     subst (AreStepsBut P c.args.extent (drop (i + 1) P.edges)) (sym put) turn
 
 pub returns : goal.returns
 returns g c =
     let same = c.deref-edge-items.ensures.value ∙ ap (λ (n : DividedNet). n.graph.edges) c.cell.view_is in
-    stars_end c.args.cell.now.graph c.args.extent c.deref-edge-items.result.now same c.loop-edge.edge-index (map (λ star. star.items) c.loop-edge.stars) c.loop-edge.invariant c.loop-edge-test.false
+    stars_end c.args.cell.now.graph c.args.extent c.deref-edge-items.result.now same c.loop-edge.edge-index
+    (map (λ star. star.items) c.loop-edge.stars) c.loop-edge.invariant c.loop-edge-test.false

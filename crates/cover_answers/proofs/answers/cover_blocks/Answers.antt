@@ -17,12 +17,15 @@ loop-block-preserved c =
     let found = c.args.found.now in
     let at = c.loop-block in
     let i = at.block-index in
-    subst (λ os. AreAnsweredOn cell (views found) (i + 1) (at.number + 1) (at.all_covered && c.in_ok-outcome.covered) os c.cover_block.new.covers.items) (sym c.in_ok-push.ensures.ok)
-    (answered_next cell found i at.number at.all_covered c.in_ok-outcome.covered at.outcomes at.covers.items c.cover_block.new.covers.items c.block-item.result c.in_ok-outcome.outcome c.loop-block-test.true c.block-item.is
+    subst (λ os. AreAnsweredOn cell (views found) (i + 1) (at.number + 1) (at.all_covered && c.in_ok-outcome.covered) os c.cover_block.new.covers.items)
+    (sym c.in_ok-push.ensures.ok)
+    (answered_next cell found i at.number at.all_covered c.in_ok-outcome.covered at.outcomes at.covers.items c.cover_block.new.covers.items c.block-item.result
+    c.in_ok-outcome.outcome c.loop-block-test.true c.block-item.is
     at.invariant c.in_ok-outcome.ensures.answered c.in_ok-outcome.ensures.printable)
 
 pub returns : goal.returns
 returns c =
     let at = c.loop-block in
-    answered_whole c.args.cell.now c.args.found.now at.block-index at.number at.all_covered at.outcomes at.covers.items c.answer_of.result c.loop-block-test.false at.invariant
+    answered_whole c.args.cell.now c.args.found.now at.block-index at.number at.all_covered at.outcomes at.covers.items c.answer_of.result
+    c.loop-block-test.false at.invariant
     c.answer_of.ensures.covered c.answer_of.ensures.refused

@@ -30,8 +30,10 @@ loop-i-preserved g c =
       below = c.in_ok-push_joined.ensures.below;
       rising = c.in_ok-push_joined.ensures.rising;
       done = λ v w s.
-          let has = value_at n.value x _ (v.w i k) (own ∙ ap (λ (t : Vec g.row.N.Denot). get_or t.items (k - (i + 1)) x) c.index-lines-i.is) ((w.has i line below).has k x below (omega arith)) in
-          c.in_ok-push_joined.ensures.values v k (c.loop-i.invariant.done v w s) (has_trans has (s.has i k (omega (arith, below)) (omega arith) (λ f. omega (arith, below, f))));
+          let has = value_at n.value x _ (v.w i k) (own ∙ ap (λ (t : Vec g.row.N.Denot). get_or t.items (k - (i + 1)) x) c.index-lines-i.is)
+          ((w.has i line below).has k x below (omega arith)) in
+          c.in_ok-push_joined.ensures.values v k (c.loop-i.invariant.done v w s)
+          (has_trans has (s.has i k (omega (arith, below)) (omega arith) (λ f. omega (arith, below, f))));
     }
 
 pub returns-clause-below : goal.returns-clause-below

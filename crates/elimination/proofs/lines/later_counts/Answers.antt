@@ -12,7 +12,8 @@ use Rattle.elimination.proofs.lines.later_counts.Goals.{then-to-u, else-to-u}
 pub loop-arc-init : goal.loop-arc-init
 loop-arc-init g c =
     let n = g.N.Exact in
-    so_far_none n.modulus n.value c.args.arcs.now c.args.counts.now c.args.u c.in_ok-weights.weights.items c.in_ok-weights.ensures.count c.in_ok-weights.ensures.zero
+    so_far_none n.modulus n.value c.args.arcs.now c.args.counts.now c.args.u c.in_ok-weights.weights.items c.in_ok-weights.ensures.count
+    c.in_ok-weights.ensures.zero
 
 pub loop-arc-preserved : goal.loop-arc-preserved
 loop-arc-preserved g c =
@@ -33,9 +34,12 @@ loop-arc-preserved g c =
           let at : to_index - u - 1 ≡ a.to - (u + 1) = omega (arith, to) in
           let x = w.from_small.result in
           let in_counts : to_index - 1 < length counts = omega (arith, to, bounds.0, bounds.1) in
-          rw (w.weights-is, at) (so_far_set n.modulus n.value arcs counts u c.loop-arc.weights.items t c.loop-arc.invariant a below (sym c.arc-item.is) (omega (arith, to, w.if-to-u.true)) bounds.1 x
-          (λ e. subst (λ q. Same n.modulus (n.value x) (whole q)) (to_z-of_z w32 z f ∙ get_or_default counts (to_index - 1) (pos 0) e in_counts ∙ ap (λ p. get_or counts (p - 1) e) to) w.from_small.ensures))
-      | else-to-u w ↦ rw w.weights-is (so_far_passed n.modulus n.value arcs counts u c.loop-arc.weights.items t c.loop-arc.invariant a below (sym c.arc-item.is) (omega (arith, to, w.if-to-u.false)))
+          rw (w.weights-is, at) (so_far_set n.modulus n.value arcs counts u c.loop-arc.weights.items t c.loop-arc.invariant a below (sym c.arc-item.is)
+          (omega (arith, to, w.if-to-u.true)) bounds.1 x
+          (λ e. subst (λ q. Same n.modulus (n.value x) (whole q)) (to_z-of_z w32 z f ∙ get_or_default counts (to_index - 1) (pos 0) e in_counts
+          ∙ ap (λ p. get_or counts (p - 1) e) to) w.from_small.ensures))
+      | else-to-u w ↦ rw w.weights-is (so_far_passed n.modulus n.value arcs counts u c.loop-arc.weights.items t c.loop-arc.invariant a below
+          (sym c.arc-item.is) (omega (arith, to, w.if-to-u.false)))
     ]
 
 pub returns : goal.returns

@@ -13,6 +13,8 @@ invariant_of-result c =
     let n : to_z w64 c.if-negative.num-bits ≡ (signed_ratio c.args.negative c.args.num c.args.den).num = search rules in
     record {
       positive = omega (arith, ints);
-      reduced = fraction_reduced c.args.negative c.args.num c.args.den (to_z w64 c.if-negative.num-bits) (to_z w64 c.args.den) n d c.requires.positive c.requires.coprime;
-      small = fraction_small c.args.negative c.args.num c.args.den (to_z w64 c.if-negative.num-bits) (to_z w64 c.args.den) n d (c.if-num-gt-MOST.false, c.if-den-gt-MOST.false);
+      reduced = fraction_reduced c.args.negative c.args.num c.args.den (to_z w64 c.if-negative.num-bits)
+          (to_z w64 c.args.den) n d c.requires.positive c.requires.coprime;
+      small = fraction_small c.args.negative c.args.num c.args.den (to_z w64 c.if-negative.num-bits) (to_z w64 c.args.den) n d
+          (c.if-num-gt-MOST.false, c.if-den-gt-MOST.false);
     }

@@ -9,7 +9,8 @@ use Rattle.periodic_net.specs.Limits.{most_shift}
 
 pub returns-then-is_normal-clause-form : goal.returns-then-is_normal-clause-form
 returns-then-is_normal-clause-form c = λ flat.
-    let small : (x : ℤ) → unsigned_abs x ≤ most_shift → unsigned_abs (to_z w32 (of_z w32 x)) ≤ most_shift = λ x h. subst (λ y. unsigned_abs y ≤ most_shift) (sym (same_part x h)) h in
+    let small : (x : ℤ) → unsigned_abs x ≤ most_shift → unsigned_abs (to_z w32 (of_z w32 x)) ≤ most_shift =
+    λ x h. subst (λ y. unsigned_abs y ≤ most_shift) (sym (same_part x h)) h in
     record {
       is_edge = record {
         from = c.in_ok-u.ensures.within;
@@ -24,7 +25,8 @@ pub returns-else-is_normal-clause-every : goal.returns-else-is_normal-clause-eve
 returns-else-is_normal-clause-every c = λ e is u v x y z.
     let was : (n m : ℤ) → FitsSigned w128 n → n ≡ m → m ≡ to_z w128 (of_z w128 n) = λ n m fits same. sym same ∙ sym (to_z-of_z w128 n fits) in
     let part : (k : ℤ) → unsigned_abs k ≤ most_shift → k ≡ to_z w32 (of_z w32 k) = λ k h. sym (same_part k h) in
-    let forward = same_spelling e.u e.v c.in_ok-u.u c.in_ok-v.v e.x e.y e.z (to_z w32 (of_z w32 c.in_ok-x.x)) (to_z w32 (of_z w32 c.in_ok-y.y)) (to_z w32 (of_z w32 c.in_ok-z.z))
+    let forward = same_spelling e.u e.v c.in_ok-u.u c.in_ok-v.v e.x e.y e.z (to_z w32 (of_z w32 c.in_ok-x.x)) (to_z w32 (of_z w32 c.in_ok-y.y))
+    (to_z w32 (of_z w32 c.in_ok-z.z))
     (was c.args.u (pos e.u) c.ranges.u u ∙ c.in_ok-u.ensures.found) (was c.args.v (pos e.v) c.ranges.v v ∙ c.in_ok-v.ensures.found)
     (was c.args.x e.x c.ranges.x x ∙ c.in_ok-x.ensures.found ∙ part c.in_ok-x.x c.in_ok-x.ensures.within)
     (was c.args.y e.y c.ranges.y y ∙ c.in_ok-y.ensures.found ∙ part c.in_ok-y.y c.in_ok-y.ensures.within)

@@ -29,20 +29,26 @@ pub returns-in_err-edges-clause-graph : goal.returns-in_err-edges-clause-graph
 returns-in_err-edges-clause-graph c = λ text rows at.
     let s = c.in-Some.size in
     let heads = rows ++ size_row s ∷ [] in
-    handed_on (λ g. HasGraph text rows c.read_edges.new.lines (graph_view g)) (HasBadGraph text rows) c.in_err-edges.field-0.0 c.from_residual-in_err-edges.result c.from_residual-in_err-edges.ensures.1
+    handed_on (λ g. HasGraph text rows c.read_edges.new.lines (graph_view g))
+    (HasBadGraph text rows) c.in_err-edges.field-0.0 c.from_residual-in_err-edges.result c.from_residual-in_err-edges.ensures.1
     (bad_line_from c.in_err-edges.field-0.0 (HasBadEdge text heads s) (HasBadGraph text rows)
     (λ n bad. inr (record { size = s; is_size = at_some c.in_ok-size.field-0 IsSize s c.in-Some.is c.in_ok-size.ensures.form; bad = bad }))
-    (c.in_err-edges.ensures.edges text heads (at_some c.in_ok-size.field-0 (λ t. IsAt text (rows ++ size_row t ∷ []) c.next_size.new.lines) s c.in-Some.is (c.in_ok-size.ensures.place text rows at))))
+    (c.in_err-edges.ensures.edges text heads (at_some c.in_ok-size.field-0 (λ t. IsAt text (rows ++ size_row t ∷ []) c.next_size.new.lines) s c.in-Some.is
+    (c.in_ok-size.ensures.place text rows at))))
 
 pub returns-clause-graph : goal.returns-clause-graph
 returns-clause-graph c = λ text rows at.
     let s = c.in-Some.size in
-    let has = c.in_ok-edges.ensures.edges text (rows ++ size_row s ∷ []) (at_some c.in_ok-size.field-0 (λ t. IsAt text (rows ++ size_row t ∷ []) c.next_size.new.lines) s c.in-Some.is (c.in_ok-size.ensures.place text rows at)) in
-    graph_read text rows s (map edge_of c.in_ok-edges.edges.items) c.read_edges.new.lines (graph_view c.in_ok-graph_of.field-0) (at_some c.in_ok-size.field-0 IsSize s c.in-Some.is c.in_ok-size.ensures.form) has
+    let has = c.in_ok-edges.ensures.edges text (rows ++ size_row s ∷ [])
+    (at_some c.in_ok-size.field-0 (λ t. IsAt text (rows ++ size_row t ∷ []) c.next_size.new.lines) s c.in-Some.is
+    (c.in_ok-size.ensures.place text rows at)) in
+    graph_read text rows s (map edge_of c.in_ok-edges.edges.items) c.read_edges.new.lines (graph_view c.in_ok-graph_of.field-0)
+    (at_some c.in_ok-size.field-0 IsSize s c.in-Some.is c.in_ok-size.ensures.form) has
     (c.in_ok-graph_of.ensures ∙ ap (λ es. graph_with s.dim s.vertices (map edge_of es)) c.deref.ensures.value)
 
 pub returns-clause-form : goal.returns-clause-form
 returns-clause-form c =
     let s = c.in-Some.size in
-    graph_formed s c.in_ok-edges.edges.items (graph_view c.in_ok-graph_of.field-0) (at_some c.in_ok-size.field-0 IsSize s c.in-Some.is c.in_ok-size.ensures.form) c.in_ok-edges.ensures.form c.in_ok-edges.ensures.whole
+    graph_formed s c.in_ok-edges.edges.items (graph_view c.in_ok-graph_of.field-0)
+    (at_some c.in_ok-size.field-0 IsSize s c.in-Some.is c.in_ok-size.ensures.form) c.in_ok-edges.ensures.form c.in_ok-edges.ensures.whole
     (c.in_ok-graph_of.ensures ∙ ap (λ es. graph_with s.dim s.vertices (map edge_of es)) c.deref.ensures.value)

@@ -50,7 +50,8 @@ returns-then-len-eq-MOST_ITEMS-clause-too_many c = λ told.
     let line = line_view c.in-Some.head (rest_of_line c.next_head.new.lexer) in
     let lines = lines_in (after_line c.next_head.new.lexer) in
     let begins = sym c.begins_item.ensures ∙ c.if-not-begins_item.false in
-    let whole = ap (λ (items : List ItemView). i.views ++ items) (sym (one_item line lines begins)) ∙ ap (λ (ls : List LineView). i.views ++ items_from false ls) (sym c.in-Some.ensures.lines) ∙ i.whole in
+    let whole = ap (λ (items : List ItemView). i.views ++ items) (sym (one_item line lines begins))
+    ∙ ap (λ (ls : List LineView). i.views ++ items_from false ls) (sym c.in-Some.ensures.lines) ∙ i.whole in
     let count : 4096 ≤ length c.loop-head.found.items = search rules in
     let full : 4096 ≤ length i.views = omega (arith, as_many i.views c.loop-head.found.items i.read, count) in
     some_more i.views (item_of line lines) (items_from false (after_end lines)) _ full whole
@@ -65,7 +66,15 @@ pub returns-clause-few : goal.returns-clause-few
 returns-clause-few c =
     let i = c.loop-head.invariant in
     let none = ap (λ (ls : List LineView). length (items_from false ls)) c.in_default.ensures.lines in
-    omega (arith, as_many i.views c.loop-head.found.items i.read, i.few, ap length i.whole, length-append i.views (items_from false (lines_in c.loop-head.lexer)), none)
+    omega (
+      arith,
+      as_many i.views c.loop-head.found.items i.read,
+      i.few,
+      ap length i.whole,
+      length-append i.views
+          (items_from false (lines_in c.loop-head.lexer)),
+      none,
+    )
 
 pub returns-clause-only : goal.returns-clause-only
 returns-clause-only c = only_item

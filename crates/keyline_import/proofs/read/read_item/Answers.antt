@@ -13,7 +13,8 @@ pub returns-in-Some-clause-item : goal.returns-in-Some-clause-item
 returns-in-Some-clause-item c =
     let line = line_view c.args.opening.now (rest_of_line c.args.lexer.now) in
     let fault = sym (c.in_ok-kind.ensures.fault [] c.new-state.ensures.stands) ∙ c.in-Some.is in
-    subst (λ (i : ItemView). IsItemRead i c.faulty_item.result) (sym (first_fault line (lines_in (after_line c.args.lexer.now)) c.in-Some.kind fault)) (c.faulty_item.ensures [] refl)
+    subst (λ (i : ItemView). IsItemRead i c.faulty_item.result) (sym (first_fault line (lines_in (after_line c.args.lexer.now)) c.in-Some.kind fault))
+    (c.faulty_item.ensures [] refl)
 
 pub loop-head-init : goal.loop-head-init
 loop-head-init c =
@@ -24,7 +25,8 @@ loop-head-init c =
     record {
       earlier = line ∷ [];
       stands = e.stands none [] c.new-state.ensures.stands;
-      item = ap (λ tokens. item_after line.number (line ∷ []) (lines_in tokens)) e.after ∙ sym (first_passes line (lines_in (after_line c.args.lexer.now)) c.requires.begins fault);
+      item = ap (λ tokens. item_after line.number (line ∷ []) (lines_in tokens)) e.after
+          ∙ sym (first_passes line (lines_in (after_line c.args.lexer.now)) c.requires.begins fault);
       lines = ap (λ tokens. after_end (lines_in tokens)) e.after;
       shorter = e.shorter;
     }

@@ -45,4 +45,5 @@ returns-clause-split g c =
     let steps = vector x.result.steps y.result.steps z.result.steps in
     simp to_z-of_z
     (subst (λ (t : Vector). IsSplit m (plus t s) rest steps) c.cell.view_is
-    (moved_split (vector v.x v.y v.z) {r = rest} {k = steps} k (x.ensures.from, x.ensures.to, ex) (y.ensures.from, y.ensures.to, ey) (z.ensures.from, z.ensures.to, ez)))
+    (moved_split (vector v.x v.y v.z) {r = rest} {k = steps} k (x.ensures.from, x.ensures.to, ex) (y.ensures.from, y.ensures.to, ey)
+    (z.ensures.from, z.ensures.to, ez)))

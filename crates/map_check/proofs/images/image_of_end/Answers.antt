@@ -27,7 +27,8 @@ image_in-image-requires-clause-inside g c =
     let p = c.parts_of_end-parts.result in
     let flat = plus_dimension D c.args.cell.now a.shift c.requires.cell.dimension c.requires.flat in
     let box = (box_of_split D m.m (plus c.args.cell.now a.shift) p.rest p.steps flat c.parts_of_end-parts.ensures.split).0 in
-    let e : c.place_of-at.result ≡ place_of D m.m (vertex a.to p.rest) = c.place_of-at.ensures ∙ (λ i. place_of D m.m (vertex (c.arc.view_is i).arc.to (c.to_triple.ensures i))) in
+    let e : c.place_of-at.result ≡ place_of D m.m (vertex a.to p.rest) = c.place_of-at.ensures
+    ∙ (λ i. place_of D m.m (vertex (c.arc.view_is i).arc.to (c.to_triple.ensures i))) in
     let l = place_inside D m.m m.images a.to p.rest c.requires.table.two_or_three c.requires.over box in
     subst (λ (xs : List Vertex). c.place_of-at.result < length xs) (sym c.as_slice.ensures) (subst (λ (n : ℕ). n < length m.images) (sym e) l)
 
@@ -39,7 +40,8 @@ returns-clause-image g c =
     let p = c.parts_of_end-parts.result in
     let flat = plus_dimension D c.args.cell.now a.shift c.requires.cell.dimension c.requires.flat in
     let w = vertex a.to (plus c.args.cell.now a.shift) in
-    let e : c.place_of-at.result ≡ place_of D m.m (vertex a.to p.rest) = c.place_of-at.ensures ∙ (λ i. place_of D m.m (vertex (c.arc.view_is i).arc.to (c.to_triple.ensures i))) in
+    let e : c.place_of-at.result ≡ place_of D m.m (vertex a.to p.rest) = c.place_of-at.ensures
+    ∙ (λ i. place_of D m.m (vertex (c.arc.view_is i).arc.to (c.to_triple.ensures i))) in
     let x = c.image_in-image.ensures.value ∙ (λ i. image_at (c.as_slice.ensures i) (e i)) in
     let t = c.to_triple-2.ensures ∙ c.sum_of.ensures.value ∙ ap (λ (b : Base). base_sum b p.steps) c.requires.rows.same in
     subst (IsImageOf D (table_of D m.m m.images m.base) w) (sym c.moved_by.ensures.value)

@@ -26,7 +26,8 @@ overflow_add-first g c =
     let t = c.loop-p-test.true in
     let n = c.requires.end in
     let l : c.loop-p.p < box_size g.row.D m.m = omega (arith, t, n) in
-    let has = has_images c.args.g.now c.args.h.now g.row.D m.m m.images m.base e.parameter c.recall-2.ensures.parameter e.two_or_three c.requires.map c.args.u c.requires.over in
+    let has = has_images c.args.g.now c.args.h.now g.row.D m.m m.images m.base e.parameter c.recall-2.ensures.parameter e.two_or_three c.requires.map c.args.u
+    c.requires.over in
     let p = place_here g.row.D m.m m.images m.base e.two_or_three c.requires.map.period_from c.args.u c.loop-p.p l has in
     let b = subst (λ (n : ℕ). n + c.loop-p.p < length m.images) (sym c.first_place-first.ensures.value) p in
     let few = c.requires.map.few in
@@ -39,7 +40,8 @@ image_in-x-requires-clause-inside g c =
     let t = c.loop-p-test.true in
     let n = c.requires.end in
     let l : c.loop-p.p < box_size g.row.D m.m = omega (arith, t, n) in
-    let has = has_images c.args.g.now c.args.h.now g.row.D m.m m.images m.base e.parameter c.recall-2.ensures.parameter e.two_or_three c.requires.map c.args.u c.requires.over in
+    let has = has_images c.args.g.now c.args.h.now g.row.D m.m m.images m.base e.parameter c.recall-2.ensures.parameter e.two_or_three c.requires.map c.args.u
+    c.requires.over in
     let p = place_here g.row.D m.m m.images m.base e.two_or_three c.requires.map.period_from c.args.u c.loop-p.p l has in
     subst (λ (xs : List Vertex). c.first_place-first.result + c.loop-p.p < length xs) (sym c.as_slice.ensures)
     (subst (λ (n : ℕ). n + c.loop-p.p < length m.images) (sym c.first_place-first.ensures.value) p)
@@ -58,7 +60,8 @@ is_kept-requires g c =
     let cell = sym c.loop-p.invariant.cell in
     let box = subst (IsInBox g.row.D m.m) cell (cell_in_box g.row.D m.m e.two_or_three r.map.period_from p l) in
     let here = image_here g.row.D m.m m.images m.base e.two_or_three r.map.period_from c.args.u p l in
-    let there = subst (λ (n : ℕ). IsImageOf g.row.D table (vertex n (cell_at g.row.D m.m p)) (image_at m.images ((c.args.u - 1) * box_size g.row.D m.m + p))) (sym r.arc.from) here in
+    let there = subst (λ (n : ℕ). IsImageOf g.row.D table (vertex n (cell_at g.row.D m.m p)) (image_at m.images ((c.args.u - 1) * box_size g.row.D m.m + p)))
+    (sym r.arc.from) here in
     let found = subst (λ (v : Vector). IsImageOf g.row.D table (vertex a.from v) (image_at m.images ((c.args.u - 1) * box_size g.row.D m.m + p))) cell there in
     let value = c.image_in-x.ensures.value ∙ (λ i. image_at (c.as_slice.ensures i) (c.first_place-first.ensures.value i + p)) in
     let image = subst (IsImageOf g.row.D table (vertex a.from c.loop-p.cell)) (sym value) found in
@@ -71,7 +74,8 @@ returns-then-not-is_kept-clause-first g c = λ f t.
     let a = c.args.arc.now.arc in
     record {
       before = c.loop-p.invariant.kept f t;
-      lost = λ _ j. false≢true (sym c.if-not-is_kept.true ∙ (c.is_kept.ensures f t).1 (subst (λ (v : Vector). KeepsArc c.args.h.now f (vertex a.from v) a) (sym c.loop-p.invariant.cell) j));
+      lost = λ _ j. false≢true (sym c.if-not-is_kept.true ∙ (c.is_kept.ensures f t).1
+          (subst (λ (v : Vector). KeepsArc c.args.h.now f (vertex a.from v) a) (sym c.loop-p.invariant.cell) j));
     }
 
 pub next_cell-cell-requires-clause-inside : goal.next_cell-cell-requires-clause-inside

@@ -46,7 +46,8 @@ loop-k-preserved g c =
       order = le_trans below i.order;
       inside = loss_inside p e c.box_size-size.result k (length star) c.loop-k.lost c.earlier-lost.result l i.inside less same below;
       kept = λ f t. cells_more c.args.h.now f g.row.D m u star k e p a l s from (first f t) (i.kept f t) below;
-      loss = λ f t. loss_after c.args.h.now f g.row.D m u star k e p a l s from (first f t) (i.kept f t) c.loop-k.lost c.earlier-lost.result c.box_size-size.result below (i.loss f t) less same;
+      loss = λ f t. loss_after c.args.h.now f g.row.D m u star k e p a l s from (first f t)
+          (i.kept f t) c.loop-k.lost c.earlier-lost.result c.box_size-size.result below (i.loss f t) less same;
     }
 
 pub returns-then-end-size-clause-none : goal.returns-then-end-size-clause-none
@@ -54,7 +55,8 @@ returns-then-end-size-clause-none g c = λ _ f t q b.
     let m = c.args.map.now.m in
     let s = c.arcs-star.ensures in
     let l = subst (λ (n : ℕ). q < n) (sym (c.if-end-size.true ∙ c.box_size-size.ensures.value)) b in
-    all_kept c.args.g.now c.args.h.now f (vertex c.args.u (cell_at g.row.D m q)) c.arcs-star.result.now s.every c.loop-k.k c.loop-k-test.false (c.loop-k.invariant.kept f t q l)
+    all_kept c.args.g.now c.args.h.now f (vertex c.args.u (cell_at g.row.D m q)) c.arcs-star.result.now s.every c.loop-k.k c.loop-k-test.false
+    (c.loop-k.invariant.kept f t q l)
 
 pub vertex_of-requires-clause-place : goal.vertex_of-requires-clause-place
 vertex_of-requires-clause-place g c =
@@ -64,7 +66,8 @@ vertex_of-requires-clause-place g c =
     let no = c.if-end-size.false in
     let less : c.loop-k.end < c.box_size-size.result = omega (arith, order, no) in
     let l = subst (λ (n : ℕ). c.loop-k.end < n) c.box_size-size.ensures.value less in
-    let has = has_images c.args.g.now c.args.h.now g.row.D m.m m.images m.base e.parameter c.recall-2.ensures.parameter e.two_or_three c.requires.map c.args.u c.requires.over in
+    let has = has_images c.args.g.now c.args.h.now g.row.D m.m m.images m.base e.parameter c.recall-2.ensures.parameter e.two_or_three c.requires.map c.args.u
+    c.requires.over in
     let p = place_here g.row.D m.m m.images m.base e.two_or_three c.requires.map.period_from c.args.u c.loop-k.end l has in
     let b = subst (λ (n : ℕ). n + c.loop-k.end < length m.images) (sym c.first_place.ensures.value) p in
     let few = c.requires.map.few in
@@ -88,7 +91,8 @@ returns-clause-some g c = λ f t.
     let l = subst (λ (n : ℕ). e < n) c.box_size-size.ensures.value less in
     let loss = i.loss f t less in
     let w = c.vertex_of.ensures ∙ ap (λ (n : ℕ). vertex_at g.row.D m (n + e)) c.first_place.ensures.value ∙ vertex_over g.row.D m u e c.requires.over.0 l in
-    let arc = first_lost_arc G H f (vertex u (cell_at g.row.D m e)) star s.each s.every s.star.rising c.loop-k.lost a (i.inside less) is (loss.lost a is) loss.kept in
+    let arc = first_lost_arc G H f (vertex u (cell_at g.row.D m e)) star s.each s.every s.star.rising c.loop-k.lost a (i.inside less) is
+    (loss.lost a is) loss.kept in
     record {
       at = e;
       inside = l;

@@ -9,4 +9,5 @@ pub returns-clause-value : goal.returns-clause-value
 returns-clause-value g c = c.index-rows-i.is ∙ get_or_default c.args.rows.now c.args.i c.index-rows-i.result zero_vector c.requires.inside
 
 pub returns-clause-shift : goal.returns-clause-shift
-returns-clause-shift g c = subst (IsShift g.row.D) (sym c.index-rows-i.is) (shift_at g.row.D c.args.rows.now c.args.i c.index-rows-i.result c.requires.inside c.requires.shifts)
+returns-clause-shift g c = subst (IsShift g.row.D) (sym c.index-rows-i.is)
+    (shift_at g.row.D c.args.rows.now c.args.i c.index-rows-i.result c.requires.inside c.requires.shifts)

@@ -15,7 +15,8 @@ plus-requires-2-clause-left c = wider (2 ^ 58) (2 ^ 61) (omega arith) c.args.a.n
 pub plus-requires-2-clause-right : goal.plus-requires-2-clause-right
 plus-requires-2-clause-right c =
     subst (IsWithin (2 ^ 61)) (sym c.plus.ensures)
-    (wider (2 ^ 58 + 2 ^ 58) (2 ^ 61) (omega arith) (plus c.args.b.now c.args.c.now) (bounded_plus c.args.b.now c.args.c.now (2 ^ 58) (2 ^ 58) c.requires.b c.requires.c))
+    (wider (2 ^ 58 + 2 ^ 58) (2 ^ 61) (omega arith) (plus c.args.b.now c.args.c.now)
+    (bounded_plus c.args.b.now c.args.c.now (2 ^ 58) (2 ^ 58) c.requires.b c.requires.c))
 
 pub returns-clause-value : goal.returns-clause-value
 returns-clause-value c = c.plus-2.ensures ∙ ap (plus c.args.a.now) c.plus.ensures

@@ -2,8 +2,8 @@ use Rattle.cgd_read.specs.Views.{views}
 use Rattle.net_answers.proofs.KeyedBlocks.{all_accepted}
 use Rattle.net_answers.proofs.adding.add_accepted.Goals as goal
 
-pub returns : goal.returns
-returns c = record {
+pub returns-in_ok-refused_text-in-Err : goal.returns-in_ok-refused_text-in-Err
+returns-in_ok-refused_text-in-Err c = record {
   accepted = all_accepted _ 1 (views c.args.found.now) c.args.outcomes.now c.requires.outcomes c.requires.accepted;
   number = c.in-Err.refused.block;
   fault = c.in-Err.refused.fault;

@@ -7,7 +7,8 @@ use Rattle.net_answers.proofs.TextEndings.{text_of_union}
 use Rattle.net_answers.proofs.answer.answer_to.Goals as goal
 
 -- what is due to a union has a status that goes with a text
-union_text : {E : Type 0} (file : List ℕ) (archive : Option (List ℕ)) (r : Result Answer E) → IfOk r (λ (a : Answer). IsUnionDue file archive a.status a.text.items) → IfOk r (λ (a : Answer). GoesWithText a.status)
+union_text : {E : Type 0} (file : List ℕ) (archive : Option (List ℕ)) (r : Result Answer E)
+    → IfOk r (λ (a : Answer). IsUnionDue file archive a.status a.text.items) → IfOk r (λ (a : Answer). GoesWithText a.status)
 union_text file archive (Ok a) h = text_of_union file archive a.status a.text.items h
 union_text file archive (Err e) h = tt
 

@@ -13,6 +13,7 @@ loop-outcome-preserved c =
     elim c.match-key_told.branch [
       | in-Some+in_ok-put_key w ↦
           rw w.keys-is
-          (put_next os i o keys (lists_in w.put_key.new.keys) w.in-Some.key.now c.loop-outcome-test.true (sym c.outcome-item.is) c.loop-outcome.invariant (sym w.in-Some.ensures) w.in_ok-put_key.ensures)
+          (put_next os i o keys (lists_in w.put_key.new.keys) w.in-Some.key.now c.loop-outcome-test.true (sym c.outcome-item.is) c.loop-outcome.invariant
+          (sym w.in-Some.ensures) w.in_ok-put_key.ensures)
       | in_default w ↦ rw w.keys-is (none_next os i o keys c.loop-outcome-test.true (sym c.outcome-item.is) c.loop-outcome.invariant (sym w.in_default.ensures))
     ]

@@ -13,7 +13,13 @@ returns-clause-is_entry c named =
     let graph = c.in_ok-graph.ensures in
     let key = c.in_ok-key.ensures in
     let shells = c.in_ok-shells.ensures in
-    let e : EntryView = record { name = c.in_ok-name.name.items; graph = graph_view c.in_ok-graph.graph; key = c.in_ok-key.key; shells = c.in_ok-shells.shells } in
+    let e : EntryView = record {
+      name = c.in_ok-name.name.items;
+      graph = graph_view c.in_ok-graph.graph;
+      key = c.in_ok-key.key;
+      shells =
+          c.in_ok-shells.shells;
+    } in
     let of : IsEntryOf c.args.name.now (net_view c.args.net.now) e = record {
       name_is = c.in_ok-name.ensures.items;
       graph = graph.graph;

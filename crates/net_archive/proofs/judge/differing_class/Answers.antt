@@ -4,8 +4,10 @@ use Rattle.net_archive.proofs.judge.differing_class.Goals as goal
 
 pub loop-before-preserved : goal.loop-before-preserved
 loop-before-preserved c =
-    next_same c.args.kept.now c.args.computed.now c.loop-before.before c.at.result.now c.at-in-loop-before.result.now c.loop-before.invariant c.at.ensures c.at-in-loop-before.ensures
+    next_same c.args.kept.now c.args.computed.now c.loop-before.before c.at.result.now c.at-in-loop-before.result.now c.loop-before.invariant c.at.ensures
+    c.at-in-loop-before.ensures
     (c.same_sizes.ensures.0 c.if-not-same_sizes.false)
 
 pub returns : goal.returns
-returns c = same_lists c.args.kept.now c.args.computed.now c.requires (λ j l. c.loop-before.invariant j (omega (arith, l, c.len-before-end.ensures, c.loop-before-test.false)))
+returns c = same_lists c.args.kept.now c.args.computed.now c.requires (λ j l. c.loop-before.invariant j
+    (omega (arith, l, c.len-before-end.ensures, c.loop-before-test.false)))

@@ -4,5 +4,6 @@ use Rattle.net_archive.proofs.migrating.rows_in_two.Goals as goal
 
 pub loop-entry-preserved : goal.loop-entry-preserved
 loop-entry-preserved c =
-    next_entry Two c.args.entries.now c.loop-entry.entry-index c.entry-item.result c.loop-entry.text.items c.push_entry.new.text.items c.loop-entry-test.true c.entry-item.is
+    next_entry Two c.args.entries.now c.loop-entry.entry-index c.entry-item.result c.loop-entry.text.items c.push_entry.new.text.items c.loop-entry-test.true
+    c.entry-item.is
     c.loop-entry.invariant c.in_ok-push_entry.ensures

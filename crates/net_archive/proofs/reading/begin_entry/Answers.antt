@@ -9,7 +9,8 @@ use Rattle.net_archive.proofs.reading.begin_entry.Goals as goal
 pub returns-then-are_many : goal.returns-then-are_many
 returns-then-are_many c = λ v text at.
     too_many v text c.args.entries.now c.args.lines.now c.in-Some.name.now c.next_name.new.lines.rest c.requires.good at
-    (let count = length-map c.as_slice.result.now entry_view in let same = ap length c.as_slice.ensures in let many = c.are_many.ensures.0 c.if-are_many.true in omega (arith, count, same, many))
+    (let count = length-map c.as_slice.result.now entry_view in let same = ap length c.as_slice.ensures in let many =
+    c.are_many.ensures.0 c.if-are_many.true in omega (arith, count, same, many))
     c.in-Some.ensures.form c.in-Some.ensures.line
 
 pub returns : goal.returns

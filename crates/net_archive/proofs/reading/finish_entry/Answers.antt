@@ -24,9 +24,11 @@ returns c = λ text es good begun line.
     let v = c.args.version in
     let name = c.args.name.now in
     let has = c.in_ok-form.ensures.rest text (rows_before v es) name begun.is_name begun.at in
-    result_both c.judge.result (λ e. IsEntryOfForm v name c.in_ok-form.form (entry_view e)) (λ e. AreMore v text es (entry_view e) c.read_rest.new.lines) (IsJudged v c.args.line c.in_ok-form.form) (IsFaultTold v text)
+    result_both c.judge.result (λ e. IsEntryOfForm v name c.in_ok-form.form (entry_view e)) (λ e. AreMore v text es (entry_view e) c.read_rest.new.lines)
+    (IsJudged v c.args.line c.in_ok-form.form) (IsFaultTold v text)
     (λ e of. one_more_entry v text es name c.in_ok-form.form c.read_rest.new.lines (entry_view e) good begun.may has of)
-    (λ fault is. judged v text es name c.read_rest.new.lines c.in_ok-form.form c.args.line fault good begun.may has line is) c.judge.ensures.entry c.judge.ensures.fault
+    (λ fault is. judged v text es name c.read_rest.new.lines c.in_ok-form.form c.args.line fault good begun.may has line is) c.judge.ensures.entry
+    c.judge.ensures.fault
 
 pub returns-in_err-form : goal.returns-in_err-form
 returns-in_err-form c = λ text es good begun line.

@@ -24,10 +24,12 @@ loop-version-smaller c =
 pub loop-version-preserved : goal.loop-version-preserved
 loop-version-preserved c =
     subst (λ l. AreRead c.args.version c.args.lines.now c.read_entry.new.lines l) (sym c.in_ok-push.ensures.ok)
-    (read_more c.args.version c.args.lines.now c.loop-version.lines c.read_entry.new.lines c.loop-version.entries (entry_view c.in_ok-entry.entry) c.loop-version.invariant c.in_ok-entry.ensures)
+    (read_more c.args.version c.args.lines.now c.loop-version.lines c.read_entry.new.lines c.loop-version.entries
+    (entry_view c.in_ok-entry.entry) c.loop-version.invariant c.in_ok-entry.ensures)
 
 pub returns : goal.returns
 returns c = λ text at. (
   c.loop-version.invariant.good,
-  whole_text c.args.version text c.loop-version.entries c.loop-version.lines (c.loop-version.invariant.at text at) (eqb-true _ 0 (sym c.is_empty.ensures ∙ c.loop-version-test.false)),
+  whole_text c.args.version text c.loop-version.entries c.loop-version.lines (c.loop-version.invariant.at text at)
+      (eqb-true _ 0 (sym c.is_empty.ensures ∙ c.loop-version-test.false)),
 )

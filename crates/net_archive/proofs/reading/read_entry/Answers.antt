@@ -12,4 +12,5 @@ finish_entry-requires c =
     after_name v text es c.in_ok-name.name.now c.begin_entry.new.lines (c.in_ok-name.ensures v text (some_text v es c.args.lines.now c.requires.number))
 
 pub returns : goal.returns
-returns c = λ text at. c.finish_entry.ensures text c.args.entries.now c.requires.good (c.in_ok-name.ensures c.args.version text at) (c.number-line.ensures.number ∙ c.requires.number)
+returns c = λ text at. c.finish_entry.ensures text c.args.entries.now c.requires.good (c.in_ok-name.ensures c.args.version text at)
+    (c.number-line.ensures.number ∙ c.requires.number)

@@ -3,4 +3,6 @@ use Rattle.net_certificate.proofs.WrittenLines.{long_written}
 use Rattle.net_certificate.proofs.headings.push_long.Goals as goal
 
 pub returns : goal.returns
-returns c = on_ok_weaker c.push_count.result (λ last. long_written c.args.text.now.items c.extend_from_slice.new.self.items c.push_count.new.text.items c.args.entries c.in_ok-extend_from_slice.ensures.items last) c.push_count.ensures
+returns c = on_ok_weaker c.push_count.result
+    (λ last. long_written c.args.text.now.items c.extend_from_slice.new.self.items c.push_count.new.text.items c.args.entries
+    c.in_ok-extend_from_slice.ensures.items last) c.push_count.ensures

@@ -14,8 +14,10 @@ image_of-requires g c =
     let dimension = ap (λ (H : Graph). H.dimension) (sym c.graph.ensures) ∙ c.vertices.ensures.parameter in
     let count = c.entries-count.ensures ∙ ap (λ (n : ℕ). n * box_size d m) (c.vertices.ensures.count ∙ ap (λ (H : Graph). H.vertices) c.graph.ensures) in
     let inside = subst (λ (n : ℕ). c.loop-i.i < n) count c.loop-i-test.true in
-    let r = place_inside G d m most_period c.loop-i.i c.requires.one_key.one_list.here dimension c.requires.from c.requires.to inside c.vertex_at-w.result c.vertex_at-w.ensures in
-    (lit< tt, (lit< tt, (lit< tt, (c.requires.one_key, (c.requires.ends, (c.requires.cells, (c.requires.first, (c.requires.second, (c.requires.third, (r.0, r.1))))))))))
+    let r = place_inside G d m most_period c.loop-i.i c.requires.one_key.one_list.here dimension c.requires.from c.requires.to inside c.vertex_at-w.result
+    c.vertex_at-w.ensures in
+    let q = c.requires in
+    (lit< tt, (lit< tt, (lit< tt, (q.one_key, (q.ends, (q.cells, (q.first, (q.second, (q.third, (r.0, r.1))))))))))
 
 pub loop-i-preserved : goal.loop-i-preserved
 loop-i-preserved g c =

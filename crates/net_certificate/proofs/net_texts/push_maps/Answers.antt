@@ -16,5 +16,6 @@ loop-lender-preserved g c =
     record {
       room_few = less_room first l.k l.room c.in_ok-room.room net l.text.items c.push_map.new.text.items one l.invariant.room_few;
       few = omega (arith, few);
-      leads = leads_on g.T.LendsNet.net first l.k l.room c.in_ok-room.room c.args.nets.now l.lender-index c.lender-item.result c.args.text.now.items l.text.items c.push_map.new.text.items c.loop-lender-test.true c.lender-item.is l.invariant.leads lent;
+      leads = leads_on g.T.LendsNet.net first l.k l.room c.in_ok-room.room c.args.nets.now l.lender-index c.lender-item.result c.args.text.now.items
+          l.text.items c.push_map.new.text.items c.loop-lender-test.true c.lender-item.is l.invariant.leads lent;
     }

@@ -14,4 +14,6 @@ pub returns-in-Some-clause-every : goal.returns-in-Some-clause-every
 returns-in-Some-clause-every c = λ h told e. heading_told c.args.text.now c.in-Some.why h c.in-Some.ensures.form c.in-Some.ensures.found told e
 
 pub returns-in-None-clause-every : goal.returns-in-None-clause-every
-returns-in-None-clause-every c = λ h told e. absurd (no_heading c.args.text.now (λ is. true≢false (sym (c.is_word.ensures.every is) ∙ c.if-is_word.false)) (λ why may is. none-some why (c.in-None.ensures.every why may is)) h told e)
+returns-in-None-clause-every c =
+    λ h told e. absurd (no_heading c.args.text.now (λ is. true≢false (sym (c.is_word.ensures.every is) ∙ c.if-is_word.false))
+    (λ why may is. none-some why (c.in-None.ensures.every why may is)) h told e)

@@ -7,7 +7,8 @@ use Rattle.net_certificate.proofs.Pairs.{is_wide, wide_digits, no_wide}
 use Rattle.net_certificate.proofs.pair.value_of.Goals as goal
 
 pub returns-in-Some-clause-found : goal.returns-in-Some-clause-found
-returns-in-Some-clause-found c = some_from c.read_number.result (λ (z : ℤ). c.in-Some.digits.now ≡ signed_decimal z) (λ (z : ℤ). c.args.text.now ≡ reason_text (Wide z))
+returns-in-Some-clause-found c = some_from c.read_number.result (λ (z : ℤ). c.in-Some.digits.now ≡ signed_decimal z)
+    (λ (z : ℤ). c.args.text.now ≡ reason_text (Wide z))
     (λ z e. is_wide c.args.text.now c.in-Some.digits.now z c.in-Some.ensures e) c.read_number.ensures.spelling
 
 pub returns-in-Some-clause-every : goal.returns-in-Some-clause-every

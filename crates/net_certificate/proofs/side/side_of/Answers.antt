@@ -1,3 +1,4 @@
+-- Of `side_of`: what `new` requires.
 use Rattle.std.proofs.Common.{ℤ, pos, List, get_or, lit<, subst, ap, ◌∙◌}
 use Rattle.std.specs.Prelude.{unsigned_abs}
 use Rattle.periodic_net.specs.Classes.{ClassGraph}
@@ -37,4 +38,5 @@ new-requires g c =
       scale = scale';
       scale_is = c.scale_of-scale.ensures ∙ ap (λ (xs : List ℤ). unsigned_abs (get_or xs 2 (pos 0))) c.numbers-key.ensures;
     } in
-    (lit< tt, (lit< tt, (lit< tt, (lit< tt, (pair.pair.is_frame, (scale, side_parts n c.net.invariant (net_side c.placed-placed.result.now origin frame q) side))))))
+    let parts = side_parts n c.net.invariant (net_side c.placed-placed.result.now origin frame q) side in
+    (lit< tt, (lit< tt, (lit< tt, (lit< tt, (pair.pair.is_frame, (scale, parts))))))

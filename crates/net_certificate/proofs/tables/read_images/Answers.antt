@@ -20,8 +20,10 @@ returns-in_default-clause-images c = λ text items edges others is.
     let t = c.args.second.now in
     let m = c.args.m in
     let M = map_with m c.loop-i.images [] in
-    bad_in text (Mapped (drawing s edges) items (drawing t others) M) c.loop-i.lines c.number-line.result (c.loop-i.invariant.0 text items edges others is) c.number-line.ensures.number
-    (no_image (drawing s edges) items (drawing t others) M c.loop-i.lines.rest (omega (arith, c.loop-i.invariant.1, c.loop-i-test.true, c.image_count-i-end.ensures, c.requires.period.few))
+    bad_in text (Mapped (drawing s edges) items (drawing t others) M) c.loop-i.lines c.number-line.result
+    (c.loop-i.invariant.0 text items edges others is) c.number-line.ensures.number
+    (no_image (drawing s edges) items (drawing t others) M c.loop-i.lines.rest
+    (omega (arith, c.loop-i.invariant.1, c.loop-i-test.true, c.image_count-i-end.ensures, c.requires.period.few))
     (subst (λ n. NoImage s.dim (vertex_at s.dim m n) t c.loop-i.lines.rest) (sym c.loop-i.invariant.1)
     (at_none c.in_ok-x.field-0 (NoImage s.dim (vertex_at s.dim m c.loop-i.i) t c.loop-i.lines.rest) c.in_default.is c.in_ok-x.ensures.none)))
     (λ may. absurd may)
@@ -34,16 +36,19 @@ loop-i-preserved c =
     let x = c.in-Some.x in
     let M = map_with m c.loop-i.images [] in
     let w = vertex_at s.dim m c.loop-i.i in
-    let less : length c.loop-i.images < s.vertices * m ^ s.dim = omega (arith, c.loop-i.invariant.1, c.loop-i-test.true, c.image_count-i-end.ensures, c.requires.period.few) in (
+    let less : length c.loop-i.images < s.vertices * m ^ s.dim =
+    omega (arith, c.loop-i.invariant.1, c.loop-i-test.true, c.image_count-i-end.ensures, c.requires.period.few) in (
       (λ text items edges others is.
           subst (λ l. IsIn text (Mapped (drawing s edges) items (drawing t others) (map_with m l [])) c.next_image.new.lines) (sym c.in_ok-push.ensures.ok)
-          (row_in text (Mapped (drawing s edges) items (drawing t others) M) (OfImage s.dim t.dim w x) c.loop-i.lines c.next_image.new.lines (c.loop-i.invariant.0 text items edges others is) (
+          (row_in text (Mapped (drawing s edges) items (drawing t others) M) (OfImage s.dim t.dim w x) c.loop-i.lines c.next_image.new.lines
+          (c.loop-i.invariant.0 text items edges others is) (
             refl,
             refl,
             ap (λ n. vertex_at s.dim m n) (sym c.loop-i.invariant.1),
             less,
             at_some c.in_ok-x.field-0 (λ (y : Vertex). IsImage t.dim t.vertices y) x c.in-Some.is c.in_ok-x.ensures.form,
           )
-          (λ rows at. at_some c.in_ok-x.field-0 (λ (y : Vertex). IsAt text (rows ++ image_row s.dim t.dim w y ∷ []) c.next_image.new.lines) x c.in-Some.is (c.in_ok-x.ensures.place text rows at)))),
+          (λ rows at. at_some c.in_ok-x.field-0 (λ (y : Vertex). IsAt text (rows ++ image_row s.dim t.dim w y ∷ []) c.next_image.new.lines) x c.in-Some.is
+          (c.in_ok-x.ensures.place text rows at)))),
       (let long = ap length c.in_ok-push.ensures.ok ∙ length-append c.loop-i.images (x ∷ []) in omega (arith, long, c.loop-i.invariant.1)),
     )

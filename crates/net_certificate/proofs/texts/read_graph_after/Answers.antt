@@ -14,13 +14,15 @@ returns-then-is_empty-clause-first c = λ text is. record { at = is; none = noth
 
 pub returns-clause-first : goal.returns-clause-first
 returns-clause-first c = λ text is.
-    first_in text (graph_view c.in_ok-graph.graph) c.args.lines.now c.read_graph.new.lines c.in_ok-graph.ensures.form is (λ rows at. c.in_ok-graph.ensures.graph text rows at)
+    first_in text (graph_view c.in_ok-graph.graph) c.args.lines.now c.read_graph.new.lines c.in_ok-graph.ensures.form is
+    (λ rows at. c.in_ok-graph.ensures.graph text rows at)
 
 pub returns-in_err-graph-clause-first : goal.returns-in_err-graph-clause-first
 returns-in_err-graph-clause-first c = λ text is.
     let fault = c.in_err-graph.field-0.0 in
     let place = c.read_graph.new.lines in
-    handed_on (λ (first : Option AnyGraph). MatchOption first (HasNoGraph text place) (λ (g : AnyGraph). IsBegun (graph_view g) text place)) (HasBadLine text) fault c.from_residual.result c.from_residual.ensures.1
+    handed_on (λ (first : Option AnyGraph). MatchOption first (HasNoGraph text place) (λ (g : AnyGraph). IsBegun (graph_view g) text place))
+    (HasBadLine text) fault c.from_residual.result c.from_residual.ensures.1
     (bad_line_from fault (HasBadGraph text (row_lines is.rows)) (HasBadLine text)
     (λ n bad. first_bad text c.args.lines.now n is (something c.args.lines.now.rest (sym c.is_empty.ensures ∙ c.if-is_empty.false)) bad)
     (c.in_err-graph.ensures.graph text (row_lines is.rows) is.at))

@@ -1,15 +1,35 @@
--- Of `read_items`: the loop over `size`; what it ensures.
-use Rattle.std.proofs.Common.{◌≡◌, ◌<◌, ◌+◌, List, [], ◌∷◌, length, sym, ap, ◌∙◌, subst, arith}
+-- Of `read_items`: the loop over `size`; what it ensures. `next_is`, `item_read` and `less` are what they share.
+use Rattle.std.proofs.Common.{◌≡◌, ◌<◌, ◌+◌, ℕ, List, [], ◌∷◌, length, sym, ap, ◌∙◌, subst, arith}
 use Rattle.std.proofs.lemmas.List.{length-append, length-map}
 use Rattle.quotient_graph.specs.AnyGraphs.{graph_view}
-use Rattle.graph_rows.specs.declared.size.GraphSize.{GraphSize}
+use Rattle.line_text.specs.Faults.{IfBadLine}
 use Rattle.line_text.proofs.CallerLemmas.{handed_on}
 use Rattle.net_certificate.specs.declared.item.Item.{Item}
 use Rattle.net_certificate.specs.Items.{item_view, item_views}
-use Rattle.net_certificate.specs.Reading.{IsIn, HasItems, HasBadLine}
-use Rattle.net_certificate.specs.Stages.{Listed, drawing, drawing_of, with_item, next_number}
-use Rattle.net_certificate.proofs.Shorter.{shorter_in, views_more}
+use Rattle.net_certificate.specs.Reading.{IsBegun, IsIn, HasItems, HasBadLine}
+use Rattle.net_certificate.specs.Stages.{Listed, drawing_of, with_item, next_number}
+use Rattle.net_certificate.proofs.Shorter.{of_graph, shorter_in, views_more}
 use Rattle.net_certificate.proofs.texts.read_items.Goals as goal
+use Rattle.net_certificate.proofs.texts.read_items.Goals.{In_ok-item}
+
+-- the item is the next one
+next_is : (items : List Item) (k : ℕ) → k ≡ length items + 2 → k ≡ next_number (item_views items)
+next_is items k is = let count = length-map items item_view in omega (arith, count, is)
+
+-- where the lines stand after it
+item_read : (c : In_ok-item) (text : List ℕ) → let G = graph_view c.args.first.now in IsBegun G text c.args.lines.now
+    → IsIn text (Listed (drawing_of G) (with_item (item_views c.loop-size.items) (item_view c.in_ok-item.item))) c.read_item.new.lines
+item_read c text is =
+    of_graph (λ text g items. IsIn text (Listed g (with_item items (item_view c.in_ok-item.item))) c.read_item.new.lines) (graph_view c.args.first.now)
+    c.size_of-size.result c.size_of-size.ensures c.loop-size.k c.loop-size.lines c.in_ok-item.ensures text (item_views c.loop-size.items)
+    (next_is c.loop-size.items c.loop-size.k c.loop-size.invariant.1) (c.loop-size.invariant.0 text is)
+
+-- less is left
+less : (c : In_ok-item) → length c.read_item.new.lines.rest < length c.loop-size.lines.rest
+less c =
+    let begun = c.requires.begun in
+    shorter_in begun.0 (drawing_of (graph_view c.args.first.now)) (item_views c.loop-size.items) (item_view c.in_ok-item.item) c.loop-size.lines
+    c.read_item.new.lines (c.loop-size.invariant.0 begun.0 begun.1) (item_read c begun.0 begun.1)
 
 pub loop-size-init : goal.loop-size-init
 loop-size-init c =
@@ -22,46 +42,23 @@ loop-size-init c =
 pub returns-in_err-item : goal.returns-in_err-item
 returns-in_err-item c = λ text is.
     let G = graph_view c.args.first.now in
-    let s = c.size_of-size.result in
-    let views = item_views c.loop-size.items in
-    let whole : length G.edges ≡ s.edges = ap (λ (t : GraphSize). t.edges) (sym c.size_of-size.ensures) in
-    let count = length-map c.loop-size.items item_view in
-    let at_k : c.loop-size.k ≡ next_number views = omega (arith, count, c.loop-size.invariant.1) in
-    handed_on (λ (items : List Item). HasItems text G c.read_item.new.lines (item_views items)) (HasBadLine text) c.in_err-item.field-0.0 c.from_residual.result c.from_residual.ensures.1
-    (c.in_err-item.ensures text views G.edges whole at_k (subst (λ t. IsIn text (Listed (drawing t G.edges) views) c.loop-size.lines) (sym c.size_of-size.ensures) (c.loop-size.invariant.0 text is)))
+    let fault = c.in_err-item.field-0.0 in
+    handed_on (λ (items : List Item). HasItems text G c.read_item.new.lines (item_views items)) (HasBadLine text) fault c.from_residual.result
+    c.from_residual.ensures.1
+    (of_graph (λ text g items. IfBadLine (HasBadLine text) fault) G c.size_of-size.result c.size_of-size.ensures c.loop-size.k c.loop-size.lines
+    c.in_err-item.ensures text (item_views c.loop-size.items) (next_is c.loop-size.items c.loop-size.k c.loop-size.invariant.1)
+    (c.loop-size.invariant.0 text is))
 
 pub loop-size-smaller : goal.loop-size-smaller
-loop-size-smaller c =
-    let G = graph_view c.args.first.now in
-    let s = c.size_of-size.result in
-    let views = item_views c.loop-size.items in
-    let whole : length G.edges ≡ s.edges = ap (λ (t : GraphSize). t.edges) (sym c.size_of-size.ensures) in
-    let count = length-map c.loop-size.items item_view in
-    let at_k : c.loop-size.k ≡ next_number views = omega (arith, count, c.loop-size.invariant.1) in
-    let item = c.in_ok-item.item in
-    let text = c.requires.begun.0 in
-    let is = c.requires.begun.1 in
-    shorter_in text (drawing_of G) views (item_view item) c.loop-size.lines c.read_item.new.lines (c.loop-size.invariant.0 text is)
-    (subst (λ t. IsIn text (Listed (drawing t G.edges) (with_item views (item_view item))) c.read_item.new.lines) c.size_of-size.ensures
-    ((c.in_ok-item.ensures text views G.edges whole at_k (subst (λ t. IsIn text (Listed (drawing t G.edges) views) c.loop-size.lines) (sym c.size_of-size.ensures) (c.loop-size.invariant.0 text is)))))
+loop-size-smaller c = less (goal.at.loop-size-smaller c).In_ok-item
 
 pub loop-size-preserved : goal.loop-size-preserved
 loop-size-preserved c =
-    let G = graph_view c.args.first.now in
-    let s = c.size_of-size.result in
-    let views = item_views c.loop-size.items in
-    let whole : length G.edges ≡ s.edges = ap (λ (t : GraphSize). t.edges) (sym c.size_of-size.ensures) in
-    let count = length-map c.loop-size.items item_view in
-    let at_k : c.loop-size.k ≡ next_number views = omega (arith, count, c.loop-size.invariant.1) in
     let item = c.in_ok-item.item in
-    let t0 = c.requires.begun.0 in
-    let is0 = c.requires.begun.1 in
-    let less : length c.read_item.new.lines.rest < length c.loop-size.lines.rest = shorter_in t0 (drawing_of G) views (item_view item) c.loop-size.lines c.read_item.new.lines (c.loop-size.invariant.0 t0 is0)
-    (subst (λ t. IsIn t0 (Listed (drawing t G.edges) (with_item views (item_view item))) c.read_item.new.lines) c.size_of-size.ensures
-    ((c.in_ok-item.ensures t0 views G.edges whole at_k (subst (λ t. IsIn t0 (Listed (drawing t G.edges) views) c.loop-size.lines) (sym c.size_of-size.ensures) (c.loop-size.invariant.0 t0 is0))))) in (
-      (λ text is. subst (λ l. IsIn text (Listed (drawing_of G) l) c.read_item.new.lines) (sym (ap item_views c.in_ok-push.ensures.ok ∙ views_more c.loop-size.items item))
-          (subst (λ t. IsIn text (Listed (drawing t G.edges) (with_item views (item_view item))) c.read_item.new.lines) c.size_of-size.ensures
-          ((c.in_ok-item.ensures text views G.edges whole at_k (subst (λ t. IsIn text (Listed (drawing t G.edges) views) c.loop-size.lines) (sym c.size_of-size.ensures) (c.loop-size.invariant.0 text is)))))),
+    let read = (goal.at.loop-size-preserved c).In_ok-item in
+    let shorter = less read in (
+      (λ text is. subst (λ l. IsIn text (Listed (drawing_of (graph_view c.args.first.now)) l) c.read_item.new.lines)
+          (sym (ap item_views c.in_ok-push.ensures.ok ∙ views_more c.loop-size.items item)) (item_read read text is)),
       (let long = ap length c.in_ok-push.ensures.ok ∙ length-append c.loop-size.items (item ∷ []) in omega (arith, long, c.loop-size.invariant.1)),
-      omega (arith, less, c.loop-size.invariant.2),
+      omega (arith, shorter, c.loop-size.invariant.2),
     )

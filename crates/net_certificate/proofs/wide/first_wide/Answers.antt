@@ -12,5 +12,6 @@ returns-then-is_some g c =
 
 pub returns : goal.returns
 returns g c =
-    wide_more (flat_map (λ (w : Vertex). parts g.row.D w.cell) c.args.images.now) (flat_map (parts g.row.D) c.args.rows.now) c.wide_image-z.result c.wide_row.result
+    wide_more (flat_map (λ (w : Vertex). parts g.row.D w.cell) c.args.images.now)
+    (flat_map (parts g.row.D) c.args.rows.now) c.wide_image-z.result c.wide_row.result
     (sym c.is_some.ensures ∙ c.if-is_some.false) c.wide_image-z.ensures c.wide_row.ensures

@@ -7,13 +7,15 @@ use Rattle.net_certificate.proofs.wide.wide_image.Goals as goal
 
 pub returns-then-is_some : goal.returns-then-is_some
 returns-then-is_some g c =
-    found_at (λ (w : Vertex). parts g.row.D w.cell) c.args.images.now c.loop-image.image-index c.image-item.result c.loop-image-test.true c.image-item.is c.wide_part-z.result
+    found_at (λ (w : Vertex). parts g.row.D w.cell) c.args.images.now c.loop-image.image-index c.image-item.result c.loop-image-test.true c.image-item.is
+    c.wide_part-z.result
     (sym c.is_some.ensures ∙ c.if-is_some.true) c.loop-image.invariant
     (subst (λ (w : Vertex). IsFirstWide (parts g.row.D w.cell) c.wide_part-z.result) c.image.view_is c.wide_part-z.ensures)
 
 pub loop-image-preserved : goal.loop-image-preserved
 loop-image-preserved g c =
-    passed_more (λ (w : Vertex). parts g.row.D w.cell) c.args.images.now c.loop-image.image-index c.image-item.result c.loop-image-test.true c.image-item.is c.wide_part-z.result
+    passed_more (λ (w : Vertex). parts g.row.D w.cell) c.args.images.now c.loop-image.image-index c.image-item.result c.loop-image-test.true c.image-item.is
+    c.wide_part-z.result
     (sym c.is_some.ensures ∙ c.if-is_some.false) c.loop-image.invariant
     (subst (λ (w : Vertex). IsFirstWide (parts g.row.D w.cell) c.wide_part-z.result) c.image.view_is c.wide_part-z.ensures)
 

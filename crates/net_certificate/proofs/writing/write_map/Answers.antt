@@ -30,8 +30,10 @@ returns-then-room-entries g c = λ a b ka kb s t e.
     let m = c.period_number-m.result in
     let dimension = ap (λ (G : Graph). G.dimension) (sym c.graph.ensures) ∙ c.vertices-n.ensures.parameter in
     let count = c.entries-entries.ensures ∙ ap (λ (n : ℕ). n * box_size g.row.D m) (c.vertices-n.ensures.count ∙ ap (λ (G : Graph). G.vertices) c.graph.ensures)
-    ∙ ap (λ (n : ℕ). S.net.graph.vertices * box_size n m) (sym dimension) ∙ ap (λ (n : ℕ). S.net.graph.vertices * box_size S.net.graph.dimension n) c.period_number-m.ensures in
-    long_due a b ka kb S T s t e c.args.cells.now c.requires.cells p.result.m p.result.shifts p.ensures c.args.room c.entries-entries.result count c.if-room-entries.true
+    ∙ ap (λ (n : ℕ). S.net.graph.vertices * box_size n m) (sym dimension)
+    ∙ ap (λ (n : ℕ). S.net.graph.vertices * box_size S.net.graph.dimension n) c.period_number-m.ensures in
+    long_due a b ka kb S T s t e c.args.cells.now c.requires.cells p.result.m p.result.shifts p.ensures c.args.room c.entries-entries.result count
+    c.if-room-entries.true
 
 pub box_images-requires : goal.box_images-requires
 box_images-requires g c =
@@ -55,10 +57,12 @@ returns g c = λ a b ka kb s t e.
     let answer = c.answer_with.result in
     let dimension = ap (λ (G : Graph). G.dimension) (sym c.graph.ensures) ∙ c.vertices-n.ensures.parameter in
     let count = c.entries-entries.ensures ∙ ap (λ (n : ℕ). n * box_size g.row.D m) (c.vertices-n.ensures.count ∙ ap (λ (G : Graph). G.vertices) c.graph.ensures)
-    ∙ ap (λ (n : ℕ). S.net.graph.vertices * box_size n m) (sym dimension) ∙ ap (λ (n : ℕ). S.net.graph.vertices * box_size S.net.graph.dimension n) c.period_number-m.ensures in
+    ∙ ap (λ (n : ℕ). S.net.graph.vertices * box_size n m) (sym dimension)
+    ∙ ap (λ (n : ℕ). S.net.graph.vertices * box_size S.net.graph.dimension n) c.period_number-m.ensures in
     let is = subst (λ (n : ℕ). AreImages S T n images) c.period_number-m.ensures c.in_ok-images.ensures in
     let rs = c.in_ok-rows.ensures ∙ ap (λ (n : ℕ). base_rows n p.result.shifts) (sym dimension) in
     let w = subst (λ (n : ℕ). IsWritten n p.result.m images rows answer) (sym dimension)
     (subst (λ (n : ℕ). IsWritten g.row.D n images rows answer) c.period_number-m.ensures c.answer_with.ensures) in
-    written_due a b ka kb S T s t e c.args.cells.now c.requires.cells p.result.m p.result.shifts p.ensures c.args.room c.entries-entries.result count c.if-room-entries.false
+    written_due a b ka kb S T s t e c.args.cells.now c.requires.cells p.result.m p.result.shifts p.ensures c.args.room c.entries-entries.result count
+    c.if-room-entries.false
     images rows is rs answer w

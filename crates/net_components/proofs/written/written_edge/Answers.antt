@@ -75,7 +75,8 @@ returns-in-Some-clause-wide g c =
     let G = c.args.g.now in
     let k = c.recall.ensures in
     let flat = subst (λ d. HasDimension d c.shift_in-k.result) (sym k.parameter) c.shift_in-k.ensures.dimension in
-    let w = wide_at G k.is_graph k.small c.args.c.now c.requires.component c.args.e.now c.requires.edge c.requires.tail c.shift_in-k.result flat c.shift_in-k.ensures.sum c.in-Some.w.c c.in-Some.w.value c.in-Some.ensures.some in (
+    let w = wide_at G k.is_graph k.small c.args.c.now c.requires.component c.args.e.now c.requires.edge c.requires.tail c.shift_in-k.result flat
+    c.shift_in-k.ensures.sum c.in-Some.w.c c.in-Some.w.value c.in-Some.ensures.some in (
       (λ i. arc c.e.inside.from c.e.inside.to (c.to_triple.ensures.value i)) ∙ c.e.view_is,
       subst (IsWideAt G c.args.c.now.root c.args.e.now c.in-Some.w.c) (sym (to_z-of_z w128 c.in-Some.w.value c.in-Some.ensures.fits)) w,
     )

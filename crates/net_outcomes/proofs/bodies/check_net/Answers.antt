@@ -8,7 +8,12 @@ use Rattle.net_outcomes.proofs.bodies.check_net.Goals as goal
 pub returns-in-Ok : goal.returns-in-Ok
 returns-in-Ok c = λ entries. record {
   graph = graph_view c.in_ok-graph.graph;
-  read = record { size_is = c.size_of.ensures; in_order = c.in_ok-graph.ensures; is_graph = is_graph_in (raw_view c.args.raw.now) (graph_view c.in_ok-graph.graph) c.requires.is_graph c.in_ok-graph.ensures };
+  read = record {
+    size_is = c.size_of.ensures;
+    in_order = c.in_ok-graph.ensures;
+    is_graph =
+        is_graph_in (raw_view c.args.raw.now) (graph_view c.in_ok-graph.graph) c.requires.is_graph c.in_ok-graph.ensures;
+  };
   connected = c.in-Ok.ensures.connected;
 }
 

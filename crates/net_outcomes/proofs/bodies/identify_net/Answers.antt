@@ -12,7 +12,12 @@ use Rattle.net_outcomes.proofs.bodies.identify_net.Goals as goal
 pub identified_body-requires-clause-keyed : goal.identified_body-requires-clause-keyed
 identified_body-requires-clause-keyed c = record {
   graph = graph_view c.in_ok-graph.graph;
-  read = record { size_is = refl; in_order = c.in_ok-graph.ensures; is_graph = is_graph_in (raw_view c.args.raw.now) (graph_view c.in_ok-graph.graph) c.requires.is_graph c.in_ok-graph.ensures };
+  read = record {
+    size_is = refl;
+    in_order = c.in_ok-graph.ensures;
+    is_graph =
+        is_graph_in (raw_view c.args.raw.now) (graph_view c.in_ok-graph.graph) c.requires.is_graph c.in_ok-graph.ensures;
+  };
   net_is = c.in-Ok.ensures.graph;
   keyed = c.in-Ok.ensures.keyed;
 }
@@ -21,6 +26,7 @@ pub returns-in-Err : goal.returns-in-Err
 returns-in-Err c =
     let raw = raw_view c.args.raw.now in
     let entries = c.args.archive.now.entries in
-    IfOk-weaker c.refused_body.result (λ body. (es : List EntryView) → IsBodyOf es Identify (Net raw) body) (λ body. IsBodyOf entries Identify (Net raw) body) (λ body h. h entries)
+    IfOk-weaker c.refused_body.result (λ body. (es : List EntryView) → IsBodyOf es Identify (Net raw) body) (λ body. IsBodyOf entries Identify (Net raw) body)
+    (λ body h. h entries)
     (refused_as Identify raw (graph_view c.in_ok-graph.graph) c.in-Err.refusal c.refused_body.result c.requires.is_graph c.in_ok-graph.ensures
     c.in-Err.ensures.refused (identify_may c.in-Err.refusal) c.refused_body.ensures.told c.refused_body.ensures.refused)

@@ -8,12 +8,18 @@ use Rattle.net_outcomes.proofs.bodies.key_net.Goals as goal
 pub returns-in-Ok-clause-told : goal.returns-in-Ok-clause-told
 returns-in-Ok-clause-told c = λ entries. record {
   graph = graph_view c.in_ok-graph.graph;
-  read = record { size_is = c.size_of.ensures; in_order = c.in_ok-graph.ensures; is_graph = is_graph_in (raw_view c.args.raw.now) (graph_view c.in_ok-graph.graph) c.requires.is_graph c.in_ok-graph.ensures };
+  read = record {
+    size_is = c.size_of.ensures;
+    in_order = c.in_ok-graph.ensures;
+    is_graph =
+        is_graph_in (raw_view c.args.raw.now) (graph_view c.in_ok-graph.graph) c.requires.is_graph c.in_ok-graph.ensures;
+  };
   net_is = c.in-Ok.ensures.graph;
   keyed = c.in-Ok.ensures.keyed;
 }
 
 pub returns-in_ok-body-in-Err-clause-told : goal.returns-in_ok-body-in-Err-clause-told
 returns-in_ok-body-in-Err-clause-told c = λ entries.
-    refused_told entries Key (raw_view c.args.raw.now) (graph_view c.in_ok-graph.graph) c.in-Err.refusal c.in_ok-body-in-Err.body c.requires.is_graph c.in_ok-graph.ensures
+    refused_told entries Key (raw_view c.args.raw.now) (graph_view c.in_ok-graph.graph) c.in-Err.refusal c.in_ok-body-in-Err.body c.requires.is_graph
+    c.in_ok-graph.ensures
     c.in-Err.ensures.refused (key_may c.in-Err.refusal) c.in_ok-body-in-Err.ensures.told c.in_ok-body-in-Err.ensures.refused

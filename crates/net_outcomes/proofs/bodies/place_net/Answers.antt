@@ -9,10 +9,16 @@ use Rattle.net_outcomes.proofs.bodies.place_net.Goals as goal
 pub returns-in_ok-copy-in-Ok : goal.returns-in_ok-copy-in-Ok
 returns-in_ok-copy-in-Ok c = λ entries. record {
   graph = graph_view c.in_ok-graph.graph;
-  read = record { size_is = c.size_of.ensures; in_order = c.in_ok-graph.ensures; is_graph = is_graph_in (raw_view c.args.raw.now) (graph_view c.in_ok-graph.graph) c.requires.is_graph c.in_ok-graph.ensures };
+  read = record {
+    size_is = c.size_of.ensures;
+    in_order = c.in_ok-graph.ensures;
+    is_graph =
+        is_graph_in (raw_view c.args.raw.now) (graph_view c.in_ok-graph.graph) c.requires.is_graph c.in_ok-graph.ensures;
+  };
   names_are = c.in_ok-copy-in-Ok.ensures;
   placed_as = c.in-Ok.ensures.placed;
-  only = only_placement (graph_view c.in_ok-graph.graph) (placed_view c.in-Ok.placed) (is_graph_in (raw_view c.args.raw.now) (graph_view c.in_ok-graph.graph) c.requires.is_graph c.in_ok-graph.ensures) c.in-Ok.ensures.placed;
+  only = only_placement (graph_view c.in_ok-graph.graph) (placed_view c.in-Ok.placed)
+      (is_graph_in (raw_view c.args.raw.now) (graph_view c.in_ok-graph.graph) c.requires.is_graph c.in_ok-graph.ensures) c.in-Ok.ensures.placed;
 }
 
 pub returns-in-Err : goal.returns-in-Err

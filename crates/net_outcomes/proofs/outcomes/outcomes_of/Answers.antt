@@ -27,7 +27,8 @@ loop-block-preserved c =
     let longer = sym c.in_ok-push.ensures.outcomes in
     record {
       outcomes = subst (AreOutcomesOn [] Key (views found) (i + 1) (at.number + 1)) longer
-          (outcomes_next [] Key found i at.number os c.block-item.result o c.loop-block-test.true c.block-item.is at.invariant.outcomes c.in_ok-outcome.ensures.outcome c.in_ok-outcome.ensures.printable);
+          (outcomes_next [] Key found i at.number os c.block-item.result o c.loop-block-test.true c.block-item.is at.invariant.outcomes
+          c.in_ok-outcome.ensures.outcome c.in_ok-outcome.ensures.printable);
       kinds = subst (AreKindsOfAll c.push.new.self.outcomes) (sym c.in_ok-push.ensures.kinds)
           (subst (λ (ps : List Outcome). AreKindsOfAll ps (at.keyed.kinds.items ++ c.in_ok-outcome.kinds ∷ [])) longer
           (kinds_last os at.keyed.kinds.items o c.in_ok-outcome.kinds at.invariant.kinds c.in_ok-outcome.ensures.kinds));
@@ -36,4 +37,5 @@ loop-block-preserved c =
 pub returns-clause-outcomes : goal.returns-clause-outcomes
 returns-clause-outcomes c =
     let at = c.loop-block in
-    outcomes_whole [] Key c.args.found.now at.block-index at.number at.keyed.outcomes c.loop-block-test.false at.invariant.outcomes (All-nil IsEntry) c.requires.graphs
+    outcomes_whole [] Key c.args.found.now at.block-index at.number at.keyed.outcomes c.loop-block-test.false at.invariant.outcomes
+    (All-nil IsEntry) c.requires.graphs

@@ -9,7 +9,8 @@ use Rattle.net_outcomes.proofs.RefusalLines.{refusal_line}
 use Rattle.net_outcomes.proofs.told.tell_part.Goals as goal
 
 pub push_refusal-pushed-requires-clause-named : goal.push_refusal-pushed-requires-clause-named
-push_refusal-pushed-requires-clause-named c = subst (λ (us : List ℕ). All (λ u. (1 ≤ u) × (u ≤ length c.args.names.now)) us) (sym c.as_slice.ensures) c.requires.named
+push_refusal-pushed-requires-clause-named c = subst (λ (us : List ℕ). All (λ u. (1 ≤ u) × (u ≤ length c.args.names.now)) us)
+    (sym c.as_slice.ensures) c.requires.named
 
 pub push_refusal-pushed-requires-clause-line : goal.push_refusal-pushed-requires-clause-line
 push_refusal-pushed-requires-clause-line c =

@@ -5,4 +5,5 @@ use Rattle.net_report.proofs.identified.push_lists.Given as goal
 
 abbrev pub invariant-loop-sizes : goal.invariant-loop-sizes
 invariant-loop-sizes l =
-    (l.text.items ++ sequences_text l.class (numbers_in (drop l.sizes-index l.lists)) ≡ l.initial.text.items ++ sequences_text 1 (numbers_in l.lists)) × (l.class ≡ l.sizes-index + 1)
+    (l.text.items ++ sequences_text l.class (numbers_in (drop l.sizes-index l.lists)) ≡ l.initial.text.items ++ sequences_text 1 (numbers_in l.lists))
+    × (l.class ≡ l.sizes-index + 1)

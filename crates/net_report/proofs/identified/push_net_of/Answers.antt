@@ -18,4 +18,5 @@ returns g c =
     let n = c.net.inside in
     let placed = c.in_ok-push_placed.ensures ∙ ap (λ (p : PlacedNet). text ++ placement_text vertices p) c.placed-placed.ensures.placed in
     subst (λ (m : KeyedNet). OnOk r (last ≡ text ++ net_text vertices m)) c.net.view_is
-    (three_parts r text c.push_placed.new.text.items c.push_primitive.new.text.items last (placement_text vertices n.stable) (primitive_text n.primitive) (key_text n.key) placed c.in_ok-push_primitive.ensures c.push_key.ensures)
+    (three_parts r text c.push_placed.new.text.items c.push_primitive.new.text.items last (placement_text vertices n.stable) (primitive_text n.primitive)
+    (key_text n.key) placed c.in_ok-push_primitive.ensures c.push_key.ensures)

@@ -15,4 +15,5 @@ returns-in_ok-push_size-in-Identified c =
     let last = c.push_identified.new.text.items in
     let i = c.in-Identified in
     subst (λ (b : OutcomeBody). OnOk r (last ≡ text ++ body_text b)) (sym i.is)
-    (two_parts r text c.push_size-in-Identified.new.text.items last (size_text i.size) (identified_text i.vertices (net_view i.net) i.shells i.names) c.in_ok-push_size-in-Identified.ensures c.push_identified.ensures)
+    (two_parts r text c.push_size-in-Identified.new.text.items last (size_text i.size)
+    (identified_text i.vertices (net_view i.net) i.shells i.names) c.in_ok-push_size-in-Identified.ensures c.push_identified.ensures)

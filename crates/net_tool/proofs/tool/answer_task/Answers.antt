@@ -8,4 +8,5 @@ pub returns-clause-due : goal.returns-clause-due
 returns-clause-due g c =
     let read = c.in_ok-file.ensures.read in
     due_over (task_view c.args.task.now) (g.H.Shelf.holds c.args.shelf.now) c.deref.result.now read.file (bytes_in c.in_ok-file.field-0.archive)
-    (c.deref.ensures.value ∙ read.file_is) read.read read.archive c.in_ok-answer_to.field-0.status c.in_ok-answer_to.field-0.text.items c.in_ok-answer_to.ensures.told c.in_ok-answer_to.ensures.due
+    (c.deref.ensures.value ∙ read.file_is) read.read read.archive c.in_ok-answer_to.field-0.status c.in_ok-answer_to.field-0.text.items
+    c.in_ok-answer_to.ensures.told c.in_ok-answer_to.ensures.due

@@ -29,12 +29,14 @@ returns-in-Ok-answer_task-clause-answer g c = search rules
 
 pub returns-in-Ok-answer_task-clause-headline : goal.returns-in-Ok-answer_task-clause-headline
 returns-in-Ok-answer_task-clause-headline g c =
-    headline_of (texts_of c.args.words.now) (g.H.Shelf.holds c.args.shelf.now) (g.W.Sink.written c.args.out.now) (g.W.Sink.written c.finish-in-Ok-answer_task.new.out)
+    headline_of (texts_of c.args.words.now) (g.H.Shelf.holds c.args.shelf.now) (g.W.Sink.written c.args.out.now)
+    (g.W.Sink.written c.finish-in-Ok-answer_task.new.out)
     c.finish-in-Ok-answer_task.result (returns-in-Ok-answer_task-clause-answer g c)
 
 pub returns-in-Ok-answer_task-clause-complete : goal.returns-in-Ok-answer_task-clause-complete
 returns-in-Ok-answer_task-clause-complete g c =
-    complete_of (texts_of c.args.words.now) (g.H.Shelf.holds c.args.shelf.now) (g.W.Sink.written c.args.out.now) (g.W.Sink.written c.finish-in-Ok-answer_task.new.out)
+    complete_of (texts_of c.args.words.now) (g.H.Shelf.holds c.args.shelf.now) (g.W.Sink.written c.args.out.now)
+    (g.W.Sink.written c.finish-in-Ok-answer_task.new.out)
     c.finish-in-Ok-answer_task.result (returns-in-Ok-answer_task-clause-answer g c)
 
 pub returns-in_default-found-clause-sure : goal.returns-in_default-found-clause-sure
@@ -44,7 +46,8 @@ returns-in_default-found-clause-sure g c = λ room fault.
 
 pub returns-in-Ok-answer_task-clause-sure : goal.returns-in-Ok-answer_task-clause-sure
 returns-in-Ok-answer_task-clause-sure g c = λ room fault.
-    no_break (texts_of c.args.words.now) (g.H.Shelf.holds c.args.shelf.now) (g.W.Sink.written c.args.out.now) (g.W.Sink.written c.finish-in-Ok-answer_task.new.out)
+    no_break (texts_of c.args.words.now) (g.H.Shelf.holds c.args.shelf.now) (g.W.Sink.written c.args.out.now)
+    (g.W.Sink.written c.finish-in-Ok-answer_task.new.out)
     (g.W.Sink.sure c.args.out.now) (returns-in-Ok-answer_task-clause-broken g c fault) room
 
 pub returns-in-Err-clause-answer : goal.returns-in-Err-clause-answer

@@ -8,7 +8,8 @@ pub returns-in_err-net-clause-trouble : goal.returns-in_err-net-clause-trouble
 returns-in_err-net-clause-trouble c =
     let raw = raw_view c.in-Some.raw.now in
     let first : IsFirstIn c.args.text.now (Some raw) = search rules in
-    refused_in c.from_residual-in_err-net.result c.args.text.now raw c.in_err-net.field-0.0 first c.in_err-net.ensures.refused c.from_residual-in_err-net.ensures.1
+    refused_in c.from_residual-in_err-net.result c.args.text.now raw c.in_err-net.field-0.0 first c.in_err-net.ensures.refused
+    c.from_residual-in_err-net.ensures.1
 
 pub returns-clause-net : goal.returns-clause-net
 returns-clause-net c =

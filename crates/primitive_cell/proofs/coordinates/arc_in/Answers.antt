@@ -23,9 +23,11 @@ pub returns-clause-same : goal.returns-clause-same
 returns-clause-same g c =
     let k = c.coordinates.result in
     let v = sym (combination_is_sum g.row.D c.requires.dimension c.args.lattice.now k c.coordinates.ensures.dimension) ∙ c.coordinates.ensures.value in
-    let same : base_sum (basis_of c.args.lattice.now) c.to_vector.result ≡ c.arc.inside.vector = ap (base_sum (basis_of c.args.lattice.now)) c.to_vector.ensures ∙ v in
+    let same : base_sum (basis_of c.args.lattice.now) c.to_vector.result ≡ c.arc.inside.vector =
+    ap (base_sum (basis_of c.args.lattice.now)) c.to_vector.ensures ∙ v in
     (λ i. record { from = c.arc.inside.from; to = c.arc.inside.to; vector = same i }) ∙ c.arc.view_is
 
 pub returns-clause-within : goal.returns-clause-within
 returns-clause-within g c =
-    subst (IsWithin most_coordinate) (sym c.to_vector.ensures) (c.coordinates.ensures.within most_units (of_arc c.arc.inside.vector _ c.args.arc.now refl c.arc.view_is c.requires.short))
+    subst (IsWithin most_coordinate) (sym c.to_vector.ensures) (c.coordinates.ensures.within most_units
+    (of_arc c.arc.inside.vector _ c.args.arc.now refl c.arc.view_is c.requires.short))

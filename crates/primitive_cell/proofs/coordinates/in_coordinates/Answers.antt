@@ -13,16 +13,26 @@ use Rattle.primitive_cell.proofs.coordinates.in_coordinates.Goals as goal
 
 pub arcs_in-requires : goal.arcs_in-requires
 arcs_in-requires g c =
-    let K = c.net-net.result.now in
     let n = c.args.classes.now in
     let t = subst (λ (d : ℕ). (d ≡ 2) ⊎ (d ≡ 3)) c.count-count.ensures.dimension c.count-count.ensures.small.net.balanced.two_or_three in
     let low = c.loop-c.auto.c in
     let end = c.loop-c-test.true in
     let count = c.count-count.ensures.count in
     let inside = c.lattice_of-lattice.ensures c.loop-c.c (low, omega (arith, end, count)) in
-    let short = subst (λ (L : ClassGraph). AreWithinUnits (arcs_of L c.loop-c.c)) (sym c.net-net.ensures.net) (short_arcs n.graph n.numbers n.classes n.translations c.net-net.ensures.classes c.loop-c.c) in (
+    let short = subst (λ (L : ClassGraph). AreWithinUnits (arcs_of L c.loop-c.c)) (sym c.net-net.ensures.net)
+    (short_arcs n.graph n.numbers n.classes n.translations c.net-net.ensures.classes c.loop-c.c) in (
       lit< tt,
-      (lit< tt, (t, (subst (AreInside g.row.D c.lattice_of-lattice.result) (sym c.arcs.ensures.arcs) inside, subst AreWithinUnits (sym c.arcs.ensures.arcs) short))),
+      (
+        lit< tt,
+        (
+          t,
+          (
+            subst (AreInside g.row.D c.lattice_of-lattice.result) (sym c.arcs.ensures.arcs) inside,
+            subst AreWithinUnits
+                (sym c.arcs.ensures.arcs) short,
+          ),
+        ),
+      ),
     )
 
 pub loop-c-preserved : goal.loop-c-preserved
@@ -31,7 +41,8 @@ loop-c-preserved g c =
     let S = c.lattice_of-lattice.result in
     let new = subst (λ (old : List ClassArc). IsInCoordinates g.row.D S old c.in_ok-arcs_in.field-0.items) c.arcs.ensures.arcs c.in_ok-arcs_in.ensures in
     let more = one_more_written g.row.D S K c.loop-c.c (map (λ s. s.items) c.loop-c.stars.items) c.in_ok-arcs_in.field-0.items c.loop-c.invariant new in
-    subst (AreInCoordinates g.row.D S K (c.loop-c.c + 1)) (sym (ap (map (λ s. s.items)) c.in_ok-push.ensures.items ∙ map-append (λ s. s.items) c.loop-c.stars.items (c.in_ok-arcs_in.field-0 ∷ []))) more
+    subst (AreInCoordinates g.row.D S K (c.loop-c.c + 1))
+    (sym (ap (map (λ s. s.items)) c.in_ok-push.ensures.items ∙ map-append (λ s. s.items) c.loop-c.stars.items (c.in_ok-arcs_in.field-0 ∷ []))) more
 
 -- the loop ends after the last class
 last_written : (d : ℕ) (S : Stairs) (K : ClassGraph) (m n : ℕ) (stars : List (List ClassArc)) → n ≡ K.count → n + 1 ≤ m → m ≤ n + 1
@@ -43,7 +54,8 @@ from_parts-requires g c =
     let K = c.net-net.result.now in
     let known = c.count-count.ensures in
     let stars = map (λ s. s.items) c.loop-c.stars.items in
-    let written = last_written g.row.D c.lattice_of-lattice.result K c.loop-c.c c.count-count.result stars known.count c.loop-c-test.false (c.loop-c.auto.c-end (omega arith)) c.loop-c.invariant in
+    let written = last_written g.row.D c.lattice_of-lattice.result K c.loop-c.c c.count-count.result stars known.count c.loop-c-test.false
+    (c.loop-c.auto.c-end (omega arith)) c.loop-c.invariant in
     (lit< tt, (lit< tt, is_net_in_memory g.row.D c.lattice_of-lattice.result c.recall.ensures.stair K known.small known.stars known.dimension stars written))
 
 pub returns : goal.returns
@@ -51,7 +63,8 @@ returns g c =
     let K = c.net-net.result.now in
     let known = c.count-count.ensures in
     let stars = map (λ s. s.items) c.loop-c.stars.items in
-    let written = last_written g.row.D c.lattice_of-lattice.result K c.loop-c.c c.count-count.result stars known.count c.loop-c-test.false (c.loop-c.auto.c-end (omega arith)) c.loop-c.invariant in
+    let written = last_written g.row.D c.lattice_of-lattice.result K c.loop-c.c c.count-count.result stars known.count c.loop-c-test.false
+    (c.loop-c.auto.c-end (omega arith)) c.loop-c.invariant in
     let same = are_coordinates g.row.D c.lattice_of-lattice.result c.recall.ensures.stair K known.small known.stars known.dimension stars written in
     subst (λ (M : ClassGraph). AreCoordinates M c.args.classes.now.classes) (sym c.from_parts.ensures)
     (subst (AreCoordinates _) c.net-net.ensures.net same)

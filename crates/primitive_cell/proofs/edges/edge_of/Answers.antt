@@ -34,7 +34,8 @@ coordinates-requires g c =
     let N = c.args.net.now in
     let us = c.args.firsts.now in
     let e : c.move_between-v.result ≡ move_of N.placement (number_at us) c.args.arc.now = search rules in
-    let m = subst (Members g.row.D c.args.stairs.now) (sym e) (move_in g.row.D N c.args.classes.now us c.args.stairs.now c.requires.cell c.args.arc.now c.requires.arc) in
+    let m = subst (Members g.row.D c.args.stairs.now) (sym e)
+    (move_in g.row.D N c.args.classes.now us c.args.stairs.now c.requires.cell c.args.arc.now c.requires.arc) in
     (lit< tt, (lit< tt, (m, c.move_between-v.ensures.within)))
 
 pub returns : goal.returns
@@ -42,4 +43,5 @@ returns g c =
     let N = c.args.net.now in
     let us = c.args.firsts.now in
     let e : c.move_between-v.result ≡ move_of N.placement (number_at us) c.args.arc.now = search rules in
-    is_given g.row.D N c.args.classes.now us c.args.stairs.now c.requires.cell c.args.arc.now _ c.arc.view_is c.move_between-v.result c.coordinates.result e c.coordinates.ensures.value c.coordinates.ensures.dimension
+    is_given g.row.D N c.args.classes.now us c.args.stairs.now c.requires.cell c.args.arc.now _ c.arc.view_is c.move_between-v.result c.coordinates.result e
+    c.coordinates.ensures.value c.coordinates.ensures.dimension

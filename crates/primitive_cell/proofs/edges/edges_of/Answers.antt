@@ -1,16 +1,10 @@
-use Rattle.std.proofs.Common.{◌≡◌, ℕ, ◌+◌, sym, subst, arith}
+use Rattle.std.proofs.Common.{◌≡◌, ℕ, ◌+◌, subst, arith}
 use Rattle.primitive_cell.specs.PrimitiveCells.{AreEdgesBelow}
 use Rattle.primitive_cell.proofs.EdgeSteps.{before_classes}
 use Rattle.primitive_cell.proofs.edges.edges_of.Goals as goal
 
 pub loop-class-init : goal.loop-class-init
-loop-class-init g c =
-    let d = g.row.D in
-    let N = c.args.net.now in
-    let k = c.args.classes.now in
-    let us = c.args.firsts.now in
-    let S = c.args.stairs.now in
-    subst (AreEdgesBelow d N k us S 1) (sym c.new-edges.ensures.items) (before_classes d N k us S c.requires)
+loop-class-init g c = grind (arith, before_classes)
 
 pub returns : goal.returns
 returns g c =
@@ -20,4 +14,5 @@ returns g c =
     let end = c.loop-class.auto.class-end (omega arith) in
     let past = c.loop-class-test.false in
     let is : n ≡ c.args.classes.now.classes.count + 1 = omega (arith, e, end, past) in
-    subst (λ (m : ℕ). AreEdgesBelow g.row.D c.args.net.now c.args.classes.now c.args.firsts.now c.args.stairs.now m c.loop-class.edges.items) is c.loop-class.invariant
+    subst (λ (m : ℕ). AreEdgesBelow g.row.D c.args.net.now c.args.classes.now c.args.firsts.now c.args.stairs.now m c.loop-class.edges.items) is
+    c.loop-class.invariant

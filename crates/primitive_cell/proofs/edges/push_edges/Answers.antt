@@ -11,12 +11,14 @@ use Rattle.primitive_cell.proofs.edges.push_edges.Goals.{then-is_normal+in_ok-pu
 
 pub loop-arc-init : goal.loop-arc-init
 loop-arc-init g c =
-    class_starts g.row.D c.args.net.now c.args.classes.now c.args.firsts.now c.args.stairs.now c.requires.cell c.args.class c.requires.class c.arcs-arc-items.result.now c.arcs-arc-items.ensures.arcs
+    class_starts g.row.D c.args.net.now c.args.classes.now c.args.firsts.now c.args.stairs.now c.requires.cell c.args.class c.requires.class
+    c.arcs-arc-items.result.now c.arcs-arc-items.ensures.arcs
     c.args.edges.now.items c.requires.below
 
 pub edge_of-edge-requires : goal.edge_of-edge-requires
 edge_of-edge-requires g c =
-    let b = item_in g.row.D c.args.net.now c.args.classes.now c.args.firsts.now c.args.stairs.now c.requires.cell c.args.class c.requires.class c.arcs-arc-items.result.now c.arcs-arc-items.ensures.arcs
+    let b = item_in g.row.D c.args.net.now c.args.classes.now c.args.firsts.now c.args.stairs.now c.requires.cell c.args.class c.requires.class
+    c.arcs-arc-items.result.now c.arcs-arc-items.ensures.arcs
     c.loop-arc.arc-index c.arc-item.result c.loop-arc-test.true c.arc-item.is in
     (lit< tt, (lit< tt, (lit< tt, (lit< tt, (lit< tt, (c.requires.cell, b))))))
 
@@ -41,15 +43,18 @@ loop-arc-preserved g c =
     elim c.if-is_normal.branch [
       | then-is_normal+in_ok-push w ↦
           let normal = c.is_normal.ensures.0 w.if-is_normal.true in
-          let step = class_adds d N k us S p n c.requires.class star is es i c.arc-item.result c.edge_of-edge.result c.loop-arc-test.true c.arc-item.is c.loop-arc.invariant c.edge_of-edge.ensures normal in
+          let step = class_adds d N k us S p n c.requires.class star is es i c.arc-item.result c.edge_of-edge.result c.loop-arc-test.true c.arc-item.is
+          c.loop-arc.invariant c.edge_of-edge.ensures normal in
           subst (λ (v : Vec _ Global). Done v.items) (sym w.edges-is) (subst Done (sym (w.in_ok-push.ensures).items) step)
       | else-is_normal w ↦
           let other = λ (h : IsNormalSpelling c.edge_of-edge.result). one_answer c.is_normal.result (c.is_normal.ensures.1 h) w.if-is_normal.false in
-          let step = class_passes d N k us S p n c.requires.class star is es i c.arc-item.result c.edge_of-edge.result c.loop-arc-test.true c.arc-item.is c.loop-arc.invariant c.edge_of-edge.ensures other in
+          let step = class_passes d N k us S p n c.requires.class star is es i c.arc-item.result c.edge_of-edge.result c.loop-arc-test.true c.arc-item.is
+          c.loop-arc.invariant c.edge_of-edge.ensures other in
           subst (λ (v : Vec _ Global). Done v.items) (sym w.edges-is) step
     ]
 
 pub returns : goal.returns
 returns g c =
-    class_ends g.row.D c.args.net.now c.args.classes.now c.args.firsts.now c.args.stairs.now c.requires.cell c.args.class c.requires.class c.arcs-arc-items.result.now c.arcs-arc-items.ensures.arcs
+    class_ends g.row.D c.args.net.now c.args.classes.now c.args.firsts.now c.args.stairs.now c.requires.cell c.args.class c.requires.class
+    c.arcs-arc-items.result.now c.arcs-arc-items.ensures.arcs
     c.loop-arc.edges.items c.loop-arc.arc-index c.loop-arc-test.false c.loop-arc.invariant

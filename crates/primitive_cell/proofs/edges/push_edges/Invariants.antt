@@ -7,4 +7,5 @@ use Rattle.primitive_cell.proofs.edges.push_edges.Given as goal
 -- the edges of the classes below, and of the first arcs of this class
 abbrev pub invariant-loop-arc : goal.invariant-loop-arc
 invariant-loop-arc g l =
-    AreGivenEdges g.row.D l.net.placement (number_at l.firsts) (rows_of g.row.D l.stairs) (IsArcUpTo l.classes.classes l.class l.arc-items l.arc-index) l.edges.items
+    AreGivenEdges g.row.D l.net.placement (number_at l.firsts) (rows_of g.row.D l.stairs)
+    (IsArcUpTo l.classes.classes l.class l.arc-items l.arc-index) l.edges.items

@@ -15,7 +15,8 @@ loop-arc-preserved g c =
     let same = ap (λ (a : ClassArc). a.vector) (c.arc.view_is ∙ c.arc-item.is) in
     let added = subst (λ (v : Vector). IsWith before (v ∷ []) after) same c.insert.ensures in (
       (λ v m. with_start before after (c.arc.inside.vector ∷ []) c.insert.ensures v (c.loop-arc.invariant.0 v m)),
-      one_more_inside g.row.D c.loop-arc.lattice c.insert.new.self c.args.arcs.now c.loop-arc.arc-index c.arc-item.result c.loop-arc-test.true added c.loop-arc.invariant.1,
+      one_more_inside g.row.D c.loop-arc.lattice c.insert.new.self c.args.arcs.now c.loop-arc.arc-index c.arc-item.result c.loop-arc-test.true added
+          c.loop-arc.invariant.1,
     )
 
 pub returns-clause-added : goal.returns-clause-added

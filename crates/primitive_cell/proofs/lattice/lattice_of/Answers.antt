@@ -10,12 +10,22 @@ use Rattle.primitive_cell.proofs.lattice.lattice_of.Goals as goal
 
 pub from_bound-lattice-requires : goal.from_bound-lattice-requires
 from_bound-lattice-requires g c =
-    let t = subst (λ (d : ℕ). (d ≡ 2) ⊎ (d ≡ 3)) c.count-count.ensures.dimension c.count-count.ensures.small.net.balanced.two_or_three in
-    (lit< tt, (at_least_two g.row.D t, (at_most_three g.row.D t, rw (to_z-of_z w128 c.args.bound c.ranges.bound) (c.requires.from, (let to = c.requires.to in omega (arith, ints, to))))))
+    let t = subst (λ (d : ℕ). (d ≡ 2) ⊎ (d ≡ 3)) c.count-count.ensures.dimension c.count-count.ensures.small.net.balanced.two_or_three in (
+      lit< tt,
+      (
+        at_least_two g.row.D t,
+        (
+          at_most_three g.row.D t,
+          rw (to_z-of_z w128 c.args.bound c.ranges.bound)
+              (c.requires.from, (let to = c.requires.to in omega (arith, ints, to))),
+        ),
+      ),
+    )
 
 pub loop-c-preserved : goal.loop-c-preserved
 loop-c-preserved g c e low high =
-    ⊎_elim (λ (l : e < c.loop-c.c). more_inside g.row.D c.loop-c.lattice c.insert_arcs.new.lattice c.insert_arcs.ensures.kept (arcs_of c.args.net.now e) (c.loop-c.invariant e low l))
+    ⊎_elim (λ (l : e < c.loop-c.c). more_inside g.row.D c.loop-c.lattice c.insert_arcs.new.lattice c.insert_arcs.ensures.kept (arcs_of c.args.net.now e)
+    (c.loop-c.invariant e low l))
     (λ (m : c.loop-c.c ≤ e).
     let same : e ≡ c.loop-c.c = omega (arith, m, high) in
     subst (λ (k : ℕ). AreInside g.row.D c.insert_arcs.new.lattice (arcs_of c.args.net.now k)) (sym same)
@@ -23,4 +33,5 @@ loop-c-preserved g c e low high =
     (cases_lt e c.loop-c.c)
 
 pub returns : goal.returns
-returns g c e i = let end = c.loop-c-test.false in let count = c.count-count.ensures.count in let high = i.1 in c.loop-c.invariant e i.0 (omega (arith, end, count, high))
+returns g c e i = let end = c.loop-c-test.false in let count = c.count-count.ensures.count in let high = i.1 in
+    c.loop-c.invariant e i.0 (omega (arith, end, count, high))

@@ -16,4 +16,5 @@ returns g c =
     let z = q ∙ c.d0.ensures.value ∙ ap (λ (n : PlacedNet). pos n.placement.denominator) c.placed.ensures.placed in
     let dim = sym (ap (λ (h : Graph). h.dimension) k.graph) ∙ c.recall.ensures.parameter in
     let T = c.insert_all.new.self in
-    lattice_made c.args.net.now k.is_graph k.stable c.args.translations.now c.requires c.from_bound-stairs.result T d (to_z w128 (of_z w128 d0)) dim z c.from_bound-stairs.ensures c.insert_all.ensures c.recall-2.ensures.basis
+    lattice_made c.args.net.now k.is_graph k.stable c.args.translations.now c.requires c.from_bound-stairs.result T d
+    (to_z w128 (of_z w128 d0)) dim z c.from_bound-stairs.ensures c.insert_all.ensures c.recall-2.ensures.basis

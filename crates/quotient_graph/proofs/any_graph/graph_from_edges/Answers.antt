@@ -20,7 +20,10 @@ with_edges-requires g c =
         lit< tt,
         (
           subst (λ (as' : List Arc). IsGraph (graph_with d c.args.n as')) same (listed_graph d c.args.n es c.requires),
-          (subst (λ (as' : List Arc). IsSmall (graph_with d c.args.n as')) same (listed_small d c.args.n es c.requires), subst AreRising same c.requires.rising),
+          (
+            subst (λ (as' : List Arc). IsSmall (graph_with d c.args.n as')) same (listed_small d c.args.n es c.requires),
+            subst AreRising same c.requires.rising,
+          ),
         ),
       ),
     )

@@ -17,5 +17,8 @@ invariant_of-result g c =
     let t = c.to.inside.z in
     let s = c.shift.inside.z in
     let same : vector x y z ≡ minus (plus c.args.to.now (times c.args.d0 c.args.shift.now)) c.args.from.now = search (rules, vector_equal) in
-    let last : z ≡ (t +ℤ c.args.d0 *ℤ s) -ℤ f = search rules in
-    (subst (IsWithin (2 ^ 61)) (sym same) c.requires.small, λ two. last ∙ flat_part f t c.args.d0 s (c.from.invariant.1 two) (c.to.invariant.1 two) (c.shift.invariant two))
+    let last : z ≡ (t +ℤ c.args.d0 *ℤ s) -ℤ f = search rules in (
+      subst (IsWithin (2 ^ 61)) (sym same) c.requires.small,
+      λ two. last
+          ∙ flat_part f t c.args.d0 s (c.from.invariant.1 two) (c.to.invariant.1 two) (c.shift.invariant two),
+    )

@@ -7,11 +7,10 @@ digits : (t : ℕ) → t ≡ t / 2305843009213693952 * 2305843009213693951 + t /
 digits t = omega arith
 
 pub returns-then-sum-lt-MERSENNE : goal.returns-then-sum-lt-MERSENNE
-returns-then-sum-lt-MERSENNE c =
-    let t = c.args.product in
-    digits_residue 2305843009213693951 t (t / 2305843009213693952) (t % 2305843009213693952) (digits t) c.if-sum-lt-MERSENNE.true
+returns-then-sum-lt-MERSENNE c = search (arith, digits_residue, digits)
 
 pub returns : goal.returns
 returns c =
     let t = c.args.product in
-    digits_residue_less 2305843009213693951 t (t / 2305843009213693952) (t % 2305843009213693952) (digits t) c.if-sum-lt-MERSENNE.false (omega (arith, c.requires))
+    digits_residue_less 2305843009213693951 t (t / 2305843009213693952) (t % 2305843009213693952) (digits t) c.if-sum-lt-MERSENNE.false
+    (omega (arith, c.requires))

@@ -25,7 +25,8 @@ pub returns : goal.returns
 returns c =
     let os = c.in_ok-keyed.keyed.outcomes in
     let each = c.in_ok-keyed.ensures.outcomes.each in
-    let nets : map (λ (n : Bor NetInMemory). net_view n.now) c.as_slice-2.result.now ≡ nets_told os = ap (map (λ (n : Bor NetInMemory). net_view n.now)) c.as_slice-2.ensures.value ∙ c.in_ok-nets.ensures.nets ∙ ap nets_told c.as_slice.ensures in
+    let nets : map (λ (n : Bor NetInMemory). net_view n.now) c.as_slice-2.result.now ≡ nets_told os =
+    ap (map (λ (n : Bor NetInMemory). net_view n.now)) c.as_slice-2.ensures.value ∙ c.in_ok-nets.ensures.nets ∙ ap nets_told c.as_slice.ensures in
     record {
       nets = nets_told os;
       are_nets = nets_of_blocks [] 1 c.args.found.now os c.requires.graphs each (sym c.if-not-are_accepted.ensures);

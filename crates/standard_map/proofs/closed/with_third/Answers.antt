@@ -26,5 +26,6 @@ returns g c =
 pub returns-then-this-eq2 : goal.returns-then-this-eq2
 returns-then-this-eq2 g c =
     let t = c.three.ensures in
-    flat_turns g.row.D c.args.turns.now c.args.a.now c.args.b.now c.requires.a c.requires.b c.requires.apart t.first_dimension t.second_dimension c.if-this-eq2.true
+    flat_turns g.row.D c.args.turns.now c.args.a.now c.args.b.now c.requires.a c.requires.b c.requires.apart t.first_dimension t.second_dimension
+    c.if-this-eq2.true
     c.three.result.shifts c.three.result.images t.first t.second t.third t.first_image t.second_image t.third_image

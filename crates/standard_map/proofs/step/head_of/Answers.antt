@@ -11,7 +11,8 @@ pub step-image-requires : goal.step-image-requires
 step-image-requires g c =
     let k = c.requires.one_key in
     let T = c.args.there.now in
-    let r = some_arc c.args.here.now T k c.args.tail.now c.requires.tail c.args.arc.now c.requires.arc.is_arc c.requires.arc.from c.part_of-part.result c.part_of-part.ensures.part in
+    let r = some_arc c.args.here.now T k c.args.tail.now c.requires.tail c.args.arc.now c.requires.arc.is_arc c.requires.arc.from c.part_of-part.result
+    c.part_of-part.ensures.part in
     let e = r.2 ∙ sym (ap (λ (x : End). x.image) c.tail.view_is) in
     (lit< tt, (lit< tt, (subst (IsQuotientVertex T.net.graph) e (arc_inside T.net.graph k.one_list.there r.0 r.1).from, (r.0, r.1, e, r.3))))
 
@@ -24,7 +25,8 @@ returns-clause-end g c =
     let s = c.step-image.ensures in
     let tail = c.tail.view_is in
     let arc = c.arc.view_is in
-    let e = next_end S T c.requires.one_key c.args.tail.now c.requires.tail a b c.requires.arc.is_arc c.requires.arc.from s.is_arc (s.from ∙ ap (λ (x : End). x.image) tail)
+    let e = next_end S T c.requires.one_key c.args.tail.now c.requires.tail a b c.requires.arc.is_arc c.requires.arc.from s.is_arc
+    (s.from ∙ ap (λ (x : End). x.image) tail)
     c.part_of-part.result c.part_of-part.ensures.part s.part in
     let over = ap (λ (x : Arc). x.to) (sym arc) in
     let shift = (λ i. plus (sym tail i).shift (sym arc i).shift) ∙ sym c.plus.ensures in

@@ -28,7 +28,8 @@ head_of-head-requires g c =
     let tail = c.end_of-tail.result in
     let is = c.end_of-tail.ensures ∙ ap (λ (x : Arc). end_over c.args.ends.now x.from) c.edge.view_is in
     let r = found_end S T c.args.ends.now c.requires.ends a.from inside.from tail is in
-    let from : IsArcFrom S.net.graph tail.over a = record { is_arc = c.requires.edge.is_arc; from = sym r.2; to = c.requires.edge.to; shift = c.requires.edge.shift } in
+    let from : IsArcFrom S.net.graph tail.over a =
+    record { is_arc = c.requires.edge.is_arc; from = sym r.2; to = c.requires.edge.to; shift = c.requires.edge.shift } in
     (lit< tt, (lit< tt, (lit< tt, (lit< tt, (c.requires.one_key, (from, (r.0, nearer (most_vertices - 1) most_vertices (omega arith) tail r.1)))))))
 
 pub turn_between-requires : goal.turn_between-requires
@@ -37,8 +38,10 @@ turn_between-requires g c =
     let T = c.args.there.now in
     let a = c.args.edge.now in
     let inside = arc_inside S.net.graph c.requires.one_key.one_list.here a c.requires.edge.is_arc in
-    let tail = found_end S T c.args.ends.now c.requires.ends a.from inside.from c.end_of-tail.result (c.end_of-tail.ensures ∙ ap (λ (x : Arc). end_over c.args.ends.now x.from) c.edge.view_is) in
-    let other = found_end S T c.args.ends.now c.requires.ends a.to inside.to c.end_of-other.result (c.end_of-other.ensures ∙ ap (λ (x : Arc). end_over c.args.ends.now x.to) c.edge.view_is) in
+    let tail = found_end S T c.args.ends.now c.requires.ends a.from inside.from c.end_of-tail.result
+    (c.end_of-tail.ensures ∙ ap (λ (x : Arc). end_over c.args.ends.now x.from) c.edge.view_is) in
+    let other = found_end S T c.args.ends.now c.requires.ends a.to inside.to c.end_of-other.result
+    (c.end_of-other.ensures ∙ ap (λ (x : Arc). end_over c.args.ends.now x.to) c.edge.view_is) in
     (lit< tt, (lit< tt, (other.1, c.head_of-head.ensures.near (most_vertices - 1) tail.1)))
 
 pub returns-clause-turn : goal.returns-clause-turn
@@ -47,7 +50,8 @@ returns-clause-turn g c =
     let T = c.args.there.now in
     let a = c.args.edge.now in
     let inside = arc_inside S.net.graph c.requires.one_key.one_list.here a c.requires.edge.is_arc in
-    let other = found_end S T c.args.ends.now c.requires.ends a.to inside.to c.end_of-other.result (c.end_of-other.ensures ∙ ap (λ (x : Arc). end_over c.args.ends.now x.to) c.edge.view_is) in
+    let other = found_end S T c.args.ends.now c.requires.ends a.to inside.to c.end_of-other.result
+    (c.end_of-other.ensures ∙ ap (λ (x : Arc). end_over c.args.ends.now x.to) c.edge.view_is) in
     let head = c.head_of-head.ensures in
     let t = c.turn_between.ensures in
     let over = head.over ∙ sym other.2 in

@@ -34,7 +34,8 @@ loop-edge-preserved g c =
     let count = i.count in
     record {
       count = omega (arith, long, count, length-append ts (t ∷ []));
-      each = subst (All (IsTurn c.args.here.now c.args.there.now)) (sym items) (all_more (IsTurn c.args.here.now c.args.there.now) ts t i.each c.turn_of.ensures.turn);
+      each = subst (All (IsTurn c.args.here.now c.args.there.now)) (sym items)
+          (all_more (IsTurn c.args.here.now c.args.there.now) ts t i.each c.turn_of.ensures.turn);
       of_edges = subst (λ xs. AreOfFirst row es xs (c.loop-edge.edge-index + 1)) (sym items)
           (first_more row es ts c.loop-edge.edge-index c.edge-item.result t count c.loop-edge-test.true c.edge-item.is c.turn_of.ensures.shift i.of_edges);
     }
@@ -50,6 +51,7 @@ returns g c =
     let end = c.loop-edge-test.false in
     let same = c.edges-edges.ensures.edges ∙ ap (λ (H : Graph). H.edges) c.graph-graph.ensures in
     let all : AreOfEdges c.edges-edges.result.now es ts = λ j a t l. (omega (arith, l, end, count), i.of_edges j a t (omega (arith, l, end))) in
-    let full = edges_full G k.here.shape.stable.connected c.args.here.now.origin k.same_here.origin.is_vertex es ts (subst (λ row. AreOfEdges row es ts) same all) in
+    let full = edges_full G k.here.shape.stable.connected c.args.here.now.origin k.same_here.origin.is_vertex es ts
+    (subst (λ row. AreOfEdges row es ts) same all) in
     let dimension = ap (λ (H : Graph). H.dimension) (sym c.graph-graph.ensures) ∙ c.recall.ensures.parameter in
     record { each = i.each; full = subst (λ d. AreFull d ts) dimension full }

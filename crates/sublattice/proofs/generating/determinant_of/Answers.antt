@@ -1,27 +1,20 @@
-use Rattle.std.proofs.Common.{◌≡◌, ◌⊎◌, inl, inr, ◌^◌, ◌<◌, ◌∙◌, ℕ, FitsSigned, sym, subst, arith}
+use Rattle.std.proofs.Common.{◌≡◌, ◌⊎◌, ◌^◌, ◌<◌, ◌∙◌, ℕ, FitsSigned, sym, subst, arith}
 use Rattle.std.specs.Int.{w128}
 use Rattle.std.proofs.lemmas.Int.{to_z-of_z}
 use Rattle.std.proofs.lemmas.List.{get_or_default}
-use Rattle.integers.specs.Vectors.{zero_vector, triple_product, IsWithin}
+use Rattle.integers.specs.Vectors.{IsWithin}
 use Rattle.sublattice.proofs.generating.determinant_of.Goals as goal
 
 -- the dimension is past 1
 past_one : (d n : ℕ) → (d ≡ 2) ⊎ (d ≡ 3) → n ≡ d → 1 < n
-past_one d n (inl e) f = omega (arith, e, f)
-past_one d n (inr e) f = omega (arith, e, f)
+past_one d n h k = omega arith
 
 -- and past 0
 past_zero : (n : ℕ) → 1 < n → 0 < n
 past_zero n h = omega (arith, h)
 
 pub returns-clause-value : goal.returns-clause-value
-returns-clause-value g c =
-    let r : FitsSigned w128 c.product_of_three.result = record { sfits = c.product_of_three.type_inv } in
-    let rows = c.args.rows.now in
-    let one = past_one g.row.D _ c.requires.dimension c.requires.count in
-    let a = c.to_triple.ensures.value ∙ c.index-rows-0.is ∙ get_or_default rows 0 c.index-rows-0.result zero_vector (past_zero _ one) in
-    let b = c.to_triple-2.ensures.value ∙ c.index-rows-1.is ∙ get_or_default rows 1 c.index-rows-1.result zero_vector one in
-    simp to_z-of_z (c.product_of_three.ensures.value ∙ (λ i. triple_product (a i) (b i) (c.last_row-last.ensures.value i)))
+returns-clause-value g c = grind (arith, past_one, get_or_default, past_zero, to_z-of_z)
 
 pub returns-clause-within : goal.returns-clause-within
 returns-clause-within g c =

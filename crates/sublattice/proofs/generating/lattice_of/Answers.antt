@@ -22,4 +22,5 @@ returns g c =
     let m = subst (λ (z : ℤ). AreMultiples d z (Members d S)) e c.from_bound-lattice.ensures in
     let zero : Members d S zero_vector = (m zero_vector (λ _. refl)).1 (zero_vector, sym (times_zero (pos c.args.index))) in
     let flat : (v : Vector) → IsIn rows v → d ≡ 2 → v.z ≡ pos 0 = λ v i. (with_has (Members d S) (Members d T) rows c.insert_all.ensures zero v i).1 in
-    made_sublattice d rows c.args.index S T c.requires.dimension c.requires.count flat c.requires.index c.requires.from m c.insert_all.ensures c.recall.ensures.stair c.recall.ensures.basis
+    made_sublattice d rows c.args.index S T c.requires.dimension c.requires.count flat c.requires.index c.requires.from m c.insert_all.ensures
+    c.recall.ensures.stair c.recall.ensures.basis

@@ -21,10 +21,7 @@ mixed-requires g c =
     }
 
 pub returns-clause-number : goal.returns-clause-number
-returns-clause-number g c =
-    let p = c.pivots_of-pivots in
-    let t = c.digits_of.result in
-    number_of_digits g.row.D c.args.lattice.now c.args.v.now t.first t.second t.third p.result.second p.result.third c.mixed.result c.digits_of.ensures p.ensures.second p.ensures.third c.mixed.ensures
+returns-clause-number g c = search (arith, number_of_digits)
 
 pub returns-clause-below : goal.returns-clause-below
 returns-clause-below g c = digits_below g.row.D c.args.lattice.now c.args.v.now c.mixed.result c.digits_of.ensures.stair (returns-clause-number g c)

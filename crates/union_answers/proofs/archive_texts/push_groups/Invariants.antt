@@ -6,4 +6,5 @@ use Rattle.union_answers.proofs.archive_texts.push_groups.Given as goal
 
 abbrev pub invariant-loop-group : goal.invariant-loop-group
 invariant-loop-group l =
-    l.text.items ++ group_lines (entry_views l.entries) (numbers_in (drop l.group-index l.groups)) ≡ l.initial.text.items ++ group_lines (entry_views l.entries) (numbers_in l.groups)
+    l.text.items ++ group_lines (entry_views l.entries) (numbers_in (drop l.group-index l.groups)) ≡ l.initial.text.items
+    ++ group_lines (entry_views l.entries) (numbers_in l.groups)

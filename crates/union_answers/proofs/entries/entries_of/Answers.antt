@@ -17,7 +17,8 @@ bounds-kinds-i c = let n = as_many_kinds c.args.outcomes.now c.args.kinds.now c.
 
 pub entry_told-requires-clause-kinds : goal.entry_told-requires-clause-kinds
 entry_told-requires-clause-kinds c =
-    kinds_at c.args.outcomes.now c.args.kinds.now c.loop-i.i c.index-outcomes-i.result c.index-kinds-i.result c.requires.kinds c.loop-i-test.true (sym c.index-outcomes-i.is) (sym c.index-kinds-i.is)
+    kinds_at c.args.outcomes.now c.args.kinds.now c.loop-i.i c.index-outcomes-i.result c.index-kinds-i.result c.requires.kinds c.loop-i-test.true
+    (sym c.index-outcomes-i.is) (sym c.index-kinds-i.is)
 
 pub loop-i-preserved : goal.loop-i-preserved
 loop-i-preserved c =
@@ -28,6 +29,8 @@ loop-i-preserved c =
     let pushed = sym {A = List Entry} c.in_ok-push.ensures.items in
     record {
       told = subst (λ (es : List Entry). AreEntriesTold (take (i + 1) os) (entry_views es)) pushed
-          (entries_next os i c.index-outcomes-i.result at.entries.items e c.loop-i-test.true (sym c.index-outcomes-i.is) at.invariant.told c.in_ok-entry_told.ensures.told);
-      each = subst (All IsGood) pushed (All-append IsGood at.entries.items (e ∷ []) at.invariant.each (All-cons IsGood e [] c.in_ok-entry_told.ensures.entry (All-nil IsGood)));
+          (entries_next os i c.index-outcomes-i.result at.entries.items e c.loop-i-test.true
+          (sym c.index-outcomes-i.is) at.invariant.told c.in_ok-entry_told.ensures.told);
+      each = subst (All IsGood) pushed (All-append IsGood at.entries.items (e ∷ []) at.invariant.each
+          (All-cons IsGood e [] c.in_ok-entry_told.ensures.entry (All-nil IsGood)));
     }

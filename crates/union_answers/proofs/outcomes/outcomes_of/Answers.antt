@@ -37,8 +37,11 @@ loop-item-preserved c =
       all = append_assoc at.yielded (x ∷ []) later ∙ ap (λ (l : List Item). at.yielded ++ l) (sym steps.0) ∙ at.invariant.all;
       left = let was = at.invariant.left in let gone = steps.1 in let short = ap length steps.0 in omega (arith, was, gone, short);
       number = let was = at.invariant.number in let long = length-append at.yielded (x ∷ []) in omega (arith, was, long);
-      told = subst (AreOutcomesOfRead 1 (at.yielded ++ x ∷ [])) pushed (outcomes_more at.yielded os at.number x o at.invariant.told at.invariant.number c.in_ok-outcome.ensures.outcome);
+      told = subst (AreOutcomesOfRead 1 (at.yielded ++ x ∷ [])) pushed
+          (outcomes_more at.yielded os at.number x o at.invariant.told at.invariant.number c.in_ok-outcome.ensures.outcome);
       kinds = subst (AreKindsOfAll c.push.new.self.outcomes) (sym c.in_ok-push.ensures.kinds)
-          (subst (λ (ps : List Outcome). AreKindsOfAll ps (at.keyed.kinds.items ++ ks ∷ [])) pushed (kinds_last os at.keyed.kinds.items o ks at.invariant.kinds c.in_ok-outcome.ensures.kinds));
-      printable = subst (All IsPrintable) pushed (All-append IsPrintable os (o ∷ []) at.invariant.printable (All-cons IsPrintable o [] c.in_ok-outcome.ensures.printable (All-nil IsPrintable)));
+          (subst (λ (ps : List Outcome). AreKindsOfAll ps (at.keyed.kinds.items ++ ks ∷ [])) pushed
+          (kinds_last os at.keyed.kinds.items o ks at.invariant.kinds c.in_ok-outcome.ensures.kinds));
+      printable = subst (All IsPrintable) pushed (All-append IsPrintable os (o ∷ []) at.invariant.printable
+          (All-cons IsPrintable o [] c.in_ok-outcome.ensures.printable (All-nil IsPrintable)));
     }

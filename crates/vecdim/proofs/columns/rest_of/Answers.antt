@@ -13,7 +13,14 @@ pub returns-clause-less : goal.returns-clause-less
 returns-clause-less c = omega (arith, ints)
 
 pub returns-clause-rest : goal.returns-clause-rest
-returns-clause-rest c = record { x_from = omega (arith, ints); x_to = omega (arith, ints); y_from = search rules; y_to = search rules; z_from = search rules; z_to = search rules }
+returns-clause-rest c = record {
+  x_from = omega (arith, ints);
+  x_to = omega (arith, ints);
+  y_from = search rules;
+  y_to = search rules;
+  z_from = search rules;
+  z_to = search rules;
+}
 
 pub returns-clause-same : goal.returns-clause-same
 returns-clause-same c =

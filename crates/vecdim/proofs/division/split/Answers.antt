@@ -31,4 +31,5 @@ returns-clause-within c =
     let b = euclid_rest c.args.z c.args.m c.requires in
     simp to_z-of_z
     (λ n h.
-    quotient_within c.args.z c.args.m (int_rem_euclid c.args.z c.args.m) c.div_euclid-quotient.result n b.0 b.1 (sum_is c ∙ (λ i. f i +ℤ c.args.m *ℤ c.div_euclid-quotient.result)) h)
+    quotient_within c.args.z c.args.m (int_rem_euclid c.args.z c.args.m) c.div_euclid-quotient.result n b.0 b.1
+    (sum_is c ∙ (λ i. f i +ℤ c.args.m *ℤ c.div_euclid-quotient.result)) h)

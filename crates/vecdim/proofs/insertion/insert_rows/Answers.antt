@@ -54,17 +54,21 @@ returns c =
     let f1 = boxed_fits k.m_to u1' in let g1 = boxed_fits k.m_to w1' in
     let f2 = boxed_fits k.m_to u2' in let g2 = boxed_fits k.m_to w2' in
     let f3 = boxed_fits k.m_to u3' in
-    let f1x : FitsSigned w128 c.column-one.result.upper.x = f1.x in let f1y : FitsSigned w128 c.column-one.result.upper.y = f1.y in let f1z : FitsSigned w128 c.column-one.result.upper.z = f1.z in
+    let f1x : FitsSigned w128 c.column-one.result.upper.x = f1.x in let f1y : FitsSigned w128 c.column-one.result.upper.y = f1.y in
+    let f1z : FitsSigned w128 c.column-one.result.upper.z = f1.z in
     let g1y : FitsSigned w128 c.column-one.result.lower.y = g1.y in let g1z : FitsSigned w128 c.column-one.result.lower.z = g1.z in
-    let f2x : FitsSigned w128 c.column-two.result.upper.x = f2.x in let f2y : FitsSigned w128 c.column-two.result.upper.y = f2.y in let g2y : FitsSigned w128 c.column-two.result.lower.y = g2.y in
+    let f2x : FitsSigned w128 c.column-two.result.upper.x = f2.x in let f2y : FitsSigned w128 c.column-two.result.upper.y = f2.y in
+    let g2y : FitsSigned w128 c.column-two.result.lower.y = g2.y in
     let f3x : FitsSigned w128 c.column-three.result.upper.x = f3.x in
     let vx = c.ranges.vx in let vy = c.ranges.vy in let vz = c.ranges.vz in
     let d = c.divide-parts.ensures in
     let d1 = d.to in let d1' = simp to_z-of_z at d1 in
     let d2 = d.rest_to in let d2' = simp to_z-of_z at d2 in
     let d3 = d.rest in let d3' = simp to_z-of_z at d3 in
-    let fq : FitsSigned w128 c.divide-parts.result.quotient = fits_within c.divide-parts.result.quotient _ k.m_to d.from (up_to _ _ _ d1' (at_most _ _ u1'.y_to)) in
-    let fr : FitsSigned w128 c.divide-parts.result.rest = fits_within c.divide-parts.result.rest _ k.m_to d.rest_from (up_to _ _ _ (at_most _ _ d2') u2'.x_to) in
+    let fq : FitsSigned w128 c.divide-parts.result.quotient = fits_within c.divide-parts.result.quotient _ k.m_to d.from
+    (up_to _ _ _ d1' (at_most _ _ u1'.y_to)) in
+    let fr : FitsSigned w128 c.divide-parts.result.rest = fits_within c.divide-parts.result.rest _ k.m_to d.rest_from
+    (up_to _ _ _ (at_most _ _ d2') u2'.x_to) in
     let xt = c.modulo-x.ensures.to in let xs = c.modulo-x.ensures.same.1 in
     let yt = c.modulo-y.ensures.to in let ys = c.modulo-y.ensures.same.1 in
     let zt = c.modulo-z.ensures.to in let zs = c.modulo-z.ensures.same.1 in

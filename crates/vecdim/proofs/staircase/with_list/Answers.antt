@@ -33,5 +33,11 @@ invariant_of-result-4 g c =
       | then-this-eq2 w ↦ w.last-is ∙ sym (flat_last g.row.D i w.if-this-eq2.true)
       | else-this-eq2 w ↦ let e = w.last-is in (simp to_z-of_z at e) ∙ sym (full_last g.row.D i w.if-this-eq2.false)
     ] in
-    simp to_z-of_z
-    (c.requires.two, c.requires.three, c.requires.flat, k, λ j. vector c.args.rows.a c.args.rows.b c.args.rows.c ∷ vector (pos 0) c.args.rows.e c.args.rows.f ∷ vector (pos 0) (pos 0) (last j) ∷ [])
+    simp to_z-of_z (
+      c.requires.two,
+      c.requires.three,
+      c.requires.flat,
+      k,
+      λ j. vector c.args.rows.a c.args.rows.b c.args.rows.c ∷ vector
+          (pos 0) c.args.rows.e c.args.rows.f ∷ vector (pos 0) (pos 0) (last j) ∷ [],
+    )

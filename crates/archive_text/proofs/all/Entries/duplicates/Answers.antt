@@ -22,7 +22,8 @@ loop-place-preserved c =
           (one_vector_more c.loop-place.groups.items c.match-branch-2.groups.items w.in-Some.group pushed)
       | in_default w ↦
           let none = subst (λ (r : Option (Vec ℕ Global)). IfNone r ((g : List ℕ) → IsGroupFrom es (n + 1) g → ⊥)) w.in_default.is c.in_ok-group.ensures.none in
-          subst (λ (v : Vec (Vec ℕ Global) Global). AreGroupsTo es (n + 1) (numbers_in v.items)) (sym w.groups-is) (no_more es n (numbers_in c.loop-place.groups.items) c.loop-place.invariant none)
+          subst (λ (v : Vec (Vec ℕ Global) Global). AreGroupsTo es (n + 1) (numbers_in v.items)) (sym w.groups-is)
+          (no_more es n (numbers_in c.loop-place.groups.items) c.loop-place.invariant none)
     ]
 
 pub returns : goal.returns

@@ -1,50 +1,50 @@
--- Of `group_from`: the clauses `none` and `some`.
-use Rattle.std.proofs.Common.{◌≡◌, ◌<◌, ◌≤◌, ◌+◌, ℕ, length, slice_get, Some, ap, sym, subst, ◌∙◌, arith}
-use Rattle.archive_text.specs.Entries.{entry_view}
-use Rattle.archive_text.specs.Groups.{numbers_with}
+-- Of `group_from`: the clauses `none` and `some`. `there` and `same` are what they share.
+use Rattle.std.proofs.Common.{◌≡◌, ◌<◌, ◌≤◌, ◌+◌, ℕ, List, length, slice_get, Some, ap, sym, subst, ◌∙◌, arith}
+use Rattle.archive_text.specs.Entries.{entry_view, entry_views}
+use Rattle.archive_text.specs.Groups.{numbers_at, numbers_with}
+use Rattle.archive_text.specs.declared.entry.Entry.{Entry}
 use Rattle.archive_text.proofs.FromPlace.{entry_there, numbers_there}
 use Rattle.archive_text.proofs.KeyNumbers.{no_group, some_group}
 use Rattle.archive_text.proofs.all.Entries.group_from.Goals as goal
+use Rattle.archive_text.proofs.all.Entries.group_from.Goals.{After-places-places}
+
+-- the entry stands at the place
+there : (c : After-places-places) → slice_get c.args.self.now c.args.place ≡ Some (entry_view c.index.result.now)
+there c = entry_there c.self.inside.items.items c.args.self.now c.self.view_is c.args.place c.index.result.now c.index.ensures c.requires
+
+-- the numbers with its key, in the entries as they are lent
+same : (c : After-places-places) (lent : List Entry) → lent ≡ c.self.inside.items.items → let key = c.index.result.now.key in
+    numbers_at (entry_views lent) key c.places-places.result.now ≡ numbers_with key c.args.self.now
+same c lent is =
+    numbers_there c.self.inside.items.items c.args.self.now c.self.view_is lent c.self.inside.names c.self.inside.keys c.index.result.now.key
+    c.numbers.result.now c.key_print.result c.places-places.result.now is c.self.invariant c.numbers.ensures c.key_print.ensures c.places-places.ensures
 
 pub returns-in_default-clause-none : goal.returns-in_default-clause-none
 returns-in_default-clause-none c =
-    let items = c.self.inside.items.items in
-    let there = entry_there items c.args.self.now c.self.view_is c.args.place c.index.result.now c.index.ensures c.requires in
-    let same = numbers_there items c.args.self.now c.self.view_is c.deref.result.now c.self.inside.names c.self.inside.keys c.index.result.now.key c.numbers.result.now c.key_print.result c.places-places.result.now
-    c.deref.ensures.value c.self.invariant c.numbers.ensures c.key_print.ensures c.places-places.ensures in
-    let first = c.in_default.ensures ∙ ap (λ ns. slice_get ns 0) same in
-    no_group c.args.self.now c.args.place (entry_view c.index.result.now) there (λ begins two. let e = first ∙ begins in cc)
+    let found = (goal.at.returns-in_default-clause-none c).After-places-places in
+    let first = c.in_default.ensures ∙ ap (λ ns. slice_get ns 0) (same found c.deref.result.now c.deref.ensures.value) in
+    no_group c.args.self.now c.args.place (entry_view c.index.result.now) (there found) (λ begins two. let e = first ∙ begins in cc)
 
 pub returns-then-first-place-clause-none : goal.returns-then-first-place-clause-none
 returns-then-first-place-clause-none c =
-    let items = c.self.inside.items.items in
-    let there = entry_there items c.args.self.now c.self.view_is c.args.place c.index.result.now c.index.ensures c.requires in
-    let same = numbers_there items c.args.self.now c.self.view_is c.deref.result.now c.self.inside.names c.self.inside.keys c.index.result.now.key c.numbers.result.now c.key_print.result c.places-places.result.now
-    c.deref.ensures.value c.self.invariant c.numbers.ensures c.key_print.ensures c.places-places.ensures in
-    let first = c.in-Some.ensures ∙ ap (λ ns. slice_get ns 0) same in
-    no_group c.args.self.now c.args.place (entry_view c.index.result.now) there
+    let found = (goal.at.returns-then-first-place-clause-none c).After-places-places in
+    let first = c.in-Some.ensures ∙ ap (λ ns. slice_get ns 0) (same found c.deref.result.now c.deref.ensures.value) in
+    no_group c.args.self.now c.args.place (entry_view c.index.result.now) (there found)
     (λ begins two. let e : Some c.in-Some.first ≡ Some (c.args.place + 1) = first ∙ begins in c.if-first-place.true (cc))
 
 pub returns-then-len-lt-FEWEST-clause-none : goal.returns-then-len-lt-FEWEST-clause-none
 returns-then-len-lt-FEWEST-clause-none c =
-    let items = c.self.inside.items.items in
-    let there = entry_there items c.args.self.now c.self.view_is c.args.place c.index.result.now c.index.ensures c.requires in
-    let same = numbers_there items c.args.self.now c.self.view_is c.deref-2.result.now c.self.inside.names c.self.inside.keys c.index.result.now.key c.numbers.result.now c.key_print.result c.places-places.result.now
-    c.deref-2.ensures.value c.self.invariant c.numbers.ensures c.key_print.ensures c.places-places.ensures in
-    let all = c.in_ok-numbers.ensures ∙ same in
+    let found = (goal.at.returns-then-len-lt-FEWEST-clause-none c).After-places-places in
+    let all = c.in_ok-numbers.ensures ∙ same found c.deref-2.result.now c.deref-2.ensures.value in
     let few : length c.in_ok-numbers.numbers.items < 2 = omega (arith, c.if-len-lt-FEWEST.true, c.len.ensures) in
     let fewer : length (numbers_with c.index.result.now.key c.args.self.now) < 2 = subst (λ ns. length ns < 2) all few in
-    no_group c.args.self.now c.args.place (entry_view c.index.result.now) there (λ begins two. omega (arith, fewer, two))
+    no_group c.args.self.now c.args.place (entry_view c.index.result.now) (there found) (λ begins two. omega (arith, fewer, two))
 
 pub returns-clause-some : goal.returns-clause-some
 returns-clause-some c =
-    let items = c.self.inside.items.items in
-    let key = c.index.result.now.key in
-    let same = numbers_there items c.args.self.now c.self.view_is c.deref.result.now c.self.inside.names c.self.inside.keys key c.numbers.result.now c.key_print.result c.places-places.result.now
-    c.deref.ensures.value c.self.invariant c.numbers.ensures c.key_print.ensures c.places-places.ensures in
-    let again = numbers_there items c.args.self.now c.self.view_is c.deref-2.result.now c.self.inside.names c.self.inside.keys key c.numbers.result.now c.key_print.result c.places-places.result.now
-    c.deref-2.ensures.value c.self.invariant c.numbers.ensures c.key_print.ensures c.places-places.ensures in
-    let all = c.in_ok-numbers.ensures ∙ again in
-    let first = sym (c.in-Some.ensures ∙ ap (λ ns. slice_get ns 0) same) ∙ ap (λ (n : ℕ). Some n) c.if-first-place.false in
+    let found = (goal.at.returns-clause-some c).After-places-places in
+    let all = c.in_ok-numbers.ensures ∙ same found c.deref-2.result.now c.deref-2.ensures.value in
+    let begins = ap (λ ns. slice_get ns 0) (same found c.deref.result.now c.deref.ensures.value) in
+    let first = sym (c.in-Some.ensures ∙ begins) ∙ ap (λ (n : ℕ). Some n) c.if-first-place.false in
     let two : 2 ≤ length c.in_ok-numbers.numbers.items = omega (arith, c.if-len-lt-FEWEST.false, c.len.ensures) in
-    some_group c.args.self.now c.args.place key c.in_ok-numbers.numbers.items all first two
+    some_group c.args.self.now c.args.place c.index.result.now.key c.in_ok-numbers.numbers.items all first two

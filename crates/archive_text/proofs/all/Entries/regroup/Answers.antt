@@ -13,6 +13,8 @@ invariant_of-self c =
     let now : entry_views c.regroup.new.grouped.items ≡ regrouped old = c.regroup.ensures.grouped in
     record {
       few = omega (arith, ap length now, length_permutation old (regrouped old) (is_regrouped old).same_entries, c.self.invariant.few);
-      by_name = c.in_ok-names.ensures.names ∙ ap (λ (items : List Entry). map (λ (e : EntryView). name_print e.name) (regrouped (entry_views items))) c.deref.ensures.value ∙ ap (map (λ (e : EntryView). name_print e.name)) (sym now);
-      by_key = c.in_ok-names.ensures.keys ∙ ap (λ (items : List Entry). map (λ (e : EntryView). key_print e.key) (regrouped (entry_views items))) c.deref.ensures.value ∙ ap (map (λ (e : EntryView). key_print e.key)) (sym now);
+      by_name = c.in_ok-names.ensures.names ∙ ap (λ (items : List Entry). map (λ (e : EntryView). name_print e.name) (regrouped (entry_views items)))
+          c.deref.ensures.value ∙ ap (map (λ (e : EntryView). name_print e.name)) (sym now);
+      by_key = c.in_ok-names.ensures.keys ∙ ap (λ (items : List Entry). map (λ (e : EntryView). key_print e.key) (regrouped (entry_views items)))
+          c.deref.ensures.value ∙ ap (map (λ (e : EntryView). key_print e.key)) (sym now);
     }

@@ -11,7 +11,8 @@ pub reduced-requires : goal.reduced-requires
 reduced-requires c =
     let y : FitsSigned w128 c.cross-2.result = record { sfits = c.cross-2.type_inv } in
     let z : c.args.o.num ≢ pos 0 = search rules in
-    simp to_z-of_z (subst (λ (t : ℤ). t ≢ pos 0) (sym c.cross-2.ensures.value) (cross_not_zero (fraction_value c.args.o) (fraction_value c.args.self) c.args.self.reduced.positive z))
+    simp to_z-of_z (subst (λ (t : ℤ). t ≢ pos 0) (sym c.cross-2.ensures.value)
+    (cross_not_zero (fraction_value c.args.o) (fraction_value c.args.self) c.args.self.reduced.positive z))
 
 pub returns : goal.returns
 returns c =
@@ -21,4 +22,7 @@ returns c =
     let u = c.cross.ensures.value in
     let v = c.cross-2.ensures.value in
     let e = c.reduced.ensures in
-    record { quotient = over_or c.args.self c.args.o _ c.reduced.result c.wide.result c.ok_or.result z (λ i. quotient (u i) (v i)) c.wide.ensures c.ok_or.ensures.value (simp to_z-of_z at e) }
+    record {
+      quotient = over_or c.args.self c.args.o _ c.reduced.result c.wide.result c.ok_or.result z
+          (λ i. quotient (u i) (v i)) c.wide.ensures c.ok_or.ensures.value (simp to_z-of_z at e);
+    }

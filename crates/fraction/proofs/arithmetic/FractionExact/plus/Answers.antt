@@ -17,4 +17,7 @@ returns c =
     let u = c.cross.ensures.value in
     let v = c.cross-2.ensures.value in
     let e = c.over_both.ensures in
-    record { sum = exact_is _ c.args.self c.args.o _ _ c.over_both.result ((λ i. quotient (u i +ℤ v i) (pos (a.den * b.den))) ∙ plus_is a b) (simp to_z-of_z at e) }
+    record {
+      sum = exact_is _ c.args.self c.args.o _ _ c.over_both.result ((λ i. quotient (u i +ℤ v i) (pos (a.den * b.den))) ∙ plus_is a b)
+          (simp to_z-of_z at e);
+    }

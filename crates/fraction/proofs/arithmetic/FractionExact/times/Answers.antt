@@ -14,4 +14,7 @@ returns c =
     let n : FitsSigned w128 c.numerators.result = record { sfits = c.numerators.type_inv } in
     let v = c.numerators.ensures in
     let e = c.over_both.ensures in
-    record { product = exact_is _ c.args.self c.args.o _ _ c.over_both.result ((λ i. quotient (v i) (pos (a.den * b.den))) ∙ times_is a b) (simp to_z-of_z at e) }
+    record {
+      product = exact_is _ c.args.self c.args.o _ _ c.over_both.result ((λ i. quotient (v i) (pos (a.den * b.den))) ∙ times_is a b)
+          (simp to_z-of_z at e);
+    }

@@ -12,4 +12,5 @@ returns-clause-added c = IfOk-weaker c.add_entry.result _ _ (λ x h. (entry_view
 pub returns-clause-fault : goal.returns-clause-fault
 returns-clause-fault c =
     let named : is_name c.args.name.now ≡ true = sym c.is_name.ensures ∙ c.if-not-is_name.false in
-    fault_told c.args.self.now c.args.name.now (net_view c.args.net.now) (entry_view c.in_ok-entry.entry) named c.in_ok-entry.ensures.entry c.add_entry.result c.add_entry.ensures.fault
+    fault_told c.args.self.now c.args.name.now (net_view c.args.net.now)
+    (entry_view c.in_ok-entry.entry) named c.in_ok-entry.ensures.entry c.add_entry.result c.add_entry.ensures.fault

@@ -32,7 +32,8 @@ vector_between-requires g c =
     let same : minus (plus c.at-to.result (times d s)) c.at-from.result ≡ arc_vector P arc = search rules in
     let vector : IsWithin (2 ^ 61) (minus (plus c.at-to.result (times d s)) c.at-from.result) =
     subst (IsWithin (2 ^ 61)) (sym same) (wider most_units (2 ^ 61) (omega arith) (arc_vector P arc) (c.recall.ensures.limits.arcs arc c.requires)) in
-    let shift : IsWithin most_shift s = subst (IsWithin most_shift) (sym (ap (λ (a : Arc). a.shift) c.arc.view_is)) (arc_within G c.recall.ensures.small arc c.requires) in
+    let shift : IsWithin most_shift s = subst (IsWithin most_shift) (sym (ap (λ (a : Arc). a.shift) c.arc.view_is))
+    (arc_within G c.recall.ensures.small arc c.requires) in
     (lit< tt, (lit< tt, (search rules, (shift, vector))))
 
 pub returns-clause-small : goal.returns-clause-small

@@ -12,4 +12,5 @@ returns-clause-difference g c =
     let v = c.args.v.now in
     let rest = c.divided.result.rests in
     let r = divided_remainder g.row.D c.divided.ensures.stair d in
-    subst (λ (w : Vector). Members g.row.D S (minus v w)) (sym c.to_vector.ensures) (divided_member {S = S} {v = v} {r = rest} d, minus_dimension g.row.D v rest c.divided.ensures.dimension r.dimension)
+    subst (λ (w : Vector). Members g.row.D S (minus v w)) (sym c.to_vector.ensures)
+    (divided_member {S = S} {v = v} {r = rest} d, minus_dimension g.row.D v rest c.divided.ensures.dimension r.dimension)
