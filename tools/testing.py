@@ -5,9 +5,12 @@ with 0 where nothing failed. NET_TOOL is the program; TOOLS_LONG=1 asks for the 
 
 from __future__ import annotations
 
+import contextlib
 import importlib.util
 import os
+import pty
 import shutil
+import signal
 import subprocess
 import sys
 import tempfile
@@ -61,6 +64,22 @@ def run(*words: object, status: int | None = 0, stdin: bytes = b"", seconds: int
         told = done.stderr[-2000:].decode(errors="replace") or done.stdout[-500:].decode(errors="replace")
         raise AssertionError(f"{words[0]} ended with {done.returncode}, not {status}: {told}")
     return done
+
+
+def run_on_terminal(*words: object, stdin: bytes = b"") -> tuple[int, bytes]:
+    """The status of a command whose standard error is a terminal, and what is shown there."""
+    ours, theirs = pty.openpty()
+    with subprocess.Popen([str(word) for word in words], stdin=subprocess.PIPE, stdout=subprocess.DEVNULL, stderr=theirs,
+                          env={**os.environ, "NET_TOOL": PROGRAM}) as process:
+        os.close(theirs)
+        process.stdin.write(stdin)
+        process.stdin.close()
+        told = b""
+        with contextlib.suppress(OSError):  # where the other end is closed
+            while part := os.read(ours, 4096):
+                told += part
+    os.close(ours)
+    return process.returncode, told
 
 
 class FolderTest(unittest.TestCase):
@@ -118,6 +137,7 @@ def run_folder(folder: Path) -> Quiet:
 
 
 def main() -> int:
+    signal.signal(signal.SIGINT, signal.default_int_handler)  # a shell has what runs in its background ignore it
     passed = failed = skipped = 0
     for word in sys.argv[1:]:
         result = run_folder(Path(word).resolve())

@@ -213,7 +213,7 @@ class Many(FolderTest):
         archives = [ARCHIVE, TOP / "archives/zeolites.archive"]
         text, cls.truth = text_of_odd_nets(archives, COUNT, seed=11)
         cls.text = text.encode()
-        cls.names = [line[7:-2] for line in ARCHIVE.open() if line.startswith("entry ")]
+        cls.names = [line[7:-1] for line in ARCHIVE.read_text().splitlines() if line.startswith("entry ")]
 
     def setUp(self):
         super().setUp()

@@ -150,6 +150,19 @@ class Scripts(Mutants):
             path.write_bytes(kept[path])
 
 
+    def test_plans_that_are_taken_up(self):
+        """Of a plan that was damaged nothing is made, without its source beside it too."""
+        script, result = Script(BATCH / "net_table", self.folder), self.folder / "result"
+        script.run("--plan", self.written("nets.cgd", self.nets), result)
+        path = result / "work/plan"
+        plan = path.read_bytes()
+        for k, text in enumerate(self.mutants(plan)):
+            path.write_bytes(text)
+            done = script.run("--no-names", "--jobs", 1, *([], ["--part", "1/1"])[k % 2], result)
+            self.check(done)
+            self.assertEqual(done.status, 0 if text == plan else 3)
+
+
 class ShellScripts(Mutants):
     """Those of sh."""
 

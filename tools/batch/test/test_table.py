@@ -16,7 +16,7 @@ from testing import IS_LONG, PROGRAM, TOOLS, TOP, FolderTest, long_test, need_co
 sys.path.insert(0, str(TOOLS / "python"))
 from crystal_nets.tables.columns import TABLE, escaped, plain, read_table  # noqa: E402
 from crystal_nets.tables.piece import path_of, rows_of  # noqa: E402
-from crystal_nets.tables.plan import Failed, files_of, plan_of, read_plan  # noqa: E402
+from crystal_nets.tables.plan import FORM, Failed, files_of, plan_of, read_plan  # noqa: E402
 
 BATCH = TOOLS / "batch"
 NET_TABLE = BATCH / "net_table"
@@ -270,10 +270,12 @@ class Plans(FolderTest):
                 lengths[portion.path] = portion.offset + portion.length
         self.assertEqual(lengths, {str(path): path.stat().st_size for path in self.folder.iterdir()})
         self.assertEqual({portion.kind for piece in plan.pieces for portion in piece}, {"blocks", "items", "structure"})
-        (self.folder / "plan").write_text(plan.text)
+        (self.folder / "plan").write_bytes(plan.content)
         self.assertEqual(read_plan(self.folder / "plan"), plan)
-        for text in ("", "x", "[]\n", plan.text.replace("net_table 1", "net_table 2"), json.dumps({"form": "net_table 1"}) + "\n[1]\n"):
-            (self.folder / "plan").write_text(text)
+        for content in (b"", b"x", b"[]\n", plan.text.encode(), plan.content.replace(FORM.encode(), b"net_table 1"),
+                        plan.content.replace(b"blocks", b"items", 1), plan.content + b"\n", plan.content[:-1],
+                        json.dumps({"form": FORM}).encode() + b"\n[1]\n", b"[" * 100_000 + b"\n\n"):
+            (self.folder / "plan").write_bytes(content)
             with self.assertRaises(Failed):
                 read_plan(self.folder / "plan")
 

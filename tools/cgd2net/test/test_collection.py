@@ -1,14 +1,11 @@
 """Archives of collections: what is taken and what is refused, more nets than an archive holds, and look-up over all."""
 
-import os
-import pty
 import random
-import subprocess
 from pathlib import Path
 
 from mutants import Script, mutant
 from odd_cells import edges_of_archive
-from testing import IS_LONG, PROGRAM, TOOLS, TOP, FolderTest, need_modules, need_program, run
+from testing import IS_LONG, PROGRAM, TOOLS, TOP, FolderTest, need_modules, need_program, run, run_on_terminal
 from test_blocks import ITEMS, KNOWN, WITH_EDGES, parts_of
 
 need_modules("gemmi", "numpy", "scipy")
@@ -169,12 +166,7 @@ class Collections(FolderTest):
 
     def test_a_terminal_sees_a_bar(self):
         file = self.write("a.cgd", crystals())
-        ours, theirs = pty.openpty()
-        done = subprocess.run([MAKE, self.folder / "nets", file], stdout=subprocess.DEVNULL, stderr=theirs,
-                              env={**os.environ, "NET_TOOL": PROGRAM})
-        os.close(theirs)
-        told = os.read(ours, 100_000)
-        os.close(ours)
-        self.assertEqual(done.returncode, 0)
+        status, told = run_on_terminal(MAKE, self.folder / "nets", file)
+        self.assertEqual(status, 0)
         self.assertIn(b"reading [====", told)
         self.assertIn(b"keys [====", told)

@@ -2,14 +2,11 @@
 
 import glob
 import json
-import os
-import pty
 import random
 import re
-import subprocess
 from pathlib import Path
 
-from testing import PROGRAM, TOOLS, TOP, FolderTest, IS_LONG, need_modules, need_program, run
+from testing import PROGRAM, TOOLS, TOP, FolderTest, IS_LONG, need_modules, need_program, run, run_on_terminal
 
 need_modules("gemmi", "numpy", "scipy")
 from structures import STRUCTURES, cif_text, presentations  # noqa: E402
@@ -173,21 +170,9 @@ class ManyFiles(FolderTest):
         for number in range(30):
             (self.folder / f"{number}.cif").write_text(CAESIUM_CHLORIDE)
         self.assertNotIn(b"\r", run(COMMAND, self.folder, status=1).stderr)
-        terminal, end = pty.openpty()
-        with subprocess.Popen([COMMAND, "--quiet", self.folder], stdout=subprocess.DEVNULL, stderr=end) as process:
-            os.close(end)
-            told = b""
-            while True:
-                try:
-                    part = os.read(terminal, 4096)
-                except OSError:  # the other end is closed
-                    break
-                if not part:
-                    break
-                told += part
-        os.close(terminal)
-        self.assertEqual(process.returncode, 1)
-        self.assertRegex(told, rb"\[#+ *\] \d+/35 files, 1 refused, \d+ s to go")
+        status, told = run_on_terminal(COMMAND, "--quiet", self.folder)
+        self.assertEqual(status, 1)
+        self.assertRegex(told, rb"cif2cgd \[=+ *\] \d+/35 files, 1 refused, \d+ s left")
         self.assertTrue(told.endswith(b"\r\x1b[K"))
 
 

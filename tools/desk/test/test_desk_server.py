@@ -2,6 +2,7 @@
 
 import json
 import os
+import random
 import re
 import signal
 import socket
@@ -10,7 +11,8 @@ import unittest
 from concurrent.futures import ThreadPoolExecutor
 
 from desk import Server, form_of, memory_for_program, need_desk
-from testing import TOP
+from mutants import mutant
+from testing import IS_LONG, TOP
 
 need_desk()
 from crystal_nets.desk.application import CHOICES, CONVENTIONS, FILES, MOST_BYTES  # noqa: E402
@@ -19,6 +21,7 @@ from crystal_nets.structures.choice import Options  # noqa: E402
 from crystal_nets.structures.conventions import AUTO, CONVENTIONS as OF_CIF2CGD  # noqa: E402
 
 QUARTZ = (TOP / "examples/quartz.cif").read_bytes()
+FORMS = 2_000 if IS_LONG else 40
 SQL = b"PERIODIC_GRAPH\nEDGES\n1 1 1 0\n1 1 0 1\nEND\n"
 
 
@@ -116,6 +119,24 @@ class WhatIsSent(WithServer):
             self.reason(self.server.request("POST", "nets", body, Content_Type=kind), 400)
         for path in ("card", "pair", "crystal", "nets"):
             self.reason(self.server.request("POST", path), 400)
+
+    def test_mutants_of_forms(self):
+        """Each damaged form has an answer or a reason, and the server goes on."""
+        chance = random.Random(13)
+        block = SQL.decode()
+        forms = [(path, *form_of(fields)) for path, fields in (
+            ("nets", {"file": ("a.cgd", SQL), "first": "0", "convention": "auto", "choices": "[]"}),
+            ("nets", {"file": ("x.cif", QUARTZ), "first": "0", "convention": "all-atoms", "choices": '["keep_ions"]'}),
+            ("card", {"block": block, "name": "sql", "notes": '["one", "two"]', "refusal": ""}),
+            ("pair", {"one": block, "other": block}), ("crystal", {"block": block, "name": "sql"}))]
+        for _ in range(FORMS):
+            path, body, kind = chance.choice(forms)
+            damaged = mutant(body, chance)
+            status, _, told = self.server.request("POST", path, damaged, Content_Type=kind)
+            self.assertIn(status, (200, 400), damaged)
+            self.assertTrue(json.loads(told), damaged)
+            self.assertNotRegex(told, b"Traceback|could not do it", damaged)
+        self.assertEqual(self.server.nets("a.cgd", SQL)["total"], 1)
 
     def test_too_large_or_of_unknown_length(self):
         large = self.server.request("POST", "nets", b"x", Content_Length=str(MOST_BYTES + 1))

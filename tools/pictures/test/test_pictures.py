@@ -15,7 +15,7 @@ from shutil import which
 from mutants import Script, mutant
 from odd_cells import block, edges_of_archive, in_odd_cell
 from testing import (IS_LONG, PROGRAM, TOOLS, TOP, FolderTest, long_test, need_commands, need_modules, need_program,
-                     run)
+                     run, run_on_terminal)
 
 need_modules("numpy")
 sys.path.insert(0, str(TOOLS / "python"))
@@ -196,17 +196,17 @@ class Files(FolderTest):
     def test_damaged_reports_are_refused_and_nothing_is_drawn(self):
         """One number of the report on a net is changed, or the report is cut."""
         report = run(PROGRAM, "identify", TOP / "examples/dia.cgd").stdout
-        chance = random.Random(4)
+        script, chance = Script(DRAW, self.folder), random.Random(4)
         spots = [found for found in re.finditer(rb"-?\d+", report[report.index(b"placement"):report.index(b"key")])]
         start = report.index(b"placement")
-        for k in range(120 if IS_LONG else 12):
+        for k in range(400 if IS_LONG else 40):
             spot, change = chance.choice(spots), chance.choice((-2, -1, 1, 3, 10**6, 10**30))
             damaged = report[:start + spot.start()] + b"%d" % (int(spot[0]) + change) + report[start + spot.end():]
             if k % 3 == 2:
                 damaged = report[:chance.randrange(1, len(report) - 1)]
-            done = run(DRAW, "--svg", self.folder / str(k), stdin=damaged, status=None)
+            done = script.run("--svg", self.folder / str(k), stdin=damaged)
             self.assertNotIn(b"Traceback", done.stderr)
-            self.assertEqual((done.returncode, (self.folder / str(k)).exists()), (0, True) if done.returncode == 0 else (1, False))
+            self.assertEqual((done.status, (self.folder / str(k)).exists()), (0, True) if done.status == 0 else (1, False))
 
     def test_mutants_of_reports(self):
         """Of a damaged report each net with a key is drawn, or nothing; what has no picture is told."""
@@ -275,6 +275,13 @@ class Files(FolderTest):
         refused = run(PROGRAM, "identify", TOP / "examples/interwoven.cgd", status=1).stdout
         done = self.draw("--page", self.folder / "page.html", report=refused, status=1)
         self.assertEqual(done.stderr.count(b": no picture: refused"), 4)
+
+    def test_a_terminal_sees_a_bar(self):
+        for jobs in (1, 2):
+            page = self.folder / f"{jobs}.html"
+            status, told = run_on_terminal(DRAW, "--jobs", jobs, "--page", page, stdin=self.report)
+            self.assertEqual((status, page.exists()), (0, True))
+            self.assertRegex(told, rb"\rdraw_nets \[=+ *\] \d/8 nets, \d+ s left.*\r\x1b\[K$")
 
     def test_words_without_a_form(self):
         self.draw(status=2)

@@ -22,6 +22,11 @@ drawing    pictures
 errors     what is raised
 program    where net_tool is, and how it is run
 
+What the tools share:
+bar           a bar that says how far some work is
+files         files that are written whole or not at all
+side_by_side  work in several processes
+
 The packages under them:
 tables      tables of many nets, which net_table makes; read_table for pandas
 texts       the texts around net_tool: files of nets, reports, rows, archives, the graph of a key
@@ -41,7 +46,7 @@ if TYPE_CHECKING:
     from .asking import identify, identify_all, keys
     from .covers import Cover, cover
     from .drawing import svg
-    from .errors import (CrystalNetsError, NotANet, NotAnArchive, PackageMissing, ProgramFailed,
+    from .errors import (CrystalNetsError, NotANet, NotAnArchive, NotATable, PackageMissing, ProgramFailed,
                          ProgramNotFound)
     from .groups import Group, Groups, group
     from .maps import NetMap, Sameness, same
@@ -54,13 +59,13 @@ if TYPE_CHECKING:
 
 __version__ = "0.1"
 __all__ = ["Answer", "Answers", "Archive", "Component", "Components", "Cover", "CrystalNetsError", "Group", "Groups",
-           "Net", "NetMap", "NotANet", "NotAnArchive", "Outcome", "PackageMissing", "Placement", "PrimitiveGraph",
-           "ProgramFailed", "ProgramNotFound", "Sameness", "components", "cover", "find_program", "group", "identify",
-           "identify_all", "keys", "net_of_key", "read", "read_table", "same", "svg", "to_pandas"]
+           "Net", "NetMap", "NotANet", "NotATable", "NotAnArchive", "Outcome", "PackageMissing", "Placement",
+           "PrimitiveGraph", "ProgramFailed", "ProgramNotFound", "Sameness", "components", "cover", "find_program",
+           "group", "identify", "identify_all", "keys", "net_of_key", "read", "read_table", "same", "svg", "to_pandas"]
 
 HOMES = {"answers": "Answer Answers Placement PrimitiveGraph to_pandas", "archive": "Archive",
          "asking": "identify identify_all keys", "covers": "Cover cover", "drawing": "svg",
-         "errors": "CrystalNetsError NotANet NotAnArchive PackageMissing ProgramFailed ProgramNotFound",
+         "errors": "CrystalNetsError NotANet NotAnArchive NotATable PackageMissing ProgramFailed ProgramNotFound",
          "groups": "Group Groups group", "maps": "NetMap Sameness same", "net": "Net", "outcome": "Outcome",
          "parts": "Component Components components net_of_key", "program": "find_program", "reading": "read",
          "tables.columns": "read_table"}

@@ -22,6 +22,10 @@ class NotAnArchive(CrystalNetsError, ValueError):
     """A file is no archive, or the program computes other keys from its edges."""
 
 
+class NotATable(CrystalNetsError, ValueError):
+    """A file is no table of net_table, or is cut or damaged, for the reason that it is made with."""
+
+
 class ProgramNotFound(CrystalNetsError, FileNotFoundError):
     """net_tool is not there; the text says how it is built."""
 

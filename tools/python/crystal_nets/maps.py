@@ -4,6 +4,7 @@ from __future__ import annotations
 
 import re
 from dataclasses import dataclass, field
+from itertools import product
 from typing import Any
 
 from .asking import keys, single
@@ -108,19 +109,22 @@ def _sameness(told: bytes, nets: list[Net]) -> Sameness:
 
 def _map_of(told: bytes, begin: int, nets: list[Net]) -> NetMap:
     """The map of an item that begins there. Its vertices have the numbers of the graphs, and here their names."""
-    first, second = (net.vertices for net in nets)
-    period, images, base = 0, {}, []
+    first, second = (dict(enumerate(net.vertices, start=1)) for net in nets)
+    size, period = nets[0].dimension, 0
+    images: dict[Place, Place] = {}
+    base: list[tuple[int, ...]] = []
     for line in told[begin + 1:].decode().splitlines():
         word, *rest = line.split()
+        numbers = tuple(map(int, rest)) if word in ("period", "base", "image") else ()
         if word == "period":
-            period = int(rest[0])
+            period, = numbers
         elif word == "base":
-            base.append(tuple(map(int, rest)))
+            base.append(numbers)
         elif word == "image":
-            numbers = list(map(int, rest))
-            middle = len(numbers) // 2
-            image = (second[numbers[middle] - 1], tuple(numbers[middle + 1:]))
-            images[first[numbers[0] - 1], tuple(numbers[1:middle])] = image
-    if not period or not images or len(base) != nets[0].dimension:
+            (tail, *cell), (head, *there) = numbers[:size + 1], numbers[size + 1:]
+            images[first[tail], tuple(cell)] = second[head], tuple(there)
+    rows = [*base, *(cell for _, cell in images.values())]
+    is_whole = len(base) == size and len(images) == len(first) * period ** size and {len(row) for row in rows} == {size}
+    if not is_whole or images.keys() != set(product(first.values(), product(range(period), repeat=size))):
         raise ValueError("the map is cut")
     return NetMap(period, images, tuple(base), told.decode())

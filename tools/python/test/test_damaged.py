@@ -4,13 +4,15 @@ import random
 import sys
 from unittest import mock
 
-from testing import IS_LONG, TOOLS, TOP, FolderTest, need_modules, need_program
+from testing import IS_LONG, TOOLS, TOP, FolderTest, need_modules, need_program, run
 
 sys.path.insert(0, str(TOOLS / "python"))
-from crystal_nets import (Answer, Archive, CrystalNetsError, Net, NotAnArchive, NotANet, ProgramFailed,  # noqa: E402
-                          components, cover, identify, keys, read, same)
+from crystal_nets import (Answer, Archive, CrystalNetsError, Net, NotAnArchive, NotANet, NotATable,  # noqa: E402
+                          ProgramFailed, components, cover, identify, keys, read, read_table, same)
+from crystal_nets.tables.columns import TABLE  # noqa: E402
 
-TEXTS, GRAPHS, REPORTS, STRUCTURES = (800, 600, 600, 60) if not IS_LONG else (8000, 6000, 6000, 2000)
+TEXTS, GRAPHS, STRUCTURES = (800, 600, 60) if not IS_LONG else (8000, 6000, 2000)
+REPORTS, ARCHIVES, TABLES = (120, 40, 40) if not IS_LONG else (2000, 2000, 2000)  # reports of each command
 PIECES = (b"END\n", b'"', b"#", b"\x00", b"\xff\xfe", b"PERIODIC_GRAPH\n", b"NAME x\n", b"1 1 0 0 0\n", b"EDGES\n", b"9" * 30,
           b"-", b"\n", b"key 2 1 1 1 0\n", b"CRYSTAL\n", b"net 1 line 1\n", b" ", b"\t\r\n", "é".encode(), b"0", b"501")
 
@@ -90,12 +92,33 @@ class Texts(FolderTest):
         entry = (TOP / "archives/common.archive").read_bytes().split(b"entry ")[1]
         content += b"entry " + entry
         path = self.folder / "x.archive"
-        for _ in range(40):
+        for _ in range(ARCHIVES):
             path.write_bytes(damaged(content, seed))
             try:
                 Archive.load(path)
             except NotAnArchive:
                 pass
+
+
+    def test_tables(self):
+        """Of a damaged table all rows are read, each with its number, or none."""
+        need_program()
+        need_modules("pandas")
+        run(TOOLS / "batch/net_table", "--no-names", "--jobs", 1, TOP / "examples/mystery.cgd", self.folder)
+        seed = random.Random(11)
+        path = self.folder / "table.tsv"
+        whole, count = path.read_bytes(), 0
+        self.assertEqual(len(read_table(path)), 8)
+        for _ in range(TABLES):
+            content = damaged(whole, seed)
+            path.write_bytes(content)
+            try:
+                table = read_table(self.folder)
+            except NotATable:
+                continue
+            count += 1
+            self.assertEqual((len(table), set(table.columns)), (content.count(b"\n") - 1, set(TABLE)), content)
+        self.assertLess(count, TABLES)
 
 
 class Graphs(FolderTest):
@@ -132,10 +155,10 @@ class Reports(FolderTest):
     def try_damaged(self, module: str, ask: object, count: int, seed: int) -> None:
         """Asks with the report damaged on its way."""
         whole: list[tuple[int, bytes]] = []
-        run = getattr(sys.modules[f"crystal_nets.{module}"], "run")
+        asked = getattr(sys.modules[f"crystal_nets.{module}"], "run")
 
         def kept(*words: object, **settings: object) -> tuple[int, bytes]:
-            whole.append(run(*words, **settings))
+            whole.append(asked(*words, **settings))
             return whole[-1]
 
         with mock.patch(f"crystal_nets.{module}.run", kept):
@@ -159,4 +182,4 @@ class Reports(FolderTest):
                 ("maps", lambda: same(self.net, self.net)), ("parts", lambda: components(self.net, archive=None)),
                 ("covers", lambda: cover(self.net, [(1, 0, 0), (0, 2, 0), (0, 0, 1)])))):
             __import__(f"crystal_nets.{module}")
-            self.try_damaged(module, ask, REPORTS // 5, k)
+            self.try_damaged(module, ask, REPORTS, k)

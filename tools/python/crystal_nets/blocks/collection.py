@@ -10,14 +10,15 @@ import os
 import signal
 import subprocess
 import sys
-import time
 from collections.abc import Iterator
 from dataclasses import dataclass
 from pathlib import Path
 
+from ..bar import Bar
 from ..errors import in_words
+from ..files import write_whole
 from ..program import find_program
-from ..texts.net_text import MOST_BLOCKS, MOST_BYTES, NoReport, nets_of_report
+from ..texts.net_text import MOST_BLOCKS, MOST_BYTES, NetReport, NoReport, nets_of_report
 
 from .converter import Block, Converter, lines_of
 from .tokens import decoded, shown
@@ -75,26 +76,6 @@ class Collector(Converter):
         self.was_passing = self.is_passing
 
 
-class Bar:
-    """A bar on a terminal: how much of a task is done."""
-
-    def __init__(self, title: str, total: int) -> None:
-        self.title, self.total, self.done = title, max(1, total), 0
-        self.is_shown = sys.stderr.isatty()
-        self.last = 0.0
-
-    def step(self, count: int) -> None:
-        self.done += count
-        if self.is_shown and (time.monotonic() - self.last > 0.1 or self.done >= self.total):
-            self.last = time.monotonic()
-            share = min(1.0, self.done / self.total)
-            print(f"\r{self.title} [{'=' * round(40 * share):40}] {share:4.0%}", end="", file=sys.stderr, flush=True)
-
-    def end(self) -> None:
-        if self.is_shown:
-            print("\r\033[K", end="", file=sys.stderr, flush=True)
-
-
 def run(program: str, command: str, text: bytes) -> tuple[int, bytes]:
     """The status and the report of a command on a text."""
     done = subprocess.run([program, command, "-"], input=text, stdout=subprocess.PIPE)
@@ -105,37 +86,40 @@ def run(program: str, command: str, text: bytes) -> tuple[int, bytes]:
 
 def read_nets(files: list[str], refused: list[str]) -> list[Net]:
     """All blocks of the files."""
-    bar = Bar("reading", sum(os.path.getsize(file) for file in files if os.path.isfile(file)))
     nets: list[Net] = []
-    for file in files:
-        collector = Collector(file, refused)
-        with open(file, "rb") as stream:
-            for line, is_rest in lines_of(stream):
-                collector.push(line, is_rest)
-                bar.step(len(line))
-        collector.finish()
-        nets += collector.nets
-    bar.end()
+    with Bar("reading", sum(os.path.getsize(file) for file in files if os.path.isfile(file)), "bytes") as bar:
+        for file in files:
+            collector = Collector(file, refused)
+            with open(file, "rb") as stream:
+                for line, is_rest in lines_of(stream):
+                    collector.push(line, is_rest)
+                    bar.step(len(line))
+            collector.finish()
+            nets += collector.nets
     return nets
 
 
 def find_keys(nets: list[Net], program: str) -> Iterator[tuple[Net, str]]:
     """The nets with their names and keys, and why one has none."""
-    bar = Bar("keys", len(nets))
-    for k in range(0, len(nets), PIECE):
-        piece = nets[k:k + PIECE]
-        _, told = run(program, "key", b"".join(net.text for net in piece))
-        try:
-            reports = list(nets_of_report(told.splitlines(keepends=True)))
-        except NoReport as fault:
-            raise Failed(f"{program} key gave no report: {fault}") from fault
-        if len(reports) != len(piece):
-            raise Failed(f"{program} reports {len(reports)} nets of {len(piece)}")
-        for net, report in zip(piece, reports):
-            net.name, net.key = report.name, report.key
-            yield net, decoded(report.told)
-        bar.step(len(piece))
-    bar.end()
+    with Bar("keys", len(nets), "nets") as bar:
+        for k in range(0, len(nets), PIECE):
+            piece = nets[k:k + PIECE]
+            for net, report in zip(piece, keys_of_piece(piece, program), strict=True):
+                net.name, net.key = report.name, report.key
+                yield net, decoded(report.told)
+            bar.step(len(piece))
+
+
+def keys_of_piece(nets: list[Net], program: str) -> list[NetReport]:
+    """What the program reports of each net."""
+    _, told = run(program, "key", b"".join(net.text for net in nets))
+    try:
+        reports = list(nets_of_report(told.splitlines(keepends=True)))
+    except NoReport as fault:
+        raise Failed(f"{program} key gave no report: {fault}") from fault
+    if len(reports) != len(nets):
+        raise Failed(f"{program} reports {len(reports)} nets of {len(nets)}")
+    return reports
 
 
 def chosen(nets: Iterator[tuple[Net, str]], refused: list[str]) -> list[Net]:
@@ -176,13 +160,6 @@ def archives_of(nets: list[Net], program: str) -> Iterator[tuple[bytes, int]]:
 
 def archive_path(stem: Path, number: int) -> Path:
     return stem.with_name(stem.name + (f".{number}.archive" if number > 1 else ".archive"))
-
-
-def write_whole(path: Path, content: bytes) -> None:
-    """Writes a file beside its place, and moves it there once it is whole."""
-    part = path.with_name(path.name + ".part")
-    part.write_bytes(content)
-    part.replace(path)
 
 
 def make_archives(stem: Path, files: list[str]) -> int:

@@ -52,14 +52,8 @@ class Woven:
 class Coloured(Drawing):
     """A picture whose edges have the colours of their vertices."""
 
-    def _edges(self) -> None:
-        points = self.lens.seen(self.window.spots)
-        for i, j in self.window.whole:
-            colour = PALETTE[self.shape.kind[self.window.classes[i]] % len(PALETTE)]
-            self._line(self._surface(points[i], points[j]), self._surface(points[j], points[i]), colour, self.width)
-        whole, self.window.whole = self.window.whole, []
-        super()._edges()  # those that leave
-        self.window.whole = whole
+    def edge_colour(self, tail: int) -> str:
+        return PALETTE[self.shape.kind[self.window.classes[tail]] % len(PALETTE)]
 
 
 def woven(net: Net) -> Woven | None:

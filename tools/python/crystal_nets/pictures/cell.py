@@ -7,6 +7,7 @@ from __future__ import annotations
 
 import math
 from collections.abc import Callable, Iterator
+from functools import cache
 from itertools import combinations, product
 
 import numpy as np
@@ -45,27 +46,31 @@ def _length(rows: list[Row], gram: np.ndarray) -> float:
     return round(sum(float(np.array(row) @ gram @ np.array(row)) for row in rows), 6)
 
 
+@cache
+def _short_factors(dimension: int) -> np.ndarray:
+    """Small whole numbers without a common divisor, in rows: of two opposite rows one."""
+    rows = product(range(-REACH, REACH + 1), repeat=dimension)
+    return np.array([row for row in rows if math.gcd(*row) == 1 and next(x for x in row if x) > 0])
+
+
+def _direction(row: list[int]) -> Row:
+    """One of a row and its opposite."""
+    return max(tuple(row), tuple(-part for part in row))
+
+
 class Axes:
     """The short directions of a lattice, in orbits under a group of turns."""
 
     def __init__(self, gram: np.ndarray, turns: list[np.ndarray], start: np.ndarray) -> None:
         self.gram, self.turns = gram, turns
-        short = []
-        for factors in product(range(-REACH, REACH + 1), repeat=len(gram)):
-            if math.gcd(*factors) == 1 and next(x for x in factors if x) > 0:
-                row = np.array(factors) @ start
-                short.append((float(row @ gram @ row), self._direction(row)))
+        rows = _short_factors(len(gram)) @ start
+        lengths = np.einsum("ij,jk,ik->i", rows, gram, rows).round(6)
         seen: set[Row] = set()
         self.orbits: list[list[Row]] = []
-        for _, row in sorted(short):
+        for _, row in sorted(zip(lengths.tolist(), map(_direction, rows.tolist()))):
             if row not in seen:
-                self.orbits.append(sorted({self._direction(np.array(row) @ turn) for turn in turns}))
+                self.orbits.append(sorted(set(map(_direction, (np.array(row) @ np.array(turns)).tolist()))))
                 seen.update(self.orbits[-1])
-
-    @staticmethod
-    def _direction(row: np.ndarray) -> Row:
-        """One of a row and its opposite."""
-        return max(tuple(row.tolist()), tuple((-row).tolist()))
 
     def orbits_of(self, *sizes: int) -> list[list[Row]]:
         return [orbit for orbit in self.orbits if len(orbit) in sizes]

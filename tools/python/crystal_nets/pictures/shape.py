@@ -33,18 +33,17 @@ class Shape:
         cell, self.system = drawn_cell(gram, [symmetry.turn for symmetry in found])
         self.dimension = net.dimension
         self.order = len(found)
-        first = [int(min(symmetry.to[i] for symmetry in found)) for i in range(len(net.places))]
-        self.kind = [sorted(set(first)).index(value) for value in first]
-        self.kinds = len(set(first))
+        firsts, kinds = np.unique(np.min([symmetry.to for symmetry in found], axis=0), return_inverse=True)
+        self.kind: list[int] = kinds.tolist()
+        self.kinds = len(firsts)
         self.axes = np.linalg.cholesky(cell @ gram @ cell.T)  # rows; the first to the right
         to_cell = np.linalg.inv(cell)
         origin = _origin(net.places, found, self.system == "hexagonal" and self.dimension == 3)
         steps = _lattice_points(to_cell, abs(round(np.linalg.det(cell))))
         self.sites = into_cell(np.vstack([(net.places - origin) @ to_cell + step for step in steps]))
         self.site_class = np.tile(np.arange(len(net.places)), len(steps))
-        self.arcs: list[list[np.ndarray]] = [[] for _ in net.places]
-        for tail, _, vector in zip(*net.arcs()):
-            self.arcs[tail].append(vector @ to_cell)
+        tails, _, vectors = net.arcs()
+        self.arcs = [vectors[tails == k] @ to_cell for k in range(len(net.places))]  # of each class, a row for each
 
     @property
     def degrees(self) -> list[int]:
@@ -56,7 +55,7 @@ class Shape:
         return np.linalg.norm(self.axes, axis=1)
 
     def edge_lengths(self) -> np.ndarray:
-        return np.array([np.linalg.norm(vector @ self.axes) for arcs in self.arcs for vector in arcs])
+        return np.linalg.norm(np.concatenate(self.arcs) @ self.axes, axis=1)
 
     def window(self, low: np.ndarray, high: np.ndarray,
                inside: Callable[[np.ndarray], np.ndarray] | None = None) -> Window:
@@ -69,15 +68,13 @@ class Shape:
         if inside:
             shown &= inside(spots)
         spots, classes = spots[shown], classes[shown].tolist()
+        tails = np.repeat(np.arange(len(spots)), np.array([len(self.arcs[c]) for c in classes], int))
+        vectors = np.concatenate([self.arcs[c] for c in classes] or [spots])
         number = {tuple(mark): k for k, mark in enumerate(marks(spots).tolist())}
-        whole, leaving = [], []
-        for k, (spot, c) in enumerate(zip(spots, classes)):
-            for vector in self.arcs[c]:
-                end = number.get(tuple(marks(spot + vector).tolist()))
-                if end is None:
-                    leaving.append((k, vector))
-                elif k < end:
-                    whole.append((k, end))
+        heads = [number.get(tuple(mark)) for mark in marks(spots[tails] + vectors).tolist()]
+        arcs = list(zip(tails.tolist(), heads, vectors))
+        whole = [(tail, head) for tail, head, _ in arcs if head is not None and tail < head]
+        leaving = [(tail, vector) for tail, head, vector in arcs if head is None]
         return Window(spots, classes, whole, leaving)
 
 

@@ -54,59 +54,65 @@ class Drawing:
 
     def _edges(self) -> None:
         points = self.lens.seen(self.window.spots)
-        for i, j in self.window.whole:
-            p, q = points[i], points[j]
-            self._line(self._surface(p, q), self._surface(q, p), EDGE, self.width)
-        for (i, _), end in zip(self.window.leaving, self.lens.seen(self.view.stubs)):
-            self._line(self._surface(points[i], end), end, LEAVING, self.width * 0.8)
+        tails, heads = np.array(self.window.whole, int).reshape(-1, 2).T
+        colours = [self.edge_colour(tail) for tail in tails.tolist()]
+        self._lines(self._surfaces(points[tails], points[heads]), self._surfaces(points[heads], points[tails]), colours,
+                    self.width)
+        starts, ends = points[[tail for tail, _ in self.window.leaving]], self.lens.seen(self.view.stubs)
+        self._lines(self._surfaces(starts, ends), ends, [LEAVING] * len(ends), self.width * 0.8)
 
-    def _surface(self, p: np.ndarray, q: np.ndarray) -> np.ndarray:
-        """Where the way from p to q leaves the ball of p, so that nothing is drawn over it."""
+    def edge_colour(self, tail: int) -> str:
+        """Of a whole edge, by the number of the spot that it begins at."""
+        return EDGE
+
+    def _surfaces(self, starts: np.ndarray, ends: np.ndarray) -> np.ndarray:
+        """Where each way leaves the ball of its start, so that nothing is drawn over it."""
         if not self.in_space:
-            return p
+            return starts
         pull = 0.8 * self.radius / self.lens.scale
-        return p + (q - p) * min(0.45, pull / max(1e-9, float(np.linalg.norm(q - p))))
+        ways = ends - starts
+        return starts + ways * np.minimum(0.45, pull / np.maximum(1e-9, np.linalg.norm(ways, axis=1)))[:, None]
 
     def _outline(self) -> None:
         corners = self.view.corners
         cuts = np.linspace(0, 1, 7 if self.in_space else 2)[:, None]
         for m, n in self.view.outline:
             points = self.lens.seen(corners[m] * (1 - cuts) + corners[n] * cuts)
-            for p, q in zip(points, points[1:]):
-                self._line(p, q, OUTLINE, 1.1, in_front=1e-4 if self.in_space else 5.0, halo=False)
+            self._lines(points[:-1], points[1:], [OUTLINE] * (len(points) - 1), 1.1,
+                        in_front=1e-4 if self.in_space else 5.0, has_halo=False)
 
-    def _line(self, p: np.ndarray, q: np.ndarray, colour: str, width: float, in_front: float = 0.0,
-              halo: bool = True) -> None:
-        (x, y), (u, v) = self.lens.to_page(p), self.lens.to_page(q)
-        z = (p[2] + q[2]) / 2
-        depth = self.lens.depth(z)
-        width *= 1 - 0.35 * depth
-        path = f"M{number(x)} {number(y)}L{number(u)} {number(v)}"
-        text = f'<path d="{path}" stroke="{misty(colour, depth)}" stroke-width="{width:.1f}"/>'
-        if halo and self.in_space:
-            text = f'<path d="{path}" stroke="#fff" stroke-width="{width + HALO:.1f}"/>' + text
-        self.parts.append((z + in_front, text))
+    def _lines(self, starts: np.ndarray, ends: np.ndarray, colours: list[str], width: float, in_front: float = 0.0,
+               has_halo: bool = True) -> None:
+        """Lines between points as `Lens.seen` gives them."""
+        heights = ((starts[:, 2] + ends[:, 2]) / 2).tolist()
+        for p, q, z, colour in zip(self.lens.to_page(starts), self.lens.to_page(ends), heights, colours):
+            depth = self.lens.depth(z)
+            wide = width * (1 - 0.35 * depth)
+            path = "M%s %sL%s %s" % (*map(number, p), *map(number, q))
+            text = f'<path d="{path}" stroke="{misty(colour, depth)}" stroke-width="{wide:.1f}"/>'
+            if has_halo and self.in_space:
+                text = f'<path d="{path}" stroke="#fff" stroke-width="{wide + HALO:.1f}"/>' + text
+            self.parts.append((z + in_front, text))
 
     def _vertices(self) -> None:
-        for point, c in zip(self.lens.seen(self.window.spots), self.window.classes):
-            depth, kind = self.lens.depth(point[2]), self.shape.kind[c]
+        points = self.lens.seen(self.window.spots)
+        for (x, y), z, c in zip(self.lens.to_page(points), points[:, 2].tolist(), self.window.classes):
+            depth, kind = self.lens.depth(z), self.shape.kind[c]
             colour, level = kind % len(PALETTE), round(depth * LEVELS)
             self.balls.add((colour, level))
-            x, y = map(number, self.lens.to_page(point))
-            radius = self.radius * self.lens.grow(point[2])
-            text = (f'<circle cx="{x}" cy="{y}" r="{radius:.1f}" fill="url(#k{colour}l{level})" '
+            radius, place = self.radius * self.lens.grow(z), f'cx="{number(x)}" cy="{number(y)}"'
+            text = (f'<circle {place} r="{radius:.1f}" fill="url(#k{colour}l{level})" '
                     f'stroke="{misty(RIM, min(1, depth + 0.15))}"/>')
             if kind >= len(PALETTE):
-                text += f'<circle cx="{x}" cy="{y}" r="{radius * 0.4:.1f}" fill="#fff"/>'
-            self.parts.append((point[2] + (2e-4 if self.in_space else 9.0), text))
+                text += f'<circle {place} r="{radius * 0.4:.1f}" fill="#fff"/>'
+            self.parts.append((z + (2e-4 if self.in_space else 9.0), text))
 
     def _letters(self) -> list[str]:
         """The names of the axes at the ends of those that are long enough in the picture."""
         dimension = self.shape.dimension
-        u, v = self.lens.to_page(self.lens.seen(np.zeros(dimension))[0])
+        (u, v), *tips = self.lens.to_page(self.lens.seen(np.vstack([np.zeros(dimension), np.eye(dimension)])))
         letters = []
-        for axis, letter in zip(np.eye(dimension), "abc"):
-            x, y = self.lens.to_page(self.lens.seen(axis)[0])
+        for (x, y), letter in zip(tips, "abc"):
             length = float(np.hypot(x - u, y - v))
             if length < 30:
                 continue
@@ -159,9 +165,10 @@ class Lens:
             return (self.near - z) / (self.near - self.far) if self.near > self.far + 1e-9 else 0.0
         return 0.8 * min(1.0, max(0.0, (-z - 0.62) / 0.38))
 
-    def to_page(self, point: np.ndarray) -> tuple[float, float]:
-        x, y = (point[:2] - self.shift) * self.scale
-        return SIZE / 2 + float(x), SIZE / 2 - float(y)
+    def to_page(self, points: np.ndarray) -> list[tuple[float, float]]:
+        """Where points that are seen stand on the page."""
+        rows: list[list[float]] = ((points[:, :2] - self.shift) * self.scale).tolist()
+        return [(SIZE / 2 + x, SIZE / 2 - y) for x, y in rows]
 
 
 def gradient(ball: tuple[int, int]) -> str:

@@ -2,8 +2,6 @@
 
 from __future__ import annotations
 
-import numpy as np
-
 from ..texts.net_text import NetReport
 
 from .shape import Shape
@@ -11,26 +9,19 @@ from .shape import Shape
 # Okabe and Ito's colours, which colour-blind readers tell apart. From the ninth kind of vertex on
 # they come again, with a white dot.
 PALETTE = ("#0072B2", "#D55E00", "#009E73", "#CC79A7", "#E69F00", "#56B4E9", "#F0E442", "#404040")
-PAPER = np.full(3, 255.0)
+PAPER = 255.0  # each part of its colour
 MIST = 0.72  # how far the colours behind are from those in front, on the way to that of the paper
 
 
-def rgb(colour: str) -> np.ndarray:
-    return np.array([int(colour[i:i + 2], 16) for i in (1, 3, 5)], float)
-
-
-def colour_of(parts: np.ndarray) -> str:
-    return "#%02x%02x%02x" % tuple(int(part) for part in parts)
+def mixed(colour: str, grey: float, share: float) -> str:
+    """The colour with a share of a grey."""
+    parts = (int(colour[i:i + 2], 16) for i in (1, 3, 5))
+    return "#%02x%02x%02x" % tuple(int(part * (1 - share) + grey * share) for part in parts)
 
 
 def misty(colour: str, depth: float) -> str:
     """The colour, nearer to that of the paper as it lies deeper: depth 0 is in front, 1 behind."""
-    return colour_of(rgb(colour) * (1 - MIST * depth) + PAPER * MIST * depth)
-
-
-def mixed(colour: str, other: float, share: float) -> str:
-    """The colour with a share of a grey."""
-    return colour_of(rgb(colour) * (1 - share) + other * share)
+    return mixed(colour, PAPER, MIST * depth)
 
 
 def printable(text: bytes | str) -> str:

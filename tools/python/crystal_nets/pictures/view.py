@@ -143,32 +143,33 @@ def hidden_shares(shape: Shape, window: Window, frames: np.ndarray) -> np.ndarra
     ends = np.array(window.whole, int).reshape(-1, 2)
     if not len(ends):
         return np.zeros(len(frames))
-    points = np.einsum("pi,nji->npj", window.spots @ shape.axes, frames)
-    whole = points[:, ends[:, 1]] - points[:, ends[:, 0]]
-    lengths = np.linalg.norm(whole[0], axis=1)
+    spots = window.spots @ shape.axes
+    lengths = np.linalg.norm(spots[ends[:, 1]] - spots[ends[:, 0]], axis=1)
     near = 0.3 * float(np.median(lengths))
-    squares = np.maximum((whole[:, :, :2] ** 2).sum(axis=2), 1e-9)
-    end_on = np.clip(1 - np.sqrt(squares) / (0.45 * lengths), 0, 1).mean(axis=1)
-    in_front = np.clip(1 - _gaps(points) / near, 0, 1).sum(axis=1)
-    covered = np.clip(1 - _gaps_to_edges(points, whole, squares, ends) / (0.6 * near), 0, 1).sum(axis=(1, 2))
-    return (2 * in_front + covered) / points.shape[1] + 2 * end_on
+    return np.array([_hidden(frame[:2] @ spots.T, ends, lengths, near) for frame in frames])
 
 
-def _gaps(points: np.ndarray) -> np.ndarray:
-    """How far each two vertices are apart in the picture, for each frame."""
-    one, other = np.triu_indices(points.shape[1], 1)
-    return np.hypot(*np.moveaxis(points[:, one, :2] - points[:, other, :2], 2, 0))
-
-
-def _gaps_to_edges(points: np.ndarray, whole: np.ndarray, squares: np.ndarray, ends: np.ndarray) -> np.ndarray:
-    """How far each vertex is from each edge in the picture, for each frame; of the ends of an edge it is as if they were far."""
-    x, y = (points[:, :, None, k] - points[:, None, ends[:, 0], k] for k in (0, 1))
-    u, v = (whole[:, None, :, k] for k in (0, 1))
-    share = np.clip((x * u + y * v) / squares[:, None], 0, 1)
-    gaps = np.hypot(x - share * u, y - share * v)
+def _hidden(points: np.ndarray, ends: np.ndarray, lengths: np.ndarray, near: float) -> float:
+    """How much is hidden where the vertices are seen at points of the picture, of shape (2, n)."""
+    x, y = points
+    tails, heads = ends.T
+    u, v = x[heads] - x[tails], y[heads] - y[tails]
+    squares = np.maximum(u * u + v * v, 1e-9)
+    end_on = np.maximum(1 - np.sqrt(squares) / (0.45 * lengths), 0).sum() / len(ends)
+    gaps = (x[:, None] - x) ** 2 + (y[:, None] - y) ** 2
+    in_front = (_nearness(gaps, near) - len(x)) / 2  # of each two vertices once, and of none to itself
+    x, y = x[:, None] - x[tails], y[:, None] - y[tails]
+    share = np.minimum(np.maximum((x * u + y * v) / squares, 0), 1)  # of an edge, up to the point that is nearest
+    gaps = (x - share * u) ** 2 + (y - share * v) ** 2
     numbers = np.arange(len(ends))
-    gaps[:, ends[:, 0], numbers] = gaps[:, ends[:, 1], numbers] = np.inf
-    return gaps
+    gaps[tails, numbers] = gaps[heads, numbers] = np.inf
+    return float((2 * in_front + _nearness(gaps, 0.6 * near)) / points.shape[1] + 2 * end_on)
+
+
+def _nearness(squares: np.ndarray, reach: float) -> float:
+    """How much is nearer than the reach: of squares of gaps the sum of 1 - gap / reach, where that is not below 0."""
+    near = squares[squares < reach * reach]
+    return len(near) - float(np.sqrt(near).sum()) / reach
 
 
 def _frames(shape: Shape, along: int, turns: list[tuple[int, int]]) -> np.ndarray:

@@ -12,4 +12,4 @@ units, conventions              building units, and what is a vertex by the conv
 choice                          what is left out, and what a reader should know of each net
 translations                    the net of a cell that is several times the primitive one
 cgd, conversion                 the text that is written, and what became of a file
-files, progress, command        files and their names, the bar, the words of the command line"""
+files, command                  files and their names, the words of the command line"""

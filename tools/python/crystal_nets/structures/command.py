@@ -16,11 +16,12 @@ from itertools import islice
 
 import gemmi
 
+from ..bar import Bar
+
 from .choice import Options
 from .conventions import AUTO, CONVENTIONS
 from .conversion import Conversion, Source, read_and_convert
 from .files import files_of, sources_of
-from .progress import Progress
 
 DESCRIPTION = """The underlying nets of crystal structures, for net_tool: reads CIF files, and all of a folder,
 and writes a block PERIODIC_GRAPH for each net to standard output. What a reader should know of
@@ -112,21 +113,21 @@ def main() -> int:
     except OSError as error:
         print(f"cif2cgd: {asked.notes}: not writable: {error.strerror}", file=sys.stderr)
         return USAGE
-    with Progress(len(sources)) as progress:
-        status = DONE
+    refused = 0
+    with Bar("cif2cgd", len(sources), "files") as bar:
         for done in conversions(sources, options_of(asked), asked.jobs):
-            progress.tell(done.told(refusals_alone=asked.quiet))
+            bar.tell(done.told(refusals_alone=asked.quiet))
             sys.stdout.buffer.write(done.text.encode())
             if notes:
                 print(done.json_line(), file=notes)
-            status = SOME_REFUSED if done.is_refused else status
-            progress.step(done.is_refused)
+            refused += done.is_refused
+            bar.step(note=f", {refused} refused")
     if notes:
         notes.close()
     if not sources:
         print("cif2cgd: no structure files in " + " ".join(asked.files), file=sys.stderr)
         return SOME_REFUSED
-    return status
+    return SOME_REFUSED if refused else DONE
 
 
 def conversions(sources: list[Source], options: Options, jobs: int) -> Iterator[Conversion]:

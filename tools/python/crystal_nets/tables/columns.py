@@ -7,7 +7,7 @@ import re
 from pathlib import Path
 from typing import TYPE_CHECKING
 
-from ..errors import PackageMissing
+from ..errors import NotATable, PackageMissing
 from ..texts.row_text import ESCAPES
 
 if TYPE_CHECKING:
@@ -45,12 +45,26 @@ def line_of(fields: tuple[str, ...]) -> bytes:
 def read_table(path: str | os.PathLike[str]) -> pandas.DataFrame:
     """The table that net_table made, of its folder or file, as a `pandas.DataFrame`. Numbers that are not there are NA,
     texts are empty. The fields `sequences`, `names` and `notes` have `;` between their parts, as README.md of
-    tools/batch says."""
+    tools/batch says. NotATable where it is none, or is cut."""
     try:
         import pandas
     except ImportError:
         raise PackageMissing("pandas is not there; apt-get install python3-pandas") from None
     file = Path(path) / "table.tsv" if Path(path).is_dir() else Path(path)
-    return pandas.read_csv(file, sep="\t", dtype={name: "Int64" if name in NUMBERS else "str" for name in TABLE},
-                           keep_default_na=False, na_values={name: [""] for name in NUMBERS}, quoting=QUOTE_NONE,
-                           encoding_errors="surrogateescape")
+    _check_lines(file)
+    try:
+        return pandas.read_csv(file, sep="\t", dtype={name: "Int64" if name in NUMBERS else "str" for name in TABLE},
+                               keep_default_na=False, na_values={name: [""] for name in NUMBERS}, quoting=QUOTE_NONE,
+                               encoding_errors="surrogateescape", lineterminator="\n")
+    except (ValueError, TypeError, OverflowError) as fault:  # of a number that is none
+        raise NotATable(f"{file}: {fault}") from None
+
+
+def _check_lines(file: Path) -> None:
+    """NotATable where a file has no table of net_table in its form: pandas takes a line that is cut for a whole one."""
+    with open(file, "rb") as lines:
+        if next(lines, b"") != line_of(TABLE):
+            raise NotATable(f"{file} is no table of net_table: its first line has not the names of the columns")
+        for number, line in enumerate(lines, start=2):
+            if line.count(b"\t") != len(TABLE) - 1 or not line.endswith(b"\n"):
+                raise NotATable(f"{file}: line {number} is no row of a table, or is cut: {line[:60]!r}")

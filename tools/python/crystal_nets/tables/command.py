@@ -17,11 +17,13 @@ from pathlib import Path
 from typing import Any
 
 from ..archive import Archive, default_files, files_of as archive_files
+from ..bar import Bar
 from ..errors import CrystalNetsError, ProgramFailed, in_words
-from ..pictures.side_by_side import Bar, processors
+from ..files import write_whole
+from ..side_by_side import processors
 from .join import FILES, join
-from .piece import make_rows, rows_of
-from .plan import Failed, Plan, files_of, plan_of, read_plan, state_of, write_whole
+from .piece import make_rows, path_of, rows_of
+from .plan import Failed, Plan, files_of, plan_of, read_plan, state_of
 
 DESCRIPTION = """The table of all nets of a source: a folder of structure files (.cif) and files of nets (.cgd,
 .arc), or one such file, with any number of nets. FOLDER gets table.tsv, a line for each net; groups.tsv, the nets
@@ -109,22 +111,21 @@ def planned(asked: argparse.Namespace, folder: Path, work: Path) -> Plan:
         return plan
     plan = plan_of(files, settings)
     work.mkdir(parents=True, exist_ok=True)
-    write_whole(path, plan.text.encode(errors="surrogateescape"))
+    write_whole(path, plan.content)
     return plan
 
 
 def make_pieces(work: Path, plan: Plan, numbers: list[int], jobs: int) -> None:
     """Makes the rows of those pieces that have none."""
     missing = [number for number in numbers if rows_of(work, plan, number) is None]
-    bar = Bar("net_table", len(missing))
-    try:
+    with Bar("net_table", len(missing), "pieces") as bar:
         if jobs == 1 or len(missing) < 2:
             for number in missing:
-                make_rows(work, plan, number)
+                make_rows(path_of(work, number), plan.piece(number))
                 bar.step()
             return
         with ProcessPoolExecutor(min(jobs, len(missing)), initializer=end_with_parent, initargs=(os.getpid(),)) as pool:
-            futures = [pool.submit(make_rows, work, plan, number) for number in missing]
+            futures = [pool.submit(make_rows, path_of(work, number), plan.piece(number)) for number in missing]
             try:
                 for future in as_completed(futures):
                     future.result()
@@ -132,8 +133,6 @@ def make_pieces(work: Path, plan: Plan, numbers: list[int], jobs: int) -> None:
             except BaseException:
                 pool.shutdown(cancel_futures=True)
                 raise
-    finally:
-        bar.end()
 
 
 def end_with_parent(parent: int) -> None:

@@ -3,8 +3,6 @@
 from __future__ import annotations
 
 import contextlib
-import os
-import subprocess
 from array import array
 from collections.abc import Iterator
 from dataclasses import dataclass, field
@@ -16,6 +14,7 @@ from ..archive import Archive
 from .columns import OF_A_PIECE, TABLE, joined, line_of
 from .piece import rows_of
 from .plan import Failed, Plan
+from .sorting import sorted_lines
 
 FILES = ("table.tsv", "groups.tsv", "names.tsv", "refused.tsv")
 NAME, OUTCOME, KEY = (OF_A_PIECE.index(column) for column in ("name", "outcome", "key"))
@@ -78,27 +77,11 @@ def _write_groups(file: BinaryIO, work: Path, plan: Plan, archive: Archive | Non
 
 
 def _sorted_by_key(work: Path, plan: Plan) -> Iterator[tuple[bytes, int]]:
-    """Key and number of each net with a key, sorted by `sort`, which uses the disk where they are many."""
-    sorter = subprocess.Popen(["sort", "-t", "\t", "-k", "1,1", "-k", "2,2n"], stdin=subprocess.PIPE,
-                              stdout=subprocess.PIPE, env={**os.environ, "LC_ALL": "C"})
-    assert sorter.stdin and sorter.stdout
-    try:
-        for number, row in enumerate(_rows(work, plan), start=1):
-            if row[KEY]:
-                sorter.stdin.write(b"%s\t%d\n" % (row[KEY], number))
-        sorter.stdin.close()
-        for line in sorter.stdout:
-            key, _, number_text = line.partition(b"\t")
-            yield key, int(number_text)
-    except BaseException:
-        sorter.kill()
-        with contextlib.suppress(BrokenPipeError):
-            sorter.stdin.close()
-        sorter.wait()
-        raise
-    sorter.stdout.close()
-    if sorter.wait():
-        raise Failed(f"sort ended with {sorter.returncode}")
+    """Key and number of each net with a key, sorted by both."""
+    keyed = (b"%s\t%d\n" % (row[KEY], number) for number, row in enumerate(_rows(work, plan), start=1) if row[KEY])
+    for line in sorted_lines(keyed, "1,1", "2,2n"):
+        key, _, number_text = line.partition(b"\t")
+        yield key, int(number_text)
 
 
 def _write_rows(table: BinaryIO, names: BinaryIO, refused: BinaryIO, work: Path, plan: Plan, archive: Archive | None,

@@ -12,11 +12,12 @@ from typing import Any
 from ..answers import Answer, short_outcome
 from ..asking import identify_all, keys
 from ..errors import NotANet
+from ..files import write_whole
 from ..net import Net
 from ..reading import net_of_chunk, nets_of_cif
 from ..texts.net_text import chunks_of
 from .columns import OF_A_PIECE, escaped, joined, line_of
-from .plan import FORM, Plan, Portion, write_whole
+from .plan import FORM, Piece, Plan, Portion
 
 Found = tuple[str, int, Net]  # the file, the line of the block or 0, and the net
 
@@ -25,13 +26,13 @@ def path_of(folder: Path, number: int) -> Path:
     return folder / f"{number:06}.rows"
 
 
-def make_rows(folder: Path, plan: Plan, number: int) -> None:
-    """Writes the rows of the piece with this number, counted from 1."""
-    found = [item for portion in plan.pieces[number - 1] for item in nets_of_portion(portion, plan.settings)]
+def make_rows(path: Path, piece: Piece) -> None:
+    """Writes the rows of a piece."""
+    found = [item for portion in piece.portions for item in nets_of_portion(portion, piece.settings)]
     nets = [net for _, _, net in found]
-    answers = identify_all(nets, archive=None) if plan.settings["command"] == "identify" else keys(nets)
+    answers = identify_all(nets, archive=None) if piece.settings["command"] == "identify" else keys(nets)
     content = b"".join(_row(source, line, answer) for (source, line, _), answer in zip(found, answers, strict=True))
-    write_whole(path_of(folder, number), _head(plan, content) + content)
+    write_whole(path, _head(piece.mark, content) + content)
 
 
 def rows_of(folder: Path, plan: Plan, number: int) -> list[bytes] | None:
@@ -41,11 +42,11 @@ def rows_of(folder: Path, plan: Plan, number: int) -> list[bytes] | None:
     except FileNotFoundError:
         return None
     head, _, rows = content.partition(b"\n")
-    return rows.splitlines(keepends=True) if head + b"\n" == _head(plan, rows) else None
+    return rows.splitlines(keepends=True) if head + b"\n" == _head(plan.mark, rows) else None
 
 
-def _head(plan: Plan, rows: bytes) -> bytes:
-    return f"{FORM} {plan.mark} {hashlib.sha256(rows).hexdigest()}\n".encode()
+def _head(mark: str, rows: bytes) -> bytes:
+    return f"{FORM} {mark} {hashlib.sha256(rows).hexdigest()}\n".encode()
 
 
 def nets_of_portion(portion: Portion, settings: dict[str, Any]) -> list[Found]:

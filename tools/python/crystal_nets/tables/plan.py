@@ -7,13 +7,14 @@ import json
 import os
 from collections.abc import Iterator
 from dataclasses import dataclass, field
+from functools import cached_property
 from pathlib import Path
 from typing import Any, NamedTuple
 
 from ..reading import CIF, CIF_SUFFIXES, SUFFIXES
 from ..texts.net_text import FIRST_TOKEN, ITEM_WORDS, chunks_of
 
-FORM = "net_table 1"
+FORM = "net_table 2"
 MOST_BLOCKS = 1_000      # of a piece: few enough that little is lost where a run breaks off
 MOST_BYTES = 4_000_000
 MOST_STRUCTURES = 40     # files, which take longer than blocks
@@ -35,17 +36,30 @@ class Portion(NamedTuple):
     kind: str  # `structure`, `blocks` or `items`
 
 
+@dataclass(frozen=True)
+class Piece:
+    """What one process does at a time: portions of files, and with which settings; the mark is that of the plan."""
+
+    portions: list[Portion]
+    settings: dict[str, Any]
+    mark: str
+
+
 @dataclass
 class Plan:
-    """The settings, and the pieces in their order."""
+    """The settings, and the portions of each piece in their order. It does not change once its mark was asked for."""
 
     settings: dict[str, Any]
     pieces: list[list[Portion]] = field(default_factory=list)
 
-    @property
+    @cached_property
     def mark(self) -> str:
         """16 digits of the SHA-256 of all of it: rows of another plan are not taken for those of this one."""
         return hashlib.sha256(self.text.encode()).hexdigest()[:16]
+
+    def piece(self, number: int) -> Piece:
+        """The piece with this number, counted from 1."""
+        return Piece(self.pieces[number - 1], self.settings, self.mark)
 
     @property
     def text(self) -> str:
@@ -53,26 +67,25 @@ class Plan:
         lines += [json.dumps(piece) for piece in self.pieces]
         return "\n".join(lines) + "\n"
 
+    @property
+    def content(self) -> bytes:
+        """What a file of the plan has: its text, and its mark in a line."""
+        return f"{self.text}{self.mark}\n".encode()
+
 
 def read_plan(path: Path) -> Plan:
-    """The plan of a file. Failed where it is none."""
+    """The plan of a file. Failed where it is none, or not what was written."""
+    content = path.read_bytes()
     try:
-        head, *rest = path.read_text(encoding="utf-8", errors="surrogateescape").splitlines()
+        head, *rest, _ = content.decode("ascii").split("\n")[:-1]
         settings = json.loads(head)
-        pieces = [[Portion(*portion) for portion in json.loads(line)] for line in rest]
-        if settings.pop("form") != FORM:
-            raise ValueError
-    except (ValueError, TypeError, KeyError, AttributeError):
-        raise Failed(f"{path} is no plan of net_table; take another folder") from None
-    return Plan(settings, pieces)
-
-
-def write_whole(path: Path, content: bytes) -> None:
-    """Writes a file beside its place, and moves it there once it is whole."""
-    part = path.with_name(f"{path.name}.part")
-    with open(part, "wb") as file:
-        file.write(content)
-    part.replace(path)
+        plan = Plan(settings, [[Portion(*portion) for portion in json.loads(line)] for line in rest])
+        is_right = settings.pop("form") == FORM and plan.content == content
+    except (ValueError, TypeError, KeyError, AttributeError, RecursionError):
+        is_right = False
+    if not is_right:
+        raise Failed(f"{path} is no plan of net_table, or was changed; take another folder")
+    return plan
 
 
 def files_of(source: Path) -> list[Path]:
