@@ -1,24 +1,19 @@
 -- Clap reads all arguments as they are said.
 use Rattle.std.proofs.Common.{◌≡◌, ◌∙◌, refl, sym, ap, subst, Bool, List, [], ◌∷◌, Some, None, is_some, true, false, cond, option_map}
 use Rattle.std.specs.Str.{bytes_eq}
-use Rattle.clap.specs.Lexer.{long_of, short_of}
-use Rattle.clap.specs.Words.{Row, Text}
-use Rattle.clap.specs.Walk.{idle}
-use Rattle.clap.specs.declared.error.kind.ErrorKind.TheVariants as kind
+use Rattle.clap.specs.{Lexer.long_of, Lexer.short_of, Words.Row, Words.Text, Walk.idle}
 use Rattle.command_words.specs.Words.{Place, Command, Second, Said, at, without_wait, fill, is_plain, option_word, read_positional, put, read, step}
-use Rattle.command_words.proofs.Rules.{id_of, use_none}
 use Rattle.command_words.proofs.States.{IsSound, Pending, bad_pending, end_fault, end_rows, good_pending, pending_fault}
 use Rattle.command_words.proofs.Walks.{means_cons, means_nil, means_none, none_cons, none_nil}
 use Rattle.command_words.proofs.Stages.{Stage, First, Next, Full, IsStageOf, IsFilled, filled_first, filled_next, place_of, said_full, some_kind}
-use Rattle.command_words.proofs.TrailingWords.{bad_trailing, trailing}
 use Rattle.command_words.proofs.Turns.{dashes_moved, dashes_turn, waiting_for}
-use Rattle.command_words.proofs.LongTurns.{refused_turn}
 use Rattle.command_words.proofs.OtherTurns.{given_moved, given_turn, plain_moved, plain_turn, short_turn}
 use Rattle.command_words.proofs.Looks.{Look, dashes, long, plain, short}
-use Rattle.command_words.proofs.WordLooks.{look}
 use Rattle.command_words.proofs.Readings.{AreReadAlike, IsMeaningAt, AreUtf8, IsWaiting, as_read, bad_idle, no_step, plain_step, read_as, read_dashes}
 use Rattle.command_words.proofs.Readings.{stands_option}
 use Rattle.command_words.proofs.OptionWords.{fill_once, fill_twice, long_read}
+use Rattle.command_words.proofs.{Rules.id_of, Rules.use_none, TrailingWords.bad_trailing, TrailingWords.trailing, LongTurns.refused_turn, WordLooks.look}
+use Rattle.clap.specs.declared.error.kind.ErrorKind.TheVariants as kind
 
 -- a positional argument
 module _ (said : Said) (word : Text) (words : List Text) (later : AreReadAlike words) (rows : List Row) (pending : Pending) (g : IsSound said rows pending)

@@ -1,10 +1,8 @@
 -- An argument cut at its first `=`.
 use Rattle.std.proofs.Common.{◌≡◌, ◌∙◌, refl, sym, ap, ℕ, Bool, [], ◌∷◌, ◌++◌, Option, Some, None, true, false, cond, ◌==◌, ◌||◌, ◌&&◌, arith, true≢false}
 use Rattle.std.proofs.lemmas.Grind.{common_steps}
-use Rattle.std.specs.List.{after_first, before_first}
-use Rattle.std.specs.Str.{bytes_eq}
-use Rattle.clap.specs.Lexer.{has_byte}
-use Rattle.clap.specs.Words.{Text}
+use Rattle.std.specs.{List.after_first, List.before_first, Str.bytes_eq}
+use Rattle.clap.specs.{Lexer.has_byte, Words.Text}
 use Rattle.command_words.specs.Words.{after}
 
 -- the byte is `=`
@@ -29,12 +27,7 @@ other_text (b ∷ bs) (x ∷ xs) e f = go (λ e f. other_text bs xs e f) (x == b
   where
     go : (has_byte 61 bs ≡ false → has_byte 61 xs ≡ true → bytes_eq xs bs ≡ false) → (s : Bool) → (x == b) ≡ s → (q : Bool) → (b == 61) ≡ q
         → (q || has_byte 61 bs) ≡ false → (s && bytes_eq xs bs) ≡ false
-    go later false s q eq h = refl
-    go later true s true eq h = absurd (true≢false h)
-    go later true s false eq h = later h (ap (λ (y : Bool). y || has_byte 61 xs) (sym (not_equals)) ∙ f)
-      where
-        not_equals : (x == 61) ≡ false
-        not_equals = grind (arith, common_steps)
+    go k s l q p r = grind arith
 
 -- a text that has no `=` does not begin with a name and `=`
 pub never_after : (name text : Text) → has_byte 61 text ≡ false → after (name ++ equals) text ≡ None
@@ -48,9 +41,7 @@ never_after (b ∷ bs) [] e = refl
 never_after (b ∷ bs) (x ∷ xs) e = go (never_after bs xs) (x == b) (x == 61) e
   where
     go : (has_byte 61 xs ≡ false → after (bs ++ equals) xs ≡ None) → (s q : Bool) → (q || has_byte 61 xs) ≡ false → cond s (after (bs ++ equals) xs) None ≡ None
-    go later false q h = refl
-    go later true true h = absurd (true≢false h)
-    go later true false h = later h
+    go k s q l = search arith
 
 -- a text that has no `=` is whole before the first one
 pub before_whole : (text : Text) → has_byte 61 text ≡ false → before_first is_equals text ≡ text
@@ -59,8 +50,7 @@ before_whole (x ∷ xs) e = before_cons x xs ∙ go (before_whole xs) (x == 61) 
   where
     go : (has_byte 61 xs ≡ false → before_first is_equals xs ≡ xs) → (q : Bool) → (q || has_byte 61 xs) ≡ false
         → cond q [] (x ∷ before_first is_equals xs) ≡ x ∷ xs
-    go later true h = absurd (true≢false h)
-    go later false h = ap (λ (t : Text). x ∷ t) (later h)
+    go k q l = search arith
 
 -- the value after `=`, where the name is this one
 abbrev pub value_after : Text → Text → Text → Option Text
@@ -90,12 +80,4 @@ after_name (b ∷ bs) (x ∷ xs) e f = go (after_name bs xs) (x == b) refl (x ==
     go : (has_byte 61 bs ≡ false → has_byte 61 xs ≡ true → after (bs ++ equals) xs ≡ value_after bs (before_first is_equals xs) (after_first is_equals xs))
         → (s : Bool) → (x == b) ≡ s → (q : Bool) → (x == 61) ≡ q → (r : Bool) → (b == 61) ≡ r → (r || has_byte 61 bs) ≡ false → (q || has_byte 61 xs) ≡ true
         → cond s (after (bs ++ equals) xs) None ≡ value_after (b ∷ bs) (cond q [] (x ∷ before_first is_equals xs)) (cond q xs (after_first is_equals xs))
-    go later s es q eq true er h k = absurd (true≢false h)
-    go later true es true eq false er h k = absurd (true≢false (sym es ∙ apart eq er))
-    go later false es true eq false er h k = refl
-    go later s es false eq false er h k = part (later h k) s (sym es ∙ same)
-      where
-        part : after (bs ++ equals) xs ≡ value_after bs (before_first is_equals xs) (after_first is_equals xs) → (s : Bool) → s ≡ (b == x)
-            → cond s (after (bs ++ equals) xs) None ≡ cond ((b == x) && bytes_eq bs (before_first is_equals xs)) (Some (after_first is_equals xs)) None
-        part later true es = later ∙ ap (λ (y : Bool). cond (y && bytes_eq bs (before_first is_equals xs)) (Some (after_first is_equals xs)) None) es
-        part later false es = ap (λ (y : Bool). cond (y && bytes_eq bs (before_first is_equals xs)) (Some (after_first is_equals xs)) None) es
+    go l s p q t r u v w = grind arith

@@ -1,18 +1,16 @@
 -- An argument that begins with `--` and goes on.
 use Rattle.std.proofs.Common.{◌≡◌, ◌∙◌, refl, sym, ap, ℕ, List, [], ◌∷◌, Option, Some, None, false, option_map}
 use Rattle.std.specs.Str.{bytes_eq}
-use Rattle.clap.specs.Lexer.{long_of}
 use Rattle.clap.specs.Words.{Row, Rule, Text}
 use Rattle.clap.specs.Walk.{Held, Step, Walk, after_flag, after_step, idle, long_met, option, used, walked}
-use Rattle.clap.specs.Kinds.{Kinds, or_else}
 use Rattle.clap.specs.Faults.{long_fault, option_fault, step_fault, turn_fault, use_fault}
-use Rattle.clap.specs.declared.error.kind.ErrorKind.TheVariants as kind
+use Rattle.clap.specs.{Lexer.long_of, Kinds.Kinds, Kinds.or_else}
 use Rattle.command_words.specs.Words.{Place, Command, Second, Archive, Name, Cell}
 use Rattle.command_words.proofs.Rules.{id_of, rule_at, rules_list, top}
 use Rattle.command_words.proofs.States.{Pending, end_fault, end_rows, state}
-use Rattle.command_words.proofs.Walks.{first_empty, walk_at}
-use Rattle.command_words.proofs.Stages.{some_kind}
 use Rattle.command_words.proofs.Turns.{by_long, here, moved_as, place_named, turn_as, waiting_for}
+use Rattle.command_words.proofs.{Walks.first_empty, Walks.walk_at, Stages.some_kind}
+use Rattle.clap.specs.declared.error.kind.ErrorKind.TheVariants as kind
 
 -- the step of clap at an argument with `--`
 abbrev after_long : Option Place → Option Rule → Option Text → Text → Held → Held × Step

@@ -1,10 +1,7 @@
 -- What an argument looks like to clap, and what it says.
-use Rattle.std.proofs.Common.{◌≡◌, ◌∙◌, refl, sym, ap, ℕ, Bool, [], ◌∷◌, ◌++◌, Option, Some, None, true, false, cond, codes, option_map}
-use Rattle.std.proofs.lemmas.Bool.Decides.{same_from_decides, Decides-like}
-use Rattle.std.proofs.lemmas.Slice.Eq.{bytes_eq-Decides}
-use Rattle.std.specs.List.{after_first, before_first}
-use Rattle.std.specs.Prelude.{slice_get}
-use Rattle.std.specs.Str.{bytes_eq, chars}
+use Rattle.std.proofs.Common.{◌≡◌, ◌∙◌, refl, sym, ap, ℕ, Bool, [], ◌∷◌, ◌++◌, Option, Some, None, true, false, cond, codes, option_map, arith}
+use Rattle.std.proofs.lemmas.{Bool.Decides.same_from_decides, Bool.Decides.Decides-like, Slice.Eq.bytes_eq-Decides}
+use Rattle.std.specs.{List.after_first, List.before_first, Prelude.slice_get, Str.bytes_eq, Str.chars}
 use Rattle.clap.specs.Lexer.{has_byte, long_of, short_of}
 use Rattle.clap.specs.Words.{Text}
 use Rattle.command_words.specs.Words.{Place, Archive, Name, Cell, after, option_with_value, is_plain, option_word}
@@ -59,10 +56,7 @@ long_alone t e =
     ∙ ap (λ (s : Text). found_as None (place_named s)) (sym (before_whole t e))
   where
     go : (a n c : Bool) → option_spelled a n c None None None ≡ found_as None (option_named a n c)
-    go true n c = refl
-    go false true c = refl
-    go false false true = refl
-    go false false false = refl
+    go a n c = grind arith
 
 -- an argument with `=`
 long_given : (t : Text) → has_byte 61 t ≡ true → option_word (45 ∷ 45 ∷ t) ≡ found_as (Some (after_first is_equals t)) (place_named (before_first is_equals t))
@@ -76,10 +70,7 @@ long_given t e =
   where
     go : (a n c : Bool) (r : Text) → option_with_value (cond a (Some r) None) (cond n (Some r) None) (cond c (Some r) None) ≡ found_as (Some r)
         (option_named a n c)
-    go true n c r = refl
-    go false true c r = refl
-    go false false true r = refl
-    go false false false r = refl
+    go a n c r = grind arith
 
 -- both readings of an argument with `--` agree
 pub option_long : (t : Text) → option_word (45 ∷ 45 ∷ t) ≡ found_as (value_of t) (place_named (before_first is_equals t))

@@ -1,13 +1,9 @@
 -- The number that an argument spells in decimal.
-use Rattle.std.proofs.Common.{◌≡◌, ◌∙◌, ℕ, ◌<◌, ◌&&◌, true, Some, None, Result, Ok, nat_lt, sym, ap, subst, arith, ◌+◌}
-use Rattle.std.specs.Fmt.{decimal}
-use Rattle.std.specs.Str.{bytes_eq}
-use Rattle.std.specs.Str.Parse.{digits_value, ParsesUnsigned}
+use Rattle.std.proofs.Common.{◌≡◌, ◌∙◌, ℕ, ◌<◌, true, Some, None, Result, Ok, ap, arith, ◌+◌}
 use Rattle.std.proofs.lemmas.Bool.{and_parts, cond-true, cond-false, false_from_ne_true, ltb-true}
-use Rattle.std.proofs.lemmas.Fmt.{decimal_is_IsNumeral, parse-decimal}
-use Rattle.std.proofs.lemmas.Slice.Eq.{bytes_eq-Decides}
-use Rattle.command_words.specs.Words.{Text}
-use Rattle.command_words.specs.Tasks.{count_of, is_count}
+use Rattle.std.proofs.lemmas.{Fmt.decimal_is_IsNumeral, Fmt.parse-decimal, Slice.Eq.bytes_eq-Decides}
+use Rattle.std.specs.{Fmt.decimal, Str.Parse.digits_value, Str.Parse.ParsesUnsigned}
+use Rattle.command_words.specs.{Words.Text, Tasks.count_of, Tasks.is_count}
 use Rattle.workload.specs.Workload.{most_nets}
 
 -- an argument that is reported as the count n spells n, which is small
@@ -16,10 +12,7 @@ record Spells (word : Text) (n : ℕ) : Type 0 where
   pub small : n < most_nets + 1
 
 spells : (word : Text) (n : ℕ) → is_count word n ≡ true → Spells word n
-spells word n h =
-    let p = and_parts (bytes_eq word (decimal n)) (nat_lt 0 n && nat_lt n (most_nets + 1)) h in
-    let q = and_parts (nat_lt 0 n) (nat_lt n (most_nets + 1)) p.1 in
-    record { text = (bytes_eq-Decides word (decimal n)).0 p.0; small = ltb-true n (most_nets + 1) q.1 }
+spells word n h = search (arith, and_parts, bytes_eq-Decides, ltb-true)
 
 -- its digits have that value
 value_is : (word : Text) (n : ℕ) → Spells word n → digits_value 10 word ≡ n
@@ -29,10 +22,7 @@ value_is word n s =
 
 -- so the number is the one that the argument spells
 pub count_is : (word : Text) (n : ℕ) → is_count word n ≡ true → Some n ≡ count_of word
-count_is word n h =
-    let v = value_is word n (spells word n h) in
-    ap (λ (m : ℕ). Some m) (sym v)
-    ∙ sym (cond-true (is_count word (digits_value 10 word)) (Some (digits_value 10 word)) None (subst (λ (m : ℕ). is_count word m ≡ true) (sym v) h))
+count_is word n h = search (arith, value_is, spells, cond-true)
 
 -- an argument that spells a count is read as it
 pub count_parsed : {E : Type 0} (word : Text) (n : ℕ) (r : Result ℕ E) → is_count word n ≡ true → ParsesUnsigned 32 10 word r → r ≡ Ok n
@@ -43,5 +33,4 @@ count_parsed word n r h p =
 
 -- where the value of its digits is no count, the argument spells none
 pub no_count : (word : Text) → (is_count word (digits_value 10 word) ≡ true → ⊥) → None ≡ count_of word
-no_count word h = sym (cond-false (is_count word (digits_value 10 word)) (Some (digits_value 10 word)) None
-    (false_from_ne_true (is_count word (digits_value 10 word)) h))
+no_count word h = search (arith, cond-false, false_from_ne_true)

@@ -1,21 +1,15 @@
 -- Clap reads the arguments as they are said.
 use Rattle.std.proofs.Common.{◌≡◌, ◌∙◌, refl, ap, Bool, List, [], ◌∷◌, Option, Some, None, is_some, true, false, cond, option_map}
 use Rattle.std.specs.Str.{bytes_eq}
-use Rattle.clap.specs.Lexer.{long_of}
-use Rattle.clap.specs.Words.{Row, Text}
-use Rattle.clap.specs.Walk.{used}
-use Rattle.clap.specs.Kinds.{Kinds, or_else}
-use Rattle.clap.specs.Faults.{turn_fault, use_fault}
-use Rattle.clap.specs.declared.error.kind.ErrorKind.TheVariants as kind
+use Rattle.clap.specs.{Lexer.long_of, Words.Row, Words.Text, Walk.used, Kinds.Kinds, Kinds.or_else, Faults.turn_fault, Faults.use_fault}
 use Rattle.command_words.specs.Words.{Place, Said, at, without_wait, fill, is_plain, option_step, option_word, put, read, step}
 use Rattle.command_words.proofs.Rules.{id_of, rule_at, top}
 use Rattle.command_words.proofs.States.{IsSound, Pending, end_rows, good_used, use_once, use_twice}
-use Rattle.command_words.proofs.Walks.{means_cons, means_none}
 use Rattle.command_words.proofs.Stages.{Stage, IsStageOf, place_of, some_kind}
-use Rattle.command_words.proofs.Turns.{here, place_named}
 use Rattle.command_words.proofs.LongTurns.{option_moved, option_turn, unknown_turn, value_moved, value_turn}
-use Rattle.command_words.proofs.Looks.{found_as}
 use Rattle.command_words.proofs.Readings.{AreReadAlike, IsMeaningAt, as_read, named_option, no_step, read_as, stands_option}
+use Rattle.command_words.proofs.{Walks.means_cons, Walks.means_none, Turns.here, Turns.place_named, Looks.found_as}
+use Rattle.clap.specs.declared.error.kind.ErrorKind.TheVariants as kind
 
 -- a place that is filled twice, or once
 pub fill_twice : (p : Place) (v : Text) (said : Said) → is_some (at said p) ≡ true → option_map without_wait (fill p v said) ≡ None

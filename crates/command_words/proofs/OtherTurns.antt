@@ -1,20 +1,14 @@
 -- An argument that begins with one `-` and goes on, and one that is no flag.
-use Rattle.std.proofs.Common.{◌≡◌, ◌∙◌, refl, sym, ap, ℕ, List, [], ◌∷◌, Option, Some, None, false, length}
-use Rattle.std.specs.Str.{bytes_eq, chars}
-use Rattle.std.specs.Prelude.{slice_get}
-use Rattle.std.specs.Option.{option_map_or}
-use Rattle.clap.specs.Lexer.{long_of, short_of}
-use Rattle.clap.specs.Words.{Row, Text}
+use Rattle.std.proofs.Common.{◌≡◌, ◌∙◌, refl, sym, ap, ℕ, List, [], ◌∷◌, Option, Some, None, false}
+use Rattle.std.specs.{Str.bytes_eq, Str.chars, Prelude.slice_get, Option.option_map_or}
 use Rattle.clap.specs.Walk.{Held, Walk, after_step, arg_by_index, idle, short_or_plain, to_positional, value, walked}
-use Rattle.clap.specs.Kinds.{Kinds, or_else}
-use Rattle.clap.specs.Faults.{bundle_fault, bundle_step_fault, flags_fault, step_fault, turn_fault}
-use Rattle.clap.specs.declared.error.kind.ErrorKind.TheVariants as kind
+use Rattle.clap.specs.Faults.{bundle_fault, flags_fault, step_fault, turn_fault}
+use Rattle.clap.specs.{Lexer.long_of, Lexer.short_of, Words.Row, Words.Text, Kinds.Kinds, Kinds.or_else}
 use Rattle.command_words.specs.Words.{Place, Command, Second, Archive, Name, Cell}
 use Rattle.command_words.proofs.Rules.{id_of, rules_list, top}
-use Rattle.command_words.proofs.States.{Pending, state}
-use Rattle.command_words.proofs.Walks.{first_empty, walk_at}
-use Rattle.command_words.proofs.Stages.{some_kind}
 use Rattle.command_words.proofs.Turns.{here, moved_as, turn_as, waiting_for}
+use Rattle.command_words.proofs.{States.Pending, States.state, Walks.first_empty, Walks.walk_at, Stages.some_kind}
+use Rattle.clap.specs.declared.error.kind.ErrorKind.TheVariants as kind
 
 -- why clap refuses an argument without `--`
 abbrev other_turn : Option Place → ℕ → Text → List Row → Pending → Option Text → Kinds
@@ -32,9 +26,7 @@ other_moved wanted position word rows pending so = after_step rules_list word (h
 bundle_is : (x : ℕ) (flags : Text) (c : ℕ) (h : Held) → slice_get (chars (x ∷ flags)) 0 ≡ Some c → h.skip ≡ 0
     → bundle_fault rules_list false (x ∷ flags) h ≡ kind.UnknownArgument ∷ []
 unfolding flags_fault
-bundle_is x flags c h first none =
-    ap (λ (o : Option ℕ). bundle_step_fault rules_list false o (x ∷ flags) h.skip (record h { skip = 0 }) (flags_fault rules_list false (length flags))) first
-    ∙ ap (λ (s : ℕ). bundle_step_fault rules_list false (Some c) (x ∷ flags) s (record h { skip = 0 }) (flags_fault rules_list false (length flags))) none
+bundle_is x flags c h first k = cc
 
 module _ (wanted : Option Place) (position : ℕ) (word : Text) (rows : List Row) (pending : Pending) (ed : bytes_eq word (45 ∷ 45 ∷ []) ≡ false)
     (el : long_of word ≡ None) where
@@ -65,11 +57,7 @@ module _ (position : ℕ) (word : Text) (rows : List Row) (pending : Pending) (e
 module _ (p : Place) (position : ℕ) (word : Text) (rows : List Row) (ed : bytes_eq word (45 ∷ 45 ∷ []) ≡ false) (el : long_of word ≡ None)
     (es : short_of word ≡ None) where
   no_fault : (p : Place) → other_turn (Some p) position word rows (Some (id_of p, [])) None ≡ []
-  no_fault Command = refl
-  no_fault Second = refl
-  no_fault Archive = refl
-  no_fault Name = refl
-  no_fault Cell = refl
+  no_fault p = cc
 
   next_walk : (p : Place) → other_moved (Some p) position word rows (Some (id_of p, [])) None ≡ walk_at idle position false rows (Some (id_of p, word ∷ []))
   next_walk Command = refl

@@ -1,22 +1,14 @@
 -- What clap's parse gives: what the arguments say, or that they say nothing.
 use Rattle.std.proofs.Common.{◌≡◌, ◌∙◌, refl, sym, ap, subst, List, [], ◌∷◌, Option, Some, None, map, ⊎_elim}
 use Rattle.std.proofs.lemmas.Str.{IsUtf8-string_bytes}
-use Rattle.std.specs.Prelude.{String, string_bytes}
-use Rattle.std.specs.declared.alloc.Global.{Global}
+use Rattle.std.specs.{Prelude.String, Prelude.string_bytes, declared.alloc.Global.Global}
 use Rattle.clap.specs.Words.{Text, first_value, kind_of, matches_of, rows_of}
 use Rattle.clap.specs.Kinds.{HasKind, IsAmong, Kinds}
-use Rattle.clap.specs.Faults.{fault_of}
+use Rattle.clap.specs.{Faults.fault_of, declared.error.Error.Error, declared.error.kind.ErrorKind.TheVariants.OutOfMemory, declared.parser.matches.Found.Found}
 use Rattle.clap.proofs.WalkLemmas.{first_value-rows}
-use Rattle.clap.specs.declared.error.Error.{Error}
-use Rattle.clap.specs.declared.error.kind.ErrorKind.TheVariants.{OutOfMemory}
-use Rattle.clap.specs.declared.parser.matches.Found.{Found}
-use Rattle.command_words.specs.Grammar.{grammar}
-use Rattle.command_words.specs.Views.{said_in}
 use Rattle.command_words.specs.Words.{Place, Command, Second, Archive, Name, Cell, Said, at, said_by}
-use Rattle.command_words.proofs.Rules.{id_of}
-use Rattle.command_words.proofs.Rows.{IsShown}
-use Rattle.command_words.proofs.Readings.{AreUtf8}
-use Rattle.command_words.proofs.Parses.{words_refused, words_taken}
+use Rattle.command_words.specs.{Grammar.grammar, Views.said_in}
+use Rattle.command_words.proofs.{Rules.id_of, Rows.IsShown, Readings.AreUtf8, Parses.words_refused, Parses.words_taken}
 
 -- strings are text
 pub texts_valid : (words : List (String Global)) → AreUtf8 (map string_bytes words)

@@ -1,20 +1,14 @@
 -- When clap takes the arguments, and what it then has.
-use Rattle.std.proofs.Common.{◌≡◌, ◌∙◌, refl, sym, ap, subst, Bool, List, [], ◌∷◌, Option, Some, None, true, false, cond, fold, ◌||◌}
+use Rattle.std.proofs.Common.{◌≡◌, ◌∙◌, refl, sym, ap, subst, Bool, List, [], ◌∷◌, Option, Some, None, false, cond, fold, arith}
 use Rattle.clap.specs.Words.{Row, Rule, Text, matches_of}
-use Rattle.clap.specs.Walk.{Held, default_rows, finished, has_row, idle, is_empty, reading_by, settled, settled_rows, walk, with_default}
-use Rattle.clap.specs.Kinds.{Kinds, or_else}
-use Rattle.clap.specs.Faults.{check_fault, default_fault, defaults_fault, fault_of, given_default_fault, level_fault}
-use Rattle.clap.specs.Simple.{built}
+use Rattle.clap.specs.Walk.{Held, default_rows, finished, has_row, idle, reading_by, settled, settled_rows, walk, with_default}
+use Rattle.clap.specs.Faults.{check_fault, default_fault, defaults_fault, fault_of, level_fault}
+use Rattle.clap.specs.{Kinds.Kinds, Kinds.or_else, Simple.built}
 use Rattle.clap.proofs.FaultLemmas.{leaf_fault, past}
 use Rattle.command_words.specs.Grammar.{grammar}
 use Rattle.command_words.specs.Words.{Said, nothing, said_by}
-use Rattle.command_words.proofs.Rules.{rules_list, top}
-use Rattle.command_words.proofs.Rows.{IsShown, shows_nothing}
-use Rattle.command_words.proofs.States.{state}
 use Rattle.command_words.proofs.Walks.{IsMeaning, AreTaken, first_empty, held_after, second_empty, walk_at}
-use Rattle.command_words.proofs.Stages.{First}
-use Rattle.command_words.proofs.Readings.{AreUtf8}
-use Rattle.command_words.proofs.AllWords.{reads}
+use Rattle.command_words.proofs.{Rules.rules_list, Rules.top, Rows.IsShown, Rows.shows_nothing, States.state, Stages.First, Readings.AreUtf8, AllWords.reads}
 
 -- none of the arguments has a default
 abbrev HaveNoDefaults : List Rule → Type 0
@@ -25,19 +19,13 @@ no_defaults : HaveNoDefaults rules_list
 no_defaults = (refl, (refl, (refl, (refl, (refl, tt)))))
 
 no_default : (rows : List Row) (r : Rule) → r.defaults ≡ [] → default_fault rows r ≡ []
-no_default rows r e = ap (λ (d : List Text). cond (has_row r.id rows || is_empty d) [] (given_default_fault r d)) e
-    ∙ go (has_row r.id rows) (given_default_fault r [])
-  where
-    go : (b : Bool) (k : Kinds) → cond (b || true) [] k ≡ []
-    go true k = refl
-    go false k = refl
+no_default rows r e = search arith
 
 no_row : (rows : List Row) (r : Rule) → r.defaults ≡ [] → with_default rows r ≡ rows
 no_row rows r e = ap (λ (d : List Text). cond (has_row r.id rows) rows (default_rows r.id (reading_by r) d rows)) e ∙ go (has_row r.id rows)
   where
     go : (b : Bool) → cond b rows rows ≡ rows
-    go true = refl
-    go false = refl
+    go b = search arith
 
 no_faults : (rules : List Rule) (rows : List Row) → HaveNoDefaults rules → defaults_fault rows rules ≡ []
 unfolding defaults_fault

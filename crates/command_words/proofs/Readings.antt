@@ -1,21 +1,15 @@
 -- One argument, where all later arguments are read alike.
-use Rattle.std.proofs.Common.{◌≡◌, ◌∙◌, sym, ap, subst, Bool, List, [], ◌∷◌, Option, Some, None, is_some, true, false, cond, codes, option_map}
-use Rattle.std.specs.Prelude.{option_and_then}
-use Rattle.std.specs.Str.{IsUtf8, bytes_eq}
-use Rattle.clap.specs.Words.{Row, Text}
-use Rattle.clap.specs.Walk.{idle}
-use Rattle.command_words.specs.Words.{Place, Command, Second, Archive, Name, Cell, Reading, Said, without_wait, is_plain, option_step, option_word, fill_next}
-use Rattle.command_words.specs.Words.{read_positional, put, read, step}
-use Rattle.command_words.proofs.Rules.{id_of}
-use Rattle.command_words.proofs.Rows.{IsShown}
+use Rattle.std.proofs.Common.{◌≡◌, ◌∙◌, sym, ap, subst, Bool, List, [], ◌∷◌, Option, Some, None, is_some, true, false, cond, codes, option_map, arith}
+use Rattle.std.specs.{Prelude.option_and_then, Str.IsUtf8, Str.bytes_eq}
+use Rattle.clap.specs.{Words.Row, Words.Text, Walk.idle}
+use Rattle.command_words.specs.Words.{Place, Archive, Name, Cell, Reading, Said, without_wait, is_plain, option_step, option_word, fill_next, read_positional}
+use Rattle.command_words.specs.Words.{put, read, step}
 use Rattle.command_words.proofs.States.{IsSound, Pending, end_fault}
 use Rattle.command_words.proofs.Walks.{IsMeaning, means_none, none_cons, none_nil}
 use Rattle.command_words.proofs.Stages.{Stage, IsStageOf, place_of, turn_bad}
-use Rattle.command_words.proofs.TrailingWords.{bad_trailing}
 use Rattle.command_words.proofs.Turns.{dashes_moved, here, place_named}
-use Rattle.command_words.proofs.LongTurns.{refused_turn}
-use Rattle.command_words.proofs.OtherTurns.{plain_turn, short_turn}
 use Rattle.command_words.proofs.Looks.{Look, dashes, long, plain, short}
+use Rattle.command_words.proofs.{Rules.id_of, Rows.IsShown, TrailingWords.bad_trailing, LongTurns.refused_turn, OtherTurns.plain_turn, OtherTurns.short_turn}
 
 -- all arguments are text
 abbrev pub AreUtf8 : List Text → Type 0
@@ -38,17 +32,10 @@ pub named_option : (name : Text) (p : Place) → place_named name ≡ Some p →
 named_option name p e = subst HasOption e (go (bytes_eq (codes "archive") name) (bytes_eq (codes "name") name) (bytes_eq (codes "cell") name))
   where
     go : (a n c : Bool) → HasOption (cond a (Some Archive) (cond n (Some Name) (cond c (Some Cell) None)))
-    go true n c = tt
-    go false true c = tt
-    go false false true = tt
-    go false false false = tt
+    go a n c = search arith
 
 pub stands_option : (stage : Stage) (said : Said) (p : Place) (v : Text) → IsOption p → IsStageOf stage said → IsStageOf stage (put p v said)
-stands_option stage said Command v o s = absurd o
-stands_option stage said Second v o s = absurd o
-stands_option stage said Archive v o s = record { command = s.command; second = s.second }
-stands_option stage said Name v o s = record { command = s.command; second = s.second }
-stands_option stage said Cell v o s = record { command = s.command; second = s.second }
+stands_option stage said p v h k = search arith
 
 -- the walk stands where this is said
 pub record IsWaiting (said : Said) (p : Place) (rows : List Row) (pending : Pending) : Type 0 where
@@ -97,8 +84,7 @@ no_step said word eo ep = ap (option_step said word) eo ∙ ap (λ (b : Bool). c
 
 pub plain_step : (said : Said) (word : Text) (s : Option Said) → option_word word ≡ None → is_plain word ≡ true → fill_next word said ≡ s
     → step said None word ≡ option_map without_wait s
-plain_step said word s eo ep es = ap (option_step said word) eo ∙ ap (λ (b : Bool). cond b (option_map without_wait (fill_next word said)) None) ep
-    ∙ ap (option_map without_wait) es
+plain_step said word s eo ep es = cc
 
 -- what is pending is refused, however the arguments go on
 pub bad_idle : (stage : Stage) (words : List Text) (rows : List Row) (pending : Pending) → ((word : Text) → IsUtf8 word → Look word) → AreUtf8 words

@@ -1,9 +1,9 @@
 -- The rows that clap holds, against what is said.
-use Rattle.std.proofs.Common.{◌≡◌, ◌∙◌, refl, ap, Bool, List, [], ◌∷◌, ◌++◌, Option, Some, None, is_some, true, false, cond, ◌||◌, true≢false}
+use Rattle.std.proofs.Common.{◌≡◌, refl, ap, Bool, List, [], ◌∷◌, ◌++◌, Option, Some, None, is_some, true, false, cond, ◌||◌, arith}
 use Rattle.std.specs.Prelude.{option_and_then, slice_get, find}
 use Rattle.std.specs.Str.{bytes_eq}
 use Rattle.clap.specs.Words.{Row, Text, first_of}
-use Rattle.clap.specs.Walk.{at_row, has_row, more_values, reading_by, used, with_values, without}
+use Rattle.clap.specs.Walk.{at_row, has_row, reading_by, used, with_values, without}
 use Rattle.clap.specs.declared.parser.matches.ValueSource.TheVariants.{CommandLine}
 use Rattle.command_words.specs.Words.{Place, Command, Second, Archive, Name, Cell, Said, at, put, nothing}
 use Rattle.command_words.proofs.Rules.{id_of, rule_at}
@@ -20,8 +20,7 @@ at_missing id change missing (r ∷ rs) e = go (at_missing id change missing rs)
   where
     go : (has_row id rs ≡ false → at_row id change missing rs ≡ rs ++ missing) → (b : Bool) → (b || has_row id rs) ≡ false
         → cond b (change r ++ rs) (r ∷ at_row id change missing rs) ≡ r ∷ (rs ++ missing)
-    go later true f = absurd (true≢false f)
-    go later false f = ap (λ (xs : List Row). r ∷ xs) (later f)
+    go h b k = search arith
 
 append_nil : (rows : List Row) → rows ++ [] ≡ rows
 append_nil [] = refl
@@ -29,27 +28,18 @@ append_nil (r ∷ rs) = ap (λ (xs : List Row). r ∷ xs) (append_nil rs)
 
 used_as_values : (p : Place) (v : Text) (rows : List Row) → used (rule_at p) (v ∷ []) rows ≡ with_values (id_of p) (reading_by (rule_at p)) CommandLine
     (v ∷ []) (without (id_of p) rows)
-used_as_values Command v rows = refl
-used_as_values Second v rows = refl
-used_as_values Archive v rows = refl
-used_as_values Name v rows = refl
-used_as_values Cell v rows = refl
+used_as_values p v rows = grind arith
 
 -- a first use adds a row
 pub used_once : (p : Place) (v : Text) (rows : List Row) → has_row (id_of p) rows ≡ false → used (rule_at p) (v ∷ []) rows ≡ rows ++ row p v ∷ []
-used_once p v rows e =
-    let same : without (id_of p) rows ≡ rows = at_missing (id_of p) (λ x. []) [] rows e ∙ append_nil rows in
-    used_as_values p v rows
-    ∙ ap (with_values (id_of p) (reading_by (rule_at p)) CommandLine (v ∷ [])) same
-    ∙ at_missing (id_of p) (more_values CommandLine (v ∷ [])) _ rows e
+used_once p v rows e = simp (at_missing, append_nil, used_as_values)
 
 -- the names of rows, where one is added
 pub has_more : (id : Text) (rows : List Row) (r : Row) → has_row id (rows ++ r ∷ []) ≡ (has_row id rows || bytes_eq r.id id)
 has_more id [] r = go (bytes_eq r.id id)
   where
     go : (b : Bool) → (b || false) ≡ b
-    go true = refl
-    go false = refl
+    go b = search arith
 has_more id (x ∷ xs) r = go (has_more id xs r) (bytes_eq x.id id)
   where
     go : has_row id (xs ++ r ∷ []) ≡ (has_row id xs || bytes_eq r.id id) → (b : Bool)
@@ -69,8 +59,7 @@ first_more id (x ∷ xs) r = go (first_more id xs r) (bytes_eq x.id id)
     go : first_of id (xs ++ r ∷ []) ≡ cond (has_row id xs) (first_of id xs) (first_of id (r ∷ [])) → (b : Bool)
         → value_in (cond b (Some x) (find (λ y. bytes_eq y.id id) (xs ++ r ∷ [])))
         ≡ cond (b || has_row id xs) (value_in (cond b (Some x) (find (λ y. bytes_eq y.id id) xs))) (first_of id (r ∷ []))
-    go later true = refl
-    go later false = later
+    go h b = search arith
 
 -- the rows show at each place what is said there
 pub record IsShownAt (said : Said) (rows : List Row) (p : Place) : Type 0 where
@@ -83,45 +72,20 @@ IsShown said rows = (p : Place) → IsShownAt said rows p
 
 -- no row, and nothing said
 pub shows_nothing : IsShown nothing []
-shows_nothing Command = record { value = refl; has = refl }
-shows_nothing Second = record { value = refl; has = refl }
-shows_nothing Archive = record { value = refl; has = refl }
-shows_nothing Name = record { value = refl; has = refl }
-shows_nothing Cell = record { value = refl; has = refl }
+shows_nothing h = search arith
 
 choice : {X : Type 0} (o : Option X) → cond (is_some o) o None ≡ o
-choice None = refl
-choice (Some x) = refl
+choice o = search arith
 
 -- another place shows what it showed
 other : (said now : Said) (rows : List Row) (p q : Place) (v : Text) → IsShownAt said rows q → at said q ≡ at now q
     → first_of (id_of q) (row p v ∷ []) ≡ None → bytes_eq (id_of p) (id_of q) ≡ false → IsShownAt now (rows ++ row p v ∷ []) q
-other said now rows p q v s same none apart = record {
-  value = first_more (id_of q) rows (row p v)
-      ∙ ap (λ (o : Option Text). cond (has_row (id_of q) rows) (first_of (id_of q) rows) o) none
-      ∙ ap (λ (b : Bool). cond b (first_of (id_of q) rows) None) s.has
-      ∙ ap (λ (o : Option Text). cond (is_some (at said q)) o None) s.value
-      ∙ choice (at said q) ∙ same;
-  has = has_more (id_of q) rows (row p v)
-      ∙ ap (λ (b : Bool). has_row (id_of q) rows || b) apart
-      ∙ or_false (has_row (id_of q) rows) ∙ s.has ∙ ap is_some same;
-}
-  where
-    or_false : (b : Bool) → (b || false) ≡ b
-    or_false true = refl
-    or_false false = refl
+other said now rows p q v s same h apart = grind (arith, first_more, choice, has_more)
 
 -- the place that is filled shows its argument
 here : (said now : Said) (rows : List Row) (p : Place) (v : Text) → IsShownAt said rows p → is_some (at said p) ≡ false → Some v ≡ at now p
     → first_of (id_of p) (row p v ∷ []) ≡ Some v → bytes_eq (id_of p) (id_of p) ≡ true → IsShownAt now (rows ++ row p v ∷ []) p
-here said now rows p v s empty is one itself = record {
-  value = first_more (id_of p) rows (row p v)
-      ∙ ap (λ (b : Bool). cond b (first_of (id_of p) rows) (first_of (id_of p) (row p v ∷ []))) (s.has ∙ empty)
-      ∙ one ∙ is;
-  has = has_more (id_of p) rows (row p v)
-      ∙ ap (λ (b : Bool). b || bytes_eq (id_of p) (id_of p)) (s.has ∙ empty)
-      ∙ itself ∙ ap is_some is;
-}
+here said now rows p v s empty is one itself = search (arith, first_more, has_more)
 
 -- one more argument that is said is one more row
 pub shows_put : (said : Said) (rows : List Row) (p : Place) (v : Text) → IsShown said rows → is_some (at said p) ≡ false

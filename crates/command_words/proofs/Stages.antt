@@ -1,15 +1,12 @@
 -- Positional arguments: how many were read, and which one comes next.
-use Rattle.std.proofs.Common.{◌≡◌, ◌∙◌, refl, sym, ap, subst, ℕ, Bool, List, [], ◌∷◌, Some, None, is_some, true, false, cond}
-use Rattle.clap.specs.Words.{Row, Text}
+use Rattle.std.proofs.Common.{◌≡◌, ◌∙◌, refl, sym, ap, ℕ, Bool, List, [], ◌∷◌, Some, None, is_some, true, false, cond}
 use Rattle.clap.specs.Walk.{Held, Waiting, Walk, arg_by_index, idle, to_positional, value}
-use Rattle.clap.specs.Kinds.{Kinds}
-use Rattle.clap.specs.Faults.{step_fault}
-use Rattle.clap.specs.declared.error.kind.ErrorKind.{ErrorKind}
-use Rattle.clap.specs.declared.error.kind.ErrorKind.TheVariants as kind
+use Rattle.clap.specs.{Words.Row, Words.Text, Kinds.Kinds, Faults.step_fault, declared.error.kind.ErrorKind.ErrorKind}
 use Rattle.command_words.specs.Words.{Place, Command, Second, Said, at, fill, fill_next, put}
 use Rattle.command_words.proofs.Rules.{id_of, rules_list, top}
 use Rattle.command_words.proofs.States.{Pending, end_fault, end_rows, state, positional_kept, positional_turn}
 use Rattle.command_words.proofs.Walks.{walk_at}
+use Rattle.clap.specs.declared.error.kind.ErrorKind.TheVariants as kind
 
 -- how many positional arguments there were
 pub data Stage : Type 0 where
@@ -39,8 +36,7 @@ pub record IsStageOf (stage : Stage) (said : Said) : Type 0 where
 
 -- what a positional argument says where all are said
 pub said_full : (said : Said) (word : Text) → IsStageOf Full said → fill_next word said ≡ None
-said_full said word s = ap (λ (b : Bool). cond b (fill Second word said) (fill Command word said)) s.command
-    ∙ ap (λ (b : Bool). cond b None (Some (put Second word said))) s.second
+said_full said word s = cc
 
 -- at one stage a positional argument goes to place p, as it is said and as clap holds it, and the other stage follows
 pub record IsFilled (from to : Stage) (p : Place) (said : Said) (word : Text) : Type 0 where
@@ -90,11 +86,7 @@ filled_next said word s = record {
     kept false waiting rows pending = ap (walk_with 3 false) (positional_kept Second word rows pending)
 
 pub some_kind : (k : ErrorKind) (ks kinds : Kinds) → kinds ≡ k ∷ ks → kinds ≡ [] → ⊥
-some_kind k ks kinds e f = subst tag (sym e ∙ f) tt
-  where
-    tag : Kinds → Type 0
-    tag [] = ⊥
-    tag (x ∷ xs) = Unit {0}
+some_kind k ks kinds e f = cc
 
 -- a positional argument is refused where what is pending is
 pub turn_bad : (stage : Stage) (rows : List Row) (pending : Pending) → (end_fault rows pending ≡ [] → ⊥)

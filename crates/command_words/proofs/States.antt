@@ -1,13 +1,12 @@
 -- What clap holds between two arguments.
-use Rattle.std.proofs.Common.{◌≡◌, ◌∙◌, refl, sym, ap, subst, Bool, List, [], ◌∷◌, Option, Some, None, is_some, true, false, cond, ◌&&◌}
-use Rattle.clap.specs.Words.{Row, Text}
+use Rattle.std.proofs.Common.{◌≡◌, ◌∙◌, refl, sym, ap, subst, Bool, List, [], ◌∷◌, Option, Some, None, is_some, true, false, cond, ◌&&◌, arith}
 use Rattle.clap.specs.Walk.{Held, has_row, is_pending, positional_held, pushed, settled_rows, takes_several, used}
-use Rattle.clap.specs.Kinds.{Kinds, or_else}
 use Rattle.clap.specs.Faults.{positional_fault, settle_fault, use_fault}
-use Rattle.clap.specs.declared.error.kind.ErrorKind.TheVariants as kind
+use Rattle.clap.specs.{Words.Row, Words.Text, Kinds.Kinds, Kinds.or_else}
 use Rattle.command_words.specs.Words.{Place, Command, Second, Archive, Name, Cell, Said, at, put}
 use Rattle.command_words.proofs.Rules.{id_of, rule_at, rules_list}
 use Rattle.command_words.proofs.Rows.{IsShown, shows_put, used_once}
+use Rattle.clap.specs.declared.error.kind.ErrorKind.TheVariants as kind
 
 -- an argument whose values are not used yet
 abbrev pub Pending : Type 0
@@ -89,15 +88,10 @@ pub bad_pending : (said : Said) (rows : List Row) (p : Place) (v : Text) → IsS
 bad_pending said rows p v s e = pending_fault p (v ∷ []) rows ∙ use_twice p v rows ((s p).has ∙ e)
 
 and_false : (b : Bool) → (b && false) ≡ false
-and_false true = refl
-and_false false = refl
+and_false b = search arith
 
 one_value : (p : Place) → takes_several (rule_at p) ≡ false
-one_value Command = refl
-one_value Second = refl
-one_value Archive = refl
-one_value Name = refl
-one_value Cell = refl
+one_value p = search arith
 
 never_more : (p : Place) (pending : Pending) → (is_pending (rule_at p) pending && takes_several (rule_at p)) ≡ false
 never_more p pending = ap (λ (b : Bool). is_pending (rule_at p) pending && b) (one_value p) ∙ and_false (is_pending (rule_at p) pending)
@@ -108,11 +102,7 @@ pub positional_turn : (p : Place) (rows : List Row) (pending : Pending)
 positional_turn p rows pending = ap (λ (b : Bool). cond b [] (end_fault rows pending)) (never_more p pending)
 
 rule_id : (p : Place) → (rule_at p).id ≡ id_of p
-rule_id Command = refl
-rule_id Second = refl
-rule_id Archive = refl
-rule_id Name = refl
-rule_id Cell = refl
+rule_id p = search arith
 
 pub positional_kept : (p : Place) (word : Text) (rows : List Row) (pending : Pending)
     → positional_held rules_list (rule_at p) word (state rows pending) ≡ state (end_rows rows pending) (Some (id_of p, word ∷ []))

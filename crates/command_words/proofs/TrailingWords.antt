@@ -1,15 +1,14 @@
 -- The arguments after `--`: what clap makes of them is what they say.
 use Rattle.std.proofs.Common.{◌≡◌, ◌∙◌, refl, sym, subst, ℕ, List, [], ◌∷◌, Option, Some, None, true}
 use Rattle.std.specs.Prelude.{option_and_then}
-use Rattle.clap.specs.Words.{Row, Text}
 use Rattle.clap.specs.Walk.{Waiting, arg_by_index, idle, to_positional, value, walked}
-use Rattle.clap.specs.Faults.{step_fault, turn_fault}
-use Rattle.clap.specs.declared.error.kind.ErrorKind.TheVariants as kind
+use Rattle.clap.specs.{Words.Row, Words.Text, Faults.step_fault, Faults.turn_fault}
 use Rattle.command_words.specs.Words.{Place, Command, Second, Said, read_positional, put}
 use Rattle.command_words.proofs.Rules.{id_of, rules_list, top}
 use Rattle.command_words.proofs.States.{IsSound, Pending, end_fault, end_rows, good_pending, state}
 use Rattle.command_words.proofs.Walks.{IsMeaning, means_cons, means_nil, means_none, none_nil, walk_at}
 use Rattle.command_words.proofs.Stages.{Stage, First, Next, Full, IsStageOf, IsFilled, filled_first, filled_next, place_of, said_full, some_kind, turn_bad}
+use Rattle.clap.specs.declared.error.kind.ErrorKind.TheVariants as kind
 
 -- when clap refuses an argument after `--`, and where it then stands
 turn_is : (waiting : Waiting) (position : ℕ) (word : Text) (rows : List Row) (pending : Pending)

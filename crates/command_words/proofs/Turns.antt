@@ -1,16 +1,12 @@
 -- One argument before `--`, by what it looks like to clap.
-use Rattle.std.proofs.Common.{◌≡◌, ◌∙◌, refl, ap, ℕ, Bool, List, [], ◌∷◌, Option, Some, None, true, false, cond, ◌||◌, option_map}
-use Rattle.std.specs.Str.{bytes_eq}
-use Rattle.std.specs.Prelude.{codes}
-use Rattle.clap.specs.Lexer.{long_of}
-use Rattle.clap.specs.Words.{Row, Text}
+use Rattle.std.proofs.Common.{◌≡◌, ◌∙◌, refl, ap, ℕ, Bool, List, [], ◌∷◌, Option, Some, None, true, false, cond, ◌||◌, option_map, arith}
+use Rattle.std.specs.{Str.bytes_eq, Prelude.codes}
 use Rattle.clap.specs.Walk.{Held, Step, Waiting, Walk, after_step, arg_by_long, idle, long_or_other, option, trailing, walked}
-use Rattle.clap.specs.Kinds.{Kinds, or_else}
 use Rattle.clap.specs.Faults.{flag_word_fault, step_fault, turn_fault}
+use Rattle.clap.specs.{Lexer.long_of, Words.Row, Words.Text, Kinds.Kinds, Kinds.or_else}
 use Rattle.command_words.specs.Words.{Place, Archive, Name, Cell}
 use Rattle.command_words.proofs.Rules.{id_of, rule_at, rules_list, top}
-use Rattle.command_words.proofs.States.{Pending, state}
-use Rattle.command_words.proofs.Walks.{walk_at}
+use Rattle.command_words.proofs.{States.Pending, States.state, Walks.walk_at}
 
 -- what clap waits for
 abbrev pub waiting_for : Option Place → Waiting
@@ -61,9 +57,7 @@ module _ (wanted : Option Place) (position : ℕ) (word : Text) (rows : List Row
 
   pub moved_as : (d : Bool) (lo : Long) → bytes_eq word (45 ∷ 45 ∷ []) ≡ d → long_of word ≡ lo
       → walked rules_list [] (here wanted position rows pending) word ≡ moved_by wanted d lo position word rows pending
-  moved_as d lo ed el = moved_is wanted position word rows pending
-      ∙ ap (λ (x : Bool). moved_by wanted x (long_of word) position word rows pending) ed
-      ∙ ap (λ (x : Long). moved_by wanted d x position word rows pending) el
+  moved_as d lo ed el = grind (arith, moved_is)
 
   -- `--`
   pub dashes_turn : bytes_eq word (45 ∷ 45 ∷ []) ≡ true → turn_fault top [] (here wanted position rows pending) word ≡ []
@@ -85,7 +79,4 @@ by_long name = go (bytes_eq (codes "archive") name) (bytes_eq (codes "name") nam
   where
     go : (a n c : Bool) → cond (a || false) (Some (rule_at Archive)) (cond (n || false) (Some (rule_at Name)) (cond (c || false) (Some (rule_at Cell)) None))
         ≡ option_map rule_at (cond a (Some Archive) (cond n (Some Name) (cond c (Some Cell) None)))
-    go true n c = refl
-    go false true c = refl
-    go false false true = refl
-    go false false false = refl
+    go a n c = grind arith

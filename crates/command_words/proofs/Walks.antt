@@ -1,13 +1,11 @@
 -- When clap takes the arguments from one place of its walk on, and what it then has.
-use Rattle.std.proofs.Common.{◌≡◌, ◌∙◌, refl, sym, ap, subst, ℕ, Bool, List, [], ◌∷◌, Option, Some, None, false, fold}
-use Rattle.clap.specs.Words.{Row, Text}
+use Rattle.std.proofs.Common.{◌≡◌, ◌∙◌, refl, sym, ap, subst, ℕ, Bool, List, [], ◌∷◌, Option, Some, None, false, fold, arith}
 use Rattle.clap.specs.Walk.{Held, Waiting, Walk, settled_rows, walked}
-use Rattle.clap.specs.Kinds.{Kinds, or_else}
 use Rattle.clap.specs.Faults.{settle_fault, turn_fault, walk_fault}
+use Rattle.clap.specs.{Words.Row, Words.Text, Kinds.Kinds, Kinds.or_else}
 use Rattle.command_words.specs.Words.{Said}
-use Rattle.command_words.proofs.Rules.{rules_list, top}
-use Rattle.command_words.proofs.Rows.{IsShown}
 use Rattle.command_words.proofs.States.{IsSound, Pending, end_fault, state}
+use Rattle.command_words.proofs.{Rules.rules_list, Rules.top, Rows.IsShown}
 
 -- a place of the walk over the arguments
 abbrev pub walk_at : Waiting → ℕ → Bool → List Row → Pending → Walk
@@ -34,19 +32,10 @@ IsMeaning (Some said) w words = AreTaken w words × IsShown said (settled_rows r
 
 -- no fault of two steps is none of either
 pub first_empty : (a b : Kinds) → or_else a b ≡ [] → a ≡ []
-first_empty [] b e = refl
-first_empty (k ∷ ks) b e = e
+first_empty a b h = search arith
 
 pub second_empty : (a b : Kinds) → or_else a b ≡ [] → b ≡ []
-second_empty [] b e = e
-second_empty (k ∷ ks) b e = absurd (kinds_apart k ks e)
-  where
-    tag : Kinds → Type 0
-    tag [] = ⊥
-    tag (x ∷ xs) = Unit {0}
-
-    kinds_apart : (k : _) (ks : Kinds) → k ∷ ks ≡ [] → ⊥
-    kinds_apart k ks e = subst tag e tt
+second_empty a b h = search arith
 
 fault_cons : (w : Walk) (word : Text) (words : List Text) → fault_from w (word ∷ words) ≡ or_else (turn_fault top [] w word)
     (fault_from (walked rules_list [] w word) words)

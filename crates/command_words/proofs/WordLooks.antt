@@ -1,10 +1,8 @@
 -- Each argument has one of the looks.
 use Rattle.std.proofs.Common.{◌≡◌, ◌∙◌, refl, sym, ap, subst, ℕ, Bool, [], ◌∷◌, Option, Some, None, true, false, cond, ◌==◌, ◌||◌, ◌&&◌, not, codes}
-use Rattle.std.proofs.lemmas.Bool.{eqb-true}
-use Rattle.std.proofs.lemmas.Str.{IsUtf8-past_char, encodes-chars}
-use Rattle.std.specs.Prelude.{option_and_then, slice_get}
-use Rattle.std.specs.Char.{encode_utf8}
+use Rattle.std.proofs.lemmas.{Bool.eqb-true, Str.IsUtf8-past_char, Str.encodes-chars}
 use Rattle.std.specs.Str.{IsUtf8, bytes_eq, chars, encode_utf8_all}
+use Rattle.std.specs.{Prelude.option_and_then, Prelude.slice_get, Char.encode_utf8}
 use Rattle.clap.specs.Lexer.{long_of_rest, short_of_rest, strip_byte}
 use Rattle.clap.specs.Words.{Text}
 use Rattle.command_words.specs.Words.{Place, Archive, Name, Cell, after, option_with_value}

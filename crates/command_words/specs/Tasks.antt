@@ -72,6 +72,22 @@ archive_named (Verify file) = None
 archive_named (Workload count) = None
 archive_named (Cover file cell) = None
 
+-- a command on maps, on made nets or on cells
+abbrev pub other_verb : Text → Option Verb
+other_verb word =
+    if bytes_eq word (codes "same") then Some verb.Same else
+    (if bytes_eq word (codes "verify") then Some verb.Verify else
+    (if bytes_eq word (codes "workload") then Some verb.Workload else
+    (if bytes_eq word (codes "cover") then Some verb.Cover else None)))
+
+-- a command on an archive and no report, or one of the others
+abbrev pub archive_verb : Text → Option Verb
+archive_verb word =
+    if bytes_eq word (codes "add") then Some verb.Add else
+    (if bytes_eq word (codes "duplicates") then Some verb.Duplicates else
+    (if bytes_eq word (codes "migrate") then Some verb.Migrate else
+    (if bytes_eq word (codes "union") then Some verb.Union else other_verb word)))
+
 -- the command that an argument names
 abbrev pub verb_named : Text → Option Verb
 verb_named word =
@@ -79,15 +95,7 @@ verb_named word =
     (if bytes_eq word (codes "place") then Some verb.Place else
     (if bytes_eq word (codes "key") then Some verb.Key else
     (if bytes_eq word (codes "identify") then Some verb.Identify else
-    (if bytes_eq word (codes "components") then Some verb.Components else
-    (if bytes_eq word (codes "add") then Some verb.Add else
-    (if bytes_eq word (codes "duplicates") then Some verb.Duplicates else
-    (if bytes_eq word (codes "migrate") then Some verb.Migrate else
-    (if bytes_eq word (codes "union") then Some verb.Union else
-    (if bytes_eq word (codes "same") then Some verb.Same else
-    (if bytes_eq word (codes "verify") then Some verb.Verify else
-    (if bytes_eq word (codes "workload") then Some verb.Workload else
-    (if bytes_eq word (codes "cover") then Some verb.Cover else None))))))))))))
+    (if bytes_eq word (codes "components") then Some verb.Components else archive_verb word))))
 
 -- the argument stands, and is empty
 abbrev pub is_empty_word : Option Text → Bool

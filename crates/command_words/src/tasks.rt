@@ -2,7 +2,7 @@
 ghost use Rattle.std.specs.Prelude.{◌≡◌, IfOk, IfSome, option_and_then, option_map, option_copied};
 ghost use Rattle.net_cover.specs.Reading.{cell_of};
 ghost use Rattle.command_words.specs.Words.{texts_of};
-ghost use Rattle.command_words.specs.Tasks.{MakesFew, add_in, archive_named, are_apart, cover_in, file_named, file_of, has_empty_word, identify_in, is_empty_word, may_give_cell, sole_archive, sole_count, sole_file, task_for, task_in, task_of, task_with, union_in, union_with, verb_named};
+ghost use Rattle.command_words.specs.Tasks.{MakesFew, add_in, archive_named, archive_verb, are_apart, cover_in, file_named, file_of, has_empty_word, identify_in, is_empty_word, may_give_cell, other_verb, sole_archive, sole_count, sole_file, task_for, task_in, task_of, task_with, union_in, union_with, verb_named};
 ghost use Rattle.command_words.specs.Views.{blocks_view, said_view, task_view};
 
 use crate::counts::count_of;
@@ -153,6 +153,40 @@ pub(crate) enum Verb {
     Cover,
 }
 
+// A command on maps, on made nets or on cells.
+fn other_verb(word: &str) -> Option<Verb>
+    ensures { result ≡ other_verb word.now }
+{
+    if word == "same" {
+        Some(Verb::Same)
+    } else if word == "verify" {
+        Some(Verb::Verify)
+    } else if word == "workload" {
+        Some(Verb::Workload)
+    } else if word == "cover" {
+        Some(Verb::Cover)
+    } else {
+        None
+    }
+}
+
+// A command on an archive and no report, or one of the others.
+fn archive_verb(word: &str) -> Option<Verb>
+    ensures { result ≡ archive_verb word.now }
+{
+    if word == "add" {
+        Some(Verb::Add)
+    } else if word == "duplicates" {
+        Some(Verb::Duplicates)
+    } else if word == "migrate" {
+        Some(Verb::Migrate)
+    } else if word == "union" {
+        Some(Verb::Union)
+    } else {
+        other_verb(word)
+    }
+}
+
 fn verb_named(word: &str) -> Option<Verb>
     ensures { result ≡ verb_named word.now }
 {
@@ -166,24 +200,8 @@ fn verb_named(word: &str) -> Option<Verb>
         Some(Verb::Identify)
     } else if word == "components" {
         Some(Verb::Components)
-    } else if word == "add" {
-        Some(Verb::Add)
-    } else if word == "duplicates" {
-        Some(Verb::Duplicates)
-    } else if word == "migrate" {
-        Some(Verb::Migrate)
-    } else if word == "union" {
-        Some(Verb::Union)
-    } else if word == "same" {
-        Some(Verb::Same)
-    } else if word == "verify" {
-        Some(Verb::Verify)
-    } else if word == "workload" {
-        Some(Verb::Workload)
-    } else if word == "cover" {
-        Some(Verb::Cover)
     } else {
-        None
+        archive_verb(word)
     }
 }
 

@@ -1,3 +1,3 @@
 -- The lemmas of this crate that other crates cite.
-pub use Rattle.coordination.proofs.classes.OneListOfSequences.{one_list_of_sequences}
+pub use Rattle.coordination.proofs.classes.KindLists.{one_list_of_sequences}
 pub use Rattle.coordination.proofs.classes.OneNumbering.{class_met, one_numbering}

@@ -1,11 +1,7 @@
 pub mod BoxBounds
 pub mod BoxCounting
-pub mod BoxLists
 pub mod BoxPlaces
-pub mod BoxSteps
 pub mod BoxTurns
 pub mod FarWalks
-pub mod MarkedVertices
 pub mod Marking
-pub mod ShortSteps
 pub mod StarSteps

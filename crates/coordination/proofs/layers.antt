@@ -1,10 +1,7 @@
 pub mod Counting
-pub mod Ends
 pub mod Existence
 pub mod Layers
-pub mod Neighbours
 pub mod NewNeighbours
 pub mod OneSequence
-pub mod StepShells
 pub mod Stepping
 pub mod VertexShells

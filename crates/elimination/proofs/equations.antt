@@ -1,9 +1,5 @@
 -- The mean equations, by weights and by arcs.
 pub mod ArcSums
-pub mod Differences
-pub mod FirstBalance
 pub mod FirstVertex
 pub mod Gains
-pub mod Kept
 pub mod Means
-pub mod ShiftSums

@@ -2,6 +2,4 @@
 pub mod Divides
 pub mod Elimination
 pub mod Existence
-pub mod Levels
-pub mod ListSums
 pub mod Semirings

@@ -1,18 +1,12 @@
 -- Fields that are small whole numbers.
 use Rattle.std.proofs.Common.{◌≡◌, ◌≢◌, ℕ, ◌≤◌, ℤ, pos, ◌-ℤ◌, Bool, true, false, cond, ◌==◌, nat_lt, is_some, List, [], ◌∷◌, map, Option, None, Some, refl, ap}
 use Rattle.std.proofs.Common.{◌∙◌, arith}
-use Rattle.std.specs.List.{All}
-use Rattle.std.specs.Option.{option_map, unwrap_or}
-use Rattle.std.specs.Int.RustNames.{unsigned_abs}
-use Rattle.std.proofs.lemmas.Bool.{and_parts, and_from}
-use Rattle.std.proofs.lemmas.Bool.Decides.{nat_tests}
-use Rattle.std.proofs.lemmas.Int.{ints}
 use Rattle.std.proofs.lemmas.List.Elements.{All-nil, All-cons, All-head, All-tail}
+use Rattle.std.proofs.lemmas.{Bool.and_parts, Bool.and_from, Bool.Decides.nat_tests, Int.ints}
+use Rattle.std.specs.{List.All, Option.option_map, Option.unwrap_or, Int.RustNames.unsigned_abs}
 use Rattle.periodic_net.specs.Limits.{most_vertices}
-use Rattle.cgd_lex.specs.Tokens.{TokenView}
 use Rattle.cgd_lex.specs.Words.{whole_value, magnitude_up_to, number_up_to}
-use Rattle.cgd_lex.specs.declared.token.TokenKind.{TokenKind}
-use Rattle.cgd_lex.specs.declared.token.TokenKind.TheVariants.{Word, Whole, Quoted, Newline, Bad}
+use Rattle.cgd_lex.specs.{Tokens.TokenView, declared.token.TokenKind.TokenKind, declared.token.TokenKind.TheVariants.Whole}
 use Rattle.keyline_import.specs.Values.{number_of, number_of_kind, number_or_zero}
 use Rattle.keyline_import.specs.Keys.{are_numbers}
 use Rattle.keyline_import.specs.KeyLines.{value_of, field_value, IsWhole}
@@ -25,28 +19,14 @@ abbrev minus : ℕ → ℤ
 minus n = pos 0 -ℤ pos n
 
 known : (f : ℕ → ℤ) (digits : List ℕ) → is_some (small f digits) ≡ true → unwrap_or (small f digits) (pos 0) ≡ f (whole_value digits)
-known f digits = by (nat_lt most_vertices (whole_value digits))
-  where
-    by : (t : Bool) → is_some (option_map f (cond t None (Some (whole_value digits)))) ≡ true
-        → unwrap_or (option_map f (cond t None (Some (whole_value digits)))) (pos 0) ≡ f (whole_value digits)
-    by true e = absurd cc
-    by false e = refl
+known f digits h = search arith
 
 -- a small number is the value
 value_known : (text : List ℕ) → is_some (number_up_to most_vertices text) ≡ true → unwrap_or (number_up_to most_vertices text) (pos 0) ≡ value_of text
-value_known [] e = refl
-value_known (b ∷ bytes) e = by (b == 45) (b == 43) e
-  where
-    by : (s t : Bool) → is_some (cond s (small minus bytes) (cond t (small pos bytes) (small pos (b ∷ bytes)))) ≡ true
-        → unwrap_or (cond s (small minus bytes) (cond t (small pos bytes) (small pos (b ∷ bytes)))) (pos 0)
-        ≡ cond s (minus (whole_value bytes)) (cond t (pos (whole_value bytes)) (pos (whole_value (b ∷ bytes))))
-    by true t e = known minus bytes e
-    by false true e = known pos bytes e
-    by false false e = known pos (b ∷ bytes) e
+value_known text h = search (arith, known)
 
 some_byte : (text : List ℕ) → is_some (number_up_to most_vertices text) ≡ true → text ≢ []
-some_byte [] e = absurd cc
-some_byte (b ∷ bytes) e = λ none. absurd cc
+some_byte text h = search arith
 
 -- what the number of a token says of it
 record IsKnown (kind : TokenKind) (text : List ℕ) : Type 0 where
@@ -55,11 +35,7 @@ record IsKnown (kind : TokenKind) (text : List ℕ) : Type 0 where
   value : unwrap_or (number_of_kind kind text) (pos 0) ≡ value_of text
 
 known_kind : (kind : TokenKind) (text : List ℕ) → is_some (number_of_kind kind text) ≡ true → IsKnown kind text
-known_kind Whole text e = record { whole = refl; some = some_byte text e; value = value_known text e }
-known_kind Word text e = absurd cc
-known_kind Quoted text e = absurd cc
-known_kind Newline text e = absurd cc
-known_kind Bad text e = absurd cc
+known_kind kind text h = search (arith, some_byte, value_known)
 
 -- fields that are numbers are whole, and their numbers are their values
 pub record AreKnown (fields : List TokenView) : Type 0 where
@@ -98,9 +74,7 @@ value_small (b ∷ bytes) some l = by (b == 45) (b == 43) l
     by : (s t : Bool) → IsSmallNumber (cond s (minus (whole_value bytes)) (cond t (pos (whole_value bytes)) (pos (whole_value (b ∷ bytes)))))
         → cond s (small minus bytes) (cond t (small pos bytes) (small pos (b ∷ bytes)))
         ≡ Some (cond s (minus (whole_value bytes)) (cond t (pos (whole_value bytes)) (pos (whole_value (b ∷ bytes)))))
-    by true t l = ap (option_map minus) (magnitude_is bytes (negative_size (whole_value bytes) l))
-    by false true l = ap (option_map pos) (magnitude_is bytes l)
-    by false false l = ap (option_map pos) (magnitude_is (b ∷ bytes) l)
+    by s t h = grind (arith, magnitude_is, negative_size)
 
 number_there : (t : TokenView) → IsWhole t → IsSmallNumber (field_value t) → number_of t ≡ Some (field_value t)
 number_there t whole l = ap (λ k. number_of_kind k t.text) whole.kind ∙ value_small t.text whole.some l

@@ -1,24 +1,15 @@
 -- The graph of a key line is a quotient graph within the limits.
-use Rattle.std.proofs.Common.{◌≡◌, ◌≢◌, ℕ, ◌≤◌, ℤ, pos, negsuc, ◌≤ℤ◌, Bool, true, false, cond, ◌||◌, not, nat_lt, List, [], ◌∷◌, ◌++◌, map, length, refl, sym}
-use Rattle.std.proofs.Common.{ap, subst, ◌∙◌, arith}
-use Rattle.std.specs.List.{All, AllPairs}
-use Rattle.std.specs.Int.RustNames.{unsigned_abs}
+use Rattle.std.proofs.Common.{◌≡◌, ◌≢◌, ℕ, ◌≤◌, ℤ, pos, ◌≤ℤ◌, Bool, true, false, cond, not, nat_lt, List, [], ◌∷◌, ◌++◌, map, length, refl, sym, subst, arith}
 use Rattle.std.proofs.lemmas.Bool.{and_from, and_parts, false≢true}
-use Rattle.std.proofs.lemmas.Bool.Decides.{Decides-int_eq, Decides-eqb, nat_tests}
-use Rattle.std.proofs.lemmas.Int.{ints}
-use Rattle.std.proofs.lemmas.List.{map-append}
-use Rattle.std.proofs.lemmas.List.Elements.{All-nil, All-cons, All-push, All-weaker, All-map}
-use Rattle.std.proofs.lemmas.List.Quantifiers.{all_pairs_push}
-use Rattle.periodic_net.specs.Graph.{Arc}
-use Rattle.periodic_net.specs.Limits.{most_vertices, most_edges}
-use Rattle.cgd_read.specs.Edges.{same_edge}
-use Rattle.cgd_read.specs.Spelling.{edge_of}
-use Rattle.cgd_read.specs.declared.edge.RawEdge.{RawEdge}
+use Rattle.std.proofs.lemmas.List.Elements.{All-push, All-weaker, All-map}
+use Rattle.std.proofs.lemmas.{Bool.Decides.nat_tests, List.map-append, List.Quantifiers.all_pairs_push}
+use Rattle.std.specs.{List.All, List.AllPairs, Int.RustNames.unsigned_abs}
+use Rattle.periodic_net.specs.{Graph.Arc, Limits.most_vertices, Limits.most_edges}
+use Rattle.cgd_read.specs.{Edges.same_edge, Spelling.edge_of, declared.edge.RawEdge.RawEdge}
 use Rattle.keyline_import.specs.Rows.{Row, IsRow, KeyView, no_rows, is_row, row_edge, is_repeat, with_row, may_follow}
 use Rattle.keyline_import.proofs.RowTests.{passes}
-use Rattle.cgd_read.proofs.CallerLemmas.{IsZero, all_fail}
 use Rattle.keyline_import.proofs.WellEdges.{IsWellEdge, wider, small_part, well_spelled}
-use Rattle.cgd_read.proofs.CallerLemmas.{apart}
+use Rattle.cgd_read.proofs.CallerLemmas.{IsZero, all_fail, apart}
 
 -- what rows make
 pub record IsWellKey (k : KeyView) : Type 0 where
@@ -28,30 +19,20 @@ pub record IsWellKey (k : KeyView) : Type 0 where
   pub few_edges : length k.edges ≤ most_edges
 
 pub well_nothing : (dim : ℕ) → IsWellKey (no_rows dim)
-well_nothing dim = record {
-  edges = All-nil (IsWellEdge 0 dim);
-  different = λ i j d l m. absurd (omega (arith, m));
-  few_vertices = omega arith;
-  few_edges = omega arith;
-}
+well_nothing dim = grind arith
 
 raw_of : Arc → RawEdge
 raw_of a = record { u = a.from; v = a.to; x = a.shift.x; y = a.shift.y; z = a.shift.z }
 
 -- vertices that have the same number are the same
 same_vertex : (u v : ℤ) → pos 1 ≤ℤ u → pos 1 ≤ℤ v → unsigned_abs u ≡ unsigned_abs v → u ≡ v
-same_vertex (pos m) (pos n) a b e = ap pos e
-same_vertex (pos m) (negsuc n) a b e = absurd (omega (arith, ints, b))
-same_vertex (negsuc m) v a b e = absurd (omega (arith, ints, a))
+same_vertex u v h k l = search arith
 
 vertex_within : (u : ℤ) → (pos 1 ≤ℤ u) × (u ≤ℤ pos most_vertices) → (1 ≤ unsigned_abs u) × (unsigned_abs u ≤ most_vertices)
-vertex_within (pos n) h = (omega (arith, ints, h.0), omega (arith, ints, h.1))
-vertex_within (negsuc n) h = absurd (omega (arith, ints, h.0))
+vertex_within u k = search arith
 
 no_loop : (r : Row) → IsRow r → unsigned_abs r.u ≡ unsigned_abs r.v → IsZero r.x r.y r.z → ⊥
-no_loop r h e zero =
-    false≢true (sym h.joins ∙ and_from _ _ ((Decides-int_eq r.u r.v).1 (same_vertex r.u r.v h.u.0 h.v.0 e))
-    (and_from _ _ ((Decides-int_eq r.x (pos 0)).1 zero.0) (and_from _ _ ((Decides-int_eq r.y (pos 0)).1 zero.1) ((Decides-int_eq r.z (pos 0)).1 zero.2))))
+no_loop r h e k = grind (arith, false≢true, and_from, same_vertex)
 
 -- the edge of a row
 row_makes : (k : KeyView) (r : Row) → IsRow r → (k.dim ≡ 2 → r.z ≡ pos 0) → IsWellEdge (with_row k r).vertices k.dim (row_edge r)

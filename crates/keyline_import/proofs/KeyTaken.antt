@@ -1,17 +1,11 @@
 -- A dimension and rows are taken for a key.
-use Rattle.std.proofs.Common.{◌≡◌, ◌⊎◌, inl, inr, ℕ, ◌≤◌, ℤ, pos, negsuc, ◌-ℤ◌, ◌≤ℤ◌, Bool, true, false, cond, ◌==◌, not, nat_lt, List, [], ◌∷◌, ◌++◌, length}
-use Rattle.std.proofs.Common.{flat_map, fold, Option, None, Some, refl, sym, ap, subst, ◌∙◌, arith}
-use Rattle.std.specs.List.{All}
-use Rattle.std.specs.Int.RustNames.{unsigned_abs}
-use Rattle.std.specs.Int.Signed.{le_z}
-use Rattle.std.proofs.lemmas.Bool.{and_from}
-use Rattle.std.proofs.lemmas.Bool.Decides.{nat_tests}
-use Rattle.std.proofs.lemmas.Int.{ints}
-use Rattle.std.proofs.lemmas.List.{length-append}
-use Rattle.std.proofs.lemmas.List.Elements.{All-head, All-tail}
+use Rattle.std.proofs.Common.{◌≡◌, ◌⊎◌, inl, inr, ℕ, ◌≤◌, ℤ, pos, ◌-ℤ◌, ◌≤ℤ◌, true, false, cond, ◌==◌, not, nat_lt, List, [], ◌∷◌, length, flat_map, fold}
+use Rattle.std.proofs.Common.{Option, None, Some, refl, sym, ap, subst, ◌∙◌, arith}
+use Rattle.std.proofs.lemmas.{Bool.and_from, Bool.Decides.nat_tests, Int.ints, List.length-append, List.Elements.All-head, List.Elements.All-tail}
+use Rattle.std.specs.{List.All, Int.RustNames.unsigned_abs, Int.Signed.le_z}
 use Rattle.periodic_net.specs.Limits.{most_vertices, most_edges, most_shift}
 use Rattle.cgd_read.specs.Spelling.{IsSmallPart}
-use Rattle.keyline_import.specs.Rows.{Row, row, IsRow, KeyView, no_rows, with_row, is_vertex, is_part, is_row, is_repeat, row_edge, may_follow}
+use Rattle.keyline_import.specs.Rows.{Row, row, IsRow, KeyView, no_rows, with_row, is_vertex, is_part, is_row, may_follow}
 use Rattle.keyline_import.specs.Keys.{flat_rows, space_rows, if_some_row, key_of_numbers}
 use Rattle.keyline_import.specs.KeyLines.{numbers_of_row, made_of, IsKeyOfNumbers}
 
@@ -22,19 +16,12 @@ part_test : (n : ℤ) → IsSmallPart n → is_part n ≡ true
 part_test n h = and_from (le_z (pos 0 -ℤ pos most_shift) n) _ (grind (arith, ints, h.0)) (grind (arith, ints, h.1))
 
 row_test : (r : Row) → IsRow r → is_row r ≡ true
-row_test r h =
-    and_from (is_vertex r.u) _ (vertex_test r.u h.u) (and_from (is_vertex r.v) _ (vertex_test r.v h.v)
-    (and_from (is_part r.x) _ (part_test r.x h.x) (and_from (is_part r.y) _ (part_test r.y h.y)
-    (and_from (is_part r.z) _ (part_test r.z h.z) (ap not h.joins)))))
+row_test r h = grind (arith, and_from, vertex_test, part_test)
 
 -- edges and vertices do not become fewer
 
 more_edges : (k : KeyView) (r : Row) → length k.edges ≤ length (with_row k r).edges
-more_edges k r = by (is_repeat k r)
-  where
-    by : (t : Bool) → length k.edges ≤ length (cond t k.edges (k.edges ++ row_edge r ∷ []))
-    by true = omega arith
-    by false = omega (arith, length-append k.edges (row_edge r ∷ []))
+more_edges k r = search (arith, length-append)
 
 edges_grow : (rows : List Row) (k : KeyView) → length k.edges ≤ length (fold with_row k rows).edges
 edges_grow [] k = omega arith
@@ -72,8 +59,7 @@ space_taken (r ∷ rows) k each few =
     ∙ space_taken rows (with_row k r) (All-tail IsRow r rows each) few
 
 positive : (u : ℤ) → pos 1 ≤ℤ u → 1 ≤ unsigned_abs u
-positive (pos n) l = omega (arith, ints, l)
-positive (negsuc n) l = absurd (omega (arith, ints, l))
+positive u h = search arith
 
 has_vertex : (rows : List Row) (dim : ℕ) → All IsRow rows → 1 ≤ length rows → 1 ≤ (made_of dim rows).vertices
 has_vertex [] dim each some = absurd (omega (arith, some))
@@ -90,13 +76,11 @@ some_taken rows dim o is some = ap if_some_row is ∙ ap (λ t. cond t None (Som
 
 in_plane : (rows : List Row) → All IsRow rows → All IsFlatRow rows → 1 ≤ length rows → length (made_of 2 rows).edges ≤ most_edges
     → key_of_numbers (pos 2 ∷ flat_map (numbers_of_row 2) rows) ≡ Some (made_of 2 rows)
-in_plane rows each flat some few = some_taken rows 2 (flat_rows (no_rows 2) (flat_map (numbers_of_row 2) rows)) (flat_taken rows (no_rows 2) each flat few)
-    (has_vertex rows 2 each some)
+in_plane rows each flat some few = search (arith, some_taken, flat_taken, has_vertex)
 
 in_space : (rows : List Row) → All IsRow rows → 1 ≤ length rows → length (made_of 3 rows).edges ≤ most_edges
     → key_of_numbers (pos 3 ∷ flat_map (numbers_of_row 3) rows) ≡ Some (made_of 3 rows)
-in_space rows each some few = some_taken rows 3 (space_rows (no_rows 3) (flat_map (numbers_of_row 3) rows)) (space_taken rows (no_rows 3) each few)
-    (has_vertex rows 3 each some)
+in_space rows each some few = search (arith, some_taken, space_taken, has_vertex)
 
 -- a key is taken for one
 pub key_taken : (numbers : List ℤ) (k : KeyView) → IsKeyOfNumbers numbers k → key_of_numbers numbers ≡ Some k

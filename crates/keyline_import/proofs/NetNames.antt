@@ -1,19 +1,14 @@
 -- Each item that is a net has a name.
-use Rattle.std.proofs.Common.{◌≡◌, ◌&&◌, ◌||◌, is_none, ℕ, Bool, true, false, cond, List, [], ◌∷◌, Option, None, Some, refl, sym, subst}
-use Rattle.std.specs.List.{All}
+use Rattle.std.proofs.Common.{◌≡◌, ◌&&◌, ◌||◌, is_none, ℕ, Bool, true, false, cond, List, [], ◌∷◌, Option, None, Some, arith}
 use Rattle.std.proofs.lemmas.List.Elements.{All-cons, All-nil}
+use Rattle.std.specs.List.{All}
 use Rattle.line_text.specs.Names.{is_name}
 use Rattle.cgd_lex.specs.Tokens.{TokenView, tokens_of}
-use Rattle.cgd_lex.specs.Words.{name_in}
 use Rattle.keyline_import.specs.Faults.{key_of, name_of, name_after, first_true, is_second, is_bad_key, is_bad_id}
 use Rattle.keyline_import.specs.Items.{Net, ItemView, body_with, items_from, item_after, item_of, or_fault, with_body}
 use Rattle.keyline_import.specs.Lines.{LineView, begins_item, is_end, lines_in}
-use Rattle.keyline_import.specs.Names.{if_name, name_of_fields}
-use Rattle.keyline_import.specs.NetNames.{IsNamed, IsNamedAs, NetsAreNamed}
-use Rattle.keyline_import.specs.Rows.{KeyView}
 use Rattle.keyline_import.specs.declared.item.ItemFaultKind.TheVariants.{BadKey, BadId, Twice, Missing}
-use Rattle.keyline_import.specs.declared.line.LineKind.{LineKind}
-use Rattle.keyline_import.specs.declared.line.LineKind.TheVariants.{Key, Id, End, Other}
+use Rattle.keyline_import.specs.{Names.if_name, Names.name_of_fields, NetNames.IsNamed, NetNames.NetsAreNamed, Rows.KeyView, declared.line.LineKind.LineKind}
 
 -- what is given as a name is one
 abbrev IsNameIn : Option (List ℕ) → Type 0
@@ -21,23 +16,16 @@ IsNameIn None = Unit {0}
 IsNameIn (Some name) = is_name name ≡ true
 
 tested : (bytes : List ℕ) (t : Bool) → is_name bytes ≡ t → IsNameIn (cond t (Some bytes) None)
-tested bytes true e = e
-tested bytes false e = tt
+tested bytes t h = search arith
 
 is_tested : (bytes : Option (List ℕ)) → IsNameIn (if_name bytes)
-is_tested None = tt
-is_tested (Some bytes) = tested bytes (is_name bytes) refl
+is_tested bytes = search (arith, tested)
 
 of_fields : (fields : List TokenView) → IsNameIn (name_of_fields fields)
-of_fields [] = tt
-of_fields (token ∷ []) = is_tested (name_in token)
-of_fields (token ∷ other ∷ fields) = tt
+of_fields fields = search (arith, is_tested)
 
 of_line : (kind : LineKind) (name before : Option (List ℕ)) → IsNameIn name → IsNameIn before → IsNameIn (name_after kind name before)
-of_line Id name before h k = h
-of_line Key name before h k = k
-of_line End name before h k = k
-of_line Other name before h k = k
+of_line kind name before l p = search arith
 
 of_lines : (earlier : List LineView) → IsNameIn (name_of earlier)
 of_lines [] = tt
@@ -46,19 +34,13 @@ of_lines (line ∷ earlier) = of_line line.kind (name_of_fields line.fields) (na
 -- an item that ends has its name
 ends_named : (opening line : ℕ) (earlier : List LineView) (key : KeyView) (name : Option (List ℕ)) → name_of earlier ≡ name
     → IsNamed (or_fault (cond (is_none name) (Some Missing) None) line opening earlier (with_body opening earlier (Net key)))
-ends_named opening line earlier key None e = tt
-ends_named opening line earlier key (Some name) e = subst (IsNamedAs (Net key)) (sym e) (subst IsNameIn e (of_lines earlier))
+ends_named opening line earlier key name h = search (arith, of_lines)
 
 -- a line has a fault, or ends the item, or is passed over
 one_line : (a b c end : Bool) (key : Option KeyView) (opening line : ℕ) (earlier : List LineView) (later : ItemView) → IsNamed later
     → IsNamed (or_fault (first_true ((Twice, a) ∷ (BadKey, b) ∷ (BadId, c) ∷ (Missing, end && (is_none key || is_none (name_of earlier))) ∷ [])) line opening
     earlier (cond end (with_body opening earlier (body_with line key)) later))
-one_line true b c end key opening line earlier later h = tt
-one_line false true c end key opening line earlier later h = tt
-one_line false false true end key opening line earlier later h = tt
-one_line false false false false key opening line earlier later h = h
-one_line false false false true None opening line earlier later h = tt
-one_line false false false true (Some key) opening line earlier later h = ends_named opening line earlier key (name_of earlier) refl
+one_line a b c end key opening line earlier later k = grind (arith, ends_named)
 
 of_item : (opening : ℕ) (earlier lines : List LineView) → IsNamed (item_after opening earlier lines)
 of_item opening earlier [] = tt
@@ -67,8 +49,7 @@ of_item opening earlier (line ∷ lines) =
     (item_after opening (line ∷ earlier) lines) (of_item opening (line ∷ earlier) lines)
 
 either : (t : Bool) (xs ys : List ItemView) → All IsNamed xs → All IsNamed ys → All IsNamed (cond t xs ys)
-either true xs ys h k = h
-either false xs ys h k = k
+either t xs ys l p = search arith
 
 of_items : (inside : Bool) (lines : List LineView) → All IsNamed (items_from inside lines)
 of_items inside [] = All-nil IsNamed

@@ -1,21 +1,15 @@
 -- What the test of a row says of its numbers.
-use Rattle.std.proofs.Common.{◌≡◌, ℤ, pos, ◌-ℤ◌, ◌≤ℤ◌, Bool, true, false, not, arith}
+use Rattle.std.proofs.Common.{◌≡◌, ℤ, pos, ◌≤ℤ◌, true, arith}
 use Rattle.std.proofs.lemmas.Bool.{and_parts, not-true}
-use Rattle.std.proofs.lemmas.Int.{ints}
-use Rattle.std.specs.Int.Signed.{le_z}
-use Rattle.periodic_net.specs.Limits.{most_vertices, most_shift}
+use Rattle.periodic_net.specs.Limits.{most_vertices}
 use Rattle.cgd_read.specs.Spelling.{IsSmallPart}
 use Rattle.keyline_import.specs.Rows.{Row, IsRow, is_row, is_part, is_vertex, is_self_edge}
 
 vertex : (n : ℤ) → is_vertex n ≡ true → (pos 1 ≤ℤ n) × (n ≤ℤ pos most_vertices)
-vertex n e =
-    let both = and_parts (le_z (pos 1) n) _ e in
-    (grind (arith, ints, both.0), grind (arith, ints, both.1))
+vertex n e = search (arith, and_parts)
 
 part : (n : ℤ) → is_part n ≡ true → IsSmallPart n
-part n e =
-    let both = and_parts (le_z (pos 0 -ℤ pos most_shift) n) _ e in
-    (grind (arith, ints, both.0), grind (arith, ints, both.1))
+part n e = search (arith, and_parts)
 
 -- numbers that pass the test are a row
 pub passes : (r : Row) → is_row r ≡ true → IsRow r

@@ -2,8 +2,7 @@
 use Rattle.std.proofs.Common.{◌≡◌, ℕ, ◌≤◌, ℤ, pos, ◌-ℤ◌, neg_ℤ, Bool, true, false, ap, arith}
 use Rattle.std.proofs.lemmas.Int.{ints}
 use Rattle.std.specs.Int.RustNames.{unsigned_abs}
-use Rattle.periodic_net.specs.Graph.{IsNormalSpelling}
-use Rattle.periodic_net.specs.Limits.{most_shift}
+use Rattle.periodic_net.specs.{Graph.IsNormalSpelling, Limits.most_shift}
 use Rattle.cgd_read.specs.Spelling.{spelled, is_forward, normal, edge_of}
 use Rattle.cgd_read.specs.declared.edge.RawEdge.{RawEdge}
 use Rattle.cgd_read.proofs.CallerLemmas.{normal_spelled, IsZero, negative_small}
@@ -20,15 +19,7 @@ pub record IsWellEdge (n dim : ℕ) (e : RawEdge) : Type 0 where
   pub z : unsigned_abs e.z ≤ most_shift
 
 pub wider : (m n dim : ℕ) → m ≤ n → (e : RawEdge) → IsWellEdge m dim e → IsWellEdge n dim e
-wider m n dim l e w = record {
-  first = (w.first.0, omega (arith, w.first.1, l));
-  second = (w.second.0, omega (arith, w.second.1, l));
-  flat = w.flat;
-  spelling = w.spelling;
-  x = w.x;
-  y = w.y;
-  z = w.z;
-}
+wider m n dim l e w = search arith
 
 negative : (x : ℤ) → pos 0 -ℤ x ≡ neg_ℤ x
 negative x = omega (arith, ints)

@@ -105,6 +105,46 @@ fn ended_item<'a>(
     })
 }
 
+// The item that the line that begins in this way begins; the state is that of no line yet. The
+// numbers are scratch.
+fn read_lines<'a>(
+    alloc: Global,
+    lexer: &mut Lexer<'a>,
+    opening: &Head,
+    numbers: &mut Vec<i32>,
+    state: &mut State<'a>,
+) -> Result<Item<'a>, NoMemory>
+    requires room { length lexer.old ≤ longest_text }
+    requires begins { begins_item opening.now.kind ≡ true }
+    requires new { IsStateAfter state.old [] }
+    ensures item { IfOk result (IsItemRead (item_of
+        (line_view opening.now (rest_of_line lexer.old)) (lines_in (after_line lexer.old)))) }
+    ensures lines { OnOk result (
+        lines_in lexer.new ≡ after_end (lines_in (after_line lexer.old))) }
+    ensures shorter { OnOk result (length lexer.new ≤ length lexer.old) }
+{
+    if let Some(kind) = state.judge(alloc, lexer, opening, numbers)? {
+        pass_item(lexer);
+        return Ok(faulty_item(opening.number, None, opening.number, kind));
+    }
+    while let Some(head) = next_head(lexer) {
+        let name = state.name;
+        if let Some(kind) = state.judge(alloc, lexer, &head, numbers)? {
+            pass_from(lexer, head.kind);
+            return Ok(faulty_item(opening.number, name, head.number, kind));
+        }
+        if head.kind.is_end() {
+            return ended_item(alloc, opening.number, head.number, state);
+        }
+    }
+    Ok(faulty_item(
+        opening.number,
+        state.name,
+        opening.number,
+        ItemFaultKind::NoEnd,
+    ))
+}
+
 // The item that the line that begins in this way begins. The numbers are scratch.
 fn read_item<'a>(
     alloc: Global,
@@ -121,26 +161,7 @@ fn read_item<'a>(
     ensures shorter { OnOk result (length lexer.new ≤ length lexer.old) }
 {
     let mut state: State<'a> = State::new();
-    if let Some(kind) = state.judge(alloc, lexer, opening, numbers)? {
-        pass_item(lexer);
-        return Ok(faulty_item(opening.number, None, opening.number, kind));
-    }
-    while let Some(head) = next_head(lexer) {
-        let name = state.name;
-        if let Some(kind) = state.judge(alloc, lexer, &head, numbers)? {
-            pass_from(lexer, head.kind);
-            return Ok(faulty_item(opening.number, name, head.number, kind));
-        }
-        if head.kind.is_end() {
-            return ended_item(alloc, opening.number, head.number, &state);
-        }
-    }
-    Ok(faulty_item(
-        opening.number,
-        state.name,
-        opening.number,
-        ItemFaultKind::NoEnd,
-    ))
+    read_lines(alloc, lexer, opening, numbers, &mut state)
 }
 
 // Adds the item that the line that begins in this way begins. The numbers are scratch.

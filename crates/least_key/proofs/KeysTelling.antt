@@ -1,21 +1,14 @@
 -- Accepted graphs have equal keys exactly where their nets are isomorphic.
 use Rattle.std.proofs.Common.{◌≡◌, ◌∙◌, sym, ap, subst, ℕ, zero, suc, ◌+◌, ◌<◌, List, [], ◌∷◌, ◌++◌, length, take, Result, Ok, arith}
-use Rattle.std.specs.Prelude.{◌↔◌, slice_index_or}
-use Rattle.std.specs.List.{AllZip}
-use Rattle.std.proofs.Math.ListN.{get_or}
-use Rattle.std.proofs.lemmas.List.{take_more}
-use Rattle.periodic_net.specs.Graph.{Graph}
-use Rattle.periodic_net.specs.Maps.{Iso}
+use Rattle.std.proofs.{Math.ListN.get_or, lemmas.List.take_more}
+use Rattle.std.specs.{Prelude.◌↔◌, Prelude.slice_index_or, List.AllZip}
+use Rattle.periodic_net.specs.{Graph.Graph, Maps.Iso}
 use Rattle.key_theory.specs.Key.{IsKeyOf}
 use Rattle.key_theory.proofs.CallerLemmas.{keys_decide}
-use Rattle.quotient_graph.specs.AnyGraphs.{graph_view}
-use Rattle.quotient_graph.specs.declared.any_graph.AnyGraph.{AnyGraph}
+use Rattle.quotient_graph.specs.{AnyGraphs.graph_view, declared.any_graph.AnyGraph.AnyGraph}
 use Rattle.least_key.specs.Answers.{IsAnswerTo, AreAnswers, KeysTell}
-use Rattle.least_key.specs.AnyNets.{net_view}
-use Rattle.least_key.specs.KeyedNets.{KeyedNet, IsKeyed}
-use Rattle.least_key.specs.declared.net.Net.{Net}
+use Rattle.least_key.specs.{AnyNets.net_view, KeyedNets.KeyedNet, KeyedNets.IsKeyed, declared.net.Net.Net, declared.refusal.Refusal.Refusal}
 use Rattle.least_key.proofs.Truth.{shape_of}
-use Rattle.least_key.specs.declared.refusal.Refusal.{Refusal}
 
 -- the key of a keyed net is the key of its graph
 pub key_of_graph : (n : KeyedNet) → IsKeyed n → IsKeyOf n.placed.graph n.key

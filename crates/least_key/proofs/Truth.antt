@@ -1,20 +1,15 @@
 -- What the faults of the steps report is true as a refusal.
-use Rattle.std.proofs.Common.{◌≡◌, ℕ, Result, Ok, Err, refl, sym, subst}
+use Rattle.std.proofs.Common.{◌≡◌, ℕ, Result, refl, subst, arith}
 use Rattle.std.specs.Prelude.{IfErr, IsErrAnd}
-use Rattle.periodic_net.specs.Classes.{ClassGraph}
-use Rattle.periodic_net.specs.Graph.{Graph}
-use Rattle.key_theory.specs.Frames.{IsWorkPast}
-use Rattle.key_theory.specs.Key.{Shape}
+use Rattle.periodic_net.specs.{Classes.ClassGraph, Graph.Graph}
+use Rattle.key_theory.specs.{Frames.IsWorkPast, Key.Shape}
 use Rattle.quotient_graph.specs.NetClasses.{NetClasses, AreClasses, class_at}
 use Rattle.quotient_graph.specs.PlacedNets.{PlacedNet}
 use Rattle.edge_frames.specs.declared.work.KeyWork.{KeyWork}
-use Rattle.edge_frames.specs.declared.work.KeyWork.TheVariants as work
-use Rattle.connected_dim.specs.Refusals.{IsRefused}
-use Rattle.connected_dim.specs.declared.connectedness.Unconnected.{Unconnected}
 use Rattle.connected_dim.specs.declared.connectedness.Unconnected.TheVariants.{Disconnected, Degenerate, NoMemory}
-use Rattle.least_key.specs.Causes.{unconnected_refusal, work_refusal}
-use Rattle.least_key.specs.Placings.{IsSettledAs}
-use Rattle.least_key.specs.Truths.{HasTooMuchWork, IsTrueOf}
+use Rattle.connected_dim.specs.{Refusals.IsRefused, declared.connectedness.Unconnected.Unconnected}
+use Rattle.least_key.specs.{Causes.unconnected_refusal, Causes.work_refusal, Placings.IsSettledAs, Truths.HasTooMuchWork, Truths.IsTrueOf}
+use Rattle.edge_frames.specs.declared.work.KeyWork.TheVariants as work
 
 -- where the net is not connected
 pub unconnected_true : {D : ℕ} (G : Graph) (u : Unconnected D) → IsRefused G u → IsTrueOf G (unconnected_refusal u)
@@ -43,5 +38,4 @@ work_true G p settled n h e K k work.NoMemory past = tt
 
 -- an error that is known has what holds of it
 pub known_error : {A E : Type 0} (P : E → Type 0) (x : E) (r : Result A E) → IsErrAnd r (λ e. e ≡ x) → P x → IfErr r P
-known_error P x (Ok a) h p = tt
-known_error P x (Err e) h p = subst P (sym h) p
+known_error P x r k l = search arith

@@ -1,16 +1,14 @@
 -- An arc is looked for in a list of arcs that rise.
 use Rattle.std.proofs.Common.{◌≡◌, ℕ, ◌+◌, ◌<◌, List, length, get_or, refl, sym, subst, ◌∙◌, arith}
+use Rattle.std.proofs.{Math.Decide.dec_lt, Math.Decide.ℕ_discrete, lemmas.List.get_or_default}
 use Rattle.std.specs.List.{All, Contains}
-use Rattle.std.proofs.Math.Decide.{dec_lt, ℕ_discrete}
 use Prim.{Dec, yes, no}
 use Rattle.integers.specs.Vectors.{minus, IsBelow, IsWithin}
 use Rattle.integers.proofs.lists.ListOrder.{below_transitive, not_below_itself}
 use Rattle.periodic_net.specs.Graph.{Graph, Arc, arc, IsArc, Vertex, AreJoined}
 use Rattle.periodic_net.specs.Limits.{most_shift}
-use Rattle.quotient_graph.specs.Stars.{IsArcFrom}
-use Rattle.quotient_graph.specs.Order.{arc_numbers, AreRising}
+use Rattle.quotient_graph.specs.{Stars.IsArcFrom, Order.arc_numbers, Order.AreRising}
 use Rattle.map_check.specs.Arcs.{ComeBefore, DoNotComeBefore, SplitsAt, StandsAt}
-use Rattle.std.proofs.lemmas.List.{get_or_default}
 
 -- what comes before an arc that comes before a does so
 pub all_before : (arcs : List Arc) (a x : Arc) (m : ℕ) → AreRising arcs → m < length arcs → x ≡ get_or arcs m x → IsBelow (arc_numbers x) (arc_numbers a)

@@ -1,22 +1,23 @@
 -- Where the map is a bijection, no image is another, moved by the shifts, and the shifts are independent.
-use Rattle.std.proofs.Common.{◌≡◌, ◌≢◌, ◌⊎◌, inl, inr, ℕ, ◌≤◌, ℤ, pos, ◌+ℤ◌, ◌*ℤ◌, ◌<ℤ◌, ◌≤ℤ◌, refl, sym, ap, subst, ◌∙◌, arith}
-use Rattle.std.specs.Prelude.{unsigned_abs}
+use Rattle.std.proofs.Common.{◌≡◌, ◌≢◌, ◌⊎◌, ℕ, ◌≤◌, ℤ, pos, ◌+ℤ◌, ◌*ℤ◌, ◌<ℤ◌, ◌≤ℤ◌, refl, sym, ap, ◌∙◌, arith, ◌*◌, ◌^◌, subst}
 use Rattle.std.proofs.lemmas.Int.{ints}
-use Rattle.integers.specs.Vectors.{Vector, vector, zero_vector, up_vector, plus, times, HasDimension}
-use Rattle.integers.proofs.numbers.Ring.{ring, linear}
-use Rattle.integers.proofs.vectors.Laws.{vector_equal, zero_plus, plus_zero, times_cancel, times_dimension, times_zero}
-use Rattle.integers.proofs.vectors.Independence.{relation_of_zero, product_is_determinant}
-use Rattle.periodic_net.specs.Graph.{Graph, Vertex, vertex, moved}
+use Rattle.std.specs.Prelude.{unsigned_abs}
+use Rattle.integers.specs.Vectors.{Vector, vector, zero_vector, up_vector, plus, times, HasDimension, minus}
 use Rattle.integers.specs.Bases.{Base, base_sum}
+use Rattle.integers.proofs.vectors.Laws.{vector_equal, zero_plus, plus_zero, times_cancel, times_dimension, times_zero, minus_dimension, minus_shifted}
+use Rattle.integers.proofs.vectors.Laws.{plus_commutative}
+use Rattle.integers.proofs.counting.Numbering.{Numbering, no_fewer, no_fewer_given}
+use Rattle.integers.proofs.{numbers.Ring.ring, numbers.Ring.linear, vectors.Independence.relation_of_zero, vectors.Independence.product_is_determinant}
+use Rattle.integers.proofs.{vectors.BaseSums.base_sum_minus}
+use Rattle.periodic_net.specs.Graph.{Graph, Vertex, vertex, moved, IsVertex}
 use Rattle.periodic_net.specs.Maps.{PeriodicMap, IsInBox, IsBijection}
-use Rattle.periodic_net.proofs.CallerLemmas.{moved_vertex, origin_vertex, periodic_of_drawn}
-use Rattle.sublattice.specs.Sublattices.{determinant, AreFlat}
-use Rattle.sublattice.proofs.CallerLemmas.{any_last}
-use Rattle.sublattice.proofs.Numbers.{natural_part}
-use Rattle.sublattice.proofs.Residues.{same_remainder}
-use Rattle.map_check.specs.Tables.{HasNoDouble}
+use Rattle.periodic_net.proofs.CallerLemmas.{moved_vertex, origin_vertex, periodic_of_drawn, InBox, in_box}
+use Rattle.sublattice.specs.Sublattices.{determinant, AreFlat, index_of}
+use Rattle.sublattice.proofs.{CallerLemmas.any_last, Numbers.natural_part, Residues.same_remainder}
+use Rattle.map_check.specs.Tables.{HasNoDouble, CountsAgree, IsBoxVertex}
 use Rattle.map_check.specs.Laws.{IsMapOf}
-use Rattle.map_check.proofs.Setting.{at_place, flat_shifts}
+use Rattle.map_check.proofs.Bijections.{at_place, flat_shifts, image_of, images_apart}
+use Rattle.map_check.proofs.Layouts.{AreSameVertex, AreMovedCopies, place_numbers, copy_numbers}
 
 -- parts of the box that differ by a multiple of m are equal
 box_part : (m : ℕ) (x y k : ℤ) → pos 0 ≤ℤ x → x <ℤ pos m → pos 0 ≤ℤ y → y <ℤ pos m → x ≡ y +ℤ pos m *ℤ k → x ≡ y
@@ -28,10 +29,7 @@ box_part m x y k a b c d e =
 
 -- the same of vectors
 pub same_in_box : (d m : ℕ) (r s k : Vector) → IsInBox d m r → IsInBox d m s → r ≡ plus s (times (pos m) k) → r ≡ s
-same_in_box d m r s k a b e =
-    vector_equal (box_part m r.x s.x k.x a.low.0 a.high.0 b.low.0 b.high.0 (ap (λ (v : Vector). v.x) e))
-    (box_part m r.y s.y k.y a.low.1 a.high.1 b.low.1 b.high.1 (ap (λ (v : Vector). v.y) e))
-    (box_part m r.z s.z k.z a.low.2 a.high.2 b.low.2 b.high.2 (ap (λ (v : Vector). v.z) e))
+same_in_box d m r s k a b e = search (arith, vector_equal, box_part)
 
 -- no image is another, moved
 pub no_double : {G H : Graph} {M : PeriodicMap} {f : Vertex → Vertex} → IsMapOf G H M f → IsBijection G H f → HasNoDouble G M
@@ -98,10 +96,72 @@ flat_determinant b f only e =
 
 -- by the dimension
 determinant_by : (d : ℕ) (b : Base) → (d ≡ 2) ⊎ (d ≡ 3) → OnlyNothing b d
-determinant_by d b (inl e) = subst (OnlyNothing b) (sym e) (flat_determinant b)
-determinant_by d b (inr e) = subst (OnlyNothing b) (sym e) (full_determinant b)
+determinant_by d b h = grind (arith, flat_determinant, full_determinant)
 
 -- the determinant of the shifts is not 0
 pub determinant_of_bijection : {G H : Graph} {M : PeriodicMap} {f : Vertex → Vertex} → IsMapOf G H M f → IsBijection G H f
     → determinant G.dimension M.base ≢ pos 0
 determinant_of_bijection {G} {H} {M} {f} h b = determinant_by G.dimension M.base h.graph.dimension (λ e. flat_shifts h (sym h.same ∙ e)) (only_nothing h b)
+
+-- Where the map is a bijection, the images are as many as the vertices up to the shifts.
+
+-- moves from one vector differ as the moves do
+difference_vector : (p a b : Vector) → minus (plus p a) (plus p b) ≡ minus a b
+difference_vector p a b = search (arith, plus_commutative, minus_shifted)
+
+-- two numbers that are not less than each other
+pub equal_numbers : (a b : ℕ) → a ≤ b → b ≤ a → a ≡ b
+equal_numbers a b h k = omega arith
+
+module _ {G H : Graph} {M : PeriodicMap} {f : Vertex → Vertex} (h : IsMapOf G H M f) (b : IsBijection G H f) where
+  -- the vertices up to the shifts
+  copies : Numbering (IsVertex H) (AreMovedCopies H.dimension M.base) (H.vertices * index_of H.dimension M.base)
+  copies = copy_numbers H M.base h.other.dimension (flat_shifts h) (subst (λ (d : ℕ). determinant d M.base ≢ pos 0) h.same (determinant_of_bijection h b))
+
+  -- the places
+  places : Numbering (IsBoxVertex G M.m) AreSameVertex (G.vertices * M.m ^ G.dimension)
+  places = place_numbers G M.m h.graph.dimension h.table.positive
+
+  -- the vertex that goes to y, as a place and a move
+  abbrev split : (y : Vertex) (j : IsVertex H y) → InBox G.dimension M.m (b.onto y j).0.cell
+  split y j = in_box G.dimension M.m h.table.positive (b.onto y j).0.cell (b.onto y j).1.cell
+
+  -- its place
+  abbrev place : (y : Vertex) → IsVertex H y → Vertex
+  place y j = vertex (b.onto y j).0.over (split y j).r
+
+  -- y is the image of the place, moved
+  image_moved : (y : Vertex) (j : IsVertex H y) → y ≡ moved (image_of M (place y j)) (base_sum M.base (split y j).k)
+  image_moved y j =
+      sym (b.onto y j).2 ∙ ap (λ (v : Vector). f (vertex (b.onto y j).0.over v)) (split y j).sum
+      ∙ h.drawn (b.onto y j).0.over (split y j).r (split y j).k (b.onto y j).1.over (split y j).box (split y j).dimension
+
+  -- vertices of one place are moved copies
+  copies_of_place : (x y : Vertex) (i : IsVertex H x) (j : IsVertex H y) → place x i ≡ place y j → AreMovedCopies H.dimension M.base x y
+  copies_of_place x y i j e =
+      let p = image_moved x i in
+      let q = image_moved y j ∙ ap (λ (w : Vertex). moved (image_of M w) (base_sum M.base (split y j).k)) (sym e) in
+      record {
+        over = ap (λ (w : Vertex). w.over)
+            (p ∙ ap (λ (w : Vertex). vertex (image_of M w).over (plus (image_of M (place x i)).cell (base_sum M.base (split x i).k))) e)
+            ∙ sym (ap (λ (w : Vertex). w.over) (image_moved y j));
+        cell = record {
+          k = minus (split x i).k (split y j).k;
+          dimension = subst (λ (d : ℕ). HasDimension d (minus (split x i).k (split y j).k)) h.same
+              (minus_dimension G.dimension (split x i).k (split y j).k (split x i).dimension (split y j).dimension);
+          sum = (λ t. minus (p t).cell (q t).cell) ∙ difference_vector (image_of M (place x i)).cell (base_sum M.base (split x i).k)
+              (base_sum M.base (split y j).k)
+              ∙ sym (base_sum_minus M.base (split x i).k (split y j).k);
+        };
+      }
+
+  -- the counts agree
+  pub count_of_bijection : CountsAgree G H M
+  count_of_bijection =
+      let n = H.vertices * index_of H.dimension M.base in
+      equal_numbers (G.vertices * M.m ^ G.dimension) n
+      (no_fewer (IsBoxVertex G M.m) AreSameVertex (IsVertex H) (AreMovedCopies H.dimension M.base) (G.vertices * M.m ^ G.dimension) n places copies
+      (image_of M) (images_apart h (no_double h b)))
+      (no_fewer_given (IsVertex H) (AreMovedCopies H.dimension M.base) (IsBoxVertex G M.m) AreSameVertex n (G.vertices * M.m ^ G.dimension) copies places place
+      (λ y j. record { over = (b.onto y j).1.over; box = (split y j).box }) copies_of_place)
+      ∙ ap (λ (d : ℕ). H.vertices * index_of d M.base) (sym h.same)

@@ -4,20 +4,18 @@ use Rattle.std.proofs.Math.Decide.{ℕ_discrete, dec_lt}
 use Prim.{Dec, yes, no}
 use Rattle.integers.specs.Bases.{Base, base_sum}
 use Rattle.integers.specs.Vectors.{Vector, zero_vector, plus, minus}
-use Rattle.integers.proofs.numbers.Ring.{linear}
-use Rattle.integers.proofs.vectors.BaseSums.{base_sum_minus, base_sum_zero}
-use Rattle.integers.proofs.vectors.Laws.{vector_equal, minus_dimension}
+use Rattle.integers.proofs.{numbers.Ring.linear, vectors.BaseSums.base_sum_minus, vectors.BaseSums.base_sum_zero, vectors.Laws.vector_equal}
+use Rattle.integers.proofs.{vectors.Laws.minus_dimension}
 use Rattle.periodic_net.specs.Graph.{Graph, Vertex, vertex, moved, arcs_from, arc}
 use Rattle.periodic_net.specs.Maps.{PeriodicMap}
 use Rattle.sublattice.specs.Sublattices.{base_of}
 use Rattle.map_check.specs.Layouts.{box_size, place_of, table_for, vertex_at}
 use Rattle.map_check.specs.Tables.{HasNoDouble, DegreesAgree, ArcsAreKept, IsMovedImage, IsBoxVertex}
-use Rattle.map_check.proofs.Layouts.{box_is_power, place_below, place_of_vertex, vertex_again, vertex_in_box}
-use Rattle.map_check.proofs.PlaceOrder.{earlier_of_place, place_of_earlier}
 use Rattle.map_check.specs.Conditions.{SuitsGraphs}
 use Rattle.map_check.specs.Faults.{IsFirstInBox, IsDoubled, HasOtherDegree, IsFirstLost, LosesArc, KeepsArcs}
 use Rattle.map_check.specs.Images.{image_at, IsCopy, AreNoCopies, IsFirstCopy}
 use Rattle.map_check.specs.Places.{HoldsNowhere, IsFirstPlace, HasOtherDegreeAt, KeepsArcsBefore, IsFirstLostAt}
+use Rattle.map_check.proofs.Layouts.{box_is_power, place_below, place_of_vertex, vertex_again, vertex_in_box, earlier_of_place, place_of_earlier}
 
 -- a part moved back
 part_back : (a b s : ℤ) → a ≡ b +ℤ s → b ≡ a +ℤ (pos 0 -ℤ s)
@@ -109,8 +107,7 @@ module _ (G H : Graph) (m : ℕ) (images : List Vertex) (rows : List Vector) (c 
   -- the first copy is the first doubled image
   pub first_doubled : (j : ℕ) → IsFirstCopy d (base_of rows) images j → IsFirstInBox G m (IsDoubled G M) (vertex_at d m j)
   first_doubled j t =
-      let k = t.before in
-      let l = t.inside in
+      let k = t.before in let l = t.inside in
       record {
         inside = inside_box j t.inside;
         is = record {

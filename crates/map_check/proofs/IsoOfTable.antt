@@ -1,46 +1,33 @@
 -- A bijection with a period, which joins images exactly where vertices are joined, is an isomorphism.
-use Rattle.std.proofs.Common.{◌≡◌, ◌≢◌, ℕ, zero, suc, ◌≤◌, ℤ, pos, negsuc, ◌+ℤ◌, ◌*ℤ◌, refl, sym, ap, subst, ◌∙◌, arith}
+use Rattle.std.proofs.Common.{◌≡◌, ◌≢◌, ℕ, ◌≤◌, ℤ, pos, ◌+ℤ◌, ◌*ℤ◌, refl, sym, ap, subst, ◌∙◌, arith}
+use Rattle.std.proofs.Math.Decide.{dec_le}
 use Rattle.std.specs.Prelude.{unsigned_abs}
-use Rattle.std.proofs.lemmas.Int.{ints}
-use Rattle.std.proofs.Math.Decide.{ℕ_discrete, dec_le}
 use Prim.{Dec, yes, no}
 use Rattle.integers.specs.Vectors.{Vector, times, HasDimension}
-use Rattle.integers.proofs.numbers.Ring.{ring, linear}
-use Rattle.integers.proofs.vectors.Laws.{vector_equal, times_dimension}
-use Rattle.periodic_net.specs.Graph.{Graph, Vertex, moved, IsVertex, AreJoined}
 use Rattle.integers.specs.Bases.{Base, base_sum}
+use Rattle.integers.proofs.{numbers.Ring.ring, numbers.Ring.linear, vectors.Laws.vector_equal, vectors.Laws.times_dimension}
+use Rattle.periodic_net.specs.Graph.{Graph, Vertex, moved, IsVertex, AreJoined}
 use Rattle.periodic_net.specs.Maps.{PeriodicMap, Iso, IsBijection, JoinsAlike}
 use Rattle.periodic_net.proofs.CallerLemmas.{moved_vertex, periodic_of_drawn}
 use Rattle.sublattice.specs.Sublattices.{determinant, index_of}
 use Rattle.sublattice.proofs.CallerLemmas.{Undoing, undoing}
 use Rattle.map_check.specs.Laws.{IsMapOf}
-use Rattle.map_check.proofs.Setting.{flat_shifts}
-use Rattle.map_check.proofs.Conversely.{determinant_of_bijection}
+use Rattle.map_check.proofs.{Bijections.flat_shifts, Conversely.determinant_of_bijection}
 
 -- a whole number is 0 or not
 zero_decided : (z : ℤ) → Dec (z ≡ pos 0)
-zero_decided (pos zero) = yes refl
-zero_decided (pos (suc n)) = no (λ e. omega (arith, ints))
-zero_decided (negsuc n) = no (λ e. omega (arith, ints))
+zero_decided z = search arith
 
 -- a vector has the dimension or not
 dimension_decided : (d : ℕ) (v : Vector) → Dec (HasDimension d v)
-dimension_decided d v = by (ℕ_discrete d 2) (zero_decided v.z)
-  where
-    by : Dec (d ≡ 2) → Dec (v.z ≡ pos 0) → Dec (HasDimension d v)
-    by (no n) z = yes (λ e. absurd (n e))
-    by (yes e) (yes z) = yes (λ _. z)
-    by (yes e) (no n) = no (λ h. n (h e))
+dimension_decided d v = search (arith, zero_decided)
 
 -- what is a vertex is known
 vertex_decided : (H : Graph) (y : Vertex) → Dec (IsVertex H y)
 vertex_decided H y = by (dec_le 1 y.over) (dec_le y.over H.vertices) (dimension_decided H.dimension y.cell)
   where
     by : Dec (1 ≤ y.over) → Dec (y.over ≤ H.vertices) → Dec (HasDimension H.dimension y.cell) → Dec (IsVertex H y)
-    by (no n) b c = no (λ h. n h.over.0)
-    by (yes a) (no n) c = no (λ h. n h.over.1)
-    by (yes a) (yes b) (no n) = no (λ h. n h.cell)
-    by (yes a) (yes b) (yes c) = yes (record { over = (a, b); cell = c })
+    by k l p = grind arith
 
 -- the shifts, m times
 abbrev scaled : ℤ → Base → Base
@@ -52,15 +39,11 @@ scaled_part m x y z a b c = simp ring (omega (arith, linear))
 
 -- their sum
 scaled_sum : (m : ℤ) (b : Base) (k : Vector) → base_sum (scaled m b) k ≡ times m (base_sum b k)
-scaled_sum m b k =
-    vector_equal (scaled_part m k.x k.y k.z b.first.x b.second.x b.third.x) (scaled_part m k.x k.y k.z b.first.y b.second.y b.third.y)
-    (scaled_part m k.x k.y k.z b.first.z b.second.z b.third.z)
+scaled_sum m b k = simp (vector_equal, scaled_part)
 
 -- what is not 0 has a size
 pub size_positive : (z : ℤ) → z ≢ pos 0 → 1 ≤ unsigned_abs z
-size_positive (pos zero) n = absurd (n refl)
-size_positive (pos (suc k)) n = omega arith
-size_positive (negsuc k) n = omega arith
+size_positive z h = search arith
 
 module _ {G H : Graph} {M : PeriodicMap} {f : Vertex → Vertex} (h : IsMapOf G H M f) (b : IsBijection G H f) where
   -- the vertex that goes to y
@@ -74,11 +57,7 @@ module _ {G H : Graph} {M : PeriodicMap} {f : Vertex → Vertex} (h : IsMapOf G 
 
   -- it is so
   back_is : (y : Vertex) → IsVertex H y → IsVertex G (back y) × (f (back y) ≡ y)
-  back_is y j = by (vertex_decided H y)
-    where
-      by : (d : Dec (IsVertex H y)) → IsVertex G (back_by y d) × (f (back_by y d) ≡ y)
-      by (yes i) = ((b.onto y i).1, (b.onto y i).2)
-      by (no n) = absurd (n j)
+  back_is y j = search (arith, vertex_decided)
 
   -- the shifts that undo
   abbrev undo : Undoing G.dimension M.base

@@ -1,18 +1,23 @@
 -- The vertices in the box and their places: each undoes the other.
-use Rattle.std.proofs.Common.{◌≡◌, ◌⊎◌, inl, inr, ℕ, suc, zero, ◌+◌, ◌-◌, ◌*◌, ◌/◌, ◌%◌, ◌^◌, ◌<◌, ◌≤◌, ◌<ℤ◌, ◌≤ℤ◌, pos, refl, sym, ap, subst, ◌∙◌, arith}
-use Rattle.std.specs.Prelude.{unsigned_abs}
-use Rattle.std.proofs.lemmas.Int.{ints}
+use Rattle.std.proofs.Common.{◌≡◌, ◌⊎◌, ℕ, suc, zero, ◌+◌, ◌-◌, ◌*◌, ◌/◌, ◌%◌, ◌^◌, ◌<◌, ◌≤◌, ◌<ℤ◌, ◌≤ℤ◌, pos, refl, sym, ap, ◌∙◌, arith, ◌∷◌, subst, ◌≢◌}
 use Rattle.std.proofs.lemmas.Nat.{div_below, div-mul-add, mod-mul-add}
+use Rattle.std.proofs.{lemmas.Int.ints, Math.Decide.ℕ_discrete, Math.Decide.dec_lt}
+use Rattle.std.specs.Prelude.{unsigned_abs}
 use native.Mathlib.Numerals.{unary_clauses}
-use Rattle.integers.specs.Vectors.{Vector}
-use Rattle.integers.proofs.counting.NumberedPairs.{made_again, remainder_below, turned_below}
-use Rattle.integers.proofs.vectors.Laws.{vector_equal}
-use Rattle.sublattice.proofs.Boxes.{first_below, second_below, third_below, number_back, number_below, product_positive, vector_there}
-use Rattle.sublattice.proofs.Numbers.{natural_part}
-use Rattle.periodic_net.specs.Graph.{Graph, Vertex, vertex}
+use Rattle.integers.specs.Vectors.{Vector, parts, minus, HasDimension}
+use Rattle.integers.specs.Bases.{Base}
+use Rattle.integers.proofs.counting.NumberedPairs.{made_again, remainder_below, turned_below, pairs}
+use Rattle.integers.proofs.counting.Numbering.{Numbering, Pair, pair, Both, Each, along}
+use Rattle.integers.proofs.{vectors.Laws.vector_equal, lists.ListOrder.below_one_way, lists.ListOrder.not_below_itself, vectors.Precedence.below_head}
+use Rattle.integers.proofs.{vectors.Precedence.below_rest}
+use Rattle.sublattice.proofs.Boxes.{first_below, second_below, third_below, number_back, number_below, product_positive, vector_there, vectors_rise}
+use Rattle.sublattice.proofs.{Numbers.natural_part, CallerLemmas.class_numbers, CallerLemmas.DifferBy}
+use Rattle.periodic_net.specs.Graph.{Graph, Vertex, IsQuotientVertex, vertex, IsVertex}
 use Rattle.periodic_net.specs.Maps.{IsInBox}
-use Rattle.map_check.specs.Layouts.{last_side, box_size, cell_place, place_of, cell_at, vertex_at}
+use Rattle.map_check.specs.Layouts.{last_side, box_size, cell_place, place_of, cell_at, vertex_at, ComesBefore}
 use Rattle.map_check.specs.Tables.{IsBoxVertex}
+use Prim.{Dec, yes, no}
+use Rattle.sublattice.specs.Sublattices.{determinant, index_of, AreFlat, IsCombination}
 
 -- a power with one factor taken out
 power_more : (m n : ℕ) → m ^ suc n ≡ m * m ^ n
@@ -28,34 +33,23 @@ power_two m = sym (power_more m 1 ∙ ap (λ (n : ℕ). m * n) (power_more m 0) 
 
 -- m^3
 power_three : (m : ℕ) → m * (m * m) ≡ m ^ 3
-power_three m =
-    sym (power_more m 2 ∙ ap (λ (n : ℕ). m * n) (sym (power_two m)) ∙ ap (λ (n : ℕ). m * (m * n)) (one m))
-  where
-    one : (n : ℕ) → n * 1 ≡ n
-    one n = omega arith
+power_three m = search (arith, power_more, power_two)
 
 -- the number of cells is a power of the side
 pub box_is_power : (d m : ℕ) → (d ≡ 2) ⊎ (d ≡ 3) → box_size d m ≡ m ^ d
-box_is_power d m (inl e) = subst (λ (d : ℕ). box_size d m ≡ m ^ d) (sym e) (power_two m)
-box_is_power d m (inr e) = subst (λ (d : ℕ). box_size d m ≡ m ^ d) (sym e) (power_three m)
+box_is_power d m h = search (arith, power_two, power_three)
 
 -- the last side is positive
 pub side_positive : (d m : ℕ) → (d ≡ 2) ⊎ (d ≡ 3) → 1 ≤ m → 1 ≤ last_side d m
-side_positive d m (inl e) h = subst (λ (d : ℕ). 1 ≤ last_side d m) (sym e) (omega arith)
-side_positive d m (inr e) h = subst (λ (d : ℕ). 1 ≤ last_side d m) (sym e) h
+side_positive d m k l = search arith
 
 -- a number below the last side is a third part
 last_below : (d m n : ℕ) → (d ≡ 2) ⊎ (d ≡ 3) → 1 ≤ m → n < last_side d m → (n < m) × (d ≡ 2 → n ≡ 0)
-last_below d m n (inl e) h l = let k = subst (λ (d : ℕ). n < last_side d m) e l in (omega (arith, h, k), λ _. omega (arith, k))
-last_below d m n (inr e) h l = (subst (λ (d : ℕ). n < last_side d m) e l, λ f. absurd (omega (arith, e, f)))
+last_below d m n p q r = search arith
 
 -- and a third part is below it
 third_part : (d m : ℕ) (r : Vector) → (d ≡ 2) ⊎ (d ≡ 3) → IsInBox d m r → unsigned_abs r.z < last_side d m
-third_part d m r (inl e) b =
-    subst (λ (d : ℕ). unsigned_abs r.z < last_side d m) (sym e)
-    (subst (λ (n : ℕ). n < 1) (sym (ap unsigned_abs (b.dimension e))) (omega arith))
-third_part d m r (inr e) b =
-    subst (λ (d : ℕ). unsigned_abs r.z < last_side d m) (sym e) (natural_part r.z (pos m) b.low.2 b.high.2).1
+third_part d m r h k = search (arith, natural_part)
 
 -- a box with a vector has a side
 pub side_of_vector : {d m : ℕ} {r : Vector} → IsInBox d m r → 1 ≤ m
@@ -75,18 +69,7 @@ module _ (d m : ℕ) (c : (d ≡ 2) ⊎ (d ≡ 3)) (h : 1 ≤ m) where
 
   -- the cell at a place is in the box
   pub cell_in_box : (i : ℕ) → i < box_size d m → IsInBox d m (cell_at d m i)
-  cell_in_box i l =
-      let n = last_side d m in
-      let z = last_below d m (i % (m * n) % n) c h (third_below m n h s i) in
-      record {
-        dimension = λ e. ap pos (z.1 e);
-        low = (from_zero (i / (m * n)), from_zero (i % (m * n) / n), from_zero (i % (m * n) % n));
-        high = (
-          to_below (i / (m * n)) m (first_below m n h s m i l),
-          to_below (i % (m * n) / n) m (second_below m n h s i),
-          to_below (i % (m * n) % n) m z.0,
-        );
-      }
+  cell_in_box i l = grind (arith, last_below, third_below, s, from_zero, to_below, first_below, second_below)
 
   -- its place is that one
   pub place_of_cell : (i : ℕ) → cell_place d m (cell_at d m i) ≡ i
@@ -124,10 +107,7 @@ module _ (G : Graph) (m : ℕ) (c : (G.dimension ≡ 2) ⊎ (G.dimension ≡ 3))
 
   -- the vertex at a place is in the box
   pub vertex_in_box : (i : ℕ) → i < G.vertices * box_size G.dimension m → IsBoxVertex G m (vertex_at G.dimension m i)
-  vertex_in_box i l = record {
-    over = (omega arith, let q = div_below i (box_size G.dimension m) G.vertices positive l in omega (arith, q));
-    box = cell_in_box G.dimension m c h (i % box_size G.dimension m) (remainder_below i (box_size G.dimension m) positive);
-  }
+  vertex_in_box i l = grind (arith, div_below, positive, cell_in_box, remainder_below)
 
   -- its place is that one
   pub place_of_vertex : (i : ℕ) → place_of G.dimension m (vertex_at G.dimension m i) ≡ i
@@ -148,14 +128,121 @@ module _ (G : Graph) (m : ℕ) (c : (G.dimension ≡ 2) ⊎ (G.dimension ≡ 3))
 
   -- the vertex at its place is that vertex
   pub vertex_again : (w : Vertex) → IsBoxVertex G m w → vertex_at G.dimension m (place_of G.dimension m w) ≡ w
-  vertex_again w b =
-      let p = cell_place G.dimension m w.cell in
-      let l = cell_below G.dimension m c h w.cell b.box in
-      let over : (place_of G.dimension m w) / box_size G.dimension m + 1 ≡ w.over =
-      ap (λ (t : ℕ). t + 1) (div-mul-add (w.over - 1) (box_size G.dimension m) p l) ∙ again w.over b.over.0 in
-      let cell : cell_at G.dimension m ((place_of G.dimension m w) % box_size G.dimension m) ≡ w.cell =
-      ap (cell_at G.dimension m) (mod-mul-add (w.over - 1) (box_size G.dimension m) p l) ∙ cell_again G.dimension m c h w.cell b.box in
-      λ i. vertex (over i) (cell i)
+  vertex_again w b = search (arith, cell_below, div-mul-add, mod-mul-add, cell_again)
+
+-- The places of the vertices in the box rise with the vertices.
+
+-- numbers in a mixed base
+mixed_order : (i j n : ℕ) → 1 ≤ n → i < j → (i / n < j / n → ⊥) → (i / n ≡ j / n) × (i % n < j % n)
+mixed_order i j n h l no_less = grind (arith, made_again, remainder_below, dec_lt)
+
+module _ (G : Graph) (m : ℕ) (c : (G.dimension ≡ 2) ⊎ (G.dimension ≡ 3)) (h : 1 ≤ m) where
+  -- vertices rise with their places
+  places_rise : (i j : ℕ) → i < j → ComesBefore (vertex_at G.dimension m i) (vertex_at G.dimension m j)
+  places_rise i j l = by (dec_lt (i / n) (j / n))
     where
-      again : (n : ℕ) → 1 ≤ n → n - 1 + 1 ≡ n
-      again n k = omega arith
+      n : ℕ
+      n = box_size G.dimension m
+
+      first : ℕ → ℕ
+      first t = t / box_size G.dimension m + 1
+
+      cell : ℕ → Vector
+      cell t = cell_at G.dimension m (t % box_size G.dimension m)
+
+      less : (u v : ℕ) → u < v → pos (u + 1) <ℤ pos (v + 1)
+      less u v l = omega (arith, ints, l)
+
+      by : Dec (i / n < j / n) → ComesBefore (vertex_at G.dimension m i) (vertex_at G.dimension m j)
+      by (yes k) = below_head (pos (first i)) (pos (first j)) (parts 3 (cell i)) (parts 3 (cell j)) (less (i / n) (j / n) k)
+      by (no k) =
+          let o = mixed_order i j n (size_positive G.dimension m c h) l k in
+          below_rest (pos (first i)) (pos (first j)) (parts 3 (cell i)) (parts 3 (cell j)) (ap (λ (t : ℕ). pos (t + 1)) o.0)
+          (vectors_rise m (last_side G.dimension m) h (side_positive G.dimension m c h) (i % n) (j % n) o.1)
+
+  -- a lesser place is that of an earlier vertex
+  pub earlier_of_place : (w x : Vertex) → IsBoxVertex G m w → IsBoxVertex G m x → place_of G.dimension m w < place_of G.dimension m x → ComesBefore w x
+  earlier_of_place w x b b' l =
+      subst (λ (v : Vertex). ComesBefore v x) (vertex_again G m c h w b)
+      (subst (ComesBefore (vertex_at G.dimension m (place_of G.dimension m w))) (vertex_again G m c h x b')
+      (places_rise (place_of G.dimension m w) (place_of G.dimension m x) l))
+
+  -- and the other way
+  pub place_of_earlier : (w x : Vertex) → IsBoxVertex G m w → IsBoxVertex G m x → ComesBefore w x → place_of G.dimension m w < place_of G.dimension m x
+  place_of_earlier w x b b' before = by (dec_lt (place_of G.dimension m w) (place_of G.dimension m x))
+      (ℕ_discrete (place_of G.dimension m w) (place_of G.dimension m x))
+    where
+      by : Dec (place_of G.dimension m w < place_of G.dimension m x) → Dec (place_of G.dimension m w ≡ place_of G.dimension m x)
+          → place_of G.dimension m w < place_of G.dimension m x
+      by (yes less) e = less
+      by (no n) (yes e) =
+          let same : w ≡ x = sym (vertex_again G m c h w b) ∙ ap (vertex_at G.dimension m) e ∙ vertex_again G m c h x b' in
+          absurd (not_below_itself (pos x.over ∷ parts 3 x.cell) (subst (λ (y : Vertex). ComesBefore y x) same before))
+      by (no n) (no e) = absurd (below_one_way (pos w.over ∷ parts 3 w.cell) (pos x.over ∷ parts 3 x.cell) before
+          (earlier_of_place x w b' b (omega (arith, n, e))))
+
+-- The vertices in the box are numbered, and the vertices up to the shifts of a map.
+
+-- equality of vertices
+abbrev pub AreSameVertex : Vertex → Vertex → Type 0
+AreSameVertex w x = w ≡ x
+
+-- one is the other, moved by a whole combination of the shifts
+pub record AreMovedCopies (d : ℕ) (b : Base) (w x : Vertex) : Type 0 where
+  pub over : w.over ≡ x.over
+  pub cell : IsCombination d b (minus w.cell x.cell)
+
+-- the vertices in the box have their places as numbers
+pub place_numbers : (G : Graph) (m : ℕ) → (G.dimension ≡ 2) ⊎ (G.dimension ≡ 3) → 1 ≤ m
+    → Numbering (IsBoxVertex G m) AreSameVertex (G.vertices * m ^ G.dimension)
+place_numbers G m c h =
+    subst (λ (n : ℕ). Numbering (IsBoxVertex G m) AreSameVertex (G.vertices * n)) (box_is_power G.dimension m c)
+    (record {
+      code = place_of G.dimension m;
+      below = place_below G m c h;
+      same = λ w x b b' e. sym (vertex_again G m c h w b) ∙ ap (vertex_at G.dimension m) e ∙ vertex_again G m c h x b';
+      alike = λ w x b b' e. ap (place_of G.dimension m) e;
+      of = vertex_at G.dimension m;
+      is = vertex_in_box G m c h;
+      again = λ i l. place_of_vertex G m c h i;
+    })
+
+-- equality of numbers
+abbrev AreEqualNumbers : ℕ → ℕ → Type 0
+AreEqualNumbers u v = u ≡ v
+
+-- the numbers from 1 to n
+quotient_numbers : (n : ℕ) → Numbering (λ (u : ℕ). (1 ≤ u) × (u ≤ n)) AreEqualNumbers n
+quotient_numbers n = record {
+  code = λ u. u - 1;
+  below = λ u h. let a = h.0 in let b = h.1 in omega arith;
+  same = λ u v h k e. let a = h.0 in let b = k.0 in omega arith;
+  alike = λ u v h k e. ap (λ (t : ℕ). t - 1) e;
+  of = λ i. suc i;
+  is = λ i l. (omega arith, omega arith);
+  again = λ i l. omega arith;
+}
+
+-- a vertex as a pair
+abbrev pair_of : Vertex → Pair ℕ Vector
+pair_of w = pair w.over w.cell
+
+-- and back
+abbrev vertex_of : Pair ℕ Vector → Vertex
+vertex_of t = vertex t.left t.right
+
+-- the vertices up to the shifts
+pub copy_numbers : (H : Graph) (b : Base) → (H.dimension ≡ 2) ⊎ (H.dimension ≡ 3) → AreFlat H.dimension b → determinant H.dimension b ≢ pos 0
+    → Numbering (IsVertex H) (AreMovedCopies H.dimension b) (H.vertices * index_of H.dimension b)
+copy_numbers H b d f n =
+    along (IsVertex H) (AreMovedCopies H.dimension b) (Both (IsQuotientVertex H) (HasDimension H.dimension))
+    (Each AreEqualNumbers (DifferBy (IsCombination H.dimension b)))
+    (H.vertices * index_of H.dimension b)
+    (pairs (IsQuotientVertex H) AreEqualNumbers (HasDimension H.dimension) (DifferBy (IsCombination H.dimension b)) H.vertices (index_of H.dimension b)
+    (quotient_numbers H.vertices)
+    (class_numbers H.dimension b d f n))
+    pair_of
+    (record { into = λ w p. record { left = p.over; right = p.cell }; once = λ w x p q e. record { over = e.left; cell = e.right } })
+    (λ w x p q e. record { left = e.over; right = e.cell }) vertex_of
+    (λ t b. record { over = b.left; cell = b.right })
+    (λ t q. let c = class_numbers H.dimension b d f n in record { left = refl; right = c.same t.right t.right q.right q.right refl })

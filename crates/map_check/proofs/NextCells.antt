@@ -1,14 +1,64 @@
 -- The cells of the box, one after the other.
-use Rattle.std.proofs.Common.{◌≡◌, ◌⊎◌, ℕ, ℤ, ◌+◌, ◌-◌, ◌*◌, ◌/◌, ◌%◌, ◌<◌, ◌≤◌, pos, ◌+ℤ◌, ◌<ℤ◌, sym, ap, subst, ◌∙◌, arith}
-use Rattle.std.proofs.lemmas.Int.{ints}
-use Rattle.std.proofs.lemmas.Nat.{div-mul-add, mod-mul-add}
-use Rattle.std.proofs.Math.Decide.{dec_lt}
+use Rattle.std.proofs.Common.{ℕ, ◌+◌, ◌<◌, arith, ◌≡◌, ℤ, ◌≤◌, ◌^◌, pos, ◌+ℤ◌, ◌-ℤ◌, ◌*ℤ◌, ◌<ℤ◌, ◌≤ℤ◌, FitsSigned, unsigned_abs, true, false, ◌⊎◌, ◌-◌, ◌*◌}
+use Rattle.std.proofs.Common.{◌/◌, ◌%◌, sym, ap, subst, ◌∙◌}
+use Rattle.std.proofs.{lemmas.Int.fits_signed_from_abs, lemmas.Int.ints, lemmas.Nat.div-mul-add, lemmas.Nat.mod-mul-add, Math.Decide.dec_lt}
+use Rattle.std.specs.{Int.w64, Int.Signed.lt_z}
+use Rattle.integers.proofs.{numbers.Ring.ring, numbers.Ring.linear, vectors.Bounds.bounded_sum, vectors.Bounds.bounded_difference}
+use Rattle.sublattice.proofs.Numbers.{natural_part}
+use Rattle.sublattice.proofs.Boxes.{second_below, third_below, number_back, vector_there}
 use Prim.{Dec, yes, no}
 use Rattle.integers.specs.Vectors.{Vector, vector}
-use Rattle.sublattice.proofs.Boxes.{second_below, third_below, number_back, vector_there}
 use Rattle.periodic_net.specs.Graph.{Vertex, vertex}
 use Rattle.map_check.specs.Layouts.{last_side, box_size, cell_at, vertex_at}
 use Rattle.map_check.proofs.Layouts.{side_positive}
+
+-- What holds at each place below a number, with one place more.
+
+-- one more
+pub each_more : (P : ℕ → Type 0) (n : ℕ) → ((i : ℕ) → i < n → P i) → P n → (i : ℕ) → i < n + 1 → P i
+each_more P n h new i l = search arith
+
+-- Parts of cells of the box fit in 64 bits.
+
+-- a part is small
+pub part_small : (z : ℤ) (m : ℕ) → m ≤ 512 → pos 0 ≤ℤ z → z <ℤ pos m → unsigned_abs z ≤ 512
+part_small z m b l h = let p = (natural_part z (pos m) l h).1 in omega (arith, p, b)
+
+-- small numbers fit
+pub small_fits : (z : ℤ) → unsigned_abs z ≤ 2 ^ 22 → FitsSigned w64 z
+small_fits z h = fits_signed_from_abs w64 z (omega arith)
+
+-- a part fits
+pub part_fits : (z : ℤ) (m : ℕ) → m ≤ 512 → pos 0 ≤ℤ z → z <ℤ pos m → FitsSigned w64 z
+part_fits z m b l h = small_fits z (let p = part_small z m b l h in omega (arith, p))
+
+-- sums and differences of small numbers fit
+pub sum_fits : (a b : ℤ) → unsigned_abs a ≤ 2 ^ 20 → unsigned_abs b ≤ 2 ^ 20 → FitsSigned w64 (a +ℤ b)
+sum_fits a b h k = small_fits (a +ℤ b) (let p = bounded_sum a b (2 ^ 20) (2 ^ 20) h k in omega (arith, p))
+
+pub difference_fits : (a b c : ℤ) → unsigned_abs a ≤ 2 ^ 20 → unsigned_abs b ≤ 2 ^ 20 → unsigned_abs c ≤ 2 ^ 20 → FitsSigned w64 (a +ℤ b -ℤ c)
+difference_fits a b c h k l = search (arith, small_fits, bounded_difference, bounded_sum)
+
+-- a wider bound
+pub wide : (z : ℤ) (n : ℕ) → n ≤ 2 ^ 20 → unsigned_abs z ≤ n → unsigned_abs z ≤ 2 ^ 20
+wide z n l h = omega (arith, l, h)
+
+-- once more m further
+pub once_more : (part rest steps m : ℤ) → part +ℤ (rest +ℤ m *ℤ steps) ≡ (part +ℤ rest -ℤ m) +ℤ m *ℤ (steps +ℤ pos 1)
+once_more part rest steps m = simp ring (omega (arith, linear))
+
+-- steps fit
+pub steps_fit : (z : ℤ) (n : ℕ) → n ≤ 2 ^ 20 → unsigned_abs z ≤ n → FitsSigned w64 z
+steps_fit z n l h = small_fits z (let p = wide z n l h in omega (arith, p))
+
+-- what a test says
+pub below_of_test : (a b : ℤ) → lt_z a b ≡ true → a <ℤ b
+below_of_test a b e = grind (arith, ints)
+
+pub not_below_of_test : (a b : ℤ) → lt_z a b ≡ false → a <ℤ b → ⊥
+not_below_of_test a b e h = grind (arith, ints)
+
+-- The cell after a cell, and the last one.
 
 -- the next number in a row, in a layer, and in the next layer
 next_number : (x y z m n p : ℕ) → x * (m * n) + (y * n + z) ≡ p → p + 1 ≡ x * (m * n) + (y * n + (z + 1))
@@ -28,14 +78,7 @@ one_more n = omega (arith, ints)
 
 -- no more is the last
 last_one : (z n : ℕ) → z < n → ((pos z +ℤ pos 1) <ℤ pos n → ⊥) → z + 1 ≡ n
-last_one z n l h = by (dec_lt (z + 1) n)
-  where
-    less : z + 1 < n → (pos z +ℤ pos 1) <ℤ pos n
-    less k = omega (arith, ints, k)
-
-    by : Dec (z + 1 < n) → z + 1 ≡ n
-    by (yes k) = absurd (h (less k))
-    by (no k) = omega (arith, l, k)
+last_one z n l h = search (arith, dec_lt)
 
 -- one more is below
 below_side : (z n : ℕ) → (pos z +ℤ pos 1) <ℤ pos n → z + 1 < n
@@ -96,13 +139,7 @@ module _ (d m : ℕ) (c : (d ≡ 2) ⊎ (d ≡ 3)) (h : 1 ≤ m) (cell : Vector)
 
 -- the vertex at a place over u
 pub vertex_over : (d m : ℕ) (u p : ℕ) → 1 ≤ u → p < box_size d m → vertex_at d m ((u - 1) * box_size d m + p) ≡ vertex u (cell_at d m p)
-vertex_over d m u p h l =
-    let over = ap (λ (t : ℕ). t + 1) (div-mul-add (u - 1) (box_size d m) p l) ∙ again u h in
-    let cell = ap (cell_at d m) (mod-mul-add (u - 1) (box_size d m) p l) in
-    λ i. vertex (over i) (cell i)
-  where
-    again : (n : ℕ) → 1 ≤ n → n - 1 + 1 ≡ n
-    again n k = omega arith
+vertex_over d m u p h l = search (arith, div-mul-add, mod-mul-add)
 
 -- what holds of the vertices over the first v, and of those over the next in the first p cells
 pub each_until : (P : Vertex → Type 0) (d m v p : ℕ) → p ≤ box_size d m → ((i : ℕ) → i < v * box_size d m → P (vertex_at d m i))

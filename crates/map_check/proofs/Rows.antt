@@ -1,5 +1,5 @@
 -- Rows in a list of shifts.
-use Rattle.std.proofs.Common.{◌≡◌, ◌⊎◌, inl, inr, ℕ, ◌<◌, ◌≤◌, ◌^◌, ◌==◌, List, length, slice_index_or, cond, sym, subst, arith}
+use Rattle.std.proofs.Common.{◌≡◌, ◌⊎◌, ℕ, ◌<◌, ◌≤◌, ◌^◌, ◌==◌, List, length, slice_index_or, cond, arith}
 use Rattle.std.specs.List.{All}
 use Rattle.integers.specs.Vectors.{Vector, zero_vector, up_vector, IsWithin}
 use Rattle.integers.proofs.vectors.Bounds.{bounded_triple, wider}
@@ -17,10 +17,7 @@ shifts_within d rows h i e l = wider (2 ^ 38) (2 ^ 40) (omega arith) (slice_inde
 -- the third shift, or (0, 0, 1) in its place, is small
 last_within : (d : ℕ) (rows : List Vector) → (d ≡ 2) ⊎ (d ≡ 3) → length rows ≡ d → All (IsShift d) rows
     → IsWithin (2 ^ 38) (cond (d == 2) up_vector (slice_index_or rows 2 zero_vector))
-last_within d rows (inl e) n h =
-    subst (λ (k : ℕ). IsWithin (2 ^ 38) (cond (k == 2) up_vector (slice_index_or rows 2 zero_vector))) (sym e) (omega arith, omega arith, omega arith)
-last_within d rows (inr e) n h =
-    subst (λ (k : ℕ). IsWithin (2 ^ 38) (cond (k == 2) up_vector (slice_index_or rows 2 zero_vector))) (sym e) (h 2 zero_vector (omega (arith, n, e))).small
+last_within d rows l p q = search arith
 
 -- the index of the lattice of the shifts has room in 128 bits, 512 times
 pub index_within : (d : ℕ) (rows : List Vector) → (d ≡ 2) ⊎ (d ≡ 3) → length rows ≡ d → All (IsShift d) rows → index_of d (base_of rows) ≤ 2 ^ 117
@@ -31,8 +28,7 @@ index_within d rows c n h =
     omega (arith, t)
   where
     two : (d ≡ 2) ⊎ (d ≡ 3) → 1 < length rows
-    two (inl e) = omega (arith, n, e)
-    two (inr e) = omega (arith, n, e)
+    two h = omega arith
 
     more : (d ≡ 2) ⊎ (d ≡ 3) → 0 < length rows
     more c = let l = two c in omega (arith, l)

@@ -1,23 +1,19 @@
 -- A periodic bijection between nets has equal dimensions.
 use Rattle.std.proofs.Common.{◌≡◌, ◌≢◌, ◌⊎◌, inl, inr, ℕ, zero, suc, ◌+◌, ◌<◌, ◌≤◌, ℤ, pos, ◌+ℤ◌, ◌*ℤ◌, sym, ap, subst, ◌∙◌, arith}
+use Rattle.std.proofs.{lemmas.Int.unsigned_abs-mul, Math.Decide.dec_lt, Math.Nat.le-mul_of_pos_right}
 use Rattle.std.specs.Prelude.{unsigned_abs}
-use Rattle.std.proofs.lemmas.Int.{unsigned_abs-mul}
-use Rattle.std.proofs.Math.Decide.{dec_lt}
-use Rattle.std.proofs.Math.Nat.{le-mul_of_pos_right}
-use Prim.{Dec, yes, no}
+use Prim.{Dec}
 use Rattle.integers.specs.Bases.{Base, base_sum}
 use Rattle.integers.specs.Vectors.{Vector, vector, zero_vector, times, dot, HasDimension, IsModulo}
-use Rattle.integers.proofs.numbers.Modulo.{modulo_dimension, steps_dimension}
 use Rattle.integers.proofs.numbers.Ring.{ring, linear, positive_not_zero, zero_or_not}
 use Rattle.integers.proofs.vectors.Independence.{Relation, determinant, relation_of_zero}
 use Rattle.integers.proofs.vectors.Laws.{vector_equal, zero_plus, plus_zero, times_cancel, times_dimension, times_zero, dot_plus, dot_times}
-use Rattle.integers.proofs.vectors.VectorRemainders.{modulo_of}
+use Rattle.integers.proofs.{numbers.Modulo.modulo_dimension, numbers.Modulo.steps_dimension, vectors.VectorRemainders.modulo_of}
 use Rattle.periodic_net.specs.Graph.{Graph, IsGraph, IsVertex, Vertex, vertex, moved}
 use Rattle.periodic_net.specs.Maps.{IsBijection, IsPeriodic}
 use Rattle.periodic_net.proofs.CallerLemmas.{moved_vertex, origin_vertex}
 use Rattle.sublattice.proofs.Numbers.{natural_part}
-use Rattle.map_check.proofs.Conversely.{grouped}
-use Rattle.map_check.proofs.IsoOfTable.{size_positive}
+use Rattle.map_check.proofs.{Conversely.grouped, IsoOfTable.size_positive}
 
 -- three rows of two numbers have a relation
 relation_of_pairs : (a b d e g h : ℤ) → Relation a b (pos 0) d e (pos 0) g h (pos 0)
@@ -82,8 +78,7 @@ within_sum g zero i l = absurd (omega (arith, l))
 within_sum g (suc n) i l = by (within_sum g n i) (dec_lt i n)
   where
     by : (i < n → g i ≤ sum_below g n) → Dec (i < n) → g i ≤ sum_below g n + g n
-    by before (yes a) = let t = before a in omega (arith, t)
-    by before (no a) = let e : i ≡ n = omega (arith, a, l) in let t = ap g e in omega (arith, t)
+    by h k = search arith
 
 -- a vector other than 0 has a product other than 0 with some vector
 product_with : (n : Vector) → ((n.x ≡ pos 0) × (n.y ≡ pos 0) × (n.z ≡ pos 0) → ⊥) → (v : Vector) × (dot n v ≢ pos 0)

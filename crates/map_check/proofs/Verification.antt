@@ -1,28 +1,112 @@
 -- The verdict is Yes exactly where the map is an isomorphism.
-use Rattle.std.proofs.Common.{◌≡◌, ℕ, zero, suc, ◌<◌, ◌≤◌, List, [], ◌∷◌, length, slice_index_or, ℤ, pos, ◌+ℤ◌, ◌*ℤ◌, refl, sym, ap, subst, ◌∙◌, arith}
+use Rattle.std.proofs.Common.{◌≡◌, ◌⊎◌, ℕ, ◌*◌, ◌≤◌, List, length, pos, ◌<ℤ◌, ◌≤ℤ◌, refl, sym, ap, subst, ◌∙◌, arith, zero, suc, ◌<◌, [], ◌∷◌, slice_index_or}
+use Rattle.std.proofs.Common.{ℤ, ◌+ℤ◌, ◌*ℤ◌}
+use Rattle.std.proofs.{lemmas.Int.ints, Math.Decide.dec_lt}
+use Rattle.integers.specs.Vectors.{Vector, zero_vector, parts, HasDimension}
+use Rattle.periodic_net.specs.Graph.{Graph, IsGraph, Arc, Vertex, vertex, arc}
+use Rattle.periodic_net.specs.Maps.{PeriodicMap, IsDrawnBy, IsMapTable, Iso}
+use Rattle.sublattice.specs.Sublattices.{base_of, index_of}
+use Rattle.map_check.specs.Layouts.{table_for, vertex_at, place_of, ComesBefore}
+use Rattle.map_check.specs.Laws.{Passes, IsMapOf, IsIsomorphic}
+use Rattle.map_check.specs.Tables.{CountsAgree, HasNoDouble, DegreesAgree}
+use Rattle.map_check.specs.Faults.{IsFirstInBox, IsDoubled, HasOtherDegree, IsFirstLost, PassesBefore, double_at, degree_at, lost_at, IsVerdict, HasFault}
+use Rattle.map_check.specs.Places.{HoldsNowhere, IsFirstPlace, HasOtherDegreeAt, KeepsArcsBefore, IsFirstLostAt}
+use Rattle.map_check.specs.{Conditions.SuitsGraphs, Conditions.IsShift, Images.AreNoCopies, Images.IsFirstCopy, Verified.IsTold, Verified.IsVerified}
+use Rattle.map_check.specs.{declared.verdict.MapFault.MapFault, declared.verdict.Verdict.Verdict, declared.verdict.Verdict.TheVariants.Yes}
+use Rattle.map_check.specs.{declared.verdict.Verdict.TheVariants.No}
+use Rattle.map_check.proofs.FirstFaults.{inside_list, no_double, first_doubled, degrees_agree, first_degree, arcs_kept, first_lost}
+use Rattle.map_check.proofs.{Theorems.tables_give_iso, SameDimension.same_dimension}
 use Rattle.std.specs.Prelude.{◌↔◌, Result, Ok, Err, IfOk}
 use Rattle.std.specs.List.{All}
-use Rattle.std.proofs.Math.Decide.{dec_lt}
-use Prim.{Dec, yes, no}
-use Rattle.integers.specs.Vectors.{Vector, zero_vector, parts, HasDimension}
-use Rattle.integers.proofs.lists.ListOrder.{not_below_itself}
-use Rattle.integers.proofs.numbers.Ring.{ring, linear}
-use Rattle.periodic_net.specs.Graph.{Graph, IsGraph, Vertex, vertex}
-use Rattle.periodic_net.specs.Maps.{PeriodicMap, IsDrawnBy, IsMapTable, Iso}
+use Prim.{Dec}
+use Rattle.integers.proofs.{lists.ListOrder.not_below_itself, numbers.Ring.ring, numbers.Ring.linear}
 use Rattle.periodic_net.proofs.CallerLemmas.{drawn, drawn_by_table}
-use Rattle.map_check.specs.Laws.{IsMapOf, IsIsomorphic, Passes}
-use Rattle.sublattice.specs.Sublattices.{base_of}
-use Rattle.map_check.specs.Layouts.{place_of, table_for, ComesBefore}
-use Rattle.map_check.proofs.Theorems.{tables_give_iso}
-use Rattle.map_check.specs.Conditions.{IsShift, SuitsGraphs}
-use Rattle.map_check.specs.Faults.{IsVerdict, HasFault}
-use Rattle.map_check.specs.Verified.{IsTold, IsVerified}
-use Rattle.map_check.specs.declared.verdict.MapFault.{MapFault}
 use Rattle.map_check.specs.declared.verdict.MapFault.TheVariants.{Dimension, Count, Doubled, Degree, Arc as LostArc}
-use Rattle.map_check.specs.declared.verdict.Verdict.{Verdict}
-use Rattle.map_check.specs.declared.verdict.Verdict.TheVariants.{Yes, No}
-use Rattle.map_check.proofs.FirstFaults.{inside_list}
-use Rattle.map_check.proofs.SameDimension.{same_dimension}
+
+-- What the code finds of the images, whose dimension it knows by another name, as verdicts.
+
+-- a dimension that is known by another name
+dimension_known : (G : Graph) (d : ℕ) → G.dimension ≡ d → (d ≡ 2) ⊎ (d ≡ 3) → (G.dimension ≡ 2) ⊎ (G.dimension ≡ 3)
+dimension_known G d e c = subst (λ (n : ℕ). (n ≡ 2) ⊎ (n ≡ 3)) (sym e) c
+
+module _ (G H : Graph) (d m : ℕ) (images : List Vertex) (rows : List Vector) (e : G.dimension ≡ d) (e' : H.dimension ≡ d) (c : (d ≡ 2) ⊎ (d ≡ 3))
+    (h : SuitsGraphs G H m images rows)
+    (counts : CountsAgree G H (table_for G m images rows)) where
+  -- the first copy
+  pub verdict_of_copy : (j : ℕ) (w : Vertex) → w ≡ vertex_at d m j → IsFirstCopy d (base_of rows) images j
+      → PassesBefore G H (table_for G m images rows) (double_at w) × IsFirstInBox G m (IsDoubled G (table_for G m images rows)) w
+  verdict_of_copy j w s t = (
+    (e ∙ sym e', counts),
+    subst (IsFirstInBox G m (IsDoubled G (table_for G m images rows))) (sym (s ∙ ap (λ (n : ℕ). vertex_at n m j) (sym e)))
+        (first_doubled G H m images rows (dimension_known G d e c) h j (subst (λ (n : ℕ). IsFirstCopy n (base_of rows) images j) (sym e) t)),
+  )
+
+  -- no copy
+  pub verdict_of_no_copy : AreNoCopies d (base_of rows) images (length images) → HasNoDouble G (table_for G m images rows)
+  verdict_of_no_copy t = no_double G H m images rows (dimension_known G d e c) h
+      (subst (λ (n : ℕ). AreNoCopies n (base_of rows) images (length images)) (sym e) t)
+
+  module _ (single : HasNoDouble G (table_for G m images rows)) where
+    -- the first other degree
+    pub verdict_of_degree : (i : ℕ) (w : Vertex) → w ≡ vertex_at d m i → IsFirstPlace (HasOtherDegreeAt G H d m images) (length images) i
+        → PassesBefore G H (table_for G m images rows) (degree_at w) × IsFirstInBox G m (HasOtherDegree G H (table_for G m images rows)) w
+    verdict_of_degree i w s t = (
+      (e ∙ sym e', counts, single),
+      subst (IsFirstInBox G m (HasOtherDegree G H (table_for G m images rows))) (sym (s ∙ ap (λ (n : ℕ). vertex_at n m i) (sym e)))
+          (first_degree G H m images rows (dimension_known G d e c) h i
+          (subst (λ (n : ℕ). IsFirstPlace (HasOtherDegreeAt G H n m images) (length images) i) (sym e) t)),
+    )
+
+    -- no other degree
+    pub verdict_of_degrees : HoldsNowhere (HasOtherDegreeAt G H d m images) (length images) → DegreesAgree G H (table_for G m images rows)
+    verdict_of_degrees t = degrees_agree G H m images rows (dimension_known G d e c) h
+        (subst (λ (n : ℕ). HoldsNowhere (HasOtherDegreeAt G H n m images) (length images)) (sym e) t)
+
+    module _ (degrees : DegreesAgree G H (table_for G m images rows)) (f : Vertex → Vertex) where
+      -- the first lost arc
+      pub verdict_of_arc : (w : Vertex) (a : Arc) → IsFirstLostAt G H d m f (length images) w a
+          → PassesBefore G H (table_for G m images rows) (lost_at w a) × IsFirstLost G H m f w (arc w.over a.to a.shift)
+      verdict_of_arc w a t = (
+        (e ∙ sym e', counts, single, degrees),
+        subst (IsFirstLost G H m f w) (λ i. arc (t.arc.lost.from i) a.to a.shift)
+            (first_lost G H m images rows (dimension_known G d e c) h f w a (subst (λ (n : ℕ). IsFirstLostAt G H n m f (length images) w a) (sym e) t)),
+      )
+
+      -- no lost arc
+      pub verdict_of_arcs : KeepsArcsBefore G H d m f (length images) → (G.dimension ≡ H.dimension) × Passes G H (table_for G m images rows) f
+      verdict_of_arcs t = (
+        e ∙ sym e',
+        record {
+          counts = counts;
+          no_double = single;
+          degrees = degrees;
+          arcs = arcs_kept G H m images rows (dimension_known G d e c) h f (subst (λ (n : ℕ). KeepsArcsBefore G H n m f (length images)) (sym e) t);
+        },
+      )
+
+-- a table has an image
+pub some_image : (G H : Graph) (m : ℕ) (images : List Vertex) (rows : List Vector) → IsGraph G → SuitsGraphs G H m images rows → 1 ≤ length images
+some_image G H m images rows g h =
+    let l = inside_list G H m images rows g.dimension h (vertex 1 zero_vector) (record {
+      over = (omega arith, g.vertices);
+      box = record { dimension = λ e. refl; low = (none, none, none); high = (below m h.period_from, below m h.period_from, below m h.period_from) };
+    }) in
+    omega (arith, l)
+  where
+    none : pos 0 ≤ℤ pos 0
+    none = omega (arith, ints)
+
+    below : (m : ℕ) → 1 ≤ m → pos 0 <ℤ pos m
+    below m l = omega (arith, ints, l)
+
+-- a product that is not 0 has no factor 0
+pub factor_positive : (l n size : ℕ) → 1 ≤ l → l ≡ n * size → 1 ≤ size
+factor_positive l n size k p = search arith
+
+-- the images are as many as the vertices of H, taken as often as the index
+pub count_of : (G H : Graph) (d m : ℕ) (images : List Vertex) (rows : List Vector) (index : ℕ) → G.dimension ≡ d → SuitsGraphs G H m images rows
+    → CountsAgree G H (table_for G m images rows) → index ≡ index_of d (base_of rows) → length images ≡ H.vertices * index
+count_of G H d m images rows index e h c s = cc
 
 -- a row of the list, or 0 past its end, is flat
 row_flat : (d : ℕ) (rows : List Vector) (i : ℕ) → All (IsShift d) rows → HasDimension d (slice_index_or rows i zero_vector)
@@ -34,8 +118,7 @@ row_flat d rows i h e = by (dec_lt i (length rows))
     past (v ∷ rows) (suc i) l = past rows i (omega (arith, l))
 
     by : Dec (i < length rows) → (slice_index_or rows i zero_vector).z ≡ pos 0
-    by (yes l) = (h i zero_vector l).dimension e
-    by (no n) = ap (λ (v : Vector). v.z) (past rows i (omega (arith, n)))
+    by k = search (arith, past)
 
 -- a sum of multiples of 0
 flat_sum : (x y z a b c : ℤ) → a ≡ pos 0 → b ≡ pos 0 → c ≡ pos 0 → x *ℤ a +ℤ (y *ℤ b +ℤ z *ℤ c) ≡ pos 0

@@ -1,6 +1,6 @@
 // Arcs that are carried along the cells of the box: their shifts are divided once.
 ghost use Rattle.std.specs.Prelude.{◌≡◌, ◌≤◌, ◌^◌, ◌≤ℤ◌, ◌<ℤ◌, ◌+ℤ◌, ◌*ℤ◌, pos, unsigned_abs};
-ghost use Rattle.integers.specs.Vectors.{plus, IsWithin};
+ghost use Rattle.integers.specs.Vectors.{vector, plus, IsWithin};
 ghost use Rattle.periodic_net.specs.Limits.{most_shift};
 ghost use Rattle.periodic_net.specs.Maps.{IsInBox};
 ghost use Rattle.map_check.specs.Conditions.{most_period};
@@ -48,16 +48,11 @@ fn part_of(z: i128, m: u32) -> Part
     }
 }
 
-// A cell as one of the box, m cells further in each direction as often as is said.
-fn parts_of(m: u32, t: &Triple) -> Parts
-    requires from { 1 ≤ m }
-    requires to { m ≤ most_period }
-    requires small { IsWithin most_shift t.now }
-    ensures { IsCarried m t.now result.rest result.steps }
+// Three parts as those of vectors.
+fn together(x: Part, y: Part, z: Part) -> Parts
+    ensures rest { result.rest ≡ vector x.rest y.rest z.rest }
+    ensures steps { result.steps ≡ vector x.steps y.steps z.steps }
 {
-    let x = part_of(t.x, m);
-    let y = part_of(t.y, m);
-    let z = part_of(t.z, m);
     Parts {
         rest: SmallVector {
             x: x.rest,
@@ -70,6 +65,19 @@ fn parts_of(m: u32, t: &Triple) -> Parts
             z: z.steps,
         },
     }
+}
+
+// A cell as one of the box, m cells further in each direction as often as is said.
+fn parts_of(m: u32, t: &Triple) -> Parts
+    requires from { 1 ≤ m }
+    requires to { m ≤ most_period }
+    requires small { IsWithin most_shift t.now }
+    ensures { IsCarried m t.now result.rest result.steps }
+{
+    let x = part_of(t.x, m);
+    let y = part_of(t.y, m);
+    let z = part_of(t.z, m);
+    together(x, y, z)
 }
 
 /// The arc, with the parts of its shift.
@@ -125,16 +133,5 @@ pub fn parts_of_end<const D: usize>(m: u32, cell: &SmallVector, arc: &CarriedArc
     let x = moved_part(cell.x, rest.x, steps.x, m);
     let y = moved_part(cell.y, rest.y, steps.y, m);
     let z = moved_part(cell.z, rest.z, steps.z, m);
-    Parts {
-        rest: SmallVector {
-            x: x.rest,
-            y: y.rest,
-            z: z.rest,
-        },
-        steps: SmallVector {
-            x: x.steps,
-            y: y.steps,
-            z: z.steps,
-        },
-    }
+    together(x, y, z)
 }

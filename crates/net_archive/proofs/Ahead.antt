@@ -1,22 +1,21 @@
 -- Of two states of the reading of one text, one lies ahead of the other, or they are one.
 use Rattle.std.proofs.Common.{◌≡◌, ◌⊎◌, ⊎_elim, inl, inr, ℕ, ◌+◌, Bool, true, false, List, [], ◌∷◌, ◌++◌, All, length, map, true≢false, refl, sym, ap, ◌∙◌}
 use Rattle.std.proofs.Common.{subst, arith}
+use Rattle.std.proofs.lemmas.List.{append-nil, length-append}
 use mathlib.Core.List.{append_assoc}
 use Rattle.std.specs.List.{flat_map}
-use Rattle.std.proofs.lemmas.List.{append-nil, length-append}
 use Rattle.line_text.specs.Lines.{IsAt, Place, rows_text}
 use Rattle.line_text.proofs.CallerLemmas.{same_row}
-use Rattle.archive_text.specs.Entries.{EntryView}
-use Rattle.periodic_net.specs.Graph.{Arc}
 use Rattle.archive_text.specs.Rows.{Row, first_row, OfName, OfSize, OfEdge, OfKey, OfCount, OfShells, OfEnd, row_line, row_lines}
 use Rattle.archive_text.specs.Parts.{Part, Start, Named, Drawn, Keyed, Counted, part_rows, shells_rows, IsFormed, MayStandAfter}
 use Rattle.archive_text.specs.Texts.{entry_lines, entry_rows, rows_before, whole_part}
-use Rattle.archive_text.specs.declared.version.Version.{Version}
+use Rattle.archive_text.specs.{Entries.EntryView, declared.version.Version.Version}
+use Rattle.periodic_net.specs.Graph.{Arc}
 use Rattle.archive_text.proofs.CallerLemmas.{Cut, Walk, cut_from, entries_walk, entry_cut, lines_of_sum, part_walk, part_with, row_none, same_row_of, shown}
 use Rattle.archive_text.proofs.CallerLemmas.{walk_on}
 use Rattle.archive_text.proofs.Walks.{formed_with}
 use Rattle.net_archive.specs.Archives.{IsEntry}
-use Rattle.net_archive.proofs.Versions.{formed_all, same_version}
+use Rattle.net_archive.proofs.FirstLines.{formed_all, same_version}
 
 -- these rows begin with those, and the text goes on with the others
 record GoesOn (v : Version) (here there : Part) (rows first : List Row) (rest left : List ℕ) : Type 0 where
@@ -191,9 +190,7 @@ rest_of w rows more rest = append_assoc (first_row w) (10 ∷ rows_text (rows ++
 -- the rows of entries and of a part, as bytes
 lines_of : (v : Version) (es : List EntryView) (part : Part) (rest : List ℕ)
     → rows_text (row_lines (rows_of v es part)) ++ rest ≡ rows_text (entry_lines v es ++ row_lines (part_rows part)) ++ rest
-lines_of v es part rest =
-    ap (λ l. rows_text l ++ rest) (lines_of_sum (flat_map (entry_rows v) es) (part_rows part))
-    ∙ ap (λ l. rows_text (l ++ row_lines (part_rows part)) ++ rest) (sym (lines_of_entries v es))
+lines_of v es part rest = search (arith, lines_of_sum, lines_of_entries)
 
 -- these entries and this part of one more stand in a text up to this place
 pub record HasRead (v : Version) (text : List ℕ) (es : List EntryView) (part : Part) (place : Place) : Type 0 where

@@ -1,30 +1,20 @@
 -- No fault of a text comes before a state of its reading that goes right.
 use Rattle.std.proofs.Common.{◌≡◌, ◌≢◌, ℕ, ◌<◌, List, [], ◌∷◌, ◌++◌, All, length, map, true, refl, sym, ap, ◌∙◌, subst, arith}
-use mathlib.Core.List.{append_assoc}
-use Rattle.std.specs.List.{flat_map, Contains}
 use Rattle.std.proofs.lemmas.List.{length-append, length-map, append-nil}
 use Rattle.std.proofs.lemmas.List.Elements.{All-contains, Contains-append_left, Contains-append_right, Contains-push}
-use Rattle.line_text.specs.Lines.{Place}
+use mathlib.Core.List.{append_assoc}
+use Rattle.std.specs.List.{flat_map, Contains}
+use Rattle.line_text.specs.{Lines.Place, Names.is_name}
 use Rattle.line_text.proofs.CallerLemmas.{same_row}
-use Rattle.cgd_read.specs.Spelling.{edge_of}
-use Rattle.archive_text.specs.Entries.{EntryView}
-use Rattle.archive_text.specs.Lookups.{names_of}
-use Rattle.line_text.specs.Names.{is_name}
 use Rattle.archive_text.specs.Rows.{Row, OfName, OfSize, OfEdge, OfKey, OfCount, OfShells, OfEnd, row_line, name_row, end_row}
-use Rattle.archive_text.specs.Parts.{Part, Start, Named, Drawn, Keyed, Counted, part_rows, IsFormed, MayStandAfter}
-use Rattle.archive_text.specs.Reading.{form_part}
-use Rattle.archive_text.specs.Texts.{entry_rows}
-use Rattle.archive_text.specs.declared.version.Version.{Version}
-use Rattle.archive_text.specs.declared.version.Version.TheVariants.{One, Two}
+use Rattle.archive_text.specs.Parts.{Part, Start, part_rows, IsFormed, MayStandAfter}
+use Rattle.archive_text.specs.{Entries.EntryView, Lookups.names_of, Reading.form_part, Texts.entry_rows, declared.version.Version.Version}
 use Rattle.archive_text.proofs.CallerLemmas.{Cut, cut_from, end_follows, entry_cut, name_none, part_cut, row_none, said, same_name, same_row_of, shown}
-use Rattle.net_archive.specs.Archives.{IsEntry, most_entries}
 use Rattle.net_archive.specs.Faults.{AreEntries, FaultAt, IsBegun, IsBadLine, IsFaultAtEnd, IsRepeated, IsTooMany, Stands}
-use Rattle.net_archive.specs.declared.faults.ArchiveFault.{ArchiveFault}
-use Rattle.net_archive.specs.declared.faults.ArchiveFault.TheVariants.{BadLine, RepeatedName, EntryRefused, KeyDiffers, TooManyEntries, Version as OtherVersion}
 use Rattle.net_archive.specs.declared.faults.ArchiveFault.TheVariants.{CountDiffers, ShellsDiffer, NoMemory}
-use Rattle.net_archive.proofs.Ahead.{IsAhead, no_end}
-use Rattle.net_archive.proofs.NamesApart.{names_apart}
-use Rattle.net_archive.proofs.NoEndFault.{no_judged}
+use Rattle.net_archive.specs.{Archives.IsEntry, Archives.most_entries, declared.faults.ArchiveFault.ArchiveFault}
+use Rattle.net_archive.proofs.{Ahead.IsAhead, Ahead.no_end, Growth.names_apart, OneJudged.no_judged}
+use Rattle.net_archive.specs.declared.faults.ArchiveFault.TheVariants.{BadLine, RepeatedName, EntryRefused, KeyDiffers, TooManyEntries, Version as OtherVersion}
 
 -- the name in a row, where it has one
 abbrev name_in : List Row → List ℕ
@@ -38,12 +28,10 @@ name_in (OfShells c sizes ∷ rs) = []
 name_in (OfEnd ∷ rs) = []
 
 first_name : (v : Version) (e : EntryView) (rs : List Row) → name_in (entry_rows v e ++ rs) ≡ e.name
-first_name One e rs = refl
-first_name Two e rs = refl
+first_name v e rs = search arith
 
 shown_name : (v : Version) (e : EntryView) → (shown v e).name ≡ e.name
-shown_name One e = refl
-shown_name Two e = refl
+shown_name v e = search arith
 
 names_shown : (v : Version) (es : List EntryView) → map (λ (x : EntryView). x.name) (map (shown v) es) ≡ names_of es
 names_shown v [] = refl
@@ -58,11 +46,7 @@ same_length v xs ys e = sym (length-map xs (shown v)) ∙ ap length e ∙ length
 -- after a name one more entry of this name is begun
 begun_with : (all : List EntryView) (last : Part) (name : List ℕ) (others : List Row) → OfName name ∷ others ≡ part_rows last → IsBegun all last
     → (¬ Contains (names_of all) name) × (length all < most_entries)
-begun_with all Start name others e may = let long = ap length e in absurd (omega (arith, long))
-begun_with all (Named own) name others e may = (subst (λ n. ¬ Contains (names_of all) n) (sym (ap name_in e)) may.fresh, may.few)
-begun_with all (Drawn own s edges) name others e may = (subst (λ n. ¬ Contains (names_of all) n) (sym (ap name_in e)) may.fresh, may.few)
-begun_with all (Keyed own s edges key) name others e may = (subst (λ n. ¬ Contains (names_of all) n) (sym (ap name_in e)) may.fresh, may.few)
-begun_with all (Counted own s edges key n lists) name others e may = (subst (λ n. ¬ Contains (names_of all) n) (sym (ap name_in e)) may.fresh, may.few)
+begun_with all last name others h k = grind arith
 
 entry_there : (P : EntryView → Type 0) (xs : List EntryView) (y : EntryView) (ys : List EntryView) → All P (xs ++ y ∷ ys) → P y
 entry_there P xs y ys all = All-contains P (xs ++ y ∷ ys) y all (Contains-append_right xs (y ∷ ys) y (Contains-append_left (y ∷ []) ys y (Contains-push [] y)))
@@ -75,17 +59,7 @@ module _ (v : Version) (all : List EntryView) (last : Part) (good : AreEntries a
   module _ (a : IsAhead v all last es Start place.rest) (name : List ℕ) (is : is_name name ≡ true) (stands : Stands (name_row name) place) where
     -- the row is this name
     row_is : a.row ≡ OfName name
-    row_is = by a.row a.may a.stands
-      where
-        by : (r : Row) → MayStandAfter v Start r → place.rest ≡ row_line r ++ 10 ∷ a.after → r ≡ OfName name
-        by (OfName other) may at = ap OfName
-            (same_name other name (same_row (name_row other) (name_row name) a.after stands.0 (name_none other may) (name_none name is) (sym at ∙ stands.1)).0)
-        by (OfSize s) may at = absurd may
-        by (OfEdge dim e) may at = absurd may
-        by (OfKey key) may at = absurd may
-        by (OfCount n) may at = absurd may
-        by (OfShells c sizes) may at = absurd may
-        by OfEnd may at = absurd may
+    row_is = search (arith, same_name, same_row, name_none)
 
     rows_are : OfName name ∷ a.others ≡ flat_map (entry_rows v) a.more ++ part_rows last
     rows_are = ap (λ r. r ∷ a.others) (sym row_is) ∙ a.rows
@@ -99,8 +73,7 @@ module _ (v : Version) (all : List EntryView) (last : Part) (good : AreEntries a
     fresh (e ∷ later) whole rows = (none, room)
       where
         own : e.name ≡ name
-        own = sym (first_name v e (flat_map (entry_rows v) later ++ part_rows last))
-            ∙ ap name_in (sym (append_assoc (entry_rows v e) (flat_map (entry_rows v) later) (part_rows last)) ∙ sym rows)
+        own = grind arith
 
         long : length all ≡ length (a.front ++ e ∷ later)
         long = ap length whole
@@ -127,8 +100,7 @@ module _ (v : Version) (all : List EntryView) (last : Part) (good : AreEntries a
   no_end_fault part fault memory formed a c = by a.more a.is (ap (λ r. part_rows part ++ r ∷ a.others) (sym ends) ∙ a.rows)
     where
       follows : MayStandAfter v part OfEnd
-      follows = subst (λ q. MayStandAfter v q OfEnd) (sym c.is) (end_follows v c.name c.form.keyed.size
-          (map edge_of c.form.keyed.edges.items) c.form.keyed.key c.form.shells)
+      follows = search (arith, end_follows)
 
       ends : a.row ≡ OfEnd
       ends = same_row_of v part a.row OfEnd formed a.may follows

@@ -1,23 +1,19 @@
 -- First lines, and where the reading of entries stands.
-use Rattle.std.proofs.Common.{◌≡◌, ◌≢◌, ℕ, ◌+◌, ◌<◌, List, [], ◌∷◌, ◌++◌, length, refl, sym, ap, ◌∙◌, subst, arith}
-use Rattle.std.proofs.lemmas.Bool.{true≢false}
-use Rattle.std.proofs.lemmas.List.{append-nil}
-use Rattle.std.proofs.lemmas.List.Elements.{All-nil}
+use Rattle.std.proofs.Common.{◌≡◌, ◌≢◌, ℕ, ◌+◌, ◌<◌, List, [], ◌∷◌, ◌++◌, length, refl, sym, ap, ◌∙◌, subst, arith, All}
+use Rattle.std.proofs.lemmas.{Bool.true≢false, List.append-nil, List.Elements.All-nil, List.Elements.All-weaker}
 use Rattle.line_text.specs.Lines.{Place, IsAt, HasNo, rows_text}
-use Rattle.line_text.proofs.CallerLemmas.{less_left}
-use Rattle.archive_text.specs.Entries.{EntryView}
+use Rattle.line_text.proofs.CallerLemmas.{less_left, same_row}
 use Rattle.archive_text.specs.Rows.{first_row, name_row, row_lines}
 use Rattle.archive_text.specs.Texts.{rows_before, text_of, entry_rows}
-use Rattle.archive_text.specs.declared.version.Version.{Version}
-use Rattle.archive_text.specs.declared.version.Version.TheVariants.{One, Two}
-use Rattle.net_archive.specs.Archives.{IsEntry}
-use Rattle.net_archive.specs.Faults.{AreEntries, HasNoVersion}
+use Rattle.archive_text.specs.{Entries.EntryView, declared.version.Version.Version, declared.version.Version.TheVariants.One}
+use Rattle.archive_text.specs.{declared.version.Version.TheVariants.Two}
 use Rattle.net_archive.specs.Steps.{AreMore, AreRead, HasBegun, IsAfterName}
+use Rattle.net_archive.specs.{Archives.IsEntry, Faults.AreEntries, Faults.HasNoVersion}
 use Rattle.net_archive.proofs.MoreEntries.{rows_with}
+use Rattle.archive_text.proofs.CallerLemmas.{IsFormedEntry}
 
 pub no_feed : (v : Version) → HasNo 10 (first_row v)
-no_feed One = (refl, (refl, (refl, (refl, (refl, (refl, (refl, (refl, (refl, (refl, (refl, (refl, (refl, tt)))))))))))))
-no_feed Two = (refl, (refl, (refl, (refl, (refl, (refl, (refl, (refl, (refl, (refl, (refl, (refl, (refl, tt)))))))))))))
+no_feed v = search arith
 
 pub feed_there : (xs ys : List ℕ) → HasNo 10 (xs ++ 10 ∷ ys) → ⊥
 feed_there [] ys none = true≢false none.0
@@ -27,10 +23,7 @@ feed_there (x ∷ xs) ys none = feed_there xs ys none.1
 pub no_version : (text line rest : List ℕ) → text ≡ line ++ 10 ∷ rest →
     ((v : Version) (others : List ℕ) → HasNo 10 (first_row v) → text ≡ first_row v ++ 10 ∷ others → line ≡ first_row v) → ((v : Version) → line ≢ first_row v)
     → HasNoVersion text
-no_version text line rest is every none = record {
-  not_cut = λ cut. feed_there line rest (subst (HasNo 10) (sym cut.1 ∙ is) (no_feed cut.0));
-  none = λ v others e. none v (every v others (no_feed v) e);
-}
+no_version text line rest is every h = search (arith, feed_there, no_feed)
 
 pub none_yet : AreEntries []
 none_yet = record { each = All-nil IsEntry; names = λ i j d below within. absurd (omega (arith, within)); few = omega arith }
@@ -69,3 +62,24 @@ pub read_more : (v : Version) (start now after : Place) (es : List EntryView) (e
 read_more v start now after es e read more =
     let here = more (rows_text (rows_before v es) ++ now.rest) (some_text v es now read.number) in
     record { good = here.good; at = λ text at. (more text (read.at text at)).at; number = here.at.number }
+
+-- A text has one version, and an entry of an archive has the form of each.
+
+-- an entry of an archive has the form of each version
+formed_in : (v : Version) (e : EntryView) → IsEntry e → IsFormedEntry v e
+formed_in One e is = is.formed.1
+formed_in Two e is = is.formed
+
+pub formed_all : (v : Version) (es : List EntryView) → All IsEntry es → All (IsFormedEntry v) es
+formed_all v es all = All-weaker IsEntry (IsFormedEntry v) (λ e is. formed_in v e is) es all
+
+one_version : (v w : Version) → first_row v ≡ first_row w → v ≡ w
+one_version v w h = search arith
+
+-- a text has one version, and the same rows after its first
+pub record SameVersion (v w : Version) (x y : List ℕ) : Type 0 where
+  pub version : v ≡ w
+  pub rest : x ≡ y
+
+pub same_version : (v w : Version) (x y : List ℕ) → first_row v ++ 10 ∷ x ≡ first_row w ++ 10 ∷ y → SameVersion v w x y
+same_version v w x y e = search (arith, same_row, no_feed, one_version)

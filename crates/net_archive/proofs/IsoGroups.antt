@@ -1,20 +1,58 @@
 -- Groups of entries with equal keys are groups of entries with isomorphic nets.
-use Rattle.std.proofs.Common.{◌≡◌, ◌≢◌, inl, inr, ◌∙◌, ℕ, zero, suc, ◌+◌, ◌-◌, ◌≤◌, ℤ, Bool, true, false, cond, List, [], ◌∷◌, length, map, filter, slice_get}
-use Rattle.std.proofs.Common.{Some, Result, Ok, Err, Vec, true≢false, refl, sym, ap, subst, arith}
+use Rattle.std.proofs.Common.{◌≡◌, inl, ◌∙◌, ℕ, ℤ, Bool, true, false, List, [], ◌∷◌, filter, cond, refl, sym, ap, subst, arith, ◌≢◌, inr, zero, suc, ◌+◌, ◌-◌}
+use Rattle.std.proofs.Common.{◌≤◌, length, map, slice_get, Some, Result, Ok, Err, Vec, ◌++◌, get_or}
+use Rattle.std.proofs.lemmas.List.Elements.{All-head, All-tail, All-contains, Contains-append_left, Contains-append_right, Contains-get_or, Contains-push}
+use Rattle.std.proofs.lemmas.{Bool.true≢false, Bool.Decides.Decides-int_eq, Slice.Eq.slice_eq-Decides, Option.slice_get_within, Option.get_or_from_slice_get}
+use Rattle.std.proofs.lemmas.{List.Sorted.All-permutation}
 use Rattle.std.specs.List.{All, Contains, enumerate_from}
-use Rattle.std.specs.Prelude.{IfOk}
-use Rattle.std.specs.declared.alloc.Global.{Global}
-use Rattle.std.specs.Cmp.Rules.{signed_items}
-use Rattle.std.proofs.lemmas.List.Elements.{All-contains}
-use Rattle.std.proofs.lemmas.Option.{slice_get_within, get_or_from_slice_get}
-use Rattle.integers.proofs.lists.Members.{IsIn, is_in, contains_from_in}
-use Rattle.periodic_net.specs.Maps.{Iso}
+use Rattle.std.specs.{Prelude.IfOk, declared.alloc.Global.Global, Cmp.Rules.signed_items}
+use Rattle.periodic_net.specs.{Graph.Graph, Graph.IsGraph, Maps.Iso}
+use Rattle.key_theory.specs.Key.{IsKeyOf}
 use Rattle.key_theory.proofs.CallerLemmas.{keys_decide}
-use Rattle.archive_text.specs.Entries.{EntryView}
+use Rattle.archive_text.specs.Lookups.{names_of, names_with, same_key}
 use Rattle.archive_text.specs.Groups.{AreGroups, IsGroup, numbers_from, numbers_in, numbers_with}
-use Rattle.archive_text.specs.Lookups.{same_key}
+use Rattle.archive_text.specs.{Entries.EntryView, Regrouped.AreTogether, Regrouped.regrouped}
 use Rattle.net_archive.specs.Archives.{IsEntry}
-use Rattle.net_archive.specs.Deciding.{AreIsoGroups, IsEntryAt, KeysDecideArchive, ShareGroup}
+use Rattle.net_archive.specs.Deciding.{AreNamesOf, AreIsoGroups, IsEntryAt, KeysDecideArchive, ShareGroup, AreIsoTogether}
+use Rattle.integers.proofs.lists.Members.{IsIn, is_in, contains_from_in}
+use Rattle.archive_text.proofs.CallerLemmas.{is_regrouped}
+
+-- The names that a key finds are those of the isomorphic entries.
+
+-- two keys are found equal exactly where they are
+same_decides : (xs ys : List ℤ) → (same_key xs ys ≡ true → xs ≡ ys) × (xs ≡ ys → same_key xs ys ≡ true)
+same_decides xs ys = slice_eq-Decides Decides-int_eq xs ys (same_key xs ys) refl
+
+module _ (G : Graph) (g : IsGraph G) (key : List ℤ) (k : IsKeyOf G key) where
+  -- the entry is found where its net is isomorphic
+  found_iso : (e : EntryView) → IsEntry e → same_key e.key key ≡ true → Iso G e.graph
+  found_iso e h s = (keys_decide G e.graph key e.key g h.is_graph k h.key).0 (sym ((same_decides e.key key).0 s))
+
+  -- and there alone
+  missed_iso : (e : EntryView) → IsEntry e → same_key e.key key ≡ false → ¬ Iso G e.graph
+  missed_iso e h s i =
+      let same = (keys_decide G e.graph key e.key g h.is_graph k h.key).1 i in
+      true≢false (sym ((same_decides e.key key).1 (sym same)) ∙ s)
+
+  -- the names of the entries that are left, after one that is missed
+  missed : (e : EntryView) (es : List EntryView) (names : List (List ℕ)) → ¬ Iso G e.graph → AreNamesOf G es names → AreNamesOf G (e ∷ es) names
+  missed e es names k l = search arith
+
+  -- the names, where it is known whether the first entry is found
+  abbrev first_name : Bool → EntryView → List EntryView → List (List ℕ)
+  first_name b e es = names_of (cond b (e ∷ filter (λ (x : EntryView). same_key x.key key) es) (filter (λ (x : EntryView). same_key x.key key) es))
+
+  -- the names with one more entry
+  one_more : (e : EntryView) (es : List EntryView) → IsEntry e → AreNamesOf G es (names_with key es) → (b : Bool) → same_key e.key key ≡ b
+      → AreNamesOf G (e ∷ es) (names_with key (e ∷ es))
+  one_more e es h rest true s = subst (AreNamesOf G (e ∷ es)) (sym (ap (λ (b : Bool). first_name b e es) s)) (inl (found_iso e h s, refl, rest))
+  one_more e es h rest false s = subst (AreNamesOf G (e ∷ es)) (sym (ap (λ (b : Bool). first_name b e es) s))
+      (missed e es (names_with key es) (missed_iso e h s) rest)
+
+  -- the names that the key finds
+  pub names_found : (es : List EntryView) → All IsEntry es → AreNamesOf G es (names_with key es)
+  names_found [] h = refl
+  names_found (e ∷ es) h = one_more e es (All-head IsEntry e es h) (names_found es (All-tail IsEntry e es h)) (same_key e.key key) refl
 
 -- the keys of two entries decide
 pub keys_decide_archive : (entries : List EntryView) → All IsEntry entries → KeysDecideArchive entries
@@ -59,8 +97,7 @@ module _ (key : List ℤ) where
   in_keyed n (x ∷ es) zero e at q = by (same_key x.key key) (let first : x ≡ e = cc in ap (λ (y : EntryView). same_key y.key key) first ∙ q)
     where
       by : (b : Bool) → b ≡ true → IsIn (numbers_by b n x es) (n + 0)
-      by true is = inl (omega arith)
-      by false is = absurd (true≢false (sym is))
+      by b h = search arith
   in_keyed n (x ∷ es) (suc k) e at q =
       let place : n + 1 + k ≡ n + suc k = omega arith in
       by (same_key x.key key) (subst (IsIn (numbers_from (n + 1) key es)) place (in_keyed (n + 1) es k e at q))
@@ -126,3 +163,42 @@ pub groups_told : {E : Type 0} (es : List EntryView) (r : Result (Vec (Vec ℕ G
     → IfOk r (λ groups. AreIsoGroups es (numbers_in groups.items))
 groups_told es (Ok groups) good are = iso_groups es good (numbers_in groups.items) are
 groups_told es (Err e) good are = are
+
+-- Entries that stand together by their keys stand together by their nets.
+
+module _ (before between after : List EntryView) (e f : EntryView) where
+  abbrev whole : List EntryView
+  whole = before ++ e ∷ (between ++ f ∷ after)
+
+  first_there : Contains whole e
+  first_there = Contains-append_right before (e ∷ (between ++ f ∷ after)) e (Contains-append_left (e ∷ []) (between ++ f ∷ after) e (Contains-push [] e))
+
+  later_there : (x : EntryView) → Contains (between ++ f ∷ after) x → Contains whole x
+  later_there x c = Contains-append_right before (e ∷ (between ++ f ∷ after)) x (Contains-append_right (e ∷ []) (between ++ f ∷ after) x c)
+
+  last_there : Contains whole f
+  last_there = later_there f (Contains-append_right between (f ∷ after) f (Contains-append_left (f ∷ []) after f (Contains-push [] f)))
+
+  between_there : (x : EntryView) → Contains between x → Contains whole x
+  between_there x c = later_there x (Contains-append_left between (f ∷ after) x c)
+
+-- the keys of two entries decide
+decide : (e f : EntryView) → IsEntry e → IsEntry f → (e.key ≡ f.key → Iso e.graph f.graph) × (Iso e.graph f.graph → e.key ≡ f.key)
+decide e f a b = let both = keys_decide e.graph f.graph e.key f.key a.is_graph b.is_graph a.key b.key in (both.0, both.1)
+
+pub iso_together : (es : List EntryView) → All IsEntry es → AreTogether es → AreIsoTogether es
+iso_together es all together before between after e f eq iso =
+    let good = subst (All IsEntry) eq all in
+    let whole = before ++ e ∷ (between ++ f ∷ after) in
+    let first = All-contains IsEntry whole e good (first_there before between after e f) in
+    let last = All-contains IsEntry whole f good (last_there before between after e f) in
+    let same = together before between after e f eq ((decide e f first last).1 iso) in
+    λ k d l.
+    let x = get_or between k d in
+    (decide x e (All-contains IsEntry whole x good (between_there before between after e f x (Contains-get_or between k d l))) first).0 (same k d l)
+
+-- regrouped entries stand together by their nets
+pub regrouped_together : (es now : List EntryView) → All IsEntry es → now ≡ regrouped es → AreIsoTogether now
+regrouped_together es now good is =
+    let r = is_regrouped es in
+    subst AreIsoTogether (sym is) (iso_together (regrouped es) (All-permutation IsEntry es (regrouped es) r.same_entries good) r.together)

@@ -2,68 +2,34 @@
 use Rattle.std.proofs.Common.{◌≡◌, ◌≢◌, ◌⊎◌, inl, inr, ℕ, ◌+◌, List, [], ◌∷◌, ◌++◌, All, length, map, drop, get_or, true, refl, sym, ap, ◌∙◌, subst, arith}
 use Rattle.std.proofs.lemmas.List.{append-nil, length-append, length-map}
 use Rattle.std.proofs.lemmas.List.Elements.{All-head, All-tail}
-use Rattle.line_text.specs.Lines.{HasNo, Place, rows_text}
+use Rattle.line_text.specs.{Lines.Place, Lines.rows_text, Names.is_name}
 use Rattle.cgd_read.specs.Spelling.{edge_of}
 use Rattle.periodic_net.specs.Graph.{Graph, IsGraph}
 use Rattle.quotient_graph.proofs.EdgeLists.{listed_graph}
 use Rattle.coordination.specs.Sequences.{AreSequencesOf}
 use Rattle.coordination.proofs.CallerLemmas.{one_list_of_sequences}
-use Rattle.archive_text.specs.Entries.{EntryView}
-use Rattle.line_text.specs.Names.{is_name}
 use Rattle.archive_text.specs.Rows.{OfName, OfEnd, row_line, row_lines, first_row, name_row}
 use Rattle.archive_text.specs.Parts.{Part, Start, part_rows, IsFormed, MayStandAfter}
-use Rattle.archive_text.specs.Reading.{form_part}
-use Rattle.archive_text.specs.Texts.{entry_lines, rows_before}
-use Rattle.archive_text.specs.declared.rest.Form.{Form}
-use Rattle.archive_text.specs.declared.version.Version.{Version}
-use Rattle.archive_text.specs.declared.version.Version.TheVariants.{One, Two}
+use Rattle.archive_text.specs.{Entries.EntryView, Reading.form_part, Texts.entry_lines, Texts.rows_before, declared.rest.Form.Form}
+use Rattle.archive_text.specs.{declared.version.Version.Version, declared.version.Version.TheVariants.One, declared.version.Version.TheVariants.Two}
 use Rattle.archive_text.proofs.CallerLemmas.{end_follows, said, shown}
 use Rattle.net_archive.specs.Archives.{ArchiveView, IsArchive, IsEntry, archive_text}
 use Rattle.net_archive.specs.Faults.{AreEntries, FaultAt, HasFault, IsBadLine, IsFaultAtEnd, IsFaultOf, IsFirstLineFault, IsRepeated, IsTooMany, MayEnd, Stands}
-use Rattle.net_archive.specs.Judging.{graph_of_form}
-use Rattle.net_archive.specs.declared.faults.ArchiveFault.{ArchiveFault}
-use Rattle.net_archive.specs.declared.faults.ArchiveFault.TheVariants.{BadLine, RepeatedName, EntryRefused, KeyDiffers, TooManyEntries, Version as OtherVersion}
 use Rattle.net_archive.specs.declared.faults.ArchiveFault.TheVariants.{CountDiffers, ShellsDiffer, NoMemory}
+use Rattle.net_archive.specs.{Judging.graph_of_form, declared.faults.ArchiveFault.ArchiveFault}
 use Rattle.net_archive.proofs.Ahead.{HasRead, IsAhead, IsThere, rest_of, states_meet}
-use Rattle.net_archive.proofs.Earlier.{no_earlier_fault}
-use Rattle.net_archive.proofs.FirstLines.{no_feed, feed_there}
-use Rattle.net_archive.proofs.FormEdges.{are_edges}
-use Rattle.net_archive.proofs.NoEndFault.{graph_said, key_said}
-use Rattle.net_archive.proofs.OneJudged.{AreAlike, one_judged}
-use Rattle.net_archive.proofs.Versions.{same_version}
+use Rattle.net_archive.proofs.FirstLines.{no_feed, feed_there, same_version}
+use Rattle.net_archive.proofs.OneJudged.{graph_said, key_said, AreAlike, one_judged}
+use Rattle.net_archive.proofs.{Earlier.no_earlier_fault, MoreEntries.are_edges}
+use Rattle.net_archive.specs.declared.faults.ArchiveFault.TheVariants.{BadLine, RepeatedName, EntryRefused, KeyDiffers, TooManyEntries, Version as OtherVersion}
 
 -- a text that goes on after its first line has no fault in it
 no_first_line : (v : Version) (text rest : List ℕ) (fault : ArchiveFault) → text ≡ first_row v ++ 10 ∷ rest → IsFirstLineFault text fault → ⊥
-no_first_line v text rest (BadLine n) e is = feed_there (first_row v) rest (subst (HasNo 10) (sym is.1.1 ∙ e) (no_feed is.1.0))
-no_first_line v text rest (OtherVersion n) e is = is.1.none v rest e
-no_first_line v text rest (RepeatedName n) e is = is
-no_first_line v text rest (EntryRefused n refusal) e is = is
-no_first_line v text rest (KeyDiffers n kept computed) e is = is
-no_first_line v text rest TooManyEntries e is = is
-no_first_line v text rest (CountDiffers n kept computed) e is = is
-no_first_line v text rest (ShellsDiffer n class kept computed) e is = is
-no_first_line v text rest NoMemory e is = is
+no_first_line v text rest fault h k = search (arith, feed_there, no_feed)
 
 -- the fault in a first line is one
 one_first_line : (text : List ℕ) (a b : ArchiveFault) → IsFirstLineFault text a → IsFirstLineFault text b → a ≡ b
-one_first_line text (BadLine n) (BadLine m) h k = ap BadLine (h.0 ∙ sym k.0)
-one_first_line text (BadLine n) (OtherVersion m) h k = absurd (k.1.not_cut h.1)
-one_first_line text (OtherVersion n) (BadLine m) h k = absurd (h.1.not_cut k.1)
-one_first_line text (OtherVersion n) (OtherVersion m) h k = ap OtherVersion (h.0 ∙ sym k.0)
-one_first_line text (RepeatedName n) b h k = absurd h
-one_first_line text (EntryRefused n refusal) b h k = absurd h
-one_first_line text (KeyDiffers n kept computed) b h k = absurd h
-one_first_line text TooManyEntries b h k = absurd h
-one_first_line text (CountDiffers n kept computed) b h k = absurd h
-one_first_line text (ShellsDiffer n class kept computed) b h k = absurd h
-one_first_line text NoMemory b h k = absurd h
-one_first_line text a (RepeatedName n) h k = absurd k
-one_first_line text a (EntryRefused n refusal) h k = absurd k
-one_first_line text a (KeyDiffers n kept computed) h k = absurd k
-one_first_line text a TooManyEntries h k = absurd k
-one_first_line text a (CountDiffers n kept computed) h k = absurd k
-one_first_line text a (ShellsDiffer n class kept computed) h k = absurd k
-one_first_line text a NoMemory h k = absurd k
+one_first_line text a b l p = search arith
 
 module _ (v : Version) (es : List EntryView) (part : Part) (place : Place) where
   -- the kinds of the next fault
@@ -95,11 +61,7 @@ module _ (v : Version) (es : List EntryView) (part : Part) (place : Place) where
       (end_follows v c.name c.form.keyed.size (map edge_of c.form.keyed.edges.items) c.form.keyed.key c.form.shells)) c.ends.1
 
   not_start : (fault : ArchiveFault) → IsFaultAtEnd v es part place fault → part ≢ Start
-  not_start fault c start = by v c.name c.form (sym c.is ∙ start)
-    where
-      by : (w : Version) (name : List ℕ) (f : Form) → form_part w name f ≡ Start → ⊥
-      by One name f e = cc
-      by Two name f e = cc
+  not_start fault c start = search arith
 
   module _ (formed : IsFormed v part) where
     alike : (a b : ArchiveFault) (c : IsFaultAtEnd v es part place a) (d : IsFaultAtEnd v es part place b) → AreAlike v c.form d.form
@@ -120,8 +82,7 @@ module _ (v : Version) (es : List EntryView) (part : Part) (place : Place) where
         count = sym (length-map c.form.keyed.edges.items edge_of) ∙ ap (λ (G : Graph). length G.edges) graph ∙ length-map d.form.keyed.edges.items edge_of
 
         shells : (w : Version) → w ≡ Two → (m n : List ℕ) (f g : Form) → form_part w m f ≡ form_part w n g → f.shells ≡ g.shells
-        shells Two two m n f g e = ap (λ p. (said p).shells) e
-        shells One two m n f g e = absurd (cc)
+        shells w h m n f g k = cc
 
     is_graph : (a : ArchiveFault) (c : IsFaultAtEnd v es part place a) → IsGraph (graph_of_form c.form)
     is_graph a c = listed_graph c.form.keyed.size.dim c.form.keyed.size.vertices c.form.keyed.edges.items
@@ -212,14 +173,7 @@ abbrev end_of : ArchiveView → Place
 end_of a = record { rest = []; number = length (rows_before a.version a.entries ++ []) + 1 }
 
 read_all : (a : ArchiveView) → IsArchive a → HasRead a.version (archive_text a) a.entries Start (end_of a)
-read_all a is = record {
-  each = is.each;
-  formed = tt;
-  at = record {
-    joined = sym (append-nil (rows_text (rows_before a.version a.entries ++ [])) ∙ ap rows_text (append-nil (rows_before a.version a.entries)));
-    number = refl;
-  };
-}
+read_all a is = grind (arith, append-nil)
 
 -- nothing is left there
 nothing_left : (v : Version) (all es : List EntryView) (last part : Part) → IsAhead v all last es part [] → ⊥
@@ -277,8 +231,7 @@ one_archive a b ha hb e = λ i. record { version = version i; entries = entries 
     is_other = subst (λ w. IsArchive (record { version = w; entries = b.entries })) (sym version) hb
 
     read_other : HasRead a.version (archive_text a) b.entries Start (end_of other)
-    read_other = subst (λ t. HasRead a.version t b.entries Start (end_of other))
-        (ap (λ w. archive_text (record { version = w; entries = b.entries })) version ∙ sym e) (read_all other is_other)
+    read_other = grind (arith, version, read_all, is_other)
 
     entries : a.entries ≡ b.entries
     entries = by (states_meet a.version (archive_text a) a.entries b.entries Start Start (end_of a) (end_of other) (read_all a ha) read_other)

@@ -1,20 +1,84 @@
 -- What is judged of an entry at its end is one.
-use Rattle.std.proofs.Common.{◌≡◌, ◌≢◌, ◌⊎◌, inl, inr, ℕ, ◌+◌, ◌<◌, ℤ, List, slice_get, Some, refl, sym, ap, ◌∙◌, subst, arith}
+use Rattle.std.proofs.Common.{◌≡◌, ◌≢◌, ℕ, List, [], length, get_or, refl, sym, ap, ◌∙◌, subst, arith, ◌⊎◌, ◌<◌, ℤ}
+use Rattle.std.proofs.lemmas.Option.{get_or_from_slice_get}
 use Rattle.periodic_net.specs.Graph.{IsGraph}
 use Rattle.key_theory.specs.Key.{IsKeyOf}
-use Rattle.key_theory.proofs.CallerLemmas.{one_key}
 use Rattle.coordination.specs.Sequences.{AreSequencesOf}
+use Rattle.least_key.specs.{Certain.IsCertain, declared.refusal.Refusal.Refusal}
 use Rattle.coordination.proofs.CallerLemmas.{one_list_of_sequences}
-use Rattle.least_key.specs.Certain.{IsCertain}
-use Rattle.least_key.specs.declared.refusal.Refusal.{Refusal}
 use Rattle.least_key.proofs.CallerLemmas.{certain_is_not_refused, one_refusal}
-use Rattle.archive_text.specs.declared.rest.Form.{Form}
-use Rattle.archive_text.specs.declared.version.Version.{Version}
-use Rattle.archive_text.specs.declared.version.Version.TheVariants.{Two}
-use Rattle.net_archive.specs.Judging.{AreRefusedShells, HasKey, HasOtherKey, HasOtherShells, IsFirstOther, IsJudged, IsRefusedAt, graph_of_form}
-use Rattle.net_archive.specs.declared.faults.ArchiveFault.{ArchiveFault}
-use Rattle.net_archive.specs.declared.faults.ArchiveFault.TheVariants.{BadLine, RepeatedName, EntryRefused, KeyDiffers, TooManyEntries, Version as OtherVersion}
+use Rattle.key_theory.proofs.CallerLemmas.{one_key}
+use Rattle.archive_text.specs.{Entries.EntryView, Reading.form_part, declared.rest.Form.Form, declared.version.Version.Version}
+use Rattle.archive_text.specs.{declared.version.Version.TheVariants.Two}
+use Rattle.archive_text.proofs.CallerLemmas.{said, shown}
+use Rattle.net_archive.specs.Judging.{graph_of_form, IsJudged, HasOtherShells, AreRefusedShells, HasKey, HasOtherKey, IsFirstOther, IsRefusedAt}
 use Rattle.net_archive.specs.declared.faults.ArchiveFault.TheVariants.{CountDiffers, ShellsDiffer, NoMemory}
+use Rattle.net_archive.specs.{Archives.IsEntry, declared.faults.ArchiveFault.ArchiveFault}
+use Rattle.net_archive.specs.declared.faults.ArchiveFault.TheVariants.{BadLine, RepeatedName, EntryRefused, KeyDiffers, TooManyEntries, Version as OtherVersion}
+
+-- No fault is judged at the end of an entry of an archive.
+
+-- what a part says of its entry
+pub graph_said : (v : Version) (name : List ℕ) (f : Form) → (said (form_part v name f)).graph ≡ graph_of_form f
+graph_said v name f = search arith
+
+pub key_said : (v : Version) (name : List ℕ) (f : Form) → (said (form_part v name f)).key ≡ f.keyed.key
+key_said v name f = search arith
+
+graph_shown : (v : Version) (e : EntryView) → (shown v e).graph ≡ e.graph
+graph_shown v e = search arith
+
+key_shown : (v : Version) (e : EntryView) → (shown v e).key ≡ e.key
+key_shown v e = search arith
+
+no_other_shells : (name : List ℕ) (f : Form) (fault : ArchiveFault) (e : EntryView) → IsEntry e → said (form_part Two name f) ≡ shown Two e
+    → e.graph ≡ graph_of_form f → (fault ≢ NoMemory) → HasOtherShells Two f fault → ⊥
+no_other_shells name f fault e is same graph memory other = by fault memory other.refused
+  where
+    lists : other.lists ≡ f.shells
+    lists = one_list_of_sequences (graph_of_form f) other.has_key.is_graph other.lists e.shells other.are_sequences
+        (subst (λ G. AreSequencesOf G e.shells) graph is.shells) ∙ sym (ap (λ (x : EntryView). x.shells) same)
+
+    by : (fault : ArchiveFault) → (fault ≢ NoMemory) → AreRefusedShells f.keyed.key_line f.shells other.lists fault → ⊥
+    by (CountDiffers n kept computed) memory is = is.differ (is.kept_is ∙ ap length (sym lists) ∙ sym is.computed_is)
+    by (ShellsDiffer n class kept computed) memory is =
+        is.other.differ (sym (get_or_from_slice_get f.shells is.before kept [] is.other.kept_is) ∙ ap (λ l. get_or l is.before []) (sym lists)
+        ∙ get_or_from_slice_get other.lists is.before computed [] is.other.computed_is)
+    by NoMemory memory is = memory refl
+    by (BadLine n) memory is = is
+    by (RepeatedName n) memory is = is
+    by (EntryRefused n refusal) memory is = is
+    by (KeyDiffers n kept computed) memory is = is
+    by TooManyEntries memory is = is
+    by (OtherVersion n) memory is = is
+
+-- nothing is judged of an entry of an archive
+pub no_judged : (v : Version) (name : List ℕ) (f : Form) (line : ℕ) (fault : ArchiveFault) (e : EntryView) → IsEntry e → said (form_part v name f) ≡ shown v e
+    → (fault ≢ NoMemory) → IsJudged v line f fault → ⊥
+no_judged v name f line fault e is same memory judged = by fault memory judged
+  where
+    graph : e.graph ≡ graph_of_form f
+    graph = sym (graph_shown v e) ∙ ap (λ (x : EntryView). x.graph) (sym same) ∙ graph_said v name f
+
+    key : e.key ≡ f.keyed.key
+    key = sym (key_shown v e) ∙ ap (λ (x : EntryView). x.key) (sym same) ∙ key_said v name f
+
+    shells : (fault : ArchiveFault) → (fault ≢ NoMemory) → HasOtherShells v f fault → ⊥
+    shells fault memory other = no_other_shells name f fault e is (subst (λ w. said (form_part w name f) ≡ shown w e) other.version same) graph memory
+        (subst (λ w. HasOtherShells w f fault) other.version other)
+
+    by : (fault : ArchiveFault) → (fault ≢ NoMemory) → IsJudged v line f fault → ⊥
+    by (BadLine n) memory bad = bad
+    by (RepeatedName n) memory bad = bad
+    by (EntryRefused n refusal) memory bad =
+        bad.2 (certain_is_not_refused (graph_of_form f) refusal (subst IsGraph graph is.is_graph) (subst IsCertain graph is.certain) bad.1)
+    by (KeyDiffers n kept computed) memory bad = bad.differ (bad.kept_is ∙ sym key
+        ∙ one_key (graph_of_form f) bad.is_graph e.key computed (subst (λ G. IsKeyOf G e.key) graph is.key) bad.key)
+    by TooManyEntries memory bad = bad
+    by (OtherVersion n) memory bad = bad
+    by (CountDiffers n kept computed) memory bad = shells (CountDiffers n kept computed) memory bad
+    by (ShellsDiffer n class kept computed) memory bad = shells (ShellsDiffer n class kept computed) memory bad
+    by NoMemory memory bad = memory refl
 
 order : (m n : ℕ) → (m < n) ⊎ ((n < m) ⊎ (m ≡ n))
 order m n = grind arith
@@ -22,41 +86,12 @@ order m n = grind arith
 -- the first place at which another list is kept is one
 one_first_other : (keeps lists : List (List ℕ)) (i j : ℕ) (a b c d : List ℕ) → IsFirstOther keeps lists i a b → IsFirstOther keeps lists j c d
     → (i ≡ j) × (a ≡ c) × (b ≡ d)
-one_first_other keeps lists i j a b c d h k = by (order i j)
-  where
-    -- what stands at a place where the lists agree
-    agree : (n : ℕ) (x y : List ℕ) → slice_get keeps n ≡ Some x → slice_get lists n ≡ Some y → slice_get keeps n ≡ slice_get lists n → x ≡ y
-    agree n x y e f g = let same : Some x ≡ Some y = sym e ∙ g ∙ f in cc
-
-    by : (i < j) ⊎ ((j < i) ⊎ (i ≡ j)) → (i ≡ j) × (a ≡ c) × (b ≡ d)
-    by (inl l) = absurd (h.differ (agree i a b h.kept_is h.computed_is (k.first i l)))
-    by (inr (inl l)) = absurd (k.differ (agree j c d k.kept_is k.computed_is (h.first j l)))
-    by (inr (inr e)) =
-        let kept : Some a ≡ Some c = sym h.kept_is ∙ ap (slice_get keeps) e ∙ k.kept_is in
-        let computed : Some b ≡ Some d = sym h.computed_is ∙ ap (slice_get lists) e ∙ k.computed_is in
-        (e, cc, cc)
+one_first_other keeps lists i j a b c d h k = search arith
 
 -- other lists are refused in one way
 one_shells : (key_line : ℕ) (keeps lists : List (List ℕ)) (a b : ArchiveFault) → AreRefusedShells key_line keeps lists a
     → AreRefusedShells key_line keeps lists b → a ≢ NoMemory → b ≢ NoMemory → a ≡ b
-one_shells key_line keeps lists (CountDiffers n x y) (CountDiffers m z w) h k p q =
-    let line : n ≡ m = h.line ∙ sym k.line in
-    let kept : x ≡ z = h.kept_is ∙ sym k.kept_is in
-    let computed : y ≡ w = h.computed_is ∙ sym k.computed_is in
-    λ i. CountDiffers (line i) (kept i) (computed i)
-one_shells key_line keeps lists (CountDiffers n x y) (ShellsDiffer m c z w) h k p q = absurd (h.differ (h.kept_is ∙ k.count ∙ sym h.computed_is))
-one_shells key_line keeps lists (ShellsDiffer m c z w) (CountDiffers n x y) h k p q = absurd (k.differ (k.kept_is ∙ h.count ∙ sym k.computed_is))
-one_shells key_line keeps lists (ShellsDiffer n c x y) (ShellsDiffer m d z w) h k p q =
-    let r = one_first_other keeps lists h.before k.before x y z w h.other k.other in
-    let class : c ≡ d = h.class_is ∙ ap (λ t. t + 1) r.0 ∙ sym k.class_is in
-    let line : n ≡ m = h.line ∙ ap (λ t. key_line + 1 + t) class ∙ sym k.line in
-    λ i. ShellsDiffer (line i) (class i) (r.1 i) (r.2 i)
-one_shells key_line keeps lists (CountDiffers n x y) NoMemory h k p q = absurd (q refl)
-one_shells key_line keeps lists (ShellsDiffer n c x y) NoMemory h k p q = absurd (q refl)
-one_shells key_line keeps lists (CountDiffers n x y) b h k p q = absurd k
-one_shells key_line keeps lists (ShellsDiffer n c x y) b h k p q = absurd k
-one_shells key_line keeps lists NoMemory b h k p q = absurd (p refl)
-one_shells key_line keeps lists a b h k p q = absurd h
+one_shells key_line keeps lists a b l s u v = grind (arith, one_first_other)
 
 -- the forms of one entry: their key lines and what they say of a graph, a key and shells are one
 pub record AreAlike (v : Version) (f g : Form) : Type 0 where

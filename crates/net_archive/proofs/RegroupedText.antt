@@ -1,21 +1,43 @@
 -- A regrouped archive is an archive.
-use Rattle.std.proofs.Common.{◌≡◌, ◌≢◌, ◌∙◌, ℕ, ◌+◌, ◌<◌, List, [], ◌∷◌, length, map, refl, sym, ap, subst, arith}
-use Rattle.std.specs.List.{AllPairs, sum_by}
-use Rattle.std.specs.List.Sorted.{IsPermutation}
-use Rattle.std.proofs.lemmas.List.{length-append, length-map, get_or-map}
+use Rattle.std.proofs.Common.{◌≡◌, ◌∙◌, ℕ, ◌+◌, ◌<◌, List, [], ◌∷◌, ◌++◌, length, take, map, get_or, Bor, sym, ap, subst, arith, add-one, ◌≢◌, refl}
+use Rattle.std.proofs.lemmas.List.{map-append, length-map, get_or-map, length-append}
 use Rattle.std.proofs.lemmas.List.Sorted.{All-permutation, length_permutation, sum_by-IsPermutation, IsPermutation-map}
-use Rattle.std.proofs.lemmas.List.Sums.{sum_by-cons}
-use Rattle.integers.proofs.lists.Apart.{permuted_pairs}
+use Rattle.std.proofs.{Math.Seq.take-suc, lemmas.List.Elements.All-map, lemmas.List.Sums.sum_by-cons}
+use Rattle.std.specs.List.{All, AllPairs, sum_by}
+use Rattle.std.specs.List.Sorted.{IsPermutation}
 use Rattle.line_text.specs.Lines.{rows_text}
+use Rattle.archive_text.specs.Entries.{EntryView, entry_view, entry_views}
+use Rattle.archive_text.specs.{declared.entry.Entry.Entry, Texts.entry_lines, declared.version.Version.Version, Regrouped.regrouped}
+use Rattle.net_archive.specs.Archives.{IsEntry, IsArchive, IsInMemory}
+use Rattle.net_archive.proofs.Growth.{body_with, lines_with, text_length}
+use Rattle.integers.proofs.lists.Apart.{permuted_pairs}
 use Rattle.line_text.proofs.CallerLemmas.{rows_text_of_sum}
-use Rattle.archive_text.specs.Entries.{EntryView}
-use Rattle.archive_text.specs.Texts.{entry_lines}
-use Rattle.archive_text.specs.declared.version.Version.{Version}
-use Rattle.net_archive.specs.Archives.{IsArchive, IsEntry, IsInMemory}
-use Rattle.net_archive.proofs.ArchiveRows.{lines_with}
-use Rattle.net_archive.proofs.Growth.{text_length}
-use Rattle.archive_text.specs.Regrouped.{regrouped}
 use Rattle.archive_text.proofs.CallerLemmas.{is_regrouped}
+
+-- The rows of lent entries.
+
+abbrev pub lent_view : Bor Entry → EntryView
+lent_view e = entry_view e.now
+
+-- the rows of one more entry
+pub next_rows : (v : Version) (lent : List (Bor Entry)) (i : ℕ) (e : Bor Entry) (before after : List ℕ) → i < length lent → e ≡ get_or lent i e
+    → before ≡ rows_text (entry_lines v (map lent_view (take i lent))) → after ≡ before ++ rows_text (entry_lines v (lent_view e ∷ []))
+    → after ≡ rows_text (entry_lines v (map lent_view (take (i + 1) lent)))
+next_rows v lent i e before after l is b a =
+    let longer : take (i + 1) lent ≡ take i lent ++ e ∷ [] = ap (λ (n : ℕ). take n lent) (add-one i) ∙ take-suc lent i e l
+    ∙ ap (λ (x : Bor Entry). take i lent ++ x ∷ []) (sym is) in
+    a ∙ ap (λ (t : List ℕ). t ++ rows_text (entry_lines v (lent_view e ∷ []))) b ∙ body_with v (map lent_view (take i lent)) (lent_view e)
+    ∙ ap (λ (es : List EntryView). rows_text (entry_lines v es)) (sym (map-append lent_view (take i lent) (e ∷ [])))
+    ∙ ap (λ (es : List (Bor Entry)). rows_text (entry_lines v (map lent_view es))) (sym longer)
+
+-- what holds of all entries as they are seen holds of them as they are lent
+pub all_lent : (lent : List (Bor Entry)) → All IsEntry (map lent_view lent) → All (λ (e : Bor Entry). IsEntry (entry_view e.now)) lent
+all_lent lent all k d l =
+    subst IsEntry (get_or-map lent_view lent k d (lent_view d) l) (all k (lent_view d) (let n = length-map lent lent_view in omega (arith, n, l)))
+
+-- what holds of all entries in memory holds of them as they are seen
+pub all_seen : (items : List Entry) → All (λ (e : Entry). IsEntry (entry_view e)) items → All IsEntry (entry_views items)
+all_seen items all = All-map IsEntry entry_view items all
 
 abbrev pub size_of : Version → EntryView → ℕ
 size_of v e = length (rows_text (entry_lines v (e ∷ [])))

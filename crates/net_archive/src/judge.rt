@@ -168,8 +168,14 @@ fn check_form(
     ensures kept { IfOk result (λ lists. version ≡ Version.Two → form.now.shells ≡ lists) }
     ensures fault { IfErr result (IsJudged version line form.now) }
 {
-    let net = identify_at(alloc, line, graph)?;
-    check_net(alloc, version, form, &net)
+    match identify_at(alloc, line, graph) {
+        Ok(net) => {
+            let shells = check_net(alloc, version, form, &net);
+            drop(net);
+            shells
+        }
+        Err(fault) => Err(fault),
+    }
 }
 
 // The graph that the rows of an entry say.

@@ -1,32 +1,24 @@
 -- A block whose graph is certain is accepted, and two keys that are reported decide.
 use Rattle.std.proofs.Common.{◌≡◌, ◌≢◌, ◌∙◌, ℕ, zero, suc, ◌<◌, Bool, true, false, List, [], ◌∷◌, length, refl, sym, ap, subst, arith}
-use Rattle.std.specs.Prelude.{slice_index_or}
-use Rattle.std.proofs.lemmas.Bool.{true≢false}
-use Rattle.std.proofs.lemmas.List.Elements.{All-head, All-tail}
-use Rattle.std.specs.List.{All}
+use Rattle.std.proofs.lemmas.{Bool.true≢false, List.Elements.All-head, List.Elements.All-tail}
+use Rattle.std.specs.{Prelude.slice_index_or, List.All}
 use Rattle.periodic_net.specs.Graph.{Graph, IsGraph}
-use Rattle.cgd_read.specs.Graphs.{graph_of}
 use Rattle.cgd_read.specs.Views.{RawView, BodyView, Net, Other, Faulty, BlockView, raw_view, body_view, views}
-use Rattle.cgd_read.specs.Blocks.{IsReadBody}
-use Rattle.cgd_read.specs.declared.block.Block.{Block}
-use Rattle.cgd_read.specs.declared.block.Body.{Body}
-use Rattle.cgd_read.specs.declared.block.Body.TheVariants as read
+use Rattle.cgd_read.specs.{Graphs.graph_of, Blocks.IsReadBody, declared.block.Block.Block, declared.block.Body.Body}
 use Rattle.least_key.specs.Certain.{IsCertain}
 use Rattle.least_key.proofs.CallerLemmas.{certain_is_not_refused}
 use Rattle.quotient_graph.specs.Stars.{IsInOrder}
 use Rattle.archive_text.specs.Entries.{EntryView}
 use Rattle.net_archive.specs.Archives.{IsEntry}
-use Rattle.net_report.specs.declared.outcome.Outcome.{Outcome}
-use Rattle.net_report.specs.declared.outcome.OutcomeBody.{OutcomeBody}
 use Rattle.net_report.specs.declared.outcome.OutcomeBody.TheVariants.{Unsupported, Malformed, Refused, Checked, Located, Keyed, Identified, Lines}
-use Rattle.net_report.specs.declared.outcome.OutcomeBody.TheVariants.{Faulty as FaultyItem}
-use Rattle.net_report.specs.declared.command.Command.{Command}
-use Rattle.net_report.specs.declared.command.Command.TheVariants.{Components}
+use Rattle.net_report.specs.declared.{outcome.Outcome.Outcome, outcome.OutcomeBody.OutcomeBody, command.Command.Command, command.Command.TheVariants.Components}
 use Rattle.net_outcomes.specs.Deciding.{AreOutcomes}
 use Rattle.net_outcomes.specs.Outcomes.{AreOutcomesFrom, IsBodyOf, IsRefusedAs, MayTell, is_accepted_body}
 use Rattle.net_archive.proofs.CallerLemmas.{keys_decide_archive}
 use Rattle.net_outcomes.proofs.KeysDecideNets.{keys_decide_blocks, keys_decide_entries, told_at}
 use Rattle.net_outcomes.proofs.OnlyPlacement.{is_graph_in}
+use Rattle.cgd_read.specs.declared.block.Body.TheVariants as read
+use Rattle.net_report.specs.declared.outcome.OutcomeBody.TheVariants.{Faulty as FaultyItem}
 
 -- a refusal of a certain graph is none
 certain_not_refused : (command : Command) (raw : RawView) (size : _) (names : List (List ℕ)) (refusal : _) → IsGraph (graph_of raw)

@@ -1,12 +1,10 @@
 -- A fault of a graph has a line with the names of its vertices.
 use Rattle.std.proofs.Common.{◌≡◌, ◌≢◌, inl, ℕ, ◌≤◌, List, ◌∷◌, length, refl, sym, subst}
 use Rattle.std.proofs.lemmas.List.Elements.{All-contains}
-use Rattle.integers.proofs.lists.Members.{IsIn, contains_from_in}
-use Rattle.integers.proofs.lists.Pieces.{append_right}
+use Rattle.integers.proofs.lists.{Members.IsIn, Members.contains_from_in, Pieces.append_right}
 use Rattle.periodic_net.specs.Graph.{Graph, arc, Arc, IsGraph, IsEdge, IsQuotientVertex}
-use Rattle.net_components.specs.Faults.{IsPartFault, no_memory}
-use Rattle.net_components.specs.declared.fault.PartFault.{PartFault}
 use Rattle.net_components.specs.declared.fault.PartFault.TheVariants.{LowRank, WideShift, NoMemory}
+use Rattle.net_components.specs.{Faults.IsPartFault, Faults.no_memory, declared.fault.PartFault.PartFault}
 use Rattle.net_report.specs.Numbers.{IsNamed}
 use Rattle.net_outcomes.specs.Texts.{HasFaultLine}
 

@@ -5,15 +5,11 @@ use Rattle.periodic_net.specs.Graph.{Graph, IsGraph}
 use Rattle.key_theory.specs.Key.{IsKeyOf}
 use Rattle.coordination.specs.Sequences.{AreSequencesOf}
 use Rattle.cgd_read.specs.Views.{RawView}
-use Rattle.least_key.specs.AnyNets.{net_view}
-use Rattle.least_key.specs.Placings.{IsPlacedAs}
-use Rattle.least_key.specs.declared.net.Net.{Net}
+use Rattle.least_key.specs.{AnyNets.net_view, Placings.IsPlacedAs, declared.net.Net.Net}
 use Rattle.least_key.proofs.CallerLemmas.{key_of_graph}
-use Rattle.archive_text.specs.Entries.{EntryView}
-use Rattle.archive_text.specs.Lookups.{names_with}
-use Rattle.net_archive.specs.Archives.{IsEntry}
+use Rattle.archive_text.specs.{Entries.EntryView, Lookups.names_with}
+use Rattle.net_archive.specs.{Archives.IsEntry, Deciding.AreNamesOf}
 use Rattle.net_report.specs.declared.outcome.Size.{Size}
-use Rattle.net_archive.specs.Deciding.{AreNamesOf}
 use Rattle.net_archive.proofs.CallerLemmas.{names_found}
 use Rattle.net_outcomes.specs.Outcomes.{IsIdentifiedAs, IsKeyedAs}
 use Rattle.net_outcomes.proofs.OnlyPlacement.{only_placement}

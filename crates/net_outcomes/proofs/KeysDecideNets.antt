@@ -1,27 +1,22 @@
 -- The keys that are reported decide whether nets are isomorphic.
 use Rattle.std.proofs.Common.{◌≡◌, sym, ap, subst, ℕ, suc, ◌+◌, zero, ◌<◌, ℤ, List, [], ◌∷◌, length, Some, arith}
+use Rattle.std.proofs.lemmas.{Bool.true≢false, List.Elements.All-contains}
 use Rattle.std.specs.Prelude.{◌↔◌, is_some, slice_index_or, unwrap_or}
 use Rattle.std.specs.List.{All}
-use Rattle.std.proofs.lemmas.Bool.{true≢false}
-use Rattle.std.proofs.lemmas.List.Elements.{All-contains}
-use Rattle.periodic_net.specs.Graph.{Graph, IsGraph}
-use Rattle.periodic_net.specs.Maps.{Iso}
+use Rattle.periodic_net.specs.{Graph.Graph, Graph.IsGraph, Maps.Iso}
 use Rattle.periodic_net.proofs.CallerLemmas.{iso_symmetric, iso_transitive}
 use Rattle.key_theory.specs.Key.{IsKeyOf}
 use Rattle.key_theory.proofs.CallerLemmas.{keys_decide}
 use Rattle.cgd_read.specs.Graphs.{graph_of}
 use Rattle.cgd_read.specs.Views.{RawView, BodyView, Net, BlockView}
 use Rattle.quotient_graph.specs.Stars.{IsInOrder}
-use Rattle.least_key.specs.AnyNets.{net_view}
-use Rattle.least_key.specs.KeyedNets.{KeyedNet, IsKeyed}
+use Rattle.least_key.specs.{AnyNets.net_view, KeyedNets.KeyedNet, KeyedNets.IsKeyed}
 use Rattle.least_key.proofs.CallerLemmas.{key_of_graph, nets_decide}
 use Rattle.archive_text.specs.Entries.{EntryView}
 use Rattle.net_archive.specs.Archives.{IsEntry}
-use Rattle.net_report.specs.declared.outcome.Outcome.{Outcome}
-use Rattle.net_report.specs.declared.outcome.OutcomeBody.{OutcomeBody}
-use Rattle.net_report.specs.declared.outcome.OutcomeBody.TheVariants.{Keyed, Identified}
-use Rattle.net_report.specs.declared.command.Command.{Command}
-use Rattle.net_report.specs.declared.command.Command.TheVariants.{Key, Identify}
+use Rattle.net_report.specs.declared.{outcome.Outcome.Outcome, outcome.OutcomeBody.OutcomeBody, outcome.OutcomeBody.TheVariants.Keyed}
+use Rattle.net_report.specs.declared.{outcome.OutcomeBody.TheVariants.Identified, command.Command.Command, command.Command.TheVariants.Key}
+use Rattle.net_report.specs.declared.{command.Command.TheVariants.Identify}
 use Rattle.net_outcomes.specs.Deciding.{HasKeyAt, IsBlockAt, KeysDecideBlocks, KeysDecideEntries, key_told}
 use Rattle.net_outcomes.specs.Outcomes.{IsBodyOf, AreOutcomesFrom}
 use Rattle.quotient_graph.proofs.CallerLemmas.{in_order_iso}

@@ -1,20 +1,15 @@
 -- The list of outcomes grows by that of the next block.
 use Rattle.std.proofs.Common.{◌≡◌, ℕ, ◌+◌, ◌<◌, ◌≤◌, List, [], ◌∷◌, ◌++◌, length, take, get_or, All, refl, sym, ap, subst, ◌∙◌, arith, add-one}
-use Rattle.std.proofs.lemmas.Grind.{common_steps}
 use Rattle.std.proofs.lemmas.List.{get_or-map, length-map, take_all}
 use Rattle.std.proofs.lemmas.List.Elements.{All-append, All-cons, All-nil}
-use Rattle.std.proofs.Math.Seq.{take-suc}
-use Rattle.cgd_read.specs.Blocks.{IsReadBody}
+use Rattle.std.proofs.{lemmas.Grind.common_steps, Math.Seq.take-suc}
 use Rattle.cgd_read.specs.Views.{BlockView, block_view, views}
-use Rattle.cgd_read.specs.declared.block.Block.{Block}
+use Rattle.cgd_read.specs.{Blocks.IsReadBody, declared.block.Block.Block}
 use Rattle.net_archive.specs.Archives.{IsEntry}
 use Rattle.archive_text.specs.Entries.{EntryView}
-use Rattle.net_report.specs.Reports.{IsPrintable}
-use Rattle.net_report.specs.declared.outcome.Outcome.{Outcome}
-use Rattle.net_outcomes.specs.Deciding.{AreOutcomes}
-use Rattle.net_outcomes.specs.Outcomes.{IsOutcomeOf, AreOutcomesFrom}
+use Rattle.net_report.specs.{Reports.IsPrintable, declared.outcome.Outcome.Outcome, declared.command.Command.Command}
+use Rattle.net_outcomes.specs.{Deciding.AreOutcomes, Outcomes.IsOutcomeOf, Outcomes.AreOutcomesFrom}
 use Rattle.net_outcomes.proofs.Certain.{graphs_read, outcomes_decide}
-use Rattle.net_report.specs.declared.command.Command.{Command}
 
 -- one more block and its outcome at the end
 outcomes_last : (entries : List EntryView) (command : Command) (n : ℕ) (bs : List BlockView) (os : List Outcome) (b : BlockView) (o : Outcome)

@@ -2,19 +2,16 @@
 use Rattle.std.proofs.Common.{◌≡◌, ◌≢◌, ℕ, Bor, false, List, Result, Ok, Err, sym, subst, refl}
 use Rattle.std.specs.Prelude.{IfOk}
 use Rattle.periodic_net.specs.Graph.{Graph, IsGraph}
-use Rattle.cgd_read.specs.Graphs.{graph_of}
 use Rattle.cgd_read.specs.Views.{RawView, Net, Other, Faulty}
-use Rattle.cgd_read.specs.declared.block.BlockFault.{BlockFault}
+use Rattle.cgd_read.specs.{Graphs.graph_of, declared.block.BlockFault.BlockFault}
 use Rattle.quotient_graph.specs.Stars.{IsInOrder}
 use Rattle.least_key.specs.Truths.{IsTrueOf, IsOfConnecting, IsOfPlacing}
-use Rattle.least_key.specs.declared.refusal.Refusal.{Refusal}
-use Rattle.least_key.specs.declared.refusal.Refusal.TheVariants.{NoMemory}
+use Rattle.least_key.specs.declared.refusal.{Refusal.Refusal, Refusal.TheVariants.NoMemory}
 use Rattle.archive_text.specs.Entries.{EntryView}
-use Rattle.net_report.specs.declared.outcome.OutcomeBody.{OutcomeBody}
 use Rattle.net_report.specs.declared.outcome.OutcomeBody.TheVariants.{Unsupported, Malformed, Refused}
-use Rattle.net_outcomes.specs.Outcomes.{size_of, MayTell, IsAcceptedAs, IsBodyOf}
-use Rattle.net_report.specs.declared.command.Command.{Command}
 use Rattle.net_report.specs.declared.command.Command.TheVariants.{Check, Place, Key, Identify, Components}
+use Rattle.net_report.specs.declared.{outcome.OutcomeBody.OutcomeBody, command.Command.Command}
+use Rattle.net_outcomes.specs.Outcomes.{size_of, MayTell, IsAcceptedAs, IsBodyOf}
 use Rattle.net_outcomes.proofs.OnlyPlacement.{is_graph_in}
 
 -- a test for connectedness may report its refusals

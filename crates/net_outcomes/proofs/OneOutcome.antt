@@ -1,48 +1,33 @@
 -- What a command reports on a block is one.
 use Rattle.std.proofs.Common.{◌≡◌, ◌≢◌, inl, inr, ℕ, ◌+◌, ◌&&◌, Bool, List, [], ◌∷◌, ◌++◌, length, map, Some, refl, sym, ap, ◌∙◌, subst}
-use Rattle.std.specs.Prelude.{codes}
-use Rattle.std.specs.List.{list_all}
+use Rattle.std.specs.{Prelude.codes, List.list_all}
 use Rattle.periodic_net.specs.Graph.{Graph, IsConnected, IsGraph}
 use Rattle.periodic_net.proofs.CallerLemmas.{split_shows_not_connected}
 use Rattle.cgd_read.specs.Graphs.{graph_of}
 use Rattle.cgd_read.specs.Views.{RawView, BodyView, Net, Other, Faulty, BlockView}
-use Rattle.quotient_graph.specs.Splits.{split_view}
-use Rattle.quotient_graph.specs.Stars.{IsInOrder}
+use Rattle.quotient_graph.specs.{Splits.split_view, Stars.IsInOrder}
 use Rattle.quotient_graph.proofs.CallerLemmas.{one_in_order}
-use Rattle.net_outcomes.specs.Told.{AreComponentsTold}
-use Rattle.net_outcomes.proofs.OneTelling.{one_telling as one_telling_of_parts}
+use Rattle.net_outcomes.specs.Outcomes.{AreAcceptedInParts, AreAllAccepted, AreOutcomesFrom, IsAcceptedInParts, IsBodyOf, IsCheckedAs, IsDividedAs, IsGraphOf}
+use Rattle.net_outcomes.specs.Outcomes.{IsIdentifiedAs, IsKeyedAs, IsLocatedAs, IsOutcomeOf, IsRefusedAs, MayTell, is_accepted, is_accepted_body}
+use Rattle.net_outcomes.specs.{Told.AreComponentsTold, Deciding.key_told, Laws.OneReport}
 use Rattle.coordination.specs.Sequences.{AreSequencesOf}
 use Rattle.coordination.proofs.CallerLemmas.{one_list_of_sequences}
-use Rattle.least_key.specs.AnyNets.{net_view}
-use Rattle.least_key.specs.AnyPlacements.{placed_view}
-use Rattle.least_key.specs.KeyedNets.{IsKeyed, KeyedNet}
-use Rattle.least_key.specs.Laws.{TellAlike}
-use Rattle.least_key.specs.Placings.{IsPlacedAs}
-use Rattle.least_key.specs.Truths.{IsOfPlacing, IsTrueOf}
-use Rattle.least_key.specs.declared.net.Net.{Net as AnyNet}
-use Rattle.least_key.specs.declared.path.AnyPlaced.{AnyPlaced}
-use Rattle.least_key.specs.declared.refusal.Refusal.{Refusal}
 use Rattle.least_key.specs.declared.refusal.Refusal.TheVariants.{Disconnected, Degenerate, NoModulus, WidePlacement, Collision, TooMuch, NoMemory}
+use Rattle.least_key.specs.{AnyNets.net_view, AnyPlacements.placed_view, KeyedNets.IsKeyed, KeyedNets.KeyedNet, Laws.TellAlike, Placings.IsPlacedAs}
+use Rattle.least_key.specs.{Truths.IsOfPlacing, Truths.IsTrueOf, declared.path.AnyPlaced.AnyPlaced, declared.refusal.Refusal.Refusal}
 use Rattle.least_key.proofs.CallerLemmas.{certain_is_not_refused, keyed_is_certain, one_net, one_placed, one_refusal, placed_is_not_refused}
 use Rattle.archive_text.specs.Entries.{EntryView}
 use Rattle.net_archive.specs.Deciding.{AreNamesOf}
 use Rattle.net_report.specs.Headers.{fault_text, header_text, size_text, unsupported_text}
-use Rattle.net_report.specs.Identified.{found_names_text, sequences_text}
-use Rattle.net_report.specs.Keys.{key_text}
-use Rattle.net_report.specs.Placements.{placement_text}
 use Rattle.net_report.specs.Primitives.{bases_text, edges_text, sizes_text}
-use Rattle.net_report.specs.Refusals.{refused_text}
 use Rattle.net_report.specs.Reports.{body_text, outcome_text, report_text}
-use Rattle.net_report.specs.declared.outcome.Outcome.{Outcome}
-use Rattle.net_report.specs.declared.outcome.OutcomeBody.{OutcomeBody}
 use Rattle.net_report.specs.declared.outcome.OutcomeBody.TheVariants.{Unsupported, Malformed, Refused, Checked, Located, Keyed, Identified, Lines}
-use Rattle.net_report.specs.declared.outcome.Size.{Size}
-use Rattle.net_report.specs.declared.command.Command.{Command}
 use Rattle.net_report.specs.declared.command.Command.TheVariants.{Check, Place, Key, Identify, Components}
-use Rattle.net_outcomes.specs.Deciding.{key_told}
-use Rattle.net_outcomes.specs.Laws.{OneReport}
-use Rattle.net_outcomes.specs.Outcomes.{AreAcceptedInParts, AreAllAccepted, AreOutcomesFrom, IsAcceptedInParts, IsBodyOf, IsCheckedAs, IsDividedAs, IsGraphOf}
-use Rattle.net_outcomes.specs.Outcomes.{IsIdentifiedAs, IsKeyedAs, IsLocatedAs, IsOutcomeOf, IsRefusedAs, MayTell, is_accepted, is_accepted_body}
+use Rattle.net_report.specs.{Identified.found_names_text, Identified.sequences_text, Keys.key_text, Placements.placement_text, Refusals.refused_text}
+use Rattle.net_report.specs.{declared.outcome.Outcome.Outcome, declared.outcome.OutcomeBody.OutcomeBody, declared.outcome.Size.Size}
+use Rattle.net_report.specs.{declared.command.Command.Command}
+use Rattle.net_outcomes.proofs.OneTelling.{one_telling as one_telling_of_parts}
+use Rattle.least_key.specs.declared.net.Net.{Net as AnyNet}
 
 -- the names of the isomorphic entries are one list
 one_list_of_names : (G : Graph) (es : List EntryView) (xs ys : List (List ℕ)) → AreNamesOf G es xs → AreNamesOf G es ys → xs ≡ ys

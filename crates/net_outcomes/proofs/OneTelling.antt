@@ -1,26 +1,20 @@
 -- What is reported of the components of a net is one.
 use Rattle.std.proofs.Common.{◌≡◌, ◌≢◌, ◌∙◌, ◌&&◌, inl, inr, ℕ, ◌+◌, suc, Bool, List, [], ◌∷◌, ◌++◌, length, map, get_or, drop, All, Result, Ok, Err, refl, sym}
 use Rattle.std.proofs.Common.{ap, subst}
-use Rattle.std.specs.List.{list_all}
 use Rattle.std.proofs.lemmas.List.Elements.{All-head, All-tail}
+use Rattle.std.specs.List.{list_all}
 use Rattle.integers.specs.Lists.{AreMatched}
 use Rattle.periodic_net.specs.Graph.{Graph, IsGraph}
 use Rattle.quotient_graph.specs.AnyGraphs.{graph_view}
 use Rattle.net_components.proofs.CallerLemmas.{part_graph, answer_is_one}
-use Rattle.least_key.specs.AnyNets.{net_view}
-use Rattle.least_key.specs.KeyedNets.{KeyedNet, IsKeyed}
-use Rattle.least_key.specs.Truths.{IsTrueOf}
-use Rattle.least_key.specs.declared.net.Net.{Net}
-use Rattle.least_key.specs.declared.refusal.Refusal.{Refusal}
-use Rattle.least_key.specs.declared.refusal.Refusal.TheVariants.{NoMemory}
+use Rattle.least_key.specs.{AnyNets.net_view, KeyedNets.KeyedNet, KeyedNets.IsKeyed, Truths.IsTrueOf, declared.net.Net.Net, declared.refusal.Refusal.Refusal}
+use Rattle.least_key.specs.{declared.refusal.Refusal.TheVariants.NoMemory}
 use Rattle.least_key.proofs.CallerLemmas.{certain_is_not_refused, keyed_is_certain, one_net, one_refusal}
 use Rattle.net_components.specs.Parts.{vertex_at, root_of, AreParts, PartView, view_of}
 use Rattle.net_components.specs.declared.parts.Part.{Part}
-use Rattle.net_report.specs.Keys.{key_text}
-use Rattle.net_report.specs.Refusals.{refused_text}
-use Rattle.net_outcomes.specs.ComponentLaws.{OneTelling}
+use Rattle.net_report.specs.{Keys.key_text, Refusals.refused_text}
 use Rattle.net_outcomes.specs.Texts.{answer_text, count_line, names_of, part_fault_text, part_line, parts_from}
-use Rattle.net_outcomes.specs.Told.{IsAnswerOf, has_key}
+use Rattle.net_outcomes.specs.{ComponentLaws.OneTelling, Told.IsAnswerOf, Told.has_key}
 
 -- a graph with its key has no refusal that is reported
 keyed_not_refused : (G : Graph) (n : KeyedNet) (r : Refusal) → n.placed.graph ≡ G → IsKeyed n → IsTrueOf G r → r ≡ NoMemory

@@ -1,15 +1,12 @@
 -- The placement that is reported is the only one but for its translates.
 use Rattle.std.proofs.Common.{◌≡◌, ◌⊎◌, ℕ, ◌≤◌, sym, subst}
-use Rattle.std.proofs.lemmas.List.Elements.{All-weaker}
-use Rattle.std.proofs.lemmas.List.Sorted.{All-permutation}
+use Rattle.std.proofs.lemmas.List.{Elements.All-weaker, Sorted.All-permutation}
 use Rattle.integers.specs.Vectors.{HasDimension}
 use Rattle.integers.proofs.lists.Apart.{permuted_pairs}
 use Rattle.periodic_net.specs.Graph.{Arc, Graph, IsEdge, IsGraph}
 use Rattle.periodic_net.proofs.CallerLemmas.{barycentric_placements_translate}
-use Rattle.quotient_graph.specs.PlacedNets.{PlacedNet}
-use Rattle.quotient_graph.specs.Stars.{IsInOrder}
-use Rattle.cgd_read.specs.Graphs.{graph_of}
-use Rattle.cgd_read.specs.Views.{RawView}
+use Rattle.quotient_graph.specs.{PlacedNets.PlacedNet, Stars.IsInOrder}
+use Rattle.cgd_read.specs.{Graphs.graph_of, Views.RawView}
 use Rattle.least_key.specs.Placings.{IsPlacedAs}
 use Rattle.net_outcomes.specs.Outcomes.{IsOnlyPlacement}
 

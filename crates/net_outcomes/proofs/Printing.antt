@@ -4,18 +4,14 @@ use Rattle.periodic_net.specs.Graph.{Graph, IsGraph}
 use Rattle.cgd_read.specs.Graphs.{graph_of}
 use Rattle.cgd_read.specs.Views.{RawView, BodyView, Net, Other, Faulty}
 use Rattle.quotient_graph.specs.Stars.{IsInOrder}
-use Rattle.least_key.specs.declared.refusal.Refusal.{Refusal}
+use Rattle.least_key.specs.{declared.refusal.Refusal.Refusal, Truths.IsTrueOf}
 use Rattle.archive_text.specs.Entries.{EntryView}
-use Rattle.net_report.specs.Refusals.{HasLine}
-use Rattle.net_report.specs.Reports.{IsPrintableBody}
-use Rattle.net_report.specs.declared.outcome.OutcomeBody.{OutcomeBody}
 use Rattle.net_report.specs.declared.outcome.OutcomeBody.TheVariants.{Unsupported, Malformed, Refused, Checked, Located, Keyed, Identified, Lines}
-use Rattle.net_report.specs.declared.outcome.OutcomeBody.TheVariants.{Faulty as FaultyItem}
-use Rattle.least_key.specs.Truths.{IsTrueOf}
+use Rattle.net_report.specs.{Refusals.HasLine, Reports.IsPrintableBody, declared.outcome.OutcomeBody.OutcomeBody, declared.command.Command.Command}
+use Rattle.net_report.specs.{declared.command.Command.TheVariants.Place, declared.command.Command.TheVariants.Identify}
 use Rattle.net_outcomes.specs.Outcomes.{MayTell, IsBodyOf}
-use Rattle.net_report.specs.declared.command.Command.{Command}
-use Rattle.net_report.specs.declared.command.Command.TheVariants.{Place, Identify}
 use Rattle.net_outcomes.proofs.RefusalLines.{refusal_line}
+use Rattle.net_report.specs.declared.outcome.OutcomeBody.TheVariants.{Faulty as FaultyItem}
 
 -- a true refusal that may be reported has a line with the names of the block
 line_of : (command : Command) (raw : RawView) (H : Graph) (refusal : Refusal) → IsGraph H → IsInOrder (graph_of raw) H

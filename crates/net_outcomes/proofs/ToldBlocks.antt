@@ -1,18 +1,14 @@
 -- The report grows by the text of the next block's outcome.
 use Rattle.std.proofs.Common.{◌≡◌, ◌&&◌, ◌∙◌, ℕ, ◌+◌, ◌<◌, ◌≤◌, Bool, true, List, [], ◌∷◌, ◌++◌, length, take, get_or, All, refl, sym, ap, subst}
+use Rattle.std.proofs.{lemmas.List.Folds.list_all-append, Math.Bool.and-true}
 use Rattle.std.specs.List.{list_all}
-use Rattle.std.proofs.lemmas.List.Folds.{list_all-append}
-use Rattle.std.proofs.Math.Bool.{and-true}
-use Rattle.cgd_read.specs.Blocks.{IsReadBody}
 use Rattle.cgd_read.specs.Views.{BlockView, block_view, views}
-use Rattle.cgd_read.specs.declared.block.Block.{Block}
+use Rattle.cgd_read.specs.{Blocks.IsReadBody, declared.block.Block.Block}
 use Rattle.net_archive.specs.Archives.{IsEntry}
 use Rattle.archive_text.specs.Entries.{EntryView}
-use Rattle.net_report.specs.Reports.{outcome_text, report_text}
-use Rattle.net_report.specs.declared.outcome.Outcome.{Outcome}
-use Rattle.net_report.proofs.CallerLemmas.{report_last}
-use Rattle.net_report.specs.declared.command.Command.{Command}
 use Rattle.net_report.specs.declared.command.Command.TheVariants.{Check, Place, Key, Identify, Components}
+use Rattle.net_report.specs.{Reports.outcome_text, Reports.report_text, declared.outcome.Outcome.Outcome, declared.command.Command.Command}
+use Rattle.net_report.proofs.CallerLemmas.{report_last}
 use Rattle.net_outcomes.specs.Outcomes.{AreAcceptedInParts, AreAllAccepted, IsAcceptedAs, IsAcceptedInParts, is_accepted}
 use Rattle.net_outcomes.specs.Reports.{IsReport, IsBlockTold}
 use Rattle.net_outcomes.proofs.Listing.{AreOutcomesOn, all_taken, next_taken, outcomes_next, outcomes_none, outcomes_whole}

@@ -1,13 +1,11 @@
 -- What is reported of parts, and of one part more.
 use Rattle.std.proofs.Common.{◌≡◌, ◌&&◌, ℕ, suc, ◌+◌, ◌<◌, Bool, true, List, [], ◌∷◌, ◌++◌, length, take, get_or, Result, refl, sym, ap, subst, ◌∙◌, arith}
 use Rattle.std.proofs.lemmas.List.{append_assoc, append-nil, length-take-le}
+use Rattle.std.proofs.{lemmas.List.Folds.list_all-append, Math.Bool.and-true}
 use Rattle.std.specs.List.{list_all}
-use Rattle.std.proofs.lemmas.List.Folds.{list_all-append}
-use Rattle.std.proofs.Math.Bool.{and-true}
 use Rattle.integers.proofs.lists.Matched.{matched_more}
 use Rattle.integers.specs.Lists.{AreMatched}
-use Rattle.least_key.specs.declared.net.Net.{Net}
-use Rattle.least_key.specs.declared.refusal.Refusal.{Refusal}
+use Rattle.least_key.specs.declared.{net.Net.Net, refusal.Refusal.Refusal}
 use Rattle.net_components.specs.declared.parts.Part.{Part}
 use Rattle.net_components.proofs.CallerLemmas.{take_more}
 use Rattle.net_outcomes.specs.Texts.{part_text, parts_from}

@@ -123,6 +123,20 @@ fn lists_of<'a>(
     Ok((vertices, shells, names))
 }
 
+// What is reported of a net with these lists.
+fn with_lists<'a>(
+    raw: &RawGraph<'a>,
+    net: Net,
+    lists: (Names<'a>, Sequences, Names<'a>),
+) -> OutcomeBody<'a>
+    requires { IsReadGraph (raw_view raw.now) }
+    ensures { result ≡ OutcomeBody.Identified (size_of (raw_view raw.now)) lists.entry.0 net
+        lists.entry.1 lists.entry.2 }
+{
+    let (vertices, shells, names) = lists;
+    OutcomeBody::Identified(size_of(raw), vertices, net, shells, names)
+}
+
 // What is reported of a net that has a key.
 fn identified_body<'a>(
     alloc: Global,
@@ -136,8 +150,13 @@ fn identified_body<'a>(
     ensures { IfOk result (IsBodyOf archive.now.entries Command.Identify
         (ReadNet (raw_view raw.now))) }
 {
-    let (vertices, shells, names) = lists_of(alloc, archive, raw, &found)?;
-    Ok(OutcomeBody::Identified(size_of(raw), vertices, found.net, shells, names))
+    match lists_of(alloc, archive, raw, &found) {
+        Ok(lists) => Ok(with_lists(raw, found.net, lists)),
+        Err(fault) => {
+            drop(found);
+            Err(fault)
+        }
+    }
 }
 
 fn identify_net<'a>(

@@ -1,10 +1,8 @@
 -- Lists of class arcs, one for each class, and the arcs from a class.
 use Rattle.std.proofs.Common.{◌≡◌, ◌≢◌, ◌∙◌, sym, ap, refl, ℕ, zero, suc, ◌+◌, ◌-◌, ◌<◌, ◌≤◌, List, [], ◌∷◌, ◌++◌, length, Bool, true, false, arith, inl, inr}
+use Rattle.std.proofs.lemmas.{List.Elements.filter-append, List.append-nil, Bool.Decides.Decides-eqb}
 use Rattle.std.specs.Prelude.{◌==◌, slice_index_or, flat_map}
 use Rattle.std.specs.List.{filter}
-use Rattle.std.proofs.lemmas.List.Elements.{filter-append}
-use Rattle.std.proofs.lemmas.List.{append-nil}
-use Rattle.std.proofs.lemmas.Bool.Decides.{Decides-eqb}
 use Rattle.integers.proofs.lists.Members.{IsIn}
 use Rattle.periodic_net.specs.Classes.{ClassArc}
 use Rattle.quotient_graph.specs.ClassNets.{class_star}

@@ -1,21 +1,13 @@
 -- A graph that is made from a list of edges as it stands.
 use Rattle.std.proofs.Common.{◌≡◌, ◌≢◌, ℕ, ◌≤◌, List, map, get_or, sym, subst}
-use Rattle.std.specs.List.{All, AllPairs}
-use Rattle.std.specs.Ordering.{int_cmp, ordering_reverse}
-use Rattle.std.specs.Cmp.Lexicographic.{slice_cmp}
-use Rattle.std.specs.declared.cmp.Ordering.{Ordering}
+use Rattle.std.proofs.lemmas.{Cmp.lists_total, Cmp.int_cmp_total, List.Elements.All-map, List.Elements.All-weaker, List.length-map}
 use Rattle.std.specs.declared.cmp.Ordering.TheVariants.{Less, Equal, Greater}
-use Rattle.std.proofs.lemmas.Cmp.{lists_total, int_cmp_total}
-use Rattle.std.proofs.lemmas.List.Elements.{All-map, All-weaker}
-use Rattle.std.proofs.lemmas.List.{length-map}
+use Rattle.std.specs.{List.All, List.AllPairs, Ordering.int_cmp, Ordering.ordering_reverse, Cmp.Lexicographic.slice_cmp, declared.cmp.Ordering.Ordering}
 use Rattle.integers.specs.Vectors.{vector, HasDimension, IsWithin}
 use Rattle.periodic_net.specs.Graph.{Arc, IsGraph, IsEdge}
 use Rattle.periodic_net.specs.Limits.{most_shift, most_edges, IsSmall}
-use Rattle.cgd_read.specs.Spelling.{edge_of}
-use Rattle.cgd_read.specs.declared.edge.RawEdge.{RawEdge}
-use Rattle.quotient_graph.specs.Order.{arc_numbers, AreRising}
-use Rattle.quotient_graph.specs.Stars.{graph_with}
-use Rattle.quotient_graph.specs.EdgeLists.{IsEdgeAmong, AreEdgesOfGraph}
+use Rattle.cgd_read.specs.{Spelling.edge_of, declared.edge.RawEdge.RawEdge}
+use Rattle.quotient_graph.specs.{Order.arc_numbers, Order.AreRising, Stars.graph_with, EdgeLists.IsEdgeAmong, EdgeLists.AreEdgesOfGraph}
 
 turned : (o : Ordering) → o ≡ ordering_reverse o → o ≡ Less → ⊥
 turned Less e l = cc

@@ -1,7 +1,6 @@
 -- What fits 128 bits: to + d·s - from, for the parts of vectors, a denominator and a shift within the limits.
 use Rattle.std.proofs.Common.{◌≡◌, ◌+◌, ◌*◌, ◌≤◌, ◌^◌, ℤ, pos, ◌+ℤ◌, ◌-ℤ◌, ◌*ℤ◌, arith}
-use Rattle.std.specs.Prelude.{unsigned_abs, FitsSigned}
-use Rattle.std.specs.Int.{w128}
+use Rattle.std.specs.{Prelude.unsigned_abs, Prelude.FitsSigned, Int.w128}
 use Rattle.periodic_net.specs.Limits.{most_units, most_shift}
 use Rattle.integers.proofs.numbers.Ring.{ring, linear}
 use Rattle.integers.proofs.vectors.Bounds.{bounded_sum, bounded_difference, bounded_product, fits_from_bound}

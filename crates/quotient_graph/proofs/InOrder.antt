@@ -1,17 +1,15 @@
 -- A graph with its edges in order is one, and has the arcs and the net of the graph.
 use Rattle.std.proofs.Common.{◌≡◌, ◌∙◌, ◌⊎◌, inl, inr, ◌≤◌, List, [], ◌∷◌, refl, sym, ap, subst}
-use Rattle.std.specs.List.Sorted.{IsPermutation}
 use Rattle.std.proofs.lemmas.List.Sorted.{Contains-permutation, IsPermutation-sym}
+use Rattle.std.specs.List.Sorted.{IsPermutation}
 use Rattle.integers.specs.Vectors.{IsBelow}
-use Rattle.integers.proofs.lists.ListOrder.{below_transitive, not_below_itself}
 use Rattle.integers.proofs.lists.Members.{IsIn, contains_from_in, is_in}
-use Rattle.integers.proofs.lists.Permutations.{rising_from_pairs, same_rising}
-use Rattle.integers.proofs.vectors.BaseSums.{unit_base}
+use Rattle.integers.proofs.{lists.ListOrder.below_transitive, lists.ListOrder.not_below_itself, lists.Permutations.rising_from_pairs}
+use Rattle.integers.proofs.{lists.Permutations.same_rising, vectors.BaseSums.unit_base}
 use Rattle.periodic_net.specs.Graph.{Arc, Graph, IsArc, IsVertex, Vertex, both_ways, reverse_of}
 use Rattle.periodic_net.specs.Maps.{Iso}
 use Rattle.periodic_net.proofs.CallerLemmas.{identity_periodic}
-use Rattle.quotient_graph.specs.Order.{arc_numbers}
-use Rattle.quotient_graph.specs.Stars.{IsInOrder}
+use Rattle.quotient_graph.specs.{Order.arc_numbers, Stars.IsInOrder}
 
 -- the edge that an arc belongs to
 record HasEdge (es : List Arc) (a : Arc) : Type 0 where

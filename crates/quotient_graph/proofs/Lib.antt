@@ -4,7 +4,6 @@ pub mod InOrder
 pub mod Lists
 pub mod SortedStars
 pub mod GraphsInMemory
-pub mod ReadGraphs
 pub mod EdgeLists
 pub mod SquareEdges
 pub mod ClassStars

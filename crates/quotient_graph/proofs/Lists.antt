@@ -1,11 +1,8 @@
 -- Lists of arcs by their tails, while arcs are put into them.
-use Rattle.std.proofs.Common.{◌≡◌, ◌≢◌, ◌⊎◌, inl, inr, ℕ, ◌-◌, ◌+◌, ◌<◌, ◌≤◌, ◌==◌, true, false, List, [], ◌∷◌, ◌++◌, length, take, All, map, get_or, set, refl}
-use Rattle.std.proofs.Common.{sym, ap, subst, ◌∙◌, arith, get_or-set_same, get_or-set_other, length-set, length-append, add-one}
-use Rattle.std.proofs.lemmas.Bool.{cases_eq}
-use Rattle.std.proofs.Math.Seq.{take-suc}
-use Rattle.std.proofs.lemmas.List.{map-set, map-append, length-map, get_or-map}
-use Rattle.std.proofs.lemmas.List.Elements.{filter-append}
-use Rattle.std.proofs.lemmas.Grind.{common_steps}
+use Rattle.std.proofs.Common.{◌≡◌, ◌≢◌, inl, inr, ℕ, ◌-◌, ◌+◌, ◌<◌, ◌≤◌, ◌==◌, true, false, List, [], ◌∷◌, ◌++◌, length, take, All, map, get_or, set, refl, sym}
+use Rattle.std.proofs.Common.{ap, subst, ◌∙◌, arith, get_or-set_same, get_or-set_other, length-set, add-one}
+use Rattle.std.proofs.{lemmas.Bool.cases_eq, Math.Seq.take-suc, lemmas.List.map-set, lemmas.List.get_or-map, lemmas.List.Elements.filter-append}
+use Rattle.std.proofs.{lemmas.Grind.common_steps}
 use Rattle.std.specs.List.{filter}
 use Rattle.periodic_net.specs.Graph.{Arc, both_ways, reverse_of}
 use Rattle.quotient_graph.specs.Stars.{star_at}
@@ -37,8 +34,7 @@ pub have_more : (n : ℕ) (stars : List (List Arc)) (as' : List Arc) (a : Arc) �
 have_more n stars as' a low high h = record {
   count = length-set stars (a.from - 1) (star_at stars a.from ++ a ∷ []) ∙ h.count;
   each = λ u p q. elim (cases_eq u a.from) [
-    | inl e ↦ subst (λ v. star_at (with_arc stars a) v ≡ filter (λ b. b.from == v) (as' ++ a ∷ [])) (sym e)
-        (get_or-set_same stars (a.from - 1) (star_at stars a.from ++ a ∷ []) [] (below a.from low high)
+    | inl e ↦ rw e (get_or-set_same stars (a.from - 1) (star_at stars a.from ++ a ∷ []) [] (below a.from low high)
         ∙ ap (λ (t : List Arc). t ++ a ∷ []) (h.each a.from low high) ∙ sym (filtered_same a.from a as' refl))
     | inr m ↦ get_or-set_other stars (a.from - 1) (u - 1) (star_at stars a.from ++ a ∷ []) [] (apart u p m) ∙ h.each u p q ∙ sym (filtered_other u a as' m)
   ];
@@ -55,8 +51,7 @@ pub have_edge : (n : ℕ) (stars : List (List Arc)) (es : List Arc) (e : Arc) �
     → HaveArcs n stars (both_ways es)
     → HaveArcs n (with_arc (with_arc stars e) (reverse_of e)) (both_ways (es ++ e ∷ []))
 have_edge n stars es e from to h =
-    subst (HaveArcs n (with_arc (with_arc stars e) (reverse_of e))) (sym (both_more es e))
-    (have_more n (with_arc stars e) (both_ways es ++ e ∷ []) (reverse_of e) to.0 to.1 (have_more n stars (both_ways es) e from.0 from.1 h))
+    rw (both_more es e) (have_more n (with_arc stars e) (both_ways es ++ e ∷ []) (reverse_of e) to.0 to.1 (have_more n stars (both_ways es) e from.0 from.1 h))
   where
     both_more : (es : List Arc) (e : Arc) → both_ways (es ++ e ∷ []) ≡ (both_ways es ++ e ∷ []) ++ reverse_of e ∷ []
     both_more [] e = refl

@@ -1,18 +1,16 @@
 -- Where all arcs are within the limits, so are the positions, since at most most_vertices - 1 arcs lead from vertex 1 to another.
 use Rattle.std.proofs.Common.{◌≡◌, ◌^◌, ℕ, arith, ◌+◌, ◌-◌, ◌*◌, ◌<◌, ◌≤◌, ap, sym, refl, subst, ◌∙◌}
-use Rattle.std.specs.Prelude.{ℤ, pos, ◌+ℤ◌, ◌-ℤ◌, ◌*ℤ◌, unsigned_abs}
 use Rattle.std.proofs.Math.Nat.{mul-le-mul}
+use Rattle.std.specs.Prelude.{ℤ, pos, ◌+ℤ◌, ◌-ℤ◌, ◌*ℤ◌, unsigned_abs}
 use Rattle.integers.specs.Vectors.{Vector, zero_vector, plus, times, IsWithin}
 use Rattle.integers.specs.Staircase.{part}
-use Rattle.integers.proofs.numbers.Ring.{linear}
-use Rattle.integers.proofs.vectors.Coordinates.{below_three, part_is_coordinate}
 use Rattle.integers.proofs.vectors.Bounds.{bounded_sum, bounded_difference, bounded_product, wider}
+use Rattle.integers.proofs.{numbers.Ring.linear, vectors.Coordinates.below_three, vectors.Coordinates.part_is_coordinate}
 use Rattle.periodic_net.specs.Graph.{Graph, Arc, IsArc, IsGraph, IsQuotientVertex, IsConnected}
 use Rattle.periodic_net.specs.Placement.{Placement, base, arc_vector, IsWithinLimits}
 use Rattle.periodic_net.specs.Limits.{most_vertices, most_shift, most_units, IsSmall}
-use Rattle.quotient_graph.proofs.StarArcs.{arc_within}
+use Rattle.quotient_graph.proofs.{StarArcs.arc_within, Reach.reach}
 use Rattle.quotient_graph.specs.PlacedNets.{most_position}
-use Rattle.quotient_graph.proofs.Reach.{reach}
 
 -- a part of a vector within n
 part_within : (n : ℕ) (v : Vector) → IsWithin n v → (c : ℕ) → c < 3 → unsigned_abs (part c v) ≤ n

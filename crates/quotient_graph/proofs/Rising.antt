@@ -1,14 +1,11 @@
 -- A sorted list of different arcs rises strictly.
 use Rattle.std.proofs.Common.{◌≡◌, ◌≢◌, List}
-use Rattle.std.specs.List.{AllPairs}
-use Rattle.std.specs.List.Sorted.{IsSorted, IsPermutation}
-use Rattle.std.specs.Ordering.{int_cmp}
-use Rattle.std.specs.Cmp.Lexicographic.{slice_cmp}
-use Rattle.std.specs.declared.cmp.Ordering.{Ordering}
-use Rattle.integers.proofs.lists.Rising as rising
+use Rattle.std.specs.{List.AllPairs, List.Sorted.IsSorted, List.Sorted.IsPermutation, Ordering.int_cmp, Cmp.Lexicographic.slice_cmp}
+use Rattle.std.specs.{declared.cmp.Ordering.Ordering}
 use Rattle.integers.proofs.vectors.Parts.{ends_tell}
 use Rattle.periodic_net.specs.Graph.{Arc, arc}
 use Rattle.quotient_graph.specs.Order.{arc_numbers, AreRising}
+use Rattle.integers.proofs.lists.Rising as rising
 
 -- the order of arcs, by their numbers
 abbrev pub arc_cmp : Arc → Arc → Ordering

@@ -1,10 +1,8 @@
 -- The edges of the square net are those of a graph.
 use Rattle.std.proofs.Common.{ℤ, zero, suc, pos, List, [], ◌∷◌, map, inl, inr, refl, arith}
 use Rattle.std.proofs.lemmas.List.Elements.{All-nil, All-cons}
-use Rattle.cgd_read.specs.Spelling.{edge_of}
-use Rattle.cgd_read.specs.declared.edge.RawEdge.{RawEdge}
-use Rattle.quotient_graph.specs.Order.{AreRising}
-use Rattle.quotient_graph.specs.EdgeLists.{IsEdgeAmong, AreEdgesOfGraph}
+use Rattle.cgd_read.specs.{Spelling.edge_of, declared.edge.RawEdge.RawEdge}
+use Rattle.quotient_graph.specs.{Order.AreRising, EdgeLists.IsEdgeAmong, EdgeLists.AreEdgesOfGraph}
 
 abbrev loop_of : ℤ → ℤ → RawEdge
 loop_of x y = record { u = 1; v = 1; x = x; y = y; z = pos 0 }

@@ -1,16 +1,13 @@
 -- The arcs from a vertex are among the vertices and within the limits, and they are all the arcs from it.
 use Rattle.std.proofs.Common.{◌≡◌, ℕ, ℤ, ◌≤◌, ◌<◌, List, [], ◌∷◌, length, get_or, neg_ℤ, unsigned_abs, arith}
-use Rattle.std.proofs.lemmas.Int.{ints}
+use Rattle.std.proofs.lemmas.{Int.ints, List.Elements.recursion_from_All, List.Elements.All-from_recursion, List.Sorted.IsPermutation-sym}
+use Rattle.std.proofs.lemmas.{List.Sorted.Contains-permutation, List.get_or_default}
 use Rattle.std.specs.List.{All, AllByRecursion, Contains}
-use Rattle.std.proofs.lemmas.List.Elements.{recursion_from_All, All-from_recursion}
-use Rattle.std.proofs.lemmas.List.Sorted.{IsPermutation-sym, Contains-permutation}
 use Rattle.integers.specs.Vectors.{Vector, opposite, IsWithin}
-use Rattle.integers.proofs.lists.Members.{in_from_contains, contains_from_in}
-use Rattle.integers.proofs.lists.Filters.{all_at}
-use Rattle.std.proofs.lemmas.List.{get_or_default}
+use Rattle.integers.proofs.lists.{Members.in_from_contains, Members.contains_from_in, Filters.all_at}
 use Rattle.periodic_net.specs.Graph.{Graph, Arc, both_ways, arcs, arcs_from, IsArc, IsGraph}
-use Rattle.periodic_net.proofs.CallerLemmas.{arc_inside, from_is_arc, arc_is_from}
 use Rattle.periodic_net.specs.Limits.{most_shift, IsSmall}
+use Rattle.periodic_net.proofs.CallerLemmas.{arc_inside, from_is_arc, arc_is_from}
 use Rattle.quotient_graph.specs.Stars.{IsStar, IsArcFrom}
 
 opposite_within : (n : ℕ) (s : Vector) → IsWithin n s → IsWithin n (opposite s)

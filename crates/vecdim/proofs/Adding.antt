@@ -4,9 +4,8 @@ use Rattle.std.proofs.lemmas.Int.{ints}
 use Rattle.integers.specs.Vectors.{Vector, zero_vector, HasDimension, plus, times, combination}
 use Rattle.integers.proofs.numbers.Ring.{linear}
 use Rattle.integers.proofs.vectors.Laws.{vector_equal, plus_zero, plus_associative, plus_dimension, times_dimension}
-use Rattle.vecdim.specs.Stairs.{Stairs}
-use Rattle.vecdim.specs.Steps.{HasAdded}
 use Rattle.vecdim.specs.Lattices.{Members, IsSumWith, IsWith}
+use Rattle.vecdim.specs.{Stairs.Stairs, Steps.HasAdded}
 
 -- a combination of no vectors is 0
 pub combination_nothing : (ks : List ℤ) → combination ks [] ≡ zero_vector
@@ -58,10 +57,7 @@ with_of_added d S T v dim a = record {
 
 -- with no vectors added a lattice is the same
 pub with_nothing : (L : Vector → Type 0) → IsWith L [] L
-with_nothing L = record {
-  out = λ w m. record { u = w; member = m; ks = []; sum = sym (plus_zero w) };
-  into = λ w s. subst L (sym (s.sum ∙ ap (plus s.u) (combination_nothing s.ks) ∙ plus_zero s.u)) s.member;
-}
+with_nothing L = grind (arith, plus_zero, combination_nothing)
 
 -- one vector added, and then others
 pub with_more : (L K M : Vector → Type 0) (v : Vector) (vs : List Vector) → IsWith L (v ∷ []) K → IsWith K vs M → IsWith L (v ∷ vs) M

@@ -49,8 +49,7 @@ z_at_one k l n c f i z h g q = q ∙ ap (λ t. t *ℤ c +ℤ l *ℤ f +ℤ n *�
 
 -- less or equal is at most
 at_most_of : (b w : ℤ) {A : Type 0} → (b <ℤ w) ⊎ ((w ≡ b) × A) → b ≤ℤ w
-at_most_of b w (inl h) = omega (arith, linear, h)
-at_most_of b w (inr h) = omega (arith, linear, h.0)
+at_most_of b w k = search arith
 
 -- the first row has the least positive first part
 pub first_least : {S : Stairs} (w : Vector) → IsReducedStair S → InStairs S w → pos 0 <ℤ w.x → S.a ≤ℤ w.x

@@ -1,13 +1,11 @@
 -- Numbers in a box fit in 128 bits, and the rows of a stair lie in one.
-use Rattle.std.proofs.Common.{◌≡◌, ◌+◌, ◌*◌, ◌≤◌, ◌≤ℤ◌, ◌<ℤ◌, ℤ, pos, ◌-ℤ◌, ◌*ℤ◌, ◌^◌, FitsSigned, arith}
-use Rattle.std.specs.Int.{w128}
-use Rattle.std.specs.Int.RustNames.{unsigned_abs}
+use Rattle.std.proofs.Common.{◌≡◌, ◌+◌, ◌*◌, ◌<◌, ◌≤◌, ◌≤ℤ◌, ◌<ℤ◌, ℤ, pos, ◌-ℤ◌, ◌*ℤ◌, ◌^◌, FitsSigned, arith}
 use Rattle.std.proofs.lemmas.Nat.{mul-le}
 use Rattle.std.proofs.lemmas.Int.{ints, unsigned_abs-mul, fits_signed_from_abs}
+use Rattle.std.specs.{Int.w128, Int.RustNames.unsigned_abs}
 use Rattle.integers.specs.Vectors.{Vector, vector, IsWithin}
 use Rattle.integers.proofs.vectors.Bounds.{abs_difference}
-use Rattle.vecdim.specs.Stairs.{Stairs}
-use Rattle.vecdim.specs.Steps.{IsBoxed, IsBoundedStair}
+use Rattle.vecdim.specs.{Stairs.Stairs, Steps.IsBoxed, Steps.IsBoundedStair}
 
 -- the absolute value of a number from 0 to m
 abs_to : (z m : ℤ) → m ≤ℤ pos (2 ^ 60) → pos 0 ≤ℤ z → z ≤ℤ m → unsigned_abs z ≤ 2 ^ 60
@@ -35,6 +33,10 @@ at_most z m h = omega (arith, ints)
 -- what is not negative and not 0 is positive
 pub not_zero : (z : ℤ) → pos 0 ≤ℤ z → (z ≡ pos 0 → ⊥) → pos 0 <ℤ z
 not_zero z h n = omega (arith, ints)
+
+-- a rest is nearer to 0
+pub rests_fall : (r z : ℤ) → pos 0 ≤ℤ r → r <ℤ z → unsigned_abs r < unsigned_abs z
+rests_fall r z h i = omega (arith, ints)
 
 -- at most, and at most again
 pub up_to : (x y z : ℤ) → x ≤ℤ y → y ≤ℤ z → x ≤ℤ z
@@ -90,14 +92,19 @@ boxed_second {m} {S} k = let r = k.reduced in record {
 
 -- the third row, two places to the left
 pub boxed_third : {m : ℤ} {S : Stairs} → IsBoundedStair m S → IsBoxed m (vector S.i (pos 0) (pos 0))
-boxed_third {m} {S} k = let r = k.reduced in record {
-  x_from = at_most (pos 0) S.i r.i;
-  x_to = k.i_to;
-  y_from = zero_most;
-  y_to = k.m_from;
-  z_from = zero_most;
-  z_to = k.m_from;
-}
+boxed_third {m} {S} k = search (arith, at_most, zero_most)
+
+-- three rests are in the box
+pub boxed_rests : {m x y z : ℤ} → pos 0 ≤ℤ x → x <ℤ m → pos 0 ≤ℤ y → y <ℤ m → pos 0 ≤ℤ z → z <ℤ m → IsBoxed m (vector x y z)
+boxed_rests {m} {x} {y} {z} a b c d e f = record { x_from = a; x_to = at_most x m b; y_from = c; y_to = d; z_from = e; z_to = f }
+
+-- the two later parts, one place to the left
+pub boxed_left : {m : ℤ} {v : Vector} → pos 0 <ℤ m → IsBoxed m v → IsBoxed m (vector v.y v.z (pos 0))
+boxed_left {m} {v} h b = boxed_rests b.y_from b.y_to b.z_from b.z_to zero_most h
+
+-- the second part alone, in the first place
+pub boxed_front : {m : ℤ} {v : Vector} → pos 0 <ℤ m → IsBoxed m v → IsBoxed m (vector v.y (pos 0) (pos 0))
+boxed_front {m} {v} h b = boxed_rests b.y_from b.y_to zero_most h zero_most h
 
 -- what is at most 2^61 fits
 pub small_fits : (z : ℤ) → unsigned_abs z ≤ 2 ^ 61 → FitsSigned w128 z

@@ -59,12 +59,7 @@ exchange_refl m r v = record { upper = combo_first m r v; lower = combo_second m
 
 -- one exchange and another
 pub exchange_trans : {m : ℤ} {r v r' v' r'' v'' : Vector} → Exchange m r v r' v' → Exchange m r' v' r'' v'' → Exchange m r v r'' v''
-exchange_trans g h = record {
-  upper = combo_of_combos h.upper g.upper g.lower;
-  lower = combo_of_combos h.lower g.upper g.lower;
-  old_upper = combo_of_combos g.old_upper h.old_upper h.old_lower;
-  old_lower = combo_of_combos g.old_lower h.old_upper h.old_lower;
-}
+exchange_trans g h = search (arith, combo_of_combos)
 
 -- a remainder and the multiple give the number back
 back : (m q k ry vy wy : ℤ) → wy ≡ ry -ℤ q *ℤ vy +ℤ m *ℤ k → ry ≡ q *ℤ vy +ℤ pos 1 *ℤ wy +ℤ m *ℤ neg_ℤ k

@@ -1,9 +1,8 @@
 -- Division by a positive number.
-use Rattle.std.proofs.Common.{◌≡◌, ◌+◌, ◌*◌, ◌/◌, ◌%◌, ◌<◌, ◌<ℤ◌, ℤ, pos, negsuc, ◌+ℤ◌, ◌*ℤ◌, neg_ℤ, int_div, to_z, of_z, FitsSigned, sym, ap, ◌∙◌, arith}
-use Rattle.std.specs.Int.{int_rem_euclid, w128}
+use Rattle.std.proofs.Common.{◌≡◌, ◌+◌, ◌*◌, ◌/◌, ◌%◌, ◌<ℤ◌, ℤ, pos, negsuc, ◌+ℤ◌, ◌*ℤ◌, neg_ℤ, int_div, to_z, of_z, FitsSigned, sym, ap, ◌∙◌, arith}
 use Rattle.std.proofs.lemmas.Int.{ints, quot_is, quot_fits}
-use Rattle.integers.proofs.numbers.Division.{quotient_times}
-use Rattle.integers.proofs.numbers.Ring.{product_negative}
+use Rattle.std.specs.Int.{int_rem_euclid, w128}
+use Rattle.integers.proofs.numbers.{Division.quotient_times, Ring.product_negative}
 
 -- the remainder differs by a multiple
 pub remainder : (z m : ℤ) → pos 0 <ℤ m → (k : ℤ) × (int_rem_euclid z m ≡ z +ℤ m *ℤ k)
@@ -12,7 +11,6 @@ remainder (pos n) (pos m) h =
     (neg_ℤ (pos (n / m)), simp product_negative (omega (arith, ints)))
 remainder (negsuc n) (pos m) h =
     let q : m * (n / m) + n % m ≡ n = omega arith in
-    let b : n % m < m = omega (arith, ints, h) in
     (pos (n / m + 1), omega (arith, ints))
 remainder z (negsuc m) h = absurd (omega (arith, ints, h))
 

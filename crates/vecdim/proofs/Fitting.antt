@@ -1,7 +1,6 @@
 -- Products of the parts of vectors fit in 128 bits.
 use Rattle.std.proofs.Common.{ℤ, ◌≤◌, ◌^◌, ◌*ℤ◌, arith, FitsSigned}
-use Rattle.std.specs.Prelude.{unsigned_abs}
-use Rattle.std.specs.Int.{w128}
+use Rattle.std.specs.{Prelude.unsigned_abs, Int.w128}
 use Rattle.integers.proofs.vectors.Bounds.{bounded_product, fits_from_bound}
 
 -- a product of a long number and a short one

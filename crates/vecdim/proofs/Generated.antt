@@ -1,10 +1,9 @@
 -- A lattice with vectors added is the least one that has them: it has its start and the vectors, and lies in each lattice that has both.
-use Rattle.std.proofs.Common.{◌≡◌, ℤ, pos, List, [], ◌∷◌, sym, ap, subst, ◌∙◌, inl, inr}
+use Rattle.std.proofs.Common.{◌≡◌, ℤ, pos, List, [], ◌∷◌, sym, subst, ◌∙◌, inl, inr, arith}
 use Rattle.integers.specs.Vectors.{Vector, zero_vector, plus, times, combination}
-use Rattle.integers.proofs.lists.Members.{IsIn}
-use Rattle.integers.proofs.vectors.Laws.{plus_zero, zero_plus, zero_times, one_times}
 use Rattle.integers.specs.Lattices.{IsVectorGroup}
-use Rattle.integers.proofs.vectors.Groups.{combination_in}
+use Rattle.integers.proofs.vectors.Laws.{plus_zero, zero_plus, zero_times, one_times}
+use Rattle.integers.proofs.{lists.Members.IsIn, vectors.Groups.combination_in}
 use Rattle.vecdim.specs.Lattices.{IsWith}
 
 -- a lattice that has L and the vectors has all of L with them
@@ -26,6 +25,4 @@ unit (y ∷ ys) v (inr i) = let r = unit ys v i in (pos 0 ∷ r.0, (λ j. plus (
 
 -- it has the vectors
 pub with_has : (L M : Vector → Type 0) (vs : List Vector) → IsWith L vs M → L zero_vector → (v : Vector) → IsIn vs v → M v
-with_has L M vs a z v i =
-    let r = unit vs v i in
-    a.into v (record { u = zero_vector; member = z; ks = r.0; sum = sym (ap (plus zero_vector) r.1 ∙ zero_plus v) })
+with_has L M vs a z v i = search (arith, unit, zero_plus)

@@ -2,8 +2,7 @@
 use Rattle.std.proofs.Common.{◌≡◌, ℤ, pos, ◌+ℤ◌, ◌*ℤ◌, refl, ap, ◌∙◌, arith}
 use Rattle.integers.proofs.numbers.Ring.{ring, linear}
 use Rattle.integers.specs.Vectors.{Vector, plus, times, vector}
-use Rattle.vecdim.specs.Stairs.{InStairs, Stairs}
-use Rattle.vecdim.specs.Steps.{InSum}
+use Rattle.vecdim.specs.{Stairs.InStairs, Stairs.Stairs, Steps.InSum}
 
 -- a pair of multiples of one number
 one_term : (p q k l a x y w : ℤ) → x ≡ k *ℤ a → y ≡ l *ℤ a → w ≡ p *ℤ x +ℤ q *ℤ y → w ≡ (p *ℤ k +ℤ q *ℤ l) *ℤ a

@@ -1,5 +1,5 @@
 -- Remainders modulo a lattice: a vector has one, and a member has the remainder 0.
-use Rattle.std.proofs.Common.{◌≡◌, ℕ, zero, suc, ℤ, pos, negsuc, ◌+ℤ◌, ◌-ℤ◌, ◌*ℤ◌, ◌≤ℤ◌, ◌<ℤ◌, refl, ap, ◌∙◌, arith}
+use Rattle.std.proofs.Common.{◌≡◌, ℕ, zero, suc, ℤ, pos, negsuc, ◌+ℤ◌, ◌-ℤ◌, ◌*ℤ◌, ◌≤ℤ◌, ◌<ℤ◌, refl, ap, arith}
 use Rattle.std.proofs.lemmas.Int.{ints}
 use borrow.Author.Differences.{product_is}
 use Rattle.integers.specs.Vectors.{Vector, zero_vector, minus}
@@ -17,10 +17,7 @@ no_multiple (negsuc m) r s k a b c d e = absurd (omega (arith, ints, a, b))
 
 -- a difference that is 0 times a number is 0
 no_difference : (m r s k : ℤ) → k ≡ pos 0 → r -ℤ s ≡ k *ℤ m → r ≡ s
-no_difference m r s k h e = by (e ∙ ap (λ (t : ℤ). t *ℤ m) h ∙ zero_product m)
-  where
-    by : r -ℤ s ≡ pos 0 → r ≡ s
-    by f = omega (arith, linear, f)
+no_difference m r s k h e = grind (arith, zero_product)
 
 -- the second part of a member whose first coefficient is 0
 second_part : (y k l b e : ℤ) → k ≡ pos 0 → y ≡ k *ℤ b +ℤ l *ℤ e → y ≡ l *ℤ e
@@ -72,20 +69,11 @@ zero_below_one r i e h k = omega (arith, ints, e, h, k)
 
 -- the rests are a remainder
 pub divided_remainder : (d : ℕ) {S : Stairs} {v q r : Vector} → HasStairShape d S → HasRemainder S v q r → IsRemainder d S r
-divided_remainder d {S} {v} {q} {r} s h = record {
-  dimension = λ e. zero_below_one r.z S.i (s.flat e).i h.low.2 h.high.2;
-  low = h.low;
-  high = h.high;
-}
+divided_remainder d {S} {v} {q} {r} s h = search (arith, zero_below_one)
 
 -- 0 is a remainder
 zero_remainder : (d : ℕ) (S : Stairs) → HasStairShape d S → IsRemainder d S zero_vector
-zero_remainder d S s =
-    let r = s.reduced in
-    record { dimension = λ e. refl; low = (none, none, none); high = (r.a, r.e, r.i) }
-  where
-    none : pos 0 ≤ℤ pos 0
-    none = omega (arith, ints)
+zero_remainder d S s = search arith
 
 -- a difference of two members
 apart_x : (k k' a v r : ℤ) → v -ℤ r ≡ k *ℤ a → v ≡ k' *ℤ a → r -ℤ pos 0 ≡ (k' -ℤ k) *ℤ a

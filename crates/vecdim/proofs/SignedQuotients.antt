@@ -1,8 +1,7 @@
 -- Division by a divisor of either sign.
 use Rattle.std.proofs.Common.{◌≡◌, ℤ, neg_ℤ, ◌*ℤ◌, sym, ap, ◌∙◌, arith}
 use Rattle.integers.specs.Vectors.{Vector, opposite, times}
-use Rattle.integers.proofs.numbers.Ring.{ring, linear}
-use Rattle.integers.proofs.vectors.Laws.{vector_equal}
+use Rattle.integers.proofs.{numbers.Ring.ring, numbers.Ring.linear, vectors.Laws.vector_equal}
 
 -- the opposite of a multiple is a multiple by the opposite number
 pub opposite_divides : (g size : ℤ) (v u w : Vector) → size ≡ neg_ℤ g → u ≡ opposite v → v ≡ times g w → u ≡ times size w

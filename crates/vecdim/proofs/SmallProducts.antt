@@ -1,5 +1,5 @@
 -- Products that fit in 64 bits.
-use Rattle.std.proofs.Common.{ℕ, ℤ, ◌*◌, ◌≤◌, ◌^◌, ◌*ℤ◌, lit≤}
+use Rattle.std.proofs.Common.{ℕ, ℤ, ◌*◌, ◌≤◌, ◌^◌, ◌*ℤ◌, lit≤, arith}
 use Rattle.std.specs.Prelude.{unsigned_abs}
 use Rattle.std.proofs.Math.Nat.{le_trans}
 use Rattle.integers.specs.Vectors.{Vector, IsWithin}
@@ -8,11 +8,7 @@ use Rattle.vecdim.specs.SmallVectors.{HaveSmallProducts}
 
 -- vectors have small products where their bounds have
 pub small_products : (m n : ℕ) → m * n ≤ 2 ^ 61 → (v w : Vector) → IsWithin m v → IsWithin n w → HaveSmallProducts v w
-small_products m n b v w h k = record {
-  x = le_trans (bounded_product v.x w.x m n h.0 k.0) b;
-  y = le_trans (bounded_product v.y w.y m n h.1 k.1) b;
-  z = le_trans (bounded_product v.z w.z m n h.2 k.2) b;
-}
+small_products m n b v w h k = search (arith, le_trans, bounded_product)
 
 -- a product of two numbers of at most 2^30
 pub small_product : (a b : ℤ) → unsigned_abs a ≤ 2 ^ 30 → unsigned_abs b ≤ 2 ^ 30 → unsigned_abs (a *ℤ b) ≤ 2 ^ 61

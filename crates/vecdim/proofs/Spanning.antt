@@ -1,18 +1,14 @@
 -- The rows of a staircase span its members, and the coefficients are the coordinates.
-use Rattle.std.proofs.Common.{◌≡◌, ℕ, ℤ, pos, neg_ℤ, ◌+ℤ◌, ◌-ℤ◌, ◌*ℤ◌, ◌⊎◌, inl, inr, [], ◌∷◌, refl, sym, ap, subst, arith}
-use Rattle.std.specs.Prelude.{Bool, true, false, cond, ◌==◌}
+use Rattle.std.proofs.Common.{◌≡◌, ℕ, ℤ, pos, neg_ℤ, ◌+ℤ◌, ◌-ℤ◌, ◌*ℤ◌, ◌⊎◌, inl, inr, [], ◌∷◌, refl, ap, subst, arith}
 use Rattle.std.proofs.lemmas.Bool.Decides.{eqb_tells}
+use Rattle.std.specs.Prelude.{Bool, true, false, cond, ◌==◌}
 use Rattle.integers.specs.Vectors.{Vector, vector, zero_vector, plus, opposite, combination, HasDimension}
-use Rattle.integers.specs.Lattices.{IsVectorGroup}
-use Rattle.integers.specs.Staircase.{Spans}
-use Rattle.integers.proofs.vectors.Groups.{combination_in}
-use Rattle.integers.proofs.lists.Members.{IsIn}
-use Rattle.integers.proofs.numbers.Ring.{ring, linear}
+use Rattle.integers.specs.{Lattices.IsVectorGroup, Staircase.Spans}
 use Rattle.integers.proofs.vectors.Laws.{vector_equal, plus_dimension, opposite_dimension}
+use Rattle.integers.proofs.{vectors.Groups.combination_in, lists.Members.IsIn, numbers.Ring.ring, numbers.Ring.linear}
 use Rattle.vecdim.specs.Stairs.{Stairs, InStairs, HasStairShape, rows_of}
-use Rattle.vecdim.specs.Lattices.{Members}
+use Rattle.vecdim.specs.{Lattices.Members, Steps.HasRemainder}
 use Rattle.vecdim.proofs.Lattice.{in_pair, own_rows}
-use Rattle.vecdim.specs.Steps.{HasRemainder}
 use Rattle.vecdim.proofs.Remainders.{first_off, second_off, third_off, member_rests}
 
 -- the first part of the sum
@@ -37,10 +33,7 @@ flat_y w k l b f e = omega (arith, linear, e)
 
 -- the third
 flat_z : (w k l c f : ℤ) → w ≡ pos 0 → c ≡ pos 0 → f ≡ pos 0 → k *ℤ c +ℤ (l *ℤ f +ℤ pos 0) ≡ w
-flat_z w k l c f e p q =
-    let u = ap (λ (t : ℤ). k *ℤ t) p in
-    let v = ap (λ (t : ℤ). l *ℤ t) q in
-    omega (arith, linear, e, simp ring at u, simp ring at v)
+flat_z w k l c f e p q = grind arith
 
 -- a member is the combination of the rows with its coefficients
 pub combination_of : (d : ℕ) (S : Stairs) (v : Vector) → HasStairShape d S → HasDimension d v → (m : InStairs S v)
@@ -54,12 +47,7 @@ combination_of d S v s dim m = by (eqb_tells d 2)
         vector_equal (flat_x v.x m.k m.l S.a m.x) (flat_y v.y m.k m.l S.b S.e m.y) (flat_z v.z m.k m.l S.c S.f (dim e) f.c f.f)
 
     by : (((d == 2) ≡ true) × (d ≡ 2)) ⊎ (((d == 2) ≡ false) × (d ≡ 2 → ⊥)) → combination (m.k ∷ m.l ∷ m.n ∷ []) (rows_of d S) ≡ v
-    by (inl e) =
-        subst (λ (b : Bool). combination (m.k ∷ m.l ∷ m.n ∷ []) (vector S.a S.b S.c ∷ vector (pos 0) S.e S.f ∷ cond b [] (vector (pos 0) (pos 0) S.i ∷ [])) ≡ v)
-        (sym e.0) (without e.1)
-    by (inr n) =
-        subst (λ (b : Bool). combination (m.k ∷ m.l ∷ m.n ∷ []) (vector S.a S.b S.c ∷ vector (pos 0) S.e S.f ∷ cond b [] (vector (pos 0) (pos 0) S.i ∷ [])) ≡ v)
-        (sym n.0) (vector_equal (sum_x v.x m.k m.l m.n S.a m.x) (sum_y v.y m.k m.l m.n S.b S.e m.y) (sum_z v.z m.k m.l m.n S.c S.f S.i m.z))
+    by h = grind (arith, without, vector_equal, sum_x, sum_y, sum_z)
 
 -- the last coefficient of a flat member is 0
 no_third : (w k l n c f i : ℤ) → w ≡ pos 0 → c ≡ pos 0 → f ≡ pos 0 → i ≡ pos 1 → w ≡ k *ℤ c +ℤ l *ℤ f +ℤ n *ℤ i → n ≡ pos 0

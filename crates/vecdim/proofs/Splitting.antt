@@ -1,12 +1,10 @@
 -- What a vector that is divided by rows takes: quotients that are not greater than its parts, and products that fit.
 use Rattle.std.proofs.Common.{◌≡◌, ℕ, ◌+◌, ◌*◌, ◌≤◌, ◌^◌, ℤ, pos, ◌+ℤ◌, ◌-ℤ◌, ◌*ℤ◌, ◌≤ℤ◌, ◌<ℤ◌, unsigned_abs, FitsSigned, arith}
+use Rattle.std.proofs.{lemmas.Int.ints, Math.Nat.mul-le-mul_left, Math.Nat.le_trans}
 use Rattle.std.specs.Int.{w128}
-use Rattle.std.proofs.lemmas.Int.{ints}
-use Rattle.std.proofs.Math.Nat.{mul-le-mul_left, le_trans}
 use Rattle.integers.specs.Vectors.{Vector}
 use Rattle.integers.proofs.vectors.Bounds.{bounded_product, bounded_difference, fits_from_bound}
-use Rattle.vecdim.specs.Stairs.{Stairs}
-use Rattle.vecdim.specs.Steps.{HasRemainder}
+use Rattle.vecdim.specs.{Stairs.Stairs, Steps.HasRemainder}
 
 -- a product that `less` takes off fits
 pub taken_fits : (b k : ℤ) → unsigned_abs b ≤ 2 ^ 60 → unsigned_abs k ≤ 2 ^ 61 → FitsSigned w128 (b *ℤ k)
@@ -19,6 +17,18 @@ less_within z b k n h i j = bounded_difference z (b *ℤ k) n (2 ^ 121) h (bound
 -- so it fits
 pub less_fits : (z b k : ℤ) → unsigned_abs z ≤ 2 ^ 125 → unsigned_abs b ≤ 2 ^ 60 → unsigned_abs k ≤ 2 ^ 61 → FitsSigned w128 (z -ℤ b *ℤ k)
 less_fits z b k h i j = fits_from_bound (z -ℤ b *ℤ k) (2 ^ 125 + 2 ^ 121) (omega arith) (less_within z b k (2 ^ 125) h i j)
+
+-- from a part of a vector it leaves what may be taken off again
+pub less_again : (z b k : ℤ) → unsigned_abs z ≤ 2 ^ 61 → unsigned_abs b ≤ 2 ^ 60 → unsigned_abs k ≤ 2 ^ 61 → unsigned_abs (z -ℤ b *ℤ k) ≤ 2 ^ 125
+less_again z b k h i j = let s = less_within z b k (2 ^ 61) h i j in omega (arith, s)
+
+-- a part of a vector is one of these
+pub part_taken : (z : ℤ) → unsigned_abs z ≤ 2 ^ 61 → unsigned_abs z ≤ 2 ^ 125
+part_taken z h = omega (arith, h)
+
+-- what is below a pivot is small
+pub below_small : (b m : ℤ) → pos 0 ≤ℤ b → b <ℤ m → m ≤ℤ pos (2 ^ 60) → unsigned_abs b ≤ 2 ^ 60
+below_small b m h i j = omega (arith, ints, h, i, j)
 
 -- a number from 0 to below m, and 1 more, is at most m
 one_more : (b m : ℤ) → pos 0 ≤ℤ b → b <ℤ m → 1 + unsigned_abs b ≤ unsigned_abs m
@@ -48,10 +58,7 @@ third_bound z c k f l m n hc ic hf jf hz hk hl =
     same n = omega arith
 
     more : (b m : ℕ) → 1 + b ≤ m → n * m + b * n ≤ 2 * n * m
-    more b m l = let p : n * b ≤ n * m = mul-le-mul_left n (below b m l) in omega arith
-      where
-        below : (b m : ℕ) → 1 + b ≤ m → b ≤ m
-        below b m l = omega arith
+    more b m l = grind (arith, mul-le-mul_left)
 
 -- what is above a number that is not negative is positive
 pub above_from : (c m : ℤ) → pos 0 ≤ℤ c → c <ℤ m → pos 0 <ℤ m

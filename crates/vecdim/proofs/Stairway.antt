@@ -1,24 +1,16 @@
 -- The rows of a staircase are the staircase basis of its members.
-use Rattle.std.proofs.Common.{◌≡◌, ◌≢◌, ℕ, zero, suc, ℤ, pos, negsuc, ◌-ℤ◌, ◌<ℤ◌, ◌≤ℤ◌, ◌<◌, ◌≤◌, List, [], ◌∷◌, refl, sym, ap, subst, ◌∙◌, arith, ◌⊎◌, inl}
-use Rattle.std.proofs.Common.{inr}
-use Rattle.std.proofs.lemmas.Int.{ints}
-use Rattle.std.specs.Prelude.{slice_index_or, take, cond, ◌==◌, ◌^◌, All, Bool, true, false}
-use Rattle.std.proofs.lemmas.List.Elements.{All-cons}
-use Rattle.vecdim.specs.Steps.{IsBoundedStair}
-use Rattle.vecdim.proofs.Boxes.{boxed_within, boxed_first, boxed_second, boxed_third}
-use Rattle.std.specs.Ordering.{int_cmp, ordering_then}
-use Rattle.std.specs.Cmp.{int_cmp_is}
-use Rattle.std.specs.Cmp.Lexicographic.{slice_cmp}
-use Rattle.std.specs.declared.cmp.Ordering.{Ordering}
+use Rattle.std.proofs.Common.{◌≡◌, ◌≢◌, ℕ, zero, suc, ℤ, pos, ◌<ℤ◌, ◌≤ℤ◌, ◌<◌, ◌≤◌, List, [], ◌∷◌, refl, sym, ap, subst, ◌∙◌, arith, ◌⊎◌}
+use Rattle.std.proofs.lemmas.{Int.ints, List.Elements.All-cons}
+use Rattle.std.specs.Prelude.{slice_index_or, take, cond, ◌==◌, ◌^◌, All, Bool}
 use Rattle.std.specs.declared.cmp.Ordering.TheVariants.{Less, Equal, Greater}
+use Rattle.std.specs.{Ordering.int_cmp, Ordering.ordering_then, Cmp.int_cmp_is, Cmp.Lexicographic.slice_cmp, declared.cmp.Ordering.Ordering}
+use Rattle.vecdim.specs.Stairs.{Stairs, IsReducedStair, HasStairShape, HasFlatEnd, rows_of}
+use Rattle.vecdim.specs.{Steps.IsBoundedStair, Lattices.Members}
+use Rattle.vecdim.proofs.Boxes.{boxed_within, boxed_first, boxed_second, boxed_third}
+use Rattle.vecdim.proofs.Basis.{IsAtMost2, first_least, first_rest, second_least, second_rest, third_least}
+use Rattle.vecdim.proofs.{Lattice.own_rows, Spanning.rows_span}
 use Rattle.integers.specs.Vectors.{Vector, vector, zero_vector, HasDimension, IsAtMost, IsWithin}
 use Rattle.integers.specs.Staircase.{IsStaircase, IsStair, IsZeroBefore, NotNegativeAfter, Spans}
-use Rattle.integers.proofs.numbers.Ring.{linear}
-use Rattle.vecdim.specs.Stairs.{Stairs, IsReducedStair, HasStairShape, HasFlatEnd, rows_of}
-use Rattle.vecdim.specs.Lattices.{Members}
-use Rattle.vecdim.proofs.Basis.{IsAtMost2, first_least, first_rest, second_least, second_rest, third_least}
-use Rattle.vecdim.proofs.Lattice.{own_rows}
-use Rattle.vecdim.proofs.Spanning.{rows_span}
 
 -- Less is not Greater
 less_not_greater : Less ≢ Greater
@@ -42,25 +34,15 @@ at_most_first a x bs ys l g = less_not_greater (ap (λ (o : Ordering). ordering_
 
 -- at most is less or equal
 less_or_equal : (c z : ℤ) → c ≤ℤ z → (c <ℤ z) ⊎ (c ≡ z)
-less_or_equal c z h = by (z -ℤ c) refl
-  where
-    by : (d : ℤ) → z -ℤ c ≡ d → (c <ℤ z) ⊎ (c ≡ z)
-    by (pos zero) e = inr (omega (arith, linear, e))
-    by (pos (suc n)) e = inl (omega (arith, ints, e))
-    by (negsuc n) e = absurd (omega (arith, ints, e, h))
+less_or_equal c z h = search arith
 
 -- one number
 at_most_one : (c z : ℤ) → c ≤ℤ z → IsAtMost (c ∷ []) (z ∷ [])
-at_most_one c z h = by (less_or_equal c z h)
-  where
-    by : (c <ℤ z) ⊎ (c ≡ z) → IsAtMost (c ∷ []) (z ∷ [])
-    by (inl l) = at_most_first c z [] [] l
-    by (inr e) = at_most_after c z [] [] e at_most_nothing
+at_most_one c z h = grind (arith, less_or_equal, at_most_first, at_most_after, at_most_nothing)
 
 -- two numbers
 at_most_two : (b c y z : ℤ) → IsAtMost2 b c y z → IsAtMost (b ∷ c ∷ []) (y ∷ z ∷ [])
-at_most_two b c y z (inl l) = at_most_first b y (c ∷ []) (z ∷ []) l
-at_most_two b c y z (inr h) = at_most_after b y (c ∷ []) (z ∷ []) (sym h.0) (at_most_one c z h.1)
+at_most_two b c y z k = grind (arith, at_most_first, at_most_after, at_most_one)
 
 -- 0 is not negative
 zero_from : pos 0 ≤ℤ pos 0
@@ -68,35 +50,23 @@ zero_from = omega (arith, ints)
 
 -- the parts after the first, after the second and after the third are not negative
 after_first : (v : Vector) → pos 0 ≤ℤ v.y → pos 0 ≤ℤ v.z → NotNegativeAfter 0 v
-after_first v p q zero l = absurd (omega arith)
-after_first v p q (suc zero) l = p
-after_first v p q (suc (suc zero)) l = q
-after_first v p q (suc (suc (suc k))) l = zero_from
+after_first v h r s t = search (arith, zero_from)
 
 -- after the second
 after_second : (v : Vector) → pos 0 ≤ℤ v.z → NotNegativeAfter 1 v
-after_second v q zero l = absurd (omega arith)
-after_second v q (suc zero) l = absurd (omega arith)
-after_second v q (suc (suc zero)) l = q
-after_second v q (suc (suc (suc k))) l = zero_from
+after_second v h p r = search (arith, zero_from)
 
 -- after the third
 after_third : (v : Vector) → NotNegativeAfter 2 v
-after_third v zero l = absurd (omega arith)
-after_third v (suc zero) l = absurd (omega arith)
-after_third v (suc (suc zero)) l = absurd (omega arith)
-after_third v (suc (suc (suc k))) l = zero_from
+after_third v h p = search (arith, zero_from)
 
 -- the parts before the second are 0
 before_second : (v : Vector) → v.x ≡ pos 0 → IsZeroBefore 1 v
-before_second v p zero l = p
-before_second v p (suc k) l = absurd (omega arith)
+before_second v h q r = search arith
 
 -- the parts before the third
 before_third : (v : Vector) → v.x ≡ pos 0 → v.y ≡ pos 0 → IsZeroBefore 2 v
-before_third v p q zero l = p
-before_third v p q (suc zero) l = q
-before_third v p q (suc (suc k)) l = absurd (omega arith)
+before_third v h r s t = search arith
 
 -- the first row
 first_row : (d : ℕ) (S : Stairs) → IsReducedStair S → HasDimension d (vector S.a S.b S.c) → IsStair (Members d S) 0 (vector S.a S.b S.c)
@@ -161,11 +131,7 @@ rows_are_basis (suc (suc (suc (suc d)))) S h k s = absurd (omega arith)
 -- what a staircase lends of its list
 lent : (d : ℕ) → 2 ≤ d → d ≤ 3 → (S : Stairs)
     → take d (vector S.a S.b S.c ∷ vector (pos 0) S.e S.f ∷ vector (pos 0) (pos 0) (cond (d == 2) (pos 0) S.i) ∷ []) ≡ rows_of d S
-lent zero h k S = absurd (omega arith)
-lent (suc zero) h k S = absurd (omega arith)
-lent (suc (suc zero)) h k S = refl
-lent (suc (suc (suc zero))) h k S = refl
-lent (suc (suc (suc (suc d)))) h k S = absurd (omega arith)
+lent d l p S = search arith
 
 -- the rows' parts are at most 2^60
 rows_within : (d : ℕ) → 2 ≤ d → d ≤ 3 → {m : ℤ} (S : Stairs) → IsBoundedStair m S → All (IsWithin (2 ^ 60)) (rows_of d S)
@@ -178,8 +144,7 @@ rows_within d h k {m} S kept =
     (last (d == 2) (omega arith, omega arith, t.0)))
   where
     last : (b : Bool) → IsWithin (2 ^ 60) (vector (pos 0) (pos 0) S.i) → All (IsWithin (2 ^ 60)) (cond b [] (vector (pos 0) (pos 0) S.i ∷ []))
-    last true t = λ i x l. absurd (omega arith)
-    last false t = All-cons (IsWithin (2 ^ 60)) (vector (pos 0) (pos 0) S.i) [] t (λ i x l. absurd (omega arith))
+    last b h = grind arith
 
 -- what is known of the vectors that a staircase lends
 pub record AreRows (d : ℕ) (S : Stairs) (vs : List Vector) : Type 0 where

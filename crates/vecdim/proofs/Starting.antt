@@ -1,16 +1,13 @@
 -- The lattice of the multiples of b, and flat lattices.
 use Rattle.std.specs.Prelude.{cond, ◌==◌, Bool}
-use Rattle.std.proofs.lemmas.Bool.{ne_eqb}
 use Rattle.std.proofs.Common.{◌≡◌, ℕ, ℤ, pos, ◌+ℤ◌, ◌*ℤ◌, ◌<ℤ◌, ◌≤ℤ◌, ◌^◌, refl, sym, ap, subst, ◌∙◌, arith}
-use Rattle.integers.proofs.numbers.Ring.{ring, linear}
-use Rattle.std.proofs.lemmas.Int.{ints}
+use Rattle.std.proofs.lemmas.{Bool.ne_eqb, Int.ints}
+use Rattle.integers.proofs.{numbers.Ring.ring, numbers.Ring.linear, vectors.Laws.vector_equal}
 use Rattle.integers.specs.Vectors.{Vector, vector}
-use Rattle.integers.proofs.vectors.Laws.{vector_equal}
 use Rattle.vecdim.specs.Lattices.{Members, AreMultiples}
 use Rattle.vecdim.specs.Stairs.{HasFlatEnd, Stairs, stairs}
 use Rattle.vecdim.specs.Steps.{HasBound, IsInserted, IsBoundedStair}
-use Rattle.vecdim.proofs.Basis.{third_least}
-use Rattle.vecdim.proofs.Lattice.{own_rows}
+use Rattle.vecdim.proofs.{Basis.third_least, Lattice.own_rows}
 
 -- the multiples of b belong to it
 start_bound : (b last k : ℤ) → b ≡ k *ℤ last → HasBound (stairs b (pos 0) (pos 0) b (pos 0) last) b

@@ -1,13 +1,11 @@
 -- Where all pivots are 1, all vectors are members; and the product of the pivots.
-use Rattle.std.proofs.Common.{◌≡◌, ℕ, ◌*◌, ◌≤◌, ◌<◌, ◌^◌, ◌<ℤ◌, ℤ, pos, ◌+ℤ◌, ◌-ℤ◌, ◌*ℤ◌, [], ◌∷◌, unsigned_abs, FitsSigned, sym, ap, subst, ◌∙◌, refl, arith}
-use Rattle.std.specs.Int.{w128}
+use Rattle.std.proofs.Common.{◌≡◌, ℕ, ◌*◌, ◌≤◌, ◌<◌, ◌^◌, ◌<ℤ◌, ℤ, pos, ◌+ℤ◌, ◌-ℤ◌, ◌*ℤ◌, [], ◌∷◌, unsigned_abs, FitsSigned, sym, ap, ◌∙◌, refl, arith}
 use Rattle.std.proofs.lemmas.Int.{ints}
+use Rattle.std.specs.Int.{w128}
 use Rattle.integers.specs.Vectors.{Vector, HasDimension}
-use Rattle.integers.proofs.numbers.Ring.{ring, linear}
-use Rattle.integers.proofs.vectors.Bounds.{bounded_product, fits_from_bound}
+use Rattle.integers.proofs.{numbers.Ring.ring, numbers.Ring.linear, vectors.Bounds.bounded_product, vectors.Bounds.fits_from_bound}
 use Rattle.vecdim.specs.Stairs.{Stairs, InStairs, IsReducedStair, IsWhole, size_of}
-use Rattle.vecdim.specs.Steps.{HasAdded}
-use Rattle.vecdim.specs.Lattices.{Members, IsWith}
+use Rattle.vecdim.specs.{Steps.HasAdded, Lattices.Members, Lattices.IsWith}
 use Rattle.vecdim.proofs.Adding.{with_of_added}
 
 -- the first number of a combination of rows with pivots 1
@@ -61,10 +59,7 @@ size_is S r = (λ j. own S.a r.a j *ℤ last_two S r j)
 
 -- it fits where it is small
 pub size_fits : (S : Stairs) → IsReducedStair S → size_of S < 2 ^ 127 → FitsSigned w128 (S.a *ℤ (S.e *ℤ S.i))
-size_fits S r h = subst (FitsSigned w128) (sym (size_is S r)) (fits_from_bound (pos (size_of S)) (size_of S) h (same (size_of S)))
-  where
-    same : (n : ℕ) → n ≤ n
-    same n = omega arith
+size_fits S r h = search (arith, size_is, fits_from_bound)
 
 -- the product of two small pivots fits
 pub two_fit : (e i : ℤ) → unsigned_abs e ≤ 2 ^ 60 → unsigned_abs i ≤ 2 ^ 60 → FitsSigned w128 (e *ℤ i)

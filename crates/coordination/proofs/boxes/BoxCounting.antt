@@ -1,26 +1,45 @@
 -- The shells of a vertex are counted in a box.
-use Rattle.std.proofs.Common.{◌≡◌, ℕ, suc, ◌+◌, ◌-◌, ◌*◌, ◌<◌, ◌≤◌, ℤ, pos, ◌+ℤ◌, List, [], ◌∷◌, ◌++◌, length, set, drop, Bool, true, false, cond, refl, sym}
-use Rattle.std.proofs.Common.{ap, subst, ◌∙◌, arith, length-append}
-use Rattle.std.specs.Prelude.{unsigned_abs}
-use Rattle.std.proofs.lemmas.Int.{ints}
-use Rattle.std.proofs.Math.Seq.{drop-append_seam}
-use Rattle.std.proofs.lemmas.List.{length-map}
+use Rattle.std.proofs.Common.{◌≡◌, ◌⊎◌, inl, inr, ℕ, ◌+◌, ◌-◌, ◌<◌, ◌≤◌, List, [], ◌∷◌, ◌++◌, length, get_or, sym, subst, ap, ◌∙◌, arith, suc, ◌*◌, ℤ, pos}
+use Rattle.std.proofs.Common.{◌+ℤ◌, set, drop, Bool, true, false, cond, refl, length-append}
+use Rattle.std.proofs.lemmas.List.{get_or_append_left, length_push, length-map}
+use Rattle.std.proofs.{Math.Seq.get_or-append_seam, Math.Seq.drop-append_seam, lemmas.Int.ints}
 use Rattle.integers.specs.Vectors.{zero_vector}
+use Rattle.integers.proofs.numbers.Naturals.{at_most_next}
 use Rattle.integers.proofs.lists.Members.{AreApart, IsIn, is_in, pairs_from_apart}
-use Rattle.periodic_net.specs.Graph.{Graph, Vertex, vertex, AreJoined, IsQuotientVertex}
-use Rattle.coordination.specs.Boxes.{IsBoxOf, IsInside, above, origin_of, place_in, side, spot_in}
-use Rattle.coordination.specs.BoxSearches.{AreFoundAndMarked, IsFoundNext, IsNextShell, IsOpen, IsSearchable}
-use Rattle.coordination.specs.Expanding.{Expands}
-use Rattle.coordination.specs.Marks.{IsUnmarked, is_marked, marks_with, spots_with}
+use Rattle.periodic_net.specs.Graph.{Graph, IsQuotientVertex, vertex, Vertex, AreJoined}
+use Rattle.coordination.specs.BoxSearches.{AreFirstLists, AreFoundAndMarked, IsFoundNext, IsNextShell, IsOpen, IsSearchable}
 use Rattle.coordination.specs.Sequences.{AreShellsOf, most_shells, most_in_shells}
-use Rattle.coordination.specs.declared.extent.Extent.{Extent}
-use Rattle.coordination.specs.declared.net_box.NetBox.{NetBox}
-use Rattle.coordination.specs.declared.spot.Spot.{Spot}
+use Rattle.coordination.specs.Boxes.{IsBoxOf, IsInside, above, origin_of, place_in, side, spot_in}
+use Rattle.coordination.specs.Marks.{IsUnmarked, is_marked, marks_with, spots_with}
+use Rattle.coordination.specs.{Expanding.Expands, declared.extent.Extent.Extent, declared.net_box.NetBox.NetBox, declared.spot.Spot.Spot}
+use Rattle.std.specs.Prelude.{unsigned_abs}
 use Rattle.coordination.proofs.layers.Counting.{AreCounted, counted_past, counted_ten, counted_turn}
 use Rattle.coordination.proofs.layers.Layers.{and_on, start_layers}
-use Rattle.coordination.proofs.boxes.MarkedVertices.{found_more, spot_inside}
-use Rattle.coordination.proofs.boxes.Marking.{unmarked_marked}
+use Rattle.coordination.proofs.boxes.Marking.{found_more, spot_inside, unmarked_marked}
 use Rattle.coordination.proofs.layers.VertexShells.{some_vertex_shell, vertex_sizes, walk_of}
+
+-- The lists of the first vertices in cell 0.
+
+-- one list more
+pub lists_more : (P : Graph) (m : ℕ) (lists more : List (List ℕ)) (sizes : List ℕ) → AreFirstLists P m lists
+    → (IsQuotientVertex P (m + 1) → AreShellsOf P (vertex (m + 1) zero_vector) sizes) → more ≡ lists ++ sizes ∷ []
+    → AreFirstLists P (m + 1) more
+lists_more P m lists more sizes h s e = record {
+  count = ap length e ∙ length_push lists sizes ∙ ap (λ k. k + 1) h.count;
+  each = λ c i l. by c i (at_most_next c m l);
+}
+  where
+    by : (c : ℕ) → IsQuotientVertex P c → (c ≤ m) ⊎ (c ≡ m + 1) → AreShellsOf P (vertex c zero_vector) (get_or more (c - 1) [])
+    by c i (inl l) =
+        let low = i.0 in let count = h.count in
+        let before : c - 1 < length lists = omega (arith, l, count) in
+        let at = ap (λ ss. get_or ss (c - 1) []) e ∙ get_or_append_left lists (sizes ∷ []) [] (c - 1) before in
+        subst (AreShellsOf P (vertex c zero_vector)) (sym at) (h.each c i l)
+    by c i (inr q) =
+        let count = h.count in
+        let place : c - 1 ≡ length lists = omega (arith, q, count) in
+        let at = ap (λ ss. get_or ss (c - 1) []) e ∙ ap (λ j. get_or (lists ++ sizes ∷ []) j []) place ∙ get_or-append_seam lists sizes [] [] in
+        rw at (subst (λ d. AreShellsOf P (vertex d zero_vector) sizes) (sym q) (s (subst (IsQuotientVertex P) q i)))
 
 -- the vertex over c in cell 0
 abbrev pub start : ℕ → Vertex
@@ -48,7 +67,7 @@ start_place n c r =
         by : (t : ℤ) → t ≡ pos m → m ≡ unsigned_abs t
         by t e = sym (ap unsigned_abs e)
 
-module _ (P : Graph) (b : NetBox) (q : IsBoxOf P b) (c : ℕ) (i : IsQuotientVertex P c) where
+module _ {P : Graph} {b : NetBox} (q : IsBoxOf P b) (c : ℕ) (i : IsQuotientVertex P c) where
   -- it is in the box
   start_inside : IsInside P.vertices b.extent (start c)
   start_inside = record { low = i.0; high = i.1; cell = record { x = omega arith; y = omega arith; z = omega arith } }
@@ -76,8 +95,7 @@ module _ (P : Graph) (b : NetBox) (q : IsBoxOf P b) (c : ℕ) (i : IsQuotientVer
       total = omega arith;
       few = omega arith;
     };
-    is_found = subst (λ (ms : List Bool). AreFoundAndMarked P b (start c ∷ []) ms found') (sym marks_are)
-        (subst (AreFoundAndMarked P b (start c ∷ []) (set marks s.at true)) (sym found_are) alone);
+    is_found = rw (marks_are, found_are) alone;
     begin_is = refl;
   }
     where
@@ -101,7 +119,7 @@ module _ (P : Graph) (b : NetBox) (q : IsBoxOf P b) (c : ℕ) (i : IsQuotientVer
       alone = found_more P b q [] marks [] (start c)
           (record { size = size; inside = λ x k. absurd (is_in [] x k); spots = refl; marked = unmarked_marked marks none }) start_inside
 
-  module _ (sizes : List ℕ) (room begin : ℕ) (marks : List Bool) (found : List Spot) (h : IsCountedIn P b c sizes room begin marks found) where
+  module _ {sizes : List ℕ} {room begin : ℕ} {marks : List Bool} {found : List Spot} (h : IsCountedIn P b c sizes room begin marks found) where
     -- where the last shell begins
     begins : begin ≡ length h.counted.before
     begins = let e = ap length h.counted.found_is in let f = length-append h.counted.before h.shell in let g = h.begin_is in omega (arith, e, f, g)
@@ -125,7 +143,7 @@ module _ (P : Graph) (b : NetBox) (q : IsBoxOf P b) (c : ℕ) (i : IsQuotientVer
             let leads = and_on (AreJoined P) (length sizes) (start c) x y (h.counted.layers.outer x k) j in
             q.extent c (suc (length sizes)) y i (omega (arith, few)) (walk_of P (suc (length sizes)) (start c) y leads)
 
-    module _ (marks' : List Bool) (found' : List Spot) (n : IsFoundNext P b h.vertices begin room marks' found') where
+    module _ {marks' : List Bool} {found' : List Spot} (n : IsFoundNext P b h.vertices begin room marks' found') where
       -- as many more were found
       counted_size : length found' ≡ length found + length n.next
       counted_size =
@@ -139,7 +157,7 @@ module _ (P : Graph) (b : NetBox) (q : IsBoxOf P b) (c : ℕ) (i : IsQuotientVer
       -- with the next shell the total passes the limit
       pub counting_past : room < length n.next → AreShellsOf P (start c) sizes
       counting_past more =
-          vertex_sizes P (start c) sizes (counted_past (AreJoined P) (start c) sizes room h.vertices h.shell n.next h.counted
+          vertex_sizes P (start c) sizes (counted_past (AreJoined P) (start c) h.counted
           (subst (λ (xs : List Vertex). Expands (AreJoined P) room xs h.vertices n.next) shell_is n.expands) more
           (some_vertex_shell P (start c) (length sizes + 1)))
 
@@ -150,8 +168,7 @@ module _ (P : Graph) (b : NetBox) (q : IsBoxOf P b) (c : ℕ) (i : IsQuotientVer
       counting_turn sizes' size size' begin' few e fits same p l = record {
         vertices = h.vertices ++ n.next;
         shell = n.next;
-        counted = counted_turn (AreJoined P) (start c) sizes room h.vertices h.shell (drop begin h.vertices) n.next
-            (h.vertices ++ n.next) sizes' size size' h.counted shell_is n.expands refl few e fits same p;
+        counted = counted_turn (AreJoined P) (start c) h.counted shell_is n.expands refl few e fits same p;
         is_found = n.is_found;
         begin_is =
             let f = ap length h.is_found.spots in
@@ -172,8 +189,8 @@ module _ (P : Graph) (b : NetBox) (q : IsBoxOf P b) (c : ℕ) (i : IsQuotientVer
     next_counted k count below marks' found' next =
         let few : length sizes < most_shells = omega (arith, count, below) in
         let n = next P h.vertices (searchable few) in
-        record { few = few; shell = n; size = counted_size marks' found' n }
+        record { few = few; shell = n; size = counted_size n }
 
     -- ten shells were counted
     pub counting_ten : most_shells ≤ length sizes → AreShellsOf P (start c) sizes
-    counting_ten l = vertex_sizes P (start c) sizes (counted_ten (AreJoined P) (start c) sizes room h.vertices h.shell h.counted l)
+    counting_ten l = vertex_sizes P (start c) sizes (counted_ten (AreJoined P) (start c) h.counted l)

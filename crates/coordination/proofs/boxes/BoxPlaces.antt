@@ -1,13 +1,9 @@
 -- The numbers of the vertices of a box: each is below the size, no two are one, and along an arc the number grows as the step says.
 use Rattle.std.proofs.Common.{◌≡◌, ◌⊎◌, inl, inr, ℕ, ◌+◌, ◌-◌, ◌*◌, ◌<◌, ◌≤◌, ℤ, pos, negsuc, ◌+ℤ◌, ◌-ℤ◌, ◌*ℤ◌, refl, sym, ap, ◌∙◌, arith}
+use Rattle.std.proofs.{lemmas.Int.ints, Math.IntN.pos-*ℤ-pos, Math.Nat.mul-le-mul_left}
 use Rattle.std.specs.Prelude.{unsigned_abs}
-use Rattle.std.proofs.lemmas.Int.{ints}
-use Rattle.std.proofs.Math.IntN.{pos-*ℤ-pos}
-use Rattle.std.proofs.Math.Nat.{mul-le-mul_left}
 use Rattle.integers.specs.Vectors.{minus}
-use Rattle.integers.proofs.numbers.Ring.{ring, linear}
-use Rattle.integers.proofs.vectors.Laws.{vector_equal}
-use Rattle.integers.proofs.numbers.Naturals.{three_ways}
+use Rattle.integers.proofs.{numbers.Ring.ring, numbers.Ring.linear, vectors.Laws.vector_equal, numbers.Naturals.three_ways}
 use Rattle.periodic_net.specs.Graph.{arc, Vertex, vertex}
 use Rattle.coordination.specs.Boxes.{side, above, IsInside, size_of, place_in, growth_of}
 use Rattle.coordination.specs.declared.extent.Extent.{Extent}
@@ -52,8 +48,7 @@ module _ (n : ℕ) (r : Extent) where
   -- the number is below the size
   pub place_below : (x : Vertex) → IsInside n r x → place_in n r x < size_of n r
   place_below x h =
-      let low = h.low in
-      let high = h.high in
+      let low = h.low in let high = h.high in
       below n (x.over - 1) _ (side r.x * (side r.y * side r.z)) (omega arith)
       (below (side r.x) (above r.x x.cell.x) _ (side r.y * side r.z) (above_below r.x x.cell.x h.cell.x)
       (below (side r.y) (above r.y x.cell.y) (above r.z x.cell.z) (side r.z) (above_below r.y x.cell.y h.cell.y) (above_below r.z x.cell.z h.cell.z)))
@@ -61,10 +56,7 @@ module _ (n : ℕ) (r : Extent) where
   -- and determines the vertex
   pub place_once : (x y : Vertex) → IsInside n r x → IsInside n r y → place_in n r x ≡ place_in n r y → x ≡ y
   place_once x y h k e =
-      let low = h.low in
-      let high = h.high in
-      let low' = k.low in
-      let high' = k.high in
+      let low = h.low in let high = h.high in let low' = k.low in let high' = k.high in
       let first = digits_once n (x.over - 1) _ (y.over - 1) _ (omega arith) (omega arith) e in
       let second = digits_once (side r.x) (above r.x x.cell.x) _ (above r.x y.cell.x) _ (above_below r.x x.cell.x h.cell.x)
       (above_below r.x y.cell.x k.cell.x) first.1 in

@@ -1,23 +1,31 @@
 -- How far walks lead along an axis, round by round.
-use Rattle.std.proofs.Common.{◌≡◌, ◌⊎◌, inl, inr, ℕ, zero, suc, ◌+◌, ◌-◌, ◌*◌, ◌<◌, ◌≤◌, ℤ, pos, neg_ℤ, ◌+ℤ◌, ◌-ℤ◌, ◌≤ℤ◌, List, [], ◌∷◌, length, get_or, refl}
-use Rattle.std.proofs.Common.{sym, ap, subst, ◌∙◌, arith}
-use Rattle.std.specs.Prelude.{unsigned_abs}
-use Rattle.std.proofs.lemmas.Int.{ints}
-use Rattle.std.proofs.lemmas.List.{get_or_default}
+use Rattle.std.proofs.Common.{[], ◌∷◌, refl, subst, arith, ◌≡◌, ◌⊎◌, inl, inr, ℕ, zero, suc, ◌+◌, ◌-◌, ◌*◌, ◌<◌, ◌≤◌, ℤ, pos, neg_ℤ, ◌+ℤ◌, ◌-ℤ◌, ◌≤ℤ◌, List}
+use Rattle.std.proofs.Common.{length, get_or, sym, ap, ◌∙◌}
+use Rattle.std.proofs.lemmas.{Int.ints, List.get_or_default}
 use Rattle.integers.specs.Vectors.{Vector, zero_vector, minus}
-use Rattle.integers.proofs.lists.Members.{IsIn, is_in, contains_from_in}
-use Rattle.integers.proofs.numbers.Naturals.{before_or_at}
-use Rattle.periodic_net.specs.Graph.{Graph, IsGraph, IsQuotientVertex, Arc, arc, arcs, IsArc, reverse_of, Vertex, vertex, AreJoined, IsWalk}
-use Rattle.periodic_net.proofs.CallerLemmas.{arc_inside, either_way, joined_turned}
-use Rattle.coordination.specs.Extents.{IsExtent}
-use Rattle.coordination.specs.declared.extent.Extent.{Extent}
+use Rattle.integers.proofs.lists.Members.{IsIn, contains_from_in, is_in}
+use Rattle.integers.proofs.{lists.Filters.all_at, lists.Pieces.all_from_in, vectors.Laws.zero_plus, numbers.Naturals.before_or_at}
+use Rattle.periodic_net.specs.Graph.{Graph, IsGraph, IsEdge, Arc, arcs, vertex, IsQuotientVertex, arc, IsArc, reverse_of, Vertex, AreJoined, IsWalk}
+use Rattle.periodic_net.proofs.CallerLemmas.{edge_in, end_joined, end_of, arc_inside, either_way, joined_turned}
+use Rattle.coordination.specs.Extents.{AreShiftsWithin, IsCellWithin, IsExtent}
 use Rattle.coordination.specs.Far.{part_of, far_of, AreAtMost, IsRaised, AreFarther, AreFarAfter, IsFarthest}
-use Rattle.coordination.specs.declared.extent.TheConstants.{LONGEST}
-use Rattle.coordination.specs.declared.far.Axis.{Axis}
 use Rattle.coordination.specs.declared.far.Axis.TheVariants.{X, Y, Z}
-use Rattle.coordination.proofs.layers.Layers.{and_on}
-use Rattle.coordination.proofs.layers.StepShells.{Leads}
-use Rattle.coordination.proofs.layers.VertexShells.{leads_of, walk_of}
+use Rattle.coordination.specs.declared.{extent.Extent.Extent, extent.TheConstants.LONGEST, far.Axis.Axis}
+use Rattle.std.specs.Prelude.{unsigned_abs}
+use Rattle.coordination.proofs.layers.{Layers.and_on, Layers.Leads, VertexShells.leads_of, VertexShells.walk_of}
+
+-- An extent of the shells of all vertices has the shifts of the edges within.
+
+-- one step leads along each edge
+pub shifts_within : (P : Graph) (r : Extent) → IsGraph P → IsExtent P r → AreShiftsWithin P.edges r
+shifts_within P r g h = all_from_in (λ (e : Arc). IsCellWithin r e.shift) P.edges each
+  where
+    each : (e : Arc) → IsIn P.edges e → IsCellWithin r e.shift
+    each e i =
+        let edge = all_at (IsEdge P) P.edges e g.edges (contains_from_in P.edges e i) in
+        let w = vertex e.from zero_vector in
+        let joined = end_joined P w e (contains_from_in (arcs P) e (edge_in P.edges e i)) refl in
+        subst (λ (s : Vector). IsCellWithin r s) (zero_plus e.shift) (h e.from 1 (end_of w e) edge.from (omega arith) (end_of w e ∷ [], refl, (joined, refl)))
 
 -- what is at most a number is at most any that is no less
 at_most_more : (a : ℤ) (m n : ℕ) → a ≤ℤ pos m → m ≤ n → a ≤ℤ pos n
@@ -60,8 +68,7 @@ farther_more axis i edges far next0 next1 next2 next3 e a b h l s r p q t w = re
         let x = r.no_less u in
         let y = q.no_less u in
         at_most_more _ (get_or next1 u 0) (get_or next3 u 0) (h.back k d c n) (omega (arith, x, y))
-    back k d n (inr o) = subst (λ (f : Arc). (pos (far_of far f.from) -ℤ part_of axis f.shift) ≤ℤ pos (far_of next3 f.to)) (sym (here k d n o))
-        (subst (λ (z : ℤ). z ≤ℤ pos (far_of next3 e.to)) t q.raised)
+    back k d n (inr o) = rw (here k d n o) (subst (λ (z : ℤ). z ≤ℤ pos (far_of next3 e.to)) t q.raised)
 
     part : (n m : ℕ) (z : ℤ) → z ≡ pos n +ℤ part_of axis e.shift → n ≤ m → z ≤ℤ pos (m + LONGEST)
     part n m z f g = omega (arith, ints, f, w)
@@ -133,8 +140,7 @@ module _ (P : Graph) (g : IsGraph P) (axis : Axis) where
           let a = arc w.over v.over (minus v.cell w.cell) in
           let to = (arc_inside P g a k.0).to in
           let rest = h.walks (length vs) v x (omega (arith, l)) to (vs, refl, k.1) in
-          let first = subst (λ (s : ℤ). (pos (far_of far v.over) +ℤ s) ≤ℤ pos (far_of next w.over)) (part_minus axis v.cell w.cell)
-          (along_arcs far far next f a k.0) in
+          let first = rw (part_minus axis v.cell w.cell) at (along_arcs far far next f a k.0) in
           join (part_of axis x.cell) (part_of axis v.cell) (part_of axis w.cell) (far_of far v.over) (far_of next w.over) rest first
 
 -- a walk can be gone back

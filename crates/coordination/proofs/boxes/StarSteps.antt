@@ -1,17 +1,14 @@
 -- The steps from a vertex, edge by edge.
 use Rattle.std.proofs.Common.{◌≡◌, ◌≢◌, ◌⊎◌, inl, inr, ℕ, suc, ◌+◌, ◌-◌, ◌<◌, ◌≤◌, ℤ, pos, neg_ℤ, ◌+ℤ◌, ◌-ℤ◌, ◌*ℤ◌, List, [], ◌∷◌, ◌++◌, length, get_or, set}
 use Rattle.std.proofs.Common.{map, replicate, drop, Vec, Global, Bool, true, false, cond, refl, sym, ap, subst, ◌∙◌, arith, append_assoc, append-nil, drop-cons}
-use Rattle.std.proofs.lemmas.Bool.{cases_eq}
-use Rattle.std.specs.Prelude.{◌==◌}
-use Rattle.std.specs.List.{filter}
-use Rattle.std.proofs.lemmas.Grind.{common_steps}
 use Rattle.std.proofs.lemmas.List.{drop_all, get_or-map, get_or-replicate, get_or-set_other, get_or-set_same, length-replicate, length-set, map-set}
+use Rattle.std.proofs.lemmas.{Bool.cases_eq, Grind.common_steps}
+use Rattle.std.specs.{Prelude.◌==◌, List.filter}
 use Rattle.integers.specs.Vectors.{Vector}
 use Rattle.integers.proofs.numbers.Ring.{ring, linear}
 use Rattle.periodic_net.specs.Graph.{Graph, IsEdge, IsQuotientVertex, Arc, arc, both_ways, reverse_of}
 use Rattle.coordination.specs.Boxes.{AreStepsFromVertices, growth_of, side, step_of, steps_from, with_edge, with_step}
-use Rattle.coordination.specs.declared.extent.Extent.{Extent}
-use Rattle.coordination.specs.declared.spot.Step.{Step}
+use Rattle.coordination.specs.declared.{extent.Extent.Extent, spot.Step.Step}
 
 -- a list with one step more, if it starts here
 abbrev pub star_with : List Step → Bool → Step → List Step

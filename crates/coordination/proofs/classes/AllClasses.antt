@@ -1,10 +1,8 @@
 -- The lists of the first classes.
 use Rattle.std.proofs.Common.{◌≡◌, ◌⊎◌, inl, inr, ℕ, ◌+◌, ◌-◌, ◌<◌, List, [], ◌∷◌, ◌++◌, length, get_or, sym, subst, ap, ◌∙◌, refl, arith}
-use Rattle.std.proofs.Math.Seq.{get_or-append_seam}
-use Rattle.std.proofs.lemmas.List.{get_or_append_left, length_push}
+use Rattle.std.proofs.{Math.Seq.get_or-append_seam, lemmas.List.get_or_append_left, lemmas.List.length_push}
 use Rattle.integers.proofs.numbers.Naturals.{before_or_at}
-use Rattle.periodic_net.specs.Classes.{ClassGraph}
-use Rattle.periodic_net.specs.Graph.{IsGraph}
+use Rattle.periodic_net.specs.{Classes.ClassGraph, Graph.IsGraph}
 use Rattle.key_theory.specs.Key.{Shape}
 use Rattle.quotient_graph.specs.NetClasses.{NetClasses, AreClasses, class_at}
 use Rattle.coordination.specs.Sequences.{AreFirstSequences, AreShellsOfClass, AreSequencesOf}

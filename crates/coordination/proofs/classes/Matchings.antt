@@ -30,8 +30,7 @@ steps_carried G H g there back m k w x i l = (map there l.0, length-map l.0 ther
 module _ (G H : Graph) (g : IsGraph G) (h : IsGraph H) (there back : Vertex → Vertex) (m : IsMatching G H there back) (w : Vertex) (i : IsVertex G w) where
   -- steps from the image are carried back
   steps_back : (k : ℕ) (x : Vertex) → StepsLead H k (there w) x → StepsLead G k w (back x)
-  steps_back k x l = subst (λ (v : Vertex). StepsLead G k v (back x)) (m.back_there w i)
-      (steps_carried H G h back there (matching_turned G H there back m) k (there w) x (m.into w i) l)
+  steps_back k x l = rw (m.back_there w i) at (steps_carried H G h back there (matching_turned G H there back m) k (there w) x (m.into w i) l)
 
   -- a vertex of a shell of the image comes from one of the shell
   shell_back : (k : ℕ) (x : Vertex) → IsInShell H (there w) k x → IsInShell G w k (back x)
@@ -69,8 +68,7 @@ module _ (G H : Graph) (g : IsGraph G) (h : IsGraph H) (there back : Vertex → 
       into : (x : Vertex) → IsInShell G w k x → IsIn (map back s.members) x
       into x q =
           let v = walk_inside G g q.reached.0 w x i q.reached.2 in
-          subst (IsIn (map back s.members)) (m.back_there x v) (map_in back s.members (there x)
-          (is_in s.members (there x) ((s.exact (there x)).1 (shell_there k x q))))
+          rw (m.back_there x v) at (map_in back s.members (there x) (is_in s.members (there x) ((s.exact (there x)).1 (shell_there k x q))))
 
       apart : (xs : List Vertex) → ((x : Vertex) → IsIn xs x → IsVertex H x) → AreApart xs → AreApart (map back xs)
       apart [] v a = tt
@@ -81,12 +79,7 @@ module _ (G H : Graph) (g : IsGraph G) (h : IsGraph H) (there back : Vertex → 
 
   -- so the lists are the same
   pub sizes_back : (sizes : List ℕ) → AreShellsOf H (there w) sizes → AreShellsOf G w sizes
-  sizes_back sizes s = record {
-    each = λ k l. size_back (k + 1) _ (s.each k l);
-    within = s.within;
-    few = s.few;
-    ends = by s.ends;
-  }
+  sizes_back sizes s = record { each = λ k l. size_back (k + 1) _ (s.each k l); within = s.within; few = s.few; ends = by s.ends }
     where
       by : (length sizes ≡ most_shells) ⊎ IsShellPast H (there w) (length sizes + 1) (sum sizes)
           → (length sizes ≡ most_shells) ⊎ IsShellPast G w (length sizes + 1) (sum sizes)

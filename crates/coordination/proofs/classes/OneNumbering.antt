@@ -2,8 +2,7 @@
 use Rattle.std.proofs.Common.{◌≡◌, ◌⊎◌, inl, inr, ℕ, zero, suc, ◌+◌, ◌<◌, ◌≤◌, sym, subst, ◌∙◌, arith}
 use Rattle.integers.proofs.numbers.Naturals.{three_ways}
 use Rattle.periodic_net.specs.Classes.{ClassGraph, IsClassNumbering, IsClassGraph}
-use Rattle.periodic_net.specs.Graph.{Graph, IsQuotientVertex}
-use Rattle.periodic_net.specs.Placement.{Placement}
+use Rattle.periodic_net.specs.{Graph.Graph, Graph.IsQuotientVertex, Placement.Placement}
 
 module _ (G : Graph) (p : Placement) where
   -- where two numberings agree before u, the one is not below the other at u

@@ -1,14 +1,11 @@
 -- The shells are counted one after the other.
 use Rattle.std.proofs.Common.{◌≡◌, ◌⊎◌, inl, inr, ℕ, ◌+◌, ◌-◌, ◌<◌, ◌≤◌, List, [], ◌∷◌, ◌++◌, length, get_or, sum, refl, sym, ap, subst, ◌∙◌, arith}
 use Rattle.std.proofs.Common.{length-append}
-use Rattle.std.proofs.lemmas.List.{get_or_append_left}
-use Rattle.std.proofs.lemmas.List.Sums.{sum_by_push}
+use Rattle.std.proofs.lemmas.{List.get_or_append_left, List.Sums.sum_by_push}
 use Rattle.std.specs.Prelude.{slice_index_or}
-use Rattle.coordination.specs.Expanding.{Expands}
-use Rattle.coordination.specs.Sequences.{most_shells, most_in_shells}
+use Rattle.coordination.specs.{Expanding.Expands, Sequences.most_shells, Sequences.most_in_shells}
 use Rattle.integers.proofs.lists.ApartPieces.{no_longer}
-use Rattle.coordination.proofs.layers.Layers.{layer_is_shell, next_inside, next_layers}
-use Rattle.coordination.proofs.layers.StepShells.{AreShell, AreLayers}
+use Rattle.coordination.proofs.layers.Layers.{layer_is_shell, next_inside, next_layers, AreShell, AreLayers}
 
 module _ {X : Type 0} (Step : X → X → Type 0) (s : X) where
   -- shell k has this size
@@ -53,7 +50,7 @@ last_is [] x = refl
 last_is (y ∷ ys) x = last_is ys x
 
 module _ {X : Type 0} (Step : X → X → Type 0) (s : X) where
-  module _ (sizes : List ℕ) (room : ℕ) (found shell next : List X) (h : AreCounted Step s sizes room found shell) (x : Expands Step room shell found next) where
+  module _ {sizes : List ℕ} {room : ℕ} {found shell next : List X} (h : AreCounted Step s sizes room found shell) (x : Expands Step room shell found next) where
     -- the same, of the layers
     expands : Expands Step room shell (h.before ++ shell) next
     expands = subst (λ xs. Expands Step room shell xs next) h.found_is x
@@ -85,8 +82,7 @@ module _ {X : Type 0} (Step : X → X → Type 0) (s : X) where
         each : (k : ℕ) → (k < length sizes) ⊎ (length sizes ≡ k) → HasSize Step s (length sizes + 1) (length next)
             → HasSize Step s (k + 1) (get_or (sizes ++ length next ∷ []) k 0)
         each k (inl b) n = subst (HasSize Step s (k + 1)) (sym (get_or_append_left sizes (length next ∷ []) 0 k b)) (h.each k b)
-        each k (inr q) n = subst (λ j. HasSize Step s (j + 1) (get_or (sizes ++ length next ∷ []) j 0)) q
-            (subst (HasSize Step s (length sizes + 1)) (sym (last_is sizes (length next))) n)
+        each k (inr q) n = rw q at (subst (HasSize Step s (length sizes + 1)) (sym (last_is sizes (length next))) n)
 
     -- with the next shell the total passes the limit
     pub counted_past : room < length next → (whole : List X) × AreShell Step s (length sizes + 1) whole → AreSizes Step s sizes
@@ -94,17 +90,12 @@ module _ {X : Type 0} (Step : X → X → Type 0) (s : X) where
         let total = h.total in
         let some = next_inside Step s (length sizes) h.before shell h.layers room next expands in
         let few = no_longer next whole.0 some.once (λ p i. (whole.1.exact p).1 (some.inside p i)) in
-        record {
-          each = h.each;
-          within = omega arith;
-          few = h.few;
-          ends = inr (record { members = whole.0; shell = whole.1; past = omega arith });
-        }
+        record { each = h.each; within = omega arith; few = h.few; ends = inr (record { members = whole.0; shell = whole.1; past = omega arith }) }
 
   -- ten shells were counted
-  pub counted_ten : (sizes : List ℕ) (room : ℕ) (found shell : List X) → AreCounted Step s sizes room found shell → most_shells ≤ length sizes
+  pub counted_ten : {sizes : List ℕ} {room : ℕ} {found shell : List X} → AreCounted Step s sizes room found shell → most_shells ≤ length sizes
       → AreSizes Step s sizes
-  counted_ten sizes room found shell h l = let total = h.total in let few = h.few in record {
+  counted_ten h l = let total = h.total in let few = h.few in record {
     each = h.each;
     within = omega arith;
     few = h.few;
@@ -112,15 +103,13 @@ module _ {X : Type 0} (Step : X → X → Type 0) (s : X) where
   }
 
 -- a turn of the loop
-pub counted_turn : {X : Type 0} (Step : X → X → Type 0) (s : X) (sizes : List ℕ) (room : ℕ) (found shell lent next found' : List X) (sizes' : List ℕ)
-    (size size' : ℕ) → AreCounted Step s sizes room found shell
+pub counted_turn : {X : Type 0} (Step : X → X → Type 0) (s : X) {sizes : List ℕ} {room : ℕ} {found shell lent next found' : List X} {sizes' : List ℕ}
+    {size size' : ℕ} → AreCounted Step s sizes room found shell
     → lent ≡ shell → Expands Step room lent found next → found' ≡ found ++ next → length sizes < most_shells → size ≡ length next → size ≤ room → size' ≡ size
     → sizes' ≡ sizes ++ size' ∷ []
     → AreCounted Step s sizes' (room - size) found' next
-counted_turn Step s sizes room found shell lent next found' sizes' size size' h e x f few n fits m p =
-    let t = counted_more Step s sizes room found shell next h (subst (λ xs. Expands Step room xs found next) e x) few (subst (λ k. k ≤ room) n fits) found' f in
-    subst (λ xs. AreCounted Step s xs (room - size) found' next) (sym (p ∙ ap (λ k. sizes ++ k ∷ []) (m ∙ n)))
-    (subst (λ k. AreCounted Step s (sizes ++ length next ∷ []) (room - k) found' next) (sym n) t)
+counted_turn Step s {sizes} {room} {found} {shell} {lent} {next} {found'} h e x f few n fits m p =
+    rw (p, m, n) (counted_more Step s h (subst (λ xs. Expands Step room xs found next) e x) few (subst (λ k. k ≤ room) n fits) found' f)
 
 -- a list with one number more
 pub grown : (sizes sizes' : List ℕ) (size k : ℕ) → sizes' ≡ sizes ++ size ∷ [] → length sizes ≡ k → length sizes' ≡ k + 1

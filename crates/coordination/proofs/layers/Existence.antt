@@ -3,11 +3,9 @@ use Rattle.std.proofs.Common.{◌≡◌, ℕ, zero, suc, ◌+◌, List, [], ◌�
 use Prim.{Dec}
 use Rattle.std.specs.List.{flat_map}
 use Rattle.integers.proofs.lists.Members.{IsIn, AreApart, is_in, contains_from_in, pairs_from_apart}
-use Rattle.integers.proofs.lists.Pieces.{in_pieces, pieces_in}
+use Rattle.integers.proofs.lists.{Pieces.in_pieces, Pieces.pieces_in, GrownLists.some_grown}
 use Rattle.coordination.specs.Expanding.{Expands}
-use Rattle.integers.proofs.lists.GrownLists.{some_grown}
-use Rattle.coordination.proofs.layers.Layers.{start_layers, next_layers, layer_is_shell}
-use Rattle.coordination.proofs.layers.StepShells.{AreLayers, AreShell}
+use Rattle.coordination.proofs.layers.Layers.{start_layers, next_layers, layer_is_shell, AreLayers, AreShell}
 
 -- exactly what steps lead to from each x
 pub record AreNeighbours {X : Type 0} (Step : X → X → Type 0) (neighbours : X → List X) : Type 0 where
@@ -53,8 +51,7 @@ module _ {X : Type 0} (Step : X → X → Type 0) (same : (x y : X) → Dec (x �
           record {
             before = l.before ++ l.shell;
             shell = x.next;
-            layers = subst (λ n. AreLayers Step s n (l.before ++ l.shell) x.next) more
-                (next_layers Step s k l.before l.shell l.layers (length x.next) x.next x.expands (omega arith));
+            layers = rw more at (next_layers Step s k l.before l.shell l.layers (length x.next) x.next x.expands (omega arith));
           }
 
   -- each shell can be listed

@@ -1,13 +1,10 @@
 -- A vertex has one list of sizes.
 use Rattle.std.proofs.Common.{◌≡◌, ◌⊎◌, inl, inr, ℕ, suc, ◌+◌, ◌<◌, ◌≤◌, List, [], ◌∷◌, length, take, get_or, sum, refl, ap, subst, ◌∙◌, arith}
-use Rattle.std.proofs.lemmas.List.{take_all}
-use Rattle.std.proofs.lemmas.List.Sums.{sum_by_more, sum_by-take-le}
+use Rattle.std.proofs.lemmas.{List.take_all, List.Sums.sum_by_more, List.Sums.sum_by-take-le}
 use Rattle.integers.proofs.lists.Members.{IsIn, AreApart, is_in, contains_from_in, apart_from_pairs}
-use Rattle.integers.proofs.numbers.Naturals.{three_ways}
-use Rattle.periodic_net.specs.Graph.{Graph, Vertex}
-use Rattle.periodic_net.specs.Shells.{IsInShell, IsShellSize}
+use Rattle.integers.proofs.{numbers.Naturals.three_ways, lists.ApartPieces.no_longer}
+use Rattle.periodic_net.specs.{Graph.Graph, Graph.Vertex, Shells.IsInShell, Shells.IsShellSize}
 use Rattle.coordination.specs.Sequences.{IsShellPast, AreShellsOf, most_shells}
-use Rattle.integers.proofs.lists.ApartPieces.{no_longer}
 
 -- lists that are equal place by place, as far as the first goes
 beginning : (xs ys : List ℕ) → length xs ≤ length ys → ((k : ℕ) → k < length xs → get_or xs k 0 ≡ get_or ys k 0) → xs ≡ take (length xs) ys
@@ -23,8 +20,7 @@ module _ (G : Graph) (w : Vertex) where
 
   -- a size of a shell is at most any other
   size_at_most : (k m n : ℕ) → IsShellSize G w k m → IsShellSize G w k n → m ≤ n
-  size_at_most k m n s t = subst (λ l. l ≤ n) s.count (at_most k n s.members (apart_from_pairs s.members s.once)
-      (λ x i. (s.exact x).0 (contains_from_in s.members x i)) t)
+  size_at_most k m n s t = rw s.count at (at_most k n s.members (apart_from_pairs s.members s.once) (λ x i. (s.exact x).0 (contains_from_in s.members x i)) t)
 
   -- a shell has one size
   one_size : (k m n : ℕ) → IsShellSize G w k m → IsShellSize G w k n → m ≡ n
@@ -47,8 +43,7 @@ module _ (G : Graph) (w : Vertex) where
             let same = ap sum (begins (omega arith)) in
             let next = sum_by_more (λ m. m) ys n 0 l in
             let part = sum_by-take-le (λ m. m) ys (n + 1) in
-            let within = k.within in
-            let past = p.past in
+            let within = k.within in let past = p.past in
             omega (arith, few, same, next, part, within, past)
 
   -- so both are one

@@ -1,11 +1,38 @@
 -- A search of a shell goes on by one member, and ends.
-use Rattle.std.proofs.Common.{◌≡◌, ◌⊎◌, inl, inr, ℕ, ◌<◌, ◌≤◌, List, [], ◌∷◌, ◌++◌, take, length, refl, sym, ap, subst, ◌∙◌, arith, append_assoc, append-nil}
-use Rattle.std.proofs.lemmas.List.{take_all}
-use Rattle.integers.proofs.lists.Members.{IsIn, AreApart, is_in, contains_from_in, apart_from_pairs, pairs_from_apart}
-use Rattle.integers.proofs.lists.Pieces.{in_append, append_left, append_right, in_take}
-use Rattle.coordination.specs.Expanding.{Expands, StandOnce}
+use Rattle.std.proofs.Common.{List, subst, ◌≡◌, ◌⊎◌, inl, inr, ℕ, ◌<◌, ◌≤◌, [], ◌∷◌, ◌++◌, take, length, refl, sym, ap, ◌∙◌, arith, append_assoc, append-nil}
+use Rattle.std.proofs.lemmas.{Bool.Decides.Decides-eqb, List.take_all}
+use Rattle.std.specs.Prelude.{◌==◌}
+use Rattle.integers.proofs.lists.Members.{IsIn, is_in, contains_from_in, AreApart, apart_from_pairs, pairs_from_apart}
+use Rattle.integers.proofs.lists.Pieces.{in_map, map_in, in_append, append_left, append_right, in_take}
+use Rattle.integers.proofs.lists.{Filters.in_filter, Filters.filter_in, GrownLists.Grows}
+use Rattle.periodic_net.specs.Classes.{ClassGraph, ClassArc}
+use Rattle.quotient_graph.specs.ClassNets.{arcs_of}
+use Rattle.coordination.specs.Points.{along, ends_of, IsStep}
+use Rattle.coordination.specs.{declared.point.Point.Point, Expanding.Expands, Expanding.StandOnce}
 use Rattle.coordination.proofs.layers.Existence.{AreNeighbours}
-use Rattle.integers.proofs.lists.GrownLists.{Grows}
+
+-- The points to which steps lead from a point.
+
+-- the points to which the arcs from the class of p lead from p
+abbrev pub neighbours : ClassGraph → Point → List Point
+neighbours K p = ends_of p (arcs_of K p.class)
+
+-- a step leads to each of these
+pub neighbour_step : (K : ClassGraph) (p q : Point) → IsIn (neighbours K p) q → IsStep K p q
+neighbour_step K p q i =
+    let m = in_map (along p) (arcs_of K p.class) q i in
+    let r = in_filter (λ (a : ClassArc). a.from == p.class) K.arcs m.0 m.1 in
+    record { arc = m.0; is_arc = contains_from_in K.arcs m.0 r.0; from = (Decides-eqb m.0.from p.class).0 r.1; onto = m.2 }
+
+-- each step leads to one of these
+pub step_neighbour : (K : ClassGraph) (p q : Point) → IsStep K p q → IsIn (neighbours K p) q
+step_neighbour K p q t =
+    rw t.onto at (map_in (along p) (arcs_of K p.class) t.arc (filter_in (λ (a : ClassArc). a.from == p.class) K.arcs t.arc (is_in K.arcs t.arc t.is_arc)
+    ((Decides-eqb t.arc.from p.class).1 t.from)))
+
+-- these are all
+pub points_around : (K : ClassGraph) → AreNeighbours (IsStep K) (neighbours K)
+points_around K = record { each = neighbour_step K; every = step_neighbour K }
 
 -- all steps were made from what is done; next has what they lead to and was not found before
 pub record AreSearched {X : Type 0} (Step : X → X → Type 0) (done before found next : List X) : Type 0 where

@@ -1,14 +1,29 @@
 -- Shells of vertices, along the steps of a net.
-use Rattle.std.proofs.Common.{◌≡◌, ◌⊎◌, inl, inr, ℕ, zero, suc, ◌+◌, List, [], ◌∷◌, length, sum, refl, ap, subst}
-use Rattle.integers.proofs.lists.Members.{is_in, contains_from_in, pairs_from_apart}
-use Rattle.periodic_net.specs.Graph.{Graph, Vertex, AreJoined, IsWalk}
+use Rattle.std.proofs.Common.{List, map, refl, subst, ◌≡◌, ◌⊎◌, inl, inr, ℕ, zero, suc, ◌+◌, [], ◌∷◌, length, sum, ap}
+use Rattle.integers.proofs.lists.Members.{IsIn, is_in, contains_from_in, pairs_from_apart}
+use Rattle.integers.proofs.lists.Pieces.{in_map, map_in}
+use Rattle.periodic_net.specs.Graph.{Graph, Vertex, AreJoined, arcs_from, IsWalk}
 use Rattle.periodic_net.specs.Shells.{StepsLead, IsInShell, IsShellSize}
-use Rattle.periodic_net.proofs.CallerLemmas.{vertex_decided}
+use Rattle.periodic_net.proofs.CallerLemmas.{arc_between, arc_is_from, end_between, end_joined, end_of, from_is_arc, vertex_decided}
+use Rattle.coordination.proofs.layers.Layers.{Leads, IsShell, AreShell}
+use Rattle.coordination.proofs.layers.{Existence.AreNeighbours, Existence.some_shell, Counting.AreSizes, Counting.IsPast}
 use Rattle.coordination.specs.Sequences.{AreShellsOf, IsShellPast, most_shells}
-use Rattle.coordination.proofs.layers.Counting.{AreSizes, IsPast}
-use Rattle.coordination.proofs.layers.Ends.{ends, vertices_around}
-use Rattle.coordination.proofs.layers.Existence.{some_shell}
-use Rattle.coordination.proofs.layers.StepShells.{Leads, IsShell, AreShell}
+
+-- The vertices to which the arcs from a vertex lead.
+
+-- the ends of the arcs from x
+abbrev pub ends : Graph → Vertex → List Vertex
+ends P x = map (end_of x) (arcs_from P x.over)
+
+-- these are all that x is joined to
+pub vertices_around : (P : Graph) → AreNeighbours (AreJoined P) (ends P)
+vertices_around P = record {
+  each = λ x y i.
+      let m = in_map (end_of x) (arcs_from P x.over) y i in
+      let r = from_is_arc P x.over m.0 m.1 in
+      subst (AreJoined P x) m.2 (end_joined P x m.0 r.0 r.1);
+  every = λ x y j. rw (end_between x y) at (map_in (end_of x) (arcs_from P x.over) (arc_between x y) (arc_is_from P x.over (arc_between x y) j refl));
+}
 
 module _ (P : Graph) where
   -- each shell of a vertex can be listed

@@ -1,13 +1,12 @@
 -- What a search finds with more points.
 use Rattle.std.proofs.Common.{◌≡◌, Bool, true, false, cond, ◌&&◌, ◌==◌, List, [], ◌∷◌, ◌++◌, refl, sym, ap}
-use Prim.{Dec, yes, no}
-use Rattle.std.specs.Bool.{Decides}
-use Rattle.std.specs.Ordering.{int_eq}
 use Rattle.std.proofs.lemmas.Bool.Decides.{Decides-eqb, Decides-int_eq, Decides-and, Decides-or, Decides-like, not_from_Decides}
+use Prim.{Dec, yes, no}
+use Rattle.std.specs.{Bool.Decides, Ordering.int_eq}
 use Rattle.integers.proofs.lists.Members.{IsIn}
+use Rattle.integers.proofs.lists.GrownLists.{Grows, grows_none, grows_old, grows_new}
 use Rattle.coordination.specs.Found.{same_point, is_found, all_found, all_new}
 use Rattle.coordination.specs.declared.point.Point.{Point}
-use Rattle.integers.proofs.lists.GrownLists.{Grows, grows_none, grows_old, grows_new}
 
 -- equal in each part
 abbrev Parts : Point → Point → Type 0

@@ -1,8 +1,7 @@
 -- What the arcs of a vertex lead, as values modulo m.
 use Rattle.std.proofs.Common.{◌≡◌, ℕ, List, [], ◌∷◌, ap, sym, refl, ◌∙◌, arith}
 use Rattle.std.specs.Prelude.{ℤ, pos, ◌+ℤ◌, ◌-ℤ◌, ◌*ℤ◌, map}
-use Rattle.integers.specs.Lists.{total}
-use Rattle.integers.specs.Staircase.{part}
+use Rattle.integers.specs.{Lists.total, Staircase.part}
 use Rattle.integers.proofs.numbers.Ring.{ring, linear}
 use Rattle.periodic_net.specs.Graph.{Graph, Arc, arcs_from}
 use Rattle.exact.specs.Ratio.{Ratio, Same, ratio_plus, ratio_minus, whole}
@@ -10,8 +9,7 @@ use Rattle.exact.specs.Values.{CanCancel}
 use Rattle.exact.proofs.CallerLemmas.{one_cancels, plus_cancels, product_cancels, Value, class, formal, plus_value, whole_value, values, class_same, class_plus}
 use Rattle.exact.proofs.CallerLemmas.{class_whole}
 use Rattle.elimination.specs.Equations.{ratio_sum, arc_gain, IsAtMean}
-use Rattle.elimination.proofs.theory.Divides.{same_of_class}
-use Rattle.elimination.proofs.theory.ListSums.{sum_over, over_plus}
+use Rattle.elimination.proofs.theory.{Divides.same_of_class, Semirings.sum_over, Semirings.over_plus}
 
 -- the denominator of a difference
 pub minus_cancels : {m : ℕ} (a b : Ratio) → CanCancel m (pos a.den) → CanCancel m (pos b.den) → CanCancel m (pos (ratio_minus a b).den)
@@ -65,8 +63,7 @@ module _ (m : ℕ) where
   module _ (c : ℕ) (p : ℕ → Ratio) (h : (u : ℕ) → CanCancel m (pos (p u).den)) where
     -- the denominator of a gain
     pub gain_cancels : (a : Arc) → CanCancel m (pos (arc_gain p c a).den)
-    gain_cancels a = minus_cancels (ratio_plus (p a.to) (whole (part c a.shift))) (p a.from)
-        (plus_cancels (p a.to) (whole (part c a.shift)) (h a.to) one_cancels) (h a.from)
+    gain_cancels a = search (arith, minus_cancels, plus_cancels, one_cancels)
 
     -- where a vertex stands, as a value
     abbrev pub stand : ℕ → Value m

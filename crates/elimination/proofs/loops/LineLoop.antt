@@ -1,17 +1,41 @@
 -- How far the lines of a level have come.
-use Rattle.std.proofs.Common.{◌≡◌, ◌≢◌, ℕ, zero, suc, arith, ◌+◌, ◌<◌, ◌≤◌, List, ◌∷◌, ◌++◌, length, get_or, ap, ◌∙◌, sym, refl, subst, ⊎_elim}
+use Rattle.std.proofs.Common.{◌≡◌, ℕ, arith, ◌+◌, ◌≤◌, List, [], ◌∷◌, ◌++◌, length, sym, subst, ⊎_elim, zero, suc, ◌<◌, get_or, ap, ◌∙◌, refl}
+use Rattle.std.proofs.{Math.ListN.set, lemmas.List.get_or-set_same, lemmas.List.get_or-set_other, lemmas.List.Elements.All-contains}
+use Rattle.std.proofs.{lemmas.List.Elements.Contains-append_right, lemmas.Bool.cases_eq}
 use Rattle.std.specs.Global.{Vec}
-use Rattle.std.proofs.Math.ListN.{set}
-use Rattle.std.proofs.lemmas.List.{get_or-set_same, get_or-set_other}
-use Rattle.std.proofs.lemmas.List.Elements.{All-contains, Contains-append_right}
-use Rattle.std.proofs.lemmas.Bool.{cases_eq}
-use borrow.Author.Count.{below_more}
 use Rattle.exact.specs.Ratio.{Ratio, HasInverse}
 use Rattle.vecdim.specs.declared.rows.Row.{Row}
+use Rattle.periodic_net.specs.Graph.{Graph}
 use Rattle.elimination.specs.Listed.{Level, Entry, place, over_entry, list_to, pivot_sum, weight_entry, shift_entry, row_entries}
+use Rattle.elimination.specs.Lines.{IsUpperWeights, IsRow, AreRowsOfValues, AreWeights, AreWide, AreArcWeights, level_with, IsUpperLine, AreLines}
 use Rattle.elimination.specs.Faults.{IsGood, AreGood}
-use Rattle.elimination.specs.Lines.{IsUpperWeights, IsRow, AreRowsOfValues, IsUpperLine, AreWeights, AreLines, AreWide}
-use Rattle.elimination.proofs.steps.Rows.{AreLeft}
+use Rattle.elimination.proofs.steps.Rows.{get_pushed, AreLeft}
+use borrow.Author.Count.{below_more}
+
+-- Weights and rows that are made one after another.
+
+-- one row more
+pub rows_pushed : {N : Type 0} {D : ℕ} (m : ℕ) (value : N → Ratio) (xs : List (Row N D)) (x : Row N D) (p : ℕ → ℕ → Ratio) (n : ℕ) → length xs ≡ n
+    → AreRowsOfValues m value xs p n → IsRow m value x (p n) → AreRowsOfValues m value (xs ++ (x ∷ [])) p (n + 1)
+rows_pushed m value xs x p n count h s = record {
+  has = λ i d b. ⊎_elim
+      (λ q. subst (λ t. IsRow m value t (p i)) (sym q.1) (h.has i d q.0))
+      (λ q. subst (λ t. IsRow m value t (p i)) (sym q.1) (subst (λ k. IsRow m value x (p k)) (sym q.0) s)) (get_pushed xs x d i n count b);
+}
+
+module _ {N : Type 0} (xs : List (Vec N)) (x : Vec N) (width n : ℕ) (count : length xs ≡ n) where
+  pub wide_pushed : AreWide xs width n → width ≤ length x.items + (n + 1) → AreWide (xs ++ (x ∷ [])) width (n + 1)
+  wide_pushed h l = grind (arith, get_pushed)
+
+  -- the weights of one vertex more
+  pub weights_of_pushed : (m : ℕ) (value : N → Ratio) (l : Level) → AreWeights m value xs l width n → IsUpperWeights m value x.items l width n
+      → AreWeights m value (xs ++ (x ∷ [])) l width (n + 1)
+  weights_of_pushed m value l h s = search (arith, get_pushed)
+
+-- the arcs of a vertex are its weights
+pub weights_are : {N : Type 0} (m : ℕ) (value : N → Ratio) (xs : List N) (G : Graph) (i : ℕ) (b : ℕ → ℕ → Ratio) → AreArcWeights m value xs G (i + 1)
+    → IsUpperWeights m value xs (level_with G b) G.vertices i
+weights_are m value xs G i b h = record { has = λ j d o l. h.has j d (omega (arith, o)) l }
 
 -- one row more is replaced
 pub rows_set : {N : Type 0} {D : ℕ} (m : ℕ) (value : N → Ratio) (xs : List (Row N D)) (x : Row N D) (p : ℕ → ℕ → Ratio) (i : ℕ) → i < length xs
@@ -24,12 +48,7 @@ rows_set m value xs x p i within h s = record {
 
 module _ {N : Type 0} (xs : List (Vec N)) (x : Vec N) (i : ℕ) (within : i < length xs) where
   pub wide_set : (n count : ℕ) → AreWide xs n count → n ≤ length x.items + (i + 1) → AreWide (set xs i x) n count
-  wide_set n count h l = record {
-    wide = λ p d b. ⊎_elim
-        (λ (e : p ≡ i). subst (λ q. n ≤ length (get_or (set xs i x) q d).items + (q + 1)) (sym e)
-        (subst (λ t. n ≤ length t.items + (i + 1)) (sym (get_or-set_same xs i x d within)) l))
-        (λ (o : p ≢ i). subst (λ t. n ≤ length t.items + (p + 1)) (sym (get_or-set_other xs i p x d o)) (h.wide p d b)) (cases_eq p i);
-  }
+  wide_set n count h l = search (arith, set, get_or-set_same, get_or-set_other, cases_eq)
 
   -- one list of weights more is replaced
   pub weights_of_set : (m : ℕ) (value : N → Ratio) (l : Level) (n : ℕ) → AreWeights m value xs l n i → IsUpperWeights m value x.items l n i

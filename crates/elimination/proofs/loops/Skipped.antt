@@ -1,24 +1,49 @@
 -- A vertex without weight with the last one: its factor is 0, and its line stays as it is.
-use Rattle.std.proofs.Common.{rules, ◌≡◌, ◌≢◌, ℕ, zero, suc, pos, arith, ◌+◌, ◌-◌, ◌<◌, ◌≤◌, ◌==◌, if◌then◌else◌, true, false, List, [], ◌∷◌, ◌++◌, length}
-use Rattle.std.proofs.Common.{get_or, ◌⊎◌, ⊎_elim, eq-eqb}
-use Rattle.std.proofs.lemmas.Bool.{cases_eq, cases_lt}
+use Rattle.std.proofs.Common.{ℕ, ◌+◌, add-one, ◌≡◌, pos, ◌<◌, ◌⊎◌, rules, ◌≢◌, zero, suc, arith, ◌-◌, ◌≤◌, ◌==◌, if◌then◌else◌, true, false, List, [], ◌∷◌}
+use Rattle.std.proofs.Common.{◌++◌, length, get_or, ⊎_elim, eq-eqb, ◌∙◌}
+use Rattle.std.proofs.{lemmas.Bool.cases_eq, lemmas.Bool.cases_lt, Math.ListN.set, lemmas.List.get_or-set_other}
+use Rattle.exact.specs.Ratio.{Ratio, HasInverse, ratio_plus, ratio_times}
+use Rattle.exact.specs.Values.{HasValue, CanCancel}
+use Rattle.elimination.specs.Listed.{Level, place, sum_to, sum_entry, back_sum, back_entry, Entry, term_entries, over_entry, list_to, pivot_sum, factor}
+use Rattle.elimination.specs.Listed.{next_level, weight_entry, shift_entry, row_entries}
+use Rattle.elimination.specs.Lines.{IsNought, IsRow, IsSymmetric, IsUpperWeights, IsUpperLine, AreLines}
+use Rattle.elimination.specs.{Faults.AreGood, declared.place.Place.Place}
+use Rattle.elimination.proofs.steps.Numbers.{Laws, add_zero, nought_added, own_cancels, value_fits, right_zero}
+use Rattle.elimination.proofs.steps.Rows.{narrow_line, AreLeft, value_at}
+use Rattle.elimination.proofs.steps.Firsts.{good_flat, good_three, good_none, good_one, good_append}
+use Rattle.elimination.proofs.steps.Symmetry.{good_part, own_weight, turned_good}
+use Rattle.elimination.proofs.{steps.RightRows.part_has, loops.LineLoop.pivot_inverse}
+use Rattle.vecdim.specs.declared.rows.Row.{Row}
 use borrow.Author.Count.{below_more}
 use Rattle.std.specs.Global.{Vec}
-use Rattle.exact.specs.Ratio.{Ratio, HasInverse, ratio_plus, ratio_times}
-use Rattle.exact.specs.Values.{CanCancel, HasValue}
 use Rattle.exact.proofs.CallerLemmas.{same_refl, same_sym, same_trans, one_cancels, zero_times, over_like}
-use Rattle.vecdim.specs.declared.rows.Row.{Row}
-use Rattle.elimination.specs.declared.place.Place.{Place}
-use Rattle.elimination.specs.Listed.{Level, Entry, place, term_entries, over_entry, list_to, pivot_sum, factor, next_level, weight_entry, shift_entry}
-use Rattle.elimination.specs.Listed.{row_entries}
-use Rattle.elimination.specs.Faults.{AreGood}
-use Rattle.elimination.specs.Lines.{IsNought, IsSymmetric, IsRow, IsUpperWeights, IsUpperLine, AreLines}
-use Rattle.elimination.proofs.loops.LineLoop.{pivot_inverse}
-use Rattle.elimination.proofs.steps.Rows.{narrow_line}
-use Rattle.elimination.proofs.steps.Coordinates.{good_flat, good_three}
-use Rattle.elimination.proofs.steps.Firsts.{good_none, good_one, good_append}
-use Rattle.elimination.proofs.steps.Symmetry.{good_part, own_weight, turned_good}
-use Rattle.elimination.proofs.steps.Numbers.{Laws, own_cancels, value_fits, nought_added}
+
+-- How far a weight sum has come.
+
+-- a vertex without weight adds nothing
+pub sum_passed : {N : Type 0} {m : ℕ} {value : N → Ratio} {fits : Ratio → Type 0} → Laws m value fits → (k : ℕ) (sum : N) (l : Level) (q : ℕ)
+    → IsNought m value (l.w k q) → HasValue m (value sum) (sum_to q (l.w k))
+    → HasValue m (value sum) (sum_to (q + 1) (l.w k)) × AreGood m fits (sum_entry l k q)
+sum_passed laws k sum l q o h =
+    let t = add_zero laws (place 1 (k + 1) 0 (q + 1) 0) sum o.number (sum_to q (l.w k)) (l.w k q) h o.has o.zero in
+    (rw (add-one q) t.0, t.1)
+
+-- How far the sum of a position has come.
+
+-- a vertex without weight adds nothing
+pub back_passed : {N : Type 0} {m : ℕ} {value : N → Ratio} {fits : Ratio → Type 0} → Laws m value fits
+    → (k c : ℕ) (sum : N) (l : Level) (p : ℕ → ℕ → Ratio) (q : ℕ) → IsNought m value (l.w k q) → CanCancel m (pos (p q c).den)
+    → HasValue m (value sum) (back_sum l k p c q)
+    → HasValue m (value sum) (back_sum l k p c (q + 1)) × AreGood m fits (back_entry l k p c q)
+back_passed laws k c sum l p q o cancels h =
+    let t = nought_added laws (place 7 (k + 1) 0 (q + 1) (c + 1)) (place 8 (k + 1) 0 (q + 1) (c + 1)) sum (back_sum l k p c q) (l.w k q)
+    (p q c) h o.number o.has o.zero cancels in
+    (rw (add-one q) t.0, t.1)
+
+-- the denominator of a part of a row
+pub part_cancels : {N : Type 0} {D m : ℕ} {value : N → Ratio} (r : Row N D) (b : ℕ → Ratio) → (D ≡ 2) ⊎ (D ≡ 3) → (c : ℕ) → c < D → IsRow m value r b
+    → CanCancel m (pos (b c).den)
+part_cancels {m = m} {value = value} r b h c l s = (part_has m value r b s h c l).denominator
 
 -- the entries of a vertex with itself are none
 pub good_unless : {m : ℕ} {fits : Ratio → Type 0} (i j : ℕ) (es : List Entry) → (j ≢ i → AreGood m fits es) → AreGood m fits (if j == i then [] else es)
@@ -128,3 +153,30 @@ module _ {N : Type 0} {m D : ℕ} {value : N → Ratio} {fits : Ratio → Type 0
           × AreGood m fits (row_entries D l k q)
       stays d e = line_stays laws l k q b s o pivot (pivot_inverse m fits D k l q good later) (get_or lines q d).items (get_or sums q e) last_sums
           (narrow_line m value _ _ l k q (mine d e)) theirs (turned_good laws D l k q b s good) dimension
+
+-- Weights that are replaced one after another, and those that stay.
+
+-- an element before place j is replaced
+pub left_past : {X : Type 0} (before now : List X) (x : X) (p j : ℕ) → p < j → AreLeft before now j → AreLeft before (set now p x) j
+left_past before now x p j l h = record { same = λ q d b. get_or-set_other now p q x d (λ e. omega (arith, b, l, e)) ∙ h.same q d b }
+
+-- the weight with a vertex that k has no weight with stays
+pub weight_passed : {N : Type 0} {m : ℕ} {value : N → Ratio} {fits : Ratio → Type 0} → Laws m value fits
+    → (k i : ℕ) (share : N) (now : List N) (l : Level) (q : ℕ) → i < q → IsNought m value (l.w k q) → HasValue m (value share) (factor l k i)
+    → ((d : N) → HasValue m (value (get_or now (q - (i + 1)) d)) (l.w i q)) → IsUpperWeights m value now (next_level k l) q i
+    → IsUpperWeights m value now (next_level k l) (q + 1) i × AreGood m fits (weight_entry l k i q)
+weight_passed {N} {m} {value} laws k i share now l q above o share_has old h =
+    let term = λ (d : N). right_zero laws (place 3 (k + 1) (i + 1) (q + 1) 0) (place 4 (k + 1) (i + 1) (q + 1) 0) (get_or now (q - (i + 1)) d) share o.number
+    (l.w i q) (factor l k i) (l.w k q) (old d) share_has o.has o.zero in (
+      record {
+        has = λ p d a b. below_more (λ p. i < p → HasValue m (value (get_or now (p - (i + 1)) d)) ((next_level k l).w i p)) q (λ p r a. h.has p d a r)
+            (λ a. (term d).0) p b a;
+      },
+      good_unless i q _ (λ n. (term share).1),
+    )
+
+-- a weight as it was before the level, though those before it are replaced
+pub weight_before : {N : Type 0} (m : ℕ) (value : N → Ratio) (old now : List N) (l : Level) (n i j : ℕ) → AreLeft old now (j - (i + 1))
+    → IsUpperWeights m value old l n i → i < j → j < n → (y : N) → y ≡ get_or now (j - (i + 1)) y → HasValue m (value y) (l.w i j)
+weight_before m value old now l n i j left h above below y is = value_at value y _ (l.w i j) (is ∙ left.same (j - (i + 1)) y (omega arith))
+    (h.has j y above below)

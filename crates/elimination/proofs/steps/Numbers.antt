@@ -1,11 +1,9 @@
 -- A sum, a product with its sum, and a quotient of numbers: the values that they have, and their faults.
 use Rattle.std.proofs.Common.{◌≡◌, ◌≢◌, ℕ, pos, List, [], ◌∷◌, refl, subst}
 use Rattle.exact.specs.Ratio.{Ratio, Same, IsDenominator, HasInverse, ratio_plus, ratio_times, ratio_over, whole}
-use Rattle.exact.specs.Values.{CanCancel, HasValue}
 use Rattle.exact.specs.Faults.{IsWide, IsWideQuotient, LacksInverse}
 use Rattle.exact.specs.declared.number.Op.TheVariants.{Plus, Minus, Times, Over}
-use Rattle.exact.specs.declared.number.Op.{Op}
-use Rattle.exact.specs.declared.number.Wide.{Wide}
+use Rattle.exact.specs.{Values.CanCancel, Values.HasValue, declared.number.Op.Op, declared.number.Wide.Wide}
 use Rattle.exact.proofs.CallerLemmas.{same_refl, same_sym, same_trans, plus_same, times_same, plus_cancels, times_cancels, one_cancels, plus_zero, zero_times}
 use Rattle.exact.proofs.CallerLemmas.{times_zero, denominator_cancels, cancelled_denominator, over_like, over_cancels, inverse_same, over_both}
 use Rattle.elimination.specs.declared.place.Place.{Place}

@@ -8,17 +8,12 @@ use Rattle.exact.proofs.CallerLemmas.{one_cancels, Value, class, whole_value, va
 use Rattle.elimination.specs.Equations.{IsAtMean, IsSolution, IsOnlySolution}
 use Rattle.elimination.specs.Faults.{AreGood}
 use Rattle.elimination.specs.Listed.{start_level, listed_numbers, position_up_to, arc_count}
-use Rattle.elimination.proofs.theory.Elimination.{unique}
-use Rattle.elimination.proofs.theory.Elimination.{IsSolution as SolvesWeights}
-use Rattle.elimination.proofs.theory.Levels.{IsLevel, HaveInverses, AreWeights, AreSums, all_pivots}
-use Rattle.elimination.proofs.inverses.Inverses.{good_inverses}
-use Rattle.elimination.proofs.theory.Existence.{position_origin, position_cancels, positions_solve}
-use Rattle.elimination.proofs.theory.Divides.{same_of_class}
-use Rattle.elimination.proofs.theory.ListSums.{sum_over}
+use Rattle.elimination.proofs.theory.Existence.{IsLevel, HaveInverses, AreWeights, AreSums, all_pivots, position_origin, position_cancels, positions_solve}
 use Rattle.elimination.proofs.equations.Gains.{stand, gain, gains_of_mean, mean_of_gains}
-use Rattle.elimination.proofs.equations.Means.{weight, shifts, gains_of_weights, weights_of_gains}
-use Rattle.elimination.proofs.equations.FirstVertex.{first_gains}
-use Rattle.elimination.proofs.equations.Kept.{kept, kept_is, kept_cancels, same_from_kept, mean_from_kept, kept_mean}
+use Rattle.elimination.proofs.equations.Means.{weight, shifts, gains_of_weights, weights_of_gains, kept, kept_is, kept_cancels, same_from_kept, mean_from_kept}
+use Rattle.elimination.proofs.equations.Means.{kept_mean}
+use Rattle.elimination.proofs.{inverses.Inverses.good_inverses, theory.Divides.same_of_class, theory.Semirings.sum_over, equations.FirstVertex.first_gains}
+use Rattle.elimination.proofs.theory.Elimination.{unique, IsSolution as SolvesWeights}
 
 -- the denominators at the start are 1
 start_is_level : (m : ℕ) (G : Graph) → IsLevel m (start_level G)

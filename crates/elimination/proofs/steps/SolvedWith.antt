@@ -1,28 +1,45 @@
 -- Where all listed numbers of a graph and right-hand parts are good, the listed positions are the one solution.
-use Rattle.std.proofs.Common.{◌≡◌, ℕ, suc, ◌+◌, ◌-◌, ◌<◌, sym, refl, subst, ◌∙◌, arith}
-use Rattle.std.specs.Prelude.{pos, map}
-use Rattle.integers.proofs.lists.Members.{IsIn}
+use Rattle.std.proofs.Common.{ℕ, zero, suc, ◌-◌, ◌<◌, List, ◌∷◌, length, refl, sym, subst, arith, ◌≡◌, ◌+◌, ◌∙◌}
+use Rattle.std.proofs.lemmas.List.Elements.{All-contains, Contains-append_right}
+use Rattle.std.specs.{List.Contains, Prelude.pos, Prelude.map}
 use Rattle.periodic_net.specs.Graph.{Graph, Arc, IsGraph, IsQuotientVertex, arcs_from}
-use Rattle.periodic_net.proofs.CallerLemmas.{from_is_arc, arc_inside}
 use Rattle.exact.specs.Ratio.{Ratio, Same, IsDenominator, ratio_plus, ratio_minus, whole}
 use Rattle.exact.specs.Values.{HasValue, CanCancel}
+use Rattle.vecdim.specs.declared.rows.Row.{Row}
+use Rattle.elimination.specs.Listed.{start_level, listed_numbers, Level, listed, position_up_to, arc_count}
+use Rattle.elimination.specs.RightHand.{listed_with, right_values, arc_difference, ratio_total, IsBalanced, IsSolutionWith, IsOnlySolutionWith}
+use Rattle.elimination.specs.{declared.place.SolveFault.SolveFault, Faults.AreGood, Faults.IsFault, Lines.level_with, Solutions.IsNotNoInverse}
+use Rattle.elimination.specs.{Equations.ratio_sum}
+use Rattle.elimination.proofs.theory.Existence.{HaveInverses, IsLevel, AreWeights, AreSums, all_pivots, position_origin, position_cancels, positions_solve}
+use Rattle.elimination.proofs.inverses.Inverses.{good_inverses, CanDivide, all_divide}
+use Rattle.elimination.proofs.equations.Means.{weight, kept, kept_is, kept_cancels, map_same, same_from_kept}
+use Rattle.elimination.proofs.equations.FirstVertex.{of_balance, to_balance, differences_of_weights, weights_of_differences, first_balance, total_class}
+use Rattle.elimination.proofs.{theory.Divides.same_of_class, steps.Solved.from_one}
+use Rattle.integers.proofs.lists.Members.{IsIn}
+use Rattle.periodic_net.proofs.CallerLemmas.{from_is_arc, arc_inside}
 use Rattle.exact.proofs.CallerLemmas.{one_cancels, Value, class, values, class_same, class_whole}
-use Rattle.elimination.specs.Equations.{ratio_sum}
-use Rattle.elimination.specs.RightHand.{arc_difference, ratio_total, IsBalanced, IsSolutionWith, IsOnlySolutionWith}
-use Rattle.elimination.specs.Faults.{AreGood}
-use Rattle.elimination.specs.Listed.{Level, listed, position_up_to, arc_count}
-use Rattle.elimination.specs.Lines.{level_with}
-use Rattle.elimination.proofs.theory.Elimination.{unique}
-use Rattle.elimination.proofs.theory.Elimination.{IsSolution as SolvesWeights}
-use Rattle.elimination.proofs.theory.Levels.{IsLevel, HaveInverses, AreWeights, AreSums, all_pivots}
-use Rattle.elimination.proofs.inverses.Inverses.{good_inverses}
-use Rattle.elimination.proofs.theory.Existence.{position_origin, position_cancels, positions_solve}
-use Rattle.elimination.proofs.theory.Divides.{same_of_class}
-use Rattle.elimination.proofs.equations.Means.{weight}
-use Rattle.elimination.proofs.equations.Differences.{of_balance, to_balance, differences_of_weights, weights_of_differences}
-use Rattle.elimination.proofs.equations.FirstBalance.{first_balance, total_class}
-use Rattle.elimination.proofs.equations.Kept.{kept, kept_is, kept_cancels, map_same, same_from_kept}
-use Rattle.elimination.proofs.steps.Solved.{from_one}
+use Rattle.elimination.specs.declared.place.SolveFault.TheVariants.{NoInverse, NoMemory, Wide as WideAt}
+use Rattle.elimination.proofs.theory.Elimination.{unique, IsSolution as SolvesWeights}
+
+-- Which weight sums have inverses does not depend on the right-hand parts.
+
+inverses_any : (m k : ℕ) (w b b' : ℕ → ℕ → Ratio) → HaveInverses m k (record { w = w; b = b }) → HaveInverses m k (record { w = w; b = b' })
+inverses_any m zero w b b' h = tt
+inverses_any m (suc k) w b b' h = (h.0, inverses_any m k _ _ _ h.1)
+
+-- so where the numbers of the graph are good, no weight sum lacks an inverse, whatever the right-hand rows are
+pub never_without : {N : Type 0} {D : ℕ} (m : ℕ) (value : N → Ratio) (fits : Ratio → Type 0) (G : Graph) (right : List (Row N D))
+    → AreGood m fits (listed_numbers G)
+    → (e : SolveFault N) → IsFault m fits value (listed_with value G right) e → IsNotNoInverse e
+never_without m value fits G right good (WideAt at w) h = tt
+never_without m value fits G right good NoMemory h = tt
+never_without m value fits G right good (NoInverse pivot d) h =
+    let level = level_with G (right_values value right) in
+    let inverses = inverses_any m (G.vertices - 1) (start_level G).w (start_level G).b level.b
+    (good_inverses m fits G.dimension (G.vertices - 1) (start_level G) good) in
+    let stands = subst (λ xs. Contains xs h.entry) (sym h.first.split) (Contains-append_right h.first.before (h.entry ∷ h.first.after) h.entry
+    (0, (let l : 0 < suc (length h.first.after) = omega arith in l), refl)) in
+    h.none (All-contains (CanDivide m) (listed_with value G right) h.entry (all_divide m G.dimension (G.vertices - 1) level inverses) stands h.op)
 
 -- the differences of the arcs of a vertex are those of the kept values
 differences_stay : (G : Graph) → IsGraph G → (p : ℕ → Ratio) (u : ℕ) → map (arc_difference (kept G p)) (arcs_from G u) ≡ map (arc_difference p) (arcs_from G u)

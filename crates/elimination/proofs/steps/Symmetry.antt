@@ -1,21 +1,21 @@
 -- The weight of two vertices is the same, whichever is named first, at each level; and so are the numbers that make it.
-use Rattle.std.proofs.Common.{◌≡◌, ◌≢◌, ℕ, zero, suc, pos, arith, ◌+◌, ◌<◌, ◌≤◌, if◌then◌else◌, List, [], ◌∷◌, ◌++◌, refl, sym, subst, ⊎_elim}
-use Rattle.std.specs.Prelude.{ℤ, ◌*ℤ◌}
-use Rattle.std.proofs.lemmas.Bool.{cases_lt, ne_eqb}
-use Rattle.std.proofs.lemmas.List.Elements.{All-head, All-tail}
+use Rattle.std.proofs.Common.{◌≡◌, ◌≢◌, ℕ, zero, suc, pos, arith, ◌+◌, ◌<◌, ◌≤◌, if◌then◌else◌, List, [], ◌∷◌, ◌++◌, refl, sym, subst, ⊎_elim, Bool, true}
+use Rattle.std.proofs.Common.{false, cond}
+use Rattle.std.proofs.lemmas.Bool.{cases_lt, ne_eqb, cases_Bool}
+use Rattle.std.proofs.lemmas.List.{Elements.All-head, Elements.All-tail, Sums.sum_by-cons}
+use Rattle.std.specs.Prelude.{ℤ, ◌*ℤ◌, ◌==◌, filter, count_by}
 use Rattle.integers.proofs.numbers.Ring.{ring, linear}
-use Rattle.exact.specs.Ratio.{Ratio, Same, HasInverse, inverse_of, ratio_times, ratio_over}
+use Rattle.exact.specs.Ratio.{Ratio, Same, HasInverse, inverse_of, ratio_times, ratio_over, whole}
 use Rattle.exact.specs.Values.{CanCancel, HasValue}
 use Rattle.exact.proofs.CallerLemmas.{formal, same_refl, same_trans, plus_same, times_same, plus_cancels, times_cancels, over_cancels}
-use Rattle.exact.proofs.CallerLemmas.{inverse_denominator_cancels}
+use Rattle.exact.proofs.CallerLemmas.{inverse_denominator_cancels, one_cancels}
 use Rattle.elimination.specs.Listed.{Level, Entry, place, list_to, pivot_sum, factor, next_level, times_entry, plus_entry, term_entries, over_entry}
-use Rattle.elimination.specs.Listed.{weight_entry, shift_entry, row_entries}
-use Rattle.elimination.specs.Faults.{IsGood, AreGood}
-use Rattle.elimination.specs.Lines.{IsSymmetric}
-use Rattle.elimination.proofs.inverses.Inverses.{all_before, all_after}
-use Rattle.elimination.proofs.loops.LineLoop.{pivot_inverse}
-use Rattle.elimination.proofs.steps.Firsts.{good_none, good_append}
+use Rattle.elimination.specs.Listed.{weight_entry, shift_entry, row_entries, arc_count}
+use Rattle.elimination.specs.{Faults.IsGood, Faults.AreGood, Lines.IsSymmetric, Lines.level_with}
 use Rattle.elimination.proofs.steps.Numbers.{Laws, fits_too, terms_good}
+use Rattle.elimination.proofs.{inverses.Inverses.all_before, inverses.Inverses.all_after, loops.LineLoop.pivot_inverse, steps.Firsts.good_none}
+use Rattle.elimination.proofs.{steps.Firsts.good_append}
+use Rattle.periodic_net.specs.Graph.{Graph, Arc, both_ways, reverse_of}
 
 -- what has a value has all that this value has
 pub has_trans : {m : ℕ} {x a b : Ratio} → HasValue m x a → HasValue m a b → HasValue m x b
@@ -115,3 +115,48 @@ module _ {N : Type 0} {m : ℕ} {value : N → Ratio} {fits : Ratio → Type 0} 
           let below : n < i = omega (arith, c) in
           let inverse = pivot_inverse m fits D k l i good (omega (arith, below)) in
           good_append (list_to n (weight_entry l k i)) (weight_entry l k i n) (up_to n (omega (arith, c))) (entry_turned inverse n below (of_row n below))
+
+-- As many arcs lead from one vertex to another as back, so the weights of a graph are symmetric.
+
+-- 1 where both hold
+abbrev weight : Bool → Bool → ℕ
+weight p q = cond p (cond q 1 0) 0
+
+weight_comm : (p q : Bool) → weight p q ≡ weight q p
+weight_comm p q = search arith
+
+-- the arcs from u to v, of a list
+abbrev count : ℕ → ℕ → List Arc → ℕ
+count u v xs = count_by (λ a. a.to == v) (filter (λ a. a.from == u) xs)
+
+-- with 0 more it stays
+no_more : (n : ℕ) → n ≡ 0 + n
+no_more n = omega arith
+
+-- one arc more
+count_cons : (u v : ℕ) (a : Arc) (xs : List Arc) → count u v (a ∷ xs) ≡ weight (a.from == u) (a.to == v) + count u v xs
+count_cons u v a xs = ⊎_elim
+    (λ (e : (a.from == u) ≡ true). rw e (sum_by-cons (λ (b : Arc). let n : ℕ = cond (b.to == v) 1 0 in n) a (filter (λ b. b.from == u) xs)))
+    (λ (e : (a.from == u) ≡ false). rw e (no_more (count u v xs))) (cases_Bool (a.from == u))
+
+-- the arcs of edges from u to v are as many as those from v to u
+counts_turned : (es : List Arc) (u v : ℕ) → count u v (both_ways es) ≡ count v u (both_ways es)
+counts_turned [] u v = refl
+counts_turned (e ∷ es) u v =
+    let there = count_cons u v e (reverse_of e ∷ both_ways es) in
+    let and_back = count_cons u v (reverse_of e) (both_ways es) in
+    let here = count_cons v u e (reverse_of e ∷ both_ways es) in
+    let and_forth = count_cons v u (reverse_of e) (both_ways es) in
+    let first = weight_comm (e.from == u) (e.to == v) in
+    let second = weight_comm (e.to == u) (e.from == v) in
+    omega (arith, there, and_back, here, and_forth, first, second, counts_turned es u v)
+
+-- the weights of a graph are symmetric, whatever the sums are
+pub start_symmetric : (m : ℕ) (G : Graph) (b : ℕ → ℕ → Ratio) (n : ℕ) → IsSymmetric m (level_with G b) n
+start_symmetric m G b n = record {
+  has = λ i j p q o. record {
+    same = subst (λ c. Same m (whole (pos (arc_count G (i + 1) (j + 1)))) (whole (pos c))) (counts_turned G.edges (i + 1) (j + 1))
+        (same_refl (whole (pos (arc_count G (i + 1) (j + 1)))));
+    denominator = one_cancels;
+  };
+}

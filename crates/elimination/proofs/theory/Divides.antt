@@ -4,8 +4,7 @@ use Rattle.std.specs.Prelude.{ℤ, pos, ◌+ℤ◌, ◌-ℤ◌, ◌*ℤ◌}
 use mathlib.Core.Logic.{∥∥₁_elim}
 use Rattle.integers.proofs.numbers.Ring.{ring, linear, zero_or_not, zero_product}
 use Rattle.integers.proofs.numbers.Division.{divided}
-use Rattle.exact.specs.Ratio.{Ratio, Same}
-use Rattle.exact.specs.Values.{CanCancel}
+use Rattle.exact.specs.{Ratio.Ratio, Ratio.Same, Values.CanCancel}
 use Rattle.exact.proofs.CallerLemmas.{same_of, difference_multiple, class, same_from_class, small_multiple}
 use Rattle.integers.specs.Divisors.{DividesInteger}
 

@@ -2,22 +2,16 @@
 use Rattle.std.proofs.Common.{◌≡◌, ℕ, ◌≤◌, refl, subst}
 use Rattle.periodic_net.specs.Graph.{Graph, IsGraph}
 use Rattle.periodic_net.proofs.CallerLemmas.{split_shows_not_connected}
-use Rattle.key_theory.specs.Frames.{IsKeyWork, most_work}
-use Rattle.key_theory.specs.Key.{IsKeyable}
+use Rattle.key_theory.specs.{Frames.IsKeyWork, Frames.most_work, Key.IsKeyable}
 use Rattle.key_theory.proofs.CallerLemmas.{work_not_past}
-use Rattle.quotient_graph.specs.NetClasses.{NetClasses, AreClasses}
-use Rattle.quotient_graph.specs.Splits.{split_view}
+use Rattle.quotient_graph.specs.{NetClasses.NetClasses, NetClasses.AreClasses, Splits.split_view}
 use Rattle.barycentre.proofs.CallerLemmas.{not_reachable}
-use Rattle.barycentre.specs.PlaceFaults.{IsWideOf}
-use Rattle.barycentre.specs.declared.faults.WidePlacement.{WidePlacement as Wide}
-use Rattle.barycentre.specs.declared.faults.WideSite.{WideSite}
 use Rattle.barycentre.specs.declared.faults.WideSite.TheVariants.{Denominator, ArcPart, Beyond}
-use Rattle.barycentre.specs.WidePlacements.{IsWidePlacement}
+use Rattle.barycentre.specs.{PlaceFaults.IsWideOf, declared.faults.WideSite.WideSite, WidePlacements.IsWidePlacement}
 use Rattle.least_key.specs.Certain.{IsCertain, CertainIsNotRefused, KeyedIsCertain}
 use Rattle.least_key.specs.declared.refusal.Refusal.TheVariants.{Disconnected, Degenerate, NoModulus, WidePlacement, Collision, TooMuch, NoMemory}
-use Rattle.least_key.proofs.Truth.{shape_of}
-use Rattle.least_key.proofs.certain.OnePlacement.{same_limits, same_collision}
-use Rattle.least_key.proofs.certain.NotWide.{not_wide}
+use Rattle.least_key.proofs.{Truth.shape_of, certain.OnePlacement.same_limits, certain.OnePlacement.same_collision, certain.NotWide.not_wide}
+use Rattle.barycentre.specs.declared.faults.WidePlacement.{WidePlacement as Wide}
 
 module _ (G : Graph) (g : IsGraph G) (c : IsCertain G) where
   not_wide_placement : (w : Wide) → ¬ IsWidePlacement G w

@@ -1,11 +1,9 @@
 -- Within the limits no number of a normal placement passes one.
-use Rattle.std.proofs.Common.{ℕ, zero, suc, ℤ, ◌-◌, ◌≤◌, ◌<◌, sym, subst, unsigned_abs, arith}
+use Rattle.std.proofs.Common.{ℕ, ℤ, ◌-◌, ◌≤◌, ◌<◌, sym, subst, unsigned_abs, arith}
 use Rattle.std.proofs.lemmas.Nat.Gcd.{le_of_dvd}
-use Rattle.integers.specs.Vectors.{Vector, IsWithin}
-use Rattle.integers.specs.Staircase.{part}
-use Rattle.periodic_net.specs.Graph.{Graph, arc}
-use Rattle.periodic_net.specs.Limits.{most_units}
+use Rattle.integers.specs.{Vectors.Vector, Vectors.IsWithin, Staircase.part}
 use Rattle.periodic_net.specs.Placement.{Placement, base, arc_vector, IsNormalPlacement, IsWithinLimits}
+use Rattle.periodic_net.specs.{Graph.Graph, Graph.arc, Limits.most_units}
 use Rattle.barycentre.specs.WidePlacements.{IsWideDenominator, IsWideArc, IsWideAt, coordinate}
 use Rattle.barycentre.specs.declared.faults.WideSite.{WideSite}
 use Rattle.barycentre.specs.declared.faults.WideSite.TheVariants.{Denominator, ArcPart, Beyond}
@@ -13,10 +11,7 @@ use Rattle.barycentre.proofs.CallerLemmas.{lowest_divides}
 
 -- each part of a vector is within its bound
 part_within : (n : ℕ) (v : Vector) (i : ℕ) → IsWithin n v → unsigned_abs (part i v) ≤ n
-part_within n v zero h = h.0
-part_within n v (suc zero) h = h.1
-part_within n v (suc (suc zero)) h = h.2
-part_within n v (suc (suc (suc i))) h = omega arith
+part_within n v i k = search arith
 
 -- what is at most the limit is not past it
 not_past : (n k : ℕ) → k ≤ n → ¬ (n < k)

@@ -1,8 +1,7 @@
 -- What is said of one normal placement of a net holds of each.
-use Rattle.std.proofs.Common.{◌≡◌, ◌∙◌, ℕ, ◌≤◌, pos, sym, subst}
-use Rattle.integers.specs.Vectors.{Vector, plus, minus, times, zero_vector, IsWithin}
+use Rattle.std.proofs.Common.{◌≡◌, ◌∙◌, ℕ, pos, sym, arith}
+use Rattle.integers.specs.Vectors.{Vector, plus, minus, times, zero_vector}
 use Rattle.periodic_net.specs.Graph.{Graph, Arc, IsGraph, IsArc, IsConnected, IsQuotientVertex}
-use Rattle.periodic_net.specs.Limits.{most_units}
 use Rattle.periodic_net.specs.Placement.{Placement, base, arc_vector, IsNormalPlacement, IsWithinLimits, IsCollision}
 use Rattle.periodic_net.proofs.CallerLemmas.{normal_placement_is_one, arc_inside}
 
@@ -24,10 +23,7 @@ module _ (G : Graph) (g : IsGraph G) (c : IsConnected G) (p q : Placement) (n : 
 
   -- and so are the limits
   pub same_limits : IsWithinLimits G p → IsWithinLimits G q
-  same_limits l = record {
-    denominator = subst (λ (k : ℕ). k ≤ most_units) same_denominator l.denominator;
-    arcs = λ a h. subst (IsWithin most_units) (same_arc_vector a h) (l.arcs a h);
-  }
+  same_limits l = grind (arith, same_denominator, same_arc_vector)
 
   -- and the collisions
   pub same_collision : (u v : ℕ) (t : Vector) → IsCollision G p u v t → IsCollision G q u v t

@@ -1,8 +1,7 @@
 -- The first collision of a placed net is one.
-use Rattle.std.proofs.Common.{◌≡◌, ◌⊎◌, inl, inr, ℕ, ◌<◌, ◌≤◌, pos, sym, ap, ◌∙◌, arith}
+use Rattle.std.proofs.Common.{◌≡◌, ℕ, pos, sym, ap, ◌∙◌, arith}
 use Rattle.integers.specs.Vectors.{Vector, zero_vector, plus, times}
-use Rattle.integers.proofs.numbers.Ring.{positive_not_zero}
-use Rattle.integers.proofs.vectors.Laws.{plus_cancel, times_cancel}
+use Rattle.integers.proofs.{numbers.Ring.positive_not_zero, vectors.Laws.plus_cancel, vectors.Laws.times_cancel}
 use Rattle.periodic_net.specs.Graph.{Graph}
 use Rattle.periodic_net.specs.Placement.{Placement, base, IsNormalPlacement}
 use Rattle.net_translations.specs.Places.{IsFirstCollision}
@@ -10,13 +9,7 @@ use Rattle.net_translations.specs.Places.{IsFirstCollision}
 module _ (G : Graph) (p : Placement) (n : IsNormalPlacement G p) (u v x y : ℕ) (s t : Vector) (a : IsFirstCollision G p u v s)
     (b : IsFirstCollision G p x y t) where
   both : (u ≡ x) × (v ≡ y)
-  both = by (a.least x y t b.order b.collision) (b.least u v s a.order a.collision)
-    where
-      by : (u < x) ⊎ ((u ≡ x) × (v ≤ y)) → (x < u) ⊎ ((x ≡ u) × (y ≤ v)) → (u ≡ x) × (v ≡ y)
-      by (inl l) (inl m) = absurd (omega (arith, l, m))
-      by (inl l) (inr m) = absurd (omega (arith, l, m.0))
-      by (inr l) (inl m) = absurd (omega (arith, l.0, m))
-      by (inr l) (inr m) = (l.0, omega (arith, l.1, m.1))
+  both = grind arith
 
   -- and so is the cell
   same_cell : s ≡ t

@@ -2,9 +2,7 @@
 use Rattle.std.proofs.Common.{◌≡◌, ℕ, suc, ◌<◌, List, [], ◌∷◌, ◌++◌, length, drop, get_or, All, refl, sym, ap, ◌∙◌, subst, arith}
 use Rattle.std.proofs.lemmas.List.Elements.{All-contains, All-head, All-tail, Contains-append_right}
 use Rattle.periodic_net.specs.Graph.{Graph}
-use Rattle.elimination.specs.Faults.{IsGood}
-use Rattle.elimination.specs.Listed.{Entry}
-use Rattle.elimination.specs.declared.place.Place.{Place}
+use Rattle.elimination.specs.{Faults.IsGood, Listed.Entry, declared.place.Place.Place}
 use Rattle.fraction.specs.Reduced.{IsNarrow}
 use Rattle.barycentre.specs.Reached.{Any, AreNarrow, IsFirstPivot, IsFirstWidePlace}
 

@@ -1,17 +1,12 @@
 -- What is reported of a graph with its key is one.
 use Rattle.std.proofs.Common.{◌≡◌, ◌∙◌, sym, subst}
-use Rattle.periodic_net.specs.Graph.{Graph}
+use Rattle.periodic_net.specs.Graph.{Graph, IsGraph}
 use Rattle.periodic_net.proofs.CallerLemmas.{one_placement}
 use Rattle.key_theory.specs.Key.{IsKeyOf}
 use Rattle.key_theory.proofs.CallerLemmas.{one_key}
-use Rattle.quotient_graph.specs.NetClasses.{class_at}
-use Rattle.quotient_graph.specs.PlacedNets.{PlacedNet}
-use Rattle.least_key.specs.KeyedNets.{IsCellOf}
-use Rattle.least_key.specs.Laws.{OneNet}
-use Rattle.least_key.specs.Placings.{IsPlacedAs}
-use Rattle.least_key.proofs.KeysTelling.{key_of_graph}
-use Rattle.least_key.proofs.one.OnePrimitive.{one_basis, one_primitive}
-use Rattle.periodic_net.specs.Graph.{IsGraph}
+use Rattle.quotient_graph.specs.{NetClasses.class_at, PlacedNets.PlacedNet}
+use Rattle.least_key.specs.{KeyedNets.IsCellOf, Laws.OneNet, Placings.IsPlacedAs}
+use Rattle.least_key.proofs.{KeysTelling.key_of_graph, one.OnePrimitive.one_basis, one.OnePrimitive.one_primitive}
 
 -- the placement of a graph is one
 pub one_placed : (G : Graph) → IsGraph G → (p q : PlacedNet) → IsPlacedAs G p → IsPlacedAs G q → p ≡ q

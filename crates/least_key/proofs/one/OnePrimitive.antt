@@ -2,13 +2,10 @@
 use Rattle.std.proofs.Common.{◌≡◌, ℕ, ◌≤◌, List, sym, subst, ◌∙◌, arith}
 use Rattle.std.specs.List.{Contains}
 use Rattle.integers.specs.Vectors.{Vector, IsBelow}
-use Rattle.integers.proofs.lists.ListOrder.{below_transitive, not_below_itself}
-use Rattle.integers.proofs.lists.Members.{contains_from_in, is_in}
-use Rattle.integers.proofs.lists.Permutations.{rising_from_pairs, same_rising}
-use Rattle.integers.proofs.vectors.OneStaircase.{one_staircase}
-use Rattle.periodic_net.specs.Classes.{IsClassNumbering, IsTranslation}
+use Rattle.integers.proofs.{lists.ListOrder.below_transitive, lists.ListOrder.not_below_itself, lists.Members.contains_from_in, lists.Members.is_in}
+use Rattle.integers.proofs.{lists.Permutations.rising_from_pairs, lists.Permutations.same_rising, vectors.OneStaircase.one_staircase}
 use Rattle.periodic_net.specs.Graph.{Graph, Arc, IsGraph, IsQuotientVertex}
-use Rattle.periodic_net.specs.Placement.{Placement}
+use Rattle.periodic_net.specs.{Classes.IsClassNumbering, Classes.IsTranslation, Placement.Placement}
 use Rattle.periodic_net.proofs.CallerLemmas.{arc_inside}
 use Rattle.key_theory.specs.Primitive.{Gives, IsLeastMember, IsPrimitive, edge_label}
 use Rattle.least_key.proofs.one.SameClasses.{one_numbering}
@@ -47,10 +44,7 @@ module _ (G : Graph) (g : IsGraph G) (p : Placement) (f h : ℕ → ℕ) (n : Is
       (b.edges e).1 (r.0, subst (λ rows. Gives G p h rows e) same (gives_there basis e r.1))
 
   no_more : (basis others : List Vector) (P Q : Graph) → IsPrimitive G p f basis P → IsPrimitive G p h others Q → P.vertices ≤ Q.vertices
-  no_more basis others P Q a b =
-      let u = a.last in
-      let e = sym u.2 ∙ same_class u.0 u.1 in
-      omega (arith, e, b.below u.0 u.1)
+  no_more basis others P Q a b = omega (arith, same_class)
 
 module _ (G : Graph) (g : IsGraph G) (p : Placement) (f h : ℕ → ℕ) (n : IsClassNumbering G p f) (m : IsClassNumbering G p h) (basis others : List Vector)
     (P Q : Graph) (a : IsPrimitive G p f basis P) (b : IsPrimitive G p h others Q) where

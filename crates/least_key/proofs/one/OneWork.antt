@@ -5,9 +5,8 @@ use Rattle.std.specs.List.{AllPairs}
 use Rattle.integers.proofs.lists.Counting.{not_longer}
 use Rattle.integers.proofs.lists.Members.{IsIn, AreApart, is_in, contains_from_in, apart_from_pairs}
 use Rattle.periodic_net.specs.Classes.{ClassGraph, ClassArc, LeadsIn}
-use Rattle.periodic_net.specs.Graph.{Graph, IsGraph}
+use Rattle.periodic_net.specs.{Graph.Graph, Graph.IsGraph, ClassNets.MayFollow}
 use Rattle.key_theory.specs.Frames.{IsNext, IsFrameAfter, IsFrame, IsWorkPast}
-use Rattle.periodic_net.specs.ClassNets.{MayFollow}
 use Rattle.key_theory.specs.Key.{Shape}
 use Rattle.least_key.proofs.one.SameClasses.{HaveSameArcs, same_turned, same_arcs}
 
@@ -65,21 +64,7 @@ module _ (K L : ClassGraph) (h : HaveSameArcs K L) where
 
     -- and more frames make a count that passed the limit before
     not_fewer_frames : length K.arcs ≡ length L.arcs → length k.pairs < length l.pairs → ⊥
-    not_fewer_frames same less =
-        let product : length k.pairs * length K.arcs + length K.arcs ≤ length l.pairs * length L.arcs =
-        subst (λ n. length k.pairs * length K.arcs + length K.arcs ≤ length l.pairs * n) same (step (length k.pairs) (length l.pairs) (length K.arcs) less) in
-        let p = k.product in
-        let q = l.product in
-        let past = k.past in
-        let first = l.first in
-        omega (arith, product, p, q, past, first, same)
-      where
-        step : (m n a : ℕ) → m < n → m * a + a ≤ n * a
-        step m n a less =
-            let more : suc m ≤ n = omega (arith, less) in
-            let same : a ≤ a = omega arith in
-            let q : suc m * a ≤ n * a = mul-le-mul more same in
-            omega (arith, q)
+    not_fewer_frames same less = grind (arith, mul-le-mul)
 
 -- the number of starts and the count are one
 one_work : (K L : ClassGraph) → HaveSameArcs K L → AllPairs (λ a b. a ≢ b) K.arcs → AllPairs (λ a b. a ≢ b) L.arcs → (d c e b : ℕ) → IsWorkPast K d c

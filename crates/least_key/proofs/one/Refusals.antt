@@ -2,31 +2,20 @@
 use Rattle.std.proofs.Common.{◌≡◌, ◌⊎◌, ⊎_elim, inl, inr, ℕ, refl, sym, ap, subst, ◌∙◌}
 use Rattle.integers.specs.Vectors.{Vector}
 use Rattle.periodic_net.specs.Graph.{Graph, IsGraph, IsConnected}
-use Rattle.periodic_net.proofs.CallerLemmas.{one_placement, split_shows_not_connected}
 use Rattle.periodic_net.specs.Split.{IsPartSplit, IsSparseSplit}
-use Rattle.quotient_graph.specs.PlacedNets.{PlacedNet}
-use Rattle.quotient_graph.specs.Splits.{split_view}
-use Rattle.quotient_graph.specs.declared.split.Split.{Split}
+use Rattle.periodic_net.proofs.CallerLemmas.{one_placement, split_shows_not_connected}
+use Rattle.quotient_graph.specs.{PlacedNets.PlacedNet, Splits.split_view, declared.split.Split.Split}
 use Rattle.net_translations.specs.Places.{IsFirstCollision}
 use Rattle.connected_dim.specs.Refusals.{IsDegenerateBy, IsDisconnectedBy}
 use Rattle.barycentre.proofs.CallerLemmas.{not_reachable}
-use Rattle.barycentre.specs.PlaceFaults.{IsWideOf}
-use Rattle.barycentre.specs.Reached.{LacksModulus}
-use Rattle.barycentre.specs.WidePlacements.{IsWidePlacement}
-use Rattle.barycentre.specs.declared.faults.WidePlacement.{WidePlacement as Wide}
-use Rattle.barycentre.specs.declared.faults.WideSite.{WideSite}
 use Rattle.barycentre.specs.declared.faults.WideSite.TheVariants.{Denominator, ArcPart, Beyond}
-use Rattle.least_key.specs.Laws.{OneRefusal, PlacedIsNotRefused}
-use Rattle.least_key.specs.Placings.{IsPlacedAs}
-use Rattle.least_key.specs.Truths.{HasTooMuchWork, IsCollidingAt}
+use Rattle.barycentre.specs.{PlaceFaults.IsWideOf, Reached.LacksModulus, WidePlacements.IsWidePlacement, declared.faults.WideSite.WideSite}
 use Rattle.least_key.specs.declared.refusal.Refusal.TheVariants.{Disconnected, Degenerate, NoModulus, WidePlacement, Collision, TooMuch, NoMemory}
-use Rattle.least_key.proofs.certain.NotWide.{not_wide}
-use Rattle.least_key.proofs.certain.OnePlacement.{same_collision, same_limits}
-use Rattle.least_key.proofs.one.Collisions.{one_collision}
-use Rattle.least_key.proofs.one.FirstPlaces.{not_narrow, one_pivot}
-use Rattle.least_key.proofs.one.OneWork.{one_work_past}
+use Rattle.least_key.specs.{Laws.OneRefusal, Laws.PlacedIsNotRefused, Placings.IsPlacedAs, Truths.HasTooMuchWork, Truths.IsCollidingAt}
 use Rattle.least_key.proofs.one.Splits.{full_not_flat, not_flat, not_sparse, one_flat_split, one_part_split, one_sparse_split}
-use Rattle.least_key.proofs.one.WideNumbers.{one_wide_of}
+use Rattle.least_key.proofs.{certain.NotWide.not_wide, certain.OnePlacement.same_collision, certain.OnePlacement.same_limits, one.Collisions.one_collision}
+use Rattle.least_key.proofs.{one.FirstPlaces.not_narrow, one.FirstPlaces.one_pivot, one.OneWork.one_work_past, one.WideNumbers.one_wide_of}
+use Rattle.barycentre.specs.declared.faults.WidePlacement.{WidePlacement as Wide}
 
 -- colourings with the same values are one
 same_colouring : (s t : Split) → s.dim ≡ t.dim → split_view s ≡ split_view t → s ≡ t

@@ -2,8 +2,7 @@
 use Rattle.std.proofs.Common.{◌≡◌, ℕ, sym, subst, ◌∙◌}
 use Rattle.std.specs.List.{Contains}
 use Rattle.periodic_net.specs.Classes.{ClassGraph, ClassArc, IsClassGraph}
-use Rattle.periodic_net.specs.Graph.{Graph, IsGraph}
-use Rattle.periodic_net.specs.Placement.{Placement}
+use Rattle.periodic_net.specs.{Graph.Graph, Graph.IsGraph, Placement.Placement}
 use Rattle.periodic_net.proofs.CallerLemmas.{arc_inside, one_placement}
 use Rattle.key_theory.specs.Key.{Shape}
 pub use Rattle.coordination.proofs.CallerLemmas.{one_numbering}

@@ -1,18 +1,16 @@
 -- The colouring that is reported of a net that is not connected is one, in each of the three cases, and no two cases hold of one net.
 use Rattle.std.proofs.Common.{◌≡◌, ◌≢◌, ◌⊎◌, inl, inr, ℕ, zero, suc, ◌+◌, ◌-◌, ◌<◌, ◌≤◌, ℤ, pos, negsuc, ◌+ℤ◌, ◌-ℤ◌, ◌*ℤ◌, neg_ℤ, List, length, get_or, refl}
 use Rattle.std.proofs.Common.{sym, ap, subst, ◌∙◌, arith}
+use Rattle.std.proofs.lemmas.{Int.ints, List.ext_get_or}
 use Rattle.std.specs.Prelude.{◌<ℤ◌, ◌≤ℤ◌}
-use Rattle.std.proofs.lemmas.Int.{ints}
-use Rattle.std.proofs.lemmas.List.{ext_get_or}
 use Rattle.integers.specs.Vectors.{Vector, zero_vector, minus, times, dot, HasDimension}
 use Rattle.integers.specs.Staircase.{part}
 use Rattle.integers.proofs.numbers.Ring.{ring, linear, zero_or_not, other_factor_zero}
-use Rattle.integers.proofs.vectors.FewVectors.{zero_or_other}
 use Rattle.integers.proofs.vectors.Laws.{vector_equal, minus_dimension, times_dimension, equal_of_minus}
+use Rattle.integers.proofs.vectors.{FewVectors.zero_or_other, CoprimeLines.one_direction}
 use Rattle.periodic_net.specs.Graph.{Graph, IsGraph, IsQuotientVertex}
 use Rattle.periodic_net.specs.Split.{AreAlike, Split, entry, ClosedShift, IsFound, IsOrthogonal, IsPartSplit, IsFlatSplit, IsPivot, IsSparseSplit, EndsBy}
 use Rattle.periodic_net.proofs.CallerLemmas.{crossed, dot_difference, ends_at_one, ends_at_zero, no_part, not_zero, equal_if_not_unequal}
-use Rattle.integers.proofs.vectors.CoprimeLines.{one_direction}
 
 -- entries that agree at each vertex are one list
 same_entries : (n : ℕ) (h k : List ℤ) → length h ≡ n → length k ≡ n → ((u : ℕ) → 1 ≤ u → u ≤ n → entry h u ≡ entry k u) → h ≡ k
@@ -60,8 +58,7 @@ module _ (G : Graph) (S T : Split) (a : IsFlatSplit G S) (b : IsFlatSplit G T) w
   between_orthogonal m n v h = dot_difference m n T.c.x T.c.y T.c.z S.c.x S.c.y S.c.z v.x v.y v.z (b.orthogonal v h) (a.orthogonal v h)
 
   between_dimension : (m n : ℤ) → HasDimension G.dimension (between m n)
-  between_dimension m n = minus_dimension G.dimension (times m T.c) (times n S.c) (times_dimension G.dimension m T.c b.dimension)
-      (times_dimension G.dimension n S.c a.dimension)
+  between_dimension m n = grind (arith, minus_dimension, times_dimension)
 
   -- a combination that ends before both vectors do is 0
   ends_early : (m n : ℤ) (k : ℕ) → EndsBy k (between m n) → ¬ EndsBy k S.c → between m n ≡ zero_vector
@@ -117,10 +114,7 @@ module _ (G : Graph) (S T : Split) (a : IsFlatSplit G S) (b : IsFlatSplit G T) w
 -- there is one pivot at a place
 one_pivot : (G : Graph) (k p q : ℕ) → IsPivot G k p → IsPivot G k q → p ≡ q
 one_pivot G k p q a b =
-    let v = a.reached in
-    let w = b.reached in
-    let low = a.positive in
-    let high = b.positive in
+    let v = a.reached in let w = b.reached in let low = a.positive in let high = b.positive in
     let l = a.least w.0 w.1 w.2 (subst (λ z. pos 0 <ℤ z) (sym w.3) (omega (arith, ints, high))) in
     let m = b.least v.0 v.1 v.2 (subst (λ z. pos 0 <ℤ z) (sym v.3) (omega (arith, ints, low))) in
     order p q (subst (λ z. pos p ≤ℤ z) w.3 l) (subst (λ z. pos q ≤ℤ z) v.3 m)
@@ -260,12 +254,7 @@ module _ (G : Graph) (g : IsGraph G) (S T : Split) (k j : ℕ) (a : IsSparseSpli
 
 -- a part whose product with a positive pivot is 0 is 0
 part_zero : (p : ℕ) (c v s : ℤ) → 1 ≤ p → v ≡ pos p → s ≡ pos 0 → c *ℤ v +ℤ s ≡ pos 0 → c ≡ pos 0
-part_zero p c v s h e z f =
-    let g : v *ℤ c ≡ pos 0 = simp ring (omega (arith, linear, z, f)) in
-    other_factor_zero v c g (λ n. none p h (sym e ∙ n))
-  where
-    none : (p : ℕ) → 1 ≤ p → pos p ≢ pos 0
-    none p h e = omega (arith, ints, e, h)
+part_zero p c v s h e z f = search (arith, other_factor_zero)
 
 -- no vector but 0 is orthogonal to closed walks of full rank
 pub full_not_flat : (G : Graph) → IsGraph G → (S T : Split) (k : ℕ) → IsFlatSplit G S → ¬ IsSparseSplit G T k
@@ -291,8 +280,7 @@ full_not_flat G g S T k a b = not_zero S.c a.positive (vector_equal x y z)
 
     z_from : (p : ℕ) → IsPivot G 2 p → S.c.z ≡ pos 0
     z_from p h =
-        let r = h.reached in
-        let v = r.0 in
+        let r = h.reached in let v = r.0 in
         part_zero p S.c.z v.z (pos 0) h.positive r.3 refl
         (last (S.c.x *ℤ v.x) (S.c.y *ℤ v.y) (S.c.z *ℤ v.z) (only S.c.x v.x (r.2 0 (omega arith))) (only S.c.y v.y (r.2 1 (omega arith))) (a.orthogonal v r.1))
 
@@ -305,15 +293,13 @@ full_not_flat G g S T k a b = not_zero S.c a.positive (vector_equal x y z)
     y : S.c.y ≡ pos 0
     y =
         let p = b.full 1 above_one in
-        let r = p.1.reached in
-        let v = r.0 in
+        let r = p.1.reached in let v = r.0 in
         part_zero p.0 S.c.y v.y (S.c.z *ℤ v.z) p.1.positive r.3 (none S.c.z v.z z)
         (middle (S.c.x *ℤ v.x) (S.c.y *ℤ v.y) (S.c.z *ℤ v.z) (only S.c.x v.x (r.2 0 (omega arith))) (a.orthogonal v r.1))
 
     x : S.c.x ≡ pos 0
     x =
         let p = b.full 0 (let l = above_one in omega (arith, l)) in
-        let r = p.1.reached in
-        let v = r.0 in
+        let r = p.1.reached in let v = r.0 in
         part_zero p.0 S.c.x v.x (S.c.y *ℤ v.y +ℤ S.c.z *ℤ v.z) p.1.positive r.3 (two (S.c.y *ℤ v.y) (S.c.z *ℤ v.z) (none S.c.y v.y y) (none S.c.z v.z z))
         (first (S.c.x *ℤ v.x) (S.c.y *ℤ v.y) (S.c.z *ℤ v.z) (a.orthogonal v r.1))

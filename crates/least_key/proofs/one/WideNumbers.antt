@@ -2,35 +2,24 @@
 use Rattle.std.proofs.Common.{◌≡◌, ◌⊎◌, inl, inr, ℕ, ◌<◌, ℤ, pos, unsigned_abs, refl, sym, ap, subst, ◌∙◌, arith}
 use Rattle.std.proofs.lemmas.Nat.Gcd.{dvd_antisymm}
 use Rattle.integers.specs.Vectors.{IsBelow}
-use Rattle.integers.proofs.lists.ListOrder.{below_or_equal}
-use Rattle.integers.proofs.vectors.Parts.{ends_tell}
+use Rattle.integers.proofs.{lists.ListOrder.below_or_equal, vectors.Parts.ends_tell}
 use Rattle.periodic_net.specs.Graph.{Graph, Arc, arc, IsGraph, IsConnected}
 use Rattle.periodic_net.specs.Limits.{most_units}
 use Rattle.periodic_net.specs.Placement.{Placement, arc_vector, IsNormalPlacement}
 use Rattle.periodic_net.proofs.CallerLemmas.{one_placement}
 use Rattle.quotient_graph.specs.Order.{arc_numbers}
-use Rattle.barycentre.specs.Multiples.{IsLeastMultipleUpTo}
-use Rattle.barycentre.specs.PlaceFaults.{IsWideOf}
 use Rattle.barycentre.specs.WidePlacements.{coordinate, ComesBefore, HasDenominator, IsWideArc, IsWideAt, IsWideDenominator, IsWidePlacement}
-use Rattle.barycentre.specs.declared.faults.WidePlacement.{WidePlacement}
-use Rattle.barycentre.specs.declared.faults.WideSite.{WideSite}
 use Rattle.barycentre.specs.declared.faults.WideSite.TheVariants.{Denominator, ArcPart, Beyond}
-use Rattle.least_key.proofs.certain.NotWide.{multiple_within}
-use Rattle.least_key.proofs.one.FirstPlaces.{not_narrow, one_wide_place}
+use Rattle.barycentre.specs.{Multiples.IsLeastMultipleUpTo, PlaceFaults.IsWideOf, declared.faults.WidePlacement.WidePlacement}
+use Rattle.barycentre.specs.{declared.faults.WideSite.WideSite}
+use Rattle.least_key.proofs.{certain.NotWide.multiple_within, one.FirstPlaces.not_narrow, one.FirstPlaces.one_wide_place}
 
 order : (m n : ℕ) → (m < n) ⊎ ((n < m) ⊎ (m ≡ n))
 order m n = grind arith
 
 -- of two places one comes before the other, or they are one
 places : (u c v e : ℕ) → ComesBefore u c v e ⊎ (ComesBefore v e u c ⊎ ((u ≡ v) × (c ≡ e)))
-places u c v e = by (order u v) (order c e)
-  where
-    by : (u < v) ⊎ ((v < u) ⊎ (u ≡ v)) → (c < e) ⊎ ((e < c) ⊎ (c ≡ e)) → ComesBefore u c v e ⊎ (ComesBefore v e u c ⊎ ((u ≡ v) × (c ≡ e)))
-    by (inl l) _ = inl (inl l)
-    by (inr (inl l)) _ = inr (inl (inl l))
-    by (inr (inr s)) (inl l) = inl (inr (s, l))
-    by (inr (inr s)) (inr (inl l)) = inr (inl (inr (sym s, l)))
-    by (inr (inr s)) (inr (inr t)) = inr (inr (s, t))
+places u c v e = search arith
 
 module _ (G : Graph) (p : Placement) where
   -- no place before the first has a multiple that is too great
@@ -64,9 +53,7 @@ module _ (G : Graph) (p : Placement) where
       omega (arith, least, wide)
 
   same_arc : (a b : Arc) → arc_numbers a ≡ arc_numbers b → a ≡ b
-  same_arc a b e =
-      let r = ends_tell a.from a.to b.from b.to a.shift b.shift e in
-      λ i. record { from = r.0 i; to = r.1 i; shift = r.2 i }
+  same_arc a b e = search (arith, ends_tell)
 
   one_arc : (a b : Arc) (c e : ℕ) (x y : ℤ) → IsWideArc G p a c x → IsWideArc G p b e y → (a ≡ b) × (c ≡ e) × (x ≡ y)
   one_arc a b c e x y h k = by (below_or_equal (arc_numbers a) (arc_numbers b)) (order c e)
@@ -85,8 +72,7 @@ module _ (G : Graph) (p : Placement) where
   not_both : IsNormalPlacement G p → (u c k : ℕ) (a : Arc) (e : ℕ) (x : ℤ) → IsWideDenominator G p u c k → ¬ IsWideArc G p a e x
   not_both n u c k a e x h w =
       let m = multiple_within G p n u c k h in
-      let wide = h.wide in
-      let d = w.denominator in
+      let wide = h.wide in let d = w.denominator in
       omega (arith, m, wide, d)
 
   one_wide_at : IsNormalPlacement G p → (s t : WideSite) (x y : ℤ) → IsWideAt G p s x → IsWideAt G p t y → (s ≡ t) × (x ≡ y)

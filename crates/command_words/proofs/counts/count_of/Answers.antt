@@ -1,7 +1,6 @@
 use Rattle.std.proofs.Common.{◌≡◌, ◌∙◌, ℕ, true, sym, ap, subst}
-use Rattle.std.specs.Result.{result_ok}
-use Rattle.std.specs.Str.Parse.{digits_value}
 use Rattle.std.proofs.lemmas.Bool.{true≢false}
+use Rattle.std.specs.{Result.result_ok, Str.Parse.digits_value}
 use Rattle.command_words.specs.Tasks.{is_count}
 use Rattle.command_words.proofs.NetCounts.{count_is, count_parsed, no_count}
 use Rattle.command_words.proofs.counts.count_of.Goals as goal

@@ -1,10 +1,8 @@
 use Rattle.std.proofs.Common.{◌≤◌, List, ℕ, ap, subst, sym, ◌∙◌, lit<}
 use Rattle.std.specs.Prelude.{Option, IfSome}
-use Rattle.periodic_net.specs.Classes.{ClassGraph}
-use Rattle.periodic_net.specs.Limits.{most_vertices}
+use Rattle.periodic_net.specs.{Classes.ClassGraph, Limits.most_vertices}
 use Rattle.coordination.specs.BoxSearches.{AreListsOf}
-use Rattle.coordination.proofs.classes.KindLists.{shell_kinds}
-use Rattle.coordination.proofs.classes.CellSequences.{cell_divides, cell_sequences, same_count}
+use Rattle.coordination.proofs.classes.KindLists.{shell_kinds, cell_divides, cell_sequences, same_count}
 use Rattle.coordination.proofs.all_classes.sequences.Goals as goal
 
 pub box_sequences-requires : goal.box_sequences-requires

@@ -1,6 +1,5 @@
 use Rattle.std.proofs.Common.{◌≡◌, [], length}
-use Rattle.coordination.specs.BoxSearches.{AreFirstLists}
-use Rattle.coordination.specs.Marks.{IsUnmarked}
+use Rattle.coordination.specs.{BoxSearches.AreFirstLists, Marks.IsUnmarked}
 use Rattle.coordination.proofs.box_count.lists_in.Given as goal
 
 abbrev pub invariant-loop-before : goal.invariant-loop-before

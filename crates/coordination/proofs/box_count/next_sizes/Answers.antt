@@ -9,14 +9,11 @@ use Rattle.coordination.proofs.box_count.next_sizes.Goals as goal
 
 pub returns-in-Some-clause-sizes : goal.returns-in-Some-clause-sizes
 returns-in-Some-clause-sizes g c =
-    let P = c.args.cell.now.graph in
-    let kinds = c.args.kinds.now in
-    let lists = c.args.lists.now in
+    let P = c.args.cell.now.graph in let kinds = c.args.kinds.now in let lists = c.args.lists.now in
     let v = length lists + 1 in
     let k = kind_of kinds v in
     let more = c.requires.more in
-    let found = subst (λ (o : Option (Vec ℕ Global)). IfSome o (λ sizes. IsOfEarlier kinds lists (c.len.result + 1) sizes.items)) c.in-Some.is
-    c.in_ok-sizes.ensures in
+    let found = rw c.in-Some.is at c.in_ok-sizes.ensures in
     let e : IsOfEarlier kinds lists v c.in-Some.sizes.items = subst (λ (n : ℕ). IsOfEarlier kinds lists (n + 1) c.in-Some.sizes.items) c.len.ensures found in
     let iv : IsQuotientVertex P v = (omega arith, omega (arith, more)) in
     let before = e.earlier in

@@ -1,7 +1,6 @@
 use Rattle.std.proofs.Common.{ℕ, ◌<◌, slice_index_or}
 use Rattle.periodic_net.specs.Graph.{Arc}
-use Rattle.coordination.specs.Extents.{IsCellWithin, IsNarrow}
-use Rattle.coordination.specs.declared.extent.TheConstants.{LONGEST}
+use Rattle.coordination.specs.{Extents.IsCellWithin, Extents.IsNarrow, declared.extent.TheConstants.LONGEST}
 use Rattle.coordination.proofs.extent.greatest_shift.Given as goal
 
 abbrev pub invariant-loop-edge : goal.invariant-loop-edge

@@ -1,5 +1,4 @@
-use Rattle.std.proofs.Common.{◌-◌, arith}
-use Rattle.std.proofs.lemmas.Int.{ints}
+use Rattle.std.proofs.{Common.◌-◌, Common.arith, lemmas.Int.ints}
 use Rattle.coordination.proofs.boxes.FarWalks.{farther_turn}
 use Rattle.coordination.proofs.far.raise_all.Goals as goal
 

@@ -13,14 +13,12 @@ loop-k-preserved g c =
     let farther = subst (λ (ns : List ℕ). AreFarther c.args.axis (length P.edges) P.edges c.loop-k.far ns c.raise_all.new.next) c.loop-k.invariant.next once in
     let copied : c.copy_from_slice.new.self ≡ c.raise_all.new.next = c.copy_from_slice.ensures.after in
     record {
-      far = subst (λ (ns : List ℕ). AreFarAfter P c.args.axis (c.loop-k._k + 1) ns) (sym copied)
-          (far_after_more P c.requires.graph c.args.axis c.loop-k._k c.loop-k.far c.raise_all.new.next c.loop-k.invariant.far farther);
+      far = rw copied (far_after_more P c.requires.graph c.args.axis c.loop-k._k c.loop-k.far c.raise_all.new.next c.loop-k.invariant.far farther);
       next = sym copied;
     }
 
 pub returns : goal.returns
 returns g c =
-    let test = c.loop-k-test.false in
-    let most = c.loop-k.auto._k-end in
+    let test = c.loop-k-test.false in let most = c.loop-k.auto._k-end in
     let ten : c.loop-k._k ≡ 10 = omega arith in
     subst (λ n. AreFarAfter c.args.cell.now.graph c.args.axis n c.loop-k.far) ten c.loop-k.invariant.far

@@ -1,9 +1,7 @@
 use Rattle.std.proofs.Common.{subst, lit<}
 use Rattle.std.specs.Prelude.{Option, IfSome}
-use Rattle.coordination.specs.Extents.{IsExtent, IsNarrow}
-use Rattle.coordination.specs.declared.extent.Extent.{Extent}
-use Rattle.coordination.specs.declared.extent.TheConstants.{WIDEST}
-use Rattle.coordination.proofs.boxes.ShortSteps.{shifts_within}
+use Rattle.coordination.specs.{Extents.IsExtent, Extents.IsNarrow, declared.extent.Extent.Extent, declared.extent.TheConstants.WIDEST}
+use Rattle.coordination.proofs.boxes.FarWalks.{shifts_within}
 use Rattle.coordination.proofs.net_box.box_of.Goals as goal
 
 pub stars_of-requires : goal.stars_of-requires

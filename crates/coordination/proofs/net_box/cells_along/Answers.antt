@@ -1,6 +1,5 @@
-use Rattle.std.proofs.Common.{◌≤◌, arith}
+use Rattle.std.proofs.{Common.◌≤◌, Common.arith, lemmas.Int.ints}
 use Rattle.std.specs.Prelude.{unsigned_abs}
-use Rattle.std.proofs.lemmas.Int.{ints}
 use Rattle.coordination.proofs.boxes.BoxBounds.{weighed_small}
 use Rattle.coordination.proofs.net_box.cells_along.Goals as goal
 

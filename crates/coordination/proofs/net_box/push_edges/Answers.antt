@@ -10,10 +10,8 @@ loop-edge-init g c = stars_start c.args.cell.now.graph c.args.extent (map (λ st
 
 pub loop-edge-preserved : goal.loop-edge-preserved
 loop-edge-preserved g c =
-    let P = c.args.cell.now.graph in
-    let items = c.deref-edge-items.result.now in
-    let i = c.loop-edge.edge-index in
-    let e = c.edge-item.result in
+    let P = c.args.cell.now.graph in let items = c.deref-edge-items.result.now in
+    let i = c.loop-edge.edge-index in let e = c.edge-item.result in
     let same = c.deref-edge-items.ensures.value ∙ ap (λ (n : DividedNet). n.graph.edges) c.cell.view_is in
     let here = subst (λ (es : List Arc). e ≡ get_or es i e) same c.edge-item.is in
     let edge = subst (IsEdge P) (sym here) (c.requires.graph.edges i e (subst (λ (es : List Arc). i < length es) same c.loop-edge-test.true)) in

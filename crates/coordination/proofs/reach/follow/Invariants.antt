@@ -1,6 +1,5 @@
 use Rattle.std.proofs.Common.{◌≡◌, drop}
-use Rattle.coordination.specs.Points.{ends_of}
-use Rattle.coordination.specs.Found.{all_found, all_new}
+use Rattle.coordination.specs.{Points.ends_of, Found.all_found, Found.all_new}
 use Rattle.coordination.proofs.reach.follow.Given as goal
 
 abbrev pub invariant-loop-arc : goal.invariant-loop-arc

@@ -1,43 +1,34 @@
 use Rattle.std.proofs.Common.{◌<◌, length, ◌+◌, lit<, arith}
-use Rattle.coordination.proofs.points.Places.{star_short}
-use Rattle.coordination.specs.Points.{IsStep}
 use Rattle.coordination.proofs.layers.Stepping.{search_starts, search_ends, search_stops}
-use Rattle.coordination.proofs.points.SteppingPoints.{search_turn}
+use Rattle.coordination.proofs.points.{Shown.star_short, Sizes.search_turn}
+use Rattle.coordination.specs.Points.{IsStep}
 use Rattle.coordination.proofs.search.next_shell.Goals as goal
 
 pub loop-from-init : goal.loop-from-init
 loop-from-init g c = search_starts (IsStep c.args.net.now) c.args.found.now.keys c.new-next.result.items c.requires.once c.new-next.ensures.items
 
 pub follow-requires : goal.follow-requires
-follow-requires g c = (
-  lit< tt,
-  (
-    c.requires.near c.loop-from.from-index _ c.loop-from-test.true,
-    star_short c.args.net.now c.arcs.ensures.small _ c.arcs.result.now c.arcs.ensures.arcs,
-  ),
-)
+follow-requires g c =
+    let short = star_short c.args.net.now c.arcs.ensures.small _ c.arcs.result.now c.arcs.ensures.arcs in
+    (lit< tt, (c.requires.near c.loop-from.from-index _ c.loop-from-test.true, short))
 
 pub loop-from-preserved : goal.loop-from-preserved
 loop-from-preserved g c =
-    search_turn c.args.net.now c.args.shell.now c.loop-from.from-index c.args.found.now.keys c.loop-from.found.keys c.loop-from.next.items
-    c.follow.new.found.keys c.follow.new.next.items c.arcs.result.now
-    c.loop-from.invariant c.loop-from-test.true c.arcs.ensures.arcs c.in_ok-follow.ensures.found c.in_ok-follow.ensures.next
+    search_turn c.args.net.now c.args.shell.now c.loop-from.from-index c.loop-from.invariant c.loop-from-test.true c.arcs.ensures.arcs
+    c.in_ok-follow.ensures.found c.in_ok-follow.ensures.next
 
 pub returns-then-len-room-clause-next : goal.returns-then-len-room-clause-next
 returns-then-len-room-clause-next g c =
-    let h = search_turn c.args.net.now c.args.shell.now c.loop-from.from-index c.args.found.now.keys c.loop-from.found.keys c.loop-from.next.items
-    c.follow.new.found.keys c.follow.new.next.items c.arcs.result.now
-    c.loop-from.invariant c.loop-from-test.true c.arcs.ensures.arcs c.in_ok-follow.ensures.found c.in_ok-follow.ensures.next in
+    let h = search_turn c.args.net.now c.args.shell.now c.loop-from.from-index c.loop-from.invariant c.loop-from-test.true c.arcs.ensures.arcs
+    c.in_ok-follow.ensures.found c.in_ok-follow.ensures.next in
     let more : c.args.room < length c.follow.new.next.items = omega (arith, c.if-len-room.true, c.len.ensures) in
     search_stops (IsStep c.args.net.now) c.args.room (c.loop-from.from-index + 1) c.args.shell.now c.args.found.now.keys c.follow.new.found.keys
     c.follow.new.next.items more h
 
 pub returns-then-len-room-clause-found : goal.returns-then-len-room-clause-found
 returns-then-len-room-clause-found g c =
-    let h = search_turn c.args.net.now c.args.shell.now c.loop-from.from-index c.args.found.now.keys c.loop-from.found.keys c.loop-from.next.items
-    c.follow.new.found.keys c.follow.new.next.items c.arcs.result.now
-    c.loop-from.invariant c.loop-from-test.true c.arcs.ensures.arcs c.in_ok-follow.ensures.found c.in_ok-follow.ensures.next in
-    h.found_is
+    let h = search_turn c.args.net.now c.args.shell.now c.loop-from.from-index c.loop-from.invariant c.loop-from-test.true c.arcs.ensures.arcs
+    c.in_ok-follow.ensures.found c.in_ok-follow.ensures.next in h.found_is
 
 pub returns-clause-next : goal.returns-clause-next
 returns-clause-next g c =

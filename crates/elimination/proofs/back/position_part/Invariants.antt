@@ -1,6 +1,5 @@
 use Rattle.std.proofs.Common.{ℕ}
-use Rattle.exact.specs.Ratio.{Ratio}
-use Rattle.exact.specs.Values.{HasValue}
+use Rattle.exact.specs.{Ratio.Ratio, Values.HasValue}
 use Rattle.elimination.specs.Listed.{Level, back_sum, back_entry}
 use Rattle.elimination.specs.Lines.{IsLastLine, AreRowsOfValues}
 use Rattle.elimination.proofs.loops.JoinedLoop.{AreDone}

@@ -1,11 +1,8 @@
 -- Of `joined_to`: the loop over `i`; the clauses `below` and `values`.
-use Rattle.std.proofs.Common.{rules, ◌≡◌, ◌+◌, ◌-◌, ◌<◌, ◌∙◌, get_or, arith, ap, subst}
+use Rattle.std.proofs.Common.{rules, ◌≡◌, ◌+◌, ◌-◌, ◌∙◌, get_or, arith, ap, subst}
 use Rattle.std.specs.Global.{Vec}
-use Rattle.std.specs.List.{All}
 use Rattle.elimination.specs.Lines.{AreJoinedVertices}
-use Rattle.elimination.proofs.steps.Rows.{value_at}
-use Rattle.elimination.proofs.steps.Symmetry.{has_trans}
-use Rattle.elimination.proofs.loops.Listing.{joined_none}
+use Rattle.elimination.proofs.{steps.Rows.value_at, steps.Symmetry.has_trans, loops.JoinedLoop.joined_none}
 use Rattle.elimination.proofs.joined.joined_to.Goals as goal
 
 pub loop-i-init : goal.loop-i-init
@@ -19,12 +16,8 @@ loop-i-init g c =
 
 pub loop-i-preserved : goal.loop-i-preserved
 loop-i-preserved g c =
-    let n = g.N.Exact in
-    let k = c.args.k in
-    let i = c.loop-i.i in
-    let below = c.loop-i-test.true in
-    let line = c.index-lines-i.result in
-    let x = c.index.result.now in
+    let n = g.N.Exact in let k = c.args.k in let i = c.loop-i.i in let below = c.loop-i-test.true in
+    let line = c.index-lines-i.result in let x = c.index.result.now in
     let own : x ≡ get_or line.items (k - (i + 1)) x = search rules in
     record {
       below = c.in_ok-push_joined.ensures.below;
@@ -37,13 +30,10 @@ loop-i-preserved g c =
     }
 
 pub returns-clause-below : goal.returns-clause-below
-returns-clause-below g c =
-    let done : c.loop-i.i ≡ c.args.k = omega (arith, c.loop-i.auto.i-end, c.loop-i-test.false) in
-    subst (λ i. All (λ x. x.place < i) c.loop-i.joined.items) done c.loop-i.invariant.below
+returns-clause-below g c = omega arith
 
 pub returns-clause-values : goal.returns-clause-values
 returns-clause-values g c = λ v w s.
-    let n = g.N.Exact in
-    let k = c.args.k in
+    let n = g.N.Exact in let k = c.args.k in
     let done : c.loop-i.i ≡ k = omega (arith, c.loop-i.auto.i-end, c.loop-i-test.false) in
     subst (λ i. AreJoinedVertices n.modulus n.value c.loop-i.joined.items v 0 i k) done (c.loop-i.invariant.done v w s)

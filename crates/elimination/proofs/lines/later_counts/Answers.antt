@@ -1,13 +1,12 @@
 -- Of `later_counts`: the loop over `arc`; what it ensures.
 use Rattle.std.proofs.Common.{rules, ◌≡◌, ◌+◌, ◌-◌, ◌≤◌, ◌<◌, FitsSigned, pos, get_or, length, arith, ap, sym, subst, ◌∙◌}
+use Rattle.std.proofs.lemmas.{Int.to_z-of_z, List.get_or_default}
 use Rattle.std.specs.Int.{w32}
-use Rattle.std.proofs.lemmas.Int.{to_z-of_z}
-use Rattle.std.proofs.lemmas.List.{get_or_default}
 use Rattle.exact.specs.Ratio.{Same, whole}
 use Rattle.periodic_net.specs.Graph.{Arc}
 use Rattle.elimination.proofs.loops.LaterCounts.{AreSoFar, so_far_none, so_far_passed, so_far_set, so_far_all}
-use Rattle.elimination.proofs.lines.later_counts.Goals as goal
 use Rattle.elimination.proofs.lines.later_counts.Goals.{then-to-u, else-to-u}
+use Rattle.elimination.proofs.lines.later_counts.Goals as goal
 
 pub loop-arc-init : goal.loop-arc-init
 loop-arc-init g c =
@@ -17,13 +16,8 @@ loop-arc-init g c =
 
 pub loop-arc-preserved : goal.loop-arc-preserved
 loop-arc-preserved g c =
-    let n = g.N.Exact in
-    let arcs = c.args.arcs.now in
-    let counts = c.args.counts.now in
-    let u = c.args.u in
-    let t = c.loop-arc.arc-index in
-    let a = c.arc-item.result in
-    let below = c.loop-arc-test.true in
+    let n = g.N.Exact in let arcs = c.args.arcs.now in let counts = c.args.counts.now in let u = c.args.u in
+    let t = c.loop-arc.arc-index in let a = c.arc-item.result in let below = c.loop-arc-test.true in
     let to : c.arc.inside.to ≡ a.to = ap (λ (b : Arc). b.to) c.arc.view_is in
     let bounds : (1 ≤ a.to) × (a.to ≤ length counts) = rw c.arc-item.is (c.requires.heads t a below) in
     elim c.if-to-u.branch [
@@ -44,8 +38,7 @@ loop-arc-preserved g c =
 
 pub returns : goal.returns
 returns g c =
-    let n = g.N.Exact in
-    let arcs = c.args.arcs.now in
+    let n = g.N.Exact in let arcs = c.args.arcs.now in
     let done : c.loop-arc.arc-index ≡ length arcs = omega (arith, c.loop-arc.auto.arc-index-end, c.loop-arc-test.false) in
     so_far_all n.modulus n.value arcs c.args.counts.now c.args.u c.loop-arc.weights.items c.requires.counts
     (subst (AreSoFar n.modulus n.value arcs c.args.counts.now c.args.u c.loop-arc.weights.items) done c.loop-arc.invariant)

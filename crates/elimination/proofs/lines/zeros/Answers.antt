@@ -6,9 +6,7 @@ use Rattle.elimination.proofs.lines.zeros.Goals as goal
 
 pub loop-preserved : goal.loop-preserved
 loop-preserved g c =
-    let n = g.N.Exact in
-    let before = c.loop.invariant in
-    let xs = c.loop.numbers.items in
+    let n = g.N.Exact in let before = c.loop.invariant in let xs = c.loop.numbers.items in
     let zero = c.zero-zero.result in
     rw c.in_ok-push.ensures.items (record {
       count = length_pushed xs zero ∙ ap (λ k. k + 1) before.count;

@@ -1,7 +1,6 @@
 use Rattle.std.proofs.Common.{◌≡◌, ◌+◌, ◌≤◌, length}
 use Rattle.cgd_lex.specs.Limits.{longest_text}
-use Rattle.keyline_import.specs.Keys.{flat_rows}
-use Rattle.keyline_import.specs.Views.{key_view}
+use Rattle.keyline_import.specs.{Keys.flat_rows, Views.key_view}
 use Rattle.keyline_import.proofs.keyed.add_flat_rows.Given as goal
 
 abbrev pub invariant-loop-left : goal.invariant-loop-left

@@ -1,7 +1,6 @@
 use Rattle.std.proofs.Common.{◌≡◌, ◌+◌, ◌≤◌, ◌++◌, ◌&&◌, map, length}
 use Rattle.cgd_lex.specs.Lines.{rest_of_line, after_line}
-use Rattle.keyline_import.specs.Values.{number_or_zero}
-use Rattle.keyline_import.specs.Keys.{are_numbers}
+use Rattle.keyline_import.specs.{Values.number_or_zero, Keys.are_numbers}
 use Rattle.keyline_import.proofs.keyed.read_numbers.Given as goal
 
 abbrev pub invariant-loop-token : goal.invariant-loop-token

@@ -1,16 +1,10 @@
 -- Of `items`: the loop over `head`; the clauses `only` and `few`.
 use Rattle.std.proofs.Common.{◌∙◌, ◌++◌, ◌∷◌, ◌≤◌, [], List, false, sym, ap, subst, length, arith, rules}
-use Rattle.std.proofs.lemmas.Grind.{common_steps}
-use Rattle.std.proofs.lemmas.List.{length-append}
+use Rattle.std.proofs.lemmas.{Grind.common_steps, List.length-append}
 use Rattle.cgd_lex.specs.Lines.{rest_of_line, after_line}
-use Rattle.keyline_import.specs.Lines.{LineView, lines_in}
 use Rattle.keyline_import.specs.Items.{ItemView, items_from, item_of, after_end}
-use Rattle.keyline_import.specs.Reading.{line_view}
-use Rattle.keyline_import.specs.Views.{AreRead}
-use Rattle.keyline_import.specs.declared.item.Item.{Item}
-use Rattle.keyline_import.proofs.Decided.{only_item}
-use Rattle.keyline_import.proofs.ItemLists.{one_item, next_item}
-use Rattle.keyline_import.proofs.ReadLists.{as_many, some_more}
+use Rattle.keyline_import.specs.{Lines.LineView, Lines.lines_in, Reading.line_view, Views.AreRead, declared.item.Item.Item}
+use Rattle.keyline_import.proofs.{Decided.only_item, ItemLists.one_item, ItemLists.next_item, ReadLists.as_many, ReadLists.some_more}
 use Rattle.keyline_import.proofs.read.items.Goals as goal
 
 pub loop-head-init : goal.loop-head-init

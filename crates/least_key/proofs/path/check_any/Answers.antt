@@ -1,8 +1,7 @@
 use Rattle.std.proofs.Common.{sym, subst}
 use Rattle.std.specs.Prelude.{OnOk}
 use Rattle.periodic_net.specs.Graph.{IsConnected}
-use Rattle.quotient_graph.specs.AnyGraphs.{graph_view}
-use Rattle.quotient_graph.specs.declared.any_graph.AnyGraph.{AnyGraph}
+use Rattle.quotient_graph.specs.{AnyGraphs.graph_view, declared.any_graph.AnyGraph.AnyGraph}
 use Rattle.least_key.proofs.path.check_any.Goals as goal
 
 pub returns-in-Flat-clause-connected : goal.returns-in-Flat-clause-connected

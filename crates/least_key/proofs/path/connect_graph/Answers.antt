@@ -1,5 +1,4 @@
-use Rattle.least_key.specs.Causes.{unconnected_refusal}
-use Rattle.least_key.specs.Truths.{IsTrueOf}
+use Rattle.least_key.specs.{Causes.unconnected_refusal, Truths.IsTrueOf}
 use Rattle.least_key.proofs.Truth.{unconnected_true, known_error}
 use Rattle.least_key.proofs.path.connect_graph.Goals as goal
 

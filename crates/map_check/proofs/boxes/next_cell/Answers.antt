@@ -4,8 +4,7 @@ use Rattle.std.specs.Int.{w64}
 use Rattle.std.proofs.lemmas.Int.{to_z-of_z}
 use Rattle.integers.specs.Vectors.{vector}
 use Rattle.periodic_net.specs.Maps.{IsInBox}
-use Rattle.map_check.proofs.NextCells.{next_in_row, next_in_layer, next_in_box}
-use Rattle.map_check.proofs.SmallParts.{below_of_test, not_below_of_test, part_fits, part_small, sum_fits, wide}
+use Rattle.map_check.proofs.NextCells.{next_in_row, next_in_layer, next_in_box, below_of_test, not_below_of_test, part_fits, part_small, sum_fits, wide}
 use Rattle.map_check.proofs.boxes.next_cell.Goals as goal
 
 -- a part and one more fit
@@ -14,8 +13,7 @@ next_fits z m b l h = sum_fits z (pos 1) (wide z 512 (omega arith) (part_small z
 
 pub returns-then-cell-last : goal.returns-then-cell-last
 returns-then-cell-last g c = λ i e.
-    let m = c.args.m in
-    let v = c.cell.inside in
+    let m = c.args.m in let v = c.cell.inside in
     let b = subst (IsInBox g.row.D m) (sym c.cell.view_is) c.requires.inside in
     let fx = part_fits v.x m c.requires.to b.low.0 b.high.0 in
     let fy = part_fits v.y m c.requires.to b.low.1 b.high.1 in
@@ -28,8 +26,7 @@ returns-then-cell-last g c = λ i e.
 
 pub returns-then-cell-side : goal.returns-then-cell-side
 returns-then-cell-side g c = λ i e.
-    let m = c.args.m in
-    let v = c.cell.inside in
+    let m = c.args.m in let v = c.cell.inside in
     let b = subst (IsInBox g.row.D m) (sym c.cell.view_is) c.requires.inside in
     let fx = part_fits v.x m c.requires.to b.low.0 b.high.0 in
     let fy = part_fits v.y m c.requires.to b.low.1 b.high.1 in
@@ -47,8 +44,7 @@ returns-then-cell-side g c = λ i e.
 
 pub returns : goal.returns
 returns g c = λ i e.
-    let m = c.args.m in
-    let v = c.cell.inside in
+    let m = c.args.m in let v = c.cell.inside in
     let b = subst (IsInBox g.row.D m) (sym c.cell.view_is) c.requires.inside in
     let fx = part_fits v.x m c.requires.to b.low.0 b.high.0 in
     let fy = part_fits v.y m c.requires.to b.low.1 b.high.1 in

@@ -1,21 +1,15 @@
 use Rattle.std.proofs.Common.{ℤ, pos, ◌+ℤ◌, ◌-ℤ◌, ◌*ℤ◌, FitsSigned, ◌^◌, ◌∙◌, sym, ap, subst, arith}
 use Rattle.std.specs.Int.{w64}
 use Rattle.std.proofs.lemmas.Int.{to_z-of_z}
-use Rattle.map_check.proofs.SmallParts.{difference_fits, once_more, part_small, sum_fits, wide}
+use Rattle.map_check.proofs.NextCells.{difference_fits, once_more, part_small, sum_fits, wide}
 use Rattle.map_check.proofs.carrying.moved_part.Goals as goal
 
 pub returns-else-sum-side-clause-same : goal.returns-else-sum-side-clause-same
 returns-else-sum-side-clause-same c =
-    let q = c.requires in
-    let a = c.args.part in
-    let b = c.args.rest in
-    let s = c.args.steps in
+    let q = c.requires in let a = c.args.part in let b = c.args.rest in let s = c.args.steps in
     let m = pos c.args.m in
-    let f = c.from-side.result in
-    let e = c.from-side.ensures in
-    let ra = c.ranges.part in
-    let rb = c.ranges.rest in
-    let rs = c.ranges.steps in
+    let f = c.from-side.result in let e = c.from-side.ensures in let ra = c.ranges.part in
+    let rb = c.ranges.rest in let rs = c.ranges.steps in
     let pa = wide a 512 (omega arith) (part_small a c.args.m q.m q.part_from q.part_to) in
     let pb = wide b 512 (omega arith) (part_small b c.args.m q.m q.rest_from q.rest_to) in
     let pm = wide m 512 (omega arith) q.m in

@@ -4,24 +4,15 @@ use Rattle.std.specs.List.{All}
 use Rattle.integers.specs.Vectors.{Vector}
 use Rattle.sublattice.specs.Sublattices.{base_of, index_of}
 use Rattle.periodic_net.specs.Graph.{Vertex}
-use Rattle.map_check.specs.Layouts.{table_for}
-use Rattle.map_check.specs.Conditions.{most_images, IsImage}
-use Rattle.map_check.specs.Faults.{IsVerdict}
-use Rattle.map_check.specs.Images.{AreNoCopies, IsFirstCopy}
-use Rattle.map_check.specs.declared.verdict.MapFault.{MapFault}
-use Rattle.map_check.specs.declared.verdict.Verdict.TheVariants.{No}
-use Rattle.map_check.proofs.ToldFaults.{verdict_of_copy, verdict_of_no_copy, some_image, factor_positive, count_of}
+use Rattle.map_check.specs.{Layouts.table_for, Conditions.most_images, Conditions.IsImage, Faults.IsVerdict, Images.AreNoCopies, Images.IsFirstCopy}
+use Rattle.map_check.specs.{declared.verdict.MapFault.MapFault, declared.verdict.Verdict.TheVariants.No}
+use Rattle.map_check.proofs.Verification.{verdict_of_copy, verdict_of_no_copy, some_image, factor_positive, count_of}
 use Rattle.map_check.proofs.check.verdict_on_images.Goals as goal
 
 pub first_copy-requires : goal.first_copy-requires
 first_copy-requires g c =
-    let G = c.args.g.now in
-    let H = c.args.h.now in
-    let m = c.args.map.now in
-    let e = c.recall.ensures in
-    let e' = c.recall-2.ensures in
-    let r = c.requires in
-    let n = c.vertices.ensures in
+    let G = c.args.g.now in let H = c.args.h.now in let m = c.args.map.now in let e = c.recall.ensures in
+    let e' = c.recall-2.ensures in let r = c.requires in let n = c.vertices.ensures in
     let s = sym c.as_slice.ensures in
     let images = subst (λ (d : ℕ). All (IsImage d H.vertices) m.images) e'.parameter r.map.each_image in
     let here = subst (All (IsImage g.row.D c.vertices.result)) s (subst (λ (v : ℕ). All (IsImage g.row.D v) m.images) (sym n.count) images) in
@@ -37,9 +28,7 @@ first_copy-requires g c =
 
 pub verdict_on_degrees-requires : goal.verdict_on_degrees-requires
 verdict_on_degrees-requires g c =
-    let m = c.args.map.now in
-    let e = c.recall.ensures in
-    let r = c.requires in
+    let m = c.args.map.now in let e = c.recall.ensures in let r = c.requires in
     let t = rw c.in-None.is at c.in_ok-i.ensures in
     let u = subst (λ (xs : List Vertex). AreNoCopies g.row.D (base_of c.args.rows.now) xs (length xs)) c.as_slice.ensures t in
     let v = subst (λ (rows : List Vector). AreNoCopies g.row.D (base_of rows) m.images (length m.images)) r.rows u in
@@ -48,10 +37,7 @@ verdict_on_degrees-requires g c =
 
 pub returns-in-Some : goal.returns-in-Some
 returns-in-Some g c =
-    let G = c.args.g.now in
-    let H = c.args.h.now in
-    let m = c.args.map.now in
-    let e = c.recall.ensures in
+    let G = c.args.g.now in let H = c.args.h.now in let m = c.args.map.now in let e = c.recall.ensures in
     let r = c.requires in
     let t = rw c.in-Some.is at c.in_ok-i.ensures in
     let u = subst (λ (xs : List Vertex). IsFirstCopy g.row.D (base_of c.args.rows.now) xs c.in-Some.i) c.as_slice.ensures t in

@@ -1,29 +1,22 @@
 -- Of `image_of_end`: the clause `image`; what `place_of` and `image_in` require.
 use Rattle.std.proofs.Common.{◌≡◌, ◌<◌, ◌∙◌, ℕ, List, length, sym, subst, ap}
-use Rattle.integers.specs.Bases.{Base, base_sum}
-use Rattle.integers.specs.Vectors.{plus}
+use Rattle.integers.specs.{Bases.Base, Bases.base_sum, Vectors.plus}
 use Rattle.integers.proofs.vectors.Laws.{plus_dimension}
-use Rattle.periodic_net.specs.Graph.{Vertex, vertex}
-use Rattle.periodic_net.specs.Maps.{IsInBox}
-use Rattle.map_check.specs.Layouts.{place_of, table_of}
-use Rattle.map_check.specs.Images.{image_at, IsImageOf}
-use Rattle.map_check.proofs.Splits.{box_of_split, image_is, place_inside}
+use Rattle.periodic_net.specs.{Graph.Vertex, Graph.vertex, Maps.IsInBox}
+use Rattle.map_check.specs.{Layouts.place_of, Layouts.table_of, Images.image_at, Images.IsImageOf}
+use Rattle.map_check.proofs.Drawing.{box_of_split, image_is, place_inside}
 use Rattle.map_check.proofs.images.image_of_end.Goals as goal
 
 pub place_of-at-requires-clause-inside : goal.place_of-at-requires-clause-inside
 place_of-at-requires-clause-inside g c =
-    let D = g.row.D in
-    let m = c.args.map.now in
-    let a = c.args.arc.now.arc in
+    let D = g.row.D in let m = c.args.map.now in let a = c.args.arc.now.arc in
     let p = c.parts_of_end-parts.result in
     let flat = plus_dimension D c.args.cell.now a.shift c.requires.cell.dimension c.requires.flat in
     subst (IsInBox D m.m) (sym c.to_triple.ensures) (box_of_split D m.m (plus c.args.cell.now a.shift) p.rest p.steps flat c.parts_of_end-parts.ensures.split).0
 
 pub image_in-image-requires-clause-inside : goal.image_in-image-requires-clause-inside
 image_in-image-requires-clause-inside g c =
-    let D = g.row.D in
-    let m = c.args.map.now in
-    let a = c.args.arc.now.arc in
+    let D = g.row.D in let m = c.args.map.now in let a = c.args.arc.now.arc in
     let p = c.parts_of_end-parts.result in
     let flat = plus_dimension D c.args.cell.now a.shift c.requires.cell.dimension c.requires.flat in
     let box = (box_of_split D m.m (plus c.args.cell.now a.shift) p.rest p.steps flat c.parts_of_end-parts.ensures.split).0 in
@@ -34,9 +27,7 @@ image_in-image-requires-clause-inside g c =
 
 pub returns-clause-image : goal.returns-clause-image
 returns-clause-image g c =
-    let D = g.row.D in
-    let m = c.args.map.now in
-    let a = c.args.arc.now.arc in
+    let D = g.row.D in let m = c.args.map.now in let a = c.args.arc.now.arc in
     let p = c.parts_of_end-parts.result in
     let flat = plus_dimension D c.args.cell.now a.shift c.requires.cell.dimension c.requires.flat in
     let w = vertex a.to (plus c.args.cell.now a.shift) in

@@ -1,8 +1,6 @@
 use Rattle.std.proofs.Common.{◌≡◌, ℕ, ◌<◌}
-use Rattle.periodic_net.specs.Graph.{Vertex, vertex}
-use Rattle.periodic_net.specs.Maps.{IsDrawnBy}
-use Rattle.map_check.specs.Layouts.{cell_at, table_of}
-use Rattle.map_check.specs.Places.{KeepsArc}
+use Rattle.periodic_net.specs.{Graph.Vertex, Graph.vertex, Maps.IsDrawnBy}
+use Rattle.map_check.specs.{Layouts.cell_at, Layouts.table_of, Places.KeepsArc}
 use Rattle.map_check.proofs.lost.first_losing_cell.Given as goal
 
 abbrev pub invariant-loop-p : goal.invariant-loop-p

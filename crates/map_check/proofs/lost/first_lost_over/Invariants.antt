@@ -1,8 +1,7 @@
 use Rattle.std.proofs.Common.{◌<◌, ◌≤◌, length}
-use Rattle.periodic_net.specs.Graph.{Vertex, vertex}
-use Rattle.periodic_net.specs.Maps.{IsDrawnBy}
+use Rattle.periodic_net.specs.{Graph.Vertex, Graph.vertex, Maps.IsDrawnBy}
 use Rattle.map_check.specs.Layouts.{cell_at, table_of}
-use Rattle.map_check.proofs.Losses.{IsLoss, KeepCells}
+use Rattle.map_check.proofs.LostArcs.{IsLoss, KeepCells}
 use Rattle.map_check.proofs.lost.first_lost_over.Given as goal
 
 abbrev pub invariant-loop-k : goal.invariant-loop-k

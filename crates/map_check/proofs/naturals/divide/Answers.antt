@@ -1,4 +1,4 @@
-use Rattle.std.proofs.Common.{◌≡◌, ◌+ℤ◌, ◌*ℤ◌, FitsSigned, ◌∙◌, sym}
+use Rattle.std.proofs.Common.{◌≡◌, ◌+ℤ◌, ◌*ℤ◌, FitsSigned, ◌∙◌, sym, arith}
 use Rattle.std.specs.Int.{w32, w128}
 use Rattle.std.proofs.lemmas.Int.{to_z-of_z}
 use Rattle.integers.proofs.numbers.Division.{euclid_sum}
@@ -7,14 +7,7 @@ use Rattle.map_check.proofs.naturals.divide.Goals.{After-rem_euclid-rest}
 
 -- the number is the rest and the multiple
 sum_is : (c : After-rem_euclid-rest) → c.args.z ≡ c.rem_euclid-rest.result +ℤ c.args.m *ℤ c.div_euclid-quotient.result
-sum_is c =
-    let rz = c.ranges.z in
-    let rm = c.ranges.m in
-    let q = c.div_euclid-quotient.ensures in
-    let r = c.rem_euclid-rest.ensures.value in
-    let e = simp to_z-of_z at q in
-    let f = simp to_z-of_z at r in
-    euclid_sum c.args.z c.args.m c.requires.m ∙ sym (λ i. f i +ℤ c.args.m *ℤ e i)
+sum_is c = search (arith, to_z-of_z, euclid_sum)
 
 pub returns-clause-same : goal.returns-clause-same
 returns-clause-same c =

@@ -1,4 +1,4 @@
-use Rattle.map_check.proofs.CopyNumbers.{numbers_more}
+use Rattle.map_check.proofs.ImageNumbers.{numbers_more}
 use Rattle.map_check.proofs.numbers.image_numbers.Goals as goal
 
 pub loop-image-preserved : goal.loop-image-preserved

@@ -10,8 +10,7 @@ use Rattle.net_archive.proofs.adding.entry_of.Goals as goal
 
 pub returns-clause-is_entry : goal.returns-clause-is_entry
 returns-clause-is_entry c named =
-    let graph = c.in_ok-graph.ensures in
-    let key = c.in_ok-key.ensures in
+    let graph = c.in_ok-graph.ensures in let key = c.in_ok-key.ensures in
     let shells = c.in_ok-shells.ensures in
     let e : EntryView = record {
       name = c.in_ok-name.name.items;
@@ -26,5 +25,4 @@ returns-clause-is_entry c named =
       key = key.same ∙ c.key.ensures.key;
       shells = subst (λ (G : Graph). AreSequencesOf G e.shells) (sym graph.graph) shells.sequences;
     } in
-    entry_of_net c.args.name.now (net_view c.args.net.now) e named c.key.ensures.keyed of shells.few graph.small graph.rising
-    key.wide
+    entry_of_net c.args.name.now (net_view c.args.net.now) e named c.key.ensures.keyed of graph.small graph.rising key.wide

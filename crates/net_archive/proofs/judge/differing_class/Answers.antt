@@ -1,5 +1,5 @@
 use Rattle.std.proofs.Common.{arith}
-use Rattle.net_archive.proofs.SameLists.{next_same, same_lists}
+use Rattle.net_archive.proofs.FirstFaults.{next_same, same_lists}
 use Rattle.net_archive.proofs.judge.differing_class.Goals as goal
 
 pub loop-before-preserved : goal.loop-before-preserved
@@ -9,5 +9,4 @@ loop-before-preserved c =
     (c.same_sizes.ensures.0 c.if-not-same_sizes.false)
 
 pub returns : goal.returns
-returns c = same_lists c.args.kept.now c.args.computed.now c.requires (λ j l. c.loop-before.invariant j
-    (omega (arith, l, c.len-before-end.ensures, c.loop-before-test.false)))
+returns c = grind (arith, same_lists)

@@ -1,5 +1,4 @@
-use Rattle.std.proofs.Common.{◌∙◌, sym}
-use Rattle.std.proofs.lemmas.Slice.Eq.{bytes_eq-Decides}
+use Rattle.std.proofs.{Common.◌∙◌, Common.sym, lemmas.Slice.Eq.bytes_eq-Decides}
 use Rattle.net_archive.proofs.judge.same_sizes.Goals as goal
 
 pub returns : goal.returns

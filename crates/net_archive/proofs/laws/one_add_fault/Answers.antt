@@ -1,4 +1,4 @@
-use Rattle.net_archive.proofs.OneAddition.{one_add_fault}
+use Rattle.net_archive.proofs.NewEntry.{one_add_fault}
 use Rattle.net_archive.proofs.laws.one_add_fault.Goals as goal
 
 pub returns : goal.returns

@@ -1,7 +1,5 @@
 use Rattle.std.proofs.Common.{◌≡◌, take}
-use Rattle.archive_text.specs.Entries.{entry_views}
-use Rattle.archive_text.specs.Texts.{text_of}
-use Rattle.archive_text.specs.declared.version.Version.TheVariants.{Two}
+use Rattle.archive_text.specs.{Entries.entry_views, Texts.text_of, declared.version.Version.TheVariants.Two}
 use Rattle.net_archive.proofs.migrating.rows_in_two.Given as goal
 
 abbrev pub invariant-loop-entry : goal.invariant-loop-entry

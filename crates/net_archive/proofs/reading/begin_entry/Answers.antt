@@ -1,8 +1,6 @@
 use Rattle.std.proofs.Common.{length, sym, ap, ◌∙◌, arith}
-use Rattle.std.proofs.lemmas.Bool.{true≢false}
-use Rattle.std.proofs.lemmas.List.{length-map}
-use Rattle.archive_text.specs.Entries.{entry_view}
-use Rattle.archive_text.specs.Texts.{rows_before}
+use Rattle.std.proofs.lemmas.{Bool.true≢false, List.length-map}
+use Rattle.archive_text.specs.{Entries.entry_view, Texts.rows_before}
 use Rattle.net_archive.proofs.FirstFaults.{too_many, few_entries}
 use Rattle.net_archive.proofs.reading.begin_entry.Goals as goal
 

@@ -1,12 +1,7 @@
-use Rattle.archive_text.specs.Entries.{EntryView, entry_view}
-use Rattle.archive_text.specs.Texts.{rows_before}
-use Rattle.net_archive.proofs.FormEdges.{are_edges}
+use Rattle.archive_text.specs.{Entries.entry_view, Texts.rows_before}
 use Rattle.net_archive.proofs.FirstFaults.{judged, result_both, rows_told}
-use Rattle.net_archive.proofs.ReadBack.{matched_error}
-use Rattle.net_archive.specs.Causes.{of_rows}
-use Rattle.net_archive.specs.Judging.{IsEntryOfForm, IsJudged}
-use Rattle.net_archive.specs.Steps.{AreMore, IsFaultTold}
-use Rattle.net_archive.proofs.MoreEntries.{one_more_entry}
+use Rattle.net_archive.proofs.{MoreEntries.are_edges, MoreEntries.one_more_entry, ReadBack.matched_error}
+use Rattle.net_archive.specs.{Causes.of_rows, Judging.IsEntryOfForm, Judging.IsJudged, Steps.AreMore, Steps.IsFaultTold}
 use Rattle.net_archive.proofs.reading.finish_entry.Goals as goal
 
 pub judge-requires-clause-edges : goal.judge-requires-clause-edges
@@ -21,8 +16,7 @@ judge-requires-clause-line c =
 
 pub returns : goal.returns
 returns c = λ text es good begun line.
-    let v = c.args.version in
-    let name = c.args.name.now in
+    let v = c.args.version in let name = c.args.name.now in
     let has = c.in_ok-form.ensures.rest text (rows_before v es) name begun.is_name begun.at in
     result_both c.judge.result (λ e. IsEntryOfForm v name c.in_ok-form.form (entry_view e)) (λ e. AreMore v text es (entry_view e) c.read_rest.new.lines)
     (IsJudged v c.args.line c.in_ok-form.form) (IsFaultTold v text)
@@ -32,8 +26,6 @@ returns c = λ text es good begun line.
 
 pub returns-in_err-form : goal.returns-in_err-form
 returns-in_err-form c = λ text es good begun line.
-    let v = c.args.version in
-    let name = c.args.name.now in
-    let fault = c.in_err-form.field-0.0 in
+    let v = c.args.version in let name = c.args.name.now in let fault = c.in_err-form.field-0.0 in
     matched_error _ (IsFaultTold v text) (of_rows fault) c.from_residual.result c.from_residual.ensures.1
     (rows_told v text es name fault good begun.may (c.in_err-form.ensures.rest text (rows_before v es) name begun.is_name begun.at))

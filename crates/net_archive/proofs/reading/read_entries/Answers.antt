@@ -1,12 +1,11 @@
 use Rattle.std.proofs.Common.{◌++◌, sym, ◌∙◌, subst}
 use Rattle.std.proofs.lemmas.Bool.{eqb-true}
 use Rattle.line_text.specs.Lines.{rows_text}
-use Rattle.archive_text.specs.Entries.{entry_view}
-use Rattle.archive_text.specs.Texts.{rows_before}
+use Rattle.archive_text.specs.{Entries.entry_view, Texts.rows_before}
 use Rattle.net_archive.specs.Steps.{AreRead, IsFaultTold}
 use Rattle.net_archive.proofs.FirstLines.{some_text, less_after, whole_text, read_more}
-use Rattle.net_archive.proofs.reading.read_entries.Goals as goal
 use Rattle.net_archive.proofs.ReadBack.{matched_error}
+use Rattle.net_archive.proofs.reading.read_entries.Goals as goal
 
 pub returns-in_err-entry : goal.returns-in_err-entry
 returns-in_err-entry c = λ text at.
@@ -15,8 +14,7 @@ returns-in_err-entry c = λ text at.
 
 pub loop-version-smaller : goal.loop-version-smaller
 loop-version-smaller c =
-    let v = c.args.version in
-    let es = c.loop-version.entries in
+    let v = c.args.version in let es = c.loop-version.entries in
     let text = rows_text (rows_before v es) ++ c.loop-version.lines.rest in
     let at = some_text v es c.loop-version.lines c.loop-version.invariant.number in
     less_after v text es (entry_view c.in_ok-entry.entry) c.loop-version.lines c.read_entry.new.lines at (c.in_ok-entry.ensures text at)

@@ -1,12 +1,10 @@
 use Rattle.std.proofs.Common.{List, sym, subst, Bor}
-use Rattle.std.specs.List.{All}
 use Rattle.std.proofs.lemmas.List.Sorted.{All-permutation}
-use Rattle.archive_text.specs.Entries.{entry_view, entry_views}
-use Rattle.archive_text.specs.declared.entry.Entry.{Entry}
+use Rattle.std.specs.List.{All}
+use Rattle.archive_text.specs.{Entries.entry_view, Entries.entry_views, declared.entry.Entry.Entry, Regrouped.regrouped}
 use Rattle.net_archive.specs.Archives.{IsEntry}
-use Rattle.archive_text.specs.Regrouped.{regrouped}
 use Rattle.archive_text.proofs.CallerLemmas.{is_regrouped}
-use Rattle.net_archive.proofs.LentRows.{all_lent, all_seen}
+use Rattle.net_archive.proofs.RegroupedText.{all_lent, all_seen}
 use Rattle.net_archive.proofs.regrouping.rows_in_groups.Goals as goal
 
 pub rows_of_all-requires : goal.rows_of_all-requires

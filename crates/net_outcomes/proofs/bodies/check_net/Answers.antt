@@ -1,7 +1,6 @@
 use Rattle.cgd_read.specs.Views.{raw_view}
 use Rattle.quotient_graph.specs.AnyGraphs.{graph_view}
-use Rattle.net_outcomes.proofs.OnlyPlacement.{is_graph_in}
-use Rattle.net_outcomes.proofs.NetOutcomes.{check_may, refused_as}
+use Rattle.net_outcomes.proofs.{OnlyPlacement.is_graph_in, NetOutcomes.check_may, NetOutcomes.refused_as}
 use Rattle.net_report.specs.declared.command.Command.TheVariants.{Check}
 use Rattle.net_outcomes.proofs.bodies.check_net.Goals as goal
 

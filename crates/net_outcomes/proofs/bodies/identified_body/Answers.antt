@@ -1,15 +1,14 @@
 use Rattle.std.proofs.Common.{sym, subst}
-use Rattle.cgd_read.specs.Views.{raw_view}
-use Rattle.net_report.specs.declared.outcome.Size.{Size}
-use Rattle.net_outcomes.specs.Outcomes.{IsKeyedAs}
+use Rattle.cgd_read.specs.Views.{Net, raw_view}
+use Rattle.net_outcomes.specs.Outcomes.{IsBodyOf, size_of}
+use Rattle.net_report.specs.declared.command.Command.TheVariants.{Identify}
 use Rattle.net_outcomes.proofs.Identified.{identified_as}
 use Rattle.net_outcomes.proofs.bodies.identified_body.Goals as goal
 
-pub returns : goal.returns
-returns c =
+pub returns-in-Ok : goal.returns-in-Ok
+returns-in-Ok c =
     let raw = raw_view c.args.raw.now in
-    let keyed = subst (λ (size : Size). IsKeyedAs raw size c.args.found.net) (sym c.size_of.ensures) c.requires.keyed in
-    let lists = c.in_ok-vertices.ensures in
-    identified_as c.args.archive.now.entries raw c.size_of.result c.in_ok-vertices.vertices c.args.found.net c.in_ok-vertices.shells c.in_ok-vertices.names
-    keyed lists.vertices
-    lists.shells c.lists_of.ensures.archive.each lists.names
+    let entries = c.args.archive.now.entries in let lists = c.in-Ok.lists in
+    subst (IsBodyOf entries Identify (Net raw)) (sym c.with_lists.ensures)
+    (identified_as entries raw (size_of raw) lists.0 c.args.found.net lists.1 lists.2 c.requires.keyed c.in-Ok.ensures.vertices c.in-Ok.ensures.shells
+    c.lists_of.ensures.archive.each c.in-Ok.ensures.names)

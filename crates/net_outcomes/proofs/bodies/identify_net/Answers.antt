@@ -1,11 +1,9 @@
-use Rattle.std.proofs.Common.{List, refl}
-use Rattle.std.proofs.lemmas.Result.{IfOk-weaker}
+use Rattle.std.proofs.{Common.List, Common.refl, lemmas.Result.IfOk-weaker}
 use Rattle.cgd_read.specs.Views.{Net, raw_view}
 use Rattle.archive_text.specs.Entries.{EntryView}
 use Rattle.net_outcomes.specs.Outcomes.{IsBodyOf}
 use Rattle.quotient_graph.specs.AnyGraphs.{graph_view}
-use Rattle.net_outcomes.proofs.OnlyPlacement.{is_graph_in}
-use Rattle.net_outcomes.proofs.NetOutcomes.{identify_may, refused_as}
+use Rattle.net_outcomes.proofs.{OnlyPlacement.is_graph_in, NetOutcomes.identify_may, NetOutcomes.refused_as}
 use Rattle.net_report.specs.declared.command.Command.TheVariants.{Identify}
 use Rattle.net_outcomes.proofs.bodies.identify_net.Goals as goal
 

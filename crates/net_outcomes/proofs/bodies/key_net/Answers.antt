@@ -1,7 +1,6 @@
 use Rattle.cgd_read.specs.Views.{raw_view}
 use Rattle.quotient_graph.specs.AnyGraphs.{graph_view}
-use Rattle.net_outcomes.proofs.OnlyPlacement.{is_graph_in}
-use Rattle.net_outcomes.proofs.NetOutcomes.{key_may, refused_told}
+use Rattle.net_outcomes.proofs.{OnlyPlacement.is_graph_in, NetOutcomes.key_may, NetOutcomes.refused_told}
 use Rattle.net_report.specs.declared.command.Command.TheVariants.{Key}
 use Rattle.net_outcomes.proofs.bodies.key_net.Goals as goal
 

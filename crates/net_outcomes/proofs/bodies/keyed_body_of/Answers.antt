@@ -1,5 +1,4 @@
-use Rattle.std.proofs.Common.{[]}
-use Rattle.std.proofs.lemmas.Result.{IfOk-weaker}
+use Rattle.std.proofs.{Common.[], lemmas.Result.IfOk-weaker}
 use Rattle.net_outcomes.proofs.bodies.keyed_body_of.Goals as goal
 
 pub returns-in-Graph-clause-told : goal.returns-in-Graph-clause-told

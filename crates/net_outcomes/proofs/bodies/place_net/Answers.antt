@@ -1,8 +1,7 @@
 use Rattle.cgd_read.specs.Views.{raw_view}
 use Rattle.quotient_graph.specs.AnyGraphs.{graph_view}
 use Rattle.least_key.specs.AnyPlacements.{placed_view}
-use Rattle.net_outcomes.proofs.OnlyPlacement.{is_graph_in, only_placement}
-use Rattle.net_outcomes.proofs.NetOutcomes.{place_may, refused_as}
+use Rattle.net_outcomes.proofs.{OnlyPlacement.is_graph_in, OnlyPlacement.only_placement, NetOutcomes.place_may, NetOutcomes.refused_as}
 use Rattle.net_report.specs.declared.command.Command.TheVariants.{Place}
 use Rattle.net_outcomes.proofs.bodies.place_net.Goals as goal
 

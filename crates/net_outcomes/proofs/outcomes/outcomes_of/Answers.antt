@@ -2,9 +2,7 @@ use Rattle.std.proofs.Common.{◌+◌, ◌++◌, ◌∷◌, [], ℕ, List, sym, 
 use Rattle.std.proofs.lemmas.List.Elements.{All-nil}
 use Rattle.cgd_read.specs.Views.{views}
 use Rattle.net_archive.specs.Archives.{IsEntry}
-use Rattle.net_report.specs.KindsTold.{AreKindsOfAll}
-use Rattle.net_report.specs.declared.command.Command.TheVariants.{Key}
-use Rattle.net_report.specs.declared.outcome.Outcome.{Outcome}
+use Rattle.net_report.specs.{KindsTold.AreKindsOfAll, declared.command.Command.TheVariants.Key, declared.outcome.Outcome.Outcome}
 use Rattle.net_report.proofs.CallerLemmas.{kinds_last}
 use Rattle.net_outcomes.proofs.Listing.{AreOutcomesOn, outcomes_next, outcomes_none, outcomes_whole}
 use Rattle.net_outcomes.proofs.outcomes.outcomes_of.Goals as goal
@@ -19,11 +17,8 @@ loop-block-init c =
 
 pub loop-block-preserved : goal.loop-block-preserved
 loop-block-preserved c =
-    let found = c.args.found.now in
-    let at = c.loop-block in
-    let i = at.block-index in
-    let os = at.keyed.outcomes in
-    let o = c.in_ok-outcome.outcome in
+    let found = c.args.found.now in let at = c.loop-block in let i = at.block-index in
+    let os = at.keyed.outcomes in let o = c.in_ok-outcome.outcome in
     let longer = sym c.in_ok-push.ensures.outcomes in
     record {
       outcomes = subst (AreOutcomesOn [] Key (views found) (i + 1) (at.number + 1)) longer

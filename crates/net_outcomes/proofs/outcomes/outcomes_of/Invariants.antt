@@ -1,7 +1,6 @@
 use Rattle.std.proofs.Common.{[]}
 use Rattle.cgd_read.specs.Views.{views}
-use Rattle.net_report.specs.KindsTold.{AreKindsOfAll}
-use Rattle.net_report.specs.declared.command.Command.TheVariants.{Key}
+use Rattle.net_report.specs.{KindsTold.AreKindsOfAll, declared.command.Command.TheVariants.Key}
 use Rattle.net_outcomes.proofs.Listing.{AreOutcomesOn}
 use Rattle.net_outcomes.proofs.outcomes.outcomes_of.Given as goal
 

@@ -1,8 +1,7 @@
 use Rattle.std.proofs.Common.{lit<, sym, subst, List}
-use Rattle.periodic_net.specs.Graph.{Arc, IsGraph}
-use Rattle.periodic_net.specs.Limits.{IsSmall}
+use Rattle.periodic_net.specs.{Graph.Arc, Graph.IsGraph, Limits.IsSmall}
 use Rattle.quotient_graph.specs.Stars.{graph_with}
-use Rattle.quotient_graph.proofs.ReadGraphs.{flat_edges}
+use Rattle.quotient_graph.proofs.GraphsInMemory.{flat_edges}
 use Rattle.quotient_graph.proofs.any_graph.graph_from.Goals as goal
 
 pub edges_of-requires : goal.edges_of-requires
@@ -10,13 +9,6 @@ edges_of-requires g c = (lit< tt, flat_edges g.row.D c.args.n c.args.edges.now c
 
 pub from_edges-requires : goal.from_edges-requires
 from_edges-requires g c =
-    let same = sym c.in_ok-edges.ensures in (
-      lit< tt,
-      (
-        lit< tt,
-        (
-          subst (λ (es : List Arc). IsGraph (graph_with g.row.D c.args.n es)) same c.requires.is_graph,
-          subst (λ (es : List Arc). IsSmall (graph_with g.row.D c.args.n es)) same c.requires.small,
-        ),
-      ),
-    )
+    let same = sym c.in_ok-edges.ensures in
+    let is_graph = subst (λ (es : List Arc). IsGraph (graph_with g.row.D c.args.n es)) same c.requires.is_graph in
+    (lit< tt, (lit< tt, (is_graph, subst (λ (es : List Arc). IsSmall (graph_with g.row.D c.args.n es)) same c.requires.small)))

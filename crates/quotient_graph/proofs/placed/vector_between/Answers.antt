@@ -13,9 +13,7 @@ invariant_of-result g c =
     let x = to_z w128 (of_z w128 c.part_between.result) in
     let y = to_z w128 (of_z w128 c.part_between-2.result) in
     let z = to_z w128 (of_z w128 c.part_between-3.result) in
-    let f = c.from.inside.z in
-    let t = c.to.inside.z in
-    let s = c.shift.inside.z in
+    let f = c.from.inside.z in let t = c.to.inside.z in let s = c.shift.inside.z in
     let same : vector x y z ≡ minus (plus c.args.to.now (times c.args.d0 c.args.shift.now)) c.args.from.now = search (rules, vector_equal) in
     let last : z ≡ (t +ℤ c.args.d0 *ℤ s) -ℤ f = search rules in (
       subst (IsWithin (2 ^ 61)) (sym same) c.requires.small,

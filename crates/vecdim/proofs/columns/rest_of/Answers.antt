@@ -1,5 +1,4 @@
-use Rattle.std.proofs.Common.{rules, arith}
-use Rattle.std.proofs.lemmas.Int.{ints}
+use Rattle.std.proofs.{Common.rules, Common.arith, lemmas.Int.ints}
 use Rattle.vecdim.proofs.Combos.{exchange_step}
 use Rattle.vecdim.proofs.columns.rest_of.Goals as goal
 
@@ -24,6 +23,5 @@ returns-clause-rest c = record {
 
 pub returns-clause-same : goal.returns-clause-same
 returns-clause-same c =
-    let y = c.less_times.ensures.same in
-    let z = c.less_times-2.ensures.same in
+    let y = c.less_times.ensures.same in let z = c.less_times-2.ensures.same in
     exchange_step c.divide-parts.result.quotient y.0 z.0 (search rules) (search rules) (search rules)

@@ -1,4 +1,4 @@
-use Rattle.std.proofs.Common.{◌≡◌, ◌+ℤ◌, ◌*ℤ◌, FitsSigned, ◌∙◌, sym}
+use Rattle.std.proofs.Common.{◌≡◌, ◌+ℤ◌, ◌*ℤ◌, FitsSigned, ◌∙◌, arith}
 use Rattle.std.specs.Int.{w128, int_rem_euclid}
 use Rattle.std.proofs.lemmas.Int.{to_z-of_z}
 use Rattle.integers.proofs.numbers.Division.{euclid_sum, euclid_rest, quotient_within}
@@ -6,14 +6,7 @@ use Rattle.vecdim.proofs.division.split.Goals as goal
 
 -- the number is the rest and the multiple
 sum_is : (c : goal.After-rem_euclid-rest) → c.args.z ≡ c.rem_euclid-rest.result +ℤ c.args.m *ℤ c.div_euclid-quotient.result
-sum_is c =
-    let rz = c.ranges.z in
-    let rm = c.ranges.m in
-    let q = c.div_euclid-quotient.ensures in
-    let r = c.rem_euclid-rest.ensures.value in
-    let e = simp to_z-of_z at q in
-    let f = simp to_z-of_z at r in
-    euclid_sum c.args.z c.args.m c.requires ∙ sym (λ i. f i +ℤ c.args.m *ℤ e i)
+sum_is c = search (arith, to_z-of_z, euclid_sum)
 
 pub returns-clause-same : goal.returns-clause-same
 returns-clause-same c =
@@ -23,8 +16,7 @@ returns-clause-same c =
 
 pub returns-clause-within : goal.returns-clause-within
 returns-clause-within c =
-    let rz = c.ranges.z in
-    let rm = c.ranges.m in
+    let rz = c.ranges.z in let rm = c.ranges.m in
     let q : FitsSigned w128 c.div_euclid-quotient.result = record { sfits = c.div_euclid-quotient.type_inv } in
     let r = c.rem_euclid-rest.ensures.value in
     let f = simp to_z-of_z at r in

@@ -6,10 +6,7 @@ use Rattle.vecdim.proofs.division.split_less.Goals as goal
 
 pub returns-clause-within : goal.returns-clause-within
 returns-clause-within c =
-    let rz = c.ranges.z in
-    let rb = c.ranges.b in
-    let rk = c.ranges.k in
-    let rm = c.ranges.m in
+    let rz = c.ranges.z in let rb = c.ranges.b in let rk = c.ranges.k in let rm = c.ranges.m in
     let rl : FitsSigned w128 c.less.result = record { sfits = c.less.type_inv } in
     let e = c.less.ensures in
     let e' = simp to_z-of_z at e in

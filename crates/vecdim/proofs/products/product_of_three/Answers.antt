@@ -1,9 +1,8 @@
 use Rattle.std.proofs.Common.{◌≡◌, ◌≤◌, ◌*◌, ◌^◌, ◌∙◌, ℤ, FitsSigned, unsigned_abs, subst, sym, arith}
-use Rattle.std.specs.Int.{w128}
 use Rattle.std.proofs.lemmas.Int.{to_z-of_z}
+use Rattle.std.specs.Int.{w128}
 use Rattle.integers.specs.Vectors.{dot, triple_product}
-use Rattle.integers.proofs.vectors.Bounds.{bounded_triple, wider}
-use Rattle.integers.proofs.vectors.Laws.{dot_cross}
+use Rattle.integers.proofs.vectors.{Bounds.bounded_triple, Bounds.wider, Laws.dot_cross}
 use Rattle.vecdim.proofs.products.product_of_three.Goals as goal
 
 pub dot-requires-clause-left : goal.dot-requires-clause-left

@@ -1,7 +1,6 @@
 use Rattle.std.proofs.Common.{◌↔◌, ◌≢◌, ℤ, pos, subst}
-use Rattle.std.specs.Prelude.{FitsSigned, IsTrue}
-use Rattle.std.specs.Int.{w128}
 use Rattle.std.proofs.lemmas.Int.{to_z-of_z}
+use Rattle.std.specs.{Prelude.FitsSigned, Prelude.IsTrue, Int.w128}
 use Rattle.integers.proofs.vectors.FewVectors.{three_vectors}
 use Rattle.vecdim.proofs.Deciding.{through}
 use Rattle.vecdim.proofs.products.three_independent.Goals as goal

@@ -1,6 +1,5 @@
-use Rattle.std.proofs.Common.{◌∙◌, FitsSigned}
+use Rattle.std.proofs.{Common.◌∙◌, Common.FitsSigned, lemmas.Int.to_z-of_z}
 use Rattle.std.specs.Int.{w128}
-use Rattle.std.proofs.lemmas.Int.{to_z-of_z}
 use Rattle.vecdim.proofs.Dividing.{remainder}
 use Rattle.vecdim.proofs.quotients.modulo.Goals as goal
 

@@ -1,12 +1,11 @@
 use Rattle.std.proofs.Common.{rules, ◌≡◌, [], ◌∷◌, pos, sym, to_z, ◌∙◌}
-use Rattle.std.specs.Prelude.{cond, ◌==◌}
-use Rattle.std.specs.Int.{w128}
+use Rattle.std.proofs.lemmas.Int.{to_z-of_z}
+use Rattle.std.specs.{Prelude.cond, Prelude.◌==◌, Int.w128}
 use Rattle.integers.specs.Vectors.{vector}
 use Rattle.vecdim.proofs.Starting.{flat_last, full_last}
-use Rattle.std.proofs.lemmas.Int.{to_z-of_z}
 use Rattle.vecdim.proofs.Boxes.{boxed_fits, boxed_first, boxed_second, boxed_third, first_small, second_small}
-use Rattle.vecdim.proofs.staircase.with_list.Goals as goal
 use Rattle.vecdim.proofs.staircase.with_list.Goals.{then-this-eq2, else-this-eq2}
+use Rattle.vecdim.proofs.staircase.with_list.Goals as goal
 
 pub invariant_of-result : goal.invariant_of-result
 invariant_of-result g c = let w = first_small c.requires.kept in (search rules, λ e. search rules)
@@ -18,16 +17,11 @@ pub invariant_of-result-4 : goal.invariant_of-result-4
 invariant_of-result-4 g c =
     let k = c.requires.kept in
     let f = boxed_fits k.m_to (boxed_first k) in
-    let fa = f.x in
-    let fb = f.y in
-    let fc = f.z in
+    let fa = f.x in let fb = f.y in let fc = f.z in
     let s = boxed_fits k.m_to (boxed_second k) in
-    let fe = s.x in
-    let ff = s.y in
+    let fe = s.x in let ff = s.y in
     let t = boxed_fits k.m_to (boxed_third k) in
-    let fi = t.x in
-    let fm = c.ranges.bound in
-    let i = c.args.rows.i in
+    let fi = t.x in let fm = c.ranges.bound in let i = c.args.rows.i in
     let last : to_z w128 c.if-this-eq2.last-bits ≡ cond (g.row.D == 2) (pos 0) i =
     elim c.if-this-eq2.branch [
       | then-this-eq2 w ↦ w.last-is ∙ sym (flat_last g.row.D i w.if-this-eq2.true)

@@ -1,14 +1,13 @@
 -- Of `add_entry`: the clause `fault`; invariants.
 use Rattle.std.proofs.Common.{◌∙◌, List, ℕ, sym, subst}
 use Rattle.std.specs.List.{Contains}
-use Rattle.archive_text.specs.Entries.{EntryView, entry_view}
-use Rattle.archive_text.specs.Lookups.{names_of}
+use Rattle.archive_text.specs.{Entries.EntryView, Entries.entry_view, Lookups.names_of}
 use Rattle.net_archive.specs.Adding.{IsEntryFault, IsFull, IsTaken}
 use Rattle.net_archive.specs.Archives.{ArchiveView, IsArchive, IsBody, with_entry}
 use Rattle.net_archive.specs.declared.faults.AddFault.TheVariants.{NameTaken, Full}
 use Rattle.net_archive.proofs.Growth.{grown, is_free, long_full, longer_body, many_full, not_long, not_many}
-use Rattle.net_archive.proofs.archive.Archive.add_entry.Goals as goal
 use Rattle.net_archive.proofs.archive.Archive.add_entry.Goals.{then-are_many-via-then-are_many, then-are_many-via-else-are_many+then-is_too_long}
+use Rattle.net_archive.proofs.archive.Archive.add_entry.Goals as goal
 
 pub returns-then-has_name-clause-fault : goal.returns-then-has_name-clause-fault
 returns-then-has_name-clause-fault c =

@@ -3,7 +3,7 @@ use Rattle.std.proofs.lemmas.Result.{IfOk-weaker}
 use Rattle.least_key.specs.AnyNets.{net_view}
 use Rattle.line_text.specs.Names.{is_name}
 use Rattle.archive_text.specs.Entries.{entry_view}
-use Rattle.net_archive.proofs.EntryFaults.{fault_told}
+use Rattle.net_archive.proofs.NewEntry.{fault_told}
 use Rattle.net_archive.proofs.archive.Archive.add_with_kinds.Goals as goal
 
 pub returns-clause-added : goal.returns-clause-added

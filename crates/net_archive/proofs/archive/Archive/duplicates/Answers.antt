@@ -1,8 +1,7 @@
 use Rattle.std.proofs.Common.{subst}
 use Rattle.std.specs.Prelude.{IfOk}
 use Rattle.archive_text.specs.Groups.{numbers_in}
-use Rattle.net_archive.specs.Archives.{ArchiveView}
-use Rattle.net_archive.specs.Deciding.{AreIsoGroups}
+use Rattle.net_archive.specs.{Archives.ArchiveView, Deciding.AreIsoGroups}
 use Rattle.net_archive.proofs.IsoGroups.{groups_told}
 use Rattle.net_archive.proofs.archive.Archive.duplicates.Goals as goal
 

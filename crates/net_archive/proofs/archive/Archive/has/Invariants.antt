@@ -1,6 +1,5 @@
 use Rattle.std.proofs.Common.{◌≡◌, length}
-use Rattle.std.specs.List.{list_any}
-use Rattle.std.specs.Str.{bytes_eq}
+use Rattle.std.specs.{List.list_any, Str.bytes_eq}
 use Rattle.net_archive.specs.Deciding.{is_there}
 use Rattle.net_archive.proofs.archive.Archive.has.Given as goal
 

@@ -1,7 +1,6 @@
 use Rattle.std.proofs.Common.{sym, subst}
-use Rattle.net_archive.specs.Archives.{ArchiveView}
-use Rattle.net_archive.specs.Deciding.{AreNamesOf}
-use Rattle.net_archive.proofs.NamesFound.{names_found}
+use Rattle.net_archive.specs.{Archives.ArchiveView, Deciding.AreNamesOf}
+use Rattle.net_archive.proofs.IsoGroups.{names_found}
 use Rattle.net_archive.proofs.archive.Archive.lookup.Goals as goal
 
 pub returns-clause-isomorphic : goal.returns-clause-isomorphic

@@ -15,8 +15,7 @@ returns-clause-count g c =
 
 pub returns-clause-few : goal.returns-clause-few
 returns-clause-few g c =
-    rw (c.arcs_in.ensures, c.deref.ensures.value) (subst (λ (n : ℕ). n ≤ most_arcs)
-    (joined_length (λ s. s.items) c.self.inside.stars.items) c.self.invariant.small.few_arcs)
+    rw (c.arcs_in.ensures, c.deref.ensures.value) (rw (joined_length (λ s. s.items) c.self.inside.stars.items) at c.self.invariant.small.few_arcs)
 
 pub overflow_cast-result : goal.overflow_cast-result
 overflow_cast-result g c = let few = returns-clause-few g c in grind (arith, few)

@@ -1,6 +1,5 @@
 use Rattle.std.proofs.Common.{map, subst}
-use Rattle.quotient_graph.specs.Stars.{graph_with}
-use Rattle.quotient_graph.specs.Building.{AreStars}
+use Rattle.quotient_graph.specs.{Stars.graph_with, Building.AreStars}
 use Rattle.quotient_graph.proofs.GraphsInMemory.{is_in_memory}
 use Rattle.quotient_graph.proofs.graph.Graph.with_edges.Goals as goal
 

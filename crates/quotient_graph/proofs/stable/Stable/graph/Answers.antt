@@ -1,6 +1,5 @@
 use Rattle.std.proofs.Common.{subst}
-use Rattle.periodic_net.specs.Graph.{IsConnected}
-use Rattle.periodic_net.specs.Placement.{IsNormalPlacement}
+use Rattle.periodic_net.specs.{Graph.IsConnected, Placement.IsNormalPlacement}
 use Rattle.quotient_graph.specs.PlacedNets.{PlacedNet}
 use Rattle.quotient_graph.proofs.stable.Stable.graph.Goals as goal
 

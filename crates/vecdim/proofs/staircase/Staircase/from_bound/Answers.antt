@@ -2,15 +2,13 @@
 use Rattle.std.proofs.Common.{arith, subst, sym}
 use Rattle.std.proofs.lemmas.Int.{to_z-of_z}
 use Rattle.vecdim.proofs.Starting.{start_one, start_same, flat_start, positive, flat_multiples, start_multiples}
-use Rattle.vecdim.specs.Stairs.{Stairs}
-use Rattle.vecdim.specs.Lattices.{Members, AreMultiples}
-use Rattle.vecdim.proofs.staircase.Staircase.from_bound.Goals as goal
 use Rattle.vecdim.proofs.staircase.Staircase.from_bound.Goals.{then-this-eq2, else-this-eq2}
+use Rattle.vecdim.specs.{Stairs.Stairs, Lattices.Members, Lattices.AreMultiples}
+use Rattle.vecdim.proofs.staircase.Staircase.from_bound.Goals as goal
 
 pub with_list-requires : goal.with_list-requires
 with_list-requires g c =
-    let b = c.ranges.b in
-    let r = c.requires in
+    let b = c.ranges.b in let r = c.requires in
     let p = positive c.args.b r.from in (
       omega arith,
       (
@@ -33,8 +31,7 @@ with_list-requires g c =
 
 pub returns : goal.returns
 returns g c =
-    let b = c.ranges.b in
-    let e = c.with_list.ensures in
+    let b = c.ranges.b in let e = c.with_list.ensures in
     let f = simp to_z-of_z at e in
     subst (λ (S : Stairs). AreMultiples g.row.D c.args.b (Members g.row.D S)) (sym f)
     (elim c.if-this-eq2.branch [

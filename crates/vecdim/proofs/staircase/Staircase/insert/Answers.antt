@@ -1,16 +1,12 @@
 use Rattle.std.proofs.Common.{◌^◌, ◌∙◌, sym, subst, arith}
 use Rattle.std.proofs.lemmas.Int.{to_z-of_z}
 use Rattle.integers.specs.Vectors.{HasDimension, IsWithin}
-use Rattle.vecdim.proofs.Adding.{with_of_added}
-use Rattle.vecdim.proofs.Boxes.{small_fits}
-use Rattle.vecdim.proofs.Starting.{flat_kept}
-use Rattle.vecdim.proofs.Whole.{with_whole}
+use Rattle.vecdim.proofs.{Adding.with_of_added, Boxes.small_fits, Starting.flat_kept, Whole.with_whole}
 use Rattle.vecdim.proofs.staircase.Staircase.insert.Goals as goal
 
 pub with_list-requires : goal.with_list-requires
 with_list-requires g c =
-    let i = c.self.invariant in
-    let n = c.insert_rows-rows.ensures in
+    let i = c.self.invariant in let n = c.insert_rows-rows.ensures in
     (omega arith, (i.0, (i.1, ((λ d. flat_kept (i.2 d) n), n.kept))))
 
 pub returns-then-is_whole : goal.returns-then-is_whole
@@ -21,8 +17,7 @@ returns-then-is_whole g c =
 
 pub returns : goal.returns
 returns g c =
-    let e = c.to_triple-t.ensures in
-    let t = c.t.inside in
+    let e = c.to_triple-t.ensures in let t = c.t.inside in
     let s = subst (IsWithin (2 ^ 61)) (sym c.t.view_is) e.within in
     let d = subst (HasDimension g.row.D) (sym c.t.view_is) e.dimension in
     let fx = small_fits t.x s.0 in

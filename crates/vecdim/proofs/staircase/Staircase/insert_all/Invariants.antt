@@ -1,6 +1,5 @@
 use Rattle.std.proofs.Common.{drop}
-use Rattle.vecdim.specs.Stairs.{Stairs}
-use Rattle.vecdim.specs.Lattices.{Members, IsWith}
+use Rattle.vecdim.specs.{Stairs.Stairs, Lattices.Members, Lattices.IsWith}
 use Rattle.vecdim.proofs.staircase.Staircase.insert_all.Given as goal
 
 -- what the vectors that are left make of the lattice, all of them make of the first

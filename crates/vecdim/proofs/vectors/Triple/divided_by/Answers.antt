@@ -10,8 +10,7 @@ returns-then-g-gt0-clause-within c = c.over.ensures.within
 
 pub over-requires-2-clause-divides : goal.over-requires-2-clause-divides
 over-requires-2-clause-divides c =
-    let size = c.negative-size.result in
-    let e = c.negative-size.ensures in
+    let size = c.negative-size.result in let e = c.negative-size.ensures in
     let e' = simp (to_z-of_z, c.ranges.g) at e in
     let small = subst (λ (k : ℕ). k ≤ 2 ^ 126) (sym (abs_negative c.args.g)) c.requires.small in
     let fits = fits_from_bound size (2 ^ 126) (omega arith) (subst (λ (z : ℤ). unsigned_abs z ≤ 2 ^ 126) (sym e') small) in
@@ -20,8 +19,7 @@ over-requires-2-clause-divides c =
 
 pub returns-clause-value : goal.returns-clause-value
 returns-clause-value c =
-    let size = c.negative-size.result in
-    let e = c.negative-size.ensures in
+    let size = c.negative-size.result in let e = c.negative-size.ensures in
     let e' = simp (to_z-of_z, c.ranges.g) at e in
     let small = subst (λ (k : ℕ). k ≤ 2 ^ 126) (sym (abs_negative c.args.g)) c.requires.small in
     let fits = fits_from_bound size (2 ^ 126) (omega arith) (subst (λ (z : ℤ). unsigned_abs z ≤ 2 ^ 126) (sym e') small) in
