@@ -1,19 +1,55 @@
 -- The first line of an entry that may not follow.
-use Rattle.std.proofs.Common.{◌≡◌, ℕ, ℤ, true, List, [], ◌∷◌, ◌++◌, refl, sym, subst, arith}
-use Rattle.line_text.specs.Lines.{Place, IsAt}
+use Rattle.std.proofs.Common.{◌≡◌, ◌<◌, ◌+◌, ℕ, ℤ, List, ◌∷◌, ◌++◌, length, ap, ◌∙◌, arith, true, [], refl, sym, subst}
 use Rattle.periodic_net.specs.Graph.{Arc}
-use Rattle.graph_rows.specs.declared.size.GraphSize.{GraphSize}
-use Rattle.archive_text.specs.declared.version.Version.{Version}
-use Rattle.archive_text.specs.declared.version.Version.TheVariants.{One, Two}
-use Rattle.line_text.specs.Names.{is_name}
-use Rattle.archive_text.specs.Rows.{row_lines, name_row, count_row, end_row}
-use Rattle.archive_text.specs.Forms.{IsKeyList, IsCount}
-use Rattle.graph_rows.specs.Forms.{IsSize}
-use Rattle.archive_text.specs.Parts.{Named, Drawn, Keyed, Counted, end_part, part_rows, HasEdgesAndKey}
-use Rattle.archive_text.specs.Reading.{NoKey, NoCount, HasShells, HasBadShells, HasBadLine, HasWhole, IsOf}
-use Rattle.graph_rows.specs.Reading.{NoSize, HasEdges, HasBadEdge}
+use Rattle.graph_rows.specs.Reading.{NoSize, NoEdge, HasEdges, HasBadEdge}
+use Rattle.graph_rows.specs.{declared.size.GraphSize.GraphSize, Rows.edge_row, Forms.IsSize}
+use Rattle.archive_text.specs.Rows.{OfSize, OfEdge, OfKey, OfCount, OfShells, OfEnd, shells_row, end_row, row_lines, name_row, count_row}
+use Rattle.archive_text.specs.Parts.{Named, Drawn, Keyed, Counted, end_part, NoneFollows, part_rows, HasEdgesAndKey}
+use Rattle.archive_text.specs.Reading.{NoKey, NoCount, NoShells, HasShells, HasBadShells, HasBadLine, HasWhole, IsOf}
+use Rattle.archive_text.specs.{declared.version.Version.Version, declared.version.Version.TheVariants.One, declared.version.Version.TheVariants.Two}
+use Rattle.archive_text.specs.{Forms.IsKeyList, Forms.IsCount}
+use Rattle.line_text.specs.{Lines.Place, Lines.IsAt, Names.is_name}
 use Rattle.archive_text.proofs.RowSums.{heads, drawn_same, counted_same}
-use Rattle.archive_text.proofs.Following.{after_name, after_edges, after_all_edges, after_key, after_shells, before_end}
+
+-- Where no row that may follow stands.
+
+pub after_name : (v : Version) (name left : List ℕ) → NoSize left → NoneFollows v (Named name) left
+after_name v name left none (OfSize s) rest may e = none s rest may e
+after_name v name left none row rest may e = may
+
+pub after_edges : (v : Version) (name : List ℕ) (s : GraphSize) (edges : List Arc) (left : List ℕ) → length edges < s.edges → NoEdge s edges left
+    → NoneFollows v (Drawn name s edges) left
+after_edges v name s edges left few none (OfEdge dim e) rest may is = none e rest may.2 (is ∙ ap (λ d. edge_row d e ++ 10 ∷ rest) may.0)
+after_edges v name s edges left few none (OfKey key) rest may is = absurd (omega (arith, may.0, few))
+after_edges v name s edges left few none row rest may is = may
+
+pub after_all_edges : (v : Version) (name : List ℕ) (s : GraphSize) (edges : List Arc) (left : List ℕ) → length edges ≡ s.edges → NoKey left
+    → NoneFollows v (Drawn name s edges) left
+after_all_edges v name s edges left whole none (OfEdge dim e) rest may is = absurd (omega (arith, may.1, whole))
+after_all_edges v name s edges left whole none (OfKey key) rest may is = none key rest may.1 is
+after_all_edges v name s edges left whole none row rest may is = may
+
+pub after_key : (name : List ℕ) (s : GraphSize) (edges : List Arc) (key : List ℤ) (left : List ℕ) → NoCount left → NoneFollows Two (Keyed name s edges key) left
+after_key name s edges key left none (OfCount n) rest may is = none n rest may is
+after_key name s edges key left none row rest may is = may
+
+pub after_shells : (v : Version) (name : List ℕ) (s : GraphSize) (edges : List Arc) (key : List ℤ) (n : ℕ) (lists : List (List ℕ)) (left : List ℕ)
+    → length lists < n → NoShells (length lists + 1) left
+    → NoneFollows v (Counted name s edges key n lists) left
+after_shells v name s edges key n lists left few none (OfShells c sizes) rest may is =
+    none sizes rest may.2 (is ∙ ap (λ k. shells_row k sizes ++ 10 ∷ rest) may.0)
+after_shells v name s edges key n lists left few none OfEnd rest may is = absurd (omega (arith, may, few))
+after_shells v name s edges key n lists left few none row rest may is = may
+
+-- after all rows of an entry but the last only this may stand
+pub before_end : (v : Version) (name : List ℕ) (s : GraphSize) (edges : List Arc) (key : List ℤ) (lists : List (List ℕ)) (left : List ℕ)
+    → ((rest : List ℕ) → left ≡ end_row ++ 10 ∷ rest → ⊥)
+    → NoneFollows v (end_part v name s edges key lists) left
+before_end One name s edges key lists left none OfEnd rest may is = none rest is
+before_end One name s edges key lists left none row rest may is = may
+before_end Two name s edges key lists left none OfEnd rest may is = none rest is
+before_end Two name s edges key lists left none (OfShells c sizes) rest may is = absurd (omega (arith, may.1))
+before_end Two name s edges key lists left none row rest may is = may
 
 pub bad_size : (v : Version) (text : List ℕ) (rows : List (List ℕ)) (name : List ℕ) (place : Place) (n : ℕ) → is_name name ≡ true
     → IsAt text (rows ++ name_row name ∷ []) place → n ≡ place.number → NoSize place.rest → HasBadLine v text rows name n

@@ -1,12 +1,9 @@
 -- The places in a list that gets one number more.
 use Rattle.std.proofs.Common.{◌≡◌, ◌≢◌, ⊎_elim, ℕ, suc, ◌+◌, ◌==◌, cond, List, [], ◌∷◌, ◌++◌, length, map, nat_eq, refl, ap, sym, ◌∙◌, subst, eq-eqb, arith}
-use Rattle.std.proofs.Common.{Vec}
-use Rattle.std.specs.declared.alloc.Global.{Global}
-use Rattle.std.specs.List.{enumerate_from}
-use Rattle.std.proofs.lemmas.Bool.{cases_eq, ne_eqb}
-use Rattle.std.proofs.lemmas.List.{map-append, append-nil}
-use Rattle.std.proofs.lemmas.List.Elements.{filter-append}
-use Rattle.std.proofs.lemmas.Grind.{common_steps}
+use Rattle.std.proofs.Common.{Vec, ◌-◌, take, Option, None, Some, IfNone}
+use Rattle.std.proofs.lemmas.List.{map-append, append-nil, length_push}
+use Rattle.std.proofs.lemmas.{Bool.cases_eq, Bool.ne_eqb, List.Elements.filter-append, Grind.common_steps}
+use Rattle.std.specs.{declared.alloc.Global.Global, List.enumerate_from, Option.option_to_list}
 use Rattle.indexmap.specs.IndexMap.{IndexMap, get}
 use Rattle.archive_text.specs.Places.{places_of, listed, ArePlaces, without_last}
 
@@ -60,3 +57,17 @@ places_left xs ys m n y e kept dropped others x =
     subst (λ v. listed (get nat_eq n v) ≡ places_of xs v) (sym same) here)
     (λ (ne : x ≢ y). ap listed (others x ne) ∙ was x ∙ places_other xs y x ne)
     (cases_eq x y)
+
+-- A number that was put last and is taken away.
+
+before_last : (xs : List ℕ) (y : ℕ) → take (length (xs ++ y ∷ []) - 1) (xs ++ y ∷ []) ≡ xs
+before_last xs y = grind (arith, common_steps)
+
+-- the list is as it was
+pub undone : (xs ys zs : List ℕ) (y : ℕ) (r : Option ℕ) → ys ≡ xs ++ y ∷ [] → ys ≡ zs ++ option_to_list r → IfNone r (zs ≡ []) → zs ≡ xs
+undone xs ys zs y None put popped none =
+    let here : length ys ≡ length xs + 1 = ap length put ∙ length_push xs y in
+    let there : length ys ≡ 0 = ap length (popped ∙ append-nil zs ∙ none) in
+    absurd (omega (arith, here, there))
+undone xs ys zs y (Some z) put popped none =
+    sym (before_last zs z) ∙ ap (λ ws. take (length ws - 1) ws) (sym popped ∙ put) ∙ before_last xs y

@@ -1,11 +1,13 @@
 -- Lists of numbers of 32 bits.
 use Rattle.std.proofs.Common.{◌≡◌, ℕ, ℤ, pos, List, [], ◌∷◌, ◌++◌, ◌≤◌, ◌-◌, map, All, length, get_or, take, drop, refl, Option, None, Some, IfNone, sym, ap}
-use Rattle.std.proofs.Common.{◌∙◌, arith}
+use Rattle.std.proofs.Common.{◌∙◌, arith, ◌+◌, subst}
 use Rattle.std.proofs.lemmas.Grind.{common_steps}
-use Rattle.std.proofs.lemmas.List.Elements.{All-head, All-tail}
-use Rattle.archive_text.specs.Rows.{shells_numbers, shells_row}
-use Rattle.archive_text.specs.Forms.{IsShort, AreSizes}
-use Rattle.archive_text.specs.Reading.{NoShells}
+use Rattle.std.proofs.lemmas.List.Elements.{All-head, All-tail, All-push}
+use Rattle.archive_text.specs.Rows.{shells_numbers, shells_row, row_lines}
+use Rattle.archive_text.specs.Reading.{NoShells, AreShellsTo, shells_lines}
+use Rattle.archive_text.specs.{Forms.IsShort, Forms.AreSizes, Parts.shells_rows}
+use mathlib.Core.List.{append_assoc}
+use Rattle.line_text.specs.Lines.{Place, IsAt}
 
 -- a number that stands after some of a list
 pub record IsShortNumber (z : ℤ) : Type 0 where
@@ -51,3 +53,25 @@ pub no_shells : {X : Type 0} (o : Option X) (numbers : List ℤ) (class : ℕ) (
     → ((sizes : List ℕ) → AreSizes sizes → numbers ≡ shells_numbers class sizes → IfNone o ⊥) → IfNone o (NoShells class left)
 no_shells None numbers class left read none = λ sizes rest are e. none sizes are (read sizes rest are e)
 no_shells (Some x) numbers class left read none = tt
+
+-- Shells that are read one by one.
+
+shells_from : (c : ℕ) (lists : List (List ℕ)) (sizes : List ℕ) → row_lines (shells_rows c (lists ++ sizes ∷ [])) ≡ row_lines (shells_rows c lists)
+    ++ shells_row (length lists + c) sizes ∷ []
+shells_from c [] sizes = ap (λ n. shells_row n sizes ∷ []) (omega arith)
+shells_from c (x ∷ xs) sizes = ap (λ l. shells_row c x ∷ l) (shells_from (c + 1) xs sizes
+    ∙ ap (λ n. row_lines (shells_rows (c + 1) xs) ++ shells_row n sizes ∷ []) (omega arith))
+
+shells_pushed : (lists : List (List ℕ)) (sizes : List ℕ) → shells_lines (lists ++ sizes ∷ []) ≡ shells_lines lists ++ shells_row (length lists + 1) sizes ∷ []
+shells_pushed lists sizes = shells_from 1 lists sizes
+
+-- the coordination sequence of one more class is read
+pub one_more_class : (start now after : Place) (lists : List (List ℕ)) (sizes : List ℕ) → AreShellsTo start now lists → AreSizes sizes
+    → ((text : List ℕ) (rows : List (List ℕ)) → IsAt text rows now → IsAt text (rows ++ shells_row (length lists + 1) sizes ∷ []) after)
+    → AreShellsTo start after (lists ++ sizes ∷ [])
+one_more_class start now after lists sizes read are place = record {
+  at = λ text rows at. subst (λ l. IsAt text l after)
+      (append_assoc rows (shells_lines lists) (shells_row (length lists + 1) sizes ∷ []) ∙ ap (λ l. rows ++ l) (sym (shells_pushed lists sizes)))
+      (place text (rows ++ shells_lines lists) (read.at text rows at));
+  each = All-push AreSizes lists sizes read.each are;
+}

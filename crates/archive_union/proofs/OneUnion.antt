@@ -1,15 +1,11 @@
 -- There is one union, or one item that is refused.
 use Rattle.std.proofs.Common.{◌≡◌, ◌≢◌, ◌⊎◌, inl, inr, ℕ, ◌+◌, Bool, true, false, cond, List, [], ◌∷◌, ◌++◌, length, get_or, drop, refl, sym, ap, subst, ◌∙◌}
 use Rattle.std.proofs.Common.{arith}
-use Rattle.std.proofs.lemmas.List.{append_assoc, append-nil}
-use Rattle.std.proofs.lemmas.List.Sorted.{IsPermutation-sym}
-use Rattle.archive_text.specs.Entries.{EntryView}
-use Rattle.archive_text.specs.Regrouped.{regrouped}
+use Rattle.std.proofs.lemmas.{List.append_assoc, List.append-nil, List.Sorted.IsPermutation-sym}
+use Rattle.archive_text.specs.{Entries.EntryView, Regrouped.regrouped}
 use Rattle.archive_text.proofs.CallerLemmas.{is_regrouped}
 use Rattle.net_archive.specs.Archives.{ArchiveView, IsArchive, archive_with}
-use Rattle.net_archive.specs.Deciding.{is_there}
-use Rattle.net_archive.specs.declared.faults.AddFault.{AddFault}
-use Rattle.net_archive.specs.declared.faults.AddFault.TheVariants.{NoMemory}
+use Rattle.net_archive.specs.{Deciding.is_there, declared.faults.AddFault.AddFault, declared.faults.AddFault.TheVariants.NoMemory}
 use Rattle.net_archive.proofs.CallerLemmas.{entry_no_fault, one_entry_fault, permuted_archive}
 use Rattle.archive_union.specs.Unions.{with_item, united, IsUnion, IsRefused, IsNotUnited}
 

@@ -3,9 +3,8 @@ use Rattle.std.proofs.Common.{◌≡◌, ◌≢◌, ℕ, ◌+◌, List, [], ◌�
 use Rattle.std.proofs.lemmas.List.{length-map, map-append}
 use Rattle.archive_text.specs.Entries.{EntryView, entry_view, entry_views}
 use Rattle.archive_text.specs.declared.entry.Entry.{Entry}
-use Rattle.net_archive.specs.Archives.{ArchiveView, archive_with}
-use Rattle.net_archive.specs.declared.faults.AddFault.{AddFault}
 use Rattle.net_archive.specs.declared.faults.AddFault.TheVariants.{NameTaken, BadName, Full, NoMemory}
+use Rattle.net_archive.specs.{Archives.ArchiveView, Archives.archive_with, declared.faults.AddFault.AddFault}
 use Rattle.archive_union.specs.Faults.{IsUniteFault, fault_of_add}
 use Rattle.archive_union.specs.Unions.{IsNotUnited, IsRefused, united, with_item}
 

@@ -1,18 +1,14 @@
 -- A union has all that it is made of.
 use Rattle.std.proofs.Common.{◌≡◌, ◌⊎◌, inl, inr, ℕ, ℤ, true, List, sym, ap, subst, ◌∙◌}
-use Rattle.std.specs.List.{All, Contains}
-use Rattle.std.specs.List.Sorted.{IsPermutation}
-use Rattle.std.specs.Cmp.Rules.{signed_items}
-use Rattle.std.proofs.lemmas.List.Elements.{All-contains}
-use Rattle.std.proofs.lemmas.List.Sorted.{IsPermutation-sym, Contains-permutation}
-use Rattle.periodic_net.specs.Graph.{Graph, IsGraph}
-use Rattle.periodic_net.specs.Maps.{Iso}
+use Rattle.std.proofs.lemmas.List.{Elements.All-contains, Sorted.IsPermutation-sym, Sorted.Contains-permutation}
+use Rattle.std.specs.{List.All, List.Contains, List.Sorted.IsPermutation, Cmp.Rules.signed_items}
+use Rattle.periodic_net.specs.{Graph.Graph, Graph.IsGraph, Maps.Iso}
 use Rattle.key_theory.specs.Key.{IsKeyOf}
 use Rattle.key_theory.proofs.CallerLemmas.{keys_decide}
 use Rattle.archive_text.specs.Entries.{EntryView}
 use Rattle.archive_text.specs.Lookups.{names_of, names_with, same_key}
-use Rattle.net_archive.specs.Archives.{ArchiveView, IsArchive, IsEntry}
 use Rattle.archive_text.specs.Regrouped.{regrouped, with_key, AreTogether}
+use Rattle.net_archive.specs.Archives.{ArchiveView, IsArchive, IsEntry}
 use Rattle.archive_text.proofs.CallerLemmas.{is_regrouped}
 use Rattle.net_archive.proofs.CallerLemmas.{iso_together, keys_decide_archive}
 use Rattle.archive_union.specs.Unions.{united, IsUnion, IsOneOf, HasAll}

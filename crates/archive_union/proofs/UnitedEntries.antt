@@ -1,13 +1,9 @@
 -- The entries of an archive with those of items.
 use Rattle.std.proofs.Common.{◌≡◌, ◌⊎◌, inl, inr, Bool, true, false, cond, List, [], ◌∷◌, ◌++◌, refl, ap, ◌∙◌}
-use Rattle.std.specs.List.{Contains}
-use Rattle.std.specs.Cmp.Rules.{signed_items}
 use Rattle.std.proofs.lemmas.List.Elements.{Contains-append_left, Contains-append_right, Contains-append_cases}
-use Rattle.std.proofs.lemmas.Map.Views.{Contains-from_any}
-use Rattle.std.proofs.lemmas.Slice.Eq.{bytes_eq-Decides}
-use Rattle.archive_text.specs.Entries.{EntryView}
-use Rattle.archive_text.specs.Lookups.{names_with, same_key}
-use Rattle.archive_text.specs.Regrouped.{with_key}
+use Rattle.std.proofs.lemmas.{Map.Views.Contains-from_any, Slice.Eq.bytes_eq-Decides}
+use Rattle.std.specs.{List.Contains, Cmp.Rules.signed_items}
+use Rattle.archive_text.specs.{Entries.EntryView, Lookups.names_with, Lookups.same_key, Regrouped.with_key}
 use Rattle.net_archive.specs.Deciding.{is_there}
 use Rattle.archive_union.specs.Unions.{with_item, united}
 use Rattle.archive_union.proofs.Members.{here, either, no_member, preimage, from_passing}

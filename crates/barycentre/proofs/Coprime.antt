@@ -1,14 +1,10 @@
 -- Balanced positions in whole units, with no common divisor, are the normal placement.
 use Rattle.std.proofs.Common.{◌≡◌, ℕ, arith, ◌-◌, List, length, sym, subst, ap, ◌∙◌, unsigned_abs}
+use Rattle.std.proofs.{Math.Nat.dvd-mul_right, Math.Nat.eq-one_of_dvd-one, lemmas.Int.ints, lemmas.Int.unsigned_abs-mul, lemmas.Nat.Gcd.dvd_trans}
 use Rattle.std.specs.Prelude.{ℤ, pos, ◌*ℤ◌, ◌≤ℤ◌}
-use Rattle.std.specs.List.{All}
-use Rattle.std.specs.Int.{◌∣◌, IsGcd}
-use Rattle.std.proofs.Math.Nat.{dvd-mul_right, eq-one_of_dvd-one}
-use Rattle.std.proofs.lemmas.Int.{ints, unsigned_abs-mul}
-use Rattle.std.proofs.lemmas.Nat.Gcd.{dvd_trans}
+use Rattle.std.specs.{List.All, Int.◌∣◌, Int.IsGcd}
 use Rattle.integers.specs.Vectors.{Vector, zero_vector, HasDimension, DividesVector}
-use Rattle.periodic_net.specs.Graph.{Graph, IsQuotientVertex}
-use Rattle.periodic_net.specs.Placement.{base, IsNormalPlacement}
+use Rattle.periodic_net.specs.{Graph.Graph, Graph.IsQuotientVertex, Placement.base, Placement.IsNormalPlacement}
 use Rattle.quotient_graph.specs.PlacedNets.{placement_of}
 use Rattle.barycentre.specs.Tested.{AreBalanced, AreCoprime, IsCommonDivisor}
 use Rattle.barycentre.proofs.Together.{each_position}

@@ -3,16 +3,12 @@
 use Rattle.std.proofs.Common.{◌≡◌, ℕ, ◌≤◌, arith, refl, sym, ap, ◌∙◌, subst}
 use Rattle.std.specs.Prelude.{ℤ, pos, ◌+ℤ◌, ◌-ℤ◌, ◌*ℤ◌, neg_ℤ, List, [], ◌∷◌}
 use Rattle.std.specs.Int.{IsGcd}
-use Rattle.integers.specs.Divisors.{DividesInteger}
-use Rattle.integers.specs.Lists.{total}
 use Rattle.integers.specs.Vectors.{Vector, plus, times, vector, DividesVector}
+use Rattle.integers.specs.{Divisors.DividesInteger, Lists.total, Coordinates.IsCoordinate}
 use Rattle.integers.proofs.numbers.Ring.{ring, linear, cancel_factor, positive_not_zero, product_zero}
-use Rattle.integers.proofs.numbers.Bezout.{Bezout, bezout}
-use Rattle.integers.proofs.numbers.Gcd.{bezout_gcd, divides_multiple}
-use Rattle.integers.proofs.numbers.Divisors.{factor_positive}
-use Rattle.integers.proofs.vectors.Laws.{vector_equal}
 use Rattle.integers.proofs.vectors.Coordinates.{coordinate_x, coordinate_y, coordinate_z}
-use Rattle.integers.specs.Coordinates.{IsCoordinate}
+use Rattle.integers.proofs.{numbers.Bezout.Bezout, numbers.Bezout.bezout, numbers.Gcd.bezout_gcd, numbers.Gcd.divides_multiple}
+use Rattle.integers.proofs.{numbers.Divisors.factor_positive, vectors.Laws.vector_equal}
 use Rattle.periodic_net.specs.Graph.{Graph, Arc, IsGraph, IsQuotientVertex, arcs_from}
 use Rattle.periodic_net.specs.Placement.{Placement, base, arc_vector, IsBarycentric, IsNormalPlacement}
 use Rattle.periodic_net.proofs.CallerLemmas.{total_zero}

@@ -2,8 +2,7 @@
 use Rattle.std.proofs.Common.{◌≡◌, ℕ, List, [], ◌∷◌, arith, refl, ap, ◌∙◌}
 use Rattle.std.specs.Prelude.{ℤ, pos, ◌+ℤ◌, ◌-ℤ◌, ◌*ℤ◌}
 use Rattle.integers.specs.Lists.{total}
-use Rattle.integers.proofs.lists.Sums.{total_same}
-use Rattle.integers.proofs.numbers.Ring.{ring, linear}
+use Rattle.integers.proofs.{lists.Sums.total_same, numbers.Ring.ring, numbers.Ring.linear}
 use Rattle.periodic_net.specs.Graph.{Graph, Arc, IsGraph, IsQuotientVertex, arcs_from}
 use Rattle.periodic_net.proofs.CallerLemmas.{arc_inside, from_is_arc}
 use Rattle.barycentre.specs.Gains.{gains}

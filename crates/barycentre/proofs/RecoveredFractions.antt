@@ -1,18 +1,15 @@
 -- A number that is a position modulo m, times the denominator, gives back the position in lowest terms.
 use Rattle.std.proofs.Common.{◌≡◌, ℕ, suc, ◌*◌, ◌≤◌, arith, refl, sym, ap, ◌∙◌, subst, unsigned_abs}
-use Rattle.std.specs.Prelude.{ℤ, pos, negsuc, neg_ℤ, ◌-ℤ◌, ◌*ℤ◌}
-use Rattle.std.specs.Int.{IsGcd, ◌∣◌}
-use Rattle.std.proofs.lemmas.Int.{unsigned_abs-mul}
 use Rattle.std.proofs.Math.Nat.{one-dvd, mul_comm, mul-le-mul}
 use Rattle.std.proofs.lemmas.Nat.Gcd.{dvd_trans, le_of_dvd, IsGcd-swap}
+use Rattle.std.proofs.{lemmas.Int.unsigned_abs-mul, Math.IntN.*ℤ_comm}
+use Rattle.std.specs.Prelude.{ℤ, pos, negsuc, neg_ℤ, ◌-ℤ◌, ◌*ℤ◌}
+use Rattle.std.specs.Int.{IsGcd, ◌∣◌}
 use Rattle.integers.specs.Divisors.{DividesInteger}
 use Rattle.integers.proofs.numbers.Ring.{ring, linear, cancel_factor, positive_not_zero, product_exchange}
-use Rattle.integers.proofs.numbers.Bezout.{Bezout, bezout}
-use Rattle.integers.proofs.vectors.Bounds.{abs_negative}
 use Rattle.integers.proofs.numbers.Gcd.{bezout_gcd, divides_multiple, quotient_of, euclid}
-use Rattle.integers.proofs.numbers.Cofactors.{cofactors_coprime}
-use Rattle.integers.proofs.numbers.Divisors.{factor_positive, first_factor_positive}
-use Rattle.std.proofs.Math.IntN.{*ℤ_comm}
+use Rattle.integers.proofs.{numbers.Bezout.Bezout, numbers.Bezout.bezout, vectors.Bounds.abs_negative, numbers.Cofactors.cofactors_coprime}
+use Rattle.integers.proofs.{numbers.Divisors.factor_positive, numbers.Divisors.first_factor_positive}
 use Rattle.exact.proofs.CallerLemmas.{cancel, coprime_cancels}
 use Rattle.residue.specs.Reconstruction.{IsReconstruction}
 use Rattle.barycentre.specs.Recovery.{IsLowest}

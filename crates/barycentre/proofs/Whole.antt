@@ -1,9 +1,7 @@
 -- Mean equations between whole numbers, as equations between integers.
 use Rattle.std.proofs.Common.{◌≡◌, ◌≢◌, ℕ, List, [], ◌∷◌, arith, refl, sym, ap, ◌∙◌, subst, map}
 use Rattle.std.specs.Prelude.{ℤ, pos, ◌+ℤ◌, ◌-ℤ◌, ◌*ℤ◌, neg_ℤ}
-use Rattle.integers.specs.Divisors.{DividesInteger}
-use Rattle.integers.specs.Lists.{total}
-use Rattle.integers.specs.Staircase.{part}
+use Rattle.integers.specs.{Divisors.DividesInteger, Lists.total, Staircase.part}
 use Rattle.integers.proofs.numbers.Ring.{ring, linear, one_product}
 use Rattle.periodic_net.specs.Graph.{Graph, Arc, IsQuotientVertex, arcs_from}
 use Rattle.exact.specs.Ratio.{Same, whole, ratio_plus, ratio_minus}
@@ -11,8 +9,8 @@ use Rattle.exact.proofs.CallerLemmas.{difference_multiple, same_of, one_cancels,
 use Rattle.elimination.specs.Equations.{ratio_sum, arc_gain, IsAtMean, IsSolution, IsOnlySolution}
 use Rattle.elimination.specs.RightHand.{arc_difference, IsBalanced, IsSolutionWith}
 use Rattle.barycentre.specs.Gains.{gains, shifts, Solves}
-use Rattle.barycentre.proofs.Linear.{gained, gains_plus}
 use Rattle.barycentre.specs.WholeSolutions.{WholeSolutions}
+use Rattle.barycentre.proofs.Linear.{gained, gains_plus}
 
 plus_whole : (a b : ℤ) → ratio_plus (whole a) (whole b) ≡ whole (a +ℤ b)
 unfolding ratio_plus

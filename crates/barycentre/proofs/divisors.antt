@@ -1,7 +1,5 @@
 -- Denominators, common divisors and common multiples of the positions of a placement.
-pub mod CommonDenominators
 pub mod Fitting
-pub mod LeastOfTwo
 pub mod Lowest
 pub mod Multiples
 pub mod WholeUnits

@@ -1,9 +1,6 @@
 -- The placement from residues: rows of residues, recovered fractions, and the two steps.
-pub mod LeftParts
 pub mod LeftRows
 pub mod Reached
 pub mod RecoveredRows
-pub mod Recovering
-pub mod ResidueRows
 pub mod Stages
 pub mod TwoSteps

@@ -1,5 +1,5 @@
 -- A value that is capped.
-use Rattle.std.proofs.Common.{◌≡◌, ℕ, ◌+◌, ◌≤◌, List, [], ◌∷◌, min, fold, arith}
+use Rattle.std.proofs.Common.{◌≡◌, ℕ, ◌≤◌, List, [], ◌∷◌, min, fold, arith}
 use Rattle.cgd_lex.specs.Words.{next_value, whole_value, next_capped}
 
 -- the same value, or both from the cap on

@@ -1,12 +1,10 @@
 -- Where a piece ends in its line.
 use Rattle.std.proofs.Common.{◌≡◌, ℕ, zero, suc, ◌+◌, ◌<◌, ◌≤◌, Bool, true, false, List, [], ◌∷◌, ◌++◌, length, take, Option, None, Some, cond, ◌==◌, arith}
 use Rattle.std.proofs.Common.{refl, sym, ap, ◌∙◌, not, ◌||◌, inl, inr, get_or}
+use Rattle.std.proofs.lemmas.{List.length-append, List.length-take, List.Sums.prefix_len_stops, List.Sums.prefix_len_passes, Bool.cases_Bool, Bool.cases_lt}
+use Rattle.std.proofs.lemmas.{Grind.common_steps}
 use Rattle.std.specs.Prelude.{position, is_some, unwrap_or}
-use Rattle.std.proofs.lemmas.List.{length-append, length-take}
 use Rattle.std.specs.List.{prefix_len, onto_first}
-use Rattle.std.proofs.lemmas.List.Sums.{prefix_len_stops, prefix_len_passes}
-use Rattle.std.proofs.lemmas.Bool.{cases_Bool, cases_lt}
-use Rattle.std.proofs.lemmas.Grind.{common_steps}
 use Rattle.cgd_lex.specs.Pieces.{other_bytes, quoted_piece, is_run_byte, ends_run, run_bytes}
 use Rattle.cgd_lex.specs.Tokens.{first_line, first_of, lines_of, is_whole, kind_of_run, is_closed, quoted_size}
 use Rattle.cgd_lex.specs.declared.token.TokenKind.TheVariants.{Word, Whole}
@@ -67,8 +65,7 @@ earlier p q (b ∷ bs) more = elim (cases_Bool (p b)) [
 
 -- one byte more, which is no line feed
 step_to : (t u : Bool) (m n : ℕ) → u ≡ false → m ≡ n → cond (not t) (1 + m) 0 ≡ cond (not (t || u)) (1 + n) 0
-step_to true u m n e f = refl
-step_to false u m n e f = rw e (omega (arith, f))
+step_to t u m n h k = search arith
 
 -- the first quote of the line, or its end, is the first quote or line feed
 pub quote_line : (bs : List ℕ) → prefix_len (λ x. not (x == 34)) (first_line bs) ≡ prefix_len (λ x. not (x == 34 || x == 10)) bs
@@ -80,8 +77,7 @@ quote_line (b ∷ bs) = elim (cases_Bool (b == 10)) [
 
 -- what is neither is not the second
 by_two : (t u : Bool) → not (t || u) ≡ true → not u ≡ true
-by_two true u h = absurd (grind (arith, common_steps, h))
-by_two false u h = h
+by_two t u k = search arith
 
 -- stopped at a byte 34, it is no line feed
 no_feed : (x : ℕ) → x ≡ 34 → not (x == 10) ≡ false → ⊥
@@ -147,12 +143,7 @@ quote_closed bs k d at quote =
 -- a line feed before any quote leaves the text open
 pub quote_open : (bs : List ℕ) (k d : ℕ) → position (λ x. x == 34 || x == 10) bs ≡ Some k → (get_or bs k d ≡ 34 → ⊥)
     → (is_closed (first_line bs) ≡ false) × (quoted_size (first_line bs) ≡ k)
-quote_open bs k d at other =
-    let within_ = found_within (λ x. x == 34 || x == 10) bs k at in
-    let is = end_at (λ x. x == 34 || x == 10) bs k at in
-    let e = opens bs k d is within_ other in
-    let f = size_by (first_line bs) None (found_none (first_line bs) (quote_line bs ∙ is ∙ e)) in
-    (f.0, f.1 ∙ sym e)
+quote_open bs k d at other = grind (arith, found_within, end_at, opens, size_by, found_none, quote_line)
 
 -- neither a quote nor a line feed: the text is open up to the end
 pub quote_none : (bs : List ℕ) → position (λ x. x == 34 || x == 10) bs ≡ None → (is_closed (first_line bs) ≡ false) × (quoted_size (first_line bs) ≡ length bs)
@@ -178,8 +169,7 @@ run_is bs = up_to_on ends_run (first_line bs) ∙ take_line (prefix_len is_run_b
 
 -- the size of a run
 pub run_size : (bs : List ℕ) → length (run_bytes (first_line bs)) ≡ prefix_len is_run_byte (first_line bs)
-run_size bs = ap length (up_to_on ends_run (first_line bs))
-    ∙ omega (arith, length-take (prefix_len is_run_byte (first_line bs)) (first_line bs), within is_run_byte (first_line bs))
+run_size bs = search (arith, up_to_on, length-take, within)
 
 -- the kind of a run, from the test of its bytes
 pub kind_by : (b : ℕ) (bs : List ℕ) (n : ℕ) (t : Bool) → n ≡ prefix_len is_run_byte (first_line bs) → t ≡ is_whole (b ∷ take n bs)

@@ -1,19 +1,13 @@
 -- The cut that is found is one.
 use Rattle.std.proofs.Common.{◌≡◌, ◌≢◌, ℕ, zero, suc, ◌+◌, ◌≤◌, Bool, true, List, [], ◌∷◌, ◌++◌, length, take, drop, Option, None, Some, ◌==◌, arith, refl, sym}
 use Rattle.std.proofs.Common.{ap, ◌∙◌, not, subst, inl, inr}
-use Rattle.std.proofs.lemmas.Bool.{cases_Bool}
-use Rattle.std.specs.Prelude.{position, All}
-use Rattle.std.specs.List.{prefix_len}
 use Rattle.std.proofs.lemmas.List.{length-drop, take-append-drop, take_all}
-use Rattle.std.proofs.lemmas.List.Folds.{length-prefix_len}
-use Rattle.cgd_lex.proofs.Unique.{All-map}
-use Rattle.std.proofs.Math.Seq.{drop-length}
-use Rattle.std.proofs.lemmas.List.Elements.{All-cons, All-nil}
-use Rattle.std.proofs.lemmas.Grind.{common_steps}
-use Rattle.cgd_lex.specs.Pieces.{Run, other_bytes, bytes_of, first_piece, quoted_piece, cut_of, run_bytes, is_run_byte, ends_run, MayStand, IsCut, StartsNoRun}
+use Rattle.std.proofs.{lemmas.Bool.cases_Bool, lemmas.List.Folds.length-prefix_len, Math.Seq.drop-length, lemmas.List.Elements.All-cons}
+use Rattle.std.proofs.{lemmas.List.Elements.All-nil, lemmas.Grind.common_steps}
+use Rattle.std.specs.{Prelude.position, Prelude.All, List.prefix_len}
 use Rattle.cgd_lex.proofs.Steps.{up_to_on, piece_is, passed}
-use Rattle.cgd_lex.proofs.Ends.{end_at, no_end}
-use Rattle.cgd_lex.proofs.Fits.{piece_fits}
+use Rattle.cgd_lex.proofs.{Unique.All-map, Ends.end_at, Ends.no_end, Fits.piece_fits}
+use Rattle.cgd_lex.specs.Pieces.{Run, other_bytes, bytes_of, first_piece, quoted_piece, cut_of, run_bytes, is_run_byte, ends_run, MayStand, IsCut, StartsNoRun}
 
 -- the bytes before the first that fails a test all pass it
 before : (p : ℕ → Bool) (l : List ℕ) → All (λ b. p b ≡ true) (take (prefix_len p l) l)

@@ -1,16 +1,14 @@
 -- A piece is a part of its line.
-use Rattle.std.proofs.Common.{◌≡◌, ◌≢◌, ℕ, suc, ◌+◌, ◌-◌, ◌≤◌, false, List, [], ◌∷◌, ◌++◌, length, take, drop, Option, None, Some, ◌==◌, arith, refl, sym, ap}
-use Rattle.std.proofs.Common.{◌∙◌, get_or, not, take-suc}
-use Rattle.std.specs.Prelude.{position}
-use Rattle.std.specs.List.{prefix_len}
+use Rattle.std.proofs.Common.{◌≡◌, ◌≢◌, ℕ, suc, ◌+◌, ◌-◌, ◌≤◌, false, List, [], ◌∷◌, ◌++◌, length, take, drop, Option, Some, ◌==◌, arith, refl, sym, ap, ◌∙◌}
+use Rattle.std.proofs.Common.{get_or, not, take-suc}
 use Rattle.std.proofs.lemmas.List.{length-append, length-take, take_all, take_rest}
-use Rattle.std.proofs.lemmas.List.Sums.{prefix_len_stops}
-use Rattle.std.proofs.lemmas.Grind.{common_steps}
-use Rattle.cgd_lex.specs.Pieces.{Piece, first_byte, other_bytes, first_piece, quoted_piece, is_run_byte, ends_run, run_bytes}
+use Rattle.std.proofs.lemmas.{List.Sums.prefix_len_stops, Grind.common_steps}
+use Rattle.std.specs.Prelude.{position}
+use Rattle.cgd_lex.specs.Pieces.{Piece, first_byte, other_bytes, first_piece, quoted_piece, run_bytes}
 use Rattle.cgd_lex.specs.declared.token.TokenKind.{TokenKind}
 use Rattle.cgd_lex.specs.Tokens.{first_line, kind_of_piece, tokens_from, token_at}
 use Rattle.cgd_lex.proofs.Steps.{piece_is, up_to_on, one_piece}
-use Rattle.cgd_lex.proofs.Ends.{same, within, end_at, found_within, line_to, take_line}
+use Rattle.cgd_lex.proofs.Ends.{same, within, end_at, found_within, take_line}
 
 -- the piece is this byte and the first bytes of the list
 abbrev pub FitsIn : ℕ → List ℕ → Piece → Type 0
@@ -32,16 +30,11 @@ quote_fits l k at =
 
 -- what begins with a quote fits
 quoted_fits : (l : List ℕ) (o : Option ℕ) → position (λ x. x == 34) l ≡ o → FitsIn 34 l (quoted_piece o l)
-quoted_fits l None at = (refl, omega arith, sym (take_all (length l) l (omega arith)))
-quoted_fits l (Some k) at = quote_fits l k at
+quoted_fits l o h = search (arith, take_all, quote_fits)
 
 -- a run fits
 run_fits : (b : ℕ) (l : List ℕ) → (length (run_bytes l) ≤ length l) × (run_bytes l ≡ take (length (run_bytes l)) l)
-run_fits b l =
-    let n = prefix_len is_run_byte l in
-    let e : run_bytes l ≡ take n l = up_to_on ends_run l in
-    let size : length (take n l) ≡ n = omega (arith, length-take n l, within is_run_byte l) in
-    (omega (arith, ap length e, size, within is_run_byte l), e ∙ ap (λ n. take n l) (sym (ap length e ∙ size)))
+run_fits b l = search (arith, up_to_on, length-take, within)
 
 -- the first piece of a line fits in it
 pub piece_fits : (b : ℕ) (l : List ℕ) → FitsIn b l (first_piece b l)

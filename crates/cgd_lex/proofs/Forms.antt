@@ -1,10 +1,8 @@
 -- What the kind of a token says of its text.
-use Rattle.std.proofs.Common.{◌≡◌, ℕ, Bool, true, false, List, ◌∷◌, cond, refl, inl, inr, Option, None, Some, length, drop}
+use Rattle.std.proofs.Common.{◌≡◌, ℕ, Bool, false, List, ◌∷◌, cond, refl, inl, inr, Option, None, Some, length, drop, arith}
 use Rattle.cgd_lex.specs.Pieces.{Piece, Blank, Comment, Closed, Unclosed, Control, Run, bytes_of, first_piece, other_bytes, MayStand}
-use Rattle.cgd_lex.specs.Tokens.{kind_of_piece, is_whole}
-use Rattle.cgd_lex.specs.Forms.{IsOfKind, IsWord}
-use Rattle.cgd_lex.specs.declared.token.TokenKind.{TokenKind}
-use Rattle.cgd_lex.specs.declared.token.TokenKind.TheVariants.{Word, Whole}
+use Rattle.cgd_lex.specs.{Tokens.kind_of_piece, Tokens.is_whole, Forms.IsOfKind, Forms.IsWord, declared.token.TokenKind.TokenKind}
+use Rattle.cgd_lex.specs.{declared.token.TokenKind.TheVariants.Word, declared.token.TokenKind.TheVariants.Whole}
 use Rattle.cgd_lex.proofs.Exists.{stands}
 
 -- the kind that a part has, where it has one, is that of its bytes
@@ -14,8 +12,7 @@ IsOfItsKind (Some kind) bytes = IsOfKind kind bytes
 
 -- a run has the form of its kind
 run_form : (whole : Bool) (run : List ℕ) → is_whole run ≡ whole → (is_whole run ≡ false → IsWord run) → IsOfKind (cond whole Whole Word) run
-run_form true run is word = is
-run_form false run is word = word is
+run_form whole run h k = search arith
 
 -- a piece that may stand where it does has the form of its kind
 pub piece_form : (p : Piece) (rest : List ℕ) → MayStand p rest → IsOfItsKind (kind_of_piece p) (bytes_of p)

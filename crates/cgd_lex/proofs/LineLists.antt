@@ -1,8 +1,7 @@
 -- The lines of tokens, from the left.
 use Rattle.std.proofs.Common.{◌≡◌, inl, inr, Bool, true, false, cond, List, [], ◌∷◌, refl, sym, ap, ◌∙◌}
-use Rattle.std.proofs.lemmas.Bool.{cases_Bool}
+use Rattle.std.proofs.lemmas.{Bool.cases_Bool, List.Splits.slice_split-cons_yes, List.Splits.slice_split-cons_no}
 use Rattle.std.specs.List.{slice_split, flat_map, onto_first}
-use Rattle.std.proofs.lemmas.List.Splits.{slice_split-cons_yes, slice_split-cons_no}
 use Rattle.cgd_lex.specs.Tokens.{TokenView}
 use Rattle.cgd_lex.specs.Lines.{is_newline, filled_line, filled_lines, rest_of_line, after_line}
 

@@ -1,22 +1,16 @@
 -- Where the tokens of a text stand, and what their texts are.
 use Rattle.std.proofs.Common.{◌≡◌, ℕ, zero, suc, ◌+◌, ◌≤◌, false, List, [], ◌∷◌, ◌++◌, length, take, drop, cond, ◌==◌, arith, refl, sym, ap, ◌∙◌, inl, inr}
 use Rattle.std.proofs.Common.{subst, Option, None, Some}
-use Rattle.std.proofs.lemmas.Bool.{cases_Bool}
-use Rattle.std.specs.Prelude.{All, count_by}
-use Rattle.std.proofs.Math.Seq.{drop-append_seam, take-append_seam}
 use Rattle.std.proofs.lemmas.List.{append_assoc, length-append, length-drop, take-append-drop}
-use Rattle.std.proofs.lemmas.List.Elements.{All-cons, All-nil}
-use Rattle.std.proofs.lemmas.List.Sums.{sum_by-append, sum_by-cons}
+use Rattle.std.proofs.{lemmas.Bool.cases_Bool, Math.Seq.drop-append_seam, Math.Seq.take-append_seam, lemmas.List.Elements.All-cons}
+use Rattle.std.proofs.{lemmas.List.Elements.All-nil, lemmas.List.Sums.sum_by-append, lemmas.List.Sums.sum_by-cons}
+use Rattle.std.specs.Prelude.{All, count_by}
 use Rattle.cgd_lex.specs.Pieces.{line_feed, other_bytes, first_piece}
 use Rattle.cgd_lex.specs.Tokens.{TokenView, tokens_from, token_at, first_line, kind_of_piece}
-use Rattle.cgd_lex.specs.Forms.{HasItsForm}
 use Rattle.cgd_lex.specs.Places.{IsSliceOf, IsOnLine, AreInOrder, line_number}
-use Rattle.cgd_lex.specs.declared.token.TokenKind.{TokenKind}
-use Rattle.cgd_lex.specs.declared.token.TokenKind.TheVariants.{Newline}
+use Rattle.cgd_lex.specs.{Forms.HasItsForm, declared.token.TokenKind.TokenKind, declared.token.TokenKind.TheVariants.Newline}
 use Rattle.cgd_lex.proofs.Steps.{at_newline, one_piece, first_line_on}
-use Rattle.cgd_lex.proofs.Ends.{same, take_line}
-use Rattle.cgd_lex.proofs.Fits.{piece_fits}
-use Rattle.cgd_lex.proofs.Forms.{IsOfItsKind, first_form}
+use Rattle.cgd_lex.proofs.{Ends.same, Ends.take_line, Fits.piece_fits, Forms.IsOfItsKind, Forms.first_form}
 
 -- the tokens stand in the source one after another, from this place on
 pub record ArePlaced (source : List ℕ) (from : ℕ) (tokens : List TokenView) : Type 0 where

@@ -1,15 +1,11 @@
 -- Tokens and pieces of a text, one after another from its front.
 use Rattle.std.proofs.Common.{◌≡◌, ℕ, ◌+◌, ◌≤◌, Bool, true, false, List, [], ◌∷◌, ◌++◌, length, take, drop, cond, ◌==◌, arith, refl, sym, ap, ◌∙◌, not, ◌||◌}
 use Rattle.std.proofs.Common.{inl, inr}
-use Rattle.std.proofs.lemmas.Bool.{cases_Bool}
-use Rattle.std.specs.Prelude.{position}
-use Rattle.std.specs.List.{onto_first, prefix_len}
-use Rattle.std.proofs.lemmas.Grind.{common_steps}
-use Rattle.std.proofs.lemmas.List.{append_assoc, length-drop}
-use Rattle.cgd_lex.specs.Pieces.{pieces_after, cut_of, up_to, Piece, Blank, Comment, Control, Run, first_byte, other_bytes, bytes_of, first_piece, quoted_piece}
+use Rattle.std.proofs.lemmas.{Bool.cases_Bool, Grind.common_steps, List.append_assoc, List.length-drop}
+use Rattle.std.specs.{Prelude.position, List.onto_first, List.prefix_len}
+use Rattle.cgd_lex.specs.Pieces.{pieces_after, cut_of, up_to, Piece, Blank, Comment, Control, Run, first_byte, other_bytes, first_piece, quoted_piece}
 use Rattle.cgd_lex.specs.Pieces.{is_run_byte, ends_run, is_blank, is_control}
-use Rattle.cgd_lex.specs.Tokens.{tokens_from, first_line, lines_of, first_of, others_of, newline, token_at, later_lines, tokens_of_pieces, tokens_of_line}
-use Rattle.cgd_lex.specs.Tokens.{kind_of_piece}
+use Rattle.cgd_lex.specs.Tokens.{tokens_from, first_line, lines_of, first_of, others_of, newline, token_at, later_lines, tokens_of_line, kind_of_piece}
 
 -- a text has a first line
 pub split_some : (bs : List ℕ) → lines_of bs ≡ first_line bs ∷ others_of (lines_of bs)
@@ -37,13 +33,11 @@ passed (t ∷ taken) (b ∷ bs) fits = passed taken bs (omega (arith, fits))
 
 -- a byte more before the first line
 first_onto : (b : ℕ) (ls : List (List ℕ)) → first_of (onto_first b ls) ≡ b ∷ first_of ls
-first_onto b [] = refl
-first_onto b (l ∷ ls) = refl
+first_onto b ls = search arith
 
 -- a byte more leaves the other lines
 others_onto : (b : ℕ) (ls : List (List ℕ)) → others_of (onto_first b ls) ≡ others_of ls
-others_onto b [] = refl
-others_onto b (l ∷ ls) = refl
+others_onto b ls = search arith
 
 -- a byte other than the line feed belongs to the first line
 pub first_line_on : (b : ℕ) (bs : List ℕ) → (b == 10) ≡ false → first_line (b ∷ bs) ≡ b ∷ first_line bs
@@ -57,11 +51,7 @@ others_on b bs other = ap (λ t. others_of (cond t ([] ∷ lines_of bs) (onto_fi
 by_tests : (M : Piece → Type 0) (x y z w : Bool) (a b c d e : Piece)
     → (x ≡ true → M a) → (y ≡ true → M b) → (z ≡ true → M c) → (w ≡ true → M d) → (not (x || (y || (z || w))) ≡ true → M e)
     → M (cond x a (cond y b (cond z c (cond w d e))))
-by_tests M true y z w a b c d e p q r s t = p refl
-by_tests M false true z w a b c d e p q r s t = q refl
-by_tests M false false true w a b c d e p q r s t = r refl
-by_tests M false false false true a b c d e p q r s t = s refl
-by_tests M false false false false a b c d e p q r s t = t refl
+by_tests M x y z w a b c d e h k l u v = search arith
 
 -- any fact of the first piece
 pub piece_is : (M : Piece → Type 0) (b : ℕ) (bs : List ℕ)
@@ -91,13 +81,7 @@ lines_dropped (t ∷ taken) (b ∷ bs) fits = elim (cases_Bool (b == 10)) [
 with_piece : (at line b : ℕ) (l : List ℕ) (p : Piece) → first_piece b l ≡ p → length (other_bytes p) ≤ length l → first_byte p ≡ b →
     tokens_of_line at line (b ∷ l) ≡ token_at at line (b ∷ other_bytes p) (kind_of_piece p)
     ++ tokens_of_line (at + 1 + length (other_bytes p)) line (drop (length (other_bytes p)) l)
-with_piece at line b l p is fits first =
-    let e : at + length (bytes_of p) ≡ at + 1 + length (other_bytes p) = omega arith in
-    ap (λ p. tokens_of_pieces at line (p ∷ pieces_after (other_bytes p) l)) is
-    ∙ ap (λ ps. tokens_of_pieces at line (p ∷ ps)) (passed (other_bytes p) l fits)
-    ∙ ap (λ n. token_at at line (bytes_of p) (kind_of_piece p) ++ tokens_of_line n line (drop (length (other_bytes p)) l)) e
-    ∙ ap (λ b. token_at at line (b ∷ other_bytes p) (kind_of_piece p) ++ tokens_of_line (at + 1 + length (other_bytes p)) line
-    (drop (length (other_bytes p)) l)) first
+with_piece at line b l p is fits first = grind (arith, passed)
 
 -- where the first line has room for the first piece
 pub one_piece : (at line b : ℕ) (bs : List ℕ) (p : Piece) → (b == 10) ≡ false → first_piece b (first_line bs) ≡ p

@@ -1,15 +1,12 @@
 -- A line has exactly one cut.
-use Rattle.std.proofs.Common.{◌≡◌, ◌≢◌, ℕ, Bool, true, false, List, [], ◌∷◌, ◌++◌, length, take, cond, ◌==◌, arith, refl, sym, ap, ◌∙◌, not, ◌||◌, ◌&&◌, nat_lt}
-use Rattle.std.proofs.Common.{inl, inr}
-use Rattle.std.proofs.lemmas.Bool.{cases_Bool}
-use Rattle.std.specs.Prelude.{position, All}
-use Rattle.std.specs.List.{prefix_len}
+use Rattle.std.proofs.Common.{◌≡◌, ◌≢◌, ℕ, Bool, true, false, List, [], ◌∷◌, ◌++◌, length, cond, ◌==◌, arith, refl, sym, ap, ◌∙◌, not, ◌||◌, ◌&&◌, nat_lt, inl}
+use Rattle.std.proofs.Common.{inr}
 use Rattle.std.proofs.lemmas.List.{append_assoc, append-nil, length-append}
-use Rattle.std.proofs.Math.Seq.{take-append_seam}
-use Rattle.std.proofs.lemmas.List.Elements.{All-head, All-cons, All-tail, All-nil}
-use Rattle.std.proofs.lemmas.Grind.{common_steps}
+use Rattle.std.proofs.{lemmas.Bool.cases_Bool, Math.Seq.take-append_seam, lemmas.List.Elements.All-head, lemmas.List.Elements.All-tail}
+use Rattle.std.proofs.{lemmas.Grind.common_steps}
+use Rattle.std.specs.{Prelude.position, Prelude.All, List.prefix_len}
 use Rattle.cgd_lex.specs.Pieces.{Piece, Blank, Comment, Closed, Unclosed, Control, Run, first_byte, other_bytes, first_piece, quoted_piece, pieces_after}
-use Rattle.cgd_lex.specs.Pieces.{cut_of, run_bytes, is_run_byte, ends_run, is_blank, is_control, MayStand, IsCut, StartsNoRun}
+use Rattle.cgd_lex.specs.Pieces.{cut_of, run_bytes, is_run_byte, is_blank, is_control, MayStand, IsCut, StartsNoRun}
 use Rattle.cgd_lex.proofs.Steps.{up_to_on}
 use Rattle.cgd_lex.proofs.Ends.{found_at, found_none, same}
 
@@ -35,17 +32,12 @@ differ h = grind (arith, common_steps, h)
 
 -- what follows from a fact of each byte
 pub All-map : (P Q : ℕ → Type 0) → ((b : ℕ) → P b → Q b) → (bs : List ℕ) → All P bs → All Q bs
-All-map P Q f [] all = All-nil Q
-All-map P Q f (b ∷ bs) all = All-cons Q b bs (f b (All-head P b bs all)) (All-map P Q f bs (All-tail P b bs all))
+All-map P Q h bs k = search arith
 
 -- a closed text is found
 quoted_is : (bs rest : List ℕ) → All (λ b. not (b == 34) ≡ true) bs → quoted_piece (position (λ x. x == 34) ((bs ++ 34 ∷ []) ++ rest))
     ((bs ++ 34 ∷ []) ++ rest) ≡ Closed bs
-quoted_is bs rest all =
-    let e : (bs ++ 34 ∷ []) ++ rest ≡ bs ++ 34 ∷ rest = append_assoc bs (34 ∷ []) rest in
-    let n = passes (λ x. not (x == 34)) bs (34 ∷ rest) all refl in
-    let f = found_at (bs ++ 34 ∷ rest) (length bs) n (omega (arith, length-append bs (34 ∷ rest))) in
-    rw e (rw f (ap Closed (take-append_seam bs (34 ∷ rest))))
+quoted_is bs rest all = grind (arith, append_assoc, passes, found_at, length-append, take-append_seam)
 
 -- an open text is found
 open_is : (bs : List ℕ) → All (λ b. not (b == 34) ≡ true) bs → quoted_piece (position (λ x. x == 34) bs) bs ≡ Unclosed bs
@@ -55,16 +47,11 @@ open_is bs all =
 
 -- no test of the four holds
 all_false : (x y z w : Bool) (a b c d e : Piece) → not (x || (y || (z || w))) ≡ true → cond x a (cond y b (cond z c (cond w d e))) ≡ e
-all_false true y z w a b c d e h = absurd (grind (arith, common_steps, h))
-all_false false true z w a b c d e h = absurd (grind (arith, common_steps, h))
-all_false false false true w a b c d e h = absurd (grind (arith, common_steps, h))
-all_false false false false true a b c d e h = absurd (grind (arith, common_steps, h))
-all_false false false false false a b c d e h = refl
+all_false x y z w a b c d e k = search arith
 
 -- only the last test holds
 only_last : (x y z w : Bool) (a b c d e : Piece) → (not x && w) ≡ true → y ≡ false → z ≡ false → cond x a (cond y b (cond z c (cond (not x && w) d e))) ≡ d
-only_last true y z w a b c d e h f g = absurd (grind (arith, common_steps, h))
-only_last false y z w a b c d e h f g = rw f (rw g (rw h refl))
+only_last x y z w a b c d e k l p = search arith
 
 -- a control byte is none that is not
 no_control : (b n : ℕ) → is_control n ≡ false → is_control b ≡ true → (b == n) ≡ false
@@ -75,13 +62,11 @@ no_control b n none h = elim (cases_Bool (b == n)) [
 
 -- where no run goes on, no run byte comes
 stops : (rest : List ℕ) → StartsNoRun rest → prefix_len is_run_byte rest ≡ 0
-stops [] h = refl
-stops (b ∷ bs) h = rw h refl
+stops rest k = search arith
 
 -- the bytes of a run are found
 run_of : (bs rest : List ℕ) → All (λ b. is_run_byte b ≡ true) bs → StartsNoRun rest → run_bytes (bs ++ rest) ≡ bs
-run_of bs rest all none = up_to_on ends_run (bs ++ rest) ∙ ap (λ n. take n (bs ++ rest)) (passes is_run_byte bs rest all (stops rest none))
-    ∙ take-append_seam bs rest
+run_of bs rest all h = grind (arith, up_to_on, passes, stops, take-append_seam)
 
 -- a piece that may stand where it does is the one that is found
 is_first : (p : Piece) (rest : List ℕ) → MayStand p rest → first_piece (first_byte p) (other_bytes p ++ rest) ≡ p

@@ -1,11 +1,7 @@
 -- Blocks from the left.
-use Rattle.std.proofs.Common.{◌≡◌, Bool, true, false, cond, List, [], ◌∷◌, ◌++◌, refl, sym, ap, ◌∙◌}
+use Rattle.std.proofs.Common.{◌≡◌, Bool, true, false, cond, List, [], ◌∷◌, ◌++◌, refl, arith}
 use Rattle.std.proofs.lemmas.List.{append_assoc}
-use Rattle.cgd_read.specs.Lines.{LineView}
-use Rattle.cgd_read.specs.Faults.{is_end}
-use Rattle.cgd_read.specs.Views.{BlockView}
-use Rattle.cgd_read.specs.Blocks.{blocks_from, block_of}
-use Rattle.cgd_read.specs.Reading.{after_end}
+use Rattle.cgd_read.specs.{Lines.LineView, Faults.is_end, Views.BlockView, Blocks.blocks_from, Blocks.block_of, Reading.after_end}
 
 -- a block is passed over up to its end
 pub passed_over : (lines : List LineView) → blocks_from true lines ≡ blocks_from false (after_end lines)
@@ -14,20 +10,14 @@ passed_over (line ∷ lines) = by (is_end line.kind) (passed_over lines)
   where
     by : (t : Bool) → blocks_from true lines ≡ blocks_from false (after_end lines)
         → cond t (blocks_from false lines) (blocks_from true lines) ≡ blocks_from false (cond t lines (after_end lines))
-    by true e = refl
-    by false e = e
+    by t h = search arith
 
 -- a line other than END opens a block
 pub one_block : (line : LineView) (lines : List LineView) → is_end line.kind ≡ false
     → blocks_from false (line ∷ lines) ≡ block_of line lines ∷ blocks_from false (after_end lines)
-one_block line lines e =
-    ap (λ t. cond t (blocks_from false lines) (block_of line lines ∷ blocks_from true lines)) e
-    ∙ ap (λ (bs : List BlockView). block_of line lines ∷ bs) (passed_over lines)
+one_block line lines e = search (arith, passed_over)
 
 -- the blocks so far with one more, and those after it
 pub next_block : (found : List BlockView) (line : LineView) (lines left : List LineView) → is_end line.kind ≡ false → left ≡ after_end lines
     → (found ++ block_of line lines ∷ []) ++ blocks_from false left ≡ found ++ blocks_from false (line ∷ lines)
-next_block found line lines left e h =
-    append_assoc found (block_of line lines ∷ []) (blocks_from false left)
-    ∙ ap (λ (ls : List LineView). found ++ (block_of line lines ∷ blocks_from false ls)) h
-    ∙ ap (λ (bs : List BlockView). found ++ bs) (sym (one_block line lines e))
+next_block found line lines left e h = search (arith, append_assoc, one_block)

@@ -1,12 +1,9 @@
 -- A graph block is exactly what its first faulty line, its end or the end of the text decides.
-use Rattle.std.proofs.Common.{◌≡◌, ◌⊎◌, inl, inr, ℕ, Bool, true, false, cond, List, [], ◌∷◌, None, Some, refl, sym, ap, subst, ◌∙◌}
+use Rattle.std.proofs.Common.{◌≡◌, ◌⊎◌, inl, inr, ℕ, Bool, true, false, cond, List, [], ◌∷◌, None, Some, refl, sym, ap, subst, ◌∙◌, arith}
 use Rattle.std.proofs.lemmas.Bool.{cases_Bool}
-use Rattle.cgd_read.specs.Lines.{LineView}
 use Rattle.cgd_read.specs.Faults.{is_end, rows_in, first_true, table}
-use Rattle.cgd_read.specs.Views.{BlockView, Net}
-use Rattle.cgd_read.specs.Graphs.{net_of}
 use Rattle.cgd_read.specs.Blocks.{with_body, malformed, or_fault, graph_block, AllFalse, IsFirstTrue, in_order, AllPass, IsDecided, IsGraphBlock}
-use Rattle.cgd_read.specs.declared.block.BlockFaultKind.{BlockFaultKind}
+use Rattle.cgd_read.specs.{Lines.LineView, Views.BlockView, Views.Net, Graphs.net_of, declared.block.BlockFaultKind.BlockFaultKind}
 
 pub none_true : (tests : List (BlockFaultKind × Bool)) → AllFalse tests → first_true tests ≡ None
 none_true [] h = refl
@@ -38,10 +35,7 @@ ended opening earlier = with_body opening earlier (Net (net_of (rows_in earlier)
 -- a line that passes is passed over
 pub passes_on : (opening : ℕ) (earlier : List LineView) (line : LineView) (later : List LineView) → AllFalse (table earlier line) → is_end line.kind ≡ false
     → graph_block opening earlier (line ∷ later) ≡ graph_block opening (line ∷ earlier) later
-passes_on opening earlier line later h e =
-    ap (λ fault. or_fault fault line.number opening earlier (cond (is_end line.kind) (ended opening earlier) (graph_block opening (line ∷ earlier) later)))
-    (none_true (table earlier line) h)
-    ∙ ap (λ t. cond t (ended opening earlier) (graph_block opening (line ∷ earlier) later)) e
+passes_on opening earlier line later h e = cc
 
 faulty : (opening : ℕ) (earlier : List LineView) (line : LineView) (later : List LineView) (kind : BlockFaultKind) → IsFirstTrue (table earlier line) kind
     → graph_block opening earlier (line ∷ later) ≡ with_body opening earlier (malformed line.number kind)
@@ -51,10 +45,7 @@ faulty opening earlier line later kind h =
 
 ends_here : (opening : ℕ) (earlier : List LineView) (line : LineView) (later : List LineView) → AllFalse (table earlier line) → is_end line.kind ≡ true
     → graph_block opening earlier (line ∷ later) ≡ ended opening earlier
-ends_here opening earlier line later h e =
-    ap (λ fault. or_fault fault line.number opening earlier (cond (is_end line.kind) (ended opening earlier) (graph_block opening (line ∷ earlier) later)))
-    (none_true (table earlier line) h)
-    ∙ ap (λ t. cond t (ended opening earlier) (graph_block opening (line ∷ earlier) later)) e
+ends_here opening earlier line later h e = cc
 
 -- after lines that pass
 from_start : (opening : ℕ) (earlier later : List LineView) → AllPass earlier
@@ -70,10 +61,7 @@ decided_block opening earlier (line ∷ later) block (inr e) = e.told ∙ sym (e
 
 -- there is at most one
 pub only_block : (opening : ℕ) (lines : List LineView) (block : BlockView) → IsGraphBlock opening lines block → block ≡ graph_block opening [] lines
-only_block opening lines block b =
-    decided_block opening b.earlier b.later block b.decided
-    ∙ sym (from_start opening b.earlier b.later b.passed)
-    ∙ ap (graph_block opening []) b.whole
+only_block opening lines block b = search (arith, decided_block, from_start)
 
 some_block : (opening : ℕ) (lines earlier later : List LineView) → in_order earlier later ≡ lines → AllPass earlier
     → IsGraphBlock opening lines (graph_block opening earlier later)

@@ -1,12 +1,10 @@
 -- What the fields of a line say, read one by one.
-use Rattle.std.proofs.Common.{◌≡◌, ℕ, ℤ, ◌+◌, ◌≤◌, ◌<◌, ◌==◌, nat_lt, Bool, true, false, cond, ◌||◌, ◌&&◌, List, [], ◌∷◌, length, drop, fold, Option, None}
-use Rattle.std.proofs.Common.{is_none, pos, refl, sym, ap, subst, ◌∙◌, arith}
+use Rattle.std.proofs.Common.{◌≡◌, ℕ, ◌+◌, ◌≤◌, ◌<◌, ◌==◌, nat_lt, Bool, true, false, cond, ◌||◌, ◌&&◌, List, [], ◌∷◌, length, drop, fold, None, is_none, pos}
+use Rattle.std.proofs.Common.{refl, sym, ap, subst, ◌∙◌, arith}
+use Rattle.std.proofs.{lemmas.Bool.Decides.nat_tests, Math.Bool.or_assoc, Math.Bool.or-false}
 use Rattle.std.specs.List.{list_any}
-use Rattle.std.proofs.lemmas.Bool.Decides.{nat_tests}
-use Rattle.std.proofs.Math.Bool.{or_assoc, or-false}
-use Rattle.cgd_lex.specs.Tokens.{TokenView}
+use Rattle.cgd_lex.specs.{Tokens.TokenView, Words.is_quoted, Words.name_in}
 use Rattle.cgd_read.specs.Values.{part_of}
-use Rattle.cgd_lex.specs.Words.{is_quoted, name_in}
 use Rattle.cgd_read.specs.Lines.{FieldsView, fields_of, is_strange, name_of_fields, part_or_zero, text_of_first, part_of_first, LineView, line_with}
 use Rattle.cgd_read.specs.Lines.{fields_from, kind_of}
 use Rattle.cgd_read.specs.Reading.{no_fields, with_field, IsFlat}
@@ -54,14 +52,10 @@ parts_after f (t ∷ ts) l =
     ∙ or_assoc f.has_far_part (is_none (part_of t.text)) _
 
 late_quotes : (ts : List TokenView) → (with_all no_fields ts).has_late_quote ≡ list_any (λ (t : TokenView). is_quoted t.kind) (drop 2 ts)
-late_quotes [] = refl
-late_quotes (a ∷ []) = refl
-late_quotes (a ∷ b ∷ ts) = quotes_after (with_field (with_field no_fields a) b) ts (omega arith)
+late_quotes ts = search (arith, quotes_after)
 
 far_parts : (ts : List TokenView) → (with_all no_fields ts).has_far_part ≡ list_any (λ (t : TokenView). is_none (part_of t.text)) (drop 2 ts)
-far_parts [] = refl
-far_parts (a ∷ []) = refl
-far_parts (a ∷ b ∷ ts) = parts_after (with_field (with_field no_fields a) b) ts (omega arith)
+far_parts ts = search (arith, parts_after)
 
 -- a field that was read stays
 
@@ -86,45 +80,24 @@ z_stays f [] l = refl
 z_stays f (t ∷ ts) l = z_stays (with_field f t) ts (omega (arith, l)) ∙ ap (λ b. cond b (part_or_zero (part_of t.text)) f.z) (unequal f.size 4 l)
 
 us : (ts : List TokenView) → (with_all no_fields ts).u ≡ text_of_first ts
-us [] = refl
-us (a ∷ ts) = u_stays (with_field no_fields a) ts (omega arith)
+us ts = search (arith, u_stays)
 
 vs : (ts : List TokenView) → (with_all no_fields ts).v ≡ text_of_first (drop 1 ts)
-vs [] = refl
-vs (a ∷ []) = refl
-vs (a ∷ b ∷ ts) = v_stays (with_all no_fields (a ∷ b ∷ [])) ts (omega arith)
+vs ts = search (arith, v_stays)
 
 xs : (ts : List TokenView) → (with_all no_fields ts).x ≡ part_of_first (drop 2 ts)
-xs [] = refl
-xs (a ∷ []) = refl
-xs (a ∷ b ∷ []) = refl
-xs (a ∷ b ∷ c ∷ ts) = x_stays (with_all no_fields (a ∷ b ∷ c ∷ [])) ts (omega arith)
+xs ts = grind (arith, x_stays)
 
 ys : (ts : List TokenView) → (with_all no_fields ts).y ≡ part_of_first (drop 3 ts)
-ys [] = refl
-ys (a ∷ []) = refl
-ys (a ∷ b ∷ []) = refl
-ys (a ∷ b ∷ c ∷ []) = refl
-ys (a ∷ b ∷ c ∷ d ∷ ts) = y_stays (with_all no_fields (a ∷ b ∷ c ∷ d ∷ [])) ts (omega arith)
+ys ts = grind (arith, y_stays)
 
 zs : (ts : List TokenView) → (with_all no_fields ts).z ≡ part_of_first (drop 4 ts)
-zs [] = refl
-zs (a ∷ []) = refl
-zs (a ∷ b ∷ []) = refl
-zs (a ∷ b ∷ c ∷ []) = refl
-zs (a ∷ b ∷ c ∷ d ∷ []) = refl
-zs (a ∷ b ∷ c ∷ d ∷ e ∷ ts) = z_stays (with_all no_fields (a ∷ b ∷ c ∷ d ∷ e ∷ [])) ts (omega arith)
-
-abbrev record_of : ℕ → Option (List ℕ) → Bool → Bool → Bool → List ℕ → List ℕ → ℤ → ℤ → ℤ → FieldsView
-record_of a b c d e h i j k l = record { size = a; name = b; has_strange = c; has_late_quote = d; has_far_part = e; u = h; v = i; x = j; y = k; z = l }
+zs ts = grind (arith, z_stays)
 
 same : (f g : FieldsView) → f.size ≡ g.size → f.name ≡ g.name → f.has_strange ≡ g.has_strange → f.has_late_quote ≡ g.has_late_quote
     → f.has_far_part ≡ g.has_far_part
     → f.u ≡ g.u → f.v ≡ g.v → f.x ≡ g.x → f.y ≡ g.y → f.z ≡ g.z → f ≡ g
-same f g a b c d e h i j k l =
-    let p : record_of f.size f.name f.has_strange f.has_late_quote f.has_far_part f.u f.v f.x f.y f.z ≡ record_of g.size g.name g.has_strange g.has_late_quote
-    g.has_far_part g.u g.v g.x g.y g.z = cc in
-    p
+same f g a b c d e h i j k l = search arith
 
 -- the fields read one by one are the fields of the line
 pub all_fields : (ts : List TokenView) → with_all no_fields ts ≡ fields_of ts
@@ -138,12 +111,7 @@ fields_after true first others = all_fields (first ∷ others)
 fields_after false first others = all_fields others
 
 pub flat_tokens : (ts : List TokenView) → length ts ≤ 4 → part_of_first (drop 4 ts) ≡ pos 0
-flat_tokens [] l = refl
-flat_tokens (a ∷ []) l = refl
-flat_tokens (a ∷ b ∷ []) l = refl
-flat_tokens (a ∷ b ∷ c ∷ []) l = refl
-flat_tokens (a ∷ b ∷ c ∷ d ∷ []) l = refl
-flat_tokens (a ∷ b ∷ c ∷ d ∷ e ∷ ts) l = absurd (omega (arith, l))
+flat_tokens ts h = search arith
 
 -- a line with four fields or fewer has no third part of a shift
 pub line_is_flat : (line : LineView) (first : TokenView) (others : List TokenView) → line ≡ line_with first others → IsFlat line.fields

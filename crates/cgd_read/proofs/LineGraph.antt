@@ -3,19 +3,14 @@ use Rattle.std.proofs.Common.{◌≡◌, ◌⊎◌, ℕ, ◌≤◌, ◌==◌, na
 use Rattle.std.proofs.Common.{ap, subst, arith}
 use Rattle.std.proofs.lemmas.Bool.Decides.{nat_tests}
 use Rattle.periodic_net.specs.Limits.{most_vertices, most_edges}
-use Rattle.cgd_read.specs.Lines.{LineView}
 use Rattle.cgd_read.specs.Edges.{vertices_of, edges_of, is_self_edge, first_size, has_rows}
 use Rattle.cgd_read.specs.Faults.{has_row, is_end, rows_in, first_true, table, fault_of, has_wrong_length, has_other_length, has_self_edge}
 use Rattle.cgd_read.specs.Faults.{brings_many_vertices, brings_many_edges, ends_without_rows}
-use Rattle.cgd_read.specs.Blocks.{AllFalse}
-use Rattle.cgd_read.proofs.SoundLines.{IsSound, AllSound}
-use Rattle.cgd_read.specs.declared.block.BlockFaultKind.{BlockFaultKind}
-use Rattle.cgd_read.proofs.WellEdges.{MakeGraph}
-use Rattle.cgd_read.proofs.RowGraph.{make_nothing, make_row}
+use Rattle.cgd_read.specs.{Lines.LineView, Blocks.AllFalse, declared.block.BlockFaultKind.BlockFaultKind}
+use Rattle.cgd_read.proofs.{SoundLines.IsSound, SoundLines.AllSound, WellEdges.MakeGraph, RowGraph.make_nothing, RowGraph.make_row}
 
 pub this_false : (t : Bool) (kind : BlockFaultKind) (later : Option BlockFaultKind) → cond t (Some kind) later ≡ None → (t ≡ false) × (later ≡ None)
-this_false true kind later e = absurd cc
-this_false false kind later e = (refl, e)
+this_false t kind later h = search arith
 
 pub all_false : (tests : List (BlockFaultKind × Bool)) → first_true tests ≡ None → AllFalse tests
 all_false [] e = tt
@@ -48,17 +43,13 @@ in_limit : (limit n : ℕ) → nat_lt limit n ≡ false → n ≤ limit
 in_limit limit n e = grind (arith, nat_tests, e)
 
 row_size : (r : Bool) (n : ℕ) → r ≡ true → (r && not (n == 4 || n == 5)) ≡ false → (n ≡ 4) ⊎ (n ≡ 5)
-row_size true n e h = grind (arith, nat_tests, h)
-row_size false n e h = absurd cc
+row_size r n k l = search (arith, nat_tests)
 
 same_size : (r some : Bool) (m n : ℕ) → r ≡ true → (r && (some && not (m == n))) ≡ false → some ≡ true → m ≡ n
-same_size true true m n e h k = grind (arith, nat_tests, h)
-same_size true false m n e h k = absurd cc
-same_size false some m n e h k = absurd cc
+same_size r some m n l p q = search (arith, nat_tests)
 
 of_row : (r t : Bool) → r ≡ true → (r && t) ≡ false → t ≡ false
-of_row true t e h = h
-of_row false t e h = absurd cc
+of_row r t k l = cc
 
 rows_now : (earlier : List LineView) (line : LineView) (t : Bool) → has_row line ≡ t
     → rows_in (line ∷ earlier) ≡ cond t (line.fields ∷ rows_in earlier) (rows_in earlier)
@@ -86,9 +77,7 @@ make_lines (line ∷ earlier) sound =
     (make_line earlier line (has_row line) refl sound.0 (make_lines earlier sound.1))
 
 end_test : (t some : Bool) → t ≡ true → (t && not some) ≡ false → some ≡ true
-end_test true true e h = refl
-end_test true false e h = absurd cc
-end_test false some e h = absurd cc
+end_test t some k l = search arith
 
 -- a line that ends a block without a fault comes after a row
 pub ends_with_rows : (earlier : List LineView) (line : LineView) → fault_of earlier line ≡ None → is_end line.kind ≡ true → has_rows (rows_in earlier) ≡ true

@@ -1,8 +1,7 @@
 -- A name that is added to a set of slices.
-use Rattle.std.proofs.Common.{◌≡◌, ℕ, List, [], ◌∷◌, ◌++◌, map, Bool, true, false, cond, Bor, refl, ap, ◌∙◌, ◌||◌, not, ◌+◌, ◌≤◌, length, arith}
+use Rattle.std.proofs.Common.{◌≡◌, ℕ, List, [], ◌∷◌, ◌++◌, map, Bool, cond, Bor, refl, ap, ◌||◌, not, ◌+◌, ◌≤◌, length, arith}
 use Rattle.std.proofs.lemmas.List.{length-append}
-use Rattle.std.specs.List.{list_any, position_or_len}
-use Rattle.std.specs.Str.{bytes_eq}
+use Rattle.std.specs.{List.list_any, List.position_or_len, Str.bytes_eq}
 use Rattle.indexmap.specs.IndexSet.{insert_key}
 use Rattle.cgd_read.specs.Edges.{with_new}
 
@@ -17,13 +16,11 @@ map_end k (b ∷ ks) = ap (λ t. b.now ∷ t) (map_end k ks)
 
 by_test : (t : Bool) (k : Bor (List ℕ)) (ks : List (Bor (List ℕ))) → map (λ (b : Bor (List ℕ)). b.now) (cond t ks (ks ++ k ∷ [])) ≡ cond t
     (map (λ (b : Bor (List ℕ)). b.now) ks) (map (λ (b : Bor (List ℕ)). b.now) ks ++ k.now ∷ [])
-by_test true k ks = refl
-by_test false k ks = map_end k ks
+by_test t k ks = search (arith, map_end)
 
 pub names_insert : (k : Bor (List ℕ)) (ks : List (Bor (List ℕ))) → map (λ (b : Bor (List ℕ)). b.now)
     (insert_key (λ (a b : Bor (List ℕ)). bytes_eq a.now b.now) ks k) ≡ with_new bytes_eq (map (λ (b : Bor (List ℕ)). b.now) ks) k.now
-names_insert k ks = by_test (list_any (λ (b : Bor (List ℕ)). bytes_eq k.now b.now) ks) k ks
-    ∙ ap (λ t. cond t (map (λ (b : Bor (List ℕ)). b.now) ks) (map (λ (b : Bor (List ℕ)). b.now) ks ++ k.now ∷ [])) (any_of k ks)
+names_insert k ks = simp (by_test, any_of)
 
 pub place_of : (k : Bor (List ℕ)) (ks : List (Bor (List ℕ))) → position_or_len (λ (b : Bor (List ℕ)). bytes_eq k.now b.now) ks ≡ position_or_len
     (bytes_eq k.now) (map (λ (b : Bor (List ℕ)). b.now) ks)
@@ -31,8 +28,4 @@ place_of k [] = refl
 place_of k (b ∷ ks) = ap (λ n. cond (not (bytes_eq k.now b.now)) (1 + n) 0) (place_of k ks)
 
 pub grown : (names : List (List ℕ)) (name : List ℕ) → length (with_new bytes_eq names name) ≤ length names + 1
-grown names name = by_length (list_any (bytes_eq name) names)
-  where
-    by_length : (t : Bool) → length (cond t names (names ++ name ∷ [])) ≤ length names + 1
-    by_length true = omega arith
-    by_length false = omega (arith, length-append names (name ∷ []))
+grown names name = search (arith, length-append)

@@ -1,33 +1,23 @@
 -- The graph of rows without a fault is one that may be read.
-use Rattle.std.proofs.Common.{◌≡◌, ◌⊎◌, inl, inr, ℕ, ◌≤◌, ◌-◌, Bool, true, false, cond, List, [], ◌∷◌, length, refl, sym, subst, arith}
+use Rattle.std.proofs.Common.{◌≡◌, ◌⊎◌, ℕ, ◌≤◌, ◌-◌, true, List, [], ◌∷◌, length, refl, sym, subst, arith}
+use Rattle.std.proofs.lemmas.{List.Elements.All-weaker, List.Elements.All-map, List.length-map}
 use Rattle.std.specs.List.{All}
-use Rattle.std.proofs.lemmas.List.Elements.{All-weaker, All-map}
-use Rattle.std.proofs.lemmas.List.{length-map}
 use Rattle.integers.specs.Vectors.{vector, IsWithin}
-use Rattle.periodic_net.specs.Graph.{IsEdge, IsGraph}
-use Rattle.cgd_read.specs.Lines.{FieldsView, LineView}
+use Rattle.periodic_net.specs.{Graph.IsEdge, Graph.IsGraph, Limits.IsSmall, Limits.most_shift}
 use Rattle.cgd_read.specs.Edges.{vertices_of, edges_of, first_size, has_rows}
-use Rattle.cgd_read.specs.Faults.{has_row, rows_in}
-use Rattle.cgd_read.specs.Spelling.{edge_of}
 use Rattle.cgd_read.specs.Graphs.{graph_of, net_of, IsReadGraph}
-use Rattle.periodic_net.specs.Limits.{IsSmall, most_shift}
-use Rattle.cgd_read.specs.Views.{RawView}
-use Rattle.cgd_read.specs.Graphs.{net_of}
-use Rattle.cgd_read.specs.declared.edge.RawEdge.{RawEdge}
-use Rattle.cgd_read.proofs.Rows.{rows_have_edges}
-use Rattle.cgd_read.proofs.WellEdges.{IsWellEdge, MakeGraph}
+use Rattle.cgd_read.specs.{Lines.FieldsView, Lines.LineView, Faults.rows_in, Spelling.edge_of, Views.RawView, declared.edge.RawEdge.RawEdge}
+use Rattle.cgd_read.proofs.{Rows.rows_have_edges, WellEdges.IsWellEdge, WellEdges.MakeGraph}
 
 has_vertex : (n size : ℕ) (es : List RawEdge) → 1 ≤ length es → All (IsWellEdge n size) es → 1 ≤ n
 has_vertex n size [] some edges = absurd (omega (arith, some))
 has_vertex n size (e ∷ es) some edges = let w = edges 0 e (omega arith) in omega (arith, w.first.0, w.first.1)
 
 dimension : (size : ℕ) → (size ≡ 4) ⊎ (size ≡ 5) → (size - 2 ≡ 2) ⊎ (size - 2 ≡ 3)
-dimension size (inl e) = inl (omega (arith, e))
-dimension size (inr e) = inr (omega (arith, e))
+dimension size h = search arith
 
 four : (size : ℕ) → (size ≡ 4) ⊎ (size ≡ 5) → size - 2 ≡ 2 → size ≡ 4
-four size (inl e) h = e
-four size (inr e) h = absurd (omega (arith, e, h))
+four size k l = omega arith
 
 rows_are_graph : (rows : List FieldsView) → MakeGraph rows → has_rows rows ≡ true → IsGraph (graph_of (net_of rows))
 rows_are_graph rows make some =
@@ -63,13 +53,8 @@ rows_read rows raw make some e = record {
 }
 
 pub few_fields : (rows : List FieldsView) → MakeGraph rows → first_size rows ≤ 5
-few_fields [] make = omega arith
-few_fields (row ∷ rows) make = elim (make.size refl) [ inl e ↦ omega (arith, e) | inr e ↦ omega (arith, e) ]
+few_fields rows h = search arith
 
 -- with one more line there are no fewer rows
 pub still_rows : (earlier : List LineView) (line : LineView) → has_rows (rows_in earlier) ≡ true → has_rows (rows_in (line ∷ earlier)) ≡ true
-still_rows earlier line some = by (has_row line)
-  where
-    by : (t : Bool) → has_rows (cond t (line.fields ∷ rows_in earlier) (rows_in earlier)) ≡ true
-    by true = refl
-    by false = some
+still_rows earlier line some = search arith

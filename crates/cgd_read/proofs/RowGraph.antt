@@ -1,23 +1,15 @@
 -- Each row without a fault makes a graph of a graph.
-use Rattle.std.proofs.Common.{◌≡◌, ◌≢◌, ◌⊎◌, ℕ, ◌≤◌, pos, Bool, true, false, cond, ◌==◌, List, [], ◌∷◌, ◌++◌, map, length, refl, sym, ap, subst, ◌∙◌, arith}
-use Rattle.std.specs.List.{All, AllPairs}
-use Rattle.std.specs.Str.{bytes_eq}
-use Rattle.std.proofs.lemmas.Slice.Eq.{bytes_eq-Decides}
-use Rattle.std.proofs.lemmas.Bool.{and_from, false≢true}
-use Rattle.std.proofs.lemmas.Bool.Decides.{Decides-int_eq, Decides-eqb}
-use Rattle.std.proofs.lemmas.List.{map-append}
+use Rattle.std.proofs.Common.{◌≡◌, ◌≢◌, ◌⊎◌, ℕ, ◌≤◌, pos, Bool, true, false, cond, List, [], ◌∷◌, ◌++◌, map, length, refl, sym, ap, subst, ◌∙◌, arith}
 use Rattle.std.proofs.lemmas.List.Elements.{All-push, All-weaker, All-map}
-use Rattle.std.proofs.lemmas.List.Quantifiers.{all_pairs_push}
-use Rattle.periodic_net.specs.Graph.{Arc}
-use Rattle.periodic_net.specs.Limits.{most_vertices, most_edges}
-use Rattle.cgd_read.specs.Lines.{FieldsView}
+use Rattle.std.proofs.lemmas.{Slice.Eq.bytes_eq-Decides, Bool.and_from, Bool.false≢true, Bool.Decides.Decides-int_eq, Bool.Decides.Decides-eqb, List.map-append}
+use Rattle.std.proofs.lemmas.{List.Quantifiers.all_pairs_push}
+use Rattle.std.specs.{List.All, List.AllPairs, Str.bytes_eq}
+use Rattle.periodic_net.specs.{Graph.Arc, Limits.most_vertices, Limits.most_edges}
 use Rattle.cgd_read.specs.Edges.{with_new, vertices_of, vertex_number, row_edge, same_edge, edges_of, is_self_edge, is_repeat, first_size, has_rows}
-use Rattle.cgd_read.specs.Spelling.{edge_of}
-use Rattle.cgd_read.specs.declared.edge.RawEdge.{RawEdge}
-use Rattle.cgd_read.proofs.Parts.{IsWellRow, small_part}
+use Rattle.cgd_read.specs.{Lines.FieldsView, Spelling.edge_of, declared.edge.RawEdge.RawEdge}
 use Rattle.cgd_read.proofs.Places.{all_fail, longer, numbered, same_number}
-use Rattle.cgd_read.proofs.Spelling.{IsZero}
 use Rattle.cgd_read.proofs.WellEdges.{IsWellEdge, wider, well_spelled, MakeGraph}
+use Rattle.cgd_read.proofs.{Parts.IsWellRow, Parts.small_part, Spelling.IsZero}
 
 -- an edge is the same as itself
 pub same_self : (e : RawEdge) → same_edge e e ≡ true
@@ -33,22 +25,11 @@ unfolding raw_of
 apart e f h eq = false≢true (sym h ∙ subst (λ g. same_edge e g ≡ true) (sym (ap raw_of eq)) (same_self e))
 
 pub make_nothing : MakeGraph []
-make_nothing = record {
-  size = λ e. absurd (false≢true e);
-  edges = λ size e k x l. absurd (omega (arith, l));
-  different = λ i j d l m. absurd (omega (arith, m));
-  few_vertices = omega arith;
-  few_edges = omega arith;
-}
+make_nothing = grind (arith, false≢true)
 
 -- the first row has as many fields as the last
 pub size_now : (rows : List FieldsView) (row : FieldsView) → (has_rows rows ≡ true → row.size ≡ first_size rows) → first_size (row ∷ rows) ≡ row.size
-size_now [] row e = refl
-size_now (first ∷ rows) row e = by (first_size (first ∷ rows) == 0)
-  where
-    by : (t : Bool) → cond t row.size (first_size (first ∷ rows)) ≡ row.size
-    by true = refl
-    by false = sym (e refl)
+size_now rows row h = search arith
 
 no_loop : (names : List (List ℕ)) (row : FieldsView) → is_self_edge row ≡ false
     → vertex_number names row.u ≡ vertex_number (with_new bytes_eq names row.u) row.v → IsZero row.x row.y row.z → ⊥

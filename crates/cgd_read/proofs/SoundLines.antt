@@ -1,8 +1,6 @@
 -- Lines of a block without a fault.
 use Rattle.std.specs.Prelude.{◌≡◌, List, [], ◌∷◌, None}
-use Rattle.cgd_read.specs.Lines.{LineView}
-use Rattle.cgd_read.specs.Reading.{IsSmallFields, IsFlat}
-use Rattle.cgd_read.specs.Faults.{fault_of}
+use Rattle.cgd_read.specs.{Lines.LineView, Reading.IsSmallFields, Reading.IsFlat, Faults.fault_of}
 
 -- the line has no fault, and its fields are as they are read from tokens
 pub record IsSound (earlier : List LineView) (line : LineView) : Type 0 where

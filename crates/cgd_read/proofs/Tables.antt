@@ -1,7 +1,6 @@
 -- The table of the faults, part by part.
-use Rattle.std.proofs.Common.{◌≡◌, Bool, true, false, cond, List, [], ◌∷◌, ◌++◌, Option, None, Some, refl, ap, ◌∙◌}
-use Rattle.cgd_read.specs.Faults.{first_true, or_later}
-use Rattle.cgd_read.specs.declared.block.BlockFaultKind.{BlockFaultKind}
+use Rattle.std.proofs.Common.{◌≡◌, Bool, cond, List, [], ◌∷◌, ◌++◌, Some, refl, arith}
+use Rattle.cgd_read.specs.{Faults.first_true, Faults.or_later, declared.block.BlockFaultKind.BlockFaultKind}
 
 -- the first of two tables is that of the first, or else that of the second
 pub first_of_two : (as_ bs : List (BlockFaultKind × Bool)) → first_true (as_ ++ bs) ≡ or_later (first_true as_) (first_true bs)
@@ -10,13 +9,8 @@ first_of_two (a ∷ as_) bs = by a.1 (first_of_two as_ bs)
   where
     by : (t : Bool) → first_true (as_ ++ bs) ≡ or_later (first_true as_) (first_true bs)
         → cond t (Some a.0) (first_true (as_ ++ bs)) ≡ or_later (cond t (Some a.0) (first_true as_)) (first_true bs)
-    by true e = refl
-    by false e = e
+    by t h = search arith
 
 pub first_of_three : (as_ bs cs : List (BlockFaultKind × Bool)) → first_true (as_ ++ (bs ++ cs)) ≡ or_later (or_later (first_true as_) (first_true bs))
     (first_true cs)
-first_of_three as_ bs cs = first_of_two as_ (bs ++ cs) ∙ ap (or_later (first_true as_)) (first_of_two bs cs) ∙ together (first_true as_)
-  where
-    together : (o : Option BlockFaultKind) → or_later o (or_later (first_true bs) (first_true cs)) ≡ or_later (or_later o (first_true bs)) (first_true cs)
-    together None = refl
-    together (Some kind) = refl
+first_of_three as_ bs cs = search (arith, first_of_two)

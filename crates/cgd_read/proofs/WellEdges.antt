@@ -1,15 +1,12 @@
 -- Edges of a graph within the limits.
 use Rattle.std.proofs.Common.{◌≡◌, ◌≢◌, ◌⊎◌, ℕ, ◌≤◌, ℤ, pos, ◌-ℤ◌, Bool, true, false, List, map, length, ap, arith}
-use Rattle.std.specs.List.{All, AllPairs}
-use Rattle.std.specs.Int.RustNames.{unsigned_abs}
+use Rattle.std.specs.{List.All, List.AllPairs, Int.RustNames.unsigned_abs}
 use Rattle.periodic_net.specs.Graph.{IsNormalSpelling}
 use Rattle.periodic_net.specs.Limits.{most_shift, most_vertices, most_edges}
-use Rattle.cgd_read.specs.Lines.{FieldsView}
 use Rattle.cgd_read.specs.Spelling.{spelled, is_forward, normal, edge_of}
 use Rattle.cgd_read.specs.Edges.{vertices_of, edges_of, first_size, has_rows}
-use Rattle.cgd_read.specs.declared.edge.RawEdge.{RawEdge}
-use Rattle.cgd_read.proofs.Parts.{negative_small}
-use Rattle.cgd_read.proofs.Spelling.{normal_spelled, IsZero}
+use Rattle.cgd_read.specs.{Lines.FieldsView, declared.edge.RawEdge.RawEdge}
+use Rattle.cgd_read.proofs.{Parts.negative_small, Spelling.normal_spelled, Spelling.IsZero}
 
 -- an edge of a graph with n vertices and rows of so many fields, within the limits
 pub record IsWellEdge (n size : ℕ) (e : RawEdge) : Type 0 where
@@ -22,15 +19,7 @@ pub record IsWellEdge (n size : ℕ) (e : RawEdge) : Type 0 where
   pub z : unsigned_abs e.z ≤ most_shift
 
 pub wider : (m n size : ℕ) → m ≤ n → (e : RawEdge) → IsWellEdge m size e → IsWellEdge n size e
-wider m n size l e w = record {
-  first = (w.first.0, omega (arith, w.first.1, l));
-  second = (w.second.0, omega (arith, w.second.1, l));
-  flat = w.flat;
-  spelling = w.spelling;
-  x = w.x;
-  y = w.y;
-  z = w.z;
-}
+wider m n size l e w = search arith
 
 pub well_spelled : (n size u v : ℕ) (x y z : ℤ) → (1 ≤ u) × (u ≤ n) → (1 ≤ v) × (v ≤ n) → (size ≡ 4 → z ≡ pos 0)
     → unsigned_abs x ≤ most_shift → unsigned_abs y ≤ most_shift → unsigned_abs z ≤ most_shift → (u ≡ v → IsZero x y z → ⊥)

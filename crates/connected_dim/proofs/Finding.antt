@@ -1,17 +1,31 @@
 -- One vertex more that is found.
-use Rattle.std.proofs.Common.{◌≡◌, ◌≢◌, ◌⊎◌, inl, inr, ℕ, ◌+◌, ◌-◌, ◌*◌, ◌<◌, ◌≤◌, List, [], ◌∷◌, ◌++◌, length, get_or, set, Option, Some, None, IsSome, refl}
-use Rattle.std.proofs.Common.{sym, ap, subst, ◌∙◌, arith, rules, get_or-set_same, get_or-set_other, length-set, length-append}
+use Rattle.std.proofs.Common.{◌≡◌, ℕ, List, Option, Some, IsSome, refl, sym, subst, arith, rules, ◌≢◌, ◌⊎◌, inl, inr, ◌+◌, ◌-◌, ◌*◌, ◌<◌, ◌≤◌, [], ◌∷◌, ◌++◌}
+use Rattle.std.proofs.Common.{length, get_or, set, None, ap, ◌∙◌, get_or-set_same, get_or-set_other, length-set, length-append}
+use Rattle.std.proofs.{lemmas.Int.ints, Math.Seq.get_or-append_seam, lemmas.List.get_or_append_left, lemmas.List.get_or_default}
+use Rattle.std.proofs.{lemmas.List.Elements.Contains-append_left, lemmas.List.Elements.Contains-append_right, lemmas.Bool.cases_eq}
+use Rattle.integers.specs.Vectors.{Vector, zero_vector, plus, minus, IsWithin}
+use Rattle.integers.proofs.{vectors.Laws.vector_equal, numbers.Naturals.before_or_at, vectors.Bounds.wider, vectors.Bounds.bounded_plus}
+use Rattle.periodic_net.specs.Graph.{Graph, arc, IsArc, vertex, IsQuotientVertex, Arc}
+use Rattle.periodic_net.specs.{Split.WalkShift, Limits.most_shift}
+use Rattle.periodic_net.proofs.CallerLemmas.{reached_transitive, reached_by_arc}
+use Rattle.connected_dim.specs.Search.{IsSearch, Grows, walk_to, found_with, order_with, missing_count, LeadsToFound}
 use Rattle.std.specs.List.{Contains}
-use Rattle.std.proofs.Math.Seq.{get_or-append_seam}
-use Rattle.std.proofs.lemmas.List.{get_or_append_left}
-use Rattle.std.proofs.lemmas.List.Elements.{Contains-append_left, Contains-append_right}
-use Rattle.std.proofs.lemmas.Bool.{cases_eq}
-use Rattle.integers.specs.Vectors.{Vector, IsWithin}
-use Rattle.integers.proofs.numbers.Naturals.{before_or_at}
-use Rattle.periodic_net.specs.Graph.{Graph, IsQuotientVertex}
-use Rattle.periodic_net.specs.Split.{WalkShift}
-use Rattle.connected_dim.specs.Search.{walk_to, found_with, order_with, IsSearch}
-use Rattle.periodic_net.specs.Limits.{most_shift}
+
+-- The search goes on along the arcs from one vertex.
+
+-- a walk to u and an arc from u make a walk to its head
+pub walk_further : (G : Graph) (start : ℕ) (u v : ℕ) (T s : Vector) → WalkShift G start u T → IsArc G (arc u v s) → WalkShift G start v (plus T s)
+walk_further G start u v T s h a =
+    let back : minus (plus T s) T ≡ s = vector_equal (omega (arith, ints)) (omega (arith, ints)) (omega (arith, ints)) in
+    reached_transitive G (vertex start zero_vector) (vertex u T) (vertex v (plus T s)) h
+    (reached_by_arc G (vertex u T) (vertex v (plus T s)) (subst (λ t. IsArc G (arc u v t)) (sym back) a))
+
+-- a search has grown by nothing
+pub grows_none : (G : Graph) (start : ℕ) (found : List (Option Vector)) (order : List ℕ) → IsSearch G start found order → Grows G start found order found order
+grows_none G start found order h = record { search = h; kept = λ k T e. e; same = λ k l. refl; longer = omega arith; together = refl }
+
+pub some_there : (o : Option Vector) (T : Vector) → o ≡ Some T → IsSome o
+some_there o T e = subst IsSome (sym e) (search rules)
 
 -- what stands at a vertex after u was found anew
 pub set_there : (found : List (Option Vector)) (u : ℕ) (T : Vector) → 1 ≤ u → u ≤ length found → walk_to (set found (u - 1) (Some T)) u ≡ Some T
@@ -94,10 +108,78 @@ module _ (G : Graph) (start : ℕ) (found : List (Option Vector)) (order : List 
   ]
 
   pub search_grows : IsSearch G start (set found (u - 1) (Some T)) (order ++ u ∷ [])
-  search_grows = record {
-    count = length-set found (u - 1) (Some T) ∙ h.count;
-    walks = walks;
-    listed = listed;
-    vertices = vertices;
-    near = nears;
-  }
+  search_grows = record { count = length-set found (u - 1) (Some T) ∙ h.count; walks = walks; listed = listed; vertices = vertices; near = nears }
+
+-- A search grows by the head of one arc.
+
+-- what the turn of the loop makes
+pub record Turn (G : Graph) (start : ℕ) (begun : List (Option Vector)) (first : List ℕ) (before found : List (Option Vector)) (order : List ℕ)
+    (v : ℕ) : Type 0 where
+  pub grows : Grows G start begun first found order
+  pub still : (k : ℕ) → IsSome (get_or before k None) → IsSome (get_or found k None)
+  pub leads : IsSome (walk_to found v)
+
+module _ (G : Graph) (start : ℕ) (begun : List (Option Vector)) (first : List ℕ) (u v : ℕ) (T s : Vector) (nonempty : 1 ≤ length first)
+    (vertex : IsQuotientVertex G u)
+    (known : walk_to begun u ≡ Some T) (near : IsWithin (most_shift * (length first - 1)) T) (is_arc : IsArc G (arc u v s)) (head : IsQuotientVertex G v)
+    (short : IsWithin most_shift s) where
+  known_turn : (found : List (Option Vector)) (order : List ℕ) (found' : List (Option Vector)) (order' : List ℕ) → Grows G start begun first found order
+      → IsSome (walk_to found v) → found' ≡ found → order' ≡ order → Turn G start begun first found found' order' v
+  known_turn found order found' order' h some e f = rw (e, f) (record { grows = h; still = λ k i. i; leads = some })
+
+  -- the walk to the head is within its bound
+  head_near : (n : ℕ) → length first ≤ n → IsWithin (most_shift * n) (plus T s)
+  head_near n l = wider (most_shift * (length first - 1) + most_shift) (most_shift * n) (omega arith) (plus T s)
+      (bounded_plus T s (most_shift * (length first - 1)) most_shift near short)
+
+  new_turn : (found : List (Option Vector)) (order : List ℕ) → Grows G start begun first found order → walk_to found v ≡ None
+      → missing_count (set found (v - 1) (Some (plus T s))) + length (order ++ v ∷ []) ≡ missing_count found + length order
+      → Turn G start begun first found (set found (v - 1) (Some (plus T s))) (order ++ v ∷ []) v
+  new_turn found order h new together =
+      let walk = walk_further G start u v T s (h.search.walks u T vertex.0 (h.kept (u - 1) T known)) is_arc in
+      let inside : v ≤ length found = let c = h.search.count in let b = head.1 in omega arith in
+      record {
+        grows = record {
+          search = search_grows G start found order v (plus T s) h.search head new walk (head_near (length order) h.longer);
+          kept = λ k S e.
+              let other : k ≢ v - 1 = λ f. none_is_not_some (walk_to found v) S new (subst (λ j. get_or found j None ≡ Some S) f (h.kept k S e)) in
+              get_or-set_other found (v - 1) k (Some (plus T s)) None other ∙ h.kept k S e;
+          same = λ k l. let longer = h.longer in get_or_append_left order (v ∷ []) 0 k (omega arith) ∙ h.same k l;
+          longer = let longer = h.longer in omega (arith, length-append order (v ∷ []));
+          together = together ∙ h.together;
+        };
+        still = λ k i. elim (cases_eq k (v - 1)) [
+          | inl e ↦ rw e (some_there (walk_to (set found (v - 1) (Some (plus T s))) v) (plus T s) (set_there found v (plus T s) head.0 inside))
+          | inr n ↦ subst IsSome (sym (get_or-set_other found (v - 1) k (Some (plus T s)) None n)) i
+        ];
+        leads = some_there (walk_to (set found (v - 1) (Some (plus T s))) v) (plus T s) (set_there found v (plus T s) head.0 inside);
+      }
+
+  pub turn : (found : List (Option Vector)) (order : List ℕ) (found' : List (Option Vector)) (order' : List ℕ) → Grows G start begun first found order
+      → found' ≡ found_with found v (plus T s) → order' ≡ order_with found order v → missing_count found' + length order' ≡ missing_count found + length order
+      → Turn G start begun first found found' order' v
+  turn found order found' order' h e f together =
+      let is = found_is found order v (plus T s) in
+      elim is.which [
+        | inl w ↦ known_turn found order found' order' h w.0 (e ∙ w.1) (f ∙ w.2)
+        | inr w ↦ rw (e ∙ w.1, f ∙ w.2) (new_turn found order h w.0 (rw (e ∙ w.1, f ∙ w.2) at together))
+      ]
+
+-- the arcs up to place i lead to found vertices, and so does the one at i
+pub leads_more : (row : List Arc) (before found : List (Option Vector)) (i : ℕ) (x : Arc) (v : ℕ) → get_or row i x ≡ x → v ≡ x.to → i < length row
+    → ((k : ℕ) → IsSome (get_or before k None) → IsSome (get_or found k None))
+    → ((k : ℕ) (a : Arc) → k < i → IsSome (walk_to before (get_or row k a).to)) → IsSome (walk_to found v) → (k : ℕ) (a : Arc) → k < i + 1
+    → IsSome (walk_to found (get_or row k a).to)
+leads_more row before found i x v is to l still h some k a b = elim (before_or_at k i b) [
+  | inl c ↦ still ((get_or row k a).to - 1) (h k a c)
+  | inr e ↦ rw e (subst (λ w. IsSome (walk_to found w)) (to ∙ ap (λ (b : Arc). b.to) (sym is ∙ get_or_default row i x a l)) some)
+]
+
+-- all the arcs from u are in the row
+pub leads_all : (G : Graph) (start : ℕ) (row : List Arc) (found : List (Option Vector)) (u n : ℕ) → length row ≤ n
+    → ((a : Arc) → IsArc G a → a.from ≡ u → Contains row a)
+    → ((k : ℕ) (a : Arc) → k < n → IsSome (walk_to found (get_or row k a).to)) → LeadsToFound G found u
+leads_all G start row found u n l every h a i e =
+    let c = every a i e in
+    let b = c.1 in
+    subst (λ (x : Arc). IsSome (walk_to found x.to)) c.2 (h c.0 a (omega arith))

@@ -1,7 +1,6 @@
 -- The vectors orthogonal to closed walks of a rank below the dimension.
 use Rattle.std.proofs.Common.{◌≡◌, ◌≢◌, ℕ, zero, suc, ℤ, pos, neg_ℤ, ◌+ℤ◌, ◌-ℤ◌, ◌*ℤ◌, List, get_or, All, Contains, inl, inr, refl, sym, ap, ◌∙◌, arith}
-use Rattle.std.proofs.lemmas.Int.{ints}
-use Rattle.std.proofs.lemmas.List.Elements.{All-contains}
+use Rattle.std.proofs.lemmas.{Int.ints, List.Elements.All-contains}
 use Rattle.integers.specs.Vectors.{Vector, vector, zero_vector, times, dot, HasDimension, cross}
 use Rattle.integers.proofs.numbers.Ring.{ring, linear, other_factor_zero, zero_or_not, factor_zero}
 use Rattle.integers.proofs.vectors.Laws.{vector_equal}

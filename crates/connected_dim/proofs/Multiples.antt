@@ -80,8 +80,7 @@ pub third_divides : (S : Stairs) (q : ℤ) (c : Vector) → IsReducedStair S →
 third_divides S q c r h v m =
     let j = complement_is S.i S.c c.x (subst (λ q. IsComplement q S.c c.x) h.pivot h.x) in
     let l = complement_is S.i S.f c.y (subst (λ q. IsComplement q S.f c.y) h.pivot h.y) in
-    let from = r.b_from in
-    let to = r.b_to in
+    let from = r.b_from in let to = r.b_to in
     let b : S.b ≡ pos 0 = below_one S.b S.e from to h.e in
     let y : v.y ≡ m.k *ℤ pos 0 +ℤ m.l *ℤ pos 1 = m.y ∙ (λ i. m.k *ℤ b i +ℤ m.l *ℤ h.e i) in
     let e = third c.x c.y v.x v.y v.z m.k m.l m.n S.c S.f S.i j.0 l.0 j.1 l.1 (m.x ∙ ap (λ t. m.k *ℤ t) h.a) y m.z in

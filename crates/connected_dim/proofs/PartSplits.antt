@@ -5,10 +5,8 @@ use Rattle.std.proofs.lemmas.List.{length-map, get_or-map}
 use Rattle.integers.specs.Vectors.{Vector}
 use Rattle.periodic_net.specs.Graph.{Graph, IsGraph, IsQuotientVertex}
 use Rattle.periodic_net.specs.Split.{IsPartSplit, entry}
-use Rattle.connected_dim.specs.Search.{walk_to, AreWalks}
-use Rattle.connected_dim.proofs.FoundVertices.{all_found}
-use Rattle.connected_dim.proofs.Starting.{some_value}
-use Rattle.connected_dim.specs.Quotient.{part_colour, part_colouring}
+use Rattle.connected_dim.specs.{Search.walk_to, Search.AreWalks, Quotient.part_colour, Quotient.part_colouring}
+use Rattle.connected_dim.proofs.{Generated.all_found, Starting.some_value}
 
 some_or : (o : Option Vector) → o ≡ None → IsSome o → ⊥
 some_or None e h = cc

@@ -2,10 +2,8 @@
 use Rattle.std.proofs.Common.{◌≡◌, ◌≢◌, ℕ, ℤ, pos, ◌+ℤ◌, ◌-ℤ◌, ◌*ℤ◌, neg_ℤ, ◌<ℤ◌, ◌≤ℤ◌, ◌^◌, unsigned_abs, List, All, Contains, refl, sym, ap, subst, ◌∙◌}
 use Rattle.std.proofs.Common.{arith}
 use Rattle.integers.specs.Vectors.{Vector, vector, zero_vector, dot, cross}
-use Rattle.integers.proofs.numbers.Ring.{ring, linear}
-use Rattle.integers.proofs.vectors.Laws.{vector_equal}
-use Rattle.connected_dim.specs.Orthogonal.{IsFlatNormal, IsReduction}
-use Rattle.connected_dim.specs.Full.{IsVolume}
+use Rattle.integers.proofs.{numbers.Ring.ring, numbers.Ring.linear, vectors.Laws.vector_equal}
+use Rattle.connected_dim.specs.{Orthogonal.IsFlatNormal, Orthogonal.IsReduction, Full.IsVolume}
 use Rattle.connected_dim.proofs.FlatNormals.{axis, axis_normal, line_normal, plane_normal, no_first_part, none_first}
 
 -- a vector on a line with no first part

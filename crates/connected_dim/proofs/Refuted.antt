@@ -1,12 +1,11 @@
 -- What is reported of a net that is not connected is a split of it.
 use Rattle.std.proofs.Common.{◌≡◌, inl, inr, ℕ, subst, sym}
 use Rattle.periodic_net.specs.Graph.{Graph, IsGraph, IsConnected}
-use Rattle.periodic_net.specs.Split.{IsFlatSplit, IsPartSplit, IsSparseSplit, Split as NetSplit}
 use Rattle.periodic_net.proofs.CallerLemmas.{split_by_parts, split_shows_not_connected}
-use Rattle.quotient_graph.specs.declared.split.Split.{Split}
-use Rattle.quotient_graph.specs.Splits.{split_view}
+use Rattle.quotient_graph.specs.{declared.split.Split.Split, Splits.split_view}
 use Rattle.connected_dim.specs.Refusals.{IsDisconnectedBy, IsDegenerateBy}
 use Rattle.connected_dim.proofs.SplitColours.{flat_is_split, sparse_is_split}
+use Rattle.periodic_net.specs.Split.{IsFlatSplit, IsPartSplit, IsSparseSplit, Split as NetSplit}
 
 -- the first case
 pub part_refusal : (G : Graph) (s : Split) (S : NetSplit) → IsGraph G → s.dim ≡ G.dimension → split_view s ≡ S → IsPartSplit G S → IsDisconnectedBy G s

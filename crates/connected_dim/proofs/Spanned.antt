@@ -1,27 +1,18 @@
 -- The lattice of a net's closed walks of full rank.
 use Rattle.std.proofs.Common.{◌≡◌, ◌≢◌, ℕ, ℤ, pos, ◌+ℤ◌, ◌-ℤ◌, ◌*ℤ◌, ◌≤ℤ◌, unsigned_abs, List, get_or, All, Option, ◌⊎◌, inl, inr, sym, ap, subst, ◌∙◌, arith}
-use Rattle.std.proofs.lemmas.Int.{ints}
+use Rattle.std.proofs.lemmas.{Int.ints, List.get_or_default, List.Elements.All-contains}
 use Rattle.integers.specs.Vectors.{Vector, vector, plus, times, dot, triple_product, HasDimension, cross}
+use Rattle.integers.specs.Lattices.{IsVectorGroup}
 use Rattle.integers.proofs.numbers.Ring.{ring, linear, other_factor_zero}
-use Rattle.integers.proofs.vectors.Laws.{vector_equal, product_times}
-use Rattle.integers.proofs.vectors.Cramer.{cramer, products}
+use Rattle.integers.proofs.{vectors.Laws.vector_equal, vectors.Laws.product_times, vectors.Cramer.cramer, vectors.Cramer.products, vectors.Groups.times_in}
+use Rattle.integers.proofs.{lists.Members.in_from_contains, lists.Members.contains_from_in}
 use Rattle.periodic_net.specs.Graph.{Graph, IsGraph, IsQuotientVertex}
 use Rattle.periodic_net.specs.Split.{ClosedShift}
-use Rattle.vecdim.specs.Stairs.{Stairs}
-use Rattle.vecdim.specs.Lattices.{Members}
+use Rattle.vecdim.specs.{Stairs.Stairs, Lattices.Members}
 use Rattle.vecdim.proofs.CallerLemmas.{with_has, with_inside, members_group}
-use Rattle.connected_dim.specs.Full.{IsVolume}
-use Rattle.connected_dim.specs.Search.{AreWalks}
-use Rattle.connected_dim.specs.Generators.{generators}
-use Rattle.connected_dim.specs.Lattices.{IsLatticeOf, AreClosedWalks}
-use Rattle.integers.specs.Lattices.{IsVectorGroup}
+use Rattle.connected_dim.specs.{Full.IsVolume, Search.AreWalks, Generators.generators, Lattices.IsLatticeOf, Lattices.AreClosedWalks}
 use Rattle.periodic_net.proofs.CallerLemmas.{walk_dimension, closed_group}
-use Rattle.connected_dim.proofs.Generated.{generators_closed, closed_in}
-use Rattle.integers.proofs.vectors.Groups.{times_in}
-use Rattle.integers.proofs.lists.Members.{in_from_contains, contains_from_in}
-use Rattle.std.proofs.lemmas.List.{get_or_default}
-use Rattle.std.proofs.lemmas.List.Elements.{All-contains}
-use Rattle.connected_dim.proofs.Reductions.{sign_of}
+use Rattle.connected_dim.proofs.{Generated.generators_closed, Generated.closed_in, Reductions.sign_of}
 
 -- what was added is a member
 pub added_members : (d : ℕ) (m : ℤ) (vs : List Vector) (S : Stairs) → IsLatticeOf d m vs S → All (Members d S) vs
@@ -85,8 +76,7 @@ module _ (d : ℕ) (L : Vector → Type 0) (h : IsVectorGroup L) (dim : (v : Vec
       let i = All-contains L vs s.a all s.first in
       let j = All-contains L vs s.b all s.second in
       signed (dot (cross s.a s.b) s.c) m v s.is
-      (subst (λ t. L (times t v)) (sym (volume_is s.a s.b s.c))
-      (subst (λ c. L (times (triple_product s.a s.b c) v)) (sym up) (flat_multiple s.a s.b v two i j flat)))
+      (rw (volume_is s.a s.b s.c) (subst (λ c. L (times (triple_product s.a s.b c) v)) (sym up) (flat_multiple s.a s.b v two i j flat)))
   volume_multiples m (inr n) s v flat =
       signed (dot (cross s.a s.b) s.c) m v s.is
       (subst (λ t. L (times t v)) (sym (volume_is s.a s.b s.c))

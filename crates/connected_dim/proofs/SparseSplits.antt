@@ -1,27 +1,20 @@
 -- The colouring of a net whose closed walks have full rank and are not all shifts.
 use Rattle.std.proofs.Common.{◌≡◌, ℕ, zero, suc, ◌-◌, ◌<◌, ◌≤◌, ℤ, pos, negsuc, neg_ℤ, ◌+ℤ◌, ◌-ℤ◌, ◌*ℤ◌, ◌≤ℤ◌, ◌<ℤ◌, Bool, true, false, cond, ◌==◌, List, []}
 use Rattle.std.proofs.Common.{◌∷◌, length, map, get_or, Option, None, IsSome, All, ◌⊎◌, inl, inr, refl, sym, ap, subst, ◌∙◌, arith, unsigned_abs}
-use Rattle.std.proofs.lemmas.Int.{ints}
-use Rattle.std.proofs.lemmas.Bool.{ne_eqb}
-use Rattle.std.proofs.lemmas.List.{length-map, get_or-map}
+use Rattle.std.proofs.lemmas.{Int.ints, Bool.ne_eqb, List.length-map, List.get_or-map}
 use Rattle.integers.specs.Vectors.{Vector, vector, zero_vector, minus, dot}
 use Rattle.integers.specs.Staircase.{part, IsStaircase}
-use Rattle.integers.proofs.numbers.Ring.{ring, linear}
-use Rattle.integers.proofs.numbers.Division.{euclid_rest}
-use Rattle.integers.proofs.numbers.Order.{positive_natural}
+use Rattle.integers.proofs.numbers.{Ring.ring, Ring.linear, Division.euclid_rest, Order.positive_natural}
 use Rattle.periodic_net.specs.Graph.{Graph, IsGraph, IsQuotientVertex}
 use Rattle.periodic_net.specs.Split.{Split, AreAlike, entry, ClosedShift, IsPivot, IsSparseSplit, EndsBy}
 use Rattle.vecdim.specs.Stairs.{Stairs, InStairs, IsReducedStair, HasFlatEnd, HasStairShape, rows_of}
 use Rattle.vecdim.specs.Lattices.{Members}
 use Rattle.vecdim.proofs.CallerLemmas.{rows_are_basis, remainder}
-use Rattle.connected_dim.specs.Search.{walk_to, AreWalks}
-use Rattle.connected_dim.specs.Generators.{shift_at}
-use Rattle.connected_dim.specs.Lattices.{AreClosedWalks}
-use Rattle.periodic_net.proofs.CallerLemmas.{closed_difference}
-use Rattle.connected_dim.proofs.Generated.{walk_at}
-use Rattle.connected_dim.proofs.Ends.{ends_by_zero, ends_by_one, ends_by_two}
 use Rattle.connected_dim.specs.Sparse.{IsDual, sparse_colour, sparse_colouring}
-use Rattle.connected_dim.proofs.AllFound.{each_found, some_walk}
+use Rattle.connected_dim.specs.{Search.walk_to, Search.AreWalks, Generators.shift_at, Lattices.AreClosedWalks}
+use Rattle.periodic_net.proofs.CallerLemmas.{closed_difference}
+use Rattle.connected_dim.proofs.Generated.{walk_at, each_found, some_walk}
+use Rattle.connected_dim.proofs.Ends.{ends_by_zero, ends_by_one, ends_by_two}
 use Rattle.connected_dim.proofs.Multiples.{Divides, complement_range, first_divides, second_divides, third_divides}
 
 -- the entry of one walk is that of each walk to the vertex, modulo q
@@ -96,9 +89,7 @@ module _ (G : Graph) (found : List (Option Vector)) (R : Stairs) (S : Split) (g 
   -- the entries
   at : (u : ℕ) → IsQuotientVertex G u → entry S.h u ≡ sparse_colour (pos S.q) S.c (walk_to found u)
   at u v =
-      let count = w.count in
-      let low = v.0 in
-      let high = v.1 in
+      let count = w.count in let low = v.0 in let high = v.1 in
       ap (λ hs. entry hs u) sh ∙ get_or-map (sparse_colour (pos S.q) S.c) found (u - 1) None (pos 0) (omega arith)
 
   -- the colouring, for the place of the first pivot above 1
@@ -117,8 +108,7 @@ module _ (G : Graph) (found : List (Option Vector)) (R : Stairs) (S : Split) (g 
     ends = ends;
     divides = closed;
     count = ap length sh ∙ length-map found (sparse_colour (pos S.q) S.c) ∙ w.count;
-    h_range = λ u v. subst (λ z. (pos 0 ≤ℤ z) × (z <ℤ pos S.q)) (sym (at u v))
-        (euclid_rest (neg_ℤ (dot S.c (shift_at found u))) (pos S.q) (omega (arith, ints, above)));
+    h_range = λ u v. rw (at u v) (euclid_rest (neg_ℤ (dot S.c (shift_at found u))) (pos S.q) (omega (arith, ints, above)));
     h = λ u T v walk.
         let U = shift_at found u in
         let c = S.c in

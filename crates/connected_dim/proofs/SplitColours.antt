@@ -1,14 +1,12 @@
 -- The colourings of a net that is not connected are splits.
 use Rattle.std.proofs.Common.{◌≡◌, ℕ, zero, suc, ℤ, pos, neg_ℤ, ◌+ℤ◌, ◌-ℤ◌, ◌*ℤ◌, inl, inr, refl, sym, ap, subst, ◌∙◌, arith}
-use Rattle.std.specs.Prelude.{◌<ℤ◌}
 use Rattle.std.proofs.lemmas.Int.{ints}
+use Rattle.std.specs.Prelude.{◌<ℤ◌}
 use Rattle.integers.specs.Vectors.{Vector, vector, zero_vector, plus, minus, dot, HasDimension}
-use Rattle.integers.proofs.numbers.Ring.{ring, linear}
-use Rattle.integers.proofs.vectors.Laws.{plus_minus}
+use Rattle.integers.proofs.{numbers.Ring.ring, numbers.Ring.linear, vectors.Laws.plus_minus, vectors.Directions.Start, vectors.Directions.start_of}
 use Rattle.periodic_net.specs.Graph.{Graph, IsGraph, Vertex, vertex, moved, IsVertex, IsQuotientVertex, AreJoined}
 use Rattle.periodic_net.specs.Split.{Split, AreAlike, entry, colour, IsSplit, IsFound, WalkShift, IsFlatSplit, IsSparseSplit}
 use Rattle.periodic_net.proofs.CallerLemmas.{reached_transitive, reached_by_arc, joined_moved, same_reached, one_not_alike}
-use Rattle.integers.proofs.vectors.Directions.{Start, start_of}
 
 -- a walk to a vertex, and on to a joined one
 further_walk : (G : Graph) (w x : Vertex) (T : Vector) → AreJoined G w x → WalkShift G 1 w.over T → WalkShift G 1 x.over (plus x.cell (minus T w.cell))

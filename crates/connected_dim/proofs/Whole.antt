@@ -5,12 +5,8 @@ use Rattle.periodic_net.specs.Graph.{Graph, IsGraph, IsConnected}
 use Rattle.periodic_net.proofs.CallerLemmas.{connected_by_tree, one_vertex}
 use Rattle.vecdim.specs.Stairs.{Stairs, IsWhole}
 use Rattle.vecdim.proofs.CallerLemmas.{all_members}
-use Rattle.connected_dim.specs.Search.{AreWalks}
-use Rattle.connected_dim.specs.Full.{IsVolume}
-use Rattle.connected_dim.specs.Generators.{shift_at, generators}
-use Rattle.connected_dim.specs.Lattices.{IsLatticeOf, AreClosedWalks}
-use Rattle.connected_dim.proofs.Spanned.{closed_by_volume}
-use Rattle.connected_dim.proofs.AllFound.{is_tree}
+use Rattle.connected_dim.specs.{Search.AreWalks, Full.IsVolume, Generators.shift_at, Generators.generators, Lattices.IsLatticeOf, Lattices.AreClosedWalks}
+use Rattle.connected_dim.proofs.{Spanned.closed_by_volume, Generated.is_tree}
 
 -- each vector is a closed walk then, and the net is connected
 pub whole_connected : (G : Graph) (found : List (Option Vector)) (S : Stairs) → IsGraph G → AreWalks G 1 found → All IsSome found → AreClosedWalks G 1 S

@@ -1,20 +1,13 @@
 -- What is reported of the graph of a block, and what is put last.
 use Rattle.std.proofs.Common.{◌≡◌, ◌≢◌, inr, ℕ, false, List, refl, sym, subst}
-use Rattle.std.specs.Prelude.{Option}
 use Rattle.std.proofs.lemmas.Bool.{false≢true}
+use Rattle.std.specs.Prelude.{Option}
 use Rattle.periodic_net.specs.Graph.{Graph}
 use Rattle.cgd_read.specs.Views.{RawView, BodyView, Net}
-use Rattle.net_cover.specs.Cells.{CellView, IsWritten}
-use Rattle.net_cover.specs.Faults.{IsCoverFault}
-use Rattle.net_cover.specs.declared.faults.CoverFault.{CoverFault}
-use Rattle.net_cover.specs.declared.faults.CoverFault.TheVariants.{NoMemory}
-use Rattle.cover_answers.specs.Lines.{refused_text}
-use Rattle.net_report.specs.declared.outcome.Size.{Size}
-use Rattle.net_report.specs.declared.outcome.OutcomeBody.{OutcomeBody}
-use Rattle.net_report.specs.declared.outcome.OutcomeBody.TheVariants.{Lines}
-use Rattle.cover_answers.specs.Covers.{IsGraphOf}
-use Rattle.cover_answers.specs.Outcomes.{IsBodyOf, size_in}
-use Rattle.cover_answers.specs.Steps.{IsBodyAnswered}
+use Rattle.net_cover.specs.{Cells.CellView, Cells.IsWritten, Faults.IsCoverFault, declared.faults.CoverFault.CoverFault}
+use Rattle.net_cover.specs.{declared.faults.CoverFault.TheVariants.NoMemory}
+use Rattle.cover_answers.specs.{Lines.refused_text, Covers.IsGraphOf, Outcomes.IsBodyOf, Outcomes.size_in, Steps.IsBodyAnswered}
+use Rattle.net_report.specs.declared.outcome.{Size.Size, OutcomeBody.OutcomeBody, OutcomeBody.TheVariants.Lines}
 
 -- a body that is not covered puts no cover last
 pub not_covered : (cell : CellView) (name : Option (List ℕ)) (body : BodyView) (told : OutcomeBody) (old new : List ℕ) → IsBodyOf cell body false told

@@ -1,20 +1,14 @@
 -- Each net of a text is that of rows whose edges have no third part where the first row has four fields.
 use Rattle.std.proofs.Common.{◌≡◌, ℕ, ◌==◌, ◌&&◌, not, Bool, true, false, cond, List, [], ◌∷◌, Option, None, Some, refl, arith}
-use Rattle.std.specs.List.{AllByRecursion, flat_map}
 use Rattle.std.proofs.lemmas.Bool.Decides.{nat_tests}
-use Rattle.cgd_lex.specs.Lines.{filled_lines}
-use Rattle.cgd_lex.specs.Tokens.{TokenView, tokens_of}
-use Rattle.cgd_read.specs.Blocks.{with_body, malformed, or_fault, graph_block, block_by, block_of, blocks_from, blocks_of}
-use Rattle.cgd_read.specs.Edges.{first_size, has_rows}
+use Rattle.std.specs.List.{AllByRecursion, flat_map}
+use Rattle.cgd_lex.specs.{Lines.filled_lines, Tokens.TokenView, Tokens.tokens_of}
+use Rattle.cgd_read.specs.Blocks.{with_body, or_fault, graph_block, block_by, block_of, blocks_from, blocks_of}
 use Rattle.cgd_read.specs.Faults.{is_end, has_row, rows_in, table, fault_of}
-use Rattle.cgd_read.specs.Graphs.{net_of}
 use Rattle.cgd_read.specs.Lines.{FieldsView, LineView, fields_from, kind_of, line_of, token_lines}
-use Rattle.cgd_read.specs.Reading.{IsFlat}
 use Rattle.cgd_read.specs.Views.{RawView, BodyView, Net, Other, Faulty, BlockView}
-use Rattle.cgd_read.specs.declared.block.BlockFaultKind.{BlockFaultKind}
-use Rattle.cgd_read.specs.declared.block.BlockFaultKind.TheVariants.{BadToken}
-use Rattle.cgd_read.specs.declared.line.LineKind.{LineKind}
-use Rattle.cgd_read.specs.declared.line.LineKind.TheVariants.{Opening}
+use Rattle.cgd_read.specs.{Edges.first_size, Edges.has_rows, Graphs.net_of, Reading.IsFlat, declared.block.BlockFaultKind.BlockFaultKind}
+use Rattle.cgd_read.specs.{declared.line.LineKind.LineKind}
 use Rattle.cover_answers.proofs.RowEdges.{AreFlatRows, flat_with}
 use Rattle.cgd_read.proofs.CallerLemmas.{flat_tokens, all_false}
 
@@ -31,8 +25,7 @@ lines_flat ((first ∷ others) ∷ parts) = (flat_tokens (fields_from (kind_of f
 -- what a line without a fault passes
 
 same_size : (some : Bool) (m n : ℕ) → (some && not (m == n)) ≡ false → some ≡ true → m ≡ n
-same_size true m n h k = grind (arith, nat_tests, h)
-same_size false m n h k = absurd cc
+same_size some m n l p = search (arith, nat_tests)
 
 -- the rows so far are flat, with one more line that has no fault
 one_more : (earlier : List LineView) (line : LineView) → fault_of earlier line ≡ None → IsFlatLine line → AreFlatRows (rows_in earlier)
@@ -75,12 +68,7 @@ graph_flat opening earlier (line ∷ lines) h old = by (fault_of earlier line) (
 
 -- what a line opens
 block_flat : (kind : LineKind) (line : LineView) (lines : List LineView) → AllByRecursion IsFlatLine lines → IsFlatBlock (block_by kind line lines)
-block_flat Opening line lines h = by (line.fields.size == 0)
-  where
-    by : (t : Bool) → IsFlatBlock (cond t (graph_block line.number [] lines) (with_body line.number [] (malformed line.number BadToken)))
-    by true = graph_flat line.number [] lines h (λ e i f. absurd i)
-    by false = tt
-block_flat kind line lines h = tt
+block_flat kind line lines k = search (arith, graph_flat)
 
 -- the blocks from these lines on
 blocks_flat_from : (inside : Bool) (lines : List LineView) → AllByRecursion IsFlatLine lines → AllByRecursion IsFlatBlock (blocks_from inside lines)
@@ -89,8 +77,7 @@ blocks_flat_from true (line ∷ lines) h = by (is_end line.kind) (blocks_flat_fr
   where
     by : (t : Bool) → AllByRecursion IsFlatBlock (blocks_from false lines) → AllByRecursion IsFlatBlock (blocks_from true lines)
         → AllByRecursion IsFlatBlock (cond t (blocks_from false lines) (blocks_from true lines))
-    by true a b = a
-    by false a b = b
+    by t h k = search arith
 blocks_flat_from false (line ∷ lines) h = by (is_end line.kind) (blocks_flat_from false lines h.1) (blocks_flat_from true lines h.1)
   where
     by : (t : Bool) → AllByRecursion IsFlatBlock (blocks_from false lines) → AllByRecursion IsFlatBlock (blocks_from true lines)

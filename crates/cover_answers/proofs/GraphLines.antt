@@ -1,12 +1,11 @@
 -- All lines of a printed graph.
-use Rattle.std.proofs.Common.{◌≡◌, ◌≢◌, ◌⊎◌, ℕ, ◌+◌, ◌==◌, false, List, [], ◌∷◌, ◌++◌, Option, None, Some, refl, sym, ap, subst, ◌∙◌, append_assoc}
-use Rattle.std.specs.Prelude.{All, codes}
+use Rattle.std.proofs.Common.{◌≡◌, ◌≢◌, ◌⊎◌, ℕ, ◌+◌, ◌==◌, false, List, [], ◌∷◌, ◌++◌, Option, None, Some, refl, sym, ap, subst, ◌∙◌, append_assoc, arith}
 use Rattle.std.proofs.lemmas.Bool.{ne_eqb}
 use Rattle.std.proofs.lemmas.List.Elements.{All-nil, All-cons, All-append, All-weaker}
+use Rattle.std.specs.Prelude.{All, codes}
 use Rattle.periodic_net.specs.Graph.{Arc, Graph}
-use Rattle.cgd_read.specs.Blocks.{in_order}
-use Rattle.cgd_read.specs.Lines.{LineView}
 use Rattle.cgd_read.specs.declared.line.LineKind.TheVariants.{Opening, Edges, End}
+use Rattle.cgd_read.specs.{Blocks.in_order, Lines.LineView}
 use Rattle.cover_answers.specs.Blocks.{graph_text, name_line, edge_lines}
 use Rattle.cover_answers.specs.Printed.{MayBeName}
 use Rattle.cover_answers.proofs.LineTokens.{word_line, named_line, name_row, opening_read, edges_read, end_read, name_read}
@@ -48,8 +47,7 @@ head_forward None n = word_line Edges (codes "EDGES") n ∷ []
 head_forward (Some name) n = named_line name n ∷ word_line Edges (codes "EDGES") (n + 1) ∷ []
 
 in_order_head : (name : Option (List ℕ)) (n : ℕ) (later : List LineView) → head_forward name n ++ later ≡ in_order (head_lines name n) later
-in_order_head None n later = refl
-in_order_head (Some name) n later = refl
+in_order_head name n later = search arith
 
 edges_line : (n : ℕ) (rest : List ℕ) → HasLines n (codes "EDGES\n" ++ rest) (word_line Edges (codes "EDGES") n ∷ []) (n + 1) rest
 edges_line n rest = one_line n (codes "EDGES") rest (word_line Edges (codes "EDGES") n) (no_feed (codes "EDGES") refl) (λ at. edges_read at n)
@@ -109,9 +107,7 @@ module _ (name : Option (List ℕ)) (G : Graph) (v n : ℕ) (rest : List ℕ) (d
 
   after_first : HasLines (n + 1) (name_line name ++ (codes "EDGES\n" ++ (edge_lines G.dimension G.edges ++ (codes "END\n" ++ rest))))
       (head_forward name (n + 1) ++ (forward ++ last ∷ [])) (last_line + 1) rest
-  after_first = more_lines (n + 1) first_row (last_line + 1) (name_line name
-      ++ (codes "EDGES\n" ++ (edge_lines G.dimension G.edges ++ (codes "END\n" ++ rest)))) (edge_lines G.dimension G.edges ++ (codes "END\n" ++ rest)) rest
-      (head_forward name (n + 1)) (forward ++ last ∷ []) (head_read name (n + 1) (edge_lines G.dimension G.edges ++ (codes "END\n" ++ rest)) named) after_head
+  after_first = search (arith, more_lines, head_read, after_head)
 
   whole : HasLines n (graph_text name G ++ rest) (word_line Opening (codes "PERIODIC_GRAPH") n ∷ [] ++ (head_forward name (n + 1) ++ (forward ++ last ∷ [])))
       (last_line + 1) rest

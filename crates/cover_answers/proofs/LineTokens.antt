@@ -1,17 +1,13 @@
 -- The lines of a printed graph.
-use Rattle.std.proofs.Common.{◌≡◌, ◌≢◌, ℕ, ◌+◌, ◌-◌, Bool, true, false, cond, ℤ, pos, List, [], ◌∷◌, ◌++◌, length, take, Some, refl, sym, ap, subst, ◌∙◌, arith}
+use Rattle.std.proofs.Common.{◌≡◌, ◌≢◌, ℕ, ◌+◌, ◌-◌, Bool, false, cond, ℤ, pos, List, [], ◌∷◌, ◌++◌, length, take, Some, refl, sym, ap, subst, ◌∙◌, arith}
 use Rattle.std.proofs.Common.{length-append}
-use Rattle.std.specs.Prelude.{All, codes}
-use Rattle.std.specs.Fmt.{signed_decimal}
-use Rattle.std.proofs.Math.Seq.{take-append_seam}
-use Rattle.std.proofs.lemmas.List.{append-nil}
-use Rattle.std.proofs.lemmas.List.Elements.{All-nil, All-cons}
+use Rattle.std.proofs.{Math.Seq.take-append_seam, lemmas.List.append-nil}
+use Rattle.std.specs.{Prelude.All, Prelude.codes, Fmt.signed_decimal}
 use Rattle.line_text.specs.Numbers.{numbers_text, list_text}
-use Rattle.cgd_lex.specs.Pieces.{Piece, Blank, Closed, Run, is_run_byte, IsCut, StartsNoRun}
+use Rattle.cgd_lex.specs.Pieces.{Piece, Blank, Closed, Run, IsCut, StartsNoRun}
 use Rattle.cgd_lex.specs.Tokens.{TokenView, tokens_of_line, tokens_of_pieces}
-use Rattle.cgd_lex.specs.Words.{inner}
-use Rattle.cgd_lex.specs.declared.token.TokenKind.{TokenKind}
-use Rattle.cgd_lex.specs.declared.token.TokenKind.TheVariants.{Word, Whole}
+use Rattle.cgd_lex.specs.{Words.inner, declared.token.TokenKind.TokenKind, declared.token.TokenKind.TheVariants.Word}
+use Rattle.cgd_lex.specs.{declared.token.TokenKind.TheVariants.Whole}
 use Rattle.cgd_lex.proofs.Unique.{one_cut}
 use Rattle.cgd_read.specs.Lines.{LineView, FieldsView, line_of, fields_of}
 use Rattle.cgd_read.specs.declared.line.LineKind.{LineKind}
@@ -118,16 +114,8 @@ name_fields name = record {
 abbrev pub named_line : List ℕ → ℕ → LineView
 named_line name n = record { number = n; kind = Name; first = codes "NAME"; fields = name_fields name }
 
-abbrev IsRun : ℕ → Type 0
-IsRun b = is_run_byte b ≡ true
-
 name_cut : (name : List ℕ) → All (λ b. b ≢ 34) name → IsCut (Run 78 (65 ∷ 77 ∷ 69 ∷ []) ∷ Blank 32 ∷ Closed name ∷ []) (name_row name)
-name_cut name h = (
-  32 ∷ 34 ∷ (name ++ 34 ∷ []),
-  refl,
-  (refl, All-cons IsRun 65 (77 ∷ 69 ∷ []) refl (All-cons IsRun 77 (69 ∷ []) refl (All-cons IsRun 69 [] refl (All-nil IsRun))), refl),
-  (34 ∷ (name ++ 34 ∷ []), refl, refl, ([], sym (append-nil (34 ∷ (name ++ 34 ∷ []))), h, refl)),
-)
+name_cut name h = grind (arith, append-nil)
 
 pub inner_is : (name : List ℕ) → inner (34 ∷ (name ++ 34 ∷ [])) ≡ name
 inner_is name =

@@ -1,28 +1,19 @@
 -- The outcomes of blocks and the texts of their covers grow by those of the next block.
-use Rattle.std.proofs.Common.{◌≡◌, ◌∙◌, ◌&&◌, ℕ, ◌+◌, ◌<◌, ◌≤◌, Bool, true, false, List, [], ◌∷◌, ◌++◌, length, take, get_or, All, Result, Ok, Err, refl, sym}
-use Rattle.std.proofs.Common.{ap, subst, add-one, arith, append_assoc}
-use Rattle.std.specs.Prelude.{IfOk}
-use Rattle.std.proofs.Math.Bool.{and-true}
-use Rattle.std.proofs.Math.Seq.{take-suc}
-use Rattle.std.proofs.lemmas.Bool.{and_parts}
-use Rattle.std.proofs.lemmas.Grind.{common_steps}
+use Rattle.std.proofs.Common.{◌≡◌, ◌∙◌, ◌&&◌, ℕ, ◌+◌, ◌<◌, ◌≤◌, Bool, true, false, List, [], ◌∷◌, ◌++◌, length, take, get_or, All, Result, Ok, Err, sym, ap}
+use Rattle.std.proofs.Common.{subst, add-one, arith, append_assoc}
 use Rattle.std.proofs.lemmas.List.{get_or-map, length-map, take_all}
 use Rattle.std.proofs.lemmas.List.Elements.{All-append, All-cons, All-nil}
-use Rattle.std.proofs.lemmas.List.Folds.{list_all-append}
+use Rattle.std.proofs.{Math.Bool.and-true, Math.Seq.take-suc, lemmas.Bool.and_parts, lemmas.Grind.common_steps, lemmas.List.Folds.list_all-append}
+use Rattle.std.specs.Prelude.{IfOk}
 use Rattle.periodic_net.specs.Graph.{Graph}
 use Rattle.cgd_read.specs.Views.{BlockView, block_view, views}
 use Rattle.cgd_read.specs.declared.block.Block.{Block}
 use Rattle.net_cover.specs.Cells.{CellView}
-use Rattle.cover_answers.specs.Blocks.{graph_text}
-use Rattle.net_report.specs.Reports.{IsPrintable, report_text}
-use Rattle.net_report.specs.declared.outcome.Outcome.{Outcome}
-use Rattle.net_report.specs.declared.answer.Answer.{Answer}
-use Rattle.net_report.specs.declared.status.Status.{Status}
-use Rattle.net_report.specs.declared.status.Status.TheVariants.{Done, SomeRefused}
 use Rattle.cover_answers.specs.Covers.{AreCovered, AreCoversOf, IsCoverOf, covers_text}
-use Rattle.cover_answers.specs.Due.{IsCoveredAs}
 use Rattle.cover_answers.specs.Outcomes.{AreOutcomesFrom, IsOutcomeOf, all_of}
-use Rattle.cover_answers.specs.Steps.{IsBlockAnswered, IsCoverLast}
+use Rattle.cover_answers.specs.{Blocks.graph_text, Due.IsCoveredAs, Steps.IsBlockAnswered, Steps.IsCoverLast}
+use Rattle.net_report.specs.{Reports.IsPrintable, Reports.report_text, declared.outcome.Outcome.Outcome, declared.answer.Answer.Answer}
+use Rattle.net_report.specs.{declared.status.Status.TheVariants.Done, declared.status.Status.TheVariants.SomeRefused}
 
 -- one more block and its outcome at the end
 outcomes_last : (cell : CellView) (n : ℕ) (bs : List BlockView) (cs : List Bool) (os : List Outcome) (b : BlockView) (c : Bool) (o : Outcome)
@@ -79,14 +70,7 @@ pub record AreAnsweredOn (cell : CellView) (bs : List BlockView) (i number : ℕ
 
 -- at first no block is answered
 pub answered_none : (cell : CellView) (bs : List BlockView) → AreAnsweredOn cell bs 0 1 true [] []
-answered_none cell bs = record {
-  each = [];
-  outcomes = tt;
-  all_is = refl;
-  number_is = refl;
-  printable = All-nil IsPrintable;
-  covered = λ e. record { covers = []; are_covers = tt; text_is = refl };
-}
+answered_none cell bs = search arith
 
 -- the next block
 answered_more : (cell : CellView) (bs : List BlockView) (i number : ℕ) (all c : Bool) (os : List Outcome) (text new : List ℕ) (b : BlockView) (o : Outcome)
@@ -124,13 +108,7 @@ answer_due : (cell : CellView) (bs : List BlockView) (cs : List Bool) (os : List
     → AreOutcomesFrom cell 1 bs cs os → (all ≡ true → AreCovered cell bs text)
     → (all ≡ true → (a.status ≡ Done) × (a.text.items ≡ text)) → (all ≡ false → (a.status ≡ SomeRefused) × (a.text.items ≡ report_text os))
     → IsCoveredAs cell bs a.status a.text.items
-answer_due cell bs cs os text a true e h covered done refused =
-    let d = done refl in
-    subst (λ (s : Status). IsCoveredAs cell bs s a.text.items) (sym d.0) (subst (λ (t : List ℕ). AreCovered cell bs t) (sym d.1) (covered refl))
-answer_due cell bs cs os text a false e h covered done refused =
-    let r = refused refl in
-    subst (λ (s : Status). IsCoveredAs cell bs s a.text.items) (sym r.0)
-    (record { each = cs; outcomes = os; are_outcomes = h; some_refused = sym e; report = r.1 })
+answer_due cell bs cs os text a all k l p q u = grind arith
 
 -- all blocks are answered
 pub answered_whole : {E : Type 0} (cell : CellView) (found : List Block) (i number : ℕ) (all : Bool) (os : List Outcome) (text : List ℕ) (r : Result Answer E)

@@ -1,23 +1,13 @@
 -- The vertices and the edges that rows give. Edges are listed the nearest first.
-use Rattle.std.proofs.Common.{◌≡◌, inl, inr, ℕ, ◌+◌, ◌-◌, ◌<◌, ◌≤◌, ◌^◌, ◌==◌, ◌||◌, not, Bool, true, false, cond, List, [], ◌∷◌, ◌++◌, length, map, get_or}
-use Rattle.std.proofs.Common.{refl, sym, ap, subst, ◌∙◌, arith}
-use Rattle.std.proofs.lemmas.List.{map-append}
-use Rattle.std.specs.Bool.{Decides}
-use Rattle.std.specs.Fmt.{decimal}
-use Rattle.std.specs.List.{list_any, position_or_len}
-use Rattle.std.specs.Ordering.{int_eq}
-use Rattle.std.specs.Str.{bytes_eq}
-use Rattle.std.proofs.lemmas.Bool.{and_parts, and_from}
-use Rattle.std.proofs.lemmas.Bool.Decides.{Decides-eqb, Decides-int_eq}
-use Rattle.std.proofs.lemmas.Fmt.{decimal_injective}
-use Rattle.std.proofs.lemmas.Slice.Eq.{bytes_eq-Decides}
-use Rattle.integers.proofs.counting.Pigeonhole.{no_more}
-use Rattle.integers.proofs.lists.Members.{IsIn, AreApart}
+use Rattle.std.proofs.Common.{◌≡◌, inl, inr, ℕ, ◌+◌, ◌-◌, ◌<◌, ◌≤◌, ◌^◌, ◌==◌, ◌||◌, not, Bool, true, cond, List, [], ◌∷◌, length, map, get_or, refl, sym, ap}
+use Rattle.std.proofs.Common.{subst, ◌∙◌, arith}
+use Rattle.std.proofs.lemmas.{List.map-append, Bool.and_parts, Bool.and_from, Bool.Decides.Decides-eqb, Bool.Decides.Decides-int_eq, Fmt.decimal_injective}
+use Rattle.std.proofs.lemmas.{Slice.Eq.bytes_eq-Decides}
+use Rattle.std.specs.{Bool.Decides, Fmt.decimal, List.list_any, List.position_or_len, Ordering.int_eq, Str.bytes_eq}
+use Rattle.integers.proofs.{counting.Pigeonhole.no_more, lists.Members.IsIn, lists.Members.AreApart}
 use Rattle.periodic_net.specs.Graph.{Arc}
-use Rattle.cgd_read.specs.Spelling.{normal}
 use Rattle.cgd_read.specs.Edges.{with_new, vertices_of, vertex_number, row_edge, same_edge, edges_of}
-use Rattle.cgd_read.specs.Lines.{FieldsView}
-use Rattle.cgd_read.specs.declared.edge.RawEdge.{RawEdge}
+use Rattle.cgd_read.specs.{Spelling.normal, Lines.FieldsView, declared.edge.RawEdge.RawEdge}
 use Rattle.cover_answers.specs.ReadBack.{order_after, new_number}
 use Rattle.cover_answers.proofs.NewLists.{place, at_place, has_new, keeps, tells_new, apart_new, few_new, get_in, place_new, place_grown, place_of_get}
 use Rattle.cover_answers.proofs.RowLines.{row_fields, IsRowEdge, AreRowEdges}
@@ -37,16 +27,11 @@ AreNumbers xs = (u : ℕ) → IsIn xs u → u < 2 ^ 64
 
 -- equal truth of both tests
 same_test : (s t : Bool) → (s ≡ true → t ≡ true) → (t ≡ true → s ≡ true) → s ≡ t
-same_test true true f g = refl
-same_test true false f g = sym (f refl)
-same_test false true f g = g refl
-same_test false false f g = refl
+same_test s t h k = search arith
 
 -- numbers are the same where their names are
 test_name : (u v : ℕ) → u < 2 ^ 64 → v < 2 ^ 64 → bytes_eq (decimal u) (decimal v) ≡ (u == v)
-test_name u v h k = same_test (bytes_eq (decimal u) (decimal v)) (u == v)
-    (λ e. (Decides-eqb u v).1 (decimal_injective u v h k ((bytes_eq-Decides (decimal u) (decimal v)).0 e)))
-    (λ e. (bytes_eq-Decides (decimal u) (decimal v)).1 (ap decimal ((Decides-eqb u v).0 e)))
+test_name u v h k = grind (arith, same_test, decimal_injective, bytes_eq-Decides)
 
 any_name : (u : ℕ) (xs : List ℕ) → u < 2 ^ 64 → AreNumbers xs → list_any (bytes_eq (decimal u)) (map decimal xs) ≡ list_any (same_number u) xs
 any_name u [] h k = refl
@@ -64,11 +49,7 @@ place_name u (x ∷ xs) h k =
 
 -- a new name is that of a new number
 new_name : (xs : List ℕ) (u : ℕ) → u < 2 ^ 64 → AreNumbers xs → with_new bytes_eq (map decimal xs) (decimal u) ≡ map decimal (with_new same_number xs u)
-new_name xs u h k = ap (λ (t : Bool). cond t (map decimal xs) (map decimal xs ++ decimal u ∷ [])) (any_name u xs h k) ∙ by (list_any (same_number u) xs)
-  where
-    by : (t : Bool) → cond t (map decimal xs) (map decimal xs ++ decimal u ∷ []) ≡ map decimal (cond t xs (xs ++ u ∷ []))
-    by true = refl
-    by false = sym (map-append decimal xs (u ∷ []))
+new_name xs u h k = search (arith, any_name, map-append)
 
 -- both ends of an edge have numbers after it
 first_end : (xs : List ℕ) (e : Arc) → IsIn (order_after xs e) e.from
@@ -163,11 +144,7 @@ number_second : (xs : List ℕ) (e : Arc) → new_number (with_new same_number x
 number_second xs e = ap (λ (k : ℕ). k + 1) (place_new same_number Decides-eqb (with_new same_number xs e.from) e.to)
 
 pub renumbered_kept : (es : List Arc) (f e : Arc) → IsIn es e → renumbered (order_back es) e ≡ renumbered (order_back (f ∷ es)) e
-renumbered_kept es f e h =
-    let i = ends_in es e h in
-    let a = number_kept (order_back es) f e.from i.0 in
-    let b = number_kept (order_back es) f e.to i.1 in
-    λ t. normal (a t) (b t) e.shift.x e.shift.y e.shift.z
+renumbered_kept es f e h = search (arith, ends_in, number_kept)
 
 -- the edge that a row gives
 pub edge_is : (d n : ℕ) (es : List Arc) (e : Arc) → AreRowEdges d n (e ∷ es)

@@ -1,9 +1,8 @@
 -- Lists that take what is new at their end.
 use Rattle.std.proofs.Common.{◌≡◌, ◌⊎◌, inl, inr, ℕ, zero, suc, ◌+◌, ◌<◌, ◌≤◌, ◌||◌, not, Bool, true, false, cond, List, [], ◌∷◌, ◌++◌, length, get_or, refl}
-use Rattle.std.proofs.Common.{sym, ap, subst, ◌∙◌, arith, length-append}
-use Rattle.std.specs.Bool.{Decides}
-use Rattle.std.specs.List.{list_any, position_or_len}
+use Rattle.std.proofs.Common.{sym, ap, subst, arith, length-append}
 use Rattle.std.proofs.lemmas.Bool.{false≢true}
+use Rattle.std.specs.{Bool.Decides, List.list_any, List.position_or_len}
 use Rattle.integers.proofs.lists.Members.{IsIn, AreApart}
 use Rattle.cgd_read.specs.Edges.{with_new}
 
@@ -33,25 +32,18 @@ module _ {X : Type 0} (same : X → X → Bool) (decides : (x y : X) → Decides
   any_in (y ∷ ys) x e = by (same x y) refl (any_in ys x) e
     where
       by : (t : Bool) → same x y ≡ t → (list_any (same x) ys ≡ true → IsIn ys x) → (t || list_any (same x) ys) ≡ true → IsIn (y ∷ ys) x
-      by true f on g = inl (sym ((decides x y).0 f))
-      by false f on g = inr (on g)
+      by t h k l = search arith
 
   none_in : (xs : List X) (x : X) → list_any (same x) xs ≡ false → ¬ IsIn xs x
   none_in [] x e h = h
   none_in (y ∷ ys) x e h = by (same x y) refl (none_in ys x) e h
     where
       by : (t : Bool) → same x y ≡ t → (list_any (same x) ys ≡ false → ¬ IsIn ys x) → (t || list_any (same x) ys) ≡ false → ¬ IsIn (y ∷ ys) x
-      by true f on g h = false≢true (sym g)
-      by false f on g (inl q) = false≢true (sym f ∙ (decides x y).1 (sym q))
-      by false f on g (inr i) = on g i
+      by t k l p r = search (arith, false≢true)
 
   -- any fact of the grown list
   pub grown_is : (P : List X → Type 0) (xs : List X) (x : X) → (IsIn xs x → P xs) → (¬ IsIn xs x → P (xs ++ x ∷ [])) → P (with_new same xs x)
-  grown_is P xs x p q = by (list_any (same x) xs) refl
-    where
-      by : (t : Bool) → list_any (same x) xs ≡ t → P (cond t xs (xs ++ x ∷ []))
-      by true e = p (any_in xs x e)
-      by false e = q (none_in xs x e)
+  grown_is P xs x p q = search (arith, any_in, none_in)
 
   pub has_new : (xs : List X) (x : X) → IsIn (with_new same xs x) x
   has_new xs x = grown_is (λ l. IsIn l x) xs x (λ h. h) (λ n. in_second xs (x ∷ []) x (inl refl))
@@ -60,11 +52,7 @@ module _ {X : Type 0} (same : X → X → Bool) (decides : (x y : X) → Decides
   keeps xs x y h = grown_is (λ l. IsIn l y) xs x (λ i. h) (λ n. in_first xs (x ∷ []) y h)
 
   pub tells_new : (xs : List X) (x y : X) → IsIn (with_new same xs x) y → IsIn xs y ⊎ (x ≡ y)
-  tells_new xs x y = grown_is (λ l. IsIn l y → IsIn xs y ⊎ (x ≡ y)) xs x (λ i h. inl h)
-      (λ n h. elim (in_either xs (x ∷ []) y h) [
-        | inl l ↦ inl l
-        | inr r ↦ elim r [ inl e ↦ inr e | inr f ↦ absurd f ]
-      ])
+  tells_new xs x y k = search (arith, grown_is, in_either)
 
   apart_end : (xs : List X) (x : X) → AreApart xs → ¬ IsIn xs x → AreApart (xs ++ x ∷ [])
   apart_end [] x a n = ((λ f. f), tt)
@@ -89,9 +77,7 @@ module _ {X : Type 0} (same : X → X → Bool) (decides : (x y : X) → Decides
     where
       by : (t : Bool) → same x y ≡ t → (IsIn xs x → place x (xs ++ ys) ≡ place x xs) → IsIn (y ∷ xs) x
           → cond (not t) (1 + place x (xs ++ ys)) 0 ≡ cond (not t) (1 + place x xs) 0
-      by true f on h = refl
-      by false f on (inl e) = absurd (false≢true (sym f ∙ (decides x y).1 (sym e)))
-      by false f on (inr i) = ap (λ (n : ℕ). 1 + n) (on i)
+      by t k l p = grind (arith, false≢true)
 
   -- the place of what is put last
   place_last : (xs : List X) (x : X) → ¬ IsIn xs x → place x (xs ++ x ∷ []) ≡ place x xs
@@ -99,8 +85,7 @@ module _ {X : Type 0} (same : X → X → Bool) (decides : (x y : X) → Decides
   place_last (y ∷ xs) x n = by (same x y) (place_last xs x (λ h. n (inr h)))
     where
       by : (t : Bool) → place x (xs ++ x ∷ []) ≡ place x xs → cond (not t) (1 + place x (xs ++ x ∷ [])) 0 ≡ cond (not t) (1 + place x xs) 0
-      by true e = refl
-      by false e = ap (λ (n : ℕ). 1 + n) e
+      by t h = cc
 
   pub place_new : (xs : List X) (x : X) → place x xs ≡ place x (with_new same xs x)
   place_new xs x = grown_is (λ l. place x xs ≡ place x l) xs x (λ h. refl) (λ n. sym (place_last xs x n))
@@ -113,9 +98,7 @@ module _ {X : Type 0} (same : X → X → Bool) (decides : (x y : X) → Decides
   place_below (y ∷ xs) x h = by (same x y) refl (place_below xs x) h
     where
       by : (t : Bool) → same x y ≡ t → (IsIn xs x → place x xs < length xs) → IsIn (y ∷ xs) x → cond (not t) (1 + place x xs) 0 < suc (length xs)
-      by true f on h = omega arith
-      by false f on (inl e) = absurd (false≢true (sym f ∙ (decides x y).1 (sym e)))
-      by false f on (inr i) = let l = on i in omega (arith, l)
+      by t k p q = grind (arith, false≢true)
 
   -- what stands at its place
   pub at_place : (xs : List X) (x d : X) → IsIn xs x → get_or xs (place x xs) d ≡ x
@@ -123,9 +106,7 @@ module _ {X : Type 0} (same : X → X → Bool) (decides : (x y : X) → Decides
   at_place (y ∷ xs) x d h = by (same x y) refl (at_place xs x d) h
     where
       by : (t : Bool) → same x y ≡ t → (IsIn xs x → get_or xs (place x xs) d ≡ x) → IsIn (y ∷ xs) x → get_or (y ∷ xs) (cond (not t) (1 + place x xs) 0) d ≡ x
-      by true f on h = sym ((decides x y).0 f)
-      by false f on (inl e) = absurd (false≢true (sym f ∙ (decides x y).1 (sym e)))
-      by false f on (inr i) = ap (λ (n : ℕ). get_or (y ∷ xs) n d) (let e : 1 + place x xs ≡ suc (place x xs) = omega arith in e) ∙ on i
+      by t k l p = grind (arith, false≢true)
 
   -- what stands at a place of a list
   pub get_in : (xs : List X) (k : ℕ) (d : X) → k < length xs → IsIn xs (get_or xs k d)
@@ -152,5 +133,4 @@ module _ {X : Type 0} (same : X → X → Bool) (decides : (x y : X) → Decides
   place_none (y ∷ xs) x n = by (same x y) refl (place_none xs x (λ h. n (inr h)))
     where
       by : (t : Bool) → same x y ≡ t → place x xs ≡ length xs → cond (not t) (1 + place x xs) 0 ≡ suc (length xs)
-      by true f e = absurd (n (inl (sym ((decides x y).0 f))))
-      by false f e = omega (arith, e)
+      by t h k = grind arith

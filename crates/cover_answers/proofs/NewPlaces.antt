@@ -1,12 +1,9 @@
 -- A list with one more at its end, unless it has one that is the same: what it has, and places in it.
-use Rattle.std.proofs.Common.{◌≡◌, ◌⊎◌, inl, inr, ℕ, ◌+◌, ◌≤◌, ◌||◌, Bool, true, false, cond, List, [], ◌∷◌, ◌++◌, length, refl, sym, ap, subst, ◌∙◌, arith}
+use Rattle.std.proofs.Common.{◌≡◌, ◌⊎◌, inl, inr, ℕ, ◌+◌, ◌≤◌, ◌||◌, Bool, true, false, cond, List, [], ◌∷◌, ◌++◌, length, refl, sym, ap, subst, arith}
 use Rattle.std.proofs.Common.{length-append}
-use Rattle.std.specs.Bool.{Decides}
-use Rattle.std.specs.List.{list_any, position_or_len}
 use Rattle.std.proofs.lemmas.Bool.{false≢true}
-use Rattle.integers.proofs.lists.Insertion.{known_or_fresh}
-use Rattle.integers.proofs.lists.Members.{IsIn, AreApart}
-use Rattle.integers.proofs.lists.More.{in_more}
+use Rattle.std.specs.{Bool.Decides, List.list_any, List.position_or_len}
+use Rattle.integers.proofs.lists.{Insertion.known_or_fresh, Members.IsIn, Members.AreApart, More.in_more}
 use Rattle.cgd_read.specs.Edges.{with_new}
 
 module _ {X : Type 0} (same : X → X → Bool) (decides : (x y : X) → Decides (same x y) (x ≡ y)) where
@@ -16,8 +13,7 @@ module _ {X : Type 0} (same : X → X → Bool) (decides : (x y : X) → Decides
   any_in (y ∷ ys) x e = by (same x y) refl (any_in ys x) e
     where
       by : (t : Bool) → same x y ≡ t → (list_any (same x) ys ≡ true → IsIn ys x) → (t || list_any (same x) ys) ≡ true → IsIn (y ∷ ys) x
-      by true f on g = inl (sym ((decides x y).0 f))
-      by false f on g = inr (on g)
+      by t h k l = search arith
 
   -- what it does not find does not
   none_in : (xs : List X) (x : X) → list_any (same x) xs ≡ false → ¬ IsIn xs x
@@ -25,17 +21,11 @@ module _ {X : Type 0} (same : X → X → Bool) (decides : (x y : X) → Decides
   none_in (y ∷ ys) x e h = by (same x y) refl (none_in ys x) e h
     where
       by : (t : Bool) → same x y ≡ t → (list_any (same x) ys ≡ false → ¬ IsIn ys x) → (t || list_any (same x) ys) ≡ false → ¬ IsIn (y ∷ ys) x
-      by true f on g h = false≢true (sym g)
-      by false f on g (inl q) = false≢true (sym f ∙ (decides x y).1 (sym q))
-      by false f on g (inr i) = on g i
+      by t k l p r = search (arith, false≢true)
 
   -- any fact of the list with one more
   with_is : (P : List X → Type 0) (xs : List X) (x : X) → (IsIn xs x → P xs) → (¬ IsIn xs x → P (xs ++ x ∷ [])) → P (with_new same xs x)
-  with_is P xs x p q = by (list_any (same x) xs) refl
-    where
-      by : (t : Bool) → list_any (same x) xs ≡ t → P (cond t xs (xs ++ x ∷ []))
-      by true e = p (any_in xs x e)
-      by false e = q (none_in xs x e)
+  with_is P xs x p q = search (arith, any_in, none_in)
 
   pub tells_new : (xs : List X) (x y : X) → IsIn (with_new same xs x) y → IsIn xs y ⊎ (x ≡ y)
   tells_new xs x y = with_is (λ l. IsIn l y → IsIn xs y ⊎ (x ≡ y)) xs x (λ i h. inl h) (λ n. in_more xs x y)

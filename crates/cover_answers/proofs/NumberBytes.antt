@@ -1,23 +1,12 @@
 -- The bytes of a number: a run that is a whole number, and its value.
 use Rattle.std.proofs.Common.{◌≡◌, ℕ, suc, ◌+◌, ◌-◌, ◌*◌, ◌<◌, ◌≤◌, ◌^◌, ◌==◌, nat_lt, true, false, ℤ, pos, negsuc, ◌-ℤ◌, List, [], ◌∷◌, length, fold, Some}
 use Rattle.std.proofs.Common.{refl, sym, ap, ◌∙◌, arith}
-use Rattle.std.specs.Prelude.{All, unsigned_abs}
-use Rattle.std.specs.List.{list_all}
-use Rattle.std.specs.Option.{option_map}
-use Rattle.std.specs.Char.{is_ascii_digit, digit_value}
-use Rattle.std.specs.Int.{IsInRange}
-use Rattle.std.specs.Fmt.{decimal, signed_decimal}
-use Rattle.std.specs.Str.Parse.{AllDigits, digits_value_after}
-use Rattle.std.proofs.lemmas.Fmt.{decimal_is_IsNumeral}
-use Rattle.std.proofs.lemmas.Str.Parse.{digit_from_value}
-use Rattle.std.proofs.lemmas.Bool.{ne_eqb, and_from}
-use Rattle.std.proofs.lemmas.Bool.Decides.{nat_tests}
-use Rattle.std.proofs.lemmas.Grind.{common_steps}
-use Rattle.std.proofs.lemmas.Int.{ints}
-use Rattle.std.proofs.lemmas.List.Elements.{All-nil, All-cons}
-use Rattle.cgd_lex.specs.Pieces.{is_run_byte}
-use Rattle.cgd_lex.specs.Tokens.{is_whole}
+use Rattle.std.proofs.lemmas.{Fmt.decimal_is_IsNumeral, Str.Parse.digit_from_value, Bool.ne_eqb, Bool.and_from, Bool.Decides.nat_tests, Grind.common_steps}
+use Rattle.std.proofs.lemmas.{Int.ints, List.Elements.All-nil, List.Elements.All-cons}
+use Rattle.std.specs.{Prelude.All, Prelude.unsigned_abs, List.list_all, Option.option_map, Char.is_ascii_digit, Char.digit_value, Int.IsInRange, Fmt.decimal}
+use Rattle.std.specs.{Fmt.signed_decimal, Str.Parse.AllDigits, Str.Parse.digits_value_after}
 use Rattle.cgd_lex.specs.Words.{next_value, whole_value, magnitude_up_to, number_up_to}
+use Rattle.cgd_lex.specs.{Pieces.is_run_byte, Tokens.is_whole}
 
 digit_runs : (b : ℕ) → IsInRange 48 57 b → is_run_byte b ≡ true
 digit_runs b h = grind (arith, nat_tests, common_steps, h)
@@ -102,15 +91,11 @@ magnitude_is most n h l = rw (decimal_value n h) (rw (within most n l) refl)
 
 -- digits without a sign
 plain_number : (most : ℕ) (ds : List ℕ) → 0 < length ds → AllDigits 10 ds → number_up_to most ds ≡ option_map pos (magnitude_up_to most ds)
-plain_number most [] l h = absurd (omega (arith, l))
-plain_number most (d ∷ ds) l h = let n = no_sign d (digit_from_value d h.0) in rw n.1 (rw n.0 refl)
+plain_number most ds k p = grind (arith, no_sign, digit_from_value)
 
 negated : (n : ℕ) → pos 0 -ℤ pos (suc n) ≡ negsuc n
 negated n = omega (arith, ints)
 
 -- a number within a limit is read
 pub number_read : (most : ℕ) (x : ℤ) → IsShort x → unsigned_abs x ≤ most → number_up_to most (signed_decimal x) ≡ Some x
-number_read most (pos n) h l =
-    let k = decimal_is_IsNumeral n (omega (arith, h)) in
-    plain_number most (decimal n) k.0.0 k.0.1 ∙ ap (option_map pos) (magnitude_is most n (omega (arith, h)) l)
-number_read most (negsuc n) h l = ap (option_map (λ n. pos 0 -ℤ pos n)) (magnitude_is most (suc n) (omega (arith, h)) l) ∙ ap Some (negated n)
+number_read most x p q = grind (arith, decimal_is_IsNumeral, plain_number, magnitude_is, negated)

@@ -1,26 +1,19 @@
 -- What is due to a cell and to blocks is one.
-use Rattle.std.proofs.Common.{◌≡◌, ◌∙◌, ◌&&◌, ◌⊎◌, inl, inr, ℕ, ◌+◌, Bool, true, List, [], ◌∷◌, ◌++◌, length, refl, sym, ap, subst}
+use Rattle.std.proofs.Common.{◌≡◌, ◌∙◌, ◌&&◌, ◌⊎◌, inl, inr, ℕ, ◌+◌, Bool, true, List, [], ◌∷◌, ◌++◌, length, refl, sym, ap, subst, arith}
 use Rattle.std.proofs.lemmas.Bool.{false≢true}
 use Rattle.periodic_net.specs.Graph.{Graph}
 use Rattle.cgd_read.specs.Graphs.{graph_of}
 use Rattle.cgd_read.specs.Views.{RawView, BodyView, Net, Other, Faulty, BlockView}
 use Rattle.quotient_graph.proofs.CallerLemmas.{one_in_order}
-use Rattle.net_cover.specs.Cells.{CellView}
-use Rattle.net_cover.specs.Faults.{IsCoverFault}
+use Rattle.net_cover.specs.{Cells.CellView, Faults.IsCoverFault}
 use Rattle.net_cover.proofs.CallerLemmas.{cover_is_not_refused, one_cover, one_cover_fault}
-use Rattle.cover_answers.specs.Blocks.{graph_text}
-use Rattle.cover_answers.specs.Lines.{covered_text, refused_text}
+use Rattle.cover_answers.specs.Covers.{AreCovered, AreCoversOf, IsCoverOf, IsCoverOn, IsGraphOf, covers_text}
+use Rattle.cover_answers.specs.Outcomes.{AreOutcomesFrom, IsBodyOf, IsCoverTold, IsFaultTold, IsNetTold, IsOutcomeOf, all_of, size_in}
+use Rattle.cover_answers.specs.{Blocks.graph_text, Lines.covered_text, Lines.refused_text, Due.AreReported, Laws.OneCovering}
 use Rattle.net_report.specs.Headers.{fault_text, header_text, size_text, unsupported_text}
 use Rattle.net_report.specs.Reports.{body_text, outcome_text, report_text}
-use Rattle.net_report.specs.declared.outcome.Outcome.{Outcome}
-use Rattle.net_report.specs.declared.outcome.OutcomeBody.{OutcomeBody}
 use Rattle.net_report.specs.declared.outcome.OutcomeBody.TheVariants.{Unsupported, Malformed, Lines}
-use Rattle.net_report.specs.declared.outcome.Size.{Size}
-use Rattle.net_report.specs.declared.status.Status.TheVariants.{Done, SomeRefused}
-use Rattle.cover_answers.specs.Covers.{AreCovered, AreCoversOf, IsCoverOf, IsCoverOn, IsGraphOf, covers_text}
-use Rattle.cover_answers.specs.Due.{AreReported}
-use Rattle.cover_answers.specs.Laws.{OneCovering}
-use Rattle.cover_answers.specs.Outcomes.{AreOutcomesFrom, IsBodyOf, IsCoverTold, IsFaultTold, IsNetTold, IsOutcomeOf, all_of, size_in}
+use Rattle.net_report.specs.declared.outcome.{Outcome.Outcome, OutcomeBody.OutcomeBody, Size.Size}
 
 -- the graph of a block is one
 same_graph : (raw : RawView) (G H : Graph) → IsGraphOf raw G → IsGraphOf raw H → G ≡ H
@@ -143,14 +136,4 @@ module _ (cell : CellView) where
 
 -- what is due is one
 pub one_covering : OneCovering
-one_covering cell bs Done Done s t a b = (refl, a.text_is ∙ one_covers_text cell bs a.covers b.covers a.are_covers b.are_covers ∙ sym b.text_is)
-one_covering cell bs Done SomeRefused s t a b = absurd (covered_or_reported cell bs s t a b)
-one_covering cell bs SomeRefused Done s t a b = absurd (covered_or_reported cell bs t s b a)
-one_covering cell bs SomeRefused SomeRefused s t a b = (
-  refl,
-  a.report ∙ one_report cell 1 bs a.each b.each a.outcomes b.outcomes a.are_outcomes b.are_outcomes
-      ∙ sym b.report,
-)
-one_covering cell bs Done other s t a b = absurd b
-one_covering cell bs SomeRefused other s t a b = absurd b
-one_covering cell bs other status s t a b = absurd a
+one_covering h k l p q r u v = grind (arith, one_covers_text, covered_or_reported, one_report)

@@ -1,31 +1,19 @@
 -- No line of a printed graph has a fault, and its block is the net of its rows.
-use Rattle.std.proofs.Common.{◌≡◌, ◌⊎◌, inl, inr, ℕ, ◌+◌, ◌≤◌, ◌==◌, ◌||◌, ◌&&◌, not, nat_lt, Bool, true, false, cond, pos, List, [], ◌∷◌, length, Option, None}
-use Rattle.std.proofs.Common.{Some, refl, sym, ap, subst, ◌∙◌, arith}
-use Rattle.std.specs.Prelude.{codes}
-use Rattle.std.specs.Fmt.{decimal}
-use Rattle.std.specs.Ordering.{int_eq}
-use Rattle.std.specs.Str.{bytes_eq}
+use Rattle.std.proofs.Common.{◌≡◌, ◌⊎◌, ℕ, ◌+◌, ◌≤◌, ◌==◌, ◌||◌, ◌&&◌, not, nat_lt, Bool, true, false, cond, List, [], ◌∷◌, length, Option, refl, sym, ap}
+use Rattle.std.proofs.Common.{subst, ◌∙◌, arith}
 use Rattle.std.proofs.lemmas.Bool.{cases_Bool, and_parts, false≢true}
-use Rattle.std.proofs.lemmas.Bool.Decides.{Decides-eqb, Decides-int_eq, nat_tests}
-use Rattle.std.proofs.lemmas.Fmt.{decimal_injective, length-decimal-le}
-use Rattle.std.proofs.lemmas.List.{length-map}
-use Rattle.std.proofs.lemmas.Slice.Eq.{bytes_eq-Decides}
+use Rattle.std.proofs.lemmas.{Bool.Decides.nat_tests, Fmt.decimal_injective, Fmt.length-decimal-le, List.length-map, Slice.Eq.bytes_eq-Decides}
+use Rattle.std.specs.{Prelude.codes, Fmt.decimal}
 use Rattle.integers.proofs.vectors.Laws.{vector_equal}
-use Rattle.periodic_net.specs.Graph.{Arc}
-use Rattle.periodic_net.specs.Limits.{most_vertices, most_edges}
+use Rattle.periodic_net.specs.{Graph.Arc, Limits.most_vertices, Limits.most_edges}
 use Rattle.cgd_read.specs.Blocks.{AllFalse, AllPass, in_order, graph_block, blocks_from, with_body, or_fault}
 use Rattle.cgd_read.specs.Edges.{vertices_of, edges_of, is_self_edge, first_size, has_rows}
 use Rattle.cgd_read.specs.Faults.{name_of, rows_in, under_edges, is_long, table}
-use Rattle.cgd_read.specs.Graphs.{net_of}
-use Rattle.cgd_read.specs.Lines.{LineView, FieldsView}
-use Rattle.cgd_read.specs.Views.{Net}
-use Rattle.cgd_read.specs.declared.line.LineKind.TheVariants.{End}
+use Rattle.cgd_read.specs.{Graphs.net_of, Lines.LineView, Lines.FieldsView, Views.Net, declared.line.LineKind.TheVariants.End}
 use Rattle.cover_answers.specs.Printed.{MayBeName}
-use Rattle.cover_answers.proofs.GraphLines.{head_lines, rows_back}
-use Rattle.cover_answers.proofs.LineTokens.{word_line}
-use Rattle.cover_answers.proofs.NamedRows.{rows_of, names_are, order_back, few_vertices, few_edges}
-use Rattle.cover_answers.proofs.NumberBytes.{within}
+use Rattle.cover_answers.proofs.NamedRows.{rows_of, names_are, few_vertices, few_edges}
 use Rattle.cover_answers.proofs.RowLines.{IsRowEdge, AreRowEdges, row_fields, row_line}
+use Rattle.cover_answers.proofs.{GraphLines.head_lines, GraphLines.rows_back, LineTokens.word_line, NumberBytes.within}
 use Rattle.cgd_read.proofs.CallerLemmas.{none_true, passes_on}
 
 -- lines that pass, and what comes after them
@@ -48,26 +36,7 @@ pub record HavePassed (d : ℕ) (name : Option (List ℕ)) (lines : List LineVie
 
 -- the lines before the rows pass
 pub head_passes : (d : ℕ) (name : Option (List ℕ)) (n : ℕ) → MayBeName name → HavePassed d name (head_lines name n) []
-head_passes d None n h = record {
-  pass = ((refl, (refl, (refl, (refl, (refl, (refl, (refl, (refl, (refl, (refl, (refl, tt))))))))))), refl, tt);
-  under = refl;
-  rows = refl;
-  name_is = refl;
-}
-head_passes d (Some name) n h = record {
-  pass = (
-    (refl, (refl, (refl, (refl, (refl, (refl, (refl, (refl, (refl, (refl, (refl, tt))))))))))),
-    refl,
-    (
-      (refl, (refl, (refl, (ap (λ (t : Bool). t || false) (within 200 (length name) h.0), (refl, (refl, (refl, (refl, (refl, (refl, (refl, tt))))))))))),
-      refl,
-      tt,
-    ),
-  );
-  under = refl;
-  rows = refl;
-  name_is = refl;
-}
+head_passes d name n k = grind (arith, within)
 
 -- the name of a vertex is short
 short_name : (u n : ℕ) → u ≤ n → n ≤ most_vertices → is_long (decimal u) ≡ false
@@ -80,8 +49,7 @@ first_size_is d e [] = refl
 first_size_is d e (f ∷ es) = by (first_size (rows_of d (f ∷ es)) == 0) (first_size_is d f es)
   where
     by : (t : Bool) → first_size (rows_of d (f ∷ es)) ≡ d + 2 → cond t (d + 2) (first_size (rows_of d (f ∷ es))) ≡ d + 2
-    by true q = refl
-    by false q = q
+    by t h = grind arith
 
 pub size_of_rows : (d : ℕ) (es : List Arc) → has_rows (rows_of d es) ≡ true → first_size (rows_of d es) ≡ d + 2
 size_of_rows d [] h = absurd (false≢true h)
@@ -90,50 +58,29 @@ size_of_rows d (e ∷ es) h = first_size_is d e es
 -- what the tests say, by parts
 
 bad_token : (under row : Bool) → under ≡ true → (not under || (row && false)) ≡ false
-bad_token true true e = refl
-bad_token true false e = refl
-bad_token false row e = absurd (false≢true e)
+bad_token under row h = search (arith, false≢true)
 
 long_name : (row u v : Bool) → u ≡ false → v ≡ false → (row && (u || v)) ≡ false
-long_name true u v e f = ap (λ (t : Bool). t || v) e ∙ f
-long_name false u v e f = refl
+long_name row u v h k = search arith
 
 never : (row t : Bool) → t ≡ false → (row && t) ≡ false
-never true t e = e
-never false t e = refl
+never row t h = search arith
 
 wrong_length : (d : ℕ) → (d ≡ 2) ⊎ (d ≡ 3) → not (d + 2 == 4 || d + 2 == 5) ≡ false
-wrong_length d (inl e) = ap (λ (k : ℕ). not (k + 2 == 4 || k + 2 == 5)) e
-wrong_length d (inr e) = ap (λ (k : ℕ). not (k + 2 == 4 || k + 2 == 5)) e
+wrong_length d h = search arith
 
 other_length : (some : Bool) (m n : ℕ) → (some ≡ true → n ≡ m) → (some && not (m == n)) ≡ false
-other_length true m n h = ap not ((Decides-eqb m n).1 (sym (h refl)))
-other_length false m n h = refl
+other_length some m n k = search arith
 
 self_edge : (d n : ℕ) (e : Arc) → IsRowEdge d n e → is_self_edge (row_fields d e) ≡ false
-self_edge d n e h = elim (cases_Bool (is_self_edge (row_fields d e))) [
-  | inl yes_ ↦
-      let a = and_parts (bytes_eq (decimal e.from) (decimal e.to)) _ yes_ in
-      let b = and_parts (int_eq e.shift.x (pos 0)) _ a.1 in
-      let c = and_parts (int_eq e.shift.y (pos 0)) _ b.1 in
-      let few = h.few in
-      let u = h.from.1 in
-      let v = h.to.1 in
-      let same = decimal_injective e.from e.to (omega (arith, few, u)) (omega (arith, few, v)) ((bytes_eq-Decides (decimal e.from) (decimal e.to)).0 a.0) in
-      absurd (h.no_point same (vector_equal ((Decides-int_eq e.shift.x (pos 0)).0 b.0) ((Decides-int_eq e.shift.y (pos 0)).0 c.0)
-      ((Decides-int_eq e.shift.z (pos 0)).0 c.1)))
-  | inr no_ ↦ no_
-]
+self_edge d n e h = grind (arith, cases_Bool, and_parts, decimal_injective, bytes_eq-Decides, vector_equal)
 
 some_size : (d : ℕ) → nat_lt 0 (d + 2) ≡ true
 some_size d = grind (arith, nat_tests)
 
 -- a row brings not too many vertices, and not too many edges
 vertices_fit : (d n : ℕ) (es : List Arc) → AreRowEdges d n es → n ≤ most_vertices → nat_lt most_vertices (length (vertices_of (rows_of d es))) ≡ false
-vertices_fit d n es h l =
-    let size : length (vertices_of (rows_of d es)) ≡ length (order_back es) = ap length (names_are d n es h) ∙ length-map (order_back es) decimal in
-    let few = few_vertices d n es h in
-    within most_vertices (length (vertices_of (rows_of d es))) (omega (arith, size, few, l))
+vertices_fit d n es h l = search (arith, names_are, length-map, few_vertices, within)
 
 edges_fit : (d : ℕ) (es : List Arc) → length es ≤ most_edges → nat_lt most_edges (length (edges_of (rows_of d es))) ≡ false
 edges_fit d es l = let few = few_edges d es in within most_edges (length (edges_of (rows_of d es))) (omega (arith, few, l))
@@ -146,8 +93,7 @@ done_after done (e ∷ es) = done_after (e ∷ done) es
 module _ (d n : ℕ) (dim : (d ≡ 2) ⊎ (d ≡ 3)) (name : Option (List ℕ)) where
   rows_now : (e : Arc) (done : List Arc) (lines : List LineView) (m : ℕ) → HavePassed d name lines done
       → rows_in (row_line d e m ∷ lines) ≡ rows_of d (e ∷ done)
-  rows_now e done lines m h =
-      ap (λ (t : Bool). cond t (row_fields d e ∷ rows_in lines) (rows_in lines)) (some_size d) ∙ ap (λ (rows : List FieldsView). row_fields d e ∷ rows) h.rows
+  rows_now e done lines m h = search (arith, some_size)
 
   -- one row more
   row_passes : (e : Arc) (done : List Arc) (lines : List LineView) (m : ℕ) → AreRowEdges d n (e ∷ done) → length (e ∷ done) ≤ most_edges

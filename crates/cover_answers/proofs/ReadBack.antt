@@ -1,41 +1,29 @@
 -- The blocks of printed graphs are read back.
 use Rattle.std.proofs.Common.{◌≡◌, ◌≢◌, ◌⊎◌, inl, inr, ℕ, ◌+◌, ◌≤◌, true, false, List, [], ◌∷◌, ◌++◌, length, map, fold, refl, sym, ap, subst, ◌∙◌, arith}
-use Rattle.std.specs.Prelude.{All, codes}
-use Rattle.std.specs.Fmt.{decimal}
-use Rattle.std.proofs.lemmas.List.{length-map}
-use Rattle.std.proofs.lemmas.List.Elements.{All-head, All-tail}
+use Rattle.std.proofs.lemmas.{List.length-map, List.Elements.All-head, List.Elements.All-tail}
+use Rattle.std.specs.{Prelude.All, Prelude.codes, Fmt.decimal}
 use Rattle.integers.proofs.lists.ListOrder.{not_below_itself}
 use Rattle.integers.proofs.lists.Members.{IsIn, AreApart, apart_from_pairs, is_in}
-use Rattle.integers.specs.Vectors.{Vector, zero_vector, parts, IsBelow, IsWithin}
+use Rattle.integers.specs.Vectors.{zero_vector, IsWithin}
 use Rattle.periodic_net.specs.Graph.{Graph, Arc, Vertex, vertex, IsEdge, IsNormalSpelling, IsQuotientVertex}
 use Rattle.periodic_net.specs.Limits.{most_vertices, most_edges, most_shift}
 use Rattle.periodic_net.specs.Maps.{Iso}
 use Rattle.cgd_read.specs.Blocks.{blocks_from, graph_block, in_order, with_body}
-use Rattle.cgd_read.specs.Edges.{has_rows}
-use Rattle.cgd_read.specs.Faults.{rows_in}
-use Rattle.cgd_read.specs.Spelling.{edge_of}
-use Rattle.cgd_read.specs.Graphs.{graph_of, net_of}
-use Rattle.cgd_read.specs.Lines.{LineView, FieldsView}
 use Rattle.cgd_read.specs.Views.{RawView, BlockView, Net}
-use Rattle.cgd_read.specs.declared.line.LineKind.TheVariants.{Opening, End}
-use Rattle.cover_answers.specs.Blocks.{graph_text}
-use Rattle.cover_answers.specs.TextLaws.{BlocksAreReadBack}
+use Rattle.cgd_read.specs.{Edges.has_rows, Faults.rows_in, Spelling.edge_of, Graphs.graph_of, Graphs.net_of, Lines.LineView, Lines.FieldsView}
+use Rattle.cgd_read.specs.{declared.line.LineKind.TheVariants.Opening, declared.line.LineKind.TheVariants.End}
 use Rattle.cover_answers.specs.Printed.{NamedGraph, MayBePrinted, blocks_text}
 use Rattle.cover_answers.specs.ReadBack.{order_after, order_of, new_number, IsReadBack, AreReadBack}
+use Rattle.cover_answers.specs.{Blocks.graph_text, TextLaws.BlocksAreReadBack}
 use Rattle.cover_answers.proofs.GraphLines.{graph_lines, inner_lines, last_line, first_row, place_after, head_lines}
-use Rattle.cover_answers.proofs.LineTokens.{word_line}
 use Rattle.cover_answers.proofs.NamedRows.{rows_of, order_back, renumbered, names_are, ends_in, read_edges, edges_in}
 use Rattle.cover_answers.proofs.Passing.{HavePassed, head_passes, rows_pass, done_after, block_is, passed_over, size_of_rows}
-use Rattle.cover_answers.proofs.Renumbered.{renumbered_iso, renumbered_there}
-use Rattle.cover_answers.proofs.Repeats.{no_repeats}
-use Rattle.cover_answers.proofs.RowEnds.{in_map}
-use Rattle.cover_answers.proofs.RowLines.{AreRowEdges}
-use Rattle.cover_answers.proofs.TextLines.{lines_at}
+use Rattle.cover_answers.proofs.{LineTokens.word_line, Renumbered.renumbered_iso, Renumbered.renumbered_there, Repeats.no_repeats, RowEnds.in_map}
+use Rattle.cover_answers.proofs.{RowLines.AreRowEdges, TextLines.lines_at}
 
 -- an edge in normal spelling is no loop with shift 0
 no_point : (e : Arc) → IsNormalSpelling e → e.from ≡ e.to → e.shift ≢ zero_vector
-no_point e (inl l) same none = omega (arith, l, same)
-no_point e (inr s) same none = not_below_itself (parts 3 zero_vector) (subst (λ (v : Vector). IsBelow (parts 3 zero_vector) (parts 3 v)) none s.1)
+no_point e h k p = search (arith, not_below_itself)
 
 -- the edges of a graph within the limits are printed as rows
 row_edges : (G : Graph) (es : List Arc) → G.vertices ≤ most_vertices → All (IsEdge G) es → All (λ e. IsWithin most_shift e.shift) es
@@ -158,19 +146,14 @@ module _ (p : NamedGraph) (h : MayBePrinted p) where
   there_edge e i = in_map edge_of raw.edges (renumbered (order_back done) e) (edges_in G.dimension G.vertices done done_edges e (listed e i))
 
   back_edge : (y : Arc) → IsIn (map edge_of raw.edges) y → (e : Arc) × IsIn G.edges e × (edge_of (renumbered (order_back done) e) ≡ y)
-  back_edge y i =
-      let r = map_in edge_of raw.edges y i in
-      let s = read_edges G.dimension G.vertices done done_edges r.0 r.1 in
-      (s.0, listed_back s.0 s.1, ap edge_of s.2 ∙ r.2)
+  back_edge y i = grind (arith, map_in, edges, read_edges, done_edges, listed_back)
 
   read_iso : Iso G (graph_of raw)
   read_iso = renumbered_iso G (graph_of raw) done done_edges dimension count listed mentioned there_edge back_edge
 
   read_there : (w : Vertex) → read_iso.there w ≡ vertex (new_number (order_of G.edges) w.over) w.cell
   unfolding read_iso
-  read_there w =
-      renumbered_there G (graph_of raw) done done_edges dimension count listed mentioned there_edge back_edge w
-      ∙ ap (λ (order : List ℕ). vertex (new_number order w.over) w.cell) (order_done [] G.edges)
+  read_there w = grind (arith, renumbered_there, done_edges, mentioned, there_edge, back_edge, order_done, edges)
 
   module _ (at n : ℕ) (rest : List ℕ) where
     abbrev lines : List LineView

@@ -1,22 +1,19 @@
 -- The nets that are read, and their covers, may be printed.
-use Rattle.std.proofs.Common.{◌≡◌, ℕ, ◌≤◌, ◌==◌, ◌||◌, ◌&&◌, nat_lt, Bool, true, false, cond, List, [], ◌∷◌, length, Option, None, Some, refl, sym, ap, subst}
+use Rattle.std.proofs.Common.{◌≡◌, ℕ, ◌≤◌, ◌==◌, ◌||◌, ◌&&◌, nat_lt, Bool, true, false, cond, List, [], ◌∷◌, length, Option, None, Some, refl, sym, subst}
 use Rattle.std.proofs.Common.{arith}
-use Rattle.std.specs.Prelude.{All}
 use Rattle.std.proofs.lemmas.Bool.Decides.{nat_tests}
 use Rattle.std.proofs.lemmas.List.Elements.{All-nil, All-cons, All-head, All-tail}
+use Rattle.std.specs.Prelude.{All}
 use Rattle.periodic_net.specs.Graph.{IsQuotientVertex}
 use Rattle.cgd_lex.specs.Tokens.{tokens_of}
 use Rattle.cgd_read.specs.Blocks.{blocks_from, block_by, block_of, graph_block, or_fault, malformed, with_body}
 use Rattle.cgd_read.specs.Faults.{is_end, is_name, is_long_name, name_after, name_of, rows_in, fault_of, table}
-use Rattle.cgd_read.specs.Graphs.{graph_of, net_of}
 use Rattle.cgd_read.specs.Lines.{LineView, FieldsView, token_lines}
 use Rattle.cgd_read.specs.Views.{BlockView, BodyView, Net, Other, Faulty, RawView}
-use Rattle.cgd_read.specs.declared.block.BlockFaultKind.{BlockFaultKind}
-use Rattle.cgd_read.specs.declared.block.BlockFaultKind.TheVariants.{BadToken, NoEnd}
-use Rattle.cgd_read.specs.declared.line.LineKind.{LineKind}
 use Rattle.cgd_read.specs.declared.line.LineKind.TheVariants.{Opening, Name, Edges, End, Unknown, Bare, Broken}
-use Rattle.cover_answers.specs.TextLaws.{CoversMayBePrinted}
-use Rattle.cover_answers.specs.Printed.{MayBeName, EndsAt}
+use Rattle.cgd_read.specs.{Graphs.graph_of, Graphs.net_of, declared.block.BlockFaultKind.BlockFaultKind, declared.block.BlockFaultKind.TheVariants.BadToken}
+use Rattle.cgd_read.specs.{declared.block.BlockFaultKind.TheVariants.NoEnd, declared.line.LineKind.LineKind}
+use Rattle.cover_answers.specs.{TextLaws.CoversMayBePrinted, Printed.MayBeName, Printed.EndsAt}
 use Rattle.cover_answers.proofs.ReadNames.{IsNameByte, LineGivesName, text_names}
 use Rattle.cover_answers.proofs.RowEnds.{read_ends, order_ends, iso_ends}
 use Rattle.cgd_read.proofs.CallerLemmas.{all_false}
@@ -41,20 +38,14 @@ no_net : (body : BodyView) (raw : RawView) → body ≡ Net raw → ¬ IsNet bod
 no_net body raw e n = n (subst IsNet (sym e) tt)
 
 net_inside : (r s : RawView) → Net r ≡ Net s → r ≡ s
-net_inside r s e = ap (by r) e
-  where
-    by : RawView → BodyView → RawView
-    by d (Net t) = t
-    by d (Other token) = d
-    by d (Faulty fault) = d
+net_inside r s e = cc
 
 not_long : (n : ℕ) → nat_lt 200 n ≡ false → n ≤ 200
 not_long n e = grind (arith, nat_tests, e)
 
 -- the first of two tests
 first_test : (s t : Bool) → (s || t) ≡ false → s ≡ false
-first_test true t e = e
-first_test false t e = refl
+first_test s t h = search arith
 
 -- a line without a fault leaves a name that may stand between quotes
 name_now : (earlier : List LineView) (line : LineView) → LineGivesName line → fault_of earlier line ≡ None → MayBeName (name_of earlier)
@@ -68,13 +59,7 @@ name_now earlier line gives none before = by line.kind line.fields.name
 
     by : (kind : LineKind) (name : Option (List ℕ)) → (is_name kind && is_long_name name) ≡ false → ((text : List ℕ) → name ≡ Some text → All IsNameByte text)
         → MayBeName (name_after kind name (name_of earlier))
-    by Name name e g = named name e g
-    by Opening name e g = before
-    by Edges name e g = before
-    by End name e g = before
-    by Unknown name e g = before
-    by Bare name e g = before
-    by Broken name e g = before
+    by kind name h k = grind (arith, named)
 
 -- a graph block
 graph_fit : (opening : ℕ) (lines earlier : List LineView) → All LineGivesName lines → MayBeName (name_of earlier) → IsFit (graph_block opening earlier lines)

@@ -1,23 +1,17 @@
 -- The names that lines give may stand between quotes.
-use Rattle.std.proofs.Common.{◌≡◌, ◌≢◌, ℕ, ◌+◌, ◌==◌, Bool, true, false, cond, List, [], ◌∷◌, ◌++◌, length, Option, None, Some, refl, sym, ap, subst, ◌∙◌}
-use Rattle.std.proofs.Common.{arith}
+use Rattle.std.proofs.Common.{◌≡◌, ◌≢◌, ℕ, ◌+◌, ◌==◌, Bool, true, false, cond, List, [], ◌∷◌, ◌++◌, length, Some, refl, sym, ap, subst, ◌∙◌, arith}
+use Rattle.std.proofs.lemmas.List.Elements.{All-nil, All-cons, All-head, All-tail, All-append, All-weaker}
+use Rattle.std.proofs.lemmas.{Bool.false≢true, Bool.true≢false, Option.none-some}
 use Rattle.std.specs.Prelude.{All}
 use Rattle.std.specs.List.{slice_split, onto_first, flat_map}
-use Rattle.std.proofs.lemmas.Bool.{false≢true, true≢false}
-use Rattle.std.proofs.lemmas.List.Elements.{All-nil, All-cons, All-head, All-tail, All-append, All-weaker}
-use Rattle.std.proofs.lemmas.Option.{none-some}
-use Rattle.cgd_lex.specs.Lines.{is_newline, filled_line}
 use Rattle.cgd_lex.specs.Pieces.{Piece, Blank, Comment, Closed, Unclosed, Control, Run, bytes_of, cut_of, is_run_byte, IsCut, MayStand}
 use Rattle.cgd_lex.specs.Tokens.{TokenView, tokens_of, tokens_of_line, tokens_of_pieces, token_at, kind_of_piece, is_whole, newline, later_lines, lines_of}
 use Rattle.cgd_lex.specs.Tokens.{first_line, others_of}
-use Rattle.cgd_lex.specs.Words.{name_in}
-use Rattle.cgd_lex.specs.declared.token.TokenKind.{TokenKind}
 use Rattle.cgd_lex.specs.declared.token.TokenKind.TheVariants.{Word, Whole, Quoted, Bad}
-use Rattle.cgd_lex.proofs.Exists.{is_cut}
-use Rattle.cgd_lex.proofs.Steps.{split_some}
+use Rattle.cgd_lex.specs.{Lines.is_newline, Lines.filled_line, Words.name_in, declared.token.TokenKind.TokenKind}
+use Rattle.cgd_lex.proofs.{Exists.is_cut, Steps.split_some}
 use Rattle.cgd_read.specs.Lines.{LineView, line_of, line_with, name_of_fields, is_bare, kind_of, token_lines}
-use Rattle.cover_answers.proofs.LineTokens.{inner_is}
-use Rattle.cover_answers.proofs.TextLines.{HasNoFeed}
+use Rattle.cover_answers.proofs.{LineTokens.inner_is, TextLines.HasNoFeed}
 
 -- a byte of a name
 abbrev pub IsNameByte : ℕ → Type 0
@@ -67,17 +61,10 @@ run_byte : (b : ℕ) → is_run_byte b ≡ true → IsNameByte b
 run_byte b h = ((λ e. false≢true (sym (ap is_run_byte e) ∙ h)), (λ e. false≢true (sym (ap is_run_byte e) ∙ h)))
 
 some_inside : (xs ys : List ℕ) → Some xs ≡ Some ys → xs ≡ ys
-some_inside xs ys e = ap (by xs) e
-  where
-    by : List ℕ → Option (List ℕ) → List ℕ
-    by d None = d
-    by d (Some zs) = zs
+some_inside xs ys e = cc
 
 both_facts : (bs : List ℕ) → All (λ b. b ≢ 34) bs → HasNoFeed bs → All IsNameByte bs
-both_facts [] h k = All-nil IsNameByte
-both_facts (b ∷ bs) h k =
-    All-cons IsNameByte b bs (All-head (λ b. b ≢ 34) b bs h, not_feed b (All-head (λ b. (b == 10) ≡ false) b bs k))
-    (both_facts bs (All-tail (λ b. b ≢ 34) b bs h) (All-tail (λ b. (b == 10) ≡ false) b bs k))
+both_facts bs l p = search (arith, not_feed)
 
 one_token : (at n : ℕ) (bytes : List ℕ) (kind : TokenKind) → ((name : List ℕ)
     → name_in (record { kind = kind; text = bytes; start = at; line = n }) ≡ Some name → All IsNameByte name)
@@ -95,8 +82,7 @@ piece_token at n (Closed bs) rest may none = one_token at n (bytes_of (Closed bs
 piece_token at n (Run b bs) rest may none = by (is_whole (b ∷ bs))
   where
     own : (name : List ℕ) → Some (b ∷ bs) ≡ Some name → All IsNameByte name
-    own name e = subst (λ (l : List ℕ). All IsNameByte l) (some_inside (b ∷ bs) name e)
-        (All-cons IsNameByte b bs (run_byte b may.0) (All-weaker (λ b. is_run_byte b ≡ true) IsNameByte run_byte bs may.1))
+    own name e = grind (arith, some_inside, run_byte)
 
     by : (t : Bool) → All GivesName (token_at at n (b ∷ bs) (Some (cond t Whole Word)))
     by true = one_token at n (b ∷ bs) Whole own

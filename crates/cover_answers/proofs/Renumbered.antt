@@ -1,10 +1,9 @@
 -- A graph with its vertices renumbered is isomorphic to it.
-use Rattle.std.proofs.Common.{◌≡◌, ◌⊎◌, inl, inr, ℕ, ◌≤◌, Bool, true, false, ℤ, pos, ◌-ℤ◌, neg_ℤ, List, length, refl, sym, ap, subst, ◌∙◌, arith}
-use Rattle.std.proofs.lemmas.Bool.Decides.{Decides-eqb}
-use Rattle.std.proofs.lemmas.Int.{ints}
+use Rattle.std.proofs.Common.{◌≡◌, ◌⊎◌, inl, inr, ℕ, ◌≤◌, Bool, ℤ, pos, ◌-ℤ◌, neg_ℤ, List, length, refl, sym, ap, subst, ◌∙◌, arith}
+use Rattle.std.proofs.lemmas.{Bool.Decides.Decides-eqb, Int.ints}
 use Rattle.integers.proofs.lists.Members.{IsIn, contains_from_in, is_in}
 use Rattle.integers.proofs.vectors.BaseSums.{unit_base, unit_sum}
-use Rattle.integers.specs.Vectors.{Vector, vector, plus, minus, HasDimension}
+use Rattle.integers.specs.Vectors.{Vector, minus, HasDimension}
 use Rattle.periodic_net.specs.Graph.{Graph, Arc, arc, reverse_of, IsArc, IsQuotientVertex, Vertex, vertex, IsVertex}
 use Rattle.periodic_net.specs.Maps.{Iso, IsPeriodic}
 use Rattle.periodic_net.proofs.CallerLemmas.{arc_turned, reverse_twice}
@@ -12,8 +11,7 @@ use Rattle.key_theory.proofs.CallerLemmas.{arc_by_edge, edge_is_arc, reverse_is_
 use Rattle.cgd_read.specs.Spelling.{is_forward, spelled, edge_of}
 use Rattle.cover_answers.specs.ReadBack.{new_number}
 use Rattle.cover_answers.proofs.NamedRows.{old_number, same_number, order_back, renumbered, ends_in, number_at, number_within, number_there}
-use Rattle.cover_answers.proofs.NewLists.{place_below}
-use Rattle.cover_answers.proofs.RowLines.{AreRowEdges}
+use Rattle.cover_answers.proofs.{NewLists.place_below, RowLines.AreRowEdges}
 
 negative : (x : ℤ) → pos 0 -ℤ x ≡ neg_ℤ x
 negative x = omega (arith, ints)
@@ -21,8 +19,7 @@ negative x = omega (arith, ints)
 -- the spelling of an arc is the arc or its reverse
 pub spelling_is : (t : Bool) (u v : ℕ) (s : Vector) → (edge_of (spelled t u v s.x s.y s.z) ≡ arc u v s)
     ⊎ (edge_of (spelled t u v s.x s.y s.z) ≡ reverse_of (arc u v s))
-spelling_is true u v s = inl refl
-spelling_is false u v s = inr (λ i. arc v u (vector (negative s.x i) (negative s.y i) (negative s.z i)))
+spelling_is t u v s = search (arith, negative)
 
 module _ (G H : Graph) (done : List Arc) (rows : AreRowEdges G.dimension G.vertices done) (dimension : G.dimension ≡ H.dimension)
     (count : H.vertices ≡ length (order_back done))
@@ -82,11 +79,7 @@ module _ (G H : Graph) (done : List Arc) (rows : AreRowEdges G.dimension G.verti
 
   -- of an edge with new numbers it is the edge
   old_edge : (e : Arc) → IsIn G.edges e → old_arc (arc (to_new e.from) (to_new e.to) e.shift) ≡ e
-  old_edge e i =
-      let w = ends_in done e (listed e i) in
-      let from = old_of_new e.from w.0 in
-      let to = old_of_new e.to w.1 in
-      λ t. arc (from t) (to t) e.shift
+  old_edge e i = search (arith, ends_in, old_of_new)
 
   edge_back : (e y : Arc) → IsIn G.edges e → edge_of (renumbered order e) ≡ y → IsArc G (old_arc y)
   edge_back e y i q = elim (spelling_is (is_forward (to_new e.from) (to_new e.to) e.shift.x e.shift.y e.shift.z) (to_new e.from) (to_new e.to) e.shift) [
@@ -118,20 +111,10 @@ module _ (G H : Graph) (done : List Arc) (rows : AreRowEdges G.dimension G.verti
   vertex_back x v = record { over = old_vertex x.over v.over; cell = subst (λ (d : ℕ). HasDimension d x.cell) (sym dimension) v.cell }
 
   there_period : IsPeriodic G H there 1 unit_base
-  there_period = record {
-    positive = omega arith;
-    into = vertex_there;
-    repeats =
-        λ w k v f. ap (λ (s : Vector). vertex (to_new w.over) (plus w.cell s)) (unit_sum k);
-  }
+  there_period = search (arith, vertex_there, unit_sum)
 
   back_period : IsPeriodic H G back 1 unit_base
-  back_period = record {
-    positive = omega arith;
-    into = vertex_back;
-    repeats =
-        λ x k v f. ap (λ (s : Vector). vertex (to_old x.over) (plus x.cell s)) (unit_sum k);
-  }
+  back_period = search (arith, vertex_back, unit_sum)
 
   -- so the two are isomorphic
   pub renumbered_iso : Iso G H

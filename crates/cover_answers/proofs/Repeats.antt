@@ -1,17 +1,13 @@
 -- No row repeats an edge of another.
-use Rattle.std.proofs.Common.{◌≡◌, ◌⊎◌, inl, inr, ℕ, ◌+◌, ◌-◌, Bool, false, cond, List, [], ◌∷◌, get_or, refl, sym, ap, subst, ◌∙◌}
+use Rattle.std.proofs.Common.{◌≡◌, ◌⊎◌, inl, inr, ℕ, ◌+◌, ◌-◌, Bool, false, cond, List, [], ◌∷◌, get_or, refl, sym, ap, subst, ◌∙◌, arith}
 use Rattle.std.proofs.lemmas.Bool.{cases_Bool}
 use Rattle.integers.proofs.lists.Members.{IsIn, AreApart}
 use Rattle.periodic_net.specs.Graph.{Arc, arc, reverse_of, IsNormalSpelling}
 use Rattle.periodic_net.proofs.CallerLemmas.{one_spelling, reverse_twice}
-use Rattle.cgd_read.specs.Spelling.{is_forward, edge_of}
 use Rattle.cgd_read.specs.Edges.{edges_of, vertices_of, is_repeat, repeats_of, row_edge, same_edge}
-use Rattle.cgd_read.specs.declared.edge.RawEdge.{RawEdge}
-use Rattle.cover_answers.specs.ReadBack.{new_number}
+use Rattle.cgd_read.specs.{Spelling.edge_of, declared.edge.RawEdge.RawEdge}
 use Rattle.cover_answers.proofs.NamedRows.{old_number, order_back, renumbered, renumbered_kept, rows_of, ends_in, read_edges, edge_is, edge_decides}
-use Rattle.cover_answers.proofs.NewLists.{any_in}
-use Rattle.cover_answers.proofs.Renumbered.{spelling_is}
-use Rattle.cover_answers.proofs.RowLines.{row_fields, AreRowEdges}
+use Rattle.cover_answers.proofs.{NewLists.any_in, Renumbered.spelling_is, RowLines.row_fields, RowLines.AreRowEdges}
 
 -- the arc with the old numbers
 abbrev old_arc : List ℕ → Arc → Arc
@@ -20,16 +16,7 @@ old_arc order y = arc (get_or order (y.from - 1) 0) (get_or order (y.to - 1) 0) 
 -- an edge with new numbers determines the edge, up to its direction
 old_edge : (order : List ℕ) (e : Arc) → IsIn order e.from → IsIn order e.to
     → (old_arc order (edge_of (renumbered order e)) ≡ e) ⊎ (old_arc order (edge_of (renumbered order e)) ≡ reverse_of e)
-old_edge order e i j =
-    let from = old_number order e.from i in
-    let to = old_number order e.to j in
-    elim (spelling_is (is_forward (new_number order e.from) (new_number order e.to) e.shift.x e.shift.y e.shift.z) (new_number order e.from)
-    (new_number order e.to) e.shift) [
-      | inl q ↦ inl (ap (old_arc order) q ∙ (λ t. arc (from t) (to t) e.shift))
-      | inr q ↦ inr (ap (old_arc order) q
-          ∙ ap reverse_of (let p : arc (get_or order (new_number order e.from - 1) 0) (get_or order (new_number order e.to - 1) 0) e.shift ≡ e =
-          λ t. arc (from t) (to t) e.shift in p))
-    ]
+old_edge order e i j = grind (arith, old_number, spelling_is)
 
 -- edges in normal spelling with the same new numbers are one
 same_edges : (order : List ℕ) (e f : Arc) → IsNormalSpelling e → IsNormalSpelling f → IsIn order e.from × IsIn order e.to → IsIn order f.from × IsIn order f.to

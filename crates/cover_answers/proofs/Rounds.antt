@@ -1,28 +1,22 @@
 -- Where all blocks of a text are covered, the text of the covers is read as the nets that were given.
 use Rattle.std.proofs.Common.{◌≡◌, inl, inr, ℕ, ◌*◌, List, [], ◌∷◌, ◌++◌, refl, sym, ap, subst, ◌∙◌}
+use Rattle.std.proofs.lemmas.List.{Elements.All-from_recursion, Sorted.length_permutation}
 use Rattle.std.specs.List.{AllByRecursion, Contains}
-use Rattle.std.proofs.lemmas.List.Elements.{All-from_recursion}
-use Rattle.std.proofs.lemmas.List.Sorted.{length_permutation}
 use Rattle.integers.proofs.lists.Members.{IsIn, AreApart, contains_from_in}
 use Rattle.periodic_net.specs.Graph.{Graph, Arc}
 use Rattle.periodic_net.proofs.CallerLemmas.{iso_transitive}
 use Rattle.sublattice.specs.Sublattices.{index_of}
-use Rattle.cgd_read.specs.Blocks.{blocks_of}
-use Rattle.cgd_read.specs.Graphs.{graph_of}
 use Rattle.cgd_read.specs.Views.{RawView, BodyView, Net, Other, Faulty, BlockView}
+use Rattle.cgd_read.specs.{Blocks.blocks_of, Graphs.graph_of}
 use Rattle.net_cover.specs.Cells.{CellView}
-use Rattle.cover_answers.specs.Blocks.{graph_text}
 use Rattle.cover_answers.specs.Printed.{MayBePrinted, NamedGraph, blocks_text, named_graph}
 use Rattle.cover_answers.specs.ReadBack.{AreReadBack, IsReadBack, new_number, order_of}
-use Rattle.cover_answers.proofs.ReadBack.{blocks_are_read_back}
-use Rattle.cover_answers.proofs.ReadBlocks.{covers_may_be_printed}
 use Rattle.cover_answers.specs.Covers.{AreCoversOf, IsCoverOf, IsCoverOfNet, covers_text}
-use Rattle.cover_answers.specs.RoundLaws.{CoversAreReadBack}
-use Rattle.cover_answers.specs.Rounds.{AreReadAsCovers, IsReadAsCover}
-use Rattle.quotient_graph.proofs.CallerLemmas.{in_order_iso}
+use Rattle.cover_answers.specs.{Blocks.graph_text, RoundLaws.CoversAreReadBack, Rounds.AreReadAsCovers, Rounds.IsReadAsCover}
 use Rattle.cover_answers.proofs.FlatNets.{IsFlatBlock, IsFlatBody, IsFlatNet, blocks_flat}
-use Rattle.cover_answers.proofs.RowNets.{graph_apart, graph_edge}
 use Rattle.cover_answers.proofs.SameSizes.{IsReadEdge, same_edges, same_vertices}
+use Rattle.cover_answers.proofs.{ReadBack.blocks_are_read_back, ReadBlocks.covers_may_be_printed, RowNets.graph_apart, RowNets.graph_edge}
+use Rattle.quotient_graph.proofs.CallerLemmas.{in_order_iso}
 
 -- what is known of the graph of a net that was read
 

@@ -1,17 +1,12 @@
 -- The edges of rows: each is between the vertices, none stands twice, and they are flat where the rows are.
-use Rattle.std.proofs.Common.{◌≡◌, ◌⊎◌, inl, inr, ℕ, ◌≤◌, ◌==◌, ℤ, pos, ◌-ℤ◌, Bool, true, false, List, [], ◌∷◌, length, refl, sym, ap, subst, ◌∙◌, arith}
-use Rattle.std.specs.Ordering.{int_eq}
+use Rattle.std.proofs.Common.{◌≡◌, ◌⊎◌, inl, inr, ℕ, ◌≤◌, ◌==◌, ℤ, pos, Bool, true, List, [], ◌∷◌, length, sym, subst, ◌∙◌, arith}
+use Rattle.std.proofs.lemmas.{Bool.cases_Bool, Bool.false≢true, Bool.Decides.Decides-eqb, Slice.Eq.bytes_eq-Decides}
 use Rattle.std.specs.Str.{bytes_eq}
-use Rattle.std.proofs.lemmas.Bool.{cases_Bool, false≢true}
-use Rattle.std.proofs.lemmas.Bool.Decides.{Decides-eqb, Decides-int_eq}
-use Rattle.std.proofs.lemmas.Slice.Eq.{bytes_eq-Decides}
 use Rattle.integers.proofs.lists.Members.{IsIn, AreApart}
 use Rattle.periodic_net.specs.Graph.{IsNormalSpelling}
 use Rattle.cgd_read.specs.Spelling.{spelled, is_forward, normal, edge_of}
 use Rattle.cgd_read.specs.Edges.{with_new, vertices_of, vertex_number, row_edge, same_edge, edges_of, first_size, has_rows}
-use Rattle.cgd_read.specs.Lines.{FieldsView}
-use Rattle.cgd_read.specs.Reading.{IsFlat}
-use Rattle.cgd_read.specs.declared.edge.RawEdge.{RawEdge}
+use Rattle.cgd_read.specs.{Lines.FieldsView, Reading.IsFlat, declared.edge.RawEdge.RawEdge}
 use Rattle.cgd_read.proofs.CallerLemmas.{IsZero, normal_spelled, size_now}
 use Rattle.cover_answers.proofs.NewPlaces.{tells_new, apart_new, has_place}
 use Rattle.cover_answers.proofs.NamedRows.{edge_decides}
@@ -26,21 +21,11 @@ abbrev pub IsSpelled : RawEdge → Type 0
 IsSpelled e = IsNormalSpelling (edge_of e) ⊎ ((e.u ≡ e.v) × IsZero e.x e.y e.z)
 
 zero_or_not : (x y z : ℤ) → IsZero x y z ⊎ ¬ IsZero x y z
-zero_or_not x y z = elim (cases_Bool (int_eq x (pos 0))) [
-  | inr n ↦ inr (λ h. false≢true (sym n ∙ (Decides-int_eq x (pos 0)).1 h.0))
-  | inl a ↦ elim (cases_Bool (int_eq y (pos 0))) [
-    | inr n ↦ inr (λ h. false≢true (sym n ∙ (Decides-int_eq y (pos 0)).1 h.1))
-    | inl b ↦ elim (cases_Bool (int_eq z (pos 0))) [
-      | inr n ↦ inr (λ h. false≢true (sym n ∙ (Decides-int_eq z (pos 0)).1 h.2))
-      | inl c ↦ inl ((Decides-int_eq x (pos 0)).0 a, (Decides-int_eq y (pos 0)).0 b, (Decides-int_eq z (pos 0)).0 c)
-    ]
-  ]
-]
+zero_or_not x y z = search (arith, cases_Bool, false≢true)
 
 -- a loop without a shift, either way
 point_spelled : (t : Bool) (u v : ℕ) (x y z : ℤ) → u ≡ v → IsZero x y z → IsSpelled (spelled t u v x y z)
-point_spelled true u v x y z e h = inr (e, h)
-point_spelled false u v x y z e h = inr (sym e, (ap (λ (w : ℤ). pos 0 -ℤ w) h.0, ap (λ (w : ℤ). pos 0 -ℤ w) h.1, ap (λ (w : ℤ). pos 0 -ℤ w) h.2))
+point_spelled t u v x y z k l = search arith
 
 edge_spelled : (u v : ℕ) (x y z : ℤ) → IsSpelled (normal u v x y z)
 edge_spelled u v x y z = elim (zero_or_not x y z) [
@@ -62,16 +47,11 @@ pub record IsBetween (n : ℕ) (e : RawEdge) : Type 0 where
   pub spelling : IsSpelled e
 
 spelled_between : (n : ℕ) (t : Bool) (u v : ℕ) (x y z : ℤ) → IsOneOf n u → IsOneOf n v → IsOneOf n (spelled t u v x y z).u × IsOneOf n (spelled t u v x y z).v
-spelled_between n true u v x y z a b = (a, b)
-spelled_between n false u v x y z a b = (b, a)
+spelled_between n t u v x y z h k = search arith
 
 -- with more vertices too
 wider : (m n : ℕ) (e : RawEdge) → m ≤ n → IsBetween m e → IsBetween n e
-wider m n e l h = record {
-  first = (h.first.0, let a = h.first.1 in omega (arith, a, l));
-  second = (h.second.0, let a = h.second.1 in omega (arith, a, l));
-  spelling = h.spelling;
-}
+wider m n e l h = search arith
 
 -- each edge of rows is such a one
 pub each_between : (rows : List FieldsView) (e : RawEdge) → IsIn (edges_of rows) e → IsBetween (length (vertices_of rows)) e
@@ -82,10 +62,7 @@ each_between (row ∷ rows) e i = by (each_between rows e)
     by old =
         let first = has_place bytes_eq bytes_eq-Decides (vertices_of rows) row.u in
         let second = has_place bytes_eq bytes_eq-Decides (with_new bytes_eq (vertices_of rows) row.u) row.v in
-        let l = first.longer in
-        let m = second.longer in
-        let a = first.within in
-        let b = second.within in
+        let l = first.longer in let m = second.longer in let a = first.within in let b = second.within in
         elim (tells_new same_edge edge_decides (edges_of rows) (row_edge (vertices_of rows) row) e i) [
           | inl j ↦ wider (length (vertices_of rows)) (length (vertices_of (row ∷ rows))) e (omega (arith, l, m)) (old j)
           | inr q ↦
@@ -102,12 +79,10 @@ AreFlatRows rows = (e : RawEdge) → IsIn (edges_of rows) e → first_size rows 
 
 -- where there is an edge, there is a row
 some_row : (rows : List FieldsView) (e : RawEdge) → IsIn (edges_of rows) e → has_rows rows ≡ true
-some_row [] e i = absurd i
-some_row (row ∷ rows) e i = refl
+some_row rows e h = search arith
 
 spelled_flat : (t : Bool) (u v : ℕ) (x y z : ℤ) → z ≡ pos 0 → (spelled t u v x y z).z ≡ pos 0
-spelled_flat true u v x y z h = h
-spelled_flat false u v x y z h = ap (λ (w : ℤ). pos 0 -ℤ w) h
+spelled_flat t u v x y z k = search arith
 
 -- the same with one more row, which has as many fields
 pub flat_with : (rows : List FieldsView) (row : FieldsView) → IsFlat row → (has_rows rows ≡ true → row.size ≡ first_size rows) → AreFlatRows rows

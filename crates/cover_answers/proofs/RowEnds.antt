@@ -1,11 +1,8 @@
 -- Each vertex of a graph that was read is an end of an edge, and an isomorphic graph has such ends too.
-use Rattle.std.proofs.Common.{◌≡◌, ◌⊎◌, inl, inr, ℕ, ◌<◌, ◌≤◌, Bool, true, false, List, [], ◌∷◌, ◌++◌, length, length-append, map, refl, sym, ap, subst, arith}
-use Rattle.std.proofs.lemmas.Bool.{cases_lt}
-use Rattle.std.proofs.lemmas.Slice.Eq.{bytes_eq-Decides}
-use Rattle.std.proofs.lemmas.List.Sorted.{Contains-permutation}
+use Rattle.std.proofs.Common.{◌≡◌, ◌⊎◌, inl, inr, ℕ, ◌<◌, ◌≤◌, Bool, List, [], ◌∷◌, ◌++◌, length, length-append, map, refl, sym, ap, subst, arith}
+use Rattle.std.proofs.lemmas.{Bool.cases_lt, Slice.Eq.bytes_eq-Decides, List.Sorted.Contains-permutation}
 use Rattle.std.specs.Str.{bytes_eq}
-use Rattle.integers.proofs.lists.Members.{IsIn, contains_from_in}
-use Rattle.integers.proofs.vectors.Laws.{minus_plus, plus_dimension}
+use Rattle.integers.proofs.{lists.Members.IsIn, lists.Members.contains_from_in, vectors.Laws.minus_plus, vectors.Laws.plus_dimension}
 use Rattle.integers.specs.Vectors.{zero_vector, plus}
 use Rattle.periodic_net.specs.Graph.{Graph, Arc, arc, reverse_of, IsArc, IsGraph, IsQuotientVertex, Vertex, vertex, IsVertex, AreJoined}
 use Rattle.periodic_net.specs.Maps.{Iso}
@@ -14,9 +11,7 @@ use Rattle.key_theory.proofs.CallerLemmas.{arc_by_edge, edge_is_arc}
 use Rattle.quotient_graph.specs.Stars.{IsInOrder}
 use Rattle.cgd_read.specs.Spelling.{is_forward, spelled, edge_of}
 use Rattle.cgd_read.specs.Edges.{with_new, vertices_of, vertex_number, row_edge, edges_of, same_edge}
-use Rattle.cgd_read.specs.Graphs.{graph_of, net_of}
-use Rattle.cgd_read.specs.Lines.{FieldsView}
-use Rattle.cgd_read.specs.declared.edge.RawEdge.{RawEdge}
+use Rattle.cgd_read.specs.{Graphs.graph_of, Graphs.net_of, Lines.FieldsView, declared.edge.RawEdge.RawEdge}
 use Rattle.cover_answers.specs.Printed.{EndsAt}
 use Rattle.cover_answers.proofs.NamedRows.{edge_decides}
 use Rattle.cover_answers.proofs.NewLists.{has_new, keeps, grown_is, place_none}
@@ -34,8 +29,7 @@ meets_kept es e k h = record { edge = h.edge; is_edge = keeps same_edge edge_dec
 spelled_ends : (t : Bool) (u v : ℕ) (row : FieldsView)
     → (((spelled t u v row.x row.y row.z).u ≡ u) ⊎ ((spelled t u v row.x row.y row.z).v ≡ u))
     × (((spelled t u v row.x row.y row.z).u ≡ v) ⊎ ((spelled t u v row.x row.y row.z).v ≡ v))
-spelled_ends true u v row = (inl refl, inr refl)
-spelled_ends false u v row = (inr refl, inl refl)
+spelled_ends t u v row = search arith
 
 -- a list that has grown has the old places, and where it has a new one it is that of the new name
 grown_places : (names : List (List ℕ)) (name : List ℕ) (k : ℕ) → 1 ≤ k → k ≤ length (with_new bytes_eq names name)

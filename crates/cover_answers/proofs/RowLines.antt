@@ -1,21 +1,16 @@
 -- The rows of a printed graph, as lines.
 use Rattle.std.proofs.Common.{◌≡◌, ◌≢◌, ◌⊎◌, inl, inr, ℕ, ◌+◌, ◌≤◌, ◌==◌, ◌||◌, true, false, ℤ, pos, List, [], ◌∷◌, ◌++◌, Option, None, Some, refl, sym, ap}
 use Rattle.std.proofs.Common.{subst, ◌∙◌, arith, append_assoc}
-use Rattle.std.specs.Prelude.{is_none, unsigned_abs}
-use Rattle.std.specs.Fmt.{decimal, signed_decimal}
 use Rattle.std.proofs.lemmas.Bool.{cases_Bool, true≢false}
 use Rattle.std.proofs.lemmas.List.Elements.{All-nil, All-cons, All-append, All-weaker}
+use Rattle.std.specs.{Prelude.is_none, Prelude.unsigned_abs, Fmt.decimal, Fmt.signed_decimal}
 use Rattle.integers.specs.Vectors.{zero_vector, HasDimension, IsWithin}
-use Rattle.periodic_net.specs.Graph.{Arc, IsNormalSpelling}
-use Rattle.periodic_net.specs.Limits.{most_vertices, most_shift}
+use Rattle.periodic_net.specs.{Graph.Arc, Graph.IsNormalSpelling, Limits.most_vertices, Limits.most_shift}
 use Rattle.line_text.specs.Numbers.{numbers_text, list_text}
 use Rattle.graph_rows.specs.Rows.{edge_numbers}
-use Rattle.cgd_lex.specs.Pieces.{is_run_byte}
-use Rattle.cgd_lex.specs.Tokens.{tokens_of_line}
-use Rattle.cgd_lex.proofs.Ends.{same}
+use Rattle.cgd_lex.specs.{Pieces.is_run_byte, Tokens.tokens_of_line}
 use Rattle.cgd_read.specs.Lines.{LineView, FieldsView, line_of, part_or_zero}
-use Rattle.cgd_read.specs.Values.{part_of}
-use Rattle.cgd_read.specs.declared.line.LineKind.TheVariants.{Bare}
+use Rattle.cgd_read.specs.{Values.part_of, declared.line.LineKind.TheVariants.Bare}
 use Rattle.cover_answers.specs.Blocks.{edge_line, edge_lines}
 use Rattle.cover_answers.proofs.LineTokens.{AreShort, list_tokens}
 use Rattle.cover_answers.proofs.NumberBytes.{IsShort, number_bytes, number_read}
@@ -64,22 +59,10 @@ part_read : (x : ℤ) → unsigned_abs x ≤ most_shift → part_of (signed_deci
 part_read x l = number_read most_shift x (short_part x l) l
 
 short_flat : (n : ℕ) (e : Arc) → IsRowEdge 2 n e → AreShort (edge_numbers 2 e)
-short_flat n e h = (
-  short_vertex e.from n h.from.1 h.few,
-  (
-    short_vertex e.to n h.to.1 h.few,
-    (short_part e.shift.x h.small.0, (short_part e.shift.y h.small.1, tt)),
-  ),
-)
+short_flat n e h = omega (arith, short_vertex, short_part)
 
 short_space : (n : ℕ) (e : Arc) → IsRowEdge 3 n e → AreShort (edge_numbers 3 e)
-short_space n e h = (
-  short_vertex e.from n h.from.1 h.few,
-  (
-    short_vertex e.to n h.to.1 h.few,
-    (short_part e.shift.x h.small.0, (short_part e.shift.y h.small.1, (short_part e.shift.z h.small.2, tt))),
-  ),
-)
+short_space n e h = omega (arith, short_vertex, short_part)
 
 -- the line of the tokens of a row
 flat_line : (n : ℕ) (e : Arc) (at m : ℕ) → IsRowEdge 2 n e → line_of (tokens_of_line at m (list_text (edge_numbers 2 e))) ≡ row_line 2 e m ∷ []
@@ -122,10 +105,7 @@ space_line n e at m h =
 
 -- a byte of a run is no line feed
 run_no_feed : (b : ℕ) → is_run_byte b ≡ true → (b == 10) ≡ false
-run_no_feed b h = elim (cases_Bool (b == 10)) [
-  | inl e ↦ absurd (true≢false (sym h ∙ ap is_run_byte (same b 10 e)))
-  | inr e ↦ e
-]
+run_no_feed b h = search (arith, cases_Bool, true≢false)
 
 pub number_no_feed : (x : ℤ) → IsShort x → HasNoFeed (signed_decimal x)
 number_no_feed x h =

@@ -1,15 +1,9 @@
 -- The graph of rows: its edges are between its vertices, and none stands twice.
-use Rattle.std.proofs.Common.{◌≡◌, ◌⊎◌, inl, inr, map, ap, subst, arith, List}
+use Rattle.std.proofs.Common.{◌≡◌, ◌⊎◌, map, ap, subst, arith, List}
 use Rattle.integers.specs.Vectors.{zero_vector}
-use Rattle.integers.proofs.lists.Members.{IsIn, AreApart}
-use Rattle.integers.proofs.lists.Pieces.{in_map, map_apart}
-use Rattle.integers.proofs.vectors.Laws.{vector_equal}
+use Rattle.integers.proofs.{lists.Members.IsIn, lists.Members.AreApart, lists.Pieces.in_map, lists.Pieces.map_apart, vectors.Laws.vector_equal}
 use Rattle.periodic_net.specs.Graph.{Arc, IsNormalSpelling}
-use Rattle.cgd_read.specs.Edges.{edges_of}
-use Rattle.cgd_read.specs.Spelling.{edge_of}
-use Rattle.cgd_read.specs.Graphs.{graph_of, net_of}
-use Rattle.cgd_read.specs.Lines.{FieldsView}
-use Rattle.cgd_read.specs.declared.edge.RawEdge.{RawEdge}
+use Rattle.cgd_read.specs.{Edges.edges_of, Spelling.edge_of, Graphs.graph_of, Graphs.net_of, Lines.FieldsView, declared.edge.RawEdge.RawEdge}
 use Rattle.cover_answers.proofs.RowEdges.{AreFlatRows, IsSpelled, each_between, edges_apart}
 use Rattle.cover_answers.proofs.SameSizes.{IsReadEdge}
 
@@ -24,8 +18,7 @@ pub graph_apart : (rows : List FieldsView) → AreApart (map edge_of (edges_of r
 graph_apart rows = map_apart edge_of (edges_of rows) one_edge (edges_apart rows)
 
 spelling_of : (e : RawEdge) → IsSpelled e → IsNormalSpelling (edge_of e) ⊎ (((edge_of e).from ≡ (edge_of e).to) × ((edge_of e).shift ≡ zero_vector))
-spelling_of e (inl n) = inl n
-spelling_of e (inr p) = inr (p.0, vector_equal p.1.0 p.1.1 p.1.2)
+spelling_of e h = search (arith, vector_equal)
 
 pub graph_edge : (rows : List FieldsView) → AreFlatRows rows → (y : Arc) → IsIn (map edge_of (edges_of rows)) y → IsReadEdge (graph_of (net_of rows)) y
 graph_edge rows flat y i =

@@ -2,10 +2,8 @@
 use Rattle.std.proofs.Common.{◌≡◌, ◌⊎◌, inl, inr, ℕ, length, refl, sym, ap, subst, ◌∙◌, arith}
 use Rattle.std.proofs.lemmas.List.Elements.{All-contains}
 use Rattle.integers.specs.Vectors.{Vector, zero_vector, minus}
-use Rattle.integers.proofs.counting.Pigeonhole.{no_more}
-use Rattle.integers.proofs.lists.Counting.{not_longer}
 use Rattle.integers.proofs.lists.Members.{IsIn, AreApart, apart_from_pairs, contains_from_in, is_in}
-use Rattle.integers.proofs.vectors.Laws.{minus_zero}
+use Rattle.integers.proofs.{counting.Pigeonhole.no_more, lists.Counting.not_longer, vectors.Laws.minus_zero}
 use Rattle.periodic_net.specs.Graph.{Graph, Arc, arc, reverse_of, IsArc, IsEdge, IsGraph, IsNormalSpelling, IsQuotientVertex, IsVertex, Vertex, vertex}
 use Rattle.periodic_net.specs.Maps.{Iso}
 use Rattle.periodic_net.proofs.CallerLemmas.{IsInside, arc_inside, arc_between, arc_turned, one_spelling, origin_vertex, reverse_twice}
@@ -94,11 +92,7 @@ module _ (C H : Graph) (new : ℕ → ℕ) (iso : Iso C H) (there : (w : Vertex)
 
   -- an image determines its arc
   image_once : (a e : Arc) → IsInside C a → IsInside C e → image a ≡ image e → a ≡ e
-  image_once a e i j same =
-      let from = new_once a.from e.from i.from j.from (ap (λ (y : Arc). y.from) same) in
-      let to = new_once a.to e.to i.to j.to (ap (λ (y : Arc). y.to) same) in
-      let shift = ap (λ (y : Arc). y.shift) same in
-      λ t. arc (from t) (to t) (shift t)
+  image_once a e i j same = search (arith, new_once)
 
   -- e gives y, which is its image or the reverse
   abbrev Gives : Arc → Arc → Type 0

@@ -1,16 +1,12 @@
 -- The lines of a text, one after another.
-use Rattle.std.proofs.Common.{◌≡◌, ℕ, ◌+◌, ◌==◌, not, Bool, true, false, cond, List, [], ◌∷◌, ◌++◌, length, Some, refl, sym, ap, ◌∙◌, append_assoc}
-use Rattle.std.specs.Prelude.{All}
-use Rattle.std.specs.List.{flat_map, list_all}
-use Rattle.std.proofs.lemmas.Bool.{and_parts, not-true}
+use Rattle.std.proofs.Common.{◌≡◌, ℕ, ◌+◌, ◌==◌, not, Bool, true, false, cond, List, [], ◌∷◌, ◌++◌, length, Some, refl, sym, ap, ◌∙◌, append_assoc, arith}
 use Rattle.std.proofs.lemmas.List.Elements.{All-nil, All-cons, All-append}
-use Rattle.std.proofs.lemmas.List.Splits.{slice_split_at}
-use Rattle.cgd_lex.specs.Lines.{is_newline, filled_line, filled_lines}
-use Rattle.cgd_lex.specs.Pieces.{Piece, Blank, Comment, Closed, Unclosed, Control, Run, bytes_of, cut_of}
-use Rattle.cgd_lex.specs.Tokens.{TokenView, tokens_of_line, tokens_of_pieces, token_at, tokens_from, kind_of_piece, kind_of_run, is_whole, newline, later_lines}
-use Rattle.cgd_lex.specs.Tokens.{first_of, others_of}
-use Rattle.cgd_lex.specs.declared.token.TokenKind.{TokenKind}
-use Rattle.cgd_lex.specs.declared.token.TokenKind.TheVariants.{Word, Whole, Quoted, Bad}
+use Rattle.std.proofs.lemmas.{Bool.and_parts, Bool.not-true, List.Splits.slice_split_at}
+use Rattle.std.specs.{Prelude.All, List.list_all}
+use Rattle.cgd_lex.specs.Pieces.{Piece, bytes_of, cut_of}
+use Rattle.cgd_lex.specs.Tokens.{TokenView, tokens_of_line, tokens_of_pieces, token_at, tokens_from, kind_of_piece, newline}
+use Rattle.cgd_lex.specs.{Lines.is_newline, declared.token.TokenKind.TokenKind, declared.token.TokenKind.TheVariants.Word}
+use Rattle.cgd_lex.specs.{declared.token.TokenKind.TheVariants.Whole}
 use Rattle.cgd_lex.proofs.Steps.{split_some}
 use Rattle.cgd_read.specs.Lines.{LineView, line_of, token_lines}
 
@@ -30,19 +26,13 @@ abbrev IsInLine : TokenView → Type 0
 IsInLine t = is_newline t.kind ≡ false
 
 run_in_line : (t : Bool) → is_newline (cond t Whole Word) ≡ false
-run_in_line true = refl
-run_in_line false = refl
+run_in_line t = search arith
 
 one_in_line : (at line : ℕ) (bytes : List ℕ) (kind : TokenKind) → is_newline kind ≡ false → All IsInLine (token_at at line bytes (Some kind))
 one_in_line at line bytes kind e = All-cons IsInLine (record { kind = kind; text = bytes; start = at; line = line }) [] e (All-nil IsInLine)
 
 piece_in_line : (at line : ℕ) (p : Piece) → All IsInLine (token_at at line (bytes_of p) (kind_of_piece p))
-piece_in_line at line (Blank b) = All-nil IsInLine
-piece_in_line at line (Comment bs) = All-nil IsInLine
-piece_in_line at line (Closed bs) = one_in_line at line (bytes_of (Closed bs)) Quoted refl
-piece_in_line at line (Unclosed bs) = one_in_line at line (bytes_of (Unclosed bs)) Bad refl
-piece_in_line at line (Control b) = one_in_line at line (bytes_of (Control b)) Bad refl
-piece_in_line at line (Run b bs) = one_in_line at line (bytes_of (Run b bs)) (kind_of_run (b ∷ bs)) (run_in_line (is_whole (b ∷ bs)))
+piece_in_line at line p = grind (arith, one_in_line, run_in_line)
 
 all_in_line : (at line : ℕ) (ps : List Piece) → All IsInLine (tokens_of_pieces at line ps)
 all_in_line at line [] = All-nil IsInLine
@@ -50,25 +40,14 @@ all_in_line at line (p ∷ ps) =
     All-append IsInLine (token_at at line (bytes_of p) (kind_of_piece p)) (tokens_of_pieces (at + length (bytes_of p)) line ps) (piece_in_line at line p)
     (all_in_line (at + length (bytes_of p)) line ps)
 
--- the tokens of a line, its Newline, and the tokens of the rest
-abbrev from_lines : ℕ → ℕ → List (List ℕ) → List TokenView
-from_lines at line ls = tokens_of_line at line (first_of ls) ++ later_lines (at + length (first_of ls)) line (others_of ls)
-
 line_tokens : (at n : ℕ) (bytes rest : List ℕ) → HasNoFeed bytes
     → tokens_from at n (bytes ++ 10 ∷ rest) ≡ tokens_of_line at n bytes ++ newline (at + length bytes) n ∷ tokens_from (at + length bytes + 1) (n + 1) rest
-line_tokens at n bytes rest h =
-    ap (from_lines at n) (slice_split_at (λ (x : ℕ). x == 10) bytes 10 rest h refl)
-    ∙ ap (λ (ls : List (List ℕ)). tokens_of_line at n bytes ++ later_lines (at + length bytes) n ls) (split_some rest)
+line_tokens at n bytes rest h = search (arith, slice_split_at, split_some)
 
 -- the line of tokens before a Newline, and the lines of those after it
 before_newline : (ts us : List TokenView) (t : TokenView) → All IsInLine ts → is_newline t.kind ≡ true
     → token_lines (ts ++ t ∷ us) ≡ line_of ts ++ token_lines us
-before_newline ts us t h e = ap (λ (ls : List (List TokenView)). flat_map line_of (flat_map filled_line ls))
-    (slice_split_at (λ (t : TokenView). is_newline t.kind) ts t us h e) ∙ by ts
-  where
-    by : (ts : List TokenView) → flat_map line_of (filled_line ts ++ filled_lines us) ≡ line_of ts ++ token_lines us
-    by [] = refl
-    by (t ∷ ts) = refl
+before_newline ts us t h e = search (arith, slice_split_at)
 
 -- the lines of a text that begins at this place, in the line of this number
 abbrev pub lines_at : ℕ → ℕ → List ℕ → List LineView

@@ -1,9 +1,8 @@
 -- The greatest common divisor is a combination.
 use Rattle.std.proofs.Common.{ℕ, pos, ap, ◌∙◌}
-use Rattle.std.specs.Int.{IsGcd}
 use Rattle.std.proofs.lemmas.Nat.Gcd.{same_from_IsGcd}
-use Rattle.integers.proofs.numbers.Bezout.{Bezout, bezout}
-use Rattle.integers.proofs.numbers.Gcd.{bezout_gcd}
+use Rattle.std.specs.Int.{IsGcd}
+use Rattle.integers.proofs.numbers.{Bezout.Bezout, Bezout.bezout, Gcd.bezout_gcd}
 use Rattle.exact.specs.Combination.{IsCombination}
 
 -- the greatest common divisor of two numbers is a combination of them

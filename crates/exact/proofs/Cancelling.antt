@@ -1,14 +1,10 @@
 -- What can be cancelled modulo m: the denominators of the number types, and the numerators of what has an inverse.
 use Rattle.std.proofs.Common.{◌≡◌, ◌≢◌, ◌⊎◌, ℕ, zero, suc, arith, ◌*◌, ◌≤◌, ap, sym, refl, subst, ◌∙◌, ⊎_elim}
+use Rattle.std.proofs.{lemmas.Nat.Gcd.same_from_IsGcd, lemmas.Bool.cases_eq, Math.Nat.mul_comm}
 use Rattle.std.specs.Prelude.{ℤ, pos, ◌+ℤ◌, ◌*ℤ◌, neg_ℤ, unsigned_abs}
 use Rattle.std.specs.Int.{IsGcd}
-use Rattle.std.proofs.lemmas.Nat.Gcd.{same_from_IsGcd}
-use Rattle.std.proofs.lemmas.Bool.{cases_eq}
 use Rattle.integers.proofs.numbers.Ring.{ring, linear, cancel_factor, positive_not_zero}
-use Rattle.integers.proofs.numbers.Bezout.{bezout, Bezout}
-use Rattle.integers.proofs.numbers.Gcd.{bezout_gcd, natural_multiple}
-use Rattle.integers.proofs.numbers.Divisors.{only_one}
-use Rattle.std.proofs.Math.Nat.{mul_comm}
+use Rattle.integers.proofs.numbers.{Bezout.bezout, Bezout.Bezout, Gcd.bezout_gcd, Gcd.natural_multiple, Divisors.only_one}
 use Rattle.exact.specs.Ratio.{Ratio, IsDenominator, HasInverse}
 use Rattle.exact.specs.Values.{CanCancel}
 use Rattle.exact.proofs.WholeMultiples.{cancels_of, cancel}

@@ -1,16 +1,15 @@
 -- Fractions as values modulo m: sums and products of classes, and what can be divided by.
 use Rattle.std.proofs.Common.{◌≡◌, ℕ, ap, sym, refl, ◌∙◌, arith}
 use Rattle.std.specs.Prelude.{ℤ, pos, negsuc, ◌*ℤ◌, neg_ℤ}
-use mathlib.Core.Quot.Quotient
-use mathlib.Core.Quot
 use Rattle.exact.specs.Ratio.{Ratio, Same, HasInverse, ratio_plus, ratio_times, inverse_of, whole}
 use Rattle.exact.specs.Values.{CanCancel}
 use Rattle.exact.proofs.Values.{same_refl, one_cancels, times_cancels}
 use Rattle.exact.proofs.Ring.{Value, class, plus_value, times_value, whole_value, by_value, same, plus_exact, times_exact, times_value_comm, times_value_assoc}
 use Rattle.exact.proofs.Ring.{values, formal}
-use Rattle.exact.proofs.Quotients.{inverse_denominator_cancels}
+use Rattle.exact.proofs.{Quotients.inverse_denominator_cancels, Semiring.IsInvertible}
 use Rattle.integers.proofs.numbers.Ring.{ring, linear}
-use Rattle.exact.proofs.Semiring.{IsInvertible}
+use mathlib.Core.Quot.Quotient
+use mathlib.Core.Quot
 
 module _ (m : ℕ) where
   pub class_same : (a b : Ratio) (h : CanCancel m (pos a.den)) (i : CanCancel m (pos b.den)) → Same m a b → class m a h ≡ class m b i

@@ -1,19 +1,14 @@
 -- Each value has one fraction in lowest terms.
 use Rattle.std.proofs.Common.{◌≡◌, ◌≢◌, ℕ, arith, ◌*◌, ◌≤◌, ap, sym, refl, subst, ◌∙◌}
-use Rattle.std.specs.Prelude.{◌&&◌, ◌<ℤ◌, ℤ, pos, ◌*ℤ◌, ◌-ℤ◌, unsigned_abs}
-use Rattle.std.specs.Bool.{Decides}
-use Rattle.std.specs.Int.{IsGcd, ◌∣◌}
-use Rattle.std.specs.Ordering.{int_eq}
-use Rattle.std.proofs.Props.{props}
 use Rattle.std.proofs.Math.Nat.{mul_comm, eq_of_mul-eq-mul_left, ∣_prop}
-use Rattle.std.proofs.lemmas.Nat.Gcd.{dvd_antisymm, IsGcd-swap}
-use Rattle.std.proofs.lemmas.Int.{ints, unsigned_abs-mul}
 use Rattle.std.proofs.lemmas.Bool.Decides.{Decides-and, Decides-int_eq, Decides-like}
+use Rattle.std.proofs.{Props.props, lemmas.Nat.Gcd.dvd_antisymm, lemmas.Nat.Gcd.IsGcd-swap, lemmas.Int.ints, lemmas.Int.unsigned_abs-mul}
+use Rattle.std.specs.Prelude.{◌&&◌, ◌<ℤ◌, ℤ, pos, ◌*ℤ◌, ◌-ℤ◌, unsigned_abs}
+use Rattle.std.specs.{Bool.Decides, Int.IsGcd, Int.◌∣◌, Ordering.int_eq}
 use Rattle.integers.proofs.numbers.Ring.{ring, linear, cancel_factor, positive_not_zero}
 use Rattle.integers.proofs.numbers.Gcd.{divides_multiple, euclid}
 use Rattle.exact.specs.Ratio.{Ratio, Same, IsDenominator, IsInLowestTerms, ratio}
-use Rattle.exact.proofs.WholeMultiples.{difference_multiple}
-use Rattle.exact.proofs.Values.{same_refl}
+use Rattle.exact.proofs.{WholeMultiples.difference_multiple, Values.same_refl}
 
 -- a fraction is in lowest terms in one way
 pub lowest_terms-prop : (r : Ratio) → IsProp (IsInLowestTerms r)

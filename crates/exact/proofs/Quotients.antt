@@ -3,8 +3,7 @@ use Rattle.std.proofs.Common.{◌≡◌, ℕ, arith, ap}
 use Rattle.std.specs.Prelude.{ℤ, pos, negsuc, ◌+ℤ◌, ◌-ℤ◌, ◌*ℤ◌, neg_ℤ}
 use Rattle.integers.proofs.numbers.Ring.{ring, linear}
 use Rattle.exact.specs.Ratio.{Ratio, Same, HasInverse, IsInverseOf, ratio_times, ratio_over, inverse_of}
-use Rattle.exact.specs.Values.{HasValue}
-use Rattle.exact.specs.Values.{CanCancel}
+use Rattle.exact.specs.Values.{HasValue, CanCancel}
 use Rattle.exact.proofs.WholeMultiples.{same_of, difference_multiple, cancels_of, cancel}
 use Rattle.exact.proofs.Values.{product_cancels}
 use Rattle.exact.proofs.Cancelling.{inverse_cancels, cancelled_has_inverse, opposite_cancels}

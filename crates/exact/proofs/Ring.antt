@@ -2,15 +2,14 @@
 use Rattle.std.proofs.Common.{◌≡◌, ℕ, ap, sym, refl, ◌∙◌, arith}
 use Rattle.std.specs.Prelude.{ℤ, pos, ◌+ℤ◌, ◌-ℤ◌, ◌*ℤ◌, neg_ℤ}
 use mathlib.Core.Quot.{Quotient, Setoid}
-use mathlib.Core.Quot.Quotient
-use mathlib.Core.Quot
 use mathlib.Core.Logic.{∥∥₁_prop, ∥∥₁_elim, ∥∥₁_map}
 use Rattle.exact.specs.Ratio.{Ratio, Same, ratio_plus, ratio_times, whole}
 use Rattle.exact.specs.Values.{CanCancel}
-use Rattle.exact.proofs.WholeMultiples.{same_of}
 use Rattle.exact.proofs.Values.{same_refl, same_sym, same_trans, plus_same, times_same, product_cancels, one_cancels}
+use Rattle.exact.proofs.{WholeMultiples.same_of, Semiring.Semiring}
 use Rattle.integers.proofs.numbers.Ring.{ring, linear}
-use Rattle.exact.proofs.Semiring.{Semiring}
+use mathlib.Core.Quot.Quotient
+use mathlib.Core.Quot
 
 module _ (m : ℕ) where
   pub record Exact : Type 0 where

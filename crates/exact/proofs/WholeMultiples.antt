@@ -1,12 +1,10 @@
 -- What a number divides, with the quotient: how proofs read `Same` and `CanCancel`.
 use Rattle.std.proofs.Common.{◌≡◌, ℕ, suc, arith, ap, ◌∙◌}
+use Rattle.std.proofs.lemmas.Int.{unsigned_abs-mul}
 use Rattle.std.specs.Prelude.{ℤ, pos, negsuc, neg_ℤ, ◌*ℤ◌, ◌-ℤ◌, unsigned_abs}
 use Rattle.std.specs.Int.{◌∣◌}
-use Rattle.std.proofs.lemmas.Int.{unsigned_abs-mul}
-use Rattle.integers.proofs.numbers.Ring.{ring, linear}
-use Rattle.integers.proofs.numbers.Gcd.{quotient_of, divides_multiple}
-use Rattle.exact.specs.Ratio.{Ratio, Same}
-use Rattle.exact.specs.Values.{CanCancel}
+use Rattle.integers.proofs.numbers.{Ring.ring, Ring.linear, Gcd.quotient_of, Gcd.divides_multiple}
+use Rattle.exact.specs.{Ratio.Ratio, Ratio.Same, Values.CanCancel}
 use Rattle.integers.specs.Divisors.{DividesInteger}
 
 -- it is where m divides its absolute value

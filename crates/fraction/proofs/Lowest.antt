@@ -1,8 +1,7 @@
 -- Lowest terms: dividing by the greatest common divisor gives them.
 use Rattle.std.proofs.Common.{◌≡◌, ℕ, arith, ◌/◌, ◌≤◌, sym, subst}
+use Rattle.std.proofs.{Math.Nat.one-dvd, lemmas.Nat.Gcd.dvd_refl}
 use Rattle.std.specs.Int.{IsGcd}
-use Rattle.std.proofs.Math.Nat.{one-dvd}
-use Rattle.std.proofs.lemmas.Nat.Gcd.{dvd_refl}
 use Rattle.integers.proofs.numbers.Cofactors.{lowest_terms}
 use Rattle.fraction.specs.Quotients.{IsLowest}
 

@@ -1,11 +1,10 @@
 -- Which quotients have a reduced fraction of small parts.
 use Rattle.std.proofs.Common.{◌≡◌, ℕ, arith, ◌*◌, ◌≤◌, ap, sym, refl, subst, ◌∙◌}
-use Rattle.std.specs.Prelude.{Bool, true, false, cond, ℤ, pos, neg_ℤ, ◌*ℤ◌, ◌-ℤ◌, unsigned_abs, ◌^◌, ◌-◌}
-use Rattle.std.specs.Int.{IsGcd}
 use Rattle.std.proofs.Math.Nat.{mul_assoc, mul_comm, eq_of_mul-eq-mul_left}
 use Rattle.std.proofs.lemmas.Int.{ints}
-use Rattle.integers.proofs.numbers.Ring.{ring}
-use Rattle.integers.proofs.vectors.Bounds.{abs_negative, bounded_product}
+use Rattle.std.specs.Prelude.{Bool, true, false, cond, ℤ, pos, neg_ℤ, ◌*ℤ◌, ◌-ℤ◌, unsigned_abs, ◌^◌}
+use Rattle.std.specs.Int.{IsGcd}
+use Rattle.integers.proofs.{numbers.Ring.ring, vectors.Bounds.abs_negative, vectors.Bounds.bounded_product}
 use Rattle.exact.specs.Ratio.{Ratio, Same, IsInLowestTerms, ratio}
 use Rattle.exact.proofs.CallerLemmas.{same_of, denominators_equal, numerators_equal, crossed, sizes_crossed}
 use Rattle.fraction.specs.Reduced.{AreSmall, HasSmallParts, IsNarrow}
@@ -21,8 +20,7 @@ same_crossed p q e = same_of (pos 0, product_step (p.num *ℤ pos q.den) (q.num 
 
 -- n or -n has the absolute value n
 signed_size : (s : Bool) (n : ℕ) → unsigned_abs (cond s (neg_ℤ (pos n)) (pos n)) ≡ n
-signed_size false n = refl
-signed_size true n = abs_negative (pos n)
+signed_size s n = search (arith, abs_negative)
 
 -- k over l is g·k over g·l
 factor_step : (g k l : ℤ) → k *ℤ (g *ℤ l) ≡ (g *ℤ k) *ℤ l
@@ -65,8 +63,7 @@ narrow_small s a b k l h n =
 
 -- small coprime parts are a reduced fraction
 coprime_reduced : (s : Bool) (k l : ℕ) → 1 ≤ l → IsGcd k l 1 → IsInLowestTerms (signed_ratio s k l)
-coprime_reduced s k l p c =
-    record { positive = p; coprime = subst (λ t. IsGcd t l 1) (sym (signed_size s k)) c }
+coprime_reduced s k l p c = search (arith, signed_size)
 
 -- of small parts
 small_parts : (s : Bool) (k l : ℕ) → AreSmall k l → HasSmallParts (signed_ratio s k l)
@@ -86,7 +83,4 @@ fraction_small s k l n d e f m = of_parts HasSmallParts s k l n d e f (small_par
 
 -- the product of a small numerator and a small denominator is at most 2^124
 pub cross_small : (p q : Ratio) → HasSmallParts p → HasSmallParts q → unsigned_abs (p.num *ℤ pos q.den) ≤ 2 ^ 124
-cross_small p q h k = wider (unsigned_abs (p.num *ℤ pos q.den)) (bounded_product p.num (pos q.den) (2 ^ 62 - 1) (2 ^ 62 - 1) h.0 k.1)
-  where
-    wider : (n : ℕ) → n ≤ (2 ^ 62 - 1) * (2 ^ 62 - 1) → n ≤ 2 ^ 124
-    wider n h = omega arith
+cross_small p q h k = search (arith, bounded_product)

@@ -1,24 +1,17 @@
 -- What the operations answer, from the quotients that they reduce.
 use Rattle.std.proofs.Common.{◌≡◌, ◌≢◌, ℕ, suc, arith, ◌*◌, ◌≤◌, ap, sym, refl, subst, ◌∙◌, Option, Some, None, ◌+◌, lit<, lit≤}
 use Rattle.std.specs.Prelude.{ℤ, pos, negsuc, neg_ℤ, ◌+ℤ◌, ◌-ℤ◌, ◌*ℤ◌, MatchResult, Result, FitsSigned, unsigned_abs, ◌^◌}
-use Rattle.std.specs.Option.{ok_or}
-use Rattle.std.specs.Int.{w128}
+use Rattle.std.specs.{Option.ok_or, Int.w128}
 use Rattle.integers.proofs.vectors.Bounds.{bounded_sum, bounded_difference, fits_from_bound}
 use Rattle.integers.proofs.numbers.Ring.{ring, linear, other_factor_zero, positive_not_zero}
 use Rattle.exact.specs.Ratio.{Ratio, Same, HasInverse, ratio_plus, ratio_minus, ratio_times, ratio_over, inverse_of, whole, ratio, IsInLowestTerms}
+use Rattle.exact.specs.{Faults.IsWide, Faults.IsOverFault, declared.number.Op.Op, declared.number.Op.TheVariants.Over, declared.number.Wide.Wide}
+use Rattle.exact.specs.{declared.number.OverFault.OverFault}
 use Rattle.exact.proofs.CallerLemmas.{crossed}
-use Rattle.exact.specs.Faults.{IsWide, IsOverFault}
-use Rattle.exact.specs.declared.number.Op.{Op}
-use Rattle.exact.specs.declared.number.Op.TheVariants.{Over}
-use Rattle.exact.specs.declared.number.Wide.{Wide}
-use Rattle.exact.specs.declared.number.OverFault.{OverFault}
+use Rattle.fraction.specs.{Reduced.HasSmallParts, Reduced.IsNarrow, Quotients.quotient, Values.fraction_value, Values.IsFractionOf}
+use Rattle.fraction.specs.{declared.numbers.Fraction.Fraction}
+use Rattle.fraction.proofs.{Lowest.coprime_to_one, Narrow.same_crossed}
 use Rattle.exact.specs.declared.number.OverFault.TheVariants.{Wide as WideQuotient}
-use Rattle.fraction.specs.Reduced.{HasSmallParts, IsNarrow}
-use Rattle.fraction.specs.Quotients.{quotient}
-use Rattle.fraction.specs.Values.{fraction_value, IsFractionOf}
-use Rattle.fraction.specs.declared.numbers.Fraction.{Fraction}
-use Rattle.fraction.proofs.Lowest.{coprime_to_one}
-use Rattle.fraction.proofs.Narrow.{same_crossed}
 
 -- a sum as a quotient
 pub plus_is : (a b : Ratio) → quotient (a.num *ℤ pos b.den +ℤ b.num *ℤ pos a.den) (pos (a.den * b.den)) ≡ ratio_plus a b
@@ -59,11 +52,7 @@ quotient_crossed n (negsuc d) q s = turned q.num (pos (suc d)) n (pos q.den) (cr
 
 -- and the other way round
 crossed_quotient : (n d : ℤ) (q : Ratio) → q.num *ℤ d ≡ n *ℤ pos q.den → Same 0 q (quotient n d)
-crossed_quotient n (pos d) q e = same_crossed q (quotient n (pos d)) e
-crossed_quotient n (negsuc d) q e = same_crossed q (quotient n (negsuc d)) (turned q.num (pos (suc d)) n (pos q.den) e)
-  where
-    turned : (x d n y : ℤ) → x *ℤ neg_ℤ d ≡ n *ℤ y → x *ℤ d ≡ neg_ℤ n *ℤ y
-    turned x d n y e = let p = simp ring at e in simp ring (omega (arith, linear, p))
+crossed_quotient n d q h = grind (arith, same_crossed)
 
 -- the quotient of the cross products
 abbrev pub crosses : Ratio → Ratio → Ratio
@@ -97,13 +86,7 @@ over_crossed q a (negsuc m) bd s = over_negative q.num (pos q.den) a.num (pos a.
 -- so where the one has a reduced fraction, the other has it
 over_narrow : (a b : Ratio) → IsNarrow (ratio_over a b) → IsNarrow (crosses a b)
 unfolding ratio_over
-over_narrow a b n = record {
-  reduced = n.reduced;
-  lowest = n.lowest;
-  small = n.small;
-  same =
-      crossed_quotient (a.num *ℤ pos b.den) (b.num *ℤ pos a.den) n.reduced (over_crossed n.reduced a b.num b.den n.same);
-}
+over_narrow a b n = search (arith, crossed_quotient, over_crossed)
 
 -- a value other than 0 has an inverse
 has_inverse : (b : Ratio) → b.num ≢ pos 0 → HasInverse 0 b

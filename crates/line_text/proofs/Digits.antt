@@ -1,12 +1,8 @@
 -- The bytes of numbers: no blank and no line feed stands among them.
 use Rattle.std.proofs.Common.{ℕ, suc, ◌<◌, ℤ, pos, negsuc, List, [], ◌∷◌, refl, arith}
-use Rattle.std.specs.Fmt.{signed_decimal, decimal}
-use Rattle.std.specs.Str.Parse.{AllDigits}
-use Rattle.std.proofs.lemmas.Fmt.{decimal_is_IsNumeral_wide}
-use Rattle.std.proofs.lemmas.Str.Parse.{digit_from_value}
-use Rattle.std.proofs.lemmas.Bool.{ne_eqb}
-use Rattle.line_text.specs.Lines.{HasNo, BeginsWith}
-use Rattle.line_text.specs.Numbers.{IsWide, marked_text}
+use Rattle.std.proofs.lemmas.{Fmt.decimal_is_IsNumeral_wide, Str.Parse.digit_from_value, Bool.ne_eqb}
+use Rattle.std.specs.{Fmt.signed_decimal, Fmt.decimal, Str.Parse.AllDigits}
+use Rattle.line_text.specs.{Lines.HasNo, Lines.BeginsWith, Numbers.IsWide, Numbers.marked_text}
 
 pub digits_have_no : (m : ℕ) → m < 48 → (ds : List ℕ) → AllDigits 10 ds → HasNo m ds
 digits_have_no m small [] h = tt

@@ -1,11 +1,8 @@
 -- A text of rows and numbers is that of one list alone.
 use Rattle.std.proofs.Common.{◌≡◌, ℕ, ◌<◌, suc, ℤ, pos, negsuc, List, [], ◌∷◌, ◌++◌, All, length, drop, get_or, refl, sym, ap, ◌∙◌, arith}
-use Rattle.std.specs.Fmt.{signed_decimal, decimal}
-use Rattle.std.specs.Str.Parse.{digits_value}
-use Rattle.std.proofs.lemmas.Fmt.{decimal_is_IsNumeral_wide}
-use Rattle.std.proofs.lemmas.Bool.{true≢false, eq-eqb}
-use Rattle.std.proofs.lemmas.List.{append_cancel_left}
-use Rattle.std.proofs.lemmas.List.Elements.{All-head, All-tail}
+use Rattle.std.proofs.lemmas.{Fmt.decimal_is_IsNumeral_wide, Bool.true≢false, Bool.eq-eqb, List.append_cancel_left, List.Elements.All-head}
+use Rattle.std.proofs.lemmas.{List.Elements.All-tail}
+use Rattle.std.specs.{Fmt.signed_decimal, Fmt.decimal, Str.Parse.digits_value}
 use Rattle.line_text.specs.Lines.{before, onwards, HasNo, rows_text}
 use Rattle.line_text.specs.Numbers.{IsWide, marked_text, numbers_text, row_text}
 use Rattle.line_text.proofs.Digits.{digits_have_no, number_has_no, numbers_begin}

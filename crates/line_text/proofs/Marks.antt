@@ -1,10 +1,7 @@
 -- A text is cut at the first byte that is a given mark.
 use Rattle.std.proofs.Common.{◌≡◌, ℕ, ◌+◌, List, [], ◌∷◌, ◌++◌, length, take, drop, Bool, true, false, cond, ◌==◌, not, refl, ap, ◌∙◌, eq-eqb, arith}
-use Rattle.std.specs.Prelude.{position, unwrap_or}
-use Rattle.std.specs.List.{prefix_len}
-use Rattle.std.proofs.lemmas.Bool.{eqb-true}
-use Rattle.std.proofs.lemmas.List.Sums.{prefix_len-le-length}
-use Rattle.std.proofs.lemmas.Grind.{common_steps}
+use Rattle.std.proofs.lemmas.{Bool.eqb-true, List.Sums.prefix_len-le-length, Grind.common_steps}
+use Rattle.std.specs.{Prelude.position, Prelude.unwrap_or, List.prefix_len}
 use Rattle.line_text.specs.Lines.{before, onwards, HasNo, BeginsWith}
 
 pub taken : (m : ℕ) (bs : List ℕ) → take (length (before m bs)) bs ≡ before m bs

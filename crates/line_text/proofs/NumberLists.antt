@@ -1,14 +1,10 @@
 -- The steps of the reading of a list of numbers.
 use Rattle.std.proofs.Common.{◌≡◌, ℕ, ◌<◌, ◌≤◌, ℤ, List, [], ◌∷◌, ◌++◌, All, length, take, drop, ◌-◌, get_or, Some, refl, sym, ap, ◌∙◌, arith}
 use Rattle.std.proofs.lemmas.List.Elements.{All-nil, All-head, All-tail, All-push}
-use Rattle.std.proofs.lemmas.Grind.{common_steps}
-use Rattle.std.proofs.lemmas.List.{length-append}
+use Rattle.std.proofs.lemmas.{Grind.common_steps, List.length-append}
 use mathlib.Core.List.{append_assoc, append-nil}
-use Rattle.std.specs.Option.{unwrap_or}
-use Rattle.std.specs.Fmt.{signed_decimal}
-use Rattle.line_text.specs.Lines.{before, onwards}
-use Rattle.line_text.specs.Numbers.{IsWide, marked_text}
-use Rattle.line_text.specs.Reading.{IsReadTo}
+use Rattle.std.specs.{Option.unwrap_or, Fmt.signed_decimal}
+use Rattle.line_text.specs.{Lines.before, Lines.onwards, Numbers.IsWide, Numbers.marked_text, Reading.IsReadTo}
 use Rattle.line_text.proofs.Marks.{joined, before_is, onwards_is}
 use Rattle.line_text.proofs.Digits.{number_has_no, numbers_begin}
 

@@ -1,13 +1,8 @@
 -- A number that was written is parsed as itself.
 use Rattle.std.proofs.Common.{◌≡◌, ℕ, suc, ℤ, pos, negsuc, neg_ℤ, List, ◌∷◌, Result, Ok, refl, sym, subst, ap, ◌∙◌, arith}
-use Rattle.std.specs.Fmt.{signed_decimal, decimal}
-use Rattle.std.specs.Str.Parse.{ParsesSigned}
-use Rattle.std.proofs.lemmas.Fmt.{decimal_is_IsNumeral_wide, IsAscii-decimal_wide}
-use Rattle.std.proofs.lemmas.Str.{IsUtf8-from_ascii}
-use Rattle.std.proofs.lemmas.Str.Ascii.{IsAscii-cons}
-use Rattle.std.specs.Str.{IsUtf8, IsAscii}
 use Rattle.std.proofs.lemmas.Str.Parse.{numerals_by_value, tells_digits, parse_signed_digits, parse_signed_minus}
-use Rattle.std.proofs.lemmas.Result.{Ok-from_Ok_iff}
+use Rattle.std.proofs.lemmas.{Fmt.decimal_is_IsNumeral_wide, Fmt.IsAscii-decimal_wide, Str.IsUtf8-from_ascii, Str.Ascii.IsAscii-cons, Result.Ok-from_Ok_iff}
+use Rattle.std.specs.{Fmt.signed_decimal, Fmt.decimal, Str.Parse.ParsesSigned, Str.IsUtf8, Str.IsAscii}
 use mir.Syntax.{w128}
 use Rattle.line_text.specs.Numbers.{IsWide}
 

@@ -1,8 +1,7 @@
 -- Rows of a text that were passed, and what is left behind them.
 use Rattle.std.proofs.Common.{◌≡◌, ℕ, ◌+◌, ◌<◌, ℤ, List, [], ◌∷◌, ◌++◌, All, length, refl, sym, ap, ◌∙◌, arith}
+use Rattle.std.proofs.lemmas.{List.length-append, List.append_cancel_left, List.Elements.All-head, List.Elements.All-tail}
 use mathlib.Core.List.{append_assoc}
-use Rattle.std.proofs.lemmas.List.{length-append, append_cancel_left}
-use Rattle.std.proofs.lemmas.List.Elements.{All-head, All-tail}
 use Rattle.std.specs.Fmt.{signed_decimal}
 use Rattle.line_text.specs.Lines.{Place, IsAt, rows_text, HasNo}
 use Rattle.line_text.specs.Numbers.{IsWide, numbers_text, row_text}

@@ -5,15 +5,13 @@ use Rattle.std.proofs.lemmas.List.{append-nil, take_more, take_all, take-append-
 use Rattle.cgd_read.specs.Views.{BlockView}
 use Rattle.least_key.specs.KeyedNets.{KeyedNet}
 use Rattle.archive_text.specs.Entries.{EntryView}
-use Rattle.net_archive.specs.Adding.{IsEntryOf, IsAddFault}
 use Rattle.net_archive.specs.Archives.{ArchiveView, IsArchive, with_entry}
-use Rattle.net_archive.specs.declared.faults.AddFault.{AddFault}
+use Rattle.net_archive.specs.{Adding.IsEntryOf, Adding.IsAddFault, declared.faults.AddFault.AddFault}
 use Rattle.net_answers.specs.Due.{AreEntriesOf, IsAdded, IsEntryOfBlock, IsNetOf, IsNotAdded, given_after, name_to_add}
 
 -- where none is given, none is given after some blocks
 pub none_after : (bs : List BlockView) → given_after None bs ≡ None
-none_after [] = refl
-none_after (b ∷ bs) = refl
+none_after bs = search arith
 
 -- after a block none is given
 none_past : (given : Option (List ℕ)) (bs : List BlockView) (b : BlockView) → given_after given (bs ++ b ∷ []) ≡ None
@@ -32,12 +30,7 @@ entries_last given (c ∷ bs) (x ∷ es) b e h k =
 
 -- no block adds nothing
 added_none : (given : Option (List ℕ)) (a : ArchiveView) → IsArchive a → IsAdded given [] a a
-added_none given a h = record {
-  more = [];
-  are_entries = tt;
-  longer = ap (λ (es : List EntryView). record { version = a.version; entries = es }) (sym (append-nil a.entries));
-  is_archive = h;
-}
+added_none given a h = search (arith, append-nil)
 
 -- one more block is added after the others
 added_more : (given : Option (List ℕ)) (bs : List BlockView) (a b c : ArchiveView) (block : BlockView) (e : EntryView) → IsAdded given bs a b

@@ -1,14 +1,11 @@
 -- The different keys that are reported of more and more blocks.
 use Rattle.std.proofs.Common.{◌≡◌, ◌⊎◌, inl, inr, ℕ, ◌+◌, ◌<◌, ℤ, List, [], ◌∷◌, ◌++◌, length, get_or, take, Option, Some, None, sym, ap, subst, ◌∙◌}
-use Rattle.std.proofs.Common.{true≢false, arith}
-use Rattle.std.specs.List.{Contains}
-use Rattle.std.specs.Prelude.{is_some, unwrap_or}
+use Rattle.std.proofs.Common.{true≢false}
 use Rattle.std.proofs.lemmas.List.{take_more}
 use Rattle.std.proofs.lemmas.List.Elements.{Contains-append_left, Contains-push, Contains-push_cases}
-use Rattle.net_outcomes.specs.Outcomes.{Outcome}
-use Rattle.net_outcomes.specs.Deciding.{key_told}
-use Rattle.net_answers.specs.KeyLists.{IsPutIn}
-use Rattle.net_answers.specs.Summaries.{AreDifferentKeys}
+use Rattle.std.specs.{List.Contains, Prelude.is_some, Prelude.unwrap_or}
+use Rattle.net_outcomes.specs.{Outcomes.Outcome, Deciding.key_told}
+use Rattle.net_answers.specs.{KeyLists.IsPutIn, Summaries.AreDifferentKeys}
 
 -- this key is reported of one of the blocks
 abbrev IsTold : List Outcome → List ℤ → Type 0

@@ -1,15 +1,11 @@
 -- Where no net has to be computed an answer is due.
 use Rattle.std.proofs.Common.{◌⊎◌, inl, inr, ℕ, ◌<◌, ◌≤◌, List, [], length, Option, refl, arith}
 use Rattle.std.proofs.lemmas.Bool.{cases_lt}
-use Rattle.net_archive.specs.Archives.{ArchiveView}
-use Rattle.net_archive.specs.Migrating.{newest}
+use Rattle.net_archive.specs.{Archives.ArchiveView, Migrating.newest}
 use Rattle.command_words.specs.Tasks.{Migrate}
-use Rattle.union_answers.specs.ArchiveBytes.{IsArchiveIn, most_bytes}
-use Rattle.union_answers.specs.ArchiveTexts.{migrate_fault_text}
-use Rattle.net_answers.specs.Due.{IsDueOn}
-use Rattle.net_answers.specs.Laws.{SomeAnswerIsDue}
-use Rattle.net_report.specs.declared.status.Status.{Status}
-use Rattle.net_report.specs.declared.status.Status.TheVariants.{Done, MigrateRefused}
+use Rattle.union_answers.specs.{ArchiveBytes.IsArchiveIn, ArchiveBytes.most_bytes, ArchiveTexts.migrate_fault_text}
+use Rattle.net_answers.specs.{Due.IsDueOn, Laws.SomeAnswerIsDue}
+use Rattle.net_report.specs.declared.status.{Status.Status, Status.TheVariants.Done, Status.TheVariants.MigrateRefused}
 
 -- what is due to a migration
 migrated : (name : List ℕ) (archive : Option (List ℕ)) (a : ArchiveView) → IsArchiveIn archive a
@@ -22,7 +18,4 @@ migrated name archive a is = by (cases_lt most_bytes (length (newest a)))
 
 -- so it is, and of too many blocks
 pub some_answer_is_due : SomeAnswerIsDue
-some_answer_is_due = record {
-  many = λ task file archive many. (many, refl);
-  migrated = migrated;
-}
+some_answer_is_due = search (arith, migrated)

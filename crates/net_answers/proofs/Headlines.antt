@@ -3,14 +3,12 @@ use Rattle.std.proofs.Common.{◌≡◌, ◌≢◌, ◌∙◌, ℕ, Bool, true, 
 use Rattle.std.specs.Prelude.{if◌then◌else◌}
 use Rattle.cgd_read.specs.Blocks.{blocks_of}
 use Rattle.command_words.specs.Tasks.{Identify}
-use Rattle.net_report.specs.declared.command.Command.TheVariants as asks
 use Rattle.net_archive.specs.Archives.{ArchiveView}
 use Rattle.net_outcomes.specs.Reports.{IsReport}
 use Rattle.union_answers.specs.ArchiveBytes.{IsArchiveIn}
-use Rattle.net_answers.specs.Due.{IsDueOn}
-use Rattle.net_answers.specs.Headline.{Headline, IsReported}
-use Rattle.net_report.specs.declared.status.Status.{Status}
-use Rattle.net_report.specs.declared.status.Status.TheVariants.{Done, SomeRefused}
+use Rattle.net_answers.specs.{Due.IsDueOn, Headline.Headline, Headline.IsReported}
+use Rattle.net_report.specs.declared.status.{Status.Status, Status.TheVariants.Done, Status.TheVariants.SomeRefused}
+use Rattle.net_report.specs.declared.command.Command.TheVariants as asks
 
 -- to identify is not to ask for components
 identify_is_not_components : asks.Identify ≢ asks.Components

@@ -1,14 +1,9 @@
 -- A key that is put into a set of slices.
 use Rattle.std.proofs.Common.{◌≡◌, ◌≢◌, ◌⊎◌, inl, inr, ℤ, Bool, true, false, cond, List, [], ◌∷◌, ◌++◌, length, map, Bor, refl, sym, ap, subst, ◌∙◌, arith}
-use Rattle.std.specs.Bool.{Decides}
-use Rattle.std.specs.Cmp.Lexicographic.{pointwise}
-use Rattle.std.specs.List.{All, Contains, list_any, position_or_len}
-use Rattle.std.specs.Ordering.{int_eq}
-use Rattle.std.proofs.lemmas.Bool.Decides.{Decides-int_eq}
-use Rattle.std.proofs.lemmas.List.{length-map, map-append}
 use Rattle.std.proofs.lemmas.List.Elements.{All-from_get_or, Contains-append_left, Contains-get_or, Contains-push, Contains-push_cases}
-use Rattle.std.proofs.lemmas.List.Quantifiers.{all_pairs_push}
-use Rattle.std.proofs.lemmas.Slice.Eq.{slice_eq-Decides}
+use Rattle.std.proofs.lemmas.{Bool.Decides.Decides-int_eq, List.length-map, List.map-append, List.Quantifiers.all_pairs_push, Slice.Eq.slice_eq-Decides}
+use Rattle.std.specs.List.{All, Contains, list_any, position_or_len}
+use Rattle.std.specs.{Bool.Decides, Cmp.Lexicographic.pointwise, Ordering.int_eq}
 use Rattle.indexmap.specs.IndexSet.{insert_key}
 use Rattle.integers.proofs.lists.Insertion.{IsKnown, IsFresh, known_or_fresh}
 use Rattle.net_answers.specs.KeyLists.{IsPutIn}
@@ -27,11 +22,7 @@ key-Decides x y = slice_eq-Decides Decides-int_eq x.now y.now (same_key x y) ref
 
 -- where the key is there, the keys stay
 known_stays : (old : List (List ℤ)) (key : List ℤ) → Contains old key → IsPutIn old key old
-known_stays old key c = record { exact = λ xs. (λ h. inl h, back xs); once = λ h. h }
-  where
-    back : (xs : List ℤ) → Contains old xs ⊎ (key ≡ xs) → Contains old xs
-    back xs (inl h) = h
-    back xs (inr e) = subst (λ (x : List ℤ). Contains old x) e c
+known_stays old key c = grind arith
 
 -- and else it is put last
 fresh_last : (old : List (List ℤ)) (key : List ℤ) → All (λ x. x ≢ key) old → IsPutIn old key (old ++ key ∷ [])

@@ -1,20 +1,18 @@
 -- The nets of blocks that are accepted where their keys are asked for.
-use Rattle.std.proofs.Common.{◌≡◌, ◌&&◌, ℕ, zero, suc, ◌+◌, ◌<◌, true, false, List, [], ◌∷◌, length, get_or, Some, refl, sym, subst, true≢false, arith}
-use Rattle.std.proofs.lemmas.Bool.{and_parts}
+use Rattle.std.proofs.Common.{◌≡◌, ℕ, zero, suc, ◌+◌, ◌<◌, true, List, [], ◌∷◌, length, get_or, Some, refl, sym, subst, true≢false, arith}
+use Rattle.std.proofs.lemmas.{Bool.and_parts, List.Elements.All-cons, List.Elements.All-nil}
 use Rattle.std.specs.List.{list_all}
-use Rattle.std.proofs.lemmas.List.Elements.{All-cons, All-nil}
 use Rattle.cgd_read.specs.Graphs.{graph_of}
 use Rattle.cgd_read.specs.Views.{BodyView, Net, Other, Faulty, BlockView}
 use Rattle.quotient_graph.specs.Stars.{IsInOrder}
 use Rattle.periodic_net.specs.Graph.{Graph}
-use Rattle.least_key.specs.AnyNets.{net_view}
-use Rattle.least_key.specs.KeyedNets.{KeyedNet}
-use Rattle.least_key.specs.declared.net.Net.{Net as NetInCode}
+use Rattle.least_key.specs.{AnyNets.net_view, KeyedNets.KeyedNet}
 use Rattle.archive_text.specs.Entries.{EntryView}
 use Rattle.net_report.specs.declared.command.Command.TheVariants.{Key}
 use Rattle.net_outcomes.specs.Outcomes.{Outcome, OutcomeBody, Unsupported, Malformed, Refused, Keyed, AreOutcomesFrom, IsBodyOf, is_accepted, is_accepted_body}
 use Rattle.net_outcomes.specs.Outcomes.{net_told}
 use Rattle.net_answers.specs.Due.{AreAccepted, IsNetOf}
+use Rattle.least_key.specs.declared.net.Net.{Net as NetInCode}
 pub use Rattle.same_answers.proofs.CallerLemmas.{as_many}
 
 -- this is reported of a block: its net

@@ -1,12 +1,8 @@
 -- The blocks of a workload: one for each net.
 use Rattle.std.proofs.Common.{◌≡◌, ℕ, zero, suc, ◌+◌, ◌<◌, ◌≤◌, ◌==◌, Bool, true, false, cond, ℤ, pos, List, [], ◌∷◌, ◌++◌, length, flat_map, refl, sym, ap}
 use Rattle.std.proofs.Common.{subst, ◌∙◌, arith, append_assoc}
-use Rattle.std.specs.Prelude.{All, codes}
-use Rattle.std.specs.Fmt.{decimal, signed_decimal}
-use Rattle.std.specs.List.{list_all, range_with_len}
-use Rattle.std.proofs.lemmas.Bool.{and_parts}
-use Rattle.std.proofs.lemmas.List.{append-nil}
-use Rattle.std.proofs.lemmas.List.Elements.{All-nil, All-cons, All-append}
+use Rattle.std.proofs.lemmas.{Bool.and_parts, List.append-nil, List.Elements.All-cons, List.Elements.All-append}
+use Rattle.std.specs.{Prelude.All, Prelude.codes, Fmt.decimal, Fmt.signed_decimal, List.list_all, List.range_with_len}
 use Rattle.line_text.specs.Numbers.{list_text}
 use Rattle.cgd_lex.specs.Pieces.{Piece, Blank, Run, is_run_byte, IsCut}
 use Rattle.cgd_lex.specs.Tokens.{TokenView, tokens_of_line, tokens_of_pieces}
@@ -20,8 +16,7 @@ use Rattle.workload.specs.BaseNets.{base_edges, dimension, is_base_edge}
 use Rattle.workload.specs.Workload.{all_lines, base_of, block_text, cells_of, edge_at, edge_line, edges_text, ends_text, most_nets, part_text, place_lines}
 use Rattle.workload.specs.Workload.{shear_of, third_text, workload}
 use Rattle.workload.specs.declared.edge.Edge.{Edge}
-use Rattle.workload.proofs.BaseEdges.{all_base}
-use Rattle.workload.proofs.SmallEdges.{edge_small}
+use Rattle.workload.proofs.{BaseEdges.all_base, SmallEdges.edge_small}
 use Rattle.cover_answers.proofs.CallerLemmas.{AreShort, HasLines, HasNoFeed, IsShort, edges_read, end_read, lines_at, list_no_feed, list_tokens, marked_tokens}
 use Rattle.cover_answers.proofs.CallerLemmas.{more_lines, no_feed, no_line, number_bytes, number_no_feed, number_token, one_line, opening_read, word_line}
 
@@ -172,17 +167,7 @@ inner_name i l = inner_line (name_bytes i) (λ n. line_with (first_token n) (nam
         (All-cons (λ b. is_run_byte b ≡ true) n.first n.others n.run n.runs)
 
     cut : IsCut (name_pieces i) (name_bytes i)
-    cut = (
-      32 ∷ 119 ∷ decimal i,
-      refl,
-      (
-        refl,
-        All-cons (λ b. is_run_byte b ≡ true) 65 (77 ∷ 69 ∷ []) refl
-            (All-cons (λ b. is_run_byte b ≡ true) 77 (69 ∷ []) refl (All-cons (λ b. is_run_byte b ≡ true) 69 [] refl (All-nil (λ b. is_run_byte b ≡ true)))),
-        refl,
-      ),
-      (119 ∷ decimal i, refl, refl, ([], sym (append-nil (119 ∷ decimal i)), (refl, digits, tt), refl)),
-    )
+    cut = grind (arith, append-nil, digits)
 
 -- the lines of a block between the first and the last
 abbrev inner_text : ℕ → List ℕ

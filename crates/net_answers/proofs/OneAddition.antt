@@ -1,20 +1,16 @@
 -- What becomes of an addition is one.
 use Rattle.std.proofs.Common.{◌≡◌, ◌≢◌, ◌⊎◌, inl, inr, ℕ, ◌+◌, ◌&&◌, true, false, List, [], ◌∷◌, ◌++◌, length, Option, None, drop, get_or, true≢false, refl}
 use Rattle.std.proofs.Common.{sym, ap, subst, ◌∙◌, append_assoc}
-use Rattle.std.specs.List.{list_all}
 use Rattle.std.proofs.lemmas.List.Elements.{All-cons, All-head, All-nil, All-tail}
+use Rattle.std.specs.List.{list_all}
 use Rattle.cgd_read.specs.Graphs.{graph_of}
 use Rattle.cgd_read.specs.Views.{RawView, BodyView, Net, Other, Faulty, BlockView}
 use Rattle.quotient_graph.specs.Stars.{IsInOrder}
 use Rattle.quotient_graph.proofs.CallerLemmas.{one_in_order}
-use Rattle.least_key.specs.KeyedNets.{KeyedNet}
-use Rattle.least_key.specs.Laws.{TellAlike}
+use Rattle.least_key.specs.{KeyedNets.KeyedNet, Laws.TellAlike}
 use Rattle.least_key.proofs.CallerLemmas.{one_net}
 use Rattle.archive_text.specs.Entries.{EntryView}
-use Rattle.net_archive.specs.Adding.{IsAddFault}
-use Rattle.net_archive.specs.Archives.{ArchiveView}
-use Rattle.net_archive.specs.declared.faults.AddFault.{AddFault}
-use Rattle.net_archive.specs.declared.faults.AddFault.TheVariants as add
+use Rattle.net_archive.specs.{Adding.IsAddFault, Archives.ArchiveView, declared.faults.AddFault.AddFault}
 use Rattle.net_archive.proofs.CallerLemmas.{added_no_fault, one_add_fault, one_entry}
 use Rattle.net_report.specs.declared.command.Command.TheVariants.{Key}
 use Rattle.net_outcomes.specs.Outcomes.{Outcome, OutcomeBody, Unsupported, Malformed, Refused, Checked, Located, Keyed, Identified, Lines, FaultyItem}
@@ -23,6 +19,7 @@ use Rattle.net_outcomes.specs.Reports.{IsReport}
 use Rattle.net_outcomes.proofs.CallerLemmas.{keyed_not_refused}
 use Rattle.net_answers.specs.Due.{AreAccepted, AreEntriesOf, IsAdded, IsEntryOfBlock, IsNetOf, IsNotAdded, given_after, name_to_add, with_entries}
 use Rattle.net_answers.proofs.Added.{none_after}
+use Rattle.net_archive.specs.declared.faults.AddFault.TheVariants as add
 
 -- the net that a body says, where it is one
 abbrev raw_or : RawView → BodyView → RawView

@@ -1,27 +1,23 @@
 -- What is due to a task is one.
-use Rattle.std.proofs.Common.{◌≡◌, ℕ, ◌<◌, ◌≤◌, Bool, true, false, List, [], length, Option, true≢false, refl, sym, ap, subst, ◌∙◌, arith}
-use Rattle.cgd_read.specs.Views.{BlockView}
-use Rattle.cgd_read.specs.Blocks.{blocks_of, most_blocks}
+use Rattle.std.proofs.Common.{◌≡◌, ℕ, ◌<◌, ◌≤◌, Bool, true, false, List, [], length, Option, true≢false, refl, sym, ap, ◌∙◌, arith}
+use Rattle.cgd_read.specs.{Views.BlockView, Blocks.blocks_of, Blocks.most_blocks}
 use Rattle.archive_text.specs.Entries.{EntryView}
 use Rattle.net_archive.specs.Archives.{ArchiveView, archive_text}
-use Rattle.net_archive.specs.Migrating.{newest}
-use Rattle.union_answers.specs.ArchiveTexts.{add_fault_text, groups_text}
+use Rattle.union_answers.specs.{ArchiveTexts.add_fault_text, ArchiveTexts.groups_text, ArchiveBytes.IsArchiveIn, ArchiveBytes.IsBadArchive}
 use Rattle.command_words.specs.Tasks.{Task, Check, Place, Key, Identify, Components, Add, Duplicates, Migrate, Union, Same, Verify, Workload, Cover}
-use Rattle.net_report.specs.declared.command.Command.{Command}
-use Rattle.net_report.specs.declared.command.Command.TheVariants as asks
+use Rattle.net_report.specs.declared.status.Status.TheVariants.{Done, SomeRefused, BadArchive, TooManyBlocks, AddRefused}
+use Rattle.net_report.specs.declared.{command.Command.Command, status.Status.Status}
 use Rattle.net_outcomes.proofs.CallerLemmas.{all_alike, one_report, one_telling}
-use Rattle.union_answers.specs.ArchiveBytes.{IsArchiveIn, IsBadArchive, most_bytes}
 use Rattle.net_answers.specs.Due.{AreGroupsAs, HasTooMany, IsAddedAs, IsAddedOrRefused, IsDueFor, IsDueOn, IsDueToBlocks, IsDueWith, IsMigratedAs, IsNotAddedAs}
 use Rattle.net_answers.specs.Due.{IsReportAs, bytes_of}
 use Rattle.net_answers.specs.Laws.{OneDueAnswer}
 use Rattle.net_answers.specs.Summaries.{IsSummary, IsSummaryAs, summary_text}
-use Rattle.net_report.specs.declared.status.Status.{Status}
-use Rattle.net_report.specs.declared.status.Status.TheVariants.{Done, SomeRefused, BadArchive, TooManyBlocks, AddRefused, MigrateRefused}
 use Rattle.net_answers.proofs.OneAddition.{accepted_or_reported, all_or_one, entries_accepted, one_longer, one_not_added}
+use Rattle.net_answers.proofs.OneSummary.{as_many_accepted, as_many_keys, one_list_of_groups}
 use Rattle.union_answers.proofs.CallerLemmas.{not_bad, one_archive_in, one_bad, many_items, one_union_due}
 use Rattle.cover_answers.proofs.CallerLemmas.{one_covering}
 use Rattle.same_answers.proofs.CallerLemmas.{one_verification, one_sameness}
-use Rattle.net_answers.proofs.OneSummary.{as_many_accepted, as_many_keys, one_list_of_groups}
+use Rattle.net_report.specs.declared.command.Command.TheVariants as asks
 
 -- one status and one text
 abbrev AreOne : Status → Status → List ℕ → List ℕ → Type 0
@@ -30,13 +26,7 @@ AreOne s t x y = (s ≡ t) × (x ≡ y)
 -- a report
 one_report_as : (command : Command) (entries : List EntryView) (blocks : List BlockView) (s t : Status) (x y : List ℕ) → IsReportAs command entries blocks s x
     → IsReportAs command entries blocks t y → AreOne s t x y
-one_report_as command entries blocks Done Done x y h k = (refl, (one_report command entries blocks true true x y h k).1)
-one_report_as command entries blocks Done SomeRefused x y h k = absurd (true≢false (one_report command entries blocks true false x y h k).0)
-one_report_as command entries blocks SomeRefused Done x y h k = absurd (true≢false (sym (one_report command entries blocks false true x y h k).0))
-one_report_as command entries blocks SomeRefused SomeRefused x y h k = (refl, (one_report command entries blocks false false x y h k).1)
-one_report_as command entries blocks Done t x y h k = absurd k
-one_report_as command entries blocks SomeRefused t x y h k = absurd k
-one_report_as command entries blocks s t x y h k = absurd h
+one_report_as command entries blocks s t x y l p = grind (arith, one_report)
 
 -- a summary
 one_summary : (made : ℕ) (blocks : List BlockView) (b c : Bool) (x y : List ℕ) → IsSummary made blocks b x → IsSummary made blocks c y → (b ≡ c) × (x ≡ y)
@@ -67,19 +57,7 @@ one_groups a s t x y h k = absurd h
 
 -- the newest format
 one_migration : (a : ArchiveView) (s t : Status) (x y : List ℕ) → IsMigratedAs a s x → IsMigratedAs a t y → AreOne s t x y
-one_migration a Done Done x y h k = (refl, h.0 ∙ sym k.0)
-one_migration a Done MigrateRefused x y h k = absurd (too_long (ap length h.0) h.1 k.0)
-  where
-    too_long : length x ≡ length (newest a) → length x ≤ most_bytes → most_bytes < length (newest a) → ⊥
-    too_long e l m = omega (arith, e, l, m)
-one_migration a MigrateRefused Done x y h k = absurd (too_long (ap length k.0) k.1 h.0)
-  where
-    too_long : length y ≡ length (newest a) → length y ≤ most_bytes → most_bytes < length (newest a) → ⊥
-    too_long e l m = omega (arith, e, l, m)
-one_migration a MigrateRefused MigrateRefused x y h k = (refl, h.1 ∙ sym k.1)
-one_migration a Done t x y h k = absurd k
-one_migration a MigrateRefused t x y h k = absurd k
-one_migration a s t x y h k = absurd h
+one_migration a s t x y p q = grind arith
 
 module _ (given : Option (List ℕ)) (blocks : List BlockView) (a : ArchiveView) where
   -- where all are added, none is refused
@@ -139,17 +117,12 @@ way_of task bytes archive s x h = Read h.1 h.2 h.3
 
 one_way : (task : Task) (bytes : List ℕ) (archive : Option (List ℕ)) (s t : Status) (x y : List ℕ) → WayOf task bytes archive s x
     → WayOf task bytes archive t y → AreOne s t x y
-one_way task bytes archive s t x y (Read a h d) (Read b k e) = one_due_for task (blocks_of bytes) a s t x y d
-    (subst (λ c. IsDueFor task (blocks_of bytes) c t y) (sym (one_archive_in archive a b h k)) e)
-one_way task bytes archive s t x y (Read a h d) (Faulty e k) = absurd (not_bad archive a y h k)
-one_way task bytes archive s t x y (Faulty e h) (Read b k d) = absurd (not_bad archive b x k h)
-one_way task bytes archive s t x y (Faulty e h) (Faulty f k) = (e ∙ sym f, one_bad archive x y h k)
+one_way task bytes archive s t x y l p = search (arith, one_due_for, one_archive_in, not_bad, one_bad)
 
 -- blocks are no more than there may be
 few_blocks : (task : Task) (bytes : List ℕ) (archive : Option (List ℕ)) (s : Status) (x : List ℕ) → IsDueToBlocks task bytes archive s x
     → length (blocks_of bytes) ≤ most_blocks
-few_blocks task bytes archive BadArchive x h = h.0
-few_blocks task bytes archive s x h = h.0
+few_blocks task bytes archive s x k = search arith
 
 -- what is due to the blocks of these bytes is one
 one_of_blocks : (task : Task) (bytes : List ℕ) (archive : Option (List ℕ)) (s t : Status) (x y : List ℕ) → IsDueToBlocks task bytes archive s x
@@ -179,15 +152,11 @@ data CountOf (task : Task) (file : List ℕ) (archive : Option (List ℕ)) (s : 
   Few : IsDueWith task (bytes_of task file) archive s x → CountOf task file archive s x
 
 count_of : (task : Task) (file : List ℕ) (archive : Option (List ℕ)) (s : Status) (x : List ℕ) → IsDueOn task file archive s x → CountOf task file archive s x
-count_of task file archive TooManyBlocks x h = Many refl h.0 h.1
-count_of task file archive s x h = Few h
+count_of task file archive s x k = grind arith
 
 one_count : (task : Task) (file : List ℕ) (archive : Option (List ℕ)) (s t : Status) (x y : List ℕ) → CountOf task file archive s x
     → CountOf task file archive t y → AreOne s t x y
-one_count task file archive s t x y (Many e m f) (Many e' m' f') = (e ∙ sym e', f ∙ sym f')
-one_count task file archive s t x y (Many e m f) (Few h) = absurd (not_many task (bytes_of task file) archive t y m h)
-one_count task file archive s t x y (Few h) (Many e m f) = absurd (not_many task (bytes_of task file) archive s x m h)
-one_count task file archive s t x y (Few h) (Few k) = one_with task (bytes_of task file) archive s t x y h k
+one_count task file archive s t x y l p = search (arith, not_many, one_with)
 
 -- two answers that are due are one
 pub one_due_answer : OneDueAnswer

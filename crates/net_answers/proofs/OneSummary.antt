@@ -1,15 +1,10 @@
 -- The groups of entries are one list, and the summary of a workload is one.
-use Rattle.std.proofs.Common.{◌≡◌, ℕ, suc, ◌<◌, ◌≤◌, ℤ, Bool, true, false, cond, List, [], ◌∷◌, length, map, filter, Option, Some, refl, sym, ap, subst, ◌∙◌}
-use Rattle.std.proofs.Common.{arith}
+use Rattle.std.proofs.Common.{◌≡◌, ℕ, ◌<◌, ◌≤◌, ℤ, Bool, cond, List, [], ◌∷◌, length, map, filter, Option, Some, refl, sym, ap, subst, ◌∙◌, arith}
 use Rattle.std.proofs.Math.Nat.{le_antisymm}
-use Rattle.integers.proofs.lists.Counting.{not_longer}
 use Rattle.integers.proofs.lists.Members.{IsIn, apart_from_pairs, contains_from_in, is_in}
-use Rattle.integers.proofs.lists.Permutations.{rising_from_pairs, same_rising}
-use Rattle.integers.proofs.lists.Pieces.{in_map, map_in}
-use Rattle.archive_text.specs.Entries.{EntryView}
-use Rattle.archive_text.specs.Groups.{AreGroups, first_of}
-use Rattle.net_outcomes.specs.Deciding.{key_told}
-use Rattle.net_outcomes.specs.Outcomes.{Outcome, is_accepted}
+use Rattle.integers.proofs.lists.{Counting.not_longer, Permutations.rising_from_pairs, Permutations.same_rising, Pieces.in_map, Pieces.map_in}
+use Rattle.archive_text.specs.{Entries.EntryView, Groups.AreGroups, Groups.first_of}
+use Rattle.net_outcomes.specs.{Deciding.key_told, Outcomes.Outcome, Outcomes.is_accepted}
 use Rattle.net_answers.specs.Summaries.{AreDifferentKeys}
 
 -- the groups of equal keys are one list
@@ -54,8 +49,7 @@ counted (o ∷ os) = by (is_accepted o) (counted os)
     by : (b : Bool) → length (filter is_accepted os) ≡ length (filter (λ (b : Bool). b) (map is_accepted os))
         → length (cond b (o ∷ filter is_accepted os) (filter is_accepted os)) ≡ length
         (cond b (b ∷ filter (λ (b : Bool). b) (map is_accepted os)) (filter (λ (b : Bool). b) (map is_accepted os)))
-    by true e = ap (λ n. suc n) e
-    by false e = e
+    by b h = grind arith
 
 pub as_many_accepted : (os ps : List Outcome) → map is_accepted os ≡ map is_accepted ps → length (filter is_accepted os) ≡ length (filter is_accepted ps)
 as_many_accepted os ps e = counted os ∙ ap (λ bs. length (filter (λ (b : Bool). b) bs)) e ∙ sym (counted ps)

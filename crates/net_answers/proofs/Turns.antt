@@ -1,18 +1,14 @@
 -- A block and its outcome, as they come in turn.
 use Rattle.std.proofs.Common.{◌≡◌, ℕ, ◌+◌, ◌-◌, ◌<◌, true, List, length, get_or, Option, Some, None, sym, ap, subst, ◌∙◌, true≢false, arith}
-use Rattle.std.specs.List.{list_all}
-use Rattle.std.specs.Prelude.{is_some, unwrap_or}
 use Rattle.std.proofs.lemmas.List.{get_or-map, length-map}
+use Rattle.std.specs.{List.list_all, Prelude.is_some, Prelude.unwrap_or}
 use Rattle.cgd_read.specs.Views.{BlockView, block_view, views}
 use Rattle.cgd_read.specs.declared.block.Block.{Block}
-use Rattle.least_key.specs.AnyNets.{net_view}
-use Rattle.least_key.specs.KeyedNets.{HasKinds}
-use Rattle.least_key.specs.declared.net.Net.{Net}
+use Rattle.least_key.specs.{AnyNets.net_view, KeyedNets.HasKinds, declared.net.Net.Net}
 use Rattle.archive_text.specs.Entries.{EntryView}
-use Rattle.net_report.specs.KindsTold.{AreKindsOfAll, AreKindsTold}
-use Rattle.net_report.specs.declared.command.Command.TheVariants.{Key}
+use Rattle.net_report.specs.{KindsTold.AreKindsOfAll, KindsTold.AreKindsTold, declared.command.Command.TheVariants.Key}
 use Rattle.net_report.proofs.CallerLemmas.{as_many_kinds, kinds_at}
-use Rattle.net_outcomes.specs.Outcomes.{Outcome, OutcomeBody, Keyed, AreOutcomesFrom, is_accepted, net_told}
+use Rattle.net_outcomes.specs.Outcomes.{Outcome, OutcomeBody, AreOutcomesFrom, is_accepted, net_told}
 use Rattle.net_answers.specs.Due.{IsNetOf}
 use Rattle.net_answers.proofs.KeyedBlocks.{IsToldNet, as_many, told_at}
 
@@ -49,8 +45,7 @@ one_told block o h e = true≢false (ap is_some (sym h.told_is ∙ sym e))
 
 -- kinds beside the net that is reported are kinds of its classes
 kinds_told : (body : OutcomeBody) (net : Net) (ks : List ℕ) → AreKindsTold body ks → Some net ≡ net_told body → HasKinds (net_view net) ks
-kinds_told (Keyed size own) net ks h e = subst (λ (n : Net). HasKinds (net_view n) ks) (ap (λ (t : Option Net). unwrap_or t net) (sym e)) h
-kinds_told body net ks h e = absurd (true≢false (ap is_some e))
+kinds_told body net ks k l = grind arith
 
 -- the kinds of the outcome with this number, and that it has them
 pub kinds_inside : (os : List Outcome) (kinds : List (List ℕ)) (i number : ℕ) → AreKindsOfAll os kinds → i < length os → number ≡ i + 1

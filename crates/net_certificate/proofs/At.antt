@@ -98,7 +98,4 @@ module _ {X : Type 0} (g : ℕ → List X) (k : ℕ) (each : (u : ℕ) → lengt
 
   -- the same of pieces that are counted from 0
   pub at_piece_below : (n i j : ℕ) (x : X) → i < n → At (g i) j x → At (flat_map g (range_with_len 0 n)) (i * k + j) x
-  at_piece_below n i j x l h = at_piece 0 n i j x l (subst (λ (t : ℕ). At (g t) j x) (none i) h)
-    where
-      none : (i : ℕ) → i ≡ 0 + i
-      none i = omega arith
+  at_piece_below n i j x l h = search (arith, at_piece)

@@ -2,11 +2,9 @@
 use Rattle.std.proofs.Common.{◌≡◌, ◌⊎◌, ℕ, zero, suc, ◌+◌, ◌<◌, ◌≤◌, ℤ, length, get_or, drop, List, [], ◌∷◌, ◌++◌, inl, inr, refl, sym, ap, subst, ◌∙◌, arith}
 use Rattle.std.specs.Prelude.{unsigned_abs, All, false, is_some, true, Option, None, Some}
 use Rattle.std.specs.List.{flat_map}
-use Rattle.integers.proofs.lists.Members.{IsIn, contains_from_in}
-use Rattle.integers.proofs.lists.Pieces.{all_from_in, in_append}
+use Rattle.integers.proofs.lists.{Members.IsIn, Members.contains_from_in, Pieces.all_from_in, Pieces.in_append, More.drop_all}
 use Rattle.standard_map.specs.MapNumbers.{most_part}
 use Rattle.net_certificate.specs.Tables.{IsFirstWide}
-use Rattle.integers.proofs.lists.More.{drop_all}
 
 -- what holds of all holds of a member
 of_member : {X : Type 0} (P : X → Type 0) (xs : List X) (x : X) → All P xs → IsIn xs x → P x
@@ -54,11 +52,7 @@ wide_some xs ys None t h = absurd (no_first t)
 wide_some xs ys (Some v) t h = wide_first xs ys v h
 
 pub wide_more : (xs ys : List ℤ) (o p : Option ℤ) → is_some o ≡ false → IsFirstWide xs o → IsFirstWide ys p → IsFirstWide (xs ++ ys) p
-wide_more xs ys None p t h k = wide_next xs ys p h k
-wide_more xs ys (Some v) p t h k = absurd (some_first v t)
-  where
-    some_first : (v : ℤ) → true ≡ false → ⊥
-    some_first v e = grind arith
+wide_more xs ys o p l q r = search (arith, wide_next)
 
 -- no number, and one number
 pub wide_none : IsFirstWide [] None

@@ -1,19 +1,13 @@
 -- The rows of a text follow one another.
 use Rattle.std.proofs.Common.{◌≡◌, ◌≤◌, ◌<◌, ◌+◌, ◌^◌, ℕ, List, [], ◌∷◌, ◌++◌, All, length, map, refl, sym, ap, ◌∙◌, subst, arith}
+use Rattle.std.proofs.lemmas.{List.append-nil, List.length-append, List.Elements.All-head, List.Elements.All-tail}
 use mathlib.Core.List.{append_assoc}
-use Rattle.std.proofs.lemmas.List.{append-nil, length-append}
-use Rattle.std.proofs.lemmas.List.Elements.{All-head, All-tail}
 use Rattle.integers.specs.Vectors.{Vector}
 use Rattle.periodic_net.specs.Graph.{Graph, Arc, Vertex}
 use Rattle.quotient_graph.specs.Order.{AreRising}
-use Rattle.graph_rows.specs.declared.size.GraphSize.{GraphSize}
-use Rattle.graph_rows.specs.Rows.{size_of_graph}
-use Rattle.graph_rows.specs.Forms.{IsEdgeOfSize}
-use Rattle.graph_rows.specs.Reading.{IsFormedGraph}
+use Rattle.graph_rows.specs.{declared.size.GraphSize.GraphSize, Rows.size_of_graph, Forms.IsEdgeOfSize, Reading.IsFormedGraph}
 use Rattle.graph_rows.proofs.CallerLemmas.{rising_front}
-use Rattle.map_check.specs.Conditions.{IsImage, IsShift}
-use Rattle.map_check.specs.Layouts.{vertex_at}
-use Rattle.map_check.specs.declared.map.PeriodicMap.{PeriodicMap}
+use Rattle.map_check.specs.{Conditions.IsImage, Conditions.IsShift, Layouts.vertex_at, declared.map.PeriodicMap.PeriodicMap}
 use Rattle.net_certificate.specs.Items.{ItemView, Without, With, Maps, AreFormed, IsFormedItem, IsFormedMap}
 use Rattle.net_certificate.specs.Rows.{OfTitle, OfEdge, OfBase, OfEnd}
 use Rattle.net_certificate.specs.Texts.{graph_rows, image_rows, table_rows, map_rows, item_rows, items_rows}

@@ -1,32 +1,49 @@
 -- A map that is found passes the check, where it has no more images than are checked.
-use Rattle.std.proofs.Common.{get_or, ◌≡◌, ◌⊎◌, inl, inr, ℕ, ◌≤◌, ℤ, pos, length, List, [], ◌∷◌, refl, sym, ap, subst, ◌∙◌, arith}
-use Rattle.std.specs.Prelude.{unsigned_abs, All}
-use Rattle.std.specs.List.{flat_map}
-use Rattle.integers.specs.Bases.{Base, base_sum}
+use Rattle.std.proofs.Common.{◌≡◌, ℕ, ◌≤◌, List, length, ap, subst, ◌∙◌, arith, get_or, ◌⊎◌, inl, inr, ℤ, pos, [], ◌∷◌, refl, sym}
 use Rattle.integers.specs.Vectors.{Vector, vector, zero_vector, parts, times, HasDimension, IsWithin}
+use Rattle.integers.specs.Bases.{Base, base_sum}
+use Rattle.periodic_net.specs.Graph.{Graph, IsGraph, Vertex, vertex, moved, IsVertex}
+use Rattle.periodic_net.specs.{Limits.most_vertices, Maps.IsInBox}
+use Rattle.key_theory.specs.Key.{Shape}
+use Rattle.least_key.specs.KeyedNets.{KeyedNet}
+use Rattle.map_check.specs.Conditions.{most_images, IsImage, IsShift, most_part}
+use Rattle.map_check.specs.{declared.map.PeriodicMap.PeriodicMap, Layouts.place_of, Layouts.table_for, Tables.IsBoxVertex}
+use Rattle.net_certificate.specs.Answers.{IsMapAnswer, PassesIfFound, shape_of, IsPassing}
+use Rattle.net_certificate.specs.{Items.With, Items.IsWritable, declared.answer.MapAnswer.MapAnswer, declared.answer.MapAnswer.TheVariants.Found}
+use Rattle.net_certificate.specs.{Laws.FoundMapsPass}
+use Rattle.standard_map.specs.MapNumbers.{IsFound, box_vertices, entries_of, StandardTable, base_rows, images_of, map_numbers}
+use Rattle.standard_map.specs.{Laws.HaveOneList, Laws.IsTableOfIsomorphism, StandardMaps.framed_net, StandardMaps.IsWrittenBy}
+use Rattle.net_certificate.proofs.BoxLists.{box_length, box_inside, vertex_stands}
+use Rattle.net_certificate.proofs.At.{map_length, at_map, read_at}
+use Rattle.std.specs.{Prelude.unsigned_abs, Prelude.All, List.flat_map}
 use Rattle.integers.proofs.lists.Members.{IsIn, contains_from_in}
 use Rattle.integers.proofs.lists.Pieces.{all_from_in, append_left, append_right, in_map, pieces_in}
 use Rattle.sublattice.specs.Sublattices.{base_of}
 use Rattle.sublattice.proofs.CallerLemmas.{any_last}
-use Rattle.periodic_net.specs.Graph.{Graph, IsGraph, Vertex, vertex, moved, IsVertex}
-use Rattle.periodic_net.specs.Limits.{most_vertices}
-use Rattle.periodic_net.specs.Maps.{IsInBox}
-use Rattle.key_theory.specs.Key.{Shape}
-use Rattle.map_check.specs.Layouts.{place_of, table_for}
-use Rattle.map_check.specs.Tables.{IsBoxVertex}
-use Rattle.map_check.specs.Conditions.{IsImage, IsShift, most_images, most_part}
-use Rattle.standard_map.specs.Laws.{HaveOneList, IsTableOfIsomorphism}
-use Rattle.standard_map.specs.MapNumbers.{StandardTable, box_vertices, base_rows, entries_of, images_of, map_numbers}
-use Rattle.standard_map.specs.StandardMaps.{framed_net, IsWrittenBy}
-use Rattle.standard_map.proofs.OneMap.{one_list_of}
-use Rattle.standard_map.proofs.Sides.{same_dimension}
-use Rattle.standard_map.proofs.StandardPeriods.{standard_map_has_period}
-use Rattle.standard_map.proofs.WrittenMaps.{written_maps_pass}
-use Rattle.net_certificate.proofs.At.{at_map, map_length, read_at}
-use Rattle.net_certificate.proofs.BoxPlaces.{box_inside, box_length, vertex_stands}
 use Rattle.standard_map.proofs.OneTable.{first_unit, second_unit, third_unit}
-use Rattle.net_certificate.specs.Answers.{IsPassing}
-use Rattle.net_certificate.specs.Laws.{FoundMapsPass}
+use Rattle.standard_map.proofs.{OneMap.one_list_of, Sides.same_dimension, StandardPeriods.standard_map_has_period, WrittenMaps.written_maps_pass}
+
+-- A map that is found, with the room that there was for it.
+
+-- it has no more images than there is room for
+pub found_few : (G H : Graph) (g : Shape G) (h : Shape H) (room m : ℕ) (images : List Vertex) (rows : List Vector) → IsGraph G
+    → IsFound G H g h room m images rows → length images ≤ room
+found_few G H g h room m images rows ig f =
+    let t = f.table in
+    let count : length images ≡ entries_of G t.m = ap length f.images_are ∙ map_length t.carry (box_vertices G t.m) ∙ box_length G t.m ig.dimension in
+    let r = f.room_for in
+    omega (arith, count, r)
+
+-- so it is with an answer
+pub answer_few : (a b : KeyedNet) (room : ℕ) (answer : MapAnswer) (M : PeriodicMap) → answer ≡ Found M → IsMapAnswer a b room answer → length M.images ≤ room
+answer_few a b room answer M e is =
+    let q = subst (IsMapAnswer a b room) e is in
+    found_few a.placed.graph b.placed.graph (shape_of a q.here) (shape_of b q.there) room M.m M.images M.base q.here.is_graph q.by
+
+-- and it can be written
+pub answer_writable : (G H : Graph) (answer : MapAnswer) (M : PeriodicMap) → answer ≡ Found M → PassesIfFound G H answer → length M.images ≤ most_images
+    → IsWritable (With H M)
+answer_writable G H answer M e is few = search arith
 
 -- what holds of all holds of a member
 of_member : {X : Type 0} (P : X → Type 0) (xs : List X) (x : X) → All P xs → IsIn xs x → P x
@@ -34,21 +51,15 @@ of_member P xs x h i = let c = contains_from_in xs x i in subst P c.2 (h c.0 x c
 
 -- a vector whose parts are small, as many as the dimension has
 parts_small : (d n : ℕ) (v : Vector) → (d ≡ 2) ⊎ (d ≡ 3) → HasDimension d v → ((x : ℤ) → IsIn (parts d v) x → unsigned_abs x ≤ n) → IsWithin n v
-parts_small d n v c f h = (h v.x (inl refl), h v.y (inr (inl refl)), last c)
-  where
-    last : (d ≡ 2) ⊎ (d ≡ 3) → unsigned_abs v.z ≤ n
-    last (inl e) = let z = ap unsigned_abs (f e) in omega (arith, z)
-    last (inr e) = h v.z (subst (λ (k : ℕ). IsIn (parts k v) v.z) (sym e) (inr (inr (inl refl))))
+parts_small d n v c f h = search arith
 
 -- the base of the rows of some shifts
 rows_base : (d : ℕ) (b : Base) (k : Vector) → (d ≡ 2) ⊎ (d ≡ 3) → HasDimension d k → base_sum (base_of (base_rows d b)) k ≡ base_sum b k
-rows_base d b k (inl e) f = ap (λ (n : ℕ). base_sum (base_of (base_rows n b)) k) e ∙ any_last b.first b.second zero_vector b.third k (f e)
-rows_base d b k (inr e) f = ap (λ (n : ℕ). base_sum (base_of (base_rows n b)) k) e
+rows_base d b k h l = grind (arith, any_last)
 
 -- the number of rows
 rows_count : (d : ℕ) (b : Base) → (d ≡ 2) ⊎ (d ≡ 3) → length (base_rows d b) ≡ d
-rows_count d b (inl e) = subst (λ (n : ℕ). length (base_rows n b) ≡ n) (sym e) refl
-rows_count d b (inr e) = subst (λ (n : ℕ). length (base_rows n b) ≡ n) (sym e) refl
+rows_count d b h = search arith
 
 -- each row is a sum along a unit vector
 rows_flat : (d e : ℕ) (b : Base) → (d ≡ 2) ⊎ (d ≡ 3) → ((k : Vector) → HasDimension d k → HasDimension e (base_sum b k)) → (v : Vector)

@@ -1,21 +1,61 @@
 -- Graphs that are read in a text.
-use Rattle.std.proofs.Common.{◌≡◌, ◌≢◌, ◌==◌, true, false, ℕ, inl, inr, List, [], ◌∷◌, ◌++◌, map, length, refl, sym, ap, ◌∙◌, subst, arith}
-use mathlib.Core.List.{append_assoc}
-use Rattle.std.proofs.lemmas.Bool.{eqb-true, true≢false}
-use Rattle.std.proofs.lemmas.List.{append_cancel_left}
+use Rattle.std.proofs.Common.{◌≡◌, ◌<◌, ◌≤◌, ℕ, List, [], ◌∷◌, ◌++◌, length, refl, sym, ap, ◌∙◌, subst, arith, ◌≢◌, ◌==◌, true, false, inl, inr, map}
+use Rattle.std.proofs.lemmas.{List.length-append, List.append_cancel_left, Bool.eqb-true, Bool.true≢false}
 use Rattle.periodic_net.specs.Graph.{Graph, Arc}
 use Rattle.line_text.specs.Lines.{Place, IsAt, rows_text}
+use Rattle.line_text.proofs.CallerLemmas.{less_left}
 use Rattle.graph_rows.specs.declared.size.GraphSize.{GraphSize}
-use Rattle.graph_rows.specs.Rows.{size_row, edge_row, edge_lines, graph_lines, size_of_graph}
+use Rattle.graph_rows.specs.Rows.{size_of_graph, size_row, edge_row, edge_lines, graph_lines}
 use Rattle.graph_rows.specs.Reading.{HasGraph, HasBadGraph, HasBadEdge, IsFormedGraph}
-use Rattle.net_certificate.specs.Items.{ItemView}
-use Rattle.net_certificate.specs.Rows.{OfSize, OfEdge, row_lines}
-use Rattle.net_certificate.specs.Texts.{graph_rows}
-use Rattle.net_certificate.specs.Stages.{Stage, Start, Titled, Listed, Opened, Drawn, Drawing, drawing, drawing_of, Walk}
-use Rattle.net_certificate.specs.Reading.{IsIn, HasBadLine}
-use Rattle.net_certificate.proofs.Places.{rows_in, bad_in, walk_on, lines_of_sum}
+use Rattle.net_certificate.specs.Items.{ItemView, item_view, item_views}
+use Rattle.net_certificate.specs.Rows.{Row, row_line, row_lines, OfSize, OfEdge}
+use Rattle.net_certificate.specs.Stages.{Stage, Start, Listed, Drawing, drawing, drawing_of, next_number, with_item, Titled, Opened, Drawn, Walk}
+use Rattle.net_certificate.specs.{declared.item.Item.Item, Texts.item_rows, Texts.graph_rows, Reading.IsIn, Reading.HasBadLine, FirstRows.listed_rows}
+use Rattle.net_certificate.proofs.Places.{lines_of_sum, rows_in, bad_in, walk_on, no_first_size, no_first_edge, no_second_size, no_second_edge}
+use Rattle.net_certificate.proofs.StageRows.{item_rows_more, walk_rows}
 use Rattle.net_certificate.proofs.FormedWalks.{AreMore, first_edges_walk, second_edges_walk, first_walk, second_walk}
-use Rattle.net_certificate.proofs.Following.{no_first_size, no_first_edge, no_second_size, no_second_edge}
+use mathlib.Core.List.{append_assoc}
+
+-- Where one more item was read; less is left.
+
+-- an item has a row
+record HasRow (rows : List Row) : Type 0 where
+  pub first : Row
+  pub others : List Row
+  pub is : rows ≡ first ∷ others
+
+has_row : (d k : ℕ) (item : ItemView) → HasRow (item_rows d k item)
+has_row d k item = search arith
+
+-- the rows that were passed are those that lead to the stage
+passed : (text : List ℕ) (g : Drawing) (items : List ItemView) (place : Place) → IsIn text (Listed g items) place
+    → IsAt text (row_lines (listed_rows g items)) place
+passed text g items place is = subst (λ l. IsAt text (row_lines l) place) (sym (walk_rows Start (Listed g items) is.rows tt is.walk)) is.at
+
+pub shorter_in : (text : List ℕ) (g : Drawing) (items : List ItemView) (item : ItemView) (before after : Place) → IsIn text (Listed g items) before
+    → IsIn text (Listed g (with_item items item)) after → length after.rest < length before.rest
+shorter_in text g items item before after one two =
+    let row = has_row g.size.dim (next_number items) item in
+    less_left text (row_lines (listed_rows g items)) (row_lines row.others) (row_line row.first) before after (passed text g items before one)
+    (subst (λ l. IsAt text l after)
+    (ap row_lines (item_rows_more g items item ∙ ap (λ l. listed_rows g items ++ l) row.is) ∙ lines_of_sum (listed_rows g items) (row.first ∷ row.others))
+    (passed text g (with_item items item) after two))
+
+-- what reading says of the items of a graph of this size, said of the graph
+pub of_graph : (P : List ℕ → Drawing → List ItemView → Type 0) (G : Graph) (s : GraphSize) → s ≡ size_of_graph G → (k : ℕ) (place : Place)
+    → ((text : List ℕ) (items : List ItemView) (edges : List Arc) → length edges ≡ s.edges → k ≡ next_number items
+    → IsIn text (Listed (drawing s edges) items) place → P text (drawing s edges) items)
+    → (text : List ℕ) (items : List ItemView) → k ≡ next_number items → IsIn text (Listed (drawing_of G) items) place → P text (drawing_of G) items
+of_graph P G s is k place reads text items h l = search arith
+
+-- no more is left than there was
+pub left_few : (text : List ℕ) (p : Stage) (place : Place) (n : ℕ) → IsIn text p place → length text ≤ n → length place.rest ≤ n
+left_few text p place n is few = search (arith, length-append)
+
+-- items in memory with one more
+pub views_more : (items : List Item) (item : Item) → item_views (items ++ item ∷ []) ≡ with_item (item_views items) (item_view item)
+views_more [] item = refl
+views_more (i ∷ items) item = ap (λ l. item_view i ∷ l) (views_more items item)
 
 -- the rows of edges and of a graph, as bytes
 edges_same : (d : ℕ) (edges : List Arc) → row_lines (map (OfEdge d) edges) ≡ edge_lines d edges
@@ -67,8 +107,7 @@ first_bad text before n is left (inl bad) = bad_in text Titled bad.place n (reco
     (no_first_size bad.place.rest bad.none)
     (λ may none. left (same_rest text (row_lines is.rows) before bad.place is.at bad.at ∙ none))
 first_bad text before n is left (inr bad) =
-    let s = bad.size in
-    let edges = bad.bad.edges in
+    let s = bad.size in let edges = bad.bad.edges in
     let q = Listed (drawing s edges) [] in
     bad_in text q bad.bad.place n (cut_in text Titled q before is s edges bad.bad.place
     (bad.is_size, first_edges_walk s [] edges (some_edges s text (row_lines is.rows ++ size_row s ∷ []) n bad.bad)) bad.bad.at) bad.bad.number
@@ -80,8 +119,7 @@ pub second_bad : (text : List ℕ) (g : Drawing) (items : List ItemView) (before
 second_bad text g items before n is (inl bad) = bad_in text (Opened g items) bad.place n (record { rows = is.rows; walk = is.walk; at = bad.at }) bad.number
     (no_second_size g items bad.place.rest bad.none) (λ may. absurd may)
 second_bad text g items before n is (inr bad) =
-    let s = bad.size in
-    let edges = bad.bad.edges in
+    let s = bad.size in let edges = bad.bad.edges in
     let q = Drawn g items (drawing s edges) in
     bad_in text q bad.bad.place n (cut_in text (Opened g items) q before is s edges bad.bad.place
     (bad.is_size, second_edges_walk g items s [] edges (some_edges s text (row_lines is.rows ++ size_row s ∷ []) n bad.bad)) bad.bad.at) bad.bad.number

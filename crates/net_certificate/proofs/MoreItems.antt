@@ -1,20 +1,15 @@
 -- What is found of one more item.
-use Rattle.std.proofs.Common.{◌≡◌, ◌≤◌, ◌+◌, ℕ, List, [], ◌∷◌, ◌++◌, Option, Some, Bool, true, false, All, length, refl, sym, ap, ◌∙◌, subst, arith}
-use Rattle.std.proofs.lemmas.List.{length-append}
-use Rattle.std.proofs.Math.Seq.{get_or-append_seam}
+use Rattle.std.proofs.Common.{◌≡◌, ◌≤◌, ◌+◌, ℕ, List, [], ◌∷◌, ◌++◌, Option, Some, Bool, All, length, refl, sym, ap, ◌∙◌, subst, arith}
+use Rattle.std.proofs.{lemmas.List.length-append, Math.Seq.get_or-append_seam}
 use Rattle.periodic_net.specs.Graph.{Graph}
 use Rattle.line_text.specs.Lines.{Place, rows_text}
 use Rattle.line_text.proofs.CallerLemmas.{rows_text_of_sum}
-use Rattle.map_check.specs.declared.verdict.Verdict.{Verdict}
-use Rattle.net_certificate.specs.Items.{ItemView, With}
-use Rattle.net_certificate.specs.Reading.{IsIn, IsBegun}
+use Rattle.map_check.specs.declared.{verdict.Verdict.Verdict, map.PeriodicMap.PeriodicMap}
 use Rattle.net_certificate.specs.Stages.{Listed, drawing_of, with_item}
-use Rattle.net_certificate.proofs.WholeTexts.{text_said}
-use Rattle.net_certificate.proofs.WrittenLines.{two_written}
 use Rattle.net_certificate.specs.Results.{IsVerdictOf, AreVerdicts, result_row, result_rows, is_refused, one_where, refused_count, HasMapResult, HasResult}
 use Rattle.net_certificate.specs.Checks.{ArePassed, AreAll, IsChecked}
-use Rattle.net_certificate.specs.declared.checking.CheckedMaps.{CheckedMaps}
-use Rattle.map_check.specs.declared.map.PeriodicMap.{PeriodicMap}
+use Rattle.net_certificate.specs.{Items.ItemView, Items.With, Reading.IsIn, Reading.IsBegun, declared.checking.CheckedMaps.CheckedMaps}
+use Rattle.net_certificate.proofs.{WholeTexts.text_said, Written.two_written}
 
 verdicts_more : (G : Graph) (items : List ItemView) (verdicts : List (Option Verdict)) (item : ItemView) (verdict : Option Verdict)
     → AreVerdicts G items verdicts → IsVerdictOf G item verdict → AreVerdicts G (items ++ item ∷ []) (verdicts ++ verdict ∷ [])
@@ -41,18 +36,11 @@ refused_more [] verdict = omega arith
 refused_more (v ∷ verdicts) verdict = let later = refused_more verdicts verdict in omega (arith, later)
 
 one_few : (b : Bool) → one_where b ≤ 1
-one_few true = omega arith
-one_few false = omega arith
+one_few b = search arith
 
 -- nothing was passed
 pub none_passed : (G : Graph) (start : Place) (text : List ℕ) → text ≡ [] → ArePassed G start start 2 text 0
-none_passed G start text none = record {
-  items = [];
-  at = λ whole is. is;
-  tells = record { verdicts = []; are = tt; text_is = none; refused_is = refl };
-  number = refl;
-  few = omega arith;
-}
+none_passed G start text h = search arith
 
 -- one more item was passed
 pub one_more : (G : Graph) (start now after : Place) (k : ℕ) (text new : List ℕ) (refused sum : ℕ) (item : ItemView) (verdict : Option Verdict)
@@ -62,8 +50,7 @@ pub one_more : (G : Graph) (start now after : Place) (k : ℕ) (text new : List 
 one_more G start now after k text new refused sum item verdict p at is put added =
     let verdicts = p.tells.verdicts in
     let count = same_count G p.items verdicts p.tells.are in
-    let few = p.few in
-    let number = p.number in
+    let few = p.few in let number = p.number in
     let long = length-append p.items (item ∷ []) in
     let at_k : k ≡ length verdicts + 2 = omega (arith, number, count) in
     record {

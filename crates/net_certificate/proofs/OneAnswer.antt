@@ -1,10 +1,7 @@
 -- Two nets have one answer by a room at most.
 use Rattle.std.proofs.Common.{◌≡◌, ℕ, ◌≤◌, pos, map, refl, sym, ap, subst, ◌∙◌, arith}
-use Rattle.integers.specs.Bases.{base_sum}
-use Rattle.integers.specs.Vectors.{vector, times}
-use Rattle.integers.proofs.lists.Members.{IsIn}
-use Rattle.integers.proofs.lists.Pieces.{map_same}
-use Rattle.integers.proofs.vectors.Laws.{plus_cancel, times_dimension}
+use Rattle.integers.specs.{Bases.base_sum, Vectors.vector, Vectors.times}
+use Rattle.integers.proofs.{lists.Members.IsIn, lists.Pieces.map_same, vectors.Laws.plus_cancel, vectors.Laws.times_dimension}
 use Rattle.periodic_net.specs.Graph.{Graph, IsGraph, Vertex, vertex, moved}
 use Rattle.periodic_net.specs.Maps.{IsPeriodic}
 use Rattle.periodic_net.proofs.CallerLemmas.{moved_vertex, origin_vertex}
@@ -12,22 +9,18 @@ use Rattle.key_theory.specs.Key.{Shape}
 use Rattle.least_key.specs.KeyedNets.{KeyedNet, IsKeyed}
 use Rattle.map_check.specs.declared.map.PeriodicMap.{PeriodicMap}
 use Rattle.standard_map.specs.MapNumbers.{StandardTable, box_vertices, entries_of, images_of, base_rows, IsLong, IsFound}
-use Rattle.standard_map.proofs.Excluding.{causes_exclude}
 use Rattle.standard_map.proofs.OneMap.{one_count, one_period, one_standard_map}
-use Rattle.net_certificate.proofs.BoxPlaces.{box_inside}
-use Rattle.standard_map.proofs.OneTable.{rows_same}
-use Rattle.net_certificate.specs.Answers.{shape_of, IsAnswerBy}
-use Rattle.net_certificate.specs.Laws.{OneMapAnswer}
-use Rattle.net_certificate.specs.declared.answer.MapAnswer.{MapAnswer}
+use Rattle.standard_map.proofs.{Excluding.causes_exclude, OneTable.rows_same}
+use Rattle.net_certificate.proofs.BoxLists.{box_inside}
 use Rattle.net_certificate.specs.declared.answer.MapAnswer.TheVariants.{Different, Found, LongMap, WideMap}
+use Rattle.net_certificate.specs.{Answers.shape_of, Answers.IsAnswerBy, Laws.OneMapAnswer, declared.answer.MapAnswer.MapAnswer}
 
 module _ (a b : KeyedNet) (k k' : IsKeyed a) (l l' : IsKeyed b) where
   -- a table does not depend on how it is known that the nets have their keys
   abbrev table_again : StandardTable a.placed.graph b.placed.graph (shape_of a k) (shape_of b l)
       → StandardTable a.placed.graph b.placed.graph (shape_of a k') (shape_of b l')
   table_again t =
-      let s = t.standard in
-      let c = s.carries in
+      let s = t.standard in let c = s.carries in
       record {
         carry = t.carry;
         standard = record {

@@ -1,22 +1,17 @@
 -- A map has one true verdict at most.
-use Rattle.std.proofs.Common.{◌≡◌, inl, inr, ◌⊎◌, ℕ, ◌≤◌, pos, List, ◌∷◌, refl, sym, ap, subst, ◌∙◌}
+use Rattle.std.proofs.Common.{◌≡◌, inl, inr, ◌⊎◌, ℕ, ◌≤◌, pos, List, ◌∷◌, refl, sym, ap, subst, ◌∙◌, arith}
 use Rattle.integers.specs.Vectors.{IsBelow, Vector, parts}
-use Rattle.integers.proofs.lists.ListOrder.{below_or_equal, not_below_itself}
-use Rattle.integers.proofs.vectors.Parts.{parts_tell}
+use Rattle.integers.proofs.{lists.ListOrder.below_or_equal, lists.ListOrder.not_below_itself, vectors.Parts.parts_tell}
 use Rattle.periodic_net.specs.Graph.{Graph, Arc, arc, Vertex, vertex}
 use Rattle.periodic_net.specs.Maps.{PeriodicMap}
 use Rattle.periodic_net.proofs.CallerLemmas.{drawn, drawn_by_table}
 use Rattle.quotient_graph.specs.Order.{arc_numbers}
 use Rattle.quotient_graph.proofs.Rising.{arc_from_numbers}
-use Rattle.map_check.specs.Layouts.{ComesBefore, table_for}
-use Rattle.map_check.specs.Laws.{Passes}
-use Rattle.map_check.specs.Tables.{HasNoDouble, DegreesAgree}
 use Rattle.map_check.specs.Faults.{HasFault, HasOtherDegree, IsDoubled, IsFirstInBox, IsFirstLost, IsFirstLostArc, IsVerdict, LosesArc, PassesBefore}
-use Rattle.map_check.specs.Verified.{IsTold}
-use Rattle.map_check.specs.declared.verdict.MapFault.{MapFault}
+use Rattle.map_check.specs.{Layouts.ComesBefore, Layouts.table_for, Laws.Passes, Tables.HasNoDouble, Tables.DegreesAgree, Verified.IsTold}
+use Rattle.map_check.specs.{declared.verdict.MapFault.MapFault, declared.verdict.Verdict.Verdict, declared.verdict.Verdict.TheVariants.Yes}
+use Rattle.map_check.specs.{declared.verdict.Verdict.TheVariants.No}
 use Rattle.map_check.specs.declared.verdict.MapFault.TheVariants.{Dimension, Count, Doubled, Degree, Arc as LostArc}
-use Rattle.map_check.specs.declared.verdict.Verdict.{Verdict}
-use Rattle.map_check.specs.declared.verdict.Verdict.TheVariants.{Yes, No}
 
 -- the number and the cell of a vertex determine it
 vertex_told : (u v : ℕ) (r s : Vector) → (pos u ∷ parts 3 r) ≡ (pos v ∷ parts 3 s) → (u ≡ v) × (r ≡ s)
@@ -28,9 +23,7 @@ one_in_box : (G : Graph) (m : ℕ) (P : Vertex → Type 0) (u v : ℕ) (r s : Ve
 one_in_box G m P u v r s h k = by (below_or_equal (pos u ∷ parts 3 r) (pos v ∷ parts 3 s))
   where
     by : ComesBefore (vertex u r) (vertex v s) ⊎ (((pos u ∷ parts 3 r) ≡ (pos v ∷ parts 3 s)) ⊎ ComesBefore (vertex v s) (vertex u r)) → (u ≡ v) × (r ≡ s)
-    by (inl before) = absurd (k.none (vertex u r) h.inside before h.is)
-    by (inr (inl e)) = vertex_told u v r s e
-    by (inr (inr before)) = absurd (h.none (vertex v s) k.inside before k.is)
+    by l = grind (arith, vertex_told)
 
 -- the first lost arc of a vertex is one
 one_lost_arc : (G H : Graph) (f : Vertex → Vertex) (w : Vertex) (a c : Arc) → IsFirstLostArc G H f w a → IsFirstLostArc G H f w c → a ≡ c

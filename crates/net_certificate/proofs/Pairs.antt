@@ -1,20 +1,15 @@
 -- The first line of an item.
-use Rattle.std.proofs.Common.{◌≡◌, ◌<◌, ◌^◌, ℕ, ℤ, pos, List, ◌++◌, Some, refl, sym, ap, ◌∙◌}
-use Rattle.std.specs.Prelude.{codes}
-use Rattle.std.specs.Fmt.{signed_decimal}
+use Rattle.std.proofs.Common.{◌≡◌, ◌<◌, ◌^◌, ℕ, ℤ, pos, List, ◌++◌, Some, sym, ap, ◌∙◌, arith}
 use Rattle.std.proofs.lemmas.List.{append_cancel_left}
-use Rattle.line_text.specs.Lines.{HasNo}
-use Rattle.line_text.specs.Numbers.{IsWide}
+use Rattle.std.specs.{Prelude.codes, Fmt.signed_decimal}
+use Rattle.line_text.specs.{Lines.HasNo, Numbers.IsWide}
 use Rattle.line_text.proofs.CallerLemmas.{same_number}
-use Rattle.net_certificate.specs.declared.item.NoMap.{NoMap}
 use Rattle.net_certificate.specs.declared.item.NoMap.TheVariants.{Different, Long, Wide}
-use Rattle.net_certificate.specs.declared.pair.Heading.{Heading}
-use Rattle.net_certificate.specs.declared.pair.Heading.TheVariants.{Reason, Map}
-use Rattle.net_certificate.specs.Items.{IsTold}
 use Rattle.net_certificate.specs.Rows.{pair_text, reason_text, map_word, row_line}
 use Rattle.net_certificate.specs.Pairs.{heading_text, heading_row, IsToldHeading}
-use Rattle.net_certificate.proofs.PlainRows.{reason_row_none, map_row_none, told_wide}
-use Rattle.net_certificate.proofs.SameRows.{same_reason_text, no_reason_text}
+use Rattle.net_certificate.specs.{declared.item.NoMap.NoMap, declared.pair.Heading.Heading, declared.pair.Heading.TheVariants.Reason}
+use Rattle.net_certificate.specs.{declared.pair.Heading.TheVariants.Map, Items.IsTold}
+use Rattle.net_certificate.proofs.RowForms.{reason_row_none, map_row_none, told_wide, same_reason_text, no_reason_text}
 
 pub is_long : (text digits : List ℕ) (z : ℤ) (n : ℕ) → text ≡ codes " long entries=" ++ digits → digits ≡ signed_decimal z → z ≡ pos n
     → text ≡ reason_text (Long n)
@@ -68,16 +63,13 @@ reason_told text a b ha hb one two = ap (λ w. Some w) (same_reason_text a b ha 
 
 -- so is a map
 pub map_told : (text : List ℕ) (h : Heading) → text ≡ map_word → text ≡ heading_text h → Some Map ≡ Some h
-map_told text (Reason why) one two = absurd (no_reason_text why (sym two ∙ one))
-map_told text Map one two = refl
+map_told text h k l = search (arith, no_reason_text)
 
 pub heading_line : (k : ℕ) (h : Heading) → row_line (heading_row k h) ≡ pair_text k ++ heading_text h
-heading_line k (Reason why) = refl
-heading_line k Map = refl
+heading_line k h = search arith
 
 pub heading_none : (k : ℕ) (h : Heading) → k < 2 ^ 32 → IsToldHeading h → HasNo 10 (row_line (heading_row k h))
-heading_none k (Reason why) short told = reason_row_none k why short told
-heading_none k Map short told = map_row_none k short
+heading_none k h l p = search (arith, reason_row_none, map_row_none)
 
 -- what follows the number of a graph on its first line
 pub heading_left : (line text : List ℕ) (k : ℕ) (h : Heading) → line ≡ pair_text k ++ text → line ≡ row_line (heading_row k h) → text ≡ heading_text h
@@ -86,18 +78,14 @@ heading_left line text k h one two = append_cancel_left (pair_text k) text (head
 -- the reason of this text, where it is a reason
 pub heading_told : (text : List ℕ) (a : NoMap) (h : Heading) → IsTold a → text ≡ reason_text a → IsToldHeading h → text ≡ heading_text h
     → Some (Reason a) ≡ Some h
-heading_told text a (Reason why) ha one hb two = ap (λ w. Some (Reason w)) (same_reason_text a why ha hb (sym one ∙ two))
-heading_told text a Map ha one hb two = absurd (no_reason_text a (sym one ∙ two))
+heading_told text a h k l p q = search (arith, same_reason_text, no_reason_text)
 
 -- a text that is none of these is no reason
 pub no_reason_at : (text : List ℕ) → (text ≡ codes " different" → ⊥) → ((n : ℕ) → n < 2 ^ 64 → text ≡ reason_text (Long n) → ⊥)
     → ((z : ℤ) → IsWide z → text ≡ reason_text (Wide z) → ⊥)
     → (why : NoMap) → IsTold why → text ≡ reason_text why → ⊥
-no_reason_at text different long wide Different told e = different (different_is text e)
-no_reason_at text different long wide (Long n) told e = long n told e
-no_reason_at text different long wide (Wide z) told e = wide z told e
+no_reason_at text h k l why p q = search (arith, different_is)
 
 pub no_heading : (text : List ℕ) → (text ≡ codes " map" → ⊥) → ((why : NoMap) → IsTold why → text ≡ reason_text why → ⊥) → (h : Heading) → IsToldHeading h
     → text ≡ heading_text h → ⊥
-no_heading text map_ reason (Reason why) told e = reason why told e
-no_heading text map_ reason Map told e = map_ (is_map text e)
+no_heading text k l h p q = search (arith, is_map)

@@ -1,34 +1,24 @@
 -- The table of the standard map of two nets with one key, from their sides.
 use Rattle.std.proofs.Common.{◌≡◌, ℕ, ℤ, ◌≤◌, ◌<◌, ◌*◌, pos, List, get_or, map, refl, sym, ap, subst, ◌∙◌, arith}
-use Rattle.std.specs.Prelude.{unsigned_abs, All, Result, Ok, Err, IfOk}
 use Rattle.std.proofs.lemmas.Nat.Gcd.{le_of_dvd}
-use Rattle.integers.specs.Bases.{Base}
-use Rattle.integers.specs.Vectors.{Vector}
-use Rattle.periodic_net.specs.Classes.{ClassArc, ClassGraph}
-use Rattle.periodic_net.specs.Graph.{Graph, Vertex}
-use Rattle.periodic_net.specs.Limits.{most_vertices, IsSmall}
-use Rattle.periodic_net.specs.Placement.{Placement}
+use Rattle.std.specs.Prelude.{unsigned_abs, All, Result, IfOk}
+use Rattle.integers.specs.{Bases.Base, Vectors.Vector}
+use Rattle.periodic_net.specs.{Classes.ClassArc, Classes.ClassGraph, Graph.Graph, Graph.Vertex, Limits.most_vertices, Limits.IsSmall, Placement.Placement}
 use Rattle.key_theory.specs.Key.{IsLeastList}
 use Rattle.key_theory.specs.Traversal.{axes_of, IsLeastScale, IsListOf}
-use Rattle.map_check.specs.Conditions.{most_period}
-use Rattle.map_check.specs.Layouts.{box_size}
+use Rattle.map_check.specs.{Conditions.most_period, Layouts.box_size}
 use Rattle.map_check.proofs.CallerLemmas.{box_is_power}
 use Rattle.quotient_graph.specs.PlacedNets.{PlacedNet}
 use Rattle.least_key.specs.KeyedNets.{KeyedNet, IsKeyed}
-use Rattle.standard_map.specs.LeastPairs.{IsLeastPair, IsPairOf}
 use Rattle.standard_map.specs.MapNumbers.{StandardTable, base_rows, box_vertices, entries_of, images_of, map_numbers, most_part, IsFirstPast}
 use Rattle.standard_map.specs.StandardMaps.{framed_net, AreCellImages, IsPeriodOf}
-use Rattle.standard_map.proofs.StandardPeriods.{cell_images_give_period}
-use Rattle.standard_map.proofs.Theorems.{standard_map_exists}
 use Rattle.standard_map.specs.Sides.{NetSide, net_side, HaveOneKey, HaveParts, IsStandardBy}
-use Rattle.standard_map.proofs.CallerLemmas.{arc_part}
-use Rattle.standard_map.specs.Turns.{AreImageCells}
-use Rattle.net_certificate.specs.Tables.{AreImages}
+use Rattle.standard_map.specs.{LeastPairs.IsLeastPair, LeastPairs.IsPairOf, Turns.AreImageCells}
+use Rattle.standard_map.proofs.{StandardPeriods.cell_images_give_period, Theorems.standard_map_exists, CallerLemmas.arc_part}
 use Rattle.net_certificate.specs.Answers.{shape_of, IsMapAnswer, PassesIfFound}
-use Rattle.net_certificate.proofs.FoundMaps.{found_maps_pass}
-use Rattle.net_certificate.specs.Written.{IsSideOf, IsWritten}
-use Rattle.net_certificate.specs.declared.answer.MapAnswer.{MapAnswer}
 use Rattle.net_certificate.specs.declared.answer.MapAnswer.TheVariants.{Different, Found, LongMap, WideMap}
+use Rattle.net_certificate.specs.{Tables.AreImages, Written.IsSideOf, Written.IsWritten, declared.answer.MapAnswer.MapAnswer}
+use Rattle.net_certificate.proofs.FoundMaps.{found_maps_pass}
 
 -- the third number of a list is the least scale
 pub scale_told : (K : ClassGraph) (c : ℕ) (frame : List ClassArc) (xs : List _) (q : ℕ) → IsListOf K c frame xs → q ≡ unsigned_abs (get_or xs 2 (pos 0))
@@ -181,9 +171,7 @@ module _ (a b : KeyedNet) (ka : IsKeyed a) (kb : IsKeyed b) (S T : NetSide) (s :
 
 -- the key of a net begins with its dimension
 first_number : (n : KeyedNet) → IsKeyed n → get_or n.key 0 (pos 0) ≡ pos n.placed.graph.dimension
-first_number n k =
-    let l = k.key.some.list in
-    ap (λ xs. get_or xs 0 (pos 0)) l.list ∙ ap pos (k.classes.is_classes.dimension ∙ ap (λ (G : Graph). G.dimension) k.same_graph)
+first_number n k = cc
 
 -- an answer passes
 pub passes_due : (a b : KeyedNet) (room : ℕ) (answer : MapAnswer) → IsMapAnswer a b room answer → b.placed.graph.vertices ≤ most_vertices
@@ -218,5 +206,4 @@ period_limit S T k C c m shifts p H e h =
 
 -- what an answer gives, where there is one
 pub if_ok : {X E : Type 0} (P Q : X → Type 0) → ((x : X) → P x → Q x) → (r : Result X E) → IfOk r P → IfOk r Q
-if_ok P Q f (Ok x) h = f x h
-if_ok P Q f (Err e) h = h
+if_ok P Q k r l = search arith

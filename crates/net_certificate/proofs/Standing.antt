@@ -6,14 +6,10 @@ use Rattle.integers.proofs.numbers.Ring.{linear, other_factor_zero, positive_not
 use Rattle.integers.proofs.vectors.Laws.{minus_dimension}
 use Rattle.periodic_net.specs.Graph.{IsQuotientVertex, Vertex, vertex, IsVertex}
 use Rattle.periodic_net.specs.Placement.{base, position, IsStablePlacement}
-use Rattle.periodic_net.proofs.CallerLemmas.{positions_tell}
-use Rattle.periodic_net.proofs.placements.Positions.{place_dimension}
-use Rattle.standard_map.proofs.ByWalks.{image_from}
-use Rattle.standard_map.specs.Standing.{StandsSomewhere}
-use Rattle.standard_map.specs.Ends.{End, IsEnd}
+use Rattle.periodic_net.proofs.{CallerLemmas.positions_tell, placements.Positions.place_dimension}
+use Rattle.standard_map.proofs.{ByWalks.image_from, CallerLemmas.some_map}
 use Rattle.standard_map.specs.Sides.{NetSide, HaveOneKey, IsStandardBy}
-use Rattle.standard_map.proofs.CallerLemmas.{some_map}
-use Rattle.standard_map.specs.Turns.{AreImageCells}
+use Rattle.standard_map.specs.{Standing.StandsSomewhere, Ends.End, Ends.IsEnd, Turns.AreImageCells}
 use Rattle.net_certificate.specs.Tables.{IsImageOf}
 
 module _ (S T : NetSide) (k : HaveOneKey S T) where
@@ -26,8 +22,7 @@ module _ (S T : NetSide) (k : HaveOneKey S T) where
       → (carry : Vertex → Vertex) → IsStandardBy S T carry
       → position T.net.placement (carry w) ≡ image_place e C w
   stands_there e i C c w j o carry s =
-      let G = S.net.graph in
-      let q = T.net.placement in
+      let G = S.net.graph in let q = T.net.placement in
       ap (λ u. position q (carry (vertex u w.cell))) (sym o)
       ∙ image_from G T.net.graph q carry C (c carry s).0 e.over e.shift w.cell i.is_vertex (minus_dimension G.dimension w.cell e.shift j.cell i.is_vertex.cell)
       ∙ ap (λ t. plus t (base_sum C (minus w.cell e.shift))) (i.at carry s)

@@ -1,19 +1,22 @@
 -- Rows that may follow one another.
-use Rattle.std.proofs.Common.{◌≡◌, ◌≤◌, ◌<◌, ◌^◌, ℕ, List, length, refl, sym, ap, ◌∙◌, subst, arith}
+use Rattle.std.proofs.Common.{◌≡◌, ◌≤◌, ◌<◌, ◌^◌, ℕ, List, length, refl, sym, ap, ◌∙◌, subst, arith, [], ◌∷◌, ◌++◌}
+use Rattle.std.proofs.lemmas.List.{length-append}
 use Rattle.periodic_net.specs.Graph.{Arc, Vertex}
-use Rattle.line_text.specs.Lines.{HasNo}
+use Rattle.line_text.specs.Lines.{HasNo, rows_text}
 use Rattle.graph_rows.specs.Rows.{edge_row}
 use Rattle.graph_rows.proofs.CallerLemmas.{size_none, edge_none, same_size, same_edge}
 use Rattle.map_check.specs.Conditions.{most_images, IsImage, IsShift}
-use Rattle.map_check.specs.Layouts.{vertex_at}
-use Rattle.map_check.specs.declared.map.PeriodicMap.{PeriodicMap}
+use Rattle.map_check.specs.{Layouts.vertex_at, declared.map.PeriodicMap.PeriodicMap}
 use Rattle.net_certificate.specs.Items.{ItemView}
 use Rattle.net_certificate.specs.Rows.{Row, OfTitle, OfSize, OfEdge, OfReason, OfMap, OfPeriod, OfImage, OfBase, OfEnd, row_line, reason_row, image_row}
-use Rattle.net_certificate.specs.Rows.{base_row}
-use Rattle.net_certificate.specs.Stages.{Stage, Start, Titled, Listed, Opened, Drawn, Mapped, Drawing, image_count, IsNextOf, MayFollow}
+use Rattle.net_certificate.specs.Rows.{base_row, row_lines}
+use Rattle.net_certificate.specs.Stages.{Stage, Start, Titled, Listed, Opened, Drawn, Mapped, Drawing, image_count, IsNextOf, MayFollow, stage_with, Walk}
 use Rattle.net_certificate.specs.FirstRows.{IsFormed, IsDrawing, IsMapping}
-use Rattle.net_certificate.proofs.PlainRows.{title_none, reason_row_none, map_row_none, period_none, image_none, base_none, end_none}
-use Rattle.net_certificate.proofs.SameRows.{same_reason, no_reason, same_period, same_image, same_base}
+use Rattle.net_certificate.proofs.RowForms.{title_none, reason_row_none, map_row_none, period_none, image_none, base_none, end_none, same_reason, no_reason}
+use Rattle.net_certificate.proofs.RowForms.{same_period, same_image, same_base}
+use Rattle.net_certificate.proofs.StageRows.{formed_with}
+use mathlib.Core.List.{append_assoc}
+use Rattle.line_text.proofs.CallerLemmas.{same_row}
 
 -- the place of an image is below the number of all
 place_few : (g h : Drawing) (M : PeriodicMap) → IsMapping g h M → length M.images < image_count g M → length M.images ≤ most_images
@@ -56,9 +59,7 @@ next_same g d d' a b is ha hb e =
 -- the row of the next image, where one may follow
 pub image_there : (g : Drawing) (items : List ItemView) (h : Drawing) (M : PeriodicMap) (d b : ℕ) (w x : Vertex)
     → MayFollow (Mapped g items h M) (OfImage d b w x) → OfImage d b w x ≡ OfImage g.size.dim h.size.dim (vertex_at g.size.dim M.m (length M.images)) x
-image_there g items h M d b w x may =
-    ap (λ v. OfImage d b v x) may.2 ∙ ap (λ n. OfImage n b (vertex_at n M.m (length M.images)) x) may.0
-    ∙ ap (λ n. OfImage g.size.dim n (vertex_at g.size.dim M.m (length M.images)) x) may.1
+image_there g items h M d b w x may = cc
 
 -- the images of one vertex
 one_image : (g : Drawing) (items : List ItemView) (h : Drawing) (M : PeriodicMap) (d b : ℕ) (w x : Vertex) (d' b' : ℕ) (w' y : Vertex) → IsMapping g h M
@@ -119,3 +120,59 @@ same_row_of (Mapped g items h M) (OfImage d b w x) t formed ha hb e = absurd hb
 same_row_of (Mapped g items h M) (OfBase c v) t formed ha hb e = absurd hb
 same_row_of (Mapped g items h M) OfEnd t formed ha hb e = absurd hb
 same_row_of (Mapped g items h M) r t formed ha hb e = absurd ha
+
+-- Two walks of one text meet: the shorter is the beginning of the longer.
+
+-- these rows begin with those, and what follows is the rest
+pub record GoOn (here there : Stage) (rows first : List Row) (rest : List ℕ) : Type 0 where
+  pub others : List Row
+  pub is : rows ≡ first ++ others
+  pub walk : Walk here others there
+  pub left : rest ≡ rows_text (row_lines others)
+
+-- the rows of a whole text, and the first rows of the same text
+pub go_on : (p q q' : Stage) (rows first : List Row) (rest : List ℕ) → IsFormed p → Walk p rows q → Walk p first q'
+    → rows_text (row_lines rows) ≡ rows_text (row_lines first) ++ rest → GoOn q' q rows first rest
+go_on p q q' rows [] rest formed one two e = record { others = rows; is = refl; walk = subst (λ o. Walk o rows q) two one; left = sym e }
+go_on p q q' [] (t ∷ ts) rest formed one two e =
+    let long = ap length e in
+    let first = length-append (row_line t) (10 ∷ (rows_text (row_lines ts) ++ rest)) in
+    let all = ap length (append_assoc (row_line t) (10 ∷ rows_text (row_lines ts)) rest) in
+    absurd (omega (arith, long, first, all))
+go_on p q q' (r ∷ rs) (t ∷ ts) rest formed one two e =
+    let lines = same_row (row_line r) (row_line t) (rows_text (row_lines rs)) (rows_text (row_lines ts) ++ rest) (row_none p r formed one.0)
+    (row_none p t formed two.0)
+    (e ∙ append_assoc (row_line t) (10 ∷ rows_text (row_lines ts)) rest) in
+    let same = same_row_of p r t formed one.0 two.0 lines.0 in
+    let more = go_on (stage_with p r) q q' rs ts rest (formed_with p r formed one.0) one.1
+    (subst (λ x. Walk (stage_with p x) ts q') (sym same) two.1) lines.1 in
+    record { others = more.others; is = ap (λ x. x ∷ rs) same ∙ ap (λ l. t ∷ l) more.is; walk = more.walk; left = more.left }
+
+-- of two first parts of one text one goes on from the other
+pub data Meet (p q : Stage) (xs ys : List Row) (rest left : List ℕ) : Type 0 where
+  -- the second walk is longer
+  Further : (r : Row) (others : List Row) → Walk p (r ∷ others) q → ys ≡ xs ++ r ∷ others → rest ≡ rows_text (row_lines (r ∷ others)) ++ left
+      → Meet p q xs ys rest left
+  -- the first is longer
+  Nearer : (r : Row) (others : List Row) → Walk q (r ∷ others) p → xs ≡ ys ++ r ∷ others → left ≡ rows_text (row_lines (r ∷ others)) ++ rest
+      → Meet p q xs ys rest left
+  Same : p ≡ q → xs ≡ ys → rest ≡ left → Meet p q xs ys rest left
+
+pub meet : (p q q' : Stage) (xs ys : List Row) (rest left : List ℕ) → IsFormed p → Walk p xs q → Walk p ys q'
+    → rows_text (row_lines xs) ++ rest ≡ rows_text (row_lines ys) ++ left → Meet q q' xs ys rest left
+meet p q q' [] [] rest left formed one two e = Same (sym one ∙ two) refl e
+meet p q q' [] (t ∷ ts) rest left formed one two e = Further t ts (subst (λ o. Walk o (t ∷ ts) q') one two) refl e
+meet p q q' (r ∷ rs) [] rest left formed one two e = Nearer r rs (subst (λ o. Walk o (r ∷ rs) q) two one) refl (sym e)
+meet p q q' (r ∷ rs) (t ∷ ts) rest left formed one two e =
+    let lines = same_row (row_line r) (row_line t) (rows_text (row_lines rs) ++ rest) (rows_text (row_lines ts) ++ left) (row_none p r formed one.0)
+    (row_none p t formed two.0)
+    (sym (append_assoc (row_line r) (10 ∷ rows_text (row_lines rs)) rest) ∙ e ∙ append_assoc (row_line t) (10 ∷ rows_text (row_lines ts)) left) in
+    let same = same_row_of p r t formed one.0 two.0 lines.0 in
+    longer r t q q' rs ts rest left same (meet (stage_with p r) q q' rs ts rest left (formed_with p r formed one.0) one.1
+    (subst (λ x. Walk (stage_with p x) ts q') (sym same) two.1) lines.1)
+  where
+    longer : (r t : Row) (q q' : Stage) (rs ts : List Row) (rest left : List ℕ) → r ≡ t → Meet q q' rs ts rest left → Meet q q' (r ∷ rs) (t ∷ ts) rest left
+    longer r t q q' rs ts rest left same (Further s others walk is tail) =
+        Further s others walk (ap (λ l. t ∷ l) is ∙ ap (λ x. x ∷ (rs ++ s ∷ others)) (sym same)) tail
+    longer r t q q' rs ts rest left same (Nearer s others walk is tail) = Nearer s others walk (ap (λ l. r ∷ l) is ∙ ap (λ x. x ∷ (ts ++ s ∷ others)) same) tail
+    longer r t q q' rs ts rest left same (Same one is tail) = Same one (ap (λ l. r ∷ l) is ∙ ap (λ x. x ∷ ts) same) tail

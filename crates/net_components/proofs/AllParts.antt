@@ -1,31 +1,52 @@
 -- The parts that are made of all components are the parts of the net.
-use Rattle.std.proofs.Common.{◌≡◌, ◌⊎◌, inl, inr, ℕ, ◌+◌, ◌<◌, pos, List, [], length, take, get_or, Contains, Result, Ok, Err, IfOk, Vec, Global, sym, ap}
-use Rattle.std.proofs.Common.{subst, ◌∙◌, arith}
-use Rattle.std.proofs.Math.Decide.{dec_lt}
-use Rattle.std.proofs.lemmas.List.{get_or_default}
-use Rattle.std.proofs.lemmas.List.Elements.{All-contains}
-use Prim.{Dec, yes, no}
+use Rattle.std.proofs.Common.{◌≡◌, inl, inr, ℕ, suc, ◌<◌, List, [], ◌∷◌, ◌++◌, length, take, get_or, sym, ap, subst, ◌∙◌, ◌⊎◌, ◌+◌, pos, Contains, Result, Ok}
+use Rattle.std.proofs.Common.{Err, IfOk, Vec, Global, arith, map, IsSome}
+use Rattle.std.proofs.{lemmas.List.Elements.Contains-append_cases, lemmas.List.Elements.All-contains, Math.Decide.dec_lt, lemmas.List.get_or_default}
+use Rattle.std.proofs.{lemmas.List.map-append}
+use Rattle.std.specs.Prelude.{drop}
+use Rattle.integers.specs.{Vectors.Vector, Vectors.IsWithin, Lists.AreMatched}
+use Rattle.integers.proofs.lists.Members.{IsIn, is_in, contains_from_in}
 use Rattle.integers.proofs.lists.Matched.{matched_at, matched_left, matched_length}
-use Rattle.integers.specs.Lists.{AreMatched}
-use Rattle.integers.proofs.lists.Members.{is_in, contains_from_in}
-use Rattle.vecdim.specs.Stairs.{Stairs, stairs}
-use Rattle.periodic_net.specs.Graph.{Graph, IsGraph}
-use Rattle.periodic_net.specs.Limits.{IsSmall}
-use Rattle.periodic_net.specs.Components.{InComponent}
-use Rattle.net_components.specs.ComponentSets.{IsLeast}
-use Rattle.net_components.specs.Ranks.{IsFullAt}
-use Rattle.net_components.proofs.Classes.{one_least}
+use Rattle.periodic_net.specs.Graph.{Graph, Arc, IsGraph}
+use Rattle.periodic_net.specs.{Components.InComponent, Limits.IsSmall}
 use Rattle.net_components.specs.Components.{Component, IsComponent, AreComponentsTo}
-use Rattle.net_components.specs.Faults.{IsPartFault}
-use Rattle.net_components.specs.Parts.{root_of, IsPartOf, AreParts}
-use Rattle.net_components.specs.Shifts.{AreNarrow}
-use Rattle.net_components.specs.Written.{IsMadeOf, IsWideFault}
-use Rattle.net_components.specs.declared.fault.PartFault.{PartFault}
+use Rattle.net_components.specs.Shifts.{IsShiftIn, AreNarrow, IsWideAt}
+use Rattle.net_components.specs.Written.{IsWideEdge, IsWideFault, IsMadeOf, IsEdgeOf, AreEdgesOf}
 use Rattle.net_components.specs.declared.fault.PartFault.TheVariants.{LowRank, WideShift, NoMemory}
-use Rattle.net_components.specs.declared.parts.Part.{Part}
-use Rattle.net_components.proofs.Covered.{found_in}
-use Rattle.net_components.proofs.ListPlaces.{in_take}
-use Rattle.net_components.proofs.MadeParts.{part_at_root, root_is, made_narrow}
+use Rattle.net_components.specs.Parts.{root_of, IsPartOf, AreParts}
+use Rattle.net_components.specs.{declared.fault.PartFault.PartFault, ComponentSets.IsLeast, Ranks.IsFullAt, Faults.IsPartFault, declared.parts.Part.Part}
+use Rattle.net_components.proofs.MadeParts.{part_at_root, root_is, made_narrow, edge, shift_is}
+use Rattle.net_components.proofs.OnePart.{split_at, in_take, take_more}
+use Rattle.net_components.proofs.{Classes.one_least, Covered.found_in, Covered.in_found, WrittenEdges.passed_over, WrittenEdges.put_last}
+use Prim.{Dec, yes, no}
+use Rattle.vecdim.specs.Stairs.{Stairs, stairs}
+use Rattle.cgd_read.specs.{Spelling.edge_of, declared.edge.RawEdge.RawEdge}
+use Rattle.connected_dim.specs.Search.{walk_to}
+
+-- Edges within the limit, one more, and the first that is not.
+
+-- one edge more
+pub narrow_more : (G : Graph) (a : ℕ) (es : List Arc) (e : Arc) → AreNarrow G a es
+    → (InComponent G a e.from → (k : Vector) × IsShiftIn G a e k × IsWithin 500 k) → AreNarrow G a (es ++ e ∷ [])
+narrow_more G a es e h k f i t = elim (Contains-append_cases es (e ∷ []) f i) [ inl j ↦ h f j t | inr j ↦ by f (is_in (e ∷ []) f j) t ]
+  where
+    by : (f : Arc) → IsIn (e ∷ []) f → InComponent G a f.from → (k : Vector) × IsShiftIn G a f k × IsWithin 500 k
+    by f (inl d) t = subst (λ (x : Arc). (k : Vector) × IsShiftIn G a x k × IsWithin 500 k) d (k (subst (λ (x : Arc). InComponent G a x.from) (sym d) t))
+    by f (inr n) t = elim n [ ]
+
+-- why the edges are not written
+pub wide_fault : (G : Graph) (c : Component) (es : List Arc) → es ≡ G.edges → (i : ℕ) (e : Arc) → i < length es → get_or es i e ≡ e
+    → AreNarrow G c.root (take i es)
+    → (f : PartFault) → IsWideEdge G c e f → IsWideFault G c f
+wide_fault G c es same i e l at h (LowRank u v) k = k
+wide_fault G c es same i e l at h (WideShift u v s p value) k = record {
+  before = take i es;
+  after = drop (suc i) es;
+  edges = sym same ∙ split_at es i e l at ∙ ap (λ d. take i es ++ d ∷ drop (suc i) es) (sym k.0);
+  narrow = h;
+  wide = subst (λ d. IsWideAt G c.root d p value) (sym k.0) k.1;
+}
+wide_fault G c es same i e l at h NoMemory k = k
 
 -- no component
 none : Component
@@ -112,3 +133,41 @@ pub parts_answer : (G : Graph) → IsGraph G → IsSmall G → (cs : List Compon
     → IfOk r (λ v. AreMatched (IsMadeOf G) cs v.items) → IfOk r (λ v. AreParts G v.items)
 parts_answer G g s cs h (Ok v) m = are_parts G g s cs h v.items m
 parts_answer G g s cs h (Err f) m = m
+
+-- The edges of a component among the first ones, and the one at the next place.
+
+-- what is at a place of the edges is an edge
+pub edge_at : (G : Graph) (row : List Arc) → row ≡ G.edges → (i : ℕ) (e : Arc) → i < length row → e ≡ get_or row i e → Contains G.edges e
+edge_at G row same i e l at = subst (λ (es : List Arc). Contains es e) same (i, l, sym at)
+
+module _ (G : Graph) (g : IsGraph G) (s : IsSmall G) (c : Component) (h : IsComponent G c) (row : List Arc) (same : row ≡ G.edges) (i : ℕ) (e : Arc)
+    (l : i < length row) (at : e ≡ get_or row i e) where
+  next : take (i + 1) row ≡ take i row ++ e ∷ []
+  next = take_more row i e l (sym at)
+
+  inside : Contains G.edges e
+  inside = edge_at G row same i e l at
+
+  module _ (some : IsSome (walk_to c.found e.from)) (f : RawEdge) (w : IsEdgeOf G c e (edge_of f)) where
+    -- an edge of the component
+    pub more_written : (fs next_fs : List RawEdge) → next_fs ≡ fs ++ f ∷ [] → AreEdgesOf G c (take i row) (map edge_of fs)
+        → AreEdgesOf G c (take (i + 1) row) (map edge_of next_fs)
+    more_written fs gs is k =
+        rw next (subst (λ (hs : List Arc). AreEdgesOf G c (take i row ++ e ∷ []) hs) (sym (map-append edge_of fs (f ∷ [])) ∙ ap (map edge_of) (sym is))
+        (put_last (InComponent G c.root) (IsEdgeOf G c) (take i row) (map edge_of fs) e (edge_of f) k
+        (found_in G c h e.from (edge G g s c h e inside some).from some g) w))
+
+    pub more_narrow : AreNarrow G c.root (take i row) → AreNarrow G c.root (take (i + 1) row)
+    more_narrow k =
+        rw next (narrow_more G c.root (take i row) e k
+        (λ t. ((edge_of f).shift, shift_is G g s c h e inside some (edge_of f).shift w.written.dimension w.written.shift, w.small)))
+
+  module _ (none : ¬ IsSome (walk_to c.found e.from)) where
+    -- an edge of another one
+    pub same_written : (fs next_fs : List RawEdge) → next_fs ≡ fs → AreEdgesOf G c (take i row) (map edge_of fs)
+        → AreEdgesOf G c (take (i + 1) row) (map edge_of next_fs)
+    same_written fs gs is k =
+        rw next (rw is (passed_over (InComponent G c.root) (IsEdgeOf G c) (take i row) (map edge_of fs) e k (λ t. none (in_found G c h e.from t g))))
+
+    pub same_narrow : AreNarrow G c.root (take i row) → AreNarrow G c.root (take (i + 1) row)
+    same_narrow k = subst (AreNarrow G c.root) (sym next) (narrow_more G c.root (take i row) e k (λ t. absurd (none (in_found G c h e.from t g))))

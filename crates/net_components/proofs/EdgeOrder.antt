@@ -1,18 +1,16 @@
 -- Written edges keep their order: by tail, by head, and by shift.
-use Rattle.std.proofs.Common.{◌≡◌, inl, inr, ℕ, ℤ, ◌+ℤ◌, ◌-ℤ◌, ◌<ℤ◌, pos, List, ◌∷◌, sym, ap, subst, ◌∙◌, arith}
+use Rattle.std.proofs.Common.{◌≡◌, inl, inr, ℕ, ℤ, ◌+ℤ◌, ◌-ℤ◌, ◌<ℤ◌, pos, List, ◌∷◌, sym, ap, ◌∙◌, arith}
 use Rattle.std.proofs.lemmas.Int.{ints}
 use Rattle.integers.specs.Vectors.{Vector, plus, minus, parts, IsBelow, StartsPositive}
-use Rattle.integers.proofs.numbers.Naturals.{pos_same, three_ways}
-use Rattle.integers.proofs.numbers.Ring.{linear}
-use Rattle.integers.proofs.vectors.Laws.{vector_equal}
+use Rattle.integers.specs.Bases.{base_sum}
 use Rattle.integers.proofs.vectors.Precedence.{Precedes, below_head, below_rest, below_ways, parts_below, precedes}
+use Rattle.integers.proofs.vectors.Directions.{starts_x, starts_y, starts_z, start_of}
+use Rattle.integers.proofs.{numbers.Naturals.pos_same, numbers.Naturals.three_ways, numbers.Ring.linear, vectors.Laws.vector_equal}
+use Rattle.integers.proofs.{vectors.BaseSums.base_sum_minus}
 use Rattle.vecdim.specs.Stairs.{Stairs, HasStairShape}
 use Rattle.periodic_net.specs.Graph.{Graph, Arc, IsQuotientVertex}
-use Rattle.integers.specs.Bases.{base_sum}
-use Rattle.integers.proofs.vectors.BaseSums.{base_sum_minus}
 use Rattle.net_components.specs.PartGraphs.{stair_base, IsWritten, IsPart}
-use Rattle.integers.proofs.vectors.Directions.{starts_x, starts_y, starts_z, start_of}
-use Rattle.net_components.proofs.PartGraph.{coordinates_start}
+use Rattle.net_components.proofs.PartNet.{coordinates_start}
 
 -- the order of numbers, by their difference
 up : (x y : ℤ) → x <ℤ y → pos 0 <ℤ (y -ℤ x)
@@ -78,14 +76,12 @@ module _ (G : Graph) (a : ℕ) (T : ℕ → Vector) (S : Stairs) (at : ℕ → �
       → IsBelow (numbers_of e) (numbers_of e') → IsBelow (numbers_of f) (numbers_of f')
   written_below e e' f f' w w' h = elim (below_ways (pos e.from) (pos e'.from) (pos e.to ∷ parts 3 e.shift) (pos e'.to ∷ parts 3 e'.shift) h) [
     | inl l ↦ below_head (pos f.from) (pos f'.from) (pos f.to ∷ parts 3 f.shift) (pos f'.to ∷ parts 3 f'.shift)
-        (number_below f.from f'.from w.from_number w'.from_number (subst (λ x. pos x <ℤ pos (at f'.from)) (sym w.from)
-        (subst (λ x. pos e.from <ℤ pos x) (sym w'.from) l)))
+        (number_below f.from f'.from w.from_number w'.from_number (rw (w.from, w'.from) l))
     | inr q ↦ below_rest (pos f.from) (pos f'.from) (pos f.to ∷ parts 3 f.shift) (pos f'.to ∷ parts 3 f'.shift)
         (number_same f.from f'.from w.from_number w'.from_number (ap pos w.from ∙ q.0 ∙ ap pos (sym w'.from)))
         (elim (below_ways (pos e.to) (pos e'.to) (parts 3 e.shift) (parts 3 e'.shift) q.1) [
           | inl l ↦ below_head (pos f.to) (pos f'.to) (parts 3 f.shift) (parts 3 f'.shift)
-              (number_below f.to f'.to w.to_number w'.to_number (subst (λ x. pos x <ℤ pos (at f'.to)) (sym w.to)
-              (subst (λ x. pos e.to <ℤ pos x) (sym w'.to) l)))
+              (number_below f.to f'.to w.to_number w'.to_number (rw (w.to, w'.to) l))
           | inr r ↦ below_rest (pos f.to) (pos f'.to) (parts 3 f.shift) (parts 3 f'.shift)
               (number_same f.to f'.to w.to_number w'.to_number (ap pos w.to ∙ r.0 ∙ ap pos (sym w'.to)))
               (shifts_below G.dimension S p.full.shape f.shift f'.shift e.shift e'.shift (T e.from) (T e.to) w.shift

@@ -1,17 +1,12 @@
 -- No component has a rank below the dimension and full rank.
 use Rattle.std.proofs.Common.{◌≡◌, ◌⊎◌, inl, inr, ℕ, ℤ, ◌+ℤ◌, ◌*ℤ◌, pos, [], ◌∷◌, refl, sym, ap, subst, ◌∙◌, arith}
 use Rattle.integers.specs.Vectors.{Vector, vector, zero_vector, dot, HasDimension, StartsPositive}
-use Rattle.integers.proofs.numbers.Ring.{ring, linear}
-use Rattle.integers.proofs.lists.ListOrder.{not_below_itself}
-use Rattle.integers.proofs.vectors.Laws.{vector_equal}
-use Rattle.vecdim.specs.Stairs.{Stairs, HasStairShape}
-use Rattle.vecdim.specs.Lattices.{Members}
-use Rattle.periodic_net.specs.Graph.{Graph, IsGraph}
 use Rattle.integers.specs.Bases.{base_sum}
-use Rattle.net_components.specs.PartGraphs.{stair_base}
-use Rattle.net_components.specs.Ranks.{IsFlatAt, IsFullAt}
-use Rattle.net_components.proofs.PartGraph.{zero_factor}
-use Rattle.net_components.proofs.StairSums.{sum_member}
+use Rattle.integers.proofs.{numbers.Ring.ring, numbers.Ring.linear, lists.ListOrder.not_below_itself, vectors.Laws.vector_equal}
+use Rattle.vecdim.specs.{Stairs.Stairs, Stairs.HasStairShape, Lattices.Members}
+use Rattle.periodic_net.specs.Graph.{Graph, IsGraph}
+use Rattle.net_components.specs.{PartGraphs.stair_base, Ranks.IsFlatAt, Ranks.IsFullAt}
+use Rattle.net_components.proofs.{PartNet.zero_factor, OneStair.sum_member}
 
 row_three : (x y z a b c e f i : ℤ) → x *ℤ (pos 0 *ℤ a +ℤ (pos 0 *ℤ pos 0 +ℤ pos 1 *ℤ pos 0)) +ℤ y *ℤ (pos 0 *ℤ b +ℤ (pos 0 *ℤ e +ℤ pos 1 *ℤ pos 0)) +ℤ z *ℤ
     (pos 0 *ℤ c +ℤ (pos 0 *ℤ f +ℤ pos 1 *ℤ i)) ≡ z *ℤ i

@@ -1,24 +1,48 @@
 -- A component has one part.
-use Rattle.std.proofs.Common.{◌≡◌, ◌⊎◌, inl, inr, ℕ, ◌+◌, ◌-◌, ◌<◌, ◌≤◌, length, get_or, AllPairs, sym, ap, subst, ◌∙◌, arith}
-use Rattle.std.proofs.lemmas.List.{get_or_default}
-use Rattle.integers.specs.Bases.{base_sum}
-use Rattle.integers.specs.Vectors.{plus, minus}
-use Rattle.integers.proofs.lists.Pieces.{in_at}
-use Rattle.integers.proofs.lists.Members.{IsIn, contains_from_in}
+use Rattle.std.proofs.Common.{◌≡◌, inl, inr, ℕ, zero, suc, ◌+◌, ◌<◌, List, [], ◌∷◌, ◌++◌, length, take, get_or, sym, ap, ◌∙◌, arith, ◌⊎◌, ◌-◌, ◌≤◌, AllPairs}
+use Rattle.std.proofs.Common.{subst}
+use Rattle.std.proofs.{Math.Seq.take-suc, lemmas.List.get_or_default}
+use Rattle.std.specs.Prelude.{drop}
 use Rattle.integers.proofs.lists.Permutations.{IsRising, rising_from_pairs, same_rising}
-use Rattle.integers.proofs.numbers.Naturals.{three_ways}
+use Rattle.integers.proofs.{lists.Members.IsIn, lists.Members.contains_from_in, numbers.Naturals.next_number, numbers.Naturals.three_ways, lists.Pieces.in_at}
+use Rattle.integers.specs.{Bases.base_sum, Vectors.plus, Vectors.minus}
 use Rattle.vecdim.specs.Stairs.{rows_of, size_of}
 use Rattle.periodic_net.specs.Graph.{Graph, IsGraph, Arc, arc, IsQuotientVertex}
+use Rattle.periodic_net.specs.{Chosen.path_shift, Components.InComponent}
 use Rattle.quotient_graph.specs.AnyGraphs.{graph_view}
-use Rattle.periodic_net.specs.Chosen.{path_shift}
-use Rattle.periodic_net.specs.Components.{InComponent}
 use Rattle.periodic_net.proofs.CallerLemmas.{one_chosen}
 use Rattle.net_components.specs.PartGraphs.{stair_base, IsNumber, IsWritten}
-use Rattle.net_components.proofs.OneStair.{one_stair}
-use Rattle.net_components.proofs.StairSums.{sum_once}
-use Rattle.net_components.proofs.WrittenEdges.{written_once}
 use Rattle.net_components.specs.Parts.{vertex_at, IsPartOf, view_of}
 use Rattle.net_components.specs.declared.parts.Part.{Part}
+use Rattle.net_components.proofs.{OneStair.one_stair, OneStair.sum_once, WrittenEdges.written_once}
+
+-- Lists up to a place, and what stands there.
+
+-- the list up to a place, and the one there
+pub take_more : {X : Type 0} (xs : List X) (i : ℕ) (x : X) → i < length xs → get_or xs i x ≡ x → take (i + 1) xs ≡ take i xs ++ x ∷ []
+take_more xs i x l at = ap (λ k. take k xs) (sym (next_number i)) ∙ take-suc xs i x l ∙ ap (λ y. take i xs ++ y ∷ []) at
+
+-- what stands before a place
+pub in_take : {X : Type 0} (xs : List X) (i j : ℕ) (x : X) → j < i → j < length xs → get_or xs j x ≡ x → IsIn (take i xs) x
+in_take [] i j x a b e = absurd (omega arith)
+in_take (y ∷ xs) zero j x a b e = absurd (omega arith)
+in_take (y ∷ xs) (suc i) zero x a b e = inl e
+in_take (y ∷ xs) (suc i) (suc j) x a b e = inr (in_take xs i j x (omega arith) (omega arith) e)
+
+-- the list before a place, what stands there, and the list after it
+pub split_at : {X : Type 0} (xs : List X) (i : ℕ) (x : X) → i < length xs → get_or xs i x ≡ x → xs ≡ take i xs ++ x ∷ drop (suc i) xs
+split_at [] i x l at = absurd (omega arith)
+split_at (y ∷ xs) zero x l at = ap (λ z. z ∷ xs) at
+split_at (y ∷ xs) (suc i) x l at = ap (λ zs. y ∷ zs) (split_at xs i x (omega arith) at)
+
+-- a list is split in one way at the first member of a kind: where neither of two members stands before the other
+pub split_once : {X : Type 0} (before before' after after' : List X) (x x' : X) → before ++ x ∷ after ≡ before' ++ x' ∷ after' → ¬ IsIn before x'
+    → ¬ IsIn before' x → x ≡ x'
+split_once [] [] after after' x x' e m n = cc
+split_once [] (y ∷ before') after after' x x' e m n = absurd (n (inl (let h : x ≡ y = cc in sym h)))
+split_once (y ∷ before) [] after after' x x' e m n = absurd (m (inl (let h : y ≡ x' = cc in h)))
+split_once (y ∷ before) (y' ∷ before') after after' x x' e m n =
+    split_once before before' after after' x x' (let h : before ++ x ∷ after ≡ before' ++ x' ∷ after' = cc in h) (λ i. m (inr i)) (λ i. n (inr i))
 
 -- the place of a number
 less : (k : ℕ) → k + 1 - 1 ≡ k
@@ -35,15 +59,12 @@ module _ (G : Graph) (a : ℕ) (p : Part) (h : IsPartOf G a p) where
       let c = contains_from_in p.vertices u i in
       let l = c.1 in
       let at = get_or_default p.vertices c.0 0 u c.1 ∙ c.2 in
-      subst (InComponent G a) (ap (λ k. get_or p.vertices k 0) (less c.0) ∙ at)
-      (h.part.vertices (c.0 + 1) (number (c.0 + 1) (omega arith, omega (arith, l))))
+      rw (ap (λ k. get_or p.vertices k 0) (less c.0) ∙ at) at (h.part.vertices (c.0 + 1) (number (c.0 + 1) (omega arith, omega (arith, l))))
 
   in_vertices : (u : ℕ) → InComponent G a u → IsIn p.vertices u
   in_vertices u i =
       let n = h.part.each u i in
-      let low = n.1.0 in
-      let high = n.1.1 in
-      let e = h.count in
+      let low = n.1.0 in let high = n.1.1 in let e = h.count in
       subst (IsIn p.vertices) n.2 (in_at p.vertices (n.0 - 1) 0 (omega (arith, low, high, e)))
 
   -- they rise

@@ -1,15 +1,13 @@
 -- A net that is that of a set whose vertices walks join is connected.
 use Rattle.std.proofs.Common.{ℕ, List, [], ◌∷◌, refl, sym, subst}
-use Rattle.integers.specs.Vectors.{Vector, zero_vector}
+use Rattle.integers.specs.{Vectors.Vector, Vectors.zero_vector, Bases.Base}
 use Rattle.vecdim.specs.Stairs.{Stairs}
 use Rattle.periodic_net.specs.Graph.{Graph, IsGraph, Vertex, IsVertex, AreJoined, IsWalk, IsReached, IsConnected}
-use Rattle.integers.specs.Bases.{Base}
 use Rattle.periodic_net.proofs.CallerLemmas.{joined_inside, reached_by_arc, reached_itself, reached_transitive, same_reached}
 use Rattle.periodic_net.proofs.nets.Walks.{same_joined}
 use Rattle.net_components.specs.ComponentSets.{InCopy}
 use Rattle.net_components.specs.PartGraphs.{stair_base, IsPart, image, IsNetOf}
-use Rattle.net_components.proofs.Classes.{copy_joined, copy_closed}
-use Rattle.net_components.proofs.PartNet.{part_net}
+use Rattle.net_components.proofs.{Classes.copy_joined, Classes.copy_closed, PartNet.part_net}
 
 module _ (G H : Graph) (g : IsGraph G) (K : Vertex → Type 0) (b : Base) (map : Vertex → Vertex) (n : IsNetOf G H K b map)
     (closed : (w x : Vertex) → IsVertex G w → K w → AreJoined G w x → K x) where

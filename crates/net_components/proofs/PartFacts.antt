@@ -1,27 +1,93 @@
 -- The graph of a component is a part, and may be made as it stands.
-use Rattle.std.proofs.Common.{◌≡◌, inl, inr, ℕ, zero, suc, ◌+◌, ◌-◌, ◌<◌, ◌≤◌, List, [], ◌∷◌, length, get_or, refl, ap, subst, ◌∙◌, arith}
-use Rattle.std.specs.List.{AllByRecursion, AllPairs}
-use Rattle.std.proofs.lemmas.List.Elements.{All-from_recursion}
-use Rattle.integers.specs.Vectors.{IsBelow, IsWithin, zero_vector}
-use Rattle.integers.proofs.lists.Pieces.{in_at}
-use Rattle.integers.proofs.lists.Members.{IsIn}
-use Rattle.integers.proofs.lists.Permutations.{IsRising, rising_from_pairs}
-use Rattle.periodic_net.specs.Graph.{Graph, IsGraph, Arc}
-use Rattle.periodic_net.specs.Limits.{IsSmall, most_shift, most_vertices, most_edges}
-use Rattle.quotient_graph.specs.Order.{arc_numbers, AreRising}
-use Rattle.quotient_graph.specs.Stars.{graph_with}
-use Rattle.periodic_net.specs.Components.{InComponent}
+use Rattle.std.proofs.Common.{◌≡◌, ℕ, zero, suc, ◌+◌, ◌-◌, ◌<◌, ◌≤◌, inl, inr, List, [], ◌∷◌, length, get_or, Option, Some, None, IsSome, refl, subst, ◌∙◌}
+use Rattle.std.proofs.Common.{arith, ap, map}
+use Rattle.std.proofs.lemmas.{List.get_or_default, List.length-map, List.Elements.All-from_recursion, List.Elements.All-contains}
+use Rattle.integers.specs.Vectors.{Vector, IsBelow, IsWithin, zero_vector}
+use Rattle.integers.proofs.lists.{Pieces.in_at, Members.IsIn, Members.contains_from_in, Permutations.IsRising, Permutations.rising_from_pairs}
 use Rattle.net_components.specs.PartGraphs.{stair_base, IsPart, IsWritten, AreWritten, IsNumber}
-use Rattle.net_components.proofs.PartGraph.{part_graph}
+use Rattle.net_components.specs.{Vertices.vertices_of, Components.Component, Components.IsComponent, Parts.vertex_at, Written.IsEdgeOf, Written.AreEdgesOf}
+use Rattle.std.specs.List.{AllByRecursion, AllPairs}
+use Rattle.periodic_net.specs.Graph.{Graph, IsGraph, Arc, IsEdge}
+use Rattle.periodic_net.specs.Limits.{IsSmall, most_shift, most_vertices, most_edges}
+use Rattle.periodic_net.specs.Components.{InComponent}
+use Rattle.quotient_graph.specs.{Order.arc_numbers, Order.AreRising, Stars.graph_with, EdgeLists.IsEdgeAmong, EdgeLists.AreEdgesOfGraph}
 use Rattle.net_components.proofs.WrittenEdges.{written_as, written_few, written_for}
-use Rattle.net_components.proofs.EdgeOrder.{written_below}
-use Rattle.connected_dim.specs.Generators.{shift_at}
-use Rattle.net_components.specs.Components.{Component, IsComponent}
-use Rattle.net_components.specs.Parts.{vertex_at}
-use Rattle.net_components.specs.Vertices.{vertices_of}
-use Rattle.net_components.specs.Written.{IsEdgeOf, AreEdgesOf}
 use Rattle.net_components.proofs.Covered.{found_in, in_found, tells}
-use Rattle.net_components.proofs.FoundLists.{back, listed_at, in_list, place_of, vertices_rise, vertices_few}
+use Rattle.net_components.proofs.{PartNet.part_graph, EdgeOrder.written_below}
+use Rattle.connected_dim.specs.Generators.{shift_at}
+use Rattle.cgd_read.specs.{Spelling.edge_of, declared.edge.RawEdge.RawEdge}
+
+-- The vertices that were found, as a list.
+
+-- a vertex, from its place, which is counted from 0
+pub back : (u : ℕ) → 1 ≤ u → 1 + (u - 1) ≡ u
+back u l = omega arith
+
+-- a vertex of the list stands from u on, and was found
+pub record IsListed (u : ℕ) (found : List (Option Vector)) (v : ℕ) : Type 0 where
+  pub low : u ≤ v
+  pub high : v < u + length found
+  pub there : IsSome (get_or found (v - u) None)
+
+listed_next : (u : ℕ) (o : Option Vector) (found : List (Option Vector)) (v : ℕ) → IsListed (u + 1) found v → IsListed u (o ∷ found) v
+listed_next u o found v h = let a = h.low in let b = h.high in record {
+  low = omega arith;
+  high = omega arith;
+  there = subst (λ k. IsSome (get_or (o ∷ found) k None)) (next u v a) h.there;
+}
+  where
+    next : (u v : ℕ) → u + 1 ≤ v → suc (v - (u + 1)) ≡ v - u
+    next u v l = omega arith
+
+pub listed : (u : ℕ) (found : List (Option Vector)) (v : ℕ) → IsIn (vertices_of u found) v → IsListed u found v
+listed u [] v h = elim h [ ]
+listed u (None ∷ found) v h = listed_next u None found v (listed (u + 1) found v h)
+listed u (Some T ∷ found) v (inl e) = record {
+  low = omega arith;
+  high = omega arith;
+  there = subst (λ k. IsSome (get_or (Some T ∷ found) k None)) (same u v e) refl;
+}
+  where
+    same : (u v : ℕ) → u ≡ v → 0 ≡ v - u
+    same u v e = omega arith
+listed u (Some T ∷ found) v (inr h) = listed_next u (Some T) found v (listed (u + 1) found v h)
+
+-- what was found is listed
+pub in_list : (u : ℕ) (found : List (Option Vector)) (k : ℕ) → k < length found → IsSome (get_or found k None) → IsIn (vertices_of u found) (u + k)
+in_list u [] k l h = absurd (omega arith)
+in_list u (None ∷ found) zero l h = cc
+in_list u (Some T ∷ found) zero l h = inl (omega arith)
+in_list u (None ∷ found) (suc k) l h = subst (IsIn (vertices_of (u + 1) found)) (next u k) (in_list (u + 1) found k (omega arith) h)
+  where
+    next : (u k : ℕ) → u + 1 + k ≡ u + suc k
+    next u k = omega arith
+in_list u (Some T ∷ found) (suc k) l h = inr (subst (IsIn (vertices_of (u + 1) found)) (next u k) (in_list (u + 1) found k (omega arith) h))
+  where
+    next : (u k : ℕ) → u + 1 + k ≡ u + suc k
+    next u k = omega arith
+
+-- the one at a place is
+pub listed_at : (u : ℕ) (found : List (Option Vector)) (i : ℕ) → i < length (vertices_of u found) → IsListed u found (get_or (vertices_of u found) i 0)
+listed_at u found i l = listed u found (get_or (vertices_of u found) i 0) (in_at (vertices_of u found) i 0 l)
+
+-- they rise
+pub vertices_rise : (u : ℕ) (found : List (Option Vector)) (i j : ℕ) → i < j → j < length (vertices_of u found)
+    → get_or (vertices_of u found) i 0 < get_or (vertices_of u found) j 0
+vertices_rise u [] i j l m = absurd (omega arith)
+vertices_rise u (None ∷ found) i j l m = vertices_rise (u + 1) found i j l m
+vertices_rise u (Some T ∷ found) i zero l m = absurd (omega arith)
+vertices_rise u (Some T ∷ found) zero (suc j) l m = let h = listed_at (u + 1) found j (omega arith) in let a = h.low in omega arith
+vertices_rise u (Some T ∷ found) (suc i) (suc j) l m = vertices_rise (u + 1) found i j (omega arith) (omega arith)
+
+-- they are no more than the vertices
+pub vertices_few : (u : ℕ) (found : List (Option Vector)) → length (vertices_of u found) ≤ length found
+vertices_few u [] = omega arith
+vertices_few u (None ∷ found) = let h = vertices_few (u + 1) found in omega arith
+vertices_few u (Some T ∷ found) = let h = vertices_few (u + 1) found in omega arith
+
+-- a member stands at a place
+pub place_of : (xs : List ℕ) (x : ℕ) → IsIn xs x → (i : ℕ) × (i < length xs) × (get_or xs i 0 ≡ x)
+place_of xs x h = let c = contains_from_in xs x h in (c.0, c.1, get_or_default xs c.0 0 x c.1 ∙ c.2)
 
 -- a list each of whose members stands before all later ones rises
 pairs_from_rising : {X : Type 0} (before : X → X → Type 0) (xs : List X) → IsRising before xs → AllPairs before xs
@@ -55,17 +121,13 @@ module _ (G : Graph) (g : IsGraph G) (s : IsSmall G) (c : Component) (h : IsComp
   pub number_in : (i : ℕ) → IsNumber (length vs) i → InComponent G c.root (vertex_at vs i)
   number_in i n =
       let k = listed_at 1 c.found (i - 1) (let a = n.0 in let b = n.1 in omega arith) in
-      let low = k.low in
-      let high = k.high in
-      let count = h.walks.count in
+      let low = k.low in let high = k.high in let count = h.walks.count in
       found_in G c h (vertex_at vs i) (low, omega (arith, low, high, count)) k.there g
 
   -- and each vertex of the component a number
   pub number_for : (u : ℕ) → InComponent G c.root u → (i : ℕ) × IsNumber (length vs) i × (vertex_at vs i ≡ u)
   number_for u i =
-      let low = i.vertex.0 in
-      let high = i.vertex.1 in
-      let count = h.walks.count in
+      let low = i.vertex.0 in let high = i.vertex.1 in let count = h.walks.count in
       let p = place_of vs u (subst (IsIn vs) (back u low) (in_list 1 c.found (u - 1) (omega (arith, low, high, count)) (in_found G c h u i g))) in
       let l = p.1 in
       (p.0 + 1, (omega arith, omega (arith, l)), ap (λ k. get_or vs k 0) (less p.0) ∙ p.2)
@@ -137,3 +199,32 @@ module _ (G : Graph) (g : IsGraph G) (s : IsSmall G) (c : Component) (h : IsComp
     edges_rise r = pairs_from_rising Precedes fs (written_rise (InComponent G c.root) (IsEdgeOf G c)
         (λ e d f k a b l. written_below G c.root (shift_at c.found) c.stairs (vertex_at vs) H is_part e d f k a.written b.written l)
         G.edges fs w (rising_from_pairs Precedes G.edges r))
+
+-- The edges that are written for a component may stand as a graph.
+
+each_among : (d n : ℕ) (es : List RawEdge) → ((e : RawEdge) → IsIn es e → IsEdgeAmong d n e) → AllByRecursion (IsEdgeAmong d n) es
+each_among d n [] h = tt
+each_among d n (e ∷ es) h = (h e (inl refl), each_among d n es (λ f i. h f (inr i)))
+
+in_image : (es : List RawEdge) (e : RawEdge) → IsIn es e → IsIn (map edge_of es) (edge_of e)
+in_image [] e i = elim i [ ]
+in_image (f ∷ es) e (inl s) = inl (ap edge_of s)
+in_image (f ∷ es) e (inr i) = inr (in_image es e i)
+
+pub edges_of_graph : (G : Graph) (g : IsGraph G) (s : IsSmall G) (c : Component) (h : IsComponent G c) (es : List RawEdge)
+    → AreEdgesOf G c G.edges (map edge_of es) → AreRising G.edges
+    → AreEdgesOfGraph G.dimension (length (vertices_of 1 c.found)) es
+edges_of_graph G g s c h es w r =
+    let fs = map edge_of es in
+    let graph = is_graph G g s c h fs w in
+    record {
+      dimension = g.dimension;
+      vertices = (some_number G g s c h, few_vertices G g s c h fs w);
+      count = subst (λ n. n ≤ most_edges) (length-map es edge_of) (few_edges G g s c h fs w);
+      each = All-from_recursion (IsEdgeAmong G.dimension (length (vertices_of 1 c.found))) es
+          (each_among G.dimension (length (vertices_of 1 c.found)) es (λ e i.
+          let k = in_image es e i in
+          let edge = All-contains (IsEdge (H G g s c h fs w)) fs (edge_of e) graph.edges (contains_from_in fs (edge_of e) k) in
+          record { first = edge.from; second = edge.to; flat = edge.shift; small = is_small G g s c h fs w (edge_of e) k; spelling = edge.spelling }));
+      rising = edges_rise G g s c h fs w r;
+    }

@@ -1,14 +1,9 @@
 -- The theorems, as they are stated.
 use Rattle.integers.specs.Vectors.{minus}
 use Rattle.net_components.specs.PartLaws.{CopiesAreClasses, PartsAreNets, CopiesAreCounted, RanksAreOne}
-use Rattle.net_components.proofs.Classes.{copy_joined, copy_closed, in_copy, copies_meet, copies_same, one_component}
-use Rattle.net_components.proofs.CopyCount.{copy_count, one_count}
-use Rattle.net_components.proofs.LowRank.{flat_not_full}
-use Rattle.net_components.proofs.OneNormal.{one_normal}
-use Rattle.net_components.proofs.OneStair.{one_stair}
-use Rattle.net_components.proofs.PartConnected.{part_connected}
-use Rattle.net_components.proofs.PartGraph.{part_graph}
-use Rattle.net_components.proofs.PartNet.{part_net}
+use Rattle.net_components.proofs.Classes.{copy_joined, copy_closed, in_copy, copies_meet, copies_same, one_component, copy_count, one_count}
+use Rattle.net_components.proofs.{LowRank.flat_not_full, OneStair.one_normal, OneStair.one_stair, PartConnected.part_connected, PartNet.part_graph}
+use Rattle.net_components.proofs.{PartNet.part_net}
 
 pub copies_are_classes : CopiesAreClasses
 copies_are_classes = record {

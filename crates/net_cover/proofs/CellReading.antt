@@ -1,16 +1,10 @@
 -- The cell that is read from a word is the one that it spells.
 use Rattle.std.proofs.Common.{◌≡◌, ◌⊎◌, inl, inr, ℕ, suc, ◌<◌, ◌≤◌, ◌^◌, ◌==◌, ◌&&◌, Bool, true, false, cond, not, nat_lt, ℤ, pos, negsuc, neg_ℤ, List, [], ◌∷◌}
 use Rattle.std.proofs.Common.{◌++◌, length, map, Option, Some, None, refl, sym, ap, subst, ◌∙◌, arith}
-use Rattle.std.specs.Prelude.{unsigned_abs, unwrap_or, IfSome}
-use Rattle.std.specs.List.{list_all}
-use Rattle.std.specs.Fmt.{decimal, signed_decimal}
-use Rattle.std.specs.Str.{bytes_eq}
-use Rattle.std.specs.Str.Parse.{digits_value, IsNumeral}
 use Rattle.std.proofs.lemmas.Bool.{and_parts, cond-true, ltb-false, le-ltb, true≢false}
-use Rattle.std.proofs.lemmas.Fmt.{decimal_is_IsNumeral}
-use Rattle.std.proofs.lemmas.List.{append-nil}
-use Rattle.std.proofs.lemmas.Option.{none-some}
-use Rattle.std.proofs.lemmas.Slice.Eq.{bytes_eq-Decides}
+use Rattle.std.proofs.lemmas.{Fmt.decimal_is_IsNumeral, List.append-nil, Option.none-some, Slice.Eq.bytes_eq-Decides}
+use Rattle.std.specs.Prelude.{unsigned_abs, unwrap_or, IfSome}
+use Rattle.std.specs.{List.list_all, Fmt.decimal, Fmt.signed_decimal, Str.bytes_eq, Str.Parse.digits_value, Str.Parse.IsNumeral}
 use Rattle.integers.specs.Vectors.{vector, zero_vector, IsWithin}
 use Rattle.periodic_net.specs.Limits.{most_shift}
 use Rattle.line_text.specs.Lines.{HasNo}
@@ -91,15 +85,11 @@ numbers_small R w = by w.dimension
   where
     by : (R.dimension ≡ 2) ⊎ (R.dimension ≡ 3) → AreSmall (cell_numbers R) × (1 ≤ length (cell_numbers R))
     by (inl e) =
-        let a = w.small.first in
-        let b = w.small.second in
+        let a = w.small.first in let b = w.small.second in
         subst (λ (zs : List ℤ). AreSmall zs × (1 ≤ length zs)) (sym (numbers_flat R e)) ((a.0, (a.1, (b.0, (b.1, tt)))), omega arith)
     by (inr e) =
-        let a = w.small.first in
-        let b = w.small.second in
-        let c = w.small.third in
-        subst (λ (zs : List ℤ). AreSmall zs × (1 ≤ length zs)) (sym (numbers_space R e))
-        ((a.0, (a.1, (a.2, (b.0, (b.1, (b.2, (c.0, (c.1, (c.2, tt))))))))), omega arith)
+        let a = w.small.first in let b = w.small.second in let c = w.small.third in
+        rw (numbers_space R e) ((a.0, (a.1, (a.2, (b.0, (b.1, (b.2, (c.0, (c.1, (c.2, tt))))))))), omega arith)
 
 -- the cell of the numbers of a cell is the cell
 cell_again : (R : CellView) → IsWritten R → cell_with (cell_numbers R) ≡ R
@@ -148,8 +138,7 @@ written_with zs h = by (length zs == 4) h
         }
     by false k =
         let s = small_all (space_numbers (space_with zs).rows) k in
-        let b = s.1.1.1 in
-        let c = b.1.1.1 in
+        let b = s.1.1.1 in let c = b.1.1.1 in
         record {
           dimension = inr refl;
           first = λ e. absurd (omega (arith, e));

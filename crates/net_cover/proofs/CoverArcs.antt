@@ -1,18 +1,55 @@
 -- The arcs of a cover are the lifts of the arcs of the graph.
-use Rattle.std.proofs.Common.{◌≡◌, inl, inr, ℕ, ◌≤◌, ℤ, ◌+ℤ◌, ◌*ℤ◌, neg_ℤ, refl, sym, ap, subst, ◌∙◌, arith}
+use Rattle.std.proofs.Common.{◌≡◌, ℕ, zero, suc, ◌+◌, ◌-◌, ◌*◌, ◌/◌, ◌%◌, ◌<◌, ◌≤◌, ◌∙◌, arith, inl, inr, ℤ, ◌+ℤ◌, ◌*ℤ◌, neg_ℤ, refl, sym, ap, subst}
+use Rattle.std.proofs.lemmas.Nat.{mul-add-lt, div_below}
+use Rattle.integers.proofs.vectors.Laws.{vector_equal, opposite_dimension, plus_cancel}
+use Rattle.integers.proofs.{counting.NumberedPairs.parts_same, numbers.Ring.ring, numbers.Ring.linear, vectors.BaseSums.base_sum_zero}
+use Rattle.net_cover.specs.Covers.{number_in_cover, IsLiftTo, IsLift, IsGiven, IsCover}
 use Rattle.std.specs.List.{Contains}
 use Rattle.integers.specs.Bases.{Base, base_sum}
 use Rattle.integers.specs.Vectors.{Vector, zero_vector, plus}
-use Rattle.integers.proofs.numbers.Ring.{ring, linear}
-use Rattle.integers.proofs.vectors.BaseSums.{base_sum_zero}
-use Rattle.integers.proofs.vectors.Laws.{vector_equal, opposite_dimension, plus_cancel}
 use Rattle.periodic_net.specs.Graph.{Graph, IsGraph, Arc, reverse_of, IsArc}
 use Rattle.periodic_net.proofs.CallerLemmas.{arc_inside, arc_turned, reverse_twice}
 use Rattle.key_theory.proofs.CallerLemmas.{arc_no_point, arc_by_edge, edge_is_arc, reverse_is_arc, spelled}
 use Rattle.sublattice.specs.Remainders.{remainder_with}
 use Rattle.vecdim.specs.Stairs.{Stairs, size_of}
-use Rattle.net_cover.specs.Covers.{IsLiftTo, IsLift, IsGiven, IsCover}
-use Rattle.net_cover.proofs.CoverNumbers.{number_once}
+
+-- The numbers of the vertices of a cover.
+
+-- a number determines the vertex and the place
+pub number_once : (n u v i j : ℕ) → 1 ≤ u → 1 ≤ v → i < n → j < n → number_in_cover n u i ≡ number_in_cover n v j → (u ≡ v) × (i ≡ j)
+number_once n u v i j a b k l e =
+    let s = parts_same n (u - 1) i (v - 1) j k l (omega (arith, e)) in
+    let f = s.0 in
+    (omega (arith, f, a, b), s.1)
+
+-- numbers go from 1 to the number of pairs
+pub number_inside : (n m u i : ℕ) → 1 ≤ u → u ≤ m → i < n → (1 ≤ number_in_cover n u i) × (number_in_cover n u i ≤ m * n)
+number_inside n m u i a b l =
+    let p = mul-add-lt (u - 1) n i m (omega (arith, a, b)) l in
+    let q : n * m ≡ m * n = omega arith in
+    (omega arith, omega (arith, p, q))
+
+-- what is below a product shows that its second factor is not 0
+factor : (m n x : ℕ) → 1 ≤ x → x ≤ m * n → 1 ≤ n
+factor m zero x a b = absurd (omega (arith, a, b))
+factor m (suc n) x a b = omega arith
+
+-- each of them is the number of a pair
+pub number_found : (n m x : ℕ) → 1 ≤ x → x ≤ m * n → (u : ℕ) × (i : ℕ) × (1 ≤ u) × (u ≤ m) × (i < n) × (number_in_cover n u i ≡ x)
+number_found n m x a b =
+    let h = factor m n x a b in
+    let q = div_below (x - 1) n m (omega (arith, h)) (omega (arith, a, b)) in
+    let r : (x - 1) % n < n = omega (arith, h) in
+    let s : (x - 1) / n * n + (x - 1) % n ≡ x - 1 = omega (arith, h) in
+    let p : (x - 1) / n + 1 - 1 ≡ (x - 1) / n = omega arith in (
+      (x - 1) / n + 1,
+      (x - 1) % n,
+      omega arith,
+      omega (arith, q),
+      r,
+      (λ t. p t * n + (x - 1) % n + 1)
+          ∙ (let z : (x - 1) / n * n + (x - 1) % n + 1 ≡ x = omega (arith, s, a) in z),
+    )
 
 -- what lies between, the other way
 turned_back : (x s y p q r k l n : ℤ) → x +ℤ s ≡ y +ℤ (k *ℤ p +ℤ (l *ℤ q +ℤ n *ℤ r)) → y +ℤ neg_ℤ s ≡ x +ℤ (neg_ℤ k *ℤ p +ℤ (neg_ℤ l *ℤ q +ℤ neg_ℤ n *ℤ r))
@@ -72,10 +109,7 @@ lifted_turned G b S e h = record {
 given_lifts : (G : Graph) (b : Base) (S : Stairs) (e : Arc) → IsGiven G b S e → IsLifted G b S e
 given_lifts G b S e q =
     let l : IsLifted G b S q.3.0 = record { below = q.0; is_arc = edge_is_arc G q.0 q.2; i = q.1; j = q.3.1.0; lift = q.3.1.1 } in
-    elim q.3.2.1 [
-      | inl s ↦ subst (IsLifted G b S) (sym s) l
-      | inr s ↦ subst (IsLifted G b S) (sym s) (lifted_turned G b S q.3.0 l)
-    ]
+    elim q.3.2.1 [ inl s ↦ subst (IsLifted G b S) (sym s) l | inr s ↦ subst (IsLifted G b S) (sym s) (lifted_turned G b S q.3.0 l) ]
 
 module _ (G : Graph) (b : Base) (C : Graph) (g : IsGraph G) (h : IsCover G b C) where
   -- an arc of the cover lifts an arc of the graph
@@ -83,8 +117,7 @@ module _ (G : Graph) (b : Base) (C : Graph) (g : IsGraph G) (h : IsCover G b C) 
   arc_lifts e m = elim (arc_by_edge C e m) [
     | inl k ↦ given_lifts G b h.lattice e ((h.edges e).0 k)
     | inr k ↦
-        subst (IsLifted G b h.lattice) (reverse_twice e) (lifted_turned G b h.lattice (reverse_of e)
-        (given_lifts G b h.lattice (reverse_of e) ((h.edges (reverse_of e)).0 k)))
+        rw (reverse_twice e) at (lifted_turned G b h.lattice (reverse_of e) (given_lifts G b h.lattice (reverse_of e) ((h.edges (reverse_of e)).0 k)))
   ]
 
   -- the lift of an edge is an arc of the cover

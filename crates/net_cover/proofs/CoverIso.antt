@@ -1,26 +1,88 @@
 -- The net of a cover is the net: a vertex over number (u, i) in cell k is the vertex over u at the remainder at i, moved by the
 -- sum of the rows with the coefficients k.
-use Rattle.std.proofs.Common.{◌≡◌, ℕ, ◌*◌, ◌≤◌, ℤ, pos, ◌+ℤ◌, ◌-ℤ◌, length, refl, sym, ap, subst, ◌∙◌, arith}
+use Rattle.std.proofs.Common.{◌≡◌, ℕ, ◌<◌, sym, ap, subst, ◌∙◌, ◌⊎◌, ℤ, ◌+ℤ◌, ◌-ℤ◌, arith, ◌*◌, ◌≤◌, pos, length, refl}
 use Rattle.integers.specs.Bases.{Base, base_sum}
-use Rattle.integers.specs.Vectors.{Vector, plus, minus, times, HasDimension}
-use Rattle.integers.proofs.numbers.Ring.{linear}
-use Rattle.integers.proofs.vectors.BaseSums.{base_sum_minus, base_sum_plus}
-use Rattle.integers.proofs.vectors.Laws.{vector_equal, plus_minus, plus_dimension, minus_dimension, plus_associative, plus_cancel, one_times}
-use Rattle.periodic_net.specs.Graph.{Graph, IsGraph, Vertex, vertex, IsVertex, AreJoined, moved, IsArc, arc}
+use Rattle.integers.specs.Vectors.{Vector, minus, HasDimension, plus, times}
+use Rattle.integers.proofs.vectors.Laws.{minus_dimension, minus_itself, vector_equal, plus_cancel, plus_minus, plus_dimension, plus_associative, one_times}
+use Rattle.integers.proofs.{numbers.Ring.linear, vectors.BaseSums.base_sum_minus, vectors.BaseSums.base_sum_plus}
+use Rattle.vecdim.specs.{Lattices.Members, Stairs.Stairs, Stairs.size_of}
+use Rattle.vecdim.proofs.CallerLemmas.{members_group}
+use Rattle.sublattice.specs.Laws.{AreNumbered}
+use Rattle.sublattice.specs.Remainders.{IsRemainderOf, number_of, remainder_with}
+use Rattle.sublattice.specs.Sublattices.{IsCombination, IsSublattice, index_of}
+use Rattle.sublattice.proofs.CallerLemmas.{remainders_numbered, tell_classes, Undoing, undoing}
+use Rattle.periodic_net.specs.Graph.{Arc, Graph, IsGraph, Vertex, vertex, IsVertex, AreJoined, moved, IsArc, arc}
+use Rattle.net_cover.specs.Covers.{IsNewShift, number_in_cover, IsCover, HasCoverSize, LiesOver}
+use Rattle.net_cover.specs.{UnitCells.IsCell, CoverLaws.CoversAreIsomorphic}
+use Rattle.net_cover.proofs.Coefficients.{coefficients_once, index_positive, sum_flat}
+use Rattle.net_cover.proofs.CoverArcs.{arc_lifts, lifted_arc, number_once, number_inside, number_found}
 use Rattle.periodic_net.proofs.CallerLemmas.{arc_between, arc_inside}
 use Rattle.key_theory.proofs.CallerLemmas.{PairedIso, paired_iso}
-use Rattle.vecdim.specs.Stairs.{Stairs, size_of}
-use Rattle.sublattice.specs.Remainders.{remainder_with}
-use Rattle.sublattice.specs.Sublattices.{index_of}
-use Rattle.sublattice.proofs.CallerLemmas.{Undoing, undoing}
-use Rattle.net_cover.specs.UnitCells.{IsCell}
-use Rattle.net_cover.specs.Covers.{number_in_cover, IsCover, HasCoverSize, LiesOver}
-use Rattle.net_cover.specs.CoverLaws.{CoversAreIsomorphic}
-use Rattle.net_cover.proofs.CellCoefficients.{coefficients_once, index_positive, sum_flat}
-use Rattle.net_cover.proofs.CoverArcs.{arc_lifts, lifted_arc}
-use Rattle.net_cover.proofs.NewShifts.{apart}
-use Rattle.net_cover.proofs.CoverNumbers.{number_once, number_inside, number_found}
-use Rattle.net_cover.proofs.Places.{remainder_flat, one_place, some_place}
+
+-- Each vector differs from one remainder by a combination of the rows.
+
+module _ (d : ℕ) (b : Base) (S : Stairs) (h : IsSublattice d b S) where
+  numbered : AreNumbered d S
+  numbered = remainders_numbered d S h.stair
+
+  -- a remainder has the dimension
+  pub remainder_flat : (i : ℕ) → i < size_of S → HasDimension d (remainder_with S i)
+  remainder_flat i l = (numbered.remainder i l).dimension
+
+  -- it is its own remainder
+  own : (i : ℕ) → i < size_of S → IsRemainderOf d S (remainder_with S i) (remainder_with S i)
+  own i l = record { remainder = numbered.remainder i l; difference = subst (Members d S) (sym (minus_itself (remainder_with S i))) (members_group d S).zero }
+
+  -- remainders that differ by a combination have one number
+  pub one_place : (i j : ℕ) → i < size_of S → j < size_of S → IsCombination d b (minus (remainder_with S i) (remainder_with S j)) → i ≡ j
+  one_place i j k l p =
+      let r = remainder_with S i in
+      let q = remainder_with S j in
+      let flat = minus_dimension d r q (remainder_flat i k) (remainder_flat j l) in
+      let e : r ≡ q = (tell_classes.same d S r q r q (own i k) (own j l)).1 ((h.members (minus r q) flat).1 p, flat) in
+      sym (numbered.back i k) ∙ ap (number_of S) e ∙ numbered.back j l
+
+  -- each vector differs from one by a combination
+  pub some_place : (v : Vector) → HasDimension d v → (i : ℕ) × (i < size_of S) × IsCombination d b (minus v (remainder_with S i))
+  some_place v f =
+      let r = tell_classes.some d S v h.stair f in
+      let m = r.1.difference in
+      let e = numbered.there r.0 r.1.remainder in
+      (number_of S r.0, numbered.below r.0 r.1.remainder, subst (λ (x : Vector). IsCombination d b (minus v x)) (sym e) ((h.members (minus v r.0) m.1).0 m.0))
+
+-- The new shift of an arc at a remainder is one.
+
+-- a part of what lies between two remainders of one vector
+apart_part : (r q k l v : ℤ) → v ≡ r +ℤ k → v ≡ q +ℤ l → r -ℤ q ≡ l -ℤ k
+apart_part r q k l v e f = omega (arith, linear, e, f)
+
+-- two remainders of one vector differ by a sum of the rows
+pub apart : (b : Base) (r q v k l : Vector) → v ≡ plus r (base_sum b k) → v ≡ plus q (base_sum b l) → minus r q ≡ base_sum b (minus l k)
+apart b r q v k l e f =
+    let x = base_sum b k in
+    let y = base_sum b l in
+    vector_equal (apart_part r.x q.x x.x y.x v.x (ap (λ (u : Vector). u.x) e) (ap (λ (u : Vector). u.x) f))
+    (apart_part r.y q.y x.y y.y v.y (ap (λ (u : Vector). u.y) e) (ap (λ (u : Vector). u.y) f))
+    (apart_part r.z q.z x.z y.z v.z (ap (λ (u : Vector). u.z) e) (ap (λ (u : Vector). u.z) f))
+    ∙ sym (base_sum_minus b l k)
+
+module _ (d : ℕ) (b : Base) (S : Stairs) (dim : (d ≡ 2) ⊎ (d ≡ 3)) (c : IsCell d b) (h : IsSublattice d b S) where
+  -- there is one remainder to which an arc leads, and one shift
+  pub lift_once : (a : Arc) (i : ℕ) (k l : Vector) (s : IsNewShift d b S a i k) (t : IsNewShift d b S a i l) → (s.0 ≡ t.0) × (k ≡ l)
+  lift_once a i k l s t =
+      let x = s.1 in let y = t.1 in
+      let r = remainder_with S s.0 in
+      let q = remainder_with S t.0 in
+      let v = plus (remainder_with S i) a.shift in
+      let flat = minus_dimension d l k y.dimension x.dimension in
+      let j : s.0 ≡ t.0 = one_place d b S h s.0 t.0 x.end y.end (record { k = minus l k; dimension = flat; sum = apart b r q v k l x.shift y.shift }) in
+      let sums : base_sum b k ≡ base_sum b l =
+      plus_cancel q (base_sum b k) (base_sum b l) (ap (λ (n : ℕ). plus (remainder_with S n) (base_sum b k)) (sym j) ∙ sym x.shift ∙ y.shift) in
+      (j, coefficients_once d b dim c k l x.dimension y.dimension sums)
+
+  -- so the shift is one
+  pub shift_once : (a : Arc) (i : ℕ) (k l : Vector) → IsNewShift d b S a i k → IsNewShift d b S a i l → k ≡ l
+  shift_once a i k l s t = (lift_once a i k l s t).1
 
 -- where the remainder is one, so is the sum
 same_sum : (r v k l : Vector) → v ≡ plus r k → v ≡ plus r l → k ≡ l

@@ -1,22 +1,73 @@
 -- The cover as it is made in memory is the cover of the definition.
-use Rattle.std.proofs.Common.{◌≡◌, inl, inr, ℕ, zero, suc, ◌+◌, ◌*◌, ◌≤◌, ◌<◌, List, length, sym, ap, subst, ◌∙◌, arith}
-use Rattle.std.proofs.lemmas.Nat.{mul-add-lt}
-use Rattle.std.proofs.lemmas.List.Sorted.{IsPermutation-refl}
-use Rattle.integers.specs.Bases.{Base}
-use Rattle.periodic_net.specs.Graph.{Graph, IsGraph, Arc}
-use Rattle.periodic_net.specs.Limits.{IsSmall, most_vertices, most_edges}
+use Rattle.std.proofs.Common.{◌≡◌, ℕ, ◌+◌, ◌*◌, ◌<◌, List, [], ◌∷◌, ◌++◌, length, get_or, sym, ap, subst, ◌∙◌, arith, inl, inr, zero, suc, ◌≤◌}
+use Rattle.std.proofs.lemmas.{List.get_or_default, Nat.mul-add-lt, List.Sorted.IsPermutation-refl}
+use Rattle.integers.specs.{Bases.Base, Vectors.zero_vector, Vectors.IsWithin}
+use Rattle.periodic_net.specs.Graph.{Arc, arc, Graph, IsGraph}
+use Rattle.periodic_net.specs.Limits.{most_shift, IsSmall, most_vertices, most_edges}
 use Rattle.vecdim.specs.Stairs.{Stairs, size_of}
-use Rattle.quotient_graph.specs.Stars.{IsInOrder, graph_with}
-use Rattle.sublattice.specs.Sublattices.{determinant, index_of, IsSublattice}
-use Rattle.net_cover.specs.UnitCells.{IsCell}
-use Rattle.net_cover.specs.Covers.{edge_at, AreGiven, IsCover}
-use Rattle.net_cover.proofs.CoverMade.{cover_made}
-use Rattle.net_cover.proofs.GivenLists.{given_within}
-use Rattle.net_cover.specs.Cells.{CellView, IsLatticeOfCell, IsWritten, index_in}
-use Rattle.net_cover.specs.Faults.{IsCoverFault, FitsEdges, AreShiftsWithin, LiftsWithin}
-use Rattle.net_cover.specs.Lifting.{TellsFirst}
-use Rattle.net_cover.specs.declared.faults.CoverFault.{CoverFault}
+use Rattle.sublattice.specs.Sublattices.{index_of, determinant, IsSublattice}
+use Rattle.net_cover.specs.Covers.{edge_at, IsLift, Spells, AreGiven, IsCover}
+use Rattle.net_cover.specs.Lifting.{TellsLift, TellsEdge, TellsFirst, CanLift}
+use Rattle.net_cover.specs.Cells.{IsLatticeOfCell, CellView, IsWritten, index_in}
 use Rattle.net_cover.specs.declared.faults.CoverFault.TheVariants.{CellDimension, CellRank, CoverVertices, CoverEdges, CoverShift, NoMemory}
+use Rattle.net_cover.specs.Faults.{IsCoverFault, FitsEdges, AreShiftsWithin, LiftsWithin}
+use Rattle.net_cover.specs.{declared.faults.CoverFault.CoverFault, UnitCells.IsCell}
+use Rattle.net_cover.proofs.CoverMade.{given_within, one_given, cover_made}
+use Rattle.net_cover.proofs.CoverArcs.{lift_point}
+use Rattle.quotient_graph.specs.Stars.{IsInOrder, graph_with}
+
+-- The steps by which the edges of a cover are listed.
+
+-- the edge that was read at a place
+pub edge_read : (es : List Arc) (m : ℕ) (e : Arc) → m < length es → e ≡ get_or es m e → e ≡ edge_at es m
+edge_read es m e l is = is ∙ get_or_default es m e (arc 0 0 zero_vector) l
+
+-- the lift of what may be lifted is no loop with shift 0
+pub lifted_no_point : (d : ℕ) (b : Base) (S : Stairs) (a : Arc) (i : ℕ) (e : Arc) → CanLift d a → IsLift d b S a i e → e.from ≡ e.to → e.shift ≡ zero_vector → ⊥
+lifted_no_point d b S a i e c l same none = let p = lift_point d b S a i e c.from.0 c.to.0 l same none in c.no_point p.0 p.1
+
+module _ (d : ℕ) (b : Base) (S : Stairs) (h : IsLatticeOfCell d b S) (es : List Arc) (index : ℕ) (ei : index ≡ index_of d b) where
+  as_many : index ≡ size_of S
+  as_many = ei ∙ sym h.lattice.size
+
+  -- one edge more
+  pub one_more : (m i : ℕ) (given : List Arc) (l e : Arc) → i < index → AreGiven d b S es (m * index + i) given → IsLift d b S (edge_at es m) i l → Spells l e
+      → IsWithin most_shift e.shift → AreGiven d b S es (m * index + (i + 1)) (given ++ e ∷ [])
+  one_more m i given l e k g f s small =
+      let count : m * index + i + 1 ≡ m * index + (i + 1) = omega arith in
+      rw count at (one_given d b S es (m * index + i) m i given e (subst (λ (n : ℕ). i < n) as_many k) (ap (λ (n : ℕ). m * n + i) as_many) g (l, f, s) small)
+
+  -- what is reported of a lift is reported of the edge
+  pub edge_tells : (m i : ℕ) (given : List Arc) → i < index → AreGiven d b S es (m * index + i) given → (f : CoverFault) → TellsLift d b S (edge_at es m) i f
+      → TellsEdge d b S es m f
+  edge_tells m i given k g (CoverShift y) t = record {
+    i = i;
+    place = subst (λ (n : ℕ). i < n) as_many k;
+    wide = t;
+    before = λ j l. given_within d b S es h.dimension h.cell h.lattice (m * index + i) given m j g (subst (λ (n : ℕ). j < n) as_many (omega (arith, l, k)))
+        (subst (λ (n : ℕ). m * n + j < m * index + i) as_many (omega (arith, l)));
+  }
+  edge_tells m i given k g CellDimension t = absurd t
+  edge_tells m i given k g CellRank t = absurd t
+  edge_tells m i given k g (CoverVertices n) t = absurd t
+  edge_tells m i given k g (CoverEdges n) t = absurd t
+  edge_tells m i given k g NoMemory t = absurd t
+
+  -- what is reported of an edge is reported of all
+  pub first_tells : (m : ℕ) (given : List Arc) → m < length es → AreGiven d b S es (m * index) given → (f : CoverFault) → TellsEdge d b S es m f
+      → TellsFirst d b S es f
+  first_tells m given k g (CoverShift y) t = (
+    m,
+    k,
+    t,
+    λ n j l q. given_within d b S es h.dimension h.cell h.lattice (m * index) given n j g q
+        (rw as_many (let p = mul-add-lt n (size_of S) j m l q in let e : size_of S * m ≡ m * size_of S = omega arith in omega (arith, p, e))),
+  )
+  first_tells m given k g NoMemory t = t
+  first_tells m given k g CellDimension t = absurd t
+  first_tells m given k g CellRank t = absurd t
+  first_tells m given k g (CoverVertices n) t = absurd t
+  first_tells m given k g (CoverEdges n) t = absurd t
 
 -- the index of a cell of the graph's dimension
 index_same : (G : Graph) (R : CellView) → FitsEdges G R → index_in R ≡ index_of G.dimension R.rows
@@ -42,8 +93,7 @@ module _ {G : Graph} {R : CellView} {S : Stairs} {es : List Arc} {index n : ℕ}
 
   -- the edges that are given, in any order, are a graph
   pub given_graph : IsGraph (graph_with G.dimension n es)
-  given_graph = subst (λ (m : ℕ). IsGraph (graph_with G.dimension m es)) (sym vertices_are)
-      (cover_made G R.rows S es es made.is_graph made.lattice.cell made.lattice.lattice whole (IsPermutation-refl es)).is_graph
+  given_graph = rw vertices_are (cover_made G R.rows S es es made.is_graph made.lattice.cell made.lattice.lattice whole (IsPermutation-refl es)).is_graph
 
   same_index : index_in R ≡ index
   same_index = index_same G R made.fits ∙ sym made.index_is

@@ -1,18 +1,14 @@
 -- What is given by an edge at a remainder is one, and determines the edge and the remainder.
 use Rattle.std.proofs.Common.{◌≡◌, ◌⊎◌, inl, inr, ℕ, ◌≤◌, sym, ap, subst, ◌∙◌}
-use Rattle.integers.specs.Bases.{Base, base_sum}
-use Rattle.integers.specs.Vectors.{plus}
+use Rattle.integers.specs.{Bases.Base, Bases.base_sum, Vectors.plus}
 use Rattle.integers.proofs.vectors.Laws.{plus_cancel}
 use Rattle.periodic_net.specs.Graph.{Arc, arc, reverse_of, IsNormalSpelling}
 use Rattle.periodic_net.proofs.CallerLemmas.{one_spelling, reverse_twice}
-use Rattle.sublattice.specs.Remainders.{remainder_with}
-use Rattle.sublattice.specs.Sublattices.{IsSublattice}
+use Rattle.sublattice.specs.{Remainders.remainder_with, Sublattices.IsSublattice}
 use Rattle.vecdim.specs.Stairs.{Stairs, size_of}
 use Rattle.net_cover.specs.UnitCells.{IsCell}
 use Rattle.net_cover.specs.Covers.{number_in_cover, IsLiftTo, IsLift, Spells, IsGivenAt}
-use Rattle.net_cover.proofs.CoverArcs.{lift_turned}
-use Rattle.net_cover.proofs.NewShifts.{lift_once}
-use Rattle.net_cover.proofs.CoverNumbers.{number_once}
+use Rattle.net_cover.proofs.{CoverArcs.lift_turned, CoverArcs.number_once, CoverIso.lift_once}
 
 -- an edge has one normal spelling
 spelled_once : (l e f : Arc) → Spells l e → Spells l f → e ≡ f
@@ -25,8 +21,7 @@ module _ (d : ℕ) (b : Base) (S : Stairs) (dim : (d ≡ 2) ⊎ (d ≡ 3)) (c : 
   -- an arc has one lift at a remainder
   lifted_once : (a : Arc) (i : ℕ) (e f : Arc) → IsLift d b S a i e → IsLift d b S a i f → e ≡ f
   lifted_once a i e f l m =
-      let s = l.1 in
-      let t = m.1 in
+      let s = l.1 in let t = m.1 in
       let o = lift_once d b S dim c h a i e.shift f.shift (l.0, s.leads) (m.0, t.leads) in
       let to : l.0 ≡ m.0 = o.0 in
       λ k. arc ((s.from ∙ sym t.from) k) ((s.to ∙ ap (number_in_cover (size_of S) a.to) to ∙ sym t.to) k) (o.1 k)

@@ -1,21 +1,17 @@
 -- The lift of an edge, from what the steps find.
 use Rattle.std.proofs.Common.{◌≡◌, ℕ, ◌≤◌, ◌<◌, ℤ, pos, negsuc, sym, ap, subst, ◌∙◌, arith}
-use Rattle.std.specs.Prelude.{unsigned_abs, ◌≤ℤ◌, ◌<ℤ◌}
 use Rattle.std.proofs.lemmas.Int.{ints}
+use Rattle.std.specs.Prelude.{unsigned_abs, ◌≤ℤ◌, ◌<ℤ◌}
 use Rattle.integers.specs.Bases.{Base, base_sum}
 use Rattle.integers.specs.Vectors.{Vector, plus, minus, HasDimension, IsWithin}
 use Rattle.integers.proofs.vectors.Laws.{plus_minus}
-use Rattle.periodic_net.specs.Graph.{Arc, arc}
-use Rattle.periodic_net.specs.Limits.{most_vertices}
+use Rattle.periodic_net.specs.{Graph.Arc, Graph.arc, Limits.most_vertices}
 use Rattle.vecdim.specs.Stairs.{Stairs, HasStairShape, IsRemainder, size_of}
-use Rattle.sublattice.specs.Remainders.{HasNumber, remainder_with}
-use Rattle.sublattice.specs.Sublattices.{index_of, IsCombination}
+use Rattle.sublattice.specs.{Remainders.HasNumber, Remainders.remainder_with, Sublattices.index_of, Sublattices.IsCombination}
 use Rattle.sublattice.proofs.CallerLemmas.{factors_small, remainders_numbered}
 use Rattle.net_cover.specs.Covers.{number_in_cover, LeadsTo, IsLift, IsNewShift}
-use Rattle.net_cover.specs.Cells.{IsLatticeOfCell}
-use Rattle.net_cover.specs.Lifting.{TellsPart, TellsLift}
-use Rattle.net_cover.specs.declared.faults.CoverFault.{CoverFault}
 use Rattle.net_cover.specs.declared.faults.CoverFault.TheVariants.{CellDimension, CellRank, CoverVertices, CoverEdges, CoverShift, NoMemory}
+use Rattle.net_cover.specs.{Cells.IsLatticeOfCell, Lifting.TellsPart, Lifting.TellsLift, declared.faults.CoverFault.CoverFault}
 
 -- a number from 0 to below a small one is small
 part_small : (n : ℕ) (z a : ℤ) → pos 0 ≤ℤ z → z <ℤ a → unsigned_abs a ≤ n → unsigned_abs z ≤ n

@@ -1,12 +1,11 @@
 -- The cover of a graph on a cell, with its edges in order, is one.
 use Rattle.std.proofs.Common.{◌≡◌, sym, ◌∙◌}
-use Rattle.integers.proofs.lists.ListOrder.{below_transitive, not_below_itself}
-use Rattle.integers.proofs.lists.Members.{contains_from_in, is_in}
-use Rattle.integers.proofs.lists.Permutations.{rising_from_pairs, same_rising}
+use Rattle.integers.proofs.lists.{ListOrder.below_transitive, ListOrder.not_below_itself, Members.contains_from_in, Members.is_in}
+use Rattle.integers.proofs.lists.{Permutations.rising_from_pairs, Permutations.same_rising}
 use Rattle.integers.specs.Vectors.{IsBelow}
 use Rattle.periodic_net.specs.Graph.{Arc}
 use Rattle.quotient_graph.specs.Order.{arc_numbers}
-use Rattle.net_cover.proofs.OneLattice.{cover_vertices, cover_edge}
+use Rattle.net_cover.proofs.OneFault.{cover_vertices, cover_edge}
 use Rattle.net_cover.specs.Laws.{OneCover}
 
 -- one arc comes before another

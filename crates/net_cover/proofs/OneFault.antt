@@ -1,24 +1,52 @@
 -- The fault of a cell is one, and there is none where the graph has a cover within the limits.
-use Rattle.std.proofs.Common.{◌≡◌, ◌≢◌, ◌⊎◌, inl, inr, ℕ, zero, suc, ◌<◌, ◌≤◌, ℤ, List, refl, sym, ap, subst, ◌∙◌, arith}
-use Rattle.std.specs.Prelude.{unsigned_abs}
+use Rattle.std.proofs.Common.{◌≡◌, ◌⊎◌, inl, inr, ℕ, ◌*◌, List, sym, ap, subst, ◌∙◌, ◌≢◌, zero, suc, ◌<◌, ◌≤◌, ℤ, refl, arith}
 use Rattle.std.proofs.lemmas.Bool.{cases_order}
-use Rattle.integers.specs.Bases.{Base}
-use Rattle.integers.specs.Staircase.{part}
-use Rattle.integers.specs.Vectors.{Vector, IsWithin}
-use Rattle.periodic_net.specs.Graph.{Graph, IsGraph, Arc}
+use Rattle.std.specs.{Prelude.slice_index_or, Prelude.unsigned_abs, List.Contains}
+use Rattle.integers.specs.Vectors.{Vector, zero_vector, up_vector, IsWithin}
+use Rattle.integers.specs.{Bases.Base, Staircase.part}
+use Rattle.integers.proofs.vectors.OneStaircase.{one_staircase}
+use Rattle.periodic_net.specs.Graph.{Graph, Arc, IsGraph}
 use Rattle.periodic_net.specs.Limits.{most_shift}
-use Rattle.sublattice.specs.Sublattices.{IsSublattice}
-use Rattle.vecdim.specs.Stairs.{Stairs, size_of}
-use Rattle.net_cover.specs.UnitCells.{IsCell}
-use Rattle.net_cover.specs.Covers.{edge_at}
-use Rattle.net_cover.proofs.OneLattice.{one_lattice}
-use Rattle.net_cover.proofs.NewShifts.{shift_once}
-use Rattle.net_cover.specs.Cells.{CellView, IsWritten}
+use Rattle.sublattice.specs.Sublattices.{IsCombination, IsSublattice}
+use Rattle.vecdim.specs.Stairs.{Stairs, stairs, HasStairShape, rows_of, size_of}
+use Rattle.net_cover.specs.Covers.{IsCover, IsGiven, edge_at}
 use Rattle.net_cover.specs.Faults.{IsCoverFault, IsWidePart, IsWideLift, IsFirstWide, LiftsWithin}
-use Rattle.net_cover.specs.Laws.{OneCoverFault, CoverIsNotRefused}
-use Rattle.net_cover.specs.declared.faults.CoverFault.{CoverFault}
 use Rattle.net_cover.specs.declared.faults.CoverFault.TheVariants.{CellDimension, CellRank, CoverVertices, CoverEdges, CoverShift, NoMemory}
-use Rattle.net_cover.proofs.Covered.{cell_fits}
+use Rattle.net_cover.specs.{UnitCells.IsCell, Cells.CellView, Cells.IsWritten, Laws.OneCoverFault, Laws.CoverIsNotRefused}
+use Rattle.net_cover.specs.{declared.faults.CoverFault.CoverFault}
+use Rattle.net_cover.proofs.{CoverIso.shift_once, Covered.cell_fits}
+
+-- The lattice of rows has one staircase, so all covers of a graph on a cell have the same edges.
+
+-- the last pivot, read from the rows; in dimension 2 they have no third, and it is 1
+last_pivot : (d : ℕ) (S : Stairs) → (d ≡ 2) ⊎ (d ≡ 3) → HasStairShape d S → (slice_index_or (rows_of d S) 2 up_vector).z ≡ S.i
+last_pivot d S (inl e) h = ap (λ (n : ℕ). (slice_index_or (rows_of n S) 2 up_vector).z) e ∙ sym (h.flat e).i
+last_pivot d S (inr e) h = ap (λ (n : ℕ). (slice_index_or (rows_of n S) 2 up_vector).z) e
+
+-- the staircase of the lattice of rows is one
+pub one_lattice : (d : ℕ) (b : Base) (S R : Stairs) → (d ≡ 2) ⊎ (d ≡ 3) → IsSublattice d b S → IsSublattice d b R → S ≡ R
+one_lattice d b S R dim s r =
+    let rows : rows_of d S ≡ rows_of d R = one_staircase (IsCombination d b) (IsCombination d b) d (rows_of d S) (rows_of d R) s.basis r.basis
+    (λ w. ((λ m. m), (λ m. m))) in
+    let first = ap (λ (vs : List Vector). slice_index_or vs 0 zero_vector) rows in
+    let second = ap (λ (vs : List Vector). slice_index_or vs 1 zero_vector) rows in
+    let third = ap (λ (vs : List Vector). slice_index_or vs 2 up_vector) rows in
+    let last : S.i ≡ R.i = sym (last_pivot d S dim s.stair) ∙ ap (λ (v : Vector). v.z) third ∙ last_pivot d R dim r.stair in
+    λ t. stairs (first t).x (first t).y (first t).z (second t).y (second t).z (last t)
+
+module _ (G H K : Graph) (b : Base) (h : IsCover G b H) (k : IsCover G b K) where
+  -- two covers are made with one staircase
+  cover_lattice : h.lattice ≡ k.lattice
+  cover_lattice = one_lattice G.dimension b h.lattice k.lattice (subst (λ (d : ℕ). (d ≡ 2) ⊎ (d ≡ 3)) h.dimension h.is_graph.dimension) h.is_lattice
+      k.is_lattice
+
+  -- so they have as many vertices
+  pub cover_vertices : H.vertices ≡ K.vertices
+  cover_vertices = h.vertices ∙ ap (λ (S : Stairs). G.vertices * size_of S) cover_lattice ∙ sym k.vertices
+
+  -- and an edge of one is an edge of the other
+  pub cover_edge : (e : Arc) → Contains H.edges e → Contains K.edges e
+  cover_edge e m = (k.edges e).1 (subst (λ (S : Stairs). IsGiven G b S e) cover_lattice ((h.edges e).0 m))
 
 -- a part of a vector within a limit is within it
 part_within : (n : ℕ) (k : Vector) (j : ℕ) → j < 3 → IsWithin n k → unsigned_abs (part j k) ≤ n
@@ -97,9 +125,7 @@ cover_is_not_refused G R CellRank g c f = absurd (c.0.0.0.1 f.1)
 cover_is_not_refused G R (CoverVertices count) g c f = absurd (past_limit count _ _ f.1 f.2 c.0.0.1)
 cover_is_not_refused G R (CoverEdges count) g c f = absurd (past_limit count _ _ f.1 f.2 c.0.1)
 cover_is_not_refused G R (CoverShift value) g c f =
-    let s = f.1 in
-    let t = c.1 in
-    let d = G.dimension in
+    let s = f.1 in let t = c.1 in let d = G.dimension in
     let e : t.lattice ≡ s.lattice = one_lattice d R.rows t.lattice s.lattice g.dimension t.is_lattice s.is_lattice in
     let place = subst (λ (S : Stairs). s.i < size_of S) (sym e) s.place in
     let within = subst (λ (S : Stairs). LiftsWithin d R.rows S (edge_at G.edges s.m) s.i) e (t.within s.m s.i s.edge place) in

@@ -1,13 +1,9 @@
 -- Texts that grow by a line.
-use Rattle.std.proofs.Common.{◌≡◌, ℕ, ◌+◌, ◌<◌, List, [], ◌∷◌, ◌++◌, length, take, get_or, Result, Ok, Err, sym, ap, ◌∙◌, add-one, append_assoc}
+use Rattle.std.proofs.Common.{◌≡◌, ℕ, ◌+◌, ◌<◌, List, [], ◌∷◌, ◌++◌, length, take, get_or, Result, Ok, Err, sym, ap, ◌∙◌, add-one, append_assoc, arith}
+use Rattle.std.proofs.{lemmas.Grind.common_steps, Math.Seq.take-suc}
 use Rattle.std.specs.Prelude.{OnOk}
-use Rattle.std.proofs.lemmas.Grind.{common_steps}
-use Rattle.std.proofs.Common.{arith}
-use Rattle.std.proofs.Math.Seq.{take-suc}
 use Rattle.quotient_graph.specs.PlacedNets.{PlacedNet}
-use Rattle.net_report.specs.Placements.{position_text, positions_text}
-use Rattle.net_report.specs.Reports.{outcome_text, report_text}
-use Rattle.net_report.specs.declared.outcome.Outcome.{Outcome}
+use Rattle.net_report.specs.{Placements.position_text, Placements.positions_text, Reports.outcome_text, Reports.report_text, declared.outcome.Outcome.Outcome}
 
 -- a text to which two parts were put last
 pub two_parts : {A E : Type 0} (r : Result A E) (text one last first second : List ℕ) → one ≡ text ++ first → OnOk r (last ≡ one ++ second)

@@ -1,7 +1,6 @@
 -- Kinds of the classes of the nets that are reported, one after the other.
-use Rattle.std.proofs.Common.{◌≡◌, ℕ, zero, suc, ◌+◌, ◌<◌, List, [], ◌∷◌, ◌++◌, length, get_or, refl, subst, arith}
-use Rattle.net_report.specs.KindsTold.{AreKindsOfAll, AreKindsTold}
-use Rattle.net_report.specs.declared.outcome.Outcome.{Outcome}
+use Rattle.std.proofs.Common.{◌≡◌, ℕ, zero, suc, ◌<◌, List, [], ◌∷◌, ◌++◌, length, get_or, refl, subst, arith}
+use Rattle.net_report.specs.{KindsTold.AreKindsOfAll, KindsTold.AreKindsTold, declared.outcome.Outcome.Outcome}
 
 -- one more outcome, and its kinds
 pub kinds_last : (os : List Outcome) (kinds : List (List ℕ)) (o : Outcome) (ks : List ℕ) → AreKindsOfAll os kinds → AreKindsTold o.body ks

@@ -2,9 +2,7 @@
 use Rattle.std.proofs.Common.{◌≡◌, inl, inr, ℕ, ◌<◌, List, [], length, Option, None, Some, unwrap_or, sym, ap, subst, arith}
 use Rattle.outside.specs.Held.{Holds, Are, HasMore}
 use Rattle.command_words.specs.Tasks.{Task, archive_named, file_named, task_of}
-use Rattle.net_answers.specs.Bytes.{AreFitting, most_bytes}
-use Rattle.net_answers.specs.Due.{IsDueOn}
-use Rattle.net_answers.specs.Endings.{IsComplete}
+use Rattle.net_answers.specs.{Bytes.AreFitting, Bytes.most_bytes, Due.IsDueOn, Endings.IsComplete}
 use Rattle.net_answers.proofs.CallerLemmas.{few_endings}
 use Rattle.net_report.specs.declared.status.Status.{Status}
 use Rattle.net_report.specs.declared.status.Status.TheVariants.{ReadFault, WriteFault, TooLarge, NoMemory}

@@ -2,10 +2,8 @@
 use Rattle.std.proofs.Common.{◌≡◌, ℕ, List, [], Option, unwrap_or, subst}
 use Rattle.outside.specs.Held.{Holds}
 use Rattle.command_words.specs.Tasks.{Task, archive_named, file_named}
-use Rattle.net_answers.specs.Due.{IsDueWith, bytes_of}
-use Rattle.net_answers.specs.Endings.{GoesWithText}
-use Rattle.net_report.specs.declared.status.Status.{Status}
-use Rattle.net_report.specs.declared.status.Status.TheVariants.{TooLarge, TooManyBlocks}
+use Rattle.net_answers.specs.{Due.IsDueWith, Due.bytes_of, Endings.GoesWithText}
+use Rattle.net_report.specs.declared.status.{Status.Status, Status.TheVariants.TooLarge, Status.TheVariants.TooManyBlocks}
 use Rattle.net_tool.specs.Run.{AreBytesOf, IsDueOf}
 
 -- a file without bytes counts as empty

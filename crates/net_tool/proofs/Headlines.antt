@@ -3,10 +3,8 @@ use Rattle.std.proofs.Common.{ℕ, List, [], Option, None, Some, unwrap_or}
 use Rattle.std.specs.Io.KnownBytes.{Appends}
 use Rattle.outside.specs.Held.{Holds}
 use Rattle.command_words.specs.Tasks.{Task, Identify, task_of}
-use Rattle.net_answers.specs.Due.{IsDueOn}
-use Rattle.net_answers.specs.Headline.{IsReported}
-use Rattle.net_report.specs.declared.status.Status.{Status}
-use Rattle.net_report.specs.declared.status.Status.TheVariants.{Done, SomeRefused}
+use Rattle.net_answers.specs.{Due.IsDueOn, Headline.IsReported}
+use Rattle.net_report.specs.declared.status.{Status.Status, Status.TheVariants.Done, Status.TheVariants.SomeRefused}
 use Rattle.net_answers.proofs.CallerLemmas.{headline_on}
 use Rattle.net_tool.specs.Headline.{HasHeadline, IsHeadlineOver}
 use Rattle.net_tool.specs.Run.{AreBytesOf, IsAnswer, IsAnswered, IsDue}

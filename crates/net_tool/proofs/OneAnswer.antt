@@ -3,8 +3,7 @@ use Rattle.std.proofs.Common.{◌≡◌, inl, inr, ℕ, List, [], length, Option
 use Rattle.std.specs.Prelude.{unwrap_or}
 use Rattle.command_words.specs.Tasks.{Task, archive_named, file_named}
 use Rattle.net_answers.specs.Due.{IsDueOn}
-use Rattle.net_report.specs.declared.status.Status.{Status}
-use Rattle.net_report.specs.declared.status.Status.TheVariants.{TooLarge}
+use Rattle.net_report.specs.declared.status.{Status.Status, Status.TheVariants.TooLarge}
 use Rattle.net_answers.proofs.CallerLemmas.{one_due_answer}
 use Rattle.net_tool.specs.Laws.{OneAnswer}
 use Rattle.net_tool.specs.Run.{AreBytesOf, HasManyBytes, IsDueOf, IsDueOver, IsTooLarge}

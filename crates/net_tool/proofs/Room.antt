@@ -2,8 +2,7 @@
 use Rattle.std.proofs.Common.{ℕ, ◌≤◌, List, length, Option, arith}
 use Rattle.outside.specs.Held.{Holds}
 use Rattle.command_words.specs.Tasks.{task_of}
-use Rattle.net_tool.specs.Completeness.{HasRoom}
-use Rattle.net_tool.specs.Run.{IsBroken}
+use Rattle.net_tool.specs.{Completeness.HasRoom, Run.IsBroken}
 
 -- a text that broke off was longer than the sink was sure to take
 pub no_break : (words : List (List ℕ)) (holds : Holds) (before after : Option (List ℕ)) (sure : ℕ) → IsBroken words holds before after sure

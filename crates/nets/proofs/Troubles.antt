@@ -1,17 +1,12 @@
 -- The trouble that comes of a refusal.
 use Rattle.std.proofs.Common.{◌≢◌, ℕ, List, Result, Ok, Err, Some, refl, sym, subst}
-use Rattle.std.specs.Prelude.{IfErr}
-use Rattle.std.specs.Result.{IsErrAnd}
+use Rattle.std.specs.{Prelude.IfErr, Result.IsErrAnd}
 use Rattle.periodic_net.specs.Graph.{Graph}
-use Rattle.cgd_read.specs.Graphs.{graph_of}
-use Rattle.cgd_read.specs.Views.{RawView}
+use Rattle.cgd_read.specs.{Graphs.graph_of, Views.RawView}
 use Rattle.least_key.specs.declared.refusal.Refusal.{Refusal}
-use Rattle.least_key.specs.declared.refusal.Refusal.TheVariants as refusal
-use Rattle.nets.specs.Refused.{IsRefusedBy, IsTrueInOrder}
-use Rattle.nets.specs.Texts.{IsFirstIn, IsTroubleIn}
-use Rattle.nets.specs.Troubles.{IsFrom}
-use Rattle.nets.specs.declared.trouble.Trouble.{Trouble}
 use Rattle.nets.specs.declared.trouble.Trouble.TheVariants.{NoGraph, TooManyBlocks, Refused, NoMemory}
+use Rattle.nets.specs.{Refused.IsRefusedBy, Refused.IsTrueInOrder, Texts.IsFirstIn, Texts.IsTroubleIn, Troubles.IsFrom, declared.trouble.Trouble.Trouble}
+use Rattle.least_key.specs.declared.refusal.Refusal.TheVariants as refusal
 
 -- what a refusal reports is true, unless memory was refused
 true_in_order : (G : Graph) (given : Refusal) → IsRefusedBy G given → given ≢ refusal.NoMemory → IsTrueInOrder G given

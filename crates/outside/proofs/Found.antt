@@ -1,9 +1,7 @@
 -- The first file of a name, in files as the code has them and in their lists.
 use Rattle.std.proofs.Common.{◌≡◌, refl, ℕ, List, true, false}
 use Rattle.std.specs.Prelude.{[], ◌∷◌, find, Some, cond, Vec, String, string_bytes}
-use Rattle.std.specs.Option.{option_map}
-use Rattle.std.specs.Str.{bytes_eq}
-use Rattle.std.specs.declared.alloc.Global.{Global}
+use Rattle.std.specs.{Option.option_map, Str.bytes_eq, declared.alloc.Global.Global}
 use Rattle.outside.specs.Files.{named_bytes, file_of}
 
 -- the bytes found among the lists are those of the file found among the files

@@ -1,7 +1,6 @@
 -- What stands at a place, and what follows it.
 use Rattle.std.proofs.Common.{◌≡◌, ℕ, ◌+◌, List, ◌++◌, length, take, drop, sym}
-use Rattle.std.proofs.lemmas.List.{drop-drop}
-use Rattle.std.proofs.lemmas.List.{take-append-drop, take_at}
+use Rattle.std.proofs.lemmas.List.{drop-drop, take-append-drop, take_at}
 
 -- the first n bytes at a place, copied to the front of a buffer, and what follows them
 pub copied : (at n : ℕ) (bytes new rest : List ℕ) → length new ≡ n → new ≡ take n (drop at bytes) → drop at bytes ≡ take n (new ++ rest) ++ drop (at + n) bytes

@@ -1,7 +1,6 @@
 -- How known bytes grow by one piece after another.
 use Rattle.std.proofs.Common.{◌≡◌, ℕ, ◌+◌, ◌-◌, List, ◌++◌, length, take, drop, Option, None, Some, arith}
-use Rattle.std.proofs.Math.Seq.{take-add}
-use Rattle.std.proofs.lemmas.Grind.{common_steps}
+use Rattle.std.proofs.{Math.Seq.take-add, lemmas.Grind.common_steps}
 use Rattle.std.specs.Io.KnownBytes.{Appends}
 
 -- known bytes that grow by xs and then by ys grow by both

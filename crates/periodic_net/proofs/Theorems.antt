@@ -1,31 +1,33 @@
 -- The theorems on periodic nets, each as its statement says it.
-use Rattle.std.proofs.Common.{pos, refl, subst}
-use Rattle.integers.specs.Vectors.{Vector, zero_vector}
+use Rattle.std.proofs.Common.{pos, refl, subst, sym}
+use Rattle.integers.specs.Vectors.{Vector, zero_vector, minus}
 use Rattle.periodic_net.specs.Graph.{Graph, IsGraph, arcs}
 use Rattle.periodic_net.specs.Placement.{Placement, IsStablePlacement, HasNoCollision}
-use Rattle.periodic_net.specs.Maps.{Iso}
-use Rattle.periodic_net.specs.Classes.{IsTranslation}
 use Rattle.periodic_net.specs.Laws.{ArcsStandOnce, BarycentricPlacementsTranslate, ClassesAreEquivalence, IsomorphismIsEquivalence, IsomorphismsAreAffine}
 use Rattle.periodic_net.specs.Laws.{IsomorphismsCarry, IsomorphismsKeep, NormalPlacementExists, NormalPlacementIsOne, PositionsTell, SplitsRefute}
 use Rattle.periodic_net.specs.Laws.{TranslationsAreGroup, MovesAlike, MaximumPrinciple, TablesAreMaps}
-use Rattle.periodic_net.proofs.placements.MaximumPrinciple.{periodic_constant}
+use Rattle.periodic_net.specs.RefinementLaws.{CellsAreClasses, RefinementKeepsClasses, StarsAreClassGraph, ClassArcsAreFew, MovesAreTranslations}
+use Rattle.periodic_net.specs.RefinementLaws.{RemaindersTellCollisions}
+use Rattle.periodic_net.specs.WalkLaws.{SearchesChoose, ChosenWalkIsOne, ClosedWalksAreGenerated}
+use Rattle.periodic_net.specs.{Maps.Iso, Classes.IsTranslation, Translations.move_to}
 use Rattle.periodic_net.proofs.isomorphisms.MapTables.{drawn, drawn_by_table, drawn_once, periodic_of_drawn, table_of, is_table_of, drawn_of_periodic}
-use Rattle.integers.proofs.vectors.Laws.{times_zero}
-use Rattle.integers.proofs.lists.Members.{pairs_from_apart}
-use Rattle.periodic_net.proofs.nets.ArcLists.{all_arcs_apart}
-use Rattle.periodic_net.proofs.nets.Splits.{split_shows_not_connected}
-use Rattle.periodic_net.proofs.placements.Positions.{positions_tell}
-use Rattle.periodic_net.proofs.isomorphisms.Isomorphism.{iso_reflexive, iso_symmetric, iso_transitive, iso_connected, iso_turned}
-use Rattle.periodic_net.proofs.placements.Translates.{placements_translate, translate_barycentric}
-use Rattle.periodic_net.proofs.placements.NormalPlacement.{normal_unique}
-use Rattle.periodic_net.proofs.placements.NormalExists.{normal_exists}
-use Rattle.periodic_net.proofs.isomorphisms.Affine.{iso_is_affine}
-use Rattle.periodic_net.proofs.isomorphisms.StableIsomorphs.{iso_stable}
-use Rattle.periodic_net.proofs.translations.Translations.{whole_translation, translation_plus}
-use Rattle.periodic_net.proofs.translations.Undoing.{translation_back}
+use Rattle.periodic_net.proofs.placements.Positions.{positions_tell, collided, collides, IsReduced}
+use Rattle.periodic_net.proofs.isomorphisms.Periods.{iso_reflexive, iso_symmetric, iso_transitive, iso_connected, iso_turned}
+use Rattle.periodic_net.proofs.placements.OnePlacement.{placements_translate, translate_barycentric, normal_unique}
+use Rattle.periodic_net.proofs.translations.Translations.{whole_translation, translation_plus, translation_back}
 use Rattle.periodic_net.proofs.translations.Classes.{share_reflexive, share_symmetric, share_transitive}
-use Rattle.periodic_net.proofs.isomorphisms.Carried.{stands_there}
-use Rattle.periodic_net.proofs.isomorphisms.Transport.{linear_part, stable_carries, iso_translations, iso_share, iso_classes}
+use Rattle.periodic_net.proofs.isomorphisms.ClassIsomorphism.{linear_part, stable_carries, iso_translations, iso_share, iso_classes}
+use Rattle.periodic_net.proofs.ClosedWalks.{with_itself, generator_closed, closed_generated, one_chosen}
+use Rattle.periodic_net.proofs.SettlingSteps.{complete_chosen, complete_finds, complete_with}
+use Rattle.periodic_net.proofs.{placements.MaximumPrinciple.periodic_constant, nets.Walks.all_arcs_apart, nets.Walks.edge_in}
+use Rattle.periodic_net.proofs.{nets.SplitCases.split_shows_not_connected, placements.NormalExists.normal_exists, isomorphisms.LinearPart.iso_is_affine}
+use Rattle.periodic_net.proofs.{isomorphisms.CarriedPlacement.iso_stable, isomorphisms.CarriedClasses.stands_there, Coarsest.holds_next, Splitting.stays}
+use Rattle.integers.proofs.lists.Members.{pairs_from_apart, is_in, contains_from_in}
+use Rattle.integers.proofs.{vectors.Laws.times_zero, numbers.Modulo.modulo_dimension}
+use Rattle.std.specs.Prelude.{IsTrue}
+use Rattle.periodic_net.proofs.translations.Classes as moves
+use Rattle.periodic_net.proofs.ClassArcs as arcs
+use Rattle.periodic_net.proofs.Coarsest as coarsest
 
 -- a split refutes connectedness
 pub splits_refute : SplitsRefute
@@ -106,4 +108,62 @@ tables_are_maps = record {
   drawn = λ G H M t. let d = drawn_by_table G M t.positive in (drawn M t.positive, d, periodic_of_drawn G H M (drawn M t.positive) t d);
   once = λ G H M f g t a b w i. drawn_once G M f g t.positive a b w i;
   written = λ G H f m b g p. (table_of f m b, is_table_of G H f m b g p, refl, refl, drawn_of_periodic G H f m b p);
+}
+
+-- The theorems in the words of their statements.
+
+pub cells_are_classes : CellsAreClasses
+cells_are_classes G p legs cell count g s t m h k = coarsest.cells_are_classes G p g s.no_collision legs t cell k s.connected s.placement.barycentric.dimension
+    count m h
+
+pub refinement_keeps_classes : RefinementKeepsClasses
+refinement_keeps_classes = record {
+  classes = λ G p legs cell next count g n t h s. holds_next G p g n legs t cell next count h s;
+  ends = λ n cell next count o s f. stays n cell next count count o s f refl;
+}
+
+pub stars_are_class_graph : StarsAreClassGraph
+stars_are_class_graph G p class_of stars g n m h = arcs.stars_are_class_graph G p g n class_of m stars h
+
+pub class_arcs_are_few : ClassArcsAreFew
+class_arcs_are_few = arcs.few_class_arcs
+
+pub moves_are_translations : MovesAreTranslations
+moves_are_translations = record {
+  moves = λ G p g s r. (
+    (λ h. moves.leads_to G p g s.no_collision r h.0 h.1),
+    (λ h. (
+      moves.led_from G p g s.no_collision s.placement.barycentric.dimension h.0 h.1 h.2 r h.3,
+      record {
+        dimension = modulo_dimension G.dimension _ (move_to p h.0) r (moves.move_flat G p g s.no_collision s.placement.barycentric.dimension h.0 h.1) h.3;
+        low = h.3.low;
+        high = h.3.high;
+      },
+    )),
+  );
+  rest = λ G p g s. moves.boxed G p g s.no_collision s.placement.barycentric.positive;
+}
+
+pub remainders_tell_collisions : RemaindersTellCollisions
+remainders_tell_collisions G p flat u v r q i j n x y = (
+  (λ h. collided G p u v h.0 r q h.1 x y),
+  (λ e. let y' = subst (λ (s : Vector). IsReduced G p v s) (sym e) y in (minus x.steps y'.steps, collides G p flat u v r i j n x y')),
+)
+
+-- The theorems, as they are stated.
+
+pub searches_choose : SearchesChoose
+searches_choose = record {
+  chosen = λ G a known h y i. complete_chosen G a known h y (is_in known y i);
+  finds = λ G a known h u i. let y = complete_finds G a known h u i in (y.0, contains_from_in known y.0 y.1, y.2);
+  inside = λ G a known h g q y i. complete_with G a known h g q y (is_in known y i);
+}
+
+pub chosen_walk_is_one : ChosenWalkIsOne
+chosen_walk_is_one G a u P Q h k = one_chosen G a u P Q h k
+
+pub closed_walks_are_generated : ClosedWalksAreGenerated
+closed_walks_are_generated = record {
+  closed = λ G g a T t e i w. generator_closed G g a T t e (contains_from_in (arcs G) e (edge_in G.edges e (is_in G.edges e i))) w;
+  all = λ G g a T t q L l gens v h. closed_generated G g a T t (λ w. IsTrue (L w)) l (λ e i w. gens e (contains_from_in G.edges e i) w) (with_itself G a q) v h;
 }

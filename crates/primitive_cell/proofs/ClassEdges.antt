@@ -1,21 +1,17 @@
 -- The edges of one class after the other, and of one class arc by arc.
 use Rattle.std.proofs.Common.{◌≡◌, ◌⊎◌, inl, inr, ◌↔◌, ℕ, ◌+◌, ◌<◌, ◌≤◌, pos, List, [], ◌∷◌, ◌++◌, length, get_or, take, sym, subst, ◌∙◌, arith, eq-eqb, ◌==◌}
-use Rattle.std.proofs.Math.Decide.{dec_lt}
-use Rattle.std.proofs.lemmas.Bool.{eqb-true}
-use Rattle.std.proofs.lemmas.Int.{ints}
 use Rattle.std.proofs.lemmas.List.{take_more, get_or-take, get_or_default, length-take}
 use Rattle.std.proofs.lemmas.List.Elements.{Contains-append_cases, Contains-append_left, Contains-append_right}
+use Rattle.std.proofs.{Math.Decide.dec_lt, lemmas.Bool.eqb-true, lemmas.Int.ints}
 use Rattle.std.specs.List.{Contains}
 use Prim.{Dec, yes, no}
 use Rattle.integers.specs.Vectors.{parts, IsBelow}
-use Rattle.integers.proofs.lists.Filters.{in_filter, filter_in}
-use Rattle.integers.proofs.lists.Members.{is_in, contains_from_in}
+use Rattle.integers.proofs.{lists.Filters.in_filter, lists.Filters.filter_in, lists.Members.is_in, lists.Members.contains_from_in}
+use Rattle.integers.proofs.{vectors.Precedence.below_head}
 use Rattle.periodic_net.specs.Classes.{ClassGraph, ClassArc}
-use Rattle.quotient_graph.specs.ClassNets.{arcs_of}
-use Rattle.quotient_graph.specs.NetClasses.{class_arc_numbers, ClassArcsRise}
+use Rattle.quotient_graph.specs.{ClassNets.arcs_of, NetClasses.class_arc_numbers, NetClasses.ClassArcsRise}
 use Rattle.primitive_cell.specs.PrimitiveCells.{IsArcBelow}
-use Rattle.primitive_cell.proofs.CollectedEdges.{With, only_one}
-use Rattle.integers.proofs.vectors.Precedence.{below_head}
+use Rattle.primitive_cell.proofs.GivenEdges.{With, only_one}
 
 -- b is an arc from a class below n, or one of the first i arcs of the class n
 abbrev pub IsArcUpTo : ClassGraph → ℕ → List ClassArc → ℕ → ClassArc → Type 0
@@ -52,8 +48,7 @@ star_goes_on K n star i b l e b' = (there, back)
     there : With (IsArcUpTo K n star i) b b' → IsArcUpTo K n star (i + 1) b'
     there (inl (inl a)) = inl a
     there (inl (inr h)) = inr (subst (λ (xs : List ClassArc). Contains xs b') (sym more) (Contains-append_left (take i star) (get_or star i b ∷ []) b' h))
-    there (inr f) = inr (subst (λ (xs : List ClassArc). Contains xs b') (sym more)
-        (Contains-append_right (take i star) (get_or star i b ∷ []) b' (0, omega arith, sym e ∙ f)))
+    there (inr f) = inr (rw more (Contains-append_right (take i star) (get_or star i b ∷ []) b' (0, omega arith, sym e ∙ f)))
 
     back : IsArcUpTo K n star (i + 1) b' → With (IsArcUpTo K n star i) b b'
     back (inl a) = inl (inl a)
@@ -80,8 +75,7 @@ star_rises K n i b rising l e b' = by
         let t = taken (arcs_of K n) i b' h in
         let r = rising t.0 i b' t.1 l in
         let f : get_or (arcs_of K n) i b' ≡ b = get_or_default (arcs_of K n) i b' b l ∙ sym e in
-        subst (λ (x : ClassArc). IsBelow (class_arc_numbers x) (class_arc_numbers b)) t.3
-        (subst (λ (x : ClassArc). IsBelow (class_arc_numbers (get_or (arcs_of K n) t.0 b')) (class_arc_numbers x)) f r)
+        rw t.3 at (subst (λ (x : ClassArc). IsBelow (class_arc_numbers (get_or (arcs_of K n) t.0 b')) (class_arc_numbers x)) f r)
 
 -- after the last arc of a class there are those of the classes up to it
 pub star_ends : (K : ClassGraph) (n i : ℕ) → length (arcs_of K n) ≤ i → (b : ClassArc) → IsArcUpTo K n (arcs_of K n) i b ↔ IsArcBelow K (n + 1) b

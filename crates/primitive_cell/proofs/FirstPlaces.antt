@@ -1,8 +1,6 @@
 -- The first places of the numbers of a list, found one after the other.
 use Rattle.std.proofs.Common.{◌≡◌, ℕ, ◌+◌, ◌-◌, ◌<◌, ◌≤◌, List, [], ◌∷◌, ◌++◌, length, get_or, ap, ◌∙◌, arith, length-append}
-use Rattle.std.proofs.Math.Decide.{dec_le}
-use Rattle.std.proofs.Math.Seq.{get_or-append_seam}
-use Rattle.std.proofs.lemmas.List.{get_or_append_left}
+use Rattle.std.proofs.{Math.Decide.dec_le, Math.Seq.get_or-append_seam, lemmas.List.get_or_append_left}
 use Prim.{Dec, yes, no}
 use Rattle.primitive_cell.specs.Places.{number_at, IsPlace, AreInOrder, IsFirstPlace, AreFirstPlaces}
 

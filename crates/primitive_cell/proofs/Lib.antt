@@ -1,16 +1,9 @@
-pub mod CellFacts
 pub mod ClassEdges
-pub mod CollectedEdges
 pub mod Dimensions
-pub mod EdgeSteps
 pub mod FirstPlaces
 pub mod GivenEdges
-pub mod LatticeMembers
-pub mod MadeCells
 pub mod MadePrimitive
 pub mod RisingSums
-pub mod ShortArcs
 pub mod StairBasis
 pub mod TranslationStairs
 pub mod WholeGraph
-pub mod Written

@@ -1,23 +1,19 @@
 -- Sums of the rows of a staircase rise with their coordinates, and the other way.
 use Rattle.std.proofs.Common.{◌≡◌, ◌⊎◌, inl, inr, ℕ, zero, suc, ℤ, pos, negsuc, ◌+ℤ◌, ◌*ℤ◌, List, sym, ap, subst, ◌∙◌, arith}
+use Rattle.std.proofs.{Math.IntN.*ℤ_comm, lemmas.Int.ints}
 use Rattle.std.specs.Prelude.{◌<ℤ◌}
-use Rattle.std.proofs.Math.IntN.{*ℤ_comm}
-use Rattle.std.proofs.lemmas.Int.{ints}
 use Rattle.integers.specs.Staircase.{IsStaircase}
 use Rattle.integers.specs.Vectors.{Vector, parts, HasDimension, IsBelow}
 use Rattle.integers.proofs.lists.ListOrder.{below_one_way, below_or_equal, not_below_itself}
-use Rattle.integers.proofs.numbers.Order.{multiple_below}
-use Rattle.integers.proofs.numbers.Ring.{linear}
-use Rattle.integers.proofs.vectors.Laws.{vector_equal}
-use Rattle.integers.proofs.vectors.StairCoordinates.{row, row_sum}
 use Rattle.integers.proofs.vectors.Precedence.{Precedes, precedes, parts_below}
+use Rattle.integers.proofs.{numbers.Order.multiple_below, numbers.Ring.linear, vectors.Laws.vector_equal, vectors.StairCoordinates.row}
+use Rattle.integers.proofs.{vectors.StairCoordinates.row_sum}
 
 -- a positive factor keeps the order
 factor_below : (a x y : ℤ) → pos 0 <ℤ a → x <ℤ y → (x *ℤ a) <ℤ (y *ℤ a)
 factor_below (pos zero) x y p h = absurd (omega (arith, ints))
 factor_below (pos (suc n)) x y p h =
-    subst (λ (t : ℤ). t <ℤ (y *ℤ pos (suc n))) (*ℤ_comm (pos (suc n)) x)
-    (subst (λ (t : ℤ). (pos (suc n) *ℤ x) <ℤ t) (*ℤ_comm (pos (suc n)) y) (multiple_below n x y h))
+    rw (*ℤ_comm (pos (suc n)) x) at (subst (λ (t : ℤ). (pos (suc n) *ℤ x) <ℤ t) (*ℤ_comm (pos (suc n)) y) (multiple_below n x y h))
 factor_below (negsuc n) x y p h = absurd (omega (arith, ints))
 
 -- one more number on both sides keeps the order
@@ -70,8 +66,7 @@ module _ (L : Vector → Type 0) (d : ℕ) (rows : List Vector) (s : IsStaircase
 
     -- the same of the second
     second_less : k.x ≡ l.x → k.y <ℤ l.y → (row_sum rows k).y <ℤ (row_sum rows l).y
-    second_less x y = subst (λ (t : ℤ). t <ℤ (row_sum rows l).y) (sym (second_part k h))
-        (subst (λ (t : ℤ). (k.x *ℤ (row rows 0).y +ℤ k.y *ℤ (row rows 1).y) <ℤ t) (sym (second_part l g))
+    second_less x y = rw (second_part k h) (subst (λ (t : ℤ). (k.x *ℤ (row rows 0).y +ℤ k.y *ℤ (row rows 1).y) <ℤ t) (sym (second_part l g))
         (sum_below (k.x *ℤ (row rows 0).y) (l.x *ℤ (row rows 0).y) (k.y *ℤ (row rows 1).y) (l.y *ℤ (row rows 1).y) (ap (λ (t : ℤ). t *ℤ (row rows 0).y) x)
         (factor_below (row rows 1).y k.y l.y leads_second y)))
 

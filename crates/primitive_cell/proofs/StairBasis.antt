@@ -1,10 +1,9 @@
 -- Vectors written in the coordinates of a staircase.
 use Rattle.std.proofs.Common.{◌≡◌, ◌∙◌, ◌⊎◌, inl, inr, sym, ap, ℕ, ℤ, pos, ◌*ℤ◌, [], ◌∷◌, arith}
 use Rattle.integers.specs.Vectors.{Vector, plus, times, parts, combination, triple_product, HasDimension}
-use Rattle.integers.proofs.numbers.Ring.{ring, linear, factor_zero}
-use Rattle.integers.proofs.vectors.Laws.{plus_zero, zero_times}
 use Rattle.integers.specs.Bases.{base_sum}
-use Rattle.integers.proofs.numbers.Order.{positive_is_some}
+use Rattle.integers.proofs.numbers.Ring.{ring, linear, factor_zero}
+use Rattle.integers.proofs.{vectors.Laws.plus_zero, vectors.Laws.zero_times, numbers.Order.positive_is_some}
 use Rattle.key_theory.specs.Coordinates.{IsBasisOf}
 use Rattle.vecdim.specs.Stairs.{Stairs, HasStairShape, rows_of}
 use Rattle.primitive_cell.specs.Lattices.{basis_of}

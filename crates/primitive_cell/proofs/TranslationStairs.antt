@@ -1,22 +1,37 @@
 -- The multiples of the denominator D and the translations with parts from 0 to D - 1 generate all translations: so the
 -- staircase that they make is that of the translations.
-use Rattle.std.proofs.Common.{◌≡◌, ◌↔◌, ℕ, ℤ, pos, List, refl, sym, ap, subst, ◌∙◌}
-use Rattle.integers.specs.Staircase.{IsStaircase}
+use Rattle.std.proofs.Common.{ℕ, List, [], ◌∷◌, refl, inl, ◌+◌, ◌<◌, length, take, ◌≡◌, ◌↔◌, ℤ, pos, sym, ap, subst, ◌∙◌}
+use Rattle.std.proofs.{Math.ListN.get_or, lemmas.List.Elements.All-more, lemmas.List.Elements.All-weaker}
 use Rattle.integers.specs.Vectors.{Vector, zero_vector, plus, times, combination, HasDimension}
-use Rattle.integers.proofs.lists.Members.{is_in, contains_from_in}
-use Rattle.integers.proofs.numbers.Modulo.{steps_dimension}
+use Rattle.integers.specs.Staircase.{IsStaircase}
+use Rattle.periodic_net.specs.Classes.{ClassArc, IsTranslation, AreTranslations}
+use Rattle.periodic_net.specs.{Graph.Graph, Graph.IsGraph, Placement.Placement, Placement.IsStablePlacement}
+use Rattle.vecdim.specs.Lattices.{Members, IsWith, AreMultiples}
+use Rattle.vecdim.specs.Stairs.{Stairs, rows_of}
+use Rattle.vecdim.proofs.CallerLemmas.{with_has, members_group, with_start, with_inside}
+use Rattle.primitive_cell.specs.{Lattices.IsInside, Lattices.AreInside, PrimitiveCells.IsTranslationLattice}
 use Rattle.integers.proofs.vectors.Laws.{plus_commutative, plus_associative, times_plus, times_zero, plus_dimension, times_dimension, divided_dimension}
-use Rattle.integers.proofs.vectors.OneStaircase.{same_staircase}
-use Rattle.periodic_net.specs.Classes.{IsTranslation, AreTranslations}
-use Rattle.periodic_net.specs.Graph.{Graph, IsGraph}
-use Rattle.periodic_net.specs.Placement.{Placement, IsStablePlacement}
+use Rattle.integers.proofs.{lists.Members.is_in, lists.Members.contains_from_in, numbers.Modulo.steps_dimension, vectors.OneStaircase.same_staircase}
 use Rattle.periodic_net.proofs.CallerLemmas.{translations_are_group, moves_are_translations}
 use Rattle.key_theory.proofs.CallerLemmas.{translations_group}
 use Rattle.quotient_graph.specs.PlacedNets.{PlacedNet}
-use Rattle.vecdim.specs.Lattices.{IsWith, AreMultiples, Members}
-use Rattle.vecdim.specs.Stairs.{Stairs, rows_of}
-use Rattle.primitive_cell.specs.PrimitiveCells.{IsTranslationLattice}
-use Rattle.vecdim.proofs.CallerLemmas.{with_inside, with_has}
+
+-- Members of a lattice to which a vector is added.
+
+-- the vector that is added is a member
+pub vector_added : (d : ℕ) (S T : Stairs) (v : Vector) → IsWith (Members d S) (v ∷ []) (Members d T) → Members d T v
+vector_added d S T v a = with_has (Members d S) (Members d T) (v ∷ []) a (members_group d S).zero v (inl refl)
+
+-- arcs inside a lattice are inside one with more members
+pub more_inside : (d : ℕ) (S T : Stairs) → ((w : Vector) → Members d S w → Members d T w) → (arcs : List ClassArc) → AreInside d S arcs → AreInside d T arcs
+more_inside d S T h = All-weaker (IsInside d S) (IsInside d T) (λ a. h a.vector)
+
+-- so it is when the vector of one more arc is added
+pub one_more_inside : (d : ℕ) (S T : Stairs) (arcs : List ClassArc) (i : ℕ) (e : ClassArc) → i < length arcs
+    → IsWith (Members d S) ((get_or arcs i e).vector ∷ []) (Members d T) → AreInside d S (take i arcs) → AreInside d T (take (i + 1) arcs)
+one_more_inside d S T arcs i e l a h =
+    let v = (get_or arcs i e).vector in
+    All-more (IsInside d T) arcs i e l (more_inside d S T (with_start (Members d S) (Members d T) (v ∷ []) a) (take i arcs) h) (vector_added d S T v a)
 
 module _ (G : Graph) (p : Placement) (g : IsGraph G) (s : IsStablePlacement G p) (rs : List Vector) (t : AreTranslations G p rs) (L M : Vector → Type 0)
     (flat : (w : Vector) → L w → HasDimension G.dimension w) (m : AreMultiples G.dimension (pos p.denominator) L) (a : IsWith L rs M) where

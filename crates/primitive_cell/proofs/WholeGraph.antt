@@ -1,24 +1,57 @@
 -- The lists of all classes, written in coordinates, are a class graph in memory.
-use Rattle.std.proofs.Common.{◌≡◌, ◌∙◌, ◌⊎◌, sym, ap, subst, ℕ, suc, ◌+◌, ◌-◌, ◌<◌, ◌≤◌, List, [], length, map, arith}
-use Rattle.std.specs.Prelude.{slice_index_or, ◌==◌}
+use Rattle.std.proofs.Common.{◌≡◌, ◌∙◌, refl, ap, ℕ, suc, ◌+◌, ◌-◌, ◌<◌, ◌≤◌, List, [], ◌∷◌, ◌++◌, length, map, arith, subst, ◌⊎◌, sym}
+use Rattle.std.proofs.lemmas.List.{get_or_append_left, get_or_push, map-append, length-append, length-map, same_lists, get_or-map, get_or_default}
+use Rattle.std.proofs.{Math.ListN.get_or, lemmas.Bool.cases_lt, lemmas.List.Elements.All-contains, lemmas.Bool.Decides.Decides-eqb}
+use Rattle.std.specs.Prelude.{flat_map, slice_index_or, ◌==◌}
 use Rattle.std.specs.List.{Contains}
-use Rattle.std.proofs.Math.ListN.{get_or}
-use Rattle.std.proofs.lemmas.List.{length-map, same_lists, get_or-map, get_or_default}
-use Rattle.std.proofs.lemmas.List.Elements.{All-contains}
-use Rattle.integers.proofs.lists.Members.{is_in, contains_from_in, IsIn}
-use Rattle.integers.proofs.lists.Pieces.{in_pieces, map_in}
+use Rattle.integers.proofs.lists.Members.{IsIn, contains_from_in, is_in}
 use Rattle.integers.proofs.lists.Filters.{in_filter}
-use Rattle.std.proofs.lemmas.Bool.Decides.{Decides-eqb}
-use Rattle.periodic_net.specs.Classes.{ClassGraph, ClassArc}
-use Rattle.periodic_net.specs.Correspondence.{IsClass, IsProperArc}
+use Rattle.integers.proofs.lists.Pieces.{all_from_in, in_pieces, map_in}
+use Rattle.periodic_net.specs.{Classes.ClassGraph, Classes.ClassArc, Graph.Graph, Limits.most_units, Correspondence.IsClass, Correspondence.IsProperArc}
+use Rattle.quotient_graph.specs.ClassNets.{arcs_of, class_star, class_graph, HasStars, IsSmallNet, IsNetInMemory}
+use Rattle.quotient_graph.specs.NetClasses.{AreClassesOf}
+use Rattle.quotient_graph.proofs.CallerLemmas.{LeaveFrom, stars_are_arcs}
+use Rattle.vecdim.specs.Stairs.{Stairs, HasStairShape}
+use Rattle.primitive_cell.specs.Lattices.{IsInCoordinates, AreInCoordinates, AreWithinUnits, basis_of, IsProperly}
+use Rattle.integers.specs.Vectors.{Vector, IsWithin}
 use Rattle.key_theory.specs.Coordinates.{arc_by_basis, graph_by_basis, AreCoordinates}
 use Rattle.key_theory.proofs.CallerLemmas.{coordinates_net}
-use Rattle.quotient_graph.specs.ClassNets.{arcs_of, class_star, class_graph, HasStars, IsSmallNet, IsNetInMemory}
-use Rattle.quotient_graph.proofs.CallerLemmas.{stars_are_arcs}
-use Rattle.vecdim.specs.Stairs.{Stairs, HasStairShape}
-use Rattle.primitive_cell.specs.Lattices.{basis_of, IsProperly, IsInCoordinates, AreInCoordinates}
 use Rattle.primitive_cell.proofs.StairBasis.{stairs_are_basis}
-use Rattle.primitive_cell.proofs.Written.{leave_from, joined_images}
+
+-- A class graph whose lists of arcs are written in coordinates, one after the other.
+
+-- one class more
+pub one_more_written : (d : ℕ) (S : Stairs) (K : ClassGraph) (m : ℕ) (stars : List (List ClassArc)) (new : List ClassArc)
+    → AreInCoordinates d S K m stars → IsInCoordinates d S (arcs_of K m) new → AreInCoordinates d S K (m + 1) (stars ++ new ∷ [])
+one_more_written d S K m stars new h n = search (arith, length-append, get_or_append_left, get_or_push, cases_lt)
+
+-- lists whose arcs leave their classes, stated by places
+pub leave_from : (first : ℕ) (stars : List (List ClassArc)) → ((k : ℕ) → k < length stars → (a : ClassArc) → IsIn (slice_index_or stars k []) a
+    → a.from ≡ first + k)
+    → LeaveFrom first stars
+leave_from first [] h = tt
+leave_from first (s ∷ rest) h = (
+  (λ a i. let e = h 0 (omega arith) a i in omega (arith, e)),
+  leave_from (suc first) rest (λ k l a i. let e = h (suc k) (omega (arith, l)) a i in omega (arith, e)),
+)
+
+-- the images of joined lists are the joined images
+pub joined_images : {X Y : Type 0} (f : X → Y) (lists : List (List X)) → map f (flat_map (λ s. s) lists) ≡ flat_map (λ s. s) (map (map f) lists)
+joined_images f [] = refl
+joined_images f (s ∷ rest) = map-append f s (flat_map (λ t. t) rest) ∙ ap (λ (t : List _). map f s ++ t) (joined_images f rest)
+
+-- The arcs of a class graph whose placement is within the limits.
+
+-- an arc has the vector of an arc of the net
+short_arc : (G : Graph) (numbers : List ℕ) (K : ClassGraph) (rs : List Vector) → AreClassesOf G numbers K rs → (a : ClassArc) → Contains K.arcs a
+    → IsWithin most_units a.vector
+short_arc G numbers K rs h a c = let r = (h.at.is_classes.arcs a).0 c in subst (IsWithin most_units) r.2.vector (h.at.limits.arcs r.0 r.1)
+
+-- so the arcs of a class are short
+pub short_arcs : (G : Graph) (numbers : List ℕ) (K : ClassGraph) (rs : List Vector) → AreClassesOf G numbers K rs → (c : ℕ) → AreWithinUnits (arcs_of K c)
+short_arcs G numbers K rs h c =
+    all_from_in (λ (a : ClassArc). IsWithin most_units a.vector) (arcs_of K c)
+    (λ a i. short_arc G numbers K rs h a (contains_from_in K.arcs a (in_filter (λ b. b.from == c) K.arcs a i).0))
 
 -- the list of the class after k stands at place k
 star_after : (stars : List (List ClassArc)) (k : ℕ) → class_star stars (suc k) ≡ slice_index_or stars k []
@@ -112,10 +145,7 @@ module _ (d : ℕ) (S : Stairs) (shape : HasStairShape d S) (L : ClassGraph) (sm
   -- so the lists are a class graph in memory
   pub is_net_in_memory : IsNetInMemory d stars
   is_net_in_memory =
-      let n = count in
-      let m = arcs_count in
-      let few = small.few in
-      let few_arcs = small.few_arcs in
+      let n = count in let m = arcs_count in let few = small.few in let few_arcs = small.few_arcs in
       record {
         small = record {
           net = coordinates_net K L are_coordinates small.net;

@@ -1,28 +1,20 @@
 -- The nets of blocks that are accepted where their keys are asked for.
-use Rattle.std.proofs.Common.{◌≡◌, ◌&&◌, ℕ, ◌+◌, ◌≤◌, length, arith, Bool, true, false, List, [], ◌∷◌, Option, Some, refl, sym, subst, true≢false}
-use Rattle.std.proofs.lemmas.Bool.{and_parts}
-use Rattle.std.specs.List.{list_all}
-use Rattle.std.specs.Prelude.{All}
-use Rattle.std.proofs.lemmas.List.Elements.{All-head, All-tail}
-use Rattle.periodic_net.specs.Graph.{Graph}
-use Rattle.periodic_net.specs.Limits.{IsSmall, most_vertices}
-use Rattle.cgd_read.specs.Blocks.{IsReadBody}
-use Rattle.cgd_read.specs.Graphs.{graph_of}
+use Rattle.std.proofs.Common.{◌≡◌, ℕ, ◌+◌, ◌≤◌, length, arith, true, List, [], ◌∷◌, Option, Some, refl, sym, subst, true≢false}
+use Rattle.std.proofs.lemmas.{Bool.and_parts, List.Elements.All-head, List.Elements.All-tail}
+use Rattle.std.specs.{List.list_all, Prelude.All}
+use Rattle.periodic_net.specs.{Graph.Graph, Limits.IsSmall, Limits.most_vertices}
 use Rattle.cgd_read.specs.Views.{RawView, BodyView, Net, BlockView, block_view, body_view, raw_view, views}
-use Rattle.cgd_read.specs.declared.block.Block.{Block}
-use Rattle.cgd_read.specs.declared.block.Body.{Body}
-use Rattle.cgd_read.specs.declared.block.Body.TheVariants.{Graph as GraphBody, Unsupported as UnsupportedBody, Malformed as MalformedBody}
+use Rattle.cgd_read.specs.{Blocks.IsReadBody, Graphs.graph_of, declared.block.Block.Block, declared.block.Body.Body}
 use Rattle.quotient_graph.specs.Stars.{IsInOrder}
 use Rattle.quotient_graph.proofs.GraphsInMemory.{reordered_small}
-use Rattle.least_key.specs.AnyNets.{net_view}
-use Rattle.least_key.specs.KeyedNets.{IsKeyed}
-use Rattle.least_key.specs.declared.net.Net.{Net as NetInMemory}
+use Rattle.least_key.specs.{AnyNets.net_view, KeyedNets.IsKeyed}
 use Rattle.archive_text.specs.Entries.{EntryView}
 use Rattle.net_report.specs.declared.command.Command.TheVariants.{Key}
 use Rattle.net_outcomes.specs.Outcomes.{Outcome, OutcomeBody, Unsupported, Malformed, Refused, Keyed, AreOutcomesFrom, IsBodyOf, is_accepted, is_accepted_body}
 use Rattle.net_outcomes.specs.Outcomes.{net_told}
-use Rattle.same_answers.specs.Nets.{AreNetsOf, IsNetOf}
-use Rattle.same_answers.specs.Steps.{nets_told, with_net}
+use Rattle.same_answers.specs.{Nets.AreNetsOf, Nets.IsNetOf, Steps.nets_told, Steps.with_net}
+use Rattle.cgd_read.specs.declared.block.Body.TheVariants.{Graph as GraphBody, Unsupported as UnsupportedBody, Malformed as MalformedBody}
+use Rattle.least_key.specs.declared.net.Net.{Net as NetInMemory}
 
 -- a graph in order is within the limits where the graph is
 small_in_order : (G H : Graph) → IsInOrder G H → IsSmall G → IsSmall H

@@ -1,26 +1,20 @@
 -- What is due to `same` is one.
-use Rattle.std.proofs.Common.{◌≡◌, ◌&&◌, ℕ, ◌+◌, ◌-◌, true, false, List, [], ◌∷◌, Option, None, Some, refl, sym, ap, subst, ◌∙◌, true≢false}
+use Rattle.std.proofs.Common.{◌≡◌, ◌&&◌, ℕ, ◌+◌, ◌-◌, true, false, List, [], ◌∷◌, Option, refl, sym, ap, subst, ◌∙◌, true≢false, arith}
 use Rattle.std.specs.List.{list_all}
 use Rattle.cgd_read.specs.Graphs.{graph_of}
 use Rattle.cgd_read.specs.Views.{RawView, BodyView, Net, Other, Faulty, BlockView}
-use Rattle.quotient_graph.specs.PlacedNets.{PlacedNet}
 use Rattle.quotient_graph.specs.Stars.{IsInOrder}
 use Rattle.quotient_graph.proofs.CallerLemmas.{one_in_order}
 use Rattle.least_key.specs.KeyedNets.{KeyedNet}
 use Rattle.least_key.proofs.CallerLemmas.{one_net}
-use Rattle.net_certificate.specs.Items.{ItemView, Maps}
-use Rattle.net_certificate.specs.Texts.{maps_text}
-use Rattle.map_check.specs.Conditions.{most_images}
-use Rattle.net_report.specs.declared.command.Command.TheVariants.{Key}
+use Rattle.net_certificate.specs.NetItems.{AreItemsOf, AreMapsOf, IsItemOf, images_in, item_by}
+use Rattle.net_certificate.specs.{Items.ItemView, Items.Maps, Texts.maps_text}
+use Rattle.net_report.specs.declared.{command.Command.TheVariants.Key, status.Status.TheVariants.Done, status.Status.TheVariants.SomeRefused}
 use Rattle.net_outcomes.specs.Outcomes.{Outcome, OutcomeBody, Unsupported, Malformed, Refused, Checked, Located, Keyed, Identified, Lines, FaultyItem}
 use Rattle.net_outcomes.specs.Outcomes.{AreOutcomesFrom, IsBodyOf, is_accepted, is_accepted_body}
 use Rattle.net_outcomes.specs.Reports.{IsReport}
 use Rattle.net_outcomes.proofs.CallerLemmas.{keyed_not_refused, one_report}
-use Rattle.net_report.specs.declared.status.Status.TheVariants.{Done, SomeRefused}
-use Rattle.same_answers.specs.Due.{AreMapped}
-use Rattle.net_certificate.specs.NetItems.{AreItemsOf, AreMapsOf, IsItemOf, images_in, item_by}
-use Rattle.same_answers.specs.Laws.{OneSameness}
-use Rattle.same_answers.specs.Nets.{AreNetsOf, IsNetOf}
+use Rattle.same_answers.specs.{Due.AreMapped, Laws.OneSameness, Nets.AreNetsOf, Nets.IsNetOf}
 use Rattle.same_answers.proofs.ShapesAlike.{one_answer_alike}
 
 -- the graph that a body says, where it is one
@@ -76,17 +70,7 @@ one_items first first' room (m ∷ ms) (n ∷ ns) (x ∷ xs) (y ∷ ys) e s a b 
 
 -- the maps from the first net to the others are one
 one_maps : (ms ns : List KeyedNet) (x y : Option Maps) → ArePlacedAlike ms ns → AreMapsOf ms x → AreMapsOf ns y → x ≡ y
-one_maps [] [] None None s a b = refl
-one_maps [] [] None (Some y) s a b = absurd b
-one_maps [] [] (Some x) y s a b = absurd a
-one_maps [] (n ∷ ns) x y s a b = absurd s
-one_maps (m ∷ ms) [] x y s a b = absurd s
-one_maps (m ∷ ms) (n ∷ ns) None y s a b = absurd a
-one_maps (m ∷ ms) (n ∷ ns) (Some x) None s a b = absurd b
-one_maps (m ∷ ms) (n ∷ ns) (Some x) (Some y) s a b =
-    let first = a.first_is ∙ ap (λ (p : PlacedNet). p.graph) s.0 ∙ sym b.first_is in
-    let items = one_items m n most_images ms ns x.items y.items s.0 s.1 a.are_items b.are_items in
-    λ i. Some (record { first = first i; items = items i })
+one_maps ms ns x y h k l = search (arith, one_items)
 
 -- of a block that has its key no refusal is reported
 pub accepted_body : (block : BlockView) (body : BodyView) (net : KeyedNet) (told : OutcomeBody) → block.body ≡ body → IsNetOf block net

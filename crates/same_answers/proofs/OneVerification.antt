@@ -1,22 +1,17 @@
 -- What is due to `verify` is one.
-use Rattle.std.proofs.Common.{◌≡◌, ℕ, ◌==◌, List, [], ◌∷◌, Option, None, Some, refl, sym, ap, subst, ◌∙◌}
-use Rattle.std.specs.List.{All}
+use Rattle.std.proofs.Common.{◌≡◌, ℕ, ◌==◌, List, [], ◌∷◌, Option, None, Some, refl, sym, ap, subst, ◌∙◌, arith}
 use Rattle.std.proofs.lemmas.List.Elements.{All-head, All-tail}
+use Rattle.std.specs.List.{All}
 use Rattle.periodic_net.specs.Graph.{Graph}
-use Rattle.line_text.specs.Lines.{rows_text}
 use Rattle.map_check.specs.declared.verdict.Verdict.{Verdict}
 use Rattle.net_certificate.specs.Items.{IsFormedItem, ItemView, Maps, Without, With}
-use Rattle.net_certificate.specs.Reading.{MayStand}
-use Rattle.net_certificate.proofs.CallerLemmas.{texts_tell}
-use Rattle.net_certificate.specs.Checks.{IsChecked, Tells}
+use Rattle.net_certificate.specs.{Reading.MayStand, Checks.IsChecked, Checks.Tells, Results.AreVerdicts, Results.IsVerdictOf}
+use Rattle.net_certificate.specs.{declared.checking.CheckedMaps.CheckedMaps}
+use Rattle.net_certificate.proofs.CallerLemmas.{texts_tell, one_verdict}
 use Rattle.same_answers.specs.DueToVerify.{IsBadMap, IsDueToVerify, IsTold, bad_line_text}
 use Rattle.same_answers.specs.VerifyingLaws.{OneVerification}
-use Rattle.net_certificate.specs.Results.{AreVerdicts, IsVerdictOf, refused_count, result_rows}
-use Rattle.net_certificate.specs.declared.checking.CheckedMaps.{CheckedMaps}
-use Rattle.net_report.specs.Statuses.{ending_of}
-use Rattle.net_report.specs.declared.status.Status.{Status}
 use Rattle.net_report.specs.declared.status.Status.TheVariants.{Done, SomeRefused, BadMap}
-use Rattle.net_certificate.proofs.CallerLemmas.{one_verdict}
+use Rattle.net_report.specs.{Statuses.ending_of, declared.status.Status.Status}
 
 -- the verdict on an item is one
 one_of_item : (G : Graph) (item : ItemView) (v w : Option Verdict) → IsFormedItem G item → IsVerdictOf G item v → IsVerdictOf G item w → v ≡ w
@@ -43,12 +38,7 @@ one_list G (item ∷ items) (v ∷ vs) (w ∷ ws) f h k =
 
 -- what is reported of maps is one
 one_telling : (maps : Option Maps) (a b : CheckedMaps) → MayStand maps → Tells maps a → Tells maps b → (a.text.items ≡ b.text.items) × (a.refused ≡ b.refused)
-one_telling None a b f h k = (h.0 ∙ sym k.0, h.1 ∙ sym k.1)
-one_telling (Some maps) a b f h k =
-    let v = one_list maps.first maps.items h.verdicts k.verdicts f.items h.are k.are in (
-      h.text_is ∙ ap (λ (vs : List (Option Verdict)). rows_text (result_rows 2 maps.first.dimension vs)) v ∙ sym k.text_is,
-      h.refused_is ∙ ap refused_count v ∙ sym k.refused_is,
-    )
+one_telling maps a b l p q = search (arith, one_list)
 
 -- what is reported of a text is one
 one_checked : (bytes : List ℕ) (a b : CheckedMaps) → IsChecked bytes a → IsChecked bytes b → (a.text.items ≡ b.text.items) × (a.refused ≡ b.refused)

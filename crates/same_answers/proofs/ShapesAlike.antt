@@ -1,21 +1,19 @@
 -- What is answered to two nets does not depend on how the classes of their graphs are listed.
 use Rattle.std.proofs.Common.{◌≡◌, ℕ, zero, suc, ◌≤◌, ℤ, List, [], ◌∷◌, ◌++◌, sym, subst, ◌∙◌, arith}
-use Rattle.std.specs.List.{Contains}
 use Rattle.std.proofs.Math.Nat.{le_antisymm}
+use Rattle.std.specs.List.{Contains}
 use Rattle.periodic_net.specs.Classes.{ClassArc, ClassGraph, IsClassGraph, LeadsIn}
 use Rattle.periodic_net.specs.Graph.{Graph, IsGraph, IsQuotientVertex, Vertex}
-use Rattle.periodic_net.specs.Placement.{Placement}
+use Rattle.periodic_net.specs.{Placement.Placement, ClassNets.MayFollow}
 use Rattle.periodic_net.proofs.CallerLemmas.{one_placement}
 use Rattle.key_theory.specs.Frames.{IsFrame, IsFrameAfter, IsNext}
-use Rattle.periodic_net.specs.ClassNets.{MayFollow}
 use Rattle.key_theory.specs.Key.{IsLeastList, IsSomeList, Shape}
 use Rattle.key_theory.specs.Primitive.{IsLeastMember}
 use Rattle.key_theory.specs.Traversal.{Axes, Enters, IsFirst, IsListOf, axes_of}
 use Rattle.least_key.specs.KeyedNets.{KeyedNet}
 use Rattle.least_key.proofs.one.SameClasses.{one_numbering, same_arcs}
-use Rattle.standard_map.specs.LeastPairs.{IsPairOf}
-use Rattle.standard_map.specs.MapNumbers.{StandardTable}
 use Rattle.standard_map.specs.StandardMaps.{HaveSameCoordinates, IsFramedByKey, IsStandardMap, framed_net, vector_between}
+use Rattle.standard_map.specs.{LeastPairs.IsPairOf, MapNumbers.StandardTable}
 use Rattle.net_certificate.specs.Answers.{IsAnswerBy, IsMapAnswer, shape_of}
 use Rattle.net_certificate.specs.declared.answer.MapAnswer.{MapAnswer}
 use Rattle.net_certificate.specs.declared.answer.MapAnswer.TheVariants.{Different, Found, LongMap, WideMap}
@@ -142,8 +140,7 @@ module _ (G : Graph) (ig : IsGraph G) (g g' : Shape G) where
   -- the number of classes is one
   count : g.classes.count ≡ g'.classes.count
   count =
-      let a = g.is_classes.last in
-      let b = others.last in
+      let a = g.is_classes.last in let b = others.last in
       let p : g.classes.count ≤ g'.classes.count = let e = class a.0 a.1 in let l = others.below a.0 a.1 in let m = a.2 in omega (arith, e, l, m) in
       let q : g'.classes.count ≤ g.classes.count = let e = class b.0 b.1 in let l = g.is_classes.below b.0 b.1 in let m = b.2 in omega (arith, e, l, m) in
       le_antisymm p q

@@ -1,39 +1,32 @@
 -- The text of maps that is printed is verified when it is read again.
-use Rattle.std.proofs.Common.{◌≡◌, ◌⊎◌, ℕ, ◌-◌, ◌≤◌, ◌==◌, List, [], ◌∷◌, Option, None, Some, All, length, map, refl, sym, ap, subst, ◌∙◌, arith}
+use Rattle.std.proofs.Common.{◌≡◌, ℕ, ◌-◌, ◌≤◌, ◌==◌, List, [], ◌∷◌, Option, None, Some, All, length, map, refl, sym, ap, subst, ◌∙◌, arith}
 use Rattle.std.proofs.lemmas.List.Elements.{All-cons, All-nil}
 use Rattle.periodic_net.specs.Graph.{Graph}
 use Rattle.line_text.specs.Lines.{rows_text}
-use Rattle.cgd_read.specs.Blocks.{most_blocks}
-use Rattle.cgd_read.specs.Views.{BlockView}
+use Rattle.cgd_read.specs.{Blocks.most_blocks, Views.BlockView}
 use Rattle.graph_rows.specs.Reading.{IsFormedGraph}
 use Rattle.least_key.specs.KeyedNets.{KeyedNet}
 use Rattle.least_key.proofs.CallerLemmas.{key_of_graph}
-use Rattle.map_check.specs.Conditions.{most_images}
-use Rattle.map_check.specs.declared.verdict.Verdict.{Verdict}
+use Rattle.map_check.specs.{Conditions.most_images, declared.verdict.Verdict.Verdict}
 use Rattle.net_certificate.specs.Items.{IsFormedItem, IsTold, ItemView, Maps, With, Without}
-use Rattle.net_certificate.specs.Reading.{IsTextOf, MayStand}
-use Rattle.net_certificate.proofs.CallerLemmas.{no_fault, one_text, found_maps_pass}
-use Rattle.net_certificate.specs.Checks.{Tells}
-use Rattle.same_answers.specs.DueToVerify.{IsDueToVerify, IsTold as IsToldOf}
 use Rattle.net_certificate.specs.Results.{AreVerdicts, IsVerdictOf, refused_count, result_rows}
-use Rattle.net_certificate.specs.declared.checking.CheckedMaps.{CheckedMaps}
 use Rattle.net_certificate.specs.Answers.{IsMapAnswer, IsPassing, shape_of}
-use Rattle.net_certificate.specs.declared.answer.MapAnswer.{MapAnswer}
 use Rattle.net_certificate.specs.declared.answer.MapAnswer.TheVariants.{Different, Found, LongMap, WideMap}
-use Rattle.net_report.specs.Statuses.{ending_of}
-use Rattle.net_report.specs.declared.status.Status.{Status}
-use Rattle.net_report.specs.declared.status.Status.TheVariants.{BadMap, Done, SomeRefused}
 use Rattle.net_certificate.specs.NetItems.{AreItemsOf, AreMapsOf, HasItsBits, images_in, item_by}
+use Rattle.net_certificate.specs.{Reading.IsTextOf, Reading.MayStand, Checks.Tells, declared.checking.CheckedMaps.CheckedMaps}
+use Rattle.net_certificate.specs.{declared.answer.MapAnswer.MapAnswer}
+use Rattle.net_certificate.proofs.CallerLemmas.{no_fault, one_text, found_maps_pass, found_few}
+use Rattle.net_report.specs.declared.status.Status.TheVariants.{BadMap, Done, SomeRefused}
+use Rattle.net_report.specs.{Statuses.ending_of, declared.status.Status.Status}
 use Rattle.same_answers.specs.Laws.{SameIsVerified, passing, verified_text}
 use Rattle.same_answers.specs.Nets.{AreNetsOf, IsNetOf}
-use Rattle.net_certificate.proofs.CallerLemmas.{found_few}
 use Rattle.key_theory.proofs.CallerLemmas.{has_edge}
+use Rattle.same_answers.specs.DueToVerify.{IsDueToVerify, IsTold as IsToldOf}
 
 -- the graph of a net of a block may stand in a text
 graph_formed : (block : BlockView) (net : KeyedNet) → IsNetOf block net → IsFormedGraph net.placed.graph
 graph_formed block net is =
-    let G = net.placed.graph in
-    let g = is.keyed.is_graph in
+    let G = net.placed.graph in let g = is.keyed.is_graph in
     record {
       is_size = record {
         dim = g.dimension;
@@ -66,8 +59,7 @@ sound_by first room block net Different item few is q e bits = subst (IsSound fi
 sound_by first room block net (LongMap entries) item few is q e bits = subst (IsSound first.placed.graph) (sym e) (subst HasItsBits e bits)
 sound_by first room block net (WideMap value) item few is q e bits = subst (IsSound first.placed.graph) (sym e) (subst HasItsBits e bits)
 sound_by first room block net (Found M) item few is q e bits =
-    let G = first.placed.graph in
-    let H = net.placed.graph in
+    let G = first.placed.graph in let H = net.placed.graph in
     let g = shape_of first q.here in
     let h = shape_of net q.there in
     let count = found_few G H g h room M.m M.images M.base q.here.is_graph q.by in
@@ -100,8 +92,7 @@ as_many_items first room (block ∷ blocks) (net ∷ nets) (item ∷ items) are 
 
 -- what is sound may stand
 sound_formed : (G : Graph) (item : ItemView) → IsSound G item → IsFormedItem G item
-sound_formed G (Without why) s = s
-sound_formed G (With H M) s = record { graph = s.0; suits = s.1.suits }
+sound_formed G item h = search arith
 
 all_formed : (G : Graph) (items : List ItemView) → AreSound G items → All (IsFormedItem G) items
 all_formed G [] s = All-nil (IsFormedItem G)

@@ -1,10 +1,8 @@
 -- What was found of a text of maps is due to `verify`.
 use Rattle.std.proofs.Common.{◌≡◌, ℕ, List, Bool, true, false, refl, sym, ap, subst}
 use Rattle.std.specs.Prelude.{◌==◌}
-use Rattle.net_report.specs.Statuses.{ending_of}
-use Rattle.net_report.specs.declared.status.Status.{Status}
-use Rattle.net_certificate.specs.Checks.{IsChecked}
-use Rattle.net_certificate.specs.declared.checking.CheckedMaps.{CheckedMaps}
+use Rattle.net_report.specs.{Statuses.ending_of, declared.status.Status.Status}
+use Rattle.net_certificate.specs.{Checks.IsChecked, declared.checking.CheckedMaps.CheckedMaps}
 use Rattle.same_answers.specs.DueToVerify.{IsDueToVerify}
 
 -- what was found is due, by whether no map is refused

@@ -1,9 +1,6 @@
 -- The first vertex of a class.
 use Rattle.std.proofs.Common.{◌≡◌, ◌≢◌, ℕ, ◌+◌, ◌≤◌, subst, arith}
-use Rattle.std.proofs.Math.Decide.{ℕ_discrete}
-use Prim.{Dec, yes, no}
-use Rattle.periodic_net.specs.Correspondence.{IsClass}
-use Rattle.periodic_net.specs.Graph.{Graph, IsQuotientVertex}
+use Rattle.periodic_net.specs.{Correspondence.IsClass, Graph.Graph, Graph.IsQuotientVertex}
 use Rattle.periodic_net.proofs.CallerLemmas.{member}
 use Rattle.quotient_graph.specs.NetClasses.{NetClasses, AreClasses, class_at}
 
@@ -13,11 +10,7 @@ NoneTo n c done = (v : ℕ) → 1 ≤ v → v ≤ done → class_at n.numbers v 
 
 -- one vertex more
 pub none_more : (n : NetClasses) (c done : ℕ) → NoneTo n c done → class_at n.numbers (done + 1) ≢ c → NoneTo n c (done + 1)
-none_more n c done h e v l m = by (ℕ_discrete v (done + 1))
-  where
-    by : Dec (v ≡ done + 1) → class_at n.numbers v ≢ c
-    by (yes s) = λ k. e (subst (λ (u : ℕ). class_at n.numbers u ≡ c) s k)
-    by (no s) = h v l (omega arith)
+none_more n c done h e v l m = search arith
 
 -- some vertex is in the class
 pub some_vertex : (n : NetClasses) (G : Graph) (c done : ℕ) → AreClasses n → n.graph ≡ G → IsClass n.classes c → NoneTo n c done → G.vertices ≤ done → ⊥

@@ -1,10 +1,8 @@
 -- Vectors of a box by their numbers: they rise with these, and each stands at one.
 use Rattle.std.proofs.Common.{◌≡◌, ◌⊎◌, inl, inr, ℕ, ◌+◌, ◌*◌, ◌/◌, ◌%◌, ◌<◌, ◌≤◌, pos, ap, ◌∙◌, arith}
-use Rattle.std.proofs.Math.Decide.{dec_lt}
-use Prim.{Dec, yes, no}
-use Rattle.std.proofs.Math.Nat.{div-mul-le_self}
 use Rattle.std.proofs.lemmas.Nat.{le-div, div_below, mul-add-lt, div-mul-add, mod-mul-add}
-use Rattle.std.proofs.lemmas.Int.{ints}
+use Rattle.std.proofs.{Math.Decide.dec_lt, Math.Nat.div-mul-le_self, lemmas.Int.ints}
+use Prim.{Dec, yes, no}
 use Rattle.std.specs.Prelude.{◌<ℤ◌}
 use Rattle.integers.specs.Vectors.{Vector, vector, parts, IsBelow}
 use Rattle.integers.proofs.vectors.Precedence.{Precedes, parts_below}

@@ -1,13 +1,11 @@
 -- A staircase to which rows were added, from the multiples of their determinant on, has the lattice that they generate.
 use Rattle.std.proofs.Common.{◌≡◌, ◌↔◌, ◌≤◌, ℕ, List, [], ◌∷◌, ℤ, pos, neg_ℤ, ◌+ℤ◌, ◌-ℤ◌, ◌*ℤ◌, ◌⊎◌, inl, inr, refl, sym, ap, subst, ◌∙◌, arith}
 use Rattle.integers.specs.Vectors.{Vector, vector, zero_vector, plus, times, opposite, combination, HasDimension}
-use Rattle.integers.proofs.lists.Members.{IsIn}
-use Rattle.integers.proofs.numbers.Ring.{ring, linear}
+use Rattle.integers.specs.{Bases.Base, Bases.base_sum, Lattices.IsVectorGroup}
 use Rattle.integers.proofs.vectors.Laws.{divided_dimension, vector_equal, plus_dimension, zero_plus, plus_zero, times_zero, zero_times, times_dimension}
-use Rattle.integers.specs.Bases.{Base, base_sum}
 use Rattle.integers.proofs.vectors.BaseSums.{base_sum_plus, base_sum_zero, base_sum_times}
+use Rattle.integers.proofs.{lists.Members.IsIn, numbers.Ring.ring, numbers.Ring.linear}
 use Rattle.vecdim.specs.Stairs.{Stairs}
-use Rattle.integers.specs.Lattices.{IsVectorGroup}
 use Rattle.vecdim.specs.Lattices.{Members, AreMultiples, IsWith}
 use Rattle.vecdim.proofs.CallerLemmas.{with_has, with_inside}
 use Rattle.sublattice.specs.Sublattices.{index_of, AreFlat, IsCombination}

@@ -2,16 +2,11 @@
 use Rattle.std.proofs.Common.{◌≡◌, ℕ, ◌<◌, ℤ, pos, ◌+ℤ◌, ◌-ℤ◌, ◌*ℤ◌, sym, ap, ◌∙◌, arith}
 use Rattle.std.specs.Prelude.{unsigned_abs}
 use Rattle.integers.specs.Vectors.{Vector, vector, minus, HasDimension}
-use Rattle.integers.proofs.numbers.Ring.{ring, linear}
-use Rattle.integers.proofs.vectors.Laws.{vector_equal, minus_dimension}
-use Rattle.vecdim.specs.Lattices.{Members}
-use Rattle.vecdim.specs.Stairs.{Stairs, HasStairShape}
-use Rattle.sublattice.specs.Laws.{RemaindersTellClasses}
-use Rattle.sublattice.specs.Remainders.{IsRemainderOf}
+use Rattle.integers.proofs.{numbers.Ring.ring, numbers.Ring.linear, vectors.Laws.vector_equal, vectors.Laws.minus_dimension}
+use Rattle.vecdim.specs.{Lattices.Members, Stairs.Stairs, Stairs.HasStairShape}
+use Rattle.sublattice.specs.{Laws.RemaindersTellClasses, Remainders.IsRemainderOf}
 use Rattle.sublattice.proofs.Numbers.{below_pivot, from_zero, natural_part, residue_of}
-use Rattle.sublattice.proofs.OneResidue.{member_of_residue, residue_of_member}
-use Rattle.sublattice.proofs.Pivots.{shape_pivots}
-use Rattle.sublattice.proofs.Residues.{residue}
+use Rattle.sublattice.proofs.{OneResidue.member_of_residue, OneResidue.residue_of_member, Pivots.shape_pivots, Residues.residue}
 
 -- what is taken off, part by part
 off_x : (v p a k : ℤ) → v ≡ p +ℤ a *ℤ k → v -ℤ p ≡ k *ℤ a
@@ -78,8 +73,7 @@ module _ (d : ℕ) (S : Stairs) (v w r s : Vector) (h : IsRemainderOf d S v r) (
   unfolding residue_of
   agree m =
       let e = residue_of_member S v w (residue_of d S v r h.remainder h.difference.0) (residue_of d S w s g.remainder g.difference.0) m.0 in
-      let a = h.remainder in
-      let b = g.remainder in
+      let a = h.remainder in let b = g.remainder in
       vector_equal
       (same_part r.x s.x (natural_part r.x S.a a.low.0 a.high.0).0 (natural_part s.x S.a b.low.0 b.high.0).0 e.p)
       (same_part r.y s.y (natural_part r.y S.e a.low.1 a.high.1).0 (natural_part s.y S.e b.low.1 b.high.1).0 e.q)

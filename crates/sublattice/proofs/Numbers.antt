@@ -1,15 +1,12 @@
 -- The remainders modulo a staircase and their numbers.
 use Rattle.std.proofs.Common.{◌≡◌, ℕ, ◌+◌, ◌*◌, ◌≤◌, ◌<◌, ℤ, pos, ◌+ℤ◌, ◌-ℤ◌, ◌*ℤ◌, sym, ap, subst, arith}
-use Rattle.std.specs.Prelude.{unsigned_abs, ◌≤ℤ◌, ◌<ℤ◌}
 use Rattle.std.proofs.lemmas.Int.{ints}
+use Rattle.std.specs.Prelude.{unsigned_abs, ◌≤ℤ◌, ◌<ℤ◌}
 use Rattle.integers.specs.Vectors.{Vector, minus}
-use Rattle.integers.proofs.numbers.Ring.{ring, linear}
-use Rattle.integers.proofs.vectors.Laws.{vector_equal}
+use Rattle.integers.proofs.{numbers.Ring.ring, numbers.Ring.linear, vectors.Laws.vector_equal}
 use Rattle.vecdim.specs.Stairs.{Stairs, InStairs, HasStairShape, IsReducedStair, IsRemainder, size_of}
-use Rattle.sublattice.specs.Laws.{AreNumbered, RemaindersAreNumbered}
 use Rattle.sublattice.specs.Remainders.{HasNumber, number_of, remainder_with}
-use Rattle.sublattice.specs.Digits.{HasDigits}
-use Rattle.sublattice.specs.Residues.{Residue}
+use Rattle.sublattice.specs.{Laws.AreNumbered, Laws.RemaindersAreNumbered, Digits.HasDigits, Residues.Residue}
 use Rattle.sublattice.proofs.Boxes.{first_below, second_below, third_below, number_below, vector_there, number_back, vectors_rise, product_positive}
 
 -- a positive number has a size of at least 1

@@ -2,17 +2,14 @@
 use Rattle.std.proofs.Common.{◌≡◌, ◌≢◌, ◌⊎◌, ℕ, ◌*◌, ℤ, pos, ◌+ℤ◌, ◌-ℤ◌, ◌*ℤ◌, refl, ap, arith}
 use Rattle.std.specs.Prelude.{unsigned_abs}
 use Rattle.integers.specs.Vectors.{Vector, vector, minus, HasDimension}
-use Rattle.integers.proofs.numbers.Ring.{ring, linear}
-use Rattle.integers.proofs.vectors.Laws.{minus_dimension}
 use Rattle.integers.specs.Bases.{Base}
+use Rattle.integers.proofs.counting.Numbering.{Numbering, along, one_size}
+use Rattle.integers.proofs.{numbers.Ring.ring, numbers.Ring.linear, vectors.Laws.minus_dimension, numbers.Order.positive_is_some}
 use Rattle.vecdim.specs.Stairs.{Stairs, InStairs, HasFlatEnd, HasStairShape}
 use Rattle.sublattice.specs.Laws.{PivotsMultiply}
 use Rattle.sublattice.specs.Sublattices.{determinant, AreFlat, IsCombination, HasMembersOf}
-use Rattle.integers.proofs.counting.Numbering.{Numbering, along, one_size}
-use Rattle.integers.proofs.numbers.Order.{positive_is_some}
-use Rattle.sublattice.proofs.Residues.{HasPivots}
 use Rattle.sublattice.proofs.StairNumbers.{IsAny, DifferBy, stair_numbers}
-use Rattle.sublattice.proofs.RowClasses.{class_numbers}
+use Rattle.sublattice.proofs.{Residues.HasPivots, RowClasses.class_numbers}
 
 -- the pivots of a staircase
 pub shape_pivots : (d : ℕ) (S : Stairs) → HasStairShape d S → HasPivots S

@@ -1,12 +1,10 @@
 -- Residues modulo the lattice of a stair: each vector has one, and they are the lists of numbers below the pivots.
 use Rattle.std.proofs.Common.{◌≡◌, ◌≢◌, ℕ, zero, suc, ◌<◌, ℤ, pos, negsuc, neg_ℤ, ◌+ℤ◌, ◌-ℤ◌, ◌*ℤ◌, refl, arith}
-use Rattle.std.specs.Prelude.{unsigned_abs}
 use Rattle.std.proofs.lemmas.Int.{ints}
+use Rattle.std.specs.Prelude.{unsigned_abs}
 use borrow.Author.Differences.{product_is}
 use Rattle.integers.specs.Vectors.{Vector}
-use Rattle.integers.proofs.numbers.Ring.{ring, linear}
-use Rattle.integers.proofs.numbers.Division.{divided}
-use Rattle.integers.proofs.numbers.Naturals.{pos_same}
+use Rattle.integers.proofs.numbers.{Ring.ring, Ring.linear, Division.divided, Naturals.pos_same}
 use Rattle.vecdim.specs.Stairs.{Stairs}
 use Rattle.sublattice.specs.Residues.{Residue}
 

@@ -2,14 +2,11 @@
 use Rattle.std.proofs.Common.{◌≡◌, ◌≢◌, ◌⊎◌, inl, inr, ℕ, ℤ, pos, neg_ℤ, ◌+ℤ◌, ◌-ℤ◌, ◌*ℤ◌, refl, sym, ap, subst, ◌∙◌, arith}
 use Rattle.std.specs.Prelude.{unsigned_abs}
 use Rattle.integers.specs.Vectors.{Vector, vector, up_vector, plus, times, minus, HasDimension}
-use Rattle.integers.proofs.numbers.Ring.{ring, linear}
-use Rattle.integers.proofs.vectors.Laws.{vector_equal}
 use Rattle.integers.specs.Bases.{Base, base_sum}
+use Rattle.integers.proofs.{numbers.Ring.ring, numbers.Ring.linear, vectors.Laws.vector_equal, counting.Numbering.Numbering, counting.Numbering.along}
 use Rattle.sublattice.specs.Sublattices.{determinant, AreFlat, IsCombination}
-use Rattle.integers.proofs.counting.Numbering.{Numbering, along}
-use Rattle.sublattice.proofs.StairNumbers.{IsAny, DifferBy}
 use Rattle.sublattice.proofs.RowSteps.{Rows, rows, InRows}
-use Rattle.sublattice.proofs.RowNumbers.{row_numbers}
+use Rattle.sublattice.proofs.{StairNumbers.IsAny, StairNumbers.DifferBy, RowNumbers.row_numbers}
 
 -- the three rows in dimension 2
 abbrev flat_rows : Base → Rows

@@ -1,14 +1,13 @@
 -- The vectors up to the lattice of three rows are numbered below the absolute value of their product.
 use Rattle.std.proofs.Common.{◌≡◌, ◌≢◌, ℕ, ◌*◌, ℤ, pos, ◌*ℤ◌, ap, subst, ◌∙◌, arith}
-use Rattle.std.specs.Prelude.{unsigned_abs}
 use Rattle.std.proofs.lemmas.Int.{ints, unsigned_abs-mul}
+use Rattle.std.specs.Prelude.{unsigned_abs}
 use Rattle.integers.specs.Vectors.{minus}
 use Rattle.vecdim.specs.Stairs.{InStairs}
 use Rattle.integers.proofs.counting.Numbering.{Numbering}
-use Rattle.sublattice.proofs.Residues.{HasPivots}
 use Rattle.sublattice.proofs.StairNumbers.{IsAny, DifferBy, stair_numbers}
 use Rattle.sublattice.proofs.RowSteps.{Rows, InRows, product_of}
-use Rattle.sublattice.proofs.Triangle.{StairOf, stair_of}
+use Rattle.sublattice.proofs.{Residues.HasPivots, Triangle.StairOf, Triangle.stair_of}
 
 -- a factor of what is not 0 is not 0: the first
 first_not_zero : (a b : ℤ) → a *ℤ b ≢ pos 0 → a ≢ pos 0

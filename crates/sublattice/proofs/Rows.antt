@@ -1,10 +1,8 @@
 -- Rows in a list, and the staircase that they make.
 use Rattle.std.proofs.Common.{◌≡◌, ◌≢◌, ◌⊎◌, inl, inr, ℕ, ◌≤◌, pos, List, [], ◌∷◌, length, refl, sym, ap, subst, arith}
 use Rattle.std.specs.Prelude.{unsigned_abs}
-use Rattle.integers.specs.Staircase.{IsStaircase}
-use Rattle.integers.specs.Vectors.{Vector}
-use Rattle.integers.proofs.lists.Members.{IsIn}
-use Rattle.integers.proofs.vectors.OneStaircase.{same_staircase}
+use Rattle.integers.specs.{Staircase.IsStaircase, Vectors.Vector}
+use Rattle.integers.proofs.{lists.Members.IsIn, vectors.OneStaircase.same_staircase}
 use Rattle.vecdim.specs.Lattices.{Members, AreMultiples, IsWith}
 use Rattle.vecdim.specs.Stairs.{Stairs, HasStairShape, rows_of}
 use Rattle.sublattice.specs.Sublattices.{base_of, determinant, index_of, AreFlat, HasMembersOf, IsCombination, IsSublattice}

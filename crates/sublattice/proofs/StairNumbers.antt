@@ -2,10 +2,9 @@
 use Rattle.std.proofs.Common.{◌≡◌, ℕ, ◌<◌, ◌*◌, ℤ, pos, ◌+ℤ◌, ◌*ℤ◌, arith}
 use Rattle.std.specs.Prelude.{unsigned_abs}
 use Rattle.integers.specs.Vectors.{Vector, vector, minus}
-use Rattle.integers.proofs.numbers.Ring.{ring, linear}
-use Rattle.vecdim.specs.Stairs.{Stairs, InStairs}
 use Rattle.integers.proofs.counting.Numbering.{Numbering, Pair, pair, Both, Each, along}
-use Rattle.integers.proofs.counting.NumberedPairs.{numbers_below, pairs}
+use Rattle.integers.proofs.{numbers.Ring.ring, numbers.Ring.linear, counting.NumberedPairs.numbers_below, counting.NumberedPairs.pairs}
+use Rattle.vecdim.specs.Stairs.{Stairs, InStairs}
 use Rattle.sublattice.specs.Residues.{Residue}
 use Rattle.sublattice.proofs.Residues.{HasPivots, residue}
 use Rattle.sublattice.proofs.OneResidue.{residue_once, member_of_residue, residue_of_member}

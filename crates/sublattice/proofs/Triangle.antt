@@ -1,8 +1,7 @@
 -- Any three rows have a stair with their lattice, whose pivots multiply to the triple product.
 use Rattle.std.proofs.Common.{◌≡◌, ℤ, pos, ◌+ℤ◌, ◌-ℤ◌, ◌*ℤ◌, refl, sym, ap, ◌∙◌, arith}
 use Rattle.integers.specs.Vectors.{Vector, vector}
-use Rattle.integers.proofs.numbers.Ring.{ring, linear}
-use Rattle.integers.proofs.vectors.Laws.{vector_equal}
+use Rattle.integers.proofs.{numbers.Ring.ring, numbers.Ring.linear, vectors.Laws.vector_equal}
 use Rattle.vecdim.specs.Stairs.{Stairs, stairs, InStairs}
 use Rattle.sublattice.proofs.RowSteps.{Rows, InRows, product_of, SameLattice, both_steps, turned, turned_same, stepped, step_same}
 use Rattle.sublattice.proofs.Clearing.{clears}

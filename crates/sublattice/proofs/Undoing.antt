@@ -1,16 +1,13 @@
 -- Rows whose determinant is not 0 have rows that undo them, up to the determinant.
 use Rattle.std.proofs.Common.{◌≡◌, ◌⊎◌, ℕ, ℤ, pos, ◌+ℤ◌, ◌-ℤ◌, ◌*ℤ◌, refl, sym, ap, ◌∙◌, arith}
-use Rattle.std.specs.Prelude.{unsigned_abs}
 use Rattle.std.proofs.lemmas.Int.{ints}
+use Rattle.std.specs.Prelude.{unsigned_abs}
 use Rattle.integers.specs.Vectors.{Vector, vector, up_vector, times, triple_product, HasDimension}
-use Rattle.integers.proofs.numbers.Ring.{ring, linear}
-use Rattle.integers.proofs.vectors.Laws.{vector_equal, product_times}
-use Rattle.integers.proofs.vectors.Cramer.{sum_along, products, cramer}
 use Rattle.integers.specs.Bases.{Base, base_sum}
-use Rattle.integers.proofs.vectors.BaseSums.{base_sum_times}
+use Rattle.integers.proofs.vectors.Cramer.{sum_along, products, cramer}
+use Rattle.integers.proofs.{numbers.Ring.ring, numbers.Ring.linear, vectors.Laws.vector_equal, vectors.Laws.product_times, vectors.BaseSums.base_sum_times}
 use Rattle.sublattice.specs.Sublattices.{determinant, AreFlat}
-use Rattle.sublattice.proofs.Clearing.{Signed, signed}
-use Rattle.sublattice.proofs.RowClasses.{any_last, flat_part}
+use Rattle.sublattice.proofs.{Clearing.Signed, Clearing.signed, RowClasses.any_last, RowClasses.flat_part}
 
 -- rows that undo b, up to the absolute value of the determinant
 pub record Undoing (d : ℕ) (b : Base) : Type 0 where

@@ -1,8 +1,7 @@
 -- Names of entries that were found.
 use Rattle.std.proofs.Common.{◌≡◌, ℕ, suc, zero, ◌<◌, ◌≤◌, List, [], ◌∷◌, length, get_or, refl, ap, arith}
 use Rattle.std.specs.List.{slice_get}
-use Rattle.archive_text.specs.Entries.{entry_views}
-use Rattle.archive_text.specs.declared.entry.Entry.{Entry}
+use Rattle.archive_text.specs.{Entries.entry_views, declared.entry.Entry.Entry}
 use Rattle.union_answers.specs.ArchiveTexts.{name_of}
 
 -- the name of the entry at this place

@@ -1,33 +1,20 @@
 -- What is reported of the graph of a key.
-use Rattle.std.proofs.Common.{◌≡◌, ◌≢◌, ℕ, [], map, refl, sym, subst, ◌∙◌}
-use Rattle.std.proofs.lemmas.List.{length-map}
-use Rattle.std.proofs.lemmas.List.Sorted.{length_permutation}
+use Rattle.std.proofs.Common.{◌≡◌, ◌≢◌, ℕ, [], refl, sym, subst, ◌∙◌, arith}
+use Rattle.std.proofs.lemmas.{List.length-map, List.Sorted.length_permutation}
 use Rattle.periodic_net.specs.Graph.{Graph, IsGraph}
-use Rattle.cgd_read.specs.Spelling.{edge_of}
-use Rattle.keyline_import.specs.Items.{BodyView, Net, Faulty as FaultyView}
-use Rattle.keyline_import.specs.Keys.{graph_of_key}
-use Rattle.keyline_import.specs.Rows.{KeyView}
-use Rattle.keyline_import.specs.Views.{IsBodyOf}
-use Rattle.keyline_import.specs.declared.item.ItemBody.TheVariants.{Graph as ItemGraph}
-use Rattle.quotient_graph.specs.AnyGraphs.{graph_view}
-use Rattle.quotient_graph.specs.Stars.{IsInOrder}
-use Rattle.quotient_graph.specs.declared.any_graph.AnyGraph.{AnyGraph}
-use Rattle.least_key.specs.AnyNets.{net_view}
-use Rattle.least_key.specs.KeyedNets.{IsKeyed}
-use Rattle.least_key.specs.Truths.{IsTrueOf}
-use Rattle.least_key.specs.declared.net.Net.{Net as AnyNet}
-use Rattle.least_key.specs.declared.refusal.Refusal.{Refusal}
-use Rattle.least_key.specs.declared.refusal.Refusal.TheVariants.{NoMemory}
-use Rattle.net_report.specs.declared.outcome.OutcomeBody.{OutcomeBody}
-use Rattle.net_report.specs.declared.outcome.OutcomeBody.TheVariants.{Keyed, Refused}
-use Rattle.net_report.specs.declared.outcome.Size.{Size}
+use Rattle.keyline_import.specs.{Keys.graph_of_key, Rows.KeyView, Views.IsBodyOf}
+use Rattle.quotient_graph.specs.{AnyGraphs.graph_view, Stars.IsInOrder, declared.any_graph.AnyGraph.AnyGraph}
+use Rattle.least_key.specs.{AnyNets.net_view, KeyedNets.IsKeyed, Truths.IsTrueOf, declared.refusal.Refusal.Refusal}
+use Rattle.least_key.specs.{declared.refusal.Refusal.TheVariants.NoMemory}
+use Rattle.net_report.specs.declared.outcome.{OutcomeBody.OutcomeBody, OutcomeBody.TheVariants.Keyed, OutcomeBody.TheVariants.Refused, Size.Size}
 use Rattle.union_answers.specs.Outcomes.{IsGraphOf, IsItemBodyOf, size_of, sizes_in}
+use Rattle.keyline_import.specs.Items.{BodyView, Net, Faulty as FaultyView}
+use Rattle.keyline_import.specs.declared.item.ItemBody.TheVariants.{Graph as ItemGraph}
+use Rattle.least_key.specs.declared.net.Net.{Net as AnyNet}
 
 -- a graph with the edges of a key in order has the sizes of the key
 same_sizes : (key : KeyView) (G : Graph) (repeats : ℕ) → IsInOrder (graph_of_key key) G → repeats ≡ key.repeats → sizes_in G repeats ≡ size_of key
-same_sizes key G repeats o r =
-    let edges = length_permutation (map edge_of key.edges) G.edges o.edges ∙ length-map key.edges edge_of in
-    λ i. record { dim = o.dimension i; vertices = o.vertices i; edges = edges i; repeats = r i }
+same_sizes key G repeats o r = search (arith, length_permutation, length-map)
 
 module _ (graph : AnyGraph) (repeats : ℕ) (size : Size) (sizes : size ≡ sizes_in (graph_view graph) repeats) (g : IsGraph (graph_view graph)) where
   -- it is the graph of the key

@@ -1,29 +1,22 @@
 -- The entries of items that are accepted.
-use Rattle.std.proofs.Common.{◌≡◌, ◌&&◌, ℕ, ◌+◌, ◌<◌, ◌≤◌, Bool, true, false, List, [], ◌∷◌, ◌++◌, length, get_or, take, Option, None, Some, refl, sym, ap}
-use Rattle.std.proofs.Common.{subst, ◌∙◌, true≢false, arith}
+use Rattle.std.proofs.Common.{◌≡◌, ℕ, ◌+◌, ◌<◌, ◌≤◌, true, List, [], ◌∷◌, ◌++◌, length, get_or, take, Option, None, Some, refl, sym, ap, subst, ◌∙◌, arith}
 use Rattle.std.proofs.lemmas.Bool.{and_parts}
-use Rattle.std.specs.List.{All, list_all}
-use Rattle.std.specs.Option.{option_copied}
 use Rattle.std.proofs.lemmas.List.{take_more, length-map, map-append}
 use Rattle.std.proofs.lemmas.List.Elements.{All-cons, All-get_or, All-head, All-nil, All-tail}
+use Rattle.std.specs.{List.All, List.list_all, Option.option_copied}
 use Rattle.union_answers.specs.Outcomes.{AreItemOutcomesFrom, IsItemBodyOf, is_accepted, is_accepted_body}
-use Rattle.keyline_import.specs.Items.{BodyView, Net, Faulty as FaultyView, ItemView, items_of, most_items}
-use Rattle.keyline_import.specs.Keys.{graph_of_key}
-use Rattle.keyline_import.specs.NetNames.{IsNamed, IsNamedAs}
-use Rattle.keyline_import.specs.Views.{AreRead}
-use Rattle.keyline_import.specs.declared.item.Item.{Item}
-use Rattle.keyline_import.proofs.CallerLemmas.{nets_are_named}
-use Rattle.least_key.specs.AnyNets.{net_view}
-use Rattle.net_archive.specs.Adding.{IsEntryOf}
-use Rattle.net_archive.specs.Archives.{most_entries}
-use Rattle.archive_text.specs.Entries.{EntryView, entry_view, entry_views}
-use Rattle.archive_text.specs.declared.entry.Entry.{Entry}
-use Rattle.net_report.specs.declared.outcome.Outcome.{Outcome}
-use Rattle.net_report.specs.declared.outcome.OutcomeBody.{OutcomeBody}
-use Rattle.net_report.specs.declared.outcome.OutcomeBody.TheVariants.{Refused, Keyed, Faulty}
-use Rattle.quotient_graph.specs.Stars.{IsInOrder}
 use Rattle.union_answers.specs.ItemEntries.{AreEntriesTold, HasNamedNet, IsEntryAs, IsEntryTold, IsUnderName}
 use Rattle.union_answers.specs.Unions.{AreEntriesOfItems, IsEntryOfItem}
+use Rattle.keyline_import.specs.{Keys.graph_of_key, NetNames.IsNamed, NetNames.IsNamedAs, Views.AreRead, declared.item.Item.Item}
+use Rattle.keyline_import.proofs.CallerLemmas.{nets_are_named}
+use Rattle.least_key.specs.AnyNets.{net_view}
+use Rattle.net_archive.specs.{Adding.IsEntryOf, Archives.most_entries}
+use Rattle.archive_text.specs.Entries.{EntryView, entry_view, entry_views}
+use Rattle.archive_text.specs.declared.entry.Entry.{Entry}
+use Rattle.net_report.specs.declared.outcome.OutcomeBody.TheVariants.{Refused, Keyed, Faulty}
+use Rattle.net_report.specs.declared.outcome.{Outcome.Outcome, OutcomeBody.OutcomeBody}
+use Rattle.quotient_graph.specs.Stars.{IsInOrder}
+use Rattle.keyline_import.specs.Items.{BodyView, Net, Faulty as FaultyView, ItemView, items_of, most_items}
 
 -- one entry more
 entries_last : (os : List Outcome) (es : List EntryView) (o : Outcome) (e : EntryView) → AreEntriesTold os es → IsEntryTold o e
@@ -55,12 +48,7 @@ as_many_entries os entries h = sym (length-map entries entry_view) ∙ as_many o
 -- an item that is accepted is a net under its name
 named : (body : BodyView) (name : Option (List ℕ)) (told : OutcomeBody) → IsItemBodyOf body told → IsNamedAs body name → is_accepted_body told ≡ true
     → IsUnderName told name
-named (Net key) None (Keyed size net) h k a = absurd k
-named (Net key) (Some name) (Keyed size net) h k a = k
-named (Net key) name (Refused size names refusal) h k a = absurd (true≢false (sym a))
-named (Net key) name told h k a = absurd h
-named (FaultyView fault) name (Faulty line number kind) h k a = absurd (true≢false (sym a))
-named (FaultyView fault) name told h k a = absurd h
+named body name told l p q = search arith
 
 pub all_named : (n : ℕ) (items : List ItemView) (os : List Outcome) → AreItemOutcomesFrom n items os → All IsNamed items → list_all is_accepted os ≡ true
     → All HasNamedNet os
@@ -126,10 +114,7 @@ as_many_outcomes n (item ∷ items) (o ∷ os) h = let m = as_many_outcomes (n +
 -- and so there are no more entries than there may be
 pub few_entries : (items : List ItemView) (os : List Outcome) (entries : List Entry) → AreItemOutcomesFrom 1 items os → AreEntriesTold os (entry_views entries)
     → length items ≤ most_items → length entries ≤ most_entries
-few_entries items os entries h k few =
-    let m = as_many_outcomes 1 items os h in
-    let n = as_many_entries os entries k in
-    omega (arith, m, n, few)
+few_entries items os entries h k few = omega (arith, as_many_outcomes, as_many_entries)
 
 pub few_read : (views : List ItemView) (items : List Item) → AreRead views items → length views ≤ most_items → length items ≤ most_items
 few_read views items h few = let n = as_many_read views items h in omega (arith, n, few)

@@ -1,8 +1,6 @@
 -- The list of outcomes grows by that of the next item.
-use Rattle.std.proofs.Common.{◌≡◌, ℕ, ◌+◌, List, [], ◌∷◌, ◌++◌, length, refl, sym, ap, subst, arith}
-use Rattle.keyline_import.specs.Items.{ItemView}
-use Rattle.keyline_import.specs.Views.{AreRead, IsItemRead}
-use Rattle.keyline_import.specs.declared.item.Item.{Item}
+use Rattle.std.proofs.Common.{◌≡◌, ℕ, ◌+◌, List, [], ◌∷◌, ◌++◌, length, refl, ap, subst, arith}
+use Rattle.keyline_import.specs.{Items.ItemView, Views.AreRead, Views.IsItemRead, declared.item.Item.Item}
 use Rattle.net_report.specs.declared.outcome.Outcome.{Outcome}
 use Rattle.union_answers.specs.Outcomes.{AreItemOutcomesFrom, IsItemOutcomeOf}
 
@@ -54,8 +52,4 @@ outcomes_last n (v ∷ views) (x ∷ os) view o h k =
 -- the outcome of the next item
 pub outcomes_more : (items : List Item) (os : List Outcome) (number : ℕ) (item : Item) (o : Outcome) → AreOutcomesOfRead 1 items os → number ≡ length items + 1
     → ((view : ItemView) → IsItemRead view item → IsItemOutcomeOf number view o) → AreOutcomesOfRead 1 (items ++ item ∷ []) (os ++ o ∷ [])
-outcomes_more items os number item o h n k views read =
-    let r = read_then views items item read in
-    let place : number ≡ 1 + length r.front = let c = r.count in omega (arith, n, c) in
-    subst (λ (vs : List ItemView). AreItemOutcomesFrom 1 vs (os ++ o ∷ [])) (sym r.whole)
-    (outcomes_last 1 r.front os r.last o (h r.front r.before) (subst (λ m. IsItemOutcomeOf m r.last o) place (k r.last r.now)))
+outcomes_more items os number item o h n k views read = grind (arith, read_then, outcomes_last)

@@ -1,27 +1,19 @@
 -- Items that have entries are accepted, and their entries are one list.
 use Rattle.std.proofs.Common.{◌≡◌, ◌&&◌, ℕ, ◌+◌, true, false, List, [], ◌∷◌, Option, refl, sym, ap, subst, ◌∙◌, true≢false}
-use Rattle.std.specs.List.{list_all}
-use Rattle.std.specs.Prelude.{unwrap_or}
+use Rattle.std.specs.{List.list_all, Prelude.unwrap_or}
 use Rattle.union_answers.specs.Outcomes.{AreItemOutcomesFrom, IsItemBodyOf, IsRefusedAs, is_accepted, is_accepted_body}
-use Rattle.union_answers.specs.Reports.{IsItemReport}
-use Rattle.keyline_import.specs.Items.{BodyView, Net, Faulty as FaultyView, ItemView}
-use Rattle.keyline_import.specs.Keys.{graph_of_key}
-use Rattle.keyline_import.specs.Rows.{KeyView}
-use Rattle.least_key.specs.KeyedNets.{IsKeyed, KeyedNet}
-use Rattle.least_key.specs.Laws.{TellAlike}
-use Rattle.least_key.specs.Truths.{IsTrueOf}
-use Rattle.least_key.specs.declared.refusal.Refusal.{Refusal}
+use Rattle.union_answers.specs.{Reports.IsItemReport, Unions.AreEntriesOfItems, Unions.IsEntryOfItem}
+use Rattle.keyline_import.specs.{Keys.graph_of_key, Rows.KeyView}
+use Rattle.least_key.specs.{KeyedNets.IsKeyed, KeyedNets.KeyedNet, Laws.TellAlike, Truths.IsTrueOf, declared.refusal.Refusal.Refusal}
 use Rattle.least_key.proofs.CallerLemmas.{certain_is_not_refused, keyed_is_certain, one_net}
 use Rattle.net_archive.specs.Adding.{IsEntryOf}
 use Rattle.net_archive.proofs.CallerLemmas.{one_entry}
 use Rattle.archive_text.specs.Entries.{EntryView}
 use Rattle.quotient_graph.proofs.CallerLemmas.{one_in_order}
-use Rattle.net_report.specs.declared.outcome.Outcome.{Outcome}
-use Rattle.net_report.specs.declared.outcome.OutcomeBody.{OutcomeBody}
-use Rattle.net_report.specs.declared.outcome.OutcomeBody.TheVariants.{Keyed, Refused}
-use Rattle.net_report.specs.declared.outcome.Size.{Size}
+use Rattle.net_report.specs.declared.outcome.{Outcome.Outcome, OutcomeBody.OutcomeBody, OutcomeBody.TheVariants.Keyed, OutcomeBody.TheVariants.Refused}
+use Rattle.net_report.specs.declared.outcome.{Size.Size}
 use Rattle.quotient_graph.specs.Stars.{IsInOrder}
-use Rattle.union_answers.specs.Unions.{AreEntriesOfItems, IsEntryOfItem}
+use Rattle.keyline_import.specs.Items.{BodyView, Net, Faulty as FaultyView, ItemView}
 
 -- the key that a body has, where it has one
 abbrev key_or : KeyView → BodyView → KeyView

@@ -1,15 +1,12 @@
 -- The archive of some bytes is one, or their fault is.
-use Rattle.std.proofs.Common.{◌≡◌, ℕ, List, Option, None, Some, sym, ap, subst, ◌∙◌}
-use Rattle.net_archive.specs.Archives.{ArchiveView}
-use Rattle.net_archive.specs.Faults.{IsFaultOf}
+use Rattle.std.proofs.Common.{◌≡◌, ℕ, List, Option, None, Some, sym, ap, subst, ◌∙◌, arith}
+use Rattle.net_archive.specs.{Archives.ArchiveView, Faults.IsFaultOf}
 use Rattle.net_archive.proofs.CallerLemmas.{no_fault_but_memory, one_archive, one_fault}
-use Rattle.union_answers.specs.ArchiveTexts.{archive_fault_text}
-use Rattle.union_answers.specs.ArchiveBytes.{IsArchiveIn, IsBadArchive}
+use Rattle.union_answers.specs.{ArchiveTexts.archive_fault_text, ArchiveBytes.IsArchiveIn, ArchiveBytes.IsBadArchive}
 
 -- the archive of some bytes is one
 pub one_archive_in : (bytes : Option (List ℕ)) (a b : ArchiveView) → IsArchiveIn bytes a → IsArchiveIn bytes b → a ≡ b
-one_archive_in None a b h k = h ∙ sym k
-one_archive_in (Some bytes) a b h k = one_archive a b h.0 k.0 (sym h.1 ∙ k.1)
+one_archive_in bytes a b l p = search (arith, one_archive)
 
 -- bytes of an archive have no fault that is reported
 pub not_bad : (bytes : Option (List ℕ)) (a : ArchiveView) (text : List ℕ) → IsArchiveIn bytes a → ¬ IsBadArchive bytes text

@@ -1,26 +1,20 @@
 -- What is reported of an item is one.
-use Rattle.std.proofs.Common.{◌≡◌, ℕ, ◌+◌, ◌&&◌, List, [], ◌∷◌, ◌++◌, refl, sym, ◌∙◌, subst}
+use Rattle.std.proofs.Common.{◌≡◌, ℕ, ◌+◌, ◌&&◌, List, [], ◌∷◌, ◌++◌, refl, sym, ◌∙◌, subst, arith}
 use Rattle.std.specs.List.{list_all}
 use Rattle.periodic_net.specs.Graph.{Graph}
-use Rattle.keyline_import.specs.Items.{BodyView, Net, Faulty as FaultyView, ItemView}
-use Rattle.keyline_import.specs.Keys.{graph_of_key}
-use Rattle.keyline_import.specs.Rows.{KeyView}
+use Rattle.keyline_import.specs.{Keys.graph_of_key, Rows.KeyView}
 use Rattle.quotient_graph.proofs.CallerLemmas.{one_in_order}
-use Rattle.least_key.specs.AnyNets.{net_view}
-use Rattle.least_key.specs.Truths.{IsTrueOf}
-use Rattle.least_key.specs.declared.net.Net.{Net as AnyNet}
-use Rattle.least_key.specs.declared.refusal.Refusal.{Refusal}
+use Rattle.least_key.specs.{AnyNets.net_view, Truths.IsTrueOf, declared.refusal.Refusal.Refusal}
 use Rattle.least_key.proofs.CallerLemmas.{certain_is_not_refused, keyed_is_certain, one_net, one_refusal}
 use Rattle.net_report.specs.Headers.{faulty_text, header_text, size_text}
-use Rattle.net_report.specs.Keys.{key_text}
-use Rattle.net_report.specs.Refusals.{refused_text}
 use Rattle.net_report.specs.Reports.{body_text, outcome_text, report_text}
-use Rattle.net_report.specs.declared.outcome.Outcome.{Outcome}
-use Rattle.net_report.specs.declared.outcome.OutcomeBody.{OutcomeBody}
 use Rattle.net_report.specs.declared.outcome.OutcomeBody.TheVariants.{Faulty, Keyed, Refused}
-use Rattle.net_report.specs.declared.outcome.Size.{Size}
+use Rattle.net_report.specs.{Keys.key_text, Refusals.refused_text, declared.outcome.Outcome.Outcome, declared.outcome.OutcomeBody.OutcomeBody}
+use Rattle.net_report.specs.{declared.outcome.Size.Size}
 use Rattle.union_answers.specs.ItemLaws.{OneItemReport}
 use Rattle.union_answers.specs.Outcomes.{AreItemOutcomesFrom, IsGraphOf, IsItemBodyOf, IsItemOutcomeOf, IsKeyedAs, IsRefusedAs, is_accepted, is_accepted_body}
+use Rattle.keyline_import.specs.Items.{BodyView, Net, Faulty as FaultyView, ItemView}
+use Rattle.least_key.specs.declared.net.Net.{Net as AnyNet}
 
 -- two bodies have one text, and say alike whether the item was accepted
 record SpeakAlike (a b : OutcomeBody) : Type 0 where
@@ -99,6 +93,4 @@ one_telling n (item ∷ items) (o ∷ os) (p ∷ ps) h k =
 
 -- the report on items is one
 pub one_item_report : OneItemReport
-one_item_report items x y s t a b =
-    let r = one_telling 1 items a.outcomes b.outcomes a.are_outcomes b.are_outcomes in
-    (a.all ∙ r.accepted ∙ sym b.all, a.report ∙ r.text ∙ sym b.report)
+one_item_report items x y s t a b = search (arith, one_telling)

@@ -1,19 +1,16 @@
 -- What becomes of a union is one.
-use Rattle.std.proofs.Common.{◌≡◌, ◌⊎◌, inl, inr, ℕ, ◌≤◌, Bool, true, false, List, length, Option, Some, refl, sym, ap, subst, ◌∙◌, arith}
-use Rattle.union_answers.specs.ArchiveTexts.{add_fault_text}
+use Rattle.std.proofs.Common.{◌≡◌, ◌⊎◌, inl, inr, ℕ, ◌≤◌, Bool, true, false, List, length, Option, Some, refl, sym, ap, ◌∙◌, arith}
+use Rattle.union_answers.specs.Unions.{AreEntriesOfItems, AreItemsUnited, HasManyItems, IsUnionAs, IsUnionDue, IsUnionOfArchives, IsUnionOfItems}
+use Rattle.union_answers.specs.Unions.{IsUnitedOrRefused, begins_archive}
+use Rattle.union_answers.specs.{ArchiveTexts.add_fault_text, Reports.IsItemReport, ArchiveBytes.IsArchiveIn, ArchiveBytes.IsBadArchive}
 use Rattle.archive_union.proofs.CallerLemmas.{not_both, same_item, same_union}
-use Rattle.union_answers.specs.Reports.{IsItemReport}
-use Rattle.union_answers.proofs.OneItemOutcome.{one_item_report}
+use Rattle.union_answers.proofs.OneArchive.{not_bad, one_archive_in, one_bad}
+use Rattle.union_answers.proofs.{OneItemOutcome.one_item_report, ItemsAccepted.entries_or_report, ItemsAccepted.one_list_of_entries}
 use Rattle.keyline_import.specs.Items.{ItemView, items_of, most_items}
 use Rattle.net_archive.specs.Archives.{ArchiveView, archive_text}
 use Rattle.archive_text.specs.Entries.{EntryView}
-use Rattle.union_answers.specs.ArchiveBytes.{IsArchiveIn, IsBadArchive}
-use Rattle.union_answers.specs.Unions.{AreEntriesOfItems, AreItemsUnited, HasManyItems, IsUnionAs, IsUnionDue, IsUnionOfArchives, IsUnionOfItems}
-use Rattle.union_answers.specs.Unions.{IsUnitedOrRefused, begins_archive}
 use Rattle.net_report.specs.declared.status.Status.{Status}
 use Rattle.net_report.specs.declared.status.Status.TheVariants.{Done, SomeRefused, BadArchive, AddRefused}
-use Rattle.union_answers.proofs.ItemsAccepted.{entries_or_report, one_list_of_entries}
-use Rattle.union_answers.proofs.OneArchive.{not_bad, one_archive_in, one_bad}
 
 -- one status and one text
 abbrev AreOne : Status → Status → List ℕ → List ℕ → Type 0
@@ -35,9 +32,7 @@ one_united a items s t x y h k = absurd h
 -- of one archive and of the entries of one list
 united_alike : (a b : ArchiveView) (es fs : List EntryView) (s t : Status) (x y : List ℕ) → a ≡ b → es ≡ fs → IsUnitedOrRefused a es s x
     → IsUnitedOrRefused b fs t y → AreOne s t x y
-united_alike a b es fs s t x y d e h k =
-    one_united a es s t x y h (subst (λ (l : List EntryView). IsUnitedOrRefused a l t y) (sym e)
-    (subst (λ (c : ArchiveView). IsUnitedOrRefused c fs t y) (sym d) k))
+united_alike a b es fs s t x y d e h k = search (arith, one_united)
 
 -- the first of two archives that has a fault
 abbrev IsFirstBad : List ℕ → Option (List ℕ) → List ℕ → Type 0
@@ -118,11 +113,7 @@ one_union_due file archive s t x y h k = one_as (begins_archive file) file archi
 
 -- items are no more than there may be
 few_items : (file : List ℕ) (archive : Option (List ℕ)) (s : Status) (x : List ℕ) → IsUnionOfItems file archive s x → length (items_of file) ≤ most_items
-few_items file archive BadArchive x h = h.0
-few_items file archive s x h = h.0
+few_items file archive s x k = search arith
 
 pub many_items : (file : List ℕ) (archive : Option (List ℕ)) (s : Status) (x : List ℕ) → HasManyItems file → ¬ IsUnionDue file archive s x
-many_items file archive s x many h =
-    let few = few_items file archive s x (subst (λ (b : Bool). IsUnionAs b file archive s x) many.0 h) in
-    let more = many.1 in
-    absurd (omega (arith, more, few))
+many_items file archive s x many h = search (arith, few_items)

@@ -1,25 +1,21 @@
 -- What becomes of a union.
-use Rattle.std.proofs.Common.{◌≡◌, ℕ, ◌≤◌, List, length, Option, Some, Result, Ok, Err, false, sym, subst}
-use Rattle.std.specs.Prelude.{IfErr, IfOk, Vec}
-use Rattle.std.specs.declared.alloc.Global.{Global}
-use Rattle.std.specs.List.{All, list_all}
+use Rattle.std.proofs.Common.{◌≡◌, ℕ, ◌≤◌, List, length, Option, Some, Result, Ok, Err, false, sym, subst, arith}
 use Rattle.std.proofs.lemmas.List.Elements.{All-map}
-use Rattle.union_answers.specs.ArchiveTexts.{add_fault_text}
+use Rattle.std.specs.Prelude.{IfErr, IfOk, Vec}
+use Rattle.std.specs.{declared.alloc.Global.Global, List.All, List.list_all}
+use Rattle.union_answers.specs.ArchiveBytes.{IsArchiveIn, IsArchiveOrText, IsBadArchive}
+use Rattle.union_answers.specs.Unions.{AreEntriesOfItems, IsNotUnitedAs, IsUnionOfArchives, IsUnionOfItems, IsUnitedAs, IsUnitedOrRefused}
+use Rattle.union_answers.specs.{ArchiveTexts.add_fault_text, Outcomes.AreItemOutcomesFrom, Outcomes.is_accepted}
 use Rattle.archive_union.specs.Unions.{IsNotUnited, IsUnion}
 use Rattle.archive_union.proofs.CallerLemmas.{has_all}
-use Rattle.union_answers.specs.Outcomes.{AreItemOutcomesFrom, is_accepted}
 use Rattle.keyline_import.specs.Items.{items_of, most_items}
 use Rattle.net_archive.specs.Archives.{ArchiveView, IsArchive, IsEntry, archive_text}
 use Rattle.net_archive.specs.declared.faults.AddFault.{AddFault}
 use Rattle.archive_text.specs.Entries.{EntryView, entry_view, entry_views}
 use Rattle.archive_text.specs.declared.entry.Entry.{Entry}
-use Rattle.net_report.specs.Reports.{report_text}
-use Rattle.net_report.specs.declared.outcome.Outcome.{Outcome}
-use Rattle.union_answers.specs.ArchiveBytes.{IsArchiveIn, IsArchiveOrText, IsBadArchive}
-use Rattle.union_answers.proofs.ItemEntries.{entries_of_items, few_entries, few_read, named_nets}
-use Rattle.union_answers.specs.Unions.{AreEntriesOfItems, IsNotUnitedAs, IsUnionOfArchives, IsUnionOfItems, IsUnitedAs, IsUnitedOrRefused}
-use Rattle.net_report.specs.declared.status.Status.{Status}
 use Rattle.net_report.specs.declared.status.Status.TheVariants.{Done, SomeRefused, AddRefused}
+use Rattle.net_report.specs.{Reports.report_text, declared.outcome.Outcome.Outcome, declared.status.Status.Status}
+use Rattle.union_answers.proofs.ItemEntries.{entries_of_items, few_entries, few_read, named_nets}
 
 -- a union has all that it is made of
 pub united_as : (a whole : ArchiveView) (items : List Entry) (text : List ℕ) → IsArchive a → All (λ (e : Entry). IsEntry (entry_view e)) items
@@ -42,9 +38,7 @@ not_united_as a items number fault text n t = record { number = number; fault = 
 pub archive_of_bytes : {E : Type 0} (file : List ℕ) (bytes : Vec ℕ Global) (r : Result (Result ArchiveView (Vec ℕ Global)) E) → bytes.items ≡ file
     → IfOk r (IsArchiveOrText (Some bytes))
     → IfOk r (λ read. IfOk read (IsArchiveIn (Some file)))
-archive_of_bytes file bytes (Ok (Ok a)) same h = subst (λ (l : List ℕ). IsArchiveIn (Some l) a) same h
-archive_of_bytes file bytes (Ok (Err text)) same h = tt
-archive_of_bytes file bytes (Err e) same h = tt
+archive_of_bytes file bytes r k p = search arith
 
 pub fault_of_bytes : {E : Type 0} (file : List ℕ) (bytes : Vec ℕ Global) (r : Result (Result ArchiveView (Vec ℕ Global)) E) → bytes.items ≡ file
     → IfOk r (IsArchiveOrText (Some bytes))

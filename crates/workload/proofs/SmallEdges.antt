@@ -1,18 +1,11 @@
 -- The lines of the edges are short.
 use Rattle.std.proofs.Common.{◌≡◌, ℕ, ◌-◌, ◌<◌, ◌≤◌, ℤ, pos, negsuc, ◌+ℤ◌, ◌*ℤ◌, Bool, true, false, cond, ◌&&◌, ◌==◌, nat_lt, [], length, true≢false, refl, sym}
 use Rattle.std.proofs.Common.{lit<, arith}
-use Rattle.std.specs.Prelude.{unsigned_abs}
-use Rattle.std.specs.Int.{int_rem_euclid, int_div_euclid}
-use Rattle.std.proofs.lemmas.Bool.{ltb-true, and_parts}
-use Rattle.std.proofs.lemmas.Int.{ints}
-use Rattle.std.proofs.lemmas.Nat.{mul-le}
-use Rattle.std.proofs.Math.Nat.{div-le_self}
-use Rattle.std.proofs.lemmas.List.{length-append}
-use Rattle.std.specs.Fmt.{decimal}
-use Rattle.std.proofs.lemmas.Fmt.{length-decimal-le, length_signed_le}
-use Rattle.workload.specs.BaseNets.{is_base_edge, is_unit}
+use Rattle.std.proofs.{lemmas.Bool.ltb-true, lemmas.Bool.and_parts, lemmas.Int.ints, lemmas.Nat.mul-le, Math.Nat.div-le_self, lemmas.List.length-append}
+use Rattle.std.proofs.{lemmas.Fmt.length-decimal-le, lemmas.Fmt.length_signed_le}
+use Rattle.std.specs.{Prelude.unsigned_abs, Int.int_rem_euclid, Int.int_div_euclid, Fmt.decimal}
 use Rattle.workload.specs.Workload.{edge_line, edge_at, part_text, third_text, vertex_at, cells_passed, place_after}
-use Rattle.workload.specs.declared.edge.Edge.{Edge}
+use Rattle.workload.specs.{BaseNets.is_base_edge, BaseNets.is_unit, declared.edge.Edge.Edge}
 
 -- a quotient and a remainder of small numbers
 quotient_few : (z : ℤ) (m : ℕ) → unsigned_abs z ≤ 4 → unsigned_abs (int_div_euclid z (pos m)) ≤ 4
@@ -94,6 +87,5 @@ edge_small m k e r a b l h =
 pub edge_short : (d m k : ℕ) (e : Edge) (r : ℕ) → m ≤ 4 → k < 5 → r < m → is_base_edge e ≡ true → length (edge_line d (edge_at m k e r)) ≤ 15
 edge_short d m k e r a b l h =
     let s = edge_small m k e r a b l h in
-    let y = s.y in
-    let z = s.z in
+    let y = s.y in let z = s.z in
     line_short d (edge_at m k e r) s.u s.v s.x (omega (arith, y)) (omega (arith, z))

@@ -1,15 +1,11 @@
 -- The text of the workload is small.
 use Rattle.std.proofs.Common.{◌≡◌, ℕ, zero, suc, ◌+◌, ◌*◌, ◌<◌, ◌≤◌, true, List, [], ◌∷◌, length, flat_map, lit<, arith}
-use Rattle.std.proofs.lemmas.Bool.{and_parts}
+use Rattle.std.proofs.lemmas.{Bool.and_parts, Nat.mul-le, List.length-append, Fmt.length-decimal-le}
 use Rattle.std.specs.List.{list_all, range_with_len}
-use Rattle.std.proofs.lemmas.Nat.{mul-le}
-use Rattle.std.proofs.lemmas.List.{length-append}
-use Rattle.std.proofs.lemmas.Fmt.{length-decimal-le}
 use Rattle.workload.specs.BaseNets.{is_base_edge, base_edges, dimension}
 use Rattle.workload.specs.Workload.{edge_line, edge_at, place_lines, edges_text, block_text, workload, base_of, cells_of, shear_of, most_nets, most_text}
 use Rattle.workload.specs.declared.edge.Edge.{Edge}
-use Rattle.workload.proofs.BaseEdges.{all_base, few_base}
-use Rattle.workload.proofs.SmallEdges.{edge_short}
+use Rattle.workload.proofs.{BaseEdges.all_base, BaseEdges.few_base, SmallEdges.edge_short}
 
 -- as many pieces, of at most b bytes each
 pieces_short : (f : ℕ → List ℕ) (b a n : ℕ) → ((r : ℕ) → r < a + n → length (f r) ≤ b) → length (flat_map f (range_with_len a n)) ≤ n * b

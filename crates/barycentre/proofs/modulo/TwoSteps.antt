@@ -4,7 +4,7 @@ use Rattle.std.proofs.Common.{unsigned_abs}
 use Rattle.std.specs.Prelude.{ℤ, pos, ◌*ℤ◌, slice_get}
 use Rattle.std.specs.Option.{option_map_or}
 use Rattle.integers.specs.Staircase.{part}
-use Rattle.integers.proofs.numbers.Ring.{ring}
+use Rattle.integers.proofs.{numbers.Ring.ring, vectors.Coordinates.below_three}
 use Rattle.periodic_net.specs.Graph.{Graph, IsGraph, IsConnected, IsQuotientVertex}
 use Rattle.periodic_net.specs.Placement.{Placement, base, IsNormalPlacement, IsWithinLimits}
 use Rattle.periodic_net.specs.Limits.{IsSmall}
@@ -12,22 +12,13 @@ use Rattle.quotient_graph.specs.PlacedNets.{most_position}
 use Rattle.quotient_graph.proofs.CallerLemmas.{position_bounded}
 use Rattle.exact.specs.Ratio.{Ratio, whole}
 use Rattle.vecdim.specs.declared.rows.Row.{Row}
-use Rattle.fraction.specs.declared.numbers.Fraction.{Fraction}
-use Rattle.fraction.specs.Values.{fraction_value}
+use Rattle.fraction.specs.{declared.numbers.Fraction.Fraction, Values.fraction_value}
 use Rattle.elimination.specs.Rows.{row_part, value_in}
-use Rattle.residue.specs.declared.numbers.Residue.{Residue}
-use Rattle.residue.specs.Reconstruction.{IsReconstruction}
-use Rattle.barycentre.specs.TwoSteps.{AreTwoSteps}
-use Rattle.barycentre.proofs.TwoStages.{two_steps_recover}
-use Rattle.barycentre.proofs.RecoveredFractions.{Lowest, lowest}
-use Rattle.barycentre.specs.Positions.{IsScaled}
+use Rattle.residue.specs.{declared.numbers.Residue.Residue, Reconstruction.IsReconstruction}
 use Rattle.barycentre.specs.Recovered.{lifted_part, IsRecoveredRow, AreRecovered, LacksRow}
-use Rattle.barycentre.specs.ResidueRows.{residue_part, residue_at}
-use Rattle.barycentre.specs.Tested.{AreFractions}
-use Rattle.integers.proofs.vectors.Coordinates.{below_three}
-use Rattle.barycentre.proofs.Normal.{dimension_below, coordinate_cases}
-use Rattle.barycentre.proofs.modulo.ResidueRows.{element_of, part_there}
-use Rattle.barycentre.proofs.Solved.{option_reduced}
+use Rattle.barycentre.specs.{TwoSteps.AreTwoSteps, Positions.IsScaled, ResidueRows.residue_part, ResidueRows.residue_at, Tested.AreFractions}
+use Rattle.barycentre.proofs.{TwoStages.two_steps_recover, RecoveredFractions.Lowest, RecoveredFractions.lowest, Normal.dimension_below}
+use Rattle.barycentre.proofs.{Normal.coordinate_cases, modulo.Stages.element_of, modulo.Stages.part_there, Solved.option_reduced}
 
 -- the part of a row that is there
 fraction_there : {D : ℕ} (rows : List (Row Fraction D)) (i c : ℕ) (d : Row Fraction D) → i < length rows

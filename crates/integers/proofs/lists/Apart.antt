@@ -1,12 +1,11 @@
 -- Lists in which nothing stands twice: also after their elements have changed places, and where numbers of them rise.
 use Rattle.std.proofs.Common.{◌≡◌, ◌≢◌, ◌⊎◌, inl, inr, ℕ, ◌<◌, Bool, true, ltb, ◌&&◌, List, [], ◌∷◌, length, get_or, map, refl, sym, ap, ◌∙◌, arith}
 use Rattle.std.proofs.lemmas.Bool.{cases_eq, and_parts, ltb-true}
-use Rattle.std.specs.List as lists
-use Rattle.std.specs.List.{AllPairs}
-use Rattle.std.specs.List.Sorted.{IsPermutation}
 use Rattle.std.proofs.lemmas.List.Sorted.{IsPermutation-keeps}
-use Rattle.integers.proofs.lists.Members.{IsIn, AreApart, pairs_from_apart}
 use Rattle.std.proofs.lemmas.List.Edits.{Swapped, swapped_from_swap, length-swap}
+use Rattle.std.specs.{List.AllPairs, List.Sorted.IsPermutation}
+use Rattle.integers.proofs.lists.Members.{IsIn, AreApart, pairs_from_apart}
+use Rattle.std.specs.List as lists
 
 -- two places that hold the same are one place
 abbrev StandsOnce : {X : Type 0} → List X → Type 0

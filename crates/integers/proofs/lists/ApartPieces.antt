@@ -1,8 +1,6 @@
 -- Lists in which nothing stands twice: their pieces and their lengths.
 use Rattle.std.proofs.Common.{◌≡◌, inl, inr, List, [], ◌∷◌, ◌++◌, length, ◌≤◌, refl, sym, subst, ◌∙◌}
-use Rattle.integers.proofs.lists.Counting.{not_longer}
-use Rattle.integers.proofs.lists.Members.{IsIn, AreApart}
-use Rattle.integers.proofs.lists.Pieces.{append_right}
+use Rattle.integers.proofs.lists.{Counting.not_longer, Members.IsIn, Members.AreApart, Pieces.append_right}
 
 -- nothing stands in both of two pieces of such a list
 pub not_in_both : {X : Type 0} (xs ys : List X) → AreApart (xs ++ ys) → (x : X) → IsIn xs x → IsIn ys x → ⊥

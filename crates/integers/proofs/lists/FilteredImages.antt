@@ -1,9 +1,7 @@
 -- Images of the members that pass a test, one member more.
 use Rattle.std.proofs.Common.{◌≡◌, ℕ, ◌+◌, ◌<◌, ◌∷◌, [], ◌++◌, List, Bool, true, false, cond, length, take, map, get_or, sym, ap, ◌∙◌}
+use Rattle.std.proofs.{Math.Seq.take-suc, lemmas.List.map-append, lemmas.List.append-nil, lemmas.List.Elements.filter-append}
 use Rattle.std.specs.List.{filter}
-use Rattle.std.proofs.Math.Seq.{take-suc}
-use Rattle.std.proofs.lemmas.List.{map-append, append-nil}
-use Rattle.std.proofs.lemmas.List.Elements.{filter-append}
 use Rattle.integers.proofs.numbers.Naturals.{next_number}
 
 -- the member at place i, filtered and taken by f

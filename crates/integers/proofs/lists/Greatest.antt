@@ -1,7 +1,6 @@
 -- The greatest value of a function on a finite table.
 use Rattle.std.proofs.Common.{suc, arith, sym, ℕ, subst, ◌≡◌, ◌≤ℤ◌, ◌≤◌, ◌<◌, ◌-◌, zero, ℤ}
-use Rattle.std.proofs.lemmas.Int.{ints, by_lt_z}
-use Rattle.std.proofs.Math.Nat.{le_refl}
+use Rattle.std.proofs.{lemmas.Int.ints, lemmas.Int.by_lt_z, Math.Nat.le_refl}
 
 -- what holds up to n and at n + 1 holds up to n + 1
 pub at_or_below : (P : ℕ → Type 0) (v n : ℕ) → v ≤ suc n → (v ≤ n → P v) → P (suc n) → P v

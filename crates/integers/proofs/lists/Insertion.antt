@@ -1,12 +1,8 @@
 -- Whether a list of keys has a key, as a set asks before it takes one in: then where, and else it differs from each.
 use Rattle.std.proofs.Common.{◌≡◌, ◌≢◌, ◌⊎◌, inl, inr, ℕ, ◌<◌, ◌≤◌, List, length, get_or, map, Bool, true, false, not, sym, ◌∙◌, true≢false, arith}
-use Rattle.std.specs.Bool.{Decides}
-use Rattle.std.specs.List.{list_any, position_or_len}
-use Rattle.std.proofs.lemmas.Bool.{cases_lt}
-use Rattle.std.proofs.lemmas.List.{get_or-map}
-use Rattle.std.proofs.lemmas.List.Folds.{list_any_at, list_any_none}
-use Rattle.std.proofs.lemmas.List.Elements.{All-from_get_or}
 use Rattle.std.proofs.lemmas.List.Sums.{fails_before_first, passes_at_first, prefix_len-le-length}
+use Rattle.std.proofs.lemmas.{Bool.cases_lt, List.get_or-map, List.Folds.list_any_at, List.Folds.list_any_none, List.Elements.All-from_get_or}
+use Rattle.std.specs.{Bool.Decides, List.list_any, List.position_or_len}
 
 -- keys are alike in what is seen of them
 module _ {K L : Type 0} (seen : K → L) (same : K → K → Bool) (decides : (x y : K) → Decides (same x y) (seen x ≡ seen y)) where

@@ -1,12 +1,10 @@
 -- The order of lists of numbers is total: numbers are compared one by one, and a proper prefix comes before.
 use Rattle.std.proofs.Common.{◌≡◌, ◌⊎◌, inl, inr, ℤ, List, [], ◌∷◌, ◌++◌, length, refl, sym, ap, ◌∙◌, arith}
-use Rattle.std.specs.Ordering.{int_cmp, ordering_reverse, ordering_then}
-use Rattle.std.specs.declared.cmp.Ordering.{Ordering}
-use Rattle.std.specs.declared.cmp.Ordering.TheVariants.{Less, Equal, Greater}
-use Rattle.std.specs.Cmp.Lexicographic.{slice_cmp}
-use Rattle.std.specs.Cmp.{IsTotalOrder}
-use Rattle.std.specs.FinMap.{slice_cmp-IsAntisymmetric, int_cmp-IsAntisymmetric}
 use Rattle.std.proofs.lemmas.Cmp.{lists_total, int_cmp_total}
+use Rattle.std.specs.Ordering.{int_cmp, ordering_reverse, ordering_then}
+use Rattle.std.specs.declared.cmp.Ordering.TheVariants.{Less, Equal, Greater}
+use Rattle.std.specs.{declared.cmp.Ordering.Ordering, Cmp.Lexicographic.slice_cmp, Cmp.IsTotalOrder, FinMap.slice_cmp-IsAntisymmetric}
+use Rattle.std.specs.{FinMap.int_cmp-IsAntisymmetric}
 use Rattle.integers.specs.Vectors.{IsBelow, IsAtMost}
 
 -- of comparisons one after the other the last needs none after it

@@ -1,11 +1,9 @@
 -- Members of a list and lists without repetition, read place by place, as lemmas use them; contracts say `Contains` and
 -- `AllPairs` of std, and the bridges stand at the end.
 use Rattle.std.proofs.Common.{refl, List, ◌≡◌, ◌≢◌, ◌⊎◌, ◌+ℤ◌, ◌<◌, [], ◌∷◌, ◌∙◌, ℤ, arith, sym, ap, inr, subst, inl, suc, length, zero, ℕ, get_or}
-use Rattle.std.proofs.lemmas.Int.{ints}
-use Rattle.std.specs.List.{Contains, AllPairs}
-use Rattle.std.proofs.lemmas.List.{get_or_default}
-use Rattle.std.specs.List.Sorted.{IsPermutation}
 use Rattle.std.proofs.lemmas.List.Sorted.{IsPermutation-refl, IsPermutation-trans, IsPermutation-cons, IsPermutation-middle}
+use Rattle.std.proofs.lemmas.{Int.ints, List.get_or_default}
+use Rattle.std.specs.{List.Contains, List.AllPairs, List.Sorted.IsPermutation}
 use Rattle.integers.specs.Lists.{total}
 
 -- x stands in the list

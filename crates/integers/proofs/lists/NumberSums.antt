@@ -1,16 +1,11 @@
 -- Sums over the numbers from 1 to n: a map of these that is one to one keeps them.
 use Rattle.std.proofs.Common.{◌≡◌, inl, inr, ℕ, zero, suc, ◌≤◌, ℤ, pos, ◌+ℤ◌, ◌*ℤ◌, List, [], ◌∷◌, map, refl, sym, ap, subst, ◌∙◌, arith}
-use Rattle.std.proofs.lemmas.Int.{ints}
-use Rattle.std.proofs.lemmas.List.{length-map}
+use Rattle.std.proofs.{lemmas.Int.ints, lemmas.List.length-map, Math.Decide.ℕ_discrete}
 use Rattle.std.specs.List.Sorted.{IsPermutation}
-use Rattle.std.proofs.Math.Decide.{ℕ_discrete}
 use Prim.{Dec, yes, no}
 use Rattle.integers.specs.Lists.{total}
-use Rattle.integers.proofs.lists.Members.{IsIn, AreApart}
-use Rattle.integers.proofs.lists.Permutations.{permutation_of_members}
-use Rattle.integers.proofs.lists.Pieces.{in_map, map_apart_on}
-use Rattle.integers.proofs.lists.Sums.{total_permuted}
-use Rattle.integers.proofs.numbers.Ring.{sum_product, one_product}
+use Rattle.integers.proofs.{lists.Members.IsIn, lists.Members.AreApart, lists.Permutations.permutation_of_members, lists.Pieces.in_map}
+use Rattle.integers.proofs.{lists.Pieces.map_apart_on, lists.Sums.total_permuted, numbers.Ring.sum_product, numbers.Ring.one_product}
 
 -- the numbers from n down to 1
 abbrev pub all_to : ℕ → List ℕ

@@ -1,8 +1,7 @@
 -- Lists with the same members: a permutation, or the same list where both are sorted.
 use Rattle.std.proofs.Common.{◌≡◌, inl, inr, ◌↔◌, suc, ◌≤◌, List, [], ◌∷◌, length, refl, sym, subst, ◌∙◌, arith}
-use Rattle.std.specs.List.{AllPairs}
-use Rattle.std.specs.List.Sorted.{IsPermutation}
 use Rattle.std.proofs.lemmas.List.Sorted.{IsPermutation-refl, IsPermutation-trans, IsPermutation-cons, IsPermutation-sym}
+use Rattle.std.specs.{List.AllPairs, List.Sorted.IsPermutation}
 use Rattle.integers.proofs.lists.Members.{TakenOut, take_out, contains_from_in, IsIn, AreApart}
 use Rattle.integers.proofs.lists.Counting.{taken_length}
 

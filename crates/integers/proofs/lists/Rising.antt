@@ -1,17 +1,12 @@
 -- Sorted lists without repetition rise strictly.
 use Rattle.std.proofs.Common.{◌≡◌, ◌≢◌, ℤ, false, List, get_or, subst, arith}
-use Rattle.std.specs.List.{AllPairs}
-use Rattle.std.specs.List.Sorted.{IsSorted, IsPermutation}
-use Rattle.std.specs.Ordering.{int_cmp, is_lt, ordering_reverse}
-use Rattle.std.specs.Cmp.Lexicographic.{slice_cmp}
-use Rattle.std.specs.FinMap.{slice_cmp-IsAntisymmetric, int_cmp-IsAntisymmetric}
-use Rattle.std.specs.declared.cmp.Ordering.{Ordering}
-use Rattle.std.specs.declared.cmp.Ordering.TheVariants.{Less, Equal}
 use Rattle.std.proofs.lemmas.List.Sorted.{sorted_far, ranks_by}
+use Rattle.std.specs.Ordering.{int_cmp, is_lt, ordering_reverse}
+use Rattle.std.specs.{List.AllPairs, List.Sorted.IsSorted, List.Sorted.IsPermutation, Cmp.Lexicographic.slice_cmp, FinMap.slice_cmp-IsAntisymmetric}
+use Rattle.std.specs.{FinMap.int_cmp-IsAntisymmetric, declared.cmp.Ordering.Ordering, declared.cmp.Ordering.TheVariants.Less}
+use Rattle.std.specs.{declared.cmp.Ordering.TheVariants.Equal}
 use Rattle.integers.specs.Vectors.{IsBelow}
-use Rattle.integers.proofs.lists.Apart.{permuted_pairs}
-use Rattle.integers.proofs.lists.ListOrder.{lists_order, not_below_itself}
-use Rattle.integers.proofs.lists.Members.{AreApart, apart_from_pairs}
+use Rattle.integers.proofs.lists.{Apart.permuted_pairs, ListOrder.lists_order, ListOrder.not_below_itself, Members.AreApart, Members.apart_from_pairs}
 
 -- the lower of two orders that are not equal, where the other is not lower
 less_by : (o p : Ordering) → o ≡ ordering_reverse p → (o ≢ Equal) → is_lt p ≡ false → o ≡ Less

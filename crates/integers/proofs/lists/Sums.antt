@@ -1,14 +1,11 @@
 -- Sums of whole numbers over lists.
 use Rattle.std.proofs.Common.{ℕ, ◌+◌, List, sym, ℤ, ap, inr, refl, subst, inl, ◌≡◌, ◌+ℤ◌, ◌-ℤ◌, ◌*ℤ◌, [], ◌∷◌, ◌∙◌, arith, pos, ◌≤ℤ◌}
-use Rattle.std.proofs.lemmas.Int.{ints}
-use Rattle.std.specs.List.{sum_by}
-use Rattle.std.specs.List.Sorted.{IsPermutation}
-use Rattle.std.proofs.lemmas.List.Sums.{sum_by-cons}
-use Rattle.std.proofs.lemmas.List.Sorted.{sum_by-IsPermutation}
+use Rattle.std.proofs.lemmas.{Int.ints, List.Sums.sum_by-cons, List.Sorted.sum_by-IsPermutation}
+use Rattle.std.specs.{List.sum_by, List.Sorted.IsPermutation}
 use borrow.Author.Differences.{up, down}
 use Rattle.integers.proofs.lists.Members.{TakenOut, take_out, Carries, IsIn, AreApart}
-use Rattle.integers.specs.Lists.{total}
 use Rattle.integers.proofs.numbers.Ring.{ring, linear, product_zero, product_sum}
+use Rattle.integers.specs.Lists.{total}
 
 -- a sum taken over the images of the members
 pub same_total : {X Y : Type 0} (f : X → Y) (g : Y → ℤ) (xs : List X) (ys : List Y) → AreApart xs → AreApart ys → Carries f xs ys

@@ -1,10 +1,9 @@
 -- Division with a remainder that is not negative, and exact division.
 use Rattle.std.proofs.Common.{◌∙◌, negsuc, pos, arith, sym, ℤ, ap, ℕ, ◌≡◌, ◌+◌, ◌*◌, ◌-◌, ◌/◌, ◌%◌, ◌<◌, ◌≤◌, ◌+ℤ◌, ◌*ℤ◌}
-use Rattle.std.proofs.lemmas.Int.{ints}
+use Rattle.std.proofs.Math.Nat.{mul_comm, le_of_mul-le-mul_left, lt_of_mul-lt-mul_left}
+use Rattle.std.proofs.lemmas.{Int.ints, Nat.div-mul-add}
 use Rattle.std.specs.Prelude.{int_div, ◌≤ℤ◌, ◌<ℤ◌, unsigned_abs}
 use Rattle.std.specs.Int.{int_div_euclid, int_rem_euclid}
-use Rattle.std.proofs.Math.Nat.{mul_comm, le_of_mul-le-mul_left, lt_of_mul-lt-mul_left}
-use Rattle.std.proofs.lemmas.Nat.{div-mul-add}
 use borrow.Author.Differences.{product_is}
 
 -- z is r + m·k, with r below m

@@ -1,14 +1,10 @@
 -- The greatest common divisor of a number and the parts of vectors.
 use Rattle.std.proofs.Common.{suc, zero, arith, ℕ, ◌≡◌, ◌*◌, ◌≤◌, ◌<◌, ◌+ℤ◌, ◌*ℤ◌, [], ◌∷◌, ◌∙◌, refl, pos, ℤ, negsuc, neg_ℤ, ap, List, map}
-use Rattle.std.proofs.Math.Nat.{mul_assoc, eq_of_mul-eq-mul_left}
-use Rattle.std.proofs.lemmas.Int.{ints}
+use Rattle.std.proofs.{Math.Nat.mul_assoc, Math.Nat.eq_of_mul-eq-mul_left, lemmas.Int.ints}
 use Rattle.integers.specs.Divisors.{DividesInteger}
 use Rattle.integers.specs.Vectors.{Vector, times, vector, DividesVector}
-use Rattle.integers.proofs.lists.Tables.{table}
-use Rattle.integers.proofs.numbers.Ring.{ring}
-use Rattle.integers.proofs.numbers.Bezout.{bezout}
 use Rattle.integers.proofs.numbers.Gcd.{IsMultiple, natural_multiple, combination_of_multiples}
-use Rattle.integers.proofs.vectors.Laws.{vector_equal}
+use Rattle.integers.proofs.{lists.Tables.table, numbers.Ring.ring, numbers.Bezout.bezout, vectors.Laws.vector_equal}
 
 -- the second factor of a positive product is positive
 pub factor_positive : (g k : ℕ) → 1 ≤ g * k → 1 ≤ k

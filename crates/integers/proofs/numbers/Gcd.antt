@@ -1,9 +1,8 @@
 -- Divisibility: greatest common divisors, Euclid's lemma, and least common multiples.
 use Rattle.std.proofs.Common.{◌≡◌, ℕ, zero, suc, ◌*◌, ◌≤◌, ℤ, pos, ◌+ℤ◌, ◌*ℤ◌, List, [], ◌∷◌, refl, sym, ap, subst, ◌∙◌, arith, inl, inr}
-use Rattle.std.specs.Int.{◌∣◌, IsGcd}
-use Rattle.std.specs.List.{Contains}
 use Rattle.std.proofs.lemmas.Nat.Gcd.{mod-eq-zero_of_dvd, same_from_IsGcd, dvd_trans, dvd_antisymm, dvd-zero}
 use Rattle.std.proofs.Math.Nat.{eq-zero_of_zero-dvd, dvd-mul_right, one-dvd, mul_assoc, mul_comm, eq_of_mul-eq-mul_left}
+use Rattle.std.specs.{Int.◌∣◌, Int.IsGcd, List.Contains}
 use Rattle.integers.specs.Divisors.{IsGreatestDivisor, IsLeastMultiple}
 use Rattle.integers.proofs.numbers.Ring.{ring, linear, positive_not_zero}
 use Rattle.integers.proofs.lists.Members.{is_in, contains_from_in}

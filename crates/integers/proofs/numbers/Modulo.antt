@@ -1,11 +1,10 @@
 -- Numbers and vectors modulo a positive number.
 use Rattle.std.proofs.Common.{◌≡◌, ℕ, zero, suc, ℤ, pos, negsuc, neg_ℤ, ◌+ℤ◌, ◌*ℤ◌, ap, sym, ◌∙◌, arith}
-use Rattle.std.specs.Prelude.{◌≤ℤ◌, ◌<ℤ◌}
 use Rattle.std.proofs.lemmas.Int.{ints}
+use Rattle.std.specs.Prelude.{◌≤ℤ◌, ◌<ℤ◌}
 use borrow.Author.Differences.{product_is}
 use Rattle.integers.specs.Vectors.{Vector, vector, HasDimension, IsModulo}
-use Rattle.integers.proofs.numbers.Ring.{ring, linear}
-use Rattle.integers.proofs.vectors.Laws.{vector_equal}
+use Rattle.integers.proofs.{numbers.Ring.ring, numbers.Ring.linear, vectors.Laws.vector_equal}
 
 -- r is from 0 to below m, and z up to a multiple of m
 pub record IsRest (m z r : ℤ) : Type 0 where

@@ -2,9 +2,7 @@
 -- multiplies out and compares; a hypothesis h is multiplied out by `simp ring at h` in omega's list.
 use Rattle.std.specs.Prelude.{ℤ, ◌+ℤ◌, ◌*ℤ◌, pos}
 use Rattle.std.proofs.Common.{◌⊎◌, ◌≡◌, ◌+◌, ◌*◌, ◌∙◌, arith, ap, sym, pos, ℤ, ◌≢◌, ◌+ℤ◌, ◌-ℤ◌, ◌*ℤ◌, ℕ, ◌≤◌}
-use Rattle.std.proofs.Math.IntN.{*ℤ_comm, neg_ℤ}
-use Rattle.std.proofs.lemmas.Int.{ints}
-use Rattle.std.proofs.Math.Nat.{eq_of_mul-eq-mul_left}
+use Rattle.std.proofs.{Math.IntN.*ℤ_comm, Math.IntN.neg_ℤ, lemmas.Int.ints, Math.Nat.eq_of_mul-eq-mul_left}
 use borrow.Author.Differences.{down, up, product_is, same_in, sum_is_lem, neg_is, below_in, at_most_in, lt_out, le_out, same_out}
 
 -- the two parts of a product, as a difference of natural numbers

@@ -1,11 +1,9 @@
 -- The sum along three vectors, and along those of one base after another.
 use Rattle.std.proofs.Common.{ℤ, ◌≡◌, ◌+ℤ◌, ◌-ℤ◌, ◌*ℤ◌, ◌∙◌, pos, arith}
 use Rattle.std.proofs.lemmas.Int.{ints}
-use Rattle.integers.specs.Bases.{Base, base_sum}
 use Rattle.integers.specs.Vectors.{Vector, times, plus, zero_vector, minus, vector, up_vector}
-use Rattle.integers.specs.Coordinates.{IsCoordinate}
-use Rattle.integers.proofs.numbers.Ring.{ring}
-use Rattle.integers.proofs.vectors.Laws.{vector_equal}
+use Rattle.integers.specs.{Bases.Base, Bases.base_sum, Coordinates.IsCoordinate}
+use Rattle.integers.proofs.{numbers.Ring.ring, vectors.Laws.vector_equal}
 
 -- a coordinate of the sum of v_i times B_i
 pub base_is : (c : Vector → ℤ) → IsCoordinate c → (b : Base) (v : Vector) → c (base_sum b v) ≡ v.x *ℤ c b.first +ℤ (v.y *ℤ c b.second +ℤ v.z *ℤ c b.third)

@@ -1,7 +1,6 @@
 -- The three coordinates of a vector.
 use Rattle.std.proofs.Common.{arith, ℕ, ◌<◌, refl}
-use Rattle.integers.specs.Coordinates.{IsCoordinate}
-use Rattle.integers.specs.Staircase.{part}
+use Rattle.integers.specs.{Coordinates.IsCoordinate, Staircase.part}
 
 -- the first coordinate
 pub coordinate_x : IsCoordinate (λ v. v.x)

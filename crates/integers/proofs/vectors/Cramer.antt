@@ -1,9 +1,8 @@
 -- Coordinates in three vectors: Cramer's rule, and that the coordinates are the only ones.
 use Rattle.std.proofs.Common.{◌≡◌, ◌≢◌, ℤ, pos, ◌+ℤ◌, ◌-ℤ◌, ◌*ℤ◌, [], ◌∷◌, ap, ◌∙◌, arith}
 use Rattle.integers.specs.Vectors.{Vector, vector, zero_vector, plus, minus, times, triple_product, AreIndependent}
-use Rattle.integers.proofs.numbers.Ring.{ring, linear}
 use Rattle.integers.proofs.vectors.Laws.{vector_equal, minus_itself, equal_of_minus}
-use Rattle.integers.proofs.vectors.Independence.{first_is_zero, product_is_determinant}
+use Rattle.integers.proofs.{numbers.Ring.ring, numbers.Ring.linear, vectors.Independence.first_is_zero, vectors.Independence.product_is_determinant}
 
 -- k_1·a + k_2·b + k_3·c
 abbrev pub sum_along : Vector → Vector → Vector → Vector → Vector

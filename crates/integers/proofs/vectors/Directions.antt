@@ -1,11 +1,8 @@
 -- Vectors that start positive: which part it is, and that a vector other than 0 or its opposite does.
 use Rattle.std.proofs.Common.{◌≡◌, ◌≢◌, ℤ, pos, neg_ℤ, ◌⊎◌, sym, ap, arith}
-use Rattle.std.specs.Prelude.{◌<ℤ◌}
 use Rattle.std.proofs.lemmas.Int.{ints}
-use Rattle.std.specs.Ordering.{int_cmp, ordering_then}
-use Rattle.std.specs.Cmp.{int_cmp_is}
-use Rattle.std.specs.declared.cmp.Ordering.{Ordering}
-use Rattle.std.specs.declared.cmp.Ordering.TheVariants.{Less, Equal}
+use Rattle.std.specs.{Prelude.◌<ℤ◌, Ordering.int_cmp, Ordering.ordering_then, Cmp.int_cmp_is, declared.cmp.Ordering.Ordering}
+use Rattle.std.specs.{declared.cmp.Ordering.TheVariants.Less, declared.cmp.Ordering.TheVariants.Equal}
 use Rattle.integers.specs.Vectors.{Vector, zero_vector, opposite, StartsPositive}
 use Rattle.integers.proofs.vectors.Laws.{vector_equal}
 

@@ -3,9 +3,8 @@ use Rattle.std.proofs.Common.{◌≡◌, ℕ, zero, suc, ℤ, pos, negsuc, ◌+�
 use Rattle.std.proofs.lemmas.Int.{ints}
 use Rattle.integers.specs.Vectors.{Vector, plus, opposite, times, combination}
 use Rattle.integers.specs.Lattices.{IsVectorGroup}
-use Rattle.integers.proofs.lists.Members.{IsIn}
 use Rattle.integers.proofs.numbers.Ring.{ring, linear, negative_product}
-use Rattle.integers.proofs.vectors.Laws.{vector_equal, zero_times}
+use Rattle.integers.proofs.{lists.Members.IsIn, vectors.Laws.vector_equal, vectors.Laws.zero_times}
 
 -- the next multiple
 next_times : (n : ℕ) (v : Vector) → times (pos (suc n)) v ≡ plus v (times (pos n) v)

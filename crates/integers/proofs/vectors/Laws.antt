@@ -1,7 +1,6 @@
 -- The laws of vectors: sums, differences, multiples, products c·v, and dimension.
 use Rattle.std.proofs.Common.{◌≡◌, ◌≢◌, ◌≤◌, ℕ, ◌*◌, ℤ, pos, neg_ℤ, ◌+ℤ◌, ◌-ℤ◌, ◌*ℤ◌, sym, ap, ◌∙◌, arith}
-use Rattle.std.proofs.Math.IntN.{pos-*ℤ-pos}
-use Rattle.std.proofs.lemmas.Int.{ints}
+use Rattle.std.proofs.{Math.IntN.pos-*ℤ-pos, lemmas.Int.ints}
 use Rattle.integers.specs.Vectors.{Vector, zero_vector, plus, minus, opposite, times, dot, cross, triple_product, HasDimension}
 use Rattle.integers.proofs.numbers.Ring.{ring, linear, cancel_factor, other_factor_zero, positive_not_zero}
 

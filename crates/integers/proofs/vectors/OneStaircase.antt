@@ -1,8 +1,7 @@
 -- Sets with the same members have one staircase basis.
 use Rattle.std.proofs.Common.{◌≡◌, ℕ, ◌<◌, ℤ, pos, ◌≤ℤ◌, List, length, sym, ◌∙◌, arith}
+use Rattle.std.proofs.lemmas.{Int.ints, List.ext_get_or}
 use Rattle.std.specs.Prelude.{◌<ℤ◌, ◌↔◌, drop, slice_index_or}
-use Rattle.std.proofs.lemmas.Int.{ints}
-use Rattle.std.proofs.lemmas.List.{ext_get_or}
 use Rattle.integers.specs.Vectors.{Vector, zero_vector, parts}
 use Rattle.integers.specs.Staircase.{part, IsZeroBefore, MayLead, IsStair, IsStaircase}
 use Rattle.integers.proofs.lists.ListOrder.{at_most_both}

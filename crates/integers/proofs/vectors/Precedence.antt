@@ -1,11 +1,7 @@
 -- The order of vectors as lists of parts, part by part, and of lists by their first numbers.
 use Rattle.std.proofs.Common.{◌≡◌, ◌⊎◌, inl, inr, ℤ, ◌+ℤ◌, ◌-ℤ◌, List, [], ◌∷◌, sym, ap, ◌∙◌, arith}
-use Rattle.std.specs.Prelude.{◌<ℤ◌}
-use Rattle.std.specs.Cmp.{int_cmp_is}
-use Rattle.std.specs.Cmp.Lexicographic.{slice_cmp}
-use Rattle.std.specs.Ordering.{int_cmp, ordering_then}
-use Rattle.std.specs.declared.cmp.Ordering.{Ordering}
-use Rattle.std.specs.declared.cmp.Ordering.TheVariants.{Less, Equal}
+use Rattle.std.specs.{Prelude.◌<ℤ◌, Cmp.int_cmp_is, Cmp.Lexicographic.slice_cmp, Ordering.int_cmp, Ordering.ordering_then, declared.cmp.Ordering.Ordering}
+use Rattle.std.specs.{declared.cmp.Ordering.TheVariants.Less, declared.cmp.Ordering.TheVariants.Equal}
 use Rattle.integers.specs.Vectors.{Vector, plus, minus, parts, IsBelow}
 use Rattle.integers.proofs.numbers.Ring.{linear}
 

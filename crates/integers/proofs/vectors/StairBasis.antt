@@ -1,12 +1,11 @@
 -- The coordinates in a staircase basis are one; so it is a basis.
 use Rattle.std.proofs.Common.{◌≡◌, ◌⊎◌, inl, inr, ℕ, ◌<◌, ℤ, pos, ◌+ℤ◌, ◌-ℤ◌, ◌*ℤ◌, List, [], ◌∷◌, length, refl, sym, ap, subst, ◌∙◌, arith}
-use Rattle.std.specs.Prelude.{◌<ℤ◌}
 use Rattle.std.proofs.lemmas.Int.{ints}
+use Rattle.std.specs.Prelude.{◌<ℤ◌}
 use Rattle.integers.specs.Vectors.{Vector, zero_vector, plus, minus, times, parts, combination, HasDimension}
-use Rattle.integers.specs.Staircase.{IsStaircase}
+use Rattle.integers.specs.{Staircase.IsStaircase, Lattices.IsVectorGroup}
 use Rattle.integers.proofs.numbers.Ring.{ring, linear, other_factor_zero}
 use Rattle.integers.proofs.vectors.Laws.{vector_equal, zero_times, equal_of_minus, minus_dimension, minus_itself, times_zero, plus_zero}
-use Rattle.integers.specs.Lattices.{IsVectorGroup}
 use Rattle.integers.proofs.vectors.Groups.{times_in}
 use Rattle.integers.proofs.vectors.StairCoordinates.{row, row_sum, flat_coordinates, space_coordinates}
 

@@ -1,17 +1,13 @@
 -- Each member of a group with a staircase has coordinates in its rows.
 use Rattle.std.proofs.Common.{◌≡◌, ℕ, zero, suc, ◌≤◌, ◌<◌, ℤ, pos, ◌+ℤ◌, ◌-ℤ◌, ◌*ℤ◌, List, refl, sym, ap, subst, ◌∙◌, arith}
+use Rattle.std.proofs.{lemmas.Int.ints, Math.Decide.dec_lt}
 use Rattle.std.specs.Prelude.{◌<ℤ◌, slice_index_or}
-use Rattle.std.proofs.lemmas.Int.{ints}
-use Rattle.std.proofs.Math.Decide.{dec_lt}
 use Prim.{Dec, yes, no}
 use Rattle.integers.specs.Vectors.{Vector, vector, zero_vector, plus, minus, opposite, times, HasDimension}
 use Rattle.integers.specs.Staircase.{part, IsZeroBefore, IsStair, IsStaircase}
 use Rattle.integers.specs.Lattices.{IsVectorGroup}
-use Rattle.integers.proofs.vectors.Groups.{times_in}
-use Rattle.integers.proofs.numbers.Division.{divided}
-use Rattle.integers.proofs.numbers.Ring.{ring, linear}
 use Rattle.integers.proofs.vectors.Laws.{vector_equal, plus_zero, zero_times}
-use Rattle.integers.proofs.numbers.Order.{positive_natural}
+use Rattle.integers.proofs.{vectors.Groups.times_in, numbers.Division.divided, numbers.Ring.ring, numbers.Ring.linear, numbers.Order.positive_natural}
 
 -- the row at i
 abbrev pub row : List Vector → ℕ → Vector

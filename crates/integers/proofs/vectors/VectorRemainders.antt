@@ -1,12 +1,10 @@
 -- Vectors modulo a number: each has a remainder, and one alone, and vectors with one remainder are a multiple apart.
 use Rattle.std.proofs.Common.{◌≡◌, ℕ, zero, suc, ◌≤◌, ◌+◌, ◌*◌, ℤ, pos, negsuc, ◌+ℤ◌, ◌-ℤ◌, ◌*ℤ◌, neg_ℤ, sym, ap, ◌∙◌, arith}
-use Rattle.std.specs.Prelude.{◌<ℤ◌, ◌≤ℤ◌}
 use Rattle.std.proofs.lemmas.Int.{ints}
+use Rattle.std.specs.Prelude.{◌<ℤ◌, ◌≤ℤ◌}
 use Rattle.integers.specs.Vectors.{Vector, vector, plus, minus, opposite, times, IsModulo}
-use Rattle.integers.proofs.numbers.Division.{divided}
-use Rattle.integers.proofs.numbers.Modulo.{IsRest, modulo_is}
 use Rattle.integers.proofs.numbers.Ring.{ring, linear, product_zero, product_negative}
-use Rattle.integers.proofs.vectors.Laws.{vector_equal}
+use Rattle.integers.proofs.{numbers.Division.divided, numbers.Modulo.IsRest, numbers.Modulo.modulo_is, vectors.Laws.vector_equal}
 
 -- a multiple of m that lies between -m and m is 0
 small_multiple : (m : ℕ) (k e : ℤ) → pos m *ℤ k ≡ e → e <ℤ pos m → neg_ℤ (pos m) <ℤ e → e ≡ pos 0

@@ -1,19 +1,15 @@
 -- A periodic map as a function with a period, and as a table: the two say the same.
 use Rattle.std.proofs.Common.{◌≡◌, ℕ, ◌≤◌, ◌<◌, ℤ, pos, ◌+ℤ◌, ◌-ℤ◌, ◌*ℤ◌, ◌≤ℤ◌, ◌<ℤ◌, refl, sym, ap, subst, ◌∙◌, arith}
-use Rattle.std.proofs.lemmas.Int.{ints}
-use Rattle.std.proofs.Math.Decide.{ℕ_discrete}
+use Rattle.std.proofs.{lemmas.Int.ints, Math.Decide.ℕ_discrete}
 use Prim.{Dec, yes, no}
 use borrow.Author.Differences.{product_is}
 use Rattle.integers.specs.Vectors.{Vector, vector, zero_vector, plus, times, HasDimension}
-use Rattle.periodic_net.specs.Graph.{Graph, IsGraph, Vertex, vertex, moved, IsVertex}
 use Rattle.integers.specs.Bases.{Base, base_sum}
+use Rattle.periodic_net.specs.Graph.{Graph, IsGraph, Vertex, vertex, moved, IsVertex}
 use Rattle.periodic_net.specs.Maps.{IsPeriodic, PeriodicMap, IsInBox, IsMapTable, IsDrawnBy}
-use Rattle.integers.proofs.numbers.Ring.{ring, linear}
-use Rattle.integers.proofs.numbers.Division.{divided}
 use Rattle.integers.proofs.vectors.Laws.{vector_equal, plus_associative, times_plus, plus_dimension}
-use Rattle.periodic_net.proofs.nets.Arcs.{origin_vertex}
-use Rattle.integers.proofs.vectors.BaseSums.{base_sum_plus}
-use Rattle.periodic_net.proofs.isomorphisms.Periods.{base_dimension, moved_vertex}
+use Rattle.integers.proofs.{numbers.Ring.ring, numbers.Ring.linear, numbers.Division.divided, vectors.BaseSums.base_sum_plus}
+use Rattle.periodic_net.proofs.{nets.Walks.origin_vertex, isomorphisms.Periods.base_dimension, isomorphisms.Periods.moved_vertex}
 
 -- the difference of quotients, where the remainders are below m
 same_quotient : (m r s : ℕ) (d : ℤ) → r < m → s < m → pos r ≡ pos s +ℤ pos m *ℤ d → d ≡ pos 0

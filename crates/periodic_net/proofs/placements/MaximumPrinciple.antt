@@ -3,16 +3,13 @@
 use Rattle.std.proofs.Common.{List, pos, ℤ, ℕ, ◌≡◌, ◌⊎◌, ◌+ℤ◌, ◌-ℤ◌, ◌*ℤ◌, ◌≤ℤ◌, ◌≤◌, ◌<◌, ◌-◌, [], ◌∷◌, ◌∙◌, arith, ap, subst, sym, refl, suc, inl, inr}
 use Rattle.std.proofs.lemmas.Int.{ints}
 use Rattle.integers.specs.Vectors.{minus, zero_vector, plus, Vector, times, vector}
-use Rattle.periodic_net.specs.Graph.{Arc, Graph, IsQuotientVertex, arcs_from, IsArc, IsGraph, arc, IsVertex, Vertex, IsWalk, IsConnected, vertex, moved}
-use Rattle.integers.proofs.lists.Greatest.{greatest_at, Searchable, search_below, search_pair}
-use Rattle.integers.proofs.lists.Members.{IsIn}
 use Rattle.integers.specs.Lists.{total}
-use Rattle.integers.proofs.lists.Sums.{same_from_zero, each_zero, at_most_zero, total_same}
-use Rattle.integers.proofs.vectors.Laws.{plus_minus, vector_equal}
-use Rattle.integers.proofs.numbers.Division.{divided}
+use Rattle.periodic_net.specs.Graph.{Arc, Graph, IsQuotientVertex, arcs_from, IsArc, IsGraph, arc, IsVertex, Vertex, IsWalk, IsConnected, vertex, moved}
 use Rattle.periodic_net.specs.Harmonic.{IsNetHarmonic, Repeats}
-use Rattle.periodic_net.proofs.nets.ArcLists.{from_is_arc, arc_is_from}
-use Rattle.periodic_net.proofs.nets.Arcs.{arc_inside, IsInside, joined_inside, origin_vertex}
+use Rattle.integers.proofs.lists.Greatest.{greatest_at, Searchable, search_below, search_pair}
+use Rattle.integers.proofs.lists.Sums.{same_from_zero, each_zero, at_most_zero, total_same}
+use Rattle.integers.proofs.{lists.Members.IsIn, vectors.Laws.plus_minus, vectors.Laws.vector_equal, numbers.Division.divided}
+use Rattle.periodic_net.proofs.nets.Walks.{from_is_arc, arc_is_from, arc_inside, IsInside, joined_inside, origin_vertex}
 
 -- a function on the vertices of the quotient graph has a greatest value
 pub search_vertices : (G : Graph) → IsGraph G → Searchable ℕ (IsQuotientVertex G)

@@ -1,20 +1,16 @@
 -- A net with a barycentric placement has a normal one.
 use Rattle.std.proofs.Common.{length, pos, ℕ, ◌≡◌, ◌*◌, ◌-◌, ◌≤◌, ◌+ℤ◌, ◌-ℤ◌, ◌*ℤ◌, [], ◌∷◌, ◌∙◌, arith, ℤ, ap, List, inr, refl, inl, map, subst, sym, suc}
-use Rattle.std.proofs.lemmas.Int.{ints}
+use Rattle.std.proofs.{lemmas.Int.ints, Math.Nat.mul_assoc, lemmas.List.length-map}
 use Rattle.std.specs.Prelude.{slice_index_or}
-use Rattle.std.proofs.Math.Nat.{mul_assoc}
 use Rattle.integers.specs.Vectors.{times, plus, minus, vector_sum, Vector, zero_vector}
 use Rattle.periodic_net.specs.Graph.{Graph, IsQuotientVertex, Arc, IsGraph, arcs_from, IsVertex, Vertex, vertex}
 use Rattle.periodic_net.specs.Placement.{Placement, base, arc_vector, IsBarycentric, position, HasNoCollision, IsNormal, IsNormalPlacement}
 use Rattle.integers.proofs.numbers.Ring.{ring, other_factor_zero, positive_not_zero}
 use Rattle.integers.proofs.vectors.Laws.{minus_itself, minus_back, numbers_times, vector_equal, times_zero, times_plus, times_cancel}
 use Rattle.integers.proofs.lists.Tables.{at_scaled, table_length, at_table, table}
-use Rattle.std.proofs.lemmas.List.{length-map}
-use Rattle.integers.proofs.lists.Members.{IsIn}
-use Rattle.integers.proofs.numbers.Gcd.{quotient_of}
 use Rattle.integers.proofs.numbers.Divisors.{first_factor_positive, factor_positive, common, all_table, Common, only_one}
-use Rattle.periodic_net.proofs.nets.Arcs.{arc_inside}
-use Rattle.periodic_net.proofs.nets.ArcLists.{from_is_arc}
+use Rattle.integers.proofs.{lists.Members.IsIn, numbers.Gcd.quotient_of}
+use Rattle.periodic_net.proofs.nets.Walks.{arc_inside, from_is_arc}
 
 -- q is p, moved to 0 and reduced by g
 pub record IsReduced (G : Graph) (p q : Placement) (g : ℕ) : Type 0 where

@@ -1,10 +1,206 @@
 -- A connected net has one normal placement.
-use Rattle.std.proofs.Common.{◌≡◌, ℕ, ◌+◌, ◌-◌, get_or, sym, ap, ◌∙◌, arith}
-use Rattle.std.proofs.lemmas.List.{ext_get_or}
-use Rattle.integers.specs.Vectors.{zero_vector}
-use Rattle.periodic_net.specs.Graph.{Graph, IsGraph, IsConnected}
-use Rattle.periodic_net.specs.Placement.{Placement, base, IsNormalPlacement}
-use Rattle.periodic_net.proofs.placements.NormalPlacement.{AreSamePlacements, normal_unique}
+use Rattle.std.proofs.Common.{List, sym, ℤ, map, ◌≡◌, ◌+ℤ◌, ◌-ℤ◌, ◌*ℤ◌, [], ◌∷◌, ◌∙◌, pos, ap, ℕ, length, ◌≤◌, arith, ◌*◌, subst, refl, ◌+◌, ◌-◌, get_or}
+use Rattle.std.proofs.{lemmas.Int.ints, Math.Nat.dvd-mul_left, lemmas.List.ext_get_or}
+use Rattle.integers.specs.Vectors.{vector_sum, Vector, plus, HasDimension, times, minus, zero_vector}
+use Rattle.integers.specs.{Lists.total, Coordinates.IsCoordinate}
+use Rattle.periodic_net.specs.Placement.{Placement, arc_vector, IsBarycentric, base, IsTranslate, IsNormalPlacement, IsNormal}
+use Rattle.periodic_net.specs.Graph.{Arc, Graph, IsQuotientVertex, arcs_from, IsGraph, IsConnected}
+use Rattle.integers.proofs.vectors.Coordinates.{coordinate_y, coordinate_z, coordinate_x}
+use Rattle.integers.proofs.vectors.Laws.{vector_equal, times_cancel, times_zero, minus_zero, equal_of_minus}
+use Rattle.integers.proofs.numbers.Ring.{ring, linear, other_factor_zero, positive_not_zero}
+use Rattle.integers.proofs.numbers.Bezout.{cancel_common, coprime_combination, coprime_multiple, bezout, Bezout}
+use Rattle.integers.proofs.{lists.Sums.total_same, lists.Sums.total_zeros, numbers.Divisors.first_factor_positive}
+use Rattle.periodic_net.proofs.nets.Walks.{arc_inside, from_is_arc}
+use Rattle.periodic_net.proofs.placements.MaximumPrinciple.{gain, IsHarmonic, harmonic_constant}
+use Rattle.std.specs.Int.{◌∣◌}
+
+-- Two barycentric placements of a connected net are translates of each other, and a translate of one is one.
+
+-- a linear reading of the arcs' vectors, summed
+pub total_linear : (c : Vector → ℤ) → IsCoordinate c → (p : Placement) (as' : List Arc)
+    → total (λ a. c (arc_vector p a)) as' ≡ c (vector_sum (map (arc_vector p) as'))
+total_linear c l p [] = sym l.zero
+total_linear c l p (a ∷ as') = (λ i. c (arc_vector p a) +ℤ total_linear c l p as' i) ∙ sym (l.plus_is (arc_vector p a) (vector_sum (map (arc_vector p) as')))
+
+-- of a barycentric placement it is 0 at each vertex
+pub total_zero : (G : Graph) (p : Placement) → IsBarycentric G p → (c : Vector → ℤ) → IsCoordinate c → (u : ℕ) → IsQuotientVertex G u
+    → total (λ a. c (arc_vector p a)) (arcs_from G u) ≡ pos 0
+total_zero G p b c l u i = total_linear c l p (arcs_from G u) ∙ ap c (b.balanced u i) ∙ l.zero
+
+-- how far apart two placements have a vertex, in coordinate c
+abbrev pub apart : Placement → Placement → (Vector → ℤ) → ℕ → ℤ
+apart p q c u = pos p.denominator *ℤ c (base q u) -ℤ pos q.denominator *ℤ c (base p u)
+
+-- the difference along an arc, in numbers
+apart_step : (d e a b a' b' s : ℤ) → (d *ℤ b -ℤ e *ℤ a) -ℤ (d *ℤ b' -ℤ e *ℤ a') ≡ d *ℤ (b +ℤ e *ℤ s -ℤ b') -ℤ e *ℤ (a +ℤ d *ℤ s -ℤ a')
+apart_step d e a b a' b' s = simp ring (omega (arith, ints))
+
+-- a linear reading of the vector of an arc
+coordinate_of_arc : (c : Vector → ℤ) → IsCoordinate c → (p : Placement) (a : Arc)
+    → c (arc_vector p a) ≡ c (base p a.to) +ℤ pos p.denominator *ℤ c a.shift -ℤ c (base p a.from)
+coordinate_of_arc c i p a =
+    i.minus_is (plus (base p a.to) (times (pos p.denominator) a.shift)) (base p a.from)
+    ∙ ap (λ (k : ℤ). k -ℤ c (base p a.from)) (i.plus_is (base p a.to) (times (pos p.denominator) a.shift)
+    ∙ ap (λ (k : ℤ). c (base p a.to) +ℤ k) (i.times_is (pos p.denominator) a.shift))
+
+-- sums of such differences
+apart_sum : (d e x y x' y' : ℤ) → (d *ℤ x -ℤ e *ℤ y) +ℤ (d *ℤ x' -ℤ e *ℤ y') ≡ d *ℤ (x +ℤ x') -ℤ e *ℤ (y +ℤ y')
+apart_sum d e x y x' y' = simp ring (omega (arith, ints))
+
+-- what the distance of the two placements gains along these arcs
+gain_is : (c : Vector → ℤ) → IsCoordinate c → (p q : Placement) (as' : List Arc)
+    → gain (apart p q c) as' ≡ pos p.denominator *ℤ c (vector_sum (map (arc_vector q) as')) -ℤ pos q.denominator *ℤ c (vector_sum (map (arc_vector p) as'))
+gain_is c i p q [] = let z = i.zero in rw z (simp ring (omega (arith, ints)))
+gain_is c i p q (a ∷ as') =
+    let d = pos p.denominator in
+    let e = pos q.denominator in
+    let s = apart_step d e (c (base p a.to)) (c (base q a.to)) (c (base p a.from)) (c (base q a.from)) (c a.shift) in
+    let hq = coordinate_of_arc c i q a in
+    let hp = coordinate_of_arc c i p a in
+    let head : (apart p q c a.to -ℤ apart p q c a.from) ≡ d *ℤ c (arc_vector q a) -ℤ e *ℤ c (arc_vector p a) = s ∙ sym (ap2 (λ x y. d *ℤ x -ℤ e *ℤ y) hq hp) in
+    let tail = gain_is c i p q as' in
+    let pq = i.plus_is (arc_vector q a) (vector_sum (map (arc_vector q) as')) in
+    let pp = i.plus_is (arc_vector p a) (vector_sum (map (arc_vector p) as')) in
+    ap2 ◌+ℤ◌ head tail
+    ∙ apart_sum d e (c (arc_vector q a)) (c (arc_vector p a)) (c (vector_sum (map (arc_vector q) as'))) (c (vector_sum (map (arc_vector p) as')))
+    ∙ sym (ap2 (λ x y. d *ℤ x -ℤ e *ℤ y) pq pp)
+  where
+    ap2 : (f : ℤ → ℤ → ℤ) {x y z w : ℤ} → x ≡ y → z ≡ w → f x z ≡ f y w
+    ap2 f h k = λ i. f (h i) (k i)
+
+-- d·0 - e·0 = 0
+apart_zero : (d e : ℤ) → d *ℤ pos 0 -ℤ e *ℤ pos 0 ≡ pos 0
+apart_zero d e = omega (arith, ints)
+
+-- two barycentric placements have all vertices equally far apart
+same_apart : (G : Graph) → IsGraph G → IsConnected G → (p q : Placement) → IsBarycentric G p → IsBarycentric G q
+    → (c : Vector → ℤ) → IsCoordinate c → (u v : ℕ) → IsQuotientVertex G u → IsQuotientVertex G v → apart p q c u ≡ apart p q c v
+same_apart G g con p q bp bq c i u v iu iv = harmonic_constant G g con (apart p q c) harmonic u v iu iv
+  where
+    harmonic : IsHarmonic G (apart p q c)
+    harmonic w iw = grind (arith, gain_is, apart_zero)
+
+-- a graph has vertex 1
+pub one_vertex : (G : Graph) → IsGraph G → IsQuotientVertex G 1
+one_vertex G g = (omega arith, g.vertices)
+
+-- two barycentric placements of a connected net are translates
+pub placements_translate : (G : Graph) → IsGraph G → IsConnected G → (p q : Placement) → IsBarycentric G p → IsBarycentric G q → IsTranslate G p q
+placements_translate G g con p q bp bq = record {
+  by = minus (times (pos p.denominator) (base q 1)) (times (pos q.denominator) (base p 1));
+  each = λ u i. let o = one_vertex G g in
+      vector_equal
+      (same_apart G g con p q bp bq (λ v. v.x) coordinate_x u 1 i o)
+      (same_apart G g con p q bp bq (λ v. v.y) coordinate_y u 1 i o)
+      (same_apart G g con p q bp bq (λ v. v.z) coordinate_z u 1 i o);
+}
+
+-- what does not change along the arcs gains nothing
+no_gain : (G : Graph) → IsGraph G → (f : ℕ → ℤ) (b : ℤ) → ((u : ℕ) → IsQuotientVertex G u → f u ≡ b) → (u : ℕ) → gain f (arcs_from G u) ≡ pos 0
+no_gain G g f b h u =
+    total_same (λ a. f a.to -ℤ f a.from) (λ a. pos 0) (arcs_from G u)
+    (λ a k. let i = arc_inside G g a (from_is_arc G u a k).0 in (λ l. h a.to i.to l -ℤ h a.from i.from l) ∙ itself b)
+    ∙ total_zeros (arcs_from G u)
+  where
+    itself : (x : ℤ) → x -ℤ x ≡ pos 0
+    itself x = omega (arith, linear)
+
+-- d·x = 0 where d·x - e·0 = 0
+first_term : (d e x : ℤ) → d *ℤ x -ℤ e *ℤ pos 0 ≡ pos 0 → d *ℤ x ≡ pos 0
+first_term d e x h = omega (arith, ints, h)
+
+-- a translate of a barycentric placement is barycentric
+pub translate_barycentric : (G : Graph) → IsGraph G → (p q : Placement) → IsBarycentric G p → 1 ≤ q.denominator → length q.at ≡ G.vertices
+    → ((u : ℕ) → IsQuotientVertex G u → HasDimension G.dimension (base q u)) → IsTranslate G p q → IsBarycentric G q
+translate_barycentric G g p q b one count dimension t = record {
+  positive = one;
+  count = count;
+  dimension = dimension;
+  balanced = λ u i. vector_equal (zero (λ v. v.x) coordinate_x u i) (zero (λ v. v.y) coordinate_y u i) (zero (λ v. v.z) coordinate_z u i);
+}
+  where
+    apart_is : (c : Vector → ℤ) → IsCoordinate c → (u : ℕ) → IsQuotientVertex G u → apart p q c u ≡ c t.by
+    apart_is c l u i =
+        (λ k. sym (l.times_is (pos p.denominator) (base q u)) k -ℤ sym (l.times_is (pos q.denominator) (base p u)) k)
+        ∙ sym (l.minus_is (times (pos p.denominator) (base q u)) (times (pos q.denominator) (base p u))) ∙ ap c (t.each u i)
+
+    zero : (c : Vector → ℤ) → IsCoordinate c → (u : ℕ) → IsQuotientVertex G u → c (vector_sum (map (arc_vector q) (arcs_from G u))) ≡ pos 0
+    zero c l u i =
+        let d = pos p.denominator in
+        let e = pos q.denominator in
+        let s = c (vector_sum (map (arc_vector q) (arcs_from G u))) in
+        let none : c (vector_sum (map (arc_vector p) (arcs_from G u))) ≡ pos 0 = ap c (b.balanced u i) ∙ l.zero in
+        other_factor_zero d s
+        (first_term d e s ((λ k. d *ℤ s -ℤ e *ℤ sym none k) ∙ sym (gain_is c l p q (arcs_from G u)) ∙ no_gain G g (apart p q c) (c t.by) (apart_is c l) u))
+        (positive_not_zero p.denominator b.positive)
+
+-- A connected net has one normal placement at most.
+
+-- the places of the vertices are the same, in units of 1/(the product of the denominators)
+pub record AreScaled (G : Graph) (p q : Placement) : Type 0 where
+  pub each : (u : ℕ) → IsQuotientVertex G u → times (pos p.denominator) (base q u) ≡ times (pos q.denominator) (base p u)
+
+-- two normal placements of a connected net have the same positions
+pub normal_scaled : (G : Graph) → IsGraph G → IsConnected G → (p q : Placement) → IsNormalPlacement G p → IsNormalPlacement G q → AreScaled G p q
+normal_scaled G g con p q n k = record {
+  each = λ u i.
+      let t = placements_translate G g con p q n.barycentric k.barycentric in
+      let d = pos p.denominator in
+      let e = pos q.denominator in
+      let at_one : t.by ≡ zero_vector =
+      sym (t.each 1 (omega arith, g.vertices)) ∙ (λ j. minus (times d (k.normal.origin j)) (times e (n.normal.origin j)))
+      ∙ (λ j. minus (times_zero d j) (times_zero e j)) ∙ minus_zero zero_vector in
+      equal_of_minus (times d (base q u)) (times e (base p u)) (t.each u i ∙ at_one);
+}
+
+-- and the other way
+scaled_back : (G : Graph) (p q : Placement) → AreScaled G p q → AreScaled G q p
+scaled_back G p q s = record { each = λ u i. sym (s.each u i) }
+
+-- where the denominators are g·k and g·l, k divides all of p, and so is 1
+first_is_one : (G : Graph) (p q : Placement) → AreScaled G p q → IsNormal G p → (g k l : ℕ) (s t : ℤ) → 1 ≤ p.denominator
+    → p.denominator ≡ g * k → q.denominator ≡ g * l → pos g ≡ s *ℤ pos p.denominator +ℤ t *ℤ pos q.denominator → k ≡ 1
+first_is_one G p q sc n g k l s t one a b c = n.reduced k (subst (λ (x : ℕ). k ∣ x) (sym a) (dvd-mul_left k g)) (λ u i.
+    let d = ap pos a in
+    let e = ap pos b in
+    let g0 = positive_not_zero g (first_factor_positive g k (subst (λ (m : ℕ). 1 ≤ m) a one)) in
+    let co = coprime_combination (pos g) (pos k) (pos l) s t g0 (c ∙ (λ j. s *ℤ d j +ℤ t *ℤ e j)) in
+    let each = sc.each u i in
+    let at = λ (r : Vector → ℤ) (h : (m : ℤ) (v : Vector) → r (times m v) ≡ m *ℤ r v).
+    coprime_multiple (pos k) (pos l) s t (r (base p u)) (r (base q u)) co
+    (cancel_common (pos g) (pos k) (pos l) (r (base p u)) (r (base q u)) g0
+    ((λ j. sym d j *ℤ r (base q u)) ∙ sym (h (pos p.denominator) (base q u)) ∙ ap r each ∙ h (pos q.denominator) (base p u) ∙ (λ j. e j *ℤ r (base p u)))) in (
+      plus (times s (base p u)) (times t (base q u)),
+      vector_equal (at (λ v. v.x) (λ m v. refl)) (at (λ v. v.y) (λ m v. refl)) (at (λ v. v.z) (λ m v. refl)),
+    ))
+
+-- two normal placements have one denominator, and each vertex at one base
+pub record AreSamePlacements (G : Graph) (p q : Placement) : Type 0 where
+  pub denominator : p.denominator ≡ q.denominator
+  pub each : (u : ℕ) → IsQuotientVertex G u → base p u ≡ base q u
+
+-- so they are equal: one denominator, and each vertex at one base
+pub normal_unique : (G : Graph) → IsGraph G → IsConnected G → (p q : Placement) → IsNormalPlacement G p → IsNormalPlacement G q → AreSamePlacements G p q
+normal_unique G g con p q n m = by (bezout p.denominator q.denominator)
+  where
+    sc : AreScaled G p q
+    sc = normal_scaled G g con p q n m
+
+    by : Bezout p.denominator q.denominator → AreSamePlacements G p q
+    by z =
+        let k1 = first_is_one G p q sc n.normal z.g z.k z.l z.s z.t n.barycentric.positive z.a_is z.b_is z.g_is in
+        let l1 = first_is_one G q p (scaled_back G p q sc) m.normal z.g z.l z.k z.t z.s m.barycentric.positive z.b_is z.a_is
+        (z.g_is ∙ swap (z.s *ℤ pos p.denominator) (z.t *ℤ pos q.denominator)) in
+        let same : p.denominator ≡ q.denominator = z.a_is ∙ ap (λ (x : ℕ). z.g * x) (k1 ∙ sym l1) ∙ sym z.b_is in
+        record {
+          denominator = same;
+          each = λ u i.
+              sym (times_cancel (pos p.denominator) (base q u) (base p u) (positive_not_zero p.denominator n.barycentric.positive)
+              (sc.each u i ∙ ap (λ (x : ℕ). times (pos x) (base p u)) (sym same)));
+        }
+      where
+        swap : (x y : ℤ) → x +ℤ y ≡ y +ℤ x
+        swap x y = omega (arith, ints)
 
 -- two normal placements of a connected net are one
 pub one_placement : (G : Graph) → IsGraph G → IsConnected G → (p q : Placement) → IsNormalPlacement G p → IsNormalPlacement G q → p ≡ q

@@ -1,6 +1,5 @@
 use Rattle.std.proofs.Common.{◌≡◌, ◌++◌, length}
-use Rattle.archive_text.specs.Entries.{entry_views}
-use Rattle.archive_text.specs.Groups.{numbers_at}
+use Rattle.archive_text.specs.{Entries.entry_views, Groups.numbers_at}
 use Rattle.archive_text.proofs.groups_of.numbers_at.Given as goal
 
 abbrev pub invariant-loop-left : goal.invariant-loop-left

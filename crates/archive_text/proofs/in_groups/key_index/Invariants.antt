@@ -1,6 +1,5 @@
 use Rattle.std.proofs.Common.{◌≡◌, map, take}
-use Rattle.archive_text.specs.Entries.{entry_view}
-use Rattle.archive_text.specs.Fingerprints.{key_print}
+use Rattle.archive_text.specs.{Entries.entry_view, Fingerprints.key_print}
 use Rattle.archive_text.proofs.in_groups.key_index.Given as goal
 
 abbrev pub invariant-loop-entry : goal.invariant-loop-entry

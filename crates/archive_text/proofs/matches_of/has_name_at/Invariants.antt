@@ -1,8 +1,6 @@
 use Rattle.std.proofs.Common.{◌≡◌, length}
-use Rattle.std.specs.List.{list_any}
-use Rattle.std.specs.Str.{bytes_eq}
-use Rattle.archive_text.specs.Entries.{entry_views}
-use Rattle.archive_text.specs.Lookups.{entries_at, names_of}
+use Rattle.std.specs.{List.list_any, Str.bytes_eq}
+use Rattle.archive_text.specs.{Entries.entry_views, Lookups.entries_at, Lookups.names_of}
 use Rattle.archive_text.proofs.matches_of.has_name_at.Given as goal
 
 abbrev pub invariant-loop-left : goal.invariant-loop-left

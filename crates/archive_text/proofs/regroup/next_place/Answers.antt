@@ -1,17 +1,12 @@
 use Rattle.std.proofs.Common.{◌≡◌, ◌∙◌, ℤ, List, Option, ℕ, Some, sym, ap, map, unwrap_or}
 use Rattle.std.specs.List.{position}
-use Rattle.archive_text.specs.Entries.{EntryView}
-use Rattle.archive_text.specs.Lookups.{same_key}
-use Rattle.archive_text.specs.Regrouped.{place_after, last_of}
-use Rattle.archive_text.proofs.FirstPlaces.{places_agree}
-use Rattle.archive_text.proofs.NextPlace.{last_image}
+use Rattle.archive_text.specs.{Entries.EntryView, Lookups.same_key, Regrouped.place_after, Regrouped.last_of}
+use Rattle.archive_text.proofs.NextPlace.{places_agree, last_image}
 use Rattle.archive_text.proofs.regroup.next_place.Goals as goal
 
 pub returns-in-len1-up-clause-next : goal.returns-in-len1-up-clause-next
 returns-in-len1-up-clause-next g c =
-    let f = g.T.Keyed.entry in
-    let grouped = c.args.grouped.now in
-    let left = c.args.left.now in
+    let f = g.T.Keyed.entry in let grouped = c.args.grouped.now in let left = c.args.left.now in
     let last = c.last-item.result in
     let last_is : last_of (map f grouped) ≡ Some (f last) = last_image f grouped last c.in-len1-up.len_at_least c.last-item.is in
     c.unwrap_or.ensures

@@ -1,21 +1,16 @@
 use Rattle.std.proofs.Common.{◌≡◌, ◌∙◌, ◌<◌, ◌++◌, ◌∷◌, [], List, sym, ap, length, get_or, map, arith}
 use Rattle.std.proofs.lemmas.List.{map-append, length-map, length-append}
-use Rattle.std.proofs.Math.ListN.{get_or-map}
-use Rattle.std.proofs.lemmas.List.Edits.{length-remove}
-use Rattle.archive_text.proofs.Images.{map-remove}
+use Rattle.std.proofs.{Math.ListN.get_or-map, lemmas.List.Edits.length-remove}
+use Rattle.archive_text.proofs.NextPlace.{map-remove, next_on}
 use Rattle.archive_text.specs.Entries.{EntryView}
 use Rattle.archive_text.specs.Regrouped.{last_of, going_on, next_place}
-use Rattle.archive_text.proofs.NextPlace.{next_on}
 use Rattle.archive_text.proofs.regroup.regroup.Goals as goal
 
 pub loop-grouped-preserved : goal.loop-grouped-preserved
 loop-grouped-preserved g c =
-    let f = g.T.Keyed.entry in
-    let i = c.loop-grouped.invariant in
-    let grouped = c.loop-grouped.grouped.items in
-    let left = c.loop-grouped.items.items in
-    let n = c.next_place-place.result in
-    let x = c.remove-item.result in
+    let f = g.T.Keyed.entry in let i = c.loop-grouped.invariant in
+    let grouped = c.loop-grouped.grouped.items in let left = c.loop-grouped.items.items in
+    let n = c.next_place-place.result in let x = c.remove-item.result in
     let place : n ≡ next_place (map f grouped) (map f left) =
     c.next_place-place.ensures.next
     ∙ ap (λ ls. next_place (map f c.deref.result.now) (map f ls)) c.deref-in-loop-grouped.ensures.value

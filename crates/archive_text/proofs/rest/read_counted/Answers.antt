@@ -1,11 +1,8 @@
 use Rattle.std.proofs.Common.{[], ◌∷◌, ◌++◌}
-use Rattle.line_text.specs.Faults.{IfBadLine}
-use Rattle.line_text.specs.Lines.{IsAt}
-use Rattle.archive_text.specs.declared.version.Version.TheVariants.{Two}
-use Rattle.archive_text.specs.Rows.{row_lines, count_row}
-use Rattle.archive_text.specs.Forms.{IsCount}
+use Rattle.line_text.specs.{Faults.IfBadLine, Lines.IsAt}
 use Rattle.archive_text.specs.Parts.{Keyed, end_part, part_rows}
 use Rattle.archive_text.specs.Reading.{NoCount, HasShells, HasBadShells, HasWhole, HasBadLine}
+use Rattle.archive_text.specs.{declared.version.Version.TheVariants.Two, Rows.row_lines, Rows.count_row, Forms.IsCount}
 use Rattle.line_text.proofs.CallerLemmas.{at_none, at_some, bad_line_from, result_from}
 use Rattle.archive_text.proofs.BadLines.{bad_count, bad_shells, whole_shells, counted_heads}
 use Rattle.archive_text.proofs.rest.read_counted.Goals as goal

@@ -3,12 +3,10 @@ use Rattle.std.proofs.Common.{◌≡◌, [], ◌∷◌, ◌++◌, length, map, s
 use Rattle.std.proofs.lemmas.List.{length-append, length-map}
 use Rattle.line_text.specs.Lines.{IsAt}
 use Rattle.cgd_read.specs.Spelling.{edge_of}
-use Rattle.archive_text.specs.Rows.{name_row, key_row}
-use Rattle.graph_rows.specs.Rows.{size_row, edge_lines}
-use Rattle.archive_text.specs.Forms.{IsKeyList}
-use Rattle.graph_rows.specs.Forms.{IsSize}
 use Rattle.archive_text.specs.Reading.{NoKey, HasBadLine, HasKeyed}
+use Rattle.archive_text.specs.{Rows.name_row, Rows.key_row, Forms.IsKeyList}
 use Rattle.graph_rows.specs.Reading.{HasBadEdge, HasEdges, NoSize}
+use Rattle.graph_rows.specs.{Rows.size_row, Rows.edge_lines, Forms.IsSize}
 use Rattle.line_text.proofs.CallerLemmas.{at_none, at_some, bad_line_from, handed_on}
 use Rattle.archive_text.proofs.RowSums.{heads, keyed_same, lines_count}
 use Rattle.archive_text.proofs.BadLines.{bad_size, bad_edge, bad_key, is_keyed}
@@ -20,8 +18,7 @@ returns-in_default c = λ v text rows name is at. bad_size v text rows name c.ar
 
 pub returns-in_err-edges : goal.returns-in_err-edges
 returns-in_err-edges c = λ v text rows name is at.
-    let s = c.in-Some.size in
-    let fault = c.in_err-edges.field-0.0 in
+    let s = c.in-Some.size in let fault = c.in_err-edges.field-0.0 in
     handed_on (HasKeyed text rows name c.read_edges.new.lines) (HasBadLine v text rows name) fault c.from_residual-in_err-edges.result
     c.from_residual-in_err-edges.ensures.1
     (bad_line_from fault (HasBadEdge text (heads rows name s) s) (HasBadLine v text rows name)

@@ -1,7 +1,6 @@
 use Rattle.std.proofs.Common.{MatchResult, sym, subst}
 use Rattle.line_text.specs.Faults.{IfBadLine}
-use Rattle.archive_text.specs.Parts.{end_part}
-use Rattle.archive_text.specs.Reading.{HasWhole, HasBadLine}
+use Rattle.archive_text.specs.{Parts.end_part, Reading.HasWhole, Reading.HasBadLine}
 use Rattle.archive_text.proofs.rest.read_shells.Goals as goal
 
 pub returns-in-Two-clause-rest : goal.returns-in-Two-clause-rest

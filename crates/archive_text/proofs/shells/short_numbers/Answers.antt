@@ -1,6 +1,5 @@
 use Rattle.std.proofs.Common.{All, refl, sym, subst}
-use Rattle.std.proofs.lemmas.Option.{none-some}
-use Rattle.std.proofs.lemmas.List.Elements.{All-push}
+use Rattle.std.proofs.lemmas.{Option.none-some, List.Elements.All-push}
 use Rattle.archive_text.specs.Forms.{IsShort}
 use Rattle.archive_text.proofs.ShortLists.{one_more_number, first_left}
 use Rattle.archive_text.proofs.shells.short_numbers.Goals as goal

@@ -1,11 +1,8 @@
 use Rattle.std.proofs.Common.{◌≡◌, Ok, ap, ℕ, pos, [], ◌∷◌, ◌++◌, sym, ◌∙◌, subst}
+use Rattle.std.proofs.lemmas.{Option.none-some, Bool.true≢false}
 use Rattle.std.specs.Prelude.{codes}
-use Rattle.std.proofs.lemmas.Option.{none-some}
-use Rattle.std.proofs.lemmas.Bool.{true≢false}
-use Rattle.line_text.specs.Lines.{IsAt}
-use Rattle.line_text.specs.Numbers.{row_text}
-use Rattle.archive_text.specs.Rows.{count_row}
-use Rattle.archive_text.specs.Reading.{NoCount}
+use Rattle.line_text.specs.{Lines.IsAt, Numbers.row_text}
+use Rattle.archive_text.specs.{Rows.count_row, Reading.NoCount}
 use Rattle.archive_text.proofs.RowForms.{count_few, count_wide}
 use Rattle.line_text.proofs.CallerLemmas.{none_from, some_from}
 use Rattle.archive_text.proofs.steps.next_count.Goals as goal

@@ -1,11 +1,10 @@
 use Rattle.std.proofs.Common.{Ok, [], ◌∷◌, ◌++◌, length, sym, ap, ◌∙◌, subst, arith}
 use Rattle.std.proofs.lemmas.Bool.{eqb-true, true≢false}
 use Rattle.std.specs.Prelude.{codes}
-use Rattle.line_text.specs.Lines.{IsAt}
-use Rattle.line_text.specs.Numbers.{row_text}
+use Rattle.line_text.specs.{Lines.IsAt, Numbers.row_text}
 use Rattle.archive_text.specs.Rows.{key_row}
-use Rattle.archive_text.proofs.steps.next_key.Goals as goal
 use Rattle.archive_text.proofs.steps.next_key.Goals.{else-branch-via-then-branch+else-not-is_empty, else-branch-via-else-branch}
+use Rattle.archive_text.proofs.steps.next_key.Goals as goal
 
 pub returns-in_ok-key_from-clause-place : goal.returns-in_ok-key_from-clause-place
 unfolding key_row

@@ -1,15 +1,10 @@
 use Rattle.std.proofs.Common.{◌≡◌, Ok, Vec, Global, Option, ap, ℕ, List, [], ◌∷◌, ◌++◌, IfSome, IfNone, sym, ◌∙◌, subst}
+use Rattle.std.proofs.lemmas.{Result.IfOk-weaker, Bool.true≢false}
 use Rattle.std.specs.Prelude.{codes}
-use Rattle.std.proofs.lemmas.Result.{IfOk-weaker}
-use Rattle.std.proofs.lemmas.Bool.{true≢false}
-use Rattle.line_text.specs.Lines.{IsAt}
-use Rattle.line_text.specs.Numbers.{row_text}
-use Rattle.archive_text.specs.Rows.{shells_row, shells_numbers}
-use Rattle.archive_text.specs.Forms.{AreSizes}
-use Rattle.archive_text.specs.Reading.{NoShells}
-use Rattle.archive_text.proofs.RowForms.{shells_few, shells_wide}
+use Rattle.line_text.specs.{Lines.IsAt, Numbers.row_text}
+use Rattle.archive_text.specs.{Rows.shells_row, Rows.shells_numbers, Forms.AreSizes, Reading.NoShells}
+use Rattle.archive_text.proofs.{RowForms.shells_few, RowForms.shells_wide, ShortLists.no_shells}
 use Rattle.line_text.proofs.CallerLemmas.{some_from}
-use Rattle.archive_text.proofs.ShortLists.{no_shells}
 use Rattle.archive_text.proofs.steps.next_shells.Goals as goal
 
 pub returns-then-branch-clause-place : goal.returns-then-branch-clause-place

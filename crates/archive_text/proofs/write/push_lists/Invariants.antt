@@ -1,7 +1,6 @@
 use Rattle.std.proofs.Common.{◌≡◌, ◌+◌, ◌++◌, drop}
 use Rattle.line_text.specs.Lines.{rows_text}
-use Rattle.archive_text.specs.Rows.{row_lines}
-use Rattle.archive_text.specs.Parts.{shells_rows}
+use Rattle.archive_text.specs.{Rows.row_lines, Parts.shells_rows}
 use Rattle.archive_text.proofs.write.push_lists.Given as goal
 
 abbrev pub invariant-loop-done : goal.invariant-loop-done

@@ -1,10 +1,8 @@
 use Rattle.std.proofs.Common.{◌≡◌, ◌∙◌, ◌++◌, ◌∷◌, [], List, length, sym, ap, subst, arith}
 use Rattle.std.proofs.lemmas.List.{append_assoc, length-append}
 use Rattle.std.specs.Vec.Iter.{into_iter_items}
-use Rattle.archive_text.specs.Entries.{entry_views}
-use Rattle.archive_text.specs.declared.entry.Entry.{Entry}
-use Rattle.archive_union.specs.Faults.{IsUniteFault}
-use Rattle.archive_union.specs.declared.uniting.UniteFault.{UniteFault}
+use Rattle.archive_text.specs.{Entries.entry_views, declared.entry.Entry.Entry}
+use Rattle.archive_union.specs.{Faults.IsUniteFault, declared.uniting.UniteFault.UniteFault}
 use Rattle.archive_union.proofs.Steps.{fault_is, item_on}
 use Rattle.archive_union.proofs.uniting.add_items.Goals as goal
 
@@ -20,8 +18,7 @@ returns-in-Err-clause-fault c =
 
 pub loop-item-preserved : goal.loop-item-preserved
 loop-item-preserved c =
-    let at = c.loop-item in
-    let x = c.in-Some.item in
+    let at = c.loop-item in let x = c.in-Some.item in
     let later = into_iter_items c.next.new.self in
     let steps = c.in-Some.ensures.steps in
     record {

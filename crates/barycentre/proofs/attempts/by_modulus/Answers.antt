@@ -1,6 +1,5 @@
 use Rattle.std.proofs.Common.{lit<, ℕ, arith, ◌*◌, ◌<◌, ◌≤◌, ◌^◌, ⊎_elim}
-use Rattle.std.proofs.Math.Nat.{mul-le-mul}
-use Rattle.std.proofs.lemmas.Bool.{cases_lt}
+use Rattle.std.proofs.{Math.Nat.mul-le-mul, lemmas.Bool.cases_lt}
 use Rattle.barycentre.proofs.attempts.by_modulus.Goals as goal
 
 -- the square of a number up to 2^57 is at most 2^114
@@ -10,8 +9,7 @@ large_modulus m h = ⊎_elim (λ (l : 2 ^ 57 < m). l) (λ (l : m ≤ 2 ^ 57). ab
 
 pub by_two_steps-requires : goal.by_two_steps-requires
 by_two_steps-requires g c =
-    let e = c.in-Ok.ensures in
-    let r = c.requires in
+    let e = c.in-Ok.ensures in let r = c.requires in
     rw c.deref-2.ensures.value (lit< tt, (lit< tt, (lit< tt, (r.least, (r.most, (r.large, (r.connected, (e.count, (e.solved, (e.only, (e.flat, e.fit)))))))))))
 
 pub by_one_step-requires : goal.by_one_step-requires

@@ -1,14 +1,10 @@
-use Rattle.std.proofs.Common.{lit<}
-use Rattle.std.proofs.lemmas.Result.{IfOk-weaker, IfErr-weaker}
+use Rattle.std.proofs.{Common.lit<, lemmas.Result.IfOk-weaker, lemmas.Result.IfErr-weaker}
 use Rattle.fraction.specs.Values.{fraction_value}
 use Rattle.elimination.specs.Rows.{value_in}
 use Rattle.periodic_net.specs.Placement.{IsNormalPlacement}
 use Rattle.quotient_graph.specs.PlacedNets.{placement_of}
-use Rattle.barycentre.specs.PlaceFaults.{IsPlaceFault, IsUnitsFault}
-use Rattle.barycentre.specs.Units.{AreLeastUnits}
-use Rattle.barycentre.proofs.Solved.{are_positions}
-use Rattle.barycentre.proofs.Together.{normal_units}
-use Rattle.barycentre.proofs.Told.{told_of_net}
+use Rattle.barycentre.specs.{PlaceFaults.IsPlaceFault, PlaceFaults.IsUnitsFault, Units.AreLeastUnits}
+use Rattle.barycentre.proofs.{Solved.are_positions, Together.normal_units, Together.told_of_net}
 use Rattle.barycentre.proofs.placing.by_fractions.Goals as goal
 
 pub units_in_limits-requires : goal.units_in_limits-requires
@@ -19,9 +15,7 @@ units_in_limits-requires g c =
 
 pub returns-in-Ok-clause-normal : goal.returns-in-Ok-clause-normal
 returns-in-Ok-clause-normal g c =
-    let G = c.args.g.now in
-    let e = c.in-Ok.ensures in
-    let k = c.recall.ensures in
+    let G = c.args.g.now in let e = c.in-Ok.ensures in let k = c.recall.ensures in
     let rows = c.in-Ok.rows.items in
     let p = value_in fraction_value rows in
     IfOk-weaker c.units_in_limits.result (λ u. AreLeastUnits G p u.d0 u.at.items) (λ u. IsNormalPlacement G (placement_of u.d0 u.at.items))
@@ -30,9 +24,7 @@ returns-in-Ok-clause-normal g c =
 
 pub returns-in-Ok-clause-fault : goal.returns-in-Ok-clause-fault
 returns-in-Ok-clause-fault g c =
-    let G = c.args.g.now in
-    let e = c.in-Ok.ensures in
-    let rows = c.in-Ok.rows.items in
+    let G = c.args.g.now in let e = c.in-Ok.ensures in let rows = c.in-Ok.rows.items in
     let p = value_in fraction_value rows in
     IfErr-weaker c.units_in_limits.result (IsUnitsFault G p) (IsPlaceFault G)
     (told_of_net G p e.fit (are_positions G rows c.recall.ensures.parameter e.solved e.flat)) (rw c.deref.ensures.value at c.units_in_limits.ensures.fault)

@@ -1,5 +1,5 @@
 use Rattle.std.proofs.Common.{refl}
-use Rattle.barycentre.proofs.Connected.{connected_placement}
+use Rattle.barycentre.proofs.Existing.{connected_placement}
 use Rattle.barycentre.proofs.placing.wide_fault.Goals as goal
 
 pub returns-in-None : goal.returns-in-None

@@ -2,8 +2,7 @@
 use Rattle.std.proofs.Common.{◌≡◌, ℕ, ◌+◌, ◌-◌, ◌<◌, arith, map, refl, below_more}
 use Rattle.std.proofs.lemmas.Int.{to_z-of_z}
 use Rattle.integers.specs.Vectors.{zero_vector, vector_sum}
-use Rattle.periodic_net.specs.Graph.{arcs_from}
-use Rattle.periodic_net.specs.Placement.{arc_vector}
+use Rattle.periodic_net.specs.{Graph.arcs_from, Placement.arc_vector}
 use Rattle.quotient_graph.specs.PlacedNets.{placement_of}
 use Rattle.elimination.proofs.CallerLemmas.{from_one}
 use Rattle.barycentre.specs.Limits.{AreWithinUpTo}
@@ -20,8 +19,7 @@ loop-u-init g c =
 
 pub loop-u-preserved : goal.loop-u-preserved
 loop-u-preserved g c =
-    let rd = c.ranges.d0 in
-    let G = c.args.g.now in
+    let rd = c.ranges.d0 in let G = c.args.g.now in
     let P = placement_of c.args.d0 c.args.at.now in
     let u = c.loop-u.u in
     let within : AreWithinUpTo G P u = simp to_z-of_z at c.loop-u.invariant.within in
@@ -35,8 +33,7 @@ loop-u-preserved g c =
 
 pub returns-clause-within : goal.returns-clause-within
 returns-clause-within g c t =
-    let rd = c.ranges.d0 in
-    let G = c.args.g.now in
+    let rd = c.ranges.d0 in let G = c.args.g.now in
     let P = placement_of c.args.d0 c.args.at.now in
     let before : AreWithinUpTo G P c.loop-u.u = simp to_z-of_z at c.loop-u.invariant.within in
     let count = c.vertices-u-end.ensures.count in
@@ -44,12 +41,10 @@ returns-clause-within g c t =
 
 pub returns-clause-balanced : goal.returns-clause-balanced
 returns-clause-balanced g c t =
-    let rd = c.ranges.d0 in
-    let G = c.args.g.now in
+    let rd = c.ranges.d0 in let G = c.args.g.now in
     let P = placement_of c.args.d0 c.args.at.now in
     let before : (j : ℕ) → j < c.loop-u.u → vector_sum (map (arc_vector P) (arcs_from G (j + 1))) ≡ zero_vector =
     simp to_z-of_z at c.loop-u.invariant.balanced in
-    let count = c.vertices-u-end.ensures.count in
-    let end = c.loop-u-test.false in
+    let count = c.vertices-u-end.ensures.count in let end = c.loop-u-test.false in
     λ u q. from_one (λ v. vector_sum (map (arc_vector P) (arcs_from G v)) ≡ zero_vector) u q.0
     (before (u - 1) (let a = q.0 in let b = q.1 in omega (arith, a, b, count, end)))

@@ -1,7 +1,6 @@
 use Rattle.std.proofs.Common.{◌≡◌, ℕ, ◌+◌, ◌<◌, map}
 use Rattle.integers.specs.Vectors.{zero_vector, vector_sum}
-use Rattle.periodic_net.specs.Graph.{arcs_from}
-use Rattle.periodic_net.specs.Placement.{arc_vector}
+use Rattle.periodic_net.specs.{Graph.arcs_from, Placement.arc_vector}
 use Rattle.quotient_graph.specs.PlacedNets.{placement_of}
 use Rattle.barycentre.specs.Limits.{AreWithinUpTo}
 use Rattle.barycentre.proofs.short.are_stars_balanced.Given as goal

@@ -3,13 +3,11 @@ use Rattle.std.proofs.Common.{◌≡◌, ◌∙◌, ◌+◌, ◌*◌, ◌^◌, a
 use Rattle.std.proofs.lemmas.Int.{to_z-of_z}
 use Rattle.integers.specs.Vectors.{IsWithin}
 use Rattle.integers.proofs.vectors.Bounds.{wider}
-use Rattle.periodic_net.specs.Limits.{most_units}
-use Rattle.periodic_net.specs.Placement.{arc_vector}
+use Rattle.periodic_net.specs.{Limits.most_units, Placement.arc_vector}
 use Rattle.quotient_graph.specs.PlacedNets.{placement_of}
 use Rattle.elimination.proofs.CallerLemmas.{few_arcs, near_step}
 use Rattle.barycentre.specs.Limits.{AreWithinTo}
-use Rattle.barycentre.proofs.StarSums.{sum_step, sum_whole}
-use Rattle.barycentre.proofs.Stars.{within_more, within_all}
+use Rattle.barycentre.proofs.Stars.{sum_step, sum_whole, within_more, within_all}
 use Rattle.barycentre.proofs.short.is_balanced.Goals as goal
 
 pub of_triple-step-requires : goal.of_triple-step-requires
@@ -26,9 +24,7 @@ pub loop-arc-preserved : goal.loop-arc-preserved
 loop-arc-preserved g c =
     let rd = c.ranges.d0 in
     let P = placement_of c.args.d0 c.args.at.now in
-    let star = c.arcs-arc-items.result.now in
-    let a = c.arc-item.result in
-    let i = c.loop-arc.arc-index in
+    let star = c.arcs-arc-items.result.now in let a = c.arc-item.result in let i = c.loop-arc.arc-index in
     let v = c.of_triple-step.result in
     let vector : v ≡ arc_vector P a = c.of_triple-step.ensures ∙ (simp to_z-of_z at c.vector_of.ensures.value) in
     let here : IsWithin most_units v = c.if-not-is_within.ensures.0 refl in

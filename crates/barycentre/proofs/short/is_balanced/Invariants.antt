@@ -1,7 +1,6 @@
 use Rattle.std.proofs.Common.{◌≡◌, ◌*◌, take, map}
 use Rattle.integers.specs.Vectors.{vector_sum, IsWithin}
-use Rattle.periodic_net.specs.Limits.{most_units}
-use Rattle.periodic_net.specs.Placement.{arc_vector}
+use Rattle.periodic_net.specs.{Limits.most_units, Placement.arc_vector}
 use Rattle.quotient_graph.specs.PlacedNets.{placement_of}
 use Rattle.barycentre.specs.Limits.{AreWithinTo}
 use Rattle.barycentre.proofs.short.is_balanced.Given as goal

@@ -1,26 +1,19 @@
 -- Of `by_two_steps`: the clause `none`; what `left_rows` and `tested` require. The clause says that there is no placement within the limits.
 use Rattle.std.proofs.Common.{lit<, ◌≡◌, ◌∙◌, ◌<◌, ℕ, ℤ, List, length, map, subst, Option, Some, None, Result, Ok, Err, IfOk, MatchOption}
-use Rattle.std.specs.Prelude.{⊤}
 use Rattle.std.proofs.lemmas.List.{length-map}
+use Rattle.std.specs.Prelude.{⊤}
 use Rattle.periodic_net.specs.Graph.{Graph}
 use Rattle.vecdim.specs.declared.rows.Row.{Row}
-use Rattle.fraction.specs.declared.numbers.Fraction.{Fraction}
-use Rattle.fraction.specs.Values.{fraction_value}
-use Rattle.elimination.specs.RightHand.{SolveWith}
-use Rattle.elimination.specs.Rows.{value_in}
+use Rattle.fraction.specs.{declared.numbers.Fraction.Fraction, Values.fraction_value}
+use Rattle.elimination.specs.{RightHand.SolveWith, Rows.value_in}
 use Rattle.residue.specs.declared.numbers.Residue.{Residue}
-use Rattle.barycentre.specs.TwoSteps.{AreTwoSteps}
-use Rattle.barycentre.specs.Left.{AreLeftRows}
-use Rattle.barycentre.specs.Reached.{AreNotWithin}
-use Rattle.barycentre.specs.Recovered.{AreRecovered, LacksRow}
 use Rattle.barycentre.specs.ResidueRows.{residue_value, residue_at, residue_vector}
-use Rattle.barycentre.specs.Tested.{AreNotPlaced}
-use Rattle.barycentre.proofs.modulo.ResidueRows.{in_reach}
-use Rattle.barycentre.proofs.modulo.Stages.{divided, steps, quotient}
+use Rattle.barycentre.specs.{TwoSteps.AreTwoSteps, Left.AreLeftRows, Reached.AreNotWithin, Recovered.AreRecovered, Recovered.LacksRow, Tested.AreNotPlaced}
+use Rattle.barycentre.proofs.modulo.Stages.{in_reach, divided, steps, quotient}
 use Rattle.barycentre.proofs.modulo.TwoSteps.{are_fractions, no_lack, is_scaled}
 use Rattle.barycentre.proofs.steps.by_two_steps.Given.{Over}
-use Rattle.barycentre.proofs.steps.by_two_steps.Goals as goal
 use Rattle.barycentre.proofs.steps.by_two_steps.Goals.{In_ok-nexts}
+use Rattle.barycentre.proofs.steps.by_two_steps.Goals as goal
 
 none_of : {A E : Type 0} (B C : Type 0) (r : Result (Option A) E) → (B → C) → IfOk r (λ o. MatchOption o B (λ t. ⊤)) → IfOk r (λ o. MatchOption o C (λ t. ⊤))
 none_of B C (Ok None) f h = f h
@@ -65,8 +58,7 @@ module _ (g : Over) (c : In_ok-nexts g) where
 
 pub left_rows-requires : goal.left_rows-requires
 left_rows-requires g c =
-    let k = c.recall.ensures in
-    let firsts = c.args.firsts.now in
+    let k = c.recall.ensures in let firsts = c.args.firsts.now in
     let at_is : c.deref.result.now ≡ map residue_vector firsts = c.deref.ensures.value ∙ c.in_ok-at.ensures in
     let count = length-map firsts residue_vector ∙ c.requires.count in
     let divides = divided c.requires.least c.args.g.now k.is_graph k.parameter firsts c.requires.solved c.requires.flat in
@@ -83,8 +75,7 @@ tested-requires g c =
 
 pub returns-in-Some-clause-none : goal.returns-in-Some-clause-none
 returns-in-Some-clause-none g c =
-    let G = c.args.g.now in
-    let rows = c.in-Some.rows.items in
+    let G = c.args.g.now in let rows = c.in-Some.rows.items in
     let h = rw c.in-Some.is at c.in_ok-rows.ensures.count in
     let recovered = rw (c.in-Some.is, c.deref-3.ensures.value) at c.in_ok-rows.ensures.rows in
     none_of (AreNotPlaced G (value_in fraction_value rows)) (AreNotWithin G) c.tested.result

@@ -1,15 +1,13 @@
 -- Of `units_in_limits`: the clauses `fault` and `units`; what `common_denominator`, `rows_in_units` and `check_arcs` require.
 use Rattle.std.proofs.Common.{arith, lit<, ◌≡◌, ◌⊎◌, ◌∙◌, sym, subst, length, unsigned_abs}
-use Rattle.std.proofs.lemmas.Int.{to_z-of_z}
-use Rattle.std.proofs.lemmas.Result.{err_from_is_err_and}
+use Rattle.std.proofs.lemmas.{Int.to_z-of_z, Result.err_from_is_err_and}
 use Rattle.integers.proofs.vectors.Bounds.{fits_from_bound}
 use Rattle.periodic_net.specs.Limits.{most_units}
 use Rattle.quotient_graph.specs.PlacedNets.{placement_of}
 use Rattle.fraction.specs.Values.{fraction_value}
 use Rattle.elimination.specs.Rows.{value_in}
 use Rattle.barycentre.specs.WidePlacements.{IsWideAt}
-use Rattle.barycentre.proofs.Together.{wide_multiple, normal_units}
-use Rattle.barycentre.proofs.TestedUnits.{fractions_divided, least_units}
+use Rattle.barycentre.proofs.{Together.wide_multiple, Together.normal_units, TestedUnits.fractions_divided, TestedUnits.least_units}
 use Rattle.barycentre.proofs.units.units_in_limits.Goals as goal
 
 pub common_denominator-requires : goal.common_denominator-requires
@@ -20,16 +18,14 @@ common_denominator-requires g c =
 
 pub returns-in_err-d0-clause-fault : goal.returns-in_err-d0-clause-fault
 returns-in_err-d0-clause-fault g c =
-    let k = c.recall.ensures in
-    let e = c.in_err-d0.ensures in
+    let k = c.recall.ensures in let e = c.in_err-d0.ensures in
     let p = err_from_is_err_and c.from_residual.result c.from_residual.ensures.1 in
     rw (p.1, p.2) (λ positions. wide_multiple c.args.g.now k.is_graph (value_in fraction_value c.args.rows.now) positions c.in_err-d0.field-0.0
     (e.dimension ∙ sym k.parameter) (e.wide.first c.args.g.now (k.parameter, sym c.requires.count)))
 
 pub rows_in_units-requires : goal.rows_in_units-requires
 rows_in_units-requires g c =
-    let k = c.recall.ensures in
-    let e = c.in_ok-d0.ensures in
+    let k = c.recall.ensures in let e = c.in_ok-d0.ensures in
     let rd = fits_from_bound c.in_ok-d0.d0 most_units (omega arith) e.common.usable.small in
     let divided = fractions_divided c.args.g.now k.is_graph (value_in fraction_value c.args.rows.now) c.requires.fractions (length c.args.rows.now)
     (unsigned_abs c.in_ok-d0.d0) c.requires.count (e.common.least c.args.g.now (k.parameter, sym c.requires.count)) in
@@ -37,9 +33,7 @@ rows_in_units-requires g c =
 
 pub check_arcs-requires : goal.check_arcs-requires
 check_arcs-requires g c =
-    let k = c.recall.ensures in
-    let e = c.in_ok-d0.ensures in
-    let f = c.in_ok-at.ensures in
+    let k = c.recall.ensures in let e = c.in_ok-d0.ensures in let f = c.in_ok-at.ensures in
     let G = c.args.g.now in
     let rd = fits_from_bound c.in_ok-d0.d0 most_units (omega arith) e.common.usable.small in
     let u = least_units G k.is_graph (value_in fraction_value c.args.rows.now) c.requires.fractions c.in_ok-d0.d0 c.in_ok-at.at.items e.positive
@@ -48,12 +42,8 @@ check_arcs-requires g c =
 
 pub returns-in_err-check_arcs-clause-fault : goal.returns-in_err-check_arcs-clause-fault
 returns-in_err-check_arcs-clause-fault g c =
-    let k = c.recall.ensures in
-    let e = c.in_ok-d0.ensures in
-    let f = c.in_ok-at.ensures in
-    let G = c.args.g.now in
-    let d0 = c.in_ok-d0.d0 in
-    let at = c.in_ok-at.at.items in
+    let k = c.recall.ensures in let e = c.in_ok-d0.ensures in let f = c.in_ok-at.ensures in
+    let G = c.args.g.now in let d0 = c.in_ok-d0.d0 in let at = c.in_ok-at.at.items in
     let rd = fits_from_bound d0 most_units (omega arith) e.common.usable.small in
     let u = least_units G k.is_graph (value_in fraction_value c.args.rows.now) c.requires.fractions d0 at e.positive (f.count ∙ c.requires.count)
     (simp to_z-of_z at f.units) (e.common.least G (k.parameter, sym c.requires.count)) (simp to_z-of_z at f.reach) in
@@ -69,9 +59,7 @@ returns-in_err-check_arcs-clause-fault g c =
 
 pub returns-clause-units : goal.returns-clause-units
 returns-clause-units g c =
-    let k = c.recall.ensures in
-    let e = c.in_ok-d0.ensures in
-    let f = c.in_ok-at.ensures in
+    let k = c.recall.ensures in let e = c.in_ok-d0.ensures in let f = c.in_ok-at.ensures in
     let G = c.args.g.now in
     let rd = fits_from_bound c.in_ok-d0.d0 most_units (omega arith) e.common.usable.small in
     simp to_z-of_z (least_units G k.is_graph (value_in fraction_value c.args.rows.now) c.requires.fractions c.in_ok-d0.d0 c.in_ok-at.at.items e.positive

@@ -1,8 +1,6 @@
 use Rattle.std.proofs.Common.{◌≡◌, ◌+◌, ◌≤◌, length, fold}
-use Rattle.cgd_lex.specs.Limits.{longest_text}
-use Rattle.cgd_read.specs.Views.{fields_view}
-use Rattle.cgd_lex.specs.Lines.{rest_of_line, after_line}
-use Rattle.cgd_read.specs.Reading.{with_field, IsSmallFields}
+use Rattle.cgd_lex.specs.{Limits.longest_text, Lines.rest_of_line, Lines.after_line}
+use Rattle.cgd_read.specs.{Views.fields_view, Reading.with_field, Reading.IsSmallFields}
 use Rattle.cgd_read.proofs.cursor.read_fields.Given as goal
 
 abbrev pub invariant-loop-token : goal.invariant-loop-token

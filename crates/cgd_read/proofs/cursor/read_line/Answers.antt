@@ -1,9 +1,7 @@
 use Rattle.std.proofs.Common.{◌∙◌, ap, fold}
-use Rattle.cgd_lex.specs.Views.{token_view}
+use Rattle.cgd_lex.specs.{Views.token_view, Lines.rest_of_line}
 use Rattle.cgd_read.specs.Lines.{FieldsView, LineView, fields_of, fields_from, is_bare}
-use Rattle.cgd_lex.specs.Lines.{rest_of_line}
-use Rattle.cgd_read.specs.Reading.{with_field}
-use Rattle.cgd_read.specs.declared.line.LineKind.{LineKind}
+use Rattle.cgd_read.specs.{Reading.with_field, declared.line.LineKind.LineKind}
 use Rattle.cgd_read.proofs.FieldLists.{fields_after, line_is_flat}
 use Rattle.cgd_read.proofs.cursor.read_line.Goals as goal
 

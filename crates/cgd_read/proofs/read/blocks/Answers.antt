@@ -1,20 +1,15 @@
 -- Of `blocks`: the loop over `line`; the clause `only`.
 use Rattle.std.proofs.Common.{◌∙◌, ◌++◌, List, false, sym, ap, subst, length, arith}
+use Rattle.std.proofs.lemmas.{List.Elements.All-nil, Grind.common_steps}
 use Rattle.std.specs.List.{All}
-use Rattle.std.proofs.lemmas.List.Elements.{All-nil}
-use Rattle.std.proofs.lemmas.Grind.{common_steps}
-use Rattle.cgd_read.specs.Lines.{LineView, token_lines}
 use Rattle.cgd_read.specs.Views.{line_view, BlockView, views}
-use Rattle.cgd_read.specs.Blocks.{blocks_from, IsReadBody}
-use Rattle.cgd_read.specs.declared.block.Block.{Block}
-use Rattle.cgd_read.proofs.BlockLists.{next_block}
-use Rattle.cgd_read.proofs.Decided.{only_block}
+use Rattle.cgd_read.specs.{Lines.LineView, Lines.token_lines, Blocks.blocks_from, Blocks.IsReadBody, declared.block.Block.Block}
+use Rattle.cgd_read.proofs.{BlockLists.next_block, Decided.only_block}
 use Rattle.cgd_read.proofs.read.blocks.Goals as goal
 
 pub loop-line-init : goal.loop-line-init
 loop-line-init c =
-    let none = c.new-found.ensures.items in
-    let tokens = c.new-lexer.ensures.tokens in
+    let none = c.new-found.ensures.items in let tokens = c.new-lexer.ensures.tokens in
     let few = c.new-lexer.ensures.few in
     record {
       whole = ap (λ (bs : List Block). views bs ++ blocks_from false (token_lines c.new-lexer.result)) none

@@ -1,9 +1,8 @@
 use Rattle.std.proofs.Common.{◌≡◌, ◌≤◌, ◌++◌, false, length}
 use Rattle.std.specs.List.{All}
 use Rattle.cgd_lex.specs.Limits.{longest_text}
-use Rattle.cgd_read.specs.Lines.{token_lines}
 use Rattle.cgd_read.specs.Blocks.{blocks_from, blocks_of, IsReadBody}
-use Rattle.cgd_read.specs.Views.{views}
+use Rattle.cgd_read.specs.{Lines.token_lines, Views.views}
 use Rattle.cgd_read.proofs.read.blocks.Given as goal
 
 abbrev pub invariant-loop-line : goal.invariant-loop-line

@@ -1,6 +1,5 @@
 use Rattle.std.proofs.Common.{◌≡◌, ◌≤◌, length}
-use Rattle.cgd_read.specs.Lines.{token_lines}
-use Rattle.cgd_read.specs.Reading.{after_end}
+use Rattle.cgd_read.specs.{Lines.token_lines, Reading.after_end}
 use Rattle.cgd_read.proofs.read.pass_block.Given as goal
 
 abbrev pub invariant-loop-line : goal.invariant-loop-line

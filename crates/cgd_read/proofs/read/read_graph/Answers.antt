@@ -1,10 +1,8 @@
 use Rattle.std.proofs.Common.{◌≡◌, ◌∷◌, ◌∙◌, ◌≤◌, None, sym, subst, length}
 use Rattle.periodic_net.specs.Limits.{most_vertices}
-use Rattle.cgd_read.specs.Views.{line_view, raw_view}
-use Rattle.cgd_read.specs.Faults.{rows_in, fault_of}
-use Rattle.cgd_read.proofs.SoundLines.{AllSound}
-use Rattle.cgd_read.proofs.LineGraph.{make_lines, ends_with_rows}
+use Rattle.cgd_read.specs.{Views.line_view, Views.raw_view, Faults.rows_in, Faults.fault_of}
 use Rattle.cgd_read.proofs.ReadGraph.{rows_read, few_fields, still_rows}
+use Rattle.cgd_read.proofs.{SoundLines.AllSound, LineGraph.make_lines, LineGraph.ends_with_rows}
 use Rattle.cgd_read.proofs.read.read_graph.Goals as goal
 
 pub judge-requires-clause-room : goal.judge-requires-clause-room

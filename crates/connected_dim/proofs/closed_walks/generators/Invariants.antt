@@ -1,10 +1,8 @@
 use Rattle.std.proofs.Common.{◌≡◌, map, take, All}
-use Rattle.std.specs.Option.{is_some}
-use Rattle.std.specs.List.{filter}
+use Rattle.std.specs.{Option.is_some, List.filter}
 use Rattle.integers.specs.Vectors.{IsWithin}
 use Rattle.periodic_net.specs.Limits.{most_closed}
-use Rattle.connected_dim.specs.Search.{walk_to}
-use Rattle.connected_dim.specs.Generators.{generator_of}
+use Rattle.connected_dim.specs.{Search.walk_to, Generators.generator_of}
 use Rattle.connected_dim.proofs.closed_walks.generators.Given as goal
 
 abbrev pub invariant-loop-e : goal.invariant-loop-e

@@ -1,6 +1,5 @@
-use Rattle.std.proofs.Common.{subst}
+use Rattle.std.proofs.{Common.subst, lemmas.Int.to_z-of_z}
 use Rattle.std.specs.Int.{w128}
-use Rattle.std.proofs.lemmas.Int.{to_z-of_z}
 use Rattle.vecdim.specs.Lattices.{Members, AreMultiples}
 use Rattle.connected_dim.proofs.lattices.lattice.Goals as goal
 

@@ -1,5 +1,5 @@
-use Rattle.std.proofs.Common.{◌≢◌, pos, sym, subst}
-use Rattle.integers.specs.Vectors.{Vector, zero_vector, IsWithin}
+use Rattle.std.proofs.Common.{◌≢◌, sym, subst}
+use Rattle.integers.specs.Vectors.{zero_vector, IsWithin}
 use Rattle.periodic_net.specs.Limits.{most_closed}
 use Rattle.connected_dim.proofs.RankAnswers.{flat_cross}
 use Rattle.connected_dim.proofs.ranks.normal.Goals as goal
@@ -12,6 +12,5 @@ returns-clause-within g c =
 pub returns-clause-flat : goal.returns-clause-flat
 returns-clause-flat g c d some =
     let e = c.cross.ensures.value in
-    subst (λ (v : Vector). v.z ≢ pos 0) (sym e)
-    (flat_cross c.to_triple.result c.to_triple-2.result (c.to_triple.ensures.dimension d) (c.to_triple-2.ensures.dimension d)
+    rw e (flat_cross c.to_triple.result c.to_triple-2.result (c.to_triple.ensures.dimension d) (c.to_triple-2.ensures.dimension d)
     (subst (λ v. v ≢ zero_vector) e some))

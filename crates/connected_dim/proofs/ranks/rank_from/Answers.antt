@@ -1,7 +1,6 @@
 use Rattle.std.proofs.Common.{◌≡◌, pos, of_z, to_z, refl, sym, ap, subst, ◌∙◌, arith}
+use Rattle.std.proofs.lemmas.{Int.to_z-of_z, List.Elements.All-contains}
 use Rattle.std.specs.Int.{w128}
-use Rattle.std.proofs.lemmas.Int.{to_z-of_z}
-use Rattle.std.proofs.lemmas.List.Elements.{All-contains}
 use Rattle.integers.specs.Vectors.{Vector, IsWithin}
 use Rattle.integers.proofs.vectors.Bounds.{fits_from_bound}
 use Rattle.periodic_net.specs.Limits.{most_closed}

@@ -1,12 +1,11 @@
 use Rattle.std.proofs.Common.{◌≢◌, refl, sym, subst, lit<, FitsSigned}
+use Rattle.std.proofs.lemmas.{Int.to_z-of_z, List.Elements.All-contains}
 use Rattle.std.specs.Int.{w128}
-use Rattle.std.proofs.lemmas.Int.{to_z-of_z}
-use Rattle.std.proofs.lemmas.List.Elements.{All-contains}
 use Rattle.integers.specs.Vectors.{zero_vector, IsWithin}
 use Rattle.connected_dim.specs.Full.{IsVolume}
 use Rattle.connected_dim.proofs.RankAnswers.{full_flat, full_space, plane_in_space}
-use Rattle.connected_dim.proofs.ranks.rank_with.Goals as goal
 use Rattle.periodic_net.specs.Limits.{most_closed}
+use Rattle.connected_dim.proofs.ranks.rank_with.Goals as goal
 
 pub flat_volume-requires-clause-some : goal.flat_volume-requires-clause-some
 flat_volume-requires-clause-some g c = c.normal-c.ensures.flat c.if-this-eq2.true (subst (λ v. v ≢ zero_vector) (sym c.normal-c.ensures.value) c.requires.apart)
@@ -20,16 +19,9 @@ returns-then-this-eq2 g c =
     c.normal-c.ensures.value e.value e.from e.to)
 
 pub space_volume-requires : goal.space_volume-requires
-space_volume-requires g c = (
-  lit< tt,
-  (
-    c.normal-c.ensures.within,
-    (
-      All-contains (IsWithin most_closed) c.args.gs.now c.in-Some.g c.requires.small c.in-Some.ensures.found,
-      c.in-Some.ensures.some,
-    ),
-  ),
-)
+space_volume-requires g c =
+    let within = All-contains (IsWithin most_closed) c.args.gs.now c.in-Some.g c.requires.small c.in-Some.ensures.found in
+    (lit< tt, (c.normal-c.ensures.within, (within, c.in-Some.ensures.some)))
 
 pub returns-in-Some : goal.returns-in-Some
 returns-in-Some g c =
@@ -42,7 +34,6 @@ returns-in-Some g c =
 pub returns-in-None : goal.returns-in-None
 returns-in-None g c = (
   plane_in_space g.row.D c.args.gs.now c.args.a.now c.args.b.now c.normal-c.result c.reduction.result c.if-this-eq2.false c.requires.a c.requires.b
-      c.requires.apart c.normal-c.ensures.value
-      (c.in-None.ensures.none refl) c.reduction.ensures.reduction,
+      c.requires.apart c.normal-c.ensures.value (c.in-None.ensures.none refl) c.reduction.ensures.reduction,
   c.reduction.ensures.within,
 )

@@ -3,15 +3,13 @@ use Rattle.std.specs.Int.{w128}
 use Rattle.std.proofs.lemmas.Int.{to_z-of_z}
 use Rattle.integers.specs.Vectors.{times}
 use Rattle.integers.proofs.vectors.Bounds.{fits_from_bound}
-use Rattle.connected_dim.proofs.Dividing.{divisor_within}
-use Rattle.connected_dim.proofs.Reductions.{reduction_is}
+use Rattle.connected_dim.proofs.Reductions.{divisor_within, reduction_is}
 use Rattle.connected_dim.proofs.reduction.reduction.Goals as goal
 use Rattle.connected_dim.specs.Bounds.{most_normal}
 
 pub returns-clause-reduction : goal.returns-clause-reduction
 returns-clause-reduction c =
-    let v = c.args.v.now in
-    let d = c.divisor-g.result in
+    let v = c.args.v.now in let d = c.divisor-g.result in
     let f = fits_from_bound d most_normal (omega arith) (divisor_within most_normal v d c.requires.some c.requires.within c.divisor-g.ensures) in
     reduction_is v c.over.result c.forward.result d c.divisor-g.ensures
     (subst (λ g. v ≡ times g c.over.result) (to_z-of_z w128 d f) c.over.ensures.value) c.forward.ensures.either c.forward.ensures.positive

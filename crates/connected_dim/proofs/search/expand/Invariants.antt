@@ -1,8 +1,7 @@
 use Rattle.std.proofs.Common.{◌≡◌, ℕ, ◌<◌, length, slice_index_or, IsSome}
 use Rattle.std.specs.Prelude.{drop}
 use Rattle.periodic_net.specs.Graph.{Arc}
-use Rattle.connected_dim.specs.Search.{walk_to, Grows}
-use Rattle.connected_dim.specs.Paths.{IsSettledTo, IsPathSearch}
+use Rattle.connected_dim.specs.{Search.walk_to, Search.Grows, Paths.IsSettledTo, Paths.IsPathSearch}
 use Rattle.connected_dim.proofs.search.expand.Given as goal
 
 abbrev pub invariant-loop-arc : goal.invariant-loop-arc

@@ -1,6 +1,5 @@
 use Rattle.std.proofs.Common.{◌+◌, ◌-◌, length}
-use Rattle.connected_dim.specs.Search.{missing_count, IsSearchedTo}
-use Rattle.connected_dim.specs.Paths.{IsSettledTo}
+use Rattle.connected_dim.specs.{Search.missing_count, Search.IsSearchedTo, Paths.IsSettledTo}
 use Rattle.connected_dim.proofs.search.search.Given as goal
 
 abbrev pub invariant-loop-i : goal.invariant-loop-i

@@ -1,20 +1,14 @@
-use Rattle.std.proofs.Common.{List, subst, sym, ◌∙◌}
+use Rattle.std.proofs.Common.{List, subst, ◌∙◌}
 use Rattle.integers.specs.Vectors.{Vector}
-use Rattle.connected_dim.specs.Generators.{generators}
-use Rattle.connected_dim.specs.Orthogonal.{IsFlatNormal}
-use Rattle.connected_dim.specs.Flat.{flat_colouring}
-use Rattle.connected_dim.proofs.FlatSplits.{flat_split_is}
-use Rattle.connected_dim.proofs.Refuted.{flat_refusal}
+use Rattle.connected_dim.specs.{Generators.generators, Orthogonal.IsFlatNormal, Flat.flat_colouring}
+use Rattle.connected_dim.proofs.{FlatSplits.flat_split_is, Refuted.flat_refusal}
 use Rattle.connected_dim.proofs.verdicts.verdict_by_walks.Goals as goal
 
 pub returns : goal.returns
 returns g c =
-    let G = c.args.g.now in
-    let found = c.args.found.now in
-    let graph = c.dimension-dim.ensures.is_graph in
+    let G = c.args.g.now in let found = c.args.found.now in let graph = c.dimension-dim.ensures.is_graph in
     let vs = c.deref.ensures.value ∙ c.in_ok-gs.ensures.generators in
-    let normal = subst (λ d. IsFlatNormal d (generators G found) c.in-Below.c) (sym c.dimension-dim.ensures.parameter)
-    (subst (λ (xs : List Vector). IsFlatNormal g.row.D xs c.in-Below.c) vs c.in-Below.ensures.0) in
+    let normal = rw (← c.dimension-dim.ensures.parameter) at (subst (λ (xs : List Vector). IsFlatNormal g.row.D xs c.in-Below.c) vs c.in-Below.ensures.0) in
     flat_refusal G c.in_ok-flat_split-in-Below.field-0 (flat_colouring c.in-Below.c found) graph
     (c.in_ok-flat_split-in-Below.ensures.dimension ∙ c.dimension-dim.ensures.value) c.in_ok-flat_split-in-Below.ensures.split
     (flat_split_is G found c.in-Below.c graph c.requires.walks c.requires.all normal)

@@ -13,9 +13,7 @@ loop-block-init c =
 
 pub loop-block-preserved : goal.loop-block-preserved
 loop-block-preserved c =
-    let cell = c.args.cell.now in
-    let found = c.args.found.now in
-    let at = c.loop-block in
+    let cell = c.args.cell.now in let found = c.args.found.now in let at = c.loop-block in
     let i = at.block-index in
     subst (λ os. AreAnsweredOn cell (views found) (i + 1) (at.number + 1) (at.all_covered && c.in_ok-outcome.covered) os c.cover_block.new.covers.items)
     (sym c.in_ok-push.ensures.ok)

@@ -1,6 +1,5 @@
-use Rattle.std.proofs.lemmas.Nat.Gcd.{IsGcd-from_zero, IsGcd-from_mod}
+use Rattle.std.proofs.{lemmas.Nat.Gcd.IsGcd-from_zero, lemmas.Nat.Gcd.IsGcd-from_mod, Common.arith}
 use Rattle.exact.proofs.Bezout.{gcd_is_combination}
-use Rattle.std.proofs.Common.{arith}
 use Rattle.exact.proofs.divisors.gcd.Goals as goal
 
 pub loop-rest-preserved : goal.loop-rest-preserved

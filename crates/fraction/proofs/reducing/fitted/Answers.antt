@@ -1,11 +1,10 @@
 use Rattle.std.proofs.Common.{arith, rules, ◌≡◌, to_z}
-use Rattle.std.specs.Prelude.{pos}
-use Rattle.std.specs.Int.{w64}
 use Rattle.std.proofs.lemmas.Int.{ints}
+use Rattle.std.specs.{Prelude.pos, Int.w64}
 use Rattle.fraction.specs.Quotients.{signed_ratio}
 use Rattle.fraction.proofs.Narrow.{fraction_reduced, fraction_small}
-use Rattle.fraction.proofs.reducing.fitted.Goals as goal
 use Rattle.fraction.proofs.reducing.fitted.Goals.{then-negative, else-negative}
+use Rattle.fraction.proofs.reducing.fitted.Goals as goal
 
 pub invariant_of-result : goal.invariant_of-result
 invariant_of-result c =

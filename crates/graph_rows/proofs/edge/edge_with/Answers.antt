@@ -1,11 +1,10 @@
 use Rattle.std.proofs.Common.{◌≡◌, ◌≤◌, ℤ, pos, FitsSigned, unsigned_abs, sym, ◌∙◌, subst}
-use Rattle.std.proofs.lemmas.Bool.{true≢false}
-use Rattle.std.proofs.lemmas.Int.{to_z-of_z}
+use Rattle.std.proofs.lemmas.{Bool.true≢false, Int.to_z-of_z}
 use mir.Syntax.{w32, w128}
 use mir.Val.{of_z, to_z}
 use Rattle.graph_rows.proofs.Edges.{same_part, same_spelling}
-use Rattle.graph_rows.proofs.edge.edge_with.Goals as goal
 use Rattle.periodic_net.specs.Limits.{most_shift}
+use Rattle.graph_rows.proofs.edge.edge_with.Goals as goal
 
 pub returns-then-is_normal-clause-form : goal.returns-then-is_normal-clause-form
 returns-then-is_normal-clause-form c = λ flat.

@@ -3,12 +3,9 @@ use Rattle.std.proofs.Common.{[], ◌∷◌, ◌++◌, length, map, Some, sym, a
 use Rattle.std.proofs.lemmas.List.{length-append, length-map}
 use Rattle.line_text.specs.Lines.{IsAt}
 use Rattle.cgd_read.specs.Spelling.{edge_of}
-use Rattle.graph_rows.specs.Rows.{edge_row}
-use Rattle.graph_rows.specs.Forms.{IsNextEdge}
-use Rattle.graph_rows.specs.Reading.{AreReadTo, NoEdge}
+use Rattle.graph_rows.specs.{Rows.edge_row, Forms.IsNextEdge, Reading.AreReadTo, Reading.NoEdge}
 use Rattle.line_text.proofs.CallerLemmas.{at_none, at_some}
-use Rattle.graph_rows.proofs.Lists.{one_more_edge, edges_read_pushed}
-use Rattle.graph_rows.proofs.GraphEdges.{are_edges}
+use Rattle.graph_rows.proofs.{Lists.one_more_edge, Lists.edges_read_pushed, GraphEdges.are_edges}
 use Rattle.graph_rows.proofs.edge_list.read_edges.Goals as goal
 
 pub returns-in_default-clause-edges : goal.returns-in_default-clause-edges

@@ -3,12 +3,9 @@ use Rattle.std.proofs.Common.{inl, inr, [], ◌∷◌, ◌++◌, map, ap, sym, �
 use Rattle.line_text.specs.Lines.{IsAt}
 use Rattle.line_text.proofs.CallerLemmas.{at_none, at_some, bad_line_from, handed_on}
 use Rattle.cgd_read.specs.Spelling.{edge_of}
-use Rattle.quotient_graph.specs.AnyGraphs.{graph_view}
-use Rattle.quotient_graph.specs.EdgeLists.{AreEdgesOfGraph}
-use Rattle.quotient_graph.specs.Stars.{graph_with}
-use Rattle.graph_rows.specs.Rows.{size_row}
-use Rattle.graph_rows.specs.Forms.{IsSize}
+use Rattle.quotient_graph.specs.{AnyGraphs.graph_view, EdgeLists.AreEdgesOfGraph, Stars.graph_with}
 use Rattle.graph_rows.specs.Reading.{NoSize, HasBadEdge, HasBadGraph, HasGraph}
+use Rattle.graph_rows.specs.{Rows.size_row, Forms.IsSize}
 use Rattle.graph_rows.proofs.ReadGraphs.{graph_read, graph_formed}
 use Rattle.graph_rows.proofs.graph.read_graph.Goals as goal
 

@@ -1,13 +1,9 @@
 use Rattle.std.proofs.Common.{◌≡◌, Ok, [], ◌∷◌, ◌++◌, sym, ap, ◌∙◌, subst}
+use Rattle.std.proofs.lemmas.{Option.none-some, Bool.true≢false}
 use Rattle.std.specs.Prelude.{codes}
-use Rattle.std.proofs.lemmas.Option.{none-some}
-use Rattle.std.proofs.lemmas.Bool.{true≢false}
-use Rattle.line_text.specs.Lines.{IsAt}
-use Rattle.line_text.specs.Numbers.{row_text}
-use Rattle.cgd_read.specs.declared.edge.RawEdge.{RawEdge}
-use Rattle.graph_rows.specs.Rows.{edge_row, edge_numbers}
-use Rattle.graph_rows.specs.Reading.{NoEdge}
-use Rattle.cgd_read.specs.Spelling.{edge_of}
+use Rattle.line_text.specs.{Lines.IsAt, Numbers.row_text}
+use Rattle.cgd_read.specs.{declared.edge.RawEdge.RawEdge, Spelling.edge_of}
+use Rattle.graph_rows.specs.{Rows.edge_row, Rows.edge_numbers, Reading.NoEdge}
 use Rattle.periodic_net.specs.Graph.{Arc}
 use Rattle.graph_rows.proofs.RowForms.{edge_few, edge_wide}
 use Rattle.line_text.proofs.CallerLemmas.{none_from, some_from}

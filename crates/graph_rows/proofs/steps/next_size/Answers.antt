@@ -1,12 +1,8 @@
 use Rattle.std.proofs.Common.{◌≡◌, Ok, ap, [], ◌∷◌, ◌++◌, sym, ◌∙◌, subst}
+use Rattle.std.proofs.lemmas.{Option.none-some, Bool.true≢false}
 use Rattle.std.specs.Prelude.{codes}
-use Rattle.std.proofs.lemmas.Option.{none-some}
-use Rattle.std.proofs.lemmas.Bool.{true≢false}
-use Rattle.line_text.specs.Lines.{IsAt}
-use Rattle.line_text.specs.Numbers.{row_text}
-use Rattle.graph_rows.specs.declared.size.GraphSize.{GraphSize}
-use Rattle.graph_rows.specs.Rows.{size_row, size_numbers}
-use Rattle.graph_rows.specs.Reading.{NoSize}
+use Rattle.line_text.specs.{Lines.IsAt, Numbers.row_text}
+use Rattle.graph_rows.specs.{declared.size.GraphSize.GraphSize, Rows.size_row, Rows.size_numbers, Reading.NoSize}
 use Rattle.graph_rows.proofs.RowForms.{size_few, size_wide}
 use Rattle.line_text.proofs.CallerLemmas.{none_from, some_from}
 use Rattle.graph_rows.proofs.steps.next_size.Goals as goal

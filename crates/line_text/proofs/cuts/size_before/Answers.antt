@@ -1,6 +1,5 @@
-use Rattle.std.proofs.Common.{◌∙◌, ap}
+use Rattle.std.proofs.Common.{◌∙◌, ap, length}
 use Rattle.std.specs.Option.{unwrap_or}
-use Rattle.std.proofs.Common.{length}
 use Rattle.line_text.proofs.Marks.{size_is}
 use Rattle.line_text.proofs.cuts.size_before.Goals as goal
 

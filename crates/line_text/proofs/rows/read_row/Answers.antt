@@ -1,6 +1,5 @@
 use Rattle.std.proofs.Common.{◌≡◌, ◌≤◌, length, true, ℤ, List, All, sym, ◌∙◌}
-use Rattle.std.proofs.lemmas.Result.{IfOk-weaker}
-use Rattle.std.proofs.lemmas.List.{append_cancel_left}
+use Rattle.std.proofs.lemmas.{Result.IfOk-weaker, List.append_cancel_left}
 use Rattle.line_text.specs.Numbers.{IsWide, numbers_text, row_text}
 use Rattle.line_text.proofs.rows.read_row.Goals as goal
 

@@ -1,21 +1,19 @@
 -- Of `add_all`: the loop over `block`; the clauses `fault` and `added`; what `add_block` requires; that numbers fit. `turn` is what most of them share.
 use Rattle.std.proofs.Common.{◌≡◌, length, arith}
-use Rattle.std.proofs.lemmas.List.{length-map, length_push}
-use Rattle.std.proofs.lemmas.Slice.Zip.{zip_turn, zip_end}
+use Rattle.std.proofs.lemmas.{List.length-map, List.length_push, Slice.Zip.zip_turn, Slice.Zip.zip_end}
 use Rattle.std.specs.Prelude.{option_copied}
 use Rattle.cgd_read.specs.Views.{block_view, views}
 use Rattle.least_key.specs.AnyNets.{net_view}
 use Rattle.net_answers.proofs.Added.{added_first, added_next, all_added, not_added}
 use Rattle.net_answers.proofs.KeyedBlocks.{as_many}
 use Rattle.net_answers.proofs.Turns.{IsTurn, kinds_are, kinds_inside, net_is, one_told, turn_is}
-use Rattle.net_answers.proofs.adding.add_all.Goals as goal
 use Rattle.net_answers.proofs.adding.add_all.Goals.{In-Some, in-Some-net_told+in_default-add_block, in_default}
+use Rattle.net_answers.proofs.adding.add_all.Goals as goal
 
 -- a block and its outcome come in turn
 turn : (c : In-Some) → IsTurn c.args.found.now c.args.outcomes.now (length c.loop-block.yielded) c.in-Some.block.now c.in-Some.outcome.now
 turn c =
-    let found = c.args.found.now in
-    let outcomes = c.args.outcomes.now in
+    let found = c.args.found.now in let outcomes = c.args.outcomes.now in
     let pairs = c.into_iter-block-iterator in
     let first : pairs.result.a.rest.now ≡ found = cc (pairs.ensures.into_iter_gives, c.zip-block-items.ensures.first, c.iter.ensures.rest) in
     let second : pairs.result.b.rest.now ≡ outcomes = cc (pairs.ensures.into_iter_gives, c.zip-block-items.ensures.second.0) in
@@ -43,8 +41,7 @@ loop-block-preserved c =
     let t = turn (goal.at.loop-block-preserved c).In-Some in
     elim c.match-net_told.branch [
       | in-Some-net_told+in_default-add_block w ↦
-          let net = w.in-Some-net_told.net.now in
-          let e = w.in_default-add_block.ensures.added in
+          let net = w.in-Some-net_told.net.now in let e = w.in_default-add_block.ensures.added in
           rw (w.archive-is, length_push c.loop-block.yielded (c.in-Some.block, c.in-Some.outcome))
           (added_next (option_copied c.args.given) (views c.args.found.now) c.args.archive.now c.loop-block.archive w.add_block.new.archive
           (length c.loop-block.yielded) c.loop-block.number (option_copied c.loop-block.given) block (net_view net) e.0 c.loop-block.invariant
@@ -54,8 +51,7 @@ loop-block-preserved c =
 
 pub returns-clause-added : goal.returns-clause-added
 returns-clause-added c =
-    let found = c.args.found.now in
-    let outcomes = c.args.outcomes.now in
+    let found = c.args.found.now in let outcomes = c.args.outcomes.now in
     let pairs = c.into_iter-block-iterator in
     let first : pairs.result.a.rest.now ≡ found = cc (pairs.ensures.into_iter_gives, c.zip-block-items.ensures.first, c.iter.ensures.rest) in
     let second : pairs.result.b.rest.now ≡ outcomes = cc (pairs.ensures.into_iter_gives, c.zip-block-items.ensures.second.0) in

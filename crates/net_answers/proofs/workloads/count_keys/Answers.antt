@@ -6,9 +6,7 @@ use Rattle.net_answers.proofs.workloads.count_keys.Goals.{in-Some+in_ok-put_key,
 
 pub loop-outcome-preserved : goal.loop-outcome-preserved
 loop-outcome-preserved c =
-    let os = c.args.outcomes.now in
-    let i = c.loop-outcome.outcome-index in
-    let o = c.outcome-item.result in
+    let os = c.args.outcomes.now in let i = c.loop-outcome.outcome-index in let o = c.outcome-item.result in
     let keys = lists_in c.loop-outcome.keys in
     elim c.match-key_told.branch [
       | in-Some+in_ok-put_key w ↦

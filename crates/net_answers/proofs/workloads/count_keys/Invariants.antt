@@ -1,6 +1,5 @@
 use Rattle.std.proofs.Common.{take}
-use Rattle.net_answers.specs.KeyLists.{lists_in}
-use Rattle.net_answers.specs.Summaries.{AreDifferentKeys}
+use Rattle.net_answers.specs.{KeyLists.lists_in, Summaries.AreDifferentKeys}
 use Rattle.net_answers.proofs.workloads.count_keys.Given as goal
 
 abbrev pub invariant-loop-outcome : goal.invariant-loop-outcome

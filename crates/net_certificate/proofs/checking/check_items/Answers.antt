@@ -3,16 +3,13 @@ use Rattle.std.proofs.Common.{◌≡◌, ◌<◌, ◌+◌, ℕ, List, Bool, leng
 use Rattle.quotient_graph.specs.AnyGraphs.{graph_view}
 use Rattle.line_text.specs.Faults.{IfBadLine}
 use Rattle.line_text.proofs.CallerLemmas.{handed_on}
-use Rattle.net_certificate.specs.Items.{IsFormedItem, item_view}
-use Rattle.net_certificate.specs.Checks.{AreAll}
 use Rattle.net_certificate.specs.Reading.{IsBegun, IsIn, HasBadLine}
 use Rattle.net_certificate.specs.Stages.{Listed, drawing_of, with_item}
-use Rattle.net_certificate.proofs.Places.{formed_in}
-use Rattle.net_certificate.proofs.Shorter.{of_graph, shorter_in}
-use Rattle.net_certificate.specs.Results.{is_refused, one_where}
+use Rattle.net_certificate.specs.{Items.IsFormedItem, Items.item_view, Checks.AreAll, Results.is_refused, Results.one_where}
 use Rattle.net_certificate.proofs.MoreItems.{last_of, one_more, plus_none}
-use Rattle.net_certificate.proofs.checking.check_items.Goals as goal
 use Rattle.net_certificate.proofs.checking.check_items.Goals.{In_ok-item, Joined-branch, then-branch, else-branch}
+use Rattle.net_certificate.proofs.{Places.formed_in, GraphReads.of_graph, GraphReads.shorter_in}
+use Rattle.net_certificate.proofs.checking.check_items.Goals as goal
 
 -- where the lines stand after the item
 item_read : (c : In_ok-item) (text : List ℕ) → let G = graph_view c.args.first.now in IsBegun G text c.args.lines.now
@@ -25,8 +22,7 @@ item_read c text is =
 -- less is left
 less : (c : In_ok-item) → length c.read_item.new.lines.rest < length c.loop-alloc.lines.rest
 less c =
-    let p = c.loop-alloc.invariant.0 in
-    let begun = c.requires.begun in
+    let p = c.loop-alloc.invariant.0 in let begun = c.requires.begun in
     shorter_in begun.0 (drawing_of (graph_view c.args.first.now)) p.items (item_view c.in_ok-item.item) c.loop-alloc.lines c.read_item.new.lines
     (p.at begun.0 begun.1) (item_read c begun.0 begun.1)
 
@@ -43,8 +39,7 @@ counted c =
 pub returns-in_err-item : goal.returns-in_err-item
 returns-in_err-item c = λ text is.
     let G = graph_view c.args.first.now in
-    let p = c.loop-alloc.invariant.0 in
-    let fault = c.in_err-item.field-0.0 in
+    let p = c.loop-alloc.invariant.0 in let fault = c.in_err-item.field-0.0 in
     handed_on (AreAll text G c.read_item.new.lines) (HasBadLine text) fault c.from_residual.result c.from_residual.ensures.1
     (of_graph (λ text g items. IfBadLine (HasBadLine text) fault) G c.size_of-size.result c.size_of-size.ensures c.loop-alloc.k c.loop-alloc.lines
     c.in_err-item.ensures text p.items p.number (p.at text is))

@@ -1,33 +1,26 @@
 -- Of `check_text`: what it ensures; what `check_items` requires. `begun` says where the lines stand after the first graph.
 use Rattle.std.proofs.Common.{Option, None, [], refl, sym, subst}
 use Rattle.std.specs.Prelude.{MatchOption}
-use Rattle.quotient_graph.specs.AnyGraphs.{graph_view}
-use Rattle.quotient_graph.specs.declared.any_graph.AnyGraph.{AnyGraph}
-use Rattle.line_text.specs.Lines.{IsAt}
-use Rattle.line_text.specs.Faults.{IfBadLine}
+use Rattle.quotient_graph.specs.{AnyGraphs.graph_view, declared.any_graph.AnyGraph.AnyGraph}
+use Rattle.line_text.specs.{Lines.IsAt, Faults.IfBadLine}
 use Rattle.line_text.proofs.CallerLemmas.{handed_on, result_from}
 use Rattle.net_certificate.specs.Reading.{IsBegun, HasNoGraph, HasBadLine}
 use Rattle.net_certificate.specs.Stages.{Titled, Listed, drawing_of}
-use Rattle.net_certificate.specs.Texts.{most_bytes}
-use Rattle.net_certificate.proofs.Shorter.{left_few}
-use Rattle.net_certificate.proofs.WholeTexts.{text_said}
-use Rattle.net_certificate.specs.Checks.{AreAll, IsChecked}
-use Rattle.net_certificate.proofs.MoreItems.{all_checked}
-use Rattle.net_certificate.proofs.checking.check_text.Goals as goal
+use Rattle.net_certificate.specs.{Texts.most_bytes, Checks.AreAll, Checks.IsChecked}
 use Rattle.net_certificate.proofs.checking.check_text.Goals.{In-Some}
+use Rattle.net_certificate.proofs.{GraphReads.left_few, WholeTexts.text_said, MoreItems.all_checked}
+use Rattle.net_certificate.proofs.checking.check_text.Goals as goal
 
 begun : (c : In-Some) → IsBegun (graph_view c.in-Some.first) c.args.text.now c.read_first.new.lines
 begun c =
-    let text = c.args.text.now in
-    let place = c.read_first.new.lines in
+    let text = c.args.text.now in let place = c.read_first.new.lines in
     let opened : IsAt text [] c.new-lines.result = record { joined = sym c.new-lines.ensures.rest; number = c.new-lines.ensures.number } in
     subst (λ (first : Option AnyGraph). MatchOption first (HasNoGraph text place) (λ (g : AnyGraph). IsBegun (graph_view g) text place)) c.in-Some.is
     (c.in_ok-first.ensures.first text opened)
 
 pub returns-in_default : goal.returns-in_default
 returns-in_default c =
-    let text = c.args.text.now in
-    let place = c.read_first.new.lines in
+    let text = c.args.text.now in let place = c.read_first.new.lines in
     let opened : IsAt text [] c.new-lines.result = record { joined = sym c.new-lines.ensures.rest; number = c.new-lines.ensures.number } in
     let has = subst (λ (first : Option AnyGraph). MatchOption first (HasNoGraph text place) (λ (g : AnyGraph). IsBegun (graph_view g) text place))
     c.in_default.is (c.in_ok-first.ensures.first text opened) in

@@ -1,9 +1,8 @@
 use Rattle.std.proofs.Common.{ℤ, ◌++◌, ap, ◌∙◌}
+use Rattle.std.proofs.lemmas.{Int.to_z-of_z, Result.on_ok_weaker}
 use mir.Syntax.{w128}
 use Rattle.std.specs.Fmt.{signed_decimal}
-use Rattle.std.proofs.lemmas.Int.{to_z-of_z}
-use Rattle.std.proofs.lemmas.Result.{on_ok_weaker}
-use Rattle.net_certificate.proofs.WrittenLines.{wide_written}
+use Rattle.net_certificate.proofs.Written.{wide_written}
 use Rattle.net_certificate.proofs.headings.push_wide.Goals as goal
 
 pub returns : goal.returns

@@ -1,20 +1,16 @@
 -- Of `image_of`: what it ensures; what `place_of` and `vertex_standing` require. `found` and `value` are what they share.
 use Rattle.std.proofs.Common.{◌≡◌, ◌-◌, lit<, sym, subst, ap, ◌∙◌}
-use Rattle.integers.specs.Bases.{base_sum}
-use Rattle.integers.specs.Vectors.{plus, minus, IsWithin}
+use Rattle.integers.specs.Vectors.{IsWithin}
 use Rattle.periodic_net.specs.Graph.{IsQuotientVertex, Vertex, vertex}
-use Rattle.periodic_net.specs.Limits.{most_vertices}
-use Rattle.periodic_net.specs.Placement.{base, position}
+use Rattle.periodic_net.specs.{Limits.most_vertices, Placement.position}
 use Rattle.quotient_graph.specs.PlacedNets.{PlacedNet}
 use Rattle.map_check.specs.Conditions.{most_period}
-use Rattle.standard_map.specs.Ends.{IsEnd, IsNear}
-use Rattle.standard_map.specs.Standing.{StandsSomewhere}
-use Rattle.standard_map.specs.Turns.{end_over}
+use Rattle.standard_map.specs.{Ends.IsEnd, Ends.IsNear, Standing.StandsSomewhere, Turns.end_over}
 use Rattle.standard_map.proofs.CallerLemmas.{found_end}
 use Rattle.net_certificate.proofs.Standing.{image_is, image_place, some_stands}
 use Rattle.net_certificate.proofs.image.image_of.Given.{Over}
-use Rattle.net_certificate.proofs.image.image_of.Goals as goal
 use Rattle.net_certificate.proofs.image.image_of.Goals.{After-end_of-end, After-place_of-place}
+use Rattle.net_certificate.proofs.image.image_of.Goals as goal
 
 -- the end is one, near, and over the class of the vertex
 found : (g : Over) (c : After-end_of-end g) → let e = c.end_of-end.result in
@@ -27,13 +23,7 @@ found g c =
 -- where the image stands
 value : (g : Over) (c : After-place_of-place g)
     → c.place_of-place.result ≡ image_place c.args.here.now c.args.there.now c.requires.one_key c.end_of-end.result c.args.cells.now c.args.w.now
-value g c =
-    let net = c.placed.ensures.net in
-    let origin = c.origin.ensures in
-    let view = c.w.view_is in
-    let e = c.end_of-end.result in
-    c.place_of-place.ensures.value
-    ∙ (λ i. plus (plus (base (net i).placement (origin i)) e.at) (base_sum c.args.cells.now (minus (view i).cell e.shift)))
+value g c = cc
 
 pub place_of-place-requires : goal.place_of-place-requires
 place_of-place-requires g c =
@@ -54,8 +44,7 @@ vertex_standing-v-requires g c =
 pub returns : goal.returns
 returns g c =
     let r = found g (goal.at.returns g c).After-end_of-end in
-    let v = c.vertex_standing-v.result.0 in
-    let t = c.vertex_standing-v.result.1 in
+    let v = c.vertex_standing-v.result.0 in let t = c.vertex_standing-v.result.1 in
     let net = c.placed-2.ensures.net in
     let stands = subst (λ (n : PlacedNet). position n.placement (vertex v t) ≡ c.place_of-place.result) net c.vertex_standing-v.ensures.place in
     image_is c.args.here.now c.args.there.now c.requires.one_key c.end_of-end.result r.0 c.args.cells.now c.requires.cells c.args.w.now c.requires.vertex r.2

@@ -1,16 +1,13 @@
 use Rattle.std.proofs.Common.{◌≡◌, ◌<◌, ◌*◌, ℕ, lit<, sym, subst, ap, ◌∙◌, arith}
 use Rattle.periodic_net.specs.Graph.{Graph, Vertex}
-use Rattle.map_check.specs.Layouts.{box_size, vertex_at}
-use Rattle.map_check.specs.Conditions.{most_period}
+use Rattle.map_check.specs.{Layouts.box_size, Layouts.vertex_at, Conditions.most_period}
 use Rattle.net_certificate.specs.Tables.{IsImageOf}
 use Rattle.net_certificate.proofs.BoxLists.{all_images, one_more, place_inside}
 use Rattle.net_certificate.proofs.images.box_images.Goals as goal
 
 pub image_of-requires : goal.image_of-requires
 image_of-requires g c =
-    let G = c.args.here.now.net.graph in
-    let m = c.args.m in
-    let d = g.row.D in
+    let G = c.args.here.now.net.graph in let m = c.args.m in let d = g.row.D in
     let dimension = ap (λ (H : Graph). H.dimension) (sym c.graph.ensures) ∙ c.vertices.ensures.parameter in
     let count = c.entries-count.ensures ∙ ap (λ (n : ℕ). n * box_size d m) (c.vertices.ensures.count ∙ ap (λ (H : Graph). H.vertices) c.graph.ensures) in
     let inside = subst (λ (n : ℕ). c.loop-i.i < n) count c.loop-i-test.true in
@@ -21,8 +18,7 @@ image_of-requires g c =
 
 pub loop-i-preserved : goal.loop-i-preserved
 loop-i-preserved g c =
-    let S = c.args.here.now in
-    let T = c.args.there.now in
+    let S = c.args.here.now in let T = c.args.there.now in
     let dimension = ap (λ (H : Graph). H.dimension) (sym c.graph.ensures) ∙ c.vertices.ensures.parameter in
     let is = c.vertex_at-w.ensures ∙ ap (λ (n : ℕ). vertex_at n c.args.m c.loop-i.i) (sym dimension) in
     one_more S T c.args.m c.loop-i.i c.loop-i.found.items c.push.new.self.items c.image_of.result c.loop-i.invariant
@@ -30,13 +26,10 @@ loop-i-preserved g c =
 
 pub returns : goal.returns
 returns g c =
-    let S = c.args.here.now in
-    let T = c.args.there.now in
-    let m = c.args.m in
+    let S = c.args.here.now in let T = c.args.there.now in let m = c.args.m in
     let dimension = ap (λ (H : Graph). H.dimension) (sym c.graph.ensures) ∙ c.vertices.ensures.parameter in
     let count = c.entries-count.ensures ∙ ap (λ (n : ℕ). n * box_size g.row.D m) (c.vertices.ensures.count ∙ ap (λ (H : Graph). H.vertices) c.graph.ensures)
     ∙ ap (λ (n : ℕ). S.net.graph.vertices * box_size n m) (sym dimension) in
-    let end = c.loop-i.auto.i-end in
-    let past = c.loop-i-test.false in
+    let end = c.loop-i.auto.i-end in let past = c.loop-i-test.false in
     let all : c.loop-i.i ≡ c.entries-count.result = omega (arith, end, past) in
     all_images S T m c.requires.one_key.one_list.here c.requires.from c.loop-i.i c.loop-i.found.items (all ∙ count) c.loop-i.invariant

@@ -1,4 +1,4 @@
-use Rattle.net_certificate.proofs.FirstBadLine.{bad_line_is_first}
+use Rattle.net_certificate.proofs.WholeTexts.{bad_line_is_first}
 use Rattle.net_certificate.proofs.laws.bad_line_is_first.Goals as goal
 
 pub returns : goal.returns

@@ -1,6 +1,6 @@
 use Rattle.std.proofs.Common.{arith}
 use Rattle.least_key.specs.AnyNets.{net_view}
-use Rattle.net_certificate.proofs.Found.{answer_few, answer_writable}
+use Rattle.net_certificate.proofs.FoundMaps.{answer_few, answer_writable}
 use Rattle.net_certificate.proofs.net_items.item_of.Goals as goal
 
 pub returns-in_ok-graph_of-in-Found-clause-writable : goal.returns-in_ok-graph_of-in-Found-clause-writable

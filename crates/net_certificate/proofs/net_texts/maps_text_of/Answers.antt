@@ -1,16 +1,13 @@
 use Rattle.std.proofs.Common.{◌-◌, ◌++◌, ◌∙◌, ℕ, List, [], ◌∷◌, length, map, take, drop, sym, ap, subst}
 use Rattle.line_text.specs.Lines.{rows_text}
-use Rattle.least_key.specs.AnyNets.{net_view}
-use Rattle.least_key.specs.KeyedNets.{KeyedNet}
-use Rattle.net_certificate.specs.Rows.{title_row}
-use Rattle.net_certificate.specs.NetItems.{IsMapsTextOf}
+use Rattle.least_key.specs.{AnyNets.net_view, KeyedNets.KeyedNet}
+use Rattle.net_certificate.specs.{Rows.title_row, NetItems.IsMapsTextOf}
 use Rattle.net_certificate.proofs.Written.{first_and_others, maps_written}
 use Rattle.net_certificate.proofs.net_texts.maps_text_of.Goals as goal
 
 pub returns : goal.returns
 returns g c =
-    let f = g.T.LendsNet.net in
-    let lenders = c.args.nets.now in
+    let f = g.T.LendsNet.net in let lenders = c.args.nets.now in
     let others = map f (take (length lenders - 1) (drop 1 lenders)) in
     let title = c.in_ok-push_title.ensures ∙ ap (λ (l : List ℕ). l ++ rows_text (title_row ∷ [])) c.new-text.ensures.items in
     let text = c.push_maps.new.text.items in

@@ -1,12 +1,10 @@
 use Rattle.std.proofs.Common.{◌≡◌, ℕ, pos, sym, ◌∙◌}
+use Rattle.std.proofs.lemmas.{Int.to_z-of_z, Option.none-some}
 use mir.Syntax.{w128}
 use mir.Val.{of_z, to_z}
-use Rattle.std.proofs.lemmas.Int.{to_z-of_z}
-use Rattle.std.proofs.lemmas.Option.{none-some}
 use Rattle.line_text.proofs.CallerLemmas.{some_from}
-use Rattle.net_certificate.specs.Rows.{reason_text}
-use Rattle.net_certificate.specs.declared.item.NoMap.TheVariants.{Long}
-use Rattle.net_certificate.proofs.PlainRows.{told_wide}
+use Rattle.net_certificate.specs.{Rows.reason_text, declared.item.NoMap.TheVariants.Long}
+use Rattle.net_certificate.proofs.RowForms.{told_wide}
 use Rattle.net_certificate.proofs.Pairs.{is_long, long_digits, long_number, no_long}
 use Rattle.net_certificate.proofs.pair.entries_of.Goals as goal
 

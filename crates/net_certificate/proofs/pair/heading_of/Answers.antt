@@ -1,6 +1,4 @@
-use Rattle.std.proofs.Common.{sym, ◌∙◌}
-use Rattle.std.proofs.lemmas.Bool.{true≢false}
-use Rattle.std.proofs.lemmas.Option.{none-some}
+use Rattle.std.proofs.{Common.sym, Common.◌∙◌, lemmas.Bool.true≢false, lemmas.Option.none-some}
 use Rattle.net_certificate.proofs.Pairs.{map_is, map_told, heading_told, no_heading}
 use Rattle.net_certificate.proofs.pair.heading_of.Goals as goal
 

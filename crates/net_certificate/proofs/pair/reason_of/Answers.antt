@@ -1,8 +1,6 @@
 use Rattle.std.proofs.Common.{Some, sym, ap, ◌∙◌}
+use Rattle.std.proofs.lemmas.{Int.to_z-of_z, Bool.true≢false, Option.none-some}
 use mir.Syntax.{w128}
-use Rattle.std.proofs.lemmas.Int.{to_z-of_z}
-use Rattle.std.proofs.lemmas.Bool.{true≢false}
-use Rattle.std.proofs.lemmas.Option.{none-some}
 use Rattle.net_certificate.specs.declared.item.NoMap.TheVariants.{Different, Long, Wide}
 use Rattle.net_certificate.proofs.Pairs.{is_different, reason_told, no_reason_at}
 use Rattle.net_certificate.proofs.pair.reason_of.Goals as goal

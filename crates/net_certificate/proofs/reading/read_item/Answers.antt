@@ -1,10 +1,8 @@
 use Rattle.std.proofs.Common.{[], ◌∷◌, ◌++◌, subst, arith}
 use Rattle.line_text.specs.Lines.{IsAt}
 use Rattle.net_certificate.specs.Rows.{OfReason, OfMap, row_line}
-use Rattle.net_certificate.specs.Pairs.{heading_row, IsToldHeading}
-use Rattle.net_certificate.specs.Stages.{Listed, drawing}
-use Rattle.net_certificate.proofs.Following.{no_pair}
-use Rattle.net_certificate.proofs.Places.{row_in, bad_in}
+use Rattle.net_certificate.specs.{Pairs.heading_row, Pairs.IsToldHeading, Stages.Listed, Stages.drawing}
+use Rattle.net_certificate.proofs.Places.{no_pair, row_in, bad_in}
 use Rattle.net_certificate.proofs.reading.read_item.Goals as goal
 
 pub returns-in-Some-Reason : goal.returns-in-Some-Reason

@@ -3,20 +3,18 @@ use Rattle.std.proofs.Common.{◌≡◌, ℕ, List, [], ◌∷◌, ◌++◌, len
 use Rattle.periodic_net.specs.Graph.{Arc}
 use Rattle.line_text.specs.Lines.{IsAt}
 use Rattle.line_text.proofs.CallerLemmas.{at_some, handed_on}
-use Rattle.net_certificate.specs.Items.{ItemView, IsPeriod}
-use Rattle.net_certificate.specs.Rows.{OfPeriod, period_row}
 use Rattle.net_certificate.specs.Reading.{IsIn, HasMap, HasBadLine}
 use Rattle.net_certificate.specs.Stages.{Drawn, Mapped, drawing, begun_map}
+use Rattle.net_certificate.specs.{Items.ItemView, Items.IsPeriod, Rows.OfPeriod, Rows.period_row}
 use Rattle.net_certificate.proofs.Places.{row_in}
-use Rattle.net_certificate.proofs.reading.read_map.Goals as goal
 use Rattle.net_certificate.proofs.reading.read_map.Goals.{In-Some}
+use Rattle.net_certificate.proofs.reading.read_map.Goals as goal
 
 begun : (c : In-Some) (text : List ℕ) (items : List ItemView) (edges others : List Arc)
     → let g = drawing c.args.first.now edges in let h = drawing c.args.second.now others in length others ≡ c.args.second.now.edges
     → IsIn text (Drawn g items h) c.args.lines.now → IsIn text (Mapped g items h (begun_map c.in-Some.m)) c.next_period.new.lines
 begun c text items edges others whole is =
-    let s = c.args.first.now in
-    let m = c.in-Some.m in
+    let s = c.args.first.now in let m = c.in-Some.m in
     row_in text (Drawn (drawing s edges) items (drawing c.args.second.now others)) (OfPeriod m) c.args.lines.now c.next_period.new.lines is
     (whole, at_some c.in_ok-m.field-0 (IsPeriod s) m c.in-Some.is c.in_ok-m.ensures.form)
     (λ rows at. at_some c.in_ok-m.field-0 (λ (k : ℕ). IsAt text (rows ++ period_row k ∷ []) c.next_period.new.lines) m c.in-Some.is

@@ -3,19 +3,15 @@ use Rattle.std.proofs.Common.{◌≡◌, ℕ, List, length, sym, ap, ◌∙◌, 
 use Rattle.std.proofs.lemmas.Bool.{true≢false}
 use Rattle.periodic_net.specs.Graph.{Arc}
 use Rattle.quotient_graph.specs.AnyGraphs.{graph_view}
-use Rattle.graph_rows.specs.declared.size.GraphSize.{GraphSize}
-use Rattle.graph_rows.specs.Reading.{HasBadGraph}
+use Rattle.graph_rows.specs.{declared.size.GraphSize.GraphSize, Reading.HasBadGraph}
 use Rattle.line_text.proofs.CallerLemmas.{bad_line_from, handed_on}
-use Rattle.net_certificate.specs.declared.item.Item.{Item}
 use Rattle.net_certificate.specs.Items.{ItemView, With, item_view}
-use Rattle.net_certificate.specs.Rows.{OfEnd, row_lines}
-use Rattle.net_certificate.specs.Reading.{IsIn, HasBadLine}
 use Rattle.net_certificate.specs.Stages.{Opened, Listed, Drawn, Mapped, drawing, drawn_graph, with_item}
-use Rattle.net_certificate.proofs.Following.{no_end}
+use Rattle.net_certificate.specs.{declared.item.Item.Item, Rows.OfEnd, Rows.row_lines, Reading.IsIn, Reading.HasBadLine}
+use Rattle.net_certificate.proofs.Places.{no_end, row_in, bad_in}
 use Rattle.net_certificate.proofs.GraphReads.{second_in, second_bad}
-use Rattle.net_certificate.proofs.Places.{row_in, bad_in}
-use Rattle.net_certificate.proofs.reading.read_pair.Goals as goal
 use Rattle.net_certificate.proofs.reading.read_pair.Goals.{After-size_of-second}
+use Rattle.net_certificate.proofs.reading.read_pair.Goals as goal
 
 pub returns-in_err-graph : goal.returns-in_err-graph
 returns-in_err-graph c = λ text items edges is.

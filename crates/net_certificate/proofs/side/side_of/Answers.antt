@@ -1,14 +1,10 @@
 -- Of `side_of`: what `new` requires.
 use Rattle.std.proofs.Common.{ℤ, pos, List, get_or, lit<, subst, ap, ◌∙◌}
 use Rattle.std.specs.Prelude.{unsigned_abs}
-use Rattle.periodic_net.specs.Classes.{ClassGraph}
-use Rattle.periodic_net.specs.Graph.{Graph}
-use Rattle.key_theory.specs.Primitive.{IsLeastMember}
-use Rattle.key_theory.specs.Traversal.{axes_of, IsLeastScale}
-use Rattle.quotient_graph.specs.NetClasses.{class_at}
-use Rattle.quotient_graph.specs.PlacedNets.{PlacedNet}
-use Rattle.standard_map.specs.LeastPairs.{IsLeastPair}
-use Rattle.standard_map.specs.Sides.{net_side}
+use Rattle.periodic_net.specs.{Classes.ClassGraph, Graph.Graph}
+use Rattle.key_theory.specs.{Primitive.IsLeastMember, Traversal.axes_of, Traversal.IsLeastScale}
+use Rattle.quotient_graph.specs.{NetClasses.class_at, PlacedNets.PlacedNet}
+use Rattle.standard_map.specs.{LeastPairs.IsLeastPair, Sides.net_side}
 use Rattle.least_key.specs.KeyedNets.{KeyedNet}
 use Rattle.net_certificate.specs.Written.{IsSideOf}
 use Rattle.net_certificate.proofs.SideTables.{scale_told, side_parts}
@@ -17,13 +13,9 @@ use Rattle.net_certificate.proofs.side.side_of.Goals as goal
 pub new-requires : goal.new-requires
 new-requires g c =
     let n : KeyedNet = record { placed = c.net.inside.stable; classes = c.net.inside.classes; cell = c.net.inside.primitive; key = c.net.inside.key } in
-    let K = c.net-class_net.result.now in
-    let key = c.numbers-key.result.now in
-    let start = c.in_ok-start.start in
-    let frame = c.in_ok-start.frame in
-    let q = c.scale_of-scale.result in
-    let origin = c.representative-origin.result in
-    let pair = c.in_ok-start.ensures in
+    let K = c.net-class_net.result.now in let key = c.numbers-key.result.now in
+    let start = c.in_ok-start.start in let frame = c.in_ok-start.frame in let q = c.scale_of-scale.result in
+    let origin = c.representative-origin.result in let pair = c.in_ok-start.ensures in
     let scale = scale_told K start frame key q pair.pair.list c.scale_of-scale.ensures in
     let pair' = subst (λ (xs : List ℤ). IsLeastPair n.classes.classes xs start frame) c.numbers-key.ensures
     (subst (λ (L : ClassGraph). IsLeastPair L key start frame) c.net-class_net.ensures.net pair) in

@@ -1,14 +1,10 @@
 use Rattle.std.proofs.Common.{◌≡◌, Ok, ap, ℕ, pos, [], ◌∷◌, ◌++◌, sym, ◌∙◌, subst}
+use Rattle.std.proofs.lemmas.{Option.none-some, Bool.true≢false}
 use Rattle.std.specs.Prelude.{codes}
-use Rattle.std.proofs.lemmas.Option.{none-some}
-use Rattle.std.proofs.lemmas.Bool.{true≢false}
-use Rattle.line_text.specs.Lines.{IsAt}
-use Rattle.line_text.specs.Numbers.{row_text}
+use Rattle.line_text.specs.{Lines.IsAt, Numbers.row_text}
 use Rattle.line_text.proofs.CallerLemmas.{none_from, some_from}
-use Rattle.net_certificate.specs.Rows.{period_row}
-use Rattle.net_certificate.specs.Steps.{NoPeriod}
-use Rattle.net_certificate.proofs.PlainRows.{one_wide}
-use Rattle.net_certificate.proofs.RowForms.{one_few}
+use Rattle.net_certificate.specs.{Rows.period_row, Steps.NoPeriod}
+use Rattle.net_certificate.proofs.RowForms.{one_wide, one_few}
 use Rattle.net_certificate.proofs.steps.next_period.Goals as goal
 
 pub returns-then-branch-clause-place : goal.returns-then-branch-clause-place

@@ -1,13 +1,10 @@
 use Rattle.std.proofs.Common.{◌≡◌, Ok, ap, [], ◌∷◌, ◌++◌, sym, ◌∙◌, subst}
+use Rattle.std.proofs.lemmas.{Option.none-some, Bool.true≢false}
 use Rattle.std.specs.Prelude.{codes}
-use Rattle.std.proofs.lemmas.Option.{none-some}
-use Rattle.std.proofs.lemmas.Bool.{true≢false}
 use Rattle.integers.specs.Vectors.{Vector, parts}
-use Rattle.line_text.specs.Lines.{IsAt}
-use Rattle.line_text.specs.Numbers.{row_text}
+use Rattle.line_text.specs.{Lines.IsAt, Numbers.row_text}
 use Rattle.line_text.proofs.CallerLemmas.{none_from, some_from}
-use Rattle.net_certificate.specs.Rows.{base_row}
-use Rattle.net_certificate.specs.Steps.{NoShift}
+use Rattle.net_certificate.specs.{Rows.base_row, Steps.NoShift}
 use Rattle.net_certificate.proofs.RowForms.{parts_few, parts_wide}
 use Rattle.net_certificate.proofs.steps.next_shift.Goals as goal
 

@@ -4,21 +4,15 @@ use Rattle.std.proofs.lemmas.List.{length-append}
 use Rattle.periodic_net.specs.Graph.{Vertex}
 use Rattle.line_text.specs.Lines.{IsAt}
 use Rattle.line_text.proofs.CallerLemmas.{at_none, at_some}
-use Rattle.map_check.specs.Conditions.{IsImage}
-use Rattle.map_check.specs.Layouts.{vertex_at}
-use Rattle.net_certificate.specs.Rows.{OfImage, image_row}
-use Rattle.net_certificate.specs.Steps.{NoImage}
-use Rattle.net_certificate.specs.Reading.{IsIn}
+use Rattle.map_check.specs.{Conditions.IsImage, Layouts.vertex_at}
 use Rattle.net_certificate.specs.Stages.{Mapped, drawing, map_with}
-use Rattle.net_certificate.proofs.Following.{no_image}
-use Rattle.net_certificate.proofs.Places.{row_in, bad_in}
+use Rattle.net_certificate.specs.{Rows.OfImage, Rows.image_row, Steps.NoImage, Reading.IsIn}
+use Rattle.net_certificate.proofs.Places.{no_image, row_in, bad_in}
 use Rattle.net_certificate.proofs.tables.read_images.Goals as goal
 
 pub returns-in_default-clause-images : goal.returns-in_default-clause-images
 returns-in_default-clause-images c = λ text items edges others is.
-    let s = c.args.first.now in
-    let t = c.args.second.now in
-    let m = c.args.m in
+    let s = c.args.first.now in let t = c.args.second.now in let m = c.args.m in
     let M = map_with m c.loop-i.images [] in
     bad_in text (Mapped (drawing s edges) items (drawing t others) M) c.loop-i.lines c.number-line.result
     (c.loop-i.invariant.0 text items edges others is) c.number-line.ensures.number
@@ -30,10 +24,7 @@ returns-in_default-clause-images c = λ text items edges others is.
 
 pub loop-i-preserved : goal.loop-i-preserved
 loop-i-preserved c =
-    let s = c.args.first.now in
-    let t = c.args.second.now in
-    let m = c.args.m in
-    let x = c.in-Some.x in
+    let s = c.args.first.now in let t = c.args.second.now in let m = c.args.m in let x = c.in-Some.x in
     let M = map_with m c.loop-i.images [] in
     let w = vertex_at s.dim m c.loop-i.i in
     let less : length c.loop-i.images < s.vertices * m ^ s.dim =

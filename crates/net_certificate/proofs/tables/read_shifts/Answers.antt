@@ -4,18 +4,14 @@ use Rattle.integers.specs.Vectors.{Vector}
 use Rattle.line_text.specs.Lines.{IsAt}
 use Rattle.line_text.proofs.CallerLemmas.{at_none, at_some}
 use Rattle.map_check.specs.Conditions.{IsShift}
-use Rattle.net_certificate.specs.Rows.{OfBase, base_row}
-use Rattle.net_certificate.specs.Steps.{NoShift}
-use Rattle.net_certificate.specs.Reading.{IsIn}
 use Rattle.net_certificate.specs.Stages.{Mapped, drawing, map_with}
-use Rattle.net_certificate.proofs.Following.{no_shift}
-use Rattle.net_certificate.proofs.Places.{row_in, bad_in}
+use Rattle.net_certificate.specs.{Rows.OfBase, Rows.base_row, Steps.NoShift, Reading.IsIn}
+use Rattle.net_certificate.proofs.Places.{no_shift, row_in, bad_in}
 use Rattle.net_certificate.proofs.tables.read_shifts.Goals as goal
 
 pub returns-in_default-clause-shifts : goal.returns-in_default-clause-shifts
 returns-in_default-clause-shifts c = λ text items edges others m images whole is.
-    let s = c.args.first.now in
-    let t = c.args.second.now in
+    let s = c.args.first.now in let t = c.args.second.now in
     let M = map_with m images c.loop.base in
     bad_in text (Mapped (drawing s edges) items (drawing t others) M) c.loop.lines c.number-line.result
     (c.loop.invariant.0 text items edges others m images whole is) c.number-line.ensures.number
@@ -25,9 +21,7 @@ returns-in_default-clause-shifts c = λ text items edges others m images whole i
 
 pub loop-preserved : goal.loop-preserved
 loop-preserved c =
-    let s = c.args.first.now in
-    let t = c.args.second.now in
-    let v = c.in-Some.v in
+    let s = c.args.first.now in let t = c.args.second.now in let v = c.in-Some.v in
     let less : length c.loop.base < s.dim = omega (arith, c.loop.invariant.1, c.loop-test.true) in (
       (λ text items edges others m images whole is.
           subst (λ l. IsIn text (Mapped (drawing s edges) items (drawing t others) (map_with m images l)) c.next_shift.new.lines) (sym c.in_ok-push.ensures.ok)

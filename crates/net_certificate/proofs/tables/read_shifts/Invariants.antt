@@ -1,8 +1,7 @@
 use Rattle.std.proofs.Common.{◌≡◌, ◌*◌, ◌^◌, ℕ, List, [], length}
 use Rattle.periodic_net.specs.Graph.{Arc, Vertex}
-use Rattle.net_certificate.specs.Items.{ItemView}
-use Rattle.net_certificate.specs.Reading.{IsIn}
 use Rattle.net_certificate.specs.Stages.{Mapped, drawing, map_with}
+use Rattle.net_certificate.specs.{Items.ItemView, Reading.IsIn}
 use Rattle.net_certificate.proofs.tables.read_shifts.Given as goal
 
 abbrev pub invariant-loop : goal.invariant-loop

@@ -1,26 +1,21 @@
 -- Of `read`: the clauses `read` and `every`; what `read_items` requires. `begun` says where the lines stand after the first graph.
 use Rattle.std.proofs.Common.{◌≡◌, ℕ, List, Option, None, Some, [], refl, sym, subst}
 use Rattle.std.specs.Prelude.{MatchOption}
-use Rattle.quotient_graph.specs.AnyGraphs.{graph_view}
-use Rattle.quotient_graph.specs.declared.any_graph.AnyGraph.{AnyGraph}
-use Rattle.line_text.specs.Lines.{IsAt}
-use Rattle.line_text.specs.Faults.{IfBadLine}
-use Rattle.line_text.specs.declared.faults.RowFault.{RowFault}
+use Rattle.quotient_graph.specs.{AnyGraphs.graph_view, declared.any_graph.AnyGraph.AnyGraph}
+use Rattle.line_text.specs.{Lines.IsAt, Faults.IfBadLine, declared.faults.RowFault.RowFault}
 use Rattle.line_text.proofs.CallerLemmas.{bad_line_from, handed_on}
-use Rattle.net_certificate.specs.declared.item.MapsText.{MapsText}
 use Rattle.net_certificate.specs.Items.{Maps, item_views, maps_in}
 use Rattle.net_certificate.specs.Reading.{IsBegun, IsTextOf, HasNoGraph, HasBadLine}
 use Rattle.net_certificate.specs.Stages.{Titled, Listed, drawing_of}
-use Rattle.net_certificate.specs.Texts.{most_bytes}
-use Rattle.net_certificate.proofs.Shorter.{left_few}
+use Rattle.net_certificate.specs.{declared.item.MapsText.MapsText, Texts.most_bytes}
+use Rattle.net_certificate.proofs.GraphReads.{left_few}
 use Rattle.net_certificate.proofs.WholeTexts.{text_said, one_text, no_fault}
-use Rattle.net_certificate.proofs.texts.read.Goals as goal
 use Rattle.net_certificate.proofs.texts.read.Goals.{In-Some}
+use Rattle.net_certificate.proofs.texts.read.Goals as goal
 
 begun : (c : In-Some) → IsBegun (graph_view c.in-Some.first) c.args.text.now c.read_first.new.lines
 begun c =
-    let text = c.args.text.now in
-    let place = c.read_first.new.lines in
+    let text = c.args.text.now in let place = c.read_first.new.lines in
     let opened : IsAt text [] c.new-lines.result = record { joined = sym c.new-lines.ensures.rest; number = c.new-lines.ensures.number } in
     subst (λ (first : Option AnyGraph). MatchOption first (HasNoGraph text place) (λ (g : AnyGraph). IsBegun (graph_view g) text place)) c.in-Some.is
     (c.in_ok-first.ensures.first text opened)
@@ -31,8 +26,7 @@ none_told text maps said fault bad = bad_line_from fault (HasBadLine text) (λ (
 
 pub returns-in_default-clause-read : goal.returns-in_default-clause-read
 returns-in_default-clause-read c =
-    let text = c.args.text.now in
-    let place = c.read_first.new.lines in
+    let text = c.args.text.now in let place = c.read_first.new.lines in
     let opened : IsAt text [] c.new-lines.result = record { joined = sym c.new-lines.ensures.rest; number = c.new-lines.ensures.number } in
     let has = subst (λ (first : Option AnyGraph). MatchOption first (HasNoGraph text place) (λ (g : AnyGraph). IsBegun (graph_view g) text place))
     c.in_default.is (c.in_ok-first.ensures.first text opened) in
@@ -50,8 +44,7 @@ returns-in_err-first-clause-read c =
 
 pub returns-in_err-first-clause-every : goal.returns-in_err-first-clause-every
 returns-in_err-first-clause-every c = λ maps said.
-    let text = c.args.text.now in
-    let fault = c.in_err-first.field-0.0 in
+    let text = c.args.text.now in let fault = c.in_err-first.field-0.0 in
     let opened : IsAt text [] c.new-lines.result = record { joined = sym c.new-lines.ensures.rest; number = c.new-lines.ensures.number } in
     handed_on (λ (found : Option MapsText). maps_in found ≡ maps) (λ (n : ℕ). ⊥) fault c.from_residual.result c.from_residual.ensures.1
     (none_told text maps said fault (c.in_err-first.ensures.first text opened))
@@ -82,8 +75,7 @@ returns-in_err-items-clause-read c =
 
 pub returns-in_err-items-clause-every : goal.returns-in_err-items-clause-every
 returns-in_err-items-clause-every c = λ maps said.
-    let text = c.args.text.now in
-    let fault = c.in_err-items.field-0.0 in
+    let text = c.args.text.now in let fault = c.in_err-items.field-0.0 in
     handed_on (λ (found : Option MapsText). maps_in found ≡ maps) (λ (n : ℕ). ⊥) fault c.from_residual-in_err-items.result
     c.from_residual-in_err-items.ensures.1
     (none_told text maps said fault (c.in_err-items.ensures text (begun (goal.at.returns-in_err-items-clause-every c).In-Some)))

@@ -1,9 +1,7 @@
 use Rattle.std.proofs.Common.{[], refl, sym, ◌∙◌}
 use Rattle.std.proofs.lemmas.Bool.{true≢false}
-use Rattle.net_certificate.specs.Rows.{OfTitle}
-use Rattle.net_certificate.specs.Stages.{Start}
-use Rattle.net_certificate.proofs.Following.{no_title}
-use Rattle.net_certificate.proofs.Places.{row_in, bad_in}
+use Rattle.net_certificate.specs.{Rows.OfTitle, Stages.Start}
+use Rattle.net_certificate.proofs.Places.{no_title, row_in, bad_in}
 use Rattle.net_certificate.proofs.texts.read_first.Goals as goal
 
 pub returns-then-next_title-clause-first : goal.returns-then-next_title-clause-first

@@ -1,16 +1,12 @@
 use Rattle.std.proofs.Common.{Option, sym, ◌∙◌}
 use Rattle.std.specs.Prelude.{MatchOption}
-use Rattle.quotient_graph.specs.AnyGraphs.{graph_view}
-use Rattle.quotient_graph.specs.declared.any_graph.AnyGraph.{AnyGraph}
+use Rattle.quotient_graph.specs.{AnyGraphs.graph_view, declared.any_graph.AnyGraph.AnyGraph}
 use Rattle.graph_rows.specs.Reading.{HasBadGraph}
 use Rattle.line_text.proofs.CallerLemmas.{bad_line_from, handed_on}
 use Rattle.net_certificate.specs.Rows.{row_lines}
 use Rattle.net_certificate.specs.Reading.{HasNoGraph, IsBegun, HasBadLine}
-use Rattle.net_certificate.proofs.GraphReads.{first_in, first_bad, nothing, something}
+use Rattle.net_certificate.proofs.GraphReads.{first_in, first_bad, something}
 use Rattle.net_certificate.proofs.texts.read_graph_after.Goals as goal
-
-pub returns-then-is_empty-clause-first : goal.returns-then-is_empty-clause-first
-returns-then-is_empty-clause-first c = λ text is. record { at = is; none = nothing c.args.lines.now.rest (sym c.is_empty.ensures ∙ c.if-is_empty.true) }
 
 pub returns-clause-first : goal.returns-clause-first
 returns-clause-first c = λ text is.
@@ -19,8 +15,7 @@ returns-clause-first c = λ text is.
 
 pub returns-in_err-graph-clause-first : goal.returns-in_err-graph-clause-first
 returns-in_err-graph-clause-first c = λ text is.
-    let fault = c.in_err-graph.field-0.0 in
-    let place = c.read_graph.new.lines in
+    let fault = c.in_err-graph.field-0.0 in let place = c.read_graph.new.lines in
     handed_on (λ (first : Option AnyGraph). MatchOption first (HasNoGraph text place) (λ (g : AnyGraph). IsBegun (graph_view g) text place))
     (HasBadLine text) fault c.from_residual.result c.from_residual.ensures.1
     (bad_line_from fault (HasBadGraph text (row_lines is.rows)) (HasBadLine text)

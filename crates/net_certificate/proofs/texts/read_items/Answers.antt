@@ -4,13 +4,12 @@ use Rattle.std.proofs.lemmas.List.{length-append, length-map}
 use Rattle.quotient_graph.specs.AnyGraphs.{graph_view}
 use Rattle.line_text.specs.Faults.{IfBadLine}
 use Rattle.line_text.proofs.CallerLemmas.{handed_on}
-use Rattle.net_certificate.specs.declared.item.Item.{Item}
-use Rattle.net_certificate.specs.Items.{item_view, item_views}
 use Rattle.net_certificate.specs.Reading.{IsBegun, IsIn, HasItems, HasBadLine}
 use Rattle.net_certificate.specs.Stages.{Listed, drawing_of, with_item, next_number}
-use Rattle.net_certificate.proofs.Shorter.{of_graph, shorter_in, views_more}
-use Rattle.net_certificate.proofs.texts.read_items.Goals as goal
+use Rattle.net_certificate.specs.{declared.item.Item.Item, Items.item_view, Items.item_views}
+use Rattle.net_certificate.proofs.GraphReads.{of_graph, shorter_in, views_more}
 use Rattle.net_certificate.proofs.texts.read_items.Goals.{In_ok-item}
+use Rattle.net_certificate.proofs.texts.read_items.Goals as goal
 
 -- the item is the next one
 next_is : (items : List Item) (k : ℕ) → k ≡ length items + 2 → k ≡ next_number (item_views items)

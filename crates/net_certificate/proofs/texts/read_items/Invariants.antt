@@ -1,8 +1,6 @@
 use Rattle.std.proofs.Common.{◌≡◌, ◌≤◌, ◌+◌, ℕ, List, length}
 use Rattle.quotient_graph.specs.AnyGraphs.{graph_view}
-use Rattle.net_certificate.specs.Items.{item_views}
-use Rattle.net_certificate.specs.Reading.{IsIn, IsBegun}
-use Rattle.net_certificate.specs.Stages.{Listed, drawing_of}
+use Rattle.net_certificate.specs.{Items.item_views, Reading.IsIn, Reading.IsBegun, Stages.Listed, Stages.drawing_of}
 use Rattle.net_certificate.proofs.texts.read_items.Given as goal
 
 abbrev pub invariant-loop-size : goal.invariant-loop-size

@@ -1,5 +1,4 @@
-use Rattle.std.proofs.lemmas.Slice.Eq.{strip_prefix_is}
-use Rattle.std.proofs.lemmas.Bool.Decides.{Decides-int_eq}
+use Rattle.std.proofs.lemmas.{Slice.Eq.strip_prefix_is, Bool.Decides.Decides-int_eq}
 use Rattle.net_certificate.proofs.vertex.after_numbers.Goals as goal
 
 pub returns : goal.returns

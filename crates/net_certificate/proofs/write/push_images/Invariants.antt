@@ -1,7 +1,6 @@
 use Rattle.std.proofs.Common.{◌≡◌, ◌++◌, drop}
 use Rattle.line_text.specs.Lines.{rows_text}
-use Rattle.net_certificate.specs.Rows.{row_lines}
-use Rattle.net_certificate.specs.Texts.{image_rows}
+use Rattle.net_certificate.specs.{Rows.row_lines, Texts.image_rows}
 use Rattle.net_certificate.proofs.write.push_images.Given as goal
 
 abbrev pub invariant-loop-i : goal.invariant-loop-i

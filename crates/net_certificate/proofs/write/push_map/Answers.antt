@@ -2,7 +2,7 @@ use Rattle.std.proofs.Common.{◌++◌, map, ap, ◌∙◌}
 use Rattle.std.proofs.lemmas.Result.{on_ok_weaker}
 use Rattle.line_text.specs.Lines.{rows_text}
 use Rattle.net_certificate.specs.Rows.{OfBase, row_lines}
-use Rattle.net_certificate.proofs.WrittenLines.{map_written}
+use Rattle.net_certificate.proofs.Written.{map_written}
 use Rattle.net_certificate.proofs.write.push_map.Goals as goal
 
 pub returns : goal.returns

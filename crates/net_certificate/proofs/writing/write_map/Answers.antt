@@ -1,11 +1,9 @@
 -- Of `write_map`: what it ensures; what `period_number`, `entries` and `box_images` require.
 use Rattle.std.proofs.Common.{ℕ, ◌*◌, ◌≤◌, lit<, sym, subst, ap, ◌∙◌}
 use Rattle.periodic_net.specs.Graph.{Graph}
-use Rattle.map_check.specs.Layouts.{box_size}
-use Rattle.map_check.specs.Conditions.{most_period}
+use Rattle.map_check.specs.{Layouts.box_size, Conditions.most_period}
 use Rattle.standard_map.specs.MapNumbers.{base_rows}
-use Rattle.net_certificate.specs.Tables.{AreImages}
-use Rattle.net_certificate.specs.Written.{IsWritten}
+use Rattle.net_certificate.specs.{Tables.AreImages, Written.IsWritten}
 use Rattle.net_certificate.proofs.SideTables.{long_due, period_limit, period_small, written_due}
 use Rattle.net_certificate.proofs.writing.write_map.Goals as goal
 
@@ -24,9 +22,7 @@ entries-entries-requires-clause-period g c =
 
 pub returns-then-room-entries : goal.returns-then-room-entries
 returns-then-room-entries g c = λ a b ka kb s t e.
-    let S = c.args.here.now in
-    let T = c.args.there.now in
-    let p = c.period_of-period in
+    let S = c.args.here.now in let T = c.args.there.now in let p = c.period_of-period in
     let m = c.period_number-m.result in
     let dimension = ap (λ (G : Graph). G.dimension) (sym c.graph.ensures) ∙ c.vertices-n.ensures.parameter in
     let count = c.entries-entries.ensures ∙ ap (λ (n : ℕ). n * box_size g.row.D m) (c.vertices-n.ensures.count ∙ ap (λ (G : Graph). G.vertices) c.graph.ensures)
@@ -37,8 +33,7 @@ returns-then-room-entries g c = λ a b ka kb s t e.
 
 pub box_images-requires : goal.box_images-requires
 box_images-requires g c =
-    let p = c.period_of-period in
-    let r = c.requires in
+    let p = c.period_of-period in let r = c.requires in
     let from = (period_small c.args.here.now c.args.there.now r.one_key c.args.cells.now r.cells p.result.m p.result.shifts p.ensures).0 in
     let to = period_limit c.args.here.now c.args.there.now r.one_key c.args.cells.now r.cells p.result.m p.result.shifts p.ensures
     c.graph-2.result.now c.graph-2.ensures c.recall.ensures.small in
@@ -48,13 +43,9 @@ box_images-requires g c =
 
 pub returns : goal.returns
 returns g c = λ a b ka kb s t e.
-    let S = c.args.here.now in
-    let T = c.args.there.now in
-    let p = c.period_of-period in
-    let m = c.period_number-m.result in
-    let images = c.in_ok-images.images.items in
-    let rows = c.in_ok-rows.rows.items in
-    let answer = c.answer_with.result in
+    let S = c.args.here.now in let T = c.args.there.now in let p = c.period_of-period in
+    let m = c.period_number-m.result in let images = c.in_ok-images.images.items in
+    let rows = c.in_ok-rows.rows.items in let answer = c.answer_with.result in
     let dimension = ap (λ (G : Graph). G.dimension) (sym c.graph.ensures) ∙ c.vertices-n.ensures.parameter in
     let count = c.entries-entries.ensures ∙ ap (λ (n : ℕ). n * box_size g.row.D m) (c.vertices-n.ensures.count ∙ ap (λ (G : Graph). G.vertices) c.graph.ensures)
     ∙ ap (λ (n : ℕ). S.net.graph.vertices * box_size n m) (sym dimension)

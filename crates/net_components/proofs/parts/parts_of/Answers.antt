@@ -1,11 +1,8 @@
 use Rattle.std.proofs.Common.{rules, ◌++◌, ◌∷◌, [], take, List, sym, subst}
-use Rattle.net_components.specs.Components.{Component}
-use Rattle.net_components.specs.Written.{IsMadeOf}
-use Rattle.net_components.specs.declared.parts.Part.{Part}
+use Rattle.net_components.specs.{Components.Component, Written.IsMadeOf, declared.parts.Part.Part}
 use Rattle.integers.proofs.lists.Matched.{matched_more}
 use Rattle.integers.specs.Lists.{AreMatched}
-use Rattle.net_components.proofs.AllParts.{part_fault}
-use Rattle.net_components.proofs.ListPlaces.{take_more}
+use Rattle.net_components.proofs.{AllParts.part_fault, OnePart.take_more}
 use Rattle.net_components.proofs.parts.parts_of.Goals as goal
 
 pub returns-in_err-part-clause-fault : goal.returns-in_err-part-clause-fault
@@ -18,9 +15,7 @@ returns-in_err-part-clause-fault g c =
 
 pub loop-component-preserved : goal.loop-component-preserved
 loop-component-preserved g c =
-    let G = c.args.g.now in
-    let cs = c.args.components.now in
-    let i = c.loop-component.component-index in
+    let G = c.args.g.now in let cs = c.args.components.now in let i = c.loop-component.component-index in
     let d = c.component-item.result in
     subst (λ (ds : List Component). AreMatched (IsMadeOf G) ds c.push.new.parts.items)
     (sym (take_more cs i d c.loop-component-test.true (sym c.component-item.is)))

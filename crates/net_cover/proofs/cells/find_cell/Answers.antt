@@ -1,5 +1,4 @@
-use Rattle.std.proofs.Common.{◌∙◌, sym}
-use Rattle.std.proofs.lemmas.Bool.{true≢false}
+use Rattle.std.proofs.{Common.◌∙◌, Common.sym, lemmas.Bool.true≢false}
 use Rattle.net_cover.specs.CellWords.{cell_numbers}
 use Rattle.net_cover.proofs.CellNumbers.{numbers_few, numbers_wide, spelled_after}
 use Rattle.net_cover.proofs.cells.find_cell.Goals as goal

@@ -2,15 +2,13 @@
 use Rattle.std.proofs.Common.{◌≡◌, ◌∙◌, ◌<◌, ◌+◌, ◌^◌, ℕ, sym, ap, subst, arith}
 use Rattle.integers.specs.Vectors.{plus, minus, HasDimension, IsWithin}
 use Rattle.integers.proofs.vectors.Bounds.{wider}
-use Rattle.periodic_net.specs.Graph.{Arc}
-use Rattle.periodic_net.specs.Limits.{most_vertices, most_shift}
-use Rattle.sublattice.specs.Remainders.{remainder_with}
-use Rattle.sublattice.specs.Sublattices.{IsCombination}
+use Rattle.periodic_net.specs.{Graph.Arc, Limits.most_vertices, Limits.most_shift}
+use Rattle.sublattice.specs.{Remainders.remainder_with, Sublattices.IsCombination}
 use Rattle.net_cover.specs.Covers.{number_in_cover, LeadsTo}
 use Rattle.net_cover.proofs.LiftSteps.{few, leads, left_combination, lift_made, part_tells, remainder_small}
 use Rattle.net_cover.proofs.lifting.lift.Given.{Over}
-use Rattle.net_cover.proofs.lifting.lift.Goals as goal
 use Rattle.net_cover.proofs.lifting.lift.Goals.{After-to_triple, After-coefficients-k}
+use Rattle.net_cover.proofs.lifting.lift.Goals as goal
 
 -- the steps lead to the target from the remainder at their end
 steps_are : (g : Over) (c : After-to_triple g)
@@ -21,8 +19,7 @@ steps_are g c = c.to_triple.ensures.value ∙ c.minus-steps.ensures.value ∙ ap
 is_new : (g : Over) (c : After-coefficients-k g)
     → LeadsTo g.row.D c.args.cell.now.rows c.args.lattice.now c.args.edge.now c.args.start c.remainder_number-end.result c.coefficients-k.result
 is_new g c =
-    let S = c.args.lattice.now in
-    let i = c.args.start in
+    let S = c.args.lattice.now in let i = c.args.start in
     let first = c.remainder_at.ensures.value ∙ ap (remainder_with S) c.from.ensures in
     let shift = c.to_vector.ensures.value ∙ ap (λ (e : Arc). e.shift) c.edge.view_is in
     let to = c.plus-target.ensures.value ∙ (λ t. plus (first t) (shift t)) in
@@ -33,31 +30,25 @@ is_new g c =
 
 pub coefficients-k-requires-clause-vector : goal.coefficients-k-requires-clause-vector
 coefficients-k-requires-clause-vector g c =
-    let d = g.row.D in
-    let S = c.args.lattice.now in
-    let h = c.requires.lattice in
+    let d = g.row.D in let S = c.args.lattice.now in let h = c.requires.lattice in
     let l = few d c.args.cell.now.rows S h in
     let shift = c.to_vector.ensures.value ∙ ap (λ (e : Arc). e.shift) c.edge.view_is in
     let s = remainder_small most_vertices d S c.remainder_at.result h.lattice.stair l c.remainder_at.ensures.remainder in
     let r = remainder_small most_vertices d S c.remainder_at-2.result h.lattice.stair l c.remainder_at-2.ensures.remainder in
     let t = c.plus-target.ensures.within most_vertices most_shift s (subst (IsWithin most_shift) (sym shift) c.requires.edge.small) in
-    subst (IsWithin (2 ^ 12)) (sym c.to_triple.ensures.value)
-    (wider (most_vertices + most_shift + most_vertices) (2 ^ 12) (omega arith) c.minus-steps.result
+    rw c.to_triple.ensures.value (wider (most_vertices + most_shift + most_vertices) (2 ^ 12) (omega arith) c.minus-steps.result
     (c.minus-steps.ensures.within (most_vertices + most_shift) most_vertices t r))
 
 pub coefficients-k-requires-clause-combination : goal.coefficients-k-requires-clause-combination
 coefficients-k-requires-clause-combination g c =
-    let b = c.args.cell.now.rows in
-    let end = c.remainder_number-end in
+    let b = c.args.cell.now.rows in let end = c.remainder_number-end in
     let steps = steps_are g (goal.at.coefficients-k-requires-clause-combination g c).After-to_triple in
     let i = left_combination g.row.D b c.args.lattice.now c.requires.lattice c.plus-target.result end.result end.ensures.number in
     subst (λ (n : ℕ). IsCombination n b c.to_triple.result) (sym c.requires.dimension) (subst (IsCombination g.row.D b) (sym steps) i)
 
 pub returns-in-Ok-clause-lift : goal.returns-in-Ok-clause-lift
 returns-in-Ok-clause-lift g c =
-    let a = c.args.edge.now in
-    let i = c.args.start in
-    let j = c.remainder_number-end.result in
+    let a = c.args.edge.now in let i = c.args.start in let j = c.remainder_number-end.result in
     let from = c.number.ensures ∙ ap (λ (e : Arc). number_in_cover c.args.index e.from i) c.edge.view_is in
     let there = c.number-in-Ok.ensures ∙ ap (λ (e : Arc). number_in_cover c.args.index e.to j) c.edge.view_is in
     lift_made g.row.D c.args.cell.now.rows c.args.lattice.now c.requires.lattice a i j c.coefficients-k.result

@@ -1,8 +1,7 @@
 use Rattle.std.proofs.Common.{◌+◌, ◌*◌, List, lit<, sym, subst}
 use Rattle.periodic_net.specs.Graph.{Arc}
-use Rattle.net_cover.specs.Covers.{AreGiven, IsLift}
-use Rattle.net_cover.specs.Lifting.{CanLift, TellsLift}
-use Rattle.net_cover.proofs.EdgeSteps.{edge_read, lifted_no_point, one_more, edge_tells}
+use Rattle.net_cover.specs.{Covers.AreGiven, Covers.IsLift, Lifting.CanLift, Lifting.TellsLift}
+use Rattle.net_cover.proofs.Covered.{edge_read, lifted_no_point, one_more, edge_tells}
 use Rattle.net_cover.proofs.lifting.push_lifts.Goals as goal
 
 pub normal-requires : goal.normal-requires
@@ -14,9 +13,7 @@ normal-requires g c =
 
 pub loop-start-preserved : goal.loop-start-preserved
 loop-start-preserved g c =
-    let d = g.row.D in
-    let b = c.args.cell.now.rows in
-    let S = c.args.lattice.now in
+    let d = g.row.D in let b = c.args.cell.now.rows in let S = c.args.lattice.now in
     let es = c.args.edges.now in
     let is = edge_read es c.args.m c.index-edges-m.result c.requires.m c.index-edges-m.is in
     let lift = subst (λ (a : Arc). IsLift d b S a c.loop-start.start c.in-Ok.edge) is c.in-Ok.ensures.lift in
@@ -27,9 +24,7 @@ loop-start-preserved g c =
 
 pub returns-in-Err-clause-wide : goal.returns-in-Err-clause-wide
 returns-in-Err-clause-wide g c =
-    let d = g.row.D in
-    let b = c.args.cell.now.rows in
-    let S = c.args.lattice.now in
+    let d = g.row.D in let b = c.args.cell.now.rows in let S = c.args.lattice.now in
     let es = c.args.edges.now in
     let is = edge_read es c.args.m c.index-edges-m.result c.requires.m c.index-edges-m.is in
     let t = subst (λ (a : Arc). TellsLift d b S a c.loop-start.start c.in-Err.fault) is c.in-Err.ensures.wide in

@@ -1,14 +1,9 @@
 -- Of `run`: the clauses `broken`, `answer`, `headline`, `complete` and `sure`.
 use Rattle.std.proofs.Common.{rules, ◌≡◌, [], Some, Option, subst}
-use Rattle.command_words.specs.Tasks.{Task, task_of}
-use Rattle.command_words.specs.Views.{task_view}
-use Rattle.command_words.specs.Words.{texts_of}
+use Rattle.command_words.specs.{Tasks.Task, Tasks.task_of, Views.task_view, Words.texts_of}
 use Rattle.net_report.specs.declared.status.Status.TheVariants.{Usage}
 use Rattle.net_tool.specs.Run.{IsDue}
-use Rattle.net_tool.proofs.Completed.{complete_of}
-use Rattle.net_tool.proofs.Headlines.{headline_of}
-use Rattle.net_tool.proofs.NothingWritten.{appends_nothing}
-use Rattle.net_tool.proofs.Room.{no_break}
+use Rattle.net_tool.proofs.{Completed.complete_of, Headlines.headline_of, NothingWritten.appends_nothing, Room.no_break}
 use Rattle.net_tool.proofs.tool.run.Goals as goal
 
 pub returns-in_default-found-clause-broken : goal.returns-in_default-found-clause-broken

@@ -1,6 +1,4 @@
-use Rattle.std.proofs.Common.{sym, ◌∙◌}
-use Rattle.std.proofs.lemmas.Slice.Eq.{slice_eq-Decides}
-use Rattle.std.proofs.lemmas.Bool.Decides.{Decides-int_eq}
+use Rattle.std.proofs.{Common.sym, Common.◌∙◌, lemmas.Slice.Eq.slice_eq-Decides, lemmas.Bool.Decides.Decides-int_eq}
 use Rattle.least_key.specs.AnyNets.{net_view}
 use Rattle.least_key.proofs.CallerLemmas.{nets_decide}
 use Rattle.nets.proofs.calls.are_isomorphic.Goals as goal

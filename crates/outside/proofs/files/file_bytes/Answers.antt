@@ -1,5 +1,4 @@
-use Rattle.std.proofs.Common.{arith}
-use Rattle.std.proofs.lemmas.Grind.{common_steps}
+use Rattle.std.proofs.{Common.arith, lemmas.Grind.common_steps}
 use Rattle.outside.proofs.Found.{found_bytes}
 use Rattle.outside.proofs.files.file_bytes.Goals as goal
 

@@ -1,7 +1,6 @@
 use Rattle.std.proofs.Common.{◌≡◌, ◌+◌, ◌-◌, ◌≤◌}
 use Rattle.std.specs.Prelude.{vec_len}
-use Rattle.outside.specs.Last.{MayRead}
-use Rattle.outside.specs.Held.{Begins}
+use Rattle.outside.specs.{Last.MayRead, Held.Begins}
 use Rattle.outside.proofs.shelf.read_whole.Given as goal
 
 abbrev pub invariant-loop-buffer : goal.invariant-loop-buffer

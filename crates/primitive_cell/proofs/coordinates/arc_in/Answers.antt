@@ -1,8 +1,6 @@
 use Rattle.std.proofs.Common.{◌≡◌, ◌∙◌, refl, sym, ap, subst, lit<, arith}
-use Rattle.integers.specs.Vectors.{IsWithin, Vector}
-use Rattle.periodic_net.specs.Classes.{ClassArc}
-use Rattle.periodic_net.specs.Limits.{most_coordinate, most_units}
-use Rattle.integers.specs.Bases.{base_sum}
+use Rattle.integers.specs.{Vectors.IsWithin, Vectors.Vector, Bases.base_sum}
+use Rattle.periodic_net.specs.{Classes.ClassArc, Limits.most_units}
 use Rattle.primitive_cell.specs.Lattices.{basis_of}
 use Rattle.primitive_cell.proofs.StairBasis.{combination_is_sum}
 use Rattle.primitive_cell.proofs.coordinates.arc_in.Goals as goal
@@ -14,9 +12,7 @@ of_arc v a b e f h = subst (IsWithin most_units) (sym (e ∙ ap (λ (t : ClassAr
 pub to_vector-requires : goal.to_vector-requires
 to_vector-requires g c =
     let w = c.coordinates.ensures.within most_units (of_arc c.arc.inside.vector _ c.args.arc.now refl c.arc.view_is c.requires.short) in
-    let x = w.0 in
-    let y = w.1 in
-    let z = w.2 in
+    let x = w.0 in let y = w.1 in let z = w.2 in
     (lit< tt, ((omega (arith, x), omega (arith, y), omega (arith, z)), c.coordinates.ensures.dimension))
 
 pub returns-clause-same : goal.returns-clause-same
@@ -29,5 +25,4 @@ returns-clause-same g c =
 
 pub returns-clause-within : goal.returns-clause-within
 returns-clause-within g c =
-    subst (IsWithin most_coordinate) (sym c.to_vector.ensures) (c.coordinates.ensures.within most_units
-    (of_arc c.arc.inside.vector _ c.args.arc.now refl c.arc.view_is c.requires.short))
+    rw c.to_vector.ensures (c.coordinates.ensures.within most_units (of_arc c.arc.inside.vector _ c.args.arc.now refl c.arc.view_is c.requires.short))

@@ -1,14 +1,11 @@
 -- Of `edge_of`: what it ensures; what `position_of`, `move_between` and `coordinates` require.
 use Rattle.std.proofs.Common.{rules, ◌≡◌, lit<, sym, ap, subst}
 use Rattle.integers.specs.Vectors.{IsWithin}
-use Rattle.periodic_net.specs.Classes.{ClassArc}
-use Rattle.periodic_net.specs.Correspondence.{IsClass}
-use Rattle.periodic_net.specs.Limits.{most_coordinate}
+use Rattle.periodic_net.specs.{Classes.ClassArc, Correspondence.IsClass, Limits.most_coordinate}
 use Rattle.quotient_graph.specs.ClassNets.{IsSmallNet}
 use Rattle.vecdim.specs.Lattices.{Members}
-use Rattle.primitive_cell.specs.Given.{move_of}
-use Rattle.primitive_cell.specs.Places.{number_at}
-use Rattle.primitive_cell.proofs.CellFacts.{represented, tail_in, head_in, move_in, is_given}
+use Rattle.primitive_cell.specs.{Given.move_of, Places.number_at}
+use Rattle.primitive_cell.proofs.MadePrimitive.{represented, tail_in, head_in, move_in, is_given}
 use Rattle.primitive_cell.proofs.edges.edge_of.Goals as goal
 
 pub position_of-from-requires : goal.position_of-from-requires
@@ -31,8 +28,7 @@ move_between-v-requires g c =
 
 pub coordinates-requires : goal.coordinates-requires
 coordinates-requires g c =
-    let N = c.args.net.now in
-    let us = c.args.firsts.now in
+    let N = c.args.net.now in let us = c.args.firsts.now in
     let e : c.move_between-v.result ≡ move_of N.placement (number_at us) c.args.arc.now = search rules in
     let m = subst (Members g.row.D c.args.stairs.now) (sym e)
     (move_in g.row.D N c.args.classes.now us c.args.stairs.now c.requires.cell c.args.arc.now c.requires.arc) in
@@ -40,8 +36,7 @@ coordinates-requires g c =
 
 pub returns : goal.returns
 returns g c =
-    let N = c.args.net.now in
-    let us = c.args.firsts.now in
+    let N = c.args.net.now in let us = c.args.firsts.now in
     let e : c.move_between-v.result ≡ move_of N.placement (number_at us) c.args.arc.now = search rules in
     is_given g.row.D N c.args.classes.now us c.args.stairs.now c.requires.cell c.args.arc.now _ c.arc.view_is c.move_between-v.result c.coordinates.result e
     c.coordinates.ensures.value c.coordinates.ensures.dimension

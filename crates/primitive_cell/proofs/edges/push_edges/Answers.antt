@@ -2,12 +2,11 @@
 use Rattle.std.proofs.Common.{◌≡◌, ◌+◌, Bool, true, false, List, lit<, sym, subst, Vec, Global}
 use Rattle.periodic_net.specs.Graph.{Arc, IsNormalSpelling}
 use Rattle.vecdim.specs.Stairs.{rows_of}
-use Rattle.primitive_cell.specs.Given.{AreGivenEdges}
-use Rattle.primitive_cell.specs.Places.{number_at}
+use Rattle.primitive_cell.specs.{Given.AreGivenEdges, Places.number_at}
+use Rattle.primitive_cell.proofs.MadePrimitive.{item_in, class_starts, class_passes, class_adds, class_ends}
 use Rattle.primitive_cell.proofs.ClassEdges.{IsArcUpTo}
-use Rattle.primitive_cell.proofs.EdgeSteps.{item_in, class_starts, class_passes, class_adds, class_ends}
-use Rattle.primitive_cell.proofs.edges.push_edges.Goals as goal
 use Rattle.primitive_cell.proofs.edges.push_edges.Goals.{then-is_normal+in_ok-push, else-is_normal}
+use Rattle.primitive_cell.proofs.edges.push_edges.Goals as goal
 
 pub loop-arc-init : goal.loop-arc-init
 loop-arc-init g c =
@@ -28,17 +27,10 @@ one_answer b h k = cc
 
 pub loop-arc-preserved : goal.loop-arc-preserved
 loop-arc-preserved g c =
-    let d = g.row.D in
-    let N = c.args.net.now in
-    let k = c.args.classes.now in
-    let us = c.args.firsts.now in
-    let S = c.args.stairs.now in
-    let p = c.requires.cell in
-    let n = c.args.class in
-    let star = c.arcs-arc-items.result.now in
-    let is = c.arcs-arc-items.ensures.arcs in
-    let es = c.loop-arc.edges.items in
-    let i = c.loop-arc.arc-index in
+    let d = g.row.D in let N = c.args.net.now in let k = c.args.classes.now in let us = c.args.firsts.now in
+    let S = c.args.stairs.now in let p = c.requires.cell in let n = c.args.class in
+    let star = c.arcs-arc-items.result.now in let is = c.arcs-arc-items.ensures.arcs in
+    let es = c.loop-arc.edges.items in let i = c.loop-arc.arc-index in
     let Done : List Arc → Type 0 = λ xs. AreGivenEdges d N.placement (number_at us) (rows_of d S) (IsArcUpTo k.classes n star (i + 1)) xs in
     elim c.if-is_normal.branch [
       | then-is_normal+in_ok-push w ↦

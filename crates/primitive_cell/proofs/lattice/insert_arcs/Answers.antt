@@ -5,7 +5,7 @@ use Rattle.periodic_net.specs.Classes.{ClassArc}
 use Rattle.vecdim.specs.Lattices.{Members, IsWith}
 use Rattle.vecdim.proofs.CallerLemmas.{with_start}
 use Rattle.primitive_cell.specs.Lattices.{AreInside}
-use Rattle.primitive_cell.proofs.LatticeMembers.{one_more_inside}
+use Rattle.primitive_cell.proofs.TranslationStairs.{one_more_inside}
 use Rattle.primitive_cell.proofs.lattice.insert_arcs.Goals as goal
 
 pub loop-arc-preserved : goal.loop-arc-preserved

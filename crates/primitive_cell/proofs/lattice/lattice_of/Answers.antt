@@ -1,26 +1,16 @@
-use Rattle.std.proofs.Common.{◌≡◌, ◌⊎◌, sym, subst, ℕ, ◌<◌, ◌≤◌, lit<, arith, ⊎_elim}
-use Rattle.std.proofs.lemmas.Bool.{cases_lt}
-use Rattle.std.proofs.lemmas.Int.{ints, to_z-of_z}
+use Rattle.std.proofs.Common.{◌≡◌, ◌⊎◌, subst, ℕ, ◌<◌, ◌≤◌, lit<, arith, ⊎_elim}
+use Rattle.std.proofs.lemmas.{Bool.cases_lt, Int.ints, Int.to_z-of_z}
 use Rattle.std.specs.Int.{w128}
 use Rattle.quotient_graph.specs.ClassNets.{arcs_of}
 use Rattle.primitive_cell.specs.Lattices.{AreInside}
-use Rattle.primitive_cell.proofs.Dimensions.{at_least_two, at_most_three}
-use Rattle.primitive_cell.proofs.LatticeMembers.{more_inside}
+use Rattle.primitive_cell.proofs.{Dimensions.at_least_two, Dimensions.at_most_three, TranslationStairs.more_inside}
 use Rattle.primitive_cell.proofs.lattice.lattice_of.Goals as goal
 
 pub from_bound-lattice-requires : goal.from_bound-lattice-requires
 from_bound-lattice-requires g c =
-    let t = subst (λ (d : ℕ). (d ≡ 2) ⊎ (d ≡ 3)) c.count-count.ensures.dimension c.count-count.ensures.small.net.balanced.two_or_three in (
-      lit< tt,
-      (
-        at_least_two g.row.D t,
-        (
-          at_most_three g.row.D t,
-          rw (to_z-of_z w128 c.args.bound c.ranges.bound)
-              (c.requires.from, (let to = c.requires.to in omega (arith, ints, to))),
-        ),
-      ),
-    )
+    let t = subst (λ (d : ℕ). (d ≡ 2) ⊎ (d ≡ 3)) c.count-count.ensures.dimension c.count-count.ensures.small.net.balanced.two_or_three in
+    let to = c.requires.to in
+    (lit< tt, (at_least_two g.row.D t, (at_most_three g.row.D t, rw (to_z-of_z w128 c.args.bound c.ranges.bound) (c.requires.from, omega (arith, ints, to)))))
 
 pub loop-c-preserved : goal.loop-c-preserved
 loop-c-preserved g c e low high =
@@ -28,8 +18,7 @@ loop-c-preserved g c e low high =
     (c.loop-c.invariant e low l))
     (λ (m : c.loop-c.c ≤ e).
     let same : e ≡ c.loop-c.c = omega (arith, m, high) in
-    subst (λ (k : ℕ). AreInside g.row.D c.insert_arcs.new.lattice (arcs_of c.args.net.now k)) (sym same)
-    (subst (AreInside g.row.D c.insert_arcs.new.lattice) c.arcs.ensures.arcs c.insert_arcs.ensures.added))
+    rw same (subst (AreInside g.row.D c.insert_arcs.new.lattice) c.arcs.ensures.arcs c.insert_arcs.ensures.added))
     (cases_lt e c.loop-c.c)
 
 pub returns : goal.returns

@@ -1,4 +1,4 @@
-use Rattle.std.proofs.Common.{◌≡◌, ◌∙◌, pos, sym, ap, subst, FitsSigned, to_z, of_z, refl}
+use Rattle.std.proofs.Common.{◌≡◌, ◌∙◌, pos, sym, ap, FitsSigned, to_z, of_z, refl}
 use Rattle.std.specs.Int.{w128}
 use Rattle.std.proofs.lemmas.Int.{to_z-of_z}
 use Rattle.periodic_net.specs.Graph.{Graph}
@@ -8,9 +8,7 @@ use Rattle.primitive_cell.proofs.lattices.lattice_of.Goals as goal
 
 pub returns : goal.returns
 returns g c =
-    let d = g.row.D in
-    let k = c.graph.ensures in
-    let d0 = c.d0.result in
+    let d = g.row.D in let k = c.graph.ensures in let d0 = c.d0.result in
     let f : FitsSigned w128 d0 = record { sfits = c.d0.type_inv } in
     let q : to_z w128 (of_z w128 d0) ≡ d0 = simp to_z-of_z refl in
     let z = q ∙ c.d0.ensures.value ∙ ap (λ (n : PlacedNet). pos n.placement.denominator) c.placed.ensures.placed in

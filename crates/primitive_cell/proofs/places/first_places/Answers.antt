@@ -5,9 +5,7 @@ use Rattle.primitive_cell.proofs.places.first_places.Goals.{then-number-len+in_o
 
 pub loop-i-preserved : goal.loop-i-preserved
 loop-i-preserved c =
-    let ns = c.args.numbers.now in
-    let i = c.loop-i.i in
-    let us = c.loop-i.firsts.items in
+    let ns = c.args.numbers.now in let i = c.loop-i.i in let us = c.loop-i.firsts.items in
     let len : c.len.result ≡ length us = c.len.ensures ∙ c.loop-i.firsts.ok.0 in
     let f = c.loop-i.invariant in
     elim c.if-number-len.branch [

@@ -12,12 +12,9 @@ independent-requires g c =
 
 pub cells_by-requires : goal.cells_by-requires
 cells_by-requires g c =
-    let S = c.args.here.now in
-    let T = c.args.there.now in
-    let ts = c.deref.result.now in
+    let S = c.args.here.now in let T = c.args.there.now in let ts = c.deref.result.now in
     let each = subst (All (IsTurn S T)) (sym c.deref.ensures.value) c.in_ok-found.ensures.each in
     let dimension = ap (λ (H : Graph). H.dimension) (sym c.graph.ensures) ∙ c.recall.ensures.parameter in
-    let shifts = c.independent.result.shifts in
-    let images = c.independent.result.images in
+    let shifts = c.independent.result.shifts in let images = c.independent.result.images in
     let turns = subst (λ d. AreIndependentTurns d ts shifts images) (sym dimension) c.independent.ensures in
     (lit< tt, (lit< tt, (c.requires.one_key, turns_carried S T ts each shifts images turns)))

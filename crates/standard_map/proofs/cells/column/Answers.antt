@@ -9,8 +9,7 @@ divided_by-requires-clause-vector c = wider most_cell (2 ^ 126) (omega arith) c.
 
 pub divided_by-requires-clause-divides : goal.divided_by-requires-clause-divides
 divided_by-requires-clause-divides c =
-    let w = c.requires.divides in
-    let e = c.along.ensures.value in
+    let w = c.requires.divides in let e = c.along.ensures.value in
     let e' = simp (to_z-of_z, c.ranges.x, c.ranges.y, c.ranges.z) at e in
     (w.0, simp (to_z-of_z, c.ranges.product) (e' ∙ w.1))
 

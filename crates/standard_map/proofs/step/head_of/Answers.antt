@@ -1,7 +1,6 @@
 use Rattle.std.proofs.Common.{lit<, sym, subst, ap, ◌∙◌}
 use Rattle.integers.specs.Vectors.{plus}
-use Rattle.periodic_net.specs.Graph.{Arc, IsQuotientVertex}
-use Rattle.periodic_net.specs.Placement.{arc_vector}
+use Rattle.periodic_net.specs.{Graph.Arc, Graph.IsQuotientVertex, Placement.arc_vector}
 use Rattle.periodic_net.proofs.CallerLemmas.{arc_inside}
 use Rattle.standard_map.specs.Ends.{End, IsEnd}
 use Rattle.standard_map.proofs.Heads.{next_end, some_arc}
@@ -9,8 +8,7 @@ use Rattle.standard_map.proofs.step.head_of.Goals as goal
 
 pub step-image-requires : goal.step-image-requires
 step-image-requires g c =
-    let k = c.requires.one_key in
-    let T = c.args.there.now in
+    let k = c.requires.one_key in let T = c.args.there.now in
     let r = some_arc c.args.here.now T k c.args.tail.now c.requires.tail c.args.arc.now c.requires.arc.is_arc c.requires.arc.from c.part_of-part.result
     c.part_of-part.ensures.part in
     let e = r.2 ∙ sym (ap (λ (x : End). x.image) c.tail.view_is) in
@@ -18,12 +16,8 @@ step-image-requires g c =
 
 pub returns-clause-end : goal.returns-clause-end
 returns-clause-end g c =
-    let S = c.args.here.now in
-    let T = c.args.there.now in
-    let a = c.args.arc.now in
-    let b = c.step-image.result in
-    let s = c.step-image.ensures in
-    let tail = c.tail.view_is in
+    let S = c.args.here.now in let T = c.args.there.now in let a = c.args.arc.now in
+    let b = c.step-image.result in let s = c.step-image.ensures in let tail = c.tail.view_is in
     let arc = c.arc.view_is in
     let e = next_end S T c.requires.one_key c.args.tail.now c.requires.tail a b c.requires.arc.is_arc c.requires.arc.from s.is_arc
     (s.from ∙ ap (λ (x : End). x.image) tail)
@@ -37,6 +31,5 @@ returns-clause-end g c =
 
 pub returns-clause-shift : goal.returns-clause-shift
 returns-clause-shift g c =
-    let tail = c.tail.view_is in
-    let arc = c.arc.view_is in
+    let tail = c.tail.view_is in let arc = c.arc.view_is in
     c.plus.ensures ∙ (λ i. plus (tail i).shift (arc i).shift)

@@ -1,6 +1,5 @@
 use Rattle.std.proofs.Common.{ℕ, ◌<◌, get_or}
-use Rattle.periodic_net.specs.Graph.{Arc}
-use Rattle.periodic_net.specs.Placement.{arc_vector}
+use Rattle.periodic_net.specs.{Graph.Arc, Placement.arc_vector}
 use Rattle.standard_map.specs.Sides.{IsPart}
 use Rattle.standard_map.proofs.step.step.Given as goal
 

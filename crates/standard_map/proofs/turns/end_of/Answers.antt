@@ -1,4 +1,4 @@
-use Rattle.standard_map.proofs.OverEnds.{none_left}
+use Rattle.standard_map.proofs.EdgeTurns.{none_left}
 use Rattle.standard_map.proofs.turns.end_of.Goals as goal
 
 pub unreachable-requires : goal.unreachable-requires

@@ -1,6 +1,5 @@
 use Rattle.std.proofs.Common.{◌≡◌, ◌≢◌, ℕ, ◌<◌, drop, get_or}
-use Rattle.standard_map.specs.Ends.{End}
-use Rattle.standard_map.specs.Turns.{end_over}
+use Rattle.standard_map.specs.{Ends.End, Turns.end_over}
 use Rattle.standard_map.proofs.turns.end_of.Given as goal
 
 abbrev pub invariant-loop-end : goal.invariant-loop-end

@@ -2,8 +2,7 @@ use Rattle.std.proofs.Common.{◌+◌, ◌*◌, ◌-◌, sym, subst, ap, ◌∙�
 use Rattle.integers.specs.Vectors.{IsWithin}
 use Rattle.integers.proofs.vectors.Bounds.{wider}
 use Rattle.periodic_net.specs.Limits.{most_closed, most_shift, most_units, most_vertices}
-use Rattle.standard_map.specs.CellBounds.{most_turn}
-use Rattle.standard_map.specs.Ends.{End}
+use Rattle.standard_map.specs.{CellBounds.most_turn, Ends.End}
 use Rattle.standard_map.proofs.turns.turn_between.Goals as goal
 
 pub returns-clause-within_shift : goal.returns-clause-within_shift

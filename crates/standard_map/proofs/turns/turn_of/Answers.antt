@@ -1,17 +1,12 @@
 -- Of `turn_of`: the clause `turn`; what `end_of`, `head_of` and `turn_between` require.
 use Rattle.std.proofs.Common.{◌-◌, lit<, sym, subst, ap, ◌∙◌, arith}
-use Rattle.integers.specs.Bases.{base_sum}
-use Rattle.integers.specs.Vectors.{HasDimension}
+use Rattle.integers.specs.{Bases.base_sum, Vectors.HasDimension}
 use Rattle.integers.proofs.vectors.Laws.{minus_dimension}
-use Rattle.periodic_net.specs.Graph.{Arc}
-use Rattle.periodic_net.specs.Limits.{most_vertices}
+use Rattle.periodic_net.specs.{Graph.Arc, Limits.most_vertices}
 use Rattle.periodic_net.proofs.CallerLemmas.{arc_inside}
 use Rattle.quotient_graph.specs.Stars.{IsArcFrom}
-use Rattle.standard_map.specs.Search.{HasEnd}
-use Rattle.standard_map.proofs.Searching.{nearer}
-use Rattle.standard_map.proofs.TurnImages.{turn_carried}
-use Rattle.standard_map.specs.Turns.{end_over}
-use Rattle.standard_map.proofs.OverEnds.{found_end}
+use Rattle.standard_map.specs.{Search.HasEnd, Turns.end_over}
+use Rattle.standard_map.proofs.{Searching.nearer, ByWalks.turn_carried, EdgeTurns.found_end}
 use Rattle.standard_map.proofs.turns.turn_of.Goals as goal
 
 pub end_of-tail-requires : goal.end_of-tail-requires
@@ -21,9 +16,7 @@ end_of-tail-requires g c =
 
 pub head_of-head-requires : goal.head_of-head-requires
 head_of-head-requires g c =
-    let S = c.args.here.now in
-    let T = c.args.there.now in
-    let a = c.args.edge.now in
+    let S = c.args.here.now in let T = c.args.there.now in let a = c.args.edge.now in
     let inside = arc_inside S.net.graph c.requires.one_key.one_list.here a c.requires.edge.is_arc in
     let tail = c.end_of-tail.result in
     let is = c.end_of-tail.ensures ∙ ap (λ (x : Arc). end_over c.args.ends.now x.from) c.edge.view_is in
@@ -34,9 +27,7 @@ head_of-head-requires g c =
 
 pub turn_between-requires : goal.turn_between-requires
 turn_between-requires g c =
-    let S = c.args.here.now in
-    let T = c.args.there.now in
-    let a = c.args.edge.now in
+    let S = c.args.here.now in let T = c.args.there.now in let a = c.args.edge.now in
     let inside = arc_inside S.net.graph c.requires.one_key.one_list.here a c.requires.edge.is_arc in
     let tail = found_end S T c.args.ends.now c.requires.ends a.from inside.from c.end_of-tail.result
     (c.end_of-tail.ensures ∙ ap (λ (x : Arc). end_over c.args.ends.now x.from) c.edge.view_is) in
@@ -46,14 +37,11 @@ turn_between-requires g c =
 
 pub returns-clause-turn : goal.returns-clause-turn
 returns-clause-turn g c =
-    let S = c.args.here.now in
-    let T = c.args.there.now in
-    let a = c.args.edge.now in
+    let S = c.args.here.now in let T = c.args.there.now in let a = c.args.edge.now in
     let inside = arc_inside S.net.graph c.requires.one_key.one_list.here a c.requires.edge.is_arc in
     let other = found_end S T c.args.ends.now c.requires.ends a.to inside.to c.end_of-other.result
     (c.end_of-other.ensures ∙ ap (λ (x : Arc). end_over c.args.ends.now x.to) c.edge.view_is) in
-    let head = c.head_of-head.ensures in
-    let t = c.turn_between.ensures in
+    let head = c.head_of-head.ensures in let t = c.turn_between.ensures in
     let over = head.over ∙ sym other.2 in
     record {
       carried = λ map m C h.

@@ -1,8 +1,7 @@
 -- Of `turns`: the loop over `edge`; what it ensures; what `turn_of` requires.
 use Rattle.std.proofs.Common.{◌+◌, ◌∷◌, [], lit<, length, sym, subst, ap, ◌∙◌, arith, length-append}
 use Rattle.std.specs.List.{All, Contains}
-use Rattle.periodic_net.specs.Graph.{Graph}
-use Rattle.periodic_net.specs.Limits.{IsSmall}
+use Rattle.periodic_net.specs.{Graph.Graph, Limits.IsSmall}
 use Rattle.standard_map.specs.Turns.{AreFull, IsTurn}
 use Rattle.standard_map.proofs.EdgeTurns.{AreOfEdges, AreOfFirst, all_more, edge_from, edges_full, first_more}
 use Rattle.standard_map.proofs.turns.turns.Goals as goal
@@ -14,8 +13,7 @@ loop-edge-init g c =
 
 pub turn_of-requires : goal.turn_of-requires
 turn_of-requires g c =
-    let G = c.args.here.now.net.graph in
-    let item = c.edge-item.result in
+    let G = c.args.here.now.net.graph in let item = c.edge-item.result in
     let same = c.edges-edges.ensures.edges ∙ ap (λ (H : Graph). H.edges) c.graph-graph.ensures in
     let small = subst IsSmall c.graph-graph.ensures c.recall.ensures.small in
     let in_row : Contains c.edges-edges.result.now item = (c.loop-edge.edge-index, c.loop-edge-test.true, sym c.edge-item.is) in
@@ -24,11 +22,8 @@ turn_of-requires g c =
 
 pub loop-edge-preserved : goal.loop-edge-preserved
 loop-edge-preserved g c =
-    let ts = c.loop-edge.found.items in
-    let t = c.turn_of.result in
-    let i = c.loop-edge.invariant in
-    let row = c.edges-edges.result.now in
-    let es = c.args.ends.now in
+    let ts = c.loop-edge.found.items in let t = c.turn_of.result in let i = c.loop-edge.invariant in
+    let row = c.edges-edges.result.now in let es = c.args.ends.now in
     let items = c.in_ok-push.ensures.items in
     let long = ap length items in
     let count = i.count in
@@ -42,12 +37,8 @@ loop-edge-preserved g c =
 
 pub returns : goal.returns
 returns g c =
-    let k = c.requires.one_key in
-    let G = c.args.here.now.net.graph in
-    let ts = c.loop-edge.found.items in
-    let es = c.args.ends.now in
-    let i = c.loop-edge.invariant in
-    let count = i.count in
+    let k = c.requires.one_key in let G = c.args.here.now.net.graph in let ts = c.loop-edge.found.items in
+    let es = c.args.ends.now in let i = c.loop-edge.invariant in let count = i.count in
     let end = c.loop-edge-test.false in
     let same = c.edges-edges.ensures.edges ∙ ap (λ (H : Graph). H.edges) c.graph-graph.ensures in
     let all : AreOfEdges c.edges-edges.result.now es ts = λ j a t l. (omega (arith, l, end, count), i.of_edges j a t (omega (arith, l, end))) in

@@ -1,7 +1,6 @@
 use Rattle.std.proofs.Common.{◌≡◌, ℕ, ◌<◌, length, get_or}
 use Rattle.std.specs.List.{All}
-use Rattle.periodic_net.specs.Graph.{Arc}
-use Rattle.periodic_net.specs.Split.{generator}
+use Rattle.periodic_net.specs.{Graph.Arc, Split.generator}
 use Rattle.standard_map.specs.Turns.{IsTurn, shift_over, Turn}
 use Rattle.standard_map.proofs.turns.turns.Given as goal
 

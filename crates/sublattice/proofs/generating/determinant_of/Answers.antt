@@ -1,7 +1,6 @@
 use Rattle.std.proofs.Common.{◌≡◌, ◌⊎◌, ◌^◌, ◌<◌, ◌∙◌, ℕ, FitsSigned, sym, subst, arith}
+use Rattle.std.proofs.lemmas.{Int.to_z-of_z, List.get_or_default}
 use Rattle.std.specs.Int.{w128}
-use Rattle.std.proofs.lemmas.Int.{to_z-of_z}
-use Rattle.std.proofs.lemmas.List.{get_or_default}
 use Rattle.integers.specs.Vectors.{IsWithin}
 use Rattle.sublattice.proofs.generating.determinant_of.Goals as goal
 

@@ -1,11 +1,9 @@
 use Rattle.std.proofs.Common.{◌≡◌, ◌∙◌, ℤ, FitsSigned, to_z, of_z, pos, refl, sym, subst}
-use Rattle.std.specs.Int.{w128}
 use Rattle.std.proofs.lemmas.Int.{to_z-of_z}
+use Rattle.std.specs.Int.{w128}
 use Rattle.integers.specs.Vectors.{Vector, zero_vector}
-use Rattle.integers.proofs.lists.Members.{IsIn}
-use Rattle.integers.proofs.vectors.Laws.{times_zero}
-use Rattle.vecdim.specs.Lattices.{Members, AreMultiples}
-use Rattle.vecdim.specs.Stairs.{Stairs}
+use Rattle.integers.proofs.{lists.Members.IsIn, vectors.Laws.times_zero}
+use Rattle.vecdim.specs.{Lattices.Members, Lattices.AreMultiples, Stairs.Stairs}
 use Rattle.vecdim.proofs.CallerLemmas.{with_has}
 use Rattle.sublattice.proofs.Rows.{made_sublattice}
 use Rattle.sublattice.proofs.generating.lattice_of.Goals as goal

@@ -4,13 +4,9 @@ use Rattle.sublattice.proofs.numbering.remainder_number.Goals as goal
 
 pub mixed-requires : goal.mixed-requires
 mixed-requires g c =
-    let S = c.args.lattice.now in
-    let d = c.digits_of.ensures in
-    let h = d.remainder.remainder.high in
+    let S = c.args.lattice.now in let d = c.digits_of.ensures in let h = d.remainder.remainder.high in
     let s = factors_small (2 ^ 20) S d.stair.reduced c.requires in
-    let e = c.pivots_of-pivots.ensures.second in
-    let i = c.pivots_of-pivots.ensures.third in
-    let s1 = s.1 in
+    let e = c.pivots_of-pivots.ensures.second in let i = c.pivots_of-pivots.ensures.third in let s1 = s.1 in
     let s2 = s.2 in
     record {
       first = below_most c.digits_of.result.first d.r.x S.a d.first h.0 s.0;

@@ -8,7 +8,6 @@ returns-in-Ok-clause-told c =
 
 pub returns-in_ok-body-in-Err-clause-told : goal.returns-in_ok-body-in-Err-clause-told
 returns-in_ok-body-in-Err-clause-told c =
-    let size = c.size_of-size.ensures in
-    let body = c.in_ok-body-in-Err.ensures in
+    let size = c.size_of-size.ensures in let body = c.in_ok-body-in-Err.ensures in
     refused_as c.args.graph c.args.repeats c.size_of-size.result size.size size.is_graph c.in-Err.refusal c.in_ok-body-in-Err.body c.in-Err.ensures.refused
     body.told body.refused

@@ -1,10 +1,9 @@
-use Rattle.std.proofs.Common.{◌≡◌, ◌<◌, ◌+◌, [], ◌∷◌, List, length, take, sym, subst, arith}
-use Rattle.std.specs.List.{All}
+use Rattle.std.proofs.Common.{◌+◌, [], ◌∷◌, List, take, sym, subst, arith}
 use Rattle.std.proofs.lemmas.List.Elements.{All-append, All-cons, All-nil}
+use Rattle.std.specs.List.{All}
 use Rattle.net_archive.specs.Archives.{IsEntry}
 use Rattle.net_report.proofs.CallerLemmas.{as_many_kinds, kinds_at}
-use Rattle.archive_text.specs.Entries.{entry_view, entry_views}
-use Rattle.archive_text.specs.declared.entry.Entry.{Entry}
+use Rattle.archive_text.specs.{Entries.entry_view, Entries.entry_views, declared.entry.Entry.Entry}
 use Rattle.union_answers.specs.ItemEntries.{AreEntriesTold}
 use Rattle.union_answers.proofs.ItemEntries.{entries_next}
 use Rattle.union_answers.proofs.entries.entries_of.Goals as goal
@@ -22,10 +21,7 @@ entry_told-requires-clause-kinds c =
 
 pub loop-i-preserved : goal.loop-i-preserved
 loop-i-preserved c =
-    let os = c.args.outcomes.now in
-    let at = c.loop-i in
-    let i = at.i in
-    let e = c.in_ok-entry_told.field-0 in
+    let os = c.args.outcomes.now in let at = c.loop-i in let i = at.i in let e = c.in_ok-entry_told.field-0 in
     let pushed = sym {A = List Entry} c.in_ok-push.ensures.items in
     record {
       told = subst (λ (es : List Entry). AreEntriesTold (take (i + 1) os) (entry_views es)) pushed

@@ -1,8 +1,7 @@
 use Rattle.std.proofs.Common.{take}
 use Rattle.std.specs.List.{All}
 use Rattle.net_archive.specs.Archives.{IsEntry}
-use Rattle.archive_text.specs.Entries.{entry_view, entry_views}
-use Rattle.archive_text.specs.declared.entry.Entry.{Entry}
+use Rattle.archive_text.specs.{Entries.entry_view, Entries.entry_views, declared.entry.Entry.Entry}
 use Rattle.union_answers.specs.ItemEntries.{AreEntriesTold}
 use Rattle.union_answers.proofs.entries.entries_of.Given as goal
 

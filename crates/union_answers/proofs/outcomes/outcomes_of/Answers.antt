@@ -1,12 +1,10 @@
 -- Of `outcomes_of`: the loop over `item`.
-use Rattle.std.proofs.Common.{◌∙◌, ◌++◌, ◌∷◌, [], ℕ, List, length, All, refl, sym, ap, subst, arith, rules}
+use Rattle.std.proofs.Common.{◌∙◌, ◌++◌, ◌∷◌, [], List, length, All, refl, sym, ap, subst, arith, rules}
 use Rattle.std.proofs.lemmas.List.{append_assoc, length-append}
 use Rattle.std.proofs.lemmas.List.Elements.{All-append, All-cons, All-nil}
 use Rattle.std.specs.Vec.Iter.{into_iter_items}
 use Rattle.keyline_import.specs.declared.item.Item.{Item}
-use Rattle.net_report.specs.KindsTold.{AreKindsOfAll}
-use Rattle.net_report.specs.Reports.{IsPrintable}
-use Rattle.net_report.specs.declared.outcome.Outcome.{Outcome}
+use Rattle.net_report.specs.{KindsTold.AreKindsOfAll, Reports.IsPrintable, declared.outcome.Outcome.Outcome}
 use Rattle.net_report.proofs.CallerLemmas.{kinds_last}
 use Rattle.union_answers.proofs.ItemListing.{AreOutcomesOfRead, outcomes_more, outcomes_none}
 use Rattle.union_answers.proofs.outcomes.outcomes_of.Goals as goal
@@ -25,14 +23,10 @@ loop-item-init c =
 
 pub loop-item-preserved : goal.loop-item-preserved
 loop-item-preserved c =
-    let at = c.loop-item in
-    let x = c.in-Some.item in
-    let os = at.keyed.outcomes in
-    let o = c.in_ok-outcome.outcome in
-    let ks = c.in_ok-outcome.kinds in
+    let at = c.loop-item in let x = c.in-Some.item in let os = at.keyed.outcomes in
+    let o = c.in_ok-outcome.outcome in let ks = c.in_ok-outcome.kinds in
     let later = into_iter_items c.next.new.self in
-    let steps = c.in-Some.ensures.steps in
-    let pushed = sym c.in_ok-push.ensures.outcomes in
+    let steps = c.in-Some.ensures.steps in let pushed = sym c.in_ok-push.ensures.outcomes in
     record {
       all = append_assoc at.yielded (x ∷ []) later ∙ ap (λ (l : List Item). at.yielded ++ l) (sym steps.0) ∙ at.invariant.all;
       left = let was = at.invariant.left in let gone = steps.1 in let short = ap length steps.0 in omega (arith, was, gone, short);

@@ -1,7 +1,6 @@
 use Rattle.std.proofs.Common.{◌≡◌, ◌++◌, IsTrue, length}
 use Rattle.std.specs.List.{list_all}
-use Rattle.workload.specs.BaseNets.{is_base_edge}
-use Rattle.workload.specs.Workload.{all_lines}
+use Rattle.workload.specs.{BaseNets.is_base_edge, Workload.all_lines}
 use Rattle.workload.proofs.lines.push_lines.Given as goal
 
 abbrev pub invariant-loop-left : goal.invariant-loop-left

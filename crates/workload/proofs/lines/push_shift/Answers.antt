@@ -5,8 +5,7 @@ use Rattle.workload.proofs.lines.push_shift.Goals as goal
 
 pub returns : goal.returns
 returns c =
-    let text = c.args.text.now.items in
-    let e = c.args.e in
+    let text = c.args.text.now.items in let e = c.args.e in
     let x = ap part_text (to_z-of_z w32 e.x (search rules)) in
     let y = ap part_text (to_z-of_z w32 e.y (search rules)) in
     let z = ap (third_text c.args.dimension) (to_z-of_z w32 e.z (search rules)) in

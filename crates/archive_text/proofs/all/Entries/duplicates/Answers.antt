@@ -1,9 +1,8 @@
 use Rattle.std.proofs.Common.{◌≡◌, ℕ, ◌+◌, ◌≤◌, ap, sym, subst, ◌∙◌, List, length, Option, IfNone, IfSome, Vec, arith}
-use Rattle.std.specs.declared.alloc.Global.{Global}
 use Rattle.std.proofs.lemmas.List.{length-map}
-use Rattle.archive_text.specs.Entries.{entry_view}
-use Rattle.archive_text.specs.Groups.{IsGroupFrom, numbers_in}
-use Rattle.archive_text.proofs.FoundGroups.{AreGroupsTo, no_groups, all_groups, no_more, one_more, one_vector_more}
+use Rattle.std.specs.declared.alloc.Global.{Global}
+use Rattle.archive_text.specs.{Entries.entry_view, Groups.IsGroupFrom, Groups.numbers_in}
+use Rattle.archive_text.proofs.KeyNumbers.{AreGroupsTo, no_groups, all_groups, no_more, one_more, one_vector_more}
 use Rattle.archive_text.proofs.all.Entries.duplicates.Goals.{in-Some+in_ok-push, in_default}
 use Rattle.archive_text.proofs.all.Entries.duplicates.Goals as goal
 
@@ -12,8 +11,7 @@ loop-place-init c = no_groups c.args.self.now (numbers_in c.new-groups.result.it
 
 pub loop-place-preserved : goal.loop-place-preserved
 loop-place-preserved c =
-    let es = c.args.self.now in
-    let n = c.loop-place.place in
+    let es = c.args.self.now in let n = c.loop-place.place in
     elim c.match-branch-2.branch [
       | in-Some+in_ok-push w ↦
           let group = subst (λ (r : Option (Vec ℕ Global)). IfSome r (λ g. IsGroupFrom es (n + 1) g.items)) w.in-Some.is c.in_ok-group.ensures.some in

@@ -1,5 +1,5 @@
 use Rattle.archive_text.specs.Groups.{numbers_in}
-use Rattle.archive_text.proofs.FoundGroups.{AreGroupsTo}
+use Rattle.archive_text.proofs.KeyNumbers.{AreGroupsTo}
 use Rattle.archive_text.proofs.all.Entries.duplicates.Given as goal
 
 abbrev pub invariant-loop-place : goal.invariant-loop-place

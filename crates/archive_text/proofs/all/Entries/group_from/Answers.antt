@@ -1,12 +1,9 @@
 -- Of `group_from`: the clauses `none` and `some`. `there` and `same` are what they share.
 use Rattle.std.proofs.Common.{◌≡◌, ◌<◌, ◌≤◌, ◌+◌, ℕ, List, length, slice_get, Some, ap, sym, subst, ◌∙◌, arith}
-use Rattle.archive_text.specs.Entries.{entry_view, entry_views}
-use Rattle.archive_text.specs.Groups.{numbers_at, numbers_with}
-use Rattle.archive_text.specs.declared.entry.Entry.{Entry}
-use Rattle.archive_text.proofs.FromPlace.{entry_there, numbers_there}
-use Rattle.archive_text.proofs.KeyNumbers.{no_group, some_group}
-use Rattle.archive_text.proofs.all.Entries.group_from.Goals as goal
+use Rattle.archive_text.specs.{Entries.entry_view, Entries.entry_views, Groups.numbers_at, Groups.numbers_with, declared.entry.Entry.Entry}
+use Rattle.archive_text.proofs.KeyNumbers.{entry_there, numbers_there, no_group, some_group}
 use Rattle.archive_text.proofs.all.Entries.group_from.Goals.{After-places-places}
+use Rattle.archive_text.proofs.all.Entries.group_from.Goals as goal
 
 -- the entry stands at the place
 there : (c : After-places-places) → slice_get c.args.self.now c.args.place ≡ Some (entry_view c.index.result.now)

@@ -1,16 +1,12 @@
 use Rattle.std.proofs.Common.{◌∙◌, ap, List}
-use Rattle.archive_text.specs.Places.{places_of}
-use Rattle.archive_text.specs.Entries.{entry_views}
-use Rattle.archive_text.specs.Lookups.{names_with, entries_at}
-use Rattle.archive_text.specs.Fingerprints.{key_print}
-use Rattle.archive_text.specs.declared.entry.Entry.{Entry}
+use Rattle.archive_text.specs.{Places.places_of, Entries.entry_views, Lookups.names_with, Lookups.entries_at, Fingerprints.key_print}
+use Rattle.archive_text.specs.{declared.entry.Entry.Entry}
 use Rattle.archive_text.proofs.Looking.{keys_found}
 use Rattle.archive_text.proofs.all.Entries.lookup.Goals as goal
 
 pub returns : goal.returns
 returns c =
-    let key = c.args.key.now in
-    let places = c.places-places.result.now in
+    let key = c.args.key.now in let places = c.places-places.result.now in
     let views = entry_views c.self.inside.items.items in
     let here = c.places-places.ensures ∙ ap (places_of c.self.inside.keys) (c.key_print.ensures ∙ ap key_print c.numbers.ensures) in
     let lent = ap (λ (es : List Entry). names_with key (entries_at (entry_views es) places)) c.deref.ensures.value in

@@ -1,6 +1,5 @@
 use Rattle.std.proofs.Common.{◌≡◌, length}
-use Rattle.archive_text.specs.Entries.{entry_views}
-use Rattle.archive_text.specs.Lookups.{entries_at, names_with}
+use Rattle.archive_text.specs.{Entries.entry_views, Lookups.entries_at, Lookups.names_with}
 use Rattle.archive_text.proofs.matches_of.Matches.next.Given as goal
 
 abbrev pub invariant-loop-self : goal.invariant-loop-self

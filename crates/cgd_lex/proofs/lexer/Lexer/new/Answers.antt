@@ -1,8 +1,5 @@
 use Rattle.std.proofs.Common.{length, arith, refl, []}
-use Rattle.cgd_lex.proofs.Exists.{is_cut}
-use Rattle.cgd_lex.proofs.Unique.{one_cut}
-use Rattle.cgd_lex.proofs.Places.{placed}
-use Rattle.cgd_lex.proofs.TokenCount.{few_tokens}
+use Rattle.cgd_lex.proofs.{Exists.is_cut, Unique.one_cut, Places.placed, TokenCount.few_tokens}
 use Rattle.cgd_lex.specs.Tokens.{tokens_of}
 use Rattle.cgd_lex.proofs.lexer.Lexer.new.Goals as goal
 

@@ -1,9 +1,7 @@
 use Rattle.std.proofs.Common.{◌≢◌, pos, rules, subst, sym}
-use Rattle.std.specs.Prelude.{FitsSigned, ℤ}
-use Rattle.std.specs.Int.{w128}
 use Rattle.std.proofs.lemmas.Int.{to_z-of_z}
-use Rattle.fraction.specs.Quotients.{quotient}
-use Rattle.fraction.specs.Values.{fraction_value}
+use Rattle.std.specs.{Prelude.FitsSigned, Prelude.ℤ, Int.w128}
+use Rattle.fraction.specs.{Quotients.quotient, Values.fraction_value}
 use Rattle.fraction.proofs.Operations.{cross_not_zero, over_or}
 use Rattle.fraction.proofs.arithmetic.FractionExact.over.Goals as goal
 
@@ -19,9 +17,7 @@ returns c =
     let x : FitsSigned w128 c.cross.result = record { sfits = c.cross.type_inv } in
     let y : FitsSigned w128 c.cross-2.result = record { sfits = c.cross-2.type_inv } in
     let z : c.args.o.num ≢ pos 0 = search rules in
-    let u = c.cross.ensures.value in
-    let v = c.cross-2.ensures.value in
-    let e = c.reduced.ensures in
+    let u = c.cross.ensures.value in let v = c.cross-2.ensures.value in let e = c.reduced.ensures in
     record {
       quotient = over_or c.args.self c.args.o _ c.reduced.result c.wide.result c.ok_or.result z
           (λ i. quotient (u i) (v i)) c.wide.ensures c.ok_or.ensures.value (simp to_z-of_z at e);

@@ -1,9 +1,7 @@
 use Rattle.std.proofs.Common.{◌*◌, pos, ◌∙◌}
-use Rattle.std.specs.Prelude.{FitsSigned, ◌+ℤ◌}
-use Rattle.std.specs.Int.{w128}
 use Rattle.std.proofs.lemmas.Int.{to_z-of_z}
-use Rattle.fraction.specs.Quotients.{quotient}
-use Rattle.fraction.specs.Values.{fraction_value}
+use Rattle.std.specs.{Prelude.FitsSigned, Prelude.◌+ℤ◌, Int.w128}
+use Rattle.fraction.specs.{Quotients.quotient, Values.fraction_value}
 use Rattle.fraction.proofs.Operations.{plus_is, sum_fits, exact_is}
 use Rattle.fraction.proofs.arithmetic.FractionExact.plus.Goals as goal
 
@@ -14,9 +12,7 @@ returns c =
     let x : FitsSigned w128 c.cross.result = record { sfits = c.cross.type_inv } in
     let y : FitsSigned w128 c.cross-2.result = record { sfits = c.cross-2.type_inv } in
     let s = sum_fits c.cross.result c.cross-2.result c.cross.ensures.small c.cross-2.ensures.small in
-    let u = c.cross.ensures.value in
-    let v = c.cross-2.ensures.value in
-    let e = c.over_both.ensures in
+    let u = c.cross.ensures.value in let v = c.cross-2.ensures.value in let e = c.over_both.ensures in
     record {
       sum = exact_is _ c.args.self c.args.o _ _ c.over_both.result ((λ i. quotient (u i +ℤ v i) (pos (a.den * b.den))) ∙ plus_is a b)
           (simp to_z-of_z at e);

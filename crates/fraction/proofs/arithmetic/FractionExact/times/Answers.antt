@@ -1,9 +1,7 @@
 use Rattle.std.proofs.Common.{◌*◌, pos, ◌∙◌}
-use Rattle.std.specs.Prelude.{FitsSigned}
-use Rattle.std.specs.Int.{w128}
 use Rattle.std.proofs.lemmas.Int.{to_z-of_z}
-use Rattle.fraction.specs.Quotients.{quotient}
-use Rattle.fraction.specs.Values.{fraction_value}
+use Rattle.std.specs.{Prelude.FitsSigned, Int.w128}
+use Rattle.fraction.specs.{Quotients.quotient, Values.fraction_value}
 use Rattle.fraction.proofs.Operations.{times_is, exact_is}
 use Rattle.fraction.proofs.arithmetic.FractionExact.times.Goals as goal
 
@@ -12,8 +10,7 @@ returns c =
     let a = fraction_value c.args.self in
     let b = fraction_value c.args.o in
     let n : FitsSigned w128 c.numerators.result = record { sfits = c.numerators.type_inv } in
-    let v = c.numerators.ensures in
-    let e = c.over_both.ensures in
+    let v = c.numerators.ensures in let e = c.over_both.ensures in
     record {
       product = exact_is _ c.args.self c.args.o _ _ c.over_both.result ((λ i. quotient (v i) (pos (a.den * b.den))) ∙ times_is a b)
           (simp to_z-of_z at e);
