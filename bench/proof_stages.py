@@ -16,6 +16,7 @@ from proof_units import (
     drop_imports,
     imports_of,
     is_instance,
+    is_of_tests,
     is_narrow,
     patterns_of,
     types_of,
@@ -156,7 +157,7 @@ class Lemmas:
 
     def candidates(self, path: Path, text: str) -> list[Trial]:
         """Returns what is tried in a file."""
-        if path.name in ("Invariants.antt", "Lib.antt", "CallerLemmas.antt"):
+        if path.name in ("Invariants.antt", "Lib.antt", "CallerLemmas.antt") or is_of_tests(path):
             return []
         brought, own, trials = imports_of(text), set[str](), list[Trial]()
         outer = None
@@ -287,7 +288,7 @@ def words_of_file(suffix: str, text: str, is_own: bool) -> Iterator[str]:
     elif suffix == ".antt":
         for found in IMPORT.finditer(text + "\n"):
             is_citing = not is_own or found[1] or " as " in found[3]
-            yield from found[3].replace(",", " ").split() if is_citing else ()
+            yield from re.split(r"[\s,.]+", found[3]) if is_citing else ()
         for line in IMPORT.sub("", text + "\n").split("\n"):
             yield from words_of(line)
     else:
@@ -317,7 +318,9 @@ class Uncited:
         while True:
             before = len(gone)
             for path, text in self.workshop.texts().items():
-                if path.name in (*OF_FUNCTIONS[1:], "Lib.antt", "CallerLemmas.antt") or is_instance(path):
+                if path.name in (*OF_FUNCTIONS[1:], "Lib.antt", "CallerLemmas.antt"):
+                    continue
+                if is_instance(path) or is_of_tests(path):
                     continue
                 thinner, taken = self.thinned(text, words, spared)
                 self.workshop.write({path: thinner} if taken else {})
@@ -347,12 +350,14 @@ class Uncited:
 
 DONE = re.compile(r"no holes|depends on a hole|proved")
 WAITS = re.compile(r"no proof: it (calls|names)")
+OPEN = re.compile(r"`search` did not prove (.*)$")
 
 
 class Answers:
-    """Answers that the search finds by itself go: whole files, then one answer of each function at a time.
+    """Answers that the search finds by itself go, also with half its counts; and files that then hold none.
 
-    Functions are proved apart, over the statements of what they call, so one check tries one answer of each."""
+    All are taken out at once: the check names those of each function that the search did not find, and they come back.
+    A function that calls one without a proof is only told of that, and waits for the next check."""
 
     def __init__(self, workshop: Workshop) -> None:
         self.workshop = workshop
@@ -374,57 +379,69 @@ class Answers:
                 break
         return set(left)
 
-    def leave_out_files(self, name: str) -> int:
-        """Takes out files of this name that are not needed and stand beside no answers; returns how many went."""
+    def leave_out_invariants(self) -> int:
+        """Takes out files of invariants that are not needed and stand beside no answers; returns how many went."""
         texts = self.workshop.texts()
         tried = {
             path: text
             for path, text in texts.items()
-            if path.name == name and (name == "Answers.antt" or path.with_name("Answers.antt") not in texts)
+            if path.name == "Invariants.antt" and path.with_name("Answers.antt") not in texts and not is_of_tests(path)
         }
         self.workshop.write(dict.fromkeys(tried))
         gone = self.settle(tried) if tried else set()
-        say(f"  {len(gone)} of {len(tried)} files {name} are not needed")
+        say(f"  {len(gone)} of {len(tried)} files of invariants are not needed")
         return len(gone)
 
     def leave_out_answers(self) -> int:
-        """Takes out single answers that are not needed; returns how many went."""
-        asked: set[tuple[Path, str]] = set()
-        count = 0
-        while True:
-            tried: dict[Path, str] = {}
-            for path, text in self.workshop.texts().items():
-                shorter = self.without_next(path, text, asked) if path.name == "Answers.antt" else None
-                if shorter is not None:
-                    tried[path] = text
-                    self.workshop.write({path: shorter})
-            if not tried:
-                return count
-            gone = self.settle(tried)
-            say(f"  {len(gone)} of {len(tried)} answers are not needed")
-            count += len(gone)
+        """Takes out the answers that are not needed; returns how many went."""
+        read = {path: text for path, text in self.workshop.texts().items() if not is_of_tests(path)}
+        of_functions = {path: text for path, text in read.items() if path.name == "Answers.antt"}
+        answers = {path: found for path, text in of_functions.items() if (found := answers_of(text))}
+        texts = {path: of_functions[path] for path in answers}
+        self.workshop.write({path: without(text, answers[path]) for path, text in texts.items()})
+        count, waiting = 0, set(texts)
+        for _ in range(MOST_TURNS):
+            told = self.needed(waiting, answers)
+            if not told:
+                break
+            waiting -= told.keys()
+            for path, needed in told.items():
+                gone = [answer for answer in answers[path] if answer.name not in needed]
+                self.workshop.write({path: without(texts[path], gone) if needed else None})
+                count += len(gone)
+        self.workshop.write({path: texts[path] for path in waiting})
+        say(f"  {count} of {sum(map(len, answers.values()))} answers are not needed")
+        return count
 
-    def without_next(self, path: Path, text: str, asked: set[tuple[Path, str]]) -> str | None:
-        """Returns the text without an answer that was not asked for before, or None where there is none."""
-        outer = [found for found in declarations_of(text) if not found.is_inner and not found.indent]
-        for answer in outer if len(outer) > 1 else []:
-            if (path, answer.name) not in asked:
-                asked.add((path, answer.name))
-                return without(text, [answer])
-        return None
+    def needed(self, waiting: set[Path], answers: dict[Path, list[Declaration]]) -> dict[Path, set[str]]:
+        """Checks the copy; returns the names of the answers that are needed in each file of which the check tells."""
+        outcome = self.workshop.check("--allow-holes", "--margin")
+        refused, found = {file for file, _ in outcome.refused}, dict[Path, set[str]]()
+        for path in waiting:
+            said, names = outcome.functions.get(self.function_of(path), ""), {answer.name for answer in answers[path]}
+            told = OPEN.search(said)
+            if WAITS.search(said):
+                continue
+            needed = set(re.findall(r"`([^`]+)`", told[1])) if told else set[str]() if DONE.match(said) else names
+            found[path] = needed if needed <= names and str(path) not in refused else names
+        return found
 
     def run(self) -> Shorter | None:
         """Tries all; returns what went, or None where nothing did."""
-        files = self.leave_out_files("Answers.antt")
         answers = self.leave_out_answers()
-        files += self.leave_out_files("Invariants.antt")
+        files = self.leave_out_invariants()
         texts, accepted = self.workshop.texts(), self.workshop.accepted
         changed = {path: text for path, text in accepted.items() if texts.get(path) != text}
         kept = self.settle(changed, "--margin") if changed else set()
         if not kept:
             return None
         outcome = self.workshop.check_anew()
-        return Shorter(f"{files} whole files and {answers} single answers", outcome) if outcome.is_proved else None
+        return Shorter(f"{answers} answers and {files} files of invariants", outcome) if outcome.is_proved else None
+
+
+def answers_of(text: str) -> list[Declaration]:
+    """Returns the answers of a text, without the lemmas beside them."""
+    return [found for found in declarations_of(text) if not found.indent and found.signature.startswith("goal.")]
 
 
 class Layout:

@@ -197,7 +197,9 @@ def patterns_of(declaration: Declaration) -> str:
 def names_for(declaration: Declaration, shown: list[str]) -> list[str]:
     """Returns a name for each explicit argument: that of a pattern, that of the type, or a letter."""
     named = arguments_of(declaration.signature)
-    free = [letter for letter in "hklpqrstuvwxyzabcdefgijmno" if letter not in (*named, *shown, *declaration.words)]
+    letters = "hklpqrstuvwxyzabcdefgijmno"
+    possible = itertools.chain(letters, (f"{letter}{digit}" for digit in range(1, 9) for letter in letters))
+    free = [name for name in possible if name not in (*named, *shown, *declaration.words)]
     names = list[str]()
     for own, given in itertools.zip_longest(shown, named, fillvalue=""):
         plain = [name for name in (own, given) if re.fullmatch(r"[^\W\d][\w']*", name) and name not in (*TAKEN, *names)]
@@ -205,13 +207,18 @@ def names_for(declaration: Declaration, shown: list[str]) -> list[str]:
     return names
 
 
+def name_of(item: str) -> str:
+    """Returns the name that an item of an import brings: of `a`, `a as b`, `M.a` and an operator."""
+    return item.split(" as ")[-1].strip().rsplit(".", 1)[-1]
+
+
 def imports_of(text: str) -> dict[str, str]:
     """Returns the names that the imports of a text bring, with their modules."""
     brought = {}
     for found in IMPORT.finditer(text + "\n"):
-        for item in found[3].split(","):
-            if item.strip():
-                brought[item.split(" as ")[-1].strip()] = found[2]
+        for item in filter(None, map(str.strip, found[3].split(","))):
+            inner, _, _ = item.split(" as ")[0].rpartition(".")
+            brought[name_of(item)] = f"{found[2]}.{inner}" if inner else found[2]
     return brought
 
 
@@ -235,10 +242,11 @@ def drop_imports(text: str, names: Iterable[str]) -> str:
     used = {word for line in rest.split("\n") for word in words_of(line)}
 
     def is_needless(item: str) -> bool:
-        parts = set(filter(None, item.split("◌")))
-        if "◌" in item:
+        name = name_of(item)
+        parts = set(filter(None, name.split("◌")))
+        if "◌" in name:
             return bool(parts & asked) and not all(part in rest for part in parts)
-        return item in asked and item not in used
+        return name in asked and name not in used
 
     def thinned(found: re.Match[str]) -> str:
         items = [item.strip() for item in found[3].split(",") if item.strip()]
@@ -285,6 +293,11 @@ def is_narrow(text: str) -> bool:
 def proof_files(folder: Path) -> list[Path]:
     """Returns the files of proofs below a crate's folder, in their order."""
     return sorted((folder / "proofs").rglob("*.antt"))
+
+
+def is_of_tests(path: Path) -> bool:
+    """Whether a file belongs to tests, of which a check of the crate reads nothing."""
+    return any("tests" in part for part in path.parts)
 
 
 def is_instance(path: Path) -> bool:

@@ -70,10 +70,12 @@ def toolchain(top: Path) -> types.ModuleType:
 
 
 class Workshop:
-    """The copy of one crate, which is locked for others meanwhile; its check may be slower by a share in percent."""
+    """The copy of one crate, which is locked for others meanwhile; its check may be slower by a share in percent.
 
-    def __init__(self, top: Path, crate: str, slower: int) -> None:
-        self.top, self.name, self.slower = top, crate, slower
+    A quick one begins with what `rt check` kept, accepts what a check over kept work has proved, and judges no time."""
+
+    def __init__(self, top: Path, crate: str, slower: int, is_quick: bool = False) -> None:
+        self.top, self.name, self.slower, self.is_quick = top, crate, slower, is_quick
         self.origin = top / "crates" / crate
         if not (self.origin / "proofs").is_dir():
             raise Fault(f"crates/{crate} is no crate with proofs")
@@ -147,10 +149,21 @@ class Workshop:
         self.kept.mkdir(exist_ok=True)
         return self.run("check", list(flags), self.kept)
 
+    def begin(self) -> Outcome:
+        """Checks the crate as it stands: from nothing, or quickly, over what `rt check` kept."""
+        work = self.origin / "out/incremental"
+        if not self.is_quick:
+            return self.measure()
+        if work.is_dir():
+            shutil.copytree(work, self.kept, symlinks=True)
+        return self.check()
+
     def check_anew(self) -> Outcome:
         """Lays the copy out and checks it from nothing. Where it seems slow, what was accepted last and the copy are
-        measured again, one after the other, since other work disturbs the clock."""
+        measured again, one after the other, since other work disturbs the clock. A quick check judges no time."""
         self.lay_out()
+        if self.is_quick:
+            return self.check()
         outcome = self.check_once()
         for _ in range(MOST_AGAIN):
             if not outcome.is_proved or not self.is_slow(outcome):

@@ -94,6 +94,12 @@ class Texts(FolderTest):
         text = "use M.{◌<◌, ◌|◌by◌}\na = b < c | d\n"
         self.assertEqual(drop_imports(text, ["<", "by"]), text.replace(", ◌|◌by◌", ""))
 
+    def test_imports_of_several_modules_on_one_line(self) -> None:
+        text = "use L.{M.a, deep.N.b as c, ◌+◌}\nd = a + c\n"
+        self.assertEqual(imports_of(text), {"a": "L.M", "c": "L.deep.N", "◌+◌": "L"})
+        thinner = text.replace("a + c", "a + 1")
+        self.assertEqual(drop_imports(thinner, ["a", "c"]), thinner.replace(", deep.N.b as c", ""))
+
     def test_imports_of_one_module_become_one_of_few_columns(self) -> None:
         names = [f"name_{number}" for number in range(20)]
         text = "".join(f"use M.{{{name}}}\n" for name in names) + "pub use M.{passed_on}\n"
@@ -190,6 +196,51 @@ pub record Idle : Type 0 where
   pub one : ℕ
 """
 
+TWICE = """//! A crate with two functions.
+#![tactic(auto)]
+
+ghost use Rattle.std.specs.Prelude.{◌+◌, ◌≡◌};
+ghost use Rattle.tiny.specs.Twice.{twice};
+
+/// A number as it is given.
+pub fn same(n: u64) -> u64
+ensures { result ≡ n }
+{
+    n
+}
+
+/// A number, of which twice is the sum with itself.
+pub fn given(n: u64) -> u64
+ensures { twice result ≡ n + n }
+{
+    n
+}
+"""
+
+TWICE_SPEC = """-- Twice a number.
+use Rattle.std.specs.Prelude.{ℕ, zero, suc}
+
+unfoldable pub twice : ℕ → ℕ
+twice zero = zero
+twice (suc n) = suc (suc (twice n))
+"""
+
+TWICE_LEMMA = """use Rattle.std.proofs.Common.{◌≡◌, ◌+◌, ℕ, zero, suc, arith, refl}
+use Rattle.tiny.specs.Twice.{twice}
+
+pub is_sum : (n : ℕ) → twice n ≡ n + n
+unfolding twice
+is_sum zero = refl
+is_sum (suc n) = omega (arith, is_sum n)
+"""
+
+ANSWERS = """use Rattle.{module}.{{{lemma}}}
+use Rattle.tiny.proofs.{function}.Goals as goal
+
+pub returns : goal.returns
+returns c = {lemma}{argument}
+"""
+
 
 class Crates(FolderTest):
     """A crate of a few lines, in a repository of its own."""
@@ -230,6 +281,23 @@ class Crates(FolderTest):
         again = run(*self.words, "--stages", "lu", "tiny", status=1)
         self.assertIn(b"tiny: 0 of 9 lines went", again.stdout)
         self.assertEqual(self.proofs.read_text(), text)
+
+    @long_test
+    def test_an_answer_that_the_search_finds_goes(self) -> None:
+        shutil.rmtree(self.folder / "crates/tiny")
+        needed = ANSWERS.format(module="tiny.proofs.Numbers", lemma="is_sum", function="given", argument=" c.args.n")
+        idle = ANSWERS.format(module="std.proofs.Common", lemma="refl", function="same", argument="")
+        self.write("crates/tiny/src/lib.rt", TWICE)
+        self.write("crates/tiny/specs/Lib.antt", "pub mod Twice\n")
+        self.write("crates/tiny/specs/Twice.antt", TWICE_SPEC)
+        self.write("crates/tiny/proofs/Lib.antt", "pub mod Numbers\n")
+        self.write("crates/tiny/proofs/Numbers.antt", TWICE_LEMMA)
+        self.write("crates/tiny/proofs/given/Answers.antt", needed)
+        self.write("crates/tiny/proofs/same/Answers.antt", idle)
+        done = run(*self.words, "--quick", "--stages", "a", "tiny")
+        self.assertIn(b"1 of 2 answers are not needed", done.stderr)
+        self.assertEqual((self.folder / "crates/tiny/proofs/given/Answers.antt").read_text(), needed)
+        self.assertFalse((self.folder / "crates/tiny/proofs/same").exists())
 
     def test_a_crate_that_is_not_proved_stays(self) -> None:
         wrong = NUMBERS.replace("a ≤ a + 1", "a + 1 ≤ a")
