@@ -6,6 +6,3 @@ mod uniting;
 
 pub use laws::{one_union, unions_have_all};
 pub use uniting::{UniteFault, unite};
-
-#[cfg(test)]
-mod tests;

@@ -31,6 +31,3 @@ pub fn covers_may_be_printed()
 pub fn covers_are_read_back()
     ensures theorem { CoversAreReadBack }
 {}
-
-#[cfg(test)]
-mod tests;

@@ -7,6 +7,3 @@ mod products;
 mod reducing;
 
 pub use numbers::{Fraction, FractionFault};
-
-#[cfg(test)]
-mod tests;

@@ -9,8 +9,6 @@ mod laws;
 mod line;
 mod read;
 mod state;
-#[cfg(test)]
-mod tests;
 mod values;
 
 pub use item::{Item, ItemBody, ItemFault, ItemFaultKind, ItemRefusal};

@@ -17,6 +17,3 @@ pub use laws::{
 pub use net::{KindedNet, Net, NetOf};
 pub use path::{AnyPlaced, check_any, connect_graph, place_any, place_graph};
 pub use refusal::Refusal;
-
-#[cfg(test)]
-mod tests;

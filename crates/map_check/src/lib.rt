@@ -43,6 +43,3 @@ pub fn tables_that_join()
 pub fn tables_give_iso()
     ensures theorem { TablesGiveIso }
 {}
-
-#[cfg(test)]
-mod tests;

@@ -51,7 +51,7 @@ fn answer_for(
 }
 
 // The answer to a task, of the bytes whose blocks it is about.
-#[tactic(auto, using(crate::proofs::TaskKinds::due_for))]
+#[tactic(auto, using(crate::proofs::MadeBlocks::due_for))]
 fn answer_on(
     alloc: Global,
     task: &BlocksTask<'_>,
@@ -100,7 +100,7 @@ fn answer_to_blocks(
 }
 
 /// What is due to a task, of the bytes of its file and of its archive, where it names them.
-#[tactic(auto, using(crate::proofs::TaskKinds::due_to_blocks, crate::proofs::TaskKinds::few_made, crate::proofs::TaskKinds::many_blocks, crate::proofs::TaskKinds::of_blocks, crate::proofs::TextEndings::text_of_blocks, crate::proofs::TextEndings::text_of_union, crate::proofs::TextEndings::text_of_verify))]
+#[tactic(auto, using(crate::proofs::MadeBlocks::due_to_blocks, crate::proofs::MadeBlocks::few_made, crate::proofs::MadeBlocks::many_blocks, crate::proofs::MadeBlocks::of_blocks, crate::proofs::Endings::text_of_blocks, crate::proofs::Endings::text_of_union, crate::proofs::Endings::text_of_verify))]
 pub fn answer_to(
     alloc: Global,
     task: &Task<'_>,

@@ -1,25 +1,29 @@
 // What is answered to arguments, of the bytes of files: rows that were worked out by hand.
 mod archives;
 mod components;
+mod covers;
 mod identified;
 mod keys;
 mod maps;
 mod nets;
 mod readings;
+mod unions;
 
 use crate::answer::answer_to;
 use archives::IN_USE;
 use command_words::task_of;
 use components::DIVIDED;
+use covers::COVERED;
 use identified::IDENTIFIED;
 use keys::KEYED;
-use maps::VERIFIED;
+use maps::{MAPPED, VERIFIED};
 use net_archive::MOST_BYTES;
 use net_report::{Answer, Status};
 use nets::{CONNECTED, PLACED};
 use std::alloc::Global;
 use std::process::Abort;
 use std::test::Fail;
+use unions::UNITED;
 
 const HCB: &str = "PERIODIC_GRAPH\nNAME hcb\nEDGES\n1 2 0 0\n1 2 1 0\n1 2 0 1\nEND\n";
 
@@ -98,11 +102,14 @@ fn check_rows(alloc: Global, rt: &impl Abort, rows: &[Row]) -> Result<(), Fail> 
 
 #[test]
 fn rows(rt: HostRuntime) -> Result<(), Fail> {
-    let tables = [
-        CONNECTED, PLACED, KEYED, IDENTIFIED, DIVIDED, IN_USE, VERIFIED,
-    ];
-    for table in tables {
-        check_rows(rt.alloc(), &rt, table)?;
-    }
-    Ok(())
+    check_rows(rt.alloc(), &rt, CONNECTED)?;
+    check_rows(rt.alloc(), &rt, PLACED)?;
+    check_rows(rt.alloc(), &rt, KEYED)?;
+    check_rows(rt.alloc(), &rt, IDENTIFIED)?;
+    check_rows(rt.alloc(), &rt, DIVIDED)?;
+    check_rows(rt.alloc(), &rt, IN_USE)?;
+    check_rows(rt.alloc(), &rt, COVERED)?;
+    check_rows(rt.alloc(), &rt, UNITED)?;
+    check_rows(rt.alloc(), &rt, MAPPED)?;
+    check_rows(rt.alloc(), &rt, VERIFIED)
 }

@@ -47,8 +47,3 @@ pub use std::alloc::AllocError as NoMemory;
 pub use texts::{read, read_first};
 pub use wide::first_wide;
 pub use write::push_item;
-
-#[cfg(test)]
-mod checking_tests;
-#[cfg(test)]
-mod tests;

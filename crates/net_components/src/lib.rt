@@ -41,6 +41,3 @@ pub fn ranks_are_one()
 pub fn answer_is_one()
     ensures theorem { AnswerIsOne }
 {}
-
-#[cfg(test)]
-mod tests;

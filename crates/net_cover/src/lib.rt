@@ -28,6 +28,3 @@ pub fn covers_are_isomorphic()
 pub fn cells_are_read()
     ensures theorem { CellsAreRead }
 {}
-
-#[cfg(test)]
-mod tests;

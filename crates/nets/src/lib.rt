@@ -12,6 +12,3 @@ pub use net_archive::{AddFault, Archive, ArchiveFault, MOST_BYTES, Matches};
 pub use net_report::refused_line;
 pub use quotient_graph::{AnyGraph, Key, RawEdge, from_unsorted};
 pub use trouble::Trouble;
-
-#[cfg(test)]
-mod tests;

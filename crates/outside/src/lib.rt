@@ -11,8 +11,6 @@ mod memory_sink;
 mod shelf;
 mod sink;
 mod stdout_sink;
-#[cfg(test)]
-mod tests;
 
 pub use honest_shelf::HonestShelf;
 pub use host_shelf::HostShelf;

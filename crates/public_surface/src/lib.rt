@@ -12,11 +12,13 @@ pub mod files;
 pub mod frames;
 pub mod graphs;
 pub mod key_lines;
+pub mod keyed_nets;
 pub mod maps;
-pub mod nets;
 pub mod numbers;
 pub mod placements;
 pub mod reports;
 pub mod staircases;
+#[cfg(test)]
+mod tests;
 pub mod texts;
 pub mod vectors;

@@ -10,6 +10,3 @@ pub use answers::same_blocks;
 pub use laws::{one_sameness, one_verification, same_is_verified};
 pub use std::alloc::AllocError as NoMemory;
 pub use verifying::verify_answer;
-
-#[cfg(test)]
-mod tests;

@@ -17,6 +17,3 @@ pub use outcomes::{are_accepted, outcomes_of};
 pub use reading::archive_in;
 pub use std::alloc::AllocError as NoMemory;
 pub use uniting::union_of;
-
-#[cfg(test)]
-mod tests;

@@ -1,5 +1,6 @@
 // Archives: nets that are added, reported and found twice, and texts that are none.
 use super::{DIA, DIA_ARCHIVE, PCU, PCU_ARCHIVE, Row, answer_over};
+use line_text::push_row;
 use net_report::Status;
 use std::test::Fail;
 
@@ -273,16 +274,14 @@ fn texts_that_are_no_archive(rt: HostRuntime) -> Result<(), Fail> {
 // An entry whose graph has too much key work is refused for that, whatever key it keeps.
 #[test]
 fn too_much_work(rt: HostRuntime) -> Result<(), Fail> {
-    let mut text = String::from_str(
-        rt.alloc(),
-        "net_archive 1\nentry \"star\"\ngraph 2 1 700\nedge 1 1 0 1\n",
-    )?;
+    let head = b"net_archive 1\nentry \"star\"\ngraph 2 1 700\nedge 1 1 0 1\n";
+    let mut text = Vec::from_slice(rt.alloc(), head)?;
     for k in -349i64..=349 {
-        text.push_str(&format!(in rt.alloc(); "edge 1 1 1 {k}\n")?)?;
+        push_row(&mut text, b"edge", &[1, 1, 1, i128::from(k)])?;
     }
-    text.push_str("key 2\nend\n")?;
+    text.extend_from_slice(b"key 2\nend\n")?;
     let words = ["duplicates", "--archive", "archive"];
-    let answer = answer_over(rt.alloc(), &words, b"", text.as_bytes())?;
+    let answer = answer_over(rt.alloc(), &words, b"", &text)?;
     let written =
         "archive refused 3 EntryRefused line=2\nrefused 6 TooMuch starts=0 counted=1000000400\n";
     assert_eq!(rt; answer.text.as_slice(), written.as_bytes());

@@ -1,7 +1,9 @@
 // Keys, and why a net has none. More keys are in the program's stored run.
 use super::readings::loops;
 use super::{Row, answer_on};
+use line_text::push_row;
 use net_report::Status;
+use std::alloc::Global;
 use std::test::Fail;
 
 pub const KEYED: &[Row] = &[
@@ -44,22 +46,31 @@ pub const KEYED: &[Row] = &[
     },
 ];
 
-// A ring of 512 vertices, each with two loops: the cubic net.
+// A ring of so many vertices, each with two loops: the cubic net.
+pub fn ring(alloc: Global, length: u32) -> Result<Vec<u8>, Fail> {
+    let mut text = Vec::from_slice(alloc, b"PERIODIC_GRAPH\nEDGES\n")?;
+    push_row(&mut text, b"", &[i128::from(length), 1, 1, 0, 0])?;
+    for k in 1..length {
+        let k = i128::from(k);
+        push_row(&mut text, b"", &[k, k + 1, 0, 0, 0])?;
+    }
+    for k in 1..=length {
+        let k = i128::from(k);
+        push_row(&mut text, b"", &[k, k, 0, 1, 0])?;
+        push_row(&mut text, b"", &[k, k, 0, 0, 1])?;
+    }
+    text.extend_from_slice(b"END\n")?;
+    Ok(text)
+}
+
 #[test]
 fn long_ring(rt: HostRuntime) -> Result<(), Fail> {
-    let mut text = String::from_str(rt.alloc(), "PERIODIC_GRAPH\nEDGES\n512 1 1 0 0\n")?;
-    for k in 1..512u64 {
-        text.push_str(&format!(in rt.alloc(); "{k} {} 0 0 0\n", k + 1)?)?;
-    }
-    for k in 1..513u64 {
-        text.push_str(&format!(in rt.alloc(); "{k} {k} 0 1 0\n{k} {k} 0 0 1\n")?)?;
-    }
-    text.push_str("END\n")?;
-    let placed = answer_on(rt.alloc(), "place", text.as_bytes())?;
+    let text = ring(rt.alloc(), 512)?;
+    let placed = answer_on(rt.alloc(), "place", &text)?;
     let header = "net 1 line 1\ngraph d=3 vertices=512 edges=1536 repeats=0\nplacement D0=512\n";
     assert!(rt; placed.text.starts_with(header.as_bytes()));
     assert_eq!(rt; placed.status, Status::Done);
-    let keyed = answer_on(rt.alloc(), "key", text.as_bytes())?;
+    let keyed = answer_on(rt.alloc(), "key", &text)?;
     assert_eq!(rt; keyed.status, Status::Done);
     let wanted =
         "net 1 line 1\ngraph d=3 vertices=512 edges=1536 repeats=0\nkey 3 1 1 1 1 0 0 1 1 1 0 1 0 1 1 1 0 0\n";
@@ -67,12 +78,22 @@ fn long_ring(rt: HostRuntime) -> Result<(), Fail> {
     Ok(())
 }
 
-// A vertex with loops in one direction and in so many others to each side of a second one: 500
-// loops have 998,000 frames, which is within the limit.
+// A vertex with loops in one direction and in so many others to each side of a second one.
+fn fan(alloc: Global, side: u32) -> Result<Vec<u8>, Fail> {
+    let side = i128::from(side);
+    let mut text = Vec::from_slice(alloc, b"PERIODIC_GRAPH\nEDGES\n1 1 0 1\n")?;
+    for k in -side..=side {
+        push_row(&mut text, b"1", &[1, 1, k])?;
+    }
+    text.extend_from_slice(b"END\n")?;
+    Ok(text)
+}
+
+// 500 loops have 998,000 frames, which is within the limit.
 #[test]
 fn many_frames(rt: HostRuntime) -> Result<(), Fail> {
     let rows = [
-        (249i64, 500, Status::Done, "key 2 1 "),
+        (249u32, 500, Status::Done, "key 2 1 "),
         (
             250,
             502,
@@ -87,12 +108,8 @@ fn many_frames(rt: HostRuntime) -> Result<(), Fail> {
         ),
     ];
     for (side, edges, status, line) in rows {
-        let mut text = String::from_str(rt.alloc(), "PERIODIC_GRAPH\nEDGES\n1 1 0 1\n")?;
-        for k in -side..=side {
-            text.push_str(&format!(in rt.alloc(); "1 1 1 {k}\n")?)?;
-        }
-        text.push_str("END\n")?;
-        let answer = answer_on(rt.alloc(), "key", text.as_bytes())?;
+        let text = fan(rt.alloc(), side)?;
+        let answer = answer_on(rt.alloc(), "key", &text)?;
         let begun = format!(in rt.alloc();
             "net 1 line 1\ngraph d=2 vertices=1 edges={edges} repeats=0\n{line}"
         )?;
@@ -125,7 +142,7 @@ fn most_loops(rt: HostRuntime) -> Result<(), Fail> {
     ];
     for (edges, command, status, header, line) in rows {
         let text = loops(rt.alloc(), edges)?;
-        let answer = answer_on(rt.alloc(), command, text.as_bytes())?;
+        let answer = answer_on(rt.alloc(), command, &text)?;
         let rest = answer.text.strip_prefix(header.as_bytes());
         assert!(rt; matches!(rest, Some(rest) if rest == line.as_bytes()));
         assert_eq!(rt; answer.status, status);

@@ -1,5 +1,6 @@
 // What is reported of nets: whether they are connected, and where their vertices stand.
 use super::{HCB, HCB_REPORT, Row, SODALITE, answer_on};
+use line_text::push_row;
 use net_report::Status;
 use std::alloc::Global;
 use std::test::Fail;
@@ -136,17 +137,17 @@ pub const PLACED: &[Row] = &[
 // A chain of vertices: between the k-th and the next one so many edges, with the shifts 0, 1 and so
 // on, the last one further by 1; and a loop at the first.
 fn chain(alloc: Global, counts: &[u32], last: &str) -> Result<Vec<u8>, Fail> {
-    let mut text = String::from_str(alloc, "PERIODIC_GRAPH\nEDGES\n")?;
+    let mut text = Vec::from_slice(alloc, b"PERIODIC_GRAPH\nEDGES\n")?;
     for (k, count) in counts.iter().enumerate() {
+        let from = k as i128 + 1;
         for step in 0..*count {
             let shift = if step + 1 == *count { *count } else { step };
-            let (from, to) = (k as u64 + 1, k as u64 + 2);
-            text.push_str(&format!(in alloc; "{from} {to} {shift} 0\n")?)?;
+            push_row(&mut text, b"", &[from, from + 1, i128::from(shift), 0])?;
         }
     }
-    text.push_str(last)?;
-    text.push_str("\nEND\n")?;
-    Ok(Vec::from_slice(alloc, text.as_bytes())?)
+    text.extend_from_slice(last.as_bytes())?;
+    text.extend_from_slice(b"\nEND\n")?;
+    Ok(text)
 }
 
 // Placements past 2^40, where a fraction on the way is past 62 bits and where none is: such nets
@@ -187,40 +188,39 @@ fn wide_numbers(rt: HostRuntime) -> Result<(), Fail> {
     Ok(())
 }
 
-// The diamond net in a cell of 4·4·2 usual ones: fractions on the way are past 62 bits, and it is
-// placed.
-#[test]
-fn large_cell(rt: HostRuntime) -> Result<(), Fail> {
+// The diamond net in a cell of 4·4·2 usual ones.
+fn large_cell_text(alloc: Global) -> Result<Vec<u8>, Fail> {
     let (a, b, c) = (4u64, 4u64, 2u64);
-    let mut text = String::from_str(rt.alloc(), "PERIODIC_GRAPH\nEDGES\n")?;
+    let mut text = Vec::from_slice(alloc, b"PERIODIC_GRAPH\nEDGES\n")?;
     for cell in 0..a * b * c {
         let (x, y, z) = (cell % a, cell / a % b, cell / (a * b));
-        let first = 2 * cell + 1;
-        text.push_str(&format!(in rt.alloc(); "{first} {} 0 0 0\n", first + 1)?)?;
+        let first = i128::from(2 * cell + 1);
+        push_row(&mut text, b"", &[first, first + 1, 0, 0, 0])?;
         let along = [
-            (x + 1) % a + a * (y + b * z),
-            x + a * ((y + 1) % b + b * z),
-            x + a * (y + b * ((z + 1) % c)),
+            ((x + 1) % a + a * (y + b * z), x + 1 == a),
+            (x + a * ((y + 1) % b + b * z), y + 1 == b),
+            (x + a * (y + b * ((z + 1) % c)), z + 1 == c),
         ];
-        for (axis, next) in along.iter().enumerate() {
-            let over = [x + 1 == a, y + 1 == b, z + 1 == c];
-            let step = |k: usize| if k == axis && over[k] { 1 } else { 0 };
-            text.push_str(&format!(in rt.alloc();
-                "{first} {} {} {} {}\n",
-                2 * *next + 2,
-                step(0),
-                step(1),
-                step(2)
-            )?)?;
+        for (axis, (next, is_over)) in along.iter().enumerate() {
+            let mut row = [first, i128::from(2 * *next + 2), 0, 0, 0];
+            row[axis + 2] = if *is_over { 1 } else { 0 };
+            push_row(&mut text, b"", &row)?;
         }
     }
-    text.push_str("END\n")?;
-    let placed = answer_on(rt.alloc(), "place", text.as_bytes())?;
+    text.extend_from_slice(b"END\n")?;
+    Ok(text)
+}
+
+// Fractions on the way are past 62 bits, and it is placed.
+#[test]
+fn large_cell(rt: HostRuntime) -> Result<(), Fail> {
+    let text = large_cell_text(rt.alloc())?;
+    let placed = answer_on(rt.alloc(), "place", &text)?;
     assert_eq!(rt; placed.status, Status::Done);
     let start =
         b"net 1 line 1\ngraph d=3 vertices=64 edges=128 repeats=0\nplacement D0=16\nat 1 0 0 0\nat 2 -1 -1 -2\n";
     assert!(rt; placed.text.starts_with(start));
-    let keyed = answer_on(rt.alloc(), "key", text.as_bytes())?;
+    let keyed = answer_on(rt.alloc(), "key", &text)?;
     let key = b"\nkey 3 2 1 1 2 -1 -1 -1 1 2 0 0 1 1 2 0 1 0 1 2 1 0 0\n";
     assert!(rt; keyed.text.ends_with(key));
     assert_eq!(rt; keyed.status, Status::Done);

@@ -1,5 +1,6 @@
 // How texts are read: corners of the form, each fault, and the limits.
 use super::{DIA, answer_on};
+use line_text::push_row;
 use net_report::Status;
 use std::alloc::Global;
 use std::test::Fail;
@@ -236,33 +237,33 @@ fn cut_texts(rt: HostRuntime) -> Result<(), Fail> {
 }
 
 // A path of so many vertices, each joined to the first.
-fn star(alloc: Global, vertices: u32) -> Result<String, Fail> {
-    let mut text = String::from_str(alloc, "PERIODIC_GRAPH\nEDGES\n")?;
+fn star(alloc: Global, vertices: u32) -> Result<Vec<u8>, Fail> {
+    let mut text = Vec::from_slice(alloc, b"PERIODIC_GRAPH\nEDGES\n")?;
     for v in 2..=vertices {
-        text.push_str(&format!(in alloc; "1 {v} 0 0\n")?)?;
+        push_row(&mut text, b"1", &[i128::from(v), 0, 0])?;
     }
-    text.push_str("END\n")?;
+    text.extend_from_slice(b"END\n")?;
     Ok(text)
 }
 
 // So many loops at one vertex.
-pub fn loops(alloc: Global, edges: u32) -> Result<String, Fail> {
-    let mut text = String::from_str(alloc, "PERIODIC_GRAPH\nNAME star\nEDGES\n")?;
+pub fn loops(alloc: Global, edges: u32) -> Result<Vec<u8>, Fail> {
+    let mut text = Vec::from_slice(alloc, b"PERIODIC_GRAPH\nNAME star\nEDGES\n")?;
     for k in 0..edges {
         let (x, y) = (k / 256 + 1, k % 256);
-        text.push_str(&format!(in alloc; "1 1 {x} {y}\n")?)?;
+        push_row(&mut text, b"1", &[1, i128::from(x), i128::from(y)])?;
     }
-    text.push_str("END\n")?;
+    text.extend_from_slice(b"END\n")?;
     Ok(text)
 }
 
 // A name, or a vertex, of so many bytes.
-fn long(alloc: Global, before: &str, bytes: usize, after: &str) -> Result<String, Fail> {
-    let mut text = String::from_str(alloc, before)?;
+fn long(alloc: Global, before: &str, bytes: usize, after: &str) -> Result<Vec<u8>, Fail> {
+    let mut text = Vec::from_slice(alloc, before.as_bytes())?;
     for _ in 0..bytes {
-        text.push('0')?;
+        text.push(b'0')?;
     }
-    text.push_str(after)?;
+    text.extend_from_slice(after.as_bytes())?;
     Ok(text)
 }
 
@@ -290,7 +291,7 @@ fn limits(rt: HostRuntime) -> Result<(), Fail> {
         ),
     ];
     for (text, told) in &cases {
-        let answer = answer_on(alloc, "check", text.as_bytes())?;
+        let answer = answer_on(alloc, "check", text)?;
         let rest = answer.text.strip_prefix(b"net 1 line 1\n");
         assert!(rt; matches!(rest, Some(rest) if rest.starts_with(told.as_bytes())));
         assert_eq!(rt; answer.status, Status::SomeRefused);
@@ -303,8 +304,8 @@ fn limits(rt: HostRuntime) -> Result<(), Fail> {
 fn blocks_apart(rt: HostRuntime) -> Result<(), Fail> {
     let alloc = rt.alloc();
     let mut text = loops(alloc, 4096)?;
-    text.push_str("PERIODIC_GRAPH\nEDGES 1 1 1 0\n1 1 0 1\nEND\n")?;
-    let answer = answer_on(alloc, "check", text.as_bytes())?;
+    text.extend_from_slice(b"PERIODIC_GRAPH\nEDGES 1 1 1 0\n1 1 0 1\nEND\n")?;
+    let answer = answer_on(alloc, "check", &text)?;
     let second = "net 2 line 4101\ngraph d=2 vertices=1 edges=2 repeats=0\nconnected\n";
     assert!(rt; answer.text.ends_with(second.as_bytes()));
     assert_eq!(rt; answer.status, Status::Done);

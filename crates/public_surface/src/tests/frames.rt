@@ -1,11 +1,11 @@
 // Frames, traversals and key work.
-ghost use Rattle.std.specs.Prelude.{◌≤◌, length, IfSome};
+ghost use Rattle.std.specs.Prelude.{IfSome};
 ghost use Rattle.periodic_net.specs.Correspondence.{IsClass};
 ghost use Rattle.key_theory.specs.Frames.{IsFrame};
 
-use super::{HCB, graph_view};
-use crate::keying::settle_graph;
+use super::{HCB, graph_in};
 use edge_frames::{Frames, count_work};
+use least_key::settle_graph;
 use net_translations::classes;
 use net_traversal::{Head, KeyRow, Walker, traverse};
 use quotient_graph::{AnyGraph, ClassArc, Classes, Frame, Graph};
@@ -75,7 +75,7 @@ fn frame_of<const D: usize>(
 // key.
 #[test]
 fn list_of_a_frame(rt: HostRuntime) -> Result<(), Fail> {
-    let Some(AnyGraph::Space(graph)) = graph_view(rt.alloc(), SRS.as_bytes()) else {
+    let AnyGraph::Space(graph) = graph_in(rt.alloc(), SRS)? else {
         return Err("graph".into());
     };
     let classes = classes_of(rt.alloc(), graph).ok_or("classes")?;
@@ -120,7 +120,7 @@ fn row(i: u32, j: u32, x: i128, y: i128) -> KeyRow {
 // The list of the frame of two arcs of class 1 of the honeycomb net, row by row.
 #[test]
 fn rows_of_a_frame(rt: HostRuntime) -> Result<(), Fail> {
-    let Some(AnyGraph::Flat(graph)) = graph_view(rt.alloc(), HCB.as_bytes()) else {
+    let AnyGraph::Flat(graph) = graph_in(rt.alloc(), HCB)? else {
         return Err("graph".into());
     };
     let classes = classes_of(rt.alloc(), graph).ok_or("classes")?;
@@ -135,13 +135,12 @@ fn rows_of_a_frame(rt: HostRuntime) -> Result<(), Fail> {
 }
 
 // The key work of the first net of a text.
-fn work_in(alloc: Global, text: &[u8]) -> Option<u64>
-    requires { length text.now ≤ 16777216 }
-{
-    match graph_view(alloc, text)? {
-        AnyGraph::Flat(graph) => count_work(alloc, &classes_of(alloc, graph)?).ok(),
-        AnyGraph::Space(graph) => count_work(alloc, &classes_of(alloc, graph)?).ok(),
-    }
+fn work_in(alloc: Global, text: &str) -> Result<u64, Fail> {
+    let counted = match graph_in(alloc, text)? {
+        AnyGraph::Flat(graph) => count_work(alloc, &classes_of(alloc, graph).ok_or("classes")?),
+        AnyGraph::Space(graph) => count_work(alloc, &classes_of(alloc, graph).ok_or("classes")?),
+    };
+    counted.map_err(|_| "too much".into())
 }
 
 // A vertex with loops in one direction and in 249 others to each side of a second one: 998,000
@@ -153,7 +152,6 @@ fn counted_frames(rt: HostRuntime) -> Result<(), Fail> {
         text.push_str(&format!(in rt.alloc(); "1 1 1 {k}\n")?)?;
     }
     text.push_str("END\n")?;
-    assert!(rt; text.len() <= 16_777_216);
-    assert_eq!(rt; work_in(rt.alloc(), text.as_bytes()), Some(998_000_000));
+    assert_eq!(rt; work_in(rt.alloc(), text.as_str())?, 998_000_000);
     Ok(())
 }

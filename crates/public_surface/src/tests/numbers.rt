@@ -1,6 +1,7 @@
-// Fractions worked out by hand.
-use crate::{Fraction, FractionFault};
-use exact::{Exact, Op, Wide};
+// Fractions and residues.
+use exact::{Exact, Op, OverFault, Wide};
+use fraction::{Fraction, FractionFault};
+use residue::{Residue, reconstruct};
 
 // The parts of the reduced fraction.
 fn parts(num: i128, den: i128) -> Result<(i64, i64), FractionFault> {
@@ -31,4 +32,22 @@ fn wide_sum(rt: HostRuntime) {
         right: one,
     };
     assert!(rt; left.plus(one) == Err(wide));
+}
+
+#[test]
+fn reconstructions(rt: HostRuntime) {
+    assert!(rt;
+        reconstruct(768_614_336_404_564_650, 2_305_843_009_213_693_951, 1000) == Some((-1, 3))
+    );
+    assert!(rt; reconstruct(8, 15, 2) == Some((1, 2)));
+    assert!(rt; reconstruct(5, 15, 2) == None);
+}
+
+#[test]
+fn quotients(rt: HostRuntime) {
+    let third = Residue::<15>::from_value(3);
+    let two = Residue::<15>::from_value(2);
+    assert!(rt; two.over(third) == Err(OverFault::NoInverse(third)));
+    assert!(rt; third.over(two) == Ok(Residue::from_value(9)));
+    assert_eq!(rt; Residue::<15>::from_small(-1).value(), 14);
 }

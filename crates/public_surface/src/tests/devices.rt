@@ -1,5 +1,5 @@
 // The device adapters once each, and the fakes with failures at each of their calls.
-use crate::{
+use outside::{
     HostShelf, InFault, MemoryShelf, MemorySink, StdoutSink, WriteFault, read_whole, write_all,
 };
 use std::alloc::Global;
