@@ -1,8 +1,6 @@
 -- The greatest common divisor is a combination.
-use Rattle.std.proofs.Common.{ℕ, pos, ap, ◌∙◌}
-use Rattle.std.proofs.lemmas.Nat.Gcd.{same_from_IsGcd}
-use Rattle.std.specs.Int.{IsGcd}
-use Rattle.integers.proofs.numbers.{Bezout.Bezout, Bezout.bezout, Gcd.bezout_gcd}
+use Rattle.std.{proofs.Common.ℕ, proofs.Common.pos, proofs.Common.ap, proofs.Common.◌∙◌, proofs.lemmas.Nat.Gcd.same_from_IsGcd, specs.Int.IsGcd}
+use Rattle.integers.proofs.numbers.Divisors.{Bezout, bezout, bezout_gcd}
 use Rattle.exact.specs.Combination.{IsCombination}
 
 -- the greatest common divisor of two numbers is a combination of them

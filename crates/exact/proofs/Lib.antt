@@ -1,11 +1,5 @@
 pub mod CallerLemmas
 pub mod Bezout
-pub mod Cancelling
-pub mod Classes
-pub mod LowestTerms
 pub mod Quotients
-pub mod Residues
 pub mod Ring
-pub mod Semiring
 pub mod Values
-pub mod WholeMultiples

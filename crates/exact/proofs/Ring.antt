@@ -1,15 +1,33 @@
--- The values modulo m as a commutative semiring, so that equal values are one.
+-- The values modulo m are a commutative semiring, in which equal values are one, and fractions are such values.
 use Rattle.std.proofs.Common.{◌≡◌, ℕ, ap, sym, refl, ◌∙◌, arith}
-use Rattle.std.specs.Prelude.{ℤ, pos, ◌+ℤ◌, ◌-ℤ◌, ◌*ℤ◌, neg_ℤ}
-use mathlib.Core.Quot.{Quotient, Setoid}
-use mathlib.Core.Logic.{∥∥₁_prop, ∥∥₁_elim, ∥∥₁_map}
-use Rattle.exact.specs.Ratio.{Ratio, Same, ratio_plus, ratio_times, whole}
-use Rattle.exact.specs.Values.{CanCancel}
-use Rattle.exact.proofs.Values.{same_refl, same_sym, same_trans, plus_same, times_same, product_cancels, one_cancels}
-use Rattle.exact.proofs.{WholeMultiples.same_of, Semiring.Semiring}
+use Rattle.std.specs.Prelude.{ℤ, pos, ◌+ℤ◌, ◌*ℤ◌, neg_ℤ, negsuc}
+use mathlib.Core.{Quot.Quotient, Quot.Setoid, Logic.∥∥₁_prop, Logic.∥∥₁_elim, Logic.∥∥₁_map}
+use Rattle.exact.specs.Ratio.{Ratio, Same, ratio_plus, ratio_times, whole, HasInverse, inverse_of}
+use Rattle.exact.proofs.Values.{same_refl, same_sym, same_trans, plus_same, times_same, product_cancels, one_cancels, same_of, times_cancels}
+use Rattle.exact.{specs.Values.CanCancel, proofs.Quotients.inverse_denominator_cancels}
 use Rattle.integers.proofs.numbers.Ring.{ring, linear}
 use mathlib.Core.Quot.Quotient
 use mathlib.Core.Quot
+
+pub record Semiring : Type 1 where
+  pub Carrier : Type 0
+  pub plus : Carrier → Carrier → Carrier
+  pub times : Carrier → Carrier → Carrier
+  pub nought : Carrier
+  pub plus_comm : (a b : Carrier) → plus a b ≡ plus b a
+  pub plus_assoc : (a b c : Carrier) → plus (plus a b) c ≡ plus a (plus b c)
+  pub plus_nought : (a : Carrier) → plus a nought ≡ a
+  pub times_comm : (a b : Carrier) → times a b ≡ times b a
+  pub times_assoc : (a b c : Carrier) → times (times a b) c ≡ times a (times b c)
+  pub times_plus : (a b c : Carrier) → times a (plus b c) ≡ plus (times a b) (times a c)
+  pub times_nought : (a : Carrier) → times a nought ≡ nought
+  pub plus_cancel : (a b c : Carrier) → plus a c ≡ plus b c → a ≡ b
+
+-- c divides every value, and can be cancelled
+pub record IsInvertible (S : Semiring) (c : S.Carrier) : Type 0 where
+  pub over : S.Carrier → S.Carrier
+  pub divides : (x : S.Carrier) → S.times (over x) c ≡ x
+  pub cancels : (x y : S.Carrier) → S.times c x ≡ S.times c y → x ≡ y
 
 module _ (m : ℕ) where
   pub record Exact : Type 0 where
@@ -88,10 +106,7 @@ module _ (m : ℕ) where
   class r h = Quotient.mk by_value (record { ratio = r; denominator = h })
 
   pub formal : (x y d e : ℤ) (a b : Ratio) → x ≡ a.num → y ≡ b.num → d ≡ pos a.den → e ≡ pos b.den → x *ℤ e ≡ y *ℤ d → Same m a b
-  formal x y d e a b i j k l h = same_of (pos 0, rw (← i, ← j, ← k, ← l, h) (zero_is (pos m) (y *ℤ d)))
-    where
-      zero_is : (m z : ℤ) → z -ℤ z ≡ m *ℤ pos 0
-      zero_is m z = simp ring (omega (arith, linear))
+  formal x y d e a b i j k l h = same_of (pos 0, rw (← i, ← j, ← k, ← l, h) (simp ring (omega (arith, linear))))
 
   comm_step : (an ad bn bd : ℤ) → (an *ℤ bd +ℤ bn *ℤ ad) *ℤ (bd *ℤ ad) ≡ (bn *ℤ ad +ℤ an *ℤ bd) *ℤ (ad *ℤ bd)
   comm_step an ad bn bd = simp ring (omega (arith, linear))
@@ -220,3 +235,63 @@ module _ (m : ℕ) where
     times_nought = times_value_zero;
     plus_cancel = plus_value_cancel;
   }
+
+module _ (m : ℕ) where
+  pub class_same : (a b : Ratio) (h : CanCancel m (pos a.den)) (i : CanCancel m (pos b.den)) → Same m a b → class m a h ≡ class m b i
+  unfolding class same
+  class_same a b h i s = Quotient.sound (by_value m) ∣ s ∣₁
+
+  pub class_whole : (z : ℤ) (h : CanCancel m (pos 1)) → whole_value m z ≡ class m (whole z) h
+  unfolding class whole_value same
+  class_whole z h = Quotient.sound (by_value m) ∣ same_refl (whole z) ∣₁
+
+  pub class_plus : (a b : Ratio) (h : CanCancel m (pos a.den)) (i : CanCancel m (pos b.den)) (j : CanCancel m (pos (ratio_plus a b).den))
+      → plus_value m (class m a h) (class m b i) ≡ class m (ratio_plus a b) j
+  unfolding class plus_value same plus_exact Quotient.lift₂
+  class_plus a b h i j = Quotient.sound (by_value m) ∣ same_refl (ratio_plus a b) ∣₁
+
+  pub class_times : (a b : Ratio) (h : CanCancel m (pos a.den)) (i : CanCancel m (pos b.den)) (j : CanCancel m (pos (ratio_times a b).den))
+      → times_value m (class m a h) (class m b i) ≡ class m (ratio_times a b) j
+  unfolding class times_value same times_exact Quotient.lift₂
+  class_times a b h i j = Quotient.sound (by_value m) ∣ same_refl (ratio_times a b) ∣₁
+
+  one_step : (an ad : ℤ) → (an *ℤ pos 1) *ℤ ad ≡ an *ℤ (ad *ℤ pos 1)
+  one_step an ad = simp ring (omega (arith, linear))
+
+  one_formal : (a : Ratio) → Same m (ratio_times a (whole (pos 1))) a
+  unfolding ratio_times
+  one_formal a = formal m _ _ _ _ (ratio_times a (whole (pos 1))) a refl refl refl refl (one_step a.num (pos a.den))
+
+  pub times_value_one : (a : Value m) → times_value m a (whole_value m (pos 1)) ≡ a
+  unfolding times_value whole_value same times_exact Quotient.lift₂
+  times_value_one = Quotient.ind (by_value m) (λ q. Quot.Quot-set (times_value m q (whole_value m (pos 1))) q)
+      (λ a. Quotient.sound (by_value m) ∣ one_formal a.ratio ∣₁)
+
+  inverse_formal : (an : ℤ) (ad : ℕ) → Same m (ratio_times (inverse_of an ad) (record { num = an; den = ad })) (whole (pos 1))
+  unfolding ratio_times
+  inverse_formal (pos n) ad = formal m _ _ _ _ (ratio_times (inverse_of (pos n) ad) (record { num = pos n; den = ad })) (whole (pos 1)) refl refl refl refl
+      (simp ring (omega (arith, linear)))
+  inverse_formal (negsuc n) ad = formal m _ _ _ _ (ratio_times (inverse_of (negsuc n) ad) (record { num = negsuc n; den = ad }))
+      (whole (pos 1)) refl refl refl refl (simp ring (omega (arith, linear)))
+
+  module _ (c : Ratio) (h : CanCancel m (pos c.den)) (i : HasInverse m c) where
+    unfoldable pub inverse_value : Value m
+    inverse_value = class m (inverse_of c.num c.den) (inverse_denominator_cancels c.num c.den i)
+
+    inverse_times : times_value m inverse_value (class m c h) ≡ whole_value m (pos 1)
+    unfolding inverse_value
+    inverse_times = class_times _ c _ h (times_cancels _ c (inverse_denominator_cancels c.num c.den i) h)
+        ∙ class_same _ (whole (pos 1)) _ one_cancels (inverse_formal c.num c.den) ∙ sym (class_whole (pos 1) one_cancels)
+
+    pub divides_value : (x : Value m) → times_value m (times_value m x inverse_value) (class m c h) ≡ x
+    divides_value x = times_value_assoc m x inverse_value (class m c h) ∙ ap (times_value m x) inverse_times ∙ times_value_one x
+
+    pub undo : (x : Value m) → times_value m inverse_value (times_value m (class m c h) x) ≡ x
+    undo x = search (arith, times_value_assoc, inverse_times, times_value_comm, times_value_one)
+
+    unfoldable pub pivot_value : (v : Value m) → v ≡ class m c h → IsInvertible (values m) v
+    pivot_value v e = record {
+      over = λ x. times_value m x inverse_value;
+      divides = λ x. ap (times_value m (times_value m x inverse_value)) e ∙ divides_value x;
+      cancels = λ x y f. sym (undo x) ∙ ap (times_value m inverse_value) (ap (λ t. times_value m t x) (sym e) ∙ f ∙ ap (λ t. times_value m t y) e) ∙ undo y;
+    }

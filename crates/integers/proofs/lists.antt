@@ -1,21 +1,8 @@
 -- Lists: members, order, sums, filters, permutations.
-pub mod Apart
-pub mod ApartPieces
-pub mod ChosenImages
-pub mod Counting
-pub mod FilteredImages
-pub mod Filters
-pub mod Greatest
 pub mod GrownLists
-pub mod Insertion
 pub mod ListOrder
 pub mod Matched
 pub mod Members
-pub mod More
-pub mod NumberSums
 pub mod Permutations
-pub mod Pieces
-pub mod Rising
-pub mod SortedMembers
 pub mod Sums
 pub mod Tables

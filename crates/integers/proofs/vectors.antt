@@ -1,20 +1,7 @@
 -- Vectors: independence, coordinates, lattices by their staircase bases, and their bounds.
-pub mod BaseSums
 pub mod Bounds
-pub mod Coordinates
-pub mod CoprimeLines
-pub mod Cramer
 pub mod Directions
-pub mod FewVectors
-pub mod Groups
 pub mod Independence
 pub mod Laws
-pub mod LinearRelations
-pub mod Normals
-pub mod OneStaircase
-pub mod Opposites
-pub mod Parts
-pub mod Precedence
 pub mod StairBasis
-pub mod StairCoordinates
 pub mod VectorRemainders

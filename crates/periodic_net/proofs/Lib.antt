@@ -1,13 +1,10 @@
-pub mod BreadthSteps
+pub mod BreadthSearch
 pub mod CallerLemmas
 pub mod ClassArcs
-pub mod ClosedWalks
 pub mod Coarsest
-pub mod SettlingSteps
-pub mod Splitting
 pub mod Theorems
+pub mod Translations
 pub mod examples
 pub mod isomorphisms
 pub mod nets
 pub mod placements
-pub mod translations

@@ -1,16 +1,6 @@
-pub mod Boxes
-pub mod Built
 pub mod CallerLemmas
-pub mod Classes
-pub mod Clearing
 pub mod Numbers
-pub mod OneResidue
-pub mod Pivots
 pub mod Residues
-pub mod RowClasses
 pub mod RowNumbers
 pub mod RowSteps
 pub mod Rows
-pub mod StairNumbers
-pub mod Triangle
-pub mod Undoing

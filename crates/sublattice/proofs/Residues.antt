@@ -1,11 +1,11 @@
--- Residues modulo the lattice of a stair: each vector has one, and they are the lists of numbers below the pivots.
-use Rattle.std.proofs.Common.{◌≡◌, ◌≢◌, ℕ, zero, suc, ◌<◌, ℤ, pos, negsuc, neg_ℤ, ◌+ℤ◌, ◌-ℤ◌, ◌*ℤ◌, refl, arith}
-use Rattle.std.proofs.lemmas.Int.{ints}
-use Rattle.std.specs.Prelude.{unsigned_abs}
+-- Residues modulo the lattice of a stair: each vector has one, they tell its class, and the pivots count them.
+use Rattle.std.proofs.Common.{◌≡◌, ◌≢◌, ℕ, zero, suc, ◌<◌, ℤ, pos, negsuc, neg_ℤ, ◌+ℤ◌, ◌-ℤ◌, ◌*ℤ◌, refl, arith, ap, ◌∙◌, ◌*◌}
+use Rattle.std.{proofs.lemmas.Int.ints, specs.Prelude.unsigned_abs}
 use borrow.Author.Differences.{product_is}
-use Rattle.integers.specs.Vectors.{Vector}
-use Rattle.integers.proofs.numbers.{Ring.ring, Ring.linear, Division.divided, Naturals.pos_same}
-use Rattle.vecdim.specs.Stairs.{Stairs}
+use Rattle.integers.specs.Vectors.{Vector, minus, vector}
+use Rattle.integers.proofs.counting.Numbering.{Numbering, Pair, pair, Both, Each, along, numbers_below, pairs}
+use Rattle.integers.proofs.numbers.{Ring.ring, Ring.linear, Division.divided, Order.pos_same}
+use Rattle.vecdim.specs.Stairs.{Stairs, InStairs}
 use Rattle.sublattice.specs.Residues.{Residue}
 
 -- z is r + m·k, with r from 0 to below the absolute value of m
@@ -56,8 +56,7 @@ brought_two a b c d e = omega (arith, linear, e)
 -- each vector is such a sum
 pub residue : (S : Stairs) → HasPivots S → (w : Vector) → Residue S w
 residue S h w =
-    let x = dividing S.a w.x h.a in
-    let y = dividing S.e (w.y -ℤ S.b *ℤ x.k) h.e in
+    let x = dividing S.a w.x h.a in let y = dividing S.e (w.y -ℤ S.b *ℤ x.k) h.e in
     let z = dividing S.i (w.z -ℤ S.f *ℤ y.k -ℤ S.c *ℤ x.k) h.i in
     record {
       p = x.r;
@@ -73,3 +72,131 @@ residue S h w =
       y = brought w.y (S.b *ℤ x.k) (pos y.r +ℤ S.e *ℤ y.k) y.is;
       z = brought_two w.z (S.f *ℤ y.k) (S.c *ℤ x.k) (pos z.r +ℤ S.i *ℤ z.k) z.is;
     }
+
+-- equal sums, with the terms of the quotients on one side, where the later terms are equal
+second_side : (w q q' e b k k' l l' : ℤ) → k' -ℤ k ≡ pos 0 → w ≡ q +ℤ e *ℤ l +ℤ b *ℤ k → w ≡ q' +ℤ e *ℤ l' +ℤ b *ℤ k' → q ≡ q' +ℤ e *ℤ (l' -ℤ l)
+second_side w q q' e b k k' l l' h f g = let u = ap (λ (t : ℤ). b *ℤ t) h in simp ring (omega (arith, linear, f, g, simp ring at u))
+
+-- and where two later terms are
+third_side : (w s s' i n n' f l l' c k k' : ℤ) → k' -ℤ k ≡ pos 0 → l' -ℤ l ≡ pos 0 → w ≡ s +ℤ i *ℤ n +ℤ f *ℤ l +ℤ c *ℤ k
+    → w ≡ s' +ℤ i *ℤ n' +ℤ f *ℤ l' +ℤ c *ℤ k'
+    → s ≡ s' +ℤ i *ℤ (n' -ℤ n)
+third_side w s s' i n n' f l l' c k k' h j p q =
+    let u = ap (λ (t : ℤ). c *ℤ t) h in let v = ap (λ (t : ℤ). f *ℤ t) j in
+    simp ring (omega (arith, linear, p, q, simp ring at u, simp ring at v))
+
+-- a vector has one residue
+pub record SameResidue {S : Stairs} {v w : Vector} (r : Residue S v) (t : Residue S w) : Type 0 where
+  pub p : r.p ≡ t.p
+  pub q : r.q ≡ t.q
+  pub s : r.s ≡ t.s
+
+-- it is so
+pub residue_once : (S : Stairs) (w : Vector) (r t : Residue S w) → SameResidue r t
+residue_once S w r t =
+    let x = same_remainder S.a r.p t.p (t.k -ℤ r.k) r.p_below t.p_below (simp ring (omega (arith, linear, r.x, t.x))) in
+    let y = same_remainder S.e r.q t.q (t.l -ℤ r.l) r.q_below t.q_below (second_side w.y (pos r.q) (pos t.q) S.e S.b r.k t.k r.l t.l x.1 r.y t.y) in
+    let z = same_remainder S.i r.s t.s (t.n -ℤ r.n) r.s_below t.s_below
+    (third_side w.z (pos r.s) (pos t.s) S.i r.n t.n S.f r.l t.l S.c r.k t.k x.1 y.1 r.z t.z) in
+    record { p = x.0; q = y.0; s = z.0 }
+
+-- vectors with one residue differ by a member of the lattice
+pub member_of_residue : (S : Stairs) (v w : Vector) (r : Residue S v) (t : Residue S w) → SameResidue r t → InStairs S (minus v w)
+member_of_residue S v w r t h = record {
+  k = r.k -ℤ t.k;
+  l = r.l -ℤ t.l;
+  n = r.n -ℤ t.n;
+  x = simp ring (omega (arith, linear, r.x ∙ ap (λ (u : ℕ). pos u +ℤ S.a *ℤ r.k) h.p, t.x));
+  y = simp ring (omega (arith, linear, r.y ∙ ap (λ (u : ℕ). pos u +ℤ S.e *ℤ r.l +ℤ S.b *ℤ r.k) h.q, t.y));
+  z = simp ring (omega (arith, linear, r.z ∙ ap (λ (u : ℕ). pos u +ℤ S.i *ℤ r.n +ℤ S.f *ℤ r.l +ℤ S.c *ℤ r.k) h.s, t.z));
+}
+
+-- a vector that differs by a member has the same residue
+moved_residue : (S : Stairs) (v w : Vector) → InStairs S (minus v w) → Residue S w → Residue S v
+moved_residue S v w m t = record {
+  p = t.p;
+  q = t.q;
+  s = t.s;
+  k = t.k +ℤ m.k;
+  l = t.l +ℤ m.l;
+  n = t.n +ℤ m.n;
+  p_below = t.p_below;
+  q_below = t.q_below;
+  s_below = t.s_below;
+  x = simp ring (omega (arith, linear, simp ring at m.x, t.x));
+  y = simp ring (omega (arith, linear, simp ring at m.y, t.y));
+  z = simp ring (omega (arith, linear, simp ring at m.z, t.z));
+}
+
+-- vectors that differ by a member of the lattice have one residue
+pub residue_of_member : (S : Stairs) (v w : Vector) (r : Residue S v) (t : Residue S w) → InStairs S (minus v w) → SameResidue r t
+unfolding moved_residue
+residue_of_member S v w r t m =
+    let e = residue_once S v r (moved_residue S v w m t) in record { p = e.p; q = e.q; s = e.s }
+
+-- three numbers
+abbrev pub Three : Type 0
+Three = Pair ℕ (Pair ℕ ℕ)
+
+-- they are below these
+abbrev pub AreBelow : ℕ → ℕ → ℕ → Three → Type 0
+AreBelow a e i = Both (λ (x : ℕ). x < a) (Both (λ (x : ℕ). x < e) (λ (x : ℕ). x < i))
+
+-- they are equal
+abbrev pub AreSame : Three → Three → Type 0
+AreSame = Each (λ (x y : ℕ). x ≡ y) (Each (λ (x y : ℕ). x ≡ y) (λ (x y : ℕ). x ≡ y))
+
+-- three numbers below these are numbered below their product
+pub threes : (a e i : ℕ) → Numbering (AreBelow a e i) AreSame (a * (e * i))
+threes a e i =
+    pairs (λ (x : ℕ). x < a) (λ (x y : ℕ). x ≡ y) (Both (λ (x : ℕ). x < e) (λ (x : ℕ). x < i)) (Each (λ (x y : ℕ). x ≡ y) (λ (x y : ℕ). x ≡ y)) a (e * i)
+    (numbers_below a)
+    (pairs (λ (x : ℕ). x < e) (λ (x y : ℕ). x ≡ y) (λ (x : ℕ). x < i) (λ (x y : ℕ). x ≡ y) e i (numbers_below e) (numbers_below i))
+
+-- any vector
+abbrev pub IsAny : Vector → Type 0
+IsAny v = Unit {0}
+
+-- the vectors differ by a member of the lattice
+abbrev pub DifferBy : (Vector → Type 0) → Vector → Vector → Type 0
+DifferBy L v w = L (minus v w)
+
+-- the numbers of a residue
+abbrev numbers_of : (S : Stairs) (w : Vector) → Residue S w → Three
+numbers_of S w r = pair r.p (pair r.q r.s)
+
+-- the vector of three numbers
+abbrev pub vector_of : Three → Vector
+vector_of t = vector (pos t.left) (pos t.right.left) (pos t.right.right)
+
+-- three numbers below the pivots are their own residue
+abbrev own_residue : (S : Stairs) (t : Three) → AreBelow (unsigned_abs S.a) (unsigned_abs S.e) (unsigned_abs S.i) t → Residue S (vector_of t)
+own_residue S t h = record {
+  p = t.left;
+  q = t.right.left;
+  s = t.right.right;
+  k = pos 0;
+  l = pos 0;
+  n = pos 0;
+  p_below = h.left;
+  q_below = h.right.left;
+  s_below = h.right.right;
+  x = simp ring (omega (arith, linear));
+  y = simp ring (omega (arith, linear));
+  z = simp ring (omega (arith, linear));
+}
+
+-- the vectors up to the lattice are numbered below the product of the pivots
+pub stair_numbers : (S : Stairs) → HasPivots S → Numbering IsAny (DifferBy (InStairs S)) (unsigned_abs S.a * (unsigned_abs S.e * unsigned_abs S.i))
+stair_numbers S h =
+    along IsAny (DifferBy (InStairs S)) (AreBelow (unsigned_abs S.a) (unsigned_abs S.e) (unsigned_abs S.i)) AreSame
+    (unsigned_abs S.a * (unsigned_abs S.e * unsigned_abs S.i))
+    (threes (unsigned_abs S.a) (unsigned_abs S.e) (unsigned_abs S.i)) (λ w. numbers_of S w (residue S h w))
+    (record {
+      into = λ w _. let r = residue S h w in record { left = r.p_below; right = record { left = r.q_below; right = r.s_below } };
+      once = λ v w _ _ e. member_of_residue S v w (residue S h v) (residue S h w) (record { p = e.left; q = e.right.left; s = e.right.right });
+    })
+    (λ v w _ _ m. let e = residue_of_member S v w (residue S h v) (residue S h w) m in record { left = e.p; right = record { left = e.q; right = e.s } })
+    vector_of (λ t _. tt)
+    (λ t b. let e = residue_once S (vector_of t) (residue S h (vector_of t)) (own_residue S t b) in
+    record { left = e.p; right = record { left = e.q; right = e.s } })

@@ -1,23 +1,36 @@
--- Numbers in a box fit in 128 bits, and the rows of a stair lie in one.
-use Rattle.std.proofs.Common.{◌≡◌, ◌+◌, ◌*◌, ◌<◌, ◌≤◌, ◌≤ℤ◌, ◌<ℤ◌, ℤ, pos, ◌-ℤ◌, ◌*ℤ◌, ◌^◌, FitsSigned, arith}
-use Rattle.std.proofs.lemmas.Nat.{mul-le}
+-- What fits in 128 bits: products of the parts of vectors, numbers in a box, and what a division by rows takes.
+use Rattle.std.proofs.Common.{ℤ, ◌≤◌, ◌^◌, ◌*ℤ◌, arith, FitsSigned, ◌≡◌, ◌+◌, ◌*◌, ◌<◌, ◌≤ℤ◌, ◌<ℤ◌, pos, ◌-ℤ◌, ℕ, ◌+ℤ◌}
 use Rattle.std.proofs.lemmas.Int.{ints, unsigned_abs-mul, fits_signed_from_abs}
-use Rattle.std.specs.{Int.w128, Int.RustNames.unsigned_abs}
+use Rattle.std.{specs.Int.RustNames.unsigned_abs, specs.Int.w128, proofs.lemmas.Nat.mul-le, proofs.Math.Nat.mul-le-mul_left, proofs.Math.Nat.le_trans}
+use Rattle.integers.proofs.vectors.Bounds.{bounded_product, fits_from_bound, abs_difference, bounded_difference}
 use Rattle.integers.specs.Vectors.{Vector, vector, IsWithin}
-use Rattle.integers.proofs.vectors.Bounds.{abs_difference}
-use Rattle.vecdim.specs.{Stairs.Stairs, Steps.IsBoxed, Steps.IsBoundedStair}
+use Rattle.vecdim.specs.{Stairs.Stairs, Steps.IsBoxed, Steps.IsBoundedStair, Steps.HasRemainder}
+
+-- a product of a long number and a short one
+pub product_within : (a b : ℤ) → unsigned_abs a ≤ 2 ^ 84 → unsigned_abs b ≤ 2 ^ 41 → unsigned_abs (a *ℤ b) ≤ 2 ^ 125
+product_within a b h k = bounded_product a b (2 ^ 84) (2 ^ 41) h k
+
+-- which fits
+pub product_fits : (a b : ℤ) → unsigned_abs a ≤ 2 ^ 84 → unsigned_abs b ≤ 2 ^ 41 → FitsSigned w128 (a *ℤ b)
+product_fits a b h k = fits_from_bound (a *ℤ b) (2 ^ 125) (omega arith) (product_within a b h k)
+
+-- a product of two numbers of at most 2^62
+pub square_within : (a b : ℤ) → unsigned_abs a ≤ 2 ^ 62 → unsigned_abs b ≤ 2 ^ 62 → unsigned_abs (a *ℤ b) ≤ 2 ^ 124
+square_within a b h k = bounded_product a b (2 ^ 62) (2 ^ 62) h k
+
+-- which fits
+pub square_fits : (a b : ℤ) → unsigned_abs a ≤ 2 ^ 62 → unsigned_abs b ≤ 2 ^ 62 → FitsSigned w128 (a *ℤ b)
+square_fits a b h k = fits_from_bound (a *ℤ b) (2 ^ 124) (omega arith) (square_within a b h k)
 
 -- the absolute value of a number from 0 to m
 abs_to : (z m : ℤ) → m ≤ℤ pos (2 ^ 60) → pos 0 ≤ℤ z → z ≤ℤ m → unsigned_abs z ≤ 2 ^ 60
 abs_to z m h i j = omega (arith, ints)
 
 -- what `less_times` computes fits in 128 bits
-pub product_fits : (a q b m : ℤ) → m ≤ℤ pos (2 ^ 60) → pos 0 ≤ℤ a → a ≤ℤ m → pos 0 ≤ℤ b → b ≤ℤ m → pos 0 ≤ℤ q → q ≤ℤ m
+pub boxed_product : (a q b m : ℤ) → m ≤ℤ pos (2 ^ 60) → pos 0 ≤ℤ a → a ≤ℤ m → pos 0 ≤ℤ b → b ≤ℤ m → pos 0 ≤ℤ q → q ≤ℤ m
     → FitsSigned w128 (q *ℤ b) × FitsSigned w128 (a -ℤ q *ℤ b)
-product_fits a q b m h af at bf bt qf qt =
-    let u = abs_to a m h af at in
-    let v = abs_to b m h bf bt in
-    let w = abs_to q m h qf qt in
+boxed_product a q b m h af at bf bt qf qt =
+    let u = abs_to a m h af at in let v = abs_to b m h bf bt in let w = abs_to q m h qf qt in
     let p : unsigned_abs (q *ℤ b) ≤ 2 ^ 60 * 2 ^ 60 = rw unsigned_abs-mul (mul-le (unsigned_abs q) (unsigned_abs b) (2 ^ 60) (2 ^ 60) w v) in
     let r : unsigned_abs (a -ℤ q *ℤ b) ≤ unsigned_abs a + unsigned_abs (q *ℤ b) = abs_difference a (q *ℤ b) in
     (fits_signed_from_abs w128 (q *ℤ b) (omega arith), fits_signed_from_abs w128 (a -ℤ q *ℤ b) (omega arith))
@@ -53,8 +66,7 @@ pub boxed_fits : {m : ℤ} {v : Vector} → m ≤ℤ pos (2 ^ 60) → IsBoxed m 
 boxed_fits {m} {v} h b = record {
   x = fits_within v.x m h b.x_from b.x_to;
   y = fits_within v.y m h b.y_from (at_most v.y m b.y_to);
-  z =
-      fits_within v.z m h b.z_from (at_most v.z m b.z_to);
+  z = fits_within v.z m h b.z_from (at_most v.z m b.z_to);
 }
 
 -- below, and at most
@@ -74,8 +86,7 @@ boxed_first {m} {S} k = let r = k.reduced in let b = k.e_to in let c = k.i_to in
       y_from = r.b_from;
       y_to = below S.b S.e m r.b_to b;
       z_from = r.c_from;
-      z_to =
-          below S.c S.i m r.c_to c;
+      z_to = below S.c S.i m r.c_to c;
     }
 
 -- the second row, one place to the left
@@ -84,8 +95,7 @@ boxed_second {m} {S} k = let r = k.reduced in record {
   x_from = at_most (pos 0) S.e r.e;
   x_to = k.e_to;
   y_from = r.f_from;
-  y_to =
-      below S.f S.i m r.f_to k.i_to;
+  y_to = below S.f S.i m r.f_to k.i_to;
   z_from = zero_most;
   z_to = k.m_from;
 }
@@ -125,3 +135,61 @@ first_small {m} {S} k = let w = boxed_within k.m_to (boxed_first k) in (weaker S
 -- and so is the second
 pub second_small : {m : ℤ} {S : Stairs} → IsBoundedStair m S → IsWithin (2 ^ 61) (vector (pos 0) S.e S.f)
 second_small {m} {S} k = let w = boxed_within k.m_to (boxed_second k) in (omega arith, weaker S.e w.0, weaker S.f w.1)
+
+-- a product that `less` takes off fits
+pub taken_fits : (b k : ℤ) → unsigned_abs b ≤ 2 ^ 60 → unsigned_abs k ≤ 2 ^ 61 → FitsSigned w128 (b *ℤ k)
+taken_fits b k h i = fits_from_bound (b *ℤ k) (2 ^ 121) (omega arith) (bounded_product b k (2 ^ 60) (2 ^ 61) h i)
+
+-- and what it leaves is small
+pub less_within : (z b k : ℤ) (n : ℕ) → unsigned_abs z ≤ n → unsigned_abs b ≤ 2 ^ 60 → unsigned_abs k ≤ 2 ^ 61 → unsigned_abs (z -ℤ b *ℤ k) ≤ n + 2 ^ 121
+less_within z b k n h i j = bounded_difference z (b *ℤ k) n (2 ^ 121) h (bounded_product b k (2 ^ 60) (2 ^ 61) i j)
+
+-- so it fits
+pub less_fits : (z b k : ℤ) → unsigned_abs z ≤ 2 ^ 125 → unsigned_abs b ≤ 2 ^ 60 → unsigned_abs k ≤ 2 ^ 61 → FitsSigned w128 (z -ℤ b *ℤ k)
+less_fits z b k h i j = fits_from_bound (z -ℤ b *ℤ k) (2 ^ 125 + 2 ^ 121) (omega arith) (less_within z b k (2 ^ 125) h i j)
+
+-- from a part of a vector it leaves what may be taken off again
+pub less_again : (z b k : ℤ) → unsigned_abs z ≤ 2 ^ 61 → unsigned_abs b ≤ 2 ^ 60 → unsigned_abs k ≤ 2 ^ 61 → unsigned_abs (z -ℤ b *ℤ k) ≤ 2 ^ 125
+less_again z b k h i j = let s = less_within z b k (2 ^ 61) h i j in omega (arith, s)
+
+-- a part of a vector is one of these
+pub part_taken : (z : ℤ) → unsigned_abs z ≤ 2 ^ 61 → unsigned_abs z ≤ 2 ^ 125
+part_taken z h = omega (arith, h)
+
+-- what is below a pivot is small
+pub below_small : (b m : ℤ) → pos 0 ≤ℤ b → b <ℤ m → m ≤ℤ pos (2 ^ 60) → unsigned_abs b ≤ 2 ^ 60
+below_small b m h i j = omega (arith, ints, h, i, j)
+
+-- a number from 0 to below m, and 1 more, is at most m
+one_more : (b m : ℤ) → pos 0 ≤ℤ b → b <ℤ m → 1 + unsigned_abs b ≤ unsigned_abs m
+one_more b m h k = omega (arith, ints)
+
+-- z - b·k is at most n times m, for b below m
+pub second_bound : (z b k m : ℤ) (n : ℕ) → pos 0 ≤ℤ b → b <ℤ m → unsigned_abs z ≤ n → unsigned_abs k ≤ n → unsigned_abs (z -ℤ b *ℤ k) ≤ n * unsigned_abs m
+second_bound z b k m n h i j l =
+    le_trans (bounded_difference z (b *ℤ k) n (unsigned_abs b * n) j (bounded_product b k (unsigned_abs b) n (omega arith) l))
+    (more (unsigned_abs b) (unsigned_abs m) (one_more b m h i))
+  where
+    more : (b m : ℕ) → 1 + b ≤ m → n + b * n ≤ n * m
+    more b m l = let p : n * (1 + b) ≤ n * m = mul-le-mul_left n l in omega arith
+
+-- z - c·k - f·l is at most 2·n times m, for c and f below m
+pub third_bound : (z c k f l m : ℤ) (n : ℕ) → pos 0 ≤ℤ c → c <ℤ m → pos 0 ≤ℤ f → f <ℤ m → unsigned_abs z ≤ n → unsigned_abs k ≤ n → unsigned_abs l ≤ n
+    → unsigned_abs ((z -ℤ c *ℤ k) -ℤ f *ℤ l) ≤ 2 * n * unsigned_abs m
+third_bound z c k f l m n hc ic hf jf hz hk hl =
+    le_trans
+    (bounded_difference (z -ℤ c *ℤ k) (f *ℤ l) (n * unsigned_abs m) (unsigned_abs f * n) (second_bound z c k m n hc ic hz hk)
+    (bounded_product f l (unsigned_abs f) n (omega arith) hl)) (more (unsigned_abs f) (unsigned_abs m) (one_more f m hf jf))
+  where
+    more : (b m : ℕ) → 1 + b ≤ m → n * m + b * n ≤ 2 * n * m
+    more b m l = grind (arith, mul-le-mul_left)
+
+-- what is above a number that is not negative is positive
+pub above_from : (c m : ℤ) → pos 0 ≤ℤ c → c <ℤ m → pos 0 <ℤ m
+above_from c m h i = omega (arith, ints, h, i)
+
+-- the vector is divided
+pub divided_is : {S : Stairs} {v q r : Vector} → (pos 0 ≤ℤ r.x) × (r.x <ℤ S.a) × (v.x ≡ r.x +ℤ S.a *ℤ q.x)
+    → (pos 0 ≤ℤ r.y) × (r.y <ℤ S.e) × (v.y -ℤ S.b *ℤ q.x ≡ r.y +ℤ S.e *ℤ q.y)
+    → (pos 0 ≤ℤ r.z) × (r.z <ℤ S.i) × ((v.z -ℤ S.c *ℤ q.x) -ℤ S.f *ℤ q.y ≡ r.z +ℤ S.i *ℤ q.z) → HasRemainder S v q r
+divided_is x y z = record { low = (x.0, y.0, z.0); high = (x.1, y.1, z.1); x = x.2; y = y.2; z = z.2 }

@@ -1,8 +1,3 @@
 -- The lemmas of this crate that other crates cite.
-pub use Rattle.vecdim.proofs.Boxes.{fits_within}
-pub use Rattle.vecdim.proofs.Dividing.{remainder}
-pub use Rattle.vecdim.proofs.Generated.{with_has, with_inside, with_start}
-pub use Rattle.vecdim.proofs.SmallProducts.{small_products}
-pub use Rattle.vecdim.proofs.Spanning.{members_group}
-pub use Rattle.vecdim.proofs.Stairway.{rows_are_basis}
-pub use Rattle.vecdim.proofs.Whole.{all_members}
+pub use Rattle.vecdim.proofs.Adding.{with_has, with_inside, with_start, all_members}
+pub use Rattle.vecdim.proofs.{Boxes.fits_within, Dividing.remainder, Dividing.small_products, Stairway.members_group, Stairway.rows_are_basis}

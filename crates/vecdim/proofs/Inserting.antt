@@ -1,10 +1,9 @@
--- What the columns' steps give for the lattice.
-use Rattle.std.proofs.Common.{◌≡◌, zero, suc, ℤ, pos, negsuc, ◌+ℤ◌, ◌-ℤ◌, ◌*ℤ◌, neg_ℤ, ◌<ℤ◌, refl, ap, ◌∙◌, arith}
-use Rattle.std.proofs.lemmas.Int.{ints}
-use Rattle.integers.proofs.numbers.Ring.{ring, linear}
+-- What the columns' steps give for the lattice, and the last steps of an insertion.
+use Rattle.std.proofs.Common.{◌≡◌, ℤ, pos, ◌+ℤ◌, ◌-ℤ◌, ◌*ℤ◌, neg_ℤ, ◌<ℤ◌, refl, ap, ◌∙◌, arith, ◌≤ℤ◌}
+use Rattle.integers.proofs.numbers.{Ring.other_factor_zero, Ring.ring, Ring.linear, Order.positive_is_some}
 use Rattle.integers.specs.Vectors.{Vector, vector}
-use Rattle.vecdim.specs.Stairs.{InStairs, Stairs}
-use Rattle.vecdim.specs.Steps.{Combo, Exchange, HasAdded, HasBound, InSum}
+use Rattle.vecdim.specs.Stairs.{InStairs, Stairs, stairs}
+use Rattle.vecdim.specs.Steps.{Combo, Exchange, HasAdded, HasBound, InSum, IsBoxed, IsInserted, IsBoundedStair}
 use Rattle.vecdim.proofs.Lattice.{IsClosed, four_in, HasRows, has_all, own_rows, stairs_closed, sum_closed}
 
 -- what the steps of an insertion compute: three columns, and the reduction above the pivots
@@ -73,15 +72,15 @@ module _ {L : Vector → Type 0} (h : IsClosed L) (m : ℤ) where
       first_three' : (p q r a b w : ℤ) → w ≡ p *ℤ a +ℤ q *ℤ b +ℤ m *ℤ r → w ≡ p *ℤ a +ℤ q *ℤ b +ℤ r *ℤ m +ℤ pos 0 *ℤ m
       first_three' p q r a b w e = simp ring (omega (arith, linear, e))
 
+  -- a closed set with a member has 0
+  zero_in : {u : Vector} → L u → L (vector (pos 0) (pos 0) (pos 0))
+  zero_in {u} l = h.pair (pos 0) (pos 0) u u (vector (pos 0) (pos 0) (pos 0)) l l (simp ring refl) (simp ring refl) (simp ring refl)
+
   -- in the third column
   in_third : (r v w : Vector) → L (vector (pos 0) (pos 0) r.x) → L (vector (pos 0) (pos 0) v.x) → Combo m r v w → L (vector (pos 0) (pos 0) w.x)
   in_third r v w lr lv c = four_in h c.p c.q (pos 0) (pos 0) (vector (pos 0) (pos 0) r.x) (vector (pos 0) (pos 0) v.x) (vector (pos 0) (pos 0) (pos 0))
       (vector (pos 0) (pos 0) (pos 0)) (vector (pos 0) (pos 0) w.x) lr lv (zero_in lr) (zero_in lr)
       (nothing c.p c.q (pos 0) (pos 0)) (nothing c.p c.q (pos 0) (pos 0)) (first_two c.p c.q (pos 0) (pos 0) r.x v.x w.x c.x)
-    where
-      -- a closed set with a member has 0
-      zero_in : {u : Vector} → L u → L (vector (pos 0) (pos 0) (pos 0))
-      zero_in {u} l = h.pair (pos 0) (pos 0) u u (vector (pos 0) (pos 0) (pos 0)) l l (simp ring refl) (simp ring refl) (simp ring refl)
 
   -- a closed set with the third row has (0, 0, m)
   third_multiple : {S : Stairs} → HasBound S m → L (vector (pos 0) (pos 0) S.i) → L (vector (pos 0) (pos 0) m)
@@ -137,10 +136,6 @@ module _ {L : Vector → Type 0} (h : IsClosed L) (m : ℤ) where
         × (x ≡ pos 1 *ℤ v +ℤ r *ℤ pos 0 +ℤ s *ℤ pos 0 +ℤ k *ℤ m)
     z_part x v k r s h = (simp ring (omega (arith, linear, h)), simp ring (omega (arith, linear, h)))
 
-    -- a closed set with a member has 0
-    zero_in : {u : Vector} → L u → L (vector (pos 0) (pos 0) (pos 0))
-    zero_in {u} l = h.pair (pos 0) (pos 0) u u (vector (pos 0) (pos 0) (pos 0)) l l (simp ring refl) (simp ring refl) (simp ring refl)
-
     -- the new rows give the old ones
     pub old_of_new : HasRows L T → HasRows L S × L v
     old_of_new r =
@@ -170,8 +165,7 @@ module _ {L : Vector → Type 0} (h : IsClosed L) (m : ℤ) where
     -- the old rows and v give the new ones
     pub new_of_old : HasRows L S → L v → HasRows L T
     new_of_old r l =
-        let m3 = third_multiple bound r.third in
-        let m2 = second_multiple bound r.second r.third in
+        let m3 = third_multiple bound r.third in let m2 = second_multiple bound r.second r.third in
         let m1 = has_all h r (vector m (pos 0) (pos 0)) bound.first in
         let low1 = four_in h (pos 1) t.kx t.ky t.kz v (vector m (pos 0) (pos 0)) (vector (pos 0) m (pos 0)) (vector (pos 0) (pos 0) m)
         (vector t.x t.y t.z) l m1 m2 m3
@@ -204,7 +198,7 @@ own : (u k v w : ℤ) → w ≡ u +ℤ k *ℤ v → w ≡ pos 1 *ℤ u +ℤ k *�
 own u k v w e = simp ring (omega (arith, linear, e))
 
 -- 0 is a member
-zero_member : (S : Stairs) → InStairs S (vector (pos 0) (pos 0) (pos 0))
+pub zero_member : (S : Stairs) → InStairs S (vector (pos 0) (pos 0) (pos 0))
 zero_member S = record { k = pos 0; l = pos 0; n = pos 0; x = simp ring refl; y = simp ring refl; z = simp ring refl }
 
 -- a member is a sum with 0 times v
@@ -227,20 +221,7 @@ steps_with {m} {S} {T} {v} b t =
 
 -- a multiple of a positive number is 0 only for the factor 0
 pub zero_factor : (k a : ℤ) → pos 0 ≡ k *ℤ a → pos 0 <ℤ a → k ≡ pos 0
--- a multiple of a positive number is 0 only for the factor 0
-zero_factor (pos zero) a e p = refl
--- a multiple of a positive number is 0 only for the factor 0
-zero_factor (pos (suc k)) (pos zero) e p = absurd (omega (arith, ints))
--- a multiple of a positive number is 0 only for the factor 0
-zero_factor (pos (suc k)) (pos (suc n)) e p = absurd (omega (arith, ints))
--- a multiple of a positive number is 0 only for the factor 0
-zero_factor (pos (suc k)) (negsuc n) e p = absurd (omega (arith, ints))
--- a multiple of a positive number is 0 only for the factor 0
-zero_factor (negsuc k) (pos zero) e p = absurd (omega (arith, ints))
--- a multiple of a positive number is 0 only for the factor 0
-zero_factor (negsuc k) (pos (suc n)) e p = absurd (omega (arith, ints))
--- a multiple of a positive number is 0 only for the factor 0
-zero_factor (negsuc k) (negsuc n) e p = absurd (omega (arith, ints))
+zero_factor k a e p = other_factor_zero a k (simp ring (omega (arith, linear, e))) (positive_is_some a p)
 
 -- a term with the factor 0 falls away
 drop_zero : (k b w r : ℤ) → k ≡ pos 0 → w ≡ k *ℤ b +ℤ r → w ≡ r
@@ -257,12 +238,9 @@ drop_first k b l c w r e f = f ∙ ap (λ t. t *ℤ b +ℤ l *ℤ c +ℤ r) e �
 -- the new lattice still has the multiples of m
 pub steps_bound : {m : ℤ} {S T : Stairs} {v : Vector} → HasBound S m → Steps m S T v → pos 0 <ℤ T.a → pos 0 <ℤ T.e → HasBound T m
 steps_bound {m} {S} {T} {v} b t pa pe =
-    let h = stairs_closed T in
-    let r = (old_of_new h m b t (own_rows T)).0 in
-    let i = second_multiple h m b r.second r.third in
-    let j = third_multiple h m b r.third in
-    let ki = zero_factor i.k T.a i.x pa in
-    let kj = zero_factor j.k T.a j.x pa in
+    let h = stairs_closed T in let r = (old_of_new h m b t (own_rows T)).0 in
+    let i = second_multiple h m b r.second r.third in let j = third_multiple h m b r.third in
+    let ki = zero_factor i.k T.a i.x pa in let kj = zero_factor j.k T.a j.x pa in
     let lj = zero_factor j.l T.e (drop_zero j.k T.b (pos 0) (j.l *ℤ T.e) kj j.y) pe in
     record {
       first = has_all {L = InStairs T} h r (vector m (pos 0) (pos 0)) b.first;
@@ -272,4 +250,86 @@ steps_bound {m} {S} {T} {v} b t pa pe =
       second_z = drop_first i.k T.c i.l T.f (pos 0) (i.n *ℤ T.i) ki i.z;
       third_k = j.n;
       third_z = drop_two j.k j.l T.c T.f m (j.n *ℤ T.i) kj lj j.z;
+    }
+
+-- what a column of Euclid's algorithm ensures
+pub record Column (m : ℤ) (u v r w : Vector) : Type 0 where
+  pub upper : IsBoxed m r
+  pub lower : IsBoxed m w
+  pub pivot : pos 0 <ℤ r.x
+  pub same : Exchange m u v r w
+
+-- r is z, between 0 and m, up to multiples of m
+pub record Modulo (z m r : ℤ) : Type 0 where
+  pub from : pos 0 ≤ℤ r
+  pub to : r <ℤ m
+  pub same : (k : ℤ) × (r ≡ z +ℤ m *ℤ k)
+
+-- the two steps of the reduction of c, in one equation
+last : (c c0 c1 q f m k i l : ℤ) → c0 ≡ c1 -ℤ q *ℤ f +ℤ m *ℤ k → c ≡ c0 +ℤ i *ℤ l → c ≡ c1 -ℤ q *ℤ f +ℤ m *ℤ k +ℤ i *ℤ l
+last c c0 c1 q f m k i l e g = omega (arith, linear, e, g)
+
+-- the steps together make an insertion
+pub assemble : (m : ℤ) (S : Stairs) (v : Vector) (x y z a b1 c1 y1 z1 e f1 g1 z2 g2 i j1 j2 j3 j4 f q b c0 c : ℤ)
+    → IsBoundedStair m S → Modulo v.x m x → Modulo v.y m y → Modulo v.z m z
+    → Column m (vector S.a S.b S.c) (vector x y z) (vector a b1 c1) (vector (pos 0) y1 z1)
+    → Column m (vector S.e S.f (pos 0)) (vector y1 z1 (pos 0)) (vector e f1 g1) (vector (pos 0) z2 g2)
+    → Column m (vector S.i (pos 0) (pos 0)) (vector z2 (pos 0) (pos 0)) (vector i j1 j2) (vector (pos 0) j3 j4)
+    → Modulo f1 i f → pos 0 ≤ℤ b → b <ℤ e → b ≡ b1 -ℤ q *ℤ e → Modulo (c1 -ℤ q *ℤ f) m c0 → Modulo c0 i c
+    → IsInserted m S (stairs a b c e f i) v
+assemble m S v x y z a b1 c1 y1 z1 e f1 g1 z2 g2 i j1 j2 j3 j4 f q b c0 c k hx hy hz one two three hf b_from b_to hb h0 hc =
+    let steps : Steps m S (stairs a b c e f i) v = record {
+      x = x;
+      y = y;
+      z = z;
+      kx = hx.same.0;
+      ky = hy.same.0;
+      kz = hz.same.0;
+      x_is = hx.same.1;
+      y_is = hy.same.1;
+      z_is = hz.same.1;
+      b1 = b1;
+      c1 = c1;
+      y1 = y1;
+      z1 = z1;
+      f1 = f1;
+      g1 = g1;
+      z2 = z2;
+      g2 = g2;
+      j1 = j1;
+      j2 = j2;
+      j3 = j3;
+      j4 = j4;
+      one = one.same;
+      two = two.same;
+      three = three.same;
+      q = q;
+      kf = hf.same.0;
+      k1 = h0.same.0;
+      k2 = hc.same.0;
+      f_is = hf.same.1;
+      b_is = hb;
+      c_is = last c c0 c1 q f m h0.same.0 i hc.same.0 h0.same.1 hc.same.1;
+    } in
+    record {
+      kept = record {
+        m_from = k.m_from;
+        m_to = k.m_to;
+        reduced = record {
+          a = one.pivot;
+          e = two.pivot;
+          i = three.pivot;
+          b_from = b_from;
+          b_to = b_to;
+          c_from = hc.from;
+          c_to = hc.to;
+          f_from = hf.from;
+          f_to = hf.to;
+        };
+        bound = steps_bound k.bound steps one.pivot two.pivot;
+        a_to = one.upper.x_to;
+        e_to = two.upper.x_to;
+        i_to = three.upper.x_to;
+      };
+      added = steps_with k.bound steps;
     }

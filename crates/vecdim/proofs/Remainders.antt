@@ -3,10 +3,8 @@ use Rattle.std.proofs.Common.{◌≡◌, ℕ, zero, suc, ℤ, pos, negsuc, ◌+�
 use Rattle.std.proofs.lemmas.Int.{ints}
 use borrow.Author.Differences.{product_is}
 use Rattle.integers.specs.Vectors.{Vector, zero_vector, minus}
-use Rattle.integers.proofs.numbers.Ring.{ring, linear, zero_product}
-use Rattle.integers.proofs.vectors.Laws.{vector_equal}
-use Rattle.vecdim.specs.Stairs.{Stairs, InStairs, HasStairShape, IsRemainder}
-use Rattle.vecdim.specs.Steps.{HasRemainder}
+use Rattle.integers.proofs.{numbers.Ring.ring, numbers.Ring.linear, numbers.Ring.zero_product, vectors.Laws.vector_equal}
+use Rattle.vecdim.specs.{Stairs.Stairs, Stairs.InStairs, Stairs.HasStairShape, Stairs.IsRemainder, Steps.HasRemainder}
 
 -- a multiple of m between two rests is 0
 no_multiple : (m r s k : ℤ) → pos 0 ≤ℤ r → r <ℤ m → pos 0 ≤ℤ s → s <ℤ m → r -ℤ s ≡ k *ℤ m → k ≡ pos 0
@@ -26,8 +24,7 @@ second_part y k l b e h p = let u = ap (λ (t : ℤ). t *ℤ b) h in omega (arit
 -- the third part of a member whose first two coefficients are 0
 third_part : (z k l n c f i : ℤ) → k ≡ pos 0 → l ≡ pos 0 → z ≡ k *ℤ c +ℤ l *ℤ f +ℤ n *ℤ i → z ≡ n *ℤ i
 third_part z k l n c f i h j p =
-    let u = ap (λ (t : ℤ). t *ℤ c) h in
-    let v = ap (λ (t : ℤ). t *ℤ f) j in
+    let u = ap (λ (t : ℤ). t *ℤ c) h in let v = ap (λ (t : ℤ). t *ℤ f) j in
     omega (arith, linear, p, simp ring at u, simp ring at v)
 
 -- remainders that differ by a member are equal

@@ -1,16 +1,223 @@
--- The rows of a staircase are the staircase basis of its members.
-use Rattle.std.proofs.Common.{◌≡◌, ◌≢◌, ℕ, zero, suc, ℤ, pos, ◌<ℤ◌, ◌≤ℤ◌, ◌<◌, ◌≤◌, List, [], ◌∷◌, refl, sym, ap, subst, ◌∙◌, arith, ◌⊎◌}
-use Rattle.std.proofs.lemmas.{Int.ints, List.Elements.All-cons}
-use Rattle.std.specs.Prelude.{slice_index_or, take, cond, ◌==◌, ◌^◌, All, Bool}
+-- The rows of a staircase are the staircase basis of its lattice, and the only one. They span its members.
+use Rattle.std.proofs.Common.{◌≡◌, zero, suc, ℤ, pos, negsuc, ◌+ℤ◌, ◌-ℤ◌, ◌*ℤ◌, ◌<ℤ◌, ◌≤ℤ◌, refl, sym, ap, subst, ◌∙◌, arith, ◌⊎◌, inl, inr, ⊎_elim, ℕ}
+use Rattle.std.proofs.Common.{neg_ℤ, [], ◌∷◌, ◌≢◌, ◌<◌, ◌≤◌, List}
+use Rattle.std.specs.Prelude.{Bool, true, false, cond, ◌==◌, slice_index_or, take, ◌^◌, All}
 use Rattle.std.specs.declared.cmp.Ordering.TheVariants.{Less, Equal, Greater}
+use Rattle.std.proofs.lemmas.{Int.ints, Bool.Decides.eqb_tells, List.Elements.All-cons}
 use Rattle.std.specs.{Ordering.int_cmp, Ordering.ordering_then, Cmp.int_cmp_is, Cmp.Lexicographic.slice_cmp, declared.cmp.Ordering.Ordering}
-use Rattle.vecdim.specs.Stairs.{Stairs, IsReducedStair, HasStairShape, HasFlatEnd, rows_of}
-use Rattle.vecdim.specs.{Steps.IsBoundedStair, Lattices.Members}
-use Rattle.vecdim.proofs.Boxes.{boxed_within, boxed_first, boxed_second, boxed_third}
-use Rattle.vecdim.proofs.Basis.{IsAtMost2, first_least, first_rest, second_least, second_rest, third_least}
-use Rattle.vecdim.proofs.{Lattice.own_rows, Spanning.rows_span}
-use Rattle.integers.specs.Vectors.{Vector, vector, zero_vector, HasDimension, IsAtMost, IsWithin}
-use Rattle.integers.specs.Staircase.{IsStaircase, IsStair, IsZeroBefore, NotNegativeAfter, Spans}
+use Rattle.integers.specs.Vectors.{Vector, vector, zero_vector, plus, opposite, combination, HasDimension, IsAtMost, IsWithin}
+use Rattle.integers.specs.Staircase.{Spans, IsStaircase, IsStair, IsZeroBefore, NotNegativeAfter}
+use Rattle.integers.proofs.vectors.Laws.{vector_equal, plus_dimension, opposite_dimension}
+use Rattle.integers.proofs.{numbers.Ring.ring, numbers.Ring.linear, vectors.StairBasis.combination_in, lists.Members.IsIn}
+use Rattle.integers.specs.Lattices.{IsVectorGroup}
+use Rattle.vecdim.specs.Stairs.{InStairs, IsReducedStair, Stairs, HasStairShape, rows_of, HasFlatEnd}
+use Rattle.vecdim.proofs.{Inserting.zero_factor, Inserting.zero_member, Lattice.in_pair, Lattice.own_rows, Remainders.first_off, Remainders.second_off}
+use Rattle.vecdim.proofs.{Remainders.third_off, Remainders.member_rests, Boxes.boxed_within, Boxes.boxed_first, Boxes.boxed_second, Boxes.boxed_third}
+use Rattle.vecdim.specs.{Lattices.Members, Steps.HasRemainder, Steps.IsBoundedStair}
+
+-- a positive multiple of a positive number is at least that number
+least_multiple : (k a : ℤ) → pos 0 <ℤ (k *ℤ a) → pos 0 <ℤ a → a ≤ℤ (k *ℤ a)
+least_multiple (pos zero) a h p = absurd (omega (arith, ints, h))
+least_multiple (pos (suc k)) (pos a) h p = omega (arith, ints)
+least_multiple (pos (suc k)) (negsuc a) h p = absurd (omega (arith, ints, p))
+least_multiple (negsuc k) (pos a) h p = absurd (omega (arith, ints, h))
+least_multiple (negsuc k) (negsuc a) h p = absurd (omega (arith, ints, p))
+
+-- it is that number only for the factor 1
+once : (k a : ℤ) → k *ℤ a ≡ a → pos 0 <ℤ a → k ≡ pos 1
+once k a e p =
+    let z = zero_factor (k -ℤ pos 1) a (simp ring (omega (arith, linear, e))) p in omega (arith, linear, z)
+
+-- the first of b, b + e, b + 2e, .. that is not negative
+pub least_rest : (l b e w : ℤ) → pos 0 ≤ℤ b → b <ℤ e → pos 0 ≤ℤ w → w ≡ b +ℤ l *ℤ e → (b <ℤ w) ⊎ ((w ≡ b) × (l ≡ pos 0))
+least_rest (pos zero) b e w h i j q = inr (omega (arith, ints, q), refl)
+least_rest (pos (suc l)) (pos b) (pos e) w h i j q = inl (omega (arith, ints, q, i))
+least_rest (pos (suc l)) (negsuc b) e w h i j q = absurd (omega (arith, ints, h))
+least_rest (pos (suc l)) (pos b) (negsuc e) w h i j q = absurd (omega (arith, ints, i))
+least_rest (negsuc l) (pos b) (pos e) w h i j q = absurd (omega (arith, ints, q, i, j))
+least_rest (negsuc l) (negsuc b) e w h i j q = absurd (omega (arith, ints, h))
+least_rest (negsuc l) (pos b) (negsuc e) w h i j q = absurd (omega (arith, ints, i))
+
+-- (b, c) is at most (y, z), compared from the left
+abbrev pub IsAtMost2 : ℤ → ℤ → ℤ → ℤ → Type 0
+IsAtMost2 b c y z = (b <ℤ y) ⊎ ((y ≡ b) × (c ≤ℤ z))
+
+-- the third part of a member whose coefficients begin with 1 and 0
+z_at_one : (k l n c f i z : ℤ) → k ≡ pos 1 → l ≡ pos 0 → z ≡ k *ℤ c +ℤ l *ℤ f +ℤ n *ℤ i → z ≡ c +ℤ n *ℤ i
+z_at_one k l n c f i z h g q = q ∙ ap (λ t. t *ℤ c +ℤ l *ℤ f +ℤ n *ℤ i) h ∙ ap (λ t. pos 1 *ℤ c +ℤ t *ℤ f +ℤ n *ℤ i) g ∙ simp ring (omega (arith, linear))
+
+-- less or equal is at most
+at_most_of : (b w : ℤ) {A : Type 0} → (b <ℤ w) ⊎ ((w ≡ b) × A) → b ≤ℤ w
+at_most_of b w k = search arith
+
+-- the first row has the least positive first part
+pub first_least : {S : Stairs} (w : Vector) → IsReducedStair S → InStairs S w → pos 0 <ℤ w.x → S.a ≤ℤ w.x
+first_least {S} w r m h = subst (λ t. S.a ≤ℤ t) (sym m.x) (least_multiple m.k S.a (subst (λ t. pos 0 <ℤ t) m.x h) r.a)
+
+-- among these the least parts after it
+pub first_rest : {S : Stairs} (w : Vector) → IsReducedStair S → InStairs S w → w.x ≡ S.a → pos 0 ≤ℤ w.y → pos 0 ≤ℤ w.z → IsAtMost2 S.b S.c w.y w.z
+first_rest {S} w r m h j i =
+    let k = once m.k S.a (sym m.x ∙ h) r.a in
+    ⊎_elim (λ (t : S.b <ℤ w.y). inl t)
+    (λ (t : (w.y ≡ S.b) × (m.l ≡ pos 0)). inr
+    (t.0, at_most_of S.c w.z (least_rest m.n S.c S.i w.z r.c_from r.c_to i (z_at_one m.k m.l m.n S.c S.f S.i w.z k t.1 m.z))))
+    (least_rest m.l S.b S.e w.y r.b_from r.b_to j (m.y ∙ ap (λ t. t *ℤ S.b +ℤ m.l *ℤ S.e) k ∙ simp ring (omega (arith, linear))))
+
+-- a member with first part 0 has the first coefficient 0
+no_first : {S : Stairs} (w : Vector) → IsReducedStair S → (m : InStairs S w) → w.x ≡ pos 0 → m.k ≡ pos 0
+no_first {S} w r m h = zero_factor m.k S.a (sym h ∙ m.x) r.a
+
+-- the second part of such a member
+y_at_zero : (k l b e y : ℤ) → k ≡ pos 0 → y ≡ k *ℤ b +ℤ l *ℤ e → y ≡ l *ℤ e
+y_at_zero k l b e y h q = q ∙ ap (λ t. t *ℤ b +ℤ l *ℤ e) h ∙ simp ring (omega (arith, linear))
+
+-- its third part, where the second coefficient is 1
+z_at_second : (k l n c f i z : ℤ) → k ≡ pos 0 → l ≡ pos 1 → z ≡ k *ℤ c +ℤ l *ℤ f +ℤ n *ℤ i → z ≡ f +ℤ n *ℤ i
+z_at_second k l n c f i z h g q = q ∙ ap (λ t. t *ℤ c +ℤ l *ℤ f +ℤ n *ℤ i) h ∙ ap (λ t. pos 0 *ℤ c +ℤ t *ℤ f +ℤ n *ℤ i) g ∙ simp ring (omega (arith, linear))
+
+-- its third part, where the second coefficient is 0
+z_at_third : (k l n c f i z : ℤ) → k ≡ pos 0 → l ≡ pos 0 → z ≡ k *ℤ c +ℤ l *ℤ f +ℤ n *ℤ i → z ≡ n *ℤ i
+z_at_third k l n c f i z h g q = q ∙ ap (λ t. t *ℤ c +ℤ l *ℤ f +ℤ n *ℤ i) h ∙ ap (λ t. pos 0 *ℤ c +ℤ t *ℤ f +ℤ n *ℤ i) g ∙ simp ring (omega (arith, linear))
+
+-- the second row has the least positive second part
+pub second_least : {S : Stairs} (w : Vector) → IsReducedStair S → InStairs S w → w.x ≡ pos 0 → pos 0 <ℤ w.y → S.e ≤ℤ w.y
+second_least {S} w r m x h =
+    let e = y_at_zero m.k m.l S.b S.e w.y (no_first w r m x) m.y in
+    subst (λ t. S.e ≤ℤ t) (sym e) (least_multiple m.l S.e (subst (λ t. pos 0 <ℤ t) e h) r.e)
+
+-- among these the least third part
+pub second_rest : {S : Stairs} (w : Vector) → IsReducedStair S → InStairs S w → w.x ≡ pos 0 → w.y ≡ S.e → pos 0 ≤ℤ w.z → S.f ≤ℤ w.z
+second_rest {S} w r m x h j =
+    let k = no_first w r m x in let l = once m.l S.e (sym (y_at_zero m.k m.l S.b S.e w.y k m.y) ∙ h) r.e in
+    at_most_of S.f w.z (least_rest m.n S.f S.i w.z r.f_from r.f_to j (z_at_second m.k m.l m.n S.c S.f S.i w.z k l m.z))
+
+-- the third row has the least positive third part
+pub third_least : {S : Stairs} (w : Vector) → IsReducedStair S → InStairs S w → w.x ≡ pos 0 → w.y ≡ pos 0 → pos 0 <ℤ w.z → S.i ≤ℤ w.z
+third_least {S} w r m x y h =
+    let k = no_first w r m x in
+    let l = zero_factor m.l S.e (sym y ∙ y_at_zero m.k m.l S.b S.e w.y k m.y) r.e in
+    let e = z_at_third m.k m.l m.n S.c S.f S.i w.z k l m.z in
+    subst (λ t. S.i ≤ℤ t) (sym e) (least_multiple m.n S.i (subst (λ t. pos 0 <ℤ t) e h) r.i)
+
+-- the first part of the sum
+sum_x : (w k l n a : ℤ) → w ≡ k *ℤ a → k *ℤ a +ℤ (l *ℤ pos 0 +ℤ (n *ℤ pos 0 +ℤ pos 0)) ≡ w
+sum_x w k l n a e = simp ring (omega (arith, linear, e))
+
+-- the second
+sum_y : (w k l n b f : ℤ) → w ≡ k *ℤ b +ℤ l *ℤ f → k *ℤ b +ℤ (l *ℤ f +ℤ (n *ℤ pos 0 +ℤ pos 0)) ≡ w
+sum_y w k l n b f e = simp ring (omega (arith, linear, e))
+
+-- the third
+sum_z : (w k l n c f i : ℤ) → w ≡ k *ℤ c +ℤ l *ℤ f +ℤ n *ℤ i → k *ℤ c +ℤ (l *ℤ f +ℤ (n *ℤ i +ℤ pos 0)) ≡ w
+sum_z w k l n c f i e = omega (arith, linear, e)
+
+-- the first part of a flat sum
+flat_x : (w k l a : ℤ) → w ≡ k *ℤ a → k *ℤ a +ℤ (l *ℤ pos 0 +ℤ pos 0) ≡ w
+flat_x w k l a e = simp ring (omega (arith, linear, e))
+
+-- the second
+flat_y : (w k l b f : ℤ) → w ≡ k *ℤ b +ℤ l *ℤ f → k *ℤ b +ℤ (l *ℤ f +ℤ pos 0) ≡ w
+flat_y w k l b f e = omega (arith, linear, e)
+
+-- the third
+flat_z : (w k l c f : ℤ) → w ≡ pos 0 → c ≡ pos 0 → f ≡ pos 0 → k *ℤ c +ℤ (l *ℤ f +ℤ pos 0) ≡ w
+flat_z w k l c f e p q = grind arith
+
+-- a member is the combination of the rows with its coefficients
+pub combination_of : (d : ℕ) (S : Stairs) (v : Vector) → HasStairShape d S → HasDimension d v → (m : InStairs S v)
+    → combination (m.k ∷ m.l ∷ m.n ∷ []) (rows_of d S) ≡ v
+combination_of d S v s dim m = by (eqb_tells d 2)
+  where
+    -- without the third row
+    without : d ≡ 2 → plus (vector (m.k *ℤ S.a) (m.k *ℤ S.b) (m.k *ℤ S.c)) (plus (vector (m.l *ℤ pos 0) (m.l *ℤ S.e) (m.l *ℤ S.f)) zero_vector) ≡ v
+    without e =
+        let f = s.flat e in
+        vector_equal (flat_x v.x m.k m.l S.a m.x) (flat_y v.y m.k m.l S.b S.e m.y) (flat_z v.z m.k m.l S.c S.f (dim e) f.c f.f)
+
+    by : (((d == 2) ≡ true) × (d ≡ 2)) ⊎ (((d == 2) ≡ false) × (d ≡ 2 → ⊥)) → combination (m.k ∷ m.l ∷ m.n ∷ []) (rows_of d S) ≡ v
+    by h = grind (arith, without, vector_equal, sum_x, sum_y, sum_z)
+
+-- the last coefficient of a flat member is 0
+no_third : (w k l n c f i : ℤ) → w ≡ pos 0 → c ≡ pos 0 → f ≡ pos 0 → i ≡ pos 1 → w ≡ k *ℤ c +ℤ l *ℤ f +ℤ n *ℤ i → n ≡ pos 0
+no_third w k l n c f i e p q o h =
+    let u = ap (λ (t : ℤ). k *ℤ t) p in let v = ap (λ (t : ℤ). l *ℤ t) q in
+    let r = ap (λ (t : ℤ). n *ℤ t) o in
+    omega (arith, linear, e, h, simp ring at u, simp ring at v, simp ring at r)
+
+-- so the coefficients have the dimension of the member
+pub coefficients_dimension : (d : ℕ) (S : Stairs) (v : Vector) → HasStairShape d S → HasDimension d v → (m : InStairs S v)
+    → HasDimension d (vector m.k m.l m.n)
+coefficients_dimension d S v s dim m e = let f = s.flat e in no_third v.z m.k m.l m.n S.c S.f S.i (dim e) f.c f.f f.i m.z
+
+-- a part, where the rest is 0
+exact_x : (v r a q : ℤ) → r ≡ pos 0 → v -ℤ r ≡ q *ℤ a → v ≡ q *ℤ a
+exact_x v r a q h e = omega (arith, linear, h, e)
+
+-- the second
+exact_y : (v r p q : ℤ) → r ≡ pos 0 → v -ℤ r ≡ p +ℤ q → v ≡ p +ℤ q
+exact_y v r p q h e = omega (arith, linear, h, e)
+
+-- the third
+exact_z : (v r o p q : ℤ) → r ≡ pos 0 → v -ℤ r ≡ o +ℤ p +ℤ q → v ≡ o +ℤ p +ℤ q
+exact_z v r o p q h e = omega (arith, linear, h, e)
+
+-- the coordinates of a member
+pub coordinates_are : (d : ℕ) {S : Stairs} {v q r : Vector} → HasStairShape d S → HasRemainder S v q r → Members d S v
+    → (combination (q.x ∷ q.y ∷ q.z ∷ []) (rows_of d S) ≡ v) × HasDimension d q
+coordinates_are d {S} {v} {q} {r} s h m =
+    let e = member_rests d s h m.0 in
+    let t : InStairs S v = record {
+      k = q.x;
+      l = q.y;
+      n = q.z;
+      x = exact_x v.x r.x S.a q.x (ap (λ (t : Vector). t.x) e) (first_off v.x r.x S.a q.x h.x);
+      y = exact_y v.y r.y (q.x *ℤ S.b) (q.y *ℤ S.e) (ap (λ (t : Vector). t.y) e) (second_off v.y r.y S.b S.e q.x q.y h.y);
+      z = exact_z v.z r.z (q.x *ℤ S.c) (q.y *ℤ S.f) (q.z *ℤ S.i) (ap (λ (t : Vector). t.z) e) (third_off v.z r.z S.c S.f S.i q.x q.y q.z h.z);
+    } in
+    (combination_of d S v s m.1 t, coefficients_dimension d S v s m.1 t)
+
+-- a sum
+sum_part : (x y : ℤ) → x +ℤ y ≡ pos 1 *ℤ x +ℤ pos 1 *ℤ y
+sum_part x y = simp ring (omega (arith, linear))
+
+-- the members of a staircase are a group
+pub members_group : (d : ℕ) (S : Stairs) → IsVectorGroup (Members d S)
+members_group d S = record {
+  zero = (zero_member S, λ e. refl);
+  sums = λ v w m n. (in_pair (pos 1) (pos 1) m.0 n.0 (sum_part v.x w.x) (sum_part v.y w.y) (sum_part v.z w.z), plus_dimension d v w m.1 n.1);
+  opposites = λ v m. (opposite_member v m.0, opposite_dimension d v m.1);
+}
+  where
+    opposite_member : (v : Vector) → InStairs S v → InStairs S (opposite v)
+    opposite_member v m = record {
+      k = neg_ℤ m.k;
+      l = neg_ℤ m.l;
+      n = neg_ℤ m.n;
+      x = simp ring (omega (arith, linear, simp ring at m.x));
+      y = simp ring (omega (arith, linear, simp ring at m.y));
+      z = simp ring (omega (arith, linear, simp ring at m.z));
+    }
+
+-- the rows are members
+rows_in : (d : ℕ) (S : Stairs) → HasStairShape d S → (v : Vector) → IsIn (rows_of d S) v → Members d S v
+rows_in d S s v (inl e) = subst (Members d S) e ((own_rows S).first, λ t. (s.flat t).c)
+rows_in d S s v (inr (inl e)) = subst (Members d S) e ((own_rows S).second, λ t. (s.flat t).f)
+rows_in d S s v (inr (inr i)) = by (eqb_tells d 2)
+  where
+    last : IsIn (vector (pos 0) (pos 0) S.i ∷ []) v → (d ≡ 2 → ⊥) → Members d S v
+    last (inl e) n = subst (Members d S) e ((own_rows S).third, λ t. absurd (n t))
+    last (inr k) n = absurd k
+
+    by : (((d == 2) ≡ true) × (d ≡ 2)) ⊎ (((d == 2) ≡ false) × (d ≡ 2 → ⊥)) → Members d S v
+    by (inl e) = absurd (subst (λ (b : Bool). IsIn (cond b [] (vector (pos 0) (pos 0) S.i ∷ [])) v) e.0 i)
+    by (inr n) = last (subst (λ (b : Bool). IsIn (cond b [] (vector (pos 0) (pos 0) S.i ∷ [])) v) n.0 i) n.1
+
+-- the rows span the members
+pub rows_span : (d : ℕ) (S : Stairs) → HasStairShape d S → Spans (Members d S) (rows_of d S)
+rows_span d S s = record {
+  inside = λ ks. combination_in (Members d S) (members_group d S) ks (rows_of d S) (rows_in d S s);
+  all = λ v m. (m.0.k ∷ m.0.l ∷ m.0.n ∷ [], combination_of d S v s m.1 m.0);
+}
 
 -- Less is not Greater
 less_not_greater : Less ≢ Greater
@@ -136,8 +343,7 @@ lent d l p S = search arith
 -- the rows' parts are at most 2^60
 rows_within : (d : ℕ) → 2 ≤ d → d ≤ 3 → {m : ℤ} (S : Stairs) → IsBoundedStair m S → All (IsWithin (2 ^ 60)) (rows_of d S)
 rows_within d h k {m} S kept =
-    let P = IsWithin (2 ^ 60) in
-    let s = boxed_within kept.m_to (boxed_second kept) in
+    let P = IsWithin (2 ^ 60) in let s = boxed_within kept.m_to (boxed_second kept) in
     let t = boxed_within kept.m_to (boxed_third kept) in
     All-cons P (vector S.a S.b S.c) (vector (pos 0) S.e S.f ∷ cond (d == 2) [] (vector (pos 0) (pos 0) S.i ∷ [])) (boxed_within kept.m_to (boxed_first kept))
     (All-cons P (vector (pos 0) S.e S.f) (cond (d == 2) [] (vector (pos 0) (pos 0) S.i ∷ [])) (omega arith, s.0, s.1)

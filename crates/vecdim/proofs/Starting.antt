@@ -1,13 +1,9 @@
 -- The lattice of the multiples of b, and flat lattices.
-use Rattle.std.specs.Prelude.{cond, ◌==◌, Bool}
 use Rattle.std.proofs.Common.{◌≡◌, ℕ, ℤ, pos, ◌+ℤ◌, ◌*ℤ◌, ◌<ℤ◌, ◌≤ℤ◌, ◌^◌, refl, sym, ap, subst, ◌∙◌, arith}
-use Rattle.std.proofs.lemmas.{Bool.ne_eqb, Int.ints}
-use Rattle.integers.proofs.{numbers.Ring.ring, numbers.Ring.linear, vectors.Laws.vector_equal}
-use Rattle.integers.specs.Vectors.{Vector, vector}
-use Rattle.vecdim.specs.Lattices.{Members, AreMultiples}
-use Rattle.vecdim.specs.Stairs.{HasFlatEnd, Stairs, stairs}
-use Rattle.vecdim.specs.Steps.{HasBound, IsInserted, IsBoundedStair}
-use Rattle.vecdim.proofs.{Basis.third_least, Lattice.own_rows}
+use Rattle.std.{specs.Prelude.cond, specs.Prelude.◌==◌, specs.Prelude.Bool, proofs.lemmas.Bool.ne_eqb, proofs.lemmas.Int.ints}
+use Rattle.integers.{proofs.numbers.Ring.ring, proofs.numbers.Ring.linear, proofs.vectors.Laws.vector_equal, specs.Vectors.Vector, specs.Vectors.vector}
+use Rattle.vecdim.{specs.Lattices.Members, specs.Lattices.AreMultiples, specs.Stairs.HasFlatEnd, specs.Stairs.Stairs, specs.Stairs.stairs}
+use Rattle.vecdim.{specs.Steps.HasBound, specs.Steps.IsInserted, specs.Steps.IsBoundedStair, proofs.Stairway.third_least, proofs.Lattice.own_rows}
 
 -- the multiples of b belong to it
 start_bound : (b last k : ℤ) → b ≡ k *ℤ last → HasBound (stairs b (pos 0) (pos 0) b (pos 0) last) b
@@ -48,15 +44,10 @@ start_kept b last k h i l m e = record {
 one_or : (i s : ℤ) → pos 0 <ℤ i → i ≤ℤ s → s ≡ pos 1 → i ≡ pos 1
 one_or i s h j e = omega (arith, linear, ints, h, j, e)
 
--- what is below 1 and not negative is 0
-zero_below : (i c : ℤ) → i ≡ pos 1 → pos 0 ≤ℤ c → c <ℤ i → c ≡ pos 0
-zero_below i c e h j = omega (arith, linear, ints, e, h, j)
-
 -- an insertion keeps the last row (0, 0, 1)
 pub flat_kept : {m : ℤ} {S T : Stairs} {v : Vector} → HasFlatEnd S → IsInserted m S T v → HasFlatEnd T
 flat_kept {m} {S} {T} {v} h n =
-    let r = n.kept.reduced in
-    let s = own_rows S in
+    let r = n.kept.reduced in let s = own_rows S in
     let t = n.added.into (vector (pos 0) (pos 0) S.i)
     (record {
       k = pos 0;
@@ -64,11 +55,10 @@ flat_kept {m} {S} {T} {v} h n =
       member = s.third;
       x = simp ring refl;
       y = simp ring refl;
-      z =
-          simp ring (omega (arith, linear));
+      z = simp ring (omega (arith, linear));
     }) in
     let e = one_or T.i S.i r.i (third_least (vector (pos 0) (pos 0) S.i) r t refl refl (subst (λ t. pos 0 <ℤ t) (sym h.i) (omega (arith, ints)))) h.i in
-    record { c = zero_below T.i T.c e r.c_from r.c_to; f = zero_below T.i T.f e r.f_from r.f_to; i = e }
+    record { c = omega (arith, linear, ints, e, r.c_from, r.c_to); f = omega (arith, linear, ints, e, r.f_from, r.f_to); i = e }
 
 -- in dimension 2 its last row is (0, 0, 1)
 pub flat_start : (b last : ℤ) → last ≡ pos 1 → HasFlatEnd (stairs b (pos 0) (pos 0) b (pos 0) last)
@@ -119,9 +109,7 @@ start_multiples d b last o w dim = (
       let z : w.z ≡ i.k *ℤ pos 0 +ℤ i.l *ℤ pos 0 +ℤ i.n *ℤ b = i.z ∙ ap (λ (t : ℤ). i.k *ℤ pos 0 +ℤ i.l *ℤ pos 0 +ℤ i.n *ℤ t) o in
       (vector i.k i.l i.n, vector_equal (turned w.x i.k b i.x) (second_turned w.y i.k i.l b i.y) (third_turned w.z i.k i.l i.n b z)),
   λ m.
-      let u = m.0 in
-      let x = ap (λ (t : Vector). t.x) m.1 in
-      let y = ap (λ (t : Vector). t.y) m.1 in
+      let u = m.0 in let x = ap (λ (t : Vector). t.x) m.1 in let y = ap (λ (t : Vector). t.y) m.1 in
       let z = ap (λ (t : Vector). t.z) m.1 in (
         record {
           k = u.x;
@@ -146,8 +134,7 @@ flat_multiples d b last two o w dim = (
       let i = m.0 in
       (vector i.k i.l (pos 0), vector_equal (turned w.x i.k b i.x) (second_turned w.y i.k i.l b i.y) (zero_multiple w.z b (dim two))),
   λ m.
-      let u = m.0 in
-      let x = ap (λ (t : Vector). t.x) m.1 in
+      let u = m.0 in let x = ap (λ (t : Vector). t.x) m.1 in
       let y = ap (λ (t : Vector). t.y) m.1 in (
         record {
           k = u.x;

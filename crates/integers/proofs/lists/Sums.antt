@@ -1,11 +1,12 @@
--- Sums of whole numbers over lists.
-use Rattle.std.proofs.Common.{ℕ, ◌+◌, List, sym, ℤ, ap, inr, refl, subst, inl, ◌≡◌, ◌+ℤ◌, ◌-ℤ◌, ◌*ℤ◌, [], ◌∷◌, ◌∙◌, arith, pos, ◌≤ℤ◌}
-use Rattle.std.proofs.lemmas.{Int.ints, List.Sums.sum_by-cons, List.Sorted.sum_by-IsPermutation}
-use Rattle.std.specs.{List.sum_by, List.Sorted.IsPermutation}
+-- Sums of whole numbers over lists, and over the numbers from 1 to n.
+use Rattle.std.proofs.Common.{ℕ, ◌+◌, List, sym, ℤ, ap, inr, refl, subst, inl, ◌≡◌, ◌+ℤ◌, ◌-ℤ◌, ◌*ℤ◌, [], ◌∷◌, ◌∙◌, arith, pos, ◌≤ℤ◌, zero, suc, ◌≤◌, map}
+use Rattle.std.{proofs.lemmas.Int.ints, proofs.lemmas.List.Sums.sum_by-cons, proofs.lemmas.List.Sorted.sum_by-IsPermutation, specs.List.sum_by}
+use Rattle.std.{specs.List.Sorted.IsPermutation, proofs.lemmas.List.length-map, proofs.Math.Decide.ℕ_discrete}
 use borrow.Author.Differences.{up, down}
-use Rattle.integers.proofs.lists.Members.{TakenOut, take_out, Carries, IsIn, AreApart}
-use Rattle.integers.proofs.numbers.Ring.{ring, linear, product_zero, product_sum}
-use Rattle.integers.specs.Lists.{total}
+use Rattle.integers.proofs.lists.Members.{TakenOut, take_out, Carries, IsIn, AreApart, in_map, map_apart_on}
+use Rattle.integers.proofs.numbers.Ring.{ring, linear, product_zero, product_sum, sum_product, one_product}
+use Rattle.integers.{specs.Lists.total, proofs.lists.Permutations.permutation_of_members}
+use Prim.{Dec, yes, no}
 
 -- a sum taken over the images of the members
 pub same_total : {X Y : Type 0} (f : X → Y) (g : Y → ℤ) (xs : List X) (ys : List Y) → AreApart xs → AreApart ys → Carries f xs ys
@@ -25,8 +26,7 @@ same_total {X} {Y} f g (x ∷ xs) ys a b c = by (take_out ys (f x) (c.into x (in
           ];
           once = λ z z' h h' e. c.once z z' (inr h) (inr h') e;
           onto = λ y h.
-              let r = c.onto y (t.inside y h) in
-              onto_rest y h r.0 r.1 r.2;
+              let r = c.onto y (t.inside y h) in onto_rest y h r.0 r.1 r.2;
         }))
       where
         onto_rest : (y : Y) → IsIn t.rest y → (z : X) → IsIn (x ∷ xs) z → f z ≡ y → (w : X) × IsIn xs w × (f w ≡ y)
@@ -60,15 +60,11 @@ total_falls g (x ∷ xs) h = let a = h x (inl refl) in let b = total_falls g xs 
 pub each_zero : {X : Type 0} (g : X → ℤ) (xs : List X) → ((x : X) → IsIn xs x → g x ≤ℤ pos 0) → total g xs ≡ pos 0 → (x : X) → IsIn xs x → g x ≡ pos 0
 each_zero g [] h e x i = absurd i
 each_zero g (y ∷ ys) h e x (inl k) =
-    let a = h y (inl refl) in
-    let b = total_falls g ys (λ z i. h z (inr i)) in
-    let z : g y ≡ pos 0 = omega (arith, ints) in
-    ap g (sym k) ∙ z
+    let a = h y (inl refl) in let b = total_falls g ys (λ z i. h z (inr i)) in
+    let z : g y ≡ pos 0 = omega (arith, ints) in ap g (sym k) ∙ z
 each_zero g (y ∷ ys) h e x (inr i) =
-    let a = h y (inl refl) in
-    let b = total_falls g ys (λ z k. h z (inr k)) in
-    let z : total g ys ≡ pos 0 = omega (arith, ints) in
-    each_zero g ys (λ w k. h w (inr k)) z x i
+    let a = h y (inl refl) in let b = total_falls g ys (λ z k. h z (inr k)) in
+    let z : total g ys ≡ pos 0 = omega (arith, ints) in each_zero g ys (λ w k. h w (inr k)) z x i
 
 -- a - b is 0 or less where a is at most b
 pub at_most_zero : (a b : ℤ) → a ≤ℤ b → (a -ℤ b) ≤ℤ pos 0
@@ -81,10 +77,7 @@ same_from_zero a b h = omega (arith, ints)
 -- the sum of differences is the difference of the sums
 pub total_minus : {X : Type 0} (g h : X → ℤ) (xs : List X) → total (λ x. g x -ℤ h x) xs ≡ total g xs -ℤ total h xs
 total_minus g h [] = refl
-total_minus g h (x ∷ xs) = (λ i. (g x -ℤ h x) +ℤ total_minus g h xs i) ∙ two (g x) (h x) (total g xs) (total h xs)
-  where
-    two : (a b c d : ℤ) → (a -ℤ b) +ℤ (c -ℤ d) ≡ (a +ℤ c) -ℤ (b +ℤ d)
-    two a b c d = omega (arith, ints)
+total_minus g h (x ∷ xs) = (λ i. (g x -ℤ h x) +ℤ total_minus g h xs i) ∙ omega (arith, ints)
 
 -- the sum of multiples is the multiple of the sum
 pub total_times : {X : Type 0} (k : ℤ) (g : X → ℤ) (xs : List X) → total (λ x. k *ℤ g x) xs ≡ k *ℤ total g xs
@@ -94,10 +87,7 @@ total_times k g (x ∷ xs) = ap (λ (s : ℤ). k *ℤ g x +ℤ s) (total_times k
 -- the sum of sums is the sum of both
 pub total_plus : {X : Type 0} (g h : X → ℤ) (xs : List X) → total (λ x. g x +ℤ h x) xs ≡ total g xs +ℤ total h xs
 total_plus g h [] = refl
-total_plus g h (x ∷ xs) = (λ i. (g x +ℤ h x) +ℤ total_plus g h xs i) ∙ four (g x) (h x) (total g xs) (total h xs)
-  where
-    four : (a b c d : ℤ) → (a +ℤ b) +ℤ (c +ℤ d) ≡ (a +ℤ c) +ℤ (b +ℤ d)
-    four a b c d = omega (arith, linear)
+total_plus g h (x ∷ xs) = (λ i. (g x +ℤ h x) +ℤ total_plus g h xs i) ∙ omega (arith, linear)
 
 -- the sum of zeros
 pub total_zeros : {X : Type 0} (xs : List X) → total (λ x. pos 0) xs ≡ pos 0
@@ -108,8 +98,7 @@ total_zeros (x ∷ xs) = ap (λ (s : ℤ). pos 0 +ℤ s) (total_zeros xs)
 total_parts : {X : Type 0} (g : X → ℤ) (xs : List X) → total g xs ≡ pos (sum_by (λ x. up (g x)) xs) -ℤ pos (sum_by (λ x. down (g x)) xs)
 total_parts g [] = refl
 total_parts g (x ∷ xs) =
-    let u = sum_by-cons (λ z. up (g z)) x xs in
-    let d = sum_by-cons (λ z. down (g z)) x xs in
+    let u = sum_by-cons (λ z. up (g z)) x xs in let d = sum_by-cons (λ z. down (g z)) x xs in
     let h = total_parts g xs in
     ap (λ (s : ℤ). g x +ℤ s) h ∙ both (g x) (sum_by (λ z. up (g z)) xs) (sum_by (λ z. down (g z)) xs) ∙ sym (λ i. pos (u i) -ℤ pos (d i))
   where
@@ -119,3 +108,51 @@ total_parts g (x ∷ xs) =
 -- a permuted list has the same sum
 pub total_permuted : {X : Type 0} (g : X → ℤ) (xs ys : List X) → IsPermutation xs ys → total g ys ≡ total g xs
 total_permuted g xs ys h = search (arith, sum_by-IsPermutation, total_parts)
+
+-- the numbers from n down to 1
+abbrev pub all_to : ℕ → List ℕ
+all_to zero = []
+all_to (suc n) = suc n ∷ all_to n
+
+-- its members are from 1 to n
+pub all_range : (n u : ℕ) → IsIn (all_to n) u → (1 ≤ u) × (u ≤ n)
+all_range zero u h = absurd h
+all_range (suc n) u (inl e) = (omega arith, omega arith)
+all_range (suc n) u (inr h) = let r = all_range n u h in (r.0, let l = r.1 in omega arith)
+
+-- and all of them
+pub in_all_to : (n u : ℕ) → 1 ≤ u → u ≤ n → IsIn (all_to n) u
+in_all_to zero u l h = absurd (omega arith)
+in_all_to (suc n) u l h = by (ℕ_discrete (suc n) u) (λ k. in_all_to n u l k)
+  where
+    by : Dec (suc n ≡ u) → (u ≤ n → IsIn (all_to n) u) → IsIn (all_to (suc n)) u
+    by (yes e) go = inl e
+    by (no d) go = inr (go (omega arith))
+
+-- each once
+all_apart : (n : ℕ) → AreApart (all_to n)
+all_apart zero = tt
+all_apart (suc n) = ((λ h. let l = (all_range n (suc n) h).1 in omega arith), all_apart n)
+
+-- a sum over the images
+total_mapped : (f : ℕ → ℕ) (g : ℕ → ℤ) (xs : List ℕ) → total g (map f xs) ≡ total (λ x. g (f x)) xs
+total_mapped f g [] = refl
+total_mapped f g (x ∷ xs) = ap (λ (t : ℤ). g (f x) +ℤ t) (total_mapped f g xs)
+
+-- a map of the numbers from 1 to n, one to one to such numbers, keeps sums over them
+pub sum_kept : (n : ℕ) (f : ℕ → ℕ) (g : ℕ → ℤ) → ((u : ℕ) → IsIn (all_to n) u → IsIn (all_to n) (f u))
+    → ((u v : ℕ) → IsIn (all_to n) u → IsIn (all_to n) v → f u ≡ f v → u ≡ v) → total (λ u. g (f u)) (all_to n) ≡ total g (all_to n)
+sum_kept n f g into once =
+    let l = length-map (all_to n) f in
+    let p : IsPermutation (map f (all_to n)) (all_to n) =
+    permutation_of_members (map f (all_to n)) (all_to n) (map_apart_on f (all_to n) once (all_apart n))
+    (λ y h. let r = in_map f (all_to n) y h in subst (IsIn (all_to n)) r.2 (into r.0 r.1)) (omega (arith, l)) in
+    sym (total_mapped f g (all_to n)) ∙ sym (total_permuted g (map f (all_to n)) (all_to n) p)
+
+-- a sum of equal terms
+pub total_equal : (n : ℕ) (z : ℤ) → total (λ u. z) (all_to n) ≡ pos n *ℤ z
+total_equal zero z = omega (arith, ints)
+total_equal (suc n) z =
+    let e : pos (suc n) ≡ pos 1 +ℤ pos n = omega (arith, ints) in
+    ap (λ (t : ℤ). z +ℤ t) (total_equal n z) ∙ ap (λ (t : ℤ). t +ℤ pos n *ℤ z) (sym (one_product z)) ∙ sym (sum_product (pos 1) (pos n) z)
+    ∙ ap (λ (t : ℤ). t *ℤ z) (sym e)

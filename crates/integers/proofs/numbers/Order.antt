@@ -1,9 +1,28 @@
--- The order of whole numbers, and products with positive ones.
-use Rattle.std.proofs.Common.{◌≡◌, ◌≢◌, ℕ, zero, suc, ℤ, pos, negsuc, ◌+ℤ◌, ◌-ℤ◌, ◌*ℤ◌, ◌≤◌, ◌-◌, ◌*◌, arith, ap, sym, refl, subst, ◌∙◌}
+-- The order of natural and of whole numbers, and products with positive ones.
+use Rattle.std.proofs.Common.{◌≡◌, ◌⊎◌, ℕ, suc, ◌+◌, ◌<◌, ◌≤◌, pos, arith, ◌≢◌, zero, ℤ, negsuc, ◌+ℤ◌, ◌-ℤ◌, ◌*ℤ◌, ◌-◌, ◌*◌, ap, sym, refl, subst, ◌∙◌}
 use Rattle.std.proofs.lemmas.Int.{ints}
 use Rattle.std.specs.{Prelude.◌<ℤ◌, Ordering.int_cmp, Ordering.ordering_then, declared.cmp.Ordering.TheVariants.Equal, Cmp.Lexicographic.slice_cmp}
-use Rattle.integers.specs.Vectors.{Vector, times, parts}
-use Rattle.integers.proofs.numbers.Ring.{product_sum}
+use Rattle.integers.{specs.Vectors.Vector, specs.Vectors.times, specs.Vectors.parts, proofs.numbers.Ring.product_sum}
+
+-- what is below the next number is below or equal
+pub before_or_at : (k n : ℕ) → k < n + 1 → (k < n) ⊎ (k ≡ n)
+before_or_at k n l = grind arith
+
+-- what is at most the next number is at most this one, or the next
+pub at_most_next : (k n : ℕ) → k ≤ n + 1 → (k ≤ n) ⊎ (k ≡ n + 1)
+at_most_next k n l = grind arith
+
+-- one of two numbers is less, or they are equal
+pub three_ways : (m n : ℕ) → (m < n) ⊎ ((n < m) ⊎ (m ≡ n))
+three_ways m n = grind arith
+
+-- the next number
+pub next_number : (n : ℕ) → suc n ≡ n + 1
+next_number n = omega arith
+
+-- equal whole numbers are equal natural numbers
+pub pos_same : (m n : ℕ) → pos m ≡ pos n → m ≡ n
+pos_same m n e = omega (arith, ints, e)
 
 -- a positive number is not 0
 pub positive_is_some : (x : ℤ) → pos 0 <ℤ x → x ≢ pos 0
@@ -22,18 +41,13 @@ step_between x y h = by (y -ℤ x) refl
     by (pos (suc d)) e = (d, omega (arith, ints))
     by (negsuc d) e = absurd (omega (arith, ints))
 
--- a + k + 1 is above a
-added_is_more : (a : ℤ) (k : ℕ) → a <ℤ (a +ℤ pos (suc k))
-added_is_more a k = omega (arith, ints)
-
 -- a positive factor keeps the order
 pub multiple_below : (n : ℕ) (x y : ℤ) → x <ℤ y → (pos (suc n) *ℤ x) <ℤ (pos (suc n) *ℤ y)
 multiple_below n x y h =
-    let s = step_between x y h in
-    let p : suc n * suc s.0 ≡ suc (suc n * suc s.0 - 1) = omega arith in
+    let s = step_between x y h in let p : suc n * suc s.0 ≡ suc (suc n * suc s.0 - 1) = omega arith in
     let e : pos (suc n) *ℤ y ≡ pos (suc n) *ℤ x +ℤ pos (suc (suc n * suc s.0 - 1)) =
     ap (λ t. pos (suc n) *ℤ t) s.1 ∙ product_sum (pos (suc n)) x (pos (suc s.0)) ∙ ap (λ (t : ℕ). pos (suc n) *ℤ x +ℤ pos t) p in
-    subst (λ t. (pos (suc n) *ℤ x) <ℤ t) (sym e) (added_is_more (pos (suc n) *ℤ x) (suc n * suc s.0 - 1))
+    subst (λ t. (pos (suc n) *ℤ x) <ℤ t) (sym e) (omega (arith, ints))
 
 -- so multiples compare as the numbers do
 compare_scaled : (n : ℕ) (x y : ℤ) → int_cmp x y ≡ int_cmp (pos (suc n) *ℤ x) (pos (suc n) *ℤ y)

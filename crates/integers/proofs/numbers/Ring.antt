@@ -1,7 +1,7 @@
 -- The laws of ℤ as a commutative ring, and the two rulesets that serve as a ring tactic: `simp ring (omega (arith, linear))`
 -- multiplies out and compares; a hypothesis h is multiplied out by `simp ring at h` in omega's list.
 use Rattle.std.specs.Prelude.{ℤ, ◌+ℤ◌, ◌*ℤ◌, pos}
-use Rattle.std.proofs.Common.{◌⊎◌, ◌≡◌, ◌+◌, ◌*◌, ◌∙◌, arith, ap, sym, pos, ℤ, ◌≢◌, ◌+ℤ◌, ◌-ℤ◌, ◌*ℤ◌, ℕ, ◌≤◌}
+use Rattle.std.proofs.Common.{◌⊎◌, ◌≡◌, ◌+◌, ◌*◌, ◌∙◌, arith, ap, sym, ◌≢◌, ◌-ℤ◌, ℕ, ◌≤◌}
 use Rattle.std.proofs.{Math.IntN.*ℤ_comm, Math.IntN.neg_ℤ, lemmas.Int.ints, Math.Nat.eq_of_mul-eq-mul_left}
 use borrow.Author.Differences.{down, up, product_is, same_in, sum_is_lem, neg_is, below_in, at_most_in, lt_out, le_out, same_out}
 
@@ -20,9 +20,7 @@ product_associative a b c = same_in _ _ (simp (up_product, down_product) (omega 
 -- a·(b + c) = a·b + a·c
 pub product_sum : (a b c : ℤ) → a *ℤ (b +ℤ c) ≡ a *ℤ b +ℤ a *ℤ c
 product_sum a b c =
-    let e = sum_is_lem b c in
-    let eu = ap (λ n. up a * n) e in
-    let ed = ap (λ n. down a * n) e in
+    let e = sum_is_lem b c in let eu = ap (λ n. up a * n) e in let ed = ap (λ n. down a * n) e in
     same_in _ _ (omega (arith, eu, ed, sum_is_lem (a *ℤ b) (a *ℤ c), product_is a (b +ℤ c), product_is a b, product_is a c))
 
 -- (a + b)·c = a·c + b·c
@@ -87,8 +85,7 @@ other_factor_zero a b h n = let p = product_is a b in let q = same_out (a *ℤ b
 pub cancel_factor : (k a b : ℤ) → k ≢ pos 0 → k *ℤ a ≡ k *ℤ b → a ≡ b
 cancel_factor k a b n h =
     let z : k *ℤ (a -ℤ b) ≡ pos 0 = simp ring (omega (arith, ints, h)) in
-    let d = other_factor_zero k (a -ℤ b) z n in
-    omega (arith, ints, d)
+    let d = other_factor_zero k (a -ℤ b) z n in omega (arith, ints, d)
 
 -- a positive number is not 0
 pub positive_not_zero : (n : ℕ) → 1 ≤ n → pos n ≢ pos 0

@@ -1,8 +1,7 @@
 -- Bounds of absolute values: of sums, products, and sums of products. What a body in 128 bits owes at each step is such a bound.
 use Rattle.std.proofs.Common.{◌≡◌, ℕ, ◌+◌, ◌*◌, ◌≤◌, ℤ, ◌+ℤ◌, ◌-ℤ◌, ◌*ℤ◌, neg_ℤ, sym, subst, arith}
 use Rattle.std.proofs.{lemmas.Int.unsigned_abs-mul, lemmas.Int.fits_signed_from_abs, Math.Nat.mul-le-mul, Math.Nat.le_trans}
-use Rattle.std.specs.Prelude.{unsigned_abs, FitsSigned, ◌<◌, ◌^◌}
-use Rattle.std.specs.Int.{w128}
+use Rattle.std.specs.{Prelude.unsigned_abs, Prelude.FitsSigned, Prelude.◌<◌, Prelude.◌^◌, Int.w128}
 use Rattle.integers.specs.Vectors.{Vector, plus, minus, times, dot, cross, triple_product, IsWithin}
 
 -- |-a| = |a|

@@ -1,10 +1,9 @@
 -- Vectors modulo a number: each has a remainder, and one alone, and vectors with one remainder are a multiple apart.
 use Rattle.std.proofs.Common.{◌≡◌, ℕ, zero, suc, ◌≤◌, ◌+◌, ◌*◌, ℤ, pos, negsuc, ◌+ℤ◌, ◌-ℤ◌, ◌*ℤ◌, neg_ℤ, sym, ap, ◌∙◌, arith}
-use Rattle.std.proofs.lemmas.Int.{ints}
-use Rattle.std.specs.Prelude.{◌<ℤ◌, ◌≤ℤ◌}
+use Rattle.std.{proofs.lemmas.Int.ints, specs.Prelude.◌<ℤ◌, specs.Prelude.◌≤ℤ◌}
 use Rattle.integers.specs.Vectors.{Vector, vector, plus, minus, opposite, times, IsModulo}
 use Rattle.integers.proofs.numbers.Ring.{ring, linear, product_zero, product_negative}
-use Rattle.integers.proofs.{numbers.Division.divided, numbers.Modulo.IsRest, numbers.Modulo.modulo_is, vectors.Laws.vector_equal}
+use Rattle.integers.proofs.{numbers.Division.divided, numbers.Division.IsRest, numbers.Division.modulo_is, vectors.Laws.vector_equal}
 
 -- a multiple of m that lies between -m and m is 0
 small_multiple : (m : ℕ) (k e : ℤ) → pos m *ℤ k ≡ e → e <ℤ pos m → neg_ℤ (pos m) <ℤ e → e ≡ pos 0
@@ -51,9 +50,7 @@ remainder_is m v r x = off r x.steps ∙ ap (λ (w : Vector). plus w (times m (o
 -- each vector has a remainder
 pub modulo_of : (m : ℕ) → 1 ≤ m → (v : Vector) → (r : Vector) × IsModulo (pos m) v r
 modulo_of m h v =
-    let x = rest v.x in
-    let y = rest v.y in
-    let z = rest v.z in
+    let x = rest v.x in let y = rest v.y in let z = rest v.z in
     (vector x.0 y.0 z.0, modulo_is (pos m) v x.0 y.0 z.0 x.1 y.1 z.1)
   where
     back : (z m r k : ℤ) → z ≡ r +ℤ m *ℤ k → r ≡ z +ℤ m *ℤ neg_ℤ k
@@ -61,6 +58,5 @@ modulo_of m h v =
 
     rest : (z : ℤ) → (r : ℤ) × IsRest (pos m) z r
     rest z =
-        let d = divided m h z in
-        let l = d.2 in
+        let d = divided m h z in let l = d.2 in
         (pos d.0, record { from = omega (arith, ints); to = omega (arith, ints, l); same = (neg_ℤ d.1, back z (pos m) (pos d.0) d.1 d.3) })

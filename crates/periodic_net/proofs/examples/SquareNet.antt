@@ -1,18 +1,16 @@
 -- The square net: it is connected and stable, with its one vertex at the origin.
-use Rattle.std.proofs.Common.{pos, ◌≡◌, ◌+ℤ◌, ◌-ℤ◌, ◌*ℤ◌, ◌∙◌, arith, sym, subst, ℕ, ℤ, negsuc, refl, [], ◌∷◌, unsigned_abs, ◌≤◌, List, length, ap, inl, inr}
-use Rattle.std.proofs.Common.{neg_ℤ}
-use Rattle.std.proofs.{lemmas.Int.ints, Math.Nat.eq-one_of_dvd-one}
-use Rattle.integers.specs.Vectors.{vector, Vector, zero_vector, minus, HasDimension}
-use Rattle.std.specs.List.{AllByRecursion}
-use Rattle.periodic_net.specs.Examples.{square_net, square_placement, doubled_net}
-use Rattle.periodic_net.specs.Graph.{IsGraph, IsEdge, arc, IsArc, vertex, IsReached, IsConnected, IsQuotientVertex, Vertex, IsWalk, Arc, arcs, IsVertex}
-use Rattle.periodic_net.specs.Graph.{AreJoined}
+use Rattle.std.proofs.Common.{pos, ◌≡◌, ◌+ℤ◌, ◌-ℤ◌, ◌*ℤ◌, ◌∙◌, arith, sym, subst, ℕ, ℤ, negsuc, refl, [], ◌∷◌, unsigned_abs, ◌≤◌, List, length, ap, inl}
+use Rattle.std.{proofs.Common.inr, proofs.Common.neg_ℤ, proofs.lemmas.Int.ints, proofs.Math.Nat.eq-one_of_dvd-one, specs.List.AllByRecursion}
+use Rattle.integers.specs.Vectors.{vector, Vector, times, zero_vector, minus, HasDimension}
+use Rattle.integers.proofs.lists.Members.{IsIn, is_in}
+use Rattle.integers.proofs.{lists.Permutations.rising_pairs, vectors.Laws.vector_equal, vectors.StairBasis.times_in}
+use Rattle.periodic_net.proofs.nets.Walks.{closed_group, arc_walk, connected_by_tree, IsTree, reached_itself}
+use Rattle.periodic_net.specs.Graph.{Graph, IsGraph, IsEdge, arc, vertex, IsConnected, IsQuotientVertex, Vertex, IsWalk, Arc, arcs, IsVertex, AreJoined}
 use Rattle.periodic_net.specs.Placement.{IsBarycentric, IsNormal, HasNoCollision, IsStablePlacement}
 use Rattle.periodic_net.specs.Classes.{ClassGraph, ClassArc, ShareClass, IsClassNumbering, IsClassGraph, IsDistance}
-use Rattle.periodic_net.specs.Shells.{IsInShell}
-use Rattle.periodic_net.specs.Split.{Split, IsSplit, AreAlike, colour, entry}
-use Rattle.integers.proofs.{lists.Apart.rising_pairs, vectors.Laws.vector_equal, lists.Members.IsIn, lists.Members.is_in}
-use Rattle.periodic_net.proofs.{nets.Walks.reached_transitive, nets.Walks.reached_along_loop, translations.Classes.share_reflexive, ClassArcs.class_arcs_shown}
+use Rattle.periodic_net.specs.Split.{ClosedShift, WalkShift, Split, IsSplit, AreAlike, colour, entry}
+use Rattle.periodic_net.specs.Examples.{square_net, square_placement, doubled_net}
+use Rattle.periodic_net.{specs.Shells.IsInShell, proofs.Translations.share_reflexive, proofs.ClassArcs.class_arcs_shown}
 
 -- the only vertex of the quotient graph
 pub only_vertex : (u : ℕ) → IsQuotientVertex square_net u → u ≡ 1
@@ -26,48 +24,40 @@ square_edges = search arith
 pub square_graph : IsGraph square_net
 square_graph = search (arith, rising_pairs)
 
--- its four arcs
-square_right : IsArc square_net (arc 1 1 (vector (pos 1) (pos 0) (pos 0)))
-square_right = (0, omega arith, refl)
-
--- to the left
-square_left : IsArc square_net (arc 1 1 (vector (negsuc 0) (pos 0) (pos 0)))
-square_left = (1, omega arith, refl)
+-- the steps to the four neighbours
+abbrev pub right : Vector
+right = vector (pos 1) (pos 0) (pos 0)
 
 -- upward
-square_up : IsArc square_net (arc 1 1 (vector (pos 0) (pos 1) (pos 0)))
-square_up = (2, omega arith, refl)
+abbrev pub up : Vector
+up = vector (pos 0) (pos 1) (pos 0)
+
+-- to the left
+abbrev pub left : Vector
+left = vector (negsuc 0) (pos 0) (pos 0)
 
 -- downward
-square_down : IsArc square_net (arc 1 1 (vector (pos 0) (negsuc 0) (pos 0)))
-square_down = (3, omega arith, refl)
+abbrev pub down : Vector
+down = vector (pos 0) (negsuc 0) (pos 0)
 
--- from a to b by b - a steps
-right_times : (a b : ℤ) → b ≡ a +ℤ (b -ℤ a) *ℤ pos 1
-right_times a b = omega (arith, ints)
-
--- no step in the other direction
-none_times : (a k : ℤ) → a ≡ a +ℤ k *ℤ pos 0
-none_times a k = omega (arith, ints)
-
--- in the square net (1, t) leads to each (1, t')
-lattice : (t t' : Vector) → t.z ≡ t'.z → IsReached square_net (vertex 1 t) (vertex 1 t')
-lattice t t' e =
-    let m : Vector = vector t'.x t.y t.z in
-    reached_transitive square_net (vertex 1 t) (vertex 1 m) (vertex 1 t')
-    (reached_along_loop square_net 1 (vector (pos 1) (pos 0) (pos 0)) square_right square_left (t'.x -ℤ t.x) t m
-    (vector_equal (right_times t.x t'.x) (none_times t.y (t'.x -ℤ t.x)) (none_times t.z (t'.x -ℤ t.x))))
-    (reached_along_loop square_net 1 (vector (pos 0) (pos 1) (pos 0)) square_up square_down (t'.y -ℤ t.y) m t'
-    (vector_equal (none_times t'.x (t'.y -ℤ t.y)) (right_times t.y t'.y) (sym e ∙ none_times t.z (t'.y -ℤ t.y))))
+-- with the steps to the right and upward all flat vectors are shifts of closed walks
+pub flat_closed : (G : Graph) (a : ℕ) → ClosedShift G a right → ClosedShift G a up → (v : Vector) → HasDimension 2 v → ClosedShift G a v
+flat_closed G a p q v f =
+    let g = closed_group G a in let e : v.z ≡ pos 0 = f refl in
+    subst (ClosedShift G a) (vector_equal (omega (arith, ints)) (omega (arith, ints)) (omega (arith, ints)))
+    (g.sums (times v.x right) (times v.y up) (times_in (ClosedShift G a) g v.x right p) (times_in (ClosedShift G a) g v.y up q))
 
 -- so the net is connected
 pub square_connected : IsConnected square_net
-square_connected w x i j =
-    let a = only_vertex w.over i.over in
-    let b = only_vertex x.over j.over in
-    let e : w.cell.z ≡ x.cell.z = i.cell refl ∙ sym (j.cell refl) in
-    let P : ℕ → ℕ → Type 0 = λ u v. IsReached square_net (vertex u w.cell) (vertex v x.cell) in
-    subst (λ (u : ℕ). P u x.over) (sym a) (subst (λ (v : ℕ). P 1 v) (sym b) (lattice w.cell x.cell e))
+square_connected = connected_by_tree square_net (λ u. zero_vector) tree
+    (flat_closed square_net 1 (arc_walk square_net (arc 1 1 right) (0, omega arith, refl)) (arc_walk square_net (arc 1 1 up) (2, omega arith, refl)))
+  where
+    tree : IsTree square_net (λ u. zero_vector)
+    tree = record {
+      root = refl;
+      walk = λ u i. subst (λ (n : ℕ). WalkShift square_net 1 n zero_vector) (sym (only_vertex u i)) (reached_itself square_net (vertex 1 zero_vector));
+      dimension = λ u i d. refl;
+    }
 
 -- the vertex stands at the mean of its neighbours
 square_barycentric : IsBarycentric square_net square_placement
@@ -89,22 +79,6 @@ pub square_stable : IsStablePlacement square_net square_placement
 square_stable = search (arith, square_connected, square_barycentric, square_normal, square_no_collision)
 
 -- The class graph of the square net: one class, and four arcs.
-
--- the steps to the four neighbours
-abbrev pub right : Vector
-right = vector (pos 1) (pos 0) (pos 0)
-
--- upward
-abbrev pub up : Vector
-up = vector (pos 0) (pos 1) (pos 0)
-
--- to the left
-abbrev left : Vector
-left = vector (negsuc 0) (pos 0) (pos 0)
-
--- downward
-abbrev down : Vector
-down = vector (pos 0) (negsuc 0) (pos 0)
 
 -- an arc from the one class to itself
 abbrev pub loop : Vector → ClassArc
@@ -178,9 +152,7 @@ step w x (inr (inr (inr (inr h)))) = absurd h
 same_colour : (w x : Vertex) → IsVertex doubled_net w → IsVertex doubled_net x → AreJoined doubled_net w x → AreAlike 2 (colour columns w) (colour columns x)
 same_colour w x i j a =
     let s = step w x (is_in (arcs doubled_net) (arc w.over x.over (minus x.cell w.cell)) a) in
-    let p = no_entry w i in
-    let q = no_entry x j in
-    (neg_ℤ s.0, omega (arith, ints))
+    let p = no_entry w i in let q = no_entry x j in (neg_ℤ s.0, omega (arith, ints))
 
 -- the colouring is a split
 pub doubled_split : IsSplit doubled_net columns

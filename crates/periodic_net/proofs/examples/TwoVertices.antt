@@ -1,10 +1,9 @@
 -- What holds in graphs with two vertices holds of each.
-use Rattle.std.proofs.Common.{◌≡◌, ℕ, arith, ℤ, pos, negsuc, ◌*ℤ◌}
+use Rattle.std.proofs.{Common.◌≡◌, Common.ℕ, Common.arith, Common.ℤ, Common.pos, Common.negsuc, Common.◌*ℤ◌, Math.Nat.eq-one_of_dvd-one}
 use Rattle.periodic_net.specs.Graph.{Graph, IsQuotientVertex}
-use Rattle.std.proofs.Math.Nat.{eq-one_of_dvd-one}
-use Rattle.integers.specs.Vectors.{zero_vector}
 use Rattle.periodic_net.specs.Examples.{hanging_net, hanging_placement, honeycomb_net, honeycomb_placement}
 use Rattle.periodic_net.specs.Placement.{IsNormalPlacement, IsCollision, HasNoCollision, IsBarycentric, IsNormal}
+use Rattle.integers.specs.Vectors.{zero_vector}
 use borrow.Author.Differences.{product_is}
 
 -- what holds of both vertices holds of each

@@ -1,14 +1,16 @@
--- The shifts of periodic maps, and of one map after another.
-use Rattle.std.proofs.Common.{◌≡◌, ◌+ℤ◌, ◌∙◌, ap, sym, subst, refl, ℤ, arith, pos, ◌*◌, ℕ, List, [], ◌∷◌, map}
-use Rattle.std.proofs.{lemmas.Int.ints, Math.Nat.mul-le-mul}
-use Rattle.integers.specs.Vectors.{plus, minus, Vector, times, HasDimension}
+-- The shifts of periodic maps, and of one map after another. A map with a period and a table say the same.
+use Rattle.std.proofs.Common.{◌≡◌, ◌+ℤ◌, ◌∙◌, ap, sym, subst, refl, ℤ, arith, pos, ◌*◌, ℕ, List, [], ◌∷◌, map, ◌≤◌, ◌<◌, ◌-ℤ◌, ◌*ℤ◌, ◌≤ℤ◌, ◌<ℤ◌}
+use Rattle.std.proofs.{lemmas.Int.ints, Math.Nat.mul-le-mul, Math.Decide.ℕ_discrete}
+use Rattle.integers.proofs.vectors.Laws.{plus_minus, minus_plus, vector_equal, times_dimension, numbers_times, times_exchange, base_after, base_sum_after}
+use Rattle.integers.proofs.vectors.Laws.{base_sum_times, unit_base, unit_sum, plus_associative, times_plus, plus_dimension, base_sum_plus}
+use Rattle.integers.specs.Vectors.{plus, minus, Vector, times, HasDimension, vector, zero_vector}
 use Rattle.integers.specs.{Lists.total, Bases.Base, Bases.base_sum}
-use Rattle.periodic_net.specs.Graph.{Arc, Vertex, vertex, arc, Graph, IsArc, AreJoined, IsGraph, IsVertex, arcs_from, moved, IsWalk, IsConnected, IsReached}
-use Rattle.periodic_net.specs.Maps.{Iso, IsPeriodic}
-use Rattle.integers.proofs.vectors.Laws.{plus_minus, minus_plus, vector_equal, times_dimension, numbers_times, times_exchange}
-use Rattle.integers.proofs.vectors.BaseSums.{base_after, base_sum_after, base_sum_times, unit_base, unit_sum}
-use Rattle.integers.proofs.lists.{Members.Carries, Sums.same_total}
-use Rattle.periodic_net.proofs.nets.Walks.{arc_is_from, from_is_arc, arcs_apart, joined_inside}
+use Rattle.integers.proofs.{lists.Members.Carries, lists.Sums.same_total, numbers.Ring.ring, numbers.Ring.linear, numbers.Division.divided}
+use Rattle.periodic_net.specs.Graph.{Arc, Vertex, vertex, arc, Graph, IsArc, AreJoined, IsGraph, IsVertex, arcs_from, moved, IsWalk, IsConnected}
+use Rattle.periodic_net.proofs.nets.Walks.{arc_is_from, from_is_arc, arcs_apart, joined_inside, origin_vertex}
+use Rattle.periodic_net.specs.{Graph.IsReached, Maps.Iso, Maps.IsPeriodic, Maps.PeriodicMap, Maps.IsInBox, Maps.IsMapTable, Maps.IsDrawnBy}
+use Prim.{Dec, yes, no}
+use borrow.Author.Differences.{product_is}
 
 -- An isomorphism carries the neighbours of a vertex one to one to those of its image.
 
@@ -41,13 +43,11 @@ pub carries_arcs : (G H : Graph) → IsGraph G → IsGraph H → (e : Iso G H) �
     → Carries (carried e.there w) (arcs_from G w.over) (arcs_from H (e.there w).over)
 carries_arcs G H g h e w i = record {
   into = λ a k.
-      let r = from_is_arc G w.over a k in
-      let j = end_joined G w a r.0 r.1 in
+      let r = from_is_arc G w.over a k in let j = end_joined G w a r.0 r.1 in
       let v = joined_inside G g w (end_of w a) i j in
       arc_is_from H (e.there w).over (carried e.there w a) (e.there_joins w (end_of w a) i v j) refl;
   once = λ a b k l same.
-      let r = from_is_arc G w.over a k in
-      let s = from_is_arc G w.over b l in
+      let r = from_is_arc G w.over a k in let s = from_is_arc G w.over b l in
       let va = joined_inside G g w (end_of w a) i (end_joined G w a r.0 r.1) in
       let vb = joined_inside G g w (end_of w b) i (end_joined G w b s.0 s.1) in
       let ends : e.there (end_of w a) ≡ e.there (end_of w b) =
@@ -55,12 +55,9 @@ carries_arcs G H g h e w i = record {
       let before : end_of w a ≡ end_of w b = sym (e.back_there (end_of w a) va) ∙ ap e.back ends ∙ e.back_there (end_of w b) vb in
       sym (between_end w a r.1) ∙ ap (arc_between w) before ∙ between_end w b s.1;
   onto = λ b k.
-      let r = from_is_arc H (e.there w).over b k in
-      let iw = e.there_period.2.into w i in
-      let y = end_of (e.there w) b in
-      let jy = end_joined H (e.there w) b r.0 r.1 in
-      let vy = joined_inside H h (e.there w) y iw jy in
-      let back0 = e.back_joins (e.there w) y iw vy jy in
+      let r = from_is_arc H (e.there w).over b k in let iw = e.there_period.2.into w i in
+      let y = end_of (e.there w) b in let jy = end_joined H (e.there w) b r.0 r.1 in
+      let vy = joined_inside H h (e.there w) y iw jy in let back0 = e.back_joins (e.there w) y iw vy jy in
       let joined : AreJoined G w (e.back y) = subst (λ (v : Vertex). AreJoined G v (e.back y)) (e.back_there w i) back0 in
       let a = arc_between w (e.back y) in
       let goes : carried e.there w a ≡ b =
@@ -79,17 +76,11 @@ same_arcs_total G H g h e w i f =
 
 -- the end of an arc, moved by cells
 pub moved_end : (y : Vertex) (k : Vector) (a : Arc) → moved (end_of y a) k ≡ end_of (moved y k) a
-moved_end y k a = ap (vertex a.to) (vector_equal (swap y.cell.x a.shift.x k.x) (swap y.cell.y a.shift.y k.y) (swap y.cell.z a.shift.z k.z))
-  where
-    swap : (r s t : ℤ) → (r +ℤ s) +ℤ t ≡ (r +ℤ t) +ℤ s
-    swap r s t = omega (arith, ints)
+moved_end y k a = ap (vertex a.to) (vector_equal (omega (arith, ints)) (omega (arith, ints)) (omega (arith, ints)))
 
 -- cells in either order
 pub moved_twice : (y : Vertex) (k l : Vector) → moved (moved y k) l ≡ moved (moved y l) k
-moved_twice y k l = ap (vertex y.over) (vector_equal (swap y.cell.x k.x l.x) (swap y.cell.y k.y l.y) (swap y.cell.z k.z l.z))
-  where
-    swap : (r s t : ℤ) → (r +ℤ s) +ℤ t ≡ (r +ℤ t) +ℤ s
-    swap r s t = omega (arith, ints)
+moved_twice y k l = ap (vertex y.over) (vector_equal (omega (arith, ints)) (omega (arith, ints)) (omega (arith, ints)))
 
 -- the move from a vertex to a vertex has the dimension
 pub sum_dimension : (H : Graph) (x : Vertex) (v : Vector) → IsVertex H x → IsVertex H (moved x v) → HasDimension H.dimension v
@@ -113,8 +104,7 @@ periodic_after G H K f g m n b c p q = record {
   positive = mul-le-mul q.positive p.positive;
   into = λ w i. q.into (f w) (p.into w i);
   repeats = λ w k i d.
-      let nk = times (pos n) k in
-      let dn = times_dimension G.dimension (pos n) k d in
+      let nk = times (pos n) k in let dn = times_dimension G.dimension (pos n) k d in
       let e0 = ap (λ (v : Vector). g (f (moved w v))) (numbers_times n m k ∙ times_exchange (pos n) (pos m) k) in
       let e1 = ap g (p.repeats w nk i dn) in
       let e2 = ap (λ (v : Vector). g (moved (f w) v)) (base_sum_times b (pos n) k) in
@@ -161,8 +151,7 @@ walk_there G H g there back m (y ∷ ys) w x i h =
 -- what is isomorphic to a connected net is connected
 pub iso_connected : (G H : Graph) → IsGraph G → Iso G H → IsConnected G → IsConnected H
 iso_connected G H g e c x y i j =
-    let a = e.back_period.2.into x i in
-    let s = c (e.back x) (e.back y) a (e.back_period.2.into y j) in
+    let a = e.back_period.2.into x i in let s = c (e.back x) (e.back y) a (e.back_period.2.into y j) in
     subst (λ (t : Type 0). t) (λ k. IsReached H (e.there_back x i k) (e.there_back y j k))
     (map e.there s.0, walk_there G H g e.there e.back (iso_matching G H e) s.0 (e.back x) (e.back y) a s.1)
 
@@ -217,3 +206,131 @@ iso_turned e = record {
 -- what a net is isomorphic to is isomorphic to it
 pub iso_symmetric : (G H : Graph) → Iso G H → Iso H G
 iso_symmetric G H e = iso_turned e
+
+-- the difference of quotients, where the remainders are below m
+same_quotient : (m r s : ℕ) (d : ℤ) → r < m → s < m → pos r ≡ pos s +ℤ pos m *ℤ d → d ≡ pos 0
+same_quotient m r s d l q t = search (arith, product_is)
+
+-- r + m·k = s + m·l, moved to one side
+one_side : (r s m k l : ℤ) → r +ℤ m *ℤ k ≡ s +ℤ m *ℤ l → r ≡ s +ℤ m *ℤ (l -ℤ k)
+one_side r s m k l e = simp ring (omega (arith, linear, e))
+
+-- division with remainder has one outcome
+divided_once : (m r s : ℕ) (k l : ℤ) → r < m → s < m → pos r +ℤ pos m *ℤ k ≡ pos s +ℤ pos m *ℤ l → (pos r ≡ pos s) × (k ≡ l)
+divided_once m r s k l h i e =
+    let z = same_quotient m r s (l -ℤ k) h i (one_side (pos r) (pos s) (pos m) k l e) in
+    let same : k ≡ l = omega (arith, linear, z) in
+    (added (pos r) (pos s) (pos m *ℤ k) (pos m *ℤ l) e (ap (λ (t : ℤ). pos m *ℤ t) same), same)
+  where
+    added : (a b c d : ℤ) → a +ℤ c ≡ b +ℤ d → c ≡ d → a ≡ b
+    added a b c d e f = omega (arith, linear, e, f)
+
+-- a part from 0 to m - 1 is a natural number below m
+natural_below : (m : ℕ) (z : ℤ) → pos 0 ≤ℤ z → z <ℤ pos m → (r : ℕ) × (r < m) × (z ≡ pos r)
+natural_below m z l p = search arith
+
+-- where a part of the box is divided, the remainder is the part
+divided_part : (m : ℕ) (h : 1 ≤ m) (z k : ℤ) → pos 0 ≤ℤ z → z <ℤ pos m → (pos (divided m h (z +ℤ pos m *ℤ k)).0 ≡ z) × ((divided m h (z +ℤ pos m *ℤ k)).1 ≡ k)
+divided_part m h z k low high = search (arith, natural_below, divided, divided_once)
+
+-- the map that a table writes down
+pub drawn : (M : PeriodicMap) → 1 ≤ M.m → Vertex → Vertex
+drawn M h w =
+    let x = divided M.m h w.cell.x in let y = divided M.m h w.cell.y in let z = divided M.m h w.cell.z in
+    moved (M.image w.over (vector (pos x.0) (pos y.0) (pos z.0))) (base_sum M.base (vector x.1 y.1 z.1))
+
+-- each table writes down a map
+pub drawn_by_table : (G : Graph) (M : PeriodicMap) (h : 1 ≤ M.m) → IsDrawnBy G M (drawn M h)
+unfolding drawn
+drawn_by_table G M h u r k i b d = search (arith, divided_part, vector_equal)
+
+-- a vector as a part in the box and m times another
+pub record InBox (d m : ℕ) (t : Vector) : Type 0 where
+  pub r : Vector
+  pub k : Vector
+  pub box : IsInBox d m r
+  pub dimension : HasDimension d k
+  pub sum : t ≡ plus r (times (pos m) k)
+
+-- each vector is such a sum
+pub in_box : (d m : ℕ) → 1 ≤ m → (t : Vector) → HasDimension d t → InBox d m t
+in_box d m h t f = by (ℕ_discrete d 2)
+  where
+    x : (r : ℕ) × (k : ℤ) × (r < m) × (t.x ≡ pos r +ℤ pos m *ℤ k)
+    x = divided m h t.x
+
+    y : (r : ℕ) × (k : ℤ) × (r < m) × (t.y ≡ pos r +ℤ pos m *ℤ k)
+    y = divided m h t.y
+
+    z : (r : ℕ) × (k : ℤ) × (r < m) × (t.z ≡ pos r +ℤ pos m *ℤ k)
+    z = divided m h t.z
+
+    low : (n : ℕ) → pos 0 ≤ℤ pos n
+    low n = omega (arith, ints)
+
+    high : (n : ℕ) → n < m → pos n <ℤ pos m
+    high n l = omega (arith, ints)
+
+    by : Dec (d ≡ 2) → InBox d m t
+    by (yes e) = record {
+      r = vector (pos x.0) (pos y.0) (pos 0);
+      k = vector x.1 y.1 (pos 0);
+      box = record { dimension = λ _. refl; low = (low x.0, low y.0, low 0); high = (high x.0 x.2, high y.0 y.2, high 0 h) };
+      dimension = λ _. refl;
+      sum = vector_equal x.3 y.3 (f e ∙ omega (arith, ints));
+    }
+    by (no n) = record {
+      r = vector (pos x.0) (pos y.0) (pos z.0);
+      k = vector x.1 y.1 z.1;
+      box = record { dimension = λ e. absurd (n e); low = (low x.0, low y.0, low z.0); high = (high x.0 x.2, high y.0 y.2, high z.0 z.2) };
+      dimension = λ e. absurd (n e);
+      sum = vector_equal x.3 y.3 z.3;
+    }
+
+-- two maps that one table writes down agree on each vertex
+pub drawn_once : (G : Graph) (M : PeriodicMap) (f g : Vertex → Vertex) → 1 ≤ M.m → IsDrawnBy G M f → IsDrawnBy G M g → (w : Vertex) → IsVertex G w → f w ≡ g w
+drawn_once G M f g h a b w i =
+    let s = in_box G.dimension M.m h w.cell i.cell in let e = ap (vertex w.over) s.sum in
+    ap f e ∙ a w.over s.r s.k i.over s.box s.dimension ∙ sym (b w.over s.r s.k i.over s.box s.dimension) ∙ sym (ap g e)
+
+-- what is moved twice is moved by the sum
+moved_more : (w : Vertex) (v u : Vector) → moved w (plus v u) ≡ moved (moved w v) u
+moved_more w v u = ap (vertex w.over) (sym (plus_associative w.cell v u))
+
+-- r + m·k, moved by m·l, is r + m·(k + l)
+box_moved : (m : ℤ) (r k l : Vector) → plus (plus r (times m k)) (times m l) ≡ plus r (times m (plus k l))
+box_moved m r k l = plus_associative r (times m k) (times m l) ∙ ap (plus r) (sym (times_plus m k l))
+
+-- a map that a table writes down has the table's period and shifts
+pub periodic_of_drawn : (G H : Graph) (M : PeriodicMap) (f : Vertex → Vertex) → IsMapTable G H M → IsDrawnBy G M f → IsPeriodic G H f M.m M.base
+periodic_of_drawn G H M f t a = record {
+  positive = t.positive;
+  into = λ w i.
+      let s = in_box G.dimension M.m t.positive w.cell i.cell in
+      subst (IsVertex H) (sym (ap f (ap (vertex w.over) s.sum) ∙ a w.over s.r s.k i.over s.box s.dimension))
+      (moved_vertex H (M.image w.over s.r) (base_sum M.base s.k) (t.into w.over s.r i.over s.box) (t.dimension s.k s.dimension));
+  repeats = λ w l i d.
+      let s = in_box G.dimension M.m t.positive w.cell i.cell in
+      let first = ap f (ap (vertex w.over) s.sum) ∙ a w.over s.r s.k i.over s.box s.dimension in
+      ap f (ap (vertex w.over) (ap (λ (v : Vector). plus v (times (pos M.m) l)) s.sum ∙ box_moved (pos M.m) s.r s.k l))
+      ∙ a w.over s.r (plus s.k l) i.over s.box (plus_dimension G.dimension s.k l s.dimension d)
+      ∙ ap (moved (M.image w.over s.r)) (base_sum_plus M.base s.k l)
+      ∙ moved_more (M.image w.over s.r) (base_sum M.base s.k) (base_sum M.base l)
+      ∙ ap (λ (y : Vertex). moved y (base_sum M.base l)) (sym first);
+}
+
+-- the table of a map with a period: its images of the vertices in the box
+abbrev pub table_of : (Vertex → Vertex) → ℕ → Base → PeriodicMap
+table_of f m b = record { m = m; image = λ u r. f (vertex u r); base = b }
+
+-- it is one
+pub is_table_of : (G H : Graph) (f : Vertex → Vertex) (m : ℕ) (b : Base) → IsGraph G → IsPeriodic G H f m b → IsMapTable G H (table_of f m b)
+is_table_of G H f m b g p = record {
+  positive = p.positive;
+  into = λ u r i x. p.into (vertex u r) (record { over = i; cell = x.dimension });
+  dimension = λ k d. base_dimension G H f m b p (vertex 1 zero_vector) k (origin_vertex G 1 (omega arith, g.vertices)) d;
+}
+
+-- and it writes the map down
+pub drawn_of_periodic : (G H : Graph) (f : Vertex → Vertex) (m : ℕ) (b : Base) → IsPeriodic G H f m b → IsDrawnBy G (table_of f m b) f
+drawn_of_periodic G H f m b p u r k i x d = p.repeats (vertex u r) k (record { over = i; cell = x.dimension }) d

@@ -1,18 +1,110 @@
--- A connected net has one normal placement.
-use Rattle.std.proofs.Common.{List, sym, ℤ, map, ◌≡◌, ◌+ℤ◌, ◌-ℤ◌, ◌*ℤ◌, [], ◌∷◌, ◌∙◌, pos, ap, ℕ, length, ◌≤◌, arith, ◌*◌, subst, refl, ◌+◌, ◌-◌, get_or}
-use Rattle.std.proofs.{lemmas.Int.ints, Math.Nat.dvd-mul_left, lemmas.List.ext_get_or}
-use Rattle.integers.specs.Vectors.{vector_sum, Vector, plus, HasDimension, times, minus, zero_vector}
-use Rattle.integers.specs.{Lists.total, Coordinates.IsCoordinate}
-use Rattle.periodic_net.specs.Placement.{Placement, arc_vector, IsBarycentric, base, IsTranslate, IsNormalPlacement, IsNormal}
-use Rattle.periodic_net.specs.Graph.{Arc, Graph, IsQuotientVertex, arcs_from, IsGraph, IsConnected}
-use Rattle.integers.proofs.vectors.Coordinates.{coordinate_y, coordinate_z, coordinate_x}
-use Rattle.integers.proofs.vectors.Laws.{vector_equal, times_cancel, times_zero, minus_zero, equal_of_minus}
+-- A function that is at each vertex the mean over its neighbours is constant: on the quotient graph, and on the net if it repeats.
+-- So a connected net has one normal placement, and has it where it has a barycentric one.
+use Rattle.std.proofs.Common.{List, pos, ℤ, ℕ, ◌≡◌, ◌⊎◌, ◌+ℤ◌, ◌-ℤ◌, ◌*ℤ◌, ◌≤ℤ◌, ◌≤◌, ◌<◌, ◌-◌, [], ◌∷◌, ◌∙◌, arith, ap, subst, sym, refl, suc, inl, inr}
+use Rattle.std.proofs.Common.{map, length, ◌*◌, ◌+◌, get_or}
+use Rattle.std.proofs.{lemmas.Int.ints, Math.Nat.dvd-mul_left, Math.Nat.mul_assoc, lemmas.List.ext_get_or, lemmas.List.length-map}
+use Rattle.std.specs.{Int.◌∣◌, Prelude.slice_index_or}
+use Rattle.integers.proofs.vectors.Laws.{plus_minus, vector_equal, coordinate_y, coordinate_z, coordinate_x, times_cancel, times_zero, minus_zero}
+use Rattle.integers.proofs.numbers.Divisors.{cancel_common, coprime_combination, coprime_multiple, bezout, Bezout, first_factor_positive, factor_positive}
+use Rattle.integers.proofs.vectors.Laws.{equal_of_minus, minus_itself, minus_back, numbers_times, times_plus}
+use Rattle.integers.proofs.numbers.Divisors.{common, all_table, Common, only_one, quotient_of}
+use Rattle.integers.specs.Vectors.{minus, zero_vector, plus, Vector, times, vector, vector_sum, HasDimension}
+use Rattle.integers.proofs.lists.Tables.{greatest_at, Searchable, search_below, search_pair, at_scaled, table_length, at_table, table}
+use Rattle.integers.proofs.lists.Sums.{same_from_zero, each_zero, at_most_zero, total_same, total_zeros}
 use Rattle.integers.proofs.numbers.Ring.{ring, linear, other_factor_zero, positive_not_zero}
-use Rattle.integers.proofs.numbers.Bezout.{cancel_common, coprime_combination, coprime_multiple, bezout, Bezout}
-use Rattle.integers.proofs.{lists.Sums.total_same, lists.Sums.total_zeros, numbers.Divisors.first_factor_positive}
-use Rattle.periodic_net.proofs.nets.Walks.{arc_inside, from_is_arc}
-use Rattle.periodic_net.proofs.placements.MaximumPrinciple.{gain, IsHarmonic, harmonic_constant}
-use Rattle.std.specs.Int.{◌∣◌}
+use Rattle.integers.{specs.Lists.total, proofs.lists.Members.IsIn, proofs.numbers.Division.divided, specs.Coordinates.IsCoordinate}
+use Rattle.periodic_net.specs.Graph.{Arc, Graph, IsQuotientVertex, arcs_from, IsArc, IsGraph, arc, IsVertex, Vertex, IsWalk, IsConnected, vertex, moved}
+use Rattle.periodic_net.specs.Harmonic.{IsNetHarmonic, Repeats}
+use Rattle.periodic_net.proofs.nets.Walks.{from_is_arc, arc_is_from, arc_inside, IsInside, joined_inside, origin_vertex}
+use Rattle.periodic_net.specs.Placement.{Placement, arc_vector, IsBarycentric, base, IsTranslate, IsNormalPlacement, IsNormal, position, HasNoCollision}
+
+-- a function on the vertices of the quotient graph has a greatest value
+pub search_vertices : (G : Graph) → IsGraph G → Searchable ℕ (IsQuotientVertex G)
+search_vertices G g f =
+    let e : suc (G.vertices - 1) ≡ G.vertices = omega arith in let r = greatest_at f (G.vertices - 1) in
+    (r.0, (r.1, subst (λ (k : ℕ). r.0 ≤ k) e r.2), λ v h. r.3 v h.0 (subst (λ (k : ℕ). v ≤ k) (sym e) h.1))
+
+-- the neighbour along an arc is a vertex
+neighbour : (G : Graph) (w : Vertex) (a : Arc) → IsVertex G w → IsInside G a → IsVertex G (vertex a.to (plus w.cell a.shift))
+neighbour G w a i j = record { over = j.to; cell = λ d. let x = i.cell d in let y = j.shift d in omega (arith, ints) }
+
+-- at a vertex where F is greatest, F is the same along each arc
+level_at : (G : Graph) → IsGraph G → (F : Vertex → ℤ) → IsNetHarmonic G F → (w : Vertex) → IsVertex G w
+    → ((x : Vertex) → IsVertex G x → F x ≤ℤ F w) → (a : Arc) → IsArc G a → a.from ≡ w.over → F (vertex a.to (plus w.cell a.shift)) ≡ F w
+level_at G g F h w i top a isa e =
+    let gain = λ (b : Arc). F (vertex b.to (plus w.cell b.shift)) -ℤ F w in
+    let low = λ (b : Arc) (k : IsIn (arcs_from G w.over) b).
+    at_most_zero (F (vertex b.to (plus w.cell b.shift))) (F w) (top (vertex b.to (plus w.cell b.shift))
+    (neighbour G w b i (arc_inside G g b (from_is_arc G w.over b k).0))) in
+    same_from_zero (F (vertex a.to (plus w.cell a.shift))) (F w) (each_zero gain (arcs_from G w.over) low (h w i) a (arc_is_from G w.over a isa e))
+
+-- along a walk from such a vertex F stays the same
+level_along : (G : Graph) → IsGraph G → (F : Vertex → ℤ) → IsNetHarmonic G F → (m : ℤ) → ((x : Vertex) → IsVertex G x → F x ≤ℤ m)
+    → (steps : List Vertex) (w x : Vertex) → IsVertex G w → F w ≡ m → IsWalk G w steps x → F x ≡ m
+level_along G g F h m top [] w x i e walk = sym (ap F walk) ∙ e
+level_along G g F h m top (y ∷ ys) w x i e walk =
+    let j = joined_inside G g w y i walk.0 in
+    let highest = λ (v : Vertex) (k : IsVertex G v). subst (λ (n : ℤ). F v ≤ℤ n) (sym e) (top v k) in
+    let at = level_at G g F h w i highest (arc w.over y.over (minus y.cell w.cell)) walk.0 refl in
+    let next : F y ≡ m = ap (λ (t : Vector). F (vertex y.over t)) (sym (plus_minus w.cell y.cell)) ∙ at ∙ e in
+    level_along G g F h m top ys y x j next walk.1
+
+-- a vertex of the net at which F is greatest
+greatest_vertex : (G : Graph) → IsGraph G → (m : ℕ) → 1 ≤ m → (F : Vertex → ℤ) → Repeats G m F
+    → (w : Vertex) × IsVertex G w × ((x : Vertex) → IsVertex G x → F x ≤ℤ F w)
+greatest_vertex G g m one F rep = by g.dimension
+  where
+    -- with third parts below n
+    below : (n : ℕ) → 1 ≤ n → ((r : ℕ) → r < n → G.dimension ≡ 2 → pos r ≡ pos 0)
+        → ((x : Vertex) → IsVertex G x → (r : ℕ) × (k : ℤ) × (r < n) × (G.dimension ≡ 2 → k ≡ pos 0) × (pos r +ℤ pos m *ℤ k ≡ x.cell.z))
+        → (w : Vertex) × IsVertex G w × ((x : Vertex) → IsVertex G x → F x ≤ℤ F w)
+    below n some flat last =
+        let s = search_pair (IsQuotientVertex G) (λ p. (p.0 < m) × ((p.1.0 < m) × (p.1.1 < n))) (search_vertices G g)
+        (search_pair (λ r. r < m) (λ p. (p.0 < m) × (p.1 < n)) (search_below m one)
+        (search_pair (λ r. r < m) (λ r. r < n) (search_below m one) (search_below n some))) in
+        let at = λ (p : ℕ × (ℕ × (ℕ × ℕ))). vertex p.0 (vector (pos p.1.0) (pos p.1.1.0) (pos p.1.1.1)) in
+        let r = s (λ p. F (at p)) in (
+          at r.0,
+          record { over = r.1.0; cell = flat r.0.1.1.1 r.1.1.1.1 },
+          λ x i.
+              let sx = divided m one x.cell.x in let sy = divided m one x.cell.y in let sz = last x i in
+              let p : ℕ × (ℕ × (ℕ × ℕ)) = (x.over, (sx.0, (sy.0, sz.0))) in
+              let k = vector sx.1 sy.1 sz.1 in let low = r.2 p (i.over, (sx.2, (sy.2, sz.2))) in
+              let q = rep (at p) k (record { over = i.over; cell = flat sz.0 sz.2 }) sz.3 in
+              let e : moved (at p) (times (pos m) k) ≡ x = λ l. record { over = x.over; cell = vector_equal (sym sx.3) (sym sy.3) sz.4 l } in
+              subst (λ (n : ℤ). n ≤ℤ F (at r.0)) (sym q ∙ ap F e) low,
+        )
+
+    by : (G.dimension ≡ 2) ⊎ (G.dimension ≡ 3) → (w : Vertex) × IsVertex G w × ((x : Vertex) → IsVertex G x → F x ≤ℤ F w)
+    by (inl two) = below 1 (omega arith) (λ r l d. let e : r ≡ 0 = omega arith in ap pos e)
+        (λ x i. (0, pos 0, omega arith, (λ d. refl), (let z : x.cell.z ≡ pos 0 = i.cell two in omega (arith, ints))))
+    by (inr three) = below m one (λ r l d. absurd (omega (arith, d, three)))
+        (λ x i. let s = divided m one x.cell.z in (s.0, s.1, s.2, (λ d. absurd (omega (arith, d, three))), sym s.3))
+
+-- in a connected net a periodic function that is at each vertex the mean over its neighbours is constant
+pub periodic_constant : (G : Graph) → IsGraph G → IsConnected G → (m : ℕ) → 1 ≤ m → (F : Vertex → ℤ) → Repeats G m F → IsNetHarmonic G F
+    → (w x : Vertex) → IsVertex G w → IsVertex G x → F w ≡ F x
+periodic_constant G g c m one F rep h w x i j =
+    let t = greatest_vertex G g m one F rep in
+    let to = λ (y : Vertex) (k : IsVertex G y). let s = c t.0 y t.1 k in level_along G g F h (F t.0) t.2 s.0 t.0 y t.1 refl s.1 in
+    to w i ∙ sym (to x j)
+
+-- what f gains along these arcs, together
+abbrev pub gain : (ℕ → ℤ) → List Arc → ℤ
+gain f as' = total (λ a. f a.to -ℤ f a.from) as'
+
+-- f is at each vertex of the quotient graph the mean over its arcs
+abbrev pub IsHarmonic : Graph → (ℕ → ℤ) → Type 0
+IsHarmonic G f = (u : ℕ) → IsQuotientVertex G u → gain f (arcs_from G u) ≡ pos 0
+
+-- such a function is constant: on the net it has the period 1
+pub harmonic_constant : (G : Graph) → IsGraph G → IsConnected G → (f : ℕ → ℤ) → IsHarmonic G f
+    → (u v : ℕ) → IsQuotientVertex G u → IsQuotientVertex G v → f u ≡ f v
+harmonic_constant G g c f h u v i j =
+    periodic_constant G g c 1 (omega arith) (λ w. f w.over) (λ w k k' d. refl)
+    (λ w k. total_same (λ a. f a.to -ℤ f w.over) (λ a. f a.to -ℤ f a.from) (arcs_from G w.over)
+    (λ a l. ap (λ (n : ℕ). f a.to -ℤ f n) (sym (from_is_arc G w.over a l).1)) ∙ h w.over k.over)
+    (vertex u zero_vector) (vertex v zero_vector) (origin_vertex G u i) (origin_vertex G v j)
 
 -- Two barycentric placements of a connected net are translates of each other, and a translate of one is one.
 
@@ -43,26 +135,20 @@ coordinate_of_arc c i p a =
     ∙ ap (λ (k : ℤ). k -ℤ c (base p a.from)) (i.plus_is (base p a.to) (times (pos p.denominator) a.shift)
     ∙ ap (λ (k : ℤ). c (base p a.to) +ℤ k) (i.times_is (pos p.denominator) a.shift))
 
--- sums of such differences
-apart_sum : (d e x y x' y' : ℤ) → (d *ℤ x -ℤ e *ℤ y) +ℤ (d *ℤ x' -ℤ e *ℤ y') ≡ d *ℤ (x +ℤ x') -ℤ e *ℤ (y +ℤ y')
-apart_sum d e x y x' y' = simp ring (omega (arith, ints))
-
 -- what the distance of the two placements gains along these arcs
 gain_is : (c : Vector → ℤ) → IsCoordinate c → (p q : Placement) (as' : List Arc)
     → gain (apart p q c) as' ≡ pos p.denominator *ℤ c (vector_sum (map (arc_vector q) as')) -ℤ pos q.denominator *ℤ c (vector_sum (map (arc_vector p) as'))
 gain_is c i p q [] = let z = i.zero in rw z (simp ring (omega (arith, ints)))
 gain_is c i p q (a ∷ as') =
-    let d = pos p.denominator in
-    let e = pos q.denominator in
+    let d = pos p.denominator in let e = pos q.denominator in
     let s = apart_step d e (c (base p a.to)) (c (base q a.to)) (c (base p a.from)) (c (base q a.from)) (c a.shift) in
-    let hq = coordinate_of_arc c i q a in
-    let hp = coordinate_of_arc c i p a in
+    let hq = coordinate_of_arc c i q a in let hp = coordinate_of_arc c i p a in
     let head : (apart p q c a.to -ℤ apart p q c a.from) ≡ d *ℤ c (arc_vector q a) -ℤ e *ℤ c (arc_vector p a) = s ∙ sym (ap2 (λ x y. d *ℤ x -ℤ e *ℤ y) hq hp) in
     let tail = gain_is c i p q as' in
     let pq = i.plus_is (arc_vector q a) (vector_sum (map (arc_vector q) as')) in
     let pp = i.plus_is (arc_vector p a) (vector_sum (map (arc_vector p) as')) in
     ap2 ◌+ℤ◌ head tail
-    ∙ apart_sum d e (c (arc_vector q a)) (c (arc_vector p a)) (c (vector_sum (map (arc_vector q) as'))) (c (vector_sum (map (arc_vector p) as')))
+    ∙ simp ring (omega (arith, ints))
     ∙ sym (ap2 (λ x y. d *ℤ x -ℤ e *ℤ y) pq pp)
   where
     ap2 : (f : ℤ → ℤ → ℤ) {x y z w : ℤ} → x ≡ y → z ≡ w → f x z ≡ f y w
@@ -99,11 +185,8 @@ placements_translate G g con p q bp bq = record {
 no_gain : (G : Graph) → IsGraph G → (f : ℕ → ℤ) (b : ℤ) → ((u : ℕ) → IsQuotientVertex G u → f u ≡ b) → (u : ℕ) → gain f (arcs_from G u) ≡ pos 0
 no_gain G g f b h u =
     total_same (λ a. f a.to -ℤ f a.from) (λ a. pos 0) (arcs_from G u)
-    (λ a k. let i = arc_inside G g a (from_is_arc G u a k).0 in (λ l. h a.to i.to l -ℤ h a.from i.from l) ∙ itself b)
+    (λ a k. let i = arc_inside G g a (from_is_arc G u a k).0 in (λ l. h a.to i.to l -ℤ h a.from i.from l) ∙ omega (arith, linear))
     ∙ total_zeros (arcs_from G u)
-  where
-    itself : (x : ℤ) → x -ℤ x ≡ pos 0
-    itself x = omega (arith, linear)
 
 -- d·x = 0 where d·x - e·0 = 0
 first_term : (d e x : ℤ) → d *ℤ x -ℤ e *ℤ pos 0 ≡ pos 0 → d *ℤ x ≡ pos 0
@@ -126,8 +209,7 @@ translate_barycentric G g p q b one count dimension t = record {
 
     zero : (c : Vector → ℤ) → IsCoordinate c → (u : ℕ) → IsQuotientVertex G u → c (vector_sum (map (arc_vector q) (arcs_from G u))) ≡ pos 0
     zero c l u i =
-        let d = pos p.denominator in
-        let e = pos q.denominator in
+        let d = pos p.denominator in let e = pos q.denominator in
         let s = c (vector_sum (map (arc_vector q) (arcs_from G u))) in
         let none : c (vector_sum (map (arc_vector p) (arcs_from G u))) ≡ pos 0 = ap c (b.balanced u i) ∙ l.zero in
         other_factor_zero d s
@@ -144,8 +226,7 @@ pub record AreScaled (G : Graph) (p q : Placement) : Type 0 where
 pub normal_scaled : (G : Graph) → IsGraph G → IsConnected G → (p q : Placement) → IsNormalPlacement G p → IsNormalPlacement G q → AreScaled G p q
 normal_scaled G g con p q n k = record {
   each = λ u i.
-      let t = placements_translate G g con p q n.barycentric k.barycentric in
-      let d = pos p.denominator in
+      let t = placements_translate G g con p q n.barycentric k.barycentric in let d = pos p.denominator in
       let e = pos q.denominator in
       let at_one : t.by ≡ zero_vector =
       sym (t.each 1 (omega arith, g.vertices)) ∙ (λ j. minus (times d (k.normal.origin j)) (times e (n.normal.origin j)))
@@ -161,8 +242,7 @@ scaled_back G p q s = record { each = λ u i. sym (s.each u i) }
 first_is_one : (G : Graph) (p q : Placement) → AreScaled G p q → IsNormal G p → (g k l : ℕ) (s t : ℤ) → 1 ≤ p.denominator
     → p.denominator ≡ g * k → q.denominator ≡ g * l → pos g ≡ s *ℤ pos p.denominator +ℤ t *ℤ pos q.denominator → k ≡ 1
 first_is_one G p q sc n g k l s t one a b c = n.reduced k (subst (λ (x : ℕ). k ∣ x) (sym a) (dvd-mul_left k g)) (λ u i.
-    let d = ap pos a in
-    let e = ap pos b in
+    let d = ap pos a in let e = ap pos b in
     let g0 = positive_not_zero g (first_factor_positive g k (subst (λ (m : ℕ). 1 ≤ m) a one)) in
     let co = coprime_combination (pos g) (pos k) (pos l) s t g0 (c ∙ (λ j. s *ℤ d j +ℤ t *ℤ e j)) in
     let each = sc.each u i in
@@ -190,7 +270,7 @@ normal_unique G g con p q n m = by (bezout p.denominator q.denominator)
     by z =
         let k1 = first_is_one G p q sc n.normal z.g z.k z.l z.s z.t n.barycentric.positive z.a_is z.b_is z.g_is in
         let l1 = first_is_one G q p (scaled_back G p q sc) m.normal z.g z.l z.k z.t z.s m.barycentric.positive z.b_is z.a_is
-        (z.g_is ∙ swap (z.s *ℤ pos p.denominator) (z.t *ℤ pos q.denominator)) in
+        (z.g_is ∙ omega (arith, ints)) in
         let same : p.denominator ≡ q.denominator = z.a_is ∙ ap (λ (x : ℕ). z.g * x) (k1 ∙ sym l1) ∙ sym z.b_is in
         record {
           denominator = same;
@@ -198,9 +278,6 @@ normal_unique G g con p q n m = by (bezout p.denominator q.denominator)
               sym (times_cancel (pos p.denominator) (base q u) (base p u) (positive_not_zero p.denominator n.barycentric.positive)
               (sc.each u i ∙ ap (λ (x : ℕ). times (pos x) (base p u)) (sym same)));
         }
-      where
-        swap : (x y : ℤ) → x +ℤ y ≡ y +ℤ x
-        swap x y = omega (arith, ints)
 
 -- two normal placements of a connected net are one
 pub one_placement : (G : Graph) → IsGraph G → IsConnected G → (p q : Placement) → IsNormalPlacement G p → IsNormalPlacement G q → p ≡ q
@@ -215,3 +292,138 @@ one_placement G g c p q n m = λ i. record { denominator = same.denominator i; a
     at : p.at ≡ q.at
     at = ext_get_or zero_vector p.at q.at (n.barycentric.count ∙ sym m.barycentric.count)
         (λ k l. sym (place p k) ∙ same.each (k + 1) (omega arith, let e = n.barycentric.count in omega (arith, e, l)) ∙ place q k)
+
+-- q is p, moved to 0 and reduced by g
+pub record IsReduced (G : Graph) (p q : Placement) (g : ℕ) : Type 0 where
+  pub positive : 1 ≤ g
+  pub denominator : p.denominator ≡ g * q.denominator
+  pub count : length q.at ≡ length p.at
+  pub each : (u : ℕ) → IsQuotientVertex G u → base p u ≡ plus (times (pos g) (base q u)) (base p 1)
+
+-- the vector of an arc, in numbers
+reduced_step : (g b b' s e f o : ℤ) → ((g *ℤ b +ℤ o) +ℤ (g *ℤ e) *ℤ s) -ℤ (g *ℤ b' +ℤ o) ≡ g *ℤ ((b +ℤ e *ℤ s) -ℤ b')
+reduced_step g b b' s e f o = simp ring (omega (arith, ints))
+
+-- the vectors of arcs are reduced by g
+reduced_vector : (G : Graph) (p q : Placement) (g : ℕ) → IsReduced G p q g → (a : Arc) → IsQuotientVertex G a.from → IsQuotientVertex G a.to
+    → arc_vector p a ≡ times (pos g) (arc_vector q a)
+reduced_vector G p q g r a i j =
+    let d = ap pos r.denominator in let f = r.each a.from i in let t = r.each a.to j in
+    let e = pos q.denominator in
+    (λ l. minus (plus (t l) (times (d l) a.shift)) (f l))
+    ∙ vector_equal
+    (reduced_step (pos g) (base q a.to).x (base q a.from).x a.shift.x e e (base p 1).x)
+    (reduced_step (pos g) (base q a.to).y (base q a.from).y a.shift.y e e (base p 1).y)
+    (reduced_step (pos g) (base q a.to).z (base q a.from).z a.shift.z e e (base p 1).z)
+
+-- and so are their sums
+sum_scaled : (p q : Placement) (g : ℤ) (as' : List Arc) → ((a : Arc) → IsIn as' a → arc_vector p a ≡ times g (arc_vector q a))
+    → vector_sum (map (arc_vector p) as') ≡ times g (vector_sum (map (arc_vector q) as'))
+sum_scaled p q g [] h = sym (times_zero g)
+sum_scaled p q g (a ∷ as') h =
+    (λ i. plus (h a (inl refl) i) (sum_scaled p q g as' (λ b k. h b (inr k)) i)) ∙ sym (times_plus g (arc_vector q a) (vector_sum (map (arc_vector q) as')))
+
+-- the reduced placement is barycentric
+pub reduced_barycentric : (G : Graph) → IsGraph G → (p q : Placement) (g : ℕ) → IsReduced G p q g → IsBarycentric G p → IsBarycentric G q
+reduced_barycentric G gr p q g r b = record {
+  positive = factor_positive g q.denominator (subst (λ (n : ℕ). 1 ≤ n) r.denominator b.positive);
+  count = r.count ∙ b.count;
+  dimension = λ u i d.
+      let one = b.dimension 1 (omega arith, gr.vertices) d in let at_u = b.dimension u i d in
+      let e = ap (λ (v : Vector). v.z) (r.each u i) in
+      other_factor_zero (pos g) (base q u).z (flat (pos g *ℤ (base q u).z) (base p 1).z (base p u).z e at_u one) (positive_not_zero g r.positive);
+  balanced = λ u i. times_cancel (pos g) (vector_sum (map (arc_vector q) (arcs_from G u))) zero_vector (positive_not_zero g r.positive)
+      (sym (sum_scaled p q (pos g) (arcs_from G u) (λ a k.
+      let s = from_is_arc G u a k in let t = arc_inside G gr a s.0 in
+      reduced_vector G p q g r a t.from t.to))
+      ∙ b.balanced u i ∙ sym (times_zero (pos g)));
+}
+  where
+    flat : (x o y : ℤ) → y ≡ x +ℤ o → y ≡ pos 0 → o ≡ pos 0 → x ≡ pos 0
+    flat x o y e f h = omega (arith, ints)
+
+-- a place, in numbers
+place_is : (g b e s o : ℤ) → (g *ℤ b +ℤ o) +ℤ (g *ℤ e) *ℤ s ≡ g *ℤ (b +ℤ e *ℤ s) +ℤ o
+place_is g b e s o = simp ring (omega (arith, ints))
+
+-- positions are g times the reduced ones, moved
+reduced_position : (G : Graph) (p q : Placement) (g : ℕ) → IsReduced G p q g → (w : Vertex) → IsVertex G w
+    → position p w ≡ plus (times (pos g) (position q w)) (base p 1)
+reduced_position G p q g r w i =
+    let d = ap pos r.denominator in let f = r.each w.over i.over in let e = pos q.denominator in
+    (λ l. plus (f l) (times (d l) w.cell))
+    ∙ vector_equal
+    (place_is (pos g) (base q w.over).x e w.cell.x (base p 1).x)
+    (place_is (pos g) (base q w.over).y e w.cell.y (base p 1).y)
+    (place_is (pos g) (base q w.over).z e w.cell.z (base p 1).z)
+
+-- and no collision comes from it
+pub reduced_apart : (G : Graph) (p q : Placement) (g : ℕ) → IsReduced G p q g → HasNoCollision G p → HasNoCollision G q
+reduced_apart G p q g r n u v t k =
+    let o = vertex u zero_vector in let x = vertex v t in
+    n u v t (record {
+      here = k.here;
+      there = k.there;
+      different = k.different;
+      same_place = reduced_position G p q g r o (record { over = k.here; cell = λ d. refl })
+          ∙ ap (λ (z : Vector). plus (times (pos g) z) (base p 1)) k.same_place ∙ sym (reduced_position G p q g r x k.there);
+    })
+
+-- the shifts of all vertices from vertex 1
+abbrev shifts_of : Graph → Placement → ℕ → Vector
+shifts_of G p i = minus (base p (suc i)) (base p 1)
+
+module _ (G : Graph) (gr : IsGraph G) (p : Placement) (b : IsBarycentric G p) where
+  divisor : Common p.denominator (table (shifts_of G p) G.vertices)
+  divisor = common p.denominator (table (shifts_of G p) G.vertices)
+
+  smaller : (c : Common p.denominator (table (shifts_of G p) G.vertices)) → (u : ℕ) → IsQuotientVertex G u
+      → times (pos c.g) (base (record { denominator = c.k; at = c.ws }) u) ≡ minus (base p u) (base p 1)
+  smaller c u i =
+      let e : suc (u - 1) ≡ u = omega arith in
+      sym (at_scaled (pos c.g) c.ws (u - 1))
+      ∙ ap (λ (vs : List Vector). slice_index_or vs (u - 1) zero_vector) (sym c.vs_is)
+      ∙ at_table (shifts_of G p) G.vertices (u - 1) (omega arith)
+      ∙ ap (λ (v : ℕ). minus (base p v) (base p 1)) e
+
+  divisor_positive : (c : Common p.denominator (table (shifts_of G p) G.vertices)) → 1 ≤ c.g
+  divisor_positive c = first_factor_positive c.g c.k (subst (λ (n : ℕ). 1 ≤ n) c.d_is b.positive)
+
+  is_reduced : (c : Common p.denominator (table (shifts_of G p) G.vertices)) → IsReduced G p (record { denominator = c.k; at = c.ws }) c.g
+  is_reduced c = record {
+    positive = divisor_positive c;
+    denominator = c.d_is;
+    count = sym (length-map c.ws (times (pos c.g))) ∙ ap length (sym c.vs_is) ∙ table_length (shifts_of G p) G.vertices ∙ sym b.count;
+    each = λ u i. sym (minus_back (base p u) (base p 1)) ∙ ap (λ (u : Vector). plus u (base p 1)) (sym (smaller c u i));
+  }
+
+  is_normal : (c : Common p.denominator (table (shifts_of G p) G.vertices)) → IsNormal G (record { denominator = c.k; at = c.ws })
+  is_normal c = record {
+    origin = times_cancel (pos c.g) (base (record { denominator = c.k; at = c.ws }) 1) zero_vector (positive_not_zero c.g (divisor_positive c))
+        (smaller c 1 (omega arith, gr.vertices) ∙ minus_itself (base p 1) ∙ sym (times_zero (pos c.g)));
+    reduced = λ j d each.
+        let l = quotient_of j c.k d in
+        let dd : p.denominator ≡ (c.g * j) * l.0 = c.d_is ∙ ap (λ (t : ℕ). c.g * t) l.1 ∙ sym (mul_assoc c.g j l.0) in
+        let all = all_table (c.g * j) (shifts_of G p) G.vertices (λ i m.
+        let iu : IsQuotientVertex G (suc i) = (omega arith, omega arith) in let w = each (suc i) iu in
+        (w.0, sym (smaller c (suc i) iu) ∙ ap (times (pos c.g)) w.1 ∙ sym (numbers_times c.g j w.0))) in
+        let r = c.greatest (c.g * j) (l.0, dd) all in only_one c.g j r.0 (divisor_positive c) r.1;
+  }
+
+-- a placement that is barycentric, and the normal one of the same net
+pub record HasNormal (G : Graph) (p : Placement) : Type 0 where
+  pub normal : Placement
+  pub factor : ℕ
+  pub reduced : IsReduced G p normal factor
+  pub is_normal : IsNormalPlacement G normal
+
+-- reduced by the greatest common divisor, the placement is normal
+pub normal_exists : (G : Graph) → IsGraph G → (p : Placement) → IsBarycentric G p → HasNormal G p
+normal_exists G gr p b =
+    let c = divisor G gr p b in let r = is_reduced G gr p b c in
+    record {
+      normal = record { denominator = c.k; at = c.ws };
+      factor = c.g;
+      reduced = r;
+      is_normal = record { barycentric = reduced_barycentric G gr p (record { denominator = c.k; at = c.ws }) c.g r b; normal = is_normal G gr p b c };
+    }

@@ -3,11 +3,11 @@ use Rattle.std.proofs.Common.{arith, ℤ, ◌≡◌, ◌+ℤ◌, ◌-ℤ◌, ◌
 use Rattle.std.proofs.{lemmas.Int.ints, Math.Decide.dec_lt}
 use Prim.{yes, no, Dec}
 use Rattle.integers.specs.Vectors.{minus, Vector, times, plus, HasDimension, zero_vector, IsModulo}
-use Rattle.periodic_net.specs.Placement.{Placement, base, position, arc_vector, HasNoCollision, IsCollision}
-use Rattle.periodic_net.specs.Graph.{arc, Vertex, moved, Graph, IsVertex, IsQuotientVertex, Arc, vertex}
 use Rattle.integers.proofs.numbers.Ring.{ring, linear, other_factor_zero, positive_not_zero}
 use Rattle.integers.proofs.vectors.VectorRemainders.{one_modulo, modulo_apart, modulo_of}
-use Rattle.integers.proofs.{vectors.Laws.vector_equal, vectors.Laws.minus_dimension, numbers.Modulo.steps_dimension}
+use Rattle.integers.proofs.{vectors.Laws.vector_equal, vectors.Laws.minus_dimension, numbers.Division.steps_dimension}
+use Rattle.periodic_net.specs.Placement.{Placement, base, position, arc_vector, HasNoCollision, IsCollision}
+use Rattle.periodic_net.specs.Graph.{arc, Vertex, moved, Graph, IsVertex, IsQuotientVertex, Arc, vertex}
 use Rattle.periodic_net.proofs.isomorphisms.Periods.{between_end, end_of}
 
 -- a step, in one coordinate
@@ -56,14 +56,9 @@ vertex_decided w x = search arith
 -- equal cells, by their difference
 back : (s t : Vector) → minus t s ≡ zero_vector → s ≡ t
 back s t e =
-    let x = ap (λ (v : Vector). v.x) e in
-    let y = ap (λ (v : Vector). v.y) e in
+    let x = ap (λ (v : Vector). v.x) e in let y = ap (λ (v : Vector). v.y) e in
     let z = ap (λ (v : Vector). v.z) e in
     vector_equal (omega (arith, ints)) (omega (arith, ints)) (omega (arith, ints))
-
--- two places, both moved back
-shifted : (d a b s t : ℤ) → a +ℤ d *ℤ s ≡ b +ℤ d *ℤ t → a +ℤ d *ℤ pos 0 ≡ b +ℤ d *ℤ (t -ℤ s)
-shifted d a b s t h = simp ring (omega (arith, ints))
 
 -- moved back by the cell of w, the two would collide
 pub positions_tell : (G : Graph) (p : Placement) → HasNoCollision G p → (w x : Vertex) → IsVertex G w → IsVertex G x → position p w ≡ position p x → w ≡ x
@@ -76,9 +71,9 @@ positions_tell G p n w x i j e = by (vertex_decided w x)
       there = record { over = j.over; cell = λ d. let a = i.cell d in let b = j.cell d in omega (arith, ints) };
       different = λ k. h (λ l. let a = ap (λ (v : Vertex). v.over) k in let b : minus x.cell w.cell ≡ zero_vector = sym (ap (λ (v : Vertex). v.cell) k) in
           record { over = a l; cell = back w.cell x.cell b l });
-      same_place = vector_equal (shifted (pos p.denominator) (base p w.over).x (base p x.over).x w.cell.x x.cell.x (ap (λ (v : Vector). v.x) e))
-          (shifted (pos p.denominator) (base p w.over).y (base p x.over).y w.cell.y x.cell.y (ap (λ (v : Vector). v.y) e))
-          (shifted (pos p.denominator) (base p w.over).z (base p x.over).z w.cell.z x.cell.z (ap (λ (v : Vector). v.z) e));
+      same_place = vector_equal (simp ring (omega (arith, ints, ap (λ (v : Vector). v.x) e)))
+          (simp ring (omega (arith, ints, ap (λ (v : Vector). v.y) e)))
+          (simp ring (omega (arith, ints, ap (λ (v : Vector). v.z) e)));
     }))
 
 -- Two vertices collide exactly where their positions have one remainder modulo the denominator.
@@ -129,8 +124,7 @@ module _ (G : Graph) (p : Placement) where
         by : Dec (u < v) → Dec (v < u) → ⊥
         by (yes l) k = none u v t l c
         by (no n) (yes k) =
-            let x = modulo_of p.denominator d (base p u) in
-            let y = modulo_of p.denominator d (base p v) in
+            let x = modulo_of p.denominator d (base p u) in let y = modulo_of p.denominator d (base p v) in
             let same = collided u v t x.0 y.0 c x.1 y.1 in
             let y' = subst (λ (r : Vector). IsReduced v r) (sym same) y.1 in
             none v u (minus y'.steps x.1.steps) k (collides v u x.0 c.there.over c.here (λ e. omega (arith, k, e)) y' x.1)

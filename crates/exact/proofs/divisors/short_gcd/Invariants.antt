@@ -1,5 +1,4 @@
-use Rattle.std.proofs.Common.{ℕ}
-use Rattle.std.specs.Int.{IsGcd}
+use Rattle.std.{proofs.Common.ℕ, specs.Int.IsGcd}
 use Rattle.exact.proofs.divisors.short_gcd.Given as goal
 
 -- the numbers have the divisors of the first two

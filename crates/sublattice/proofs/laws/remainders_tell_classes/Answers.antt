@@ -1,4 +1,4 @@
-use Rattle.sublattice.proofs.Classes.{tell_classes}
+use Rattle.sublattice.proofs.Numbers.{tell_classes}
 use Rattle.sublattice.proofs.laws.remainders_tell_classes.Goals as goal
 
 pub returns : goal.returns

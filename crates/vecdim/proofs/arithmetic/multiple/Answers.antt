@@ -1,5 +1,5 @@
 use Rattle.std.proofs.Common.{rules}
-use Rattle.vecdim.proofs.Fitting.{square_fits, square_within}
+use Rattle.vecdim.proofs.Boxes.{square_fits, square_within}
 use Rattle.vecdim.proofs.arithmetic.multiple.Goals as goal
 
 pub returns-clause-value : goal.returns-clause-value

@@ -1,9 +1,8 @@
 use Rattle.std.proofs.Common.{rules, ◌≡◌, pos, ap, of_z, subst}
-use Rattle.std.proofs.lemmas.Int.{to_z-of_z}
-use Rattle.std.specs.Int.{w128}
+use Rattle.std.{proofs.lemmas.Int.to_z-of_z, specs.Int.w128}
 use Rattle.integers.specs.Vectors.{vector}
 use Rattle.vecdim.specs.Steps.{Exchange, IsBoxed}
-use Rattle.vecdim.proofs.{Combos.kept_start, Combos.kept_step, Boxes.not_zero, Boxes.rests_fall}
+use Rattle.vecdim.proofs.{Lattice.kept_start, Lattice.kept_step, Boxes.not_zero, Boxes.rests_fall}
 use Rattle.vecdim.proofs.columns.column.Goals as goal
 
 pub loop-below-init : goal.loop-below-init

@@ -1,6 +1,6 @@
 use Rattle.std.specs.Int.RustNames.{unsigned_abs}
 use Rattle.integers.specs.Vectors.{vector}
-use Rattle.vecdim.proofs.Combos.{Kept}
+use Rattle.vecdim.proofs.Lattice.{Kept}
 use Rattle.vecdim.proofs.columns.column.Given as goal
 
 abbrev pub invariant-loop-below : goal.invariant-loop-below

@@ -1,5 +1,5 @@
 use Rattle.std.proofs.{Common.rules, Common.arith, lemmas.Int.ints}
-use Rattle.vecdim.proofs.Combos.{exchange_step}
+use Rattle.vecdim.proofs.Lattice.{exchange_step}
 use Rattle.vecdim.proofs.columns.rest_of.Goals as goal
 
 pub less_times-requires-clause-q_to : goal.less_times-requires-clause-q_to

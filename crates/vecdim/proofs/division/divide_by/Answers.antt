@@ -1,8 +1,7 @@
 use Rattle.std.proofs.Common.{rules, arith, ◌≤◌, ◌^◌, sym, subst, to_z, of_z, unsigned_abs}
-use Rattle.std.specs.Int.{w128}
-use Rattle.std.proofs.lemmas.Int.{ints}
+use Rattle.std.{specs.Int.w128, proofs.lemmas.Int.ints}
 use Rattle.integers.specs.Vectors.{IsWithin}
-use Rattle.vecdim.proofs.Splitting.{divided_is}
+use Rattle.vecdim.proofs.Boxes.{divided_is}
 use Rattle.vecdim.proofs.division.divide_by.Goals as goal
 
 pub split_less_two-z-requires-clause-k : goal.split_less_two-z-requires-clause-k
@@ -16,8 +15,7 @@ returns-clause-within c = λ n h.
     let x : unsigned_abs (to_z w128 (of_z w128 c.split-x.result.quotient)) ≤ n = search rules in
     let l = c.split_less-y.ensures.within n (search rules) x in
     let y : unsigned_abs (to_z w128 (of_z w128 c.split_less-y.result.quotient)) ≤ n = search rules in
-    let m = c.split_less_two-z.ensures.within n (search rules) x y in
-    search rules
+    let m = c.split_less_two-z.ensures.within n (search rules) x y in search rules
 
 pub returns-clause-small : goal.returns-clause-small
 returns-clause-small c = (omega (arith, ints), omega (arith, ints), omega (arith, ints))

@@ -1,5 +1,5 @@
 use Rattle.std.proofs.Common.{rules}
-use Rattle.vecdim.proofs.Splitting.{taken_fits, less_fits}
+use Rattle.vecdim.proofs.Boxes.{taken_fits, less_fits}
 use Rattle.vecdim.proofs.division.less.Goals as goal
 
 pub overflow_sub-result : goal.overflow_sub-result

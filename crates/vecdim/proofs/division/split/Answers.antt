@@ -1,6 +1,5 @@
 use Rattle.std.proofs.Common.{◌≡◌, ◌+ℤ◌, ◌*ℤ◌, FitsSigned, ◌∙◌, arith}
-use Rattle.std.specs.Int.{w128, int_rem_euclid}
-use Rattle.std.proofs.lemmas.Int.{to_z-of_z}
+use Rattle.std.{specs.Int.w128, specs.Int.int_rem_euclid, proofs.lemmas.Int.to_z-of_z}
 use Rattle.integers.proofs.numbers.Division.{euclid_sum, euclid_rest, quotient_within}
 use Rattle.vecdim.proofs.division.split.Goals as goal
 
@@ -18,8 +17,7 @@ pub returns-clause-within : goal.returns-clause-within
 returns-clause-within c =
     let rz = c.ranges.z in let rm = c.ranges.m in
     let q : FitsSigned w128 c.div_euclid-quotient.result = record { sfits = c.div_euclid-quotient.type_inv } in
-    let r = c.rem_euclid-rest.ensures.value in
-    let f = simp to_z-of_z at r in
+    let r = c.rem_euclid-rest.ensures.value in let f = simp to_z-of_z at r in
     let b = euclid_rest c.args.z c.args.m c.requires in
     simp to_z-of_z
     (λ n h.

@@ -1,17 +1,13 @@
 use Rattle.std.proofs.Common.{ℤ, ◌≤◌, ◌*◌, ◌^◌, unsigned_abs, FitsSigned, subst, sym}
-use Rattle.std.specs.Int.{w128}
-use Rattle.std.proofs.lemmas.Int.{to_z-of_z}
-use Rattle.vecdim.proofs.Splitting.{second_bound}
+use Rattle.std.{specs.Int.w128, proofs.lemmas.Int.to_z-of_z}
+use Rattle.vecdim.proofs.Boxes.{second_bound}
 use Rattle.vecdim.proofs.division.split_less.Goals as goal
 
 pub returns-clause-within : goal.returns-clause-within
 returns-clause-within c =
     let rz = c.ranges.z in let rb = c.ranges.b in let rk = c.ranges.k in let rm = c.ranges.m in
-    let rl : FitsSigned w128 c.less.result = record { sfits = c.less.type_inv } in
-    let e = c.less.ensures in
-    let e' = simp to_z-of_z at e in
-    let w = c.split.ensures.within in
-    let w' = simp to_z-of_z at w in
+    let rl : FitsSigned w128 c.less.result = record { sfits = c.less.type_inv } in let e = c.less.ensures in
+    let e' = simp to_z-of_z at e in let w = c.split.ensures.within in let w' = simp to_z-of_z at w in
     λ n h k.
     w' n
     (subst (λ (t : ℤ). unsigned_abs t ≤ n * unsigned_abs c.args.m) (sym e')

@@ -1,7 +1,6 @@
 use Rattle.std.proofs.Common.{ℤ, ◌≤◌, ◌*◌, ◌^◌, ◌-ℤ◌, ◌*ℤ◌, unsigned_abs, FitsSigned, subst, sym, ap, ◌∙◌}
-use Rattle.std.specs.Int.{w128}
-use Rattle.std.proofs.lemmas.Int.{to_z-of_z}
-use Rattle.vecdim.proofs.Splitting.{above_from, below_small, less_again, part_taken, third_bound}
+use Rattle.std.{specs.Int.w128, proofs.lemmas.Int.to_z-of_z}
+use Rattle.vecdim.proofs.Boxes.{above_from, below_small, less_again, part_taken, third_bound}
 use Rattle.vecdim.proofs.division.split_less_two.Goals as goal
 
 pub less-requires : goal.less-requires
@@ -36,13 +35,9 @@ returns-clause-within c =
     let rl = c.ranges.l in let rm = c.ranges.m in
     let r1 : FitsSigned w128 c.less.result = record { sfits = c.less.type_inv } in
     let r2 : FitsSigned w128 c.less-2.result = record { sfits = c.less-2.type_inv } in
-    let a = c.less.ensures in let b = c.less-2.ensures in
-    let a' = simp to_z-of_z at a in
-    let b' = simp to_z-of_z at b in
-    let e = b' ∙ ap (λ (t : ℤ). t -ℤ c.args.f *ℤ c.args.l) a' in
-    let w = c.split.ensures.within in
-    let w' = simp to_z-of_z at w in
-    let h = c.requires in
+    let a = c.less.ensures in let b = c.less-2.ensures in let a' = simp to_z-of_z at a in
+    let b' = simp to_z-of_z at b in let e = b' ∙ ap (λ (t : ℤ). t -ℤ c.args.f *ℤ c.args.l) a' in
+    let w = c.split.ensures.within in let w' = simp to_z-of_z at w in let h = c.requires in
     λ n i j k.
     w' (2 * n)
     (subst (λ (t : ℤ). unsigned_abs t ≤ 2 * n * unsigned_abs c.args.m) (sym e)

@@ -1,8 +1,7 @@
 -- Of `insert_rows`: what its calls require; what it ensures.
-use Rattle.std.proofs.{Common.FitsSigned, lemmas.Int.to_z-of_z}
-use Rattle.std.specs.Int.{w128}
+use Rattle.std.{proofs.Common.FitsSigned, proofs.lemmas.Int.to_z-of_z, specs.Int.w128}
 use Rattle.vecdim.proofs.Boxes.{fits_within, at_most, up_to, boxed_fits, boxed_first, boxed_second, boxed_third, boxed_rests, boxed_left, boxed_front}
-use Rattle.vecdim.proofs.Assembling.{assemble}
+use Rattle.vecdim.proofs.Inserting.{assemble}
 use Rattle.vecdim.proofs.insertion.insert_rows.Goals as goal
 
 pub modulo-x-requires : goal.modulo-x-requires
@@ -16,14 +15,12 @@ modulo-z-requires c = let m = c.ranges.m in record { m = simp to_z-of_z c.requir
 
 pub column-one-requires : goal.column-one-requires
 column-one-requires c =
-    let k = c.requires.kept in let m = c.ranges.m in
-    let s = boxed_fits k.m_to (boxed_first k) in
+    let k = c.requires.kept in let m = c.ranges.m in let s = boxed_fits k.m_to (boxed_first k) in
     let sa = s.x in let sb = s.y in let sc = s.z in
     let rx : FitsSigned w128 c.modulo-x.result = record { sfits = c.modulo-x.type_inv } in
     let ry : FitsSigned w128 c.modulo-y.result = record { sfits = c.modulo-y.type_inv } in
     let rz : FitsSigned w128 c.modulo-z.result = record { sfits = c.modulo-z.type_inv } in
-    let x = simp to_z-of_z at c.modulo-x.ensures.to in
-    let y = simp to_z-of_z at c.modulo-y.ensures.to in
+    let x = simp to_z-of_z at c.modulo-x.ensures.to in let y = simp to_z-of_z at c.modulo-y.ensures.to in
     let z = simp to_z-of_z at c.modulo-z.ensures.to in
     record {
       m = simp to_z-of_z k.m_from;
@@ -35,10 +32,8 @@ column-one-requires c =
 
 pub column-two-requires : goal.column-two-requires
 column-two-requires c =
-    let k = c.requires.kept in let m = c.ranges.m in
-    let s = boxed_fits k.m_to (boxed_second k) in
-    let se = s.x in let sf = s.y in
-    let w = simp to_z-of_z at c.column-one.ensures.lower in
+    let k = c.requires.kept in let m = c.ranges.m in let s = boxed_fits k.m_to (boxed_second k) in
+    let se = s.x in let sf = s.y in let w = simp to_z-of_z at c.column-one.ensures.lower in
     let g = boxed_fits k.m_to w in
     let gy : FitsSigned w128 c.column-one.result.lower.y = g.y in let gz : FitsSigned w128 c.column-one.result.lower.z = g.z in
     record {
@@ -51,11 +46,8 @@ column-two-requires c =
 
 pub column-three-requires : goal.column-three-requires
 column-three-requires c =
-    let k = c.requires.kept in let m = c.ranges.m in
-    let s = boxed_fits k.m_to (boxed_third k) in
-    let si = s.x in
-    let w = simp to_z-of_z at c.column-two.ensures.lower in
-    let g = boxed_fits k.m_to w in
+    let k = c.requires.kept in let m = c.ranges.m in let s = boxed_fits k.m_to (boxed_third k) in
+    let si = s.x in let w = simp to_z-of_z at c.column-two.ensures.lower in let g = boxed_fits k.m_to w in
     let gy : FitsSigned w128 c.column-two.result.lower.y = g.y in
     record {
       m = simp to_z-of_z k.m_from;
@@ -67,36 +59,28 @@ column-three-requires c =
 
 pub modulo-f-requires : goal.modulo-f-requires
 modulo-f-requires c =
-    let m = c.ranges.m in
-    let u = simp to_z-of_z at c.column-three.ensures.upper in
+    let m = c.ranges.m in let u = simp to_z-of_z at c.column-three.ensures.upper in
     let f = boxed_fits c.requires.kept.m_to u in
     let fx : FitsSigned w128 c.column-three.result.upper.x = f.x in
     record { m = simp to_z-of_z c.column-three.ensures.pivot }
 
 pub divide-parts-requires : goal.divide-parts-requires
 divide-parts-requires c =
-    let k = c.requires.kept in let m = c.ranges.m in
-    let u = simp to_z-of_z at c.column-one.ensures.upper in
-    let v = simp to_z-of_z at c.column-two.ensures.upper in
-    let f = boxed_fits k.m_to u in
-    let g = boxed_fits k.m_to v in
-    let fy : FitsSigned w128 c.column-one.result.upper.y = f.y in
+    let k = c.requires.kept in let m = c.ranges.m in let u = simp to_z-of_z at c.column-one.ensures.upper in
+    let v = simp to_z-of_z at c.column-two.ensures.upper in let f = boxed_fits k.m_to u in
+    let g = boxed_fits k.m_to v in let fy : FitsSigned w128 c.column-one.result.upper.y = f.y in
     let gx : FitsSigned w128 c.column-two.result.upper.x = g.x in
     record { a_from = simp to_z-of_z u.y_from; b_from = simp to_z-of_z c.column-two.ensures.pivot }
 
 pub less_times-c1-requires : goal.less_times-c1-requires
 less_times-c1-requires c =
-    let k = c.requires.kept in let m = c.ranges.m in
-    let u = simp to_z-of_z at c.column-one.ensures.upper in
-    let v = simp to_z-of_z at c.column-three.ensures.upper in
-    let f = boxed_fits k.m_to u in
-    let g = boxed_fits k.m_to v in
-    let fy : FitsSigned w128 c.column-one.result.upper.y = f.y in
+    let k = c.requires.kept in let m = c.ranges.m in let u = simp to_z-of_z at c.column-one.ensures.upper in
+    let v = simp to_z-of_z at c.column-three.ensures.upper in let f = boxed_fits k.m_to u in
+    let g = boxed_fits k.m_to v in let fy : FitsSigned w128 c.column-one.result.upper.y = f.y in
     let fz : FitsSigned w128 c.column-one.result.upper.z = f.z in
     let gx : FitsSigned w128 c.column-three.result.upper.x = g.x in
     let rf : FitsSigned w128 c.modulo-f.result = record { sfits = c.modulo-f.type_inv } in
-    let t = simp to_z-of_z at c.modulo-f.ensures.to in
-    let d = simp to_z-of_z at c.divide-parts.ensures.to in
+    let t = simp to_z-of_z at c.modulo-f.ensures.to in let d = simp to_z-of_z at c.divide-parts.ensures.to in
     let to = up_to _ _ _ d (at_most _ _ u.y_to) in
     let fq : FitsSigned w128 c.divide-parts.result.quotient = fits_within c.divide-parts.result.quotient _ k.m_to c.divide-parts.ensures.from to in
     record {
@@ -112,8 +96,7 @@ less_times-c1-requires c =
 
 pub modulo-c-requires : goal.modulo-c-requires
 modulo-c-requires c =
-    let m = c.ranges.m in
-    let u = simp to_z-of_z at c.column-three.ensures.upper in
+    let m = c.ranges.m in let u = simp to_z-of_z at c.column-three.ensures.upper in
     let f = boxed_fits c.requires.kept.m_to u in
     let fx : FitsSigned w128 c.column-three.result.upper.x = f.x in
     record { m = simp to_z-of_z c.column-three.ensures.pivot }
@@ -136,8 +119,7 @@ returns c =
     let u2' = simp to_z-of_z at u2 in let w2' = simp to_z-of_z at w2 in
     let u3' = simp to_z-of_z at u3 in let w3' = simp to_z-of_z at w3 in
     let f1 = boxed_fits k.m_to u1' in let g1 = boxed_fits k.m_to w1' in
-    let f2 = boxed_fits k.m_to u2' in let g2 = boxed_fits k.m_to w2' in
-    let f3 = boxed_fits k.m_to u3' in
+    let f2 = boxed_fits k.m_to u2' in let g2 = boxed_fits k.m_to w2' in let f3 = boxed_fits k.m_to u3' in
     let f1x : FitsSigned w128 c.column-one.result.upper.x = f1.x in let f1y : FitsSigned w128 c.column-one.result.upper.y = f1.y in
     let f1z : FitsSigned w128 c.column-one.result.upper.z = f1.z in
     let g1y : FitsSigned w128 c.column-one.result.lower.y = g1.y in let g1z : FitsSigned w128 c.column-one.result.lower.z = g1.z in
@@ -145,8 +127,7 @@ returns c =
     let g2y : FitsSigned w128 c.column-two.result.lower.y = g2.y in
     let f3x : FitsSigned w128 c.column-three.result.upper.x = f3.x in
     let vx = c.ranges.vx in let vy = c.ranges.vy in let vz = c.ranges.vz in let d = c.divide-parts.ensures in
-    let d1 = d.to in let d1' = simp to_z-of_z at d1 in
-    let d2 = d.rest_to in let d2' = simp to_z-of_z at d2 in
+    let d1 = d.to in let d1' = simp to_z-of_z at d1 in let d2 = d.rest_to in let d2' = simp to_z-of_z at d2 in
     let d3 = d.rest in let d3' = simp to_z-of_z at d3 in
     let fq : FitsSigned w128 c.divide-parts.result.quotient = fits_within c.divide-parts.result.quotient _ k.m_to d.from
     (up_to _ _ _ d1' (at_most _ _ u1'.y_to)) in

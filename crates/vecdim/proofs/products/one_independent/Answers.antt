@@ -1,5 +1,5 @@
-use Rattle.integers.proofs.vectors.FewVectors.{one_vector}
-use Rattle.vecdim.proofs.Deciding.{not_decides, through}
+use Rattle.integers.proofs.vectors.Independence.{one_vector}
+use Rattle.vecdim.proofs.Dividing.{not_decides, through}
 use Rattle.vecdim.proofs.products.one_independent.Goals as goal
 
 pub returns : goal.returns

@@ -1,6 +1,5 @@
 use Rattle.std.proofs.Common.{◌≡◌, ◌≤◌, ◌*◌, ◌^◌, ◌∙◌, ℤ, FitsSigned, unsigned_abs, subst, sym, arith}
-use Rattle.std.proofs.lemmas.Int.{to_z-of_z}
-use Rattle.std.specs.Int.{w128}
+use Rattle.std.{proofs.lemmas.Int.to_z-of_z, specs.Int.w128}
 use Rattle.integers.specs.Vectors.{dot, triple_product}
 use Rattle.integers.proofs.vectors.{Bounds.bounded_triple, Bounds.wider, Laws.dot_cross}
 use Rattle.vecdim.proofs.products.product_of_three.Goals as goal
@@ -15,8 +14,7 @@ is_product c = c.dot.ensures.value ∙ (λ i. dot (c.cross.ensures.value i) c.ar
 
 pub returns-clause-value : goal.returns-clause-value
 returns-clause-value c =
-    let r : FitsSigned w128 c.dot.result = record { sfits = c.dot.type_inv } in
-    simp to_z-of_z (is_product c)
+    let r : FitsSigned w128 c.dot.result = record { sfits = c.dot.type_inv } in simp to_z-of_z (is_product c)
 
 pub returns-clause-within : goal.returns-clause-within
 returns-clause-within c =

@@ -1,8 +1,6 @@
 use Rattle.std.proofs.Common.{◌^◌, ◌∙◌, FitsSigned, subst, sym, arith}
-use Rattle.std.specs.Int.{w128}
-use Rattle.std.proofs.lemmas.Int.{to_z-of_z}
-use Rattle.integers.specs.Vectors.{triple_product, IsWithin}
-use Rattle.integers.proofs.vectors.Bounds.{wider}
+use Rattle.std.{specs.Int.w128, proofs.lemmas.Int.to_z-of_z}
+use Rattle.integers.{specs.Vectors.triple_product, specs.Vectors.IsWithin, proofs.vectors.Bounds.wider}
 use Rattle.vecdim.proofs.products.product_of_vectors.Goals as goal
 
 pub product_of_three-requires : goal.product_of_three-requires

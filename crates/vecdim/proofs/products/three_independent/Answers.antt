@@ -1,8 +1,7 @@
 use Rattle.std.proofs.Common.{◌↔◌, ◌≢◌, ℤ, pos, subst}
-use Rattle.std.proofs.lemmas.Int.{to_z-of_z}
-use Rattle.std.specs.{Prelude.FitsSigned, Prelude.IsTrue, Int.w128}
-use Rattle.integers.proofs.vectors.FewVectors.{three_vectors}
-use Rattle.vecdim.proofs.Deciding.{through}
+use Rattle.std.{proofs.lemmas.Int.to_z-of_z, specs.Prelude.FitsSigned, specs.Prelude.IsTrue, specs.Int.w128}
+use Rattle.integers.proofs.vectors.Independence.{three_vectors}
+use Rattle.vecdim.proofs.Dividing.{through}
 use Rattle.vecdim.proofs.products.three_independent.Goals as goal
 
 pub returns : goal.returns

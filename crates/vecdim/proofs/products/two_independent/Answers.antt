@@ -1,8 +1,6 @@
-use Rattle.std.proofs.Common.{◌↔◌, ◌≢◌, ◌∙◌, subst}
-use Rattle.std.specs.Prelude.{IsTrue, not}
-use Rattle.integers.specs.Vectors.{Vector, zero_vector, cross}
-use Rattle.integers.proofs.vectors.FewVectors.{two_vectors}
-use Rattle.vecdim.proofs.Deciding.{not_decides, through}
+use Rattle.std.{proofs.Common.◌↔◌, proofs.Common.◌≢◌, proofs.Common.◌∙◌, proofs.Common.subst, specs.Prelude.IsTrue, specs.Prelude.not}
+use Rattle.integers.{specs.Vectors.Vector, specs.Vectors.zero_vector, specs.Vectors.cross, proofs.vectors.Independence.two_vectors}
+use Rattle.vecdim.proofs.Dividing.{not_decides, through}
 use Rattle.vecdim.proofs.products.two_independent.Goals as goal
 
 pub returns : goal.returns

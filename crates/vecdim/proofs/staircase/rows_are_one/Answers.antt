@@ -1,5 +1,5 @@
 use Rattle.std.specs.Prelude.{IsTrue}
-use Rattle.integers.proofs.vectors.OneStaircase.{one_staircase}
+use Rattle.integers.proofs.vectors.StairBasis.{one_staircase}
 use Rattle.vecdim.proofs.staircase.rows_are_one.Goals as goal
 
 pub returns : goal.returns

@@ -1,10 +1,8 @@
 use Rattle.std.proofs.Common.{rules, ◌≡◌, [], ◌∷◌, pos, sym, to_z, ◌∙◌}
-use Rattle.std.proofs.lemmas.Int.{to_z-of_z}
-use Rattle.std.specs.{Prelude.cond, Prelude.◌==◌, Int.w128}
+use Rattle.std.{proofs.lemmas.Int.to_z-of_z, specs.Prelude.cond, specs.Prelude.◌==◌, specs.Int.w128}
 use Rattle.integers.specs.Vectors.{vector}
-use Rattle.vecdim.proofs.Starting.{flat_last, full_last}
 use Rattle.vecdim.proofs.Boxes.{boxed_fits, boxed_first, boxed_second, boxed_third, first_small, second_small}
-use Rattle.vecdim.proofs.staircase.with_list.Goals.{then-this-eq2, else-this-eq2}
+use Rattle.vecdim.proofs.{Starting.flat_last, Starting.full_last, staircase.with_list.Goals.then-this-eq2, staircase.with_list.Goals.else-this-eq2}
 use Rattle.vecdim.proofs.staircase.with_list.Goals as goal
 
 pub invariant_of-result : goal.invariant_of-result
@@ -15,11 +13,9 @@ invariant_of-result-2 g c = let w = second_small c.requires.kept in (search rule
 
 pub invariant_of-result-4 : goal.invariant_of-result-4
 invariant_of-result-4 g c =
-    let k = c.requires.kept in
-    let f = boxed_fits k.m_to (boxed_first k) in
+    let k = c.requires.kept in let f = boxed_fits k.m_to (boxed_first k) in
     let fa = f.x in let fb = f.y in let fc = f.z in
-    let s = boxed_fits k.m_to (boxed_second k) in
-    let fe = s.x in let ff = s.y in
+    let s = boxed_fits k.m_to (boxed_second k) in let fe = s.x in let ff = s.y in
     let t = boxed_fits k.m_to (boxed_third k) in
     let fi = t.x in let fm = c.ranges.bound in let i = c.args.rows.i in
     let last : to_z w128 c.if-this-eq2.last-bits ≡ cond (g.row.D == 2) (pos 0) i =

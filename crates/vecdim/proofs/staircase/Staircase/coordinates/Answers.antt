@@ -1,4 +1,4 @@
-use Rattle.vecdim.proofs.Spanning.{coordinates_are}
+use Rattle.vecdim.proofs.Stairway.{coordinates_are}
 use Rattle.vecdim.proofs.staircase.Staircase.coordinates.Goals as goal
 
 pub returns-clause-value : goal.returns-clause-value

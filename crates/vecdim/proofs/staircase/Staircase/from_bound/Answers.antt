@@ -1,6 +1,5 @@
 -- Of `from_bound`: what it ensures; what `with_list` requires.
-use Rattle.std.proofs.Common.{arith, subst, sym}
-use Rattle.std.proofs.lemmas.Int.{to_z-of_z}
+use Rattle.std.proofs.{Common.arith, Common.subst, Common.sym, lemmas.Int.to_z-of_z}
 use Rattle.vecdim.proofs.Starting.{start_one, start_same, flat_start, positive, flat_multiples, start_multiples}
 use Rattle.vecdim.proofs.staircase.Staircase.from_bound.Goals.{then-this-eq2, else-this-eq2}
 use Rattle.vecdim.specs.{Stairs.Stairs, Lattices.Members, Lattices.AreMultiples}
@@ -31,8 +30,7 @@ with_list-requires g c =
 
 pub returns : goal.returns
 returns g c =
-    let b = c.ranges.b in let e = c.with_list.ensures in
-    let f = simp to_z-of_z at e in
+    let b = c.ranges.b in let e = c.with_list.ensures in let f = simp to_z-of_z at e in
     subst (λ (S : Stairs). AreMultiples g.row.D c.args.b (Members g.row.D S)) (sym f)
     (elim c.if-this-eq2.branch [
       | then-this-eq2 w ↦ flat_multiples g.row.D c.args.b _ w.if-this-eq2.true w.last-is

@@ -1,8 +1,7 @@
 use Rattle.std.proofs.Common.{sym, subst, ap, List, ◌∷◌, drop, ◌+◌, ◌∙◌}
 use Rattle.std.proofs.lemmas.List.{drop_more, drop_all}
 use Rattle.integers.specs.Vectors.{Vector}
-use Rattle.vecdim.specs.Lattices.{Members, IsWith}
-use Rattle.vecdim.proofs.Adding.{with_more, with_nothing}
+use Rattle.vecdim.{specs.Lattices.Members, specs.Lattices.IsWith, proofs.Adding.with_more, proofs.Adding.with_nothing}
 use Rattle.vecdim.proofs.staircase.Staircase.insert_all.Goals as goal
 
 pub loop-v-preserved : goal.loop-v-preserved

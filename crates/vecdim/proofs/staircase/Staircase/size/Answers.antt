@@ -1,5 +1,5 @@
 use Rattle.std.proofs.Common.{rules}
-use Rattle.vecdim.proofs.Whole.{two_fit, size_fits, size_is}
+use Rattle.vecdim.proofs.Adding.{two_fit, size_fits, size_is}
 use Rattle.vecdim.proofs.staircase.Staircase.size.Goals as goal
 
 pub overflow_mul-result : goal.overflow_mul-result

@@ -1,8 +1,7 @@
 use Rattle.std.proofs.Common.{◌≤◌, ℕ, ℤ, ◌^◌, sym, subst, arith}
-use Rattle.std.specs.Prelude.{unsigned_abs}
-use Rattle.std.proofs.lemmas.Int.{to_z-of_z}
+use Rattle.std.{specs.Prelude.unsigned_abs, proofs.lemmas.Int.to_z-of_z}
 use Rattle.integers.proofs.vectors.Bounds.{abs_negative, fits_from_bound}
-use Rattle.vecdim.proofs.SignedQuotients.{opposite_divides, opposite_back}
+use Rattle.vecdim.proofs.Dividing.{opposite_divides, opposite_back}
 use Rattle.vecdim.proofs.vectors.Triple.divided_by.Goals as goal
 
 pub returns-then-g-gt0-clause-within : goal.returns-then-g-gt0-clause-within

@@ -1,7 +1,6 @@
 use Rattle.std.proofs.Common.{rules, ◌≡◌, ◌*◌, to_z, of_z, sym, subst}
 use Rattle.std.specs.Int.{w128}
-use Rattle.integers.specs.Vectors.{vector, times, IsWithin}
-use Rattle.integers.proofs.vectors.Bounds.{bounded_times}
+use Rattle.integers.{specs.Vectors.vector, specs.Vectors.times, specs.Vectors.IsWithin, proofs.vectors.Bounds.bounded_times}
 use Rattle.vecdim.proofs.vectors.Triple.times.Goals as goal
 
 pub returns-clause-within : goal.returns-clause-within

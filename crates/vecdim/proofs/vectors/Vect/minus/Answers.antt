@@ -1,6 +1,5 @@
 use Rattle.std.proofs.Common.{rules, ◌≡◌, ◌+◌, sym, subst}
-use Rattle.integers.specs.Vectors.{minus, IsWithin}
-use Rattle.integers.proofs.vectors.Bounds.{bounded_minus}
+use Rattle.integers.{specs.Vectors.minus, specs.Vectors.IsWithin, proofs.vectors.Bounds.bounded_minus}
 use Rattle.vecdim.proofs.vectors.Vect.minus.Goals as goal
 
 pub returns-clause-within : goal.returns-clause-within
