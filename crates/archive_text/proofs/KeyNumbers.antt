@@ -1,13 +1,149 @@
--- The numbers of the entries with a key.
-use Rattle.std.proofs.Common.{◌≡◌, ℕ, suc, ℤ, ◌+◌, ◌==◌, ◌<◌, ◌≤◌, Bool, true, false, cond, List, [], ◌∷◌, length, map, filter, slice_get, Option, Some}
-use Rattle.std.proofs.Common.{true≢false, refl, ap, sym, ◌∙◌, subst, eq-eqb, arith, get_or, ◌⊎◌, ⊎_elim, zero, ◌++◌, Contains, AllPairs, Vec}
-use Rattle.std.proofs.lemmas.List.Elements.{Contains-append_left, Contains-append_cases, Contains-get_or, Contains-push}
-use Rattle.std.proofs.lemmas.{Option.slice_get-map, Option.slice_get-get_or, List.length-map, List.map-append, List.Quantifiers.all_pairs_push}
-use Rattle.std.specs.{List.enumerate_from, Option.option_map, declared.alloc.Global.Global}
+-- The places in a list that gets one number more. What is found through fingerprints is what there is. The numbers of the entries with a key. Lists of
+-- numbers of 32 bits.
+use Rattle.std.proofs.Common.{◌≡◌, ◌≢◌, ⊎_elim, ℕ, suc, ◌+◌, ◌==◌, cond, List, [], ◌∷◌, ◌++◌, length, map, nat_eq, refl, ap, sym, ◌∙◌, subst, eq-eqb, arith}
+use Rattle.std.proofs.Common.{Vec, ◌-◌, take, Option, None, Some, IfNone, ◌<◌, ◌||◌, Bool, true, false, filter, slice_get, true≢false, ◌↔◌, ℤ, IsTrue}
+use Rattle.std.proofs.Common.{Contains, ◌≤◌, get_or, ◌⊎◌, zero, AllPairs, pos, All, drop}
+use Rattle.std.proofs.lemmas.List.{take_rest, map-append, append-nil, length_push, length-map}
+use Rattle.std.proofs.lemmas.List.Elements.{All-head, All-tail, All-push, filter-append, Contains-append_left, Contains-append_cases, Contains-get_or}
+use Rattle.std.proofs.lemmas.List.Elements.{Contains-push}
+use Rattle.std.specs.List.{enumerate_from, cons_option, filter_map, list_any}
+use Rattle.std.proofs.lemmas.Map.Views.{list_any-from_Contains, Contains-from_any, any-filter_same}
+use Rattle.std.{proofs.lemmas.Bool.cases_eq, proofs.lemmas.Bool.ne_eqb, proofs.lemmas.List.Quantifiers.all_pairs_push, proofs.lemmas.Grind.common_steps}
+use Rattle.std.{proofs.lemmas.Cmp.nat_list_eq_equiv, proofs.lemmas.Slice.Eq.bytes_eq-Decides, specs.declared.alloc.Global.Global, specs.Str.bytes_eq}
+use Rattle.std.{specs.Option.option_to_list, specs.Option.option_map, proofs.lemmas.Option.slice_get-map, proofs.lemmas.Option.slice_get-get_or}
+use Rattle.indexmap.specs.IndexMap.{IndexMap, get}
+use mathlib.Core.List.{append_assoc}
+use Rattle.line_text.specs.Lines.{Place, IsAt}
+use Rattle.archive_text.specs.Places.{places_of, listed, ArePlaces, without_last}
+use Rattle.archive_text.specs.Lookups.{same_key, names_of, names_with, entries_at, AreIndexed}
 use Rattle.archive_text.specs.Entries.{EntryView, entry_view, entry_views}
 use Rattle.archive_text.specs.Groups.{numbers_from, numbers_with, numbers_at, is_keyed, IsGroupFrom, first_of, IsGroup, AreGroups, numbers_in}
-use Rattle.archive_text.specs.{Places.places_of, Fingerprints.key_print, Lookups.same_key, Lookups.AreIndexed, declared.entry.Entry.Entry}
-use Rattle.archive_text.proofs.Looking.{same_numbers}
+use Rattle.archive_text.specs.Rows.{shells_numbers, shells_row, row_lines}
+use Rattle.archive_text.specs.Reading.{NoShells, AreShellsTo, shells_lines}
+use Rattle.archive_text.{proofs.Regrouping.filter_within, proofs.Regrouping.same_keys, specs.Fingerprints.name_print, specs.Fingerprints.key_print}
+use Rattle.archive_text.{specs.declared.entry.Entry.Entry, specs.Parts.shells_rows, specs.Forms.IsShort, specs.Forms.AreSizes}
+
+-- the last number has the last place
+enumerate_push : (n : ℕ) (xs : List ℕ) (y : ℕ) → enumerate_from n (xs ++ y ∷ []) ≡ enumerate_from n xs ++ (n + length xs, y) ∷ []
+enumerate_push n [] y = let e : n ≡ n + 0 = omega arith in ap (λ k. (k, y) ∷ []) e
+enumerate_push n (x ∷ xs) y =
+    let e : n + 1 + length xs ≡ n + suc (length xs) = omega arith in
+    ap (λ ps. (n, x) ∷ ps) (enumerate_push (n + 1) xs y ∙ ap (λ k. enumerate_from (n + 1) xs ++ (k, y) ∷ []) e)
+
+-- the place of the last number is one more, where that is x
+places_split : (xs : List ℕ) (y x : ℕ) → places_of (xs ++ y ∷ []) x ≡ places_of xs x ++ map (λ (p : ℕ × ℕ). p.0) (cond (y == x) ((0 + length xs, y) ∷ []) [])
+places_split xs y x = rw (enumerate_push 0 xs y, filter-append, map-append) refl
+
+places_here : (xs : List ℕ) (y : ℕ) → places_of (xs ++ y ∷ []) y ≡ places_of xs y ++ length xs ∷ []
+places_here xs y =
+    places_split xs y y ∙ ap (λ b. places_of xs y ++ map (λ (p : ℕ × ℕ). p.0) (cond b ((0 + length xs, y) ∷ []) [])) (eq-eqb y y refl)
+    ∙ (let e : 0 + length xs ≡ length xs = omega arith in ap (λ k. places_of xs y ++ k ∷ []) e)
+
+places_other : (xs : List ℕ) (y x : ℕ) → x ≢ y → places_of (xs ++ y ∷ []) x ≡ places_of xs x
+places_other xs y x ne =
+    places_split xs y x ∙ ap (λ b. places_of xs x ++ map (λ (p : ℕ × ℕ). p.0) (cond b ((0 + length xs, y) ∷ []) [])) (ne_eqb y x (λ e. ne (sym e)))
+    ∙ append-nil (places_of xs x)
+
+-- after a number is put last, its places and those of the others are kept
+pub places_kept : {S : Type 0} (xs ys : List ℕ) (m n : IndexMap ℕ (Vec ℕ Global) S) (y place : ℕ) → ys ≡ xs ++ y ∷ [] → place ≡ length xs → ArePlaces xs m
+    → listed (get nat_eq n y) ≡ listed (get nat_eq m y) ++ place ∷ [] → ((v : ℕ) → v ≢ y → get nat_eq n v ≡ get nat_eq m v) → ArePlaces ys n
+places_kept xs ys m n y place e l kept put others x =
+    let at : places_of ys x ≡ places_of (xs ++ y ∷ []) x = ap (λ zs. places_of zs x) e in
+    ⊎_elim
+    (λ (same : x ≡ y).
+    let here : listed (get nat_eq n y) ≡ places_of (xs ++ y ∷ []) y =
+    put ∙ (λ i. kept y i ++ l i ∷ []) ∙ sym (places_here xs y) in
+    subst (λ v. listed (get nat_eq n v) ≡ places_of (xs ++ y ∷ []) v) (sym same) here ∙ sym at)
+    (λ (ne : x ≢ y). ap listed (others x ne) ∙ kept x ∙ sym (places_other xs y x ne) ∙ sym at)
+    (cases_eq x y)
+
+-- a list without the number that was put last
+last_gone : (xs : List ℕ) (y : ℕ) → without_last (xs ++ y ∷ []) ≡ xs
+last_gone xs y = grind (arith, common_steps)
+
+-- after the last number is taken away, its places and those of the others are kept
+pub places_left : {S : Type 0} (xs ys : List ℕ) (m n : IndexMap ℕ (Vec ℕ Global) S) (y : ℕ) → ys ≡ xs ++ y ∷ [] → ArePlaces ys m
+    → listed (get nat_eq n y) ≡ without_last (listed (get nat_eq m y)) → ((v : ℕ) → v ≢ y → get nat_eq n v ≡ get nat_eq m v) → ArePlaces xs n
+places_left xs ys m n y e kept dropped others x =
+    let was : (v : ℕ) → listed (get nat_eq m v) ≡ places_of (xs ++ y ∷ []) v = λ v. kept v ∙ ap (λ zs. places_of zs v) e in
+    ⊎_elim
+    (λ (same : x ≡ y).
+    let here : listed (get nat_eq n y) ≡ places_of xs y =
+    dropped ∙ ap without_last (was y ∙ places_here xs y) ∙ last_gone (places_of xs y) (length xs) in
+    subst (λ v. listed (get nat_eq n v) ≡ places_of xs v) (sym same) here)
+    (λ (ne : x ≢ y). ap listed (others x ne) ∙ was x ∙ places_other xs y x ne)
+    (cases_eq x y)
+
+-- A number that was put last and is taken away.
+
+before_last : (xs : List ℕ) (y : ℕ) → take (length (xs ++ y ∷ []) - 1) (xs ++ y ∷ []) ≡ xs
+before_last xs y = grind (arith, common_steps)
+
+-- the list is as it was
+pub undone : (xs ys zs : List ℕ) (y : ℕ) (r : Option ℕ) → ys ≡ xs ++ y ∷ [] → ys ≡ zs ++ option_to_list r → IfNone r (zs ≡ []) → zs ≡ xs
+undone xs ys zs y None put popped none =
+    let here : length ys ≡ length xs + 1 = ap length put ∙ length_push xs y in
+    let there : length ys ≡ 0 = ap length (popped ∙ append-nil zs ∙ none) in
+    absurd (omega (arith, here, there))
+undone xs ys zs y (Some z) put popped none =
+    sym (before_last zs z) ∙ ap (λ ws. take (length ws - 1) ws) (sym popped ∙ put) ∙ before_last xs y
+
+-- What stands at the places of a number in a list of fingerprints.
+
+module _ {X : Type 0} (f : X → ℕ) (x : ℕ) where
+  -- the elements at the places, where at gives those from place n on
+  at_from : (n : ℕ) (es : List X) (at : ℕ → Option X) → ((k : ℕ) → k < length es → at (n + k) ≡ slice_get es k)
+      → filter_map at (map (λ (p : ℕ × ℕ). p.0) (filter (λ (p : ℕ × ℕ). p.1 == x) (enumerate_from n (map f es)))) ≡ filter (λ e. f e == x) es
+  at_from n [] at h = refl
+  at_from n (e ∷ es) at h =
+      let first : at n ≡ Some e = ap at (let q : n ≡ n + 0 = omega arith in q) ∙ h 0 (omega arith) in
+      let rest = at_from (n + 1) es at (λ k l. ap at (let q : n + 1 + k ≡ n + suc k = omega arith in q) ∙ h (suc k) (omega arith)) in
+      by (f e == x) first rest
+    where
+      by : (b : Bool) → at n ≡ Some e
+          → filter_map at (map (λ (p : ℕ × ℕ). p.0) (filter (λ (p : ℕ × ℕ). p.1 == x) (enumerate_from (n + 1) (map f es)))) ≡ filter (λ e. f e == x) es
+          → filter_map at (map (λ (p : ℕ × ℕ). p.0) (cond b ((n, f e) ∷ filter (λ (p : ℕ × ℕ). p.1 == x) (enumerate_from (n + 1) (map f es)))
+          (filter (λ (p : ℕ × ℕ). p.1 == x) (enumerate_from (n + 1) (map f es))))) ≡ cond b (e ∷ filter (λ e. f e == x) es) (filter (λ e. f e == x) es)
+      by true first rest = λ i. cons_option (first i) (rest i)
+      by false first rest = rest
+
+  -- the elements at the places of x are those whose number is x
+  pub at_places : (es : List X) → filter_map (slice_get es) (places_of (map f es) x) ≡ filter (λ e. f e == x) es
+  at_places es = at_from 0 es (slice_get es) (λ k l. ap (slice_get es) (let q : 0 + k ≡ k = omega arith in q))
+
+any_named : (t : List ℕ → Bool) (es : List EntryView) → list_any t (names_of es) ≡ list_any (λ (e : EntryView). t e.name) es
+any_named t [] = refl
+any_named t (e ∷ es) = ap (λ b. t e.name || b) (any_named t es)
+
+module _ (es : List EntryView) where
+  -- a name is among all entries where it is among those with its fingerprint
+  pub name_found : (name places names : List ℕ) → names ≡ map (λ (e : EntryView). name_print e.name) es → places ≡ places_of names (name_print name)
+      → list_any (bytes_eq name) (names_of (entries_at es places)) ≡ list_any (bytes_eq name) (names_of es)
+  name_found name places names i h =
+      let f : EntryView → ℕ = λ e. name_print e.name in
+      let p : EntryView → Bool = λ e. f e == name_print name in
+      let q : EntryView → Bool = λ e. bytes_eq name e.name in
+      let here = ap (entries_at es) (h ∙ ap (λ ns. places_of ns (name_print name)) i) ∙ at_places f (name_print name) es in
+      let finer : (e : EntryView) → q e ≡ true → p e ≡ true = λ e g. eq-eqb (f e) (name_print name)
+      (ap name_print (sym ((bytes_eq-Decides name e.name).0 g))) in
+      any_named (bytes_eq name) (entries_at es places) ∙ ap (list_any q) here ∙ any-filter_same q p true finer es ∙ sym (any_named (bytes_eq name) es)
+
+  -- so are the entries with a key
+  pub keys_found : (key : List ℤ) (places keys : List ℕ) → keys ≡ map (λ (e : EntryView). key_print e.key) es → places ≡ places_of keys (key_print key)
+      → names_with key (entries_at es places) ≡ names_with key es
+  keys_found key places keys i h =
+      let f : EntryView → ℕ = λ e. key_print e.key in let p : EntryView → Bool = λ e. f e == key_print key in
+      let q : EntryView → Bool = λ e. same_key e.key key in
+      let here = ap (entries_at es) (h ∙ ap (λ ns. places_of ns (key_print key)) i) ∙ at_places f (key_print key) es in
+      let finer : (e : EntryView) → q e ≡ true → p e ≡ true = λ e g. eq-eqb (f e) (key_print key) (ap key_print (same_keys e.key key g)) in
+      ap names_of (ap (filter q) here ∙ filter_within q p es finer)
+
+  -- the test shows whether the name is there
+  pub name_told : (b : Bool) (name : List ℕ) → b ≡ list_any (bytes_eq name) (names_of es) → IsTrue b ↔ Contains (names_of es) name
+  name_told b name e = (
+    (λ t. Contains-from_any (λ xs ys. (bytes_eq-Decides xs ys).0) name (names_of es) (sym e ∙ t)),
+    (λ c. e ∙ list_any-from_Contains nat_list_eq_equiv name (names_of es) c),
+  )
 
 -- an entry with a key, and its place
 pub record HasKeyAt (entries : List EntryView) (n : ℕ) (key : List ℤ) (m : ℕ) : Type 0 where
@@ -30,10 +166,9 @@ module _ (key : List ℤ) where
           → (slice_get (numbers_from (n + 1) key es) 0 ≡ Some m → HasKeyAt es (n + 1) key m) → HasKeyAt (e ∷ es) n key m
       by true q g rest =
           let here : n ≡ m = cc in
-          record { place = 0; entry = e; stands = refl; inside = omega arith; number = omega (arith, here); same = same_numbers e.key key q }
+          record { place = 0; entry = e; stands = refl; inside = omega arith; number = omega (arith, here); same = same_keys e.key key q }
       by false q g rest =
-          let r = rest g in
-          let inside = r.inside in let number = r.number in
+          let r = rest g in let inside = r.inside in let number = r.number in
           record { place = suc r.place; entry = r.entry; stands = r.stands; inside = omega (arith, inside); number = omega (arith, number); same = r.same }
 
   module _ (x : ℕ) where
@@ -42,7 +177,7 @@ module _ (key : List ℤ) where
     other_key e hx h = by (same_key e.key key) refl
       where
         by : (b : Bool) → same_key e.key key ≡ b → b ≡ false
-        by true g = absurd (true≢false (sym (eq-eqb (key_print e.key) x (ap key_print (same_numbers e.key key g) ∙ sym hx)) ∙ h))
+        by true g = absurd (true≢false (sym (eq-eqb (key_print e.key) x (ap key_print (same_keys e.key key g) ∙ sym hx)) ∙ h))
         by false g = refl
 
     -- the pairs of an entry and those after it
@@ -97,8 +232,7 @@ group_begins es n g h =
 pub only_group : (es : List EntryView) (place : ℕ) (e : EntryView) → slice_get es place ≡ Some e → (g : List ℕ) → IsGroupFrom es (place + 1) g
     → g ≡ numbers_with e.key es
 only_group es place e at g h =
-    let b = group_begins es (place + 1) g h in
-    let number = b.number in
+    let b = group_begins es (place + 1) g h in let number = b.number in
     let there : b.place ≡ place = omega (arith, number) in
     let stands : Some b.entry ≡ Some e = sym b.stands ∙ ap (slice_get es) there ∙ at in
     let entry : b.entry ≡ e = cc in
@@ -107,8 +241,7 @@ only_group es place e at g h =
 -- one group begins at a place
 pub one_group : (es : List EntryView) (place : ℕ) (g h : List ℕ) → IsGroupFrom es (place + 1) g → IsGroupFrom es (place + 1) h → g ≡ h
 one_group es place g h a b =
-    let k = group_begins es (place + 1) g a in
-    let number = k.number in
+    let k = group_begins es (place + 1) g a in let number = k.number in
     let there : k.place ≡ place = omega (arith, number) in
     let at : slice_get es place ≡ Some k.entry = ap (slice_get es) (sym there) ∙ k.stands in
     only_group es place k.entry at g a ∙ sym (only_group es place k.entry at h b)
@@ -160,8 +293,7 @@ pub record AreGroupsTo (entries : List EntryView) (n : ℕ) (groups : List (List
 first_inside : (es : List EntryView) (g : List ℕ) → IsGroup es g → (1 ≤ first_of g) × (first_of g ≤ length es)
 first_inside es g h =
     let b = group_begins es (first_of g) g (record { is_group = h; first = refl }) in
-    let number = b.number in let inside = b.inside in
-    (omega (arith, number), omega (arith, number, inside))
+    let number = b.number in let inside = b.inside in (omega (arith, number), omega (arith, number, inside))
 
 -- what is in a list of one is that one
 only_one : (g h : List ℕ) → Contains (g ∷ []) h → h ≡ g
@@ -221,3 +353,66 @@ module _ (es : List EntryView) where
 -- the lists in vectors, where one more vector is put last
 pub one_vector_more : (vs more : List (Vec ℕ Global)) (v : Vec ℕ Global) → more ≡ vs ++ v ∷ [] → numbers_in more ≡ numbers_in vs ++ v.items ∷ []
 one_vector_more vs more v q = ap numbers_in q ∙ map-append (λ (w : Vec ℕ Global). w.items) vs (v ∷ [])
+
+-- a number that stands after some of a list
+pub record IsShortNumber (z : ℤ) : Type 0 where
+  pub value : ℕ
+  pub short : IsShort value
+  pub is : z ≡ pos value
+
+pub number_there : (front : List ℕ) (z : ℤ) (others : List ℤ) (all : List ℕ) → All IsShort all → map pos front ++ z ∷ others ≡ map pos all → IsShortNumber z
+number_there [] z others [] short e = let long = ap length e in absurd (omega (arith, long))
+number_there [] z others (n ∷ ns) short e = record { value = n; short = All-head IsShort n ns short; is = ap (λ l. get_or l 0 z) e }
+number_there (f ∷ fs) z others [] short e = let long = ap length e in absurd (omega (arith, long))
+number_there (f ∷ fs) z others (n ∷ ns) short e = number_there fs z others ns (All-tail IsShort n ns short) (ap (drop 1) e)
+
+after_first : {X : Type 0} (xs : List X) (x d : X) → 1 ≤ length xs → get_or xs 0 d ≡ x → xs ≡ x ∷ take (length xs - 1) (drop 1 xs)
+after_first [] x d some is = absurd (omega (arith, some))
+after_first (y ∷ ys) x d some is = ap (λ z. z ∷ ys) is ∙ ap (λ l. x ∷ l) (sym (take_rest (y ∷ ys) 1))
+
+-- one more number of a list
+pub one_more_number : (sizes new : List ℕ) (left numbers : List ℤ) (size : ℕ) (d : ℤ) → map pos sizes ++ left ≡ numbers → 1 ≤ length left
+    → get_or left 0 d ≡ pos size → new ≡ sizes ++ size ∷ []
+    → map pos new ++ take (length left - 1) (drop 1 left) ≡ numbers
+one_more_number sizes new left numbers size d joined some is put =
+    ap (λ l. map pos l ++ take (length left - 1) (drop 1 left)) put ∙ moved sizes (take (length left - 1) (drop 1 left))
+    ∙ ap (λ l. map pos sizes ++ l) (sym (after_first left (pos size) d some is)) ∙ joined
+  where
+    moved : (xs : List ℕ) (rest : List ℤ) → map pos (xs ++ size ∷ []) ++ rest ≡ map pos xs ++ pos size ∷ rest
+    moved [] rest = refl
+    moved (x ∷ xs) rest = ap (λ l. pos x ∷ l) (moved xs rest)
+
+-- the first number that is left of such a list
+pub first_left : (sizes all : List ℕ) (left numbers : List ℤ) (z d : ℤ) → map pos sizes ++ left ≡ numbers → numbers ≡ map pos all → All IsShort all
+    → 1 ≤ length left → get_or left 0 d ≡ z → IsShortNumber z
+first_left sizes all left numbers z d joined whole short some is =
+    number_there sizes z (take (length left - 1) (drop 1 left)) all short (ap (λ l. map pos sizes ++ l) (sym (after_first left z d some is)) ∙ joined ∙ whole)
+
+-- where no sizes have these numbers, no `shells` row stands there
+pub no_shells : {X : Type 0} (o : Option X) (numbers : List ℤ) (class : ℕ) (left : List ℕ)
+    → ((sizes rest : List ℕ) → AreSizes sizes → left ≡ shells_row class sizes ++ 10 ∷ rest → numbers ≡ shells_numbers class sizes)
+    → ((sizes : List ℕ) → AreSizes sizes → numbers ≡ shells_numbers class sizes → IfNone o ⊥) → IfNone o (NoShells class left)
+no_shells None numbers class left read none = λ sizes rest are e. none sizes are (read sizes rest are e)
+no_shells (Some x) numbers class left read none = tt
+
+-- Shells that are read one by one.
+
+shells_from : (c : ℕ) (lists : List (List ℕ)) (sizes : List ℕ) → row_lines (shells_rows c (lists ++ sizes ∷ [])) ≡ row_lines (shells_rows c lists)
+    ++ shells_row (length lists + c) sizes ∷ []
+shells_from c [] sizes = ap (λ n. shells_row n sizes ∷ []) (omega arith)
+shells_from c (x ∷ xs) sizes = ap (λ l. shells_row c x ∷ l) (shells_from (c + 1) xs sizes
+    ∙ ap (λ n. row_lines (shells_rows (c + 1) xs) ++ shells_row n sizes ∷ []) (omega arith))
+
+shells_pushed : (lists : List (List ℕ)) (sizes : List ℕ) → shells_lines (lists ++ sizes ∷ []) ≡ shells_lines lists ++ shells_row (length lists + 1) sizes ∷ []
+shells_pushed lists sizes = shells_from 1 lists sizes
+
+-- the coordination sequence of one more class is read
+pub one_more_class : (start now after : Place) (lists : List (List ℕ)) (sizes : List ℕ) → AreShellsTo start now lists → AreSizes sizes
+    → ((text : List ℕ) (rows : List (List ℕ)) → IsAt text rows now → IsAt text (rows ++ shells_row (length lists + 1) sizes ∷ []) after)
+    → AreShellsTo start after (lists ++ sizes ∷ [])
+one_more_class start now after lists sizes read are place = record {
+  at = λ text rows at. subst (λ l. IsAt text l after)
+      (append_assoc rows (shells_lines lists) (shells_row (length lists + 1) sizes ∷ []) ∙ ap (λ l. rows ++ l) (sym (shells_pushed lists sizes)))
+      (place text (rows ++ shells_lines lists) (read.at text rows at));
+  each = All-push AreSizes lists sizes read.each are;
+}

@@ -1,4 +1,1 @@
-mod Answered
-mod Lowest
-mod Narrow
 mod Operations

@@ -1,5 +1,5 @@
 use Rattle.barycentre.proofs.lifting_gives_placement.Goals as goal
-use Rattle.barycentre.proofs.TwoStages.{lifting}
+use Rattle.barycentre.proofs.Recovered.{lifting}
 
 pub returns : goal.returns
 returns c = record { theorem = lifting }

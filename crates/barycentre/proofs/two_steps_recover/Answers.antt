@@ -1,5 +1,5 @@
 use Rattle.barycentre.proofs.two_steps_recover.Goals as goal
-use Rattle.barycentre.proofs.TwoStages.{two_steps_recover}
+use Rattle.barycentre.proofs.Recovered.{two_steps_recover}
 
 pub returns : goal.returns
 returns c = record { theorem = two_steps_recover }

@@ -1,6 +1,6 @@
 use Rattle.std.proofs.Common.{◌∙◌, map, ap, Bor}
 use Rattle.archive_text.specs.{Entries.EntryView, Entries.entry_view, Fingerprints.name_print, Fingerprints.key_print, declared.entry.Entry.Entry}
-use Rattle.archive_text.proofs.NextPlace.{images_of_views}
+use Rattle.archive_text.proofs.Regrouping.{images_of_views}
 use Rattle.archive_text.proofs.in_groups.indexes_in_groups.Goals as goal
 
 pub returns-clause-names : goal.returns-clause-names

@@ -1,4 +1,4 @@
-use Rattle.archive_text.proofs.Together.{is_regrouped}
+use Rattle.archive_text.proofs.Regrouping.{is_regrouped}
 use Rattle.archive_text.proofs.laws.entries_are_regrouped.Goals as goal
 
 pub returns : goal.returns

@@ -1,4 +1,4 @@
-use Rattle.archive_text.proofs.Together.{only_one}
+use Rattle.archive_text.proofs.Regrouping.{only_one}
 use Rattle.archive_text.proofs.laws.one_regrouping.Goals as goal
 
 pub returns : goal.returns

@@ -1,5 +1,4 @@
-use Rattle.std.proofs.Common.{◌≡◌, length}
-use Rattle.std.specs.{List.list_any, Str.bytes_eq}
+use Rattle.std.{proofs.Common.◌≡◌, proofs.Common.length, specs.List.list_any, specs.Str.bytes_eq}
 use Rattle.archive_text.specs.{Entries.entry_views, Lookups.entries_at, Lookups.names_of}
 use Rattle.archive_text.proofs.matches_of.has_name_at.Given as goal
 

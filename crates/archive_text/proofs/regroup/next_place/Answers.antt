@@ -1,7 +1,7 @@
 use Rattle.std.proofs.Common.{◌≡◌, ◌∙◌, ℤ, List, Option, ℕ, Some, sym, ap, map, unwrap_or}
 use Rattle.std.specs.List.{position}
 use Rattle.archive_text.specs.{Entries.EntryView, Lookups.same_key, Regrouped.place_after, Regrouped.last_of}
-use Rattle.archive_text.proofs.NextPlace.{places_agree, last_image}
+use Rattle.archive_text.proofs.Regrouping.{places_agree, last_image}
 use Rattle.archive_text.proofs.regroup.next_place.Goals as goal
 
 pub returns-in-len1-up-clause-next : goal.returns-in-len1-up-clause-next

@@ -1,9 +1,8 @@
 use Rattle.std.proofs.Common.{◌≡◌, ◌∙◌, ◌<◌, ◌++◌, ◌∷◌, [], List, sym, ap, length, get_or, map, arith}
 use Rattle.std.proofs.lemmas.List.{map-append, length-map, length-append}
 use Rattle.std.proofs.{Math.ListN.get_or-map, lemmas.List.Edits.length-remove}
-use Rattle.archive_text.proofs.NextPlace.{map-remove, next_on}
-use Rattle.archive_text.specs.Entries.{EntryView}
-use Rattle.archive_text.specs.Regrouped.{last_of, going_on, next_place}
+use Rattle.archive_text.proofs.Regrouping.{map-remove, next_on}
+use Rattle.archive_text.specs.{Entries.EntryView, Regrouped.last_of, Regrouped.going_on, Regrouped.next_place}
 use Rattle.archive_text.proofs.regroup.regroup.Goals as goal
 
 pub loop-grouped-preserved : goal.loop-grouped-preserved

@@ -5,11 +5,10 @@ use Rattle.line_text.specs.Lines.{IsAt}
 use Rattle.cgd_read.specs.Spelling.{edge_of}
 use Rattle.archive_text.specs.Reading.{NoKey, HasBadLine, HasKeyed}
 use Rattle.archive_text.specs.{Rows.name_row, Rows.key_row, Forms.IsKeyList}
+use Rattle.archive_text.proofs.BadLines.{heads, keyed_same, lines_count, bad_size, bad_edge, bad_key, is_keyed}
 use Rattle.graph_rows.specs.Reading.{HasBadEdge, HasEdges, NoSize}
 use Rattle.graph_rows.specs.{Rows.size_row, Rows.edge_lines, Forms.IsSize}
 use Rattle.line_text.proofs.CallerLemmas.{at_none, at_some, bad_line_from, handed_on}
-use Rattle.archive_text.proofs.RowSums.{heads, keyed_same, lines_count}
-use Rattle.archive_text.proofs.BadLines.{bad_size, bad_edge, bad_key, is_keyed}
 use Rattle.archive_text.proofs.rest.read_keyed.Goals as goal
 
 pub returns-in_default : goal.returns-in_default
@@ -40,8 +39,7 @@ returns-in_default-2 c = λ v text rows name is at.
 
 pub returns : goal.returns
 returns c = λ v text rows name is at.
-    let s = c.in-Some.size in
-    let edges = map edge_of c.in_ok-edges.edges.items in
+    let s = c.in-Some.size in let edges = map edge_of c.in_ok-edges.edges.items in
     let key = c.in-Some-2.key in
     let has : HasEdges text (heads rows name s) s edges c.read_edges.new.lines = c.in_ok-edges.ensures.edges text (heads rows name s)
     (at_some c.in_ok-size.field-0 (λ t. IsAt text ((rows ++ name_row name ∷ []) ++ size_row t ∷ []) c.next_size.new.lines) s c.in-Some.is

@@ -1,6 +1,5 @@
 -- Of `read_rest`: the clause `rest`.
-use Rattle.std.proofs.Common.{◌++◌, map, sym, ◌∙◌}
-use Rattle.std.proofs.lemmas.Bool.{true≢false}
+use Rattle.std.proofs.{Common.◌++◌, Common.map, Common.sym, Common.◌∙◌, lemmas.Bool.true≢false}
 use Rattle.cgd_read.specs.Spelling.{edge_of}
 use Rattle.archive_text.specs.{Rows.row_lines, Parts.part_rows, Parts.end_part, Reading.HasForm, Reading.HasBadLine}
 use Rattle.line_text.proofs.CallerLemmas.{handed_on}

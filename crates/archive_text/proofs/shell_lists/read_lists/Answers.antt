@@ -1,10 +1,8 @@
 -- Of `read_lists`: the loop over `done`; the clause `shells`.
 use Rattle.std.proofs.Common.{Vec, Global, ◌+◌, ℕ, [], ◌∷◌, ◌++◌, length, sym, ap, ◌∙◌, subst, arith}
 use Rattle.std.proofs.lemmas.List.{length-append}
-use Rattle.line_text.specs.Lines.{IsAt}
-use Rattle.archive_text.specs.{Rows.shells_row, Forms.AreSizes, Reading.AreShellsTo, Reading.NoShells}
-use Rattle.line_text.proofs.CallerLemmas.{at_none, at_some}
-use Rattle.archive_text.proofs.ShortLists.{one_more_class}
+use Rattle.line_text.{specs.Lines.IsAt, proofs.CallerLemmas.at_none, proofs.CallerLemmas.at_some}
+use Rattle.archive_text.{specs.Rows.shells_row, specs.Forms.AreSizes, specs.Reading.AreShellsTo, specs.Reading.NoShells, proofs.KeyNumbers.one_more_class}
 use Rattle.archive_text.proofs.shell_lists.read_lists.Goals as goal
 
 pub returns-in_default-clause-shells : goal.returns-in_default-clause-shells

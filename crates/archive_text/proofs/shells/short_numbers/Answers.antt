@@ -1,7 +1,6 @@
 use Rattle.std.proofs.Common.{All, refl, sym, subst}
 use Rattle.std.proofs.lemmas.{Option.none-some, List.Elements.All-push}
-use Rattle.archive_text.specs.Forms.{IsShort}
-use Rattle.archive_text.proofs.ShortLists.{one_more_number, first_left}
+use Rattle.archive_text.{specs.Forms.IsShort, proofs.KeyNumbers.one_more_number, proofs.KeyNumbers.first_left}
 use Rattle.archive_text.proofs.shells.short_numbers.Goals as goal
 
 pub returns-in-None-clause-none : goal.returns-in-None-clause-none

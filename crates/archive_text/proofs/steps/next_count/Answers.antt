@@ -1,10 +1,7 @@
 use Rattle.std.proofs.Common.{◌≡◌, Ok, ap, ℕ, pos, [], ◌∷◌, ◌++◌, sym, ◌∙◌, subst}
-use Rattle.std.proofs.lemmas.{Option.none-some, Bool.true≢false}
-use Rattle.std.specs.Prelude.{codes}
-use Rattle.line_text.specs.{Lines.IsAt, Numbers.row_text}
-use Rattle.archive_text.specs.{Rows.count_row, Reading.NoCount}
-use Rattle.archive_text.proofs.RowForms.{count_few, count_wide}
-use Rattle.line_text.proofs.CallerLemmas.{none_from, some_from}
+use Rattle.std.{proofs.lemmas.Option.none-some, proofs.lemmas.Bool.true≢false, specs.Prelude.codes}
+use Rattle.line_text.{specs.Lines.IsAt, specs.Numbers.row_text, proofs.CallerLemmas.none_from, proofs.CallerLemmas.some_from}
+use Rattle.archive_text.{specs.Rows.count_row, specs.Reading.NoCount, proofs.Walks.count_few, proofs.Walks.count_wide}
 use Rattle.archive_text.proofs.steps.next_count.Goals as goal
 
 pub returns-then-branch-clause-place : goal.returns-then-branch-clause-place

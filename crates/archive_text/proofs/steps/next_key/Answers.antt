@@ -1,6 +1,5 @@
 use Rattle.std.proofs.Common.{Ok, [], ◌∷◌, ◌++◌, length, sym, ap, ◌∙◌, subst, arith}
-use Rattle.std.proofs.lemmas.Bool.{eqb-true, true≢false}
-use Rattle.std.specs.Prelude.{codes}
+use Rattle.std.{proofs.lemmas.Bool.eqb-true, proofs.lemmas.Bool.true≢false, specs.Prelude.codes}
 use Rattle.line_text.specs.{Lines.IsAt, Numbers.row_text}
 use Rattle.archive_text.specs.Rows.{key_row}
 use Rattle.archive_text.proofs.steps.next_key.Goals.{else-branch-via-then-branch+else-not-is_empty, else-branch-via-else-branch}
@@ -18,7 +17,6 @@ returns-else-branch-clause-none c = λ key rest is e.
     elim c.else-branch.branch [
       | else-branch-via-then-branch+else-not-is_empty w ↦
           let none = eqb-true _ 0 (sym w.is_empty.ensures ∙ w.if-not-is_empty.false) in
-          let same = ap length read.1 in
-          omega (arith, none, same, is.some)
+          let same = ap length read.1 in omega (arith, none, same, is.some)
       | else-branch-via-else-branch w ↦ true≢false (sym read.0 ∙ w.if-branch.false)
     ]

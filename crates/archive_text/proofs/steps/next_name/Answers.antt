@@ -1,8 +1,6 @@
-use Rattle.std.proofs.Common.{sym, ap, ◌∙◌}
-use Rattle.std.proofs.lemmas.Bool.{true≢false}
-use Rattle.archive_text.specs.Rows.{name_row}
+use Rattle.std.proofs.{Common.sym, Common.ap, Common.◌∙◌, lemmas.Bool.true≢false}
+use Rattle.archive_text.{specs.Rows.name_row, proofs.Walks.entry_has_no}
 use Rattle.line_text.specs.Names.{is_name}
-use Rattle.archive_text.proofs.RowForms.{entry_has_no}
 use Rattle.archive_text.proofs.steps.next_name.Goals as goal
 
 pub returns-in-None-clause-none : goal.returns-in-None-clause-none

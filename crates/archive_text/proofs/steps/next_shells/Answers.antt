@@ -1,10 +1,8 @@
 use Rattle.std.proofs.Common.{◌≡◌, Ok, Vec, Global, Option, ap, ℕ, List, [], ◌∷◌, ◌++◌, IfSome, IfNone, sym, ◌∙◌, subst}
-use Rattle.std.proofs.lemmas.{Result.IfOk-weaker, Bool.true≢false}
-use Rattle.std.specs.Prelude.{codes}
-use Rattle.line_text.specs.{Lines.IsAt, Numbers.row_text}
+use Rattle.std.{proofs.lemmas.Result.IfOk-weaker, proofs.lemmas.Bool.true≢false, specs.Prelude.codes}
+use Rattle.line_text.{specs.Lines.IsAt, specs.Numbers.row_text, proofs.CallerLemmas.some_from}
 use Rattle.archive_text.specs.{Rows.shells_row, Rows.shells_numbers, Forms.AreSizes, Reading.NoShells}
-use Rattle.archive_text.proofs.{RowForms.shells_few, RowForms.shells_wide, ShortLists.no_shells}
-use Rattle.line_text.proofs.CallerLemmas.{some_from}
+use Rattle.archive_text.proofs.{Walks.shells_few, Walks.shells_wide, KeyNumbers.no_shells}
 use Rattle.archive_text.proofs.steps.next_shells.Goals as goal
 
 pub returns-then-branch-clause-place : goal.returns-then-branch-clause-place

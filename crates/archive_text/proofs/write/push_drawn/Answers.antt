@@ -1,6 +1,6 @@
 use Rattle.std.proofs.lemmas.Result.{on_ok_weaker}
 use Rattle.quotient_graph.specs.AnyGraphs.{graph_view}
-use Rattle.archive_text.proofs.RowSums.{drawn_written}
+use Rattle.archive_text.proofs.BadLines.{drawn_written}
 use Rattle.archive_text.proofs.write.push_drawn.Goals as goal
 
 pub returns : goal.returns

@@ -1,10 +1,9 @@
-use Rattle.std.proofs.Common.{◌++◌, ap, ◌∙◌}
-use Rattle.std.proofs.lemmas.Result.{on_ok_weaker}
+use Rattle.std.proofs.{Common.◌++◌, Common.ap, Common.◌∙◌, lemmas.Result.on_ok_weaker}
 use Rattle.line_text.specs.Lines.{rows_text}
 use Rattle.quotient_graph.specs.AnyGraphs.{graph_view}
 use Rattle.archive_text.specs.{Entries.entry_view, Rows.row_lines, Parts.drawn_rows}
 use Rattle.graph_rows.specs.Rows.{size_of_graph}
-use Rattle.archive_text.proofs.RowSums.{entry_written}
+use Rattle.archive_text.proofs.BadLines.{entry_written}
 use Rattle.archive_text.proofs.write.push_entry.Goals as goal
 
 pub returns : goal.returns

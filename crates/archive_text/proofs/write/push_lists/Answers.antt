@@ -1,4 +1,4 @@
-use Rattle.archive_text.proofs.RowSums.{class_written}
+use Rattle.archive_text.proofs.BadLines.{class_written}
 use Rattle.archive_text.proofs.write.push_lists.Goals as goal
 
 pub loop-done-preserved : goal.loop-done-preserved

@@ -4,7 +4,7 @@ use Rattle.elimination.specs.Rows.{value_in}
 use Rattle.periodic_net.specs.Placement.{IsNormalPlacement}
 use Rattle.quotient_graph.specs.PlacedNets.{placement_of}
 use Rattle.barycentre.specs.{PlaceFaults.IsPlaceFault, PlaceFaults.IsUnitsFault, Units.AreLeastUnits}
-use Rattle.barycentre.proofs.{Solved.are_positions, Together.normal_units, Together.told_of_net}
+use Rattle.barycentre.proofs.{Recovered.are_positions, Existing.normal_units, Existing.told_of_net}
 use Rattle.barycentre.proofs.placing.by_fractions.Goals as goal
 
 pub units_in_limits-requires : goal.units_in_limits-requires
@@ -16,8 +16,7 @@ units_in_limits-requires g c =
 pub returns-in-Ok-clause-normal : goal.returns-in-Ok-clause-normal
 returns-in-Ok-clause-normal g c =
     let G = c.args.g.now in let e = c.in-Ok.ensures in let k = c.recall.ensures in
-    let rows = c.in-Ok.rows.items in
-    let p = value_in fraction_value rows in
+    let rows = c.in-Ok.rows.items in let p = value_in fraction_value rows in
     IfOk-weaker c.units_in_limits.result (λ u. AreLeastUnits G p u.d0 u.at.items) (λ u. IsNormalPlacement G (placement_of u.d0 u.at.items))
     (λ u h. normal_units G k.is_graph p (are_positions G rows k.parameter e.solved e.flat) u.d0 u.at.items h)
     (rw c.deref.ensures.value at c.units_in_limits.ensures.units)

@@ -1,7 +1,6 @@
 use Rattle.std.proofs.Common.{◌≡◌, ⊎_elim, arith}
-use Rattle.barycentre.specs.Recovered.{by_coordinate}
+use Rattle.barycentre.{specs.Recovered.by_coordinate, proofs.Recovered.flat_row, proofs.Recovered.full_row}
 use Rattle.elimination.proofs.CallerLemmas.{dimension_three}
-use Rattle.barycentre.proofs.modulo.RecoveredRows.{flat_row, full_row}
 use Rattle.barycentre.proofs.recovery.fraction_row.Goals as goal
 
 pub returns-in-None-fraction_of : goal.returns-in-None-fraction_of
@@ -9,8 +8,7 @@ returns-in-None-fraction_of g c =
     record {
       c = 1;
       below = ⊎_elim (λ (e : g.row.D ≡ 2). omega (arith, e)) (λ (e : g.row.D ≡ 3). omega (arith, e)) c.requires.dimension;
-      none =
-          c.in-None-fraction_of.ensures;
+      none = c.in-None-fraction_of.ensures;
     }
 
 pub returns-in-None-fraction_of-2 : goal.returns-in-None-fraction_of-2

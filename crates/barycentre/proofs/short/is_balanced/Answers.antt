@@ -1,13 +1,12 @@
 -- Of `is_balanced`: the loop over `arc`; the clauses `within` and `balanced`; what `of_triple` and `plus` require.
 use Rattle.std.proofs.Common.{◌≡◌, ◌∙◌, ◌+◌, ◌*◌, ◌^◌, arith, sym, subst, refl}
 use Rattle.std.proofs.lemmas.Int.{to_z-of_z}
-use Rattle.integers.specs.Vectors.{IsWithin}
-use Rattle.integers.proofs.vectors.Bounds.{wider}
+use Rattle.integers.{specs.Vectors.IsWithin, proofs.vectors.Bounds.wider}
 use Rattle.periodic_net.specs.{Limits.most_units, Placement.arc_vector}
 use Rattle.quotient_graph.specs.PlacedNets.{placement_of}
 use Rattle.elimination.proofs.CallerLemmas.{few_arcs, near_step}
 use Rattle.barycentre.specs.Limits.{AreWithinTo}
-use Rattle.barycentre.proofs.Stars.{sum_step, sum_whole, within_more, within_all}
+use Rattle.barycentre.proofs.Normal.{sum_step, sum_whole, within_more, within_all}
 use Rattle.barycentre.proofs.short.is_balanced.Goals as goal
 
 pub of_triple-step-requires : goal.of_triple-step-requires
@@ -22,8 +21,7 @@ plus-sum-requires-clause-left g c =
 
 pub loop-arc-preserved : goal.loop-arc-preserved
 loop-arc-preserved g c =
-    let rd = c.ranges.d0 in
-    let P = placement_of c.args.d0 c.args.at.now in
+    let rd = c.ranges.d0 in let P = placement_of c.args.d0 c.args.at.now in
     let star = c.arcs-arc-items.result.now in let a = c.arc-item.result in let i = c.loop-arc.arc-index in
     let v = c.of_triple-step.result in
     let vector : v ≡ arc_vector P a = c.of_triple-step.ensures ∙ (simp to_z-of_z at c.vector_of.ensures.value) in
@@ -38,17 +36,14 @@ loop-arc-preserved g c =
 
 pub returns-clause-within : goal.returns-clause-within
 returns-clause-within g c t =
-    let rd = c.ranges.d0 in
-    let P = placement_of c.args.d0 c.args.at.now in
+    let rd = c.ranges.d0 in let P = placement_of c.args.d0 c.args.at.now in
     let star = c.arcs-arc-items.result.now in
     let within : AreWithinTo P star c.loop-arc.arc-index = simp to_z-of_z at c.loop-arc.invariant.within in
     within_all P c.args.g.now c.args.u star c.arcs-arc-items.ensures.star c.loop-arc.arc-index c.loop-arc-test.false within
 
 pub returns-clause-balanced : goal.returns-clause-balanced
 returns-clause-balanced g c t =
-    let rd = c.ranges.d0 in
-    let P = placement_of c.args.d0 c.args.at.now in
-    let star = c.arcs-arc-items in
+    let rd = c.ranges.d0 in let P = placement_of c.args.d0 c.args.at.now in let star = c.arcs-arc-items in
     let whole = sum_whole P c.args.g.now c.args.u star.result.now star.ensures.star c.loop-arc.arc-index c.loop-arc.sum c.loop-arc-test.false
     (simp to_z-of_z at c.loop-arc.invariant.added) in
     sym whole ∙ sym c.to_triple.ensures ∙ c.is_zero.ensures.0 t

@@ -1,18 +1,16 @@
 -- Of `by_two_steps`: the clause `none`; what `left_rows` and `tested` require. The clause says that there is no placement within the limits.
 use Rattle.std.proofs.Common.{lit<, ◌≡◌, ◌∙◌, ◌<◌, ℕ, ℤ, List, length, map, subst, Option, Some, None, Result, Ok, Err, IfOk, MatchOption}
-use Rattle.std.proofs.lemmas.List.{length-map}
-use Rattle.std.specs.Prelude.{⊤}
+use Rattle.std.{proofs.lemmas.List.length-map, specs.Prelude.⊤}
 use Rattle.periodic_net.specs.Graph.{Graph}
 use Rattle.vecdim.specs.declared.rows.Row.{Row}
 use Rattle.fraction.specs.{declared.numbers.Fraction.Fraction, Values.fraction_value}
 use Rattle.elimination.specs.{RightHand.SolveWith, Rows.value_in}
 use Rattle.residue.specs.declared.numbers.Residue.{Residue}
 use Rattle.barycentre.specs.ResidueRows.{residue_value, residue_at, residue_vector}
-use Rattle.barycentre.specs.{TwoSteps.AreTwoSteps, Left.AreLeftRows, Reached.AreNotWithin, Recovered.AreRecovered, Recovered.LacksRow, Tested.AreNotPlaced}
-use Rattle.barycentre.proofs.modulo.Stages.{in_reach, divided, steps, quotient}
-use Rattle.barycentre.proofs.modulo.TwoSteps.{are_fractions, no_lack, is_scaled}
-use Rattle.barycentre.proofs.steps.by_two_steps.Given.{Over}
-use Rattle.barycentre.proofs.steps.by_two_steps.Goals.{In_ok-nexts}
+use Rattle.barycentre.specs.{TwoSteps.AreTwoSteps, Reached.AreNotWithin, Left.AreLeftRows, Tested.AreNotPlaced}
+use Rattle.barycentre.specs.Recovered.{AreRecovered, LacksRow}
+use Rattle.barycentre.proofs.Stages.{in_reach, divided, steps, quotient, are_fractions, no_lack, is_scaled}
+use Rattle.barycentre.proofs.steps.by_two_steps.{Given.Over, Goals.In_ok-nexts}
 use Rattle.barycentre.proofs.steps.by_two_steps.Goals as goal
 
 none_of : {A E : Type 0} (B C : Type 0) (r : Result (Option A) E) → (B → C) → IfOk r (λ o. MatchOption o B (λ t. ⊤)) → IfOk r (λ o. MatchOption o C (λ t. ⊤))
@@ -66,8 +64,7 @@ left_rows-requires g c =
 
 pub tested-requires : goal.tested-requires
 tested-requires g c =
-    let k = c.recall.ensures in
-    let h = rw c.in-Some.is at c.in_ok-rows.ensures.count in
+    let k = c.recall.ensures in let h = rw c.in-Some.is at c.in_ok-rows.ensures.count in
     let recovered = rw (c.in-Some.is, c.deref-3.ensures.value) at c.in_ok-rows.ensures.rows in
     let fractions = are_fractions c.args.g.now k.is_graph k.parameter c.args.firsts.now c.in_ok-nexts.nexts.items c.requires.count
     c.in_ok-nexts.ensures.count c.in-Some.rows.items (h ∙ c.requires.count) recovered in

@@ -1,7 +1,6 @@
-use Rattle.std.proofs.Common.{rules, pos, ◌≡◌}
+use Rattle.std.proofs.{Common.rules, Common.pos, Common.◌≡◌, lemmas.List.Elements.All-get_or}
 use Rattle.integers.specs.Vectors.{DividesVector}
-use Rattle.std.proofs.lemmas.List.Elements.{All-get_or}
-use Rattle.barycentre.proofs.Coprime.{divides_divisor, divides_one}
+use Rattle.barycentre.proofs.Existing.{divides_divisor, divides_one}
 use Rattle.barycentre.proofs.testing.are_coprime.Goals as goal
 
 pub returns-then-divisor-eq1 : goal.returns-then-divisor-eq1

@@ -1,5 +1,4 @@
-use Rattle.std.proofs.Common.{ℕ, pos, All}
-use Rattle.std.specs.Int.{◌∣◌}
+use Rattle.std.{proofs.Common.ℕ, proofs.Common.pos, proofs.Common.All, specs.Int.◌∣◌}
 use Rattle.integers.specs.Vectors.{DividesVector}
 use Rattle.barycentre.proofs.testing.are_coprime.Given as goal
 

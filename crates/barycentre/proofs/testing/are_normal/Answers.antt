@@ -1,8 +1,6 @@
-use Rattle.std.proofs.Common.{◌≡◌, subst, refl, unsigned_abs}
-use Rattle.std.proofs.lemmas.Int.{to_z-of_z}
+use Rattle.std.proofs.{Common.◌≡◌, Common.subst, Common.refl, Common.unsigned_abs, lemmas.Int.to_z-of_z}
 use Rattle.quotient_graph.specs.PlacedNets.{placement_of}
-use Rattle.barycentre.specs.Tested.{AreBalanced, AreCoprime}
-use Rattle.barycentre.proofs.Coprime.{coprime_normal}
+use Rattle.barycentre.{specs.Tested.AreBalanced, specs.Tested.AreCoprime, proofs.Existing.coprime_normal}
 use Rattle.barycentre.proofs.testing.are_normal.Goals as goal
 
 pub returns-clause-normal : goal.returns-clause-normal

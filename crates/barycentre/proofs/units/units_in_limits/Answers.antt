@@ -7,7 +7,7 @@ use Rattle.quotient_graph.specs.PlacedNets.{placement_of}
 use Rattle.fraction.specs.Values.{fraction_value}
 use Rattle.elimination.specs.Rows.{value_in}
 use Rattle.barycentre.specs.WidePlacements.{IsWideAt}
-use Rattle.barycentre.proofs.{Together.wide_multiple, Together.normal_units, TestedUnits.fractions_divided, TestedUnits.least_units}
+use Rattle.barycentre.proofs.Existing.{wide_multiple, normal_units, fractions_divided, least_units}
 use Rattle.barycentre.proofs.units.units_in_limits.Goals as goal
 
 pub common_denominator-requires : goal.common_denominator-requires

@@ -1,8 +1,7 @@
 use Rattle.std.proofs.Common.{ℕ}
 use Rattle.exact.specs.{Ratio.Ratio, Values.HasValue}
 use Rattle.elimination.specs.Listed.{Level, back_sum, back_entry}
-use Rattle.elimination.specs.Lines.{IsLastLine, AreRowsOfValues}
-use Rattle.elimination.proofs.loops.JoinedLoop.{AreDone}
+use Rattle.elimination.{specs.Lines.IsLastLine, specs.Lines.AreRowsOfValues, proofs.Loops.AreDone}
 use Rattle.elimination.proofs.back.position_part.Given as goal
 
 abbrev pub invariant-loop-joined : goal.invariant-loop-joined

@@ -1,4 +1,4 @@
-use Rattle.elimination.proofs.loops.LaterCounts.{cleared_none}
+use Rattle.elimination.proofs.ArcSums.{cleared_none}
 use Rattle.elimination.proofs.counts.clear_counts.Goals as goal
 
 pub loop-arc-init : goal.loop-arc-init

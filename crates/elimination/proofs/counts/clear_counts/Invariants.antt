@@ -1,4 +1,4 @@
-use Rattle.elimination.proofs.loops.LaterCounts.{AreCleared}
+use Rattle.elimination.proofs.ArcSums.{AreCleared}
 use Rattle.elimination.proofs.counts.clear_counts.Given as goal
 
 abbrev pub invariant-loop-arc : goal.invariant-loop-arc

@@ -1,13 +1,12 @@
 use Rattle.std.proofs.Common.{◌≡◌, ◌-◌, ◌≤◌, pos, length, arith, ap, sym}
 use Rattle.std.proofs.lemmas.Int.{to_z-of_z}
 use Rattle.periodic_net.specs.Graph.{Arc}
-use Rattle.elimination.proofs.loops.LaterCounts.{count_more, counts_fit}
+use Rattle.elimination.proofs.ArcSums.{count_more, counts_fit}
 use Rattle.elimination.proofs.counts.count_arcs.Goals as goal
 
 pub loop-arc-preserved : goal.loop-arc-preserved
 loop-arc-preserved g c =
-    let arcs = c.args.arcs.now in let counts = c.loop-arc.counts in
-    let n = length c.args.counts.now in
+    let arcs = c.args.arcs.now in let counts = c.loop-arc.counts in let n = length c.args.counts.now in
     let t = c.loop-arc.arc-index in let a = c.arc-item.result in let below = c.loop-arc-test.true in
     let to : c.arc.inside.to ≡ a.to = ap (λ (b : Arc). b.to) c.arc.view_is in
     let bounds : (1 ≤ a.to) × (a.to ≤ n) = rw c.arc-item.is (c.requires.heads t a below) in

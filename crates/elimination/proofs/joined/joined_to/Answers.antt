@@ -1,8 +1,7 @@
 -- Of `joined_to`: the loop over `i`; the clauses `below` and `values`.
 use Rattle.std.proofs.Common.{rules, ◌≡◌, ◌+◌, ◌-◌, ◌∙◌, get_or, arith, ap, subst}
 use Rattle.std.specs.Global.{Vec}
-use Rattle.elimination.specs.Lines.{AreJoinedVertices}
-use Rattle.elimination.proofs.{steps.Rows.value_at, steps.Symmetry.has_trans, loops.JoinedLoop.joined_none}
+use Rattle.elimination.{specs.Lines.AreJoinedVertices, proofs.Loops.value_at, proofs.Loops.joined_none, proofs.Skipped.has_trans}
 use Rattle.elimination.proofs.joined.joined_to.Goals as goal
 
 pub loop-i-init : goal.loop-i-init

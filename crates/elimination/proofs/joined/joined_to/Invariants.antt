@@ -1,7 +1,5 @@
-use Rattle.std.proofs.Common.{◌+◌, ◌<◌}
-use Rattle.std.specs.List.{All, AllPairs}
-use Rattle.elimination.specs.Listed.{Level}
-use Rattle.elimination.specs.Lines.{AreWeights, AreJoinedVertices, IsSymmetric}
+use Rattle.std.{proofs.Common.◌+◌, proofs.Common.◌<◌, specs.List.All, specs.List.AllPairs}
+use Rattle.elimination.specs.{Listed.Level, Lines.AreWeights, Lines.AreJoinedVertices, Lines.IsSymmetric}
 use Rattle.elimination.proofs.joined.joined_to.Given as goal
 
 abbrev pub invariant-loop-i : goal.invariant-loop-i

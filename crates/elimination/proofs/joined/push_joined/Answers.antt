@@ -1,5 +1,5 @@
 use Rattle.std.proofs.Common.{refl}
-use Rattle.elimination.proofs.loops.JoinedLoop.{joined_pushed}
+use Rattle.elimination.proofs.Loops.{joined_pushed}
 use Rattle.elimination.proofs.joined.push_joined.Goals as goal
 
 pub returns-clause-values : goal.returns-clause-values

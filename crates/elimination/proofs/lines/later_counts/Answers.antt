@@ -1,10 +1,9 @@
 -- Of `later_counts`: the loop over `arc`; what it ensures.
 use Rattle.std.proofs.Common.{rules, ◌≡◌, ◌+◌, ◌-◌, ◌≤◌, ◌<◌, FitsSigned, pos, get_or, length, arith, ap, sym, subst, ◌∙◌}
-use Rattle.std.proofs.lemmas.{Int.to_z-of_z, List.get_or_default}
-use Rattle.std.specs.Int.{w32}
+use Rattle.std.{proofs.lemmas.Int.to_z-of_z, proofs.lemmas.List.get_or_default, specs.Int.w32}
 use Rattle.exact.specs.Ratio.{Same, whole}
 use Rattle.periodic_net.specs.Graph.{Arc}
-use Rattle.elimination.proofs.loops.LaterCounts.{AreSoFar, so_far_none, so_far_passed, so_far_set, so_far_all}
+use Rattle.elimination.proofs.ArcSums.{AreSoFar, so_far_none, so_far_passed, so_far_set, so_far_all}
 use Rattle.elimination.proofs.lines.later_counts.Goals.{then-to-u, else-to-u}
 use Rattle.elimination.proofs.lines.later_counts.Goals as goal
 
@@ -22,11 +21,9 @@ loop-arc-preserved g c =
     let bounds : (1 ≤ a.to) × (a.to ≤ length counts) = rw c.arc-item.is (c.requires.heads t a below) in
     elim c.if-to-u.branch [
       | then-to-u w ↦
-          let to_index = c.arc.inside.to in
-          let z = get_or counts (to_index - 1) (pos 0) in
+          let to_index = c.arc.inside.to in let z = get_or counts (to_index - 1) (pos 0) in
           let f : FitsSigned w32 z = search rules in
-          let at : to_index - u - 1 ≡ a.to - (u + 1) = omega (arith, to) in
-          let x = w.from_small.result in
+          let at : to_index - u - 1 ≡ a.to - (u + 1) = omega (arith, to) in let x = w.from_small.result in
           let in_counts : to_index - 1 < length counts = omega (arith, to, bounds.0, bounds.1) in
           rw (w.weights-is, at) (so_far_set n.modulus n.value arcs counts u c.loop-arc.weights.items t c.loop-arc.invariant a below (sym c.arc-item.is)
           (omega (arith, to, w.if-to-u.true)) bounds.1 x

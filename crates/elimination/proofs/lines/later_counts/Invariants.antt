@@ -1,4 +1,4 @@
-use Rattle.elimination.proofs.loops.LaterCounts.{AreSoFar}
+use Rattle.elimination.proofs.ArcSums.{AreSoFar}
 use Rattle.elimination.proofs.lines.later_counts.Given as goal
 
 abbrev pub invariant-loop-arc : goal.invariant-loop-arc

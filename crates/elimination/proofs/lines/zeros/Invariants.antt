@@ -1,5 +1,4 @@
-use Rattle.std.proofs.Common.{◌≡◌, pos, length}
-use Rattle.std.specs.List.{All}
+use Rattle.std.{proofs.Common.◌≡◌, proofs.Common.pos, proofs.Common.length, specs.List.All}
 use Rattle.exact.specs.Ratio.{Same, whole}
 use Rattle.elimination.proofs.lines.zeros.Given as goal
 

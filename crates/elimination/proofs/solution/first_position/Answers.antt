@@ -1,6 +1,5 @@
 use Rattle.std.proofs.Common.{pos}
-use Rattle.exact.specs.{Ratio.whole, Values.HasValue}
-use Rattle.exact.proofs.CallerLemmas.{one_cancels}
+use Rattle.exact.{specs.Ratio.whole, specs.Values.HasValue, proofs.CallerLemmas.one_cancels}
 use Rattle.elimination.proofs.solution.first_position.Goals as goal
 
 pub returns : goal.returns

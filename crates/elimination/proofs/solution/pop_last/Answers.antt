@@ -1,5 +1,5 @@
 use Rattle.std.proofs.Common.{◌+◌, ◌∙◌, ap, sym, length}
-use Rattle.elimination.proofs.steps.LastLine.{count_rest, lines_rest, row_last, lines_at}
+use Rattle.elimination.proofs.Loops.{count_rest, lines_rest, row_last, lines_at}
 use Rattle.elimination.proofs.solution.pop_last.Goals as goal
 
 pub returns-clause-values : goal.returns-clause-values

@@ -1,7 +1,6 @@
 use Rattle.std.proofs.Common.{rules, subst, sym, ◌≡◌, ◌≤◌, ◌^◌, ℤ, pos, unsigned_abs, to_z, of_z, ◌*ℤ◌}
 use Rattle.std.specs.Int.{w64, w128}
-use Rattle.fraction.specs.Values.{fraction_value}
-use Rattle.fraction.proofs.Narrow.{cross_small}
+use Rattle.fraction.{specs.Values.fraction_value, proofs.Operations.cross_small}
 use Rattle.fraction.proofs.products.cross.Goals as goal
 
 pub returns-clause-small : goal.returns-clause-small

@@ -1,8 +1,6 @@
 use Rattle.std.proofs.Common.{arith, rules, ◌≡◌, to_z}
-use Rattle.std.proofs.lemmas.Int.{ints}
-use Rattle.std.specs.{Prelude.pos, Int.w64}
-use Rattle.fraction.specs.Quotients.{signed_ratio}
-use Rattle.fraction.proofs.Narrow.{fraction_reduced, fraction_small}
+use Rattle.std.{proofs.lemmas.Int.ints, specs.Prelude.pos, specs.Int.w64}
+use Rattle.fraction.{specs.Quotients.signed_ratio, proofs.Operations.fraction_reduced, proofs.Operations.fraction_small}
 use Rattle.fraction.proofs.reducing.fitted.Goals.{then-negative, else-negative}
 use Rattle.fraction.proofs.reducing.fitted.Goals as goal
 

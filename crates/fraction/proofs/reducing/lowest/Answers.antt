@@ -1,5 +1,5 @@
-use Rattle.integers.proofs.numbers.Cofactors.{divisor_positive}
-use Rattle.fraction.proofs.Lowest.{lowest, lowest_whole}
+use Rattle.integers.proofs.numbers.Divisors.{divisor_positive}
+use Rattle.fraction.proofs.Operations.{lowest, lowest_whole}
 use Rattle.fraction.proofs.reducing.lowest.Goals as goal
 
 pub returns-then-den-eq1 : goal.returns-then-den-eq1

@@ -1,5 +1,5 @@
-use Rattle.integers.proofs.numbers.Cofactors.{divisor_positive}
-use Rattle.fraction.proofs.Lowest.{lowest}
+use Rattle.integers.proofs.numbers.Divisors.{divisor_positive}
+use Rattle.fraction.proofs.Operations.{lowest}
 use Rattle.fraction.proofs.reducing.short_lowest.Goals as goal
 
 pub nonzero_div-result : goal.nonzero_div-result

@@ -1,5 +1,5 @@
 use Rattle.std.proofs.Common.{arith}
-use Rattle.residue.proofs.{Remainders.start, Remainders.next, LastRemainder.factor_small}
+use Rattle.residue.proofs.Remainders.{start, next, factor_small}
 use Rattle.residue.proofs.euclid.remainders_within.Goals as goal
 
 pub loop-rest-init : goal.loop-rest-init

@@ -1,5 +1,5 @@
 use Rattle.std.proofs.Common.{◌≡◌, ◌+◌, ◌*◌, ◌/◌, ◌%◌, ℕ, arith}
-use Rattle.residue.proofs.Folded.{digits_residue, digits_residue_less}
+use Rattle.residue.proofs.Classes.{digits_residue, digits_residue_less}
 use Rattle.residue.proofs.modular.folded.Goals as goal
 
 -- a number by its digits to the base 2^61

@@ -1,6 +1,5 @@
 use Rattle.std.proofs.Common.{◌≡◌, ℕ, ◌+◌, ◌≤◌, ap, sym, subst, ◌∙◌, List, length, Option, IfNone, IfSome, Vec, arith}
-use Rattle.std.proofs.lemmas.List.{length-map}
-use Rattle.std.specs.declared.alloc.Global.{Global}
+use Rattle.std.{proofs.lemmas.List.length-map, specs.declared.alloc.Global.Global}
 use Rattle.archive_text.specs.{Entries.entry_view, Groups.IsGroupFrom, Groups.numbers_in}
 use Rattle.archive_text.proofs.KeyNumbers.{AreGroupsTo, no_groups, all_groups, no_more, one_more, one_vector_more}
 use Rattle.archive_text.proofs.all.Entries.duplicates.Goals.{in-Some+in_ok-push, in_default}

@@ -1,5 +1,4 @@
-use Rattle.archive_text.specs.Groups.{numbers_in}
-use Rattle.archive_text.proofs.KeyNumbers.{AreGroupsTo}
+use Rattle.archive_text.{specs.Groups.numbers_in, proofs.KeyNumbers.AreGroupsTo}
 use Rattle.archive_text.proofs.all.Entries.duplicates.Given as goal
 
 abbrev pub invariant-loop-place : goal.invariant-loop-place

@@ -1,7 +1,7 @@
 use Rattle.std.proofs.Common.{◌↔◌, ◌∙◌, ap, subst, IsTrue, Contains, List}
 use Rattle.std.specs.{List.list_any, Str.bytes_eq}
 use Rattle.archive_text.specs.{Places.places_of, Entries.EntryView, Entries.entry_views, Lookups.names_of, Lookups.entries_at, declared.entry.Entry.Entry}
-use Rattle.archive_text.proofs.Looking.{name_found, name_told}
+use Rattle.archive_text.proofs.KeyNumbers.{name_found, name_told}
 use Rattle.archive_text.proofs.all.Entries.has_name.Goals as goal
 
 pub returns : goal.returns

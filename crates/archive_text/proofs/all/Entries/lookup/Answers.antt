@@ -1,7 +1,6 @@
 use Rattle.std.proofs.Common.{◌∙◌, ap, List}
-use Rattle.archive_text.specs.{Places.places_of, Entries.entry_views, Lookups.names_with, Lookups.entries_at, Fingerprints.key_print}
-use Rattle.archive_text.specs.{declared.entry.Entry.Entry}
-use Rattle.archive_text.proofs.Looking.{keys_found}
+use Rattle.archive_text.specs.{Places.places_of, Entries.entry_views, Lookups.names_with, Lookups.entries_at}
+use Rattle.archive_text.{specs.Fingerprints.key_print, specs.declared.entry.Entry.Entry, proofs.KeyNumbers.keys_found}
 use Rattle.archive_text.proofs.all.Entries.lookup.Goals as goal
 
 pub returns : goal.returns

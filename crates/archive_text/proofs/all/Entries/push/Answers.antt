@@ -1,6 +1,5 @@
 use Rattle.std.proofs.Common.{sym, subst, ℕ, List}
-use Rattle.archive_text.specs.{Entries.entry_views, Lookups.AreIndexed, declared.entry.Entry.Entry}
-use Rattle.archive_text.proofs.LastPlace.{undone}
+use Rattle.archive_text.{specs.Entries.entry_views, specs.Lookups.AreIndexed, specs.declared.entry.Entry.Entry, proofs.KeyNumbers.undone}
 use Rattle.archive_text.proofs.all.Entries.push.Goals as goal
 
 pub invariant_of-self-in-Err : goal.invariant_of-self-in-Err

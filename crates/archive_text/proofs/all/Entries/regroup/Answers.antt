@@ -1,8 +1,7 @@
 use Rattle.std.proofs.Common.{◌≡◌, ◌∙◌, List, map, length, sym, ap, arith}
 use Rattle.std.proofs.lemmas.List.Sorted.{length_permutation}
-use Rattle.archive_text.specs.{Entries.EntryView, Entries.entry_views, Fingerprints.name_print, Fingerprints.key_print, declared.entry.Entry.Entry}
-use Rattle.archive_text.specs.{Regrouped.regrouped}
-use Rattle.archive_text.proofs.Together.{is_regrouped}
+use Rattle.archive_text.specs.{Entries.EntryView, Entries.entry_views, declared.entry.Entry.Entry, Regrouped.regrouped}
+use Rattle.archive_text.{specs.Fingerprints.name_print, specs.Fingerprints.key_print, proofs.Regrouping.is_regrouped}
 use Rattle.archive_text.proofs.all.Entries.regroup.Goals as goal
 
 pub invariant_of-self : goal.invariant_of-self

@@ -1,4 +1,4 @@
-use Rattle.archive_text.proofs.LastPlace.{places_left}
+use Rattle.archive_text.proofs.KeyNumbers.{places_left}
 use Rattle.archive_text.proofs.index.PlaceIndex.pop.Goals as goal
 
 pub invariant_of-self-2 : goal.invariant_of-self-2

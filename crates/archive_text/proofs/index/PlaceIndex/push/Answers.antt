@@ -1,5 +1,5 @@
 use Rattle.std.proofs.Common.{◌≡◌, ◌∙◌, ap, ◌++◌, ◌∷◌, [], length, arith}
-use Rattle.archive_text.proofs.LastPlace.{places_kept}
+use Rattle.archive_text.proofs.KeyNumbers.{places_kept}
 use Rattle.archive_text.proofs.index.PlaceIndex.push.Goals as goal
 
 pub invariant_of-self-2 : goal.invariant_of-self-2

@@ -1,6 +1,5 @@
 use Rattle.std.proofs.Common.{arith, rules, ◌≡◌, refl, subst, sym, ℤ, pos, to_z, of_z}
-use Rattle.std.specs.Int.{w32, w64}
-use Rattle.std.proofs.lemmas.Int.{ints}
+use Rattle.std.{specs.Int.w32, specs.Int.w64, proofs.lemmas.Int.ints}
 use Rattle.exact.specs.Ratio.{IsInLowestTerms, ratio}
 use Rattle.fraction.specs.Reduced.{HasSmallParts}
 use Rattle.fraction.proofs.Operations.{whole_same, whole_reduced, whole_small}

@@ -1,14 +1,12 @@
 use Rattle.std.proofs.Common.{◌*◌, pos, ◌∙◌}
-use Rattle.std.proofs.lemmas.Int.{to_z-of_z}
-use Rattle.std.specs.{Prelude.FitsSigned, Prelude.◌-ℤ◌, Int.w128}
+use Rattle.std.{proofs.lemmas.Int.to_z-of_z, specs.Int.w128, specs.Prelude.FitsSigned, specs.Prelude.◌-ℤ◌}
 use Rattle.fraction.specs.{Quotients.quotient, Values.fraction_value}
 use Rattle.fraction.proofs.Operations.{minus_is, difference_fits, exact_is}
 use Rattle.fraction.proofs.arithmetic.FractionExact.minus.Goals as goal
 
 pub returns : goal.returns
 returns c =
-    let a = fraction_value c.args.self in
-    let b = fraction_value c.args.o in
+    let a = fraction_value c.args.self in let b = fraction_value c.args.o in
     let x : FitsSigned w128 c.cross.result = record { sfits = c.cross.type_inv } in
     let y : FitsSigned w128 c.cross-2.result = record { sfits = c.cross-2.type_inv } in
     let s = difference_fits c.cross.result c.cross-2.result c.cross.ensures.small c.cross-2.ensures.small in

@@ -1,8 +1,6 @@
 use Rattle.std.proofs.Common.{◌≢◌, pos, rules, subst, sym}
-use Rattle.std.proofs.lemmas.Int.{to_z-of_z}
-use Rattle.std.specs.{Prelude.FitsSigned, Prelude.ℤ, Int.w128}
-use Rattle.fraction.specs.{Quotients.quotient, Values.fraction_value}
-use Rattle.fraction.proofs.Operations.{cross_not_zero, over_or}
+use Rattle.std.{proofs.lemmas.Int.to_z-of_z, specs.Int.w128, specs.Prelude.FitsSigned, specs.Prelude.ℤ}
+use Rattle.fraction.{specs.Quotients.quotient, specs.Values.fraction_value, proofs.Operations.cross_not_zero, proofs.Operations.over_or}
 use Rattle.fraction.proofs.arithmetic.FractionExact.over.Goals as goal
 
 pub reduced-requires : goal.reduced-requires

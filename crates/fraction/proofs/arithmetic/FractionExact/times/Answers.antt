@@ -1,14 +1,11 @@
 use Rattle.std.proofs.Common.{◌*◌, pos, ◌∙◌}
-use Rattle.std.proofs.lemmas.Int.{to_z-of_z}
-use Rattle.std.specs.{Prelude.FitsSigned, Int.w128}
-use Rattle.fraction.specs.{Quotients.quotient, Values.fraction_value}
-use Rattle.fraction.proofs.Operations.{times_is, exact_is}
+use Rattle.std.{proofs.lemmas.Int.to_z-of_z, specs.Prelude.FitsSigned, specs.Int.w128}
+use Rattle.fraction.{specs.Quotients.quotient, specs.Values.fraction_value, proofs.Operations.times_is, proofs.Operations.exact_is}
 use Rattle.fraction.proofs.arithmetic.FractionExact.times.Goals as goal
 
 pub returns : goal.returns
 returns c =
-    let a = fraction_value c.args.self in
-    let b = fraction_value c.args.o in
+    let a = fraction_value c.args.self in let b = fraction_value c.args.o in
     let n : FitsSigned w128 c.numerators.result = record { sfits = c.numerators.type_inv } in
     let v = c.numerators.ensures in let e = c.over_both.ensures in
     record {

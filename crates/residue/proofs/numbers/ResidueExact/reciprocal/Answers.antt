@@ -1,4 +1,4 @@
-use Rattle.residue.proofs.LastRemainder.{is_inverse_of}
+use Rattle.residue.proofs.Remainders.{is_inverse_of}
 use Rattle.residue.proofs.numbers.ResidueExact.reciprocal.Goals as goal
 
 pub returns-in-Some : goal.returns-in-Some
