@@ -1,19 +1,28 @@
--- The edges between the vertices that were found generate the shifts of the closed walks.
-use Rattle.std.proofs.Common.{◌≡◌, ℕ, zero, suc, ◌+◌, ◌-◌, ◌<◌, ◌≤◌, List, [], ◌∷◌, ◌++◌, length, take, map, get_or, Bool, true, false, Option, None, All, sym}
-use Rattle.std.proofs.Common.{ap, subst, ◌∙◌, arith, IsSome, refl, cond, Some, inl, inr}
-use Rattle.std.proofs.lemmas.List.{get_or_default, take_all}
-use Rattle.std.proofs.lemmas.List.Elements.{All-append, recursion_from_All, All-from_recursion}
-use Rattle.std.specs.{Option.is_some, List.filter, List.AllByRecursion}
-use Rattle.integers.specs.Vectors.{Vector, IsWithin, zero_vector, minus}
-use Rattle.integers.specs.Lattices.{IsVectorGroup}
-use Rattle.periodic_net.specs.Graph.{Graph, Arc, IsGraph, IsEdge, Vertex, vertex, arc, IsWalk, IsQuotientVertex, arcs, IsArc}
-use Rattle.periodic_net.specs.Split.{IsFound, ClosedShift, WalkShift}
+-- The edges between the vertices that were found generate the shifts of the closed walks: their lattice, and splits by it.
+use Rattle.std.proofs.Common.{◌≡◌, ℕ, zero, suc, ◌+◌, ◌-◌, ◌<◌, ◌≤◌, List, [], ◌∷◌, ◌++◌, length, take, map, get_or, Bool, true, false, Option, None, All}
+use Rattle.std.proofs.Common.{sym, ap, subst, ◌∙◌, arith, IsSome, refl, cond, Some, inl, inr, pos, Contains, rules, ℤ, neg_ℤ, ◌+ℤ◌, ◌*ℤ◌, ◌-ℤ◌, ◌≢◌, ◌≤ℤ◌}
+use Rattle.std.proofs.Common.{unsigned_abs, ◌⊎◌}
+use Rattle.std.proofs.lemmas.List.{get_or_default, take_all, length-map, get_or-map}
+use Rattle.std.proofs.lemmas.List.Elements.{All-append, recursion_from_All, All-from_recursion, All-contains}
+use Rattle.std.{proofs.lemmas.Int.ints, specs.Option.is_some, specs.List.filter, specs.List.AllByRecursion}
+use Rattle.integers.specs.Vectors.{Vector, IsWithin, zero_vector, minus, dot, vector, plus, times, triple_product, HasDimension, cross}
+use Rattle.integers.proofs.lists.Members.{images_more, images_same, all_in, filter_in, contains_from_in, IsIn, in_from_contains}
+use Rattle.integers.proofs.numbers.Ring.{ring, linear, other_factor_zero}
+use Rattle.integers.proofs.vectors.Laws.{dot_plus, vector_equal, product_times}
+use Rattle.integers.{specs.Lattices.IsVectorGroup, proofs.vectors.Independence.cramer, proofs.vectors.Independence.products}
+use Rattle.integers.{proofs.vectors.StairBasis.times_in}
+use Rattle.periodic_net.specs.Graph.{Graph, Arc, IsGraph, IsEdge, Vertex, vertex, arc, IsWalk, IsQuotientVertex, arcs, IsArc, IsConnected}
+use Rattle.periodic_net.specs.Split.{IsFound, ClosedShift, WalkShift, IsPartSplit, entry, IsOrthogonal, IsFlatSplit}
+use Rattle.periodic_net.proofs.CallerLemmas.{arc_inside, edge_in, closed_generated, generator_closed, with_itself, IsTree, one_vertex, walk_dimension}
+use Rattle.periodic_net.proofs.CallerLemmas.{closed_difference, closed_group, connected_by_tree}
 use Rattle.periodic_net.specs.{Limits.IsSmall, Limits.most_shift, Components.InComponent, Components.TellsWalks}
 use Rattle.connected_dim.specs.Search.{walk_to, AreWalks, shift_of}
 use Rattle.connected_dim.specs.Generators.{generator_of, generators, shift_at}
-use Rattle.integers.proofs.lists.{FilteredImages.images_more, FilteredImages.images_same, Filters.all_in, Filters.filter_in, Members.contains_from_in}
-use Rattle.integers.proofs.lists.{Members.IsIn}
-use Rattle.periodic_net.proofs.CallerLemmas.{arc_inside, edge_in, closed_generated, generator_closed, with_itself, IsTree, one_vertex, walk_dimension}
+use Rattle.connected_dim.{specs.Orthogonal.IsOrthogonalTo, specs.Orthogonal.IsFlatNormal, specs.Quotient.part_colour, specs.Quotient.part_colouring}
+use Rattle.connected_dim.{specs.Lattices.IsLatticeOf, specs.Lattices.AreClosedWalks, specs.Flat.flat_colour, specs.Flat.flat_colouring, specs.Full.IsVolume}
+use Rattle.connected_dim.{proofs.Starting.no_some, proofs.Starting.some_value, proofs.Normals.sign_of}
+use Rattle.vecdim.proofs.CallerLemmas.{with_has, with_inside, members_group, all_members}
+use Rattle.vecdim.specs.{Stairs.Stairs, Stairs.IsWhole, Lattices.Members}
 
 -- The closed walks of the edges, one edge more.
 
@@ -112,8 +121,7 @@ module _ (G : Graph) (g : IsGraph G) (a : ℕ) (found : List (Option Vector)) (h
   -- the start is a vertex
   start_in : 1 ≤ a → IsQuotientVertex G a
   start_in low =
-      let l = some_inside found (a - 1) (subst IsSome (sym h.first) refl) in
-      let n = h.count in
+      let l = some_inside found (a - 1) (subst IsSome (sym h.first) refl) in let n = h.count in
       (low, omega (arith, low, l, n))
 
   -- so the walks that were found determine the component
@@ -170,3 +178,199 @@ module _ (G : Graph) (g : IsGraph G) (found : List (Option Vector)) (h : AreWalk
     walk = λ u v. walk_at G g 1 found h u v.0 (some_walk u v);
     dimension = λ u v. walk_dimension G g 1 u (shift_at found u) (one_vertex G g) (walk_at G g 1 found h u v.0 (some_walk u v));
   }
+
+-- The vertices that a walk from vertex 1 leads to, and the colouring of the two parts.
+
+-- the entry of a vertex
+entry_is : (found : List (Option Vector)) (k : ℕ) → k < length found → get_or (map part_colour found) k (pos 0) ≡ part_colour (get_or found k None)
+entry_is found k l = get_or-map part_colour found k None (pos 0) l
+
+none_of : (o : Option Vector) → ¬ IsSome o → o ≡ None
+none_of None h = refl
+none_of (Some T) h = absurd (h (search rules))
+
+-- the colouring of the found vertices and the others
+pub part_split_is : (G : Graph) (found : List (Option Vector)) → IsGraph G → AreWalks G 1 found → Contains found None → IsPartSplit G (part_colouring found)
+part_split_is G found g h missed = record {
+  q = refl;
+  c = refl;
+  count = length-map found part_colour ∙ h.count;
+  found = λ u v f. let s = some_value (walk_to found u) (all_found G g 1 found h (omega arith) u f) in at u v ∙ ap part_colour s.1;
+  elsewhere = λ u v n. at u v ∙ ap part_colour (none_of (walk_to found u) (λ s. let w = some_value (walk_to found u) s in n (w.0, h.walks u w.0 v.0 w.1)));
+  missed = (
+    missed.0 + 1,
+    (omega arith, subst (λ n. missed.0 + 1 ≤ n) h.count (omega (arith, missed.1))),
+    λ f. no_some (walk_to found (missed.0 + 1)) (ap (λ (k : ℕ). get_or found k None) (less missed.0) ∙ missed.2)
+        (all_found G g 1 found h (omega arith) (missed.0 + 1) f),
+  );
+}
+  where
+    less : (k : ℕ) → (k + 1) - 1 ≡ k
+    less k = omega arith
+
+    at : (u : ℕ) → IsQuotientVertex G u → entry (map part_colour found) u ≡ part_colour (walk_to found u)
+    at u v = let n = h.count in let low = v.0 in let high = v.1 in entry_is found (u - 1) (omega arith)
+
+-- What is orthogonal to the generators is orthogonal to each closed walk.
+
+-- the product with an opposite
+dot_opposite : (c1 c2 c3 v1 v2 v3 : ℤ) → c1 *ℤ neg_ℤ v1 +ℤ c2 *ℤ neg_ℤ v2 +ℤ c3 *ℤ neg_ℤ v3 ≡ neg_ℤ (c1 *ℤ v1 +ℤ c2 *ℤ v2 +ℤ c3 *ℤ v3)
+dot_opposite c1 c2 c3 v1 v2 v3 = simp ring (omega (arith, linear))
+
+-- the product with 0
+dot_none : (c1 c2 c3 : ℤ) → c1 *ℤ pos 0 +ℤ c2 *ℤ pos 0 +ℤ c3 *ℤ pos 0 ≡ pos 0
+dot_none c1 c2 c3 = simp ring (omega (arith, linear))
+
+-- the vectors that c is orthogonal to
+pub orthogonal_group : (c : Vector) → IsVectorGroup (λ v. dot c v ≡ pos 0)
+orthogonal_group c = record {
+  zero = dot_none c.x c.y c.z;
+  sums = λ v w e f. dot_plus c v w ∙ (λ i. e i +ℤ f i);
+  opposites = λ v e. dot_opposite c.x c.y c.z v.x v.y v.z ∙ ap neg_ℤ e;
+}
+
+-- so c is orthogonal to the closed walks
+pub orthogonal_closed : (G : Graph) (a : ℕ) (found : List (Option Vector)) (c : Vector) → IsGraph G → 1 ≤ a → AreWalks G a found
+    → IsOrthogonalTo (generators G found) c
+    → (v : Vector) → ClosedShift G a v → dot c v ≡ pos 0
+orthogonal_closed G a found c g low h o v k = closed_in G g a found h (λ v. dot c v ≡ pos 0) (orthogonal_group c) o low v k
+
+-- vectors whose difference c is orthogonal to have equal products
+same_dot : (c1 c2 c3 s1 s2 s3 t1 t2 t3 : ℤ) → c1 *ℤ (s1 -ℤ t1) +ℤ c2 *ℤ (s2 -ℤ t2) +ℤ c3 *ℤ (s3 -ℤ t3) ≡ pos 0
+    → c1 *ℤ s1 +ℤ c2 *ℤ s2 +ℤ c3 *ℤ s3 ≡ c1 *ℤ t1 +ℤ c2 *ℤ t2 +ℤ c3 *ℤ t3
+same_dot c1 c2 c3 s1 s2 s3 t1 t2 t3 e = omega (arith, linear, simp ring at e)
+
+-- the colouring by a normal
+pub flat_split_is : (G : Graph) (found : List (Option Vector)) (c : Vector) → IsGraph G → AreWalks G 1 found → All IsSome found
+    → IsFlatNormal G.dimension (generators G found) c
+    → IsFlatSplit G (flat_colouring c found)
+flat_split_is G found c g w all n = record {
+  found = each_found G g found w all;
+  q = refl;
+  dimension = n.dimension;
+  orthogonal = closed;
+  positive = n.positive;
+  lowest = λ e k d o some ends. n.lowest e k d (λ j v l. o (get_or (generators G found) j v) (generators_closed G g 1 found w (omega arith) j v l)) some ends;
+  coprime = n.coprime;
+  count = length-map found (flat_colour c) ∙ w.count;
+  h = λ u T v walk.
+      let U = shift_at found u in let there = walk_at G g 1 found w u v.0 (some_walk G g found w all u v) in
+      at u v ∙ ap neg_ℤ (sym (same_dot c.x c.y c.z T.x T.y T.z U.x U.y U.z (closed (minus T U) (closed_difference G 1 u T U walk there))));
+}
+  where
+    closed : IsOrthogonal G c
+    closed = orthogonal_closed G 1 found c g (omega arith) w n.orthogonal
+
+    at : (u : ℕ) → IsQuotientVertex G u → entry (map (flat_colour c) found) u ≡ flat_colour c (walk_to found u)
+    at u v =
+        let count = w.count in let low = v.0 in let high = v.1 in
+        get_or-map (flat_colour c) found (u - 1) None (pos 0) (omega arith)
+
+-- The lattice of a net's closed walks of full rank.
+
+-- what was added is a member
+pub added_members : (d : ℕ) (m : ℤ) (vs : List Vector) (S : Stairs) → IsLatticeOf d m vs S → All (Members d S) vs
+added_members d m vs S h k v l =
+    let w = get_or vs k v in
+    with_has (Members d h.start) (Members d S) vs h.with (members_group d h.start).zero w (in_from_contains vs w k l (get_or_default vs k w v l))
+
+-- a sum without its last product
+sum_zero : (a b x y k z : ℤ) → k ≡ pos 0 → x *ℤ a +ℤ (y *ℤ b +ℤ k *ℤ z) ≡ x *ℤ a +ℤ y *ℤ b
+sum_zero a b x y k z e = let p = ap (λ t. t *ℤ z) e in omega (arith, linear, simp ring at p)
+
+-- the volume as a triple product
+volume_is : (a b c : Vector) → dot (cross a b) c ≡ triple_product a b c
+volume_is a b c = by a.x a.y a.z b.x b.y b.z c.x c.y c.z
+  where
+    by : (a1 a2 a3 b1 b2 b3 c1 c2 c3 : ℤ) → (a2 *ℤ b3 -ℤ a3 *ℤ b2) *ℤ c1 +ℤ (a3 *ℤ b1 -ℤ a1 *ℤ b3) *ℤ c2 +ℤ (a1 *ℤ b2 -ℤ a2 *ℤ b1) *ℤ c3
+        ≡ a1 *ℤ (b2 *ℤ c3 -ℤ b3 *ℤ c2) +ℤ a2 *ℤ (b3 *ℤ c1 -ℤ b1 *ℤ c3) +ℤ a3 *ℤ (b1 *ℤ c2 -ℤ b2 *ℤ c1)
+    by a1 a2 a3 b1 b2 b3 c1 c2 c3 = simp ring (omega (arith, linear))
+
+-- flat vectors have the triple product 0
+flat_triple : (a1 a2 a3 b1 b2 b3 v1 v2 v3 : ℤ) → a3 ≡ pos 0 → b3 ≡ pos 0 → v3 ≡ pos 0
+    → a1 *ℤ (b2 *ℤ v3 -ℤ b3 *ℤ v2) +ℤ a2 *ℤ (b3 *ℤ v1 -ℤ b1 *ℤ v3) +ℤ a3 *ℤ (b1 *ℤ v2 -ℤ b2 *ℤ v1) ≡ pos 0
+flat_triple a1 a2 a3 b1 b2 b3 v1 v2 v3 e f g =
+    let p = ap (λ t. a1 *ℤ (b2 *ℤ t)) g in let q = ap (λ t. a1 *ℤ (t *ℤ v2)) f in
+    let r = ap (λ t. a2 *ℤ (t *ℤ v1)) f in let s = ap (λ t. a2 *ℤ (b1 *ℤ t)) g in
+    let u = ap (λ t. t *ℤ (b1 *ℤ v2)) e in let w = ap (λ t. t *ℤ (b2 *ℤ v1)) e in
+    simp ring (omega (arith, linear, simp ring at p, simp ring at q, simp ring at r, simp ring at s, simp ring at u, simp ring at w))
+
+module _ (d : ℕ) (L : Vector → Type 0) (h : IsVectorGroup L) (dim : (v : Vector) → L v → HasDimension d v) (vs : List Vector) (all : All L vs) where
+  -- in the plane
+  flat_multiple : (a b v : Vector) → d ≡ 2 → L a → L b → HasDimension d v → L (times (triple_product a b (vector (pos 0) (pos 0) (pos 1))) v)
+  flat_multiple a b v two i j flat =
+      let up = vector (pos 0) (pos 0) (pos 1) in let k = products a b up v in
+      let none : k.z ≡ pos 0 = flat_triple a.x a.y a.z b.x b.y b.z v.x v.y v.z (dim a i two) (dim b j two) (flat two) in
+      let same : times (triple_product a b up) v ≡ plus (times k.x a) (times k.y b) =
+      cramer a b up v ∙ vector_equal (sum_zero a.x b.x k.x k.y k.z (pos 0) none) (sum_zero a.y b.y k.x k.y k.z (pos 0) none)
+      (sum_zero a.z b.z k.x k.y k.z (pos 1) none) in
+      subst L (sym same) (h.sums (times k.x a) (times k.y b) (times_in L h k.x a i) (times_in L h k.y b j))
+
+  -- in space
+  space_multiple : (a b c v : Vector) → L a → L b → L c → L (times (triple_product a b c) v)
+  space_multiple a b c v i j l =
+      let k = products a b c v in
+      subst L (sym (cramer a b c v)) (h.sums (times k.x a) (plus (times k.y b) (times k.z c)) (times_in L h k.x a i)
+      (h.sums (times k.y b) (times k.z c) (times_in L h k.y b j) (times_in L h k.z c l)))
+
+  -- with the sign
+  signed : (t m : ℤ) (v : Vector) → m ≡ pos (unsigned_abs t) → L (times t v) → L (times m v)
+  signed t m v e l =
+      let s = sign_of t in
+      subst L (sym (product_times s.0 t v) ∙ ap (λ k. times k v) (sym (e ∙ s.1))) (times_in L h s.0 (times t v) l)
+
+  -- the multiples of a volume are in the group
+  pub volume_multiples : (m : ℤ) → (d ≡ 2) ⊎ (d ≢ 2) → IsVolume d vs m → (v : Vector) → HasDimension d v → L (times m v)
+  volume_multiples m (inl two) s v flat =
+      let up = s.third.0 two in let i = All-contains L vs s.a all s.first in
+      let j = All-contains L vs s.b all s.second in
+      signed (dot (cross s.a s.b) s.c) m v s.is
+      (rw (volume_is s.a s.b s.c) (subst (λ c. L (times (triple_product s.a s.b c) v)) (sym up) (flat_multiple s.a s.b v two i j flat)))
+  volume_multiples m (inr n) s v flat =
+      signed (dot (cross s.a s.b) s.c) m v s.is
+      (subst (λ t. L (times t v)) (sym (volume_is s.a s.b s.c))
+      (space_multiple s.a s.b s.c v (All-contains L vs s.a all s.first) (All-contains L vs s.b all s.second) (All-contains L vs s.c all (s.third.1 n))))
+
+  -- a multiple that is 0
+  part_zero : (m u : ℤ) → pos 1 ≤ℤ m → m *ℤ u ≡ pos 0 → u ≡ pos 0
+  part_zero m u l e = other_factor_zero m u e (λ z. absurd (omega (arith, ints, z, l)))
+
+  -- and so is all of the lattice
+  pub lattice_inside : (m : ℤ) (S : Stairs) → (d ≡ 2) ⊎ (d ≢ 2) → IsVolume d vs m → IsLatticeOf d m vs S → (v : Vector) → Members d S v → L v
+  lattice_inside m S which s t v i = with_inside (Members d t.start) (Members d S) L vs t.with h multiples
+      (λ w k. All-contains L vs w all (contains_from_in vs w k)) v i
+    where
+      multiples : (u : Vector) → Members d t.start u → L u
+      multiples u k =
+          let w = (t.multiples u k.1).0 k in
+          let flat : HasDimension d w.0 = λ e. part_zero m w.0.z s.from (sym (ap (λ (t : Vector). t.z) w.1) ∙ k.1 e) in
+          subst L (sym w.1) (volume_multiples m which s w.0 flat)
+
+-- a dimension is 2 or not
+pub two_or_not : (d : ℕ) → (d ≡ 2) ⊎ (d ≢ 2)
+two_or_not d = grind arith
+
+-- full rank: the members are exactly the shifts of closed walks
+pub closed_by_volume : (G : Graph) (a : ℕ) (found : List (Option Vector)) (m : ℤ) (S : Stairs) → IsGraph G → IsQuotientVertex G a → AreWalks G a found
+    → IsVolume G.dimension (generators G found) m → IsLatticeOf G.dimension m (generators G found) S → AreClosedWalks G a S
+closed_by_volume G a found m S g q h s l = record {
+  out = λ v i. lattice_inside G.dimension (ClosedShift G a) (closed_group G a) (λ v c. walk_dimension G g a a v q c) (generators G found)
+      (generators_closed G g a found h q.0) m S (two_or_not G.dimension) s l v i;
+  into = λ v c. closed_in G g a found h (Members G.dimension S) (members_group G.dimension S) (added_members G.dimension m (generators G found) S l) q.0 v c;
+}
+
+-- Where all pivots are 1, the net is connected.
+
+-- each vector is a closed walk then, and the net is connected
+pub whole_connected : (G : Graph) (found : List (Option Vector)) (S : Stairs) → IsGraph G → AreWalks G 1 found → All IsSome found → AreClosedWalks G 1 S
+    → IsWhole S → IsConnected G
+whole_connected G found S g h all l w = connected_by_tree G (shift_at found) (is_tree G g found h all) (λ v d. l.out v (all_members S w v, d))
+
+-- the closed walks, where the dimension and the vectors are those of the graph
+pub closed_of : (G : Graph) (found : List (Option Vector)) (d : ℕ) (vs : List Vector) (m : ℤ) (S : Stairs) → IsGraph G → AreWalks G 1 found → G.dimension ≡ d
+    → vs ≡ generators G found
+    → IsVolume d vs m → IsLatticeOf d m vs S → AreClosedWalks G 1 S
+closed_of G found d vs m S g h e f v l =
+    closed_by_volume G 1 found m S g (one_vertex G g) h
+    (subst (λ d. IsVolume d (generators G found) m) (sym e) (subst (λ vs. IsVolume d vs m) f v))
+    (subst (λ d. IsLatticeOf d m (generators G found) S) (sym e) (subst (λ vs. IsLatticeOf d m vs S) f l))

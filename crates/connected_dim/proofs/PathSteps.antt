@@ -1,25 +1,22 @@
 -- The search in breadth goes on by one arc.
-use Rattle.std.proofs.Common.{◌≡◌, ℕ, zero, suc, ◌<◌, inl, inr, List, [], ◌∷◌, ◌++◌, length, map, get_or, refl, sym, ap, ◌∙◌, arith, pos, ◌<ℤ◌, subst, ◌+◌, ◌-◌}
-use Rattle.std.proofs.Common.{◌≤◌, Option, Some, All, Contains, ◌≢◌, ◌⊎◌, set, None, IsSome, get_or-set_other}
-use Rattle.std.proofs.lemmas.{Int.ints, List.Elements.All-contains, List.get_or_append_left}
-use Rattle.integers.proofs.lists.Members.{IsIn, contains_from_in, is_in}
-use Rattle.integers.proofs.lists.More.{drop_at, drop_all, in_more, drop_with}
-use Rattle.integers.proofs.{vectors.Laws.plus_associative, vectors.Laws.plus_commutative, vectors.Precedence.below_ways, numbers.Naturals.next_number}
-use Rattle.integers.proofs.{lists.Pieces.in_at}
+use Rattle.std.proofs.Common.{◌≡◌, ℕ, zero, suc, ◌<◌, inl, inr, List, [], ◌∷◌, ◌++◌, length, map, get_or, refl, sym, ap, ◌∙◌, arith, pos, ◌<ℤ◌, subst}
+use Rattle.std.proofs.Common.{◌+◌, ◌-◌, ◌≤◌, Option, Some, All, Contains, ◌≢◌, ◌⊎◌, set, None, IsSome, get_or-set_other, ◌*◌, ◌^◌}
+use Rattle.std.proofs.{lemmas.Int.ints, lemmas.List.Elements.All-contains, lemmas.List.get_or_append_left}
+use Rattle.std.specs.Prelude.{drop, is_some, if◌then◌else◌}
+use Rattle.integers.proofs.lists.Members.{IsIn, contains_from_in, is_in, in_at}
+use Rattle.integers.proofs.lists.GrownLists.{drop_at, drop_all, in_more, drop_with}
+use Rattle.integers.proofs.{numbers.Order.next_number, vectors.Laws.plus_associative, vectors.Laws.plus_commutative, vectors.Directions.below_ways}
 use Rattle.integers.specs.Vectors.{plus, IsBelow, Vector, zero_vector}
 use Rattle.periodic_net.specs.Graph.{Arc, Graph, IsArc}
 use Rattle.periodic_net.specs.Chosen.{path_shift, step_key, IsChosen}
 use Rattle.periodic_net.specs.Settling.{Entry, entry, IsSettling, IsComplete}
-use Rattle.periodic_net.specs.Breadth.{AreSortedArcs}
+use Rattle.periodic_net.specs.{Breadth.AreSortedArcs, Limits.most_walk}
 use Rattle.quotient_graph.specs.{Order.AreRising, Stars.IsStar, Stars.IsArcFrom}
-use Rattle.std.specs.Prelude.{drop, is_some, if◌then◌else◌}
-use Rattle.connected_dim.proofs.Starting.{none_at, some_value}
-use Rattle.connected_dim.proofs.Finding.{one_value, found_is, set_there, none_is_not_some}
 use Rattle.periodic_net.proofs.CallerLemmas.{complete_chosen, settle_start, settle_next, settle_end, settle_known, settle_new}
 use Rattle.connected_dim.specs.Search.{walk_to, none_found, order_with, IsSearch, found_with}
 use Rattle.connected_dim.specs.Paths.{IsPathSearch, IsBegun, IsSettledTo, AreChosenWalks}
-
--- The search in breadth at its start, at its next vertex, and at its end.
+use Rattle.connected_dim.specs.Bounds.{most_normal}
+use Rattle.connected_dim.proofs.Starting.{none_at, some_value, one_value, found_is, set_there, none_is_not_some}
 
 -- Lists of the vertices that were found, with their paths.
 
@@ -63,8 +60,7 @@ pub rising_sorted : (fs : List Arc) (u : ℕ) → ((f : Arc) → IsIn fs f → f
 rising_sorted [] u from h = tt
 rising_sorted (f ∷ fs) u from h = (
   (λ g i.
-      let c = contains_from_in fs g i in
-      let b = h 0 (suc c.0) g (omega arith) (omega arith) in
+      let c = contains_from_in fs g i in let b = h 0 (suc c.0) g (omega arith) (omega arith) in
       let b' : IsBelow (pos f.from ∷ step_key f) (pos g.from ∷ step_key g) =
       subst (λ (x : Arc). IsBelow (pos f.from ∷ step_key f) (pos x.from ∷ step_key x)) c.2 b in
       elim (below_ways (pos f.from) (pos g.from) (step_key f) (step_key g) b') [
@@ -183,8 +179,7 @@ module _ {G : Graph} {a : ℕ} {found : List (Option Vector)} {order : List ℕ}
   -- the arc leads to a vertex that was found
   path_known : IsSearch G a found order → 1 ≤ f.to → IsSome (walk_to found f.to) → IsPathSearch G a found order i left
   path_known h low some =
-      let v = some_value (walk_to found f.to) some in
-      let c = is_in order f.to (h.listed f.to v.0 low v.1) in
+      let v = some_value (walk_to found f.to) some in let c = is_in order f.to (h.listed f.to v.0 low v.1) in
       let z = entry_of s.known f.to (subst (λ us. IsIn us f.to) (sym s.vertices) c) in
       record {
         known = s.known;
@@ -239,3 +234,13 @@ module _ {G : Graph} {a : ℕ} {found : List (Option Vector)} {order : List ℕ}
         | inl k ↦ rw (e ∙ k.1, d ∙ k.2) (path_known h low k.0)
         | inr k ↦ rw (e ∙ k.1, d ∙ k.2) (path_new u T l at w low high k.0)
       ]
+
+-- Bounds of the products of a vector and a walk.
+
+-- of a normal
+pub flat_within : (n : ℕ) → n ≤ 3 * (most_normal * most_walk) → n ≤ 2 ^ 62
+flat_within n h = omega arith
+
+-- of a vector with parts below a pivot
+pub sparse_within : (n : ℕ) → n ≤ 3 * (2 ^ 60 * most_walk) → n ≤ 2 ^ 82
+sparse_within n h = omega arith

@@ -1,5 +1,7 @@
+pub mod BoxCounting
+pub mod BoxSearch
+pub mod Boxes
 pub mod CallerLemmas
-pub mod boxes
-pub mod classes
-pub mod layers
-pub mod points
+pub mod ClassShells
+pub mod Layers
+pub mod PointShells

@@ -1,5 +1,6 @@
 pub mod CallerLemmas
-pub mod KeysTelling
+pub mod OneAnswer
+pub mod Placements
+pub mod Splits
 pub mod Truth
-pub mod certain
-pub mod one
+pub mod examples

@@ -29,7 +29,7 @@ fn answers_to(alloc: Global, graphs: &[AnyGraph]) -> Result<Vec<Result<Net, Refu
     Ok(answers)
 }
 
-#[tactic(auto, using(crate::proofs::KeysTelling::keys_tell))]
+#[tactic(auto, using(crate::proofs::Truth::keys_tell))]
 /// What `identify` answers for each graph; where memory runs out for one of them, it ran out for
 /// all. The keys of two accepted graphs are equal exactly where their nets are isomorphic.
 pub fn keys_of(alloc: Global, graphs: &[AnyGraph]) -> Result<Vec<Result<Net, Refusal>>, NoMemory>

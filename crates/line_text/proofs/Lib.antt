@@ -1,10 +1,2 @@
 pub mod CallerLemmas
-pub mod Parsing
-pub mod Marks
-pub mod Digits
-pub mod NumberLists
-pub mod LineCuts
-pub mod Passing
-pub mod Between
-pub mod Injective
-pub mod Outcomes
+pub mod Texts

@@ -1,17 +1,6 @@
-pub mod AllParts
 pub mod CallerLemmas
-pub mod Classes
 pub mod Covered
-pub mod EdgeOrder
-pub mod IndexBounds
-pub mod LowRank
 pub mod MadeParts
 pub mod OneAnswer
-pub mod OnePart
-pub mod OneStair
 pub mod PartArcs
-pub mod PartConnected
-pub mod PartFacts
 pub mod PartNet
-pub mod Theorems
-pub mod WrittenEdges

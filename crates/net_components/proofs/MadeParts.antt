@@ -1,26 +1,231 @@
--- A part that is made of a component is the part of that component.
-use Rattle.std.proofs.Common.{◌≡◌, ◌⊎◌, inl, inr, ℕ, zero, suc, ◌+◌, ◌-◌, ◌<◌, ◌≤◌, ℤ, pos, unsigned_abs, List, length, Option, IsSome, Contains, refl, sym, ap}
-use Rattle.std.proofs.Common.{subst, ◌∙◌, arith}
-use Rattle.std.proofs.{lemmas.List.Elements.All-contains, Math.Decide.dec_lt}
-use Rattle.integers.specs.Vectors.{Vector, plus, minus, HasDimension, IsWithin, zero_vector}
-use Rattle.integers.specs.{Bases.base_sum, Staircase.IsStaircase}
-use Rattle.integers.proofs.{lists.Members.is_in, lists.Members.contains_from_in, vectors.OneStaircase.same_staircase}
-use Rattle.vecdim.specs.{Lattices.Members, Stairs.rows_of}
-use Rattle.periodic_net.specs.Graph.{Graph, IsGraph, Arc, arc, arcs, IsArc, IsEdge}
-use Rattle.periodic_net.specs.Limits.{IsSmall, most_shift, most_vertices}
-use Rattle.periodic_net.specs.{Split.ClosedShift, Components.InComponent}
-use Rattle.periodic_net.proofs.CallerLemmas.{edge_in, generator_closed}
+-- The graph of a component is a part and may be made as it stands, and what is made of a component is its part.
+use Rattle.std.proofs.Common.{◌≡◌, ℕ, zero, suc, ◌+◌, ◌-◌, ◌<◌, ◌≤◌, inl, inr, List, [], ◌∷◌, length, get_or, Option, Some, None, IsSome, refl, subst, ◌∙◌}
+use Rattle.std.proofs.Common.{arith, ap, map, ◌⊎◌, ℤ, pos, unsigned_abs, Contains, sym}
+use Rattle.std.{proofs.lemmas.List.get_or_default, proofs.lemmas.List.length-map, proofs.lemmas.List.Elements.All-from_recursion}
+use Rattle.std.{proofs.lemmas.List.Elements.All-contains, proofs.Math.Decide.dec_lt, specs.List.AllByRecursion, specs.List.AllPairs}
+use Rattle.integers.specs.Vectors.{Vector, IsBelow, IsWithin, zero_vector, plus, minus, HasDimension}
+use Rattle.integers.proofs.lists.Members.{in_at, IsIn, contains_from_in, is_in}
+use Rattle.integers.{specs.Bases.base_sum, specs.Staircase.IsStaircase, proofs.lists.Permutations.IsRising, proofs.lists.Permutations.rising_from_pairs}
+use Rattle.integers.{proofs.vectors.StairBasis.same_staircase}
+use Rattle.net_components.specs.PartGraphs.{stair_base, IsPart, IsWritten, AreWritten, IsNumber}
 use Rattle.net_components.specs.Parts.{vertex_at, root_of, IsPartOf}
+use Rattle.net_components.specs.Written.{IsEdgeOf, AreEdgesOf, IsMadeOf}
 use Rattle.net_components.specs.Shifts.{IsShiftIn, IsFirstWide, IsWideAt, AreNarrow}
-use Rattle.net_components.specs.{PartGraphs.stair_base, PartGraphs.IsNumber, Components.Component, Components.IsComponent, Vertices.vertices_of}
-use Rattle.net_components.specs.{Written.IsEdgeOf, Written.IsMadeOf, Copies.HasCopies, declared.parts.Part.Part}
-use Rattle.connected_dim.specs.{Search.walk_to, Generators.shift_at, Generators.generator_of}
-use Rattle.net_components.proofs.Covered.{found_in, tells, in_found}
-use Rattle.net_components.proofs.PartFacts.{back, in_list, vertices_few, is_part, number_for, number_in, numbers_rise, some_number, graph_small}
-use Rattle.net_components.proofs.{Classes.copy_count, WrittenEdges.edge_written, OneStair.at_least_two, OneStair.at_most_three}
+use Rattle.net_components.proofs.PartArcs.{written_as, written_few, written_for, edge_written, at_least_two, at_most_three}
+use Rattle.net_components.proofs.Covered.{found_in, in_found, tells, copy_count}
+use Rattle.net_components.{specs.Vertices.vertices_of, specs.Copies.HasCopies, specs.declared.parts.Part.Part, specs.Components.Component}
+use Rattle.net_components.{specs.Components.IsComponent, proofs.PartNet.part_graph, proofs.PartNet.written_below}
+use Rattle.periodic_net.specs.Graph.{Graph, IsGraph, Arc, IsEdge, arc, arcs, IsArc}
+use Rattle.periodic_net.specs.Limits.{IsSmall, most_shift, most_vertices, most_edges}
+use Rattle.periodic_net.{specs.Components.InComponent, specs.Split.ClosedShift, proofs.CallerLemmas.edge_in, proofs.CallerLemmas.generator_closed}
+use Rattle.quotient_graph.specs.{Order.arc_numbers, Order.AreRising, Stars.graph_with, EdgeLists.IsEdgeAmong, EdgeLists.AreEdgesOfGraph}
+use Rattle.connected_dim.specs.{Generators.shift_at, Generators.generator_of, Search.walk_to}
+use Rattle.cgd_read.specs.{Spelling.edge_of, declared.edge.RawEdge.RawEdge}
+use Rattle.vecdim.{specs.Lattices.Members, specs.Stairs.rows_of, proofs.CallerLemmas.rows_are_basis}
 use Prim.{Dec, yes, no}
-use Rattle.vecdim.proofs.CallerLemmas.{rows_are_basis}
 pub use Rattle.connected_dim.proofs.CallerLemmas.{walk_is}
+
+-- The vertices that were found, as a list.
+
+-- a vertex, from its place, which is counted from 0
+pub back : (u : ℕ) → 1 ≤ u → 1 + (u - 1) ≡ u
+back u l = omega arith
+
+-- a vertex of the list stands from u on, and was found
+pub record IsListed (u : ℕ) (found : List (Option Vector)) (v : ℕ) : Type 0 where
+  pub low : u ≤ v
+  pub high : v < u + length found
+  pub there : IsSome (get_or found (v - u) None)
+
+listed_next : (u : ℕ) (o : Option Vector) (found : List (Option Vector)) (v : ℕ) → IsListed (u + 1) found v → IsListed u (o ∷ found) v
+listed_next u o found v h = let a = h.low in let b = h.high in record {
+  low = omega arith;
+  high = omega arith;
+  there = subst (λ k. IsSome (get_or (o ∷ found) k None)) (next u v a) h.there;
+}
+  where
+    next : (u v : ℕ) → u + 1 ≤ v → suc (v - (u + 1)) ≡ v - u
+    next u v l = omega arith
+
+pub listed : (u : ℕ) (found : List (Option Vector)) (v : ℕ) → IsIn (vertices_of u found) v → IsListed u found v
+listed u [] v h = elim h [ ]
+listed u (None ∷ found) v h = listed_next u None found v (listed (u + 1) found v h)
+listed u (Some T ∷ found) v (inl e) = record {
+  low = omega arith;
+  high = omega arith;
+  there = subst (λ k. IsSome (get_or (Some T ∷ found) k None)) (same u v e) refl;
+}
+  where
+    same : (u v : ℕ) → u ≡ v → 0 ≡ v - u
+    same u v e = omega arith
+listed u (Some T ∷ found) v (inr h) = listed_next u (Some T) found v (listed (u + 1) found v h)
+
+next_place : (u k : ℕ) → u + 1 + k ≡ u + suc k
+next_place u k = omega arith
+
+-- what was found is listed
+pub in_list : (u : ℕ) (found : List (Option Vector)) (k : ℕ) → k < length found → IsSome (get_or found k None) → IsIn (vertices_of u found) (u + k)
+in_list u [] k l h = absurd (omega arith)
+in_list u (None ∷ found) zero l h = cc
+in_list u (Some T ∷ found) zero l h = inl (omega arith)
+in_list u (None ∷ found) (suc k) l h = subst (IsIn (vertices_of (u + 1) found)) (next_place u k) (in_list (u + 1) found k (omega arith) h)
+in_list u (Some T ∷ found) (suc k) l h = inr (subst (IsIn (vertices_of (u + 1) found)) (next_place u k) (in_list (u + 1) found k (omega arith) h))
+
+-- the one at a place is
+pub listed_at : (u : ℕ) (found : List (Option Vector)) (i : ℕ) → i < length (vertices_of u found) → IsListed u found (get_or (vertices_of u found) i 0)
+listed_at u found i l = listed u found (get_or (vertices_of u found) i 0) (in_at (vertices_of u found) i 0 l)
+
+-- they rise
+pub vertices_rise : (u : ℕ) (found : List (Option Vector)) (i j : ℕ) → i < j → j < length (vertices_of u found)
+    → get_or (vertices_of u found) i 0 < get_or (vertices_of u found) j 0
+vertices_rise u (None ∷ found) i j l m = vertices_rise (u + 1) found i j l m
+vertices_rise u (Some T ∷ found) zero (suc j) l m = let h = listed_at (u + 1) found j (omega arith) in let a = h.low in omega arith
+vertices_rise u (Some T ∷ found) (suc i) (suc j) l m = vertices_rise (u + 1) found i j (omega arith) (omega arith)
+vertices_rise u found i j l m = absurd (omega arith)
+
+-- they are no more than the vertices
+pub vertices_few : (u : ℕ) (found : List (Option Vector)) → length (vertices_of u found) ≤ length found
+vertices_few u [] = omega arith
+vertices_few u (None ∷ found) = let h = vertices_few (u + 1) found in omega arith
+vertices_few u (Some T ∷ found) = let h = vertices_few (u + 1) found in omega arith
+
+-- a member stands at a place
+pub place_of : (xs : List ℕ) (x : ℕ) → IsIn xs x → (i : ℕ) × (i < length xs) × (get_or xs i 0 ≡ x)
+place_of xs x h = let c = contains_from_in xs x h in (c.0, c.1, get_or_default xs c.0 0 x c.1 ∙ c.2)
+
+-- a list each of whose members stands before all later ones rises
+pairs_from_rising : {X : Type 0} (before : X → X → Type 0) (xs : List X) → IsRising before xs → AllPairs before xs
+pairs_from_rising before (x ∷ xs) h zero (suc j) d a b = h.0 (get_or xs j d) (in_at xs j d (omega arith))
+pairs_from_rising before (x ∷ xs) h (suc i) (suc j) d a b = pairs_from_rising before xs h.1 i j d (omega arith) (omega arith)
+pairs_from_rising before xs h i j d a b = absurd (omega arith)
+
+-- e stands before f
+abbrev Precedes : Arc → Arc → Type 0
+Precedes e f = IsBelow (arc_numbers e) (arc_numbers f)
+
+-- written edges rise where the edges do
+written_rise : (K : ℕ → Type 0) (W : Arc → Arc → Type 0) → ((e d f g : Arc) → W e f → W d g → Precedes e d → Precedes f g)
+    → (es fs : List Arc) → AreWritten K W es fs → IsRising Precedes es → IsRising Precedes fs
+written_rise K W keep [] (f ∷ fs) h r = absurd h
+written_rise K W keep es [] h r = tt
+written_rise K W keep (e ∷ es) (f ∷ fs) (inl h) r = written_rise K W keep es (f ∷ fs) h.1 r.1
+written_rise K W keep (e ∷ es) (f ∷ fs) (inr h) r = (
+  (λ g i. let k = written_for K W es fs h.2 g i in keep e k.0 f g h.1 k.2 (r.0 k.0 k.1)),
+  written_rise K W keep es fs h.2 r.1,
+)
+
+module _ (G : Graph) (g : IsGraph G) (s : IsSmall G) (c : Component) (h : IsComponent G c) where
+  abbrev vs : List ℕ
+  vs = vertices_of 1 c.found
+
+  -- a number has a vertex of the component
+  pub number_in : (i : ℕ) → IsNumber (length vs) i → InComponent G c.root (vertex_at vs i)
+  number_in i n =
+      let k = listed_at 1 c.found (i - 1) (let a = n.0 in let b = n.1 in omega arith) in
+      let low = k.low in let high = k.high in let count = h.walks.count in
+      found_in G c h (vertex_at vs i) (low, omega (arith, low, high, count)) k.there g
+
+  -- and each vertex of the component a number
+  pub number_for : (u : ℕ) → InComponent G c.root u → (i : ℕ) × IsNumber (length vs) i × (vertex_at vs i ≡ u)
+  number_for u i =
+      let low = i.vertex.0 in let high = i.vertex.1 in let count = h.walks.count in
+      let p = place_of vs u (subst (IsIn vs) (back u low) (in_list 1 c.found (u - 1) (omega (arith, low, high, count)) (in_found G c h u i g))) in
+      let l = p.1 in (p.0 + 1, (omega arith, omega (arith, l)), ap (λ k. get_or vs k 0) (less p.0) ∙ p.2)
+    where
+      less : (k : ℕ) → k + 1 - 1 ≡ k
+      less k = omega arith
+
+  -- some vertex has one
+  pub some_number : 1 ≤ length vs
+  some_number =
+      let n = number_for c.root (record {
+        vertex = h.least.vertex;
+        shift = zero_vector;
+        walk = h.walks.walks c.root zero_vector h.least.vertex.0 h.walks.first;
+      }) in
+      let a = n.1.0 in let b = n.1.1 in omega (arith, a, b)
+
+  -- the vertices rise
+  pub numbers_rise : (i j : ℕ) → IsNumber (length vs) i → IsNumber (length vs) j → i < j → vertex_at vs i < vertex_at vs j
+  numbers_rise i j n m l = vertices_rise 1 c.found (i - 1) (j - 1) (let a = n.0 in omega (arith, a, l)) (let a = m.0 in let b = m.1 in omega (arith, a, b))
+
+  module _ (fs : List Arc) (w : AreEdgesOf G c G.edges fs) where
+    abbrev pub H : Graph
+    H = graph_with G.dimension (length vs) fs
+
+    -- the graph is the part of the component
+    pub is_part : IsPart G c.root (shift_at c.found) c.stairs (vertex_at vs) H
+    is_part = record {
+      dimension = refl;
+      least = h.least;
+      walks = tells G g c h;
+      vertices = number_in;
+      each = number_for;
+      rising = numbers_rise;
+      full = h.full;
+      edges = written_as (InComponent G c.root) (IsEdgeOf G c) (IsWritten G.dimension (length vs) (shift_at c.found) (stair_base c.stairs) (vertex_at vs))
+          (λ e f _ k. k.written) G.edges fs w;
+    }
+
+    -- so it is a graph
+    pub is_graph : IsGraph H
+    is_graph = part_graph G g c.root (shift_at c.found) c.stairs (vertex_at vs) H is_part
+
+    -- within the limits
+    pub is_small : (f : Arc) → IsIn fs f → IsWithin most_shift f.shift
+    is_small f i = (written_for (InComponent G c.root) (IsEdgeOf G c) G.edges fs w f i).2.small
+
+    pub few_edges : length fs ≤ most_edges
+    few_edges = let l = written_few (InComponent G c.root) (IsEdgeOf G c) G.edges fs w in let k = s.edges in omega (arith, l, k)
+
+    pub few_vertices : length vs ≤ most_vertices
+    few_vertices = let a = vertices_few 1 c.found in let b = h.walks.count in let d = s.vertices in omega (arith, a, b, d)
+
+    -- so it is small
+    pub graph_small : IsSmall H
+    graph_small = record {
+      vertices = few_vertices;
+      edges = few_edges;
+      shifts = All-from_recursion (λ (f : Arc). IsWithin most_shift f.shift) fs (each fs is_small);
+    }
+      where
+        each : (fs : List Arc) → ((f : Arc) → IsIn fs f → IsWithin most_shift f.shift) → AllByRecursion (λ (f : Arc). IsWithin most_shift f.shift) fs
+        each [] k = tt
+        each (f ∷ fs) k = (k f (inl refl), each fs (λ e i. k e (inr i)))
+
+    -- whose edges rise
+    pub edges_rise : AreRising G.edges → AreRising fs
+    edges_rise r = pairs_from_rising Precedes fs (written_rise (InComponent G c.root) (IsEdgeOf G c)
+        (λ e d f k a b l. written_below G c.root (shift_at c.found) c.stairs (vertex_at vs) H is_part e d f k a.written b.written l)
+        G.edges fs w (rising_from_pairs Precedes G.edges r))
+
+-- The edges that are written for a component may stand as a graph.
+
+each_among : (d n : ℕ) (es : List RawEdge) → ((e : RawEdge) → IsIn es e → IsEdgeAmong d n e) → AllByRecursion (IsEdgeAmong d n) es
+each_among d n [] h = tt
+each_among d n (e ∷ es) h = (h e (inl refl), each_among d n es (λ f i. h f (inr i)))
+
+in_image : (es : List RawEdge) (e : RawEdge) → IsIn es e → IsIn (map edge_of es) (edge_of e)
+in_image [] e i = elim i [ ]
+in_image (f ∷ es) e (inl s) = inl (ap edge_of s)
+in_image (f ∷ es) e (inr i) = inr (in_image es e i)
+
+pub edges_of_graph : (G : Graph) (g : IsGraph G) (s : IsSmall G) (c : Component) (h : IsComponent G c) (es : List RawEdge)
+    → AreEdgesOf G c G.edges (map edge_of es) → AreRising G.edges
+    → AreEdgesOfGraph G.dimension (length (vertices_of 1 c.found)) es
+edges_of_graph G g s c h es w r =
+    let fs = map edge_of es in let graph = is_graph G g s c h fs w in
+    record {
+      dimension = g.dimension;
+      vertices = (some_number G g s c h, few_vertices G g s c h fs w);
+      count = subst (λ n. n ≤ most_edges) (length-map es edge_of) (few_edges G g s c h fs w);
+      each = All-from_recursion (IsEdgeAmong G.dimension (length (vertices_of 1 c.found))) es
+          (each_among G.dimension (length (vertices_of 1 c.found)) es (λ e i.
+          let k = in_image es e i in
+          let edge = All-contains (IsEdge (H G g s c h fs w)) fs (edge_of e) graph.edges (contains_from_in fs (edge_of e) k) in
+          record { first = edge.from; second = edge.to; flat = edge.shift; small = is_small G g s c h fs w (edge_of e) k; spelling = edge.spelling }));
+      rising = edges_rise G g s c h fs w r;
+    }
 
 -- An edge of a component: where it stands, its closed walk, and its shift in the graph of the component.
 
@@ -42,8 +247,7 @@ inside_of d (suc (suc zero)) k value dim flat w = by dim
     by : (d ≡ 2) ⊎ (d ≡ 3) → 2 ≤ d
     by (inl e) = omega (arith, e)
     by (inr e) = omega (arith, e)
-inside_of d (suc (suc (suc zero))) k value (inl e) flat w =
-    absurd (none value (w.is ∙ flat e) w.past)
+inside_of d (suc (suc (suc zero))) k value (inl e) flat w = absurd (none value (w.is ∙ flat e) w.past)
   where
     none : (x : ℤ) → x ≡ pos 0 → most_shift < unsigned_abs x → ⊥
     none x e l = let h : unsigned_abs x ≡ 0 = ap unsigned_abs e in omega (arith, h, l)

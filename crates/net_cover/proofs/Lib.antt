@@ -1,12 +1,5 @@
 pub mod CallerLemmas
-pub mod CellNumbers
-pub mod CellReading
-pub mod Coefficients
-pub mod CoverArcs
-pub mod CoverIso
+pub mod CellRows
 pub mod CoverMade
-pub mod Covered
-pub mod GivenEdges
-pub mod LiftSteps
+pub mod CoverNet
 pub mod OneCover
-pub mod OneFault

@@ -126,7 +126,7 @@ fn find_cell(alloc: Global, word: &[u8]) -> Result<Option<Cell>, NoMemory>
 }
 
 /// The cell that a word spells: the parts of its rows, row by row, with commas between them.
-#[tactic(auto, using(crate::proofs::CellReading::is_read))]
+#[tactic(auto, using(crate::proofs::CellRows::is_read))]
 pub fn cell_of(alloc: Global, word: &[u8]) -> Result<Option<Cell>, NoMemory>
     ensures cell { IfOk result (λ o. IfSome o (SpellsCell word.now)) }
     ensures none { IfOk result (λ o. o ≡ None → (R : CellView) → ¬ SpellsCell word.now R) }

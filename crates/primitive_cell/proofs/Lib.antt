@@ -1,9 +1,3 @@
-pub mod ClassEdges
-pub mod Dimensions
-pub mod FirstPlaces
 pub mod GivenEdges
 pub mod MadePrimitive
-pub mod RisingSums
-pub mod StairBasis
-pub mod TranslationStairs
 pub mod WholeGraph

@@ -1,24 +1,22 @@
--- What the edges of all classes make is the primitive graph.
-use Rattle.std.proofs.Common.{◌≡◌, ℕ, ◌≤◌, List, length, sym, subst, arith, ap, ◌∙◌, ◌↔◌, ◌+◌, ◌<◌, [], ◌∷◌, ◌++◌, get_or}
-use Rattle.std.proofs.Math.Decide.{dec_le}
+-- What the edges of all classes make is the primitive graph, from the first places of its numbers.
+use Rattle.std.proofs.Common.{◌≡◌, ℕ, ◌≤◌, List, length, sym, subst, arith, ap, ◌∙◌, ◌↔◌, ◌+◌, ◌<◌, [], ◌∷◌, ◌++◌, get_or, ◌-◌, length-append}
+use Rattle.std.{proofs.Math.Decide.dec_le, proofs.Math.Seq.get_or-append_seam, proofs.lemmas.List.get_or_append_left, specs.List.Contains}
 use Prim.{Dec, yes, no}
 use Rattle.periodic_net.specs.Classes.{IsClassGraph, ClassGraph, ClassArc}
 use Rattle.periodic_net.specs.Graph.{Graph, IsGraph, IsQuotientVertex, arc, Arc, IsNormalSpelling}
-use Rattle.periodic_net.specs.{Correspondence.IsClass, Placement.Placement, Placement.IsStablePlacement, Limits.IsSmall}
-use Rattle.periodic_net.proofs.CallerLemmas.{one_placement, flat_arcs}
+use Rattle.periodic_net.{specs.Correspondence.IsClass, specs.Limits.IsSmall, specs.Placement.Placement, specs.Placement.IsStablePlacement}
+use Rattle.periodic_net.{proofs.CallerLemmas.one_placement, proofs.CallerLemmas.flat_arcs}
 use Rattle.key_theory.specs.Primitive.{IsLeastMember, Gives, IsPrimitive}
-use Rattle.key_theory.specs.PrimitiveLaws.{IsDivided}
+use Rattle.key_theory.{specs.PrimitiveLaws.IsDivided, proofs.CallerLemmas.primitive_is_divided}
 use Rattle.quotient_graph.specs.NetClasses.{NetClasses, AreClasses, AreClassesAt, class_at, class_arc_numbers}
 use Rattle.quotient_graph.specs.{PlacedNets.PlacedNet, ClassNets.arcs_of, Stars.graph_with}
 use Rattle.vecdim.specs.{Stairs.Stairs, Stairs.rows_of, Lattices.Members}
 use Rattle.primitive_cell.specs.PrimitiveCells.{IsTranslationLattice, IsPrimitiveCell, IsArcBelow, AreEdgesBelow}
-use Rattle.primitive_cell.specs.Places.{number_at, IsPlace, AreInOrder, AreFirstPlaces}
+use Rattle.primitive_cell.specs.Places.{number_at, IsPlace, AreInOrder, AreFirstPlaces, IsFirstPlace}
 use Rattle.primitive_cell.specs.Given.{move_of, IsGivenBy, AreGivenEdges}
-use Rattle.std.specs.List.{Contains}
+use Rattle.primitive_cell.proofs.GivenEdges.{IsCell, move_translates, gives_of, given_of, With, none_given, same_given, edge_passed, edge_added, IsArcUpTo}
+use Rattle.primitive_cell.proofs.GivenEdges.{star_arc, star_starts, star_goes_on, star_rises, star_ends}
 use Rattle.integers.specs.Vectors.{Vector, parts, combination, HasDimension, IsBelow}
-use Rattle.primitive_cell.proofs.GivenEdges.{IsCell, move_translates, gives_of, given_of, With, none_given, same_given, edge_passed, edge_added}
-use Rattle.primitive_cell.proofs.ClassEdges.{IsArcUpTo, star_arc, star_starts, star_goes_on, star_rises, star_ends}
-use Rattle.key_theory.proofs.CallerLemmas.{primitive_is_divided}
 
 -- The primitive cell, from the classes in memory.
 
@@ -73,8 +71,7 @@ module _ (G : Graph) (p : Placement) (ns : List ℕ) (K : ClassGraph) (count : l
         by (yes h) =
             let r = f.each (length us) (h, omega arith) in
             let b = k.below (number_at us (length us)) (vertex_of (number_at us (length us)) r.place) in
-            let e = r.number in
-            omega (arith, b, e, most)
+            let e = r.number in omega (arith, b, e, most)
         by (no h) = let one = k.numbering.positive k.last.0 k.last.1 in let e = k.last.2 in absurd (omega (arith, h, one, e, most))
 
     -- the first place of a class is its least member
@@ -188,8 +185,7 @@ module _ (d : ℕ) (N : PlacedNet) (c : NetClasses) (us : List ℕ) (S : Stairs)
     where
       there : Contains es e → IsNormalSpelling e × Gives N.graph N.placement (class_at c.numbers) (rows_of d S) e
       there h =
-          let k = (g.exact e).0 h in
-          let b = k.1.0 in
+          let k = (g.exact e).0 h in let b = k.1.0 in
           let given = subst (λ (n : ℕ). IsGivenBy n N.placement (number_at us) (rows_of d S) b e) (sym p.lattice.dimension) k.1.2 in
           (k.0, gives_of N.graph N.placement (class_at c.numbers) c.classes (number_at us) (rows_of d S) (cell_of d N c us S p) b e k.1.1.0 given)
 
@@ -207,3 +203,64 @@ module _ (d : ℕ) (N : PlacedNet) (c : NetClasses) (us : List ℕ) (S : Stairs)
   -- and it is divided
   pub divided_made : IsDivided N.graph (graph_with d c.classes.count es)
   divided_made = search (arith, primitive_is_divided, primitive_made)
+
+-- The first places of the numbers of a list, found one after the other.
+
+-- the list us has the first places of the numbers at the first m places of ns
+pub record AreFirstPlacesTo (ns : List ℕ) (m : ℕ) (us : List ℕ) : Type 0 where
+  pub each : (c : ℕ) → IsPlace us c → IsFirstPlace ns c (number_at us c)
+  pub all : (u : ℕ) → IsPlace ns u → u ≤ m → number_at ns u ≤ length us
+
+-- at first there are none
+pub none_yet : (ns : List ℕ) → AreFirstPlacesTo ns 0 []
+none_yet ns = record { each = λ c i. absurd (let a = i.0 in let b = i.1 in omega arith); all = λ u i l. absurd (let a = i.0 in omega arith) }
+
+-- at the end there are all
+pub all_found : (ns us : List ℕ) (m : ℕ) → length ns ≤ m → AreInOrder ns → AreFirstPlacesTo ns m us → AreFirstPlaces ns us
+all_found ns us m l o f = record { each = f.each; all = λ u i. (o.positive u i, f.all u i (let b = i.1 in omega arith)) }
+
+-- the place after the first m holds the element at m
+next_number : (ns : List ℕ) (m u : ℕ) → u ≡ m + 1 → number_at ns u ≡ get_or ns m 0
+next_number ns m u e = ap (λ (k : ℕ). get_or ns k 0) (let s : u - 1 ≡ m = omega (arith, e) in s)
+
+-- a number that stands before already adds nothing
+pub place_passed : (ns us : List ℕ) (m : ℕ) → get_or ns m 0 ≤ length us → AreFirstPlacesTo ns m us → AreFirstPlacesTo ns (m + 1) us
+place_passed ns us m h f = search (arith, dec_le)
+
+-- a new number is one above the numbers before it
+new_is_next : (ns us : List ℕ) (m : ℕ) → m < length ns → length us < get_or ns m 0 → AreInOrder ns → AreFirstPlacesTo ns m us → get_or ns m 0 ≡ length us + 1
+new_is_next ns us m l h o f = by (dec_le (get_or ns m 0) (length us + 1))
+  where
+    here : number_at ns (m + 1) ≡ get_or ns m 0
+    here = next_number ns m (m + 1) (omega arith)
+
+    by : Dec (get_or ns m 0 ≤ length us + 1) → get_or ns m 0 ≡ length us + 1
+    by (yes a) = omega (arith, a, h)
+    by (no a) =
+        let b = o.before (m + 1) (length us + 1) (omega arith, omega arith) (omega arith) (omega (arith, a, here)) in
+        let k = f.all b.0 b.2 (let s = b.1 in omega (arith, s)) in let e = b.3 in absurd (omega (arith, k, e))
+
+module _ (ns us : List ℕ) (m : ℕ) (l : m < length ns) (h : length us < get_or ns m 0) (o : AreInOrder ns) (f : AreFirstPlacesTo ns m us) where
+  -- the list with the new place
+  abbrev us' : List ℕ
+  us' = us ++ (m + 1) ∷ []
+
+  -- it has one place more
+  longer : length us' ≡ length us + 1
+  longer = length-append us ((m + 1) ∷ [])
+
+  -- its last place holds m + 1
+  last_place : (c : ℕ) → c ≡ length us + 1 → number_at us' c ≡ m + 1
+  last_place c e = ap (λ (k : ℕ). get_or us' k 0) (let s : c - 1 ≡ length us = omega (arith, e) in s) ∙ get_or-append_seam us (m + 1) [] 0
+
+  -- each place before holds what it held
+  earlier_place : (c : ℕ) → IsPlace us c → number_at us' c ≡ number_at us c
+  earlier_place c i = get_or_append_left us ((m + 1) ∷ []) 0 (c - 1) (let a = i.0 in let b = i.1 in omega (arith, a, b))
+
+  -- the new place is the first of its number
+  first_here : (c : ℕ) → c ≡ length us + 1 → IsFirstPlace ns c (m + 1)
+  first_here c e = search (arith, new_is_next, dec_le)
+
+  -- a new number adds its place
+  pub place_found : AreFirstPlacesTo ns (m + 1) us'
+  place_found = grind (arith, dec_le, earlier_place, longer, last_place, first_here, new_is_next)

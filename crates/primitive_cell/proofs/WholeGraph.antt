@@ -1,22 +1,60 @@
--- The lists of all classes, written in coordinates, are a class graph in memory.
-use Rattle.std.proofs.Common.{◌≡◌, ◌∙◌, refl, ap, ℕ, suc, ◌+◌, ◌-◌, ◌<◌, ◌≤◌, List, [], ◌∷◌, ◌++◌, length, map, arith, subst, ◌⊎◌, sym}
+-- Vectors, and so the lists of all classes, written in the coordinates of a staircase, that of the translations too.
+use Rattle.std.proofs.Common.{◌≡◌, ◌∙◌, ◌⊎◌, inl, inr, sym, ap, ℕ, ℤ, pos, ◌*ℤ◌, [], ◌∷◌, arith, refl, suc, ◌+◌, ◌-◌, ◌<◌, ◌≤◌, List, ◌++◌, length, map}
+use Rattle.std.proofs.Common.{subst, take, ◌↔◌}
 use Rattle.std.proofs.lemmas.List.{get_or_append_left, get_or_push, map-append, length-append, length-map, same_lists, get_or-map, get_or_default}
-use Rattle.std.proofs.{Math.ListN.get_or, lemmas.Bool.cases_lt, lemmas.List.Elements.All-contains, lemmas.Bool.Decides.Decides-eqb}
+use Rattle.std.proofs.lemmas.List.Elements.{All-contains, All-more, All-weaker}
 use Rattle.std.specs.Prelude.{flat_map, slice_index_or, ◌==◌}
-use Rattle.std.specs.List.{Contains}
-use Rattle.integers.proofs.lists.Members.{IsIn, contains_from_in, is_in}
-use Rattle.integers.proofs.lists.Filters.{in_filter}
-use Rattle.integers.proofs.lists.Pieces.{all_from_in, in_pieces, map_in}
-use Rattle.periodic_net.specs.{Classes.ClassGraph, Classes.ClassArc, Graph.Graph, Limits.most_units, Correspondence.IsClass, Correspondence.IsProperArc}
+use Rattle.std.{proofs.Math.ListN.get_or, proofs.lemmas.Bool.cases_lt, proofs.lemmas.Bool.Decides.Decides-eqb, specs.List.Contains}
+use Rattle.integers.specs.Vectors.{Vector, plus, times, parts, combination, triple_product, HasDimension, IsWithin, zero_vector}
+use Rattle.integers.proofs.numbers.Ring.{ring, linear, factor_zero}
+use Rattle.integers.proofs.vectors.Laws.{plus_zero, zero_times, plus_commutative, plus_associative, times_plus, times_zero, plus_dimension, times_dimension}
+use Rattle.integers.proofs.vectors.Laws.{divided_dimension}
+use Rattle.integers.proofs.lists.Members.{IsIn, contains_from_in, is_in, in_filter, all_from_in, in_pieces, map_in}
+use Rattle.integers.{specs.Bases.base_sum, specs.Staircase.IsStaircase, proofs.numbers.Order.positive_is_some, proofs.numbers.Division.steps_dimension}
+use Rattle.integers.{proofs.vectors.StairBasis.same_staircase}
+use Rattle.key_theory.specs.Coordinates.{IsBasisOf, arc_by_basis, graph_by_basis, AreCoordinates}
+use Rattle.key_theory.proofs.CallerLemmas.{coordinates_net, translations_group}
+use Rattle.vecdim.specs.Stairs.{Stairs, HasStairShape, rows_of}
+use Rattle.vecdim.specs.Lattices.{Members, IsWith, AreMultiples}
+use Rattle.vecdim.proofs.CallerLemmas.{with_has, members_group, with_start, with_inside}
+use Rattle.primitive_cell.specs.Lattices.{basis_of, IsInCoordinates, AreInCoordinates, AreWithinUnits, IsProperly, IsInside, AreInside}
+use Rattle.primitive_cell.specs.PrimitiveCells.{IsTranslationLattice}
+use Rattle.periodic_net.specs.Classes.{ClassGraph, ClassArc, IsTranslation, AreTranslations}
+use Rattle.periodic_net.{specs.Graph.Graph, specs.Graph.IsGraph, specs.Limits.most_units, specs.Placement.Placement, specs.Placement.IsStablePlacement}
+use Rattle.periodic_net.{specs.Correspondence.IsClass, specs.Correspondence.IsProperArc, proofs.CallerLemmas.translations_are_group}
+use Rattle.periodic_net.{proofs.CallerLemmas.moves_are_translations}
 use Rattle.quotient_graph.specs.ClassNets.{arcs_of, class_star, class_graph, HasStars, IsSmallNet, IsNetInMemory}
-use Rattle.quotient_graph.specs.NetClasses.{AreClassesOf}
-use Rattle.quotient_graph.proofs.CallerLemmas.{LeaveFrom, stars_are_arcs}
-use Rattle.vecdim.specs.Stairs.{Stairs, HasStairShape}
-use Rattle.primitive_cell.specs.Lattices.{IsInCoordinates, AreInCoordinates, AreWithinUnits, basis_of, IsProperly}
-use Rattle.integers.specs.Vectors.{Vector, IsWithin}
-use Rattle.key_theory.specs.Coordinates.{arc_by_basis, graph_by_basis, AreCoordinates}
-use Rattle.key_theory.proofs.CallerLemmas.{coordinates_net}
-use Rattle.primitive_cell.proofs.StairBasis.{stairs_are_basis}
+use Rattle.quotient_graph.{specs.NetClasses.AreClassesOf, specs.PlacedNets.PlacedNet, proofs.CallerLemmas.LeaveFrom, proofs.CallerLemmas.stars_are_arcs}
+
+-- a combination of the rows is the sum of the basis
+pub combination_is_sum : (d : ℕ) → (d ≡ 2) ⊎ (d ≡ 3) → (S : Stairs) (k : Vector) → HasDimension d k
+    → combination (parts 3 k) (rows_of d S) ≡ base_sum (basis_of S) k
+combination_is_sum d (inl e) S k flat =
+    let b = basis_of S in let two : rows_of d S ≡ b.first ∷ b.second ∷ [] = ap (λ (n : ℕ). rows_of n S) e in
+    ap (combination (parts 3 k)) two
+    ∙ ap (λ (v : Vector). plus (times k.x b.first) (plus (times k.y b.second) v)) (sym (ap (λ (z : ℤ). times z b.third) (flat e) ∙ zero_times b.third))
+combination_is_sum d (inr e) S k flat =
+    let b = basis_of S in
+    let three : rows_of d S ≡ b.first ∷ b.second ∷ b.third ∷ [] = ap (λ (n : ℕ). rows_of n S) e in
+    ap (combination (parts 3 k)) three
+    ∙ ap (λ (v : Vector). plus (times k.x b.first) (plus (times k.y b.second) v)) (plus_zero (times k.z b.third))
+
+-- the product of the rows is that of the pivots
+rows_product : (a b c e f i : ℤ) → triple_product (record { x = a; y = b; z = c }) (record { x = pos 0; y = e; z = f })
+    (record { x = pos 0; y = pos 0; z = i }) ≡ a *ℤ (e *ℤ i)
+rows_product a b c e f i = simp ring (omega (arith, linear))
+
+-- the rows of a staircase are a basis
+pub stairs_are_basis : (d : ℕ) → (d ≡ 2) ⊎ (d ≡ 3) → (S : Stairs) → HasStairShape d S → IsBasisOf d (basis_of S)
+stairs_are_basis d t S h = record {
+  two_or_three = t;
+  independent = λ z. by (factor_zero S.a (S.e *ℤ S.i) (sym (rows_product S.a S.b S.c S.e S.f S.i) ∙ z));
+  first = λ e. (h.flat e).c;
+  second = λ e. (h.flat e).f;
+}
+  where
+    by : (S.a ≡ pos 0) ⊎ (S.e *ℤ S.i ≡ pos 0) → ⊥
+    by k = search (arith, positive_is_some, factor_zero)
 
 -- A class graph whose lists of arcs are written in coordinates, one after the other.
 
@@ -104,8 +142,7 @@ module _ (d : ℕ) (S : Stairs) (shape : HasStairShape d S) (L : ClassGraph) (sm
 
   placed : (k : ℕ) → k < length stars → (a : ClassArc) → IsIn (slice_index_or stars k []) a → IsPlaced k a
   placed k l a i =
-      let w = at_place k l in
-      let star = slice_index_or stars k [] in
+      let w = at_place k l in let star = slice_index_or stars k [] in
       let image = subst (λ (xs : List ClassArc). IsIn xs (spelled a)) w.same (map_in spelled star a i) in
       record {
         from = (Decides-eqb a.from (suc k)).0 (in_filter (λ b. b.from == suc k) L.arcs (spelled a) image).1;
@@ -115,8 +152,7 @@ module _ (d : ℕ) (S : Stairs) (shape : HasStairShape d S) (L : ClassGraph) (sm
   -- each arc of the class graph stands in a list
   each_placed : (a : ClassArc) → Contains K.arcs a → (k : ℕ) × (k < length stars) × IsPlaced k a
   each_placed a c =
-      let r = in_pieces (λ s. s) stars a (is_in K.arcs a c) in
-      let p = contains_from_in stars r.0 r.1 in
+      let r = in_pieces (λ s. s) stars a (is_in K.arcs a c) in let p = contains_from_in stars r.0 r.1 in
       let same = get_or_default stars p.0 [] r.0 p.1 ∙ p.2 in
       (p.0, p.1, placed p.0 p.1 a (subst (λ (s : List ClassArc). IsIn s a) (sym same) r.2))
 
@@ -155,3 +191,89 @@ module _ (d : ℕ) (S : Stairs) (shape : HasStairShape d S) (L : ClassGraph) (sm
         };
         each = λ c i. stars_are_arcs stars (leave_from 1 stars (λ k l a j. let e = (placed k l a j).from in omega (arith, e))) c i.0 i.1;
       }
+
+-- The multiples of the denominator D and the translations with parts from 0 to D - 1 generate all translations: so the
+-- staircase that they make is that of the translations.
+
+-- Members of a lattice to which a vector is added.
+
+-- the vector that is added is a member
+pub vector_added : (d : ℕ) (S T : Stairs) (v : Vector) → IsWith (Members d S) (v ∷ []) (Members d T) → Members d T v
+vector_added d S T v a = with_has (Members d S) (Members d T) (v ∷ []) a (members_group d S).zero v (inl refl)
+
+-- arcs inside a lattice are inside one with more members
+pub more_inside : (d : ℕ) (S T : Stairs) → ((w : Vector) → Members d S w → Members d T w) → (arcs : List ClassArc) → AreInside d S arcs → AreInside d T arcs
+more_inside d S T h = All-weaker (IsInside d S) (IsInside d T) (λ a. h a.vector)
+
+-- so it is when the vector of one more arc is added
+pub one_more_inside : (d : ℕ) (S T : Stairs) (arcs : List ClassArc) (i : ℕ) (e : ClassArc) → i < length arcs
+    → IsWith (Members d S) ((get_or arcs i e).vector ∷ []) (Members d T) → AreInside d S (take i arcs) → AreInside d T (take (i + 1) arcs)
+one_more_inside d S T arcs i e l a h =
+    let v = (get_or arcs i e).vector in
+    All-more (IsInside d T) arcs i e l (more_inside d S T (with_start (Members d S) (Members d T) (v ∷ []) a) (take i arcs) h) (vector_added d S T v a)
+
+module _ (G : Graph) (p : Placement) (g : IsGraph G) (s : IsStablePlacement G p) (rs : List Vector) (t : AreTranslations G p rs) (L M : Vector → Type 0)
+    (flat : (w : Vector) → L w → HasDimension G.dimension w) (m : AreMultiples G.dimension (pos p.denominator) L) (a : IsWith L rs M) where
+  -- the multiples of D are translations
+  multiple_in : (w : Vector) → L w → IsTranslation G p w
+  multiple_in w i =
+      let r = (m w (flat w i)).0 i in
+      let d = divided_dimension G.dimension p.denominator s.placement.barycentric.positive r.0 (subst (HasDimension G.dimension) r.1 (flat w i)) in
+      subst (IsTranslation G p) (sym r.1) (translations_are_group.shifts G p s.no_collision r.0 d)
+
+  -- so what is made is a translation
+  made_translation : (w : Vector) → M w → IsTranslation G p w
+  made_translation = with_inside L M (IsTranslation G p) rs a (translations_group G p s) multiple_in (λ v i. ((t.exact v).0 (contains_from_in rs v i)).0)
+
+  -- 0 is a multiple
+  zero_in : L zero_vector
+  zero_in = (m zero_vector (λ e. refl)).1 (zero_vector, sym (times_zero (pos p.denominator)))
+
+  -- each translation is made
+  translation_made : (v : Vector) → IsTranslation G p v → M v
+  translation_made v k =
+      let D = pos p.denominator in let b = moves_are_translations.rest G p g s v k in
+      let listed = is_in rs b.0 ((t.exact b.0).1 (b.1, record { dimension = b.1.dimension; low = b.2.low; high = b.2.high })) in
+      let o = a.out b.0 (with_has L M rs a zero_in b.0 listed) in
+      let x = (m o.u (flat o.u o.member)).0 o.member in
+      let dx = divided_dimension G.dimension p.denominator s.placement.barycentric.positive x.0 (subst (HasDimension G.dimension) x.1 (flat o.u o.member)) in
+      let y = plus b.2.steps x.0 in
+      let dy = plus_dimension G.dimension b.2.steps x.0 (steps_dimension G.dimension D v b.0 k.dimension b.2) dx in
+      let u = times D y in let u_in = (m u (times_dimension G.dimension D y dy)).1 (y, λ i. u) in
+      let first : v ≡ plus (times D b.2.steps) b.0 = b.2.is ∙ plus_commutative b.0 (times D b.2.steps) in
+      let second : plus (times D b.2.steps) b.0 ≡ plus (times D b.2.steps) (plus (times D x.0) (combination o.ks rs)) =
+      ap (plus (times D b.2.steps)) (o.sum ∙ ap (λ (w : Vector). plus w (combination o.ks rs)) x.1) in
+      let third = sym (plus_associative (times D b.2.steps) (times D x.0) (combination o.ks rs))
+      ∙ ap (λ (w : Vector). plus w (combination o.ks rs)) (sym (times_plus D b.2.steps x.0)) in
+      a.into v (record { u = u; member = u_in; ks = o.ks; sum = first ∙ second ∙ third })
+
+  -- so the members of what is made are the translations
+  pub made_are_translations : (v : Vector) → M v ↔ IsTranslation G p v
+  made_are_translations v = (made_translation v, translation_made v)
+
+module _ (N : PlacedNet) (g : IsGraph N.graph) (s : IsStablePlacement N.graph N.placement) (rs : List Vector) (t : AreTranslations N.graph N.placement rs)
+    (S T : Stairs) where
+  -- from the multiples of z, in dimension d
+  abbrev Made : ℕ → ℤ → Type 0
+  Made d z = AreMultiples d z (Members d S) → IsWith (Members d S) rs (Members d T) → IsStaircase (Members d T) d (rows_of d T) → IsTranslationLattice d N T
+
+  -- from those of the denominator, in the dimension of the net
+  made : Made N.graph.dimension (pos N.placement.denominator)
+  made m a h =
+      let d = N.graph.dimension in
+      let same = made_are_translations N.graph N.placement g s rs t (Members d S) (Members d T) (λ w i. i.1) m a in
+      record { dimension = refl; members = same; basis = same_staircase (Members d T) (IsTranslation N.graph N.placement) same d (rows_of d T) h }
+
+  -- so the staircase that is made is the lattice of the translations
+  pub lattice_made : (d : ℕ) (z : ℤ) → N.graph.dimension ≡ d → z ≡ pos N.placement.denominator → Made d z
+  lattice_made d z e f = subst (λ (x : ℤ). Made d x) (sym f) (subst (λ (x : ℕ). Made x (pos N.placement.denominator)) e made)
+
+-- A dimension of 2 or 3.
+
+-- is at least 2
+pub at_least_two : (d : ℕ) → (d ≡ 2) ⊎ (d ≡ 3) → 2 ≤ d
+at_least_two d h = omega arith
+
+-- and at most 3
+pub at_most_three : (d : ℕ) → (d ≡ 2) ⊎ (d ≡ 3) → d ≤ 3
+at_most_three d h = omega arith

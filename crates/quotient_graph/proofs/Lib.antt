@@ -1,14 +1,4 @@
 pub mod CallerLemmas
-pub mod Rising
-pub mod InOrder
-pub mod Lists
-pub mod SortedStars
-pub mod GraphsInMemory
-pub mod EdgeLists
-pub mod SquareEdges
-pub mod ClassStars
-pub mod StarLengths
-pub mod Reach
-pub mod PositionBounds
-pub mod Fitting
-pub mod StarArcs
+pub mod Edges
+pub mod Positions
+pub mod Stars

@@ -41,7 +41,7 @@ fn sort_edges<const D: usize>(edges: &mut Vec<Arc<D>>) -> Result<(), NoMemory>
 
 impl<const D: usize> Graph<D> {
     /// The graph with n vertices and these edges, which stand in rising order.
-    #[tactic(auto, using(crate::proofs::GraphsInMemory::is_in_memory, crate::proofs::GraphsInMemory::edges_fit))]
+    #[tactic(auto, using(crate::proofs::Edges::is_in_memory, crate::proofs::Edges::edges_fit))]
     pub fn with_edges(alloc: Global, n: u32, edges: Vec<Arc<D>>) -> Result<Graph<D>, NoMemory>
         requires is_graph { IsGraph (graph_with D n edges.items) }
         requires small { IsSmall (graph_with D n edges.items) }

@@ -1,4 +1,4 @@
-use Rattle.net_cover.proofs.CellReading.{read_spelled, spelled_read}
+use Rattle.net_cover.proofs.CellRows.{read_spelled, spelled_read}
 use Rattle.net_cover.proofs.cells_are_read.Goals as goal
 
 pub returns : goal.returns

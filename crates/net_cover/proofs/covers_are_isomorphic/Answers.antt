@@ -1,4 +1,4 @@
-use Rattle.net_cover.proofs.CoverIso as theory
+use Rattle.net_cover.proofs.CoverNet as theory
 use Rattle.net_cover.proofs.covers_are_isomorphic.Goals as goal
 
 pub returns : goal.returns

@@ -1,5 +1,4 @@
-use Rattle.std.proofs.Common.{sym, subst}
-use Rattle.std.specs.Prelude.{◌+◌}
+use Rattle.std.{proofs.Common.sym, proofs.Common.subst, specs.Prelude.◌+◌}
 use Rattle.integers.specs.Vectors.{IsWithin}
 use Rattle.periodic_net.specs.Limits.{most_walk, most_shift}
 use Rattle.connected_dim.proofs.closed_walks.closed_walk.Goals as goal

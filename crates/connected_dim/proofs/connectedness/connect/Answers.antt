@@ -1,4 +1,4 @@
-use Rattle.connected_dim.proofs.Refuted.{disconnected_refutes, degenerate_refutes}
+use Rattle.connected_dim.proofs.Splits.{disconnected_refutes, degenerate_refutes}
 use Rattle.connected_dim.proofs.connectedness.connect.Goals as goal
 
 pub returns-in-Ok-Parted-clause-not_connected : goal.returns-in-Ok-Parted-clause-not_connected

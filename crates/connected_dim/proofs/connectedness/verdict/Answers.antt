@@ -1,6 +1,5 @@
 use Rattle.std.proofs.Common.{None, Contains, ap, subst, ◌∙◌}
-use Rattle.connected_dim.specs.Quotient.{part_colouring}
-use Rattle.connected_dim.proofs.{Refuted.part_refusal, PartSplits.part_split_is}
+use Rattle.connected_dim.{specs.Quotient.part_colouring, proofs.Splits.part_refusal, proofs.Generated.part_split_is}
 use Rattle.connected_dim.proofs.connectedness.verdict.Goals as goal
 
 pub returns-then-not-all_found-clause-verdict : goal.returns-then-not-all_found-clause-verdict

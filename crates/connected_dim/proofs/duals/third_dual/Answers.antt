@@ -1,6 +1,5 @@
-use Rattle.std.proofs.{Common.FitsSigned, lemmas.Int.to_z-of_z}
-use Rattle.std.specs.Int.{w128}
-use Rattle.connected_dim.proofs.Multiples.{above_fits}
+use Rattle.std.{proofs.Common.FitsSigned, proofs.lemmas.Int.to_z-of_z, specs.Int.w128}
+use Rattle.connected_dim.proofs.Splits.{above_fits}
 use Rattle.connected_dim.proofs.duals.third_dual.Goals as goal
 
 pub returns-clause-y : goal.returns-clause-y
@@ -8,5 +7,4 @@ returns-clause-y c =
     let r : FitsSigned w128 c.complement-y.result = record { sfits = c.complement-y.type_inv } in
     let h = c.requires.reduced in
     let fits = above_fits c.args.r.f c.args.r.i h.f_from h.f_to c.requires.small in
-    let f = fits.0 in let i = fits.1 in
-    simp to_z-of_z (simp to_z-of_z at c.complement-y.ensures.complement)
+    let f = fits.0 in let i = fits.1 in simp to_z-of_z (simp to_z-of_z at c.complement-y.ensures.complement)

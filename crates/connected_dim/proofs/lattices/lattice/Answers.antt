@@ -1,5 +1,4 @@
-use Rattle.std.proofs.{Common.subst, lemmas.Int.to_z-of_z}
-use Rattle.std.specs.Int.{w128}
+use Rattle.std.{proofs.Common.subst, proofs.lemmas.Int.to_z-of_z, specs.Int.w128}
 use Rattle.vecdim.specs.Lattices.{Members, AreMultiples}
 use Rattle.connected_dim.proofs.lattices.lattice.Goals as goal
 

@@ -1,7 +1,7 @@
 use Rattle.std.proofs.Common.{◌≢◌, sym, subst}
 use Rattle.integers.specs.Vectors.{zero_vector, IsWithin}
 use Rattle.periodic_net.specs.Limits.{most_closed}
-use Rattle.connected_dim.proofs.RankAnswers.{flat_cross}
+use Rattle.connected_dim.proofs.Normals.{flat_cross}
 use Rattle.connected_dim.proofs.ranks.normal.Goals as goal
 
 pub returns-clause-within : goal.returns-clause-within

@@ -1,10 +1,8 @@
 use Rattle.std.proofs.Common.{◌≡◌, pos, of_z, to_z, refl, sym, ap, subst, ◌∙◌, arith}
-use Rattle.std.proofs.lemmas.{Int.to_z-of_z, List.Elements.All-contains}
-use Rattle.std.specs.Int.{w128}
-use Rattle.integers.specs.Vectors.{Vector, IsWithin}
-use Rattle.integers.proofs.vectors.Bounds.{fits_from_bound}
+use Rattle.std.{proofs.lemmas.Int.to_z-of_z, proofs.lemmas.List.Elements.All-contains, specs.Int.w128}
+use Rattle.integers.{specs.Vectors.Vector, specs.Vectors.IsWithin, proofs.vectors.Bounds.fits_from_bound}
 use Rattle.periodic_net.specs.Limits.{most_closed}
-use Rattle.connected_dim.proofs.RankAnswers.{line_axis, line_across}
+use Rattle.connected_dim.proofs.Normals.{line_axis, line_across}
 use Rattle.connected_dim.proofs.ranks.rank_from.Goals as goal
 
 pub returns-in-None : goal.returns-in-None

@@ -1,5 +1,5 @@
 use Rattle.std.proofs.Common.{refl}
-use Rattle.connected_dim.proofs.RankAnswers.{all_none}
+use Rattle.connected_dim.proofs.Normals.{all_none}
 use Rattle.connected_dim.proofs.ranks.rank_of.Goals as goal
 
 pub returns-in-None : goal.returns-in-None

@@ -1,9 +1,8 @@
 use Rattle.std.proofs.Common.{◌≢◌, refl, sym, subst, lit<, FitsSigned}
-use Rattle.std.proofs.lemmas.{Int.to_z-of_z, List.Elements.All-contains}
-use Rattle.std.specs.Int.{w128}
+use Rattle.std.{proofs.lemmas.Int.to_z-of_z, proofs.lemmas.List.Elements.All-contains, specs.Int.w128}
 use Rattle.integers.specs.Vectors.{zero_vector, IsWithin}
+use Rattle.connected_dim.proofs.Normals.{full_flat, full_space, plane_in_space}
 use Rattle.connected_dim.specs.Full.{IsVolume}
-use Rattle.connected_dim.proofs.RankAnswers.{full_flat, full_space, plane_in_space}
 use Rattle.periodic_net.specs.Limits.{most_closed}
 use Rattle.connected_dim.proofs.ranks.rank_with.Goals as goal
 

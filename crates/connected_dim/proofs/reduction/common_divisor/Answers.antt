@@ -1,7 +1,7 @@
 use Rattle.std.proofs.Common.{◌≢◌, pos, subst, sym, ◌∙◌}
 use Rattle.integers.specs.Vectors.{vector, zero_vector, IsWithin}
-use Rattle.connected_dim.specs.{Bounds.most_normal}
-use Rattle.connected_dim.proofs.Reductions.{divisor_found, divisor_within, same_abs}
+use Rattle.connected_dim.specs.Bounds.{most_normal}
+use Rattle.connected_dim.proofs.Normals.{divisor_found, divisor_within, same_abs}
 use Rattle.connected_dim.proofs.reduction.common_divisor.Goals as goal
 
 pub returns-clause-divisor : goal.returns-clause-divisor

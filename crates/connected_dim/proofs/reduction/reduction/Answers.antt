@@ -1,11 +1,8 @@
 use Rattle.std.proofs.Common.{◌≡◌, subst, arith}
-use Rattle.std.specs.Int.{w128}
-use Rattle.std.proofs.lemmas.Int.{to_z-of_z}
-use Rattle.integers.specs.Vectors.{times}
-use Rattle.integers.proofs.vectors.Bounds.{fits_from_bound}
-use Rattle.connected_dim.proofs.Reductions.{divisor_within, reduction_is}
+use Rattle.std.{proofs.lemmas.Int.to_z-of_z, specs.Int.w128}
+use Rattle.integers.{specs.Vectors.times, proofs.vectors.Bounds.fits_from_bound}
+use Rattle.connected_dim.{proofs.Normals.divisor_within, proofs.Normals.reduction_is, specs.Bounds.most_normal}
 use Rattle.connected_dim.proofs.reduction.reduction.Goals as goal
-use Rattle.connected_dim.specs.Bounds.{most_normal}
 
 pub returns-clause-reduction : goal.returns-clause-reduction
 returns-clause-reduction c =

@@ -1,13 +1,13 @@
 -- Of `expand`: the loop over `arc`; what it ensures; what `plus` and `find` require.
 use Rattle.std.proofs.Common.{◌+◌, ◌∷◌, ◌-◌, ◌*◌, ◌^◌, ◌≤◌, length, lit<, arith, subst, sym, ap, ◌∙◌}
-use Rattle.integers.proofs.{lists.More.drop_all, vectors.Bounds.wider}
+use Rattle.std.specs.Prelude.{drop}
+use Rattle.integers.proofs.{lists.GrownLists.drop_all, vectors.Bounds.wider}
 use Rattle.periodic_net.specs.Graph.{Arc, arc, IsArc}
 use Rattle.periodic_net.specs.Limits.{most_shift}
 use Rattle.quotient_graph.specs.Stars.{IsArcFrom}
 use Rattle.connected_dim.specs.{Search.found_with, Paths.IsPathSearch}
-use Rattle.std.specs.Prelude.{drop}
 use Rattle.connected_dim.proofs.PathSteps.{arcs_of_star, left_at, path_begin, path_end, path_step}
-use Rattle.connected_dim.proofs.Finding.{grows_none, turn, leads_more, leads_all}
+use Rattle.connected_dim.proofs.Starting.{grows_none, turn, leads_more, leads_all}
 use Rattle.connected_dim.proofs.search.expand.Goals as goal
 
 pub plus-requires : goal.plus-requires
@@ -49,8 +49,7 @@ loop-arc-preserved g c =
       leads = leads_more row c.loop-arc.found c.find.new.found c.loop-arc.arc-index c.arc-item.result c.arc.inside.to (sym c.arc-item.is)
           (ap (λ (a : Arc). a.to) c.arc.view_is) c.loop-arc-test.true t.still c.loop-arc.invariant.leads t.leads;
       paths = λ i l at s.
-          let rest = drop (c.loop-arc.arc-index + 1) row in
-          let h = c.loop-arc.invariant.grows in
+          let rest = drop (c.loop-arc.arc-index + 1) row in let h = c.loop-arc.invariant.grows in
           let left = left_at row c.loop-arc.arc-index c.arc-item.result c.loop-arc-test.true (sym c.arc-item.is) in
           let p = subst (λ (x : Arc). IsPathSearch G c.args.start c.loop-arc.found c.loop-arc.order.items i (x ∷ rest)) (sym c.arc.view_is)
           (subst (IsPathSearch G c.args.start c.loop-arc.found c.loop-arc.order.items i) left (c.loop-arc.invariant.paths i l at s)) in

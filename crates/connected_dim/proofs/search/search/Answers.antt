@@ -2,8 +2,7 @@
 use Rattle.std.proofs.Common.{◌≡◌, ◌<◌, length, slice_index_or, Some, lit<, arith, subst, sym, ap, ◌∙◌}
 use Rattle.periodic_net.specs.Graph.{IsQuotientVertex}
 use Rattle.connected_dim.specs.Search.{walk_to}
-use Rattle.connected_dim.proofs.Starting.{few_found, next_of, searched_more}
-use Rattle.connected_dim.proofs.PathSteps.{paths_chosen}
+use Rattle.connected_dim.proofs.{Starting.few_found, Starting.next_of, Starting.searched_more, PathSteps.paths_chosen}
 use Rattle.connected_dim.proofs.search.search.Goals as goal
 
 pub walk_at-u-requires : goal.walk_at-u-requires

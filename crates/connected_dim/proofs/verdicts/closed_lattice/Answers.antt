@@ -1,7 +1,5 @@
-use Rattle.std.proofs.{Common.subst, lemmas.Int.to_z-of_z}
-use Rattle.std.specs.Int.{w128}
-use Rattle.connected_dim.specs.Lattices.{IsLatticeOf}
-use Rattle.connected_dim.proofs.Whole.{closed_of}
+use Rattle.std.{proofs.Common.subst, proofs.lemmas.Int.to_z-of_z, specs.Int.w128}
+use Rattle.connected_dim.{specs.Lattices.IsLatticeOf, proofs.Generated.closed_of}
 use Rattle.connected_dim.proofs.verdicts.closed_lattice.Goals as goal
 
 pub returns : goal.returns

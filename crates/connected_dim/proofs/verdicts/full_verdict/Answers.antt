@@ -1,8 +1,7 @@
 use Rattle.std.proofs.Common.{ℤ, ◌≤ℤ◌, pos, refl, sym, subst, ◌∙◌, arith}
 use Rattle.std.proofs.lemmas.Int.{ints}
 use Rattle.vecdim.specs.Stairs.{HasStairShape}
-use Rattle.connected_dim.specs.Sparse.{sparse_colouring}
-use Rattle.connected_dim.proofs.{Refuted.sparse_refusal, SparseSplits.sparse_from_lattice, Whole.whole_connected}
+use Rattle.connected_dim.{specs.Sparse.sparse_colouring, proofs.Splits.sparse_refusal, proofs.Splits.sparse_from_lattice, proofs.Generated.whole_connected}
 use Rattle.connected_dim.proofs.verdicts.full_verdict.Goals as goal
 
 one_of_two : (q : ℤ) → pos 2 ≤ℤ q → pos 1 ≤ℤ q

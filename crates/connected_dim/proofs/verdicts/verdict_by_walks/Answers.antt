@@ -1,7 +1,7 @@
 use Rattle.std.proofs.Common.{List, subst, ◌∙◌}
 use Rattle.integers.specs.Vectors.{Vector}
-use Rattle.connected_dim.specs.{Generators.generators, Orthogonal.IsFlatNormal, Flat.flat_colouring}
-use Rattle.connected_dim.proofs.{FlatSplits.flat_split_is, Refuted.flat_refusal}
+use Rattle.connected_dim.specs.{Generators.generators, Flat.flat_colouring, Orthogonal.IsFlatNormal}
+use Rattle.connected_dim.proofs.{Generated.flat_split_is, Splits.flat_refusal}
 use Rattle.connected_dim.proofs.verdicts.verdict_by_walks.Goals as goal
 
 pub returns : goal.returns

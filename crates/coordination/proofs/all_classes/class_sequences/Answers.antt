@@ -1,7 +1,6 @@
 use Rattle.std.proofs.Common.{◌≡◌, ◌≤◌, subst, sym, ◌∙◌, arith}
 use Rattle.periodic_net.specs.Limits.{most_vertices}
-use Rattle.coordination.specs.Sequences.{AreFirstSequences}
-use Rattle.coordination.proofs.classes.AllClasses.{one_more, all_classes}
+use Rattle.coordination.{specs.Sequences.AreFirstSequences, proofs.ClassShells.one_more, proofs.ClassShells.all_classes}
 use Rattle.coordination.proofs.all_classes.class_sequences.Goals as goal
 
 pub loop-before-preserved : goal.loop-before-preserved

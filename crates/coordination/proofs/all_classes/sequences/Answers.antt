@@ -2,7 +2,7 @@ use Rattle.std.proofs.Common.{◌≤◌, List, ℕ, ap, subst, sym, ◌∙◌, l
 use Rattle.std.specs.Prelude.{Option, IfSome}
 use Rattle.periodic_net.specs.{Classes.ClassGraph, Limits.most_vertices}
 use Rattle.coordination.specs.BoxSearches.{AreListsOf}
-use Rattle.coordination.proofs.classes.KindLists.{shell_kinds, cell_divides, cell_sequences, same_count}
+use Rattle.coordination.proofs.ClassShells.{shell_kinds, cell_divides, cell_sequences, same_count}
 use Rattle.coordination.proofs.all_classes.sequences.Goals as goal
 
 pub box_sequences-requires : goal.box_sequences-requires

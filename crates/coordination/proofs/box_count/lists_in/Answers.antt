@@ -1,8 +1,7 @@
 use Rattle.std.proofs.Common.{◌+◌, rules, subst}
 use Rattle.integers.specs.Vectors.{zero_vector}
 use Rattle.periodic_net.specs.Graph.{vertex}
-use Rattle.coordination.specs.Sequences.{AreShellsOf}
-use Rattle.coordination.proofs.boxes.BoxCounting.{lists_more}
+use Rattle.coordination.{specs.Sequences.AreShellsOf, proofs.BoxCounting.lists_more}
 use Rattle.coordination.proofs.box_count.lists_in.Goals as goal
 
 pub loop-before-preserved : goal.loop-before-preserved

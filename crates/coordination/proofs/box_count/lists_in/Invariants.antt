@@ -1,4 +1,4 @@
-use Rattle.std.proofs.Common.{◌≡◌, [], length}
+use Rattle.std.proofs.Common.{◌≡◌, length, []}
 use Rattle.coordination.specs.{BoxSearches.AreFirstLists, Marks.IsUnmarked}
 use Rattle.coordination.proofs.box_count.lists_in.Given as goal
 

@@ -1,8 +1,7 @@
 -- Of `shells_in`: the loop over `k`; the clauses `sizes` and `marked`; what `next_shell` requires; that numbers fit.
-use Rattle.std.proofs.Common.{◌≡◌, ◌+◌, ◌-◌, ◌<◌, ◌≤◌, length, refl, sym, ap, subst, arith}
-use Rattle.coordination.specs.Sequences.{most_in_shells}
-use Rattle.coordination.proofs.boxes.BoxCounting.{IsCountedIn, counting_past, counting_starts, counting_ten, counting_turn, next_counted, searchable}
-use Rattle.coordination.proofs.layers.Counting.{grown}
+use Rattle.std.proofs.Common.{◌≡◌, ◌+◌, ◌-◌, ◌<◌, ◌≤◌, length, refl, ap, arith}
+use Rattle.coordination.proofs.BoxCounting.{counting_past, counting_starts, counting_ten, counting_turn, next_counted, searchable}
+use Rattle.coordination.proofs.Layers.{grown}
 use Rattle.coordination.proofs.box_count.shells_in.Goals as goal
 
 pub loop-k-init : goal.loop-k-init

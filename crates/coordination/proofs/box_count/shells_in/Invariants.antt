@@ -1,7 +1,6 @@
 use Rattle.std.proofs.Common.{◌≡◌, length}
 use Rattle.periodic_net.specs.Graph.{Graph, IsQuotientVertex}
-use Rattle.coordination.specs.Boxes.{IsBoxOf}
-use Rattle.coordination.proofs.boxes.BoxCounting.{IsCountedIn}
+use Rattle.coordination.{specs.Boxes.IsBoxOf, proofs.BoxCounting.IsCountedIn}
 use Rattle.coordination.proofs.box_count.shells_in.Given as goal
 
 abbrev pub invariant-loop-k : goal.invariant-loop-k

@@ -1,8 +1,8 @@
 -- Of `next_shell`: the loop over `i`; what it ensures; what `at` and `follow` require; that numbers fit.
 use Rattle.std.proofs.Common.{◌≡◌, ◌+◌, ◌-◌, ◌<◌, ◌≤◌, length, subst, arith}
 use Rattle.coordination.specs.declared.spot.Spot.{Spot}
-use Rattle.coordination.proofs.boxes.BoxTurns.{as_many, found_since, next_at, next_lands, searching_starts, searching_on, searching_ends, searching_stops}
-use Rattle.coordination.proofs.boxes.BoxTurns.{star_within}
+use Rattle.coordination.proofs.BoxSearch.{as_many, found_since, next_at, next_lands, searching_starts, searching_on, searching_ends, searching_stops}
+use Rattle.coordination.proofs.BoxSearch.{star_within}
 use Rattle.coordination.proofs.box_search.next_shell.Goals as goal
 
 pub loop-i-init : goal.loop-i-init
@@ -24,10 +24,8 @@ at-requires c =
 
 pub follow-requires-clause-few : goal.follow-requires-clause-few
 follow-requires-clause-few c =
-    let r = c.requires in
-    let e = (c.loop-i.invariant r.graph r.vertices r.searchable).is_found.size in
-    let small = r.searchable.is_box.small in
-    omega (arith, e, small)
+    let r = c.requires in let e = (c.loop-i.invariant r.graph r.vertices r.searchable).is_found.size in
+    let small = r.searchable.is_box.small in omega (arith, e, small)
 
 pub follow-requires-clause-landing : goal.follow-requires-clause-landing
 follow-requires-clause-landing c =
@@ -44,8 +42,7 @@ overflow_sub-len c =
     let s = c.loop-i.invariant r.graph r.vertices r.searchable in
     let n = next_at r.searchable c.loop-i.i s c.index-from.ensures c.loop-i.auto.i c.len-end.result many c.loop-i-test.true in
     let t = searching_on r.searchable c.loop-i.i s n c.at.ensures _ _ c.in_ok-follow.ensures.marks c.in_ok-follow.ensures.found in
-    let since = found_since r.searchable (c.loop-i.i + 1) t in
-    omega (arith, many, since, c.len.ensures)
+    let since = found_since r.searchable (c.loop-i.i + 1) t in omega (arith, many, since, c.len.ensures)
 
 pub returns-then-len-end : goal.returns-then-len-end
 returns-then-len-end c = λ P vertices h.

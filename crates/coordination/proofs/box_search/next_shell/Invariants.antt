@@ -1,8 +1,6 @@
-use Rattle.std.proofs.Common.{List}
-use Rattle.std.specs.List.{between}
+use Rattle.std.{proofs.Common.List, specs.List.between}
 use Rattle.periodic_net.specs.Graph.{Graph, Vertex}
-use Rattle.coordination.specs.BoxSearches.{IsSearchable}
-use Rattle.coordination.proofs.boxes.BoxTurns.{IsSearching}
+use Rattle.coordination.{specs.BoxSearches.IsSearchable, proofs.BoxSearch.IsSearching}
 use Rattle.coordination.proofs.box_search.next_shell.Given as goal
 
 abbrev pub invariant-loop-i : goal.invariant-loop-i

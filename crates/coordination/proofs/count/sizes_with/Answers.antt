@@ -2,8 +2,8 @@
 use Rattle.std.proofs.Common.{◌≡◌, ◌+◌, ◌<◌, ◌≤◌, length, subst, sym, lit<, arith}
 use Rattle.periodic_net.specs.{Classes.ClassGraph, Correspondence.IsClass}
 use Rattle.coordination.specs.{Expanding.Expands, Points.IsStep}
-use Rattle.coordination.proofs.layers.Counting.{counted_past, counted_ten, counted_turn, grown}
-use Rattle.coordination.proofs.points.{Shown.class_shown, Shown.ready, Sizes.some_point_shell, Starts.start_at}
+use Rattle.coordination.proofs.Layers.{counted_past, counted_ten, counted_turn, grown}
+use Rattle.coordination.proofs.PointShells.{class_shown, ready, some_point_shell, start_at}
 use Rattle.coordination.proofs.count.sizes_with.Goals as goal
 
 pub next_shell-requires : goal.next_shell-requires

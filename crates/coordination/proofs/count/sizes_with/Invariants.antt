@@ -1,6 +1,5 @@
 use Rattle.std.proofs.Common.{◌≡◌, length}
-use Rattle.coordination.specs.Points.{IsStep}
-use Rattle.coordination.proofs.{layers.Counting.AreCounted, points.Starts.start_at}
+use Rattle.coordination.{specs.Points.IsStep, proofs.Layers.AreCounted, proofs.PointShells.start_at}
 use Rattle.coordination.proofs.count.sizes_with.Given as goal
 
 abbrev pub invariant-loop-k : goal.invariant-loop-k

@@ -1,4 +1,4 @@
-use Rattle.coordination.proofs.boxes.FarWalks.{farthest_extent}
+use Rattle.coordination.proofs.Boxes.{farthest_extent}
 use Rattle.coordination.proofs.far.extent_of.Goals as goal
 
 pub returns-clause-extent : goal.returns-clause-extent

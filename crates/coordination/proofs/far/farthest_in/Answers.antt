@@ -1,4 +1,4 @@
-use Rattle.coordination.proofs.boxes.FarWalks.{farthest_of}
+use Rattle.coordination.proofs.Boxes.{farthest_of}
 use Rattle.coordination.proofs.far.farthest_in.Goals as goal
 
 pub returns-clause-walks : goal.returns-clause-walks

@@ -1,8 +1,7 @@
-use Rattle.std.proofs.Common.{◌≡◌, ◌+◌, ◌∙◌, ℕ, List, length, sym, ap, subst, arith}
+use Rattle.std.proofs.Common.{◌≡◌, ◌∙◌, ℕ, List, length, sym, ap, subst, arith}
 use Rattle.periodic_net.specs.Graph.{Arc}
 use Rattle.primitive_cell.specs.DividedNets.{DividedNet}
-use Rattle.coordination.specs.Far.{AreFarAfter, AreFarther}
-use Rattle.coordination.proofs.boxes.FarWalks.{far_after_more}
+use Rattle.coordination.{specs.Far.AreFarAfter, specs.Far.AreFarther, proofs.Boxes.far_after_more}
 use Rattle.coordination.proofs.far.raise_ten_times.Goals as goal
 
 pub loop-k-preserved : goal.loop-k-preserved

@@ -1,4 +1,4 @@
-use Rattle.coordination.proofs.layers.NewNeighbours.{next_is_new, new_is_next}
+use Rattle.coordination.proofs.PointShells.{next_is_new, new_is_next}
 use Rattle.coordination.proofs.laws.two_shells_suffice.Goals as goal
 
 pub returns : goal.returns

@@ -1,6 +1,6 @@
 use Rattle.std.proofs.Common.{length, subst, sym}
 use Rattle.coordination.specs.Marks.{AreMarked}
-use Rattle.coordination.proofs.boxes.Marking.{left_all, left_fewer, left_none, left_within}
+use Rattle.coordination.proofs.BoxSearch.{left_all, left_fewer, left_none, left_within}
 use Rattle.coordination.proofs.marks.unmark.Goals as goal
 
 pub loop-spot-init : goal.loop-spot-init

@@ -1,5 +1,5 @@
 use Rattle.std.proofs.Common.{length}
-use Rattle.coordination.proofs.boxes.Marking.{AreLeft}
+use Rattle.coordination.proofs.BoxSearch.{AreLeft}
 use Rattle.coordination.proofs.marks.unmark.Given as goal
 
 abbrev pub invariant-loop-spot : goal.invariant-loop-spot

@@ -1,7 +1,6 @@
-use Rattle.std.proofs.Common.{subst, lit<}
-use Rattle.std.specs.Prelude.{Option, IfSome}
-use Rattle.coordination.specs.{Extents.IsExtent, Extents.IsNarrow, declared.extent.Extent.Extent, declared.extent.TheConstants.WIDEST}
-use Rattle.coordination.proofs.boxes.FarWalks.{shifts_within}
+use Rattle.std.{proofs.Common.subst, proofs.Common.lit<, specs.Prelude.Option, specs.Prelude.IfSome}
+use Rattle.coordination.{specs.Extents.IsExtent, specs.Extents.IsNarrow, specs.declared.extent.Extent.Extent, specs.declared.extent.TheConstants.WIDEST}
+use Rattle.coordination.{proofs.Boxes.shifts_within}
 use Rattle.coordination.proofs.net_box.box_of.Goals as goal
 
 pub stars_of-requires : goal.stars_of-requires

@@ -1,6 +1,5 @@
-use Rattle.std.proofs.{Common.◌≤◌, Common.arith, lemmas.Int.ints}
-use Rattle.std.specs.Prelude.{unsigned_abs}
-use Rattle.coordination.proofs.boxes.BoxBounds.{weighed_small}
+use Rattle.std.{proofs.Common.◌≤◌, proofs.Common.arith, proofs.lemmas.Int.ints, specs.Prelude.unsigned_abs}
+use Rattle.coordination.proofs.Boxes.{weighed_small}
 use Rattle.coordination.proofs.net_box.cells_along.Goals as goal
 
 pub returns-clause-bound : goal.returns-clause-bound

@@ -1,4 +1,4 @@
-use Rattle.std.proofs.Common.{◌≡◌, [], map, replicate}
+use Rattle.std.proofs.Common.{◌≡◌, map, replicate, []}
 use Rattle.coordination.proofs.net_box.empty_stars.Given as goal
 
 abbrev pub invariant-loop : goal.invariant-loop

@@ -1,7 +1,6 @@
 use Rattle.std.proofs.Common.{◌≡◌, List, map, OnOk, ◌∙◌, arith, subst, to_z, of_z, w64}
 use Rattle.std.proofs.lemmas.Int.{ints}
-use Rattle.coordination.specs.declared.spot.Step.{Step}
-use Rattle.coordination.proofs.boxes.StarSteps.{edge_put}
+use Rattle.coordination.{specs.declared.spot.Step.Step, proofs.Boxes.edge_put}
 use Rattle.coordination.proofs.net_box.push_edge.Goals as goal
 
 pub returns : goal.returns

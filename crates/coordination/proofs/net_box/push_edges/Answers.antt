@@ -2,7 +2,7 @@ use Rattle.std.proofs.Common.{◌≡◌, ◌+◌, ◌<◌, List, drop, get_or, l
 use Rattle.periodic_net.specs.Graph.{Arc, IsEdge}
 use Rattle.primitive_cell.specs.DividedNets.{DividedNet}
 use Rattle.coordination.specs.Boxes.{with_edge}
-use Rattle.coordination.proofs.boxes.StarSteps.{AreStepsBut, stars_start, stars_turn, stars_end}
+use Rattle.coordination.proofs.Boxes.{AreStepsBut, stars_start, stars_turn, stars_end}
 use Rattle.coordination.proofs.net_box.push_edges.Goals as goal
 
 pub loop-edge-init : goal.loop-edge-init

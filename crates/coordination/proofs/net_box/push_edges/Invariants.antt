@@ -1,5 +1,5 @@
 use Rattle.std.proofs.Common.{drop, map}
-use Rattle.coordination.proofs.boxes.StarSteps.{AreStepsBut}
+use Rattle.coordination.proofs.Boxes.{AreStepsBut}
 use Rattle.coordination.proofs.net_box.push_edges.Given as goal
 
 abbrev pub invariant-loop-edge : goal.invariant-loop-edge

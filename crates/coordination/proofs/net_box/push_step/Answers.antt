@@ -1,5 +1,5 @@
 use Rattle.std.proofs.Common.{arith}
-use Rattle.coordination.proofs.boxes.StarSteps.{step_put}
+use Rattle.coordination.proofs.Boxes.{step_put}
 use Rattle.coordination.proofs.net_box.push_step.Goals as goal
 
 pub returns : goal.returns

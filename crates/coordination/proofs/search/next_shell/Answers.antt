@@ -1,7 +1,6 @@
 use Rattle.std.proofs.Common.{◌<◌, length, ◌+◌, lit<, arith}
-use Rattle.coordination.proofs.layers.Stepping.{search_starts, search_ends, search_stops}
-use Rattle.coordination.proofs.points.{Shown.star_short, Sizes.search_turn}
-use Rattle.coordination.specs.Points.{IsStep}
+use Rattle.coordination.proofs.Layers.{search_starts, search_ends, search_stops}
+use Rattle.coordination.{proofs.PointShells.star_short, proofs.PointShells.search_turn, specs.Points.IsStep}
 use Rattle.coordination.proofs.search.next_shell.Goals as goal
 
 pub loop-from-init : goal.loop-from-init

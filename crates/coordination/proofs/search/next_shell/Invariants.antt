@@ -1,6 +1,5 @@
 use Rattle.std.proofs.Common.{take}
-use Rattle.coordination.specs.Points.{IsStep}
-use Rattle.coordination.proofs.layers.Stepping.{AreSearched}
+use Rattle.coordination.{specs.Points.IsStep, proofs.Layers.AreSearched}
 use Rattle.coordination.proofs.search.next_shell.Given as goal
 
 abbrev pub invariant-loop-from : goal.invariant-loop-from

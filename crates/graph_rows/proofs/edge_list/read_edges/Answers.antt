@@ -1,17 +1,15 @@
 -- Of `read_edges`: the loop; the clauses `edges`, `form` and `whole`.
 use Rattle.std.proofs.Common.{[], ◌∷◌, ◌++◌, length, map, Some, sym, ap, ◌∙◌, subst, arith}
 use Rattle.std.proofs.lemmas.List.{length-append, length-map}
-use Rattle.line_text.specs.Lines.{IsAt}
+use Rattle.line_text.{specs.Lines.IsAt, proofs.CallerLemmas.at_none, proofs.CallerLemmas.at_some}
 use Rattle.cgd_read.specs.Spelling.{edge_of}
-use Rattle.graph_rows.specs.{Rows.edge_row, Forms.IsNextEdge, Reading.AreReadTo, Reading.NoEdge}
-use Rattle.line_text.proofs.CallerLemmas.{at_none, at_some}
-use Rattle.graph_rows.proofs.{Lists.one_more_edge, Lists.edges_read_pushed, GraphEdges.are_edges}
+use Rattle.graph_rows.{specs.Rows.edge_row, specs.Forms.IsNextEdge, specs.Reading.AreReadTo, specs.Reading.NoEdge, proofs.Lists.one_more_edge}
+use Rattle.graph_rows.{proofs.Lists.edges_read_pushed, proofs.GraphEdges.are_edges}
 use Rattle.graph_rows.proofs.edge_list.read_edges.Goals as goal
 
 pub returns-in_default-clause-edges : goal.returns-in_default-clause-edges
 returns-in_default-clause-edges c = λ text rows at.
-    let read = c.loop.invariant.0 in
-    let count = length-map c.loop.edges.items edge_of in
+    let read = c.loop.invariant.0 in let count = length-map c.loop.edges.items edge_of in
     record {
       edges = map edge_of c.loop.edges.items;
       place = c.loop.lines;
@@ -26,8 +24,7 @@ returns-in_default-clause-edges c = λ text rows at.
 
 pub loop-preserved : goal.loop-preserved
 loop-preserved c =
-    let read = c.loop.invariant.0 in
-    let edges = map edge_of c.loop.edges.items in
+    let read = c.loop.invariant.0 in let edges = map edge_of c.loop.edges.items in
     let more = one_more_edge c.args.lines.now c.loop.lines c.next_edge.new.lines c.args.size.now edges c.loop.last c.in-Some.e read
     (at_some c.in_ok-e.field-0 (λ e. IsNextEdge c.args.size.now edges (edge_of e)) c.in-Some.e c.in-Some.is
     (c.in_ok-e.ensures.form edges read.last_is read.rising))
@@ -40,8 +37,7 @@ loop-preserved c =
 
 pub returns-clause-edges : goal.returns-clause-edges
 returns-clause-edges c = λ text rows at.
-    let read = c.loop.invariant.0 in
-    let count = length-map c.loop.edges.items edge_of in
+    let read = c.loop.invariant.0 in let count = length-map c.loop.edges.items edge_of in
     record {
       at = read.at text rows at;
       each = read.each;

@@ -1,12 +1,11 @@
 -- Of `read_graph`: the clauses `graph` and `form`; what `graph_of` requires.
 use Rattle.std.proofs.Common.{inl, inr, [], ◌∷◌, ◌++◌, map, ap, sym, ◌∙◌, subst}
-use Rattle.line_text.specs.Lines.{IsAt}
 use Rattle.line_text.proofs.CallerLemmas.{at_none, at_some, bad_line_from, handed_on}
+use Rattle.line_text.specs.Lines.{IsAt}
 use Rattle.cgd_read.specs.Spelling.{edge_of}
 use Rattle.quotient_graph.specs.{AnyGraphs.graph_view, EdgeLists.AreEdgesOfGraph, Stars.graph_with}
 use Rattle.graph_rows.specs.Reading.{NoSize, HasBadEdge, HasBadGraph, HasGraph}
-use Rattle.graph_rows.specs.{Rows.size_row, Forms.IsSize}
-use Rattle.graph_rows.proofs.ReadGraphs.{graph_read, graph_formed}
+use Rattle.graph_rows.{specs.Rows.size_row, specs.Forms.IsSize, proofs.ReadGraphs.graph_read, proofs.ReadGraphs.graph_formed}
 use Rattle.graph_rows.proofs.graph.read_graph.Goals as goal
 
 pub graph_of-requires : goal.graph_of-requires
@@ -24,8 +23,7 @@ returns-in_default-clause-graph c = λ text rows at. inl (record {
 
 pub returns-in_err-edges-clause-graph : goal.returns-in_err-edges-clause-graph
 returns-in_err-edges-clause-graph c = λ text rows at.
-    let s = c.in-Some.size in
-    let heads = rows ++ size_row s ∷ [] in
+    let s = c.in-Some.size in let heads = rows ++ size_row s ∷ [] in
     handed_on (λ g. HasGraph text rows c.read_edges.new.lines (graph_view g))
     (HasBadGraph text rows) c.in_err-edges.field-0.0 c.from_residual-in_err-edges.result c.from_residual-in_err-edges.ensures.1
     (bad_line_from c.in_err-edges.field-0.0 (HasBadEdge text heads s) (HasBadGraph text rows)

@@ -1,12 +1,9 @@
 use Rattle.std.proofs.Common.{◌≡◌, Ok, [], ◌∷◌, ◌++◌, sym, ap, ◌∙◌, subst}
-use Rattle.std.proofs.lemmas.{Option.none-some, Bool.true≢false}
-use Rattle.std.specs.Prelude.{codes}
-use Rattle.line_text.specs.{Lines.IsAt, Numbers.row_text}
+use Rattle.std.{proofs.lemmas.Option.none-some, proofs.lemmas.Bool.true≢false, specs.Prelude.codes}
+use Rattle.line_text.{specs.Lines.IsAt, specs.Numbers.row_text, proofs.CallerLemmas.none_from, proofs.CallerLemmas.some_from}
 use Rattle.cgd_read.specs.{declared.edge.RawEdge.RawEdge, Spelling.edge_of}
-use Rattle.graph_rows.specs.{Rows.edge_row, Rows.edge_numbers, Reading.NoEdge}
+use Rattle.graph_rows.{specs.Rows.edge_row, specs.Rows.edge_numbers, specs.Reading.NoEdge, proofs.RowForms.edge_few, proofs.RowForms.edge_wide}
 use Rattle.periodic_net.specs.Graph.{Arc}
-use Rattle.graph_rows.proofs.RowForms.{edge_few, edge_wide}
-use Rattle.line_text.proofs.CallerLemmas.{none_from, some_from}
 use Rattle.graph_rows.proofs.steps.next_edge.Goals as goal
 
 pub returns-then-branch-clause-place : goal.returns-then-branch-clause-place

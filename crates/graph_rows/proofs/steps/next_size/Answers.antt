@@ -1,10 +1,8 @@
 use Rattle.std.proofs.Common.{◌≡◌, Ok, ap, [], ◌∷◌, ◌++◌, sym, ◌∙◌, subst}
-use Rattle.std.proofs.lemmas.{Option.none-some, Bool.true≢false}
-use Rattle.std.specs.Prelude.{codes}
-use Rattle.line_text.specs.{Lines.IsAt, Numbers.row_text}
-use Rattle.graph_rows.specs.{declared.size.GraphSize.GraphSize, Rows.size_row, Rows.size_numbers, Reading.NoSize}
-use Rattle.graph_rows.proofs.RowForms.{size_few, size_wide}
-use Rattle.line_text.proofs.CallerLemmas.{none_from, some_from}
+use Rattle.std.{proofs.lemmas.Option.none-some, proofs.lemmas.Bool.true≢false, specs.Prelude.codes}
+use Rattle.line_text.{specs.Lines.IsAt, specs.Numbers.row_text, proofs.CallerLemmas.none_from, proofs.CallerLemmas.some_from}
+use Rattle.graph_rows.{specs.declared.size.GraphSize.GraphSize, specs.Rows.size_row, specs.Rows.size_numbers, specs.Reading.NoSize}
+use Rattle.graph_rows.{proofs.RowForms.size_few, proofs.RowForms.size_wide}
 use Rattle.graph_rows.proofs.steps.next_size.Goals as goal
 
 pub returns-then-branch-clause-place : goal.returns-then-branch-clause-place

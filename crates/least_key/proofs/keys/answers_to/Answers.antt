@@ -1,6 +1,5 @@
 use Rattle.std.proofs.Common.{◌+◌, sym, subst, take}
-use Rattle.least_key.specs.Answers.{AreAnswers}
-use Rattle.least_key.proofs.KeysTelling.{answers_more}
+use Rattle.least_key.{specs.Answers.AreAnswers, proofs.Truth.answers_more}
 use Rattle.least_key.proofs.keys.answers_to.Goals as goal
 
 pub loop-graph-preserved : goal.loop-graph-preserved

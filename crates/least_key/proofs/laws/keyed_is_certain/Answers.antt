@@ -1,4 +1,4 @@
-use Rattle.least_key.proofs.certain.Accepted.{keyed_is_certain}
+use Rattle.least_key.proofs.OneAnswer.{keyed_is_certain}
 use Rattle.least_key.proofs.laws.keyed_is_certain.Goals as goal
 
 pub returns : goal.returns

@@ -1,4 +1,4 @@
-use Rattle.least_key.proofs.one.Nets.{one_net}
+use Rattle.least_key.proofs.OneAnswer.{one_net}
 use Rattle.least_key.proofs.laws.one_net.Goals as goal
 
 pub returns : goal.returns

@@ -1,4 +1,4 @@
-use Rattle.least_key.proofs.one.Refusals.{one_refusal}
+use Rattle.least_key.proofs.OneAnswer.{one_refusal}
 use Rattle.least_key.proofs.laws.one_refusal.Goals as goal
 
 pub returns : goal.returns

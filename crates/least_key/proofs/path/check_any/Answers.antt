@@ -1,5 +1,4 @@
-use Rattle.std.proofs.Common.{sym, subst}
-use Rattle.std.specs.Prelude.{OnOk}
+use Rattle.std.{proofs.Common.sym, proofs.Common.subst, specs.Prelude.OnOk}
 use Rattle.periodic_net.specs.Graph.{IsConnected}
 use Rattle.quotient_graph.specs.{AnyGraphs.graph_view, declared.any_graph.AnyGraph.AnyGraph}
 use Rattle.least_key.proofs.path.check_any.Goals as goal

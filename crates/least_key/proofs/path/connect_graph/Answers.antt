@@ -1,5 +1,4 @@
-use Rattle.least_key.specs.{Causes.unconnected_refusal, Truths.IsTrueOf}
-use Rattle.least_key.proofs.Truth.{unconnected_true, known_error}
+use Rattle.least_key.{specs.Causes.unconnected_refusal, specs.Truths.IsTrueOf, proofs.Truth.unconnected_true, proofs.Truth.known_error}
 use Rattle.least_key.proofs.path.connect_graph.Goals as goal
 
 pub returns-in_err-net-clause-refused : goal.returns-in_err-net-clause-refused

@@ -1,5 +1,5 @@
 use Rattle.std.proofs.Common.{◌∙◌, ap, take, drop}
-use Rattle.line_text.proofs.Marks.{taken, dropped}
+use Rattle.line_text.proofs.Texts.{taken, dropped}
 use Rattle.line_text.proofs.cuts.cut.Goals as goal
 
 pub returns-clause-first : goal.returns-clause-first

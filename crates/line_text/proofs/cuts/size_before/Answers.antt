@@ -1,6 +1,6 @@
 use Rattle.std.proofs.Common.{◌∙◌, ap, length}
 use Rattle.std.specs.Option.{unwrap_or}
-use Rattle.line_text.proofs.Marks.{size_is}
+use Rattle.line_text.proofs.Texts.{size_is}
 use Rattle.line_text.proofs.cuts.size_before.Goals as goal
 
 pub returns-clause-size : goal.returns-clause-size

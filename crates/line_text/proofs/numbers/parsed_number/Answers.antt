@@ -1,6 +1,5 @@
-use Rattle.std.proofs.Common.{ap, ◌∙◌}
-use Rattle.std.specs.Result.{result_ok}
-use Rattle.line_text.proofs.Parsing.{parsed_again, number_is_text}
+use Rattle.std.{proofs.Common.ap, proofs.Common.◌∙◌, specs.Result.result_ok}
+use Rattle.line_text.proofs.Texts.{parsed_again, number_is_text}
 use Rattle.line_text.proofs.numbers.parsed_number.Goals as goal
 
 pub returns-in-Ok : goal.returns-in-Ok

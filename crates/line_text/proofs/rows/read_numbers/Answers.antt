@@ -1,9 +1,9 @@
-use Rattle.std.proofs.Common.{ap, arith, length, refl, sym, ◌∙◌, ◌∷◌, ◌++◌, [], subst}
+use Rattle.std.proofs.Common.{ap, arith, length, refl, sym, ◌∙◌, [], ◌∷◌, ◌++◌, subst}
 use Rattle.std.proofs.lemmas.{List.length-append, Int.to_z-of_z, Option.none-some}
 use mir.Syntax.{w128}
 use mir.Val.{of_z, to_z}
 use Rattle.line_text.specs.{Lines.before, Lines.onwards, Reading.IsReadTo}
-use Rattle.line_text.proofs.NumberLists.{pushed, stuck, too_many, finished, none_left, without_first}
+use Rattle.line_text.proofs.Texts.{pushed, stuck, too_many, finished, none_left, without_first}
 use Rattle.line_text.proofs.rows.read_numbers.Goals as goal
 
 pub loop-rest-preserved : goal.loop-rest-preserved

@@ -1,8 +1,7 @@
-use Rattle.std.proofs.Common.{rules, ◌++◌, ◌∷◌, [], take, List, sym, subst}
-use Rattle.net_components.specs.{Components.Component, Written.IsMadeOf, declared.parts.Part.Part}
-use Rattle.integers.proofs.lists.Matched.{matched_more}
-use Rattle.integers.specs.Lists.{AreMatched}
-use Rattle.net_components.proofs.{AllParts.part_fault, OnePart.take_more}
+use Rattle.std.proofs.Common.{rules, ◌++◌, [], ◌∷◌, take, List, sym, subst}
+use Rattle.net_components.{specs.Components.Component, specs.Written.IsMadeOf, specs.declared.parts.Part.Part, proofs.OneAnswer.part_fault}
+use Rattle.net_components.{proofs.OneAnswer.take_more}
+use Rattle.integers.{proofs.lists.Matched.matched_more, specs.Lists.AreMatched}
 use Rattle.net_components.proofs.parts.parts_of.Goals as goal
 
 pub returns-in_err-part-clause-fault : goal.returns-in_err-part-clause-fault

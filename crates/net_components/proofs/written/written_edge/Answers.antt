@@ -1,13 +1,12 @@
 -- Of `written_edge`: the clause `wide`; what `shift_in` and `number_of` require.
 use Rattle.std.proofs.Common.{◌≤◌, ℕ, List, length, lit<, sym, ap, subst, ◌∙◌}
-use Rattle.std.proofs.lemmas.Int.{to_z-of_z}
-use Rattle.std.specs.Int.{w128}
+use Rattle.std.{proofs.lemmas.Int.to_z-of_z, specs.Int.w128}
 use Rattle.periodic_net.specs.{Graph.Arc, Graph.arc, Limits.most_vertices}
 use Rattle.vecdim.specs.Lattices.{Members}
 use Rattle.connected_dim.specs.Generators.{generator_of}
 use Rattle.integers.specs.Vectors.{HasDimension}
-use Rattle.net_components.specs.Shifts.{IsWideAt}
 use Rattle.net_components.proofs.MadeParts.{among, few, from, to, step, head, member, wide_at}
+use Rattle.net_components.specs.Shifts.{IsWideAt}
 use Rattle.net_components.proofs.written.written_edge.Goals as goal
 
 pub shift_in-k-requires : goal.shift_in-k-requires
@@ -15,8 +14,7 @@ shift_in-k-requires g c =
     let G = c.args.g.now in let k = c.recall.ensures in let e = c.args.e.now in let C = c.args.c.now in
     let h = c.requires.component in let i = c.requires.edge in let some = c.requires.tail in
     let is_from = from G k.is_graph k.small C h e i some in
-    let is_to = to G k.is_graph k.small C h e i some in
-    let within = step G k.is_graph k.small C h e i some in
+    let is_to = to G k.is_graph k.small C h e i some in let within = step G k.is_graph k.small C h e i some in
     let is_member = subst (λ d. Members d C.stairs (generator_of C.found e)) k.parameter (member G k.is_graph k.small C h e i some) in
     (lit< tt, (lit< tt, (h.walks.within, (is_from, (is_to, (within, is_member))))))
 

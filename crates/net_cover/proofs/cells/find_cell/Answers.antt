@@ -1,6 +1,6 @@
 use Rattle.std.proofs.{Common.◌∙◌, Common.sym, lemmas.Bool.true≢false}
 use Rattle.net_cover.specs.CellWords.{cell_numbers}
-use Rattle.net_cover.proofs.CellNumbers.{numbers_few, numbers_wide, spelled_after}
+use Rattle.net_cover.proofs.CellRows.{numbers_few, numbers_wide, spelled_after}
 use Rattle.net_cover.proofs.cells.find_cell.Goals as goal
 
 pub returns-then-branch-clause-none : goal.returns-then-branch-clause-none

@@ -2,7 +2,7 @@ use Rattle.std.proofs.Common.{◌≡◌, List, ℤ, length, Option, Some, None}
 use Rattle.std.specs.Prelude.{IfSome}
 use Rattle.integers.specs.Vectors.{Vector}
 use Rattle.net_cover.specs.{Cells.cell_view, declared.cell.Cell.Cell, CellWords.row_in, CellWords.AreNumbersOf}
-use Rattle.net_cover.proofs.CellNumbers.{AreSmall, space_of}
+use Rattle.net_cover.proofs.CellRows.{AreSmall, space_of}
 use Rattle.net_cover.proofs.cells.space_from.Goals as goal
 
 -- the cell of the rows that nine numbers make is that of the numbers

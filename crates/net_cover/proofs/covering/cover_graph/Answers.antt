@@ -3,9 +3,9 @@ use Rattle.std.proofs.Common.{◌∙◌, ◌*◌, ℕ, lit<, ap, subst}
 use Rattle.periodic_net.specs.{Graph.IsGraph, Limits.IsSmall}
 use Rattle.quotient_graph.specs.Stars.{graph_with}
 use Rattle.sublattice.specs.Sublattices.{index_of}
-use Rattle.net_cover.proofs.Covered.{AreMade, cell_fits, cell_lattice, given_cover, given_graph, given_of, given_small, given_within_limit, told_of, wide_fault}
-use Rattle.net_cover.proofs.covering.cover_graph.Goals.{After-vertex_count-n}
-use Rattle.net_cover.proofs.{CoverIso.covers_are_isomorphic, covering.cover_graph.Given.Over}
+use Rattle.net_cover.proofs.CoverMade.{AreMade, cell_fits, cell_lattice, given_cover, given_graph, given_of, given_small, given_within_limit, told_of}
+use Rattle.net_cover.proofs.{CoverMade.wide_fault, CoverNet.covers_are_isomorphic}
+use Rattle.net_cover.proofs.covering.cover_graph.{Goals.After-vertex_count-n, Given.Over}
 use Rattle.net_cover.proofs.covering.cover_graph.Goals as goal
 
 -- the edges are given, and so many vertices
@@ -34,8 +34,7 @@ returns-in-Err-given_edges-clause-fault g c =
 
 pub from_edges-requires : goal.from_edges-requires
 from_edges-requires g c =
-    let k = c.recall.ensures in
-    let m = made g (goal.at.from_edges-requires g c).After-vertex_count-n in
+    let k = c.recall.ensures in let m = made g (goal.at.from_edges-requires g c).After-vertex_count-n in
     let n = c.vertex_count-n.result in let es = c.in-Ok-given_edges.edges.items in
     let graph = subst (λ (d : ℕ). IsGraph (graph_with d n es)) k.parameter (given_graph m) in
     let small = subst (λ (d : ℕ). IsSmall (graph_with d n es)) k.parameter (given_small m) in

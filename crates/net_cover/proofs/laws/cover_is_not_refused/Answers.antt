@@ -1,4 +1,4 @@
-use Rattle.net_cover.proofs.OneFault.{cover_is_not_refused}
+use Rattle.net_cover.proofs.OneCover.{cover_is_not_refused}
 use Rattle.net_cover.proofs.laws.cover_is_not_refused.Goals as goal
 
 pub returns : goal.returns

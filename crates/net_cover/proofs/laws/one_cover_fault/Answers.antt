@@ -1,4 +1,4 @@
-use Rattle.net_cover.proofs.OneFault.{one_cover_fault}
+use Rattle.net_cover.proofs.OneCover.{one_cover_fault}
 use Rattle.net_cover.proofs.laws.one_cover_fault.Goals as goal
 
 pub returns : goal.returns

@@ -1,4 +1,4 @@
-use Rattle.net_cover.proofs.Covered.{first_tells}
+use Rattle.net_cover.proofs.CoverMade.{first_tells}
 use Rattle.net_cover.proofs.lifting.given_edges.Goals as goal
 
 pub returns-in-Err-clause-wide : goal.returns-in-Err-clause-wide

@@ -5,9 +5,8 @@ use Rattle.integers.proofs.vectors.Bounds.{wider}
 use Rattle.periodic_net.specs.{Graph.Arc, Limits.most_vertices, Limits.most_shift}
 use Rattle.sublattice.specs.{Remainders.remainder_with, Sublattices.IsCombination}
 use Rattle.net_cover.specs.Covers.{number_in_cover, LeadsTo}
-use Rattle.net_cover.proofs.LiftSteps.{few, leads, left_combination, lift_made, part_tells, remainder_small}
-use Rattle.net_cover.proofs.lifting.lift.Given.{Over}
-use Rattle.net_cover.proofs.lifting.lift.Goals.{After-to_triple, After-coefficients-k}
+use Rattle.net_cover.proofs.CoverMade.{few, leads, left_combination, lift_made, part_tells, remainder_small}
+use Rattle.net_cover.proofs.lifting.lift.{Given.Over, Goals.After-to_triple, Goals.After-coefficients-k}
 use Rattle.net_cover.proofs.lifting.lift.Goals as goal
 
 -- the steps lead to the target from the remainder at their end

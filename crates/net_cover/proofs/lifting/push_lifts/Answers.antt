@@ -1,7 +1,7 @@
 use Rattle.std.proofs.Common.{◌+◌, ◌*◌, List, lit<, sym, subst}
 use Rattle.periodic_net.specs.Graph.{Arc}
 use Rattle.net_cover.specs.{Covers.AreGiven, Covers.IsLift, Lifting.CanLift, Lifting.TellsLift}
-use Rattle.net_cover.proofs.Covered.{edge_read, lifted_no_point, one_more, edge_tells}
+use Rattle.net_cover.proofs.CoverMade.{edge_read, lifted_no_point, one_more, edge_tells}
 use Rattle.net_cover.proofs.lifting.push_lifts.Goals as goal
 
 pub normal-requires : goal.normal-requires

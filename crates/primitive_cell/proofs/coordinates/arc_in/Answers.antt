@@ -1,8 +1,7 @@
 use Rattle.std.proofs.Common.{◌≡◌, ◌∙◌, refl, sym, ap, subst, lit<, arith}
 use Rattle.integers.specs.{Vectors.IsWithin, Vectors.Vector, Bases.base_sum}
 use Rattle.periodic_net.specs.{Classes.ClassArc, Limits.most_units}
-use Rattle.primitive_cell.specs.Lattices.{basis_of}
-use Rattle.primitive_cell.proofs.StairBasis.{combination_is_sum}
+use Rattle.primitive_cell.{specs.Lattices.basis_of, proofs.WholeGraph.combination_is_sum}
 use Rattle.primitive_cell.proofs.coordinates.arc_in.Goals as goal
 
 -- a vector of an arc is within what the arc's is

@@ -2,10 +2,9 @@
 use Rattle.std.proofs.Common.{◌≡◌, ◌+◌, Bool, true, false, List, lit<, sym, subst, Vec, Global}
 use Rattle.periodic_net.specs.Graph.{Arc, IsNormalSpelling}
 use Rattle.vecdim.specs.Stairs.{rows_of}
-use Rattle.primitive_cell.specs.{Given.AreGivenEdges, Places.number_at}
 use Rattle.primitive_cell.proofs.MadePrimitive.{item_in, class_starts, class_passes, class_adds, class_ends}
-use Rattle.primitive_cell.proofs.ClassEdges.{IsArcUpTo}
-use Rattle.primitive_cell.proofs.edges.push_edges.Goals.{then-is_normal+in_ok-push, else-is_normal}
+use Rattle.primitive_cell.{specs.Given.AreGivenEdges, specs.Places.number_at, proofs.GivenEdges.IsArcUpTo}
+use Rattle.primitive_cell.{proofs.edges.push_edges.Goals.then-is_normal+in_ok-push, proofs.edges.push_edges.Goals.else-is_normal}
 use Rattle.primitive_cell.proofs.edges.push_edges.Goals as goal
 
 pub loop-arc-init : goal.loop-arc-init

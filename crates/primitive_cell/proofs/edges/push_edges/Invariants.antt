@@ -1,6 +1,5 @@
 use Rattle.vecdim.specs.Stairs.{rows_of}
-use Rattle.primitive_cell.specs.{Given.AreGivenEdges, Places.number_at}
-use Rattle.primitive_cell.proofs.ClassEdges.{IsArcUpTo}
+use Rattle.primitive_cell.{specs.Given.AreGivenEdges, specs.Places.number_at, proofs.GivenEdges.IsArcUpTo}
 use Rattle.primitive_cell.proofs.edges.push_edges.Given as goal
 
 -- the edges of the classes below, and of the first arcs of this class

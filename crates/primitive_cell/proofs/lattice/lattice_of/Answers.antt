@@ -1,9 +1,8 @@
 use Rattle.std.proofs.Common.{◌≡◌, ◌⊎◌, subst, ℕ, ◌<◌, ◌≤◌, lit<, arith, ⊎_elim}
-use Rattle.std.proofs.lemmas.{Bool.cases_lt, Int.ints, Int.to_z-of_z}
-use Rattle.std.specs.Int.{w128}
+use Rattle.std.{proofs.lemmas.Bool.cases_lt, proofs.lemmas.Int.ints, proofs.lemmas.Int.to_z-of_z, specs.Int.w128}
 use Rattle.quotient_graph.specs.ClassNets.{arcs_of}
+use Rattle.primitive_cell.proofs.WholeGraph.{at_least_two, at_most_three, more_inside}
 use Rattle.primitive_cell.specs.Lattices.{AreInside}
-use Rattle.primitive_cell.proofs.{Dimensions.at_least_two, Dimensions.at_most_three, TranslationStairs.more_inside}
 use Rattle.primitive_cell.proofs.lattice.lattice_of.Goals as goal
 
 pub from_bound-lattice-requires : goal.from_bound-lattice-requires

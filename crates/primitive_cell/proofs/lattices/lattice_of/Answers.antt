@@ -1,9 +1,8 @@
 use Rattle.std.proofs.Common.{◌≡◌, ◌∙◌, pos, sym, ap, FitsSigned, to_z, of_z, refl}
-use Rattle.std.specs.Int.{w128}
-use Rattle.std.proofs.lemmas.Int.{to_z-of_z}
+use Rattle.std.{specs.Int.w128, proofs.lemmas.Int.to_z-of_z}
 use Rattle.periodic_net.specs.Graph.{Graph}
 use Rattle.quotient_graph.specs.PlacedNets.{PlacedNet}
-use Rattle.primitive_cell.proofs.TranslationStairs.{lattice_made}
+use Rattle.primitive_cell.proofs.WholeGraph.{lattice_made}
 use Rattle.primitive_cell.proofs.lattices.lattice_of.Goals as goal
 
 pub returns : goal.returns

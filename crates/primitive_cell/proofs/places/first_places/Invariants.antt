@@ -1,4 +1,4 @@
-use Rattle.primitive_cell.proofs.FirstPlaces.{AreFirstPlacesTo}
+use Rattle.primitive_cell.proofs.MadePrimitive.{AreFirstPlacesTo}
 use Rattle.primitive_cell.proofs.places.first_places.Given as goal
 
 abbrev pub invariant-loop-i : goal.invariant-loop-i

@@ -1,7 +1,6 @@
 use Rattle.std.proofs.Common.{lit<, sym, subst, List}
 use Rattle.periodic_net.specs.{Graph.Arc, Graph.IsGraph, Limits.IsSmall}
-use Rattle.quotient_graph.specs.Stars.{graph_with}
-use Rattle.quotient_graph.proofs.GraphsInMemory.{flat_edges}
+use Rattle.quotient_graph.{specs.Stars.graph_with, proofs.Edges.flat_edges}
 use Rattle.quotient_graph.proofs.any_graph.graph_from.Goals as goal
 
 pub edges_of-requires : goal.edges_of-requires

@@ -1,7 +1,7 @@
 use Rattle.std.proofs.Common.{lit<, List, sym, subst}
 use Rattle.periodic_net.specs.{Graph.IsGraph, Graph.Arc, Limits.IsSmall}
 use Rattle.quotient_graph.specs.{Order.AreRising, Stars.graph_with}
-use Rattle.quotient_graph.proofs.EdgeLists.{listed_flat, listed_graph, listed_small}
+use Rattle.quotient_graph.proofs.Edges.{listed_flat, listed_graph, listed_small}
 use Rattle.quotient_graph.proofs.any_graph.graph_from_edges.Goals as goal
 
 pub edges_of-requires : goal.edges_of-requires

@@ -1,4 +1,4 @@
-use Rattle.std.proofs.Common.{[], map}
+use Rattle.std.proofs.Common.{map, []}
 use Rattle.quotient_graph.specs.Building.{HaveArcs}
 use Rattle.quotient_graph.proofs.build.empty_stars.Given as goal
 

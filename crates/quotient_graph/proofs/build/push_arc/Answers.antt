@@ -1,6 +1,6 @@
 use Rattle.std.proofs.Common.{◌-◌, ◌<◌, ℕ, length, ap, arith}
 use Rattle.periodic_net.specs.Graph.{Arc}
-use Rattle.quotient_graph.proofs.Lists.{map_pushed}
+use Rattle.quotient_graph.proofs.Stars.{map_pushed}
 use Rattle.quotient_graph.proofs.build.push_arc.Goals as goal
 
 pub returns : goal.returns

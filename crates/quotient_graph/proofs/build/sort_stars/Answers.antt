@@ -1,6 +1,5 @@
-use Rattle.std.proofs.Common.{◌≤◌, map, sym, subst, arith}
-use Rattle.std.proofs.lemmas.List.{length-map}
-use Rattle.quotient_graph.proofs.SortedStars.{sorted_none, sorted_more, sorted_all}
+use Rattle.std.proofs.{Common.◌≤◌, Common.map, Common.sym, Common.subst, Common.arith, lemmas.List.length-map}
+use Rattle.quotient_graph.proofs.Stars.{sorted_none, sorted_more, sorted_all}
 use Rattle.quotient_graph.proofs.build.sort_stars.Goals as goal
 
 pub loop-star-init : goal.loop-star-init

@@ -1,5 +1,5 @@
 use Rattle.std.proofs.Common.{map}
-use Rattle.quotient_graph.proofs.SortedStars.{AreSortedUpTo}
+use Rattle.quotient_graph.proofs.Stars.{AreSortedUpTo}
 use Rattle.quotient_graph.proofs.build.sort_stars.Given as goal
 
 abbrev pub invariant-loop-star : goal.invariant-loop-star

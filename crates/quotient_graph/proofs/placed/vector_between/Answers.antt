@@ -2,7 +2,7 @@ use Rattle.std.proofs.Common.{rules, ◌≡◌, ◌^◌, ◌+ℤ◌, ◌-ℤ◌,
 use Rattle.std.specs.Int.{w128}
 use Rattle.integers.specs.Vectors.{vector, minus, plus, times, IsWithin}
 use Rattle.integers.proofs.vectors.Laws.{vector_equal}
-use Rattle.quotient_graph.proofs.Fitting.{flat_part}
+use Rattle.quotient_graph.proofs.Positions.{flat_part}
 use Rattle.quotient_graph.proofs.placed.vector_between.Goals as goal
 
 pub returns : goal.returns

@@ -1,7 +1,6 @@
 use Rattle.std.proofs.Common.{◌+◌, ap, sym, ◌∙◌}
 use Rattle.line_text.specs.Lines.{Place}
-use Rattle.line_text.proofs.Passing.{one_more_row}
-use Rattle.line_text.proofs.LineCuts.{first_line, only_line, no_line}
+use Rattle.line_text.proofs.Texts.{one_more_row, first_line, only_line, no_line}
 use Rattle.line_text.proofs.lines.Lines.next.Goals as goal
 
 pub returns-in_default-clause-every : goal.returns-in_default-clause-every

@@ -1,7 +1,6 @@
 use Rattle.std.proofs.Common.{◌≡◌, ◌≤◌, length, ℕ, ℤ, true, List, ◌∷◌, ◌++◌, All}
 use Rattle.std.proofs.lemmas.Result.{IfOk-weaker}
-use Rattle.line_text.specs.Numbers.{IsWide, row_text}
-use Rattle.line_text.proofs.Passing.{row_has_no}
+use Rattle.line_text.{specs.Numbers.IsWide, specs.Numbers.row_text, proofs.Texts.row_has_no}
 use Rattle.line_text.proofs.lines.Lines.next_row.Goals as goal
 
 pub returns-in-Some-clause-every : goal.returns-in-Some-clause-every

@@ -1,5 +1,4 @@
-use Rattle.std.proofs.{Common.FitsSigned, Common.arith, lemmas.Int.to_z-of_z}
-use Rattle.std.specs.Int.{w128}
+use Rattle.std.{proofs.Common.FitsSigned, proofs.Common.arith, proofs.lemmas.Int.to_z-of_z, specs.Int.w128}
 use Rattle.periodic_net.specs.Limits.{most_shift}
 use Rattle.net_cover.proofs.cell.Cell.determinant.Goals as goal
 

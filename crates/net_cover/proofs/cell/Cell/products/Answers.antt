@@ -1,6 +1,5 @@
-use Rattle.std.proofs.Common.{◌^◌, FitsSigned, arith}
+use Rattle.std.proofs.{Common.◌^◌, Common.FitsSigned, Common.arith, lemmas.Int.to_z-of_z}
 use Rattle.std.specs.Int.{w128}
-use Rattle.std.proofs.lemmas.Int.{to_z-of_z}
 use Rattle.periodic_net.specs.Limits.{most_shift}
 use Rattle.net_cover.proofs.cell.Cell.products.Goals as goal
 

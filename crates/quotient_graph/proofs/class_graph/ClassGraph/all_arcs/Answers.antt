@@ -1,6 +1,6 @@
 use Rattle.std.proofs.Common.{sym, subst, ◌≤◌, ℕ, lit<, arith}
 use Rattle.periodic_net.specs.Limits.{most_arcs}
-use Rattle.quotient_graph.proofs.StarLengths.{joined_length}
+use Rattle.quotient_graph.proofs.Stars.{joined_length}
 use Rattle.quotient_graph.proofs.class_graph.ClassGraph.all_arcs.Goals as goal
 
 pub arcs_in-requires : goal.arcs_in-requires

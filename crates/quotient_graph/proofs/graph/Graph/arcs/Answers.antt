@@ -1,4 +1,4 @@
-use Rattle.quotient_graph.proofs.StarArcs.{each_arc_from, every_arc_from}
+use Rattle.quotient_graph.proofs.Stars.{each_arc_from, every_arc_from}
 use Rattle.quotient_graph.proofs.graph.Graph.arcs.Goals as goal
 
 pub returns-clause-each : goal.returns-clause-each

@@ -1,5 +1,5 @@
 use Rattle.std.proofs.Common.{lit<}
-use Rattle.quotient_graph.proofs.GraphsInMemory.{sorted_edges}
+use Rattle.quotient_graph.proofs.Edges.{sorted_edges}
 use Rattle.quotient_graph.proofs.graph.Graph.from_edges.Goals as goal
 
 pub with_edges-requires : goal.with_edges-requires

@@ -1,6 +1,5 @@
 use Rattle.std.proofs.Common.{map, subst}
-use Rattle.quotient_graph.specs.{Stars.graph_with, Building.AreStars}
-use Rattle.quotient_graph.proofs.GraphsInMemory.{is_in_memory}
+use Rattle.quotient_graph.{specs.Stars.graph_with, specs.Building.AreStars, proofs.Edges.is_in_memory}
 use Rattle.quotient_graph.proofs.graph.Graph.with_edges.Goals as goal
 
 pub invariant_of-result : goal.invariant_of-result

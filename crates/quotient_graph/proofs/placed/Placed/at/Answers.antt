@@ -1,7 +1,6 @@
 use Rattle.std.proofs.Common.{sym, subst}
 use Rattle.integers.specs.Vectors.{IsWithin}
-use Rattle.quotient_graph.specs.PlacedNets.{most_position}
-use Rattle.quotient_graph.proofs.PositionBounds.{position_bounded}
+use Rattle.quotient_graph.{specs.PlacedNets.most_position, proofs.Positions.position_bounded}
 use Rattle.quotient_graph.proofs.placed.Placed.at.Goals as goal
 
 pub returns-clause-small : goal.returns-clause-small

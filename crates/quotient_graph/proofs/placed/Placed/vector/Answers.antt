@@ -3,9 +3,9 @@ use Rattle.std.proofs.Common.{rules, to_z, of_z, ◌≡◌, ◌^◌, lit<, ap, s
 use Rattle.std.specs.Int.{w128}
 use Rattle.integers.specs.Vectors.{minus, plus, times, IsWithin}
 use Rattle.integers.proofs.vectors.Bounds.{wider}
-use Rattle.periodic_net.specs.{Graph.Arc, Graph.IsQuotientVertex, Limits.most_shift, Limits.most_units, Placement.arc_vector}
+use Rattle.periodic_net.specs.{Graph.Arc, Graph.IsQuotientVertex, Placement.arc_vector, Limits.most_shift, Limits.most_units}
 use Rattle.periodic_net.proofs.CallerLemmas.{arc_inside}
-use Rattle.quotient_graph.proofs.StarArcs.{arc_within}
+use Rattle.quotient_graph.proofs.Stars.{arc_within}
 use Rattle.quotient_graph.proofs.placed.Placed.vector.Goals as goal
 
 pub at-from-requires : goal.at-from-requires
@@ -23,8 +23,7 @@ at-to-requires g c =
 pub vector_between-requires : goal.vector_between-requires
 vector_between-requires g c =
     let G = c.args.self.now.graph in let P = c.args.self.now.placement in let arc = c.args.arc.now in
-    let s = c.arc.inside.shift in
-    let d = to_z w128 (of_z w128 c.d0.result) in
+    let s = c.arc.inside.shift in let d = to_z w128 (of_z w128 c.d0.result) in
     let same : minus (plus c.at-to.result (times d s)) c.at-from.result ≡ arc_vector P arc = search rules in
     let vector : IsWithin (2 ^ 61) (minus (plus c.at-to.result (times d s)) c.at-from.result) =
     subst (IsWithin (2 ^ 61)) (sym same) (wider most_units (2 ^ 61) (omega arith) (arc_vector P arc) (c.recall.ensures.limits.arcs arc c.requires)) in

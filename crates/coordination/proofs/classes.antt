@@ -1,4 +1,0 @@
-pub mod AllClasses
-pub mod KindLists
-pub mod Matchings
-pub mod OneNumbering

@@ -1,4 +1,0 @@
-pub mod Finding
-pub mod Shown
-pub mod Sizes
-pub mod Starts

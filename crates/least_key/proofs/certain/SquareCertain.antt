@@ -1,1 +1,0 @@
--- The square net is certain: its elimination forms no number.

@@ -1,0 +1,2 @@
+-- The square net.
+pub mod SquareCertain

@@ -1,0 +1,207 @@
+-- Lists of arcs from each vertex or class: their number, how they are made and sorted, and what arcs they have.
+use Rattle.std.proofs.Common.{◌≡◌, ◌∙◌, ap, List, length, map, sum_by, ◌≢◌, inl, inr, ℕ, ◌-◌, ◌+◌, ◌<◌, ◌≤◌, ◌==◌, true, false, [], ◌∷◌, ◌++◌, take, All}
+use Rattle.std.proofs.Common.{get_or, set, refl, sym, subst, arith, get_or-set_same, get_or-set_other, length-set, add-one, ◌⊎◌, zero, suc, Bool, ℤ, neg_ℤ}
+use Rattle.std.proofs.Common.{unsigned_abs}
+use Rattle.std.proofs.lemmas.List.{map-set, get_or-map, length-map, append-nil, get_or_default}
+use Rattle.std.proofs.lemmas.List.Elements.{filter-append, recursion_from_All, All-from_recursion}
+use Rattle.std.specs.List.{filter, AllByRecursion, Contains}
+use Rattle.std.{proofs.lemmas.List.Concat.length-flat_map, proofs.lemmas.List.Folds.flat_map-map, proofs.lemmas.List.Sorted.IsPermutation-sym}
+use Rattle.std.{proofs.lemmas.List.Sorted.Contains-permutation, proofs.lemmas.Bool.cases_eq, proofs.lemmas.Bool.Decides.Decides-eqb}
+use Rattle.std.{proofs.lemmas.Grind.common_steps, proofs.lemmas.Int.ints, proofs.Math.Seq.take-suc, specs.Prelude.flat_map, specs.Prelude.slice_index_or}
+use Rattle.periodic_net.specs.Graph.{Arc, both_ways, reverse_of, Graph, arcs, arcs_from, IsArc, IsGraph}
+use Rattle.periodic_net.proofs.CallerLemmas.{arc_inside, from_is_arc, arc_is_from}
+use Rattle.periodic_net.specs.{Classes.ClassArc, Limits.most_shift, Limits.IsSmall}
+use Rattle.quotient_graph.specs.Stars.{star_at, IsStar, IsArcFrom}
+use Rattle.quotient_graph.specs.Building.{with_arc, HaveArcs, EdgeFits, IsSortedFrom, AreSortedFrom}
+use Rattle.quotient_graph.specs.ClassNets.{class_star}
+use Rattle.integers.proofs.lists.Members.{all_at, IsIn, in_from_contains, contains_from_in}
+use Rattle.integers.specs.Vectors.{Vector, opposite, IsWithin}
+use Rattle.integers.proofs.numbers.Order.{before_or_at}
+
+-- one after another, the lists have as many members as all of them
+pub joined_length : {S A : Type 0} (items : S → List A) (lists : List S) → length (flat_map (λ s. s) (map items lists)) ≡ sum_by (λ s. length (items s)) lists
+joined_length items lists = ap length (flat_map-map (λ s. s) items lists) ∙ length-flat_map items lists
+
+-- Lists of arcs by their tails, while arcs are put into them.
+
+-- an arc put last in one list, seen in the list of what the lists hold
+pub map_pushed : {S : Type 0} (items : S → List Arc) (xs : List S) (k : ℕ) (d new : S) (a : Arc) → k ≡ a.from - 1 → k < length xs
+    → items new ≡ items (get_or xs k d) ++ a ∷ [] → map items (set xs k new) ≡ with_arc (map items xs) a
+map_pushed items xs k d new a e h f =
+    map-set items xs k new ∙ ap (λ (t : List Arc). set (map items xs) k t) (f ∙ ap (λ (t : List Arc). t ++ a ∷ []) (sym (get_or-map items xs k d [] h)))
+    ∙ ap (λ (j : ℕ). set (map items xs) j (get_or (map items xs) j [] ++ a ∷ [])) e
+
+same_test : (u : ℕ) → (u == u) ≡ true
+same_test u = grind (arith, common_steps)
+
+other_test : (u v : ℕ) → u ≢ v → (v == u) ≡ false
+other_test u v n = grind (arith, common_steps)
+
+filtered_same : (u : ℕ) (a : Arc) (as' : List Arc) → u ≡ a.from → filter (λ b. b.from == u) (as' ++ a ∷ []) ≡ filter (λ b. b.from == u) as' ++ a ∷ []
+filtered_same u a as' e = filter-append (λ (b : Arc). b.from == u) as' (a ∷ [])
+    ∙ ap (λ (t : List Arc). filter (λ b. b.from == u) as' ++ t) (rw (subst (λ v. (v == u) ≡ true) e (same_test u)) refl)
+
+filtered_other : (u : ℕ) (a : Arc) (as' : List Arc) → u ≢ a.from → filter (λ b. b.from == u) (as' ++ a ∷ []) ≡ filter (λ b. b.from == u) as'
+filtered_other u a as' n = filter-append (λ (b : Arc). b.from == u) as' (a ∷ []) ∙ (rw (other_test u a.from n) (grind (arith, common_steps)))
+
+-- one more arc, in the list of its tail
+pub have_more : (n : ℕ) (stars : List (List Arc)) (as' : List Arc) (a : Arc) → 1 ≤ a.from → a.from ≤ n → HaveArcs n stars as'
+    → HaveArcs n (with_arc stars a) (as' ++ a ∷ [])
+have_more n stars as' a low high h = record {
+  count = length-set stars (a.from - 1) (star_at stars a.from ++ a ∷ []) ∙ h.count;
+  each = λ u p q. elim (cases_eq u a.from) [
+    | inl e ↦ rw e (get_or-set_same stars (a.from - 1) (star_at stars a.from ++ a ∷ []) [] (below a.from low high)
+        ∙ ap (λ (t : List Arc). t ++ a ∷ []) (h.each a.from low high) ∙ sym (filtered_same a.from a as' refl))
+    | inr m ↦ get_or-set_other stars (a.from - 1) (u - 1) (star_at stars a.from ++ a ∷ []) [] (omega arith) ∙ h.each u p q ∙ sym (filtered_other u a as' m)
+  ];
+}
+  where
+    below : (u : ℕ) → 1 ≤ u → u ≤ n → u - 1 < length stars
+    below u p q = let c = h.count in omega arith
+
+-- both arcs of one more edge
+pub have_edge : (n : ℕ) (stars : List (List Arc)) (es : List Arc) (e : Arc) → (1 ≤ e.from) × (e.from ≤ n) → (1 ≤ e.to) × (e.to ≤ n)
+    → HaveArcs n stars (both_ways es)
+    → HaveArcs n (with_arc (with_arc stars e) (reverse_of e)) (both_ways (es ++ e ∷ []))
+have_edge n stars es e from to h =
+    rw (both_more es e) (have_more n (with_arc stars e) (both_ways es ++ e ∷ []) (reverse_of e) to.0 to.1 (have_more n stars (both_ways es) e from.0 from.1 h))
+  where
+    both_more : (es : List Arc) (e : Arc) → both_ways (es ++ e ∷ []) ≡ (both_ways es ++ e ∷ []) ++ reverse_of e ∷ []
+    both_more [] e = refl
+    both_more (x ∷ es) e = ap (λ (t : List Arc). x ∷ reverse_of x ∷ t) (both_more es e)
+
+-- both arcs of the edge at place i
+pub have_edge_at : (n : ℕ) (stars : List (List Arc)) (es : List Arc) (i : ℕ) (e : Arc) → i < length es → e ≡ get_or es i e → All (EdgeFits n) es
+    → HaveArcs n stars (both_ways (take i es)) → HaveArcs n (with_arc (with_arc stars e) (reverse_of e)) (both_ways (take (i + 1) es))
+have_edge_at n stars es i e l is fit h =
+    let fits = subst (EdgeFits n) (sym is) (fit i e l) in
+    subst (λ t. HaveArcs n (with_arc (with_arc stars e) (reverse_of e)) (both_ways t))
+    (sym (ap (λ (k : ℕ). take k es) (add-one i) ∙ take-suc es i e l ∙ ap (λ (a : Arc). take i es ++ a ∷ []) (sym is)))
+    (have_edge n stars (take i es) e fits.from fits.to h)
+
+-- Lists that are sorted one after the other.
+
+-- the first i lists are sorted, and the others are as they were
+pub record AreSortedUpTo (i : ℕ) (old new : List (List Arc)) : Type 0 where
+  pub count : length new ≡ length old
+  pub done : (k : ℕ) → k < i → IsSortedFrom (get_or old k []) (get_or new k [])
+  pub left : (k : ℕ) → i ≤ k → get_or new k [] ≡ get_or old k []
+
+pub sorted_none : (old : List (List Arc)) → AreSortedUpTo 0 old old
+sorted_none old = record { count = refl; done = λ k h. absurd (omega arith); left = λ k h. refl }
+
+pub sorted_all : (i : ℕ) (old new : List (List Arc)) → length old ≤ i → AreSortedUpTo i old new → AreSortedFrom old new
+sorted_all i old new l h = record { count = h.count; each = λ k b. h.done k (omega arith) }
+
+pub sorted_more : {S : Type 0} (items : S → List Arc) (old : List (List Arc)) (xs : List S) (i : ℕ) (d new : S) → i < length xs
+    → IsSortedFrom (items (get_or xs i d)) (items new) → AreSortedUpTo i old (map items xs) → AreSortedUpTo (i + 1) old (map items (set xs i new))
+sorted_more items old xs i d new l sorted h = subst (AreSortedUpTo (i + 1) old) (sym (map-set items xs i new)) (record {
+  count = length-set (map items xs) i (items new) ∙ h.count;
+  done = λ k b. elim (before_or_at k i b) [
+    | inl b ↦ subst (IsSortedFrom (get_or old k [])) (sym (get_or-set_other (map items xs) i k (items new) [] (omega arith))) (h.done k b)
+    | inr e ↦ subst (λ j. IsSortedFrom (get_or old j []) (get_or (set (map items xs) i (items new)) j [])) (sym e) here
+  ];
+  left = λ k b. get_or-set_other (map items xs) i k (items new) [] (omega arith) ∙ h.left k (omega arith);
+})
+  where
+    here : IsSortedFrom (get_or old i []) (get_or (set (map items xs) i (items new)) i [])
+    here =
+        let within : i < length (map items xs) = omega (arith, length-map xs items) in
+        subst (IsSortedFrom (get_or old i [])) (sym (get_or-set_same (map items xs) i (items new) [] within))
+        (subst (λ l. IsSortedFrom l (items new)) (sym (get_or-map items xs i d [] l) ∙ h.left i (omega arith)) sorted)
+
+-- Lists of class arcs, one for each class, and the arcs from a class.
+
+-- the arcs of the list at place k, counted from 0, leave the class first + k
+abbrev pub LeaveFrom : ℕ → List (List ClassArc) → Type 0
+LeaveFrom first [] = Unit {0}
+LeaveFrom first (s ∷ rest) = ((a : ClassArc) → IsIn s a → a.from ≡ first) × LeaveFrom (suc first) rest
+
+-- whether an arc leaves class c
+abbrev leaves : ℕ → ClassArc → Bool
+leaves c a = a.from == c
+
+-- if all arcs leave c, all are chosen
+all_leave : (c : ℕ) (s : List ClassArc) → ((a : ClassArc) → IsIn s a → a.from ≡ c) → filter (leaves c) s ≡ s
+all_leave c [] h = refl
+all_leave c (a ∷ s) h = rw ((Decides-eqb a.from c).1 (h a (inl refl))) (ap (λ (t : List ClassArc). a ∷ t) (all_leave c s (λ b i. h b (inr i))))
+
+-- if none does, none is
+none_leaves : (c : ℕ) (s : List ClassArc) → ((a : ClassArc) → IsIn s a → a.from ≢ c) → filter (leaves c) s ≡ []
+none_leaves c [] h = refl
+none_leaves c (a ∷ s) h = rw (other (a.from == c) refl) (none_leaves c s (λ b i. h b (inr i)))
+  where
+    other : (b : Bool) → (a.from == c) ≡ b → (a.from == c) ≡ false
+    other true e = absurd (h a (inl refl) ((Decides-eqb a.from c).0 e))
+    other false e = e
+
+-- no arc of the later lists leaves an earlier class
+later_leave : (first c : ℕ) → c < first → (stars : List (List ClassArc)) → LeaveFrom first stars → filter (leaves c) (flat_map (λ s. s) stars) ≡ []
+later_leave first c l [] h = refl
+later_leave first c l (s ∷ rest) h =
+    filter-append (leaves c) s (flat_map (λ t. t) rest)
+    ∙ ap (λ (t : List ClassArc). t ++ filter (leaves c) (flat_map (λ u. u) rest)) (none_leaves c s (λ a i e. let f = h.0 a i in omega (arith, l, e, f)))
+    ∙ later_leave (suc first) c (omega (arith, l)) rest h.1
+
+-- the list at place k has the arcs that leave its class
+at_place : (first k : ℕ) (stars : List (List ClassArc)) → k < length stars → LeaveFrom first stars
+    → slice_index_or stars k [] ≡ filter (leaves (first + k)) (flat_map (λ s. s) stars)
+at_place first k [] l h = absurd (omega (arith, l))
+at_place first zero (s ∷ rest) l h =
+    let e : first + 0 ≡ first = omega arith in
+    rw e (sym (
+    filter-append (leaves first) s (flat_map (λ t. t) rest)
+    ∙ ap (λ (t : List ClassArc). t ++ filter (leaves first) (flat_map (λ u. u) rest)) (all_leave first s h.0)
+    ∙ ap (λ (t : List ClassArc). s ++ t) (later_leave (suc first) first (omega arith) rest h.1)
+    ∙ append-nil s))
+at_place first (suc k) (s ∷ rest) l h =
+    let e : first + suc k ≡ suc first + k = omega arith in
+    let r = at_place (suc first) k rest (omega (arith, l)) h.1 in
+    rw e (r ∙ sym (
+    filter-append (leaves (suc first + k)) s (flat_map (λ t. t) rest)
+    ∙ ap (λ (t : List ClassArc). t ++ filter (leaves (suc first + k)) (flat_map (λ u. u) rest))
+    (none_leaves (suc first + k) s (λ a i d. let f = h.0 a i in omega (arith, d, f)))))
+
+-- lists whose arcs leave their classes are the arcs from the classes
+pub stars_are_arcs : (stars : List (List ClassArc)) → LeaveFrom 1 stars → (c : ℕ) → 1 ≤ c → c ≤ length stars
+    → class_star stars c ≡ filter (λ a. a.from == c) (flat_map (λ s. s) stars)
+stars_are_arcs stars h zero low high = absurd (omega (arith, low))
+stars_are_arcs stars h (suc k) low high = let e : suc k - 1 ≡ k = omega arith in let f : 1 + k ≡ suc k = omega arith in
+    rw e (at_place 1 k stars (omega (arith, high)) h ∙ ap (λ (c : ℕ). filter (leaves c) (flat_map (λ s. s) stars)) f)
+
+-- The arcs from a vertex are among the vertices and within the limits, and they are all the arcs from it.
+
+opposite_within : (n : ℕ) (s : Vector) → IsWithin n s → IsWithin n (opposite s)
+opposite_within n s h = (part s.x h.0, part s.y h.1, part s.z h.2)
+  where
+    part : (x : ℤ) → unsigned_abs x ≤ n → unsigned_abs (neg_ℤ x) ≤ n
+    part x a = omega (arith, ints)
+
+both_within : (es : List Arc) → AllByRecursion (λ e. IsWithin most_shift e.shift) es → AllByRecursion (λ a. IsWithin most_shift a.shift) (both_ways es)
+both_within [] h = tt
+both_within (e ∷ es) h = (h.0, (opposite_within most_shift e.shift h.0, both_within es h.1))
+
+-- the shifts of all arcs are within the limits
+pub arc_within : (G : Graph) → IsSmall G → (a : Arc) → IsArc G a → IsWithin most_shift a.shift
+arc_within G s a h =
+    all_at (λ b. IsWithin most_shift b.shift) (arcs G) a
+    (All-from_recursion (λ b. IsWithin most_shift b.shift) (arcs G) (both_within G.edges
+    (recursion_from_All (λ e. IsWithin most_shift e.shift) G.edges s.shifts))) h
+
+member : (star : List Arc) (k : ℕ) (d : Arc) → k < length star → Contains star (get_or star k d)
+member [] k d l = absurd (omega arith)
+member (x ∷ xs) k d l = (k, l, get_or_default (x ∷ xs) k (get_or (x ∷ xs) k d) d l)
+
+pub each_arc_from : (G : Graph) (u : ℕ) (star : List Arc) → IsGraph G → IsSmall G → IsStar G u star → All (IsArcFrom G u) star
+each_arc_from G u star g s h k d l =
+    let c = Contains-permutation star (arcs_from G u) (get_or star k d) (IsPermutation-sym (arcs_from G u) star h.all) (member star k d l) in
+    let is = from_is_arc G u (get_or star k d) (in_from_contains (arcs_from G u) (get_or star k d) c.0 c.1 c.2) in
+    record {
+      is_arc = is.0;
+      from = is.1;
+      to = (arc_inside G g (get_or star k d) is.0).to;
+      shift = arc_within G s (get_or star k d) is.0;
+    }
+
+pub every_arc_from : (G : Graph) (u : ℕ) (star : List Arc) → IsStar G u star → (a : Arc) → IsArc G a → a.from ≡ u → Contains star a
+every_arc_from G u star h a i e = Contains-permutation (arcs_from G u) star a h.all (contains_from_in (arcs_from G u) a (arc_is_from G u a i e))
