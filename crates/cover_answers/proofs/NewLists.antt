@@ -1,25 +1,10 @@
--- Lists that take what is new at their end.
-use Rattle.std.proofs.Common.{◌≡◌, ◌⊎◌, inl, inr, ℕ, zero, suc, ◌+◌, ◌<◌, ◌≤◌, ◌||◌, not, Bool, true, false, cond, List, [], ◌∷◌, ◌++◌, length, get_or, refl}
-use Rattle.std.proofs.Common.{sym, ap, subst, arith, length-append}
-use Rattle.std.proofs.lemmas.Bool.{false≢true}
-use Rattle.std.specs.{Bool.Decides, List.list_any, List.position_or_len}
-use Rattle.integers.proofs.lists.Members.{IsIn, AreApart}
+-- Lists that take what is new at their end: what they have, and places in them.
+use Rattle.std.proofs.Common.{◌≡◌, ◌⊎◌, inl, inr, ℕ, zero, suc, ◌+◌, ◌<◌, ◌≤◌, ◌||◌, not, Bool, true, false, cond, List, [], ◌∷◌, ◌++◌, length, get_or}
+use Rattle.std.proofs.Common.{refl, sym, ap, subst, arith, length-append}
+use Rattle.std.{proofs.lemmas.Bool.false≢true, specs.Bool.Decides, specs.List.list_any, specs.List.position_or_len}
+use Rattle.integers.proofs.lists.Members.{append_left, append_right, append_apart, in_at, IsIn, AreApart}
+use Rattle.integers.proofs.lists.GrownLists.{known_or_fresh, in_more}
 use Rattle.cgd_read.specs.Edges.{with_new}
-
--- what stands in one of two lists stands in both together
-pub in_first : {X : Type 0} (xs ys : List X) (z : X) → IsIn xs z → IsIn (xs ++ ys) z
-in_first [] ys z h = absurd h
-in_first (x ∷ xs) ys z (inl e) = inl e
-in_first (x ∷ xs) ys z (inr h) = inr (in_first xs ys z h)
-
-in_second : {X : Type 0} (xs ys : List X) (z : X) → IsIn ys z → IsIn (xs ++ ys) z
-in_second [] ys z h = h
-in_second (x ∷ xs) ys z h = inr (in_second xs ys z h)
-
-in_either : {X : Type 0} (xs ys : List X) (z : X) → IsIn (xs ++ ys) z → IsIn xs z ⊎ IsIn ys z
-in_either [] ys z h = inr h
-in_either (x ∷ xs) ys z (inl e) = inl (inl e)
-in_either (x ∷ xs) ys z (inr h) = elim (in_either xs ys z h) [ inl l ↦ inl (inr l) | inr r ↦ inr r ]
 
 module _ {X : Type 0} (same : X → X → Bool) (decides : (x y : X) → Decides (same x y) (x ≡ y)) where
   -- the place of x
@@ -46,23 +31,17 @@ module _ {X : Type 0} (same : X → X → Bool) (decides : (x y : X) → Decides
   grown_is P xs x p q = search (arith, any_in, none_in)
 
   pub has_new : (xs : List X) (x : X) → IsIn (with_new same xs x) x
-  has_new xs x = grown_is (λ l. IsIn l x) xs x (λ h. h) (λ n. in_second xs (x ∷ []) x (inl refl))
+  has_new xs x = grown_is (λ l. IsIn l x) xs x (λ h. h) (λ n. append_right xs (x ∷ []) x (inl refl))
 
   pub keeps : (xs : List X) (x y : X) → IsIn xs y → IsIn (with_new same xs x) y
-  keeps xs x y h = grown_is (λ l. IsIn l y) xs x (λ i. h) (λ n. in_first xs (x ∷ []) y h)
+  keeps xs x y h = grown_is (λ l. IsIn l y) xs x (λ i. h) (λ n. append_left xs (x ∷ []) y h)
 
   pub tells_new : (xs : List X) (x y : X) → IsIn (with_new same xs x) y → IsIn xs y ⊎ (x ≡ y)
-  tells_new xs x y k = search (arith, grown_is, in_either)
+  tells_new xs x y = grown_is (λ l. IsIn l y → IsIn xs y ⊎ (x ≡ y)) xs x (λ i h. inl h) (λ n. in_more xs x y)
 
   apart_end : (xs : List X) (x : X) → AreApart xs → ¬ IsIn xs x → AreApart (xs ++ x ∷ [])
-  apart_end [] x a n = ((λ f. f), tt)
-  apart_end (y ∷ ys) x a n = (
-    (λ h. elim (in_either ys (x ∷ []) y h) [
-      | inl l ↦ a.0 l
-      | inr r ↦ elim r [ inl e ↦ n (inl (sym e)) | inr f ↦ f ]
-    ]),
-    apart_end ys x a.1 (λ h. n (inr h)),
-  )
+  apart_end xs x a n =
+      append_apart xs (x ∷ []) a ((λ f. f), tt) (λ y h k. elim k [ inl e ↦ n (subst (IsIn xs) (sym e) h) | inr f ↦ f ])
 
   pub apart_new : (xs : List X) (x : X) → AreApart xs → AreApart (with_new same xs x)
   apart_new xs x a = grown_is AreApart xs x (λ h. a) (λ n. apart_end xs x a n)
@@ -108,13 +87,7 @@ module _ {X : Type 0} (same : X → X → Bool) (decides : (x y : X) → Decides
       by : (t : Bool) → same x y ≡ t → (IsIn xs x → get_or xs (place x xs) d ≡ x) → IsIn (y ∷ xs) x → get_or (y ∷ xs) (cond (not t) (1 + place x xs) 0) d ≡ x
       by t k l p = grind (arith, false≢true)
 
-  -- what stands at a place of a list
-  pub get_in : (xs : List X) (k : ℕ) (d : X) → k < length xs → IsIn xs (get_or xs k d)
-  get_in [] k d l = absurd (omega (arith, l))
-  get_in (x ∷ xs) zero d l = inl refl
-  get_in (x ∷ xs) (suc k) d l = inr (get_in xs k d (omega (arith, l)))
-
-  -- and its place is that one
+  -- the place of what stands at one is that one
   pub place_of_get : (xs : List X) (k : ℕ) (d : X) → AreApart xs → k < length xs → place (get_or xs k d) xs ≡ k
   place_of_get [] k d a l = absurd (omega (arith, l))
   place_of_get (x ∷ xs) zero d a l = ap (λ (t : Bool). cond (not t) (1 + place x xs) 0) ((decides x x).1 refl)
@@ -124,7 +97,7 @@ module _ {X : Type 0} (same : X → X → Bool) (decides : (x y : X) → Decides
       below = omega (arith, l)
 
       by : (t : Bool) → same (get_or xs k d) x ≡ t → (k < length xs → place (get_or xs k d) xs ≡ k) → cond (not t) (1 + place (get_or xs k d) xs) 0 ≡ suc k
-      by true f on = absurd (a.0 (subst (λ y. IsIn xs y) ((decides (get_or xs k d) x).0 f) (get_in xs k d below)))
+      by true f on = absurd (a.0 (subst (λ y. IsIn xs y) ((decides (get_or xs k d) x).0 f) (in_at xs k d below)))
       by false f on = let p = on below in omega (arith, p)
 
   -- what does not stand in a list has its length as place
@@ -134,3 +107,20 @@ module _ {X : Type 0} (same : X → X → Bool) (decides : (x y : X) → Decides
     where
       by : (t : Bool) → same x y ≡ t → place x xs ≡ length xs → cond (not t) (1 + place x xs) 0 ≡ suc (length xs)
       by t h k = grind arith
+
+  -- what the place of x has to do with the length n of the list with one more
+  pub record HasPlace (n : ℕ) (xs : List X) (x : X) : Type 0 where
+    pub longer : length xs ≤ n
+    pub within : position_or_len (same x) xs + 1 ≤ n
+
+  pub has_place : (xs : List X) (x : X) → HasPlace (length (with_new same xs x)) xs x
+  has_place xs x = elim (known_or_fresh (λ y. y) same decides x xs) [
+    | inl known ↦
+        let low = known.low in
+        subst (λ (n : ℕ). HasPlace n xs x) (sym (ap (λ (t : Bool). length (cond t xs (xs ++ x ∷ []))) known.any))
+        (record { longer = omega arith; within = omega (arith, low) })
+    | inr fresh ↦
+        let high = fresh.high in let size = length-append xs (x ∷ []) in
+        subst (λ (n : ℕ). HasPlace n xs x) (sym (ap (λ (t : Bool). length (cond t xs (xs ++ x ∷ []))) fresh.any))
+        (record { longer = omega (arith, size); within = omega (arith, size, high) })
+  ]

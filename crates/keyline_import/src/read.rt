@@ -188,7 +188,7 @@ fn add_item<'a>(
 }
 
 /// The items of a text, in order.
-#[tactic(auto, using(crate::proofs::Decided::the_item))]
+#[tactic(auto, using(crate::proofs::ItemLists::the_item))]
 pub fn items<'a>(alloc: Global, text: &'a [u8]) -> Result<Vec<Item<'a>>, ItemRefusal>
     requires { length text.now ≤ longest_text }
 

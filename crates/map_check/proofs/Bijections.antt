@@ -1,19 +1,22 @@
--- The map that a table writes down, and where it is a bijection.
-use Rattle.std.proofs.Common.{◌≡◌, ◌≢◌, ◌⊎◌, inl, inr, ℕ, ℤ, pos, ◌+ℤ◌, ◌*ℤ◌, refl, sym, ap, subst, ◌∙◌, arith, ◌-ℤ◌, ◌≤◌, ◌*◌, ◌^◌}
+-- The map that a table writes down, where it is a bijection, and where it is an isomorphism.
+use Rattle.std.proofs.Common.{◌≡◌, ◌≢◌, ◌⊎◌, inl, inr, ℕ, ℤ, pos, ◌+ℤ◌, ◌*ℤ◌, refl, sym, ap, subst, ◌∙◌, arith, ◌-ℤ◌, ◌≤◌, ◌*◌, ◌^◌, ◌<ℤ◌, ◌≤ℤ◌}
+use Rattle.std.{proofs.lemmas.Int.ints, proofs.Math.Decide.dec_le, specs.Prelude.unsigned_abs}
+use Prim.{Dec, yes, no}
 use Rattle.integers.specs.Vectors.{Vector, vector, zero_vector, up_vector, plus, times, HasDimension, minus}
-use Rattle.integers.specs.Bases.{Base, base_sum}
-use Rattle.integers.proofs.vectors.Laws.{plus_zero, times_zero, vector_equal, plus_cancel, minus_dimension, plus_minus, times_dimension}
-use Rattle.integers.proofs.counting.Numbering.{Numbering, Injects, meets_each}
-use Rattle.integers.proofs.{numbers.Ring.ring, numbers.Ring.linear, vectors.Cramer.coordinates_unique, vectors.BaseSums.base_sum_zero}
-use Rattle.integers.proofs.{vectors.BaseSums.base_sum_minus}
-use Rattle.periodic_net.specs.Graph.{Graph, Vertex, vertex, moved, IsVertex}
-use Rattle.periodic_net.specs.Maps.{PeriodicMap, IsBijection}
+use Rattle.integers.proofs.vectors.Laws.{plus_zero, times_zero, vector_equal, plus_cancel, minus_dimension, plus_minus, times_dimension, zero_plus}
+use Rattle.integers.proofs.vectors.Laws.{times_cancel, minus_shifted, plus_commutative, base_sum_zero, base_sum_minus}
+use Rattle.integers.proofs.counting.Numbering.{Numbering, Injects, meets_each, no_fewer, no_fewer_given}
+use Rattle.integers.proofs.vectors.Independence.{coordinates_unique, relation_of_zero, product_is_determinant}
+use Rattle.integers.{specs.Bases.Base, specs.Bases.base_sum, proofs.numbers.Ring.ring, proofs.numbers.Ring.linear}
+use Rattle.periodic_net.specs.Graph.{Graph, Vertex, vertex, moved, IsVertex, AreJoined}
+use Rattle.periodic_net.specs.Maps.{PeriodicMap, IsBijection, IsInBox, Iso, JoinsAlike}
+use Rattle.periodic_net.proofs.CallerLemmas.{in_box, moved_vertex, periodic_of_drawn, origin_vertex, InBox}
 use Rattle.sublattice.specs.Sublattices.{determinant, AreFlat, index_of}
-use Rattle.sublattice.proofs.CallerLemmas.{any_last}
+use Rattle.sublattice.proofs.CallerLemmas.{any_last, Undoing, undoing}
+use Rattle.sublattice.proofs.{Numbers.natural_part, Residues.same_remainder}
 use Rattle.map_check.specs.Tables.{IsBoxVertex, HasNoDouble, CountsAgree}
-use Rattle.map_check.specs.Laws.{IsMapOf}
-use Rattle.periodic_net.proofs.CallerLemmas.{in_box, moved_vertex, periodic_of_drawn}
 use Rattle.map_check.proofs.Layouts.{box_is_power, size_positive, AreSameVertex, AreMovedCopies, place_numbers, copy_numbers}
+use Rattle.map_check.specs.Laws.{IsMapOf}
 
 -- A table between two graphs of one dimension, and the map that it writes down.
 
@@ -168,8 +171,7 @@ met {G} {H} {M} {f} h c a y j = by
 
     by : (w : Vertex) × IsBoxVertex G M.m w × AreMovedCopies H.dimension M.base (image_of M w) y → (w : Vertex) × IsVertex G w × (f w ≡ y)
     by r =
-        let w = r.0 in let p = r.1 in let s = r.2 in
-        let k = minus zero_vector s.cell.k in
+        let w = r.0 in let p = r.1 in let s = r.2 in let k = minus zero_vector s.cell.k in
         let dk = minus_dimension G.dimension zero_vector s.cell.k (λ _. refl) (subst (λ (d : ℕ). HasDimension d s.cell.k) (sym h.same) s.cell.dimension) in
         let o = s.over in
         let cell = ap (plus (image_of M w).cell) (opposite_shift M.base s.cell.k)
@@ -186,3 +188,241 @@ bijection_of_count {G} {H} {M} {f} h c a = record {
   once = one_to_one h (determinant_not_zero h c) a;
   onto = met h c a;
 }
+
+-- parts of the box that differ by a multiple of m are equal
+box_part : (m : ℕ) (x y k : ℤ) → pos 0 ≤ℤ x → x <ℤ pos m → pos 0 ≤ℤ y → y <ℤ pos m → x ≡ y +ℤ pos m *ℤ k → x ≡ y
+box_part m x y k a b c d e =
+    let p = natural_part x (pos m) a b in let q = natural_part y (pos m) c d in
+    let s = same_remainder (pos m) (unsigned_abs x) (unsigned_abs y) k p.1 q.1 (sym p.0 ∙ e ∙ ap (λ (t : ℤ). t +ℤ pos m *ℤ k) q.0) in
+    p.0 ∙ ap pos s.0 ∙ sym q.0
+
+-- the same of vectors
+pub same_in_box : (d m : ℕ) (r s k : Vector) → IsInBox d m r → IsInBox d m s → r ≡ plus s (times (pos m) k) → r ≡ s
+same_in_box d m r s k a b e = search (arith, vector_equal, box_part)
+
+-- no image is another, moved
+pub no_double : {G H : Graph} {M : PeriodicMap} {f : Vertex → Vertex} → IsMapOf G H M f → IsBijection G H f → HasNoDouble G M
+no_double {G} {H} {M} {f} h b u v r s i j p q c =
+    let t = vertex v (plus s (times (pos M.m) c.k)) in
+    let e = b.once (vertex u r) t (record { over = i; cell = p.dimension })
+    (moved_vertex G (vertex v s) (times (pos M.m) c.k) (record { over = j; cell = q.dimension }) (times_dimension G.dimension (pos M.m) c.k c.dimension))
+    (at_place h (vertex u r) (record { over = i; box = p }) ∙ c.is ∙ sym (h.drawn v s c.k j q c.dimension)) in
+    (ap (λ (y : Vertex). y.over) e, same_in_box G.dimension M.m r s c.k p q (ap (λ (y : Vertex). y.cell) e))
+
+-- a positive number is not 0
+not_zero : (m : ℕ) → 1 ≤ m → pos m ≢ pos 0
+not_zero m h e = omega (arith, ints)
+
+-- only the combination with numbers 0 is 0
+pub only_nothing : {G H : Graph} {M : PeriodicMap} {f : Vertex → Vertex} → IsMapOf G H M f → IsBijection G H f → (k : Vector) → HasDimension G.dimension k
+    → base_sum M.base k ≡ zero_vector → k ≡ zero_vector
+only_nothing {G} {H} {M} {f} h b k d e =
+    let o = origin_vertex G 1 (omega arith, h.graph.vertices) in
+    let p = periodic_of_drawn G H M f h.table h.drawn in let w = vertex 1 zero_vector in
+    let same = b.once (moved w (times (pos M.m) k)) w
+    (moved_vertex G w (times (pos M.m) k) o (times_dimension G.dimension (pos M.m) k d)) o
+    (p.repeats w k o d ∙ ap (moved (f w)) e ∙ ap (vertex (f w).over) (plus_zero (f w).cell)) in
+    times_cancel (pos M.m) k zero_vector (not_zero M.m h.table.positive)
+    (sym (zero_plus (times (pos M.m) k)) ∙ ap (λ (y : Vertex). y.cell) same ∙ sym (times_zero (pos M.m)))
+
+-- sums of three, grouped
+pub grouped : (x y z : ℤ) → x +ℤ y +ℤ z ≡ pos 0 → x +ℤ (y +ℤ z) ≡ pos 0
+grouped x y z e = omega (arith, linear, e)
+
+-- the last number of a relation of flat vectors and (0, 0, 1)
+last_zero : (x y z a b : ℤ) → a ≡ pos 0 → b ≡ pos 0 → x *ℤ a +ℤ y *ℤ b +ℤ z *ℤ pos 1 ≡ pos 0 → z ≡ pos 0
+last_zero x y z a b e f g =
+    let u = ap (λ (t : ℤ). x *ℤ t) e in let v = ap (λ (t : ℤ). y *ℤ t) f in
+    omega (arith, linear, simp ring at u, simp ring at v, simp ring at g)
+
+-- only numbers 0 make 0
+abbrev OnlyNothing : Base → ℕ → Type 0
+OnlyNothing b d = AreFlat d b → ((k : Vector) → HasDimension d k → base_sum b k ≡ zero_vector → k ≡ zero_vector) → determinant d b ≢ pos 0
+
+-- in dimension 3
+full_determinant : (b : Base) → OnlyNothing b 3
+full_determinant b _ only e =
+    let r = relation_of_zero b.first.x b.first.y b.first.z b.second.x b.second.y b.second.z b.third.x b.third.y b.third.z
+    (sym (product_is_determinant b.first.x b.first.y b.first.z b.second.x b.second.y b.second.z b.third.x b.third.y b.third.z) ∙ e) in
+    let z = only (vector r.x r.y r.z) (λ n. absurd (omega arith))
+    (vector_equal (grouped (r.x *ℤ b.first.x) (r.y *ℤ b.second.x) (r.z *ℤ b.third.x) r.first)
+    (grouped (r.x *ℤ b.first.y) (r.y *ℤ b.second.y) (r.z *ℤ b.third.y) r.second) (grouped (r.x *ℤ b.first.z) (r.y *ℤ b.second.z) (r.z *ℤ b.third.z) r.third)) in
+    r.some (ap (λ (v : Vector). v.x) z, ap (λ (v : Vector). v.y) z, ap (λ (v : Vector). v.z) z)
+
+-- in dimension 2
+flat_determinant : (b : Base) → OnlyNothing b 2
+flat_determinant b f only e =
+    let r = relation_of_zero b.first.x b.first.y b.first.z b.second.x b.second.y b.second.z (pos 0) (pos 0) (pos 1)
+    (sym (product_is_determinant b.first.x b.first.y b.first.z b.second.x b.second.y b.second.z (pos 0) (pos 0) (pos 1)) ∙ e) in
+    let last = last_zero r.x r.y r.z b.first.z b.second.z (f refl).0 (f refl).1 r.third in
+    let z = only (vector r.x r.y r.z) (λ _. last)
+    (any_last b.first b.second b.third up_vector (vector r.x r.y r.z) last
+    ∙ vector_equal (grouped (r.x *ℤ b.first.x) (r.y *ℤ b.second.x) (r.z *ℤ pos 0) r.first)
+    (grouped (r.x *ℤ b.first.y) (r.y *ℤ b.second.y) (r.z *ℤ pos 0) r.second) (grouped (r.x *ℤ b.first.z) (r.y *ℤ b.second.z) (r.z *ℤ pos 1) r.third)) in
+    r.some (ap (λ (v : Vector). v.x) z, ap (λ (v : Vector). v.y) z, ap (λ (v : Vector). v.z) z)
+
+-- by the dimension
+determinant_by : (d : ℕ) (b : Base) → (d ≡ 2) ⊎ (d ≡ 3) → OnlyNothing b d
+determinant_by d b h = grind (arith, flat_determinant, full_determinant)
+
+-- the determinant of the shifts is not 0
+pub determinant_of_bijection : {G H : Graph} {M : PeriodicMap} {f : Vertex → Vertex} → IsMapOf G H M f → IsBijection G H f
+    → determinant G.dimension M.base ≢ pos 0
+determinant_of_bijection {G} {H} {M} {f} h b = determinant_by G.dimension M.base h.graph.dimension (λ e. flat_shifts h (sym h.same ∙ e)) (only_nothing h b)
+
+-- Where the map is a bijection, the images are as many as the vertices up to the shifts.
+
+-- moves from one vector differ as the moves do
+difference_vector : (p a b : Vector) → minus (plus p a) (plus p b) ≡ minus a b
+difference_vector p a b = search (arith, plus_commutative, minus_shifted)
+
+-- two numbers that are not less than each other
+pub equal_numbers : (a b : ℕ) → a ≤ b → b ≤ a → a ≡ b
+equal_numbers a b h k = omega arith
+
+module _ {G H : Graph} {M : PeriodicMap} {f : Vertex → Vertex} (h : IsMapOf G H M f) (b : IsBijection G H f) where
+  -- the vertices up to the shifts
+  copies : Numbering (IsVertex H) (AreMovedCopies H.dimension M.base) (H.vertices * index_of H.dimension M.base)
+  copies = copy_numbers H M.base h.other.dimension (flat_shifts h) (subst (λ (d : ℕ). determinant d M.base ≢ pos 0) h.same (determinant_of_bijection h b))
+
+  -- the places
+  places : Numbering (IsBoxVertex G M.m) AreSameVertex (G.vertices * M.m ^ G.dimension)
+  places = place_numbers G M.m h.graph.dimension h.table.positive
+
+  -- the vertex that goes to y, as a place and a move
+  abbrev split : (y : Vertex) (j : IsVertex H y) → InBox G.dimension M.m (b.onto y j).0.cell
+  split y j = in_box G.dimension M.m h.table.positive (b.onto y j).0.cell (b.onto y j).1.cell
+
+  -- its place
+  abbrev place : (y : Vertex) → IsVertex H y → Vertex
+  place y j = vertex (b.onto y j).0.over (split y j).r
+
+  -- y is the image of the place, moved
+  image_moved : (y : Vertex) (j : IsVertex H y) → y ≡ moved (image_of M (place y j)) (base_sum M.base (split y j).k)
+  image_moved y j =
+      sym (b.onto y j).2 ∙ ap (λ (v : Vector). f (vertex (b.onto y j).0.over v)) (split y j).sum
+      ∙ h.drawn (b.onto y j).0.over (split y j).r (split y j).k (b.onto y j).1.over (split y j).box (split y j).dimension
+
+  -- vertices of one place are moved copies
+  copies_of_place : (x y : Vertex) (i : IsVertex H x) (j : IsVertex H y) → place x i ≡ place y j → AreMovedCopies H.dimension M.base x y
+  copies_of_place x y i j e =
+      let p = image_moved x i in
+      let q = image_moved y j ∙ ap (λ (w : Vertex). moved (image_of M w) (base_sum M.base (split y j).k)) (sym e) in
+      record {
+        over = ap (λ (w : Vertex). w.over)
+            (p ∙ ap (λ (w : Vertex). vertex (image_of M w).over (plus (image_of M (place x i)).cell (base_sum M.base (split x i).k))) e)
+            ∙ sym (ap (λ (w : Vertex). w.over) (image_moved y j));
+        cell = record {
+          k = minus (split x i).k (split y j).k;
+          dimension = subst (λ (d : ℕ). HasDimension d (minus (split x i).k (split y j).k)) h.same
+              (minus_dimension G.dimension (split x i).k (split y j).k (split x i).dimension (split y j).dimension);
+          sum = (λ t. minus (p t).cell (q t).cell) ∙ difference_vector (image_of M (place x i)).cell (base_sum M.base (split x i).k)
+              (base_sum M.base (split y j).k)
+              ∙ sym (base_sum_minus M.base (split x i).k (split y j).k);
+        };
+      }
+
+  -- the counts agree
+  pub count_of_bijection : CountsAgree G H M
+  count_of_bijection =
+      let n = H.vertices * index_of H.dimension M.base in
+      equal_numbers (G.vertices * M.m ^ G.dimension) n
+      (no_fewer (IsBoxVertex G M.m) AreSameVertex (IsVertex H) (AreMovedCopies H.dimension M.base) (G.vertices * M.m ^ G.dimension) n places copies
+      (image_of M) (images_apart h (no_double h b)))
+      (no_fewer_given (IsVertex H) (AreMovedCopies H.dimension M.base) (IsBoxVertex G M.m) AreSameVertex n (G.vertices * M.m ^ G.dimension) copies places place
+      (λ y j. record { over = (b.onto y j).1.over; box = (split y j).box }) copies_of_place)
+      ∙ ap (λ (d : ℕ). H.vertices * index_of d M.base) (sym h.same)
+
+-- a whole number is 0 or not
+zero_decided : (z : ℤ) → Dec (z ≡ pos 0)
+zero_decided z = search arith
+
+-- a vector has the dimension or not
+dimension_decided : (d : ℕ) (v : Vector) → Dec (HasDimension d v)
+dimension_decided d v = search (arith, zero_decided)
+
+-- what is a vertex is known
+vertex_decided : (H : Graph) (y : Vertex) → Dec (IsVertex H y)
+vertex_decided H y = by (dec_le 1 y.over) (dec_le y.over H.vertices) (dimension_decided H.dimension y.cell)
+  where
+    by : Dec (1 ≤ y.over) → Dec (y.over ≤ H.vertices) → Dec (HasDimension H.dimension y.cell) → Dec (IsVertex H y)
+    by k l p = grind arith
+
+-- the shifts, m times
+abbrev scaled : ℤ → Base → Base
+scaled m b = record { first = times m b.first; second = times m b.second; third = times m b.third }
+
+-- a part of their sum
+scaled_part : (m x y z a b c : ℤ) → x *ℤ (m *ℤ a) +ℤ (y *ℤ (m *ℤ b) +ℤ z *ℤ (m *ℤ c)) ≡ m *ℤ (x *ℤ a +ℤ (y *ℤ b +ℤ z *ℤ c))
+scaled_part m x y z a b c = simp ring (omega (arith, linear))
+
+-- their sum
+scaled_sum : (m : ℤ) (b : Base) (k : Vector) → base_sum (scaled m b) k ≡ times m (base_sum b k)
+scaled_sum m b k = simp (vector_equal, scaled_part)
+
+-- what is not 0 has a size
+pub nonzero_size : (z : ℤ) → z ≢ pos 0 → 1 ≤ unsigned_abs z
+nonzero_size z h = search arith
+
+module _ {G H : Graph} {M : PeriodicMap} {f : Vertex → Vertex} (h : IsMapOf G H M f) (b : IsBijection G H f) where
+  -- the vertex that goes to y
+  abbrev back_by : (y : Vertex) → Dec (IsVertex H y) → Vertex
+  back_by y (yes j) = (b.onto y j).0
+  back_by y (no n) = y
+
+  -- the map back
+  abbrev back : Vertex → Vertex
+  back y = back_by y (vertex_decided H y)
+
+  -- it is so
+  back_is : (y : Vertex) → IsVertex H y → IsVertex G (back y) × (f (back y) ≡ y)
+  back_is y j = search (arith, vertex_decided)
+
+  -- the shifts that undo
+  abbrev undo : Undoing G.dimension M.base
+  undo = undoing G.dimension M.base h.graph.dimension (λ e. flat_shifts h (sym h.same ∙ e))
+
+  -- the period of the map back
+  abbrev size : ℕ
+  size = index_of G.dimension M.base
+
+  -- the map back repeats
+  back_repeats : (y : Vertex) (k : Vector) → IsVertex H y → HasDimension H.dimension k
+      → back (moved y (times (pos size) k)) ≡ moved (back y) (base_sum (scaled (pos M.m) undo.rows) k)
+  back_repeats y k j d =
+      let dk : HasDimension G.dimension k = subst (λ (n : ℕ). HasDimension n k) (sym h.same) d in
+      let p = periodic_of_drawn G H M f h.table h.drawn in let x = back y in let i = back_is y j in
+      let s = base_sum undo.rows k in let ds = undo.dimension k dk in let z = moved y (times (pos size) k) in
+      let q = back_is z (moved_vertex H y (times (pos size) k) j (times_dimension H.dimension (pos size) k d)) in
+      b.once (back z) (moved x (times (pos M.m) s)) q.0 (moved_vertex G x (times (pos M.m) s) i.0 (times_dimension G.dimension (pos M.m) s ds))
+      (q.1 ∙ sym (p.repeats x s i.0 ds ∙ (λ t. moved (i.1 t) (undo.is k dk t))))
+      ∙ ap (moved x) (sym (scaled_sum (pos M.m) undo.rows k))
+
+  -- an isomorphism
+  pub iso_of_bijection : JoinsAlike G H f → Iso G H
+  iso_of_bijection alike = record {
+    dimension = h.same;
+    there = f;
+    back = back;
+    there_period = (M.m, M.base, periodic_of_drawn G H M f h.table h.drawn);
+    back_period = (
+      size,
+      scaled (pos M.m) undo.rows,
+      record {
+        positive = nonzero_size (determinant G.dimension M.base) (determinant_of_bijection h b);
+        into = λ y j. (back_is y j).0;
+        repeats = back_repeats;
+      },
+    );
+    back_there = λ w i. let q = back_is (f w) (b.into w i) in b.once (back (f w)) w q.0 i q.1;
+    there_back = λ x j. (back_is x j).1;
+    there_joins = λ w x i j. (alike w x i j).0;
+    back_joins = λ w x i j a.
+        let p = back_is w i in let q = back_is x j in
+        (alike (back w) (back x) p.0 q.0).1 (subst (λ (t : Type 0). t) (sym (λ l. AreJoined H (p.1 l) (q.1 l))) a);
+  }
+
+  -- it is the map
+  pub iso_there : (alike : JoinsAlike G H f) → (iso_of_bijection alike).there ≡ f
+  unfolding iso_of_bijection
+  iso_there alike = refl

@@ -1,22 +1,26 @@
--- Numbers of vertices up to a lattice are equal exactly where the vertices differ by a member.
-use Rattle.std.proofs.Common.{◌≡◌, ℕ, ◌-◌, ◌*◌, ◌+◌, ◌<◌, ◌≤◌, sym, ap, subst, ◌∙◌, arith, [], ◌∷◌, ◌++◌, List, length, slice_index_or}
+-- Numbers of vertices up to a lattice are equal exactly where the vertices differ by a member; and what holds while numbers are marked.
+use Rattle.std.proofs.Common.{◌≡◌, ◌<◌, ℕ, ◌+◌, List, Bool, length, slice_index_or, sym, ap, subst, ◌∙◌, arith, ◌-◌, ◌*◌, ◌≤◌, [], ◌∷◌, ◌++◌}
 use Rattle.std.proofs.lemmas.List.{get_or_append_left, get_or_default, length-append}
-use Rattle.std.proofs.Math.{Decide.ℕ_discrete, Seq.get_or-append_seam}
-use Rattle.integers.specs.Vectors.{Vector, minus, zero_vector, plus}
-use Rattle.integers.specs.Bases.{Base, base_sum}
-use Rattle.integers.proofs.{counting.NumberedPairs.parts_same, counting.NumberedPairs.turned_below, vectors.Laws.minus_dimension, vectors.Laws.minus_plus}
-use Rattle.vecdim.specs.Lattices.{Members}
-use Rattle.vecdim.specs.Stairs.{Stairs, HasStairShape, size_of}
-use Rattle.sublattice.specs.Remainders.{HasNumber, number_of, remainder_with}
-use Rattle.sublattice.specs.{Laws.AreNumbered, Sublattices.HasMembersOf, Sublattices.IsCombination}
-use Rattle.sublattice.proofs.CallerLemmas.{remainders_numbered, tell_classes}
-use Rattle.periodic_net.specs.Graph.{Vertex, vertex}
-use Rattle.map_check.specs.Images.{image_at, AreNumbersOf, IsCopy, AreNoCopies, IsFirstCopy}
-use Rattle.map_check.specs.{Numbers.IsImageNumber, Conditions.IsImage, Repeats.AreApartBefore, Repeats.IsFirstRepeat}
-use Prim.{Dec, yes, no}
-use Rattle.std.specs.List.{All}
 use Rattle.std.specs.Prelude.{Result, Ok, Err, Option, None, Some, IfOk, MatchOption}
-use Rattle.map_check.proofs.Bijections.{sum_of_difference}
+use Rattle.std.{proofs.Math.Decide.ℕ_discrete, proofs.Math.Seq.get_or-append_seam, specs.List.All}
+use Prim.{Dec, yes, no}
+use Rattle.integers.specs.Vectors.{Vector, minus, zero_vector, plus}
+use Rattle.integers.{specs.Bases.Base, specs.Bases.base_sum, proofs.counting.Numbering.parts_same, proofs.counting.Numbering.turned_below}
+use Rattle.integers.{proofs.vectors.Laws.minus_dimension, proofs.vectors.Laws.minus_plus}
+use Rattle.vecdim.specs.Stairs.{Stairs, HasStairShape, size_of}
+use Rattle.vecdim.specs.Lattices.{Members}
+use Rattle.sublattice.specs.Remainders.{HasNumber, number_of, remainder_with}
+use Rattle.sublattice.{specs.Laws.AreNumbered, specs.Sublattices.HasMembersOf, specs.Sublattices.IsCombination, proofs.CallerLemmas.remainders_numbered}
+use Rattle.sublattice.{proofs.CallerLemmas.tell_classes}
+use Rattle.periodic_net.specs.Graph.{Vertex, vertex}
+use Rattle.map_check.specs.Repeats.{AreApartBefore, AreMarked, IsFirstRepeat}
+use Rattle.map_check.specs.Images.{image_at, AreNumbersOf, IsCopy, AreNoCopies, IsFirstCopy}
+use Rattle.map_check.{specs.Numbers.IsImageNumber, specs.Conditions.IsImage, proofs.Bijections.sum_of_difference}
+
+-- what holds between two turns of the loop
+pub record IsScanned (xs : List ℕ) (n : ℕ) (marks : List Bool) : Type 0 where
+  pub marked : AreMarked xs n marks
+  pub apart : AreApartBefore xs n
 
 module _ (d : ℕ) (S : Stairs) (shape : HasStairShape d S) where
   remainders : AreNumbered d S
@@ -70,8 +74,7 @@ module _ (d v : ℕ) (S : Stairs) (b : Base) (shape : HasStairShape d S) (a : Ha
   copy_of_number : (x y : Vertex) (n m : ℕ) → IsImage d v x → IsImage d v y → IsImageNumber d S x n → IsImageNumber d S y m → n ≡ m → IsCopy d b x y
   copy_of_number x y n m i j p q e =
       let s = same_image d S shape x y n m i.from j.from p q e in
-      let w = (a (minus x.cell y.cell) s.1.1).0 s.1.0 in
-      let over = s.0 in
+      let w = (a (minus x.cell y.cell) s.1.1).0 s.1.0 in let over = s.0 in
       let cell = sum_of_difference x.cell y.cell (base_sum b w.k) w.sum in
       record { k = w.k; dimension = w.dimension; is = λ t. vertex (over t) (cell t) }
 
@@ -95,8 +98,7 @@ module _ (d v : ℕ) (S : Stairs) (b : Base) (shape : HasStairShape d S) (a : Ha
     -- and the first repeat is the first copy
     pub first_copy : (j : ℕ) → IsFirstRepeat numbers j → IsFirstCopy d b images j
     first_copy j r =
-        let c = h.count in
-        let inside : j < length images = (let i = r.inside in omega (arith, i, c)) in
+        let c = h.count in let inside : j < length images = (let i = r.inside in omega (arith, i, c)) in
         let s = r.earlier in let l = s.before in
         record {
           inside = inside;

@@ -1,16 +1,8 @@
-pub mod ArcSearch
 pub mod Bijections
 pub mod CallerLemmas
-pub mod Conversely
 pub mod Drawing
-pub mod FirstFaults
 pub mod ImageNumbers
-pub mod IsoOfTable
 pub mod Layouts
 pub mod LostArcs
-pub mod Marking
-pub mod NextCells
-pub mod Rows
-pub mod SameDimension
 pub mod Theorems
 pub mod Verification

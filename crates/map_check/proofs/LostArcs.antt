@@ -1,14 +1,60 @@
--- The first arc of a vertex that is lost.
-use Rattle.std.proofs.Common.{◌≡◌, ℕ, ◌+◌, ◌<◌, ◌≤◌, List, length, get_or, sym, ap, subst, ◌∙◌, arith}
-use Rattle.std.proofs.{Math.Decide.ℕ_discrete, Math.Decide.dec_lt, lemmas.List.get_or_default}
-use Rattle.std.specs.List.{All, Contains}
+-- An arc is looked for in a list of arcs that rise; and the first arc of a vertex that is lost.
+use Rattle.std.proofs.Common.{◌≡◌, ℕ, ◌+◌, ◌<◌, List, length, get_or, refl, sym, subst, ◌∙◌, arith, ◌≤◌, ap}
+use Rattle.std.{proofs.Math.Decide.dec_lt, proofs.Math.Decide.ℕ_discrete, proofs.lemmas.List.get_or_default, specs.List.All, specs.List.Contains}
 use Prim.{Dec, yes, no}
-use Rattle.integers.specs.Vectors.{plus, IsBelow}
-use Rattle.integers.proofs.lists.ListOrder.{below_one_way, not_below_itself}
-use Rattle.periodic_net.specs.Graph.{Graph, Arc, IsArc, Vertex, vertex, AreJoined}
-use Rattle.quotient_graph.specs.{Order.arc_numbers, Order.AreRising, Stars.IsArcFrom}
+use Rattle.integers.specs.Vectors.{minus, IsBelow, IsWithin, plus}
+use Rattle.integers.proofs.lists.ListOrder.{below_transitive, not_below_itself, below_one_way}
+use Rattle.periodic_net.specs.Graph.{Graph, Arc, arc, IsArc, Vertex, AreJoined, vertex}
+use Rattle.periodic_net.specs.Limits.{most_shift}
+use Rattle.quotient_graph.specs.{Stars.IsArcFrom, Order.arc_numbers, Order.AreRising}
+use Rattle.map_check.specs.Arcs.{ComeBefore, DoNotComeBefore, SplitsAt, StandsAt}
 use Rattle.map_check.specs.Faults.{IsLost, KeepsArcs, IsFirstLostArc}
 use Rattle.map_check.specs.{Layouts.cell_at, Places.KeepsArc, Places.IsFirstLosingCell}
+
+-- what comes before an arc that comes before a does so
+pub all_before : (arcs : List Arc) (a x : Arc) (m : ℕ) → AreRising arcs → m < length arcs → x ≡ get_or arcs m x → IsBelow (arc_numbers x) (arc_numbers a)
+    → ComeBefore arcs a (m + 1)
+all_before arcs a x m rising l e h k d b = by (ℕ_discrete k m)
+  where
+    here : (t : Arc) → IsBelow (arc_numbers (get_or arcs m t)) (arc_numbers a)
+    here t = subst (λ (y : Arc). IsBelow (arc_numbers y) (arc_numbers a)) (e ∙ get_or_default arcs m x t l) h
+
+    by : Dec (k ≡ m) → IsBelow (arc_numbers (get_or arcs k d)) (arc_numbers a)
+    by (yes s) = subst (λ (j : ℕ). IsBelow (arc_numbers (get_or arcs j d)) (arc_numbers a)) (sym s) (here d)
+    by (no n) = below_transitive (arc_numbers (get_or arcs k d)) (arc_numbers (get_or arcs m d)) (arc_numbers a) (rising k m d (omega (arith, b, n)) l) (here d)
+
+-- and what comes after one that does not, does not
+pub none_after : (arcs : List Arc) (a x : Arc) (m : ℕ) → AreRising arcs → m < length arcs → x ≡ get_or arcs m x → (IsBelow (arc_numbers x) (arc_numbers a) → ⊥)
+    → DoNotComeBefore arcs a m
+none_after arcs a x m rising l e h k d b i t = by (ℕ_discrete k m)
+  where
+    here : (t : Arc) → IsBelow (arc_numbers (get_or arcs m t)) (arc_numbers a) → ⊥
+    here t s = h (subst (λ (y : Arc). IsBelow (arc_numbers y) (arc_numbers a)) (sym (e ∙ get_or_default arcs m x t l)) s)
+
+    by : Dec (k ≡ m) → ⊥
+    by (yes s) = here d (subst (λ (j : ℕ). IsBelow (arc_numbers (get_or arcs j d)) (arc_numbers a)) s t)
+    by (no n) = here d (below_transitive (arc_numbers (get_or arcs m d)) (arc_numbers (get_or arcs k d)) (arc_numbers a)
+        (rising m k d (omega (arith, b, n)) i) t)
+
+-- what is in the list stands at the place
+pub stands_there : (arcs : List Arc) (a : Arc) (n : ℕ) → AreRising arcs → SplitsAt arcs a n → Contains arcs a → StandsAt arcs a n
+stands_there arcs a n rising s c = by (dec_lt c.0 n) (ℕ_discrete c.0 n)
+  where
+    by : Dec (c.0 < n) → Dec (c.0 ≡ n) → StandsAt arcs a n
+    by (yes l) e = absurd (not_below_itself (arc_numbers a) (subst (λ (y : Arc). IsBelow (arc_numbers y) (arc_numbers a)) c.2 (s.before c.0 a l)))
+    by (no m) (yes e) = subst (StandsAt arcs a) e (c.1, c.2)
+    by (no m) (no e) =
+        let r = rising n c.0 a (omega (arith, m, e)) c.1 in
+        absurd (s.after n a (omega arith) (let l = c.1 in omega (arith, m, e, l))
+        (subst (λ (y : Arc). IsBelow (arc_numbers (get_or arcs n a)) (arc_numbers y)) c.2 r))
+
+-- joined vertices have a short arc between them, which stands in the list
+pub joined_short : (H : Graph) (x y : Vertex) (star : List Arc) → All (IsArcFrom H x.over) star → ((a : Arc) → IsArc H a → a.from ≡ x.over → Contains star a)
+    → AreJoined H x y
+    → IsWithin most_shift (minus y.cell x.cell)
+joined_short H x y star each every j =
+    let a = arc x.over y.over (minus y.cell x.cell) in let c = every a j refl in
+    subst (λ (b : Arc). IsWithin most_shift b.shift) c.2 (each c.0 a c.1).shift
 
 -- the ends of the first n arcs of w go to joined vertices
 abbrev pub KeepsFirst : Graph → (Vertex → Vertex) → Vertex → List Arc → ℕ → Type 0
@@ -33,8 +79,7 @@ module _ (G H : Graph) (f : Vertex → Vertex) (w : Vertex) (star : List Arc) wh
   -- where all in the list are kept, all are
   pub all_kept : ((a : Arc) → IsArc G a → a.from ≡ w.over → Contains star a) → (n : ℕ) → length star ≤ n → KeepsFirst H f w star n → KeepsArcs G H f w
   all_kept every n l h a i e =
-      let c = every a i e in
-      let b = c.1 in
+      let c = every a i e in let b = c.1 in
       subst (λ (x : Arc). AreJoined H (f w) (f (vertex x.to (plus w.cell x.shift)))) c.2 (h c.0 a (omega (arith, l, b)))
 
   -- the first that is not kept is the first lost one
@@ -98,8 +143,7 @@ module _ (H : Graph) (f : Vertex → Vertex) (d m u : ℕ) (star : List Arc) (k 
       by : Dec (p < e) → IsLoss H f (vertex u (cell_at d m p)) star r
       by (yes t) = subst (IsLoss H f (vertex u (cell_at d m p)) star) (sym (less t)) (loss_here t)
       by (no t) =
-          let q : p ≡ e = omega (arith, b, t) in
-          let c : e ≤ p = omega (arith, t) in
+          let q : p ≡ e = omega (arith, b, t) in let c : e ≤ p = omega (arith, t) in
           subst (λ (n : ℕ). IsLoss H f (vertex u (cell_at d m n)) star r) (sym q)
           (subst (IsLoss H f (vertex u (cell_at d m e)) star) (sym (same c)) (h (subst (λ (n : ℕ). n < s) q l)))
 

@@ -1,21 +1,95 @@
--- Of two states of the reading of one text, one lies ahead of the other, or they are one.
-use Rattle.std.proofs.Common.{◌≡◌, ◌⊎◌, ⊎_elim, inl, inr, ℕ, ◌+◌, Bool, true, false, List, [], ◌∷◌, ◌++◌, All, length, map, true≢false, refl, sym, ap, ◌∙◌}
-use Rattle.std.proofs.Common.{subst, arith}
-use Rattle.std.proofs.lemmas.List.{append-nil, length-append}
+-- Of two states of the reading of one text, one lies ahead of the other, or they are one. No fault comes before a state that goes right.
+use Rattle.std.proofs.Common.{true≢false, ◌≡◌, ◌≢◌, ℕ, ◌+◌, ◌<◌, List, [], ◌∷◌, ◌++◌, length, refl, sym, ap, ◌∙◌, subst, arith, All, ◌⊎◌, ⊎_elim, inl, inr}
+use Rattle.std.proofs.Common.{Bool, true, false, map}
+use Rattle.std.proofs.lemmas.List.{append-nil, length-append, length-map}
+use Rattle.std.proofs.lemmas.List.Elements.{All-weaker, All-contains, Contains-append_left, Contains-append_right, Contains-push}
+use Rattle.std.specs.List.{flat_map, Contains}
 use mathlib.Core.List.{append_assoc}
-use Rattle.std.specs.List.{flat_map}
-use Rattle.line_text.specs.Lines.{IsAt, Place, rows_text}
-use Rattle.line_text.proofs.CallerLemmas.{same_row}
-use Rattle.archive_text.specs.Rows.{Row, first_row, OfName, OfSize, OfEdge, OfKey, OfCount, OfShells, OfEnd, row_line, row_lines}
-use Rattle.archive_text.specs.Parts.{Part, Start, Named, Drawn, Keyed, Counted, part_rows, shells_rows, IsFormed, MayStandAfter}
-use Rattle.archive_text.specs.Texts.{entry_lines, entry_rows, rows_before, whole_part}
-use Rattle.archive_text.specs.{Entries.EntryView, declared.version.Version.Version}
+use Rattle.line_text.specs.Lines.{Place, IsAt, HasNo, rows_text}
+use Rattle.line_text.{specs.Names.is_name, proofs.CallerLemmas.less_left, proofs.CallerLemmas.same_row}
+use Rattle.archive_text.specs.Rows.{first_row, name_row, row_lines, Row, OfName, OfSize, OfEdge, OfKey, OfCount, OfShells, OfEnd, row_line, end_row}
+use Rattle.archive_text.specs.Texts.{rows_before, text_of, entry_rows, entry_lines, whole_part}
+use Rattle.archive_text.proofs.CallerLemmas.{IsFormedEntry, Cut, Walk, cut_from, entries_walk, entry_cut, lines_of_sum, part_walk, part_with, row_none}
+use Rattle.archive_text.proofs.CallerLemmas.{same_row_of, shown, walk_on, end_follows, name_none, part_cut, said, same_name}
+use Rattle.archive_text.specs.Parts.{Part, Start, Drawn, Keyed, Counted, part_rows, shells_rows, IsFormed, MayStandAfter}
+use Rattle.archive_text.{specs.Entries.EntryView, specs.Reading.form_part, specs.Lookups.names_of, specs.declared.version.Version.Version}
+use Rattle.archive_text.{specs.declared.version.Version.TheVariants.One, specs.declared.version.Version.TheVariants.Two, proofs.Walks.formed_with}
 use Rattle.periodic_net.specs.Graph.{Arc}
-use Rattle.archive_text.proofs.CallerLemmas.{Cut, Walk, cut_from, entries_walk, entry_cut, lines_of_sum, part_walk, part_with, row_none, same_row_of, shown}
-use Rattle.archive_text.proofs.CallerLemmas.{walk_on}
-use Rattle.archive_text.proofs.Walks.{formed_with}
-use Rattle.net_archive.specs.Archives.{IsEntry}
-use Rattle.net_archive.proofs.FirstLines.{formed_all, same_version}
+use Rattle.net_archive.specs.Steps.{AreMore, AreRead, HasBegun, IsAfterName}
+use Rattle.net_archive.specs.Faults.{AreEntries, HasNoVersion, FaultAt, IsBegun, IsBadLine, IsFaultAtEnd, IsRepeated, IsTooMany, Stands}
+use Rattle.net_archive.specs.declared.faults.ArchiveFault.TheVariants.{CountDiffers, ShellsDiffer, NoMemory, BadLine, RepeatedName, EntryRefused}
+use Rattle.net_archive.specs.declared.faults.ArchiveFault.TheVariants.{KeyDiffers, TooManyEntries}
+use Rattle.net_archive.{specs.Archives.IsEntry, specs.Archives.most_entries, proofs.NewEntry.rows_with, proofs.NewEntry.names_apart}
+use Rattle.net_archive.{specs.declared.faults.ArchiveFault.ArchiveFault, proofs.FirstFaults.no_judged}
+
+pub no_feed : (v : Version) → HasNo 10 (first_row v)
+no_feed v = search arith
+
+pub feed_there : (xs ys : List ℕ) → HasNo 10 (xs ++ 10 ∷ ys) → ⊥
+feed_there [] ys none = true≢false none.0
+feed_there (x ∷ xs) ys none = feed_there xs ys none.1
+
+-- a line of another kind is no first line
+pub no_version : (text line rest : List ℕ) → text ≡ line ++ 10 ∷ rest →
+    ((v : Version) (others : List ℕ) → HasNo 10 (first_row v) → text ≡ first_row v ++ 10 ∷ others → line ≡ first_row v) → ((v : Version) → line ≢ first_row v)
+    → HasNoVersion text
+no_version text line rest is every h = search (arith, feed_there, no_feed)
+
+-- any text before this place
+pub some_text : (v : Version) (es : List EntryView) (place : Place) → place.number ≡ length (rows_before v es) + 1
+    → IsAt (rows_text (rows_before v es) ++ place.rest) (rows_before v es) place
+some_text v es place number = record { joined = refl; number = number }
+
+pub after_name : (v : Version) (text : List ℕ) (es : List EntryView) (name : List ℕ) (place : Place) → HasBegun v text es name place → IsAfterName name place
+after_name v text es name place begun = record { is_name = begun.is_name; text = text; rows = rows_before v es; at = begun.at }
+
+-- with one more entry less of the text is left
+pub less_after : (v : Version) (text : List ℕ) (es : List EntryView) (e : EntryView) (before after : Place) → IsAt text (rows_before v es) before
+    → AreMore v text es e after → length after.rest < length before.rest
+less_after v text es e before after at more = by v refl
+  where
+    by : (w : Version) → w ≡ v → length after.rest < length before.rest
+    by One same = less_left text (rows_before v es) _ (name_row e.name) before after at
+        (subst (λ l. IsAt text l after) (rows_with v es e ∙ ap (λ u. rows_before v es ++ row_lines (entry_rows u e)) (sym same)) more.at)
+    by Two same = less_left text (rows_before v es) _ (name_row e.name) before after at
+        (subst (λ l. IsAt text l after) (rows_with v es e ∙ ap (λ u. rows_before v es ++ row_lines (entry_rows u e)) (sym same)) more.at)
+
+-- where nothing is left, the text is that of the entries
+pub whole_text : (v : Version) (text : List ℕ) (es : List EntryView) (place : Place) → IsAt text (rows_before v es) place → length place.rest ≡ 0
+    → text ≡ text_of v es
+whole_text v text es place at none = at.joined ∙ ap (λ l. rows_text (rows_before v es) ++ l) (empty place.rest none) ∙ append-nil (rows_text (rows_before v es))
+  where
+    empty : (xs : List ℕ) → length xs ≡ 0 → xs ≡ []
+    empty [] e = refl
+    empty (x ∷ xs) e = absurd (omega (arith, e))
+
+-- one more entry was read
+pub read_more : (v : Version) (start now after : Place) (es : List EntryView) (e : EntryView) → AreRead v start now es
+    → ((text : List ℕ) → IsAt text (rows_before v es) now → AreMore v text es e after) → AreRead v start after (es ++ e ∷ [])
+read_more v start now after es e read more =
+    let here = more (rows_text (rows_before v es) ++ now.rest) (some_text v es now read.number) in
+    record { good = here.good; at = λ text at. (more text (read.at text at)).at; number = here.at.number }
+
+-- A text has one version, and an entry of an archive has the form of each.
+
+-- an entry of an archive has the form of each version
+formed_in : (v : Version) (e : EntryView) → IsEntry e → IsFormedEntry v e
+formed_in One e is = is.formed.1
+formed_in Two e is = is.formed
+
+pub formed_all : (v : Version) (es : List EntryView) → All IsEntry es → All (IsFormedEntry v) es
+formed_all v es all = All-weaker IsEntry (IsFormedEntry v) (λ e is. formed_in v e is) es all
+
+one_version : (v w : Version) → first_row v ≡ first_row w → v ≡ w
+one_version v w h = search arith
+
+-- a text has one version, and the same rows after its first
+pub record SameVersion (v w : Version) (x y : List ℕ) : Type 0 where
+  pub version : v ≡ w
+  pub rest : x ≡ y
+
+pub same_version : (v w : Version) (x y : List ℕ) → first_row v ++ 10 ∷ x ≡ first_row w ++ 10 ∷ y → SameVersion v w x y
+same_version v w x y e = search (arith, same_row, no_feed, one_version)
 
 -- these rows begin with those, and the text goes on with the others
 record GoesOn (v : Version) (here there : Part) (rows first : List Row) (rest left : List ℕ) : Type 0 where
@@ -67,26 +141,24 @@ shells_end (x ∷ xs) c rs = shells_end xs (c + 1) rs
 
 -- none ends in the rows of a part
 part_end : (p : Part) (rs : List Row) → has_end (part_rows p ++ rs) ≡ has_end rs
-part_end Start rs = refl
-part_end (Named name) rs = refl
 part_end (Drawn name s edges) rs = edges_end s.dim edges rs
 part_end (Keyed name s edges key) rs = ap has_end (append_assoc (map (OfEdge s.dim) edges) (OfKey key ∷ []) rs) ∙ edges_end s.dim edges (OfKey key ∷ rs)
 part_end (Counted name s edges key n lists) rs =
     ap has_end (append_assoc (map (OfEdge s.dim) edges) (OfKey key ∷ OfCount n ∷ shells_rows 1 lists) rs)
     ∙ edges_end s.dim edges (OfKey key ∷ OfCount n ∷ (shells_rows 1 lists ++ rs)) ∙ shells_end lists 1 rs
+part_end p rs = refl
 
 pub no_end : (p : Part) (xs rs : List Row) → part_rows p ≡ xs ++ OfEnd ∷ rs → ⊥
 no_end p xs rs e = true≢false (sym (there xs) ∙ ap has_end (sym e ∙ sym (append-nil (part_rows p))) ∙ part_end p [])
   where
     there : (xs : List Row) → has_end (xs ++ OfEnd ∷ rs) ≡ true
-    there [] = refl
-    there (OfEnd ∷ xs) = refl
     there (OfName name ∷ xs) = there xs
     there (OfSize s ∷ xs) = there xs
     there (OfEdge dim e ∷ xs) = there xs
     there (OfKey key ∷ xs) = there xs
     there (OfCount n ∷ xs) = there xs
     there (OfShells c sizes ∷ xs) = there xs
+    there xs = refl
 
 -- the rows of entries and of a part of one more
 abbrev pub rows_of : Version → List EntryView → Part → List Row
@@ -223,3 +295,100 @@ module _ (v : Version) (text : List ℕ) (all es : List EntryView) (last part : 
           → IsThere v all last es part there.rest here.rest ⊎ (IsAhead v all last es part here.rest ⊎ IsAhead v es part all last there.rest)
       by (inl g) = ⊎_elim (λ h. inl h) (λ h. inr (inl h)) (beyond v all es last part there.rest here.rest g)
       by (inr g) = ⊎_elim (λ h. inl (turned h)) (λ h. inr (inr h)) (beyond v es all part last here.rest there.rest g)
+
+shown_name : (v : Version) (e : EntryView) → (shown v e).name ≡ e.name
+shown_name v e = search arith
+
+names_shown : (v : Version) (es : List EntryView) → map (λ (x : EntryView). x.name) (map (shown v) es) ≡ names_of es
+names_shown v [] = refl
+names_shown v (e ∷ es) = ap (λ n. n ∷ map (λ (x : EntryView). x.name) (map (shown v) es)) (shown_name v e) ∙ ap (λ l. e.name ∷ l) (names_shown v es)
+
+same_names : (v : Version) (xs ys : List EntryView) → map (shown v) xs ≡ map (shown v) ys → names_of xs ≡ names_of ys
+same_names v xs ys e = sym (names_shown v xs) ∙ ap (map (λ (x : EntryView). x.name)) e ∙ names_shown v ys
+
+same_length : (v : Version) (xs ys : List EntryView) → map (shown v) xs ≡ map (shown v) ys → length xs ≡ length ys
+same_length v xs ys e = sym (length-map xs (shown v)) ∙ ap length e ∙ length-map ys (shown v)
+
+-- after a name one more entry of this name is begun
+begun_with : (all : List EntryView) (last : Part) (name : List ℕ) (others : List Row) → OfName name ∷ others ≡ part_rows last → IsBegun all last
+    → (¬ Contains (names_of all) name) × (length all < most_entries)
+begun_with all last name others h k = grind arith
+
+entry_there : (P : EntryView → Type 0) (xs : List EntryView) (y : EntryView) (ys : List EntryView) → All P (xs ++ y ∷ ys) → P y
+entry_there P xs y ys all = All-contains P (xs ++ y ∷ ys) y all (Contains-append_right xs (y ∷ ys) y (Contains-append_left (y ∷ []) ys y (Contains-push [] y)))
+
+module _ (v : Version) (all : List EntryView) (last : Part) (good : AreEntries all) (begun : IsBegun all last) (es : List EntryView) (place : Place) where
+  -- no line breaks the format
+  no_bad_line : (part : Part) (n : ℕ) → IsAhead v all last es part place.rest → IsBadLine v part place n → ⊥
+  no_bad_line part n a bad = bad.none a.row a.after a.may a.stands
+
+  module _ (a : IsAhead v all last es Start place.rest) (name : List ℕ) (is : is_name name ≡ true) (stands : Stands (name_row name) place) where
+    -- the row is this name
+    row_is : a.row ≡ OfName name
+    row_is = search (arith, same_name, same_row, name_none)
+
+    rows_are : OfName name ∷ a.others ≡ flat_map (entry_rows v) a.more ++ part_rows last
+    rows_are = ap (λ r. r ∷ a.others) (sym row_is) ∙ a.rows
+
+    -- the name is new, and there is room for one more
+    fresh : (more : List EntryView) → all ≡ a.front ++ more → OfName name ∷ a.others ≡ flat_map (entry_rows v) more ++ part_rows last
+        → (¬ Contains (names_of a.front) name) × (length a.front < most_entries)
+    fresh [] whole rows =
+        let same : all ≡ a.front = whole ∙ append-nil a.front in
+        subst (λ l. (¬ Contains (names_of l) name) × (length l < most_entries)) same (begun_with all last name a.others rows begun)
+    fresh (e ∷ later) whole rows = (none, room)
+      where
+        own : e.name ≡ name
+        own = grind arith
+
+        long : length all ≡ length (a.front ++ e ∷ later)
+        long = ap length whole
+
+        room : length a.front < most_entries
+        room = let two = length-append a.front (e ∷ later) in let few = good.few in omega (arith, long, two, few)
+
+        none : ¬ Contains (names_of a.front) name
+        none = subst (λ n. ¬ Contains (names_of a.front) n) own (names_apart all a.front e later whole good.names)
+
+  no_repeated : (n : ℕ) → IsAhead v all last es Start place.rest → IsRepeated es place n → ⊥
+  no_repeated n a bad = (fresh a bad.name bad.is_name bad.begins a.more a.is (rows_are a bad.name bad.is_name bad.begins)).0
+      (subst (λ l. Contains l bad.name) (sym (same_names v a.front es a.same)) bad.among)
+
+  no_too_many : IsAhead v all last es Start place.rest → IsTooMany es place → ⊥
+  no_too_many a bad =
+      let room = (fresh a bad.name bad.is_name bad.begins a.more a.is (rows_are a bad.name bad.is_name bad.begins)).1 in
+      let count = same_length v a.front es a.same in
+      omega (arith, room, count, bad.all_entries)
+
+  -- what is judged at the end of an entry that was read is nothing
+  no_end_fault : (part : Part) (fault : ArchiveFault) → fault ≢ NoMemory → IsFormed v part → IsAhead v all last es part place.rest
+      → IsFaultAtEnd v es part place fault → ⊥
+  no_end_fault part fault memory formed a c = by a.more a.is (ap (λ r. part_rows part ++ r ∷ a.others) (sym ends) ∙ a.rows)
+    where
+      follows : MayStandAfter v part OfEnd
+      follows = search (arith, end_follows)
+
+      ends : a.row ≡ OfEnd
+      ends = same_row_of v part a.row OfEnd formed a.may follows
+          (same_row (row_line a.row) end_row a.after c.ends.0 (row_none v part a.row formed a.may) (row_none v part OfEnd formed follows)
+          (sym a.stands ∙ c.ends.1)).0
+
+      by : (more : List EntryView) → all ≡ a.front ++ more → part_rows part ++ OfEnd ∷ a.others ≡ flat_map (entry_rows v) more ++ part_rows last → ⊥
+      by [] whole rows = no_end last (part_rows part) a.others (sym rows)
+      by (e ∷ later) whole rows =
+          let cut : cut_from part (OfEnd ∷ a.others) ≡ record { first = shown v e; rest = flat_map (entry_rows v) later ++ part_rows last } =
+          sym (part_cut part (OfEnd ∷ a.others)) ∙ ap (cut_from Start) (rows ∙ append_assoc (entry_rows v e) (flat_map (entry_rows v) later) (part_rows last))
+          ∙ entry_cut v e (flat_map (entry_rows v) later ++ part_rows last) in
+          let same : said (form_part v c.name c.form) ≡ shown v e = ap said (sym c.is) ∙ ap (λ (x : Cut). x.first) cut in
+          no_judged v c.name c.form _ fault e (entry_there IsEntry a.front e later (subst (All IsEntry) whole good.each)) same memory c.judged
+
+  -- no fault comes before
+  pub no_earlier_fault : (part : Part) (fault : ArchiveFault) → IsFormed v part → IsAhead v all last es part place.rest → FaultAt v es part place fault → ⊥
+  no_earlier_fault part (BadLine n) formed a c = no_bad_line part n a c
+  no_earlier_fault part (RepeatedName n) formed a c = no_repeated n (subst (λ q. IsAhead v all last es q place.rest) c.0 a) c.1
+  no_earlier_fault part TooManyEntries formed a c = no_too_many (subst (λ q. IsAhead v all last es q place.rest) c.0 a) c.1
+  no_earlier_fault part (EntryRefused n refusal) formed a c = no_end_fault part (EntryRefused n refusal) (λ e. cc) formed a c
+  no_earlier_fault part (KeyDiffers n kept computed) formed a c = no_end_fault part (KeyDiffers n kept computed) (λ e. cc) formed a c
+  no_earlier_fault part (CountDiffers n kept computed) formed a c = no_end_fault part (CountDiffers n kept computed) (λ e. cc) formed a c
+  no_earlier_fault part (ShellsDiffer n class kept computed) formed a c = no_end_fault part (ShellsDiffer n class kept computed) (λ e. cc) formed a c
+  no_earlier_fault part fault formed a c = c

@@ -1,21 +1,110 @@
--- Groups of entries with equal keys are groups of entries with isomorphic nets.
-use Rattle.std.proofs.Common.{◌≡◌, inl, ◌∙◌, ℕ, ℤ, Bool, true, false, List, [], ◌∷◌, filter, cond, refl, sym, ap, subst, arith, ◌≢◌, inr, zero, suc, ◌+◌, ◌-◌}
-use Rattle.std.proofs.Common.{◌≤◌, length, map, slice_get, Some, Result, Ok, Err, Vec, ◌++◌, get_or}
-use Rattle.std.proofs.lemmas.List.Elements.{All-head, All-tail, All-contains, Contains-append_left, Contains-append_right, Contains-get_or, Contains-push}
-use Rattle.std.proofs.lemmas.{Bool.true≢false, Bool.Decides.Decides-int_eq, Slice.Eq.slice_eq-Decides, Option.slice_get_within, Option.get_or_from_slice_get}
-use Rattle.std.proofs.lemmas.{List.Sorted.All-permutation}
-use Rattle.std.specs.List.{All, Contains, enumerate_from}
-use Rattle.std.specs.{Prelude.IfOk, declared.alloc.Global.Global, Cmp.Rules.signed_items}
-use Rattle.periodic_net.specs.{Graph.Graph, Graph.IsGraph, Maps.Iso}
-use Rattle.key_theory.specs.Key.{IsKeyOf}
-use Rattle.key_theory.proofs.CallerLemmas.{keys_decide}
+-- Groups of entries with equal keys are groups of entries with isomorphic nets, and a regrouped archive is an archive.
+use Rattle.std.proofs.Common.{◌≡◌, ◌∙◌, ℕ, ◌+◌, ◌<◌, List, [], ◌∷◌, ◌++◌, length, take, map, get_or, Bor, sym, ap, subst, arith, add-one, ◌≢◌, refl, inl, ℤ}
+use Rattle.std.proofs.Common.{Bool, true, false, filter, cond, inr, zero, suc, ◌-◌, ◌≤◌, slice_get, Some, Result, Ok, Err, Vec}
+use Rattle.std.proofs.lemmas.List.{map-append, length-map, get_or-map, length-append}
+use Rattle.std.proofs.lemmas.List.Elements.{Contains-push, All-map, All-head, All-tail, All-contains, Contains-append_left, Contains-append_right}
+use Rattle.std.proofs.lemmas.List.Elements.{Contains-get_or}
+use Rattle.std.proofs.lemmas.List.Sorted.{All-permutation, length_permutation, sum_by-IsPermutation, IsPermutation-map}
+use Rattle.std.specs.List.{All, AllPairs, sum_by, Contains, enumerate_from}
+use Rattle.std.{proofs.Math.Seq.take-suc, proofs.lemmas.List.Sums.sum_by-cons, proofs.lemmas.Slice.Eq.slice_eq-Decides, proofs.lemmas.Bool.true≢false}
+use Rattle.std.{proofs.lemmas.Bool.Decides.Decides-int_eq, proofs.lemmas.Option.slice_get_within, proofs.lemmas.Option.get_or_from_slice_get}
+use Rattle.std.{specs.List.Sorted.IsPermutation, specs.Prelude.IfOk, specs.declared.alloc.Global.Global, specs.Cmp.Rules.signed_items}
+use Rattle.line_text.{specs.Lines.rows_text, proofs.CallerLemmas.rows_text_of_sum}
+use Rattle.archive_text.specs.Entries.{EntryView, entry_view, entry_views}
 use Rattle.archive_text.specs.Lookups.{names_of, names_with, same_key}
 use Rattle.archive_text.specs.Groups.{AreGroups, IsGroup, numbers_from, numbers_in, numbers_with}
-use Rattle.archive_text.specs.{Entries.EntryView, Regrouped.AreTogether, Regrouped.regrouped}
-use Rattle.net_archive.specs.Archives.{IsEntry}
-use Rattle.net_archive.specs.Deciding.{AreNamesOf, AreIsoGroups, IsEntryAt, KeysDecideArchive, ShareGroup, AreIsoTogether}
+use Rattle.archive_text.{specs.declared.entry.Entry.Entry, specs.declared.version.Version.Version, specs.Texts.entry_lines, specs.Regrouped.regrouped}
+use Rattle.archive_text.{specs.Regrouped.AreTogether, proofs.CallerLemmas.is_regrouped}
 use Rattle.integers.proofs.lists.Members.{IsIn, is_in, contains_from_in}
-use Rattle.archive_text.proofs.CallerLemmas.{is_regrouped}
+use Rattle.integers.proofs.lists.Permutations.{permuted_pairs}
+use Rattle.periodic_net.specs.{Graph.Graph, Graph.IsGraph, Maps.Iso}
+use Rattle.key_theory.{specs.Key.IsKeyOf, proofs.CallerLemmas.keys_decide}
+use Rattle.net_archive.specs.Archives.{IsEntry, IsArchive, IsInMemory}
+use Rattle.net_archive.specs.Deciding.{AreNamesOf, AreIsoGroups, IsEntryAt, KeysDecideArchive, ShareGroup, AreIsoTogether}
+use Rattle.net_archive.proofs.NewEntry.{body_with, lines_with, text_length}
+
+-- The rows of lent entries.
+
+abbrev pub lent_view : Bor Entry → EntryView
+lent_view e = entry_view e.now
+
+-- the rows of one more entry
+pub next_rows : (v : Version) (lent : List (Bor Entry)) (i : ℕ) (e : Bor Entry) (before after : List ℕ) → i < length lent → e ≡ get_or lent i e
+    → before ≡ rows_text (entry_lines v (map lent_view (take i lent))) → after ≡ before ++ rows_text (entry_lines v (lent_view e ∷ []))
+    → after ≡ rows_text (entry_lines v (map lent_view (take (i + 1) lent)))
+next_rows v lent i e before after l is b a =
+    let longer : take (i + 1) lent ≡ take i lent ++ e ∷ [] = ap (λ (n : ℕ). take n lent) (add-one i) ∙ take-suc lent i e l
+    ∙ ap (λ (x : Bor Entry). take i lent ++ x ∷ []) (sym is) in
+    a ∙ ap (λ (t : List ℕ). t ++ rows_text (entry_lines v (lent_view e ∷ []))) b ∙ body_with v (map lent_view (take i lent)) (lent_view e)
+    ∙ ap (λ (es : List EntryView). rows_text (entry_lines v es)) (sym (map-append lent_view (take i lent) (e ∷ [])))
+    ∙ ap (λ (es : List (Bor Entry)). rows_text (entry_lines v (map lent_view es))) (sym longer)
+
+-- what holds of all entries as they are seen holds of them as they are lent
+pub all_lent : (lent : List (Bor Entry)) → All IsEntry (map lent_view lent) → All (λ (e : Bor Entry). IsEntry (entry_view e.now)) lent
+all_lent lent all k d l =
+    subst IsEntry (get_or-map lent_view lent k d (lent_view d) l) (all k (lent_view d) (let n = length-map lent lent_view in omega (arith, n, l)))
+
+-- what holds of all entries in memory holds of them as they are seen
+pub all_seen : (items : List Entry) → All (λ (e : Entry). IsEntry (entry_view e)) items → All IsEntry (entry_views items)
+all_seen items all = All-map IsEntry entry_view items all
+
+abbrev pub size_of : Version → EntryView → ℕ
+size_of v e = length (rows_text (entry_lines v (e ∷ [])))
+
+-- the rows of entries have as many bytes as those of each together
+sizes : (v : Version) (es : List EntryView) → length (rows_text (entry_lines v es)) ≡ sum_by (size_of v) es
+sizes v [] = refl
+sizes v (e ∷ es) =
+    let whole = ap (λ rows. length (rows_text rows)) (lines_with v (e ∷ []) es) ∙ ap length (rows_text_of_sum (entry_lines v (e ∷ [])) (entry_lines v es)) in
+    whole ∙ length-append (rows_text (entry_lines v (e ∷ []))) (rows_text (entry_lines v es)) ∙ ap (λ n. size_of v e + n) (sizes v es)
+    ∙ sym (sum_by-cons (size_of v) e es)
+
+-- the same entries in another order have a text of the same length
+same_length : (v : Version) (es fs : List EntryView) → IsPermutation es fs → length (rows_text (entry_lines v fs)) ≡ length (rows_text (entry_lines v es))
+same_length v es fs p = sizes v fs ∙ sum_by-IsPermutation (size_of v) es fs p ∙ sym (sizes v es)
+
+abbrev name_in : EntryView → List ℕ
+name_in e = e.name
+
+-- at a place within the list any default serves
+names_apart : (es : List EntryView) → AllPairs (λ (e f : EntryView). e.name ≢ f.name) es → AllPairs (λ m n. m ≢ n) (map name_in es)
+names_apart [] h i j d l m eq = absurd (omega (arith, m))
+names_apart (x ∷ es) h i j d l m eq =
+    let all = x ∷ es in let n = length-map all name_in in let inside : j < length all = omega (arith, n, m) in
+    h i j x l inside (sym (get_or-map name_in all i x d (omega (arith, l, inside))) ∙ eq ∙ get_or-map name_in all j x d inside)
+
+apart_again : (es : List EntryView) → AllPairs (λ m n. m ≢ n) (map name_in es) → AllPairs (λ (e f : EntryView). e.name ≢ f.name) es
+apart_again es h i j d l m eq =
+    let n = length-map es name_in in
+    h i j (name_in d) l (omega (arith, n, m)) (get_or-map name_in es i d (name_in d) (omega (arith, l, m)) ∙ eq ∙ sym (get_or-map name_in es j d (name_in d) m))
+
+-- the same entries in another order have different names
+names_differ : (es fs : List EntryView) → IsPermutation es fs → AllPairs (λ (e f : EntryView). e.name ≢ f.name) es
+    → AllPairs (λ (e f : EntryView). e.name ≢ f.name) fs
+names_differ es fs p h = apart_again fs (permuted_pairs (map name_in es) (map name_in fs) (IsPermutation-map name_in es fs p) (names_apart es h))
+
+-- the same entries in another order are an archive
+pub permuted_archive : (v : Version) (es fs : List EntryView) → IsPermutation es fs → IsArchive (record { version = v; entries = es })
+    → IsArchive (record { version = v; entries = fs })
+permuted_archive v es fs p a =
+    let l = length_permutation es fs p in let old = text_length v es in let new = text_length v fs in
+    let bytes = same_length v es fs p in let fits = a.fits in
+    record {
+      each = All-permutation IsEntry es fs p a.each;
+      names = names_differ es fs p a.names;
+      few = let few = a.few in omega (arith, l, few);
+      fits = omega (arith, old, new, bytes, fits);
+    }
+
+-- the archive with its entries regrouped, and their rows
+pub regrouped_archive : (v : Version) (es now : List EntryView) (body rows : List ℕ) → IsInMemory (record { version = v; entries = es }) body
+    → now ≡ regrouped es
+    → rows ≡ rows_text (entry_lines v (regrouped es)) → IsInMemory (record { version = v; entries = now }) rows
+regrouped_archive v es now body rows m is r = record {
+  is_archive = subst (λ (xs : List EntryView). IsArchive (record { version = v; entries = xs })) (sym is)
+      (permuted_archive v es (regrouped es) (is_regrouped es).same_entries m.is_archive);
+  is_body = r ∙ ap (λ (xs : List EntryView). rows_text (entry_lines v xs)) (sym is);
+}
 
 -- The names that a key finds are those of the isomorphic entries.
 
@@ -57,8 +146,7 @@ module _ (G : Graph) (g : IsGraph G) (key : List ℤ) (k : IsKeyOf G key) where
 -- the keys of two entries decide
 pub keys_decide_archive : (entries : List EntryView) → All IsEntry entries → KeysDecideArchive entries
 keys_decide_archive entries good e f i j =
-    let a = All-contains IsEntry entries e good i in
-    let b = All-contains IsEntry entries f good j in
+    let a = All-contains IsEntry entries e good i in let b = All-contains IsEntry entries f good j in
     keys_decide e.graph f.graph e.key f.key a.is_graph b.is_graph a.key b.key
 
 -- an entry with a key, and its place
@@ -123,8 +211,7 @@ module _ (es : List EntryView) (good : All IsEntry es) (groups : List (List ℕ)
   key_of_group : (group : List ℕ) (h : IsGroup es group) (m : ℕ) (e : EntryView) → Contains group m → IsEntryAt es m e → e.key ≡ h.key
   key_of_group group h m e c at =
       let r = keyed_in h.key 1 es m (subst (λ g. IsIn g m) h.numbers (is_in group m c)) in
-      let number = r.number in
-      let place : m - 1 ≡ r.place = omega (arith, number) in
+      let number = r.number in let place : m - 1 ≡ r.place = omega (arith, number) in
       let same : Some e ≡ Some r.entry = sym at.stands ∙ ap (slice_get es) place ∙ r.stands in
       let entry : e ≡ r.entry = cc in
       ap (λ (x : EntryView). x.key) entry ∙ r.same
@@ -132,8 +219,7 @@ module _ (es : List EntryView) (good : All IsEntry es) (groups : List (List ℕ)
   -- the group of an entry has its number
   in_group : (m : ℕ) (e : EntryView) (key : List ℤ) → IsEntryAt es m e → e.key ≡ key → IsIn (numbers_with key es) m
   in_group m e key at same =
-      let low = at.low in
-      let place : 1 + (m - 1) ≡ m = omega (arith, low) in
+      let low = at.low in let place : 1 + (m - 1) ≡ m = omega (arith, low) in
       subst (IsIn (numbers_with key es)) place (in_keyed key 1 es (m - 1) e at.stands ((signed_items e.key key).1 same))
 
   -- two entries stand in one group exactly where their nets are isomorphic
@@ -148,8 +234,7 @@ module _ (es : List EntryView) (good : All IsEntry es) (groups : List (List ℕ)
       back : Iso e.graph f.graph → ShareGroup groups m n
       back i =
           let same = (keys_decide_archive es good e f (among m e a) (among n f b)).1 i in
-          let group = numbers_with e.key es in
-          let one = in_group m e e.key a refl in
+          let group = numbers_with e.key es in let one = in_group m e e.key a refl in
           let two = in_group n f e.key b (sym same) in (
             group,
             are.every group (record { key = e.key; numbers = refl; two = two_members group m n one two other }),
@@ -188,8 +273,7 @@ decide e f a b = let both = keys_decide e.graph f.graph e.key f.key a.is_graph b
 
 pub iso_together : (es : List EntryView) → All IsEntry es → AreTogether es → AreIsoTogether es
 iso_together es all together before between after e f eq iso =
-    let good = subst (All IsEntry) eq all in
-    let whole = before ++ e ∷ (between ++ f ∷ after) in
+    let good = subst (All IsEntry) eq all in let whole = before ++ e ∷ (between ++ f ∷ after) in
     let first = All-contains IsEntry whole e good (first_there before between after e f) in
     let last = All-contains IsEntry whole f good (last_there before between after e f) in
     let same = together before between after e f eq ((decide e f first last).1 iso) in

@@ -1,27 +1,26 @@
--- The first fault of a text is one, and the text of an archive has none.
+-- The first fault of a text is one, and the text of an archive has none. What was read from a text is its archive.
 use Rattle.std.proofs.Common.{◌≡◌, ◌≢◌, ◌⊎◌, inl, inr, ℕ, ◌+◌, List, [], ◌∷◌, ◌++◌, All, length, map, drop, get_or, true, refl, sym, ap, ◌∙◌, subst, arith}
+use Rattle.std.proofs.Common.{◌≤◌, Result}
 use Rattle.std.proofs.lemmas.List.{append-nil, length-append, length-map}
-use Rattle.std.proofs.lemmas.List.Elements.{All-head, All-tail}
+use Rattle.std.{proofs.lemmas.List.Elements.All-head, proofs.lemmas.List.Elements.All-tail, specs.Prelude.IsErrAnd, specs.Prelude.MatchResult}
 use Rattle.line_text.specs.{Lines.Place, Lines.rows_text, Names.is_name}
 use Rattle.cgd_read.specs.Spelling.{edge_of}
 use Rattle.periodic_net.specs.Graph.{Graph, IsGraph}
-use Rattle.quotient_graph.proofs.EdgeLists.{listed_graph}
-use Rattle.coordination.specs.Sequences.{AreSequencesOf}
-use Rattle.coordination.proofs.CallerLemmas.{one_list_of_sequences}
+use Rattle.quotient_graph.proofs.Edges.{listed_graph}
+use Rattle.coordination.{specs.Sequences.AreSequencesOf, proofs.CallerLemmas.one_list_of_sequences}
 use Rattle.archive_text.specs.Rows.{OfName, OfEnd, row_line, row_lines, first_row, name_row}
 use Rattle.archive_text.specs.Parts.{Part, Start, part_rows, IsFormed, MayStandAfter}
-use Rattle.archive_text.specs.{Entries.EntryView, Reading.form_part, Texts.entry_lines, Texts.rows_before, declared.rest.Form.Form}
-use Rattle.archive_text.specs.{declared.version.Version.Version, declared.version.Version.TheVariants.One, declared.version.Version.TheVariants.Two}
+use Rattle.archive_text.specs.Texts.{entry_lines, rows_before, text_of, most_bytes}
 use Rattle.archive_text.proofs.CallerLemmas.{end_follows, said, shown}
+use Rattle.archive_text.specs.{Entries.EntryView, declared.rest.Form.Form, Reading.form_part, declared.version.Version.Version}
+use Rattle.archive_text.specs.{declared.version.Version.TheVariants.One, declared.version.Version.TheVariants.Two}
 use Rattle.net_archive.specs.Archives.{ArchiveView, IsArchive, IsEntry, archive_text}
-use Rattle.net_archive.specs.Faults.{AreEntries, FaultAt, HasFault, IsBadLine, IsFaultAtEnd, IsFaultOf, IsFirstLineFault, IsRepeated, IsTooMany, MayEnd, Stands}
-use Rattle.net_archive.specs.declared.faults.ArchiveFault.TheVariants.{CountDiffers, ShellsDiffer, NoMemory}
-use Rattle.net_archive.specs.{Judging.graph_of_form, declared.faults.ArchiveFault.ArchiveFault}
-use Rattle.net_archive.proofs.Ahead.{HasRead, IsAhead, IsThere, rest_of, states_meet}
-use Rattle.net_archive.proofs.FirstLines.{no_feed, feed_there, same_version}
-use Rattle.net_archive.proofs.OneJudged.{graph_said, key_said, AreAlike, one_judged}
-use Rattle.net_archive.proofs.{Earlier.no_earlier_fault, MoreEntries.are_edges}
-use Rattle.net_archive.specs.declared.faults.ArchiveFault.TheVariants.{BadLine, RepeatedName, EntryRefused, KeyDiffers, TooManyEntries, Version as OtherVersion}
+use Rattle.net_archive.specs.Faults.{AreEntries, FaultAt, HasFault, IsBadLine, IsFaultAtEnd, IsFaultOf, IsFirstLineFault, IsRepeated, IsTooMany, MayEnd}
+use Rattle.net_archive.specs.Faults.{Stands}
+use Rattle.net_archive.specs.declared.faults.ArchiveFault.TheVariants.{NoMemory, BadLine, RepeatedName, TooManyEntries, Version as OtherVersion}
+use Rattle.net_archive.proofs.Ahead.{HasRead, IsAhead, IsThere, rest_of, states_meet, no_feed, feed_there, same_version, no_earlier_fault}
+use Rattle.net_archive.proofs.FirstFaults.{graph_said, key_said, AreAlike, one_judged}
+use Rattle.net_archive.{specs.Judging.graph_of_form, specs.declared.faults.ArchiveFault.ArchiveFault, specs.Steps.IsFaultTold, proofs.NewEntry.are_edges}
 
 -- a text that goes on after its first line has no fault in it
 no_first_line : (v : Version) (text rest : List ℕ) (fault : ArchiveFault) → text ≡ first_row v ++ 10 ∷ rest → IsFirstLineFault text fault → ⊥
@@ -43,12 +42,9 @@ module _ (v : Version) (es : List EntryView) (part : Part) (place : Place) where
   cause_of (BadLine n) c = inl (n, refl, c)
   cause_of (RepeatedName n) c = inr (inl (n, refl, c.0, c.1))
   cause_of TooManyEntries c = inr (inr (inl (refl, c.0, c.1)))
-  cause_of (EntryRefused n refusal) c = inr (inr (inr ((λ e. cc), c)))
-  cause_of (KeyDiffers n kept computed) c = inr (inr (inr ((λ e. cc), c)))
-  cause_of (CountDiffers n kept computed) c = inr (inr (inr ((λ e. cc), c)))
-  cause_of (ShellsDiffer n class kept computed) c = inr (inr (inr ((λ e. cc), c)))
   cause_of (OtherVersion n) c = absurd c
   cause_of NoMemory c = absurd c
+  cause_of fault c = inr (inr (inr ((λ e. cc), c)))
 
   -- where a name stands, the line is not bad
   not_bad_name : (n : ℕ) (name : List ℕ) → part ≡ Start → is_name name ≡ true → Stands (name_row name) place → ¬ IsBadLine v part place n
@@ -119,14 +115,13 @@ same_entry One x y hx hy e =
 
 same_entries : (v : Version) (xs ys : List EntryView) → All IsEntry xs → All IsEntry ys → map (shown v) xs ≡ map (shown v) ys → xs ≡ ys
 same_entries v [] [] hx hy e = refl
-same_entries v [] (y ∷ ys) hx hy e = let long = ap length e in absurd (omega (arith, long))
-same_entries v (x ∷ xs) [] hx hy e = let long = ap length e in absurd (omega (arith, long))
 same_entries v (x ∷ xs) (y ∷ ys) hx hy e =
     ap (λ z. z ∷ xs) (same_entry v x y (All-head IsEntry x xs hx) (All-head IsEntry y ys hy) (ap (λ l. head_or (shown v x) l) e))
     ∙ ap (λ l. y ∷ l) (same_entries v xs ys (All-tail IsEntry x xs hx) (All-tail IsEntry y ys hy) (ap (drop 1) e))
   where
     head_or : EntryView → List EntryView → EntryView
     head_or d l = get_or l 0 d
+same_entries v xs ys hx hy e = let long = ap length e in absurd (omega (arith, long))
 
 -- the fault after the first line is one
 one_later_fault : (v : Version) (text : List ℕ) (a b : ArchiveFault) → HasFault v text a → HasFault v text b → a ≡ b
@@ -241,3 +236,25 @@ one_archive a b ha hb e = λ i. record { version = version i; entries = entries 
         by (inl t) = same_entries a.version a.entries b.entries ha.each hb.each t.same
         by (inr (inl ahead)) = absurd (nothing_left a.version a.entries b.entries Start Start ahead)
         by (inr (inr ahead)) = absurd (nothing_left a.version b.entries a.entries Start Start ahead)
+
+-- entries whose text is not too long are an archive
+pub are_archive : (v : Version) (es : List EntryView) (text : List ℕ) → length text ≤ most_bytes → AreEntries es → text ≡ text_of v es
+    → IsArchive (record { version = v; entries = es })
+are_archive v es text l h e = grind arith
+
+-- of the text of an archive no other is read
+pub same_archive : (a b : ArchiveView) (text : List ℕ) → IsArchive a → IsArchive b → text ≡ archive_text a → text ≡ archive_text b → b ≡ a
+same_archive a b text ha hb ea eb = one_archive b a hb ha (sym eb ∙ ea)
+
+-- of the text of an archive only running out of memory is reported
+pub only_memory : (a : ArchiveView) (fault : ArchiveFault) (text : List ℕ) → IsArchive a → text ≡ archive_text a → IsFaultOf text fault → fault ≡ NoMemory
+only_memory a fault text h e f = no_fault_but_memory a fault h (subst (λ (t : List ℕ). IsFaultOf t fault) e f)
+
+-- an error that is known has what holds of it
+pub matched_error : {A E : Type 0} (Q : A → Type 0) (P : E → Type 0) (x : E) (r : Result A E) → IsErrAnd r (λ e. e ≡ x) → P x → MatchResult r Q P
+matched_error Q P x r k l = search arith
+
+-- what is reported after the first line is reported of the text
+pub told : (v : Version) (text : List ℕ) (fault : ArchiveFault) → IsFaultTold v text fault → IsFaultOf text fault
+told v text fault (inl memory) = inl memory
+told v text fault (inr has) = inr (inr (v, has))

@@ -1,54 +1,35 @@
 -- The first number past the limit, in lists that are put together.
-use Rattle.std.proofs.Common.{◌≡◌, ◌⊎◌, ℕ, zero, suc, ◌+◌, ◌<◌, ◌≤◌, ℤ, length, get_or, drop, List, [], ◌∷◌, ◌++◌, inl, inr, refl, sym, ap, subst, ◌∙◌, arith}
-use Rattle.std.specs.Prelude.{unsigned_abs, All, false, is_some, true, Option, None, Some}
-use Rattle.std.specs.List.{flat_map}
-use Rattle.integers.proofs.lists.{Members.IsIn, Members.contains_from_in, Pieces.all_from_in, Pieces.in_append, More.drop_all}
+use Rattle.std.proofs.Common.{◌≡◌, ℕ, zero, suc, ◌+◌, ◌<◌, ◌≤◌, ℤ, length, get_or, drop, List, [], ◌∷◌, ◌++◌, refl, sym, ap, subst, ◌∙◌, arith}
+use Rattle.std.specs.Prelude.{unsigned_abs, false, is_some, true, Option, None, Some}
+use Rattle.std.{proofs.lemmas.Bool.true≢false, proofs.lemmas.List.append_assoc, proofs.lemmas.List.Elements.All-append, specs.List.flat_map}
+use Rattle.integers.proofs.lists.GrownLists.{drop_all}
 use Rattle.standard_map.specs.MapNumbers.{most_part}
 use Rattle.net_certificate.specs.Tables.{IsFirstWide}
-
--- what holds of all holds of a member
-of_member : {X : Type 0} (P : X → Type 0) (xs : List X) (x : X) → All P xs → IsIn xs x → P x
-of_member P xs x h i = let c = contains_from_in xs x i in subst P c.2 (h c.0 x c.1)
-
--- what holds of all of two lists
-all_joined : {X : Type 0} (P : X → Type 0) (xs ys : List X) → All P xs → All P ys → All P (xs ++ ys)
-all_joined P xs ys h k = all_from_in P (xs ++ ys) (λ x i. either P xs ys h k x (in_append xs ys x i))
-  where
-    either : {X : Type 0} (P : X → Type 0) (xs ys : List X) → All P xs → All P ys → (x : X) → IsIn xs x ⊎ IsIn ys x → P x
-    either P xs ys h k x (inl j) = of_member P xs x h j
-    either P xs ys h k x (inr j) = of_member P ys x k j
-
-joined : {X : Type 0} (xs ys zs : List X) → (xs ++ ys) ++ zs ≡ xs ++ (ys ++ zs)
-joined [] ys zs = refl
-joined (x ∷ xs) ys zs = ap (λ ts. x ∷ ts) (joined xs ys zs)
 
 -- the first number of a list is that of a longer one
 pub wide_first : (xs ys : List ℤ) (v : ℤ) → IsFirstWide xs (Some v) → IsFirstWide (xs ++ ys) (Some v)
 wide_first xs ys v p = record {
   before = p.before;
   after = p.after ++ ys;
-  split = ap (λ ts. ts ++ ys) p.split ∙ joined p.before (v ∷ p.after) ys;
+  split = ap (λ ts. ts ++ ys) p.split ∙ append_assoc p.before (v ∷ p.after) ys;
   within = p.within;
   past = p.past;
 }
 
 -- where a list has none, what follows it decides
 pub wide_next : (xs ys : List ℤ) (o : Option ℤ) → IsFirstWide xs None → IsFirstWide ys o → IsFirstWide (xs ++ ys) o
-wide_next xs ys None h k = all_joined (λ x. unsigned_abs x ≤ most_part) xs ys h k
+wide_next xs ys None h k = All-append (λ x. unsigned_abs x ≤ most_part) xs ys h k
 wide_next xs ys (Some v) h p = record {
   before = xs ++ p.before;
   after = p.after;
-  split = ap (λ ts. xs ++ ts) p.split ∙ sym (joined xs p.before (v ∷ p.after));
-  within = all_joined (λ x. unsigned_abs x ≤ most_part) xs p.before h p.within;
+  split = ap (λ ts. xs ++ ts) p.split ∙ sym (append_assoc xs p.before (v ∷ p.after));
+  within = All-append (λ x. unsigned_abs x ≤ most_part) xs p.before h p.within;
   past = p.past;
 }
 
 -- the same by whether there is a first number
 pub wide_some : (xs ys : List ℤ) (o : Option ℤ) → is_some o ≡ true → IsFirstWide xs o → IsFirstWide (xs ++ ys) o
-wide_some xs ys None t h = absurd (no_first t)
-  where
-    no_first : false ≡ true → ⊥
-    no_first e = grind arith
+wide_some xs ys None t h = absurd (true≢false (sym t))
 wide_some xs ys (Some v) t h = wide_first xs ys v h
 
 pub wide_more : (xs ys : List ℤ) (o p : Option ℤ) → is_some o ≡ false → IsFirstWide xs o → IsFirstWide ys p → IsFirstWide (xs ++ ys) p

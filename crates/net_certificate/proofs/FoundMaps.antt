@@ -1,27 +1,32 @@
--- A map that is found passes the check, where it has no more images than are checked.
-use Rattle.std.proofs.Common.{◌≡◌, ℕ, ◌≤◌, List, length, ap, subst, ◌∙◌, arith, get_or, ◌⊎◌, inl, inr, ℤ, pos, [], ◌∷◌, refl, sym}
+-- A map that is found passes the check, where it has no more images than are checked; and its table, from the sides of two nets with one key.
+use Rattle.std.proofs.Common.{◌≡◌, ℕ, ◌≤◌, List, length, ap, subst, ◌∙◌, arith, get_or, ◌⊎◌, inl, inr, ℤ, pos, [], ◌∷◌, refl, sym, ◌<◌, ◌*◌, map}
+use Rattle.std.specs.Prelude.{unsigned_abs, All, Result, IfOk}
+use Rattle.std.{proofs.lemmas.Nat.Gcd.le_of_dvd, proofs.lemmas.List.length-map, specs.List.flat_map}
 use Rattle.integers.specs.Vectors.{Vector, vector, zero_vector, parts, times, HasDimension, IsWithin}
+use Rattle.integers.proofs.lists.Members.{IsIn, contains_from_in, all_from_in, append_left, append_right, in_map, pieces_in}
 use Rattle.integers.specs.Bases.{Base, base_sum}
 use Rattle.periodic_net.specs.Graph.{Graph, IsGraph, Vertex, vertex, moved, IsVertex}
-use Rattle.periodic_net.specs.{Limits.most_vertices, Maps.IsInBox}
-use Rattle.key_theory.specs.Key.{Shape}
-use Rattle.least_key.specs.KeyedNets.{KeyedNet}
-use Rattle.map_check.specs.Conditions.{most_images, IsImage, IsShift, most_part}
-use Rattle.map_check.specs.{declared.map.PeriodicMap.PeriodicMap, Layouts.place_of, Layouts.table_for, Tables.IsBoxVertex}
+use Rattle.periodic_net.specs.{Limits.most_vertices, Limits.IsSmall, Maps.IsInBox, Placement.Placement, Classes.ClassArc, Classes.ClassGraph}
+use Rattle.key_theory.specs.Traversal.{axes_of, IsLeastScale, IsListOf}
+use Rattle.key_theory.specs.Key.{Shape, IsLeastList}
+use Rattle.least_key.specs.KeyedNets.{KeyedNet, IsKeyed}
+use Rattle.map_check.specs.Conditions.{most_images, IsImage, IsShift, most_part, most_period}
+use Rattle.map_check.specs.Layouts.{place_of, table_for, box_size}
+use Rattle.map_check.{specs.declared.map.PeriodicMap.PeriodicMap, specs.Tables.IsBoxVertex, proofs.CallerLemmas.box_is_power}
+use Rattle.standard_map.specs.MapNumbers.{IsFound, box_vertices, entries_of, StandardTable, base_rows, images_of, map_numbers, IsFirstPast}
+use Rattle.standard_map.specs.StandardMaps.{framed_net, IsWrittenBy, AreCellImages, IsPeriodOf}
+use Rattle.standard_map.specs.Sides.{NetSide, net_side, HaveOneKey, HaveParts, IsStandardBy}
+use Rattle.standard_map.proofs.OneMap.{first_unit, second_unit, third_unit, one_list_of, standard_map_has_period, cell_images_give_period}
+use Rattle.standard_map.proofs.Sides.{same_dimension, written_maps_pass, standard_map_exists}
+use Rattle.standard_map.{specs.Laws.HaveOneList, specs.Laws.IsTableOfIsomorphism, specs.Turns.AreImageCells, specs.LeastPairs.IsLeastPair}
+use Rattle.standard_map.{specs.LeastPairs.IsPairOf, proofs.CallerLemmas.arc_part}
+use Rattle.sublattice.{specs.Sublattices.base_of, proofs.CallerLemmas.any_last}
+use Rattle.quotient_graph.specs.PlacedNets.{PlacedNet}
 use Rattle.net_certificate.specs.Answers.{IsMapAnswer, PassesIfFound, shape_of, IsPassing}
-use Rattle.net_certificate.specs.{Items.With, Items.IsWritable, declared.answer.MapAnswer.MapAnswer, declared.answer.MapAnswer.TheVariants.Found}
-use Rattle.net_certificate.specs.{Laws.FoundMapsPass}
-use Rattle.standard_map.specs.MapNumbers.{IsFound, box_vertices, entries_of, StandardTable, base_rows, images_of, map_numbers}
-use Rattle.standard_map.specs.{Laws.HaveOneList, Laws.IsTableOfIsomorphism, StandardMaps.framed_net, StandardMaps.IsWrittenBy}
-use Rattle.net_certificate.proofs.BoxLists.{box_length, box_inside, vertex_stands}
-use Rattle.net_certificate.proofs.At.{map_length, at_map, read_at}
-use Rattle.std.specs.{Prelude.unsigned_abs, Prelude.All, List.flat_map}
-use Rattle.integers.proofs.lists.Members.{IsIn, contains_from_in}
-use Rattle.integers.proofs.lists.Pieces.{all_from_in, append_left, append_right, in_map, pieces_in}
-use Rattle.sublattice.specs.Sublattices.{base_of}
-use Rattle.sublattice.proofs.CallerLemmas.{any_last}
-use Rattle.standard_map.proofs.OneTable.{first_unit, second_unit, third_unit}
-use Rattle.standard_map.proofs.{OneMap.one_list_of, Sides.same_dimension, StandardPeriods.standard_map_has_period, WrittenMaps.written_maps_pass}
+use Rattle.net_certificate.specs.declared.answer.MapAnswer.TheVariants.{Found, LongMap, WideMap}
+use Rattle.net_certificate.proofs.BoxLists.{box_length, box_inside, vertex_stands, at_map, read_at}
+use Rattle.net_certificate.specs.{Items.With, Items.IsWritable, Written.IsSideOf, Written.IsWritten, declared.answer.MapAnswer.MapAnswer}
+use Rattle.net_certificate.specs.{Laws.FoundMapsPass, Tables.AreImages}
 
 -- A map that is found, with the room that there was for it.
 
@@ -30,7 +35,7 @@ pub found_few : (G H : Graph) (g : Shape G) (h : Shape H) (room m : ℕ) (images
     → IsFound G H g h room m images rows → length images ≤ room
 found_few G H g h room m images rows ig f =
     let t = f.table in
-    let count : length images ≡ entries_of G t.m = ap length f.images_are ∙ map_length t.carry (box_vertices G t.m) ∙ box_length G t.m ig.dimension in
+    let count : length images ≡ entries_of G t.m = ap length f.images_are ∙ length-map (box_vertices G t.m) t.carry ∙ box_length G t.m ig.dimension in
     let r = f.room_for in
     omega (arith, count, r)
 
@@ -95,12 +100,11 @@ module _ (G H : Graph) (g : Shape G) (h : Shape H) (ig : IsGraph G) (ih : IsGrap
   l = one_list_of G H g h ig ih t.carry t.standard
 
   -- the period is at most the number of vertices of the second graph
-  period_small : t.m ≤ H.vertices
-  period_small =
+  period_within : t.m ≤ H.vertices
+  period_within =
       let p = standard_map_has_period G H (framed_net G g t.standard.start t.standard.frame)
       (framed_net H h t.standard.start' t.standard.frame') t.carry l t.standard.carries in
-      let a = t.period.least p.0 p.1 p.2.periodic in
-      let b = p.3 in
+      let a = t.period.least p.0 p.1 p.2.periodic in let b = p.3 in
       omega (arith, a, b)
 
   -- the nets have one dimension
@@ -110,8 +114,7 @@ module _ (G H : Graph) (g : Shape G) (h : Shape H) (ig : IsGraph G) (ih : IsGrap
   -- an image is a vertex of the second net
   images_in : (x : Vertex) → IsIn (images_of G H g h t) x → IsVertex H x
   images_in x i =
-      let w = in_map t.carry (box_vertices G t.m) x i in
-      let b = box_inside G t.m ig.dimension w.0 w.1 in
+      let w = in_map t.carry (box_vertices G t.m) x i in let b = box_inside G t.m ig.dimension w.0 w.1 in
       subst (IsVertex H) w.2 (t.standard.carries.into w.0 (record { over = b.over; cell = b.box.dimension }))
 
   module _ (room m : ℕ) (images : List Vertex) (rows : List Vector) (n : H.vertices ≤ most_vertices) (period : m ≡ t.m)
@@ -143,8 +146,8 @@ module _ (G H : Graph) (g : Shape G) (h : Shape H) (ig : IsGraph G) (ih : IsGrap
         }
 
     -- the table of what is found
-    written : IsWrittenBy G H t.carry (table_for G m images rows)
-    written =
+    table_written : IsWrittenBy G H t.carry (table_for G m images rows)
+    table_written =
         let base = λ (k : Vector) (d : HasDimension G.dimension k). ap (λ (rs : List Vector). base_sum (base_of rs) k) rows_are
         ∙ rows_base G.dimension t.shifts k ig.dimension d in
         let p = t.period.periodic in
@@ -171,7 +174,7 @@ module _ (G H : Graph) (g : Shape G) (h : Shape H) (ig : IsGraph G) (ih : IsGrap
     isomorphism : IsTableOfIsomorphism G H t.carry (table_for G m images rows)
     isomorphism =
         written_maps_pass G H (framed_net G g t.standard.start t.standard.frame) (framed_net H h t.standard.start' t.standard.frame') t.carry
-        (table_for G m images rows) l t.standard.carries written
+        (table_for G m images rows) l t.standard.carries table_written
 
     -- a row is one that can be checked
     row_suits : (r : Vector) → IsIn rows r → IsShift H.dimension r
@@ -190,8 +193,8 @@ module _ (G H : Graph) (g : Shape G) (h : Shape H) (ig : IsGraph G) (ih : IsGrap
     passes = record {
       suits = record {
         period_from = subst (λ (n : ℕ). 1 ≤ n) (sym period) t.period.periodic.positive;
-        period_to = let s = period_small in omega (arith, s, n, period);
-        count = ap length images_are ∙ map_length t.carry (box_vertices G t.m) ∙ box_length G t.m ig.dimension ∙ ap (entries_of G) (sym period);
+        period_to = let s = period_within in omega (arith, s, n, period);
+        count = ap length images_are ∙ length-map (box_vertices G t.m) t.carry ∙ box_length G t.m ig.dimension ∙ ap (entries_of G) (sym period);
         few = few;
         each_image = all_from_in (IsImage H.dimension H.vertices) images image_suits;
         rows_count = ap length rows_are ∙ rows_count G.dimension t.shifts ig.dimension;
@@ -206,3 +209,178 @@ module _ (G H : Graph) (g : Shape G) (h : Shape H) (ig : IsGraph G) (ih : IsGrap
 pub found_maps_pass : FoundMapsPass
 found_maps_pass G H g h room m images rows ig ih n f few =
     passes G H g h ig ih f.table room m images rows n f.period f.images_are f.rows_are f.within few
+
+-- the third number of a list is the least scale
+pub scale_told : (K : ClassGraph) (c : ℕ) (frame : List ClassArc) (xs : List _) (q : ℕ) → IsListOf K c frame xs → q ≡ unsigned_abs (get_or xs 2 (pos 0))
+    → IsLeastScale K (axes_of frame) q
+scale_told K c frame xs q l h = subst (IsLeastScale K (axes_of frame)) (sym (h ∙ ap (λ ys. unsigned_abs (get_or ys 2 (pos 0))) l.list)) l.scale
+
+-- a side of a net, written out
+abbrev written : KeyedNet → NetSide → NetSide
+written n S = net_side n.placed S.origin S.frame S.scale
+
+written_is : (n : KeyedNet) (S : NetSide) → S.net ≡ n.placed → written n S ≡ S
+written_is n S e = λ i. net_side (sym e i) S.origin S.frame S.scale
+
+-- each arc has a part
+pub side_parts : (n : KeyedNet) (k : IsKeyed n) (S : NetSide) → IsSideOf n S → HaveParts S
+side_parts n k S s =
+    subst HaveParts (written_is n S s.net)
+    (arc_part (written n S) (framed_net n.placed.graph (shape_of n k) s.start S.frame)
+    (record { placement = refl; frame = refl; origin = s.origin; scale = s.scale }))
+
+module _ (a b : KeyedNet) (ka : IsKeyed a) (kb : IsKeyed b) (S T : NetSide) (s : IsSideOf a S) (t : IsSideOf b T) (e : a.key ≡ b.key) where
+  abbrev G : Graph
+  G = a.placed.graph
+
+  abbrev H : Graph
+  H = b.placed.graph
+
+  -- the sides, written out, have one key
+  abbrev written_key : HaveOneKey (written a S) (written b T)
+  written_key = record {
+    here = framed_net a.placed.graph (shape_of a ka) s.start S.frame;
+    there = framed_net b.placed.graph (shape_of b kb) t.start T.frame;
+    same_here = record { placement = refl; frame = refl; origin = s.origin; scale = s.scale };
+    same_there = record { placement = refl; frame = refl; origin = t.origin; scale = t.scale };
+    one_list = record {
+      here = ka.is_graph;
+      there = kb.is_graph;
+      list = a.key;
+      pair_here = s.pair.pair;
+      pair_there = subst (λ xs. IsPairOf b.classes.classes xs t.start T.frame) (sym e) t.pair.pair;
+    };
+    scale = s.scale_is ∙ ap (λ xs. unsigned_abs (get_or xs 2 (pos 0))) e ∙ sym t.scale_is;
+  }
+
+  -- so the sides have
+  pub one_key : HaveOneKey S T
+  one_key = subst (λ N. HaveOneKey S N) (written_is b T t.net) (subst (λ M. HaveOneKey M (written b T)) (written_is a S s.net) written_key)
+
+  -- a table of their standard map
+  record TableBy (m : ℕ) (shifts : Base) : Type 0 where
+    table : StandardTable a.placed.graph b.placed.graph (shape_of a ka) (shape_of b kb)
+    by : IsStandardBy S T table.carry
+    period : table.m ≡ m
+    rows : table.shifts ≡ shifts
+
+  side_table : (C : Base) → AreImageCells S T C → (m : ℕ) (shifts : Base) → IsPeriodOf T.net.placement.denominator C m shifts → TableBy m shifts
+  side_table C c m shifts p =
+      let k = written_key in
+      let f = standard_map_exists a.placed.graph b.placed.graph k.here k.there k.one_list in
+      let by : IsStandardBy (written a S) (written b T) f.0 = record { one_key = k; standard = f.1 } in
+      let by' : IsStandardBy S T f.0 = subst (λ N. IsStandardBy S N f.0) (written_is b T t.net)
+      (subst (λ M. IsStandardBy M (written b T) f.0) (written_is a S s.net) by) in
+      let cells = subst (λ N. AreImageCells (written a S) N C) (sym (written_is b T t.net))
+      (subst (λ M. AreImageCells M T C) (sym (written_is a S s.net)) c) f.0 by in
+      let p' = subst (λ (n : PlacedNet). IsPeriodOf n.placement.denominator C m shifts) t.net p in
+      let r = cell_images_give_period a.placed.graph b.placed.graph k.here k.there f.0 C m shifts k.one_list f.1 cells.0 cells.1 p' in
+      record {
+        table = record {
+          carry = f.0;
+          standard = record {
+            key = a.key;
+            start = s.start;
+            frame = S.frame;
+            start' = t.start;
+            frame' = T.frame;
+            here = record { least_list = ka.key; pair = s.pair };
+            there = record {
+              least_list = subst (IsLeastList b.classes.classes) (sym e) kb.key;
+              pair = subst (λ xs. IsLeastPair b.classes.classes xs t.start T.frame) (sym e) t.pair;
+            };
+            carries = f.1;
+          };
+          m = m;
+          shifts = shifts;
+          period = r.0;
+        };
+        by = by';
+        period = refl;
+        rows = refl;
+      }
+
+  module _ (C : Base) (c : AreImageCells S T C) (m : ℕ) (shifts : Base) (p : IsPeriodOf T.net.placement.denominator C m shifts) (room n : ℕ)
+      (count : n ≡ S.net.graph.vertices * box_size S.net.graph.dimension m) where
+    -- the number of the images
+    count_is : (d : TableBy m shifts) → n ≡ entries_of a.placed.graph d.table.m
+    count_is d =
+        count ∙ ap (λ (q : PlacedNet). q.graph.vertices * box_size q.graph.dimension m) s.net
+        ∙ ap (λ k. a.placed.graph.vertices * k) (box_is_power a.placed.graph.dimension m ka.is_graph.dimension) ∙ ap (entries_of a.placed.graph) (sym d.period)
+
+    -- the images
+    images_is : (d : TableBy m shifts) (images : List Vertex) → AreImages S T m images
+        → images ≡ images_of a.placed.graph b.placed.graph (shape_of a ka) (shape_of b kb) d.table
+    images_is d images i =
+        i d.table.carry d.by ∙ ap (λ (q : PlacedNet). map d.table.carry (box_vertices q.graph m)) s.net
+        ∙ ap (λ k. map d.table.carry (box_vertices a.placed.graph k)) (sym d.period)
+
+    -- the rows
+    rows_is : (d : TableBy m shifts) (rows : List Vector) → rows ≡ base_rows S.net.graph.dimension shifts
+        → rows ≡ base_rows a.placed.graph.dimension d.table.shifts
+    rows_is d rows r = r ∙ ap (λ (q : PlacedNet). base_rows q.graph.dimension shifts) s.net ∙ ap (base_rows a.placed.graph.dimension) (sym d.rows)
+
+    -- a long map
+    pub long_due : room < n → IsMapAnswer a b room (LongMap n)
+    long_due l = let d = side_table C c m shifts p in record { here = ka; there = kb; by = record { table = d.table; count = count_is d; past = l } }
+
+    -- a map that there is room for
+    pub written_due : n ≤ room → (images : List Vertex) (rows : List Vector) → AreImages S T m images → rows ≡ base_rows S.net.graph.dimension shifts
+        → (answer : MapAnswer) → IsWritten S.net.graph.dimension m images rows answer → IsMapAnswer a b room answer
+    written_due l images rows i r (WideMap v) w =
+        let d = side_table C c m shifts p in let is = images_is d images i in let rs = rows_is d rows r in
+        record {
+          here = ka;
+          there = kb;
+          by = record {
+            table = d.table;
+            room_for = subst (λ k. k ≤ room) (count_is d) l;
+            first = subst (λ (xs : List ℤ). IsFirstPast most_part xs v) (λ j. map_numbers (s.net j).graph.dimension (is j) (rs j)) w;
+          };
+        }
+    written_due l images rows i r (Found f) w =
+        let d = side_table C c m shifts p in let is = images_is d images i in let rs = rows_is d rows r in
+        record {
+          here = ka;
+          there = kb;
+          by = record {
+            table = d.table;
+            room_for = subst (λ k. k ≤ room) (count_is d) l;
+            period = w.0 ∙ sym d.period;
+            images_are = w.1 ∙ is;
+            rows_are = w.2 ∙ rs;
+            within = subst (All (λ x. unsigned_abs x ≤ most_part)) (λ j. map_numbers (s.net j).graph.dimension (sym w.1 j) (sym w.2 j)) w.3;
+          };
+        }
+    written_due l images rows i r answer w = absurd w
+
+-- an answer passes
+pub passes_due : (a b : KeyedNet) (room : ℕ) (answer : MapAnswer) → IsMapAnswer a b room answer → b.placed.graph.vertices ≤ most_vertices
+    → PassesIfFound a.placed.graph b.placed.graph answer
+passes_due a b room (Found f) m n = λ few.
+    found_maps_pass a.placed.graph b.placed.graph (shape_of a m.here) (shape_of b m.there) room f.m f.images f.base m.here.is_graph m.there.is_graph n m.by few
+passes_due a b room answer m n = tt
+
+-- the least period is within the limit
+pub period_small : (S T : NetSide) → HaveOneKey S T → (C : Base) → AreImageCells S T C → (m : ℕ) (shifts : Base)
+    → IsPeriodOf T.net.placement.denominator C m shifts
+    → (1 ≤ m) × (m ≤ T.net.graph.vertices)
+period_small S T k C c m shifts p =
+    let f = standard_map_exists S.net.graph T.net.graph k.here k.there k.one_list in
+    let cells = c f.0 (record { one_key = k; standard = f.1 }) in let q = sym k.same_there.placement in
+    let r = cell_images_give_period S.net.graph T.net.graph k.here k.there f.0 C m shifts k.one_list f.1
+    (subst (λ (t : Placement). AreCellImages S.net.graph T.net.graph t f.0 C) q cells.0) cells.1
+    (subst (λ (t : Placement). IsPeriodOf t.denominator C m shifts) q p) in
+    (r.0.periodic.positive, le_of_dvd k.one_list.there.vertices r.1)
+
+pub period_limit : (S T : NetSide) → HaveOneKey S T → (C : Base) → AreImageCells S T C → (m : ℕ) (shifts : Base)
+    → IsPeriodOf T.net.placement.denominator C m shifts
+    → (H : Graph) → H ≡ T.net.graph → IsSmall H → m ≤ most_period
+period_limit S T k C c m shifts p H e h =
+    let a = (period_small S T k C c m shifts p).1 in let b = h.vertices in
+    let f = ap (λ (G : Graph). G.vertices) e in
+    omega (arith, a, b, f)
+
+-- what an answer gives, where there is one
+pub if_ok : {X E : Type 0} (P Q : X → Type 0) → ((x : X) → P x → Q x) → (r : Result X E) → IfOk r P → IfOk r Q
+if_ok P Q k r l = search arith

@@ -1,19 +1,9 @@
-mod OneVerdict
-pub mod At
 pub mod BoxLists
 pub mod CallerLemmas
 pub mod FirstWide
-pub mod FormedWalks
 pub mod FoundMaps
-pub mod GraphReads
-pub mod MoreItems
 pub mod OneAnswer
-pub mod Pairs
 pub mod Places
 pub mod RowForms
-pub mod SideTables
-pub mod StageRows
-pub mod Standing
 pub mod Walks
 pub mod WholeTexts
-pub mod Written

@@ -1,25 +1,24 @@
--- The keys that are reported decide whether nets are isomorphic.
-use Rattle.std.proofs.Common.{◌≡◌, sym, ap, subst, ℕ, suc, ◌+◌, zero, ◌<◌, ℤ, List, [], ◌∷◌, length, Some, arith}
-use Rattle.std.proofs.lemmas.{Bool.true≢false, List.Elements.All-contains}
+-- The keys that are reported decide whether nets are isomorphic. A block whose graph is certain is accepted.
+use Rattle.std.proofs.Common.{◌≡◌, sym, ap, subst, ℕ, suc, ◌+◌, zero, ◌<◌, ℤ, List, [], ◌∷◌, length, Some, arith, ◌≢◌, ◌∙◌, Bool, true, false, refl}
+use Rattle.std.proofs.lemmas.List.Elements.{All-contains, All-head, All-tail}
 use Rattle.std.specs.Prelude.{◌↔◌, is_some, slice_index_or, unwrap_or}
-use Rattle.std.specs.List.{All}
-use Rattle.periodic_net.specs.{Graph.Graph, Graph.IsGraph, Maps.Iso}
-use Rattle.periodic_net.proofs.CallerLemmas.{iso_symmetric, iso_transitive}
-use Rattle.key_theory.specs.Key.{IsKeyOf}
-use Rattle.key_theory.proofs.CallerLemmas.{keys_decide}
-use Rattle.cgd_read.specs.Graphs.{graph_of}
-use Rattle.cgd_read.specs.Views.{RawView, BodyView, Net, BlockView}
-use Rattle.quotient_graph.specs.Stars.{IsInOrder}
-use Rattle.least_key.specs.{AnyNets.net_view, KeyedNets.KeyedNet, KeyedNets.IsKeyed}
-use Rattle.least_key.proofs.CallerLemmas.{key_of_graph, nets_decide}
+use Rattle.std.{proofs.lemmas.Bool.true≢false, specs.List.All}
+use Rattle.periodic_net.{specs.Graph.Graph, specs.Graph.IsGraph, specs.Maps.Iso, proofs.CallerLemmas.iso_symmetric, proofs.CallerLemmas.iso_transitive}
+use Rattle.key_theory.{specs.Key.IsKeyOf, proofs.CallerLemmas.keys_decide}
+use Rattle.cgd_read.specs.Views.{RawView, BodyView, Net, BlockView, raw_view, body_view, views}
+use Rattle.cgd_read.specs.{Graphs.graph_of, Blocks.IsReadBody, declared.block.Block.Block, declared.block.Body.Body}
+use Rattle.quotient_graph.{specs.Stars.IsInOrder, proofs.CallerLemmas.in_order_iso}
+use Rattle.least_key.proofs.CallerLemmas.{key_of_graph, nets_decide, certain_is_not_refused}
+use Rattle.least_key.specs.{AnyNets.net_view, Certain.IsCertain, KeyedNets.KeyedNet, KeyedNets.IsKeyed}
 use Rattle.archive_text.specs.Entries.{EntryView}
-use Rattle.net_archive.specs.Archives.{IsEntry}
-use Rattle.net_report.specs.declared.{outcome.Outcome.Outcome, outcome.OutcomeBody.OutcomeBody, outcome.OutcomeBody.TheVariants.Keyed}
-use Rattle.net_report.specs.declared.{outcome.OutcomeBody.TheVariants.Identified, command.Command.Command, command.Command.TheVariants.Key}
-use Rattle.net_report.specs.declared.{command.Command.TheVariants.Identify}
-use Rattle.net_outcomes.specs.Deciding.{HasKeyAt, IsBlockAt, KeysDecideBlocks, KeysDecideEntries, key_told}
-use Rattle.net_outcomes.specs.Outcomes.{IsBodyOf, AreOutcomesFrom}
-use Rattle.quotient_graph.proofs.CallerLemmas.{in_order_iso}
+use Rattle.net_archive.{specs.Archives.IsEntry, proofs.CallerLemmas.keys_decide_archive}
+use Rattle.net_report.specs.declared.outcome.OutcomeBody.TheVariants.{Keyed, Identified, Refused, Checked, Located, Lines}
+use Rattle.net_report.specs.declared.command.Command.TheVariants.{Key, Identify, Components}
+use Rattle.net_report.specs.declared.{outcome.Outcome.Outcome, command.Command.Command, outcome.OutcomeBody.OutcomeBody}
+use Rattle.net_outcomes.specs.Deciding.{HasKeyAt, IsBlockAt, KeysDecideBlocks, KeysDecideEntries, key_told, AreOutcomes}
+use Rattle.net_outcomes.specs.Outcomes.{IsBodyOf, AreOutcomesFrom, IsRefusedAs, MayTell, is_accepted_body}
+use Rattle.net_outcomes.proofs.NetOutcomes.{is_graph_in}
+use Rattle.cgd_read.specs.declared.block.Body.TheVariants as read
 
 -- what decides of graphs in memory decides of the graphs that were read
 read_decide : (G H G' H' : Graph) (P : Type 0) → IsInOrder G H → IsInOrder G' H' → P ↔ Iso H H' → P ↔ Iso G G'
@@ -91,8 +90,7 @@ module _ (entries : List EntryView) (command : Command) (bs : List BlockView) (o
   -- the keys of two blocks decide
   pub keys_decide_blocks : KeysDecideBlocks bs os
   keys_decide_blocks i j raw raw' xs ys k l =
-      let a = keyed_at i raw xs k in
-      let b = keyed_at j raw' ys l in
+      let a = keyed_at i raw xs k in let b = keyed_at j raw' ys l in
       let nets : (a.net.key ≡ b.net.key) ↔ Iso a.graph b.graph = subst (λ (H : Graph). (a.net.key ≡ b.net.key) ↔ Iso a.graph H) b.net_is
       (subst (λ (G : Graph). (a.net.key ≡ b.net.key) ↔ Iso G b.net.placed.graph) a.net_is (nets_decide a.net b.net a.keyed b.keyed)) in
       let keys : (xs ≡ ys) ↔ Iso a.graph b.graph = subst (λ (y : List ℤ). (xs ≡ y) ↔ Iso a.graph b.graph) b.key
@@ -102,8 +100,7 @@ module _ (entries : List EntryView) (command : Command) (bs : List BlockView) (o
   -- and those of a block and of an entry
   pub keys_decide_entries : All IsEntry entries → KeysDecideEntries entries bs os
   keys_decide_entries good i raw xs e k there =
-      let a = keyed_at i raw xs k in
-      let entry = All-contains IsEntry entries e good there in
+      let a = keyed_at i raw xs k in let entry = All-contains IsEntry entries e good there in
       let key = subst (λ (x : List ℤ). IsKeyOf a.graph x) a.key (subst (λ (G : Graph). IsKeyOf G a.net.key) a.net_is (key_of_graph a.net a.keyed)) in
       let g = subst IsGraph a.net_is a.keyed.is_graph in
       let keys = keys_decide a.graph e.graph xs e.key g entry.is_graph key entry.key in
@@ -111,3 +108,66 @@ module _ (entries : List EntryView) (command : Command) (bs : List BlockView) (o
         (λ p. iso_transitive (graph_of raw) a.graph e.graph o (keys.0 p)),
         (λ q. keys.1 (iso_transitive a.graph (graph_of raw) e.graph (iso_symmetric (graph_of raw) a.graph o) q)),
       )
+
+-- a refusal of a certain graph is none
+certain_not_refused : (command : Command) (raw : RawView) (size : _) (names : List (List ℕ)) (refusal : _) → IsGraph (graph_of raw)
+    → IsRefusedAs command raw size names refusal
+    → ((G : Graph) → IsInOrder (graph_of raw) G → IsCertain G) → ⊥
+certain_not_refused command raw size names refusal g h certain =
+    let is_graph = is_graph_in raw h.graph g h.read.in_order in
+    let none = certain_is_not_refused h.graph refusal is_graph (certain h.graph h.read.in_order) h.is_true in
+    subst (MayTell command) none h.may
+
+-- so what is reported of a certain graph accepts it, but where its components are asked for
+accepted_told : (entries : List EntryView) (command : Command) (raw : RawView) (told : OutcomeBody) → IsGraph (graph_of raw)
+    → IsBodyOf entries command (Net raw) told → command ≢ Components
+    → ((G : Graph) → IsInOrder (graph_of raw) G → IsCertain G) → is_accepted_body told ≡ true
+accepted_told entries command raw (Refused size names refusal) g h other certain = absurd (certain_not_refused command raw size names refusal g h certain)
+accepted_told entries command raw (Checked size) g h other certain = refl
+accepted_told entries command raw (Located size names placed) g h other certain = refl
+accepted_told entries command raw (Keyed size net) g h other certain = refl
+accepted_told entries command raw (Identified size vertices net shells names) g h other certain = refl
+accepted_told entries Components raw (Lines size lines) g h other certain = absurd (other refl)
+accepted_told entries command raw told g h other certain = absurd h
+
+-- each block that is a net is a graph
+abbrev pub AreGraphs : List BlockView → Type 0
+AreGraphs blocks = (i : ℕ) (block : BlockView) (raw : RawView) → i < length blocks → slice_index_or blocks i block ≡ block → block.body ≡ Net raw
+    → IsGraph (graph_of raw)
+
+-- outcomes of the blocks that were read, beside the entries of an archive, decide
+pub outcomes_decide : (entries : List EntryView) (command : Command) (blocks : List BlockView) (outcomes : List Outcome)
+    → AreOutcomesFrom entries command 1 blocks outcomes → All IsEntry entries → AreGraphs blocks
+    → AreOutcomes command entries blocks outcomes
+outcomes_decide entries command blocks outcomes h good graphs = record {
+  each = h;
+  keys = keys_decide_blocks entries command blocks outcomes h;
+  entry_keys = keys_decide_entries entries command blocks outcomes h good;
+  archive_keys = keys_decide_archive entries good;
+  certain = λ other i block outcome raw at is certain.
+      accepted_told entries command raw outcome.body (graphs i block raw at.inside at.block_is is)
+      (told_at entries command blocks outcomes h i block outcome raw at is) other certain;
+}
+
+-- the net of a body, or this one where it is none
+abbrev raw_or : RawView → BodyView → RawView
+raw_or r (Net raw) = raw
+raw_or r x = r
+
+-- whether a body is a net
+abbrev is_net : BodyView → Bool
+is_net (Net raw) = true
+is_net x = false
+
+-- what is read of a block that is a net is a graph
+read_graph : (body : Body) (raw : RawView) → IsReadBody body → body_view body ≡ Net raw → IsGraph (graph_of raw)
+read_graph (read.Graph own) raw h e = subst (λ (r : RawView). IsGraph (graph_of r)) (ap (raw_or (raw_view own)) e) h.is_graph
+read_graph body raw h e = absurd (true≢false (sym (ap is_net e)))
+
+-- so are all blocks that were read
+pub graphs_read : (found : List Block) → All (λ (b : Block). IsReadBody b.body) found → AreGraphs (views found)
+graphs_read [] h i block raw l at is = absurd (omega (arith, l))
+graphs_read (b ∷ found) h zero block raw l at is =
+    read_graph b.body raw (All-head (λ (b : Block). IsReadBody b.body) b found h) (ap (λ (x : BlockView). x.body) at ∙ is)
+graphs_read (b ∷ found) h (suc i) block raw l at is = graphs_read found (All-tail (λ (b : Block). IsReadBody b.body) b found h) i block raw
+    (omega (arith, l)) at is

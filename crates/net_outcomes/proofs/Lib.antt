@@ -1,16 +1,6 @@
 pub mod CallerLemmas
-pub mod Certain
-pub mod FaultLines
-pub mod Identified
 pub mod KeysDecideNets
 pub mod Listing
-pub mod NamedParts
-pub mod Names
 pub mod NetOutcomes
 pub mod OneOutcome
-pub mod OneTelling
-pub mod OnlyPlacement
 pub mod Printing
-pub mod RefusalLines
-pub mod ToldBlocks
-pub mod ToldParts

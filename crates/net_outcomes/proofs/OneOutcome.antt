@@ -1,33 +1,101 @@
--- What a command reports on a block is one.
-use Rattle.std.proofs.Common.{◌≡◌, ◌≢◌, inl, inr, ℕ, ◌+◌, ◌&&◌, Bool, List, [], ◌∷◌, ◌++◌, length, map, Some, refl, sym, ap, ◌∙◌, subst}
-use Rattle.std.specs.{Prelude.codes, List.list_all}
-use Rattle.periodic_net.specs.Graph.{Graph, IsConnected, IsGraph}
+-- What a command reports on a block, and on its components, is one.
+use Rattle.std.proofs.Common.{◌≡◌, ◌≢◌, ◌∙◌, ◌&&◌, inl, inr, ℕ, ◌+◌, suc, Bool, List, [], ◌∷◌, ◌++◌, length, map, get_or, drop, All, Result, Ok, Err, refl}
+use Rattle.std.proofs.Common.{sym, ap, subst, Some}
+use Rattle.std.{proofs.lemmas.List.Elements.All-head, proofs.lemmas.List.Elements.All-tail, specs.List.list_all, specs.Prelude.codes}
+use Rattle.integers.specs.Lists.{AreMatched}
+use Rattle.periodic_net.specs.Graph.{Graph, IsGraph, IsConnected}
 use Rattle.periodic_net.proofs.CallerLemmas.{split_shows_not_connected}
-use Rattle.cgd_read.specs.Graphs.{graph_of}
-use Rattle.cgd_read.specs.Views.{RawView, BodyView, Net, Other, Faulty, BlockView}
-use Rattle.quotient_graph.specs.{Splits.split_view, Stars.IsInOrder}
-use Rattle.quotient_graph.proofs.CallerLemmas.{one_in_order}
-use Rattle.net_outcomes.specs.Outcomes.{AreAcceptedInParts, AreAllAccepted, AreOutcomesFrom, IsAcceptedInParts, IsBodyOf, IsCheckedAs, IsDividedAs, IsGraphOf}
-use Rattle.net_outcomes.specs.Outcomes.{IsIdentifiedAs, IsKeyedAs, IsLocatedAs, IsOutcomeOf, IsRefusedAs, MayTell, is_accepted, is_accepted_body}
-use Rattle.net_outcomes.specs.{Told.AreComponentsTold, Deciding.key_told, Laws.OneReport}
-use Rattle.coordination.specs.Sequences.{AreSequencesOf}
-use Rattle.coordination.proofs.CallerLemmas.{one_list_of_sequences}
-use Rattle.least_key.specs.declared.refusal.Refusal.TheVariants.{Disconnected, Degenerate, NoModulus, WidePlacement, Collision, TooMuch, NoMemory}
-use Rattle.least_key.specs.{AnyNets.net_view, AnyPlacements.placed_view, KeyedNets.IsKeyed, KeyedNets.KeyedNet, Laws.TellAlike, Placings.IsPlacedAs}
-use Rattle.least_key.specs.{Truths.IsOfPlacing, Truths.IsTrueOf, declared.path.AnyPlaced.AnyPlaced, declared.refusal.Refusal.Refusal}
-use Rattle.least_key.proofs.CallerLemmas.{certain_is_not_refused, keyed_is_certain, one_net, one_placed, one_refusal, placed_is_not_refused}
-use Rattle.archive_text.specs.Entries.{EntryView}
-use Rattle.net_archive.specs.Deciding.{AreNamesOf}
+use Rattle.quotient_graph.{specs.AnyGraphs.graph_view, specs.Splits.split_view, specs.Stars.IsInOrder, proofs.CallerLemmas.one_in_order}
+use Rattle.net_components.specs.Parts.{vertex_at, root_of, AreParts, PartView, view_of}
+use Rattle.net_components.{proofs.CallerLemmas.part_graph, proofs.CallerLemmas.answer_is_one, specs.declared.parts.Part.Part}
+use Rattle.least_key.specs.declared.refusal.Refusal.TheVariants.{NoMemory, Disconnected, Degenerate}
+use Rattle.least_key.proofs.CallerLemmas.{certain_is_not_refused, keyed_is_certain, one_net, one_refusal, one_placed, placed_is_not_refused}
+use Rattle.least_key.specs.{AnyNets.net_view, AnyPlacements.placed_view, Placings.IsPlacedAs, Laws.TellAlike, KeyedNets.KeyedNet, KeyedNets.IsKeyed}
+use Rattle.least_key.specs.{Truths.IsTrueOf, Truths.IsOfPlacing, declared.net.Net.Net as AnyNet, declared.refusal.Refusal.Refusal}
+use Rattle.least_key.specs.{declared.path.AnyPlaced.AnyPlaced}
 use Rattle.net_report.specs.Headers.{fault_text, header_text, size_text, unsupported_text}
 use Rattle.net_report.specs.Primitives.{bases_text, edges_text, sizes_text}
 use Rattle.net_report.specs.Reports.{body_text, outcome_text, report_text}
 use Rattle.net_report.specs.declared.outcome.OutcomeBody.TheVariants.{Unsupported, Malformed, Refused, Checked, Located, Keyed, Identified, Lines}
 use Rattle.net_report.specs.declared.command.Command.TheVariants.{Check, Place, Key, Identify, Components}
-use Rattle.net_report.specs.{Identified.found_names_text, Identified.sequences_text, Keys.key_text, Placements.placement_text, Refusals.refused_text}
-use Rattle.net_report.specs.{declared.outcome.Outcome.Outcome, declared.outcome.OutcomeBody.OutcomeBody, declared.outcome.Size.Size}
-use Rattle.net_report.specs.{declared.command.Command.Command}
-use Rattle.net_outcomes.proofs.OneTelling.{one_telling as one_telling_of_parts}
-use Rattle.least_key.specs.declared.net.Net.{Net as AnyNet}
+use Rattle.net_report.specs.{Keys.key_text, Identified.found_names_text, Identified.sequences_text, Refusals.refused_text, Placements.placement_text}
+use Rattle.net_report.specs.{declared.command.Command.Command, declared.outcome.Outcome.Outcome, declared.outcome.OutcomeBody.OutcomeBody}
+use Rattle.net_report.specs.{declared.outcome.Size.Size}
+use Rattle.cgd_read.specs.Views.{RawView, BodyView, Net, Other, Faulty, BlockView}
+use Rattle.cgd_read.specs.Graphs.{graph_of}
+use Rattle.coordination.{specs.Sequences.AreSequencesOf, proofs.CallerLemmas.one_list_of_sequences}
+use Rattle.archive_text.specs.Entries.{EntryView}
+use Rattle.net_archive.specs.Deciding.{AreNamesOf}
+use Rattle.net_outcomes.specs.Texts.{answer_text, count_line, names_of, part_fault_text, part_line, parts_from}
+use Rattle.net_outcomes.specs.Outcomes.{is_accepted_body, AreAcceptedInParts, AreAllAccepted, AreOutcomesFrom, IsAcceptedInParts, IsBodyOf, IsCheckedAs}
+use Rattle.net_outcomes.specs.Outcomes.{IsDividedAs, IsGraphOf, IsIdentifiedAs, IsKeyedAs, IsLocatedAs, IsOutcomeOf, IsRefusedAs, MayTell, is_accepted}
+use Rattle.net_outcomes.specs.Told.{IsAnswerOf, has_key, AreComponentsTold}
+use Rattle.net_outcomes.specs.{ComponentLaws.OneTelling, Deciding.key_told, Laws.OneReport}
+
+-- a graph with its key has no refusal that is reported
+keyed_part_not_refused : (G : Graph) (n : KeyedNet) (r : Refusal) → n.placed.graph ≡ G → IsKeyed n → IsTrueOf G r → r ≡ NoMemory
+keyed_part_not_refused G n r e k h = certain_is_not_refused n.placed.graph r k.is_graph (keyed_is_certain n k) (subst (λ F. IsTrueOf F r) (sym e) h)
+
+module _ (names : List (List ℕ)) where
+  -- the answers to two parts that look alike are the same
+  one_answer : (p q : Part) (a b : Result AnyNet Refusal) → view_of p ≡ view_of q → IsGraph (graph_view p.graph) → IsAnswerOf p a → IsAnswerOf q b
+      → (has_key a ≡ has_key b) × (answer_text names p a ≡ answer_text names q b)
+  one_answer p q (Ok m) (Ok n) e g h k =
+      let graph = ap (λ (v : PartView). v.graph) e in
+      (refl, ap key_text (one_net (net_view m) (net_view n) h.1 k.1 (h.0 ∙ graph ∙ sym k.0)).key)
+  one_answer p q (Ok m) (Err r) e g h k =
+      let graph = ap (λ (v : PartView). v.graph) e in
+      absurd (k.1 (keyed_part_not_refused (graph_view p.graph) (net_view m) r h.0 h.1 (subst (λ F. IsTrueOf F r) (sym graph) k.0)))
+  one_answer p q (Err r) (Ok n) e g h k =
+      let graph = ap (λ (v : PartView). v.graph) e in
+      absurd (h.1 (keyed_part_not_refused (graph_view q.graph) (net_view n) r k.0 k.1 (subst (λ F. IsTrueOf F r) graph h.0)))
+  one_answer p q (Err r) (Err s) e g h k =
+      let graph = ap (λ (v : PartView). v.graph) e in let vertices = ap (λ (v : PartView). v.vertices) e in
+      let refusal = one_refusal (graph_view p.graph) r s g h.0 (subst (λ F. IsTrueOf F s) (sym graph) k.0) h.1 k.1 in
+      (refl, λ i. refused_text (names_of names (vertices i)) (refusal i))
+
+  -- so do the answers to lists of such parts
+  record PartsTellAlike (n : ℕ) (ps qs : List Part) (as' bs : List (Result AnyNet Refusal)) : Type 0 where
+    count : length ps ≡ length qs
+    accepted : list_all has_key as' ≡ list_all has_key bs
+    text : parts_from names n ps as' ≡ parts_from names n qs bs
+
+  alike : (n : ℕ) (ps qs : List Part) (as' bs : List (Result AnyNet Refusal)) → map view_of ps ≡ map view_of qs
+      → All (λ (p : Part). IsGraph (graph_view p.graph)) ps
+      → AreMatched IsAnswerOf ps as' → AreMatched IsAnswerOf qs bs → PartsTellAlike n ps qs as' bs
+  alike n [] [] [] [] e g h k = record { count = refl; accepted = refl; text = refl }
+  alike n [] [] [] (b ∷ bs) e g h k = absurd k
+  alike n [] (q ∷ qs) as' bs e g h k = absurd (cc)
+  alike n (p ∷ ps) [] as' bs e g h k = absurd (cc)
+  alike n (p ∷ ps) (q ∷ qs) (a ∷ as') [] e g h k = absurd k
+  alike n (p ∷ ps) (q ∷ qs) (a ∷ as') (b ∷ bs) e g h k =
+      let view : view_of p ≡ view_of q = ap (λ (vs : List PartView). get_or vs 0 (view_of p)) e in
+      let first = one_answer p q a b view (All-head (λ (p : Part). IsGraph (graph_view p.graph)) p ps g) h.0 k.0 in
+      let rest = alike (n + 1) ps qs as' bs (ap (λ (vs : List PartView). drop 1 vs) e) (All-tail (λ (p : Part). IsGraph (graph_view p.graph)) p ps g) h.1 k.1 in
+      record {
+        count = ap suc rest.count;
+        accepted = λ i. first.0 i && rest.accepted i;
+        text = λ i. (part_line n (length (view i).vertices) (view i).copies ++ first.1 i) ++ rest.text i;
+      }
+  alike n ps qs as' bs e g h k = absurd h
+
+-- the graph of each part is one
+graphs : (G : Graph) → IsGraph G → (ps : List Part) → AreParts G ps → All (λ (p : Part). IsGraph (graph_view p.graph)) ps
+graphs G g ps h k d l =
+    let p = get_or ps k d in let part = h.each k d l in
+    part_graph G g (root_of p) part.T part.stairs (vertex_at p.vertices) (graph_view p.graph) part.part
+
+-- what is reported of a graph is one
+pub one_telling_of_parts : OneTelling
+one_telling_of_parts G names x y s t g (inl a) (inl b) =
+    let r = alike names 1 a.ps b.ps a.answers b.answers (answer_is_one.parts G g a.ps b.ps a.are_parts b.are_parts)
+    (graphs G g a.ps a.are_parts) a.are_answers b.are_answers in
+    (a.all ∙ r.accepted ∙ sym b.all, a.text ∙ (λ i. count_line (r.count i) ++ r.text i) ∙ sym b.text)
+one_telling_of_parts G names x y s t g (inl a) (inr b) = absurd (b.some (answer_is_one.exclude G g a.ps b.told a.are_parts b.is_fault))
+one_telling_of_parts G names x y s t g (inr a) (inl b) = absurd (a.some (answer_is_one.exclude G g b.ps a.told b.are_parts a.is_fault))
+one_telling_of_parts G names x y s t g (inr a) (inr b) =
+    let fault = answer_is_one.fault G g a.told b.told a.is_fault b.is_fault a.some b.some in
+    (a.refused ∙ sym b.refused, a.text ∙ ap (λ f. part_fault_text names G.dimension f) fault ∙ sym b.text)
 
 -- the names of the isomorphic entries are one list
 one_list_of_names : (G : Graph) (es : List EntryView) (xs ys : List (List ℕ)) → AreNamesOf G es xs → AreNamesOf G es ys → xs ≡ ys
@@ -53,12 +121,7 @@ pub record SpeakAlike (a b : OutcomeBody) : Type 0 where
 -- where components are asked for no refusal of the whole net is reported
 none_of_components : (r : Refusal) → ¬ MayTell Components r
 none_of_components NoMemory m = m
-none_of_components (Disconnected split) m = m
-none_of_components (Degenerate split) m = m
-none_of_components (NoModulus first second third) m = m
-none_of_components (WidePlacement w) m = m
-none_of_components (Collision dim u v t) m = m
-none_of_components (TooMuch done counted) m = m
+none_of_components r m = m
 
 module _ (raw : RawView) where
   -- the graph of a block is one
@@ -76,8 +139,7 @@ module _ (raw : RawView) where
       → SpeakAlike (Refused s ms r) (Refused t ns q)
   one_refused command s t ms ns r q a b =
       let graph = same_graph s t a.graph b.graph a.read b.read in
-      let size = same_size s t a.graph b.graph a.read b.read in
-      let names = a.names_are ∙ sym b.names_are in
+      let size = same_size s t a.graph b.graph a.read b.read in let names = a.names_are ∙ sym b.names_are in
       let refusal = one_refusal a.graph r q a.read.is_graph a.is_true (subst (λ G. IsTrueOf G q) (sym graph) b.is_true) (told command r a.may)
       (told command q b.may) in
       record { text = λ i. size_text (size i) ++ refused_text (names i) (refusal i); accepted = refl; key = refl }
@@ -92,20 +154,11 @@ module _ (raw : RawView) where
       by : (r : Refusal) → IsTrueOf b.graph r → MayTell Check r → ⊥
       by (Disconnected split) h m = split_shows_not_connected b.graph (split_view split) b.read.is_graph h.1 connected
       by (Degenerate split) h m = split_shows_not_connected b.graph (split_view split) b.read.is_graph h.1 connected
-      by (NoModulus first second third) h m = m
-      by (WidePlacement w) h m = m
-      by (Collision dim u v c) h m = m
-      by (TooMuch done counted) h m = m
-      by NoMemory h m = m
+      by r h m = m
 
   place_of : (r : Refusal) → MayTell Place r → IsOfPlacing r
   place_of NoMemory m = absurd m
-  place_of (Disconnected split) m = m
-  place_of (Degenerate split) m = m
-  place_of (NoModulus first second third) m = m
-  place_of (WidePlacement w) m = m
-  place_of (Collision dim u v c) m = m
-  place_of (TooMuch done counted) m = m
+  place_of r m = m
 
   -- nor is a placed one
   located_not_refused : (s t : Size) (ms ns : List (List ℕ)) (p : AnyPlaced) (r : Refusal) → IsLocatedAs raw s ms p → ¬ IsRefusedAs Place raw t ns r
@@ -128,8 +181,7 @@ module _ (raw : RawView) where
       → SpeakAlike (Located s ms p) (Located t ns q)
   one_located s t ms ns p q a b =
       let graph = same_graph s t a.graph b.graph a.read b.read in
-      let size = same_size s t a.graph b.graph a.read b.read in
-      let names = a.names_are ∙ sym b.names_are in
+      let size = same_size s t a.graph b.graph a.read b.read in let names = a.names_are ∙ sym b.names_are in
       let placed = one_placed a.graph a.read.is_graph (placed_view p) (placed_view q) a.placed_as
       (subst (λ G. IsPlacedAs G (placed_view q)) (sym graph) b.placed_as) in
       record { text = λ i. size_text (size i) ++ placement_text (names i) (placed i); accepted = refl; key = refl }
@@ -139,8 +191,7 @@ module _ (raw : RawView) where
 
   one_keyed : (s t : Size) (m n : AnyNet) → IsKeyedAs raw s m → IsKeyedAs raw t n → SpeakAlike (Keyed s m) (Keyed t n)
   one_keyed s t m n a b =
-      let size = same_size s t a.graph b.graph a.read b.read in
-      let net = same_net s t m n a b in
+      let size = same_size s t a.graph b.graph a.read b.read in let net = same_net s t m n a b in
       record { text = λ i. size_text (size i) ++ key_text (net.key i); accepted = refl; key = ap (λ k. Some k) net.key }
 
   one_identified : (entries : List EntryView) (s t : Size) (us vs : List (List ℕ)) (m n : AnyNet) (xs ys ms ns : List (List ℕ))
@@ -149,8 +200,7 @@ module _ (raw : RawView) where
   one_identified entries s t us vs m n xs ys ms ns a b =
       let graph = same_graph s t a.keyed.graph b.keyed.graph a.keyed.read b.keyed.read in
       let size = same_size s t a.keyed.graph b.keyed.graph a.keyed.read b.keyed.read in
-      let net = same_net s t m n a.keyed b.keyed in
-      let vertices = a.vertices_are ∙ sym b.vertices_are in
+      let net = same_net s t m n a.keyed b.keyed in let vertices = a.vertices_are ∙ sym b.vertices_are in
       let shells = one_list_of_sequences a.keyed.graph a.keyed.read.is_graph xs ys a.shells_are (subst (λ G. AreSequencesOf G ys) (sym graph) b.shells_are) in
       let names = one_list_of_names a.keyed.graph entries ms ns a.names_are (subst (λ G. AreNamesOf G entries ns) (sym graph) b.names_are) in
       record {
@@ -170,8 +220,7 @@ module _ (raw : RawView) where
 
   one_divided : (s t : Size) (x y : Bool) (xs ys : List ℕ) → IsDividedAs raw s x xs → IsDividedAs raw t y ys → SpeakAlike (Lines s xs) (Lines t ys)
   one_divided s t x y xs ys a b =
-      let size = same_size s t a.graph b.graph a.read b.read in
-      let told = divided_alike s t x y xs ys a b in
+      let size = same_size s t a.graph b.graph a.read b.read in let told = divided_alike s t x y xs ys a b in
       record { text = λ i. size_text (size i) ++ told.1 i; accepted = refl; key = refl }
 
 -- what a command reports on a block is one
@@ -180,10 +229,8 @@ pub one_body : (entries : List EntryView) (command : Command) (body : BodyView) 
 one_body entries command (Other token) (Unsupported t) (Unsupported u) h k =
     record { text = λ i. unsupported_text ((h ∙ sym k) i); accepted = refl; key = refl }
 one_body entries command (Other token) (Unsupported t) b h k = absurd k
-one_body entries command (Other token) a b h k = absurd h
 one_body entries command (Faulty fault) (Malformed f) (Malformed g) h k = record { text = λ i. fault_text ((h ∙ sym k) i); accepted = refl; key = refl }
 one_body entries command (Faulty fault) (Malformed f) b h k = absurd k
-one_body entries command (Faulty fault) a b h k = absurd h
 one_body entries command (Net raw) (Refused s ms r) (Refused t ns q) h k = one_refused raw command s t ms ns r q h k
 one_body entries Check (Net raw) (Refused t ns r) (Checked s) h k = absurd (checked_not_refused raw s t ns r k h)
 one_body entries Place (Net raw) (Refused t ns r) (Located s ms p) h k = absurd (located_not_refused raw s t ms ns p r k h)
@@ -211,7 +258,7 @@ one_body entries Identify (Net raw) (Identified s us m xs ms) b h k = absurd k
 one_body entries Components (Net raw) (Lines s xs) (Lines t ys) h k = one_divided raw s t h.0 k.0 xs ys h.1 k.1
 one_body entries Components (Net raw) (Lines s xs) (Refused t ns r) h k = absurd (none_of_components r k.may)
 one_body entries Components (Net raw) (Lines s xs) b h k = absurd k
-one_body entries command (Net raw) a b h k = absurd h
+one_body entries command body a b h k = absurd h
 
 -- two lists of outcomes say the same
 pub record TellTheSame (os ps : List Outcome) : Type 0 where
@@ -223,8 +270,7 @@ pub record TellTheSame (os ps : List Outcome) : Type 0 where
 one_text : (entries : List EntryView) (command : Command) (number : ℕ) (block : BlockView) (o p : Outcome) → IsOutcomeOf entries command number block o
     → IsOutcomeOf entries command number block p → outcome_text o ≡ outcome_text p
 one_text entries command number block o p h k =
-    let n = h.number_is ∙ sym k.number_is in
-    let line = h.line ∙ sym k.line in
+    let n = h.number_is ∙ sym k.number_is in let line = h.line ∙ sym k.line in
     let name = h.name ∙ sym k.name in
     let body = (one_body entries command block.body o.body p.body h.body k.body).text in
     λ i. header_text (n i) (line i) (name i) ++ body i
@@ -233,9 +279,7 @@ one_text entries command number block o p h k =
 pub one_telling : (entries : List EntryView) (command : Command) (n : ℕ) (bs : List BlockView) (os ps : List Outcome) → AreOutcomesFrom entries command n bs os
     → AreOutcomesFrom entries command n bs ps → TellTheSame os ps
 one_telling entries command n [] [] [] h k = record { text = refl; accepted = refl; keys = refl }
-one_telling entries command n [] (o ∷ os) ps h k = absurd h
 one_telling entries command n [] [] (p ∷ ps) h k = absurd k
-one_telling entries command n (b ∷ bs) [] ps h k = absurd h
 one_telling entries command n (b ∷ bs) (o ∷ os) [] h k = absurd k
 one_telling entries command n (b ∷ bs) (o ∷ os) (p ∷ ps) h k =
     let first = one_text entries command n b o p h.0 k.0 in
@@ -246,6 +290,7 @@ one_telling entries command n (b ∷ bs) (o ∷ os) (p ∷ ps) h k =
       accepted = λ i. body.accepted i ∷ rest.accepted i;
       keys = λ i. body.key i ∷ rest.keys i;
     }
+one_telling entries command n bs os ps h k = absurd h
 
 -- whether all are accepted is known from whether each is
 all_of : (os : List Outcome) → list_all is_accepted os ≡ list_all (λ (b : Bool). b) (map is_accepted os)
@@ -258,42 +303,37 @@ all_alike os ps r = all_of os ∙ ap (list_all (λ (c : Bool). c)) r.accepted �
 -- whether a block whose components are reported was accepted is one
 one_in_parts : (entries : List EntryView) (body : BodyView) (a b : OutcomeBody) (x y : Bool) → IsBodyOf entries Components body a
     → IsBodyOf entries Components body b → IsAcceptedInParts body a x → IsAcceptedInParts body b y → x ≡ y
-one_in_parts entries (Other token) a b x y h k p q = p ∙ sym q
-one_in_parts entries (Faulty fault) a b x y h k p q = p ∙ sym q
 one_in_parts entries (Net raw) (Lines s xs) (Lines t ys) x y h k p q = (divided_alike raw s t x y xs ys p q).0
 one_in_parts entries (Net raw) (Lines s xs) (Refused t ns r) x y h k p q = absurd (none_of_components r k.may)
 one_in_parts entries (Net raw) (Lines s xs) b x y h k p q = absurd k
 one_in_parts entries (Net raw) (Refused t ns r) b x y h k p q = absurd (none_of_components r h.may)
 one_in_parts entries (Net raw) a b x y h k p q = absurd h
+one_in_parts entries body a b x y h k p q = p ∙ sym q
 
 -- so it is of each of them
 each_in_parts : (entries : List EntryView) (n : ℕ) (bs : List BlockView) (os ps : List Outcome) (xs ys : List Bool)
     → AreOutcomesFrom entries Components n bs os → AreOutcomesFrom entries Components n bs ps
     → AreAcceptedInParts bs os xs → AreAcceptedInParts bs ps ys → xs ≡ ys
 each_in_parts entries n [] [] [] [] [] h k p q = refl
-each_in_parts entries n [] [] [] [] (y ∷ ys) h k p q = absurd q
 each_in_parts entries n [] [] [] (x ∷ xs) ys h k p q = absurd p
 each_in_parts entries n [] [] (r ∷ ps) xs ys h k p q = absurd k
 each_in_parts entries n [] (o ∷ os) ps xs ys h k p q = absurd h
 each_in_parts entries n (b ∷ bs) [] ps xs ys h k p q = absurd h
 each_in_parts entries n (b ∷ bs) (o ∷ os) [] xs ys h k p q = absurd k
 each_in_parts entries n (b ∷ bs) (o ∷ os) (r ∷ ps) [] ys h k p q = absurd p
-each_in_parts entries n (b ∷ bs) (o ∷ os) (r ∷ ps) (x ∷ xs) [] h k p q = absurd q
 each_in_parts entries n (b ∷ bs) (o ∷ os) (r ∷ ps) (x ∷ xs) (y ∷ ys) h k p q =
     let first = one_in_parts entries b.body o.body r.body x y h.0.body k.0.body p.0 q.0 in
     let rest = each_in_parts entries (n + 1) bs os ps xs ys h.1 k.1 p.1 q.1 in
     λ i. first i ∷ rest i
+each_in_parts entries n bs os ps xs ys h k p q = absurd q
 
 -- and so whether all were accepted is one
 all_one : (entries : List EntryView) (command : Command) (bs : List BlockView) (os ps : List Outcome) (x y : Bool) → AreOutcomesFrom entries command 1 bs os
     → AreOutcomesFrom entries command 1 bs ps → TellTheSame os ps
     → AreAllAccepted command bs os x → AreAllAccepted command bs ps y → x ≡ y
-all_one entries Check bs os ps x y h k r p q = p ∙ all_alike os ps r ∙ sym q
-all_one entries Place bs os ps x y h k r p q = p ∙ all_alike os ps r ∙ sym q
-all_one entries Key bs os ps x y h k r p q = p ∙ all_alike os ps r ∙ sym q
-all_one entries Identify bs os ps x y h k r p q = p ∙ all_alike os ps r ∙ sym q
 all_one entries Components bs os ps x y h k r p q = p.all ∙ ap (list_all (λ (b : Bool). b))
     (each_in_parts entries 1 bs os ps p.each q.each h k p.are_each q.are_each) ∙ sym q.all
+all_one entries command bs os ps x y h k r p q = p ∙ all_alike os ps r ∙ sym q
 
 -- the report on blocks is one
 pub one_report : OneReport

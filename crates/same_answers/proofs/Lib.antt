@@ -1,7 +1,3 @@
-pub mod AcceptedNets
 pub mod CallerLemmas
-pub mod OneSameness
-pub mod OneVerification
-pub mod ShapesAlike
+pub mod Sameness
 pub mod Verified
-pub mod VerifiedTexts

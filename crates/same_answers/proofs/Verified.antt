@@ -1,27 +1,95 @@
--- The text of maps that is printed is verified when it is read again.
-use Rattle.std.proofs.Common.{◌≡◌, ℕ, ◌-◌, ◌≤◌, ◌==◌, List, [], ◌∷◌, Option, None, Some, All, length, map, refl, sym, ap, subst, ◌∙◌, arith}
-use Rattle.std.proofs.lemmas.List.Elements.{All-cons, All-nil}
+-- The text of maps that is printed is verified when it is read again; what is due to `verify` is one.
+use Rattle.std.proofs.Common.{◌≡◌, ℕ, ◌==◌, List, [], ◌∷◌, Option, None, Some, refl, sym, ap, subst, ◌∙◌, arith, All, Bool, true, false, ◌-◌, ◌≤◌}
+use Rattle.std.proofs.Common.{length, map}
+use Rattle.std.proofs.lemmas.List.Elements.{All-head, All-tail, All-cons, All-nil}
 use Rattle.periodic_net.specs.Graph.{Graph}
+use Rattle.map_check.specs.{declared.verdict.Verdict.Verdict, Conditions.most_images}
+use Rattle.net_certificate.specs.Items.{IsFormedItem, ItemView, Maps, Without, With, IsTold}
+use Rattle.net_certificate.specs.{Reading.MayStand, Reading.IsTextOf, Checks.IsChecked, Checks.Tells}
+use Rattle.net_certificate.specs.Results.{AreVerdicts, IsVerdictOf, refused_count, result_rows}
+use Rattle.net_certificate.specs.declared.{checking.CheckedMaps.CheckedMaps, answer.MapAnswer.MapAnswer}
+use Rattle.net_certificate.proofs.CallerLemmas.{texts_tell, one_verdict, no_fault, one_text, found_maps_pass, found_few}
+use Rattle.net_report.specs.declared.status.Status.TheVariants.{Done, SomeRefused, BadMap}
+use Rattle.net_report.specs.{Statuses.ending_of, declared.status.Status.Status}
 use Rattle.line_text.specs.Lines.{rows_text}
 use Rattle.cgd_read.specs.{Blocks.most_blocks, Views.BlockView}
 use Rattle.graph_rows.specs.Reading.{IsFormedGraph}
-use Rattle.least_key.specs.KeyedNets.{KeyedNet}
-use Rattle.least_key.proofs.CallerLemmas.{key_of_graph}
-use Rattle.map_check.specs.{Conditions.most_images, declared.verdict.Verdict.Verdict}
-use Rattle.net_certificate.specs.Items.{IsFormedItem, IsTold, ItemView, Maps, With, Without}
-use Rattle.net_certificate.specs.Results.{AreVerdicts, IsVerdictOf, refused_count, result_rows}
+use Rattle.least_key.{specs.KeyedNets.KeyedNet, proofs.CallerLemmas.key_of_graph}
 use Rattle.net_certificate.specs.Answers.{IsMapAnswer, IsPassing, shape_of}
-use Rattle.net_certificate.specs.declared.answer.MapAnswer.TheVariants.{Different, Found, LongMap, WideMap}
+use Rattle.net_certificate.specs.declared.answer.MapAnswer.TheVariants.{Different, Found}
 use Rattle.net_certificate.specs.NetItems.{AreItemsOf, AreMapsOf, HasItsBits, images_in, item_by}
-use Rattle.net_certificate.specs.{Reading.IsTextOf, Reading.MayStand, Checks.Tells, declared.checking.CheckedMaps.CheckedMaps}
-use Rattle.net_certificate.specs.{declared.answer.MapAnswer.MapAnswer}
-use Rattle.net_certificate.proofs.CallerLemmas.{no_fault, one_text, found_maps_pass, found_few}
-use Rattle.net_report.specs.declared.status.Status.TheVariants.{BadMap, Done, SomeRefused}
-use Rattle.net_report.specs.{Statuses.ending_of, declared.status.Status.Status}
-use Rattle.same_answers.specs.Laws.{SameIsVerified, passing, verified_text}
-use Rattle.same_answers.specs.Nets.{AreNetsOf, IsNetOf}
 use Rattle.key_theory.proofs.CallerLemmas.{has_edge}
-use Rattle.same_answers.specs.DueToVerify.{IsDueToVerify, IsTold as IsToldOf}
+use Rattle.same_answers.specs.DueToVerify.{IsBadMap, IsDueToVerify, IsTold as IsToldOf, bad_line_text}
+use Rattle.same_answers.specs.{VerifyingLaws.OneVerification, Nets.AreNetsOf, Nets.IsNetOf}
+use Rattle.same_answers.specs.Laws.{SameIsVerified, passing, verified_text}
+
+-- the verdict on an item is one
+one_of_item : (G : Graph) (item : ItemView) (v w : Option Verdict) → IsFormedItem G item → IsVerdictOf G item v → IsVerdictOf G item w → v ≡ w
+one_of_item G (Without why) None None f h k = refl
+one_of_item G (Without why) (Some v) w f h k = absurd h
+one_of_item G (With H map) None w f h k = absurd h
+one_of_item G (With H map) (Some v) (Some w) f h k =
+    ap (λ (x : Verdict). Some x) (one_verdict G H map.m map.images map.base v w f.suits.period_from h.told k.told)
+one_of_item G item v w f h k = absurd k
+
+-- the verdicts on items are one list
+one_list : (G : Graph) (items : List ItemView) (vs ws : List (Option Verdict)) → All (IsFormedItem G) items → AreVerdicts G items vs → AreVerdicts G items ws
+    → vs ≡ ws
+one_list G [] [] [] f h k = refl
+one_list G [] (v ∷ vs) ws f h k = absurd h
+one_list G (item ∷ items) [] ws f h k = absurd h
+one_list G (item ∷ items) (v ∷ vs) (w ∷ ws) f h k =
+    let first = one_of_item G item v w (All-head (IsFormedItem G) item items f) h.0 k.0 in
+    let rest = one_list G items vs ws (All-tail (IsFormedItem G) item items f) h.1 k.1 in
+    λ i. first i ∷ rest i
+one_list G items vs ws f h k = absurd k
+
+-- what is reported of maps is one
+one_telling : (maps : Option Maps) (a b : CheckedMaps) → MayStand maps → Tells maps a → Tells maps b → (a.text.items ≡ b.text.items) × (a.refused ≡ b.refused)
+one_telling maps a b l p q = search (arith, one_list)
+
+-- what is reported of a text is one
+one_checked : (bytes : List ℕ) (a b : CheckedMaps) → IsChecked bytes a → IsChecked bytes b → (a.text.items ≡ b.text.items) × (a.refused ≡ b.refused)
+one_checked bytes a b h k =
+    let same = texts_tell.one_text bytes k.maps h.maps k.is h.is in
+    one_telling h.maps a b h.is.formed h.tells (subst (λ (maps : Option Maps). Tells maps b) same k.tells)
+
+-- the maps are reported, or the first bad line is
+data WayOf (bytes : List ℕ) (s : Status) (x : List ℕ) : Type 0 where
+  Told : IsToldOf bytes s x → WayOf bytes s x
+  Bad : s ≡ BadMap → IsBadMap bytes x → WayOf bytes s x
+
+way_of : (bytes : List ℕ) (s : Status) (x : List ℕ) → IsDueToVerify bytes s x → WayOf bytes s x
+way_of bytes Done x h = Told h
+way_of bytes SomeRefused x h = Told h
+way_of bytes BadMap x h = Bad refl h
+way_of bytes s x h = absurd h
+
+-- not both
+not_bad : (bytes : List ℕ) (s : Status) (x y : List ℕ) → IsToldOf bytes s x → ¬ IsBadMap bytes y
+not_bad bytes s x y h k = texts_tell.no_fault bytes h.is.maps k.line h.is.is k.bad
+
+one_way : (bytes : List ℕ) (s t : Status) (x y : List ℕ) → WayOf bytes s x → WayOf bytes t y → (s ≡ t) × (x ≡ y)
+one_way bytes s t x y (Told h) (Told k) =
+    let one = one_checked bytes h.checked k.checked h.is k.is in
+    (h.status_is ∙ ap (λ (n : ℕ). ending_of (n == 0)) one.1 ∙ sym k.status_is, h.text_is ∙ one.0 ∙ sym k.text_is)
+one_way bytes s t x y (Told h) (Bad e k) = absurd (not_bad bytes s x y h k)
+one_way bytes s t x y (Bad e h) (Told k) = absurd (not_bad bytes t y x k h)
+one_way bytes s t x y (Bad e h) (Bad f k) = (e ∙ sym f, h.text_is ∙ ap bad_line_text (texts_tell.one_fault bytes h.line k.line h.bad k.bad) ∙ sym k.text_is)
+
+-- two answers that are due are one
+pub one_verification : OneVerification
+one_verification bytes s t x y h k = one_way bytes s t x y (way_of bytes s x h) (way_of bytes t y k)
+
+-- what was found is due, by whether no map is refused
+told_by : (b : Bool) (bytes : List ℕ) (checked : CheckedMaps) → IsChecked bytes checked → (checked.refused == 0) ≡ b
+    → IsDueToVerify bytes (ending_of b) checked.text.items
+told_by true bytes checked is e = record { checked = checked; is = is; text_is = refl; status_is = ap ending_of (sym e) }
+told_by false bytes checked is e = record { checked = checked; is = is; text_is = refl; status_is = ap ending_of (sym e) }
+
+pub is_due : (bytes : List ℕ) (status : Status) (checked : CheckedMaps) → IsChecked bytes checked → status ≡ ending_of (checked.refused == 0)
+    → IsDueToVerify bytes status checked.text.items
+is_due bytes status checked is e = subst (λ s. IsDueToVerify bytes s checked.text.items) (sym e) (told_by (checked.refused == 0) bytes checked is refl)
 
 -- the graph of a net of a block may stand in a text
 graph_formed : (block : BlockView) (net : KeyedNet) → IsNetOf block net → IsFormedGraph net.placed.graph
@@ -56,39 +124,35 @@ sound_by : (first : KeyedNet) (room : ℕ) (block : BlockView) (net : KeyedNet) 
     → IsMapAnswer first net room answer → item ≡ item_by net.placed.graph answer
     → HasItsBits item → IsSound first.placed.graph item
 sound_by first room block net Different item few is q e bits = subst (IsSound first.placed.graph) (sym e) tt
-sound_by first room block net (LongMap entries) item few is q e bits = subst (IsSound first.placed.graph) (sym e) (subst HasItsBits e bits)
-sound_by first room block net (WideMap value) item few is q e bits = subst (IsSound first.placed.graph) (sym e) (subst HasItsBits e bits)
 sound_by first room block net (Found M) item few is q e bits =
-    let G = first.placed.graph in let H = net.placed.graph in
-    let g = shape_of first q.here in
+    let G = first.placed.graph in let H = net.placed.graph in let g = shape_of first q.here in
     let h = shape_of net q.there in
     let count = found_few G H g h room M.m M.images M.base q.here.is_graph q.by in
     let pass = found_maps_pass G H g h room M.m M.images M.base q.here.is_graph q.there.is_graph is.small.vertices q.by (omega (arith, count, few)) in
     subst (IsSound G) (sym e) (graph_formed block net is, pass)
+sound_by first room block net answer item few is q e bits = subst (IsSound first.placed.graph) (sym e) (subst HasItsBits e bits)
 
 all_sound : (first : KeyedNet) (room : ℕ) (blocks : List BlockView) (nets : List KeyedNet) (items : List ItemView) → room ≤ most_images → AreNetsOf blocks nets
     → AreItemsOf first room nets items → AreSound first.placed.graph items
 all_sound first room [] [] [] few are of = tt
-all_sound first room [] [] (item ∷ items) few are of = absurd of
 all_sound first room [] (net ∷ nets) items few are of = absurd are
 all_sound first room (block ∷ blocks) [] items few are of = absurd are
-all_sound first room (block ∷ blocks) (net ∷ nets) [] few are of = absurd of
 all_sound first room (block ∷ blocks) (net ∷ nets) (item ∷ items) few are of =
     let one = of.0 in (
       sound_by first room block net one.answer item few are.0 one.is_answer one.item_is one.bits,
       all_sound first (room - images_in item) blocks nets items (omega (arith, few)) are.1 of.1,
     )
+all_sound first room blocks nets items few are of = absurd of
 
 -- there is an item for each net after the first
 as_many_items : (first : KeyedNet) (room : ℕ) (blocks : List BlockView) (nets : List KeyedNet) (items : List ItemView) → AreNetsOf blocks nets
     → AreItemsOf first room nets items → length items ≡ length blocks
 as_many_items first room [] [] [] are of = refl
-as_many_items first room [] [] (item ∷ items) are of = absurd of
 as_many_items first room [] (net ∷ nets) items are of = absurd are
 as_many_items first room (block ∷ blocks) [] items are of = absurd are
-as_many_items first room (block ∷ blocks) (net ∷ nets) [] are of = absurd of
 as_many_items first room (block ∷ blocks) (net ∷ nets) (item ∷ items) are of = let e =
     as_many_items first (room - images_in item) blocks nets items are.1 of.1 in omega (arith, e)
+as_many_items first room blocks nets items are of = absurd of
 
 -- what is sound may stand
 sound_formed : (G : Graph) (item : ItemView) → IsSound G item → IsFormedItem G item
@@ -101,18 +165,15 @@ all_formed G (item ∷ items) s = All-cons (IsFormedItem G) item items (sound_fo
 -- and its verdicts are those that pass
 sound_passes : (G : Graph) (item : ItemView) (v : Option Verdict) → IsSound G item → IsVerdictOf G item v → v ≡ passing item
 sound_passes G (Without why) None s is = refl
-sound_passes G (Without why) (Some v) s is = absurd is
-sound_passes G (With H M) None s is = absurd is
 sound_passes G (With H M) (Some v) s is = ap Some (s.1.yes v is)
+sound_passes G item v s is = absurd is
 
 all_pass : (G : Graph) (items : List ItemView) (vs : List (Option Verdict)) → AreSound G items → AreVerdicts G items vs → vs ≡ map passing items
 all_pass G [] [] s are = refl
-all_pass G [] (v ∷ vs) s are = absurd are
-all_pass G (item ∷ items) [] s are = absurd are
 all_pass G (item ∷ items) (v ∷ vs) s are =
-    let first = sound_passes G item v s.0 are.0 in
-    let rest = all_pass G items vs s.1 are.1 in
+    let first = sound_passes G item v s.0 are.0 in let rest = all_pass G items vs s.1 are.1 in
     λ i. first i ∷ rest i
+all_pass G items vs s are = absurd are
 
 none_refused : (items : List ItemView) → refused_count (map passing items) ≡ 0
 none_refused [] = refl
@@ -131,10 +192,8 @@ record AreGood (maps : Option Maps) : Type 0 where
 maps_good : (blocks : List BlockView) (nets : List KeyedNet) (maps : Option Maps) → length blocks ≤ most_blocks → AreNetsOf blocks nets → AreMapsOf nets maps
     → AreGood maps
 maps_good [] [] None few are of = record { stand = tt; sound = tt }
-maps_good [] [] (Some maps) few are of = absurd of
 maps_good [] (net ∷ nets) maps few are of = absurd are
 maps_good (block ∷ blocks) [] maps few are of = absurd are
-maps_good (block ∷ blocks) (first ∷ nets) None few are of = absurd of
 maps_good (block ∷ blocks) (first ∷ nets) (Some maps) few are of =
     let sound = subst (λ (G : Graph). AreSound G maps.items) (sym of.first_is)
     (all_sound first most_images blocks nets maps.items (omega arith) are.1 of.are_items) in
@@ -147,6 +206,7 @@ maps_good (block ∷ blocks) (first ∷ nets) (Some maps) few are of =
       };
       sound = sound;
     }
+maps_good blocks nets maps few are of = absurd of
 
 -- what is reported of them
 told_good : (maps : Option Maps) (checked : CheckedMaps) → SoundMaps maps → Tells maps checked

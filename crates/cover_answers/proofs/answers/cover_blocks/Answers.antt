@@ -1,13 +1,12 @@
 use Rattle.std.proofs.Common.{ℕ, ◌+◌, ◌&&◌, true, [], List, sym, subst}
 use Rattle.cgd_read.specs.Views.{views}
 use Rattle.net_report.specs.declared.outcome.Outcome.{Outcome}
-use Rattle.cover_answers.proofs.Listing.{AreAnsweredOn, answered_next, answered_none, answered_whole}
+use Rattle.cover_answers.proofs.OneCovering.{AreAnsweredOn, answered_next, answered_none, answered_whole}
 use Rattle.cover_answers.proofs.answers.cover_blocks.Goals as goal
 
 pub loop-block-init : goal.loop-block-init
 loop-block-init c =
-    let cell = c.args.cell.now in
-    let bs = views c.args.found.now in
+    let cell = c.args.cell.now in let bs = views c.args.found.now in
     subst (λ (text : List ℕ). AreAnsweredOn cell bs 0 1 true c.new-outcomes.result text) (sym c.new-covers.ensures.items)
     (subst (λ (os : List Outcome). AreAnsweredOn cell bs 0 1 true os []) (sym c.new-outcomes.ensures) (answered_none cell bs))
 

@@ -1,5 +1,5 @@
 use Rattle.cgd_read.specs.Views.{views}
-use Rattle.cover_answers.proofs.Listing.{AreAnsweredOn}
+use Rattle.cover_answers.proofs.OneCovering.{AreAnsweredOn}
 use Rattle.cover_answers.proofs.answers.cover_blocks.Given as goal
 
 abbrev pub invariant-loop-block : goal.invariant-loop-block

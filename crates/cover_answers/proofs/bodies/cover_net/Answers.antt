@@ -1,7 +1,7 @@
 use Rattle.std.specs.Prelude.{option_copied}
 use Rattle.cgd_read.specs.Views.{raw_view}
 use Rattle.quotient_graph.specs.AnyGraphs.{graph_view}
-use Rattle.cover_answers.proofs.CoveredBodies.{refused_net}
+use Rattle.cover_answers.proofs.OneCovering.{refused_net}
 use Rattle.cover_answers.proofs.bodies.cover_net.Goals as goal
 
 pub returns-clause-answered : goal.returns-clause-answered

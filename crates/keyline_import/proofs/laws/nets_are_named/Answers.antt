@@ -1,4 +1,4 @@
-use Rattle.keyline_import.proofs.NetNames.{nets_are_named}
+use Rattle.keyline_import.proofs.ItemLists.{nets_are_named}
 use Rattle.keyline_import.proofs.laws.nets_are_named.Goals as goal
 
 pub returns : goal.returns

@@ -1,7 +1,7 @@
 use Rattle.std.proofs.Common.{◌++◌, ◌∷◌, [], List, sym, subst}
 use Rattle.cgd_lex.specs.Lines.{rest_of_line, after_line}
 use Rattle.keyline_import.specs.{Lines.lines_in, Items.item_of, Reading.line_view, Views.AreRead, declared.item.Item.Item}
-use Rattle.keyline_import.proofs.ReadLists.{one_more}
+use Rattle.keyline_import.proofs.ItemLists.{one_more}
 use Rattle.keyline_import.proofs.read.add_item.Goals as goal
 
 pub returns-clause-added : goal.returns-clause-added

@@ -4,7 +4,7 @@ use Rattle.std.proofs.lemmas.{Grind.common_steps, List.length-append}
 use Rattle.cgd_lex.specs.Lines.{rest_of_line, after_line}
 use Rattle.keyline_import.specs.Items.{ItemView, items_from, item_of, after_end}
 use Rattle.keyline_import.specs.{Lines.LineView, Lines.lines_in, Reading.line_view, Views.AreRead, declared.item.Item.Item}
-use Rattle.keyline_import.proofs.{Decided.only_item, ItemLists.one_item, ItemLists.next_item, ReadLists.as_many, ReadLists.some_more}
+use Rattle.keyline_import.proofs.ItemLists.{only_item, one_item, next_item, as_many, some_more}
 use Rattle.keyline_import.proofs.read.items.Goals as goal
 
 pub loop-head-init : goal.loop-head-init
@@ -22,10 +22,8 @@ pub loop-head-preserved : goal.loop-head-preserved
 loop-head-preserved c =
     let i = c.loop-head.invariant in
     let line = line_view c.in-Some.head (rest_of_line c.next_head.new.lexer) in
-    let lines = lines_in (after_line c.next_head.new.lexer) in
-    let left = lines_in c.add_item.new.lexer in
-    let begins = sym c.begins_item.ensures ∙ c.if-not-begins_item.false in
-    let e = c.in_ok-add_item.ensures in
+    let lines = lines_in (after_line c.next_head.new.lexer) in let left = lines_in c.add_item.new.lexer in
+    let begins = sym c.begins_item.ensures ∙ c.if-not-begins_item.false in let e = c.in_ok-add_item.ensures in
     record {
       views = i.views ++ item_of line lines ∷ [];
       whole =

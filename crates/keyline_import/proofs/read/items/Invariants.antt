@@ -1,7 +1,6 @@
 use Rattle.std.proofs.Common.{◌≡◌, ◌≤◌, ◌++◌, List, false, length}
 use Rattle.cgd_lex.specs.Limits.{longest_text}
-use Rattle.keyline_import.specs.Items.{ItemView, items_from, items_of}
-use Rattle.keyline_import.specs.{Lines.lines_in, Views.AreRead}
+use Rattle.keyline_import.specs.{Items.ItemView, Items.items_from, Items.items_of, Lines.lines_in, Views.AreRead}
 use Rattle.keyline_import.proofs.read.items.Given as goal
 
 abbrev pub invariant-loop-head : goal.invariant-loop-head

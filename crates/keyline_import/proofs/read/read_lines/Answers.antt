@@ -2,7 +2,7 @@ use Rattle.std.proofs.Common.{[], ◌∷◌, ◌∙◌, refl, sym, ap, subst}
 use Rattle.cgd_lex.specs.Lines.{rest_of_line, after_line}
 use Rattle.keyline_import.specs.Items.{ItemView, item_after, after_end}
 use Rattle.keyline_import.specs.{Lines.lines_in, Faults.key_of, Reading.line_view, Views.IsItemRead}
-use Rattle.keyline_import.proofs.{ItemLists.first_fault, ItemLists.first_passes, KeysWithin.lines_within, KeysWithin.kept_within}
+use Rattle.keyline_import.proofs.{ItemLists.first_fault, ItemLists.first_passes, KeyGraphs.lines_within, KeyGraphs.kept_within}
 use Rattle.keyline_import.proofs.read.read_lines.Goals as goal
 
 pub returns-in-Some-clause-item : goal.returns-in-Some-clause-item

@@ -1,5 +1,5 @@
 use Rattle.std.proofs.Common.{refl}
-use Rattle.map_check.proofs.ArcSearch.{stands_there}
+use Rattle.map_check.proofs.LostArcs.{stands_there}
 use Rattle.map_check.proofs.arcs.has_arc.Goals as goal
 
 pub returns-then-stands_at : goal.returns-then-stands_at

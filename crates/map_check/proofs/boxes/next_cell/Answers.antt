@@ -1,10 +1,9 @@
 -- Of `next_cell`: what it ensures.
 use Rattle.std.proofs.Common.{ℕ, ℤ, pos, ◌≤◌, ◌≤ℤ◌, ◌+ℤ◌, ◌<ℤ◌, FitsSigned, ◌∙◌, sym, ap, subst, arith}
-use Rattle.std.specs.Int.{w64}
-use Rattle.std.proofs.lemmas.Int.{to_z-of_z}
+use Rattle.std.{specs.Int.w64, proofs.lemmas.Int.to_z-of_z}
 use Rattle.integers.specs.Vectors.{vector}
 use Rattle.periodic_net.specs.Maps.{IsInBox}
-use Rattle.map_check.proofs.NextCells.{next_in_row, next_in_layer, next_in_box, below_of_test, not_below_of_test, part_fits, part_small, sum_fits, wide}
+use Rattle.map_check.proofs.Layouts.{next_in_row, next_in_layer, next_in_box, below_of_test, not_below_of_test, part_fits, part_small, sum_fits, wide}
 use Rattle.map_check.proofs.boxes.next_cell.Goals as goal
 
 -- a part and one more fit

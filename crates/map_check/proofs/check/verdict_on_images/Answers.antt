@@ -38,8 +38,7 @@ verdict_on_degrees-requires g c =
 pub returns-in-Some : goal.returns-in-Some
 returns-in-Some g c =
     let G = c.args.g.now in let H = c.args.h.now in let m = c.args.map.now in let e = c.recall.ensures in
-    let r = c.requires in
-    let t = rw c.in-Some.is at c.in_ok-i.ensures in
+    let r = c.requires in let t = rw c.in-Some.is at c.in_ok-i.ensures in
     let u = subst (λ (xs : List Vertex). IsFirstCopy g.row.D (base_of c.args.rows.now) xs c.in-Some.i) c.as_slice.ensures t in
     let v = subst (λ (rows : List Vector). IsFirstCopy g.row.D (base_of rows) m.images c.in-Some.i) r.rows u in
     λ f d. subst (λ (fault : MapFault). IsVerdict G H (table_for G m.m m.images m.base) f (No fault)) (sym c.doubled.ensures)

@@ -1,7 +1,6 @@
 use Rattle.std.proofs.Common.{◌∙◌, ℕ, List, length, sym, subst}
 use Rattle.sublattice.specs.Sublattices.{base_of}
-use Rattle.map_check.specs.Images.{AreNumbersOf}
-use Rattle.map_check.proofs.ImageNumbers.{numbers_below, copies_found}
+use Rattle.map_check.{specs.Images.AreNumbersOf, proofs.ImageNumbers.numbers_below, proofs.ImageNumbers.copies_found}
 use Rattle.map_check.proofs.copies.first_copy.Goals as goal
 
 pub first_repeat-requires : goal.first_repeat-requires

@@ -1,7 +1,6 @@
 -- Of `image_of_end`: the clause `image`; what `place_of` and `image_in` require.
 use Rattle.std.proofs.Common.{◌≡◌, ◌<◌, ◌∙◌, ℕ, List, length, sym, subst, ap}
-use Rattle.integers.specs.{Bases.Base, Bases.base_sum, Vectors.plus}
-use Rattle.integers.proofs.vectors.Laws.{plus_dimension}
+use Rattle.integers.{specs.Bases.Base, specs.Bases.base_sum, specs.Vectors.plus, proofs.vectors.Laws.plus_dimension}
 use Rattle.periodic_net.specs.{Graph.Vertex, Graph.vertex, Maps.IsInBox}
 use Rattle.map_check.specs.{Layouts.place_of, Layouts.table_of, Images.image_at, Images.IsImageOf}
 use Rattle.map_check.proofs.Drawing.{box_of_split, image_is, place_inside}

@@ -1,14 +1,12 @@
 -- Of `first_losing_cell`: the loop over `p`; the clause `first`; what `first_place`, `image_in`, `is_kept` and `next_cell` require; that numbers fit.
 use Rattle.std.proofs.Common.{◌∙◌, ◌+◌, ◌-◌, ◌*◌, ◌^◌, ◌<◌, ℕ, List, length, sym, subst, arith}
 use Rattle.std.proofs.{Math.Nat.le_trans, lemmas.Bool.false≢true}
-use Rattle.integers.specs.Vectors.{Vector}
-use Rattle.integers.proofs.vectors.Bounds.{wider}
+use Rattle.integers.{specs.Vectors.Vector, proofs.vectors.Bounds.wider}
 use Rattle.periodic_net.specs.{Graph.Vertex, Graph.vertex, Maps.IsInBox}
 use Rattle.quotient_graph.specs.Stars.{IsArcFrom}
 use Rattle.map_check.specs.Layouts.{box_size, cell_at, table_of}
-use Rattle.map_check.specs.{Images.image_at, Images.IsImageOf, Places.KeepsArc}
 use Rattle.map_check.proofs.Drawing.{image_here, place_here, has_images}
-use Rattle.map_check.proofs.{Layouts.cell_in_box, NextCells.each_more}
+use Rattle.map_check.{specs.Images.image_at, specs.Images.IsImageOf, specs.Places.KeepsArc, proofs.Layouts.cell_in_box, proofs.Layouts.each_more}
 use Rattle.map_check.proofs.lost.first_losing_cell.Goals as goal
 
 pub first_place-first-requires-clause-over_to : goal.first_place-first-requires-clause-over_to
@@ -17,8 +15,7 @@ first_place-first-requires-clause-over_to g c = le_trans c.requires.over.1 c.rec
 pub overflow_add-first : goal.overflow_add-first
 overflow_add-first g c =
     let m = c.args.map.now in let e = c.recall.ensures in let t = c.loop-p-test.true in
-    let n = c.requires.end in
-    let l : c.loop-p.p < box_size g.row.D m.m = omega (arith, t, n) in
+    let n = c.requires.end in let l : c.loop-p.p < box_size g.row.D m.m = omega (arith, t, n) in
     let has = has_images c.args.g.now c.args.h.now g.row.D m.m m.images m.base e.parameter c.recall-2.ensures.parameter e.two_or_three c.requires.map c.args.u
     c.requires.over in
     let p = place_here g.row.D m.m m.images m.base e.two_or_three c.requires.map.period_from c.args.u c.loop-p.p l has in
@@ -29,8 +26,7 @@ overflow_add-first g c =
 pub image_in-x-requires-clause-inside : goal.image_in-x-requires-clause-inside
 image_in-x-requires-clause-inside g c =
     let m = c.args.map.now in let e = c.recall.ensures in let t = c.loop-p-test.true in
-    let n = c.requires.end in
-    let l : c.loop-p.p < box_size g.row.D m.m = omega (arith, t, n) in
+    let n = c.requires.end in let l : c.loop-p.p < box_size g.row.D m.m = omega (arith, t, n) in
     let has = has_images c.args.g.now c.args.h.now g.row.D m.m m.images m.base e.parameter c.recall-2.ensures.parameter e.two_or_three c.requires.map c.args.u
     c.requires.over in
     let p = place_here g.row.D m.m m.images m.base e.two_or_three c.requires.map.period_from c.args.u c.loop-p.p l has in
@@ -42,8 +38,7 @@ is_kept-requires g c =
     let m = c.args.map.now in let e = c.recall.ensures in let r = c.requires in let a = c.args.arc.now.arc in
     let p = c.loop-p.p in let t = c.loop-p-test.true in let n = r.end in
     let l : p < box_size g.row.D m.m = omega (arith, t, n) in
-    let table = table_of g.row.D m.m m.images m.base in
-    let cell = sym c.loop-p.invariant.cell in
+    let table = table_of g.row.D m.m m.images m.base in let cell = sym c.loop-p.invariant.cell in
     let box = subst (IsInBox g.row.D m.m) cell (cell_in_box g.row.D m.m e.two_or_three r.map.period_from p l) in
     let here = image_here g.row.D m.m m.images m.base e.two_or_three r.map.period_from c.args.u p l in
     let there = subst (λ (n : ℕ). IsImageOf g.row.D table (vertex n (cell_at g.row.D m.m p)) (image_at m.images ((c.args.u - 1) * box_size g.row.D m.m + p)))

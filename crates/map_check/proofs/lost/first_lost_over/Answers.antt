@@ -5,7 +5,7 @@ use Rattle.periodic_net.specs.Graph.{Arc, Vertex, vertex}
 use Rattle.quotient_graph.specs.Stars.{IsArcFrom}
 use Rattle.map_check.specs.{Layouts.cell_at, Layouts.vertex_at, Faults.IsFirstLostArc, Images.IsCarried}
 use Rattle.map_check.proofs.LostArcs.{all_kept, first_lost_arc, cells_more, loss_after, loss_inside}
-use Rattle.map_check.proofs.{Drawing.place_here, Drawing.has_images, NextCells.vertex_over}
+use Rattle.map_check.proofs.{Drawing.place_here, Drawing.has_images, Layouts.vertex_over}
 use Rattle.map_check.proofs.lost.first_lost_over.Goals as goal
 
 pub first_losing_cell-p-requires : goal.first_losing_cell-p-requires
@@ -63,8 +63,7 @@ returns-clause-some g c = λ f t.
     let star = c.arcs-star.result.now in let a = c.index-star-lost.result in let is = c.index-star-lost.is in
     let order = i.order in let no = c.if-end-size.false in
     let less : e < c.box_size-size.result = omega (arith, order, no) in
-    let l = subst (λ (n : ℕ). e < n) c.box_size-size.ensures.value less in
-    let loss = i.loss f t less in
+    let l = subst (λ (n : ℕ). e < n) c.box_size-size.ensures.value less in let loss = i.loss f t less in
     let w = c.vertex_of.ensures ∙ ap (λ (n : ℕ). vertex_at g.row.D m (n + e)) c.first_place.ensures.value ∙ vertex_over g.row.D m u e c.requires.over.0 l in
     let arc = first_lost_arc G H f (vertex u (cell_at g.row.D m e)) star s.each s.every s.star.rising c.loop-k.lost a (i.inside less) is
     (loss.lost a is) loss.kept in

@@ -1,7 +1,6 @@
 use Rattle.std.proofs.Common.{◌<◌, ◌≤◌, length}
 use Rattle.periodic_net.specs.{Graph.Vertex, Graph.vertex, Maps.IsDrawnBy}
-use Rattle.map_check.specs.Layouts.{cell_at, table_of}
-use Rattle.map_check.proofs.LostArcs.{IsLoss, KeepCells}
+use Rattle.map_check.{specs.Layouts.cell_at, specs.Layouts.table_of, proofs.LostArcs.IsLoss, proofs.LostArcs.KeepCells}
 use Rattle.map_check.proofs.lost.first_lost_over.Given as goal
 
 abbrev pub invariant-loop-k : goal.invariant-loop-k

@@ -1,6 +1,5 @@
 use Rattle.std.proofs.Common.{◌≡◌, ◌+ℤ◌, ◌*ℤ◌, FitsSigned, ◌∙◌, sym, arith}
-use Rattle.std.specs.Int.{w32, w128}
-use Rattle.std.proofs.lemmas.Int.{to_z-of_z}
+use Rattle.std.{specs.Int.w32, specs.Int.w128, proofs.lemmas.Int.to_z-of_z}
 use Rattle.integers.proofs.numbers.Division.{euclid_sum}
 use Rattle.map_check.proofs.naturals.divide.Goals as goal
 use Rattle.map_check.proofs.naturals.divide.Goals.{After-rem_euclid-rest}
@@ -15,6 +14,5 @@ returns-clause-same c =
     let r : FitsSigned w32 c.rem_euclid-rest.result = record { sfits = c.rem_euclid-rest.type_inv } in
     let wide_q : FitsSigned w128 c.from.result = record { sfits = c.from.type_inv } in
     let wide_r : FitsSigned w128 c.from-2.result = record { sfits = c.from-2.type_inv } in
-    let e = simp to_z-of_z at c.from.ensures in
-    let f = simp to_z-of_z at c.from-2.ensures in
+    let e = simp to_z-of_z at c.from.ensures in let f = simp to_z-of_z at c.from-2.ensures in
     simp to_z-of_z (sum_is c.before.before ∙ sym (λ i. f i +ℤ c.args.m *ℤ e i))

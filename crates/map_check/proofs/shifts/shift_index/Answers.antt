@@ -1,7 +1,6 @@
 use Rattle.std.proofs.Common.{◌^◌, ◌≤◌, ◌∙◌, ℕ, FitsSigned, sym, subst, ap, unsigned_abs}
-use Rattle.std.specs.Int.{w128}
-use Rattle.std.proofs.lemmas.Int.{to_z-of_z}
-use Rattle.map_check.proofs.Rows.{index_within}
+use Rattle.std.{specs.Int.w128, proofs.lemmas.Int.to_z-of_z}
+use Rattle.map_check.proofs.Drawing.{index_within}
 use Rattle.map_check.proofs.shifts.shift_index.Goals as goal
 
 pub returns-clause-within : goal.returns-clause-within

@@ -1,5 +1,4 @@
-use Rattle.std.proofs.Common.{◌^◌, ◌*◌, sym, subst, arith}
-use Rattle.std.proofs.lemmas.Int.{to_z-of_z}
+use Rattle.std.proofs.{Common.◌^◌, Common.◌*◌, Common.sym, Common.subst, Common.arith, lemmas.Int.to_z-of_z}
 use Rattle.integers.specs.Vectors.{times, IsWithin}
 use Rattle.integers.proofs.vectors.Bounds.{bounded_times, wider}
 use Rattle.map_check.proofs.small_rows.multiple.Goals as goal
@@ -13,8 +12,7 @@ times-requires c =
 
 pub returns-clause-within : goal.returns-clause-within
 returns-clause-within c =
-    let r = c.ranges.k in
-    let e = simp to_z-of_z at c.times.ensures in
+    let r = c.ranges.k in let e = simp to_z-of_z at c.times.ensures in
     subst (IsWithin (2 ^ 58)) (sym e)
     (wider (2 ^ 20 * 2 ^ 38) (2 ^ 58) (omega arith) (times c.args.k c.args.v.now)
     (bounded_times c.args.k c.args.v.now (2 ^ 20) (2 ^ 38) c.requires.factor c.requires.shift))

@@ -1,6 +1,5 @@
 use Rattle.std.proofs.Common.{◌^◌, ◌+◌, ◌∙◌, ap, sym, subst, arith}
-use Rattle.integers.specs.Vectors.{plus, IsWithin}
-use Rattle.integers.proofs.vectors.Bounds.{bounded_plus, wider}
+use Rattle.integers.{specs.Vectors.plus, specs.Vectors.IsWithin, proofs.vectors.Bounds.bounded_plus, proofs.vectors.Bounds.wider}
 use Rattle.map_check.proofs.small_rows.sum_of_three.Goals as goal
 
 pub returns-clause-within : goal.returns-clause-within

@@ -4,8 +4,7 @@ use Rattle.coordination.specs.Sequences.{AreSequencesOf}
 use Rattle.quotient_graph.specs.AnyGraphs.{graph_view}
 use Rattle.least_key.specs.AnyNets.{net_view}
 use Rattle.archive_text.specs.Entries.{EntryView}
-use Rattle.net_archive.specs.Adding.{IsEntryOf}
-use Rattle.net_archive.proofs.NewEntry.{entry_of_net}
+use Rattle.net_archive.{specs.Adding.IsEntryOf, proofs.NewEntry.entry_of_net}
 use Rattle.net_archive.proofs.adding.entry_of.Goals as goal
 
 pub returns-clause-is_entry : goal.returns-clause-is_entry

@@ -1,7 +1,6 @@
 use Rattle.std.proofs.Common.{◌∙◌, subst}
 use Rattle.periodic_net.specs.Graph.{Graph}
-use Rattle.net_archive.specs.Judging.{IsRefusedAt}
-use Rattle.net_archive.proofs.FirstFaults.{refused_judged}
+use Rattle.net_archive.{specs.Judging.IsRefusedAt, proofs.FirstFaults.refused_judged}
 use Rattle.net_archive.proofs.judge.check_form.Goals as goal
 
 pub check_net-shells-requires-clause-graph : goal.check_net-shells-requires-clause-graph

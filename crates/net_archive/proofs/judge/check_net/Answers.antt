@@ -1,7 +1,6 @@
 use Rattle.std.proofs.Common.{subst}
 use Rattle.periodic_net.specs.Graph.{Graph}
-use Rattle.least_key.specs.AnyNets.{net_view}
-use Rattle.least_key.proofs.CallerLemmas.{known_error}
+use Rattle.least_key.{specs.AnyNets.net_view, proofs.CallerLemmas.known_error}
 use Rattle.coordination.specs.Sequences.{AreSequencesOf}
 use Rattle.net_archive.specs.Judging.{IsJudged}
 use Rattle.net_archive.proofs.FirstFaults.{has_key, other_judged, shells_judged}

@@ -1,5 +1,4 @@
-use Rattle.std.proofs.Common.{◌≡◌, ◌<◌, ℕ}
-use Rattle.std.specs.List.{slice_get}
+use Rattle.std.{proofs.Common.◌≡◌, proofs.Common.◌<◌, proofs.Common.ℕ, specs.List.slice_get}
 use Rattle.net_archive.proofs.judge.differing_class.Given as goal
 
 abbrev pub invariant-loop-before : goal.invariant-loop-before

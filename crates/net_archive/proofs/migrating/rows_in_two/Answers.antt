@@ -1,5 +1,5 @@
 use Rattle.archive_text.specs.declared.version.Version.TheVariants.{Two}
-use Rattle.net_archive.proofs.Growth.{next_entry}
+use Rattle.net_archive.proofs.NewEntry.{next_entry}
 use Rattle.net_archive.proofs.migrating.rows_in_two.Goals as goal
 
 pub loop-entry-preserved : goal.loop-entry-preserved

@@ -1,6 +1,6 @@
 use Rattle.archive_text.specs.{Entries.entry_view, Texts.rows_before}
 use Rattle.net_archive.proofs.FirstFaults.{judged, result_both, rows_told}
-use Rattle.net_archive.proofs.{MoreEntries.are_edges, MoreEntries.one_more_entry, ReadBack.matched_error}
+use Rattle.net_archive.proofs.{NewEntry.are_edges, NewEntry.one_more_entry, OneFault.matched_error}
 use Rattle.net_archive.specs.{Causes.of_rows, Judging.IsEntryOfForm, Judging.IsJudged, Steps.AreMore, Steps.IsFaultTold}
 use Rattle.net_archive.proofs.reading.finish_entry.Goals as goal
 

@@ -1,10 +1,8 @@
-use Rattle.std.proofs.Common.{◌++◌, sym, ◌∙◌, subst}
-use Rattle.std.proofs.lemmas.Bool.{eqb-true}
+use Rattle.std.proofs.{Common.◌++◌, Common.sym, Common.◌∙◌, Common.subst, lemmas.Bool.eqb-true}
 use Rattle.line_text.specs.Lines.{rows_text}
 use Rattle.archive_text.specs.{Entries.entry_view, Texts.rows_before}
-use Rattle.net_archive.specs.Steps.{AreRead, IsFaultTold}
-use Rattle.net_archive.proofs.FirstLines.{some_text, less_after, whole_text, read_more}
-use Rattle.net_archive.proofs.ReadBack.{matched_error}
+use Rattle.net_archive.{specs.Steps.AreRead, specs.Steps.IsFaultTold, proofs.OneFault.matched_error}
+use Rattle.net_archive.proofs.Ahead.{some_text, less_after, whole_text, read_more}
 use Rattle.net_archive.proofs.reading.read_entries.Goals as goal
 
 pub returns-in_err-entry : goal.returns-in_err-entry

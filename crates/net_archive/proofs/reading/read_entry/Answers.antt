@@ -1,7 +1,7 @@
 use Rattle.std.proofs.Common.{◌++◌, ◌∙◌}
 use Rattle.line_text.specs.Lines.{rows_text}
 use Rattle.archive_text.specs.Texts.{rows_before}
-use Rattle.net_archive.proofs.FirstLines.{after_name, some_text}
+use Rattle.net_archive.proofs.Ahead.{after_name, some_text}
 use Rattle.net_archive.proofs.reading.read_entry.Goals as goal
 
 pub finish_entry-requires : goal.finish_entry-requires

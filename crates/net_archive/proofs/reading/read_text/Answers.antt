@@ -1,5 +1,4 @@
-use Rattle.net_archive.specs.Faults.{IsFaultOf}
-use Rattle.net_archive.proofs.ReadBack.{told}
+use Rattle.net_archive.{specs.Faults.IsFaultOf, proofs.OneFault.told}
 use Rattle.net_archive.proofs.reading.read_text.Goals as goal
 use Rattle.least_key.proofs.CallerLemmas.{known_error}
 

@@ -1,5 +1,5 @@
 use Rattle.std.proofs.Common.{refl, sym, ◌∙◌}
-use Rattle.net_archive.proofs.FirstLines.{no_version}
+use Rattle.net_archive.proofs.Ahead.{no_version}
 use Rattle.net_archive.proofs.reading.read_version.Goals as goal
 
 pub returns-in-None-version_of : goal.returns-in-None-version_of

@@ -1,4 +1,4 @@
-use Rattle.net_archive.proofs.RegroupedText.{next_rows}
+use Rattle.net_archive.proofs.IsoGroups.{next_rows}
 use Rattle.net_archive.proofs.regrouping.rows_of_all.Goals as goal
 
 pub loop-entry-preserved : goal.loop-entry-preserved

@@ -1,7 +1,7 @@
 use Rattle.std.proofs.Common.{◌≡◌, map, take}
 use Rattle.line_text.specs.Lines.{rows_text}
 use Rattle.archive_text.specs.Texts.{entry_lines}
-use Rattle.net_archive.proofs.RegroupedText.{lent_view}
+use Rattle.net_archive.proofs.IsoGroups.{lent_view}
 use Rattle.net_archive.proofs.regrouping.rows_of_all.Given as goal
 
 abbrev pub invariant-loop-entry : goal.invariant-loop-entry

@@ -1,8 +1,7 @@
 use Rattle.std.proofs.Common.{◌≤◌, subst}
 use Rattle.periodic_net.specs.Limits.{most_vertices}
 use Rattle.least_key.specs.KeyedNets.{KeyedNet}
-use Rattle.net_certificate.specs.Answers.{IsMapAnswer, PassesIfFound}
-use Rattle.net_certificate.proofs.SideTables.{if_ok, passes_due}
+use Rattle.net_certificate.{specs.Answers.IsMapAnswer, specs.Answers.PassesIfFound, proofs.FoundMaps.if_ok, proofs.FoundMaps.passes_due}
 use Rattle.net_certificate.proofs.certificate.answer_to.Goals as goal
 
 pub returns-clause-verified : goal.returns-clause-verified

@@ -1,7 +1,6 @@
 use Rattle.std.proofs.Common.{lit<, sym, subst}
 use Rattle.standard_map.specs.Search.{AreEnds}
-use Rattle.net_certificate.specs.{Answers.IsMapAnswer, Written.IsAnswerOf}
-use Rattle.net_certificate.proofs.SideTables.{if_ok, one_key}
+use Rattle.net_certificate.{specs.Answers.IsMapAnswer, specs.Written.IsAnswerOf, proofs.FoundMaps.if_ok, proofs.FoundMaps.one_key}
 use Rattle.net_certificate.proofs.certificate.map_of.Goals as goal
 
 pub ends-requires : goal.ends-requires

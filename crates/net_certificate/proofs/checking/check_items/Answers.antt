@@ -1,14 +1,13 @@
 -- Of `check_items`: the loop over `alloc`; what it ensures; what `push_result` requires. `item_read`, `less` and `counted` are what they share.
 use Rattle.std.proofs.Common.{◌≡◌, ◌<◌, ◌+◌, ℕ, List, Bool, length, sym, ap, ◌∙◌, arith}
 use Rattle.quotient_graph.specs.AnyGraphs.{graph_view}
-use Rattle.line_text.specs.Faults.{IfBadLine}
-use Rattle.line_text.proofs.CallerLemmas.{handed_on}
+use Rattle.line_text.{specs.Faults.IfBadLine, proofs.CallerLemmas.handed_on}
 use Rattle.net_certificate.specs.Reading.{IsBegun, IsIn, HasBadLine}
 use Rattle.net_certificate.specs.Stages.{Listed, drawing_of, with_item}
 use Rattle.net_certificate.specs.{Items.IsFormedItem, Items.item_view, Checks.AreAll, Results.is_refused, Results.one_where}
-use Rattle.net_certificate.proofs.MoreItems.{last_of, one_more, plus_none}
+use Rattle.net_certificate.proofs.WholeTexts.{last_of, one_more, plus_none}
 use Rattle.net_certificate.proofs.checking.check_items.Goals.{In_ok-item, Joined-branch, then-branch, else-branch}
-use Rattle.net_certificate.proofs.{Places.formed_in, GraphReads.of_graph, GraphReads.shorter_in}
+use Rattle.net_certificate.proofs.Places.{formed_in, of_graph, shorter_in}
 use Rattle.net_certificate.proofs.checking.check_items.Goals as goal
 
 -- where the lines stand after the item
@@ -46,10 +45,8 @@ returns-in_err-item c = λ text is.
 
 pub push_result-requires : goal.push_result-requires
 push_result-requires c =
-    let G = graph_view c.args.first.now in
-    let items = c.loop-alloc.invariant.0.items in
-    let item = item_view c.in_ok-item.item in
-    let begun = c.requires.begun in
+    let G = graph_view c.args.first.now in let items = c.loop-alloc.invariant.0.items in
+    let item = item_view c.in_ok-item.item in let begun = c.requires.begun in
     let formed = formed_in begun.0 (Listed (drawing_of G) (with_item items item)) c.read_item.new.lines
     (item_read (goal.at.push_result-requires c).In_ok-item begun.0 begun.1) in
     last_of (IsFormedItem G) items item formed.each
@@ -62,8 +59,7 @@ loop-alloc-smaller-after-branch c = less (goal.at.loop-alloc-smaller-after-branc
 
 pub loop-alloc-preserved : goal.loop-alloc-preserved
 loop-alloc-preserved c =
-    let has = c.in_ok-push_result.ensures in
-    let read = (goal.at.loop-alloc-preserved c).In_ok-item in
+    let has = c.in_ok-push_result.ensures in let read = (goal.at.loop-alloc-preserved c).In_ok-item in
     let shorter = less read in (
       one_more (graph_view c.args.first.now) c.args.lines.now c.loop-alloc.lines c.read_item.new.lines c.loop-alloc.k c.loop-alloc.text.items
           c.push_result.new.text.items c.loop-alloc.refused c.if-branch.refused (item_view c.in_ok-item.item) has.verdict c.loop-alloc.invariant.0

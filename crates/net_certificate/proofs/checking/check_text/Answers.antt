@@ -2,13 +2,11 @@
 use Rattle.std.proofs.Common.{Option, None, [], refl, sym, subst}
 use Rattle.std.specs.Prelude.{MatchOption}
 use Rattle.quotient_graph.specs.{AnyGraphs.graph_view, declared.any_graph.AnyGraph.AnyGraph}
-use Rattle.line_text.specs.{Lines.IsAt, Faults.IfBadLine}
-use Rattle.line_text.proofs.CallerLemmas.{handed_on, result_from}
+use Rattle.line_text.{specs.Lines.IsAt, specs.Faults.IfBadLine, proofs.CallerLemmas.handed_on, proofs.CallerLemmas.result_from}
 use Rattle.net_certificate.specs.Reading.{IsBegun, HasNoGraph, HasBadLine}
 use Rattle.net_certificate.specs.Stages.{Titled, Listed, drawing_of}
-use Rattle.net_certificate.specs.{Texts.most_bytes, Checks.AreAll, Checks.IsChecked}
-use Rattle.net_certificate.proofs.checking.check_text.Goals.{In-Some}
-use Rattle.net_certificate.proofs.{GraphReads.left_few, WholeTexts.text_said, MoreItems.all_checked}
+use Rattle.net_certificate.{specs.Texts.most_bytes, specs.Checks.AreAll, specs.Checks.IsChecked, proofs.checking.check_text.Goals.In-Some}
+use Rattle.net_certificate.{proofs.Places.left_few, proofs.WholeTexts.text_said, proofs.WholeTexts.all_checked}
 use Rattle.net_certificate.proofs.checking.check_text.Goals as goal
 
 begun : (c : In-Some) → IsBegun (graph_view c.in-Some.first) c.args.text.now c.read_first.new.lines
@@ -43,7 +41,6 @@ check_items-requires-clause-few c =
 
 pub returns : goal.returns
 returns c =
-    let text = c.args.text.now in
-    let G = graph_view c.in-Some.first in
+    let text = c.args.text.now in let G = graph_view c.in-Some.first in
     result_from c.check_items.result (AreAll text G c.check_items.new.lines) (IsChecked text) (IfBadLine (HasBadLine text)) (IfBadLine (HasBadLine text))
     (all_checked text G c.check_items.new.lines) (λ fault bad. bad) (c.check_items.ensures text (begun (goal.at.returns c).In-Some))

@@ -1,5 +1,5 @@
 use Rattle.std.proofs.lemmas.Result.{on_ok_weaker}
-use Rattle.net_certificate.proofs.Written.{long_written}
+use Rattle.net_certificate.proofs.WholeTexts.{long_written}
 use Rattle.net_certificate.proofs.headings.push_long.Goals as goal
 
 pub returns : goal.returns

@@ -1,8 +1,7 @@
 use Rattle.std.proofs.Common.{ℤ, ◌++◌, ap, ◌∙◌}
-use Rattle.std.proofs.lemmas.{Int.to_z-of_z, Result.on_ok_weaker}
+use Rattle.std.{proofs.lemmas.Int.to_z-of_z, proofs.lemmas.Result.on_ok_weaker, specs.Fmt.signed_decimal}
 use mir.Syntax.{w128}
-use Rattle.std.specs.Fmt.{signed_decimal}
-use Rattle.net_certificate.proofs.Written.{wide_written}
+use Rattle.net_certificate.proofs.WholeTexts.{wide_written}
 use Rattle.net_certificate.proofs.headings.push_wide.Goals as goal
 
 pub returns : goal.returns

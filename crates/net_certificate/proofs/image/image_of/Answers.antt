@@ -5,11 +5,9 @@ use Rattle.periodic_net.specs.Graph.{IsQuotientVertex, Vertex, vertex}
 use Rattle.periodic_net.specs.{Limits.most_vertices, Placement.position}
 use Rattle.quotient_graph.specs.PlacedNets.{PlacedNet}
 use Rattle.map_check.specs.Conditions.{most_period}
-use Rattle.standard_map.specs.{Ends.IsEnd, Ends.IsNear, Standing.StandsSomewhere, Turns.end_over}
-use Rattle.standard_map.proofs.CallerLemmas.{found_end}
-use Rattle.net_certificate.proofs.Standing.{image_is, image_place, some_stands}
-use Rattle.net_certificate.proofs.image.image_of.Given.{Over}
-use Rattle.net_certificate.proofs.image.image_of.Goals.{After-end_of-end, After-place_of-place}
+use Rattle.standard_map.{specs.Ends.IsEnd, specs.Ends.IsNear, specs.Standing.StandsSomewhere, specs.Turns.end_over, proofs.CallerLemmas.found_end}
+use Rattle.net_certificate.proofs.BoxLists.{image_is, image_place, some_stands}
+use Rattle.net_certificate.proofs.image.image_of.{Given.Over, Goals.After-end_of-end, Goals.After-place_of-place}
 use Rattle.net_certificate.proofs.image.image_of.Goals as goal
 
 -- the end is one, near, and over the class of the vertex

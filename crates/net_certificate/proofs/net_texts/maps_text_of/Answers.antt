@@ -1,8 +1,7 @@
 use Rattle.std.proofs.Common.{◌-◌, ◌++◌, ◌∙◌, ℕ, List, [], ◌∷◌, length, map, take, drop, sym, ap, subst}
 use Rattle.line_text.specs.Lines.{rows_text}
 use Rattle.least_key.specs.{AnyNets.net_view, KeyedNets.KeyedNet}
-use Rattle.net_certificate.specs.{Rows.title_row, NetItems.IsMapsTextOf}
-use Rattle.net_certificate.proofs.Written.{first_and_others, maps_written}
+use Rattle.net_certificate.{specs.Rows.title_row, specs.NetItems.IsMapsTextOf, proofs.WholeTexts.first_and_others, proofs.WholeTexts.maps_written}
 use Rattle.net_certificate.proofs.net_texts.maps_text_of.Goals as goal
 
 pub returns : goal.returns

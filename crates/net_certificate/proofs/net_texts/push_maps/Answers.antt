@@ -1,13 +1,11 @@
 use Rattle.std.proofs.Common.{arith, subst}
 use Rattle.least_key.specs.{AnyNets.net_view, KeyedNets.KeyedNet}
-use Rattle.net_certificate.specs.NetSteps.{IsItemLast}
-use Rattle.net_certificate.proofs.Written.{leads_on, less_room}
+use Rattle.net_certificate.{specs.NetSteps.IsItemLast, proofs.WholeTexts.leads_on, proofs.WholeTexts.less_room}
 use Rattle.net_certificate.proofs.net_texts.push_maps.Goals as goal
 
 pub loop-lender-preserved : goal.loop-lender-preserved
 loop-lender-preserved g c =
-    let first = net_view c.args.first.now in
-    let net = net_view c.net-net.result.now in
+    let first = net_view c.args.first.now in let net = net_view c.net-net.result.now in
     let l = c.loop-lender in let one = c.in_ok-room.ensures in let few = l.invariant.few in
     let lent = subst (λ (n : KeyedNet). IsItemLast first l.k l.room n c.in_ok-room.room l.text.items c.push_map.new.text.items) c.net-net.ensures one in
     record {

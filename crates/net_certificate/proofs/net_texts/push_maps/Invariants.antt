@@ -1,7 +1,7 @@
 use Rattle.std.proofs.Common.{◌≤◌, ◌+◌, drop, map}
 use Rattle.least_key.specs.AnyNets.{net_view}
 use Rattle.map_check.specs.Conditions.{most_images}
-use Rattle.net_certificate.proofs.Written.{LeadsTo}
+use Rattle.net_certificate.proofs.WholeTexts.{LeadsTo}
 use Rattle.net_certificate.proofs.net_texts.push_maps.Given as goal
 
 abbrev pub invariant-loop-lender : goal.invariant-loop-lender

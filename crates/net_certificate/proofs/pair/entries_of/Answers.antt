@@ -4,8 +4,7 @@ use mir.Syntax.{w128}
 use mir.Val.{of_z, to_z}
 use Rattle.line_text.proofs.CallerLemmas.{some_from}
 use Rattle.net_certificate.specs.{Rows.reason_text, declared.item.NoMap.TheVariants.Long}
-use Rattle.net_certificate.proofs.RowForms.{told_wide}
-use Rattle.net_certificate.proofs.Pairs.{is_long, long_digits, long_number, no_long}
+use Rattle.net_certificate.proofs.RowForms.{told_wide, is_long, long_digits, long_number, no_long}
 use Rattle.net_certificate.proofs.pair.entries_of.Goals as goal
 
 pub returns-in-Some-read_number-clause-found : goal.returns-in-Some-read_number-clause-found

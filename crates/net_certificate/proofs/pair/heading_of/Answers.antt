@@ -1,5 +1,5 @@
 use Rattle.std.proofs.{Common.sym, Common.◌∙◌, lemmas.Bool.true≢false, lemmas.Option.none-some}
-use Rattle.net_certificate.proofs.Pairs.{map_is, map_told, heading_told, no_heading}
+use Rattle.net_certificate.proofs.RowForms.{map_is, map_told, heading_told, no_heading}
 use Rattle.net_certificate.proofs.pair.heading_of.Goals as goal
 
 pub returns-then-is_word-clause-found : goal.returns-then-is_word-clause-found

@@ -1,9 +1,7 @@
-use Rattle.std.proofs.Common.{sym, ◌∙◌, arith}
-use Rattle.std.proofs.lemmas.Option.{none-some}
+use Rattle.std.proofs.{Common.sym, Common.◌∙◌, Common.arith, lemmas.Option.none-some}
 use Rattle.line_text.proofs.CallerLemmas.{none_from}
-use Rattle.net_certificate.specs.Rows.{row_line}
-use Rattle.net_certificate.specs.Pairs.{heading_text, heading_row, NoPair}
-use Rattle.net_certificate.proofs.Pairs.{heading_left, heading_line, heading_none}
+use Rattle.net_certificate.specs.{Rows.row_line, Pairs.heading_text, Pairs.heading_row, Pairs.NoPair}
+use Rattle.net_certificate.proofs.RowForms.{heading_left, heading_line, heading_none}
 use Rattle.net_certificate.proofs.pair.next_heading.Goals as goal
 
 pub returns-in-Some-after_pair-clause-none : goal.returns-in-Some-after_pair-clause-none

@@ -2,7 +2,7 @@ use Rattle.std.proofs.Common.{Some, sym, ap, ◌∙◌}
 use Rattle.std.proofs.lemmas.{Int.to_z-of_z, Bool.true≢false, Option.none-some}
 use mir.Syntax.{w128}
 use Rattle.net_certificate.specs.declared.item.NoMap.TheVariants.{Different, Long, Wide}
-use Rattle.net_certificate.proofs.Pairs.{is_different, reason_told, no_reason_at}
+use Rattle.net_certificate.proofs.RowForms.{is_different, reason_told, no_reason_at}
 use Rattle.net_certificate.proofs.pair.reason_of.Goals as goal
 
 pub returns-then-is_word-clause-found : goal.returns-then-is_word-clause-found

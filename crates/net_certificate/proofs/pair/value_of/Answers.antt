@@ -1,8 +1,7 @@
-use Rattle.std.proofs.Common.{◌≡◌, ℤ}
+use Rattle.std.{proofs.Common.◌≡◌, proofs.Common.ℤ, specs.Fmt.signed_decimal}
 use Rattle.line_text.proofs.CallerLemmas.{some_from}
-use Rattle.std.specs.Fmt.{signed_decimal}
 use Rattle.net_certificate.specs.{Rows.reason_text, declared.item.NoMap.TheVariants.Wide}
-use Rattle.net_certificate.proofs.Pairs.{is_wide, wide_digits, no_wide}
+use Rattle.net_certificate.proofs.RowForms.{is_wide, wide_digits, no_wide}
 use Rattle.net_certificate.proofs.pair.value_of.Goals as goal
 
 pub returns-in-Some-clause-found : goal.returns-in-Some-clause-found

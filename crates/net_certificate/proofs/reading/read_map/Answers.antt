@@ -1,13 +1,11 @@
 -- Of `read_map`: what it ensures. `begun` says where the lines stand after the period.
 use Rattle.std.proofs.Common.{◌≡◌, ℕ, List, [], ◌∷◌, ◌++◌, length}
 use Rattle.periodic_net.specs.Graph.{Arc}
-use Rattle.line_text.specs.Lines.{IsAt}
-use Rattle.line_text.proofs.CallerLemmas.{at_some, handed_on}
+use Rattle.line_text.{specs.Lines.IsAt, proofs.CallerLemmas.at_some, proofs.CallerLemmas.handed_on}
 use Rattle.net_certificate.specs.Reading.{IsIn, HasMap, HasBadLine}
 use Rattle.net_certificate.specs.Stages.{Drawn, Mapped, drawing, begun_map}
 use Rattle.net_certificate.specs.{Items.ItemView, Items.IsPeriod, Rows.OfPeriod, Rows.period_row}
-use Rattle.net_certificate.proofs.Places.{row_in}
-use Rattle.net_certificate.proofs.reading.read_map.Goals.{In-Some}
+use Rattle.net_certificate.proofs.{Places.row_in, reading.read_map.Goals.In-Some}
 use Rattle.net_certificate.proofs.reading.read_map.Goals as goal
 
 begun : (c : In-Some) (text : List ℕ) (items : List ItemView) (edges others : List Arc)

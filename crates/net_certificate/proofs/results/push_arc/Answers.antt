@@ -1,7 +1,5 @@
-use Rattle.std.specs.Prelude.{codes}
-use Rattle.std.proofs.lemmas.Result.{on_ok_weaker}
-use Rattle.net_certificate.specs.ResultLines.{fault_text, site_text}
-use Rattle.net_certificate.proofs.Written.{two_written}
+use Rattle.std.{specs.Prelude.codes, proofs.lemmas.Result.on_ok_weaker}
+use Rattle.net_certificate.{specs.ResultLines.fault_text, specs.ResultLines.site_text, proofs.WholeTexts.two_written}
 use Rattle.net_certificate.proofs.results.push_arc.Goals as goal
 
 pub returns : goal.returns

@@ -1,8 +1,6 @@
-use Rattle.std.specs.Prelude.{codes}
-use Rattle.std.proofs.lemmas.Result.{on_ok_weaker}
+use Rattle.std.{specs.Prelude.codes, proofs.lemmas.Result.on_ok_weaker}
 use Rattle.line_text.specs.Numbers.{field_text}
-use Rattle.net_certificate.specs.ResultLines.{fault_text}
-use Rattle.net_certificate.proofs.Written.{two_written}
+use Rattle.net_certificate.{specs.ResultLines.fault_text, proofs.WholeTexts.two_written}
 use Rattle.net_certificate.proofs.results.push_count.Goals as goal
 
 pub returns : goal.returns

@@ -6,8 +6,7 @@ use Rattle.key_theory.specs.{Primitive.IsLeastMember, Traversal.axes_of, Travers
 use Rattle.quotient_graph.specs.{NetClasses.class_at, PlacedNets.PlacedNet}
 use Rattle.standard_map.specs.{LeastPairs.IsLeastPair, Sides.net_side}
 use Rattle.least_key.specs.KeyedNets.{KeyedNet}
-use Rattle.net_certificate.specs.Written.{IsSideOf}
-use Rattle.net_certificate.proofs.SideTables.{scale_told, side_parts}
+use Rattle.net_certificate.{specs.Written.IsSideOf, proofs.FoundMaps.scale_told, proofs.FoundMaps.side_parts}
 use Rattle.net_certificate.proofs.side.side_of.Goals as goal
 
 pub new-requires : goal.new-requires

@@ -1,10 +1,7 @@
 use Rattle.std.proofs.Common.{◌≡◌, Ok, ap, ℕ, pos, [], ◌∷◌, ◌++◌, sym, ◌∙◌, subst}
-use Rattle.std.proofs.lemmas.{Option.none-some, Bool.true≢false}
-use Rattle.std.specs.Prelude.{codes}
-use Rattle.line_text.specs.{Lines.IsAt, Numbers.row_text}
-use Rattle.line_text.proofs.CallerLemmas.{none_from, some_from}
-use Rattle.net_certificate.specs.{Rows.period_row, Steps.NoPeriod}
-use Rattle.net_certificate.proofs.RowForms.{one_wide, one_few}
+use Rattle.std.{proofs.lemmas.Option.none-some, proofs.lemmas.Bool.true≢false, specs.Prelude.codes}
+use Rattle.line_text.{specs.Lines.IsAt, specs.Numbers.row_text, proofs.CallerLemmas.none_from, proofs.CallerLemmas.some_from}
+use Rattle.net_certificate.{specs.Rows.period_row, specs.Steps.NoPeriod, proofs.RowForms.one_wide, proofs.RowForms.one_few}
 use Rattle.net_certificate.proofs.steps.next_period.Goals as goal
 
 pub returns-then-branch-clause-place : goal.returns-then-branch-clause-place

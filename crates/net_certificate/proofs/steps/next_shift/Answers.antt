@@ -1,11 +1,8 @@
 use Rattle.std.proofs.Common.{◌≡◌, Ok, ap, [], ◌∷◌, ◌++◌, sym, ◌∙◌, subst}
-use Rattle.std.proofs.lemmas.{Option.none-some, Bool.true≢false}
-use Rattle.std.specs.Prelude.{codes}
+use Rattle.std.{proofs.lemmas.Option.none-some, proofs.lemmas.Bool.true≢false, specs.Prelude.codes}
 use Rattle.integers.specs.Vectors.{Vector, parts}
-use Rattle.line_text.specs.{Lines.IsAt, Numbers.row_text}
-use Rattle.line_text.proofs.CallerLemmas.{none_from, some_from}
-use Rattle.net_certificate.specs.{Rows.base_row, Steps.NoShift}
-use Rattle.net_certificate.proofs.RowForms.{parts_few, parts_wide}
+use Rattle.line_text.{specs.Lines.IsAt, specs.Numbers.row_text, proofs.CallerLemmas.none_from, proofs.CallerLemmas.some_from}
+use Rattle.net_certificate.{specs.Rows.base_row, specs.Steps.NoShift, proofs.RowForms.parts_few, proofs.RowForms.parts_wide}
 use Rattle.net_certificate.proofs.steps.next_shift.Goals as goal
 
 pub returns-then-branch-clause-place : goal.returns-then-branch-clause-place

@@ -2,8 +2,7 @@
 use Rattle.std.proofs.Common.{◌<◌, ◌*◌, ◌^◌, [], ◌∷◌, ◌++◌, length, refl, sym, ap, ◌∙◌, subst, arith}
 use Rattle.std.proofs.lemmas.List.{length-append}
 use Rattle.periodic_net.specs.Graph.{Vertex}
-use Rattle.line_text.specs.Lines.{IsAt}
-use Rattle.line_text.proofs.CallerLemmas.{at_none, at_some}
+use Rattle.line_text.{specs.Lines.IsAt, proofs.CallerLemmas.at_none, proofs.CallerLemmas.at_some}
 use Rattle.map_check.specs.{Conditions.IsImage, Layouts.vertex_at}
 use Rattle.net_certificate.specs.Stages.{Mapped, drawing, map_with}
 use Rattle.net_certificate.specs.{Rows.OfImage, Rows.image_row, Steps.NoImage, Reading.IsIn}
@@ -25,8 +24,7 @@ returns-in_default-clause-images c = λ text items edges others is.
 pub loop-i-preserved : goal.loop-i-preserved
 loop-i-preserved c =
     let s = c.args.first.now in let t = c.args.second.now in let m = c.args.m in let x = c.in-Some.x in
-    let M = map_with m c.loop-i.images [] in
-    let w = vertex_at s.dim m c.loop-i.i in
+    let M = map_with m c.loop-i.images [] in let w = vertex_at s.dim m c.loop-i.i in
     let less : length c.loop-i.images < s.vertices * m ^ s.dim =
     omega (arith, c.loop-i.invariant.1, c.loop-i-test.true, c.image_count-i-end.ensures, c.requires.period.few) in (
       (λ text items edges others is.

@@ -1,8 +1,7 @@
 use Rattle.std.proofs.Common.{◌<◌, [], ◌∷◌, ◌++◌, length, refl, sym, ap, ◌∙◌, subst, arith}
 use Rattle.std.proofs.lemmas.List.{length-append}
 use Rattle.integers.specs.Vectors.{Vector}
-use Rattle.line_text.specs.Lines.{IsAt}
-use Rattle.line_text.proofs.CallerLemmas.{at_none, at_some}
+use Rattle.line_text.{specs.Lines.IsAt, proofs.CallerLemmas.at_none, proofs.CallerLemmas.at_some}
 use Rattle.map_check.specs.Conditions.{IsShift}
 use Rattle.net_certificate.specs.Stages.{Mapped, drawing, map_with}
 use Rattle.net_certificate.specs.{Rows.OfBase, Rows.base_row, Steps.NoShift, Reading.IsIn}
@@ -11,8 +10,7 @@ use Rattle.net_certificate.proofs.tables.read_shifts.Goals as goal
 
 pub returns-in_default-clause-shifts : goal.returns-in_default-clause-shifts
 returns-in_default-clause-shifts c = λ text items edges others m images whole is.
-    let s = c.args.first.now in let t = c.args.second.now in
-    let M = map_with m images c.loop.base in
+    let s = c.args.first.now in let t = c.args.second.now in let M = map_with m images c.loop.base in
     bad_in text (Mapped (drawing s edges) items (drawing t others) M) c.loop.lines c.number-line.result
     (c.loop.invariant.0 text items edges others m images whole is) c.number-line.ensures.number
     (no_shift (drawing s edges) items (drawing t others) M c.loop.lines.rest whole (omega (arith, c.loop.invariant.1, c.loop-test.true))

@@ -1,7 +1,6 @@
 use Rattle.std.proofs.Common.{◌≡◌, ◌*◌, ◌^◌, ℕ, List, [], length}
 use Rattle.periodic_net.specs.Graph.{Arc, Vertex}
-use Rattle.net_certificate.specs.Stages.{Mapped, drawing, map_with}
-use Rattle.net_certificate.specs.{Items.ItemView, Reading.IsIn}
+use Rattle.net_certificate.specs.{Stages.Mapped, Stages.drawing, Stages.map_with, Items.ItemView, Reading.IsIn}
 use Rattle.net_certificate.proofs.tables.read_shifts.Given as goal
 
 abbrev pub invariant-loop : goal.invariant-loop

@@ -2,15 +2,13 @@
 use Rattle.std.proofs.Common.{◌≡◌, ℕ, List, Option, None, Some, [], refl, sym, subst}
 use Rattle.std.specs.Prelude.{MatchOption}
 use Rattle.quotient_graph.specs.{AnyGraphs.graph_view, declared.any_graph.AnyGraph.AnyGraph}
-use Rattle.line_text.specs.{Lines.IsAt, Faults.IfBadLine, declared.faults.RowFault.RowFault}
-use Rattle.line_text.proofs.CallerLemmas.{bad_line_from, handed_on}
+use Rattle.line_text.{specs.Lines.IsAt, specs.Faults.IfBadLine, specs.declared.faults.RowFault.RowFault, proofs.CallerLemmas.bad_line_from}
+use Rattle.line_text.{proofs.CallerLemmas.handed_on}
 use Rattle.net_certificate.specs.Items.{Maps, item_views, maps_in}
 use Rattle.net_certificate.specs.Reading.{IsBegun, IsTextOf, HasNoGraph, HasBadLine}
 use Rattle.net_certificate.specs.Stages.{Titled, Listed, drawing_of}
-use Rattle.net_certificate.specs.{declared.item.MapsText.MapsText, Texts.most_bytes}
-use Rattle.net_certificate.proofs.GraphReads.{left_few}
 use Rattle.net_certificate.proofs.WholeTexts.{text_said, one_text, no_fault}
-use Rattle.net_certificate.proofs.texts.read.Goals.{In-Some}
+use Rattle.net_certificate.{specs.declared.item.MapsText.MapsText, specs.Texts.most_bytes, proofs.Places.left_few, proofs.texts.read.Goals.In-Some}
 use Rattle.net_certificate.proofs.texts.read.Goals as goal
 
 begun : (c : In-Some) → IsBegun (graph_view c.in-Some.first) c.args.text.now c.read_first.new.lines

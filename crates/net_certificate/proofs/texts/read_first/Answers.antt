@@ -1,5 +1,4 @@
-use Rattle.std.proofs.Common.{[], refl, sym, ◌∙◌}
-use Rattle.std.proofs.lemmas.Bool.{true≢false}
+use Rattle.std.proofs.{Common.[], Common.refl, Common.sym, Common.◌∙◌, lemmas.Bool.true≢false}
 use Rattle.net_certificate.specs.{Rows.OfTitle, Stages.Start}
 use Rattle.net_certificate.proofs.Places.{no_title, row_in, bad_in}
 use Rattle.net_certificate.proofs.texts.read_first.Goals as goal

@@ -1,11 +1,9 @@
-use Rattle.std.proofs.Common.{Option, sym, ◌∙◌}
-use Rattle.std.specs.Prelude.{MatchOption}
+use Rattle.std.{proofs.Common.Option, proofs.Common.sym, proofs.Common.◌∙◌, specs.Prelude.MatchOption}
 use Rattle.quotient_graph.specs.{AnyGraphs.graph_view, declared.any_graph.AnyGraph.AnyGraph}
 use Rattle.graph_rows.specs.Reading.{HasBadGraph}
 use Rattle.line_text.proofs.CallerLemmas.{bad_line_from, handed_on}
-use Rattle.net_certificate.specs.Rows.{row_lines}
-use Rattle.net_certificate.specs.Reading.{HasNoGraph, IsBegun, HasBadLine}
-use Rattle.net_certificate.proofs.GraphReads.{first_in, first_bad, something}
+use Rattle.net_certificate.specs.{Rows.row_lines, Reading.HasNoGraph, Reading.IsBegun, Reading.HasBadLine}
+use Rattle.net_certificate.proofs.Places.{first_in, first_bad, something}
 use Rattle.net_certificate.proofs.texts.read_graph_after.Goals as goal
 
 pub returns-clause-first : goal.returns-clause-first

@@ -2,13 +2,11 @@
 use Rattle.std.proofs.Common.{◌≡◌, ◌<◌, ◌+◌, ℕ, List, [], ◌∷◌, length, sym, ap, ◌∙◌, subst, arith}
 use Rattle.std.proofs.lemmas.List.{length-append, length-map}
 use Rattle.quotient_graph.specs.AnyGraphs.{graph_view}
-use Rattle.line_text.specs.Faults.{IfBadLine}
-use Rattle.line_text.proofs.CallerLemmas.{handed_on}
+use Rattle.line_text.{specs.Faults.IfBadLine, proofs.CallerLemmas.handed_on}
 use Rattle.net_certificate.specs.Reading.{IsBegun, IsIn, HasItems, HasBadLine}
 use Rattle.net_certificate.specs.Stages.{Listed, drawing_of, with_item, next_number}
-use Rattle.net_certificate.specs.{declared.item.Item.Item, Items.item_view, Items.item_views}
-use Rattle.net_certificate.proofs.GraphReads.{of_graph, shorter_in, views_more}
-use Rattle.net_certificate.proofs.texts.read_items.Goals.{In_ok-item}
+use Rattle.net_certificate.proofs.Places.{of_graph, shorter_in, views_more}
+use Rattle.net_certificate.{specs.declared.item.Item.Item, specs.Items.item_view, specs.Items.item_views, proofs.texts.read_items.Goals.In_ok-item}
 use Rattle.net_certificate.proofs.texts.read_items.Goals as goal
 
 -- the item is the next one
@@ -40,8 +38,7 @@ loop-size-init c =
 
 pub returns-in_err-item : goal.returns-in_err-item
 returns-in_err-item c = λ text is.
-    let G = graph_view c.args.first.now in
-    let fault = c.in_err-item.field-0.0 in
+    let G = graph_view c.args.first.now in let fault = c.in_err-item.field-0.0 in
     handed_on (λ (items : List Item). HasItems text G c.read_item.new.lines (item_views items)) (HasBadLine text) fault c.from_residual.result
     c.from_residual.ensures.1
     (of_graph (λ text g items. IfBadLine (HasBadLine text) fault) G c.size_of-size.result c.size_of-size.ensures c.loop-size.k c.loop-size.lines
@@ -53,8 +50,7 @@ loop-size-smaller c = less (goal.at.loop-size-smaller c).In_ok-item
 
 pub loop-size-preserved : goal.loop-size-preserved
 loop-size-preserved c =
-    let item = c.in_ok-item.item in
-    let read = (goal.at.loop-size-preserved c).In_ok-item in
+    let item = c.in_ok-item.item in let read = (goal.at.loop-size-preserved c).In_ok-item in
     let shorter = less read in (
       (λ text is. subst (λ l. IsIn text (Listed (drawing_of (graph_view c.args.first.now)) l) c.read_item.new.lines)
           (sym (ap item_views c.in_ok-push.ensures.ok ∙ views_more c.loop-size.items item)) (item_read read text is)),

@@ -1,5 +1,4 @@
-use Rattle.std.proofs.Common.{sym, ◌∙◌}
-use Rattle.std.specs.List.{flat_map}
+use Rattle.std.{proofs.Common.sym, proofs.Common.◌∙◌, specs.List.flat_map}
 use Rattle.integers.specs.Vectors.{parts}
 use Rattle.periodic_net.specs.Graph.{Vertex}
 use Rattle.net_certificate.proofs.FirstWide.{wide_more, wide_some}

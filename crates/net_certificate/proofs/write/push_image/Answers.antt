@@ -1,9 +1,7 @@
-use Rattle.std.proofs.Common.{◌++◌, ap, ◌∙◌}
-use Rattle.std.proofs.lemmas.Result.{on_ok_weaker}
+use Rattle.std.proofs.{Common.◌++◌, Common.ap, Common.◌∙◌, lemmas.Result.on_ok_weaker}
 use Rattle.periodic_net.specs.Graph.{Vertex}
 use Rattle.line_text.specs.Numbers.{numbers_text}
-use Rattle.net_certificate.specs.Rows.{vertex_numbers}
-use Rattle.net_certificate.proofs.Written.{image_written}
+use Rattle.net_certificate.{specs.Rows.vertex_numbers, proofs.WholeTexts.image_written}
 use Rattle.net_certificate.proofs.write.push_image.Goals as goal
 
 pub returns : goal.returns

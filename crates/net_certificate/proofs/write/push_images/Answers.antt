@@ -1,4 +1,4 @@
-use Rattle.net_certificate.proofs.Written.{image_left}
+use Rattle.net_certificate.proofs.WholeTexts.{image_left}
 use Rattle.net_certificate.proofs.write.push_images.Goals as goal
 
 pub loop-i-preserved : goal.loop-i-preserved

@@ -1,8 +1,6 @@
-use Rattle.std.proofs.Common.{◌++◌, map, ap, ◌∙◌}
-use Rattle.std.proofs.lemmas.Result.{on_ok_weaker}
+use Rattle.std.proofs.{Common.◌++◌, Common.map, Common.ap, Common.◌∙◌, lemmas.Result.on_ok_weaker}
 use Rattle.line_text.specs.Lines.{rows_text}
-use Rattle.net_certificate.specs.Rows.{OfBase, row_lines}
-use Rattle.net_certificate.proofs.Written.{map_written}
+use Rattle.net_certificate.{specs.Rows.OfBase, specs.Rows.row_lines, proofs.WholeTexts.map_written}
 use Rattle.net_certificate.proofs.write.push_map.Goals as goal
 
 pub returns : goal.returns

@@ -1,7 +1,7 @@
 use Rattle.std.proofs.{Common.ap, lemmas.Result.on_ok_weaker}
 use Rattle.quotient_graph.specs.AnyGraphs.{graph_view}
 use Rattle.graph_rows.specs.declared.size.GraphSize.{GraphSize}
-use Rattle.net_certificate.proofs.Written.{item_written}
+use Rattle.net_certificate.proofs.WholeTexts.{item_written}
 use Rattle.net_certificate.proofs.write.push_with.Goals as goal
 
 pub returns : goal.returns

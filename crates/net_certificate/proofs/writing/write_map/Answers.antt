@@ -4,7 +4,7 @@ use Rattle.periodic_net.specs.Graph.{Graph}
 use Rattle.map_check.specs.{Layouts.box_size, Conditions.most_period}
 use Rattle.standard_map.specs.MapNumbers.{base_rows}
 use Rattle.net_certificate.specs.{Tables.AreImages, Written.IsWritten}
-use Rattle.net_certificate.proofs.SideTables.{long_due, period_limit, period_small, written_due}
+use Rattle.net_certificate.proofs.FoundMaps.{long_due, period_limit, period_small, written_due}
 use Rattle.net_certificate.proofs.writing.write_map.Goals as goal
 
 pub period_number-m-requires : goal.period_number-m-requires

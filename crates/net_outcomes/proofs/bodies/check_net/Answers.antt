@@ -1,18 +1,13 @@
 use Rattle.cgd_read.specs.Views.{raw_view}
 use Rattle.quotient_graph.specs.AnyGraphs.{graph_view}
-use Rattle.net_outcomes.proofs.{OnlyPlacement.is_graph_in, NetOutcomes.check_may, NetOutcomes.refused_as}
+use Rattle.net_outcomes.proofs.NetOutcomes.{graph_read, check_may, refused_as}
 use Rattle.net_report.specs.declared.command.Command.TheVariants.{Check}
 use Rattle.net_outcomes.proofs.bodies.check_net.Goals as goal
 
 pub returns-in-Ok : goal.returns-in-Ok
 returns-in-Ok c = λ entries. record {
   graph = graph_view c.in_ok-graph.graph;
-  read = record {
-    size_is = c.size_of.ensures;
-    in_order = c.in_ok-graph.ensures;
-    is_graph =
-        is_graph_in (raw_view c.args.raw.now) (graph_view c.in_ok-graph.graph) c.requires.is_graph c.in_ok-graph.ensures;
-  };
+  read = graph_read c.size_of.ensures c.requires.is_graph c.in_ok-graph.ensures;
   connected = c.in-Ok.ensures.connected;
 }
 

@@ -1,8 +1,7 @@
 use Rattle.std.proofs.Common.{sym, subst}
 use Rattle.cgd_read.specs.Views.{Net, raw_view}
-use Rattle.net_outcomes.specs.Outcomes.{IsBodyOf, size_of}
+use Rattle.net_outcomes.{specs.Outcomes.IsBodyOf, specs.Outcomes.size_of, proofs.NetOutcomes.identified_as}
 use Rattle.net_report.specs.declared.command.Command.TheVariants.{Identify}
-use Rattle.net_outcomes.proofs.Identified.{identified_as}
 use Rattle.net_outcomes.proofs.bodies.identified_body.Goals as goal
 
 pub returns-in-Ok : goal.returns-in-Ok

@@ -3,27 +3,21 @@ use Rattle.cgd_read.specs.Views.{Net, raw_view}
 use Rattle.archive_text.specs.Entries.{EntryView}
 use Rattle.net_outcomes.specs.Outcomes.{IsBodyOf}
 use Rattle.quotient_graph.specs.AnyGraphs.{graph_view}
-use Rattle.net_outcomes.proofs.{OnlyPlacement.is_graph_in, NetOutcomes.identify_may, NetOutcomes.refused_as}
+use Rattle.net_outcomes.proofs.NetOutcomes.{graph_read, identify_may, refused_as}
 use Rattle.net_report.specs.declared.command.Command.TheVariants.{Identify}
 use Rattle.net_outcomes.proofs.bodies.identify_net.Goals as goal
 
 pub identified_body-requires-clause-keyed : goal.identified_body-requires-clause-keyed
 identified_body-requires-clause-keyed c = record {
   graph = graph_view c.in_ok-graph.graph;
-  read = record {
-    size_is = refl;
-    in_order = c.in_ok-graph.ensures;
-    is_graph =
-        is_graph_in (raw_view c.args.raw.now) (graph_view c.in_ok-graph.graph) c.requires.is_graph c.in_ok-graph.ensures;
-  };
+  read = graph_read refl c.requires.is_graph c.in_ok-graph.ensures;
   net_is = c.in-Ok.ensures.graph;
   keyed = c.in-Ok.ensures.keyed;
 }
 
 pub returns-in-Err : goal.returns-in-Err
 returns-in-Err c =
-    let raw = raw_view c.args.raw.now in
-    let entries = c.args.archive.now.entries in
+    let raw = raw_view c.args.raw.now in let entries = c.args.archive.now.entries in
     IfOk-weaker c.refused_body.result (λ body. (es : List EntryView) → IsBodyOf es Identify (Net raw) body) (λ body. IsBodyOf entries Identify (Net raw) body)
     (λ body h. h entries)
     (refused_as Identify raw (graph_view c.in_ok-graph.graph) c.in-Err.refusal c.refused_body.result c.requires.is_graph c.in_ok-graph.ensures

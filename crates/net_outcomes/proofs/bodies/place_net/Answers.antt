@@ -1,19 +1,14 @@
 use Rattle.cgd_read.specs.Views.{raw_view}
 use Rattle.quotient_graph.specs.AnyGraphs.{graph_view}
 use Rattle.least_key.specs.AnyPlacements.{placed_view}
-use Rattle.net_outcomes.proofs.{OnlyPlacement.is_graph_in, OnlyPlacement.only_placement, NetOutcomes.place_may, NetOutcomes.refused_as}
+use Rattle.net_outcomes.proofs.NetOutcomes.{graph_read, is_graph_in, only_placement, place_may, refused_as}
 use Rattle.net_report.specs.declared.command.Command.TheVariants.{Place}
 use Rattle.net_outcomes.proofs.bodies.place_net.Goals as goal
 
 pub returns-in_ok-copy-in-Ok : goal.returns-in_ok-copy-in-Ok
 returns-in_ok-copy-in-Ok c = λ entries. record {
   graph = graph_view c.in_ok-graph.graph;
-  read = record {
-    size_is = c.size_of.ensures;
-    in_order = c.in_ok-graph.ensures;
-    is_graph =
-        is_graph_in (raw_view c.args.raw.now) (graph_view c.in_ok-graph.graph) c.requires.is_graph c.in_ok-graph.ensures;
-  };
+  read = graph_read c.size_of.ensures c.requires.is_graph c.in_ok-graph.ensures;
   names_are = c.in_ok-copy-in-Ok.ensures;
   placed_as = c.in-Ok.ensures.placed;
   only = only_placement (graph_view c.in_ok-graph.graph) (placed_view c.in-Ok.placed)

@@ -1,12 +1,11 @@
 use Rattle.std.proofs.Common.{ℕ, true, List, sym, subst}
 use Rattle.cgd_read.specs.Views.{views}
-use Rattle.net_outcomes.proofs.ToldBlocks.{AreToldOn, told_next, told_none, told_whole}
+use Rattle.net_outcomes.proofs.Listing.{AreToldOn, told_next, told_none, told_whole}
 use Rattle.net_outcomes.proofs.telling.tell_blocks.Goals as goal
 
 pub loop-block-init : goal.loop-block-init
 loop-block-init c =
-    let entries = c.args.archive.now.entries in
-    let bs = views c.args.found.now in
+    let entries = c.args.archive.now.entries in let bs = views c.args.found.now in
     subst (λ (text : List ℕ). AreToldOn entries c.args.command bs 0 1 true text) (sym c.new-text.ensures.items) (told_none entries c.args.command bs)
 
 pub loop-block-preserved : goal.loop-block-preserved

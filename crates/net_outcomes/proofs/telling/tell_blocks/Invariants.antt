@@ -1,5 +1,5 @@
 use Rattle.cgd_read.specs.Views.{views}
-use Rattle.net_outcomes.proofs.ToldBlocks.{AreToldOn}
+use Rattle.net_outcomes.proofs.Listing.{AreToldOn}
 use Rattle.net_outcomes.proofs.telling.tell_blocks.Given as goal
 
 abbrev pub invariant-loop-block : goal.invariant-loop-block

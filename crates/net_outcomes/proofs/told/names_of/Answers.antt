@@ -1,5 +1,5 @@
 use Rattle.std.proofs.Common.{◌∷◌, [], ◌++◌, ap, sym, ◌∙◌}
-use Rattle.net_outcomes.proofs.Names.{names_at}
+use Rattle.net_outcomes.proofs.Printing.{names_at}
 use Rattle.net_outcomes.proofs.told.names_of.Goals as goal
 
 pub loop-u-preserved : goal.loop-u-preserved

@@ -1,4 +1,4 @@
-use Rattle.net_outcomes.proofs.ToldParts.{AreToldTo}
+use Rattle.net_outcomes.proofs.Listing.{AreToldTo}
 use Rattle.net_outcomes.proofs.told.push_told.Given as goal
 
 -- the parts so far

@@ -1,4 +1,4 @@
-use Rattle.net_outcomes.proofs.FaultLines.{fault_line}
+use Rattle.net_outcomes.proofs.Printing.{fault_line}
 use Rattle.net_outcomes.proofs.told.tell_fault.Goals as goal
 
 pub push_fault-requires : goal.push_fault-requires

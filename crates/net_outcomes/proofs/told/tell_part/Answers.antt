@@ -3,8 +3,7 @@ use Rattle.net_report.specs.Refusals.{HasLine}
 use Rattle.periodic_net.specs.Graph.{Graph}
 use Rattle.quotient_graph.specs.AnyGraphs.{graph_view}
 use Rattle.least_key.specs.Truths.{IsTrueOf}
-use Rattle.net_outcomes.specs.Texts.{names_of}
-use Rattle.net_outcomes.proofs.{Names.names_count, RefusalLines.refusal_line}
+use Rattle.net_outcomes.{specs.Texts.names_of, proofs.Printing.names_count, proofs.Printing.refusal_line}
 use Rattle.net_outcomes.proofs.told.tell_part.Goals as goal
 
 pub push_refusal-pushed-requires-clause-named : goal.push_refusal-pushed-requires-clause-named

@@ -1,4 +1,4 @@
-use Rattle.net_outcomes.proofs.NamedParts.{named_parts}
+use Rattle.net_outcomes.proofs.Printing.{named_parts}
 use Rattle.net_outcomes.proofs.told.tell_parts.Goals as goal
 
 pub push_told-requires : goal.push_told-requires

@@ -1,19 +1,16 @@
 use Rattle.std.proofs.Common.{◌≡◌, ◌∙◌, Bor, List, [], length, map, sym, ap, subst, arith}
 use Rattle.std.proofs.lemmas.List.{length-map}
 use Rattle.cgd_read.specs.Views.{block_view, views}
-use Rattle.least_key.specs.{AnyNets.net_view, KeyedNets.KeyedNet}
+use Rattle.least_key.specs.{AnyNets.net_view, KeyedNets.KeyedNet, declared.net.Net.Net as NetInMemory}
 use Rattle.net_certificate.specs.NetItems.{IsMapsTextOf}
-use Rattle.same_answers.specs.Steps.{nets_told}
-use Rattle.same_answers.proofs.AcceptedNets.{as_many, nets_of_blocks}
-use Rattle.least_key.specs.declared.net.Net.{Net as NetInMemory}
+use Rattle.same_answers.{specs.Steps.nets_told, proofs.Sameness.as_many, proofs.Sameness.nets_of_blocks}
 use Rattle.same_answers.proofs.answers.same_blocks.Goals as goal
 
 pub maps_text_of-requires : goal.maps_text_of-requires
 maps_text_of-requires c =
     let os = c.in_ok-keyed.keyed.outcomes in let each = c.in_ok-keyed.ensures.outcomes.each in
     let many = as_many [] 1 (views c.args.found.now) os each in
-    let long = length-map c.args.found.now block_view in
-    let few = c.requires.few in
+    let long = length-map c.args.found.now block_view in let few = c.requires.few in
     let slice : length c.as_slice.result.now ≡ length os = ap length c.as_slice.ensures in
     let told = c.in_ok-nets.ensures.few in
     let nets : length c.as_slice-2.result.now ≡ length c.in_ok-nets.nets.items = ap length c.as_slice-2.ensures.value in

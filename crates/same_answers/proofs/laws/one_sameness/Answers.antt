@@ -1,4 +1,4 @@
-use Rattle.same_answers.proofs.OneSameness.{one_sameness}
+use Rattle.same_answers.proofs.Sameness.{one_sameness}
 use Rattle.same_answers.proofs.laws.one_sameness.Goals as goal
 
 pub returns : goal.returns

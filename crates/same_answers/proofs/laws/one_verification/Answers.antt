@@ -1,4 +1,4 @@
-use Rattle.same_answers.proofs.OneVerification.{one_verification}
+use Rattle.same_answers.proofs.Verified.{one_verification}
 use Rattle.same_answers.proofs.laws.one_verification.Goals as goal
 
 pub returns : goal.returns

@@ -1,4 +1,4 @@
-use Rattle.same_answers.proofs.VerifiedTexts.{is_due}
+use Rattle.same_answers.proofs.Verified.{is_due}
 use Rattle.same_answers.proofs.verifying.verify_answer.Goals as goal
 
 pub returns-in-Ok : goal.returns-in-Ok

@@ -1,4 +1,4 @@
-use Rattle.standard_map.proofs.Carrying.{cells_are, some_carry}
+use Rattle.standard_map.proofs.EdgeTurns.{cells_are, some_carry}
 use Rattle.standard_map.proofs.carried.cells_by.Goals as goal
 
 pub cells_of-requires-clause-carried : goal.cells_of-requires-clause-carried

@@ -2,7 +2,7 @@ use Rattle.std.proofs.Common.{lit<, sym, subst, ap, ◌∙◌}
 use Rattle.std.specs.List.{All}
 use Rattle.periodic_net.specs.Graph.{Graph}
 use Rattle.standard_map.specs.Turns.{AreFull, AreIndependentTurns, IsTurn}
-use Rattle.standard_map.proofs.Carrying.{turns_carried}
+use Rattle.standard_map.proofs.EdgeTurns.{turns_carried}
 use Rattle.standard_map.proofs.carried.image_cells.Goals as goal
 
 pub independent-requires : goal.independent-requires

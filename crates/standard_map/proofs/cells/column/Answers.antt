@@ -1,5 +1,4 @@
-use Rattle.std.proofs.Common.{◌∙◌, ◌^◌, arith}
-use Rattle.std.proofs.lemmas.Int.{to_z-of_z}
+use Rattle.std.proofs.{Common.◌∙◌, Common.◌^◌, Common.arith, lemmas.Int.to_z-of_z}
 use Rattle.integers.proofs.vectors.Bounds.{wider}
 use Rattle.standard_map.specs.CellBounds.{most_cell}
 use Rattle.standard_map.proofs.cells.column.Goals as goal

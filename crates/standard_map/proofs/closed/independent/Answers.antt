@@ -1,4 +1,4 @@
-use Rattle.standard_map.proofs.Carrying.{not_all_zero}
+use Rattle.standard_map.proofs.EdgeTurns.{not_all_zero}
 use Rattle.standard_map.proofs.closed.independent.Goals as goal
 
 pub unreachable-requires : goal.unreachable-requires

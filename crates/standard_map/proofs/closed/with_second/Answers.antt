@@ -1,8 +1,6 @@
-use Rattle.std.proofs.Common.{◌≡◌, subst, ap}
-use Rattle.std.specs.List.{All}
+use Rattle.std.{proofs.Common.◌≡◌, proofs.Common.subst, proofs.Common.ap, specs.List.All}
 use Rattle.integers.specs.Vectors.{Vector, cross, zero_vector}
-use Rattle.standard_map.specs.Turns.{Turn}
-use Rattle.standard_map.proofs.Carrying.{not_on_line}
+use Rattle.standard_map.{specs.Turns.Turn, proofs.EdgeTurns.not_on_line}
 use Rattle.standard_map.proofs.closed.with_second.Goals as goal
 
 pub unreachable-requires : goal.unreachable-requires

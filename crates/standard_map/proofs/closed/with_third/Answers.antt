@@ -1,7 +1,7 @@
 use Rattle.std.proofs.Common.{◌≢◌, pos, lit<, sym, subst, ap, ◌∙◌}
 use Rattle.integers.specs.Vectors.{Vector, cross, dot, zero_vector}
 use Rattle.standard_map.specs.Turns.{Turn}
-use Rattle.standard_map.proofs.Carrying.{flat_turns, not_in_plane, space_turns}
+use Rattle.standard_map.proofs.EdgeTurns.{flat_turns, not_in_plane, space_turns}
 use Rattle.standard_map.proofs.closed.with_third.Goals as goal
 
 pub first_off-requires : goal.first_off-requires

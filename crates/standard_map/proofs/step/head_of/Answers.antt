@@ -1,9 +1,7 @@
 use Rattle.std.proofs.Common.{lit<, sym, subst, ap, ◌∙◌}
 use Rattle.integers.specs.Vectors.{plus}
-use Rattle.periodic_net.specs.{Graph.Arc, Graph.IsQuotientVertex, Placement.arc_vector}
-use Rattle.periodic_net.proofs.CallerLemmas.{arc_inside}
-use Rattle.standard_map.specs.Ends.{End, IsEnd}
-use Rattle.standard_map.proofs.Heads.{next_end, some_arc}
+use Rattle.periodic_net.{specs.Graph.Arc, specs.Graph.IsQuotientVertex, specs.Placement.arc_vector, proofs.CallerLemmas.arc_inside}
+use Rattle.standard_map.{specs.Ends.End, specs.Ends.IsEnd, proofs.Searching.next_end, proofs.Searching.some_arc}
 use Rattle.standard_map.proofs.step.head_of.Goals as goal
 
 pub step-image-requires : goal.step-image-requires

@@ -1,7 +1,6 @@
 use Rattle.std.proofs.Common.{sym, subst}
 use Rattle.periodic_net.specs.{Graph.IsArc, Placement.arc_vector}
-use Rattle.standard_map.specs.Sides.{IsPart}
-use Rattle.standard_map.proofs.Searching.{none_at_all, none_more}
+use Rattle.standard_map.{specs.Sides.IsPart, proofs.Searching.none_at_all, proofs.Searching.none_more}
 use Rattle.standard_map.proofs.step.step.Goals as goal
 
 pub loop-arc-preserved : goal.loop-arc-preserved

@@ -1,12 +1,9 @@
 -- Of `turn_of`: the clause `turn`; what `end_of`, `head_of` and `turn_between` require.
 use Rattle.std.proofs.Common.{◌-◌, lit<, sym, subst, ap, ◌∙◌, arith}
-use Rattle.integers.specs.{Bases.base_sum, Vectors.HasDimension}
-use Rattle.integers.proofs.vectors.Laws.{minus_dimension}
-use Rattle.periodic_net.specs.{Graph.Arc, Limits.most_vertices}
-use Rattle.periodic_net.proofs.CallerLemmas.{arc_inside}
+use Rattle.integers.{specs.Bases.base_sum, specs.Vectors.HasDimension, proofs.vectors.Laws.minus_dimension}
+use Rattle.periodic_net.{specs.Graph.Arc, specs.Limits.most_vertices, proofs.CallerLemmas.arc_inside}
 use Rattle.quotient_graph.specs.Stars.{IsArcFrom}
-use Rattle.standard_map.specs.{Search.HasEnd, Turns.end_over}
-use Rattle.standard_map.proofs.{Searching.nearer, ByWalks.turn_carried, EdgeTurns.found_end}
+use Rattle.standard_map.{specs.Search.HasEnd, specs.Turns.end_over, proofs.Searching.nearer, proofs.EdgeTurns.turn_carried, proofs.EdgeTurns.found_end}
 use Rattle.standard_map.proofs.turns.turn_of.Goals as goal
 
 pub end_of-tail-requires : goal.end_of-tail-requires

@@ -24,9 +24,7 @@ pub loop-edge-preserved : goal.loop-edge-preserved
 loop-edge-preserved g c =
     let ts = c.loop-edge.found.items in let t = c.turn_of.result in let i = c.loop-edge.invariant in
     let row = c.edges-edges.result.now in let es = c.args.ends.now in
-    let items = c.in_ok-push.ensures.items in
-    let long = ap length items in
-    let count = i.count in
+    let items = c.in_ok-push.ensures.items in let long = ap length items in let count = i.count in
     record {
       count = omega (arith, long, count, length-append ts (t ∷ []));
       each = subst (All (IsTurn c.args.here.now c.args.there.now)) (sym items)

@@ -1,8 +1,7 @@
 use Rattle.std.proofs.Common.{◌∙◌, sym, ap, ltb-false, ltb-true}
 use Rattle.std.specs.List.{slice_get}
 use Rattle.archive_text.specs.Entries.{entry_views}
-use Rattle.union_answers.specs.ArchiveTexts.{name_of}
-use Rattle.union_answers.proofs.FoundNames.{name_there, no_name}
+use Rattle.union_answers.{specs.ArchiveTexts.name_of, proofs.ItemOutcomes.name_there, proofs.ItemOutcomes.no_name}
 use Rattle.union_answers.proofs.archive_texts.name_at.Goals as goal
 
 pub returns-in-None : goal.returns-in-None

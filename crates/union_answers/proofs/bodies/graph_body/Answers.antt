@@ -1,4 +1,4 @@
-use Rattle.union_answers.proofs.ItemBodies.{keyed_as, refused_as}
+use Rattle.union_answers.proofs.ItemOutcomes.{keyed_as, refused_as}
 use Rattle.union_answers.proofs.bodies.graph_body.Goals as goal
 
 pub returns-in-Ok-clause-told : goal.returns-in-Ok-clause-told

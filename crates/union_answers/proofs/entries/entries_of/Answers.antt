@@ -4,8 +4,7 @@ use Rattle.std.specs.List.{All}
 use Rattle.net_archive.specs.Archives.{IsEntry}
 use Rattle.net_report.proofs.CallerLemmas.{as_many_kinds, kinds_at}
 use Rattle.archive_text.specs.{Entries.entry_view, Entries.entry_views, declared.entry.Entry.Entry}
-use Rattle.union_answers.specs.ItemEntries.{AreEntriesTold}
-use Rattle.union_answers.proofs.ItemEntries.{entries_next}
+use Rattle.union_answers.{specs.ItemEntries.AreEntriesTold, proofs.ItemEntries.entries_next}
 use Rattle.union_answers.proofs.entries.entries_of.Goals as goal
 
 abbrev IsGood : Entry → Type 0

@@ -1,4 +1,4 @@
-use Rattle.union_answers.proofs.OneUnion.{many_items}
+use Rattle.union_answers.proofs.Unions.{many_items}
 use Rattle.union_answers.proofs.laws.many_items.Goals as goal
 
 pub returns : goal.returns

@@ -1,4 +1,4 @@
-use Rattle.union_answers.proofs.OneItemOutcome.{one_item_report}
+use Rattle.union_answers.proofs.ItemOutcomes.{one_item_report}
 use Rattle.union_answers.proofs.laws.one_item_report.Goals as goal
 
 pub returns : goal.returns

@@ -1,4 +1,4 @@
-use Rattle.union_answers.proofs.OneUnion.{one_union_due}
+use Rattle.union_answers.proofs.Unions.{one_union_due}
 use Rattle.union_answers.proofs.laws.one_union_due.Goals as goal
 
 pub returns : goal.returns

@@ -1,12 +1,11 @@
 -- Of `outcomes_of`: the loop over `item`.
 use Rattle.std.proofs.Common.{◌∙◌, ◌++◌, ◌∷◌, [], List, length, All, refl, sym, ap, subst, arith, rules}
-use Rattle.std.proofs.lemmas.List.{append_assoc, length-append}
+use Rattle.std.{proofs.lemmas.List.append_assoc, proofs.lemmas.List.length-append, specs.Vec.Iter.into_iter_items}
 use Rattle.std.proofs.lemmas.List.Elements.{All-append, All-cons, All-nil}
-use Rattle.std.specs.Vec.Iter.{into_iter_items}
 use Rattle.keyline_import.specs.declared.item.Item.{Item}
 use Rattle.net_report.specs.{KindsTold.AreKindsOfAll, Reports.IsPrintable, declared.outcome.Outcome.Outcome}
 use Rattle.net_report.proofs.CallerLemmas.{kinds_last}
-use Rattle.union_answers.proofs.ItemListing.{AreOutcomesOfRead, outcomes_more, outcomes_none}
+use Rattle.union_answers.proofs.ItemOutcomes.{AreOutcomesOfRead, outcomes_more, outcomes_none}
 use Rattle.union_answers.proofs.outcomes.outcomes_of.Goals as goal
 
 pub loop-item-init : goal.loop-item-init

@@ -1,7 +1,7 @@
 use Rattle.std.proofs.Common.{◌≡◌, ◌+◌, ◌++◌, length, All}
 use Rattle.std.specs.Vec.Iter.{into_iter_items, into_iter_len}
 use Rattle.net_report.specs.{KindsTold.AreKindsOfAll, Reports.IsPrintable}
-use Rattle.union_answers.proofs.ItemListing.{AreOutcomesOfRead}
+use Rattle.union_answers.proofs.ItemOutcomes.{AreOutcomesOfRead}
 use Rattle.union_answers.proofs.outcomes.outcomes_of.Given as goal
 
 -- the items so far

@@ -5,14 +5,13 @@ use Rattle.archive_text.specs.{Entries.EntryView, Entries.entry_view, Lookups.na
 use Rattle.net_archive.specs.Adding.{IsEntryFault, IsFull, IsTaken}
 use Rattle.net_archive.specs.Archives.{ArchiveView, IsArchive, IsBody, with_entry}
 use Rattle.net_archive.specs.declared.faults.AddFault.TheVariants.{NameTaken, Full}
-use Rattle.net_archive.proofs.Growth.{grown, is_free, long_full, longer_body, many_full, not_long, not_many}
+use Rattle.net_archive.proofs.NewEntry.{grown, is_free, long_full, longer_body, many_full, not_long, not_many}
 use Rattle.net_archive.proofs.archive.Archive.add_entry.Goals.{then-are_many-via-then-are_many, then-are_many-via-else-are_many+then-is_too_long}
 use Rattle.net_archive.proofs.archive.Archive.add_entry.Goals as goal
 
 pub returns-then-has_name-clause-fault : goal.returns-then-has_name-clause-fault
 returns-then-has_name-clause-fault c =
-    let e : EntryView = entry_view c.args.entry in
-    let there = c.has_name.ensures.0 c.if-has_name.true in
+    let e : EntryView = entry_view c.args.entry in let there = c.has_name.ensures.0 c.if-has_name.true in
     subst (λ (b : ArchiveView). IsEntryFault b e NameTaken) c.self.view_is
     (subst (λ (name : List ℕ). Contains (names_of c.self.inside.entries) name) c.deref.ensures.value there)
 

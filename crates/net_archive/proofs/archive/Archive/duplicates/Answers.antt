@@ -1,8 +1,6 @@
-use Rattle.std.proofs.Common.{subst}
-use Rattle.std.specs.Prelude.{IfOk}
+use Rattle.std.{proofs.Common.subst, specs.Prelude.IfOk}
 use Rattle.archive_text.specs.Groups.{numbers_in}
-use Rattle.net_archive.specs.{Archives.ArchiveView, Deciding.AreIsoGroups}
-use Rattle.net_archive.proofs.IsoGroups.{groups_told}
+use Rattle.net_archive.{specs.Archives.ArchiveView, specs.Deciding.AreIsoGroups, proofs.IsoGroups.groups_told}
 use Rattle.net_archive.proofs.archive.Archive.duplicates.Goals as goal
 
 pub returns-clause-isomorphic : goal.returns-clause-isomorphic

@@ -1,5 +1,4 @@
-use Rattle.std.proofs.Common.{◌≡◌, length}
-use Rattle.std.specs.{List.list_any, Str.bytes_eq}
+use Rattle.std.{proofs.Common.◌≡◌, proofs.Common.length, specs.List.list_any, specs.Str.bytes_eq}
 use Rattle.net_archive.specs.Deciding.{is_there}
 use Rattle.net_archive.proofs.archive.Archive.has.Given as goal
 

@@ -1,8 +1,6 @@
-use Rattle.std.proofs.Common.{List, sym, subst}
-use Rattle.std.specs.List.{All}
+use Rattle.std.{proofs.Common.List, proofs.Common.sym, proofs.Common.subst, specs.List.All}
 use Rattle.archive_text.specs.Entries.{EntryView}
-use Rattle.net_archive.specs.Archives.{IsEntry}
-use Rattle.net_archive.proofs.Growth.{all_in_memory}
+use Rattle.net_archive.{specs.Archives.IsEntry, proofs.NewEntry.all_in_memory}
 use Rattle.net_archive.proofs.archive.Archive.into_entries.Goals as goal
 
 pub returns-clause-each : goal.returns-clause-each

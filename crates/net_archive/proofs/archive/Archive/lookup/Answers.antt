@@ -1,6 +1,5 @@
 use Rattle.std.proofs.Common.{sym, subst}
-use Rattle.net_archive.specs.{Archives.ArchiveView, Deciding.AreNamesOf}
-use Rattle.net_archive.proofs.IsoGroups.{names_found}
+use Rattle.net_archive.{specs.Archives.ArchiveView, specs.Deciding.AreNamesOf, proofs.IsoGroups.names_found}
 use Rattle.net_archive.proofs.archive.Archive.lookup.Goals as goal
 
 pub returns-clause-isomorphic : goal.returns-clause-isomorphic

@@ -1,8 +1,6 @@
-use Rattle.std.proofs.Common.{List, subst, sym}
-use Rattle.std.specs.List.{All}
+use Rattle.std.{proofs.Common.List, proofs.Common.subst, proofs.Common.sym, specs.List.All}
 use Rattle.archive_text.specs.Entries.{EntryView}
-use Rattle.net_archive.specs.Archives.{IsEntry}
-use Rattle.net_archive.proofs.Growth.{all_in_memory}
+use Rattle.net_archive.{specs.Archives.IsEntry, proofs.NewEntry.all_in_memory}
 use Rattle.net_archive.proofs.archive.Archive.migrated.Goals as goal
 
 pub newest_text-requires : goal.newest_text-requires

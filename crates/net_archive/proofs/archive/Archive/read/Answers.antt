@@ -1,6 +1,6 @@
 use Rattle.std.proofs.Common.{◌≡◌, ◌∙◌, sym, subst}
 use Rattle.net_archive.specs.{Faults.IsFaultOf, declared.faults.ArchiveFault.TheVariants.NoMemory}
-use Rattle.net_archive.proofs.ReadBack.{are_archive, matched_error, only_memory, same_archive}
+use Rattle.net_archive.proofs.OneFault.{are_archive, matched_error, only_memory, same_archive}
 use Rattle.net_archive.proofs.archive.Archive.read.Goals as goal
 
 pub returns-in_err-version-clause-every : goal.returns-in_err-version-clause-every

@@ -2,8 +2,7 @@ use Rattle.std.proofs.Common.{◌∙◌, List, sym, ap, subst}
 use Rattle.std.specs.List.{All}
 use Rattle.line_text.specs.Lines.{rows_text}
 use Rattle.archive_text.specs.{Entries.EntryView, Texts.entry_lines, Regrouped.regrouped}
-use Rattle.net_archive.specs.Archives.{IsEntry}
-use Rattle.net_archive.proofs.{Growth.all_in_memory, IsoGroups.regrouped_together, RegroupedText.regrouped_archive}
+use Rattle.net_archive.{specs.Archives.IsEntry, proofs.NewEntry.all_in_memory, proofs.IsoGroups.regrouped_together, proofs.IsoGroups.regrouped_archive}
 use Rattle.net_archive.proofs.archive.Archive.regroup.Goals as goal
 
 pub rows_in_groups-requires : goal.rows_in_groups-requires

@@ -1,23 +1,35 @@
--- What is answered to two nets does not depend on how the classes of their graphs are listed.
-use Rattle.std.proofs.Common.{◌≡◌, ℕ, zero, suc, ◌≤◌, ℤ, List, [], ◌∷◌, ◌++◌, sym, subst, ◌∙◌, arith}
-use Rattle.std.proofs.Math.Nat.{le_antisymm}
-use Rattle.std.specs.List.{Contains}
+-- What is due to `same` is one, and does not depend on how classes are listed; the nets of blocks that are accepted.
+use Rattle.std.proofs.Common.{◌≡◌, ℕ, zero, suc, ◌≤◌, ℤ, List, [], ◌∷◌, ◌++◌, sym, subst, ◌∙◌, arith, ◌+◌, length, true, Option, Some, refl, true≢false}
+use Rattle.std.proofs.Common.{◌&&◌, ◌-◌, false, ap}
+use Rattle.std.{proofs.Math.Nat.le_antisymm, proofs.lemmas.Bool.and_parts, proofs.lemmas.List.Elements.All-head, proofs.lemmas.List.Elements.All-tail}
+use Rattle.std.{specs.List.Contains, specs.List.list_all, specs.Prelude.All}
 use Rattle.periodic_net.specs.Classes.{ClassArc, ClassGraph, IsClassGraph, LeadsIn}
 use Rattle.periodic_net.specs.Graph.{Graph, IsGraph, IsQuotientVertex, Vertex}
-use Rattle.periodic_net.specs.{Placement.Placement, ClassNets.MayFollow}
-use Rattle.periodic_net.proofs.CallerLemmas.{one_placement}
+use Rattle.periodic_net.{specs.Placement.Placement, specs.ClassNets.MayFollow, specs.Limits.IsSmall, specs.Limits.most_vertices}
+use Rattle.periodic_net.{proofs.CallerLemmas.one_placement}
 use Rattle.key_theory.specs.Frames.{IsFrame, IsFrameAfter, IsNext}
 use Rattle.key_theory.specs.Key.{IsLeastList, IsSomeList, Shape}
-use Rattle.key_theory.specs.Primitive.{IsLeastMember}
 use Rattle.key_theory.specs.Traversal.{Axes, Enters, IsFirst, IsListOf, axes_of}
-use Rattle.least_key.specs.KeyedNets.{KeyedNet}
-use Rattle.least_key.proofs.one.SameClasses.{one_numbering, same_arcs}
+use Rattle.key_theory.specs.Primitive.{IsLeastMember}
+use Rattle.least_key.{specs.KeyedNets.KeyedNet, specs.KeyedNets.IsKeyed, specs.AnyNets.net_view, specs.declared.net.Net.Net as NetInMemory}
+use Rattle.least_key.{proofs.OneAnswer.one_numbering, proofs.OneAnswer.same_arcs, proofs.CallerLemmas.one_net}
 use Rattle.standard_map.specs.StandardMaps.{HaveSameCoordinates, IsFramedByKey, IsStandardMap, framed_net, vector_between}
 use Rattle.standard_map.specs.{LeastPairs.IsPairOf, MapNumbers.StandardTable}
 use Rattle.net_certificate.specs.Answers.{IsAnswerBy, IsMapAnswer, shape_of}
-use Rattle.net_certificate.specs.declared.answer.MapAnswer.{MapAnswer}
 use Rattle.net_certificate.specs.declared.answer.MapAnswer.TheVariants.{Different, Found, LongMap, WideMap}
-use Rattle.net_certificate.proofs.CallerLemmas.{one_map_answer}
+use Rattle.net_certificate.specs.NetItems.{AreItemsOf, AreMapsOf, IsItemOf, images_in, item_by}
+use Rattle.net_certificate.{specs.declared.answer.MapAnswer.MapAnswer, specs.Texts.maps_text, specs.Items.ItemView, specs.Items.Maps}
+use Rattle.net_certificate.{proofs.CallerLemmas.one_map_answer}
+use Rattle.cgd_read.specs.Views.{RawView, BodyView, Net, BlockView, block_view, body_view, raw_view, views, Other, Faulty}
+use Rattle.cgd_read.specs.declared.block.Body.TheVariants.{Graph as GraphBody, Unsupported as UnsupportedBody, Malformed as MalformedBody}
+use Rattle.cgd_read.specs.{Blocks.IsReadBody, Graphs.graph_of, declared.block.Block.Block, declared.block.Body.Body}
+use Rattle.quotient_graph.{specs.Stars.IsInOrder, proofs.Edges.reordered_small, proofs.CallerLemmas.one_in_order}
+use Rattle.archive_text.specs.Entries.{EntryView}
+use Rattle.net_report.specs.declared.{command.Command.TheVariants.Key, status.Status.TheVariants.Done, status.Status.TheVariants.SomeRefused}
+use Rattle.net_outcomes.specs.Outcomes.{Outcome, OutcomeBody, Unsupported, Malformed, Refused, Keyed, AreOutcomesFrom, IsBodyOf, is_accepted}
+use Rattle.net_outcomes.specs.Outcomes.{is_accepted_body, net_told, Checked, Located, Identified}
+use Rattle.net_outcomes.{specs.Reports.IsReport, proofs.CallerLemmas.keyed_not_refused, proofs.CallerLemmas.one_report}
+use Rattle.same_answers.specs.{Nets.AreNetsOf, Nets.IsNetOf, Due.AreMapped, Laws.OneSameness, Steps.nets_told, Steps.with_net}
 
 -- the class graph with these arcs
 abbrev classes_with : ℕ → ℕ → List ClassArc → ClassGraph
@@ -70,8 +82,7 @@ module _ (d n : ℕ) where
   list : (xs ys : List ClassArc) → HaveSame xs ys → (c : ℕ) (f : List ClassArc) (zs : List ℤ) → IsListOf (classes_with d n xs) c f zs
       → IsListOf (classes_with d n ys) c f zs
   list xs ys h c f zs l =
-      let t = l.traversal in
-      let h' = turned xs ys h in
+      let t = l.traversal in let h' = turned xs ys h in
       record {
         number = l.number;
         traversal = record {
@@ -247,3 +258,150 @@ one_answer_alike m m' n n' room s t e f p q = one_map_answer m n room s t p (rec
     by =
         answer_there m.placed.graph n.placed.graph p.here.is_graph p.there.is_graph
         (shape_of (placed_as m m') moved.here) (shape_of m p.here) (shape_of (placed_as n n') moved.there) (shape_of n p.there) room t moved.by
+
+-- a graph in order is within the limits where the graph is
+small_in_order : (G H : Graph) → IsInOrder G H → IsSmall G → IsSmall H
+small_in_order G H o s =
+    let t = reordered_small G.dimension G.vertices G.edges H.edges o.edges (record { vertices = s.vertices; edges = s.edges; shifts = s.shifts }) in
+    record { vertices = subst (λ (n : ℕ). n ≤ most_vertices) (sym o.vertices) t.vertices; edges = t.edges; shifts = t.shifts }
+
+-- this is reported of what a block holds: its net
+record IsToldNet (view : BodyView) (told : OutcomeBody) : Type 0 where
+  net : NetInMemory
+  told_is : net_told told ≡ Some net
+  raw : RawView
+  graph : view ≡ Net raw
+  read : IsInOrder (graph_of raw) (net_view net).placed.graph
+  small : IsSmall (net_view net).placed.graph
+  keyed : IsKeyed (net_view net)
+
+-- where a block is accepted its net is reported
+told_net : (entries : List EntryView) (body : Body) (told : OutcomeBody) → IsReadBody body → IsBodyOf entries Key (body_view body) told
+    → is_accepted_body told ≡ true → IsToldNet (body_view body) told
+told_net entries body (Unsupported token) read h a = absurd (true≢false (sym a))
+told_net entries body (Malformed fault) read h a = absurd (true≢false (sym a))
+told_net entries body (Refused size names refusal) read h a = absurd (true≢false (sym a))
+told_net entries (GraphBody raw) (Keyed size net) read h a =
+    let order = subst (λ (G : Graph). IsInOrder (graph_of (raw_view raw)) G) (sym h.net_is) h.read.in_order in
+    record {
+      net = net;
+      told_is = refl;
+      raw = raw_view raw;
+      graph = refl;
+      read = order;
+      small = small_in_order (graph_of (raw_view raw)) (net_view net).placed.graph order read.small;
+      keyed = h.keyed;
+    }
+told_net entries (GraphBody raw) told read h a = absurd h
+told_net entries (UnsupportedBody token) told read h a = absurd h
+told_net entries (MalformedBody fault) told read h a = absurd h
+
+-- so the nets that are reported are those of the blocks
+pub nets_of_blocks : (entries : List EntryView) (n : ℕ) (found : List Block) (os : List Outcome) → All (λ (b : Block). IsReadBody b.body) found
+    → AreOutcomesFrom entries Key n (views found) os → list_all is_accepted os ≡ true → AreNetsOf (views found) (nets_told os)
+nets_of_blocks entries n [] [] read h a = tt
+nets_of_blocks entries n (b ∷ found) (o ∷ os) read h a =
+    let tests = and_parts (is_accepted o) (list_all is_accepted os) a in
+    let t = told_net entries b.body o.body (All-head (λ (x : Block). IsReadBody x.body) b found read) h.0.body tests.0 in
+    let first : IsNetOf (block_view b) (net_view t.net) = record { raw = t.raw; graph = t.graph; read = t.read; small = t.small; keyed = t.keyed } in
+    let rest = nets_of_blocks entries (n + 1) found os (All-tail (λ (x : Block). IsReadBody x.body) b found read) h.1 tests.1 in
+    subst (λ (told : Option NetInMemory). AreNetsOf (views (b ∷ found)) (with_net told (nets_told os))) (sym t.told_is) (first, rest)
+nets_of_blocks entries n found os read h a = absurd h
+
+-- there are as many outcomes as blocks
+pub as_many : (entries : List EntryView) (n : ℕ) (bs : List BlockView) (os : List Outcome) → AreOutcomesFrom entries Key n bs os → length os ≡ length bs
+as_many entries n [] [] h = refl
+as_many entries n (b ∷ bs) (o ∷ os) h = let e = as_many entries (n + 1) bs os h.1 in omega (arith, e)
+as_many entries n bs os h = absurd h
+
+-- the graph that a body says, where it is one
+abbrev raw_or : RawView → BodyView → RawView
+raw_or d (Net raw) = raw
+raw_or d x = d
+
+-- the placed graph of a block is one
+same_placed : (block : BlockView) (m n : KeyedNet) → IsNetOf block m → IsNetOf block n → m.placed ≡ n.placed
+same_placed block m n a b =
+    let raw : a.raw ≡ b.raw = ap (raw_or a.raw) (sym a.graph ∙ b.graph) in
+    let there = subst (λ (r : RawView). IsInOrder (graph_of r) n.placed.graph) (sym raw) b.read in
+    (one_net m n a.keyed b.keyed (one_in_order (graph_of a.raw) m.placed.graph n.placed.graph a.read there)).placed
+
+-- nets with the same placed graphs, one by one
+abbrev ArePlacedAlike : List KeyedNet → List KeyedNet → Type 0
+ArePlacedAlike [] [] = Unit {0}
+ArePlacedAlike (m ∷ ms) (n ∷ ns) = (m.placed ≡ n.placed) × ArePlacedAlike ms ns
+ArePlacedAlike ms ns = ⊥
+
+-- so are the nets of blocks
+nets_alike : (bs : List BlockView) (ms ns : List KeyedNet) → AreNetsOf bs ms → AreNetsOf bs ns → ArePlacedAlike ms ns
+nets_alike [] [] [] a b = tt
+nets_alike [] (m ∷ ms) ns a b = absurd a
+nets_alike (c ∷ bs) [] ns a b = absurd a
+nets_alike (c ∷ bs) (m ∷ ms) (n ∷ ns) a b = (same_placed c m n a.0 b.0, nets_alike bs ms ns a.1 b.1)
+nets_alike bs ms ns a b = absurd b
+
+-- the item of a net is one
+one_item : (first first' : KeyedNet) (room : ℕ) (m n : KeyedNet) (x y : ItemView) → first.placed ≡ first'.placed → m.placed ≡ n.placed
+    → IsItemOf first room m x → IsItemOf first' room n y → x ≡ y
+one_item first first' room m n x y e f a b =
+    let answer = one_answer_alike first first' m n room a.answer b.answer e f a.is_answer b.is_answer in
+    a.item_is ∙ (λ i. item_by (f i).graph (answer i)) ∙ sym b.item_is
+
+-- the items of nets are one list
+one_items : (first first' : KeyedNet) (room : ℕ) (ms ns : List KeyedNet) (xs ys : List ItemView) → first.placed ≡ first'.placed → ArePlacedAlike ms ns
+    → AreItemsOf first room ms xs → AreItemsOf first' room ns ys → xs ≡ ys
+one_items first first' room [] [] [] [] e s a b = refl
+one_items first first' room [] [] (x ∷ xs) ys e s a b = absurd a
+one_items first first' room [] (n ∷ ns) xs ys e s a b = absurd s
+one_items first first' room (m ∷ ms) [] xs ys e s a b = absurd s
+one_items first first' room (m ∷ ms) (n ∷ ns) [] ys e s a b = absurd a
+one_items first first' room (m ∷ ms) (n ∷ ns) (x ∷ xs) (y ∷ ys) e s a b =
+    let item = one_item first first' room m n x y e s.0 a.0 b.0 in
+    let later = subst (λ (z : ItemView). AreItemsOf first' (room - images_in z) ns ys) (sym item) b.1 in
+    let rest = one_items first first' (room - images_in x) ms ns xs ys e s.1 a.1 later in
+    λ i. item i ∷ rest i
+one_items first first' room ms ns xs ys e s a b = absurd b
+
+-- the maps from the first net to the others are one
+one_maps : (ms ns : List KeyedNet) (x y : Option Maps) → ArePlacedAlike ms ns → AreMapsOf ms x → AreMapsOf ns y → x ≡ y
+one_maps ms ns x y h k l = search (arith, one_items)
+
+-- of a block that has its key no refusal is reported
+pub accepted_body : (block : BlockView) (body : BodyView) (net : KeyedNet) (told : OutcomeBody) → block.body ≡ body → IsNetOf block net
+    → IsBodyOf [] Key body told → is_accepted_body told ≡ true
+accepted_body block body net (Checked size) e is h = refl
+accepted_body block body net (Located size names placed) e is h = refl
+accepted_body block body net (Keyed size own) e is h = refl
+accepted_body block body net (Identified size vertices own shells names) e is h = refl
+accepted_body block (Net raw) net (Refused size names refusal) e is h =
+    let same : is.raw ≡ raw = ap (raw_or raw) (sym is.graph ∙ e) in
+    absurd (keyed_not_refused raw Key size names net refusal (subst (λ (r : RawView). IsInOrder (graph_of r) net.placed.graph) same is.read) is.keyed h)
+accepted_body block (Other token) net told e is h = let other : Other token ≡ Net is.raw = sym e ∙ is.graph in absurd (cc)
+accepted_body block (Faulty fault) net told e is h = let other : Faulty fault ≡ Net is.raw = sym e ∙ is.graph in absurd (cc)
+accepted_body block body net told e is h = absurd h
+
+all_told : (n : ℕ) (bs : List BlockView) (ns : List KeyedNet) (os : List Outcome) → AreNetsOf bs ns → AreOutcomesFrom [] Key n bs os
+    → list_all is_accepted os ≡ true
+all_told n [] ns [] a h = refl
+all_told n (b ∷ bs) [] (o ∷ os) a h = absurd a
+all_told n (b ∷ bs) (net ∷ ns) (o ∷ os) a h =
+    let here = accepted_body b b.body net o.body refl a.0 h.0.body in
+    let rest = all_told (n + 1) bs ns os a.1 h.1 in
+    λ i. here i && rest i
+all_told n bs ns os a h = absurd h
+
+-- a report that some block is not accepted is none where all are
+mapped_or_reported : (bs : List BlockView) (s t : List ℕ) → AreMapped bs s → ¬ IsReport Key [] bs false t
+mapped_or_reported bs s t a r = true≢false (sym (all_told 1 bs a.nets r.outcomes a.are_nets r.are_outcomes.each) ∙ sym r.all)
+
+-- what is due is one
+pub one_sameness : OneSameness
+one_sameness bs Done Done x y a b =
+    let maps = one_maps a.nets b.nets a.told.maps b.told.maps (nets_alike bs a.nets b.nets a.are_nets b.are_nets) a.told.are_maps b.told.are_maps in
+    (refl, a.told.text_is ∙ ap maps_text maps ∙ sym b.told.text_is)
+one_sameness bs Done SomeRefused x y a b = absurd (mapped_or_reported bs x y a b)
+one_sameness bs SomeRefused Done x y a b = absurd (mapped_or_reported bs y x b a)
+one_sameness bs SomeRefused SomeRefused x y a b = (refl, (one_report Key [] bs false false x y a b).1)
+one_sameness bs Done other x y a b = absurd b
+one_sameness bs SomeRefused other x y a b = absurd b
+one_sameness bs status other x y a b = absurd a
