@@ -1,14 +1,14 @@
--- Where a piece ends in its line.
+-- Where a piece ends in its line, and that it is a part of it.
 use Rattle.std.proofs.Common.{◌≡◌, ℕ, zero, suc, ◌+◌, ◌<◌, ◌≤◌, Bool, true, false, List, [], ◌∷◌, ◌++◌, length, take, Option, None, Some, cond, ◌==◌, arith}
-use Rattle.std.proofs.Common.{refl, sym, ap, ◌∙◌, not, ◌||◌, inl, inr, get_or}
-use Rattle.std.proofs.lemmas.{List.length-append, List.length-take, List.Sums.prefix_len_stops, List.Sums.prefix_len_passes, Bool.cases_Bool, Bool.cases_lt}
-use Rattle.std.proofs.lemmas.{Grind.common_steps}
+use Rattle.std.proofs.Common.{refl, sym, ap, ◌∙◌, not, ◌||◌, inl, inr, get_or, ◌≢◌, ◌-◌, drop, take-suc}
+use Rattle.std.proofs.lemmas.List.{length-append, length-take, take_all, take_rest}
 use Rattle.std.specs.Prelude.{position, is_some, unwrap_or}
-use Rattle.std.specs.List.{prefix_len, onto_first}
-use Rattle.cgd_lex.specs.Pieces.{other_bytes, quoted_piece, is_run_byte, ends_run, run_bytes}
-use Rattle.cgd_lex.specs.Tokens.{first_line, first_of, lines_of, is_whole, kind_of_run, is_closed, quoted_size}
-use Rattle.cgd_lex.specs.declared.token.TokenKind.TheVariants.{Word, Whole}
-use Rattle.cgd_lex.proofs.Steps.{up_to_on, first_line_on}
+use Rattle.std.{proofs.lemmas.List.Sums.prefix_len_stops, proofs.lemmas.List.Sums.prefix_len_passes, proofs.lemmas.Bool.cases_Bool}
+use Rattle.std.{proofs.lemmas.Bool.cases_lt, proofs.lemmas.Grind.common_steps, specs.List.prefix_len, specs.List.onto_first}
+use Rattle.cgd_lex.specs.Pieces.{other_bytes, quoted_piece, is_run_byte, ends_run, run_bytes, Piece, first_byte, first_piece}
+use Rattle.cgd_lex.specs.Tokens.{first_line, first_of, lines_of, is_whole, kind_of_run, is_closed, quoted_size, kind_of_piece, tokens_from, token_at}
+use Rattle.cgd_lex.proofs.Steps.{up_to_on, first_line_on, piece_is, one_piece}
+use Rattle.cgd_lex.specs.declared.token.{TokenKind.TheVariants.Word, TokenKind.TheVariants.Whole, TokenKind.TokenKind}
 
 -- what the test of equality says
 pub same : (a b : ℕ) → (a == b) ≡ true → a ≡ b
@@ -90,8 +90,7 @@ a_quote x stops other = grind (arith, common_steps, stops, other)
 -- the quote is before the end of the line
 pub closes : (bs : List ℕ) (k d : ℕ) → prefix_len (λ x. not (x == 34 || x == 10)) bs ≡ k → k < length bs → get_or bs k d ≡ 34 → k < length (first_line bs)
 closes bs k d is within_ quote =
-    let m = prefix_len (λ x. not (x == 10)) bs in
-    let a = line_to bs in
+    let m = prefix_len (λ x. not (x == 10)) bs in let a = line_to bs in
     let c = earlier (λ x. not (x == 34 || x == 10)) (λ x. not (x == 10)) bs (λ b. by_two (b == 34) (b == 10)) in
     elim (cases_lt k m) [
       | inl less ↦ omega (arith, a, less)
@@ -104,8 +103,7 @@ closes bs k d is within_ quote =
 -- the line ends before a quote
 pub opens : (bs : List ℕ) (k d : ℕ) → prefix_len (λ x. not (x == 34 || x == 10)) bs ≡ k → k < length bs → (get_or bs k d ≡ 34 → ⊥) → k ≡ length (first_line bs)
 opens bs k d is within_ other =
-    let m = prefix_len (λ x. not (x == 10)) bs in
-    let a = line_to bs in
+    let m = prefix_len (λ x. not (x == 10)) bs in let a = line_to bs in
     let c = earlier (λ x. not (x == 34 || x == 10)) (λ x. not (x == 10)) bs (λ b. by_two (b == 34) (b == 10)) in
     let g : prefix_len (λ x. not (x == 34 || x == 10)) bs < length bs = omega (arith, is, within_) in
     let s = ap (λ i. not (get_or bs i d == 34 || get_or bs i d == 10)) (sym is) ∙ prefix_len_stops (λ x. not (x == 34 || x == 10)) bs d g in
@@ -135,8 +133,7 @@ pub quote_closed : (bs : List ℕ) (k d : ℕ) → position (λ x. x == 34 || x 
     → (is_closed (first_line bs) ≡ true) × (quoted_size (first_line bs) ≡ k + 1)
 quote_closed bs k d at quote =
     let within_ = found_within (λ x. x == 34 || x == 10) bs k at in
-    let is = end_at (λ x. x == 34 || x == 10) bs k at in
-    let less = closes bs k d is within_ quote in
+    let is = end_at (λ x. x == 34 || x == 10) bs k at in let less = closes bs k d is within_ quote in
     let e = size_by (first_line bs) (Some k) (found_at (first_line bs) k (quote_line bs ∙ is) less) in
     (e.0, e.1 ∙ closed_size (first_line bs) k less)
 
@@ -175,3 +172,58 @@ run_size bs = search (arith, up_to_on, length-take, within)
 pub kind_by : (b : ℕ) (bs : List ℕ) (n : ℕ) (t : Bool) → n ≡ prefix_len is_run_byte (first_line bs) → t ≡ is_whole (b ∷ take n bs)
     → cond t Whole Word ≡ kind_of_run (b ∷ run_bytes (first_line bs))
 kind_by b bs n t size is = ap (λ t. cond t Whole Word) (is ∙ ap (λ n. is_whole (b ∷ take n bs)) size ∙ ap (λ run. is_whole (b ∷ run)) (sym (run_is bs)))
+
+-- A piece is a part of its line.
+
+-- the piece is this byte and the first bytes of the list
+abbrev pub FitsIn : ℕ → List ℕ → Piece → Type 0
+FitsIn b l p = (first_byte p ≡ b) × (length (other_bytes p) ≤ length l) × (other_bytes p ≡ take (length (other_bytes p)) l)
+
+-- a byte that is found to be a quote
+no_quote : (x : ℕ) → not (x == 34) ≡ false → x ≡ 34
+no_quote x h = grind (arith, common_steps, h)
+
+-- a closed text fits
+quote_fits : (l : List ℕ) (k : ℕ) → position (λ x. x == 34) l ≡ Some k → FitsIn 34 l (quoted_piece (Some k) l)
+quote_fits l k at =
+    let less = found_within (λ x. x == 34) l k at in let is = end_at (λ x. x == 34) l k at in
+    let stop = prefix_len_stops (λ x. not (x == 34)) l 0 (omega (arith, is, less)) in
+    let quote : get_or l k 0 ≡ 34 = no_quote _ (ap (λ i. not (get_or l i 0 == 34)) (sym is) ∙ stop) in
+    let size : length (take k l ++ 34 ∷ []) ≡ suc k = omega (arith, length-append (take k l) (34 ∷ []), length-take k l, less) in
+    (refl, omega (arith, size, less), ap (λ b. take k l ++ b ∷ []) (sym quote) ∙ sym (take-suc l k 0 less) ∙ ap (λ n. take n l) (sym size))
+
+-- what begins with a quote fits
+quoted_fits : (l : List ℕ) (o : Option ℕ) → position (λ x. x == 34) l ≡ o → FitsIn 34 l (quoted_piece o l)
+quoted_fits l o h = search (arith, take_all, quote_fits)
+
+-- a run fits
+run_fits : (b : ℕ) (l : List ℕ) → (length (run_bytes l) ≤ length l) × (run_bytes l ≡ take (length (run_bytes l)) l)
+run_fits b l = search (arith, up_to_on, length-take, within)
+
+-- the first piece of a line fits in it
+pub piece_fits : (b : ℕ) (l : List ℕ) → FitsIn b l (first_piece b l)
+piece_fits b l = piece_is (FitsIn b l) b l
+    (λ t. (refl, omega arith, refl))
+    (λ t. (sym (same b 35 t), omega arith, sym (take_all (length l) l (omega arith))))
+    (λ t. let e = same b 34 t in rw e (quoted_fits l (position (λ x. x == 34) l) refl))
+    (λ t. (refl, omega arith, refl))
+    (λ t. (refl, (run_fits b l).0, (run_fits b l).1))
+
+-- the test shows a byte other than the line feed
+no_line_feed : (b : ℕ) → b ≢ 10 → (b == 10) ≡ false
+no_line_feed b other = grind (arith, common_steps, other)
+
+-- the bytes that were measured are a part of the text, whatever its place and line
+pub part_is : (text : List ℕ) (b : ℕ) (bs : List ℕ) (n : ℕ) (kind : Option TokenKind) → text ≡ b ∷ bs → b ≢ 10
+    → n ≡ length (other_bytes (first_piece b (first_line bs))) → kind ≡ kind_of_piece (first_piece b (first_line bs)) → n ≤ length bs
+    → (at line : ℕ) → tokens_from at line text ≡ token_at at line (take (n + 1) text) kind
+    ++ tokens_from (at + length (take (n + 1) text)) (line + 0) (take (length bs - n) (drop n bs))
+part_is text b bs n kind whole other size kind_is room at line =
+    let p = first_piece b (first_line bs) in let fits = piece_fits b (first_line bs) in
+    let step = one_piece at line b bs p (no_line_feed b other) refl fits.1 fits.0 in
+    let k : n ≤ length (first_line bs) = omega (arith, size, fits.1) in
+    let bytes : other_bytes p ≡ take n bs = fits.2 ∙ ap (λ n. take n (first_line bs)) (sym size) ∙ take_line n bs k in
+    let head : take (n + 1) (b ∷ bs) ≡ b ∷ other_bytes p = let e : n + 1 ≡ suc n = omega arith in ap (λ n. take n (b ∷ bs)) e ∙ ap (λ t. b ∷ t) (sym bytes) in
+    let far : at + length (take (n + 1) (b ∷ bs)) ≡ at + 1 + length (other_bytes p) = omega (arith, ap length head) in
+    let same_line : line + 0 ≡ line = omega arith in
+    rw whole (rw (take_rest bs n) (rw same_line (rw far (rw head (rw kind_is (rw size step))))))

@@ -1,10 +1,5 @@
 pub mod Steps
-pub mod Ends
-pub mod Fits
-pub mod Unique
-pub mod Exists
-pub mod Forms
 pub mod Places
-mod TokenCount
+pub mod Cuts
+pub mod Ends
 mod LineLists
-mod Caps

@@ -1,6 +1,6 @@
 -- Where the tokens of a text stand, and what their texts are.
-use Rattle.std.proofs.Common.{◌≡◌, ℕ, zero, suc, ◌+◌, ◌≤◌, false, List, [], ◌∷◌, ◌++◌, length, take, drop, cond, ◌==◌, arith, refl, sym, ap, ◌∙◌, inl, inr}
-use Rattle.std.proofs.Common.{subst, Option, None, Some}
+use Rattle.std.proofs.Common.{◌≡◌, ℕ, zero, suc, ◌+◌, ◌≤◌, false, List, [], ◌∷◌, ◌++◌, length, take, drop, cond, ◌==◌, arith, refl, sym, ap, ◌∙◌, inl}
+use Rattle.std.proofs.Common.{inr, subst, Option, None, Some}
 use Rattle.std.proofs.lemmas.List.{append_assoc, length-append, length-drop, take-append-drop}
 use Rattle.std.proofs.{lemmas.Bool.cases_Bool, Math.Seq.drop-append_seam, Math.Seq.take-append_seam, lemmas.List.Elements.All-cons}
 use Rattle.std.proofs.{lemmas.List.Elements.All-nil, lemmas.List.Sums.sum_by-append, lemmas.List.Sums.sum_by-cons}
@@ -10,7 +10,8 @@ use Rattle.cgd_lex.specs.Tokens.{TokenView, tokens_from, token_at, first_line, k
 use Rattle.cgd_lex.specs.Places.{IsSliceOf, IsOnLine, AreInOrder, line_number}
 use Rattle.cgd_lex.specs.{Forms.HasItsForm, declared.token.TokenKind.TokenKind, declared.token.TokenKind.TheVariants.Newline}
 use Rattle.cgd_lex.proofs.Steps.{at_newline, one_piece, first_line_on}
-use Rattle.cgd_lex.proofs.{Ends.same, Ends.take_line, Fits.piece_fits, Forms.IsOfItsKind, Forms.first_form}
+use Rattle.cgd_lex.proofs.Ends.{same, take_line, piece_fits}
+use Rattle.cgd_lex.proofs.Cuts.{IsOfItsKind, first_form}
 
 -- the tokens stand in the source one after another, from this place on
 pub record ArePlaced (source : List ℕ) (from : ℕ) (tokens : List TokenView) : Type 0 where
@@ -44,8 +45,7 @@ feeds_in_line (suc k) (b ∷ bs) = elim (cases_Bool (b == line_feed)) [
 -- no line ends within a piece
 feeds_in_part : (b : ℕ) (bs : List ℕ) → (b == line_feed) ≡ false → feeds (b ∷ other_bytes (first_piece b (first_line bs))) ≡ 0
 feeds_in_part b bs other =
-    let p = first_piece b (first_line bs) in
-    let k = length (other_bytes p) in
+    let p = first_piece b (first_line bs) in let k = length (other_bytes p) in
     feeds-cons b (other_bytes p)
     ∙ ap (λ t. cond t 1 0 + feeds (other_bytes p)) other
     ∙ ap (λ bytes. 0 + feeds bytes) (piece_fits b (first_line bs)).2
@@ -101,17 +101,14 @@ placed n before [] from at line fits place number less = none_left (before ++ []
 placed zero before (b ∷ bs) from at line fits place number less = absurd (omega (arith, fits))
 placed (suc n) before (b ∷ bs) from at line fits place number less = elim (cases_Bool (b == line_feed)) [
   | inl yes_ ↦
-      let e : b ≡ line_feed = same b line_feed yes_ in
-      let feed : List ℕ = line_feed ∷ [] in
+      let e : b ≡ line_feed = same b line_feed yes_ in let feed : List ℕ = line_feed ∷ [] in
       let later = placed n (before ++ feed) bs (at + 1) (at + 1) (line + 1)
       (omega (arith, fits)) (omega (arith, place, length-append before feed)) (omega (arith, number, feeds-append before feed)) (omega arith) in
       rw e (rw (at_newline at line bs) (with_part before feed bs (Some Newline) from at line _ place number less refl
       (rw (sym (append_assoc before feed bs)) later)))
   | inr no_ ↦
-      let p = first_piece b (first_line bs) in
-      let k = length (other_bytes p) in
-      let f = piece_fits b (first_line bs) in
-      let part : List ℕ = b ∷ other_bytes p in
+      let p = first_piece b (first_line bs) in let k = length (other_bytes p) in
+      let f = piece_fits b (first_line bs) in let part : List ℕ = b ∷ other_bytes p in
       let bytes : other_bytes p ≡ take k bs = f.2 ∙ take_line k bs f.1 in
       let whole : part ++ drop k bs ≡ b ∷ bs = ap (λ bs'. b ∷ bs' ++ drop k bs) bytes ∙ ap (λ bs. b ∷ bs) (take-append-drop k bs) in
       let form : IsOfItsKind (kind_of_piece p) part = subst (λ b. IsOfItsKind (kind_of_piece p) (b ∷ other_bytes p)) f.0 (first_form b (first_line bs)) in

@@ -89,9 +89,7 @@ pub one_piece : (at line b : ℕ) (bs : List ℕ) (p : Piece) → (b == 10) ≡ 
     tokens_from at line (b ∷ bs) ≡ token_at at line (b ∷ other_bytes p) (kind_of_piece p)
     ++ tokens_from (at + 1 + length (other_bytes p)) line (drop (length (other_bytes p)) bs)
 one_piece at line b bs p other is fits first =
-    let k = length (other_bytes p) in
-    let l = first_line bs in
-    let o = others_of (lines_of bs) in
+    let k = length (other_bytes p) in let l = first_line bs in let o = others_of (lines_of bs) in
     let e : at + length (b ∷ l) ≡ at + 1 + k + length (drop k l) = omega (arith, length-drop k l, fits) in
     ap (λ l. tokens_of_line at line l ++ later_lines (at + length l) line (others_of (lines_of (b ∷ bs)))) (first_line_on b bs other)
     ∙ ap (λ o. tokens_of_line at line (b ∷ l) ++ later_lines (at + length (b ∷ l)) line o) (others_on b bs other)

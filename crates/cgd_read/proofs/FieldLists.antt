@@ -1,13 +1,12 @@
 -- What the fields of a line say, read one by one.
-use Rattle.std.proofs.Common.{◌≡◌, ℕ, ◌+◌, ◌≤◌, ◌<◌, ◌==◌, nat_lt, Bool, true, false, cond, ◌||◌, ◌&&◌, List, [], ◌∷◌, length, drop, fold, None, is_none, pos}
-use Rattle.std.proofs.Common.{refl, sym, ap, subst, ◌∙◌, arith}
-use Rattle.std.proofs.{lemmas.Bool.Decides.nat_tests, Math.Bool.or_assoc, Math.Bool.or-false}
-use Rattle.std.specs.List.{list_any}
+use Rattle.std.proofs.Common.{◌≡◌, ℕ, ◌+◌, ◌≤◌, ◌<◌, ◌==◌, nat_lt, Bool, true, false, cond, ◌||◌, ◌&&◌, List, [], ◌∷◌, length, drop, fold, None, is_none}
+use Rattle.std.proofs.Common.{pos, refl, sym, ap, subst, ◌∙◌, arith}
+use Rattle.std.{proofs.lemmas.Bool.Decides.nat_tests, proofs.Math.Bool.or_assoc, proofs.Math.Bool.or-false, specs.List.list_any}
 use Rattle.cgd_lex.specs.{Tokens.TokenView, Words.is_quoted, Words.name_in}
-use Rattle.cgd_read.specs.Values.{part_of}
 use Rattle.cgd_read.specs.Lines.{FieldsView, fields_of, is_strange, name_of_fields, part_or_zero, text_of_first, part_of_first, LineView, line_with}
 use Rattle.cgd_read.specs.Lines.{fields_from, kind_of}
 use Rattle.cgd_read.specs.Reading.{no_fields, with_field, IsFlat}
+use Rattle.cgd_read.specs.Values.{part_of}
 
 abbrev pub with_all : FieldsView → List TokenView → FieldsView
 with_all fields tokens = fold with_field fields tokens

@@ -1,14 +1,16 @@
--- When clap takes the arguments, and what it then has.
-use Rattle.std.proofs.Common.{◌≡◌, ◌∙◌, refl, sym, ap, subst, Bool, List, [], ◌∷◌, Option, Some, None, false, cond, fold, arith}
-use Rattle.clap.specs.Words.{Row, Rule, Text, matches_of}
+-- When clap takes the arguments, what it then has, and what is answered.
+use Rattle.std.proofs.Common.{◌≡◌, ◌∙◌, refl, sym, ap, subst, Bool, List, [], ◌∷◌, Option, Some, None, false, cond, fold, arith, map, ⊎_elim}
+use Rattle.std.{proofs.lemmas.Str.IsUtf8-string_bytes, specs.Prelude.String, specs.Prelude.string_bytes, specs.declared.alloc.Global.Global}
+use Rattle.clap.specs.Words.{Row, Rule, Text, matches_of, first_value, kind_of, rows_of}
 use Rattle.clap.specs.Walk.{Held, default_rows, finished, has_row, idle, reading_by, settled, settled_rows, walk, with_default}
 use Rattle.clap.specs.Faults.{check_fault, default_fault, defaults_fault, fault_of, level_fault}
-use Rattle.clap.specs.{Kinds.Kinds, Kinds.or_else, Simple.built}
-use Rattle.clap.proofs.FaultLemmas.{leaf_fault, past}
-use Rattle.command_words.specs.Grammar.{grammar}
-use Rattle.command_words.specs.Words.{Said, nothing, said_by}
-use Rattle.command_words.proofs.Walks.{IsMeaning, AreTaken, first_empty, held_after, second_empty, walk_at}
-use Rattle.command_words.proofs.{Rules.rules_list, Rules.top, Rows.IsShown, Rows.shows_nothing, States.state, Stages.First, Readings.AreUtf8, AllWords.reads}
+use Rattle.clap.specs.Kinds.{Kinds, or_else, HasKind, IsAmong}
+use Rattle.clap.{specs.Simple.built, specs.declared.error.Error.Error, specs.declared.error.kind.ErrorKind.TheVariants.OutOfMemory}
+use Rattle.clap.{specs.declared.parser.matches.Found.Found, proofs.FaultLemmas.leaf_fault, proofs.FaultLemmas.past, proofs.WalkLemmas.first_value-rows}
+use Rattle.command_words.specs.Words.{Said, nothing, said_by, Place, Command, Second, Archive, Name, Cell, at}
+use Rattle.command_words.proofs.Walks.{IsMeaning, AreTaken, first_empty, held_after, second_empty, walk_at, First}
+use Rattle.command_words.proofs.Rows.{rules_list, top, IsShown, shows_nothing, state, id_of}
+use Rattle.command_words.{specs.Grammar.grammar, specs.Views.said_in, proofs.Readings.AreUtf8, proofs.Readings.reads}
 
 -- none of the arguments has a default
 abbrev HaveNoDefaults : List Rule → Type 0
@@ -82,3 +84,45 @@ pub words_refused : (words : List Text) → AreUtf8 words → said_by words ≡ 
 words_refused words u e f =
     let m : IsMeaning None start words = subst (λ (o : Option Said). IsMeaning o start words) e (means words u) in
     m (passes_from words f)
+
+-- What clap's parse gives: what the arguments say, or that they say nothing.
+
+-- strings are text
+pub texts_valid : (words : List (String Global)) → AreUtf8 (map string_bytes words)
+texts_valid [] = tt
+texts_valid (word ∷ words) = (IsUtf8-string_bytes word, texts_valid words)
+
+-- what clap found is what its rows show
+said_is : (found : Found) (said : Said) → IsShown said (rows_of found) → said_in found ≡ said
+said_is found said s = λ i. record {
+  command = (value Command) i;
+  second = (value Second) i;
+  archive = (value Archive) i;
+  name = (value Name) i;
+  cell =
+      (value Cell) i;
+}
+  where
+    value : (p : Place) → first_value found (id_of p) ≡ at said p
+    value p = first_value-rows found (id_of p) ∙ (s p).value
+
+-- what clap found is what the arguments say
+pub said_ok : (found : Found) (words : List Text) → AreUtf8 words → fault_of grammar words ≡ [] → rows_of found ≡ matches_of grammar words
+    → Some (said_in found) ≡ said_by words
+said_ok found words u passes rows = go (said_by words) refl
+  where
+    go : (o : Option Said) → said_by words ≡ o → Some (said_in found) ≡ o
+    go None e = absurd (words_refused words u e passes)
+    go (Some said) e = ap (λ (s : Said). Some s) (said_is found said (subst (IsShown said) (sym rows) (words_taken words said u e).1))
+
+-- arguments that clap refuses say nothing
+pub said_none : (words : List Text) → AreUtf8 words → (fault_of grammar words ≡ [] → ⊥) → None ≡ said_by words
+said_none words u fails = go (said_by words) refl
+  where
+    go : (o : Option Said) → said_by words ≡ o → None ≡ o
+    go None e = refl
+    go (Some said) e = absurd (fails (words_taken words said u e).0)
+
+-- an error other than running out of memory is a fault of the arguments
+pub has_fault : (kinds : Kinds) (e : Error) → HasKind kinds e → (kind_of e ≡ OutOfMemory → ⊥) → kinds ≡ [] → ⊥
+has_fault kinds e h other none = ⊎_elim (λ m. other m) (λ among. subst (IsAmong (kind_of e)) none among) h

@@ -1,12 +1,13 @@
--- How a task ends to which an answer is due.
+-- How a task ends to which an answer is due, and that no status without a text is due.
 use Rattle.std.proofs.Common.{◌≡◌, ◌≢◌, inl, inr, ℕ, ◌<◌, ◌≤◌, Bool, true, false, List, [], length, Option, Some, unwrap_or, refl, arith}
 use Rattle.cgd_read.specs.{Blocks.blocks_of, Blocks.most_blocks, Views.BlockView}
 use Rattle.command_words.specs.Tasks.{Task, Union, Verify}
 use Rattle.net_archive.specs.Archives.{ArchiveView}
-use Rattle.union_answers.specs.{ArchiveBytes.IsBadArchive, Unions.IsUnionAs, Unions.begins_archive}
-use Rattle.union_answers.proofs.CallerLemmas.{not_bad}
+use Rattle.union_answers.specs.Unions.{IsUnionAs, begins_archive, IsUnionDue}
+use Rattle.union_answers.{specs.ArchiveBytes.IsBadArchive, proofs.CallerLemmas.not_bad}
 use Rattle.net_answers.specs.Due.{HasTooMany, IsDueFor, IsDueToBlocks, IsDueWith}
-use Rattle.net_answers.specs.{Bytes.HasFewBlocks, Endings.IsComplete, Endings.IsOfUniting, Laws.FewEndings, Laws.UnionEndings}
+use Rattle.net_answers.specs.Endings.{IsComplete, IsOfUniting, GoesWithText}
+use Rattle.net_answers.specs.{Bytes.HasFewBlocks, Laws.FewEndings, Laws.UnionEndings}
 use Rattle.same_answers.specs.DueToVerify.{IsDueToVerify}
 use Rattle.net_report.specs.declared.status.{Status.Status, Status.TheVariants.BadArchive}
 
@@ -65,3 +66,26 @@ union_endings = record {
       (not_bad archive within.entries text within.is_archive) due;
   many = λ name archive_name file archive text due. due.0;
 }
+
+-- A status without a text is due to no task.
+
+-- to blocks
+text_so : (task : Task) (blocks : List BlockView) (a : ArchiveView) (status : Status) (text : List ℕ) → IsDueFor task blocks a status text → GoesWithText status
+text_so task blocks a status text h = grind arith
+
+-- to the blocks of bytes
+pub text_of_blocks : (task : Task) (bytes : List ℕ) (archive : Option (List ℕ)) (status : Status) (text : List ℕ)
+    → IsDueToBlocks task bytes archive status text → GoesWithText status
+text_of_blocks task bytes archive status text h = search (arith, text_so)
+
+text_of_either : (begins : Bool) (bytes : List ℕ) (archive : Option (List ℕ)) (status : Status) (text : List ℕ) → IsUnionAs begins bytes archive status text
+    → GoesWithText status
+text_of_either begins bytes archive status text h = search arith
+
+-- to a union
+pub text_of_union : (bytes : List ℕ) (archive : Option (List ℕ)) (status : Status) (text : List ℕ) → IsUnionDue bytes archive status text → GoesWithText status
+text_of_union bytes archive status text due = text_of_either (begins_archive bytes) bytes archive status text due
+
+-- to a check of maps
+pub text_of_verify : (bytes : List ℕ) (status : Status) (text : List ℕ) → IsDueToVerify bytes status text → GoesWithText status
+text_of_verify bytes status text h = search arith

@@ -1,15 +1,7 @@
 pub mod CallerLemmas
-mod Added
-mod TaskKinds
-mod TextEndings
-pub mod Endings
-mod KeyedBlocks
-mod Turns
-mod KeyLists
-mod MadeBlocks
-mod DifferentKeys
 pub mod Headlines
-mod OneAddition
-mod OneSummary
+mod Additions
+mod Summaries
+pub mod Endings
 pub mod OneAnswer
-mod DueAnswers
+mod MadeBlocks

@@ -1,24 +1,28 @@
--- The blocks of a workload: one for each net.
+-- The blocks of a workload, one for each net, and what is due to a task of blocks.
 use Rattle.std.proofs.Common.{◌≡◌, ℕ, zero, suc, ◌+◌, ◌<◌, ◌≤◌, ◌==◌, Bool, true, false, cond, ℤ, pos, List, [], ◌∷◌, ◌++◌, length, flat_map, refl, sym, ap}
-use Rattle.std.proofs.Common.{subst, ◌∙◌, arith, append_assoc}
-use Rattle.std.proofs.lemmas.{Bool.and_parts, List.append-nil, List.Elements.All-cons, List.Elements.All-append}
-use Rattle.std.specs.{Prelude.All, Prelude.codes, Fmt.decimal, Fmt.signed_decimal, List.list_all, List.range_with_len}
+use Rattle.std.proofs.Common.{subst, ◌∙◌, arith, append_assoc, Option}
+use Rattle.std.{proofs.lemmas.Bool.and_parts, proofs.lemmas.List.append-nil, proofs.lemmas.List.Elements.All-cons, proofs.lemmas.List.Elements.All-append}
+use Rattle.std.{specs.Prelude.All, specs.Prelude.codes, specs.Fmt.decimal, specs.Fmt.signed_decimal, specs.List.list_all, specs.List.range_with_len}
 use Rattle.line_text.specs.Numbers.{list_text}
 use Rattle.cgd_lex.specs.Pieces.{Piece, Blank, Run, is_run_byte, IsCut}
 use Rattle.cgd_lex.specs.Tokens.{TokenView, tokens_of_line, tokens_of_pieces}
-use Rattle.cgd_lex.specs.declared.token.TokenKind.TheVariants.{Word}
-use Rattle.cgd_lex.proofs.Unique.{one_cut}
-use Rattle.cgd_read.specs.Blocks.{block_of, blocks_from, blocks_of}
-use Rattle.cgd_read.specs.Faults.{is_end}
+use Rattle.cgd_lex.{specs.declared.token.TokenKind.TheVariants.Word, proofs.Cuts.one_cut}
+use Rattle.cgd_read.specs.Blocks.{block_of, blocks_from, blocks_of, most_blocks}
 use Rattle.cgd_read.specs.Lines.{LineView, line_of, line_with}
 use Rattle.cgd_read.specs.declared.line.LineKind.TheVariants.{Opening, Edges, End}
+use Rattle.cgd_read.specs.{Faults.is_end, Views.BlockView}
 use Rattle.workload.specs.BaseNets.{base_edges, dimension, is_base_edge}
 use Rattle.workload.specs.Workload.{all_lines, base_of, block_text, cells_of, edge_at, edge_line, edges_text, ends_text, most_nets, part_text, place_lines}
 use Rattle.workload.specs.Workload.{shear_of, third_text, workload}
-use Rattle.workload.specs.declared.edge.Edge.{Edge}
-use Rattle.workload.proofs.{BaseEdges.all_base, SmallEdges.edge_small}
-use Rattle.cover_answers.proofs.CallerLemmas.{AreShort, HasLines, HasNoFeed, IsShort, edges_read, end_read, lines_at, list_no_feed, list_tokens, marked_tokens}
-use Rattle.cover_answers.proofs.CallerLemmas.{more_lines, no_feed, no_line, number_bytes, number_no_feed, number_token, one_line, opening_read, word_line}
+use Rattle.workload.{specs.declared.edge.Edge.Edge, proofs.SmallText.all_base, proofs.SmallText.edge_small}
+use Rattle.cover_answers.proofs.CallerLemmas.{AreShort, HasLines, HasNoFeed, IsShort, edges_read, end_read, lines_at, list_no_feed, list_tokens}
+use Rattle.cover_answers.proofs.CallerLemmas.{marked_tokens, more_lines, no_feed, no_line, number_bytes, number_no_feed, number_token, one_line}
+use Rattle.cover_answers.proofs.CallerLemmas.{opening_read, word_line}
+use Rattle.command_words.specs.{Tasks.Task, Tasks.MakesFew, Views.blocks_view, declared.tasks.BlocksTask.BlocksTask}
+use Rattle.net_archive.specs.Archives.{ArchiveView}
+use Rattle.union_answers.specs.ArchiveBytes.{IsArchiveIn}
+use Rattle.net_answers.specs.Due.{HasTooMany, IsDueFor, IsDueToBlocks, IsDueWith, IsOfBlocks, bytes_of}
+use Rattle.net_report.specs.declared.status.{Status.Status, Status.TheVariants.BadArchive}
 
 -- none of these lines ends a block
 abbrev AreInner : List LineView → Type 0
@@ -51,8 +55,7 @@ inner_none n rest = record { next = n; lines = []; inner = tt; has = no_line n r
 
 inner_both : (a b : List ℕ) → IsInner a → IsInner b → IsInner (a ++ b)
 inner_both a b p q n rest =
-    let x = p n (b ++ rest) in
-    let y = q x.next rest in
+    let x = p n (b ++ rest) in let y = q x.next rest in
     record {
       next = y.next;
       lines = x.lines ++ y.lines;
@@ -239,3 +242,33 @@ count_from a (suc n) at k l =
 -- a workload has a block for each net
 pub made_blocks : (n : ℕ) → n ≤ most_nets → length (blocks_of (workload n)) ≡ n
 made_blocks n l = count_from 0 n 0 1 (omega (arith, l))
+
+-- What is due to a task of blocks.
+
+-- a task on blocks is one
+pub of_blocks : (on : BlocksTask) → IsOfBlocks (blocks_view on)
+of_blocks on = search arith
+
+-- where the archive is read, it is not reported as bad
+not_bad : (task : Task) (blocks : List BlockView) (a : ArchiveView) (text : List ℕ) → ¬ IsDueFor task blocks a BadArchive text
+not_bad task blocks a text h = search arith
+
+-- what is due for the blocks of the bytes and the archive is due to them
+pub due_for : (task : Task) (bytes : List ℕ) (archive : Option (List ℕ)) (a : ArchiveView) (s : Status) (text : List ℕ)
+    → length (blocks_of bytes) ≤ most_blocks → IsArchiveIn archive a → IsDueFor task (blocks_of bytes) a s text
+    → IsDueToBlocks task bytes archive s text
+due_for task bytes archive a s text h k l = grind (arith, not_bad)
+
+-- what is due to the blocks is due
+pub due_to_blocks : (task : Task) (bytes : List ℕ) (archive : Option (List ℕ)) (s : Status) (text : List ℕ) → IsOfBlocks task
+    → IsDueToBlocks task bytes archive s text → IsDueWith task bytes archive s text
+due_to_blocks task bytes archive s text k l = search arith
+
+-- a workload has few blocks
+pub few_made : (count : ℕ) → count ≤ most_nets → ¬ (most_blocks < length (blocks_of (workload count)))
+few_made count few many = let made = made_blocks count few in absurd (omega (arith, made, few, many))
+
+-- where there are too many blocks, there is too much
+pub many_blocks : (task : Task) (file : List ℕ) → IsOfBlocks task → MakesFew task → most_blocks < length (blocks_of (bytes_of task file))
+    → HasTooMany task (bytes_of task file)
+many_blocks task file k l p = grind (arith, few_made)

@@ -1,22 +1,24 @@
--- What is due to a task is one.
-use Rattle.std.proofs.Common.{◌≡◌, ℕ, ◌<◌, ◌≤◌, Bool, true, false, List, [], length, Option, true≢false, refl, sym, ap, ◌∙◌, arith}
+-- What is due to a task is one, and it is there where no net has to be computed.
+use Rattle.std.proofs.Common.{◌≡◌, ℕ, ◌<◌, ◌≤◌, Bool, true, false, List, [], length, Option, true≢false, refl, sym, ap, ◌∙◌, arith, ◌⊎◌, inl, inr}
+use Rattle.std.proofs.lemmas.Bool.{cases_lt}
 use Rattle.cgd_read.specs.{Views.BlockView, Blocks.blocks_of, Blocks.most_blocks}
 use Rattle.archive_text.specs.Entries.{EntryView}
-use Rattle.net_archive.specs.Archives.{ArchiveView, archive_text}
-use Rattle.union_answers.specs.{ArchiveTexts.add_fault_text, ArchiveTexts.groups_text, ArchiveBytes.IsArchiveIn, ArchiveBytes.IsBadArchive}
+use Rattle.net_archive.specs.{Archives.ArchiveView, Archives.archive_text, Migrating.newest}
+use Rattle.union_answers.specs.ArchiveTexts.{add_fault_text, groups_text, migrate_fault_text}
+use Rattle.union_answers.specs.ArchiveBytes.{IsArchiveIn, IsBadArchive, most_bytes}
 use Rattle.command_words.specs.Tasks.{Task, Check, Place, Key, Identify, Components, Add, Duplicates, Migrate, Union, Same, Verify, Workload, Cover}
-use Rattle.net_report.specs.declared.status.Status.TheVariants.{Done, SomeRefused, BadArchive, TooManyBlocks, AddRefused}
-use Rattle.net_report.specs.declared.{command.Command.Command, status.Status.Status}
+use Rattle.net_report.specs.declared.status.Status.TheVariants.{Done, SomeRefused, BadArchive, TooManyBlocks, AddRefused, MigrateRefused}
+use Rattle.net_report.specs.{declared.command.Command.Command, declared.status.Status.Status}
 use Rattle.net_outcomes.proofs.CallerLemmas.{all_alike, one_report, one_telling}
-use Rattle.net_answers.specs.Due.{AreGroupsAs, HasTooMany, IsAddedAs, IsAddedOrRefused, IsDueFor, IsDueOn, IsDueToBlocks, IsDueWith, IsMigratedAs, IsNotAddedAs}
-use Rattle.net_answers.specs.Due.{IsReportAs, bytes_of}
-use Rattle.net_answers.specs.Laws.{OneDueAnswer}
+use Rattle.net_answers.specs.Due.{AreGroupsAs, HasTooMany, IsAddedAs, IsAddedOrRefused, IsDueFor, IsDueOn, IsDueToBlocks, IsDueWith, IsMigratedAs}
+use Rattle.net_answers.specs.Due.{IsNotAddedAs, IsReportAs, bytes_of}
 use Rattle.net_answers.specs.Summaries.{IsSummary, IsSummaryAs, summary_text}
-use Rattle.net_answers.proofs.OneAddition.{accepted_or_reported, all_or_one, entries_accepted, one_longer, one_not_added}
-use Rattle.net_answers.proofs.OneSummary.{as_many_accepted, as_many_keys, one_list_of_groups}
+use Rattle.net_answers.specs.Laws.{OneDueAnswer, SomeAnswerIsDue}
 use Rattle.union_answers.proofs.CallerLemmas.{not_bad, one_archive_in, one_bad, many_items, one_union_due}
 use Rattle.cover_answers.proofs.CallerLemmas.{one_covering}
 use Rattle.same_answers.proofs.CallerLemmas.{one_verification, one_sameness}
+use Rattle.net_answers.proofs.Additions.{accepted_or_reported, all_or_one, entries_accepted, one_longer, one_not_added}
+use Rattle.net_answers.proofs.Summaries.{as_many_accepted, as_many_keys, one_list_of_groups}
 use Rattle.net_report.specs.declared.command.Command.TheVariants as asks
 
 -- one status and one text
@@ -161,3 +163,18 @@ one_count task file archive s t x y l p = search (arith, not_many, one_with)
 -- two answers that are due are one
 pub one_due_answer : OneDueAnswer
 one_due_answer task file archive s t x y h k = one_count task file archive s t x y (count_of task file archive s x h) (count_of task file archive t y k)
+
+-- Where no net has to be computed an answer is due.
+
+-- what is due to a migration
+migrated : (name : List ℕ) (archive : Option (List ℕ)) (a : ArchiveView) → IsArchiveIn archive a
+    → (s : Status) × (x : List ℕ) × IsDueOn (Migrate name) [] archive s x
+migrated name archive a is = by (cases_lt most_bytes (length (newest a)))
+  where
+    by : (most_bytes < length (newest a)) ⊎ (length (newest a) ≤ most_bytes) → (s : Status) × (x : List ℕ) × IsDueOn (Migrate name) [] archive s x
+    by (inl l) = (MigrateRefused, migrate_fault_text (length (newest a)), (omega arith, a, is, (l, refl)))
+    by (inr l) = (Done, newest a, (omega arith, a, is, (refl, l)))
+
+-- so it is, and of too many blocks
+pub some_answer_is_due : SomeAnswerIsDue
+some_answer_is_due = search (arith, migrated)

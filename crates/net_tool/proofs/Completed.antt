@@ -1,13 +1,34 @@
--- A run that is within the limits ends in few ways.
-use Rattle.std.proofs.Common.{◌≡◌, inl, inr, ℕ, ◌<◌, List, [], length, Option, None, Some, unwrap_or, sym, ap, subst, arith}
+-- How a run ends: without a text, with room for each text, and within the limits.
+use Rattle.std.proofs.Common.{◌≡◌, ℕ, List, [], ◌∷◌, ◌++◌, Option, None, Some, refl, ap, ◌≤◌, length, arith, inl, inr, ◌<◌, unwrap_or, sym, subst}
+use Rattle.std.specs.Io.KnownBytes.{Appends}
 use Rattle.outside.specs.Held.{Holds, Are, HasMore}
-use Rattle.command_words.specs.Tasks.{Task, archive_named, file_named, task_of}
-use Rattle.net_answers.specs.{Bytes.AreFitting, Bytes.most_bytes, Due.IsDueOn, Endings.IsComplete}
-use Rattle.net_answers.proofs.CallerLemmas.{few_endings}
-use Rattle.net_report.specs.declared.status.Status.{Status}
+use Rattle.command_words.specs.Tasks.{task_of, Task, archive_named, file_named}
+use Rattle.net_tool.specs.Completeness.{HasRoom, AreWithin, AreFilesWithin, bytes_of_name}
+use Rattle.net_tool.specs.Run.{IsBroken, AreBytesOf, HasManyBytes, IsAnswer, IsAnswered, IsDue, IsDueOver, IsTooLarge}
+use Rattle.net_answers.{specs.Bytes.AreFitting, specs.Bytes.most_bytes, specs.Due.IsDueOn, specs.Endings.IsComplete, proofs.CallerLemmas.few_endings}
 use Rattle.net_report.specs.declared.status.Status.TheVariants.{ReadFault, WriteFault, TooLarge, NoMemory}
-use Rattle.net_tool.specs.Completeness.{AreWithin, AreFilesWithin, bytes_of_name}
-use Rattle.net_tool.specs.Run.{AreBytesOf, HasManyBytes, IsAnswer, IsAnswered, IsDue, IsDueOver, IsTooLarge}
+use Rattle.net_report.specs.declared.status.Status.{Status}
+
+-- nothing after a list
+nothing_after : (xs : List ℕ) → xs ≡ xs ++ []
+nothing_after [] = refl
+nothing_after (x ∷ xs) = ap (λ (ys : List ℕ). x ∷ ys) (nothing_after xs)
+
+-- what was written stays
+pub appends_nothing : (written : Option (List ℕ)) → Appends written written []
+appends_nothing None = tt
+appends_nothing (Some xs) = nothing_after xs
+
+-- Where there is room for each text that is due, nothing breaks off.
+
+-- a text that broke off was longer than the sink was sure to take
+pub no_break : (words : List (List ℕ)) (holds : Holds) (before after : Option (List ℕ)) (sure : ℕ) → IsBroken words holds before after sure
+    → HasRoom (task_of words) holds sure → ⊥
+no_break words holds before after sure broken room =
+    let fits : length broken.1 ≤ sure = room broken.0 broken.1 broken.4 in
+    omega (arith, fits, broken.6)
+
+-- A run that is within the limits ends in few ways.
 
 -- the bytes that are read are those that are held
 read_bytes : (name : Option (List ℕ)) (holds : Holds) (of : List ℕ → List ℕ) → holds ≡ Some of → (bytes : Option (List ℕ)) → AreBytesOf name holds bytes

@@ -1,6 +1,3 @@
-mod DueOver
 mod Headlines
-mod Completed
-mod Room
 mod OneAnswer
-mod NothingWritten
+mod Completed

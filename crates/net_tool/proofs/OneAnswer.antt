@@ -1,12 +1,25 @@
--- The answer of a run is one.
-use Rattle.std.proofs.Common.{◌≡◌, inl, inr, ℕ, List, [], length, Option, None, Some, refl, sym, ap, subst, ◌∙◌, arith}
+-- What is due to the bytes that were read is due to their files, and is one.
+use Rattle.std.proofs.Common.{◌≡◌, ℕ, List, [], Option, unwrap_or, subst, inl, inr, length, None, Some, refl, sym, ap, ◌∙◌, arith}
 use Rattle.std.specs.Prelude.{unwrap_or}
+use Rattle.outside.specs.Held.{Holds}
 use Rattle.command_words.specs.Tasks.{Task, archive_named, file_named}
-use Rattle.net_answers.specs.Due.{IsDueOn}
-use Rattle.net_report.specs.declared.status.{Status.Status, Status.TheVariants.TooLarge}
-use Rattle.net_answers.proofs.CallerLemmas.{one_due_answer}
+use Rattle.net_answers.specs.Due.{IsDueWith, bytes_of, IsDueOn}
+use Rattle.net_answers.{specs.Endings.GoesWithText, proofs.CallerLemmas.one_due_answer}
+use Rattle.net_report.specs.declared.status.{Status.Status, Status.TheVariants.TooLarge, Status.TheVariants.TooManyBlocks}
+use Rattle.net_tool.specs.Run.{AreBytesOf, IsDueOf, HasManyBytes, IsDueOver, IsTooLarge}
 use Rattle.net_tool.specs.Laws.{OneAnswer}
-use Rattle.net_tool.specs.Run.{AreBytesOf, HasManyBytes, IsDueOf, IsDueOver, IsTooLarge}
+
+-- a file without bytes counts as empty
+pub due_over : (task : Task) (holds : Holds) (bytes : List ℕ) (file archive : Option (List ℕ)) → bytes ≡ unwrap_or file []
+    → AreBytesOf (file_named task) holds file
+    → AreBytesOf (archive_named task) holds archive → (status : Status) (text : List ℕ) → GoesWithText status
+    → IsDueWith task (bytes_of task bytes) archive status text → IsDueOf task holds status text
+due_over task holds bytes file archive e f a TooLarge text told due = absurd told
+due_over task holds bytes file archive e f a TooManyBlocks text told due = absurd told
+due_over task holds bytes file archive e f a status text told due =
+    (file, archive, f, a, subst (λ b. IsDueWith task (bytes_of task b) archive status text) e due)
+
+-- The answer of a run is one.
 
 module _ (of : List ℕ → List ℕ) where
   -- the bytes of a file are one

@@ -1,4 +1,1 @@
-pub mod BaseEdges
-pub mod Ranges
-pub mod SmallEdges
 pub mod SmallText

@@ -1,15 +1,12 @@
 use Rattle.std.proofs.Common.{◌≡◌, ◌∙◌, ◌++◌, ◌∷◌, [], List, length, sym, ap, subst, arith}
-use Rattle.std.proofs.lemmas.List.{append_assoc, length-append}
-use Rattle.std.specs.Vec.Iter.{into_iter_items}
+use Rattle.std.{proofs.lemmas.List.append_assoc, proofs.lemmas.List.length-append, specs.Vec.Iter.into_iter_items}
 use Rattle.archive_text.specs.{Entries.entry_views, declared.entry.Entry.Entry}
-use Rattle.archive_union.specs.{Faults.IsUniteFault, declared.uniting.UniteFault.UniteFault}
-use Rattle.archive_union.proofs.Steps.{fault_is, item_on}
+use Rattle.archive_union.{specs.Faults.IsUniteFault, specs.declared.uniting.UniteFault.UniteFault, proofs.OneUnion.fault_is, proofs.OneUnion.item_on}
 use Rattle.archive_union.proofs.uniting.add_items.Goals as goal
 
 pub returns-in-Err-clause-fault : goal.returns-in-Err-clause-fault
 returns-in-Err-clause-fault c =
-    let at = c.loop-item in
-    let later = into_iter_items c.next.new.self in
+    let at = c.loop-item in let later = into_iter_items c.next.new.self in
     let whole : c.args.items.items ≡ at.yielded ++ c.in-Some.item ∷ later = sym at.invariant.all
     ∙ ap (λ (l : List Entry). at.yielded ++ l) c.in-Some.ensures.steps.0 in
     subst (λ (f : UniteFault). IsUniteFault c.args.archive.now (entry_views c.args.items.items) f) (sym c.not_added.ensures)
@@ -18,8 +15,7 @@ returns-in-Err-clause-fault c =
 
 pub loop-item-preserved : goal.loop-item-preserved
 loop-item-preserved c =
-    let at = c.loop-item in let x = c.in-Some.item in
-    let later = into_iter_items c.next.new.self in
+    let at = c.loop-item in let x = c.in-Some.item in let later = into_iter_items c.next.new.self in
     let steps = c.in-Some.ensures.steps in
     record {
       all = append_assoc at.yielded (x ∷ []) later ∙ ap (λ (l : List Entry). at.yielded ++ l) (sym steps.0) ∙ at.invariant.all;

@@ -1,6 +1,5 @@
 use Rattle.std.proofs.Common.{sym, ◌∙◌, ◌==◌}
-use Rattle.cgd_lex.specs.Pieces.{line_feed}
-use Rattle.cgd_lex.proofs.Ends.{line_to, end_or_length}
+use Rattle.cgd_lex.{specs.Pieces.line_feed, proofs.Ends.line_to, proofs.Ends.end_or_length}
 use Rattle.cgd_lex.proofs.bytes.line_length.Goals as goal
 
 pub returns-clause-length : goal.returns-clause-length

@@ -1,6 +1,5 @@
 use Rattle.std.proofs.Common.{sym, ◌∙◌, refl}
-use Rattle.cgd_lex.specs.Pieces.{is_run_byte, ends_run}
-use Rattle.cgd_lex.proofs.Ends.{ends_in_line, end_or_length}
+use Rattle.cgd_lex.{specs.Pieces.is_run_byte, specs.Pieces.ends_run, proofs.Ends.ends_in_line, proofs.Ends.end_or_length}
 use Rattle.cgd_lex.proofs.bytes.run_length.Goals as goal
 
 pub returns-clause-length : goal.returns-clause-length

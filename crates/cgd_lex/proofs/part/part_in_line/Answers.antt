@@ -1,4 +1,4 @@
-use Rattle.cgd_lex.proofs.Fits.{part_is}
+use Rattle.cgd_lex.proofs.Ends.{part_is}
 use Rattle.cgd_lex.proofs.part.part_in_line.Goals as goal
 
 pub returns-clause-part : goal.returns-clause-part

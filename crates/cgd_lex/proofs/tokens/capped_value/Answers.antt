@@ -1,5 +1,5 @@
 use Rattle.std.proofs.Common.{◌∙◌}
-use Rattle.cgd_lex.proofs.Caps.{capped_is}
+use Rattle.cgd_lex.proofs.LineLists.{capped_is}
 use Rattle.cgd_lex.proofs.tokens.capped_value.Goals as goal
 
 pub returns : goal.returns

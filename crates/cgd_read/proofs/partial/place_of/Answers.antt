@@ -1,5 +1,5 @@
 use Rattle.std.proofs.Common.{ap, ◌∙◌, map, List, ℕ, Bor}
-use Rattle.cgd_read.proofs.NameSets.{names_insert, place_of}
+use Rattle.cgd_read.proofs.Places.{names_insert, place_of}
 use Rattle.cgd_read.proofs.partial.place_of.Goals as goal
 
 pub returns-in-Ok-clause-names : goal.returns-in-Ok-clause-names

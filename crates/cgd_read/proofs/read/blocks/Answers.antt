@@ -1,10 +1,9 @@
 -- Of `blocks`: the loop over `line`; the clause `only`.
 use Rattle.std.proofs.Common.{◌∙◌, ◌++◌, List, false, sym, ap, subst, length, arith}
-use Rattle.std.proofs.lemmas.{List.Elements.All-nil, Grind.common_steps}
-use Rattle.std.specs.List.{All}
+use Rattle.std.{proofs.lemmas.List.Elements.All-nil, proofs.lemmas.Grind.common_steps, specs.List.All}
 use Rattle.cgd_read.specs.Views.{line_view, BlockView, views}
-use Rattle.cgd_read.specs.{Lines.LineView, Lines.token_lines, Blocks.blocks_from, Blocks.IsReadBody, declared.block.Block.Block}
-use Rattle.cgd_read.proofs.{BlockLists.next_block, Decided.only_block}
+use Rattle.cgd_read.{specs.Lines.LineView, specs.Lines.token_lines, specs.Blocks.blocks_from, specs.Blocks.IsReadBody, specs.declared.block.Block.Block}
+use Rattle.cgd_read.{proofs.Decided.next_block, proofs.Decided.only_block}
 use Rattle.cgd_read.proofs.read.blocks.Goals as goal
 
 pub loop-line-init : goal.loop-line-init
@@ -21,10 +20,8 @@ loop-line-init c =
 
 pub loop-line-preserved : goal.loop-line-preserved
 loop-line-preserved c =
-    let i = c.loop-line.invariant in
-    let old = views c.loop-line.found.items in
-    let line = line_view c.in-Some.line in
-    let lines = token_lines c.next_line.new.lexer in
+    let i = c.loop-line.invariant in let old = views c.loop-line.found.items in
+    let line = line_view c.in-Some.line in let lines = token_lines c.next_line.new.lexer in
     let left = token_lines c.add_block.new.lexer in
     record {
       whole =

@@ -1,8 +1,7 @@
 use Rattle.std.proofs.Common.{◌≡◌, ◌∷◌, ◌∙◌, ◌≤◌, None, sym, subst, length}
 use Rattle.periodic_net.specs.Limits.{most_vertices}
 use Rattle.cgd_read.specs.{Views.line_view, Views.raw_view, Faults.rows_in, Faults.fault_of}
-use Rattle.cgd_read.proofs.ReadGraph.{rows_read, few_fields, still_rows}
-use Rattle.cgd_read.proofs.{SoundLines.AllSound, LineGraph.make_lines, LineGraph.ends_with_rows}
+use Rattle.cgd_read.proofs.Graphs.{rows_read, few_fields, still_rows, AllSound, make_lines, ends_with_rows}
 use Rattle.cgd_read.proofs.read.read_graph.Goals as goal
 
 pub judge-requires-clause-room : goal.judge-requires-clause-room
@@ -12,8 +11,7 @@ judge-requires-clause-room c =
 
 pub finish-requires : goal.finish-requires
 finish-requires c =
-    let i = c.loop-line.invariant in
-    let line = line_view c.in-Some.line in
+    let i = c.loop-line.invariant in let line = line_view c.in-Some.line in
     let none : fault_of i.earlier line ≡ None = sym (c.in_ok-kind.ensures.fault i.earlier i.stands) ∙ c.in_default-2.is in
     let sound : AllSound (line ∷ i.earlier) = (record { fault = none; small = c.in-Some.ensures.small; flat = c.in-Some.ensures.flat }, i.sound) in
     let stands = c.in_ok-kind.ensures.stands c.in_default-2.is i.earlier i.stands in
@@ -21,8 +19,7 @@ finish-requires c =
 
 pub returns-then-is_end-clause-graph : goal.returns-then-is_end-clause-graph
 returns-then-is_end-clause-graph c =
-    let i = c.loop-line.invariant in
-    let line = line_view c.in-Some.line in
+    let i = c.loop-line.invariant in let line = line_view c.in-Some.line in
     let none : fault_of i.earlier line ≡ None = sym (c.in_ok-kind.ensures.fault i.earlier i.stands) ∙ c.in_default-2.is in
     let sound : AllSound (line ∷ i.earlier) = (record { fault = none; small = c.in-Some.ensures.small; flat = c.in-Some.ensures.flat }, i.sound) in
     let stands = c.in_ok-kind.ensures.stands c.in_default-2.is i.earlier i.stands in

@@ -1,7 +1,7 @@
 use Rattle.std.proofs.Common.{◌≡◌, ◌+◌, ◌≤◌, List, [], length}
 use Rattle.cgd_lex.specs.Limits.{longest_text}
 use Rattle.cgd_read.specs.{Lines.LineView, Lines.token_lines, Blocks.graph_block, Reading.after_end, States.IsStateAfter}
-use Rattle.cgd_read.proofs.SoundLines.{AllSound}
+use Rattle.cgd_read.proofs.Graphs.{AllSound}
 use Rattle.cgd_read.proofs.read.read_graph.Given as goal
 
 abbrev pub invariant-loop-line : goal.invariant-loop-line

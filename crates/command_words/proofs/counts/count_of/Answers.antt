@@ -1,8 +1,7 @@
 use Rattle.std.proofs.Common.{◌≡◌, ◌∙◌, ℕ, true, sym, ap, subst}
-use Rattle.std.proofs.lemmas.Bool.{true≢false}
-use Rattle.std.specs.{Result.result_ok, Str.Parse.digits_value}
+use Rattle.std.{proofs.lemmas.Bool.true≢false, specs.Result.result_ok, specs.Str.Parse.digits_value}
+use Rattle.command_words.proofs.FewNets.{count_is, count_parsed, no_count}
 use Rattle.command_words.specs.Tasks.{is_count}
-use Rattle.command_words.proofs.NetCounts.{count_is, count_parsed, no_count}
 use Rattle.command_words.proofs.counts.count_of.Goals as goal
 
 pub returns-then-is_count : goal.returns-then-is_count

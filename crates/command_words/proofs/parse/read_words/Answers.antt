@@ -1,9 +1,8 @@
 use Rattle.std.proofs.Common.{◌≡◌, ◌∙◌, sym, ap, Some}
 use Rattle.clap.specs.Words.{App, app_of, found_of, is_simple, matches_of}
 use Rattle.clap.specs.Faults.{fault_of, is_simple_and_free}
-use Rattle.command_words.specs.{Words.texts_of, Grammar.grammar}
-use Rattle.command_words.proofs.Rules.{free, simple}
-use Rattle.command_words.proofs.ParseAnswers.{has_fault, said_none, said_ok, texts_valid}
+use Rattle.command_words.proofs.Parses.{has_fault, said_none, said_ok, texts_valid}
+use Rattle.command_words.{specs.Words.texts_of, specs.Grammar.grammar, proofs.Rows.free, proofs.Rows.simple}
 use Rattle.command_words.proofs.parse.read_words.Goals as goal
 
 pub returns-in-Ok : goal.returns-in-Ok

@@ -1,6 +1,5 @@
 use Rattle.std.proofs.lemmas.Result.{IfOk-weaker}
-use Rattle.command_words.specs.Views.{said_view}
-use Rattle.command_words.proofs.FewNets.{few_nets}
+use Rattle.command_words.{specs.Views.said_view, proofs.FewNets.few_nets}
 use Rattle.command_words.proofs.tasks.task_of.Goals as goal
 
 pub returns-in-Some-clause-few : goal.returns-in-Some-clause-few

@@ -1,5 +1,5 @@
 use Rattle.cgd_read.specs.Views.{views}
-use Rattle.net_answers.proofs.KeyedBlocks.{all_accepted}
+use Rattle.net_answers.proofs.Additions.{all_accepted}
 use Rattle.net_answers.proofs.adding.add_accepted.Goals as goal
 
 pub returns-in_ok-refused_text-in-Err : goal.returns-in_ok-refused_text-in-Err

@@ -1,12 +1,10 @@
 -- Of `add_all`: the loop over `block`; the clauses `fault` and `added`; what `add_block` requires; that numbers fit. `turn` is what most of them share.
 use Rattle.std.proofs.Common.{◌≡◌, length, arith}
-use Rattle.std.proofs.lemmas.{List.length-map, List.length_push, Slice.Zip.zip_turn, Slice.Zip.zip_end}
-use Rattle.std.specs.Prelude.{option_copied}
+use Rattle.std.{proofs.lemmas.List.length-map, proofs.lemmas.List.length_push, proofs.lemmas.Slice.Zip.zip_turn, proofs.lemmas.Slice.Zip.zip_end}
+use Rattle.std.{specs.Prelude.option_copied}
 use Rattle.cgd_read.specs.Views.{block_view, views}
 use Rattle.least_key.specs.AnyNets.{net_view}
-use Rattle.net_answers.proofs.Added.{added_first, added_next, all_added, not_added}
-use Rattle.net_answers.proofs.KeyedBlocks.{as_many}
-use Rattle.net_answers.proofs.Turns.{IsTurn, kinds_are, kinds_inside, net_is, one_told, turn_is}
+use Rattle.net_answers.proofs.Additions.{added_first, added_next, all_added, not_added, as_many, IsTurn, kinds_are, kinds_inside, net_is, one_told, turn_is}
 use Rattle.net_answers.proofs.adding.add_all.Goals.{In-Some, in-Some-net_told+in_default-add_block, in_default}
 use Rattle.net_answers.proofs.adding.add_all.Goals as goal
 
@@ -27,8 +25,7 @@ loop-block-init c = added_first _ _ c.args.archive.now c.recall.ensures
 
 pub returns-in-Err-clause-fault : goal.returns-in-Err-clause-fault
 returns-in-Err-clause-fault c = λ told.
-    let block = block_view c.in-Some.block.now in
-    let net = c.in-Some-net_told.net.now in
+    let block = block_view c.in-Some.block.now in let net = c.in-Some-net_told.net.now in
     let t = turn (goal.at.returns-in-Err-clause-fault c).In-Some in
     not_added (option_copied c.args.given) (views c.args.found.now) c.args.archive.now c.loop-block.archive (length c.loop-block.yielded)
     c.loop-block.number (option_copied c.loop-block.given) block (net_view net) c.in-Err.fault c.loop-block.invariant t.inside t.at
@@ -36,8 +33,7 @@ returns-in-Err-clause-fault c = λ told.
 
 pub loop-block-preserved : goal.loop-block-preserved
 loop-block-preserved c =
-    let block = block_view c.in-Some.block.now in
-    let outcome = c.in-Some.outcome.now in
+    let block = block_view c.in-Some.block.now in let outcome = c.in-Some.outcome.now in
     let t = turn (goal.at.loop-block-preserved c).In-Some in
     elim c.match-net_told.branch [
       | in-Some-net_told+in_default-add_block w ↦

@@ -1,7 +1,6 @@
-use Rattle.std.proofs.Common.{length}
-use Rattle.std.specs.Prelude.{option_copied}
+use Rattle.std.{proofs.Common.length, specs.Prelude.option_copied}
 use Rattle.cgd_read.specs.Views.{views}
-use Rattle.net_answers.proofs.Added.{AreAddedTo}
+use Rattle.net_answers.proofs.Additions.{AreAddedTo}
 use Rattle.net_answers.proofs.adding.add_all.Given as goal
 
 abbrev pub invariant-loop-block : goal.invariant-loop-block

@@ -2,8 +2,7 @@ use Rattle.std.proofs.Common.{ℕ, List, Option, Result, Ok, Err}
 use Rattle.std.specs.Prelude.{IfOk}
 use Rattle.net_report.specs.declared.answer.Answer.{Answer}
 use Rattle.union_answers.specs.Unions.{IsUnionDue}
-use Rattle.net_answers.specs.Endings.{GoesWithText}
-use Rattle.net_answers.proofs.TextEndings.{text_of_union}
+use Rattle.net_answers.{specs.Endings.GoesWithText, proofs.Endings.text_of_union}
 use Rattle.net_answers.proofs.answer.answer_to.Goals as goal
 
 -- what is due to a union has a status that goes with a text

@@ -1,8 +1,7 @@
 use Rattle.std.proofs.Common.{sym}
-use Rattle.net_answers.specs.KeyLists.{lists_in}
-use Rattle.net_answers.proofs.DifferentKeys.{none_next, put_next}
+use Rattle.net_answers.{specs.KeyLists.lists_in, proofs.Summaries.none_next, proofs.Summaries.put_next}
+use Rattle.net_answers.{proofs.workloads.count_keys.Goals.in-Some+in_ok-put_key, proofs.workloads.count_keys.Goals.in_default}
 use Rattle.net_answers.proofs.workloads.count_keys.Goals as goal
-use Rattle.net_answers.proofs.workloads.count_keys.Goals.{in-Some+in_ok-put_key, in_default}
 
 pub loop-outcome-preserved : goal.loop-outcome-preserved
 loop-outcome-preserved c =

@@ -1,4 +1,4 @@
-use Rattle.net_answers.proofs.KeyLists.{put_in}
+use Rattle.net_answers.proofs.Summaries.{put_in}
 use Rattle.net_answers.proofs.workloads.put_key.Goals as goal
 
 pub returns : goal.returns

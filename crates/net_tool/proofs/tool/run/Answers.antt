@@ -2,8 +2,8 @@
 use Rattle.std.proofs.Common.{rules, ◌≡◌, [], Some, Option, subst}
 use Rattle.command_words.specs.{Tasks.Task, Tasks.task_of, Views.task_view, Words.texts_of}
 use Rattle.net_report.specs.declared.status.Status.TheVariants.{Usage}
-use Rattle.net_tool.specs.Run.{IsDue}
-use Rattle.net_tool.proofs.{Completed.complete_of, Headlines.headline_of, NothingWritten.appends_nothing, Room.no_break}
+use Rattle.net_tool.proofs.Completed.{complete_of, appends_nothing, no_break}
+use Rattle.net_tool.{specs.Run.IsDue, proofs.Headlines.headline_of}
 use Rattle.net_tool.proofs.tool.run.Goals as goal
 
 pub returns-in_default-found-clause-broken : goal.returns-in_default-found-clause-broken
@@ -14,8 +14,7 @@ returns-in_default-found-clause-broken g c = λ fault.
 pub returns-in-Ok-answer_task-clause-broken : goal.returns-in-Ok-answer_task-clause-broken
 returns-in-Ok-answer_task-clause-broken g c = λ fault.
     let asks : Some (task_view c.in-Some.task) ≡ task_of (texts_of c.args.words.now) = search rules in
-    let answer = c.in-Ok-answer_task.answer in
-    let part = c.finish-in-Ok-answer_task.ensures.part fault in
+    let answer = c.in-Ok-answer_task.answer in let part = c.finish-in-Ok-answer_task.ensures.part fault in
     let due = subst (λ (o : Option Task). IsDue o (g.H.Shelf.holds c.args.shelf.now) answer.status c.deref.result.now) asks (search rules) in
     (answer.status, c.deref.result.now, part.0, part.1, due, part.2, c.finish-in-Ok-answer_task.ensures.unsure fault)
 

@@ -1,6 +1,5 @@
 use Rattle.std.proofs.{Common.sym, Common.◌∙◌, lemmas.Slice.Eq.slice_eq-Decides, lemmas.Bool.Decides.Decides-int_eq}
-use Rattle.least_key.specs.AnyNets.{net_view}
-use Rattle.least_key.proofs.CallerLemmas.{nets_decide}
+use Rattle.least_key.{specs.AnyNets.net_view, proofs.CallerLemmas.nets_decide}
 use Rattle.nets.proofs.calls.are_isomorphic.Goals as goal
 
 pub returns : goal.returns

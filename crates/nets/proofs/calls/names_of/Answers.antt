@@ -1,11 +1,9 @@
 use Rattle.std.proofs.Common.{sym, subst}
 use Rattle.key_theory.specs.Key.{IsKeyOf}
-use Rattle.least_key.specs.AnyNets.{net_view}
-use Rattle.least_key.proofs.CallerLemmas.{key_of_graph}
+use Rattle.least_key.{specs.AnyNets.net_view, proofs.CallerLemmas.key_of_graph}
 use Rattle.nets.proofs.calls.names_of.Goals as goal
 
 pub returns : goal.returns
 returns c =
-    let net = net_view c.args.net.now in
-    let keyed = c.key.ensures.keyed in
+    let net = net_view c.args.net.now in let keyed = c.key.ensures.keyed in
     c.lookup.ensures.isomorphic net.placed.graph keyed.is_graph (subst (IsKeyOf net.placed.graph) (sym c.key.ensures.key) (key_of_graph net keyed))

@@ -1,6 +1,6 @@
 use Rattle.std.proofs.Common.{◌++◌, ℕ, List, ap, sym, ◌∙◌, append_assoc}
 use Rattle.workload.specs.Workload.{edge_line, edge_at, lines_before}
-use Rattle.workload.proofs.Ranges.{one_more_piece}
+use Rattle.workload.proofs.SmallText.{one_more_piece}
 use Rattle.workload.proofs.lines.push_places.Goals as goal
 
 pub loop-r-preserved : goal.loop-r-preserved

@@ -1,7 +1,6 @@
 use Rattle.std.proofs.Common.{◌<◌, ◌%◌, ap, ◌∙◌, arith}
 use Rattle.std.specs.List.{list_all}
-use Rattle.workload.specs.BaseNets.{is_base_edge}
-use Rattle.workload.proofs.BaseEdges.{all_base}
+use Rattle.workload.{specs.BaseNets.is_base_edge, proofs.SmallText.all_base}
 use Rattle.workload.proofs.text.push_edges.Goals as goal
 
 pub push_lines-requires-clause-base : goal.push_lines-requires-clause-base

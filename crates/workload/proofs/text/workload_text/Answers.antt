@@ -1,6 +1,6 @@
 use Rattle.std.proofs.Common.{◌++◌, ap, sym, ◌∙◌, length, ◌≤◌, subst, List, ℕ, arith}
 use Rattle.workload.specs.Workload.{block_text, most_nets, most_text}
-use Rattle.workload.proofs.{Ranges.one_more_piece, SmallText.text_small}
+use Rattle.workload.proofs.SmallText.{one_more_piece, text_small}
 use Rattle.workload.proofs.text.workload_text.Goals as goal
 
 pub loop-i-preserved : goal.loop-i-preserved

@@ -1,6 +1,5 @@
 use Rattle.std.proofs.Common.{length, arith, refl, []}
-use Rattle.cgd_lex.proofs.{Exists.is_cut, Unique.one_cut, Places.placed, TokenCount.few_tokens}
-use Rattle.cgd_lex.specs.Tokens.{tokens_of}
+use Rattle.cgd_lex.{specs.Tokens.tokens_of, proofs.Cuts.is_cut, proofs.Cuts.one_cut, proofs.Places.placed, proofs.LineLists.few_tokens}
 use Rattle.cgd_lex.proofs.lexer.Lexer.new.Goals as goal
 
 pub returns-clause-slices : goal.returns-clause-slices
