@@ -7,7 +7,7 @@ from pathlib import Path
 
 from mutants import Done, Script, mutant
 from test_damaged import ARCHIVE, BATCH, COMPONENTS, EXAMPLES
-from testing import IS_LONG, PROGRAM, TOOLS, FolderTest, need_program, run
+from testing import IS_LONG, PROGRAM, TOOLS, FolderTest, need_modules, need_program, run
 
 sys.path.insert(0, str(TOOLS / "python"))
 from crystal_nets.texts.net_text import nets_of_report  # noqa: E402
@@ -119,6 +119,7 @@ class Scripts(Mutants):
 
     def test_net_table(self):
         """Of a damaged source each net or file has its row."""
+        need_modules("gemmi", "numpy", "scipy", "spglib")
         script = Script(BATCH / "net_table", self.folder)
         archive = self.written("x.archive", self.archive)
         for k, text in enumerate(self.mutants(self.nets, (EXAMPLES / "embedded.cgd").read_bytes())):
