@@ -13,6 +13,3 @@ pub use laws::{
     blocks_of_workload, few_endings, one_due_answer, some_answer_is_due, union_endings,
 };
 pub use net_archive::MOST_BYTES;
-
-#[cfg(test)]
-mod tests;

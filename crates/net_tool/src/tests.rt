@@ -1,5 +1,6 @@
 // Runs over files in memory: the arguments, the statuses, devices that fail, and files past their
 // limits.
+mod answers;
 mod commands;
 mod devices;
 mod endings;
@@ -28,6 +29,9 @@ const DIA_ARCHIVE: &str =
 
 const DIA_NEWEST: &str =
     "net_archive 2\nentry \"dia\"\ngraph 3 2 4\nedge 1 2 0 0 0\nedge 1 2 0 0 1\nedge 1 2 0 1 0\nedge 1 2 1 0 0\nkey 3 2 1 1 2 -1 -1 -1 1 2 0 0 1 1 2 0 1 0 1 2 1 0 0\nprimitive 2\nshells 1 4 12 24 42 64 92 124 162 204 252\nshells 2 4 12 24 42 64 92 124 162 204 252\nend\n";
+
+const PCU_ARCHIVE: &str =
+    "net_archive 1\nentry \"pcu\"\ngraph 3 1 3\nedge 1 1 0 0 1\nedge 1 1 0 1 0\nedge 1 1 1 0 0\nkey 3 1 1 1 1 0 0 1 1 1 0 1 0 1 1 1 0 0\nend\n";
 
 /// The calls of the devices that fail, and how many bytes a call moves at the most.
 #[derive(Clone, Copy, Drop)]

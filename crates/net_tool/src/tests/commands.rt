@@ -1,12 +1,10 @@
 // Each command once, over files that never fail: what it writes was worked out by hand.
-use super::{DIA, DIA_ARCHIVE, named_files, words_of};
+use super::{DIA, DIA_ARCHIVE, PCU_ARCHIVE, SQL, named_files, words_of};
 use crate::memory::run_in_memory;
 use net_report::Status;
 use outside::{HonestShelf, MemorySink};
 use std::alloc::Global;
 use std::test::Fail;
-
-const SQL: &str = "PERIODIC_GRAPH\nNAME sql\nEDGES\n1 1 1 0\n1 1 0 1\nEND\n";
 
 // two square nets, one between the other
 const TWO: &str = "PERIODIC_GRAPH\nNAME two\nEDGES\n1 1 2 0\n1 1 0 1\nEND\n";
@@ -22,9 +20,6 @@ const MAPS: &str =
 // the same, with an image that stands twice
 const DOUBLED: &str =
     "net_maps 1\ngraph 3 2 6\nedge 1 1 0 0 1\nedge 1 1 0 1 0\nedge 1 2 -1 0 0\nedge 1 2 0 0 0\nedge 2 2 0 0 1\nedge 2 2 0 1 0\npair 2 map\ngraph 3 1 3\nedge 1 1 0 0 1\nedge 1 1 0 1 0\nedge 1 1 1 0 0\nperiod 1\nimage 1 0 0 0 1 0 0 0\nimage 2 0 0 0 1 2 0 0\nbase 2 0 0\nbase 0 1 0\nbase 0 0 1\nend\n";
-
-const PCU_ARCHIVE: &str =
-    "net_archive 1\nentry \"pcu\"\ngraph 3 1 3\nedge 1 1 0 0 1\nedge 1 1 0 1 0\nedge 1 1 1 0 0\nkey 3 1 1 1 1 0 0 1 1 1 0 1 0 1 1 1 0 0\nend\n";
 
 const KEYS: &str =
     "key 2 1 1 1 0 1 1 0 1\nversion 1.0\nid square\nend\nkey 3 1 1 1 0 0 1 1 0 1 0 1 1 0 0 1\nid cube\nend\n";

@@ -1,7 +1,38 @@
-// The text of maps between nets that are given, with no text of them.
-use super::{PCU, net_in};
+// Maps between nets that are given: which ones can be checked, and their text.
+use super::{PCU, graph_in, net_in};
+use map_check::{BaseRows, Image, Images, NoMemory, PeriodicMap, fits};
 use net_certificate::maps_text;
+use quotient_graph::AnyGraph;
+use std::alloc::Global;
 use std::test::Fail;
+use vecdim::Triple;
+
+// Whether the map can be checked that moves the cubic net by so many cells.
+fn can_move(alloc: Global, cubic: &AnyGraph, x: i128) -> Result<bool, NoMemory> {
+    let image = Image {
+        v: 1,
+        t: Triple { x, y: 0, z: 0 },
+    };
+    let rows = [
+        Triple { x: 1, y: 0, z: 0 },
+        Triple { x: 0, y: 1, z: 0 },
+        Triple { x: 0, y: 0, z: 1 },
+    ];
+    let images = Images::from_slice(alloc, &[image])?;
+    let base = BaseRows::from_slice(alloc, &rows)?;
+    let map = PeriodicMap { m: 1, images, base };
+    Ok(fits(cubic, cubic, &map))
+}
+
+// No image may be past 2^38 cells.
+#[test]
+fn greatest_move(rt: HostRuntime) -> Result<(), Fail> {
+    let cubic = graph_in(rt.alloc(), PCU)?;
+    for (x, wanted) in [(274_877_906_944, true), (274_877_906_945, false)] {
+        assert_eq!(rt; can_move(rt.alloc(), &cubic, x), Ok(wanted));
+    }
+    Ok(())
+}
 
 const DOUBLED: &str =
     "PERIODIC_GRAPH\nEDGES\n1 1 0 0 1\n1 1 0 1 0\n1 2 -1 0 0\n1 2 0 0 0\n2 2 0 0 1\n2 2 0 1 0\nEND\n";

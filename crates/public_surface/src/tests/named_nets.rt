@@ -57,3 +57,16 @@ fn names(rt: HostRuntime) -> Result<(), Fail> {
     }
     Ok(())
 }
+
+// A net is added under a name, once, and found by it.
+#[test]
+fn added(rt: HostRuntime) -> Result<(), Fail> {
+    let diamond = super::net_in(rt.alloc(), DIA)?;
+    let mut archive = Archive::empty(rt.alloc());
+    assert_eq!(rt; archive.version(), 2);
+    assert!(rt; archive.add(b"dia", &diamond).is_ok());
+    assert!(rt; archive.add(b"dia", &diamond).is_err());
+    let mut names = names_of(&archive, &diamond);
+    assert!(rt; names.next() == Some(b"dia".as_slice()));
+    Ok(())
+}

@@ -1,5 +1,6 @@
 // Archives: nets that are added, reported and found twice, and texts that are none.
-use super::{DIA, DIA_ARCHIVE, PCU, PCU_ARCHIVE, Row, answer_over};
+use super::{PCU, Row, answer_over};
+use crate::tests::{DIA, DIA_ARCHIVE, PCU_ARCHIVE};
 use line_text::push_row;
 use net_report::Status;
 use std::test::Fail;

@@ -1,5 +1,6 @@
 // What is reported of nets: whether they are connected, and where their vertices stand.
-use super::{HCB, HCB_REPORT, Row, SODALITE, answer_on};
+use super::{HCB_REPORT, Row, SODALITE, answer_on};
+use crate::tests::HCB;
 use line_text::push_row;
 use net_report::Status;
 use std::alloc::Global;

@@ -1,8 +1,7 @@
 // Covers of the nets of texts on larger cells.
 use super::{PCU, Row};
+use crate::tests::SQL;
 use net_report::Status;
-
-const SQL: &str = "PERIODIC_GRAPH\nNAME sql\nEDGES\n1 1 1 0\n1 1 0 1\nEND\n";
 
 // The square net twice, the second time without a name, with its first row again.
 const TWICE: &str =

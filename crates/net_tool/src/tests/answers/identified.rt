@@ -1,5 +1,6 @@
 // All that is reported of a net: its placement, primitive graph, key, sequences and names.
-use super::{DIA_ARCHIVE, HCB, PCU, Row, SODALITE};
+use super::{PCU, Row, SODALITE};
+use crate::tests::{DIA_ARCHIVE, HCB};
 use net_report::Status;
 
 // The coordination sequences are the published ones of these nets.

@@ -9,7 +9,7 @@ mod nets;
 mod readings;
 mod unions;
 
-use crate::answer::answer_to;
+use crate::tests::words_of;
 use archives::IN_USE;
 use command_words::task_of;
 use components::DIVIDED;
@@ -17,7 +17,7 @@ use covers::COVERED;
 use identified::IDENTIFIED;
 use keys::KEYED;
 use maps::{MAPPED, VERIFIED};
-use net_archive::MOST_BYTES;
+use net_answers::{MOST_BYTES, answer_to};
 use net_report::{Answer, Status};
 use nets::{CONNECTED, PLACED};
 use std::alloc::Global;
@@ -25,35 +25,13 @@ use std::process::Abort;
 use std::test::Fail;
 use unions::UNITED;
 
-const HCB: &str = "PERIODIC_GRAPH\nNAME hcb\nEDGES\n1 2 0 0\n1 2 1 0\n1 2 0 1\nEND\n";
-
 const HCB_REPORT: &str =
     "net 1 line 1 \"hcb\"\ngraph d=2 vertices=2 edges=3 repeats=0\nconnected\n";
 
-const DIA: &str =
-    "PERIODIC_GRAPH\nNAME dia\nEDGES\n1 2 0 0 0\n1 2 1 0 0\n1 2 0 1 0\n1 2 0 0 1\nEND\n";
-
-const DIA_KEY_REPORT: &str =
-    "net 1 line 1 \"dia\"\ngraph d=3 vertices=2 edges=4 repeats=0\nkey 3 2 1 1 2 -1 -1 -1 1 2 0 0 1 1 2 0 1 0 1 2 1 0 0\n";
-
-const DIA_ARCHIVE: &str =
-    "net_archive 1\nentry \"dia\"\ngraph 3 2 4\nedge 1 2 0 0 0\nedge 1 2 0 0 1\nedge 1 2 0 1 0\nedge 1 2 1 0 0\nkey 3 2 1 1 2 -1 -1 -1 1 2 0 0 1 1 2 0 1 0 1 2 1 0 0\nend\n";
-
 const PCU: &str = "PERIODIC_GRAPH\nNAME pcu\nEDGES\n1 1 1 0 0\n1 1 0 1 0\n1 1 0 0 1\nEND\n";
-
-const PCU_ARCHIVE: &str =
-    "net_archive 1\nentry \"pcu\"\ngraph 3 1 3\nedge 1 1 0 0 1\nedge 1 1 0 1 0\nedge 1 1 1 0 0\nkey 3 1 1 1 1 0 0 1 1 1 0 1 0 1 1 1 0 0\nend\n";
 
 const SODALITE: &str =
     "# T sites of sodalite, body-centred cell\nPeriodic_Graph\nID \"sod, 12 sites\"\nEDGE 1 2 0 0 0\n 1 3 0 -1 0\n 1 4 0 0 0\n 1 5 0 0 0\n 6 2 1 0 0\n 6 3 1 -1 0\n 6 4 0 0 0\n 6 5 0 0 0\n 7 8 0 0 0   # the other half of the cell\n 7 9 0 0 0\n 7 10 0 0 0\n 7 11 0 0 -1\n 12 8 0 0 0\n 12 9 0 0 0\n 12 10 1 0 0\n 12 11 1 0 -1\n 2 10 0 0 0\n 2 11 0 0 0\n 3 10 0 0 0\n 3 11 0 0 0\n 8 4 0 0 0\n 8 5 0 0 -1\n 9 4 0 1 0\n 9 5 0 1 -1\nEnd\n";
-
-fn words_of(alloc: Global, words: &[&str]) -> Result<Vec<String>, Fail> {
-    let mut list = Vec::new(alloc);
-    for word in words {
-        list.push(String::from_str(alloc, word)?)?;
-    }
-    Ok(list)
-}
 
 // What is due to the arguments, of the bytes of the file and of the archive that they name.
 fn answer_over(alloc: Global, words: &[&str], file: &[u8], archive: &[u8]) -> Result<Answer, Fail> {

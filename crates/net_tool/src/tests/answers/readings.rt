@@ -1,5 +1,6 @@
 // How texts are read: corners of the form, each fault, and the limits.
-use super::{DIA, answer_on};
+use super::answer_on;
+use crate::tests::DIA;
 use line_text::push_row;
 use net_report::Status;
 use std::alloc::Global;

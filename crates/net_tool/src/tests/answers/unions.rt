@@ -1,5 +1,6 @@
 // Unions of an archive with the nets of a file, which is an archive or has key lines.
-use super::{PCU_ARCHIVE, Row};
+use super::Row;
+use crate::tests::PCU_ARCHIVE;
 use net_report::Status;
 
 // the cubic net twice, with the square one between
