@@ -9,12 +9,12 @@ use Rattle.graph_rows.specs.Rows.{edge_row, size_row, edge_lines, size_of_graph,
 use Rattle.line_text.specs.Lines.{rows_text, Place, IsAt}
 use Rattle.line_text.{proofs.CallerLemmas.rows_text_of_sum, specs.Names.is_name}
 use Rattle.graph_rows.specs.Reading.{NoSize, NoEdge, HasEdges, HasBadEdge}
-use Rattle.archive_text.specs.Rows.{Row, OfEdge, OfKey, OfCount, row_line, row_lines, name_row, key_row, count_row, OfEnd, shells_row, end_row, OfSize}
-use Rattle.archive_text.specs.{Rows.OfShells, Entries.EntryView, Parts.HasEdgesAndKey, Forms.IsKeyList, Forms.IsCount}
+use Rattle.archive_text.specs.Rows.{Row, OfEdge, OfKey, OfCount, row_line, row_lines, name_row, key_row, count_row, OfEnd, shells_row, end_row}
+use Rattle.archive_text.specs.{Entries.EntryView, Parts.HasEdgesAndKey, Forms.IsKeyList, Forms.IsCount}
 use Rattle.archive_text.specs.Parts.{Part, IsFormed, Keyed, Counted, part_rows, drawn_rows, shells_rows, class_rows, Named, Drawn, end_part, NoneFollows}
 use Rattle.archive_text.specs.Texts.{entry_rows, entry_lines, whole_part}
 use Rattle.archive_text.specs.Reading.{shells_lines, NoKey, NoCount, NoShells, HasShells, HasBadShells, HasBadLine, HasWhole, IsOf}
-use Rattle.archive_text.specs.declared.version.Version.{Version, TheVariants.One, TheVariants.Two}
+use Rattle.archive_text.specs.declared.version.Version.{Version, TheVariants.Two}
 
 -- the bytes of two lists of rows
 pub lines_of_sum : (xs ys : List Row) → row_lines (xs ++ ys) ≡ row_lines xs ++ row_lines ys
@@ -88,8 +88,7 @@ drawn_written name G before now after one two =
 -- the parts of an entry
 entry_parts : (v : Version) (e : EntryView) → part_rows (whole_part v e) ≡ drawn_rows e.name (size_of_graph e.graph) e.graph.edges
     ++ OfKey e.key ∷ class_rows v e.shells
-entry_parts One e = refl
-entry_parts Two e = refl
+entry_parts v e = search arith
 
 entry_sum : (v : Version) (e : EntryView) → (drawn_rows e.name (size_of_graph e.graph) e.graph.edges ++ OfKey e.key ∷ class_rows v e.shells)
     ++ OfEnd ∷ [] ≡ entry_rows v e
@@ -112,49 +111,35 @@ entry_written v e before drawn keyed shown after one two three four =
 -- Where no row that may follow stands.
 
 pub after_name : (v : Version) (name left : List ℕ) → NoSize left → NoneFollows v (Named name) left
-after_name v name left none (OfSize s) rest may e = none s rest may e
-after_name v name left none row rest may e = may
+after_name v name left h k l p q = search arith
 
 pub after_edges : (v : Version) (name : List ℕ) (s : GraphSize) (edges : List Arc) (left : List ℕ) → length edges < s.edges → NoEdge s edges left
     → NoneFollows v (Drawn name s edges) left
-after_edges v name s edges left few none (OfEdge dim e) rest may is = none e rest may.2 (is ∙ ap (λ d. edge_row d e ++ 10 ∷ rest) may.0)
-after_edges v name s edges left few none (OfKey key) rest may is = absurd (omega (arith, may.0, few))
-after_edges v name s edges left few none row rest may is = may
+after_edges v name s edges left h k l p q r = search arith
 
 pub after_all_edges : (v : Version) (name : List ℕ) (s : GraphSize) (edges : List Arc) (left : List ℕ) → length edges ≡ s.edges → NoKey left
     → NoneFollows v (Drawn name s edges) left
-after_all_edges v name s edges left whole none (OfEdge dim e) rest may is = absurd (omega (arith, may.1, whole))
-after_all_edges v name s edges left whole none (OfKey key) rest may is = none key rest may.1 is
-after_all_edges v name s edges left whole none row rest may is = may
+after_all_edges v name s edges left h k l p q r = search arith
 
 pub after_key : (name : List ℕ) (s : GraphSize) (edges : List Arc) (key : List ℤ) (left : List ℕ) → NoCount left → NoneFollows Two (Keyed name s edges key) left
-after_key name s edges key left none (OfCount n) rest may is = none n rest may is
-after_key name s edges key left none row rest may is = may
+after_key name s edges key left h k l p q = search arith
 
 pub after_shells : (v : Version) (name : List ℕ) (s : GraphSize) (edges : List Arc) (key : List ℤ) (n : ℕ) (lists : List (List ℕ)) (left : List ℕ)
     → length lists < n → NoShells (length lists + 1) left
     → NoneFollows v (Counted name s edges key n lists) left
-after_shells v name s edges key n lists left few none (OfShells c sizes) rest may is =
-    none sizes rest may.2 (is ∙ ap (λ k. shells_row k sizes ++ 10 ∷ rest) may.0)
-after_shells v name s edges key n lists left few none OfEnd rest may is = absurd (omega (arith, may, few))
-after_shells v name s edges key n lists left few none row rest may is = may
+after_shells v name s edges key n lists left h l p q r t = search arith
 
 -- after all rows of an entry but the last only this may stand
 pub before_end : (v : Version) (name : List ℕ) (s : GraphSize) (edges : List Arc) (key : List ℤ) (lists : List (List ℕ)) (left : List ℕ)
     → ((rest : List ℕ) → left ≡ end_row ++ 10 ∷ rest → ⊥)
     → NoneFollows v (end_part v name s edges key lists) left
-before_end One name s edges key lists left none OfEnd rest may is = none rest is
-before_end One name s edges key lists left none row rest may is = may
-before_end Two name s edges key lists left none OfEnd rest may is = none rest is
-before_end Two name s edges key lists left none (OfShells c sizes) rest may is = absurd (omega (arith, may.1))
-before_end Two name s edges key lists left none row rest may is = may
+before_end v name s edges key lists left h k l p q = search arith
 
 -- after a part with this name, formed, a line that may not follow
 bad_at : {v : Version} {text : List ℕ} {rows : List (List ℕ)} {name : List ℕ} {n : ℕ} (part : Part) (place : Place)
     → IsAt text (rows ++ row_lines (part_rows part)) place → n ≡ place.number → IsOf name part → IsFormed v part → NoneFollows v part place.rest
     → HasBadLine v text rows name n
-bad_at part place at number named formed none =
-    record { part = part; place = place; at = at; number = number; named = named; formed = formed; none = none }
+bad_at part place at number named formed h = search arith
 
 pub bad_size : (v : Version) (text : List ℕ) (rows : List (List ℕ)) (name : List ℕ) (place : Place) (n : ℕ) → is_name name ≡ true
     → IsAt text (rows ++ name_row name ∷ []) place → n ≡ place.number → NoSize place.rest → HasBadLine v text rows name n
@@ -178,11 +163,7 @@ bad_key v text rows name s edges place n is sized has number none =
 -- the graph and the key, after their rows
 pub is_keyed : (text : List ℕ) (rows : List (List ℕ)) (name : List ℕ) (s : GraphSize) (edges : List Arc) (key : List ℤ) (place : Place) → is_name name ≡ true
     → IsSize s → HasEdges text rows s edges place → IsKeyList key → HasEdgesAndKey name s edges key
-is_keyed text rows name s edges key place is sized has is_key = record {
-  drawn = record { is_name = is; is_size = sized; each = has.each; rising = has.rising; few = omega (arith, has.whole) };
-  whole = has.whole;
-  is_key = is_key;
-}
+is_keyed text rows name s edges key place is sized has is_key = grind arith
 
 pub bad_count : (text : List ℕ) (rows : List (List ℕ)) (name : List ℕ) (s : GraphSize) (edges : List Arc) (key : List ℤ) (place : Place) (n : ℕ)
     → HasEdgesAndKey name s edges key → IsAt text (rows ++ row_lines (part_rows (Keyed name s edges key))) place → n ≡ place.number → NoCount place.rest
@@ -217,5 +198,4 @@ bad_end v text rows name s edges key lists place n has number none =
     bad_at (end_part v name s edges key lists) place has.at number (of v) has.formed (before_end v name s edges key lists place.rest none)
   where
     of : (w : Version) → IsOf name (end_part w name s edges key lists)
-    of One = refl
-    of Two = refl
+    of w = search arith

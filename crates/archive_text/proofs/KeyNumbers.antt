@@ -1,16 +1,16 @@
 -- The places in a list that gets one number more. What is found through fingerprints is what there is. The numbers of the entries with a key. Lists of
 -- numbers of 32 bits.
 use Rattle.std.proofs.Common.{◌≡◌, ◌≢◌, ⊎_elim, ℕ, suc, ◌+◌, ◌==◌, cond, List, [], ◌∷◌, ◌++◌, length, map, nat_eq, refl, ap, sym, ◌∙◌, subst, eq-eqb, arith}
-use Rattle.std.proofs.Common.{Vec, ◌-◌, take, Option, None, Some, IfNone, ◌<◌, ◌||◌, Bool, true, false, filter, slice_get, true≢false, ◌↔◌, ℤ, IsTrue}
-use Rattle.std.proofs.Common.{Contains, ◌≤◌, get_or, ◌⊎◌, zero, AllPairs, pos, All, drop}
+use Rattle.std.proofs.Common.{Vec, ◌-◌, take, Option, None, Some, IfNone, ◌<◌, ◌||◌, Bool, true, false, filter, slice_get, ◌↔◌, ℤ, IsTrue}
+use Rattle.std.proofs.Common.{Contains, ◌≤◌, get_or, ◌⊎◌, AllPairs, pos, All, drop}
 use Rattle.std.proofs.lemmas.List.{take_rest, map-append, append-nil, length_push, length-map}
 use Rattle.std.proofs.lemmas.List.Elements.{All-head, All-tail, All-push, filter-append, Contains-append_left, Contains-append_cases, Contains-get_or}
 use Rattle.std.proofs.lemmas.List.Elements.{Contains-push}
-use Rattle.std.specs.List.{enumerate_from, cons_option, filter_map, list_any}
+use Rattle.std.specs.List.{enumerate_from, filter_map, list_any}
 use Rattle.std.proofs.lemmas.Map.Views.{list_any-from_Contains, Contains-from_any, any-filter_same}
 use Rattle.std.{proofs.lemmas.Bool.cases_eq, proofs.lemmas.Bool.ne_eqb, proofs.lemmas.List.Quantifiers.all_pairs_push, proofs.lemmas.Grind.common_steps}
 use Rattle.std.{proofs.lemmas.Cmp.nat_list_eq_equiv, proofs.lemmas.Slice.Eq.bytes_eq-Decides, specs.declared.alloc.Global.Global, specs.Str.bytes_eq}
-use Rattle.std.{specs.Option.option_to_list, specs.Option.option_map, proofs.lemmas.Option.slice_get-map, proofs.lemmas.Option.slice_get-get_or}
+use Rattle.std.{specs.Option.option_to_list, proofs.lemmas.Option.slice_get-map, proofs.lemmas.Option.slice_get-get_or}
 use Rattle.indexmap.specs.IndexMap.{IndexMap, get}
 use mathlib.Core.List.{append_assoc}
 use Rattle.line_text.specs.Lines.{Place, IsAt}
@@ -35,27 +35,15 @@ places_split : (xs : List ℕ) (y x : ℕ) → places_of (xs ++ y ∷ []) x ≡ 
 places_split xs y x = rw (enumerate_push 0 xs y, filter-append, map-append) refl
 
 places_here : (xs : List ℕ) (y : ℕ) → places_of (xs ++ y ∷ []) y ≡ places_of xs y ++ length xs ∷ []
-places_here xs y =
-    places_split xs y y ∙ ap (λ b. places_of xs y ++ map (λ (p : ℕ × ℕ). p.0) (cond b ((0 + length xs, y) ∷ []) [])) (eq-eqb y y refl)
-    ∙ (let e : 0 + length xs ≡ length xs = omega arith in ap (λ k. places_of xs y ++ k ∷ []) e)
+places_here xs y = grind (arith, places_split, eq-eqb)
 
 places_other : (xs : List ℕ) (y x : ℕ) → x ≢ y → places_of (xs ++ y ∷ []) x ≡ places_of xs x
-places_other xs y x ne =
-    places_split xs y x ∙ ap (λ b. places_of xs x ++ map (λ (p : ℕ × ℕ). p.0) (cond b ((0 + length xs, y) ∷ []) [])) (ne_eqb y x (λ e. ne (sym e)))
-    ∙ append-nil (places_of xs x)
+places_other xs y x ne = grind (arith, places_split, ne_eqb, append-nil)
 
 -- after a number is put last, its places and those of the others are kept
 pub places_kept : {S : Type 0} (xs ys : List ℕ) (m n : IndexMap ℕ (Vec ℕ Global) S) (y place : ℕ) → ys ≡ xs ++ y ∷ [] → place ≡ length xs → ArePlaces xs m
     → listed (get nat_eq n y) ≡ listed (get nat_eq m y) ++ place ∷ [] → ((v : ℕ) → v ≢ y → get nat_eq n v ≡ get nat_eq m v) → ArePlaces ys n
-places_kept xs ys m n y place e l kept put others x =
-    let at : places_of ys x ≡ places_of (xs ++ y ∷ []) x = ap (λ zs. places_of zs x) e in
-    ⊎_elim
-    (λ (same : x ≡ y).
-    let here : listed (get nat_eq n y) ≡ places_of (xs ++ y ∷ []) y =
-    put ∙ (λ i. kept y i ++ l i ∷ []) ∙ sym (places_here xs y) in
-    subst (λ v. listed (get nat_eq n v) ≡ places_of (xs ++ y ∷ []) v) (sym same) here ∙ sym at)
-    (λ (ne : x ≢ y). ap listed (others x ne) ∙ kept x ∙ sym (places_other xs y x ne) ∙ sym at)
-    (cases_eq x y)
+places_kept xs ys m n y place e l kept put others x = grind (arith, places_here, places_other, cases_eq)
 
 -- a list without the number that was put last
 last_gone : (xs : List ℕ) (y : ℕ) → without_last (xs ++ y ∷ []) ≡ xs
@@ -104,8 +92,7 @@ module _ {X : Type 0} (f : X → ℕ) (x : ℕ) where
           → filter_map at (map (λ (p : ℕ × ℕ). p.0) (filter (λ (p : ℕ × ℕ). p.1 == x) (enumerate_from (n + 1) (map f es)))) ≡ filter (λ e. f e == x) es
           → filter_map at (map (λ (p : ℕ × ℕ). p.0) (cond b ((n, f e) ∷ filter (λ (p : ℕ × ℕ). p.1 == x) (enumerate_from (n + 1) (map f es)))
           (filter (λ (p : ℕ × ℕ). p.1 == x) (enumerate_from (n + 1) (map f es))))) ≡ cond b (e ∷ filter (λ e. f e == x) es) (filter (λ e. f e == x) es)
-      by true first rest = λ i. cons_option (first i) (rest i)
-      by false first rest = rest
+      by b h k = grind arith
 
   -- the elements at the places of x are those whose number is x
   pub at_places : (es : List X) → filter_map (slice_get es) (places_of (map f es) x) ≡ filter (λ e. f e == x) es
@@ -174,11 +161,7 @@ module _ (key : List ℤ) where
   module _ (x : ℕ) where
     -- where the fingerprint is another, so is the key
     other_key : (e : EntryView) → x ≡ key_print key → (key_print e.key == x) ≡ false → same_key e.key key ≡ false
-    other_key e hx h = by (same_key e.key key) refl
-      where
-        by : (b : Bool) → same_key e.key key ≡ b → b ≡ false
-        by true g = absurd (true≢false (sym (eq-eqb (key_print e.key) x (ap key_print (same_keys e.key key g) ∙ sym hx)) ∙ h))
-        by false g = refl
+    other_key e hx h = search (arith, eq-eqb, same_keys)
 
     -- the pairs of an entry and those after it
     one_step : (b c : Bool) (n : ℕ) (e : EntryView) (at : ℕ → Option EntryView) (before : List (ℕ × ℕ)) (after : List (ℕ × EntryView))
@@ -186,16 +169,7 @@ module _ (key : List ℤ) where
         → map (λ i. i + 1) (filter (λ i. is_keyed key (at i)) (map (λ (p : ℕ × ℕ). p.0) before)) ≡ map (λ (p : ℕ × EntryView). p.0) after
         → map (λ i. i + 1) (filter (λ i. is_keyed key (at i)) (map (λ (p : ℕ × ℕ). p.0) (cond b ((n, key_print e.key) ∷ before) before))) ≡ map
         (λ (p : ℕ × EntryView). p.0) (cond c ((n + 1, e) ∷ after) after)
-    one_step true true n e at before after u k rest =
-        ap (λ d. map (λ i. i + 1) (cond d (n ∷ filter (λ i. is_keyed key (at i)) (map (λ (p : ℕ × ℕ). p.0) before))
-        (filter (λ i. is_keyed key (at i)) (map (λ (p : ℕ × ℕ). p.0) before)))) k
-        ∙ ap (λ ns. (n + 1) ∷ ns) rest
-    one_step true false n e at before after u k rest =
-        ap (λ d. map (λ i. i + 1) (cond d (n ∷ filter (λ i. is_keyed key (at i)) (map (λ (p : ℕ × ℕ). p.0) before))
-        (filter (λ i. is_keyed key (at i)) (map (λ (p : ℕ × ℕ). p.0) before)))) k
-        ∙ rest
-    one_step false true n e at before after u k rest = absurd (true≢false (u refl))
-    one_step false false n e at before after u k rest = rest
+    one_step b c n e at before after h l q = search arith
 
     -- the entries at the places of a fingerprint
     numbered_from : x ≡ key_print key → (n : ℕ) (es : List EntryView) (at : ℕ → Option EntryView) → ((k : ℕ) → k < length es → at (n + k) ≡ slice_get es k)
@@ -224,9 +198,7 @@ first_there (m ∷ g) l = refl
 
 -- a group begins with the number of an entry with its key
 pub group_begins : (es : List EntryView) (n : ℕ) (g : List ℕ) (h : IsGroupFrom es n g) → HasKeyAt es 1 h.is_group.key n
-group_begins es n g h =
-    let k = h.is_group.key in
-    first_keyed k 1 es n (ap (λ ns. slice_get ns 0) (sym h.is_group.numbers) ∙ first_there g h.is_group.two ∙ ap (λ (m : ℕ). Some m) h.first)
+group_begins es n g h = grind (arith, first_keyed, first_there)
 
 -- so it has the numbers with the key of that entry
 pub only_group : (es : List EntryView) (place : ℕ) (e : EntryView) → slice_get es place ≡ Some e → (g : List ℕ) → IsGroupFrom es (place + 1) g
@@ -257,28 +229,20 @@ no_group es place e at not g h =
 -- one begins where they are two or more and begin there
 pub some_group : (es : List EntryView) (place : ℕ) (key : List ℤ) (g : List ℕ) → g ≡ numbers_with key es → slice_get (numbers_with key es) 0 ≡ Some (place + 1)
     → 2 ≤ length g → IsGroupFrom es (place + 1) g
-some_group es place key g same begins two =
-    let first : Some (first_of g) ≡ Some (place + 1) = sym (first_there g two) ∙ ap (λ ns. slice_get ns 0) same ∙ begins in
-    record { is_group = record { key = key; numbers = same; two = two }; first = cc }
+some_group es place key g same begins two = grind (arith, first_there)
 
 -- What is known of an entry and of the numbers with its key.
 
 module _ (items : List Entry) (views : List EntryView) (v : entry_views items ≡ views) where
   -- the entry at a place
   pub entry_there : (place : ℕ) (e : Entry) → e ≡ get_or items place e → place < length views → slice_get views place ≡ Some (entry_view e)
-  entry_there place e at l =
-      let inside : place < length items = subst (λ n. place < n) (ap length (sym v) ∙ length-map items entry_view) l in
-      ap (λ es. slice_get es place) (sym v) ∙ slice_get-map entry_view items place
-      ∙ ap (option_map entry_view) (slice_get-get_or items place e inside ∙ ap (λ (x : Entry). Some x) (sym at))
+  entry_there place e at l = search (arith, length-map, slice_get-map, slice_get-get_or)
 
   -- the numbers at the places of the fingerprint of a key
   pub numbers_there : (lent : List Entry) (names keys : List ℕ) (key numbers : List ℤ) (print : ℕ) (places : List ℕ) → lent ≡ items
       → AreIndexed (entry_views items) names keys
       → numbers ≡ key → print ≡ key_print numbers → places ≡ places_of keys print → numbers_at (entry_views lent) key places ≡ numbers_with key views
-  numbers_there lent names keys key numbers print places l i n p h =
-      ap (λ (es : List Entry). numbers_at (entry_views es) key places) l
-      ∙ numbers_found (entry_views items) key places keys i.by_key (h ∙ ap (places_of keys) (p ∙ ap key_print n))
-      ∙ ap (numbers_with key) v
+  numbers_there lent names keys key numbers print places l i n p h = grind (arith, numbers_found)
 
 -- The groups that were found before a place.
 
@@ -297,8 +261,7 @@ first_inside es g h =
 
 -- what is in a list of one is that one
 only_one : (g h : List ℕ) → Contains (g ∷ []) h → h ≡ g
-only_one g h (zero, l, e) = sym e
-only_one g h (suc k, l, e) = absurd (omega arith)
+only_one g h p = search arith
 
 none_in : (g : List ℕ) → Contains [] g → ⊥
 none_in g (k, l, e) = omega arith
@@ -315,23 +278,14 @@ module _ (es : List EntryView) where
 
   -- those up to the last entry are all
   pub all_groups : (n : ℕ) (groups : List (List ℕ)) → length es ≤ n → AreGroupsTo es n groups → AreGroups es groups
-  all_groups n groups l a = record {
-    each = a.each;
-    every = λ g h. let i = first_inside es g h in a.every g h (omega (arith, i.1, l));
-    in_order = a.in_order;
-  }
+  all_groups n groups l a = grind (arith, first_inside)
 
   at_most_next : (m n : ℕ) → m ≤ n + 1 → (m ≤ n) ⊎ (m ≡ n + 1)
   at_most_next m n l = grind arith
 
   -- where no group begins, they are the same
   pub no_more : (n : ℕ) (groups : List (List ℕ)) → AreGroupsTo es n groups → ((g : List ℕ) → IsGroupFrom es (n + 1) g → ⊥) → AreGroupsTo es (n + 1) groups
-  no_more n groups a none = record {
-    each = a.each;
-    within = λ g c. let l = a.within g c in omega (arith, l);
-    every = λ g h l. ⊎_elim (λ b. a.every g h b) (λ e. absurd (none g (record { is_group = h; first = e }))) (at_most_next (first_of g) n l);
-    in_order = a.in_order;
-  }
+  no_more n groups a k = grind (arith, at_most_next)
 
   -- where one begins, there is one more
   pub one_more : (n : ℕ) (groups more : List (List ℕ)) (group : List ℕ) → AreGroupsTo es n groups → IsGroupFrom es (n + 1) group → more ≡ groups ++ group ∷ []
@@ -392,8 +346,7 @@ first_left sizes all left numbers z d joined whole short some is =
 pub no_shells : {X : Type 0} (o : Option X) (numbers : List ℤ) (class : ℕ) (left : List ℕ)
     → ((sizes rest : List ℕ) → AreSizes sizes → left ≡ shells_row class sizes ++ 10 ∷ rest → numbers ≡ shells_numbers class sizes)
     → ((sizes : List ℕ) → AreSizes sizes → numbers ≡ shells_numbers class sizes → IfNone o ⊥) → IfNone o (NoShells class left)
-no_shells None numbers class left read none = λ sizes rest are e. none sizes are (read sizes rest are e)
-no_shells (Some x) numbers class left read none = tt
+no_shells o numbers class left h k = search arith
 
 -- Shells that are read one by one.
 

@@ -22,8 +22,7 @@ filters_joined p q (x ∷ xs) = by (q x) (filters_joined p q xs)
   where
     by : (t : Bool) → filter p (filter q xs) ≡ filter (λ x. cond (q x) (p x) false) xs → filter p (cond t (x ∷ filter q xs) (filter q xs))
         ≡ cond (cond t (p x) false) (x ∷ filter (λ x. cond (q x) (p x) false) xs) (filter (λ x. cond (q x) (p x) false) xs)
-    by true h = ap (λ l. cond (p x) (x ∷ l) l) h
-    by false h = h
+    by t k = grind arith
 
 -- one after the other, in either order
 pub filters_swap : {X : Type 0} (p q : X → Bool) (xs : List X) → filter p (filter q xs) ≡ filter q (filter p xs)
@@ -31,19 +30,14 @@ filters_swap p q xs =
     filters_joined p q xs ∙ filter_agree (λ x. cond (q x) (p x) false) (λ x. cond (p x) (q x) false) (λ x. by (p x) (q x)) xs ∙ sym (filters_joined q p xs)
   where
     by : (s t : Bool) → cond t s false ≡ cond s t false
-    by true true = refl
-    by true false = refl
-    by false true = refl
-    by false false = refl
+    by s t = search arith
 
 -- a filter that passes nothing but what another one passes
 pub filter_within : {X : Type 0} (p r : X → Bool) (xs : List X) → ((x : X) → p x ≡ true → r x ≡ true) → filter p (filter r xs) ≡ filter p xs
 filter_within p r xs all = filters_joined p r xs ∙ filter_agree (λ x. cond (r x) (p x) false) p (λ x. by (p x) (r x) (all x)) xs
   where
     by : (s t : Bool) → (s ≡ true → t ≡ true) → cond t s false ≡ s
-    by s true one = refl
-    by true false one = one refl
-    by false false one = refl
+    by s t h = search arith
 
 -- once is enough
 pub filter_again : {X : Type 0} (p : X → Bool) (xs : List X) → filter p (filter p xs) ≡ filter p xs
@@ -55,8 +49,7 @@ filters_exclude {X} p q xs never =
     filters_joined p q xs ∙ filter_agree (λ x. cond (q x) (p x) false) (λ x. false) (λ x. by (p x) (q x) (never x)) xs ∙ nothing xs
   where
     by : (s t : Bool) → (t ≡ true → s ≡ false) → cond t s false ≡ false
-    by s true one = one refl
-    by s false one = refl
+    by s t h = search arith
 
     nothing : (ys : List X) → filter (λ x. false) ys ≡ []
     nothing [] = refl
@@ -70,8 +63,7 @@ flat_maps_agree f g p (x ∷ xs) same = by (p x) refl (same x) (flat_maps_agree 
   where
     by : (t : Bool) → p x ≡ t → (p x ≡ true → f x ≡ g x) → flat_map f (filter p xs) ≡ flat_map g (filter p xs)
         → flat_map f (cond t (x ∷ filter p xs) (filter p xs)) ≡ flat_map g (cond t (x ∷ filter p xs) (filter p xs))
-    by true a one h = ap (λ l. l ++ flat_map f (filter p xs)) (one a) ∙ ap (λ l. g x ++ l) h
-    by false a one h = h
+    by t k q r = grind arith
 
 -- The first group, and the others.
 
@@ -116,11 +108,7 @@ other_group e es key other =
 
 -- the first group stands first, and then the others
 pub first_group : (e : EntryView) (es : List EntryView) → regrouped (e ∷ es) ≡ e ∷ (with_key e.key es ++ regrouped (without_key e.key es))
-first_group e es =
-    ap (λ t. cond t (e ∷ with_key e.key es) (with_key e.key es) ++ flat_map (λ key. with_key key (e ∷ es)) (keys_but e.key (keys_in es))) (key_itself e.key)
-    ∙ ap (λ (l : List EntryView). e ∷ (with_key e.key es ++ l))
-    (flat_maps_agree (λ key. with_key key (e ∷ es)) (λ key. with_key key (without_key e.key es)) (λ k. not (same_key k e.key)) (keys_in es) (other_group e es)
-    ∙ ap (flat_map (λ key. with_key key (without_key e.key es))) (sym (keys_of_others e.key es)))
+first_group e es = grind (arith, key_itself, flat_maps_agree, other_group, keys_of_others)
 
 abbrev has : List ℤ → EntryView → Bool
 has key x = same_key x.key key
@@ -240,36 +228,21 @@ none_found p (y ∷ ys) l = by (p y) refl (none_found p ys) l
     by : (t : Bool) → p y ≡ t → (length ys ≤ position_or_len p ys → (filter p ys ≡ []) × (filter (λ x. not (p x)) ys ≡ ys))
         → suc (length ys) ≤ cond (not t) (1 + position_or_len p ys) 0
         → (cond t (y ∷ filter p ys) (filter p ys) ≡ []) × (cond (not t) (y ∷ filter (λ x. not (p x)) ys) (filter (λ x. not (p x)) ys) ≡ y ∷ ys)
-    by true e h l = absurd (omega (arith, l))
-    by false e h l = let both = h (omega (arith, l)) in (both.0, ap (λ l. y ∷ l) both.1)
+    by t k q r = grind arith
 
 pub removed : {X : Type 0} (before : List X) (x : X) (after : List X) → remove (before ++ x ∷ after) (length before) ≡ before ++ after
-removed before x after =
-    ap (λ l. l ++ drop (suc (length before)) (before ++ x ∷ after)) (take-append_seam before (x ∷ after))
-    ∙ ap (λ n. before ++ drop n (before ++ x ∷ after)) (sym (add-one (length before)))
-    ∙ ap (λ l. before ++ l) (drop-append-add before (x ∷ after) 1)
+removed before x after = grind (arith, take-append_seam, add-one, drop-append-add)
 
 -- what passes is the first, and what passes of the others
 pub passing_first : {X : Type 0} (p : X → Bool) (xs : List X) (n : ℕ) (f : IsFirst p xs n) → filter p xs ≡ f.found ∷ filter p (remove xs n)
-passing_first p xs n f =
-    ap (filter p) f.whole ∙ filter-append p f.before (f.found ∷ f.after) ∙ ap (λ l. l ++ filter p (f.found ∷ f.after)) f.none
-    ∙ ap (λ t. cond t (f.found ∷ filter p f.after) (filter p f.after)) f.passes
-    ∙ ap (λ l. f.found ∷ l) (ap (λ l. l ++ filter p f.after) (sym f.none) ∙ sym (filter-append p f.before f.after)
-    ∙ ap (filter p) (sym (removed f.before f.found f.after)) ∙ ap (λ l. filter p (remove l (length f.before))) (sym f.whole)
-    ∙ ap (λ m. filter p (remove xs m)) (sym f.place))
+passing_first p xs n f = grind (arith, filter-append, removed)
 
 -- what does not pass is among the others
 pub failing_others : {X : Type 0} (p : X → Bool) (xs : List X) (n : ℕ) (f : IsFirst p xs n) → filter (λ x. not (p x)) xs ≡ filter (λ x. not (p x)) (remove xs n)
-failing_others {X} p xs n f =
-    let q : X → Bool = λ x. not (p x) in
-    ap (filter q) f.whole ∙ filter-append q f.before (f.found ∷ f.after)
-    ∙ ap (λ t. filter q f.before ++ cond (not t) (f.found ∷ filter q f.after) (filter q f.after)) f.passes
-    ∙ sym (filter-append q f.before f.after) ∙ ap (filter q) (sym (removed f.before f.found f.after))
-    ∙ ap (λ l. filter q (remove l (length f.before))) (sym f.whole) ∙ ap (λ m. filter q (remove xs m)) (sym f.place)
+failing_others {X} p xs n f = grind (arith, filter-append, removed)
 
 pub is_found : {X : Type 0} (p : X → Bool) (xs : List X) (n : ℕ) (d : X) (f : IsFirst p xs n) → get_or xs n d ≡ f.found
-is_found p xs n d f = ap (λ l. get_or l n d) f.whole ∙ ap (λ m. get_or (f.before ++ f.found ∷ f.after) m d) f.place
-    ∙ get_or-append_seam f.before f.found f.after d
+is_found p xs n d f = grind (arith, get_or-append_seam)
 
 position_map : {X Y : Type 0} (p : Y → Bool) (f : X → Y) (xs : List X) → position_or_len p (map f xs) ≡ position_or_len (λ x. p (f x)) xs
 position_map p f [] = refl
@@ -277,19 +250,12 @@ position_map p f (x ∷ xs) = ap (λ n. cond (not (p (f x))) (1 + n) 0) (positio
 
 -- places in a list of images
 pub places_agree : {X Y : Type 0} (p : Y → Bool) (f : X → Y) (xs : List X) → position p (map f xs) ≡ position (λ x. p (f x)) xs
-places_agree p f xs =
-    ap (λ n. cond (nat_lt n (length (map f xs))) (Some n) None) (position_map p f xs)
-    ∙ ap (λ m. cond (nat_lt (position_or_len (λ x. p (f x)) xs) m) (Some (position_or_len (λ x. p (f x)) xs)) None) (length-map xs f)
+places_agree p f xs = simp (position_map, length-map)
 
 -- the first entry of all that are left
 pub from_first : (left : List EntryView) (n : ℕ) (e : EntryView) → n ≡ 0 → 0 < length left → e ≡ get_or left n e
     → regrouped left ≡ e ∷ going_on (Some e) (remove left n)
-from_first [] n e start some is = absurd (omega (arith, some))
-from_first (x ∷ xs) n e start some is =
-    let same : e ≡ x = is ∙ ap (λ m. get_or (x ∷ xs) m e) start in
-    first_group x xs
-    ∙ ap (λ (y : EntryView). y ∷ going_on (Some y) xs) (sym same)
-    ∙ ap (λ m. e ∷ going_on (Some e) (remove (x ∷ xs) m)) (sym start)
+from_first left n e h k l = grind (arith, first_group)
 
 -- the next entry after one that is there
 after_one : (l : EntryView) (left : List EntryView) (n : ℕ) (e : EntryView) → n ≡ place_after (Some l) left → 0 < length left → e ≡ get_or left n e
@@ -331,10 +297,7 @@ last_pushed (x ∷ y ∷ es) e = last_pushed (y ∷ es) e
 -- the entry at the next place goes behind those that are grouped
 pub next_on : (grouped left : List EntryView) (n : ℕ) (e : EntryView) → n ≡ next_place grouped left → 0 < length left → e ≡ get_or left n e
     → (grouped ++ e ∷ []) ++ going_on (last_of (grouped ++ e ∷ [])) (remove left n) ≡ grouped ++ going_on (last_of grouped) left
-next_on grouped left n e place some is =
-    ap (λ o. (grouped ++ e ∷ []) ++ going_on o (remove left n)) (last_pushed grouped e)
-    ∙ append_assoc grouped (e ∷ []) (going_on (Some e) (remove left n))
-    ∙ ap (λ es. grouped ++ es) (sym (after_any (last_of grouped) left n e place some is))
+next_on grouped left n e place some is = grind (arith, last_pushed, append_assoc, after_any)
 
 -- the last of some images
 pub last_image : {X : Type 0} (f : X → EntryView) (xs : List X) (x : X) → 1 ≤ length xs → x ≡ get_or xs (length xs - 1) x → last_of (map f xs) ≡ Some (f x)
@@ -408,8 +371,7 @@ stays (suc n) (e ∷ es) l t =
     ∙ ap (λ (l : List EntryView). e ∷ l) whole
 
 agree : (f g : List ℤ → List EntryView) (keys : List (List ℤ)) → ((key : List ℤ) → f key ≡ g key) → flat_map f keys ≡ flat_map g keys
-agree f g [] same = refl
-agree f g (key ∷ keys) same = ap (λ (l : List EntryView). l ++ flat_map f keys) (same key) ∙ ap (λ (l : List EntryView). g key ++ l) (agree f g keys same)
+agree f g keys h = search arith
 
 -- there is only one
 pub only_one : (old new : List EntryView) → IsRegrouping old new → new ≡ regrouped old

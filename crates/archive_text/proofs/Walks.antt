@@ -265,13 +265,11 @@ part_walk One (Counted name s edges key n lists) formed = absurd (other formed.0
 -- the end may follow a whole part
 pub end_follows : (v : Version) (name : List ℕ) (s : GraphSize) (edges : List Arc) (key : List ℤ) (lists : List (List ℕ))
     → MayStandAfter v (end_part v name s edges key lists) OfEnd
-end_follows One name s edges key lists = tt
-end_follows Two name s edges key lists = refl
+end_follows v name s edges key lists = search arith
 
 end_leads : (v : Version) (name : List ℕ) (s : GraphSize) (edges : List Arc) (key : List ℤ) (lists : List (List ℕ))
     → part_with (end_part v name s edges key lists) OfEnd ≡ Start
-end_leads One name s edges key lists = refl
-end_leads Two name s edges key lists = refl
+end_leads v name s edges key lists = search arith
 
 -- an entry has the form of its version
 abbrev pub IsFormedEntry : Version → EntryView → Type 0

@@ -1,6 +1,5 @@
 -- What one more item makes of a union, and that there is one union, or one item that is refused.
-use Rattle.std.proofs.Common.{◌≡◌, ◌≢◌, ℕ, ◌+◌, List, [], ◌∷◌, ◌++◌, length, refl, sym, ap, subst, ◌∙◌, arith, ◌⊎◌, inl, inr, Bool, true, false, cond}
-use Rattle.std.proofs.Common.{get_or, drop}
+use Rattle.std.proofs.Common.{◌≡◌, ◌≢◌, ℕ, ◌+◌, List, [], ◌∷◌, ◌++◌, length, refl, sym, ap, subst, ◌∙◌, arith, ◌⊎◌, inl, inr, Bool, cond, get_or, drop}
 use Rattle.std.proofs.lemmas.List.{length-map, map-append, append_assoc, append-nil}
 use Rattle.std.proofs.lemmas.List.Sorted.{IsPermutation-sym}
 use Rattle.archive_text.specs.Entries.{EntryView, entry_view, entry_views}
@@ -25,9 +24,7 @@ module _ (a now : ArchiveView) (items : List Entry) (item : Entry) (is : now ≡
   -- the archive goes on
   pub item_on : (next : ArchiveView) → next ≡ archive_with now (with_item now.entries (entry_view item))
       → next ≡ archive_with a (united a.entries (entry_views (items ++ item ∷ [])))
-  item_on next goes =
-      goes ∙ ap (λ (x : ArchiveView). archive_with x (with_item x.entries (entry_view item))) is
-      ∙ ap (archive_with a) (sym (views_united a items item))
+  item_on next goes = search (arith, views_united)
 
   -- the item is refused
   not_united : (all later : List Entry) (number : ℕ) (fault : AddFault) → all ≡ items ++ item ∷ later → number ≡ length items + 1
@@ -60,8 +57,7 @@ record GoesOn (entries all : List EntryView) : Type 0 where
   whole : all ≡ entries ++ more
 
 one_goes_on : (entries : List EntryView) (item : EntryView) (t : Bool) → GoesOn entries (cond t entries (entries ++ item ∷ []))
-one_goes_on entries item true = record { more = []; whole = sym (append-nil entries) }
-one_goes_on entries item false = record { more = item ∷ []; whole = refl }
+one_goes_on entries item t = search (arith, append-nil)
 
 goes_on : (entries items : List EntryView) → GoesOn entries (united entries items)
 goes_on entries [] = record { more = []; whole = sym (append-nil entries) }

@@ -1,7 +1,6 @@
 -- The entries of an archive with those of items: a union has all that it is made of.
-use Rattle.std.proofs.Common.{◌≡◌, ◌⊎◌, inl, inr, zero, suc, Bool, true, false, cond, List, [], ◌∷◌, map, filter, sym, ap, ◌∙◌, refl, arith, ◌++◌, ℕ, ℤ}
-use Rattle.std.proofs.Common.{subst}
-use Rattle.std.proofs.lemmas.List.Elements.{Contains-append_left, Contains-append_right, Contains-append_cases, All-contains}
+use Rattle.std.proofs.Common.{◌≡◌, ◌⊎◌, inl, inr, suc, Bool, true, false, cond, List, [], ◌∷◌, map, filter, sym, ap, ◌∙◌, refl, arith, ◌++◌, ℕ, ℤ, subst}
+use Rattle.std.proofs.lemmas.List.Elements.{Contains-append_left, Contains-append_right, Contains-append_cases}
 use Rattle.std.{proofs.lemmas.Bool.false≢true, proofs.lemmas.Map.Views.Contains-from_any, proofs.lemmas.Slice.Eq.bytes_eq-Decides}
 use Rattle.std.{proofs.lemmas.List.Sorted.IsPermutation-sym, proofs.lemmas.List.Sorted.Contains-permutation, specs.List.Contains, specs.List.All}
 use Rattle.std.{specs.Cmp.Rules.signed_items, specs.List.Sorted.IsPermutation}
@@ -21,8 +20,7 @@ pub further : {X : Type 0} (x y : X) (xs : List X) → Contains xs y → Contain
 further x y xs c = (suc c.0, (let l = c.1 in omega (arith, l)), c.2)
 
 pub either : {X : Type 0} (x y : X) (xs : List X) → Contains (x ∷ xs) y → (x ≡ y) ⊎ Contains xs y
-either x y xs (zero, l, e) = inl e
-either x y xs (suc k, l, e) = inr (k, omega (arith, l), e)
+either x y xs h = search arith
 
 pub no_member : {X : Type 0} (y : X) → Contains [] y → ⊥
 no_member y c = let l = c.1 in omega (arith, l)
@@ -160,8 +158,7 @@ module _ (a b : ArchiveView) (items : List EntryView) (archive : IsArchive a) (g
   own e c = all_come items a.entries e (Contains-permutation b.entries all_of e (IsPermutation-sym all_of b.entries moved_all) c)
 
   good_one : (e : EntryView) → IsOneOf a items e → IsEntry e
-  good_one e (inl c) = All-contains IsEntry a.entries e archive.each c
-  good_one e (inr c) = All-contains IsEntry items e good c
+  good_one e h = grind arith
 
   kept : (name : List ℕ) (e : EntryView) → IsOneOf a items e → e.name ≡ name → Contains (names_of b.entries) name
   kept name e c is =

@@ -71,12 +71,7 @@ zero_is_whole r h e = dvd_antisymm (denominator_divides r 1 (pos 0) h (ap (λ x.
 module _ (a b : ℕ) where
   -- what is in a list of two is the one or the other
   one_of_two : (x : ℕ) → Contains (a ∷ b ∷ []) x → (x ≡ a) ⊎ (x ≡ b)
-  one_of_two x c = at c.0 c.1 c.2
-    where
-      at : (k : ℕ) → k < length (a ∷ b ∷ []) → get_or (a ∷ b ∷ []) k x ≡ x → (x ≡ a) ⊎ (x ≡ b)
-      at zero l e = inl (sym e)
-      at (suc zero) l e = inr (sym e)
-      at (suc (suc k)) l e = absurd (omega arith)
+  one_of_two x c = search arith
 
   first_in : Contains (a ∷ b ∷ []) a
   first_in = (0, omega arith, refl)
@@ -130,8 +125,7 @@ module _ (G : Graph) (p : ℕ → ℕ → Ratio) where
 
   -- what comes up to one coordinate more comes up to the coordinate before, or is that one
   one_more : (v e u c : ℕ) → IsUpTo v e u (c + 1) → IsUpTo v e u c ⊎ ((v ≡ u) × (e ≡ c + 1))
-  one_more v e u c o = ⊎_elim (λ (l : v < u). inl (inl l))
-      (λ s. ⊎_elim (λ (l : e < c + 1). inl (inr (s.0, omega arith))) (λ l. let b = s.1 in inr (s.0, omega arith)) (cases_lt e (c + 1))) o
+  one_more v e u c o = search (arith, cases_lt)
 
   more : (v e u c : ℕ) → IsUpTo v e u c → IsUpTo v e u (c + 1)
   more v e u c o = ⊎_elim (λ (l : v < u). inl l) (λ s. let l = s.1 in inr (s.0, omega arith)) o
@@ -155,17 +149,13 @@ module _ (G : Graph) (p : ℕ → ℕ → Ratio) where
 
   -- once all coordinates are passed, the next vertex begins
   next_vertex : (v e u : ℕ) → IsCoordinate G e → IsUpTo v e (u + 1) 0 → IsUpTo v e u G.dimension
-  next_vertex v e u i o = ⊎_elim (λ (l : v < u + 1). ⊎_elim (λ (b : v < u). inl b) (λ b. inr (omega arith, i.1)) (cases_lt v u))
-      (λ s. let l = s.1 in let h = i.0 in absurd (omega arith)) o
+  next_vertex v e u i o = search (arith, cases_lt)
 
   same_vertex : (v e u : ℕ) → IsUpTo v e u G.dimension → IsUpTo v e (u + 1) 0
   same_vertex v e u o = ⊎_elim (λ (l : v < u). inl (omega arith)) (λ s. let q = s.0 in inl (omega arith)) o
 
   pub least_row : (u n : ℕ) → IsLeastMultipleUpTo G (IsDenominatorAt p) u G.dimension n → IsLeastMultipleUpTo G (IsDenominatorAt p) (u + 1) 0 n
-  least_row u n h = record {
-    multiple = λ v e d i j o a. h.multiple v e d i j (next_vertex v e u j o) a;
-    least = λ k a. h.least k (λ v e d i j o b. a v e d i j (same_vertex v e u o) b);
-  }
+  least_row u n h = grind (arith, next_vertex, same_vertex)
 
   -- the denominators up to the last vertex divide their common multiple, and what they all divide it divides
   module _ (n : ℕ) (h : IsLeastMultipleUpTo G (IsDenominatorAt p) (G.vertices + 1) 0 n) where
@@ -221,16 +211,7 @@ module _ (a b g : ℕ) (positive : 1 ≤ b) (greatest : IsGcd a b g) (combinatio
   quotient_positive = factor_positive g (b / g) second_positive
 
   divisor : Bezout a b
-  divisor = record {
-    g = g;
-    k = a / g;
-    l = b / g;
-    s = combination.s;
-    t = combination.t;
-    a_is = times_quotient a greatest.0;
-    b_is = times_quotient b greatest.1;
-    g_is = combination.is;
-  }
+  divisor = search (arith, times_quotient)
 
   -- the least common multiple, by the greatest common divisor
   pub least_product : IsLeastMultiple (a ∷ b ∷ []) (a * (b / g))
@@ -320,15 +301,10 @@ pub record IsProduct (r : Ratio) (m : ℕ) (x : ℤ) : Type 0 where
 module _ (r : Ratio) (m : ℕ) (reduced : IsInLowestTerms r) (parts : HasSmallParts r) (usable : IsUsable m) (divides : r.den ∣ m) where
   -- how many units of 1/m are in 1/den
   pub scale_small : m / r.den ≤ most_units
-  scale_small =
-      let s = usable.small in let p = reduced.positive in let e = div-mul_cancel r.den divides in
-      let q : m / r.den ≤ m / r.den = omega arith in
-      let l : (m / r.den) * 1 ≤ (m / r.den) * r.den = mul-le-mul q p in omega (arith, l, e, s)
+  scale_small = omega (arith, div-mul_cancel, mul-le-mul)
 
   units_small : unsigned_abs (r.num *ℤ pos (m / r.den)) ≤ 2 ^ 102
-  units_small =
-      let b = bounded_product r.num (pos (m / r.den)) (2 ^ 62) most_units (let s = parts.0 in omega (arith, s)) scale_small in
-      omega (arith, b)
+  units_small = search (arith, bounded_product, scale_small)
 
   units_fit : FitsSigned w128 (r.num *ℤ pos (m / r.den))
   units_fit = fits_from_bound (r.num *ℤ pos (m / r.den)) (2 ^ 102) (omega arith) units_small
@@ -375,17 +351,12 @@ module _ (p : ℕ → ℕ → Ratio) (m : ℕ) where
   }
     where
       here : (c : ℕ) → c < 3 → IsUnits (p (length at + 1) c) m (part c (get_or (at ++ v ∷ []) (length at + 1 - 1) zero_vector))
-      here c l =
-          let place : length at ≡ length at + 1 - 1 = omega arith in
-          let at_end = subst (λ (k : ℕ). get_or (at ++ v ∷ []) k zero_vector ≡ v) place (get_or_push at v zero_vector (length at) refl) in
-          subst (λ (w : Vector). IsUnits (p (length at + 1) c) m (part c w)) (sym at_end)
-          (subst (λ (r : Ratio). IsUnits r m (part c v)) (sym (e c)) (h.each c l))
+      here c l = grind (arith, get_or_push)
 
   -- one more vertex, pushed to a list
   pub pushed : (items made : List Vector) (v : Vector) (k : ℕ) (parts : ℕ → Ratio) → items ≡ made ++ v ∷ [] → length made ≡ k
       → ((c : ℕ) → p (k + 1) c ≡ parts c) → IsInUnits parts m v → AreInUnits p m made → AreInUnits p m items
-  pushed items made v k parts e n same h before =
-      subst (AreInUnits p m) (sym e) (one_in_units made v parts (λ c. subst (λ (j : ℕ). p (j + 1) c ≡ parts c) (sym n) (same c)) h before)
+  pushed items made v k parts e n same h before = search (arith, one_in_units)
 
   -- the denominators of one row divide what those of all rows do
   pub row_divided : (n k : ℕ) (parts : ℕ → Ratio) → k < n → ((c : ℕ) → p (k + 1) c ≡ parts c) → AreDivided p n m → IsRowDivided parts m
@@ -394,8 +365,4 @@ module _ (p : ℕ → ℕ → Ratio) (m : ℕ) where
 -- the positions of all vertices in whole units
 pub in_units_scaled : (G : Graph) (p : ℕ → ℕ → Ratio) (d0 : ℤ) (at : List Vector) → pos 1 ≤ℤ d0 → length at ≡ G.vertices → AreInUnits p (unsigned_abs d0) at
     → IsScaled G p (placement_of d0 at)
-in_units_scaled G p d0 at positive count h = record {
-  positive = omega (arith, ints, positive);
-  count = count;
-  at = λ u c q l. h.each u c q.0 (let m = q.1 in omega (arith, m, count)) l;
-}
+in_units_scaled G p d0 at positive count h = search arith

@@ -112,10 +112,7 @@ only_product k l positive G g first second = record { only = product_divides k l
 
 plus_whole : (a b : ℤ) → ratio_plus (whole a) (whole b) ≡ whole (a +ℤ b)
 unfolding ratio_plus
-plus_whole a b = ap whole (step a b)
-  where
-    step : (a b : ℤ) → a *ℤ pos 1 +ℤ b *ℤ pos 1 ≡ a +ℤ b
-    step a b = simp ring refl
+plus_whole a b = grind arith
 
 minus_whole : (a b : ℤ) → ratio_minus (whole a) (whole b) ≡ whole (a -ℤ b)
 unfolding ratio_minus

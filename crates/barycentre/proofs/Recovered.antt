@@ -36,23 +36,17 @@ module _ {N : Type 0} {D : ℕ} (value : N → Ratio) where
   -- the position of vertex k + 1 is in the row at k
   pub value_at : (rows : List (Row N D)) (k : ℕ) (row : Row N D) → k < length rows → row ≡ get_or rows k row → (c : ℕ)
       → value_in value rows (k + 1) c ≡ row_part value row c
-  value_at rows k row l e c =
-      let place : k + 1 - 1 ≡ k = omega arith in
-      ap (λ (o : Option (Row N D)). option_map_or (λ r. row_part value r c) o (whole (pos 0)))
-      (ap (λ j. slice_get rows j) place ∙ slice_get_read rows (length rows) k row refl l e)
+  value_at rows k row l e c = search (arith, slice_get_read)
 
 -- 0 is in lowest terms
 pub zero_reduced : IsInLowestTerms (whole (pos 0))
 zero_reduced = record { positive = omega arith; coprime = IsGcd-swap 1 0 1 (IsGcd-from_zero 1 0 refl) }
 
 part_reduced : {D : ℕ} (r : Row Fraction D) (c : ℕ) → IsInLowestTerms (row_part fraction_value r c)
-part_reduced r zero = r.x.reduced
-part_reduced r (suc zero) = r.y.reduced
-part_reduced r (suc (suc c)) = r.z.reduced
+part_reduced r c = search arith
 
 pub option_reduced : {D : ℕ} (o : Option (Row Fraction D)) (c : ℕ) → IsInLowestTerms (option_map_or (λ r. row_part fraction_value r c) o (whole (pos 0)))
-option_reduced None c = zero_reduced
-option_reduced (Some r) c = part_reduced r c
+option_reduced o c = search (arith, zero_reduced, part_reduced)
 
 -- a fraction of value 0 has the numerator 0
 no_numerator : (n d k : ℤ) → n *ℤ pos 1 -ℤ pos 0 *ℤ d ≡ pos 0 *ℤ k → n ≡ pos 0
@@ -251,13 +245,7 @@ module _ (x m bound : ℕ) (most : bound ≤ 2 ^ 58) (n : ℤ) (d : ℕ) (h : Is
     pub denominator : to_z w128 d ≡ pos d
 
   pub widened : IsWidened
-  widened =
-      let a = h.is.numerator in let b = h.is.denominator in
-      record {
-        narrow = fits_signed_from_abs w64 n (omega (arith, a, most));
-        wide = fits_signed_from_abs w128 n (omega (arith, a, most));
-        denominator = to_z_pos w128 d (omega (arith, b, most));
-      }
+  widened = omega (arith, fits_signed_from_abs, to_z_pos)
 
   -- a fraction of the same value is that
   pub recovered_fraction : (f : Fraction) → Same 0 (fraction_value f) (parts n d) → IsOnlyReconstruction x m bound (fraction_value f).num (fraction_value f).den

@@ -2,7 +2,7 @@
 -- recover: the normal placement, where it is within the limits. What is left modulo M: exact quotients, and rows that are made one after another. The
 -- answers of `place` exclude each other: NoModulus comes exactly where its cause holds.
 use Rattle.std.proofs.Common.{◌≡◌, ℕ, zero, suc, arith, ◌-◌, ◌<◌, ◌^◌, List, [], ◌∷◌, length, map, get_or, ap, sym, refl, ◌∙◌, Option, Some, None, ⊎_elim}
-use Rattle.std.proofs.Common.{◌+◌, ◌≤◌, subst, IsTrue, nat_eq, rules, ◌*◌, unsigned_abs, ◌%◌, FitsSigned, pos, negsuc, to_z, of_z, ℤ, ◌++◌, inl, inr}
+use Rattle.std.proofs.Common.{◌+◌, ◌≤◌, subst, IsTrue, nat_eq, rules, ◌*◌, unsigned_abs, ◌%◌, FitsSigned, pos, to_z, of_z, ℤ, ◌++◌, inl, inr}
 use Rattle.std.proofs.lemmas.Option.{get_or_from_slice_get, slice_get_within, slice_get-get_or}
 use Rattle.std.proofs.lemmas.Int.{to_z-of_z, unsigned_abs-mul, fits_signed_from_abs}
 use Rattle.std.specs.Prelude.{◌+ℤ◌, ◌-ℤ◌, ◌*ℤ◌, slice_get, slice_index_or, All, int_div}
@@ -13,6 +13,7 @@ use Rattle.integers.specs.Vectors.{zero_vector, plus, times, IsWithin, Vector}
 use Rattle.integers.proofs.numbers.Ring.{ring, linear, zero_product}
 use Rattle.integers.{specs.Divisors.DividesInteger, specs.Lists.total, specs.Staircase.part, proofs.numbers.Division.exact_quotient}
 use Rattle.integers.{proofs.lists.Sums.total_same, proofs.lists.Sums.total_zeros, proofs.vectors.Laws.below_three, proofs.vectors.Laws.part_is_coordinate}
+use Rattle.integers.proofs.lists.Members.{some_of}
 use Rattle.periodic_net.specs.Graph.{Graph, Arc, IsGraph, arcs_from, IsQuotientVertex, IsConnected}
 use Rattle.periodic_net.specs.Placement.{Placement, base, arc_vector, IsNormalPlacement, IsWithinLimits}
 use Rattle.periodic_net.proofs.CallerLemmas.{arc_inside, from_is_arc, total_linear}
@@ -39,18 +40,10 @@ use Rattle.barycentre.{specs.Tested.AreFractions, proofs.Normal.dimension_below,
 
 -- Rows of residues: their values, their vectors, and what the arcs between them lead.
 
--- an element of a list that is long enough
-pub element_of : {A : Type 0} (xs : List A) (i : ℕ) → i < length xs → A
-element_of [] i l = absurd (omega arith)
-element_of (x ∷ xs) i l = x
-
 module _ {M D : ℕ} where
   option_value : (o : Option (Row (Residue M) D)) (c : ℕ) → option_map_or (λ r. row_part residue_value r c) o (whole (pos 0)) ≡ whole
       (pos (option_map_or (λ r. residue_part r c) o 0))
-  option_value None c = refl
-  option_value (Some r) zero = refl
-  option_value (Some r) (suc zero) = refl
-  option_value (Some r) (suc (suc c)) = refl
+  option_value o c = search arith
 
   -- the values of rows are whole
   pub values_are : (rows : List (Row (Residue M) D)) (c : ℕ) → ◌≡◌ {A = ℕ → Ratio} (λ u. value_in residue_value rows u c)
@@ -58,10 +51,7 @@ module _ {M D : ℕ} where
   values_are rows c = λ i u. option_value (slice_get rows (u - 1)) c i
 
   option_below : 0 < M → (o : Option (Row (Residue M) D)) (c : ℕ) → option_map_or (λ r. residue_part r c) o 0 < M
-  option_below l None c = l
-  option_below l (Some r) zero = r.x.below
-  option_below l (Some r) (suc zero) = r.y.below
-  option_below l (Some r) (suc (suc c)) = r.z.below
+  option_below h o c = search arith
 
   pub at_below : 0 < M → (rows : List (Row (Residue M) D)) (c u : ℕ) → residue_at rows c u < M
   at_below l rows c u = option_below l (slice_get rows (u - 1)) c
@@ -205,7 +195,7 @@ module _ {M D : ℕ} (least : 2 ≤ M) (G : Graph) (g : IsGraph G) (dimension : 
     right c l u q =
         let a = q.0 in let b = q.1 in let inside : u - 1 < G.vertices = omega arith in
         let there : u - 1 < length lefts = omega (arith, count, inside) in
-        let back : u - 1 + 1 ≡ u = omega arith in let d = element_of lefts (u - 1) there in
+        let back : u - 1 + 1 ≡ u = omega arith in let d = some_of lefts (u - 1) there in
         let row = subst (λ v. IsLeftRow (star v) (get_or lefts (u - 1) d)) back (left.each (u - 1) d inside) in
         let k = dimension_below G g c l in
         let h = (left_part_is (star u) (get_or lefts (u - 1) d) row c k).is (quotient c u) (star_is firsts c k G u ∙ rest c l u q) in
@@ -225,8 +215,7 @@ module _ {M D : ℕ} (least : 2 ≤ M) (G : Graph) (g : IsGraph G) (dimension : 
 -- the part of a row that is there
 fraction_there : {D : ℕ} (rows : List (Row Fraction D)) (i c : ℕ) (d : Row Fraction D) → i < length rows
     → option_map_or (λ r. row_part fraction_value r c) (slice_get rows i) (whole (pos 0)) ≡ row_part fraction_value (get_or rows i d) c
-fraction_there {D} rows i c d l =
-    ap (λ (o : Option (Row Fraction D)). option_map_or (λ r. row_part fraction_value r c) o (whole (pos 0))) (slice_get-get_or rows i d l)
+fraction_there {D} rows i c d l = search (arith, slice_get-get_or)
 
 lifted_is : {M D : ℕ} (f n : Row (Residue M) D) (c : ℕ) → lifted_part f n c ≡ residue_part f c + M * residue_part n c
 lifted_is f n zero = refl
@@ -257,19 +246,19 @@ module _ {M D : ℕ} (G : Graph) (g : IsGraph G) (dimension : G.dimension ≡ D)
 
     -- the row of vertex u
     there : (u : ℕ) → IsQuotientVertex G u → Row Fraction D
-    there u q = get_or rows (u - 1) (element_of rows (u - 1) (row_inside u q))
+    there u q = get_or rows (u - 1) (some_of rows (u - 1) (row_inside u q))
 
     value_there : (u : ℕ) (q : IsQuotientVertex G u) (c : ℕ) → value_in fraction_value rows u c ≡ row_part fraction_value (there u q) c
     unfolding there
-    value_there u q c = fraction_there rows (u - 1) c (element_of rows (u - 1) (row_inside u q)) (row_inside u q)
+    value_there u q c = fraction_there rows (u - 1) c (some_of rows (u - 1) (row_inside u q)) (row_inside u q)
 
     is_row : (u : ℕ) (q : IsQuotientVertex G u) → IsRecoveredRow (M * M) (2 ^ 58) (λ c. lifted_at c u) (there u q)
     unfolding there
     is_row u q =
-        let a = element_of firsts (u - 1) (inside u q) in
-        let b = element_of nexts (u - 1) (next_inside u q) in
-        let h = recovered.each (u - 1) (element_of rows (u - 1) (row_inside u q)) a b (inside u q) in
-        subst (λ (x : ℕ → ℕ). IsRecoveredRow (M * M) (2 ^ 58) x (get_or rows (u - 1) (element_of rows (u - 1) (row_inside u q))))
+        let a = some_of firsts (u - 1) (inside u q) in
+        let b = some_of nexts (u - 1) (next_inside u q) in
+        let h = recovered.each (u - 1) (some_of rows (u - 1) (row_inside u q)) a b (inside u q) in
+        subst (λ (x : ℕ → ℕ). IsRecoveredRow (M * M) (2 ^ 58) x (get_or rows (u - 1) (some_of rows (u - 1) (row_inside u q))))
         (λ i c. sym (lifted_there u q c a b) i) h
 
     no_third : G.dimension ≡ 2 → (u : ℕ) → IsQuotientVertex G u → (value_in fraction_value rows u 2).num ≡ pos 0
@@ -307,8 +296,8 @@ module _ {M D : ℕ} (G : Graph) (g : IsGraph G) (dimension : G.dimension ≡ D)
         let b = h.below in let u = h.i + 1 in
         let q : IsQuotientVertex G (h.i + 1) = (omega arith, omega (arith, b, count)) in
         let back : h.i + 1 - 1 ≡ h.i = omega arith in
-        let first = element_of firsts (h.i + 1 - 1) (inside (h.i + 1) q) in
-        let next = element_of nexts (h.i + 1 - 1) (next_inside (h.i + 1) q) in let k = h.lacks first next in
+        let first = some_of firsts (h.i + 1 - 1) (inside (h.i + 1) q) in
+        let next = some_of nexts (h.i + 1 - 1) (next_inside (h.i + 1) q) in let k = h.lacks first next in
         let l : k.c < G.dimension = (let s = k.below in omega (arith, s, dimension)) in
         let r = is_reconstruction k.c l (h.i + 1) q in
         let same = lifted_there (h.i + 1) q k.c first next ∙ ap (λ j. lifted_part (get_or firsts j first) (get_or nexts j next) k.c) back in
@@ -321,7 +310,6 @@ module _ {M D : ℕ} (G : Graph) (g : IsGraph G) (dimension : G.dimension ≡ D)
 
       stands : (u c : ℕ) → IsQuotientVertex G u → c < G.dimension → part c (base P u) *ℤ pos (p u c).den ≡ (p u c).num *ℤ pos P.denominator
       stands u c q l =
-          let t = there rows rows_count recovered u q in
           let one = (is_row rows rows_count recovered u q).each c (subst (λ n. c < n) dimension l) in
           let same = one.only (terms c u).num (terms c u).den (is_reconstruction c l u q) in
           subst (λ (r : Ratio). part c (base P u) *ℤ pos r.den ≡ r.num *ℤ pos P.denominator) (sym (value_there rows rows_count recovered u q c))
@@ -347,14 +335,11 @@ module _ {M D : ℕ} (G : Graph) (g : IsGraph G) (dimension : G.dimension ≡ D)
 
 -- a number of 128 bits
 pub abs_fits : (z : ℤ) → FitsSigned w128 z → unsigned_abs z ≤ 2 ^ 127
-abs_fits (pos n) f = let h = f.sfits in omega (arith, h)
-abs_fits (negsuc n) f = let h = f.sfits in omega (arith, h)
+abs_fits z k = search arith
 
 -- its quotient by 2 or more fits
 quotient_fits : (m : ℕ) → 2 ≤ m → (q : ℤ) → unsigned_abs (pos m *ℤ q) ≤ 2 ^ 127 → unsigned_abs q < 2 ^ 127
-quotient_fits m l q h =
-    let s = unsigned_abs-mul (pos m) q in let p : unsigned_abs q ≤ unsigned_abs q = omega arith in
-    let n : 2 * unsigned_abs q ≤ m * unsigned_abs q = mul-le-mul l p in omega (arith, s, n, h)
+quotient_fits m l q h = grind (arith, unsigned_abs-mul, mul-le-mul)
 
 -- what the code makes of total = m·q
 pub left_is : (m : ℕ) → 2 ≤ m → (total q r : ℤ) (v : ℕ) → FitsSigned w128 total → total ≡ pos m *ℤ q

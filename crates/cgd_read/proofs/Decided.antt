@@ -85,7 +85,7 @@ ends_here : (opening : ℕ) (earlier : List LineView) (line : LineView) (later :
 ends_here opening earlier line later h e = cc
 
 -- after lines that pass
-from_start : (opening : ℕ) (earlier later : List LineView) → AllPass earlier
+pub from_start : (opening : ℕ) (earlier later : List LineView) → AllPass earlier
     → graph_block opening [] (in_order earlier later) ≡ graph_block opening earlier later
 from_start opening [] later h = refl
 from_start opening (line ∷ earlier) later h = from_start opening earlier (line ∷ later) h.2 ∙ passes_on opening earlier line later h.0 h.1

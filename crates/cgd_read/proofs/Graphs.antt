@@ -11,7 +11,7 @@ use Rattle.std.specs.{Int.RustNames.unsigned_abs, Str.bytes_eq}
 use Rattle.periodic_net.specs.Limits.{most_shift, most_vertices, most_edges, IsSmall}
 use Rattle.periodic_net.specs.Graph.{IsNormalSpelling, Arc, IsEdge, IsGraph}
 use Rattle.cgd_read.specs.Spelling.{IsSmallPart, spelled, is_forward, normal, edge_of}
-use Rattle.cgd_read.specs.Edges.{vertices_of, edges_of, first_size, has_rows, with_new, same_edge, row_edge, vertex_number, is_self_edge, is_repeat}
+use Rattle.cgd_read.specs.Edges.{vertices_of, edges_of, first_size, has_rows, with_new, same_edge, row_edge, vertex_number, is_self_edge}
 use Rattle.cgd_read.specs.Faults.{fault_of, has_row, is_end, rows_in, first_true, table, has_wrong_length, has_other_length, has_self_edge}
 use Rattle.cgd_read.specs.Faults.{brings_many_vertices, brings_many_edges, ends_without_rows}
 use Rattle.cgd_read.specs.Graphs.{graph_of, net_of, IsReadGraph}
@@ -27,10 +27,10 @@ pub record IsWellRow (row : FieldsView) : Type 0 where
   pub small : IsSmallFields row
   pub flat : IsFlat row
 
-pub negative : (x : ℤ) → pos 0 -ℤ x ≡ neg_ℤ x
+negative : (x : ℤ) → pos 0 -ℤ x ≡ neg_ℤ x
 negative x = omega (arith, ints)
 
-pub negative_small : (x : ℤ) → unsigned_abs x ≤ most_shift → unsigned_abs (pos 0 -ℤ x) ≤ most_shift
+negative_small : (x : ℤ) → unsigned_abs x ≤ most_shift → unsigned_abs (pos 0 -ℤ x) ≤ most_shift
 negative_small x h = search (arith, negative)
 
 pub small_part : (x : ℤ) → IsSmallPart x → unsigned_abs x ≤ most_shift
@@ -38,25 +38,26 @@ small_part x k = search arith
 
 -- Edges of a graph within the limits.
 
--- an edge of a graph with n vertices and rows of so many fields, within the limits
-pub record IsWellEdge (n size : ℕ) (e : RawEdge) : Type 0 where
+-- an edge of a graph of dimension dim with n vertices, within the limits
+pub record IsWellEdge (n dim : ℕ) (e : RawEdge) : Type 0 where
   pub first : (1 ≤ e.u) × (e.u ≤ n)
   pub second : (1 ≤ e.v) × (e.v ≤ n)
-  pub flat : size ≡ 4 → e.z ≡ pos 0
+  pub flat : dim ≡ 2 → e.z ≡ pos 0
   pub spelling : IsNormalSpelling (edge_of e)
   pub x : unsigned_abs e.x ≤ most_shift
   pub y : unsigned_abs e.y ≤ most_shift
   pub z : unsigned_abs e.z ≤ most_shift
 
-pub wider : (m n size : ℕ) → m ≤ n → (e : RawEdge) → IsWellEdge m size e → IsWellEdge n size e
-wider m n size l e w = search arith
+wider : (m n dim : ℕ) → m ≤ n → (e : RawEdge) → IsWellEdge m dim e → IsWellEdge n dim e
+wider m n dim l e w = search arith
 
-pub well_spelled : (n size u v : ℕ) (x y z : ℤ) → (1 ≤ u) × (u ≤ n) → (1 ≤ v) × (v ≤ n) → (size ≡ 4 → z ≡ pos 0)
+-- vertices and a small shift make such an edge, unless they are a loop without a shift
+pub well_spelled : (n dim u v : ℕ) (x y z : ℤ) → (1 ≤ u) × (u ≤ n) → (1 ≤ v) × (v ≤ n) → (dim ≡ 2 → z ≡ pos 0)
     → unsigned_abs x ≤ most_shift → unsigned_abs y ≤ most_shift → unsigned_abs z ≤ most_shift → (u ≡ v → IsZero x y z → ⊥)
-    → IsWellEdge n size (normal u v x y z)
-well_spelled n size u v x y z first second flat sx sy sz other = by (is_forward u v x y z) (normal_spelled u v x y z other)
+    → IsWellEdge n dim (normal u v x y z)
+well_spelled n dim u v x y z first second flat sx sy sz other = by (is_forward u v x y z) (normal_spelled u v x y z other)
   where
-    by : (t : Bool) → IsNormalSpelling (edge_of (spelled t u v x y z)) → IsWellEdge n size (spelled t u v x y z)
+    by : (t : Bool) → IsNormalSpelling (edge_of (spelled t u v x y z)) → IsWellEdge n dim (spelled t u v x y z)
     by true s = record { first = first; second = second; flat = flat; spelling = s; x = sx; y = sy; z = sz }
     by false s = record {
       first = second;
@@ -71,7 +72,7 @@ well_spelled n size u v x y z first second flat sx sy sz other = by (is_forward 
 -- what the rows so far make
 pub record MakeGraph (rows : List FieldsView) : Type 0 where
   pub size : has_rows rows ≡ true → (first_size rows ≡ 4) ⊎ (first_size rows ≡ 5)
-  pub edges : (size : ℕ) → (has_rows rows ≡ true → first_size rows ≡ size) → All (IsWellEdge (length (vertices_of rows)) size) (edges_of rows)
+  pub edges : (dim : ℕ) → (has_rows rows ≡ true → first_size rows - 2 ≡ dim) → All (IsWellEdge (length (vertices_of rows)) dim) (edges_of rows)
   pub different : AllPairs (λ a b. a ≢ b) (map edge_of (edges_of rows))
   pub few_vertices : length (vertices_of rows) ≤ most_vertices
   pub few_edges : length (edges_of rows) ≤ most_edges
@@ -114,7 +115,7 @@ same_self e =
 raw_of : Arc → RawEdge
 raw_of a = record { u = a.from; v = a.to; x = a.shift.x; y = a.shift.y; z = a.shift.z }
 
-pub apart : (e f : RawEdge) → same_edge e f ≡ false → edge_of f ≢ edge_of e
+apart : (e f : RawEdge) → same_edge e f ≡ false → edge_of f ≢ edge_of e
 unfolding raw_of
 apart e f h eq = false≢true (sym h ∙ subst (λ g. same_edge e g ≡ true) (sym (ap raw_of eq)) (same_self e))
 
@@ -131,38 +132,33 @@ no_loop names row h e zero =
     false≢true (sym h ∙ and_from _ _ ((bytes_eq-Decides row.u row.v).1 (same_number names row.u row.v e))
     (and_from _ _ ((Decides-int_eq row.x (pos 0)).1 zero.0) (and_from _ _ ((Decides-int_eq row.y (pos 0)).1 zero.1) ((Decides-int_eq row.z (pos 0)).1 zero.2))))
 
-row_makes : (rows : List FieldsView) (row : FieldsView) (size : ℕ) → IsWellRow row → is_self_edge row ≡ false → row.size ≡ size
-    → IsWellEdge (length (vertices_of (row ∷ rows))) size (row_edge (vertices_of rows) row)
-row_makes rows row size well no_self e =
+row_makes : (rows : List FieldsView) (row : FieldsView) (dim : ℕ) → IsWellRow row → is_self_edge row ≡ false → row.size - 2 ≡ dim
+    → IsWellEdge (length (vertices_of (row ∷ rows))) dim (row_edge (vertices_of rows) row)
+row_makes rows row dim well no_self e =
     let names = vertices_of rows in let some = with_new bytes_eq names row.u in
-    well_spelled (length (vertices_of (row ∷ rows))) size (vertex_number names row.u) (vertex_number some row.v) row.x row.y row.z
+    well_spelled (length (vertices_of (row ∷ rows))) dim (vertex_number names row.u) (vertex_number some row.v) row.x row.y row.z
     (omega arith, omega (arith, numbered names row.u, longer bytes_eq some row.v)) (omega arith, numbered some row.v)
-    (λ four. well.flat (omega (arith, e, four)))
+    (λ two. well.flat (omega (arith, e, two)))
     (small_part row.x well.small.x) (small_part row.y well.small.y) (small_part row.z well.small.z) (no_loop names row no_self)
 
--- all edges are well, with that of one more row
-edges_well : (rows : List FieldsView) (row : FieldsView) (size : ℕ) → IsWellEdge (length (vertices_of (row ∷ rows))) size (row_edge (vertices_of rows) row)
-    → All (IsWellEdge (length (vertices_of rows)) size) (edges_of rows) → All (IsWellEdge (length (vertices_of (row ∷ rows))) size) (edges_of (row ∷ rows))
-edges_well rows row size edge old = by (is_repeat rows row)
-    (All-weaker (IsWellEdge (length (vertices_of rows)) size) (IsWellEdge (length (vertices_of (row ∷ rows))) size)
-    (wider (length (vertices_of rows)) (length (vertices_of (row ∷ rows))) size
-    (omega (arith, longer bytes_eq (vertices_of rows) row.u, longer bytes_eq (with_new bytes_eq (vertices_of rows) row.u) row.v))) (edges_of rows) old)
+-- all edges are well, with one more
+pub edges_well : (m n dim : ℕ) (es : List RawEdge) (edge : RawEdge) → m ≤ n → IsWellEdge n dim edge → All (IsWellEdge m dim) es
+    → All (IsWellEdge n dim) (with_new same_edge es edge)
+edges_well m n dim es edge more well old =
+    by (list_any (same_edge edge) es) (All-weaker (IsWellEdge m dim) (IsWellEdge n dim) (wider m n dim more) es old)
   where
-    by : (t : Bool) → All (IsWellEdge (length (vertices_of (row ∷ rows))) size) (edges_of rows)
-        → All (IsWellEdge (length (vertices_of (row ∷ rows))) size) (cond t (edges_of rows) (edges_of rows ++ row_edge (vertices_of rows) row ∷ []))
+    by : (t : Bool) → All (IsWellEdge n dim) es → All (IsWellEdge n dim) (cond t es (es ++ edge ∷ []))
     by true h = h
-    by false h = All-push (IsWellEdge (length (vertices_of (row ∷ rows))) size) (edges_of rows) (row_edge (vertices_of rows) row) h edge
+    by false h = All-push (IsWellEdge n dim) es edge h well
 
--- all edges are different, with that of one more row
-edges_different : (rows : List FieldsView) (row : FieldsView) → AllPairs (λ a b. a ≢ b) (map edge_of (edges_of rows))
-    → AllPairs (λ a b. a ≢ b) (map edge_of (edges_of (row ∷ rows)))
-edges_different rows row old = by (is_repeat rows row) refl
+-- all edges are different, with one more
+pub edges_different : (es : List RawEdge) (edge : RawEdge) → AllPairs (λ a b. a ≢ b) (map edge_of es)
+    → AllPairs (λ a b. a ≢ b) (map edge_of (with_new same_edge es edge))
+edges_different es edge old = by (list_any (same_edge edge) es) refl
   where
-    by : (t : Bool) → is_repeat rows row ≡ t
-        → AllPairs (λ a b. a ≢ b) (map edge_of (cond t (edges_of rows) (edges_of rows ++ row_edge (vertices_of rows) row ∷ [])))
+    by : (t : Bool) → list_any (same_edge edge) es ≡ t → AllPairs (λ a b. a ≢ b) (map edge_of (cond t es (es ++ edge ∷ [])))
     by true e = old
     by false e =
-        let edge = row_edge (vertices_of rows) row in let es = edges_of rows in
         subst (λ (as_ : List Arc). AllPairs (λ a b. a ≢ b) as_) (sym (map-append edge_of es (edge ∷ [])))
         (all_pairs_push (λ a b. a ≢ b) (map edge_of es) (edge_of edge) old
         (All-map (λ a. a ≢ edge_of edge) edge_of es
@@ -172,12 +168,14 @@ edges_different rows row old = by (is_repeat rows row) refl
 pub make_row : (rows : List FieldsView) (row : FieldsView) → IsWellRow row → is_self_edge row ≡ false → (has_rows rows ≡ true → row.size ≡ first_size rows)
     → length (vertices_of (row ∷ rows)) ≤ most_vertices → length (edges_of (row ∷ rows)) ≤ most_edges → MakeGraph rows → MakeGraph (row ∷ rows)
 make_row rows row well no_self same few_vertices few_edges make =
-    let now = size_now rows row same in
+    let now = size_now rows row same in let names = vertices_of rows in
     record {
       size = λ h. subst (λ n. (n ≡ 4) ⊎ (n ≡ 5)) (sym now) well.size;
-      edges = λ size h. let e = sym now ∙ h refl in
-          edges_well rows row size (row_makes rows row size well no_self e) (make.edges size (λ some. sym (same some) ∙ e));
-      different = edges_different rows row make.different;
+      edges = λ dim h. let e = ap (λ n. n - 2) (sym now) ∙ h refl in
+          edges_well (length names) (length (vertices_of (row ∷ rows))) dim (edges_of rows) (row_edge names row)
+          (omega (arith, longer bytes_eq names row.u, longer bytes_eq (with_new bytes_eq names row.u) row.v))
+          (row_makes rows row dim well no_self e) (make.edges dim (λ some. ap (λ n. n - 2) (sym (same some)) ∙ e));
+      different = edges_different (edges_of rows) (row_edge names row) make.different;
       few_vertices = few_vertices;
       few_edges = few_edges;
     }
@@ -259,39 +257,36 @@ ends_with_rows earlier line e h = end_test (is_end line.kind) (has_rows (rows_in
 
 -- The graph of rows without a fault is one that may be read.
 
-has_vertex : (n size : ℕ) (es : List RawEdge) → 1 ≤ length es → All (IsWellEdge n size) es → 1 ≤ n
-has_vertex n size [] some edges = absurd (omega (arith, some))
-has_vertex n size (e ∷ es) some edges = let w = edges 0 e (omega arith) in omega (arith, w.first.0, w.first.1)
+has_vertex : (n dim : ℕ) (es : List RawEdge) → 1 ≤ length es → All (IsWellEdge n dim) es → 1 ≤ n
+has_vertex n dim [] some edges = absurd (omega (arith, some))
+has_vertex n dim (e ∷ es) some edges = let w = edges 0 e (omega arith) in omega (arith, w.first.0, w.first.1)
 
 dimension : (size : ℕ) → (size ≡ 4) ⊎ (size ≡ 5) → (size - 2 ≡ 2) ⊎ (size - 2 ≡ 3)
 dimension size h = search arith
 
-four : (size : ℕ) → (size ≡ 4) ⊎ (size ≡ 5) → size - 2 ≡ 2 → size ≡ 4
-four size k l = omega arith
-
 rows_are_graph : (rows : List FieldsView) → MakeGraph rows → has_rows rows ≡ true → IsGraph (graph_of (net_of rows))
 rows_are_graph rows make some =
-    let n = length (vertices_of rows) in let size = first_size rows in
-    let edges = make.edges size (λ h. refl) in
+    let n = length (vertices_of rows) in let dim = first_size rows - 2 in
+    let edges = make.edges dim (λ h. refl) in
     record {
-      dimension = dimension size (make.size some);
-      vertices = has_vertex n size (edges_of rows) (rows_have_edges rows some) edges;
+      dimension = dimension (first_size rows) (make.size some);
+      vertices = has_vertex n dim (edges_of rows) (rows_have_edges rows some) edges;
       edges = All-map (IsEdge (graph_of (net_of rows))) edge_of (edges_of rows)
-          (All-weaker (IsWellEdge n size) (λ e. IsEdge (graph_of (net_of rows)) (edge_of e))
-          (λ e w. record { from = w.first; to = w.second; shift = λ two. w.flat (four size (make.size some) two); spelling = w.spelling })
+          (All-weaker (IsWellEdge n dim) (λ e. IsEdge (graph_of (net_of rows)) (edge_of e))
+          (λ e w. record { from = w.first; to = w.second; shift = w.flat; spelling = w.spelling })
           (edges_of rows) edges);
       different = make.different;
     }
 
 rows_are_small : (rows : List FieldsView) → MakeGraph rows → IsSmall (graph_of (net_of rows))
 rows_are_small rows make =
-    let n = length (vertices_of rows) in let size = first_size rows in
+    let n = length (vertices_of rows) in let dim = first_size rows - 2 in
     record {
       vertices = make.few_vertices;
       edges = omega (arith, length-map (edges_of rows) edge_of, make.few_edges);
       shifts = All-map (λ a. IsWithin most_shift a.shift) edge_of (edges_of rows)
-          (All-weaker (IsWellEdge n size) (λ e. IsWithin most_shift (vector e.x e.y e.z)) (λ e w. (w.x, w.y, w.z)) (edges_of rows)
-          (make.edges size (λ h. refl)));
+          (All-weaker (IsWellEdge n dim) (λ e. IsWithin most_shift (vector e.x e.y e.z)) (λ e w. (w.x, w.y, w.z)) (edges_of rows)
+          (make.edges dim (λ h. refl)));
     }
 
 pub rows_read : (rows : List FieldsView) (raw : RawView) → MakeGraph rows → has_rows rows ≡ true → raw ≡ net_of rows → IsReadGraph raw

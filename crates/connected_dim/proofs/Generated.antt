@@ -1,6 +1,6 @@
 -- The edges between the vertices that were found generate the shifts of the closed walks: their lattice, and splits by it.
 use Rattle.std.proofs.Common.{◌≡◌, ℕ, zero, suc, ◌+◌, ◌-◌, ◌<◌, ◌≤◌, List, [], ◌∷◌, ◌++◌, length, take, map, get_or, Bool, true, false, Option, None, All}
-use Rattle.std.proofs.Common.{sym, ap, subst, ◌∙◌, arith, IsSome, refl, cond, Some, inl, inr, pos, Contains, rules, ℤ, neg_ℤ, ◌+ℤ◌, ◌*ℤ◌, ◌-ℤ◌, ◌≢◌, ◌≤ℤ◌}
+use Rattle.std.proofs.Common.{sym, ap, subst, ◌∙◌, arith, IsSome, refl, cond, Some, inl, inr, pos, Contains, ℤ, neg_ℤ, ◌+ℤ◌, ◌*ℤ◌, ◌-ℤ◌, ◌≢◌, ◌≤ℤ◌}
 use Rattle.std.proofs.Common.{unsigned_abs, ◌⊎◌}
 use Rattle.std.proofs.lemmas.List.{get_or_default, take_all, length-map, get_or-map}
 use Rattle.std.proofs.lemmas.List.Elements.{All-append, recursion_from_All, All-from_recursion, All-contains}
@@ -11,7 +11,8 @@ use Rattle.integers.proofs.numbers.Ring.{ring, linear, other_factor_zero}
 use Rattle.integers.proofs.vectors.Laws.{dot_plus, vector_equal, product_times}
 use Rattle.integers.{specs.Lattices.IsVectorGroup, proofs.vectors.Independence.cramer, proofs.vectors.Independence.products}
 use Rattle.integers.{proofs.vectors.StairBasis.times_in}
-use Rattle.periodic_net.specs.Graph.{Graph, Arc, IsGraph, IsEdge, Vertex, vertex, arc, IsWalk, IsQuotientVertex, arcs, IsArc, IsConnected}
+use Rattle.integers.proofs.vectors.Independence.{flat_triple}
+use Rattle.periodic_net.specs.Graph.{Graph, Arc, IsGraph, Vertex, vertex, arc, IsWalk, IsQuotientVertex, arcs, IsArc, IsConnected}
 use Rattle.periodic_net.specs.Split.{IsFound, ClosedShift, WalkShift, IsPartSplit, entry, IsOrthogonal, IsFlatSplit}
 use Rattle.periodic_net.proofs.CallerLemmas.{arc_inside, edge_in, closed_generated, generator_closed, with_itself, IsTree, one_vertex, walk_dimension}
 use Rattle.periodic_net.proofs.CallerLemmas.{closed_difference, closed_group, connected_by_tree}
@@ -34,20 +35,12 @@ pub record IsReady (found : List (Option Vector)) (e : Arc) : Type 0 where
 
 pub edge_ready : (G : Graph) (found : List (Option Vector)) (row : List Arc) (i : ℕ) (e : Arc) → IsGraph G → IsSmall G → length found ≡ G.vertices
     → row ≡ G.edges → i < length row → e ≡ get_or row i e → IsReady found e
-edge_ready G found row i e g s count same l at =
-    let edge = subst (IsEdge G) (sym at) (subst (λ es. IsEdge G (get_or es i e)) (sym same) (g.edges i e (subst (λ es. i < length es) same l))) in
-    record {
-      from = (edge.from.0, subst (λ n. e.from ≤ n) (sym count) edge.from.1);
-      to = (edge.to.0, subst (λ n. e.to ≤ n) (sym count) edge.to.1);
-      shift = rw at (subst (λ es. IsWithin most_shift (get_or es i e).shift) (sym same) (s.shifts i e (subst (λ es. i < length es) same l)));
-    }
+edge_ready G found row i e g s count same l at = grind arith
 
 -- whether the tail was found
 pub tail_is : (found : List (Option Vector)) (e : Arc) (k : ℕ) (o : Option Vector) (b : Bool) → IsReady found e → k ≡ e.from → o ≡ get_or found (k - 1) o
     → is_some o ≡ b → is_some (walk_to found e.from) ≡ b
-tail_is found e k o b r f at is =
-    let low = r.from.0 in let high = r.from.1 in
-    ap (λ (j : ℕ). is_some (get_or found (j - 1) None)) (sym f) ∙ ap is_some (get_or_default found (k - 1) None o (omega arith) ∙ sym at) ∙ is
+tail_is found e k o b r f at is = search (arith, get_or_default)
 
 -- an edge from a found vertex
 pub walks_more : (found : List (Option Vector)) (row : List Arc) (i : ℕ) (e : Arc) (ws next : List Vector) (v : Vector) → i < length row → e ≡ get_or row i e
@@ -62,22 +55,19 @@ pub walks_same : (found : List (Option Vector)) (row : List Arc) (i : ℕ) (e : 
     → is_some (walk_to found e.from) ≡ false → next ≡ ws
     → ws ≡ map (generator_of found) (filter (λ e. is_some (walk_to found e.from)) (take i row))
     → next ≡ map (generator_of found) (filter (λ e. is_some (walk_to found e.from)) (take (i + 1) row))
-walks_same found row i e ws next l at t same made = same ∙ made
-    ∙ sym (images_same (generator_of found) (λ e. is_some (walk_to found e.from)) row i e l (sym at) t)
+walks_same found row i e ws next l at t same made = search (arith, images_same)
 
 -- all edges
 pub walks_all : (G : Graph) (found : List (Option Vector)) (row : List Arc) (i : ℕ) (ws : List Vector) → row ≡ G.edges → length row ≤ i
     → ws ≡ map (generator_of found) (filter (λ e. is_some (walk_to found e.from)) (take i row)) → ws ≡ generators G found
-walks_all G found row i ws same l made =
-    made ∙ ap (λ (es : List Arc). map (generator_of found) (filter (λ e. is_some (walk_to found e.from)) es)) (take_all i row l ∙ same)
+walks_all G found row i ws same l made = search (arith, take_all)
 
 -- what holds of a list and of one vector more
 pub all_more : (P : Vector → Type 0) (ws : List Vector) (v : Vector) → All P ws → P v → All P (ws ++ v ∷ [])
 all_more P ws v h p = All-append P ws (v ∷ []) h one
   where
     one : (k : ℕ) (w : Vector) → k < 1 → P (get_or (v ∷ []) k w)
-    one zero w l = p
-    one (suc k) w l = absurd (omega arith)
+    one k w h = search arith
 
 -- Each vertex that a walk from the start leads to was found.
 
@@ -100,8 +90,7 @@ image_all L f (x ∷ xs) h = (h.0, image_all L f xs h.1)
 
 -- the walk that was found, where one was
 pub walk_is : (o : Option Vector) → IsSome o → o ≡ Some (shift_of o)
-walk_is None h = cc
-walk_is (Some T) h = refl
+walk_is o k = search arith
 
 -- what is found stands inside the list
 some_inside : (found : List (Option Vector)) (k : ℕ) → IsSome (get_or found k None) → k < length found
@@ -186,8 +175,7 @@ entry_is : (found : List (Option Vector)) (k : ℕ) → k < length found → get
 entry_is found k l = get_or-map part_colour found k None (pos 0) l
 
 none_of : (o : Option Vector) → ¬ IsSome o → o ≡ None
-none_of None h = refl
-none_of (Some T) h = absurd (h (search rules))
+none_of o k = search arith
 
 -- the colouring of the found vertices and the others
 pub part_split_is : (G : Graph) (found : List (Option Vector)) → IsGraph G → AreWalks G 1 found → Contains found None → IsPartSplit G (part_colouring found)
@@ -223,11 +211,7 @@ dot_none c1 c2 c3 = simp ring (omega (arith, linear))
 
 -- the vectors that c is orthogonal to
 pub orthogonal_group : (c : Vector) → IsVectorGroup (λ v. dot c v ≡ pos 0)
-orthogonal_group c = record {
-  zero = dot_none c.x c.y c.z;
-  sums = λ v w e f. dot_plus c v w ∙ (λ i. e i +ℤ f i);
-  opposites = λ v e. dot_opposite c.x c.y c.z v.x v.y v.z ∙ ap neg_ℤ e;
-}
+orthogonal_group c = grind (arith, dot_none, dot_plus, dot_opposite)
 
 -- so c is orthogonal to the closed walks
 pub orthogonal_closed : (G : Graph) (a : ℕ) (found : List (Option Vector)) (c : Vector) → IsGraph G → 1 ≤ a → AreWalks G a found
@@ -280,27 +264,14 @@ sum_zero a b x y k z e = let p = ap (λ t. t *ℤ z) e in omega (arith, linear, 
 
 -- the volume as a triple product
 volume_is : (a b c : Vector) → dot (cross a b) c ≡ triple_product a b c
-volume_is a b c = by a.x a.y a.z b.x b.y b.z c.x c.y c.z
-  where
-    by : (a1 a2 a3 b1 b2 b3 c1 c2 c3 : ℤ) → (a2 *ℤ b3 -ℤ a3 *ℤ b2) *ℤ c1 +ℤ (a3 *ℤ b1 -ℤ a1 *ℤ b3) *ℤ c2 +ℤ (a1 *ℤ b2 -ℤ a2 *ℤ b1) *ℤ c3
-        ≡ a1 *ℤ (b2 *ℤ c3 -ℤ b3 *ℤ c2) +ℤ a2 *ℤ (b3 *ℤ c1 -ℤ b1 *ℤ c3) +ℤ a3 *ℤ (b1 *ℤ c2 -ℤ b2 *ℤ c1)
-    by a1 a2 a3 b1 b2 b3 c1 c2 c3 = simp ring (omega (arith, linear))
-
--- flat vectors have the triple product 0
-flat_triple : (a1 a2 a3 b1 b2 b3 v1 v2 v3 : ℤ) → a3 ≡ pos 0 → b3 ≡ pos 0 → v3 ≡ pos 0
-    → a1 *ℤ (b2 *ℤ v3 -ℤ b3 *ℤ v2) +ℤ a2 *ℤ (b3 *ℤ v1 -ℤ b1 *ℤ v3) +ℤ a3 *ℤ (b1 *ℤ v2 -ℤ b2 *ℤ v1) ≡ pos 0
-flat_triple a1 a2 a3 b1 b2 b3 v1 v2 v3 e f g =
-    let p = ap (λ t. a1 *ℤ (b2 *ℤ t)) g in let q = ap (λ t. a1 *ℤ (t *ℤ v2)) f in
-    let r = ap (λ t. a2 *ℤ (t *ℤ v1)) f in let s = ap (λ t. a2 *ℤ (b1 *ℤ t)) g in
-    let u = ap (λ t. t *ℤ (b1 *ℤ v2)) e in let w = ap (λ t. t *ℤ (b2 *ℤ v1)) e in
-    simp ring (omega (arith, linear, simp ring at p, simp ring at q, simp ring at r, simp ring at s, simp ring at u, simp ring at w))
+volume_is a b c = simp ring (omega (arith, linear))
 
 module _ (d : ℕ) (L : Vector → Type 0) (h : IsVectorGroup L) (dim : (v : Vector) → L v → HasDimension d v) (vs : List Vector) (all : All L vs) where
   -- in the plane
   flat_multiple : (a b v : Vector) → d ≡ 2 → L a → L b → HasDimension d v → L (times (triple_product a b (vector (pos 0) (pos 0) (pos 1))) v)
   flat_multiple a b v two i j flat =
       let up = vector (pos 0) (pos 0) (pos 1) in let k = products a b up v in
-      let none : k.z ≡ pos 0 = flat_triple a.x a.y a.z b.x b.y b.z v.x v.y v.z (dim a i two) (dim b j two) (flat two) in
+      let none : k.z ≡ pos 0 = flat_triple a b v (dim a i two) (dim b j two) (flat two) in
       let same : times (triple_product a b up) v ≡ plus (times k.x a) (times k.y b) =
       cramer a b up v ∙ vector_equal (sum_zero a.x b.x k.x k.y k.z (pos 0) none) (sum_zero a.y b.y k.x k.y k.z (pos 0) none)
       (sum_zero a.z b.z k.x k.y k.z (pos 1) none) in

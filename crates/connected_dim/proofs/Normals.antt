@@ -99,10 +99,7 @@ opposite_coprime c h e k m =
 
 -- two signs cancel
 negative_times : (g c : ℤ) → g *ℤ c ≡ neg_ℤ g *ℤ neg_ℤ c
-negative_times g c = simp ring (omega (arith, linear, neg_neg (g *ℤ c)))
-  where
-    neg_neg : (z : ℤ) → neg_ℤ (neg_ℤ z) ≡ z
-    neg_neg z = omega (arith, linear)
+negative_times g c = simp ring (omega (arith, linear))
 
 -- of the quotient and its opposite the one that starts positive
 pub reduction_is : (v c f : Vector) (g : ℤ) → IsDivisor v g → v ≡ times g c → (f ≡ c) ⊎ (f ≡ opposite c) → StartsPositive f → IsReduction v f
@@ -164,21 +161,15 @@ same_abs z h = ap unsigned_abs (to_z-of_z w128 z (fits_from_bound z most_normal 
 
 -- each vector ends by the third place
 pub ends_by_two : (v : Vector) (k : ℕ) → 2 ≤ k → EndsBy k v
-ends_by_two v k h (suc (suc (suc i))) l = refl
-ends_by_two v k h i l = absurd (omega arith)
+ends_by_two v k p q r = search arith
 
 -- by the second, where z is 0
 pub ends_by_one : (v : Vector) (k : ℕ) → v.z ≡ pos 0 → 1 ≤ k → EndsBy k v
-ends_by_one v k z h (suc (suc zero)) l = z
-ends_by_one v k z h (suc (suc (suc i))) l = refl
-ends_by_one v k z h i l = absurd (omega arith)
+ends_by_one v k p q r s = search arith
 
 -- by the first, where y is 0 too
 pub ends_by_zero : (v : Vector) (k : ℕ) → v.y ≡ pos 0 → v.z ≡ pos 0 → EndsBy k v
-ends_by_zero v k y z zero l = absurd (omega arith)
-ends_by_zero v k y z (suc zero) l = y
-ends_by_zero v k y z (suc (suc zero)) l = z
-ends_by_zero v k y z (suc (suc (suc i))) l = refl
+ends_by_zero v k h p q r = search arith
 
 -- The vectors orthogonal to closed walks of a rank below the dimension.
 
@@ -192,13 +183,7 @@ on_axis x y z e = simp ring (omega (arith, linear, e))
 
 -- where no vector has a first part
 pub axis_normal : (d : ℕ) (vs : List Vector) → All (λ v. v.x ≡ pos 0) vs → IsFlatNormal d vs axis
-axis_normal d vs h = record {
-  dimension = λ e. refl;
-  orthogonal = λ k v l. let w = get_or vs k v in on_axis w.x w.y w.z (h k v l);
-  positive = refl;
-  lowest = λ e k dim o some ends. ends_by_zero axis k refl refl;
-  coprime = λ e k m. unit k e.x (ap (λ (t : Vector). t.x) m);
-}
+axis_normal d vs h = grind (arith, on_axis, ends_by_zero, unit)
 
 -- the product of a multiple
 scaled : (k c1 c2 c3 v1 v2 v3 w1 w2 w3 : ℤ) → v1 ≡ k *ℤ c1 → v2 ≡ k *ℤ c2 → v3 ≡ k *ℤ c3

@@ -2,7 +2,7 @@
 use Rattle.std.proofs.Common.{◌≡◌, ℕ, zero, suc, ◌<◌, inl, inr, List, [], ◌∷◌, ◌++◌, length, map, get_or, refl, sym, ap, ◌∙◌, arith, pos, ◌<ℤ◌, subst}
 use Rattle.std.proofs.Common.{◌+◌, ◌-◌, ◌≤◌, Option, Some, All, Contains, ◌≢◌, ◌⊎◌, set, None, IsSome, get_or-set_other, ◌*◌, ◌^◌}
 use Rattle.std.proofs.{lemmas.Int.ints, lemmas.List.Elements.All-contains, lemmas.List.get_or_append_left}
-use Rattle.std.specs.Prelude.{drop, is_some, if◌then◌else◌}
+use Rattle.std.specs.Prelude.{drop}
 use Rattle.integers.proofs.lists.Members.{IsIn, contains_from_in, is_in, in_at}
 use Rattle.integers.proofs.lists.GrownLists.{drop_at, drop_all, in_more, drop_with}
 use Rattle.integers.proofs.{numbers.Order.next_number, vectors.Laws.plus_associative, vectors.Laws.plus_commutative, vectors.Directions.below_ways}
@@ -119,10 +119,7 @@ module _ (G : Graph) (a : ℕ) (found : List (Option Vector)) (order : List ℕ)
 
   -- and was by all of its arcs
   pub path_end : (i : ℕ) → IsPathSearch G a found order i [] → IsSettledTo G a found order (i + 1)
-  path_end i s = record { which = inr (omega arith, subst (λ j. IsPathSearch G a found order j []) (less i) s) }
-    where
-      less : (i : ℕ) → i ≡ i + 1 - 1
-      less i = omega arith
+  path_end i s = grind arith
 
   -- the paths that were found at the end
   path_complete : (i : ℕ) → length order ≤ i + 1 → (s : IsPathSearch G a found order i []) → IsComplete G a s.known
@@ -148,10 +145,7 @@ module _ (G : Graph) (a : ℕ) (found : List (Option Vector)) (order : List ℕ)
 
   -- at its start the search has gone on from nothing
   pub settled_start : (n : ℕ) → order ≡ order_with (none_found n) [] a → walk_to found a ≡ Some zero_vector → IsSettledTo G a found order 0
-  settled_start n e w = record { which = inl (refl, record { alone = e ∙ alone; nowhere = w }) }
-    where
-      alone : order_with (none_found n) [] a ≡ a ∷ []
-      alone = ap (λ o. if is_some o then [] else a ∷ []) (none_at n (a - 1))
+  settled_start n e w = search (arith, none_at)
 
 -- The arcs from a vertex, as the search goes over them.
 

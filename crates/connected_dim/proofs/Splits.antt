@@ -1,6 +1,6 @@
 -- The colourings of a net that is not connected are splits.
 use Rattle.std.proofs.Common.{◌≡◌, ℕ, zero, suc, ℤ, pos, neg_ℤ, ◌+ℤ◌, ◌-ℤ◌, ◌*ℤ◌, inl, inr, refl, sym, ap, subst, ◌∙◌, arith, ◌<ℤ◌, ◌≢◌, ◌^◌, negsuc, ◌≤ℤ◌}
-use Rattle.std.proofs.Common.{FitsSigned, ◌-◌, ◌<◌, ◌≤◌, Bool, true, false, cond, ◌==◌, List, [], ◌∷◌, length, map, get_or, Option, None, IsSome, All, ◌⊎◌}
+use Rattle.std.proofs.Common.{FitsSigned, ◌-◌, ◌<◌, ◌≤◌, Bool, false, cond, ◌==◌, List, [], ◌∷◌, length, map, get_or, Option, None, IsSome, All, ◌⊎◌}
 use Rattle.std.proofs.{Common.unsigned_abs, lemmas.Int.ints, lemmas.Bool.ne_eqb, lemmas.List.length-map, lemmas.List.get_or-map}
 use Rattle.integers.specs.Vectors.{Vector, vector, zero_vector, plus, minus, dot, HasDimension}
 use Rattle.integers.proofs.numbers.{Ring.ring, Ring.linear, Division.euclid_rest, Order.positive_natural}
@@ -77,9 +77,7 @@ equal_alike q x y e = (pos 0, more (pos q) x y e)
 
 -- modulo 0 a number that is not 0 is not like 0
 not_alike : (q : ℕ) (x y : ℤ) → q ≡ 0 → x ≡ y → pos 0 <ℤ y → ¬ AreAlike q x (pos 0)
-not_alike q x y z e h a =
-    let none : pos q *ℤ a.0 ≡ pos 0 = ap (λ (t : ℕ). pos t *ℤ a.0) z ∙ simp ring refl in let f = a.1 in
-    omega (arith, ints, none, e, f, h)
+not_alike q x y z e h a = search arith
 
 -- the product with the first axis
 first_part : (c1 c2 c3 : ℤ) → c1 *ℤ pos 1 +ℤ c2 *ℤ pos 0 +ℤ c3 *ℤ pos 0 ≡ c1
@@ -138,9 +136,7 @@ complement_range q b c l u (inl h) = let e = h.0 in let f = h.1 in (omega (arith
 complement_range q b c l u (inr h) = let e = h.1 in let n = h.0 in (omega (arith, ints, e, u), above b l n e)
   where
     above : (b : ℤ) → pos 0 ≤ℤ b → b ≢ pos 0 → c ≡ q -ℤ b → c <ℤ q
-    above (pos zero) l n e = absurd (n refl)
-    above (pos (suc b)) l n e = omega (arith, ints, e)
-    above (negsuc b) l n e = absurd (omega (arith, ints, l))
+    above b h k p = grind arith
 
 -- the product at the first place
 first : (x y z k a : ℤ) → x ≡ k *ℤ a → pos 1 *ℤ x +ℤ pos 0 *ℤ y +ℤ pos 0 *ℤ z ≡ a *ℤ k
@@ -200,8 +196,7 @@ same_alike q c1 c2 c3 s1 s2 s3 t1 t2 t3 h k n e f = simp ring (omega (arith, lin
 
 -- the third row of a stair in space
 third_of : (b : Bool) (u v w : Vector) → b ≡ false → part 2 (get_or (u ∷ v ∷ cond b [] (w ∷ [])) 2 zero_vector) ≡ w.z
-third_of true u v w e = cc
-third_of false u v w e = refl
+third_of b u v w h = cc
 
 -- a dimension above 2 is not 2
 not_two : (d : ℕ) → 2 < d → (d == 2) ≡ false
@@ -257,8 +252,7 @@ module _ (G : Graph) (found : List (Option Vector)) (R : Stairs) (S : Split) (g 
   full (suc (suc (suc i))) l = absurd (by g.dimension)
     where
       by : (G.dimension ≡ 2) ⊎ (G.dimension ≡ 3) → ⊥
-      by (inl e) = omega (arith, e, l)
-      by (inr e) = omega (arith, e, l)
+      by h = omega arith
 
   -- the entries
   at : (u : ℕ) → IsQuotientVertex G u → entry S.h u ≡ sparse_colour (pos S.q) S.c (walk_to found u)
@@ -334,11 +328,7 @@ module _ (G : Graph) (found : List (Option Vector)) (R : Stairs) (S : Split) (g 
       earlier (suc (suc i)) l = absurd (omega arith)
 
       space : pos S.q ≡ R.i → pos 2 ≤ℤ pos S.q → 2 < G.dimension
-      space e a = by g.dimension
-        where
-          by : (G.dimension ≡ 2) ⊎ (G.dimension ≡ 3) → 2 < G.dimension
-          by (inl d) = let i = (flat d).i in absurd (omega (arith, ints, i, e, a))
-          by (inr d) = omega (arith, d)
+      space e a = grind arith
 
 -- the colouring, from the lattice
 pub sparse_from_lattice : (G : Graph) (found : List (Option Vector)) (R : Stairs) (q : ℤ) (c : Vector) → IsGraph G → AreWalks G 1 found → All IsSome found
@@ -357,8 +347,7 @@ sparse_from_lattice G found R q c g w all l s low d =
         positive (negsuc n) h = absurd (omega (arith, ints, h))
 
     two : (G.dimension ≡ 2) ⊎ (G.dimension ≡ 3) → 2 ≤ G.dimension
-    two (inl e) = omega (arith, e)
-    two (inr e) = omega (arith, e)
+    two h = omega arith
 
     three : (G.dimension ≡ 2) ⊎ (G.dimension ≡ 3) → G.dimension ≤ 3
     three (inl e) = omega (arith, e)

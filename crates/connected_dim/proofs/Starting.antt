@@ -42,11 +42,7 @@ pub record Found (found : List (Option Vector)) (order : List ℕ) (u : ℕ) (T 
       ⊎ ((walk_to found u ≡ None) × (found' ≡ set found (u - 1) (Some T)) × (order' ≡ order ++ u ∷ []))
 
 pub found_is : (found : List (Option Vector)) (order : List ℕ) (u : ℕ) (T : Vector) → Found found order u T (found_with found u T) (order_with found order u)
-found_is found order u T = by (walk_to found u) refl
-  where
-    by : (o : Option Vector) → walk_to found u ≡ o → Found found order u T (found_with found u T) (order_with found order u)
-    by None e = record { which = inr (e, (rw e refl), (rw e refl)) }
-    by (Some S) e = record { which = inl ((rw e (search rules)), (rw e refl), (rw e refl)) }
+found_is found order u T = search arith
 
 pub none_is_not_some : (o : Option Vector) (T : Vector) → o ≡ None → o ≡ Some T → ⊥
 none_is_not_some o T e f = let g : None ≡ Some T = sym e ∙ f in cc
@@ -168,10 +164,7 @@ pub leads_more : (row : List Arc) (before found : List (Option Vector)) (i : ℕ
     → ((k : ℕ) → IsSome (get_or before k None) → IsSome (get_or found k None))
     → ((k : ℕ) (a : Arc) → k < i → IsSome (walk_to before (get_or row k a).to)) → IsSome (walk_to found v) → (k : ℕ) (a : Arc) → k < i + 1
     → IsSome (walk_to found (get_or row k a).to)
-leads_more row before found i x v is to l still h some k a b = elim (before_or_at k i b) [
-  | inl c ↦ still ((get_or row k a).to - 1) (h k a c)
-  | inr e ↦ rw e (subst (λ w. IsSome (walk_to found w)) (to ∙ ap (λ (b : Arc). b.to) (sym is ∙ get_or_default row i x a l)) some)
-]
+leads_more row before found i x v is to l still h some k a b = grind (arith, before_or_at, get_or_default)
 
 -- all the arcs from u are in the row
 pub leads_all : (G : Graph) (start : ℕ) (row : List Arc) (found : List (Option Vector)) (u n : ℕ) → length row ≤ n
@@ -209,8 +202,7 @@ next_of {G} {start} {found} {order} {i} h l =
     }
 
 still_some : (o p : Option Vector) → ((T : Vector) → o ≡ Some T → p ≡ Some T) → IsSome o → IsSome p
-still_some None p keep h = cc
-still_some (Some T) p keep h = some_there p T (keep T refl)
+still_some o p k l = search (arith, some_there)
 
 leads_still : (G : Graph) (start : ℕ) (found found' : List (Option Vector))
     → ((k : ℕ) (T : Vector) → get_or found k None ≡ Some T → get_or found' k None ≡ Some T) → (u : ℕ) → LeadsToFound G found u → LeadsToFound G found' u
@@ -241,18 +233,11 @@ missing_none zero = refl
 missing_none (suc n) = grind (arith, common_steps, missing_none n)
 
 search_none : (G : Graph) (start : ℕ) → IsSearch G start (none_found G.vertices) []
-search_none G start = record {
-  count = length-replicate G.vertices None;
-  walks = λ u T low e. absurd (none_is_not_some (walk_to (none_found G.vertices) u) T (none_at G.vertices (u - 1)) e);
-  listed = λ u T low e. absurd (none_is_not_some (walk_to (none_found G.vertices) u) T (none_at G.vertices (u - 1)) e);
-  vertices = λ k l. absurd (omega arith);
-  near = λ k l. absurd (omega arith);
-}
+search_none G start = grind (arith, length-replicate, vertices, walks, none_is_not_some, none_at)
 
 -- what is none is not some
 pub no_some : (o : Option Vector) → o ≡ None → IsSome o → ⊥
-no_some None e h = cc
-no_some (Some T) e h = cc
+no_some o k l = cc
 
 -- the start alone is found, by the walk that goes nowhere
 pub search_start : (G : Graph) (start : ℕ) (found : List (Option Vector)) (order : List ℕ) → IsQuotientVertex G start
@@ -278,8 +263,7 @@ search_start G start found order q e f together =
 
 -- what is some has a value
 pub some_value : (o : Option Vector) → IsSome o → (T : Vector) × (o ≡ Some T)
-some_value None h = cc
-some_value (Some T) h = (T, refl)
+some_value o k = search arith
 
 -- where all are followed, the walks are all there are
 pub walks_found : {G : Graph} {start : ℕ} {found : List (Option Vector)} {order : List ℕ} → IsSearchedTo G start found order (length order)

@@ -1,14 +1,14 @@
 -- The shells of a vertex are counted in a box.
-use Rattle.std.proofs.Common.{◌≡◌, ◌⊎◌, inl, inr, ℕ, ◌+◌, ◌-◌, ◌<◌, ◌≤◌, List, [], ◌∷◌, ◌++◌, length, get_or, sym, subst, ap, ◌∙◌, arith, suc, ◌*◌, ℤ, pos}
-use Rattle.std.proofs.Common.{◌+ℤ◌, set, drop, Bool, true, false, cond, refl, length-append}
+use Rattle.std.proofs.Common.{◌≡◌, ◌⊎◌, inl, inr, ℕ, ◌+◌, ◌-◌, ◌<◌, ◌≤◌, List, [], ◌∷◌, ◌++◌, length, get_or, sym, subst, ap, ◌∙◌, arith, suc}
+use Rattle.std.proofs.Common.{set, drop, Bool, true, false, cond, refl, length-append}
 use Rattle.std.proofs.lemmas.List.{get_or_append_left, length_push, length-map}
-use Rattle.std.{proofs.lemmas.Int.ints, proofs.Math.Seq.get_or-append_seam, proofs.Math.Seq.drop-append_seam, specs.Prelude.unsigned_abs}
+use Rattle.std.{proofs.Math.Seq.get_or-append_seam, proofs.Math.Seq.drop-append_seam}
 use Rattle.integers.proofs.lists.Members.{AreApart, IsIn, is_in, pairs_from_apart}
 use Rattle.integers.{specs.Vectors.zero_vector, proofs.numbers.Order.at_most_next}
 use Rattle.periodic_net.specs.Graph.{Graph, IsQuotientVertex, vertex, Vertex, AreJoined}
 use Rattle.coordination.specs.BoxSearches.{AreFirstLists, AreFoundAndMarked, IsFoundNext, IsNextShell, IsOpen, IsSearchable}
 use Rattle.coordination.specs.Sequences.{AreShellsOf, most_shells, most_in_shells}
-use Rattle.coordination.specs.Boxes.{IsBoxOf, IsInside, above, origin_of, place_in, side, spot_in}
+use Rattle.coordination.specs.Boxes.{IsBoxOf, IsInside, origin_of, place_in, spot_in}
 use Rattle.coordination.specs.Marks.{IsUnmarked, is_marked, marks_with, spots_with}
 use Rattle.coordination.proofs.Layers.{AreCounted, counted_past, counted_ten, counted_turn, and_on, start_layers, some_vertex_shell, vertex_sizes, walk_of}
 use Rattle.coordination.proofs.BoxSearch.{found_more, spot_inside, unmarked_marked}
@@ -49,17 +49,7 @@ pub record IsCountedIn (P : Graph) (b : NetBox) (c : ℕ) (sizes : List ℕ) (ro
 
 -- the number of the vertex over c in cell 0
 start_place : (n c : ℕ) (r : Extent) → origin_of n r + (c - 1) ≡ place_in n r (start c)
-start_place n c r =
-    swap (n * (r.x + side r.x * (r.y + side r.y * r.z))) (c - 1) ∙ (λ i. (c - 1) + n * (none r.x i + side r.x * (none r.y i + side r.y * none r.z i)))
-  where
-    swap : (k m : ℕ) → k + m ≡ m + k
-    swap k m = omega arith
-
-    none : (m : ℕ) → m ≡ above m (pos 0)
-    none m = by (pos 0 +ℤ pos m) (omega (arith, ints))
-      where
-        by : (t : ℤ) → t ≡ pos m → m ≡ unsigned_abs t
-        by t e = sym (ap unsigned_abs e)
+start_place n c r = omega arith
 
 module _ {P : Graph} {b : NetBox} (q : IsBoxOf P b) (c : ℕ) (i : IsQuotientVertex P c) where
   -- it is in the box
@@ -68,10 +58,7 @@ module _ {P : Graph} {b : NetBox} (q : IsBoxOf P b) (c : ℕ) (i : IsQuotientVer
 
   -- its spot
   pub start_spot : (at : ℕ) → at ≡ b.origin + (c - 1) → spot_in P.vertices b.extent (start c) ≡ record { over = c; at = at }
-  start_spot at e = λ k. record { over = c; at = same k }
-    where
-      same : place_in P.vertices b.extent (start c) ≡ at
-      same = sym (e ∙ ap (λ n. n + (c - 1)) q.origin ∙ start_place P.vertices c b.extent)
+  start_spot at e = grind (arith, start_place)
 
   -- at first it alone is found
   pub counting_starts : (marks marks' : List Bool) (found found' : List Spot) (at : ℕ) → length marks ≡ b.size → IsUnmarked marks → found ≡ []
@@ -106,8 +93,7 @@ module _ {P : Graph} {b : NetBox} (q : IsBoxOf P b) (c : ℕ) (i : IsQuotientVer
       marks_are = m ∙ ap (λ (t : Spot). marks_with marks t) same ∙ ap (λ v. cond v marks (set marks s.at true)) fresh
 
       found_are : found' ≡ s ∷ []
-      found_are = f ∙ ap (λ (t : Spot). spots_with marks found t) same ∙ ap (λ v. cond v found (found ++ s ∷ [])) fresh
-          ∙ ap (λ (ss : List Spot). ss ++ s ∷ []) empty
+      found_are = grind (arith, s, fresh)
 
       alone : AreFoundAndMarked P b (start c ∷ []) (set marks s.at true) (s ∷ [])
       alone = found_more P b q [] marks [] (start c)
@@ -140,11 +126,7 @@ module _ {P : Graph} {b : NetBox} (q : IsBoxOf P b) (c : ℕ) (i : IsQuotientVer
     module _ {marks' : List Bool} {found' : List Spot} (n : IsFoundNext P b h.vertices begin room marks' found') where
       -- as many more were found
       counted_size : length found' ≡ length found + length n.next
-      counted_size =
-          let e = ap length h.is_found.spots in let f = ap length n.is_found.spots in
-          let g = length-map h.vertices (spot_in P.vertices b.extent) in
-          let k = length-map (h.vertices ++ n.next) (spot_in P.vertices b.extent) in
-          let m = length-append h.vertices n.next in omega (arith, e, f, g, k, m)
+      counted_size = grind (arith, length-map, length-append)
 
       -- with the next shell the total passes the limit
       pub counting_past : room < length n.next → AreShellsOf P (start c) sizes

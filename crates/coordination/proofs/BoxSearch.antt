@@ -106,18 +106,11 @@ left_fewer marks found k n d h l = record {
         by r = pick (rest r.0 r.1)
           where
             pick : (s ≡ r.0) ⊎ IsIn (drop (k + 1) found) r.0 → (t : Spot) × IsIn (drop (k + 1) found) t × (t.at ≡ i)
-            pick (inl w) = absurd (q (sym r.2 ∙ sym (ap (λ (u : Spot). u.at) w)))
-            pick (inr j) = (r.0, j, r.2)
+            pick h = search arith
 
 -- at the end nothing is marked
 pub left_none : (marks : List Bool) (found : List Spot) (k n : ℕ) → AreLeft marks found k n → length found ≤ k → IsUnmarked marks
-left_none marks found k n h l i c = by (is_marked marks i) refl
-  where
-    by : (b : Bool) → is_marked marks i ≡ b → is_marked marks i ≡ false
-    by false e = e
-    by true e =
-        let r = h.left i (subst (λ t. i < t) h.count c) e in
-        absurd (subst (λ (ts : List Spot). IsIn ts r.0) (drop_all k found l) r.1)
+left_none marks found k n h l i c = search (arith, drop_all)
 
 -- what is not marked is nothing that was found
 pub unmarked_marked : (marks : List Bool) → IsUnmarked marks → AreMarked marks []
@@ -379,8 +372,4 @@ module _ {P : Graph} {b : NetBox} {vertices : List Vertex} {first_marks : List B
 
     -- or where too many were found
     pub searching_stops : (room : ℕ) → room < length s.next → IsFoundNext P b vertices begin room marks found
-    searching_stops room l = record {
-      next = s.next;
-      is_found = s.is_found;
-      expands = search_stops (AreJoined P) room (i - begin) (drop begin vertices) vertices (vertices ++ s.next) s.next l s.searched;
-    }
+    searching_stops room l = search (arith, s, search_stops)

@@ -1,16 +1,16 @@
 -- The box of a search: bounds of its numbers, which vertex has which, the steps between them, and how far walks lead.
-use Rattle.std.proofs.Common.{ℕ, ◌+◌, ◌*◌, ◌^◌, ◌<◌, ◌≤◌, arith, ◌≡◌, ◌⊎◌, inl, inr, ◌-◌, ℤ, pos, negsuc, ◌+ℤ◌, ◌-ℤ◌, ◌*ℤ◌, refl, sym, ap, ◌∙◌, ◌≢◌, suc}
+use Rattle.std.proofs.Common.{ℕ, ◌+◌, ◌*◌, ◌^◌, ◌<◌, ◌≤◌, arith, ◌≡◌, ◌⊎◌, inl, inr, ◌-◌, ℤ, pos, ◌+ℤ◌, ◌-ℤ◌, ◌*ℤ◌, refl, sym, ap, ◌∙◌, suc}
 use Rattle.std.proofs.Common.{neg_ℤ, List, [], ◌∷◌, ◌++◌, length, get_or, set, map, replicate, drop, Vec, Global, Bool, true, false, cond, subst}
 use Rattle.std.proofs.Common.{append_assoc, append-nil, drop-cons, zero, ◌≤ℤ◌}
 use Rattle.std.proofs.lemmas.List.{get_or_default, drop_all, get_or-map, get_or-replicate, get_or-set_other, get_or-set_same, length-replicate, length-set}
 use Rattle.std.proofs.lemmas.List.{map-set}
-use Rattle.std.{proofs.Math.Nat.mul-le-mul, proofs.Math.Nat.mul-le-mul_left, proofs.Math.IntN.pos-*ℤ-pos, proofs.lemmas.Int.ints}
-use Rattle.std.{proofs.lemmas.Bool.cases_eq, proofs.lemmas.Grind.common_steps, specs.Prelude.unsigned_abs, specs.Prelude.◌==◌, specs.List.filter}
+use Rattle.std.{proofs.Math.Nat.mul-le-mul, proofs.Math.Nat.mul-le-mul_left, proofs.lemmas.Int.ints}
+use Rattle.std.{proofs.lemmas.Bool.cases_eq, specs.Prelude.unsigned_abs, specs.Prelude.◌==◌}
 use Rattle.integers.specs.Vectors.{minus, Vector, zero_vector}
 use Rattle.integers.proofs.lists.Members.{IsIn, contains_from_in, is_in, all_at, all_from_in}
 use Rattle.integers.proofs.{numbers.Ring.ring, numbers.Ring.linear, numbers.Order.three_ways, numbers.Order.before_or_at, vectors.Laws.vector_equal}
 use Rattle.integers.proofs.{vectors.Laws.zero_plus}
-use Rattle.periodic_net.specs.Graph.{arc, Vertex, vertex, Graph, IsEdge, IsQuotientVertex, Arc, both_ways, reverse_of, IsGraph, arcs, IsArc, AreJoined}
+use Rattle.periodic_net.specs.Graph.{arc, Vertex, vertex, Graph, IsEdge, IsQuotientVertex, Arc, reverse_of, IsGraph, arcs, IsArc, AreJoined}
 use Rattle.periodic_net.specs.Graph.{IsWalk}
 use Rattle.periodic_net.proofs.CallerLemmas.{edge_in, end_joined, end_of, arc_inside, either_way, joined_turned}
 use Rattle.coordination.specs.Boxes.{side, above, IsInside, size_of, place_in, growth_of, AreStepsFromVertices, step_of, steps_from, with_edge, with_step}
@@ -61,11 +61,7 @@ digits_once n a b a' b' h h' e = by (three_ways b b')
 
 -- how far a part lies above -n, as a sum
 pub above_is : (n : ℕ) (s : ℤ) → unsigned_abs s ≤ n → pos (above n s) ≡ s +ℤ pos n
-above_is n s h = by (s +ℤ pos n) refl
-  where
-    by : (t : ℤ) → t ≡ s +ℤ pos n → pos (unsigned_abs t) ≡ t
-    by (pos m) e = refl
-    by (negsuc m) e = absurd (omega (arith, ints, e, h))
+above_is n s h = search arith
 
 -- it is below the number of cells
 above_below : (n : ℕ) (s : ℤ) → unsigned_abs s ≤ n → above n s < side n
@@ -73,10 +69,7 @@ above_below n s h = let e = above_is n s h in omega (arith, ints, e, h)
 
 -- and determines the part
 above_once : (n : ℕ) (s t : ℤ) → unsigned_abs s ≤ n → unsigned_abs t ≤ n → above n s ≡ above n t → s ≡ t
-above_once n s t h k e = by (sym (above_is n s h) ∙ ap pos e ∙ above_is n t k)
-  where
-    by : s +ℤ pos n ≡ t +ℤ pos n → s ≡ t
-    by q = omega (arith, linear, q)
+above_once n s t h k e = grind (arith, above_is)
 
 module _ (n : ℕ) (r : Extent) where
   -- the number is below the size
@@ -104,10 +97,7 @@ module _ (n : ℕ) (r : Extent) where
 
 -- a + n·b as a whole number
 pos_digits : (a n b : ℕ) → pos (a + n * b) ≡ pos a +ℤ pos n *ℤ pos b
-pos_digits a n b = let e = pos-*ℤ-pos n b in pos_sum a (n * b) ∙ ap (λ (t : ℤ). pos a +ℤ t) (sym e)
-  where
-    pos_sum : (m k : ℕ) → pos (m + k) ≡ pos m +ℤ pos k
-    pos_sum m k = omega (arith, ints)
+pos_digits a n b = cc
 
 -- the number of a vertex whose class is o, at x, y and z, where n, sides and greatest parts are given
 abbrev number : (n A B a b c o x y z : ℤ) → ℤ
@@ -122,25 +112,12 @@ module _ (n : ℕ) (r : Extent) where
   -- the number, as a whole number
   place_is : (x : Vertex) → IsInside n r x → pos (place_in n r x)
       ≡ number (pos n) (pos (side r.x)) (pos (side r.y)) (pos r.x) (pos r.y) (pos r.z) (pos x.over) x.cell.x x.cell.y x.cell.z
-  place_is x h =
-      let low = h.low in let over : pos (x.over - 1) ≡ pos x.over -ℤ pos 1 = omega (arith, ints) in
-      let rows = above r.y x.cell.y + side r.y * above r.z x.cell.z in
-      let cells = above r.x x.cell.x + side r.x * rows in
-      pos_digits (x.over - 1) n cells
-      ∙ (λ i. over i +ℤ pos n *ℤ (pos_digits (above r.x x.cell.x) (side r.x) rows i))
-      ∙ (λ i. (pos x.over -ℤ pos 1) +ℤ pos n *ℤ (above_is r.x x.cell.x h.cell.x i +ℤ pos (side r.x) *ℤ
-      (pos_digits (above r.y x.cell.y) (side r.y) (above r.z x.cell.z) i)))
-      ∙ (λ i. (pos x.over -ℤ pos 1) +ℤ pos n *ℤ ((x.cell.x +ℤ pos r.x) +ℤ pos (side r.x) *ℤ
-      (above_is r.y x.cell.y h.cell.y i +ℤ pos (side r.y) *ℤ above_is r.z x.cell.z h.cell.z i)))
+  place_is x h = grind (arith, pos_digits, above_is)
 
   -- along an arc the number grows as the step says
   pub place_grows : (x y : Vertex) → IsInside n r x → IsInside n r y
       → pos (place_in n r x) +ℤ growth_of n r (arc x.over y.over (minus y.cell x.cell)) ≡ pos (place_in n r y)
-  place_grows x y h k =
-      ap (λ (t : ℤ). t +ℤ growth_of n r (arc x.over y.over (minus y.cell x.cell))) (place_is x h)
-      ∙ number_grows (pos n) (pos (side r.x)) (pos (side r.y)) (pos r.x) (pos r.y) (pos r.z) (pos x.over) x.cell.x x.cell.y x.cell.z
-      (pos y.over) y.cell.x y.cell.y y.cell.z
-      ∙ sym (place_is y k)
+  place_grows x y h k = simp (place_is, number_grows)
 
 -- The steps from a vertex, edge by edge.
 
@@ -159,27 +136,16 @@ added false xs zs x = refl
 
 -- a map of what was kept
 kept : {A B : Type 0} (f : A → B) (b : Bool) (xs : List A) (x : A) → map f (cond b (x ∷ xs) xs) ≡ cond b (f x ∷ map f xs) (map f xs)
-kept f true xs x = refl
-kept f false xs x = refl
+kept f b xs x = search arith
 
 -- along the reverse of an arc the number falls by as much
 growth_back : (n : ℕ) (r : Extent) (e : Arc) → growth_of n r (reverse_of e) ≡ neg_ℤ (growth_of n r e)
-growth_back n r e = by (pos n) (pos (side r.x)) (pos (side r.y)) (pos e.from) (pos e.to) e.shift.x e.shift.y e.shift.z
-  where
-    by : (n A B o p x y z : ℤ) → (o -ℤ p) +ℤ n *ℤ (neg_ℤ x +ℤ A *ℤ (neg_ℤ y +ℤ B *ℤ neg_ℤ z)) ≡ neg_ℤ ((p -ℤ o) +ℤ n *ℤ (x +ℤ A *ℤ (y +ℤ B *ℤ z)))
-    by n A B o p x y z = simp ring (omega (arith, linear))
+growth_back n r e = simp ring (omega (arith, linear))
 
 module _ (n : ℕ) (r : Extent) (u : ℕ) where
   -- the steps along an edge, both ways, and those along others
   edge_steps : (e : Arc) (es : List Arc) (star : List Step) → star_along star n r e u ++ steps_from n r u es ≡ star ++ steps_from n r u (e ∷ es)
-  edge_steps e es star =
-      let f = step_of n r in let rest = filter (λ a. a.from == u) (both_ways es) in
-      let once = cond (e.to == u) (reverse_of e ∷ rest) rest in
-      let first = star_with star (e.from == u) (f e) in
-      added (e.to == u) first (map f rest) (f (reverse_of e))
-      ∙ ap (λ (ts : List Step). first ++ ts) (sym (kept f (e.to == u) rest (reverse_of e)))
-      ∙ added (e.from == u) star (map f once) (f e)
-      ∙ ap (λ (ts : List Step). star ++ ts) (sym (kept f (e.from == u) once e))
+  edge_steps e es star = grind (arith, added)
 
   -- a turn of the loop
   pub star_more : (es items : List Arc) (i : ℕ) (star more all : List Step) (e : Arc) → items ≡ es → i < length items → e ≡ get_or items i e
@@ -199,20 +165,7 @@ module _ (n : ℕ) (r : Extent) (u : ℕ) where
 -- the list of vertex c once a step was put last in that of u
 step_at : (stars : List (List Step)) (u c : ℕ) (t : Step) → 1 ≤ u → u ≤ length stars → 1 ≤ c
     → get_or (with_step stars u t) (c - 1) [] ≡ star_with (get_or stars (c - 1) []) (u == c) t
-step_at stars u c t l h k = by (cases_eq u c)
-  where
-    inside : u - 1 < length stars
-    inside = omega (arith, l, h)
-
-    by : (u ≡ c) ⊎ (u ≢ c) → get_or (with_step stars u t) (c - 1) [] ≡ star_with (get_or stars (c - 1) []) (u == c) t
-    by (inl e) =
-        let yes : (u == c) ≡ true = grind (arith, common_steps) in
-        ap (λ j. get_or (with_step stars u t) (j - 1) []) (sym e) ∙ get_or-set_same stars (u - 1) _ [] inside
-        ∙ ap (λ j. get_or stars (j - 1) [] ++ t ∷ []) e ∙ ap (λ b. star_with (get_or stars (c - 1) []) b t) (sym yes)
-    by (inr n) =
-        let no : (u == c) ≡ false = grind (arith, common_steps) in
-        let other : c - 1 ≢ u - 1 = omega (arith, l, k, n) in
-        get_or-set_other stars (u - 1) (c - 1) _ [] other ∙ ap (λ b. star_with (get_or stars (c - 1) []) b t) (sym no)
+step_at stars u c t l h k = grind (arith, cases_eq, get_or-set_same, get_or-set_other)
 
 -- a list for each vertex, to which the steps along these edges are still to be put
 pub record AreStepsBut (P : Graph) (r : Extent) (rest : List Arc) (stars : List (List Step)) : Type 0 where
@@ -246,46 +199,23 @@ module _ (P : Graph) (r : Extent) where
         length_once = length-set stars (e.from - 1) (get_or stars (e.from - 1) [] ++ step_of P.vertices r e ∷ [])
 
         twice : (c : ℕ) → IsQuotientVertex P c → get_or (with_edge stars P.vertices r e) (c - 1) [] ≡ star_along (get_or stars (c - 1) []) P.vertices r e c
-        twice c q =
-            step_at once e.to c (step_of P.vertices r (reverse_of e)) edge.to.0 (omega (arith, length_once, h.count, edge.to.1)) q.0
-            ∙ ap (λ (ts : List Step). star_with ts (e.to == c) (step_of P.vertices r (reverse_of e)))
-            (step_at stars e.from c (step_of P.vertices r e) edge.from.0 (omega (arith, h.count, edge.from.1)) q.0)
+        twice c q = grind (arith, step_at, once, length_once)
 
     -- all edges were passed
     pub stars_end : length items ≤ i → AreStepsFromVertices P r stars
-    stars_end l = record {
-      count = h.count;
-      each = λ c q.
-          sym (append-nil (get_or stars (c - 1) []))
-          ∙ ap (λ (es : List Arc). get_or stars (c - 1) [] ++ steps_from P.vertices r c es)
-          (sym (drop_all i P.edges (subst (λ (es : List Arc). length es ≤ i) same l)))
-          ∙ h.each c q;
-    }
+    stars_end l = search (arith, append-nil, drop_all)
 
 -- a step put last in one list, seen in what the lists hold
 pub step_put : (stars : List (Vec Step Global)) (u : ℕ) (d new : Vec Step Global) (t : Step) → u - 1 < length stars
     → new.items ≡ (get_or stars (u - 1) d).items ++ t ∷ []
     → map (λ (star : Vec Step Global). star.items) (set stars (u - 1) new) ≡ with_step (map (λ (star : Vec Step Global). star.items) stars) u t
-step_put stars u d new t l e =
-    map-set items_of stars (u - 1) new
-    ∙ ap (λ (ts : List Step). set (map items_of stars) (u - 1) ts) (e ∙ ap (λ (ts : List Step). ts ++ t ∷ []) (sym (get_or-map items_of stars (u - 1) d [] l)))
-  where
-    items_of : Vec Step Global → List Step
-    items_of star = star.items
+step_put stars u d new t l e = grind (arith, map-set, get_or-map)
 
 -- an edge, as the calls put it
 pub edge_put : (n : ℕ) (r : Extent) (stars once : List (List Step)) (e : Arc) (from to : ℕ) (s : Vector) (by back : ℤ) → arc from to s ≡ e
     → by ≡ growth_of n r e → back ≡ neg_ℤ by
     → once ≡ with_step stars from (record { to = to; by = by }) → with_step once to (record { to = from; by = back }) ≡ with_edge stars n r e
-edge_put n r stars once e from to s by back view b k o =
-    ap (λ (ss : List (List Step)). with_step ss to (record { to = from; by = back })) o
-    ∙ (λ j. with_step (with_step stars (view j).from (first j)) (view j).to (second j))
-  where
-    first : record { to = to; by = by } ≡ step_of n r e
-    first = λ j. record { to = (view j).to; by = b j }
-
-    second : record { to = from; by = back } ≡ step_of n r (reverse_of e)
-    second = λ j. record { to = (view j).from; by = (k ∙ ap neg_ℤ b ∙ sym (growth_back n r e)) j }
+edge_put n r stars once e from to s by back view b k o = grind (arith, once, growth_back)
 
 -- An extent of the shells of all vertices has the shifts of the edges within.
 
@@ -361,15 +291,11 @@ farther_turn axis i edges far next0 next1 next2 next3 e u v s t part a b h l is 
 
 -- a part of a difference of cells
 part_minus : (axis : Axis) (v w : Vector) → part_of axis (minus v w) ≡ part_of axis v -ℤ part_of axis w
-part_minus X v w = refl
-part_minus Y v w = refl
-part_minus Z v w = refl
+part_minus axis v w = search arith
 
 -- and of a shift that is taken back
 part_back : (axis : Axis) (e : Arc) → part_of axis (reverse_of e).shift ≡ neg_ℤ (part_of axis e.shift)
-part_back X e = refl
-part_back Y e = refl
-part_back Z e = refl
+part_back axis e = search arith
 
 module _ (P : Graph) (g : IsGraph P) (axis : Axis) where
   -- along each arc as along the edges

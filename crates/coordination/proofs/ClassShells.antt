@@ -96,7 +96,6 @@ all_classes c g h lists f = record {
   shape = shape_of c h;
   count = f.count;
   each = λ w i.
-      let n = h.at.is_classes.numbering.positive w.over i.over in
       let m = h.at.is_classes.below w.over i.over in let c' = class_at c.numbers w.over in
       let same : c' ≡ c' - 1 + 1 = omega arith in
       f.each (c' - 1) (omega arith) c.graph g (shape_of c h) refl w i same;

@@ -65,29 +65,11 @@ module _ {X : Type 0} (Step : X → X → Type 0) where
 
     -- what at most k steps reach are in the two layers
     within : (j : ℕ) (p : X) → (j < k) ⊎ (j ≡ k) → Leads Step j s p → IsIn (before ++ shell) p
-    within j p (inl b) l = append_left before shell p (h.all_inner j p b l)
-    within j p (inr e) l = h.all_outer p (subst (λ i. Leads Step i s p) e l)
+    within j p q r = search (arith, append_left)
 
     -- the outer layer is shell k
     pub layer_is_shell : AreShell Step s k shell
-    layer_is_shell = record {
-      exact = λ p. (
-        (λ i. record { reached = h.outer p i; no_fewer = λ j l. by p i j l (below j) }),
-        (λ m. from p m (in_append before shell p (h.all_outer p m.reached))),
-      );
-      once = apart_right before shell h.once;
-    }
-      where
-        below : (j : ℕ) → (j < k) ⊎ (k ≤ j)
-        below j = grind arith
-
-        by : (p : X) → IsIn shell p → (j : ℕ) → Leads Step j s p → (j < k) ⊎ (k ≤ j) → k ≤ j
-        by p i j l (inl b) = absurd (not_in_both before shell h.once p (h.all_inner j p b l) i)
-        by p i j l (inr b) = b
-
-        from : (p : X) → IsShell Step s k p → IsIn before p ⊎ IsIn shell p → IsIn shell p
-        from p m (inl i) = absurd (let r = h.inner p i in let a = r.1 in let b = m.no_fewer r.0 r.2 in omega arith)
-        from p m (inr i) = i
+    layer_is_shell = grind (arith, in_append, apart_right, not_in_both)
 
     module _ (room : ℕ) (next : List X) (x : Expands Step room shell (before ++ shell) next) where
       -- nothing stands twice in the layers and what comes after them
@@ -124,8 +106,7 @@ module _ {X : Type 0} (Step : X → X → Type 0) where
       }
         where
           inner : (p : X) → IsIn before p ⊎ IsIn shell p → (j : ℕ) × (j < k + 1) × Leads Step j s p
-          inner p (inl i) = let r = h.inner p i in let b = r.1 in (r.0, omega arith, r.2)
-          inner p (inr i) = (k, omega arith, h.outer p i)
+          inner p l = grind arith
 
           outer : (p q : X) → Leads Step k s q → Step q p → IsIn before q ⊎ IsIn shell q → IsIn ((before ++ shell) ++ next) p
           outer p q l t (inl i) =
@@ -147,8 +128,7 @@ start_layers {X} Step s = record {
     none j b = omega arith
 
     by : (p : X) → IsIn (s ∷ []) p → s ≡ p
-    by p (inl e) = e
-    by p (inr i) = absurd i
+    by p h = search arith
 
 -- Each shell can be listed, where equality is decided and what steps lead to can be listed.
 
@@ -235,12 +215,7 @@ pub record AreSearched {X : Type 0} (Step : X → X → Type 0) (done before fou
 module _ {X : Type 0} (Step : X → X → Type 0) where
   -- no step was made yet
   pub search_starts : (before next : List X) → StandOnce before → next ≡ [] → AreSearched Step [] before before next
-  search_starts before next h e = subst (λ xs. AreSearched Step [] before before xs) (sym e) (record {
-    found_is = sym (append-nil before);
-    each = λ x i. absurd i;
-    every = λ y x i t. absurd i;
-    once = apart_from_pairs before h;
-  })
+  search_starts before next h e = grind (arith, append-nil, apart_from_pairs)
 
   module _ (neighbours : X → List X) (n : AreNeighbours Step neighbours) where
     -- the steps from one member more
@@ -258,9 +233,7 @@ module _ {X : Type 0} (Step : X → X → Type 0) where
         each x (inr i) = (from, append_right done (from ∷ []) from (inl refl), n.each from x (r.each x i))
 
         every : (y x : X) → Step y x → IsIn done y ⊎ IsIn (from ∷ []) y → IsIn found' x
-        every y x t (inl i) = subst (λ xs. IsIn xs x) (sym r.found_is) (append_left found r.more x (h.every y x i t))
-        every y x t (inr (inl e)) = r.every x (n.every from x (subst (λ (z : X). Step z x) (sym e) t))
-        every y x t (inr (inr i)) = absurd i
+        every y x k l = search (arith, append_left, from)
 
   -- the search has come to the end of the shell
   pub search_ends : (room i : ℕ) (shell before found next : List X) → length shell ≤ i → AreSearched Step (take i shell) before found next
@@ -384,8 +357,7 @@ pub counted_turn : {X : Type 0} (Step : X → X → Type 0) (s : X) {sizes : Lis
     → lent ≡ shell → Expands Step room lent found next → found' ≡ found ++ next → length sizes < most_shells → size ≡ length next → size ≤ room → size' ≡ size
     → sizes' ≡ sizes ++ size' ∷ []
     → AreCounted Step s sizes' (room - size) found' next
-counted_turn Step s {sizes} {room} {found} {shell} {lent} {next} {found'} h e x f few n fits m p =
-    rw (p, m, n) (counted_more Step s h (subst (λ xs. Expands Step room xs found next) e x) few (subst (λ k. k ≤ room) n fits) found' f)
+counted_turn Step s {sizes} {room} {found} {shell} {lent} {next} {found'} h e x f few n fits m p = grind (arith, counted_more)
 
 -- a list with one number more
 pub grown : (sizes sizes' : List ℕ) (size k : ℕ) → sizes' ≡ sizes ++ size ∷ [] → length sizes ≡ k → length sizes' ≡ k + 1

@@ -229,8 +229,7 @@ module _ (G : Graph) (g : IsGraph G) where
         by r rs = record { members = r.vertex ∷ rs.members; shown = (λ t. r.shown t ∷ rs.shown t); inside = λ x j. of x j }
           where
             of : (x : Vertex) → IsIn (r.vertex ∷ rs.members) x → IsVertex G x × IsInShell G w k x
-            of x (inl q) = subst (λ (y : Vertex). IsVertex G y × IsInShell G w k y) q (r.is_vertex, r.inside)
-            of x (inr j) = rs.inside x j
+            of x h = grind arith
 
     -- they are as many
     shown_length : (k : ℕ) (points : List Point) (s : AllShown k points) → length s.members ≡ length points

@@ -14,7 +14,7 @@ use Rattle.periodic_net.specs.{Limits.most_vertices, Limits.most_edges, Limits.m
 use Rattle.cgd_read.specs.Edges.{vertices_of, edges_of, is_self_edge, first_size, has_rows}
 use Rattle.cgd_read.specs.Faults.{name_of, rows_in, under_edges, is_long, table}
 use Rattle.cgd_read.specs.Views.{Net, RawView, BlockView}
-use Rattle.cgd_read.proofs.CallerLemmas.{none_true, passes_on}
+use Rattle.cgd_read.proofs.CallerLemmas.{none_true, from_start}
 use Rattle.integers.proofs.lists.Members.{IsIn, AreApart, apart_from_pairs, is_in}
 use Rattle.integers.specs.Vectors.{zero_vector, IsWithin}
 use Rattle.cover_answers.specs.Blocks.{graph_text, name_line, edge_lines}
@@ -151,13 +151,7 @@ module _ (name : Option (List ℕ)) (G : Graph) (v n : ℕ) (rest : List ℕ) (d
       ∙ in_order_rows G.dimension first_row (head_lines name (n + 1)) G.edges (last ∷ left) in
       whole.is at ∙ ap (λ (ls : List LineView). word_line Opening (codes "PERIODIC_GRAPH") n ∷ ls) tail
 
--- lines that pass, and what comes after them
-pub after_passing : (opening : ℕ) (earlier later : List LineView) → AllPass earlier
-    → graph_block opening [] (in_order earlier later) ≡ graph_block opening earlier later
-after_passing opening [] later h = refl
-after_passing opening (line ∷ earlier) later h = after_passing opening earlier (line ∷ later) h.2 ∙ passes_on opening earlier line later h.0 h.1
-
--- no block begins among them
+-- no block begins among lines that pass
 pub passed_over : (earlier later : List LineView) → AllPass earlier → blocks_from true (in_order earlier later) ≡ blocks_from true later
 passed_over [] later h = refl
 passed_over (line ∷ earlier) later h = passed_over earlier (line ∷ later) h.2 ∙ ap (λ (t : Bool). cond t (blocks_from false later) (blocks_from true later)) h.1
@@ -281,7 +275,7 @@ module _ (d n : ℕ) (dim : (d ≡ 2) ⊎ (d ≡ 3)) (name : Option (List ℕ)) 
       → HavePassed d name lines (e ∷ done)
       → graph_block opening.number [] (in_order lines (closing_line m ∷ left)) ≡ with_body opening.number lines (Net (net_of (rows_in lines)))
   block_is opening e done lines left m edges few h =
-      after_passing opening.number lines (closing_line m ∷ left) h.pass
+      from_start opening.number lines (closing_line m ∷ left) h.pass
       ∙ ap (λ fault. or_fault fault m opening.number lines (with_body opening.number lines (Net (net_of (rows_in lines)))))
       (none_true (table lines (closing_line m)) (end_passes e done lines m edges few h))
 

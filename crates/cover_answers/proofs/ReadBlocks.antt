@@ -8,6 +8,7 @@ use Rattle.std.{proofs.lemmas.Bool.Decides.nat_tests, proofs.lemmas.Slice.Eq.byt
 use Rattle.std.{proofs.lemmas.Option.none-some, specs.Str.bytes_eq, specs.Prelude.All}
 use Rattle.integers.{proofs.lists.Members.IsIn, proofs.lists.Members.contains_from_in, proofs.vectors.Laws.minus_plus, proofs.vectors.Laws.plus_dimension}
 use Rattle.integers.{specs.Vectors.zero_vector, specs.Vectors.plus}
+use Rattle.integers.proofs.lists.Members.{all_before, all_after}
 use Rattle.periodic_net.specs.Graph.{Graph, Arc, arc, reverse_of, IsArc, IsGraph, IsQuotientVertex, Vertex, vertex, IsVertex, AreJoined}
 use Rattle.periodic_net.{specs.Maps.Iso, proofs.CallerLemmas.arc_inside, proofs.CallerLemmas.arc_turned}
 use Rattle.key_theory.proofs.CallerLemmas.{arc_by_edge, edge_is_arc}
@@ -134,16 +135,6 @@ iso_ends G H g iso ends u v =
 abbrev pub IsNameByte : ℕ → Type 0
 IsNameByte b = (b ≢ 34) × (b ≢ 10)
 
--- the parts of a list that is put together
-
-all_first : {X : Type 0} (P : X → Type 0) (xs ys : List X) → All P (xs ++ ys) → All P xs
-all_first P [] ys h = All-nil P
-all_first P (x ∷ xs) ys h = All-cons P x xs (All-head P x (xs ++ ys) h) (all_first P xs ys (All-tail P x (xs ++ ys) h))
-
-all_second : {X : Type 0} (P : X → Type 0) (xs ys : List X) → All P (xs ++ ys) → All P ys
-all_second P [] ys h = h
-all_second P (x ∷ xs) ys h = all_second P xs ys (All-tail P x (xs ++ ys) h)
-
 -- what stands in no piece at which a list is split
 module _ {X : Type 0} (p : X → Bool) (P : X → Type 0) where
   abbrev pub IsInPiece : X → Type 0
@@ -193,7 +184,7 @@ piece_token at n (Unclosed bs) rest may none = one_token at n (bytes_of (Unclose
 piece_token at n (Control b) rest may none = one_token at n (bytes_of (Control b)) Bad (λ name e. absurd (none-some name e))
 piece_token at n (Closed bs) rest may none = one_token at n (bytes_of (Closed bs)) Quoted
     (λ name e. subst (λ (l : List ℕ). All IsNameByte l) (sym (inner_is bs) ∙ some_inside _ name e)
-    (both_facts bs may (all_first (λ b. (b == 10) ≡ false) bs (34 ∷ []) (All-tail (λ b. (b == 10) ≡ false) 34 (bs ++ 34 ∷ []) none))))
+    (both_facts bs may (all_before (λ b. (b == 10) ≡ false) bs (34 ∷ []) (All-tail (λ b. (b == 10) ≡ false) 34 (bs ++ 34 ∷ []) none))))
 piece_token at n (Run b bs) rest may none = by (is_whole (b ∷ bs))
   where
     own : (name : List ℕ) → Some (b ∷ bs) ≡ Some name → All IsNameByte name
@@ -209,8 +200,8 @@ pieces_tokens [] at n line cut none = All-nil GivesName
 pieces_tokens (p ∷ ps) at n line cut none =
     let whole = subst HasNoFeed cut.1 none in
     All-append GivesName (token_at at n (bytes_of p) (kind_of_piece p)) (tokens_of_pieces (at + length (bytes_of p)) n ps)
-    (piece_token at n p cut.0 cut.2 (all_first (λ b. (b == 10) ≡ false) (bytes_of p) cut.0 whole))
-    (pieces_tokens ps (at + length (bytes_of p)) n cut.0 cut.3 (all_second (λ b. (b == 10) ≡ false) (bytes_of p) cut.0 whole))
+    (piece_token at n p cut.0 cut.2 (all_before (λ b. (b == 10) ≡ false) (bytes_of p) cut.0 whole))
+    (pieces_tokens ps (at + length (bytes_of p)) n cut.0 cut.3 (all_after (λ b. (b == 10) ≡ false) (bytes_of p) cut.0 whole))
 
 line_gives : (at n : ℕ) (line : List ℕ) → HasNoFeed line → All GivesName (tokens_of_line at n line)
 line_gives at n line none = pieces_tokens (cut_of line) at n line (is_cut (length line) line (omega arith)) none

@@ -19,7 +19,7 @@ use Rattle.elimination.proofs.Elimination.{position_last, position_below}
 use Rattle.elimination.specs.{Faults.IsGood, Faults.AreGood, Faults.IsFault, Pivots.IsWeightSumOf}
 use Rattle.elimination.specs.declared.{joined.Joined.Joined, terms.Pivot.Pivot, place.SolveFault.SolveFault}
 use Rattle.elimination.proofs.Firsts.{all_good, fault_below, fault_back, good_turn, fault_turn}
-use Rattle.elimination.proofs.Inverses.{all_before, all_after}
+use Rattle.integers.proofs.lists.Members.{all_before, all_after}
 
 -- equal numbers have the same values
 pub value_at : {N : Type 0} {m : ℕ} (value : N → Ratio) (x y : N) (a : Ratio) → x ≡ y → HasValue m (value y) a → HasValue m (value x) a

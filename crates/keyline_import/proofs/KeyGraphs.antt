@@ -1,20 +1,18 @@
 -- The rows of a key line, and its graph, which is a quotient graph within the limits.
-use Rattle.std.proofs.Common.{◌≡◌, ℤ, pos, ◌≤ℤ◌, true, arith, ◌-◌, ◌≤◌, List, ◌∷◌, length, get_or, take, drop, ℕ, ◌-ℤ◌, Bool, false, ap, ◌≢◌}
-use Rattle.std.proofs.Common.{cond, not, nat_lt, [], ◌++◌, map, refl, sym, subst, ◌⊎◌, inl, inr, ◌==◌, Option, None, Some, IfSome}
+use Rattle.std.proofs.Common.{◌≡◌, ℤ, pos, ◌≤ℤ◌, true, arith, ◌-◌, ◌≤◌, List, ◌∷◌, length, get_or, take, drop, ℕ, Bool, false, ◌≢◌}
+use Rattle.std.proofs.Common.{cond, not, nat_lt, [], map, refl, sym, subst, ◌⊎◌, inl, inr, ◌==◌, Option, None, Some, IfSome}
 use Rattle.std.proofs.lemmas.Bool.{and_parts, not-true, and_from, false≢true, Decides.nat_tests}
 use Rattle.std.proofs.lemmas.{Grind.common_steps}
 use Rattle.std.specs.{Int.RustNames.unsigned_abs, Option.option_map, Ordering.int_eq, List.All, List.AllPairs}
-use Rattle.std.proofs.lemmas.List.Elements.{All-push, All-weaker, All-map}
-use Rattle.std.proofs.lemmas.List.{map-append, length-map, Quantifiers.all_pairs_push}
+use Rattle.std.proofs.lemmas.List.{Elements.All-weaker, Elements.All-map, length-map}
 use Rattle.periodic_net.specs.Limits.{most_vertices, most_shift, most_edges}
-use Rattle.cgd_read.specs.Spelling.{IsSmallPart, spelled, is_forward, normal, edge_of}
-use Rattle.periodic_net.specs.Graph.{IsNormalSpelling, Arc, IsEdge}
-use Rattle.cgd_read.specs.{declared.edge.RawEdge.RawEdge, Edges.same_edge}
-use Rattle.cgd_read.proofs.CallerLemmas.{normal_spelled, IsZero, negative_small, small_part, all_fail, apart}
+use Rattle.cgd_read.specs.Spelling.{IsSmallPart, edge_of}
+use Rattle.periodic_net.specs.Graph.{IsEdge}
+use Rattle.cgd_read.proofs.CallerLemmas.{IsZero, IsWellEdge, well_spelled, edges_well, edges_different, small_part}
 use Rattle.integers.specs.Vectors.{vector, IsWithin}
 use Rattle.cgd_lex.specs.Tokens.{TokenView}
 use Rattle.keyline_import.specs.Rows.{Row, IsRow, is_row, is_part, is_vertex, is_self_edge, KeyView, row, with_row, may_follow, no_rows, row_edge}
-use Rattle.keyline_import.specs.{Rows.is_repeat, Lines.LineView, Views.key_view, Faults.key_after, Faults.key_of}
+use Rattle.keyline_import.specs.{Lines.LineView, Views.key_view, Faults.key_after, Faults.key_of}
 use Rattle.keyline_import.specs.Keys.{flat_rows, space_rows, if_some_row, key_of_numbers, key_of_fields, graph_of_key, IsKeyWithin}
 use Rattle.keyline_import.specs.declared.{line.LineKind.LineKind, keyed.KeyRows.KeyRows}
 
@@ -85,36 +83,6 @@ pub space_on : (k next : KeyView) (left rest : List ℤ) (u v x y z : ℤ) → l
     → true ≡ may_follow k (row u v x y z) → next ≡ with_row k (row u v x y z) → space_rows next rest ≡ space_rows k left
 space_on k next left rest u v x y z e may taken = cc
 
--- an edge of a graph of dimension dim with n vertices, within the limits
-pub record IsWellEdge (n dim : ℕ) (e : RawEdge) : Type 0 where
-  pub first : (1 ≤ e.u) × (e.u ≤ n)
-  pub second : (1 ≤ e.v) × (e.v ≤ n)
-  pub flat : dim ≡ 2 → e.z ≡ pos 0
-  pub spelling : IsNormalSpelling (edge_of e)
-  pub x : unsigned_abs e.x ≤ most_shift
-  pub y : unsigned_abs e.y ≤ most_shift
-  pub z : unsigned_abs e.z ≤ most_shift
-
-pub wider : (m n dim : ℕ) → m ≤ n → (e : RawEdge) → IsWellEdge m dim e → IsWellEdge n dim e
-wider m n dim l e w = search arith
-
-pub well_spelled : (n dim u v : ℕ) (x y z : ℤ) → (1 ≤ u) × (u ≤ n) → (1 ≤ v) × (v ≤ n) → (dim ≡ 2 → z ≡ pos 0)
-    → unsigned_abs x ≤ most_shift → unsigned_abs y ≤ most_shift → unsigned_abs z ≤ most_shift → (u ≡ v → IsZero x y z → ⊥)
-    → IsWellEdge n dim (normal u v x y z)
-well_spelled n dim u v x y z first second flat sx sy sz other = by (is_forward u v x y z) (normal_spelled u v x y z other)
-  where
-    by : (t : Bool) → IsNormalSpelling (edge_of (spelled t u v x y z)) → IsWellEdge n dim (spelled t u v x y z)
-    by true s = record { first = first; second = second; flat = flat; spelling = s; x = sx; y = sy; z = sz }
-    by false s = record {
-      first = second;
-      second = first;
-      flat = λ e. ap (λ w. pos 0 -ℤ w) (flat e);
-      spelling = s;
-      x = negative_small x sx;
-      y = negative_small y sy;
-      z = negative_small z sz;
-    }
-
 -- what rows make
 pub record IsWellKey (k : KeyView) : Type 0 where
   pub edges : All (IsWellEdge k.vertices k.dim) k.edges
@@ -143,29 +111,6 @@ row_makes k r h flat =
     (u.0, omega arith) (v.0, omega arith) flat
     (small_part r.x h.x) (small_part r.y h.y) (small_part r.z h.z) (no_loop r h)
 
-edges_well : (k : KeyView) (r : Row) → IsWellEdge (with_row k r).vertices k.dim (row_edge r) → All (IsWellEdge k.vertices k.dim) k.edges
-    → All (IsWellEdge (with_row k r).vertices k.dim) (with_row k r).edges
-edges_well k r edge old = by (is_repeat k r)
-    (All-weaker (IsWellEdge k.vertices k.dim) (IsWellEdge (with_row k r).vertices k.dim)
-    (wider k.vertices (with_row k r).vertices k.dim (omega arith)) k.edges old)
-  where
-    by : (t : Bool) → All (IsWellEdge (with_row k r).vertices k.dim) k.edges
-        → All (IsWellEdge (with_row k r).vertices k.dim) (cond t k.edges (k.edges ++ row_edge r ∷ []))
-    by true h = h
-    by false h = All-push (IsWellEdge (with_row k r).vertices k.dim) k.edges (row_edge r) h edge
-
-edges_different : (k : KeyView) (r : Row) → AllPairs (λ a b. a ≢ b) (map edge_of k.edges) → AllPairs (λ a b. a ≢ b) (map edge_of (with_row k r).edges)
-edges_different k r old = by (is_repeat k r) refl
-  where
-    by : (t : Bool) → is_repeat k r ≡ t → AllPairs (λ a b. a ≢ b) (map edge_of (cond t k.edges (k.edges ++ row_edge r ∷ [])))
-    by true e = old
-    by false e =
-        let edge = row_edge r in let es = k.edges in
-        subst (λ (as_ : List Arc). AllPairs (λ a b. a ≢ b) as_) (sym (map-append edge_of es (edge ∷ [])))
-        (all_pairs_push (λ a b. a ≢ b) (map edge_of es) (edge_of edge) old
-        (All-map (λ a. a ≢ edge_of edge) edge_of es
-        (All-weaker (λ f. same_edge edge f ≡ false) (λ f. edge_of f ≢ edge_of edge) (apart edge) es (all_fail (same_edge edge) es e))))
-
 few_from : (n : ℕ) → not (nat_lt most_edges n) ≡ true → n ≤ most_edges
 few_from n e = grind (arith, nat_tests, e)
 
@@ -175,8 +120,8 @@ well_row k r may flat well =
     let parts = and_parts (is_row r) _ may in let h = passes r parts.0 in let u = vertex_within r.u h.u in
     let v = vertex_within r.v h.v in
     record {
-      edges = edges_well k r (row_makes k r h flat) well.edges;
-      different = edges_different k r well.different;
+      edges = edges_well k.vertices (with_row k r).vertices k.dim k.edges (row_edge r) (omega arith) (row_makes k r h flat) well.edges;
+      different = edges_different k.edges (row_edge r) well.different;
       few_vertices = omega (arith, u.1, v.1, well.few_vertices);
       few_edges = few_from (length (with_row k r).edges) parts.1;
     }

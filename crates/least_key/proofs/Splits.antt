@@ -2,14 +2,13 @@
 use Rattle.std.proofs.Common.{◌≡◌, ◌≢◌, ◌⊎◌, inl, inr, ℕ, zero, suc, ◌+◌, ◌-◌, ◌<◌, ◌≤◌, ℤ, pos, negsuc, ◌+ℤ◌, ◌-ℤ◌, ◌*ℤ◌, neg_ℤ, List, length, get_or}
 use Rattle.std.proofs.Common.{refl, sym, ap, subst, ◌∙◌, arith}
 use Rattle.std.{proofs.lemmas.Int.ints, proofs.lemmas.List.ext_get_or, specs.Prelude.◌<ℤ◌, specs.Prelude.◌≤ℤ◌}
-use Rattle.integers.specs.Vectors.{Vector, zero_vector, minus, times, dot, HasDimension}
-use Rattle.integers.proofs.numbers.Ring.{ring, linear, zero_or_not, other_factor_zero}
-use Rattle.integers.proofs.vectors.Laws.{vector_equal, minus_dimension, times_dimension, equal_of_minus}
-use Rattle.integers.{specs.Staircase.part, proofs.lists.Sums.same_from_zero, proofs.numbers.Order.three_ways, proofs.vectors.Independence.zero_or_other}
-use Rattle.integers.{proofs.vectors.Directions.one_direction}
+use Rattle.integers.specs.Vectors.{Vector, zero_vector, StartsPositive, dot}
+use Rattle.integers.proofs.numbers.Ring.{ring, linear, other_factor_zero}
+use Rattle.integers.{specs.Staircase.part, proofs.lists.Sums.same_from_zero, proofs.numbers.Order.three_ways}
+use Rattle.integers.proofs.vectors.Laws.{vector_equal}
 use Rattle.periodic_net.specs.Graph.{Graph, IsGraph, IsQuotientVertex}
-use Rattle.periodic_net.specs.Split.{AreAlike, Split, entry, ClosedShift, IsFound, IsOrthogonal, IsPartSplit, IsFlatSplit, IsPivot, IsSparseSplit, EndsBy}
-use Rattle.periodic_net.proofs.CallerLemmas.{crossed, dot_difference, ends_at_one, ends_at_zero, no_part, not_zero, equal_if_not_unequal}
+use Rattle.periodic_net.specs.Split.{AreAlike, Split, entry, ClosedShift, IsFound, IsPartSplit, IsFlatSplit, IsPivot, IsSparseSplit, EndsBy}
+use Rattle.periodic_net.proofs.CallerLemmas.{normal_is_one, equal_if_not_unequal}
 
 -- entries that agree at each vertex are one list
 same_entries : (n : ℕ) (h k : List ℤ) → length h ≡ n → length k ≡ n → ((u : ℕ) → 1 ≤ u → u ≤ n → entry h u ≡ entry k u) → h ≡ k
@@ -41,65 +40,12 @@ module _ (G : Graph) (S T : Split) where
   pub not_sparse : (k : ℕ) → IsPartSplit G S → ¬ IsSparseSplit G T k
   not_sparse k a b = a.missed.2 (b.found a.missed.0 a.missed.1)
 
--- two vectors with a multiple in common
-record Line (c d : Vector) : Type 0 where
-  m : ℤ
-  n : ℤ
-  some : n ≢ pos 0
-  same : times m d ≡ times n c
-
 module _ (G : Graph) (S T : Split) (a : IsFlatSplit G S) (b : IsFlatSplit G T) where
-  -- a combination of the two vectors
-  abbrev between : ℤ → ℤ → Vector
-  between m n = minus (times m T.c) (times n S.c)
-
-  between_orthogonal : (m n : ℤ) → IsOrthogonal G (between m n)
-  between_orthogonal m n v h = dot_difference m n T.c.x T.c.y T.c.z S.c.x S.c.y S.c.z v.x v.y v.z (b.orthogonal v h) (a.orthogonal v h)
-
-  between_dimension : (m n : ℤ) → HasDimension G.dimension (between m n)
-  between_dimension m n = grind (arith, minus_dimension, times_dimension)
-
-  -- a combination that ends before both vectors do is 0
-  ends_early : (m n : ℤ) (k : ℕ) → EndsBy k (between m n) → ¬ EndsBy k S.c → between m n ≡ zero_vector
-  ends_early m n k e none = by (zero_or_other (between m n))
-    where
-      by : (between m n ≡ zero_vector) ⊎ (between m n ≢ zero_vector) → between m n ≡ zero_vector
-      by (inl z) = z
-      by (inr some) = absurd (none (a.lowest (between m n) k (between_dimension m n) (between_orthogonal m n) some e))
-
-  -- where the one ends, the other ends
-  ends_too : (k : ℕ) → EndsBy k S.c → EndsBy k T.c
-  ends_too k e = b.lowest S.c k a.dimension a.orthogonal (not_zero S.c a.positive) e
-
-  ends_back : (k : ℕ) → EndsBy k T.c → EndsBy k S.c
-  ends_back k e = a.lowest T.c k b.dimension b.orthogonal (not_zero T.c b.positive) e
-
-  from_zero : (m n : ℤ) → n ≢ pos 0 → between m n ≡ zero_vector → Line S.c T.c
-  from_zero m n some e = record { m = m; n = n; some = some; same = equal_of_minus (times m T.c) (times n S.c) e }
-
-  line : Line S.c T.c
-  line = by (zero_or_not S.c.z) (zero_or_not S.c.y)
-    where
-      by : (S.c.z ≡ pos 0) ⊎ (S.c.z ≢ pos 0) → (S.c.y ≡ pos 0) ⊎ (S.c.y ≢ pos 0) → Line S.c T.c
-      by (inr z) _ =
-          let other : T.c.z ≢ pos 0 = λ e. z (ends_back 1 (ends_at_one T.c e) 2 (omega arith)) in
-          let ends = ends_at_one (between S.c.z T.c.z) (crossed S.c.z T.c.z) in
-          from_zero S.c.z T.c.z other (ends_early S.c.z T.c.z 1 ends (λ h. z (h 2 (omega arith))))
-      by (inl z) (inr y) =
-          let w : T.c.z ≡ pos 0 = ends_too 1 (ends_at_one S.c z) 2 (omega arith) in
-          let other : T.c.y ≢ pos 0 = λ e. y (ends_back 0 (ends_at_zero T.c e w) 1 (omega arith)) in
-          let ends = ends_at_zero (between S.c.y T.c.y) (crossed S.c.y T.c.y) (no_part S.c.y T.c.y T.c.z S.c.z w z) in
-          from_zero S.c.y T.c.y other (ends_early S.c.y T.c.y 0 ends (λ h. y (h 1 (omega arith))))
-      by (inl z) (inl y) =
-          let w : T.c.z ≡ pos 0 = ends_too 0 (ends_at_zero S.c y z) 2 (omega arith) in
-          let v : T.c.y ≡ pos 0 = ends_too 0 (ends_at_zero S.c y z) 1 (omega arith) in
-          let other : T.c.x ≢ pos 0 = λ e. not_zero T.c b.positive (vector_equal e v w) in
-          from_zero S.c.x T.c.x other (vector_equal (crossed S.c.x T.c.x) (no_part S.c.x T.c.x T.c.y S.c.y v y) (no_part S.c.x T.c.x T.c.z S.c.z w z))
-
   same_vector : S.c ≡ T.c
   same_vector =
-      let l = line in
-      one_direction l.n l.m S.c T.c l.some (sym l.same) a.coprime b.coprime a.positive b.positive
+      normal_is_one G.dimension (ClosedShift G 1) S.c T.c
+      (record { dimension = a.dimension; orthogonal = a.orthogonal; positive = a.positive; lowest = a.lowest; coprime = a.coprime })
+      (record { dimension = b.dimension; orthogonal = b.orthogonal; positive = b.positive; lowest = b.lowest; coprime = b.coprime })
 
   -- where the closed walks have a rank below the dimension
   pub one_flat_split : S ≡ T
@@ -244,6 +190,9 @@ part_zero p c v m n h e y z f = search (arith, other_factor_zero)
 pub full_not_flat : (G : Graph) → IsGraph G → (S T : Split) (k : ℕ) → IsFlatSplit G S → ¬ IsSparseSplit G T k
 full_not_flat G g S T k a b = not_zero S.c a.positive (vector_equal x y z)
   where
+    not_zero : (v : Vector) → StartsPositive v → v ≢ zero_vector
+    not_zero v h e = cc
+
     only : (c v : ℤ) → v ≡ pos 0 → c *ℤ v ≡ pos 0
     only c v e = ap (λ t. c *ℤ t) e ∙ simp ring refl
 

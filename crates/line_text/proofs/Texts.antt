@@ -1,5 +1,5 @@
 -- Texts of rows and numbers: at which mark they are cut, what is read of them, and that each is of one list.
-use Rattle.std.proofs.Common.{◌≡◌, ℕ, ◌+◌, List, [], ◌∷◌, ◌++◌, length, take, drop, Bool, true, false, cond, ◌==◌, not, refl, ap, ◌∙◌, eq-eqb, arith, Option}
+use Rattle.std.proofs.Common.{◌≡◌, ℕ, ◌+◌, List, [], ◌∷◌, ◌++◌, length, take, drop, Bool, cond, ◌==◌, not, refl, ap, ◌∙◌, eq-eqb, arith, Option}
 use Rattle.std.proofs.Common.{None, Some, IfSome, IfNone, Result, Ok, Err, MatchResult, sym, subst, ◌≢◌, Bor, MatchOption, suc, ◌<◌, ℤ, pos, negsuc, neg_ℤ}
 use Rattle.std.proofs.Common.{◌≤◌, All, ◌-◌, get_or}
 use Rattle.std.proofs.lemmas.{Bool.eqb-true, Bool.ne_eqb, Bool.true≢false, Str.IsUtf8-from_ascii, Str.Ascii.IsAscii-cons}
@@ -7,7 +7,7 @@ use Rattle.std.proofs.lemmas.List.{Sums.prefix_len-le-length, append_cancel_left
 use Rattle.std.proofs.lemmas.{Grind.common_steps, Option.none-some, Result.Ok-from_Ok_iff}
 use Rattle.std.specs.{Prelude.position, Prelude.unwrap_or, List.prefix_len, Result.IsErrAnd, Fmt.signed_decimal, Fmt.decimal}
 use Rattle.line_text.specs.Lines.{before, onwards, HasNo, BeginsWith, Place, IsAt, rows_text}
-use Rattle.line_text.specs.declared.faults.RowFault.{RowFault, TheVariants.BadLine, TheVariants.NoMemory}
+use Rattle.line_text.specs.declared.faults.RowFault.{RowFault}
 use Rattle.line_text.specs.{Faults.IfBadLine, Reading.IsReadTo, Numbers.IsWide, Numbers.marked_text, Numbers.numbers_text, Numbers.row_text}
 use Rattle.std.proofs.lemmas.Fmt.{decimal_is_IsNumeral_wide, IsAscii-decimal_wide}
 use Rattle.std.proofs.lemmas.Str.Parse.{digit_from_value, numerals_by_value, tells_digits, parse_signed_digits, parse_signed_minus}
@@ -21,24 +21,21 @@ taken m [] = refl
 taken m (b ∷ bs) = by (b == m) (taken m bs)
   where
     by : (t : Bool) → take (length (before m bs)) bs ≡ before m bs → take (length (cond t [] (b ∷ before m bs))) (b ∷ bs) ≡ cond t [] (b ∷ before m bs)
-    by true rest = refl
-    by false rest = ap (λ l. b ∷ l) rest
+    by t h = search arith
 
 pub dropped : (m : ℕ) (bs : List ℕ) → drop (length (before m bs)) bs ≡ onwards m bs
 dropped m [] = refl
 dropped m (b ∷ bs) = by (b == m) (dropped m bs)
   where
     by : (t : Bool) → drop (length (before m bs)) bs ≡ onwards m bs → drop (length (cond t [] (b ∷ before m bs))) (b ∷ bs) ≡ cond t (b ∷ bs) (onwards m bs)
-    by true rest = refl
-    by false rest = rest
+    by t h = search arith
 
 pub joined : (m : ℕ) (bs : List ℕ) → before m bs ++ onwards m bs ≡ bs
 joined m [] = refl
 joined m (b ∷ bs) = by (b == m) (joined m bs)
   where
     by : (t : Bool) → before m bs ++ onwards m bs ≡ bs → cond t [] (b ∷ before m bs) ++ cond t (b ∷ bs) (onwards m bs) ≡ b ∷ bs
-    by true rest = refl
-    by false rest = ap (λ l. b ∷ l) rest
+    by t h = search arith
 
 prefix_is : (m : ℕ) (bs : List ℕ) → prefix_len (λ b. not (b == m)) bs ≡ length (before m bs)
 prefix_is m [] = refl
@@ -46,8 +43,7 @@ prefix_is m (b ∷ bs) = by (b == m) (prefix_is m bs)
   where
     by : (t : Bool) → prefix_len (λ x. not (x == m)) bs ≡ length (before m bs)
         → cond (not t) (1 + prefix_len (λ x. not (x == m)) bs) 0 ≡ length (cond t [] (b ∷ before m bs))
-    by true rest = refl
-    by false rest = omega (arith, rest)
+    by t h = grind arith
 
 pub size_is : (m : ℕ) (bs : List ℕ) → unwrap_or (position (λ b. b == m) bs) (length bs) ≡ length (before m bs)
 size_is m bs = grind (arith, common_steps, prefix_len-le-length (λ b. not (b == m)) bs) ∙ prefix_is m bs
@@ -69,22 +65,18 @@ begins m [] = tt
 begins m (b ∷ bs) = by (b == m) refl (begins m bs)
   where
     by : (t : Bool) → (b == m) ≡ t → BeginsWith m (onwards m bs) → BeginsWith m (cond t (b ∷ bs) (onwards m bs))
-    by true e rest = eqb-true b m e
-    by false e rest = rest
+    by t h k = search (arith, eqb-true)
 
 -- Answers that may be none, and results.
 
 pub none_from : {X : Type 0} (o : Option X) (Q : Type 0) → (o ≡ None → Q) → IfNone o Q
-none_from None Q h = h refl
-none_from (Some x) Q h = tt
+none_from o Q k = search arith
 
 pub some_from : {X : Type 0} (o : Option X) (P Q : X → Type 0) → ((x : X) → P x → Q x) → IfSome o P → IfSome o Q
-some_from None P Q h some = tt
-some_from (Some x) P Q h some = h x some
+some_from o P Q k l = search arith
 
 pub at_none : {X : Type 0} (o : Option X) (Q : Type 0) → o ≡ None → IfNone o Q → Q
-at_none None Q e h = h
-at_none (Some x) Q e h = absurd (none-some x (sym e))
+at_none o Q k l = search (arith, none-some)
 
 pub at_some : {X : Type 0} (o : Option X) (P : X → Type 0) (x : X) → o ≡ Some x → IfSome o P → P x
 at_some o P x e h = subst (λ p. IfSome p P) e h
@@ -97,27 +89,23 @@ at_err r P Q x e h = subst (λ s. MatchResult s P Q) e h
 
 pub result_from : {T E : Type 0} (r : Result T E) (P P' : T → Type 0) (Q Q' : E → Type 0) → ((x : T) → P x → P' x) → ((e : E) → Q e → Q' e) → MatchResult r P Q
     → MatchResult r P' Q'
-result_from (Ok x) P P' Q Q' f g h = f x h
-result_from (Err e) P P' Q Q' f g h = g e h
+result_from r P P' Q Q' k l p = search arith
 
 -- a fault that is handed on
 pub handed_on : {A : Type 0} (Q : A → Type 0) (P : ℕ → Type 0) (x : RowFault) (r : Result A RowFault) → IsErrAnd r (λ e. e ≡ x) → IfBadLine P x
     → MatchResult r Q (IfBadLine P)
-handed_on Q P x (Ok a) h p = absurd h
-handed_on Q P x (Err e) h p = subst (IfBadLine P) (sym h) p
+handed_on Q P x r k l = search arith
 
 -- a bad line, of which less is said
 pub bad_line_from : (x : RowFault) (P Q : ℕ → Type 0) → ((n : ℕ) → P n → Q n) → IfBadLine P x → IfBadLine Q x
-bad_line_from (BadLine n) P Q f h = f n h
-bad_line_from NoMemory P Q f h = tt
+bad_line_from x P Q k l = search arith
 
 -- What stands between two words.
 
 pub only_inner : (line first rest last x : List ℕ) (r : Option (Bor (List ℕ))) → line ≡ first ++ rest
     → MatchOption r ((front : List ℕ) → rest ≢ front ++ last) (λ (f : Bor (List ℕ)). rest ≡ f.now ++ last) → line ≡ first ++ (x ++ last)
     → MatchOption r ⊥ (λ (f : Bor (List ℕ)). f.now ≡ x)
-only_inner line first rest last x None one two e = two x (append_cancel_left first rest (x ++ last) (sym one ∙ e))
-only_inner line first rest last x (Some f) one two e = append_cancel_right f.now x last (sym two ∙ append_cancel_left first rest (x ++ last) (sym one ∙ e))
+only_inner line first rest last x r h k l = search (arith, append_cancel_left, append_cancel_right)
 
 -- The bytes of numbers: no blank and no line feed stands among them.
 
@@ -255,8 +243,7 @@ without_first rest = grind (arith, common_steps)
 
 -- what follows a mark
 after_mark : (m : ℕ) (second : List ℕ) → BeginsWith m second → 1 ≤ length second → second ≡ m ∷ drop 1 second
-after_mark m [] b some = absurd (omega (arith, some))
-after_mark m (x ∷ xs) b some = ap (λ y. y ∷ xs) b
+after_mark m second h k = search arith
 
 pub first_line : (text first second : List ℕ) → first ≡ before 10 text → second ≡ onwards 10 text → 1 ≤ length second
     → text ≡ first ++ 10 ∷ take (length second - 1) (drop 1 second)
@@ -266,14 +253,10 @@ first_line text first second one two some =
 
 pub only_line : (text first second : List ℕ) → first ≡ before 10 text → second ≡ onwards 10 text → (line rest : List ℕ) → HasNo 10 line
     → text ≡ line ++ 10 ∷ rest → (first ≡ line) × (take (length second - 1) (drop 1 second) ≡ rest)
-only_line text first second one two line rest none e = (
-  one ∙ ap (before 10) e ∙ before_is 10 line (10 ∷ rest) none refl,
-  without_first second ∙ ap (drop 1) (two ∙ ap (onwards 10) e ∙ onwards_is 10 line (10 ∷ rest) none refl),
-)
+only_line text first second one two line rest h e = search (arith, before_is, without_first, onwards_is)
 
 pub no_line : (text second : List ℕ) → second ≡ onwards 10 text → length second < 1 → (line rest : List ℕ) → HasNo 10 line → text ≡ line ++ 10 ∷ rest → ⊥
-no_line text second two few line rest none e = let long = ap length (two ∙ ap (onwards 10) e ∙ onwards_is 10 line (10 ∷ rest) none refl) in
-    omega (arith, few, long)
+no_line text second two few line rest h e = search (arith, onwards_is)
 
 -- Rows of a text that were passed, and what is left behind them.
 
@@ -326,8 +309,7 @@ same_decimal m n wm wn e =
 
 -- digits do not begin with the sign
 no_sign : (ds es : List ℕ) → HasNo 45 ds → 45 ∷ es ≡ ds → ⊥
-no_sign [] es none e = let long = ap length e in omega (arith, long)
-no_sign (d ∷ ds) es none e = true≢false (sym (eq-eqb d 45 (sym (ap (λ l. get_or l 0 0) e))) ∙ none.0)
+no_sign ds es h k = search (arith, true≢false, eq-eqb)
 
 pub same_number : (y z : ℤ) → IsWide y → IsWide z → signed_decimal y ≡ signed_decimal z → y ≡ z
 same_number (pos m) (pos n) wy wz e = ap pos (same_decimal m n wy wz e)

@@ -1,6 +1,6 @@
 -- The map that a table writes down, where it is a bijection, and where it is an isomorphism.
 use Rattle.std.proofs.Common.{◌≡◌, ◌≢◌, ◌⊎◌, inl, inr, ℕ, ℤ, pos, ◌+ℤ◌, ◌*ℤ◌, refl, sym, ap, subst, ◌∙◌, arith, ◌-ℤ◌, ◌≤◌, ◌*◌, ◌^◌, ◌<ℤ◌, ◌≤ℤ◌}
-use Rattle.std.{proofs.lemmas.Int.ints, proofs.Math.Decide.dec_le, specs.Prelude.unsigned_abs}
+use Rattle.std.{proofs.lemmas.Int.ints, specs.Prelude.unsigned_abs}
 use Prim.{Dec, yes, no}
 use Rattle.integers.specs.Vectors.{Vector, vector, zero_vector, up_vector, plus, times, HasDimension, minus}
 use Rattle.integers.proofs.vectors.Laws.{plus_zero, times_zero, vector_equal, plus_cancel, minus_dimension, plus_minus, times_dimension, zero_plus}
@@ -10,7 +10,7 @@ use Rattle.integers.proofs.vectors.Independence.{coordinates_unique, relation_of
 use Rattle.integers.{specs.Bases.Base, specs.Bases.base_sum, proofs.numbers.Ring.ring, proofs.numbers.Ring.linear}
 use Rattle.periodic_net.specs.Graph.{Graph, Vertex, vertex, moved, IsVertex, AreJoined}
 use Rattle.periodic_net.specs.Maps.{PeriodicMap, IsBijection, IsInBox, Iso, JoinsAlike}
-use Rattle.periodic_net.proofs.CallerLemmas.{in_box, moved_vertex, periodic_of_drawn, origin_vertex, InBox}
+use Rattle.periodic_net.proofs.CallerLemmas.{in_box, moved_vertex, periodic_of_drawn, origin_vertex, InBox, is_vertex_decided}
 use Rattle.sublattice.specs.Sublattices.{determinant, AreFlat, index_of}
 use Rattle.sublattice.proofs.CallerLemmas.{any_last, Undoing, undoing}
 use Rattle.sublattice.proofs.{Numbers.natural_part, Residues.same_remainder}
@@ -333,21 +333,6 @@ module _ {G H : Graph} {M : PeriodicMap} {f : Vertex → Vertex} (h : IsMapOf G 
       (λ y j. record { over = (b.onto y j).1.over; box = (split y j).box }) copies_of_place)
       ∙ ap (λ (d : ℕ). H.vertices * index_of d M.base) (sym h.same)
 
--- a whole number is 0 or not
-zero_decided : (z : ℤ) → Dec (z ≡ pos 0)
-zero_decided z = search arith
-
--- a vector has the dimension or not
-dimension_decided : (d : ℕ) (v : Vector) → Dec (HasDimension d v)
-dimension_decided d v = search (arith, zero_decided)
-
--- what is a vertex is known
-vertex_decided : (H : Graph) (y : Vertex) → Dec (IsVertex H y)
-vertex_decided H y = by (dec_le 1 y.over) (dec_le y.over H.vertices) (dimension_decided H.dimension y.cell)
-  where
-    by : Dec (1 ≤ y.over) → Dec (y.over ≤ H.vertices) → Dec (HasDimension H.dimension y.cell) → Dec (IsVertex H y)
-    by k l p = grind arith
-
 -- the shifts, m times
 abbrev scaled : ℤ → Base → Base
 scaled m b = record { first = times m b.first; second = times m b.second; third = times m b.third }
@@ -372,11 +357,11 @@ module _ {G H : Graph} {M : PeriodicMap} {f : Vertex → Vertex} (h : IsMapOf G 
 
   -- the map back
   abbrev back : Vertex → Vertex
-  back y = back_by y (vertex_decided H y)
+  back y = back_by y (is_vertex_decided H y)
 
   -- it is so
   back_is : (y : Vertex) → IsVertex H y → IsVertex G (back y) × (f (back y) ≡ y)
-  back_is y j = search (arith, vertex_decided)
+  back_is y j = search (arith, is_vertex_decided)
 
   -- the shifts that undo
   abbrev undo : Undoing G.dimension M.base

@@ -4,17 +4,15 @@ use Rattle.std.proofs.Common.{None, ap, ◌∙◌, ◌≤◌, ◌++◌, take, dr
 use Rattle.std.proofs.lemmas.List.Elements.{All-cons, All-nil, All-head, All-tail}
 use Rattle.std.proofs.lemmas.List.{get_or-map, length-map, append-nil, take_more, take_all, take-append-drop, drop_more, length-take-le}
 use Rattle.std.{proofs.lemmas.Bool.and_parts, specs.List.list_all, specs.Prelude.is_some, specs.Prelude.unwrap_or}
-use Rattle.cgd_read.specs.Views.{BodyView, Net, Other, Faulty, BlockView, block_view, views, RawView}
+use Rattle.cgd_read.specs.Views.{BodyView, BlockView, block_view, views, RawView}
 use Rattle.cgd_read.specs.{Graphs.graph_of, declared.block.Block.Block}
 use Rattle.quotient_graph.{specs.Stars.IsInOrder, proofs.CallerLemmas.one_in_order}
-use Rattle.periodic_net.specs.Graph.{Graph}
 use Rattle.least_key.{specs.AnyNets.net_view, specs.KeyedNets.KeyedNet, specs.KeyedNets.HasKinds, specs.Laws.TellAlike, proofs.CallerLemmas.one_net}
 use Rattle.archive_text.specs.Entries.{EntryView}
 use Rattle.net_report.{specs.declared.command.Command.TheVariants.Key, specs.KindsTold.AreKindsOfAll, specs.KindsTold.AreKindsTold}
 use Rattle.net_report.{proofs.CallerLemmas.as_many_kinds, proofs.CallerLemmas.kinds_at}
-use Rattle.net_outcomes.specs.Outcomes.{Outcome, OutcomeBody, Unsupported, Malformed, Refused, Keyed, AreOutcomesFrom, IsBodyOf, is_accepted}
-use Rattle.net_outcomes.specs.Outcomes.{is_accepted_body, net_told, Checked, Located, Identified, Lines, FaultyItem}
-use Rattle.net_outcomes.{specs.Reports.IsReport, proofs.CallerLemmas.keyed_not_refused}
+use Rattle.net_outcomes.specs.Outcomes.{Outcome, OutcomeBody, AreOutcomesFrom, IsBodyOf, is_accepted, net_told}
+use Rattle.net_outcomes.{specs.Reports.IsReport, proofs.CallerLemmas.keyed_is_accepted, proofs.CallerLemmas.told_net, proofs.CallerLemmas.IsToldNet}
 use Rattle.net_answers.specs.Due.{AreAccepted, IsNetOf, AreEntriesOf, IsAdded, IsEntryOfBlock, IsNotAdded, given_after, name_to_add, with_entries}
 use Rattle.net_archive.specs.Archives.{ArchiveView, IsArchive, with_entry}
 use Rattle.net_archive.proofs.CallerLemmas.{added_no_fault, one_add_fault, one_entry}
@@ -23,36 +21,19 @@ use Rattle.least_key.specs.declared.net.Net.{Net as NetInCode}
 use Rattle.net_archive.specs.declared.faults.AddFault.TheVariants as add
 pub use Rattle.same_answers.proofs.CallerLemmas.{as_many}
 
--- this is reported of a block: its net
-pub record IsToldNet (block : BlockView) (told : OutcomeBody) : Type 0 where
-  pub net : NetInCode
-  pub told_is : net_told told ≡ Some net
-  pub is_net : IsNetOf block (net_view net)
+-- the net that is reported of a block is its net
+net_of : (block : BlockView) (body : OutcomeBody) (t : IsToldNet block.body body) → IsNetOf block (net_view t.net)
+net_of block body t = record { raw = t.raw; graph = t.graph; read = t.read; keyed = t.keyed }
 
--- of a block that is accepted its net is reported
-keyed_told : (entries : List EntryView) (block : BlockView) (view : BodyView) (told : OutcomeBody) → block.body ≡ view → IsBodyOf entries Key view told
-    → is_accepted_body told ≡ true → IsToldNet block told
-keyed_told entries block view (Unsupported token) is h a = absurd (true≢false (sym a))
-keyed_told entries block view (Malformed fault) is h a = absurd (true≢false (sym a))
-keyed_told entries block view (Refused size names refusal) is h a = absurd (true≢false (sym a))
-keyed_told entries block (Net raw) (Keyed size net) is h a = record {
-  net = net;
-  told_is = refl;
-  is_net = record { raw = raw; graph = is; read = subst (λ (G : Graph). IsInOrder (graph_of raw) G) (sym h.net_is) h.read.in_order; keyed = h.keyed };
-}
-keyed_told entries block (Net raw) told is h a = absurd h
-keyed_told entries block (Other token) told is h a = absurd h
-keyed_told entries block (Faulty fault) told is h a = absurd h
-
--- so it is at each place
+-- what is reported at each place
 pub told_at : (entries : List EntryView) (n i : ℕ) (bs : List BlockView) (os : List Outcome) (b : BlockView) (o : Outcome)
     → AreOutcomesFrom entries Key n bs os → list_all is_accepted os ≡ true → i < length bs → get_or bs i b ≡ b
-    → get_or os i o ≡ o → IsToldNet b o.body
+    → get_or os i o ≡ o → IsToldNet b.body o.body
 told_at entries n i [] os b o h a l e f = absurd (omega (arith, l))
 told_at entries n i (c ∷ bs) [] b o h a l e f = absurd h
 told_at entries n zero (c ∷ bs) (x ∷ os) b o h a l e f =
-    let first = keyed_told entries c c.body x.body refl h.0.body (and_parts (is_accepted x) (list_all is_accepted os) a).0 in
-    subst (λ (y : Outcome). IsToldNet b y.body) f (subst (λ (y : BlockView). IsToldNet y x.body) e first)
+    let first = told_net entries c.body x.body h.0.body (and_parts (is_accepted x) (list_all is_accepted os) a).0 in
+    subst (λ (y : Outcome). IsToldNet b.body y.body) f (subst (λ (y : BlockView). IsToldNet y.body x.body) e first)
 told_at entries n (suc i) (c ∷ bs) (x ∷ os) b o h a l e f =
     told_at entries (n + 1) i bs os b o h.1 (and_parts (is_accepted x) (list_all is_accepted os) a).1 (omega (arith, l)) e f
 
@@ -63,8 +44,8 @@ all_accepted entries n [] os h a = All-nil (λ (block : BlockView). (net : Keyed
 all_accepted entries n (c ∷ bs) [] h a = absurd h
 all_accepted entries n (c ∷ bs) (x ∷ os) h a =
     let tests = and_parts (is_accepted x) (list_all is_accepted os) a in
-    let first = keyed_told entries c c.body x.body refl h.0.body tests.0 in
-    All-cons (λ (block : BlockView). (net : KeyedNet) × IsNetOf block net) c bs (net_view first.net, first.is_net)
+    let first = told_net entries c.body x.body h.0.body tests.0 in
+    All-cons (λ (block : BlockView). (net : KeyedNet) × IsNetOf block net) c bs (net_view first.net, net_of c x.body first)
     (all_accepted entries (n + 1) bs os h.1 tests.1)
 
 -- A block and its outcome, as they come in turn.
@@ -75,7 +56,7 @@ pub record IsTurn (found : List Block) (os : List Outcome) (i : ℕ) (block : Bl
   pub at : get_or (views found) i (block_view block) ≡ block_view block
   pub there : i < length os
   pub is : o ≡ get_or os i o
-  pub told : IsToldNet (block_view block) o.body
+  pub told : IsToldNet (block_view block).body o.body
 
 pub turn_is : (entries : List EntryView) (found : List Block) (os : List Outcome) (i : ℕ) (block : Block) (o : Outcome) → i < length found
     → block ≡ get_or found i block → o ≡ get_or os i o
@@ -92,12 +73,13 @@ turn_is entries found os i block o l b e h a =
       told = told_at entries 1 i (views found) os (block_view block) o h a inside at (sym e);
     }
 
--- the net that is reported is that of the block
-pub net_is : (block : BlockView) (o : Outcome) (net : NetInCode) → IsToldNet block o.body → Some net ≡ net_told o.body → IsNetOf block (net_view net)
-net_is block o net h e = subst (λ (n : NetInCode). IsNetOf block (net_view n)) (ap (λ (t : Option NetInCode). unwrap_or t net) (sym h.told_is ∙ sym e)) h.is_net
+-- so is the one that is told
+pub net_is : (block : BlockView) (o : Outcome) (net : NetInCode) → IsToldNet block.body o.body → Some net ≡ net_told o.body → IsNetOf block (net_view net)
+net_is block o net h e =
+    subst (λ (n : NetInCode). IsNetOf block (net_view n)) (ap (λ (t : Option NetInCode). unwrap_or t net) (sym h.told_is ∙ sym e)) (net_of block o.body h)
 
 -- and one is reported
-pub one_told : (block : BlockView) (o : Outcome) → IsToldNet block o.body → None ≡ net_told o.body → ⊥
+pub one_told : (block : BlockView) (o : Outcome) → IsToldNet block.body o.body → None ≡ net_told o.body → ⊥
 one_told block o h e = true≢false (ap is_some (sym h.told_is ∙ sym e))
 
 -- kinds beside the net that is reported are kinds of its classes
@@ -205,17 +187,11 @@ all_added given bs a b i number next h l = subst (λ (cs : List BlockView). IsAd
 
 -- What becomes of an addition is one.
 
--- the net that a body says, where it is one
-abbrev raw_or : RawView → BodyView → RawView
-raw_or d (Net raw) = raw
-raw_or d (Other token) = d
-raw_or d (Faulty fault) = d
-
 -- the net of a block is one
 same_net : (block : BlockView) (m n : KeyedNet) → IsNetOf block m → IsNetOf block n → TellAlike m n
 same_net block m n a b =
-    let raw : a.raw ≡ b.raw = ap (raw_or a.raw) (sym a.graph ∙ b.graph) in
-    let there = subst (λ (r : RawView). IsInOrder (graph_of r) n.placed.graph) (sym raw) b.read in
+    let raw : b.raw ≡ a.raw = cc in
+    let there = subst (λ (r : RawView). IsInOrder (graph_of r) n.placed.graph) raw b.read in
     one_net m n a.keyed b.keyed (one_in_order (graph_of a.raw) m.placed.graph n.placed.graph a.read there)
 
 -- and so is its entry under a name
@@ -345,30 +321,15 @@ entries_accepted given (b ∷ bs) [] h = absurd h
 entries_accepted given (b ∷ bs) (e ∷ es) h = All-cons (λ (block : BlockView). (net : KeyedNet) × IsNetOf block net) b bs (h.0.net, h.0.is_net)
     (entries_accepted None bs es h.1)
 
--- of a block that has its key no refusal is reported
-accepted_body : (block : BlockView) (body : BodyView) (net : KeyedNet) (told : OutcomeBody) → block.body ≡ body → IsNetOf block net → IsBodyOf [] Key body told
-    → is_accepted_body told ≡ true
-accepted_body block body net (Checked size) e is h = refl
-accepted_body block body net (Located size names placed) e is h = refl
-accepted_body block body net (Keyed size own) e is h = refl
-accepted_body block body net (Identified size vertices own shells names) e is h = refl
-accepted_body block (Net raw) net (Refused size names refusal) e is h =
-    let same : is.raw ≡ raw = ap (raw_or raw) (sym is.graph ∙ e) in
-    absurd (keyed_not_refused raw Key size names net refusal (subst (λ (r : RawView). IsInOrder (graph_of r) net.placed.graph) same is.read) is.keyed h)
-accepted_body block (Net raw) net (Unsupported token) e is h = absurd h
-accepted_body block (Net raw) net (Malformed fault) e is h = absurd h
-accepted_body block (Net raw) net (FaultyItem line number kind) e is h = absurd h
-accepted_body block (Net raw) net (Lines size lines) e is h = absurd h
-accepted_body block (Other token) net told e is h = let other : Other token ≡ Net is.raw = sym e ∙ is.graph in absurd (cc)
-accepted_body block (Faulty fault) net told e is h = let other : Faulty fault ≡ Net is.raw = sym e ∙ is.graph in absurd (cc)
-
+-- where all blocks are accepted the outcomes say so
 all_told : (n : ℕ) (bs : List BlockView) (os : List Outcome) → AreOutcomesFrom [] Key n bs os → AreAccepted bs → list_all is_accepted os ≡ true
 all_told n [] [] h a = refl
 all_told n [] (o ∷ os) h a = absurd h
 all_told n (b ∷ bs) [] h a = absurd h
 all_told n (b ∷ bs) (o ∷ os) h a =
     let first = All-head (λ (block : BlockView). (net : KeyedNet) × IsNetOf block net) b bs a in
-    let here = accepted_body b b.body first.0 o.body refl first.1 h.0.body in
+    let told = subst (λ (view : BodyView). IsBodyOf [] Key view o.body) first.1.graph h.0.body in
+    let here = keyed_is_accepted first.1.raw [] first.0 o.body first.1.read first.1.keyed told in
     let rest = all_told (n + 1) bs os h.1 (All-tail (λ (block : BlockView). (net : KeyedNet) × IsNetOf block net) b bs a) in
     λ i. here i && rest i
 

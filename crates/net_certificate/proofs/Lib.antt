@@ -5,5 +5,6 @@ pub mod FoundMaps
 pub mod OneAnswer
 pub mod Places
 pub mod RowForms
+pub mod Shapes
 pub mod Walks
 pub mod WholeTexts

@@ -14,12 +14,12 @@ use Rattle.map_check.specs.{Layouts.ComesBefore, Layouts.table_for, Laws.Passes,
 use Rattle.map_check.specs.{declared.verdict.MapFault.MapFault, declared.verdict.Verdict.Verdict, declared.map.PeriodicMap.PeriodicMap}
 use Rattle.map_check.specs.{declared.verdict.Verdict.TheVariants.Yes, declared.verdict.Verdict.TheVariants.No}
 use Rattle.key_theory.specs.Key.{Shape}
-use Rattle.least_key.specs.KeyedNets.{KeyedNet, IsKeyed}
+use Rattle.least_key.specs.KeyedNets.{KeyedNet}
 use Rattle.standard_map.specs.MapNumbers.{StandardTable, box_vertices, entries_of, images_of, base_rows, IsLong, IsFound}
 use Rattle.standard_map.proofs.OneMap.{one_count, one_period, one_standard_map, causes_exclude, rows_same}
 use Rattle.net_certificate.specs.declared.answer.MapAnswer.TheVariants.{Different, Found, LongMap, WideMap}
-use Rattle.net_certificate.{specs.Answers.shape_of, specs.Answers.IsAnswerBy, specs.Laws.OneMapAnswer, specs.declared.answer.MapAnswer.MapAnswer}
-use Rattle.net_certificate.{proofs.BoxLists.box_inside}
+use Rattle.net_certificate.specs.Answers.{shape_of, IsAnswerBy, IsMapAnswer}
+use Rattle.net_certificate.{specs.Laws.OneMapAnswer, specs.declared.answer.MapAnswer.MapAnswer, proofs.BoxLists.box_inside, proofs.Shapes.answer_alike}
 
 -- the number and the cell of a vertex determine it
 vertex_told : (u v : ℕ) (r s : Vector) → (pos u ∷ parts 3 r) ≡ (pos v ∷ parts 3 s) → (u ≡ v) × (r ≡ s)
@@ -114,44 +114,6 @@ one_verdict G H m images rows v w from h k =
     let t = drawn_by_table G (table_for G m images rows) from in
     verdict_of G H (table_for G m images rows) f v w (h f t) (k f t)
 
-module _ (a b : KeyedNet) (k k' : IsKeyed a) (l l' : IsKeyed b) where
-  -- a table does not depend on how it is known that the nets have their keys
-  abbrev table_again : StandardTable a.placed.graph b.placed.graph (shape_of a k) (shape_of b l)
-      → StandardTable a.placed.graph b.placed.graph (shape_of a k') (shape_of b l')
-  table_again t =
-      let s = t.standard in let c = s.carries in
-      record {
-        carry = t.carry;
-        standard = record {
-          key = s.key;
-          start = s.start;
-          frame = s.frame;
-          start' = s.start';
-          frame' = s.frame';
-          here = s.here;
-          there = s.there;
-          carries = record { into = c.into; start = c.start; joined = c.joined; arcs = c.arcs };
-        };
-        m = t.m;
-        shifts = t.shifts;
-        period = t.period;
-      }
-
-  -- nor does an answer
-  answer_again : (room : ℕ) (t : MapAnswer) → IsAnswerBy a.placed.graph b.placed.graph (shape_of a k) (shape_of b l) room t
-      → IsAnswerBy a.placed.graph b.placed.graph (shape_of a k') (shape_of b l') room t
-  answer_again room Different d = record { key = d.key; key' = d.key'; is_key = d.is_key; is_key' = d.is_key'; differ = d.differ }
-  answer_again room (LongMap entries) d = record { table = table_again d.table; count = d.count; past = d.past }
-  answer_again room (WideMap value) d = record { table = table_again d.table; room_for = d.room_for; first = d.first }
-  answer_again room (Found m) d = record {
-    table = table_again d.table;
-    room_for = d.room_for;
-    period = d.period;
-    images_are = d.images_are;
-    rows_are = d.rows_are;
-    within = d.within;
-  }
-
 module _ (G H : Graph) (g : Shape G) (h : Shape H) (ig : IsGraph G) (ih : IsGraph H) where
   -- two tables have the same images
   one_images : (s t : StandardTable G H g h) → images_of G H g h s ≡ images_of G H g h t
@@ -203,8 +165,15 @@ module _ (G H : Graph) (g : Shape G) (h : Shape H) (ig : IsGraph G) (ih : IsGrap
   one_answer room (Found f) (Found k) p q = ap Found (one_found room f k p q)
   one_answer room s t p q = absurd (causes_exclude.different G H g h p q.table)
 
+-- the answer to two nets is one, whatever nets stand for their graphs
+pub one_answer_alike : (m m' n n' : KeyedNet) (room : ℕ) (s t : MapAnswer) → m.placed.graph ≡ m'.placed.graph → n.placed.graph ≡ n'.placed.graph
+    → IsMapAnswer m n room s → IsMapAnswer m' n' room t → s ≡ t
+one_answer_alike m m' n n' room s t e f p q =
+    let G = m.placed.graph in let H = n.placed.graph in let g = shape_of m p.here in let h = shape_of n p.there in
+    one_answer G H g h p.here.is_graph p.there.is_graph room s t p.by
+    (answer_alike m'.placed.graph G n'.placed.graph H (shape_of m' q.here) g (shape_of n' q.there) h room t q.here.is_graph q.there.is_graph
+    (sym e) (sym f) q.by)
+
 -- two nets have one answer at most
 pub one_map_answer : OneMapAnswer
-one_map_answer a b room s t p q =
-    one_answer a.placed.graph b.placed.graph (shape_of a p.here) (shape_of b p.there) p.here.is_graph p.there.is_graph room s t p.by
-    (answer_again a b q.here p.here q.there p.there room t q.by)
+one_map_answer a b room s t = one_answer_alike a a b b room s t refl refl

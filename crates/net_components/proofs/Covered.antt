@@ -223,9 +223,7 @@ times_of p q r = (p.l *ℤ q.n -ℤ p.n *ℤ q.l) *ℤ r.k +ℤ (p.n *ℤ q.k -�
 
 -- so the volume of three members is a multiple of the product of the pivots
 volume_of : (S : Stairs) (u v w : Vector) (p : InStairs S u) (q : InStairs S v) (r : InStairs S w) → dot (cross u v) w ≡ (S.a *ℤ (S.e *ℤ S.i)) *ℤ times_of p q r
-volume_of S u v w p q r =
-    (λ t. (p.y t *ℤ q.z t -ℤ p.z t *ℤ q.y t) *ℤ r.x t +ℤ (p.z t *ℤ q.x t -ℤ p.x t *ℤ q.z t) *ℤ r.y t +ℤ (p.x t *ℤ q.y t -ℤ p.y t *ℤ q.x t) *ℤ r.z t)
-    ∙ rows_product p.k p.l p.n q.k q.l q.n r.k r.l r.n S.a S.b S.c S.e S.f S.i
+volume_of S u v w p q r = grind (arith, rows_product)
 
 size_is : (S : Stairs) → unsigned_abs (S.a *ℤ (S.e *ℤ S.i)) ≡ size_of S
 size_is S = unsigned_abs-mul S.a (S.e *ℤ S.i) ∙ ap (λ t. unsigned_abs S.a * t) (unsigned_abs-mul S.e S.i)

@@ -1,6 +1,6 @@
 -- The graph of a component is a part and may be made as it stands, and what is made of a component is its part.
 use Rattle.std.proofs.Common.{◌≡◌, ℕ, zero, suc, ◌+◌, ◌-◌, ◌<◌, ◌≤◌, inl, inr, List, [], ◌∷◌, length, get_or, Option, Some, None, IsSome, refl, subst, ◌∙◌}
-use Rattle.std.proofs.Common.{arith, ap, map, ◌⊎◌, ℤ, pos, unsigned_abs, Contains, sym}
+use Rattle.std.proofs.Common.{arith, ap, map, ◌⊎◌, ℤ, Contains, sym}
 use Rattle.std.{proofs.lemmas.List.get_or_default, proofs.lemmas.List.length-map, proofs.lemmas.List.Elements.All-from_recursion}
 use Rattle.std.{proofs.lemmas.List.Elements.All-contains, proofs.Math.Decide.dec_lt, specs.List.AllByRecursion, specs.List.AllPairs}
 use Rattle.integers.specs.Vectors.{Vector, IsBelow, IsWithin, zero_vector, plus, minus, HasDimension}
@@ -38,14 +38,7 @@ pub record IsListed (u : ℕ) (found : List (Option Vector)) (v : ℕ) : Type 0 
   pub there : IsSome (get_or found (v - u) None)
 
 listed_next : (u : ℕ) (o : Option Vector) (found : List (Option Vector)) (v : ℕ) → IsListed (u + 1) found v → IsListed u (o ∷ found) v
-listed_next u o found v h = let a = h.low in let b = h.high in record {
-  low = omega arith;
-  high = omega arith;
-  there = subst (λ k. IsSome (get_or (o ∷ found) k None)) (next u v a) h.there;
-}
-  where
-    next : (u v : ℕ) → u + 1 ≤ v → suc (v - (u + 1)) ≡ v - u
-    next u v l = omega arith
+listed_next u o found v h = search arith
 
 pub listed : (u : ℕ) (found : List (Option Vector)) (v : ℕ) → IsIn (vertices_of u found) v → IsListed u found v
 listed u [] v h = elim h [ ]
@@ -236,23 +229,7 @@ among found u low high some =
 
 -- the first wide part is one of the dimension
 inside_of : (d p : ℕ) (k : Vector) (value : ℤ) → (d ≡ 2) ⊎ (d ≡ 3) → HasDimension d k → IsFirstWide k p value → p ≤ d
-inside_of d zero k value dim flat w = omega arith
-inside_of d (suc zero) k value dim flat w = by dim
-  where
-    by : (d ≡ 2) ⊎ (d ≡ 3) → 1 ≤ d
-    by (inl e) = omega (arith, e)
-    by (inr e) = omega (arith, e)
-inside_of d (suc (suc zero)) k value dim flat w = by dim
-  where
-    by : (d ≡ 2) ⊎ (d ≡ 3) → 2 ≤ d
-    by (inl e) = omega (arith, e)
-    by (inr e) = omega (arith, e)
-inside_of d (suc (suc (suc zero))) k value (inl e) flat w = absurd (none value (w.is ∙ flat e) w.past)
-  where
-    none : (x : ℤ) → x ≡ pos 0 → most_shift < unsigned_abs x → ⊥
-    none x e l = let h : unsigned_abs x ≡ 0 = ap unsigned_abs e in omega (arith, h, l)
-inside_of d (suc (suc (suc zero))) k value (inr e) flat w = omega (arith, e)
-inside_of d (suc (suc (suc (suc p)))) k value dim flat w = absurd (let l = w.place.1 in omega (arith, l))
+inside_of d p k value q r s = grind arith
 
 module _ (G : Graph) (g : IsGraph G) (s : IsSmall G) (c : Component) (h : IsComponent G c) where
   -- the vertices are few

@@ -8,7 +8,7 @@ use Rattle.integers.proofs.lists.Members.{IsIn, contains_from_in, is_in, in_at, 
 use Rattle.integers.proofs.lists.Matched.{matched_at, matched_left, matched_length}
 use Rattle.integers.specs.Vectors.{plus, minus, Vector, IsWithin}
 use Rattle.integers.{proofs.numbers.Order.next_number, proofs.numbers.Order.three_ways, specs.Bases.base_sum, specs.Staircase.part, specs.Lists.AreMatched}
-use Rattle.vecdim.specs.Stairs.{rows_of, size_of, Stairs, stairs}
+use Rattle.vecdim.specs.Stairs.{Stairs, stairs}
 use Rattle.periodic_net.specs.Graph.{Graph, IsGraph, Arc, arc, IsQuotientVertex}
 use Rattle.periodic_net.{specs.Chosen.path_shift, specs.Components.InComponent, specs.Limits.IsSmall, specs.Limits.most_shift}
 use Rattle.periodic_net.{proofs.CallerLemmas.one_chosen}
@@ -144,10 +144,7 @@ module _ (G : Graph) (g : IsGraph G) (a : ℕ) (p q : Part) (h : IsPartOf G a p)
 
   -- the parts of a component are one
   pub one_part : view_of p ≡ view_of q
-  one_part =
-      let basis = h.rows ∙ ap (rows_of G.dimension) same_stairs ∙ sym k.rows in
-      let copies = h.size ∙ ap size_of same_stairs ∙ sym k.size in
-      λ i. record { vertices = same_vertices i; basis = basis i; copies = copies i; graph = same_graph i }
+  one_part = grind (arith, same_stairs, same_vertices, same_graph)
 
 -- Edges within the limit, one more, and the first that is not.
 
@@ -303,16 +300,7 @@ not_wide k (suc (suc (suc (suc c)))) value w h = let l = h.place.1 in omega (ari
 
 -- the first wide part stands in one place
 one_place : (k : Vector) (c c' : ℕ) (value value' : ℤ) → IsFirstWide k c value → IsFirstWide k c' value' → c ≡ c'
-one_place k c c' value value' h h' = by (three_ways c c')
-  where
-    earlier : (i j : ℕ) → i < j → 1 ≤ i → i - 1 < j - 1
-    earlier i j l a = omega (arith, l, a)
-
-    by : (c < c') ⊎ ((c' < c) ⊎ (c ≡ c')) → c ≡ c'
-    by (inl l) = absurd (let p = h.past in let e = ap unsigned_abs h.is in let b = h'.first (c - 1) (earlier c c' l h.place.0) in omega (arith, p, e, b))
-    by (inr (inl l)) = absurd (let p = h'.past in let e = ap unsigned_abs h'.is in let b = h.first (c' - 1) (earlier c' c l h'.place.0) in
-        omega (arith, p, e, b))
-    by (inr (inr e)) = e
+one_place k c c' value value' h h' = grind (arith, three_ways, earlier)
 
 module _ (G : Graph) (g : IsGraph G) where
   -- an edge has one shift in the graph of its component

@@ -1,86 +1,28 @@
 -- Closed walks of full rank have one staircase, and the arcs of a part are written in its basis.
-use Rattle.std.proofs.Common.{◌≡◌, ◌≢◌, ◌⊎◌, inl, inr, ℕ, ℤ, pos, sym, arith, ◌+ℤ◌, ◌*ℤ◌, Bool, true, false, cond, [], ◌∷◌, refl, ap, ◌<ℤ◌, ◌∙◌, ◌≤◌, List}
+use Rattle.std.proofs.Common.{◌≡◌, ◌⊎◌, inl, inr, ℕ, ℤ, pos, sym, arith, ◌+ℤ◌, ◌*ℤ◌, Bool, true, cond, [], ◌∷◌, refl, ap, ◌<ℤ◌, ◌∙◌, ◌≤◌, List}
 use Rattle.std.proofs.Common.{◌++◌, length, subst, ◌-ℤ◌, neg_ℤ}
 use Rattle.std.{proofs.lemmas.Bool.eqb-true, proofs.lemmas.Int.ints, proofs.Math.IntN.*ℤ_comm, specs.Prelude.◌==◌, specs.Prelude.slice_index_or}
 use Rattle.std.{specs.List.AllByRecursion}
 use Rattle.integers.specs.Vectors.{Vector, zero_vector, minus, times, HasDimension, vector, plus, parts, combination, opposite}
-use Rattle.integers.proofs.numbers.Ring.{zero_or_not, ring, linear, cancel_factor}
-use Rattle.integers.proofs.vectors.Laws.{vector_equal, minus_dimension, times_dimension, equal_of_minus, flat_sum}
-use Rattle.integers.{specs.Bases.base_sum, specs.Bases.Base, proofs.vectors.Independence.zero_or_other, proofs.vectors.Directions.one_direction}
+use Rattle.integers.proofs.numbers.Ring.{ring, linear, cancel_factor}
+use Rattle.integers.proofs.vectors.Laws.{vector_equal, flat_sum}
+use Rattle.integers.{specs.Bases.base_sum, specs.Bases.Base}
 use Rattle.integers.{proofs.vectors.StairBasis.one_staircase, proofs.numbers.Order.positive_is_some, proofs.numbers.Order.three_ways}
 use Rattle.integers.{proofs.lists.Members.IsIn, proofs.lists.Members.AreApart}
 use Rattle.periodic_net.specs.Graph.{Graph, IsGraph, Arc, arc, reverse_of, both_ways, IsQuotientVertex}
-use Rattle.periodic_net.proofs.CallerLemmas.{crossed, dot_difference, ends_at_one, ends_at_zero, no_part, not_zero}
-use Rattle.periodic_net.specs.{Split.EndsBy, Components.InComponent}
-use Rattle.net_components.specs.Ranks.{IsOrthogonalAt, IsFlatAt, IsFullAt}
+use Rattle.periodic_net.proofs.CallerLemmas.{normal_is_one}
+use Rattle.periodic_net.specs.{Split.ClosedShift, Components.InComponent}
+use Rattle.net_components.specs.Ranks.{IsFlatAt, IsFullAt}
 use Rattle.net_components.specs.PartGraphs.{stair_base, AreWritten, IsNumber, IsWritten, IsPart}
-use Rattle.vecdim.specs.Stairs.{Stairs, rows_of, HasStairShape, stairs}
+use Rattle.vecdim.specs.Stairs.{Stairs, rows_of, HasStairShape}
 use Rattle.vecdim.{specs.Lattices.Members, proofs.CallerLemmas.rows_are_basis}
 
--- Closed walks of a rank below the dimension have one normal: a combination of two of them that ends earlier is 0.
-
--- two vectors with a multiple in common
-record HaveMultiple (c e : Vector) : Type 0 where
-  m : ℤ
-  n : ℤ
-  some : n ≢ pos 0
-  same : times m e ≡ times n c
-
-module _ (G : Graph) (a : ℕ) (c e : Vector) (h : IsFlatAt G a c) (k : IsFlatAt G a e) where
-  -- a combination of the two normals
-  abbrev between : ℤ → ℤ → Vector
-  between m n = minus (times m e) (times n c)
-
-  between_orthogonal : (m n : ℤ) → IsOrthogonalAt G a (between m n)
-  between_orthogonal m n v w = dot_difference m n e.x e.y e.z c.x c.y c.z v.x v.y v.z (k.orthogonal v w) (h.orthogonal v w)
-
-  between_dimension : (m n : ℤ) → HasDimension G.dimension (between m n)
-  between_dimension m n = minus_dimension G.dimension (times m e) (times n c) (times_dimension G.dimension m e k.dimension)
-      (times_dimension G.dimension n c h.dimension)
-
-  -- a combination that ends before both normals do is 0
-  ends_early : (m n : ℤ) (i : ℕ) → EndsBy i (between m n) → ¬ EndsBy i c → between m n ≡ zero_vector
-  ends_early m n i ends none = by (zero_or_other (between m n))
-    where
-      by : (between m n ≡ zero_vector) ⊎ (between m n ≢ zero_vector) → between m n ≡ zero_vector
-      by (inl z) = z
-      by (inr some) = absurd (none (h.lowest (between m n) i (between_dimension m n) (between_orthogonal m n) some ends))
-
-  -- where the one ends, the other ends
-  ends_too : (i : ℕ) → EndsBy i c → EndsBy i e
-  ends_too i ends = k.lowest c i h.dimension h.orthogonal (not_zero c h.positive) ends
-
-  ends_back : (i : ℕ) → EndsBy i e → EndsBy i c
-  ends_back i ends = h.lowest e i k.dimension k.orthogonal (not_zero e k.positive) ends
-
-  from_zero : (m n : ℤ) → n ≢ pos 0 → between m n ≡ zero_vector → HaveMultiple c e
-  from_zero m n some z = record { m = m; n = n; some = some; same = equal_of_minus (times m e) (times n c) z }
-
-  -- so they have a multiple in common
-  on_one_line : HaveMultiple c e
-  on_one_line = by (zero_or_not c.z) (zero_or_not c.y)
-    where
-      by : (c.z ≡ pos 0) ⊎ (c.z ≢ pos 0) → (c.y ≡ pos 0) ⊎ (c.y ≢ pos 0) → HaveMultiple c e
-      by (inr z) _ =
-          let other : e.z ≢ pos 0 = λ w. z (ends_back 1 (ends_at_one e w) 2 (omega arith)) in
-          let ends = ends_at_one (between c.z e.z) (crossed c.z e.z) in
-          from_zero c.z e.z other (ends_early c.z e.z 1 ends (λ x. z (x 2 (omega arith))))
-      by (inl z) (inr y) =
-          let w : e.z ≡ pos 0 = ends_too 1 (ends_at_one c z) 2 (omega arith) in
-          let other : e.y ≢ pos 0 = λ v. y (ends_back 0 (ends_at_zero e v w) 1 (omega arith)) in
-          let ends = ends_at_zero (between c.y e.y) (crossed c.y e.y) (no_part c.y e.y e.z c.z w z) in
-          from_zero c.y e.y other (ends_early c.y e.y 0 ends (λ x. y (x 1 (omega arith))))
-      by (inl z) (inl y) =
-          let w : e.z ≡ pos 0 = ends_too 0 (ends_at_zero c y z) 2 (omega arith) in
-          let v : e.y ≡ pos 0 = ends_too 0 (ends_at_zero c y z) 1 (omega arith) in
-          let other : e.x ≢ pos 0 = λ u. not_zero e k.positive (vector_equal u v w) in
-          from_zero c.x e.x other (vector_equal (crossed c.x e.x) (no_part c.x e.x e.y c.y v y) (no_part c.x e.x e.z c.z w z))
-
-  -- and are one
-  pub one_normal : c ≡ e
-  one_normal =
-      let l = on_one_line in
-      one_direction l.n l.m c e l.some (sym l.same) h.coprime k.coprime h.positive k.positive
+-- closed walks of a rank below the dimension have one normal
+pub one_normal : (G : Graph) (a : ℕ) (c e : Vector) → IsFlatAt G a c → IsFlatAt G a e → c ≡ e
+one_normal G a c e h k =
+    normal_is_one G.dimension (ClosedShift G a) c e
+    (record { dimension = h.dimension; orthogonal = h.orthogonal; positive = h.positive; lowest = h.lowest; coprime = h.coprime })
+    (record { dimension = k.dimension; orthogonal = k.orthogonal; positive = k.positive; lowest = k.lowest; coprime = k.coprime })
 
 -- Coordinates in the rows of a staircase, as a sum along them.
 
@@ -99,8 +41,7 @@ sum_of_rows d S k h = by (d == 2) (λ e. h (eqb-true d 2 e))
     third = vector (pos 0) (pos 0) S.i
 
     last : (b : Bool) → (b ≡ true → k.z ≡ pos 0) → combination (k.z ∷ []) (cond b [] (third ∷ [])) ≡ times k.z third
-    last true z = vector_equal (none k.z (pos 0) (z refl)) (none k.z (pos 0) (z refl)) (none k.z S.i (z refl))
-    last false z = vector_equal (one k.z (pos 0)) (one k.z (pos 0)) (one k.z S.i)
+    last b h = grind (arith, vector_equal)
 
     by : (b : Bool) → (b ≡ true → k.z ≡ pos 0)
         → combination (parts 3 k) (vector S.a S.b S.c ∷ vector (pos 0) S.e S.f ∷ cond b [] (third ∷ [])) ≡ base_sum (stair_base S) k
@@ -166,23 +107,17 @@ row k vs ws e = ap (λ us. slice_index_or us k zero_vector) e
 
 -- in dimension 2 the last row is (0, 0, 1), and else it is among the rows
 last_same : (d : ℕ) (S S' : Stairs) → HasStairShape d S → HasStairShape d S' → (d ≡ 2) ⊎ (d ≡ 3) → rows_of d S ≡ rows_of d S' → S.i ≡ S'.i
-last_same d S S' h h' (inl two) e = (h.flat two).i ∙ sym (h'.flat two).i
-last_same d S S' h h' (inr three) e =
-    ap (λ (v : Vector). v.z) (row 2 (rows_of 3 S) (rows_of 3 S') (sym (ap (λ n. rows_of n S) three) ∙ e ∙ ap (λ n. rows_of n S') three))
+last_same d S S' k l p q = search arith
 
 -- stairs with the same rows are the same
 rows_tell : (d : ℕ) (S S' : Stairs) → HasStairShape d S → HasStairShape d S' → (d ≡ 2) ⊎ (d ≡ 3) → rows_of d S ≡ rows_of d S' → S ≡ S'
-rows_tell d S S' h h' w e =
-    let one = row 0 (rows_of d S) (rows_of d S') e in let two = row 1 (rows_of d S) (rows_of d S') e in
-    let i = last_same d S S' h h' w e in λ t. stairs (one t).x (one t).y (one t).z (two t).y (two t).z (i t)
+rows_tell d S S' h h' w e = search (arith, last_same)
 
 pub at_least_two : (d : ℕ) → (d ≡ 2) ⊎ (d ≡ 3) → 2 ≤ d
-at_least_two d (inl e) = omega (arith, e)
-at_least_two d (inr e) = omega (arith, e)
+at_least_two d h = omega arith
 
 pub at_most_three : (d : ℕ) → (d ≡ 2) ⊎ (d ≡ 3) → d ≤ 3
-at_most_three d (inl e) = omega (arith, e)
-at_most_three d (inr e) = omega (arith, e)
+at_most_three d h = omega arith
 
 pub one_stair : (G : Graph) → IsGraph G → (a : ℕ) (S S' : Stairs) → IsFullAt G a S → IsFullAt G a S' → S ≡ S'
 one_stair G g a S S' f f' =

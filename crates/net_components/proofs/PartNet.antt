@@ -1,5 +1,5 @@
 -- The net of a part is, for each shift, the copy of it as a net of its own; and theorems on it.
-use Rattle.std.proofs.Common.{◌≡◌, ◌⊎◌, inl, inr, ℕ, zero, suc, ◌<◌, ℤ, negsuc, ◌+ℤ◌, ◌-ℤ◌, ◌*ℤ◌, ◌<ℤ◌, pos, sym, ap, subst, ◌∙◌, arith, List, [], ◌∷◌}
+use Rattle.std.proofs.Common.{◌≡◌, ◌⊎◌, inl, inr, ℕ, ◌<◌, ℤ, ◌+ℤ◌, ◌-ℤ◌, ◌*ℤ◌, ◌<ℤ◌, pos, sym, ap, subst, ◌∙◌, arith, List, [], ◌∷◌}
 use Rattle.std.proofs.Common.{refl}
 use Rattle.std.proofs.{lemmas.Int.ints, lemmas.List.Elements.recursion_from_All, lemmas.List.Elements.All-from_recursion, Math.IntN.*ℤ_comm}
 use Rattle.integers.specs.Vectors.{Vector, plus, minus, StartsPositive, HasDimension, parts, IsBelow, zero_vector, vector, dot}
@@ -25,16 +25,7 @@ use Rattle.net_components.specs.{ComponentSets.InCopy, Ranks.IsFlatAt, Ranks.IsF
 
 -- a factor beside a positive one has the sign of the product
 positive_factor : (k a : ℤ) → pos 0 <ℤ a → pos 0 <ℤ (k *ℤ a) → pos 0 <ℤ k
-positive_factor k (pos zero) h p = absurd (omega (arith, ints))
-positive_factor k (negsuc n) h p = absurd (omega (arith, ints))
-positive_factor (pos zero) (pos (suc n)) h p = absurd (omega (arith, ints))
-positive_factor (pos (suc m)) (pos (suc n)) h p = omega (arith, ints)
-positive_factor (negsuc m) (pos (suc n)) h p =
-    absurd (impossible (pos (suc n) *ℤ negsuc m) (pos (suc n) *ℤ pos 0) (negsuc m *ℤ pos (suc n)) (multiple_below n (negsuc m) (pos 0) (omega (arith, ints)))
-    (omega (arith, ints)) (*ℤ_comm (pos (suc n)) (negsuc m)) p)
-  where
-    impossible : (x y z : ℤ) → x <ℤ y → y ≡ pos 0 → x ≡ z → pos 0 <ℤ z → ⊥
-    impossible x y z l e f p = omega (arith, linear, e, f)
+positive_factor k a q r = grind (arith, multiple_below, *ℤ_comm)
 
 -- a factor beside a positive one is 0 where the product is
 pub zero_factor : (k a : ℤ) → pos 0 <ℤ a → k *ℤ a ≡ pos 0 → k ≡ pos 0

@@ -1,12 +1,12 @@
 -- The numbers of a cell's rows, in the order in which a word spells them, and the coefficients of combinations of the rows.
 use Rattle.std.proofs.Common.{◌≡◌, ◌⊎◌, inl, inr, ℕ, ◌≤◌, ◌==◌, Bool, true, false, cond, ℤ, List, [], ◌∷◌, All, length, refl, sym, ap, subst, ◌∙◌, arith}
-use Rattle.std.proofs.Common.{suc, ◌<◌, ◌^◌, ◌&&◌, not, nat_lt, pos, negsuc, neg_ℤ, ◌++◌, map, Option, Some, None, ◌≢◌, zero}
+use Rattle.std.proofs.Common.{suc, ◌<◌, ◌^◌, ◌&&◌, not, nat_lt, pos, negsuc, neg_ℤ, ◌++◌, map, Option, Some, None, ◌≢◌}
 use Rattle.std.proofs.lemmas.Bool.{and_parts, cond-true, ltb-false, le-ltb, true≢false}
-use Rattle.std.specs.Prelude.{unsigned_abs, unwrap_or, IfSome}
+use Rattle.std.specs.Prelude.{unsigned_abs, IfSome}
 use Rattle.std.{proofs.lemmas.List.Elements.All-nil, proofs.lemmas.List.Elements.All-cons, proofs.lemmas.List.append-nil}
 use Rattle.std.{proofs.lemmas.Fmt.decimal_is_IsNumeral, proofs.lemmas.Option.none-some, proofs.lemmas.Slice.Eq.bytes_eq-Decides, specs.List.list_all}
-use Rattle.std.{specs.Fmt.decimal, specs.Fmt.signed_decimal, specs.Str.bytes_eq, specs.Str.Parse.digits_value, specs.Str.Parse.IsNumeral}
-use Rattle.integers.specs.Vectors.{Vector, IsWithin, vector, zero_vector, up_vector, HasDimension, times, triple_product}
+use Rattle.std.{specs.Fmt.decimal, specs.Fmt.signed_decimal, specs.Str.Parse.digits_value, specs.Str.Parse.IsNumeral}
+use Rattle.integers.specs.Vectors.{Vector, IsWithin, zero_vector, up_vector, HasDimension, times, triple_product}
 use Rattle.integers.proofs.vectors.Laws.{times_cancel, flat_sum, base_sum_times}
 use Rattle.integers.proofs.vectors.Independence.{coordinates_unique, cramer, products}
 use Rattle.integers.{specs.Bases.Base, specs.Bases.base_sum, proofs.vectors.Bounds.fits_from_bound}
@@ -33,9 +33,7 @@ small_wide z h = fits_from_bound z most_shift (omega arith) h
 
 -- three more
 wide_row : (v : Vector) (zs : List ℤ) → IsWithin most_shift v → All IsWide zs → All IsWide (v.x ∷ v.y ∷ v.z ∷ zs)
-wide_row v zs s h =
-    All-cons IsWide v.x (v.y ∷ v.z ∷ zs) (small_wide v.x s.0) (All-cons IsWide v.y (v.z ∷ zs) (small_wide v.y s.1)
-    (All-cons IsWide v.z zs (small_wide v.z s.2) h))
+wide_row v zs s h = grind (arith, small_wide)
 
 -- two more
 wide_flat_row : (v : Vector) (zs : List ℤ) → IsWithin most_shift v → All IsWide zs → All IsWide (v.x ∷ v.y ∷ zs)
@@ -57,11 +55,7 @@ numbers_wide R w = by w.dimension
 
 -- and there are nine of them at most
 pub numbers_few : (R : CellView) → length (cell_numbers R) ≤ 9
-numbers_few R = by (R.dimension == 2)
-  where
-    by : (t : Bool) → length (cond t (flat_numbers R.rows) (space_numbers R.rows)) ≤ 9
-    by true = omega arith
-    by false = omega arith
+numbers_few R = search arith
 
 -- a list of nine numbers is that of its places
 nine_places : (zs : List ℤ) → length zs ≡ 9 → space_numbers (cell_view 3 (row_in zs 0) (row_in zs 3) (row_in zs 6)).rows ≡ zs
@@ -74,13 +68,7 @@ AreSmall a b c = IsWithin most_shift a × IsWithin most_shift b × IsWithin most
 
 -- small rows are written
 space_written : (a b c : Vector) → AreSmall a b c → IsWritten (cell_view 3 a b c)
-space_written a b c s = record {
-  dimension = inr refl;
-  first = λ e. absurd (omega (arith, e));
-  second = λ e. absurd (omega (arith, e));
-  third = λ e. absurd (omega (arith, e));
-  small = record { first = s.0; second = s.1; third = s.2 };
-}
+space_written a b c s = search arith
 
 -- nine numbers are those of the cell of their rows
 pub space_of : (zs : List ℤ) (a b c : Vector) → a ≡ row_in zs 0 → b ≡ row_in zs 3 → c ≡ row_in zs 6 → length zs ≡ 9 → (R : CellView) → R ≡ cell_view 3 a b c
@@ -96,11 +84,7 @@ space_of zs a b c ea eb ec l R e s = subst (AreNumbersOf zs) (sym e) (record {
 
 -- a comma before the numbers of a cell
 after_comma : (R : CellView) → IsWritten R → comma ∷ joined_text (cell_numbers R) ≡ marked_text comma (cell_numbers R)
-after_comma R w = by w.dimension
-  where
-    by : (R.dimension ≡ 2) ⊎ (R.dimension ≡ 3) → comma ∷ joined_text (cell_numbers R) ≡ marked_text comma (cell_numbers R)
-    by (inl e) = subst (λ (zs : List ℤ). comma ∷ joined_text zs ≡ marked_text comma zs) (sym (numbers_flat R e)) refl
-    by (inr e) = subst (λ (zs : List ℤ). comma ∷ joined_text zs ≡ marked_text comma zs) (sym (numbers_space R e)) refl
+after_comma R w = search (arith, numbers_flat, numbers_space)
 
 -- the numbers of a cell stand in the word that spells it, with a comma before it
 pub spelled_after : (word : List ℕ) (R : CellView) → SpellsCell word R → comma ∷ word ≡ marked_text comma (cell_numbers R)
@@ -130,10 +114,7 @@ digits_read : (n : ℕ) → n < 2 ^ 64 → number_of (decimal n) ≡ pos n
 digits_read n l = by (decimal n) (decimal_is_IsNumeral n l).0 (decimal_is_IsNumeral n l).1
   where
     by : (ds : List ℕ) → IsNumeral 10 ds → digits_value 10 ds ≡ n → number_of ds ≡ pos n
-    by [] i v = absurd (let h = i.0 in omega (arith, h))
-    by (b ∷ ds) i v =
-        ap (λ (t : Bool). cond t (neg_ℤ (pos (digits_value 10 ds))) (pos (digits_value 10 (b ∷ ds)))) (digits_have_no 45 (omega arith) (b ∷ ds) i.1).0
-        ∙ ap pos v
+    by ds k l = grind (arith, digits_have_no)
 
 -- so is each small number
 number_read : (z : ℤ) → unsigned_abs z ≤ most_shift → number_of (signed_decimal z) ≡ z
@@ -154,8 +135,7 @@ numbers_read x (y ∷ ys) s =
 
 -- so are those of a list that is not empty
 list_read : (zs : List ℤ) → 1 ≤ length zs → AreAllSmall zs → map number_of (pieces_of (joined_text zs)) ≡ zs
-list_read [] l s = absurd (omega (arith, l))
-list_read (z ∷ zs) l s = numbers_read z zs s
+list_read zs h k = search (arith, numbers_read)
 
 -- the test shows whether all are small
 all_small : (zs : List ℤ) → AreAllSmall zs → list_all is_small zs ≡ true
@@ -170,34 +150,15 @@ small_all (z ∷ zs) h =
     (by (nat_lt most_shift (unsigned_abs z)) refl p.0, small_all zs p.1)
   where
     by : (t : Bool) → nat_lt most_shift (unsigned_abs z) ≡ t → not t ≡ true → unsigned_abs z ≤ most_shift
-    by true e n = absurd (true≢false (sym n))
-    by false e n = ltb-false most_shift (unsigned_abs z) e
+    by t h k = search (arith, true≢false, ltb-false)
 
 -- the numbers of a cell are small, and there are some
 numbers_small : (R : CellView) → IsWritten R → AreAllSmall (cell_numbers R) × (1 ≤ length (cell_numbers R))
-numbers_small R w = by w.dimension
-  where
-    by : (R.dimension ≡ 2) ⊎ (R.dimension ≡ 3) → AreAllSmall (cell_numbers R) × (1 ≤ length (cell_numbers R))
-    by (inl e) =
-        let a = w.small.first in let b = w.small.second in
-        subst (λ (zs : List ℤ). AreAllSmall zs × (1 ≤ length zs)) (sym (numbers_flat R e)) ((a.0, (a.1, (b.0, (b.1, tt)))), omega arith)
-    by (inr e) =
-        let a = w.small.first in let b = w.small.second in let c = w.small.third in
-        rw (numbers_space R e) ((a.0, (a.1, (a.2, (b.0, (b.1, (b.2, (c.0, (c.1, (c.2, tt))))))))), omega arith)
+numbers_small R w = grind (arith, numbers_flat, numbers_space)
 
 -- the cell of the numbers of a cell is the cell
 cell_again : (R : CellView) → IsWritten R → cell_with (cell_numbers R) ≡ R
-cell_again R w = by w.dimension
-  where
-    back : {X : Type 0} {x y : X} → x ≡ y → y ≡ x
-    back e = sym e
-
-    by : (R.dimension ≡ 2) ⊎ (R.dimension ≡ 3) → cell_with (cell_numbers R) ≡ R
-    by (inl e) =
-        ap cell_with (numbers_flat R e)
-        ∙ (λ i. cell_view (back e i) (vector R.rows.first.x R.rows.first.y (back (w.first e) i)) (vector R.rows.second.x R.rows.second.y (back (w.second e) i))
-        (back (w.third e) i))
-    by (inr e) = ap cell_with (numbers_space R e) ∙ (λ i. cell_view (back e i) R.rows.first R.rows.second R.rows.third)
+cell_again R w = grind (arith, numbers_flat, numbers_space)
 
 -- a cell that a word spells passes the test
 spelled_true : (word : List ℕ) (R : CellView) → SpellsCell word R → is_spelled word R ≡ true
@@ -241,18 +202,14 @@ written_with zs h = by (length zs == 4) h
 
 -- a cell that passes the test is spelled
 true_spelled : (word : List ℕ) (zs : List ℤ) → is_spelled word (cell_with zs) ≡ true → SpellsCell word (cell_with zs)
-true_spelled word zs h =
-    let C = cell_with zs in
-    let p = and_parts (bytes_eq word (joined_text (cell_numbers C))) (list_all is_small (cell_numbers C)) h in
-    record { written = written_with zs p.1; text = (bytes_eq-Decides word (joined_text (cell_numbers C))).0 p.0 }
+true_spelled word zs h = grind (arith, and_parts, written_with, bytes_eq-Decides)
 
 -- so what is read is spelled
 pub read_spelled : (word : List ℕ) (R : CellView) → cell_of word ≡ Some R → SpellsCell word R
 read_spelled word R h = by (map number_of (pieces_of word)) (is_spelled word (cell_with (map number_of (pieces_of word)))) refl h
   where
     by : (zs : List ℤ) (t : Bool) → is_spelled word (cell_with zs) ≡ t → cond t (Some (cell_with zs)) None ≡ Some R → SpellsCell word R
-    by zs true e k = subst (SpellsCell word) (ap (λ (o : Option CellView). unwrap_or o R) k) (true_spelled word zs e)
-    by zs false e k = absurd (none-some R k)
+    by zs t h l = grind (arith, true_spelled, none-some)
 
 -- what is the cell that a word spells, and none where it spells none, is what is read
 pub is_read : (word : List ℕ) (o : Option CellView) → IfSome o (SpellsCell word) → (o ≡ None → (R : CellView) → ¬ SpellsCell word R) → o ≡ cell_of word
@@ -291,8 +248,7 @@ sum_flat d b f k h e = flat_sum k.x k.y k.z b.first.z b.second.z b.third.z (f e)
 
 -- a number other than 0 has a size of at least 1
 size_positive : (z : ℤ) → z ≢ pos 0 → 1 ≤ unsigned_abs z
-size_positive (pos zero) h = absurd (h refl)
-size_positive z h = omega arith
+size_positive z k = search arith
 
 -- the index of a cell is positive
 pub index_positive : (d : ℕ) (b : Base) → IsCell d b → 1 ≤ index_of d b
@@ -316,15 +272,11 @@ Filled b d = (w v : Vector) → ((d ≡ 3) → w ≡ b.third) → (i : IsCombina
 
 -- in dimension 2 it counts for nothing, and in dimension 3 it is the third row
 filled : (d : ℕ) (b : Base) → (d ≡ 2) ⊎ (d ≡ 3) → Filled b d
-filled d b (inl e) w v h i = i.sum ∙ any_last b.first b.second b.third w i.k (i.dimension e)
-filled d b (inr e) w v h i = i.sum ∙ ap (λ (u : Vector). base_sum (with_last b u) i.k) (sym (h e))
+filled d b l p q r s = grind (arith, any_last)
 
 -- the last row in dimension 3
 last_is : (R : CellView) → R.dimension ≡ 3 → last_row R ≡ R.rows.third
-last_is R e = by R.dimension e
-  where
-    by : (d : ℕ) → d ≡ 3 → last_row (record { dimension = d; rows = R.rows }) ≡ R.rows.third
-    by d e = subst (λ (n : ℕ). last_row (record { dimension = n; rows = R.rows }) ≡ R.rows.third) (sym e) refl
+last_is R e = cc
 
 module _ (R : CellView) (dim : (R.dimension ≡ 2) ⊎ (R.dimension ≡ 3)) (n : determinant_in R ≢ pos 0) (v : Vector) (i : IsCombination R.dimension R.rows v) where
   -- the products are the determinant times the coefficients

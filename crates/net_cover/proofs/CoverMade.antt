@@ -1,9 +1,9 @@
 -- The edges that all edges give at all remainders, in any order, are those of the cover, also as it is made in memory.
-use Rattle.std.proofs.Common.{◌≡◌, ◌⊎◌, inl, inr, ℕ, zero, suc, ◌+◌, ◌*◌, ◌/◌, ◌%◌, ◌<◌, ◌≤◌, List, [], ◌∷◌, ◌++◌, get_or, refl, sym, ap, subst, ◌∙◌}
-use Rattle.std.proofs.Common.{arith, length-append, ◌≢◌, length, ℤ, pos, negsuc}
+use Rattle.std.proofs.Common.{◌≡◌, ◌⊎◌, inl, inr, ℕ, ◌+◌, ◌*◌, ◌/◌, ◌%◌, ◌<◌, ◌≤◌, List, [], ◌∷◌, ◌++◌, get_or, refl, sym, ap, subst, ◌∙◌}
+use Rattle.std.proofs.Common.{arith, length-append, ◌≢◌, length, ℤ, pos}
 use Rattle.std.proofs.lemmas.Nat.{div-mul-add, mod-mul-add, mul-add-lt, div_below}
 use Rattle.std.proofs.lemmas.List.Sorted.{All-permutation, length_permutation, IsPermutation-sym, IsPermutation-refl}
-use Rattle.std.proofs.{lemmas.Bool.cases_order, lemmas.Int.ints, Math.Decide.dec_lt, Math.Seq.get_or-append_seam, lemmas.List.get_or_append_left}
+use Rattle.std.proofs.{lemmas.Bool.cases_order, Math.Decide.dec_lt, Math.Seq.get_or-append_seam, lemmas.List.get_or_append_left}
 use Rattle.std.proofs.{lemmas.List.get_or_default, lemmas.List.Elements.All-append}
 use Rattle.std.specs.List.{All, AllPairs, Contains}
 use Rattle.std.specs.Prelude.{unsigned_abs, ◌≤ℤ◌, ◌<ℤ◌}
@@ -14,11 +14,11 @@ use Rattle.integers.specs.Bases.{Base, base_sum}
 use Rattle.integers.proofs.{vectors.Bounds.abs_negative, vectors.Laws.opposite_dimension, vectors.Laws.plus_minus, lists.Permutations.permuted_pairs}
 use Rattle.periodic_net.specs.Graph.{Arc, arc, Graph, IsGraph, IsEdge, IsQuotientVertex}
 use Rattle.periodic_net.specs.Limits.{most_shift, most_vertices, IsSmall, most_edges}
-use Rattle.sublattice.specs.Sublattices.{IsSublattice, index_of, IsCombination, determinant}
+use Rattle.sublattice.specs.Sublattices.{IsSublattice, index_of, IsCombination}
 use Rattle.sublattice.specs.Remainders.{HasNumber, remainder_with}
 use Rattle.vecdim.specs.Stairs.{Stairs, size_of, HasStairShape, IsRemainder}
 use Rattle.net_cover.specs.Covers.{edge_at, IsGivenAt, IsNewShift, AreGiven, IsGiven, IsCover, number_in_cover, LeadsTo, IsLift, Spells}
-use Rattle.net_cover.specs.declared.faults.CoverFault.TheVariants.{CellDimension, CellRank, CoverVertices, CoverEdges, CoverShift, NoMemory}
+use Rattle.net_cover.specs.declared.faults.CoverFault.TheVariants.{CoverShift, NoMemory}
 use Rattle.net_cover.specs.Cells.{IsLatticeOfCell, CellView, IsWritten, index_in}
 use Rattle.net_cover.specs.Lifting.{TellsPart, TellsLift, TellsEdge, TellsFirst, CanLift}
 use Rattle.net_cover.specs.Faults.{IsCoverFault, FitsEdges, AreShiftsWithin, LiftsWithin}
@@ -49,8 +49,7 @@ module _ (d : ℕ) (b : Base) (S : Stairs) (es : List Arc) where
   }
     where
       one : All (λ (a : Arc). IsWithin most_shift a.shift) (e ∷ [])
-      one zero f k = small
-      one (suc n) f k = absurd (omega (arith, k))
+      one h l p = grind arith
 
       quotient : count / size_of S ≡ m
       quotient = ap (λ (x : ℕ). x / size_of S) is ∙ div-mul-add m (size_of S) i l
@@ -95,10 +94,7 @@ same_members xs ys p e c = subst (Contains xs) c.2 (All-permutation (Contains xs
 
 -- quotient and remainder determine a number
 told_by_parts : (s t n : ℕ) → 1 ≤ n → s / n ≡ t / n → s % n ≡ t % n → s ≡ t
-told_by_parts s t n h e f =
-    let p : (s / n) * n + s % n ≡ s = omega (arith, h) in
-    let q : (t / n) * n + t % n ≡ t = omega (arith, h) in let r = ap (λ (x : ℕ). x * n) e in
-    omega (arith, p, q, r, f)
+told_by_parts s t n h e f = search arith
 
 module _ (G : Graph) (b : Base) (S : Stairs) (ls fs : List Arc) (g : IsGraph G) (c : IsCell G.dimension b) (h : IsSublattice G.dimension b S)
     (a : AreGiven G.dimension b S G.edges (length G.edges * size_of S) ls) (p : IsPermutation ls fs) where
@@ -152,10 +148,7 @@ module _ (G : Graph) (b : Base) (S : Stairs) (ls fs : List Arc) (g : IsGraph G) 
 
   -- the edges of the graph are determined by their places
   edge_once : (k m : ℕ) → k < length G.edges → m < length G.edges → edge_at G.edges k ≡ edge_at G.edges m → k ≡ m
-  edge_once k m i j e = elim (cases_order k m) [
-    | inl q ↦ q
-    | inr r ↦ elim r [ inl l ↦ absurd (g.different k m (arc 0 0 zero_vector) l j e) | inr l ↦ absurd (g.different m k (arc 0 0 zero_vector) l i (sym e)) ]
-  ]
+  edge_once k m i j e = grind (arith, cases_order)
 
   -- no edge stands twice in the list
   listed_apart : AllPairs (λ e f. e ≢ f) ls
@@ -226,9 +219,7 @@ module _ (G : Graph) (b : Base) (S : Stairs) (ls fs : List Arc) (g : IsGraph G) 
 
 -- a number from 0 to below a small one is small
 part_small : (n : ℕ) (z a : ℤ) → pos 0 ≤ℤ z → z <ℤ a → unsigned_abs a ≤ n → unsigned_abs z ≤ n
-part_small n (pos x) (pos y) h l m = omega (arith, ints, l, m)
-part_small n (pos x) (negsuc y) h l m = absurd (omega (arith, ints, l))
-part_small n (negsuc x) a h l m = absurd (omega (arith, ints, h))
+part_small n z a k p q = search arith
 
 -- a remainder of a lattice with few is small
 pub remainder_small : (n d : ℕ) (S : Stairs) (r : Vector) → HasStairShape d S → size_of S ≤ n → IsRemainder d S r → IsWithin n r
@@ -412,15 +403,11 @@ wide_fault G R S h e f t = absurd t
 
 -- a cell that fits a graph is one
 pub cell_fits : (G : Graph) (R : CellView) → FitsEdges G R → IsWritten R → IsCell G.dimension R.rows
-cell_fits G R f w = record {
-  flat = λ e. (w.first (f.0.0.0 ∙ e), w.second (f.0.0.0 ∙ e));
-  rank = λ e. f.0.0.1 (ap (λ (d : ℕ). determinant d R.rows) f.0.0.0 ∙ e);
-}
+cell_fits G R f w = grind arith
 
 -- the index is no more than the number of vertices
 pub index_few : (n i : ℕ) → 1 ≤ n → n * i ≤ most_vertices → i ≤ most_vertices
-index_few (suc n) i h l = let e : suc n * i ≡ i + n * i = omega arith in omega (arith, e, l)
-index_few zero i h l = absurd (omega (arith, h))
+index_few n i k p = search arith
 
 -- the lattice of a cell that fits a graph
 pub cell_lattice : (G : Graph) (R : CellView) (d : ℕ) (S : Stairs) → IsGraph G → G.dimension ≡ d → FitsEdges G R → IsWritten R → IsSublattice d R.rows S
@@ -435,8 +422,7 @@ cell_lattice G R d S g e f w s = record {
 -- what is given, said of the graph
 pub given_of : (G : Graph) (b : Base) (d : ℕ) (es : List Arc) → G.dimension ≡ d → es ≡ G.edges → (S : Stairs) (index : ℕ) (ls : List Arc)
     → AreGiven d b S es (length es * index) ls → AreGiven G.dimension b S G.edges (length G.edges * index) ls
-given_of G b d es e h S index ls a =
-    subst (λ (n : ℕ). AreGiven n b S G.edges (length G.edges * index) ls) (sym e) (subst (λ (xs : List Arc). AreGiven d b S xs (length xs * index) ls) h a)
+given_of G b d es e h S index ls a = grind arith
 
 -- what reports the first wide part, the same
 pub told_of : (G : Graph) (b : Base) (d : ℕ) (es : List Arc) → G.dimension ≡ d → es ≡ G.edges → (S : Stairs) (f : CoverFault) → TellsFirst d b S es f

@@ -1,6 +1,5 @@
 -- The arcs of a cover are the lifts of the arcs of the graph, and its net is the net of the graph.
-use Rattle.std.proofs.Common.{◌≡◌, ℕ, zero, suc, ◌+◌, ◌-◌, ◌*◌, ◌/◌, ◌%◌, ◌<◌, ◌≤◌, ◌∙◌, arith, inl, inr, ℤ, ◌+ℤ◌, ◌*ℤ◌, neg_ℤ, refl, sym, ap, subst, ◌⊎◌}
-use Rattle.std.proofs.Common.{◌-ℤ◌, pos, length}
+use Rattle.std.proofs.Common.{◌≡◌, ℕ, ◌+◌, ◌-◌, ◌*◌, ◌/◌, ◌%◌, ◌<◌, ◌≤◌, ◌∙◌, arith, inl, inr, ℤ, ◌+ℤ◌, ◌*ℤ◌, neg_ℤ, refl, sym, ap, subst, ◌⊎◌, ◌-ℤ◌, pos}
 use Rattle.std.{proofs.lemmas.Nat.mul-add-lt, proofs.lemmas.Nat.div_below, specs.List.Contains}
 use Rattle.integers.proofs.vectors.Laws.{vector_equal, opposite_dimension, plus_cancel, minus_dimension, minus_itself, plus_minus, plus_dimension}
 use Rattle.integers.proofs.vectors.Laws.{plus_associative, one_times, base_sum_zero, base_sum_minus, base_sum_plus}
@@ -28,14 +27,11 @@ number_once n u v i j a b k l e =
 
 -- numbers go from 1 to the number of pairs
 pub number_inside : (n m u i : ℕ) → 1 ≤ u → u ≤ m → i < n → (1 ≤ number_in_cover n u i) × (number_in_cover n u i ≤ m * n)
-number_inside n m u i a b l =
-    let p = mul-add-lt (u - 1) n i m (omega (arith, a, b)) l in let q : n * m ≡ m * n = omega arith in
-    (omega arith, omega (arith, p, q))
+number_inside n m u i a b l = grind (arith, mul-add-lt)
 
 -- what is below a product shows that its second factor is not 0
 factor : (m n x : ℕ) → 1 ≤ x → x ≤ m * n → 1 ≤ n
-factor m zero x a b = absurd (omega (arith, a, b))
-factor m (suc n) x a b = omega arith
+factor m n x h k = search arith
 
 -- each of them is the number of a pair
 pub number_found : (n m x : ℕ) → 1 ≤ x → x ≤ m * n → (u : ℕ) × (i : ℕ) × (1 ≤ u) × (u ≤ m) × (i < n) × (number_in_cover n u i ≡ x)
@@ -357,9 +353,7 @@ module _ (G : Graph) (b : Base) (C : Graph) (g : IsGraph G) (c : IsCell G.dimens
 
   -- and the cover has the index times as many vertices and edges
   cover_size : HasCoverSize G b C
-  cover_size =
-      let e = h.is_lattice.size in
-      record { vertices = h.vertices ∙ ap (λ (m : ℕ). G.vertices * m) e; edges = h.count ∙ ap (λ (m : ℕ). length G.edges * m) e }
+  cover_size = grind arith
 
 -- as the theorem says it
 pub covers_are_isomorphic : CoversAreIsomorphic

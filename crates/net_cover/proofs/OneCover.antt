@@ -1,5 +1,5 @@
 -- The fault of a cell is one, there is none where the graph has a cover within the limits, and the cover is one.
-use Rattle.std.proofs.Common.{◌≡◌, ◌⊎◌, inl, inr, ℕ, ◌*◌, List, sym, ap, subst, ◌∙◌, ◌≢◌, zero, suc, ◌<◌, ◌≤◌, ℤ, refl, arith}
+use Rattle.std.proofs.Common.{◌≡◌, ◌⊎◌, inl, inr, ℕ, ◌*◌, List, sym, ap, subst, ◌∙◌, ◌≢◌, ◌<◌, ◌≤◌, ℤ, refl, arith}
 use Rattle.std.{proofs.lemmas.Bool.cases_order, specs.Prelude.slice_index_or, specs.Prelude.unsigned_abs, specs.List.Contains}
 use Rattle.integers.specs.Vectors.{Vector, zero_vector, up_vector, IsWithin, IsBelow}
 use Rattle.integers.{specs.Bases.Base, specs.Staircase.part, proofs.vectors.StairBasis.one_staircase, proofs.lists.Permutations.rising_from_pairs}
@@ -21,8 +21,7 @@ use Rattle.quotient_graph.specs.Order.{arc_numbers}
 
 -- the last pivot, read from the rows; in dimension 2 they have no third, and it is 1
 last_pivot : (d : ℕ) (S : Stairs) → (d ≡ 2) ⊎ (d ≡ 3) → HasStairShape d S → (slice_index_or (rows_of d S) 2 up_vector).z ≡ S.i
-last_pivot d S (inl e) h = ap (λ (n : ℕ). (slice_index_or (rows_of n S) 2 up_vector).z) e ∙ sym (h.flat e).i
-last_pivot d S (inr e) h = ap (λ (n : ℕ). (slice_index_or (rows_of n S) 2 up_vector).z) e
+last_pivot d S k l = search arith
 
 -- the staircase of the lattice of rows is one
 pub one_lattice : (d : ℕ) (b : Base) (S R : Stairs) → (d ≡ 2) ⊎ (d ≡ 3) → IsSublattice d b S → IsSublattice d b R → S ≡ R
@@ -51,29 +50,19 @@ module _ (G H K : Graph) (b : Base) (h : IsCover G b H) (k : IsCover G b K) wher
 
 -- a part of a vector within a limit is within it
 part_within : (n : ℕ) (k : Vector) (j : ℕ) → j < 3 → IsWithin n k → unsigned_abs (part j k) ≤ n
-part_within n k zero l h = h.0
-part_within n k (suc zero) l h = h.1
-part_within n k (suc (suc zero)) l h = h.2
-part_within n k (suc (suc (suc j))) l h = absurd (omega (arith, l))
+part_within n k j p q = search arith
 
 -- a vector with a wide part is not within the limit of a shift
 not_within : (k : Vector) (j : ℕ) (x : ℤ) → IsWidePart k j x → ¬ IsWithin most_shift k
-not_within k j x p h =
-    let small = subst (λ (y : ℤ). unsigned_abs y ≤ most_shift) p.value (part_within most_shift k j p.place h) in
-    let wide = p.wide in omega (arith, small, wide)
+not_within k j x p h = grind (arith, part_within)
 
 -- a part before a wide one, which is the first, is not wide
 no_earlier : (k : Vector) (i j : ℕ) (x y : ℤ) → IsWidePart k i x → IsWidePart k j y → ¬ (i < j)
-no_earlier k i j x y p q l =
-    let small = subst (λ (z : ℤ). unsigned_abs z ≤ most_shift) p.value (q.before i l) in let wide = p.wide in
-    omega (arith, small, wide)
+no_earlier k i j x y p q l = search arith
 
 -- the first wide part of a vector is one
 one_part : (k : Vector) (i j : ℕ) (x y : ℤ) → IsWidePart k i x → IsWidePart k j y → x ≡ y
-one_part k i j x y p q = elim (cases_order i j) [
-  | inl e ↦ sym p.value ∙ ap (λ (n : ℕ). part n k) e ∙ q.value
-  | inr o ↦ elim o [ inl l ↦ absurd (no_earlier k i j x y p q l) | inr l ↦ absurd (no_earlier k j i y x q p l) ]
-]
+one_part k i j x y p q = grind (arith, cases_order, no_earlier)
 
 module _ (d : ℕ) (b : Base) (es : List Arc) (dim : (d ≡ 2) ⊎ (d ≡ 3)) (c : IsCell d b) where
   -- the lifts before that of the edge at m at remainder i have narrow shifts

@@ -1,18 +1,18 @@
 -- The keys that are reported decide whether nets are isomorphic. A block whose graph is certain is accepted.
-use Rattle.std.proofs.Common.{◌≡◌, sym, ap, subst, ℕ, suc, ◌+◌, zero, ◌<◌, ℤ, List, [], ◌∷◌, length, Some, arith, ◌≢◌, ◌∙◌, Bool, true, false, refl}
+use Rattle.std.proofs.Common.{◌≡◌, sym, ap, subst, ℕ, suc, ◌+◌, zero, ◌<◌, ℤ, List, [], ◌∷◌, length, Some, arith, ◌≢◌, ◌∙◌, true, false}
 use Rattle.std.proofs.lemmas.List.Elements.{All-contains, All-head, All-tail}
 use Rattle.std.specs.Prelude.{◌↔◌, is_some, slice_index_or, unwrap_or}
 use Rattle.std.{proofs.lemmas.Bool.true≢false, specs.List.All}
 use Rattle.periodic_net.{specs.Graph.Graph, specs.Graph.IsGraph, specs.Maps.Iso, proofs.CallerLemmas.iso_symmetric, proofs.CallerLemmas.iso_transitive}
 use Rattle.key_theory.{specs.Key.IsKeyOf, proofs.CallerLemmas.keys_decide}
-use Rattle.cgd_read.specs.Views.{RawView, BodyView, Net, BlockView, raw_view, body_view, views}
-use Rattle.cgd_read.specs.{Graphs.graph_of, Blocks.IsReadBody, declared.block.Block.Block, declared.block.Body.Body}
+use Rattle.cgd_read.specs.Views.{RawView, BodyView, Net, BlockView, body_view, views, raw_view}
+use Rattle.cgd_read.specs.{Graphs.graph_of, Blocks.IsReadBody, declared.block.Block.Block, declared.block.Body.Body, Graphs.IsReadGraph}
 use Rattle.quotient_graph.{specs.Stars.IsInOrder, proofs.CallerLemmas.in_order_iso}
 use Rattle.least_key.proofs.CallerLemmas.{key_of_graph, nets_decide, certain_is_not_refused}
 use Rattle.least_key.specs.{AnyNets.net_view, Certain.IsCertain, KeyedNets.KeyedNet, KeyedNets.IsKeyed}
 use Rattle.archive_text.specs.Entries.{EntryView}
 use Rattle.net_archive.{specs.Archives.IsEntry, proofs.CallerLemmas.keys_decide_archive}
-use Rattle.net_report.specs.declared.outcome.OutcomeBody.TheVariants.{Keyed, Identified, Refused, Checked, Located, Lines}
+use Rattle.net_report.specs.declared.outcome.OutcomeBody.TheVariants.{Keyed, Identified}
 use Rattle.net_report.specs.declared.command.Command.TheVariants.{Key, Identify, Components}
 use Rattle.net_report.specs.declared.{outcome.Outcome.Outcome, command.Command.Command, outcome.OutcomeBody.OutcomeBody}
 use Rattle.net_outcomes.specs.Deciding.{HasKeyAt, IsBlockAt, KeysDecideBlocks, KeysDecideEntries, key_told, AreOutcomes}
@@ -122,13 +122,7 @@ certain_not_refused command raw size names refusal g h certain =
 accepted_told : (entries : List EntryView) (command : Command) (raw : RawView) (told : OutcomeBody) → IsGraph (graph_of raw)
     → IsBodyOf entries command (Net raw) told → command ≢ Components
     → ((G : Graph) → IsInOrder (graph_of raw) G → IsCertain G) → is_accepted_body told ≡ true
-accepted_told entries command raw (Refused size names refusal) g h other certain = absurd (certain_not_refused command raw size names refusal g h certain)
-accepted_told entries command raw (Checked size) g h other certain = refl
-accepted_told entries command raw (Located size names placed) g h other certain = refl
-accepted_told entries command raw (Keyed size net) g h other certain = refl
-accepted_told entries command raw (Identified size vertices net shells names) g h other certain = refl
-accepted_told entries Components raw (Lines size lines) g h other certain = absurd (other refl)
-accepted_told entries command raw told g h other certain = absurd h
+accepted_told entries command raw told k l p q = grind (arith, certain_not_refused)
 
 -- each block that is a net is a graph
 abbrev pub AreGraphs : List BlockView → Type 0
@@ -149,25 +143,15 @@ outcomes_decide entries command blocks outcomes h good graphs = record {
       (told_at entries command blocks outcomes h i block outcome raw at is) other certain;
 }
 
--- the net of a body, or this one where it is none
-abbrev raw_or : RawView → BodyView → RawView
-raw_or r (Net raw) = raw
-raw_or r x = r
-
--- whether a body is a net
-abbrev is_net : BodyView → Bool
-is_net (Net raw) = true
-is_net x = false
-
 -- what is read of a block that is a net is a graph
-read_graph : (body : Body) (raw : RawView) → IsReadBody body → body_view body ≡ Net raw → IsGraph (graph_of raw)
-read_graph (read.Graph own) raw h e = subst (λ (r : RawView). IsGraph (graph_of r)) (ap (raw_or (raw_view own)) e) h.is_graph
-read_graph body raw h e = absurd (true≢false (sym (ap is_net e)))
+pub read_graph : (body : Body) (raw : RawView) → IsReadBody body → body_view body ≡ Net raw → IsReadGraph raw
+read_graph (read.Graph own) raw h e = let same : raw_view own ≡ raw = cc in subst IsReadGraph same h
+read_graph body raw h e = absurd (cc)
 
 -- so are all blocks that were read
 pub graphs_read : (found : List Block) → All (λ (b : Block). IsReadBody b.body) found → AreGraphs (views found)
 graphs_read [] h i block raw l at is = absurd (omega (arith, l))
 graphs_read (b ∷ found) h zero block raw l at is =
-    read_graph b.body raw (All-head (λ (b : Block). IsReadBody b.body) b found h) (ap (λ (x : BlockView). x.body) at ∙ is)
+    (read_graph b.body raw (All-head (λ (b : Block). IsReadBody b.body) b found h) (ap (λ (x : BlockView). x.body) at ∙ is)).is_graph
 graphs_read (b ∷ found) h (suc i) block raw l at is = graphs_read found (All-tail (λ (b : Block). IsReadBody b.body) b found h) i block raw
     (omega (arith, l)) at is

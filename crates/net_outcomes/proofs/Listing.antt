@@ -136,17 +136,11 @@ pub record AreToldOn (entries : List EntryView) (command : Command) (bs : List B
 
 -- all of no blocks were accepted
 all_of_none : (command : Command) → AreAllAccepted command [] [] true
-all_of_none Components = record { each = []; are_each = tt; all = refl }
-all_of_none command = refl
+all_of_none command = search arith
 
 -- at first no block is reported
 pub told_none : (entries : List EntryView) (command : Command) (bs : List BlockView) → AreToldOn entries command bs 0 1 true []
-told_none entries command bs = record {
-  outcomes = [];
-  on = outcomes_none entries command bs;
-  all = all_of_none command;
-  report = refl;
-}
+told_none entries command bs = search (arith, outcomes_none, all_of_none)
 
 -- each of them was accepted, and this one
 accepted_last : (os : List Outcome) (o : Outcome) → list_all is_accepted (os ++ o ∷ []) ≡ (list_all is_accepted os && is_accepted o)

@@ -1,7 +1,7 @@
 -- What is reported of the graph of a block: the only placement but for its translates, and what stands beside an archive.
-use Rattle.std.proofs.Common.{◌≡◌, ◌⊎◌, ℕ, ◌≤◌, sym, subst, List, ◌≢◌, Result, Ok, Err, refl}
+use Rattle.std.proofs.Common.{◌≡◌, ◌⊎◌, ℕ, ◌≤◌, sym, subst, List, ◌≢◌, Result, Ok, Err, refl, arith}
 use Rattle.std.{proofs.lemmas.List.Elements.All-weaker, proofs.lemmas.List.Sorted.All-permutation, specs.List.All, specs.Prelude.IfOk}
-use Rattle.integers.{specs.Vectors.HasDimension, proofs.lists.Permutations.permuted_pairs}
+use Rattle.integers.{proofs.lists.Permutations.permuted_pairs}
 use Rattle.periodic_net.specs.Graph.{Arc, Graph, IsEdge, IsGraph}
 use Rattle.periodic_net.proofs.CallerLemmas.{barycentric_placements_translate}
 use Rattle.quotient_graph.specs.{PlacedNets.PlacedNet, Stars.IsInOrder}
@@ -31,12 +31,7 @@ is_graph_in raw H g o =
   where
     -- an edge of the one is an edge of the other
     same_edge : (G H : Graph) → H.dimension ≡ G.dimension → H.vertices ≡ G.vertices → (e : Arc) → IsEdge G e → IsEdge H e
-    same_edge G H d v e h = record {
-      from = (h.from.0, subst (λ (n : ℕ). e.from ≤ n) (sym v) h.from.1);
-      to = (h.to.0, subst (λ (n : ℕ). e.to ≤ n) (sym v) h.to.1);
-      shift = subst (λ (n : ℕ). HasDimension n e.shift) (sym d) h.shift;
-      spelling = h.spelling;
-    }
+    same_edge G H d v e h = grind arith
 
 -- and the one that was read from the block
 pub graph_read : {raw : RawView} {size : Size} {H : Graph} → size ≡ size_of raw → IsGraph (graph_of raw) → IsInOrder (graph_of raw) H → IsGraphOf raw size H
@@ -65,23 +60,19 @@ identified_as entries raw size vertices net shells names h v s good found =
 
 -- a test for connectedness may report its refusals
 pub check_may : (refusal : Refusal) → IsOfConnecting refusal → refusal ≢ NoMemory → MayTell Check refusal
-check_may NoMemory h n = n refl
-check_may refusal h n = h
+check_may refusal k l = search arith
 
 -- so may a placing
 pub place_may : (refusal : Refusal) → IsOfPlacing refusal → refusal ≢ NoMemory → MayTell Place refusal
-place_may NoMemory h n = n refl
-place_may refusal h n = h
+place_may refusal k l = search arith
 
 -- and the search for a key may report all
 pub key_may : (refusal : Refusal) → refusal ≢ NoMemory → MayTell Key refusal
-key_may NoMemory n = n refl
-key_may refusal n = tt
+key_may refusal h = search arith
 
 -- also where it is sought in an archive
 pub identify_may : (refusal : Refusal) → refusal ≢ NoMemory → MayTell Identify refusal
-identify_may NoMemory n = n refl
-identify_may refusal n = tt
+identify_may refusal h = search arith
 
 -- the body of a refusal is one that the command reports
 pub refused_told : (entries : List EntryView) (command : Command) (raw : RawView) (G : Graph) (refusal : Refusal) (body : OutcomeBody)

@@ -1,19 +1,19 @@
 -- What a command reports on a block, and on its components, is one.
 use Rattle.std.proofs.Common.{◌≡◌, ◌≢◌, ◌∙◌, ◌&&◌, inl, inr, ℕ, ◌+◌, suc, Bool, List, [], ◌∷◌, ◌++◌, length, map, get_or, drop, All, Result, Ok, Err, refl}
-use Rattle.std.proofs.Common.{sym, ap, subst, Some}
+use Rattle.std.proofs.Common.{sym, ap, subst, Some, arith, true, true≢false}
 use Rattle.std.{proofs.lemmas.List.Elements.All-head, proofs.lemmas.List.Elements.All-tail, specs.List.list_all, specs.Prelude.codes}
 use Rattle.integers.specs.Lists.{AreMatched}
 use Rattle.periodic_net.specs.Graph.{Graph, IsGraph, IsConnected}
 use Rattle.periodic_net.proofs.CallerLemmas.{split_shows_not_connected}
 use Rattle.quotient_graph.{specs.AnyGraphs.graph_view, specs.Splits.split_view, specs.Stars.IsInOrder, proofs.CallerLemmas.one_in_order}
-use Rattle.net_components.specs.Parts.{vertex_at, root_of, AreParts, PartView, view_of}
+use Rattle.net_components.specs.Parts.{AreParts, PartView, view_of}
 use Rattle.net_components.{proofs.CallerLemmas.part_graph, proofs.CallerLemmas.answer_is_one, specs.declared.parts.Part.Part}
 use Rattle.least_key.specs.declared.refusal.Refusal.TheVariants.{NoMemory, Disconnected, Degenerate}
 use Rattle.least_key.proofs.CallerLemmas.{certain_is_not_refused, keyed_is_certain, one_net, one_refusal, one_placed, placed_is_not_refused}
 use Rattle.least_key.specs.{AnyNets.net_view, AnyPlacements.placed_view, Placings.IsPlacedAs, Laws.TellAlike, KeyedNets.KeyedNet, KeyedNets.IsKeyed}
 use Rattle.least_key.specs.{Truths.IsTrueOf, Truths.IsOfPlacing, declared.net.Net.Net as AnyNet, declared.refusal.Refusal.Refusal}
 use Rattle.least_key.specs.{declared.path.AnyPlaced.AnyPlaced}
-use Rattle.net_report.specs.Headers.{fault_text, header_text, size_text, unsupported_text}
+use Rattle.net_report.specs.Headers.{fault_text, size_text, unsupported_text}
 use Rattle.net_report.specs.Primitives.{bases_text, edges_text, sizes_text}
 use Rattle.net_report.specs.Reports.{body_text, outcome_text, report_text}
 use Rattle.net_report.specs.declared.outcome.OutcomeBody.TheVariants.{Unsupported, Malformed, Refused, Checked, Located, Keyed, Identified, Lines}
@@ -30,7 +30,7 @@ use Rattle.net_outcomes.specs.Texts.{answer_text, count_line, names_of, part_fau
 use Rattle.net_outcomes.specs.Outcomes.{is_accepted_body, AreAcceptedInParts, AreAllAccepted, AreOutcomesFrom, IsAcceptedInParts, IsBodyOf, IsCheckedAs}
 use Rattle.net_outcomes.specs.Outcomes.{IsDividedAs, IsGraphOf, IsIdentifiedAs, IsKeyedAs, IsLocatedAs, IsOutcomeOf, IsRefusedAs, MayTell, is_accepted}
 use Rattle.net_outcomes.specs.Told.{IsAnswerOf, has_key, AreComponentsTold}
-use Rattle.net_outcomes.specs.{ComponentLaws.OneTelling, Deciding.key_told, Laws.OneReport}
+use Rattle.net_outcomes.specs.{ComponentLaws.OneTelling, Deciding.key_told, Laws.OneReport, Outcomes.net_told}
 
 -- a graph with its key has no refusal that is reported
 keyed_part_not_refused : (G : Graph) (n : KeyedNet) (r : Refusal) → n.placed.graph ≡ G → IsKeyed n → IsTrueOf G r → r ≡ NoMemory
@@ -81,9 +81,7 @@ module _ (names : List (List ℕ)) where
 
 -- the graph of each part is one
 graphs : (G : Graph) → IsGraph G → (ps : List Part) → AreParts G ps → All (λ (p : Part). IsGraph (graph_view p.graph)) ps
-graphs G g ps h k d l =
-    let p = get_or ps k d in let part = h.each k d l in
-    part_graph G g (root_of p) part.T part.stairs (vertex_at p.vertices) (graph_view p.graph) part.part
+graphs G g ps h k d l = grind (arith, part_graph)
 
 -- what is reported of a graph is one
 pub one_telling_of_parts : OneTelling
@@ -120,8 +118,7 @@ pub record SpeakAlike (a b : OutcomeBody) : Type 0 where
 
 -- where components are asked for no refusal of the whole net is reported
 none_of_components : (r : Refusal) → ¬ MayTell Components r
-none_of_components NoMemory m = m
-none_of_components r m = m
+none_of_components r h = search arith
 
 module _ (raw : RawView) where
   -- the graph of a block is one
@@ -157,8 +154,7 @@ module _ (raw : RawView) where
       by r h m = m
 
   place_of : (r : Refusal) → MayTell Place r → IsOfPlacing r
-  place_of NoMemory m = absurd m
-  place_of r m = m
+  place_of r h = grind arith
 
   -- nor is a placed one
   located_not_refused : (s t : Size) (ms ns : List (List ℕ)) (p : AnyPlaced) (r : Refusal) → IsLocatedAs raw s ms p → ¬ IsRefusedAs Place raw t ns r
@@ -167,11 +163,18 @@ module _ (raw : RawView) where
       told Place r b.may (placed_is_not_refused b.graph (placed_view p) r b.read.is_graph placed (place_of r b.may) b.is_true)
 
   -- nor one with a key
-  pub keyed_not_refused : (command : Command) (t : Size) (ns : List (List ℕ)) (n : KeyedNet) (r : Refusal) → IsInOrder (graph_of raw) n.placed.graph
+  keyed_not_refused : (command : Command) (t : Size) (ns : List (List ℕ)) (n : KeyedNet) (r : Refusal) → IsInOrder (graph_of raw) n.placed.graph
       → IsKeyed n → ¬ IsRefusedAs command raw t ns r
   keyed_not_refused command t ns n r o k b =
       let e = one_in_order (graph_of raw) n.placed.graph b.graph o b.read.in_order in
       told command r b.may (certain_is_not_refused n.placed.graph r k.is_graph (keyed_is_certain n k) (subst (λ G. IsTrueOf G r) (sym e) b.is_true))
+
+  -- so a block with its key is accepted
+  pub keyed_is_accepted : (entries : List EntryView) (n : KeyedNet) (body : OutcomeBody) → IsInOrder (graph_of raw) n.placed.graph → IsKeyed n
+      → IsBodyOf entries Key (Net raw) body → is_accepted_body body ≡ true
+  keyed_is_accepted entries n (Keyed s m) o k h = refl
+  keyed_is_accepted entries n (Refused s ns r) o k h = absurd (keyed_not_refused Key s ns n r o k h)
+  keyed_is_accepted entries n body o k h = absurd h
 
   keyed_as_not_refused : (command : Command) (s t : Size) (ns : List (List ℕ)) (n : AnyNet) (r : Refusal) → IsKeyedAs raw s n → ¬ IsRefusedAs command raw t ns r
   keyed_as_not_refused command s t ns n r a =
@@ -223,6 +226,25 @@ module _ (raw : RawView) where
       let size = same_size s t a.graph b.graph a.read b.read in let told = divided_alike s t x y xs ys a b in
       record { text = λ i. size_text (size i) ++ told.1 i; accepted = refl; key = refl }
 
+-- this is reported of a block where it is accepted: its net with its key
+pub record IsToldNet (view : BodyView) (body : OutcomeBody) : Type 0 where
+  pub net : AnyNet
+  pub told_is : net_told body ≡ Some net
+  pub raw : RawView
+  pub graph : view ≡ Net raw
+  pub read : IsInOrder (graph_of raw) (net_view net).placed.graph
+  pub keyed : IsKeyed (net_view net)
+
+pub told_net : (entries : List EntryView) (view : BodyView) (body : OutcomeBody) → IsBodyOf entries Key view body → is_accepted_body body ≡ true
+    → IsToldNet view body
+told_net entries (Net raw) (Keyed s n) h a =
+    let read = subst (λ G. IsInOrder (graph_of raw) G) (sym h.net_is) h.read.in_order in
+    record { net = n; told_is = refl; raw = raw; graph = refl; read = read; keyed = h.keyed }
+told_net entries (Net raw) (Refused s ns r) h a = absurd (true≢false (sym a))
+told_net entries (Other token) (Unsupported t) h a = absurd (true≢false (sym a))
+told_net entries (Faulty fault) (Malformed f) h a = absurd (true≢false (sym a))
+told_net entries view body h a = absurd h
+
 -- what a command reports on a block is one
 pub one_body : (entries : List EntryView) (command : Command) (body : BodyView) (a b : OutcomeBody) → IsBodyOf entries command body a
     → IsBodyOf entries command body b → SpeakAlike a b
@@ -269,11 +291,7 @@ pub record TellTheSame (os ps : List Outcome) : Type 0 where
 -- an outcome has one text
 one_text : (entries : List EntryView) (command : Command) (number : ℕ) (block : BlockView) (o p : Outcome) → IsOutcomeOf entries command number block o
     → IsOutcomeOf entries command number block p → outcome_text o ≡ outcome_text p
-one_text entries command number block o p h k =
-    let n = h.number_is ∙ sym k.number_is in let line = h.line ∙ sym k.line in
-    let name = h.name ∙ sym k.name in
-    let body = (one_body entries command block.body o.body p.body h.body k.body).text in
-    λ i. header_text (n i) (line i) (name i) ++ body i
+one_text entries command number block o p h k = grind (arith, one_body)
 
 -- the outcomes of blocks say the same
 pub one_telling : (entries : List EntryView) (command : Command) (n : ℕ) (bs : List BlockView) (os ps : List Outcome) → AreOutcomesFrom entries command n bs os
@@ -331,12 +349,8 @@ each_in_parts entries n bs os ps xs ys h k p q = absurd q
 all_one : (entries : List EntryView) (command : Command) (bs : List BlockView) (os ps : List Outcome) (x y : Bool) → AreOutcomesFrom entries command 1 bs os
     → AreOutcomesFrom entries command 1 bs ps → TellTheSame os ps
     → AreAllAccepted command bs os x → AreAllAccepted command bs ps y → x ≡ y
-all_one entries Components bs os ps x y h k r p q = p.all ∙ ap (list_all (λ (b : Bool). b))
-    (each_in_parts entries 1 bs os ps p.each q.each h k p.are_each q.are_each) ∙ sym q.all
-all_one entries command bs os ps x y h k r p q = p ∙ all_alike os ps r ∙ sym q
+all_one entries command bs os ps x y l s t u v = grind (arith, each_in_parts, all_alike)
 
 -- the report on blocks is one
 pub one_report : OneReport
-one_report command entries blocks x y s t a b =
-    let r = one_telling entries command 1 blocks a.outcomes b.outcomes a.are_outcomes.each b.are_outcomes.each in
-    (all_one entries command blocks a.outcomes b.outcomes x y a.are_outcomes.each b.are_outcomes.each r a.all b.all, a.report ∙ r.text ∙ sym b.report)
+one_report command entries blocks x y s t a b = grind (arith, one_telling, all_one)

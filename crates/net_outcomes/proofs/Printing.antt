@@ -16,7 +16,7 @@ use Rattle.net_report.specs.{Numbers.IsNamed, Reports.IsPrintableBody, Refusals.
 use Rattle.net_report.specs.{declared.command.Command.Command, declared.command.Command.TheVariants.Place, declared.command.Command.TheVariants.Identify}
 use Rattle.barycentre.specs.declared.faults.WideSite.TheVariants.{Denominator, ArcPart, Beyond}
 use Rattle.barycentre.specs.{PlaceFaults.IsWideOf, WidePlacements.IsWideAt, declared.faults.WidePlacement.WidePlacement, declared.faults.WideSite.WideSite}
-use Rattle.least_key.specs.declared.refusal.Refusal.TheVariants.{NoMemory, WidePlacement as WideAt, Collision}
+use Rattle.least_key.specs.declared.refusal.Refusal.TheVariants.{NoMemory}
 use Rattle.least_key.specs.{Truths.IsTrueOf, declared.refusal.Refusal.Refusal}
 use Rattle.cgd_read.specs.Views.{RawView, BodyView, Net, Other, Faulty}
 use Rattle.cgd_read.specs.Graphs.{graph_of}
@@ -88,10 +88,7 @@ module _ (names : List (List ℕ)) (G : Graph) (g : IsGraph G) (count : length n
 
   -- so the refusal has a line
   pub refusal_line : (refusal : Refusal) → IsTrueOf G refusal → refusal ≢ NoMemory → HasLine names refusal
-  refusal_line (WideAt w) h n = named_wide w w.site refl h.1
-  refusal_line (Collision dim u v t) h n = let c = h.first.collision in (named_vertex u c.here, named_vertex v c.there.over)
-  refusal_line NoMemory h n = absurd (n refl)
-  refusal_line refusal h n = tt
+  refusal_line refusal k l = grind (arith, named_wide, named_vertex)
 
 -- a true refusal that may be reported has a line with the names of the block
 line_of : (command : Command) (raw : RawView) (H : Graph) (refusal : Refusal) → IsGraph H → IsInOrder (graph_of raw) H

@@ -1,12 +1,12 @@
 -- How a run ends: without a text, with room for each text, and within the limits.
-use Rattle.std.proofs.Common.{◌≡◌, ℕ, List, [], ◌∷◌, ◌++◌, Option, None, Some, refl, ap, ◌≤◌, length, arith, inl, inr, ◌<◌, unwrap_or, sym, subst}
+use Rattle.std.proofs.Common.{◌≡◌, ℕ, List, [], ◌∷◌, ◌++◌, Option, None, Some, refl, ap, arith, unwrap_or, subst}
 use Rattle.std.specs.Io.KnownBytes.{Appends}
-use Rattle.outside.specs.Held.{Holds, Are, HasMore}
+use Rattle.outside.specs.Held.{Holds}
 use Rattle.command_words.specs.Tasks.{task_of, Task, archive_named, file_named}
 use Rattle.net_tool.specs.Completeness.{HasRoom, AreWithin, AreFilesWithin, bytes_of_name}
 use Rattle.net_tool.specs.Run.{IsBroken, AreBytesOf, HasManyBytes, IsAnswer, IsAnswered, IsDue, IsDueOver, IsTooLarge}
-use Rattle.net_answers.{specs.Bytes.AreFitting, specs.Bytes.most_bytes, specs.Due.IsDueOn, specs.Endings.IsComplete, proofs.CallerLemmas.few_endings}
-use Rattle.net_report.specs.declared.status.Status.TheVariants.{ReadFault, WriteFault, TooLarge, NoMemory}
+use Rattle.net_answers.{specs.Bytes.AreFitting, specs.Due.IsDueOn, specs.Endings.IsComplete, proofs.CallerLemmas.few_endings}
+use Rattle.net_report.specs.declared.status.Status.TheVariants.{TooLarge}
 use Rattle.net_report.specs.declared.status.Status.{Status}
 
 -- nothing after a list
@@ -16,37 +16,28 @@ nothing_after (x ∷ xs) = ap (λ (ys : List ℕ). x ∷ ys) (nothing_after xs)
 
 -- what was written stays
 pub appends_nothing : (written : Option (List ℕ)) → Appends written written []
-appends_nothing None = tt
-appends_nothing (Some xs) = nothing_after xs
+appends_nothing written = search (arith, nothing_after)
 
 -- Where there is room for each text that is due, nothing breaks off.
 
 -- a text that broke off was longer than the sink was sure to take
 pub no_break : (words : List (List ℕ)) (holds : Holds) (before after : Option (List ℕ)) (sure : ℕ) → IsBroken words holds before after sure
     → HasRoom (task_of words) holds sure → ⊥
-no_break words holds before after sure broken room =
-    let fits : length broken.1 ≤ sure = room broken.0 broken.1 broken.4 in
-    omega (arith, fits, broken.6)
+no_break words holds before after sure broken room = search arith
 
 -- A run that is within the limits ends in few ways.
 
 -- the bytes that are read are those that are held
 read_bytes : (name : Option (List ℕ)) (holds : Holds) (of : List ℕ → List ℕ) → holds ≡ Some of → (bytes : Option (List ℕ)) → AreBytesOf name holds bytes
     → bytes ≡ bytes_of_name of name
-read_bytes None holds of e bytes h = h
-read_bytes (Some name) holds of e None h = absurd h
-read_bytes (Some name) holds of e (Some bytes) h = ap (λ b. Some b) (sym (subst (λ o. Are o name bytes) e h.0))
+read_bytes name holds of k bytes l = search arith
 
 -- a file that fits is not too large
 not_many : (name : Option (List ℕ)) (holds : Holds) (of : List ℕ → List ℕ) → holds ≡ Some of → AreFitting (bytes_of_name of name) → HasManyBytes name holds → ⊥
-not_many None holds of e fits h = h
-not_many (Some name) holds of e fits h =
-    let more : most_bytes < length (of name) = subst (λ o. HasMore o name most_bytes) e h in
-    omega (arith, more, fits)
+not_many name holds of k l p = search arith
 
 not_too_large : (task : Task) (holds : Holds) → AreFilesWithin task holds → IsTooLarge task holds → ⊥
-not_too_large task holds within (inl many) = not_many (file_named task) holds within.of within.told within.bytes.file_fits many
-not_too_large task holds within (inr many) = not_many (archive_named task) holds within.of within.told within.bytes.archive_fits many.1
+not_too_large task holds h k = grind (arith, not_many)
 
 -- what is due to the bytes that are held
 over : (task : Task) (holds : Holds) (status : Status) (text : List ℕ) → IsDueOver task holds status text → AreFilesWithin task holds
@@ -69,9 +60,4 @@ completed (Some task) holds status text due within = over task holds status text
 pub complete_of : (words : List (List ℕ)) (holds : Holds) (before after : Option (List ℕ)) (status : Status)
     → (IsAnswered status → IsAnswer words holds before after status)
     → AreWithin (task_of words) holds → IsComplete (task_of words) status
-complete_of words holds before after ReadFault answer within = tt
-complete_of words holds before after WriteFault answer within = tt
-complete_of words holds before after NoMemory answer within = tt
-complete_of words holds before after status answer within =
-    let a = answer tt in
-    completed (task_of words) holds status a.0 a.1 within
+complete_of words holds before after status h k = search (arith, completed)

@@ -1,5 +1,5 @@
 -- The headline of what is due to `identify` is true of its files.
-use Rattle.std.proofs.Common.{ℕ, List, [], Option, None, Some, unwrap_or}
+use Rattle.std.proofs.Common.{ℕ, List, [], Option, None, Some, unwrap_or, arith}
 use Rattle.std.specs.Io.KnownBytes.{Appends}
 use Rattle.outside.specs.Held.{Holds}
 use Rattle.command_words.specs.Tasks.{Task, Identify, task_of}
@@ -39,6 +39,4 @@ headline_due task holds before after status text due wrote r = tt
 pub headline_of : (words : List (List ℕ)) (holds : Holds) (before after : Option (List ℕ)) (status : Status)
     → (IsAnswered status → IsAnswer words holds before after status)
     → IsReported status → HasHeadline (task_of words) holds before after status
-headline_of words holds before after Done answer r = let a = answer tt in headline_due (task_of words) holds before after Done a.0 a.1 a.2 r
-headline_of words holds before after SomeRefused answer r = let a = answer tt in headline_due (task_of words) holds before after SomeRefused a.0 a.1 a.2 r
-headline_of words holds before after status answer r = absurd r
+headline_of words holds before after status h k = search (arith, headline_due)

@@ -1,5 +1,5 @@
 -- What is due to the bytes that were read is due to their files, and is one.
-use Rattle.std.proofs.Common.{◌≡◌, ℕ, List, [], Option, unwrap_or, subst, inl, inr, length, None, Some, refl, sym, ap, ◌∙◌, arith}
+use Rattle.std.proofs.Common.{◌≡◌, ℕ, List, [], Option, unwrap_or, subst, None, Some, refl, sym, ◌∙◌, arith}
 use Rattle.std.specs.Prelude.{unwrap_or}
 use Rattle.outside.specs.Held.{Holds}
 use Rattle.command_words.specs.Tasks.{Task, archive_named, file_named}
@@ -24,16 +24,11 @@ due_over task holds bytes file archive e f a status text told due =
 module _ (of : List ℕ → List ℕ) where
   -- the bytes of a file are one
   one_file : (name : Option (List ℕ)) (a b : Option (List ℕ)) → AreBytesOf name (Some of) a → AreBytesOf name (Some of) b → a ≡ b
-  one_file None a b h k = h ∙ sym k
-  one_file (Some name) None b h k = absurd h
-  one_file (Some name) (Some a) None h k = absurd k
-  one_file (Some name) (Some a) (Some b) h k = ap (λ l. Some l) (sym h.0 ∙ k.0)
+  one_file name a b p q = search arith
 
   -- and no more than are taken, or more
   not_many : (name : Option (List ℕ)) (a : Option (List ℕ)) → AreBytesOf name (Some of) a → ¬ HasManyBytes name (Some of)
-  not_many None a h k = k
-  not_many (Some name) None h k = h
-  not_many (Some name) (Some a) h k = let e = ap length h.0 in let few = h.1 in omega (arith, e, few, k)
+  not_many name a l p = search arith
 
   -- the file or the archive is too large, or the answer is due to their bytes
   data WayOf (task : Task) (s : Status) (x : List ℕ) : Type 0 where
@@ -47,8 +42,7 @@ module _ (of : List ℕ → List ℕ) where
 
   -- not both
   not_large : (task : Task) (s : Status) (x : List ℕ) → IsDueOver task (Some of) s x → ¬ IsTooLarge task (Some of)
-  not_large task s x h (inl many) = not_many (file_named task) h.0 h.2 many
-  not_large task s x h (inr many) = not_many (archive_named task) h.1 h.3 many.1
+  not_large task s x k l = search (arith, not_many)
 
   -- one answer is due to their bytes
   one_over : (task : Task) (s t : Status) (x y : List ℕ) → IsDueOver task (Some of) s x → IsDueOver task (Some of) t y → (s ≡ t) × (x ≡ y)

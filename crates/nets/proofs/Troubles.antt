@@ -1,5 +1,5 @@
 -- The trouble that comes of a refusal.
-use Rattle.std.proofs.Common.{◌≢◌, ℕ, List, Result, Ok, Err, Some, refl, sym, subst}
+use Rattle.std.proofs.Common.{◌≢◌, ℕ, List, Result, Some, sym, subst, arith}
 use Rattle.std.specs.{Prelude.IfErr, Result.IsErrAnd}
 use Rattle.periodic_net.specs.Graph.{Graph}
 use Rattle.cgd_read.specs.{Graphs.graph_of, Views.RawView}
@@ -10,8 +10,7 @@ use Rattle.least_key.specs.declared.refusal.Refusal.TheVariants as refusal
 
 -- what a refusal reports is true, unless memory was refused
 true_in_order : (G : Graph) (given : Refusal) → IsRefusedBy G given → given ≢ refusal.NoMemory → IsTrueInOrder G given
-true_in_order G refusal.NoMemory h n = absurd (n refl)
-true_in_order G given h n = h
+true_in_order G given k l = search arith
 
 -- a text whose first graph is refused gives the trouble of the refusal
 trouble_in : (text : List ℕ) (raw : RawView) (given : Refusal) (trouble : Trouble) → IsFirstIn text (Some raw) → IsRefusedBy (graph_of raw) given
@@ -27,5 +26,4 @@ trouble_in text raw given NoMemory first h from = tt
 pub refused_in : {X : Type 0} (result : Result X Trouble) (text : List ℕ) (raw : RawView) (given : Refusal) → IsFirstIn text (Some raw)
     → IsRefusedBy (graph_of raw) given → IsErrAnd result (IsFrom given)
     → IfErr result (IsTroubleIn text)
-refused_in (Ok x) text raw given first h from = tt
-refused_in (Err trouble) text raw given first h from = trouble_in text raw given trouble first h from
+refused_in result text raw given k l p = search (arith, trouble_in)

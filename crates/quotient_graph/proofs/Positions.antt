@@ -248,8 +248,7 @@ module _ (from to d s : ℤ) (f : unsigned_abs from ≤ 2 ^ 61) (t : unsigned_ab
   sum_fits = fits_from_bound (to +ℤ d *ℤ s) (2 ^ 61 + most_units * most_shift) (omega arith) sum_small
 
   pub difference_fits : FitsSigned w128 ((to +ℤ d *ℤ s) -ℤ from)
-  difference_fits = fits_from_bound ((to +ℤ d *ℤ s) -ℤ from) (2 ^ 61 + most_units * most_shift + 2 ^ 61) (omega arith)
-      (bounded_difference (to +ℤ d *ℤ s) from (2 ^ 61 + most_units * most_shift) (2 ^ 61) sum_small f)
+  difference_fits = search (arith, fits_from_bound, bounded_difference, sum_small)
 
 -- 0 + d·0 - 0
 pub flat_part : (from to d s : ℤ) → from ≡ pos 0 → to ≡ pos 0 → s ≡ pos 0 → (to +ℤ d *ℤ s) -ℤ from ≡ pos 0

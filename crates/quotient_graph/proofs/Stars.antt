@@ -1,17 +1,16 @@
 -- Lists of arcs from each vertex or class: their number, how they are made and sorted, and what arcs they have.
 use Rattle.std.proofs.Common.{◌≡◌, ◌∙◌, ap, List, length, map, sum_by, ◌≢◌, inl, inr, ℕ, ◌-◌, ◌+◌, ◌<◌, ◌≤◌, ◌==◌, true, false, [], ◌∷◌, ◌++◌, take, All}
-use Rattle.std.proofs.Common.{get_or, set, refl, sym, subst, arith, get_or-set_same, get_or-set_other, length-set, add-one, ◌⊎◌, zero, suc, Bool, ℤ, neg_ℤ}
-use Rattle.std.proofs.Common.{unsigned_abs}
+use Rattle.std.proofs.Common.{get_or, set, refl, sym, subst, arith, get_or-set_same, get_or-set_other, length-set, add-one, zero, suc, Bool}
 use Rattle.std.proofs.lemmas.List.{map-set, get_or-map, length-map, append-nil, get_or_default}
 use Rattle.std.proofs.lemmas.List.Elements.{filter-append, recursion_from_All, All-from_recursion}
 use Rattle.std.specs.List.{filter, AllByRecursion, Contains}
 use Rattle.std.{proofs.lemmas.List.Concat.length-flat_map, proofs.lemmas.List.Folds.flat_map-map, proofs.lemmas.List.Sorted.IsPermutation-sym}
 use Rattle.std.{proofs.lemmas.List.Sorted.Contains-permutation, proofs.lemmas.Bool.cases_eq, proofs.lemmas.Bool.Decides.Decides-eqb}
-use Rattle.std.{proofs.lemmas.Grind.common_steps, proofs.lemmas.Int.ints, proofs.Math.Seq.take-suc, specs.Prelude.flat_map, specs.Prelude.slice_index_or}
+use Rattle.std.{proofs.lemmas.Grind.common_steps, proofs.Math.Seq.take-suc, specs.Prelude.flat_map, specs.Prelude.slice_index_or}
 use Rattle.periodic_net.specs.Graph.{Arc, both_ways, reverse_of, Graph, arcs, arcs_from, IsArc, IsGraph}
 use Rattle.periodic_net.proofs.CallerLemmas.{arc_inside, from_is_arc, arc_is_from}
 use Rattle.periodic_net.specs.{Classes.ClassArc, Limits.most_shift, Limits.IsSmall}
-use Rattle.quotient_graph.specs.Stars.{star_at, IsStar, IsArcFrom}
+use Rattle.quotient_graph.specs.Stars.{IsStar, IsArcFrom}
 use Rattle.quotient_graph.specs.Building.{with_arc, HaveArcs, EdgeFits, IsSortedFrom, AreSortedFrom}
 use Rattle.quotient_graph.specs.ClassNets.{class_star}
 use Rattle.integers.proofs.lists.Members.{all_at, IsIn, in_from_contains, contains_from_in}
@@ -27,9 +26,7 @@ joined_length items lists = ap length (flat_map-map (λ s. s) items lists) ∙ l
 -- an arc put last in one list, seen in the list of what the lists hold
 pub map_pushed : {S : Type 0} (items : S → List Arc) (xs : List S) (k : ℕ) (d new : S) (a : Arc) → k ≡ a.from - 1 → k < length xs
     → items new ≡ items (get_or xs k d) ++ a ∷ [] → map items (set xs k new) ≡ with_arc (map items xs) a
-map_pushed items xs k d new a e h f =
-    map-set items xs k new ∙ ap (λ (t : List Arc). set (map items xs) k t) (f ∙ ap (λ (t : List Arc). t ++ a ∷ []) (sym (get_or-map items xs k d [] h)))
-    ∙ ap (λ (j : ℕ). set (map items xs) j (get_or (map items xs) j [] ++ a ∷ [])) e
+map_pushed items xs k d new a e h f = grind (arith, map-set, get_or-map)
 
 same_test : (u : ℕ) → (u == u) ≡ true
 same_test u = grind (arith, common_steps)
@@ -38,8 +35,7 @@ other_test : (u v : ℕ) → u ≢ v → (v == u) ≡ false
 other_test u v n = grind (arith, common_steps)
 
 filtered_same : (u : ℕ) (a : Arc) (as' : List Arc) → u ≡ a.from → filter (λ b. b.from == u) (as' ++ a ∷ []) ≡ filter (λ b. b.from == u) as' ++ a ∷ []
-filtered_same u a as' e = filter-append (λ (b : Arc). b.from == u) as' (a ∷ [])
-    ∙ ap (λ (t : List Arc). filter (λ b. b.from == u) as' ++ t) (rw (subst (λ v. (v == u) ≡ true) e (same_test u)) refl)
+filtered_same u a as' e = search (arith, filter-append, same_test)
 
 filtered_other : (u : ℕ) (a : Arc) (as' : List Arc) → u ≢ a.from → filter (λ b. b.from == u) (as' ++ a ∷ []) ≡ filter (λ b. b.from == u) as'
 filtered_other u a as' n = filter-append (λ (b : Arc). b.from == u) as' (a ∷ []) ∙ (rw (other_test u a.from n) (grind (arith, common_steps)))
@@ -47,17 +43,7 @@ filtered_other u a as' n = filter-append (λ (b : Arc). b.from == u) as' (a ∷ 
 -- one more arc, in the list of its tail
 pub have_more : (n : ℕ) (stars : List (List Arc)) (as' : List Arc) (a : Arc) → 1 ≤ a.from → a.from ≤ n → HaveArcs n stars as'
     → HaveArcs n (with_arc stars a) (as' ++ a ∷ [])
-have_more n stars as' a low high h = record {
-  count = length-set stars (a.from - 1) (star_at stars a.from ++ a ∷ []) ∙ h.count;
-  each = λ u p q. elim (cases_eq u a.from) [
-    | inl e ↦ rw e (get_or-set_same stars (a.from - 1) (star_at stars a.from ++ a ∷ []) [] (below a.from low high)
-        ∙ ap (λ (t : List Arc). t ++ a ∷ []) (h.each a.from low high) ∙ sym (filtered_same a.from a as' refl))
-    | inr m ↦ get_or-set_other stars (a.from - 1) (u - 1) (star_at stars a.from ++ a ∷ []) [] (omega arith) ∙ h.each u p q ∙ sym (filtered_other u a as' m)
-  ];
-}
-  where
-    below : (u : ℕ) → 1 ≤ u → u ≤ n → u - 1 < length stars
-    below u p q = let c = h.count in omega arith
+have_more n stars as' a low high h = grind (arith, length-set, cases_eq, get_or-set_same, filtered_same, get_or-set_other, filtered_other)
 
 -- both arcs of one more edge
 pub have_edge : (n : ℕ) (stars : List (List Arc)) (es : List Arc) (e : Arc) → (1 ≤ e.from) × (e.from ≤ n) → (1 ≤ e.to) × (e.to ≤ n)
@@ -105,10 +91,7 @@ sorted_more items old xs i d new l sorted h = subst (AreSortedUpTo (i + 1) old) 
 })
   where
     here : IsSortedFrom (get_or old i []) (get_or (set (map items xs) i (items new)) i [])
-    here =
-        let within : i < length (map items xs) = omega (arith, length-map xs items) in
-        subst (IsSortedFrom (get_or old i [])) (sym (get_or-set_same (map items xs) i (items new) [] within))
-        (subst (λ l. IsSortedFrom l (items new)) (sym (get_or-map items xs i d [] l) ∙ h.left i (omega arith)) sorted)
+    here = grind (arith, length-map, get_or-set_same, get_or-map)
 
 -- Lists of class arcs, one for each class, and the arcs from a class.
 
@@ -172,10 +155,7 @@ stars_are_arcs stars h (suc k) low high = let e : suc k - 1 ≡ k = omega arith 
 -- The arcs from a vertex are among the vertices and within the limits, and they are all the arcs from it.
 
 opposite_within : (n : ℕ) (s : Vector) → IsWithin n s → IsWithin n (opposite s)
-opposite_within n s h = (part s.x h.0, part s.y h.1, part s.z h.2)
-  where
-    part : (x : ℤ) → unsigned_abs x ≤ n → unsigned_abs (neg_ℤ x) ≤ n
-    part x a = omega (arith, ints)
+opposite_within n s h = search arith
 
 both_within : (es : List Arc) → AllByRecursion (λ e. IsWithin most_shift e.shift) es → AllByRecursion (λ a. IsWithin most_shift a.shift) (both_ways es)
 both_within [] h = tt
@@ -189,8 +169,7 @@ arc_within G s a h =
     (recursion_from_All (λ e. IsWithin most_shift e.shift) G.edges s.shifts))) h
 
 member : (star : List Arc) (k : ℕ) (d : Arc) → k < length star → Contains star (get_or star k d)
-member [] k d l = absurd (omega arith)
-member (x ∷ xs) k d l = (k, l, get_or_default (x ∷ xs) k (get_or (x ∷ xs) k d) d l)
+member star k d h = search (arith, get_or_default)
 
 pub each_arc_from : (G : Graph) (u : ℕ) (star : List Arc) → IsGraph G → IsSmall G → IsStar G u star → All (IsArcFrom G u) star
 each_arc_from G u star g s h k d l =

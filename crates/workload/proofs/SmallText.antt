@@ -1,6 +1,6 @@
 -- The edges of the base nets, their lines, and that the text of the workload is small.
 use Rattle.std.proofs.Common.{◌≡◌, ℕ, zero, suc, ◌<◌, ◌≤◌, true, length, refl, arith, ◌+◌, List, ◌++◌, flat_map, ap, sym, ◌∙◌, append_assoc, add-one}
-use Rattle.std.proofs.Common.{◌-◌, ℤ, pos, negsuc, ◌+ℤ◌, ◌*ℤ◌, Bool, false, cond, ◌&&◌, ◌==◌, nat_lt, [], true≢false, lit<, ◌*◌, ◌∷◌}
+use Rattle.std.proofs.Common.{◌-◌, ℤ, pos, negsuc, ◌+ℤ◌, ◌*ℤ◌, ◌&&◌, nat_lt, [], lit<, ◌*◌, ◌∷◌}
 use Rattle.std.proofs.{lemmas.List.append-nil, lemmas.List.length-append, lemmas.Bool.ltb-true, lemmas.Bool.and_parts, lemmas.Int.ints}
 use Rattle.std.proofs.{lemmas.Nat.mul-le, Math.Nat.div-le_self, lemmas.Fmt.length-decimal-le, lemmas.Fmt.length_signed_le}
 use Rattle.std.specs.{List.list_all, List.range_with_len, Prelude.unsigned_abs, Int.int_rem_euclid, Int.int_div_euclid, Fmt.decimal}
@@ -24,15 +24,7 @@ all_base (suc (suc (suc (suc (suc (suc (suc (suc b)))))))) l = absurd (omega ari
 -- and there are at most six
 pub few_base : (b : ℕ) → b < 8 → length (base_edges b) ≤ 6
 unfolding base_nets
-few_base zero l = omega arith
-few_base (suc zero) l = omega arith
-few_base (suc (suc zero)) l = omega arith
-few_base (suc (suc (suc zero))) l = omega arith
-few_base (suc (suc (suc (suc zero)))) l = omega arith
-few_base (suc (suc (suc (suc (suc zero))))) l = omega arith
-few_base (suc (suc (suc (suc (suc (suc zero)))))) l = omega arith
-few_base (suc (suc (suc (suc (suc (suc (suc zero))))))) l = omega arith
-few_base (suc (suc (suc (suc (suc (suc (suc (suc b)))))))) l = absurd (omega arith)
+few_base b h = grind arith
 
 -- A list of pieces for the first numbers, and one more piece.
 
@@ -50,12 +42,10 @@ one_more_piece f n = ap (λ m. flat_map f (range_with_len 0 m)) (add-one n) ∙ 
 
 -- a quotient and a remainder of small numbers
 quotient_few : (z : ℤ) (m : ℕ) → unsigned_abs z ≤ 4 → unsigned_abs (int_div_euclid z (pos m)) ≤ 4
-quotient_few (pos n) m h = let l = div-le_self n m in omega (arith, l, h)
-quotient_few (negsuc n) m h = let l = div-le_self n m in omega (arith, l, h)
+quotient_few z m k = search (arith, div-le_self)
 
 remainder_within : (z : ℤ) (m : ℕ) → 0 < m → unsigned_abs (int_rem_euclid z (pos m)) < m
-remainder_within (pos n) m l = omega arith
-remainder_within (negsuc n) m l = omega arith
+remainder_within z m h = search arith
 
 -- so far a place is passed
 passed_few : (m r : ℕ) (part : ℤ) → m ≤ 4 → r < m → is_unit part ≡ true → unsigned_abs (cells_passed m r part) ≤ 4
@@ -74,11 +64,7 @@ part_short (negsuc n) h = let l = length_signed_le 1 (negsuc n) (omega arith) (o
 
 third_short : (d : ℕ) (part : ℤ) → unsigned_abs part ≤ 8 → length (third_text d part) ≤ 3
 unfolding third_text
-third_short d part h = by (d == 2)
-  where
-    by : (b : Bool) → length (cond b [] (part_text part)) ≤ 3
-    by true = omega arith
-    by false = part_short part h
+third_short d part h = search (arith, part_short)
 
 vertex_short : (u : ℕ) → u ≤ 20 → length (decimal u) ≤ 2
 vertex_short u h = length-decimal-le 2 u (lit< tt) (omega arith) (omega arith)
@@ -86,10 +72,7 @@ vertex_short u h = length-decimal-le 2 u (lit< tt) (omega arith) (omega arith)
 -- the line of an edge with small numbers
 line_short : (d : ℕ) (e : Edge) → e.u ≤ 20 → e.v ≤ 20 → unsigned_abs e.x ≤ 8 → unsigned_abs e.y ≤ 8 → unsigned_abs e.z ≤ 8 → length (edge_line d e) ≤ 15
 unfolding edge_line
-line_short d e a b x y z =
-    let u = vertex_short e.u a in let v = vertex_short e.v b in let px = part_short e.x x in
-    let py = part_short e.y y in let pz = third_short d e.z z in
-    simp (length-append) (omega (arith, u, v, px, py, pz))
+line_short d e a b x y z = search (arith, vertex_short, part_short, third_short, length-append)
 
 -- the numbers of an edge are small
 pub record IsSmallEdge (e : Edge) : Type 0 where
@@ -120,9 +103,7 @@ edge_small m k e r a b l h =
 
 -- the line of a base edge from a place
 pub edge_short : (d m k : ℕ) (e : Edge) (r : ℕ) → m ≤ 4 → k < 5 → r < m → is_base_edge e ≡ true → length (edge_line d (edge_at m k e r)) ≤ 15
-edge_short d m k e r a b l h =
-    let s = edge_small m k e r a b l h in let y = s.y in let z = s.z in
-    line_short d (edge_at m k e r) s.u s.v s.x (omega (arith, y)) (omega (arith, z))
+edge_short d m k e r a b l h = grind (arith, edge_small, line_short)
 
 -- The text of the workload is small.
 

@@ -5,7 +5,7 @@ use Rattle.std.proofs.Common.{cond, Bool, true, pos, ◌≤◌, ◌+◌, ◌++�
 use Rattle.std.proofs.lemmas.List.Sorted.{IsPermutation-refl, IsPermutation-trans, IsPermutation-cons, IsPermutation-middle}
 use Rattle.std.proofs.lemmas.List.{get_or_default, map-append, append-nil}
 use Rattle.std.specs.List.{Contains, AllPairs, All, AllByRecursion, filter, flat_map, range_with_len}
-use Rattle.std.proofs.lemmas.List.Elements.{All-from_recursion, filter-append}
+use Rattle.std.proofs.lemmas.List.Elements.{All-from_recursion, All-nil, All-cons, All-head, All-tail, filter-append}
 use Rattle.std.{proofs.lemmas.Int.ints, specs.List.Sorted.IsPermutation, specs.Prelude.take, proofs.Math.Seq.take-suc}
 use Rattle.integers.{specs.Lists.total, proofs.numbers.Order.next_number}
 
@@ -106,6 +106,21 @@ other_in x xs y h = contains_from_in (x ∷ xs) y (inr (is_in xs y h))
 -- nothing is a member of no list
 pub none_in : {X : Type 0} (y : X) → Contains [] y → ⊥
 none_in y h = absurd (is_in [] y h)
+
+-- what holds of two lists together holds of the first
+pub all_before : {X : Type 0} (P : X → Type 0) (xs ys : List X) → All P (xs ++ ys) → All P xs
+all_before P [] ys h = All-nil P
+all_before P (x ∷ xs) ys h = All-cons P x xs (All-head P x (xs ++ ys) h) (all_before P xs ys (All-tail P x (xs ++ ys) h))
+
+-- and of the second
+pub all_after : {X : Type 0} (P : X → Type 0) (xs ys : List X) → All P (xs ++ ys) → All P ys
+all_after P [] ys h = h
+all_after P (x ∷ xs) ys h = all_after P xs ys (All-tail P x (xs ++ ys) h)
+
+-- some element of a list
+pub some_of : {X : Type 0} (xs : List X) (i : ℕ) → i < length xs → X
+some_of [] i l = absurd (omega (arith, l))
+some_of (x ∷ xs) i l = x
 
 -- what holds of all members holds of one
 pub all_at : {X : Type 0} (P : X → Type 0) (xs : List X) (x : X) → All P xs → Contains xs x → P x

@@ -97,6 +97,15 @@ product_of_independent a b c i h =
     (omega (arith, linear, r.third))) in
     r.some (z.0, z.1.0, z.1.1.0)
 
+-- the product of three flat vectors is 0
+flat_product : (a b c d e f x y z : ℤ) → c ≡ pos 0 → f ≡ pos 0 → z ≡ pos 0
+    → a *ℤ (e *ℤ z -ℤ f *ℤ y) +ℤ b *ℤ (f *ℤ x -ℤ d *ℤ z) +ℤ c *ℤ (d *ℤ y -ℤ e *ℤ x) ≡ pos 0
+flat_product a b c d e f x y z p q r =
+    (λ i. a *ℤ (e *ℤ r i -ℤ q i *ℤ y) +ℤ b *ℤ (q i *ℤ x -ℤ d *ℤ r i) +ℤ p i *ℤ (d *ℤ y -ℤ e *ℤ x)) ∙ simp ring (omega (arith, linear))
+
+pub flat_triple : (p q e : Vector) → p.z ≡ pos 0 → q.z ≡ pos 0 → e.z ≡ pos 0 → triple_product p q e ≡ pos 0
+flat_triple p q e f g h = flat_product p.x p.y p.z q.x q.y q.z e.x e.y e.z f g h
+
 -- flat vectors have flat combinations
 flat_sum : (x y a b : ℤ) → a ≡ pos 0 → b ≡ pos 0 → x *ℤ a +ℤ (y *ℤ b +ℤ pos 0) ≡ pos 0
 flat_sum x y a b e h = (λ i. x *ℤ e i +ℤ (y *ℤ h i +ℤ pos 0)) ∙ omega (arith, ints)

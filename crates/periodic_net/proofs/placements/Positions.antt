@@ -1,6 +1,6 @@
 -- Positions of vertices; where there is no collision, a position fixes its vertex.
 use Rattle.std.proofs.Common.{arith, ℤ, ◌≡◌, ◌+ℤ◌, ◌-ℤ◌, ◌*ℤ◌, ◌∙◌, pos, ℕ, ap, sym, ◌≢◌, ◌≤◌, ◌<◌, subst}
-use Rattle.std.proofs.{lemmas.Int.ints, Math.Decide.dec_lt}
+use Rattle.std.proofs.{lemmas.Int.ints, Math.Decide.dec_lt, Math.Decide.dec_le}
 use Prim.{yes, no, Dec}
 use Rattle.integers.specs.Vectors.{minus, Vector, times, plus, HasDimension, zero_vector, IsModulo}
 use Rattle.integers.proofs.numbers.Ring.{ring, linear, other_factor_zero, positive_not_zero}
@@ -52,6 +52,21 @@ at_origin p u = search (arith, vector_equal)
 -- whether two vertices are equal can be decided
 pub vertex_decided : (w x : Vertex) → Dec (w ≡ x)
 vertex_decided w x = search arith
+
+-- a whole number is 0 or not
+zero_decided : (z : ℤ) → Dec (z ≡ pos 0)
+zero_decided z = search arith
+
+-- a vector has the dimension or not
+dimension_decided : (d : ℕ) (v : Vector) → Dec (HasDimension d v)
+dimension_decided d v = search (arith, zero_decided)
+
+-- and whether a pair of a number and a vector is a vertex can be decided
+pub is_vertex_decided : (G : Graph) (w : Vertex) → Dec (IsVertex G w)
+is_vertex_decided G w = by (dec_le 1 w.over) (dec_le w.over G.vertices) (dimension_decided G.dimension w.cell)
+  where
+    by : Dec (1 ≤ w.over) → Dec (w.over ≤ G.vertices) → Dec (HasDimension G.dimension w.cell) → Dec (IsVertex G w)
+    by k l p = grind arith
 
 -- equal cells, by their difference
 back : (s t : Vector) → minus t s ≡ zero_vector → s ≡ t

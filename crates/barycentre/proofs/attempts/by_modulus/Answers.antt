@@ -1,11 +1,10 @@
-use Rattle.std.proofs.Common.{lit<, ℕ, arith, ◌*◌, ◌<◌, ◌≤◌, ◌^◌, ⊎_elim}
+use Rattle.std.proofs.Common.{lit<, ℕ, arith, ◌*◌, ◌<◌, ◌^◌}
 use Rattle.std.proofs.{Math.Nat.mul-le-mul, lemmas.Bool.cases_lt}
 use Rattle.barycentre.proofs.attempts.by_modulus.Goals as goal
 
 -- the square of a number up to 2^57 is at most 2^114
 large_modulus : (m : ℕ) → 2 ^ 117 < m * m → 2 ^ 57 < m
-large_modulus m h = ⊎_elim (λ (l : 2 ^ 57 < m). l) (λ (l : m ≤ 2 ^ 57). absurd (let p : m * m ≤ 2 ^ 57 * 2 ^ 57 = mul-le-mul l l in omega (arith, p, h)))
-    (cases_lt (2 ^ 57) m)
+large_modulus m h = search (arith, mul-le-mul, cases_lt)
 
 pub by_two_steps-requires : goal.by_two_steps-requires
 by_two_steps-requires g c =

@@ -1,5 +1,5 @@
 -- Of `by_two_steps`: the clause `none`; what `left_rows` and `tested` require. The clause says that there is no placement within the limits.
-use Rattle.std.proofs.Common.{lit<, ◌≡◌, ◌∙◌, ◌<◌, ℕ, ℤ, List, length, map, subst, Option, Some, None, Result, Ok, Err, IfOk, MatchOption}
+use Rattle.std.proofs.Common.{lit<, ◌≡◌, ◌∙◌, ◌<◌, ℕ, ℤ, List, length, map, subst, Option, Result, IfOk, MatchOption, arith}
 use Rattle.std.{proofs.lemmas.List.length-map, specs.Prelude.⊤}
 use Rattle.periodic_net.specs.Graph.{Graph}
 use Rattle.vecdim.specs.declared.rows.Row.{Row}
@@ -14,9 +14,7 @@ use Rattle.barycentre.proofs.steps.by_two_steps.{Given.Over, Goals.In_ok-nexts}
 use Rattle.barycentre.proofs.steps.by_two_steps.Goals as goal
 
 none_of : {A E : Type 0} (B C : Type 0) (r : Result (Option A) E) → (B → C) → IfOk r (λ o. MatchOption o B (λ t. ⊤)) → IfOk r (λ o. MatchOption o C (λ t. ⊤))
-none_of B C (Ok None) f h = f h
-none_of B C (Ok (Some x)) f h = h
-none_of B C (Err e) f h = h
+none_of B C r k l = search arith
 
 -- what the solution of the rows that are left tells
 module _ (g : Over) (c : In_ok-nexts g) where

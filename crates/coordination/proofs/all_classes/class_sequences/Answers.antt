@@ -11,7 +11,6 @@ loop-before-preserved g c =
 pub returns : goal.returns
 returns g c =
     let K = c.args.classes.now.classes in let test = c.loop-before-test.false in
-    let least = c.loop-before.auto.before-end in
     let end : c.loop-before.before ≡ c.count-count.result = omega arith in
     let count = end ∙ c.count-count.ensures.count ∙ (λ i. (c.net.ensures.net i).count) in
     record {

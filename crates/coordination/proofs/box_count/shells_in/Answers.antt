@@ -58,7 +58,6 @@ loop-k-preserved c = record {
 
 pub returns-clause-sizes : goal.returns-clause-sizes
 returns-clause-sizes c = λ P q i.
-    let test = c.loop-k-test.false in let count = c.loop-k.invariant.count in
     let ten : 10 ≤ length c.loop-k.sizes.items = omega arith in
     counting_ten q c.args.over i (c.loop-k.invariant.counted P q i) ten
 

@@ -23,9 +23,7 @@ at-requires c =
     subst (λ (t : Spot). t.over - 1 < length c.args.net_box.now.stars) n.spot (star_within r.graph c.args.net_box.now r.searchable.is_box n.at n.inside)
 
 pub follow-requires-clause-few : goal.follow-requires-clause-few
-follow-requires-clause-few c =
-    let r = c.requires in let e = (c.loop-i.invariant r.graph r.vertices r.searchable).is_found.size in
-    let small = r.searchable.is_box.small in omega (arith, e, small)
+follow-requires-clause-few c = omega arith
 
 pub follow-requires-clause-landing : goal.follow-requires-clause-landing
 follow-requires-clause-landing c =

@@ -18,6 +18,5 @@ loop-k-preserved g c =
 
 pub returns : goal.returns
 returns g c =
-    let test = c.loop-k-test.false in let most = c.loop-k.auto._k-end in
     let ten : c.loop-k._k ≡ 10 = omega arith in
     subst (λ n. AreFarAfter c.args.cell.now.graph c.args.axis n c.loop-k.far) ten c.loop-k.invariant.far
