@@ -5,6 +5,8 @@ pub mod Coarsest
 pub mod Theorems
 pub mod Translations
 pub mod examples
+pub mod harmonic
 pub mod isomorphisms
 pub mod nets
+pub mod ordered
 pub mod placements

@@ -1,10 +1,13 @@
 -- Small nets that meet the definitions: none of these is empty.
-use Rattle.std.specs.Prelude.{pos}
-use Rattle.integers.specs.Vectors.{vector, zero_vector}
+use Rattle.std.specs.Prelude.{◌≡◌, ℤ, pos, ◌+ℤ◌, ◌*ℤ◌}
+use Rattle.std.specs.Int.{int_max}
+use Rattle.integers.specs.Coordinates.{IsCoordinate}
+use Rattle.integers.specs.Vectors.{Vector, vector, zero_vector}
 use Rattle.periodic_net.specs.Classes.{ClassGraph, IsClassGraph, IsDistance}
 use Rattle.periodic_net.specs.Examples.{square_net, doubled_net, honeycomb_net, hanging_net, square_placement, honeycomb_placement, hanging_placement}
-use Rattle.periodic_net.specs.Graph.{IsGraph, IsConnected, vertex}
-use Rattle.periodic_net.specs.Placement.{IsCollision, IsNormalPlacement, IsStablePlacement}
+use Rattle.periodic_net.specs.Graph.{Graph, IsGraph, IsConnected, vertex}
+use Rattle.periodic_net.specs.Placement.{Placement, position, IsBarycentric, IsCollision, IsNormalPlacement, IsStablePlacement}
+use Rattle.periodic_net.specs.{OrderedGroups.OrderedGroup, OrderedPlacements.IsBarycentricIn}
 use Rattle.periodic_net.specs.Shells.{IsInShell}
 use Rattle.periodic_net.specs.Split.{Split, IsSplit}
 
@@ -12,6 +15,13 @@ use Rattle.periodic_net.specs.Split.{Split, IsSplit}
 pub record IsOfSquareNet (classes : ClassGraph) : Type 0 where
   pub class_graph : IsClassGraph square_net square_placement (λ u. 1) classes
   pub distance : IsDistance classes 1 1 0
+
+-- the group of the whole numbers, in which each coordinate of a placement, in units of 1/D, is barycentric
+pub record IsOfWholeNumbers (A : OrderedGroup ℤ) : Type 0 where
+  pub sum : (a b : ℤ) → A.sum a b ≡ a +ℤ b
+  pub greater : (a b : ℤ) → A.greater a b ≡ int_max a b
+  pub placement : (G : Graph) (p : Placement) → IsBarycentric G p → (c : Vector → ℤ) → IsCoordinate c
+      → IsBarycentricIn A G (λ t. pos p.denominator *ℤ c t) (λ w. c (position p w))
 
 -- an instance of each: of the square net, of that of half as many edges along one axis, of the honeycomb net, and of a net with a vertex that hangs on another
 pub record DefinitionsHaveInstances : Type 0 where
@@ -23,3 +33,4 @@ pub record DefinitionsHaveInstances : Type 0 where
   pub split : (S : Split) × IsSplit doubled_net S
   pub normal : IsNormalPlacement honeycomb_net honeycomb_placement
   pub collision : IsCollision hanging_net hanging_placement 1 2 zero_vector
+  pub ordered : (A : OrderedGroup ℤ) × IsOfWholeNumbers A

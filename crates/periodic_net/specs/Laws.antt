@@ -1,12 +1,12 @@
 -- The theorems on periodic nets, as statements.
-use Rattle.std.specs.Prelude.{ℤ, ◌≡◌, ◌≢◌, ◌↔◌, ℕ, ◌≤◌, pos, ◌*ℤ◌, length, AllPairs}
+use Rattle.std.specs.Prelude.{ℤ, ◌≡◌, ◌≢◌, ◌↔◌, ℕ, ◌≤◌, pos, ◌*ℤ◌, ◌≤ℤ◌, length, AllPairs}
 use Rattle.integers.specs.Vectors.{Vector, zero_vector, plus, minus, opposite, times, HasDimension}
 use Rattle.periodic_net.specs.Graph.{Graph, IsGraph, arcs, IsQuotientVertex, Vertex, IsVertex, IsConnected}
 use Rattle.periodic_net.specs.Split.{Split, IsSplit}
 use Rattle.periodic_net.specs.Placement.{Placement, base, position, IsBarycentric, IsNormalPlacement, IsTranslate, HasNoCollision, IsStablePlacement, IsStable}
 use Rattle.integers.specs.Bases.{Base, base_sum}
 use Rattle.periodic_net.specs.Maps.{IsPeriodic, Iso, PeriodicMap, IsMapTable, IsDrawnBy}
-use Rattle.periodic_net.specs.Harmonic.{Repeats, IsNetHarmonic}
+use Rattle.periodic_net.specs.Harmonic.{Repeats, IsNetHarmonic, IsGentle, GrowsBy}
 use Rattle.periodic_net.specs.Classes.{StandsAt, IsTranslation, ShareClass, ClassGraph, IsClassGraph}
 use Rattle.periodic_net.specs.Correspondence.{CarriesClassGraph}
 
@@ -96,6 +96,17 @@ pub record IsomorphismsCarry : Type 0 where
 abbrev pub MaximumPrinciple : Type 0
 MaximumPrinciple = (G : Graph) → IsGraph G → IsConnected G → (m : ℕ) → 1 ≤ m → (F : Vertex → ℤ) → Repeats G m F → IsNetHarmonic G F
     → (w x : Vertex) → IsVertex G w → IsVertex G x → F w ≡ F x
+
+-- a function that is bounded above needs no period: in a connected net it is constant where it is at each vertex the mean over its neighbours
+abbrev pub BoundedHarmonicIsConstant : Type 0
+BoundedHarmonicIsConstant = (G : Graph) → IsGraph G → IsConnected G → (F : Vertex → ℤ) (most : ℤ) → ((w : Vertex) → IsVertex G w → F w ≤ℤ most)
+    → IsNetHarmonic G F → (w x : Vertex) → IsVertex G w → IsVertex G x → F w ≡ F x
+
+-- in a connected net a whole-numbered function that is at each vertex the mean over its neighbours, and changes by n at most along each
+-- edge, grows alike from cell to cell
+abbrev pub GentleHarmonicIsAffine : Type 0
+GentleHarmonicIsAffine = (G : Graph) → IsGraph G → IsConnected G → (F : Vertex → ℤ) (n : ℕ) → IsGentle G n F → IsNetHarmonic G F
+    → (a : Vector) × GrowsBy G F a
 
 -- a periodic map as a function with a period and as a table: each table writes down one map on the vertices, which has its period,
 -- and each function with a period is written down by the table of its values

@@ -1,3 +1,4 @@
+pub mod BareLaws
 pub mod Breadth
 pub mod Cells
 pub mod Chosen
@@ -15,10 +16,13 @@ pub mod Laws
 pub mod Legs
 pub mod Limits
 pub mod Maps
+pub mod OrderedGroups
+pub mod OrderedPlacements
 pub mod Placement
 pub mod RefinementLaws
 pub mod Settling
 pub mod Shells
 pub mod Split
+pub mod SymmetryLaws
 pub mod Translations
 pub mod WalkLaws

@@ -1,4 +1,4 @@
--- Periodic maps between nets, and isomorphism. No placement, cell, frame or traversal occurs here.
+-- Maps between nets: periodic ones, and isomorphisms, with a period and without. No placement, cell, frame or traversal occurs here.
 -- Isomorphism is that of periodic nets; to write it by maps with a period is this project's own.
 use Rattle.std.specs.Prelude.{◌≡◌, ◌↔◌, ℕ, ◌≤◌, pos, ◌<ℤ◌, ◌≤ℤ◌}
 use Rattle.integers.specs.Bases.{Base, base_sum}
@@ -33,6 +33,13 @@ pub record Iso (G H : Graph) : Type 0 where
   pub there_back : (x : Vertex) → IsVertex H x → there (back x) ≡ x
   pub there_joins : (w x : Vertex) → IsVertex G w → IsVertex G x → AreJoined G w x → AreJoined H (there w) (there x)
   pub back_joins : (w x : Vertex) → IsVertex H w → IsVertex H x → AreJoined H w x → AreJoined G (back w) (back x)
+
+-- an isomorphism of the nets as infinite graphs: a bijection between their vertices that joins images exactly where the vertices are
+-- joined. Nothing is asked of periods or dimensions
+pub record BareIso (G H : Graph) : Type 0 where
+  pub map : Vertex → Vertex
+  pub bijection : IsBijection G H map
+  pub joins : JoinsAlike G H map
 
 -- a map as it is written down: a period, the images of the vertices in the cells from 0 to m - 1, and the shifts
 pub record PeriodicMap : Type 0 where

@@ -1,93 +1,21 @@
--- A function that is at each vertex the mean over its neighbours is constant: on the quotient graph, and on the net if it repeats.
--- So a connected net has one normal placement, and has it where it has a barycentric one.
-use Rattle.std.proofs.Common.{List, pos, ℤ, ℕ, ◌≡◌, ◌⊎◌, ◌+ℤ◌, ◌-ℤ◌, ◌*ℤ◌, ◌≤ℤ◌, ◌≤◌, ◌<◌, ◌-◌, [], ◌∷◌, ◌∙◌, arith, ap, subst, sym, refl, suc, inl, inr}
+-- A connected net has one normal placement, and has it where it has a barycentric one: what two placements differ by is harmonic.
+use Rattle.std.proofs.Common.{List, pos, ℤ, ℕ, ◌≡◌, ◌+ℤ◌, ◌-ℤ◌, ◌*ℤ◌, ◌≤◌, ◌-◌, [], ◌∷◌, ◌∙◌, arith, ap, subst, sym, refl, suc, inl, inr}
 use Rattle.std.proofs.Common.{map, length, ◌*◌, ◌+◌, get_or}
 use Rattle.std.proofs.{lemmas.Int.ints, Math.Nat.dvd-mul_left, Math.Nat.mul_assoc, lemmas.List.ext_get_or, lemmas.List.length-map}
 use Rattle.std.specs.{Int.◌∣◌, Prelude.slice_index_or}
-use Rattle.integers.proofs.vectors.Laws.{plus_minus, vector_equal, coordinate_y, coordinate_z, coordinate_x, times_cancel, times_zero, minus_zero}
+use Rattle.integers.proofs.vectors.Laws.{vector_equal, coordinate_y, coordinate_z, coordinate_x, times_cancel, times_zero, minus_zero}
 use Rattle.integers.proofs.numbers.Divisors.{cancel_common, coprime_combination, coprime_multiple, bezout, Bezout, first_factor_positive, factor_positive}
 use Rattle.integers.proofs.vectors.Laws.{equal_of_minus, minus_itself, minus_back, numbers_times, times_plus}
 use Rattle.integers.proofs.numbers.Divisors.{common, all_table, Common, only_one, quotient_of}
-use Rattle.integers.specs.Vectors.{minus, zero_vector, plus, Vector, times, vector, vector_sum, HasDimension}
-use Rattle.integers.proofs.lists.Tables.{greatest_at, Searchable, search_below, search_pair, at_scaled, table_length, at_table, table}
-use Rattle.integers.proofs.lists.Sums.{same_from_zero, each_zero, at_most_zero, total_same, total_zeros}
+use Rattle.integers.specs.Vectors.{minus, zero_vector, plus, Vector, times, vector_sum, HasDimension}
+use Rattle.integers.proofs.lists.Tables.{at_scaled, table_length, at_table, table}
+use Rattle.integers.proofs.lists.Sums.{total_same, total_zeros}
 use Rattle.integers.proofs.numbers.Ring.{ring, linear, other_factor_zero, positive_not_zero}
-use Rattle.integers.{specs.Lists.total, proofs.lists.Members.IsIn, proofs.numbers.Division.divided, specs.Coordinates.IsCoordinate}
-use Rattle.periodic_net.specs.Graph.{Arc, Graph, IsQuotientVertex, arcs_from, IsArc, IsGraph, arc, IsVertex, Vertex, IsWalk, IsConnected, vertex, moved}
-use Rattle.periodic_net.specs.Harmonic.{IsNetHarmonic, Repeats}
-use Rattle.periodic_net.proofs.nets.Walks.{from_is_arc, arc_is_from, arc_inside, IsInside, joined_inside, origin_vertex}
+use Rattle.integers.{specs.Lists.total, proofs.lists.Members.IsIn, specs.Coordinates.IsCoordinate}
+use Rattle.periodic_net.specs.Graph.{Arc, Graph, IsQuotientVertex, arcs_from, IsGraph, IsVertex, Vertex, IsConnected, vertex}
+use Rattle.periodic_net.proofs.harmonic.Constant.{periodic_constant}
+use Rattle.periodic_net.proofs.nets.Walks.{from_is_arc, arc_inside, origin_vertex}
 use Rattle.periodic_net.specs.Placement.{Placement, arc_vector, IsBarycentric, base, IsTranslate, IsNormalPlacement, IsNormal, position, HasNoCollision}
-
--- a function on the vertices of the quotient graph has a greatest value
-pub search_vertices : (G : Graph) → IsGraph G → Searchable ℕ (IsQuotientVertex G)
-search_vertices G g f =
-    let e : suc (G.vertices - 1) ≡ G.vertices = omega arith in let r = greatest_at f (G.vertices - 1) in
-    (r.0, (r.1, subst (λ (k : ℕ). r.0 ≤ k) e r.2), λ v h. r.3 v h.0 (subst (λ (k : ℕ). v ≤ k) (sym e) h.1))
-
--- the neighbour along an arc is a vertex
-neighbour : (G : Graph) (w : Vertex) (a : Arc) → IsVertex G w → IsInside G a → IsVertex G (vertex a.to (plus w.cell a.shift))
-neighbour G w a i j = record { over = j.to; cell = λ d. let x = i.cell d in let y = j.shift d in omega (arith, ints) }
-
--- at a vertex where F is greatest, F is the same along each arc
-level_at : (G : Graph) → IsGraph G → (F : Vertex → ℤ) → IsNetHarmonic G F → (w : Vertex) → IsVertex G w
-    → ((x : Vertex) → IsVertex G x → F x ≤ℤ F w) → (a : Arc) → IsArc G a → a.from ≡ w.over → F (vertex a.to (plus w.cell a.shift)) ≡ F w
-level_at G g F h w i top a isa e =
-    let gain = λ (b : Arc). F (vertex b.to (plus w.cell b.shift)) -ℤ F w in
-    let low = λ (b : Arc) (k : IsIn (arcs_from G w.over) b).
-    at_most_zero (F (vertex b.to (plus w.cell b.shift))) (F w) (top (vertex b.to (plus w.cell b.shift))
-    (neighbour G w b i (arc_inside G g b (from_is_arc G w.over b k).0))) in
-    same_from_zero (F (vertex a.to (plus w.cell a.shift))) (F w) (each_zero gain (arcs_from G w.over) low (h w i) a (arc_is_from G w.over a isa e))
-
--- along a walk from such a vertex F stays the same
-level_along : (G : Graph) → IsGraph G → (F : Vertex → ℤ) → IsNetHarmonic G F → (m : ℤ) → ((x : Vertex) → IsVertex G x → F x ≤ℤ m)
-    → (steps : List Vertex) (w x : Vertex) → IsVertex G w → F w ≡ m → IsWalk G w steps x → F x ≡ m
-level_along G g F h m top [] w x i e walk = sym (ap F walk) ∙ e
-level_along G g F h m top (y ∷ ys) w x i e walk =
-    let j = joined_inside G g w y i walk.0 in
-    let highest = λ (v : Vertex) (k : IsVertex G v). subst (λ (n : ℤ). F v ≤ℤ n) (sym e) (top v k) in
-    let at = level_at G g F h w i highest (arc w.over y.over (minus y.cell w.cell)) walk.0 refl in
-    let next : F y ≡ m = ap (λ (t : Vector). F (vertex y.over t)) (sym (plus_minus w.cell y.cell)) ∙ at ∙ e in
-    level_along G g F h m top ys y x j next walk.1
-
--- a vertex of the net at which F is greatest
-greatest_vertex : (G : Graph) → IsGraph G → (m : ℕ) → 1 ≤ m → (F : Vertex → ℤ) → Repeats G m F
-    → (w : Vertex) × IsVertex G w × ((x : Vertex) → IsVertex G x → F x ≤ℤ F w)
-greatest_vertex G g m one F rep = by g.dimension
-  where
-    -- with third parts below n
-    below : (n : ℕ) → 1 ≤ n → ((r : ℕ) → r < n → G.dimension ≡ 2 → pos r ≡ pos 0)
-        → ((x : Vertex) → IsVertex G x → (r : ℕ) × (k : ℤ) × (r < n) × (G.dimension ≡ 2 → k ≡ pos 0) × (pos r +ℤ pos m *ℤ k ≡ x.cell.z))
-        → (w : Vertex) × IsVertex G w × ((x : Vertex) → IsVertex G x → F x ≤ℤ F w)
-    below n some flat last =
-        let s = search_pair (IsQuotientVertex G) (λ p. (p.0 < m) × ((p.1.0 < m) × (p.1.1 < n))) (search_vertices G g)
-        (search_pair (λ r. r < m) (λ p. (p.0 < m) × (p.1 < n)) (search_below m one)
-        (search_pair (λ r. r < m) (λ r. r < n) (search_below m one) (search_below n some))) in
-        let at = λ (p : ℕ × (ℕ × (ℕ × ℕ))). vertex p.0 (vector (pos p.1.0) (pos p.1.1.0) (pos p.1.1.1)) in
-        let r = s (λ p. F (at p)) in (
-          at r.0,
-          record { over = r.1.0; cell = flat r.0.1.1.1 r.1.1.1.1 },
-          λ x i.
-              let sx = divided m one x.cell.x in let sy = divided m one x.cell.y in let sz = last x i in
-              let p : ℕ × (ℕ × (ℕ × ℕ)) = (x.over, (sx.0, (sy.0, sz.0))) in
-              let k = vector sx.1 sy.1 sz.1 in let low = r.2 p (i.over, (sx.2, (sy.2, sz.2))) in
-              let q = rep (at p) k (record { over = i.over; cell = flat sz.0 sz.2 }) sz.3 in
-              let e : moved (at p) (times (pos m) k) ≡ x = λ l. record { over = x.over; cell = vector_equal (sym sx.3) (sym sy.3) sz.4 l } in
-              subst (λ (n : ℤ). n ≤ℤ F (at r.0)) (sym q ∙ ap F e) low,
-        )
-
-    by : (G.dimension ≡ 2) ⊎ (G.dimension ≡ 3) → (w : Vertex) × IsVertex G w × ((x : Vertex) → IsVertex G x → F x ≤ℤ F w)
-    by (inl two) = below 1 (omega arith) (λ r l d. let e : r ≡ 0 = omega arith in ap pos e)
-        (λ x i. (0, pos 0, omega arith, (λ d. refl), (let z : x.cell.z ≡ pos 0 = i.cell two in omega (arith, ints))))
-    by (inr three) = below m one (λ r l d. absurd (omega (arith, d, three)))
-        (λ x i. let s = divided m one x.cell.z in (s.0, s.1, s.2, (λ d. absurd (omega (arith, d, three))), sym s.3))
-
--- in a connected net a periodic function that is at each vertex the mean over its neighbours is constant
-pub periodic_constant : (G : Graph) → IsGraph G → IsConnected G → (m : ℕ) → 1 ≤ m → (F : Vertex → ℤ) → Repeats G m F → IsNetHarmonic G F
-    → (w x : Vertex) → IsVertex G w → IsVertex G x → F w ≡ F x
-periodic_constant G g c m one F rep h w x i j =
-    let t = greatest_vertex G g m one F rep in
-    let to = λ (y : Vertex) (k : IsVertex G y). let s = c t.0 y t.1 k in level_along G g F h (F t.0) t.2 s.0 t.0 y t.1 refl s.1 in
-    to w i ∙ sym (to x j)
 
 -- what f gains along these arcs, together
 abbrev pub gain : (ℕ → ℤ) → List Arc → ℤ
