@@ -24,7 +24,7 @@ pub use Rattle.periodic_net.proofs.nets.{SplitCases.equal_if_not_unequal, Normal
 pub use Rattle.periodic_net.proofs.placements.OnePlacement.{gain, one_placement, one_vertex, total_linear, total_zero}
 pub use Rattle.periodic_net.proofs.{Translations.whole_translation, ClassArcs.class_arcs_shown, ClassArcs.shows_class_arc, ClassArcs.shows_one}
 pub use Rattle.periodic_net.proofs.{Coarsest.stays, Theorems.normal_placement_is_one, Theorems.translations_are_group, examples.TwoVertices.either}
-pub use Rattle.periodic_net.proofs.{examples.TwoVertices.honeycomb_normal_placement, isomorphisms.CarriedPositions.image_linear}
+pub use Rattle.periodic_net.proofs.{examples.TwoVertices.honeycomb_normal_placement, isomorphisms.AffineMaps.image_linear}
 pub use Rattle.periodic_net.proofs.isomorphisms.Bijections.{bare_connected, bare_equivalence, bare_of_iso, bare_reflexive, bare_transitive, bare_turned}
 pub use Rattle.periodic_net.proofs.isomorphisms.{BareMaps.bare_periodic, StableNets.bare_between, StableNets.bare_iso, StableNets.bare_stable}
 pub use Rattle.periodic_net.proofs.isomorphisms.{StableNets.iso_of_bare, StableNets.stable_told}

@@ -7,7 +7,7 @@ use Rattle.periodic_net.proofs.Translations.{whole_translation, translation_plus
 use Rattle.periodic_net.proofs.isomorphisms.CarriedClasses.{linear_part, stable_carries, iso_translations, iso_share, iso_classes, stands_there}
 use Rattle.periodic_net.specs.{Laws.MovesAlike, RefinementLaws.MovesAreTranslations, Graph.Graph, Graph.IsGraph, Placement.Placement, Maps.Iso}
 use Rattle.periodic_net.specs.{Placement.IsStablePlacement, Placement.HasNoCollision, Classes.IsTranslation, Translations.move_to}
-use Rattle.periodic_net.proofs.isomorphisms.{Periods.iso_connected, Periods.iso_turned, CarriedPositions.iso_stable}
+use Rattle.periodic_net.proofs.isomorphisms.{Periods.iso_connected, Periods.iso_turned, StableNets.iso_stable}
 use Rattle.periodic_net.proofs.Translations as moves
 
 -- barycentric placements are translates

@@ -1,8 +1,8 @@
--- Maps of nets, periodic and bare, isomorphisms and symmetries, and what they carry.
+-- Maps of nets, bare and periodic, isomorphisms and symmetries, and what they carry.
+pub mod AffineMaps
 pub mod BareMaps
 pub mod Bijections
 pub mod CarriedClasses
-pub mod CarriedPositions
 pub mod Periods
 pub mod StableNets
 pub mod Symmetries
