@@ -1,6 +1,6 @@
 -- Small nets that the theorems are tried on.
-use Rattle.std.specs.Prelude.{pos, negsuc, [], ◌∷◌}
-use Rattle.integers.specs.Vectors.{vector, zero_vector}
+use Rattle.std.specs.Prelude.{pos, negsuc, ◌+ℤ◌, [], ◌∷◌}
+use Rattle.integers.specs.Vectors.{Vector, vector, zero_vector}
 use Rattle.periodic_net.specs.Graph.{Graph, arc}
 use Rattle.periodic_net.specs.Placement.{Placement}
 
@@ -11,6 +11,14 @@ square_net = record { dimension = 2; vertices = 1; edges = arc 1 1 (vector (pos 
 -- the square net over a cell of half its steps to the right: two nets that pass each other
 abbrev pub doubled_net : Graph
 doubled_net = record { dimension = 2; vertices = 1; edges = arc 1 1 (vector (pos 2) (pos 0) (pos 0)) ∷ arc 1 1 (vector (pos 0) (pos 1) (pos 0)) ∷ [] }
+
+-- the square net over a slanted cell, from which a step up is the vector (1, 1)
+abbrev pub slanted_net : Graph
+slanted_net = record { dimension = 2; vertices = 1; edges = arc 1 1 (vector (pos 1) (pos 0) (pos 0)) ∷ arc 1 1 (vector (pos 1) (pos 1) (pos 0)) ∷ [] }
+
+-- a vector, as it is written over that cell
+abbrev pub slanted : Vector → Vector
+slanted v = vector (v.x +ℤ v.y) v.y v.z
 
 -- two vertices with three edges from the one to the other
 abbrev pub honeycomb_net : Graph

@@ -4,10 +4,10 @@ use Rattle.std.specs.Int.{int_max}
 use Rattle.integers.specs.Coordinates.{IsCoordinate}
 use Rattle.integers.specs.Vectors.{Vector, vector, zero_vector}
 use Rattle.periodic_net.specs.Classes.{ClassGraph, IsClassGraph, IsDistance}
-use Rattle.periodic_net.specs.Examples.{square_net, doubled_net, honeycomb_net, hanging_net, square_placement, honeycomb_placement, hanging_placement}
+use Rattle.periodic_net.specs.Examples.{square_net, doubled_net, honeycomb_net, hanging_net, slanted_net, slanted, square_placement, honeycomb_placement, hanging_placement}
 use Rattle.periodic_net.specs.Graph.{Graph, IsGraph, IsConnected, vertex}
 use Rattle.periodic_net.specs.Placement.{Placement, position, IsBarycentric, IsCollision, IsNormalPlacement, IsStablePlacement}
-use Rattle.periodic_net.specs.{OrderedGroups.OrderedGroup, OrderedPlacements.IsBarycentricIn}
+use Rattle.periodic_net.specs.{Maps.BareIso, OrderedGroups.OrderedGroup, OrderedPlacements.IsBarycentricIn}
 use Rattle.periodic_net.specs.Shells.{IsInShell}
 use Rattle.periodic_net.specs.Split.{Split, IsSplit}
 
@@ -23,7 +23,8 @@ pub record IsOfWholeNumbers (A : OrderedGroup ℤ) : Type 0 where
   pub placement : (G : Graph) (p : Placement) → IsBarycentric G p → (c : Vector → ℤ) → IsCoordinate c
       → IsBarycentricIn A G (λ t. pos p.denominator *ℤ c t) (λ w. c (position p w))
 
--- an instance of each: of the square net, of that of half as many edges along one axis, of the honeycomb net, and of a net with a vertex that hangs on another
+-- an instance of each: of the square net, over two cells, of that of half as many edges along one axis, of the honeycomb net, and of a net
+-- with a vertex that hangs on another
 pub record DefinitionsHaveInstances : Type 0 where
   pub graph : IsGraph square_net
   pub connected : IsConnected square_net
@@ -33,4 +34,5 @@ pub record DefinitionsHaveInstances : Type 0 where
   pub split : (S : Split) × IsSplit doubled_net S
   pub normal : IsNormalPlacement honeycomb_net honeycomb_placement
   pub collision : IsCollision hanging_net hanging_placement 1 2 zero_vector
+  pub bare : (e : BareIso square_net slanted_net) × (e.map ≡ λ w. vertex w.over (slanted w.cell))
   pub ordered : (A : OrderedGroup ℤ) × IsOfWholeNumbers A

@@ -23,4 +23,5 @@ PlacementsTranslateInAnyGroup V = (A : OrderedGroup V) (G : Graph) → IsGraph G
 abbrev pub OnePlacementInAnyGroup : Type 0 → Type 0
 OnePlacementInAnyGroup V = (A : OrderedGroup V) (G : Graph) → IsGraph G → IsConnected G → (p : Placement) → IsBarycentric G p
     → (b : LatticeIn V) (P : Vertex → V) → IsBarycentricIn A G (along A b) P → (w x : Vertex) → IsVertex G w → IsVertex G x
-    → difference A (natural_multiple A p.denominator (P w)) (along A b (position p w)) ≡ difference A (natural_multiple A p.denominator (P x)) (along A b (position p x))
+    → difference A (natural_multiple A p.denominator (P w)) (along A b (position p w))
+    ≡ difference A (natural_multiple A p.denominator (P x)) (along A b (position p x))

@@ -59,6 +59,11 @@ bare_turned G H e = record {
   joins = back_joins G H e.map e.bijection e.joins;
 }
 
+-- and undoes it
+pub bare_undone : (G H : Graph) → (e : BareIso G H) → (f : BareIso H G) × ((w : Vertex) → IsVertex G w → f.map (e.map w) ≡ w)
+unfolding bare_turned
+bare_undone G H e = (bare_turned G H e, (bare_matching G H e).back_there)
+
 -- what leads so to a connected net is connected
 pub bare_connected : (G H : Graph) → IsGraph H → BareIso G H → IsConnected H → IsConnected G
 bare_connected G H h e c x y i j =
@@ -86,7 +91,7 @@ bare_of_iso G H i = record {
 -- Such nets are an equivalence.
 
 -- each net is so to itself
-pub bare_reflexive : (G : Graph) → BareIso G G
+abbrev pub bare_reflexive : (G : Graph) → BareIso G G
 bare_reflexive G = record {
   map = λ w. w;
   bijection = record { into = λ w i. i; once = λ w x i j e. e; onto = λ y j. (y, j, refl) };
