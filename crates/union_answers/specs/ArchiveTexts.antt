@@ -7,7 +7,7 @@ use Rattle.net_archive.specs.declared.faults.ArchiveFault.TheVariants.{ShellsDif
 use Rattle.net_archive.specs.declared.faults.AddFault.{AddFault}
 use Rattle.net_archive.specs.declared.faults.AddFault.TheVariants as add
 use Rattle.net_report.specs.Headers.{quoted_name}
-use Rattle.line_text.specs.Numbers.{field_text, list_text}
+use Rattle.line_text.specs.Numbers.{field_text, numbers_text}
 use Rattle.net_report.specs.Refusals.{refused_text}
 use Rattle.net_report.specs.Refusals as refusal
 
@@ -35,13 +35,13 @@ at_class n class = field_text (codes " line=") n ++ field_text (codes " class=")
 abbrev pub counts_text : ℕ → ℕ → ℕ → List ℕ
 counts_text n kept computed = field_text (codes " line=") n ++ field_text (codes " kept=") kept ++ field_text (codes " computed=") computed ++ codes "\n"
 
--- a list of numbers, on a line of its own
+-- a word and a list of numbers, each after a blank, on a line of its own
 abbrev pub list_line : List ℕ → List ℤ → List ℕ
-list_line word numbers = word ++ list_text numbers ++ codes "\n"
+list_line word numbers = word ++ numbers_text numbers ++ codes "\n"
 
 -- a list that is kept, and the one that is computed
 abbrev pub lists_text : List ℤ → List ℤ → List ℕ
-lists_text kept computed = list_line (codes "kept ") kept ++ list_line (codes "computed ") computed
+lists_text kept computed = list_line (codes "kept") kept ++ list_line (codes "computed") computed
 
 -- what is reported after the name of a fault
 abbrev pub fault_details : ArchiveFault → List ℕ

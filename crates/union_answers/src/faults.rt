@@ -5,7 +5,7 @@ ghost use Rattle.net_report.specs.Refusals.{refused_text};
 
 use crate::NoMemory;
 use cgd_read::Names;
-use line_text::{push_field, push_wide_list};
+use line_text::{push_field, push_numbers};
 use net_archive::ArchiveFault;
 use net_report::{Refusal, refused_line};
 use std::alloc::Global;
@@ -18,20 +18,20 @@ fn push_line(text: &mut Vec<u8>, line: u32) -> Result<(), NoMemory>
     text.extend_from_slice(b"\n")
 }
 
-// A list of numbers after its word, on a line of its own.
+// A word and a list of numbers, each after a blank, on a line of its own.
 fn push_list_line(text: &mut Vec<u8>, word: &[u8], numbers: &[i128]) -> Result<(), NoMemory>
     ensures { OnOk result (text.new.items ≡ text.old.items ++ list_line word.now numbers.now) }
 {
     text.extend_from_slice(word)?;
-    push_wide_list(text, numbers)?;
+    push_numbers(text, numbers)?;
     text.extend_from_slice(b"\n")
 }
 
 fn push_lists(text: &mut Vec<u8>, kept: &[i128], computed: &[i128]) -> Result<(), NoMemory>
     ensures { OnOk result (text.new.items ≡ text.old.items ++ lists_text kept.now computed.now) }
 {
-    push_list_line(text, b"kept ", kept)?;
-    push_list_line(text, b"computed ", computed)
+    push_list_line(text, b"kept", kept)?;
+    push_list_line(text, b"computed", computed)
 }
 
 // A coordination sequence as wide numbers.

@@ -1,8 +1,9 @@
 // Archives: nets that are added, reported and found twice, and texts that are none.
 use super::{PCU, Row, answer_over};
 use crate::tests::{DIA, DIA_ARCHIVE, PCU_ARCHIVE};
-use line_text::push_row;
+use line_text::{push_field, push_row};
 use net_report::Status;
+use std::alloc::Global;
 use std::test::Fail;
 
 const PCU_NEWEST: &str =
@@ -251,6 +252,13 @@ const FORGED: &[(&str, &str, &str, &str)] = &[
         "",
         "archive refused 9 ShellsDiffer line=9 class=1\nkept 6 18 38 66 102 146 198 258 326\ncomputed 6 18 38 66 102 146 198 258 326 402\n",
     ),
+    // one without numbers, after which no blank stands
+    (
+        PCU_NEWEST,
+        "shells 1 6 18 38 66 102 146 198 258 326 402",
+        "shells 1",
+        "archive refused 9 ShellsDiffer line=9 class=1\nkept\ncomputed 6 18 38 66 102 146 198 258 326 402\n",
+    ),
     // vertices at one position, reported by their numbers
     (
         PCU_ARCHIVE,
@@ -269,6 +277,43 @@ fn texts_that_are_no_archive(rt: HostRuntime) -> Result<(), Fail> {
         assert_eq!(rt; answer.text.as_slice(), written.as_bytes());
         assert_eq!(rt; answer.status, Status::BadArchive);
     }
+    Ok(())
+}
+
+// The rows of an entry whose graph is the cubic net on a ring of 512 vertices.
+fn ring_rows(alloc: Global) -> Result<Vec<u8>, Fail> {
+    let mut text = Vec::from_slice(alloc, b"graph 3 512 1536\n")?;
+    for k in 1..=512i64 {
+        let k = i128::from(k);
+        push_row(&mut text, b"edge", &[k, k, 0, 0, 1])?;
+        push_row(&mut text, b"edge", &[k, k, 0, 1, 0])?;
+        if k < 512 {
+            push_row(&mut text, b"edge", &[k, k + 1, 0, 0, 0])?;
+        }
+        if k == 1 {
+            push_row(&mut text, b"edge", &[1, 512, -1, 0, 0])?;
+        }
+    }
+    text.extend_from_slice(b"key 3 1 1 1 1 0 0 1 1 1 0 1 0 1 1 1 0 0\nend\n")?;
+    Ok(text)
+}
+
+// 586 entries are a text within the limit. The newest format adds 56 bytes to each, and there is
+// no room for them.
+#[test]
+fn no_room_to_migrate(rt: HostRuntime) -> Result<(), Fail> {
+    let rows = ring_rows(rt.alloc())?;
+    let mut text = Vec::from_slice(rt.alloc(), b"net_archive 1\n")?;
+    for name in 0..586u64 {
+        push_field(&mut text, b"entry \"", name)?;
+        text.extend_from_slice(b"\"\n")?;
+        text.extend_from_slice(&rows)?;
+    }
+    let words = ["migrate", "--archive", "archive"];
+    let answer = answer_over(rt.alloc(), &words, b"", &text)?;
+    let written = "migrate refused 1 Full length=16798180\n";
+    assert_eq!(rt; answer.text.as_slice(), written.as_bytes());
+    assert_eq!(rt; answer.status, Status::MigrateRefused);
     Ok(())
 }
 

@@ -239,6 +239,14 @@ pub const VERIFIED: &[Row] = &[
         status: Status::Done,
         written: "pair 2 verified\n",
     },
+    // what `same` writes of two nets that are different
+    Row {
+        words: &["verify", "net"],
+        net: "net_maps 1\ngraph 2 1 2\nedge 1 1 0 1\nedge 1 1 1 0\npair 2 different\n",
+        archive: "",
+        status: Status::Done,
+        written: "pair 2 unproved\n",
+    },
     // a pair without a map is not proved
     Row {
         words: &["verify", "net"],
