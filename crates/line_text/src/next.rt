@@ -9,7 +9,7 @@ use std::alloc::AllocError as NoMemory;
 
 impl<'a> Lines<'a> {
     /// Whether the next line is a word and then so many numbers at most; these take the place of
-    /// those that were held. No number past these is kept.
+    /// those that were held.
     pub fn next_row(
         &mut self,
         word: &[u8],

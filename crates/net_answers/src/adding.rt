@@ -125,7 +125,7 @@ fn refused_text(alloc: Global, refused: NotAdded) -> Result<Vec<u8>, NoMemory>
 // not.
 fn add_accepted<'x>(
     alloc: Global,
-    archive: &mut Archive,
+    archive: Archive,
     given: Option<&[u8]>,
     found: &'x [Block<'_>],
     outcomes: &'x [Outcome<'_>],
@@ -136,9 +136,10 @@ fn add_accepted<'x>(
     requires kinds { AreKindsOfAll outcomes.now kinds.now }
     requires accepted { list_all is_accepted outcomes.now ≡ true }
     ensures { IfOk result (λ a. IsAddedOrRefused (option_copied given.entry)
-        (views found.now) archive.old a.status a.text.items) }
+        (views found.now) archive.entry a.status a.text.items) }
 {
-    match add_all(archive, given, found, outcomes, kinds) {
+    let mut archive = archive;
+    match add_all(&mut archive, given, found, outcomes, kinds) {
         Ok(()) => Ok(Answer {
             status: Status::Done,
             text: archive.text()?,
@@ -150,18 +151,18 @@ fn add_accepted<'x>(
     }
 }
 
-/// The text of the archive with the nets of these blocks, which are added to it, or the report on
-/// them where one has no key, or why the first that cannot be added is not.
+/// The text of the archive with the nets of these blocks, or the report on them where one has no
+/// key, or why the first that cannot be added is not.
 pub fn add_blocks(
     alloc: Global,
-    archive: &mut Archive,
+    archive: Archive,
     name: Option<&str>,
     found: &[Block<'_>],
 ) -> Result<Answer, NoMemory>
     requires graphs { All (λ block. IsReadBody block.body) found.now }
     requires few { length found.now ≤ most_blocks }
     ensures { IfOk result (λ a. IsAddedOrRefused (option_copied name.entry)
-        (views found.now) archive.old a.status a.text.items) }
+        (views found.now) archive.entry a.status a.text.items) }
 {
     let keyed = outcomes_of(alloc, found)?;
     if !are_accepted(&keyed.outcomes) {
