@@ -8,10 +8,10 @@ use Rattle.archive_text.specs.Lookups.{names_with, same_key, names_of}
 use Rattle.archive_text.specs.Regrouped.{with_key, regrouped, AreTogether}
 use Rattle.archive_text.{specs.Entries.EntryView, proofs.CallerLemmas.is_regrouped}
 use Rattle.net_archive.specs.Archives.{ArchiveView, IsArchive, IsEntry}
-use Rattle.net_archive.{specs.Deciding.is_there, proofs.CallerLemmas.iso_together, proofs.CallerLemmas.keys_decide_archive}
-use Rattle.archive_union.specs.Unions.{with_item, united, IsUnion, IsOneOf, HasAll}
-use Rattle.periodic_net.specs.{Graph.Graph, Graph.IsGraph, Maps.Iso}
-use Rattle.key_theory.{specs.Key.IsKeyOf, proofs.CallerLemmas.keys_decide}
+use Rattle.net_archive.{specs.Deciding.is_there, proofs.CallerLemmas.KeysTell, proofs.CallerLemmas.stand_together, proofs.CallerLemmas.keys_decide_archive}
+use Rattle.archive_union.specs.Unions.{with_item, united, HasAll, IsFoundBy, IsOneOf, IsUnion}
+use Rattle.periodic_net.specs.{Graph.Graph, Maps.BareIso, Maps.Iso}
+use Rattle.key_theory.proofs.CallerLemmas.{keys_decide, keys_decide_bare}
 
 pub here : {X : Type 0} (x : X) (xs : List X) → Contains (x ∷ xs) x
 here x xs = (0, omega arith, refl)
@@ -176,14 +176,13 @@ module _ (a b : ArchiveView) (items : List EntryView) (archive : IsArchive a) (g
   names_come : (name : List ℕ) → Contains (names_of b.entries) name → Contains (names_of a.entries) name ⊎ Contains (names_of items) name
   names_come name c = let i = preimage (λ (x : EntryView). x.name) b.entries name c in name_of_one name i.of (own i.of i.member) i.is
 
-  stand_together : AreTogether b.entries
-  stand_together = subst AreTogether (sym entries_are) (is_regrouped all_of).together
+  together : AreTogether b.entries
+  together = subst AreTogether (sym entries_are) (is_regrouped all_of).together
 
-  found : (G : Graph) (key : List ℤ) (e : EntryView) → IsGraph G → IsKeyOf G key → IsOneOf a items e → Iso G e.graph
-      → Contains (names_with key b.entries) e.name
-  found G key e g k c iso =
+  found : (Same : Graph → Graph → Type 0) → KeysTell Same → IsFoundBy Same a items b
+  found Same tell G key e g k c is =
       let s = stands e c in let x = good_one e c in
-      let same : key ≡ e.key = (keys_decide G e.graph key e.key g x.is_graph k x.key).1 iso in
+      let same : key ≡ e.key = (tell G e.graph key e.key g x.is_graph k x.key).1 is in
       let passes : same_key s.one.key key ≡ true = (signed_items s.one.key key).1 (s.key ∙ sym same) in
       subst (Contains (names_with key b.entries)) s.name
       (image (λ (x : EntryView). x.name) (with_key key b.entries) s.one (passing (λ (x : EntryView). same_key x.key key) b.entries s.one s.member passes))
@@ -193,8 +192,11 @@ module _ (a b : ArchiveView) (items : List EntryView) (archive : IsArchive a) (g
     names = λ name. (names_come name, names_kept name);
     once = union.is_archive.names;
     own = own;
-    together = stand_together;
-    decide = keys_decide_archive b.entries union.is_archive.each;
-    iso_together = iso_together b.entries union.is_archive.each stand_together;
-    found = found;
+    together = together;
+    decide = keys_decide_archive Iso keys_decide b.entries union.is_archive.each;
+    bare_decide = keys_decide_archive BareIso keys_decide_bare b.entries union.is_archive.each;
+    iso_together = stand_together Iso keys_decide b.entries union.is_archive.each together;
+    bare_together = stand_together BareIso keys_decide_bare b.entries union.is_archive.each together;
+    found = found Iso keys_decide;
+    bare_found = found BareIso keys_decide_bare;
   }

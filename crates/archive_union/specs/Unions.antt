@@ -2,14 +2,14 @@
 -- coordination sequences of its classes.
 use Rattle.std.specs.Prelude.{◌≡◌, ◌≢◌, ◌⊎◌, ◌↔◌, ℕ, ◌+◌, ℤ, false, List, [], ◌∷◌, ◌++◌, length, if◌then◌else◌, Contains, AllPairs}
 use Rattle.periodic_net.specs.Graph.{Graph, IsGraph}
-use Rattle.periodic_net.specs.Maps.{Iso}
+use Rattle.periodic_net.specs.Maps.{BareIso, Iso}
 use Rattle.key_theory.specs.Key.{IsKeyOf}
 use Rattle.archive_text.specs.Entries.{EntryView}
 use Rattle.archive_text.specs.Lookups.{names_of, names_with}
 use Rattle.archive_text.specs.Regrouped.{regrouped, AreTogether}
 use Rattle.net_archive.specs.Adding.{IsEntryFault}
 use Rattle.net_archive.specs.Archives.{ArchiveView, IsArchive, archive_with}
-use Rattle.net_archive.specs.Deciding.{AreIsoTogether, KeysDecideArchive, is_there}
+use Rattle.net_archive.specs.Deciding.{KeysDecideArchive, StandTogetherBy, is_there}
 use Rattle.net_archive.specs.declared.faults.AddFault.{AddFault}
 use Rattle.net_archive.specs.declared.faults.AddFault.TheVariants as add
 
@@ -47,15 +47,23 @@ pub record IsNotUnited (a : ArchiveView) (items : List EntryView) (number : ℕ)
 abbrev pub IsOneOf : ArchiveView → List EntryView → EntryView → Type 0
 IsOneOf a items e = Contains a.entries e ⊎ Contains items e
 
+-- a graph that is the same, in this sense, as that of an entry or item is found in b, by its key, under that entry's or item's name
+abbrev pub IsFoundBy : (Graph → Graph → Type 0) → ArchiveView → List EntryView → ArchiveView → Type 0
+IsFoundBy Same a items b = (G : Graph) (key : List ℤ) (e : EntryView) → IsGraph G → IsKeyOf G key → IsOneOf a items e → Same G e.graph
+    → Contains (names_with key b.entries) e.name
+
 -- What the union b of the archive a and of items is. Its names are exactly those of the archive and of the items, each once, with a graph
 -- of its own entry or item. Entries with equal keys stand together, and two keys are equal exactly where the nets are isomorphic. A graph
--- whose net is isomorphic to that of an entry or item is found, by its key, under that entry's or item's name among others.
+-- whose net is isomorphic to that of an entry or item is found, by its key, under that entry's or item's name among others. All of this
+-- holds by bijections with a period and by any.
 pub record HasAll (a : ArchiveView) (items : List EntryView) (b : ArchiveView) : Type 0 where
   pub names : (name : List ℕ) → Contains (names_of b.entries) name ↔ (Contains (names_of a.entries) name ⊎ Contains (names_of items) name)
   pub once : AllPairs (λ (e f : EntryView). e.name ≢ f.name) b.entries
   pub own : (e : EntryView) → Contains b.entries e → IsOneOf a items e
   pub together : AreTogether b.entries
-  pub decide : KeysDecideArchive b.entries
-  pub iso_together : AreIsoTogether b.entries
-  pub found : (G : Graph) (key : List ℤ) (e : EntryView) → IsGraph G → IsKeyOf G key → IsOneOf a items e → Iso G e.graph
-      → Contains (names_with key b.entries) e.name
+  pub decide : KeysDecideArchive Iso b.entries
+  pub bare_decide : KeysDecideArchive BareIso b.entries
+  pub iso_together : StandTogetherBy Iso b.entries
+  pub bare_together : StandTogetherBy BareIso b.entries
+  pub found : IsFoundBy Iso a items b
+  pub bare_found : IsFoundBy BareIso a items b

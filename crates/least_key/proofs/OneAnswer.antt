@@ -369,7 +369,7 @@ certain_is_not_refused G (Collision dim u v t) g c h =
     absurd (s.stable.no_collision u v t
     (same_collision G g s.stable.connected h.net.placement s.placement h.placed.normal s.stable.placement u v t h.first.collision))
 certain_is_not_refused G (TooMuch done counted) g c h =
-    absurd (work_not_past G g c.keyable.shape h.shape c.keyable.work done counted c.keyable.is_work c.keyable.work_limit h.past)
+    absurd (work_not_past G G g g (iso_reflexive G) c.keyable.shape h.shape c.keyable.work done counted c.keyable.is_work c.keyable.work_limit h.past)
 certain_is_not_refused G NoMemory g c h = refl
 
 -- the classes in memory of a net show that it may have a key

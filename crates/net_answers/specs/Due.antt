@@ -1,5 +1,6 @@
 -- What is due to the arguments and to the bytes of the files that they name.
 use Rattle.std.specs.Prelude.{◌≡◌, ◌≢◌, ℕ, ◌+◌, ◌≤◌, ◌<◌, true, false, List, [], ◌∷◌, ◌++◌, length, Option, Some, None, unwrap_or, All}
+use Rattle.periodic_net.specs.Maps.{BareIso, Iso}
 use Rattle.cgd_read.specs.Graphs.{graph_of}
 use Rattle.cgd_read.specs.Views.{RawView, Net, BlockView}
 use Rattle.cgd_read.specs.Blocks.{blocks_of, most_blocks}
@@ -9,7 +10,7 @@ use Rattle.archive_text.specs.Entries.{EntryView}
 use Rattle.archive_text.specs.Groups.{AreGroups}
 use Rattle.net_archive.specs.Adding.{IsEntryOf, IsAddFault}
 use Rattle.net_archive.specs.Archives.{ArchiveView, IsArchive, archive_text}
-use Rattle.net_archive.specs.Deciding.{AreIsoGroups}
+use Rattle.net_archive.specs.Deciding.{AreGroupsBy}
 use Rattle.net_archive.specs.Migrating.{newest, IsMigrated}
 use Rattle.net_archive.specs.declared.faults.AddFault.{AddFault}
 use Rattle.net_archive.specs.declared.faults.AddFault.TheVariants as add
@@ -111,11 +112,12 @@ pub record IsNotAddedAs (given : Option (List ℕ)) (blocks : List BlockView) (a
   pub told : fault ≢ add.NoMemory
   pub text_is : text ≡ add_fault_text number fault
 
--- these groups of entries, two of which share one exactly where their nets are isomorphic
+-- these groups of entries, two of which share one exactly where their nets are isomorphic, by bijections with a period and by any
 pub record AreGroupsIn (a : ArchiveView) (text : List ℕ) : Type 0 where
   pub groups : List (List ℕ)
   pub are_groups : AreGroups a.entries groups
-  pub isomorphic : AreIsoGroups a.entries groups
+  pub isomorphic : AreGroupsBy Iso a.entries groups
+  pub bare : AreGroupsBy BareIso a.entries groups
   pub text_is : text ≡ groups_text a.entries groups
 
 -- the groups, and the status that goes with them

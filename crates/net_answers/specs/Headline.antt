@@ -7,7 +7,8 @@ use Rattle.net_archive.specs.Archives.{ArchiveView}
 use Rattle.net_outcomes.specs.Outcomes.{Outcome, AreOutcomesFrom, is_accepted}
 use Rattle.net_outcomes.specs.Reports.{report_text}
 use Rattle.net_archive.specs.Deciding.{KeysDecideArchive}
-use Rattle.net_outcomes.specs.Deciding.{KeysDecideBlocks, KeysDecideEntries, CertainAreAccepted}
+use Rattle.periodic_net.specs.Maps.{BareIso, Iso}
+use Rattle.net_outcomes.specs.Deciding.{KeysDecideBlocks, KeysDecideEntries, CertainAreAccepted, RefusedAreApart, RefusedAreNoEntries}
 use Rattle.union_answers.specs.ArchiveBytes.{IsArchiveIn}
 use Rattle.net_report.specs.declared.status.Status.{Status}
 use Rattle.net_report.specs.declared.status.Status.TheVariants.{Done, SomeRefused}
@@ -16,8 +17,9 @@ use Rattle.net_report.specs.declared.status.Status.TheVariants.{Done, SomeRefuse
 --
 -- Each block is answered as of another kind, or refused with values that show it malformed, disconnected, degenerate or colliding, or as
 -- past a stated limit or without a modulus, or gets its barycentric placement, unique up to translation, its primitive graph, its key and
--- exactly the archive's isomorphic entries; two keys are equal exactly where a periodic bijection carries one net to the other; want of
--- memory aside.
+-- exactly the archive's isomorphic entries; two keys are equal exactly where some bijection between the vertices of the nets joins images
+-- exactly where the vertices are joined, and then one of them has a period; a net that is refused as disconnected, degenerate, colliding or
+-- past the key work is that of no accepted block and of no entry; want of memory aside.
 pub record Headline (file : List ℕ) (archive : Option (List ℕ)) (status : Status) (text : List ℕ) : Type 0 where
   -- the archive is read without a fault, and each of its keys computed anew
   pub known : ArchiveView
@@ -25,10 +27,18 @@ pub record Headline (file : List ℕ) (archive : Option (List ℕ)) (status : St
   -- the answer to each block, in order
   pub outcomes : List Outcome
   pub each : AreOutcomesFrom known.entries Identify 1 (blocks_of file) outcomes
-  -- two keys, of two blocks, of a block and an entry, or of two entries
-  pub blocks : KeysDecideBlocks (blocks_of file) outcomes
-  pub entries : KeysDecideEntries known.entries (blocks_of file) outcomes
-  pub archive_entries : KeysDecideArchive known.entries
+  -- two keys, of two blocks, of a block and an entry, or of two entries, are equal exactly where a periodic bijection carries one net to the
+  -- other
+  pub blocks : KeysDecideBlocks Iso (blocks_of file) outcomes
+  pub entries : KeysDecideEntries Iso known.entries (blocks_of file) outcomes
+  pub archive_entries : KeysDecideArchive Iso known.entries
+  -- and exactly where the infinite graphs are isomorphic, by any bijection
+  pub bare_blocks : KeysDecideBlocks BareIso (blocks_of file) outcomes
+  pub bare_entries : KeysDecideEntries BareIso known.entries (blocks_of file) outcomes
+  pub bare_archive_entries : KeysDecideArchive BareIso known.entries
+  -- what is refused for what it is in each cell is neither the net of an accepted block nor that of an entry
+  pub refused : RefusedAreApart (blocks_of file) outcomes
+  pub refused_entries : RefusedAreNoEntries known.entries (blocks_of file) outcomes
   -- a block whose graph is certain is accepted
   pub certain : CertainAreAccepted (blocks_of file) outcomes
   -- all of this is written, and the status says whether each block was accepted

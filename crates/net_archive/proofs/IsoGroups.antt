@@ -1,4 +1,4 @@
--- Groups of entries with equal keys are groups of entries with isomorphic nets, and a regrouped archive is an archive.
+-- Groups of entries with equal keys are groups of entries with isomorphic nets, in each sense that keys decide. A regrouped archive is an archive.
 use Rattle.std.proofs.Common.{◌≡◌, ◌∙◌, ℕ, ◌+◌, ◌<◌, List, [], ◌∷◌, ◌++◌, length, take, map, get_or, Bor, sym, ap, subst, arith, add-one, ◌≢◌, refl, inl, ℤ}
 use Rattle.std.proofs.Common.{Bool, true, false, filter, cond, inr, zero, suc, ◌-◌, ◌≤◌, slice_get, Some, Result, Ok, Err, Vec}
 use Rattle.std.proofs.lemmas.List.{map-append, length-map, get_or-map, length-append}
@@ -17,10 +17,10 @@ use Rattle.archive_text.{specs.declared.entry.Entry.Entry, specs.declared.versio
 use Rattle.archive_text.{specs.Regrouped.AreTogether, proofs.CallerLemmas.is_regrouped}
 use Rattle.integers.proofs.lists.Members.{IsIn, is_in, contains_from_in}
 use Rattle.integers.proofs.lists.Permutations.{permuted_pairs}
-use Rattle.periodic_net.specs.{Graph.Graph, Graph.IsGraph, Maps.Iso}
-use Rattle.key_theory.{specs.Key.IsKeyOf, proofs.CallerLemmas.keys_decide}
+use Rattle.periodic_net.specs.Graph.{Graph, IsGraph}
+use Rattle.key_theory.specs.Key.{IsKeyOf}
 use Rattle.net_archive.specs.Archives.{IsEntry, IsArchive, IsInMemory}
-use Rattle.net_archive.specs.Deciding.{AreNamesOf, AreIsoGroups, IsEntryAt, KeysDecideArchive, ShareGroup, AreIsoTogether}
+use Rattle.net_archive.specs.Deciding.{AreGroupsBy, AreNamesBy, IsEntryAt, KeysDecideArchive, ShareGroup, StandTogetherBy}
 use Rattle.net_archive.proofs.NewEntry.{body_with, lines_with, text_length}
 
 -- The rows of lent entries.
@@ -106,25 +106,30 @@ regrouped_archive v es now body rows m is r = record {
   is_body = r ∙ ap (λ (xs : List EntryView). rows_text (entry_lines v xs)) (sym is);
 }
 
--- The names that a key finds are those of the isomorphic entries.
+-- keys decide whether the nets of two graphs are the same in this sense
+abbrev pub KeysTell : (Graph → Graph → Type 0) → Type 0
+KeysTell Same = (G H : Graph) (xs ys : List ℤ) → IsGraph G → IsGraph H → IsKeyOf G xs → IsKeyOf H ys → (xs ≡ ys) ↔ Same G H
+
+-- The names that a key finds are those of the entries with the same net.
 
 -- two keys are found equal exactly where they are
 same_decides : (xs ys : List ℤ) → (same_key xs ys ≡ true → xs ≡ ys) × (xs ≡ ys → same_key xs ys ≡ true)
 same_decides xs ys = slice_eq-Decides Decides-int_eq xs ys (same_key xs ys) refl
 
-module _ (G : Graph) (g : IsGraph G) (key : List ℤ) (k : IsKeyOf G key) where
-  -- the entry is found where its net is isomorphic
-  found_iso : (e : EntryView) → IsEntry e → same_key e.key key ≡ true → Iso G e.graph
-  found_iso e h s = (keys_decide G e.graph key e.key g h.is_graph k h.key).0 (sym ((same_decides e.key key).0 s))
+module _ (Same : Graph → Graph → Type 0) (tell : KeysTell Same) (G : Graph) (g : IsGraph G) (key : List ℤ) (k : IsKeyOf G key) where
+  -- the entry is found where its net is the same
+  found_same : (e : EntryView) → IsEntry e → same_key e.key key ≡ true → Same G e.graph
+  found_same e h s = (tell G e.graph key e.key g h.is_graph k h.key).0 (sym ((same_decides e.key key).0 s))
 
   -- and there alone
-  missed_iso : (e : EntryView) → IsEntry e → same_key e.key key ≡ false → ¬ Iso G e.graph
-  missed_iso e h s i =
-      let same = (keys_decide G e.graph key e.key g h.is_graph k h.key).1 i in
+  missed_same : (e : EntryView) → IsEntry e → same_key e.key key ≡ false → ¬ Same G e.graph
+  missed_same e h s i =
+      let same = (tell G e.graph key e.key g h.is_graph k h.key).1 i in
       true≢false (sym ((same_decides e.key key).1 (sym same)) ∙ s)
 
   -- the names of the entries that are left, after one that is missed
-  missed : (e : EntryView) (es : List EntryView) (names : List (List ℕ)) → ¬ Iso G e.graph → AreNamesOf G es names → AreNamesOf G (e ∷ es) names
+  missed : (e : EntryView) (es : List EntryView) (names : List (List ℕ)) → ¬ Same G e.graph → AreNamesBy (Same G) es names
+      → AreNamesBy (Same G) (e ∷ es) names
   missed e es names k l = search arith
 
   -- the names, where it is known whether the first entry is found
@@ -132,22 +137,24 @@ module _ (G : Graph) (g : IsGraph G) (key : List ℤ) (k : IsKeyOf G key) where
   first_name b e es = names_of (cond b (e ∷ filter (λ (x : EntryView). same_key x.key key) es) (filter (λ (x : EntryView). same_key x.key key) es))
 
   -- the names with one more entry
-  one_more : (e : EntryView) (es : List EntryView) → IsEntry e → AreNamesOf G es (names_with key es) → (b : Bool) → same_key e.key key ≡ b
-      → AreNamesOf G (e ∷ es) (names_with key (e ∷ es))
-  one_more e es h rest true s = subst (AreNamesOf G (e ∷ es)) (sym (ap (λ (b : Bool). first_name b e es) s)) (inl (found_iso e h s, refl, rest))
-  one_more e es h rest false s = subst (AreNamesOf G (e ∷ es)) (sym (ap (λ (b : Bool). first_name b e es) s))
-      (missed e es (names_with key es) (missed_iso e h s) rest)
+  one_more : (e : EntryView) (es : List EntryView) → IsEntry e → AreNamesBy (Same G) es (names_with key es) → (b : Bool) → same_key e.key key ≡ b
+      → AreNamesBy (Same G) (e ∷ es) (names_with key (e ∷ es))
+  one_more e es h rest true s = subst (AreNamesBy (Same G) (e ∷ es)) (sym (ap (λ (b : Bool). first_name b e es) s))
+      (inl (found_same e h s, refl, rest))
+  one_more e es h rest false s = subst (AreNamesBy (Same G) (e ∷ es)) (sym (ap (λ (b : Bool). first_name b e es) s))
+      (missed e es (names_with key es) (missed_same e h s) rest)
 
   -- the names that the key finds
-  pub names_found : (es : List EntryView) → All IsEntry es → AreNamesOf G es (names_with key es)
+  pub names_found : (es : List EntryView) → All IsEntry es → AreNamesBy (Same G) es (names_with key es)
   names_found [] h = refl
   names_found (e ∷ es) h = one_more e es (All-head IsEntry e es h) (names_found es (All-tail IsEntry e es h)) (same_key e.key key) refl
 
 -- the keys of two entries decide
-pub keys_decide_archive : (entries : List EntryView) → All IsEntry entries → KeysDecideArchive entries
-keys_decide_archive entries good e f i j =
+pub keys_decide_archive : (Same : Graph → Graph → Type 0) → KeysTell Same → (entries : List EntryView) → All IsEntry entries
+    → KeysDecideArchive Same entries
+keys_decide_archive Same tell entries good e f i j =
     let a = All-contains IsEntry entries e good i in let b = All-contains IsEntry entries f good j in
-    keys_decide e.graph f.graph e.key f.key a.is_graph b.is_graph a.key b.key
+    tell e.graph f.graph e.key f.key a.is_graph b.is_graph a.key b.key
 
 -- an entry with a key, and its place
 record HasKeyAt (entries : List EntryView) (n : ℕ) (key : List ℤ) (m : ℕ) : Type 0 where
@@ -202,7 +209,8 @@ two_members (x ∷ []) m n (inl a) (inr j) other = absurd j
 two_members (x ∷ []) m n (inr i) j other = absurd i
 two_members (x ∷ y ∷ ys) m n i j other = omega arith
 
-module _ (es : List EntryView) (good : All IsEntry es) (groups : List (List ℕ)) (are : AreGroups es groups) where
+module _ (Same : Graph → Graph → Type 0) (tell : KeysTell Same) (es : List EntryView) (good : All IsEntry es) (groups : List (List ℕ))
+    (are : AreGroups es groups) where
   -- an entry by its number is one of the entries
   among : (m : ℕ) (e : EntryView) → IsEntryAt es m e → Contains es e
   among m e at = (m - 1, slice_get_within es (m - 1) e at.stands, get_or_from_slice_get es (m - 1) e e at.stands)
@@ -222,18 +230,18 @@ module _ (es : List EntryView) (good : All IsEntry es) (groups : List (List ℕ)
       let low = at.low in let place : 1 + (m - 1) ≡ m = omega (arith, low) in
       subst (IsIn (numbers_with key es)) place (in_keyed key 1 es (m - 1) e at.stands ((signed_items e.key key).1 same))
 
-  -- two entries stand in one group exactly where their nets are isomorphic
-  pub iso_groups : AreIsoGroups es groups
-  iso_groups m n e f a b other = (there, back)
+  -- two entries stand in one group exactly where their nets are the same
+  pub groups_by : AreGroupsBy Same es groups
+  groups_by m n e f a b other = (there, back)
     where
-      there : ShareGroup groups m n → Iso e.graph f.graph
+      there : ShareGroup groups m n → Same e.graph f.graph
       there s =
           let h = are.each s.0 s.1 in
-          (keys_decide_archive es good e f (among m e a) (among n f b)).0 (key_of_group s.0 h m e s.2 a ∙ sym (key_of_group s.0 h n f s.3 b))
+          (keys_decide_archive Same tell es good e f (among m e a) (among n f b)).0 (key_of_group s.0 h m e s.2 a ∙ sym (key_of_group s.0 h n f s.3 b))
 
-      back : Iso e.graph f.graph → ShareGroup groups m n
+      back : Same e.graph f.graph → ShareGroup groups m n
       back i =
-          let same = (keys_decide_archive es good e f (among m e a) (among n f b)).1 i in
+          let same = (keys_decide_archive Same tell es good e f (among m e a) (among n f b)).1 i in
           let group = numbers_with e.key es in let one = in_group m e e.key a refl in
           let two = in_group n f e.key b (sym same) in (
             group,
@@ -243,11 +251,11 @@ module _ (es : List EntryView) (good : All IsEntry es) (groups : List (List ℕ)
           )
 
 -- where groups are reported, they are so
-pub groups_told : {E : Type 0} (es : List EntryView) (r : Result (Vec (Vec ℕ Global) Global) E) → All IsEntry es
+pub groups_told : {E : Type 0} (Same : Graph → Graph → Type 0) → KeysTell Same → (es : List EntryView) (r : Result (Vec (Vec ℕ Global) Global) E) → All IsEntry es
     → IfOk r (λ groups. AreGroups es (numbers_in groups.items))
-    → IfOk r (λ groups. AreIsoGroups es (numbers_in groups.items))
-groups_told es (Ok groups) good are = iso_groups es good (numbers_in groups.items) are
-groups_told es (Err e) good are = are
+    → IfOk r (λ groups. AreGroupsBy Same es (numbers_in groups.items))
+groups_told Same tell es (Ok groups) good are = groups_by Same tell es good (numbers_in groups.items) are
+groups_told Same tell es (Err e) good are = are
 
 -- Entries that stand together by their keys stand together by their nets.
 
@@ -267,22 +275,25 @@ module _ (before between after : List EntryView) (e f : EntryView) where
   between_there : (x : EntryView) → Contains between x → Contains whole x
   between_there x c = later_there x (Contains-append_left between (f ∷ after) x c)
 
--- the keys of two entries decide
-decide : (e f : EntryView) → IsEntry e → IsEntry f → (e.key ≡ f.key → Iso e.graph f.graph) × (Iso e.graph f.graph → e.key ≡ f.key)
-decide e f a b = let both = keys_decide e.graph f.graph e.key f.key a.is_graph b.is_graph a.key b.key in (both.0, both.1)
+module _ (Same : Graph → Graph → Type 0) (tell : KeysTell Same) where
+  -- the keys of two entries decide
+  decide : (e f : EntryView) → IsEntry e → IsEntry f → (e.key ≡ f.key → Same e.graph f.graph) × (Same e.graph f.graph → e.key ≡ f.key)
+  decide e f a b = let both = tell e.graph f.graph e.key f.key a.is_graph b.is_graph a.key b.key in (both.0, both.1)
 
-pub iso_together : (es : List EntryView) → All IsEntry es → AreTogether es → AreIsoTogether es
-iso_together es all together before between after e f eq iso =
-    let good = subst (All IsEntry) eq all in let whole = before ++ e ∷ (between ++ f ∷ after) in
-    let first = All-contains IsEntry whole e good (first_there before between after e f) in
-    let last = All-contains IsEntry whole f good (last_there before between after e f) in
-    let same = together before between after e f eq ((decide e f first last).1 iso) in
-    λ k d l.
-    let x = get_or between k d in
-    (decide x e (All-contains IsEntry whole x good (between_there before between after e f x (Contains-get_or between k d l))) first).0 (same k d l)
+  -- entries that stand together by their keys do so by their nets
+  pub stand_together : (es : List EntryView) → All IsEntry es → AreTogether es → StandTogetherBy Same es
+  stand_together es all together before between after e f eq same =
+      let good = subst (All IsEntry) eq all in let whole = before ++ e ∷ (between ++ f ∷ after) in
+      let first = All-contains IsEntry whole e good (first_there before between after e f) in
+      let last = All-contains IsEntry whole f good (last_there before between after e f) in
+      let keys = together before between after e f eq ((decide e f first last).1 same) in
+      λ k d l.
+      let x = get_or between k d in
+      (decide x e (All-contains IsEntry whole x good (between_there before between after e f x (Contains-get_or between k d l))) first).0 (keys k d l)
 
--- regrouped entries stand together by their nets
-pub regrouped_together : (es now : List EntryView) → All IsEntry es → now ≡ regrouped es → AreIsoTogether now
-regrouped_together es now good is =
-    let r = is_regrouped es in
-    subst AreIsoTogether (sym is) (iso_together (regrouped es) (All-permutation IsEntry es (regrouped es) r.same_entries good) r.together)
+  -- regrouped entries stand together by their nets
+  pub regrouped_together : (es now : List EntryView) → All IsEntry es → now ≡ regrouped es → StandTogetherBy Same now
+  regrouped_together es now good is =
+      let r = is_regrouped es in
+      subst (StandTogetherBy Same) (sym is)
+      (stand_together (regrouped es) (All-permutation IsEntry es (regrouped es) r.same_entries good) r.together)

@@ -1,6 +1,7 @@
 // An archive.
 ghost use Rattle.std.specs.Prelude.{◌≡◌, ◌≤◌, All, IfOk, IfErr, OnOk, OnErr, MatchResult, length};
 ghost use Rattle.periodic_net.specs.Graph.{Graph, IsGraph};
+ghost use Rattle.periodic_net.specs.Maps.{BareIso, Iso};
 ghost use Rattle.key_theory.specs.Key.{IsKeyOf};
 ghost use Rattle.least_key.specs.AnyNets.{net_view};
 ghost use Rattle.least_key.specs.KeyedNets.{HasKinds};
@@ -9,7 +10,7 @@ ghost use Rattle.archive_text.specs.Groups.{AreGroups, numbers_in};
 ghost use Rattle.archive_text.specs.Lookups.{names_with};
 ghost use Rattle.archive_text.specs.Regrouped.{regrouped};
 ghost use Rattle.net_archive.specs.Adding.{IsAddFault, IsEntryFault, IsEntryOf};
-ghost use Rattle.net_archive.specs.Deciding.{AreIsoGroups, AreIsoTogether, AreNamesOf, is_there};
+ghost use Rattle.net_archive.specs.Deciding.{AreBareNamesOf, AreGroupsBy, AreNamesOf, StandTogetherBy, is_there};
 ghost use Rattle.net_archive.specs.Faults.{IsFaultOf};
 ghost use Rattle.net_archive.specs.Archives.{ArchiveView, IsArchive, IsEntry, archive_text, archive_with, empty_archive, most_entries, version_number, with_entry};
 ghost use Rattle.net_archive.specs.Migrating.{IsMigrated, IsMigrateFault};
@@ -121,9 +122,12 @@ impl Archive {
     pub fn lookup<'a, 'k>(&'a self, key: &'k Key) -> Matches<'a, 'k>
         // The names of exactly the entries with this key, in order,
         ensures names { result ≡ names_with key.now self.now.entries }
-        // which are those whose nets are isomorphic to any net with this key.
+        // which are those whose nets are isomorphic to any net with this key,
         ensures isomorphic { (G : Graph) → IsGraph G → IsKeyOf G key.now →
             AreNamesOf G self.now.entries result }
+        // and so are their infinite graphs, whatever bijection shows it.
+        ensures bare { (G : Graph) → IsGraph G → IsKeyOf G key.now →
+            AreBareNamesOf G self.now.entries result }
         ensures archive { IsArchive self.now }
     {
         self.entries.lookup(key)
@@ -136,9 +140,12 @@ impl Archive {
         // All groups of two or more entries with equal keys,
         ensures groups { IfOk result (λ groups.
             AreGroups self.now.entries (numbers_in groups.items)) }
-        // which are the groups of entries with isomorphic nets.
+        // which are the groups of entries with isomorphic nets,
         ensures isomorphic { IfOk result (λ groups.
-            AreIsoGroups self.now.entries (numbers_in groups.items)) }
+            AreGroupsBy Iso self.now.entries (numbers_in groups.items)) }
+        // and with isomorphic infinite graphs, whatever bijection shows it.
+        ensures bare { IfOk result (λ groups.
+            AreGroupsBy BareIso self.now.entries (numbers_in groups.items)) }
         ensures archive { IsArchive self.now }
     {
         self.entries.duplicates()
@@ -243,8 +250,10 @@ impl Archive {
         // The same entries, ordered by their groups;
         ensures regrouped { OnOk result (
             self.new ≡ archive_with self.old (regrouped self.old.entries)) }
-        // so entries with isomorphic nets stand together.
-        ensures isomorphic { OnOk result (AreIsoTogether self.new.entries) }
+        // so entries with isomorphic nets stand together,
+        ensures isomorphic { OnOk result (StandTogetherBy Iso self.new.entries) }
+        // and those with isomorphic infinite graphs.
+        ensures bare { OnOk result (StandTogetherBy BareIso self.new.entries) }
         ensures archive { IsArchive self.new }
         ensures same { OnErr result (self.new ≡ self.old) }
     {

@@ -1,33 +1,49 @@
--- The keys that are reported decide whether nets are isomorphic. A block whose graph is certain is accepted.
-use Rattle.std.proofs.Common.{◌≡◌, sym, ap, subst, ℕ, suc, ◌+◌, zero, ◌<◌, ℤ, List, [], ◌∷◌, length, Some, arith, ◌≢◌, ◌∙◌, true, false}
+-- The keys that are reported decide whether nets are isomorphic, in each sense that keys decide. A net that is refused is that of no accepted
+-- block. A block whose graph is certain is accepted.
+use Rattle.std.proofs.Common.{◌≡◌, sym, ap, subst, ℕ, suc, ◌+◌, zero, ◌<◌, ℤ, List, [], ◌∷◌, Some, arith, ◌≢◌, ◌∙◌, true, ◌⊎◌, inl, inr, refl, length, ⊎_elim}
 use Rattle.std.proofs.lemmas.List.Elements.{All-contains, All-head, All-tail}
 use Rattle.std.specs.Prelude.{◌↔◌, is_some, slice_index_or, unwrap_or}
 use Rattle.std.{proofs.lemmas.Bool.true≢false, specs.List.All}
-use Rattle.periodic_net.{specs.Graph.Graph, specs.Graph.IsGraph, specs.Maps.Iso, proofs.CallerLemmas.iso_symmetric, proofs.CallerLemmas.iso_transitive}
-use Rattle.key_theory.{specs.Key.IsKeyOf, proofs.CallerLemmas.keys_decide}
+use Rattle.periodic_net.specs.{Graph.Graph, Graph.IsConnected, Graph.IsGraph, Maps.BareIso, Maps.Iso}
+use Rattle.periodic_net.proofs.CallerLemmas.{bare_connected, bare_of_iso, bare_transitive, bare_turned, iso_reflexive, iso_symmetric, iso_transitive}
+use Rattle.key_theory.specs.Key.{IsKeyable, IsKeyOf}
+use Rattle.key_theory.proofs.CallerLemmas.{keys_decide, keys_decide_bare}
 use Rattle.cgd_read.specs.Views.{RawView, BodyView, Net, BlockView, body_view, views, raw_view}
 use Rattle.cgd_read.specs.{Graphs.graph_of, Blocks.IsReadBody, declared.block.Block.Block, declared.block.Body.Body, Graphs.IsReadGraph}
 use Rattle.quotient_graph.{specs.Stars.IsInOrder, proofs.CallerLemmas.in_order_iso}
-use Rattle.least_key.proofs.CallerLemmas.{key_of_graph, nets_decide, certain_is_not_refused}
-use Rattle.least_key.specs.{AnyNets.net_view, Certain.IsCertain, KeyedNets.KeyedNet, KeyedNets.IsKeyed}
+use Rattle.least_key.proofs.CallerLemmas.{key_of_graph, keyed_is_certain, certain_is_not_refused}
+use Rattle.least_key.specs.{AnyNets.net_view, Certain.IsCertain, KeyedNets.KeyedNet, KeyedNets.IsKeyed, Truths.IsOfConnecting, Truths.IsTrueOf}
+use Rattle.least_key.specs.declared.refusal.Refusal.{Refusal}
 use Rattle.archive_text.specs.Entries.{EntryView}
-use Rattle.net_archive.{specs.Archives.IsEntry, proofs.CallerLemmas.keys_decide_archive}
-use Rattle.net_report.specs.declared.outcome.OutcomeBody.TheVariants.{Keyed, Identified}
-use Rattle.net_report.specs.declared.command.Command.TheVariants.{Key, Identify, Components}
+use Rattle.net_archive.{specs.Archives.IsEntry, proofs.CallerLemmas.KeysTell, proofs.CallerLemmas.keys_decide_archive}
+use Rattle.net_report.specs.declared.outcome.OutcomeBody.TheVariants.{Refused, Checked, Located, Keyed, Identified}
+use Rattle.net_report.specs.declared.command.Command.TheVariants.{Check, Place, Key, Identify, Components}
 use Rattle.net_report.specs.declared.{outcome.Outcome.Outcome, command.Command.Command, outcome.OutcomeBody.OutcomeBody}
-use Rattle.net_outcomes.specs.Deciding.{HasKeyAt, IsBlockAt, KeysDecideBlocks, KeysDecideEntries, key_told, AreOutcomes}
+use Rattle.net_outcomes.specs.Deciding.{HasKeyAt, IsAcceptedAt, IsBlockAt, IsOfNet, IsRefusedAt, KeysDecideBlocks, KeysDecideEntries, key_told, refusal_told, AreOutcomes}
+use Rattle.net_outcomes.specs.Deciding.{RefusedAreApart, RefusedAreNoEntries}
 use Rattle.net_outcomes.specs.Outcomes.{IsBodyOf, AreOutcomesFrom, IsRefusedAs, MayTell, is_accepted_body}
-use Rattle.net_outcomes.proofs.NetOutcomes.{is_graph_in}
+use Rattle.net_outcomes.proofs.{NetOutcomes.is_graph_in, Refusals.check_early, Refusals.place_early, Refusals.refused_parted, Refusals.refusals_tell}
 use Rattle.cgd_read.specs.declared.block.Body.TheVariants as read
 
--- what decides of graphs in memory decides of the graphs that were read
-read_decide : (G H G' H' : Graph) (P : Type 0) → IsInOrder G H → IsInOrder G' H' → P ↔ Iso H H' → P ↔ Iso G G'
-read_decide G H G' H' P o o' d =
-    let e = in_order_iso G H o in
-    let e' = in_order_iso G' H' o' in (
-      (λ p. iso_transitive G H G' e (iso_transitive H H' G' (d.0 p) (iso_symmetric G' H' e'))),
-      (λ i. d.1 (iso_transitive H G H' (iso_symmetric G H e) (iso_transitive G G' H' i e'))),
-    )
+-- nets that are isomorphic to two that are the same in this sense are so, too
+abbrev pub IsCarried : (Graph → Graph → Type 0) → Type 0
+IsCarried Same = (G H G' H' : Graph) → Iso G H → Iso G' H' → Same H H' → Same G G'
+
+-- isomorphisms are
+iso_carried : IsCarried Iso
+iso_carried G H G' H' e e' s = iso_transitive G H G' e (iso_transitive H H' G' s (iso_symmetric G' H' e'))
+
+-- and so are those of the infinite graphs
+bare_carried : IsCarried BareIso
+bare_carried G H G' H' e e' s =
+    bare_transitive G H G' (bare_of_iso G H e) (bare_transitive H H' G' s (bare_of_iso H' G' (iso_symmetric G' H' e')))
+
+-- what decides of two nets decides of those that are isomorphic to them
+carried_decide : (Same : Graph → Graph → Type 0) → IsCarried Same → (G H G' H' : Graph) (P : Type 0) → Iso G H → Iso G' H' → P ↔ Same H H' → P ↔ Same G G'
+carried_decide Same carried G H G' H' P e e' d = (
+  (λ p. carried G H G' H' e e' (d.0 p)),
+  (λ s. d.1 (carried H G H' G' (iso_symmetric G H e) (iso_symmetric G' H' e') s)),
+)
 
 -- what is reported of the block at place i
 body_at : (entries : List EntryView) (command : Command) (n i : ℕ) (bs : List BlockView) (os : List Outcome) (b : BlockView) (o : Outcome)
@@ -82,32 +98,135 @@ keyed_told entries command raw (Keyed size net) xs h e = absurd h
 keyed_told entries command raw (Identified size vertices net shells names) xs h e = absurd h
 keyed_told entries command raw body xs h e = absurd (true≢false (sym (ap is_some e)))
 
+-- the graph and its key
+in_order_key : (raw : RawView) (xs : List ℤ) → (a : HasKeyedGraph raw xs) → IsGraph a.graph × IsKeyOf a.graph xs
+in_order_key raw xs a = (
+  subst IsGraph a.net_is a.keyed.is_graph,
+  subst (IsKeyOf a.graph) a.key (subst (λ (G : Graph). IsKeyOf G a.net.key) a.net_is (key_of_graph a.net a.keyed)),
+)
+
+-- a graph in order of which a refusal is true
+record HasRefusedGraph (command : Command) (raw : RawView) (refusal : Refusal) : Type 0 where
+  pub graph : Graph
+  pub in_order : IsInOrder (graph_of raw) graph
+  pub is_graph : IsGraph graph
+  pub may : MayTell command refusal
+  pub is_true : IsTrueOf graph refusal
+
+-- a refusal is reported only where it is true
+refused_told : (entries : List EntryView) (command : Command) (raw : RawView) (body : OutcomeBody) (refusal : Refusal)
+    → IsBodyOf entries command (Net raw) body
+    → refusal_told body ≡ Some refusal → HasRefusedGraph command raw refusal
+refused_told entries command raw (Refused size names given) refusal h e = record {
+  graph = h.graph;
+  in_order = h.read.in_order;
+  is_graph = h.read.is_graph;
+  may = subst (MayTell command) (some_is given refusal e) h.may;
+  is_true = subst (IsTrueOf h.graph) (some_is given refusal e) h.is_true;
+}
+refused_told entries command raw body refusal h e = absurd (true≢false (sym (ap is_some e)))
+
+-- a graph in order whose net is connected, and has a key where another refusal of the net may be reported
+record HasAcceptedGraph (command : Command) (raw : RawView) : Type 0 where
+  pub graph : Graph
+  pub in_order : IsInOrder (graph_of raw) graph
+  pub is_graph : IsGraph graph
+  pub connected : IsConnected graph
+  pub keyable : (refusal : Refusal) → MayTell command refusal → IsOfNet refusal → IsOfConnecting refusal ⊎ IsKeyable graph
+
+-- a graph with a key is so
+accepted_by_key : (command : Command) (raw : RawView) (xs : List ℤ) → HasKeyedGraph raw xs → HasAcceptedGraph command raw
+accepted_by_key command raw xs a =
+    let k = subst IsKeyable a.net_is (keyed_is_certain a.net a.keyed).keyable in
+    record {
+      graph = a.graph;
+      in_order = a.in_order;
+      is_graph = (in_order_key raw xs a).0;
+      connected = k.shape.stable.connected;
+      keyable = λ refusal m r. inr k;
+    }
+
+-- an accepted graph is so; where its key is not asked for, no other refusal of the net is reported
+accepted_graph : (entries : List EntryView) (command : Command) (raw : RawView) (body : OutcomeBody) → IsBodyOf entries command (Net raw) body
+    → is_accepted_body body ≡ true → HasAcceptedGraph command raw
+accepted_graph entries Check raw (Checked size) h e = record {
+  graph = h.graph;
+  in_order = h.read.in_order;
+  is_graph = h.read.is_graph;
+  connected = h.connected;
+  keyable = λ refusal m r. inl (check_early refusal m r);
+}
+accepted_graph entries Place raw (Located size names placed) h e = record {
+  graph = h.graph;
+  in_order = h.read.in_order;
+  is_graph = h.read.is_graph;
+  connected = h.placed_as.connected;
+  keyable = λ refusal m r. inl (place_early refusal m r);
+}
+accepted_graph entries Key raw (Keyed size net) h e =
+    accepted_by_key Key raw (net_view net).key (keyed_told entries Key raw (Keyed size net) (net_view net).key h refl)
+accepted_graph entries Identify raw (Identified size vertices net shells names) h e =
+    accepted_by_key Identify raw (net_view net).key
+    (keyed_told entries Identify raw (Identified size vertices net shells names) (net_view net).key h refl)
+accepted_graph entries command raw (Checked size) h e = absurd h
+accepted_graph entries command raw (Located size names placed) h e = absurd h
+accepted_graph entries command raw (Keyed size net) h e = absurd h
+accepted_graph entries command raw (Identified size vertices net shells names) h e = absurd h
+accepted_graph entries command raw body h e = absurd (true≢false (sym e))
+
 module _ (entries : List EntryView) (command : Command) (bs : List BlockView) (os : List Outcome) (h : AreOutcomesFrom entries command 1 bs os) where
   -- what is reported of a key
   keyed_at : (i : ℕ) (raw : RawView) (xs : List ℤ) → HasKeyAt bs os i raw xs → HasKeyedGraph raw xs
   keyed_at i raw xs k = keyed_told entries command raw k.outcome.body xs (told_at entries command bs os h i k.block k.outcome raw k.at k.graph) k.told
 
+  -- the graph of a refusal
+  refused_at : (i : ℕ) (raw : RawView) → (k : IsRefusedAt bs os i raw) → HasRefusedGraph command raw k.refusal
+  refused_at i raw k =
+      refused_told entries command raw k.outcome.body k.refusal (told_at entries command bs os h i k.block k.outcome raw k.at k.graph) k.told
+
+  -- and that of an accepted block
+  accepted_at : (i : ℕ) (raw : RawView) → IsAcceptedAt bs os i raw → HasAcceptedGraph command raw
+  accepted_at i raw k = accepted_graph entries command raw k.outcome.body (told_at entries command bs os h i k.block k.outcome raw k.at k.graph) k.told
+
+  -- an accepted net is connected, and has a key where another refusal may be reported; a refused one is not, or has none
+  pub refused_are_apart : RefusedAreApart bs os
+  refused_are_apart i j raw raw' k l e =
+      let a = refused_at i raw k in let b = accepted_at j raw' l in
+      let here = bare_carried a.graph (graph_of raw) b.graph (graph_of raw') (iso_symmetric (graph_of raw) a.graph (in_order_iso (graph_of raw) a.graph a.in_order))
+      (iso_symmetric (graph_of raw') b.graph (in_order_iso (graph_of raw') b.graph b.in_order)) e in
+      ⊎_elim
+      (λ early. refused_parted a.graph k.refusal a.is_graph a.is_true k.of_net early
+      (bare_connected b.graph a.graph b.is_graph (bare_turned a.graph b.graph here) b.connected))
+      (λ c. refusals_tell a.graph b.graph k.refusal a.is_graph b.is_graph a.is_true k.of_net c here)
+      (b.keyable k.refusal a.may k.of_net)
+
+  -- nor is it the graph of an entry, which has a key
+  pub refused_are_no_entries : All IsEntry entries → RefusedAreNoEntries entries bs os
+  refused_are_no_entries good i raw e k there b =
+      let a = refused_at i raw k in let entry = All-contains IsEntry entries e good there in
+      let here = bare_carried a.graph (graph_of raw) e.graph e.graph (iso_symmetric (graph_of raw) a.graph (in_order_iso (graph_of raw) a.graph a.in_order))
+      (iso_reflexive e.graph) b in
+      refusals_tell a.graph e.graph k.refusal a.is_graph entry.is_graph a.is_true k.of_net entry.certain.keyable here
+
+-- In each sense that keys decide.
+
+module _ (Same : Graph → Graph → Type 0) (tell : KeysTell Same) (carried : IsCarried Same) (entries : List EntryView) (command : Command)
+    (bs : List BlockView) (os : List Outcome) (h : AreOutcomesFrom entries command 1 bs os) where
   -- the keys of two blocks decide
-  pub keys_decide_blocks : KeysDecideBlocks bs os
+  pub keys_decide_blocks : KeysDecideBlocks Same bs os
   keys_decide_blocks i j raw raw' xs ys k l =
-      let a = keyed_at i raw xs k in let b = keyed_at j raw' ys l in
-      let nets : (a.net.key ≡ b.net.key) ↔ Iso a.graph b.graph = subst (λ (H : Graph). (a.net.key ≡ b.net.key) ↔ Iso a.graph H) b.net_is
-      (subst (λ (G : Graph). (a.net.key ≡ b.net.key) ↔ Iso G b.net.placed.graph) a.net_is (nets_decide a.net b.net a.keyed b.keyed)) in
-      let keys : (xs ≡ ys) ↔ Iso a.graph b.graph = subst (λ (y : List ℤ). (xs ≡ y) ↔ Iso a.graph b.graph) b.key
-      (subst (λ (x : List ℤ). (x ≡ b.net.key) ↔ Iso a.graph b.graph) a.key nets) in
-      read_decide (graph_of raw) a.graph (graph_of raw') b.graph (xs ≡ ys) a.in_order b.in_order keys
+      let a = keyed_at entries command bs os h i raw xs k in let b = keyed_at entries command bs os h j raw' ys l in
+      let c = in_order_key raw xs a in let d = in_order_key raw' ys b in
+      carried_decide Same carried (graph_of raw) a.graph (graph_of raw') b.graph (xs ≡ ys) (in_order_iso (graph_of raw) a.graph a.in_order)
+      (in_order_iso (graph_of raw') b.graph b.in_order) (tell a.graph b.graph xs ys c.0 d.0 c.1 d.1)
 
   -- and those of a block and of an entry
-  pub keys_decide_entries : All IsEntry entries → KeysDecideEntries entries bs os
+  pub keys_decide_entries : All IsEntry entries → KeysDecideEntries Same entries bs os
   keys_decide_entries good i raw xs e k there =
-      let a = keyed_at i raw xs k in let entry = All-contains IsEntry entries e good there in
-      let key = subst (λ (x : List ℤ). IsKeyOf a.graph x) a.key (subst (λ (G : Graph). IsKeyOf G a.net.key) a.net_is (key_of_graph a.net a.keyed)) in
-      let g = subst IsGraph a.net_is a.keyed.is_graph in
-      let keys = keys_decide a.graph e.graph xs e.key g entry.is_graph key entry.key in
-      let o = in_order_iso (graph_of raw) a.graph a.in_order in (
-        (λ p. iso_transitive (graph_of raw) a.graph e.graph o (keys.0 p)),
-        (λ q. keys.1 (iso_transitive a.graph (graph_of raw) e.graph (iso_symmetric (graph_of raw) a.graph o) q)),
-      )
+      let a = keyed_at entries command bs os h i raw xs k in let c = in_order_key raw xs a in
+      let entry = All-contains IsEntry entries e good there in
+      carried_decide Same carried (graph_of raw) a.graph e.graph e.graph (xs ≡ e.key) (in_order_iso (graph_of raw) a.graph a.in_order)
+      (iso_reflexive e.graph) (tell a.graph e.graph xs e.key c.0 entry.is_graph c.1 entry.key)
 
 -- a refusal of a certain graph is none
 certain_not_refused : (command : Command) (raw : RawView) (size : _) (names : List (List ℕ)) (refusal : _) → IsGraph (graph_of raw)
@@ -135,9 +254,14 @@ pub outcomes_decide : (entries : List EntryView) (command : Command) (blocks : L
     → AreOutcomes command entries blocks outcomes
 outcomes_decide entries command blocks outcomes h good graphs = record {
   each = h;
-  keys = keys_decide_blocks entries command blocks outcomes h;
-  entry_keys = keys_decide_entries entries command blocks outcomes h good;
-  archive_keys = keys_decide_archive entries good;
+  keys = keys_decide_blocks Iso keys_decide iso_carried entries command blocks outcomes h;
+  entry_keys = keys_decide_entries Iso keys_decide iso_carried entries command blocks outcomes h good;
+  archive_keys = keys_decide_archive Iso keys_decide entries good;
+  bare_keys = keys_decide_blocks BareIso keys_decide_bare bare_carried entries command blocks outcomes h;
+  bare_entry_keys = keys_decide_entries BareIso keys_decide_bare bare_carried entries command blocks outcomes h good;
+  bare_archive_keys = keys_decide_archive BareIso keys_decide_bare entries good;
+  refused = refused_are_apart entries command blocks outcomes h;
+  refused_entries = refused_are_no_entries entries command blocks outcomes h good;
   certain = λ other i block outcome raw at is certain.
       accepted_told entries command raw outcome.body (graphs i block raw at.inside at.block_is is)
       (told_at entries command blocks outcomes h i block outcome raw at is) other certain;

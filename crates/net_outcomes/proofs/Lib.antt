@@ -4,3 +4,4 @@ pub mod Listing
 pub mod NetOutcomes
 pub mod OneOutcome
 pub mod Printing
+pub mod Refusals

@@ -12,7 +12,7 @@ use Rattle.least_key.{specs.declared.refusal.Refusal.TheVariants.NoMemory, proof
 use Rattle.key_theory.specs.Key.{IsKeyOf}
 use Rattle.coordination.specs.Sequences.{AreSequencesOf}
 use Rattle.archive_text.specs.{Entries.EntryView, Lookups.names_with}
-use Rattle.net_archive.{specs.Archives.IsEntry, specs.Deciding.AreNamesOf, proofs.CallerLemmas.names_found}
+use Rattle.net_archive.{specs.Archives.IsEntry, specs.Deciding.AreBareNamesOf, specs.Deciding.AreNamesOf, proofs.CallerLemmas.names_found}
 use Rattle.net_report.specs.declared.command.Command.TheVariants.{Check, Place, Key, Identify}
 use Rattle.net_report.specs.declared.{outcome.Size.Size, outcome.OutcomeBody.OutcomeBody, command.Command.Command, outcome.OutcomeBody.TheVariants.Refused}
 use Rattle.net_outcomes.specs.Outcomes.{IsOnlyPlacement, IsIdentifiedAs, IsKeyedAs, size_of, MayTell, IsBodyOf, IsGraphOf}
@@ -55,7 +55,8 @@ identified_as entries raw size vertices net shells names h v s good found =
       vertices_are = v;
       only = only_placement h.graph n.placed is_graph placed;
       shells_are = subst (λ (G : Graph). AreSequencesOf G shells) h.net_is s;
-      names_are = subst (AreNamesOf h.graph entries) (sym found) (names_found h.graph is_graph n.key key entries good);
+      names_are = subst (AreNamesOf h.graph entries) (sym found) (names_found Iso keys_decide h.graph is_graph n.key key entries good);
+      bare_names_are = subst (AreBareNamesOf h.graph entries) (sym found) (names_found BareIso keys_decide_bare h.graph is_graph n.key key entries good);
     }
 
 -- a test for connectedness may report its refusals

@@ -9,7 +9,7 @@ use Rattle.quotient_graph.specs.Stars.{IsInOrder}
 use Rattle.net_outcomes.specs.Told.{AreComponentsTold}
 use Rattle.coordination.specs.Sequences.{AreSequencesOf}
 use Rattle.archive_text.specs.Entries.{EntryView}
-use Rattle.net_archive.specs.Deciding.{AreNamesOf}
+use Rattle.net_archive.specs.Deciding.{AreBareNamesOf, AreNamesOf}
 use Rattle.net_report.specs.declared.outcome.Size.{Size}
 pub use Rattle.net_report.specs.declared.outcome.Outcome.{Outcome}
 pub use Rattle.net_report.specs.declared.outcome.OutcomeBody.{OutcomeBody}
@@ -80,7 +80,7 @@ pub record IsKeyedAs (raw : RawView) (size : Size) (net : KeyedNet) : Type 0 whe
   pub keyed : IsKeyed (net_view net)
 
 -- the block's graph has a key, and this is its net, with the placement, the only one but for translates, the primitive graph, the
--- key and the coordination sequences; and these are the names of exactly the isomorphic entries
+-- key and the coordination sequences; and these are the names of exactly the isomorphic entries, by bijections with a period and by any
 pub record IsIdentifiedAs (entries : List EntryView) (raw : RawView) (size : Size) (vertices : List (List ℕ)) (net : KeyedNet)
     (shells names : List (List ℕ)) : Type 0 where
   pub keyed : IsKeyedAs raw size net
@@ -88,6 +88,7 @@ pub record IsIdentifiedAs (entries : List EntryView) (raw : RawView) (size : Siz
   pub only : IsOnlyPlacement keyed.graph (net_view net).placed.placement
   pub shells_are : AreSequencesOf keyed.graph shells
   pub names_are : AreNamesOf keyed.graph entries names
+  pub bare_names_are : AreBareNamesOf keyed.graph entries names
 
 -- the components of the block's graph are reported in these lines: each part with its key or its refusal, or why there are no parts
 pub record IsDividedAs (raw : RawView) (size : Size) (accepted : Bool) (lines : List ℕ) : Type 0 where

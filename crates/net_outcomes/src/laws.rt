@@ -1,6 +1,6 @@
 // What holds of reports. The function carries a theorem.
 ghost use Rattle.net_outcomes.specs.ComponentLaws.{OneTelling};
-ghost use Rattle.net_outcomes.specs.Laws.{OneReport};
+ghost use Rattle.net_outcomes.specs.Laws.{OneReport, RefusalsTell};
 
 /// What is reported of the components of a net is one.
 pub fn one_telling()
@@ -10,4 +10,10 @@ pub fn one_telling()
 /// The report on blocks is one: of each block there is one text.
 pub fn one_report()
     ensures theorem { OneReport }
+{}
+
+/// A net that is refused as disconnected, degenerate, colliding or past the key work is that of no
+/// net with a key.
+pub fn refusals_tell()
+    ensures theorem { RefusalsTell }
 {}

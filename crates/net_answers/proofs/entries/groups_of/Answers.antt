@@ -6,5 +6,6 @@ returns c = record {
   groups = numbers_in c.in_ok-groups.groups.items;
   are_groups = c.in_ok-groups.ensures.groups;
   isomorphic = c.in_ok-groups.ensures.isomorphic;
+  bare = c.in_ok-groups.ensures.bare;
   text_is = rw (← c.entries.ensures.entries, ← c.deref.ensures.value) c.in_ok-text.ensures;
 }
