@@ -8,10 +8,10 @@ use Rattle.archive_text.specs.Lookups.{names_with, same_key, names_of}
 use Rattle.archive_text.specs.Regrouped.{with_key, regrouped, AreTogether}
 use Rattle.archive_text.{specs.Entries.EntryView, proofs.CallerLemmas.is_regrouped}
 use Rattle.net_archive.specs.Archives.{ArchiveView, IsArchive, IsEntry}
-use Rattle.net_archive.{specs.Deciding.is_there, proofs.CallerLemmas.KeysTell, proofs.CallerLemmas.stand_together, proofs.CallerLemmas.keys_decide_archive}
+use Rattle.net_archive.{specs.Deciding.is_there, proofs.CallerLemmas.stand_together, proofs.CallerLemmas.keys_decide_archive}
 use Rattle.archive_union.specs.Unions.{with_item, united, HasAll, IsFoundBy, IsOneOf, IsUnion}
 use Rattle.periodic_net.specs.{Graph.Graph, Maps.BareIso, Maps.Iso}
-use Rattle.key_theory.proofs.CallerLemmas.{keys_decide, keys_decide_bare}
+use Rattle.key_theory.{specs.Laws.KeysDecideBy, proofs.CallerLemmas.keys_decide, proofs.CallerLemmas.keys_decide_bare}
 
 pub here : {X : Type 0} (x : X) (xs : List X) → Contains (x ∷ xs) x
 here x xs = (0, omega arith, refl)
@@ -179,7 +179,7 @@ module _ (a b : ArchiveView) (items : List EntryView) (archive : IsArchive a) (g
   together : AreTogether b.entries
   together = subst AreTogether (sym entries_are) (is_regrouped all_of).together
 
-  found : (Same : Graph → Graph → Type 0) → KeysTell Same → IsFoundBy Same a items b
+  found : (Same : Graph → Graph → Type 0) → KeysDecideBy Same → IsFoundBy Same a items b
   found Same tell G key e g k c is =
       let s = stands e c in let x = good_one e c in
       let same : key ≡ e.key = (tell G e.graph key e.key g x.is_graph k x.key).1 is in

@@ -10,7 +10,7 @@ use Rattle.integers.proofs.{numbers.Order.three_ways}
 use Rattle.periodic_net.specs.Graph.{Graph, IsGraph, Arc, IsQuotientVertex, IsConnected}
 use Rattle.periodic_net.specs.Placement.{Placement, base, IsNormalPlacement, IsWithinLimits}
 use Rattle.periodic_net.specs.Classes.{ClassGraph, ClassArc, IsClassGraph, IsClassNumbering, IsTranslation, LeadsIn}
-use Rattle.periodic_net.proofs.CallerLemmas.{arc_inside, one_placement, split_shows_not_connected}
+use Rattle.periodic_net.proofs.CallerLemmas.{arc_inside, iso_reflexive, one_placement, split_shows_not_connected}
 use Rattle.periodic_net.specs.{ClassNets.MayFollow, Split.IsPartSplit, Split.IsSparseSplit}
 use Rattle.net_translations.specs.Places.{IsFirstCollision}
 use Rattle.key_theory.specs.Key.{Shape, IsKeyable, IsKeyOf}

@@ -2,8 +2,9 @@
 use Rattle.std.proofs.Common.{◌≡◌, ℕ, Result, refl, subst, arith, ◌∙◌, sym, ap, zero, suc, ◌+◌, ◌<◌, List, [], ◌∷◌, ◌++◌, length, take, Ok}
 use Rattle.std.specs.Prelude.{IfErr, IsErrAnd, ◌↔◌, slice_index_or}
 use Rattle.std.{specs.List.AllZip, proofs.Math.ListN.get_or, proofs.lemmas.List.take_more}
-use Rattle.periodic_net.specs.{Classes.ClassGraph, Graph.Graph, Maps.Iso}
-use Rattle.key_theory.{specs.Frames.IsWorkPast, specs.Key.Shape, specs.Key.IsKeyOf, proofs.CallerLemmas.keys_decide}
+use Rattle.periodic_net.specs.{Classes.ClassGraph, Graph.Graph, Maps.BareIso, Maps.Iso}
+use Rattle.key_theory.specs.{Frames.IsWorkPast, Key.Shape, Key.IsKeyOf, Laws.KeysDecideBy}
+use Rattle.key_theory.proofs.CallerLemmas.{keys_decide, keys_decide_bare}
 use Rattle.quotient_graph.specs.NetClasses.{NetClasses, AreClasses, class_at}
 use Rattle.quotient_graph.specs.{PlacedNets.PlacedNet, AnyGraphs.graph_view, declared.any_graph.AnyGraph.AnyGraph}
 use Rattle.edge_frames.specs.declared.work.KeyWork.{KeyWork}
@@ -49,9 +50,10 @@ key_of_graph n h =
     subst (λ (G : Graph). IsKeyOf G n.key) h.same_graph
     (record { shape = shape_of n.classes (record { placement = n.placed.placement; at = h.classes }); least = h.key })
 
--- the keys of two keyed nets are equal exactly where the nets are isomorphic
-pub nets_decide : (m n : KeyedNet) → IsKeyed m → IsKeyed n → (m.key ≡ n.key) ↔ Iso m.placed.graph n.placed.graph
-nets_decide m n h k = keys_decide m.placed.graph n.placed.graph m.key n.key h.is_graph k.is_graph (key_of_graph m h) (key_of_graph n k)
+-- the keys of two keyed nets are equal exactly where the nets are the same in this sense
+pub nets_decide : (Same : Graph → Graph → Type 0) → KeysDecideBy Same → (m n : KeyedNet) → IsKeyed m → IsKeyed n
+    → (m.key ≡ n.key) ↔ Same m.placed.graph n.placed.graph
+nets_decide Same decide m n h k = decide m.placed.graph n.placed.graph m.key n.key h.is_graph k.is_graph (key_of_graph m h) (key_of_graph n k)
 
 -- one pair more
 zip_more : {A B : Type 0} (R : A → B → Type 0) (xs : List A) (ys : List B) (x : A) (y : B) → AllZip R xs ys → R x y → AllZip R (xs ++ x ∷ []) (ys ++ y ∷ [])
@@ -76,9 +78,19 @@ answer_at (x ∷ graphs) (y ∷ answers) h zero g r l e f = subst (IsAnswerTo g)
 answer_at (x ∷ graphs) (y ∷ answers) h (suc i) g r l e f = answer_at graphs answers h.1 i g r (omega (arith, l)) e f
 
 -- the keys of accepted graphs
-pub keys_tell : (graphs : List AnyGraph) (answers : List (Result Net Refusal)) → AreAnswers graphs answers → KeysTell graphs answers
-keys_tell graphs answers a i j g h m n k l =
+keys_tell_by : (Same : Graph → Graph → Type 0) → KeysDecideBy Same → (graphs : List AnyGraph) (answers : List (Result Net Refusal))
+    → AreAnswers graphs answers → KeysTell Same graphs answers
+keys_tell_by Same decide graphs answers a i j g h m n k l =
     let p = answer_at graphs answers a i g (Ok m) k.inside k.graph k.answer in
     let q = answer_at graphs answers a j h (Ok n) l.inside l.graph l.answer in
-    subst (λ (H : Graph). ((net_view m).key ≡ (net_view n).key) ↔ Iso (graph_view g) H) q.0
-    (subst (λ (G : Graph). ((net_view m).key ≡ (net_view n).key) ↔ Iso G (net_view n).placed.graph) p.0 (nets_decide (net_view m) (net_view n) p.1 q.1))
+    subst (λ (H : Graph). ((net_view m).key ≡ (net_view n).key) ↔ Same (graph_view g) H) q.0
+    (subst (λ (G : Graph). ((net_view m).key ≡ (net_view n).key) ↔ Same G (net_view n).placed.graph) p.0
+    (nets_decide Same decide (net_view m) (net_view n) p.1 q.1))
+
+-- decide by bijections with a period
+pub keys_tell : (graphs : List AnyGraph) (answers : List (Result Net Refusal)) → AreAnswers graphs answers → KeysTell Iso graphs answers
+keys_tell = keys_tell_by Iso keys_decide
+
+-- and by any
+pub keys_tell_bare : (graphs : List AnyGraph) (answers : List (Result Net Refusal)) → AreAnswers graphs answers → KeysTell BareIso graphs answers
+keys_tell_bare = keys_tell_by BareIso keys_decide_bare

@@ -1,5 +1,6 @@
 // The keys of several graphs.
 ghost use Rattle.std.specs.Prelude.{IfOk};
+ghost use Rattle.periodic_net.specs.Maps.{BareIso, Iso};
 ghost use Rattle.least_key.specs.Answers.{AreAnswers, IsAnswerTo, KeysTell};
 
 use crate::keying::identify;
@@ -29,14 +30,17 @@ fn answers_to(alloc: Global, graphs: &[AnyGraph]) -> Result<Vec<Result<Net, Refu
     Ok(answers)
 }
 
-#[tactic(auto, using(crate::proofs::Truth::keys_tell))]
+#[tactic(auto, using(crate::proofs::Truth::keys_tell, crate::proofs::Truth::keys_tell_bare))]
 /// What `identify` answers for each graph; where memory runs out for one of them, it ran out for
-/// all. The keys of two accepted graphs are equal exactly where their nets are isomorphic.
+/// all. The keys of two accepted graphs are equal exactly where their nets are isomorphic, by a
+/// bijection with a period or by any.
 pub fn keys_of(alloc: Global, graphs: &[AnyGraph]) -> Result<Vec<Result<Net, Refusal>>, NoMemory>
     // For each graph, in order, the net with its key, or a refusal that is true of it.
     ensures answers { IfOk result (λ answers. AreAnswers graphs.now answers.items) }
-    // Two keys are equal exactly where a periodic bijection carries one net to the other.
-    ensures keys { IfOk result (λ answers. KeysTell graphs.now answers.items) }
+    // Two keys are equal exactly where a periodic bijection carries one net to the other,
+    ensures keys { IfOk result (λ answers. KeysTell Iso graphs.now answers.items) }
+    // and exactly where some bijection of the vertices joins images as the vertices are joined.
+    ensures bare { IfOk result (λ answers. KeysTell BareIso graphs.now answers.items) }
 {
     answers_to(alloc, graphs)
 }

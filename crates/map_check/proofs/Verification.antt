@@ -9,7 +9,7 @@ use Rattle.integers.proofs.vectors.Laws.{base_sum_minus, base_sum_zero, vector_e
 use Rattle.integers.{specs.Bases.Base, specs.Bases.base_sum, proofs.numbers.Ring.linear, proofs.numbers.Ring.ring, proofs.lists.ListOrder.not_below_itself}
 use Rattle.periodic_net.specs.Graph.{Graph, Vertex, vertex, moved, arcs_from, arc, IsGraph, Arc}
 use Rattle.periodic_net.specs.Maps.{PeriodicMap, IsDrawnBy, IsMapTable, Iso}
-use Rattle.periodic_net.proofs.CallerLemmas.{drawn, drawn_by_table}
+use Rattle.periodic_net.proofs.CallerLemmas.{bare_of_iso, drawn, drawn_by_table}
 use Rattle.sublattice.specs.Sublattices.{base_of, index_of}
 use Rattle.map_check.specs.Layouts.{box_size, place_of, table_for, vertex_at, ComesBefore}
 use Rattle.map_check.specs.Tables.{HasNoDouble, DegreesAgree, ArcsAreKept, IsMovedImage, IsBoxVertex, CountsAgree}
@@ -351,14 +351,15 @@ module _ (G H : Graph) (m : ℕ) (images : List Vertex) (rows : List Vector) (g 
   -- a true verdict
   pub verified : (v : Verdict) → ((f : Vertex → Vertex) → IsDrawnBy G (table_for G m images rows) f → IsVerdict G H (table_for G m images rows) f v)
       → IsVerified G H m images rows v
-  verified v s = record {
-    told = s;
-    exactly = λ f t. yes_exactly v f t (s f t);
-    iso =
-        let f = drawn (table_for G m images rows) h.period_from in
-        let t = drawn_by_table G (table_for G m images rows) h.period_from in
-        yes_iso v f t (s f t);
-  }
+  verified v s =
+      let f = drawn (table_for G m images rows) h.period_from in
+      let t = drawn_by_table G (table_for G m images rows) h.period_from in
+      record {
+        told = s;
+        exactly = λ f t. yes_exactly v f t (s f t);
+        iso = yes_iso v f t (s f t);
+        bare = λ e. bare_of_iso G H (yes_iso v f t (s f t) e);
+      }
 
   -- a true verdict, if there is one
   pub verified_result : {E : Type 0} (r : Result Verdict E) → IfOk r (IsTold G H m images rows) → IfOk r (IsVerified G H m images rows)

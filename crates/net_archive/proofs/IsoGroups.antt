@@ -18,7 +18,7 @@ use Rattle.archive_text.{specs.Regrouped.AreTogether, proofs.CallerLemmas.is_reg
 use Rattle.integers.proofs.lists.Members.{IsIn, is_in, contains_from_in}
 use Rattle.integers.proofs.lists.Permutations.{permuted_pairs}
 use Rattle.periodic_net.specs.Graph.{Graph, IsGraph}
-use Rattle.key_theory.specs.Key.{IsKeyOf}
+use Rattle.key_theory.specs.{Key.IsKeyOf, Laws.KeysDecideBy}
 use Rattle.net_archive.specs.Archives.{IsEntry, IsArchive, IsInMemory}
 use Rattle.net_archive.specs.Deciding.{AreGroupsBy, AreNamesBy, IsEntryAt, KeysDecideArchive, ShareGroup, StandTogetherBy}
 use Rattle.net_archive.proofs.NewEntry.{body_with, lines_with, text_length}
@@ -106,17 +106,13 @@ regrouped_archive v es now body rows m is r = record {
   is_body = r ∙ ap (λ (xs : List EntryView). rows_text (entry_lines v xs)) (sym is);
 }
 
--- keys decide whether the nets of two graphs are the same in this sense
-abbrev pub KeysTell : (Graph → Graph → Type 0) → Type 0
-KeysTell Same = (G H : Graph) (xs ys : List ℤ) → IsGraph G → IsGraph H → IsKeyOf G xs → IsKeyOf H ys → (xs ≡ ys) ↔ Same G H
-
 -- The names that a key finds are those of the entries with the same net.
 
 -- two keys are found equal exactly where they are
 same_decides : (xs ys : List ℤ) → (same_key xs ys ≡ true → xs ≡ ys) × (xs ≡ ys → same_key xs ys ≡ true)
 same_decides xs ys = slice_eq-Decides Decides-int_eq xs ys (same_key xs ys) refl
 
-module _ (Same : Graph → Graph → Type 0) (tell : KeysTell Same) (G : Graph) (g : IsGraph G) (key : List ℤ) (k : IsKeyOf G key) where
+module _ (Same : Graph → Graph → Type 0) (tell : KeysDecideBy Same) (G : Graph) (g : IsGraph G) (key : List ℤ) (k : IsKeyOf G key) where
   -- the entry is found where its net is the same
   found_same : (e : EntryView) → IsEntry e → same_key e.key key ≡ true → Same G e.graph
   found_same e h s = (tell G e.graph key e.key g h.is_graph k h.key).0 (sym ((same_decides e.key key).0 s))
@@ -150,7 +146,7 @@ module _ (Same : Graph → Graph → Type 0) (tell : KeysTell Same) (G : Graph) 
   names_found (e ∷ es) h = one_more e es (All-head IsEntry e es h) (names_found es (All-tail IsEntry e es h)) (same_key e.key key) refl
 
 -- the keys of two entries decide
-pub keys_decide_archive : (Same : Graph → Graph → Type 0) → KeysTell Same → (entries : List EntryView) → All IsEntry entries
+pub keys_decide_archive : (Same : Graph → Graph → Type 0) → KeysDecideBy Same → (entries : List EntryView) → All IsEntry entries
     → KeysDecideArchive Same entries
 keys_decide_archive Same tell entries good e f i j =
     let a = All-contains IsEntry entries e good i in let b = All-contains IsEntry entries f good j in
@@ -209,7 +205,7 @@ two_members (x ∷ []) m n (inl a) (inr j) other = absurd j
 two_members (x ∷ []) m n (inr i) j other = absurd i
 two_members (x ∷ y ∷ ys) m n i j other = omega arith
 
-module _ (Same : Graph → Graph → Type 0) (tell : KeysTell Same) (es : List EntryView) (good : All IsEntry es) (groups : List (List ℕ))
+module _ (Same : Graph → Graph → Type 0) (tell : KeysDecideBy Same) (es : List EntryView) (good : All IsEntry es) (groups : List (List ℕ))
     (are : AreGroups es groups) where
   -- an entry by its number is one of the entries
   among : (m : ℕ) (e : EntryView) → IsEntryAt es m e → Contains es e
@@ -251,7 +247,7 @@ module _ (Same : Graph → Graph → Type 0) (tell : KeysTell Same) (es : List E
           )
 
 -- where groups are reported, they are so
-pub groups_told : {E : Type 0} (Same : Graph → Graph → Type 0) → KeysTell Same → (es : List EntryView) (r : Result (Vec (Vec ℕ Global) Global) E) → All IsEntry es
+pub groups_told : {E : Type 0} (Same : Graph → Graph → Type 0) → KeysDecideBy Same → (es : List EntryView) (r : Result (Vec (Vec ℕ Global) Global) E) → All IsEntry es
     → IfOk r (λ groups. AreGroups es (numbers_in groups.items))
     → IfOk r (λ groups. AreGroupsBy Same es (numbers_in groups.items))
 groups_told Same tell es (Ok groups) good are = groups_by Same tell es good (numbers_in groups.items) are
@@ -275,7 +271,7 @@ module _ (before between after : List EntryView) (e f : EntryView) where
   between_there : (x : EntryView) → Contains between x → Contains whole x
   between_there x c = later_there x (Contains-append_left between (f ∷ after) x c)
 
-module _ (Same : Graph → Graph → Type 0) (tell : KeysTell Same) where
+module _ (Same : Graph → Graph → Type 0) (tell : KeysDecideBy Same) where
   -- the keys of two entries decide
   decide : (e f : EntryView) → IsEntry e → IsEntry f → (e.key ≡ f.key → Same e.graph f.graph) × (Same e.graph f.graph → e.key ≡ f.key)
   decide e f a b = let both = tell e.graph f.graph e.key f.key a.is_graph b.is_graph a.key b.key in (both.0, both.1)

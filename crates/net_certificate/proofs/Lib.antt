@@ -2,6 +2,7 @@ pub mod BoxLists
 pub mod CallerLemmas
 pub mod FirstWide
 pub mod FoundMaps
+pub mod InfiniteGraphs
 pub mod OneAnswer
 pub mod Places
 pub mod RowForms

@@ -19,6 +19,7 @@ use Rattle.net_certificate.specs.Reading.{IsIn, HasBadLine, MayStand, IsTextOf, 
 use Rattle.net_certificate.specs.FirstRows.{BeginsBefore, IsFormed, first_lines}
 use Rattle.net_certificate.specs.Items.{Maps, With, ItemView}
 use Rattle.net_certificate.specs.Texts.{maps_rows, maps_text, graph_rows, image_rows, map_rows, item_rows, items_rows}
+use Rattle.net_certificate.proofs.InfiniteGraphs.{items_apart}
 use Rattle.net_certificate.proofs.Walks.{whole_graph, rows_of_whole, walk_rows, walk_formed, formed_with, Meet, Further, Nearer, Same, meet, row_none}
 use Rattle.net_certificate.proofs.Places.{maps_walk, lines_of_sum, graph_same}
 use Rattle.net_certificate.specs.Checks.{ArePassed, AreAll, IsChecked}
@@ -306,7 +307,7 @@ maps_written first nets a b c one two more =
     rows_written [] a b (OfTitle ∷ []) (graph_rows G) one (two ∙ ap (λ l. a ++ rows_text l) (sym (graph_same G))) in
     record {
       maps = Some (record { first = G; items = more.items });
-      are_maps = record { first_is = refl; are_items = more.are_items };
+      are_maps = record { first_is = refl; are_items = more.are_items; apart = items_apart first most_images nets more.items more.are_items };
       text_is = rows_written [] b c (OfTitle ∷ graph_rows G) (items_rows G.dimension 2 more.items) drawn more.text;
     }
 

@@ -4,6 +4,7 @@ use Rattle.std.proofs.Common.{subst}
 use Rattle.integers.specs.Vectors.{Vector}
 use Rattle.periodic_net.specs.Classes.{IsClassGraph}
 use Rattle.periodic_net.specs.Graph.{Graph, Vertex}
+use Rattle.periodic_net.specs.Maps.{BareIso}
 use Rattle.key_theory.specs.Key.{Shape}
 use Rattle.map_check.specs.Conditions.{SuitsGraphs, most_images}
 use Rattle.map_check.specs.Verified.{IsVerified}
@@ -43,6 +44,14 @@ pub record IsMapAnswer (a b : KeyedNet) (room : ℕ) (answer : MapAnswer) : Type
   pub here : IsKeyed a
   pub there : IsKeyed b
   pub by : IsAnswerBy a.placed.graph b.placed.graph (shape_of a here) (shape_of b there) room answer
+
+-- what an answer says of the infinite graphs: no bijection between the vertices joins images exactly where the vertices are joined, where the
+-- nets are answered to be different; and at each other answer some bijection does
+abbrev pub TellsGraphs : Graph → Graph → MapAnswer → Type 0
+TellsGraphs G H Different = ¬ BareIso G H
+TellsGraphs G H (LongMap entries) = BareIso G H
+TellsGraphs G H (WideMap value) = BareIso G H
+TellsGraphs G H (Found map) = BareIso G H
 
 -- a map can be checked, and each true verdict on it is Yes
 pub record IsPassing (G H : Graph) (m : ℕ) (images : List Vertex) (rows : List Vector) : Type 0 where

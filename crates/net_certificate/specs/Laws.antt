@@ -7,7 +7,7 @@ use Rattle.key_theory.specs.Key.{Shape}
 use Rattle.map_check.specs.Conditions.{most_images}
 use Rattle.least_key.specs.KeyedNets.{KeyedNet}
 use Rattle.standard_map.specs.MapNumbers.{IsFound}
-use Rattle.net_certificate.specs.Answers.{IsMapAnswer, IsPassing}
+use Rattle.net_certificate.specs.Answers.{IsMapAnswer, IsPassing, TellsGraphs}
 use Rattle.net_certificate.specs.declared.answer.MapAnswer.{MapAnswer}
 
 -- two nets have one answer by a room at most
@@ -18,3 +18,7 @@ OneMapAnswer = (a b : KeyedNet) (room : ℕ) (s t : MapAnswer) → IsMapAnswer a
 abbrev pub FoundMapsPass : Type 0
 FoundMapsPass = (G H : Graph) (g : Shape G) (h : Shape H) (room m : ℕ) (images : List Vertex) (rows : List Vector) → IsGraph G → IsGraph H
     → H.vertices ≤ most_vertices → IsFound G H g h room m images rows → length images ≤ most_images → IsPassing G H m images rows
+
+-- the answer to two nets tells whether their infinite graphs are isomorphic
+abbrev pub AnswersTellGraphs : Type 0
+AnswersTellGraphs = (a b : KeyedNet) (room : ℕ) (answer : MapAnswer) → IsMapAnswer a b room answer → TellsGraphs a.placed.graph b.placed.graph answer

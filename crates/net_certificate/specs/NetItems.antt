@@ -1,6 +1,7 @@
 -- What a text of maps says of nets: of each net after the first, why there is no map to it from the first, or the map.
-use Rattle.std.specs.Prelude.{◌≡◌, ℕ, ◌-◌, List, [], ◌∷◌, length, Option, None, Some}
+use Rattle.std.specs.Prelude.{◌≡◌, ◌↔◌, ℕ, ◌-◌, List, [], ◌∷◌, length, Option, None, Some}
 use Rattle.periodic_net.specs.Graph.{Graph}
+use Rattle.periodic_net.specs.Maps.{BareIso}
 use Rattle.least_key.specs.KeyedNets.{KeyedNet}
 use Rattle.map_check.specs.Conditions.{most_images}
 use Rattle.net_certificate.specs.Items.{ItemView, Without, With, Maps, IsTold}
@@ -40,10 +41,19 @@ AreItemsOf first room [] [] = Unit {0}
 AreItemsOf first room (net ∷ nets) (item ∷ items) = IsItemOf first room net item × AreItemsOf first (room - images_in item) nets items
 AreItemsOf first room nets items = ⊥
 
+-- of each net it is said that it is different exactly where no bijection between the vertices of the first net and its own joins images exactly
+-- where the vertices are joined
+abbrev pub AreToldApart : KeyedNet → List KeyedNet → List ItemView → Type 0
+AreToldApart first [] [] = Unit {0}
+AreToldApart first (net ∷ nets) (item ∷ items) = ((item ≡ Without why.Different) ↔ (¬ BareIso first.placed.graph net.placed.graph))
+    × AreToldApart first nets items
+AreToldApart first nets items = ⊥
+
 -- the graph of the first net, and the items of the others; at most 100,000 images are printed
 pub record AreMapsFrom (first : KeyedNet) (nets : List KeyedNet) (maps : Maps) : Type 0 where
   pub first_is : maps.first ≡ first.placed.graph
   pub are_items : AreItemsOf first most_images nets maps.items
+  pub apart : AreToldApart first nets maps.items
 
 -- where there is no net there are none
 abbrev pub AreMapsOf : List KeyedNet → Option Maps → Type 0

@@ -1,5 +1,5 @@
 // What holds of the answers. Each function carries a theorem.
-ghost use Rattle.net_certificate.specs.Laws.{FoundMapsPass, OneMapAnswer};
+ghost use Rattle.net_certificate.specs.Laws.{AnswersTellGraphs, FoundMapsPass, OneMapAnswer};
 ghost use Rattle.net_certificate.specs.TextLaws.{BadLineIsFirst, TextsTellMaps};
 
 /// A text is that of one list of maps at most, and has one first bad line at most, and never both.
@@ -21,4 +21,10 @@ pub fn one_map_answer()
 /// A map that is found passes the check of maps, where it has no more images than are checked.
 pub fn found_maps_pass()
     ensures theorem { FoundMapsPass }
+{}
+
+/// Two nets are answered to be different exactly where no bijection between their vertices joins
+/// images exactly where the vertices are joined.
+pub fn answers_tell_graphs()
+    ensures theorem { AnswersTellGraphs }
 {}

@@ -6,7 +6,7 @@ use Rattle.std.specs.Prelude.{◌↔◌, is_some, slice_index_or, unwrap_or}
 use Rattle.std.{proofs.lemmas.Bool.true≢false, specs.List.All}
 use Rattle.periodic_net.specs.{Graph.Graph, Graph.IsConnected, Graph.IsGraph, Maps.BareIso, Maps.Iso}
 use Rattle.periodic_net.proofs.CallerLemmas.{bare_connected, bare_of_iso, bare_transitive, bare_turned, iso_reflexive, iso_symmetric, iso_transitive}
-use Rattle.key_theory.specs.Key.{IsKeyable, IsKeyOf}
+use Rattle.key_theory.specs.{Key.IsKeyable, Key.IsKeyOf, Laws.KeysDecideBy}
 use Rattle.key_theory.proofs.CallerLemmas.{keys_decide, keys_decide_bare}
 use Rattle.cgd_read.specs.Views.{RawView, BodyView, Net, BlockView, body_view, views, raw_view}
 use Rattle.cgd_read.specs.{Graphs.graph_of, Blocks.IsReadBody, declared.block.Block.Block, declared.block.Body.Body, Graphs.IsReadGraph}
@@ -15,7 +15,7 @@ use Rattle.least_key.proofs.CallerLemmas.{key_of_graph, keyed_is_certain, certai
 use Rattle.least_key.specs.{AnyNets.net_view, Certain.IsCertain, KeyedNets.KeyedNet, KeyedNets.IsKeyed, Truths.IsOfConnecting, Truths.IsTrueOf}
 use Rattle.least_key.specs.declared.refusal.Refusal.{Refusal}
 use Rattle.archive_text.specs.Entries.{EntryView}
-use Rattle.net_archive.{specs.Archives.IsEntry, proofs.CallerLemmas.KeysTell, proofs.CallerLemmas.keys_decide_archive}
+use Rattle.net_archive.{specs.Archives.IsEntry, proofs.CallerLemmas.keys_decide_archive}
 use Rattle.net_report.specs.declared.outcome.OutcomeBody.TheVariants.{Refused, Checked, Located, Keyed, Identified}
 use Rattle.net_report.specs.declared.command.Command.TheVariants.{Check, Place, Key, Identify, Components}
 use Rattle.net_report.specs.declared.{outcome.Outcome.Outcome, command.Command.Command, outcome.OutcomeBody.OutcomeBody}
@@ -210,7 +210,7 @@ module _ (entries : List EntryView) (command : Command) (bs : List BlockView) (o
 
 -- In each sense that keys decide.
 
-module _ (Same : Graph → Graph → Type 0) (tell : KeysTell Same) (carried : IsCarried Same) (entries : List EntryView) (command : Command)
+module _ (Same : Graph → Graph → Type 0) (tell : KeysDecideBy Same) (carried : IsCarried Same) (entries : List EntryView) (command : Command)
     (bs : List BlockView) (os : List Outcome) (h : AreOutcomesFrom entries command 1 bs os) where
   -- the keys of two blocks decide
   pub keys_decide_blocks : KeysDecideBlocks Same bs os

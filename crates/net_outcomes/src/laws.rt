@@ -1,6 +1,6 @@
 // What holds of reports. The function carries a theorem.
 ghost use Rattle.net_outcomes.specs.ComponentLaws.{OneTelling};
-ghost use Rattle.net_outcomes.specs.Laws.{OneReport, RefusalsTell};
+ghost use Rattle.net_outcomes.specs.Laws.{OneReport, PartsTell, RefusalsTell};
 
 /// What is reported of the components of a net is one.
 pub fn one_telling()
@@ -16,4 +16,9 @@ pub fn one_report()
 /// net with a key.
 pub fn refusals_tell()
     ensures theorem { RefusalsTell }
+{}
+
+/// The keys of parts decide whether their nets are isomorphic.
+pub fn parts_tell()
+    ensures theorem { PartsTell }
 {}

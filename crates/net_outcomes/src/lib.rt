@@ -10,7 +10,7 @@ mod telling;
 mod told;
 
 pub use accepted::{are_accepted, is_accepted};
-pub use laws::{one_report, one_telling, refusals_tell};
+pub use laws::{one_report, one_telling, parts_tell, refusals_tell};
 pub use net_archive::Archive;
 pub use net_report::{KeyedOutcomes, Outcome, OutcomeBody, report};
 pub use outcomes::outcomes_of;

@@ -3,14 +3,14 @@ ghost use Rattle.std.specs.Prelude.{◌≡◌, ◌≤◌, ◌↔◌, All, IsTrue
 ghost use Rattle.cgd_lex.specs.Limits.{longest_text};
 ghost use Rattle.periodic_net.specs.Graph.{IsGraph};
 ghost use Rattle.periodic_net.specs.Limits.{IsSmall};
-ghost use Rattle.periodic_net.specs.Maps.{Iso};
+ghost use Rattle.periodic_net.specs.Maps.{BareIso, Iso};
 ghost use Rattle.cgd_read.specs.Spelling.{edge_of};
 ghost use Rattle.quotient_graph.specs.Stars.{IsInOrder, graph_with};
 ghost use Rattle.cgd_read.specs.Blocks.{IsReadBody};
 ghost use Rattle.cgd_read.specs.Graphs.{IsReadGraph, graph_of};
 ghost use Rattle.cgd_read.specs.Views.{raw_view, views};
 ghost use Rattle.least_key.specs.AnyNets.{net_view};
-ghost use Rattle.net_archive.specs.Deciding.{AreNamesOf};
+ghost use Rattle.net_archive.specs.Deciding.{AreBareNamesOf, AreNamesOf};
 ghost use Rattle.nets.specs.Refused.{IsRefusedBy};
 ghost use Rattle.nets.specs.Texts.{IsGraphIn, IsTroubleIn, first_graph};
 
@@ -74,9 +74,14 @@ pub fn net_in(alloc: Global, text: &[u8]) -> Result<Net, Trouble>
     Ok(net)
 }
 
-/// Whether a periodic bijection carries the one net to the other.
+/// Whether the nets are isomorphic.
 pub fn are_isomorphic(a: &Net, b: &Net) -> bool
-    ensures { IsTrue result ↔ Iso (net_view a.now).placed.graph (net_view b.now).placed.graph }
+    // By a bijection that is periodic,
+    ensures isomorphic { IsTrue result ↔
+        Iso (net_view a.now).placed.graph (net_view b.now).placed.graph }
+    // and by any that joins images exactly where the vertices are joined.
+    ensures bare { IsTrue result ↔
+        BareIso (net_view a.now).placed.graph (net_view b.now).placed.graph }
 {
     a.key().numbers() == b.key().numbers()
 }
@@ -84,7 +89,10 @@ pub fn are_isomorphic(a: &Net, b: &Net) -> bool
 /// The names of exactly the entries of an archive whose nets are isomorphic to this one, in their
 /// order.
 pub fn names_of<'a, 'n>(archive: &'a Archive, net: &'n Net) -> Matches<'a, 'n>
-    ensures { AreNamesOf (net_view net.now).placed.graph archive.now.entries result }
+    // By a bijection that is periodic,
+    ensures isomorphic { AreNamesOf (net_view net.now).placed.graph archive.now.entries result }
+    // and by any that joins images exactly where the vertices are joined.
+    ensures bare { AreBareNamesOf (net_view net.now).placed.graph archive.now.entries result }
 {
     archive.lookup(net.key())
 }
