@@ -247,7 +247,8 @@ module _ (Same : Graph → Graph → Type 0) (tell : KeysDecideBy Same) (es : Li
           )
 
 -- where groups are reported, they are so
-pub groups_told : {E : Type 0} (Same : Graph → Graph → Type 0) → KeysDecideBy Same → (es : List EntryView) (r : Result (Vec (Vec ℕ Global) Global) E) → All IsEntry es
+pub groups_told : {E : Type 0} (Same : Graph → Graph → Type 0) → KeysDecideBy Same → (es : List EntryView)
+    (r : Result (Vec (Vec ℕ Global) Global) E) → All IsEntry es
     → IfOk r (λ groups. AreGroups es (numbers_in groups.items))
     → IfOk r (λ groups. AreGroupsBy Same es (numbers_in groups.items))
 groups_told Same tell es (Ok groups) good are = groups_by Same tell es good (numbers_in groups.items) are

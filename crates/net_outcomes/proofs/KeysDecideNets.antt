@@ -19,8 +19,8 @@ use Rattle.net_archive.{specs.Archives.IsEntry, proofs.CallerLemmas.keys_decide_
 use Rattle.net_report.specs.declared.outcome.OutcomeBody.TheVariants.{Refused, Checked, Located, Keyed, Identified}
 use Rattle.net_report.specs.declared.command.Command.TheVariants.{Check, Place, Key, Identify, Components}
 use Rattle.net_report.specs.declared.{outcome.Outcome.Outcome, command.Command.Command, outcome.OutcomeBody.OutcomeBody}
-use Rattle.net_outcomes.specs.Deciding.{HasKeyAt, IsAcceptedAt, IsBlockAt, IsOfNet, IsRefusedAt, KeysDecideBlocks, KeysDecideEntries, key_told, refusal_told, AreOutcomes}
-use Rattle.net_outcomes.specs.Deciding.{RefusedAreApart, RefusedAreNoEntries}
+use Rattle.net_outcomes.specs.Deciding.{AreOutcomes, HasKeyAt, IsAcceptedAt, IsBlockAt, IsOfNet, IsRefusedAt, KeysDecideBlocks, KeysDecideEntries}
+use Rattle.net_outcomes.specs.Deciding.{RefusedAreApart, RefusedAreNoEntries, key_told, refusal_told}
 use Rattle.net_outcomes.specs.Outcomes.{IsBodyOf, AreOutcomesFrom, IsRefusedAs, MayTell, is_accepted_body}
 use Rattle.net_outcomes.proofs.{NetOutcomes.is_graph_in, Refusals.check_early, Refusals.place_early, Refusals.refused_parted, Refusals.refusals_tell}
 use Rattle.cgd_read.specs.declared.block.Body.TheVariants as read
@@ -192,8 +192,9 @@ module _ (entries : List EntryView) (command : Command) (bs : List BlockView) (o
   pub refused_are_apart : RefusedAreApart bs os
   refused_are_apart i j raw raw' k l e =
       let a = refused_at i raw k in let b = accepted_at j raw' l in
-      let here = bare_carried a.graph (graph_of raw) b.graph (graph_of raw') (iso_symmetric (graph_of raw) a.graph (in_order_iso (graph_of raw) a.graph a.in_order))
-      (iso_symmetric (graph_of raw') b.graph (in_order_iso (graph_of raw') b.graph b.in_order)) e in
+      let there = iso_symmetric (graph_of raw) a.graph (in_order_iso (graph_of raw) a.graph a.in_order) in
+      let there' = iso_symmetric (graph_of raw') b.graph (in_order_iso (graph_of raw') b.graph b.in_order) in
+      let here = bare_carried a.graph (graph_of raw) b.graph (graph_of raw') there there' e in
       ⊎_elim
       (λ early. refused_parted a.graph k.refusal a.is_graph a.is_true k.of_net early
       (bare_connected b.graph a.graph b.is_graph (bare_turned a.graph b.graph here) b.connected))
@@ -204,8 +205,8 @@ module _ (entries : List EntryView) (command : Command) (bs : List BlockView) (o
   pub refused_are_no_entries : All IsEntry entries → RefusedAreNoEntries entries bs os
   refused_are_no_entries good i raw e k there b =
       let a = refused_at i raw k in let entry = All-contains IsEntry entries e good there in
-      let here = bare_carried a.graph (graph_of raw) e.graph e.graph (iso_symmetric (graph_of raw) a.graph (in_order_iso (graph_of raw) a.graph a.in_order))
-      (iso_reflexive e.graph) b in
+      let to_raw = iso_symmetric (graph_of raw) a.graph (in_order_iso (graph_of raw) a.graph a.in_order) in
+      let here = bare_carried a.graph (graph_of raw) e.graph e.graph to_raw (iso_reflexive e.graph) b in
       refusals_tell a.graph e.graph k.refusal a.is_graph entry.is_graph a.is_true k.of_net entry.certain.keyable here
 
 -- In each sense that keys decide.

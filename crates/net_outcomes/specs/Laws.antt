@@ -29,5 +29,7 @@ RefusalsTell = (G H : Graph) (refusal : Refusal) → IsGraph G → IsGraph H →
 
 -- the keys of two parts are equal exactly where their nets are isomorphic, by bijections with a period and by any
 pub record PartsTell : Type 0 where
-  pub isomorphic : (ps : List Part) (answers : List (Result Net Refusal)) → AreMatched IsAnswerOf ps answers → KeysTell Iso (map (λ (p : Part). p.graph) ps) answers
-  pub bare : (ps : List Part) (answers : List (Result Net Refusal)) → AreMatched IsAnswerOf ps answers → KeysTell BareIso (map (λ (p : Part). p.graph) ps) answers
+  pub isomorphic : (ps : List Part) (answers : List (Result Net Refusal)) → AreMatched IsAnswerOf ps answers
+      → KeysTell Iso (map (λ (p : Part). p.graph) ps) answers
+  pub bare : (ps : List Part) (answers : List (Result Net Refusal)) → AreMatched IsAnswerOf ps answers
+      → KeysTell BareIso (map (λ (p : Part). p.graph) ps) answers
