@@ -5,7 +5,7 @@ use Rattle.std.proofs.lemmas.List.Elements.{All-contains, All-head, All-tail}
 use Rattle.std.specs.Prelude.{◌↔◌, is_some, slice_index_or, unwrap_or}
 use Rattle.std.{proofs.lemmas.Bool.true≢false, specs.List.All}
 use Rattle.periodic_net.specs.{Graph.Graph, Graph.IsConnected, Graph.IsGraph, Maps.BareIso, Maps.Iso}
-use Rattle.periodic_net.proofs.CallerLemmas.{bare_connected, bare_of_iso, bare_transitive, bare_turned, iso_reflexive, iso_symmetric, iso_transitive}
+use Rattle.periodic_net.proofs.CallerLemmas.{bare_connected, bare_of_iso, bare_transitive, iso_reflexive, iso_symmetric, iso_transitive}
 use Rattle.key_theory.specs.{Key.IsKeyable, Key.IsKeyOf, Laws.KeysDecideBy}
 use Rattle.key_theory.proofs.CallerLemmas.{keys_decide, keys_decide_bare}
 use Rattle.cgd_read.specs.Views.{RawView, BodyView, Net, BlockView, body_view, views, raw_view}
@@ -197,7 +197,7 @@ module _ (entries : List EntryView) (command : Command) (bs : List BlockView) (o
       let here = bare_carried a.graph (graph_of raw) b.graph (graph_of raw') there there' e in
       ⊎_elim
       (λ early. refused_parted a.graph k.refusal a.is_graph a.is_true k.of_net early
-      (bare_connected b.graph a.graph b.is_graph (bare_turned a.graph b.graph here) b.connected))
+      (bare_connected a.graph b.graph b.is_graph here b.connected))
       (λ c. refusals_tell a.graph b.graph k.refusal a.is_graph b.is_graph a.is_true k.of_net c here)
       (b.keyable k.refusal a.may k.of_net)
 

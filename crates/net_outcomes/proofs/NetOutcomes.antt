@@ -3,13 +3,14 @@ use Rattle.std.proofs.Common.{◌≡◌, ◌⊎◌, ℕ, ◌≤◌, sym, subst, 
 use Rattle.std.{proofs.lemmas.List.Elements.All-weaker, proofs.lemmas.List.Sorted.All-permutation, specs.List.All, specs.Prelude.IfOk}
 use Rattle.integers.{proofs.lists.Permutations.permuted_pairs}
 use Rattle.periodic_net.specs.Graph.{Arc, Graph, IsEdge, IsGraph}
+use Rattle.periodic_net.specs.Maps.{BareIso, Iso}
 use Rattle.periodic_net.proofs.CallerLemmas.{barycentric_placements_translate}
 use Rattle.quotient_graph.specs.{PlacedNets.PlacedNet, Stars.IsInOrder}
 use Rattle.cgd_read.specs.{Graphs.graph_of, Views.RawView, Views.Net}
 use Rattle.least_key.specs.Truths.{IsTrueOf, IsOfConnecting, IsOfPlacing}
 use Rattle.least_key.{specs.Placings.IsPlacedAs, specs.declared.net.Net.Net as AnyNet, specs.AnyNets.net_view, specs.declared.refusal.Refusal.Refusal}
 use Rattle.least_key.{specs.declared.refusal.Refusal.TheVariants.NoMemory, proofs.CallerLemmas.key_of_graph}
-use Rattle.key_theory.specs.Key.{IsKeyOf}
+use Rattle.key_theory.{specs.Key.IsKeyOf, proofs.CallerLemmas.keys_decide, proofs.CallerLemmas.keys_decide_bare}
 use Rattle.coordination.specs.Sequences.{AreSequencesOf}
 use Rattle.archive_text.specs.{Entries.EntryView, Lookups.names_with}
 use Rattle.net_archive.{specs.Archives.IsEntry, specs.Deciding.AreBareNamesOf, specs.Deciding.AreNamesOf, proofs.CallerLemmas.names_found}
