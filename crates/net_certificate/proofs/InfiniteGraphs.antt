@@ -1,5 +1,5 @@
 -- Keys that differ refute each bijection that joins alike, so the answer that nets are different does; and each other answer has equal keys.
-use Rattle.std.proofs.Common.{◌≡◌, List, [], ◌∷◌, refl, subst}
+use Rattle.std.proofs.Common.{◌≡◌, List, [], ◌∷◌, refl, subst, sym}
 use Rattle.std.specs.Prelude.{◌↔◌}
 use Rattle.periodic_net.specs.{Graph.Graph, Graph.IsGraph, Maps.BareIso}
 use Rattle.key_theory.{specs.Key.Shape, proofs.CallerLemmas.keys_decide_bare, proofs.CallerLemmas.other_keys_refute}

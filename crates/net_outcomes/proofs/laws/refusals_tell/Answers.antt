@@ -1,5 +1,4 @@
 use Rattle.net_outcomes.proofs.Refusals.{refusals_tell}
-use Rattle.net_outcomes.proofs.KeysDecideNets.{outcomes_decide}
 use Rattle.net_outcomes.proofs.laws.refusals_tell.Goals as goal
 
 pub returns : goal.returns
