@@ -4,7 +4,8 @@ use Rattle.std.specs.Int.{int_max}
 use Rattle.integers.specs.Coordinates.{IsCoordinate}
 use Rattle.integers.specs.Vectors.{Vector, vector, zero_vector}
 use Rattle.periodic_net.specs.Classes.{ClassGraph, IsClassGraph, IsDistance}
-use Rattle.periodic_net.specs.Examples.{square_net, doubled_net, honeycomb_net, hanging_net, slanted_net, slanted, square_placement, honeycomb_placement, hanging_placement}
+use Rattle.periodic_net.specs.Examples.{square_net, doubled_net, honeycomb_net, hanging_net, slanted_net, slanted, square_placement}
+use Rattle.periodic_net.specs.Examples.{honeycomb_placement, hanging_placement}
 use Rattle.periodic_net.specs.Graph.{Graph, IsGraph, IsConnected, Vertex, vertex, IsVertex}
 use Rattle.periodic_net.specs.Placement.{Placement, position, IsBarycentric, IsCollision, IsNormalPlacement, IsStablePlacement}
 use Rattle.periodic_net.specs.{Maps.BareIso, OrderedGroups.OrderedGroup, OrderedPlacements.IsBarycentricIn}
