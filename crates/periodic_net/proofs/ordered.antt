@@ -1,4 +1,5 @@
--- Barycentric placements with coordinates in any ordered group.
+-- Ordered groups, and barycentric placements with coordinates in them.
 pub mod Along
+pub mod Groups
 pub mod Translates
 pub mod WholeNumbers

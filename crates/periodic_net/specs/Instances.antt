@@ -1,14 +1,15 @@
 -- Small nets that meet the definitions: none of these is empty.
-use Rattle.std.specs.Prelude.{◌≡◌, ℤ, pos, ◌+ℤ◌, ◌*ℤ◌}
+use Rattle.std.specs.Prelude.{◌≡◌, ℕ, ℤ, pos, ◌+ℤ◌, ◌*ℤ◌}
 use Rattle.std.specs.Int.{int_max}
 use Rattle.integers.specs.Coordinates.{IsCoordinate}
 use Rattle.integers.specs.Vectors.{Vector, vector, zero_vector}
 use Rattle.periodic_net.specs.Classes.{ClassGraph, IsClassGraph, IsDistance}
-use Rattle.periodic_net.specs.Examples.{square_net, doubled_net, honeycomb_net, hanging_net, slanted_net, slanted, square_placement, honeycomb_placement, hanging_placement}
-use Rattle.periodic_net.specs.Graph.{Graph, IsGraph, IsConnected, vertex}
+use Rattle.periodic_net.specs.Examples.{square_net, doubled_net, honeycomb_net, hanging_net, slanted_net, slanted, square_placement}
+use Rattle.periodic_net.specs.Examples.{honeycomb_placement, hanging_placement}
+use Rattle.periodic_net.specs.Graph.{Graph, IsGraph, IsConnected, Vertex, vertex, IsVertex}
 use Rattle.periodic_net.specs.Placement.{Placement, position, IsBarycentric, IsCollision, IsNormalPlacement, IsStablePlacement}
 use Rattle.periodic_net.specs.{Maps.BareIso, OrderedGroups.OrderedGroup, OrderedPlacements.IsBarycentricIn}
-use Rattle.periodic_net.specs.Shells.{IsInShell}
+use Rattle.periodic_net.specs.Shells.{IsInShell, IsShellSize}
 use Rattle.periodic_net.specs.Split.{Split, IsSplit}
 
 -- a class graph of the square net, in which its class is at distance 0 from itself
@@ -35,4 +36,6 @@ pub record DefinitionsHaveInstances : Type 0 where
   pub normal : IsNormalPlacement honeycomb_net honeycomb_placement
   pub collision : IsCollision hanging_net hanging_placement 1 2 zero_vector
   pub bare : (e : BareIso square_net slanted_net) × (e.map ≡ λ w. vertex w.over (slanted w.cell))
+  pub apart : ¬ BareIso square_net doubled_net
+  pub same_shells : (w x : Vertex) (k n : ℕ) → IsVertex square_net w → IsVertex doubled_net x → IsShellSize square_net w k n → IsShellSize doubled_net x k n
   pub ordered : (A : OrderedGroup ℤ) × IsOfWholeNumbers A
