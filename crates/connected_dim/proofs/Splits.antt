@@ -38,13 +38,13 @@ same_colours q c1 c2 c3 t1 t2 t3 w1 w2 w3 x1 x2 x3 h g k l e f = simp ring (omeg
 
 -- where each vertex is found and has the entry -c·T modulo q, joined vertices have one colour
 joined_alike : (G : Graph) (S : Split) → ((u : ℕ) → IsQuotientVertex G u → IsFound G 1 u)
-    → ((u : ℕ) (T : Vector) → IsQuotientVertex G u → WalkShift G 1 u T → AreAlike S.q (entry S.h u) (neg_ℤ (dot S.first_z T)))
+    → ((u : ℕ) (T : Vector) → IsQuotientVertex G u → WalkShift G 1 u T → AreAlike S.q (entry S.h u) (neg_ℤ (dot S.c T)))
     → (w x : Vertex) → IsVertex G w → IsVertex G x → AreJoined G w x → AreAlike S.q (colour S w) (colour S x)
 joined_alike G S found h w x i j joined =
     let f = found w.over i.over in let T = f.0 in let a = h w.over T i.over f.1 in
     let b = h x.over (plus x.cell (minus T w.cell)) j.over (further_walk G w x T joined f.1) in (
       a.0 -ℤ b.0,
-      same_colours (pos S.q) S.first_z.x S.first_z.y S.first_z.z T.x T.y T.z w.cell.x w.cell.y w.cell.z x.cell.x x.cell.y x.cell.z (entry S.h w.over)
+      same_colours (pos S.q) S.c.x S.c.y S.c.z T.x T.y T.z w.cell.x w.cell.y w.cell.z x.cell.x x.cell.y x.cell.z (entry S.h w.over)
           (entry S.h x.over) a.0 b.0 a.1 b.1,
     )
 
@@ -55,8 +55,8 @@ shift_alike q c1 c2 c3 v1 v2 v3 h k e = simp ring (omega (arith, linear, simp ri
 
 -- a vector whose product with c is not 0 modulo q gives two colours
 split_by_vector : (G : Graph) (S : Split) → IsGraph G → ((u : ℕ) → IsQuotientVertex G u → IsFound G 1 u)
-    → ((u : ℕ) (T : Vector) → IsQuotientVertex G u → WalkShift G 1 u T → AreAlike S.q (entry S.h u) (neg_ℤ (dot S.first_z T)))
-    → (v : Vector) → HasDimension G.dimension v → ¬ AreAlike S.q (dot S.first_z v) (pos 0) → IsSplit G S
+    → ((u : ℕ) (T : Vector) → IsQuotientVertex G u → WalkShift G 1 u T → AreAlike S.q (entry S.h u) (neg_ℤ (dot S.c T)))
+    → (v : Vector) → HasDimension G.dimension v → ¬ AreAlike S.q (dot S.c v) (pos 0) → IsSplit G S
 split_by_vector G S g found h v d a = record {
   joined = joined_alike G S found h;
   two = (
@@ -64,7 +64,7 @@ split_by_vector G S g found h v d a = record {
     vertex 1 v,
     record { over = (omega arith, g.vertices); cell = λ _. refl },
     record { over = (omega arith, g.vertices); cell = d },
-    λ k. a (neg_ℤ k.0, shift_alike (pos S.q) S.first_z.x S.first_z.y S.first_z.z v.x v.y v.z (entry S.h 1) k.0 k.1),
+    λ k. a (neg_ℤ k.0, shift_alike (pos S.q) S.c.x S.c.y S.c.z v.x v.y v.z (entry S.h 1) k.0 k.1),
   );
 }
 
@@ -89,34 +89,34 @@ second_part c1 c2 c3 = simp ring (omega (arith, linear))
 
 -- the second case is a split
 pub flat_is_split : (G : Graph) (S : Split) → IsGraph G → IsFlatSplit G S → IsSplit G S
-flat_is_split G S g p = by (start_of S.first_z p.positive)
+flat_is_split G S g p = by (start_of S.c p.positive)
   where
-    h : (u : ℕ) (T : Vector) → IsQuotientVertex G u → WalkShift G 1 u T → AreAlike S.q (entry S.h u) (neg_ℤ (dot S.first_z T))
-    h u T v w = equal_alike S.q (entry S.h u) (neg_ℤ (dot S.first_z T)) (p.h u T v w)
+    h : (u : ℕ) (T : Vector) → IsQuotientVertex G u → WalkShift G 1 u T → AreAlike S.q (entry S.h u) (neg_ℤ (dot S.c T))
+    h u T v w = equal_alike S.q (entry S.h u) (neg_ℤ (dot S.c T)) (p.h u T v w)
 
-    flat : G.dimension ≡ 2 → pos 0 <ℤ S.first_z.z → ⊥
+    flat : G.dimension ≡ 2 → pos 0 <ℤ S.c.z → ⊥
     flat d l = let z = p.dimension d in omega (arith, ints, z, l)
 
-    by : Start S.first_z → IsSplit G S
+    by : Start S.c → IsSplit G S
     by s = elim s.which [
       | inl l ↦ split_by_vector G S g p.found h (vector (pos 1) (pos 0) (pos 0)) (λ d. refl)
-          (not_alike S.q (dot S.first_z (vector (pos 1) (pos 0) (pos 0))) S.first_z.x p.q (first_part S.first_z.x S.first_z.y S.first_z.z) l)
+          (not_alike S.q (dot S.c (vector (pos 1) (pos 0) (pos 0))) S.c.x p.q (first_part S.c.x S.c.y S.c.z) l)
       | inr m ↦ elim m [
         | inl l ↦ split_by_vector G S g p.found h (vector (pos 0) (pos 1) (pos 0)) (λ d. refl)
-            (not_alike S.q (dot S.first_z (vector (pos 0) (pos 1) (pos 0))) S.first_z.y p.q (second_part S.first_z.x S.first_z.y S.first_z.z) l.1)
+            (not_alike S.q (dot S.c (vector (pos 0) (pos 1) (pos 0))) S.c.y p.q (second_part S.c.x S.c.y S.c.z) l.1)
         | inr l ↦ split_by_vector G S g p.found h (vector (pos 0) (pos 0) (pos 1)) (λ d. absurd (flat d l.2))
-            (not_alike S.q (dot S.first_z (vector (pos 0) (pos 0) (pos 1))) S.first_z.z p.q (up_dot S.first_z.x S.first_z.y S.first_z.z) l.2)
+            (not_alike S.q (dot S.c (vector (pos 0) (pos 0) (pos 1))) S.c.z p.q (up_dot S.c.x S.c.y S.c.z) l.2)
       ]
     ]
 
 -- and the third
 pub sparse_is_split : (G : Graph) (S : Split) (k : ℕ) → IsGraph G → IsSparseSplit G S k → IsSplit G S
 sparse_is_split G S zero g p = split_by_vector G S g p.found p.h (vector (pos 1) (pos 0) (pos 0)) (λ d. refl)
-    (one_not_alike S.q p.above (dot S.first_z (vector (pos 1) (pos 0) (pos 0))) (first_part S.first_z.x S.first_z.y S.first_z.z ∙ p.one))
+    (one_not_alike S.q p.above (dot S.c (vector (pos 1) (pos 0) (pos 0))) (first_part S.c.x S.c.y S.c.z ∙ p.one))
 sparse_is_split G S (suc zero) g p = split_by_vector G S g p.found p.h (vector (pos 0) (pos 1) (pos 0)) (λ d. refl)
-    (one_not_alike S.q p.above (dot S.first_z (vector (pos 0) (pos 1) (pos 0))) (second_part S.first_z.x S.first_z.y S.first_z.z ∙ p.one))
+    (one_not_alike S.q p.above (dot S.c (vector (pos 0) (pos 1) (pos 0))) (second_part S.c.x S.c.y S.c.z ∙ p.one))
 sparse_is_split G S (suc (suc zero)) g p = split_by_vector G S g p.found p.h (vector (pos 0) (pos 0) (pos 1)) (λ d. absurd (let l = p.place in omega arith))
-    (one_not_alike S.q p.above (dot S.first_z (vector (pos 0) (pos 0) (pos 1))) (up_dot S.first_z.x S.first_z.y S.first_z.z ∙ p.one))
+    (one_not_alike S.q p.above (dot S.c (vector (pos 0) (pos 0) (pos 1))) (up_dot S.c.x S.c.y S.c.z ∙ p.one))
 sparse_is_split G S (suc (suc (suc k))) g p = absurd (let l = p.place in elim g.dimension [ inl e ↦ omega arith | inr e ↦ omega arith ])
 
 -- The vector that takes the members of a staircase to multiples of a pivot.
@@ -163,7 +163,8 @@ Divides q z = (n : ℤ) × (z ≡ q *ℤ n)
 
 -- each place's vector takes the members to multiples
 pub first_divides : (S : Stairs) (q : ℤ) (c : Vector) → IsFirstDual S q c → (v : Vector) → InStairs S v → Divides q (dot c v)
-first_divides S q c h v m = subst (λ q. Divides q (dot c v)) (sym h.pivot) (subst (λ c. Divides S.first_x (dot c v)) (sym h.is) (m.k, first v.x v.y v.z m.k S.first_x m.x))
+first_divides S q c h v m = subst (λ q. Divides q (dot c v)) (sym h.pivot) (subst (λ c. Divides S.first_x (dot c v)) (sym h.is)
+    (m.k, first v.x v.y v.z m.k S.first_x m.x))
 
 -- a product, by the parts of the first vector
 dot_with : (c v : Vector) (x y z : ℤ) → c.x ≡ x → c.y ≡ y → c.z ≡ z → dot c v ≡ dot (vector x y z) v
@@ -204,7 +205,8 @@ not_two d h = ne_eqb d 2 (λ e. omega (arith, e))
 
 -- its pivot
 third_row : (d : ℕ) (R : Stairs) → 2 < d → part 2 (get_or (rows_of d R) 2 zero_vector) ≡ R.third_z
-third_row d R h = third_of (d == 2) (vector R.first_x R.first_y R.first_z) (vector (pos 0) R.second_y R.second_z) (vector (pos 0) (pos 0) R.third_z) (not_two d h)
+third_row d R h = third_of (d == 2) (vector R.first_x R.first_y R.first_z) (vector (pos 0) R.second_y R.second_z) (vector (pos 0) (pos 0) R.third_z)
+    (not_two d h)
 
 -- each part is from 0 to below q
 parts_range : (q : ℕ) (c : Vector) → 2 ≤ q → (pos 0 ≤ℤ c.x) × (c.x <ℤ pos q) → (pos 0 ≤ℤ c.y) × (c.y <ℤ pos q) → (pos 0 ≤ℤ c.z) × (c.z <ℤ pos q) → (i : ℕ)
@@ -233,7 +235,7 @@ plus_nothing z w e = omega (arith, ints, e)
 module _ (G : Graph) (found : List (Option Vector)) (R : Stairs) (S : Split) (g : IsGraph G) (w : AreWalks G 1 found) (all : All IsSome found)
     (two : 2 ≤ G.dimension) (l : AreClosedWalks G 1 R)
     (basis : IsStaircase (Members G.dimension R) G.dimension (rows_of G.dimension R)) (reduced : IsReducedStair R) (flat : G.dimension ≡ 2 → HasFlatEnd R)
-    (sh : S.h ≡ map (sparse_colour (pos S.q) S.first_z) found) where
+    (sh : S.h ≡ map (sparse_colour (pos S.q) S.c) found) where
   -- the row at a place gives the pivot there
   pivot_at : (i p : ℕ) → i < G.dimension → 1 ≤ p → part i (get_or (rows_of G.dimension R) i zero_vector) ≡ pos p → IsPivot G i p
   pivot_at i p place low e =
@@ -255,15 +257,15 @@ module _ (G : Graph) (found : List (Option Vector)) (R : Stairs) (S : Split) (g 
       by h = omega arith
 
   -- the entries
-  at : (u : ℕ) → IsQuotientVertex G u → entry S.h u ≡ sparse_colour (pos S.q) S.first_z (walk_to found u)
+  at : (u : ℕ) → IsQuotientVertex G u → entry S.h u ≡ sparse_colour (pos S.q) S.c (walk_to found u)
   at u v =
       let count = w.count in let low = v.0 in let high = v.1 in
-      ap (λ hs. entry hs u) sh ∙ get_or-map (sparse_colour (pos S.q) S.first_z) found (u - 1) None (pos 0) (omega arith)
+      ap (λ hs. entry hs u) sh ∙ get_or-map (sparse_colour (pos S.q) S.c) found (u - 1) None (pos 0) (omega arith)
 
   -- the colouring, for the place of the first pivot above 1
   assembled : (k : ℕ) → k < G.dimension → 2 ≤ S.q → IsPivot G k S.q → ((i : ℕ) → i < k → IsPivot G i 1)
-      → ((i : ℕ) → (pos 0 ≤ℤ part i S.first_z) × (part i S.first_z <ℤ pos S.q))
-      → part k S.first_z ≡ pos 1 → EndsBy k S.first_z → ((v : Vector) → InStairs R v → Divides (pos S.q) (dot S.first_z v)) → IsSparseSplit G S k
+      → ((i : ℕ) → (pos 0 ≤ℤ part i S.c) × (part i S.c <ℤ pos S.q))
+      → part k S.c ≡ pos 1 → EndsBy k S.c → ((v : Vector) → InStairs R v → Divides (pos S.q) (dot S.c v)) → IsSparseSplit G S k
   assembled k place above pivot earlier range one ends divides = record {
     found = each_found G g found w all;
     place = place;
@@ -275,10 +277,10 @@ module _ (G : Graph) (found : List (Option Vector)) (R : Stairs) (S : Split) (g 
     one = one;
     ends = ends;
     divides = closed;
-    count = ap length sh ∙ length-map found (sparse_colour (pos S.q) S.first_z) ∙ w.count;
-    h_range = λ u v. rw (at u v) (euclid_rest (neg_ℤ (dot S.first_z (shift_at found u))) (pos S.q) (omega (arith, ints, above)));
+    count = ap length sh ∙ length-map found (sparse_colour (pos S.q) S.c) ∙ w.count;
+    h_range = λ u v. rw (at u v) (euclid_rest (neg_ℤ (dot S.c (shift_at found u))) (pos S.q) (omega (arith, ints, above)));
     h = λ u T v walk.
-        let U = shift_at found u in let c = S.first_z in
+        let U = shift_at found u in let c = S.c in
         let r = remainder (neg_ℤ (dot c U)) (pos S.q) (omega (arith, ints, above)) in
         let n = closed (minus T U) (closed_difference G 1 u T U walk (walk_at G g 1 found w u v.0 (some_walk G g found w all u v))) in (
           r.0 +ℤ n.0,
@@ -286,27 +288,27 @@ module _ (G : Graph) (found : List (Option Vector)) (R : Stairs) (S : Split) (g 
         );
   }
     where
-      closed : (v : Vector) → ClosedShift G 1 v → AreAlike S.q (dot S.first_z v) (pos 0)
-      closed v k = let d = divides v (l.into v k).0 in (d.0, plus_nothing (dot S.first_z v) (pos S.q *ℤ d.0) d.1)
+      closed : (v : Vector) → ClosedShift G 1 v → AreAlike S.q (dot S.c v) (pos 0)
+      closed v k = let d = divides v (l.into v k).0 in (d.0, plus_nothing (dot S.c v) (pos S.q *ℤ d.0) d.1)
 
   -- the three places
-  pub sparse_split_is : IsDual R (pos S.q) S.first_z → (k : ℕ) × IsSparseSplit G S k
+  pub sparse_split_is : IsDual R (pos S.q) S.c → (k : ℕ) × IsSparseSplit G S k
   sparse_split_is (inl h) =
       let above = above_two S.q h.above in let x = ap (λ (c : Vector). c.x) h.is in
       let y = ap (λ (c : Vector). c.y) h.is in
       let z = ap (λ (c : Vector). c.z) h.is in (
         0,
         assembled 0 (omega arith) above (pivot_at 0 S.q (omega arith) (omega arith) (sym h.pivot)) (λ i l. absurd (omega arith))
-            (parts_range S.q S.first_z above (one_range S.q S.first_z.x above x) (zero_range S.q S.first_z.y above y) (zero_range S.q S.first_z.z above z)) x (ends_by_zero S.first_z 0 y z)
-            (first_divides R (pos S.q) S.first_z h),
+            (parts_range S.q S.c above (one_range S.q S.c.x above x) (zero_range S.q S.c.y above y) (zero_range S.q S.c.z above z)) x (ends_by_zero S.c 0 y z)
+            (first_divides R (pos S.q) S.c h),
       )
   sparse_split_is (inr (inl h)) =
       let above = above_two S.q h.above in
-      let x = complement_range (pos S.q) R.first_y S.first_z.x reduced.first_y_from (subst (λ e. R.first_y <ℤ e) (sym h.pivot) reduced.first_y_to) h.x in (
+      let x = complement_range (pos S.q) R.first_y S.c.x reduced.first_y_from (subst (λ e. R.first_y <ℤ e) (sym h.pivot) reduced.first_y_to) h.x in (
         1,
         assembled 1 (omega arith) above (pivot_at 1 S.q (omega arith) (omega arith) (sym h.pivot)) earlier
-            (parts_range S.q S.first_z above x (one_range S.q S.first_z.y above h.y) (zero_range S.q S.first_z.z above h.z)) h.y (ends_by_one S.first_z 1 h.z (omega arith))
-            (second_divides R (pos S.q) S.first_z h),
+            (parts_range S.q S.c above x (one_range S.q S.c.y above h.y) (zero_range S.q S.c.z above h.z)) h.y (ends_by_one S.c 1 h.z (omega arith))
+            (second_divides R (pos S.q) S.c h),
       )
     where
       earlier : (i : ℕ) → i < 1 → IsPivot G i 1
@@ -314,12 +316,12 @@ module _ (G : Graph) (found : List (Option Vector)) (R : Stairs) (S : Split) (g 
       earlier (suc i) l = absurd (omega arith)
   sparse_split_is (inr (inr h)) =
       let above = above_two S.q h.above in
-      let x = complement_range (pos S.q) R.first_z S.first_z.x reduced.first_z_from (subst (λ e. R.first_z <ℤ e) (sym h.pivot) reduced.first_z_to) h.x in
-      let y = complement_range (pos S.q) R.second_z S.first_z.y reduced.second_z_from (subst (λ e. R.second_z <ℤ e) (sym h.pivot) reduced.second_z_to) h.y in (
+      let x = complement_range (pos S.q) R.first_z S.c.x reduced.first_z_from (subst (λ e. R.first_z <ℤ e) (sym h.pivot) reduced.first_z_to) h.x in
+      let y = complement_range (pos S.q) R.second_z S.c.y reduced.second_z_from (subst (λ e. R.second_z <ℤ e) (sym h.pivot) reduced.second_z_to) h.y in (
         2,
         assembled 2 (space h.pivot h.above) above (pivot_at 2 S.q (space h.pivot h.above) (omega arith)
             (third_row G.dimension R (space h.pivot h.above) ∙ sym h.pivot)) earlier
-            (parts_range S.q S.first_z above x y (one_range S.q S.first_z.z above h.z)) h.z (ends_by_two S.first_z 2 (omega arith)) (third_divides R (pos S.q) S.first_z reduced h),
+            (parts_range S.q S.c above x y (one_range S.q S.c.z above h.z)) h.z (ends_by_two S.c 2 (omega arith)) (third_divides R (pos S.q) S.c reduced h),
       )
     where
       earlier : (i : ℕ) → i < 2 → IsPivot G i 1

@@ -18,7 +18,7 @@ pub record IsFirstDual (S : Stairs) (q : ℤ) (c : Vector) : Type 0 where
 
 -- the second is, and the first is 1
 pub record IsSecondDual (S : Stairs) (q : ℤ) (c : Vector) : Type 0 where
-  pub a : S.first_x ≡ pos 1
+  pub first_x : S.first_x ≡ pos 1
   pub pivot : q ≡ S.second_y
   pub above : pos 2 ≤ℤ q
   pub x : IsComplement q S.first_y c.x
@@ -27,8 +27,8 @@ pub record IsSecondDual (S : Stairs) (q : ℤ) (c : Vector) : Type 0 where
 
 -- the third is, and the others are 1
 pub record IsThirdDual (S : Stairs) (q : ℤ) (c : Vector) : Type 0 where
-  pub a : S.first_x ≡ pos 1
-  pub e : S.second_y ≡ pos 1
+  pub first_x : S.first_x ≡ pos 1
+  pub second_y : S.second_y ≡ pos 1
   pub pivot : q ≡ S.third_z
   pub above : pos 2 ≤ℤ q
   pub x : IsComplement q S.first_z c.x

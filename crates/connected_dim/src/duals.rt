@@ -119,8 +119,8 @@ fn last_dual(r: Rows) -> Option<Dual>
     requires reduced { IsReducedStair (stairs r.first_x r.first_y r.first_z r.second_y r.second_z
         r.third_z) }
     requires small { r.third_z ≤ℤ pos (2 ^ 60) }
-    requires a { r.first_x ≡ pos 1 }
-    requires e { r.second_y ≡ pos 1 }
+    requires first { r.first_x ≡ pos 1 }
+    requires second { r.second_y ≡ pos 1 }
     ensures dual { IfSome result (λ d. IsThirdDual (stairs r.first_x r.first_y r.first_z r.second_y
         r.second_z r.third_z) d.q d.c) }
     ensures above { IfSome result (λ d. pos 2 ≤ℤ d.q) }

@@ -44,7 +44,8 @@ sum_of_rows d S k h = by (d == 2) (λ e. h (eqb-true d 2 e))
     last b h = grind (arith, vector_equal)
 
     by : (b : Bool) → (b ≡ true → k.z ≡ pos 0)
-        → combination (parts 3 k) (vector S.first_x S.first_y S.first_z ∷ vector (pos 0) S.second_y S.second_z ∷ cond b [] (third ∷ [])) ≡ base_sum (stair_base S) k
+        → combination (parts 3 k) (vector S.first_x S.first_y S.first_z ∷ vector (pos 0) S.second_y S.second_z ∷ cond b [] (third ∷ []))
+        ≡ base_sum (stair_base S) k
     by b z = ap (λ t. plus (times k.x (vector S.first_x S.first_y S.first_z)) (plus (times k.y (vector (pos 0) S.second_y S.second_z)) t)) (last b z)
 
 -- Sums of the rows of a stair: each member is one, and of one vector alone.
@@ -62,7 +63,14 @@ module _ (d : ℕ) (S : Stairs) (h : HasStairShape d S) where
   -- a sum of rows is a member
   pub sum_member : (k : Vector) → HasDimension d k → Members d S (base_sum (stair_base S) k)
   sum_member k q = (
-    record { k = k.x; l = k.y; n = k.z; x = sym (sum_x k.x k.y k.z S.first_x); y = sym (sum_y k.x k.y k.z S.first_y S.second_y); z = sym (sum_z k.x k.y k.z S.first_z S.second_z S.third_z) },
+    record {
+      k = k.x;
+      l = k.y;
+      n = k.z;
+      x = sym (sum_x k.x k.y k.z S.first_x);
+      y = sym (sum_y k.x k.y k.z S.first_y S.second_y);
+      z = sym (sum_z k.x k.y k.z S.first_z S.second_z S.third_z);
+    },
     λ e. let u = h.flat e in flat_sum k.x k.y k.z S.first_z S.second_z S.third_z u.first_z u.second_z (q e),
   )
 
@@ -76,7 +84,8 @@ module _ (d : ℕ) (S : Stairs) (h : HasStairShape d S) where
       let s = m.0 in (
         vector s.k s.l s.n,
         (λ e. let u = h.flat e in flat_last s.k s.l s.n S.first_z S.second_z S.third_z v.z u.first_z u.second_z u.third_z (m.1 e) s.z),
-        vector_equal (sym (s.x ∙ sum_x s.k s.l s.n S.first_x)) (sym (s.y ∙ sum_y s.k s.l s.n S.first_y S.second_y)) (sym (s.z ∙ sum_z s.k s.l s.n S.first_z S.second_z S.third_z)),
+        vector_equal (sym (s.x ∙ sum_x s.k s.l s.n S.first_x)) (sym (s.y ∙ sum_y s.k s.l s.n S.first_y S.second_y))
+            (sym (s.z ∙ sum_z s.k s.l s.n S.first_z S.second_z S.third_z)),
       )
 
   cancel : (k l a : ℤ) → pos 0 <ℤ a → k *ℤ a ≡ l *ℤ a → k ≡ l
@@ -97,7 +106,8 @@ module _ (d : ℕ) (S : Stairs) (h : HasStairShape d S) where
       (drop_first (k.x *ℤ S.first_y) (l.x *ℤ S.first_y) (k.y *ℤ S.second_y) (l.y *ℤ S.second_y) (ap (λ t. t *ℤ S.first_y) x)
       (sum_y k.x k.y k.z S.first_y S.second_y ∙ ap (λ (v : Vector). v.y) e ∙ sym (sum_y l.x l.y l.z S.first_y S.second_y))) in
       let z : k.z ≡ l.z = cancel k.z l.z S.third_z r.third_z
-      (drop_two (k.x *ℤ S.first_z) (l.x *ℤ S.first_z) (k.y *ℤ S.second_z) (l.y *ℤ S.second_z) (k.z *ℤ S.third_z) (l.z *ℤ S.third_z) (ap (λ t. t *ℤ S.first_z) x) (ap (λ t. t *ℤ S.second_z) y)
+      (drop_two (k.x *ℤ S.first_z) (l.x *ℤ S.first_z) (k.y *ℤ S.second_z) (l.y *ℤ S.second_z) (k.z *ℤ S.third_z) (l.z *ℤ S.third_z)
+      (ap (λ t. t *ℤ S.first_z) x) (ap (λ t. t *ℤ S.second_z) y)
       (sum_z k.x k.y k.z S.first_z S.second_z S.third_z ∙ ap (λ (v : Vector). v.z) e ∙ sym (sum_z l.x l.y l.z S.first_z S.second_z S.third_z))) in
       vector_equal x y z
 

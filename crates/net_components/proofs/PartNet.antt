@@ -331,18 +331,21 @@ orthogonal_zero d S h c f t o = vector_equal x y z
     z = elim t [
       | inl e ↦ f e
       | inr e ↦ zero_factor c.z S.third_z h.reduced.third_z
-          (sym (row_three c.x c.y c.z S.first_x S.first_y S.first_z S.second_y S.second_z S.third_z) ∙ o (base_sum (stair_base S) (vector (pos 0) (pos 0) (pos 1)))
+          (sym (row_three c.x c.y c.z S.first_x S.first_y S.first_z S.second_y S.second_z S.third_z)
+          ∙ o (base_sum (stair_base S) (vector (pos 0) (pos 0) (pos 1)))
           (sum_member d S h (vector (pos 0) (pos 0) (pos 1)) (λ k. absurd (omega arith))))
     ]
 
     y : c.y ≡ pos 0
     y = zero_factor c.y S.second_y h.reduced.second_y
-        (sym (row_two c.x c.y c.z S.first_x S.first_y S.first_z S.second_y S.second_z S.third_z z) ∙ o (base_sum (stair_base S) (vector (pos 0) (pos 1) (pos 0)))
+        (sym (row_two c.x c.y c.z S.first_x S.first_y S.first_z S.second_y S.second_z S.third_z z)
+        ∙ o (base_sum (stair_base S) (vector (pos 0) (pos 1) (pos 0)))
         (sum_member d S h (vector (pos 0) (pos 1) (pos 0)) (λ k. refl)))
 
     x : c.x ≡ pos 0
     x = zero_factor c.x S.first_x h.reduced.first_x
-        (sym (row_one c.x c.y c.z S.first_x S.first_y S.first_z S.second_y S.second_z S.third_z z y) ∙ o (base_sum (stair_base S) (vector (pos 1) (pos 0) (pos 0)))
+        (sym (row_one c.x c.y c.z S.first_x S.first_y S.first_z S.second_y S.second_z S.third_z z y)
+        ∙ o (base_sum (stair_base S) (vector (pos 1) (pos 0) (pos 0)))
         (sum_member d S h (vector (pos 1) (pos 0) (pos 0)) (λ k. refl)))
 
 -- so a rank below the dimension is not full

@@ -133,7 +133,8 @@ pub remainders_numbered : RemaindersAreNumbered
 remainders_numbered d S s = are_numbered d S s
 
 -- a factor of a product of positive numbers is at most the product
-pub factors_small : (n : ℕ) (S : Stairs) → IsReducedStair S → size_of S ≤ n → (unsigned_abs S.first_x ≤ n) × (unsigned_abs S.second_y ≤ n) × (unsigned_abs S.third_z ≤ n)
+pub factors_small : (n : ℕ) (S : Stairs) → IsReducedStair S → size_of S ≤ n → (unsigned_abs S.first_x ≤ n) × (unsigned_abs S.second_y ≤ n)
+    × (unsigned_abs S.third_z ≤ n)
 factors_small n S r l =
     let a = size_positive S.first_x r.first_x in let e = size_positive S.second_y r.second_y in let i = size_positive S.third_z r.third_z in
     let ei = product_positive (unsigned_abs S.second_y) (unsigned_abs S.third_z) e i in
@@ -224,7 +225,11 @@ some_remainder d S v s f =
         remainder = record {
           dimension = flat;
           low = (from_zero t.p, from_zero t.q, from_zero t.s);
-          high = (below_pivot t.p S.first_x s.reduced.first_x t.p_below, below_pivot t.q S.second_y s.reduced.second_y t.q_below, below_pivot t.s S.third_z s.reduced.third_z t.s_below);
+          high = (
+            below_pivot t.p S.first_x s.reduced.first_x t.p_below,
+            below_pivot t.q S.second_y s.reduced.second_y t.q_below,
+            below_pivot t.s S.third_z s.reduced.third_z t.s_below,
+          );
         };
         difference = (
           record {

@@ -95,7 +95,8 @@ pub record SameResidue {S : Stairs} {v w : Vector} (r : Residue S v) (t : Residu
 pub residue_once : (S : Stairs) (w : Vector) (r t : Residue S w) → SameResidue r t
 residue_once S w r t =
     let x = same_remainder S.first_x r.p t.p (t.k -ℤ r.k) r.p_below t.p_below (simp ring (omega (arith, linear, r.x, t.x))) in
-    let y = same_remainder S.second_y r.q t.q (t.l -ℤ r.l) r.q_below t.q_below (second_side w.y (pos r.q) (pos t.q) S.second_y S.first_y r.k t.k r.l t.l x.1 r.y t.y) in
+    let y = same_remainder S.second_y r.q t.q (t.l -ℤ r.l) r.q_below t.q_below (second_side w.y (pos r.q)
+    (pos t.q) S.second_y S.first_y r.k t.k r.l t.l x.1 r.y t.y) in
     let z = same_remainder S.third_z r.s t.s (t.n -ℤ r.n) r.s_below t.s_below
     (third_side w.z (pos r.s) (pos t.s) S.third_z r.n t.n S.second_z r.l t.l S.first_z r.k t.k x.1 y.1 r.z t.z) in
     record { p = x.0; q = y.0; s = z.0 }
@@ -107,8 +108,9 @@ member_of_residue S v w r t h = record {
   l = r.l -ℤ t.l;
   n = r.n -ℤ t.n;
   x = simp ring (omega (arith, linear, r.x ∙ ap (λ (u : ℕ). pos u +ℤ S.first_x *ℤ r.k) h.p, t.x));
-  y = simp ring (omega (arith, linear, r.y ∙ ap (λ (u : ℕ). pos u +ℤ S.second_y *ℤ r.l +ℤ S.first_y *ℤ r.k) h.q, t.y));
-  z = simp ring (omega (arith, linear, r.z ∙ ap (λ (u : ℕ). pos u +ℤ S.third_z *ℤ r.n +ℤ S.second_z *ℤ r.l +ℤ S.first_z *ℤ r.k) h.s, t.z));
+  y = let e = r.y ∙ ap (λ (u : ℕ). pos u +ℤ S.second_y *ℤ r.l +ℤ S.first_y *ℤ r.k) h.q in simp ring (omega (arith, linear, simp ring at e, simp ring at t.y));
+  z = let e = r.z ∙ ap (λ (u : ℕ). pos u +ℤ S.third_z *ℤ r.n +ℤ S.second_z *ℤ r.l +ℤ S.first_z *ℤ r.k) h.s in
+      simp ring (omega (arith, linear, simp ring at e, simp ring at t.z));
 }
 
 -- a vector that differs by a member has the same residue
@@ -124,8 +126,8 @@ moved_residue S v w m t = record {
   q_below = t.q_below;
   s_below = t.s_below;
   x = simp ring (omega (arith, linear, simp ring at m.x, t.x));
-  y = simp ring (omega (arith, linear, simp ring at m.y, t.y));
-  z = simp ring (omega (arith, linear, simp ring at m.z, t.z));
+  y = simp ring (omega (arith, linear, simp ring at m.y, simp ring at t.y));
+  z = simp ring (omega (arith, linear, simp ring at m.z, simp ring at t.z));
 }
 
 -- vectors that differ by a member of the lattice have one residue
@@ -187,7 +189,8 @@ own_residue S t h = record {
 }
 
 -- the vectors up to the lattice are numbered below the product of the pivots
-pub stair_numbers : (S : Stairs) → HasPivots S → Numbering IsAny (DifferBy (InStairs S)) (unsigned_abs S.first_x * (unsigned_abs S.second_y * unsigned_abs S.third_z))
+pub stair_numbers : (S : Stairs) → HasPivots S → Numbering IsAny (DifferBy (InStairs S)) (unsigned_abs S.first_x *
+    (unsigned_abs S.second_y * unsigned_abs S.third_z))
 stair_numbers S h =
     along IsAny (DifferBy (InStairs S)) (AreBelow (unsigned_abs S.first_x) (unsigned_abs S.second_y) (unsigned_abs S.third_z)) AreSame
     (unsigned_abs S.first_x * (unsigned_abs S.second_y * unsigned_abs S.third_z))

@@ -84,12 +84,14 @@ module _ {L : Vector → Type 0} (h : IsClosed L) (m : ℤ) where
 
   -- a closed set with the third row has (0, 0, m)
   third_multiple : {S : Stairs} → HasBound S m → L (vector (pos 0) (pos 0) S.third_z) → L (vector (pos 0) (pos 0) m)
-  third_multiple {S} b l = h.pair b.third_k (pos 0) (vector (pos 0) (pos 0) S.third_z) (vector (pos 0) (pos 0) S.third_z) (vector (pos 0) (pos 0) m) l l (simp ring refl)
+  third_multiple {S} b l = h.pair b.third_k (pos 0) (vector (pos 0) (pos 0) S.third_z) (vector (pos 0) (pos 0) S.third_z) (vector (pos 0) (pos 0) m) l l
+      (simp ring refl)
       (simp ring refl) (let e = b.third_z in simp ring (omega (arith, linear, e)))
 
   -- with the second row too it has (0, m, 0)
   second_multiple : {S : Stairs} → HasBound S m → L (vector (pos 0) S.second_y S.second_z) → L (vector (pos 0) (pos 0) S.third_z) → L (vector (pos 0) m (pos 0))
-  second_multiple {S} b l l' = h.pair b.second_k b.second_l (vector (pos 0) S.second_y S.second_z) (vector (pos 0) (pos 0) S.third_z) (vector (pos 0) m (pos 0)) l l'
+  second_multiple {S} b l l' = h.pair b.second_k b.second_l (vector (pos 0) S.second_y S.second_z) (vector (pos 0) (pos 0) S.third_z)
+      (vector (pos 0) m (pos 0)) l l'
       (simp ring refl) (let e = b.second_y in simp ring (omega (arith, linear, e))) b.second_z
 
   module _ {S T : Stairs} {v : Vector} (bound : HasBound S m) (t : Steps m S T v) where
@@ -139,15 +141,18 @@ module _ {L : Vector → Type 0} (h : IsClosed L) (m : ℤ) where
     -- the new rows give the old ones
     pub old_of_new : HasRows L T → HasRows L S × L v
     old_of_new r =
-        let third = in_third (vector T.third_z t.j1 t.j2) (vector (pos 0) t.j3 t.j4) (vector S.third_z (pos 0) (pos 0)) r.third (zero_in r.third) t.three.old_upper in
+        let third = in_third (vector T.third_z t.j1 t.j2) (vector (pos 0) t.j3 t.j4) (vector S.third_z (pos 0) (pos 0)) r.third
+        (zero_in r.third) t.three.old_upper in
         let low3 = in_third (vector T.third_z t.j1 t.j2) (vector (pos 0) t.j3 t.j4) (vector t.z2 (pos 0) (pos 0)) r.third (zero_in r.third) t.three.old_lower in
         let m3 = third_multiple bound third in
-        let up2 = h.pair (pos 1) (neg_ℤ t.kf) (vector (pos 0) T.second_y T.second_z) (vector (pos 0) (pos 0) T.third_z) (vector (pos 0) T.second_y t.f1) r.second r.third (simp ring refl)
+        let up2 = h.pair (pos 1) (neg_ℤ t.kf) (vector (pos 0) T.second_y T.second_z) (vector (pos 0) (pos 0) T.third_z)
+        (vector (pos 0) T.second_y t.f1) r.second r.third (simp ring refl)
         (simp ring (omega (arith, linear))) (undo_f T.second_z t.f1 T.third_z t.kf t.f_is) in
         let second = in_second (vector T.second_y t.f1 t.g1) (vector (pos 0) t.z2 t.g2) (vector S.second_y S.second_z (pos 0)) m3 up2 low3 t.two.old_upper in
         let low2 = in_second (vector T.second_y t.f1 t.g1) (vector (pos 0) t.z2 t.g2) (vector t.y1 t.z1 (pos 0)) m3 up2 low3 t.two.old_lower in
         let m2 = second_multiple bound second third in
-        let up1 = four_in h (pos 1) t.q (neg_ℤ t.k1) (neg_ℤ t.k2) (vector T.first_x T.first_y T.first_z) (vector (pos 0) T.second_y T.second_z) (vector (pos 0) (pos 0) m)
+        let up1 = four_in h (pos 1) t.q (neg_ℤ t.k1) (neg_ℤ t.k2) (vector T.first_x T.first_y T.first_z) (vector (pos 0) T.second_y T.second_z)
+        (vector (pos 0) (pos 0) m)
         (vector (pos 0) (pos 0) T.third_z) (vector T.first_x t.b1 t.c1) r.first r.second m3 r.third
         (same_a T.first_x t.q (neg_ℤ t.k1) (neg_ℤ t.k2)) (undo_b T.first_y t.b1 t.q T.second_y (neg_ℤ t.k1) (neg_ℤ t.k2) t.b_is)
         (undo_c T.first_z t.c1 t.q T.second_z m t.k1 T.third_z t.k2 t.c_is) in
@@ -175,12 +180,14 @@ module _ {L : Vector → Type 0} (h : IsClosed L) (m : ℤ) where
         let up2 = in_second (vector S.second_y S.second_z (pos 0)) (vector t.y1 t.z1 (pos 0)) (vector T.second_y t.f1 t.g1) m3 r.second low2 t.two.upper in
         let low3 = in_second (vector S.second_y S.second_z (pos 0)) (vector t.y1 t.z1 (pos 0)) (vector (pos 0) t.z2 t.g2) m3 r.second low2 t.two.lower in
         let third = in_third (vector S.third_z (pos 0) (pos 0)) (vector t.z2 (pos 0) (pos 0)) (vector T.third_z t.j1 t.j2) r.third low3 t.three.upper in
-        let second = h.pair (pos 1) t.kf (vector (pos 0) T.second_y t.f1) (vector (pos 0) (pos 0) T.third_z) (vector (pos 0) T.second_y T.second_z) up2 third (simp ring refl)
+        let second = h.pair (pos 1) t.kf (vector (pos 0) T.second_y t.f1) (vector (pos 0) (pos 0) T.third_z)
+        (vector (pos 0) T.second_y T.second_z) up2 third (simp ring refl)
         (simp ring (omega (arith, linear))) (do_f T.second_z t.f1 T.third_z t.kf t.f_is) in
         record {
           first = four_in h (pos 1) (neg_ℤ t.q) t.k1 t.k2 (vector T.first_x t.b1 t.c1) (vector (pos 0) T.second_y T.second_z) (vector (pos 0) (pos 0) m)
               (vector (pos 0) (pos 0) T.third_z) (vector T.first_x T.first_y T.first_z) up1 second m3 third
-              (same_a T.first_x (neg_ℤ t.q) t.k1 t.k2) (do_b T.first_y t.b1 t.q T.second_y t.k1 t.k2 t.b_is) (do_c T.first_z t.c1 t.q T.second_z m t.k1 T.third_z t.k2 t.c_is);
+              (same_a T.first_x (neg_ℤ t.q) t.k1 t.k2) (do_b T.first_y t.b1 t.q T.second_y t.k1 t.k2 t.b_is)
+              (do_c T.first_z t.c1 t.q T.second_z m t.k1 T.third_z t.k2 t.c_is);
           second = second;
           third = third;
         }

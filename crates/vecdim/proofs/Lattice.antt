@@ -95,7 +95,8 @@ no_z k l n c f i = simp ring (omega (arith, linear))
 
 -- it has all that the rows generate
 pub has_all : {L : Vector → Type 0} {S : Stairs} → IsClosed L → HasRows L S → (w : Vector) → InStairs S w → L w
-has_all {L} {S} h r w i = four_in h i.k i.l i.n (pos 0) (vector S.first_x S.first_y S.first_z) (vector (pos 0) S.second_y S.second_z) (vector (pos 0) (pos 0) S.third_z)
+has_all {L} {S} h r w i = four_in h i.k i.l i.n (pos 0) (vector S.first_x S.first_y S.first_z) (vector (pos 0) S.second_y S.second_z)
+    (vector (pos 0) (pos 0) S.third_z)
     (vector (pos 0) (pos 0) S.third_z) w r.first r.second r.third r.third
     (i.x ∙ no_x i.k i.l i.n S.first_x) (i.y ∙ no_y i.k i.l i.n S.first_y S.second_y) (i.z ∙ no_z i.k i.l i.n S.first_z S.second_z S.third_z)
 

@@ -55,13 +55,18 @@ pub first_least : {S : Stairs} (w : Vector) → IsReducedStair S → InStairs S 
 first_least {S} w r m h = subst (λ t. S.first_x ≤ℤ t) (sym m.x) (least_multiple m.k S.first_x (subst (λ t. pos 0 <ℤ t) m.x h) r.first_x)
 
 -- among these the least parts after it
-pub first_rest : {S : Stairs} (w : Vector) → IsReducedStair S → InStairs S w → w.x ≡ S.first_x → pos 0 ≤ℤ w.y → pos 0 ≤ℤ w.z → IsAtMost2 S.first_y S.first_z w.y w.z
+pub first_rest : {S : Stairs} (w : Vector) → IsReducedStair S → InStairs S w → w.x ≡ S.first_x → pos 0 ≤ℤ w.y → pos 0 ≤ℤ w.z
+    → IsAtMost2 S.first_y S.first_z w.y w.z
 first_rest {S} w r m h j i =
     let k = once m.k S.first_x (sym m.x ∙ h) r.first_x in
     ⊎_elim (λ (t : S.first_y <ℤ w.y). inl t)
-    (λ (t : (w.y ≡ S.first_y) × (m.l ≡ pos 0)). inr
-    (t.0, at_most_of S.first_z w.z (least_rest m.n S.first_z S.third_z w.z r.first_z_from r.first_z_to i (z_at_one m.k m.l m.n S.first_z S.second_z S.third_z w.z k t.1 m.z))))
-    (least_rest m.l S.first_y S.second_y w.y r.first_y_from r.first_y_to j (m.y ∙ ap (λ t. t *ℤ S.first_y +ℤ m.l *ℤ S.second_y) k ∙ simp ring (omega (arith, linear))))
+    (λ (t : (w.y ≡ S.first_y) × (m.l ≡ pos 0)). inr (
+      t.0,
+      at_most_of S.first_z w.z (least_rest m.n S.first_z S.third_z w.z r.first_z_from r.first_z_to i
+          (z_at_one m.k m.l m.n S.first_z S.second_z S.third_z w.z k t.1 m.z)),
+    ))
+    (least_rest m.l S.first_y S.second_y w.y r.first_y_from r.first_y_to j (m.y ∙ ap (λ t. t *ℤ S.first_y +ℤ m.l *ℤ S.second_y) k
+    ∙ simp ring (omega (arith, linear))))
 
 -- a member with first part 0 has the first coefficient 0
 no_first : {S : Stairs} (w : Vector) → IsReducedStair S → (m : InStairs S w) → w.x ≡ pos 0 → m.k ≡ pos 0
@@ -89,7 +94,8 @@ second_least {S} w r m x h =
 pub second_rest : {S : Stairs} (w : Vector) → IsReducedStair S → InStairs S w → w.x ≡ pos 0 → w.y ≡ S.second_y → pos 0 ≤ℤ w.z → S.second_z ≤ℤ w.z
 second_rest {S} w r m x h j =
     let k = no_first w r m x in let l = once m.l S.second_y (sym (y_at_zero m.k m.l S.first_y S.second_y w.y k m.y) ∙ h) r.second_y in
-    at_most_of S.second_z w.z (least_rest m.n S.second_z S.third_z w.z r.second_z_from r.second_z_to j (z_at_second m.k m.l m.n S.first_z S.second_z S.third_z w.z k l m.z))
+    at_most_of S.second_z w.z (least_rest m.n S.second_z S.third_z w.z r.second_z_from r.second_z_to j
+    (z_at_second m.k m.l m.n S.first_z S.second_z S.third_z w.z k l m.z))
 
 -- the third row has the least positive third part
 pub third_least : {S : Stairs} (w : Vector) → IsReducedStair S → InStairs S w → w.x ≡ pos 0 → w.y ≡ pos 0 → pos 0 <ℤ w.z → S.third_z ≤ℤ w.z
@@ -129,10 +135,12 @@ pub combination_of : (d : ℕ) (S : Stairs) (v : Vector) → HasStairShape d S �
 combination_of d S v s dim m = by (eqb_tells d 2)
   where
     -- without the third row
-    without : d ≡ 2 → plus (vector (m.k *ℤ S.first_x) (m.k *ℤ S.first_y) (m.k *ℤ S.first_z)) (plus (vector (m.l *ℤ pos 0) (m.l *ℤ S.second_y) (m.l *ℤ S.second_z)) zero_vector) ≡ v
+    without : d ≡ 2 → plus (vector (m.k *ℤ S.first_x) (m.k *ℤ S.first_y) (m.k *ℤ S.first_z)) (plus (vector (m.l *ℤ pos 0) (m.l *ℤ S.second_y)
+        (m.l *ℤ S.second_z)) zero_vector) ≡ v
     without e =
         let f = s.flat e in
-        vector_equal (flat_x v.x m.k m.l S.first_x m.x) (flat_y v.y m.k m.l S.first_y S.second_y m.y) (flat_z v.z m.k m.l S.first_z S.second_z (dim e) f.first_z f.second_z)
+        vector_equal (flat_x v.x m.k m.l S.first_x m.x) (flat_y v.y m.k m.l S.first_y S.second_y m.y)
+        (flat_z v.z m.k m.l S.first_z S.second_z (dim e) f.first_z f.second_z)
 
     by : (((d == 2) ≡ true) × (d ≡ 2)) ⊎ (((d == 2) ≡ false) × (d ≡ 2 → ⊥)) → combination (m.k ∷ m.l ∷ m.n ∷ []) (rows_of d S) ≡ v
     by h = grind (arith, without, vector_equal, sum_x, sum_y, sum_z)
@@ -172,7 +180,8 @@ coordinates_are d {S} {v} {q} {r} s h m =
       n = q.z;
       x = exact_x v.x r.x S.first_x q.x (ap (λ (t : Vector). t.x) e) (first_off v.x r.x S.first_x q.x h.x);
       y = exact_y v.y r.y (q.x *ℤ S.first_y) (q.y *ℤ S.second_y) (ap (λ (t : Vector). t.y) e) (second_off v.y r.y S.first_y S.second_y q.x q.y h.y);
-      z = exact_z v.z r.z (q.x *ℤ S.first_z) (q.y *ℤ S.second_z) (q.z *ℤ S.third_z) (ap (λ (t : Vector). t.z) e) (third_off v.z r.z S.first_z S.second_z S.third_z q.x q.y q.z h.z);
+      z = exact_z v.z r.z (q.x *ℤ S.first_z) (q.y *ℤ S.second_z) (q.z *ℤ S.third_z) (ap (λ (t : Vector). t.z) e)
+          (third_off v.z r.z S.first_z S.second_z S.third_z q.x q.y q.z h.z);
     } in
     (combination_of d S v s m.1 t, coefficients_dimension d S v s m.1 t)
 
@@ -276,7 +285,8 @@ before_third : (v : Vector) → v.x ≡ pos 0 → v.y ≡ pos 0 → IsZeroBefore
 before_third v h r s t = search arith
 
 -- the first row
-first_row : (d : ℕ) (S : Stairs) → IsReducedStair S → HasDimension d (vector S.first_x S.first_y S.first_z) → IsStair (Members d S) 0 (vector S.first_x S.first_y S.first_z)
+first_row : (d : ℕ) (S : Stairs) → IsReducedStair S → HasDimension d (vector S.first_x S.first_y S.first_z)
+    → IsStair (Members d S) 0 (vector S.first_x S.first_y S.first_z)
 first_row d S r dim = record {
   may = record { member = ((own_rows S).first, dim); before = λ k l. absurd (omega arith); leads = r.first_x };
   least = λ w m. first_least w r m.member.0 m.leads;
@@ -286,7 +296,8 @@ first_row d S r dim = record {
 }
 
 -- the second row
-second_row : (d : ℕ) (S : Stairs) → IsReducedStair S → HasDimension d (vector (pos 0) S.second_y S.second_z) → IsStair (Members d S) 1 (vector (pos 0) S.second_y S.second_z)
+second_row : (d : ℕ) (S : Stairs) → IsReducedStair S → HasDimension d (vector (pos 0) S.second_y S.second_z)
+    → IsStair (Members d S) 1 (vector (pos 0) S.second_y S.second_z)
 second_row d S r dim = record {
   may = record { member = ((own_rows S).second, dim); before = before_second (vector (pos 0) S.second_y S.second_z) refl; leads = r.second_y };
   least = λ w m. second_least w r m.member.0 (m.before 0 (omega arith)) m.leads;
@@ -296,7 +307,8 @@ second_row d S r dim = record {
 }
 
 -- the third row
-third_row : (d : ℕ) (S : Stairs) → IsReducedStair S → HasDimension d (vector (pos 0) (pos 0) S.third_z) → IsStair (Members d S) 2 (vector (pos 0) (pos 0) S.third_z)
+third_row : (d : ℕ) (S : Stairs) → IsReducedStair S → HasDimension d (vector (pos 0) (pos 0) S.third_z)
+    → IsStair (Members d S) 2 (vector (pos 0) (pos 0) S.third_z)
 third_row d S r dim = record {
   may = record { member = ((own_rows S).third, dim); before = before_third (vector (pos 0) (pos 0) S.third_z) refl refl; leads = r.third_z };
   least = λ w m. third_least w r m.member.0 (m.before 0 (omega arith)) (m.before 1 (omega arith)) m.leads;
@@ -337,7 +349,8 @@ rows_are_basis (suc (suc (suc (suc d)))) S h k s = absurd (omega arith)
 
 -- what a staircase lends of its list
 lent : (d : ℕ) → 2 ≤ d → d ≤ 3 → (S : Stairs)
-    → take d (vector S.first_x S.first_y S.first_z ∷ vector (pos 0) S.second_y S.second_z ∷ vector (pos 0) (pos 0) (cond (d == 2) (pos 0) S.third_z) ∷ []) ≡ rows_of d S
+    → take d (vector S.first_x S.first_y S.first_z ∷ vector (pos 0) S.second_y S.second_z ∷ vector (pos 0) (pos 0) (cond (d == 2) (pos 0) S.third_z)
+    ∷ []) ≡ rows_of d S
 lent d l p S = search arith
 
 -- the rows' parts are at most 2^60
@@ -345,7 +358,8 @@ rows_within : (d : ℕ) → 2 ≤ d → d ≤ 3 → {m : ℤ} (S : Stairs) → I
 rows_within d h k {m} S kept =
     let P = IsWithin (2 ^ 60) in let s = boxed_within kept.m_to (boxed_second kept) in
     let t = boxed_within kept.m_to (boxed_third kept) in
-    All-cons P (vector S.first_x S.first_y S.first_z) (vector (pos 0) S.second_y S.second_z ∷ cond (d == 2) [] (vector (pos 0) (pos 0) S.third_z ∷ [])) (boxed_within kept.m_to (boxed_first kept))
+    All-cons P (vector S.first_x S.first_y S.first_z) (vector (pos 0) S.second_y S.second_z ∷ cond (d == 2) [] (vector (pos 0) (pos 0) S.third_z
+    ∷ [])) (boxed_within kept.m_to (boxed_first kept))
     (All-cons P (vector (pos 0) S.second_y S.second_z) (cond (d == 2) [] (vector (pos 0) (pos 0) S.third_z ∷ [])) (omega arith, s.0, s.1)
     (last (d == 2) (omega arith, omega arith, t.0)))
   where
@@ -360,7 +374,8 @@ pub record AreRows (d : ℕ) (S : Stairs) (vs : List Vector) : Type 0 where
 
 -- and that they are the rows
 pub lent_rows : (d : ℕ) → 2 ≤ d → d ≤ 3 → {m : ℤ} {S : Stairs} → (d ≡ 2 → HasFlatEnd S) → IsBoundedStair m S → {vs : List Vector}
-    → vs ≡ vector S.first_x S.first_y S.first_z ∷ vector (pos 0) S.second_y S.second_z ∷ vector (pos 0) (pos 0) (cond (d == 2) (pos 0) S.third_z) ∷ [] → AreRows d S (take d vs)
+    → vs ≡ vector S.first_x S.first_y S.first_z ∷ vector (pos 0) S.second_y S.second_z ∷ vector (pos 0) (pos 0) (cond (d == 2) (pos 0) S.third_z) ∷ []
+    → AreRows d S (take d vs)
 lent_rows d h k {m} {S} flat kept {vs} e = subst (AreRows d S) (sym (ap (take d) e ∙ lent d h k S))
     (record { basis = rows_are_basis d S h k shape; small = rows_within d h k S kept; spans = rows_span d S shape })
   where

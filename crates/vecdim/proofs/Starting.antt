@@ -57,8 +57,13 @@ flat_kept {m} {S} {T} {v} h n =
       y = simp ring refl;
       z = simp ring (omega (arith, linear));
     }) in
-    let e = one_or T.third_z S.third_z r.third_z (third_least (vector (pos 0) (pos 0) S.third_z) r t refl refl (subst (λ t. pos 0 <ℤ t) (sym h.third_z) (omega (arith, ints)))) h.third_z in
-    record { first_z = omega (arith, linear, ints, e, r.first_z_from, r.first_z_to); second_z = omega (arith, linear, ints, e, r.second_z_from, r.second_z_to); third_z = e }
+    let e = one_or T.third_z S.third_z r.third_z (third_least (vector (pos 0) (pos 0) S.third_z) r t refl refl (subst (λ t. pos 0 <ℤ t) (sym h.third_z)
+    (omega (arith, ints)))) h.third_z in
+    record {
+      first_z = omega (arith, linear, ints, e, r.first_z_from, r.first_z_to);
+      second_z = omega (arith, linear, ints, e, r.second_z_from, r.second_z_to);
+      third_z = e;
+    }
 
 -- in dimension 2 its last row is (0, 0, 1)
 pub flat_start : (b last : ℤ) → last ≡ pos 1 → HasFlatEnd (stairs b (pos 0) (pos 0) b (pos 0) last)

@@ -1,3 +1,4 @@
+-- Of `with_list`: invariants.
 use Rattle.std.proofs.Common.{rules, ◌≡◌, [], ◌∷◌, pos, sym, to_z, ◌∙◌}
 use Rattle.std.{proofs.lemmas.Int.to_z-of_z, specs.Prelude.cond, specs.Prelude.◌==◌, specs.Int.w128}
 use Rattle.integers.specs.Vectors.{vector}
