@@ -6,7 +6,7 @@ use least_key::Refusal;
 
 /// Why a text gives no net.
 #[derive(Debug, Drop)]
-pub enum Trouble {
+pub enum TextFault {
     /// No block of the text is a graph.
     NoGraph,
     /// The text opens a 4,097th block.
@@ -17,28 +17,28 @@ pub enum Trouble {
     NoMemory,
 }
 
-impl From<ReadRefusal> for Trouble {
-    ghost use Rattle.nets.specs.Troubles.{unread};
+impl From<ReadRefusal> for TextFault {
+    ghost use Rattle.nets.specs.TextFaults.{unread};
 
-    ghost from_gives = { λ refusal trouble. trouble ≡ unread refusal };
+    ghost from_gives = { λ refusal fault. fault ≡ unread refusal };
 
-    fn from(refusal: ReadRefusal) -> Trouble {
+    fn from(refusal: ReadRefusal) -> TextFault {
         match refusal {
-            ReadRefusal::TooManyBlocks => Trouble::TooManyBlocks,
-            ReadRefusal::NoMemory => Trouble::NoMemory,
+            ReadRefusal::TooManyBlocks => TextFault::TooManyBlocks,
+            ReadRefusal::NoMemory => TextFault::NoMemory,
         }
     }
 }
 
-impl From<Refusal> for Trouble {
-    ghost use Rattle.nets.specs.Troubles.{IsFrom};
+impl From<Refusal> for TextFault {
+    ghost use Rattle.nets.specs.TextFaults.{IsFrom};
 
     ghost from_gives = { IsFrom };
 
-    fn from(refusal: Refusal) -> Trouble {
+    fn from(refusal: Refusal) -> TextFault {
         match refusal {
-            Refusal::NoMemory => Trouble::NoMemory,
-            refusal => Trouble::Refused(refusal),
+            Refusal::NoMemory => TextFault::NoMemory,
+            refusal => TextFault::Refused(refusal),
         }
     }
 }
