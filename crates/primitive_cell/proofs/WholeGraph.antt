@@ -48,7 +48,8 @@ rows_product a b c e f i = simp ring (omega (arith, linear))
 pub stairs_are_basis : (d : ℕ) → (d ≡ 2) ⊎ (d ≡ 3) → (S : Stairs) → HasStairShape d S → IsBasisOf d (basis_of S)
 stairs_are_basis d t S h = record {
   two_or_three = t;
-  independent = λ z. by (factor_zero S.first_x (S.second_y *ℤ S.third_z) (sym (rows_product S.first_x S.first_y S.first_z S.second_y S.second_z S.third_z) ∙ z));
+  independent = λ z. by (factor_zero S.first_x (S.second_y *ℤ S.third_z) (sym
+      (rows_product S.first_x S.first_y S.first_z S.second_y S.second_z S.third_z) ∙ z));
   first = λ e. (h.flat e).first_z;
   second = λ e. (h.flat e).second_z;
 }
