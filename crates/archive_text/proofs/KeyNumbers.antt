@@ -11,7 +11,7 @@ use Rattle.std.proofs.lemmas.Map.Views.{list_any-from_Contains, Contains-from_an
 use Rattle.std.{proofs.lemmas.Bool.cases_eq, proofs.lemmas.Bool.ne_eqb, proofs.lemmas.List.Quantifiers.all_pairs_push, proofs.lemmas.Grind.common_steps}
 use Rattle.std.{proofs.lemmas.Cmp.nat_list_eq_equiv, proofs.lemmas.Slice.Eq.bytes_eq-Decides, specs.declared.alloc.Global.Global, specs.Str.bytes_eq}
 use Rattle.std.{specs.Option.option_to_list, proofs.lemmas.Option.slice_get-map, proofs.lemmas.Option.slice_get-get_or}
-use Rattle.indexmap.specs.IndexMap.{IndexMap, get}
+use Rattle.std.specs.HashMap.{HashMap, get}
 use mathlib.Core.List.{append_assoc}
 use Rattle.line_text.specs.Lines.{Place, IsAt}
 use Rattle.archive_text.specs.Places.{places_of, listed, ArePlaces, without_last}
@@ -41,7 +41,7 @@ places_other : (xs : List ℕ) (y x : ℕ) → x ≢ y → places_of (xs ++ y �
 places_other xs y x ne = grind (arith, places_split, ne_eqb, append-nil)
 
 -- after a number is put last, its places and those of the others are kept
-pub places_kept : {S : Type 0} (xs ys : List ℕ) (m n : IndexMap ℕ (Vec ℕ Global) S) (y place : ℕ) → ys ≡ xs ++ y ∷ [] → place ≡ length xs → ArePlaces xs m
+pub places_kept : {S : Type 0} (xs ys : List ℕ) (m n : HashMap ℕ (Vec ℕ Global) S) (y place : ℕ) → ys ≡ xs ++ y ∷ [] → place ≡ length xs → ArePlaces xs m
     → listed (get nat_eq n y) ≡ listed (get nat_eq m y) ++ place ∷ [] → ((v : ℕ) → v ≢ y → get nat_eq n v ≡ get nat_eq m v) → ArePlaces ys n
 places_kept xs ys m n y place e l kept put others x = grind (arith, places_here, places_other, cases_eq)
 
@@ -50,7 +50,7 @@ last_gone : (xs : List ℕ) (y : ℕ) → without_last (xs ++ y ∷ []) ≡ xs
 last_gone xs y = grind (arith, common_steps)
 
 -- after the last number is taken away, its places and those of the others are kept
-pub places_left : {S : Type 0} (xs ys : List ℕ) (m n : IndexMap ℕ (Vec ℕ Global) S) (y : ℕ) → ys ≡ xs ++ y ∷ [] → ArePlaces ys m
+pub places_left : {S : Type 0} (xs ys : List ℕ) (m n : HashMap ℕ (Vec ℕ Global) S) (y : ℕ) → ys ≡ xs ++ y ∷ [] → ArePlaces ys m
     → listed (get nat_eq n y) ≡ without_last (listed (get nat_eq m y)) → ((v : ℕ) → v ≢ y → get nat_eq n v ≡ get nat_eq m v) → ArePlaces xs n
 places_left xs ys m n y e kept dropped others x =
     let was : (v : ℕ) → listed (get nat_eq m v) ≡ places_of (xs ++ y ∷ []) v = λ v. kept v ∙ ap (λ zs. places_of zs v) e in

@@ -2,7 +2,7 @@
 use Rattle.std.specs.Prelude.{◌≡◌, ℕ, ◌-◌, ◌==◌, List, [], length, take, map, filter, nat_eq, Option, None, Some, Vec}
 use Rattle.std.specs.List.{enumerate_from}
 use Rattle.std.specs.declared.alloc.Global.{Global}
-use Rattle.indexmap.specs.IndexMap.{IndexMap, get}
+use Rattle.std.specs.HashMap.{HashMap, get}
 
 -- the places, counted from 0, at which x stands in the list
 abbrev pub places_of : List ℕ → ℕ → List ℕ
@@ -14,7 +14,7 @@ listed None = []
 listed (Some places) = places.items
 
 -- for each number its places in the list are kept
-abbrev pub ArePlaces : {S : Type 0} → List ℕ → IndexMap ℕ (Vec ℕ Global) S → Type 0
+abbrev pub ArePlaces : {S : Type 0} → List ℕ → HashMap ℕ (Vec ℕ Global) S → Type 0
 ArePlaces xs kept = (x : ℕ) → listed (get nat_eq kept x) ≡ places_of xs x
 
 -- a list without its last number

@@ -1,19 +1,19 @@
 // A list of numbers with the places of each.
 ghost use Rattle.std.specs.Prelude.{◌≡◌, ◌≢◌, ℕ, ◌++◌, ◌∷◌, [], nat_eq, IfNone, OnOk, OnErr};
-ghost use Rattle.indexmap.specs.IndexMap.{get};
+ghost use Rattle.std.specs.HashMap.{get};
 ghost use Rattle.std.specs.Option.{option_to_list};
 ghost use Rattle.archive_text.specs.Places.{listed, places_of, without_last};
 
 use crate::NoMemory;
-use indexmap::IndexMap;
 use std::alloc::Global;
+use std::collections::HashMap;
 use std::marker::Model;
 
 /// A list of at most 2^32 numbers, which gives the places of each. Contracts see the list.
 #[derive(Debug, Drop)]
 pub struct PlaceIndex {
     values: Vec<u64>,
-    places: IndexMap<u64, Vec<u32>>,
+    places: HashMap<u64, Vec<u32>>,
 }
 
 impl Model for PlaceIndex {
@@ -29,7 +29,12 @@ impl Model for PlaceIndex {
 }
 
 // Puts a place last among those of a value.
-fn put_place(places: &mut IndexMap<u64, Vec<u32>>, value: u64, place: u32) -> Result<(), NoMemory>
+fn put_place(
+    alloc: Global,
+    places: &mut HashMap<u64, Vec<u32>>,
+    value: u64,
+    place: u32,
+) -> Result<(), NoMemory>
     ensures put { OnOk result (listed (get nat_eq places.new value) ≡
         listed (get nat_eq places.old value) ++ place ∷ []) }
     ensures others { (v : ℕ) → v ≢ value → get nat_eq places.new v ≡ get nat_eq places.old v }
@@ -39,7 +44,7 @@ fn put_place(places: &mut IndexMap<u64, Vec<u32>>, value: u64, place: u32) -> Re
     match places.get_mut(&value) {
         Some(of_value) => of_value.push(place)?,
         None => {
-            let mut of_value = Vec::with_capacity(*places.allocator(), 1)?;
+            let mut of_value = Vec::with_capacity(alloc, 1)?;
             of_value.push(place)?;
             places.insert(value, of_value)?;
         }
@@ -48,7 +53,7 @@ fn put_place(places: &mut IndexMap<u64, Vec<u32>>, value: u64, place: u32) -> Re
 }
 
 // Takes away the last place of a value.
-fn drop_place(places: &mut IndexMap<u64, Vec<u32>>, value: u64)
+fn drop_place(places: &mut HashMap<u64, Vec<u32>>, value: u64)
     ensures dropped { listed (get nat_eq places.new value) ≡
         without_last (listed (get nat_eq places.old value)) }
     ensures others { (v : ℕ) → v ≢ value → get nat_eq places.new v ≡ get nat_eq places.old v }
@@ -65,7 +70,7 @@ impl PlaceIndex {
     {
         PlaceIndex {
             values: Vec::new(alloc),
-            places: IndexMap::new(alloc),
+            places: HashMap::new(alloc),
         }
     }
 
@@ -78,7 +83,7 @@ impl PlaceIndex {
             return Err(NoMemory);
         };
         self.values.reserve(1)?;
-        put_place(&mut self.places, value, place)?;
+        put_place(*self.values.allocator(), &mut self.places, value, place)?;
         match self.values.push(value) {
             Ok(()) => Ok(()),
             Err(_) => unreachable!(),

@@ -9,7 +9,7 @@ use net_archive::{AddFault, Archive, Entry};
 use std::alloc::AllocError as NoMemory;
 
 /// Why an archive is not united with items.
-#[derive(Clone, Copy, Debug, PartialEq, Eq)]
+#[derive(Clone, Copy, PartialEq, Eq)]
 pub enum UniteFault {
     /// The item with this number, counted from 1, cannot be added.
     NotAdded { number: u32, fault: AddFault },

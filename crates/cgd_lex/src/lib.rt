@@ -3,10 +3,12 @@
 
 mod bytes;
 mod lexer;
+mod lines;
 mod part;
 mod token;
-mod tokens;
+mod words;
 
 pub use lexer::Lexer;
+pub use lines::{next_first, next_on_line};
 pub use token::{Token, TokenKind};
-pub use tokens::{is_keyword, name_in, next_first, next_on_line, number_up_to, unquoted};
+pub use words::{is_keyword, name_in, number_up_to, unquoted};

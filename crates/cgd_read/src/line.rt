@@ -14,7 +14,7 @@ use crate::values::part;
 use cgd_lex::{Token, TokenKind, is_keyword, name_in};
 
 /// What the first token makes of a line.
-#[derive(Clone, Copy, Debug, PartialEq, Eq)]
+#[derive(Clone, Copy, PartialEq, Eq)]
 pub enum LineKind {
     Opening,
     Name,

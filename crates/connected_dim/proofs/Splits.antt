@@ -163,7 +163,8 @@ Divides q z = (n : ℤ) × (z ≡ q *ℤ n)
 
 -- each place's vector takes the members to multiples
 pub first_divides : (S : Stairs) (q : ℤ) (c : Vector) → IsFirstDual S q c → (v : Vector) → InStairs S v → Divides q (dot c v)
-first_divides S q c h v m = subst (λ q. Divides q (dot c v)) (sym h.pivot) (subst (λ c. Divides S.a (dot c v)) (sym h.is) (m.k, first v.x v.y v.z m.k S.a m.x))
+first_divides S q c h v m = subst (λ q. Divides q (dot c v)) (sym h.pivot) (subst (λ c. Divides S.first_x (dot c v)) (sym h.is)
+    (m.k, first v.x v.y v.z m.k S.first_x m.x))
 
 -- a product, by the parts of the first vector
 dot_with : (c v : Vector) (x y z : ℤ) → c.x ≡ x → c.y ≡ y → c.z ≡ z → dot c v ≡ dot (vector x y z) v
@@ -172,18 +173,18 @@ dot_with c v x y z e f g = λ i. e i *ℤ v.x +ℤ f i *ℤ v.y +ℤ g i *ℤ v.
 -- the second
 pub second_divides : (S : Stairs) (q : ℤ) (c : Vector) → IsSecondDual S q c → (v : Vector) → InStairs S v → Divides q (dot c v)
 second_divides S q c h v m =
-    let j = complement_is S.e S.b c.x (subst (λ q. IsComplement q S.b c.x) h.pivot h.x) in
-    let e = second c.x v.x v.y v.z m.k m.l S.b S.e j.0 j.1 (m.x ∙ ap (λ t. m.k *ℤ t) h.a) m.y in
+    let j = complement_is S.second_y S.first_y c.x (subst (λ q. IsComplement q S.first_y c.x) h.pivot h.x) in
+    let e = second c.x v.x v.y v.z m.k m.l S.first_y S.second_y j.0 j.1 (m.x ∙ ap (λ t. m.k *ℤ t) h.first_x) m.y in
     subst (λ q. Divides q (dot c v)) (sym h.pivot) (j.0 *ℤ m.k +ℤ m.l, dot_with c v c.x (pos 1) (pos 0) refl h.y h.z ∙ e)
 
 -- and the third
 pub third_divides : (S : Stairs) (q : ℤ) (c : Vector) → IsReducedStair S → IsThirdDual S q c → (v : Vector) → InStairs S v → Divides q (dot c v)
 third_divides S q c r h v m =
-    let j = complement_is S.i S.c c.x (subst (λ q. IsComplement q S.c c.x) h.pivot h.x) in
-    let l = complement_is S.i S.f c.y (subst (λ q. IsComplement q S.f c.y) h.pivot h.y) in
-    let from = r.b_from in let to = r.b_to in let one = h.e in let b : S.b ≡ pos 0 = omega (arith, ints, from, to, one) in
-    let y : v.y ≡ m.k *ℤ pos 0 +ℤ m.l *ℤ pos 1 = m.y ∙ (λ i. m.k *ℤ b i +ℤ m.l *ℤ h.e i) in
-    let e = third c.x c.y v.x v.y v.z m.k m.l m.n S.c S.f S.i j.0 l.0 j.1 l.1 (m.x ∙ ap (λ t. m.k *ℤ t) h.a) y m.z in
+    let j = complement_is S.third_z S.first_z c.x (subst (λ q. IsComplement q S.first_z c.x) h.pivot h.x) in
+    let l = complement_is S.third_z S.second_z c.y (subst (λ q. IsComplement q S.second_z c.y) h.pivot h.y) in
+    let from = r.first_y_from in let to = r.first_y_to in let one = h.second_y in let b : S.first_y ≡ pos 0 = omega (arith, ints, from, to, one) in
+    let y : v.y ≡ m.k *ℤ pos 0 +ℤ m.l *ℤ pos 1 = m.y ∙ (λ i. m.k *ℤ b i +ℤ m.l *ℤ h.second_y i) in
+    let e = third c.x c.y v.x v.y v.z m.k m.l m.n S.first_z S.second_z S.third_z j.0 l.0 j.1 l.1 (m.x ∙ ap (λ t. m.k *ℤ t) h.first_x) y m.z in
     subst (λ q. Divides q (dot c v)) (sym h.pivot) (j.0 *ℤ m.k +ℤ l.0 *ℤ m.l +ℤ m.n, dot_with c v c.x c.y (pos 1) refl refl h.z ∙ e)
 
 -- The colouring of a net whose closed walks have full rank and are not all shifts.
@@ -203,8 +204,9 @@ not_two : (d : ℕ) → 2 < d → (d == 2) ≡ false
 not_two d h = ne_eqb d 2 (λ e. omega (arith, e))
 
 -- its pivot
-third_row : (d : ℕ) (R : Stairs) → 2 < d → part 2 (get_or (rows_of d R) 2 zero_vector) ≡ R.i
-third_row d R h = third_of (d == 2) (vector R.a R.b R.c) (vector (pos 0) R.e R.f) (vector (pos 0) (pos 0) R.i) (not_two d h)
+third_row : (d : ℕ) (R : Stairs) → 2 < d → part 2 (get_or (rows_of d R) 2 zero_vector) ≡ R.third_z
+third_row d R h = third_of (d == 2) (vector R.first_x R.first_y R.first_z) (vector (pos 0) R.second_y R.second_z) (vector (pos 0) (pos 0) R.third_z)
+    (not_two d h)
 
 -- each part is from 0 to below q
 parts_range : (q : ℕ) (c : Vector) → 2 ≤ q → (pos 0 ≤ℤ c.x) × (c.x <ℤ pos q) → (pos 0 ≤ℤ c.y) × (c.y <ℤ pos q) → (pos 0 ≤ℤ c.z) × (c.z <ℤ pos q) → (i : ℕ)
@@ -246,9 +248,9 @@ module _ (G : Graph) (found : List (Option Vector)) (R : Stairs) (S : Split) (g 
 
   -- so each place has a pivot
   full : (i : ℕ) → i < G.dimension → (p : ℕ) × IsPivot G i p
-  full zero l = let n = positive_natural R.a reduced.a in (n.0, pivot_at 0 n.0 l n.1 n.2)
-  full (suc zero) l = let n = positive_natural R.e reduced.e in (n.0, pivot_at 1 n.0 l n.1 n.2)
-  full (suc (suc zero)) l = let n = positive_natural R.i reduced.i in (n.0, pivot_at 2 n.0 l n.1 (third_row G.dimension R l ∙ n.2))
+  full zero l = let n = positive_natural R.first_x reduced.first_x in (n.0, pivot_at 0 n.0 l n.1 n.2)
+  full (suc zero) l = let n = positive_natural R.second_y reduced.second_y in (n.0, pivot_at 1 n.0 l n.1 n.2)
+  full (suc (suc zero)) l = let n = positive_natural R.third_z reduced.third_z in (n.0, pivot_at 2 n.0 l n.1 (third_row G.dimension R l ∙ n.2))
   full (suc (suc (suc i))) l = absurd (by g.dimension)
     where
       by : (G.dimension ≡ 2) ⊎ (G.dimension ≡ 3) → ⊥
@@ -302,7 +304,7 @@ module _ (G : Graph) (found : List (Option Vector)) (R : Stairs) (S : Split) (g 
       )
   sparse_split_is (inr (inl h)) =
       let above = above_two S.q h.above in
-      let x = complement_range (pos S.q) R.b S.c.x reduced.b_from (subst (λ e. R.b <ℤ e) (sym h.pivot) reduced.b_to) h.x in (
+      let x = complement_range (pos S.q) R.first_y S.c.x reduced.first_y_from (subst (λ e. R.first_y <ℤ e) (sym h.pivot) reduced.first_y_to) h.x in (
         1,
         assembled 1 (omega arith) above (pivot_at 1 S.q (omega arith) (omega arith) (sym h.pivot)) earlier
             (parts_range S.q S.c above x (one_range S.q S.c.y above h.y) (zero_range S.q S.c.z above h.z)) h.y (ends_by_one S.c 1 h.z (omega arith))
@@ -310,12 +312,12 @@ module _ (G : Graph) (found : List (Option Vector)) (R : Stairs) (S : Split) (g 
       )
     where
       earlier : (i : ℕ) → i < 1 → IsPivot G i 1
-      earlier zero l = pivot_at 0 1 (omega arith) (omega arith) h.a
+      earlier zero l = pivot_at 0 1 (omega arith) (omega arith) h.first_x
       earlier (suc i) l = absurd (omega arith)
   sparse_split_is (inr (inr h)) =
       let above = above_two S.q h.above in
-      let x = complement_range (pos S.q) R.c S.c.x reduced.c_from (subst (λ e. R.c <ℤ e) (sym h.pivot) reduced.c_to) h.x in
-      let y = complement_range (pos S.q) R.f S.c.y reduced.f_from (subst (λ e. R.f <ℤ e) (sym h.pivot) reduced.f_to) h.y in (
+      let x = complement_range (pos S.q) R.first_z S.c.x reduced.first_z_from (subst (λ e. R.first_z <ℤ e) (sym h.pivot) reduced.first_z_to) h.x in
+      let y = complement_range (pos S.q) R.second_z S.c.y reduced.second_z_from (subst (λ e. R.second_z <ℤ e) (sym h.pivot) reduced.second_z_to) h.y in (
         2,
         assembled 2 (space h.pivot h.above) above (pivot_at 2 S.q (space h.pivot h.above) (omega arith)
             (third_row G.dimension R (space h.pivot h.above) ∙ sym h.pivot)) earlier
@@ -323,11 +325,11 @@ module _ (G : Graph) (found : List (Option Vector)) (R : Stairs) (S : Split) (g 
       )
     where
       earlier : (i : ℕ) → i < 2 → IsPivot G i 1
-      earlier zero l = pivot_at 0 1 (omega arith) (omega arith) h.a
-      earlier (suc zero) l = pivot_at 1 1 (omega arith) (omega arith) h.e
+      earlier zero l = pivot_at 0 1 (omega arith) (omega arith) h.first_x
+      earlier (suc zero) l = pivot_at 1 1 (omega arith) (omega arith) h.second_y
       earlier (suc (suc i)) l = absurd (omega arith)
 
-      space : pos S.q ≡ R.i → pos 2 ≤ℤ pos S.q → 2 < G.dimension
+      space : pos S.q ≡ R.third_z → pos 2 ≤ℤ pos S.q → 2 < G.dimension
       space e a = grind arith
 
 -- the colouring, from the lattice

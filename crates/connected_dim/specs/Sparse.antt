@@ -12,27 +12,27 @@ IsComplement q b c = ((b ≡ pos 0) × (c ≡ pos 0)) ⊎ ((b ≢ pos 0) × (c �
 
 -- the first pivot is q, and above 1
 pub record IsFirstDual (S : Stairs) (q : ℤ) (c : Vector) : Type 0 where
-  pub pivot : q ≡ S.a
+  pub pivot : q ≡ S.first_x
   pub above : pos 2 ≤ℤ q
   pub is : c ≡ vector (pos 1) (pos 0) (pos 0)
 
 -- the second is, and the first is 1
 pub record IsSecondDual (S : Stairs) (q : ℤ) (c : Vector) : Type 0 where
-  pub a : S.a ≡ pos 1
-  pub pivot : q ≡ S.e
+  pub first_x : S.first_x ≡ pos 1
+  pub pivot : q ≡ S.second_y
   pub above : pos 2 ≤ℤ q
-  pub x : IsComplement q S.b c.x
+  pub x : IsComplement q S.first_y c.x
   pub y : c.y ≡ pos 1
   pub z : c.z ≡ pos 0
 
 -- the third is, and the others are 1
 pub record IsThirdDual (S : Stairs) (q : ℤ) (c : Vector) : Type 0 where
-  pub a : S.a ≡ pos 1
-  pub e : S.e ≡ pos 1
-  pub pivot : q ≡ S.i
+  pub first_x : S.first_x ≡ pos 1
+  pub second_y : S.second_y ≡ pos 1
+  pub pivot : q ≡ S.third_z
   pub above : pos 2 ≤ℤ q
-  pub x : IsComplement q S.c c.x
-  pub y : IsComplement q S.f c.y
+  pub x : IsComplement q S.first_z c.x
+  pub y : IsComplement q S.second_z c.y
   pub z : c.z ≡ pos 1
 
 -- q is the first pivot above 1, and c takes the members to multiples of it

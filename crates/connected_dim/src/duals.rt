@@ -7,16 +7,16 @@ ghost use Rattle.connected_dim.specs.Sparse.{IsComplement, IsThirdDual, IsDual};
 
 use vecdim::{Staircase, Triple};
 
-/// The rows (a, b, c), (0, e, f) and (0, 0, i) of a staircase, as plain numbers; in dimension 2 the
-/// last is (0, 0, 1).
+/// The rows (first_x, first_y, first_z), (0, second_y, second_z) and (0, 0, third_z) of a staircase,
+/// as plain numbers; in dimension 2 the last is (0, 0, 1).
 #[derive(Clone, Copy)]
 pub struct Rows {
-    pub a: i128,
-    pub b: i128,
-    pub c: i128,
-    pub e: i128,
-    pub f: i128,
-    pub i: i128,
+    pub first_x: i128,
+    pub first_y: i128,
+    pub first_z: i128,
+    pub second_y: i128,
+    pub second_z: i128,
+    pub third_z: i128,
 }
 
 /// The first pivot above 1, and a vector whose products with the members are multiples of it.
@@ -42,48 +42,50 @@ fn complement(b: i128, q: i128) -> i128
 
 // At the first place.
 fn first_dual(r: Rows) -> Dual
-    requires { pos 2 ≤ℤ r.a }
-    ensures q { result.q ≡ r.a }
+    requires { pos 2 ≤ℤ r.first_x }
+    ensures q { result.q ≡ r.first_x }
     ensures c { result.c ≡ vector (pos 1) (pos 0) (pos 0) }
     ensures within { IsWithin (2 ^ 60) result.c }
 {
     Dual {
-        q: r.a,
+        q: r.first_x,
         c: Triple { x: 1, y: 0, z: 0 },
     }
 }
 
 // At the second.
 fn second_dual(r: Rows) -> Dual
-    requires reduced { IsReducedStair (stairs r.a r.b r.c r.e r.f r.i) }
-    requires small { r.e ≤ℤ pos (2 ^ 60) }
-    ensures q { result.q ≡ r.e }
-    ensures x { IsComplement r.e r.b result.c.x }
+    requires reduced { IsReducedStair (stairs r.first_x r.first_y r.first_z r.second_y r.second_z
+        r.third_z) }
+    requires small { r.second_y ≤ℤ pos (2 ^ 60) }
+    ensures q { result.q ≡ r.second_y }
+    ensures x { IsComplement r.second_y r.first_y result.c.x }
     ensures y { result.c.y ≡ pos 1 }
     ensures z { result.c.z ≡ pos 0 }
     ensures within { IsWithin (2 ^ 60) result.c }
 {
-    let x = complement(r.b, r.e);
+    let x = complement(r.first_y, r.second_y);
     Dual {
-        q: r.e,
+        q: r.second_y,
         c: Triple { x, y: 1, z: 0 },
     }
 }
 
 // At the third.
 fn third_dual(r: Rows) -> Dual
-    requires reduced { IsReducedStair (stairs r.a r.b r.c r.e r.f r.i) }
-    requires small { r.i ≤ℤ pos (2 ^ 60) }
-    ensures q { result.q ≡ r.i }
-    ensures x { IsComplement r.i r.c result.c.x }
-    ensures y { IsComplement r.i r.f result.c.y }
+    requires reduced { IsReducedStair (stairs r.first_x r.first_y r.first_z r.second_y r.second_z
+        r.third_z) }
+    requires small { r.third_z ≤ℤ pos (2 ^ 60) }
+    ensures q { result.q ≡ r.third_z }
+    ensures x { IsComplement r.third_z r.first_z result.c.x }
+    ensures y { IsComplement r.third_z r.second_z result.c.y }
     ensures z { result.c.z ≡ pos 1 }
     ensures within { IsWithin (2 ^ 60) result.c }
 {
-    let x = complement(r.c, r.i);
-    let y = complement(r.f, r.i);
+    let x = complement(r.first_z, r.third_z);
+    let y = complement(r.second_z, r.third_z);
     Dual {
-        q: r.i,
+        q: r.third_z,
         c: Triple { x, y, z: 1 },
     }
 }
@@ -91,39 +93,42 @@ fn third_dual(r: Rows) -> Dual
 // The rows of a staircase.
 fn rows_in<const D: usize>(s: &Staircase<D>) -> Rows
     requires dimension { (D ≡ 2) ⊎ (D ≡ 3) }
-    ensures rows { stairs result.a result.b result.c result.e result.f result.i ≡ s.now }
+    ensures rows { stairs result.first_x result.first_y result.first_z result.second_y
+        result.second_z result.third_z ≡ s.now }
     ensures stair { HasStairShape D s.now }
-    ensures small_a { result.a ≤ℤ pos (2 ^ 60) }
-    ensures small_e { result.e ≤ℤ pos (2 ^ 60) }
-    ensures small_i { result.i ≤ℤ pos (2 ^ 60) }
+    ensures small_x { result.first_x ≤ℤ pos (2 ^ 60) }
+    ensures small_y { result.second_y ≤ℤ pos (2 ^ 60) }
+    ensures small_z { result.third_z ≤ℤ pos (2 ^ 60) }
 {
     let rows = s.rows();
     let first = rows[0];
     let second = rows[1];
     let last = if D == 2 { 1 } else { s.pivots().z };
     Rows {
-        a: first.x,
-        b: first.y,
-        c: first.z,
-        e: second.y,
-        f: second.z,
-        i: last,
+        first_x: first.x,
+        first_y: first.y,
+        first_z: first.z,
+        second_y: second.y,
+        second_z: second.z,
+        third_z: last,
     }
 }
 
 // The third pivot where it is above 1; the others are 1.
 fn last_dual(r: Rows) -> Option<Dual>
-    requires reduced { IsReducedStair (stairs r.a r.b r.c r.e r.f r.i) }
-    requires small { r.i ≤ℤ pos (2 ^ 60) }
-    requires a { r.a ≡ pos 1 }
-    requires e { r.e ≡ pos 1 }
-    ensures dual { IfSome result (λ d. IsThirdDual (stairs r.a r.b r.c r.e r.f r.i) d.q d.c) }
+    requires reduced { IsReducedStair (stairs r.first_x r.first_y r.first_z r.second_y r.second_z
+        r.third_z) }
+    requires small { r.third_z ≤ℤ pos (2 ^ 60) }
+    requires first { r.first_x ≡ pos 1 }
+    requires second { r.second_y ≡ pos 1 }
+    ensures dual { IfSome result (λ d. IsThirdDual (stairs r.first_x r.first_y r.first_z r.second_y
+        r.second_z r.third_z) d.q d.c) }
     ensures above { IfSome result (λ d. pos 2 ≤ℤ d.q) }
     ensures small { IfSome result (λ d. d.q ≤ℤ pos (2 ^ 60)) }
     ensures within { IfSome result (λ d. IsWithin (2 ^ 60) d.c) }
-    ensures none { result ≡ None → r.i ≡ pos 1 }
+    ensures none { result ≡ None → r.third_z ≡ pos 1 }
 {
-    if r.i > 1 {
+    if r.third_z > 1 {
         return Some(third_dual(r));
     }
     None
@@ -131,20 +136,23 @@ fn last_dual(r: Rows) -> Option<Dual>
 
 // The first pivot above 1.
 fn dual_of(r: Rows) -> Option<Dual>
-    requires reduced { IsReducedStair (stairs r.a r.b r.c r.e r.f r.i) }
-    requires small_a { r.a ≤ℤ pos (2 ^ 60) }
-    requires small_e { r.e ≤ℤ pos (2 ^ 60) }
-    requires small_i { r.i ≤ℤ pos (2 ^ 60) }
-    ensures dual { IfSome result (λ d. IsDual (stairs r.a r.b r.c r.e r.f r.i) d.q d.c) }
+    requires reduced { IsReducedStair (stairs r.first_x r.first_y r.first_z r.second_y r.second_z
+        r.third_z) }
+    requires small_x { r.first_x ≤ℤ pos (2 ^ 60) }
+    requires small_y { r.second_y ≤ℤ pos (2 ^ 60) }
+    requires small_z { r.third_z ≤ℤ pos (2 ^ 60) }
+    ensures dual { IfSome result (λ d. IsDual (stairs r.first_x r.first_y r.first_z r.second_y
+        r.second_z r.third_z) d.q d.c) }
     ensures above { IfSome result (λ d. pos 2 ≤ℤ d.q) }
     ensures small { IfSome result (λ d. d.q ≤ℤ pos (2 ^ 60)) }
     ensures within { IfSome result (λ d. IsWithin (2 ^ 60) d.c) }
-    ensures none { result ≡ None → IsWhole (stairs r.a r.b r.c r.e r.f r.i) }
+    ensures none { result ≡ None → IsWhole (stairs r.first_x r.first_y r.first_z r.second_y
+        r.second_z r.third_z) }
 {
-    if r.a > 1 {
+    if r.first_x > 1 {
         return Some(first_dual(r));
     }
-    if r.e > 1 {
+    if r.second_y > 1 {
         return Some(second_dual(r));
     }
     last_dual(r)

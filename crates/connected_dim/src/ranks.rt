@@ -1,5 +1,5 @@
 // How many of the closed walks of a net are independent.
-ghost use Rattle.std.specs.Prelude.{◌≡◌, ◌≢◌, ◌↔◌, ◌≤◌, IsTrue, ◌^◌, ◌≤ℤ◌, ◌<ℤ◌, unsigned_abs, neg_ℤ, pos, None, All, Contains, IfSome};
+ghost use Rattle.std.specs.Prelude.{◌≡◌, ◌≢◌, ◌≤◌, ◌^◌, ◌≤ℤ◌, ◌<ℤ◌, unsigned_abs, neg_ℤ, pos, None, All, Contains, IfSome};
 ghost use Rattle.integers.specs.Vectors.{vector, zero_vector, cross, dot, IsWithin};
 ghost use Rattle.connected_dim.specs.Orthogonal.{IsFlatNormal};
 ghost use Rattle.connected_dim.specs.Full.{IsVolume};
@@ -12,26 +12,10 @@ use vecdim::{Triple, Vect};
 
 /// Below the dimension, with a vector orthogonal to all; or full, with the volume that independent
 /// vectors span.
-#[derive(Debug, Drop)]
+#[derive(Drop)]
 pub enum Rank {
     Below(Triple),
     Full(i128),
-}
-
-// Whether two vectors are on one line.
-fn is_parallel<const D: usize>(v: &Vect<D>, w: &Vect<D>) -> bool
-    ensures { IsTrue result ↔ (cross v.now w.now ≡ zero_vector) }
-{
-    v.to_triple().cross(&w.to_triple()).is_zero()
-}
-
-// Whether a vector is orthogonal to c.
-fn is_orthogonal<const D: usize>(c: &Triple, v: &Vect<D>) -> bool
-    requires c { IsWithin most_normal c.now }
-    requires v { IsWithin most_closed v.now }
-    ensures { IsTrue result ↔ (dot c.now v.now ≡ pos 0) }
-{
-    c.dot(&v.to_triple()) == 0
 }
 
 // The first vector that is not 0.
@@ -55,7 +39,7 @@ fn first_apart<const D: usize>(gs: &[Vect<D>], v: &Vect<D>) -> Option<Vect<D>>
     ensures none { result ≡ None → All (λ g. cross v.now g ≡ zero_vector) gs.now }
 {
     for g in gs {
-        if !is_parallel(v, g) {
+        if !v.is_parallel(g) {
             return Some(*g);
         }
     }
@@ -71,7 +55,7 @@ fn first_off<const D: usize>(gs: &[Vect<D>], c: &Triple) -> Option<Vect<D>>
     ensures none { result ≡ None → All (λ g. dot c.now g ≡ pos 0) gs.now }
 {
     for g in gs {
-        if !is_orthogonal(c, g) {
+        if !g.is_orthogonal(c) {
             return Some(*g);
         }
     }

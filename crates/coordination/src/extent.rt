@@ -6,7 +6,7 @@ use primitive_cell::PrimEdge;
 use vecdim::Vect;
 
 /// How far vertices of the net lie from a start, in cells along each axis.
-#[derive(Clone, Copy, Debug, PartialEq, Eq)]
+#[derive(Clone, Copy, PartialEq, Eq)]
 pub struct Extent {
     pub x: u32,
     pub y: u32,

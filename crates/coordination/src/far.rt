@@ -13,7 +13,7 @@ use std::alloc::Global;
 use vecdim::Triple;
 
 /// An axis of the cells.
-#[derive(Clone, Copy, Debug, PartialEq, Eq)]
+#[derive(Clone, Copy, PartialEq, Eq)]
 pub enum Axis {
     X,
     Y,

@@ -4,7 +4,7 @@ ghost use Rattle.coordination.specs.Marks.{IsLandingWithin, spot_along};
 
 /// A vertex of the net in a box: the vertex of the primitive graph that it lies over, and its
 /// number in the box.
-#[derive(Clone, Copy, Debug, PartialEq, Eq)]
+#[derive(Clone, Copy, PartialEq, Eq)]
 pub struct Spot {
     pub over: u32,
     pub at: u32,
@@ -12,7 +12,7 @@ pub struct Spot {
 
 /// A step from vertices over one vertex of the primitive graph to those over another: by how much
 /// the number grows.
-#[derive(Clone, Copy, Debug, PartialEq, Eq)]
+#[derive(Clone, Copy, PartialEq, Eq)]
 pub struct Step {
     pub to: u32,
     pub by: i64,

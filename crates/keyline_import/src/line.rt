@@ -5,7 +5,7 @@ ghost use Rattle.keyline_import.specs.Lines.{kind_of_word, kind_of, is_end, begi
 use cgd_lex::{Token, TokenKind, is_keyword};
 
 /// What the first token makes of a line.
-#[derive(Clone, Copy, Debug, PartialEq, Eq)]
+#[derive(Clone, Copy, PartialEq, Eq)]
 pub enum LineKind {
     Key,
     Id,

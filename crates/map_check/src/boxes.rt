@@ -11,7 +11,7 @@ use std::marker::Model;
 use vecdim::{SmallVector, Triple};
 
 /// A vertex of the first net: the one over a vertex of the graph in a cell.
-#[derive(Clone, Copy, Debug)]
+#[derive(Clone, Copy)]
 pub struct NetVertex {
     pub over: u32,
     pub cell: Triple,

@@ -1,5 +1,5 @@
 // Images with another number of arcs than their vertices.
-ghost use Rattle.std.specs.Prelude.{◌≡◌, ◌≢◌, ◌↔◌, ◌<◌, length, IsTrue, MatchOption};
+ghost use Rattle.std.specs.Prelude.{◌≡◌, ◌↔◌, ◌<◌, length, IsTrue, MatchOption};
 ghost use Rattle.periodic_net.specs.Graph.{arcs_from, IsQuotientVertex};
 ghost use Rattle.map_check.specs.Conditions.{SuitsGraphs};
 ghost use Rattle.map_check.specs.Places.{HasOtherDegreeAt, HoldsNowhere, IsFirstPlace};
@@ -17,13 +17,6 @@ fn degree<const D: usize>(g: &Graph<D>, u: u32) -> usize
     g.arcs(u).len()
 }
 
-// Whether two numbers differ.
-fn differ(a: usize, b: usize) -> bool
-    ensures { IsTrue result ↔ (a ≢ b) }
-{
-    a != b
-}
-
 // Whether the image at a place has another number of arcs than the vertex there.
 fn has_other_degree<const D: usize>(g: &Graph<D>, h: &Graph<D>, map: &PeriodicMap, i: usize) -> bool
     requires map { SuitsGraphs g.now h.now map.now.m map.now.images map.now.base }
@@ -34,7 +27,7 @@ fn has_other_degree<const D: usize>(g: &Graph<D>, h: &Graph<D>, map: &PeriodicMa
     h.recall();
     let w = vertex_of::<D>(map.m, i);
     let image = image_in(map.images.as_slice(), i);
-    differ(degree(g, w.over), degree(h, image.v))
+    degree(g, w.over) != degree(h, image.v)
 }
 
 /// The first place at which it has.

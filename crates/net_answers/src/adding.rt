@@ -22,7 +22,7 @@ use std::alloc::{AllocError as NoMemory, Global};
 use union_answers::add_fault_text;
 
 // The block with this number, counted from 1, cannot be added.
-#[derive(Clone, Copy, Debug)]
+#[derive(Clone, Copy)]
 struct NotAdded {
     block: u32,
     fault: AddFault,

@@ -1,9 +1,6 @@
 // The steps of adding a net to an archive.
 ghost use Rattle.std.specs.Prelude.{◌≡◌, ◌↔◌, ◌≤◌, ◌<◌, ◌+◌, ◌++◌, ◌∷◌, [], true, IsTrue, IfOk, OnOk, OnErr, length};
 ghost use Rattle.line_text.specs.Lines.{rows_text};
-ghost use Rattle.periodic_net.specs.Limits.{IsSmall};
-ghost use Rattle.quotient_graph.specs.AnyGraphs.{graph_view};
-ghost use Rattle.quotient_graph.specs.Order.{AreRising};
 ghost use Rattle.least_key.specs.AnyNets.{net_view};
 ghost use Rattle.least_key.specs.KeyedNets.{HasKinds};
 ghost use Rattle.archive_text.specs.Entries.{entry_view};
@@ -14,26 +11,13 @@ ghost use Rattle.net_archive.specs.Archives.{IsEntry, most_entries};
 
 use archive_text::{Entries, Entry, MOST_BYTES, Version, push_entry};
 use least_key::{Kinds, Net};
-use quotient_graph::AnyGraph;
 use std::alloc::{AllocError as NoMemory, Global};
 
 /// So many entries has an archive at most.
 const MOST_ENTRIES: usize = 4096;
 
-/// The first line and its line feed.
-const FIRST_LINE: usize = 14;
-
-// The graph of a net.
-fn graph_of(net: &Net) -> Result<AnyGraph, NoMemory>
-    ensures graph { IfOk result (λ g. graph_view g ≡ (net_view net.now).placed.graph) }
-    ensures small { IfOk result (λ g. IsSmall (graph_view g)) }
-    ensures rising { IfOk result (λ g. AreRising (graph_view g).edges) }
-{
-    match net {
-        Net::Flat(net) => net.stable.placed().graph().copy().map(AnyGraph::Flat),
-        Net::Space(net) => net.stable.placed().graph().copy().map(AnyGraph::Space),
-    }
-}
+/// The bytes of the first line, with its line feed.
+const FIRST_LINE_BYTES: usize = 14;
 
 /// The entry of a net under a name. Its coordination sequences are counted once for each of these
 /// kinds of its classes.
@@ -43,7 +27,7 @@ pub fn entry_of(alloc: Global, name: &[u8], net: &Net, kinds: &Kinds) -> Result<
     ensures is_entry { is_name name.now ≡ true → IfOk result (λ e. IsEntry (entry_view e)) }
 {
     let shells = net.sequences(alloc, kinds)?;
-    let graph = graph_of(net)?;
+    let graph = net.copy_graph()?;
     let name = Vec::from_slice(alloc, name)?;
     let key = net.key().copy()?;
     Ok(Entry {
@@ -75,9 +59,9 @@ pub fn are_many(entries: &[Entry]) -> bool
 /// Whether the text would be too long with these rows after the others.
 pub fn is_too_long(body: &[u8], rows: &[u8]) -> bool
     requires { length body.now ≤ most_bytes }
-    ensures { IsTrue result ↔ most_bytes < FIRST_LINE + length body.now + length rows.now }
+    ensures { IsTrue result ↔ most_bytes < FIRST_LINE_BYTES + length body.now + length rows.now }
 {
-    rows.len() > MOST_BYTES || FIRST_LINE + body.len() + rows.len() > MOST_BYTES
+    rows.len() > MOST_BYTES || FIRST_LINE_BYTES + body.len() + rows.len() > MOST_BYTES
 }
 
 /// Puts an entry and its rows last, or changes neither.

@@ -90,7 +90,8 @@ impl Archive {
         self.entries.as_slice()
     }
 
-    /// What holds of each archive, for a proof that needs it. It does nothing.
+    /// What holds of each archive. A proof knows it only after a call whose contract says so: this
+    /// one, which does nothing.
     pub fn recall(&self)
         ensures { IsArchive self.now }
     {

@@ -45,9 +45,9 @@ pub enum ArchiveFault {
 }
 
 impl From<NoMemory> for ArchiveFault {
-    ghost use Rattle.net_archive.specs.Causes.{no_archive};
+    ghost use Rattle.net_archive.specs.declared.faults.ArchiveFault.TheVariants.{NoMemory};
 
-    ghost from_gives = { λ fault told. told ≡ no_archive };
+    ghost from_gives = { λ fault told. told ≡ NoMemory };
 
     fn from(_fault: NoMemory) -> ArchiveFault {
         ArchiveFault::NoMemory
@@ -82,9 +82,9 @@ pub enum AddFault {
 }
 
 impl From<NoMemory> for AddFault {
-    ghost use Rattle.net_archive.specs.Causes.{not_added};
+    ghost use Rattle.net_archive.specs.declared.faults.AddFault.TheVariants.{NoMemory};
 
-    ghost from_gives = { λ fault told. told ≡ not_added };
+    ghost from_gives = { λ fault told. told ≡ NoMemory };
 
     fn from(_fault: NoMemory) -> AddFault {
         AddFault::NoMemory
@@ -101,9 +101,9 @@ pub enum MigrateFault {
 }
 
 impl From<NoMemory> for MigrateFault {
-    ghost use Rattle.net_archive.specs.Causes.{not_migrated};
+    ghost use Rattle.net_archive.specs.declared.faults.MigrateFault.TheVariants.{NoMemory};
 
-    ghost from_gives = { λ fault told. told ≡ not_migrated };
+    ghost from_gives = { λ fault told. told ≡ NoMemory };
 
     fn from(_fault: NoMemory) -> MigrateFault {
         MigrateFault::NoMemory

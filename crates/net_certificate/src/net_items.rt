@@ -8,18 +8,7 @@ ghost use Rattle.net_certificate.specs.NetItems.{IsItemOf, images_in};
 
 use crate::{Item, MapAnswer, NoMap, NoMemory, map_between};
 use least_key::Net;
-use quotient_graph::AnyGraph;
 use std::alloc::Global;
-
-/// A copy of the graph of a net.
-pub fn graph_of(net: &Net) -> Result<AnyGraph, NoMemory>
-    ensures { IfOk result (λ g. graph_view g ≡ (net_view net.now).placed.graph) }
-{
-    match net {
-        Net::Flat(net) => net.stable.graph().copy().map(AnyGraph::Flat),
-        Net::Space(net) => net.stable.graph().copy().map(AnyGraph::Space),
-    }
-}
 
 /// The dimension of a net.
 pub fn dimension_of(net: &Net) -> u8
@@ -43,7 +32,7 @@ pub fn item_of(alloc: Global, first: &Net, net: &Net, room: u64) -> Result<Item,
         MapAnswer::Different => Ok(Item::Without(NoMap::Different)),
         MapAnswer::LongMap { entries } => Ok(Item::Without(NoMap::Long { entries })),
         MapAnswer::WideMap { value } => Ok(Item::Without(NoMap::Wide { value })),
-        MapAnswer::Found(map) => Ok(Item::With(graph_of(net)?, map)),
+        MapAnswer::Found(map) => Ok(Item::With(net.copy_graph()?, map)),
     }
 }
 

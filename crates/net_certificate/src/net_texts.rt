@@ -8,7 +8,7 @@ ghost use Rattle.net_certificate.specs.NetItems.{IsMapsTextOf};
 ghost use Rattle.net_certificate.specs.NetSteps.{AreItemsLast, IsItemLast};
 
 use crate::lends::LendsNet;
-use crate::net_items::{dimension_of, graph_of, images_in, item_of};
+use crate::net_items::{dimension_of, images_in, item_of};
 use crate::{NoMemory, push_item, push_title};
 use graph_rows::push_graph;
 use least_key::Net;
@@ -22,7 +22,7 @@ fn push_net(text: &mut Vec<u8>, net: &Net) -> Result<(), NoMemory>
     ensures { OnOk result (text.new.items ≡
         text.old.items ++ rows_text (graph_lines (net_view net.now).placed.graph)) }
 {
-    let graph = graph_of(net)?;
+    let graph = net.copy_graph()?;
     push_graph(text, &graph)
 }
 

@@ -13,7 +13,7 @@ use itoa::Buffer;
 use line_text::{Lines, read_number};
 
 /// What the first line of an item says: why there is no map, or that there is one.
-#[derive(Clone, Copy, Debug, PartialEq, Eq)]
+#[derive(Clone, Copy, PartialEq, Eq)]
 pub enum Heading {
     Reason(NoMap),
     Map,

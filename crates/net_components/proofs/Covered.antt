@@ -222,11 +222,12 @@ abbrev times_of : {S : Stairs} {u v w : Vector} → InStairs S u → InStairs S 
 times_of p q r = (p.l *ℤ q.n -ℤ p.n *ℤ q.l) *ℤ r.k +ℤ (p.n *ℤ q.k -ℤ p.k *ℤ q.n) *ℤ r.l +ℤ (p.k *ℤ q.l -ℤ p.l *ℤ q.k) *ℤ r.n
 
 -- so the volume of three members is a multiple of the product of the pivots
-volume_of : (S : Stairs) (u v w : Vector) (p : InStairs S u) (q : InStairs S v) (r : InStairs S w) → dot (cross u v) w ≡ (S.a *ℤ (S.e *ℤ S.i)) *ℤ times_of p q r
+volume_of : (S : Stairs) (u v w : Vector) (p : InStairs S u) (q : InStairs S v) (r : InStairs S w) → dot (cross u v) w
+    ≡ (S.first_x *ℤ (S.second_y *ℤ S.third_z)) *ℤ times_of p q r
 volume_of S u v w p q r = grind (arith, rows_product)
 
-size_is : (S : Stairs) → unsigned_abs (S.a *ℤ (S.e *ℤ S.i)) ≡ size_of S
-size_is S = unsigned_abs-mul S.a (S.e *ℤ S.i) ∙ ap (λ t. unsigned_abs S.a * t) (unsigned_abs-mul S.e S.i)
+size_is : (S : Stairs) → unsigned_abs (S.first_x *ℤ (S.second_y *ℤ S.third_z)) ≡ size_of S
+size_is S = unsigned_abs-mul S.first_x (S.second_y *ℤ S.third_z) ∙ ap (λ t. unsigned_abs S.first_x * t) (unsigned_abs-mul S.second_y S.third_z)
 
 at_most : (n k : ℕ) → 1 ≤ n * k → n ≤ n * k
 at_most n zero h = absurd (let e = none n in omega arith)
@@ -240,7 +241,7 @@ pub size_at_most : (S : Stairs) (u v w : Vector) → InStairs S u → InStairs S
     → size_of S ≤ unsigned_abs (dot (cross u v) w)
 size_at_most S u v w p q r some =
     let e : unsigned_abs (dot (cross u v) w) ≡ size_of S * unsigned_abs (times_of p q r) =
-    ap unsigned_abs (volume_of S u v w p q r) ∙ unsigned_abs-mul (S.a *ℤ (S.e *ℤ S.i)) (times_of p q r)
+    ap unsigned_abs (volume_of S u v w p q r) ∙ unsigned_abs-mul (S.first_x *ℤ (S.second_y *ℤ S.third_z)) (times_of p q r)
     ∙ ap (λ t. t * unsigned_abs (times_of p q r)) (size_is S) in
     subst (λ n. size_of S ≤ n) (sym e) (at_most (size_of S) (unsigned_abs (times_of p q r)) (subst (λ n. 1 ≤ n) e some))
 
@@ -248,7 +249,7 @@ size_at_most S u v w p q r some =
 
 -- the vector (0, 0, 1) is a sum of rows in dimension 2
 up_in : (S : Stairs) → HasFlatEnd S → InStairs S (vector (pos 0) (pos 0) (pos 1))
-up_in S h = record { k = pos 0; l = pos 0; n = pos 1; x = none S.a; y = two S.b S.e; z = three S.c S.f S.i h.i }
+up_in S h = record { k = pos 0; l = pos 0; n = pos 1; x = none S.first_x; y = two S.first_y S.second_y; z = three S.first_z S.second_z S.third_z h.third_z }
   where
     none : (a : ℤ) → pos 0 ≡ pos 0 *ℤ a
     none a = omega (arith, ints)

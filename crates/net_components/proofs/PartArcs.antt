@@ -38,14 +38,15 @@ pub sum_of_rows : (d : ℕ) (S : Stairs) (k : Vector) → HasDimension d k → c
 sum_of_rows d S k h = by (d == 2) (λ e. h (eqb-true d 2 e))
   where
     third : Vector
-    third = vector (pos 0) (pos 0) S.i
+    third = vector (pos 0) (pos 0) S.third_z
 
     last : (b : Bool) → (b ≡ true → k.z ≡ pos 0) → combination (k.z ∷ []) (cond b [] (third ∷ [])) ≡ times k.z third
     last b h = grind (arith, vector_equal)
 
     by : (b : Bool) → (b ≡ true → k.z ≡ pos 0)
-        → combination (parts 3 k) (vector S.a S.b S.c ∷ vector (pos 0) S.e S.f ∷ cond b [] (third ∷ [])) ≡ base_sum (stair_base S) k
-    by b z = ap (λ t. plus (times k.x (vector S.a S.b S.c)) (plus (times k.y (vector (pos 0) S.e S.f)) t)) (last b z)
+        → combination (parts 3 k) (vector S.first_x S.first_y S.first_z ∷ vector (pos 0) S.second_y S.second_z ∷ cond b [] (third ∷ []))
+        ≡ base_sum (stair_base S) k
+    by b z = ap (λ t. plus (times k.x (vector S.first_x S.first_y S.first_z)) (plus (times k.y (vector (pos 0) S.second_y S.second_z)) t)) (last b z)
 
 -- Sums of the rows of a stair: each member is one, and of one vector alone.
 
@@ -62,8 +63,15 @@ module _ (d : ℕ) (S : Stairs) (h : HasStairShape d S) where
   -- a sum of rows is a member
   pub sum_member : (k : Vector) → HasDimension d k → Members d S (base_sum (stair_base S) k)
   sum_member k q = (
-    record { k = k.x; l = k.y; n = k.z; x = sym (sum_x k.x k.y k.z S.a); y = sym (sum_y k.x k.y k.z S.b S.e); z = sym (sum_z k.x k.y k.z S.c S.f S.i) },
-    λ e. let u = h.flat e in flat_sum k.x k.y k.z S.c S.f S.i u.c u.f (q e),
+    record {
+      k = k.x;
+      l = k.y;
+      n = k.z;
+      x = sym (sum_x k.x k.y k.z S.first_x);
+      y = sym (sum_y k.x k.y k.z S.first_y S.second_y);
+      z = sym (sum_z k.x k.y k.z S.first_z S.second_z S.third_z);
+    },
+    λ e. let u = h.flat e in flat_sum k.x k.y k.z S.first_z S.second_z S.third_z u.first_z u.second_z (q e),
   )
 
   flat_last : (k l n c f i z : ℤ) → c ≡ pos 0 → f ≡ pos 0 → i ≡ pos 1 → z ≡ pos 0 → z ≡ k *ℤ c +ℤ l *ℤ f +ℤ n *ℤ i → n ≡ pos 0
@@ -75,8 +83,9 @@ module _ (d : ℕ) (S : Stairs) (h : HasStairShape d S) where
   member_sum v m =
       let s = m.0 in (
         vector s.k s.l s.n,
-        (λ e. let u = h.flat e in flat_last s.k s.l s.n S.c S.f S.i v.z u.c u.f u.i (m.1 e) s.z),
-        vector_equal (sym (s.x ∙ sum_x s.k s.l s.n S.a)) (sym (s.y ∙ sum_y s.k s.l s.n S.b S.e)) (sym (s.z ∙ sum_z s.k s.l s.n S.c S.f S.i)),
+        (λ e. let u = h.flat e in flat_last s.k s.l s.n S.first_z S.second_z S.third_z v.z u.first_z u.second_z u.third_z (m.1 e) s.z),
+        vector_equal (sym (s.x ∙ sum_x s.k s.l s.n S.first_x)) (sym (s.y ∙ sum_y s.k s.l s.n S.first_y S.second_y))
+            (sym (s.z ∙ sum_z s.k s.l s.n S.first_z S.second_z S.third_z)),
       )
 
   cancel : (k l a : ℤ) → pos 0 <ℤ a → k *ℤ a ≡ l *ℤ a → k ≡ l
@@ -92,13 +101,14 @@ module _ (d : ℕ) (S : Stairs) (h : HasStairShape d S) where
   pub sum_once : (k l : Vector) → base_sum (stair_base S) k ≡ base_sum (stair_base S) l → k ≡ l
   sum_once k l e =
       let r = h.reduced in
-      let x : k.x ≡ l.x = cancel k.x l.x S.a r.a (sum_x k.x k.y k.z S.a ∙ ap (λ (v : Vector). v.x) e ∙ sym (sum_x l.x l.y l.z S.a)) in
-      let y : k.y ≡ l.y = cancel k.y l.y S.e r.e
-      (drop_first (k.x *ℤ S.b) (l.x *ℤ S.b) (k.y *ℤ S.e) (l.y *ℤ S.e) (ap (λ t. t *ℤ S.b) x)
-      (sum_y k.x k.y k.z S.b S.e ∙ ap (λ (v : Vector). v.y) e ∙ sym (sum_y l.x l.y l.z S.b S.e))) in
-      let z : k.z ≡ l.z = cancel k.z l.z S.i r.i
-      (drop_two (k.x *ℤ S.c) (l.x *ℤ S.c) (k.y *ℤ S.f) (l.y *ℤ S.f) (k.z *ℤ S.i) (l.z *ℤ S.i) (ap (λ t. t *ℤ S.c) x) (ap (λ t. t *ℤ S.f) y)
-      (sum_z k.x k.y k.z S.c S.f S.i ∙ ap (λ (v : Vector). v.z) e ∙ sym (sum_z l.x l.y l.z S.c S.f S.i))) in
+      let x : k.x ≡ l.x = cancel k.x l.x S.first_x r.first_x (sum_x k.x k.y k.z S.first_x ∙ ap (λ (v : Vector). v.x) e ∙ sym (sum_x l.x l.y l.z S.first_x)) in
+      let y : k.y ≡ l.y = cancel k.y l.y S.second_y r.second_y
+      (drop_first (k.x *ℤ S.first_y) (l.x *ℤ S.first_y) (k.y *ℤ S.second_y) (l.y *ℤ S.second_y) (ap (λ t. t *ℤ S.first_y) x)
+      (sum_y k.x k.y k.z S.first_y S.second_y ∙ ap (λ (v : Vector). v.y) e ∙ sym (sum_y l.x l.y l.z S.first_y S.second_y))) in
+      let z : k.z ≡ l.z = cancel k.z l.z S.third_z r.third_z
+      (drop_two (k.x *ℤ S.first_z) (l.x *ℤ S.first_z) (k.y *ℤ S.second_z) (l.y *ℤ S.second_z) (k.z *ℤ S.third_z) (l.z *ℤ S.third_z)
+      (ap (λ t. t *ℤ S.first_z) x) (ap (λ t. t *ℤ S.second_z) y)
+      (sum_z k.x k.y k.z S.first_z S.second_z S.third_z ∙ ap (λ (v : Vector). v.z) e ∙ sym (sum_z l.x l.y l.z S.first_z S.second_z S.third_z))) in
       vector_equal x y z
 
 -- a row of equal lists
@@ -106,7 +116,7 @@ row : (k : ℕ) (vs ws : List Vector) → vs ≡ ws → slice_index_or vs k zero
 row k vs ws e = ap (λ us. slice_index_or us k zero_vector) e
 
 -- in dimension 2 the last row is (0, 0, 1), and else it is among the rows
-last_same : (d : ℕ) (S S' : Stairs) → HasStairShape d S → HasStairShape d S' → (d ≡ 2) ⊎ (d ≡ 3) → rows_of d S ≡ rows_of d S' → S.i ≡ S'.i
+last_same : (d : ℕ) (S S' : Stairs) → HasStairShape d S → HasStairShape d S' → (d ≡ 2) ⊎ (d ≡ 3) → rows_of d S ≡ rows_of d S' → S.third_z ≡ S'.third_z
 last_same d S S' k l p q = search arith
 
 -- stairs with the same rows are the same

@@ -45,24 +45,24 @@ module _ (d : ℕ) (S : Stairs) (h : HasStairShape d S) where
   pub coordinates_start : (k v : Vector) → base_sum (stair_base S) k ≡ v → StartsPositive v → StartsPositive k
   coordinates_start k v e s = by (start_of v s).which
     where
-      at_x : k.x *ℤ S.a ≡ v.x
-      at_x = sym (first k.x k.y k.z S.a) ∙ ap (λ (w : Vector). w.x) e
+      at_x : k.x *ℤ S.first_x ≡ v.x
+      at_x = sym (first k.x k.y k.z S.first_x) ∙ ap (λ (w : Vector). w.x) e
 
-      at_y : k.x ≡ pos 0 → k.y *ℤ S.e ≡ v.y
-      at_y z = sym (second k.x k.y k.z S.b S.e z) ∙ ap (λ (w : Vector). w.y) e
+      at_y : k.x ≡ pos 0 → k.y *ℤ S.second_y ≡ v.y
+      at_y z = sym (second k.x k.y k.z S.first_y S.second_y z) ∙ ap (λ (w : Vector). w.y) e
 
-      at_z : k.x ≡ pos 0 → k.y ≡ pos 0 → k.z *ℤ S.i ≡ v.z
-      at_z z y = sym (third k.x k.y k.z S.c S.f S.i z y) ∙ ap (λ (w : Vector). w.z) e
+      at_z : k.x ≡ pos 0 → k.y ≡ pos 0 → k.z *ℤ S.third_z ≡ v.z
+      at_z z y = sym (third k.x k.y k.z S.first_z S.second_z S.third_z z y) ∙ ap (λ (w : Vector). w.z) e
 
       by : (pos 0 <ℤ v.x) ⊎ ((v.x ≡ pos 0) × (pos 0 <ℤ v.y)) ⊎ ((v.x ≡ pos 0) × (v.y ≡ pos 0) × (pos 0 <ℤ v.z)) → StartsPositive k
-      by (inl p) = starts_x k (positive_factor k.x S.a h.reduced.a (subst (λ t. pos 0 <ℤ t) (sym at_x) p))
+      by (inl p) = starts_x k (positive_factor k.x S.first_x h.reduced.first_x (subst (λ t. pos 0 <ℤ t) (sym at_x) p))
       by (inr (inl p)) =
-          let x = zero_factor k.x S.a h.reduced.a (at_x ∙ p.0) in
-          starts_y k x (positive_factor k.y S.e h.reduced.e (subst (λ t. pos 0 <ℤ t) (sym (at_y x)) p.1))
+          let x = zero_factor k.x S.first_x h.reduced.first_x (at_x ∙ p.0) in
+          starts_y k x (positive_factor k.y S.second_y h.reduced.second_y (subst (λ t. pos 0 <ℤ t) (sym (at_y x)) p.1))
       by (inr (inr p)) =
-          let x = zero_factor k.x S.a h.reduced.a (at_x ∙ p.0) in
-          let y = zero_factor k.y S.e h.reduced.e (at_y x ∙ p.1) in
-          starts_z k x y (positive_factor k.z S.i h.reduced.i (subst (λ t. pos 0 <ℤ t) (sym (at_z x y)) p.2))
+          let x = zero_factor k.x S.first_x h.reduced.first_x (at_x ∙ p.0) in
+          let y = zero_factor k.y S.second_y h.reduced.second_y (at_y x ∙ p.1) in
+          starts_z k x y (positive_factor k.z S.third_z h.reduced.third_z (subst (λ t. pos 0 <ℤ t) (sym (at_z x y)) p.2))
 
 module _ (G : Graph) (g : IsGraph G) (a : ℕ) (T : ℕ → Vector) (S : Stairs) (at : ℕ → ℕ) (H : Graph) (p : IsPart G a T S at H) where
   around : (t s u : Vector) → t ≡ u → minus (plus t s) u ≡ s
@@ -330,19 +330,22 @@ orthogonal_zero d S h c f t o = vector_equal x y z
     z : c.z ≡ pos 0
     z = elim t [
       | inl e ↦ f e
-      | inr e ↦ zero_factor c.z S.i h.reduced.i
-          (sym (row_three c.x c.y c.z S.a S.b S.c S.e S.f S.i) ∙ o (base_sum (stair_base S) (vector (pos 0) (pos 0) (pos 1)))
+      | inr e ↦ zero_factor c.z S.third_z h.reduced.third_z
+          (sym (row_three c.x c.y c.z S.first_x S.first_y S.first_z S.second_y S.second_z S.third_z)
+          ∙ o (base_sum (stair_base S) (vector (pos 0) (pos 0) (pos 1)))
           (sum_member d S h (vector (pos 0) (pos 0) (pos 1)) (λ k. absurd (omega arith))))
     ]
 
     y : c.y ≡ pos 0
-    y = zero_factor c.y S.e h.reduced.e
-        (sym (row_two c.x c.y c.z S.a S.b S.c S.e S.f S.i z) ∙ o (base_sum (stair_base S) (vector (pos 0) (pos 1) (pos 0)))
+    y = zero_factor c.y S.second_y h.reduced.second_y
+        (sym (row_two c.x c.y c.z S.first_x S.first_y S.first_z S.second_y S.second_z S.third_z z)
+        ∙ o (base_sum (stair_base S) (vector (pos 0) (pos 1) (pos 0)))
         (sum_member d S h (vector (pos 0) (pos 1) (pos 0)) (λ k. refl)))
 
     x : c.x ≡ pos 0
-    x = zero_factor c.x S.a h.reduced.a
-        (sym (row_one c.x c.y c.z S.a S.b S.c S.e S.f S.i z y) ∙ o (base_sum (stair_base S) (vector (pos 1) (pos 0) (pos 0)))
+    x = zero_factor c.x S.first_x h.reduced.first_x
+        (sym (row_one c.x c.y c.z S.first_x S.first_y S.first_z S.second_y S.second_z S.third_z z y)
+        ∙ o (base_sum (stair_base S) (vector (pos 1) (pos 0) (pos 0)))
         (sum_member d S h (vector (pos 1) (pos 0) (pos 0)) (λ k. refl)))
 
 -- so a rank below the dimension is not full

@@ -11,7 +11,7 @@ use Rattle.net_components.specs.Ranks.{IsFullAt}
 
 -- the rows of a staircase as the vectors of a basis
 abbrev pub stair_base : Stairs → Base
-stair_base S = record { first = vector S.a S.b S.c; second = vector (pos 0) S.e S.f; third = vector (pos 0) (pos 0) S.i }
+stair_base S = record { first = vector S.first_x S.first_y S.first_z; second = vector (pos 0) S.second_y S.second_z; third = vector (pos 0) (pos 0) S.third_z }
 
 -- a numbering of some vertices: i is the number of at i, and numbers go from 1 to n
 abbrev pub IsNumber : ℕ → ℕ → Type 0

@@ -17,7 +17,7 @@ use quotient_graph::Arc;
 use vecdim::{Staircase, Triple, Vect};
 
 /// The first part past the limit, counted from 1.
-#[derive(Clone, Copy, Debug, PartialEq, Eq)]
+#[derive(Clone, Copy, PartialEq, Eq)]
 pub struct WidePart {
     pub c: u8,
     pub value: i128,

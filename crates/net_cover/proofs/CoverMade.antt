@@ -225,7 +225,7 @@ part_small n z a k p q = search arith
 pub remainder_small : (n d : ℕ) (S : Stairs) (r : Vector) → HasStairShape d S → size_of S ≤ n → IsRemainder d S r → IsWithin n r
 remainder_small n d S r s l h =
     let f = factors_small n S s.reduced l in
-    (part_small n r.x S.a h.low.0 h.high.0 f.0, part_small n r.y S.e h.low.1 h.high.1 f.1, part_small n r.z S.i h.low.2 h.high.2 f.2)
+    (part_small n r.x S.first_x h.low.0 h.high.0 f.0, part_small n r.y S.second_y h.low.1 h.high.1 f.1, part_small n r.z S.third_z h.low.2 h.high.2 f.2)
 
 module _ (d : ℕ) (b : Base) (S : Stairs) (h : IsLatticeOfCell d b S) where
   -- so many remainders

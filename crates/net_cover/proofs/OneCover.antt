@@ -20,7 +20,7 @@ use Rattle.quotient_graph.specs.Order.{arc_numbers}
 -- The lattice of rows has one staircase, so all covers of a graph on a cell have the same edges.
 
 -- the last pivot, read from the rows; in dimension 2 they have no third, and it is 1
-last_pivot : (d : ℕ) (S : Stairs) → (d ≡ 2) ⊎ (d ≡ 3) → HasStairShape d S → (slice_index_or (rows_of d S) 2 up_vector).z ≡ S.i
+last_pivot : (d : ℕ) (S : Stairs) → (d ≡ 2) ⊎ (d ≡ 3) → HasStairShape d S → (slice_index_or (rows_of d S) 2 up_vector).z ≡ S.third_z
 last_pivot d S k l = search arith
 
 -- the staircase of the lattice of rows is one
@@ -31,7 +31,7 @@ one_lattice d b S R dim s r =
     let first = ap (λ (vs : List Vector). slice_index_or vs 0 zero_vector) rows in
     let second = ap (λ (vs : List Vector). slice_index_or vs 1 zero_vector) rows in
     let third = ap (λ (vs : List Vector). slice_index_or vs 2 up_vector) rows in
-    let last : S.i ≡ R.i = sym (last_pivot d S dim s.stair) ∙ ap (λ (v : Vector). v.z) third ∙ last_pivot d R dim r.stair in
+    let last : S.third_z ≡ R.third_z = sym (last_pivot d S dim s.stair) ∙ ap (λ (v : Vector). v.z) third ∙ last_pivot d R dim r.stair in
     λ t. stairs (first t).x (first t).y (first t).z (second t).y (second t).z (last t)
 
 module _ (G H K : Graph) (b : Base) (h : IsCover G b H) (k : IsCover G b K) where

@@ -50,7 +50,8 @@ impl Cell {
         self.dim
     }
 
-    /// What holds of each cell, for a proof that needs it. It does nothing.
+    /// What holds of each cell. A proof knows it only after a call whose contract says so: this
+    /// one, which does nothing.
     pub fn recall(&self)
         ensures { IsWritten self.now }
     {

@@ -70,7 +70,7 @@ fn cover_graph<const D: usize>(
         Err(fault) => return Err(fault),
     };
     let n = vertex_count(g.vertices(), index);
-    match Graph::from_edges(alloc, n, edges) {
+    match Graph::from_unsorted(alloc, n, edges) {
         Ok(cover) => Ok(cover),
         Err(_) => Err(CoverFault::NoMemory),
     }

@@ -11,7 +11,7 @@ use net_report::{Command, NoMemory, push_outcome};
 use std::alloc::Global;
 
 /// The texts of the outcomes of blocks, one after the other, and whether each block was accepted.
-#[derive(Debug, Drop)]
+#[derive(Drop)]
 pub struct Told {
     pub text: Vec<u8>,
     pub all_accepted: bool,

@@ -20,7 +20,7 @@ use quotient_graph::AnyGraph;
 use std::alloc::Global;
 
 /// The lines of the components of a net, and whether it is divided into parts that all have a key.
-#[derive(Debug, Drop)]
+#[derive(Drop)]
 pub struct ToldLines {
     pub accepted: bool,
     pub lines: Items<u8>,

@@ -7,7 +7,7 @@ use std::alloc::Global;
 
 /// The outcomes of blocks or of items under `key`, in their order. Beside each stand kinds of the
 /// classes of its net, where it has one: by them coordination sequences are counted.
-#[derive(Debug, Drop)]
+#[derive(Drop)]
 pub struct KeyedOutcomes<'a> {
     pub outcomes: Outcomes<'a>,
     pub kinds: Vec<Kinds>,

@@ -1,1 +1,1 @@
-mod Troubles
+mod TextFaults

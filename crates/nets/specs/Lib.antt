@@ -1,4 +1,4 @@
 pub mod Refused
 pub mod Texts
-pub mod Troubles
+pub mod TextFaults
 pub mod Words

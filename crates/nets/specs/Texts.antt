@@ -8,8 +8,8 @@ use Rattle.cgd_read.specs.Views.{BlockView, BodyView, Net, RawView}
 use Rattle.least_key.specs.declared.refusal.Refusal.{Refusal}
 use Rattle.least_key.specs.declared.refusal.Refusal.TheVariants as refusal
 use Rattle.nets.specs.Refused.{IsTrueInOrder}
-use Rattle.nets.specs.declared.trouble.Trouble.{Trouble}
-use Rattle.nets.specs.declared.trouble.Trouble.TheVariants.{NoGraph, TooManyBlocks, Refused, NoMemory}
+use Rattle.nets.specs.declared.text_fault.TextFault.{TextFault}
+use Rattle.nets.specs.declared.text_fault.TextFault.TheVariants.{NoGraph, TooManyBlocks, Refused, NoMemory}
 
 -- the graph of a block, or else the later one
 abbrev pub graph_or : BodyView → Option RawView → Option RawView
@@ -40,8 +40,8 @@ pub record IsRefusedIn (text : List ℕ) (refused : Refusal) : Type 0 where
   pub told : refused ≢ refusal.NoMemory
 
 -- why the text gives no net; running out of memory reports nothing
-abbrev pub IsTroubleIn : List ℕ → Trouble → Type 0
-IsTroubleIn text NoGraph = IsFirstIn text None
-IsTroubleIn text TooManyBlocks = most_blocks < length (blocks_of text)
-IsTroubleIn text (Refused refused) = IsRefusedIn text refused
-IsTroubleIn text NoMemory = Unit {0}
+abbrev pub IsTextFaultIn : List ℕ → TextFault → Type 0
+IsTextFaultIn text NoGraph = IsFirstIn text None
+IsTextFaultIn text TooManyBlocks = most_blocks < length (blocks_of text)
+IsTextFaultIn text (Refused refused) = IsRefusedIn text refused
+IsTextFaultIn text NoMemory = Unit {0}

@@ -12,9 +12,9 @@ ghost use Rattle.cgd_read.specs.Views.{raw_view, views};
 ghost use Rattle.least_key.specs.AnyNets.{net_view};
 ghost use Rattle.net_archive.specs.Deciding.{AreBareNamesOf, AreNamesOf};
 ghost use Rattle.nets.specs.Refused.{IsRefusedBy};
-ghost use Rattle.nets.specs.Texts.{IsGraphIn, IsTroubleIn, first_graph};
+ghost use Rattle.nets.specs.Texts.{IsGraphIn, IsTextFaultIn, first_graph};
 
-use crate::{Archive, Matches, Net, RawEdge, Refusal, Trouble};
+use crate::{Archive, Matches, Net, RawEdge, Refusal, TextFault};
 use cgd_read::{Block, Body, RawGraph, blocks};
 use least_key::identify;
 use quotient_graph::{from_raw, from_unsorted};
@@ -61,14 +61,14 @@ fn net_of_raw(alloc: Global, raw: &RawGraph<'_>) -> Result<Net, Refusal>
 
 /// The net of the first graph in a text of PERIODIC_GRAPH blocks, with its key, or why there is
 /// none.
-pub fn net_in(alloc: Global, text: &[u8]) -> Result<Net, Trouble>
+pub fn net_in(alloc: Global, text: &[u8]) -> Result<Net, TextFault>
     requires { length text.now ≤ longest_text }
     ensures net { IfOk result (λ net. IsGraphIn text.now (net_view net).placed.graph) }
-    ensures trouble { IfErr result (IsTroubleIn text.now) }
+    ensures fault { IfErr result (IsTextFaultIn text.now) }
 {
     let found = blocks(alloc, text)?;
     let Some(raw) = first_graph(&found) else {
-        return Err(Trouble::NoGraph);
+        return Err(TextFault::NoGraph);
     };
     let net = net_of_raw(alloc, raw)?;
     Ok(net)

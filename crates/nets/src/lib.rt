@@ -3,7 +3,7 @@
 #![tactic(auto)]
 
 mod calls;
-mod trouble;
+mod text_fault;
 
 pub use calls::{are_isomorphic, names_of, net_in, net_of};
 pub use cgd_read::{Names, normal_edge};
@@ -11,4 +11,4 @@ pub use least_key::{Net, Refusal, keys_of};
 pub use net_archive::{AddFault, Archive, ArchiveFault, MOST_BYTES, Matches};
 pub use net_report::refused_line;
 pub use quotient_graph::{AnyGraph, Key, RawEdge, from_unsorted};
-pub use trouble::Trouble;
+pub use text_fault::TextFault;

@@ -48,12 +48,13 @@ rows_product a b c e f i = simp ring (omega (arith, linear))
 pub stairs_are_basis : (d : ℕ) → (d ≡ 2) ⊎ (d ≡ 3) → (S : Stairs) → HasStairShape d S → IsBasisOf d (basis_of S)
 stairs_are_basis d t S h = record {
   two_or_three = t;
-  independent = λ z. by (factor_zero S.a (S.e *ℤ S.i) (sym (rows_product S.a S.b S.c S.e S.f S.i) ∙ z));
-  first = λ e. (h.flat e).c;
-  second = λ e. (h.flat e).f;
+  independent = λ z. by (factor_zero S.first_x (S.second_y *ℤ S.third_z) (sym
+      (rows_product S.first_x S.first_y S.first_z S.second_y S.second_z S.third_z) ∙ z));
+  first = λ e. (h.flat e).first_z;
+  second = λ e. (h.flat e).second_z;
 }
   where
-    by : (S.a ≡ pos 0) ⊎ (S.e *ℤ S.i ≡ pos 0) → ⊥
+    by : (S.first_x ≡ pos 0) ⊎ (S.second_y *ℤ S.third_z ≡ pos 0) → ⊥
     by k = search (arith, positive_is_some, factor_zero)
 
 -- A class graph whose lists of arcs are written in coordinates, one after the other.

@@ -23,7 +23,7 @@ AreWithinUnits arcs = All (λ (a : ClassArc). IsWithin most_units a.vector) arcs
 
 -- the rows of a staircase as a basis; in dimension 2 the third row is (0, 0, 1)
 abbrev pub basis_of : Stairs → Base
-basis_of S = record { first = vector S.a S.b S.c; second = vector (pos 0) S.e S.f; third = vector (pos 0) (pos 0) S.i }
+basis_of S = record { first = vector S.first_x S.first_y S.first_z; second = vector (pos 0) S.second_y S.second_z; third = vector (pos 0) (pos 0) S.third_z }
 
 -- the arc has a vector of dimension d, within the limit of coordinates
 pub record IsProperly (d : ℕ) (a : ClassArc) : Type 0 where

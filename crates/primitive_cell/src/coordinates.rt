@@ -6,7 +6,7 @@ ghost use Rattle.key_theory.specs.Coordinates.{arc_by_basis, AreCoordinates};
 ghost use Rattle.primitive_cell.specs.Lattices.{basis_of, AreInside, AreWithinUnits, IsInCoordinates, IsInside};
 
 use crate::NoMemory;
-use crate::lattice::lattice_of;
+use crate::lattice::arc_lattice;
 use quotient_graph::{ClassArc, ClassGraph, Classes};
 use std::alloc::Global;
 use vecdim::Staircase;
@@ -59,7 +59,7 @@ pub fn in_coordinates<const D: usize>(
 {
     let net = classes.net();
     let count = net.count();
-    let lattice = lattice_of(net, bound);
+    let lattice = arc_lattice(net, bound);
     lattice.recall();
     let mut stars = Vec::with_capacity(alloc, count as usize)?;
     for c in 1..count + 1 {

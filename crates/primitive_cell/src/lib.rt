@@ -5,7 +5,6 @@ mod coordinates;
 mod dividing;
 mod edges;
 mod lattice;
-mod lattices;
 mod places;
 mod prim_edge;
 mod primitive;

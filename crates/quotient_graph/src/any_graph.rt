@@ -70,7 +70,7 @@ fn graph_from<const D: usize>(
     ensures { IfOk result (IsInOrder (graph_with D n (map edge_of edges.now))) }
 {
     let edges = edges_of(alloc, edges)?;
-    Graph::from_edges(alloc, n, edges)
+    Graph::from_unsorted(alloc, n, edges)
 }
 
 /// The graph with n vertices and these edges, which stand in any order.

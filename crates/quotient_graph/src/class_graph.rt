@@ -59,7 +59,8 @@ impl<const D: usize> ClassGraph<D> {
         self.stars.len() as u32
     }
 
-    /// What holds of each class graph in memory, for a proof that needs it. It does nothing.
+    /// What holds of each class graph in memory. A proof knows it only after a call whose contract
+    /// says so: this one, which does nothing.
     pub fn recall(&self)
         ensures dimension { self.now.dimension ≡ D }
         ensures small { IsSmallNet self.now }

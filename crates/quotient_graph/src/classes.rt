@@ -62,7 +62,8 @@ impl<const D: usize> Classes<D> {
         }
     }
 
-    /// What holds of each set of classes in memory, for a proof that needs it. It does nothing.
+    /// What holds of each set of classes in memory. A proof knows it only after a call whose
+    /// contract says so: this one, which does nothing.
     pub fn recall(&self)
         ensures classes { AreClasses self.now }
         ensures is_graph { IsGraph self.now.graph }

@@ -57,7 +57,7 @@ impl<const D: usize> Graph<D> {
     }
 
     /// The graph with n vertices and these edges, which stand in any order.
-    pub fn from_edges(alloc: Global, n: u32, edges: Vec<Arc<D>>) -> Result<Graph<D>, NoMemory>
+    pub fn from_unsorted(alloc: Global, n: u32, edges: Vec<Arc<D>>) -> Result<Graph<D>, NoMemory>
         requires is_graph { IsGraph (graph_with D n edges.items) }
         requires small { IsSmall (graph_with D n edges.items) }
         ensures { IfOk result (IsInOrder (graph_with D n edges.entry.items)) }
@@ -78,7 +78,8 @@ impl<const D: usize> Graph<D> {
         D as u8
     }
 
-    /// What holds of each graph in memory, for a proof that needs it. It does nothing.
+    /// What holds of each graph in memory. A proof knows it only after a call whose contract says
+    /// so: this one, which does nothing.
     pub fn recall(&self)
         ensures parameter { self.now.dimension ≡ D }
         ensures two_or_three { (D ≡ 2) ⊎ (D ≡ 3) }

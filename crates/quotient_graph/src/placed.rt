@@ -83,7 +83,8 @@ impl<const D: usize> Placed<D> {
         &self.graph
     }
 
-    /// What holds of each placed graph in memory, for a proof that needs it. It does nothing.
+    /// What holds of each placed graph in memory. A proof knows it only after a call whose contract
+    /// says so: this one, which does nothing.
     pub fn recall(&self)
         ensures is_graph { IsGraph self.now.graph }
         ensures small { IsSmall self.now.graph }

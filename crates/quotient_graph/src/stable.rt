@@ -40,7 +40,8 @@ impl<const D: usize> Stable<D> {
         &self.placed
     }
 
-    /// What holds of each stable graph in memory, for a proof that needs it. It does nothing.
+    /// What holds of each stable graph in memory. A proof knows it only after a call whose contract
+    /// says so: this one, which does nothing.
     pub fn recall(&self)
         ensures is_graph { IsGraph self.now.graph }
         ensures small { IsSmall self.now.graph }

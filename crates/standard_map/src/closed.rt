@@ -1,5 +1,5 @@
 // Closed walks whose shifts are independent.
-ghost use Rattle.std.specs.Prelude.{◌≡◌, ◌≢◌, ◌*◌, pos, None, All, Contains, IfSome, IsTrue, ◌↔◌};
+ghost use Rattle.std.specs.Prelude.{◌≡◌, ◌≢◌, ◌*◌, pos, None, All, Contains, IfSome};
 ghost use Rattle.integers.specs.Vectors.{zero_vector, cross, dot, HasDimension, IsWithin};
 ghost use Rattle.periodic_net.specs.Limits.{most_closed};
 ghost use Rattle.standard_map.specs.CellBounds.{most_minor};
@@ -14,22 +14,6 @@ use vecdim::{Triple, Vect};
 pub struct Carried {
     pub shifts: Cells,
     pub images: Cells,
-}
-
-// Whether two vectors are on one line.
-fn is_parallel<const D: usize>(v: &Vect<D>, w: &Vect<D>) -> bool
-    ensures { IsTrue result ↔ (cross v.now w.now ≡ zero_vector) }
-{
-    v.to_triple().cross(&w.to_triple()).is_zero()
-}
-
-// Whether a vector is orthogonal to c.
-fn is_orthogonal<const D: usize>(c: &Triple, v: &Vect<D>) -> bool
-    requires c { IsWithin most_minor c.now }
-    requires v { IsWithin most_closed v.now }
-    ensures { IsTrue result ↔ (dot c.now v.now ≡ pos 0) }
-{
-    c.dot(&v.to_triple()) == 0
 }
 
 // The first turn whose shift is not 0.
@@ -53,7 +37,7 @@ fn first_apart<const D: usize>(turns: &[Turn<D>], v: &Vect<D>) -> Option<Turn<D>
     ensures none { result ≡ None → All (λ t. cross v.now t.shift ≡ zero_vector) turns.now }
 {
     for turn in turns {
-        if !is_parallel(v, &turn.shift) {
+        if !v.is_parallel(&turn.shift) {
             return Some(*turn);
         }
     }
@@ -69,7 +53,7 @@ fn first_off<const D: usize>(turns: &[Turn<D>], c: &Triple) -> Option<Turn<D>>
     ensures none { result ≡ None → All (λ t. dot c.now t.shift ≡ pos 0) turns.now }
 {
     for turn in turns {
-        if !is_orthogonal(c, &turn.shift) {
+        if !turn.shift.is_orthogonal(c) {
             return Some(*turn);
         }
     }

@@ -97,21 +97,21 @@ pub from_zero : (n : ℕ) → pos 0 ≤ℤ pos n
 from_zero n = omega (arith, ints)
 
 module _ (d : ℕ) (S : Stairs) (s : HasStairShape d S) where
-  second_positive : 1 ≤ unsigned_abs S.e
-  second_positive = size_positive S.e s.reduced.e
+  second_positive : 1 ≤ unsigned_abs S.second_y
+  second_positive = size_positive S.second_y s.reduced.second_y
 
-  third_positive : 1 ≤ unsigned_abs S.i
-  third_positive = size_positive S.i s.reduced.i
+  third_positive : 1 ≤ unsigned_abs S.third_z
+  third_positive = size_positive S.third_z s.reduced.third_z
 
   module _ (r : Vector) (q : IsRemainder d S r) where
-    x_part : (r.x ≡ pos (unsigned_abs r.x)) × (unsigned_abs r.x < unsigned_abs S.a)
-    x_part = natural_part r.x S.a q.low.0 q.high.0
+    x_part : (r.x ≡ pos (unsigned_abs r.x)) × (unsigned_abs r.x < unsigned_abs S.first_x)
+    x_part = natural_part r.x S.first_x q.low.0 q.high.0
 
-    y_part : (r.y ≡ pos (unsigned_abs r.y)) × (unsigned_abs r.y < unsigned_abs S.e)
-    y_part = natural_part r.y S.e q.low.1 q.high.1
+    y_part : (r.y ≡ pos (unsigned_abs r.y)) × (unsigned_abs r.y < unsigned_abs S.second_y)
+    y_part = natural_part r.y S.second_y q.low.1 q.high.1
 
-    z_part : (r.z ≡ pos (unsigned_abs r.z)) × (unsigned_abs r.z < unsigned_abs S.i)
-    z_part = natural_part r.z S.i q.low.2 q.high.2
+    z_part : (r.z ≡ pos (unsigned_abs r.z)) × (unsigned_abs r.z < unsigned_abs S.third_z)
+    z_part = natural_part r.z S.third_z q.low.2 q.high.2
 
     -- the number of a remainder is below the size
     pub remainder_number_below : number_of S r < size_of S
@@ -133,14 +133,15 @@ pub remainders_numbered : RemaindersAreNumbered
 remainders_numbered d S s = are_numbered d S s
 
 -- a factor of a product of positive numbers is at most the product
-pub factors_small : (n : ℕ) (S : Stairs) → IsReducedStair S → size_of S ≤ n → (unsigned_abs S.a ≤ n) × (unsigned_abs S.e ≤ n) × (unsigned_abs S.i ≤ n)
+pub factors_small : (n : ℕ) (S : Stairs) → IsReducedStair S → size_of S ≤ n → (unsigned_abs S.first_x ≤ n) × (unsigned_abs S.second_y ≤ n)
+    × (unsigned_abs S.third_z ≤ n)
 factors_small n S r l =
-    let a = size_positive S.a r.a in let e = size_positive S.e r.e in let i = size_positive S.i r.i in
-    let ei = product_positive (unsigned_abs S.e) (unsigned_abs S.i) e i in
-    let m = at_most_product (unsigned_abs S.a) (unsigned_abs S.e * unsigned_abs S.i) ei in
-    let k = at_least_product (unsigned_abs S.a) (unsigned_abs S.e * unsigned_abs S.i) a in
-    let p = at_most_product (unsigned_abs S.e) (unsigned_abs S.i) i in
-    let q = at_least_product (unsigned_abs S.e) (unsigned_abs S.i) e in
+    let a = size_positive S.first_x r.first_x in let e = size_positive S.second_y r.second_y in let i = size_positive S.third_z r.third_z in
+    let ei = product_positive (unsigned_abs S.second_y) (unsigned_abs S.third_z) e i in
+    let m = at_most_product (unsigned_abs S.first_x) (unsigned_abs S.second_y * unsigned_abs S.third_z) ei in
+    let k = at_least_product (unsigned_abs S.first_x) (unsigned_abs S.second_y * unsigned_abs S.third_z) a in
+    let p = at_most_product (unsigned_abs S.second_y) (unsigned_abs S.third_z) i in
+    let q = at_least_product (unsigned_abs S.second_y) (unsigned_abs S.third_z) e in
     (omega (arith, m, l), omega (arith, k, p, l), omega (arith, k, q, l))
   where
     at_most_product : (a b : ℕ) → 1 ≤ b → a ≤ a * b
@@ -158,7 +159,7 @@ pub below_most : {n : ℕ} (p : ℕ) (z a : ℤ) → pos p ≡ z → z <ℤ a �
 below_most {n} p z a e l m = omega (arith, ints, e, l, m)
 
 -- the number, from the parts
-pub number_of_digits : (d : ℕ) (S : Stairs) (v : Vector) (p q s e i n : ℕ) → HasDigits d S v p q s → e ≡ unsigned_abs S.e → i ≡ unsigned_abs S.i
+pub number_of_digits : (d : ℕ) (S : Stairs) (v : Vector) (p q s e i n : ℕ) → HasDigits d S v p q s → e ≡ unsigned_abs S.second_y → i ≡ unsigned_abs S.third_z
     → n ≡ p * (e * i) + (q * i + s) → HasNumber d S v n
 number_of_digits d S v p q s e i n h f g k = search (arith, size_of_part)
 
@@ -181,8 +182,8 @@ back_z v r p c f i k l n g h = omega (arith, linear, g, simp ring at h)
 -- the residue of a vector that has a remainder
 unfoldable pub residue_of : (d : ℕ) (S : Stairs) (v r : Vector) → IsRemainder d S r → InStairs S (minus v r) → Residue S v
 residue_of d S v r h m =
-    let x = natural_part r.x S.a h.low.0 h.high.0 in let y = natural_part r.y S.e h.low.1 h.high.1 in
-    let z = natural_part r.z S.i h.low.2 h.high.2 in
+    let x = natural_part r.x S.first_x h.low.0 h.high.0 in let y = natural_part r.y S.second_y h.low.1 h.high.1 in
+    let z = natural_part r.z S.third_z h.low.2 h.high.2 in
     record {
       p = unsigned_abs r.x;
       q = unsigned_abs r.y;
@@ -193,9 +194,9 @@ residue_of d S v r h m =
       p_below = x.1;
       q_below = y.1;
       s_below = z.1;
-      x = back_x v.x r.x (pos (unsigned_abs r.x)) S.a m.k x.0 m.x;
-      y = back_y v.y r.y (pos (unsigned_abs r.y)) S.b S.e m.k m.l y.0 m.y;
-      z = back_z v.z r.z (pos (unsigned_abs r.z)) S.c S.f S.i m.k m.l m.n z.0 m.z;
+      x = back_x v.x r.x (pos (unsigned_abs r.x)) S.first_x m.k x.0 m.x;
+      y = back_y v.y r.y (pos (unsigned_abs r.y)) S.first_y S.second_y m.k m.l y.0 m.y;
+      z = back_z v.z r.z (pos (unsigned_abs r.z)) S.first_z S.second_z S.third_z m.k m.l m.n z.0 m.z;
     }
 
 -- what is taken off, part by part
@@ -218,29 +219,33 @@ flat_again d v r h g e = search arith
 some_remainder : (d : ℕ) (S : Stairs) (v : Vector) → HasStairShape d S → HasDimension d v → (r : Vector) × IsRemainderOf d S v r
 some_remainder d S v s f =
     let t = residue S (shape_pivots d S s) v in let r = vector (pos t.p) (pos t.q) (pos t.s) in
-    let flat : HasDimension d r = λ e. last t.s (ap unsigned_abs ((s.flat e).i)) t.s_below in (
+    let flat : HasDimension d r = λ e. last t.s (ap unsigned_abs ((s.flat e).third_z)) t.s_below in (
       r,
       record {
         remainder = record {
           dimension = flat;
           low = (from_zero t.p, from_zero t.q, from_zero t.s);
-          high = (below_pivot t.p S.a s.reduced.a t.p_below, below_pivot t.q S.e s.reduced.e t.q_below, below_pivot t.s S.i s.reduced.i t.s_below);
+          high = (
+            below_pivot t.p S.first_x s.reduced.first_x t.p_below,
+            below_pivot t.q S.second_y s.reduced.second_y t.q_below,
+            below_pivot t.s S.third_z s.reduced.third_z t.s_below,
+          );
         };
         difference = (
           record {
             k = t.k;
             l = t.l;
             n = t.n;
-            x = off_x v.x (pos t.p) S.a t.k t.x;
-            y = off_y v.y (pos t.q) S.e t.l S.b t.k t.y;
-            z = off_z v.z (pos t.s) S.i t.n S.f t.l S.c t.k t.z;
+            x = off_x v.x (pos t.p) S.first_x t.k t.x;
+            y = off_y v.y (pos t.q) S.second_y t.l S.first_y t.k t.y;
+            z = off_z v.z (pos t.s) S.third_z t.n S.second_z t.l S.first_z t.k t.z;
           },
           minus_dimension d v r f flat,
         );
       },
     )
   where
-    last : (n : ℕ) → unsigned_abs S.i ≡ 1 → n < unsigned_abs S.i → pos n ≡ pos 0
+    last : (n : ℕ) → unsigned_abs S.third_z ≡ 1 → n < unsigned_abs S.third_z → pos n ≡ pos 0
     last n e l = ap pos (omega (arith, e, l))
 
 module _ (d : ℕ) (S : Stairs) (v w r s : Vector) (h : IsRemainderOf d S v r) (g : IsRemainderOf d S w s) where
@@ -260,9 +265,9 @@ module _ (d : ℕ) (S : Stairs) (v w r s : Vector) (h : IsRemainderOf d S v r) (
       let e = residue_of_member S v w (residue_of d S v r h.remainder h.difference.0) (residue_of d S w s g.remainder g.difference.0) m.0 in
       let a = h.remainder in let b = g.remainder in
       vector_equal
-      ((natural_part r.x S.a a.low.0 a.high.0).0 ∙ ap pos e.p ∙ sym (natural_part s.x S.a b.low.0 b.high.0).0)
-      ((natural_part r.y S.e a.low.1 a.high.1).0 ∙ ap pos e.q ∙ sym (natural_part s.y S.e b.low.1 b.high.1).0)
-      ((natural_part r.z S.i a.low.2 a.high.2).0 ∙ ap pos e.s ∙ sym (natural_part s.z S.i b.low.2 b.high.2).0)
+      ((natural_part r.x S.first_x a.low.0 a.high.0).0 ∙ ap pos e.p ∙ sym (natural_part s.x S.first_x b.low.0 b.high.0).0)
+      ((natural_part r.y S.second_y a.low.1 a.high.1).0 ∙ ap pos e.q ∙ sym (natural_part s.y S.second_y b.low.1 b.high.1).0)
+      ((natural_part r.z S.third_z a.low.2 a.high.2).0 ∙ ap pos e.s ∙ sym (natural_part s.z S.third_z b.low.2 b.high.2).0)
 
 -- the remainders determine the classes
 pub tell_classes : RemaindersTellClasses

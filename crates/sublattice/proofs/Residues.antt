@@ -41,9 +41,9 @@ same_remainder m r s d h k e = search (arith, same_quotient, pos_same)
 
 -- no pivot is 0
 pub record HasPivots (S : Stairs) : Type 0 where
-  pub a : S.a ≢ pos 0
-  pub e : S.e ≢ pos 0
-  pub i : S.i ≢ pos 0
+  pub first_x : S.first_x ≢ pos 0
+  pub second_y : S.second_y ≢ pos 0
+  pub third_z : S.third_z ≢ pos 0
 
 -- a term brought to the other side
 brought : (a b c : ℤ) → a -ℤ b ≡ c → a ≡ c +ℤ b
@@ -56,8 +56,8 @@ brought_two a b c d e = omega (arith, linear, e)
 -- each vector is such a sum
 pub residue : (S : Stairs) → HasPivots S → (w : Vector) → Residue S w
 residue S h w =
-    let x = dividing S.a w.x h.a in let y = dividing S.e (w.y -ℤ S.b *ℤ x.k) h.e in
-    let z = dividing S.i (w.z -ℤ S.f *ℤ y.k -ℤ S.c *ℤ x.k) h.i in
+    let x = dividing S.first_x w.x h.first_x in let y = dividing S.second_y (w.y -ℤ S.first_y *ℤ x.k) h.second_y in
+    let z = dividing S.third_z (w.z -ℤ S.second_z *ℤ y.k -ℤ S.first_z *ℤ x.k) h.third_z in
     record {
       p = x.r;
       q = y.r;
@@ -69,8 +69,8 @@ residue S h w =
       q_below = y.below;
       s_below = z.below;
       x = x.is;
-      y = brought w.y (S.b *ℤ x.k) (pos y.r +ℤ S.e *ℤ y.k) y.is;
-      z = brought_two w.z (S.f *ℤ y.k) (S.c *ℤ x.k) (pos z.r +ℤ S.i *ℤ z.k) z.is;
+      y = brought w.y (S.first_y *ℤ x.k) (pos y.r +ℤ S.second_y *ℤ y.k) y.is;
+      z = brought_two w.z (S.second_z *ℤ y.k) (S.first_z *ℤ x.k) (pos z.r +ℤ S.third_z *ℤ z.k) z.is;
     }
 
 -- equal sums, with the terms of the quotients on one side, where the later terms are equal
@@ -94,10 +94,11 @@ pub record SameResidue {S : Stairs} {v w : Vector} (r : Residue S v) (t : Residu
 -- it is so
 pub residue_once : (S : Stairs) (w : Vector) (r t : Residue S w) → SameResidue r t
 residue_once S w r t =
-    let x = same_remainder S.a r.p t.p (t.k -ℤ r.k) r.p_below t.p_below (simp ring (omega (arith, linear, r.x, t.x))) in
-    let y = same_remainder S.e r.q t.q (t.l -ℤ r.l) r.q_below t.q_below (second_side w.y (pos r.q) (pos t.q) S.e S.b r.k t.k r.l t.l x.1 r.y t.y) in
-    let z = same_remainder S.i r.s t.s (t.n -ℤ r.n) r.s_below t.s_below
-    (third_side w.z (pos r.s) (pos t.s) S.i r.n t.n S.f r.l t.l S.c r.k t.k x.1 y.1 r.z t.z) in
+    let x = same_remainder S.first_x r.p t.p (t.k -ℤ r.k) r.p_below t.p_below (simp ring (omega (arith, linear, r.x, t.x))) in
+    let y = same_remainder S.second_y r.q t.q (t.l -ℤ r.l) r.q_below t.q_below (second_side w.y (pos r.q)
+    (pos t.q) S.second_y S.first_y r.k t.k r.l t.l x.1 r.y t.y) in
+    let z = same_remainder S.third_z r.s t.s (t.n -ℤ r.n) r.s_below t.s_below
+    (third_side w.z (pos r.s) (pos t.s) S.third_z r.n t.n S.second_z r.l t.l S.first_z r.k t.k x.1 y.1 r.z t.z) in
     record { p = x.0; q = y.0; s = z.0 }
 
 -- vectors with one residue differ by a member of the lattice
@@ -106,9 +107,10 @@ member_of_residue S v w r t h = record {
   k = r.k -ℤ t.k;
   l = r.l -ℤ t.l;
   n = r.n -ℤ t.n;
-  x = simp ring (omega (arith, linear, r.x ∙ ap (λ (u : ℕ). pos u +ℤ S.a *ℤ r.k) h.p, t.x));
-  y = simp ring (omega (arith, linear, r.y ∙ ap (λ (u : ℕ). pos u +ℤ S.e *ℤ r.l +ℤ S.b *ℤ r.k) h.q, t.y));
-  z = simp ring (omega (arith, linear, r.z ∙ ap (λ (u : ℕ). pos u +ℤ S.i *ℤ r.n +ℤ S.f *ℤ r.l +ℤ S.c *ℤ r.k) h.s, t.z));
+  x = simp ring (omega (arith, linear, r.x ∙ ap (λ (u : ℕ). pos u +ℤ S.first_x *ℤ r.k) h.p, t.x));
+  y = let e = r.y ∙ ap (λ (u : ℕ). pos u +ℤ S.second_y *ℤ r.l +ℤ S.first_y *ℤ r.k) h.q in simp ring (omega (arith, linear, simp ring at e, simp ring at t.y));
+  z = let e = r.z ∙ ap (λ (u : ℕ). pos u +ℤ S.third_z *ℤ r.n +ℤ S.second_z *ℤ r.l +ℤ S.first_z *ℤ r.k) h.s in
+      simp ring (omega (arith, linear, simp ring at e, simp ring at t.z));
 }
 
 -- a vector that differs by a member has the same residue
@@ -124,8 +126,8 @@ moved_residue S v w m t = record {
   q_below = t.q_below;
   s_below = t.s_below;
   x = simp ring (omega (arith, linear, simp ring at m.x, t.x));
-  y = simp ring (omega (arith, linear, simp ring at m.y, t.y));
-  z = simp ring (omega (arith, linear, simp ring at m.z, t.z));
+  y = simp ring (omega (arith, linear, simp ring at m.y, simp ring at t.y));
+  z = simp ring (omega (arith, linear, simp ring at m.z, simp ring at t.z));
 }
 
 -- vectors that differ by a member of the lattice have one residue
@@ -170,7 +172,7 @@ abbrev pub vector_of : Three → Vector
 vector_of t = vector (pos t.left) (pos t.right.left) (pos t.right.right)
 
 -- three numbers below the pivots are their own residue
-abbrev own_residue : (S : Stairs) (t : Three) → AreBelow (unsigned_abs S.a) (unsigned_abs S.e) (unsigned_abs S.i) t → Residue S (vector_of t)
+abbrev own_residue : (S : Stairs) (t : Three) → AreBelow (unsigned_abs S.first_x) (unsigned_abs S.second_y) (unsigned_abs S.third_z) t → Residue S (vector_of t)
 own_residue S t h = record {
   p = t.left;
   q = t.right.left;
@@ -187,11 +189,12 @@ own_residue S t h = record {
 }
 
 -- the vectors up to the lattice are numbered below the product of the pivots
-pub stair_numbers : (S : Stairs) → HasPivots S → Numbering IsAny (DifferBy (InStairs S)) (unsigned_abs S.a * (unsigned_abs S.e * unsigned_abs S.i))
+pub stair_numbers : (S : Stairs) → HasPivots S → Numbering IsAny (DifferBy (InStairs S)) (unsigned_abs S.first_x *
+    (unsigned_abs S.second_y * unsigned_abs S.third_z))
 stair_numbers S h =
-    along IsAny (DifferBy (InStairs S)) (AreBelow (unsigned_abs S.a) (unsigned_abs S.e) (unsigned_abs S.i)) AreSame
-    (unsigned_abs S.a * (unsigned_abs S.e * unsigned_abs S.i))
-    (threes (unsigned_abs S.a) (unsigned_abs S.e) (unsigned_abs S.i)) (λ w. numbers_of S w (residue S h w))
+    along IsAny (DifferBy (InStairs S)) (AreBelow (unsigned_abs S.first_x) (unsigned_abs S.second_y) (unsigned_abs S.third_z)) AreSame
+    (unsigned_abs S.first_x * (unsigned_abs S.second_y * unsigned_abs S.third_z))
+    (threes (unsigned_abs S.first_x) (unsigned_abs S.second_y) (unsigned_abs S.third_z)) (λ w. numbers_of S w (residue S h w))
     (record {
       into = λ w _. let r = residue S h w in record { left = r.p_below; right = record { left = r.q_below; right = r.s_below } };
       once = λ v w _ _ e. member_of_residue S v w (residue S h v) (residue S h w) (record { p = e.left; q = e.right.left; s = e.right.right });

@@ -21,12 +21,17 @@ second_not_zero a b n e = let u = ap (λ (z : ℤ). a *ℤ z) e in n (u ∙ omeg
 -- the pivots of the stair of such rows
 pivots : (R : Rows) → product_of R ≢ pos 0 → (s : StairOf R) → HasPivots s.stair
 pivots R n s =
-    let m : s.stair.a *ℤ (s.stair.e *ℤ s.stair.i) ≢ pos 0 = λ e. n (s.product ∙ e) in
-    let k = second_not_zero s.stair.a (s.stair.e *ℤ s.stair.i) m in
-    record { a = first_not_zero s.stair.a (s.stair.e *ℤ s.stair.i) m; e = first_not_zero s.stair.e s.stair.i k; i = second_not_zero s.stair.e s.stair.i k }
+    let m : s.stair.first_x *ℤ (s.stair.second_y *ℤ s.stair.third_z) ≢ pos 0 = λ e. n (s.product ∙ e) in
+    let k = second_not_zero s.stair.first_x (s.stair.second_y *ℤ s.stair.third_z) m in
+    record {
+      first_x = first_not_zero s.stair.first_x (s.stair.second_y *ℤ s.stair.third_z) m;
+      second_y = first_not_zero s.stair.second_y s.stair.third_z k;
+      third_z = second_not_zero s.stair.second_y s.stair.third_z k;
+    }
 
 -- their product
-pivot_product : (R : Rows) (s : StairOf R) → unsigned_abs s.stair.a * (unsigned_abs s.stair.e * unsigned_abs s.stair.i) ≡ unsigned_abs (product_of R)
+pivot_product : (R : Rows) (s : StairOf R) → unsigned_abs s.stair.first_x * (unsigned_abs s.stair.second_y * unsigned_abs s.stair.third_z)
+    ≡ unsigned_abs (product_of R)
 pivot_product R s = search (arith, unsigned_abs-mul)
 
 -- a numbering holds of a relation with the same members
@@ -46,7 +51,8 @@ renumbered P R S n m a e h = subst (Numbering P S) e (record {
 pub row_numbers : (R : Rows) → product_of R ≢ pos 0 → Numbering IsAny (DifferBy (InRows R)) (unsigned_abs (product_of R))
 row_numbers R n =
     let s = stair_of R in
-    renumbered IsAny (DifferBy (InStairs s.stair)) (DifferBy (InRows R)) (unsigned_abs s.stair.a * (unsigned_abs s.stair.e * unsigned_abs s.stair.i))
+    renumbered IsAny (DifferBy (InStairs s.stair)) (DifferBy (InRows R))
+    (unsigned_abs s.stair.first_x * (unsigned_abs s.stair.second_y * unsigned_abs s.stair.third_z))
     (unsigned_abs (product_of R))
     (stair_numbers s.stair (pivots R n s)) (pivot_product R s) (λ x y p q. (s.back (minus x y), s.out (minus x y)))
 
@@ -123,7 +129,11 @@ class_numbers d b (inr e) = subst (Numbered b) (sym e) (λ _. full_numbers b)
 
 -- the pivots of a staircase
 pub shape_pivots : (d : ℕ) (S : Stairs) → HasStairShape d S → HasPivots S
-shape_pivots d S h = record { a = positive_is_some S.a h.reduced.a; e = positive_is_some S.e h.reduced.e; i = positive_is_some S.i h.reduced.i }
+shape_pivots d S h = record {
+  first_x = positive_is_some S.first_x h.reduced.first_x;
+  second_y = positive_is_some S.second_y h.reduced.second_y;
+  third_z = positive_is_some S.third_z h.reduced.third_z;
+}
 
 -- the last part of a vector, and 0 times numbers
 level_third : (z c f i : ℤ) → i ≡ pos 1 → pos 0 -ℤ z ≡ pos 0 *ℤ c +ℤ pos 0 *ℤ f +ℤ (pos 0 -ℤ z) *ℤ i
@@ -137,32 +147,35 @@ level S h y = record {
   n = pos 0 -ℤ y.z;
   x = simp ring (omega (arith, linear));
   y = simp ring (omega (arith, linear));
-  z = level_third y.z S.c S.f S.i h.i;
+  z = level_third y.z S.first_z S.second_z S.third_z h.third_z;
 }
 
 -- the numbers of the pivots, for the vectors of dimension 2
-flat_stair : (S : Stairs) → HasStairShape 2 S → Numbering (HasDimension 2) (DifferBy (InStairs S)) (unsigned_abs S.a * (unsigned_abs S.e * unsigned_abs S.i))
+flat_stair : (S : Stairs) → HasStairShape 2 S → Numbering (HasDimension 2) (DifferBy (InStairs S))
+    (unsigned_abs S.first_x * (unsigned_abs S.second_y * unsigned_abs S.third_z))
 flat_stair S h =
-    along (HasDimension 2) (DifferBy (InStairs S)) IsAny (DifferBy (InStairs S)) (unsigned_abs S.a * (unsigned_abs S.e * unsigned_abs S.i))
+    along (HasDimension 2) (DifferBy (InStairs S)) IsAny (DifferBy (InStairs S)) (unsigned_abs S.first_x * (unsigned_abs S.second_y * unsigned_abs S.third_z))
     (stair_numbers S (shape_pivots 2 S h)) (λ w. w)
     (record { into = λ _ _. tt; once = λ v w p q i. i }) (λ v w _ _ i. i) (λ y. vector y.x y.y (pos 0)) (λ _ _ _. refl) (λ y _. level S (h.flat refl) y)
 
 -- and of dimension 3
-full_stair : (S : Stairs) → HasStairShape 3 S → Numbering (HasDimension 3) (DifferBy (InStairs S)) (unsigned_abs S.a * (unsigned_abs S.e * unsigned_abs S.i))
+full_stair : (S : Stairs) → HasStairShape 3 S → Numbering (HasDimension 3) (DifferBy (InStairs S))
+    (unsigned_abs S.first_x * (unsigned_abs S.second_y * unsigned_abs S.third_z))
 full_stair S h =
     let a = stair_numbers S (shape_pivots 3 S h) in
-    along (HasDimension 3) (DifferBy (InStairs S)) IsAny (DifferBy (InStairs S)) (unsigned_abs S.a * (unsigned_abs S.e * unsigned_abs S.i)) a (λ w. w)
+    along (HasDimension 3) (DifferBy (InStairs S)) IsAny (DifferBy (InStairs S))
+    (unsigned_abs S.first_x * (unsigned_abs S.second_y * unsigned_abs S.third_z)) a (λ w. w)
     (record { into = λ _ _. tt; once = λ v w p q i. i }) (λ v w _ _ i. i) (λ y. y) (λ _ _ e. absurd (omega arith)) (λ y _. a.same y y tt tt refl)
 
 -- the product of the pivots
 pub pivots_multiply : (d : ℕ) (S : Stairs) (b : Base) → (d ≡ 2) ⊎ (d ≡ 3) → HasStairShape d S → AreFlat d b → determinant d b ≢ pos 0 → HasMembersOf d S b
-    → unsigned_abs S.a * (unsigned_abs S.e * unsigned_abs S.i) ≡ unsigned_abs (determinant d b)
+    → unsigned_abs S.first_x * (unsigned_abs S.second_y * unsigned_abs S.third_z) ≡ unsigned_abs (determinant d b)
 pivots_multiply d S b c h f n same =
-    let size = unsigned_abs S.a * (unsigned_abs S.e * unsigned_abs S.i) in
+    let size = unsigned_abs S.first_x * (unsigned_abs S.second_y * unsigned_abs S.third_z) in
     one_size (HasDimension d) (DifferBy (IsCombination d b)) size (unsigned_abs (determinant d b))
     (renumbered (HasDimension d) (DifferBy (InStairs S)) (DifferBy (IsCombination d b)) size size (shaped c h) refl
     (λ x y p q. same (minus x y) (minus_dimension d x y p q))) (class_numbers d b c f n)
   where
     shaped : (d ≡ 2) ⊎ (d ≡ 3) → HasStairShape d S → Numbering (HasDimension d) (DifferBy (InStairs S))
-        (unsigned_abs S.a * (unsigned_abs S.e * unsigned_abs S.i))
+        (unsigned_abs S.first_x * (unsigned_abs S.second_y * unsigned_abs S.third_z))
     shaped h k = search (arith, flat_stair, full_stair)

@@ -11,9 +11,9 @@ pub record Residue (S : Stairs) (w : Vector) : Type 0 where
   pub k : ℤ
   pub l : ℤ
   pub n : ℤ
-  pub p_below : p < unsigned_abs S.a
-  pub q_below : q < unsigned_abs S.e
-  pub s_below : s < unsigned_abs S.i
-  pub x : w.x ≡ pos p +ℤ S.a *ℤ k
-  pub y : w.y ≡ pos q +ℤ S.e *ℤ l +ℤ S.b *ℤ k
-  pub z : w.z ≡ pos s +ℤ S.i *ℤ n +ℤ S.f *ℤ l +ℤ S.c *ℤ k
+  pub p_below : p < unsigned_abs S.first_x
+  pub q_below : q < unsigned_abs S.second_y
+  pub s_below : s < unsigned_abs S.third_z
+  pub x : w.x ≡ pos p +ℤ S.first_x *ℤ k
+  pub y : w.y ≡ pos q +ℤ S.second_y *ℤ l +ℤ S.first_y *ℤ k
+  pub z : w.z ≡ pos s +ℤ S.third_z *ℤ n +ℤ S.second_z *ℤ l +ℤ S.first_z *ℤ k

@@ -23,8 +23,8 @@ struct Pivots {
 }
 
 fn pivots_of<const D: usize>(lattice: &Staircase<D>) -> Pivots
-    ensures second { result.second ≡ unsigned_abs lattice.now.e }
-    ensures third { result.third ≡ unsigned_abs lattice.now.i }
+    ensures second { result.second ≡ unsigned_abs lattice.now.second_y }
+    ensures third { result.third ≡ unsigned_abs lattice.now.third_z }
     ensures stair { HasStairShape D lattice.now }
 {
     let pivots = lattice.pivots();

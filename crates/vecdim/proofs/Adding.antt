@@ -114,11 +114,11 @@ rest_z x l z c f i h = let p = ap (λ t. (z -ℤ x *ℤ c -ℤ l *ℤ f) *ℤ t)
 pub all_members : (S : Stairs) → IsWhole S → (v : Vector) → InStairs S v
 all_members S w v = record {
   k = v.x;
-  l = v.y -ℤ v.x *ℤ S.b;
-  n = v.z -ℤ v.x *ℤ S.c -ℤ (v.y -ℤ v.x *ℤ S.b) *ℤ S.f;
-  x = sym (ap (λ t. v.x *ℤ t) w.a ∙ simp ring refl);
-  y = rest_y v.x v.y S.b S.e w.e;
-  z = rest_z v.x (v.y -ℤ v.x *ℤ S.b) v.z S.c S.f S.i w.i;
+  l = v.y -ℤ v.x *ℤ S.first_y;
+  n = v.z -ℤ v.x *ℤ S.first_z -ℤ (v.y -ℤ v.x *ℤ S.first_y) *ℤ S.second_z;
+  x = sym (ap (λ t. v.x *ℤ t) w.first_x ∙ simp ring refl);
+  y = rest_y v.x v.y S.first_y S.second_y w.second_y;
+  z = rest_z v.x (v.y -ℤ v.x *ℤ S.first_y) v.z S.first_z S.second_z S.third_z w.third_z;
 }
 
 -- so a vector more changes nothing
@@ -137,15 +137,15 @@ own : (m : ℤ) → pos 0 <ℤ m → m ≡ pos (unsigned_abs m)
 own m h = omega (arith, ints)
 
 -- the product of the last two pivots
-pub last_two : (S : Stairs) → IsReducedStair S → S.e *ℤ S.i ≡ pos (unsigned_abs S.e * unsigned_abs S.i)
-last_two S r = (λ j. own S.e r.e j *ℤ own S.i r.i j)
+pub last_two : (S : Stairs) → IsReducedStair S → S.second_y *ℤ S.third_z ≡ pos (unsigned_abs S.second_y * unsigned_abs S.third_z)
+last_two S r = (λ j. own S.second_y r.second_y j *ℤ own S.third_z r.third_z j)
 
 -- the product of the pivots
-pub size_is : (S : Stairs) → IsReducedStair S → S.a *ℤ (S.e *ℤ S.i) ≡ pos (size_of S)
-size_is S r = (λ j. own S.a r.a j *ℤ last_two S r j)
+pub size_is : (S : Stairs) → IsReducedStair S → S.first_x *ℤ (S.second_y *ℤ S.third_z) ≡ pos (size_of S)
+size_is S r = (λ j. own S.first_x r.first_x j *ℤ last_two S r j)
 
 -- it fits where it is small
-pub size_fits : (S : Stairs) → IsReducedStair S → size_of S < 2 ^ 127 → FitsSigned w128 (S.a *ℤ (S.e *ℤ S.i))
+pub size_fits : (S : Stairs) → IsReducedStair S → size_of S < 2 ^ 127 → FitsSigned w128 (S.first_x *ℤ (S.second_y *ℤ S.third_z))
 size_fits S r h = search (arith, size_is, fits_from_bound)
 
 -- the product of two small pivots fits

@@ -78,30 +78,30 @@ zero_most : pos 0 ≤ℤ pos 0
 zero_most = omega (arith, ints)
 
 -- the rows are in the box
-pub boxed_first : {m : ℤ} {S : Stairs} → IsBoundedStair m S → IsBoxed m (vector S.a S.b S.c)
-boxed_first {m} {S} k = let r = k.reduced in let b = k.e_to in let c = k.i_to in
+pub boxed_first : {m : ℤ} {S : Stairs} → IsBoundedStair m S → IsBoxed m (vector S.first_x S.first_y S.first_z)
+boxed_first {m} {S} k = let r = k.reduced in let b = k.second_y_to in let c = k.third_z_to in
     record {
-      x_from = at_most (pos 0) S.a r.a;
-      x_to = k.a_to;
-      y_from = r.b_from;
-      y_to = below S.b S.e m r.b_to b;
-      z_from = r.c_from;
-      z_to = below S.c S.i m r.c_to c;
+      x_from = at_most (pos 0) S.first_x r.first_x;
+      x_to = k.first_x_to;
+      y_from = r.first_y_from;
+      y_to = below S.first_y S.second_y m r.first_y_to b;
+      z_from = r.first_z_from;
+      z_to = below S.first_z S.third_z m r.first_z_to c;
     }
 
 -- the second row, one place to the left
-pub boxed_second : {m : ℤ} {S : Stairs} → IsBoundedStair m S → IsBoxed m (vector S.e S.f (pos 0))
+pub boxed_second : {m : ℤ} {S : Stairs} → IsBoundedStair m S → IsBoxed m (vector S.second_y S.second_z (pos 0))
 boxed_second {m} {S} k = let r = k.reduced in record {
-  x_from = at_most (pos 0) S.e r.e;
-  x_to = k.e_to;
-  y_from = r.f_from;
-  y_to = below S.f S.i m r.f_to k.i_to;
+  x_from = at_most (pos 0) S.second_y r.second_y;
+  x_to = k.second_y_to;
+  y_from = r.second_z_from;
+  y_to = below S.second_z S.third_z m r.second_z_to k.third_z_to;
   z_from = zero_most;
   z_to = k.m_from;
 }
 
 -- the third row, two places to the left
-pub boxed_third : {m : ℤ} {S : Stairs} → IsBoundedStair m S → IsBoxed m (vector S.i (pos 0) (pos 0))
+pub boxed_third : {m : ℤ} {S : Stairs} → IsBoundedStair m S → IsBoxed m (vector S.third_z (pos 0) (pos 0))
 boxed_third {m} {S} k = search (arith, at_most, zero_most)
 
 -- three rests are in the box
@@ -129,12 +129,12 @@ weaker : (z : ℤ) → unsigned_abs z ≤ 2 ^ 60 → unsigned_abs z ≤ 2 ^ 61
 weaker z h = omega arith
 
 -- the first row is a vector
-pub first_small : {m : ℤ} {S : Stairs} → IsBoundedStair m S → IsWithin (2 ^ 61) (vector S.a S.b S.c)
-first_small {m} {S} k = let w = boxed_within k.m_to (boxed_first k) in (weaker S.a w.0, weaker S.b w.1, weaker S.c w.2)
+pub first_small : {m : ℤ} {S : Stairs} → IsBoundedStair m S → IsWithin (2 ^ 61) (vector S.first_x S.first_y S.first_z)
+first_small {m} {S} k = let w = boxed_within k.m_to (boxed_first k) in (weaker S.first_x w.0, weaker S.first_y w.1, weaker S.first_z w.2)
 
 -- and so is the second
-pub second_small : {m : ℤ} {S : Stairs} → IsBoundedStair m S → IsWithin (2 ^ 61) (vector (pos 0) S.e S.f)
-second_small {m} {S} k = let w = boxed_within k.m_to (boxed_second k) in (omega arith, weaker S.e w.0, weaker S.f w.1)
+pub second_small : {m : ℤ} {S : Stairs} → IsBoundedStair m S → IsWithin (2 ^ 61) (vector (pos 0) S.second_y S.second_z)
+second_small {m} {S} k = let w = boxed_within k.m_to (boxed_second k) in (omega arith, weaker S.second_y w.0, weaker S.second_z w.1)
 
 -- a product that `less` takes off fits
 pub taken_fits : (b k : ℤ) → unsigned_abs b ≤ 2 ^ 60 → unsigned_abs k ≤ 2 ^ 61 → FitsSigned w128 (b *ℤ k)
@@ -189,7 +189,7 @@ pub above_from : (c m : ℤ) → pos 0 ≤ℤ c → c <ℤ m → pos 0 <ℤ m
 above_from c m h i = omega (arith, ints, h, i)
 
 -- the vector is divided
-pub divided_is : {S : Stairs} {v q r : Vector} → (pos 0 ≤ℤ r.x) × (r.x <ℤ S.a) × (v.x ≡ r.x +ℤ S.a *ℤ q.x)
-    → (pos 0 ≤ℤ r.y) × (r.y <ℤ S.e) × (v.y -ℤ S.b *ℤ q.x ≡ r.y +ℤ S.e *ℤ q.y)
-    → (pos 0 ≤ℤ r.z) × (r.z <ℤ S.i) × ((v.z -ℤ S.c *ℤ q.x) -ℤ S.f *ℤ q.y ≡ r.z +ℤ S.i *ℤ q.z) → HasRemainder S v q r
+pub divided_is : {S : Stairs} {v q r : Vector} → (pos 0 ≤ℤ r.x) × (r.x <ℤ S.first_x) × (v.x ≡ r.x +ℤ S.first_x *ℤ q.x)
+    → (pos 0 ≤ℤ r.y) × (r.y <ℤ S.second_y) × (v.y -ℤ S.first_y *ℤ q.x ≡ r.y +ℤ S.second_y *ℤ q.y)
+    → (pos 0 ≤ℤ r.z) × (r.z <ℤ S.third_z) × ((v.z -ℤ S.first_z *ℤ q.x) -ℤ S.second_z *ℤ q.y ≡ r.z +ℤ S.third_z *ℤ q.z) → HasRemainder S v q r
 divided_is x y z = record { low = (x.0, y.0, z.0); high = (x.1, y.1, z.1); x = x.2; y = y.2; z = z.2 }

@@ -29,16 +29,16 @@ pub record Steps (m : ℤ) (S T : Stairs) (v : Vector) : Type 0 where
   pub j2 : ℤ
   pub j3 : ℤ
   pub j4 : ℤ
-  pub one : Exchange m (vector S.a S.b S.c) (vector x y z) (vector T.a b1 c1) (vector (pos 0) y1 z1)
-  pub two : Exchange m (vector S.e S.f (pos 0)) (vector y1 z1 (pos 0)) (vector T.e f1 g1) (vector (pos 0) z2 g2)
-  pub three : Exchange m (vector S.i (pos 0) (pos 0)) (vector z2 (pos 0) (pos 0)) (vector T.i j1 j2) (vector (pos 0) j3 j4)
+  pub one : Exchange m (vector S.first_x S.first_y S.first_z) (vector x y z) (vector T.first_x b1 c1) (vector (pos 0) y1 z1)
+  pub two : Exchange m (vector S.second_y S.second_z (pos 0)) (vector y1 z1 (pos 0)) (vector T.second_y f1 g1) (vector (pos 0) z2 g2)
+  pub three : Exchange m (vector S.third_z (pos 0) (pos 0)) (vector z2 (pos 0) (pos 0)) (vector T.third_z j1 j2) (vector (pos 0) j3 j4)
   pub q : ℤ
   pub kf : ℤ
   pub k1 : ℤ
   pub k2 : ℤ
-  pub f_is : T.f ≡ f1 +ℤ T.i *ℤ kf
-  pub b_is : T.b ≡ b1 -ℤ q *ℤ T.e
-  pub c_is : T.c ≡ c1 -ℤ q *ℤ T.f +ℤ m *ℤ k1 +ℤ T.i *ℤ k2
+  pub f_is : T.second_z ≡ f1 +ℤ T.third_z *ℤ kf
+  pub b_is : T.first_y ≡ b1 -ℤ q *ℤ T.second_y
+  pub c_is : T.first_z ≡ c1 -ℤ q *ℤ T.second_z +ℤ m *ℤ k1 +ℤ T.third_z *ℤ k2
 
 -- a combination of zeros
 nothing : (p q r s : ℤ) → pos 0 ≡ p *ℤ pos 0 +ℤ q *ℤ pos 0 +ℤ r *ℤ pos 0 +ℤ s *ℤ pos 0
@@ -83,13 +83,15 @@ module _ {L : Vector → Type 0} (h : IsClosed L) (m : ℤ) where
       (nothing c.p c.q (pos 0) (pos 0)) (nothing c.p c.q (pos 0) (pos 0)) (first_two c.p c.q (pos 0) (pos 0) r.x v.x w.x c.x)
 
   -- a closed set with the third row has (0, 0, m)
-  third_multiple : {S : Stairs} → HasBound S m → L (vector (pos 0) (pos 0) S.i) → L (vector (pos 0) (pos 0) m)
-  third_multiple {S} b l = h.pair b.third_k (pos 0) (vector (pos 0) (pos 0) S.i) (vector (pos 0) (pos 0) S.i) (vector (pos 0) (pos 0) m) l l (simp ring refl)
+  third_multiple : {S : Stairs} → HasBound S m → L (vector (pos 0) (pos 0) S.third_z) → L (vector (pos 0) (pos 0) m)
+  third_multiple {S} b l = h.pair b.third_k (pos 0) (vector (pos 0) (pos 0) S.third_z) (vector (pos 0) (pos 0) S.third_z) (vector (pos 0) (pos 0) m) l l
+      (simp ring refl)
       (simp ring refl) (let e = b.third_z in simp ring (omega (arith, linear, e)))
 
   -- with the second row too it has (0, m, 0)
-  second_multiple : {S : Stairs} → HasBound S m → L (vector (pos 0) S.e S.f) → L (vector (pos 0) (pos 0) S.i) → L (vector (pos 0) m (pos 0))
-  second_multiple {S} b l l' = h.pair b.second_k b.second_l (vector (pos 0) S.e S.f) (vector (pos 0) (pos 0) S.i) (vector (pos 0) m (pos 0)) l l'
+  second_multiple : {S : Stairs} → HasBound S m → L (vector (pos 0) S.second_y S.second_z) → L (vector (pos 0) (pos 0) S.third_z) → L (vector (pos 0) m (pos 0))
+  second_multiple {S} b l l' = h.pair b.second_k b.second_l (vector (pos 0) S.second_y S.second_z) (vector (pos 0) (pos 0) S.third_z)
+      (vector (pos 0) m (pos 0)) l l'
       (simp ring refl) (let e = b.second_y in simp ring (omega (arith, linear, e))) b.second_z
 
   module _ {S T : Stairs} {v : Vector} (bound : HasBound S m) (t : Steps m S T v) where
@@ -139,20 +141,23 @@ module _ {L : Vector → Type 0} (h : IsClosed L) (m : ℤ) where
     -- the new rows give the old ones
     pub old_of_new : HasRows L T → HasRows L S × L v
     old_of_new r =
-        let third = in_third (vector T.i t.j1 t.j2) (vector (pos 0) t.j3 t.j4) (vector S.i (pos 0) (pos 0)) r.third (zero_in r.third) t.three.old_upper in
-        let low3 = in_third (vector T.i t.j1 t.j2) (vector (pos 0) t.j3 t.j4) (vector t.z2 (pos 0) (pos 0)) r.third (zero_in r.third) t.three.old_lower in
+        let third = in_third (vector T.third_z t.j1 t.j2) (vector (pos 0) t.j3 t.j4) (vector S.third_z (pos 0) (pos 0)) r.third
+        (zero_in r.third) t.three.old_upper in
+        let low3 = in_third (vector T.third_z t.j1 t.j2) (vector (pos 0) t.j3 t.j4) (vector t.z2 (pos 0) (pos 0)) r.third (zero_in r.third) t.three.old_lower in
         let m3 = third_multiple bound third in
-        let up2 = h.pair (pos 1) (neg_ℤ t.kf) (vector (pos 0) T.e T.f) (vector (pos 0) (pos 0) T.i) (vector (pos 0) T.e t.f1) r.second r.third (simp ring refl)
-        (simp ring (omega (arith, linear))) (undo_f T.f t.f1 T.i t.kf t.f_is) in
-        let second = in_second (vector T.e t.f1 t.g1) (vector (pos 0) t.z2 t.g2) (vector S.e S.f (pos 0)) m3 up2 low3 t.two.old_upper in
-        let low2 = in_second (vector T.e t.f1 t.g1) (vector (pos 0) t.z2 t.g2) (vector t.y1 t.z1 (pos 0)) m3 up2 low3 t.two.old_lower in
+        let up2 = h.pair (pos 1) (neg_ℤ t.kf) (vector (pos 0) T.second_y T.second_z) (vector (pos 0) (pos 0) T.third_z)
+        (vector (pos 0) T.second_y t.f1) r.second r.third (simp ring refl)
+        (simp ring (omega (arith, linear))) (undo_f T.second_z t.f1 T.third_z t.kf t.f_is) in
+        let second = in_second (vector T.second_y t.f1 t.g1) (vector (pos 0) t.z2 t.g2) (vector S.second_y S.second_z (pos 0)) m3 up2 low3 t.two.old_upper in
+        let low2 = in_second (vector T.second_y t.f1 t.g1) (vector (pos 0) t.z2 t.g2) (vector t.y1 t.z1 (pos 0)) m3 up2 low3 t.two.old_lower in
         let m2 = second_multiple bound second third in
-        let up1 = four_in h (pos 1) t.q (neg_ℤ t.k1) (neg_ℤ t.k2) (vector T.a T.b T.c) (vector (pos 0) T.e T.f) (vector (pos 0) (pos 0) m)
-        (vector (pos 0) (pos 0) T.i) (vector T.a t.b1 t.c1) r.first r.second m3 r.third
-        (same_a T.a t.q (neg_ℤ t.k1) (neg_ℤ t.k2)) (undo_b T.b t.b1 t.q T.e (neg_ℤ t.k1) (neg_ℤ t.k2) t.b_is)
-        (undo_c T.c t.c1 t.q T.f m t.k1 T.i t.k2 t.c_is) in
-        let first = in_first (vector T.a t.b1 t.c1) (vector (pos 0) t.y1 t.z1) (vector S.a S.b S.c) m2 m3 up1 low2 t.one.old_upper in
-        let low1 = in_first (vector T.a t.b1 t.c1) (vector (pos 0) t.y1 t.z1) (vector t.x t.y t.z) m2 m3 up1 low2 t.one.old_lower in
+        let up1 = four_in h (pos 1) t.q (neg_ℤ t.k1) (neg_ℤ t.k2) (vector T.first_x T.first_y T.first_z) (vector (pos 0) T.second_y T.second_z)
+        (vector (pos 0) (pos 0) m)
+        (vector (pos 0) (pos 0) T.third_z) (vector T.first_x t.b1 t.c1) r.first r.second m3 r.third
+        (same_a T.first_x t.q (neg_ℤ t.k1) (neg_ℤ t.k2)) (undo_b T.first_y t.b1 t.q T.second_y (neg_ℤ t.k1) (neg_ℤ t.k2) t.b_is)
+        (undo_c T.first_z t.c1 t.q T.second_z m t.k1 T.third_z t.k2 t.c_is) in
+        let first = in_first (vector T.first_x t.b1 t.c1) (vector (pos 0) t.y1 t.z1) (vector S.first_x S.first_y S.first_z) m2 m3 up1 low2 t.one.old_upper in
+        let low1 = in_first (vector T.first_x t.b1 t.c1) (vector (pos 0) t.y1 t.z1) (vector t.x t.y t.z) m2 m3 up1 low2 t.one.old_lower in
         let rows : HasRows L S = record { first = first; second = second; third = third } in
         let m1 = has_all h rows (vector m (pos 0) (pos 0)) bound.first in (
           rows,
@@ -170,17 +175,19 @@ module _ {L : Vector → Type 0} (h : IsClosed L) (m : ℤ) where
         let low1 = four_in h (pos 1) t.kx t.ky t.kz v (vector m (pos 0) (pos 0)) (vector (pos 0) m (pos 0)) (vector (pos 0) (pos 0) m)
         (vector t.x t.y t.z) l m1 m2 m3
         (x_part t.x v.x t.kx t.ky t.kz t.x_is).1 (y_part t.y v.y t.ky t.kx t.kz t.y_is).1 (z_part t.z v.z t.kz t.kx t.ky t.z_is).1 in
-        let up1 = in_first (vector S.a S.b S.c) (vector t.x t.y t.z) (vector T.a t.b1 t.c1) m2 m3 r.first low1 t.one.upper in
-        let low2 = in_first (vector S.a S.b S.c) (vector t.x t.y t.z) (vector (pos 0) t.y1 t.z1) m2 m3 r.first low1 t.one.lower in
-        let up2 = in_second (vector S.e S.f (pos 0)) (vector t.y1 t.z1 (pos 0)) (vector T.e t.f1 t.g1) m3 r.second low2 t.two.upper in
-        let low3 = in_second (vector S.e S.f (pos 0)) (vector t.y1 t.z1 (pos 0)) (vector (pos 0) t.z2 t.g2) m3 r.second low2 t.two.lower in
-        let third = in_third (vector S.i (pos 0) (pos 0)) (vector t.z2 (pos 0) (pos 0)) (vector T.i t.j1 t.j2) r.third low3 t.three.upper in
-        let second = h.pair (pos 1) t.kf (vector (pos 0) T.e t.f1) (vector (pos 0) (pos 0) T.i) (vector (pos 0) T.e T.f) up2 third (simp ring refl)
-        (simp ring (omega (arith, linear))) (do_f T.f t.f1 T.i t.kf t.f_is) in
+        let up1 = in_first (vector S.first_x S.first_y S.first_z) (vector t.x t.y t.z) (vector T.first_x t.b1 t.c1) m2 m3 r.first low1 t.one.upper in
+        let low2 = in_first (vector S.first_x S.first_y S.first_z) (vector t.x t.y t.z) (vector (pos 0) t.y1 t.z1) m2 m3 r.first low1 t.one.lower in
+        let up2 = in_second (vector S.second_y S.second_z (pos 0)) (vector t.y1 t.z1 (pos 0)) (vector T.second_y t.f1 t.g1) m3 r.second low2 t.two.upper in
+        let low3 = in_second (vector S.second_y S.second_z (pos 0)) (vector t.y1 t.z1 (pos 0)) (vector (pos 0) t.z2 t.g2) m3 r.second low2 t.two.lower in
+        let third = in_third (vector S.third_z (pos 0) (pos 0)) (vector t.z2 (pos 0) (pos 0)) (vector T.third_z t.j1 t.j2) r.third low3 t.three.upper in
+        let second = h.pair (pos 1) t.kf (vector (pos 0) T.second_y t.f1) (vector (pos 0) (pos 0) T.third_z)
+        (vector (pos 0) T.second_y T.second_z) up2 third (simp ring refl)
+        (simp ring (omega (arith, linear))) (do_f T.second_z t.f1 T.third_z t.kf t.f_is) in
         record {
-          first = four_in h (pos 1) (neg_ℤ t.q) t.k1 t.k2 (vector T.a t.b1 t.c1) (vector (pos 0) T.e T.f) (vector (pos 0) (pos 0) m)
-              (vector (pos 0) (pos 0) T.i) (vector T.a T.b T.c) up1 second m3 third
-              (same_a T.a (neg_ℤ t.q) t.k1 t.k2) (do_b T.b t.b1 t.q T.e t.k1 t.k2 t.b_is) (do_c T.c t.c1 t.q T.f m t.k1 T.i t.k2 t.c_is);
+          first = four_in h (pos 1) (neg_ℤ t.q) t.k1 t.k2 (vector T.first_x t.b1 t.c1) (vector (pos 0) T.second_y T.second_z) (vector (pos 0) (pos 0) m)
+              (vector (pos 0) (pos 0) T.third_z) (vector T.first_x T.first_y T.first_z) up1 second m3 third
+              (same_a T.first_x (neg_ℤ t.q) t.k1 t.k2) (do_b T.first_y t.b1 t.q T.second_y t.k1 t.k2 t.b_is)
+              (do_c T.first_z t.c1 t.q T.second_z m t.k1 T.third_z t.k2 t.c_is);
           second = second;
           third = third;
         }
@@ -236,20 +243,20 @@ drop_first : (k b l c w r : ℤ) → k ≡ pos 0 → w ≡ k *ℤ b +ℤ l *ℤ 
 drop_first k b l c w r e f = f ∙ ap (λ t. t *ℤ b +ℤ l *ℤ c +ℤ r) e ∙ simp ring (omega (arith, linear))
 
 -- the new lattice still has the multiples of m
-pub steps_bound : {m : ℤ} {S T : Stairs} {v : Vector} → HasBound S m → Steps m S T v → pos 0 <ℤ T.a → pos 0 <ℤ T.e → HasBound T m
+pub steps_bound : {m : ℤ} {S T : Stairs} {v : Vector} → HasBound S m → Steps m S T v → pos 0 <ℤ T.first_x → pos 0 <ℤ T.second_y → HasBound T m
 steps_bound {m} {S} {T} {v} b t pa pe =
     let h = stairs_closed T in let r = (old_of_new h m b t (own_rows T)).0 in
     let i = second_multiple h m b r.second r.third in let j = third_multiple h m b r.third in
-    let ki = zero_factor i.k T.a i.x pa in let kj = zero_factor j.k T.a j.x pa in
-    let lj = zero_factor j.l T.e (drop_zero j.k T.b (pos 0) (j.l *ℤ T.e) kj j.y) pe in
+    let ki = zero_factor i.k T.first_x i.x pa in let kj = zero_factor j.k T.first_x j.x pa in
+    let lj = zero_factor j.l T.second_y (drop_zero j.k T.first_y (pos 0) (j.l *ℤ T.second_y) kj j.y) pe in
     record {
       first = has_all {L = InStairs T} h r (vector m (pos 0) (pos 0)) b.first;
       second_k = i.l;
       second_l = i.n;
-      second_y = drop_zero i.k T.b m (i.l *ℤ T.e) ki i.y;
-      second_z = drop_first i.k T.c i.l T.f (pos 0) (i.n *ℤ T.i) ki i.z;
+      second_y = drop_zero i.k T.first_y m (i.l *ℤ T.second_y) ki i.y;
+      second_z = drop_first i.k T.first_z i.l T.second_z (pos 0) (i.n *ℤ T.third_z) ki i.z;
       third_k = j.n;
-      third_z = drop_two j.k j.l T.c T.f m (j.n *ℤ T.i) kj lj j.z;
+      third_z = drop_two j.k j.l T.first_z T.second_z m (j.n *ℤ T.third_z) kj lj j.z;
     }
 
 -- what a column of Euclid's algorithm ensures
@@ -272,9 +279,9 @@ last c c0 c1 q f m k i l e g = omega (arith, linear, e, g)
 -- the steps together make an insertion
 pub assemble : (m : ℤ) (S : Stairs) (v : Vector) (x y z a b1 c1 y1 z1 e f1 g1 z2 g2 i j1 j2 j3 j4 f q b c0 c : ℤ)
     → IsBoundedStair m S → Modulo v.x m x → Modulo v.y m y → Modulo v.z m z
-    → Column m (vector S.a S.b S.c) (vector x y z) (vector a b1 c1) (vector (pos 0) y1 z1)
-    → Column m (vector S.e S.f (pos 0)) (vector y1 z1 (pos 0)) (vector e f1 g1) (vector (pos 0) z2 g2)
-    → Column m (vector S.i (pos 0) (pos 0)) (vector z2 (pos 0) (pos 0)) (vector i j1 j2) (vector (pos 0) j3 j4)
+    → Column m (vector S.first_x S.first_y S.first_z) (vector x y z) (vector a b1 c1) (vector (pos 0) y1 z1)
+    → Column m (vector S.second_y S.second_z (pos 0)) (vector y1 z1 (pos 0)) (vector e f1 g1) (vector (pos 0) z2 g2)
+    → Column m (vector S.third_z (pos 0) (pos 0)) (vector z2 (pos 0) (pos 0)) (vector i j1 j2) (vector (pos 0) j3 j4)
     → Modulo f1 i f → pos 0 ≤ℤ b → b <ℤ e → b ≡ b1 -ℤ q *ℤ e → Modulo (c1 -ℤ q *ℤ f) m c0 → Modulo c0 i c
     → IsInserted m S (stairs a b c e f i) v
 assemble m S v x y z a b1 c1 y1 z1 e f1 g1 z2 g2 i j1 j2 j3 j4 f q b c0 c k hx hy hz one two three hf b_from b_to hb h0 hc =
@@ -316,20 +323,20 @@ assemble m S v x y z a b1 c1 y1 z1 e f1 g1 z2 g2 i j1 j2 j3 j4 f q b c0 c k hx h
         m_from = k.m_from;
         m_to = k.m_to;
         reduced = record {
-          a = one.pivot;
-          e = two.pivot;
-          i = three.pivot;
-          b_from = b_from;
-          b_to = b_to;
-          c_from = hc.from;
-          c_to = hc.to;
-          f_from = hf.from;
-          f_to = hf.to;
+          first_x = one.pivot;
+          second_y = two.pivot;
+          third_z = three.pivot;
+          first_y_from = b_from;
+          first_y_to = b_to;
+          first_z_from = hc.from;
+          first_z_to = hc.to;
+          second_z_from = hf.from;
+          second_z_to = hf.to;
         };
         bound = steps_bound k.bound steps one.pivot two.pivot;
-        a_to = one.upper.x_to;
-        e_to = two.upper.x_to;
-        i_to = three.upper.x_to;
+        first_x_to = one.upper.x_to;
+        second_y_to = two.upper.x_to;
+        third_z_to = three.upper.x_to;
       };
       added = steps_with k.bound steps;
     }

@@ -31,9 +31,9 @@ in_pair {S} {u} {v} {w} p q h i ex ey ez = record {
   k = p *ℤ h.k +ℤ q *ℤ i.k;
   l = p *ℤ h.l +ℤ q *ℤ i.l;
   n = p *ℤ h.n +ℤ q *ℤ i.n;
-  x = one_term p q h.k i.k S.a u.x v.x w.x h.x i.x ex;
-  y = two_terms p q h.k h.l i.k i.l S.b S.e u.y v.y w.y h.y i.y ey;
-  z = three_terms p q h.k h.l h.n i.k i.l i.n S.c S.f S.i u.z v.z w.z h.z i.z ez;
+  x = one_term p q h.k i.k S.first_x u.x v.x w.x h.x i.x ex;
+  y = two_terms p q h.k h.l i.k i.l S.first_y S.second_y u.y v.y w.y h.y i.y ey;
+  z = three_terms p q h.k h.l h.n i.k i.l i.n S.first_z S.second_z S.third_z u.z v.z w.z h.z i.z ez;
 }
 
 -- a set of vectors that is closed under sums and multiples
@@ -77,9 +77,9 @@ four_in h p q r s a b c d w ia ib ic id ex ey ez =
 
 -- a set has the three rows of a stair
 pub record HasRows (L : Vector → Type 0) (S : Stairs) : Type 0 where
-  pub first : L (vector S.a S.b S.c)
-  pub second : L (vector (pos 0) S.e S.f)
-  pub third : L (vector (pos 0) (pos 0) S.i)
+  pub first : L (vector S.first_x S.first_y S.first_z)
+  pub second : L (vector (pos 0) S.second_y S.second_z)
+  pub third : L (vector (pos 0) (pos 0) S.third_z)
 
 -- the second and third row have 0 for first part
 no_x : (k l n a : ℤ) → k *ℤ a ≡ k *ℤ a +ℤ l *ℤ pos 0 +ℤ n *ℤ pos 0 +ℤ pos 0 *ℤ pos 0
@@ -95,9 +95,10 @@ no_z k l n c f i = simp ring (omega (arith, linear))
 
 -- it has all that the rows generate
 pub has_all : {L : Vector → Type 0} {S : Stairs} → IsClosed L → HasRows L S → (w : Vector) → InStairs S w → L w
-has_all {L} {S} h r w i = four_in h i.k i.l i.n (pos 0) (vector S.a S.b S.c) (vector (pos 0) S.e S.f) (vector (pos 0) (pos 0) S.i)
-    (vector (pos 0) (pos 0) S.i) w r.first r.second r.third r.third
-    (i.x ∙ no_x i.k i.l i.n S.a) (i.y ∙ no_y i.k i.l i.n S.b S.e) (i.z ∙ no_z i.k i.l i.n S.c S.f S.i)
+has_all {L} {S} h r w i = four_in h i.k i.l i.n (pos 0) (vector S.first_x S.first_y S.first_z) (vector (pos 0) S.second_y S.second_z)
+    (vector (pos 0) (pos 0) S.third_z)
+    (vector (pos 0) (pos 0) S.third_z) w r.first r.second r.third r.third
+    (i.x ∙ no_x i.k i.l i.n S.first_x) (i.y ∙ no_y i.k i.l i.n S.first_y S.second_y) (i.z ∙ no_z i.k i.l i.n S.first_z S.second_z S.third_z)
 
 -- a number is 1 times itself
 row : (a : ℤ) → a ≡ pos 1 *ℤ a

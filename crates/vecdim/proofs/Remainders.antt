@@ -30,12 +30,12 @@ third_part z k l n c f i h j p =
 -- remainders that differ by a member are equal
 pub one_remainder : (d : ℕ) (S : Stairs) (r s : Vector) → IsRemainder d S r → IsRemainder d S s → InStairs S (minus r s) → r ≡ s
 one_remainder d S r s g h m =
-    let k = no_multiple S.a r.x s.x m.k g.low.0 g.high.0 h.low.0 h.high.0 m.x in
-    let y = second_part (r.y -ℤ s.y) m.k m.l S.b S.e k m.y in
-    let l = no_multiple S.e r.y s.y m.l g.low.1 g.high.1 h.low.1 h.high.1 y in
-    let z = third_part (r.z -ℤ s.z) m.k m.l m.n S.c S.f S.i k l m.z in
-    let n = no_multiple S.i r.z s.z m.n g.low.2 g.high.2 h.low.2 h.high.2 z in
-    vector_equal (no_difference S.a r.x s.x m.k k m.x) (no_difference S.e r.y s.y m.l l y) (no_difference S.i r.z s.z m.n n z)
+    let k = no_multiple S.first_x r.x s.x m.k g.low.0 g.high.0 h.low.0 h.high.0 m.x in
+    let y = second_part (r.y -ℤ s.y) m.k m.l S.first_y S.second_y k m.y in
+    let l = no_multiple S.second_y r.y s.y m.l g.low.1 g.high.1 h.low.1 h.high.1 y in
+    let z = third_part (r.z -ℤ s.z) m.k m.l m.n S.first_z S.second_z S.third_z k l m.z in
+    let n = no_multiple S.third_z r.z s.z m.n g.low.2 g.high.2 h.low.2 h.high.2 z in
+    vector_equal (no_difference S.first_x r.x s.x m.k k m.x) (no_difference S.second_y r.y s.y m.l l y) (no_difference S.third_z r.z s.z m.n n z)
 
 -- what was taken off, part by part
 pub first_off : (v r a q : ℤ) → v ≡ r +ℤ a *ℤ q → v -ℤ r ≡ q *ℤ a
@@ -55,9 +55,9 @@ divided_member {S} {v} {q} {r} h = record {
   k = q.x;
   l = q.y;
   n = q.z;
-  x = first_off v.x r.x S.a q.x h.x;
-  y = second_off v.y r.y S.b S.e q.x q.y h.y;
-  z = third_off v.z r.z S.c S.f S.i q.x q.y q.z h.z;
+  x = first_off v.x r.x S.first_x q.x h.x;
+  y = second_off v.y r.y S.first_y S.second_y q.x q.y h.y;
+  z = third_off v.z r.z S.first_z S.second_z S.third_z q.x q.y q.z h.z;
 }
 
 -- what is from 0 to below 1 is 0
@@ -91,9 +91,9 @@ rest_member {S} v r m t = record {
   k = t.k -ℤ m.k;
   l = t.l -ℤ m.l;
   n = t.n -ℤ m.n;
-  x = apart_x m.k t.k S.a v.x r.x m.x t.x;
-  y = apart_y m.k t.k m.l t.l S.b S.e v.y r.y m.y t.y;
-  z = apart_z m.k t.k m.l t.l m.n t.n S.c S.f S.i v.z r.z m.z t.z;
+  x = apart_x m.k t.k S.first_x v.x r.x m.x t.x;
+  y = apart_y m.k t.k m.l t.l S.first_y S.second_y v.y r.y m.y t.y;
+  z = apart_z m.k t.k m.l t.l m.n t.n S.first_z S.second_z S.third_z v.z r.z m.z t.z;
 }
 
 -- a member has the remainder 0

@@ -51,21 +51,26 @@ at_most_of : (b w : ℤ) {A : Type 0} → (b <ℤ w) ⊎ ((w ≡ b) × A) → b 
 at_most_of b w k = search arith
 
 -- the first row has the least positive first part
-pub first_least : {S : Stairs} (w : Vector) → IsReducedStair S → InStairs S w → pos 0 <ℤ w.x → S.a ≤ℤ w.x
-first_least {S} w r m h = subst (λ t. S.a ≤ℤ t) (sym m.x) (least_multiple m.k S.a (subst (λ t. pos 0 <ℤ t) m.x h) r.a)
+pub first_least : {S : Stairs} (w : Vector) → IsReducedStair S → InStairs S w → pos 0 <ℤ w.x → S.first_x ≤ℤ w.x
+first_least {S} w r m h = subst (λ t. S.first_x ≤ℤ t) (sym m.x) (least_multiple m.k S.first_x (subst (λ t. pos 0 <ℤ t) m.x h) r.first_x)
 
 -- among these the least parts after it
-pub first_rest : {S : Stairs} (w : Vector) → IsReducedStair S → InStairs S w → w.x ≡ S.a → pos 0 ≤ℤ w.y → pos 0 ≤ℤ w.z → IsAtMost2 S.b S.c w.y w.z
+pub first_rest : {S : Stairs} (w : Vector) → IsReducedStair S → InStairs S w → w.x ≡ S.first_x → pos 0 ≤ℤ w.y → pos 0 ≤ℤ w.z
+    → IsAtMost2 S.first_y S.first_z w.y w.z
 first_rest {S} w r m h j i =
-    let k = once m.k S.a (sym m.x ∙ h) r.a in
-    ⊎_elim (λ (t : S.b <ℤ w.y). inl t)
-    (λ (t : (w.y ≡ S.b) × (m.l ≡ pos 0)). inr
-    (t.0, at_most_of S.c w.z (least_rest m.n S.c S.i w.z r.c_from r.c_to i (z_at_one m.k m.l m.n S.c S.f S.i w.z k t.1 m.z))))
-    (least_rest m.l S.b S.e w.y r.b_from r.b_to j (m.y ∙ ap (λ t. t *ℤ S.b +ℤ m.l *ℤ S.e) k ∙ simp ring (omega (arith, linear))))
+    let k = once m.k S.first_x (sym m.x ∙ h) r.first_x in
+    ⊎_elim (λ (t : S.first_y <ℤ w.y). inl t)
+    (λ (t : (w.y ≡ S.first_y) × (m.l ≡ pos 0)). inr (
+      t.0,
+      at_most_of S.first_z w.z (least_rest m.n S.first_z S.third_z w.z r.first_z_from r.first_z_to i
+          (z_at_one m.k m.l m.n S.first_z S.second_z S.third_z w.z k t.1 m.z)),
+    ))
+    (least_rest m.l S.first_y S.second_y w.y r.first_y_from r.first_y_to j (m.y ∙ ap (λ t. t *ℤ S.first_y +ℤ m.l *ℤ S.second_y) k
+    ∙ simp ring (omega (arith, linear))))
 
 -- a member with first part 0 has the first coefficient 0
 no_first : {S : Stairs} (w : Vector) → IsReducedStair S → (m : InStairs S w) → w.x ≡ pos 0 → m.k ≡ pos 0
-no_first {S} w r m h = zero_factor m.k S.a (sym h ∙ m.x) r.a
+no_first {S} w r m h = zero_factor m.k S.first_x (sym h ∙ m.x) r.first_x
 
 -- the second part of such a member
 y_at_zero : (k l b e y : ℤ) → k ≡ pos 0 → y ≡ k *ℤ b +ℤ l *ℤ e → y ≡ l *ℤ e
@@ -80,24 +85,25 @@ z_at_third : (k l n c f i z : ℤ) → k ≡ pos 0 → l ≡ pos 0 → z ≡ k *
 z_at_third k l n c f i z h g q = q ∙ ap (λ t. t *ℤ c +ℤ l *ℤ f +ℤ n *ℤ i) h ∙ ap (λ t. pos 0 *ℤ c +ℤ t *ℤ f +ℤ n *ℤ i) g ∙ simp ring (omega (arith, linear))
 
 -- the second row has the least positive second part
-pub second_least : {S : Stairs} (w : Vector) → IsReducedStair S → InStairs S w → w.x ≡ pos 0 → pos 0 <ℤ w.y → S.e ≤ℤ w.y
+pub second_least : {S : Stairs} (w : Vector) → IsReducedStair S → InStairs S w → w.x ≡ pos 0 → pos 0 <ℤ w.y → S.second_y ≤ℤ w.y
 second_least {S} w r m x h =
-    let e = y_at_zero m.k m.l S.b S.e w.y (no_first w r m x) m.y in
-    subst (λ t. S.e ≤ℤ t) (sym e) (least_multiple m.l S.e (subst (λ t. pos 0 <ℤ t) e h) r.e)
+    let e = y_at_zero m.k m.l S.first_y S.second_y w.y (no_first w r m x) m.y in
+    subst (λ t. S.second_y ≤ℤ t) (sym e) (least_multiple m.l S.second_y (subst (λ t. pos 0 <ℤ t) e h) r.second_y)
 
 -- among these the least third part
-pub second_rest : {S : Stairs} (w : Vector) → IsReducedStair S → InStairs S w → w.x ≡ pos 0 → w.y ≡ S.e → pos 0 ≤ℤ w.z → S.f ≤ℤ w.z
+pub second_rest : {S : Stairs} (w : Vector) → IsReducedStair S → InStairs S w → w.x ≡ pos 0 → w.y ≡ S.second_y → pos 0 ≤ℤ w.z → S.second_z ≤ℤ w.z
 second_rest {S} w r m x h j =
-    let k = no_first w r m x in let l = once m.l S.e (sym (y_at_zero m.k m.l S.b S.e w.y k m.y) ∙ h) r.e in
-    at_most_of S.f w.z (least_rest m.n S.f S.i w.z r.f_from r.f_to j (z_at_second m.k m.l m.n S.c S.f S.i w.z k l m.z))
+    let k = no_first w r m x in let l = once m.l S.second_y (sym (y_at_zero m.k m.l S.first_y S.second_y w.y k m.y) ∙ h) r.second_y in
+    at_most_of S.second_z w.z (least_rest m.n S.second_z S.third_z w.z r.second_z_from r.second_z_to j
+    (z_at_second m.k m.l m.n S.first_z S.second_z S.third_z w.z k l m.z))
 
 -- the third row has the least positive third part
-pub third_least : {S : Stairs} (w : Vector) → IsReducedStair S → InStairs S w → w.x ≡ pos 0 → w.y ≡ pos 0 → pos 0 <ℤ w.z → S.i ≤ℤ w.z
+pub third_least : {S : Stairs} (w : Vector) → IsReducedStair S → InStairs S w → w.x ≡ pos 0 → w.y ≡ pos 0 → pos 0 <ℤ w.z → S.third_z ≤ℤ w.z
 third_least {S} w r m x y h =
     let k = no_first w r m x in
-    let l = zero_factor m.l S.e (sym y ∙ y_at_zero m.k m.l S.b S.e w.y k m.y) r.e in
-    let e = z_at_third m.k m.l m.n S.c S.f S.i w.z k l m.z in
-    subst (λ t. S.i ≤ℤ t) (sym e) (least_multiple m.n S.i (subst (λ t. pos 0 <ℤ t) e h) r.i)
+    let l = zero_factor m.l S.second_y (sym y ∙ y_at_zero m.k m.l S.first_y S.second_y w.y k m.y) r.second_y in
+    let e = z_at_third m.k m.l m.n S.first_z S.second_z S.third_z w.z k l m.z in
+    subst (λ t. S.third_z ≤ℤ t) (sym e) (least_multiple m.n S.third_z (subst (λ t. pos 0 <ℤ t) e h) r.third_z)
 
 -- the first part of the sum
 sum_x : (w k l n a : ℤ) → w ≡ k *ℤ a → k *ℤ a +ℤ (l *ℤ pos 0 +ℤ (n *ℤ pos 0 +ℤ pos 0)) ≡ w
@@ -129,10 +135,12 @@ pub combination_of : (d : ℕ) (S : Stairs) (v : Vector) → HasStairShape d S �
 combination_of d S v s dim m = by (eqb_tells d 2)
   where
     -- without the third row
-    without : d ≡ 2 → plus (vector (m.k *ℤ S.a) (m.k *ℤ S.b) (m.k *ℤ S.c)) (plus (vector (m.l *ℤ pos 0) (m.l *ℤ S.e) (m.l *ℤ S.f)) zero_vector) ≡ v
+    without : d ≡ 2 → plus (vector (m.k *ℤ S.first_x) (m.k *ℤ S.first_y) (m.k *ℤ S.first_z)) (plus (vector (m.l *ℤ pos 0) (m.l *ℤ S.second_y)
+        (m.l *ℤ S.second_z)) zero_vector) ≡ v
     without e =
         let f = s.flat e in
-        vector_equal (flat_x v.x m.k m.l S.a m.x) (flat_y v.y m.k m.l S.b S.e m.y) (flat_z v.z m.k m.l S.c S.f (dim e) f.c f.f)
+        vector_equal (flat_x v.x m.k m.l S.first_x m.x) (flat_y v.y m.k m.l S.first_y S.second_y m.y)
+        (flat_z v.z m.k m.l S.first_z S.second_z (dim e) f.first_z f.second_z)
 
     by : (((d == 2) ≡ true) × (d ≡ 2)) ⊎ (((d == 2) ≡ false) × (d ≡ 2 → ⊥)) → combination (m.k ∷ m.l ∷ m.n ∷ []) (rows_of d S) ≡ v
     by h = grind (arith, without, vector_equal, sum_x, sum_y, sum_z)
@@ -147,7 +155,7 @@ no_third w k l n c f i e p q o h =
 -- so the coefficients have the dimension of the member
 pub coefficients_dimension : (d : ℕ) (S : Stairs) (v : Vector) → HasStairShape d S → HasDimension d v → (m : InStairs S v)
     → HasDimension d (vector m.k m.l m.n)
-coefficients_dimension d S v s dim m e = let f = s.flat e in no_third v.z m.k m.l m.n S.c S.f S.i (dim e) f.c f.f f.i m.z
+coefficients_dimension d S v s dim m e = let f = s.flat e in no_third v.z m.k m.l m.n S.first_z S.second_z S.third_z (dim e) f.first_z f.second_z f.third_z m.z
 
 -- a part, where the rest is 0
 exact_x : (v r a q : ℤ) → r ≡ pos 0 → v -ℤ r ≡ q *ℤ a → v ≡ q *ℤ a
@@ -170,9 +178,10 @@ coordinates_are d {S} {v} {q} {r} s h m =
       k = q.x;
       l = q.y;
       n = q.z;
-      x = exact_x v.x r.x S.a q.x (ap (λ (t : Vector). t.x) e) (first_off v.x r.x S.a q.x h.x);
-      y = exact_y v.y r.y (q.x *ℤ S.b) (q.y *ℤ S.e) (ap (λ (t : Vector). t.y) e) (second_off v.y r.y S.b S.e q.x q.y h.y);
-      z = exact_z v.z r.z (q.x *ℤ S.c) (q.y *ℤ S.f) (q.z *ℤ S.i) (ap (λ (t : Vector). t.z) e) (third_off v.z r.z S.c S.f S.i q.x q.y q.z h.z);
+      x = exact_x v.x r.x S.first_x q.x (ap (λ (t : Vector). t.x) e) (first_off v.x r.x S.first_x q.x h.x);
+      y = exact_y v.y r.y (q.x *ℤ S.first_y) (q.y *ℤ S.second_y) (ap (λ (t : Vector). t.y) e) (second_off v.y r.y S.first_y S.second_y q.x q.y h.y);
+      z = exact_z v.z r.z (q.x *ℤ S.first_z) (q.y *ℤ S.second_z) (q.z *ℤ S.third_z) (ap (λ (t : Vector). t.z) e)
+          (third_off v.z r.z S.first_z S.second_z S.third_z q.x q.y q.z h.z);
     } in
     (combination_of d S v s m.1 t, coefficients_dimension d S v s m.1 t)
 
@@ -200,17 +209,17 @@ members_group d S = record {
 
 -- the rows are members
 rows_in : (d : ℕ) (S : Stairs) → HasStairShape d S → (v : Vector) → IsIn (rows_of d S) v → Members d S v
-rows_in d S s v (inl e) = subst (Members d S) e ((own_rows S).first, λ t. (s.flat t).c)
-rows_in d S s v (inr (inl e)) = subst (Members d S) e ((own_rows S).second, λ t. (s.flat t).f)
+rows_in d S s v (inl e) = subst (Members d S) e ((own_rows S).first, λ t. (s.flat t).first_z)
+rows_in d S s v (inr (inl e)) = subst (Members d S) e ((own_rows S).second, λ t. (s.flat t).second_z)
 rows_in d S s v (inr (inr i)) = by (eqb_tells d 2)
   where
-    last : IsIn (vector (pos 0) (pos 0) S.i ∷ []) v → (d ≡ 2 → ⊥) → Members d S v
+    last : IsIn (vector (pos 0) (pos 0) S.third_z ∷ []) v → (d ≡ 2 → ⊥) → Members d S v
     last (inl e) n = subst (Members d S) e ((own_rows S).third, λ t. absurd (n t))
     last (inr k) n = absurd k
 
     by : (((d == 2) ≡ true) × (d ≡ 2)) ⊎ (((d == 2) ≡ false) × (d ≡ 2 → ⊥)) → Members d S v
-    by (inl e) = absurd (subst (λ (b : Bool). IsIn (cond b [] (vector (pos 0) (pos 0) S.i ∷ [])) v) e.0 i)
-    by (inr n) = last (subst (λ (b : Bool). IsIn (cond b [] (vector (pos 0) (pos 0) S.i ∷ [])) v) n.0 i) n.1
+    by (inl e) = absurd (subst (λ (b : Bool). IsIn (cond b [] (vector (pos 0) (pos 0) S.third_z ∷ [])) v) e.0 i)
+    by (inr n) = last (subst (λ (b : Bool). IsIn (cond b [] (vector (pos 0) (pos 0) S.third_z ∷ [])) v) n.0 i) n.1
 
 -- the rows span the members
 pub rows_span : (d : ℕ) (S : Stairs) → HasStairShape d S → Spans (Members d S) (rows_of d S)
@@ -276,32 +285,35 @@ before_third : (v : Vector) → v.x ≡ pos 0 → v.y ≡ pos 0 → IsZeroBefore
 before_third v h r s t = search arith
 
 -- the first row
-first_row : (d : ℕ) (S : Stairs) → IsReducedStair S → HasDimension d (vector S.a S.b S.c) → IsStair (Members d S) 0 (vector S.a S.b S.c)
+first_row : (d : ℕ) (S : Stairs) → IsReducedStair S → HasDimension d (vector S.first_x S.first_y S.first_z)
+    → IsStair (Members d S) 0 (vector S.first_x S.first_y S.first_z)
 first_row d S r dim = record {
-  may = record { member = ((own_rows S).first, dim); before = λ k l. absurd (omega arith); leads = r.a };
+  may = record { member = ((own_rows S).first, dim); before = λ k l. absurd (omega arith); leads = r.first_x };
   least = λ w m. first_least w r m.member.0 m.leads;
-  rest = after_first (vector S.a S.b S.c) r.b_from r.c_from;
-  least_rest = λ w m e n. at_most_after S.a w.x (S.b ∷ S.c ∷ []) (w.y ∷ w.z ∷ []) (sym e)
-      (at_most_two S.b S.c w.y w.z (first_rest w r m.member.0 e (n 1 (omega arith)) (n 2 (omega arith))));
+  rest = after_first (vector S.first_x S.first_y S.first_z) r.first_y_from r.first_z_from;
+  least_rest = λ w m e n. at_most_after S.first_x w.x (S.first_y ∷ S.first_z ∷ []) (w.y ∷ w.z ∷ []) (sym e)
+      (at_most_two S.first_y S.first_z w.y w.z (first_rest w r m.member.0 e (n 1 (omega arith)) (n 2 (omega arith))));
 }
 
 -- the second row
-second_row : (d : ℕ) (S : Stairs) → IsReducedStair S → HasDimension d (vector (pos 0) S.e S.f) → IsStair (Members d S) 1 (vector (pos 0) S.e S.f)
+second_row : (d : ℕ) (S : Stairs) → IsReducedStair S → HasDimension d (vector (pos 0) S.second_y S.second_z)
+    → IsStair (Members d S) 1 (vector (pos 0) S.second_y S.second_z)
 second_row d S r dim = record {
-  may = record { member = ((own_rows S).second, dim); before = before_second (vector (pos 0) S.e S.f) refl; leads = r.e };
+  may = record { member = ((own_rows S).second, dim); before = before_second (vector (pos 0) S.second_y S.second_z) refl; leads = r.second_y };
   least = λ w m. second_least w r m.member.0 (m.before 0 (omega arith)) m.leads;
-  rest = after_second (vector (pos 0) S.e S.f) r.f_from;
-  least_rest = λ w m e n. at_most_after S.e w.y (S.f ∷ []) (w.z ∷ []) (sym e)
-      (at_most_one S.f w.z (second_rest w r m.member.0 (m.before 0 (omega arith)) e (n 2 (omega arith))));
+  rest = after_second (vector (pos 0) S.second_y S.second_z) r.second_z_from;
+  least_rest = λ w m e n. at_most_after S.second_y w.y (S.second_z ∷ []) (w.z ∷ []) (sym e)
+      (at_most_one S.second_z w.z (second_rest w r m.member.0 (m.before 0 (omega arith)) e (n 2 (omega arith))));
 }
 
 -- the third row
-third_row : (d : ℕ) (S : Stairs) → IsReducedStair S → HasDimension d (vector (pos 0) (pos 0) S.i) → IsStair (Members d S) 2 (vector (pos 0) (pos 0) S.i)
+third_row : (d : ℕ) (S : Stairs) → IsReducedStair S → HasDimension d (vector (pos 0) (pos 0) S.third_z)
+    → IsStair (Members d S) 2 (vector (pos 0) (pos 0) S.third_z)
 third_row d S r dim = record {
-  may = record { member = ((own_rows S).third, dim); before = before_third (vector (pos 0) (pos 0) S.i) refl refl; leads = r.i };
+  may = record { member = ((own_rows S).third, dim); before = before_third (vector (pos 0) (pos 0) S.third_z) refl refl; leads = r.third_z };
   least = λ w m. third_least w r m.member.0 (m.before 0 (omega arith)) (m.before 1 (omega arith)) m.leads;
-  rest = after_third (vector (pos 0) (pos 0) S.i);
-  least_rest = λ w m e n. at_most_after S.i w.z [] [] (sym e) at_most_nothing;
+  rest = after_third (vector (pos 0) (pos 0) S.third_z);
+  least_rest = λ w m e n. at_most_after S.third_z w.z [] [] (sym e) at_most_nothing;
 }
 
 -- each vector has dimension 3
@@ -313,8 +325,8 @@ two_rows : (S : Stairs) → IsReducedStair S → HasFlatEnd S → IsStaircase (M
 two_rows S r f = record { count = refl; each = each }
   where
     each : (i : ℕ) → i < 2 → IsStair (Members 2 S) i (slice_index_or (rows_of 2 S) i zero_vector)
-    each zero l = first_row 2 S r (λ e. f.c)
-    each (suc zero) l = second_row 2 S r (λ e. f.f)
+    each zero l = first_row 2 S r (λ e. f.first_z)
+    each (suc zero) l = second_row 2 S r (λ e. f.second_z)
     each (suc (suc i)) l = absurd (omega arith)
 
 -- the rows of dimension 3
@@ -322,9 +334,9 @@ three_rows : (S : Stairs) → IsReducedStair S → IsStaircase (Members 3 S) 3 (
 three_rows S r = record { count = refl; each = each }
   where
     each : (i : ℕ) → i < 3 → IsStair (Members 3 S) i (slice_index_or (rows_of 3 S) i zero_vector)
-    each zero l = first_row 3 S r (has_three (vector S.a S.b S.c))
-    each (suc zero) l = second_row 3 S r (has_three (vector (pos 0) S.e S.f))
-    each (suc (suc zero)) l = third_row 3 S r (has_three (vector (pos 0) (pos 0) S.i))
+    each zero l = first_row 3 S r (has_three (vector S.first_x S.first_y S.first_z))
+    each (suc zero) l = second_row 3 S r (has_three (vector (pos 0) S.second_y S.second_z))
+    each (suc (suc zero)) l = third_row 3 S r (has_three (vector (pos 0) (pos 0) S.third_z))
     each (suc (suc (suc i))) l = absurd (omega arith)
 
 -- the rows are the staircase basis
@@ -337,7 +349,8 @@ rows_are_basis (suc (suc (suc (suc d)))) S h k s = absurd (omega arith)
 
 -- what a staircase lends of its list
 lent : (d : ℕ) → 2 ≤ d → d ≤ 3 → (S : Stairs)
-    → take d (vector S.a S.b S.c ∷ vector (pos 0) S.e S.f ∷ vector (pos 0) (pos 0) (cond (d == 2) (pos 0) S.i) ∷ []) ≡ rows_of d S
+    → take d (vector S.first_x S.first_y S.first_z ∷ vector (pos 0) S.second_y S.second_z ∷ vector (pos 0) (pos 0) (cond (d == 2) (pos 0) S.third_z)
+    ∷ []) ≡ rows_of d S
 lent d l p S = search arith
 
 -- the rows' parts are at most 2^60
@@ -345,11 +358,12 @@ rows_within : (d : ℕ) → 2 ≤ d → d ≤ 3 → {m : ℤ} (S : Stairs) → I
 rows_within d h k {m} S kept =
     let P = IsWithin (2 ^ 60) in let s = boxed_within kept.m_to (boxed_second kept) in
     let t = boxed_within kept.m_to (boxed_third kept) in
-    All-cons P (vector S.a S.b S.c) (vector (pos 0) S.e S.f ∷ cond (d == 2) [] (vector (pos 0) (pos 0) S.i ∷ [])) (boxed_within kept.m_to (boxed_first kept))
-    (All-cons P (vector (pos 0) S.e S.f) (cond (d == 2) [] (vector (pos 0) (pos 0) S.i ∷ [])) (omega arith, s.0, s.1)
+    All-cons P (vector S.first_x S.first_y S.first_z) (vector (pos 0) S.second_y S.second_z ∷ cond (d == 2) [] (vector (pos 0) (pos 0) S.third_z
+    ∷ [])) (boxed_within kept.m_to (boxed_first kept))
+    (All-cons P (vector (pos 0) S.second_y S.second_z) (cond (d == 2) [] (vector (pos 0) (pos 0) S.third_z ∷ [])) (omega arith, s.0, s.1)
     (last (d == 2) (omega arith, omega arith, t.0)))
   where
-    last : (b : Bool) → IsWithin (2 ^ 60) (vector (pos 0) (pos 0) S.i) → All (IsWithin (2 ^ 60)) (cond b [] (vector (pos 0) (pos 0) S.i ∷ []))
+    last : (b : Bool) → IsWithin (2 ^ 60) (vector (pos 0) (pos 0) S.third_z) → All (IsWithin (2 ^ 60)) (cond b [] (vector (pos 0) (pos 0) S.third_z ∷ []))
     last b h = grind arith
 
 -- what is known of the vectors that a staircase lends
@@ -360,7 +374,8 @@ pub record AreRows (d : ℕ) (S : Stairs) (vs : List Vector) : Type 0 where
 
 -- and that they are the rows
 pub lent_rows : (d : ℕ) → 2 ≤ d → d ≤ 3 → {m : ℤ} {S : Stairs} → (d ≡ 2 → HasFlatEnd S) → IsBoundedStair m S → {vs : List Vector}
-    → vs ≡ vector S.a S.b S.c ∷ vector (pos 0) S.e S.f ∷ vector (pos 0) (pos 0) (cond (d == 2) (pos 0) S.i) ∷ [] → AreRows d S (take d vs)
+    → vs ≡ vector S.first_x S.first_y S.first_z ∷ vector (pos 0) S.second_y S.second_z ∷ vector (pos 0) (pos 0) (cond (d == 2) (pos 0) S.third_z) ∷ []
+    → AreRows d S (take d vs)
 lent_rows d h k {m} {S} flat kept {vs} e = subst (AreRows d S) (sym (ap (take d) e ∙ lent d h k S))
     (record { basis = rows_are_basis d S h k shape; small = rows_within d h k S kept; spans = rows_span d S shape })
   where

@@ -24,20 +24,20 @@ start_kept b last k h i l m e = record {
   m_from = h;
   m_to = omega (arith, linear, i);
   reduced = record {
-    a = h;
-    e = h;
-    i = l;
-    b_from = omega (arith, linear);
-    b_to = h;
-    c_from = omega (arith, linear);
-    c_to = l;
-    f_from = omega (arith, linear);
-    f_to = l;
+    first_x = h;
+    second_y = h;
+    third_z = l;
+    first_y_from = omega (arith, linear);
+    first_y_to = h;
+    first_z_from = omega (arith, linear);
+    first_z_to = l;
+    second_z_from = omega (arith, linear);
+    second_z_to = l;
   };
   bound = start_bound b last k e;
-  a_to = omega (arith, linear);
-  e_to = omega (arith, linear);
-  i_to = m;
+  first_x_to = omega (arith, linear);
+  second_y_to = omega (arith, linear);
+  third_z_to = m;
 }
 
 -- a positive number that is at most 1 is 1
@@ -48,21 +48,26 @@ one_or i s h j e = omega (arith, linear, ints, h, j, e)
 pub flat_kept : {m : ℤ} {S T : Stairs} {v : Vector} → HasFlatEnd S → IsInserted m S T v → HasFlatEnd T
 flat_kept {m} {S} {T} {v} h n =
     let r = n.kept.reduced in let s = own_rows S in
-    let t = n.added.into (vector (pos 0) (pos 0) S.i)
+    let t = n.added.into (vector (pos 0) (pos 0) S.third_z)
     (record {
       k = pos 0;
-      u = vector (pos 0) (pos 0) S.i;
+      u = vector (pos 0) (pos 0) S.third_z;
       member = s.third;
       x = simp ring refl;
       y = simp ring refl;
       z = simp ring (omega (arith, linear));
     }) in
-    let e = one_or T.i S.i r.i (third_least (vector (pos 0) (pos 0) S.i) r t refl refl (subst (λ t. pos 0 <ℤ t) (sym h.i) (omega (arith, ints)))) h.i in
-    record { c = omega (arith, linear, ints, e, r.c_from, r.c_to); f = omega (arith, linear, ints, e, r.f_from, r.f_to); i = e }
+    let e = one_or T.third_z S.third_z r.third_z (third_least (vector (pos 0) (pos 0) S.third_z) r t refl refl (subst (λ t. pos 0 <ℤ t) (sym h.third_z)
+    (omega (arith, ints)))) h.third_z in
+    record {
+      first_z = omega (arith, linear, ints, e, r.first_z_from, r.first_z_to);
+      second_z = omega (arith, linear, ints, e, r.second_z_from, r.second_z_to);
+      third_z = e;
+    }
 
 -- in dimension 2 its last row is (0, 0, 1)
 pub flat_start : (b last : ℤ) → last ≡ pos 1 → HasFlatEnd (stairs b (pos 0) (pos 0) b (pos 0) last)
-flat_start b last e = record { c = refl; f = refl; i = e }
+flat_start b last e = record { first_z = refl; second_z = refl; third_z = e }
 
 -- with (0, 0, 1) for the last row
 pub start_one : (b last : ℤ) → pos 0 <ℤ b → b <ℤ pos (2 ^ 60) → last ≡ pos 1 → IsBoundedStair b (stairs b (pos 0) (pos 0) b (pos 0) last)

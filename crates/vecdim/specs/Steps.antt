@@ -34,10 +34,10 @@ pub record HasBound (S : Stairs) (m : ℤ) : Type 0 where
   pub first : InStairs S (vector m (pos 0) (pos 0))
   pub second_k : ℤ
   pub second_l : ℤ
-  pub second_y : m ≡ second_k *ℤ S.e
-  pub second_z : pos 0 ≡ second_k *ℤ S.f +ℤ second_l *ℤ S.i
+  pub second_y : m ≡ second_k *ℤ S.second_y
+  pub second_z : pos 0 ≡ second_k *ℤ S.second_z +ℤ second_l *ℤ S.third_z
   pub third_k : ℤ
-  pub third_z : m ≡ third_k *ℤ S.i
+  pub third_z : m ≡ third_k *ℤ S.third_z
 
 -- what holds between two insertions
 pub record IsBoundedStair (m : ℤ) (S : Stairs) : Type 0 where
@@ -45,15 +45,15 @@ pub record IsBoundedStair (m : ℤ) (S : Stairs) : Type 0 where
   pub m_to : m ≤ℤ pos (2 ^ 60)
   pub reduced : IsReducedStair S
   pub bound : HasBound S m
-  pub a_to : S.a ≤ℤ m
-  pub e_to : S.e ≤ℤ m
-  pub i_to : S.i ≤ℤ m
+  pub first_x_to : S.first_x ≤ℤ m
+  pub second_y_to : S.second_y ≤ℤ m
+  pub third_z_to : S.third_z ≤ℤ m
 
 -- no pivot is past 2^60
 pub record HasSmallPivots (S : Stairs) : Type 0 where
-  pub a : S.a ≤ℤ pos (2 ^ 60)
-  pub e : S.e ≤ℤ pos (2 ^ 60)
-  pub i : S.i ≤ℤ pos (2 ^ 60)
+  pub first_x : S.first_x ≤ℤ pos (2 ^ 60)
+  pub second_y : S.second_y ≤ℤ pos (2 ^ 60)
+  pub third_z : S.third_z ≤ℤ pos (2 ^ 60)
 
 -- w is a member of the lattice plus a multiple of v
 pub record InSum (S : Stairs) (v w : Vector) : Type 0 where
@@ -77,7 +77,7 @@ pub record IsInserted (m : ℤ) (S T : Stairs) (v : Vector) : Type 0 where
 -- v is the rests r, and q.x, q.y and q.z times the rows; each rest is from 0 to below the pivot
 pub record HasRemainder (S : Stairs) (v q r : Vector) : Type 0 where
   pub low : (pos 0 ≤ℤ r.x) × (pos 0 ≤ℤ r.y) × (pos 0 ≤ℤ r.z)
-  pub high : (r.x <ℤ S.a) × (r.y <ℤ S.e) × (r.z <ℤ S.i)
-  pub x : v.x ≡ r.x +ℤ S.a *ℤ q.x
-  pub y : v.y -ℤ S.b *ℤ q.x ≡ r.y +ℤ S.e *ℤ q.y
-  pub z : (v.z -ℤ S.c *ℤ q.x) -ℤ S.f *ℤ q.y ≡ r.z +ℤ S.i *ℤ q.z
+  pub high : (r.x <ℤ S.first_x) × (r.y <ℤ S.second_y) × (r.z <ℤ S.third_z)
+  pub x : v.x ≡ r.x +ℤ S.first_x *ℤ q.x
+  pub y : v.y -ℤ S.first_y *ℤ q.x ≡ r.y +ℤ S.second_y *ℤ q.y
+  pub z : (v.z -ℤ S.first_z *ℤ q.x) -ℤ S.second_z *ℤ q.y ≡ r.z +ℤ S.third_z *ℤ q.z

@@ -6,7 +6,7 @@ ghost use Rattle.vecdim.specs.Steps.{Exchange, IsBoxed};
 use crate::modulo;
 
 /// A quotient and the rest.
-#[derive(Clone, Copy, Debug)]
+#[derive(Clone, Copy)]
 pub struct Division {
     pub quotient: i128,
     pub rest: i128,

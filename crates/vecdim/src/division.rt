@@ -79,17 +79,22 @@ pub(crate) struct Divided {
 
 // A vector divided by the rows.
 pub(crate) fn divide_by(s: Rows, v: Triple) -> Divided
-    requires reduced { IsReducedStair (stairs s.a s.b s.c s.e s.f s.i) }
-    requires small { HasSmallPivots (stairs s.a s.b s.c s.e s.f s.i) }
+    requires reduced { IsReducedStair (stairs s.first_x s.first_y s.first_z s.second_y s.second_z
+        s.third_z) }
+    requires small { HasSmallPivots (stairs s.first_x s.first_y s.first_z s.second_y s.second_z
+        s.third_z) }
     requires vector { IsWithin (2 ^ 61) v }
-    ensures divided { HasRemainder (stairs s.a s.b s.c s.e s.f s.i) v
+    ensures divided { HasRemainder (stairs s.first_x s.first_y s.first_z s.second_y s.second_z
+        s.third_z) v
         result.quotients result.rests }
     ensures within { (n : ℕ) → IsWithin n v → IsWithin (2 * n) result.quotients }
     ensures small { IsWithin (2 ^ 60) result.rests }
 {
-    let x = split(v.x, s.a);
-    let y = split_less(v.y, s.b, x.quotient, s.e);
-    let z = split_less_two(v.z, s.c, x.quotient, s.f, y.quotient, s.i);
+    let x = split(v.x, s.first_x);
+    let y = split_less(v.y, s.first_y, x.quotient, s.second_y);
+    let z = split_less_two(
+        v.z, s.first_z, x.quotient, s.second_z, y.quotient, s.third_z,
+    );
     Divided {
         quotients: Triple {
             x: x.quotient,

@@ -6,39 +6,42 @@ ghost use Rattle.vecdim.specs.Steps.{IsBoundedStair, IsInserted};
 use crate::columns::{Line, column, divide, less_times};
 use crate::modulo;
 
-// The rows (a, b, c), (0, e, f) and (0, 0, i), as plain numbers.
+// The rows (first_x, first_y, first_z), (0, second_y, second_z) and (0, 0, third_z), as plain
+// numbers.
 #[derive(Clone, Copy, Debug)]
 pub(crate) struct Rows {
-    pub(crate) a: i128,
-    pub(crate) b: i128,
-    pub(crate) c: i128,
-    pub(crate) e: i128,
-    pub(crate) f: i128,
-    pub(crate) i: i128,
+    pub(crate) first_x: i128,
+    pub(crate) first_y: i128,
+    pub(crate) first_z: i128,
+    pub(crate) second_y: i128,
+    pub(crate) second_z: i128,
+    pub(crate) third_z: i128,
 }
 
 // The rows of the lattice with all multiples of a vector added; the multiples of m belong to it.
 pub(crate) fn insert_rows(s: Rows, vx: i128, vy: i128, vz: i128, m: i128) -> Rows
-    requires kept { IsBoundedStair m (stairs s.a s.b s.c s.e s.f s.i) }
-    ensures { IsInserted m (stairs s.a s.b s.c s.e s.f s.i)
-        (stairs result.a result.b result.c result.e result.f result.i) (vector vx vy vz) }
+    requires kept { IsBoundedStair m (stairs s.first_x s.first_y s.first_z s.second_y s.second_z
+        s.third_z) }
+    ensures { IsInserted m (stairs s.first_x s.first_y s.first_z s.second_y s.second_z s.third_z)
+        (stairs result.first_x result.first_y result.first_z result.second_y result.second_z
+        result.third_z) (vector vx vy vz) }
 {
     let x = modulo(vx, m);
     let y = modulo(vy, m);
     let z = modulo(vz, m);
     let one = column(
         Line {
-            x: s.a,
-            y: s.b,
-            z: s.c,
+            x: s.first_x,
+            y: s.first_y,
+            z: s.first_z,
         },
         Line { x, y, z },
         m,
     );
     let two = column(
         Line {
-            x: s.e,
-            y: s.f,
+            x: s.second_y,
+            y: s.second_z,
             z: 0,
         },
         Line {
@@ -49,7 +52,11 @@ pub(crate) fn insert_rows(s: Rows, vx: i128, vy: i128, vz: i128, m: i128) -> Row
         m,
     );
     let three = column(
-        Line { x: s.i, y: 0, z: 0 },
+        Line {
+            x: s.third_z,
+            y: 0,
+            z: 0,
+        },
         Line {
             x: two.lower.y,
             y: 0,
@@ -62,11 +69,11 @@ pub(crate) fn insert_rows(s: Rows, vx: i128, vy: i128, vz: i128, m: i128) -> Row
     let c1 = less_times(one.upper.z, parts.quotient, f, m);
     let c = modulo(c1, three.upper.x);
     Rows {
-        a: one.upper.x,
-        b: parts.rest,
-        c,
-        e: two.upper.x,
-        f,
-        i: three.upper.x,
+        first_x: one.upper.x,
+        first_y: parts.rest,
+        first_z: c,
+        second_y: two.upper.x,
+        second_z: f,
+        third_z: three.upper.x,
     }
 }

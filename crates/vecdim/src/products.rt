@@ -39,6 +39,27 @@ impl Triple {
     }
 }
 
+impl<const D: usize> Vect<D> {
+    ghost use Rattle.std.specs.Prelude.{◌≡◌, ◌↔◌, ◌^◌, pos, IsTrue};
+    ghost use Rattle.integers.specs.Vectors.{cross, dot, zero_vector, IsWithin};
+
+    /// Whether both are on one line through 0.
+    pub fn is_parallel(&self, other: &Vect<D>) -> bool
+        ensures { IsTrue result ↔ (cross self.now other.now ≡ zero_vector) }
+    {
+        self.to_triple().cross(&other.to_triple()).is_zero()
+    }
+
+    /// Whether the vector is orthogonal to `c`.
+    pub fn is_orthogonal(&self, c: &Triple) -> bool
+        requires vector { IsWithin (2 ^ 41) self.now }
+        requires c { IsWithin (2 ^ 84) c.now }
+        ensures { IsTrue result ↔ (dot c.now self.now ≡ pos 0) }
+    {
+        c.dot(&self.to_triple()) == 0
+    }
+}
+
 /// The triple product of vectors of any dimension.
 pub fn product_of_three(a: &Triple, b: &Triple, c: &Triple) -> i128
     requires a { IsWithin (2 ^ 41) a.now }
@@ -96,7 +117,7 @@ fn one_independent<const D: usize>(a: &Vect<D>) -> bool
 fn two_independent<const D: usize>(a: &Vect<D>, b: &Vect<D>) -> bool
     ensures { IsTrue result ↔ AreIndependent (a.now ∷ b.now ∷ []) }
 {
-    !a.to_triple().cross(&b.to_triple()).is_zero()
+    !a.is_parallel(b)
 }
 
 // Whether three vectors are not in one plane.

@@ -29,35 +29,42 @@ impl<const D: usize> Model for Staircase<D> {
 
     ghost Value = { Stairs };
 
-    ghost view = { λ t. stairs t.rows.a t.rows.b t.rows.c t.rows.e t.rows.f t.rows.i };
+    ghost view = { λ t. stairs t.rows.first_x t.rows.first_y t.rows.first_z t.rows.second_y
+        t.rows.second_z t.rows.third_z };
 
     ghost invariant = { λ t. (2 ≤ D) × (D ≤ 3)
-        × (D ≡ 2 → HasFlatEnd (stairs t.rows.a t.rows.b t.rows.c t.rows.e t.rows.f t.rows.i))
-        × IsBoundedStair t.bound (stairs t.rows.a t.rows.b t.rows.c t.rows.e t.rows.f t.rows.i)
-        × (t.list ≡ vector t.rows.a t.rows.b t.rows.c ∷ vector (pos 0) t.rows.e t.rows.f
-        ∷ vector (pos 0) (pos 0) (cond (D == 2) (pos 0) t.rows.i) ∷ []) };
+        × (D ≡ 2 → HasFlatEnd (stairs t.rows.first_x t.rows.first_y t.rows.first_z t.rows.second_y
+        t.rows.second_z t.rows.third_z))
+        × IsBoundedStair t.bound (stairs t.rows.first_x t.rows.first_y t.rows.first_z
+        t.rows.second_y t.rows.second_z t.rows.third_z)
+        × (t.list ≡ vector t.rows.first_x t.rows.first_y t.rows.first_z ∷ vector (pos 0)
+        t.rows.second_y t.rows.second_z
+        ∷ vector (pos 0) (pos 0) (cond (D == 2) (pos 0) t.rows.third_z) ∷ []) };
 }
 
 // The staircase of these rows.
 fn with_list<const D: usize>(rows: Rows, bound: i128) -> Staircase<D>
     requires two { 2 ≤ D }
     requires three { D ≤ 3 }
-    requires flat { D ≡ 2 → HasFlatEnd (stairs rows.a rows.b rows.c rows.e rows.f rows.i) }
-    requires kept { IsBoundedStair bound (stairs rows.a rows.b rows.c rows.e rows.f rows.i) }
-    ensures { result ≡ stairs rows.a rows.b rows.c rows.e rows.f rows.i }
+    requires flat { D ≡ 2 → HasFlatEnd (stairs rows.first_x rows.first_y rows.first_z rows.second_y
+        rows.second_z rows.third_z) }
+    requires kept { IsBoundedStair bound (stairs rows.first_x rows.first_y rows.first_z
+        rows.second_y rows.second_z rows.third_z) }
+    ensures { result ≡ stairs rows.first_x rows.first_y rows.first_z rows.second_y rows.second_z
+        rows.third_z }
 {
-    let last = if D == 2 { 0 } else { rows.i };
+    let last = if D == 2 { 0 } else { rows.third_z };
     Staircase {
         list: [
             Vect {
-                x: rows.a,
-                y: rows.b,
-                z: rows.c,
+                x: rows.first_x,
+                y: rows.first_y,
+                z: rows.first_z,
             },
             Vect {
                 x: 0,
-                y: rows.e,
-                z: rows.f,
+                y: rows.second_y,
+                z: rows.second_z,
             },
             Vect {
                 x: 0,
@@ -82,12 +89,12 @@ impl<const D: usize> Staircase<D> {
         let last = if D == 2 { 1 } else { b };
         with_list(
             Rows {
-                a: b,
-                b: 0,
-                c: 0,
-                e: b,
-                f: 0,
-                i: last,
+                first_x: b,
+                first_y: 0,
+                first_z: 0,
+                second_y: b,
+                second_z: 0,
+                third_z: last,
             },
             b,
         )
@@ -97,7 +104,7 @@ impl<const D: usize> Staircase<D> {
     pub fn is_whole(&self) -> bool
         ensures whole { IsTrue result ↔ IsWhole self.now }
     {
-        self.rows.a == 1 && self.rows.e == 1 && self.rows.i == 1
+        self.rows.first_x == 1 && self.rows.second_y == 1 && self.rows.third_z == 1
     }
 
     /// Adds `v` and all that it generates.
@@ -132,7 +139,8 @@ impl<const D: usize> Staircase<D> {
         &self.list[..D]
     }
 
-    /// What holds of each staircase, for a proof that needs it. It does nothing.
+    /// What holds of each staircase. A proof knows it only after a call whose contract says so: this
+    /// one, which does nothing.
     pub fn recall(&self)
         ensures stair { HasStairShape D self.now }
         ensures basis { IsStaircase (Members D self.now) D (rows_of D self.now) }
@@ -146,10 +154,10 @@ impl<const D: usize> Staircase<D> {
         ensures stair { HasStairShape D self.now }
         ensures small { IsWithin (2 ^ 60) result }
     {
-        let last = if D == 2 { 0 } else { self.rows.i };
+        let last = if D == 2 { 0 } else { self.rows.third_z };
         Triple {
-            x: self.rows.a,
-            y: self.rows.e,
+            x: self.rows.first_x,
+            y: self.rows.second_y,
             z: last,
         }
     }
@@ -190,7 +198,7 @@ impl<const D: usize> Staircase<D> {
         requires { size_of self.now < 2 ^ 127 }
         ensures { result ≡ pos (size_of self.now) }
     {
-        self.rows.a * (self.rows.e * self.rows.i)
+        self.rows.first_x * (self.rows.second_y * self.rows.third_z)
     }
 }
 

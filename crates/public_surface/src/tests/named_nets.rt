@@ -4,7 +4,7 @@ ghost use Rattle.std.specs.Prelude.{◌≤◌, length};
 ghost use Rattle.nets.specs.Words.{longest_text};
 
 use super::{DIA, PCU, TILTED};
-use nets::{Archive, MOST_BYTES, Net, Trouble, are_isomorphic, names_of, net_in};
+use nets::{Archive, MOST_BYTES, Net, TextFault, are_isomorphic, names_of, net_in};
 use std::alloc::Global;
 use std::test::Fail;
 
@@ -12,7 +12,7 @@ const ARCHIVE: &str =
     "net_archive 1\nentry \"cube\"\ngraph 3 1 3\nedge 1 1 0 0 1\nedge 1 1 0 1 0\nedge 1 1 1 0 0\nkey 3 1 1 1 1 0 0 1 1 1 0 1 0 1 1 1 0 0\nend\n";
 
 /// Whether the first graph of a text is that of a net, up to isomorphism.
-fn is_same_net(alloc: Global, net: &Net, text: &[u8]) -> Result<bool, Trouble>
+fn is_same_net(alloc: Global, net: &Net, text: &[u8]) -> Result<bool, TextFault>
     requires { length text.now ≤ longest_text }
 {
     let other = net_in(alloc, text)?;
@@ -24,7 +24,7 @@ fn first_name<'a>(
     alloc: Global,
     archive: &'a Archive,
     text: &[u8],
-) -> Result<Option<&'a [u8]>, Trouble>
+) -> Result<Option<&'a [u8]>, TextFault>
     requires { length text.now ≤ longest_text }
 {
     let net = net_in(alloc, text)?;

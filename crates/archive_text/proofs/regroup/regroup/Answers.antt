@@ -1,3 +1,4 @@
+-- Of `regroup`: the loop over `grouped`.
 use Rattle.std.proofs.Common.{◌≡◌, ◌∙◌, ◌<◌, ◌++◌, ◌∷◌, [], List, sym, ap, length, get_or, map, arith}
 use Rattle.std.proofs.lemmas.List.{map-append, length-map, length-append}
 use Rattle.std.proofs.{Math.ListN.get_or-map, lemmas.List.Edits.length-remove}

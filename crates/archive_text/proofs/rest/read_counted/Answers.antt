@@ -1,3 +1,4 @@
+-- Of `read_counted`: the clause `rest`.
 use Rattle.std.proofs.Common.{[], ◌∷◌, ◌++◌}
 use Rattle.line_text.specs.{Faults.IfBadLine, Lines.IsAt}
 use Rattle.archive_text.specs.Parts.{Keyed, end_part, part_rows}

@@ -1,3 +1,4 @@
+-- Of `next_shells`: the clauses `place` and `none`.
 use Rattle.std.proofs.Common.{◌≡◌, Ok, Vec, Global, Option, ap, ℕ, List, [], ◌∷◌, ◌++◌, IfSome, IfNone, sym, ◌∙◌, subst}
 use Rattle.std.{proofs.lemmas.Result.IfOk-weaker, proofs.lemmas.Bool.true≢false, specs.Prelude.codes}
 use Rattle.line_text.{specs.Lines.IsAt, specs.Numbers.row_text, proofs.CallerLemmas.some_from}

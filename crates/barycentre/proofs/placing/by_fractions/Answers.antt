@@ -1,3 +1,4 @@
+-- Of `by_fractions`: what `units_in_limits` requires; the clauses `normal` and `fault`.
 use Rattle.std.proofs.{Common.lit<, lemmas.Result.IfOk-weaker, lemmas.Result.IfErr-weaker}
 use Rattle.fraction.specs.Values.{fraction_value}
 use Rattle.elimination.specs.Rows.{value_in}

@@ -1,3 +1,4 @@
+-- Of `fraction_row`: what it ensures.
 use Rattle.std.proofs.Common.{◌≡◌, ⊎_elim, arith}
 use Rattle.barycentre.{specs.Recovered.by_coordinate, proofs.Recovered.flat_row, proofs.Recovered.full_row}
 use Rattle.elimination.proofs.CallerLemmas.{dimension_three}

@@ -1,3 +1,4 @@
+-- Of `read_graph`: what `judge` and `finish` require; the clause `graph`.
 use Rattle.std.proofs.Common.{◌≡◌, ◌∷◌, ◌∙◌, ◌≤◌, None, sym, subst, length}
 use Rattle.periodic_net.specs.Limits.{most_vertices}
 use Rattle.cgd_read.specs.{Views.line_view, Views.raw_view, Faults.rows_in, Faults.fault_of}

@@ -1,3 +1,4 @@
+-- Of `count_of`: what it ensures.
 use Rattle.std.proofs.Common.{◌≡◌, ◌∙◌, ℕ, true, sym, ap, subst}
 use Rattle.std.{proofs.lemmas.Bool.true≢false, specs.Result.result_ok, specs.Str.Parse.digits_value}
 use Rattle.command_words.proofs.FewNets.{count_is, count_parsed, no_count}

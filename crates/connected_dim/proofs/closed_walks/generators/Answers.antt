@@ -1,3 +1,4 @@
+-- Of `generators`: what `edge_walk` requires; the loop over `e`; the clause `generators`.
 use Rattle.std.proofs.Common.{All, sym, ap, subst, ◌∙◌, lit<}
 use Rattle.integers.specs.Vectors.{IsWithin}
 use Rattle.periodic_net.specs.{Graph.Arc, Limits.most_closed}

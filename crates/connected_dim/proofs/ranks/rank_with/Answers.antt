@@ -1,3 +1,4 @@
+-- Of `rank_with`: what `flat_volume` and `space_volume` require; what it ensures.
 use Rattle.std.proofs.Common.{◌≢◌, refl, sym, subst, lit<, FitsSigned}
 use Rattle.std.{proofs.lemmas.Int.to_z-of_z, proofs.lemmas.List.Elements.All-contains, specs.Int.w128}
 use Rattle.integers.specs.Vectors.{zero_vector, IsWithin}

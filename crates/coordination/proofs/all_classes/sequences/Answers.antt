@@ -1,3 +1,4 @@
+-- Of `sequences`: what `box_sequences` requires; the clauses `sequences` and `few`.
 use Rattle.std.proofs.Common.{◌≤◌, List, ℕ, ap, subst, sym, ◌∙◌, lit<}
 use Rattle.std.specs.Prelude.{Option, IfSome}
 use Rattle.periodic_net.specs.{Classes.ClassGraph, Limits.most_vertices}

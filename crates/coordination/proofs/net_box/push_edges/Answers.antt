@@ -1,3 +1,4 @@
+-- Of `push_edges`: the loop over `edge`; what it ensures.
 use Rattle.std.proofs.Common.{◌≡◌, ◌+◌, ◌<◌, List, drop, get_or, length, map, sym, subst, ap, ◌∙◌}
 use Rattle.periodic_net.specs.Graph.{Arc, IsEdge}
 use Rattle.primitive_cell.specs.DividedNets.{DividedNet}

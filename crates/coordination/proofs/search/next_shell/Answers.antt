@@ -1,3 +1,4 @@
+-- Of `next_shell`: the loop over `from`; what `follow` requires; the clauses `next` and `found`.
 use Rattle.std.proofs.Common.{◌<◌, length, ◌+◌, lit<, arith}
 use Rattle.coordination.proofs.Layers.{search_starts, search_ends, search_stops}
 use Rattle.coordination.{proofs.PointShells.star_short, proofs.PointShells.search_turn, specs.Points.IsStep}

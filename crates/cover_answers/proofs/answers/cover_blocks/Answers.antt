@@ -1,3 +1,4 @@
+-- Of `cover_blocks`: the loop over `block`; what it ensures.
 use Rattle.std.proofs.Common.{ℕ, ◌+◌, ◌&&◌, true, [], List, sym, subst}
 use Rattle.cgd_read.specs.Views.{views}
 use Rattle.net_report.specs.declared.outcome.Outcome.{Outcome}

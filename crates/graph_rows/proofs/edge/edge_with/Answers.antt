@@ -1,3 +1,4 @@
+-- Of `edge_with`: the clauses `form` and `every`.
 use Rattle.std.proofs.Common.{◌≡◌, ◌≤◌, ℤ, pos, FitsSigned, unsigned_abs, sym, ◌∙◌, subst}
 use Rattle.std.proofs.lemmas.{Bool.true≢false, Int.to_z-of_z}
 use mir.Syntax.{w32, w128}

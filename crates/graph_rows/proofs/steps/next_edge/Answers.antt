@@ -1,3 +1,4 @@
+-- Of `next_edge`: the clauses `place` and `none`.
 use Rattle.std.proofs.Common.{◌≡◌, Ok, [], ◌∷◌, ◌++◌, sym, ap, ◌∙◌, subst}
 use Rattle.std.{proofs.lemmas.Option.none-some, proofs.lemmas.Bool.true≢false, specs.Prelude.codes}
 use Rattle.line_text.{specs.Lines.IsAt, specs.Numbers.row_text, proofs.CallerLemmas.none_from, proofs.CallerLemmas.some_from}

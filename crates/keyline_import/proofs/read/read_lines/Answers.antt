@@ -1,3 +1,4 @@
+-- Of `read_lines`: the clause `item`; the loop over `head`; what `ended_item` requires.
 use Rattle.std.proofs.Common.{[], ◌∷◌, ◌∙◌, refl, sym, ap, subst}
 use Rattle.cgd_lex.specs.Lines.{rest_of_line, after_line}
 use Rattle.keyline_import.specs.Items.{ItemView, item_after, after_end}

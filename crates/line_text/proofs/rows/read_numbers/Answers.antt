@@ -1,3 +1,4 @@
+-- Of `read_numbers`: the loop over `rest`; the clause `every`.
 use Rattle.std.proofs.Common.{ap, arith, length, refl, sym, ◌∙◌, [], ◌∷◌, ◌++◌, subst}
 use Rattle.std.proofs.lemmas.{List.length-append, Int.to_z-of_z, Option.none-some}
 use mir.Syntax.{w128}

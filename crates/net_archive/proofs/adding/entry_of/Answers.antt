@@ -1,3 +1,4 @@
+-- Of `entry_of`: the clause `is_entry`.
 use Rattle.std.proofs.Common.{◌∙◌, sym, subst}
 use Rattle.periodic_net.specs.Graph.{Graph}
 use Rattle.coordination.specs.Sequences.{AreSequencesOf}

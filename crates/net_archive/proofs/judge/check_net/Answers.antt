@@ -1,3 +1,4 @@
+-- Of `check_net`: the clauses `fault`, `key` and `shells`.
 use Rattle.std.proofs.Common.{subst}
 use Rattle.periodic_net.specs.Graph.{Graph}
 use Rattle.least_key.{specs.AnyNets.net_view, proofs.CallerLemmas.known_error}

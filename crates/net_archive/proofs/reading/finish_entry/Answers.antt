@@ -1,3 +1,4 @@
+-- Of `finish_entry`: what `judge` requires; what it ensures.
 use Rattle.archive_text.specs.{Entries.entry_view, Texts.rows_before}
 use Rattle.net_archive.proofs.FirstFaults.{judged, result_both, rows_told}
 use Rattle.net_archive.proofs.{NewEntry.are_edges, NewEntry.one_more_entry, OneFault.matched_error}

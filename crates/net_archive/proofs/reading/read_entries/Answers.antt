@@ -1,3 +1,4 @@
+-- Of `read_entries`: what it ensures; the loop over `version`.
 use Rattle.std.proofs.{Common.◌++◌, Common.sym, Common.◌∙◌, Common.subst, lemmas.Bool.eqb-true}
 use Rattle.line_text.specs.Lines.{rows_text}
 use Rattle.archive_text.specs.{Entries.entry_view, Texts.rows_before}

@@ -1,3 +1,4 @@
+-- Of `map_of`: what `ends`, `image_cells` and `write_map` require; what it ensures.
 use Rattle.std.proofs.Common.{lit<, sym, subst}
 use Rattle.standard_map.specs.Search.{AreEnds}
 use Rattle.net_certificate.{specs.Answers.IsMapAnswer, specs.Written.IsAnswerOf, proofs.FoundMaps.if_ok, proofs.FoundMaps.one_key}

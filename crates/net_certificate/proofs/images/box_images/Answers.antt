@@ -1,3 +1,4 @@
+-- Of `box_images`: what `image_of` requires; the loop over `i`; what it ensures.
 use Rattle.std.proofs.Common.{◌≡◌, ◌<◌, ◌*◌, ℕ, lit<, sym, subst, ap, ◌∙◌, arith}
 use Rattle.periodic_net.specs.Graph.{Graph, Vertex}
 use Rattle.map_check.specs.{Layouts.box_size, Layouts.vertex_at, Conditions.most_period}

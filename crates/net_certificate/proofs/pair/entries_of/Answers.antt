@@ -1,3 +1,4 @@
+-- Of `entries_of`: the clauses `found` and `every`.
 use Rattle.std.proofs.Common.{◌≡◌, ℕ, pos, sym, ◌∙◌}
 use Rattle.std.proofs.lemmas.{Int.to_z-of_z, Option.none-some}
 use mir.Syntax.{w128}

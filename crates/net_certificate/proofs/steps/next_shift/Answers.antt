@@ -1,3 +1,4 @@
+-- Of `next_shift`: the clauses `place` and `none`.
 use Rattle.std.proofs.Common.{◌≡◌, Ok, ap, [], ◌∷◌, ◌++◌, sym, ◌∙◌, subst}
 use Rattle.std.{proofs.lemmas.Option.none-some, proofs.lemmas.Bool.true≢false, specs.Prelude.codes}
 use Rattle.integers.specs.Vectors.{Vector, parts}

@@ -1,3 +1,4 @@
+-- Of `read_shifts`: the clause `shifts`; the loop.
 use Rattle.std.proofs.Common.{◌<◌, [], ◌∷◌, ◌++◌, length, refl, sym, ap, ◌∙◌, subst, arith}
 use Rattle.std.proofs.lemmas.List.{length-append}
 use Rattle.integers.specs.Vectors.{Vector}

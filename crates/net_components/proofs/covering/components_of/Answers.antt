@@ -1,3 +1,4 @@
+-- Of `components_of`: what `next_component` requires; the loop over `u`.
 use Rattle.std.proofs.Common.{◌+◌, List, lit<, Vec, Global, sym, ap, subst, ◌∙◌, arith}
 use Rattle.periodic_net.specs.Graph.{IsQuotientVertex}
 use Rattle.net_components.specs.Components.{Component, AreComponentsTo, IsFoundIn}

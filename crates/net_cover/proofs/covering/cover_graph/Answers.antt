@@ -1,4 +1,4 @@
--- Of `cover_graph`: the clauses `fault`, `cover`, `iso`, `size` and `coverable`; what `from_edges` requires. `made` is what most of them share.
+-- Of `cover_graph`: the clauses `fault`, `cover`, `iso`, `size` and `coverable`; what `from_unsorted` requires. `made` is what most of them share.
 use Rattle.std.proofs.Common.{◌∙◌, ◌*◌, ℕ, lit<, ap, subst}
 use Rattle.periodic_net.specs.{Graph.IsGraph, Limits.IsSmall}
 use Rattle.quotient_graph.specs.Stars.{graph_with}
@@ -32,32 +32,32 @@ returns-in-Err-given_edges-clause-fault g c =
     let fault = c.in-Err-given_edges.fault in
     wide_fault G R S h f fault (told_of G R.rows g.row.D c.edges.result.now k.parameter c.edges.ensures.edges S fault c.in-Err-given_edges.ensures.wide)
 
-pub from_edges-requires : goal.from_edges-requires
-from_edges-requires g c =
-    let k = c.recall.ensures in let m = made g (goal.at.from_edges-requires g c).After-vertex_count-n in
+pub from_unsorted-requires : goal.from_unsorted-requires
+from_unsorted-requires g c =
+    let k = c.recall.ensures in let m = made g (goal.at.from_unsorted-requires g c).After-vertex_count-n in
     let n = c.vertex_count-n.result in let es = c.in-Ok-given_edges.edges.items in
     let graph = subst (λ (d : ℕ). IsGraph (graph_with d n es)) k.parameter (given_graph m) in
     let small = subst (λ (d : ℕ). IsSmall (graph_with d n es)) k.parameter (given_small m) in
     (lit< tt, (lit< tt, (graph, small)))
 
-pub returns-in-Ok-from_edges-clause-cover : goal.returns-in-Ok-from_edges-clause-cover
-returns-in-Ok-from_edges-clause-cover g c =
-    let H = c.in-Ok-from_edges.cover in
-    given_cover (made g (goal.at.returns-in-Ok-from_edges-clause-cover g c).After-vertex_count-n) H
-    (rw c.recall.ensures.parameter c.in-Ok-from_edges.ensures)
+pub returns-in-Ok-from_unsorted-clause-cover : goal.returns-in-Ok-from_unsorted-clause-cover
+returns-in-Ok-from_unsorted-clause-cover g c =
+    let H = c.in-Ok-from_unsorted.cover in
+    given_cover (made g (goal.at.returns-in-Ok-from_unsorted-clause-cover g c).After-vertex_count-n) H
+    (rw c.recall.ensures.parameter c.in-Ok-from_unsorted.ensures)
 
-pub returns-in-Ok-from_edges-clause-iso : goal.returns-in-Ok-from_edges-clause-iso
-returns-in-Ok-from_edges-clause-iso g c =
+pub returns-in-Ok-from_unsorted-clause-iso : goal.returns-in-Ok-from_unsorted-clause-iso
+returns-in-Ok-from_unsorted-clause-iso g c =
     let G = c.args.g.now in let R = c.args.cell.now in
-    covers_are_isomorphic.iso G R.rows c.in-Ok-from_edges.cover c.recall.ensures.is_graph (cell_fits G R c.in-Ok.ensures.fits c.recall-2.ensures)
-    (returns-in-Ok-from_edges-clause-cover g c)
+    covers_are_isomorphic.iso G R.rows c.in-Ok-from_unsorted.cover c.recall.ensures.is_graph (cell_fits G R c.in-Ok.ensures.fits c.recall-2.ensures)
+    (returns-in-Ok-from_unsorted-clause-cover g c)
 
-pub returns-in-Ok-from_edges-clause-size : goal.returns-in-Ok-from_edges-clause-size
-returns-in-Ok-from_edges-clause-size g c =
+pub returns-in-Ok-from_unsorted-clause-size : goal.returns-in-Ok-from_unsorted-clause-size
+returns-in-Ok-from_unsorted-clause-size g c =
     let G = c.args.g.now in let R = c.args.cell.now in
-    covers_are_isomorphic.size G R.rows c.in-Ok-from_edges.cover c.recall.ensures.is_graph (cell_fits G R c.in-Ok.ensures.fits c.recall-2.ensures)
-    (returns-in-Ok-from_edges-clause-cover g c)
+    covers_are_isomorphic.size G R.rows c.in-Ok-from_unsorted.cover c.recall.ensures.is_graph (cell_fits G R c.in-Ok.ensures.fits c.recall-2.ensures)
+    (returns-in-Ok-from_unsorted-clause-cover g c)
 
-pub returns-in-Ok-from_edges-clause-coverable : goal.returns-in-Ok-from_edges-clause-coverable
-returns-in-Ok-from_edges-clause-coverable g c =
-    (c.in-Ok.ensures.fits, given_within_limit (made g (goal.at.returns-in-Ok-from_edges-clause-coverable g c).After-vertex_count-n))
+pub returns-in-Ok-from_unsorted-clause-coverable : goal.returns-in-Ok-from_unsorted-clause-coverable
+returns-in-Ok-from_unsorted-clause-coverable g c =
+    (c.in-Ok.ensures.fits, given_within_limit (made g (goal.at.returns-in-Ok-from_unsorted-clause-coverable g c).After-vertex_count-n))

@@ -1,3 +1,4 @@
+-- Of `push_lifts`: what `normal` requires; the loop over `start`; the clause `wide`.
 use Rattle.std.proofs.Common.{◌+◌, ◌*◌, List, lit<, sym, subst}
 use Rattle.periodic_net.specs.Graph.{Arc}
 use Rattle.net_cover.specs.{Covers.AreGiven, Covers.IsLift, Lifting.CanLift, Lifting.TellsLift}

@@ -1,3 +1,4 @@
+-- Of `outcomes_of`: the loop over `block`; the clause `outcomes`.
 use Rattle.std.proofs.Common.{◌+◌, ◌++◌, ◌∷◌, [], List, sym, subst}
 use Rattle.std.proofs.lemmas.List.Elements.{All-nil}
 use Rattle.cgd_read.specs.Views.{views}

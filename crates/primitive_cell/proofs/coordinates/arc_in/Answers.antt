@@ -1,3 +1,4 @@
+-- Of `arc_in`: what `to_vector` requires; the clauses `same` and `within`.
 use Rattle.std.proofs.Common.{◌≡◌, ◌∙◌, refl, sym, ap, subst, lit<, arith}
 use Rattle.integers.specs.{Vectors.IsWithin, Vectors.Vector, Bases.base_sum}
 use Rattle.periodic_net.specs.{Classes.ClassArc, Limits.most_units}

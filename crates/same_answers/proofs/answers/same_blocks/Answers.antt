@@ -1,3 +1,4 @@
+-- Of `same_blocks`: what `maps_text_of` requires; what it ensures.
 use Rattle.std.proofs.Common.{◌≡◌, ◌∙◌, Bor, List, [], length, map, sym, ap, subst, arith}
 use Rattle.std.proofs.lemmas.List.{length-map}
 use Rattle.cgd_read.specs.Views.{block_view, views}

@@ -1,3 +1,4 @@
+-- Of `with_third`: what `first_off` requires; what it ensures; that some turn is off the plane.
 use Rattle.std.proofs.Common.{◌≢◌, pos, lit<, sym, subst, ap, ◌∙◌}
 use Rattle.integers.specs.Vectors.{Vector, cross, dot, zero_vector}
 use Rattle.standard_map.specs.Turns.{Turn}

@@ -1,3 +1,4 @@
+-- Of `head_of`: what `step` requires; the clauses `end` and `shift`.
 use Rattle.std.proofs.Common.{lit<, sym, subst, ap, ◌∙◌}
 use Rattle.integers.specs.Vectors.{plus}
 use Rattle.periodic_net.{specs.Graph.Arc, specs.Graph.IsQuotientVertex, specs.Placement.arc_vector, proofs.CallerLemmas.arc_inside}

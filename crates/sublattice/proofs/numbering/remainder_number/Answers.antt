@@ -9,9 +9,9 @@ mixed-requires g c =
     let e = c.pivots_of-pivots.ensures.second in let i = c.pivots_of-pivots.ensures.third in let s1 = s.1 in
     let s2 = s.2 in
     record {
-      first = below_most c.digits_of.result.first d.r.x S.a d.first h.0 s.0;
-      second = below_most c.digits_of.result.second d.r.y S.e d.second h.1 s.1;
-      third = below_most c.digits_of.result.third d.r.z S.i d.third h.2 s.2;
+      first = below_most c.digits_of.result.first d.r.x S.first_x d.first h.0 s.0;
+      second = below_most c.digits_of.result.second d.r.y S.second_y d.second h.1 s.1;
+      third = below_most c.digits_of.result.third d.r.z S.third_z d.third h.2 s.2;
       e = omega (arith, e, s1);
       i = omega (arith, i, s2);
     }

@@ -1,3 +1,4 @@
+-- Of `entries_of`: that indices are inside; what `entry_told` requires; the loop over `i`.
 use Rattle.std.proofs.Common.{◌+◌, [], ◌∷◌, List, take, sym, subst, arith}
 use Rattle.std.proofs.lemmas.List.Elements.{All-append, All-cons, All-nil}
 use Rattle.std.specs.List.{All}

@@ -1,3 +1,4 @@
+-- Of `column`: the loop over `below`; what `rest_of` requires; the clauses `lower` and `same`.
 use Rattle.std.proofs.Common.{rules, ◌≡◌, pos, ap, of_z, subst}
 use Rattle.std.{proofs.lemmas.Int.to_z-of_z, specs.Int.w128}
 use Rattle.integers.specs.Vectors.{vector}

@@ -1,3 +1,4 @@
+-- Of `rest_of`: what `less_times` requires; the clauses `less`, `rest` and `same`.
 use Rattle.std.proofs.{Common.rules, Common.arith, lemmas.Int.ints}
 use Rattle.vecdim.proofs.Lattice.{exchange_step}
 use Rattle.vecdim.proofs.columns.rest_of.Goals as goal

@@ -1,3 +1,4 @@
+-- Of `split_less_two`: what `less` and `split` require; the clauses `within` and `small`.
 use Rattle.std.proofs.Common.{ℤ, ◌≤◌, ◌*◌, ◌^◌, ◌-ℤ◌, ◌*ℤ◌, unsigned_abs, FitsSigned, subst, sym, ap, ◌∙◌}
 use Rattle.std.{specs.Int.w128, proofs.lemmas.Int.to_z-of_z}
 use Rattle.vecdim.proofs.Boxes.{above_from, below_small, less_again, part_taken, third_bound}

@@ -27,7 +27,7 @@ column-one-requires c =
       m_to = simp to_z-of_z k.m_to;
       upper = simp to_z-of_z (boxed_first k);
       lower = simp to_z-of_z (boxed_rests c.modulo-x.ensures.from x c.modulo-y.ensures.from y c.modulo-z.ensures.from z);
-      pivot = simp to_z-of_z k.reduced.a;
+      pivot = simp to_z-of_z k.reduced.first_x;
     }
 
 pub column-two-requires : goal.column-two-requires
@@ -41,7 +41,7 @@ column-two-requires c =
       m_to = simp to_z-of_z k.m_to;
       upper = simp to_z-of_z (boxed_second k);
       lower = simp to_z-of_z (boxed_left k.m_from w);
-      pivot = simp to_z-of_z k.reduced.e;
+      pivot = simp to_z-of_z k.reduced.second_y;
     }
 
 pub column-three-requires : goal.column-three-requires
@@ -54,7 +54,7 @@ column-three-requires c =
       m_to = simp to_z-of_z k.m_to;
       upper = simp to_z-of_z (boxed_third k);
       lower = simp to_z-of_z (boxed_front k.m_from w);
-      pivot = simp to_z-of_z k.reduced.i;
+      pivot = simp to_z-of_z k.reduced.third_z;
     }
 
 pub modulo-f-requires : goal.modulo-f-requires

@@ -1,3 +1,4 @@
+-- Of `with_list`: invariants.
 use Rattle.std.proofs.Common.{rules, ◌≡◌, [], ◌∷◌, pos, sym, to_z, ◌∙◌}
 use Rattle.std.{proofs.lemmas.Int.to_z-of_z, specs.Prelude.cond, specs.Prelude.◌==◌, specs.Int.w128}
 use Rattle.integers.specs.Vectors.{vector}
@@ -17,7 +18,7 @@ invariant_of-result-4 g c =
     let fa = f.x in let fb = f.y in let fc = f.z in
     let s = boxed_fits k.m_to (boxed_second k) in let fe = s.x in let ff = s.y in
     let t = boxed_fits k.m_to (boxed_third k) in
-    let fi = t.x in let fm = c.ranges.bound in let i = c.args.rows.i in
+    let fi = t.x in let fm = c.ranges.bound in let i = c.args.rows.third_z in
     let last : to_z w128 c.if-this-eq2.last-bits ≡ cond (g.row.D == 2) (pos 0) i =
     elim c.if-this-eq2.branch [
       | then-this-eq2 w ↦ w.last-is ∙ sym (flat_last g.row.D i w.if-this-eq2.true)
@@ -28,6 +29,6 @@ invariant_of-result-4 g c =
       c.requires.three,
       c.requires.flat,
       k,
-      λ j. vector c.args.rows.a c.args.rows.b c.args.rows.c ∷ vector
-          (pos 0) c.args.rows.e c.args.rows.f ∷ vector (pos 0) (pos 0) (last j) ∷ [],
+      λ j. vector c.args.rows.first_x c.args.rows.first_y c.args.rows.first_z ∷ vector
+          (pos 0) c.args.rows.second_y c.args.rows.second_z ∷ vector (pos 0) (pos 0) (last j) ∷ [],
     )

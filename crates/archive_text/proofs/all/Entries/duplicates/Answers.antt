@@ -1,3 +1,4 @@
+-- Of `duplicates`: the loop over `place`; what it ensures.
 use Rattle.std.proofs.Common.{◌≡◌, ℕ, ◌+◌, ◌≤◌, ap, sym, subst, ◌∙◌, List, length, Option, IfNone, IfSome, Vec, arith}
 use Rattle.std.{proofs.lemmas.List.length-map, specs.declared.alloc.Global.Global}
 use Rattle.archive_text.specs.{Entries.entry_view, Groups.IsGroupFrom, Groups.numbers_in}

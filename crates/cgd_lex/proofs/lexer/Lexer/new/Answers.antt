@@ -1,3 +1,4 @@
+-- Of `new`: the clauses `slices`, `order`, `forms`, `lines`, `cut`, `only_cut` and `few`.
 use Rattle.std.proofs.Common.{length, arith, refl, []}
 use Rattle.cgd_lex.{specs.Tokens.tokens_of, proofs.Cuts.is_cut, proofs.Cuts.one_cut, proofs.Places.placed, proofs.LineLists.few_tokens}
 use Rattle.cgd_lex.proofs.lexer.Lexer.new.Goals as goal

@@ -1,3 +1,4 @@
+-- Of `coefficients`: what `divided_by` requires; the clauses `dimension` and `value`.
 use Rattle.std.proofs.Common.{◌≡◌, ◌∙◌, ℤ, FitsSigned, to_z, of_z, refl, sym, ap}
 use Rattle.std.{proofs.lemmas.Int.to_z-of_z, specs.Int.w128}
 use Rattle.integers.specs.{Bases.base_sum, Vectors.Vector, Vectors.times}

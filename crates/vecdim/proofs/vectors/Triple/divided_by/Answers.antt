@@ -1,3 +1,4 @@
+-- Of `divided_by`: the clauses `within` and `value`; what `over` requires.
 use Rattle.std.proofs.Common.{◌≤◌, ℕ, ℤ, ◌^◌, sym, subst, arith}
 use Rattle.std.{specs.Prelude.unsigned_abs, proofs.lemmas.Int.to_z-of_z}
 use Rattle.integers.proofs.vectors.Bounds.{abs_negative, fits_from_bound}

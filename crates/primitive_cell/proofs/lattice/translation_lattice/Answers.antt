@@ -3,7 +3,7 @@ use Rattle.std.{specs.Int.w128, proofs.lemmas.Int.to_z-of_z}
 use Rattle.periodic_net.specs.Graph.{Graph}
 use Rattle.quotient_graph.specs.PlacedNets.{PlacedNet}
 use Rattle.primitive_cell.proofs.WholeGraph.{lattice_made}
-use Rattle.primitive_cell.proofs.lattices.lattice_of.Goals as goal
+use Rattle.primitive_cell.proofs.lattice.translation_lattice.Goals as goal
 
 pub returns : goal.returns
 returns g c =

@@ -1,6 +1,6 @@
 use Rattle.std.proofs.Common.{lit<}
 use Rattle.quotient_graph.proofs.Edges.{sorted_edges}
-use Rattle.quotient_graph.proofs.graph.Graph.from_edges.Goals as goal
+use Rattle.quotient_graph.proofs.graph.Graph.from_unsorted.Goals as goal
 
 pub with_edges-requires : goal.with_edges-requires
 with_edges-requires g c =

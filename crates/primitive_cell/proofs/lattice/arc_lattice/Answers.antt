@@ -3,7 +3,7 @@ use Rattle.std.{proofs.lemmas.Bool.cases_lt, proofs.lemmas.Int.ints, proofs.lemm
 use Rattle.quotient_graph.specs.ClassNets.{arcs_of}
 use Rattle.primitive_cell.proofs.WholeGraph.{at_least_two, at_most_three, more_inside}
 use Rattle.primitive_cell.specs.Lattices.{AreInside}
-use Rattle.primitive_cell.proofs.lattice.lattice_of.Goals as goal
+use Rattle.primitive_cell.proofs.lattice.arc_lattice.Goals as goal
 
 pub from_bound-lattice-requires : goal.from_bound-lattice-requires
 from_bound-lattice-requires g c =

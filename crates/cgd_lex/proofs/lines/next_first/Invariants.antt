@@ -1,6 +1,6 @@
 use Rattle.std.proofs.Common.{◌≡◌, ◌≤◌, length}
 use Rattle.cgd_lex.specs.Lines.{filled_lines}
-use Rattle.cgd_lex.proofs.tokens.next_first.Given as goal
+use Rattle.cgd_lex.proofs.lines.next_first.Given as goal
 
 abbrev pub invariant-loop-token : goal.invariant-loop-token
 invariant-loop-token l = record {

@@ -1,19 +1,19 @@
--- The trouble that a refusal becomes.
+-- The fault that a refusal becomes.
 use Rattle.std.specs.Prelude.{◌≡◌, ◌≢◌}
 use Rattle.cgd_read.specs.declared.block.ReadRefusal.{ReadRefusal}
 use Rattle.cgd_read.specs.declared.block.ReadRefusal.TheVariants as read
 use Rattle.least_key.specs.declared.refusal.Refusal.{Refusal}
 use Rattle.least_key.specs.declared.refusal.Refusal.TheVariants as refusal
-use Rattle.nets.specs.declared.trouble.Trouble.{Trouble}
-use Rattle.nets.specs.declared.trouble.Trouble.TheVariants.{TooManyBlocks, Refused, NoMemory}
+use Rattle.nets.specs.declared.text_fault.TextFault.{TextFault}
+use Rattle.nets.specs.declared.text_fault.TextFault.TheVariants.{TooManyBlocks, Refused, NoMemory}
 
 -- where a text is not read
-abbrev pub unread : ReadRefusal → Trouble
+abbrev pub unread : ReadRefusal → TextFault
 unread read.TooManyBlocks = TooManyBlocks
 unread read.NoMemory = NoMemory
 
 -- where a graph is refused
-abbrev pub IsFrom : Refusal → Trouble → Type 0
+abbrev pub IsFrom : Refusal → TextFault → Type 0
 IsFrom given (Refused told) = (told ≡ given) × (given ≢ refusal.NoMemory)
 IsFrom given NoMemory = given ≡ refusal.NoMemory
-IsFrom given trouble = ⊥
+IsFrom given fault = ⊥

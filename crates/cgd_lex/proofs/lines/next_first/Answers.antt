@@ -1,6 +1,6 @@
 use Rattle.std.proofs.Common.{◌∙◌, sym, ap}
 use Rattle.cgd_lex.{specs.Views.token_view, specs.Lines.filled_lines, proofs.LineLists.at_token}
-use Rattle.cgd_lex.proofs.tokens.next_first.Goals as goal
+use Rattle.cgd_lex.proofs.lines.next_first.Goals as goal
 
 pub returns-then-not-is_newline-clause-lines : goal.returns-then-not-is_newline-clause-lines
 returns-then-not-is_newline-clause-lines c =
