@@ -17,7 +17,7 @@ from scipy.spatial import cKDTree
 from testing import TOOLS
 
 sys.path.insert(0, str(TOOLS / "python"))
-from crystal_nets.structures.contacts import contacts  # noqa: E402
+from crystal_nets.structures.bonds.contacts import contacts  # noqa: E402
 
 BOND = 1.49    # between two rings, or a ring and a carboxylate
 NEAR = 2.7     # pairs of a unit that are nearer keep their distance

@@ -88,7 +88,8 @@ class Server:
         return self.ask("nets", file=(name, content), **{"first": "0", "convention": "all-atoms", "choices": "[]", **fields})
 
     def card(self, net: dict) -> dict:
-        return self.ask("card", block=net["block"], name=net["name"], notes=json.dumps(net["notes"]), refusal=net["refusal"])
+        return self.ask("card", block=net["block"], name=net["name"], provenance=json.dumps(net["provenance"]),
+                        refusal=net["refusal"])
 
     def end(self, name: int = signal.SIGINT) -> tuple[int, str, str]:
         """The status and what was printed, once a signal has ended it."""

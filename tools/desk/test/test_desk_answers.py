@@ -22,6 +22,7 @@ from crystal_nets.desk.reasons import FAULTS, REFUSALS  # noqa: E402
 from crystal_nets.desk.worker import Limits, NoAnswer, Workers  # noqa: E402
 from crystal_nets.desk.woven import cosets, woven  # noqa: E402
 from crystal_nets.program import run  # noqa: E402
+from crystal_nets.provenance import Provenance  # noqa: E402
 from crystal_nets.texts.net_text import nets_of_report  # noqa: E402
 
 EXAMPLES = TOP / "examples"
@@ -90,7 +91,7 @@ class Cards(unittest.TestCase):
                   "malformed line=3 6": head + b"1 1 0 0\nEND\n", "unsupported": b"OTHER\nEND\n",
                   "malformed line=514 8": head + many + b"END\n"}
         for begin, block in blocks.items():
-            told = card(Net._of(block, "", ()))  # as it stands, also where it is not one whole block
+            told = card(Net._of(block, ""))  # as it stands, also where it is not one whole block
             self.assertTrue(told["reason"]["told"].startswith(begin), told["reason"])
             self.assertTrue(told["reason"]["what"] and told["reason"]["advice"])
         self.assertIn("They are", card(Net(COLLISION))["reason"]["what"])
@@ -177,7 +178,8 @@ class Damaged(unittest.TestCase):
         if "reason" in answer:
             return bad_reason(answer["reason"])
         for net in answer["nets"][:1]:
-            told = self.asked(questions.card, net["block"].encode(), net["name"], net["notes"], net["refusal"])
+            told = self.asked(questions.card, net["block"].encode(), net["name"],
+                              Provenance.from_dict(net["provenance"]), net["refusal"])
             reason = told.get("reason") or {}
             if not told.get("key") and not reason:
                 return "neither a key nor a reason"

@@ -22,6 +22,12 @@ drawing    pictures
 errors     what is raised
 program    where net_tool is, and how it is run
 
+What they are made of:
+graph       the labelled quotient graph, the one form of a net
+lattice     lattices of whole vectors
+provenance  how a net was made: what travels with it to its answer
+refusal     why a structure or a block gives no net
+
 What the tools share:
 bar           a bar that says how far some work is
 files         files that are written whole or not at all

@@ -18,8 +18,8 @@ import gemmi
 
 from ..bar import Bar
 
-from .choice import Options
-from .conventions import AUTO, CONVENTIONS
+from .nets.choice import Options
+from .units.conventions import AUTO, CONVENTIONS
 from .conversion import Conversion, Source, read_and_convert
 from .files import files_of, sources_of
 
@@ -117,7 +117,7 @@ def main() -> int:
     with Bar("cif2cgd", len(sources), "files") as bar:
         for done in conversions(sources, options_of(asked), asked.jobs):
             bar.tell(done.told(refusals_alone=asked.quiet))
-            sys.stdout.buffer.write(done.text.encode())
+            sys.stdout.buffer.write(done.text)
             if notes:
                 print(done.json_line(), file=notes)
             refused += done.is_refused

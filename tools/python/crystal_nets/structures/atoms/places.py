@@ -8,8 +8,8 @@ import numpy as np
 from scipy.spatial import cKDTree
 
 from .crystal import FULL, Atom, Crystal, Site
-from .notes import OTHER, Note, shorten
-from .symmetry import Symmetry
+from ...provenance import OTHER, Note, shorten
+from ..reading.symmetry import Symmetry
 
 SAME_PLACE = 0.1  # angstrom: images nearer than this are one atom on a symmetry element
 ONE_PLACE = 0.3   # angstrom: atoms of several sites nearer than this are in one place

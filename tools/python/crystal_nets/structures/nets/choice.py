@@ -7,16 +7,19 @@ from dataclasses import dataclass, field, replace
 
 import numpy as np
 
-from .bonds import Lengths, find_bonds
-from .components import Component, components
-from .conventions import AUTO, Convention, Framework, conventions_for
-from .crystal import FULL, Crystal
-from .elements import is_metal
-from .hydrogen import hydrogen_bridges
-from .net import Contracted, Edge, Net, contracted, shells, without_ends
-from .notes import CONVENTION, DISORDER, DOUBT, LEFT_OUT, OTHER, Note, shorten
-from .refusal import Unreadable
-from .units import units_of
+from ...graph import Edge, QuotientGraph
+from ...net import Net
+from ...provenance import CONVENTION, DISORDER, DOUBT, LEFT_OUT, OTHER, Note, Provenance, shorten
+from ...refusal import Refused
+from ...texts.graph_text import written_name
+from ..atoms.crystal import FULL, Crystal
+from ..atoms.elements import is_metal
+from ..bonds.hydrogen import hydrogen_bridges
+from ..bonds.rules import Lengths, find_bonds
+from ..units.building_units import units_of
+from ..units.conventions import AUTO, Convention, Framework, conventions_for
+from .pieces import Piece, pieces_of
+from .simplification import Contracted, contracted, shells, without_ends
 
 # Left out where the other atoms make a net in space without them.
 COUNTER_IONS = frozenset("Na K Rb Cs Ca Sr Ba".split())
@@ -38,27 +41,15 @@ class Options:
     convention: str = "all-atoms"
 
 
-@dataclass
-class NamedNet:
-    """A net that is written."""
-
-    name: str
-    net: Net
-    dimension: int
-    made: str          # of how many atoms, and which of them became edges
-    convention: str = "all-atoms"  # what its vertices are
-    notes: list[Note] = field(default_factory=list)
-
-
-def nets_of(crystal: Crystal, options: Options, notes: list[Note]) -> list[NamedNet]:
+def nets_of(crystal: Crystal, options: Options, notes: list[Note]) -> list[Net]:
     """The layers and the nets in space of a crystal; notes on all of it come to the notes."""
     if crystal.misfit and not options.accept_misfit:
-        raise Unreadable(f"{crystal.misfit} (--accept-misfit takes it all the same)")
+        raise Refused(f"{crystal.misfit} (--accept-misfit takes it all the same)")
     notes += [Note(DOUBT, crystal.misfit)] if crystal.misfit else []
     doubts: list[str] = []
     bonds = find_bonds(crystal, options.hydrogen_bonds, options.lengths, doubts)
     chosen = _with_atoms_chosen(crystal, bonds, options, notes)
-    pieces = components(chosen)
+    pieces = pieces_of(chosen)
     if doubts:
         notes.append(Note(DOUBT, "bonds in doubt: " + shorten("; ".join(doubts))))
     periodic = [piece for piece in pieces if piece.dimension >= 2]
@@ -68,43 +59,44 @@ def nets_of(crystal: Crystal, options: Options, notes: list[Note]) -> list[Named
     if not periodic and options.convention in (AUTO, "standard"):
         return _nets_of_molecules(crystal, chosen, options, notes)
     if not periodic:
-        raise Unreadable("no net: " + (_told_count(pieces) or "all atoms are left out"))
+        raise Refused("no net: " + (_told_count(pieces) or "all atoms are left out"))
     notes += _told_pieces(pieces, {atom.name: atom.site.element for atom in crystal.atoms})
     groups = [[p] for p in periodic] if options.every_copy else _alike(periodic, crystal)
     return [named for k, group in enumerate(groups) for named in _named(crystal, group, k, options)]
 
 
-def _nets_of_molecules(crystal: Crystal, bonded: Net, options: Options, notes: list[Note]) -> list[NamedNet]:
+def _nets_of_molecules(crystal: Crystal, bonded: QuotientGraph, options: Options, notes: list[Note]) -> list[Net]:
     """The nets whose vertices are molecules and whose edges are hydrogen bonds."""
-    number = {name: v for v, name in enumerate(bonded.names)}
-    bridges = {(number[crystal.atoms[u].name], number[crystal.atoms[v].name], shift)
-               for u, v, shift in hydrogen_bridges(crystal)
-               if crystal.atoms[u].name in number and crystal.atoms[v].name in number}
-    molecules = units_of(Net(bonded.names, bonded.edges | bridges), bonded.edges) if bonded.edges else None
-    pieces = components(molecules.net) if molecules and molecules.net.edges else []
+    number = {name: v for v, name in enumerate(map(str, bonded.vertices))}
+    names = [atom.name for atom in crystal.atoms]
+    bridges = {Edge(number[names[u]], number[names[v]], shift) for u, v, shift in hydrogen_bridges(crystal)
+               if names[u] in number and names[v] in number}
+    molecules = units_of(bonded.with_edges(bonded.edge_set | bridges), bonded.edges) if bonded.edges else None
+    pieces = pieces_of(molecules.net) if molecules and molecules.net.edges else []
     periodic = [piece for piece in pieces if piece.dimension >= 2]
     if not periodic:
-        raise Unreadable("no net: " + (_told_count(components(bonded)) or "all atoms are left out"))
+        raise Refused("no net: " + (_told_count(pieces_of(bonded)) or "all atoms are left out"))
     nets = []
     for k, group in enumerate([[p] for p in periodic] if options.every_copy else _alike(periodic, crystal)):
         simple = contracted(group[0].net)
         told = _told_copies(group) + _told_simplification(simple)
-        made = f"{len(group[0].net.names)} molecules, joined by hydrogen bonds; standard: each molecule is a vertex"
+        made = f"{len(group[0].net.vertices)} molecules, joined by hydrogen bonds; standard: each molecule is a vertex"
         name = _name_of(crystal, k) + (" standard" if options.convention == AUTO else "")
         convention = Note(CONVENTION, "standard: each molecule is a vertex, and hydrogen bonds are edges")
-        nets.append(NamedNet(name, simple.net, group[0].dimension, made, "standard", [convention, *told]))
+        nets.append(_net(name, simple, Provenance((convention, *told), "standard", made, _copies(group))))
     return nets
 
 
-def _with_atoms_chosen(crystal: Crystal, bonds: set[Edge], options: Options, notes: list[Note]) -> Net:
+def _with_atoms_chosen(crystal: Crystal, bonds: set[Edge], options: Options, notes: list[Note]
+                       ) -> QuotientGraph:
     """The net of all atoms but those to be left out, and the counter-ions of a framework."""
     elements = [atom.site.element for atom in crystal.atoms]
-    net = Net([atom.name for atom in crystal.atoms], bonds)
+    net = QuotientGraph.of((atom.name for atom in crystal.atoms), bonds)
     kept = [v for v, e in enumerate(elements) if e not in options.leave_out]
     frame = [v for v in kept if elements[v] not in COUNTER_IONS]
     if options.keep_ions or len(frame) == len(kept):
         return net.part(kept)
-    if not any(piece.dimension == 3 for piece in components(net.part(frame))):
+    if not any(piece.dimension == 3 for piece in pieces_of(net.part(frame))):
         return net.part(kept)
     ions = Counter(elements[v] for v in kept if elements[v] in COUNTER_IONS)
     notes.append(Note(LEFT_OUT, "left out as counter-ions: " + _told_counter(ions)))
@@ -115,31 +107,31 @@ def _told_counter(counter: Counter[str]) -> str:
     return " ".join(f"{what} {count}" for what, count in sorted(counter.items()))
 
 
-def _told_count(pieces: list[Component]) -> str:
+def _told_count(pieces: list[Piece]) -> str:
     """How many molecules, rods and single atoms there are."""
-    kinds = Counter(KINDS[p.dimension] if len(p.net.names) > 1 or p.dimension else "single atom"
+    kinds = Counter(KINDS[p.dimension] if len(p.net.vertices) > 1 or p.dimension else "single atom"
                     for p in pieces)
     return ", ".join(f"{count} {kind}{'s' if count > 1 else ''}" for kind, count in kinds.items())
 
 
-def _told_pieces(pieces: list[Component], element: dict[str, str]) -> list[Note]:
-    small = [p for p in pieces if p.dimension < 2 and any(element[n] != "H" for n in p.net.names)]
+def _told_pieces(pieces: list[Piece], element: dict[str, str]) -> list[Note]:
+    small = [p for p in pieces if p.dimension < 2 and any(element[n] != "H" for n in p.net.vertices)]
     return [Note(LEFT_OUT, "left out: " + _told_count(small))] if small else []
 
 
-def _alike(pieces: list[Component], crystal: Crystal) -> list[list[Component]]:
+def _alike(pieces: list[Piece], crystal: Crystal) -> list[list[Piece]]:
     """The pieces by what they are made of: those of the same sites are images of each other. So are,
     in a file without symmetry, those of the same elements with the same coordination sequences."""
     atoms = {atom.name: atom.site for atom in crystal.atoms}
-    by_site: dict[tuple, list[Component]] = {}
+    by_site: dict[tuple, list[Piece]] = {}
     for piece in pieces:
-        sites = tuple(sorted(atoms[name].label for name in piece.net.names))
+        sites = tuple(sorted(atoms[name].label for name in piece.net.vertices))
         by_site.setdefault((piece.dimension, piece.copies, len(piece.net.edges), sites), []).append(piece)
     if len(by_site) == 1:
         return list(by_site.values())
-    groups: dict[tuple, list[Component]] = {}
+    groups: dict[tuple, list[Piece]] = {}
     for (*numbers, _), group in by_site.items():
-        elements = tuple(sorted(atoms[name].element for name in group[0].net.names))
+        elements = tuple(sorted(atoms[name].element for name in group[0].net.vertices))
         sequences = shells(contracted(group[0].net).net)
         groups.setdefault((*numbers, elements, sequences), []).extend(group)
     return list(groups.values())
@@ -149,30 +141,30 @@ def _name_of(crystal: Crystal, k: int) -> str:
     return crystal.name if k == 0 else f"{crystal.name} part {k + 1}"
 
 
-def _framework(crystal: Crystal, piece: Component) -> Framework:
+def _framework(crystal: Crystal, piece: Piece) -> Framework:
     """The atoms of a piece that are not on its ends, with their places."""
     by_name = {atom.name: atom for atom in crystal.atoms}
-    atoms = [by_name[name] for name in piece.net.names]
+    atoms = [by_name[name] for name in map(str, piece.net.vertices)]
     places = np.array([atom.place for atom in atoms]) + np.array(piece.cells) @ crystal.cell
     return Framework(without_ends(piece.net), {atom.name: atom.site.element for atom in atoms},
-                     dict(zip(piece.net.names, places)), np.array(piece.basis) @ crystal.cell)
+                     dict(zip(map(str, piece.net.vertices), places)), np.array(piece.basis) @ crystal.cell)
 
 
-def _named(crystal: Crystal, group: list[Component], k: int, options: Options) -> list[NamedNet]:
+def _named(crystal: Crystal, group: list[Piece], k: int, options: Options) -> list[Net]:
     """The first of a group of nets alike, by each convention that applies and gives another net,
     with what must be told of it."""
     framework = _framework(crystal, group[0])
     notes = _partial_notes(crystal, framework.net, options) + _told_copies(group)
     is_auto = options.convention == AUTO
-    nets: list[NamedNet] = []
+    nets: list[Net] = []
     seen: dict[tuple, str] = {}
     unfit: dict[str, list[str]] = {}
     for convention in conventions_for(options.convention, framework):
         try:
             simple = _read_by(convention, framework, group[0].dimension)
-        except Unreadable as reason:
+        except Refused as reason:
             if not is_auto:
-                raise Unreadable(f"{convention.name} does not apply: {reason}") from reason
+                raise Refused(f"{convention.name} does not apply: {reason}") from reason
             unfit.setdefault(str(reason), []).append(convention.name)
             continue
         sequences = shells(simple.net) if is_auto else ()
@@ -181,40 +173,48 @@ def _named(crystal: Crystal, group: list[Component], k: int, options: Options) -
             notes.append(Note(CONVENTION, text))
             continue
         seen[sequences] = convention.name
-        nets.append(_named_by(convention, _name_of(crystal, k), group[0], framework, simple, is_auto))
+        nets.append(_named_by(convention, _name_of(crystal, k), group, framework, simple, is_auto))
     notes += [Note(CONVENTION, f"{' and '.join(names)} {'do' if len(names) > 1 else 'does'} not apply: {reason}")
               for reason, names in unfit.items()]
     if not nets:
         nets = _named(crystal, group, k, replace(options, convention="all-atoms"))
         notes = notes[len(nets[0].notes):]
-    nets[0].notes = notes + nets[0].notes
-    return nets
+    return [nets[0].noted(before=notes), *nets[1:]]
 
 
 def _read_by(convention: Convention, framework: Framework, dimension: int) -> Contracted:
-    """The simplified net by a convention; raises Unreadable where it does not apply, or where no net
+    """The simplified net by a convention; raises Refused where it does not apply, or where no net
     of this dimension is left. A net of all atoms stays one, whatever is simplified."""
     net = convention.apply(framework)
     simple = contracted(net)
-    if net is not framework.net and [piece.dimension for piece in components(simple.net)] != [dimension]:
-        raise Unreadable("what is left is not one net")
+    if net is not framework.net and [piece.dimension for piece in pieces_of(simple.net)] != [dimension]:
+        raise Refused("what is left is not one net")
     return simple
 
 
-def _named_by(convention: Convention, name: str, piece: Component, framework: Framework, simple: Contracted,
-              is_auto: bool) -> NamedNet:
+def _named_by(convention: Convention, name: str, group: list[Piece], framework: Framework, simple: Contracted,
+              is_auto: bool) -> Net:
     edges = Counter(framework.element[n] for n in simple.made_edges)
     told = f", made edges: {_told_counter(edges)}" if edges and convention.name == "all-atoms" else ""
-    made = f"{len(piece.net.names)} atoms{told}; {convention.name}: {convention.text} ({convention.source})"
+    made = f"{len(group[0].net.vertices)} atoms{told}; {convention.name}: {convention.text} ({convention.source})"
     notes = _told_simplification(simple)
     if is_auto or convention.name != "all-atoms":
         notes.insert(0, Note(CONVENTION, f"{convention.name}: {convention.text} ({convention.source})"))
-    return NamedNet(f"{name} {convention.name}" if is_auto else name, simple.net, piece.dimension, made,
-                    convention.name, notes)
+    return _net(f"{name} {convention.name}" if is_auto else name, simple,
+                Provenance(tuple(notes), convention.name, made, _copies(group)))
 
 
-def _told_copies(group: list[Component]) -> list[Note]:
-    count = len(group) * group[0].copies
+def _net(name: str, simple: Contracted, provenance: Provenance) -> Net:
+    return Net.of_graph(simple.net.named(written_name(name)), name, provenance)
+
+
+def _copies(group: list[Piece]) -> int:
+    """How many pieces of the crystal one of a group stands for."""
+    return len(group) * group[0].copies
+
+
+def _told_copies(group: list[Piece]) -> list[Note]:
+    count = _copies(group)
     return [Note(OTHER, f"{count} {COPIES[group[0].dimension]} alike in the cell, one is written")] if count > 1 else []
 
 
@@ -227,13 +227,13 @@ def _told_simplification(simple: Contracted) -> list[Note]:
     return told
 
 
-def _partial_notes(crystal: Crystal, core: Net, options: Options) -> list[Note]:
-    names = set(core.names)
+def _partial_notes(crystal: Crystal, core: QuotientGraph, options: Options) -> list[Note]:
+    names = set(core.vertices)
     partial = sorted({f"{a.site.label} {a.occupancy:.2f}" for a in crystal.atoms
                       if a.name in names and a.occupancy < FULL})
     if not partial:
         return []
     text = "partly occupied atoms of the net: " + shorten(", ".join(partial))
     if not options.partial_as_full:
-        raise Unreadable(text + " (--partial-as-full takes them as full)")
+        raise Refused(text + " (--partial-as-full takes them as full)")
     return [Note(DISORDER, text)]

@@ -15,11 +15,11 @@ from itertools import combinations
 
 import numpy as np
 
-from .components import lattice_of_walks
-from .lattice import Vector, add, subtract
-from .net import Edge, Net, connected_parts, edge
-from .refusal import Unreadable
-from .units import Parts, Units, parts_of, ring_edges, units_of
+from ...graph import Edge, QuotientGraph, edge
+from ...lattice import Vector, add, subtract
+from ...refusal import Refused
+from ..nets.pieces import lattice_of_walks
+from .building_units import Parts, Units, parts_of, ring_edges, units_of
 
 ONE_LENGTH = 1.05  # times: steps along a rod that differ by less are of one length
 
@@ -28,14 +28,14 @@ ONE_LENGTH = 1.05  # times: steps along a rod that differ by less are of one len
 class Framework:
     """A net without ends whose vertices are atoms, with what the conventions ask of them."""
 
-    net: Net
+    net: QuotientGraph
     element: dict[str, str]
     places: dict[str, np.ndarray]  # of the atoms, in angstrom
     lattice: np.ndarray            # rows: the translations of the net, in angstrom
 
     @property
     def is_organic(self) -> bool:
-        return any(self.element[name] == "C" for name in self.net.names)
+        return any(self.element[str(name)] == "C" for name in self.net.vertices)
 
     @property
     def parts(self) -> Parts:
@@ -49,14 +49,14 @@ class Convention:
     name: str
     text: str
     source: str
-    apply: Callable[[Framework], Net]
+    apply: Callable[[Framework], QuotientGraph]
 
 
-def all_atoms(framework: Framework) -> Net:
+def all_atoms(framework: Framework) -> QuotientGraph:
     return framework.net
 
 
-def single_nodes(framework: Framework) -> Net:
+def single_nodes(framework: Framework) -> QuotientGraph:
     """A vertex for each metal part with its anions, and for each linker as a whole."""
     parts = _with_metals(framework)
     inner = parts.inner
@@ -67,7 +67,7 @@ def single_nodes(framework: Framework) -> Net:
     return units.net
 
 
-def all_nodes(framework: Framework) -> Net:
+def all_nodes(framework: Framework) -> QuotientGraph:
     """The same, but a linker is taken to pieces: its rings and its branching atoms are vertices."""
     parts = _with_metals(framework)
     units = units_of(framework.net, parts.edges_within(parts.inner) | _within_linkers(parts))
@@ -76,14 +76,14 @@ def all_nodes(framework: Framework) -> Net:
     return units.net
 
 
-def points_and_metals(framework: Framework) -> Net:
+def points_and_metals(framework: Framework) -> QuotientGraph:
     """Metals, the atoms that join them, points of extension, and the branch points of linkers."""
     parts = _with_metals(framework)
     _check_rods(framework, parts)
     return _points_and_metals(framework, parts).net
 
 
-def points_of_extension(framework: Framework) -> Net:
+def points_of_extension(framework: Framework) -> QuotientGraph:
     """The same without the metals: points of extension on one metal are joined, by the shortest steps
     that make a rod of them. Those of one end of a linker, as of a chelate, are one point."""
     parts = _with_metals(framework)
@@ -91,14 +91,14 @@ def points_of_extension(framework: Framework) -> Net:
     return _without_metals(framework, parts, _points_and_metals(framework, parts))
 
 
-def standard(framework: Framework) -> Net:
+def standard(framework: Framework) -> QuotientGraph:
     """Each building unit of a framework without metal parts is a vertex: rings that share atoms, and
     branching atoms."""
     if not framework.is_organic:
-        raise Unreadable("there is no carbon")
-    units = units_of(framework.net, ring_edges(framework.net, set(range(len(framework.net.names)))))
+        raise Refused("there is no carbon")
+    units = units_of(framework.net, ring_edges(framework.net, set(range(len(framework.net.vertices)))))
     if any(units.endless):
-        raise Unreadable("its rings go on without end")
+        raise Refused("its rings go on without end")
     return units.net
 
 
@@ -141,26 +141,26 @@ def _has_endless_linkers(framework: Framework, parts: Parts) -> bool:
 def _with_metals(framework: Framework) -> Parts:
     parts = framework.parts
     if not parts.metals:
-        raise Unreadable("there are no metals")
+        raise Refused("there are no metals")
     if not set(range(len(parts.elements))) - parts.inner:
-        raise Unreadable("there are no linkers")
+        raise Refused("there are no linkers")
     return parts
 
 
 def _check_metal_parts(units: Units, parts: Parts) -> None:
     if any(units.endless[unit] for unit in units.having(parts.metals)):
-        raise Unreadable("the metal parts go on without end, as rods: pe and pem apply")
+        raise Refused("the metal parts go on without end, as rods: pe and pem apply")
 
 
 def _check_linkers(units: Units, parts: Parts) -> None:
     if any(units.endless):
-        raise Unreadable("the organic parts go on without end: standard applies")
+        raise Refused("the organic parts go on without end: standard applies")
 
 
 def _check_rods(framework: Framework, parts: Parts) -> None:
     units = units_of(framework.net, parts.edges_within(parts.inner))
     if not any(units.endless[unit] for unit in units.having(parts.metals)):
-        raise Unreadable("there are no rods of metals")
+        raise Refused("there are no rods of metals")
 
 
 def _within_linkers(parts: Parts) -> set[Edge]:
@@ -177,14 +177,14 @@ def _points_and_metals(framework: Framework, parts: Parts) -> Units:
     within = parts.edges_within(parts.inner)
     whole = units_of(framework.net, within)
     finite = {v for v in parts.inner if not whole.endless[whole.unit[v]]}
-    anions = {(u, v, s) for u, v, s in within if {u, v} & parts.centres and not {u, v} & parts.metals}
+    anions = {bond for bond in within if {bond.u, bond.v} & parts.centres and not {bond.u, bond.v} & parts.metals}
     units = units_of(framework.net, anions | parts.edges_within(finite) | _within_linkers(parts))
     if any(units.endless):
-        raise Unreadable("an organic part goes on without end: standard applies")
+        raise Refused("an organic part goes on without end: standard applies")
     return units
 
 
-def _without_metals(framework: Framework, parts: Parts, units: Units) -> Net:
+def _without_metals(framework: Framework, parts: Parts, units: Units) -> QuotientGraph:
     """The net of units without the metals of rods and the atoms that only join these."""
     arcs = units.net.arcs()
     metals = {unit for unit in units.having(parts.metals) if len(units.atoms[unit]) == 1}
@@ -200,16 +200,16 @@ def _without_metals(framework: Framework, parts: Parts, units: Units) -> Net:
             is_one = _have_one_neighbour(arcs, linkers, (a, s), (b, t))
             (merged if is_one else steps).add(edge(a, b, subtract(t, s)))
     places = _places_of_units(framework, units)
-    edges = {e for e in units.net.edges if e[0] in kept and e[1] in kept}
-    points = units_of(Net(units.net.names, edges | steps | merged), merged)
+    edges = {one for one in units.net.edges if one.u in kept and one.v in kept}
+    points = units_of(units.net.with_edges(edges | steps | merged), merged)
     if any(points.endless):
-        raise Unreadable("the ends of linkers on a rod touch without end")
+        raise Refused("the ends of linkers on a rod touch without end")
     middles = _places_of_points(places, points, framework.lattice)
     along = {edge(points.unit[u], points.unit[v], subtract(add(points.cell[u], s), points.cell[v]))
              for u, v, s in steps}
-    along = {(u, v, s) for u, v, s in along if u != v or any(s)}
-    taken = _shortest_rods(len(points.atoms), along, middles, framework.lattice)
-    net = Net(points.net.names, (points.net.edges - along) | taken)
+    along = {step for step in along if step.u != step.v or any(step.shift)}
+    taken = _shortest_rods(points.net, along, middles, framework.lattice)
+    net = points.net.with_edges((points.net.edge_set - along) | taken)
     return net.part(unit for unit, members in enumerate(points.atoms) if set(members) <= kept)
 
 
@@ -219,22 +219,22 @@ def _places_of_points(places: list[np.ndarray], points: Units, lattice: np.ndarr
             for members in points.atoms]
 
 
-def _shortest_rods(count: int, steps: set[Edge], places: list[np.ndarray], lattice: np.ndarray) -> set[Edge]:
+def _shortest_rods(points: QuotientGraph, steps: set[Edge], places: list[np.ndarray], lattice: np.ndarray) -> set[Edge]:
     """The shortest of the steps, up to the length that joins what all of them join."""
-    length = {(u, v, s): float(np.linalg.norm(places[v] + np.array(s) @ lattice - places[u])) for u, v, s in steps}
-    names = [str(k) for k in range(count)]
-    wanted = _joined(Net(names, steps))
+    length = {step: float(np.linalg.norm(places[step.v] + np.array(step.shift) @ lattice - places[step.u]))
+              for step in steps}
+    wanted = _joined(points.with_edges(steps))
     limits = sorted(set(length.values()))
     for limit in limits:
-        taken = {e for e in steps if length[e] <= ONE_LENGTH * limit}
-        if _joined(Net(names, taken)) == wanted:
+        taken = {step for step in steps if length[step] <= ONE_LENGTH * limit}
+        if _joined(points.with_edges(taken)) == wanted:
             return taken
     return steps
 
 
-def _joined(net: Net) -> list[tuple]:
+def _joined(net: QuotientGraph) -> list[tuple[list[int], list[Vector]]]:
     """What a net joins: the parts of its quotient graph, and the lattice of each part's closed walks."""
-    return [(part, lattice_of_walks(net.part(part))) for part in connected_parts(net)]
+    return [(part, lattice_of_walks(net.part(part))) for part in net.connected_parts()]
 
 
 def _have_one_neighbour(arcs: list[list[tuple[int, Vector]]], linkers: set[int], one: tuple[int, Vector],
@@ -250,7 +250,7 @@ def _places_of_units(framework: Framework, units: Units) -> list[np.ndarray]:
     """The mean place of each unit, in its cell 0."""
     places = []
     for atoms in units.atoms:
-        of_atoms = np.array([framework.places[framework.net.names[v]] for v in atoms])
+        of_atoms = np.array([framework.places[str(framework.net.vertices[v])] for v in atoms])
         cells = np.array([units.cell[v] for v in atoms], dtype=float)
         places.append(np.mean(of_atoms + cells @ framework.lattice, axis=0))
     return places

@@ -7,7 +7,7 @@ from functools import cache
 
 import gemmi
 
-from .refusal import Unreadable
+from ...refusal import Refused
 
 WATER = re.compile(r"wat|ow\d*$", re.IGNORECASE)
 
@@ -34,7 +34,7 @@ def element_of(symbol: str, label: str, formula: dict[str, float]) -> str:
         return "O"
     found = _reading(symbol, formula) or _reading(label, formula)
     if not found:
-        raise Unreadable(f"the element of atom {label!r} is not known")
+        raise Refused(f"the element of atom {label!r} is not known")
     return "H" if found == "D" else found
 
 

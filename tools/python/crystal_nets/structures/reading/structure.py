@@ -5,14 +5,14 @@ from __future__ import annotations
 import gemmi
 import numpy as np
 
-from .crystal import Crystal, Site
-from .disorder import resolve_disorder
+from ..atoms.crystal import Crystal, Site
+from ..atoms.disorder import resolve_disorder
 from .document import Block, check_block
-from .elements import elements_of_formula
-from .notes import DOUBT, SYMMETRY, Note
-from .places import images_of, name_apart, take_once
-from .refusal import Unreadable
-from .sanity import check_metric, misfit_of
+from ..atoms.elements import elements_of_formula
+from ...provenance import DOUBT, SYMMETRY, Note
+from ..atoms.places import images_of, name_apart, take_once
+from ...refusal import Refused
+from ..atoms.sanity import check_metric, misfit_of
 from .sites import number_of, read_sites
 from .symmetry import Symmetry, both_origins, read_symmetry, text_of
 
@@ -64,13 +64,13 @@ def _with_fewest_atoms(by_origin: dict[str, Crystal]) -> Crystal | None:
 
 
 def _read_cell(block: gemmi.cif.Block) -> gemmi.UnitCell:
-    """Raises Unreadable where the numbers are no cell of a crystal."""
+    """Raises Refused where the numbers are no cell of a crystal."""
     values = [number_of(text_of(block, (f"_cell_{tag}",)), f"_cell_{tag}", absent=np.nan) for tag in CELL_TAGS]
     if not np.all(np.isfinite(values)) or min(values) <= 0 or max(values[:3]) > LONGEST_EDGE:
-        raise Unreadable("no unit cell")
+        raise Refused("no unit cell")
     cell = gemmi.UnitCell(*values)
     if not cell.is_crystal() or not cell.volume > 0.1:
-        raise Unreadable("no unit cell")
+        raise Refused("no unit cell")
     return cell
 
 
@@ -78,7 +78,7 @@ def _expand(block: Block, sites: list[Site], symmetry: Symmetry, cell: gemmi.Uni
     """The crystal of the sites and all their images, with one of the alternatives of disorder,
     and those in one place taken as one atom."""
     if len(sites) > MOST_ATOMS:
-        raise Unreadable(f"more than {MOST_ATOMS} atoms in a primitive cell")
+        raise Refused(f"more than {MOST_ATOMS} atoms in a primitive cell")
     to_angstrom = np.array(cell.orthogonalization_matrix.tolist()).T
     crystal = Crystal(block.name, symmetry.lattice @ to_angstrom, [], list(block.notes))
     if symmetry.source != "operations":
@@ -87,7 +87,7 @@ def _expand(block: Block, sites: list[Site], symmetry: Symmetry, cell: gemmi.Uni
         crystal.atoms += images
         crystal.listed[site.element] = crystal.listed.get(site.element, 0.0) + len(images) * min(1.0, site.occupancy)
         if len(crystal.atoms) > MOST_ATOMS:
-            raise Unreadable(f"more than {MOST_ATOMS} atoms in a primitive cell")
+            raise Refused(f"more than {MOST_ATOMS} atoms in a primitive cell")
     resolve_disorder(crystal)
     take_once(crystal)
     name_apart(crystal)

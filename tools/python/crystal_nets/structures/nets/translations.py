@@ -17,8 +17,8 @@ from scipy.sparse import coo_matrix
 from scipy.sparse.linalg import splu
 from scipy.spatial import cKDTree
 
-from .lattice import Vector, coordinates, staircase
-from .net import Net, edge
+from ...graph import QuotientGraph, edge
+from ...lattice import Vector, coordinates, staircase
 
 SAME_PLACE = 1e-6  # in edges of the cell, between vertices of the placement
 
@@ -32,7 +32,7 @@ class Translation:
     step: tuple[Fraction, ...]  # in edges of the cell
 
 
-def divided_by_translations(net: Net) -> Net:
+def divided_by_translations(net: QuotientGraph) -> QuotientGraph:
     """The net over the lattice of all its translations; the same net where it has no others."""
     translations = _translations(net)
     if not translations:
@@ -44,21 +44,21 @@ def divided_by_translations(net: Net) -> Net:
     return _over(net, translations, basis, denominator)
 
 
-def _over(net: Net, translations: list[Translation], basis: list[Vector], denominator: int) -> Net:
+def _over(net: QuotientGraph, translations: list[Translation], basis: list[Vector], denominator: int) -> QuotientGraph:
     """The net with one vertex for each orbit of the translations, over the basis, which is in
     units of 1/denominator."""
     first, moved = _orbits(net, translations)
     number = {v: k for k, v in enumerate(sorted(set(first)))}
-    edges = set()
+    edges = []
     for u, v, shift in net.edges:
         step = (denominator * s + int(denominator * (b - a)) for s, a, b in zip(shift, moved[u], moved[v]))
-        edges.add(edge(number[first[u]], number[first[v]], coordinates(tuple(step), basis)))
-    return Net([net.names[v] for v in sorted(number)], edges)
+        edges.append(edge(number[first[u]], number[first[v]], coordinates(tuple(step), basis)))
+    return QuotientGraph.of((net.vertices[v] for v in sorted(number)), edges, net.dimension, net.name)
 
 
-def _orbits(net: Net, translations: list[Translation]) -> tuple[list[int], list[tuple[Fraction, ...]]]:
+def _orbits(net: QuotientGraph, translations: list[Translation]) -> tuple[list[int], list[tuple[Fraction, ...]]]:
     """Of each vertex the first of its orbit, and the translation that carries that to it."""
-    count, dimension = len(net.names), len(translations[0].step)
+    count, dimension = len(net.vertices), len(translations[0].step)
     first = [-1] * count
     moved = [(Fraction(0),) * dimension] * count
     for start in range(count):
@@ -76,7 +76,7 @@ def _orbits(net: Net, translations: list[Translation]) -> tuple[list[int], list[
     return first, moved
 
 
-def _translations(net: Net) -> list[Translation]:
+def _translations(net: QuotientGraph) -> list[Translation]:
     """Translations that, with those of the cell, make all of the net; where several vertices have
     one place, there may be others."""
     places = _placement(net)
@@ -99,7 +99,7 @@ def _translations(net: Net) -> list[Translation]:
 class Proposals:
     """Translations of a net that its places propose, and the test of them."""
 
-    def __init__(self, net: Net, places: np.ndarray) -> None:
+    def __init__(self, net: QuotientGraph, places: np.ndarray) -> None:
         self.places = places
         self.tails, self.heads, self.shifts = _arcs(net)
         self.tree = cKDTree(places % 1.0 % 1.0, boxsize=1.0)
@@ -147,11 +147,11 @@ def _orbit(start: int, found: list[Translation]) -> set[int]:
     return seen
 
 
-def _placement(net: Net) -> np.ndarray | None:
+def _placement(net: QuotientGraph) -> np.ndarray | None:
     """The barycentric placement in edges of the cell, with vertex 0 at the origin."""
     tails, heads, shifts = _arcs(net)
     is_step = tails != heads
-    count = len(net.names)
+    count = len(net.vertices)
     if count < 2:
         return None
     rows = np.concatenate((tails[is_step], tails[is_step]))
@@ -167,16 +167,15 @@ def _placement(net: Net) -> np.ndarray | None:
     return np.vstack((np.zeros(shifts.shape[1]), rest))
 
 
-def _arcs(net: Net) -> tuple[np.ndarray, np.ndarray, np.ndarray]:
+def _arcs(net: QuotientGraph) -> tuple[np.ndarray, np.ndarray, np.ndarray]:
     """Tails, heads and shifts of all arcs, each edge in both its directions."""
-    edges = sorted(net.edges)
-    tails = np.array([u for u, _, _ in edges] + [v for _, v, _ in edges])
-    heads = np.array([v for _, v, _ in edges] + [u for u, _, _ in edges])
-    shifts = np.array([s for _, _, s in edges])
+    tails = np.array([u for u, _, _ in net.edges] + [v for _, v, _ in net.edges])
+    heads = np.array([v for _, v, _ in net.edges] + [u for u, _, _ in net.edges])
+    shifts = np.array([s for _, _, s in net.edges])
     return tails, heads, np.vstack((shifts, -shifts))
 
 
-def _rarest(net: Net) -> tuple[int, list[int]]:
+def _rarest(net: QuotientGraph) -> tuple[int, list[int]]:
     """A vertex of the kind that is rarest, by its neighbours' numbers of neighbours, and the others
     of that kind."""
     arcs = net.arcs()

@@ -8,10 +8,10 @@ from __future__ import annotations
 from collections.abc import Iterable
 from dataclasses import dataclass, field
 
-from .components import rank_and_walks
-from .elements import is_metal
-from .lattice import Vector, add, subtract
-from .net import Edge, Net, connected_parts, edge
+from ..atoms.elements import is_metal
+from ...graph import Edge, QuotientGraph, edge
+from ...lattice import Vector, add, subtract
+from ..nets.pieces import rank_and_walks
 
 ORGANIC = frozenset(("C", "H", "N", "B"))  # on a metal they belong to linkers; other donors belong to metal parts
 ANION_CENTRES = frozenset(("C", "P", "S", "As", "Se", "Si", "Ge", "Cl"))
@@ -22,7 +22,7 @@ LARGEST_RING = 16  # atoms: the inner ring of porphyrins; pores of covalent fram
 class Parts:
     """The atoms of a net by the parts that they belong to."""
 
-    net: Net
+    net: QuotientGraph
     elements: list[str]
     metals: set[int] = field(default_factory=set)
     donors: set[int] = field(default_factory=set)   # atoms on metals that are not of linkers, as O in OH and COO
@@ -35,12 +35,12 @@ class Parts:
         return self.metals | self.donors | self.centres
 
     def edges_within(self, atoms: set[int]) -> set[Edge]:
-        return {(u, v, s) for u, v, s in self.net.edges if u in atoms and v in atoms}
+        return {bond for bond in self.net.edges if bond.u in atoms and bond.v in atoms}
 
 
-def parts_of(net: Net, element: dict[str, str]) -> Parts:
+def parts_of(net: QuotientGraph, element: dict[str, str]) -> Parts:
     """The parts of a net that has no ends."""
-    parts = Parts(net, [element[name] for name in net.names])
+    parts = Parts(net, [element[str(name)] for name in net.vertices])
     around = [[w for w, _ in arcs] for arcs in net.arcs()]
     parts.metals = {v for v, e in enumerate(parts.elements) if is_metal(e)}
     parts.small_anions = _small_anions(parts, around)
@@ -59,17 +59,18 @@ def _small_anions(parts: Parts, around: list[list[int]]) -> set[int]:
     oxygens = {v: [w for w in near if elements[w] == "O"] for v, near in enumerate(around) if elements[v] == "C"}
     carbons = {v for v, near in oxygens.items() if near}
     found: set[int] = set()
-    for part in connected_parts(parts.net.part(carbons)):
+    for part in parts.net.part(carbons).connected_parts():
         group = {sorted(carbons)[k] for k in part}
         if all(w in group or elements[w] == "O" for v in group for w in around[v]):
             found |= group | {w for v in group for w in oxygens[v]}
     return found
 
 
-def ring_edges(net: Net, atoms: set[int]) -> set[Edge]:
+def ring_edges(net: QuotientGraph, atoms: set[int]) -> set[Edge]:
     """The bonds between these atoms that are on a ring of at most LARGEST_RING of them."""
     arcs = [[(w, s) for w, s in near if w in atoms] if v in atoms else [] for v, near in enumerate(net.arcs())]
-    return {(u, v, s) for u, v, s in net.edges if u in atoms and v in atoms and _is_on_ring(arcs, u, (v, s))}
+    return {bond for bond in net.edges
+            if bond.u in atoms and bond.v in atoms and _is_on_ring(arcs, bond.u, (bond.v, bond.shift))}
 
 
 def _is_on_ring(arcs: list[list[tuple[int, Vector]]], start: int, end: tuple[int, Vector]) -> bool:
@@ -100,7 +101,7 @@ def _reached(arcs: list[list[tuple[int, Vector]]], start: tuple[int, Vector], en
 class Units:
     """A net of units: for each atom its unit, and the cell that the unit is in, seen from the atom's."""
 
-    net: Net
+    net: QuotientGraph
     unit: list[int]
     cell: list[Vector]  # of each atom, in its unit
     atoms: list[list[int]]
@@ -111,24 +112,23 @@ class Units:
         return {self.unit[v] for v in atoms}
 
 
-def units_of(net: Net, inside: Iterable[Edge]) -> Units:
+def units_of(net: QuotientGraph, inside: Iterable[Edge]) -> Units:
     """The net whose vertices are the units that the inner edges make. A unit that goes on without
     end has no place, and so no edges."""
-    inner = Net(net.names, set(inside))
-    count = len(net.names)
-    dimension = len(next(iter(net.edges))[2])
-    unit, cell = [0] * count, [(0,) * dimension] * count
+    inner = net.with_edges(inside)
+    count = len(net.vertices)
+    unit, cell = [0] * count, [(0,) * net.dimension] * count
     atoms, endless = [], []
     looped = {u for u, v, _ in inner.edges if u == v}
-    for number, part in enumerate(connected_parts(inner)):
+    for number, part in enumerate(inner.connected_parts()):
         rank, walks = rank_and_walks(inner.part(part)) if len(part) > 1 or part[0] in looped else (0, [])
         atoms.append(part)
         endless.append(rank > 0)
         for k, v in enumerate(part):
             unit[v] = number
             cell[v] = walks[k] if walks else cell[v]
-    edges = {edge(unit[u], unit[v], subtract(add(cell[u], s), cell[v])) for u, v, s in net.edges - inner.edges
+    edges = {edge(unit[u], unit[v], subtract(add(cell[u], s), cell[v])) for u, v, s in net.edge_set - inner.edge_set
              if not endless[unit[u]] and not endless[unit[v]]}
-    names = [net.names[part[0]] for part in atoms]
-    edges = {(u, v, s) for u, v, s in edges if u != v or any(s)}
-    return Units(Net(names, edges), unit, cell, atoms, endless)
+    names = [net.vertices[part[0]] for part in atoms]
+    kept = (one for one in edges if one.u != one.v or any(one.shift))
+    return Units(QuotientGraph.of(names, kept, net.dimension), unit, cell, atoms, endless)

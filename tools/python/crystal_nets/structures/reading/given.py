@@ -4,11 +4,11 @@ from __future__ import annotations
 
 import numpy as np
 
-from .crystal import Atom, Crystal, Site
-from .elements import element_of
-from .places import name_apart, take_once
-from .refusal import Unreadable
-from .sanity import misfit_of
+from ..atoms.crystal import Atom, Crystal, Site
+from ..atoms.elements import element_of
+from ..atoms.places import name_apart, take_once
+from ...refusal import Refused
+from ..atoms.sanity import misfit_of
 
 ROOM = 20.0         # angstrom, beside atoms along an axis without periodicity: no bond is as long
 MOST_ATOMS = 20_000
@@ -38,17 +38,17 @@ def crystal_of_atoms(name: str, cell: np.ndarray, contents: list[dict[str, float
 
 
 def _check(cell: np.ndarray, contents: list[dict[str, float]], places: np.ndarray) -> None:
-    """Raises Unreadable where these are no atoms of a crystal."""
+    """Raises Refused where these are no atoms of a crystal."""
     if cell.shape != (3, 3) or not np.all(np.isfinite(cell)) or abs(np.linalg.det(cell)) < 0.1:
-        raise Unreadable("no unit cell")
+        raise Refused("no unit cell")
     if not len(places):
-        raise Unreadable("no atoms")
+        raise Refused("no atoms")
     if len(places) > MOST_ATOMS:
-        raise Unreadable(f"more than {MOST_ATOMS} atoms")
+        raise Refused(f"more than {MOST_ATOMS} atoms")
     if len(places) != len(contents) or not np.all(np.isfinite(places)):
-        raise Unreadable("an atom has no place")
+        raise Refused("an atom has no place")
     if not all(contents):
-        raise Unreadable("an atom has no element")
+        raise Refused("an atom has no element")
 
 
 def bounded_cell(cell: np.ndarray, places: np.ndarray, periodic: np.ndarray) -> tuple[np.ndarray, np.ndarray]:

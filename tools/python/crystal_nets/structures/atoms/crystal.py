@@ -6,8 +6,8 @@ from dataclasses import dataclass, field
 
 import numpy as np
 
-from .contacts import Contact, Wanted, contacts
-from .notes import Note
+from ..bonds.contacts import Contact, Wanted, contacts
+from ...provenance import Note
 
 FULL = 0.99  # an occupancy from here on counts as full
 

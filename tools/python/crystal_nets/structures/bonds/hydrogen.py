@@ -8,9 +8,9 @@ from itertools import combinations
 import numpy as np
 
 from .contacts import Contact
-from .crystal import Crystal
-from .lattice import subtract
-from .net import Edge, edge
+from ..atoms.crystal import Crystal
+from ...graph import Edge, edge
+from ...lattice import subtract
 
 ACCEPTORS = frozenset(("N", "O", "F"))
 LONGEST_O_O = 3.0       # angstrom, in ices whose hydrogen atoms are not given

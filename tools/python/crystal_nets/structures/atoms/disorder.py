@@ -10,11 +10,11 @@ from collections import defaultdict
 from collections.abc import Iterable
 from dataclasses import replace
 
-from .contacts import Contact, radius
+from ..bonds.contacts import Contact, radius
 from .crystal import FULL, Atom, Crystal
 from .elements import is_metal
-from .lattice import Vector, subtract
-from .notes import DISORDER, Note, shorten
+from ...lattice import Vector, subtract
+from ...provenance import DISORDER, Note, shorten
 
 SAME_PLACE = 0.3   # angstrom: atoms that are nearer share one place
 ONE_REGION = 3.0   # angstrom: atoms of groups that are nearer are alternatives of one region

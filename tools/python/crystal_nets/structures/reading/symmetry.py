@@ -9,8 +9,8 @@ from fractions import Fraction
 import gemmi
 import numpy as np
 
-from .lattice import staircase
-from .refusal import Unreadable
+from ...lattice import staircase
+from ...refusal import Refused
 
 OPERATION_TAGS = ("_space_group_symop_operation_xyz", "_symmetry_equiv_pos_as_xyz",
                   "_space_group_symop.operation_xyz")
@@ -62,7 +62,7 @@ def read_symmetry(block: gemmi.cif.Block, cell: gemmi.UnitCell) -> Symmetry:
             is_certain = ":" in text or not group.xhm().endswith(ORIGINS)
             return _symmetry(group.operations(), f"{what} {group.xhm()}", is_certain)
     if name or number not in ("", "1"):
-        raise Unreadable(f"space group {name or number} is not known")
+        raise Refused(f"space group {name or number} is not known")
     return _symmetry(gemmi.GroupOps([gemmi.Op("x,y,z")]), "no symmetry given: P 1")
 
 
@@ -100,9 +100,9 @@ def _listed_group(listed: list[str]) -> gemmi.GroupOps:
         group = gemmi.GroupOps(operations)
         group.add_missing_elements()
     except (RuntimeError, ValueError) as error:
-        raise Unreadable(f"symmetry operations: {error}") from error
+        raise Refused(f"symmetry operations: {error}") from error
     if len(group) != len(operations):
-        raise Unreadable(f"the {len(operations)} symmetry operations are no group")
+        raise Refused(f"the {len(operations)} symmetry operations are no group")
     return group
 
 

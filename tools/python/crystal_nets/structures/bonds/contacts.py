@@ -10,9 +10,9 @@ import gemmi
 import numpy as np
 from scipy.spatial import cKDTree
 
-from .lattice import Vector
-from .net import Edge, edge
-from .refusal import Unreadable
+from ...graph import Edge, edge
+from ...lattice import Vector
+from ...refusal import Refused
 
 # Times the sum of the radii: two atoms nearer than this are no bond, but an error or halves.
 TOO_NEAR = 0.55
@@ -67,7 +67,7 @@ def _images_near(cell: np.ndarray, places: np.ndarray, reach: float) -> tuple[np
     margin = reach * np.linalg.norm(inverse, axis=0)
     cells = np.prod(2 * np.ceil(margin) + 1)
     if cells * len(places) > MOST_IMAGES:
-        raise Unreadable("the cell is too flat, or has too many atoms")
+        raise Refused("the cell is too flat, or has too many atoms")
     numbers, shifts = np.arange(len(places)), np.zeros((len(places), 3), dtype=int)
     for axis in range(3):
         steps = np.arange(-np.ceil(margin[axis]), np.ceil(margin[axis]) + 1, dtype=int)

@@ -8,11 +8,11 @@ from collections.abc import Iterable
 import numpy as np
 
 from .contacts import TOO_NEAR, Contact, Wanted, radius
-from .crystal import FULL, Crystal
-from .elements import is_metal, is_water
+from ..atoms.crystal import FULL, Crystal
+from ..atoms.elements import is_metal, is_water
 from .hydrogen import hydrogen_bridges, ice_bonds
-from .lattice import add
-from .net import Edge
+from ...graph import Edge
+from ...lattice import add
 
 Lengths = dict[frozenset[str], float]  # of a pair of elements, the longest bond in angstrom
 
@@ -58,7 +58,7 @@ def with_lengths(crystal: Crystal, bonds: set[Edge], lengths: Lengths) -> set[Ed
         return frozenset((crystal.atoms[u].site.element, crystal.atoms[v].site.element))
 
     near = crystal.contacts(max(lengths.values()) + 0.001)
-    return ({(u, v, shift) for u, v, shift in bonds if pair(u, v) not in lengths}
+    return ({bond for bond in bonds if pair(bond.u, bond.v) not in lengths}
             | {c.edge() for c in near if c.length <= lengths.get(pair(c.first, c.second), 0.0)})
 
 

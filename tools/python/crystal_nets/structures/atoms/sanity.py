@@ -5,23 +5,23 @@ from __future__ import annotations
 import gemmi
 import numpy as np
 
-from .contacts import TOO_NEAR, radius
+from ..bonds.contacts import TOO_NEAR, radius
 from .crystal import FULL, Crystal
-from .refusal import Unreadable
-from .symmetry import Symmetry
+from ...refusal import Refused
+from ..reading.symmetry import Symmetry
 
 MOST_STRAIN = 0.05  # of the products of edges, between a cell and its image
 MOST_MISFIT = 1.2   # between the proportions of a cell and of its formula
 
 
 def check_metric(symmetry: Symmetry, cell: gemmi.UnitCell) -> None:
-    """Raises Unreadable where an operation does not keep the lengths and angles of the cell."""
+    """Raises Refused where an operation does not keep the lengths and angles of the cell."""
     edges = np.array(cell.orthogonalization_matrix.tolist()).T
     metric = edges @ edges.T
     turned = np.swapaxes(symmetry.rotations, 1, 2) @ metric @ symmetry.rotations
     scale = np.sqrt(np.outer(np.diag(metric), np.diag(metric)))
     if np.max(np.abs(turned - metric) / scale) > MOST_STRAIN:
-        raise Unreadable("the cell has not the symmetry that is given")
+        raise Refused("the cell has not the symmetry that is given")
 
 
 def misfit_of(crystal: Crystal, formula: dict[str, float]) -> str:

@@ -12,10 +12,10 @@ from math import isfinite, nan
 import gemmi
 import numpy as np
 
-from .crystal import Site
-from .elements import element_of
-from .notes import LEFT_OUT, Note, shorten
-from .refusal import Unreadable
+from ..atoms.crystal import Site
+from ..atoms.elements import element_of
+from ...provenance import LEFT_OUT, Note, shorten
+from ...refusal import Refused
 
 FARTHEST = 1000.0  # in edges of the cell, an atom from the origin
 DUMMY = "dum"      # the calculation flag of a place that has no atom
@@ -36,7 +36,7 @@ def read_sites(block: gemmi.cif.Block, formula: dict[str, float], notes: list[No
             continue
         place = [number_of(text, label) for text in (x, y, z)]
         if any(abs(part) > FARTHEST for part in place):
-            raise Unreadable(f"the coordinates of {label} are no fractions of the cell")
+            raise Refused(f"the coordinates of {label} are no fractions of the cell")
         part = number_of(occupancy, label, absent=1.0)
         if not all(map(isfinite, place)) or part <= 0:
             absent.append(label)
@@ -48,7 +48,7 @@ def read_sites(block: gemmi.cif.Block, formula: dict[str, float], notes: list[No
     if absent:
         notes.append(Note(LEFT_OUT, "left out, without a place or not occupied: " + shorten(" ".join(absent))))
     if not sites:
-        raise Unreadable("no atoms")
+        raise Refused("no atoms")
     return sites
 
 
@@ -60,7 +60,7 @@ def _rows(block: gemmi.cif.Block) -> Iterator[tuple[str, ...]]:
 
 
 def number_of(text: str, what: str, absent: float = nan) -> float:
-    """A number of CIF, with or without its uncertainty, or a fraction as 1/3; raises Unreadable
+    """A number of CIF, with or without its uncertainty, or a fraction as 1/3; raises Refused
     where the text is another."""
     if text in NO_VALUE:
         return absent
@@ -68,7 +68,7 @@ def number_of(text: str, what: str, absent: float = nan) -> float:
         return float(found[1])
     if (found := FRACTION.match(text)) and int(found[2]) > 0:
         return int(found[1]) / int(found[2])
-    raise Unreadable(f"{text[:20]!r} of {what} is no number")
+    raise Refused(f"{text[:20]!r} of {what} is no number")
 
 
 def _group(text: str) -> str:

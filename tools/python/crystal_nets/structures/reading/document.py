@@ -8,8 +8,8 @@ from dataclasses import dataclass, field
 
 import gemmi
 
-from .notes import OTHER, Note
-from .refusal import Unreadable
+from ...provenance import OTHER, Note
+from ...refusal import Refused
 
 # A tag of which a second value could be meant.
 OF_CONCERN = re.compile(r"_(cell_(length|angle)|symmetry|space_group|atom_site|chemical_formula_sum)", re.IGNORECASE)
@@ -43,11 +43,11 @@ def blocks_of(content: bytes, stem: str) -> list[Block]:
         document.parse_string(DOTTED.sub(r"\1_", text))
     except (ValueError, RuntimeError) as error:
         version = " (CIF 2.0)" if text.lstrip().startswith("#\\#CIF_2.0") else ""
-        raise Unreadable(f"no CIF{version}: {str(error).replace('string:', 'line ')}") from error
+        raise Refused(f"no CIF{version}: {str(error).replace('string:', 'line ')}") from error
     blocks = [block for block in document if _has_tag(block, "_atom_site_fract_x")]
     if not blocks:
         has_others = any(_has_tag(block, "_atom_site_Cartn_x") for block in document)
-        raise Unreadable("atoms in Cartesian coordinates, as mmCIF files have them, are not read" if has_others
+        raise Refused("atoms in Cartesian coordinates, as mmCIF files have them, are not read" if has_others
                          else "no atoms with fractional coordinates")
     return _named(blocks, stem, text)
 
@@ -88,7 +88,7 @@ def _named(blocks: list[gemmi.cif.Block], stem: str, text: str) -> list[Block]:
 
 
 def check_block(block: Block) -> None:
-    """Raises Unreadable where the block is of a kind that is not read, or has a tag of concern
+    """Raises Refused where the block is of a kind that is not read, or has a tag of concern
     twice; another tag that stands twice is told."""
     lines: dict[str, int] = {}
     for item in block.cif:
@@ -102,11 +102,11 @@ def check_block(block: Block) -> None:
                 told = f"the tag {tag} stands twice, in " + (
                     f"the loop of line {first}" if in_one_loop else f"lines {first} and {item.line_number}")
                 if OF_CONCERN.match(tag):
-                    raise Unreadable(told)
+                    raise Refused(told)
                 block.notes.append(Note(OTHER, told))
 
 
 def _check_kind(tag: str) -> None:
     for pattern, kind in OTHER_KINDS:
         if pattern.match(tag):
-            raise Unreadable(f"{kind} ({tag}): such files are not read")
+            raise Refused(f"{kind} ({tag}): such files are not read")
