@@ -19,6 +19,7 @@ import unittest
 from pathlib import Path
 
 TOOLS = Path(__file__).resolve().parent
+sys.path.insert(0, str(TOOLS / "python"))  # the package, for all tests
 TOP = TOOLS.parent
 PROGRAM = os.environ.get("NET_TOOL", str(TOP / "crates/net_tool/out/net_tool"))
 IS_LONG = os.environ.get("TOOLS_LONG") == "1"

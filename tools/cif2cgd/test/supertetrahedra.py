@@ -6,7 +6,6 @@ G. Férey and others, Angew. Chem. Int. Ed. 43 (2004) 6296."""
 
 from __future__ import annotations
 
-import sys
 from itertools import combinations, product
 
 import numpy as np
@@ -14,7 +13,6 @@ from assembly import Assembly, Places, arcs_of, placed
 from odd_cells import Edge
 from testing import TOOLS
 
-sys.path.insert(0, str(TOOLS / "python"))
 from crystal_nets.graph import Edge as GraphEdge, QuotientGraph  # noqa: E402
 from crystal_nets.structures.nets.translations import divided_by_translations  # noqa: E402
 

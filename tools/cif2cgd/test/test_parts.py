@@ -1,12 +1,10 @@
 """The parts of cif2cgd by themselves: lattices, quotient graphs, elements, shells."""
 
-import sys
 import unittest
 
 from testing import TOOLS, need_modules
 
 need_modules("gemmi", "numpy", "scipy")
-sys.path.insert(0, str(TOOLS / "python"))
 from crystal_nets.graph import QuotientGraph, edge  # noqa: E402
 from crystal_nets.lattice import coordinates, index, staircase  # noqa: E402
 from crystal_nets.structures.bonds.rules import first_gap  # noqa: E402

@@ -27,8 +27,6 @@ def need_desk() -> None:
     need_program()
     need_modules("flask", "werkzeug", "numpy", "scipy", "gemmi", "spglib")
     os.environ.setdefault("NET_TOOL", PROGRAM)
-    if str(TOOLS / "python") not in sys.path:
-        sys.path.insert(0, str(TOOLS / "python"))
 
 
 def memory_for_program() -> int:

@@ -7,7 +7,6 @@ import random
 import re
 import signal
 import subprocess
-import sys
 import xml.etree.ElementTree as ElementTree
 from pathlib import Path
 from shutil import which
@@ -18,7 +17,6 @@ from testing import (IS_LONG, PROGRAM, TOOLS, TOP, FolderTest, long_test, need_c
                      run, run_on_terminal)
 
 need_modules("numpy")
-sys.path.insert(0, str(TOOLS / "python"))
 import numpy as np  # noqa: E402
 from crystal_nets.pictures.placed import placed_net  # noqa: E402
 from crystal_nets.pictures.shape import Shape  # noqa: E402

@@ -29,6 +29,7 @@ provenance  how a net was made: what travels with it to its answer
 refusal     why a structure or a block gives no net
 
 What the tools share:
+commands      the commands by their names, as the scripts of the tools start them
 bar           a bar that says how far some work is
 files         files that are written whole or not at all
 side_by_side  work in several processes
@@ -39,7 +40,8 @@ texts       the texts around net_tool: files of nets, reports, rows, archives, t
 structures  from structure files to nets, as cif2cgd reads them
 blocks      from .cgd and .arc files to nets, as cgd2net reads them
 desk        the page of net_desk and its server
-pictures    nets drawn, and written as crystals, as draw_nets does"""
+pictures    nets drawn, and written as crystals, as draw_nets does
+batch       files of many nets and the reports on them: net_rows, net_names and other commands"""
 
 from __future__ import annotations
 

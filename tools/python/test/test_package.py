@@ -13,7 +13,6 @@ from testing import PROGRAM, TOOLS, FolderTest, long_test, need_modules, need_pr
 
 FOLDER = TOOLS / "python"
 PACKAGE = FOLDER / "crystal_nets"
-sys.path.insert(0, str(FOLDER))
 MODULES = sorted(path.stem for path in PACKAGE.glob("*.py") if path.stem != "__init__")
 PACKAGES = sorted(path.parent.name for path in PACKAGE.glob("*/__init__.py"))
 

@@ -115,7 +115,7 @@ def _told_count(pieces: list[Piece]) -> str:
 
 
 def _told_pieces(pieces: list[Piece], element: dict[str, str]) -> list[Note]:
-    small = [p for p in pieces if p.dimension < 2 and any(element[n] != "H" for n in p.net.vertices)]
+    small = [p for p in pieces if p.dimension < 2 and any(element[str(n)] != "H" for n in p.net.vertices)]
     return [Note(LEFT_OUT, "left out: " + _told_count(small))] if small else []
 
 
@@ -125,13 +125,13 @@ def _alike(pieces: list[Piece], crystal: Crystal) -> list[list[Piece]]:
     atoms = {atom.name: atom.site for atom in crystal.atoms}
     by_site: dict[tuple, list[Piece]] = {}
     for piece in pieces:
-        sites = tuple(sorted(atoms[name].label for name in piece.net.vertices))
+        sites = tuple(sorted(atoms[str(name)].label for name in piece.net.vertices))
         by_site.setdefault((piece.dimension, piece.copies, len(piece.net.edges), sites), []).append(piece)
     if len(by_site) == 1:
         return list(by_site.values())
     groups: dict[tuple, list[Piece]] = {}
     for (*numbers, _), group in by_site.items():
-        elements = tuple(sorted(atoms[name].element for name in group[0].net.vertices))
+        elements = tuple(sorted(atoms[str(name)].element for name in group[0].net.vertices))
         sequences = shells(contracted(group[0].net).net)
         groups.setdefault((*numbers, elements, sequences), []).extend(group)
     return list(groups.values())
