@@ -30,7 +30,7 @@ refusal     why a structure or a block gives no net
 
 What the tools share:
 commands      the commands by their names, as the scripts of the tools start them
-bar           a bar that says how far some work is
+progress      how far some work is, on a terminal
 files         files that are written whole or not at all
 side_by_side  work in several processes
 

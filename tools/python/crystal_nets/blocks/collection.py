@@ -14,7 +14,7 @@ from collections.abc import Iterator
 from dataclasses import dataclass
 from pathlib import Path
 
-from ..bar import Bar
+from ..progress import Progress
 from ..errors import in_words
 from ..files import write_whole
 from ..program import find_program
@@ -87,7 +87,7 @@ def run(program: str, command: str, text: bytes) -> tuple[int, bytes]:
 def read_nets(files: list[str], refused: list[str]) -> list[ListedNet]:
     """All blocks of the files."""
     nets: list[ListedNet] = []
-    with Bar("reading", sum(os.path.getsize(file) for file in files if os.path.isfile(file)), "bytes") as bar:
+    with Progress("reading", sum(os.path.getsize(file) for file in files if os.path.isfile(file)), "bytes") as bar:
         for file in files:
             collector = Collector(file, refused)
             with open(file, "rb") as stream:
@@ -101,7 +101,7 @@ def read_nets(files: list[str], refused: list[str]) -> list[ListedNet]:
 
 def find_keys(nets: list[ListedNet], program: str) -> Iterator[tuple[ListedNet, str]]:
     """The nets with their names and keys, and why one has none."""
-    with Bar("keys", len(nets), "nets") as bar:
+    with Progress("keys", len(nets), "nets") as bar:
         for k in range(0, len(nets), PIECE):
             piece = nets[k:k + PIECE]
             for net, report in zip(piece, keys_of_piece(piece, program), strict=True):

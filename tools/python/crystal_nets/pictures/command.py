@@ -13,7 +13,7 @@ from dataclasses import dataclass
 from functools import partial
 from pathlib import Path
 
-from ..bar import Bar
+from ..progress import Progress
 from ..errors import in_words
 from ..side_by_side import processors, results_of
 from ..texts.net_text import NetReport, nets_of_report
@@ -141,7 +141,7 @@ def draw(asked: argparse.Namespace) -> int:
     with open(0, "rb") as lines:
         # all of it is read before anything is drawn
         reports = [report for report in nets_of_report(lines) if asked.only in (None, report.number)]
-    bar = Bar("draw_nets", len(reports), "nets")
+    bar = Progress("draw_nets", len(reports), "nets")
     results = list(results_of(partial(drawn, asked=asked), reports, asked.jobs, bar))
     for result in results:
         if result.told:
