@@ -128,7 +128,7 @@ class WhatIsSent(WithServer):
             ("nets", {"file": ("a.cgd", SQL), "first": "0", "convention": "auto", "choices": "[]"}),
             ("nets", {"file": ("x.cif", QUARTZ), "first": "0", "convention": "all-atoms", "choices": '["keep_ions"]'}),
             ("card", {"block": block, "name": "sql", "refusal": "",
-                      "provenance": '{"notes": [["other", "one"]], "convention": "", "made": "", "copies": 2}'}),
+                      "provenance": '{"notes": [["other", "one"]], "convention": "", "made": "", "copies": 2, "line": 1}'}),
             ("pair", {"one": block, "other": block}), ("crystal", {"block": block, "name": "sql"}))]
         for _ in range(FORMS):
             path, body, kind = chance.choice(forms)

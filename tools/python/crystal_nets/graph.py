@@ -6,7 +6,7 @@ has."""
 from __future__ import annotations
 
 from collections.abc import Callable, Iterable, Sequence
-from dataclasses import dataclass, field, replace
+from dataclasses import dataclass, replace
 from functools import cached_property
 from typing import NamedTuple
 
@@ -44,7 +44,6 @@ class QuotientGraph:
     edges      as they were given: an edge may stand twice, and in either direction
     dimension  2 or 3, the length of the shifts; less for rods and molecules, 0 where there are no edges
     name       of the net, as a block may have it between quotes
-    line       of the text that it was read from, which opens its block; 0 where there is none
 
     >>> square = QuotientGraph.of("A", [edge(0, 0, (1, 0)), edge(0, 0, (0, 1))], 2)
     >>> square.degrees(), square.labelled_edges
@@ -54,7 +53,6 @@ class QuotientGraph:
     edges: tuple[Edge, ...]
     dimension: int
     name: str = ""
-    line: int = field(default=0, compare=False)
 
     @classmethod
     def of(cls, vertices: Iterable[Vertex], edges: Iterable[Edge], dimension: int = 3, name: str = "") -> QuotientGraph:

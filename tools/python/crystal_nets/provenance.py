@@ -34,19 +34,21 @@ class Provenance:
     notes       what a reader of the net should know
     convention  what became its vertices, as `all-atoms`; empty where the net is of no structure
     made        of how many atoms, or by which group and edges; empty where the block was written out
-    copies      how many nets alike are woven into each other in the structure, of which this is one"""
+    copies      how many nets alike are woven into each other in the structure, of which this is one
+    line        of the text that it was read from, which opens its block; 0 where it is of no block"""
 
     notes: tuple[Note, ...] = ()
     convention: str = ""
     made: str = ""
     copies: int = 1
+    line: int = 0
 
     @classmethod
     def from_dict(cls, fields: dict[str, Any]) -> Provenance:
         """What `to_dict` gave. ValueError where these are no such fields."""
         try:
             notes = tuple(Note(str(kind), str(text)) for kind, text in fields["notes"])
-            return cls(notes, str(fields["convention"]), str(fields["made"]), int(fields["copies"]))
+            return cls(notes, str(fields["convention"]), str(fields["made"]), int(fields["copies"]), int(fields["line"]))
         except (KeyError, TypeError) as fault:
             raise ValueError(f"no provenance: {fault}") from None
 
@@ -62,6 +64,10 @@ class Provenance:
     def doubts(self) -> tuple[str, ...]:
         """The notes on where another reading gives another net."""
         return tuple(note.text for note in self.notes if note.kind == DOUBT)
+
+    def at_line(self, line: int) -> Provenance:
+        """The same of a net whose block opens at this line."""
+        return replace(self, line=line)
 
     def noted(self, before: Iterable[Note] = (), after: Iterable[Note] = ()) -> Provenance:
         """The same with more notes before and after those that it has."""

@@ -135,6 +135,11 @@ def nets_of_cgd(source: str | bytes | os.PathLike[str]) -> list[Net]:
 
 def net_of_chunk(chunk: Chunk) -> Net:
     """The net of one block, or why it gives none. NotANet where a text of another kind begins there."""
+    net = _net_of_chunk(chunk)
+    return net.of_provenance(net.provenance.at_line(chunk.opening_line))
+
+
+def _net_of_chunk(chunk: Chunk) -> Net:
     lines = chunk.block_lines
     if chunk.opening_line == 1:
         lines[0] = lines[0].removeprefix(BYTE_ORDER_MARK)

@@ -74,11 +74,15 @@ class Provenances(unittest.TestCase):
         net, = read(cuprite)
         self.assertEqual(net.provenance.copies, 2)
 
+    def test_a_block_knows_its_line(self):
+        text = b"# two\nPERIODIC_GRAPH\nEDGES\n1 1 1 0\nEND\n\nPERIODIC_GRAPH\nEND"
+        self.assertEqual([net.provenance.line for net in read(text)], [2, 7])
+
     def test_there_and_back(self):
-        made = Provenance((Note(DOUBT, "a"), Note(OTHER, "b")), "all-atoms", "of 9 atoms", 2)
+        made = Provenance((Note(DOUBT, "a"), Note(OTHER, "b")), "all-atoms", "of 9 atoms", 2, 7)
         self.assertEqual(Provenance.from_dict(made.to_dict()), made)
         self.assertEqual((made.doubts, made.texts), (("a",), ("a", "b")))
-        for fields in ({}, [], None, {"notes": 1, "convention": "", "made": "", "copies": 1},
-                       {"notes": [["a"]], "convention": "", "made": "", "copies": 1}):
+        for fields in ({}, [], None, {"notes": 1, "convention": "", "made": "", "copies": 1, "line": 0},
+                       {"notes": [["a"]], "convention": "", "made": "", "copies": 1, "line": 0}):
             with self.assertRaises(ValueError):
                 Provenance.from_dict(fields)

@@ -32,7 +32,7 @@ def text_of_graph(graph: QuotientGraph) -> bytes:
     return f"{head}{''.join(rows)}END\n".encode(errors="surrogateescape")
 
 
-def graph_of_text(block: bytes, name: str = "", line: int = 0) -> QuotientGraph:
+def graph_of_text(block: bytes, name: str = "") -> QuotientGraph:
     """The graph of one block. Vertices are numbered as they appear, as the program numbers them. NotANet where a line is
     no row."""
     number: dict[bytes, int] = {}
@@ -43,7 +43,7 @@ def graph_of_text(block: bytes, name: str = "", line: int = 0) -> QuotientGraph:
             u, v = (number.setdefault(word, len(number)) for word in row.groups()[:2])
             edges.append(Edge(u, v, _shift_of(row[3], count)))
     dimension = len(edges[0].shift) if edges else 0
-    return QuotientGraph(tuple(map(vertex_of, number)), tuple(edges), dimension, name, line)
+    return QuotientGraph(tuple(map(vertex_of, number)), tuple(edges), dimension, name)
 
 
 def _row_of(line: bytes, number: int) -> re.Match[bytes] | None:
