@@ -9,13 +9,15 @@ from importlib import import_module
 from typing import NoReturn
 
 HOMES = {"cif2cgd": "structures.command", "cgd2net": "blocks.command", "make_archives": "blocks.collection",
-         "draw_nets": "pictures.command", "net_desk": "desk.command", "net_table": "tables.command",
+         "draw_nets": "pictures.command", "net_gallery": "pictures.gallery", "net_desk": "desk.command",
+         "net_table": "tables.command",
          **{name: f"batch.{name}" for name in ("split_nets", "net_rows", "net_groups", "net_names", "accepted_nets",
                                                "archive_nets", "component_nets")}}
 # what a command needs before it can say so by itself
 PACKAGES = {"cif2cgd": "python3-gemmi python3-numpy python3-scipy",
             "cgd2net": "python3-gemmi python3-numpy python3-scipy python3-spglib",
-            "make_archives": "python3-gemmi python3-numpy python3-scipy python3-spglib", "draw_nets": "python3-numpy"}
+            "make_archives": "python3-gemmi python3-numpy python3-scipy python3-spglib", "draw_nets": "python3-numpy",
+            "net_gallery": "python3-numpy"}
 WITH_SMALL_MATRICES = ("cif2cgd", "net_table")  # for which threads would wait for each other
 
 

@@ -9,9 +9,10 @@ import argparse
 import re
 import subprocess
 import sys
-from dataclasses import dataclass
+from dataclasses import dataclass, fields
 from functools import partial
 from pathlib import Path
+from typing import Any
 
 from ..progress import Progress
 from ..errors import in_words
@@ -58,12 +59,26 @@ def number_of_jobs(text: str) -> int:
     return value
 
 
+@dataclass(frozen=True)
+class Wanted:
+    """What is to be drawn, and where it goes to."""
+
+    svg: Path | None = None
+    png: Path | None = None
+    page: Path | None = None
+    cgd: Path | None = None
+    cif: Path | None = None
+    title: str = "Nets"
+    jobs: int = 1
+    width: int = 800  # of PNG, in pixels
+
+
 @dataclass
 class Drawn:
     """What was made of one net; told is what was not, and why."""
 
     told: str = ""
-    card: dict | None = None
+    card: dict[str, Any] | None = None
     block: str = ""
 
 
@@ -85,48 +100,58 @@ def stem_of(report: NetReport) -> str:
     return f"{report.number:04}_{stem}"
 
 
-def write_pictures(report: NetReport, view: View, asked: argparse.Namespace) -> None:
+def write_pictures(report: NetReport, view: View, wanted: Wanted) -> None:
     text = picture(view, label_of(report)).encode()
-    if asked.svg:
-        asked.svg.mkdir(parents=True, exist_ok=True)
-        (asked.svg / f"{stem_of(report)}.svg").write_bytes(text)
-    if asked.png:
-        asked.png.mkdir(parents=True, exist_ok=True)
-        subprocess.run(["rsvg-convert", "-w", str(asked.width), "-o", asked.png / f"{stem_of(report)}.png"],
+    if wanted.svg:
+        wanted.svg.mkdir(parents=True, exist_ok=True)
+        (wanted.svg / f"{stem_of(report)}.svg").write_bytes(text)
+    if wanted.png:
+        wanted.png.mkdir(parents=True, exist_ok=True)
+        subprocess.run(["rsvg-convert", "-w", str(wanted.width), "-o", wanted.png / f"{stem_of(report)}.png"],
                        input=text, check=True)
 
 
-def block_of_report(report: NetReport, net: Placed, asked: argparse.Namespace) -> str:
-    """The net as a block CRYSTAL; it is written as a CIF too, where that is asked for."""
+def block_of_report(report: NetReport, net: Placed, wanted: Wanted) -> str:
+    """The net as a block CRYSTAL; it is written as a CIF too, where that is wanted for."""
     embedding, name = Embedding(net), label_of(report)
-    if asked.cif:
-        asked.cif.mkdir(parents=True, exist_ok=True)
-        (asked.cif / f"{stem_of(report)}.cif").write_text(cif_of(embedding, name, stem_of(report)), encoding="utf-8")
+    if wanted.cif:
+        wanted.cif.mkdir(parents=True, exist_ok=True)
+        (wanted.cif / f"{stem_of(report)}.cif").write_text(cif_of(embedding, name, stem_of(report)), encoding="utf-8")
     return block_of(embedding, name)
 
 
-def drawn(report: NetReport, asked: argparse.Namespace) -> Drawn:
+def drawn(report: NetReport, wanted: Wanted) -> Drawn:
     """Writes the files of one net, and gives what goes into files of many."""
     net = placed_or_reason(report)
     if isinstance(net, str):
         return Drawn(f"net {report.number} {label_of(report)}: no picture: {net}")
     done = Drawn()
-    if asked.svg or asked.png or asked.page:
+    if wanted.svg or wanted.png or wanted.page:
         view = view_of(Shape(net))
-        if asked.svg or asked.png:
-            write_pictures(report, view, asked)
-        done.card = card_of(report, view) if asked.page else None
-    if asked.cgd or asked.cif:
+        if wanted.svg or wanted.png:
+            write_pictures(report, view, wanted)
+        done.card = card_of(report, view) if wanted.page else None
+    if wanted.cgd or wanted.cif:
         try:
-            done.block = block_of_report(report, net, asked)
+            done.block = block_of_report(report, net, wanted)
         except NoEmbedding as reason:
             done.told = f"net {report.number} {label_of(report)}: no crystal: {reason}"
     return done
 
 
 def main() -> int:
+    asked = words()
+    with open(0, "rb") as lines:
+        # all of it is read before anything is drawn
+        reports = [report for report in nets_of_report(lines) if asked.only in (None, report.number)]
+    return draw(reports, Wanted(**{field.name: getattr(asked, field.name) for field in fields(Wanted)}))
+
+
+def draw(reports: list[NetReport], wanted: Wanted) -> int:
+    """Draws the nets; 1 where something could not be drawn, which is told. It ends where a program or package that is
+    needed is not there."""
     try:
-        return draw(words())
+        return _draw(reports, wanted)
     except FileNotFoundError as missing:
         what = "rsvg-convert is not there; apt-get install librsvg2-bin"
         sys.exit("draw_nets: " + (what if missing.filename == "rsvg-convert" else in_words(missing)))
@@ -136,19 +161,15 @@ def main() -> int:
         sys.exit(f"draw_nets: {fault}")
 
 
-def draw(asked: argparse.Namespace) -> int:
-    """Draws what is asked for; 1 where something could not be drawn."""
-    with open(0, "rb") as lines:
-        # all of it is read before anything is drawn
-        reports = [report for report in nets_of_report(lines) if asked.only in (None, report.number)]
+def _draw(reports: list[NetReport], wanted: Wanted) -> int:
     bar = Progress("draw_nets", len(reports), "nets")
-    results = list(results_of(partial(drawn, asked=asked), reports, asked.jobs, bar))
+    results = list(results_of(partial(drawn, wanted=wanted), reports, wanted.jobs, bar))
     for result in results:
         if result.told:
             print(result.told, file=sys.stderr)
-    if asked.page:
+    if wanted.page:
         cards = [result.card for result in results if result.card]
-        asked.page.write_text(page_of(asked.title, cards), encoding="utf-8")
-    if asked.cgd:
-        asked.cgd.write_text("".join(result.block for result in results), encoding="utf-8")
+        wanted.page.write_text(page_of(wanted.title, cards), encoding="utf-8")
+    if wanted.cgd:
+        wanted.cgd.write_text("".join(result.block for result in results), encoding="utf-8")
     return int(any(result.told for result in results))
