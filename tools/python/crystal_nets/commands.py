@@ -30,10 +30,6 @@ def run(name: str) -> NoReturn:
     from .texts.net_text import NoReport
     try:
         sys.exit(_main_of(name)())
-    except KeyboardInterrupt:
-        if name != "net_desk":
-            raise
-        sys.exit(0)  # before the server has begun
     except (NoReport, CrystalNetsError, OSError) as fault:
         sys.exit(f"{name}: {in_words(fault)}")
 
