@@ -97,6 +97,10 @@ class Net:
         """The same net under another name; its block stays as it is."""
         return Net._made(self._block, self._graph, name, self.provenance, self.refusal)
 
+    def commented(self, comment: str) -> Net:
+        """The same net with a comment of one line before its block."""
+        return Net._made(f"# {comment}\n".encode() + self.block, self._graph, self.name, self.provenance, self.refusal)
+
     def of_provenance(self, provenance: Provenance) -> Net:
         """The same net, made in this way."""
         return Net._made(self._block, self._graph, self.name, provenance, self.refusal)

@@ -177,16 +177,21 @@ class Converter:
 
 def text_of_block(block: Block, notes: list[str]) -> bytes:
     """What is written of a block; refused by the line where it gives no net."""
-    net = net_of_block(block, notes)
-    if not net.provenance.made:
-        return net.block
-    return f"# line {block.line}: {block.kind}, {plain(net.provenance.made)}\n".encode() + net.block
+    if block.kind == "PERIODIC_GRAPH":
+        return b"".join(rewritten(block.lines, notes))
+    return net_of_block(block, notes).block
 
 
 def net_of_block(block: Block, notes: list[str]) -> Net:
-    """The net of a block; of a PERIODIC_GRAPH its lines, as far as the program reads them."""
+    """The net of a block, with a comment that tells how it was made; of a PERIODIC_GRAPH its lines, as far as the
+    program reads them."""
     if block.kind == "PERIODIC_GRAPH":
         return Net._of(b"".join(rewritten(block.lines, notes)), "")
+    net = _net_made_of(block, notes)
+    return net.commented(f"line {block.line}: {block.kind}, {plain(net.provenance.made)}")
+
+
+def _net_made_of(block: Block, notes: list[str]) -> Net:
     numbered = block.numbered
     if block.kind == "key line":
         return net_of_item(numbered[:-1])
