@@ -78,11 +78,10 @@ class Cards(unittest.TestCase):
 
     def test_copies_of_a_structure_file(self):
         net, = read(EXAMPLES / "quartz.cif")
-        note = "2 interwoven nets alike in the cell, one is written"
-        told = card(Net.from_block(net.block, "x", [note]))
+        told = card(net.of_provenance(Provenance(copies=2)))
         self.assertIn("by the file alone", told["woven"]["told"])
         self.assertEqual(set(told["woven"]["picture"]["kinds"]), {0, 1})
-        self.assertNotIn("woven", card(Net.from_block(net.block, "x", [note.replace("2", "9999")])))
+        self.assertNotIn("woven", card(net.of_provenance(Provenance(copies=9999))))
 
     def test_each_net_without_a_key_has_a_reason(self):
         head, many = b"PERIODIC_GRAPH\nEDGES\n", b"".join(b"%d %d 0 1\n" % (k, k + 1) for k in range(1, 600))
