@@ -77,7 +77,7 @@ class Order(FolderTest):
         plan = prove.Plan(BELOW, SECONDS)
         self.assertEqual(plan.seconds_together(SECONDS, set(), 4), 60 + 100 + 60)
         self.assertEqual(plan.seconds_together(SECONDS, set(), 1), sum(SECONDS.values()))
-        self.assertEqual(plan.seconds_together({"middle": 5.0, "net_tool": 60.0}, {"middle"}, 4), 55)
+        self.assertEqual(plan.seconds_together({"middle": 5.0, "net_tool": 60.0}, {"middle"}, 4), 65)
 
     def test_how_long_it_takes_is_told_by_this_machine(self):
         run_of_crates, _ = self.proving()
