@@ -125,7 +125,7 @@ class Installed(FolderTest):
     def test_a_reader_that_has_enough_is_no_fault(self):
         many = self.folder / "many.cgd"
         many.write_bytes((self.share / "examples/dia.cgd").read_bytes() * 4000)
-        output, said = self.told(f"net_tool identify --archive {self.share}/archives/common.archive {many} | head -n 1", 0)
+        output, said = self.told(f"net_tool key {many} | head -n 1", 0)
         self.assertEqual((output.count(b"\n"), said), (1, ""))
         self.assertIn("cannot be written", self.told(f"net_tool check {many} > /dev/full", 4)[1])
 
