@@ -140,9 +140,11 @@ class Installed(FolderTest):
             self.skipTest("another net_tool is installed here")
         shutil.copy(self.share / "examples/dia.cgd", self.folder / "nets.cgd")
         bin_folder = self.prefix / "bin"
-        script = f"cd {self.folder} && {bin_folder}/split_nets nets.cgd pieces && {bin_folder}/key_piece pieces 1 && {bin_folder}/name_nets nets.cgd"
+        script = (f"cd {self.folder} && {bin_folder}/net_tool add nets.cgd --name mine >mine.archive && "
+                  f"{bin_folder}/split_nets nets.cgd pieces && {bin_folder}/key_piece pieces 1 && "
+                  f"{bin_folder}/name_nets nets.cgd mine.archive")
         told = run("env", "-u", "NET_TOOL", f"PATH={path}", "sh", "-c", script).stdout
-        self.assertIn(b"dia, diamond", told)
+        self.assertTrue(told.endswith(b"\tmine\n"), told)
         self.assertEqual(len(list((self.folder / "pieces").glob("*.rows"))), 1)
 
     def test_commands_find_their_modules(self):
