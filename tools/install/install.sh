@@ -62,7 +62,7 @@ install -D -m 644 -- "$top/tools/install/net_tool.bash" "$to/share/bash-completi
 chmod 644 "$share/VERSION"
 
 # The tools keep their layout, since they find their modules in ../python; bin has links to those that are commands.
-(cd "$top/tools" && find cif2cgd cgd2net pictures batch desk python/README.md python/crystal_nets -name test -prune -o -name __pycache__ -prune -o -type f -print) |
+(cd "$top/tools" && find cif2cgd cgd2net pictures batch desk python/README.md python/crystal_nets -name test -prune -o -name __pycache__ -prune -o -name ".*" -prune -o -type f -print) |
     while read -r file; do
         mode=644
         [ ! -x "$top/tools/$file" ] || mode=755
