@@ -83,6 +83,21 @@ def run_on_terminal(*words: object, stdin: bytes = b"") -> tuple[int, bytes]:
     return process.returncode, told
 
 
+def ends_soon(number: int, seconds: float = 5.0) -> bool:
+    """Whether a process has ended, or ends within some seconds. One that nobody waits for has ended too."""
+    until = time.monotonic() + seconds
+    while time.monotonic() < until:
+        try:
+            state = Path(f"/proc/{number}/stat").read_text().rpartition(")")[2].split()[0]
+        except OSError:
+            return True
+        if state in "ZX":
+            return True
+        time.sleep(0.05)
+    os.kill(number, signal.SIGKILL)
+    return False
+
+
 class FolderTest(unittest.TestCase):
     """A test with a folder of its own, which is removed after it."""
 
