@@ -19,6 +19,7 @@ import unittest
 from pathlib import Path
 
 TOOLS = Path(__file__).resolve().parent
+sys.path.insert(0, str(TOOLS / "python"))  # the package, for all tests
 TOP = TOOLS.parent
 PROGRAM = os.environ.get("NET_TOOL", str(TOP / "crates/net_tool/out/net_tool"))
 IS_LONG = os.environ.get("TOOLS_LONG") == "1"
@@ -28,7 +29,7 @@ PACKAGES = {"gemmi": "python3-gemmi", "numpy": "python3-numpy", "spglib": "pytho
             "mypy": "mypy", "pip": "python3-pip", "setuptools": "python3-setuptools",
             "parallel": "parallel", "slurmctld": "slurm-wlm",
             "munged": "munge", "rsvg-convert": "librsvg2-bin", "chromium": "chromium",
-            "flask": "python3-flask", "werkzeug": "python3-werkzeug", "selenium": "python3-selenium",
+            "flask": "python3-flask", "tqdm": "python3-tqdm", "werkzeug": "python3-werkzeug", "selenium": "python3-selenium",
             "chromedriver": "chromium-driver", "mandoc": "mandoc", "lintian": "lintian", "debootstrap": "debootstrap",
             "dpkg-deb": "dpkg", "objdump": "binutils", "strip": "binutils", "bash": "bash"}
 
@@ -80,6 +81,21 @@ def run_on_terminal(*words: object, stdin: bytes = b"") -> tuple[int, bytes]:
                 told += part
     os.close(ours)
     return process.returncode, told
+
+
+def ends_soon(number: int, seconds: float = 5.0) -> bool:
+    """Whether a process has ended, or ends within some seconds. One that nobody waits for has ended too."""
+    until = time.monotonic() + seconds
+    while time.monotonic() < until:
+        try:
+            state = Path(f"/proc/{number}/stat").read_text().rpartition(")")[2].split()[0]
+        except OSError:
+            return True
+        if state in "ZX":
+            return True
+        time.sleep(0.05)
+    os.kill(number, signal.SIGKILL)
+    return False
 
 
 class FolderTest(unittest.TestCase):

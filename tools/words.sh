@@ -1,14 +1,35 @@
 # shellcheck shell=sh
 # What ./net_tool, ./preview and the installed net_tool share: the command that words name, help, what is said on
-# standard error of a silent status or of a file without nets, and a sum of the sources, by which a program that was
-# built is known to be the one of the sources that stand here.
+# standard error of a silent status or of a file without nets, how the program is run, and a sum of the sources, by
+# which a program that was built is known to be the one of the sources that stand here. Who takes this file in sets top,
+# the folder of the repository, program, archives, the folder of archives, and the function version.
+# shellcheck disable=SC2154
+
+# The commands: the word, what it takes, and what it does. Help is made of this table, and tools/check_documents compares
+# README.md, docs/FORMATS.md, docs/net_tool.1 and the completion of bash with it.
+command_table='check|[FILE]|whether each net is connected
+place|[FILE]|where its vertices stand: the barycentric placement
+key|[FILE]|its key; equal keys are isomorphic nets, and no others
+identify|[FILE] [--archive PATH]|placement, primitive graph, key, coordination sequences, names in the archive
+components|[FILE]|the parts of interwoven nets, how many copies of each, and their keys
+cover|[FILE] --cell ROWS|the nets on a larger cell, 4 or 9 whole numbers with commas
+add|[FILE] [--archive PATH] [--name NAME]|the archive with these nets after its own
+duplicates|--archive PATH|the isomorphic nets of an archive
+migrate|--archive PATH|the archive in format 2
+union|[FILE] --archive PATH|the archive with the nets of another one, or of key lines (.arc)
+same|[FILE]|maps from the first net to each other one, where they are the same
+verify|[FILE]|whether each map of a text is right
+workload|N|measures the program on N nets that it makes'
 
 usage="usage: net_tool COMMAND [FILE] [--archive PATH] [--name NAME] [--cell ROWS]"
 
 # the positional words of a command line, up to two: an option is --archive, --name or --cell, with its value
 positional_words() {
-    command_given='' file_given=''
+    command_given='' file_given='' archive_given=''
     while [ $# -gt 0 ]; do
+        case $1 in
+        --archive*) archive_given=yes ;;
+        esac
         case $1 in
         --archive | --name | --cell) [ $# -gt 1 ] && shift ;;
         --archive=* | --name=* | --cell=*) ;;
@@ -31,7 +52,12 @@ positional_words() {
 
 is_command() {
     case $1 in
-    check | place | key | identify | components | cover | add | duplicates | migrate | union | same | verify | workload) ;;
+    '' | *[!a-z]*) return 1 ;;
+    esac
+    case "
+$command_table" in
+    *"
+$1|"*) ;;
     *) return 1 ;;
     esac
 }
@@ -47,48 +73,50 @@ want_command() {
 }
 
 all_commands() {
+    echo "$usage"
+    echo
+    while IFS='|' read -r command form does; do
+        printf '  %-41s  %s\n' "$command $form" "$does"
+    done <<TABLE
+$command_table
+TABLE
     cat <<'TEXT'
-usage: net_tool COMMAND [FILE] [--archive PATH] [--name NAME] [--cell ROWS]
-
-  check [FILE]                      whether each net is connected
-  place [FILE]                      where its vertices stand: the barycentric placement
-  key [FILE]                        its key; equal keys are isomorphic nets, and no others
-  identify [FILE] [--archive PATH]  placement, primitive graph, key, coordination sequences, names in the archive
-  components [FILE]                 the parts of interwoven nets, how many copies of each, and their keys
-  cover [FILE] --cell ROWS          the nets on a larger cell, 4 or 9 whole numbers with commas
-  add [FILE] [--archive PATH] [--name NAME]   the archive with these nets after its own
-  duplicates --archive PATH         the isomorphic nets of an archive
-  migrate --archive PATH            the archive in format 2
-  union [FILE] --archive PATH       the archive with the nets of another one, or of key lines (.arc)
-  same [FILE]                       maps from the first net to each other one, where they are the same
-  verify [FILE]                     whether each map of a text is right
-  workload N                        measures the program on N nets that it makes
 
 FILE has blocks PERIODIC_GRAPH; standard input is read where it is absent or -. Files are only read.
 `net_tool help COMMAND` says more of one command, `net_tool --version` which program this is.
 TEXT
 }
 
+# what a command takes, by its word
+form_of() {
+    while IFS='|' read -r command form does; do
+        [ "$command" != "$1" ] || echo "$form"
+    done <<TABLE
+$command_table
+TABLE
+}
+
 # what is said of one command; a line of the statuses follows
 one_command() {
+    printf '%s %s: ' "$1" "$(form_of "$1")"
     case $1 in
-    check) echo "check [FILE]: of each net 'connected', or by numbers that anyone can test why it is not." ;;
-    place) echo "place [FILE]: of each net the common denominator D0 and each vertex in units of 1/D0." ;;
-    key) echo "key [FILE]: of each net its key. Two nets have equal keys exactly where they are isomorphic." ;;
-    identify) echo "identify [FILE] [--archive PATH]: of each net all that is known, and its names in the archive." ;;
-    components) echo "components [FILE]: the parts of each net, as of interwoven frameworks. component_nets makes blocks
+    check) echo "of each net 'connected', or by numbers that anyone can test why it is not." ;;
+    place) echo "of each net the common denominator D0 and each vertex in units of 1/D0." ;;
+    key) echo "of each net its key. Two nets have equal keys exactly where they are isomorphic." ;;
+    identify) echo "of each net all that is known, and its names in the archive." ;;
+    components) echo "the parts of each net, as of interwoven frameworks. component_nets makes blocks
 of the parts, which identify names." ;;
-    cover) echo "cover [FILE] --cell ROWS: the nets on the cell of these rows. 2,0,0,1 is two cells of a layer along a;
+    cover) echo "the nets on the cell of these rows. 2,0,0,1 is two cells of a layer along a;
 --cell=-1,1,1,1,-1,1,1,1,-1 is the cubic cell of a net in a primitive face-centred cell." ;;
-    add) echo "add [FILE] [--archive PATH] [--name NAME]: a longer archive on standard output; write it to another file
+    add) echo "a longer archive on standard output; write it to another file
 than PATH. Where a net is refused nothing is added; accepted_nets takes the others out first." ;;
-    duplicates) echo "duplicates --archive PATH: how many entries there are, and those whose nets are isomorphic." ;;
-    migrate) echo "migrate --archive PATH: the archive in format 2, with coordination sequences beside the keys." ;;
-    union) echo "union [FILE] --archive PATH: both archives in one. FILE is an archive, or key lines of an .arc file;
+    duplicates) echo "how many entries there are, and those whose nets are isomorphic." ;;
+    migrate) echo "the archive in format 2, with coordination sequences beside the keys." ;;
+    union) echo "both archives in one. FILE is an archive, or key lines of an .arc file;
 blocks PERIODIC_GRAPH are for add." ;;
-    same) echo "same [FILE]: a map from the first net to each other one that is the same, for verify to check." ;;
-    verify) echo "verify [FILE]: of each map whether it carries the one net to the other, with no trust in keys." ;;
-    workload) echo "workload N: makes 1 to 4,096 nets, and says how many have a key and how many keys differ." ;;
+    same) echo "a map from the first net to each other one that is the same, for verify to check." ;;
+    verify) echo "of each map whether it carries the one net to the other, with no trust in keys." ;;
+    workload) echo "makes 1 to 4,096 nets, and says how many have a key and how many keys differ." ;;
     esac
     echo "Status 0: all accepted; 1: some not; 2: words without a form; 3 to 11: see 'man net_tool', EXIT STATUS."
 }
@@ -112,14 +140,16 @@ answer_help() {
     fi
 }
 
-# why the program ended without a word
+# Why the program ended without a word. Who reads a pipe and closes it, as head does, has what he wants.
 explain() {
     case $1 in
     3) echo "net_tool: a file or an archive cannot be read, or is not there" >&2 ;;
-    4) echo "net_tool: the output cannot be written; what was written is its beginning" >&2 ;;
+    4) [ -p /dev/stdout ] || [ -S /dev/stdout ] ||
+        echo "net_tool: the output cannot be written; what was written is its beginning" >&2 ;;
     6) echo "net_tool: a file or an archive has more than 16,777,216 bytes; split_nets cuts it" >&2 ;;
     7) echo "net_tool: memory was refused" >&2 ;;
     8) echo "net_tool: the file has more than 4,096 blocks or items; split_nets cuts it" >&2 ;;
+    20) echo "net_tool: the host gives no arguments that are UTF-8, as a file's name may be none; hand that file on by <" >&2 ;;
     126 | 127) echo "net_tool: the program cannot be run: $program" >&2 ;;
     132) echo "net_tool: this processor lacks instructions that the program was built with (x86-64-v2)" >&2 ;;
     esac
@@ -127,6 +157,12 @@ explain() {
 
 has_line() {
     LC_ALL=C grep -a -q -i -E "$1" -- "$2" 2>/dev/null
+}
+
+# says why nets have no names, where no archive was asked
+hint_of_archive() {
+    [ "$command_given" = identify ] && [ -z "$archive_given" ] || return 0
+    echo "net_tool: no archive was asked, so no net has a name; try --archive $archives/common.archive" >&2
 }
 
 # Says what to do with a file that has no net that the command reads. A file is only looked at where it can be read
@@ -141,11 +177,14 @@ hint() {
     case $file in
     '' | -) file=/dev/stdin ;;
     esac
-    [ -f "$file" ] && ! has_line "$wants" "$file" || return 0
+    if [ ! -f "$file" ] || has_line "$wants" "$file"; then
+        hint_of_archive
+        return 0
+    fi
     if has_line '^[[:blank:]]*(data_|_cell_length_a|loop_)' "$file"; then
         told="it looks like a CIF; cif2cgd makes nets of it"
     elif has_line '^[[:blank:]]*PERIODIC_GRAPH' "$file"; then
-        told="it has blocks PERIODIC_GRAPH, of which union takes none; add does"
+        told="it has no key lines, but blocks PERIODIC_GRAPH, which union does not take; add does"
     elif has_line '^[[:blank:]]*(CRYSTAL|NET|TILING)([[:blank:]]|$)' "$file"; then
         told="its blocks are of other kinds, as CRYSTAL; cgd2net makes nets of them"
     elif has_line '^net_archive ' "$file"; then
@@ -160,10 +199,26 @@ hint() {
     echo "net_tool: no net was read from ${file_given:-standard input}: $told" >&2
 }
 
-# runs the program, explains its status, and ends with it
+# whether a command can be made to end with this shell
+can_bind() {
+    setpriv --pdeathsig KILL sh -c : 2>/dev/null
+}
+
+# runs a command that is told to end where this shell does, where that can be
+bound() {
+    if can_bind; then
+        setpriv --pdeathsig TERM -- "$@"
+    else
+        "$@"
+    fi
+}
+
+# Runs the program, explains its status, and ends with it. The program ends as soon as this shell does, by whatever
+# signal; without setpriv, of util-linux, it takes the place of this shell, and nothing is said of its status.
 run_explained() {
     positional_words "$@"
-    "$program" "$@"
+    can_bind || exec "$program" "$@"
+    setpriv --pdeathsig KILL -- "$program" "$@"
     status=$?
     explain $status
     case $status in
@@ -173,17 +228,57 @@ run_explained() {
     exit $status
 }
 
-# a sum of all that the program is made of; top is the folder of the repository
+# the crates that the program stands on, itself first, by crates.txt, where each stands after those below it
+crates_of_program() {
+    upwards=
+    while read -r line; do
+        upwards="$line
+$upwards"
+    done <crates.txt
+    needed=' net_tool '
+    while IFS=': ' read -r crate below; do
+        case $needed in
+        *" ${crate:-none at all} "*) needed="$needed$below " && echo "$crate" ;;
+        esac
+    done <<CRATES
+$upwards
+CRATES
+}
+
+# the files below a folder, one a line
+files_below() {
+    for path in "$1"/*; do
+        if [ -d "$path" ]; then
+            files_below "$path"
+        elif [ -f "$path" ]; then
+            echo "$path"
+        fi
+    done
+}
+
+# A sum of all that the program is made of, and of nothing else: the sources, definitions and proofs of the crates that
+# it stands on, crates.txt and TOOLCHAIN.
 sum_of_sources() {
     (
-        cd "$top" && find crates.txt TOOLCHAIN crates/*/src crates/*/specs crates/*/proofs -type f | LC_ALL=C sort |
-            xargs sha256sum | sha256sum | cut -d ' ' -f 1
+        cd "$top" && set -e && LC_ALL=C && export LC_ALL
+        files=$(for crate in $(crates_of_program); do
+            for folder in src specs proofs; do
+                files_below "crates/$crate/$folder"
+            done
+        done)
+        IFS='
+'
+        # shellcheck disable=SC2046
+        set -- $(printf '%s\n' "$files" | sort)
+        sha256sum crates.txt TOOLCHAIN "$@" | sha256sum | cut -d ' ' -f 1
     ) 2>/dev/null
 }
 
-# the commit of the repository, and whether something was changed since; top is its folder
+# The commit of the repository, and whether something was changed since, or the one that a release is of.
 commit_of_sources() {
-    if commit=$(git -C "$top" rev-parse --short=12 HEAD 2>/dev/null); then
+    if [ -n "${COMMIT_OF_RELEASE:-}" ]; then
+        echo "$COMMIT_OF_RELEASE"
+    elif commit=$(git -C "$top" rev-parse --short=12 HEAD 2>/dev/null); then
         changed=$(git -C "$top" status --porcelain --untracked-files=no 2>/dev/null)
         echo "$commit${changed:+, with changes}"
     else

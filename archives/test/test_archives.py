@@ -9,7 +9,6 @@ from itertools import combinations
 
 from testing import PROGRAM, TOOLS, TOP, FolderTest, need_modules, need_program, run
 
-sys.path.insert(0, str(TOOLS / "python"))
 from crystal_nets.texts.net_text import nets_of_report  # noqa: E402
 
 ARCHIVES = TOP / "archives"

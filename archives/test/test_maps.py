@@ -1,10 +1,8 @@
 """Maps between nets: that what `same` writes is verified, for each common net and its covers."""
 
-import sys
 
 from testing import PROGRAM, TOOLS, TOP, FolderTest, need_program, run
 
-sys.path.insert(0, str(TOOLS / "python"))
 from crystal_nets.texts.net_text import chunks_of, nets_of_report  # noqa: E402
 
 COMMON = TOP / "archives/common.cgd"

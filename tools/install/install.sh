@@ -2,7 +2,8 @@
 # install.sh PREFIX [PROGRAM]: puts net_tool, its manual pages, archives, examples, the tools beside it and the
 # completion of bash under PREFIX. The program stands in lib/net_tool, and bin/net_tool runs it: it knows help and
 # --version, and explains a status that the program ends with without a word. PROGRAM is the built program; where it is
-# not given, the one of this repository. DESTDIR, where it is set, stands before PREFIX. Nothing is built or proved here.
+# not given, the one that this repository built, or else the released one. DESTDIR, where it is set, stands before
+# PREFIX. Nothing is built or proved here.
 set -eu
 umask 022
 
@@ -25,7 +26,8 @@ esac
 top=$(CDPATH='' cd -- "$(dirname -- "$0")/../.." && pwd -P)
 to=${DESTDIR:-}$1
 program=${2:-$top/crates/net_tool/out/net_tool}
-[ -x "$program" ] || fail "$program is not there; ./net_tool builds it"
+[ $# -eq 2 ] || [ -x "$program" ] || program=$top/release/net_tool
+[ -x "$program" ] || fail "$program is not there; './net_tool --prove' builds it"
 
 share=$to/share/net_tool
 commands="tools/cif2cgd/cif2cgd tools/cgd2net/cgd2net tools/cgd2net/make_archives archives/take_rcsr
@@ -48,13 +50,19 @@ install -D -m 644 -- "$top/tools/install/net_tool.bash" "$to/share/bash-completi
 {
     echo "net_tool, commit $(commit_of_sources)"
     echo "toolchain: $(cat "$top/TOOLCHAIN")"
-    [ "$(cat "$program.sum" 2>/dev/null)" = "$(sum_of_sources)" ] ||
+    made_of=$(sed -n 1p "$program.sum" 2>/dev/null) || :
+    if [ -z "$made_of" ]; then
         echo "the program was given to install.sh; of which sources it was made is not known"
+    elif [ "$made_of" != "$(sum_of_sources)" ]; then
+        echo "the program was made of other sources than stand there, those of the sum $made_of"
+    else
+        echo "the program was made of these sources; their sum is $made_of"
+    fi
 } >"$share/VERSION"
 chmod 644 "$share/VERSION"
 
 # The tools keep their layout, since they find their modules in ../python; bin has links to those that are commands.
-(cd "$top/tools" && find cif2cgd cgd2net pictures batch desk python/README.md python/crystal_nets -name test -prune -o -name __pycache__ -prune -o -type f -print) |
+(cd "$top/tools" && find cif2cgd cgd2net pictures batch desk python/README.md python/crystal_nets -name test -prune -o -name __pycache__ -prune -o -name ".*" -prune -o -type f -print) |
     while read -r file; do
         mode=644
         [ ! -x "$top/tools/$file" ] || mode=755

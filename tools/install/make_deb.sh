@@ -1,6 +1,7 @@
 #!/bin/sh
 # make_deb.sh VERSION FOLDER [PROGRAM]: the Debian package crystal-net-tool of the built program and its tools, in
-# FOLDER, by dpkg-deb. MAINTAINER is told in it. Its copyright file says that the repository states no licence.
+# FOLDER, by dpkg-deb. MAINTAINER is told in it. Its copyright file says that the repository states no licence. With
+# SOURCE_DATE_EPOCH the same files give the same package, byte for byte, in any folder and on any day.
 set -eu
 umask 022
 
@@ -19,11 +20,19 @@ esac
 version=$1 folder=$2
 here=$(CDPATH='' cd -- "$(dirname -- "$0")" && pwd -P)
 program=${3:-$here/../../crates/net_tool/out/net_tool}
+SOURCE_DATE_EPOCH=${SOURCE_DATE_EPOCH:-$(date +%s)}
+export SOURCE_DATE_EPOCH
+export LC_ALL=C
 name=crystal-net-tool
 maintainer=${MAINTAINER:-Nobody <nobody@example.org>}
 for command in dpkg-deb objdump strip; do
     command -v "$command" >/dev/null || fail "$command is not there (apt-get install dpkg-dev binutils)"
 done
+
+# the size that a package tells: each file in whole kilobytes, and one for all else, on whatever file system
+kilobytes_below() {
+    find "$1" \( -type f -printf '%s\n' \) -o -printf '1\n' | awk '{ total += int(($1 + 1023) / 1024) } END { print total }'
+}
 
 root=$(mktemp -d)
 trap 'rm -rf -- "$root"' EXIT
@@ -44,7 +53,7 @@ Package: $name
 Version: $version
 Architecture: $(dpkg --print-architecture)
 Maintainer: $maintainer
-Installed-Size: $(du -sk "$root/usr" | cut -f 1)
+Installed-Size: $(kilobytes_below "$root/usr")
 Section: science
 Priority: optional
 Depends: libc6 (>= ${libc:-2.34}), python3
@@ -73,9 +82,10 @@ $name ($version) unstable; urgency=low
 
   * Made by tools/install/make_deb.sh.
 
- -- $maintainer  $(date -R -u -d "@${SOURCE_DATE_EPOCH:-$(date +%s)}")
+ -- $maintainer  $(date -R -u -d "@$SOURCE_DATE_EPOCH")
 CHANGES
 chmod 644 "$root/usr/share/doc/$name/changelog.gz"
 (cd "$root" && find usr -type f -print0 | LC_ALL=C sort -z | xargs -0 md5sum) >"$root/DEBIAN/md5sums"
 mkdir -p "$folder"
-dpkg-deb --root-owner-group --build "$root" "$folder"
+# one thread of xz: more of them cut what they compress otherwise
+DPKG_DEB_THREADS_MAX=1 dpkg-deb --root-owner-group -Zxz --build "$root" "$folder"

@@ -2,7 +2,6 @@
 
 import random
 import subprocess
-import sys
 
 from mutants import mutant
 from testing import IS_LONG, PROGRAM, TOOLS, TOP, FolderTest, need_program, run
@@ -30,10 +29,10 @@ net 4 line 60
 unsupported CRYSTAL
 """
 
-sys.path.insert(0, str(TOOLS / "python"))
 from crystal_nets.texts.archive_text import entries_of  # noqa: E402
 from crystal_nets.texts.component_text import parts_of_report  # noqa: E402
-from crystal_nets.texts.key_graph import block_rows  # noqa: E402
+from crystal_nets.texts.graph_text import text_of_graph  # noqa: E402
+from crystal_nets.texts.key_graph import graph_of_key  # noqa: E402
 from crystal_nets.texts.net_text import NoReport, nets_of_report  # noqa: E402
 from crystal_nets.texts.row_text import rows_of  # noqa: E402
 
@@ -78,7 +77,7 @@ class Readers(FolderTest):
 
     def test_mutants_of_components(self):
         def blocks(lines):
-            return [block_rows(part.key) for net in parts_of_report(lines) for part in net.parts if part.key]
+            return [graph_of_key(part.key) for net in parts_of_report(lines) for part in net.parts if part.key]
         self.survivors([COMPONENTS], blocks_or_fault(blocks), MUTANTS)
 
     def test_lines_that_look_like_others(self):
@@ -196,7 +195,7 @@ class Keys(FolderTest):
         need_program()
         for archive in (ARCHIVE, TOP / "archives/zeolites.archive"):
             keys = [line[4:] for line in archive.read_bytes().splitlines() if line.startswith(b"key ")]
-            text = b"".join(b"PERIODIC_GRAPH\nEDGES\n%sEND\n" % block_rows(key) for key in keys)
+            text = b"".join(text_of_graph(graph_of_key(key)) for key in keys)
             report = run(PROGRAM, "key", stdin=text).stdout
             self.assertEqual([net.key for net in nets_of_report(lines_of(report))], keys)
 
@@ -213,4 +212,4 @@ class Keys(FolderTest):
     def test_keys_of_no_net(self):
         for key in (b"3 2 1 1 1 0 0 1", b"3 1 1 1 1 0 0 1 1 1 0 1 0", b"2 1 1 1 1 0 0"):
             with self.assertRaises(NoReport):
-                block_rows(key)
+                graph_of_key(key)

@@ -1,7 +1,6 @@
 """Each command of many nets on damaged texts: no traceback, no status that is lost, nothing told beside a reason."""
 
 import random
-import sys
 import unittest
 from pathlib import Path
 
@@ -9,7 +8,6 @@ from mutants import Done, Script, mutant
 from test_damaged import ARCHIVE, BATCH, COMPONENTS, EXAMPLES
 from testing import IS_LONG, PROGRAM, TOOLS, FolderTest, need_modules, need_program, run
 
-sys.path.insert(0, str(TOOLS / "python"))
 from crystal_nets.texts.net_text import nets_of_report  # noqa: E402
 
 MUTANTS = 2_000 if IS_LONG else 25

@@ -13,7 +13,6 @@ from pathlib import Path
 from odd_cells import text_of_odd_nets
 from testing import IS_LONG, PROGRAM, TOOLS, TOP, FolderTest, long_test, need_commands, need_modules, need_program, run
 
-sys.path.insert(0, str(TOOLS / "python"))
 from crystal_nets.tables.columns import TABLE, escaped, plain, read_table  # noqa: E402
 from crystal_nets.tables.piece import path_of, rows_of  # noqa: E402
 from crystal_nets.tables.plan import FORM, Failed, files_of, plan_of, read_plan  # noqa: E402

@@ -9,7 +9,6 @@ import sys
 from testing import IS_LONG, PROGRAM, TOOLS, TOP, FolderTest, long_test, need_modules, need_program, run
 
 need_modules("gemmi", "numpy", "scipy")
-sys.path.insert(0, str(TOOLS / "python"))
 from crystal_nets.blocks.converter import Converter  # noqa: E402
 from crystal_nets.texts.net_text import nets_of_report  # noqa: E402
 

@@ -165,6 +165,7 @@ class Collections(FolderTest):
                 path.unlink()
 
     def test_a_terminal_sees_a_bar(self):
+        need_modules("tqdm")
         file = self.write("a.cgd", crystals())
         status, told = run_on_terminal(MAKE, self.folder / "nets", file)
         self.assertEqual(status, 0)

@@ -6,7 +6,6 @@ bonds have their usual lengths. Lengths are in angstrom."""
 
 from __future__ import annotations
 
-import sys
 from dataclasses import dataclass, field
 from itertools import permutations
 
@@ -16,8 +15,7 @@ from scipy.optimize import linear_sum_assignment, minimize
 from scipy.spatial import cKDTree
 from testing import TOOLS
 
-sys.path.insert(0, str(TOOLS / "python"))
-from crystal_nets.structures.contacts import contacts  # noqa: E402
+from crystal_nets.structures.bonds.contacts import contacts  # noqa: E402
 
 BOND = 1.49    # between two rings, or a ring and a carboxylate
 NEAR = 2.7     # pairs of a unit that are nearer keep their distance

@@ -6,7 +6,6 @@ G. Férey and others, Angew. Chem. Int. Ed. 43 (2004) 6296."""
 
 from __future__ import annotations
 
-import sys
 from itertools import combinations, product
 
 import numpy as np
@@ -14,9 +13,8 @@ from assembly import Assembly, Places, arcs_of, placed
 from odd_cells import Edge
 from testing import TOOLS
 
-sys.path.insert(0, str(TOOLS / "python"))
-from crystal_nets.structures.net import Net  # noqa: E402
-from crystal_nets.structures.translations import divided_by_translations  # noqa: E402
+from crystal_nets.graph import Edge as GraphEdge, QuotientGraph  # noqa: E402
+from crystal_nets.structures.nets.translations import divided_by_translations  # noqa: E402
 
 Corners = list[list[tuple[int, np.ndarray]]]  # of each tetrahedron its four corners, and their cells
 ACROSS = (8 / 3) ** 0.5  # edges, between two neighbours of the middle of a tetrahedron
@@ -42,12 +40,12 @@ def _tetrahedra(edges: list[Edge]) -> tuple[Corners, np.ndarray, np.ndarray, np.
     """Of a net in its primitive cell the corners, which are the middles of its edges, their places and
     those of its vertices, and the lattice."""
     count = 1 + max(max(u, v) for u, v, _ in edges)
-    net = divided_by_translations(Net([str(v) for v in range(count)], set(edges)))
-    edges = sorted(net.edges)
-    middles, lattice = _regular(edges, len(net.names))
+    net = divided_by_translations(QuotientGraph.of(map(str, range(count)), (GraphEdge(*edge) for edge in edges)))
+    edges = list(net.edges)
+    middles, lattice = _regular(edges, len(net.vertices))
     places = np.array([(middles[u] + middles[v] + s) / 2 for u, v, s in edges])
     corners = [[(number, np.zeros(3, int) if end == 0 else step) for _, step, (number, end) in arcs]
-               for arcs in arcs_of(edges, len(net.names))]
+               for arcs in arcs_of(edges, len(net.vertices))]
     return corners, places, middles, lattice
 
 

@@ -3,7 +3,6 @@ in three presentations, two of them with a solvent and with disorder."""
 
 import random
 import re
-import sys
 import unittest
 from itertools import product
 
@@ -16,9 +15,8 @@ from frameworks import ASSEMBLED, PUBLISHED, nets_of_archive  # noqa: E402
 from scipy.spatial import cKDTree  # noqa: E402
 from structures import STRUCTURES, Structure, cif_text, images_of, lengths_and_angles, presentations  # noqa: E402
 
-sys.path.insert(0, str(TOOLS / "python"))
-from crystal_nets.structures.choice import Options  # noqa: E402
-from crystal_nets.structures.conventions import CONVENTIONS  # noqa: E402
+from crystal_nets.structures.nets.choice import Options  # noqa: E402
+from crystal_nets.structures.units.conventions import CONVENTIONS  # noqa: E402
 from crystal_nets.structures.conversion import Source, convert  # noqa: E402
 
 CLUSTERS = [s for s in STRUCTURES if "--clusters" in s.words]

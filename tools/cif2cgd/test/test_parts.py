@@ -1,26 +1,25 @@
 """The parts of cif2cgd by themselves: lattices, quotient graphs, elements, shells."""
 
-import sys
 import unittest
 
 from testing import TOOLS, need_modules
 
 need_modules("gemmi", "numpy", "scipy")
-sys.path.insert(0, str(TOOLS / "python"))
-from crystal_nets.structures.bonds import first_gap  # noqa: E402
-from crystal_nets.structures.components import components  # noqa: E402
-from crystal_nets.structures.elements import element_of, elements_of_formula  # noqa: E402
-from crystal_nets.structures.lattice import coordinates, index, staircase  # noqa: E402
-from crystal_nets.structures.net import Net, contracted, edge, without_ends  # noqa: E402
-from crystal_nets.structures.translations import divided_by_translations  # noqa: E402
-from crystal_nets.structures.units import parts_of, ring_edges  # noqa: E402
+from crystal_nets.graph import QuotientGraph, edge  # noqa: E402
+from crystal_nets.lattice import coordinates, index, staircase  # noqa: E402
+from crystal_nets.structures.bonds.rules import first_gap  # noqa: E402
+from crystal_nets.structures.nets.pieces import pieces_of  # noqa: E402
+from crystal_nets.structures.atoms.elements import element_of, elements_of_formula  # noqa: E402
+from crystal_nets.structures.nets.simplification import contracted, without_ends  # noqa: E402
+from crystal_nets.structures.nets.translations import divided_by_translations  # noqa: E402
+from crystal_nets.structures.units.building_units import parts_of, ring_edges  # noqa: E402
 
 X, Y, Z = (1, 0, 0), (0, 1, 0), (0, 0, 1)
 
 
 def net(*edges):
     count = 1 + max(max(u, v) for u, v, _ in edges)
-    return Net([str(k) for k in range(count)], {edge(u, v, s) for u, v, s in edges})
+    return QuotientGraph.of(map(str, range(count)), {edge(u, v, s) for u, v, s in edges})
 
 
 class Lattices(unittest.TestCase):
@@ -43,18 +42,18 @@ class Nets(unittest.TestCase):
 
     def test_rhenium_trioxide_is_the_cubic_lattice(self):
         oxide = net((0, 1, (0, 0, 0)), (1, 0, X), (0, 2, (0, 0, 0)), (2, 0, Y), (0, 3, (0, 0, 0)), (3, 0, Z))
-        self.assertEqual(contracted(oxide).net.edges, {(0, 0, X), (0, 0, Y), (0, 0, Z)})
+        self.assertEqual(contracted(oxide).net.edge_set, {(0, 0, X), (0, 0, Y), (0, 0, Z)})
 
     def test_two_bridges_are_one_edge(self):
         layer = net((0, 1, (0, 0, 0)), (1, 0, X), (0, 2, (0, 0, 0)), (2, 0, X), (0, 0, Y))
         simple = contracted(layer)
-        self.assertEqual((simple.net.edges, simple.doubled), ({(0, 0, X), (0, 0, Y)}, 1))
+        self.assertEqual((simple.net.edge_set, simple.doubled), ({(0, 0, X), (0, 0, Y)}, 1))
 
     def test_ends_are_left_out(self):
-        self.assertEqual(len(without_ends(net((0, 0, X), (0, 1, Y), (1, 2, Z))).names), 1)
+        self.assertEqual(len(without_ends(net((0, 0, X), (0, 1, Y), (1, 2, Z))).vertices), 1)
 
     def test_rod_of_bridges_stays(self):
-        self.assertEqual(contracted(net((0, 1, (0, 0, 0)), (1, 0, X))).net.edges, {(0, 0, X)})
+        self.assertEqual(contracted(net((0, 1, (0, 0, 0)), (1, 0, X))).net.edge_set, {(0, 0, X)})
 
 
 class Parts(unittest.TestCase):
@@ -62,7 +61,7 @@ class Parts(unittest.TestCase):
         """Which atoms are donors, centres of anions, and small anions, of a net by its elements and bonds."""
         names = [f"{element}{k}" for k, element in enumerate(elements.split())]
         zero = (0, 0, 0)
-        found = parts_of(Net(names, {edge(u, v, zero) for u, v in bonds}), dict(zip(names, elements.split())))
+        found = parts_of(QuotientGraph.of(names, {edge(u, v, zero) for u, v in bonds}), dict(zip(names, elements.split())))
         return found.donors, found.centres, found.small_anions
 
     def test_carboxylates_phosphonates_and_sulfonates_belong_to_metals(self):
@@ -80,7 +79,7 @@ class Parts(unittest.TestCase):
 
     def test_rings_of_linkers_and_not_of_pores(self):
         def ring(size):
-            return Net([str(k) for k in range(size)], {edge(k, (k + 1) % size, (0, 0, 0)) for k in range(size)})
+            return QuotientGraph.of(map(str, range(size)), {edge(k, (k + 1) % size, (0, 0, 0)) for k in range(size)})
 
         self.assertEqual(len(ring_edges(ring(6), set(range(6)))), 6)
         self.assertEqual(len(ring_edges(ring(16), set(range(16)))), 16)
@@ -93,7 +92,7 @@ class Translations(unittest.TestCase):
     def test_a_net_in_a_larger_cell_comes_to_its_own(self):
         cubic = net((0, 1, (0, 0, 0)), (1, 0, X), (0, 0, Y), (1, 1, Y), (0, 0, Z), (1, 1, Z))
         divided = divided_by_translations(cubic)
-        self.assertEqual((len(divided.names), len(divided.edges)), (1, 3))
+        self.assertEqual((len(divided.vertices), len(divided.edges)), (1, 3))
 
     def test_a_net_without_other_translations_stays(self):
         diamond = net((0, 1, (0, 0, 0)), (0, 1, X), (0, 1, Y), (0, 1, Z))
@@ -102,15 +101,15 @@ class Translations(unittest.TestCase):
 
 class Components(unittest.TestCase):
     def test_interwoven(self):
-        piece, = components(net((0, 0, (0, 1, 1)), (0, 0, (1, 0, 1)), (0, 0, (1, 1, 0))))
+        piece, = pieces_of(net((0, 0, (0, 1, 1)), (0, 0, (1, 0, 1)), (0, 0, (1, 1, 0))))
         self.assertEqual((piece.dimension, piece.copies), (3, 2))
 
     def test_layer_in_its_own_basis(self):
-        piece, = components(net((0, 0, (1, 0, 1)), (0, 0, (0, 2, 0))))
-        self.assertEqual((piece.dimension, piece.net.edges), (2, {(0, 0, (1, 0)), (0, 0, (0, 1))}))
+        piece, = pieces_of(net((0, 0, (1, 0, 1)), (0, 0, (0, 2, 0))))
+        self.assertEqual((piece.dimension, piece.net.edge_set), (2, {(0, 0, (1, 0)), (0, 0, (0, 1))}))
 
     def test_molecule_and_rod(self):
-        pieces = components(net((0, 1, X), (2, 2, Z)))
+        pieces = pieces_of(net((0, 1, X), (2, 2, Z)))
         self.assertEqual([p.dimension for p in pieces], [0, 1])
 
 

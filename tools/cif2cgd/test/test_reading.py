@@ -2,7 +2,6 @@
 kinds of files, cells that are several times the primitive one."""
 
 import random
-import sys
 import unittest
 from itertools import combinations
 
@@ -13,12 +12,11 @@ import gemmi  # noqa: E402
 import numpy as np  # noqa: E402
 from structures import STRUCTURES, cif_text, images_of, presentations  # noqa: E402
 
-sys.path.insert(0, str(TOOLS / "python"))
-from crystal_nets.structures.bonds import find_bonds  # noqa: E402
-from crystal_nets.structures.choice import Options  # noqa: E402
+from crystal_nets.structures.bonds.rules import find_bonds  # noqa: E402
+from crystal_nets.structures.nets.choice import Options  # noqa: E402
 from crystal_nets.structures.conversion import Source, convert  # noqa: E402
-from crystal_nets.structures.document import blocks_of  # noqa: E402
-from crystal_nets.structures.structure import read_crystal  # noqa: E402
+from crystal_nets.structures.reading.document import blocks_of  # noqa: E402
+from crystal_nets.structures.reading.structure import read_crystal  # noqa: E402
 
 COMMAND = TOOLS / "cif2cgd/cif2cgd"
 CUBE = (10, 10, 10, 90, 90, 90)

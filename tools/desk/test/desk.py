@@ -27,8 +27,6 @@ def need_desk() -> None:
     need_program()
     need_modules("flask", "werkzeug", "numpy", "scipy", "gemmi", "spglib")
     os.environ.setdefault("NET_TOOL", PROGRAM)
-    if str(TOOLS / "python") not in sys.path:
-        sys.path.insert(0, str(TOOLS / "python"))
 
 
 def memory_for_program() -> int:
@@ -88,7 +86,8 @@ class Server:
         return self.ask("nets", file=(name, content), **{"first": "0", "convention": "all-atoms", "choices": "[]", **fields})
 
     def card(self, net: dict) -> dict:
-        return self.ask("card", block=net["block"], name=net["name"], notes=json.dumps(net["notes"]), refusal=net["refusal"])
+        return self.ask("card", block=net["block"], name=net["name"], provenance=json.dumps(net["provenance"]),
+                        refusal=net["refusal"])
 
     def end(self, name: int = signal.SIGINT) -> tuple[int, str, str]:
         """The status and what was printed, once a signal has ended it."""

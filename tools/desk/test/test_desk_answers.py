@@ -22,6 +22,7 @@ from crystal_nets.desk.reasons import FAULTS, REFUSALS  # noqa: E402
 from crystal_nets.desk.worker import Limits, NoAnswer, Workers  # noqa: E402
 from crystal_nets.desk.woven import cosets, woven  # noqa: E402
 from crystal_nets.program import run  # noqa: E402
+from crystal_nets.provenance import Provenance  # noqa: E402
 from crystal_nets.texts.net_text import nets_of_report  # noqa: E402
 
 EXAMPLES = TOP / "examples"
@@ -77,11 +78,10 @@ class Cards(unittest.TestCase):
 
     def test_copies_of_a_structure_file(self):
         net, = read(EXAMPLES / "quartz.cif")
-        note = "2 interwoven nets alike in the cell, one is written"
-        told = card(Net.from_block(net.block, "x", [note]))
+        told = card(net.of_provenance(Provenance(copies=2)))
         self.assertIn("by the file alone", told["woven"]["told"])
         self.assertEqual(set(told["woven"]["picture"]["kinds"]), {0, 1})
-        self.assertNotIn("woven", card(Net.from_block(net.block, "x", [note.replace("2", "9999")])))
+        self.assertNotIn("woven", card(net.of_provenance(Provenance(copies=9999))))
 
     def test_each_net_without_a_key_has_a_reason(self):
         head, many = b"PERIODIC_GRAPH\nEDGES\n", b"".join(b"%d %d 0 1\n" % (k, k + 1) for k in range(1, 600))
@@ -90,7 +90,7 @@ class Cards(unittest.TestCase):
                   "malformed line=3 6": head + b"1 1 0 0\nEND\n", "unsupported": b"OTHER\nEND\n",
                   "malformed line=514 8": head + many + b"END\n"}
         for begin, block in blocks.items():
-            told = card(Net._of(block, "", ()))  # as it stands, also where it is not one whole block
+            told = card(Net._of(block, ""))  # as it stands, also where it is not one whole block
             self.assertTrue(told["reason"]["told"].startswith(begin), told["reason"])
             self.assertTrue(told["reason"]["what"] and told["reason"]["advice"])
         self.assertIn("They are", card(Net(COLLISION))["reason"]["what"])
@@ -177,7 +177,8 @@ class Damaged(unittest.TestCase):
         if "reason" in answer:
             return bad_reason(answer["reason"])
         for net in answer["nets"][:1]:
-            told = self.asked(questions.card, net["block"].encode(), net["name"], net["notes"], net["refusal"])
+            told = self.asked(questions.card, net["block"].encode(), net["name"],
+                              Provenance.from_dict(net["provenance"]), net["refusal"])
             reason = told.get("reason") or {}
             if not told.get("key") and not reason:
                 return "neither a key nor a reason"

@@ -17,8 +17,8 @@ from testing import IS_LONG, TOP
 need_desk()
 from crystal_nets.desk.application import CHOICES, CONVENTIONS, FILES, MOST_BYTES  # noqa: E402
 from crystal_nets.desk.files import AT_ONCE  # noqa: E402
-from crystal_nets.structures.choice import Options  # noqa: E402
-from crystal_nets.structures.conventions import AUTO, CONVENTIONS as OF_CIF2CGD  # noqa: E402
+from crystal_nets.structures.nets.choice import Options  # noqa: E402
+from crystal_nets.structures.units.conventions import AUTO, CONVENTIONS as OF_CIF2CGD  # noqa: E402
 
 QUARTZ = (TOP / "examples/quartz.cif").read_bytes()
 FORMS = 2_000 if IS_LONG else 40
@@ -127,7 +127,8 @@ class WhatIsSent(WithServer):
         forms = [(path, *form_of(fields)) for path, fields in (
             ("nets", {"file": ("a.cgd", SQL), "first": "0", "convention": "auto", "choices": "[]"}),
             ("nets", {"file": ("x.cif", QUARTZ), "first": "0", "convention": "all-atoms", "choices": '["keep_ions"]'}),
-            ("card", {"block": block, "name": "sql", "notes": '["one", "two"]', "refusal": ""}),
+            ("card", {"block": block, "name": "sql", "refusal": "",
+                      "provenance": '{"notes": [["other", "one"]], "convention": "", "made": "", "copies": 2, "line": 1}'}),
             ("pair", {"one": block, "other": block}), ("crystal", {"block": block, "name": "sql"}))]
         for _ in range(FORMS):
             path, body, kind = chance.choice(forms)

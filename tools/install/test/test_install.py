@@ -4,11 +4,13 @@ import os
 import re
 import shlex
 import shutil
+import signal
 import subprocess
 import tempfile
+import time
 from pathlib import Path
 
-from testing import PROGRAM, TOOLS, TOP, FolderTest, long_test, need_commands, need_modules, need_program, run
+from testing import PROGRAM, TOOLS, TOP, FolderTest, ends_soon, long_test, need_commands, need_modules, need_program, run
 
 INSTALL = TOOLS / "install"
 PAGES = [TOP / "docs/net_tool.1", *sorted(TOOLS.glob("*.1")), *sorted(TOOLS.glob("*/*.1"))]
@@ -22,9 +24,9 @@ def names_told(report: bytes) -> list[bytes]:
 
 
 def commands_taken() -> set[str]:
-    """The commands that ./net_tool takes: the first case of the function that asks for one."""
-    case = re.search(r"in\n +(check .*verify.*)\) ;;", (TOOLS / "words.sh").read_text())
-    return set(case[1].split(" | "))
+    """The commands that ./net_tool takes: the table of words.sh."""
+    table = re.search(r"(?s)\ncommand_table='(.*?)'\n", (TOOLS / "words.sh").read_text())
+    return {row.split("|")[0] for row in table[1].split("\n")}
 
 
 class Installed(FolderTest):
@@ -110,6 +112,40 @@ class Installed(FolderTest):
                 self.assertEqual(output, run(PROGRAM, "check", file, status=None).stdout if "check" in words else output)
         self.assertEqual(self.told(f"net_tool check {examples}/dia.cgd", 0)[1], "")
         self.assertEqual(self.told("net_tool check", 0, b"")[1], "")
+
+    def test_identify_without_an_archive_says_so(self):
+        dia, archive = self.share / "examples/dia.cgd", self.share / "archives/common.archive"
+        for words in (f"net_tool identify {dia}", f"net_tool identify < {dia}", f"cat {dia} | net_tool identify -"):
+            output, said = self.told(words, 0)
+            self.assertIn(b"names 0", output)
+            self.assertRegex(said, rf"^net_tool: no archive was asked.* --archive {archive}\n$", words)
+        for words in (f"identify {dia} --archive {archive}", f"identify --archive={archive} {dia}", f"key {dia}"):
+            self.assertEqual(self.told(f"net_tool {words}", 0)[1], "")
+
+    def test_a_reader_that_has_enough_is_no_fault(self):
+        many = self.folder / "many.cgd"
+        many.write_bytes((self.share / "examples/dia.cgd").read_bytes() * 4000)
+        output, said = self.told(f"net_tool key {many} | head -n 1", 0)
+        self.assertEqual((output.count(b"\n"), said), (1, ""))
+        self.assertIn("cannot be written", self.told(f"net_tool check {many} > /dev/full", 4)[1])
+
+    def test_a_name_that_is_no_utf8_is_told(self):
+        done = subprocess.run([self.prefix / "bin/net_tool", "check", b"\xff.cgd"], capture_output=True, stdin=subprocess.DEVNULL)
+        self.assertEqual((done.returncode, done.stdout, done.stderr.count(b"\n")), (20, b"", 1))
+        self.assertIn(b"UTF-8", done.stderr)
+
+    def test_commands_find_the_program_beside_them(self):
+        path = "/usr/bin:/bin"
+        if shutil.which("net_tool", path=path):
+            self.skipTest("another net_tool is installed here")
+        shutil.copy(self.share / "examples/dia.cgd", self.folder / "nets.cgd")
+        bin_folder = self.prefix / "bin"
+        script = (f"cd {self.folder} && {bin_folder}/net_tool add nets.cgd --name mine >mine.archive && "
+                  f"{bin_folder}/split_nets nets.cgd pieces && {bin_folder}/key_piece pieces 1 && "
+                  f"{bin_folder}/name_nets nets.cgd mine.archive")
+        told = run("env", "-u", "NET_TOOL", f"PATH={path}", "sh", "-c", script).stdout
+        self.assertTrue(told.endswith(b"\tmine\n"), told)
+        self.assertEqual(len(list((self.folder / "pieces").glob("*.rows"))), 1)
 
     def test_commands_find_their_modules(self):
         self.in_shell(f"archive_nets {self.share}/archives/common.archive > {self.folder}/nets.cgd")
@@ -207,7 +243,7 @@ class InFront(FolderTest):
     def test_a_union_that_took_no_item(self):
         blocks = TOOLS.parent / "examples/dia.cgd"
         said = self.run_program("echo net_archive 2", "union", blocks, "--archive", "x", status=0)
-        self.assertIn("blocks PERIODIC_GRAPH, of which union takes none", said)
+        self.assertIn("no key lines, but blocks PERIODIC_GRAPH", said)
         self.assertEqual(run(self.folder / "prefix/bin/net_tool", "union", "--archive=x",
                              TOOLS.parent / "archives/common.archive").stderr, b"")
 
@@ -215,6 +251,42 @@ class InFront(FolderTest):
         for status, said in ((0, ""), (5, ""), (7, "memory was refused"), (9, ""), (11, "")):
             self.assertIn(said, self.run_program(f"exit {status}", "workload", 3, status=status))
         self.assertIn("not known", run(self.folder / "prefix/bin/net_tool", "--version").stdout.decode())
+
+
+class Ending(FolderTest):
+    """The command in front of the program and the program end together."""
+
+    def begun(self, *before: str) -> tuple[subprocess.Popen, int]:
+        """The installed command, while its program runs, and the number of the program's process."""
+        program, note = self.folder / "program", self.folder / "pid"
+        program.write_text(f"#!/bin/sh\necho $$ >{note}.new\nmv {note}.new {note}\nexec sleep 60\n")
+        program.chmod(0o755)
+        note.unlink(missing_ok=True)
+        run(INSTALL / "install.sh", self.folder / "prefix", program)
+        process = subprocess.Popen([*before, self.folder / "prefix/bin/net_tool", "workload", "1"], stdin=subprocess.DEVNULL,
+                                   start_new_session=True)
+        self.addCleanup(process.kill)
+        while not note.exists():
+            time.sleep(0.02)
+        return process, int(note.read_text())
+
+    def test_by_each_signal(self):
+        for number, send in ((signal.SIGTERM, os.kill), (signal.SIGHUP, os.kill), (signal.SIGKILL, os.kill),
+                             (signal.SIGINT, os.killpg)):  # a terminal sends this one to all of the group
+            process, program = self.begun()
+            send(process.pid, number)
+            self.assertEqual(process.wait(10), -number)
+            self.assertTrue(ends_soon(program), number)
+
+    def test_without_setpriv_the_program_is_the_command_itself(self):
+        tools = self.folder / "tools"
+        tools.mkdir()
+        for name in ("sh", "dirname", "readlink", "sleep", "mv"):
+            (tools / name).symlink_to(shutil.which(name))
+        process, program = self.begun("env", f"PATH={tools}")
+        self.assertEqual(process.pid, program)
+        process.kill()
+        process.wait(10)
 
 
 class Words(FolderTest):

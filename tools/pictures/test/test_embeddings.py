@@ -1,12 +1,10 @@
 """Standard realizations as crystals: each net comes back from its block CRYSTAL and from its CIF."""
 
-import sys
 from collections import Counter
 
 from testing import IS_LONG, PROGRAM, TOOLS, TOP, FolderTest, need_modules, need_program, run
 
 need_modules("numpy", "spglib", "gemmi", "scipy")
-sys.path.insert(0, str(TOOLS / "python"))
 import gemmi  # noqa: E402
 import numpy as np  # noqa: E402
 from crystal_nets.pictures.crystal_text import block_of, cif_of  # noqa: E402

@@ -22,8 +22,15 @@ drawing    pictures
 errors     what is raised
 program    where net_tool is, and how it is run
 
+What they are made of:
+graph       the labelled quotient graph, the one form of a net
+lattice     lattices of whole vectors
+provenance  how a net was made: what travels with it to its answer
+refusal     why a structure or a block gives no net
+
 What the tools share:
-bar           a bar that says how far some work is
+commands      the commands by their names, as the scripts of the tools start them
+progress      how far some work is, on a terminal
 files         files that are written whole or not at all
 side_by_side  work in several processes
 
@@ -33,7 +40,8 @@ texts       the texts around net_tool: files of nets, reports, rows, archives, t
 structures  from structure files to nets, as cif2cgd reads them
 blocks      from .cgd and .arc files to nets, as cgd2net reads them
 desk        the page of net_desk and its server
-pictures    nets drawn, and written as crystals, as draw_nets does"""
+pictures    nets drawn, and written as crystals, as draw_nets does
+batch       files of many nets and the reports on them: net_rows, net_names and other commands"""
 
 from __future__ import annotations
 

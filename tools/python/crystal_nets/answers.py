@@ -10,9 +10,11 @@ from functools import cached_property
 from typing import TYPE_CHECKING, Any, overload
 
 from .errors import PackageMissing
-from .net import Edge, Net, Vertex, vertex_of
+from .graph import LabelledEdge, Vertex
+from .net import Net
 from .outcome import Outcome
 from .program import reading_report
+from .texts.graph_text import vertex_of
 from .texts.net_text import NetReport, nets_of_report
 
 if TYPE_CHECKING:
@@ -59,7 +61,7 @@ class PrimitiveGraph:
 
     vertices: int
     basis: tuple[tuple[int, ...], ...]
-    edges: tuple[Edge, ...]
+    edges: tuple[LabelledEdge, ...]
 
     @property
     def net(self) -> Net:

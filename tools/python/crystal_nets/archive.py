@@ -143,4 +143,4 @@ def _text(name: bytes) -> str:
 
 
 def _net_of(entry: Entry) -> Net:
-    return Net.from_block(entry.block, _text(entry.name))
+    return Net.of_graph(entry.graph)

@@ -13,8 +13,9 @@ from .errors import NotANet
 from .net import Net
 from .outcome import ACCEPTED, Outcome, outcome_of
 from .program import reading_report, run
+from .reading import want_one_block
+from .texts.net_text import GREATEST_SHIFT
 
-FARTHEST = 500
 COVERED = re.compile(rb"cover refused (\d+) ([A-Za-z]+)(?: (count|value)=(-?\d+))?")
 
 
@@ -45,7 +46,8 @@ def cover(source: Any, cell: Iterable[Iterable[int]], **options: Any) -> Cover:
     index = abs(_determinant(rows))
     if told.startswith(b"PERIODIC_GRAPH"):
         with reading_report("cover"):
-            return Cover(Net.from_block(told, net.name, net.notes), ACCEPTED, index)
+            want_one_block(told)
+            return Cover(Net._of(told, net.name, net.provenance), ACCEPTED, index)
     with reading_report("cover"):
         return Cover(None, _outcome(told.splitlines()), index)
 
@@ -57,8 +59,8 @@ def _rows_of(cell: Iterable[Iterable[int]]) -> list[list[int]]:
         raise NotANet(f"a cell has rows of whole numbers: {fault}") from None
     if len(rows) not in (2, 3) or any(len(row) != len(rows) for row in rows):
         raise NotANet("a cell has 2 x 2 or 3 x 3 numbers")
-    if max(abs(part) for row in rows for part in row) > FARTHEST:
-        raise NotANet(f"the numbers of a cell are from -{FARTHEST} to {FARTHEST}")
+    if max(abs(part) for row in rows for part in row) > GREATEST_SHIFT:
+        raise NotANet(f"the numbers of a cell are from -{GREATEST_SHIFT} to {GREATEST_SHIFT}")
     return rows
 
 

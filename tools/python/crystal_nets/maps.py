@@ -9,7 +9,8 @@ from typing import Any
 
 from .asking import keys, single
 from .errors import NotANet, ProgramFailed
-from .net import Net, Vertex
+from .graph import Vertex
+from .net import Net
 from .outcome import ACCEPTED, Outcome
 from .program import reading_report, run
 

@@ -3,30 +3,21 @@
 from __future__ import annotations
 
 import operator
-import re
 from collections.abc import Iterable
 from typing import TYPE_CHECKING, Any
 
 from .errors import NotANet, PackageMissing
+from .graph import LabelledEdge, QuotientGraph, Vertex
+from .provenance import Note, Provenance, notes_of
+from .texts.graph_text import graph_of_text, text_of_graph, vertex_word, written_name
 from .texts.net_text import MOST_BYTES
 
 if TYPE_CHECKING:
     import networkx
     from os import PathLike
 
-Vertex = int | str
-Shift = tuple[int, ...]
-Edge = tuple[Vertex, Vertex, Shift]
-
-BLANKS = rb"[ \t\v\f\r]+"
-END = rb'([+-]?\d+|"[^"\n]*")' + BLANKS  # of an edge: a vertex
-ROW = re.compile(rb"(?:(?:EDGES?|BONDS?)" + BLANKS + rb")?" + END + END + rb"([+-]?\d+(?:" + BLANKS + rb"[+-]?\d+)*)",
-                 re.IGNORECASE)
-PLAIN_INTEGER = re.compile(rb"-?(?:0|[1-9]\d*)")
-UNWRITABLE = re.compile(r'["\x00-\x1f\x7f]')
-LONGEST_NAME = 198     # bytes between the quotes
 TOO_LONG = f"the block has more than {MOST_BYTES:,} bytes"
-LONGEST_NUMBER = 4000  # digits of a shift that are read
+NOTHING_KNOWN = Provenance()
 
 
 class Net:
@@ -47,21 +38,42 @@ class Net:
     A net does not change. Two are equal where they are written alike, which is less than to be isomorphic: `same`
     tells that."""
 
-    __slots__ = ("_block", "_edges", "name", "notes", "refusal")
+    __slots__ = ("_block", "_graph", "name", "provenance", "refusal")
 
-    name: str                # what answers call it
-    notes: tuple[str, ...]   # what a reader should know of it, as how a structure was read
-    refusal: str             # why a structure or a block gave no net; empty where it gave one
-    _block: bytes
-    _edges: tuple[Edge, ...] | None
+    name: str                 # what answers call it
+    provenance: Provenance    # how it was made of a structure or a block
+    refusal: str              # why a structure or a block gave no net; empty where it gave one
+    _block: bytes | None          # what the program is given; None until it is asked for
+    _graph: QuotientGraph | None  # the same as a graph; one of the two is always there
 
     def __init__(self, edges: Iterable[tuple[Vertex, Vertex, Iterable[int]]], name: str = "",
                  notes: Iterable[str] = ()) -> None:
-        block = _block_of(_rows(edges), name)
-        self._set(block, name, tuple(notes), TOO_LONG if len(block) > MOST_BYTES else "")
+        if not isinstance(name, str):
+            raise NotANet(f"the name of a net is a text, and not {name!r:.60}")
+        graph = QuotientGraph.of_labelled(_checked(edges), written_name(name))
+        block = text_of_graph(graph)
+        self._set(block, graph, name, Provenance(notes_of(notes)), TOO_LONG if len(block) > MOST_BYTES else "")
 
-    def _set(self, block: bytes, name: str, notes: tuple[str, ...], refusal: str) -> None:
-        self._block, self._edges, self.name, self.notes, self.refusal = block, None, name, notes, refusal
+    def _set(self, block: bytes | None, graph: QuotientGraph | None, name: str, provenance: Provenance,
+             refusal: str) -> None:
+        for field, value in zip(Net.__slots__, (block, graph, name, provenance, refusal)):
+            object.__setattr__(self, field, value)
+
+    def __setattr__(self, field: str, value: object) -> None:
+        raise AttributeError(f"a net does not change: {field} cannot be set")
+
+    @classmethod
+    def _made(cls, block: bytes | None, graph: QuotientGraph | None, name: str, provenance: Provenance,
+              refusal: str = "") -> Net:
+        net = cls.__new__(cls)
+        net._set(block, graph, name, provenance, refusal)
+        return net
+
+    @classmethod
+    def of_graph(cls, graph: QuotientGraph, name: str | None = None, provenance: Provenance = NOTHING_KNOWN) -> Net:
+        """The net of a quotient graph, under its name where no other is given. Name and labels of the graph are to be
+        such as a block may have them."""
+        return cls._made(None, graph, graph.name if name is None else name, provenance)
 
     @classmethod
     def from_block(cls, block: bytes, name: str = "", notes: Iterable[str] = ()) -> Net:
@@ -69,21 +81,33 @@ class Net:
         one block with its END."""
         from .reading import want_one_block
         want_one_block(block)
-        return cls._of(block, name, tuple(notes))
+        return cls._of(block, name, Provenance(notes_of(notes)))
 
     @classmethod
-    def _of(cls, block: bytes, name: str, notes: tuple[str, ...]) -> Net:
+    def _of(cls, block: bytes, name: str, provenance: Provenance = NOTHING_KNOWN) -> Net:
         """A net of what is known to be one block; its last line gets its line feed, as others follow it."""
-        net = cls.__new__(cls)
-        net._set(block if block.endswith(b"\n") else block + b"\n", name, notes, "")
-        return net
+        return cls._made(block if block.endswith(b"\n") else block + b"\n", None, name, provenance)
 
     @classmethod
-    def refused(cls, reason: str, name: str = "", notes: Iterable[str] = ()) -> Net:
+    def refused(cls, reason: str, name: str = "", notes: Iterable[str | Note] = ()) -> Net:
         """What stands in the place of a net, where a structure or a block gave none."""
-        net = cls.__new__(cls)
-        net._set(b"", name, tuple(notes), reason)
-        return net
+        return cls._made(b"", None, name, Provenance(notes_of(notes)), reason)
+
+    def named(self, name: str) -> Net:
+        """The same net under another name; its block stays as it is."""
+        return Net._made(self._block, self._graph, name, self.provenance, self.refusal)
+
+    def commented(self, comment: str) -> Net:
+        """The same net with a comment of one line before its block."""
+        return Net._made(f"# {comment}\n".encode() + self.block, self._graph, self.name, self.provenance, self.refusal)
+
+    def of_provenance(self, provenance: Provenance) -> Net:
+        """The same net, made in this way."""
+        return Net._made(self._block, self._graph, self.name, provenance, self.refusal)
+
+    def noted(self, before: Iterable[Note] = (), after: Iterable[Note] = ()) -> Net:
+        """The same net with more notes, before and after those that it has."""
+        return self.of_provenance(self.provenance.noted(before, after))
 
     @classmethod
     def from_cgd(cls, text: str | bytes | PathLike[str], name: str | None = None) -> Net:
@@ -124,21 +148,40 @@ class Net:
         return net_of_networkx(graph, name)
 
     @property
+    def notes(self) -> tuple[str, ...]:
+        """What a reader should know of it, as how a structure was read."""
+        return self.provenance.texts
+
+    @property
     def block(self) -> bytes:
         """The text that the program is given: one block PERIODIC_GRAPH."""
+        if self._block is None:
+            object.__setattr__(self, "_block", text_of_graph(self.graph))
+        assert self._block is not None
         return self._block
 
     @property
-    def edges(self) -> tuple[Edge, ...]:
-        """The edges in their order, each once. NotANet where the block has a line that is no row."""
-        if self._edges is None:
-            self._edges = _edges_of(self)
-        return self._edges
+    def graph(self) -> QuotientGraph:
+        """The labelled quotient graph. NotANet where there is no net, or the block has a line that is no row."""
+        if self.refusal:
+            raise NotANet(f"there is no net: {self.refusal}")
+        if self._graph is None:
+            object.__setattr__(self, "_graph", graph_of_text(self.block, self.name))
+        assert self._graph is not None
+        return self._graph
+
+    @property
+    def edges(self) -> tuple[LabelledEdge, ...]:
+        """The edges in their order, each once. NotANet where there are none, or the block has a line that is no row."""
+        edges = self.graph.labelled_edges
+        if not edges:
+            raise NotANet("the block has no edges")
+        return edges
 
     @property
     def vertices(self) -> tuple[Vertex, ...]:
         """The vertices in the order in which they appear, as the program numbers them."""
-        return tuple(dict.fromkeys(vertex for u, v, _ in self.edges for vertex in (u, v)))
+        return self.graph.canonical().vertices
 
     @property
     def dimension(self) -> int:
@@ -157,14 +200,14 @@ class Net:
         return graph
 
     def __eq__(self, other: object) -> bool:
-        return isinstance(other, Net) and (self._block, self.name, self.refusal) == (
-            other._block, other.name, other.refusal)
+        return isinstance(other, Net) and (self.block, self.name, self.refusal) == (
+            other.block, other.name, other.refusal)
 
     def __hash__(self) -> int:
-        return hash((self._block, self.name))
+        return hash((self.block, self.name))
 
     def __reduce__(self) -> tuple[Any, ...]:
-        return _restored, (self._block, self.name, self.notes, self.refusal)
+        return Net._made, (self._block, self._graph, self.name, self.provenance, self.refusal)
 
     def __repr__(self) -> str:
         name = f" {self.name}" if self.name else ""
@@ -175,7 +218,7 @@ class Net:
             sizes = f"{vertices} {'vertex' if vertices == 1 else 'vertices'}, {edges} edge{'s' * (edges != 1)}"
             return f"<Net{name}: {sizes}, dimension {self.dimension}>"
         except (NotANet, IndexError):
-            return f"<Net{name}: a block of {len(self._block)} bytes>"
+            return f"<Net{name}: a block of {len(self.block)} bytes>"
 
     def _repr_svg_(self) -> str | None:
         from .drawing import svg_or_none
@@ -186,84 +229,17 @@ class Net:
         return html_of_net(self)
 
 
-def _restored(block: bytes, name: str, notes: tuple[str, ...], refusal: str) -> Net:
-    net = Net.__new__(Net)
-    net._set(block, name, notes, refusal)
-    return net
-
-
-def _rows(edges: Iterable[tuple[Vertex, Vertex, Iterable[int]]]) -> list[str]:
-    """The edges as rows of a block. NotANet where an item is none."""
-    words: dict[Vertex, str] = {}
-    rows = []
+def _checked(edges: Iterable[tuple[Vertex, Vertex, Iterable[int]]]) -> Iterable[LabelledEdge]:
+    """The edges with whole numbers of Python. NotANet where an item is none."""
+    known: dict[Vertex, Vertex] = {}
     for k, item in enumerate(edges):
         try:
             u, v, shift = item
-            ends = (words.get(u) or words.setdefault(u, vertex_word(u)),
-                    words.get(v) or words.setdefault(v, vertex_word(v)))
-            parts = [operator.index(part) for part in shift]
+            for end in (u, v):
+                if end not in known:
+                    known[end] = end if isinstance(end, str) else operator.index(end)
+                    vertex_word(known[end])
+            parts = tuple(operator.index(part) for part in shift)
         except (TypeError, ValueError) as fault:
             raise NotANet(f"edge {k} is {item!r:.80}, and not (vertex, vertex, shift): {fault}") from None
-        rows.append(f"{ends[0]} {ends[1]} {' '.join(map(str, parts))}\n")
-    return rows
-
-
-def vertex_word(vertex: Vertex) -> str:
-    """A vertex as a block has it: a whole number as it is, a text in quotes."""
-    if isinstance(vertex, str):
-        if UNWRITABLE.search(vertex):
-            raise ValueError(f"{vertex!r:.60} has a quote or a control character")
-        vertex.encode(errors="surrogateescape")  # ValueError where it is no text that can be written
-        return f'"{vertex}"'
-    return str(operator.index(vertex))
-
-
-def vertex_of(word: bytes) -> Vertex:
-    """The vertex of a word in a block or a report; a number that is written otherwise than usual stays a text."""
-    if word[:1] == b'"':
-        return word[1:-1].decode(errors="surrogateescape")
-    return int(word) if PLAIN_INTEGER.fullmatch(word) and word != b"-0" else word.decode()
-
-
-def _block_of(rows: list[str], name: str) -> bytes:
-    if not isinstance(name, str):
-        raise NotANet(f"the name of a net is a text, and not {name!r:.60}")
-    plain = UNWRITABLE.sub("_", name).encode(errors="replace")[:LONGEST_NAME]
-    head = b'PERIODIC_GRAPH\nNAME "%s"\nEDGES\n' % plain if plain else b"PERIODIC_GRAPH\nEDGES\n"
-    return head + "".join(rows).encode(errors="surrogateescape") + b"END\n"
-
-
-def _edges_of(net: Net) -> tuple[Edge, ...]:
-    if net.refusal:
-        raise NotANet(f"there is no net: {net.refusal}")
-    found: dict[tuple[Any, ...], Edge] = {}
-    for number, line in enumerate(net.block.splitlines(), start=1):
-        text = _without_comment(line).strip()
-        row = ROW.fullmatch(text)
-        if row is None:
-            if not text or re.match(rb"(?i)(PERIODIC_GRAPH|NAME|ID|EDGES?$|BONDS?$|END)\b", text):
-                continue
-            raise NotANet(f"line {number} of the block is no row: {text[:60].decode(errors='replace')!r}")
-        shift = _shift_of(row[3], number)
-        edge = (vertex_of(row[1]), vertex_of(row[2]), shift)
-        backward = (row[2], row[1], tuple(-part for part in shift))
-        if backward not in found:
-            found.setdefault((row[1], row[2], shift), edge)
-    if not found:
-        raise NotANet("the block has no edges")
-    return tuple(found.values())
-
-
-def _shift_of(text: bytes, line: int) -> Shift:
-    parts = text.split()
-    if max(map(len, parts)) > LONGEST_NUMBER:
-        raise NotANet(f"line {line} of the block has a number of {max(map(len, parts))} digits")
-    return tuple(map(int, parts))
-
-
-def _without_comment(line: bytes) -> bytes:
-    """The line up to a # that stands in no quotes."""
-    if b"#" not in line:
-        return line
-    kept = re.match(rb'(?:[^"#]|"[^"]*")*', line)
-    return kept[0] if kept else b""
+        yield known[u], known[v], parts

@@ -5,7 +5,8 @@ from __future__ import annotations
 import re
 from dataclasses import dataclass, field
 
-from .net import Vertex, vertex_of
+from .graph import Vertex
+from .texts.graph_text import vertex_of
 from .texts.net_text import LIST, VERTEX
 
 Value = int | tuple[int, ...] | Vertex

@@ -12,7 +12,7 @@ from .net import Net
 from .outcome import ACCEPTED, Outcome, outcome_of
 from .program import reading_report, run
 from .texts.component_text import Part, parts_of_report
-from .texts.key_graph import block_rows
+from .texts.key_graph import graph_of_key
 from .texts.net_text import NoReport
 
 
@@ -97,7 +97,6 @@ def net_of_key(key: str) -> Net:
     >>> net_of_key("2 1 1 1 1 0 1 1 1 1 0").edges
     ((1, 1, (0, 1)), (1, 1, (1, 0)))"""
     try:
-        rows = block_rows(key.encode())
+        return Net.of_graph(graph_of_key(key.encode()))
     except (NoReport, ValueError) as reason:
         raise NotANet(f"{key[:60]!r} is no key of a net: {reason}") from None
-    return Net.from_block(b"PERIODIC_GRAPH\nEDGES\n" + rows + b"END\n")

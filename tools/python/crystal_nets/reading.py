@@ -6,7 +6,7 @@ from __future__ import annotations
 
 import os
 import re
-from collections.abc import Iterable, Iterator, Mapping
+from collections.abc import Callable, Iterable, Iterator, Mapping
 from contextlib import contextmanager
 from dataclasses import fields
 from io import BytesIO
@@ -15,14 +15,15 @@ from typing import TYPE_CHECKING, Any
 
 from .errors import NotANet, PackageMissing
 from .net import TOO_LONG, Net
+from .provenance import REFUSED, Note, notes_of
 from .texts.net_text import FIRST_TOKEN, HEADER, MOST_BYTES, OTHER_TEXTS, Chunk, chunks_of
 
 if TYPE_CHECKING:
     import networkx
 
-    from .structures.choice import Options
+    from .structures.nets.choice import Options
     from .structures.conversion import Conversion
-    from .structures.crystal import Crystal
+    from .structures.atoms.crystal import Crystal
 
 CIF = re.compile(rb"(?im)^[ \t]*(?:data_|_cell_|_atom_site_)")
 CIF_SUFFIXES = (".cif", ".mcif")
@@ -105,7 +106,7 @@ def one_net(nets: list[Net], name: str | None = None) -> Net:
     net, = nets
     if net.refusal:
         raise NotANet(net.refusal)
-    return net if name is None else Net._of(net.block, name, net.notes)
+    return net if name is None else net.named(name)
 
 
 def _content_of(source: str | bytes | os.PathLike[str]) -> tuple[bytes, str]:
@@ -134,6 +135,11 @@ def nets_of_cgd(source: str | bytes | os.PathLike[str]) -> list[Net]:
 
 def net_of_chunk(chunk: Chunk) -> Net:
     """The net of one block, or why it gives none. NotANet where a text of another kind begins there."""
+    net = _net_of_chunk(chunk)
+    return net.of_provenance(net.provenance.at_line(chunk.opening_line))
+
+
+def _net_of_chunk(chunk: Chunk) -> Net:
     lines = chunk.block_lines
     if chunk.opening_line == 1:
         lines[0] = lines[0].removeprefix(BYTE_ORDER_MARK)
@@ -148,16 +154,16 @@ def net_of_chunk(chunk: Chunk) -> Net:
     text = b"".join(lines)
     text = text if text.endswith(b"\n") else text + b"\n"
     if word.startswith(b"PERIODIC_GRAPH") and PLAIN_BLOCK.fullmatch(text):
-        return Net._of(text, _name_of(lines), ())
+        return Net._of(text, _name_of(lines))
     with _packages_of("a block that is no plain PERIODIC_GRAPH"):
         return _net_of_block(chunk, lines)
 
 
 def _net_of_block(chunk: Chunk, lines: list[bytes]) -> Net:
     """The net of a block of another kind, as cgd2net reads it."""
-    from .blocks.converter import KINDS, MOST_LINES, Block, first_word, text_of_block
+    from .blocks.converter import KINDS, MOST_LINES, Block, first_word, net_of_block
     from .blocks.converter import MOST_BYTES as MOST_OF_A_BLOCK
-    from .blocks.refusal import Refused
+    from .refusal import Refused
     kind = KINDS.get(first_word(lines[0]), "")
     block = Block(kind, chunk.opening_line, lines, chunk.size)
     if not kind:
@@ -168,12 +174,12 @@ def _net_of_block(chunk: Chunk, lines: list[bytes]) -> Net:
     notes: list[str] = []
     name = block.name
     try:
-        text = text_of_block(block, notes)
+        net = net_of_block(block, notes)
     except Refused as reason:
         return Net.refused(f"line {reason.line or chunk.opening_line}: {reason.reason}", name, notes)
     except Exception as fault:  # of the reader, or of a library: the next block may still be read
         return Net.refused(f"line {chunk.opening_line}: {type(fault).__name__} {fault}", name, notes)
-    return Net._of(text, name, tuple(notes))
+    return net.named(name).noted(after=notes_of(notes))
 
 
 def want_one_block(text: bytes) -> None:
@@ -207,12 +213,12 @@ def nets_of_cif(source: str | bytes | os.PathLike[str], options: Mapping[str, An
     wanted = _options_of(options)
     with _packages_of("a structure file"):
         from .structures.conversion import Conversion, Source, convert_block
-        from .structures.document import blocks_of
-        from .structures.refusal import Unreadable
+        from .structures.reading.document import blocks_of
+        from .refusal import Refused
     stem = Path(file).stem if file else "structure"
     try:
         blocks = blocks_of(content, stem)
-    except Unreadable as reason:
+    except Refused as reason:
         return [Net.refused(str(reason), stem)]
     nets: list[Net] = []
     for block in blocks:
@@ -224,20 +230,23 @@ def nets_of_cif(source: str | bytes | os.PathLike[str], options: Mapping[str, An
 
 def _nets_of_conversion(done: Conversion, name: str) -> list[Net]:
     """The nets of one block, each with the notes on the block and its own; or why it gives none."""
-    reasons = [note.text for _, note in done.notes if note.kind == "refused"]
-    general = [note.text for what, note in done.notes if what == name and note.kind != "refused"]
+    reasons = [note.text for _, note in done.notes if note.kind == REFUSED]
+    general = [note for what, note in done.notes if what == name and note.kind != REFUSED]
     if reasons:
         return [Net.refused("; ".join(reasons), name, general)]
-    blocks = nets_of_cgd(done.text) if done.text else []
-    return [Net._of(net.block, net.name, (*general, *told["notes"]))
-            for net, told in zip(blocks, done.nets, strict=True)]
+    return [_as_written(net).noted(before=general) for net in done.nets]
+
+
+def _as_written(net: Net) -> Net:
+    """The net under the name that its block has."""
+    return net.named(net.graph.name)
 
 
 def _options_of(options: Mapping[str, Any]) -> Options:
     """The options of cif2cgd. TypeError with the names that there are, where one is another."""
     with _packages_of("a structure"):
-        from .structures.choice import Options
-        from .structures.conventions import AUTO, CONVENTIONS
+        from .structures.nets.choice import Options
+        from .structures.units.conventions import AUTO, CONVENTIONS
     known = [entry.name for entry in fields(Options)]
     unknown = sorted(set(options) - set(known))
     if unknown:
@@ -253,7 +262,7 @@ def nets_of_ase(atoms: Any, options: Mapping[str, Any]) -> list[Net]:
     wanted = _options_of(options)
     name = str(atoms.info.get("name") or atoms.get_chemical_formula(empirical=True))
     with _packages_of("a structure"):
-        from .structures.atoms import bounded_cell, crystal_of_atoms
+        from .structures.reading.given import bounded_cell, crystal_of_atoms
     cell, places = bounded_cell(atoms.cell.array, atoms.get_positions(), atoms.pbc)
     contents = [{symbol: 1.0} for symbol in atoms.get_chemical_symbols()]
     return _nets_of_crystal(lambda: crystal_of_atoms(name, cell, contents, places), name, wanted)
@@ -264,7 +273,7 @@ def nets_of_pymatgen(structure: Any, options: Mapping[str, Any]) -> list[Net]:
     wanted = _options_of(options)
     name = str(structure.composition.reduced_formula)
     with _packages_of("a structure"):
-        from .structures.atoms import crystal_of_atoms
+        from .structures.reading.given import crystal_of_atoms
     contents = [{_symbol_of(species): float(part) for species, part in site.species.items()} for site in structure]
     return _nets_of_crystal(
         lambda: crystal_of_atoms(name, structure.lattice.matrix, contents, structure.cart_coords), name, wanted)
@@ -274,24 +283,19 @@ def _symbol_of(species: Any) -> str:
     return str(getattr(species, "symbol", species))
 
 
-def _nets_of_crystal(make: Any, name: str, options: Options) -> list[Net]:
+def _nets_of_crystal(make: Callable[[], Crystal], name: str, options: Options) -> list[Net]:
     """The nets of a crystal, or why it gives none."""
-    from .structures.cgd import text_of_net
-    from .structures.choice import nets_of
-    from .structures.conversion import within_limits
-    from .structures.refusal import Unreadable
-    notes: list[Any] = []
+    from .refusal import Refused
+    from .structures.conversion import nets_of_crystal
+    notes: list[Note] = []
     try:
-        crystal: Crystal = make()
-        named = [within_limits(net) for net in nets_of(crystal, options, notes)]
-    except Unreadable as reason:
-        return [Net.refused(str(reason), name, [note.text for note in notes])]
+        crystal = make()
+        nets = nets_of_crystal(crystal, options, notes)
+    except Refused as reason:
+        return [Net.refused(str(reason), name, notes)]
     except Exception as fault:  # of the reader, or of a library, as with places that are no numbers
         return [Net.refused(f"{type(fault).__name__} {fault}", name)]
-    told = [note.text for note in [*crystal.notes, *notes]]
-    blocks = nets_of_cgd("".join(text_of_net(net, name) for net in named).encode())
-    return [Net._of(block.block, block.name, (*told, *(note.text for note in net.notes)))
-            for block, net in zip(blocks, named, strict=True)]
+    return [_as_written(net).noted(before=[*crystal.notes, *notes]) for net in nets]
 
 
 def net_of_networkx(graph: networkx.DiGraph[Any], name: str | None = None) -> Net:

@@ -8,7 +8,7 @@ from collections.abc import Callable, Iterator, Sequence
 from concurrent.futures import ProcessPoolExecutor
 from typing import TypeVar
 
-from .bar import Bar
+from .progress import Progress
 
 Item = TypeVar("Item")
 Result = TypeVar("Result")
@@ -20,7 +20,7 @@ def processors() -> int:
     return len(os.sched_getaffinity(0))
 
 
-def results_of(work: Callable[[Item], Result], items: Sequence[Item], jobs: int, bar: Bar) -> Iterator[Result]:
+def results_of(work: Callable[[Item], Result], items: Sequence[Item], jobs: int, bar: Progress) -> Iterator[Result]:
     """The results in the order of the items, whatever the number of processes is; the bar makes a step for each."""
     with bar:
         if jobs == 1 or len(items) < FEWEST:

@@ -1,14 +1,12 @@
 """What is asked and answered: identify, keys, same, components, cover, group, tables and pictures."""
 
 import random
-import sys
 import unittest
 import unittest.mock
 from fractions import Fraction
 
 from testing import PROGRAM, TOOLS, TOP, FolderTest, need_modules, need_program, run
 
-sys.path.insert(0, str(TOOLS / "python"))
 from crystal_nets import (Archive, Net, NotAnArchive, NotANet, ProgramFailed, components, cover, group,  # noqa: E402
                           identify, identify_all, keys, net_of_key, read, same, svg)
 

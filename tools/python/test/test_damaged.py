@@ -6,7 +6,6 @@ from unittest import mock
 
 from testing import IS_LONG, TOOLS, TOP, FolderTest, need_modules, need_program, run
 
-sys.path.insert(0, str(TOOLS / "python"))
 from crystal_nets import (Answer, Archive, CrystalNetsError, Net, NotAnArchive, NotANet, NotATable,  # noqa: E402
                           ProgramFailed, components, cover, identify, keys, read, read_table, same)
 from crystal_nets.tables.columns import TABLE  # noqa: E402

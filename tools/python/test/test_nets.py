@@ -1,12 +1,10 @@
 """Nets from edges, texts and graphs: what is read, and that what is none is told."""
 
 import pickle
-import sys
 import unittest
 
 from testing import TOOLS, TOP, FolderTest, need_modules
 
-sys.path.insert(0, str(TOOLS / "python"))
 from crystal_nets import Net, NotANet, read  # noqa: E402
 
 DIA = [(1, 2, (0, 0, 0)), (1, 2, (1, 0, 0)), (1, 2, (0, 1, 0)), (1, 2, (0, 0, 1))]

@@ -11,9 +11,10 @@ import unittest
 
 from testing import PROGRAM, TOOLS, FolderTest, long_test, need_modules, need_program, run
 
+from crystal_nets import commands
+
 FOLDER = TOOLS / "python"
 PACKAGE = FOLDER / "crystal_nets"
-sys.path.insert(0, str(FOLDER))
 MODULES = sorted(path.stem for path in PACKAGE.glob("*.py") if path.stem != "__init__")
 PACKAGES = sorted(path.parent.name for path in PACKAGE.glob("*/__init__.py"))
 
@@ -78,8 +79,27 @@ class Types(unittest.TestCase):
     @long_test
     def test_mypy_has_no_complaint(self):
         need_modules("mypy", "numpy")
-        done = subprocess.run([sys.executable, "-m", "mypy", "--cache-dir", os.devnull], cwd=FOLDER, capture_output=True)
+        scripts = [next(TOOLS.glob(f"*/{name}")) for name in commands.HOMES]
+        done = subprocess.run([sys.executable, "-m", "mypy", "--cache-dir", os.devnull, "--scripts-are-modules",
+                               "crystal_nets", *scripts], cwd=FOLDER, capture_output=True)
         self.assertEqual(done.returncode, 0, done.stdout.decode())
+
+
+class Commands(unittest.TestCase):
+    def test_each_script_starts_the_command_of_its_name(self):
+        """And stands alone but for that: what it does is in the package."""
+        for name in commands.HOMES:
+            script, = TOOLS.glob(f"*/{name}")
+            self.assertIn(f'run("{name}")', script.read_text(), name)
+            self.assertLess(len(script.read_text().splitlines()), 11, name)
+            self.assertIn(f"usage: {name}".encode(), run(script, "--help").stdout, name)
+
+    def test_what_has_not_the_form_is_told_in_one_line(self):
+        for name in ("net_rows", "component_nets", "net_groups"):
+            script, = TOOLS.glob(f"*/{name}")
+            words = [] if name != "net_groups" else [os.devnull + "/absent"]
+            done = run(script, *words, stdin=b"no report\n", status=1)
+            self.assertRegex(done.stderr, rb"\A" + name.encode() + rb": [^\n]+\n\Z")
 
 
 class Installed(FolderTest):

@@ -1,12 +1,10 @@
 """Structures of other programs: atoms of ase, prototypes and graphs of pymatgen, structure files."""
 
 import json
-import sys
 from pathlib import Path
 
 from testing import IS_LONG, TOOLS, TOP, FolderTest, need_modules, need_program
 
-sys.path.insert(0, str(TOOLS / "python"))
 from crystal_nets import Archive, Net, NotANet, identify, identify_all, read  # noqa: E402
 
 KNOWN = ("dia,", "hcb,", "pcu,", "fcu,", "bcu,", "hcp,", "lon,", "flu,", "qtz,", "sql,", "nbo,")

@@ -1,4 +1,4 @@
-"""The blocks of the field's .cgd and .arc files as quotient graphs: what the command cgd2net is made of.
+"""The blocks of the field's .cgd and .arc files as nets: what the command cgd2net is made of.
 
 The way of a text, a module for each step:
 converter                 the text cut into blocks, and each written as what the program reads
@@ -7,9 +7,9 @@ operations, plane_groups  affine maps that are written out, and the 17 plane gro
 groups                    space groups by name, Hall symbol, number, or operations
 crystal                   the rows of a CRYSTAL or TILING block
 orbits, neighbours        orbits of its nodes and edges, and edges that are to be found by distance
-expansion                 its quotient graph, with each degree as stated
+expansion                 its net, with each degree as stated
 symbolic                  NET blocks
 periodic_graph, key_lines PERIODIC_GRAPH blocks of other programs, and items of Systre's archives
-graph_text                the block that is written
+made_net                  the net that is made of them, within the limits of the program
 command                   the words of the command line of cgd2net
 collection                archives of many nets, and what is refused: make_archives"""

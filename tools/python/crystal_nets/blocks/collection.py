@@ -14,7 +14,7 @@ from collections.abc import Iterator
 from dataclasses import dataclass
 from pathlib import Path
 
-from ..bar import Bar
+from ..progress import Progress
 from ..errors import in_words
 from ..files import write_whole
 from ..program import find_program
@@ -37,8 +37,8 @@ class Failed(Exception):
 
 
 @dataclass
-class Net:
-    """A block that was turned into a graph."""
+class ListedNet:
+    """A net that an archive may take: a block that was turned into a graph, and its place."""
 
     source: str
     line: int
@@ -57,12 +57,12 @@ class Collector(Converter):
 
     def __init__(self, source: str, refused: list[str]) -> None:
         super().__init__(source, self.pass_over, self.hear)
-        self.nets: list[Net] = []
+        self.nets: list[ListedNet] = []
         self.refusals = refused
         self.was_passing = False
 
     def put(self, block: Block, text: bytes) -> None:
-        self.nets.append(Net(self.source, block.line, block.kind, b"", text))
+        self.nets.append(ListedNet(self.source, block.line, block.kind, b"", text))
 
     def hear(self, text: str, is_refusal: bool) -> None:
         if is_refusal:
@@ -84,10 +84,10 @@ def run(program: str, command: str, text: bytes) -> tuple[int, bytes]:
     return done.returncode, done.stdout
 
 
-def read_nets(files: list[str], refused: list[str]) -> list[Net]:
+def read_nets(files: list[str], refused: list[str]) -> list[ListedNet]:
     """All blocks of the files."""
-    nets: list[Net] = []
-    with Bar("reading", sum(os.path.getsize(file) for file in files if os.path.isfile(file)), "bytes") as bar:
+    nets: list[ListedNet] = []
+    with Progress("reading", sum(os.path.getsize(file) for file in files if os.path.isfile(file)), "bytes") as bar:
         for file in files:
             collector = Collector(file, refused)
             with open(file, "rb") as stream:
@@ -99,9 +99,9 @@ def read_nets(files: list[str], refused: list[str]) -> list[Net]:
     return nets
 
 
-def find_keys(nets: list[Net], program: str) -> Iterator[tuple[Net, str]]:
+def find_keys(nets: list[ListedNet], program: str) -> Iterator[tuple[ListedNet, str]]:
     """The nets with their names and keys, and why one has none."""
-    with Bar("keys", len(nets), "nets") as bar:
+    with Progress("keys", len(nets), "nets") as bar:
         for k in range(0, len(nets), PIECE):
             piece = nets[k:k + PIECE]
             for net, report in zip(piece, keys_of_piece(piece, program), strict=True):
@@ -110,7 +110,7 @@ def find_keys(nets: list[Net], program: str) -> Iterator[tuple[Net, str]]:
             bar.step(len(piece))
 
 
-def keys_of_piece(nets: list[Net], program: str) -> list[NetReport]:
+def keys_of_piece(nets: list[ListedNet], program: str) -> list[NetReport]:
     """What the program reports of each net."""
     _, told = run(program, "key", b"".join(net.text for net in nets))
     try:
@@ -122,9 +122,9 @@ def keys_of_piece(nets: list[Net], program: str) -> list[NetReport]:
     return reports
 
 
-def chosen(nets: Iterator[tuple[Net, str]], refused: list[str]) -> list[Net]:
+def chosen(nets: Iterator[tuple[ListedNet, str]], refused: list[str]) -> list[ListedNet]:
     """The nets that an archive may have: with a key, and with a name that no other net has."""
-    by_name: dict[bytes, Net] = {}
+    by_name: dict[bytes, ListedNet] = {}
     for net, told in nets:
         first = by_name.get(net.name)
         reason = ""
@@ -141,7 +141,7 @@ def chosen(nets: Iterator[tuple[Net, str]], refused: list[str]) -> list[Net]:
     return list(by_name.values())
 
 
-def archives_of(nets: list[Net], program: str) -> Iterator[tuple[bytes, int]]:
+def archives_of(nets: list[ListedNet], program: str) -> Iterator[tuple[bytes, int]]:
     """The texts of archives that hold all the nets, each with as many as it has room for, and how many these are."""
     while nets:
         count, size = 0, 0

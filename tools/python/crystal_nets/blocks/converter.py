@@ -6,15 +6,16 @@ from collections.abc import Callable, Iterator
 from dataclasses import dataclass, field
 from typing import BinaryIO
 
+from ..net import Net
+from ..refusal import Refused
+from ..texts.graph_text import plain
 from ..texts.net_text import FIRST_TOKEN
 
 from .crystal import Fields, crystal_of
-from .expansion import graph_of
-from .graph_text import Graph, text_of_graph
-from .key_lines import graph_of_item
+from .expansion import net_of_crystal_block
+from .key_lines import net_of_item
 from .periodic_graph import rewritten
-from .refusal import Refused
-from .symbolic import symbolic_graph
+from .symbolic import symbolic_net
 from .tokens import decoded, rows_of, shown, tokens_of
 
 MOST_LINES = 40_000
@@ -175,21 +176,28 @@ class Converter:
 
 
 def text_of_block(block: Block, notes: list[str]) -> bytes:
-    """What is written of a block; refused by the line where it gives no graph."""
+    """What is written of a block; refused by the line where it gives no net."""
     if block.kind == "PERIODIC_GRAPH":
         return b"".join(rewritten(block.lines, notes))
-    graph = graph_of_block(block, notes)
-    return text_of_graph(graph, block.line, block.kind)
+    return net_of_block(block, notes).block
 
 
-def graph_of_block(block: Block, notes: list[str]) -> Graph:
-    """The quotient graph of a block of another kind."""
+def net_of_block(block: Block, notes: list[str]) -> Net:
+    """The net of a block, with a comment that tells how it was made; of a PERIODIC_GRAPH its lines, as far as the
+    program reads them."""
+    if block.kind == "PERIODIC_GRAPH":
+        return Net._of(b"".join(rewritten(block.lines, notes)), "")
+    net = _net_made_of(block, notes)
+    return net.commented(f"line {block.line}: {block.kind}, {plain(net.provenance.made)}")
+
+
+def _net_made_of(block: Block, notes: list[str]) -> Net:
     numbered = block.numbered
     if block.kind == "key line":
-        return graph_of_item(numbered[:-1])
+        return net_of_item(numbered[:-1])
     if len(tokens_of(numbered[0][1], block.line)) > 1:
         raise Refused(f"more words than {block.kind} stand in the line that opens the block", block.line)
     fields = Fields(rows_of(numbered[1:-1], notes))
     if block.kind == "NET":
-        return symbolic_graph(fields)
-    return graph_of(crystal_of(fields, block.kind == "TILING", notes))
+        return symbolic_net(fields)
+    return net_of_crystal_block(crystal_of(fields, block.kind == "TILING", notes))

@@ -10,7 +10,7 @@ import numpy as np
 from .groups import UnknownGroup, Group, group_by_name, group_of_operations, settings_of
 from .groups import MOST_STRAIN, find_space_group
 from .operations import affine
-from .refusal import Refused
+from ..refusal import Refused
 from .tokens import Row, Token, number_of, shown
 
 MOST_ROWS = 16_384   # of nodes and edges: a block has at most 4,096 edges, in a cell with at most four lattice points
@@ -38,7 +38,7 @@ class Bond:
 
 
 @dataclass
-class Crystal:
+class CrystalBlock:
     """What a block lists, with its group and the products of the edges of its cell."""
 
     name: str
@@ -117,7 +117,7 @@ def operation_texts(tokens: tuple[Token, ...]) -> Iterator[str]:
         yield from (part for part in "".join(token.text for token in tokens).split(";") if part)
 
 
-def crystal_of(fields: Fields, is_tiling: bool, notes: list[str]) -> Crystal:
+def crystal_of(fields: Fields, is_tiling: bool, notes: list[str]) -> CrystalBlock:
     """The crystal of a block; refused by the line where it has no form."""
     dimension = _dimension(fields, is_tiling)
     group = fields.group(dimension)
@@ -132,7 +132,7 @@ def crystal_of(fields: Fields, is_tiling: bool, notes: list[str]) -> Crystal:
         if not nodes:
             raise Refused("there are no nodes")
         bonds = [_bond(row, nodes, dimension) for row in fields.of("EDGE")]
-    return Crystal(fields.name, group, gram, cell is not None, nodes, bonds, notes)
+    return CrystalBlock(fields.name, group, gram, cell is not None, nodes, bonds, notes)
 
 
 def _dimension(fields: Fields, is_tiling: bool) -> int:

@@ -10,7 +10,7 @@ from functools import cache, cached_property
 
 import gemmi
 import numpy as np
-from ..structures.lattice import staircase
+from ..lattice import staircase
 
 from .operations import Affine, affine, closure, identity
 from .plane_groups import BY_NAME

@@ -2,19 +2,20 @@
 
 from __future__ import annotations
 
-from ..structures.cgd import GREATEST_SHIFT, MOST_EDGES, MOST_VERTICES
-from ..structures.net import Edge, edge
+from ..graph import Edge, edge
+from ..net import Net
+from ..refusal import Refused
+from ..texts.net_text import GREATEST_SHIFT, MOST_EDGES, MOST_VERTICES
 
-from .graph_text import Graph
+from .made_net import net_made
 from .periodic_graph import WHOLE
-from .refusal import Refused
 from .tokens import Token, tokens_of
 
 LONGEST_NUMBER = 20
 
 
-def graph_of_item(lines: list[tuple[int, str]]) -> Graph:
-    """The graph of an item, up to its `end` line; refused by the line as `union` refuses it."""
+def net_of_item(lines: list[tuple[int, str]]) -> Net:
+    """The net of an item, up to its `end` line; refused by the line as `union` refuses it."""
     key: tuple[int, tuple[Token, ...]] | None = None
     name: tuple[int, str] | None = None
     for number, text in lines:
@@ -34,7 +35,7 @@ def graph_of_item(lines: list[tuple[int, str]]) -> Graph:
         raise Refused(f"the item has no {'id' if key else 'key'} line")
     dimension, edges = _edges(*key)
     vertices = 1 + max(v for _, v, _ in edges)
-    return Graph(name[1], dimension, [str(k + 1) for k in range(vertices)], edges, "its graph")
+    return net_made(name[1], dimension, [str(k + 1) for k in range(vertices)], edges, "its graph")
 
 
 def _edges(line: int, tokens: tuple[Token, ...]) -> tuple[int, set[Edge]]:

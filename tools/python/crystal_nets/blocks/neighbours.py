@@ -7,11 +7,11 @@ from dataclasses import dataclass
 from itertools import product
 
 import numpy as np
-from ..structures.cgd import MOST_EDGES
+from ..refusal import Refused
+from ..texts.net_text import MOST_EDGES
 
-from .crystal import Crystal, Node
+from .crystal import CrystalBlock, Node
 from .orbits import Orbits
-from .refusal import Refused
 
 EQUAL = 1.001        # times as far is equally far: coordinates have four or five digits
 DOUBT = 1.1          # a next neighbour that is not so many times as far is told
@@ -29,7 +29,7 @@ class Candidate:
     shift: tuple[int, ...]
 
 
-def join_nearest(crystal: Crystal, orbits: Orbits, notes: list[str]) -> None:
+def join_nearest(crystal: CrystalBlock, orbits: Orbits, notes: list[str]) -> None:
     """Adds edges from each node that lacks some to the nearest vertices, all that are equally far at a time."""
     if not crystal.has_cell and not crystal.group.has_one_shape:
         raise Refused("there is no CELL, and edges are to be found by distance")

@@ -3,12 +3,12 @@
 from __future__ import annotations
 
 import numpy as np
-from ..structures.cgd import MOST_EDGES, MOST_VERTICES
-from ..structures.net import Edge, edge
+from ..graph import Edge, edge
+from ..refusal import Refused
+from ..texts.net_text import MOST_EDGES, MOST_VERTICES
 
 from .crystal import Bond, Node
 from .groups import Group
-from .refusal import Refused
 from .tokens import shown
 
 EXACT = 1e-6  # in fractions of the cell: equal up to rounding

@@ -5,7 +5,7 @@ from __future__ import annotations
 
 import re
 
-from ..structures.cgd import quoted
+from ..texts.graph_text import written_name
 
 from .tokens import PASSED_OVER, TOKEN, Token, decoded, tokens_of
 
@@ -46,7 +46,7 @@ def _name_line(keyword: Token, tokens: tuple[Token, ...], line: bytes) -> bytes:
     name = " ".join(token.text for token in tokens)
     if len(tokens) == 1 and len(name.encode(errors="surrogateescape")) <= LONGEST_NAME:
         return line
-    return f"{keyword.text} {quoted(name)}\n".encode() if name else b"# " + line
+    return f'{keyword.text} "{written_name(name)}"\n'.encode() if name else b"# " + line
 
 
 def _row_line(start: str, tokens: tuple[Token, ...], text: str, line: bytes, notes: list[str]) -> bytes:
@@ -57,7 +57,7 @@ def _row_line(start: str, tokens: tuple[Token, ...], text: str, line: bytes, not
         return line
     if TOLD_ONCE not in notes:
         notes.append(TOLD_ONCE)
-    vertices = [token.text if whole else quoted(token.text) for token, whole in zip(tokens[:2], is_whole)]
+    vertices = [token.text if whole else f'"{written_name(token.text)}"' for token, whole in zip(tokens[:2], is_whole)]
     comment = next((found[0] for found in TOKEN.finditer(text) if found[0].startswith("#")), "").strip()
     row = " ".join([*vertices, *(token.text for token in tokens[2:]), *([comment] if comment else [])])
     return f"{start}{row}\n".encode(errors="surrogateescape")

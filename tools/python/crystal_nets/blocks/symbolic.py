@@ -10,14 +10,15 @@ import math
 from dataclasses import dataclass
 from fractions import Fraction
 
-from ..structures.cgd import MOST_EDGES, MOST_VERTICES
-from ..structures.net import Edge, edge
+from ..graph import Edge, edge
+from ..net import Net
+from ..refusal import Refused
+from ..texts.net_text import MOST_EDGES, MOST_VERTICES
 
 from .crystal import Fields
-from .graph_text import Graph
 from .groups import Group
+from .made_net import net_made
 from .operations import Affine, affine, identity, snapped
-from .refusal import Refused
 from .tokens import Row, Token, number_of, shown
 
 Image = tuple[int, tuple[int, ...]]  # a vertex and its cell
@@ -33,8 +34,8 @@ class SymbolicNode:
     line: int
 
 
-def symbolic_graph(fields: Fields) -> Graph:
-    """The quotient graph of a NET block; refused by the line where it has no form."""
+def symbolic_net(fields: Fields) -> Net:
+    """The net of a NET block; refused by the line where it has no form."""
     dimension = _dimension(fields)
     group = fields.group(dimension)
     basis = Basis(group)
@@ -55,7 +56,7 @@ def symbolic_graph(fields: Fields) -> Graph:
         if len(edges) > MOST_EDGES:
             raise row.refused(f"more than {MOST_EDGES} edges in a primitive cell")
     vertices.check_degrees(edges)
-    return Graph(fields.name, dimension, vertices.names, edges, f"{group.name}, edges by operations")
+    return net_made(fields.name, dimension, vertices.names, edges, f"{group.name}, edges by operations")
 
 
 def _dimension(fields: Fields) -> int:

@@ -7,7 +7,7 @@ from collections.abc import Iterator
 from dataclasses import dataclass
 from fractions import Fraction
 
-from .refusal import Refused
+from ..refusal import Refused
 
 TOKEN = re.compile(r'"([^"\n]*)"|#.*|([^\s"#]+)|(")', re.ASCII)
 NUMBER = re.compile(r"([+-]?(?:\d+\.?\d*|\.\d+)(?:[eE][+-]?\d{1,2})?)(?:/(\d+\.?\d*))?(?:\(\d+\))?")

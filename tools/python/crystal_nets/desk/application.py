@@ -11,9 +11,10 @@ from flask import Flask, Response, request
 from werkzeug.exceptions import BadRequest, HTTPException
 
 from ..pictures.text import PALETTE
+from ..provenance import Provenance
 from . import questions
 from .files import AT_ONCE, shown_name
-from .guard import MOST_BYTES, TOO_LARGE, Guard, Refused, with_headers
+from .guard import MOST_BYTES, TOO_LARGE, Guard, Rejected, with_headers
 from .worker import ClientGone, NoAnswer, Workers
 
 PAGE = Path(__file__).with_name("page")
@@ -33,7 +34,7 @@ def application(guard: Guard, workers: Workers, given: Sequence[Path] = ()) -> F
     app.config["MAX_CONTENT_LENGTH"] = MOST_BYTES
     app.before_request(lambda: guard.check(request))
     app.after_request(with_headers)
-    app.register_error_handler(Refused, lambda fault: told(fault.reason, fault.status))
+    app.register_error_handler(Rejected, lambda fault: told(fault.reason, fault.status))
     app.register_error_handler(NoAnswer, lambda fault: told(str(fault), 200))
     app.register_error_handler(ClientGone, lambda _: told("nobody waits for the answer", GONE))
     app.register_error_handler(HTTPException, lambda fault: told(reason_of_fault(fault), fault.code or 500))
@@ -101,7 +102,7 @@ def add_questions(app: Flask, workers: Workers) -> None:
         return ask(questions.nets, shown_name(file.filename or ""), file.read(), whole_number("first"), options_of_form())
 
     def card(token: str) -> Response:
-        return ask(questions.card, text("block").encode(), text("name"), list_of_texts("notes"), text("refusal"))
+        return ask(questions.card, text("block").encode(), text("name"), provenance(), text("refusal"))
 
     def pair(token: str) -> Response:
         return ask(questions.pair, text("one").encode(), text("other").encode())
@@ -137,6 +138,14 @@ def list_of_texts(name: str) -> list[str]:
     if not isinstance(values, list) or not all(isinstance(value, str) for value in values):
         raise BadRequest(f"{name} is no list of texts")
     return values
+
+
+def provenance() -> Provenance:
+    """What `nets` told of how the net was made."""
+    try:
+        return Provenance.from_dict(json.loads(text("provenance")))
+    except (ValueError, OverflowError, RecursionError):
+        raise BadRequest("provenance is not as it was told") from None
 
 
 def options_of_form() -> dict[str, Any]:

@@ -2,7 +2,6 @@
 
 from __future__ import annotations
 
-import re
 from dataclasses import asdict
 from typing import Any
 
@@ -25,7 +24,6 @@ from .reasons import reason_of, unread
 from .woven import woven, woven_copies
 
 DIGITS = 3
-COPIES = re.compile(r"(\d+) interwoven nets alike in the cell")  # a note of structures.choice
 
 
 def report_of(net: Net) -> tuple[NetReport, bytes]:
@@ -73,8 +71,7 @@ def _of_key(net: Net, report: NetReport) -> dict[str, Any]:
     shape = Shape(placed)
     view = view_of(shape)
     done |= {"cell": _cell(shape), "picture": card_of(report, view), "svg": picture(view, label_of(report))}
-    told = next((found for note in net.notes if (found := COPIES.match(note))), None)
-    drawn = woven_copies(net, placed, int(told[1][:4])) if told else None
+    drawn = woven_copies(net, placed, net.provenance.copies)
     return {**done, "woven": asdict(drawn)} if drawn else done
 
 

@@ -22,7 +22,7 @@ MOST_BYTES = 64 * 2**20  # of one request
 TOO_LARGE = f"the file is larger than {MOST_BYTES >> 20} MB"
 
 
-class Refused(Exception):
+class Rejected(Exception):
     """A request that is not answered: its status, and the reason."""
 
     def __init__(self, status: int, reason: str) -> None:
@@ -42,24 +42,24 @@ class Guard:
         return f"127.0.0.1:{self.port}", f"localhost:{self.port}"
 
     def check(self, request: Request) -> None:
-        """Raises Refused where the request is not of the page. It comes before anything is read of a body."""
+        """Raises Rejected where the request is not of the page. It comes before anything is read of a body."""
         if request.headers.get("Host") not in self.hosts:
-            raise Refused(403, "the request is for another host")
+            raise Rejected(403, "the request is for another host")
         origin = request.headers.get("Origin")
         if origin is not None and origin not in [f"http://{host}" for host in self.hosts]:
-            raise Refused(403, "the request is of another page")
+            raise Rejected(403, "the request is of another page")
         if request.headers.get("Sec-Fetch-Site", "same-origin") not in ("same-origin", "none"):
-            raise Refused(403, "the request is of another page")
+            raise Rejected(403, "the request is of another page")
         if not self.has_token(request.path):
-            raise Refused(403, "the address has not the token that net_desk printed")
+            raise Rejected(403, "the address has not the token that net_desk printed")
         if request.method in SAFE:
             return
         if origin is None:
-            raise Refused(403, "the request has no Origin")
+            raise Rejected(403, "the request has no Origin")
         if request.content_length is None or "Transfer-Encoding" in request.headers:
-            raise Refused(411, "the request does not tell its length")
+            raise Rejected(411, "the request does not tell its length")
         if request.content_length > MOST_BYTES:
-            raise Refused(413, TOO_LARGE)
+            raise Rejected(413, TOO_LARGE)
 
     def has_token(self, path: str) -> bool:
         """Whether the first part of a path is the token."""

@@ -2,10 +2,12 @@
 
 from __future__ import annotations
 
+import json
 from typing import Any
 
 from ..errors import PackageMissing
 from ..net import Net
+from ..provenance import Provenance
 from .archives import told_shelves
 from .files import nets_of_file
 
@@ -22,16 +24,18 @@ def nets(name: str, content: bytes, first: int, options: dict[str, Any]) -> dict
     found = nets_of_file(name, content, first, options)
     return {"total": found.total, "first": first, "nets": [
         {"name": _plain(net.name), "notes": list(map(_plain, net.notes)), "refusal": _plain(net.refusal),
+         "provenance": json.loads(_plain(json.dumps(net.provenance.to_dict(), ensure_ascii=False))),
          "block": net.block.decode(errors="surrogateescape").encode(errors="replace").decode()} for net in found.nets]}
 
 
-def card(block: bytes, name: str, notes: list[str], refusal: str) -> dict[str, Any]:
+def card(block: bytes, name: str, provenance: Provenance, refusal: str) -> dict[str, Any]:
     """All of one net."""
     try:
         from . import cards
     except ModuleNotFoundError as missing:
         raise PackageMissing(f"pictures: {missing}; {PICTURE_PACKAGES}") from missing
-    return cards.card(Net.refused(refusal, name, notes) if refusal else Net.from_block(block, name, notes))
+    net = Net.refused(refusal, name) if refusal else Net.from_block(block, name)
+    return cards.card(net.of_provenance(provenance))
 
 
 def pair(one: bytes, other: bytes) -> dict[str, Any]:

@@ -9,7 +9,7 @@ from ..errors import CrystalNetsError
 from . import questions  # noqa: F401
 from .archives import shelves
 
-for name in ("pictures.page", "pictures.svg", "pictures.view", "structures.conversion", "structures.atoms",
+for name in ("pictures.page", "pictures.svg", "pictures.view", "structures.conversion", "structures.reading.given",
              "blocks.converter"):
     with contextlib.suppress(ImportError):  # a worker that needs it says which package is missing
         importlib.import_module(f"..{name}", __package__)

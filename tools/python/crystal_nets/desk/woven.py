@@ -13,6 +13,8 @@ from typing import Any
 import numpy as np
 
 from ..errors import CrystalNetsError
+from ..graph import Edge, QuotientGraph
+from ..lattice import Vector
 from ..net import Net
 from ..pictures.metric import standard_gram
 from ..pictures.page import card_of
@@ -22,10 +24,7 @@ from ..pictures.svg import Drawing
 from ..pictures.text import PALETTE, printable
 from ..pictures.view import view_of
 from ..program import run
-from ..structures.components import Component, components
-from ..structures.lattice import Vector
-from ..structures.net import Net as Graph
-from ..structures.net import edge
+from ..structures.nets.pieces import Piece, pieces_of
 from ..texts.net_text import NetReport, nets_of_report
 
 MOST_VERTICES = 400  # of all copies together
@@ -60,14 +59,12 @@ def woven(net: Net) -> Woven | None:
     """The picture of a net that falls into pieces; None where they are no nets in space over one lattice, or too many."""
     if net.dimension != 3:
         return None
-    number = {vertex: k for k, vertex in enumerate(net.vertices)}
-    edges = {edge(number[u], number[v], shift) for u, v, shift in net.edges}
-    parts = components(Graph([str(k) for k in range(len(number))], edges))
+    parts = pieces_of(net.graph.canonical())
     lattices = {tuple(part.basis) for part in parts}
     copies = sum(part.copies for part in parts)
     if len(lattices) != 1 or any(part.dimension != 3 for part in parts) or copies < 2:
         return None
-    if is_too_much([part.copies * len(part.net.names) for part in parts]):
+    if is_too_much([part.copies * len(part.net.vertices) for part in parts]):
         return None
     placed = [places for part in parts if (places := places_of(part)) is not None]
     if len(placed) < len(parts):
@@ -80,9 +77,9 @@ def is_too_much(sizes: list[int]) -> bool:
     return sum(sizes) > MOST_VERTICES or (len(sizes) > 2 and sum(sizes) * max(sizes) > MOST_PAIRS)
 
 
-def places_of(part: Component) -> np.ndarray | None:
+def places_of(part: Piece) -> np.ndarray | None:
     """The places of the vertices of a part in its own cell, n rows of 3; None where it has no key."""
-    rows = [(u + 1, v + 1, shift) for u, v, shift in sorted(part.net.edges)]
+    rows = [(u + 1, v + 1, shift) for u, v, shift in part.net.edges]
     try:
         _, told = run("identify", Net(rows).block, "-")
     except CrystalNetsError:
@@ -91,19 +88,19 @@ def places_of(part: Component) -> np.ndarray | None:
     if not report.key:
         return None
     at = {int(word) - 1: np.array(place, float) / report.scale for word, place in report.positions}
-    return np.array([at[k] for k in range(len(part.net.names))])
+    return np.array([at[k] for k in range(len(part.net.vertices))])
 
 
 def woven_copies(net: Net, placed: Placed, copies: int) -> Woven | None:
     """The picture of so many copies of a net in space, as a structure file may have them."""
     if placed.dimension != 3 or not 2 <= copies <= MOST_COPIES or is_too_much([len(placed.places)] * copies):
         return None
-    edges = {(u, v, tuple(shift)) for u, v, shift in placed.edges}
-    part = Component(Graph([""] * len(placed.places), edges), 3, 1, UNITS, [])
+    graph = QuotientGraph.of(range(1, len(placed.places) + 1), placed.edges)
+    part = Piece(graph, 3, 1, UNITS, [])
     return _drawn(net, [part] * copies, [placed.places] * copies, OF_FILE)
 
 
-def _drawn(net: Net, parts: list[Component], placed: list[np.ndarray], told: str) -> Woven:
+def _drawn(net: Net, parts: list[Piece], placed: list[np.ndarray], told: str) -> Woven:
     union, copy_of = _union(parts, placed)
     shape = Shape(union)
     degrees = ", ".join(map(str, shape.degrees))
@@ -115,10 +112,10 @@ def _drawn(net: Net, parts: list[Component], placed: list[np.ndarray], told: str
     return Woven(card, Coloured(view).text(label), told)
 
 
-def _union(parts: list[Component], placed: list[np.ndarray]) -> tuple[Placed, list[int]]:
+def _union(parts: list[Piece], placed: list[np.ndarray]) -> tuple[Placed, list[int]]:
     """All copies of all parts over one lattice, and of each vertex its copy."""
     places: list[np.ndarray] = []
-    edges: list[tuple[int, int, Vector]] = []
+    edges: list[Edge] = []
     copy_of: list[int] = []
     gram = _gram(parts, placed)
     for part, at in zip(parts, placed):
@@ -126,19 +123,25 @@ def _union(parts: list[Component], placed: list[np.ndarray]) -> tuple[Placed, li
         for shift in cosets(part.basis):
             first, copy = len(copy_of), len(set(copy_of))
             places.append(at + offset + shift)
-            edges += [(u + first, v + first, s) for u, v, s in sorted(part.net.edges)]
+            edges += _beside(part, first)
             copy_of += [copy] * len(at)
     return Placed(np.vstack(places), edges), copy_of
 
 
-def _gram(parts: list[Component], placed: list[np.ndarray]) -> np.ndarray:
+def _gram(parts: list[Piece], placed: list[np.ndarray]) -> np.ndarray:
     """The metric of the lattice in the standard realization of all parts."""
-    first, places, edges = 0, [], []
+    first, places = 0, []
+    edges: list[Edge] = []
     for part, at in zip(parts, placed):
-        edges += [(u + first, v + first, s) for u, v, s in sorted(part.net.edges)]
+        edges += _beside(part, first)
         places.append(at)
         first += len(at)
     return standard_gram(Placed(np.vstack(places), edges))
+
+
+def _beside(part: Piece, first: int) -> list[Edge]:
+    """The edges of a part whose vertices are numbered from the first on."""
+    return [Edge(u + first, v + first, shift) for u, v, shift in part.net.edges]
 
 
 def cosets(basis: list[Vector]) -> list[np.ndarray]:

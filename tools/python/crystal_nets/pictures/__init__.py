@@ -8,4 +8,6 @@ shape       all that a picture needs: sites, axes, kinds of vertices, what stand
 view        from which side a net is seen, and how much of it
 svg, page   the two forms of pictures that are written
 embedding   the net as a crystal: its group in the usual setting, nodes and edges up to the group
-crystal_text  the crystal as a block CRYSTAL, and as a CIF"""
+crystal_text  the crystal as a block CRYSTAL, and as a CIF
+command     the command draw_nets
+gallery     the command net_gallery: a page for each archive"""

@@ -6,10 +6,10 @@ from dataclasses import dataclass
 
 import numpy as np
 
+from ..graph import Edge
 from ..texts.net_text import NetReport
 
 FARTHEST = 1e-9  # from the mean of its neighbours, in edges of the cell: up to rounding
-Edge = tuple[int, int, tuple[int, ...]]  # two classes from 0 on, and the cell of the second
 
 
 def marks(numbers: np.ndarray) -> np.ndarray:
@@ -70,7 +70,7 @@ def placed_net(report: NetReport) -> Placed:
         if mark not in seen:
             seen.add(mark)
             places.append(place)
-    edges = [(u - 1, v - 1, tuple(shift)) for u, v, *shift in report.edges]
+    edges = [Edge(u - 1, v - 1, tuple(shift)) for u, v, *shift in report.edges]
     if len(places) != report.classes:
         raise NotPlaced(f"its vertices stand in {len(places)} places, and it has {report.classes} classes")
     net = Placed(np.array(places), edges)

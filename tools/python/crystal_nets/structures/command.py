@@ -16,10 +16,10 @@ from itertools import islice
 
 import gemmi
 
-from ..bar import Bar
+from ..progress import Progress
 
-from .choice import Options
-from .conventions import AUTO, CONVENTIONS
+from .nets.choice import Options
+from .units.conventions import AUTO, CONVENTIONS
 from .conversion import Conversion, Source, read_and_convert
 from .files import files_of, sources_of
 
@@ -114,14 +114,14 @@ def main() -> int:
         print(f"cif2cgd: {asked.notes}: not writable: {error.strerror}", file=sys.stderr)
         return USAGE
     refused = 0
-    with Bar("cif2cgd", len(sources), "files") as bar:
+    with Progress("cif2cgd", len(sources), "files") as bar:
         for done in conversions(sources, options_of(asked), asked.jobs):
             bar.tell(done.told(refusals_alone=asked.quiet))
-            sys.stdout.buffer.write(done.text.encode())
+            sys.stdout.buffer.write(done.text)
             if notes:
                 print(done.json_line(), file=notes)
             refused += done.is_refused
-            bar.step(note=f", {refused} refused")
+            bar.step(note=f"{refused} refused")
     if notes:
         notes.close()
     if not sources:

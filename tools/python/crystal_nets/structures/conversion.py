@@ -5,14 +5,18 @@ from __future__ import annotations
 import json
 from dataclasses import dataclass, field
 from pathlib import Path
+from typing import Any
 
-from .cgd import MOST_VERTICES, check_limits, text_of_net
-from .choice import NamedNet, Options, nets_of
-from .document import Block, blocks_of
-from .notes import DOUBT, LEFT_OUT, OTHER, REFUSED, Note
-from .refusal import Unreadable
-from .structure import read_crystal
-from .translations import divided_by_translations
+from ..net import Net
+from ..provenance import DOUBT, LEFT_OUT, OTHER, REFUSED, Note
+from ..refusal import Refused
+from ..texts.graph_text import plain
+from ..texts.net_text import GREATEST_SHIFT, MOST_EDGES, MOST_VERTICES
+from .atoms.crystal import Crystal
+from .nets.choice import Options, nets_of
+from .nets.translations import divided_by_translations
+from .reading.document import Block, blocks_of
+from .reading.structure import read_crystal
 
 
 @dataclass(frozen=True)
@@ -29,8 +33,7 @@ class Conversion:
     """What became of a file: all that is written, and all that is told."""
 
     source: Source
-    text: str = ""
-    nets: list[dict] = field(default_factory=list)         # name, convention, dimension, vertices, edges, notes
+    nets: list[Net] = field(default_factory=list)
     notes: list[tuple[str, Note]] = field(default_factory=list)  # with what they are of: the file, a block, a net
 
     def refuse(self, what: str, reason: object) -> None:
@@ -40,6 +43,12 @@ class Conversion:
     def is_refused(self) -> bool:
         """Whether the file, or one of its blocks, gave no net."""
         return any(note.kind == REFUSED for _, note in self.notes)
+
+    @property
+    def text(self) -> bytes:
+        """The blocks of the nets, each below a line that tells how it was made."""
+        label = plain(self.source.label)
+        return b"".join(f"# {label}: {net.provenance.made}\n".encode() + net.block for net in self.nets)
 
     def told(self, refusals_alone: bool) -> list[str]:
         """The lines for standard error."""
@@ -51,7 +60,7 @@ class Conversion:
         of_kind = {kind: [note.text for _, note in self.notes if note.kind == kind]
                    for kind in (DOUBT, LEFT_OUT, REFUSED)}
         others = [note.text for _, note in self.notes if note.kind not in of_kind]
-        return json.dumps({"file": self.source.path, "nets": self.nets, "doubts": of_kind[DOUBT],
+        return json.dumps({"file": self.source.path, "nets": list(map(_described, self.nets)), "doubts": of_kind[DOUBT],
                            "left_out": of_kind[LEFT_OUT], "notes": others, "refused": of_kind[REFUSED]})
 
 
@@ -60,7 +69,7 @@ def convert(source: Source, content: bytes, options: Options) -> Conversion:
     done = Conversion(source)
     try:
         blocks = blocks_of(content, source.stem)
-    except Unreadable as reason:
+    except Refused as reason:
         done.refuse(source.label, reason)
         return done
     for block in blocks:
@@ -73,7 +82,7 @@ def convert_block(block: Block, what: str, options: Options, done: Conversion) -
     """Adds the nets of one block, or why it gives none."""
     try:
         _add_nets(block, what, options, done)
-    except Unreadable as reason:
+    except Refused as reason:
         done.refuse(what, reason)
     except Exception as fault:  # of cif2cgd itself, or of a library: the next file may still be read
         done.refuse(what, f"cif2cgd failed: {type(fault).__name__} {fault}")
@@ -86,31 +95,46 @@ def _add_nets(block: Block, what: str, options: Options, done: Conversion) -> No
     try:
         crystal = read_crystal(block)
         notes = crystal.notes
-        nets = [within_limits(named) for named in nets_of(crystal, options, notes)]
+        nets = nets_of_crystal(crystal, options, notes)
     finally:
         done.notes += [(what, note) for note in notes]
-    for named in nets:
-        done.notes += [(f'{what}: net "{named.name}"', note) for note in named.notes]
-        done.nets.append(_described(named))
-    done.text += "".join(text_of_net(named, done.source.label) for named in nets)
+    for net in nets:
+        done.notes += [(f'{what}: net "{net.name}"', note) for note in net.provenance.notes]
+    done.nets += nets
 
 
-def within_limits(named: NamedNet) -> NamedNet:
+def nets_of_crystal(crystal: Crystal, options: Options, notes: list[Note]) -> list[Net]:
+    """The nets of a crystal, each within the limits of net_tool; notes on all of it come to the notes."""
+    return [within_limits(net) for net in nets_of(crystal, options, notes)]
+
+
+def within_limits(net: Net) -> Net:
     """The net, over all its own translations where it is past the limits of net_tool otherwise."""
-    count = len(named.net.names)
+    count = len(net.graph.vertices)
     if count > MOST_VERTICES:
-        named.net = divided_by_translations(named.net)
-        if len(named.net.names) < count:
-            times = count // len(named.net.names)
-            named.notes.append(Note(OTHER, f"the cell is {times} times the primitive one of the net"))
-    check_limits(named)
-    return named
+        graph, after = divided_by_translations(net.graph), []
+        if len(graph.vertices) < count:
+            times = count // len(graph.vertices)
+            after.append(Note(OTHER, f"the cell is {times} times the primitive one of the net"))
+        net = Net.of_graph(graph, net.name, net.provenance.noted(after=after))
+    _check_limits(net)
+    return net
 
 
-def _described(named: NamedNet) -> dict:
-    return {"name": named.name, "convention": named.convention, "dimension": named.dimension,
-            "vertices": len(named.net.names), "edges": len(named.net.edges),
-            "notes": [note.text for note in named.notes]}
+def _check_limits(net: Net) -> None:
+    """Raises Refused where net_tool would refuse the block for its size."""
+    vertices, edges = net.graph.vertices, net.graph.edges
+    if len(vertices) > MOST_VERTICES:
+        raise Refused(f"{len(vertices)} vertices, at most {MOST_VERTICES} are read")
+    if len(edges) > MOST_EDGES:
+        raise Refused(f"{len(edges)} edges, at most {MOST_EDGES} are read")
+    if any(abs(part) > GREATEST_SHIFT for edge in edges for part in edge.shift):
+        raise Refused(f"a shift beyond {GREATEST_SHIFT}")
+
+
+def _described(net: Net) -> dict[str, Any]:
+    return {"name": net.name, "convention": net.provenance.convention, "dimension": net.graph.dimension,
+            "vertices": len(net.graph.vertices), "edges": len(net.graph.edges), "notes": list(net.notes)}
 
 
 def read_and_convert(source: Source, options: Options, stdin: bytes = b"") -> Conversion:

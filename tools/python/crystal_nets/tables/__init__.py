@@ -5,4 +5,4 @@ piece     the rows of one piece, which are kept until all are there
 columns   the columns of the table, and how it is read
 sorting   lines sorted by `sort`, which uses the disk
 join      the table, groups, names and refusals, from the rows of all pieces
-command   the words of the command line, processes side by side, the bar"""
+command   the words of the command line, processes side by side"""

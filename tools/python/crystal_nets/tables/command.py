@@ -1,4 +1,4 @@
-"""The words of the command line of net_table, processes side by side, and the bar."""
+"""The words of the command line of net_table, and processes side by side."""
 
 from __future__ import annotations
 
@@ -17,7 +17,7 @@ from pathlib import Path
 from typing import Any
 
 from ..archive import Archive, default_files, files_of as archive_files
-from ..bar import Bar
+from ..progress import Progress
 from ..errors import CrystalNetsError, ProgramFailed, in_words
 from ..files import write_whole
 from ..side_by_side import processors
@@ -118,7 +118,7 @@ def planned(asked: argparse.Namespace, folder: Path, work: Path) -> Plan:
 def make_pieces(work: Path, plan: Plan, numbers: list[int], jobs: int) -> None:
     """Makes the rows of those pieces that have none."""
     missing = [number for number in numbers if rows_of(work, plan, number) is None]
-    with Bar("net_table", len(missing), "pieces") as bar:
+    with Progress("net_table", len(missing), "pieces") as bar:
         if jobs == 1 or len(missing) < 2:
             for number in missing:
                 make_rows(path_of(work, number), plan.piece(number))

@@ -19,7 +19,7 @@ from ..texts.net_text import chunks_of
 from .columns import OF_A_PIECE, escaped, joined, line_of
 from .plan import FORM, Piece, Plan, Portion
 
-Found = tuple[str, int, Net]  # the file, the line of the block or 0, and the net
+Found = tuple[str, Net]  # the file, and a net of it
 
 
 def path_of(folder: Path, number: int) -> Path:
@@ -29,9 +29,9 @@ def path_of(folder: Path, number: int) -> Path:
 def make_rows(path: Path, piece: Piece) -> None:
     """Writes the rows of a piece."""
     found = [item for portion in piece.portions for item in nets_of_portion(portion, piece.settings)]
-    nets = [net for _, _, net in found]
+    nets = [net for _, net in found]
     answers = identify_all(nets, archive=None) if piece.settings["command"] == "identify" else keys(nets)
-    content = b"".join(_row(source, line, answer) for (source, line, _), answer in zip(found, answers, strict=True))
+    content = b"".join(_row(source, answer) for (source, _), answer in zip(found, answers, strict=True))
     write_whole(path, _head(piece.mark, content) + content)
 
 
@@ -57,30 +57,31 @@ def nets_of_portion(portion: Portion, settings: dict[str, Any]) -> list[Found]:
             content = file.read(portion.length)
         nets = list(_nets_of(portion, content, settings))
     except OSError as fault:
-        nets = [(0, Net.refused(f"not readable: {fault.strerror}"))]
+        nets = [Net.refused(f"not readable: {fault.strerror}")]
     if not nets and portion.offset == 0:
-        nets = [(0, Net.refused("there is no net in it"))]
-    return [(portion.path, line, net) for line, net in nets]
+        nets = [Net.refused("there is no net in it")]
+    return [(portion.path, net) for net in nets]
 
 
-def _nets_of(portion: Portion, content: bytes, settings: dict[str, Any]) -> Iterator[tuple[int, Net]]:
-    """The nets with the lines that open their blocks, counted in the whole file."""
+def _nets_of(portion: Portion, content: bytes, settings: dict[str, Any]) -> Iterator[Net]:
+    """The nets. The lines that open their blocks are counted in the whole file."""
     if portion.kind == "structure":
         options = {**settings["options"], "leave_out": frozenset(settings["options"].get("leave_out", ()))}
-        yield from ((0, net) for net in nets_of_cif(content, options, os.path.basename(portion.path)))
+        yield from nets_of_cif(content, options, os.path.basename(portion.path))
         return
     for chunk in chunks_of(BytesIO(content), portion.kind == "items"):
         if chunk.opening_line:
             chunk.first_line += portion.lines_before
             chunk.opening_line += portion.lines_before
             try:
-                yield chunk.opening_line, net_of_chunk(chunk)
+                yield net_of_chunk(chunk)
             except NotANet as reason:  # a text of another kind begins there
-                yield chunk.opening_line, Net.refused(str(reason))
+                refused = Net.refused(str(reason))
+                yield refused.of_provenance(refused.provenance.at_line(chunk.opening_line))
 
 
-def _row(source: str, line: int, answer: Answer) -> bytes:
-    sizes = (line, answer.dimension, answer.vertices, answer.edges, answer.classes, answer.denominator)
+def _row(source: str, answer: Answer) -> bytes:
+    sizes = (answer.net.provenance.line, answer.dimension, answer.vertices, answer.edges, answer.classes, answer.denominator)
     at, dimension, vertices, edges, classes, scale = (str(size or "") for size in sizes)
     sequences = ";".join(" ".join(map(str, sequence)) for sequence in sorted(set(answer.sequences)))
     reason = "" if answer.accepted else str(answer.outcome)

@@ -9,9 +9,9 @@ import re
 from collections.abc import Callable, Iterable, Iterator
 from dataclasses import dataclass, field
 
-from .net_text import MOST_EDGES, MOST_SHELLS, MOST_VERTICES, NoReport, key_numbers
+from ..graph import Edge, QuotientGraph
+from .net_text import GREATEST_SHIFT, MOST_EDGES, MOST_SHELLS, MOST_VERTICES, NoReport, key_numbers
 
-FARTHEST = 500  # the parts of a shift, in absolute value
 ENTRY = re.compile(rb'entry "([^\x00-\x1f\x7f"]{1,200})"')
 GRAPH = re.compile(rb"graph ([23]) ([1-9]\d*) ([1-9]\d*)")
 
@@ -23,14 +23,14 @@ class Entry:
     name: bytes
     dimension: int = 0
     vertices: int = 0
-    edges: list[tuple[int, ...]] = field(default_factory=list)  # two vertices from 1 on, and the shift
+    edges: list[Edge] = field(default_factory=list)
     key: bytes = b""
 
     @property
-    def block(self) -> bytes:
-        """The net as a block PERIODIC_GRAPH."""
-        rows = b"".join(b" ".join(b"%d" % part for part in edge) + b"\n" for edge in self.edges)
-        return b'PERIODIC_GRAPH\nNAME "%s"\nEDGES\n%sEND\n' % (self.name, rows)
+    def graph(self) -> QuotientGraph:
+        """The net; its vertices are the numbers from 1 on."""
+        name = self.name.decode(errors="surrogateescape")
+        return QuotientGraph(tuple(range(1, self.vertices + 1)), tuple(self.edges), self.dimension, name)
 
 
 def entries_of(lines: Iterable[bytes], file: str) -> Iterator[Entry]:
@@ -101,7 +101,8 @@ def _entry(reader: Reader, is_second: bool) -> Entry:
         raise ValueError
     entry = Entry(found[1], dimension, vertices)
     for _ in range(edges):
-        edge = tuple(reader.numbers(b"edge", lambda row: _is_edge(row, entry)))
+        tail, head, *shift = reader.numbers(b"edge", lambda row: _is_edge(row, entry))
+        edge = Edge(tail - 1, head - 1, tuple(shift))
         if entry.edges and edge <= entry.edges[-1]:
             raise ValueError
         entry.edges.append(edge)
@@ -121,4 +122,4 @@ def _is_edge(row: list[int], entry: Entry) -> bool:
     tail, head, *shift = row
     is_ordered = tail < head or (tail == head and next((part for part in shift if part), 0) > 0)
     return (len(shift) == entry.dimension and 1 <= tail and head <= entry.vertices and is_ordered
-            and max(abs(part) for part in shift) <= FARTHEST)
+            and max(abs(part) for part in shift) <= GREATEST_SHIFT)

@@ -4,14 +4,13 @@ basis of it makes shifts of the vectors."""
 
 from __future__ import annotations
 
-from .net_text import NoReport, key_numbers
+from ..graph import Edge, QuotientGraph
+from ..lattice import Vector
+from .net_text import GREATEST_SHIFT, NoReport, key_numbers
 
-Vector = tuple[int, ...]
-FARTHEST = 500  # the parts of a shift that the program takes, in absolute value
 
-
-def block_rows(key: bytes) -> bytes:
-    """The rows of a block PERIODIC_GRAPH whose net has this key.
+def graph_of_key(key: bytes, name: str = "") -> QuotientGraph:
+    """The quotient graph of a net that has this key; its vertices are the classes, from 1 on.
 
     NoReport where the key is of no connected net, or a shift would pass what the program takes."""
     dimension, classes, _, *numbers = key_numbers(key)
@@ -20,13 +19,13 @@ def block_rows(key: bytes) -> bytes:
     places = _places(classes, edges, dimension)
     loops = [_sum(_sum(places[i], vector), places[j], -1) for i, j, vector in edges]
     basis = short_basis(loops, dimension)
-    rows = []
+    found = []
     for (i, j, _), loop in zip(edges, loops):
         shift = coefficients(loop, basis)
-        if max(abs(part) for part in shift) > FARTHEST:
-            raise NoReport(f"the key gives a shift past {FARTHEST}: {shift}")
-        rows.append(b"%d %d %s\n" % (i, j, b" ".join(b"%d" % part for part in shift)))
-    return b"".join(rows)
+        if max(abs(part) for part in shift) > GREATEST_SHIFT:
+            raise NoReport(f"the key gives a shift past {GREATEST_SHIFT}: {shift}")
+        found.append(Edge(i - 1, j - 1, shift))
+    return QuotientGraph(tuple(range(1, classes + 1)), tuple(found), dimension, name)
 
 
 def _sum(one: Vector, other: Vector, times: int = 1) -> Vector:

@@ -15,6 +15,7 @@ MOST_BYTES = 16_777_216
 MOST_VERTICES = 512
 MOST_EDGES = 4_096
 MOST_SHELLS = 10
+GREATEST_SHIFT = 500  # of a part of a shift, in absolute value
 WIDEST = 1 << 60  # no position of a report is as wide
 
 # the first token of a line, where it has one: a word or number, or else any other byte

@@ -145,7 +145,7 @@ class Source {
     const article = make('article', { className: 'card', 'aria-busy': 'true' }, make('h3', {}, net.name || 'net'),
       make('p', { className: 'dim busy' }, 'is being placed'));
     this.grid.append(article);
-    const fields = { block: net.block, name: net.name, notes: JSON.stringify(net.notes), refusal: net.refusal };
+    const fields = { block: net.block, name: net.name, provenance: JSON.stringify(net.provenance), refusal: net.refusal };
     const card = await ask('card', fields, signal);
     if (signal.aborted) return;
     if (typeof card.reason === 'string') Object.assign(card, net, { reason: `There is no answer: ${card.reason}.` });

@@ -1,0 +1,45 @@
+"""The commands by their names: how the scripts of the tools start them."""
+
+from __future__ import annotations
+
+import os
+import sys
+from collections.abc import Callable
+from importlib import import_module
+from typing import NoReturn
+
+HOMES = {"cif2cgd": "structures.command", "cgd2net": "blocks.command", "make_archives": "blocks.collection",
+         "draw_nets": "pictures.command", "net_gallery": "pictures.gallery", "net_desk": "desk.command",
+         "net_table": "tables.command",
+         **{name: f"batch.{name}" for name in ("split_nets", "net_rows", "net_groups", "net_names", "accepted_nets",
+                                               "archive_nets", "component_nets")}}
+# what a command needs before it can say so by itself
+PACKAGES = {"cif2cgd": "python3-gemmi python3-numpy python3-scipy",
+            "cgd2net": "python3-gemmi python3-numpy python3-scipy python3-spglib",
+            "make_archives": "python3-gemmi python3-numpy python3-scipy python3-spglib", "draw_nets": "python3-numpy",
+            "net_gallery": "python3-numpy"}
+WITH_SMALL_MATRICES = ("cif2cgd", "net_table")  # for which threads would wait for each other
+
+
+def run(name: str) -> NoReturn:
+    """Runs a command with the words of the command line, and ends with its status: 1 with a reason in one line, where
+    a text has not the form that is asked for, or a file cannot be read or written."""
+    if name in WITH_SMALL_MATRICES:
+        os.environ.setdefault("OPENBLAS_NUM_THREADS", "1")
+    from .errors import CrystalNetsError, in_words
+    from .texts.net_text import NoReport
+    try:
+        sys.exit(_main_of(name)())
+    except (NoReport, CrystalNetsError, OSError) as fault:
+        sys.exit(f"{name}: {in_words(fault)}")
+
+
+def _main_of(name: str) -> Callable[[], int]:
+    """What a command runs. Where a package is missing that it needs at once, that is told."""
+    try:
+        main: Callable[[], int] = import_module(f".{HOMES[name]}", __package__).main
+        return main
+    except ModuleNotFoundError as missing:
+        if name not in PACKAGES:
+            raise
+        sys.exit(f"{name}: {missing}; apt-get install {PACKAGES[name]}")

@@ -1,0 +1,59 @@
+"""A crystal: the atoms of one primitive cell, with what must be told of them."""
+
+from __future__ import annotations
+
+from dataclasses import dataclass, field
+
+import numpy as np
+
+from ..bonds.contacts import Contact, Wanted, contacts
+from ...provenance import Note
+
+FULL = 0.99  # an occupancy from here on counts as full
+
+
+@dataclass(frozen=True)
+class Site:
+    """An atom as the file lists it."""
+
+    label: str
+    element: str
+    place: np.ndarray  # in fractions of the cell of the file
+    occupancy: float
+    hydrogens: float = 0.0  # that the atom has and the file does not list
+    assembly: str = ""  # of disorder: the place that the alternatives are for
+    group: str = ""     # of disorder: the alternative that the atom belongs to
+
+    @property
+    def is_about_symmetry(self) -> bool:
+        """Whether the alternatives are the images of the group, as a negative number says."""
+        return self.group.startswith("-")
+
+
+@dataclass
+class Atom:
+    """An atom of the primitive cell."""
+
+    site: Site
+    place: np.ndarray  # in angstrom
+    name: str          # the label, and the number of the image where there are several
+    content: dict[str, float]  # the elements that share the place, with their occupancies
+    images: tuple[int, ...] = (0,)  # the operations that carry the site to this place
+
+    @property
+    def occupancy(self) -> float:
+        return min(1.0, sum(self.content.values()))
+
+
+@dataclass
+class Crystal:
+    name: str
+    cell: np.ndarray   # rows: the primitive basis, in angstrom
+    atoms: list[Atom]
+    notes: list[Note] = field(default_factory=list)
+    listed: dict[str, float] = field(default_factory=dict)  # the elements before disorder is resolved
+    clash: str = ""    # labels of different full atoms in one place
+    misfit: str = ""   # why the atoms of the cell cannot be right
+
+    def contacts(self, reach: float, wanted: Wanted | None = None) -> list[Contact]:
+        return contacts(self.cell, np.array([atom.place for atom in self.atoms]), reach, wanted)

@@ -1,0 +1,53 @@
+"""The elements of atoms and formulas, and what kind of element they are."""
+
+from __future__ import annotations
+
+import re
+from functools import cache
+
+import gemmi
+
+from ...refusal import Refused
+
+WATER = re.compile(r"wat|ow\d*$", re.IGNORECASE)
+
+
+@cache
+def is_metal(element: str) -> bool:
+    """Whether it is joined, in a compound with nonmetals, to these alone."""
+    return gemmi.Element(element).is_metal
+
+
+def is_water(label: str) -> bool:
+    """Whether a label is one that is used for a water molecule, as Wat3 or OW1."""
+    return WATER.match(label) is not None
+
+
+def elements_of_formula(text: str) -> dict[str, float]:
+    parts = re.findall(r"([A-Z][a-z]?)(\d+\.?\d*|\.\d+)?", text)
+    return {element: float(count or 1) for element, count in parts}
+
+
+def element_of(symbol: str, label: str, formula: dict[str, float]) -> str:
+    """The element by the type symbol, else by the label."""
+    if is_water(symbol) or is_water(label) or _is_w_of_water(label, formula):
+        return "O"
+    found = _reading(symbol, formula) or _reading(label, formula)
+    if not found:
+        raise Refused(f"the element of atom {label!r} is not known")
+    return "H" if found == "D" else found
+
+
+def _is_w_of_water(label: str, formula: dict[str, float]) -> bool:
+    """Whether W1 is water, and not tungsten: by the formula, where there is one."""
+    return re.fullmatch(r"W\d+", label) is not None and bool(formula) and "W" not in formula
+
+
+def _reading(text: str, formula: dict[str, float]) -> str:
+    """The element that the letters at the start are. Of two readings, as CO1 for cobalt or
+    carbon, the one that the formula has, and else the longer one."""
+    found = re.match(r"[A-Za-z]*", text.strip())
+    letters = found.group() if found else ""
+    readings = [e for e in (letters[:2].capitalize(), letters[:1].upper())
+                if e and gemmi.Element(e).atomic_number > 0]
+    return next((e for e in readings if e in formula), readings[0] if readings else "")

@@ -1,0 +1,239 @@
+"""Which atoms of a crystal are joined, and across which cells."""
+
+from __future__ import annotations
+
+from collections import Counter, defaultdict
+from collections.abc import Iterable
+
+import numpy as np
+
+from .contacts import TOO_NEAR, Contact, Wanted, radius
+from ..atoms.crystal import FULL, Crystal
+from ..atoms.elements import is_metal, is_water
+from .hydrogen import hydrogen_bridges, ice_bonds
+from ...graph import Edge
+from ...lattice import add
+
+Lengths = dict[frozenset[str], float]  # of a pair of elements, the longest bond in angstrom
+
+COVALENT = 0.30   # angstrom above the sum of the radii: the longest bond of two nonmetals
+POLAR = 0.50      # the same for a metal and a nonmetal
+STRETCHED = 0.80  # the same where it is among the shortest of the atom
+NEARLY = 1.10     # times the shortest from the same atom to the same element
+CLOSE = 0.05      # from one of these bounds, or less: told as a doubt
+ROUNDING = 1e-6   # angstrom
+SHELL_GAP = 1.13  # times the length before: the step that ends the shell of a metal
+SHELL_CLOSE = 0.02  # from that step, or less: told as a doubt
+LONG = 0.50        # angstrom above the radii: neighbours in a nonmetal that are farther are told as a doubt
+# Two oxygens or fluorines that are not joined are at least so far from each other, in angstrom: it
+# is 2.14 in nitrates, and 2.16 in carbon tetrafluoride. Those that are nearer are told as a doubt.
+LEAST_APART = 2.10
+NEVER_NEAR = frozenset(("O", "F"))
+# Of two atoms of one nonmetal that each have two bonds to other elements, the lengths in angstrom
+# that their bonds have: superoxide and peroxide, disulphide, diphosphide and so on (A. F. Wells,
+# Structural Inorganic Chemistry, 1984). B and C make bonds of all lengths, and are not listed.
+BETWEEN_ANIONS = {"O": ((1.22, 1.35), (1.40, 1.60)), "S": ((1.85, 2.30),), "Se": ((2.10, 2.65),),
+                  "Te": ((2.50, 3.10),), "N": ((1.05, 1.52),), "P": ((1.95, 2.45),), "As": ((2.15, 2.70),),
+                  "Si": ((2.20, 2.50),), "Ge": ((2.30, 2.65),), "F": (), "Cl": (), "Br": (), "I": ((2.60, 3.10),)}
+
+
+def find_bonds(crystal: Crystal, hydrogen_bonds: bool, lengths: Lengths, doubts: list[str]) -> set[Edge]:
+    """The bonds by the rule that fits the elements of the crystal, but of the pairs that have
+    a length, all up to it; lengths that are close to a bound are told as doubts."""
+    elements = {atom.site.element for atom in crystal.atoms}
+    has_hydrogens = any(atom.site.hydrogens for atom in crystal.atoms)
+    if elements == {"O", "H"} or (elements == {"O"} and (has_hydrogens or is_water(crystal.atoms[0].site.label))):
+        bonds = ice_bonds(crystal)
+    elif all(map(is_metal, elements)) or (len(elements) == 1 and not has_hydrogens):
+        bonds = shell_bonds(crystal, doubts)
+    else:
+        bonds = radius_bonds(crystal, doubts)
+        bonds |= hydrogen_bridges(crystal) if hydrogen_bonds else set()
+    return with_lengths(crystal, bonds, lengths) if lengths else bonds
+
+
+def with_lengths(crystal: Crystal, bonds: set[Edge], lengths: Lengths) -> set[Edge]:
+    """The bonds, but of the pairs that have a length, all contacts up to it."""
+    def pair(u: int, v: int) -> frozenset[str]:
+        return frozenset((crystal.atoms[u].site.element, crystal.atoms[v].site.element))
+
+    near = crystal.contacts(max(lengths.values()) + 0.001)
+    return ({bond for bond in bonds if pair(bond.u, bond.v) not in lengths}
+            | {c.edge() for c in near if c.length <= lengths.get(pair(c.first, c.second), 0.0)})
+
+
+def shell_bonds(crystal: Crystal, doubts: list[str]) -> set[Edge]:
+    """Each atom and its nearest shell, up to the first gap in the distances."""
+    bonds, close = set(), set()
+    for near in _contacts_by_atom(crystal):
+        lengths = [c.length for c in near]
+        end = first_gap(lengths)
+        bonds |= {c.edge() for c in near[:end]}
+        close |= {f"{end} neighbours up to {lengths[end - 1]:.2f}, {other} up to {lengths[other - 1]:.2f}"
+                  for other in {first_gap(lengths, -SHELL_CLOSE), first_gap(lengths, SHELL_CLOSE)} - {end}}
+        close |= _too_long(crystal, near[end - 1])
+    doubts += sorted(close)
+    return bonds
+
+
+def _too_long(crystal: Crystal, contact: Contact) -> set[str]:
+    """The doubt that two atoms of a nonmetal are farther from each other than its bonds are long."""
+    one, other = (crystal.atoms[v].site.element for v in (contact.first, contact.second))
+    is_long = not is_metal(one) and contact.length > radius(one) + radius(other) + LONG
+    return {f"{one}-{other} {contact.length:.2f} taken, longer than a bond"} if is_long else set()
+
+
+def _contacts_by_atom(crystal: Crystal) -> list[list[Contact]]:
+    """Of each atom its contacts by length, up to 1.6 times its nearest at least."""
+    reach = 3.0
+    while True:
+        by_atom: list[list[Contact]] = [[] for _ in crystal.atoms]
+        for contact in crystal.contacts(reach):
+            by_atom[contact.first].append(contact)
+        for near in by_atom:
+            near.sort(key=lambda c: c.length)
+        if all(near and 1.6 * near[0].length <= reach for near in by_atom):
+            return by_atom
+        reach *= 1.5
+
+
+def first_gap(lengths: list[float], more: float = 0.0) -> int:
+    """How many of the rising lengths stand before the first great step."""
+    steps = range(1, len(lengths))
+    return next((k for k in steps if lengths[k] > (SHELL_GAP + more) * lengths[k - 1]), len(lengths))
+
+
+def radius_bonds(crystal: Crystal, doubts: list[str]) -> set[Edge]:
+    """Bonds by the sums of covalent radii: nonmetal to nonmetal, and metal to nonmetal."""
+    elements = [atom.site.element for atom in crystal.atoms]
+    excess = {c: c.length - radius(elements[c.first]) - radius(elements[c.second])
+              for c in crystal.contacts(_reach(set(elements)), _may_be_bonds(elements))}
+    covalent = [c for c, more in excess.items()
+                if more <= COVALENT and _are_covalent(elements[c.first], elements[c.second])]
+    closed = _anion_centres(covalent, elements) | _bound_hydrogens(covalent, elements)
+    polar = [c for c in excess if is_metal(elements[c.first]) != is_metal(elements[c.second])
+             and c.first not in closed and c.second not in closed]
+    polar = _without_beside(polar, covalent, elements, excess, doubts)
+    shortest = _shortest(polar, elements)
+    ratio = {c: c.length / shortest[c.first, elements[c.second]] for c in polar}
+    taken = [c for c in polar if _is_taken(excess[c], ratio[c])]
+    covalent = _without_between_anions(covalent, taken, elements, doubts)
+    edges = {c.edge() for c in covalent + taken}
+    close = {f"{elements[c.first]}-{elements[c.second]} {c.length:.2f} "
+             + ("taken" if c.edge() in edges else "left out")
+             for c in polar if is_metal(elements[c.first]) and _is_close(excess[c], ratio[c])}
+    doubts += sorted(close | _too_near(crystal, (c for c, more in excess.items() if more > COVALENT)))
+    return edges
+
+
+def _too_near(crystal: Crystal, contacts: Iterable[Contact]) -> set[str]:
+    """The doubts about full oxygens and fluorines that are too far from each other for a bond, and
+    too near for none."""
+    elements = [atom.site.element for atom in crystal.atoms]
+    is_full = [atom.occupancy >= FULL for atom in crystal.atoms]
+    return {f"{'-'.join(sorted((elements[c.first], elements[c.second])))} {c.length:.2f} left out, too near for no bond"
+            for c in contacts if c.length < LEAST_APART and {elements[c.first], elements[c.second]} <= NEVER_NEAR
+            and is_full[c.first] and is_full[c.second]}
+
+
+def _may_be_bonds(elements: list[str]) -> Wanted:
+    """Which contacts may be bonds, or close to a bound: not of two metals, nor too near, nor too far.
+    So are oxygens that are too near for no bond."""
+    radii = np.array([radius(element) for element in elements])
+    metals = np.array([is_metal(element) for element in elements], dtype=int)
+    most = np.array([COVALENT, STRETCHED + CLOSE, -np.inf])  # above the radii, by how many of the two are metals
+    least = np.array([LEAST_APART if element in NEVER_NEAR else 0.0 for element in elements])
+
+    def are_wanted(first: np.ndarray, second: np.ndarray, length: np.ndarray) -> np.ndarray:
+        sums = radii[first] + radii[second]
+        may_be = length - sums <= most[metals[first] + metals[second]] + ROUNDING
+        return (length > TOO_NEAR * sums) & (may_be | (length < np.minimum(least[first], least[second])))
+
+    return are_wanted
+
+
+def _without_beside(polar: list[Contact], covalent: list[Contact], elements: list[str],
+                    excess: dict[Contact, float], doubts: list[str]) -> list[Contact]:
+    """The contacts without those of a metal and a carbon beside an atom on that metal, as in
+    pyrazine: a nonmetal other than C, H and B that is bonded to the carbon and joined to the metal.
+    Cyclopentadienyls, carbonyls and cyanides have none. One that is short all the same is told."""
+    joined = {(c.first, c.second, c.shift) for c in polar
+              if excess[c] <= POLAR and elements[c.second] not in ("C", "H", "B")}
+    beside: dict[int, list[Contact]] = defaultdict(list)
+    for c in covalent:
+        if elements[c.first] == "C" and elements[c.second] not in ("C", "H", "B"):
+            beside[c.first].append(c)
+
+    def is_beside(c: Contact) -> bool:
+        """Whether the second atom, a carbon, has a neighbour on the first, a metal."""
+        return elements[c.second] == "C" and any(
+            (c.first, near.second, add(c.shift, near.shift)) in joined for near in beside[c.second])
+
+    left_out = {c.edge() for c in polar if is_beside(c)}
+    doubts += sorted({f"{elements[c.first]}-C {c.length:.2f} left out, beside another bond of that metal"
+                      for c in polar if is_beside(c) and excess[c] <= 0})
+    return [c for c in polar if c.edge() not in left_out]
+
+
+def _without_between_anions(covalent: list[Contact], polar: list[Contact], elements: list[str],
+                            doubts: list[str]) -> list[Contact]:
+    """The bonds without those of two atoms of one nonmetal which both have two bonds to other
+    elements, where the length is not that of such a bond. Oxygens that both have two bonds to
+    other nonmetals, as in silicates, have none."""
+    others = Counter(c.first for c in covalent + polar if elements[c.first] != elements[c.second])
+    nonmetals = Counter(c.first for c in covalent if elements[c.first] != elements[c.second])
+
+    def is_none(c: Contact) -> bool:
+        element = elements[c.first]
+        if element != elements[c.second] or element not in BETWEEN_ANIONS:
+            return False
+        if min(others[c.first], others[c.second]) < 2:
+            return False
+        is_full = element == "O" and min(nonmetals[c.first], nonmetals[c.second]) >= 2
+        return is_full or not any(low <= c.length <= high for low, high in BETWEEN_ANIONS[element])
+
+    left_out = {c for c in covalent if is_none(c)}
+    doubts += sorted({f"{elements[c.first]}-{elements[c.first]} {c.length:.2f} left out, between two anions"
+                      for c in left_out})
+    return [c for c in covalent if c not in left_out]
+
+
+def _is_taken(excess: float, ratio: float) -> bool:
+    return excess <= POLAR or (excess <= STRETCHED and ratio <= NEARLY)
+
+
+def _is_close(excess: float, ratio: float) -> bool:
+    """Whether a bound that is a little tighter or looser would judge otherwise."""
+    return _is_taken(excess + CLOSE, ratio + CLOSE) != _is_taken(excess - CLOSE, ratio - CLOSE)
+
+
+def _reach(elements: set[str]) -> float:
+    """How long a bond between two of the elements may be."""
+    metals = [radius(e) for e in elements if is_metal(e)]
+    others = [radius(e) for e in elements if not is_metal(e)]
+    least = LEAST_APART if elements & NEVER_NEAR else 0.0
+    return max(max(metals, default=0.0) + max(others) + STRETCHED, 2 * max(others) + COVALENT, least)
+
+
+def _are_covalent(one: str, other: str) -> bool:
+    return not is_metal(one) and not is_metal(other) and not one == other == "H"
+
+
+def _anion_centres(covalent: list[Contact], elements: list[str]) -> set[int]:
+    """Nonmetals with two or more oxygens or fluorines, as S in a sulfate: no metal is joined."""
+    count = Counter(c.first for c in covalent
+                    if elements[c.second] in ("O", "F") and elements[c.first] not in ("O", "F"))
+    return {atom for atom, number in count.items() if number > 1}
+
+
+def _bound_hydrogens(covalent: list[Contact], elements: list[str]) -> set[int]:
+    return {c.first for c in covalent if elements[c.first] == "H"}
+
+
+def _shortest(polar: list[Contact], elements: list[str]) -> dict[tuple[int, str], float]:
+    """The shortest contact of an atom to an element."""
+    shortest: dict[tuple[int, str], float] = {}
+    for c in polar:
+        at = c.first, elements[c.second]
+        shortest[at] = min(c.length, shortest.get(at, c.length))
+    return shortest

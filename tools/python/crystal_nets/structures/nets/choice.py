@@ -1,0 +1,239 @@
+"""From a crystal to the nets that it consists of, with what a user must know of them."""
+
+from __future__ import annotations
+
+from collections import Counter
+from dataclasses import dataclass, field, replace
+
+import numpy as np
+
+from ...graph import Edge, QuotientGraph
+from ...net import Net
+from ...provenance import CONVENTION, DISORDER, DOUBT, LEFT_OUT, OTHER, Note, Provenance, shorten
+from ...refusal import Refused
+from ...texts.graph_text import written_name
+from ..atoms.crystal import FULL, Crystal
+from ..atoms.elements import is_metal
+from ..bonds.hydrogen import hydrogen_bridges
+from ..bonds.rules import Lengths, find_bonds
+from ..units.building_units import units_of
+from ..units.conventions import AUTO, Convention, Framework, conventions_for
+from .pieces import Piece, pieces_of
+from .simplification import Contracted, contracted, shells, without_ends
+
+# Left out where the other atoms make a net in space without them.
+COUNTER_IONS = frozenset("Na K Rb Cs Ca Sr Ba".split())
+KINDS = ("molecule", "rod", "layer", "net in space")  # by dimension
+COPIES = ("molecules", "rods", "layers", "interwoven nets")
+
+
+@dataclass(frozen=True)
+class Options:
+    """What the user wants otherwise; `cif2cgd --help` tells each."""
+
+    leave_out: frozenset[str] = frozenset()
+    lengths: Lengths = field(default_factory=dict)
+    keep_ions: bool = False
+    hydrogen_bonds: bool = False
+    partial_as_full: bool = False
+    accept_misfit: bool = False
+    every_copy: bool = False
+    convention: str = "all-atoms"
+
+
+def nets_of(crystal: Crystal, options: Options, notes: list[Note]) -> list[Net]:
+    """The layers and the nets in space of a crystal; notes on all of it come to the notes."""
+    if crystal.misfit and not options.accept_misfit:
+        raise Refused(f"{crystal.misfit} (--accept-misfit takes it all the same)")
+    notes += [Note(DOUBT, crystal.misfit)] if crystal.misfit else []
+    doubts: list[str] = []
+    bonds = find_bonds(crystal, options.hydrogen_bonds, options.lengths, doubts)
+    chosen = _with_atoms_chosen(crystal, bonds, options, notes)
+    pieces = pieces_of(chosen)
+    if doubts:
+        notes.append(Note(DOUBT, "bonds in doubt: " + shorten("; ".join(doubts))))
+    periodic = [piece for piece in pieces if piece.dimension >= 2]
+    has_layers = any(piece.dimension == 2 for piece in periodic)
+    if has_layers and all(is_metal(atom.site.element) for atom in crystal.atoms):
+        notes.append(Note(DOUBT, "the nearest neighbours of these metals make layers: farther ones may be of the net"))
+    if not periodic and options.convention in (AUTO, "standard"):
+        return _nets_of_molecules(crystal, chosen, options, notes)
+    if not periodic:
+        raise Refused("no net: " + (_told_count(pieces) or "all atoms are left out"))
+    notes += _told_pieces(pieces, {atom.name: atom.site.element for atom in crystal.atoms})
+    groups = [[p] for p in periodic] if options.every_copy else _alike(periodic, crystal)
+    return [named for k, group in enumerate(groups) for named in _named(crystal, group, k, options)]
+
+
+def _nets_of_molecules(crystal: Crystal, bonded: QuotientGraph, options: Options, notes: list[Note]) -> list[Net]:
+    """The nets whose vertices are molecules and whose edges are hydrogen bonds."""
+    number = {name: v for v, name in enumerate(map(str, bonded.vertices))}
+    names = [atom.name for atom in crystal.atoms]
+    bridges = {Edge(number[names[u]], number[names[v]], shift) for u, v, shift in hydrogen_bridges(crystal)
+               if names[u] in number and names[v] in number}
+    molecules = units_of(bonded.with_edges(bonded.edge_set | bridges), bonded.edges) if bonded.edges else None
+    pieces = pieces_of(molecules.net) if molecules and molecules.net.edges else []
+    periodic = [piece for piece in pieces if piece.dimension >= 2]
+    if not periodic:
+        raise Refused("no net: " + (_told_count(pieces_of(bonded)) or "all atoms are left out"))
+    nets = []
+    for k, group in enumerate([[p] for p in periodic] if options.every_copy else _alike(periodic, crystal)):
+        simple = contracted(group[0].net)
+        told = _told_copies(group) + _told_simplification(simple)
+        made = f"{len(group[0].net.vertices)} molecules, joined by hydrogen bonds; standard: each molecule is a vertex"
+        name = _name_of(crystal, k) + (" standard" if options.convention == AUTO else "")
+        convention = Note(CONVENTION, "standard: each molecule is a vertex, and hydrogen bonds are edges")
+        nets.append(_net(name, simple, Provenance((convention, *told), "standard", made, _copies(group))))
+    return nets
+
+
+def _with_atoms_chosen(crystal: Crystal, bonds: set[Edge], options: Options, notes: list[Note]
+                       ) -> QuotientGraph:
+    """The net of all atoms but those to be left out, and the counter-ions of a framework."""
+    elements = [atom.site.element for atom in crystal.atoms]
+    net = QuotientGraph.of((atom.name for atom in crystal.atoms), bonds)
+    kept = [v for v, e in enumerate(elements) if e not in options.leave_out]
+    frame = [v for v in kept if elements[v] not in COUNTER_IONS]
+    if options.keep_ions or len(frame) == len(kept):
+        return net.part(kept)
+    if not any(piece.dimension == 3 for piece in pieces_of(net.part(frame))):
+        return net.part(kept)
+    ions = Counter(elements[v] for v in kept if elements[v] in COUNTER_IONS)
+    notes.append(Note(LEFT_OUT, "left out as counter-ions: " + _told_counter(ions)))
+    return net.part(frame)
+
+
+def _told_counter(counter: Counter[str]) -> str:
+    return " ".join(f"{what} {count}" for what, count in sorted(counter.items()))
+
+
+def _told_count(pieces: list[Piece]) -> str:
+    """How many molecules, rods and single atoms there are."""
+    kinds = Counter(KINDS[p.dimension] if len(p.net.vertices) > 1 or p.dimension else "single atom"
+                    for p in pieces)
+    return ", ".join(f"{count} {kind}{'s' if count > 1 else ''}" for kind, count in kinds.items())
+
+
+def _told_pieces(pieces: list[Piece], element: dict[str, str]) -> list[Note]:
+    small = [p for p in pieces if p.dimension < 2 and any(element[str(n)] != "H" for n in p.net.vertices)]
+    return [Note(LEFT_OUT, "left out: " + _told_count(small))] if small else []
+
+
+def _alike(pieces: list[Piece], crystal: Crystal) -> list[list[Piece]]:
+    """The pieces by what they are made of: those of the same sites are images of each other. So are,
+    in a file without symmetry, those of the same elements with the same coordination sequences."""
+    atoms = {atom.name: atom.site for atom in crystal.atoms}
+    by_site: dict[tuple, list[Piece]] = {}
+    for piece in pieces:
+        sites = tuple(sorted(atoms[str(name)].label for name in piece.net.vertices))
+        by_site.setdefault((piece.dimension, piece.copies, len(piece.net.edges), sites), []).append(piece)
+    if len(by_site) == 1:
+        return list(by_site.values())
+    groups: dict[tuple, list[Piece]] = {}
+    for (*numbers, _), group in by_site.items():
+        elements = tuple(sorted(atoms[str(name)].element for name in group[0].net.vertices))
+        sequences = shells(contracted(group[0].net).net)
+        groups.setdefault((*numbers, elements, sequences), []).extend(group)
+    return list(groups.values())
+
+
+def _name_of(crystal: Crystal, k: int) -> str:
+    return crystal.name if k == 0 else f"{crystal.name} part {k + 1}"
+
+
+def _framework(crystal: Crystal, piece: Piece) -> Framework:
+    """The atoms of a piece that are not on its ends, with their places."""
+    by_name = {atom.name: atom for atom in crystal.atoms}
+    atoms = [by_name[name] for name in map(str, piece.net.vertices)]
+    places = np.array([atom.place for atom in atoms]) + np.array(piece.cells) @ crystal.cell
+    return Framework(without_ends(piece.net), {atom.name: atom.site.element for atom in atoms},
+                     dict(zip(map(str, piece.net.vertices), places)), np.array(piece.basis) @ crystal.cell)
+
+
+def _named(crystal: Crystal, group: list[Piece], k: int, options: Options) -> list[Net]:
+    """The first of a group of nets alike, by each convention that applies and gives another net,
+    with what must be told of it."""
+    framework = _framework(crystal, group[0])
+    notes = _partial_notes(crystal, framework.net, options) + _told_copies(group)
+    is_auto = options.convention == AUTO
+    nets: list[Net] = []
+    seen: dict[tuple, str] = {}
+    unfit: dict[str, list[str]] = {}
+    for convention in conventions_for(options.convention, framework):
+        try:
+            simple = _read_by(convention, framework, group[0].dimension)
+        except Refused as reason:
+            if not is_auto:
+                raise Refused(f"{convention.name} does not apply: {reason}") from reason
+            unfit.setdefault(str(reason), []).append(convention.name)
+            continue
+        sequences = shells(simple.net) if is_auto else ()
+        if sequences in seen:
+            text = f"{convention.name}: the net of {seen[sequences]}, by its coordination sequences"
+            notes.append(Note(CONVENTION, text))
+            continue
+        seen[sequences] = convention.name
+        nets.append(_named_by(convention, _name_of(crystal, k), group, framework, simple, is_auto))
+    notes += [Note(CONVENTION, f"{' and '.join(names)} {'do' if len(names) > 1 else 'does'} not apply: {reason}")
+              for reason, names in unfit.items()]
+    if not nets:
+        nets = _named(crystal, group, k, replace(options, convention="all-atoms"))
+        notes = notes[len(nets[0].notes):]
+    return [nets[0].noted(before=notes), *nets[1:]]
+
+
+def _read_by(convention: Convention, framework: Framework, dimension: int) -> Contracted:
+    """The simplified net by a convention; raises Refused where it does not apply, or where no net
+    of this dimension is left. A net of all atoms stays one, whatever is simplified."""
+    net = convention.apply(framework)
+    simple = contracted(net)
+    if net is not framework.net and [piece.dimension for piece in pieces_of(simple.net)] != [dimension]:
+        raise Refused("what is left is not one net")
+    return simple
+
+
+def _named_by(convention: Convention, name: str, group: list[Piece], framework: Framework, simple: Contracted,
+              is_auto: bool) -> Net:
+    edges = Counter(framework.element[n] for n in simple.made_edges)
+    told = f", made edges: {_told_counter(edges)}" if edges and convention.name == "all-atoms" else ""
+    made = f"{len(group[0].net.vertices)} atoms{told}; {convention.name}: {convention.text} ({convention.source})"
+    notes = _told_simplification(simple)
+    if is_auto or convention.name != "all-atoms":
+        notes.insert(0, Note(CONVENTION, f"{convention.name}: {convention.text} ({convention.source})"))
+    return _net(f"{name} {convention.name}" if is_auto else name, simple,
+                Provenance(tuple(notes), convention.name, made, _copies(group)))
+
+
+def _net(name: str, simple: Contracted, provenance: Provenance) -> Net:
+    return Net.of_graph(simple.net.named(written_name(name)), name, provenance)
+
+
+def _copies(group: list[Piece]) -> int:
+    """How many pieces of the crystal one of a group stands for."""
+    return len(group) * group[0].copies
+
+
+def _told_copies(group: list[Piece]) -> list[Note]:
+    count = _copies(group)
+    return [Note(OTHER, f"{count} {COPIES[group[0].dimension]} alike in the cell, one is written")] if count > 1 else []
+
+
+def _told_simplification(simple: Contracted) -> list[Note]:
+    told = []
+    if simple.doubled:
+        told.append(Note(OTHER, f"{simple.doubled} double edges made one"))
+    if simple.closed:
+        told.append(Note(OTHER, f"{simple.closed} rings of one vertex left out"))
+    return told
+
+
+def _partial_notes(crystal: Crystal, core: QuotientGraph, options: Options) -> list[Note]:
+    names = set(core.vertices)
+    partial = sorted({f"{a.site.label} {a.occupancy:.2f}" for a in crystal.atoms
+                      if a.name in names and a.occupancy < FULL})
+    if not partial:
+        return []
+    text = "partly occupied atoms of the net: " + shorten(", ".join(partial))
+    if not options.partial_as_full:
+        raise Refused(text + " (--partial-as-full takes them as full)")
+    return [Note(DISORDER, text)]

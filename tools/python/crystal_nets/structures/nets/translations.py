@@ -1,0 +1,195 @@
+"""A net over all its own translations, where its cell is several times the primitive one, as in
+files without symmetry and cells of molecular dynamics.
+
+A translation is proposed by the barycentric placement, as the step from one vertex to another, and
+then tested: it is taken where it carries every edge to an edge. So the places may be floating-point
+numbers; what is tested are whole numbers."""
+
+from __future__ import annotations
+
+from collections import Counter
+from dataclasses import dataclass
+from fractions import Fraction
+from math import lcm
+
+import numpy as np
+from scipy.sparse import coo_matrix
+from scipy.sparse.linalg import splu
+from scipy.spatial import cKDTree
+
+from ...graph import QuotientGraph, edge
+from ...lattice import Vector, coordinates, staircase
+
+SAME_PLACE = 1e-6  # in edges of the cell, between vertices of the placement
+
+
+@dataclass(frozen=True)
+class Translation:
+    """A translation of a net: where each vertex of cell 0 comes to, and how far it goes."""
+
+    image: np.ndarray   # of each vertex the number of the one that it is carried to
+    shift: np.ndarray   # and the cell of that, one row for each vertex
+    step: tuple[Fraction, ...]  # in edges of the cell
+
+
+def divided_by_translations(net: QuotientGraph) -> QuotientGraph:
+    """The net over the lattice of all its translations; the same net where it has no others."""
+    translations = _translations(net)
+    if not translations:
+        return net
+    denominator = lcm(*(part.denominator for t in translations for part in t.step))
+    dimension = len(translations[0].step)
+    units = [tuple(denominator * (i == k) for k in range(dimension)) for i in range(dimension)]
+    basis = staircase(units + [tuple(int(part * denominator) for part in t.step) for t in translations])
+    return _over(net, translations, basis, denominator)
+
+
+def _over(net: QuotientGraph, translations: list[Translation], basis: list[Vector], denominator: int) -> QuotientGraph:
+    """The net with one vertex for each orbit of the translations, over the basis, which is in
+    units of 1/denominator."""
+    first, moved = _orbits(net, translations)
+    number = {v: k for k, v in enumerate(sorted(set(first)))}
+    edges = []
+    for u, v, shift in net.edges:
+        step = (denominator * s + int(denominator * (b - a)) for s, a, b in zip(shift, moved[u], moved[v]))
+        edges.append(edge(number[first[u]], number[first[v]], coordinates(tuple(step), basis)))
+    return QuotientGraph.of((net.vertices[v] for v in sorted(number)), edges, net.dimension, net.name)
+
+
+def _orbits(net: QuotientGraph, translations: list[Translation]) -> tuple[list[int], list[tuple[Fraction, ...]]]:
+    """Of each vertex the first of its orbit, and the translation that carries that to it."""
+    count, dimension = len(net.vertices), len(translations[0].step)
+    first = [-1] * count
+    moved = [(Fraction(0),) * dimension] * count
+    for start in range(count):
+        if first[start] >= 0:
+            continue
+        first[start] = start
+        reached = [start]
+        for v in reached:
+            for t in translations:
+                w = int(t.image[v])
+                if first[w] < 0:
+                    first[w] = start
+                    moved[w] = tuple(a + b - int(c) for a, b, c in zip(moved[v], t.step, t.shift[v]))
+                    reached.append(w)
+    return first, moved
+
+
+def _translations(net: QuotientGraph) -> list[Translation]:
+    """Translations that, with those of the cell, make all of the net; where several vertices have
+    one place, there may be others."""
+    places = _placement(net)
+    if places is None:
+        return []
+    proposals = Proposals(net, places)
+    start, others = _rarest(net)
+    found: list[Translation] = []
+    done = {start}
+    for other in others:
+        if other in done:
+            continue
+        translation = proposals.translation(start, other)
+        if translation is not None:
+            found.append(translation)
+            done = _orbit(start, found)
+    return found
+
+
+class Proposals:
+    """Translations of a net that its places propose, and the test of them."""
+
+    def __init__(self, net: QuotientGraph, places: np.ndarray) -> None:
+        self.places = places
+        self.tails, self.heads, self.shifts = _arcs(net)
+        self.tree = cKDTree(places % 1.0 % 1.0, boxsize=1.0)
+        self.known = set(zip(self.tails.tolist(), self.heads.tolist(), map(tuple, self.shifts.tolist())))
+
+    def translation(self, start: int, other: int) -> Translation | None:
+        """The translation that carries one vertex to another, where there is one: first the arcs
+        of the one are tested, and then all."""
+        step = self.places[other] - self.places[start]
+        if self._carried(step, np.flatnonzero(self.tails == start)) is None:
+            return None
+        carried = self._carried(step, np.arange(len(self.tails)))
+        if carried is None:
+            return None
+        image, shift = carried
+        if len(np.unique(image)) < len(image):
+            return None
+        return Translation(image, shift, _step(image, shift))
+
+    def _carried(self, step: np.ndarray, arcs: np.ndarray) -> tuple[np.ndarray, np.ndarray] | None:
+        """Where the ends of arcs are carried to, by their numbers, where each arc becomes one."""
+        ends = np.unique(np.concatenate((self.tails[arcs], self.heads[arcs])))
+        moved = self.places[ends] + step
+        distance, nearest = self.tree.query(moved % 1.0 % 1.0, distance_upper_bound=SAME_PLACE)
+        if np.any(np.isinf(distance)):
+            return None
+        image = np.zeros(len(self.places), dtype=int)
+        shift = np.zeros_like(self.places, dtype=int)
+        image[ends], shift[ends] = nearest, np.rint(moved - self.places[nearest])
+        tails, heads = self.tails[arcs], self.heads[arcs]
+        shifts = (self.shifts[arcs] + shift[heads] - shift[tails]).tolist()
+        carried = zip(image[tails].tolist(), image[heads].tolist(), map(tuple, shifts))
+        return (image, shift) if all(arc in self.known for arc in carried) else None
+
+
+def _orbit(start: int, found: list[Translation]) -> set[int]:
+    reached = [start]
+    seen = {start}
+    for v in reached:
+        for t in found:
+            w = int(t.image[v])
+            if w not in seen:
+                seen.add(w)
+                reached.append(w)
+    return seen
+
+
+def _placement(net: QuotientGraph) -> np.ndarray | None:
+    """The barycentric placement in edges of the cell, with vertex 0 at the origin."""
+    tails, heads, shifts = _arcs(net)
+    is_step = tails != heads
+    count = len(net.vertices)
+    if count < 2:
+        return None
+    rows = np.concatenate((tails[is_step], tails[is_step]))
+    columns = np.concatenate((tails[is_step], heads[is_step]))
+    values = np.concatenate((np.ones(is_step.sum()), -np.ones(is_step.sum())))
+    laplacian = coo_matrix((values, (rows, columns)), shape=(count, count)).tocsc()[1:, 1:]
+    sums = np.zeros((count, shifts.shape[1]))
+    np.add.at(sums, tails[is_step], shifts[is_step])
+    try:
+        rest = splu(laplacian).solve(sums[1:])
+    except RuntimeError:  # it is singular: the net is not connected
+        return None
+    return np.vstack((np.zeros(shifts.shape[1]), rest))
+
+
+def _arcs(net: QuotientGraph) -> tuple[np.ndarray, np.ndarray, np.ndarray]:
+    """Tails, heads and shifts of all arcs, each edge in both its directions."""
+    tails = np.array([u for u, _, _ in net.edges] + [v for _, v, _ in net.edges])
+    heads = np.array([v for _, v, _ in net.edges] + [u for u, _, _ in net.edges])
+    shifts = np.array([s for _, _, s in net.edges])
+    return tails, heads, np.vstack((shifts, -shifts))
+
+
+def _rarest(net: QuotientGraph) -> tuple[int, list[int]]:
+    """A vertex of the kind that is rarest, by its neighbours' numbers of neighbours, and the others
+    of that kind."""
+    arcs = net.arcs()
+    kinds = [tuple(sorted(len(arcs[w]) for w, _ in near)) for near in arcs]
+    count = Counter(kinds)
+    kind = min(count, key=lambda k: (count[k], k))
+    start, *others = [v for v, k in enumerate(kinds) if k == kind]
+    return start, others
+
+
+def _step(image: np.ndarray, shift: np.ndarray) -> tuple[Fraction, ...]:
+    """How far a translation goes: vertex 0 comes to itself after some times, some cells on."""
+    at, times, total = int(image[0]), 1, shift[0].copy()
+    while at != 0:
+        total += shift[at]
+        at, times = int(image[at]), times + 1
+    return tuple(Fraction(int(part), times) for part in total)

@@ -1,0 +1,94 @@
+"""The crystal of a block of a CIF file."""
+
+from __future__ import annotations
+
+import gemmi
+import numpy as np
+
+from ..atoms.crystal import Crystal, Site
+from ..atoms.disorder import resolve_disorder
+from .document import Block, check_block
+from ..atoms.elements import elements_of_formula
+from ...provenance import DOUBT, SYMMETRY, Note
+from ..atoms.places import images_of, name_apart, take_once
+from ...refusal import Refused
+from ..atoms.sanity import check_metric, misfit_of
+from .sites import number_of, read_sites
+from .symmetry import Symmetry, both_origins, read_symmetry, text_of
+
+LONGEST_EDGE = 1000.0  # angstrom, of a unit cell
+MOST_ATOMS = 20_000    # of a primitive cell
+CELL_TAGS = ("length_a", "length_b", "length_c", "angle_alpha", "angle_beta", "angle_gamma")
+
+
+def read_crystal(block: Block) -> Crystal:
+    """The crystal of a block. Where its atoms cannot be right, or its group has two origins and
+    the file does not tell which, the origin is the one with which they fit. The notes of a block
+    that is refused stay in it."""
+    check_block(block)
+    cell = _read_cell(block.cif)
+    formula = elements_of_formula(text_of(block.cif, ("_chemical_formula_sum",)))
+    sites = read_sites(block.cif, formula, block.notes)
+    symmetry = read_symmetry(block.cif, cell)
+    check_metric(symmetry, cell)
+
+    def crystal_with(symmetry: Symmetry) -> Crystal:
+        crystal = _expand(block, sites, symmetry, cell)
+        crystal.misfit = misfit_of(crystal, formula)
+        return crystal
+
+    crystal = crystal_with(symmetry)
+    if symmetry.has_origin and not crystal.misfit:
+        return crystal
+    others = {other.source: crystal_with(other) for other in both_origins(block.cif, cell)}
+    fitting = {source: other for source, other in others.items() if not other.misfit}
+    if not symmetry.has_origin:
+        return _with_fewest_atoms(fitting) or crystal
+    for source, other in fitting.items():
+        other.notes.append(Note(DOUBT, f"the coordinates fit {source}, not the symmetry that is given"))
+        return other
+    return crystal
+
+
+def _with_fewest_atoms(by_origin: dict[str, Crystal]) -> Crystal | None:
+    """Of two origins the one with fewer atoms, since with the right one atoms are on symmetry
+    elements. It is told that there is a choice."""
+    if not by_origin:
+        return None
+    source, crystal = min(by_origin.items(), key=lambda pair: len(pair[1].atoms))
+    counts = {len(other.atoms) for other in by_origin.values()}
+    if len(by_origin) > 1:
+        reason = "as it gives fewer atoms" if len(counts) > 1 else "but both give as many atoms"
+        crystal.notes.append(Note(DOUBT, f"the origin is in doubt: {source} is taken, {reason}"))
+    return crystal
+
+
+def _read_cell(block: gemmi.cif.Block) -> gemmi.UnitCell:
+    """Raises Refused where the numbers are no cell of a crystal."""
+    values = [number_of(text_of(block, (f"_cell_{tag}",)), f"_cell_{tag}", absent=np.nan) for tag in CELL_TAGS]
+    if not np.all(np.isfinite(values)) or min(values) <= 0 or max(values[:3]) > LONGEST_EDGE:
+        raise Refused("no unit cell")
+    cell = gemmi.UnitCell(*values)
+    if not cell.is_crystal() or not cell.volume > 0.1:
+        raise Refused("no unit cell")
+    return cell
+
+
+def _expand(block: Block, sites: list[Site], symmetry: Symmetry, cell: gemmi.UnitCell) -> Crystal:
+    """The crystal of the sites and all their images, with one of the alternatives of disorder,
+    and those in one place taken as one atom."""
+    if len(sites) > MOST_ATOMS:
+        raise Refused(f"more than {MOST_ATOMS} atoms in a primitive cell")
+    to_angstrom = np.array(cell.orthogonalization_matrix.tolist()).T
+    crystal = Crystal(block.name, symmetry.lattice @ to_angstrom, [], list(block.notes))
+    if symmetry.source != "operations":
+        crystal.notes.append(Note(SYMMETRY, f"symmetry from {symmetry.source}"))
+    for site, images in zip(sites, images_of(sites, symmetry, crystal.cell)):
+        crystal.atoms += images
+        crystal.listed[site.element] = crystal.listed.get(site.element, 0.0) + len(images) * min(1.0, site.occupancy)
+        if len(crystal.atoms) > MOST_ATOMS:
+            raise Refused(f"more than {MOST_ATOMS} atoms in a primitive cell")
+    resolve_disorder(crystal)
+    take_once(crystal)
+    name_apart(crystal)
+    return crystal

@@ -1,0 +1,114 @@
+"""The symmetry operations of a CIF block, and the primitive lattice that they give."""
+
+from __future__ import annotations
+
+import re
+from dataclasses import dataclass
+from fractions import Fraction
+
+import gemmi
+import numpy as np
+
+from ...lattice import staircase
+from ...refusal import Refused
+
+OPERATION_TAGS = ("_space_group_symop_operation_xyz", "_symmetry_equiv_pos_as_xyz",
+                  "_space_group_symop.operation_xyz")
+HALL_TAGS = ("_space_group_name_Hall", "_symmetry_space_group_name_Hall")
+NAME_TAGS = ("_space_group_name_H-M_alt", "_symmetry_space_group_name_H-M",
+             "_space_group.name_H-M_full")
+NUMBER_TAGS = ("_space_group_IT_number", "_symmetry_Int_Tables_number")
+DECIMAL = re.compile(r"\d*\.\d+")
+OF_FRACTION = 0.001     # between a decimal of an operation and the fraction that it means
+ORIGINS = (":1", ":2")  # how the table of groups names the two, where there are two
+
+
+@dataclass(frozen=True)
+class Symmetry:
+    """The operations of a space group, without the translations of its lattice, and that."""
+
+    rotations: np.ndarray     # one 3 x 3 matrix for each coset of the translations
+    translations: np.ndarray  # one vector for each, in fractions of the cell
+    lattice: np.ndarray       # rows: a primitive basis, in fractions of the cell
+    source: str               # what the file gave
+    has_origin: bool = True   # whether it is certain which origin of the group is meant
+
+
+def text_of(block: gemmi.cif.Block, tags: tuple[str, ...]) -> str:
+    """The first value that one of the tags has, without quotes; or an empty text."""
+    for tag in tags:
+        for value in block.find_values(tag):
+            text = gemmi.cif.as_string(value).strip()
+            if text not in ("", "?", "."):
+                return text
+    return ""
+
+
+def read_symmetry(block: gemmi.cif.Block, cell: gemmi.UnitCell) -> Symmetry:
+    """Explicit operations before a Hall symbol, before a name, before a number."""
+    listed = [gemmi.cif.as_string(v) for tag in OPERATION_TAGS for v in block.find_values(tag)]
+    if listed:
+        return _symmetry(_listed_group(listed), "operations")
+    hall = text_of(block, HALL_TAGS)
+    if hall:
+        try:
+            return _symmetry(gemmi.symops_from_hall(hall), f"Hall symbol {hall}")
+        except (RuntimeError, ValueError):
+            pass  # the name may be better
+    name, number = _name_of(block), text_of(block, NUMBER_TAGS)
+    for what, text in (("name", name), ("number", _name_of_number(number))):
+        group = gemmi.find_spacegroup_by_name(text, cell.alpha, cell.gamma) if text else None
+        if group:
+            is_certain = ":" in text or not group.xhm().endswith(ORIGINS)
+            return _symmetry(group.operations(), f"{what} {group.xhm()}", is_certain)
+    if name or number not in ("", "1"):
+        raise Refused(f"space group {name or number} is not known")
+    return _symmetry(gemmi.GroupOps([gemmi.Op("x,y,z")]), "no symmetry given: P 1")
+
+
+def both_origins(block: gemmi.cif.Block, cell: gemmi.UnitCell) -> list[Symmetry]:
+    """The group of the name or number with each of its two origins, where the table has two."""
+    name = (_name_of(block) or _name_of_number(text_of(block, NUMBER_TAGS))).split(":")[0].strip()
+    groups = [gemmi.find_spacegroup_by_name(name + origin, cell.alpha, cell.gamma) for origin in ORIGINS if name]
+    return [_symmetry(group.operations(), group.xhm()) for group in groups if group]
+
+
+def _name_of(block: gemmi.cif.Block) -> str:
+    return text_of(block, NAME_TAGS).split("{")[0].strip()
+
+
+def _name_of_number(number: str) -> str:
+    """The Hermann-Mauguin name of a number other than 1."""
+    is_number = number.isascii() and number.isdigit() and len(number) < 4 and 1 < int(number) <= 230
+    return gemmi.find_spacegroup_by_number(int(number)).hm if is_number else ""
+
+
+def _symmetry(group: gemmi.GroupOps, source: str, has_origin: bool = True) -> Symmetry:
+    den = gemmi.Op.DEN
+    operations = group.sym_ops
+    rotations = np.array([op.rot for op in operations], dtype=float) / den
+    translations = np.array([op.tran for op in operations], dtype=float) / den
+    units = [tuple(den * (i == j) for j in range(3)) for i in range(3)]
+    rows = staircase(units + [tuple(c) for c in group.cen_ops])
+    return Symmetry(rotations, translations, np.array(rows, dtype=float) / den, source, has_origin)
+
+
+def _listed_group(listed: list[str]) -> gemmi.GroupOps:
+    """The group of the operations, if they are one. What is listed twice counts once."""
+    try:
+        operations = list(dict.fromkeys(gemmi.Op(DECIMAL.sub(_as_fraction, text)).wrap() for text in listed))
+        group = gemmi.GroupOps(operations)
+        group.add_missing_elements()
+    except (RuntimeError, ValueError) as error:
+        raise Refused(f"symmetry operations: {error}") from error
+    if len(group) != len(operations):
+        raise Refused(f"the {len(operations)} symmetry operations are no group")
+    return group
+
+
+def _as_fraction(found: re.Match[str]) -> str:
+    """The fraction that a decimal of an operation means, as 2/3 for 0.66667; the decimal itself,
+    where it means none that a space group has."""
+    value = float(found[0])
+    fraction = Fraction(round(value * gemmi.Op.DEN), gemmi.Op.DEN)
+    return f"{fraction.numerator}/{fraction.denominator}" if abs(value - fraction) < OF_FRACTION else found[0]

@@ -1,0 +1,4 @@
+"""Which atoms become one vertex.
+
+building_units  metal parts, linkers, rings and anions
+conventions     what is a vertex by the conventions of the field"""
