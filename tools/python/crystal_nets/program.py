@@ -18,10 +18,10 @@ from .texts.net_text import MOST_BLOCKS, MOST_BYTES, NoReport
 Result = TypeVar("Result")
 
 HERE = Path(__file__).resolve().parent
-PLACES = (  # beside the package in the repository, in an installation and in a Debian package; and elsewhere
-    HERE / "../../../crates/net_tool/out/net_tool", HERE / "../../../../../lib/net_tool/net_tool",
-    HERE / "../../../net_tool/net_tool", Path("/usr/local/lib/net_tool/net_tool"), Path("/usr/lib/net_tool/net_tool"))
-HOW_TO_BUILD = ("net_tool is not there: in the folder of its repository `./net_tool check examples/dia.cgd` proves and builds "
+PLACES = (  # beside the package in the repository, built or released, in an installation and in a Debian package; and elsewhere
+    HERE / "../../../crates/net_tool/out/net_tool", HERE / "../../../release/net_tool",
+    HERE / "../../../../../lib/net_tool/net_tool", HERE / "../../../net_tool/net_tool", Path("/usr/local/lib/net_tool/net_tool"), Path("/usr/lib/net_tool/net_tool"))
+HOW_TO_BUILD = ("net_tool is not there: in the folder of its repository `./net_tool --prove` proves and builds "
                 "it, and `tools/install/install.sh /usr/local` installs it; NET_TOOL names one that is elsewhere")
 STATUSES = {2: "it does not know the arguments", 3: "a file could not be read", 4: "it could not write",
             6: "the text has more than 16,777,216 bytes", 7: "memory was refused", 8: "there are more than 4,096 blocks",
