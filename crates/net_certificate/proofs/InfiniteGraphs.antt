@@ -1,5 +1,5 @@
 -- Keys that differ refute each bijection that joins alike, so the answer that nets are different does; and each other answer has equal keys.
-use Rattle.std.proofs.Common.{◌≡◌, List, [], ◌∷◌, refl, subst, sym}
+use Rattle.std.proofs.Common.{◌≡◌, ℕ, ◌-◌, List, [], ◌∷◌, refl, subst, sym}
 use Rattle.std.specs.Prelude.{◌↔◌}
 use Rattle.periodic_net.specs.{Graph.Graph, Graph.IsGraph, Maps.BareIso}
 use Rattle.key_theory.{specs.Key.Shape, proofs.CallerLemmas.keys_decide_bare, proofs.CallerLemmas.other_keys_refute}
@@ -40,12 +40,12 @@ different_by G H (WideMap value) t = (λ e. absurd (cc), λ n. absurd (n t))
 different_by G H (Found map) t = (λ e. absurd (cc), λ n. absurd (n t))
 
 -- so do all items
-pub items_apart : (first : KeyedNet) (room : _) (nets : List KeyedNet) (items : List ItemView) → AreItemsOf first room nets items
+pub items_apart : (first : KeyedNet) (room : ℕ) (nets : List KeyedNet) (items : List ItemView) → AreItemsOf first room nets items
     → AreToldApart first nets items
 items_apart first room [] [] h = tt
 items_apart first room (net ∷ nets) (item ∷ items) h = (
   subst (λ (i : ItemView). (i ≡ Without why.Different) ↔ (¬ BareIso first.placed.graph net.placed.graph)) (sym h.0.item_is)
       (different_by first.placed.graph net.placed.graph h.0.answer (answers_tell_graphs first net room h.0.answer h.0.is_answer)),
-  items_apart first _ nets items h.1,
+  items_apart first (room - images_in item) nets items h.1,
 )
 items_apart first room nets items h = absurd h
