@@ -52,6 +52,7 @@ class Crystal:
     atoms: list[Atom]
     notes: list[Note] = field(default_factory=list)
     listed: dict[str, float] = field(default_factory=dict)  # the elements before disorder is resolved
+    formula: dict[str, float] = field(default_factory=dict)  # as the file gives it
     clash: str = ""    # labels of different full atoms in one place
     misfit: str = ""   # why the atoms of the cell cannot be right
 

@@ -34,6 +34,7 @@ def read_crystal(block: Block) -> Crystal:
 
     def crystal_with(symmetry: Symmetry) -> Crystal:
         crystal = _expand(block, sites, symmetry, cell)
+        crystal.formula = formula
         crystal.misfit = misfit_of(crystal, formula)
         return crystal
 
