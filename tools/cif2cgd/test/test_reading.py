@@ -57,7 +57,7 @@ class Reading(unittest.TestCase):
         content = text if isinstance(text, bytes) else text.encode()
         done = convert(Source("test.cif", "test.cif", "test"), content, Options(**options))
         self.assertEqual(done.is_refused, bool(status), done.told(refusals_alone=False))
-        rows = [line for line in done.text.splitlines() if not line.startswith(("#", "NAME"))]
+        rows = [line for line in done.text.decode().splitlines() if not line.startswith(("#", "NAME"))]
         return "\n".join(rows), "\n".join([*done.told(refusals_alone=False), ""])
 
 

@@ -7,7 +7,7 @@ from dataclasses import dataclass, field
 import numpy as np
 
 from ..bonds.contacts import Contact, Wanted, contacts
-from ...provenance import Note
+from ...provenance import DOUBT, Note
 
 FULL = 0.99  # an occupancy from here on counts as full
 
@@ -52,8 +52,14 @@ class Crystal:
     atoms: list[Atom]
     notes: list[Note] = field(default_factory=list)
     listed: dict[str, float] = field(default_factory=dict)  # the elements before disorder is resolved
+    formula: dict[str, float] = field(default_factory=dict)  # as the file gives it
     clash: str = ""    # labels of different full atoms in one place
     misfit: str = ""   # why the atoms of the cell cannot be right
+
+    def noted_doubt(self, text: str) -> Crystal:
+        """The crystal with a doubt in its notes, where there is one."""
+        self.notes += [Note(DOUBT, text)] if text else []
+        return self
 
     def contacts(self, reach: float, wanted: Wanted | None = None) -> list[Contact]:
         return contacts(self.cell, np.array([atom.place for atom in self.atoms]), reach, wanted)

@@ -11,6 +11,7 @@ from collections.abc import Iterable
 from dataclasses import replace
 
 from ..bonds.contacts import Contact, radius
+from ..bonds.lengths import shortest_of_nonmetals
 from .crystal import FULL, Atom, Crystal
 from .elements import is_metal
 from ...lattice import Vector, subtract
@@ -19,7 +20,6 @@ from ...provenance import DISORDER, Note, shorten
 SAME_PLACE = 0.3   # angstrom: atoms that are nearer share one place
 ONE_REGION = 3.0   # angstrom: atoms of groups that are nearer are alternatives of one region
 COVALENT = 0.30    # angstrom above the sum of the radii: images of a group that are nearer exclude each other
-OVERLAP = 0.82     # times the sum of the radii: two atoms that are nearer are never there at once
 BONDED = 0.15      # angstrom above the sum of the radii: atoms of one molecule
 ANGLE = 2.0        # angstrom: two atoms that are not bonded and nearer than this have no room at a third
 MOST_PARTS = 0.9   # the occupancies of alternatives add up to this at least
@@ -164,21 +164,30 @@ def _overlaps_and_bonds(atoms: list[Atom], partial: set[int], near: list[Contact
     """Of each partly occupied atom those that it cannot be beside, and those that it is bonded to. Two
     that are near each other and bonded to one atom are alternatives, since molecules have few rings of
     three."""
-    limit = {c: radius(atoms[c.first].site.element) + radius(atoms[c.second].site.element) for c in near}
+    longest = {c: radius(atoms[c.first].site.element) + radius(atoms[c.second].site.element) + BONDED for c in near}
     around: dict[int, set[tuple[int, Vector]]] = defaultdict(set)
     for c in near:
-        if OVERLAP * limit[c] <= c.length <= limit[c] + BONDED:
+        if _shortest(atoms, c) <= c.length <= longest[c]:
             around[c.first].add((c.second, c.shift))
+    beside = {v: sum(not is_metal(atoms[w].site.element) for w, _ in others) - 1 for v, others in around.items()}
     excluded: dict[int, set[int]] = defaultdict(set)
     bonded: dict[int, set[int]] = defaultdict(set)
     for c in near:
         if c.first in partial and c.second in partial and c.first != c.second:
             has_common = any((w, subtract(s, c.shift)) in around[c.second] for w, s in around[c.first])
-            if has_common or not OVERLAP * limit[c] <= c.length <= limit[c] + BONDED:
+            if has_common or not _shortest(atoms, c, beside) <= c.length <= longest[c]:
                 excluded[c.first].add(c.second)
             else:
                 bonded[c.first].add(c.second)
     return excluded, bonded
+
+
+def _shortest(atoms: list[Atom], contact: Contact, beside: dict[int, int] | None = None) -> float:
+    """The shortest bond that the two atoms of a contact can have, by their elements and by their other neighbours:
+    a carbon with two others has no triple bond."""
+    one, other = contact.first, contact.second
+    return shortest_of_nonmetals(atoms[one].site.element, atoms[other].site.element,
+                                 (beside or {}).get(one, 0), (beside or {}).get(other, 0))
 
 
 def _one_set(atoms: list[Atom], excluded: dict[int, set[int]], bonded: dict[int, set[int]]

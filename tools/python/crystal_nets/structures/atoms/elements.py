@@ -9,6 +9,7 @@ import gemmi
 
 from ...refusal import Refused
 
+ANION_FORMERS = frozenset("H C N O F P S Cl As Se Br Te I At".split())
 WATER = re.compile(r"wat|ow\d*$", re.IGNORECASE)
 
 
@@ -16,6 +17,11 @@ WATER = re.compile(r"wat|ow\d*$", re.IGNORECASE)
 def is_metal(element: str) -> bool:
     """Whether it is joined, in a compound with nonmetals, to these alone."""
     return gemmi.Element(element).is_metal
+
+
+def makes_anions(element: str) -> bool:
+    """Whether it makes anions beside metals, so that bonds are those of metals to it."""
+    return element in ANION_FORMERS
 
 
 def is_water(label: str) -> bool:

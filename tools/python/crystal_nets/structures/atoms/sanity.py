@@ -16,12 +16,17 @@ MOST_MISFIT = 1.2   # between the proportions of a cell and of its formula
 
 def check_metric(symmetry: Symmetry, cell: gemmi.UnitCell) -> None:
     """Raises Refused where an operation does not keep the lengths and angles of the cell."""
+    if not keeps_metric(symmetry, cell):
+        raise Refused("the cell has not the symmetry that is given")
+
+
+def keeps_metric(symmetry: Symmetry, cell: gemmi.UnitCell) -> bool:
+    """Whether all operations keep the lengths and angles of the cell."""
     edges = np.array(cell.orthogonalization_matrix.tolist()).T
     metric = edges @ edges.T
     turned = np.swapaxes(symmetry.rotations, 1, 2) @ metric @ symmetry.rotations
     scale = np.sqrt(np.outer(np.diag(metric), np.diag(metric)))
-    if np.max(np.abs(turned - metric) / scale) > MOST_STRAIN:
-        raise Refused("the cell has not the symmetry that is given")
+    return bool(np.max(np.abs(turned - metric) / scale) <= MOST_STRAIN)
 
 
 def misfit_of(crystal: Crystal, formula: dict[str, float]) -> str:

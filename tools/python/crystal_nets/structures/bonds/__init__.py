@@ -1,5 +1,9 @@
 """Which atoms are joined.
 
 contacts  distances, and the radii that they are judged by
+lengths   the shortest bonds of two elements, and single bonds
 rules     the rules by which atoms are joined
+shells    elements and intermetallics: nearest shells
+metals    two metals beside anions
+ices      nets of water
 hydrogen  hydrogen bonds"""

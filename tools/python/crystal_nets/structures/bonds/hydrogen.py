@@ -1,4 +1,4 @@
-"""Hydrogen bonds, as edges from donor to acceptor: in ices, and elsewhere when asked for."""
+"""Hydrogen bonds that the file's hydrogen atoms show, as edges from donor to acceptor."""
 
 from __future__ import annotations
 
@@ -13,20 +13,9 @@ from ...graph import Edge, edge
 from ...lattice import subtract
 
 ACCEPTORS = frozenset(("N", "O", "F"))
-LONGEST_O_O = 3.0       # angstrom, in ices whose hydrogen atoms are not given
 LONGEST_DONOR = 1.5     # angstrom, from H to the nearer end
 LONGEST_ACCEPTOR = 2.4  # angstrom, from H to the farther end
 LEAST_ANGLE = 140.0     # degrees at H
-
-
-def ice_bonds(crystal: Crystal) -> set[Edge]:
-    """Oxygens joined through a hydrogen, or by their distance where none is given."""
-    bridges = hydrogen_bridges(crystal)
-    if bridges:
-        return bridges
-    elements = [atom.site.element for atom in crystal.atoms]
-    return {c.edge() for c in crystal.contacts(LONGEST_O_O)
-            if elements[c.first] == elements[c.second] == "O"}
 
 
 def hydrogen_bridges(crystal: Crystal) -> set[Edge]:

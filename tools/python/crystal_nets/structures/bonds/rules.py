@@ -9,22 +9,23 @@ import numpy as np
 
 from .contacts import TOO_NEAR, Contact, Wanted, radius
 from ..atoms.crystal import FULL, Crystal
-from ..atoms.elements import is_metal, is_water
-from .hydrogen import hydrogen_bridges, ice_bonds
+from ..atoms.elements import is_metal, makes_anions
+from .hydrogen import hydrogen_bridges
+from .ices import hydrate_bonds, ice_bonds, is_ice
+from .lengths import SHARE, shortest_of_metal, shortest_of_nonmetals
+from .metals import is_metal_rich, metal_pairs
+from .shells import COVALENT, ROUNDING, shell_bonds
 from ...graph import Edge
 from ...lattice import add
 
 Lengths = dict[frozenset[str], float]  # of a pair of elements, the longest bond in angstrom
 
-COVALENT = 0.30   # angstrom above the sum of the radii: the longest bond of two nonmetals
-POLAR = 0.50      # the same for a metal and a nonmetal
+INTERMETALLIC = "intermetallic"  # the mode in which all contacts count, by the gaps between them
+
+POLAR = 0.50      # angstrom above the sum of the radii: the longest bond of a metal and a nonmetal
 STRETCHED = 0.80  # the same where it is among the shortest of the atom
 NEARLY = 1.10     # times the shortest from the same atom to the same element
 CLOSE = 0.05      # from one of these bounds, or less: told as a doubt
-ROUNDING = 1e-6   # angstrom
-SHELL_GAP = 1.13  # times the length before: the step that ends the shell of a metal
-SHELL_CLOSE = 0.02  # from that step, or less: told as a doubt
-LONG = 0.50        # angstrom above the radii: neighbours in a nonmetal that are farther are told as a doubt
 # Two oxygens or fluorines that are not joined are at least so far from each other, in angstrom: it
 # is 2.14 in nitrates, and 2.16 in carbon tetrafluoride. Those that are nearer are told as a doubt.
 LEAST_APART = 2.10
@@ -37,19 +38,32 @@ BETWEEN_ANIONS = {"O": ((1.22, 1.35), (1.40, 1.60)), "S": ((1.85, 2.30),), "Se":
                   "Si": ((2.20, 2.50),), "Ge": ((2.30, 2.65),), "F": (), "Cl": (), "Br": (), "I": ((2.60, 3.10),)}
 
 
-def find_bonds(crystal: Crystal, hydrogen_bonds: bool, lengths: Lengths, doubts: list[str]) -> set[Edge]:
-    """The bonds by the rule that fits the elements of the crystal, but of the pairs that have
+def find_bonds(crystal: Crystal, hydrogen_bonds: bool, lengths: Lengths, doubts: list[str], mode: str = "") -> set[Edge]:
+    """The bonds by the rule that fits the elements of the crystal, or by that of a mode, but of the pairs that have
     a length, all up to it; lengths that are close to a bound are told as doubts."""
-    elements = {atom.site.element for atom in crystal.atoms}
-    has_hydrogens = any(atom.site.hydrogens for atom in crystal.atoms)
-    if elements == {"O", "H"} or (elements == {"O"} and (has_hydrogens or is_water(crystal.atoms[0].site.label))):
-        bonds = ice_bonds(crystal)
-    elif all(map(is_metal, elements)) or (len(elements) == 1 and not has_hydrogens):
+    if mode == INTERMETALLIC:
+        bonds = shell_bonds(crystal, doubts)
+    elif is_ice(crystal):
+        bonds = ice_bonds(crystal, doubts)
+    elif is_metal_rich(crystal):
+        doubts.append("metals outnumber the others so far that it is taken as an intermetallic")
+        metals = frozenset(filter(is_metal, (atom.site.element for atom in crystal.atoms)))
+        bonds = radius_bonds(crystal, []) | shell_bonds(crystal, doubts, metals)
+    elif _has_shells(crystal):
         bonds = shell_bonds(crystal, doubts)
     else:
         bonds = radius_bonds(crystal, doubts)
-        bonds |= hydrogen_bridges(crystal) if hydrogen_bonds else set()
+        bonds |= hydrogen_bridges(crystal) if hydrogen_bonds else hydrate_bonds(crystal, bonds, doubts)
     return with_lengths(crystal, bonds, lengths) if lengths else bonds
+
+
+def _has_shells(crystal: Crystal) -> bool:
+    """Whether all contacts count, by the gaps between them: in elements, and in compounds of metals where nothing
+    makes anions. Boron and silicon make none there, as in Nb3Si, which is as Nb3Sn."""
+    elements = {atom.site.element for atom in crystal.atoms}
+    if len(elements) == 1:
+        return not any(atom.site.hydrogens for atom in crystal.atoms)
+    return any(map(is_metal, elements)) and not any(map(makes_anions, elements))
 
 
 def with_lengths(crystal: Crystal, bonds: set[Edge], lengths: Lengths) -> set[Edge]:
@@ -60,47 +74,6 @@ def with_lengths(crystal: Crystal, bonds: set[Edge], lengths: Lengths) -> set[Ed
     near = crystal.contacts(max(lengths.values()) + 0.001)
     return ({bond for bond in bonds if pair(bond.u, bond.v) not in lengths}
             | {c.edge() for c in near if c.length <= lengths.get(pair(c.first, c.second), 0.0)})
-
-
-def shell_bonds(crystal: Crystal, doubts: list[str]) -> set[Edge]:
-    """Each atom and its nearest shell, up to the first gap in the distances."""
-    bonds, close = set(), set()
-    for near in _contacts_by_atom(crystal):
-        lengths = [c.length for c in near]
-        end = first_gap(lengths)
-        bonds |= {c.edge() for c in near[:end]}
-        close |= {f"{end} neighbours up to {lengths[end - 1]:.2f}, {other} up to {lengths[other - 1]:.2f}"
-                  for other in {first_gap(lengths, -SHELL_CLOSE), first_gap(lengths, SHELL_CLOSE)} - {end}}
-        close |= _too_long(crystal, near[end - 1])
-    doubts += sorted(close)
-    return bonds
-
-
-def _too_long(crystal: Crystal, contact: Contact) -> set[str]:
-    """The doubt that two atoms of a nonmetal are farther from each other than its bonds are long."""
-    one, other = (crystal.atoms[v].site.element for v in (contact.first, contact.second))
-    is_long = not is_metal(one) and contact.length > radius(one) + radius(other) + LONG
-    return {f"{one}-{other} {contact.length:.2f} taken, longer than a bond"} if is_long else set()
-
-
-def _contacts_by_atom(crystal: Crystal) -> list[list[Contact]]:
-    """Of each atom its contacts by length, up to 1.6 times its nearest at least."""
-    reach = 3.0
-    while True:
-        by_atom: list[list[Contact]] = [[] for _ in crystal.atoms]
-        for contact in crystal.contacts(reach):
-            by_atom[contact.first].append(contact)
-        for near in by_atom:
-            near.sort(key=lambda c: c.length)
-        if all(near and 1.6 * near[0].length <= reach for near in by_atom):
-            return by_atom
-        reach *= 1.5
-
-
-def first_gap(lengths: list[float], more: float = 0.0) -> int:
-    """How many of the rising lengths stand before the first great step."""
-    steps = range(1, len(lengths))
-    return next((k for k in steps if lengths[k] > (SHELL_GAP + more) * lengths[k - 1]), len(lengths))
 
 
 def radius_bonds(crystal: Crystal, doubts: list[str]) -> set[Edge]:
@@ -118,12 +91,34 @@ def radius_bonds(crystal: Crystal, doubts: list[str]) -> set[Edge]:
     ratio = {c: c.length / shortest[c.first, elements[c.second]] for c in polar}
     taken = [c for c in polar if _is_taken(excess[c], ratio[c])]
     covalent = _without_between_anions(covalent, taken, elements, doubts)
-    edges = {c.edge() for c in covalent + taken}
+    pairs = metal_pairs(crystal, taken)
+    edges = {c.edge() for c in covalent + taken + pairs.bonds}
     close = {f"{elements[c.first]}-{elements[c.second]} {c.length:.2f} "
              + ("taken" if c.edge() in edges else "left out")
              for c in polar if is_metal(elements[c.first]) and _is_close(excess[c], ratio[c])}
-    doubts += sorted(close | _too_near(crystal, (c for c, more in excess.items() if more > COVALENT)))
+    doubts += sorted(close | pairs.doubts | _too_short(crystal, covalent, taken)
+                     | _too_near(crystal, (c for c, more in excess.items() if more > COVALENT)))
     return edges
+
+
+def _too_short(crystal: Crystal, covalent: list[Contact], polar: list[Contact]) -> set[str]:
+    """The doubts about bonds that are shorter than any that is known of these elements and neighbours."""
+    elements = [atom.site.element for atom in crystal.atoms]
+    around: dict[int, list[float]] = defaultdict(list)
+    for c in covalent + polar:
+        around[c.first].append(c.length)
+
+    def beside(v: int, length: float) -> int:
+        """How many other bonds of an atom are about as short."""
+        return sum(other <= SHARE * length for other in around[v]) - 1
+
+    short = {c for c in covalent if "H" not in (elements[c.first], elements[c.second])
+             and c.length < shortest_of_nonmetals(elements[c.first], elements[c.second],
+                                                  beside(c.first, c.length), beside(c.second, c.length))}
+    short |= {c for c in polar if is_metal(elements[c.first]) and elements[c.second] != "H" and c.length
+              < shortest_of_metal(elements[c.first], elements[c.second], beside(c.second, c.length))}
+    return {f"{'-'.join(sorted((elements[c.first], elements[c.second])))} {c.length:.2f} taken, too short for a bond"
+            for c in short}
 
 
 def _too_near(crystal: Crystal, contacts: Iterable[Contact]) -> set[str]:

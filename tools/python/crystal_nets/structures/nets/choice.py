@@ -18,11 +18,11 @@ from ..bonds.hydrogen import hydrogen_bridges
 from ..bonds.rules import Lengths, find_bonds
 from ..units.building_units import units_of
 from ..units.conventions import AUTO, Convention, Framework, conventions_for
+from .guests import without_guests
 from .pieces import Piece, pieces_of
-from .simplification import Contracted, contracted, shells, without_ends
+from .simplification import Contracted, contracted, sequences_of, shells, without_ends
 
-# Left out where the other atoms make a net in space without them.
-COUNTER_IONS = frozenset("Na K Rb Cs Ca Sr Ba".split())
+MOST_TOLD = 600  # letters of the doubts about bonds
 KINDS = ("molecule", "rod", "layer", "net in space")  # by dimension
 COPIES = ("molecules", "rods", "layers", "interwoven nets")
 
@@ -51,7 +51,7 @@ def nets_of(crystal: Crystal, options: Options, notes: list[Note]) -> list[Net]:
     chosen = _with_atoms_chosen(crystal, bonds, options, notes)
     pieces = pieces_of(chosen)
     if doubts:
-        notes.append(Note(DOUBT, "bonds in doubt: " + shorten("; ".join(doubts))))
+        notes.append(Note(DOUBT, "bonds in doubt: " + shorten("; ".join(doubts), MOST_TOLD)))
     periodic = [piece for piece in pieces if piece.dimension >= 2]
     has_layers = any(piece.dimension == 2 for piece in periodic)
     if has_layers and all(is_metal(atom.site.element) for atom in crystal.atoms):
@@ -89,18 +89,11 @@ def _nets_of_molecules(crystal: Crystal, bonded: QuotientGraph, options: Options
 
 def _with_atoms_chosen(crystal: Crystal, bonds: set[Edge], options: Options, notes: list[Note]
                        ) -> QuotientGraph:
-    """The net of all atoms but those to be left out, and the counter-ions of a framework."""
+    """The net of all atoms but those to be left out, and the guests of a framework."""
     elements = [atom.site.element for atom in crystal.atoms]
     net = QuotientGraph.of((atom.name for atom in crystal.atoms), bonds)
     kept = [v for v, e in enumerate(elements) if e not in options.leave_out]
-    frame = [v for v in kept if elements[v] not in COUNTER_IONS]
-    if options.keep_ions or len(frame) == len(kept):
-        return net.part(kept)
-    if not any(piece.dimension == 3 for piece in pieces_of(net.part(frame))):
-        return net.part(kept)
-    ions = Counter(elements[v] for v in kept if elements[v] in COUNTER_IONS)
-    notes.append(Note(LEFT_OUT, "left out as counter-ions: " + _told_counter(ions)))
-    return net.part(frame)
+    return net.part(kept) if options.keep_ions else without_guests(crystal, net, kept, notes)
 
 
 def _told_counter(counter: Counter[str]) -> str:
@@ -120,20 +113,22 @@ def _told_pieces(pieces: list[Piece], element: dict[str, str]) -> list[Note]:
 
 
 def _alike(pieces: list[Piece], crystal: Crystal) -> list[list[Piece]]:
-    """The pieces by what they are made of: those of the same sites are images of each other. So are,
-    in a file without symmetry, those of the same elements with the same coordination sequences."""
-    atoms = {atom.name: atom.site for atom in crystal.atoms}
-    by_site: dict[tuple, list[Piece]] = {}
-    for piece in pieces:
-        sites = tuple(sorted(atoms[str(name)].label for name in piece.net.vertices))
-        by_site.setdefault((piece.dimension, piece.copies, len(piece.net.edges), sites), []).append(piece)
-    if len(by_site) == 1:
-        return list(by_site.values())
+    """The pieces that are one net, as far as coordination sequences tell: those of the same dimension, copies and
+    elements, whose vertices have the same numbers of neighbours, and whose simplified nets have the same sequences, each
+    as often. Labels tell nothing: two layers may have the same."""
+    if len(pieces) == 1:
+        return [pieces]
+    elements = {atom.name: atom.site.element for atom in crystal.atoms}
     groups: dict[tuple, list[Piece]] = {}
-    for (*numbers, _), group in by_site.items():
-        elements = tuple(sorted(atoms[str(name)].element for name in group[0].net.vertices))
-        sequences = shells(contracted(group[0].net).net)
-        groups.setdefault((*numbers, elements, sequences), []).extend(group)
+    known: dict[QuotientGraph, tuple] = {}
+    for piece in pieces:
+        content = tuple(sorted(Counter(elements[str(name)] for name in piece.net.vertices).items()))
+        degrees = tuple(sorted(piece.net.degrees()))
+        bare = replace(piece.net, vertices=tuple(range(len(piece.net.vertices))))
+        if bare not in known:
+            simple = contracted(piece.net).net
+            known[bare] = tuple(sorted(Counter(sequences_of(simple)).items()))
+        groups.setdefault((piece.dimension, piece.copies, content, degrees, known[bare]), []).append(piece)
     return list(groups.values())
 
 

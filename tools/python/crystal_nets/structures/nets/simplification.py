@@ -66,15 +66,21 @@ def _apart(chosen: list[bool], arcs: list[list[tuple[int, Vector]]]) -> set[int]
 
 def shells(net: QuotientGraph, most: int = 8) -> tuple[tuple[int, ...], ...]:
     """The coordination sequences of the vertices, up to some shell, each sequence once."""
+    return tuple(sorted(set(sequences_of(net, most))))
+
+
+def sequences_of(net: QuotientGraph, most: int = 8) -> list[tuple[int, ...]]:
+    """Of each vertex its coordination sequence, up to some shell."""
     arcs = net.arcs()
-    found = set()
-    for start in range(len(net.vertices)):
-        before: set[tuple[int, Vector]] = set()
-        shell = {(start, (0,) * len(s)) for _, s in arcs[start][:1]}
-        sizes = []
-        for _ in range(most):
-            following = {(w, add(cell, s)) for v, cell in shell for w, s in arcs[v]} - shell - before
-            before, shell = shell, following
-            sizes.append(len(shell))
-        found.add(tuple(sizes))
-    return tuple(sorted(found))
+    return [_sequence(arcs, start, net.dimension, most) for start in range(len(net.vertices))]
+
+
+def _sequence(arcs: list[list[tuple[int, Vector]]], start: int, dimension: int, most: int) -> tuple[int, ...]:
+    before: set[tuple[int, Vector]] = set()
+    shell = {(start, (0,) * dimension)}
+    sizes = []
+    for _ in range(most):
+        following = {(w, add(cell, s)) for v, cell in shell for w, s in arcs[v]} - shell - before
+        before, shell = shell, following
+        sizes.append(len(shell))
+    return tuple(sizes)

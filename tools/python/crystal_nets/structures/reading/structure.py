@@ -2,6 +2,8 @@
 
 from __future__ import annotations
 
+from collections.abc import Callable
+
 import gemmi
 import numpy as np
 
@@ -9,16 +11,18 @@ from ..atoms.crystal import Crystal, Site
 from ..atoms.disorder import resolve_disorder
 from .document import Block, check_block
 from ..atoms.elements import elements_of_formula
+from ..atoms.formula import Expected
 from ...provenance import DOUBT, SYMMETRY, Note
 from ..atoms.places import images_of, name_apart, take_once
 from ...refusal import Refused
-from ..atoms.sanity import check_metric, misfit_of
+from ..atoms.sanity import check_metric, keeps_metric, misfit_of
 from .sites import number_of, read_sites
-from .symmetry import Symmetry, both_origins, read_symmetry, text_of
+from .symmetry import Symmetry, both_origins, named_symmetry, read_symmetry, text_of
 
 LONGEST_EDGE = 1000.0  # angstrom, of a unit cell
 MOST_ATOMS = 20_000    # of a primitive cell
 CELL_TAGS = ("length_a", "length_b", "length_c", "angle_alpha", "angle_beta", "angle_gamma")
+ABSENT = {"angle_alpha": 90.0, "angle_beta": 90.0, "angle_gamma": 90.0}  # as the dictionary has it
 
 
 def read_crystal(block: Block) -> Crystal:
@@ -28,26 +32,79 @@ def read_crystal(block: Block) -> Crystal:
     check_block(block)
     cell = _read_cell(block.cif)
     formula = elements_of_formula(text_of(block.cif, ("_chemical_formula_sum",)))
+    expected = Expected(formula, _formulas_of(block.cif))
     sites = read_sites(block.cif, formula, block.notes)
     symmetry = read_symmetry(block.cif, cell)
     check_metric(symmetry, cell)
 
     def crystal_with(symmetry: Symmetry) -> Crystal:
         crystal = _expand(block, sites, symmetry, cell)
+        crystal.formula = formula
         crystal.misfit = misfit_of(crystal, formula)
         return crystal
 
     crystal = crystal_with(symmetry)
-    if symmetry.has_origin and not crystal.misfit:
-        return crystal
+    if symmetry.source == "operations":
+        crystal = _with_named_group(block, cell, crystal, symmetry, expected, crystal_with)
+    elif not symmetry.has_origin or crystal.misfit:
+        crystal = _with_an_origin(block, cell, crystal, symmetry, crystal_with)
+    if crystal.misfit and symmetry.source == "operations":
+        crystal = _with_an_origin(block, cell, crystal, symmetry, crystal_with)
+    return crystal.noted_doubt(expected.doubt_of(_in_cell(crystal, cell)))
+
+
+def _with_an_origin(block: Block, cell: gemmi.UnitCell, crystal: Crystal, symmetry: Symmetry,
+                    crystal_with: Callable[[Symmetry], Crystal]) -> Crystal:
+    """The crystal with the origin of its group with which the atoms fit, where one does."""
     others = {other.source: crystal_with(other) for other in both_origins(block.cif, cell)}
     fitting = {source: other for source, other in others.items() if not other.misfit}
     if not symmetry.has_origin:
         return _with_fewest_atoms(fitting) or crystal
     for source, other in fitting.items():
-        other.notes.append(Note(DOUBT, f"the coordinates fit {source}, not the symmetry that is given"))
-        return other
+        return other.noted_doubt(f"the coordinates fit {source}, not the symmetry that is given")
     return crystal
+
+
+def _with_named_group(block: Block, cell: gemmi.UnitCell, crystal: Crystal, listed: Symmetry, expected: Expected,
+                      crystal_with: Callable[[Symmetry], Crystal]) -> Crystal:
+    """The crystal by the operations that are listed, or by the group that is named, where the list is too short for it:
+    a name is short, and a list is cut. What Z says decides, else the group that is named."""
+    named = named_symmetry(block.cif, cell)
+    if named is None or (named.order == listed.order and 0 in (named.number, listed.number)):
+        return crystal
+    told = f"{listed.order} operations are listed, and {named.source.partition(' ')[2]} has {named.order}"
+    if named.order == listed.order:
+        is_other = named.number != listed.number
+        return crystal.noted_doubt("the operations are not those of the group that is named" if is_other else "")
+    if named.order < listed.order:
+        return crystal if named.order == 1 or expected.fits(_in_cell(crystal, cell)) else crystal.noted_doubt(told)
+    origins = [named] if named.has_origin else both_origins(block.cif, cell)
+    others = [crystal_with(origin) for origin in origins if keeps_metric(origin, cell)]
+    if any(_atoms_by_volume(other) == _atoms_by_volume(crystal) for other in others):
+        return crystal  # all atoms are listed
+    fitting = [other for other in others if not other.misfit]
+    if expected.fits(_in_cell(crystal, cell)) or not fitting:
+        return crystal.noted_doubt(told + ": they are taken" + (", as Z fits" if fitting else ""))
+    other = min(fitting, key=lambda one: (not expected.fits(_in_cell(one, cell)), len(one.atoms)))
+    return other.noted_doubt(told + ": the group is taken")
+
+
+def _atoms_by_volume(crystal: Crystal) -> float:
+    return round(len(crystal.atoms) / abs(float(np.linalg.det(crystal.cell))), 6)
+
+
+def _in_cell(crystal: Crystal, cell: gemmi.UnitCell) -> dict[str, float]:
+    """The atoms of the cell of the file, by their elements."""
+    times = round(cell.volume / abs(float(np.linalg.det(crystal.cell))))
+    return {element: times * count for element, count in crystal.listed.items()}
+
+
+def _formulas_of(block: gemmi.cif.Block) -> float:
+    text = text_of(block, ("_cell_formula_units_Z",))
+    try:
+        return max(0.0, number_of(text, "Z", absent=0.0))
+    except Refused:
+        return 0.0
 
 
 def _with_fewest_atoms(by_origin: dict[str, Crystal]) -> Crystal | None:
@@ -65,7 +122,8 @@ def _with_fewest_atoms(by_origin: dict[str, Crystal]) -> Crystal | None:
 
 def _read_cell(block: gemmi.cif.Block) -> gemmi.UnitCell:
     """Raises Refused where the numbers are no cell of a crystal."""
-    values = [number_of(text_of(block, (f"_cell_{tag}",)), f"_cell_{tag}", absent=np.nan) for tag in CELL_TAGS]
+    values = [number_of(text_of(block, (f"_cell_{tag}",)), f"_cell_{tag}", absent=ABSENT.get(tag, np.nan))
+              for tag in CELL_TAGS]
     if not np.all(np.isfinite(values)) or min(values) <= 0 or max(values[:3]) > LONGEST_EDGE:
         raise Refused("no unit cell")
     cell = gemmi.UnitCell(*values)

@@ -11,6 +11,7 @@ import numpy as np
 
 from ...lattice import staircase
 from ...refusal import Refused
+from .names import group_of_name
 
 OPERATION_TAGS = ("_space_group_symop_operation_xyz", "_symmetry_equiv_pos_as_xyz",
                   "_space_group_symop.operation_xyz")
@@ -32,6 +33,8 @@ class Symmetry:
     lattice: np.ndarray       # rows: a primitive basis, in fractions of the cell
     source: str               # what the file gave
     has_origin: bool = True   # whether it is certain which origin of the group is meant
+    order: int = 1            # of the group, with the translations within the cell
+    number: int = 0           # of the type of the group; 0 where it is in no setting of the table
 
 
 def text_of(block: gemmi.cif.Block, tags: tuple[str, ...]) -> str:
@@ -49,27 +52,35 @@ def read_symmetry(block: gemmi.cif.Block, cell: gemmi.UnitCell) -> Symmetry:
     listed = [gemmi.cif.as_string(v) for tag in OPERATION_TAGS for v in block.find_values(tag)]
     if listed:
         return _symmetry(_listed_group(listed), "operations")
+    named = named_symmetry(block, cell)
+    if named:
+        return named
+    name, number = _name_of(block), text_of(block, NUMBER_TAGS)
+    if name or number not in ("", "1"):
+        raise Refused(f"space group {name or number} is not known")
+    return _symmetry(gemmi.GroupOps([gemmi.Op("x,y,z")]), "no symmetry given: P 1")
+
+
+def named_symmetry(block: gemmi.cif.Block, cell: gemmi.UnitCell) -> Symmetry | None:
+    """The operations of the group that a Hall symbol, a name or a number gives, whatever is listed."""
     hall = text_of(block, HALL_TAGS)
     if hall:
         try:
             return _symmetry(gemmi.symops_from_hall(hall), f"Hall symbol {hall}")
         except (RuntimeError, ValueError):
             pass  # the name may be better
-    name, number = _name_of(block), text_of(block, NUMBER_TAGS)
-    for what, text in (("name", name), ("number", _name_of_number(number))):
-        group = gemmi.find_spacegroup_by_name(text, cell.alpha, cell.gamma) if text else None
-        if group:
-            is_certain = ":" in text or not group.xhm().endswith(ORIGINS)
-            return _symmetry(group.operations(), f"{what} {group.xhm()}", is_certain)
-    if name or number not in ("", "1"):
-        raise Refused(f"space group {name or number} is not known")
-    return _symmetry(gemmi.GroupOps([gemmi.Op("x,y,z")]), "no symmetry given: P 1")
+    for what, text in (("name", _name_of(block)), ("number", _name_of_number(text_of(block, NUMBER_TAGS)))):
+        named = group_of_name(text, cell) if text else None
+        if named:
+            return _symmetry(named.group.operations(), f"{what} {named.group.xhm()}", named.is_origin_given)
+    return None
 
 
 def both_origins(block: gemmi.cif.Block, cell: gemmi.UnitCell) -> list[Symmetry]:
     """The group of the name or number with each of its two origins, where the table has two."""
-    name = (_name_of(block) or _name_of_number(text_of(block, NUMBER_TAGS))).split(":")[0].strip()
-    groups = [gemmi.find_spacegroup_by_name(name + origin, cell.alpha, cell.gamma) for origin in ORIGINS if name]
+    named = group_of_name(_name_of(block) or _name_of_number(text_of(block, NUMBER_TAGS)), cell)
+    groups = [gemmi.find_spacegroup_by_name(named.without_origin + origin, cell.alpha, cell.gamma)
+              for origin in ORIGINS] if named else []
     return [_symmetry(group.operations(), group.xhm()) for group in groups if group]
 
 
@@ -90,7 +101,9 @@ def _symmetry(group: gemmi.GroupOps, source: str, has_origin: bool = True) -> Sy
     translations = np.array([op.tran for op in operations], dtype=float) / den
     units = [tuple(den * (i == j) for j in range(3)) for i in range(3)]
     rows = staircase(units + [tuple(c) for c in group.cen_ops])
-    return Symmetry(rotations, translations, np.array(rows, dtype=float) / den, source, has_origin)
+    setting = gemmi.find_spacegroup_by_ops(group)
+    return Symmetry(rotations, translations, np.array(rows, dtype=float) / den, source, has_origin, len(group),
+                    setting.number if setting else 0)
 
 
 def _listed_group(listed: list[str]) -> gemmi.GroupOps:

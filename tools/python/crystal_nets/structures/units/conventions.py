@@ -18,6 +18,7 @@ import numpy as np
 from ...graph import Edge, QuotientGraph, edge
 from ...lattice import Vector, add, subtract
 from ...refusal import Refused
+from ..atoms.elements import is_metal
 from ..nets.pieces import lattice_of_walks
 from .building_units import Parts, Units, parts_of, ring_edges, units_of
 
@@ -35,7 +36,10 @@ class Framework:
 
     @property
     def is_organic(self) -> bool:
-        return any(self.element[str(name)] == "C" for name in self.net.vertices)
+        """Whether it has carbon that is bonded to a nonmetal, so that it is no carbide."""
+        elements = [self.element[str(name)] for name in self.net.vertices]
+        return any("C" in (elements[u], elements[v]) and not is_metal(elements[u]) and not is_metal(elements[v])
+                   for u, v, _ in self.net.edges)
 
     @property
     def parts(self) -> Parts:
@@ -142,9 +146,17 @@ def _with_metals(framework: Framework) -> Parts:
     parts = framework.parts
     if not parts.metals:
         raise Refused("there are no metals")
-    if not set(range(len(parts.elements))) - parts.inner:
+    outer = set(range(len(parts.elements))) - parts.inner
+    if not outer:
         raise Refused("there are no linkers")
+    if not _has_organic_linkers(framework, parts, outer):
+        raise Refused("there is no organic linker: this convention is one for metal-organic frameworks")
     return parts
+
+
+def _has_organic_linkers(framework: Framework, parts: Parts, outer: set[int]) -> bool:
+    """Whether there is carbon that is bonded to a nonmetal, or a linker of several nitrogens, as azide."""
+    return framework.is_organic or any(parts.elements[u] == parts.elements[v] == "N" for u, v, _ in parts.edges_within(outer))
 
 
 def _check_metal_parts(units: Units, parts: Parts) -> None:

@@ -1,0 +1,193 @@
+"""Guests: cations that a framework holds in its cages and between its layers, and that are no part of its net.
+
+They are found by the structure, for all elements of a site alike. A site is weak where its bonds have a mean valence
+of at most 0.30 (as K in 12 and Na in 6 oxygens), or where it has eight or more anions, and bonds much weaker than
+those of another metal (as Y in garnets). The charge of a cation over its number of anions is L. Pauling's strength
+(J. Am. Chem. Soc. 51 (1929) 1010). Weak sites go, the weakest first, as long as what is left is a net in space;
+those with a mean valence up to 0.15 also where layers are left, as in micas. A site stays where it has as many anions as
+other cations and is a tetrahedron or an octahedron, or is as large as theirs, as Li in LiAlO2, LiCoO2 and LiNbO3.
+
+That is a choice, and where the other one gives a net, too, it is told as a doubt."""
+
+from __future__ import annotations
+
+from collections import Counter, defaultdict
+from dataclasses import dataclass, field
+from itertools import combinations
+
+import numpy as np
+
+from ...graph import QuotientGraph
+from ...provenance import DOUBT, LEFT_OUT, Note
+from ..atoms.crystal import Crystal
+from ..atoms.elements import is_metal, makes_anions
+from ..bonds.valences import valence
+from .pieces import pieces_of
+from .simplification import contracted, shells
+
+WEAK = 0.30         # the greatest mean valence of the bonds of a guest
+VERY_WEAK = 0.15    # of one without which layers are left
+LARGE = 8           # anions of a large site
+WEAKER = 0.75       # times the strongest other metal: a large site with weaker bonds is a guest, too
+LARGE_UNSURE = 7    # anions: a site that stays, and is told of where the rest is a net without it
+AS_LARGE = 1.15     # times the bonds of another cation with as many anions: such a site is of the framework
+STRAIGHT = 20.0     # degrees that the angles of a regular polyhedron differ at most
+REGULAR = {4: (109.47,), 6: (90.0, 180.0)}
+# by the coordination sequences, the nets that are told by name (M. O'Keeffe and others, Acc. Chem. Res. 41 (2008) 1782)
+WELL_KNOWN = {(6, 18, 38, 66): "pcu", (4, 12, 24, 42): "dia", (8, 26, 56, 98): "bcu", (12, 42, 92, 162): "fcu",
+              (4, 10, 20, 34): "sod", (4, 8, 12, 16): "sql", (3, 6, 9, 12): "hcb", (4, 12, 25, 44): "lon",
+              (4, 12, 28, 50): "nbo"}
+KINDS = ("molecules", "rods", "layers", "a net in space")
+
+
+@dataclass
+class SiteBonds:
+    """The images of one site, and their bonds to anions."""
+
+    label: str
+    elements: tuple[str, ...]
+    atoms: list[int] = field(default_factory=list)
+    strength: float = 0.0   # mean valence of a bond
+    length: float = 0.0     # mean of the bonds, in angstrom
+    anions: int = 0
+    is_regular: bool = False
+
+    @property
+    def told(self) -> str:
+        return "/".join(self.elements)
+
+
+def without_guests(crystal: Crystal, net: QuotientGraph, kept: list[int], notes: list[Note]) -> QuotientGraph:
+    """The net of the atoms that are kept, without guests; what was left out, and the other choice, come to the notes.
+    The vertices of the net are the atoms of the crystal."""
+    whole = net.part(kept)
+    sites = sorted(_sites(crystal, net, set(kept)), key=lambda site: (site.strength, site.label))
+    strongest = max((site.strength for site in sites), default=0.0)
+    is_organic = _is_organic(crystal, kept)
+    left, removed, unsure = set(kept), list[SiteBonds](), list[SiteBonds]()
+    dimension = _dimension(whole)
+    for group in _groups(sites):
+        is_guest = _is_guest(group, sites, strongest, is_organic)
+        if not is_guest and not _is_unsure(group):
+            continue
+        rest = _dimension(net.part(sorted(left - {v for site in group for v in site.atoms})))
+        if is_guest and (rest == 3 or (rest == 2 and group[0].strength <= VERY_WEAK)):
+            left -= {v for site in group for v in site.atoms}
+            removed += group
+        elif rest >= 2:
+            unsure += group
+    result = net.part(sorted(left))
+    if removed:
+        ions = Counter(crystal.atoms[v].site.element for site in removed for v in site.atoms)
+        notes.append(Note(LEFT_OUT, "left out as counter-ions: " + " ".join(f"{e} {n}" for e, n in sorted(ions.items()))))
+        if dimension >= 2:
+            notes.append(Note(DOUBT, f"with {_told(removed)} the net is {_described(whole)} (--keep-ions)"))
+    if unsure:
+        atoms = {v for site in unsure for v in site.atoms}
+        notes.append(Note(DOUBT, f"without {_told(unsure)} the rest is {_described(net.part(sorted(left - atoms)))} "
+                          f"(--leave-out {','.join(sorted({e for site in unsure for e in site.elements}))})"))
+    return result
+
+
+def _told(sites: list[SiteBonds]) -> str:
+    return " and ".join(dict.fromkeys(site.told for site in sites))
+
+
+def _described(net: QuotientGraph) -> str:
+    """What kind of net it is, and which, where its coordination sequences are those of a well-known one."""
+    pieces = [piece for piece in pieces_of(net) if piece.dimension >= 2]
+    if not pieces:
+        return "no net"
+    largest = max(pieces, key=lambda piece: (piece.dimension, len(piece.net.vertices)))
+    simple = contracted(largest.net).net
+    found = {sequence[:4] for sequence in shells(simple, 4)} if len(simple.vertices) <= 200 else set()
+    name = WELL_KNOWN.get(next(iter(found)), "") if len(found) == 1 else ""
+    degrees = ", ".join(map(str, sorted(set(simple.degrees()))))
+    return f"{KINDS[largest.dimension]} of {degrees} neighbours" + (f", as {name}" if name else "")
+
+
+def _dimension(net: QuotientGraph) -> int:
+    return max((piece.dimension for piece in pieces_of(net)), default=0)
+
+
+def _is_organic(crystal: Crystal, kept: list[int]) -> bool:
+    elements = {crystal.atoms[v].site.element for v in kept}
+    return "C" in elements and ("H" in elements or "N" in elements)
+
+
+def _groups(sites: list[SiteBonds]) -> list[list[SiteBonds]]:
+    """The sites of the same elements together, by their mean strength."""
+    by_elements: dict[tuple[str, ...], list[SiteBonds]] = defaultdict(list)
+    for site in sites:
+        by_elements[site.elements].append(site)
+    return sorted(by_elements.values(), key=lambda group: (sum(s.strength for s in group) / len(group), group[0].label))
+
+
+def _is_guest(group: list[SiteBonds], sites: list[SiteBonds], strongest: float, is_organic: bool) -> bool:
+    others = [(site.anions, site.length) for site in sites if site not in group]
+
+    def is_as_others(site: SiteBonds) -> bool:
+        return any(anions == site.anions and (site.is_regular or site.length <= AS_LARGE * length)
+                   for anions, length in others) or (site.is_regular and site.anions == 4)
+
+    def is_weak(site: SiteBonds) -> bool:
+        if is_as_others(site):
+            return False
+        is_large = not is_organic and site.anions >= LARGE and site.strength <= WEAKER * strongest
+        return site.strength <= WEAK or is_large
+
+    return any(map(is_weak, group)) and all(is_weak(site) or site.strength <= WEAK for site in group)
+
+
+def _is_unsure(group: list[SiteBonds]) -> bool:
+    return all(site.strength <= WEAK or site.anions >= LARGE_UNSURE for site in group)
+
+
+def _sites(crystal: Crystal, net: QuotientGraph, kept: set[int]) -> list[SiteBonds]:
+    """The sites of metals with bonds to anions, of which other atoms have bonds, too; silicon and the like are none."""
+    arcs = net.arcs()
+    elements = [atom.site.element for atom in crystal.atoms]
+    found: dict[str, SiteBonds] = {}
+    steps: dict[str, list[list[np.ndarray]]] = defaultdict(list)
+    valences: dict[str, list[float]] = defaultdict(list)
+    if not any(makes_anions(elements[v]) for v in kept):
+        return []
+    for v in sorted(kept):
+        if not is_metal(elements[v]):
+            continue
+        atom = crystal.atoms[v]
+        site = found.setdefault(atom.site.label, SiteBonds(atom.site.label, tuple(sorted(atom.content))))
+        site.atoms.append(v)
+        bonds = [(crystal.atoms[w].place + np.array(s) @ crystal.cell - atom.place, elements[w]) for w, s in arcs[v]
+                 if w in kept and makes_anions(elements[w])]
+        steps[site.label].append([step for step, _ in bonds])
+        valences[site.label] += [_mean_valence(atom.content, anion, float(np.linalg.norm(step))) for step, anion in bonds]
+        of_framework = [_is_of_framework(w, v, arcs, elements) for w, s in arcs[v] if w in kept and makes_anions(elements[w])]
+        site.anions = max(site.anions, len(bonds))
+        site.is_regular = bool(bonds) and all(of_framework) and _is_regular([step for step, _ in bonds])
+    for label, site in found.items():
+        if site.anions:
+            site.strength = float(np.mean(valences[label]))
+            site.length = float(np.mean([np.linalg.norm(step) for bonds in steps[label] for step in bonds]))
+    return [site for site in found.values() if site.anions]
+
+
+def _mean_valence(content: dict[str, float], anion: str, length: float) -> float:
+    """The valence of a bond of a site, by what shares it."""
+    metals = {element: part for element, part in content.items() if is_metal(element)}
+    return sum(part * valence(element, anion, length) for element, part in metals.items()) / sum(metals.values())
+
+
+def _is_of_framework(anion: int, guest: int, arcs: list[list[tuple[int, tuple[int, ...]]]], elements: list[str]) -> bool:
+    """Whether an anion has bonds to atoms of other elements than the guest."""
+    return any(elements[w] not in (elements[guest], "H") for w, _ in arcs[anion])
+
+
+def _is_regular(steps: list[np.ndarray]) -> bool:
+    """Whether the bonds make a tetrahedron or an octahedron."""
+    angles = REGULAR.get(len(steps))
+    if angles is None:
+        return False
+    units = [step / np.linalg.norm(step) for step in steps]
+    found = [np.degrees(np.arccos(np.clip(float(a @ b), -1, 1))) for a, b in combinations(units, 2)]
+    return all(min(abs(angle - ideal) for ideal in angles) <= STRAIGHT for angle in found)
