@@ -90,7 +90,7 @@ def same(one: Any, other: Any, **options: Any) -> Sameness:
     if told.startswith(b"net_maps 1\n"):
         with reading_report("same"):
             return _sameness(told, nets)
-    first, second = (answer.outcome for answer in keys(nets))
+    first, second = (answer.outcome for answer in keys(nets, maps=False))
     reasons = [str(outcome) for outcome in (first, second) if not outcome.accepted]
     if not reasons:
         raise ProgramFailed("net_tool same gave no map, and both nets have keys")
