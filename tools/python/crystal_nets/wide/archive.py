@@ -43,7 +43,7 @@ class WideArchive:
         if not lines[0].startswith(HEAD) or lines[-1]:
             raise NotAnArchive(f"{index} is no index of nets without a key, or is cut")
         if lines[0] != _head(self.path.read_bytes()):
-            raise NotAnArchive(f"{index} is not that of {self.path}, which has changed since: make_archives --index makes it anew")
+            raise NotAnArchive(f"{index} is not that of {self.path}, which has changed since; wide_archive makes it anew")
         try:
             for line in lines[1:-1]:
                 invariant, offset, length, name = line.split("\t")
