@@ -8,9 +8,11 @@ walking      the images of all vertices, from that of one and the linear part
 collisions   the same of nets in which two neighbours of a vertex stand in one place
 matching     find_map: a map from one net to another
 primitive    the net over all its translations, on a short basis, with the map to it
-meeting      two nets in any cells: a small net, and a map of each to it
+shortening   short bases of lattices
 periodic_map a map as `net_tool verify` reads it
 certificate  what the program is asked, and what it has taken
 archive      archives of nets without a key, with an index
 naming       the names of a net without a key, and by what they are certain
+meeting      two nets in any cells: a small net, and a map of each to it
+grouping     groups of nets without a key
 exact_key    the key in whole numbers of any size, from its definition alone"""
