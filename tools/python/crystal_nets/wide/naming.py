@@ -5,10 +5,10 @@ maps are looked for to those nets of the archives that have its invariant. Each 
 
 from __future__ import annotations
 
-from collections.abc import Callable
+from collections.abc import Callable, Iterable
+from typing import Protocol
 
-from ..answers import NOTHING_FOUND, Answer, By, Naming
-from ..archive import Archive
+from ..answers import Answer, By, Naming
 from ..errors import NotANet
 from ..graph import QuotientGraph
 from ..net import Net
@@ -25,12 +25,22 @@ MOST_VERTICES, MOST_EDGES = 2_000, 8_000  # of a net that is looked at, though t
 Ask = Callable[[Net], Answer]  # what the program answers to a net
 
 
+class Archives(Protocol):
+    """Where names are looked up: an `Archive`, or several of them."""
+
+    def names(self, key: str) -> tuple[str, ...]:
+        """The names of the nets with this key."""
+
+    def wide_blocks(self, index: str) -> Iterable[bytes]:
+        """The blocks of the nets without a key that may be a net with this index."""
+
+
 def is_asked(outcome: Outcome) -> bool:
     """Whether there may be names for a net with this outcome."""
     return (outcome.kind, outcome.number) in ASKED
 
 
-def naming_of(answer: Answer, archive: Archive | None, ask: Ask) -> Naming:
+def naming_of(answer: Answer, archive: Archives | None, ask: Ask) -> Naming:
     """What is found of a net that has no key."""
     try:
         return _Search(answer, archive, ask).naming()
@@ -44,7 +54,7 @@ class _Search:
     read   the net as the program reads it; None where its cell is too large for that
     graph  the net as it is searched for"""
 
-    def __init__(self, answer: Answer, archive: Archive | None, ask: Ask) -> None:
+    def __init__(self, answer: Answer, archive: Archives | None, ask: Ask) -> None:
         self.archive, self.ask, self.outcome = archive, ask, answer.outcome
         self.read = as_read(answer.net.block, answer.dimension) if answer.outcome.kind == "refused" else None
         self.graph = self.read.graph if self.read else _graph_of_large_cell(answer.net)
