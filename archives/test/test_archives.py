@@ -7,9 +7,11 @@ import sys
 from collections import Counter, defaultdict
 from itertools import combinations
 
-from testing import PROGRAM, TOOLS, TOP, FolderTest, need_modules, need_program, run
+from testing import IS_LONG, PROGRAM, TOOLS, TOP, FolderTest, need_modules, need_program, run
 
+from crystal_nets import Archive, identify  # noqa: E402
 from crystal_nets.texts.net_text import nets_of_report  # noqa: E402
+from crystal_nets.wide.certificate import holds  # noqa: E402
 
 ARCHIVES = TOP / "archives"
 SHELLS = 10
@@ -78,6 +80,19 @@ class Zeolites(FolderTest):
         refused = re.findall(r'(?m)^line \d+ "(\w+)": refused', (ARCHIVES / "zeolites.refused").read_text())
         self.assertEqual(sorted(codes), sorted(entries + refused))
 
+    def test_nets_without_a_key_are_those_of_their_source(self):
+        """`verify` takes a map from each block of zeolites.cgd that is refused to the block of wide.cgd that has its name."""
+        source = dict(re.findall(r'(?ms)(?=^PERIODIC_GRAPH\nNAME "(\w+)")(.*?^END\n)', (ARCHIVES / "zeolites.cgd").read_text()))
+        blocks = dict(re.findall(r'(?ms)(?=^PERIODIC_GRAPH\nNAME "(\w+)")(.*?^END\n)', (ARCHIVES / "wide.cgd").read_text()))
+        refused = re.findall(r'(?m)^line \d+ "(\w+)": refused', (ARCHIVES / "zeolites.refused").read_text())
+        self.assertEqual(list(blocks), refused)
+        archive = Archive.load(ARCHIVES / "wide.index")
+        self.assertEqual(archive.without_key, tuple(refused))
+        for name in refused if IS_LONG else ["SVR"]:
+            answer = identify(source[name].encode(), archive=archive)
+            self.assertEqual((answer.names, str(answer.by)), ((name,), "verified map"))
+            self.assertTrue(holds(answer.certificate, [source[name].encode(), blocks[name].encode()], 3), name)
+
     def test_the_two_archives_agree(self):
         report = run(PROGRAM, "identify", ARCHIVES / "common.cgd", "--archive", ARCHIVES / "zeolites.archive").stdout
         others = {b"sod": b"SOD", b"crb": b"BCT", b"sra": b"ABW", b"sod-a": b"RWY", b"pcb": b"ACO"}
@@ -93,7 +108,7 @@ class Recipes(FolderTest):
         for part in ("archives", "tools/batch", "tools/python"):
             shutil.copytree(TOP / part, self.folder / part)
         run(self.folder / "archives/make", PROGRAM)
-        for name in ("common.archive", "zeolites.archive", "zeolites.refused"):
+        for name in ("common.archive", "zeolites.archive", "zeolites.refused", "wide.cgd", "wide.index"):
             self.assertEqual((self.folder / "archives" / name).read_bytes(), (ARCHIVES / name).read_bytes(), name)
 
     def write_nets(self):

@@ -33,14 +33,15 @@ share=$to/share/net_tool
 commands="tools/cif2cgd/cif2cgd tools/cgd2net/cgd2net tools/cgd2net/make_archives archives/take_rcsr
 tools/pictures/draw_nets tools/pictures/net_gallery tools/batch/split_nets tools/batch/key_piece tools/batch/net_rows
 tools/batch/net_groups tools/batch/net_names tools/batch/name_nets tools/batch/accepted_nets tools/batch/archive_nets
-tools/batch/archive_files tools/batch/component_nets tools/batch/net_table tools/desk/net_desk"
+tools/batch/archive_files tools/batch/component_nets tools/batch/wide_archive tools/batch/net_table tools/desk/net_desk"
 
 . "$top/tools/words.sh"
 install -D -m 755 -- "$program" "$to/lib/net_tool/net_tool"
 install -D -m 755 -- "$top/tools/install/net_tool.sh" "$to/bin/net_tool"
 install -D -m 644 -- "$top/tools/words.sh" "$share/tools/words.sh"
 install -d -- "$share/archives" "$share/examples" "$to/share/doc/net_tool" "$to/share/man/man1"
-install -m 644 -- "$top"/archives/*.archive "$top/archives/README.md" "$share/archives"
+install -m 644 -- "$top"/archives/*.archive "$top"/archives/wide.cgd "$top"/archives/wide.index "$top/archives/README.md" \
+    "$share/archives"
 install -m 755 -- "$top/archives/take_rcsr" "$share/archives"
 install -m 644 -- "$top"/examples/*.c?? "$top"/examples/*.maps "$top"/examples/*.ipynb "$top/examples/README.md" "$share/examples"
 install -m 644 -- "$top/README.md" "$top/docs/FORMATS.md" "$to/share/doc/net_tool"

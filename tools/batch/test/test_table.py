@@ -10,12 +10,14 @@ import sys
 import time
 from pathlib import Path
 
-from odd_cells import text_of_odd_nets
+from odd_cells import block, in_odd_cell, text_of_odd_nets
 from testing import IS_LONG, PROGRAM, TOOLS, TOP, FolderTest, long_test, need_commands, need_modules, need_program, run
 
+from crystal_nets import Net, cover  # noqa: E402
 from crystal_nets.tables.columns import TABLE, escaped, plain, read_table  # noqa: E402
 from crystal_nets.tables.piece import path_of, rows_of  # noqa: E402
 from crystal_nets.tables.plan import FORM, Failed, files_of, plan_of, read_plan  # noqa: E402
+from crystal_nets.wide.archive import write_wide_archive  # noqa: E402
 
 BATCH = TOOLS / "batch"
 NET_TABLE = BATCH / "net_table"
@@ -52,6 +54,21 @@ EDGES
 1 1 0 1
 END
 """
+
+
+# two bridges between the same atoms, which stand in one place
+BRIDGED = [(0, 1, (0, 0)), (1, 0, (1, 0)), (0, 2, (0, 0)), (2, 0, (1, 0)), (0, 0, (0, 1))]
+
+
+def odd_block(name: str, edges: list, chance: random.Random) -> str:
+    return block(name, in_odd_cell(edges, chance, 2))
+
+
+def fan(count: int) -> Net:
+    """A hub with a lattice of its own, joined to each vertex of a path; the denominator is a Fibonacci number."""
+    rows = [(1, 1, (1, 0)), (1, 1, (0, 1)), (count + 1, 1, (1, 0))]
+    rows += [(1, k, (0, 0)) for k in range(2, count + 2)] + [(k - 1, k, (0, 0)) for k in range(3, count + 2)]
+    return Net(rows, name="fan")
 
 
 def table_of(folder: Path) -> list[dict[str, str]]:
@@ -101,9 +118,36 @@ class Table(FolderTest):
         self.assertEqual(rows[2]["names"], "one, square\\; lattice;two, square\\; lattice")
         self.assertEqual(rows[0]["sequences"], "4 8 12 16 20 24 28 32 36 40")
         told = contents(self.result)
-        self.assertEqual(told["groups.tsv"].splitlines()[1:], [b"1\t2\tone, square\\; lattice;two, square\\; lattice\t1 3"])
+        self.assertEqual(told["groups.tsv"].splitlines()[1:], [b"1\t2\tone, square\\; lattice;two, square\\; lattice\tkey\t1 3"])
         self.assertEqual(len(told["names.tsv"].splitlines()), 5)
         self.assertIn(b"refused 2 Degenerate q=0 c=0 1 h=0", told["refused.tsv"])
+
+    def test_nets_without_a_key(self):
+        """One is told by a verified map, one by the key of its smaller cell, and two are grouped by maps."""
+        chance = random.Random(1)
+        skew = cover(fan(23), [(1, 500), (0, 1)]).net
+        nets = [odd_block("a", BRIDGED, chance), fan(23).block.decode(), odd_block("b", BRIDGED, chance), skew.block.decode(),
+                odd_block("c", [*BRIDGED, (0, 0, (1, 1))], chance), odd_block("d", [*BRIDGED, (0, 0, (1, 1))], chance)]
+        self.source.write_text("".join(nets))
+        write_wide_archive(self.archives / "mine", [Net(BRIDGED, name="bridged")])
+        (self.archives / "fan.archive").write_bytes(run(PROGRAM, "add", "-", stdin=fan(23).block).stdout)
+        told = self.make("--jobs", 1, "--maps", "--keys-alone").stdout.decode()
+        self.assertIn("6 nets, 1 with a key, 1 different, 4 with a name, 5 refused", told)
+        rows = table_of(self.result)
+        self.assertEqual([row["names"] for row in rows], ["bridged", "fan", "bridged", "fan", "", ""])
+        self.assertEqual([row["by"] for row in rows], ["verified map", "key", "verified map", "key of a smaller cell",
+                                                       "verified map", "verified map"])
+        self.assertEqual([row["group"] for row in rows], ["1", "2", "1", "2", "5", "5"])
+        self.assertEqual([len(row["index"]) for row in rows], [32, 0, 32, 32, 32, 32])
+        self.assertEqual([bool(row["key"]) for row in rows], [False, True, False, False, False, False])
+        self.assertEqual([line.split("\t")[3:] for line in (self.result / "groups.tsv").read_text().splitlines()[1:]],
+                         [["verified map", "1 3"], ["key", "2 4"], ["verified map", "5 6"]])
+        maps = sorted((self.result / "maps").iterdir())
+        self.assertEqual([path.name for path in maps], [f"{number}.maps" for number in (1, 3, 4, 5, 6)])
+        for path in maps:
+            self.assertEqual(run(PROGRAM, "verify", path).stdout, b"pair 2 verified\n")
+        self.make("--jobs", 2, "--no-names", "--keys-alone")
+        self.assertEqual([row["names"] for row in table_of(self.result)], [""] * 6)
 
     def test_pandas_reads_it(self):
         need_modules("pandas")

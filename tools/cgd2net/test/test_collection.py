@@ -38,6 +38,19 @@ END
 """
 
 
+# two bridges between the same atoms, which stand in one place
+BRIDGED = """PERIODIC_GRAPH
+NAME bridged
+EDGES
+1 2 0 0
+2 1 1 0
+1 3 0 0
+3 1 1 0
+1 1 0 1
+END
+"""
+
+
 def crystals() -> str:
     """The known embeddings without edges, each once."""
     blocks = {}
@@ -85,7 +98,7 @@ class Collections(FolderTest):
         report = run(PROGRAM, "identify", TOP / "examples/mystery.cgd", "--archive", archive).stdout
         self.assertEqual(report.count(b'\nname "dia"\n'), 1)
         named = run(NAME, TOP / "examples/mystery.cgd", self.folder / "archives").stdout.decode().splitlines()
-        self.assertIn("1\tsample A\tdia", named)
+        self.assertIn("1\tsample A\tdia\tkey", named)
         run(command, status=2)
         self.assertIn(b"take_rcsr FILE", run(command, "--help").stdout)
         run(command, self.folder / "absent", status=3)
@@ -101,6 +114,17 @@ class Collections(FolderTest):
             '6 "": PERIODIC_GRAPH: it has no name',
             f'15 "pcu": CRYSTAL: it is another net than {file} line 10 (CRYSTAL), which has its name',
             '20 "apart": PERIODIC_GRAPH: refused 1 Disconnected q=2 c=1 0 h=0'])
+
+    def test_nets_without_a_key_make_an_archive_of_their_own(self):
+        file = self.write("nets.cgd", REFUSED + BRIDGED + BRIDGED.replace("NAME bridged", "NAME pcu"))
+        told = run(MAKE, self.folder / "nets", file, status=1).stdout.decode()
+        self.assertIn("nets.wide.cgd: 1 nets without a key\n", told)
+        self.assertIn('"bridged": PERIODIC_GRAPH: refused 5 Collision', (self.folder / "nets.refused").read_text())
+        self.assertEqual((self.folder / "nets.wide.index").read_text().split("\t")[-1], "bridged\n")
+        named = run(NAME, self.write("x.cgd", BRIDGED.replace("bridged", "x").replace("1 3", "3 1")), self.folder).stdout
+        self.assertEqual(named, b"1\tx\tbridged\tverified map\n")
+        run(MAKE, self.folder / "nets", self.write("a.cgd", crystals()))
+        self.assertEqual(list(self.folder.glob("nets.wide*")), [])
 
     def test_key_lines_and_blocks_of_one_name_are_compared(self):
         blocks, items = self.write("a.cgd", crystals()), self.write("b.arc", ITEMS + ITEMS.replace("id dia", "id srs"))
@@ -127,7 +151,7 @@ class Collections(FolderTest):
         self.assertEqual(len(entries(self.folder / "many.archive")), 4096)
         self.assertIn("srs", entries(self.folder / "many.2.archive"))
         named = run(NAME, TOP / "examples/mystery.cgd", self.folder).stdout.decode().splitlines()
-        self.assertIn("4\tsample D\tsrs", named)
+        self.assertIn("4\tsample D\tsrs\tkey", named)
         self.assertEqual(sum(line.startswith("1\tsample A\tnet") for line in named), 4096)
 
     def test_failures_make_nothing(self):

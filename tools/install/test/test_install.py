@@ -171,7 +171,8 @@ class Installed(FolderTest):
                    HOME=str(self.folder), XDG_DATA_HOME="").stdout.decode()
         key, program, *archives = told.split("|")
         self.assertEqual((key, program), ("2 1 1 1 1 0 1 1 1 1 0", str(self.prefix / "lib/net_tool/net_tool")))
-        self.assertEqual(archives[:-1], list(map(str, sorted((self.share / "archives").glob("*.archive")))))
+        self.assertEqual(archives[:-1], 
+                         [str(path) for ending in ("*.archive", "*.index") for path in sorted((self.share / "archives").glob(ending))])
 
     def test_no_link_is_broken_and_each_command_has_a_page(self):
         for path in self.root.rglob("*"):

@@ -36,6 +36,7 @@ side_by_side  work in several processes
 
 The packages under them:
 tables      tables of many nets, which net_table makes; read_table for pandas
+wide        names of nets that have no key: a search that nobody need trust, with maps that `net_tool verify` takes
 texts       the texts around net_tool: files of nets, reports, rows, archives, the graph of a key
 structures  from structure files to nets, as cif2cgd reads them
 blocks      from .cgd and .arc files to nets, as cgd2net reads them
@@ -49,15 +50,16 @@ from importlib import import_module
 from typing import TYPE_CHECKING, Any
 
 if TYPE_CHECKING:
-    from .answers import Answer, Answers, Placement, PrimitiveGraph, to_pandas
+    from .answers import Answer, Answers, By, Placement, PrimitiveGraph, to_pandas
     from .archive import Archive
     from .asking import identify, identify_all, keys
+    from .checking import check
     from .covers import Cover, cover
     from .drawing import svg
     from .errors import (CrystalNetsError, NotANet, NotAnArchive, NotATable, PackageMissing, ProgramFailed,
                          ProgramNotFound)
     from .groups import Group, Groups, group
-    from .maps import NetMap, Sameness, same
+    from .maps import Meeting, NetMap, Sameness, same
     from .net import Net
     from .outcome import Outcome
     from .parts import Component, Components, components, net_of_key
@@ -66,15 +68,15 @@ if TYPE_CHECKING:
     from .tables.columns import read_table
 
 __version__ = "0.1"
-__all__ = ["Answer", "Answers", "Archive", "Component", "Components", "Cover", "CrystalNetsError", "Group", "Groups",
-           "Net", "NetMap", "NotANet", "NotATable", "NotAnArchive", "Outcome", "PackageMissing", "Placement",
-           "PrimitiveGraph", "ProgramFailed", "ProgramNotFound", "Sameness", "components", "cover", "find_program",
+__all__ = ["Answer", "Answers", "Archive", "By", "Component", "Components", "Cover", "CrystalNetsError", "Group", "Groups",
+           "Meeting", "Net", "NetMap", "NotANet", "NotATable", "NotAnArchive", "Outcome", "PackageMissing", "Placement",
+           "PrimitiveGraph", "ProgramFailed", "ProgramNotFound", "Sameness", "check", "components", "cover", "find_program",
            "group", "identify", "identify_all", "keys", "net_of_key", "read", "read_table", "same", "svg", "to_pandas"]
 
-HOMES = {"answers": "Answer Answers Placement PrimitiveGraph to_pandas", "archive": "Archive",
-         "asking": "identify identify_all keys", "covers": "Cover cover", "drawing": "svg",
+HOMES = {"answers": "Answer Answers By Placement PrimitiveGraph to_pandas", "archive": "Archive",
+         "asking": "identify identify_all keys", "checking": "check", "covers": "Cover cover", "drawing": "svg",
          "errors": "CrystalNetsError NotANet NotAnArchive NotATable PackageMissing ProgramFailed ProgramNotFound",
-         "groups": "Group Groups group", "maps": "NetMap Sameness same", "net": "Net", "outcome": "Outcome",
+         "groups": "Group Groups group", "maps": "Meeting NetMap Sameness same", "net": "Net", "outcome": "Outcome",
          "parts": "Component Components components net_of_key", "program": "find_program", "reading": "read",
          "tables.columns": "read_table"}
 HOME_OF = {name: module for module, names in HOMES.items() for name in names.split()}

@@ -5,6 +5,7 @@ from __future__ import annotations
 import re
 from collections.abc import Iterator, Sequence
 from dataclasses import dataclass, field
+from enum import Enum
 from fractions import Fraction
 from functools import cached_property
 from typing import TYPE_CHECKING, Any, overload
@@ -72,6 +73,50 @@ class PrimitiveGraph:
         return self.net.to_networkx()
 
 
+class By(Enum):
+    """By what the names of a net are certain. `value` is the word for it.
+
+    KEY            the names are those of exactly the entries with the net's key
+    SMALLER_CELL   the net has no key in the cell that it was given in, and one on the lattice of all its translations.
+                   `verify` has taken the map to it, so this key is that of the net, and its names are complete
+    VERIFIED_MAP   `verify` has taken a map from the net to the block of each name. There may be further names: that a net
+                   of an archive is another one is not proved
+    UNPROVED_CELL  the cell has more than 512 vertices or 4,096 edges, which the program does not read. Its smaller cell
+                   was found in Python, and that it is the same net nothing proves
+    NONE           nothing was found, and that proves nothing"""
+
+    KEY = "key"
+    SMALLER_CELL = "key of a smaller cell"
+    VERIFIED_MAP = "verified map"
+    UNPROVED_CELL = "unproved cell"
+    NONE = ""
+
+    def __str__(self) -> str:
+        return self.value
+
+
+@dataclass(frozen=True)
+class Naming:
+    """What was found of a net that the program refuses a key.
+
+    names        in the archives
+    by           by what they are certain, also where there are none: SMALLER_CELL stands with a key that no archive has
+    certificate  a text that `net_tool verify` takes; empty where there is none
+    index        32 digits that are equal for isomorphic nets in whatever cells; not proved
+    small        the answer to the net in its smaller cell, where that has a key
+    note         why nothing was found"""
+
+    names: tuple[str, ...] = ()
+    by: By = By.NONE
+    certificate: str = field(default="", repr=False)
+    index: str = ""
+    small: Answer | None = None
+    note: str = ""
+
+
+NOTHING_FOUND = Naming()
+
+
 @dataclass(frozen=True)
 class Answer:
     """What the program says of one net.
@@ -80,7 +125,8 @@ class Answer:
     graph are those of the net; two keys are equal exactly where the nets are isomorphic; the sequences are those of
     the classes. Not proved: how the block was made of a structure or another file, and this reading of the report.
     The names are those of exactly the entries that have this key, whose keys the program computed anew from their
-    edges; that a name fits its edges is for the archive's author to know.
+    edges; that a name fits its edges is for the archive's author to know. Where there is no key, `by` says by what the
+    names are certain.
 
     net        the net that was asked about
     outcome    `accepted`, or why there is no key
@@ -90,6 +136,7 @@ class Answer:
     vertices, edges  of the quotient graph; 0 where the block is no graph
     notes      what a reader should know of how the net was read
     text       what the program printed of the net, as of the first one, where `identify` was asked for
+    naming     what was found beside that, where the program refuses a key
 
     Placement, primitive graph and sequences are read from the text when they are asked for."""
 
@@ -102,6 +149,29 @@ class Answer:
     edges: int = 0
     notes: tuple[str, ...] = ()
     text: bytes = field(default=b"", repr=False)
+    naming: Naming = NOTHING_FOUND
+
+    @property
+    def by(self) -> By:
+        """By what the names are certain."""
+        return By.KEY if self.accepted else self.naming.by
+
+    @property
+    def certificate(self) -> str:
+        """A text for `net_tool verify`, by which the names of a net without a key are certain; empty where there is none."""
+        return self.naming.certificate
+
+    @property
+    def index(self) -> str:
+        """32 digits that are equal for isomorphic nets in whatever cells, of a net without a key; not proved. Empty where
+        they were not asked for."""
+        return self.naming.index
+
+    @property
+    def small(self) -> Answer | None:
+        """The answer to the net in a smaller cell, where it has a key there and none in its own: placement, sequences and
+        picture are those of the same net."""
+        return self.naming.small
 
     @cached_property
     def report(self) -> NetReport | None:
@@ -154,7 +224,8 @@ class Answer:
 
     def __str__(self) -> str:
         what = "; ".join(self.names) or ("no name in the archive" if self.accepted else str(self.outcome))
-        return f"{self.name or 'net'}: {what}"
+        told = f" ({self.by}; {self.outcome})" if self.names and not self.accepted else ""
+        return f"{self.name or 'net'}: {what}{told}"
 
     def _repr_svg_(self) -> str | None:
         from .drawing import svg_of_answer
@@ -205,7 +276,7 @@ class Answers(Sequence[Answer]):
         return html_of_answers(self)
 
 
-COLUMNS = ("name", "outcome", "names", "dimension", "vertices", "edges", "classes", "D0", "key", "sequences", "notes")
+COLUMNS = ("name", "outcome", "names", "by", "dimension", "vertices", "edges", "classes", "D0", "key", "sequences", "notes")
 
 
 def to_pandas(answers: Sequence[Answer]) -> pandas.DataFrame:
@@ -213,6 +284,7 @@ def to_pandas(answers: Sequence[Answer]) -> pandas.DataFrame:
 
     name, outcome   texts; the outcome is `accepted`, or as `refused 5 Collision`
     names           in the archive, joined by `; `
+    by              by what they are certain: `key`, `key of a smaller cell`, `verified map`, `unproved cell`
     dimension, vertices, edges   of the quotient graph
     classes, D0     of the primitive graph and the placement; 0 where they were not asked for
     key             a text, since its numbers may have 128 bits
@@ -222,7 +294,7 @@ def to_pandas(answers: Sequence[Answer]) -> pandas.DataFrame:
         import pandas
     except ImportError:
         raise PackageMissing("pandas is not there; apt-get install python3-pandas") from None
-    rows = [(answer.name, short_outcome(answer.outcome), "; ".join(answer.names), answer.dimension, answer.vertices,
+    rows = [(answer.name, short_outcome(answer.outcome), "; ".join(answer.names), str(answer.by), answer.dimension, answer.vertices,
              answer.edges, answer.classes, answer.denominator, answer.key, tuple(sorted(set(answer.sequences))),
              "; ".join(answer.notes)) for answer in answers]
     return pandas.DataFrame(rows, columns=list(COLUMNS))

@@ -5,7 +5,7 @@ from __future__ import annotations
 import os
 import tempfile
 from collections.abc import Iterable, Iterator
-from functools import cache
+from functools import cache, cached_property
 from pathlib import Path
 
 from .errors import NotAnArchive, NotANet, ProgramFailed
@@ -13,6 +13,7 @@ from .net import Net
 from .program import run
 from .texts.archive_text import Entry, entries_of
 from .texts.net_text import NoReport
+from .wide.archive import SUFFIX, WideArchive
 
 HERE = Path(__file__).resolve().parent
 SHARED = (  # the archives beside the package in the repository or an installation, and in a Debian package; and elsewhere
@@ -22,7 +23,8 @@ BAD_ARCHIVE = 5
 
 
 class Archive:
-    """Named nets with their keys. It is read once, and looked up in memory.
+    """Named nets with their keys. It is read once, and looked up in memory. Beside them it may have nets without a key,
+    which are told by verified maps.
 
     Nothing in a file of an archive is trusted: while it is loaded, the program computes each key anew from the edges
     of its entry, and an archive in which one differs is refused.
@@ -32,9 +34,10 @@ class Archive:
     >>> len(archive), "pcu" in archive, archive["pcu"]
     (1, True, <Net pcu: 1 vertex, 3 edges, dimension 3>)"""
 
-    def __init__(self, entries: Iterable[tuple[str, str, Net]]) -> None:
-        """Of names, keys and nets. That the keys are those of the nets is for the caller to know: `load` and `of` have
-        them computed."""
+    def __init__(self, entries: Iterable[tuple[str, str, Net]], wide: Iterable[WideArchive] = ()) -> None:
+        """Of names, keys and nets, and of archives of nets without a key. That the keys are those of the nets is for the
+        caller to know: `load` and `of` have them computed."""
+        self._wide = tuple(wide)
         self._nets: dict[str, Net] = {}
         names: dict[str, list[str]] = {}
         for name, key, net in entries:
@@ -46,12 +49,14 @@ class Archive:
 
     @classmethod
     def load(cls, *paths: str | os.PathLike[str]) -> Archive:
-        """All archives of files and folders as one; of a folder the files `*.archive` in it. NotAnArchive where one is
-        none, or its keys are not those of its edges; OSError where it cannot be read."""
+        """All archives of files and folders as one; of a folder the files `*.archive` in it, and `*.index` of nets without
+        a key. NotAnArchive where one is none, or its keys are not those of its edges; OSError where it cannot be read."""
+        files = files_of(paths)
         entries: list[tuple[str, str, Net]] = []
-        for path in files_of(paths):
-            entries += _checked_entries(path)
-        return cls(entries)
+        for path in files:
+            if path.suffix != SUFFIX:
+                entries += _checked_entries(path)
+        return cls(entries, [WideArchive(path) for path in files if path.suffix == SUFFIX])
 
     @classmethod
     def default(cls) -> Archive:
@@ -64,7 +69,7 @@ class Archive:
         """An archive of nets under their names. NotANet where one has no name, or no key."""
         from .asking import keys
         entries = []
-        for answer in keys(list(nets)):
+        for answer in keys(list(nets), maps=False):
             if not answer.accepted or not answer.name:
                 reason = answer.outcome if answer.name else "it has no name"
                 raise NotANet(f"{answer.net!r} cannot be in an archive: {reason}")
@@ -75,21 +80,37 @@ class Archive:
         """The names of exactly the entries with this key, in the order of the archives."""
         return self._names.get(key, ())
 
+    def wide_blocks(self, index: str) -> Iterator[bytes]:
+        """The blocks of the nets without a key that may be a net with this index."""
+        return (block for archive in self._wide for block in archive.blocks(index))
+
+    @cached_property
+    def without_key(self) -> tuple[str, ...]:
+        """The names of the nets without a key."""
+        return tuple(dict.fromkeys(name for archive in self._wide for name in archive.names()))
+
     def __getitem__(self, name: str) -> Net:
         """The net of this name, of the first archive that has it."""
+        if name not in self._nets:
+            for archive in self._wide:
+                net = archive.net(name)
+                if net:
+                    return net
         return self._nets[name]
 
     def __contains__(self, name: object) -> bool:
-        return name in self._nets
+        return name in self._nets or name in self.without_key
 
     def __iter__(self) -> Iterator[str]:
-        return iter(self._nets)
+        """The names of the nets with a key, and then the others."""
+        return iter(dict.fromkeys([*self._nets, *self.without_key]))
 
     def __len__(self) -> int:
-        return len(self._nets)
+        return len(list(iter(self)))
 
     def __repr__(self) -> str:
-        return f"<Archive: {len(self)} names of {len(self._names)} nets>"
+        others = f", {len(self.without_key)} without a key" if self._wide else ""
+        return f"<Archive: {len(self._nets)} names of {len(self._names)} nets{others}>"
 
 
 @cache
@@ -101,7 +122,7 @@ def files_of(paths: Iterable[str | os.PathLike[str]]) -> list[Path]:
     """The archives of files and folders. NotAnArchive where a folder has none."""
     files: list[Path] = []
     for path in map(Path, paths):
-        found = sorted(path.glob("*.archive")) if path.is_dir() else [path]
+        found = _archives_in(path) if path.is_dir() else [path]
         if not found:
             raise NotAnArchive(f"{path} has no archive")
         files += found
@@ -112,7 +133,12 @@ def default_files() -> list[Path]:
     """The archives that look-up goes over where none is named."""
     home = os.environ.get("XDG_DATA_HOME") or os.path.join(os.path.expanduser("~"), ".local/share")
     shared = next((folder for folder in SHARED if folder.is_dir()), SHARED[0])
-    return [file for folder in (shared, Path(home, "net_tool/archives")) for file in sorted(folder.glob("*.archive"))]
+    return [file for folder in (shared, Path(home, "net_tool/archives")) for file in _archives_in(folder)]
+
+
+def _archives_in(folder: Path) -> list[Path]:
+    """The archives of a folder, those of nets without a key last."""
+    return [file for ending in (".archive", SUFFIX) for file in sorted(folder.glob("*" + ending))]
 
 
 def _checked_entries(path: Path) -> list[tuple[str, str, Net]]:

@@ -4,7 +4,7 @@ from __future__ import annotations
 
 import os
 import re
-from collections.abc import Iterable, Iterator, Mapping, Sequence
+from collections.abc import Callable, Iterable, Iterator, Mapping, Sequence
 from dataclasses import replace
 from enum import Enum
 from typing import Any
@@ -35,14 +35,16 @@ KINDS = ("refused", "malformed", "unsupported")  # of blocks without a key
 KEYED = re.compile(rb'net \d+ line (\d+)(?: "[^"\n]*")?\n(?:graph d=([23]) vertices=(\d+) edges=(\d+) repeats=\d+\n)?'
                    rb'(key|refused|malformed|unsupported) ([^\n]+)\n')
 PRIMITIVE = re.compile(rb"primitive vertices=(\d+) edges=(\d+)")
+Ask = Callable[[list[Net]], list[Answer]]
 HEAD = b"\nnet "  # begins the report on a net, and no other line: no name has a line feed
 
 
-def identify(source: Any, archive: Archives = DEFAULT, **options: Any) -> Answer:
+def identify(source: Any, archive: Archives = DEFAULT, maps: bool = True, **options: Any) -> Answer:
     """Which net it is: placement, primitive graph, key, coordination sequences, and names in the archive.
 
     source   what `read` reads, with one net; NotANet is raised where it has several
     archive  an `Archive`, paths of archives and folders, or None; the archives beside the package where none is given
+    maps     whether a net without a key is looked for all the same: on a smaller cell, and by verified maps
     options  of structures, as `convention="single-nodes"`
 
     What is proved and what is not, `Answer` says.
@@ -56,17 +58,18 @@ def identify(source: Any, archive: Archives = DEFAULT, **options: Any) -> Answer
     nets = read(source, **options)
     if len(nets) != 1:
         raise NotANet(f"there are {len(nets)} nets; identify_all answers each of them" if nets else "there is no net")
-    return _identified(nets, archive_of(archive), 1)[0]
+    return _identified(nets, archive_of(archive), 1, maps)[0]
 
 
-def identify_all(sources: Any, archive: Archives = DEFAULT, processes: int = 1, **options: Any) -> Answers:
+def identify_all(sources: Any, archive: Archives = DEFAULT, processes: int = 1, maps: bool = True,
+                 **options: Any) -> Answers:
     """The same of many nets: of a source that has several, as a file, or of an iterable of sources.
 
     processes  of the program, side by side"""
-    return _identified(_nets_of(sources, options), archive_of(archive), processes)
+    return _identified(_nets_of(sources, options), archive_of(archive), processes, maps)
 
 
-def keys(sources: Any, archive: Archives = None, processes: int = 1, **options: Any) -> Answers:
+def keys(sources: Any, archive: Archives = None, processes: int = 1, maps: bool = True, **options: Any) -> Answers:
     """The keys of many nets, and their names where an archive is given, without placement, primitive graph and
     sequences. It takes less time than `identify_all`.
 
@@ -77,7 +80,7 @@ def keys(sources: Any, archive: Archives = None, processes: int = 1, **options: 
     names = archive_of(archive)
     given = [net for net in nets if not net.refusal]
     answers = (answer for piece in each_piece(_keyed, given, processes) for answer in piece)
-    return Answers(list(_with_refusals(nets, answers, names)))
+    return Answers(list(_with_refusals(nets, answers, names, _keyed if maps else None)))
 
 
 def archive_of(archive: Archives) -> Archive | None:
@@ -101,21 +104,40 @@ def _nets_of(sources: Any, options: dict[str, Any]) -> list[Net]:
     return read(sources, **options)
 
 
-def _with_refusals(nets: Sequence[Net], answers: Iterator[Answer], archive: Archive | None) -> Iterator[Answer]:
-    """The answers in the order of the nets, with names, and what stands for a net that could not be read."""
+def _with_refusals(nets: Sequence[Net], answers: Iterator[Answer], archive: Archive | None,
+                   ask: Ask | None) -> Iterator[Answer]:
+    """The answers in the order of the nets, with names, and what stands for a net that could not be read. Where `ask` is
+    given, names are looked for of nets without a key as well; it asks the program the same of other nets."""
     for net in nets:
         if net.refusal:
             yield Answer(net, unreadable(net.refusal), notes=net.notes)
             continue
         answer = next(answers)
-        names = archive.names(answer.key) if archive and answer.key else ()
-        yield replace(answer, names=names) if names else answer
+        if answer.accepted:
+            names = archive.names(answer.key) if archive else ()
+            yield replace(answer, names=names) if names else answer
+        else:
+            yield _named_by_search(answer, archive, ask) if ask else answer
 
 
-def _identified(nets: list[Net], archive: Archive | None, processes: int) -> Answers:
+def _named_by_search(answer: Answer, archive: Archive | None, ask: Ask) -> Answer:
+    """An answer without a key, with what is found beside it."""
+    from .wide.naming import is_asked, naming_of  # here, since few nets need it
+    if not is_asked(answer.outcome):
+        return answer
+
+    def ask_one(net: Net) -> Answer:
+        found, = ask([net])
+        return replace(found, names=archive.names(found.key) if archive and found.key else ())
+
+    naming = naming_of(answer, archive, ask_one)
+    return replace(answer, names=naming.names, naming=naming)
+
+
+def _identified(nets: list[Net], archive: Archive | None, processes: int, maps: bool) -> Answers:
     given = [net for net in nets if not net.refusal]
     answers = (answer for piece in each_piece(_identified_piece, given, processes) for answer in piece)
-    return Answers(list(_with_refusals(nets, answers, archive)))
+    return Answers(list(_with_refusals(nets, answers, archive, _identified_piece if maps else None)))
 
 
 def _keyed(nets: list[Net]) -> list[Answer]:

@@ -10,6 +10,7 @@ from typing import Any
 
 from .asking import KINDS, single
 from .errors import NotANet
+from .lattice import determinant
 from .net import Net
 from .outcome import ACCEPTED, Outcome, outcome_of
 from .program import reading_report, run
@@ -43,7 +44,7 @@ def cover(source: Any, cell: Iterable[Iterable[int]], **options: Any) -> Cover:
     rows = _rows_of(cell)
     net = single(source, options)
     _, told = run("cover", net.block, "-", "--cell=" + ",".join(str(part) for row in rows for part in row))
-    index = abs(_determinant(rows))
+    index = abs(determinant(rows))
     if told.startswith(b"PERIODIC_GRAPH"):
         with reading_report("cover"):
             want_one_block(told)
@@ -62,13 +63,6 @@ def _rows_of(cell: Iterable[Iterable[int]]) -> list[list[int]]:
     if max(abs(part) for row in rows for part in row) > GREATEST_SHIFT:
         raise NotANet(f"the numbers of a cell are from -{GREATEST_SHIFT} to {GREATEST_SHIFT}")
     return rows
-
-
-def _determinant(rows: list[list[int]]) -> int:
-    if len(rows) == 2:
-        return rows[0][0] * rows[1][1] - rows[0][1] * rows[1][0]
-    (a, b, c), (d, e, f), (g, h, i) = rows
-    return a * (e * i - f * h) - b * (d * i - f * g) + c * (d * h - e * g)
 
 
 def _outcome(lines: list[bytes]) -> Outcome:

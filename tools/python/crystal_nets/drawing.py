@@ -16,13 +16,15 @@ MOST_PICTURES = 24  # in the table of many answers
 
 
 def svg(source: Net | Answer) -> str:
-    """The picture of a net as SVG. NotANet where it has no key, and so no picture."""
+    """The picture of a net as SVG; in its smaller cell where it has a key in that alone. NotANet where it has no key, and so
+    no picture."""
     from .answers import Answer
     from .asking import identify
     answer = source if isinstance(source, Answer) else identify(source, archive=None)
-    if not answer.accepted:
+    shown = answer if answer.accepted else answer.small
+    if shown is None:
         raise NotANet(f"it has no key, and so no picture: {answer.outcome}")
-    report = (answer if answer.text else identify(answer.net, archive=None)).report
+    report = (shown if shown.text else identify(shown.net, archive=None)).report
     try:
         from .pictures.placed import NotPlaced, placed_net
         from .pictures.shape import Shape
@@ -64,9 +66,11 @@ def html_of_net(net: Net) -> str:
 
 def html_of_answer(answer: Answer) -> str:
     """The names, the picture and what is to be known of an answer."""
-    rows = [("net", answer.name), ("names", "; ".join(answer.names)), ("outcome", str(answer.outcome)),
+    rows = [("net", answer.name), ("names", "; ".join(answer.names)), ("by", "" if answer.accepted else str(answer.by)),
+            ("outcome", str(answer.outcome)),
             ("vertices, edges", f"{answer.vertices}, {answer.edges}" if answer.vertices else "")]
-    rows += [("sequence", " ".join(map(str, sequence))) for sequence in sorted(set(answer.sequences))]
+    sequences = (answer.small or answer).sequences
+    rows += [("sequence", " ".join(map(str, sequence))) for sequence in sorted(set(sequences))]
     rows += [("note", note) for note in answer.notes]
     cells = "".join(f"<tr><th>{name}</th><td>{html.escape(text)}</td></tr>" for name, text in rows if text)
     return f"<div>{_small(svg_of_answer(answer))}<table>{cells}</table></div>"

@@ -3,22 +3,32 @@
 from __future__ import annotations
 
 from collections.abc import Iterator
-from dataclasses import dataclass
+from dataclasses import dataclass, field
 from typing import Any
 
-from .answers import Answer, Answers
+from .answers import Answer, Answers, By
 from .asking import Archives, keys
+
+Member = tuple[int, Answer]  # a place among the nets that were given, and the answer
 
 
 @dataclass(frozen=True)
 class Group:
-    """Nets with one key: each two of them are isomorphic, and no net of another group is isomorphic to one of them.
+    """Nets that are the same: each two of them are isomorphic.
 
-    places  of the members among the nets that were given, from 0 on"""
+    Of a group by key no net of another group by key is isomorphic to one of them; that is proved. Of a group by maps that
+    is not proved: two such groups may be one net.
+
+    key           of its nets; empty where they have none
+    places        of the members among the nets that were given, from 0 on
+    by            KEY; or VERIFIED_MAP, where each member has a map to one small net that `verify` has taken
+    certificates  of a group by maps a text for `net_tool verify` for each member"""
 
     key: str
     places: tuple[int, ...]
     members: Answers
+    by: By = By.KEY
+    certificates: tuple[str, ...] = field(default=(), repr=False)
 
     def __len__(self) -> int:
         return len(self.places)
@@ -26,14 +36,14 @@ class Group:
     @property
     def names(self) -> tuple[str, ...]:
         """In the archive, where one was given."""
-        return self.members[0].names
+        return tuple(dict.fromkeys(name for member in self.members for name in member.names))
 
 
 @dataclass(frozen=True)
 class Groups:
-    """All groups, also of one net, in the order of their first members.
+    """All groups by key, also of one net, and those by maps of two and more, in the order of their first members.
 
-    keyless  the answers of the nets without a key: they may be isomorphic to each other or not"""
+    keyless  the answers of the nets in no group: they may be isomorphic to each other or not"""
 
     groups: tuple[Group, ...]
     keyless: Answers
@@ -48,19 +58,47 @@ class Groups:
         return self.groups[place]
 
 
-def group(sources: Any, archive: Archives = None, processes: int = 1, **options: Any) -> Groups:
+def group(sources: Any, archive: Archives = None, processes: int = 1, maps: bool = True, **options: Any) -> Groups:
     """The groups of isomorphic nets. Keys are compared whole; that two are equal exactly where the nets are isomorphic
-    is proved.
+    is proved. A net that has a key on a smaller cell alone belongs to the group of that key, since `verify` has taken the
+    map. Nets without a key are grouped by verified maps; `maps=False` leaves all of these aside.
 
     >>> square, wide = [(1, 1, (1, 0)), (1, 1, (0, 1))], [(1, 1, (1, 1)), (1, 1, (0, 1))]
     >>> honeycomb = [(1, 2, (0, 0)), (1, 2, (1, 0)), (1, 2, (0, 1))]
     >>> [entry.places for entry in group([Net(square), Net(honeycomb), Net(wide)])]
     [(0, 2), (1,)]"""
-    answers = keys(sources, archive, processes, **options)
-    found: dict[str, list[tuple[int, Answer]]] = {}
+    answers = keys(sources, archive, processes, maps, **options)
+    by_key: dict[str, list[Member]] = {}
+    by_index: dict[str, list[Member]] = {}
     for place, answer in enumerate(answers):
-        if answer.key:
-            found.setdefault(answer.key, []).append((place, answer))
-    groups = [Group(key, tuple(place for place, _ in members), Answers([answer for _, answer in members]))
-              for key, members in found.items()]
-    return Groups(tuple(groups), Answers([answer for answer in answers if not answer.key]))
+        key = _key_of(answer)
+        if key:
+            by_key.setdefault(key, []).append((place, answer))
+        elif answer.index and answer.outcome.kind == "refused":
+            by_index.setdefault(answer.index, []).append((place, answer))
+    groups = [Group(key, *_split(members)) for key, members in by_key.items()]
+    for members in by_index.values():
+        groups += _groups_by_maps(members)
+    groups.sort(key=lambda one: one.places[0])
+    grouped = {place for one in groups for place in one.places}
+    return Groups(tuple(groups), Answers([answer for place, answer in enumerate(answers) if place not in grouped]))
+
+
+def _key_of(answer: Answer) -> str:
+    """The proved key of a net, in whichever cell it has one."""
+    if answer.by is By.SMALLER_CELL and answer.small:
+        return answer.small.key
+    return answer.key
+
+
+def _split(members: list[Member]) -> tuple[tuple[int, ...], Answers]:
+    return tuple(place for place, _ in members), Answers([answer for _, answer in members])
+
+
+def _groups_by_maps(members: list[Member]) -> list[Group]:
+    """The groups of two and more of nets with one index."""
+    if len(members) < 2:
+        return []
+    from .wide.grouping import grouped_by_maps  # here, since few nets need it
+    found = grouped_by_maps([answer.net for _, answer in members])
+    return [Group("", *_split([members[k] for k in one.places]), By.VERIFIED_MAP, one.certificates) for one in found]

@@ -1,11 +1,13 @@
-"""Lattices of whole vectors: staircase bases, and coordinates in them."""
+"""Lattices of whole vectors: staircase bases, coordinates in them, and small matrices."""
 
 from __future__ import annotations
 
 import operator
 from collections.abc import Iterable, Sequence
+from typing import TypeVar
 
 Vector = tuple[int, ...]
+Number = TypeVar("Number", int, float)
 
 
 def add(u: Sequence[int], v: Sequence[int]) -> Vector:
@@ -80,3 +82,31 @@ def index(basis: Sequence[Vector]) -> int:
     for row in basis:
         product *= row[pivot_place(row)]
     return product
+
+
+def determinant(rows: Sequence[Sequence[Number]]) -> Number:
+    """Of two or three rows."""
+    if len(rows) == 2:
+        (a, b), (c, d) = rows
+        return a * d - b * c
+    (a, b, c), (d, e, f), (g, h, i) = rows
+    return a * (e * i - f * h) - b * (d * i - f * g) + c * (d * h - e * g)
+
+
+def adjugate(rows: Sequence[Sequence[Number]]) -> list[list[Number]]:
+    """The matrix whose product with that of two or three rows is the determinant times the unit matrix."""
+    if len(rows) == 2:
+        (a, b), (c, d) = rows
+        return [[d, -b], [-c, a]]
+    (a, b, c), (d, e, f), (g, h, i) = rows
+    return [[e * i - f * h, c * h - b * i, b * f - c * e], [f * g - d * i, a * i - c * g, c * d - a * f],
+            [d * h - e * g, b * g - a * h, a * e - b * d]]
+
+
+def unit_matrix(size: int) -> list[list[int]]:
+    return [[int(i == k) for k in range(size)] for i in range(size)]
+
+
+def times(vector: Sequence[int], rows: Sequence[Sequence[int]]) -> Vector:
+    """The vector with these coordinates in a basis of these rows."""
+    return tuple([sum([part * row[k] for part, row in zip(vector, rows)]) for k in range(len(rows[0]))])

@@ -3,7 +3,7 @@
 from __future__ import annotations
 
 import re
-from dataclasses import dataclass, field
+from dataclasses import dataclass, field, replace
 from itertools import product
 from typing import Any
 
@@ -53,6 +53,18 @@ class NetMap:
 
 
 @dataclass(frozen=True)
+class Meeting:
+    """Two nets mapped to one small net, by which they are isomorphic.
+
+    net           the small net
+    certificates  two texts for `net_tool verify`: a map of the first net to it, and one of the second. The graphs in them
+                  are the rows that `net_tool cover` prints of the blocks on the unit cell"""
+
+    net: Net
+    certificates: tuple[str, str] = field(repr=False)
+
+
+@dataclass(frozen=True)
 class Sameness:
     """Whether two nets are isomorphic: whether a bijection keeps edges and carries the lattice of the one onto that of
     the other. Proved, up to the blocks that the program read.
@@ -61,17 +73,24 @@ class Sameness:
     map       the map, where they are the same and it can be written
     outcomes  of the two nets: why there is no answer
     text      `different`, `map`, or why no map is written
+    meeting   where there is no such map, or a net has no key: the two are shown to be the same by verified maps to one
+              small net
+    hint      where it is not known: `other by invariants that are not proved`, or why the search for a meeting gave up
 
-    It is true as a condition where `same` is True, and raises NotANet where `same` is None."""
+    It is true as a condition where `same` is True, and raises NotANet where `same` is None. Of nets without a key it is
+    never False: that invariants tell them apart is mathematics, and not proved of this code."""
 
     same: bool | None
     map: NetMap | None
     outcomes: tuple[Outcome, Outcome]
     text: str
+    meeting: Meeting | None = None
+    hint: str = ""
 
     def __bool__(self) -> bool:
         if self.same is None:
-            raise NotANet(f"whether the nets are the same is not known: {self.text}")
+            told = "; ".join(filter(None, (self.text, self.hint)))
+            raise NotANet(f"whether the nets are the same is not known: {told}")
         return self.same
 
 
@@ -89,12 +108,22 @@ def same(one: Any, other: Any, **options: Any) -> Sameness:
     _, told = run("same", b"".join(net.block for net in nets), "-")
     if told.startswith(b"net_maps 1\n"):
         with reading_report("same"):
-            return _sameness(told, nets)
-    first, second = (answer.outcome for answer in keys(nets))
+            found = _sameness(told, nets)
+        return found if found.map or not found.same else _with_meeting(found, nets)
+    first, second = (answer.outcome for answer in keys(nets, maps=False))
     reasons = [str(outcome) for outcome in (first, second) if not outcome.accepted]
     if not reasons:
         raise ProgramFailed("net_tool same gave no map, and both nets have keys")
-    return Sameness(None, None, (first, second), reasons[0])
+    return _with_meeting(Sameness(None, None, (first, second), reasons[0]), nets)
+
+
+def _with_meeting(found: Sameness, nets: list[Net]) -> Sameness:
+    """What is known where no map is written, with a meeting where one is found."""
+    from .wide.meeting import certified_meeting  # here, since few nets need it
+    done = certified_meeting(nets[0], nets[1], found.outcomes)
+    if isinstance(done, str):
+        return replace(found, hint=done)
+    return replace(found, same=True, meeting=done)
 
 
 def _sameness(told: bytes, nets: list[Net]) -> Sameness:

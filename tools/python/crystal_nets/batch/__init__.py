@@ -6,4 +6,5 @@ net_groups      the groups of isomorphic nets in rows
 net_names       the names of nets in rows
 accepted_nets   the blocks of a file that have a key
 archive_nets    the nets of an archive as blocks
-component_nets  the parts of interwoven nets as blocks"""
+component_nets  the parts of interwoven nets as blocks
+wide_archive    an archive of nets without a key"""

@@ -1,7 +1,8 @@
 """The blocks of FILE that have a key by REPORT, which `net_tool key FILE` printed, so that
 `net_tool add` takes them though other blocks are refused. FILE may be one of key lines, and REPORT
 what `net_tool union FILE --archive A` printed: then its items come out, for `union`. What is left
-out is told on standard error. Nothing is written where the report is cut or damaged."""
+out is told on standard error. With --without-key the blocks of connected nets that are refused a key
+come out in their place, for wide_archive. Nothing is written where the report is cut or damaged."""
 
 from __future__ import annotations
 
@@ -10,6 +11,8 @@ import signal
 import sys
 
 from ..texts.net_text import NetReport, NoReport, chunks_of, nets_of_report
+
+WITHOUT_KEY = tuple(f"refused {number} ".encode() for number in (4, 5, 6, 7))
 
 
 def words() -> argparse.Namespace:
@@ -22,6 +25,8 @@ def words() -> argparse.Namespace:
                         help="leave out blocks without a name, or with one that stood before")
     parser.add_argument("--new-keys", action="store_true",
                         help="leave out blocks whose net stood before")
+    parser.add_argument("--without-key", action="store_true",
+                        help="the blocks that are refused 4 to 7, and nothing is told")
     return parser.parse_args()
 
 
@@ -62,6 +67,9 @@ def main() -> int:
             if net is None or net.line != chunk.opening_line:
                 raise NoReport(f"{asked.report} is not the report on {asked.file}: "
                                f"of the block at line {chunk.opening_line} it does not speak")
+            if asked.without_key:
+                kept += chunk.block_lines if net.told.startswith(WITHOUT_KEY) else []
+                continue
             reason = choice.reason_against(net)
             if reason:
                 print(f'line {net.line} "{net.name.decode(errors="replace")}": {reason}', file=sys.stderr)

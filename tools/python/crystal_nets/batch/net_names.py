@@ -1,20 +1,30 @@
 """For each net in rows of net_rows that the archive has: its number, its name, and a name of the
 archive, parted by tabs. A net with several names has several lines. ARCHIVE may be a folder: then
-it is all its archives. Each is read by net_tool first, which computes each of its keys anew."""
+it is all its archives. Each is read by net_tool first, which computes each of its keys anew. With
+--pieces, the folder of split_nets that the rows are of, nets without a key are looked for as well: on a
+smaller cell, and by maps that `net_tool verify` takes to the nets without a key of the archives. A fourth
+field says by what each name is certain."""
 
 from __future__ import annotations
 
 import argparse
 import os
+import re
 import signal
 import subprocess
 import sys
 from collections import defaultdict
+from collections.abc import Iterator
 from pathlib import Path
 
+from ..errors import NotANet
 from ..texts.archive_text import entries_of
-from ..texts.net_text import NoReport
+from ..texts.graph_text import plain
+from ..texts.net_text import NoReport, chunks_of
 from ..texts.row_text import rows_of_files
+
+Told = tuple[int, bytes, bytes, bytes]  # number, name in the archive, own name, and by what it is certain, after a tab
+WITHOUT_KEY = re.compile(rb"refused [4-7] |malformed [89] ")
 
 EPILOG = """exit status: 0 told; 1 a file is not there, or is not one of rows with keys; 2 usage; else that of
 net_tool, which refused an archive. NET_TOOL is the program, net_tool where it is not set."""
@@ -24,6 +34,7 @@ def words() -> argparse.Namespace:
     parser = argparse.ArgumentParser(prog="net_names", description=__doc__, epilog=EPILOG)
     parser.add_argument("archive", metavar="ARCHIVE", type=Path)
     parser.add_argument("rows", metavar="ROWS", nargs="+")
+    parser.add_argument("--pieces", metavar="FOLDER", type=Path, help="names of nets without a key, too")
     return parser.parse_args()
 
 
@@ -37,7 +48,7 @@ class ArchiveRefused(Exception):
 
 def archives_of(path: Path) -> list[Path]:
     archives = sorted(path.glob("*.archive")) if path.is_dir() else [path]
-    if not archives:
+    if not archives and not any(path.glob("*.index")):
         raise NoReport(f"{path} has no archive")
     return archives
 
@@ -69,6 +80,41 @@ def tell_names() -> int:
         with open(archive, "rb") as lines:
             for entry in entries_of(lines, str(archive)):
                 names[entry.key].add(entry.name)
-    found = [(row.number, name, row.name) for row in rows_of_files(asked.rows) for name in names.get(row.key, ())]
-    sys.stdout.buffer.writelines(b"%d\t%s\t%s\n" % (number, own, name) for number, name, own in sorted(found))
+    found: list[Told] = []
+    without_key: dict[int, bytes] = {}
+    for row in rows_of_files(asked.rows):
+        found += [(row.number, name, row.name, b"\tkey" if asked.pieces else b"") for name in names.get(row.key, ())]
+        if asked.pieces and WITHOUT_KEY.match(row.outcome):
+            without_key[row.number] = row.name
+    if without_key:
+        found += names_without_key(without_key, asked.archive, asked.pieces)
+    sys.stdout.buffer.writelines(b"%d\t%s\t%s%s\n" % (number, own, name, by) for number, name, own, by in sorted(found))
     return 0
+
+
+def names_without_key(wanted: dict[int, bytes], archives: Path, pieces: Path) -> Iterator[Told]:
+    """The names of the nets with these numbers, which have no key."""
+    from ..archive import Archive  # here, since names by keys need none of it
+    from ..asking import keys
+    from ..net import Net
+    archive = Archive.load(archives)
+    for number, block in blocks_of_pieces(pieces):
+        if number in wanted:
+            try:
+                answer, = keys([Net.from_block(block)], archive)
+            except NotANet:  # it has no END
+                continue
+            for name in answer.names:
+                yield number, plain(name).encode(errors="replace"), wanted[number], f"\t{answer.by}".encode()
+
+
+def blocks_of_pieces(pieces: Path) -> Iterator[tuple[int, bytes]]:
+    """The blocks of the pieces in a folder of split_nets, with their numbers in the whole file."""
+    for line in (pieces / "index.tsv").read_text().splitlines():
+        piece, blocks_before, _, _ = line.split("\t")
+        number = int(blocks_before)
+        with open(pieces / piece, "rb") as content:
+            for chunk in chunks_of(content):
+                if chunk.opening_line:
+                    number += 1
+                    yield number, b"".join(chunk.block_lines)

@@ -1,7 +1,8 @@
 """Archives of many nets from .cgd and .arc files, with what is refused beside them, and why.
 
 Two blocks of one name that are one net are taken once. Where they are different nets, as a published key line and the
-CRYSTAL block of the same name may be, the second is refused, and both are named."""
+CRYSTAL block of the same name may be, the second is refused, and both are named. Nets that the program refuses a key make
+an archive of their own, in which they are told by verified maps."""
 
 from __future__ import annotations
 
@@ -10,24 +11,27 @@ import os
 import signal
 import subprocess
 import sys
-from collections.abc import Iterator
+from collections.abc import Iterable, Iterator
 from dataclasses import dataclass
 from pathlib import Path
 
 from ..progress import Progress
 from ..errors import in_words
 from ..files import write_whole
+from ..net import Net
 from ..program import find_program
 from ..texts.net_text import MOST_BLOCKS, MOST_BYTES, NetReport, NoReport, nets_of_report
-
+from ..wide.archive import write_wide_archive
 from .converter import Block, Converter, lines_of
 from .tokens import decoded, shown
 
 DONE, SOME_REFUSED, FAILED = 0, 1, 3
 PIECE = 200            # nets whose keys are asked for at a time
 MOST_TEXT = MOST_BYTES - (1 << 20)
+WITHOUT_KEY = tuple(f"refused {number} " for number in (4, 5, 6, 7))
 DESCRIPTION = """Archives of the nets of .cgd and .arc files: NAME.archive, and NAME.2.archive and so on where one
-cannot hold them all. What is refused, and why, goes to NAME.refused."""
+cannot hold them all. What is refused, and why, goes to NAME.refused. Nets that have no key, but a name, are told by
+maps: they go to NAME.wide.cgd, with the index NAME.wide.index."""
 EPILOG = """exit status: 0 each net is taken; 1 some net is refused; 2 usage; 3 nothing is made.
 NET_TOOL is the program; where it is not set, that of the repository, or net_tool on the path."""
 
@@ -46,6 +50,7 @@ class ListedNet:
     name: bytes
     text: bytes
     key: bytes = b""
+    told: str = ""
 
     @property
     def place(self) -> str:
@@ -99,14 +104,14 @@ def read_nets(files: list[str], refused: list[str]) -> list[ListedNet]:
     return nets
 
 
-def find_keys(nets: list[ListedNet], program: str) -> Iterator[tuple[ListedNet, str]]:
-    """The nets with their names and keys, and why one has none."""
+def find_keys(nets: list[ListedNet], program: str) -> Iterator[ListedNet]:
+    """The nets with their names and keys, and what is told of one that has none."""
     with Progress("keys", len(nets), "nets") as bar:
         for k in range(0, len(nets), PIECE):
             piece = nets[k:k + PIECE]
             for net, report in zip(piece, keys_of_piece(piece, program), strict=True):
-                net.name, net.key = report.name, report.key
-                yield net, decoded(report.told)
+                net.name, net.key, net.told = report.name, report.key, decoded(report.told)
+                yield net
             bar.step(len(piece))
 
 
@@ -122,14 +127,14 @@ def keys_of_piece(nets: list[ListedNet], program: str) -> list[NetReport]:
     return reports
 
 
-def chosen(nets: Iterator[tuple[ListedNet, str]], refused: list[str]) -> list[ListedNet]:
+def chosen(nets: Iterable[ListedNet], refused: list[str]) -> list[ListedNet]:
     """The nets that an archive may have: with a key, and with a name that no other net has."""
     by_name: dict[bytes, ListedNet] = {}
-    for net, told in nets:
+    for net in nets:
         first = by_name.get(net.name)
         reason = ""
         if not net.key:
-            reason = told
+            reason = net.told
         elif not net.name:
             reason = "it has no name"
         elif first and first.key != net.key:
@@ -162,18 +167,37 @@ def archive_path(stem: Path, number: int) -> Path:
     return stem.with_name(stem.name + (f".{number}.archive" if number > 1 else ".archive"))
 
 
+def make_wide_archive(stem: Path, nets: list[ListedNet]) -> int:
+    """Makes the archive of the nets without a key, and tells of it; gives their number."""
+    by_name: dict[bytes, ListedNet] = {}
+    with_key = {net.name for net in nets if net.key}
+    for net in nets:
+        if net.name and net.name not in with_key and net.told.startswith(WITHOUT_KEY):
+            by_name.setdefault(net.name, net)
+    wide = stem.with_name(stem.name + ".wide")
+    if by_name:
+        write_wide_archive(wide, [Net.from_block(net.text, decoded(name)) for name, net in by_name.items()])
+        print(f"{wide}.cgd: {len(by_name)} nets without a key")
+    else:  # of an earlier collection
+        for ending in (".cgd", ".index"):
+            wide.with_name(wide.name + ending).unlink(missing_ok=True)
+    return len(by_name)
+
+
 def make_archives(stem: Path, files: list[str]) -> int:
     """Makes the archives and the list of refusals, and tells what was made."""
     program = find_program()
     refused: list[str] = []
     nets = read_nets(files, refused)
-    taken = chosen(find_keys(nets, program), refused)
+    nets = list(find_keys(nets, program))
+    taken = chosen(nets, refused)
     stem.parent.mkdir(parents=True, exist_ok=True)
     number = 0
     for number, (text, count) in enumerate(archives_of(taken, program), start=1):
         write_whole(archive_path(stem, number), text)
         print(f"{archive_path(stem, number)}: {count} nets")
-    if not number:
+    wide = make_wide_archive(stem, nets)
+    if not number and not wide:
         raise Failed("no net can be taken" + (": " + refused[0] if refused else ""))
     while (old := archive_path(stem, number + 1)).exists():  # of an earlier, longer collection
         old.unlink()

@@ -13,6 +13,7 @@ archives     the archives by their files, each with its names or the reason why 
 questions    what is asked: the nets of a file, the card of a net, a pair of nets, a crystal
 files        from a file to some of its nets
 cards        what is told and drawn of a net
+beyond       names of a net without a key, by verified maps
 pairs        whether two nets are the same, or what differs first
 woven        interwoven nets in one picture, each copy in a colour
 reasons      why there is no key, in a chemist's words, and what to do

@@ -2,6 +2,7 @@
 
 from __future__ import annotations
 
+from collections.abc import Iterator
 from dataclasses import dataclass
 from functools import cache
 from pathlib import Path
@@ -35,6 +36,22 @@ def _shelf(path: Path) -> Shelf:
 def names_of(key: str) -> list[tuple[str, str]]:
     """The names of exactly the nets with this key, each with the stem of its archive."""
     return [(shelf.stem, name) for shelf in shelves() if shelf.archive for name in shelf.archive.names(key)]
+
+
+def names_without_key(names: tuple[str, ...]) -> list[tuple[str, str]]:
+    """These names of nets without a key, each with the stem of its archive."""
+    return [(shelf.stem, name) for shelf in shelves() if shelf.archive for name in names
+            if name in shelf.archive.without_key]
+
+
+class AllShelves:
+    """All archives together, for the search for nets without a key."""
+
+    def names(self, key: str) -> tuple[str, ...]:
+        return tuple(name for _, name in names_of(key))
+
+    def wide_blocks(self, index: str) -> Iterator[bytes]:
+        return (block for shelf in shelves() if shelf.archive for block in shelf.archive.wide_blocks(index))
 
 
 def told_shelves() -> list[dict]:

@@ -7,6 +7,7 @@ from typing import Any
 
 import numpy as np
 
+from ..answers import By, Naming
 from ..errors import NotANet, ProgramFailed
 from ..net import Net
 from ..outcome import outcome_of
@@ -20,6 +21,7 @@ from ..pictures.view import view_of
 from ..program import run
 from ..texts.net_text import NetReport, nets_of_report
 from .archives import names_of
+from .beyond import naming, told as told_beyond
 from .reasons import reason_of, unread
 from .woven import woven, woven_copies
 
@@ -94,6 +96,9 @@ def _cell(shape: Shape) -> dict[str, Any]:
 def _without_key(net: Net, report: NetReport) -> dict[str, Any]:
     outcome = outcome_of(report.told, report.line - 1)
     done: dict[str, Any] = {"reason": reason_of(outcome)}
+    beyond = naming(net, outcome, report)
+    if beyond:
+        return {**done, "beyond": told_beyond(beyond), **_picture_of_smaller_cell(beyond)}
     if outcome.kind != "refused" or outcome.number not in (1, 2):
         return done
     found = components(net, archive=None)
@@ -102,6 +107,18 @@ def _without_key(net: Net, report: NetReport) -> dict[str, Any]:
     done["parts"] = _told_parts(found.parts)
     drawn = woven(net)
     return {**done, "woven": asdict(drawn)} if drawn else done
+
+
+def _picture_of_smaller_cell(found: Naming) -> dict[str, Any]:
+    """Sequences, cell and picture of the net in the smaller cell to which `verify` has taken a map; nothing where there is
+    none, or it cannot be drawn."""
+    if found.by is not By.SMALLER_CELL or found.small is None or found.small.report is None:
+        return {}
+    try:
+        shown = _of_key(found.small.net, found.small.report)
+    except ProgramFailed:
+        return {}
+    return {part: shown[part] for part in ("sequences", "scale", "classes", "cell", "picture", "svg")}
 
 
 def _told_parts(parts: tuple[Component, ...]) -> list[dict[str, Any]]:

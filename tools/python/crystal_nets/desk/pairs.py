@@ -5,17 +5,19 @@ from __future__ import annotations
 from collections import Counter
 from typing import Any
 
-from ..maps import NetMap, Sameness, same
+from ..maps import Meeting, NetMap, Sameness, same
 from ..net import Net
 from ..outcome import ACCEPTED, outcome_of
 from ..parts import Component, components
 from ..texts.net_text import NetReport
+from ..wide.meeting import UNPROVED_DIFFERENCE
 from .archives import names_of
 from .cards import report_of
 from .reasons import reason_of
 
 DISCONNECTED, DEGENERATE, COLLISION = 1, 2, 5  # numbers of refusals
 APART = (DISCONNECTED, DEGENERATE)
+ADVICE = {UNPROVED_DIFFERENCE: "Lengths and volumes that nets have in any cell tell them apart; that is not proved."}
 MOST_IMAGES = 200  # of a map that are shown; the text that is saved has all
 
 
@@ -32,9 +34,16 @@ def pair(one: Net, other: Net) -> dict[str, Any]:
 
 def _map(found: Sameness) -> dict[str, Any]:
     if found.map is None:
-        return {"map": None, "advice": f"Their keys are equal. The map is not written: {found.text}."}
+        more = _meeting(found.meeting) if found.meeting else {}
+        return {**more, "map": None, "advice": f"Their keys are equal. The map is not written: {found.text}."}
     return {"map": {"period": found.map.period, "base": found.map.base, "text": found.map.text,
                     "verified": found.map.is_verified(), "images": _images(found.map), "count": len(found.map.images)}}
+
+
+def _meeting(found: Meeting) -> dict[str, Any]:
+    """The two texts for `net_tool verify`."""
+    return {"what": "Both go to one small net: net_tool verify has taken a map of each to it, edge by edge.",
+            "meeting": list(found.certificates)}
 
 
 def _images(read: NetMap) -> list[list[Any]]:
@@ -89,8 +98,11 @@ def _without_key(nets: list[Net], reports: list[NetReport]) -> dict[str, Any]:
                 "all stand apart."}
     if kinds == [DISCONNECTED, DISCONNECTED]:
         return _by_parts(nets)
+    found = same(*nets)
+    if found.meeting:
+        return {"verdict": "same", **_meeting(found.meeting)}
     return {"verdict": "not known", "what": "One of them has no key, and nothing else tells them apart.",
-            "reasons": [{} if outcome.accepted else reason_of(outcome) for outcome in outcomes]}
+            "advice": ADVICE.get(found.hint, ""), "reasons": [{} if outcome.accepted else reason_of(outcome) for outcome in outcomes]}
 
 
 def _by_parts(nets: list[Net]) -> dict[str, Any]:

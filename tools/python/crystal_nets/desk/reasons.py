@@ -28,7 +28,8 @@ REFUSALS = {
         "Layers in space are read as layers from a structure file. " + MISSING_BONDS),
     4: ("The places of its vertices are fractions too fine to be told: their common denominator, or a distance in its "
         "units, is past 2^40, as in the zeolites BEA, STT and TUN.",
-        "There is no key. Another convention may give a smaller net."),
+        "There is no key in this cell. A name is looked for all the same: on a smaller cell, and by a map that the program "
+        "verifies."),
     5: ("Two vertices come to stand in one place when each is put at the mean of its neighbours.",
         "Such a net has a placement and no key. Look whether the two should be one vertex, or a bond is missing."),
     6: ("It has so many ways to be laid out that to compare them all would pass a work of 1,000,000,000.",

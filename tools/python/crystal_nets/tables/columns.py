@@ -14,8 +14,8 @@ if TYPE_CHECKING:
     import pandas
 
 OF_A_PIECE = ("source", "line", "name", "outcome", "dimension", "vertices", "edges", "classes", "D0", "key", "sequences",
-              "notes", "reason")
-TABLE = ("number", *OF_A_PIECE[:-2], "group", "names", "notes")
+              "notes", "reason", "by", "index", "small_key", "certificate", "block")
+TABLE = ("number", *OF_A_PIECE[:OF_A_PIECE.index("notes")], "group", "names", "by", "index", "notes")
 NUMBERS = ("number", "line", "dimension", "vertices", "edges", "classes", "D0", "group")
 QUOTE_NONE = 3  # of the module csv
 MARKS = {**{bytes((byte,)).decode("latin-1"): text.decode() for byte, text in ESCAPES.items()}, '"': "\\x22"}

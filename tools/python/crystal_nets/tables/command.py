@@ -48,6 +48,8 @@ def words() -> argparse.Namespace:
                         help="an archive, or a folder of them, for names; several may be given. Without it they are those "
                         "that archive_files lists")
     parser.add_argument("--no-names", action="store_true", help="look no names up")
+    parser.add_argument("--maps", action="store_true", help="write FOLDER/maps/NUMBER.maps, which net_tool verify takes, of "
+                        "each net that is told by a map")
     parser.add_argument("--keys-alone", action="store_true",
                         help="no placement and no sequences, which takes less time")
     parser.add_argument("--jobs", metavar="N", type=number_of_jobs, default=processors(),
@@ -176,7 +178,7 @@ def make_table(asked: argparse.Namespace) -> int:
             return 0
         archive = archive_of(asked)
         make_pieces(work, plan, list(range(1, len(plan.pieces) + 1)), asked.jobs)
-        counts = join(folder, work, plan, archive)
+        counts = join(folder, work, plan, archive, asked.maps)
     print(f"{folder / FILES[0]}: {counts.nets} nets, {counts.with_key} with a key, {counts.kinds} different, "
           f"{counts.named} with a name, {counts.nets - counts.with_key} refused")
     return SOME_REFUSED if counts.with_key < counts.nets else 0

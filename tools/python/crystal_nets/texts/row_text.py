@@ -51,6 +51,7 @@ class Row:
     number: int
     name: bytes
     key: bytes
+    outcome: bytes
 
 
 def rows_of(lines: Iterable[bytes], file: str) -> Iterator[Row]:
@@ -70,7 +71,7 @@ def rows_of(lines: Iterable[bytes], file: str) -> Iterator[Row]:
             is_right = False
         if not is_right:
             raise NoReport(f"{file}: the key in line {count} is cut, or is none")
-        yield Row(int(number), name, key)
+        yield Row(int(number), name, key, outcome)
 
 
 def rows_of_files(files: Iterable[str]) -> Iterator[Row]:

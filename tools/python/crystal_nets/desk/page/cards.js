@@ -85,6 +85,12 @@ function reasonOf(reason) {
     told && make('code', {}, told));
 }
 
+// Names of a net without a key, by what is certain of them.
+function beyondOf(beyond) {
+  if (!beyond) return null;
+  return make('div', { className: 'beyond' }, namesOf(beyond.names, ''), make('p', {}, beyond.what));
+}
+
 function partsOf(parts) {
   if (!parts || !parts.length) return null;
   return make('ul', { className: 'notes', 'aria-label': 'parts' }, ...parts.map(part => make('li', {},
@@ -107,6 +113,7 @@ function savesOf(card, askCrystal) {
   return make('div', { className: 'saves' },
     card.block && button('.cgd', () => save(card.name, '.cgd', card.block)),
     card.report && button('report', () => save(card.name, '.report', card.report)),
+    card.beyond?.certificate && button('map', () => save(card.name, '.maps', card.beyond.certificate)),
     svg && button('SVG', () => save(card.name, '.svg', svg, 'image/svg+xml')),
     card.key && button('CIF', async event => {
       event.target.disabled = true;
@@ -145,7 +152,7 @@ function fillCard(article, card, choice, askCrystal) {
   const without = card.key ? 'no name in the archives' : '';
   const key = card.key && make('details', {}, make('summary', {}, 'key'), make('code', {}, card.key));
   article.replaceChildren(...[heading, namesOf(card.names || [], without), picturesOf(card),
-    card.reason && reasonOf(card.reason), partsOf(card.parts), sizesOf(card), notesOf(card.notes || []), key, choice,
+    card.reason && reasonOf(card.reason), beyondOf(card.beyond), partsOf(card.parts), sizesOf(card), notesOf(card.notes || []), key, choice,
     savesOf(card, askCrystal)].filter(Boolean));
   article.removeAttribute('aria-busy');
 }

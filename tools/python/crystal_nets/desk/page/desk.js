@@ -194,6 +194,10 @@ function verdictOf(answer, one, other) {
     if (reason.what) parts.push(make('p', {}, `${[one, other][k].name}: ${reason.what}`));
   });
   if (answer.map) parts.push(...mapOf(answer.map, one, other));
+  (answer.meeting || []).forEach((text, k) => {
+    const { name } = [one, other][k];
+    parts.push(make('button', { type: 'button', onclick: () => save(name, '.maps', text) }, `save the map of ${name}`));
+  });
   return parts.filter(part => part);
 }
 
