@@ -81,7 +81,7 @@ class Columns(Reading):
     def test_oxygen_with_attached_hydrogens_is_water(self):
         ice = cif_text((3.3501, 3.3501, 3.3501, 90, 90, 90), [("O1", "O", 0.25, 0.25, 0.25)], name="P n -3 m:2")
         rows, told = self.convert(with_columns(ice, {"attached_hydrogens": ["2"]}))
-        self.assertEqual(rows.count('"O1'), 16)
+        self.assertEqual(rows.count('"O1'), 8)
 
     def test_other_columns_do_not_matter(self):
         columns = {tag: ["x"] * 2 for tag in (

@@ -2,7 +2,7 @@
 
 from __future__ import annotations
 
-from collections import Counter
+from collections import Counter, defaultdict
 from dataclasses import dataclass, field, replace
 
 import numpy as np
@@ -14,6 +14,7 @@ from ...refusal import Refused
 from ...texts.graph_text import written_name
 from ..atoms.crystal import FULL, Crystal
 from ..atoms.elements import is_metal
+from ..bonds.contacts import radius
 from ..bonds.hydrogen import hydrogen_bridges
 from ..bonds.rules import Lengths, find_bonds
 from ..units.building_units import units_of
@@ -22,6 +23,8 @@ from .guests import without_guests
 from .pieces import Piece, pieces_of
 from .simplification import Contracted, contracted, sequences_of, shells, without_ends
 
+TOUCH = 0.30         # angstrom above the sum of the radii: atoms of one guest
+MOSTLY_THERE = 0.65  # the occupancy from which an atom counts as full, and that is told as a doubt
 MOST_TOLD = 600  # letters of the doubts about bonds
 KINDS = ("molecule", "rod", "layer", "net in space")  # by dimension
 COPIES = ("molecules", "rods", "layers", "interwoven nets")
@@ -43,9 +46,15 @@ class Options:
 
 def nets_of(crystal: Crystal, options: Options, notes: list[Note]) -> list[Net]:
     """The layers and the nets in space of a crystal; notes on all of it come to the notes."""
-    if crystal.misfit and not options.accept_misfit:
+    bad_guests = _bad_guests(crystal)
+    if bad_guests:
+        told = f"{crystal.misfit}: such atoms are left out, as they are in pores and bonded to no others"
+        notes.append(Note(DOUBT, told))
+        crystal = crystal.without(bad_guests)
+    elif crystal.misfit and not options.accept_misfit:
         raise Refused(f"{crystal.misfit} (--accept-misfit takes it all the same)")
-    notes += [Note(DOUBT, crystal.misfit)] if crystal.misfit else []
+    elif crystal.misfit:
+        notes.append(Note(DOUBT, crystal.misfit))
     doubts: list[str] = []
     bonds = find_bonds(crystal, options.hydrogen_bonds, options.lengths, doubts)
     chosen = _with_atoms_chosen(crystal, bonds, options, notes)
@@ -63,6 +72,23 @@ def nets_of(crystal: Crystal, options: Options, notes: list[Note]) -> list[Net]:
     notes += _told_pieces(pieces, {atom.name: atom.site.element for atom in crystal.atoms})
     groups = [[p] for p in periodic] if options.every_copy else _alike(periodic, crystal)
     return [named for k, group in enumerate(groups) for named in _named(crystal, group, k, options)]
+
+
+def _bad_guests(crystal: Crystal) -> set[int]:
+    """The atoms in pores that are too near each other, with all that they touch, where no other atom of the crystal is
+    too near; none where they touch all atoms, or metals."""
+    reached = sorted({v for pair in crystal.near for v in pair})
+    if not reached or crystal.clash:
+        return set()
+    elements = [atom.site.element for atom in crystal.atoms]
+    radii = np.array([radius(element) for element in elements])
+    around: dict[int, set[int]] = defaultdict(set)
+    for c in crystal.contacts(2 * radii.max() + TOUCH, lambda u, v, length: length <= radii[u] + radii[v] + TOUCH):
+        around[c.first].add(c.second)
+    for v in reached:
+        reached += sorted(around[v] - set(reached))
+    is_pore = not any(is_metal(elements[v]) for v in reached) and 2 * len(reached) < len(elements)
+    return set(reached) if is_pore else set()
 
 
 def _nets_of_molecules(crystal: Crystal, bonded: QuotientGraph, options: Options, notes: list[Note]) -> list[Net]:
@@ -162,6 +188,11 @@ def _named(crystal: Crystal, group: list[Piece], k: int, options: Options) -> li
                 raise Refused(f"{convention.name} does not apply: {reason}") from reason
             unfit.setdefault(str(reason), []).append(convention.name)
             continue
+        except Exception as fault:  # of one convention: the others may still apply
+            if not is_auto:
+                raise
+            unfit.setdefault(f"it failed, {type(fault).__name__} {fault}", []).append(convention.name)
+            continue
         sequences = shells(simple.net) if is_auto else ()
         if sequences in seen:
             text = f"{convention.name}: the net of {seen[sequences]}, by its coordination sequences"
@@ -223,12 +254,15 @@ def _told_simplification(simple: Contracted) -> list[Note]:
 
 
 def _partial_notes(crystal: Crystal, core: QuotientGraph, options: Options) -> list[Note]:
+    """What is told of partly occupied atoms of the net: those that are there nearly everywhere are taken as full, as
+    the cobalt of Prussian blues with vacancies; raises Refused where there are others."""
     names = set(core.vertices)
-    partial = sorted({f"{a.site.label} {a.occupancy:.2f}" for a in crystal.atoms
-                      if a.name in names and a.occupancy < FULL})
+    partial = [a for a in crystal.atoms if a.name in names and a.occupancy < FULL]
     if not partial:
         return []
-    text = "partly occupied atoms of the net: " + shorten(", ".join(partial))
-    if not options.partial_as_full:
-        raise Refused(text + " (--partial-as-full takes them as full)")
-    return [Note(DISORDER, text)]
+    text = shorten(", ".join(sorted({f"{a.site.label} {a.occupancy:.2f}" for a in partial})))
+    if options.partial_as_full:
+        return [Note(DISORDER, f"partly occupied atoms of the net: {text}")]
+    if any(a.occupancy < MOSTLY_THERE for a in partial):
+        raise Refused(f"partly occupied atoms of the net: {text} (--partial-as-full takes them as full)")
+    return [Note(DOUBT, f"partly occupied atoms of the net, taken as full: {text}")]

@@ -15,7 +15,7 @@ from ..atoms.formula import Expected
 from ...provenance import DOUBT, SYMMETRY, Note
 from ..atoms.places import images_of, name_apart, take_once
 from ...refusal import Refused
-from ..atoms.sanity import check_metric, keeps_metric, misfit_of
+from ..atoms.sanity import check_metric, judge, keeps_metric
 from .sites import number_of, read_sites
 from .symmetry import Symmetry, both_origins, named_symmetry, read_symmetry, text_of
 
@@ -40,7 +40,7 @@ def read_crystal(block: Block) -> Crystal:
     def crystal_with(symmetry: Symmetry) -> Crystal:
         crystal = _expand(block, sites, symmetry, cell)
         crystal.formula = formula
-        crystal.misfit = misfit_of(crystal, formula)
+        judge(crystal, formula)
         return crystal
 
     crystal = crystal_with(symmetry)
@@ -50,6 +50,9 @@ def read_crystal(block: Block) -> Crystal:
         crystal = _with_an_origin(block, cell, crystal, symmetry, crystal_with)
     if crystal.misfit and symmetry.source == "operations":
         crystal = _with_an_origin(block, cell, crystal, symmetry, crystal_with)
+    if crystal.shortage:
+        crystal.misfit = ""
+        crystal.noted_doubt(crystal.shortage)
     return crystal.noted_doubt(expected.doubt_of(_in_cell(crystal, cell)))
 
 

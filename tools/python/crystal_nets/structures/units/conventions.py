@@ -178,7 +178,8 @@ def _check_rods(framework: Framework, parts: Parts) -> None:
 def _within_linkers(parts: Parts) -> set[Edge]:
     """The bonds of rings in linkers, and of small anions."""
     outer = set(range(len(parts.elements))) - parts.inner
-    return ring_edges(parts.net, outer) | parts.edges_within(parts.small_anions)
+    of_held = {bond for bond in parts.edges_within(outer) if {bond.u, bond.v} & parts.held}
+    return (ring_edges(parts.net, outer) - parts.beside_rings) | parts.edges_within(parts.small_anions) | of_held
 
 
 # Rods
@@ -189,7 +190,8 @@ def _points_and_metals(framework: Framework, parts: Parts) -> Units:
     within = parts.edges_within(parts.inner)
     whole = units_of(framework.net, within)
     finite = {v for v in parts.inner if not whole.endless[whole.unit[v]]}
-    anions = {bond for bond in within if {bond.u, bond.v} & parts.centres and not {bond.u, bond.v} & parts.metals}
+    anions = {bond for bond in within if {bond.u, bond.v} & (parts.centres | parts.azolates)
+              and not {bond.u, bond.v} & parts.metals}
     units = units_of(framework.net, anions | parts.edges_within(finite) | _within_linkers(parts))
     if any(units.endless):
         raise Refused("an organic part goes on without end: standard applies")
