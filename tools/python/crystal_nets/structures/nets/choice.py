@@ -87,7 +87,7 @@ def _bad_guests(crystal: Crystal) -> set[int]:
         around[c.first].add(c.second)
     for v in reached:
         reached += sorted(around[v] - set(reached))
-    is_pore = not any(is_metal(elements[v]) for v in reached) and 2 * len(reached) < len(elements)
+    is_pore = not any(is_metal(elements[v]) for v in reached) and len(reached) < len(elements)
     return set(reached) if is_pore else set()
 
 
