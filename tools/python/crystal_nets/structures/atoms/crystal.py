@@ -53,6 +53,7 @@ class Crystal:
     notes: list[Note] = field(default_factory=list)
     listed: dict[str, float] = field(default_factory=dict)  # the elements before disorder is resolved
     formula: dict[str, float] = field(default_factory=dict)  # as the file gives it
+    listed_bonds: list[tuple[str, str, float]] = field(default_factory=list)  # two labels, and the length in angstrom
     clash: str = ""    # labels of different full atoms in one place
     misfit: str = ""   # why the atoms of the cell cannot be right
     near: dict[tuple[int, int], str] = field(default_factory=dict)  # atoms that are nearer than any bond

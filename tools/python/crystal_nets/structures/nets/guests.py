@@ -95,6 +95,14 @@ def without_guests(crystal: Crystal, net: QuotientGraph, kept: list[int], notes:
     return result
 
 
+def tetrahedral_atoms(net: QuotientGraph, elements: list[str]) -> set[int]:
+    """The atoms with four oxygens each that no hydrogen has, and these oxygens: what the type of a zeolite is made of."""
+    arcs = net.arcs()
+    centres = {v for v, element in enumerate(elements) if element not in ("O", "H")
+               and sum(elements[w] == "O" for w, _ in arcs[v]) == 4}
+    return centres | {w for v in centres for w, _ in arcs[v] if elements[w] == "O"}
+
+
 def _told(sites: list[SiteBonds]) -> str:
     return " and ".join(dict.fromkeys(site.told for site in sites))
 

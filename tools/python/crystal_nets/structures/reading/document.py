@@ -17,9 +17,9 @@ OF_CONCERN = re.compile(r"_(cell_(length|angle)|symmetry|space_group|atom_site|c
 DOTTED = re.compile(r"(_(?<!\S_)(?:cell|symmetry|space_group|atom_site|chemical_formula)[A-Za-z_]*)\.(?=[A-Za-z])",
                     re.IGNORECASE)
 # Structures that have no space group of the usual kind, by tags that only they have.
+MAGNETIC = re.compile(r"_(space_group_symop_magn|symmetry_equiv_pos_as_xyz_magn|space_group_magn|space_group_symop\.magn"
+                      r"|parent_space_group)", re.IGNORECASE)
 OTHER_KINDS = (
-    (re.compile(r"_(space_group_symop_magn|symmetry_equiv_pos_as_xyz_magn|space_group_magn|space_group_symop\.magn"
-                r"|parent_space_group)", re.IGNORECASE), "a magnetic structure"),
     (re.compile(r"_(space_group_ssg|space_group_symop_ssg|cell_modulation_dimension|cell_wave_vector"
                 r"|atom_site_fourier_wave|atom_site_displace_fourier)", re.IGNORECASE),
      "a modulated structure, with a superspace group"),
@@ -44,11 +44,10 @@ def blocks_of(content: bytes, stem: str) -> list[Block]:
     except (ValueError, RuntimeError) as error:
         version = " (CIF 2.0)" if text.lstrip().startswith("#\\#CIF_2.0") else ""
         raise Refused(f"no CIF{version}: {str(error).replace('string:', 'line ')}") from error
-    blocks = [block for block in document if _has_tag(block, "_atom_site_fract_x")]
+    blocks = [block for block in document
+              if _has_tag(block, "_atom_site_fract_x") or _has_tag(block, "_atom_site_Cartn_x")]
     if not blocks:
-        has_others = any(_has_tag(block, "_atom_site_Cartn_x") for block in document)
-        raise Refused("atoms in Cartesian coordinates, as mmCIF files have them, are not read" if has_others
-                         else "no atoms with fractional coordinates")
+        raise Refused("no atoms with fractional coordinates")
     return _named(blocks, stem, text)
 
 
@@ -91,11 +90,13 @@ def check_block(block: Block) -> None:
     """Raises Refused where the block is of a kind that is not read, or has a tag of concern
     twice; another tag that stands twice is told."""
     lines: dict[str, int] = {}
+    is_magnetic = False
     for item in block.cif:
         tags = [item.pair[0]] if item.pair else item.loop.tags if item.loop else []
         plain = [tag.lower() for tag in tags]
         for tag, name in zip(tags, plain):
             _check_kind(tag)
+            is_magnetic |= MAGNETIC.match(tag) is not None
             first = lines.setdefault(name, item.line_number)
             in_one_loop = len(tags) > 1 and plain.count(name) > 1
             if in_one_loop or first != item.line_number:
@@ -104,6 +105,8 @@ def check_block(block: Block) -> None:
                 if OF_CONCERN.match(tag):
                     raise Refused(told)
                 block.notes.append(Note(OTHER, told))
+    if is_magnetic:
+        block.notes.append(Note(OTHER, "a magnetic structure: the average is read, without moments"))
 
 
 def _check_kind(tag: str) -> None:
