@@ -100,7 +100,7 @@ class Azolates(Kinds):
         framework = Framework(net, {name: "Zn" if name == "M" else name[0] for name in names},
                               {name: np.zeros(3) for name in names}, np.eye(3)[:2])
         self.assertEqual([convention.name for convention in conventions_for("auto", framework)], ["standard"])
-        self.assertEqual(contracted(standard(framework)).net.degrees(), [4])
+        self.assertEqual(contracted(standard(framework).net).net.degrees(), [4])
 
 
 if __name__ == "__main__":

@@ -145,7 +145,8 @@ class Bonds(Reading):
         self.assertEqual(bonds_between(text, "Gd", "C"), (0, []))
         self.assertEqual(bonds_between(text, "Gd", "N")[0], 4)
         self.assertEqual(self.convert(text)[0], self.convert(text, lengths={pair: 0.0})[0])
-        self.assertNotEqual(self.convert(text)[0], self.convert(text, lengths={pair: 3.6})[0])
+        whole = {"convention": "all-atoms"}
+        self.assertNotEqual(self.convert(text, **whole)[0], self.convert(text, lengths={pair: 3.6}, **whole)[0])
 
     def test_cyclopentadienyls_carbonyls_and_cyanides_are_joined_to_metals(self):
         turns = [2 * np.pi * k / 5 for k in range(5)]

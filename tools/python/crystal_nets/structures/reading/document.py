@@ -60,6 +60,12 @@ def text_of_file(content: bytes) -> str:
     return plain.decode("ascii", errors="replace").replace("\ufffd", "_")
 
 
+def is_magnetic(block: gemmi.cif.Block) -> bool:
+    """Whether a block has a tag that only magnetic structures have."""
+    tags = (tag for item in block for tag in ([item.pair[0]] if item.pair else item.loop.tags if item.loop else []))
+    return any(map(MAGNETIC.match, tags))
+
+
 def _has_tag(block: gemmi.cif.Block, tag: str) -> bool:
     return bool(block.find_values(tag))
 
@@ -90,13 +96,11 @@ def check_block(block: Block) -> None:
     """Raises Refused where the block is of a kind that is not read, or has a tag of concern
     twice; another tag that stands twice is told."""
     lines: dict[str, int] = {}
-    is_magnetic = False
     for item in block.cif:
         tags = [item.pair[0]] if item.pair else item.loop.tags if item.loop else []
         plain = [tag.lower() for tag in tags]
         for tag, name in zip(tags, plain):
             _check_kind(tag)
-            is_magnetic |= MAGNETIC.match(tag) is not None
             first = lines.setdefault(name, item.line_number)
             in_one_loop = len(tags) > 1 and plain.count(name) > 1
             if in_one_loop or first != item.line_number:
@@ -105,7 +109,7 @@ def check_block(block: Block) -> None:
                 if OF_CONCERN.match(tag):
                     raise Refused(told)
                 block.notes.append(Note(OTHER, told))
-    if is_magnetic:
+    if is_magnetic(block.cif):
         block.notes.append(Note(OTHER, "a magnetic structure: the average is read, without moments"))
 
 

@@ -11,7 +11,7 @@ import numpy as np
 
 from ...lattice import staircase
 from ...refusal import Refused
-from .document import MAGNETIC
+from .document import is_magnetic
 from .names import group_of_name
 
 OPERATION_TAGS = ("_space_group_symop_operation_xyz", "_symmetry_equiv_pos_as_xyz",
@@ -56,7 +56,7 @@ def read_symmetry(block: gemmi.cif.Block, cell: gemmi.UnitCell) -> Symmetry:
     named = named_symmetry(block, cell)
     if named:
         return named
-    if any(map(MAGNETIC.match, block.get_mmcif_category_names())) and not named:
+    if is_magnetic(block):
         raise Refused("a magnetic structure without operations: such files are not read")
     name, number = _name_of(block), text_of(block, NUMBER_TAGS)
     if name or number not in ("", "1"):
@@ -69,7 +69,7 @@ def _magnetic_operations(block: gemmi.cif.Block) -> list[str]:
     they are those of the average structure."""
     found = []
     for tag in ("operation", "centering"):
-        texts = [gemmi.cif.as_string(v).rpartition(",")[0] for v in block.find_values(f"_space_group_symop_magn_{tag}.xyz")]
+        texts = [gemmi.cif.as_string(v).rpartition(",")[0] for v in block.find_values(f"_space_group_symop_magn_{tag}_xyz")]
         found.append(texts or ["x,y,z"])
     if found == [["x,y,z"], ["x,y,z"]]:
         return []
