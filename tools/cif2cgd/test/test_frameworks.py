@@ -104,7 +104,7 @@ class Frameworks(unittest.TestCase):
 
     def setUp(self) -> None:
         need_program()
-        self.text, self.wanted = "", {}
+        self.text, self.wanted = b"", {}
 
     def convert(self, framework: str, files: dict[str, str], wanted: dict[str, str]) -> None:
         """Converts each file by each convention; the nets that are wanted are kept."""
@@ -113,7 +113,7 @@ class Frameworks(unittest.TestCase):
                 name = f"{framework} {kind} {convention}"
                 done = convert(Source(name, name, name), content.encode(), Options(convention=convention))
                 self.assertFalse(done.is_refused, done.told(refusals_alone=False))
-                self.assertIn(f"{convention}: ", done.text.splitlines()[0])
+                self.assertIn(f"{convention}: ", done.text.decode().splitlines()[0])
                 self.text += done.text
                 self.wanted[name] = symbol
 
@@ -121,11 +121,11 @@ class Frameworks(unittest.TestCase):
         self.assertEqual(symbols_of(self.text), self.wanted)
 
 
-def symbols_of(text: str) -> dict[str, str]:
+def symbols_of(text: bytes) -> dict[str, str]:
     """The symbols in the archives of the nets of a text."""
     found: dict[str, str] = {}
     for archive in ("zeolites", "common"):
-        report = run(PROGRAM, "identify", "-", "--archive", TOP / f"archives/{archive}.archive", stdin=text.encode(),
+        report = run(PROGRAM, "identify", "-", "--archive", TOP / f"archives/{archive}.archive", stdin=text,
                      status=None).stdout.decode()
         for part in re.split(r"(?m)^net (?=\d)", report)[1:]:
             name = re.match(r'\d+ line \d+ "([^"]*)"', part)[1]
@@ -203,13 +203,13 @@ class Conventions(unittest.TestCase):
 
     def test_auto_gives_those_that_differ_under_their_names(self):
         done = self.auto("MOF-505")
-        self.assertEqual([net["name"] for net in done.nets], ["MOF-505 single-nodes", "MOF-505 all-nodes"])
+        self.assertEqual([net.name for net in done.nets], ["MOF-505 single-nodes", "MOF-505 all-nodes"])
         told = done.told(refusals_alone=False)
         self.assertTrue(any(line.endswith(": pe and pem do not apply: there are no rods of metals") for line in told), told)
 
     def test_auto_tells_which_are_the_same(self):
         done = self.auto("IRMOF-10")
-        self.assertEqual([net["name"] for net in done.nets], ["IRMOF-10 single-nodes"])
+        self.assertEqual([net.name for net in done.nets], ["IRMOF-10 single-nodes"])
         told = "\n".join(done.told(refusals_alone=False))
         self.assertIn("all-nodes: the net of single-nodes, by its coordination sequences", told)
 
@@ -217,8 +217,8 @@ class Conventions(unittest.TestCase):
         for name, conventions in (("MIL-53", ["pe", "pem"]), ("quartz", ["all-atoms"])):
             structure = next(s for s in (*PUBLISHED, *STRUCTURES) if s.name == name)
             done = convert(Source(name, name, name), presentations(structure)["name"].encode(), Options(convention="auto"))
-            self.assertEqual([net["convention"] for net in done.nets], conventions)
-        self.assertEqual([net["convention"] for net in self.auto("COF-366-Co").nets], ["standard"])
+            self.assertEqual([net.provenance.convention for net in done.nets], conventions)
+        self.assertEqual([net.provenance.convention for net in self.auto("COF-366-Co").nets], ["standard"])
 
     def test_a_convention_that_does_not_apply_says_so(self):
         quartz = presentations(next(s for s in STRUCTURES if s.name == "quartz"))["name"].encode()
@@ -264,7 +264,7 @@ class Conventions(unittest.TestCase):
         for kind, content in files_of("trimesic acid", origin, trimesic_acid()).items():
             done = convert(Source(kind, kind, kind), content.encode(), Options(convention="standard"))
             self.assertEqual(symbols_of(done.text), {kind: "hcb"})
-            self.assertIn("each molecule is a vertex", done.text.splitlines()[0])
+            self.assertIn("each molecule is a vertex", done.text.decode().splitlines()[0])
             done = convert(Source(kind, kind, kind), content.encode(), Options())
             self.assertIn("no net: ", done.told(refusals_alone=True)[0])
 

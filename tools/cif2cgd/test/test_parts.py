@@ -7,7 +7,7 @@ from testing import TOOLS, need_modules
 need_modules("gemmi", "numpy", "scipy")
 from crystal_nets.graph import QuotientGraph, edge  # noqa: E402
 from crystal_nets.lattice import coordinates, index, staircase  # noqa: E402
-from crystal_nets.structures.bonds.rules import first_gap  # noqa: E402
+from crystal_nets.structures.bonds.shells import first_gap  # noqa: E402
 from crystal_nets.structures.nets.pieces import pieces_of  # noqa: E402
 from crystal_nets.structures.atoms.elements import element_of, elements_of_formula  # noqa: E402
 from crystal_nets.structures.nets.simplification import contracted, without_ends  # noqa: E402

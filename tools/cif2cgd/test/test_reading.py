@@ -81,7 +81,7 @@ class Columns(Reading):
     def test_oxygen_with_attached_hydrogens_is_water(self):
         ice = cif_text((3.3501, 3.3501, 3.3501, 90, 90, 90), [("O1", "O", 0.25, 0.25, 0.25)], name="P n -3 m:2")
         rows, told = self.convert(with_columns(ice, {"attached_hydrogens": ["2"]}))
-        self.assertEqual(rows.count('"O1'), 16)
+        self.assertEqual(rows.count('"O1'), 8)
 
     def test_other_columns_do_not_matter(self):
         columns = {tag: ["x"] * 2 for tag in (
@@ -145,7 +145,8 @@ class Bonds(Reading):
         self.assertEqual(bonds_between(text, "Gd", "C"), (0, []))
         self.assertEqual(bonds_between(text, "Gd", "N")[0], 4)
         self.assertEqual(self.convert(text)[0], self.convert(text, lengths={pair: 0.0})[0])
-        self.assertNotEqual(self.convert(text)[0], self.convert(text, lengths={pair: 3.6})[0])
+        whole = {"convention": "all-atoms"}
+        self.assertNotEqual(self.convert(text, **whole)[0], self.convert(text, lengths={pair: 3.6}, **whole)[0])
 
     def test_cyclopentadienyls_carbonyls_and_cyanides_are_joined_to_metals(self):
         turns = [2 * np.pi * k / 5 for k in range(5)]
@@ -265,12 +266,20 @@ class Files(Reading):
         self.assertIn("symmetry from name P 32 2 1\n", told)
         self.assertIn("refused: partly occupied atoms of the net: O1 0.50", told)
 
-    def test_magnetic_and_modulated_structures_are_refused_by_name(self):
-        for tag, kind in (("_space_group_symop_magn_operation.xyz x,y,z,+1", "a magnetic structure"),
-                          ("_space_group_magn.number_BNS 62.448", "a magnetic structure"),
-                          ("_space_group_symop_ssg_operation_algebraic x1,x2,x3,x4", "a modulated structure"),
-                          ("_cell_modulation_dimension 1", "a modulated structure")):
-            self.assertIn(f"refused: {kind}", self.convert(QUARTZ + tag + "\n", status=1)[1])
+    def test_modulated_structures_are_refused_by_name(self):
+        for tag in ("_space_group_symop_ssg_operation_algebraic x1,x2,x3,x4", "_cell_modulation_dimension 1"):
+            self.assertIn("refused: a modulated structure", self.convert(QUARTZ + tag + "\n", status=1)[1])
+
+    def test_of_a_magnetic_structure_the_average_is_read(self):
+        """Iron with moments along c, and a type IV lattice, whose centring turns the moments."""
+        magnetic = cif_text((2.866, 2.866, 2.866, 90, 90, 90), [("Fe1", "Fe", 0, 0, 0)], operations=["x,y,z"])
+        magnetic = magnetic.replace("_symmetry_equiv_pos_as_xyz\n'x,y,z'", "_space_group_symop_magn_operation.xyz\nx,y,z,+1\n"
+                                    "-x,-y,z,+1\nloop_\n_space_group_symop_magn_centering.xyz\nx,y,z,+1\nx+1/2,y+1/2,z+1/2,-1")
+        rows, told = self.convert(magnetic)
+        self.assertEqual(rows.count('"Fe1" "Fe1"'), 4)
+        self.assertIn("a magnetic structure: the average is read", told)
+        self.assertIn("refused: a magnetic structure", self.convert(
+            magnetic.replace("_operation.xyz", "_operation.no").replace("_centering.xyz", "_centering.no"), status=1)[1])
 
     def test_two_blocks_and_two_tags_of_one_name_are_told_with_their_lines(self):
         count = len(QUARTZ.splitlines())
@@ -290,11 +299,17 @@ class Files(Reading):
         self.assertNotEqual(dotted, QUARTZ)
         self.assertEqual(self.convert(dotted)[0], self.convert(QUARTZ)[0])
 
-    def test_cartesian_coordinates_and_cif_2_are_refused_by_name(self):
+    def test_cartesian_coordinates_without_a_cell_and_cif_2_are_refused_by_name(self):
         told = self.convert("data_1ABC\nloop_\n_atom_site.id\n_atom_site.Cartn_x\n1 2.5\n", status=1)[1]
-        self.assertIn("refused: atoms in Cartesian coordinates, as mmCIF files have them, are not read", told)
+        self.assertIn("refused: no unit cell", told)
         told = self.convert("#\\#CIF_2.0\ndata_a\n_x [1 2]\n", status=1)[1]
         self.assertIn("refused: no CIF (CIF 2.0): ", told)
+
+    def test_cartesian_coordinates_of_mmcif(self):
+        cell = "".join(f"_cell.{tag} {value}\n" for tag, value in (("length_a", 2.866), ("length_b", 2.866), ("length_c", 2.866)))
+        text = (f"data_iron\n{cell}loop_\n_atom_site.label_atom_id\n_atom_site.type_symbol\n_atom_site.Cartn_x\n_atom_site.Cartn_y\n"
+                "_atom_site.Cartn_z\nFe1 Fe 0 0 0\nFe2 Fe 1.433 1.433 1.433\n")
+        self.assertEqual(self.convert(text)[0].count('"Fe1" "Fe2"'), 8)
 
     def test_operations_with_decimals_and_operations_that_stand_twice(self):
         text = presentations(structure("quartz"))["published"]

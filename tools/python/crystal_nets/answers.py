@@ -15,6 +15,7 @@ from .graph import LabelledEdge, Vertex
 from .net import Net
 from .outcome import Outcome
 from .program import reading_report
+from .provenance import BuildingUnit, Component
 from .texts.graph_text import vertex_of
 from .texts.net_text import NetReport, nets_of_report
 
@@ -222,6 +223,36 @@ class Answer:
         """Whether the net has a key."""
         return self.outcome.accepted
 
+    @property
+    def doubts(self) -> tuple[str, ...]:
+        """Those of the notes that tell where another reading gives another net."""
+        return self.net.doubts
+
+    @property
+    def left_out(self) -> tuple[str, ...]:
+        """Those of the notes that tell what of the structure the net has not."""
+        return self.net.left_out
+
+    @property
+    def convention(self) -> str:
+        """What became the vertices, as `all-atoms`; empty where the net is of no structure."""
+        return self.net.convention
+
+    @property
+    def copies(self) -> int:
+        """How many nets alike the structure has, of which this is one."""
+        return self.net.copies
+
+    @property
+    def components(self) -> tuple[Component, ...]:
+        """The pieces of the structure, molecules and rods among them."""
+        return self.net.components
+
+    @property
+    def units(self) -> tuple[BuildingUnit, ...]:
+        """What each vertex stands for: its atoms, their formula and its connectivity."""
+        return self.net.units
+
     def __str__(self) -> str:
         what = "; ".join(self.names) or ("no name in the archive" if self.accepted else str(self.outcome))
         told = f" ({self.by}; {self.outcome})" if self.names and not self.accepted else ""
@@ -276,7 +307,8 @@ class Answers(Sequence[Answer]):
         return html_of_answers(self)
 
 
-COLUMNS = ("name", "outcome", "names", "by", "dimension", "vertices", "edges", "classes", "D0", "key", "sequences", "notes")
+COLUMNS = ("name", "outcome", "names", "by", "dimension", "vertices", "edges", "classes", "D0", "key", "sequences", "notes",
+           "doubts", "left_out", "convention", "copies", "components", "units")
 
 
 def to_pandas(answers: Sequence[Answer]) -> pandas.DataFrame:
@@ -289,15 +321,29 @@ def to_pandas(answers: Sequence[Answer]) -> pandas.DataFrame:
     classes, D0     of the primitive graph and the placement; 0 where they were not asked for
     key             a text, since its numbers may have 128 bits
     sequences       a tuple of the different coordination sequences, in rising order
-    notes           joined by `; `"""
+    notes           all of them, joined by `; `
+    doubts, left_out  those of the notes that are doubts, and on what was left out
+    convention, copies  what became the vertices, and of how many nets alike this is one
+    components      of the structure, as `1 net in space Zn4O13C24H12, 2 molecules CH4O`
+    units           a tuple of what the vertices stand for, each kind once, as `Zn4O(CO2)6, 6-connected`"""
     try:
         import pandas
     except ImportError:
         raise PackageMissing("pandas is not there; apt-get install python3-pandas") from None
-    rows = [(answer.name, short_outcome(answer.outcome), "; ".join(answer.names), str(answer.by), answer.dimension, answer.vertices,
-             answer.edges, answer.classes, answer.denominator, answer.key, tuple(sorted(set(answer.sequences))),
-             "; ".join(answer.notes)) for answer in answers]
+    rows = [(answer.name, short_outcome(answer.outcome), "; ".join(answer.names), str(answer.by), answer.dimension,
+             answer.vertices, answer.edges, answer.classes, answer.denominator, answer.key, tuple(sorted(set(answer.sequences))),
+             "; ".join(answer.notes), "; ".join(answer.doubts), "; ".join(answer.left_out), answer.convention,
+             answer.copies, told_components(answer.components), told_units(answer.units)) for answer in answers]
     return pandas.DataFrame(rows, columns=list(COLUMNS))
+
+
+def told_components(components: Sequence[Component]) -> str:
+    return ", ".join(map(str, components))
+
+
+def told_units(units: Sequence[BuildingUnit]) -> tuple[str, ...]:
+    """Each kind of building unit once."""
+    return tuple(dict.fromkeys(f"{unit.formula}, {unit.connectivity}-connected" for unit in units))
 
 
 def short_outcome(outcome: Outcome) -> str:

@@ -8,7 +8,7 @@ from typing import TYPE_CHECKING, Any
 
 from .errors import NotANet, PackageMissing
 from .graph import LabelledEdge, QuotientGraph, Vertex
-from .provenance import Note, Provenance, notes_of
+from .provenance import BuildingUnit, Component, Note, Provenance, notes_of
 from .texts.graph_text import graph_of_text, text_of_graph, vertex_word, written_name
 from .texts.net_text import MOST_BYTES
 
@@ -151,6 +151,36 @@ class Net:
     def notes(self) -> tuple[str, ...]:
         """What a reader should know of it, as how a structure was read."""
         return self.provenance.texts
+
+    @property
+    def doubts(self) -> tuple[str, ...]:
+        """Where another reading of the structure gives another net."""
+        return self.provenance.doubts
+
+    @property
+    def left_out(self) -> tuple[str, ...]:
+        """What of the structure the net has not."""
+        return self.provenance.left_out
+
+    @property
+    def convention(self) -> str:
+        """What became its vertices, as `all-atoms`; empty where it is of no structure."""
+        return self.provenance.convention
+
+    @property
+    def copies(self) -> int:
+        """How many nets alike the structure has woven into each other, of which this is one."""
+        return self.provenance.copies
+
+    @property
+    def components(self) -> tuple[Component, ...]:
+        """The pieces of the structure, molecules and rods among them."""
+        return self.provenance.components
+
+    @property
+    def units(self) -> tuple[BuildingUnit, ...]:
+        """What each vertex stands for: its atoms, their formula and its connectivity."""
+        return self.provenance.units
 
     @property
     def block(self) -> bytes:

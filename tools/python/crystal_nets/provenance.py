@@ -13,6 +13,9 @@ CONVENTION = "convention"  # what became vertices
 DOUBT = "doubt"            # where another reading gives another net
 OTHER = "other"
 REFUSED = "refused"        # why there is no net
+# of the components of a structure, by their dimension
+KINDS = ("molecule", "rod", "layer", "net in space")
+PLURALS = ("molecules", "rods", "layers", "nets in space")
 
 
 class Note(NamedTuple):
@@ -27,34 +30,74 @@ def notes_of(notes: Iterable[str | Note]) -> tuple[Note, ...]:
     return tuple(note if isinstance(note, Note) else Note(OTHER, note) for note in notes)
 
 
+class Component(NamedTuple):
+    """Pieces of a structure: their dimension, 0 for molecules and 1 for rods, how many of them a cell has, and what one
+    of them is made of."""
+
+    dimension: int
+    count: int
+    formula: str
+
+    def __str__(self) -> str:
+        return f"{self.count} {(PLURALS if self.count > 1 else KINDS)[self.dimension]} {self.formula}"
+
+
+@dataclass(frozen=True)
+class BuildingUnit:
+    """What a vertex of a net stands for.
+
+    vertex        its label
+    formula       of the atoms, as `Zn4O(CO2)6`
+    connectivity  the number of its edges
+    atoms         their names in the structure"""
+
+    vertex: str
+    formula: str
+    connectivity: int
+    atoms: tuple[str, ...] = ()
+
+    def __str__(self) -> str:
+        return f"{self.vertex}: {self.formula}, {self.connectivity}-connected"
+
+
 @dataclass(frozen=True)
 class Provenance:
     """What is known of how a net was made. Whatever else a reader of structures finds out stands here, too.
 
-    notes       what a reader of the net should know
+    notes       what a reader of the net should know, with the doubts and what was left out among them, in order
     convention  what became its vertices, as `all-atoms`; empty where the net is of no structure
     made        of how many atoms, or by which group and edges; empty where the block was written out
     copies      how many nets alike are woven into each other in the structure, of which this is one
-    line        of the text that it was read from, which opens its block; 0 where it is of no block"""
+    line        of the text that it was read from, which opens its block; 0 where it is of no block
+    components  the pieces of the structure that the net is of, molecules and rods among them
+    units       what each vertex stands for; empty where the net is of no structure"""
 
     notes: tuple[Note, ...] = ()
     convention: str = ""
     made: str = ""
     copies: int = 1
     line: int = 0
+    components: tuple[Component, ...] = ()
+    units: tuple[BuildingUnit, ...] = ()
 
     @classmethod
     def from_dict(cls, fields: dict[str, Any]) -> Provenance:
         """What `to_dict` gave. ValueError where these are no such fields."""
         try:
             notes = tuple(Note(str(kind), str(text)) for kind, text in fields["notes"])
-            return cls(notes, str(fields["convention"]), str(fields["made"]), int(fields["copies"]), int(fields["line"]))
-        except (KeyError, TypeError) as fault:
+            components = tuple(Component(int(part["dimension"]), int(part["count"]), str(part["formula"]))
+                               for part in fields.get("components", ()))
+            units = tuple(BuildingUnit(str(unit["vertex"]), str(unit["formula"]), int(unit["connectivity"]),
+                                       tuple(map(str, unit["atoms"]))) for unit in fields.get("units", ()))
+            return cls(notes, str(fields["convention"]), str(fields["made"]), int(fields["copies"]), int(fields["line"]),
+                       components, units)
+        except (KeyError, TypeError, AttributeError) as fault:
             raise ValueError(f"no provenance: {fault}") from None
 
     def to_dict(self) -> dict[str, Any]:
-        """The fields as JSON has them."""
-        return asdict(self)
+        """The fields as JSON has them, and beside the notes those that are doubts, and what was left out."""
+        return {**asdict(self), "components": [part._asdict() for part in self.components],
+                "doubts": list(self.doubts), "left_out": list(self.left_out)}
 
     @property
     def texts(self) -> tuple[str, ...]:
@@ -63,7 +106,24 @@ class Provenance:
     @property
     def doubts(self) -> tuple[str, ...]:
         """The notes on where another reading gives another net."""
-        return tuple(note.text for note in self.notes if note.kind == DOUBT)
+        return self._of_kind(DOUBT)
+
+    @property
+    def left_out(self) -> tuple[str, ...]:
+        """The notes on atoms and pieces that the net has not."""
+        return self._of_kind(LEFT_OUT)
+
+    @property
+    def remarks(self) -> tuple[str, ...]:
+        """The notes that are no doubts and tell of nothing that was left out."""
+        return tuple(note.text for note in self.notes if note.kind not in (DOUBT, LEFT_OUT))
+
+    def _of_kind(self, kind: str) -> tuple[str, ...]:
+        return tuple(note.text for note in self.notes if note.kind == kind)
+
+    def of_components(self, components: Iterable[Component]) -> Provenance:
+        """The same of a structure with these pieces."""
+        return replace(self, components=tuple(components))
 
     def at_line(self, line: int) -> Provenance:
         """The same of a net whose block opens at this line."""

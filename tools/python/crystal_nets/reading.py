@@ -4,11 +4,13 @@ None of this is proved: what is proved of an answer begins at the block of a net
 
 from __future__ import annotations
 
+import gzip
 import os
 import re
+import zlib
 from collections.abc import Callable, Iterable, Iterator, Mapping
 from contextlib import contextmanager
-from dataclasses import fields
+from dataclasses import fields, replace
 from io import BytesIO
 from pathlib import Path
 from typing import TYPE_CHECKING, Any
@@ -26,13 +28,16 @@ if TYPE_CHECKING:
     from .structures.atoms.crystal import Crystal
 
 CIF = re.compile(rb"(?im)^[ \t]*(?:data_|_cell_|_atom_site_)")
-CIF_SUFFIXES = (".cif", ".mcif")
-SUFFIXES = (*CIF_SUFFIXES, ".cgd", ".arc")  # of the files of a folder
+CIF_SUFFIXES = (".cif", ".mcif", ".mmcif")
+OTHER_SUFFIXES = (".vasp", ".poscar", ".contcar", ".xyz", ".extxyz")  # structures that ase reads
+SUFFIXES = (*CIF_SUFFIXES, *OTHER_SUFFIXES, ".cgd", ".arc")  # of the files of a folder
 ROW = rb'(?:[+-]?\d++|"[^"\n]*+")[ \t]++(?:[+-]?\d++|"[^"\n]*+")[ \t]++[-+\d \t]++'
 PLAIN_BLOCK = re.compile(  # line by line: a row; a keyword; or nothing. ++ and *+ never take back what they took
     rb'(?:[ \t]*+(?:' + ROW + rb'|(?i:END|(?:EDGES?|BONDS?)(?:[ \t]++' + ROW + rb')?|PERIODIC_GRAPH'
     rb'|(?:NAME|ID)[ \t]++(?:"[^"\n]*+"|[^\s"#]++))|)[ \t\r]*+(?:#[^\n]*+)?\n)*+')
 NAME_LINE = re.compile(rb'(?i)[ \t]*(?:NAME|ID)[ \t]+(?:"([^"\n]*)"|([^\s"#]+))')
+GZIP = b"\x1f\x8b"
+MOST_UNPACKED = 1 << 28  # bytes of a gzip file
 BYTE_ORDER_MARK = b"\xef\xbb\xbf"
 STRUCTURE_PACKAGES = "apt-get install python3-gemmi python3-numpy python3-scipy python3-spglib"
 
@@ -71,24 +76,45 @@ def read(source: Any, name: str = "", **options: Any) -> list[Net]:
 def _nets_of_text(source: str | bytes | os.PathLike[str], name: str, options: Mapping[str, Any]) -> list[Net]:
     """The nets of a text, of a file, or of all files of a folder."""
     if not isinstance(source, bytes) and "\n" not in str(source) and os.path.isdir(source):
-        files = [file for file in sorted(Path(source).iterdir()) if file.suffix.lower() in SUFFIXES]
+        files = [file for file in sorted(Path(source).iterdir()) if _suffix_of(file.name) in SUFFIXES]
         return [net for file in files for net in _nets_of_text(file, "", _options_for(file.name, options))]
     content, file = _content_of(source)
-    file = name or file
+    content, file = unpacked(content, name or file)
     if _is_cif(content, file):
         return nets_of_cif(content, options, file)
     return _without_options(nets_of_cgd(content), options)
 
 
 def _is_cif(content: bytes, file: str) -> bool:
-    """By the ending of the name, and where there is none of those by what stands in the text."""
-    suffix = Path(file).suffix.lower()
-    return suffix in CIF_SUFFIXES or (suffix not in SUFFIXES and CIF.search(content) is not None)
+    """Whether it is a structure: by the ending of the name, and where there is none of those by what stands in the
+    text."""
+    suffix = _suffix_of(file)
+    return suffix in (*CIF_SUFFIXES, *OTHER_SUFFIXES) or (suffix not in SUFFIXES and CIF.search(content) is not None)
+
+
+def _suffix_of(file: str) -> str:
+    """The ending of a name, without that of gzip; that of a VASP file is its name."""
+    name = file.lower().removesuffix(".gz")
+    return f".{name}" if name in ("poscar", "contcar") else Path(name).suffix
+
+
+def unpacked(content: bytes, file: str) -> tuple[bytes, str]:
+    """The content and the name without gzip. NotANet where it is cut, or has more than MOST_UNPACKED bytes."""
+    if not content.startswith(GZIP):
+        return content, file
+    try:
+        with gzip.open(BytesIO(content)) as packed:
+            plain = packed.read(MOST_UNPACKED + 1)
+    except (OSError, EOFError, zlib.error) as fault:
+        raise NotANet(f"no gzip file: {fault}") from None
+    if len(plain) > MOST_UNPACKED:
+        raise NotANet(f"more than {MOST_UNPACKED:,} bytes when unpacked")
+    return plain, file[:-3] if file.lower().endswith(".gz") else file
 
 
 def _options_for(file: str, options: Mapping[str, Any]) -> Mapping[str, Any]:
     """The options, where the file is a structure."""
-    return options if Path(file).suffix.lower() in CIF_SUFFIXES else {}
+    return options if _suffix_of(file) in (*CIF_SUFFIXES, *OTHER_SUFFIXES) else {}
 
 
 def _without_options(nets: list[Net], options: Mapping[str, Any]) -> list[Net]:
@@ -207,24 +233,24 @@ def _name_of(lines: list[bytes]) -> str:
 
 
 def nets_of_cif(source: str | bytes | os.PathLike[str], options: Mapping[str, Any], name: str = "") -> list[Net]:
-    """The nets of all blocks of a CIF, as cif2cgd reads them; the name is that of the file."""
+    """The nets of all structures of a file, as cif2cgd reads them; the name is that of the file."""
     content, file = _content_of(source)
-    file = name or file
+    content, file = unpacked(content, name or file)
     wanted = _options_of(options)
     with _packages_of("a structure file"):
-        from .structures.conversion import Conversion, Source, convert_block
-        from .structures.reading.document import blocks_of
+        from .structures.conversion import Conversion, Source, convert_structure
+        from .structures.reading.formats import structures_of
         from .refusal import Refused
     stem = Path(file).stem if file else "structure"
     try:
-        blocks = blocks_of(content, stem)
+        structures = structures_of(content, file, stem)
     except Refused as reason:
         return [Net.refused(str(reason), stem)]
     nets: list[Net] = []
-    for block in blocks:
+    for structure in structures:
         done = Conversion(Source(file or "-", stem, stem))
-        convert_block(block, block.name, wanted, done)
-        nets += _nets_of_conversion(done, block.name)
+        convert_structure(structure, structure.name, wanted, done)
+        nets += _nets_of_conversion(done, structure.name)
     return nets
 
 
@@ -246,15 +272,16 @@ def _options_of(options: Mapping[str, Any]) -> Options:
     """The options of cif2cgd. TypeError with the names that there are, where one is another."""
     with _packages_of("a structure"):
         from .structures.nets.choice import Options
-        from .structures.units.conventions import AUTO, CONVENTIONS
+        from .structures.units.conventions import convention_named
     known = [entry.name for entry in fields(Options)]
     unknown = sorted(set(options) - set(known))
     if unknown:
         raise TypeError(f"there is no option {unknown[0]!r}; there are {', '.join(known)}")
     wanted = Options(**options)
-    if wanted.convention not in (AUTO, *CONVENTIONS):
-        raise NotANet(f"there is no convention {wanted.convention!r}; there are {', '.join([*CONVENTIONS, AUTO])}")
-    return wanted
+    try:
+        return replace(wanted, convention=convention_named(wanted.convention))
+    except ValueError as reason:
+        raise NotANet(str(reason)) from None
 
 
 def nets_of_ase(atoms: Any, options: Mapping[str, Any]) -> list[Net]:

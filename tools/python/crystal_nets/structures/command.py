@@ -18,8 +18,10 @@ import gemmi
 
 from ..progress import Progress
 
-from .nets.choice import Options
-from .units.conventions import AUTO, CONVENTIONS
+from .bonds.listed import BY_RULES, WAYS
+from .bonds.rules import INTERMETALLIC
+from .nets.choice import ZEOLITE, Options
+from .units.conventions import AUTO_BY_DEFAULT, convention_named
 from .conversion import Conversion, Source, read_and_convert
 from .files import files_of, sources_of
 
@@ -29,6 +31,7 @@ a net, and why a file gives none, goes to standard error."""
 EPILOG = """exit status: 0 a net of each file was written; 1 of some file none was; 2 usage, or notes that
 could not be written.
 example: cif2cgd quartz.cif | net_tool identify - --archive common.archive"""
+MODES = (ZEOLITE, INTERMETALLIC)
 DONE, SOME_REFUSED, USAGE = 0, 1, 2
 OBJECTS_BETWEEN = 200_000  # that are made until the collector of garbage looks again
 PORTION = 8       # files that a process reads at a time
@@ -47,9 +50,13 @@ def words() -> argparse.Namespace:
                         help="of these two elements, bonds up to the length and no others (0: none)")
     parser.add_argument("--keep-ions", action="store_true",
                         help="keep Na K Rb Cs Ca Sr Ba beside a framework")
-    parser.add_argument("--convention", default="all-atoms", choices=[*CONVENTIONS, AUTO], metavar="NAME",
-                        help="what is a vertex: all-atoms (where none is named), single-nodes, all-nodes, pe, pem, "
-                        "standard; auto gives those that apply and differ")
+    parser.add_argument("--convention", default=AUTO_BY_DEFAULT, type=convention, metavar="NAME",
+                        help="what is a vertex: all-atoms, single-nodes, all-nodes, pe, pem, standard; auto gives those "
+                        "that apply and differ (where none is named: auto for organic carbon with metals, else all-atoms)")
+    parser.add_argument("--mode", default="", choices=MODES, metavar="MODE",
+                        help="zeolite: tetrahedral atoms and their oxygens alone; intermetallic: all contacts up to a gap")
+    parser.add_argument("--bonds", default=BY_RULES, choices=WAYS, metavar="WAY",
+                        help="rules (where none is named), file for those of _geom_bond, or both, to see where they differ")
     parser.add_argument("--clusters", action="store_const", dest="convention", const="single-nodes",
                         help="the same as --convention single-nodes")
     parser.add_argument("--hydrogen-bonds", action="store_true",
@@ -73,6 +80,13 @@ def elements(text: str) -> frozenset[str]:
     if unknown or not found:
         raise argparse.ArgumentTypeError(f"{text!r} is not as Na,Cl")
     return found
+
+
+def convention(text: str) -> str:
+    try:
+        return convention_named(text)
+    except ValueError as reason:
+        raise argparse.ArgumentTypeError(str(reason)) from reason
 
 
 def is_element(word: str) -> bool:
@@ -99,7 +113,7 @@ def options_of(asked: argparse.Namespace) -> Options:
         leave_out=asked.leave_out, lengths=dict(asked.bond),
         keep_ions=asked.keep_ions, hydrogen_bonds=asked.hydrogen_bonds,
         partial_as_full=asked.partial_as_full, accept_misfit=asked.accept_misfit,
-        every_copy=asked.every_copy, convention=asked.convention)
+        every_copy=asked.every_copy, convention=asked.convention, mode=asked.mode, bonds=asked.bonds)
 
 
 def main() -> int:

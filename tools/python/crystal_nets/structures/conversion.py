@@ -3,20 +3,21 @@
 from __future__ import annotations
 
 import json
-from dataclasses import dataclass, field
+from dataclasses import dataclass, field, replace
 from pathlib import Path
 from typing import Any
 
+from ..errors import NotANet
 from ..net import Net
 from ..provenance import DOUBT, LEFT_OUT, OTHER, REFUSED, Note
+from ..reading import unpacked
 from ..refusal import Refused
 from ..texts.graph_text import plain
 from ..texts.net_text import GREATEST_SHIFT, MOST_EDGES, MOST_VERTICES
 from .atoms.crystal import Crystal
 from .nets.choice import Options, nets_of
 from .nets.translations import divided_by_translations
-from .reading.document import Block, blocks_of
-from .reading.structure import read_crystal
+from .reading.formats import Structure, structures_of
 
 
 @dataclass(frozen=True)
@@ -48,7 +49,8 @@ class Conversion:
     def text(self) -> bytes:
         """The blocks of the nets, each below a line that tells how it was made."""
         label = plain(self.source.label)
-        return b"".join(f"# {label}: {net.provenance.made}\n".encode() + net.block for net in self.nets)
+        return b"".join(f"# {label}: {line}\n".encode() if line else net.block
+                        for net in self.nets for line in (*_comments_of(net), ""))
 
     def told(self, refusals_alone: bool) -> list[str]:
         """The lines for standard error."""
@@ -68,32 +70,31 @@ def convert(source: Source, content: bytes, options: Options) -> Conversion:
     """The nets of a file. No fault of one block ends the others."""
     done = Conversion(source)
     try:
-        blocks = blocks_of(content, source.stem)
+        structures = structures_of(content, source.path, source.stem)
     except Refused as reason:
         done.refuse(source.label, reason)
         return done
-    for block in blocks:
-        what = source.label if len(blocks) == 1 else f"{source.label} {block.cif.name}"
-        convert_block(block, what, options, done)
+    for structure in structures:
+        convert_structure(structure, f"{source.label} {structure.block}".rstrip(), options, done)
     return done
 
 
-def convert_block(block: Block, what: str, options: Options, done: Conversion) -> None:
-    """Adds the nets of one block, or why it gives none."""
+def convert_structure(structure: Structure, what: str, options: Options, done: Conversion) -> None:
+    """Adds the nets of one structure, or why it gives none."""
     try:
-        _add_nets(block, what, options, done)
+        _add_nets(structure, what, options, done)
     except Refused as reason:
         done.refuse(what, reason)
     except Exception as fault:  # of cif2cgd itself, or of a library: the next file may still be read
         done.refuse(what, f"cif2cgd failed: {type(fault).__name__} {fault}")
 
 
-def _add_nets(block: Block, what: str, options: Options, done: Conversion) -> None:
-    """Adds the nets of one block, once all of them are known to be within the limits; its notes
+def _add_nets(structure: Structure, what: str, options: Options, done: Conversion) -> None:
+    """Adds the nets of one structure, once all of them are known to be within the limits; its notes
     are added in any case."""
-    notes = block.notes
+    notes = structure.notes
     try:
-        crystal = read_crystal(block)
+        crystal = structure.crystal()
         notes = crystal.notes
         nets = nets_of_crystal(crystal, options, notes)
     finally:
@@ -132,17 +133,34 @@ def _check_limits(net: Net) -> None:
         raise Refused(f"a shift beyond {GREATEST_SHIFT}")
 
 
+def _comments_of(net: Net) -> list[str]:
+    """How the net was made, of how many copies it is, its doubts, and each kind of building unit."""
+    kinds = dict.fromkeys(f"{unit.formula}, {unit.connectivity}-connected" for unit in net.units)
+    return [plain(line) for line in (
+        net.provenance.made, *([f"one of {net.copies} copies"] if net.copies > 1 else []),
+        *(f"doubt: {doubt}" for doubt in net.doubts),
+        *([f"vertices: {'; '.join(kinds)}"] if net.convention not in ("", "all-atoms") else []))]
+
+
 def _described(net: Net) -> dict[str, Any]:
-    return {"name": net.name, "convention": net.provenance.convention, "dimension": net.graph.dimension,
-            "vertices": len(net.graph.vertices), "edges": len(net.graph.edges), "notes": list(net.notes)}
+    """The net in JSON: its doubts and what was left out beside its other notes, and what its vertices stand for."""
+    fields = net.provenance.to_dict()
+    return {"name": net.name, "convention": net.convention, "dimension": net.graph.dimension,
+            "vertices": len(net.graph.vertices), "edges": len(net.graph.edges), "copies": net.copies,
+            "notes": list(net.provenance.remarks), "doubts": fields["doubts"], "left_out": fields["left_out"],
+            "components": fields["components"], "units": fields["units"]}
 
 
 def read_and_convert(source: Source, options: Options, stdin: bytes = b"") -> Conversion:
     """The same of a file that is still to be read."""
+    done = Conversion(source)
     try:
         content = stdin if source.path == "-" else Path(source.path).read_bytes()
+        content, path = unpacked(content, source.path)
     except OSError as error:
-        done = Conversion(source)
         done.refuse(source.label, f"not readable: {error.strerror}")
         return done
-    return convert(source, content, options)
+    except NotANet as reason:
+        done.refuse(source.label, reason)
+        return done
+    return convert(replace(source, path=path), content, options)

@@ -9,7 +9,8 @@ from pathlib import Path, PurePath
 
 from .conversion import Source
 
-SUFFIXES = (".cif", ".mcif")  # of the files of a folder
+SUFFIXES = (".cif", ".mcif", ".mmcif", ".vasp", ".poscar", ".contcar", ".xyz", ".extxyz")  # of the files of a folder
+WITHOUT_SUFFIX = ("poscar", "contcar")
 
 
 def files_of(arguments: Iterable[str]) -> Iterator[str]:
@@ -20,14 +21,26 @@ def files_of(arguments: Iterable[str]) -> Iterator[str]:
             continue
         for folder, folders, names in os.walk(argument, followlinks=True):
             folders.sort()
-            yield from (os.path.join(folder, name) for name in sorted(names) if name.lower().endswith(SUFFIXES))
+            yield from (os.path.join(folder, name) for name in sorted(names) if is_structure(name))
+
+
+def is_structure(name: str) -> bool:
+    """Whether a file of this name is one of a structure."""
+    plain = name.lower().removesuffix(".gz")
+    return plain.endswith(SUFFIXES) or plain in WITHOUT_SUFFIX
 
 
 def sources_of(files: list[str]) -> list[Source]:
     """The files with their names: those of one stem keep as much of their folders as tells them apart."""
     paths = [Path("stdin" if file == "-" else file) for file in files]
-    depth = _depths([path.with_suffix("") for path in paths])
-    return [Source(file, _tail(path, n), _tail(path.with_suffix(""), n)) for file, path, n in zip(files, paths, depth)]
+    stems = [_stem(path) for path in paths]
+    return [Source(file, _tail(path, n), _tail(stem, n)) for file, path, stem, n in zip(files, paths, stems, _depths(stems))]
+
+
+def _stem(path: Path) -> Path:
+    """The path without the ending of its name, and without that of gzip before."""
+    plain = path.with_suffix("") if path.suffix.lower() == ".gz" else path
+    return plain.with_suffix("")
 
 
 def _depths(stems: list[Path]) -> list[int]:

@@ -2,7 +2,7 @@
 
 from __future__ import annotations
 
-from dataclasses import dataclass, field
+from dataclasses import dataclass, field, replace
 
 import numpy as np
 
@@ -53,13 +53,20 @@ class Crystal:
     notes: list[Note] = field(default_factory=list)
     listed: dict[str, float] = field(default_factory=dict)  # the elements before disorder is resolved
     formula: dict[str, float] = field(default_factory=dict)  # as the file gives it
+    listed_bonds: list[tuple[str, str, float]] = field(default_factory=list)  # two labels, and the length in angstrom
     clash: str = ""    # labels of different full atoms in one place
     misfit: str = ""   # why the atoms of the cell cannot be right
+    near: dict[tuple[int, int], str] = field(default_factory=dict)  # atoms that are nearer than any bond
+    shortage: str = ""  # of what the formula has more, where that is all that does not fit
 
     def noted_doubt(self, text: str) -> Crystal:
         """The crystal with a doubt in its notes, where there is one."""
         self.notes += [Note(DOUBT, text)] if text else []
         return self
+
+    def without(self, atoms: set[int]) -> Crystal:
+        """The crystal of the other atoms, with the same notes."""
+        return replace(self, atoms=[atom for v, atom in enumerate(self.atoms) if v not in atoms], near={}, misfit="")
 
     def contacts(self, reach: float, wanted: Wanted | None = None) -> list[Contact]:
         return contacts(self.cell, np.array([atom.place for atom in self.atoms]), reach, wanted)

@@ -53,15 +53,21 @@ def take_once(crystal: Crystal) -> None:
     fractions = np.array([a.place for a in crystal.atoms]) @ np.linalg.inv(crystal.cell)
     kept = dict(enumerate(crystal.atoms))
     told = set()
+    shared: set[str] = set()
     for group in _groups_in_one_place(fractions, crystal.cell):
         atoms = sorted((kept.pop(i) for i in group), key=lambda a: -a.occupancy)
         labels = " ".join(dict.fromkeys(a.site.label for a in atoms))
         told.add(labels)
-        if len({a.site.element for a in atoms if a.occupancy >= FULL}) > 1:
+        full = {a.site.element for a in atoms if a.occupancy >= FULL}
+        if full == {"C", "N"}:
+            shared.add(labels)
+        elif len(full) > 1:
             crystal.clash = labels
-        atoms[0].content = _shared_content(atoms)
+        atoms[0].content = {"C": 0.5, "N": 0.5} if full == {"C", "N"} else _shared_content(atoms)
         kept[group[0]] = atoms[0]
     crystal.atoms = [kept[i] for i in sorted(kept)]
+    if shared:
+        crystal.noted_doubt("C and N in one place without occupancies, taken as one site: " + "; ".join(sorted(shared)))
     if told:
         crystal.notes.append(Note(OTHER, "in one place, taken as one atom: " + shorten("; ".join(sorted(told)))))
 

@@ -20,6 +20,7 @@ from ...lattice import Vector, subtract
 
 ABOVE_SINGLE = 0.10  # angstrom: the longest bond of two metals
 EDGE = 1.42          # times the bonds to common anions: the diagonal of their square in rock salt is 1.414
+TOUCHING = 1.10      # times the sum of the radii
 METAL_RICH = 2.5     # metals for each other atom: Fe3C and Ni3P are built as Co3B and Ni3B are
 IONIC_GROUPS = frozenset("Li Na K Rb Cs Fr Be Mg Ca Sr Ba Ra".split())
 
@@ -58,8 +59,9 @@ def is_metal_rich(crystal: Crystal) -> bool:
     others = len(elements) - len(metals)
     if not others or len(metals) < METAL_RICH * others or "H" in elements:
         return False
-    radii = np.array([radius(e) if _may_be_joined(e) else -9.0 for e in elements])
-    touching = {c.first for c in crystal.contacts(2 * radii.max(), lambda u, v, length: length <= radii[u] + radii[v])
+    radii = np.array([radius(e) if _may_be_joined(e) or e == "Si" else -9.0 for e in elements])
+    touching = {c.first for c in crystal.contacts(
+        2 * TOUCHING * radii.max(), lambda u, v, length: length <= TOUCHING * (radii[u] + radii[v]))
                 } if radii.max() > 0 else set()
     return touching >= metals
 

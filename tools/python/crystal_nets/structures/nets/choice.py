@@ -2,29 +2,36 @@
 
 from __future__ import annotations
 
-from collections import Counter
+from collections import Counter, defaultdict
+from collections.abc import Iterator
 from dataclasses import dataclass, field, replace
 
 import numpy as np
 
 from ...graph import Edge, QuotientGraph
 from ...net import Net
-from ...provenance import CONVENTION, DISORDER, DOUBT, LEFT_OUT, OTHER, Note, Provenance, shorten
+from ...provenance import (CONVENTION, DISORDER, DOUBT, KINDS, LEFT_OUT, OTHER, PLURALS, Component, Note, Provenance,
+                           shorten)
 from ...refusal import Refused
 from ...texts.graph_text import written_name
 from ..atoms.crystal import FULL, Crystal
 from ..atoms.elements import is_metal
+from ..bonds.contacts import radius
 from ..bonds.hydrogen import hydrogen_bridges
+from ..bonds.listed import BY_BOTH, BY_FILE, BY_RULES, differences, listed_bonds
 from ..bonds.rules import Lengths, find_bonds
-from ..units.building_units import units_of
-from ..units.conventions import AUTO, Convention, Framework, conventions_for
-from .guests import without_guests
+from ..units.building_units import ORGANIC, units_of
+from ..units.conventions import AUTO, AUTO_BY_DEFAULT, Convention, Framework, UnitNet, conventions_for
+from ..units.formulas import building_units, plain_formula
+from .guests import tetrahedral_atoms, without_guests
 from .pieces import Piece, pieces_of
 from .simplification import Contracted, contracted, sequences_of, shells, without_ends
 
+TOUCH = 0.30         # angstrom above the sum of the radii: atoms of one guest
+MOSTLY_THERE = 0.65  # the occupancy from which an atom counts as full, and that is told as a doubt
 MOST_TOLD = 600  # letters of the doubts about bonds
-KINDS = ("molecule", "rod", "layer", "net in space")  # by dimension
-COPIES = ("molecules", "rods", "layers", "interwoven nets")
+COPIES = (*PLURALS[:3], "interwoven nets")
+ZEOLITE = "zeolite"  # the mode in which tetrahedral atoms and their oxygens alone count
 
 
 @dataclass(frozen=True)
@@ -38,16 +45,24 @@ class Options:
     partial_as_full: bool = False
     accept_misfit: bool = False
     every_copy: bool = False
-    convention: str = "all-atoms"
+    convention: str = AUTO_BY_DEFAULT
+    mode: str = ""
+    bonds: str = BY_RULES
 
 
 def nets_of(crystal: Crystal, options: Options, notes: list[Note]) -> list[Net]:
     """The layers and the nets in space of a crystal; notes on all of it come to the notes."""
-    if crystal.misfit and not options.accept_misfit:
+    bad_guests = _bad_guests(crystal)
+    if bad_guests:
+        told = f"{crystal.misfit}: such atoms are left out, as they are in pores and bonded to no others"
+        notes.append(Note(DOUBT, told))
+        crystal = crystal.without(bad_guests)
+    elif crystal.misfit and not options.accept_misfit:
         raise Refused(f"{crystal.misfit} (--accept-misfit takes it all the same)")
-    notes += [Note(DOUBT, crystal.misfit)] if crystal.misfit else []
+    elif crystal.misfit:
+        notes.append(Note(DOUBT, crystal.misfit))
     doubts: list[str] = []
-    bonds = find_bonds(crystal, options.hydrogen_bonds, options.lengths, doubts)
+    bonds = bonds_asked(crystal, options, doubts)
     chosen = _with_atoms_chosen(crystal, bonds, options, notes)
     pieces = pieces_of(chosen)
     if doubts:
@@ -62,7 +77,46 @@ def nets_of(crystal: Crystal, options: Options, notes: list[Note]) -> list[Net]:
         raise Refused("no net: " + (_told_count(pieces) or "all atoms are left out"))
     notes += _told_pieces(pieces, {atom.name: atom.site.element for atom in crystal.atoms})
     groups = [[p] for p in periodic] if options.every_copy else _alike(periodic, crystal)
-    return [named for k, group in enumerate(groups) for named in _named(crystal, group, k, options)]
+    components = _components(pieces, crystal)
+    return [named.of_provenance(named.provenance.of_components(components))
+            for k, group in enumerate(groups) for named in _named(crystal, group, k, options)]
+
+
+def bonds_asked(crystal: Crystal, options: Options, doubts: list[str]) -> set[Edge]:
+    """The bonds by the rules, by the file, or by both with doubts where they differ."""
+    if options.bonds == BY_FILE:
+        return listed_bonds(crystal)
+    bonds = find_bonds(crystal, options.hydrogen_bonds, options.lengths, doubts, options.mode)
+    if options.bonds == BY_BOTH:
+        doubts += differences(crystal, bonds, listed_bonds(crystal))
+    return bonds
+
+
+def _components(pieces: list[Piece], crystal: Crystal) -> list[Component]:
+    """The pieces by their dimensions and what they are made of, nets in space first."""
+    element = {atom.name: atom.site.element for atom in crystal.atoms}
+    found: Counter[tuple[int, str]] = Counter()
+    for piece in pieces:
+        found[piece.dimension, plain_formula([element[str(name)] for name in piece.net.vertices])] += piece.copies
+    return [Component(dimension, count, formula)
+            for (dimension, formula), count in sorted(found.items(), key=lambda pair: (-pair[0][0], pair[0][1]))]
+
+
+def _bad_guests(crystal: Crystal) -> set[int]:
+    """The atoms in pores that are too near each other, with all that they touch, where no other atom of the crystal is
+    too near; none where they touch all atoms, or metals."""
+    reached = sorted({v for pair in crystal.near for v in pair})
+    if not reached or crystal.clash:
+        return set()
+    elements = [atom.site.element for atom in crystal.atoms]
+    radii = np.array([radius(element) for element in elements])
+    around: dict[int, set[int]] = defaultdict(set)
+    for c in crystal.contacts(2 * radii.max() + TOUCH, lambda u, v, length: length <= radii[u] + radii[v] + TOUCH):
+        around[c.first].add(c.second)
+    for v in reached:
+        reached += sorted(around[v] - set(reached))
+    is_pore = not any(is_metal(elements[v]) for v in reached) and len(reached) < len(elements)
+    return set(reached) if is_pore else set()
 
 
 def _nets_of_molecules(crystal: Crystal, bonded: QuotientGraph, options: Options, notes: list[Note]) -> list[Net]:
@@ -93,6 +147,10 @@ def _with_atoms_chosen(crystal: Crystal, bonds: set[Edge], options: Options, not
     elements = [atom.site.element for atom in crystal.atoms]
     net = QuotientGraph.of((atom.name for atom in crystal.atoms), bonds)
     kept = [v for v, e in enumerate(elements) if e not in options.leave_out]
+    if options.mode == ZEOLITE:
+        kept = sorted(set(kept) & tetrahedral_atoms(net, elements))
+        notes.append(Note(LEFT_OUT, "zeolite: all but tetrahedral atoms and their oxygens is left out"))
+        return net.part(kept)
     return net.part(kept) if options.keep_ions else without_guests(crystal, net, kept, notes)
 
 
@@ -150,25 +208,23 @@ def _named(crystal: Crystal, group: list[Piece], k: int, options: Options) -> li
     with what must be told of it."""
     framework = _framework(crystal, group[0])
     notes = _partial_notes(crystal, framework.net, options) + _told_copies(group)
-    is_auto = options.convention == AUTO
-    nets: list[Net] = []
-    seen: dict[tuple, str] = {}
+    asked = _convention_asked(options.convention, framework, group[0], notes)
+    is_auto = asked == AUTO
+    read: list[tuple[Convention, UnitNet, Contracted]] = []
     unfit: dict[str, list[str]] = {}
-    for convention in conventions_for(options.convention, framework):
+    for convention in conventions_for(asked, framework):
         try:
-            simple = _read_by(convention, framework, group[0].dimension)
+            read.append((convention, *_read_by(convention, framework, group[0].dimension)))
         except Refused as reason:
             if not is_auto:
                 raise Refused(f"{convention.name} does not apply: {reason}") from reason
             unfit.setdefault(str(reason), []).append(convention.name)
-            continue
-        sequences = shells(simple.net) if is_auto else ()
-        if sequences in seen:
-            text = f"{convention.name}: the net of {seen[sequences]}, by its coordination sequences"
-            notes.append(Note(CONVENTION, text))
-            continue
-        seen[sequences] = convention.name
-        nets.append(_named_by(convention, _name_of(crystal, k), group, framework, simple, is_auto))
+        except Exception as fault:  # of one convention: the others may still apply
+            if not is_auto:
+                raise
+            unfit.setdefault(f"it failed, {type(fault).__name__} {fault}", []).append(convention.name)
+    nets = [_named_by(convention, _name_of(crystal, k), group, framework, units, simple, is_auto)
+            for convention, units, simple in _different(read, notes)]
     notes += [Note(CONVENTION, f"{' and '.join(names)} {'do' if len(names) > 1 else 'does'} not apply: {reason}")
               for reason, names in unfit.items()]
     if not nets:
@@ -177,26 +233,63 @@ def _named(crystal: Crystal, group: list[Piece], k: int, options: Options) -> li
     return [nets[0].noted(before=notes), *nets[1:]]
 
 
-def _read_by(convention: Convention, framework: Framework, dimension: int) -> Contracted:
+def _convention_asked(asked: str, framework: Framework, piece: Piece, notes: list[Note]) -> str:
+    """The convention that is named; where none is, auto for organic carbon with metals, and else all atoms. It is told
+    where there are others."""
+    if asked != AUTO_BY_DEFAULT:
+        return asked
+    if not _is_organic(framework, piece):
+        return "all-atoms"
+    has_metals = any(is_metal(framework.element[str(name)]) for name in framework.net.vertices)
+    notes.append(Note(CONVENTION, "no convention is named: auto, as there is carbon with metals" if has_metals else
+                      "no convention is named: each atom is a vertex; standard and others give another net"))
+    return AUTO if has_metals else "all-atoms"
+
+
+def _is_organic(framework: Framework, piece: Piece) -> bool:
+    """Whether a carbon is bonded to carbon, nitrogen or hydrogen, as it is not in carbonates and carbides."""
+    elements = [framework.element[str(name)] for name in piece.net.vertices]
+    pairs = ({elements[one.u], elements[one.v]} for one in piece.net.edges)
+    return "C" in elements and len(set(elements)) > 1 and any("C" in pair and pair <= ORGANIC for pair in pairs)
+
+
+def _different(read: list[tuple[Convention, UnitNet, Contracted]], notes: list[Note]
+               ) -> Iterator[tuple[Convention, UnitNet, Contracted]]:
+    """Those of the nets that differ in their coordination sequences; which others agree is told."""
+    seen: dict[tuple, str] = {}
+    for convention, units, simple in read:
+        sequences = shells(simple.net) if len(read) > 1 else ()
+        if sequences in seen:
+            notes.append(Note(CONVENTION, f"{convention.name}: the net of {seen[sequences]}, by its coordination sequences"))
+            continue
+        seen[sequences] = convention.name
+        yield convention, units, simple
+
+
+def _read_by(convention: Convention, framework: Framework, dimension: int) -> tuple[UnitNet, Contracted]:
     """The simplified net by a convention; raises Refused where it does not apply, or where no net
     of this dimension is left. A net of all atoms stays one, whatever is simplified."""
-    net = convention.apply(framework)
-    simple = contracted(net)
-    if net is not framework.net and [piece.dimension for piece in pieces_of(simple.net)] != [dimension]:
+    units = convention.apply(framework)
+    simple = contracted(units.net)
+    if units.net is not framework.net and [piece.dimension for piece in pieces_of(simple.net)] != [dimension]:
         raise Refused("what is left is not one net")
-    return simple
+    return units, simple
 
 
-def _named_by(convention: Convention, name: str, group: list[Piece], framework: Framework, simple: Contracted,
-              is_auto: bool) -> Net:
+def _named_by(convention: Convention, name: str, group: list[Piece], framework: Framework, units: UnitNet,
+              simple: Contracted, is_auto: bool) -> Net:
     edges = Counter(framework.element[n] for n in simple.made_edges)
     told = f", made edges: {_told_counter(edges)}" if edges and convention.name == "all-atoms" else ""
     made = f"{len(group[0].net.vertices)} atoms{told}; {convention.name}: {convention.text} ({convention.source})"
     notes = _told_simplification(simple)
     if is_auto or convention.name != "all-atoms":
         notes.insert(0, Note(CONVENTION, f"{convention.name}: {convention.text} ({convention.source})"))
+    if convention.name == "pe":
+        notes.append(Note(DOUBT, "pe: points of extension along a rod are joined by the shortest steps; papers draw other "
+                          "edges along rods, too"))
+    found = building_units(group[0].net, units, simple.net, framework.element)
     return _net(f"{name} {convention.name}" if is_auto else name, simple,
-                Provenance(tuple(notes), convention.name, made, _copies(group)))
+                Provenance(tuple(notes), convention.name, made, _copies(group), units=found))
 
 
 def _net(name: str, simple: Contracted, provenance: Provenance) -> Net:
@@ -223,12 +316,15 @@ def _told_simplification(simple: Contracted) -> list[Note]:
 
 
 def _partial_notes(crystal: Crystal, core: QuotientGraph, options: Options) -> list[Note]:
+    """What is told of partly occupied atoms of the net: those that are there nearly everywhere are taken as full, as
+    the cobalt of Prussian blues with vacancies; raises Refused where there are others."""
     names = set(core.vertices)
-    partial = sorted({f"{a.site.label} {a.occupancy:.2f}" for a in crystal.atoms
-                      if a.name in names and a.occupancy < FULL})
+    partial = [a for a in crystal.atoms if a.name in names and a.occupancy < FULL]
     if not partial:
         return []
-    text = "partly occupied atoms of the net: " + shorten(", ".join(partial))
-    if not options.partial_as_full:
-        raise Refused(text + " (--partial-as-full takes them as full)")
-    return [Note(DISORDER, text)]
+    text = shorten(", ".join(sorted({f"{a.site.label} {a.occupancy:.2f}" for a in partial})))
+    if options.partial_as_full:
+        return [Note(DISORDER, f"partly occupied atoms of the net: {text}")]
+    if any(a.occupancy < MOSTLY_THERE for a in partial):
+        raise Refused(f"partly occupied atoms of the net: {text} (--partial-as-full takes them as full)")
+    return [Note(DOUBT, f"partly occupied atoms of the net, taken as full: {text}")]

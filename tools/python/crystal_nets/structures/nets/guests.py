@@ -26,12 +26,14 @@ from .pieces import pieces_of
 from .simplification import contracted, shells
 
 WEAK = 0.30         # the greatest mean valence of the bonds of a guest
+WEAK_OF_ONE = 0.34  # of one with a single charge: three bonds share it
 VERY_WEAK = 0.15    # of one without which layers are left
 LARGE = 8           # anions of a large site
 WEAKER = 0.75       # times the strongest other metal: a large site with weaker bonds is a guest, too
 LARGE_UNSURE = 7    # anions: a site that stays, and is told of where the rest is a net without it
 AS_LARGE = 1.15     # times the bonds of another cation with as many anions: such a site is of the framework
 STRAIGHT = 20.0     # degrees that the angles of a regular polyhedron differ at most
+CHARGES = {**dict.fromkeys("Li Na K Rb Cs Ag Tl".split(), 1), **dict.fromkeys("Be Mg Ca Sr Ba".split(), 2)}
 REGULAR = {4: (109.47,), 6: (90.0, 180.0)}
 # by the coordination sequences, the nets that are told by name (M. O'Keeffe and others, Acc. Chem. Res. 41 (2008) 1782)
 WELL_KNOWN = {(6, 18, 38, 66): "pcu", (4, 12, 24, 42): "dia", (8, 26, 56, 98): "bcu", (12, 42, 92, 162): "fcu",
@@ -51,6 +53,10 @@ class SiteBonds:
     length: float = 0.0     # mean of the bonds, in angstrom
     anions: int = 0
     is_regular: bool = False
+
+    @property
+    def is_weak(self) -> bool:
+        return self.strength <= (WEAK_OF_ONE if all(CHARGES.get(e) == 1 for e in self.elements) else WEAK)
 
     @property
     def told(self) -> str:
@@ -87,6 +93,14 @@ def without_guests(crystal: Crystal, net: QuotientGraph, kept: list[int], notes:
         notes.append(Note(DOUBT, f"without {_told(unsure)} the rest is {_described(net.part(sorted(left - atoms)))} "
                           f"(--leave-out {','.join(sorted({e for site in unsure for e in site.elements}))})"))
     return result
+
+
+def tetrahedral_atoms(net: QuotientGraph, elements: list[str]) -> set[int]:
+    """The atoms with four oxygens each that no hydrogen has, and these oxygens: what the type of a zeolite is made of."""
+    arcs = net.arcs()
+    centres = {v for v, element in enumerate(elements) if element not in ("O", "H")
+               and sum(elements[w] == "O" for w, _ in arcs[v]) == 4}
+    return centres | {w for v in centres for w, _ in arcs[v] if elements[w] == "O"}
 
 
 def _told(sites: list[SiteBonds]) -> str:
@@ -134,13 +148,13 @@ def _is_guest(group: list[SiteBonds], sites: list[SiteBonds], strongest: float, 
         if is_as_others(site):
             return False
         is_large = not is_organic and site.anions >= LARGE and site.strength <= WEAKER * strongest
-        return site.strength <= WEAK or is_large
+        return site.is_weak or is_large
 
-    return any(map(is_weak, group)) and all(is_weak(site) or site.strength <= WEAK for site in group)
+    return any(map(is_weak, group)) and all(is_weak(site) or site.is_weak for site in group)
 
 
 def _is_unsure(group: list[SiteBonds]) -> bool:
-    return all(site.strength <= WEAK or site.anions >= LARGE_UNSURE for site in group)
+    return all(site.is_weak or site.anions >= LARGE_UNSURE for site in group)
 
 
 def _sites(crystal: Crystal, net: QuotientGraph, kept: set[int]) -> list[SiteBonds]:
@@ -167,7 +181,8 @@ def _sites(crystal: Crystal, net: QuotientGraph, kept: set[int]) -> list[SiteBon
         site.is_regular = bool(bonds) and all(of_framework) and _is_regular([step for step, _ in bonds])
     for label, site in found.items():
         if site.anions:
-            site.strength = float(np.mean(valences[label]))
+            charge = max((CHARGES.get(element, 9) for element in site.elements), default=9)
+            site.strength = min(float(np.mean(valences[label])), charge / site.anions)
             site.length = float(np.mean([np.linalg.norm(step) for bonds in steps[label] for step in bonds]))
     return [site for site in found.values() if site.anions]
 

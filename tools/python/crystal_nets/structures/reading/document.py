@@ -17,9 +17,9 @@ OF_CONCERN = re.compile(r"_(cell_(length|angle)|symmetry|space_group|atom_site|c
 DOTTED = re.compile(r"(_(?<!\S_)(?:cell|symmetry|space_group|atom_site|chemical_formula)[A-Za-z_]*)\.(?=[A-Za-z])",
                     re.IGNORECASE)
 # Structures that have no space group of the usual kind, by tags that only they have.
+MAGNETIC = re.compile(r"_(space_group_symop_magn|symmetry_equiv_pos_as_xyz_magn|space_group_magn|space_group_symop\.magn"
+                      r"|parent_space_group)", re.IGNORECASE)
 OTHER_KINDS = (
-    (re.compile(r"_(space_group_symop_magn|symmetry_equiv_pos_as_xyz_magn|space_group_magn|space_group_symop\.magn"
-                r"|parent_space_group)", re.IGNORECASE), "a magnetic structure"),
     (re.compile(r"_(space_group_ssg|space_group_symop_ssg|cell_modulation_dimension|cell_wave_vector"
                 r"|atom_site_fourier_wave|atom_site_displace_fourier)", re.IGNORECASE),
      "a modulated structure, with a superspace group"),
@@ -44,11 +44,10 @@ def blocks_of(content: bytes, stem: str) -> list[Block]:
     except (ValueError, RuntimeError) as error:
         version = " (CIF 2.0)" if text.lstrip().startswith("#\\#CIF_2.0") else ""
         raise Refused(f"no CIF{version}: {str(error).replace('string:', 'line ')}") from error
-    blocks = [block for block in document if _has_tag(block, "_atom_site_fract_x")]
+    blocks = [block for block in document
+              if _has_tag(block, "_atom_site_fract_x") or _has_tag(block, "_atom_site_Cartn_x")]
     if not blocks:
-        has_others = any(_has_tag(block, "_atom_site_Cartn_x") for block in document)
-        raise Refused("atoms in Cartesian coordinates, as mmCIF files have them, are not read" if has_others
-                         else "no atoms with fractional coordinates")
+        raise Refused("no atoms with fractional coordinates")
     return _named(blocks, stem, text)
 
 
@@ -59,6 +58,12 @@ def text_of_file(content: bytes) -> str:
         content = content.decode("utf-16", errors="replace").encode("ascii", errors="replace")
     plain = content.removeprefix(codecs.BOM_UTF8).replace(b"\0", b"_").replace(b"\r\n", b"\n").replace(b"\r", b"\n")
     return plain.decode("ascii", errors="replace").replace("\ufffd", "_")
+
+
+def is_magnetic(block: gemmi.cif.Block) -> bool:
+    """Whether a block has a tag that only magnetic structures have."""
+    tags = (tag for item in block for tag in ([item.pair[0]] if item.pair else item.loop.tags if item.loop else []))
+    return any(map(MAGNETIC.match, tags))
 
 
 def _has_tag(block: gemmi.cif.Block, tag: str) -> bool:
@@ -104,6 +109,8 @@ def check_block(block: Block) -> None:
                 if OF_CONCERN.match(tag):
                     raise Refused(told)
                 block.notes.append(Note(OTHER, told))
+    if is_magnetic(block.cif):
+        block.notes.append(Note(OTHER, "a magnetic structure: the average is read, without moments"))
 
 
 def _check_kind(tag: str) -> None:

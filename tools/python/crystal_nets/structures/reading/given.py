@@ -8,7 +8,7 @@ from ..atoms.crystal import Atom, Crystal, Site
 from ..atoms.elements import element_of
 from ..atoms.places import name_apart, take_once
 from ...refusal import Refused
-from ..atoms.sanity import misfit_of
+from ..atoms.sanity import judge
 
 ROOM = 20.0         # angstrom, beside atoms along an axis without periodicity: no bond is as long
 MOST_ATOMS = 20_000
@@ -33,7 +33,7 @@ def crystal_of_atoms(name: str, cell: np.ndarray, contents: list[dict[str, float
         crystal.listed[element] = crystal.listed.get(element, 0.0) + site.occupancy
     take_once(crystal)
     name_apart(crystal)
-    crystal.misfit = misfit_of(crystal, {})
+    judge(crystal, {})
     return crystal
 
 

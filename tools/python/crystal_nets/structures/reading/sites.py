@@ -6,6 +6,7 @@ from __future__ import annotations
 
 import re
 from collections.abc import Iterator
+from contextlib import suppress
 from itertools import repeat
 from math import isfinite, nan
 
@@ -21,20 +22,23 @@ FARTHEST = 1000.0  # in edges of the cell, an atom from the origin
 DUMMY = "dum"      # the calculation flag of a place that has no atom
 COLUMNS = ["fract_x", "fract_y", "fract_z", "?label", "?type_symbol", "?occupancy", "?calc_flag",
            "?attached_hydrogens", "?disorder_assembly", "?disorder_group"]
+CARTESIAN_COLUMNS = ["Cartn_x", "Cartn_y", "Cartn_z", "?label_atom_id", *COLUMNS[4:]]  # of mmCIF, in angstrom
 NO_VALUE = ("?", ".", "")
 NUMBER = re.compile(r"([-+]?(?:\d+\.?\d*|\.\d+)(?:[eE][-+]?\d+)?)(?:\(\d+\.?\d*\))?$")
 FRACTION = re.compile(r"([-+]?\d+)/(\d+)$")
 
 
-def read_sites(block: gemmi.cif.Block, formula: dict[str, float], notes: list[Note]) -> list[Site]:
+def read_sites(block: gemmi.cif.Block, cell: gemmi.UnitCell, formula: dict[str, float], notes: list[Note]) -> list[Site]:
     """The sites that have a place and are occupied; notes on the others."""
     sites, dummies, absent = [], [], []
+    is_cartesian = not block.find_values("_atom_site_fract_x")
     for x, y, z, label, symbol, occupancy, flag, hydrogens, assembly, group in _rows(block):
         label = label or symbol
         if flag.lower() == DUMMY:
             dummies.append(label)
             continue
         place = [number_of(text, label) for text in (x, y, z)]
+        place = cell.fractionalize(gemmi.Position(*place)).tolist() if is_cartesian else place
         if any(abs(part) > FARTHEST for part in place):
             raise Refused(f"the coordinates of {label} are no fractions of the cell")
         part = number_of(occupancy, label, absent=1.0)
@@ -54,9 +58,20 @@ def read_sites(block: gemmi.cif.Block, formula: dict[str, float], notes: list[No
 
 def _rows(block: gemmi.cif.Block) -> Iterator[tuple[str, ...]]:
     """The values of each atom, in the order of COLUMNS; of a column that is not there, empty texts."""
-    table = block.find("_atom_site_", COLUMNS)
+    columns = COLUMNS if block.find_values("_atom_site_fract_x") else CARTESIAN_COLUMNS
+    table = block.find("_atom_site_", columns)
     return zip(*(map(gemmi.cif.as_string, table.column(k)) if table.has_column(k) else repeat("", len(table))
                  for k in range(len(COLUMNS))))
+
+
+def read_bonds(block: gemmi.cif.Block) -> list[tuple[str, str, float]]:
+    """The bonds that the file lists, by the labels of two atoms and their length; those without a length count not."""
+    table = block.find("_geom_bond_", ["atom_site_label_1", "atom_site_label_2", "distance"])
+    found = []
+    for one, other, length in table:
+        with suppress(Refused):
+            found.append((gemmi.cif.as_string(one), gemmi.cif.as_string(other), number_of(gemmi.cif.as_string(length), "a bond")))
+    return [bond for bond in found if isfinite(bond[2])]
 
 
 def number_of(text: str, what: str, absent: float = nan) -> float:

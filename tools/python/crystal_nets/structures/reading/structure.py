@@ -15,8 +15,8 @@ from ..atoms.formula import Expected
 from ...provenance import DOUBT, SYMMETRY, Note
 from ..atoms.places import images_of, name_apart, take_once
 from ...refusal import Refused
-from ..atoms.sanity import check_metric, keeps_metric, misfit_of
-from .sites import number_of, read_sites
+from ..atoms.sanity import check_metric, judge, keeps_metric
+from .sites import number_of, read_bonds, read_sites
 from .symmetry import Symmetry, both_origins, named_symmetry, read_symmetry, text_of
 
 LONGEST_EDGE = 1000.0  # angstrom, of a unit cell
@@ -33,14 +33,16 @@ def read_crystal(block: Block) -> Crystal:
     cell = _read_cell(block.cif)
     formula = elements_of_formula(text_of(block.cif, ("_chemical_formula_sum",)))
     expected = Expected(formula, _formulas_of(block.cif))
-    sites = read_sites(block.cif, formula, block.notes)
+    sites = read_sites(block.cif, cell, formula, block.notes)
+    bonds_of_file = read_bonds(block.cif)
     symmetry = read_symmetry(block.cif, cell)
     check_metric(symmetry, cell)
 
     def crystal_with(symmetry: Symmetry) -> Crystal:
         crystal = _expand(block, sites, symmetry, cell)
         crystal.formula = formula
-        crystal.misfit = misfit_of(crystal, formula)
+        crystal.listed_bonds = bonds_of_file
+        judge(crystal, formula)
         return crystal
 
     crystal = crystal_with(symmetry)
@@ -50,6 +52,9 @@ def read_crystal(block: Block) -> Crystal:
         crystal = _with_an_origin(block, cell, crystal, symmetry, crystal_with)
     if crystal.misfit and symmetry.source == "operations":
         crystal = _with_an_origin(block, cell, crystal, symmetry, crystal_with)
+    if crystal.shortage:
+        crystal.misfit = ""
+        crystal.noted_doubt(crystal.shortage)
     return crystal.noted_doubt(expected.doubt_of(_in_cell(crystal, cell)))
 
 

@@ -11,6 +11,7 @@ import numpy as np
 
 from ...lattice import staircase
 from ...refusal import Refused
+from .document import is_magnetic
 from .names import group_of_name
 
 OPERATION_TAGS = ("_space_group_symop_operation_xyz", "_symmetry_equiv_pos_as_xyz",
@@ -49,16 +50,33 @@ def text_of(block: gemmi.cif.Block, tags: tuple[str, ...]) -> str:
 
 def read_symmetry(block: gemmi.cif.Block, cell: gemmi.UnitCell) -> Symmetry:
     """Explicit operations before a Hall symbol, before a name, before a number."""
-    listed = [gemmi.cif.as_string(v) for tag in OPERATION_TAGS for v in block.find_values(tag)]
+    listed = [gemmi.cif.as_string(v) for tag in OPERATION_TAGS for v in block.find_values(tag)] or _magnetic_operations(block)
     if listed:
         return _symmetry(_listed_group(listed), "operations")
     named = named_symmetry(block, cell)
     if named:
         return named
+    if is_magnetic(block):
+        raise Refused("a magnetic structure without operations: such files are not read")
     name, number = _name_of(block), text_of(block, NUMBER_TAGS)
     if name or number not in ("", "1"):
         raise Refused(f"space group {name or number} is not known")
     return _symmetry(gemmi.GroupOps([gemmi.Op("x,y,z")]), "no symmetry given: P 1")
+
+
+def _magnetic_operations(block: gemmi.cif.Block) -> list[str]:
+    """The operations of a magnetic group and of its lattice, each followed by the other, without what they do to moments:
+    they are those of the average structure."""
+    found = []
+    for tag in ("operation", "centering"):
+        texts = [gemmi.cif.as_string(v).rpartition(",")[0] for v in block.find_values(f"_space_group_symop_magn_{tag}_xyz")]
+        found.append(texts or ["x,y,z"])
+    if found == [["x,y,z"], ["x,y,z"]]:
+        return []
+    try:
+        return [(gemmi.Op(centring) * gemmi.Op(operation)).wrap().triplet() for operation in found[0] for centring in found[1]]
+    except (RuntimeError, ValueError) as error:
+        raise Refused(f"symmetry operations: {error}") from error
 
 
 def named_symmetry(block: gemmi.cif.Block, cell: gemmi.UnitCell) -> Symmetry | None:

@@ -15,6 +15,7 @@ from ..nets.pieces import rank_and_walks
 
 ORGANIC = frozenset(("C", "H", "N", "B"))  # on a metal they belong to linkers; other donors belong to metal parts
 ANION_CENTRES = frozenset(("C", "P", "S", "As", "Se", "Si", "Ge", "Cl"))
+HOLDING = 4        # nitrogens of one linker on a metal that belongs to it
 LARGEST_RING = 16  # atoms: the inner ring of porphyrins; pores of covalent frameworks have 18 and more
 
 
@@ -28,6 +29,9 @@ class Parts:
     donors: set[int] = field(default_factory=set)   # atoms on metals that are not of linkers, as O in OH and COO
     centres: set[int] = field(default_factory=set)  # of anions that join donors, as C in a carboxylate
     small_anions: set[int] = field(default_factory=set)  # oxalate and the like, carbons that all bear oxygen
+    azolates: set[int] = field(default_factory=set)  # nitrogens beside each other that are both on metals
+    held: set[int] = field(default_factory=set)      # metals that one ring holds, as in porphyrins: parts of linkers
+    beside_rings: set[Edge] = field(default_factory=set)  # bonds of these to others than their ring
 
     @property
     def inner(self) -> set[int]:
@@ -35,7 +39,7 @@ class Parts:
         return self.metals | self.donors | self.centres
 
     def edges_within(self, atoms: set[int]) -> set[Edge]:
-        return {bond for bond in self.net.edges if bond.u in atoms and bond.v in atoms}
+        return {bond for bond in self.net.edges if bond.u in atoms and bond.v in atoms} - self.beside_rings
 
 
 def parts_of(net: QuotientGraph, element: dict[str, str]) -> Parts:
@@ -43,13 +47,40 @@ def parts_of(net: QuotientGraph, element: dict[str, str]) -> Parts:
     parts = Parts(net, [element[str(name)] for name in net.vertices])
     around = [[w for w, _ in arcs] for arcs in net.arcs()]
     parts.metals = {v for v, e in enumerate(parts.elements) if is_metal(e)}
+    _find_held(parts)
     parts.small_anions = _small_anions(parts, around)
+    parts.azolates = _azolates(parts, around)
     parts.donors = {v for v, near in enumerate(around) if parts.elements[v] not in ORGANIC and v not in parts.metals
-                    and v not in parts.small_anions and any(w in parts.metals for w in near)}
+                    and v not in parts.small_anions and any(w in parts.metals for w in near)} | parts.azolates
     parts.centres = {v for v, near in enumerate(around)
                      if parts.elements[v] in ANION_CENTRES and v not in parts.metals | parts.donors | parts.small_anions
                      and sum(w in parts.donors and parts.elements[w] == "O" for w in near) >= 2}
     return parts
+
+
+def _find_held(parts: Parts) -> None:
+    """Metals with four or more nitrogens of one finite linker, as in porphyrins, phthalocyanines and cyclams."""
+    net, bonds = parts.net, parts.edges_within(set(range(len(parts.elements))) - parts.metals)
+    linkers = units_of(net, bonds)
+    arcs = net.arcs()
+    for v in sorted(parts.metals):
+        of_linker: dict[tuple[int, Vector], list[tuple[int, Vector]]] = {}
+        for w, s in arcs[v]:
+            if w not in parts.metals and not linkers.endless[linkers.unit[w]]:
+                of_linker.setdefault((linkers.unit[w], subtract(s, linkers.cell[w])), []).append((w, s))
+        holding = [found for found in of_linker.values()
+                   if sum(parts.elements[w] == "N" for w, _ in found) >= HOLDING]
+        if holding:
+            parts.held.add(v)
+            parts.beside_rings |= {edge(v, w, s) for w, s in arcs[v] if (w, s) not in holding[0]}
+    parts.metals -= parts.held
+
+
+def _azolates(parts: Parts, around: list[list[int]]) -> set[int]:
+    """Nitrogens that are bonded to each other and each to a metal, as in pyrazolates and triazolates: with them their
+    metals are one part, as in Kuratowski units."""
+    on_metals = {v for v, near in enumerate(around) if parts.elements[v] == "N" and any(w in parts.metals for w in near)}
+    return {v for v in on_metals if any(w in on_metals for w in around[v])}
 
 
 def _small_anions(parts: Parts, around: list[list[int]]) -> set[int]:

@@ -47,20 +47,34 @@ class Framework:
 
 
 @dataclass(frozen=True)
+class UnitNet:
+    """A net of building units: for each of its vertices, by the name, the atoms that it stands for."""
+
+    net: QuotientGraph
+    atoms: dict[str, tuple[str, ...]]
+
+    @classmethod
+    def of_units(cls, framework: Framework, units: Units) -> UnitNet:
+        names = framework.net.vertices
+        return cls(units.net, {str(vertex): tuple(str(names[v]) for v in atoms)
+                               for vertex, atoms in zip(units.net.vertices, units.atoms)})
+
+
+@dataclass(frozen=True)
 class Convention:
     """A way to read nets, by its name; the text and the source are told with each net."""
 
     name: str
     text: str
     source: str
-    apply: Callable[[Framework], QuotientGraph]
+    apply: Callable[[Framework], UnitNet]
 
 
-def all_atoms(framework: Framework) -> QuotientGraph:
-    return framework.net
+def all_atoms(framework: Framework) -> UnitNet:
+    return UnitNet(framework.net, {str(name): (str(name),) for name in framework.net.vertices})
 
 
-def single_nodes(framework: Framework) -> QuotientGraph:
+def single_nodes(framework: Framework) -> UnitNet:
     """A vertex for each metal part with its anions, and for each linker as a whole."""
     parts = _with_metals(framework)
     inner = parts.inner
@@ -68,26 +82,26 @@ def single_nodes(framework: Framework) -> QuotientGraph:
     units = units_of(framework.net, inside)
     _check_metal_parts(units, parts)
     _check_linkers(units, parts)
-    return units.net
+    return UnitNet.of_units(framework, units)
 
 
-def all_nodes(framework: Framework) -> QuotientGraph:
+def all_nodes(framework: Framework) -> UnitNet:
     """The same, but a linker is taken to pieces: its rings and its branching atoms are vertices."""
     parts = _with_metals(framework)
     units = units_of(framework.net, parts.edges_within(parts.inner) | _within_linkers(parts))
     _check_metal_parts(units, parts)
     _check_linkers(units, parts)
-    return units.net
+    return UnitNet.of_units(framework, units)
 
 
-def points_and_metals(framework: Framework) -> QuotientGraph:
+def points_and_metals(framework: Framework) -> UnitNet:
     """Metals, the atoms that join them, points of extension, and the branch points of linkers."""
     parts = _with_metals(framework)
     _check_rods(framework, parts)
-    return _points_and_metals(framework, parts).net
+    return UnitNet.of_units(framework, _points_and_metals(framework, parts))
 
 
-def points_of_extension(framework: Framework) -> QuotientGraph:
+def points_of_extension(framework: Framework) -> UnitNet:
     """The same without the metals: points of extension on one metal are joined, by the shortest steps
     that make a rod of them. Those of one end of a linker, as of a chelate, are one point."""
     parts = _with_metals(framework)
@@ -95,7 +109,7 @@ def points_of_extension(framework: Framework) -> QuotientGraph:
     return _without_metals(framework, parts, _points_and_metals(framework, parts))
 
 
-def standard(framework: Framework) -> QuotientGraph:
+def standard(framework: Framework) -> UnitNet:
     """Each building unit of a framework without metal parts is a vertex: rings that share atoms, and
     branching atoms."""
     if not framework.is_organic:
@@ -103,7 +117,7 @@ def standard(framework: Framework) -> QuotientGraph:
     units = units_of(framework.net, ring_edges(framework.net, set(range(len(framework.net.vertices)))))
     if any(units.endless):
         raise Refused("its rings go on without end")
-    return units.net
+    return UnitNet.of_units(framework, units)
 
 
 CONVENTIONS = {convention.name: convention for convention in (
@@ -121,10 +135,24 @@ CONVENTIONS = {convention.name: convention for convention in (
 AUTO = "auto"
 
 
+AUTO_BY_DEFAULT = ""  # no convention is named: auto where there is organic carbon with metals, else all atoms
+
+
+def convention_named(text: str) -> str:
+    """The name of a convention, as others spell it, too: AllNodes, SingleNodes, PE, EachVertex of CrystalNets.jl. Raises
+    ValueError where there is none."""
+    plain = text.lower().replace("-", "").replace("_", "").replace(" ", "")
+    names = {name.replace("-", ""): name for name in (*CONVENTIONS, AUTO)}
+    names |= {"eachvertex": "all-atoms", "clusters": "single-nodes", "": AUTO_BY_DEFAULT}
+    if plain not in names:
+        raise ValueError(f"there is no convention {text!r}; there are {', '.join([*CONVENTIONS, AUTO])}")
+    return names[plain]
+
+
 def conventions_for(asked: str, framework: Framework) -> list[Convention]:
     """The conventions that are tried: the one that is asked for, or for auto those of its kind."""
     if asked != AUTO:
-        return [CONVENTIONS[asked]]
+        return [CONVENTIONS[asked or "all-atoms"]]
     if not framework.is_organic:
         return [CONVENTIONS["all-atoms"]]
     parts = framework.parts
@@ -178,7 +206,8 @@ def _check_rods(framework: Framework, parts: Parts) -> None:
 def _within_linkers(parts: Parts) -> set[Edge]:
     """The bonds of rings in linkers, and of small anions."""
     outer = set(range(len(parts.elements))) - parts.inner
-    return ring_edges(parts.net, outer) | parts.edges_within(parts.small_anions)
+    of_held = {bond for bond in parts.edges_within(outer) if {bond.u, bond.v} & parts.held}
+    return (ring_edges(parts.net, outer) - parts.beside_rings) | parts.edges_within(parts.small_anions) | of_held
 
 
 # Rods
@@ -189,14 +218,15 @@ def _points_and_metals(framework: Framework, parts: Parts) -> Units:
     within = parts.edges_within(parts.inner)
     whole = units_of(framework.net, within)
     finite = {v for v in parts.inner if not whole.endless[whole.unit[v]]}
-    anions = {bond for bond in within if {bond.u, bond.v} & parts.centres and not {bond.u, bond.v} & parts.metals}
+    anions = {bond for bond in within if {bond.u, bond.v} & (parts.centres | parts.azolates)
+              and not {bond.u, bond.v} & parts.metals}
     units = units_of(framework.net, anions | parts.edges_within(finite) | _within_linkers(parts))
     if any(units.endless):
         raise Refused("an organic part goes on without end: standard applies")
     return units
 
 
-def _without_metals(framework: Framework, parts: Parts, units: Units) -> QuotientGraph:
+def _without_metals(framework: Framework, parts: Parts, units: Units) -> UnitNet:
     """The net of units without the metals of rods and the atoms that only join these."""
     arcs = units.net.arcs()
     metals = {unit for unit in units.having(parts.metals) if len(units.atoms[unit]) == 1}
@@ -222,7 +252,10 @@ def _without_metals(framework: Framework, parts: Parts, units: Units) -> Quotien
     along = {step for step in along if step.u != step.v or any(step.shift)}
     taken = _shortest_rods(points.net, along, middles, framework.lattice)
     net = points.net.with_edges((points.net.edge_set - along) | taken)
-    return net.part(unit for unit, members in enumerate(points.atoms) if set(members) <= kept)
+    names = framework.net.vertices
+    atoms = {str(vertex): tuple(str(names[v]) for unit in members for v in units.atoms[unit])
+             for vertex, members in zip(points.net.vertices, points.atoms)}
+    return UnitNet(net.part(unit for unit, members in enumerate(points.atoms) if set(members) <= kept), atoms)
 
 
 def _places_of_points(places: list[np.ndarray], points: Units, lattice: np.ndarray) -> list[np.ndarray]:

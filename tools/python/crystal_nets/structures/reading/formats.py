@@ -1,0 +1,69 @@
+"""Structure files of all kinds: CIF, mmCIF and magnetic CIF by gemmi, and others by ase, where it is there.
+
+The formats of ase are told by the ending of the name, or by the name itself: POSCAR and CONTCAR of VASP, and extended XYZ
+with a lattice. Of a trajectory the last structure is read."""
+
+from __future__ import annotations
+
+from collections.abc import Callable
+from dataclasses import dataclass
+from io import StringIO
+from pathlib import PurePath
+from typing import Any
+
+from ...provenance import OTHER, Note
+from ...refusal import Refused
+from ..atoms.crystal import Crystal
+from .document import blocks_of, text_of_file
+from .given import bounded_cell, crystal_of_atoms
+from .structure import read_crystal
+
+OF_ASE = {".vasp": "vasp", ".poscar": "vasp", ".contcar": "vasp", ".xyz": "extxyz", ".extxyz": "extxyz"}
+NAMES_OF_VASP = ("poscar", "contcar")
+
+
+@dataclass(frozen=True)
+class Structure:
+    """A structure of a file, by its name; the notes on it are there also where it is refused."""
+
+    name: str
+    block: str         # of a CIF; empty where the file has one structure
+    notes: list[Note]
+    crystal: Callable[[], Crystal]
+
+
+def structures_of(content: bytes, file: str, stem: str) -> list[Structure]:
+    """The structures of a file. Raises Refused where it has none."""
+    format_of_ase = _format_of(file)
+    if format_of_ase:
+        notes: list[Note] = []
+        return [Structure(stem, "", notes, lambda: _crystal_by_ase(content, format_of_ase, stem, notes))]
+    blocks = blocks_of(content, stem)
+    return [Structure(block.name, block.cif.name if len(blocks) > 1 else "", block.notes, lambda block=block: read_crystal(block))
+            for block in blocks]
+
+
+def _format_of(file: str) -> str:
+    name = PurePath(file).name.lower()
+    return OF_ASE[".vasp"] if name.startswith(NAMES_OF_VASP) else OF_ASE.get(PurePath(name).suffix, "")
+
+
+def _crystal_by_ase(content: bytes, format_of_ase: str, name: str, notes: list[Note]) -> Crystal:
+    try:
+        from ase.io import read
+    except ModuleNotFoundError:
+        raise Refused(f"a file {format_of_ase} is read by ase: apt-get install python3-ase") from None
+    try:
+        frames: list[Any] = read(StringIO(text_of_file(content)), index=":", format=format_of_ase)
+        atoms = frames[-1]
+        cell, places = bounded_cell(atoms.cell.array, atoms.get_positions(), atoms.pbc)
+        symbols = atoms.get_chemical_symbols()
+    except Exception as fault:  # of ase, in many kinds
+        raise Refused(f"no {format_of_ase} file that ase reads: {type(fault).__name__} {fault}") from None
+    if len(frames) > 1:
+        notes.append(Note(OTHER, f"the last of {len(frames)} structures is read"))
+    if not any(atoms.pbc):
+        raise Refused("there is no lattice: the atoms are no crystal")
+    crystal = crystal_of_atoms(name, cell, [{symbol: 1.0} for symbol in symbols], places)
+    crystal.notes += notes
+    return crystal
