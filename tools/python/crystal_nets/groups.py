@@ -8,6 +8,7 @@ from typing import Any
 
 from .answers import Answer, Answers
 from .asking import Archives, keys
+from .program import bounded
 
 
 @dataclass(frozen=True)
@@ -48,8 +49,10 @@ class Groups:
         return self.groups[place]
 
 
-def group(sources: Any, archive: Archives = None, processes: int = 1, **options: Any) -> Groups:
-    """The groups of isomorphic nets. Keys are compared whole; that two are equal exactly where the nets are isomorphic
+@bounded
+def group(sources: Any, archive: Archives = None, processes: int = 1, *, timeout: float | None = None,
+          **options: Any) -> Groups:
+    """The groups of isomorphic nets; ProgramTimedOut after `timeout` seconds. Keys are compared whole; that two are equal exactly where the nets are isomorphic
     is proved.
 
     >>> square, wide = [(1, 1, (1, 0)), (1, 1, (0, 1))], [(1, 1, (1, 1)), (1, 1, (0, 1))]

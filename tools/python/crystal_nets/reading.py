@@ -16,7 +16,8 @@ from typing import TYPE_CHECKING, Any
 from .errors import NotANet, PackageMissing
 from .net import TOO_LONG, Net
 from .provenance import REFUSED, Note, notes_of
-from .texts.net_text import FIRST_TOKEN, HEADER, MOST_BYTES, OTHER_TEXTS, Chunk, chunks_of
+from .texts.net_text import (BYTE_ORDER_MARK, FIRST_TOKEN, HEADER, MOST_BYTES, OTHER_TEXTS, Chunk, chunks_of,
+                             first_word)
 
 if TYPE_CHECKING:
     import networkx
@@ -29,11 +30,14 @@ CIF = re.compile(rb"(?im)^[ \t]*(?:data_|_cell_|_atom_site_)")
 CIF_SUFFIXES = (".cif", ".mcif")
 SUFFIXES = (*CIF_SUFFIXES, ".cgd", ".arc")  # of the files of a folder
 ROW = rb'(?:[+-]?\d++|"[^"\n]*+")[ \t]++(?:[+-]?\d++|"[^"\n]*+")[ \t]++[-+\d \t]++'
-PLAIN_BLOCK = re.compile(  # line by line: a row; a keyword; or nothing. ++ and *+ never take back what they took
-    rb'(?:[ \t]*+(?:' + ROW + rb'|(?i:END|(?:EDGES?|BONDS?)(?:[ \t]++' + ROW + rb')?|PERIODIC_GRAPH'
-    rb'|(?:NAME|ID)[ \t]++(?:"[^"\n]*+"|[^\s"#]++))|)[ \t\r]*+(?:#[^\n]*+)?\n)*+')
+HEAD_LINE = rb'PERIODIC_GRAPH|END|(?:NAME|ID)[ \t]++(?:"[^"\n]*+"|[^\s"#]++)|'  # or nothing
+LINE_END = rb'[ \t\r]*+(?:#[^\n]*+)?\n'
+PLAIN_BLOCK = re.compile(  # line by line, from EDGES on with rows. ++ and *+ never take back what they took
+    rb'(?:[ \t]*+(?i:' + HEAD_LINE + rb')' + LINE_END + rb')*+'
+    rb'(?:[ \t]*+(?i:EDGES?|BONDS?)(?:[ \t]++' + ROW + rb')?' + LINE_END +
+    rb'(?:[ \t]*+(?:' + ROW + rb'|(?i:(?:EDGES?|BONDS?)(?:[ \t]++' + ROW + rb')?|' + HEAD_LINE + rb'))'
+    + LINE_END + rb')*+)?')
 NAME_LINE = re.compile(rb'(?i)[ \t]*(?:NAME|ID)[ \t]+(?:"([^"\n]*)"|([^\s"#]+))')
-BYTE_ORDER_MARK = b"\xef\xbb\xbf"
 STRUCTURE_PACKAGES = "apt-get install python3-gemmi python3-numpy python3-scipy python3-spglib"
 
 
@@ -150,18 +154,18 @@ def _net_of_chunk(chunk: Chunk) -> Net:
     if chunk.size > MOST_BYTES:
         return Net.refused(f"line {chunk.opening_line}: {TOO_LONG}")
     if not is_ended(lines):
-        return Net.refused(f"line {chunk.opening_line}: the block has no END", _name_of(lines))
+        return Net.refused(f"line {chunk.opening_line}: the block has no END", name_of_block(lines))
     text = b"".join(lines)
     text = text if text.endswith(b"\n") else text + b"\n"
     if word.startswith(b"PERIODIC_GRAPH") and PLAIN_BLOCK.fullmatch(text):
-        return Net._of(text, _name_of(lines))
+        return Net._of(text, name_of_block(lines))
     with _packages_of("a block that is no plain PERIODIC_GRAPH"):
         return _net_of_block(chunk, lines)
 
 
 def _net_of_block(chunk: Chunk, lines: list[bytes]) -> Net:
     """The net of a block of another kind, as cgd2net reads it."""
-    from .blocks.converter import KINDS, MOST_LINES, Block, first_word, net_of_block
+    from .blocks.converter import KINDS, MOST_LINES, Block, net_of_block
     from .blocks.converter import MOST_BYTES as MOST_OF_A_BLOCK
     from .refusal import Refused
     kind = KINDS.get(first_word(lines[0]), "")
@@ -182,6 +186,16 @@ def _net_of_block(chunk: Chunk, lines: list[bytes]) -> Net:
     return net.named(name).noted(after=notes_of(notes))
 
 
+def is_plain(chunk: Chunk) -> bool:
+    """Whether the program reads a block as it stands. One PERIODIC_GRAPH that is broken otherwise than by words of other
+    programs is for the program to tell."""
+    lines = chunk.block_lines
+    if first_word(lines[0]) != b"PERIODIC_GRAPH":
+        return False
+    text = b"".join(lines)
+    return not is_ended(lines) or PLAIN_BLOCK.fullmatch(text if text.endswith(b"\n") else text + b"\n") is not None
+
+
 def want_one_block(text: bytes) -> None:
     """NotANet where a text is not one block PERIODIC_GRAPH with its END."""
     chunks = list(chunks_of(BytesIO(text)))
@@ -198,7 +212,7 @@ def is_ended(lines: list[bytes]) -> bool:
     return len(lines) > 1 and found is not None and (found[1] or b"").upper() == b"END"
 
 
-def _name_of(lines: list[bytes]) -> str:
+def name_of_block(lines: list[bytes]) -> str:
     for line in lines[1:]:
         found = NAME_LINE.match(line)
         if found:

@@ -14,7 +14,8 @@ from pathlib import Path
 
 from ..texts.archive_text import entries_of
 from ..texts.net_text import NoReport
-from ..texts.row_text import rows_of_files
+
+from .pieces import want_rows, whole_rows
 
 EPILOG = """exit status: 0 told; 1 a file is not there, or is not one of rows with keys; 2 usage; else that of
 net_tool, which refused an archive. NET_TOOL is the program, net_tool where it is not set."""
@@ -23,7 +24,7 @@ net_tool, which refused an archive. NET_TOOL is the program, net_tool where it i
 def words() -> argparse.Namespace:
     parser = argparse.ArgumentParser(prog="net_names", description=__doc__, epilog=EPILOG)
     parser.add_argument("archive", metavar="ARCHIVE", type=Path)
-    parser.add_argument("rows", metavar="ROWS", nargs="+")
+    want_rows(parser)
     return parser.parse_args()
 
 
@@ -69,6 +70,6 @@ def tell_names() -> int:
         with open(archive, "rb") as lines:
             for entry in entries_of(lines, str(archive)):
                 names[entry.key].add(entry.name)
-    found = [(row.number, name, row.name) for row in rows_of_files(asked.rows) for name in names.get(row.key, ())]
+    found = [(row.number, name, row.name) for row in whole_rows(asked.rows, asked.index, asked.partial) for name in names.get(row.key, ())]
     sys.stdout.buffer.writelines(b"%d\t%s\t%s\n" % (number, own, name) for number, name, own in sorted(found))
     return 0
