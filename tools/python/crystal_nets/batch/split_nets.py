@@ -79,10 +79,9 @@ class Reader:
             yield from self._of_structures(stream.read())
             return
         for chunk in self._nets_of(chunks_as_read(stream) if as_it_is else chunks_of(stream)):
-            text = b"".join(chunk.lines)
-            if as_it_is or not chunk.opening_line or is_plain(chunk):
-                yield Cut(text, chunk.opening_line, chunk.first_line - 1)
-            else:
+            if as_it_is or (not has_words_before(chunk) and (not chunk.opening_line or is_plain(chunk))):
+                yield Cut(b"".join(chunk.lines), chunk.opening_line, chunk.first_line - 1)
+            elif chunk.opening_line:
                 yield self._made(chunk)
 
     def _is_structure(self, stream: BufferedReader) -> bool:
@@ -102,7 +101,7 @@ class Reader:
             yield chunk
 
     def _made(self, chunk: Chunk) -> Cut:
-        """The net of a block that the program does not read; the block itself where it gives none."""
+        """The net of a block that the program does not read as it stands; the block itself where it gives none."""
         net = net_of_chunk(chunk)
         self._tell(net, f"line {chunk.opening_line} \"{net.name}\"")
         text = b"".join(chunk.block_lines) if net.refusal else net.block
@@ -119,6 +118,12 @@ class Reader:
         told = [net.refusal] * bool(net.refusal) + [note.text for note in net.provenance.notes if note.kind == DROPPED]
         for text in told:
             print(f"split_nets: {self.file}: {place}: {text}".encode(errors="replace").decode(), file=sys.stderr)
+
+
+def has_words_before(chunk: Chunk) -> bool:
+    """Whether lines before the block, as the checksum behind an item, would open one for the program."""
+    before = chunk.lines[:chunk.opening_line - chunk.first_line] if chunk.opening_line else chunk.lines
+    return any(map(first_word, before))
 
 
 def pieces(cuts: Iterator[Cut], blocks: int, size: int) -> Iterator[list[Cut]]:
