@@ -7,7 +7,8 @@
 # The rows of all pieces of a folder, as a Slurm array:
 #   sbatch --array=1-16 nets.sbatch TOOLS FOLDER [COMMAND [ARCHIVE]]
 # TOOLS is the folder of key_piece, given since Slurm runs a copy of this script. Of 16 tasks each takes every 16th
-# piece: starting a task costs Slurm about as long as a piece takes. Where a task failed, the same command again does
+# piece: starting a task costs Slurm about as long as a piece takes. Any array with equal steps does, as 0-15 or 1-31:2;
+# one with gaps is refused, since its tasks would leave pieces out. Where a task failed, the same command again does
 # what is missing and nothing else. FOLDER may be one that `net_table --plan SOURCE FOLDER` made: then the tasks do its
 # pieces, and `net_table FOLDER` after them writes the table.
 case ${1:-} in
@@ -20,10 +21,24 @@ set -eu
 [ $# -ge 2 ] || { echo "usage: sbatch --array=1-16 nets.sbatch TOOLS FOLDER [COMMAND [ARCHIVE]]" >&2; exit 2; }
 tools=$1 folder=$2
 shift 2
+first=${SLURM_ARRAY_TASK_MIN:-} last=${SLURM_ARRAY_TASK_MAX:-} step=${SLURM_ARRAY_TASK_STEP:-} task=${SLURM_ARRAY_TASK_ID:-}
+case $first:$last:$step:$task:${SLURM_ARRAY_TASK_COUNT:-} in
+*[!0-9:]* | *::* | :* | *:)
+    echo "nets.sbatch: this is no task of an array; start it by sbatch --array=1-16" >&2
+    exit 2
+    ;;
+esac
+tasks=$(((last - first) / step + 1))
+rank=$(((task - first) / step + 1))
+if [ "$tasks" -ne "$SLURM_ARRAY_TASK_COUNT" ] || [ $(((task - first) % step)) -ne 0 ]; then
+    echo "nets.sbatch: the array from $first to $last has gaps, and its $SLURM_ARRAY_TASK_COUNT tasks would leave pieces" \
+        "out; start it as sbatch --array=1-$SLURM_ARRAY_TASK_COUNT" >&2
+    exit 2
+fi
 if [ -e "$folder/work/plan" ]; then
-    exec "$tools/net_table" "$folder" --part "$SLURM_ARRAY_TASK_ID/$SLURM_ARRAY_TASK_COUNT" --jobs 1
+    exec "$tools/net_table" "$folder" --part "$rank/$tasks" --jobs 1
 fi
 total=$(wc -l <"$folder/index.tsv")
-for piece in $(seq "$SLURM_ARRAY_TASK_ID" "$SLURM_ARRAY_TASK_COUNT" "$total"); do
+for piece in $(seq "$rank" "$tasks" "$total"); do
     "$tools/key_piece" "$folder" "$piece" "$@"
 done

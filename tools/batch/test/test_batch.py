@@ -81,7 +81,7 @@ class Texts(FolderTest):
         self.file.write_bytes(ODD_TEXT)
 
     def split(self, folder, *words):
-        run(BATCH / "split_nets", *words, self.file, self.folder / folder)
+        run(BATCH / "split_nets", "--as-it-is", *words, self.file, self.folder / folder)
         return [row.split("\t") for row in (self.folder / folder / "index.tsv").read_text().splitlines()]
 
     def rows(self, folder, index):
@@ -144,9 +144,9 @@ class Texts(FolderTest):
         self.assertEqual(done.stderr.count(b"\n"), 2)
         for count, wanted in ((1, ["0 0 1", "1 5 1", "2 10 1"]), (2, ["0 0 2", "2 10 1"]), (9, ["0 0 3"])):
             folder = self.folder / str(count)
-            run(BATCH / "split_nets", "--blocks", count, items, folder)
+            run(BATCH / "split_nets", "--as-it-is", "--blocks", count, items, folder)
             index = [row.split("\t") for row in (folder / "index.tsv").read_text().splitlines()]
-            self.assertEqual([" ".join(row[1:]) for row in index], wanted)
+            self.assertEqual([" ".join(row[1:4]) for row in index], wanted)
             self.assertEqual([row[0] for row in index], [f"p{k + 1:05}.arc" for k in range(len(index))])
             self.assertEqual(b"".join((folder / row[0]).read_bytes() for row in index), KEY_LINES)
 

@@ -118,7 +118,7 @@ class Table(FolderTest):
         self.assertEqual(rows[2]["names"], "one, square\\; lattice;two, square\\; lattice")
         self.assertEqual(rows[0]["sequences"], "4 8 12 16 20 24 28 32 36 40")
         told = contents(self.result)
-        self.assertEqual(told["groups.tsv"].splitlines()[1:], [b"1\t2\tone, square\\; lattice;two, square\\; lattice\tkey\t1 3"])
+        self.assertEqual(told["groups.tsv"].splitlines()[1:], [b"1\t1\ta\\;b\\ttab\tkey", b"1\t3\t\tkey"])
         self.assertEqual(len(told["names.tsv"].splitlines()), 5)
         self.assertIn(b"refused 2 Degenerate q=0 c=0 1 h=0", told["refused.tsv"])
 
@@ -222,7 +222,8 @@ class Table(FolderTest):
         self.make("--plan", status=0)
         run(NET_TABLE, self.result, "--part", "2/3")
         for k in ("1", "3"):
-            run("sh", BATCH / "nets.sbatch", BATCH, self.result, SLURM_ARRAY_TASK_ID=k, SLURM_ARRAY_TASK_COUNT="3")
+            run("sh", BATCH / "nets.sbatch", BATCH, self.result, SLURM_ARRAY_TASK_ID=k, SLURM_ARRAY_TASK_COUNT="3",
+                SLURM_ARRAY_TASK_MIN="1", SLURM_ARRAY_TASK_MAX="3", SLURM_ARRAY_TASK_STEP="1")
         self.assertEqual(len(list(self.result.glob("work/*.rows"))), len(read_plan(self.result / "work/plan").pieces))
         run(NET_TABLE, self.result, "--archive", self.archives, status=1)
         parts = contents(self.result)
@@ -253,7 +254,8 @@ class Table(FolderTest):
 
     def test_words_and_sources_that_are_none(self):
         self.make()
-        for words, status, word in (([], 2, "usage"), ([self.folder / "absent", self.result], 3, "absent"),
+        for words, status, word in (([], 2, "usage"), ([self.folder / "absent", self.folder / "new"], 3, "absent"),
+                                    ([self.folder / "absent", self.result], 3, "its source is"),
                                     ([self.source, self.result, "--keys-alone"], 3, "another table"),
                                     ([self.folder / "new"], 3, "nothing is planned"), ([self.archives, self.folder / "new"], 3, "no files"),
                                     ([self.source, self.result, "--jobs", "0"], 2, "1 to 1024"),
@@ -312,7 +314,7 @@ class Plans(FolderTest):
                 self.assertEqual(lengths.get(portion.path, 0), portion.offset)
                 lengths[portion.path] = portion.offset + portion.length
         self.assertEqual(lengths, {str(path): path.stat().st_size for path in self.folder.iterdir()})
-        self.assertEqual({portion.kind for piece in plan.pieces for portion in piece}, {"blocks", "items", "structure"})
+        self.assertEqual({portion.kind for piece in plan.pieces for portion in piece}, {"blocks", "blocks after an item", "structure"})
         (self.folder / "plan").write_bytes(plan.content)
         self.assertEqual(read_plan(self.folder / "plan"), plan)
         for content in (b"", b"x", b"[]\n", plan.text.encode(), plan.content.replace(FORM.encode(), b"net_table 1"),

@@ -171,7 +171,7 @@ REFUSED = {  # the rest of a CRYSTAL block from its third line on, and the reaso
     "CELL 1 1 1 90 90 90\nNODE 1 6 0 0 0\nNODE 2 4 1 0 0": "line 5: the node '2' is where '1' is, which has another",
     "CELL 1 1 1 90 90 90\nNODE 1 6 0 0 0\nNODE 1 6 .5 0 0\nEDGE 1 1 0 0": "line 6: there are 2 nodes '1'",
     "CELL 1 1 1 90 90 90\nNODE 1 5 0 0 0": "line 4: the node '1' has 6 neighbours, 5 are stated",
-    "CELL 1 1 1 90 90 90\nNODE 1 4 0 0 0\nEDGE 1 1 0 0": "line 4: the node '1' has 6 neighbours, 4 are stated",
+    "CELL 1 1 1 90 90 90\nNODE 1 4 0 0 0\nEDGE 1 1 0 0": "line 4: the node '1' has 2 neighbours by its edges, 4 are stated",
     "GROUP P42/mmc\nCELL 1 1 2 90 90 90\nNODE 1 4 0 0 0": "line 5: the node '1' has 6 neighbours, 4 are stated",
     "GROUP P4/mmm\nNODE 1 6 0 0 0": "there is no CELL, and edges are to be found by distance",
     "GROUP x,y,z -x,y\nCELL 1 1 1 90 90 90\nNODE 1 6 0 0 0": "line 3: ",
@@ -198,7 +198,7 @@ def parts_of(line: str) -> list[str]:
 def converted(text: bytes) -> tuple[bytes, list[str]]:
     """What is written, and what is told, without a new process."""
     written, told = [], []
-    Converter("x", written.append, lambda line, is_refusal: told.append(line)).convert(io.BytesIO(text))
+    Converter("x", written.append, lambda line, kind: told.append(line)).convert(io.BytesIO(text))
     return b"".join(written), told
 
 
@@ -224,11 +224,11 @@ class Texts(FolderTest):
 
     def test_edges_that_are_no_nearest_neighbours(self):
         self.assertEqual(self.names(KGD), ["kgd"])
-        self.assertIn("'B' has 6 neighbours, 3 are stated", converted(KGD.replace("EDGE", "COMMENT").encode())[1][0])
+        self.assertIn("'B' has 6 neighbours, 3 are stated", converted(KGD.replace("EDGE", "COMMENT").encode())[1][-1])
 
     def test_cds_is_not_taken_for_pcu(self):
         self.assertEqual(self.names(WITH_EDGES), ["cds"])
-        self.assertIn("6 neighbours, 4 are stated", converted(WITH_EDGES.replace("EDGES", "COMMENT").encode())[1][0])
+        self.assertIn("6 neighbours, 4 are stated", converted(WITH_EDGES.replace("EDGES", "COMMENT").encode())[1][-1])
 
     def test_nets_by_operations_and_tilings(self):
         self.assertEqual(self.names(NET), ["dia"])
@@ -274,10 +274,9 @@ class Texts(FolderTest):
             self.assertEqual(written.count(b"\n"), 1 + text.count("\n"))
 
     def test_what_a_reader_should_know(self):
-        text = "CRYSTAL\nNAME x\nCELL 1 1 1.05 90 90 90\nNODE 1 4 0 0 0\nEDGE 1 1 0 0\nWONDER 3\nEND\n"
+        text = "CRYSTAL\nNAME x\nCELL 1 1 1.05 90 90 90\nNODE 1 4 0 0 0\nWONDER 3\nEND\n"
         self.assertEqual([line.partition(": ")[2] for line in converted(text.encode())[1]], [
-            'line 1 "x": line 6: WONDER is no keyword, and is passed over',
-            'line 1 "x": the edges that are given are not all; others are by distance',
+            'line 1 "x": line 5: WONDER is no keyword, and is passed over, with 1 row',
             'line 1 "x": edges are by distance, and of the node 1 a vertex that is not joined is 1.050 times as far as '
             'one that is',
             'line 1 "x": edges are by distance, and the net is not connected'])

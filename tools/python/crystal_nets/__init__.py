@@ -57,7 +57,7 @@ if TYPE_CHECKING:
     from .covers import Cover, cover
     from .drawing import svg
     from .errors import (CrystalNetsError, NotANet, NotAnArchive, NotATable, PackageMissing, ProgramFailed,
-                         ProgramNotFound)
+                         ProgramNotFound, ProgramTimedOut)
     from .groups import Group, Groups, group
     from .maps import Meeting, NetMap, Sameness, same
     from .net import Net
@@ -70,12 +70,14 @@ if TYPE_CHECKING:
 __version__ = "0.1"
 __all__ = ["Answer", "Answers", "Archive", "By", "Component", "Components", "Cover", "CrystalNetsError", "Group", "Groups",
            "Meeting", "Net", "NetMap", "NotANet", "NotATable", "NotAnArchive", "Outcome", "PackageMissing", "Placement",
-           "PrimitiveGraph", "ProgramFailed", "ProgramNotFound", "Sameness", "check", "components", "cover", "find_program",
-           "group", "identify", "identify_all", "keys", "net_of_key", "read", "read_table", "same", "svg", "to_pandas"]
+           "PrimitiveGraph", "ProgramFailed", "ProgramNotFound", "ProgramTimedOut", "Sameness", "check", "components", "cover",
+           "find_program", "group", "identify", "identify_all", "keys", "net_of_key", "read", "read_table", "same", "svg",
+           "to_pandas"]
 
 HOMES = {"answers": "Answer Answers By Placement PrimitiveGraph to_pandas", "archive": "Archive",
          "asking": "identify identify_all keys", "checking": "check", "covers": "Cover cover", "drawing": "svg",
-         "errors": "CrystalNetsError NotANet NotAnArchive NotATable PackageMissing ProgramFailed ProgramNotFound",
+         "errors": "CrystalNetsError NotANet NotAnArchive NotATable PackageMissing ProgramFailed ProgramNotFound "
+                   "ProgramTimedOut",
          "groups": "Group Groups group", "maps": "Meeting NetMap Sameness same", "net": "Net", "outcome": "Outcome",
          "parts": "Component Components components net_of_key", "program": "find_program", "reading": "read",
          "tables.columns": "read_table"}

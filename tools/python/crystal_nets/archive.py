@@ -10,7 +10,7 @@ from pathlib import Path
 
 from .errors import NotAnArchive, NotANet, ProgramFailed
 from .net import Net
-from .program import run
+from .program import bounded, run
 from .texts.archive_text import Entry, entries_of
 from .texts.net_text import NoReport
 from .wide.archive import SUFFIX, WideArchive
@@ -48,9 +48,11 @@ class Archive:
         self._names = {key: tuple(same) for key, same in names.items()}
 
     @classmethod
-    def load(cls, *paths: str | os.PathLike[str]) -> Archive:
+    @bounded
+    def load(cls, *paths: str | os.PathLike[str], timeout: float | None = None) -> Archive:
         """All archives of files and folders as one; of a folder the files `*.archive` in it, and `*.index` of nets without
-        a key. NotAnArchive where one is none, or its keys are not those of its edges; OSError where it cannot be read."""
+        a key. NotAnArchive where one is none, or its keys are not those of its edges; OSError where it cannot be read;
+        ProgramTimedOut after so many seconds."""
         files = files_of(paths)
         entries: list[tuple[str, str, Net]] = []
         for path in files:
@@ -59,14 +61,17 @@ class Archive:
         return cls(entries, [WideArchive(path) for path in files if path.suffix == SUFFIX])
 
     @classmethod
-    def default(cls) -> Archive:
+    @bounded
+    def default(cls, *, timeout: float | None = None) -> Archive:
         """The archives beside this package, and those of the user in `net_tool/archives` under XDG_DATA_HOME, which is
         ~/.local/share where it is not set. They are loaded once."""
         return _loaded(tuple(map(str, default_files())))
 
     @classmethod
-    def of(cls, nets: Iterable[Net]) -> Archive:
-        """An archive of nets under their names. NotANet where one has no name, or no key."""
+    @bounded
+    def of(cls, nets: Iterable[Net], *, timeout: float | None = None) -> Archive:
+        """An archive of nets under their names. NotANet where one has no name, or no key; ProgramTimedOut after so many
+        seconds."""
         from .asking import keys
         entries = []
         for answer in keys(list(nets), maps=False):

@@ -14,7 +14,7 @@ from .archive import Archive
 from .errors import NotANet
 from .net import Net
 from .outcome import ACCEPTED, outcome_of, unreadable
-from .program import each_piece, reading_report, run
+from .program import bounded, each_piece, reading_report, run
 from .reading import one_net, read
 from .texts.net_text import GRAPH
 
@@ -39,12 +39,15 @@ Ask = Callable[[list[Net]], list[Answer]]
 HEAD = b"\nnet "  # begins the report on a net, and no other line: no name has a line feed
 
 
-def identify(source: Any, archive: Archives = DEFAULT, maps: bool = True, **options: Any) -> Answer:
+@bounded
+def identify(source: Any, archive: Archives = DEFAULT, maps: bool = True, *, timeout: float | None = None,
+             **options: Any) -> Answer:
     """Which net it is: placement, primitive graph, key, coordination sequences, and names in the archive.
 
     source   what `read` reads, with one net; NotANet is raised where it has several
     archive  an `Archive`, paths of archives and folders, or None; the archives beside the package where none is given
     maps     whether a net without a key is looked for all the same: on a smaller cell, and by verified maps
+    timeout  seconds, after which ProgramTimedOut is raised and the program ended; without it there is no limit
     options  of structures, as `convention="single-nodes"`
 
     What is proved and what is not, `Answer` says.
@@ -61,17 +64,21 @@ def identify(source: Any, archive: Archives = DEFAULT, maps: bool = True, **opti
     return _identified(nets, archive_of(archive), 1, maps)[0]
 
 
-def identify_all(sources: Any, archive: Archives = DEFAULT, processes: int = 1, maps: bool = True,
-                 **options: Any) -> Answers:
+@bounded
+def identify_all(sources: Any, archive: Archives = DEFAULT, processes: int = 1, maps: bool = True, *,
+                 timeout: float | None = None, **options: Any) -> Answers:
     """The same of many nets: of a source that has several, as a file, or of an iterable of sources.
 
-    processes  of the program, side by side"""
+    processes  of the program, side by side
+    timeout    seconds of the whole call, after which ProgramTimedOut is raised"""
     return _identified(_nets_of(sources, options), archive_of(archive), processes, maps)
 
 
-def keys(sources: Any, archive: Archives = None, processes: int = 1, maps: bool = True, **options: Any) -> Answers:
+@bounded
+def keys(sources: Any, archive: Archives = None, processes: int = 1, maps: bool = True, *,
+         timeout: float | None = None, **options: Any) -> Answers:
     """The keys of many nets, and their names where an archive is given, without placement, primitive graph and
-    sequences. It takes less time than `identify_all`.
+    sequences. It takes less time than `identify_all`. After `timeout` seconds ProgramTimedOut is raised.
 
     >>> sql = [(1, 1, (1, 0)), (1, 1, (0, 1))]
     >>> keys([Net(sql), Net([(1, 1, (1, 0))])])[0].key

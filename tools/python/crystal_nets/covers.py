@@ -13,7 +13,7 @@ from .errors import NotANet
 from .lattice import determinant
 from .net import Net
 from .outcome import ACCEPTED, Outcome, outcome_of
-from .program import reading_report, run
+from .program import bounded, reading_report, run
 from .reading import want_one_block
 from .texts.net_text import GREATEST_SHIFT
 
@@ -36,8 +36,10 @@ class Cover:
     index: int
 
 
-def cover(source: Any, cell: Iterable[Iterable[int]], **options: Any) -> Cover:
-    """A net on a cell of given rows, 2 x 2 or 3 x 3 whole numbers from -500 to 500, in lattice steps.
+@bounded
+def cover(source: Any, cell: Iterable[Iterable[int]], *, timeout: float | None = None, **options: Any) -> Cover:
+    """A net on a cell of given rows, 2 x 2 or 3 x 3 whole numbers from -500 to 500, in lattice steps. After `timeout`
+    seconds ProgramTimedOut is raised.
 
     >>> cover([(1, 1, (1, 0)), (1, 1, (0, 1))], [(2, 0), (0, 1)]).net.edges
     ((1, 1, (0, 1)), (1, 2, (-1, 0)), (1, 2, (0, 0)), (2, 2, (0, 1)))"""

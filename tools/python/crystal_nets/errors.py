@@ -38,5 +38,16 @@ class ProgramFailed(CrystalNetsError, RuntimeError):
         self.status = status
 
 
+class ProgramTimedOut(ProgramFailed, TimeoutError):
+    """net_tool was ended since it gave no answer within `seconds`, the timeout of a call."""
+
+    def __init__(self, seconds: float) -> None:
+        super().__init__(f"net_tool was ended after {seconds:g} seconds without an answer")
+        self.seconds = seconds
+
+    def __reduce__(self) -> tuple[type[ProgramTimedOut], tuple[float]]:
+        return type(self), (self.seconds,)
+
+
 class PackageMissing(CrystalNetsError, ImportError):
     """A package of Python is not there; the text has the name of the Debian package."""

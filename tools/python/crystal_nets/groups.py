@@ -8,6 +8,7 @@ from typing import Any
 
 from .answers import Answer, Answers, By
 from .asking import Archives, keys
+from .program import bounded
 
 Member = tuple[int, Answer]  # a place among the nets that were given, and the answer
 
@@ -58,10 +59,13 @@ class Groups:
         return self.groups[place]
 
 
-def group(sources: Any, archive: Archives = None, processes: int = 1, maps: bool = True, **options: Any) -> Groups:
+@bounded
+def group(sources: Any, archive: Archives = None, processes: int = 1, maps: bool = True, *,
+          timeout: float | None = None, **options: Any) -> Groups:
     """The groups of isomorphic nets. Keys are compared whole; that two are equal exactly where the nets are isomorphic
     is proved. A net that has a key on a smaller cell alone belongs to the group of that key, since `verify` has taken the
-    map. Nets without a key are grouped by verified maps; `maps=False` leaves all of these aside.
+    map. Nets without a key are grouped by verified maps; `maps=False` leaves all of these aside. ProgramTimedOut is raised
+    after `timeout` seconds.
 
     >>> square, wide = [(1, 1, (1, 0)), (1, 1, (0, 1))], [(1, 1, (1, 1)), (1, 1, (0, 1))]
     >>> honeycomb = [(1, 2, (0, 0)), (1, 2, (1, 0)), (1, 2, (0, 1))]

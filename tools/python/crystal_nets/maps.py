@@ -12,7 +12,7 @@ from .errors import NotANet, ProgramFailed
 from .graph import Vertex
 from .net import Net
 from .outcome import ACCEPTED, Outcome
-from .program import reading_report, run
+from .program import bounded, reading_report, run
 
 Place = tuple[Vertex, tuple[int, ...]]
 
@@ -46,8 +46,9 @@ class NetMap:
         return image, tuple(part + sum(step * row[k] for step, row in zip(steps, self.base))
                             for k, part in enumerate(there))
 
-    def is_verified(self) -> bool:
-        """Whether `net_tool verify` finds the map right."""
+    @bounded
+    def is_verified(self, *, timeout: float | None = None) -> bool:
+        """Whether `net_tool verify` finds the map right; ProgramTimedOut after so many seconds."""
         _, told = run("verify", self.text.encode(), "-", allowed=(0, 1, BAD_MAP))
         return told == b"pair 2 verified\n"
 
@@ -94,8 +95,10 @@ class Sameness:
         return self.same
 
 
-def same(one: Any, other: Any, **options: Any) -> Sameness:
-    """Whether two nets are the same, with a map from the first to the second.
+@bounded
+def same(one: Any, other: Any, *, timeout: float | None = None, **options: Any) -> Sameness:
+    """Whether two nets are the same, with a map from the first to the second. After `timeout` seconds ProgramTimedOut is
+    raised.
 
     >>> pcu = [(1, 1, (1, 0, 0)), (1, 1, (0, 1, 0)), (1, 1, (0, 0, 1))]
     >>> skewed = [("A", "A", (1, 1, 0)), ("A", "A", (0, 1, 0)), ("A", "A", (0, 0, 1))]

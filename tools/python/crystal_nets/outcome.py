@@ -19,8 +19,8 @@ VALUE = re.compile(rb" ([A-Za-z0-9]+)=(" + VERTEX + rb"(?= [a-z]+=|$)|" + LIST +
 class Outcome:
     """What became of a net.
 
-    kind    `accepted`, `refused`, `malformed`, `unsupported`; or `unreadable`, where a structure or a block gave no
-            net before the program saw one
+    kind    `accepted`, `refused`, `malformed`, `unsupported`; `unreadable`, where a structure or a block gave no
+            net before the program saw one; or `stopped` in a table, where the time of a net was over
     number  of a refusal or a fault, as docs/FORMATS.md has them; 0 where there is none
     name    its word, as `Collision`
     values  what is true of the net, as {'u': 'Si1', 'v': 'Si2', 't': (0, 0, 1)}: vertices, cells in lattice steps,
@@ -46,6 +46,11 @@ ACCEPTED = Outcome()
 
 def unreadable(reason: str) -> Outcome:
     return Outcome("unreadable", text=reason)
+
+
+def stopped(seconds: int) -> Outcome:
+    """The outcome of a net whose time was over."""
+    return Outcome("stopped", seconds, "Seconds", text=f"no answer came within {seconds} seconds")
 
 
 def outcome_of(line: bytes, lines_before: int = 0) -> Outcome:

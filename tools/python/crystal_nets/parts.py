@@ -10,7 +10,7 @@ from .asking import DEFAULT, Archives, archive_of, single
 from .errors import NotANet
 from .net import Net
 from .outcome import ACCEPTED, Outcome, outcome_of
-from .program import reading_report, run
+from .program import bounded, reading_report, run
 from .texts.component_text import Part, parts_of_report
 from .texts.key_graph import graph_of_key
 from .texts.net_text import NoReport
@@ -60,8 +60,10 @@ class Components:
         return sum(part.copies for part in self.parts)
 
 
-def components(source: Any, archive: Archives = DEFAULT, **options: Any) -> Components:
-    """What interpenetrates: the kinds of pieces of a net, how many of each, their keys and names.
+@bounded
+def components(source: Any, archive: Archives = DEFAULT, *, timeout: float | None = None, **options: Any) -> Components:
+    """What interpenetrates: the kinds of pieces of a net, how many of each, their keys and names. After `timeout` seconds
+    ProgramTimedOut is raised.
 
     >>> woven = Net([(u, u, shift) for u in (1, 2) for shift in ((1, 0, 0), (0, 1, 0), (0, 0, 1))])
     >>> [(part.copies, part.key) for part in components(woven, archive=None).parts]

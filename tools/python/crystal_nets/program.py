@@ -5,17 +5,22 @@ from __future__ import annotations
 import os
 import shutil
 import subprocess
+import time
 from collections.abc import Callable, Iterable, Iterator, Sequence
 from concurrent.futures import ThreadPoolExecutor
 from contextlib import contextmanager
+from contextvars import ContextVar, copy_context
+from dataclasses import dataclass
+from functools import wraps
 from pathlib import Path
-from typing import TypeVar
+from typing import ParamSpec, TypeVar
 
-from .errors import CrystalNetsError, ProgramFailed, ProgramNotFound
+from .errors import CrystalNetsError, ProgramFailed, ProgramNotFound, ProgramTimedOut
 from .net import Net
 from .texts.net_text import MOST_BLOCKS, MOST_BYTES, NoReport
 
 Result = TypeVar("Result")
+Words = ParamSpec("Words")
 
 HERE = Path(__file__).resolve().parent
 PLACES = (  # beside the package in the repository, built or released, in an installation and in a Debian package; and elsewhere
@@ -26,6 +31,53 @@ HOW_TO_BUILD = ("net_tool is not there: in the folder of its repository `./net_t
 STATUSES = {2: "it does not know the arguments", 3: "a file could not be read", 4: "it could not write",
             6: "the text has more than 16,777,216 bytes", 7: "memory was refused", 8: "there are more than 4,096 blocks",
             10: "the archive would be too large", 20: "the runtime failed"}
+
+
+@dataclass(frozen=True)
+class Limit:
+    """Until when the program may run, by the clock that only rises, and of how many seconds this is the end."""
+
+    end: float
+    seconds: float
+
+    def left(self) -> float:
+        """The seconds that are left. ProgramTimedOut where there are none."""
+        left = self.end - time.monotonic()
+        if left <= 0:
+            raise ProgramTimedOut(self.seconds)
+        return left
+
+
+LIMIT: ContextVar[Limit | None] = ContextVar("LIMIT", default=None)
+
+
+@contextmanager
+def within(seconds: float | None) -> Iterator[None]:
+    """Lets the program run so many seconds in all within this block, and raises ProgramTimedOut where they are over.
+    Within another such block the one that ends first counts. None is without a limit of its own."""
+    if seconds is None:
+        yield
+        return
+    if not seconds > 0:
+        raise ValueError(f"timeout is {seconds}, and not more than 0")
+    limit, outer = Limit(time.monotonic() + seconds, seconds), LIMIT.get()
+    token = LIMIT.set(limit if outer is None or limit.end < outer.end else outer)
+    try:
+        yield
+    finally:
+        LIMIT.reset(token)
+
+
+def bounded(call: Callable[Words, Result]) -> Callable[Words, Result]:
+    """A call that ends with ProgramTimedOut where its word `timeout` is given, and so many seconds are over."""
+    @wraps(call)
+    def in_time(*args: Words.args, **words: Words.kwargs) -> Result:
+        timeout = words.get("timeout")
+        if timeout is not None and not isinstance(timeout, (int, float)):
+            raise TypeError(f"timeout is {timeout!r}, and no number of seconds")
+        with within(timeout):
+            return call(*args, **words)
+    return in_time
 
 
 def find_program() -> str:
@@ -48,10 +100,15 @@ def find_program() -> str:
 
 def run(command: str, text: bytes = b"", *words: str, allowed: Iterable[int] = (0, 1)) -> tuple[int, bytes]:
     """The status and the report of a command on a text, which it reads from standard input. ProgramFailed where the
-    status is none of the allowed ones: then there is no report."""
-    program = find_program()
+    status is none of the allowed ones: then there is no report; ProgramTimedOut where the time of `within` is over."""
+    program, limit = find_program(), LIMIT.get()
+    left = limit.left() if limit else None
     try:
-        done = subprocess.run([program, command, *words], input=text, stdout=subprocess.PIPE, stderr=subprocess.DEVNULL)
+        done = subprocess.run([program, command, *words], input=text, stdout=subprocess.PIPE, stderr=subprocess.DEVNULL,
+                              timeout=left)
+    except subprocess.TimeoutExpired:
+        assert limit
+        raise ProgramTimedOut(limit.seconds) from None
     except OSError as fault:
         raise ProgramFailed(f"{program} cannot be run: {fault.strerror}") from fault
     if done.returncode not in allowed:
@@ -96,5 +153,6 @@ def each_piece(work: Callable[[list[Net]], Result], nets: Sequence[Net], process
     if processes == 1 or len(pieces) < 2:
         yield from map(work, pieces)
         return
+    context = copy_context()  # with the time that is left
     with ThreadPoolExecutor(processes) as pool:  # each thread waits for a process of the program
-        yield from pool.map(work, pieces)
+        yield from pool.map(lambda piece: context.copy().run(work, piece), pieces)

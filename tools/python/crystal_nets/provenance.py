@@ -11,6 +11,7 @@ LEFT_OUT = "left out"      # atoms and pieces that no net has
 DISORDER = "disorder"      # which of several alternatives was taken
 CONVENTION = "convention"  # what became vertices
 DOUBT = "doubt"            # where another reading gives another net
+DROPPED = "dropped"        # rows and parts of a text that are passed over
 OTHER = "other"
 REFUSED = "refused"        # why there is no net
 # of the components of a structure, by their dimension

@@ -18,7 +18,8 @@ from typing import TYPE_CHECKING, Any
 from .errors import NotANet, PackageMissing
 from .net import TOO_LONG, Net
 from .provenance import REFUSED, Note, notes_of
-from .texts.net_text import FIRST_TOKEN, HEADER, MOST_BYTES, OTHER_TEXTS, Chunk, chunks_of
+from .texts.net_text import (BYTE_ORDER_MARK, FIRST_TOKEN, HEADER, MOST_BYTES, OTHER_TEXTS, Chunk, chunks_of,
+                             first_word)
 
 if TYPE_CHECKING:
     import networkx
@@ -32,13 +33,16 @@ CIF_SUFFIXES = (".cif", ".mcif", ".mmcif")
 OTHER_SUFFIXES = (".vasp", ".poscar", ".contcar", ".xyz", ".extxyz")  # structures that ase reads
 SUFFIXES = (*CIF_SUFFIXES, *OTHER_SUFFIXES, ".cgd", ".arc")  # of the files of a folder
 ROW = rb'(?:[+-]?\d++|"[^"\n]*+")[ \t]++(?:[+-]?\d++|"[^"\n]*+")[ \t]++[-+\d \t]++'
-PLAIN_BLOCK = re.compile(  # line by line: a row; a keyword; or nothing. ++ and *+ never take back what they took
-    rb'(?:[ \t]*+(?:' + ROW + rb'|(?i:END|(?:EDGES?|BONDS?)(?:[ \t]++' + ROW + rb')?|PERIODIC_GRAPH'
-    rb'|(?:NAME|ID)[ \t]++(?:"[^"\n]*+"|[^\s"#]++))|)[ \t\r]*+(?:#[^\n]*+)?\n)*+')
+HEAD_LINE = rb'PERIODIC_GRAPH|END|(?:NAME|ID)[ \t]++(?:"[^"\n]*+"|[^\s"#]++)|'  # or nothing
+LINE_END = rb'[ \t\r]*+(?:#[^\n]*+)?\n'
+PLAIN_BLOCK = re.compile(  # line by line, from EDGES on with rows. ++ and *+ never take back what they took
+    rb'(?:[ \t]*+(?i:' + HEAD_LINE + rb')' + LINE_END + rb')*+'
+    rb'(?:[ \t]*+(?i:EDGES?|BONDS?)(?:[ \t]++' + ROW + rb')?' + LINE_END +
+    rb'(?:[ \t]*+(?:' + ROW + rb'|(?i:(?:EDGES?|BONDS?)(?:[ \t]++' + ROW + rb')?|' + HEAD_LINE + rb'))'
+    + LINE_END + rb')*+)?')
 NAME_LINE = re.compile(rb'(?i)[ \t]*(?:NAME|ID)[ \t]+(?:"([^"\n]*)"|([^\s"#]+))')
 GZIP = b"\x1f\x8b"
 MOST_UNPACKED = 1 << 28  # bytes of a gzip file
-BYTE_ORDER_MARK = b"\xef\xbb\xbf"
 STRUCTURE_PACKAGES = "apt-get install python3-gemmi python3-numpy python3-scipy python3-spglib"
 
 
@@ -176,18 +180,18 @@ def _net_of_chunk(chunk: Chunk) -> Net:
     if chunk.size > MOST_BYTES:
         return Net.refused(f"line {chunk.opening_line}: {TOO_LONG}")
     if not is_ended(lines):
-        return Net.refused(f"line {chunk.opening_line}: the block has no END", _name_of(lines))
+        return Net.refused(f"line {chunk.opening_line}: the block has no END", name_of_block(lines))
     text = b"".join(lines)
     text = text if text.endswith(b"\n") else text + b"\n"
     if word.startswith(b"PERIODIC_GRAPH") and PLAIN_BLOCK.fullmatch(text):
-        return Net._of(text, _name_of(lines))
+        return Net._of(text, name_of_block(lines))
     with _packages_of("a block that is no plain PERIODIC_GRAPH"):
         return _net_of_block(chunk, lines)
 
 
 def _net_of_block(chunk: Chunk, lines: list[bytes]) -> Net:
     """The net of a block of another kind, as cgd2net reads it."""
-    from .blocks.converter import KINDS, MOST_LINES, Block, first_word, net_of_block
+    from .blocks.converter import KINDS, MOST_LINES, Block, net_of_block
     from .blocks.converter import MOST_BYTES as MOST_OF_A_BLOCK
     from .refusal import Refused
     kind = KINDS.get(first_word(lines[0]), "")
@@ -197,7 +201,7 @@ def _net_of_block(chunk: Chunk, lines: list[bytes]) -> Net:
         return Net.refused(f"line {chunk.opening_line}: a block {opening!r} is not read")
     if len(lines) > MOST_LINES or chunk.size > MOST_OF_A_BLOCK:
         return Net.refused(f"line {chunk.opening_line}: more than {MOST_LINES} lines, or {MOST_OF_A_BLOCK} bytes")
-    notes: list[str] = []
+    notes: list[str | Note] = []
     name = block.name
     try:
         net = net_of_block(block, notes)
@@ -206,6 +210,16 @@ def _net_of_block(chunk: Chunk, lines: list[bytes]) -> Net:
     except Exception as fault:  # of the reader, or of a library: the next block may still be read
         return Net.refused(f"line {chunk.opening_line}: {type(fault).__name__} {fault}", name, notes)
     return net.named(name).noted(after=notes_of(notes))
+
+
+def is_plain(chunk: Chunk) -> bool:
+    """Whether the program reads a block as it stands. One PERIODIC_GRAPH that is broken otherwise than by words of other
+    programs is for the program to tell."""
+    lines = chunk.block_lines
+    if first_word(lines[0]) != b"PERIODIC_GRAPH":
+        return False
+    text = b"".join(lines)
+    return not is_ended(lines) or PLAIN_BLOCK.fullmatch(text if text.endswith(b"\n") else text + b"\n") is not None
 
 
 def want_one_block(text: bytes) -> None:
@@ -224,7 +238,7 @@ def is_ended(lines: list[bytes]) -> bool:
     return len(lines) > 1 and found is not None and (found[1] or b"").upper() == b"END"
 
 
-def _name_of(lines: list[bytes]) -> str:
+def name_of_block(lines: list[bytes]) -> str:
     for line in lines[1:]:
         found = NAME_LINE.match(line)
         if found:

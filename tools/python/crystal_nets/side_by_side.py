@@ -2,8 +2,11 @@
 
 from __future__ import annotations
 
+import contextlib
+import ctypes
 import multiprocessing
 import os
+import signal
 from collections.abc import Callable, Iterator, Sequence
 from concurrent.futures import ProcessPoolExecutor
 from typing import TypeVar
@@ -12,12 +15,22 @@ from .progress import Progress
 
 Item = TypeVar("Item")
 Result = TypeVar("Result")
+PARENT_ENDED = 1  # of prctl: the signal that a process gets where its parent ends
 FEWEST = 8  # items for which more than one process is started
 
 
 def processors() -> int:
     """How many processors this process may use."""
     return len(os.sched_getaffinity(0))
+
+
+def end_with_parent(parent: int) -> None:
+    """Has this process end where its parent does, so that no run that was killed leaves one behind."""
+    signal.signal(signal.SIGINT, signal.SIG_DFL)
+    with contextlib.suppress(OSError, AttributeError):
+        ctypes.CDLL(None).prctl(PARENT_ENDED, signal.SIGKILL)
+    if os.getppid() != parent:
+        os._exit(1)
 
 
 def results_of(work: Callable[[Item], Result], items: Sequence[Item], jobs: int, bar: Progress) -> Iterator[Result]:

@@ -10,7 +10,7 @@ import argparse
 import signal
 import sys
 
-from ..texts.net_text import NetReport, NoReport, chunks_of, nets_of_report
+from ..texts.net_text import NetReport, NoReport, chunks_as_read, nets_of_report
 
 WITHOUT_KEY = tuple(f"refused {number} ".encode() for number in (4, 5, 6, 7))
 
@@ -60,7 +60,7 @@ def main() -> int:
     kept: list[bytes] = []
     with open(asked.report, "rb") as report, open(asked.file, "rb") as source:
         nets = nets_of_report(report)
-        for chunk in chunks_of(source):
+        for chunk in chunks_as_read(source):
             if not chunk.opening_line:
                 continue
             net = next(nets, None)

@@ -12,14 +12,16 @@ from collections.abc import Iterable, Iterator
 from itertools import groupby
 
 from ..tables.sorting import sorted_lines
-from ..texts.row_text import Row, rows_of_files
+from ..texts.row_text import Row
+
+from .pieces import want_rows, whole_rows
 
 
 def words() -> argparse.Namespace:
     parser = argparse.ArgumentParser(
         prog="net_groups", description=__doc__,
         epilog="exit status: 0 told; 1 a file is not there, or is not one of rows with keys; 2 usage.")
-    parser.add_argument("rows", metavar="ROWS", nargs="+")
+    want_rows(parser)
     return parser.parse_args()
 
 
@@ -32,7 +34,9 @@ def sorted_by_key(rows: Iterable[Row]) -> Iterator[list[bytes]]:
 
 def main() -> int:
     groups = []
-    for _, rows in groupby(sorted_by_key(rows_of_files(words().rows)), key=lambda row: row[0]):
+    asked = words()
+    found = whole_rows(asked.rows, asked.index, asked.partial)
+    for _, rows in groupby(sorted_by_key(found), key=lambda row: row[0]):
         nets = [b"%s\t%s" % (number, name) for _, number, name in rows]
         if len(nets) > 1:
             groups.append((int(nets[0].split(b"\t")[0]), b"%d\t%s\n" % (len(nets), b"\t".join(nets))))

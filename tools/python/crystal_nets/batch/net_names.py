@@ -21,7 +21,8 @@ from ..errors import NotANet
 from ..texts.archive_text import entries_of
 from ..texts.graph_text import plain
 from ..texts.net_text import NoReport, chunks_of
-from ..texts.row_text import rows_of_files
+
+from .pieces import INDEX, index_of, want_rows, whole_rows
 
 Told = tuple[int, bytes, bytes, bytes]  # number, name in the archive, own name, and by what it is certain, after a tab
 WITHOUT_KEY = re.compile(rb"refused [4-7] |malformed [89] ")
@@ -33,7 +34,7 @@ net_tool, which refused an archive. NET_TOOL is the program, net_tool where it i
 def words() -> argparse.Namespace:
     parser = argparse.ArgumentParser(prog="net_names", description=__doc__, epilog=EPILOG)
     parser.add_argument("archive", metavar="ARCHIVE", type=Path)
-    parser.add_argument("rows", metavar="ROWS", nargs="+")
+    want_rows(parser)
     parser.add_argument("--pieces", metavar="FOLDER", type=Path, help="names of nets without a key, too")
     return parser.parse_args()
 
@@ -82,7 +83,7 @@ def tell_names() -> int:
                 names[entry.key].add(entry.name)
     found: list[Told] = []
     without_key: dict[int, bytes] = {}
-    for row in rows_of_files(asked.rows):
+    for row in whole_rows(asked.rows, asked.index, asked.partial):
         found += [(row.number, name, row.name, b"\tkey" if asked.pieces else b"") for name in names.get(row.key, ())]
         if asked.pieces and WITHOUT_KEY.match(row.outcome):
             without_key[row.number] = row.name
@@ -110,10 +111,9 @@ def names_without_key(wanted: dict[int, bytes], archives: Path, pieces: Path) ->
 
 def blocks_of_pieces(pieces: Path) -> Iterator[tuple[int, bytes]]:
     """The blocks of the pieces in a folder of split_nets, with their numbers in the whole file."""
-    for line in (pieces / "index.tsv").read_text().splitlines():
-        piece, blocks_before, _, _ = line.split("\t")
-        number = int(blocks_before)
-        with open(pieces / piece, "rb") as content:
+    for row in index_of(pieces / INDEX):
+        number = row.blocks_before
+        with open(pieces / row.piece, "rb") as content:
             for chunk in chunks_of(content):
                 if chunk.opening_line:
                     number += 1

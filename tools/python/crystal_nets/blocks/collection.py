@@ -20,6 +20,8 @@ from ..errors import in_words
 from ..files import write_whole
 from ..net import Net
 from ..program import find_program
+from ..provenance import DROPPED, REFUSED
+from ..texts.graph_text import plain
 from ..texts.net_text import MOST_BLOCKS, MOST_BYTES, NetReport, NoReport, nets_of_report
 from ..wide.archive import write_wide_archive
 from .converter import Block, Converter, lines_of
@@ -64,14 +66,17 @@ class Collector(Converter):
         super().__init__(source, self.pass_over, self.hear)
         self.nets: list[ListedNet] = []
         self.refusals = refused
+        self.dropped: list[str] = []
         self.was_passing = False
 
     def put(self, block: Block, text: bytes) -> None:
         self.nets.append(ListedNet(self.source, block.line, block.kind, b"", text))
 
-    def hear(self, text: str, is_refusal: bool) -> None:
-        if is_refusal:
+    def hear(self, text: str, kind: str) -> None:
+        if kind == REFUSED:
             self.refusals.append(text)
+        elif kind == DROPPED:
+            self.dropped.append(text)
 
     def pass_over(self, text: bytes) -> None:
         """Takes what is written beside the nets; the first line of a block of another kind is told."""
@@ -100,6 +105,7 @@ def read_nets(files: list[str], refused: list[str]) -> list[ListedNet]:
                     collector.push(line, is_rest)
                     bar.step(len(line))
             collector.finish()
+            bar.tell([plain(line) for line in collector.dropped])
             nets += collector.nets
     return nets
 

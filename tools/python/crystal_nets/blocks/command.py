@@ -6,6 +6,8 @@ import argparse
 import signal
 import sys
 
+from ..provenance import DROPPED, REFUSED
+
 from .converter import Converter
 
 DESCRIPTION = """The nets of .cgd and .arc files for net_tool: writes each block CRYSTAL, NET or TILING, and each
@@ -21,7 +23,7 @@ def words() -> argparse.Namespace:
         prog="cgd2net", description=DESCRIPTION, epilog=EPILOG, formatter_class=argparse.RawDescriptionHelpFormatter)
     parser.add_argument("files", nargs="*", metavar="FILE", default=["-"],
                         help="a .cgd or .arc file, or - for standard input, which is read where none is given")
-    parser.add_argument("--quiet", action="store_true", help="tell only why a block is refused")
+    parser.add_argument("--quiet", action="store_true", help="tell only why a block is refused, and what of a block is passed over")
     return parser.parse_args()
 
 
@@ -34,8 +36,8 @@ def main() -> int:
 
 def convert_file(file: str, is_quiet: bool) -> int:
     """Writes the nets of a file; 1 where some block is refused, or the file cannot be read."""
-    def tell(text: str, is_refusal: bool) -> None:
-        if is_refusal or not is_quiet:
+    def tell(text: str, kind: str) -> None:
+        if kind in (REFUSED, DROPPED) or not is_quiet:
             sys.stdout.flush()
             print(text.encode(errors="replace").decode(), file=sys.stderr)
 

@@ -7,22 +7,26 @@ from dataclasses import dataclass, field
 from typing import BinaryIO
 
 from ..net import Net
+from ..provenance import REFUSED, Note, notes_of
 from ..refusal import Refused
 from ..texts.graph_text import plain
-from ..texts.net_text import FIRST_TOKEN
+from ..texts.net_text import BYTE_ORDER_MARK, first_word, opens_block
 
 from .crystal import Fields, crystal_of
 from .expansion import net_of_crystal_block
 from .key_lines import net_of_item
 from .periodic_graph import rewritten
+from .sections import sections_of
 from .symbolic import symbolic_net
-from .tokens import decoded, rows_of, shown, tokens_of
+from .tokens import decoded, shown, tokens_of
 
 MOST_LINES = 40_000
 MOST_BYTES = 1 << 22
 LONGEST_LINE = 1 << 20
 TOO_LONG = f"more than {MOST_LINES} lines, {MOST_BYTES} bytes, or {LONGEST_LINE} bytes in a line"
-BYTE_ORDER_MARK = b"\xef\xbb\xbf"
+USED = {"CRYSTAL": ("NAME", "GROUP", "OPERATION", "CELL", "NODE", "EDGE"),  # the keywords whose rows make the net
+        "TILING": ("NAME", "GROUP", "OPERATION", "CELL", "NODE", "FACE"),
+        "NET": ("NAME", "GROUP", "OPERATION", "CELL", "NODE", "EDGE")}
 KINDS = {b"CRYSTAL": "CRYSTAL", b"NET": "NET", b"TILING": "TILING", b"PERIODIC_GRAPH": "PERIODIC_GRAPH",
          b"KEY": "key line", b"ID": "key line"}
 
@@ -57,12 +61,6 @@ class Block:
         return ""
 
 
-def first_word(line: bytes) -> bytes:
-    """The first word of a line in capital letters, another first token as it is, or nothing."""
-    match = FIRST_TOKEN.match(line)
-    return (match[1] or match[2]).upper() if match else b""
-
-
 def lines_of(stream: BinaryIO) -> Iterator[tuple[bytes, bool]]:
     """The lines of a stream, long ones in pieces, and whether a piece goes on with the line before."""
     is_rest = False
@@ -73,14 +71,15 @@ def lines_of(stream: BinaryIO) -> Iterator[tuple[bytes, bool]]:
 
 class Converter:
     """Writes a text with its blocks turned into graphs. What a reader should know of a block, and why one is refused,
-    is told in one line each."""
+    is told in one line each, with the kind of the note."""
 
-    def __init__(self, source: str, write: Callable[[bytes], object], tell: Callable[[str, bool], None]) -> None:
+    def __init__(self, source: str, write: Callable[[bytes], object], tell: Callable[[str, str], None]) -> None:
         self.source, self.write, self._tell = source, write, tell
         self.number = 0
         self.block: Block | None = None
         self.is_passing = False   # within a block that is written as it is
         self.is_draining = False  # within a block that is refused already
+        self.is_after_item = False
         self.turned = self.refused = 0
 
     def convert(self, stream: BinaryIO) -> None:
@@ -109,11 +108,12 @@ class Converter:
         """Takes a line that stands in no block that is turned; `first` is its first word, empty where it has none."""
         kind = "" if self.is_passing else KINDS.get(first, "")
         if kind:
+            self.is_after_item = kind == "key line"
             self.block = Block(kind, self.number)
             self._inside(self.block, line, False)
             return
-        if first:
-            self.is_passing = first != b"END"
+        if first and (self.is_passing or opens_block(first, self.is_after_item)):
+            self.is_passing, self.is_after_item = first != b"END", False
         self.write(line)
 
     def _inside(self, block: Block, line: bytes, is_end: bool) -> None:
@@ -140,19 +140,17 @@ class Converter:
 
     def _turn(self, block: Block) -> None:
         """Writes the graph of a whole block, or the block as a comment."""
-        notes: list[str] = []
+        notes: list[str | Note] = []
         try:
             text = text_of_block(block, notes)
         except Refused as reason:
-            for note in notes:
-                self.tell(block, note)
+            self._tell_notes(block, notes)
             self._refuse(block, reason)
             return
         except Exception as fault:  # of this tool, or of a library: the next block may still be read
             self._refuse(block, Refused(f"cgd2net failed: {type(fault).__name__} {fault}"))
             return
-        for note in notes:
-            self.tell(block, note)
+        self._tell_notes(block, notes)
         self.turned += 1
         self.put(block, text)
 
@@ -164,40 +162,45 @@ class Converter:
         self.refused += 1
         place = f"line {reason.line}: " if reason.line else ""
         text = f"refused: {place}{' '.join(reason.reason.split())}"
-        self.tell(block, text, True)
+        self.tell(block, Note(REFUSED, text))
         self.write(f"# {text}\n".encode(errors="replace"))
         self.write(b"".join(b"# " + line for line in block.lines))
         if not block.lines[-1].endswith(b"\n") and not self.is_draining:
             self.write(b"\n")
 
-    def tell(self, block: Block, text: str, is_refusal: bool = False) -> None:
+    def _tell_notes(self, block: Block, notes: list[str | Note]) -> None:
+        for note in notes_of(notes):
+            self.tell(block, note)
+
+    def tell(self, block: Block, note: Note) -> None:
         name = shown(block.name, 60).strip("'")
-        self._tell(f'{self.source}: line {block.line} "{name}": {text}', is_refusal)
+        self._tell(f'{self.source}: line {block.line} "{name}": {note.text}', note.kind)
 
 
-def text_of_block(block: Block, notes: list[str]) -> bytes:
+def text_of_block(block: Block, notes: list[str | Note]) -> bytes:
     """What is written of a block; refused by the line where it gives no net."""
     if block.kind == "PERIODIC_GRAPH":
-        return b"".join(rewritten(block.lines, notes))
+        return b"".join(rewritten(block.lines, notes, block.line))
     return net_of_block(block, notes).block
 
 
-def net_of_block(block: Block, notes: list[str]) -> Net:
+def net_of_block(block: Block, notes: list[str | Note]) -> Net:
     """The net of a block, with a comment that tells how it was made; of a PERIODIC_GRAPH its lines, as far as the
     program reads them."""
     if block.kind == "PERIODIC_GRAPH":
-        return Net._of(b"".join(rewritten(block.lines, notes)), "")
+        return Net._of(b"".join(rewritten(block.lines, notes, block.line)), "")
     net = _net_made_of(block, notes)
     return net.commented(f"line {block.line}: {block.kind}, {plain(net.provenance.made)}")
 
 
-def _net_made_of(block: Block, notes: list[str]) -> Net:
+def _net_made_of(block: Block, notes: list[str | Note]) -> Net:
     numbered = block.numbered
     if block.kind == "key line":
         return net_of_item(numbered[:-1])
     if len(tokens_of(numbered[0][1], block.line)) > 1:
         raise Refused(f"more words than {block.kind} stand in the line that opens the block", block.line)
-    fields = Fields(rows_of(numbered[1:-1], notes))
+    fields = Fields(sections_of(numbered[1:-1]))
+    notes += fields.dropped(USED[block.kind])
     if block.kind == "NET":
         return symbolic_net(fields)
     return net_of_crystal_block(crystal_of(fields, block.kind == "TILING", notes))

@@ -2,15 +2,18 @@
 
 from __future__ import annotations
 
-from collections.abc import Iterable, Iterator
+from collections.abc import Container, Iterator
 from dataclasses import dataclass, field
 
 import numpy as np
 
+from ..provenance import DROPPED, Note
+from ..refusal import Refused
+
 from .groups import UnknownGroup, Group, group_by_name, group_of_operations, settings_of
 from .groups import MOST_STRAIN, find_space_group
 from .operations import affine
-from ..refusal import Refused
+from .sections import Sections, are_numbers
 from .tokens import Row, Token, number_of, shown
 
 MOST_ROWS = 16_384   # of nodes and edges: a block has at most 4,096 edges, in a cell with at most four lattice points
@@ -47,7 +50,8 @@ class CrystalBlock:
     has_cell: bool
     nodes: list[Node]
     bonds: list[Bond]
-    notes: list[str] = field(default_factory=list)
+    has_edges: bool        # whether they are listed, so that none are to be found by distance
+    notes: list[str | Note] = field(default_factory=list)
 
     @property
     def dimension(self) -> int:
@@ -57,10 +61,12 @@ class CrystalBlock:
 class Fields:
     """The rows of a block by their keywords."""
 
-    def __init__(self, rows: Iterable[Row]) -> None:
+    def __init__(self, sections: Sections) -> None:
         self.rows: dict[str, list[Row]] = {}
+        self.keywords = sections.keywords
+        self.passed = sections.passed
         count = 0
-        for row in rows:
+        for row in sections.rows:
             count += row.keyword in ("NODE", "EDGE", "FACE")
             if count > MOST_ROWS:
                 raise row.refused(f"more than {MOST_ROWS} nodes and edges")
@@ -68,6 +74,18 @@ class Fields:
 
     def of(self, keyword: str) -> list[Row]:
         return self.rows.get(keyword, [])
+
+    def dropped(self, used: Container[str]) -> list[Note]:
+        """What no net is made of: the parts that are passed over, and the rows of keywords that are not used."""
+        notes = [(part.line, part.note) for part in self.passed]
+        for keyword, rows in self.rows.items():
+            if keyword not in used:
+                strange = next((row for row in rows if not are_numbers(row.tokens)), None)
+                if strange:
+                    raise strange.refused(f"{shown(strange.text)} stands under {keyword}, and is no row of it")
+                text = f"line {rows[0].line}: {keyword} is not used here, with {len(rows)} row{'s' * (len(rows) > 1)}"
+                notes.append((rows[0].line, Note(DROPPED, text)))
+        return [note for _, note in sorted(notes)]
 
     def single(self, keyword: str) -> Row | None:
         """The only row of a keyword; refused where there is a second."""
@@ -117,7 +135,7 @@ def operation_texts(tokens: tuple[Token, ...]) -> Iterator[str]:
         yield from (part for part in "".join(token.text for token in tokens).split(";") if part)
 
 
-def crystal_of(fields: Fields, is_tiling: bool, notes: list[str]) -> CrystalBlock:
+def crystal_of(fields: Fields, is_tiling: bool, notes: list[str | Note]) -> CrystalBlock:
     """The crystal of a block; refused by the line where it has no form."""
     dimension = _dimension(fields, is_tiling)
     group = fields.group(dimension)
@@ -132,7 +150,8 @@ def crystal_of(fields: Fields, is_tiling: bool, notes: list[str]) -> CrystalBloc
         if not nodes:
             raise Refused("there are no nodes")
         bonds = [_bond(row, nodes, dimension) for row in fields.of("EDGE")]
-    return CrystalBlock(fields.name, group, gram, cell is not None, nodes, bonds, notes)
+    has_edges = is_tiling or "EDGE" in fields.keywords
+    return CrystalBlock(fields.name, group, gram, cell is not None, nodes, bonds, has_edges, notes)
 
 
 def _dimension(fields: Fields, is_tiling: bool) -> int:
@@ -197,8 +216,8 @@ def _bond(row: Row, nodes: list[Node], dimension: int) -> Bond:
         ends = (_place(row, tokens[:dimension]), _place(row, tokens[dimension:]))
     elif len(tokens) == dimension + 1:
         named = _node_named(row, tokens[0], nodes)
-        if named is not None:
-            ends = (named.place, _place(row, tokens[1:]))
+        if named is not None or are_numbers(tokens[1:]) and not are_numbers(tokens[:1]):
+            ends = (_known_node(row, tokens[0], nodes).place, _place(row, tokens[1:]))
         else:
             ends = (_place(row, tokens[:-1]), _known_node(row, tokens[-1], nodes).place)
     elif len(tokens) == 2:

@@ -5,6 +5,7 @@ from __future__ import annotations
 import numpy as np
 from ..graph import QuotientGraph
 from ..net import Net
+from ..provenance import Note
 from ..refusal import Refused
 from ..structures.nets.pieces import is_one_piece
 
@@ -23,7 +24,7 @@ def net_of_crystal_block(crystal: CrystalBlock) -> Net:
     has_degrees = any(node.degree is not None for node in crystal.nodes)
     first: Refused | None = None
     for tolerance in TOLERANCES if has_degrees else TOLERANCES[:1]:
-        notes: list[str] = []
+        notes: list[str | Note] = []
         try:
             net = _net_within(tolerance, crystal, notes)
         except Refused as reason:
@@ -36,7 +37,7 @@ def net_of_crystal_block(crystal: CrystalBlock) -> Net:
     raise first or Refused("there are no nodes")
 
 
-def _net_within(tolerance: float, crystal: CrystalBlock, notes: list[str]) -> Net:
+def _net_within(tolerance: float, crystal: CrystalBlock, notes: list[str | Note]) -> Net:
     """The same with places that are matched within a tolerance."""
     metric = crystal.group.metric(crystal.gram)
     places = Places(crystal.group, metric, crystal.nodes or _corners(crystal, metric, tolerance), tolerance)
@@ -45,16 +46,15 @@ def _net_within(tolerance: float, crystal: CrystalBlock, notes: list[str]) -> Ne
     for bond in crystal.bonds:
         orbits.add_bond(bond)
     made = "edges as given"
-    if any(node.degree is not None and node.degree > found for node, found in zip(places.nodes, orbits.degrees())):
-        made = "edges by distance" if not crystal.bonds else "edges as given, and others by distance"
-        if crystal.bonds:
-            notes.append("the edges that are given are not all; others are by distance")
+    if not crystal.has_edges:
+        made = "edges by distance"
         join_nearest(crystal, orbits, notes)
         if not is_one_piece(QuotientGraph.of(places.names, orbits.edges, crystal.dimension)):
             notes.append("edges are by distance, and the net is not connected")
     for node, found in zip(places.nodes, orbits.degrees()):
         if node.degree is not None and node.degree != found:
-            raise Refused(f"the node {shown(node.name)} has {found} neighbours, {node.degree} are stated",
+            by_edges = " by its edges" if crystal.has_edges else ""
+            raise Refused(f"the node {shown(node.name)} has {found} neighbours{by_edges}, {node.degree} are stated",
                           node.line)
     return net_made(crystal.name, crystal.dimension, places.names, orbits.edges, f"{crystal.group.name}, {made}")
 

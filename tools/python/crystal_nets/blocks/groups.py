@@ -18,6 +18,13 @@ from .plane_groups import BY_NAME
 DEFAULTS = ("2", "H", "", "1", "R")  # where a name does not say: the second origin, hexagonal axes
 SUFFIXES = {"S": "1", "Z": "2", "H": "H", "R": "R"}  # as in Fd-3mS and R-3mH
 WITH_OLD_SPELLING = (*range(200, 207), *range(221, 231))  # Pa3 for Pa-3, Im3m for Im-3m
+GLIDE = "([abcdemn])"
+FULL = (  # full symbols, and the short ones: planes without the axes that stand across them
+    (rf"(?i)([PABCFI])21?/{GLIDE}21?/{GLIDE}21?/{GLIDE}", r"\1\2\3\4"),
+    (rf"(?i)([PI])([46][1-5]?/[abcdmn])21?/{GLIDE}(?:21?/)?{GLIDE}", r"\1\2\3\4"),
+    (r"(?i)([PR])-3(1?)2/([mc])(1?)", r"\1-3\2\3\4"),
+    (rf"(?i)([PFI])(?:[24][1-3]?)/{GLIDE}-3(?:2/{GLIDE})?", r"\1\2-3\3"),
+)
 MOST_STRAIN = 0.01  # of the products of cell edges, between a cell and its image
 LONGEST_NAME = 80
 
@@ -99,16 +106,24 @@ def find_space_group(text: str) -> gemmi.SpaceGroup | None:
     name, _, extension = name.partition(":")
     if len(text) > LONGEST_NAME or not name.isascii():
         return None
-    found = _settings(name)
+    found = _settings(name) or _settings(short_name(name))
     if not found and not extension and name[-1:] in SUFFIXES:
         extension = SUFFIXES[name[-1]]
-        found = [group for group in _settings(name[:-1]) if _extension(group)]
+        found = [group for group in _settings(short_name(name[:-1])) if _extension(group)]
     wanted = (extension.upper(),) if extension else DEFAULTS
     for one in wanted:
         for group in found:
             if _extension(group) == one:
                 return group
     return None
+
+
+def short_name(name: str) -> str:
+    """The short symbol of a full Hermann-Mauguin symbol without blanks, as Fd-3m of F41/d-32/m; else the name."""
+    for form, short in FULL:
+        if re.fullmatch(form, name):
+            return re.sub(form, short, name)
+    return name
 
 
 def _extension(group: gemmi.SpaceGroup) -> str:

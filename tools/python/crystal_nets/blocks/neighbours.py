@@ -7,6 +7,7 @@ from dataclasses import dataclass
 from itertools import product
 
 import numpy as np
+from ..provenance import Note
 from ..refusal import Refused
 from ..texts.net_text import MOST_EDGES
 
@@ -29,7 +30,7 @@ class Candidate:
     shift: tuple[int, ...]
 
 
-def join_nearest(crystal: CrystalBlock, orbits: Orbits, notes: list[str]) -> None:
+def join_nearest(crystal: CrystalBlock, orbits: Orbits, notes: list[str | Note]) -> None:
     """Adds edges from each node that lacks some to the nearest vertices, all that are equally far at a time."""
     if not crystal.has_cell and not crystal.group.has_one_shape:
         raise Refused("there is no CELL, and edges are to be found by distance")

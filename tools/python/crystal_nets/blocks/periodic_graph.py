@@ -4,41 +4,111 @@ and parts that the program does not read."""
 from __future__ import annotations
 
 import re
+from dataclasses import dataclass, field
 
+from ..provenance import Note
+from ..refusal import Refused
 from ..texts.graph_text import written_name
 
+from .sections import Part, is_sequence
 from .tokens import PASSED_OVER, TOKEN, Token, decoded, tokens_of
 
 WHOLE = re.compile(r"[+-]?[0-9]+")
 LONGEST_NAME = 200  # bytes
-TOLD_ONCE = "vertices without quotes are written with them"
+QUOTED = "vertices without quotes are written with them"
+WITHOUT_EDGES = "rows stand before a section, and are taken as edges, as Systre takes them"
+NO_TOKEN = Token("", True)
 
 
-def rewritten(lines: list[bytes], notes: list[str]) -> list[bytes]:
+def rewritten(lines: list[bytes], notes: list[str | Note], opening_line: int = 1) -> list[bytes]:
     """The lines of a block, with those changed that the program would not read; the others byte for byte."""
-    is_list, result = False, [lines[0]]
-    for line in lines[1:]:
-        text = decoded(line)
-        try:
-            tokens = tokens_of(text)
-        except Exception:  # a quote without its partner: the program says so
-            tokens = ()
-        first = tokens[0] if tokens else Token("", True)
-        keyword = first.keyword
+    return _Rewriting(lines, opening_line, notes).result
+
+
+@dataclass
+class _Rewriting:
+    """The lines of a block, rewritten one after the other."""
+
+    lines: list[bytes]
+    opening_line: int
+    notes: list[str | Note]
+    result: list[bytes] = field(default_factory=list)
+    section: str = ""          # EDGE, another keyword, or nothing yet
+    part: Part | None = None   # that is passed over
+
+    def __post_init__(self) -> None:
+        read = [_tokens(line) for line in self.lines]
+        rows = [tokens[1:] if tokens and tokens[0].keyword == "EDGE" else tokens for tokens in read[1:]]
+        plain = [tokens for tokens in rows if _has_form(tokens) and not tokens[0].keyword]
+        self.dimension = len(plain[0]) - 2 if plain else 0
+        self.vertices = {token.text for tokens in plain for token in tokens[:2]}
+        parts: list[Part] = []
+        self.result.append(self.lines[0])
+        for number, (line, tokens) in enumerate(zip(self.lines[1:], read[1:]), start=self.opening_line + 1):
+            before = self.part
+            self.result.append(self._rewritten(line, tokens, number))
+            if self.part is not None and self.part is not before:
+                parts.append(self.part)
+        self.notes += [part.note for part in parts]
+
+    def _rewritten(self, line: bytes, tokens: tuple[Token, ...], number: int) -> bytes:
+        first = tokens[0] if tokens else NO_TOKEN
+        keyword = "" if self._is_row(tokens) else first.keyword
         if keyword == "NAME":
-            line = _name_line(first, tokens[1:], line)
-        elif keyword == "EDGE":
-            is_list = True
-            line = _row_line(first.text + " ", tokens[1:], text, line, notes)
-        elif keyword in PASSED_OVER or keyword in ("NODE", "FACE", "GROUP", "CELL"):
-            is_list = False
-            line = b"# " + line
-        elif tokens and is_list and first.text.upper() != "END":
-            line = _row_line("", tokens, text, line, notes)
-        elif tokens and not is_list and not first.is_word:
-            line = b"# " + line  # a row of a part that is passed over
-        result.append(line)
-    return result
+            return _name_line(first, tokens[1:], line)
+        if keyword == "EDGE":
+            self.section, self.part = "EDGE", None
+            return self._row_line(first.text + " ", tokens[1:], line)
+        if keyword in PASSED_OVER or keyword in ("NODE", "FACE", "GROUP", "CELL", "OPERATION"):
+            self.section, self.part = keyword, Part(number, first.text, True, int(len(tokens) > 1))
+            return b"# " + line
+        if not tokens or first.text.upper() == "END" and not first.is_quoted:
+            return line
+        if not self.section and _has_form(tokens):
+            self.section = "EDGE"
+            self.notes.append(WITHOUT_EDGES)
+            return self._row_line("EDGES ", tokens, line, is_new=True)
+        if self.section == "EDGE":
+            return self._row_line("", tokens, line)
+        if self.part is not None and not first.is_word:
+            self.part.rows += 1
+            return b"# " + line
+        return line
+
+    def _is_row(self, tokens: tuple[Token, ...]) -> bool:
+        """Whether a line is an edge though its first word is a keyword elsewhere, as a vertex may be called."""
+        if self.section not in ("", "EDGE") or not _has_form(tokens) or len(tokens) - 2 != (self.dimension or len(tokens) - 2):
+            return False
+        keyword = tokens[0].keyword
+        if keyword in ("NAME", "EDGE", "GROUP") or "_" in keyword:
+            return False
+        if tokens[0].text in self.vertices or not WHOLE.fullmatch(tokens[1].text):
+            return True
+        return not is_sequence(tokens[1:]) if keyword in PASSED_OVER else keyword in ("NODE", "FACE")
+
+    def _row_line(self, start: str, tokens: tuple[Token, ...], line: bytes, is_new: bool = False) -> bytes:
+        """A row with its vertices in quotes, where they are words; what is no row stays as it is."""
+        is_whole = [not token.is_quoted and WHOLE.fullmatch(token.text) is not None for token in tokens]
+        if not _has_form(tokens) or all(whole or token.is_quoted for token, whole in zip(tokens[:2], is_whole)):
+            return start.encode() * is_new + line
+        if QUOTED not in self.notes:
+            self.notes.append(QUOTED)
+        vertices = [token.text if whole else f'"{written_name(token.text)}"' for token, whole in zip(tokens[:2], is_whole)]
+        comments = (found[0] for found in TOKEN.finditer(decoded(line)) if found[0].startswith("#"))
+        row = " ".join([*vertices, *(token.text for token in tokens[2:]), next(comments, "").strip()]).rstrip()
+        return f"{start}{row}\n".encode(errors="surrogateescape")
+
+
+def _tokens(line: bytes) -> tuple[Token, ...]:
+    try:
+        return tokens_of(decoded(line))
+    except Refused:  # a quote without its partner: the program says so
+        return ()
+
+
+def _has_form(tokens: tuple[Token, ...]) -> bool:
+    """Whether a line has the form of an edge: two vertices, and a shift of two or three whole numbers."""
+    return len(tokens) in (4, 5) and all(not token.is_quoted and WHOLE.fullmatch(token.text) for token in tokens[2:])
 
 
 def _name_line(keyword: Token, tokens: tuple[Token, ...], line: bytes) -> bytes:
@@ -47,17 +117,3 @@ def _name_line(keyword: Token, tokens: tuple[Token, ...], line: bytes) -> bytes:
     if len(tokens) == 1 and len(name.encode(errors="surrogateescape")) <= LONGEST_NAME:
         return line
     return f'{keyword.text} "{written_name(name)}"\n'.encode() if name else b"# " + line
-
-
-def _row_line(start: str, tokens: tuple[Token, ...], text: str, line: bytes, notes: list[str]) -> bytes:
-    """A row with its vertices in quotes, where they are words; what is no row stays as it is."""
-    is_whole = [not token.is_quoted and WHOLE.fullmatch(token.text) is not None for token in tokens]
-    is_row = len(tokens) in (4, 5) and all(is_whole[2:])
-    if not is_row or all(whole or token.is_quoted for token, whole in zip(tokens[:2], is_whole)):
-        return line
-    if TOLD_ONCE not in notes:
-        notes.append(TOLD_ONCE)
-    vertices = [token.text if whole else f'"{written_name(token.text)}"' for token, whole in zip(tokens[:2], is_whole)]
-    comment = next((found[0] for found in TOKEN.finditer(text) if found[0].startswith("#")), "").strip()
-    row = " ".join([*vertices, *(token.text for token in tokens[2:]), *([comment] if comment else [])])
-    return f"{start}{row}\n".encode(errors="surrogateescape")

@@ -176,5 +176,5 @@ class Vertices:
             count[v] += 1
         for node, found in zip(self.nodes, count):
             if node.degree not in (None, found):
-                raise Refused(f"the node {shown(node.name)} has {found} neighbours, {node.degree} are stated",
+                raise Refused(f"the node {shown(node.name)} has {found} neighbours by its edges, {node.degree} are stated",
                               node.line)

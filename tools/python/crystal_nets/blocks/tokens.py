@@ -3,7 +3,6 @@
 from __future__ import annotations
 
 import re
-from collections.abc import Iterator
 from dataclasses import dataclass
 from fractions import Fraction
 
@@ -107,39 +106,3 @@ def shown(text: str, most: int = 40) -> str:
     plain = text.encode("utf-8", errors="replace").decode("utf-8", errors="replace")
     plain = "".join(c if c.isprintable() else "?" for c in plain)
     return f"{plain[:most]!r}" + (" .." if len(plain) > most else "")
-
-
-def rows_of(lines: list[tuple[int, str]], notes: list[str]) -> Iterator[Row]:
-    """The rows of a block after its first line, each under the keyword that it belongs to. A word that no keyword
-    is opens a part that is passed over, with a note."""
-    current, nodes = "", set[str]()
-    for number, text in lines:
-        tokens = tokens_of(text, number)
-        if not tokens:
-            continue
-        first = tokens[0]
-        if first.keyword:
-            current, tokens = first.keyword, tokens[1:]
-        elif first.is_word and not fits_row(current, tokens, nodes):
-            if first.text.upper() in ("CRYSTAL", "NET", "TILING", "PERIODIC_GRAPH"):
-                raise Refused(f"{first.text} begins before the END of this block", number)
-            notes.append(f"line {number}: {first.text} is no keyword, and is passed over")
-            current = "COMMENT"
-        if tokens and current not in PASSED_OVER:
-            if not current:
-                raise Refused(f"{shown(first.text)} stands under no keyword", number)
-            if current == "NODE":
-                nodes.add(tokens[0].text)
-            yield Row(number, current, tokens)
-            if current in ("NAME", "CELL") or (current == "GROUP" and "," not in text.partition("(")[0]):
-                current = ""
-
-
-def fits_row(keyword: str, tokens: tuple[Token, ...], nodes: set[str]) -> bool:
-    """Whether a line that begins with a word goes on with a list: a name, then numbers, names or operations."""
-    rest = tokens[1:]
-    if keyword == "NODE":
-        return bool(rest) and all(number_of(token.text) is not None or "," in token.text for token in rest)
-    if keyword == "EDGE":
-        return bool(rest) and (not nodes or tokens[0].text in nodes)
-    return keyword in PASSED_OVER

@@ -4,15 +4,15 @@ from __future__ import annotations
 
 import argparse
 import contextlib
-import ctypes
 import fcntl
 import gc
 import os
 import signal
 import sys
-from collections.abc import Iterator
+from collections.abc import Callable, Generator, Iterator
 from concurrent.futures import ProcessPoolExecutor, as_completed
 from concurrent.futures.process import BrokenProcessPool
+from functools import partial
 from pathlib import Path
 from typing import Any
 
@@ -20,23 +20,24 @@ from ..archive import Archive, default_files, files_of as archive_files
 from ..progress import Progress
 from ..errors import CrystalNetsError, ProgramFailed, in_words
 from ..files import write_whole
-from ..side_by_side import processors
+from ..side_by_side import end_with_parent, processors
 from .join import FILES, join
+from .parquet import need_pyarrow, write_parquet
 from .piece import make_rows, path_of, rows_of
-from .plan import Failed, Plan, files_of, plan_of, read_plan, state_of
+from .plan import Failed, Plan, SourceAway, check_source, files_of, plan_of, read_plan, state_of
 
 DESCRIPTION = """The table of all nets of a source: a folder of structure files (.cif) and files of nets (.cgd,
 .arc), or one such file, with any number of nets. FOLDER gets table.tsv, a line for each net; groups.tsv, the nets
 that are the same; names.tsv, those that archives have; and refused.tsv, those without a key, and why. A run that
 broke off is taken up by the same command: what was done is kept in FOLDER/work."""
 EPILOG = """exit status: 0 each net has a key; 1 some net has none; 2 usage; 3 nothing can be done, or a process was
-ended from outside; else that of net_tool. NET_TOOL is the program, net_tool where it is not set.
+ended from outside; 75 a file of the source cannot be read now, and the same command tries again; else that of net_tool. NET_TOOL is the program, net_tool where it is not set.
 example: net_table structures results --jobs 4 --archive archives"""
 SOME_REFUSED, FAILED = 1, 3
+TRY_AGAIN = 75  # EX_TEMPFAIL of sysexits.h
 SWITCHES = {"keep_ions": "keep Na K Rb Cs Ca Sr Ba beside a framework", "hydrogen_bonds": "hydrogen bonds are edges",
             "partial_as_full": "take partly occupied atoms as full", "accept_misfit": "take atoms that cannot be right",
             "every_copy": "each of several nets of the same atoms"}
-PARENT_ENDED = 1  # of prctl: the signal that a process gets where its parent ends
 
 
 def words() -> argparse.Namespace:
@@ -54,6 +55,9 @@ def words() -> argparse.Namespace:
                         help="no placement and no sequences, which takes less time")
     parser.add_argument("--jobs", metavar="N", type=number_of_jobs, default=processors(),
                         help="processes side by side, as many as processors where it is not given")
+    parser.add_argument("--seconds", metavar="N", type=number_of_seconds,
+                        help="for each net, after which its row is stopped; without it there is no limit")
+    parser.add_argument("--parquet", action="store_true", help="write table.parquet and so on too, by pyarrow")
     parser.add_argument("--plan", action="store_true", help="write the plan alone, for --part")
     parser.add_argument("--part", metavar="K/N", type=part, help="do each Nth piece from the Kth on, and no table")
     structures = parser.add_argument_group("of structure files, as cif2cgd has them")
@@ -73,6 +77,12 @@ def number_of_jobs(text: str) -> int:
     return int(text)
 
 
+def number_of_seconds(text: str) -> int:
+    if not text.isdecimal() or not 1 <= int(text) <= 1_000_000:
+        raise argparse.ArgumentTypeError(f"{text!r} is not from 1 to 1000000")
+    return int(text)
+
+
 def part(text: str) -> tuple[int, int]:
     first, _, step = text.partition("/")
     if not (first.isdecimal() and step.isdecimal() and 1 <= int(first) <= int(step)):
@@ -80,14 +90,14 @@ def part(text: str) -> tuple[int, int]:
     return int(first), int(step)
 
 
-def settings_of(asked: argparse.Namespace, source: Path, files: list[Path]) -> dict[str, Any]:
-    """What the rows depend on."""
+def settings_of(asked: argparse.Namespace, source: Path) -> dict[str, Any]:
+    """What the rows depend on beside the state of the source."""
     options: dict[str, Any] = {name: True for name in SWITCHES if getattr(asked, name)}
     if asked.convention:
         options["convention"] = asked.convention
     if asked.leave_out:
         options["leave_out"] = sorted(asked.leave_out.replace(",", " ").split())
-    return {"source": str(source), "state": state_of(files), "options": options,
+    return {"source": str(source), "at": os.getcwd(), "options": options, "seconds": asked.seconds,
             "command": "key" if asked.keys_alone else "identify"}
 
 
@@ -95,55 +105,69 @@ def planned(asked: argparse.Namespace, folder: Path, work: Path) -> Plan:
     """The plan that is there, or a new one. Failed where the one that is there is of other words, or of a source that
     was changed since."""
     path = work / "plan"
+    if path.exists():
+        plan = read_plan(path)
+        settings = settings_of(asked, asked.paths[0])
+        given = settings if len(asked.paths) == 2 else {name: settings[name] for name in ("options", "seconds") if settings[name]}
+        _check_settings(plan, given, folder)
+        check_source(plan)
+        return plan
     if len(asked.paths) == 1:
-        if not path.exists():
-            raise Failed(f"nothing is planned in {folder}; give the source before it")
-        return read_plan(path)
+        raise Failed(f"nothing is planned in {folder}; give the source before it")
     source = asked.paths[0]
     files = files_of(source)
     if not files:
         raise Failed(f"{source} has no files .cif, .mcif, .cgd or .arc")
-    settings = settings_of(asked, source, files)
-    if path.exists():
-        plan = read_plan(path)
-        for name, value in settings.items():
-            if plan.settings.get(name) != value:
-                what = f"{source} was changed since" if name == "state" else f"its {name} is {plan.settings.get(name)!r}"
-                raise Failed(f"{folder} has another table: {what}; take another folder, or remove it")
-        return plan
-    plan = plan_of(files, settings)
+    state = state_of(files)
+    plan = plan_of(files, {**settings_of(asked, source), "state": state})
+    check_source(plan)
     work.mkdir(parents=True, exist_ok=True)
     write_whole(path, plan.content)
     return plan
 
 
+def _check_settings(plan: Plan, settings: dict[str, Any], folder: Path) -> None:
+    """Failed where a plan is of other words. A source may be given from another folder than it was."""
+    def place(of: dict[str, Any]) -> str:
+        return os.path.normpath(os.path.join(str(of["at"]), str(of["source"])))
+
+    for name, value in settings.items():
+        known = plan.settings.get(name)
+        is_same = place(settings) == place(plan.settings) if name in ("source", "at") else known == value
+        if not is_same:
+            raise Failed(f"{folder} has another table: its {name} is {known!r}; take another folder, or remove it")
+
+
 def make_pieces(work: Path, plan: Plan, numbers: list[int], jobs: int) -> None:
-    """Makes the rows of those pieces that have none."""
+    """Makes the rows of those pieces that have none. Where a file of some cannot be read now, the others are made, and
+    then SourceAway is raised."""
     missing = [number for number in numbers if rows_of(work, plan, number) is None]
-    with Progress("net_table", len(missing), "pieces") as bar:
-        if jobs == 1 or len(missing) < 2:
-            for number in missing:
-                make_rows(path_of(work, number), plan.piece(number))
-                bar.step()
-            return
-        with ProcessPoolExecutor(min(jobs, len(missing)), initializer=end_with_parent, initargs=(os.getpid(),)) as pool:
-            futures = [pool.submit(make_rows, path_of(work, number), plan.piece(number)) for number in missing]
+    away: list[SourceAway] = []
+    with Progress("net_table", len(missing), "pieces") as bar, contextlib.closing(_made(work, plan, missing, jobs)) as calls:
+        for made in calls:
             try:
-                for future in as_completed(futures):
-                    future.result()
-                    bar.step()
-            except BaseException:
-                pool.shutdown(cancel_futures=True)
-                raise
+                made()
+            except SourceAway as reason:
+                away.append(reason)
+            bar.step()
+    if away:
+        raise SourceAway(f"{len(away)} of {len(plan.pieces)} pieces are not there: {away[0]}")
 
 
-def end_with_parent(parent: int) -> None:
-    """Has this process end where its parent does, so that no run that was killed leaves one behind."""
-    signal.signal(signal.SIGINT, signal.SIG_DFL)
-    with contextlib.suppress(OSError, AttributeError):
-        ctypes.CDLL(None).prctl(PARENT_ENDED, signal.SIGKILL)
-    if os.getppid() != parent:
-        os._exit(1)
+def _made(work: Path, plan: Plan, numbers: list[int], jobs: int) -> Generator[Callable[[], None], None, None]:
+    """The pieces, each as a call that gives nothing, or raises what was raised of it."""
+    if jobs == 1 or len(numbers) < 2:
+        for number in numbers:
+            yield partial(make_rows, path_of(work, number), plan.piece(number))
+        return
+    with ProcessPoolExecutor(min(jobs, len(numbers)), initializer=end_with_parent, initargs=(os.getpid(),)) as pool:
+        futures = [pool.submit(make_rows, path_of(work, number), plan.piece(number)) for number in numbers]
+        try:
+            for future in as_completed(futures):
+                yield future.result
+        except BaseException:
+            pool.shutdown(cancel_futures=True)
+            raise
 
 
 @contextlib.contextmanager
@@ -171,6 +195,8 @@ def make_table(asked: argparse.Namespace) -> int:
         plan = planned(asked, folder, work)
         make_pieces(work, plan, list(range(asked.part[0], len(plan.pieces) + 1, asked.part[1])), asked.jobs)
         return 0
+    if asked.parquet:
+        need_pyarrow()
     with alone(work):
         plan = planned(asked, folder, work)
         if asked.plan:
@@ -178,7 +204,10 @@ def make_table(asked: argparse.Namespace) -> int:
             return 0
         archive = archive_of(asked)
         make_pieces(work, plan, list(range(1, len(plan.pieces) + 1)), asked.jobs)
-        counts = join(folder, work, plan, archive, asked.maps)
+        check_source(plan)
+        counts = join(folder, work, plan, archive, asked.jobs, asked.maps)
+        if asked.parquet:
+            write_parquet(folder)
     print(f"{folder / FILES[0]}: {counts.nets} nets, {counts.with_key} with a key, {counts.kinds} different, "
           f"{counts.named} with a name, {counts.nets - counts.with_key} refused")
     return SOME_REFUSED if counts.with_key < counts.nets else 0
@@ -195,6 +224,9 @@ def main() -> int:
         return fault.status if 0 < fault.status < 126 else FAILED
     except BrokenProcessPool:
         print("net_table: a process was ended from outside; the same command again goes on", file=sys.stderr)
+    except SourceAway as reason:
+        print(f"net_table: {reason}", file=sys.stderr)
+        return TRY_AGAIN
     except (Failed, CrystalNetsError, OSError) as fault:
         print(f"net_table: {in_words(fault)}", file=sys.stderr)
     return FAILED

@@ -1,28 +1,43 @@
-"""The table of all pieces, with groups and names, and the files beside it."""
+"""The table of all pieces, with groups and names, and the files beside it.
+
+Several processes read the pieces, some at a time: first they count the rows, then they sort the keys, which one process
+merges into groups, and last they write the parts of the table, which are put together. Nets without a key are grouped by
+verified maps, among those of one index."""
 
 from __future__ import annotations
 
 import contextlib
+import multiprocessing
+import os
+import shutil
 from array import array
-from collections.abc import Iterator
+from collections.abc import Callable, Iterable, Iterator
+from concurrent.futures import ProcessPoolExecutor
 from dataclasses import dataclass, field
-from itertools import groupby
+from itertools import chain, groupby
 from pathlib import Path
-from typing import BinaryIO
+from typing import NamedTuple, TypeVar
 
 from ..answers import By
 from ..archive import Archive
 from ..asking import keys
 from ..net import Net
+from ..side_by_side import end_with_parent
 from .columns import OF_A_PIECE, TABLE, joined, line_of, plain
 from .piece import rows_of
 from .plan import Failed, Plan
-from .sorting import sorted_lines
+from .sorting import merged_lines, sorted_lines
 
 FILES = ("table.tsv", "groups.tsv", "names.tsv", "refused.tsv")
-SMALLER_CELL = str(By.SMALLER_CELL).encode()
-FOR_TABLE = OF_A_PIECE.index("notes")
+WRITTEN_BY_PARTS = ("table.tsv", "names.tsv", "refused.tsv")
+HEADS = {"table.tsv": TABLE, "groups.tsv": ("group", "number", "name", "by"), "names.tsv": ("number", "name", "name_in_archive"),
+         "refused.tsv": ("number", "source", "line", "name", "outcome", "reason")}
+FOR_TABLE = OF_A_PIECE.index("notes")  # fields of a piece that stand in the table as they are
 FOR_REFUSED = OF_A_PIECE.index("outcome") + 1
+BY_KEY, SMALLER_CELL, BY_MAP = (str(by).encode() for by in (By.KEY, By.SMALLER_CELL, By.VERIFIED_MAP))
+AT_A_TIME = 32  # pieces
+Item = TypeVar("Item")
+Result = TypeVar("Result")
 
 
 class Row:
@@ -40,6 +55,26 @@ class Row:
         return self["small_key"] if self["by"] == SMALLER_CELL else self["key"]
 
 
+@dataclass(frozen=True)
+class Named:
+    """The names of a net, by what they are certain, and the map that shows it."""
+
+    names: tuple[str, ...] = ()
+    by: bytes = b""
+    certificate: str = ""
+
+
+class Stretch(NamedTuple):
+    """Pieces that one process reads at a time, and how many rows are before them."""
+
+    first: int
+    last: int
+    before: int
+
+    def part(self, work: Path, name: str) -> Path:
+        return work / f"{name}.{self.first:06}.part"
+
+
 @dataclass
 class Counts:
     """What a table has.
@@ -55,111 +90,88 @@ class Counts:
     by_maps: set[int] = field(default_factory=set)
 
 
+class Task(NamedTuple):
+    """The rows of a stretch that are to be written: the groups of their nets, and which of these are by verified maps."""
+
+    stretch: Stretch
+    groups: array[int]
+    by_maps: frozenset[int]
+
+
 @dataclass(frozen=True)
-class Named:
-    """The names of a net, and by what they are certain."""
-
-    names: tuple[str, ...] = ()
-    by: bytes = b""
-    certificate: str = ""
-
-
-class Joining:
-    """The work on one table.
+class Source:
+    """The pieces, and the archive for names, which each process has.
 
     maps  the folder for certificates; None where they are not asked for"""
 
-    def __init__(self, work: Path, plan: Plan, archive: Archive | None, maps: Path | None) -> None:
-        self.work, self.plan, self.archive, self.maps = work, plan, archive, maps
-        self.counts = Counts()
-        for row in self.rows():
-            self.counts.nets += 1
-            self.counts.with_key += row["key"] != b""
-            self.counts.group.append(0)
+    work: Path
+    plan: Plan
+    archive: Archive | None
+    maps: Path | None = None
 
-    def rows(self) -> Iterator[Row]:
-        """All rows in their order."""
-        for number in range(1, len(self.plan.pieces) + 1):
+    def rows(self, stretch: Stretch) -> Iterator[tuple[int, Row]]:
+        """The number and the fields of all rows in their order."""
+        count = stretch.before
+        for number in range(stretch.first, stretch.last + 1):
             rows = rows_of(self.work, self.plan, number)
             if rows is None:
                 raise Failed(f"the rows of piece {number} are not there; the same command again makes them")
             for row in rows:
-                yield Row(row)
+                count += 1
+                yield count, Row(row)
 
-    def write_groups(self, file: BinaryIO) -> None:
-        """The groups of two or more isomorphic nets, by their first nets: by keys, which are compared whole, and by maps."""
-        file.write(line_of(("group", "size", "names", "by", "members")))
-        lines = []
-        for key, members in groupby(self._sorted_by_key(), key=lambda item: item[0]):
-            self.counts.kinds += 1
-            numbers = [number for _, number in members]
-            lines += self._line_of_group(numbers, By.KEY, joined(self._names_by_key(key)))
-        for numbers, certificates in self._groups_by_maps():
-            self.counts.by_maps.update(numbers)
-            lines += self._line_of_group(numbers, By.VERIFIED_MAP, "")
-            for number, text in zip(numbers, certificates):
-                self._write_map(number, text)
-        file.writelines(line for _, line in sorted(lines))
+    def count(self, stretch: Stretch) -> tuple[int, int]:
+        """How many rows there are, and how many of them have a key."""
+        keyed = [row["key"] != b"" for _, row in self.rows(stretch)]
+        return len(keyed), sum(keyed)
 
-    def _line_of_group(self, numbers: list[int], by: By, names: str) -> list[tuple[int, bytes]]:
-        """Notes a group; its line where it has two members."""
-        for number in numbers:
-            self.counts.group[number] = numbers[0]
-        fields = (str(numbers[0]), str(len(numbers)), names, str(by), " ".join(map(str, numbers)))
-        return [(numbers[0], line_of(fields))] if len(numbers) > 1 else []
+    def sort_keys(self, stretch: Stretch) -> None:
+        """Writes key, number and name of each net with a key, sorted by both; and index, number, name and block of each
+        refused net that the program reads."""
+        keyed, indexed = [], []
+        for number, row in self.rows(stretch):
+            if row.group_key:
+                keyed.append((row.group_key, number, row["name"]))
+            elif row["block"] and row["outcome"].startswith(b"refused"):
+                indexed.append((row["index"], number, row["name"], row["block"]))
+        with open(stretch.part(self.work, "keys"), "wb") as file:
+            file.writelines(b"%s\t%d\t%s\n" % item for item in sorted(keyed))
+        with open(stretch.part(self.work, "indices"), "wb") as file:
+            file.writelines(b"%s\t%d\t%s\t%s\n" % item for item in sorted(indexed))
 
-    def _sorted_by_key(self) -> Iterator[tuple[bytes, int]]:
-        """Key and number of each net with a key, sorted by both."""
-        keyed = (b"%s\t%d\n" % (row.group_key, number) for number, row in enumerate(self.rows(), start=1) if row.group_key)
-        for line in sorted_lines(keyed, "1,1", "2,2n"):
-            key, _, number_text = line.partition(b"\t")
-            yield key, int(number_text)
-
-    def _groups_by_maps(self) -> Iterator[tuple[list[int], tuple[str, ...]]]:
-        """The groups of two and more of nets without a key that the program reads, with a certificate for each member."""
-        from ..wide.grouping import grouped_by_maps  # here, since few tables need it
-        indexed = (b"%s\t%d\t%s\n" % (row["index"], number, row["block"]) for number, row in enumerate(self.rows(), start=1)
-                   if row["block"] and row["outcome"].startswith(b"refused"))
-        lines = (line[:-1].split(b"\t") for line in sorted_lines(indexed, "1,1", "2,2n"))
-        for _, members in groupby(lines, key=lambda line: line[0]):
-            found = [(int(number), block) for _, number, block in members]
-            if len(found) > 1:
-                nets = [_net_of(block) for _, block in found]
-                for group in grouped_by_maps(nets):
-                    yield [found[k][0] for k in group.places], group.certificates
-
-    def write_rows(self, table: BinaryIO, names: BinaryIO, refused: BinaryIO) -> None:
-        table.write(line_of(TABLE))
-        names.write(line_of(("number", "name", "name_in_archive")))
-        refused.write(line_of(("number", "source", "line", "name", "outcome", "reason")))
-        for number, row in enumerate(self.rows(), start=1):
-            found = self._named(row)
-            self.counts.named += bool(found.names)
-            self._write_map(number, found.certificate)
-            first = self.counts.group[number]
-            by = found.by or (str(By.VERIFIED_MAP).encode() if number in self.counts.by_maps else b"")
-            told = joined(found.names).encode(errors="surrogateescape")
-            group = b"%d" % first if first else b""
-            table.write(b"\t".join((b"%d" % number, *row.fields[:FOR_TABLE], group, told, by, row["index"], row["notes"])) + b"\n")
-            for name in found.names:
-                names.write(b"%d\t%s\t%s" % (number, row["name"], line_of((joined((name,)),))))
-            if not row["key"]:
-                refused.write(b"\t".join((b"%d" % number, *row.fields[:FOR_REFUSED], row["reason"])) + b"\n")
+    def write_rows(self, task: Task) -> int:
+        """Writes the parts of the files for nets of given groups; how many have names."""
+        stretch, named = task.stretch, 0
+        with contextlib.ExitStack() as stack:
+            table, names, refused = (stack.enter_context(open(stretch.part(self.work, name), "wb")) for name in WRITTEN_BY_PARTS)
+            for number, row in self.rows(stretch):
+                found = self._named(row)
+                named += bool(found.names)
+                self.write_map(number, found.certificate)
+                first = task.groups[number - stretch.before - 1]
+                by = found.by or (BY_MAP if number in task.by_maps else b"")
+                told = joined(found.names).encode(errors="surrogateescape")
+                table.write(b"\t".join((b"%d" % number, *row.fields[:FOR_TABLE], b"%d" % first if first else b"", told, by,
+                                        row["index"], row["notes"])) + b"\n")
+                for name in found.names:
+                    names.write(b"%d\t%s\t%s" % (number, row["name"], line_of((joined((name,)),))))
+                if not row["key"]:
+                    refused.write(b"\t".join((b"%d" % number, *row.fields[:FOR_REFUSED], row["reason"])) + b"\n")
+        return named
 
     def _named(self, row: Row) -> Named:
         """The names of a net: by its key, by that of its smaller cell, or by maps to nets without a key."""
-        if row["key"] or row["small_key"]:
+        key = row["key"] or row["small_key"]
+        if key:
             certificate = plain(row["certificate"].decode()) if row["certificate"] else ""
-            return Named(self._names_by_key(row["key"] or row["small_key"]), row["by"], certificate)
+            return Named(self.archive.names(key.decode()) if self.archive else (), row["by"], certificate)
         if row["block"] and self.archive and any(True for _ in self.archive.wide_blocks(row["index"].decode())):
             answer, = keys([_net_of(row["block"])], self.archive)
             return Named(answer.names, str(answer.by).encode(), answer.certificate)
         return Named()
 
-    def _names_by_key(self, key: bytes) -> tuple[str, ...]:
-        return self.archive.names(key.decode()) if self.archive and key else ()
-
-    def _write_map(self, number: int, text: str) -> None:
+    def write_map(self, number: int, text: str) -> None:
+        """Keeps the certificate of a net, where they are asked for."""
         if text and self.maps:
             (self.maps / f"{number}.maps").write_text(text)
 
@@ -169,18 +181,129 @@ def _net_of(block: bytes) -> Net:
     return Net.from_block(plain(block.decode(errors="surrogateescape")).encode(errors="surrogateescape"))
 
 
-def join(folder: Path, work: Path, plan: Plan, archive: Archive | None, maps: bool = False) -> Counts:
+class Workers:
+    """Processes side by side that have the source; one is none beside this."""
+
+    def __init__(self, source: Source, jobs: int) -> None:
+        self.source, self.jobs = source, jobs
+
+    def each(self, work: Callable[[Source, Item], Result], items: Iterable[Item]) -> Iterator[Result]:
+        """The results in the order of the items."""
+        items = list(items)
+        if self.jobs == 1 or len(items) < 2:
+            yield from (work(self.source, item) for item in items)
+            return
+        with ProcessPoolExecutor(min(self.jobs, len(items)), multiprocessing.get_context("fork"), _begin,
+                                 (os.getpid(), self.source)) as pool:
+            try:
+                yield from pool.map(_asked, [work] * len(items), items)
+            except BaseException:
+                pool.shutdown(cancel_futures=True)
+                raise
+
+
+SOURCE: list[Source] = []  # of this process
+
+
+def _begin(parent: int, source: Source) -> None:
+    end_with_parent(parent)
+    SOURCE.append(source)
+
+
+def _asked(work: Callable[[Source, Item], Result], item: Item) -> Result:
+    return work(SOURCE[0], item)
+
+
+def join(folder: Path, work: Path, plan: Plan, archive: Archive | None, jobs: int = 1, maps: bool = False) -> Counts:
     """Writes the four files from the rows of all pieces, and with `maps` the certificates. Each file comes to its place once
     all are whole."""
     if maps:
         (folder / "maps").mkdir(exist_ok=True)
         for old in (folder / "maps").glob("*.maps"):
             old.unlink()
-    joining = Joining(work, plan, archive, folder / "maps" if maps else None)
-    with contextlib.ExitStack() as stack:
-        table, groups, names, refused = (stack.enter_context(open(folder / f"{name}.part", "wb")) for name in FILES)
-        joining.write_groups(groups)
-        joining.write_rows(table, names, refused)
+    source, counts = Source(work, plan, archive, folder / "maps" if maps else None), Counts()
+    workers = Workers(source, jobs)
+    stretches = _counted(workers, len(plan.pieces), counts)
+    for _ in workers.each(Source.sort_keys, stretches):
+        pass
+    _write_groups(folder, source, stretches, counts)
+    counts.named = sum(workers.each(Source.write_rows, _tasks(stretches, counts)))
+    for name in WRITTEN_BY_PARTS:
+        _put_together(folder / f"{name}.part", line_of(HEADS[name]), [stretch.part(work, name) for stretch in stretches])
     for name in FILES:
         (folder / f"{name}.part").replace(folder / name)
-    return joining.counts
+    return counts
+
+
+def _counted(workers: Workers, pieces: int, counts: Counts) -> list[Stretch]:
+    """The pieces in stretches, with their rows counted."""
+    ranges = [Stretch(first, min(first + AT_A_TIME - 1, pieces), 0) for first in range(1, pieces + 1, AT_A_TIME)]
+    stretches = []
+    for stretch, (rows, keyed) in zip(ranges, workers.each(Source.count, ranges)):
+        stretches.append(stretch._replace(before=counts.nets))
+        counts.nets += rows
+        counts.with_key += keyed
+    counts.group = array("Q", [0]) * (counts.nets + 1)
+    return stretches
+
+
+def _tasks(stretches: list[Stretch], counts: Counts) -> Iterator[Task]:
+    for stretch, end in zip(stretches, [*(stretch.before for stretch in stretches[1:]), counts.nets]):
+        numbers = range(stretch.before + 1, end + 1)
+        yield Task(stretch, counts.group[numbers.start:numbers.stop], frozenset(counts.by_maps.intersection(numbers)))
+
+
+def _write_groups(folder: Path, source: Source, stretches: list[Stretch], counts: Counts) -> None:
+    """Writes the members of each group of two or more isomorphic nets, by their first nets: by keys, which are compared
+    whole, and by verified maps."""
+    sorted_keys = [stretch.part(source.work, "keys") for stretch in stretches]
+    indices = [stretch.part(source.work, "indices") for stretch in stretches]
+    members = chain(_members(sorted_keys, counts), _members_by_maps(source, indices, counts))
+    with open(folder / "groups.tsv.part", "wb") as file:
+        file.write(line_of(HEADS["groups.tsv"]))
+        file.writelines(sorted_lines(members, "1,1n", "2,2n"))
+    for path in (*sorted_keys, *indices):
+        path.unlink()
+
+
+def _members(sorted_keys: list[Path], counts: Counts) -> Iterator[bytes]:
+    """A line for each net that another one is the same as; of each net its group is kept."""
+    rows = (line[:-1].split(b"\t") for line in merged_lines(sorted_keys, "1,1", "2,2n"))
+    for _, same in groupby(rows, key=lambda row: row[0]):
+        counts.kinds += 1
+        first, waiting = 0, b""
+        for _, number, name in same:
+            line = b"%d\t%s\t%s\t%s\n" % (first or int(number), number, name, BY_KEY)
+            counts.group[int(number)] = first or int(number)
+            if first:
+                yield waiting + line
+                waiting = b""
+            else:
+                first, waiting = int(number), line
+
+
+def _members_by_maps(source: Source, indices: list[Path], counts: Counts) -> Iterator[bytes]:
+    """The same of nets without a key, among those of one index."""
+    from ..wide.grouping import grouped_by_maps  # here, since few tables need it
+    rows = (line[:-1].split(b"\t") for line in merged_lines(indices, "1,1", "2,2n"))
+    for _, alike in groupby(rows, key=lambda row: row[0]):
+        found = [(int(number), name, block) for _, number, name, block in alike]
+        if len(found) < 2:
+            continue
+        for group in grouped_by_maps([_net_of(block) for _, _, block in found]):
+            members = [found[place] for place in group.places]
+            for (number, name, _), text in zip(members, group.certificates):
+                counts.group[number] = members[0][0]
+                counts.by_maps.add(number)
+                source.write_map(number, text)
+                if len(members) > 1:
+                    yield b"%d\t%d\t%s\t%s\n" % (members[0][0], number, name, BY_MAP)
+
+
+def _put_together(path: Path, head: bytes, parts: list[Path]) -> None:
+    with open(path, "wb") as file:
+        file.write(head)
+        for part in parts:
+            with open(part, "rb") as content:
+                shutil.copyfileobj(content, file, 1 << 20)
+            part.unlink()

@@ -11,13 +11,14 @@ from typing import Any
 
 from ..answers import Answer, short_outcome
 from ..asking import identify_all, keys
-from ..errors import NotANet
+from ..errors import NotANet, ProgramTimedOut
 from ..files import write_whole
 from ..net import Net
+from ..outcome import stopped
 from ..reading import net_of_chunk, nets_of_cif
 from ..texts.net_text import chunks_of
 from .columns import OF_A_PIECE, escaped, joined, line_of
-from .plan import FORM, Piece, Plan, Portion
+from .plan import AFTER_ITEM, FORM, STRUCTURE, Piece, Plan, Portion
 
 Found = tuple[str, Net]  # the file, and a net of it
 
@@ -29,10 +30,23 @@ def path_of(folder: Path, number: int) -> Path:
 def make_rows(path: Path, piece: Piece) -> None:
     """Writes the rows of a piece."""
     found = [item for portion in piece.portions for item in nets_of_portion(portion, piece.settings)]
-    nets = [net for _, net in found]
-    answers = identify_all(nets, archive=None) if piece.settings["command"] == "identify" else keys(nets)
+    answers = _answers([net for _, net in found], piece.settings)
     content = b"".join(_row(source, answer) for (source, _), answer in zip(found, answers, strict=True))
     write_whole(path, _head(piece.mark, content) + content)
+
+
+def _answers(nets: list[Net], settings: dict[str, Any]) -> list[Answer]:
+    """The answers. Where the seconds of a net are over, each half is asked by itself, and a net alone is stopped."""
+    seconds: int | None = settings["seconds"]
+    try:
+        if settings["command"] == "identify":
+            return list(identify_all(nets, archive=None, timeout=seconds))
+        return list(keys(nets, timeout=seconds))
+    except ProgramTimedOut:
+        if len(nets) == 1:
+            return [Answer(nets[0], stopped(seconds or 0), notes=nets[0].notes)]
+        half = len(nets) // 2
+        return _answers(nets[:half], settings) + _answers(nets[half:], settings)
 
 
 def rows_of(folder: Path, plan: Plan, number: int) -> list[bytes] | None:
@@ -50,14 +64,8 @@ def _head(mark: str, rows: bytes) -> bytes:
 
 
 def nets_of_portion(portion: Portion, settings: dict[str, Any]) -> list[Found]:
-    """The nets of a portion. What cannot be read is a refusal in their place."""
-    try:
-        with open(portion.path, "rb") as file:
-            file.seek(portion.offset)
-            content = file.read(portion.length)
-        nets = list(_nets_of(portion, content, settings))
-    except OSError as fault:
-        nets = [Net.refused(f"not readable: {fault.strerror}")]
+    """The nets of a portion. What is in no form is a refusal in its place; what cannot be read now is none."""
+    nets = list(_nets_of(portion, portion.read(settings["at"]), settings))
     if not nets and portion.offset == 0:
         nets = [Net.refused("there is no net in it")]
     return [(portion.path, net) for net in nets]
@@ -65,11 +73,11 @@ def nets_of_portion(portion: Portion, settings: dict[str, Any]) -> list[Found]:
 
 def _nets_of(portion: Portion, content: bytes, settings: dict[str, Any]) -> Iterator[Net]:
     """The nets. The lines that open their blocks are counted in the whole file."""
-    if portion.kind == "structure":
+    if portion.kind == STRUCTURE:
         options = {**settings["options"], "leave_out": frozenset(settings["options"].get("leave_out", ()))}
         yield from nets_of_cif(content, options, os.path.basename(portion.path))
         return
-    for chunk in chunks_of(BytesIO(content), portion.kind == "items"):
+    for chunk in chunks_of(BytesIO(content), portion.kind == AFTER_ITEM):
         if chunk.opening_line:
             chunk.first_line += portion.lines_before
             chunk.opening_line += portion.lines_before

@@ -11,8 +11,9 @@ from functools import cached_property
 from pathlib import Path
 from typing import Any, NamedTuple
 
+from ..errors import in_words
 from ..reading import CIF, CIF_SUFFIXES, SUFFIXES
-from ..texts.net_text import FIRST_TOKEN, ITEM_WORDS, chunks_of
+from ..texts.net_text import chunks_of
 
 FORM = "net_table 3"
 MOST_BLOCKS = 1_000      # of a piece: few enough that little is lost where a run breaks off
@@ -21,19 +22,44 @@ MOST_STRUCTURES = 40     # files, which take longer than blocks
 BEGINNING = 65_536       # bytes by which a file without a known ending is told
 
 
+STRUCTURE, BLOCKS, AFTER_ITEM = "structure", "blocks", "blocks after an item"
+
+
 class Failed(Exception):
     """Nothing can be done, for this reason."""
 
 
+class SourceAway(Exception):
+    """A file of the source cannot be read now, for this reason; it may be there again later."""
+
+    @classmethod
+    def of(cls, fault: OSError) -> SourceAway:
+        return cls(f"{in_words(fault)}; the same command tries again")
+
+
 class Portion(NamedTuple):
     """What a piece has of a file. Of a structure file it is all; of a text so many bytes from an offset on, and
-    whether they are items of key lines."""
+    whether an item of key lines stands before them. The sum tells whether they are the bytes that were planned."""
 
     path: str
     offset: int
     length: int
     lines_before: int
-    kind: str  # `structure`, `blocks` or `items`
+    kind: str  # STRUCTURE, BLOCKS or AFTER_ITEM
+    sum: str
+
+    def read(self, at: str) -> bytes:
+        """The bytes, of a path that is given from a folder. SourceAway where they cannot be read, Failed where they are
+        others than was planned."""
+        try:
+            with open(Path(at, self.path), "rb") as file:
+                file.seek(self.offset)
+                content = file.read() if self.kind == STRUCTURE else file.read(self.length)
+        except OSError as fault:
+            raise SourceAway.of(fault) from None
+        if sum_of(content) != self.sum:
+            raise Failed(f"{self.path} was changed since it was planned; take another folder")
+        return content
 
 
 @dataclass(frozen=True)
@@ -88,22 +114,52 @@ def read_plan(path: Path) -> Plan:
     return plan
 
 
-def files_of(source: Path) -> list[Path]:
-    """The file, or all files of a folder and below whose endings are known, by their names."""
-    if not source.is_dir():
+def check_source(plan: Plan) -> None:
+    """Failed where the source is not the one that was planned, SourceAway where it cannot be read. What was touched
+    alone, or copied, is read and compared."""
+    at, source = plan.settings["at"], Path(plan.settings["source"])
+    portions = {portion.path: portion for piece in plan.pieces for portion in piece}  # the last of each file
+    try:
+        files = files_of(source, at)
+        for path in sorted(portions.keys() - set(map(str, files))):
+            os.stat(Path(at, path))
+        if state_of(files, at) == plan.settings["state"]:
+            return
+        for file in files:
+            last = portions.get(str(file))
+            if last is None or os.path.getsize(Path(at, file)) != last.offset + last.length:
+                raise Failed(f"{file} was changed since, or is new; take another folder")
+    except OSError as fault:
+        raise SourceAway.of(fault) from None
+    for piece in plan.pieces:
+        for portion in piece:
+            portion.read(at)
+
+
+def sum_of(content: bytes) -> str:
+    """16 digits of the SHA-256."""
+    return hashlib.sha256(content).hexdigest()[:16]
+
+
+def files_of(source: Path, at: str = "") -> list[Path]:
+    """The file, or all files of a folder and below whose endings are known, by their names. The source is given from
+    a folder, and so are the files."""
+    top = Path(at, source)
+    if not top.is_dir():
         return [source]
     found = []
-    for folder, folders, names in os.walk(source, followlinks=True):
+    for folder, folders, names in os.walk(top, followlinks=True):
         folders.sort()
-        found += [Path(folder, name) for name in sorted(names) if name.lower().endswith(SUFFIXES)]
+        inner = source / Path(folder).relative_to(top)
+        found += [inner / name for name in sorted(names) if name.lower().endswith(SUFFIXES)]
     return found
 
 
-def state_of(files: list[Path]) -> str:
+def state_of(files: list[Path], at: str = "") -> str:
     """16 digits that are others where a file was added, taken away or changed."""
     told = hashlib.sha256()
     for file in files:
-        status = file.stat()
+        status = Path(at, file).stat()
         told.update(f"{file}\0{status.st_size}\0{status.st_mtime_ns}\n".encode(errors="surrogateescape"))
     return told.hexdigest()[:16]
 
@@ -114,7 +170,7 @@ def plan_of(files: list[Path], settings: dict[str, Any]) -> Plan:
     piece: list[Portion] = []
     structures = blocks = size = 0
     for portion, count in portions_of(files):
-        is_structure = portion.kind == "structure"
+        is_structure = portion.kind == STRUCTURE
         if piece and (structures + is_structure > MOST_STRUCTURES or blocks + count > MOST_BLOCKS
                       or size + portion.length > MOST_BYTES):
             plan.pieces.append(piece)
@@ -130,7 +186,8 @@ def portions_of(files: list[Path]) -> Iterator[tuple[Portion, int]]:
     """The portions of the files, and how many blocks each has; structures count as none."""
     for file in files:
         if _is_structure(file):
-            yield Portion(str(file), 0, file.stat().st_size, 0, "structure"), 0
+            content = file.read_bytes()
+            yield Portion(str(file), 0, len(content), 0, STRUCTURE, sum_of(content)), 0
         else:
             yield from _portions_of_text(file)
 
@@ -146,21 +203,17 @@ def _is_structure(file: Path) -> bool:
 def _portions_of_text(file: Path) -> Iterator[tuple[Portion, int]]:
     """The blocks of a text, as many in a portion as a piece may have. The last one is given even where it is empty, so
     that a file without nets is told of."""
-    kind = ""
+    kind = following = BLOCKS
     begin = end = lines_before = lines_read = blocks = 0
+    told = hashlib.sha256()
     with open(file, "rb") as content:
         for chunk in chunks_of(content):
-            if not kind and chunk.opening_line:
-                kind = "items" if _begins_item(chunk.block_lines[0]) else "blocks"
             if blocks and (blocks == MOST_BLOCKS or end - begin + chunk.size > MOST_BYTES):
-                yield Portion(str(file), begin, end - begin, lines_before, kind), blocks
-                begin, lines_before, blocks = end, lines_read, 0
+                yield Portion(str(file), begin, end - begin, lines_before, kind, told.hexdigest()[:16]), blocks
+                begin, lines_before, blocks, kind, told = end, lines_read, 0, following, hashlib.sha256()
+            told.update(b"".join(chunk.lines))
             end += chunk.size
             lines_read += len(chunk.lines)
             blocks += chunk.opening_line > 0
-    yield Portion(str(file), begin, end - begin, lines_before, kind or "blocks"), blocks
-
-
-def _begins_item(line: bytes) -> bool:
-    found = FIRST_TOKEN.match(line)
-    return found is not None and (found[1] or b"").upper() in ITEM_WORDS
+            following = AFTER_ITEM if chunk.is_item else BLOCKS
+    yield Portion(str(file), begin, end - begin, lines_before, kind, told.hexdigest()[:16]), blocks

@@ -21,6 +21,8 @@ WIDEST = 1 << 60  # no position of a report is as wide
 # the first token of a line, where it has one: a word or number, or else any other byte
 FIRST_TOKEN = re.compile(rb'[ \t\v\f\r]*(?:([^\x00-\x20"#\x7f]+)|([^#\n \t\v\f\r]))')
 ITEM_WORDS = (b"KEY", b"ID")  # begin an item of key lines
+BESIDE_ITEMS = (b"VERSION", b"CHECKSUM")  # of an item, where they stand after it
+BYTE_ORDER_MARK = b"\xef\xbb\xbf"
 OTHER_TEXTS = {b"NET_ARCHIVE": "an archive; archive_nets writes its nets as blocks",
                b"NET_MAPS": "a text of maps; net_tool verify reads it"}
 
@@ -49,6 +51,7 @@ class Chunk:
     first_line: int         # counted from 1
     opening_line: int = 0   # the line that opens the block; 0 where there is none
     lines: list[bytes] = field(default_factory=list)
+    is_item: bool = False   # whether it is an item of key lines
 
     @property
     def size(self) -> int:
@@ -60,17 +63,43 @@ class Chunk:
         return self.lines[self.opening_line - self.first_line:]
 
 
-def chunks_of(lines: Iterable[bytes], is_items: bool | None = None) -> Iterator[Chunk]:
-    """The text in pieces of one block each, so that all of them joined are the text. Where the first token is `key` or
-    `id`, the text is one of key lines, and its items are the blocks: no other lines begin one. Of a text that is cut out
-    of a longer one, whether that has items is to be given."""
+def opens_block(word: bytes, after_item: bool) -> bool:
+    """Whether a line outside of all blocks opens one, or an item, by its first token in capital letters. After an item
+    what Systre writes beside a key line is none."""
+    return word != b"END" and not (after_item and word in BESIDE_ITEMS)
+
+
+def chunks_of(lines: Iterable[bytes], after_item: bool = False) -> Iterator[Chunk]:
+    """The text in pieces of one block or item each, so that all of them joined are the text. Blocks and items may follow
+    each other in any order: the first token of each decides. Of a text that is cut out of a longer one, whether it
+    follows an item is to be given."""
     chunk = Chunk(1)
     for number, line in enumerate(lines, start=1):
         chunk.lines.append(line)
-        token = FIRST_TOKEN.match(line)
-        if token is None:
+        word = first_word(line.removeprefix(BYTE_ORDER_MARK) if number == 1 else line)
+        if not word:
             continue
-        word = (token[1] or b"").upper()
+        if not chunk.opening_line:
+            if opens_block(word, after_item):
+                chunk.opening_line, chunk.is_item = number, word in ITEM_WORDS
+        elif word == b"END":
+            yield chunk
+            after_item = chunk.is_item
+            chunk = Chunk(number + 1)
+    if chunk.lines:
+        yield chunk
+
+
+def chunks_as_read(lines: Iterable[bytes], is_items: bool | None = None) -> Iterator[Chunk]:
+    """The text in pieces as one command of the program counts them. Where the first token is `key` or `id` it is one of
+    key lines, which `union` reads, and no other lines begin an item; else, and for all other commands, each first token
+    opens a block."""
+    chunk = Chunk(1)
+    for number, line in enumerate(lines, start=1):
+        chunk.lines.append(line)
+        word = first_word(line)
+        if not word:
+            continue
         if is_items is None:
             is_items = word in ITEM_WORDS
         if word != b"END":
@@ -81,6 +110,12 @@ def chunks_of(lines: Iterable[bytes], is_items: bool | None = None) -> Iterator[
             chunk = Chunk(number + 1)
     if chunk.lines:
         yield chunk
+
+
+def first_word(line: bytes) -> bytes:
+    """The first word of a line in capital letters, another first token as it is, or nothing."""
+    match = FIRST_TOKEN.match(line)
+    return (match[1] or match[2]).upper() if match else b""
 
 
 class NoReport(Exception):

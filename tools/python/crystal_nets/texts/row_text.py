@@ -24,7 +24,7 @@ TEXT = rb"(?:[^\x00-\x1f\x7f\\;]|\\[\\tr;]|\\x[0-9a-f]{2})*"
 COUNT = rb"(?:[1-9]\d*)?"
 SHELLS = rb"(?:[1-9]\d*(?: [1-9]\d*)*)?"
 ROW = re.compile(rb"\t".join((
-    rb"([1-9]\d{0,17})", rb"[1-9]\d*", rb"(" + TEXT + rb")", rb"(accepted|unsupported|(?:refused|malformed) \d+ [A-Za-z]+)",
+    rb"([1-9]\d{0,17})", rb"[1-9]\d*", rb"(" + TEXT + rb")", rb"(accepted|unsupported|(?:refused|malformed|stopped) \d+ [A-Za-z]+)",
     rb"([23]?)", COUNT, COUNT, COUNT, COUNT, rb"(-?\d[-\d ]*|)",
     SHELLS + rb"(?:;" + SHELLS + rb")*", TEXT + rb"(?:;" + TEXT + rb")*",
     rb"(check|place|key|identify|)", TEXT)) + rb"\n")
@@ -72,9 +72,3 @@ def rows_of(lines: Iterable[bytes], file: str) -> Iterator[Row]:
         if not is_right:
             raise NoReport(f"{file}: the key in line {count} is cut, or is none")
         yield Row(int(number), name, key, outcome)
-
-
-def rows_of_files(files: Iterable[str]) -> Iterator[Row]:
-    for file in files:
-        with open(file, "rb") as lines:
-            yield from rows_of(lines, file)

@@ -1,0 +1,152 @@
+"""Sources that change, or are away for a while, between the plan of a table and its end."""
+
+import os
+import signal
+import subprocess
+import sys
+import time
+from pathlib import Path
+
+from testing import PROGRAM, TOOLS, TOP, FolderTest, need_commands, need_modules, need_program, run
+
+BATCH = TOOLS / "batch"
+NET_TABLE = BATCH / "net_table"
+FILES = ("table.tsv", "groups.tsv", "names.tsv", "refused.tsv")
+SMALL = (f"import sys; sys.path.insert(0, {str(TOOLS / 'python')!r})\n"
+         "from crystal_nets.tables import plan; plan.MOST_BLOCKS = 5\n"
+         "from crystal_nets.tables.command import main; sys.exit(main())")
+COMMAND = (sys.executable, "-B", "-c", SMALL)
+COUNT = 20
+TRY_AGAIN, FAILED = 75, 3
+
+
+def block(number: int) -> bytes:
+    """One of several nets, all of as many bytes."""
+    return b"PERIODIC_GRAPH\nNAME net%02d\nEDGES\n1 1 1 0\n1 1 %d 1\n1 1 0 1\nEND\n" % (number, 1 + number % 9)
+
+
+def contents(folder: Path) -> dict[str, bytes]:
+    return {name: (folder / name).read_bytes() for name in FILES}
+
+
+class Sources(FolderTest):
+    def setUp(self):
+        super().setUp()
+        need_program()
+        need_commands("sort")
+        self.blocks = [block(k) for k in range(COUNT)]
+        self.source = self.folder / "nets.cgd"
+        self.source.write_bytes(b"".join(self.blocks))
+        self.result = self.folder / "result"
+
+    def make(self, *words: object, status: int, at: Path | None = None) -> str:
+        place = ("env", "-C", at) if at else ()
+        return run(*place, *COMMAND, *words, "--no-names", "--keys-alone", "--jobs", 1, status=status).stderr.decode()
+
+    def whole(self) -> dict[str, bytes]:
+        self.make(self.source, self.folder / "whole", status=0)
+        return contents(self.folder / "whole")
+
+    def swap(self, keeps_time: bool) -> None:
+        """Puts the second half of the file before the first one."""
+        stat = self.source.stat()
+        self.source.write_bytes(b"".join(self.blocks[COUNT // 2:] + self.blocks[:COUNT // 2]))
+        if keeps_time:
+            os.utime(self.source, ns=(stat.st_atime_ns, stat.st_mtime_ns))
+
+    def restore(self) -> None:
+        self.source.write_bytes(b"".join(self.blocks))
+
+    def test_halves_that_were_swapped(self):
+        whole = self.whole()
+        for keeps_time in (False, True):
+            result = self.folder / f"result {keeps_time}"
+            self.make("--plan", self.source, result, status=0)
+            self.make(result, "--part", "1/2", status=0)
+            rows = {path: path.read_bytes() for path in result.glob("work/*.rows")}
+            self.swap(keeps_time)
+            for words in ((result, "--part", "2/2"), (result,), (self.source, result)):
+                self.assertIn("was changed since", self.make(*words, status=FAILED), words)
+            self.assertEqual({path: path.read_bytes() for path in result.glob("work/*.rows")}, rows)
+            self.assertFalse((result / "table.tsv").exists())
+            self.restore()
+            self.make(result, "--part", "2/2", status=0)
+            self.make(result, status=0)
+            self.assertEqual(contents(result), whole)
+
+    def test_a_file_that_grew(self):
+        self.make("--plan", self.source, self.result, status=0)
+        self.source.write_bytes(b"".join(self.blocks) + block(COUNT))
+        self.assertIn("was changed since", self.make(self.result, "--part", "1/1", status=FAILED))
+        self.assertEqual(list(self.result.glob("work/*.rows")), [])
+
+    def test_a_file_that_is_away_for_a_while(self):
+        whole = self.whole()
+        away = self.folder / "away"
+        self.make("--plan", self.source, self.result, status=0)
+        for words in ((self.result, "--part", "1/2"), (self.result,)):
+            self.source.rename(away)
+            self.assertIn("tries again", self.make(*words, status=TRY_AGAIN))
+            away.rename(self.source)
+        self.assertEqual(list(self.result.glob("work/*.rows")), [])
+        self.make(self.result, status=0)
+        self.assertEqual(contents(self.result), whole)
+
+    def test_a_file_of_a_folder_that_is_away(self):
+        source = self.folder / "source"
+        (source / "deep").mkdir(parents=True)
+        for k in range(4):
+            (source / "deep" / f"{k}.cgd").write_bytes(b"".join(self.blocks[5 * k:5 * k + 5]))
+        (source / "quartz.cif").write_bytes((TOP / "examples/quartz.cif").read_bytes())
+        need_modules("gemmi", "numpy", "scipy", "spglib")
+        self.make("--plan", source, self.result, status=0)
+        (source / "deep/2.cgd").rename(self.folder / "away")
+        self.assertIn("2.cgd", self.make(self.result, status=TRY_AGAIN))
+        (self.folder / "away").rename(source / "deep/2.cgd")
+        (source / "more.cgd").write_bytes(block(1))
+        self.assertIn("more.cgd was changed since, or is new", self.make(self.result, status=FAILED))
+        (source / "more.cgd").unlink()
+        self.make(self.result, status=0)
+        self.assertNotIn(b"not readable", (self.result / "table.tsv").read_bytes())
+
+    def test_a_file_that_goes_while_pieces_are_made(self):
+        """The program takes the file away at the second piece: the pieces before stand, and the others come later."""
+        whole = self.whole()
+        taking = self.folder / "taking"
+        taking.write_text(f"#!/bin/sh\nif [ -e '{self.result}/work/000001.rows' ] && [ -e '{self.source}' ]; then\n"
+                          f"mv '{self.source}' '{self.folder}/away'; fi\nexec '{PROGRAM}' \"$@\"\n")
+        taking.chmod(0o755)
+        done = run(*COMMAND, self.source, self.result, "--no-names", "--keys-alone", "--jobs", 1, status=TRY_AGAIN,
+                   NET_TOOL=str(taking))
+        self.assertIn(b"2 of 4 pieces are not there", done.stderr)
+        self.assertEqual(len(list(self.result.glob("work/*.rows"))), 2)
+        (self.folder / "away").rename(self.source)
+        self.make(self.source, self.result, status=0)
+        self.assertEqual(contents(self.result), whole)
+
+    def test_killed_in_the_middle_and_then_changed(self):
+        whole = self.whole()
+        process = subprocess.Popen([*map(str, COMMAND), str(self.source), str(self.result), "--no-names", "--keys-alone"],
+                                   stdout=subprocess.DEVNULL, stderr=subprocess.DEVNULL,
+                                   env={**os.environ, "NET_TOOL": PROGRAM})
+        until = time.monotonic() + 60
+        while process.poll() is None and not list(self.result.glob("work/*.rows")) and time.monotonic() < until:
+            time.sleep(0.005)
+        process.send_signal(signal.SIGKILL)
+        process.wait()
+        self.swap(keeps_time=True)
+        if len(list(self.result.glob("work/*.rows"))) < COUNT // 5:
+            self.assertIn("was changed since", self.make(self.result, status=FAILED))
+        self.restore()
+        self.make(self.result, status=0)
+        self.assertEqual(contents(self.result), whole)
+
+    def test_a_relative_source_from_another_folder(self):
+        other = self.folder / "other"
+        other.mkdir()
+        self.make("--plan", "nets.cgd", self.result, status=0, at=self.folder)
+        self.make(self.result, "--part", "1/1", status=0, at=other)
+        self.make("../nets.cgd", self.result, status=0, at=other)
+        self.assertEqual((self.result / "table.tsv").read_bytes().count(b"\tnets.cgd\t"), COUNT)
+        (other / "nets.cgd").write_bytes(block(1))
+        self.assertIn("its source is 'nets.cgd'", self.make("nets.cgd", self.result, status=FAILED, at=other))
