@@ -27,10 +27,18 @@ def run(name: str) -> NoReturn:
     if name in WITH_SMALL_MATRICES:
         os.environ.setdefault("OPENBLAS_NUM_THREADS", "1")
     from .errors import CrystalNetsError, in_words
+    from .files import give_up_output, open_standard_files
     from .texts.net_text import NoReport
+    open_standard_files()
     try:
-        sys.exit(_main_of(name)())
+        try:
+            status: int | str | None = _main_of(name)()
+        except SystemExit as ended:
+            status = ended.code
+        sys.stdout.flush()
+        sys.exit(status)
     except (NoReport, CrystalNetsError, OSError) as fault:
+        give_up_output()
         sys.exit(f"{name}: {in_words(fault)}")
 
 
@@ -42,4 +50,5 @@ def _main_of(name: str) -> Callable[[], int]:
     except ModuleNotFoundError as missing:
         if name not in PACKAGES:
             raise
-        sys.exit(f"{name}: {missing}; apt-get install {PACKAGES[name]}")
+        from .errors import lacking
+        sys.exit(f"{name}: {lacking(missing, f'apt-get install {PACKAGES[name]}')}")

@@ -6,7 +6,7 @@ import html
 from collections.abc import Sequence
 from typing import TYPE_CHECKING
 
-from .errors import CrystalNetsError, NotANet, PackageMissing
+from .errors import CrystalNetsError, NotANet, PackageMissing, lacking
 from .net import Net
 
 if TYPE_CHECKING:
@@ -31,7 +31,7 @@ def svg(source: Net | Answer) -> str:
         from .pictures.svg import picture
         from .pictures.view import view_of
     except ModuleNotFoundError as missing:
-        raise PackageMissing(f"pictures: {missing}; apt-get install python3-numpy") from missing
+        raise PackageMissing(f"pictures: {lacking(missing, 'apt-get install python3-numpy')}") from missing
     if report is None:
         raise NotANet("the program says nothing of the net of this answer")
     try:

@@ -2,12 +2,23 @@
 
 from __future__ import annotations
 
+import os
+import sys
+
+SYSTEM = "/usr/bin/python3"
+
 
 def in_words(fault: Exception) -> str:
     """The reason of a fault in one line, as commands tell it: of a file its name and what is wrong with it."""
     if isinstance(fault, OSError) and fault.filename is not None and fault.strerror:
         return f"{fault.filename}: {fault.strerror}"
     return str(fault)
+
+
+def lacking(missing: ImportError, advice: str) -> str:
+    """Which interpreter lacks which module, and what gives it to that of the system."""
+    is_system = os.path.realpath(sys.executable) == os.path.realpath(SYSTEM)
+    return f"{sys.executable} has no module {missing.name}; {advice}" + ("" if is_system else f" gives it to {SYSTEM}")
 
 
 class CrystalNetsError(Exception):

@@ -1,8 +1,17 @@
-"""Files that are written whole or not at all."""
+"""Files that are written whole or not at all, and files whose faults name them."""
 
 from __future__ import annotations
 
+import io
+import os
+import sys
 from pathlib import Path
+from typing import TYPE_CHECKING
+
+if TYPE_CHECKING:
+    from _typeshed import ReadableBuffer
+
+STANDARD_OUTPUT = "standard output"
 
 
 def write_whole(path: Path, content: bytes) -> None:
@@ -10,3 +19,42 @@ def write_whole(path: Path, content: bytes) -> None:
     part = path.with_name(f"{path.name}.part")
     part.write_bytes(content)
     part.replace(path)
+
+
+class TellingFile(io.FileIO):
+    """A file that is written to, whose name a fault of writing has, as that of a full disk."""
+
+    def __init__(self, file: str | int, told: str) -> None:
+        super().__init__(file, "w", closefd=not isinstance(file, int))
+        self.told = told
+
+    def write(self, content: ReadableBuffer, /) -> int:
+        try:
+            return super().write(content)
+        except OSError as fault:
+            raise OSError(fault.errno, fault.strerror, self.told) from None
+
+
+def telling_text(path: str) -> io.TextIOWrapper:
+    """A new text file whose faults name it."""
+    return io.TextIOWrapper(io.BufferedWriter(TellingFile(path, path)), encoding="utf-8")
+
+
+def open_standard_files() -> None:
+    """Puts something in the place of a standard file that is closed, so that no other file gets its number, and has
+    standard output named by its faults. Reading what was closed, or writing to it, fails."""
+    for number, mode in ((0, os.O_WRONLY), (1, os.O_RDONLY), (2, os.O_WRONLY)):
+        try:
+            os.fstat(number)
+        except OSError:
+            os.dup2(os.open(os.devnull, mode), number)
+    sys.stdin = sys.stdin or open(0, closefd=False)
+    sys.stderr = sys.stderr or open(2, "w", closefd=False)
+    known = sys.stdout
+    sys.stdout = io.TextIOWrapper(io.BufferedWriter(TellingFile(1, STANDARD_OUTPUT)), encoding="utf-8",
+                                  errors=known.errors if known else "strict", line_buffering=os.isatty(1))
+
+
+def give_up_output() -> None:
+    """Has what is left of standard output go nowhere, after a fault that was told."""
+    os.dup2(os.open(os.devnull, os.O_WRONLY), 1)

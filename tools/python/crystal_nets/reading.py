@@ -15,7 +15,7 @@ from io import BytesIO
 from pathlib import Path
 from typing import TYPE_CHECKING, Any
 
-from .errors import NotANet, PackageMissing
+from .errors import NotANet, PackageMissing, lacking
 from .net import TOO_LONG, Net
 from .provenance import REFUSED, Note, notes_of
 from .texts.net_text import (BYTE_ORDER_MARK, FIRST_TOKEN, HEADER, MOST_BYTES, OTHER_TEXTS, Chunk, chunks_of,
@@ -154,7 +154,7 @@ def _packages_of(what: str) -> Iterator[None]:
     try:
         yield
     except ModuleNotFoundError as missing:
-        raise PackageMissing(f"{what}: {missing}; {STRUCTURE_PACKAGES}") from missing
+        raise PackageMissing(f"{what}: {lacking(missing, STRUCTURE_PACKAGES)}") from missing
 
 
 def nets_of_cgd(source: str | bytes | os.PathLike[str]) -> list[Net]:

@@ -6,6 +6,7 @@ import argparse
 import signal
 import sys
 
+from ..files import STANDARD_OUTPUT
 from ..provenance import DROPPED, REFUSED
 
 from .converter import Converter
@@ -48,8 +49,10 @@ def convert_file(file: str, is_quiet: bool) -> int:
         else:
             with open(file, "rb") as stream:
                 converter.convert(stream)
+        sys.stdout.flush()
     except OSError as error:
+        if error.filename == STANDARD_OUTPUT:
+            raise
         print(f"{file}: not readable: {error.strerror}", file=sys.stderr)
         return SOME_REFUSED
-    sys.stdout.flush()
     return SOME_REFUSED if converter.refused else DONE

@@ -57,7 +57,7 @@ def main() -> int:
     try:
         from .service import Service
     except ModuleNotFoundError as missing:
-        return failed(f"{missing}; {PACKAGES}")
+        return failed(lacking(missing, PACKAGES))
     fault = fault_of_files(asked.files) or fault_of_program()
     if fault:
         return failed(fault)
@@ -99,7 +99,7 @@ def fault_of_files(files: list[Path]) -> str:
 
 
 def fault_of_program() -> str:
-    from ..errors import ProgramNotFound
+    from ..errors import ProgramNotFound, lacking
     from ..program import find_program
     try:
         find_program()

@@ -5,7 +5,7 @@ from __future__ import annotations
 import json
 from typing import Any
 
-from ..errors import PackageMissing
+from ..errors import PackageMissing, lacking
 from ..net import Net
 from ..provenance import Provenance
 from .archives import told_shelves
@@ -50,7 +50,7 @@ def crystal(block: bytes, name: str) -> dict[str, str]:
         from ..pictures.crystal_text import block_of, cif_of
         from ..pictures.embedding import Embedding, NoEmbedding
     except ModuleNotFoundError as missing:
-        raise PackageMissing(f"crystals: {missing}; apt-get install python3-numpy python3-spglib") from missing
+        raise PackageMissing(f"crystals: {lacking(missing, 'apt-get install python3-numpy python3-spglib')}") from missing
     from ..pictures.placed import placed_net
     from .cards import report_of
     report, _ = report_of(Net.from_block(block))
@@ -60,7 +60,7 @@ def crystal(block: bytes, name: str) -> dict[str, str]:
         embedding = Embedding(placed_net(report))
         return {"cif": cif_of(embedding, name, "net"), "cgd": block_of(embedding, name)}
     except ModuleNotFoundError as missing:
-        raise PackageMissing(f"crystals: {missing}; apt-get install python3-spglib") from missing
+        raise PackageMissing(f"crystals: {lacking(missing, 'apt-get install python3-spglib')}") from missing
     except NoEmbedding as reason:
         return {"reason": f"no crystal: {reason}"}
 

@@ -15,7 +15,7 @@ from pathlib import Path
 from typing import Any
 
 from ..progress import Progress
-from ..errors import in_words
+from ..errors import in_words, lacking
 from ..side_by_side import processors, results_of
 from ..texts.net_text import NetReport, nets_of_report
 
@@ -156,7 +156,7 @@ def draw(reports: list[NetReport], wanted: Wanted) -> int:
         what = "rsvg-convert is not there; apt-get install librsvg2-bin"
         sys.exit("draw_nets: " + (what if missing.filename == "rsvg-convert" else in_words(missing)))
     except ModuleNotFoundError as absent:
-        sys.exit(f"draw_nets: {absent}; apt-get install python3-spglib")
+        sys.exit(f"draw_nets: {lacking(absent, 'apt-get install python3-spglib')}")
     except subprocess.CalledProcessError as fault:
         sys.exit(f"draw_nets: {fault}")
 

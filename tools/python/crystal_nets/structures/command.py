@@ -16,6 +16,7 @@ from itertools import islice
 
 import gemmi
 
+from ..files import telling_text
 from ..progress import Progress
 
 from .bonds.listed import BY_RULES, WAYS
@@ -123,7 +124,7 @@ def main() -> int:
     asked = words()
     sources = sources_of(list(files_of(asked.files)))
     try:
-        notes = open(asked.notes, "w", encoding="utf-8") if asked.notes else None
+        notes = telling_text(asked.notes) if asked.notes else None
     except OSError as error:
         print(f"cif2cgd: {asked.notes}: not writable: {error.strerror}", file=sys.stderr)
         return USAGE

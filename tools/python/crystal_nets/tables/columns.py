@@ -7,7 +7,7 @@ import re
 from pathlib import Path
 from typing import TYPE_CHECKING
 
-from ..errors import NotATable, PackageMissing
+from ..errors import NotATable, PackageMissing, lacking
 from ..texts.row_text import ESCAPES
 
 if TYPE_CHECKING:
@@ -48,8 +48,8 @@ def read_table(path: str | os.PathLike[str]) -> pandas.DataFrame:
     tools/batch says. NotATable where it is none, or is cut."""
     try:
         import pandas
-    except ImportError:
-        raise PackageMissing("pandas is not there; apt-get install python3-pandas") from None
+    except ImportError as missing:
+        raise PackageMissing(lacking(missing, "apt-get install python3-pandas")) from None
     file = Path(path) / "table.tsv" if Path(path).is_dir() else Path(path)
     _check_lines(file)
     try:
