@@ -12,6 +12,7 @@ import webbrowser
 from collections.abc import Callable
 from pathlib import Path
 
+from ..errors import lacking
 from .worker import Limits, Workers
 
 DESCRIPTION = """A page on your own machine that tells which nets structures have: drop CIF, .cgd or .arc files on it.
