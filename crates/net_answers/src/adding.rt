@@ -22,7 +22,7 @@ use std::alloc::{AllocError as NoMemory, Global};
 use union_answers::add_fault_text;
 
 // The block with this number, counted from 1, cannot be added.
-#[derive(Clone, Copy)]
+#[derive(Clone, Copy, Debug)]
 struct NotAdded {
     block: u32,
     fault: AddFault,
@@ -125,7 +125,7 @@ fn refused_text(alloc: Global, refused: NotAdded) -> Result<Vec<u8>, NoMemory>
 // not.
 fn add_accepted<'x>(
     alloc: Global,
-    archive: Archive,
+    archive: &mut Archive,
     given: Option<&[u8]>,
     found: &'x [Block<'_>],
     outcomes: &'x [Outcome<'_>],
@@ -136,10 +136,9 @@ fn add_accepted<'x>(
     requires kinds { AreKindsOfAll outcomes.now kinds.now }
     requires accepted { list_all is_accepted outcomes.now ≡ true }
     ensures { IfOk result (λ a. IsAddedOrRefused (option_copied given.entry)
-        (views found.now) archive.entry a.status a.text.items) }
+        (views found.now) archive.old a.status a.text.items) }
 {
-    let mut archive = archive;
-    match add_all(&mut archive, given, found, outcomes, kinds) {
+    match add_all(archive, given, found, outcomes, kinds) {
         Ok(()) => Ok(Answer {
             status: Status::Done,
             text: archive.text()?,
@@ -151,18 +150,18 @@ fn add_accepted<'x>(
     }
 }
 
-/// The text of the archive with the nets of these blocks, or the report on them where one has no
-/// key, or why the first that cannot be added is not.
+/// The text of the archive with the nets of these blocks, which are added to it, or the report on
+/// them where one has no key, or why the first that cannot be added is not.
 pub fn add_blocks(
     alloc: Global,
-    archive: Archive,
+    archive: &mut Archive,
     name: Option<&str>,
     found: &[Block<'_>],
 ) -> Result<Answer, NoMemory>
     requires graphs { All (λ block. IsReadBody block.body) found.now }
     requires few { length found.now ≤ most_blocks }
     ensures { IfOk result (λ a. IsAddedOrRefused (option_copied name.entry)
-        (views found.now) archive.entry a.status a.text.items) }
+        (views found.now) archive.old a.status a.text.items) }
 {
     let keyed = outcomes_of(alloc, found)?;
     if !are_accepted(&keyed.outcomes) {

@@ -23,27 +23,27 @@ use std::alloc::{AllocError as NoMemory, Global};
 use union_answers::{archive_in, union_of};
 use workload::workload_text;
 
-// The answer to a task, of the blocks of its file and of its archive.
+// The answer to a task, of the blocks of its file and of its archive, to which `add` adds them.
 fn answer_for(
     alloc: Global,
     task: &BlocksTask<'_>,
-    archive: Archive,
+    archive: &mut Archive,
     found: &[Block<'_>],
 ) -> Result<Answer, NoMemory>
     requires graphs { All (λ block. IsReadBody block.body) found.now }
     requires few { length found.now ≤ most_blocks }
     ensures { IfOk result (λ a.
-        IsDueFor (blocks_view task.now) (views found.now) archive.entry a.status a.text.items) }
+        IsDueFor (blocks_view task.now) (views found.now) archive.old a.status a.text.items) }
 {
     match *task {
-        BlocksTask::Check { .. } => report_on(alloc, Command::Check, &archive, found),
-        BlocksTask::Place { .. } => report_on(alloc, Command::Place, &archive, found),
-        BlocksTask::Key { .. } => report_on(alloc, Command::Key, &archive, found),
-        BlocksTask::Identify { .. } => report_on(alloc, Command::Identify, &archive, found),
-        BlocksTask::Components { .. } => report_on(alloc, Command::Components, &archive, found),
+        BlocksTask::Check { .. } => report_on(alloc, Command::Check, archive, found),
+        BlocksTask::Place { .. } => report_on(alloc, Command::Place, archive, found),
+        BlocksTask::Key { .. } => report_on(alloc, Command::Key, archive, found),
+        BlocksTask::Identify { .. } => report_on(alloc, Command::Identify, archive, found),
+        BlocksTask::Components { .. } => report_on(alloc, Command::Components, archive, found),
         BlocksTask::Add { name, .. } => add_blocks(alloc, archive, name, found),
-        BlocksTask::Duplicates { .. } => groups_of(alloc, &archive),
-        BlocksTask::Migrate { .. } => migration_of(alloc, &archive),
+        BlocksTask::Duplicates { .. } => groups_of(alloc, archive),
+        BlocksTask::Migrate { .. } => migration_of(alloc, archive),
         BlocksTask::Workload { count } => summary_of(alloc, count, found),
         BlocksTask::Cover { cell, .. } => cover_blocks(alloc, &cell, found),
         BlocksTask::Same { .. } => same_blocks(alloc, found),
@@ -67,7 +67,7 @@ fn answer_on(
 {
     let found = blocks(alloc, bytes)?;
     match archive_in(alloc, archive)? {
-        Ok(archive) => Ok(answer_for(alloc, task, archive, &found)?),
+        Ok(mut archive) => Ok(answer_for(alloc, task, &mut archive, &found)?),
         Err(text) => Ok(Answer {
             status: Status::BadArchive,
             text,
