@@ -11,6 +11,7 @@ chemistry, and no theorem.
 The modules that a user calls:
 net        a net, from edges and whatever else there is
 reading    files, atoms of ase and pymatgen, graphs of networkx
+options    how structures are read
 asking     identify, identify_all, keys
 maps       same: whether two nets are isomorphic, with the map
 parts      components: what interpenetrates
@@ -54,11 +55,12 @@ if TYPE_CHECKING:
     from .asking import identify, identify_all, keys
     from .covers import Cover, cover
     from .drawing import svg
-    from .errors import (CrystalNetsError, NotANet, NotAnArchive, NotATable, PackageMissing, ProgramFailed,
-                         ProgramNotFound)
+    from .errors import (CrystalNetsError, NotANet, NotAnArchive, NotAnOption, NotATable, PackageMissing,
+                         ProgramFailed, ProgramNotFound)
     from .groups import Group, Groups, group
     from .maps import NetMap, Sameness, same
     from .net import Net
+    from .options import StructureOptions
     from .outcome import Outcome
     from .parts import Component, Components, components, net_of_key
     from .program import find_program
@@ -67,14 +69,15 @@ if TYPE_CHECKING:
 
 __version__ = "0.1"
 __all__ = ["Answer", "Answers", "Archive", "Component", "Components", "Cover", "CrystalNetsError", "Group", "Groups",
-           "Net", "NetMap", "NotANet", "NotATable", "NotAnArchive", "Outcome", "PackageMissing", "Placement",
-           "PrimitiveGraph", "ProgramFailed", "ProgramNotFound", "Sameness", "components", "cover", "find_program",
-           "group", "identify", "identify_all", "keys", "net_of_key", "read", "read_table", "same", "svg", "to_pandas"]
+           "Net", "NetMap", "NotANet", "NotATable", "NotAnArchive", "NotAnOption", "Outcome", "PackageMissing",
+           "Placement", "PrimitiveGraph", "ProgramFailed", "ProgramNotFound", "Sameness", "StructureOptions",
+           "components", "cover", "find_program", "group", "identify", "identify_all", "keys", "net_of_key", "read", "read_table", "same", "svg", "to_pandas"]
 
 HOMES = {"answers": "Answer Answers Placement PrimitiveGraph to_pandas", "archive": "Archive",
          "asking": "identify identify_all keys", "covers": "Cover cover", "drawing": "svg",
-         "errors": "CrystalNetsError NotANet NotAnArchive NotATable PackageMissing ProgramFailed ProgramNotFound",
-         "groups": "Group Groups group", "maps": "NetMap Sameness same", "net": "Net", "outcome": "Outcome",
+         "errors": "CrystalNetsError NotANet NotAnArchive NotAnOption NotATable PackageMissing ProgramFailed ProgramNotFound",
+         "groups": "Group Groups group", "maps": "NetMap Sameness same", "net": "Net",
+         "options": "StructureOptions", "outcome": "Outcome",
          "parts": "Component Components components net_of_key", "program": "find_program", "reading": "read",
          "tables.columns": "read_table"}
 HOME_OF = {name: module for module, names in HOMES.items() for name in names.split()}

@@ -7,12 +7,13 @@ import re
 from collections.abc import Iterable, Iterator, Mapping, Sequence
 from dataclasses import replace
 from enum import Enum
-from typing import Any
+from typing import Any, Unpack
 
 from .answers import Answer, Answers
 from .archive import Archive
 from .errors import NotANet
 from .net import Net
+from .options import StructureOptions
 from .outcome import ACCEPTED, outcome_of, unreadable
 from .program import each_piece, reading_report, run
 from .reading import one_net, read
@@ -38,7 +39,7 @@ PRIMITIVE = re.compile(rb"primitive vertices=(\d+) edges=(\d+)")
 HEAD = b"\nnet "  # begins the report on a net, and no other line: no name has a line feed
 
 
-def identify(source: Any, archive: Archives = DEFAULT, **options: Any) -> Answer:
+def identify(source: Any, archive: Archives = DEFAULT, **options: Unpack[StructureOptions]) -> Answer:
     """Which net it is: placement, primitive graph, key, coordination sequences, and names in the archive.
 
     source   what `read` reads, with one net; NotANet is raised where it has several
@@ -59,14 +60,14 @@ def identify(source: Any, archive: Archives = DEFAULT, **options: Any) -> Answer
     return _identified(nets, archive_of(archive), 1)[0]
 
 
-def identify_all(sources: Any, archive: Archives = DEFAULT, processes: int = 1, **options: Any) -> Answers:
+def identify_all(sources: Any, archive: Archives = DEFAULT, processes: int = 1, **options: Unpack[StructureOptions]) -> Answers:
     """The same of many nets: of a source that has several, as a file, or of an iterable of sources.
 
     processes  of the program, side by side"""
     return _identified(_nets_of(sources, options), archive_of(archive), processes)
 
 
-def keys(sources: Any, archive: Archives = None, processes: int = 1, **options: Any) -> Answers:
+def keys(sources: Any, archive: Archives = None, processes: int = 1, **options: Unpack[StructureOptions]) -> Answers:
     """The keys of many nets, and their names where an archive is given, without placement, primitive graph and
     sequences. It takes less time than `identify_all`.
 
@@ -89,7 +90,7 @@ def archive_of(archive: Archives) -> Archive | None:
     return Archive.load(*([archive] if isinstance(archive, (str, os.PathLike)) else archive))
 
 
-def _nets_of(sources: Any, options: dict[str, Any]) -> list[Net]:
+def _nets_of(sources: Any, options: StructureOptions) -> list[Net]:
     """The nets of a source, or of each of several."""
     if isinstance(sources, (list, tuple)) and all(isinstance(source, Net) for source in sources):
         return list(sources)
@@ -181,6 +182,6 @@ def _key_of(lines: list[bytes]) -> bytes:
     return lines[place]
 
 
-def single(source: Any, options: dict[str, Any]) -> Net:
+def single(source: Any, options: StructureOptions) -> Net:
     """The one net of a source."""
     return one_net(read(source, **options))

@@ -6,11 +6,12 @@ import operator
 import re
 from collections.abc import Iterable
 from dataclasses import dataclass
-from typing import Any
+from typing import Any, Unpack
 
 from .asking import KINDS, single
 from .errors import NotANet
 from .net import Net
+from .options import StructureOptions
 from .outcome import ACCEPTED, Outcome, outcome_of
 from .program import reading_report, run
 from .reading import want_one_block
@@ -35,7 +36,7 @@ class Cover:
     index: int
 
 
-def cover(source: Any, cell: Iterable[Iterable[int]], **options: Any) -> Cover:
+def cover(source: Any, cell: Iterable[Iterable[int]], **options: Unpack[StructureOptions]) -> Cover:
     """A net on a cell of given rows, 2 x 2 or 3 x 3 whole numbers from -500 to 500, in lattice steps.
 
     >>> cover([(1, 1, (1, 0)), (1, 1, (0, 1))], [(2, 0), (0, 1)]).net.edges

@@ -18,6 +18,10 @@ class NotANet(CrystalNetsError, ValueError):
     """What was given cannot be read as one net, for the reason that it is made with."""
 
 
+class NotAnOption(CrystalNetsError, ValueError):
+    """An option of structures has a value that is none, for the reason that it is made with."""
+
+
 class NotAnArchive(CrystalNetsError, ValueError):
     """A file is no archive, or the program computes other keys from its edges."""
 

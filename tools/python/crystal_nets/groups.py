@@ -4,10 +4,11 @@ from __future__ import annotations
 
 from collections.abc import Iterator
 from dataclasses import dataclass
-from typing import Any
+from typing import Any, Unpack
 
 from .answers import Answer, Answers
 from .asking import Archives, keys
+from .options import StructureOptions
 
 
 @dataclass(frozen=True)
@@ -48,7 +49,7 @@ class Groups:
         return self.groups[place]
 
 
-def group(sources: Any, archive: Archives = None, processes: int = 1, **options: Any) -> Groups:
+def group(sources: Any, archive: Archives = None, processes: int = 1, **options: Unpack[StructureOptions]) -> Groups:
     """The groups of isomorphic nets. Keys are compared whole; that two are equal exactly where the nets are isomorphic
     is proved.
 

@@ -5,12 +5,13 @@ from __future__ import annotations
 import re
 from dataclasses import dataclass, field
 from itertools import product
-from typing import Any
+from typing import Any, Unpack
 
 from .asking import keys, single
 from .errors import NotANet, ProgramFailed
 from .graph import Vertex
 from .net import Net
+from .options import StructureOptions
 from .outcome import ACCEPTED, Outcome
 from .program import reading_report, run
 
@@ -75,7 +76,7 @@ class Sameness:
         return self.same
 
 
-def same(one: Any, other: Any, **options: Any) -> Sameness:
+def same(one: Any, other: Any, **options: Unpack[StructureOptions]) -> Sameness:
     """Whether two nets are the same, with a map from the first to the second.
 
     >>> pcu = [(1, 1, (1, 0, 0)), (1, 1, (0, 1, 0)), (1, 1, (0, 0, 1))]

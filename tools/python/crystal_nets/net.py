@@ -4,10 +4,11 @@ from __future__ import annotations
 
 import operator
 from collections.abc import Iterable
-from typing import TYPE_CHECKING, Any
+from typing import TYPE_CHECKING, Any, Unpack
 
 from .errors import NotANet, PackageMissing
 from .graph import LabelledEdge, QuotientGraph, Vertex
+from .options import StructureOptions
 from .provenance import Note, Provenance, notes_of
 from .texts.graph_text import graph_of_text, text_of_graph, vertex_word, written_name
 from .texts.net_text import MOST_BYTES
@@ -119,23 +120,22 @@ class Net:
         return one_net(nets_of_cgd(text), name)
 
     @classmethod
-    def from_cif(cls, text: str | bytes | PathLike[str], name: str | None = None, **options: Any) -> Net:
+    def from_cif(cls, text: str | bytes | PathLike[str], name: str | None = None, **options: Unpack[StructureOptions]) -> Net:
         """The one net of a CIF file, or of its text; `crystal_nets.read` gives all of several.
 
-        The options are those of cif2cgd: `convention="single-nodes"`, `leave_out={"Na"}`, `keep_ions`,
-        `hydrogen_bonds`, `partial_as_full`, `accept_misfit`, `every_copy`, and `lengths`, in angstrom, as
-        {frozenset(("Ba", "O")): 3.4}. Which atoms are joined is chemistry, and not proved."""
+        The options are those of `StructureOptions`, as `convention="single-nodes"` or `leave_out={"Na"}`. Which atoms
+        are joined is chemistry, and not proved."""
         from .reading import one_net, nets_of_cif
         return one_net(nets_of_cif(text, options), name)
 
     @classmethod
-    def from_ase(cls, atoms: Any, name: str | None = None, **options: Any) -> Net:
+    def from_ase(cls, atoms: Any, name: str | None = None, **options: Unpack[StructureOptions]) -> Net:
         """The one net of an `ase.Atoms`; along axes without periodicity it is bounded. Options as for `from_cif`."""
         from .reading import one_net, nets_of_ase
         return one_net(nets_of_ase(atoms, options), name)
 
     @classmethod
-    def from_pymatgen(cls, structure: Any, name: str | None = None, **options: Any) -> Net:
+    def from_pymatgen(cls, structure: Any, name: str | None = None, **options: Unpack[StructureOptions]) -> Net:
         """The one net of a `pymatgen.core.Structure`. Options as for `from_cif`."""
         from .reading import one_net, nets_of_pymatgen
         return one_net(nets_of_pymatgen(structure, options), name)

@@ -3,12 +3,13 @@
 from __future__ import annotations
 
 from dataclasses import dataclass
-from typing import Any
+from typing import Any, Unpack
 
 from .archive import Archive
 from .asking import DEFAULT, Archives, archive_of, single
 from .errors import NotANet
 from .net import Net
+from .options import StructureOptions
 from .outcome import ACCEPTED, Outcome, outcome_of
 from .program import reading_report, run
 from .texts.component_text import Part, parts_of_report
@@ -60,7 +61,7 @@ class Components:
         return sum(part.copies for part in self.parts)
 
 
-def components(source: Any, archive: Archives = DEFAULT, **options: Any) -> Components:
+def components(source: Any, archive: Archives = DEFAULT, **options: Unpack[StructureOptions]) -> Components:
     """What interpenetrates: the kinds of pieces of a net, how many of each, their keys and names.
 
     >>> woven = Net([(u, u, shift) for u in (1, 2) for shift in ((1, 0, 0), (0, 1, 0), (0, 0, 1))])

@@ -8,13 +8,13 @@ import os
 import re
 from collections.abc import Callable, Iterable, Iterator, Mapping
 from contextlib import contextmanager
-from dataclasses import fields
 from io import BytesIO
 from pathlib import Path
-from typing import TYPE_CHECKING, Any
+from typing import TYPE_CHECKING, Any, Unpack
 
 from .errors import NotANet, PackageMissing
 from .net import TOO_LONG, Net
+from .options import STRUCTURE_PACKAGES, StructureOptions, check_names, checked_options
 from .provenance import REFUSED, Note, notes_of
 from .texts.net_text import FIRST_TOKEN, HEADER, MOST_BYTES, OTHER_TEXTS, Chunk, chunks_of
 
@@ -34,16 +34,15 @@ PLAIN_BLOCK = re.compile(  # line by line: a row; a keyword; or nothing. ++ and 
     rb'|(?:NAME|ID)[ \t]++(?:"[^"\n]*+"|[^\s"#]++))|)[ \t\r]*+(?:#[^\n]*+)?\n)*+')
 NAME_LINE = re.compile(rb'(?i)[ \t]*(?:NAME|ID)[ \t]+(?:"([^"\n]*)"|([^\s"#]+))')
 BYTE_ORDER_MARK = b"\xef\xbb\xbf"
-STRUCTURE_PACKAGES = "apt-get install python3-gemmi python3-numpy python3-scipy python3-spglib"
 
 
-def read(source: Any, name: str = "", **options: Any) -> list[Net]:
+def read(source: Any, name: str = "", **options: Unpack[StructureOptions]) -> list[Net]:
     """All nets of what is given.
 
     source   a `Net`; a path of a file; a text, which is a str with a line feed, or bytes; an `ase.Atoms`; a
              `pymatgen` Structure or StructureGraph; a directed `networkx` graph with shifts; or edges (u, v, shift)
     name     what a text is called, as its file would be: `quartz.cif`; its ending tells the kind
-    options  those of `Net.from_cif`, for structures
+    options  of structures, as `StructureOptions` has them
 
     A file may be a CIF, or one of blocks or key lines as `.cgd` and `.arc`; of a folder all such files are read. Where a
     block gives no net, a Net with its `refusal` stands in its place. NotANet is raised where the source is of no such
@@ -51,6 +50,7 @@ def read(source: Any, name: str = "", **options: Any) -> list[Net]:
 
     >>> read("PERIODIC_GRAPH\\nNAME sql\\nEDGES\\n1 1 1 0\\n1 1 0 1\\nEND\\n")
     [<Net sql: 1 vertex, 2 edges, dimension 2>]"""
+    check_names(options)
     if isinstance(source, Net):
         return [source]
     if isinstance(source, (str, bytes, os.PathLike)):
@@ -68,7 +68,7 @@ def read(source: Any, name: str = "", **options: Any) -> list[Net]:
     raise NotANet(f"no net is read from {type(source).__name__}")
 
 
-def _nets_of_text(source: str | bytes | os.PathLike[str], name: str, options: Mapping[str, Any]) -> list[Net]:
+def _nets_of_text(source: str | bytes | os.PathLike[str], name: str, options: Mapping[str, object]) -> list[Net]:
     """The nets of a text, of a file, or of all files of a folder."""
     if not isinstance(source, bytes) and "\n" not in str(source) and os.path.isdir(source):
         files = [file for file in sorted(Path(source).iterdir()) if file.suffix.lower() in SUFFIXES]
@@ -86,12 +86,12 @@ def _is_cif(content: bytes, file: str) -> bool:
     return suffix in CIF_SUFFIXES or (suffix not in SUFFIXES and CIF.search(content) is not None)
 
 
-def _options_for(file: str, options: Mapping[str, Any]) -> Mapping[str, Any]:
+def _options_for(file: str, options: Mapping[str, object]) -> Mapping[str, object]:
     """The options, where the file is a structure."""
     return options if Path(file).suffix.lower() in CIF_SUFFIXES else {}
 
 
-def _without_options(nets: list[Net], options: Mapping[str, Any]) -> list[Net]:
+def _without_options(nets: list[Net], options: Mapping[str, object]) -> list[Net]:
     if options:
         raise TypeError(f"these options are for structures alone: {', '.join(sorted(options))}")
     return nets
@@ -206,11 +206,11 @@ def _name_of(lines: list[bytes]) -> str:
     return ""
 
 
-def nets_of_cif(source: str | bytes | os.PathLike[str], options: Mapping[str, Any], name: str = "") -> list[Net]:
+def nets_of_cif(source: str | bytes | os.PathLike[str], options: Mapping[str, object], name: str = "") -> list[Net]:
     """The nets of all blocks of a CIF, as cif2cgd reads them; the name is that of the file."""
     content, file = _content_of(source)
     file = name or file
-    wanted = _options_of(options)
+    wanted = checked_options(options)
     with _packages_of("a structure file"):
         from .structures.conversion import Conversion, Source, convert_block
         from .structures.reading.document import blocks_of
@@ -242,24 +242,9 @@ def _as_written(net: Net) -> Net:
     return net.named(net.graph.name)
 
 
-def _options_of(options: Mapping[str, Any]) -> Options:
-    """The options of cif2cgd. TypeError with the names that there are, where one is another."""
-    with _packages_of("a structure"):
-        from .structures.nets.choice import Options
-        from .structures.units.conventions import AUTO, CONVENTIONS
-    known = [entry.name for entry in fields(Options)]
-    unknown = sorted(set(options) - set(known))
-    if unknown:
-        raise TypeError(f"there is no option {unknown[0]!r}; there are {', '.join(known)}")
-    wanted = Options(**options)
-    if wanted.convention not in (AUTO, *CONVENTIONS):
-        raise NotANet(f"there is no convention {wanted.convention!r}; there are {', '.join([*CONVENTIONS, AUTO])}")
-    return wanted
-
-
-def nets_of_ase(atoms: Any, options: Mapping[str, Any]) -> list[Net]:
+def nets_of_ase(atoms: Any, options: Mapping[str, object]) -> list[Net]:
     """The nets of an `ase.Atoms`."""
-    wanted = _options_of(options)
+    wanted = checked_options(options)
     name = str(atoms.info.get("name") or atoms.get_chemical_formula(empirical=True))
     with _packages_of("a structure"):
         from .structures.reading.given import bounded_cell, crystal_of_atoms
@@ -268,9 +253,9 @@ def nets_of_ase(atoms: Any, options: Mapping[str, Any]) -> list[Net]:
     return _nets_of_crystal(lambda: crystal_of_atoms(name, cell, contents, places), name, wanted)
 
 
-def nets_of_pymatgen(structure: Any, options: Mapping[str, Any]) -> list[Net]:
+def nets_of_pymatgen(structure: Any, options: Mapping[str, object]) -> list[Net]:
     """The nets of a `pymatgen` structure; a site may have several elements with their occupancies."""
-    wanted = _options_of(options)
+    wanted = checked_options(options)
     name = str(structure.composition.reduced_formula)
     with _packages_of("a structure"):
         from .structures.reading.given import crystal_of_atoms

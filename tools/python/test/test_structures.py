@@ -1,12 +1,32 @@
 """Structures of other programs: atoms of ase, prototypes and graphs of pymatgen, structure files."""
 
+import dataclasses
 import json
+import sys
+import unittest
 from pathlib import Path
 
-from testing import IS_LONG, TOOLS, TOP, FolderTest, need_modules, need_program
+from testing import IS_LONG, TOOLS, TOP, FolderTest, long_test, need_modules, need_program, run
 
-from crystal_nets import Archive, Net, NotANet, identify, identify_all, read  # noqa: E402
+from crystal_nets import Archive, Net, NotANet, NotAnOption, StructureOptions, identify, identify_all, read  # noqa: E402
 
+ROCK_SALT = """data_rock_salt
+_cell_length_a 5.64
+_cell_length_b 5.64
+_cell_length_c 5.64
+_cell_angle_alpha 90
+_cell_angle_beta 90
+_cell_angle_gamma 90
+_symmetry_space_group_name_H-M 'F m -3 m'
+loop_
+_atom_site_label
+_atom_site_type_symbol
+_atom_site_fract_x
+_atom_site_fract_y
+_atom_site_fract_z
+Na1 Na 0 0 0
+Cl1 Cl 0.5 0.5 0.5
+"""
 KNOWN = ("dia,", "hcb,", "pcu,", "fcu,", "bcu,", "hcp,", "lon,", "flu,", "qtz,", "sql,", "nbo,")
 
 
@@ -21,6 +41,61 @@ class StructureTest(FolderTest):
     def name_of(self, structure: object, **options: object) -> str:
         answer = identify(structure, archive=self.archive, **options)
         return answer.names[0].split(",")[0] if answer.names else str(answer.outcome)
+
+
+class Options(unittest.TestCase):
+    """Options are read as the command line reads them, or told: none is ignored."""
+
+    def setUp(self):
+        need_modules("gemmi", "numpy", "scipy")
+
+    def test_each_option_of_the_reader_is_typed(self):
+        from crystal_nets.options import CONVENTION_NAMES
+        from crystal_nets.structures.nets.choice import Options as Read
+        from crystal_nets.structures.units.conventions import AUTO, CONVENTIONS
+        self.assertEqual(set(StructureOptions.__annotations__), {entry.name for entry in dataclasses.fields(Read)})
+        self.assertEqual(set(CONVENTION_NAMES), {*CONVENTIONS, AUTO})
+
+    def test_elements_are_whole_symbols(self):
+        self.assertEqual({net.vertices for net in read(ROCK_SALT, leave_out="N")}, {net.vertices for net in read(ROCK_SALT)})
+        for asked in ("Na", {"Na"}, ("Na",), ["Na"], "Na,F", frozenset(("Na",))):
+            net, = read(ROCK_SALT, leave_out=asked, lengths={"Cl-Cl": 4.1})
+            self.assertEqual({vertex[:2] for vertex in net.vertices}, {"Cl"}, asked)
+        for wrong in ({"na"}, {"Xx"}, "", "na", "NaCl", {""}, {1}, 3, None, b"Na"):
+            with self.assertRaises(NotAnOption, msg=repr(wrong)):
+                read(ROCK_SALT, leave_out=wrong)
+
+    def test_pairs_are_taken_in_each_writing(self):
+        for pair in (("Na", "Cl"), ("Cl", "Na"), frozenset(("Na", "Cl")), "Na-Cl"):
+            net, = read(ROCK_SALT, lengths={pair: 0, "Cl-Cl": 4.1, ("Na", "Na"): 0.0})
+            self.assertEqual({vertex[:2] for vertex in net.vertices}, {"Cl"}, pair)
+        for wrong in ({("Na", "Xx"): 3}, {("Na",): 3}, {"Na": 3}, {"Na-Cl-Na": 3}, {("Na", "Cl"): "3"}, {("Na", "Cl"): -1},
+                      {("Na", "Cl"): 20.5}, {("Na", "Cl"): float("nan")}, {("Na", "Cl"): True}, {("Na", "Cl"): None},
+                      {"Na-Cl": 3.0, ("Cl", "Na"): 4.0}, [("Na", "Cl", 3)], "Na-Cl=3", {3: 3}):
+            with self.assertRaises(NotAnOption, msg=repr(wrong)):
+                read(ROCK_SALT, lengths=wrong)
+
+    def test_what_is_ticked_is_true_or_false(self):
+        for name in ("keep_ions", "hydrogen_bonds", "partial_as_full", "accept_misfit", "every_copy"):
+            for wrong in ("no", 1, None, "False"):
+                with self.assertRaises(NotAnOption):
+                    read(ROCK_SALT, **{name: wrong})
+
+    def test_a_name_that_is_none_is_told_of_each_source(self):
+        for source in (ROCK_SALT, Net([(1, 1, (1, 0)), (1, 1, (0, 1))]), [(1, 1, (1, 0)), (1, 1, (0, 1))]):
+            with self.assertRaisesRegex(TypeError, "leave_out"):
+                read(source, leaveout={"Na"})
+
+    @long_test
+    def test_mypy_sees_a_name_that_is_none(self):
+        need_modules("mypy")
+        for words, is_right in (('leave_out={"Na"}, lengths={("Fe", "C"): 1.0}', True), ('leaveout={"Na"}', False),
+                                ('keep_ions="no"', False), ('convention="single-node"', False)):
+            code = f'from crystal_nets import identify\nidentify("x.cif", {words})\n'
+            done = run(sys.executable, "-m", "mypy", "--cache-dir", "/dev/null", "--enable-incomplete-feature=Unpack",
+                       "--follow-imports=silent", "--ignore-missing-imports", "-c", code, status=None, seconds=1800,
+                       MYPYPATH=str(TOOLS / "python"))
+            self.assertEqual(done.returncode == 0, is_right, (words, done.stdout))
 
 
 class Ase(StructureTest):
@@ -74,7 +149,7 @@ class Ase(StructureTest):
         self.assertEqual(self.name_of(atoms, leave_out={"Na"}, lengths={frozenset(("Cl",)): 4.1}), "fcu")
         with self.assertRaises(TypeError):
             read(atoms, no_such_option=True)
-        with self.assertRaises(NotANet):
+        with self.assertRaises(NotAnOption):
             read(atoms, convention="nobody's")
 
 

@@ -10,6 +10,7 @@ from typing import Any
 from flask import Flask, Response, request
 from werkzeug.exceptions import BadRequest, HTTPException
 
+from ..options import CONVENTION_NAMES
 from ..pictures.text import PALETTE
 from ..provenance import Provenance
 from . import questions
@@ -22,7 +23,6 @@ VIEWER = Path(__file__).resolve().parents[1] / "pictures/viewer.js"
 FILES = {"": (PAGE / "desk.html", "text/html"), "desk.css": (PAGE / "desk.css", "text/css"),
          "desk.js": (PAGE / "desk.js", "text/javascript"), "cards.js": (PAGE / "cards.js", "text/javascript"),
          "viewer.js": (VIEWER, "text/javascript"), "icon.svg": (PAGE / "icon.svg", "image/svg+xml")}
-CONVENTIONS = ("all-atoms", "single-nodes", "all-nodes", "pe", "pem", "standard", "auto")
 CHOICES = ("keep_ions", "hydrogen_bonds", "partial_as_full", "accept_misfit", "every_copy")
 GONE = 499  # nobody reads it
 NOT_THERE = "there is nothing at this address"
@@ -151,7 +151,7 @@ def provenance() -> Provenance:
 def options_of_form() -> dict[str, Any]:
     """How structures are read: the convention, and what is ticked."""
     convention = text("convention")
-    if convention not in CONVENTIONS:
+    if convention not in CONVENTION_NAMES:
         raise BadRequest("there is no such convention")
     ticked = list_of_texts("choices")
     if not set(ticked) <= set(CHOICES):
