@@ -6,6 +6,7 @@ import os
 import tempfile
 from collections.abc import Iterable, Iterator
 from functools import cache
+from importlib.resources import files
 from pathlib import Path
 
 from .errors import NotAnArchive, NotANet, ProgramFailed
@@ -15,7 +16,9 @@ from .texts.archive_text import Entry, entries_of
 from .texts.net_text import NoReport
 
 HERE = Path(__file__).resolve().parent
-SHARED = (  # the archives beside the package in the repository or an installation, and in a Debian package; and elsewhere
+SHARED = (  # the archives that pip puts into the package, or those beside it in the repository, in an installation and in a
+    # Debian package; and elsewhere
+    Path(str(files("crystal_nets") / "archives")),
     (HERE / "../../../archives").resolve(), (HERE / "../../../../share/net_tool/archives").resolve(),
     Path("/usr/local/share/net_tool/archives"), Path("/usr/share/net_tool/archives"))
 BAD_ARCHIVE = 5
@@ -111,7 +114,7 @@ def files_of(paths: Iterable[str | os.PathLike[str]]) -> list[Path]:
 def default_files() -> list[Path]:
     """The archives that look-up goes over where none is named."""
     home = os.environ.get("XDG_DATA_HOME") or os.path.join(os.path.expanduser("~"), ".local/share")
-    shared = next((folder for folder in SHARED if folder.is_dir()), SHARED[0])
+    shared = next((folder for folder in SHARED if folder.is_dir()), SHARED[1])
     return [file for folder in (shared, Path(home, "net_tool/archives")) for file in sorted(folder.glob("*.archive"))]
 
 
