@@ -13,7 +13,7 @@ from .options import StructureOptions
 from .outcome import ACCEPTED, Outcome, outcome_of
 from .program import reading_report, run
 from .texts.component_text import Part, parts_of_report
-from .texts.key_graph import graph_of_key
+from .texts.key_graph import TooLong, graph_of_key
 from .texts.net_text import NoReport
 
 
@@ -93,11 +93,14 @@ def _vertices_of(told: bytes, part: Part) -> int:
 
 
 def net_of_key(key: str) -> Net:
-    """A net with this key: a key lists the edges of the primitive graph. NotANet where the text is no key.
+    """A net with this key: a key lists the edges of the primitive graph. NotANet where the text is no key, or the net
+    has a shift past 500, which no block may have.
 
     >>> net_of_key("2 1 1 1 1 0 1 1 1 1 0").edges
     ((1, 1, (0, 1)), (1, 1, (1, 0)))"""
     try:
         return Net.of_graph(graph_of_key(key.encode()))
+    except TooLong as reason:
+        raise NotANet(f"the net of this key cannot be written as a block: {reason}") from None
     except (NoReport, ValueError) as reason:
         raise NotANet(f"{key[:60]!r} is no key of a net: {reason}") from None

@@ -160,6 +160,10 @@ class Parts(AnswerTest):
             with self.assertRaises(NotANet):
                 net_of_key(text)
 
+    def test_a_key_that_needs_a_long_shift_is_told_as_one(self):
+        with self.assertRaisesRegex(NotANet, r"(?!.*no key).*a shift past 500: \(.*600.*\)"):
+            net_of_key("2 1 3 1 1 0 1 1 1 1 0 1 1 600 1")
+
 
 class Covers(AnswerTest):
     def test_the_cover_is_the_same_net(self):
