@@ -148,13 +148,19 @@ class Answer:
         return self.net.name
 
     @property
+    def copies(self) -> int:
+        """How many nets alike are interwoven in the structure, of which this is one. It is not proved."""
+        return self.net.copies
+
+    @property
     def accepted(self) -> bool:
         """Whether the net has a key."""
         return self.outcome.accepted
 
     def __str__(self) -> str:
         what = "; ".join(self.names) or ("no name in the archive" if self.accepted else str(self.outcome))
-        return f"{self.name or 'net'}: {what}"
+        woven = f", one of {self.copies} interwoven copies" if self.copies > 1 else ""
+        return f"{self.name or 'net'}: {what}{woven}"
 
     def _repr_svg_(self) -> str | None:
         from .drawing import svg_of_answer
@@ -205,7 +211,8 @@ class Answers(Sequence[Answer]):
         return html_of_answers(self)
 
 
-COLUMNS = ("name", "outcome", "names", "dimension", "vertices", "edges", "classes", "D0", "key", "sequences", "notes")
+COLUMNS = ("name", "outcome", "names", "dimension", "vertices", "edges", "classes", "D0", "copies", "key", "sequences",
+           "notes")
 
 
 def to_pandas(answers: Sequence[Answer]) -> pandas.DataFrame:
@@ -215,6 +222,7 @@ def to_pandas(answers: Sequence[Answer]) -> pandas.DataFrame:
     names           in the archive, joined by `; `
     dimension, vertices, edges   of the quotient graph
     classes, D0     of the primitive graph and the placement; 0 where they were not asked for
+    copies          how many nets alike are interwoven in the structure, of which this is one
     key             a text, since its numbers may have 128 bits
     sequences       a tuple of the different coordination sequences, in rising order
     notes           joined by `; `"""
@@ -223,8 +231,8 @@ def to_pandas(answers: Sequence[Answer]) -> pandas.DataFrame:
     except ImportError:
         raise PackageMissing("pandas is not there; apt-get install python3-pandas") from None
     rows = [(answer.name, short_outcome(answer.outcome), "; ".join(answer.names), answer.dimension, answer.vertices,
-             answer.edges, answer.classes, answer.denominator, answer.key, tuple(sorted(set(answer.sequences))),
-             "; ".join(answer.notes)) for answer in answers]
+             answer.edges, answer.classes, answer.denominator, answer.copies, answer.key,
+             tuple(sorted(set(answer.sequences))), "; ".join(answer.notes)) for answer in answers]
     return pandas.DataFrame(rows, columns=list(COLUMNS))
 
 

@@ -62,6 +62,7 @@ class Sameness:
     map       the map, where they are the same and it can be written
     outcomes  of the two nets: why there is no answer
     text      `different`, `map`, or why no map is written
+    copies    of each net how many nets alike are interwoven in its structure: the answer is on one of each
 
     It is true as a condition where `same` is True, and raises NotANet where `same` is None."""
 
@@ -69,6 +70,13 @@ class Sameness:
     map: NetMap | None
     outcomes: tuple[Outcome, Outcome]
     text: str
+    copies: tuple[int, int] = (1, 1)
+
+    @property
+    def notes(self) -> tuple[str, ...]:
+        """What a reader should know of the answer: that a net is one of several interwoven ones."""
+        return tuple(f"the {which} is one of {copies} interwoven copies, and one is compared"
+                     for which, copies in zip(("first", "second"), self.copies) if copies > 1)
 
     def __bool__(self) -> bool:
         if self.same is None:
@@ -95,7 +103,7 @@ def same(one: Any, other: Any, **options: Unpack[StructureOptions]) -> Sameness:
     reasons = [str(outcome) for outcome in (first, second) if not outcome.accepted]
     if not reasons:
         raise ProgramFailed("net_tool same gave no map, and both nets have keys")
-    return Sameness(None, None, (first, second), reasons[0])
+    return Sameness(None, None, (first, second), reasons[0], _copies(nets))
 
 
 def _sameness(told: bytes, nets: list[Net]) -> Sameness:
@@ -106,7 +114,12 @@ def _sameness(told: bytes, nets: list[Net]) -> Sameness:
     if not re.fullmatch(r"different|map|long entries=\d+|wide value=-?\d+", word):
         raise ValueError(f"there is no pair {word[:60]!r}")
     read = _map_of(told, found.end(), nets) if word == "map" else None
-    return Sameness(word != "different", read, (ACCEPTED, ACCEPTED), word)
+    return Sameness(word != "different", read, (ACCEPTED, ACCEPTED), word, _copies(nets))
+
+
+def _copies(nets: list[Net]) -> tuple[int, int]:
+    first, second = nets
+    return first.copies, second.copies
 
 
 def _map_of(told: bytes, begin: int, nets: list[Net]) -> NetMap:

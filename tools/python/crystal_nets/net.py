@@ -153,6 +153,13 @@ class Net:
         return self.provenance.texts
 
     @property
+    def copies(self) -> int:
+        """How many nets alike are interwoven in the structure that it was read from, this one among them: 2 for
+        cuprite. It is 1 for other nets, and for layers, which lie beside each other."""
+        copies = self.provenance.copies
+        return copies if copies > 1 and not self.refusal and self.graph.dimension == 3 else 1
+
+    @property
     def block(self) -> bytes:
         """The text that the program is given: one block PERIODIC_GRAPH."""
         if self._block is None:

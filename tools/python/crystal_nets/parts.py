@@ -22,13 +22,13 @@ class Component:
     """One kind of pieces of a net: those over one component of its quotient graph, which translations carry to each
     other.
 
-    copies   how many such pieces the net has
+    copies   how many such pieces the net has; of a net that is one of N interwoven copies in a structure, all N count
     vertices of the quotient graph that they have
     outcome  `accepted`, or why the part has no key
     key      parts with equal keys are one kind of piece, and their copies add up
     names    in the archive
 
-    Proved, as `Answer` says."""
+    Proved, as `Answer` says, but for the N copies of a structure."""
 
     copies: int
     vertices: int
@@ -57,7 +57,8 @@ class Components:
 
     @property
     def pieces(self) -> int:
-        """How many pieces the net falls into; 1 where it is connected, 0 where that is not known."""
+        """How many pieces there are: those that the net falls into, and those of its interwoven copies in a structure;
+        1 where it is connected and alone, 0 where that is not known."""
         return sum(part.copies for part in self.parts)
 
 
@@ -73,13 +74,14 @@ def components(source: Any, archive: Archives = DEFAULT, **options: Unpack[Struc
         found, = parts_of_report(told.splitlines(keepends=True))
         if found.told:
             return Components(net, _outcome(found.told))
-        return Components(net, ACCEPTED, tuple(_component(part, told, names) for part in found.parts))
+        return Components(net, ACCEPTED, tuple(_component(part, net.copies, told, names) for part in found.parts))
 
 
-def _component(part: Part, told: bytes, archive: Archive | None) -> Component:
+def _component(part: Part, times: int, told: bytes, archive: Archive | None) -> Component:
     key = part.key.decode()
     names = archive.names(key) if archive and key else ()
-    return Component(part.copies, _vertices_of(told, part), outcome_of(part.told) if part.told else ACCEPTED, key, names)
+    outcome = outcome_of(part.told) if part.told else ACCEPTED
+    return Component(part.copies * times, _vertices_of(told, part), outcome, key, names)
 
 
 def _outcome(line: bytes) -> Outcome:

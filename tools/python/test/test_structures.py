@@ -8,7 +8,9 @@ from pathlib import Path
 
 from testing import IS_LONG, TOOLS, TOP, FolderTest, long_test, need_modules, need_program, run
 
-from crystal_nets import Archive, Net, NotANet, NotAnOption, StructureOptions, identify, identify_all, read  # noqa: E402
+from crystal_nets import (Archive, Net, NotANet, NotAnOption, StructureOptions, components, identify,  # noqa: E402
+                          identify_all, read, same)
+from crystal_nets.provenance import Provenance  # noqa: E402
 
 ROCK_SALT = """data_rock_salt
 _cell_length_a 5.64
@@ -96,6 +98,53 @@ class Options(unittest.TestCase):
                        "--follow-imports=silent", "--ignore-missing-imports", "-c", code, status=None, seconds=1800,
                        MYPYPATH=str(TOOLS / "python"))
             self.assertEqual(done.returncode == 0, is_right, (words, done.stdout))
+
+
+CUPRITE = """data_cuprite
+_cell_length_a 4.27
+_cell_length_b 4.27
+_cell_length_c 4.27
+_cell_angle_alpha 90
+_cell_angle_beta 90
+_cell_angle_gamma 90
+loop_
+_atom_site_label
+_atom_site_type_symbol
+_atom_site_fract_x
+_atom_site_fract_y
+_atom_site_fract_z
+O1 O 0 0 0
+O2 O 0.5 0.5 0.5
+Cu1 Cu 0.25 0.25 0.25
+Cu2 Cu 0.25 0.75 0.75
+Cu3 Cu 0.75 0.25 0.75
+Cu4 Cu 0.75 0.75 0.25
+"""
+
+
+class Interwoven(StructureTest):
+    def test_the_number_of_copies_goes_with_the_net(self):
+        net, = read(CUPRITE)
+        answer = identify(net, archive=self.archive)
+        self.assertEqual((net.copies, answer.copies), (2, 2))
+        self.assertRegex(str(answer), "dia.*, one of 2 interwoven copies")
+        self.assertIn("one of 2 interwoven copies", answer._repr_html_())
+        found = components(net, archive=self.archive)
+        self.assertEqual((found.pieces, [part.copies for part in found.parts]), (2, [2]))
+        compared = same(net, self.archive[next(name for name in self.archive if name.startswith("dia,"))])
+        self.assertTrue(compared)
+        self.assertEqual(compared.notes, ("the first is one of 2 interwoven copies, and one is compared",))
+
+    def test_one_net_is_one_of_one(self):
+        rock_salt, = read(ROCK_SALT)
+        self.assertEqual((rock_salt.copies, components(rock_salt, archive=None).pieces), (1, 1))
+        self.assertEqual(same(rock_salt, rock_salt).notes, ())
+        layers = Net([(1, 1, (1, 0)), (1, 1, (0, 1))]).of_provenance(Provenance(copies=2))
+        self.assertEqual(layers.copies, 1)
+
+    def test_tables_have_the_number(self):
+        need_modules("pandas")
+        self.assertEqual(list(identify_all([CUPRITE, ROCK_SALT], archive=None).to_pandas()["copies"]), [2, 1])
 
 
 class Ase(StructureTest):

@@ -47,7 +47,7 @@ def card(net: Net) -> dict[str, Any]:
 
 
 def _head(net: Net) -> dict[str, Any]:
-    return {"name": printable(net.name), "notes": [printable(note) for note in net.notes]}
+    return {"name": printable(net.name), "notes": [printable(note) for note in net.notes], "copies": net.copies}
 
 
 def _with_names(told: bytes, report: NetReport) -> str:
@@ -71,7 +71,7 @@ def _of_key(net: Net, report: NetReport) -> dict[str, Any]:
     shape = Shape(placed)
     view = view_of(shape)
     done |= {"cell": _cell(shape), "picture": card_of(report, view), "svg": picture(view, label_of(report))}
-    drawn = woven_copies(net, placed, net.provenance.copies)
+    drawn = woven_copies(net, placed, net.copies)
     return {**done, "woven": asdict(drawn)} if drawn else done
 
 

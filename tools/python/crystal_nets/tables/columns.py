@@ -13,10 +13,10 @@ from ..texts.row_text import ESCAPES
 if TYPE_CHECKING:
     import pandas
 
-OF_A_PIECE = ("source", "line", "name", "outcome", "dimension", "vertices", "edges", "classes", "D0", "key", "sequences",
-              "notes", "reason")
+OF_A_PIECE = ("source", "line", "name", "outcome", "dimension", "vertices", "edges", "classes", "D0", "copies", "key",
+              "sequences", "notes", "reason")
 TABLE = ("number", *OF_A_PIECE[:-2], "group", "names", "notes")
-NUMBERS = ("number", "line", "dimension", "vertices", "edges", "classes", "D0", "group")
+NUMBERS = ("number", "line", "dimension", "vertices", "edges", "classes", "D0", "copies", "group")
 QUOTE_NONE = 3  # of the module csv
 MARKS = {**{bytes((byte,)).decode("latin-1"): text.decode() for byte, text in ESCAPES.items()}, '"': "\\x22"}
 ESCAPED = re.compile(r"\\(x[0-9a-f]{2}|.)")

@@ -82,10 +82,11 @@ def _nets_of(portion: Portion, content: bytes, settings: dict[str, Any]) -> Iter
 
 def _row(source: str, answer: Answer) -> bytes:
     sizes = (answer.net.provenance.line, answer.dimension, answer.vertices, answer.edges, answer.classes, answer.denominator)
+    copies = str(answer.copies) if answer.vertices else ""
     at, dimension, vertices, edges, classes, scale = (str(size or "") for size in sizes)
     sequences = ";".join(" ".join(map(str, sequence)) for sequence in sorted(set(answer.sequences)))
     reason = "" if answer.accepted else str(answer.outcome)
     fields = (escaped(source), at, escaped(answer.name), short_outcome(answer.outcome), dimension, vertices, edges, classes,
-              scale, answer.key, sequences, joined(answer.notes), escaped(reason))
+              scale, copies, answer.key, sequences, joined(answer.notes), escaped(reason))
     assert len(fields) == len(OF_A_PIECE)
     return line_of(fields)

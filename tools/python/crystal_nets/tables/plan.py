@@ -14,7 +14,7 @@ from typing import Any, NamedTuple
 from ..reading import CIF, CIF_SUFFIXES, SUFFIXES
 from ..texts.net_text import FIRST_TOKEN, ITEM_WORDS, chunks_of
 
-FORM = "net_table 2"
+FORM = "net_table 3"
 MOST_BLOCKS = 1_000      # of a piece: few enough that little is lost where a run breaks off
 MOST_BYTES = 4_000_000
 MOST_STRUCTURES = 40     # files, which take longer than blocks
