@@ -18,6 +18,7 @@ parts      components: what interpenetrates
 covers     cover: a net on a larger cell
 groups     group: which of many nets are the same
 archive    archives of named nets, in memory
+symbols    the symbols that names begin with, as dia
 answers    what is answered, and tables of it; outcome: what became of a net
 drawing    pictures
 errors     what is raised
@@ -32,7 +33,7 @@ refusal     why a structure or a block gives no net
 What the tools share:
 commands      the commands by their names, as the scripts of the tools start them
 progress      how far some work is, on a terminal
-files         files that are written whole or not at all
+files         paths, and files that are written whole or not at all
 side_by_side  work in several processes
 
 The packages under them:
@@ -71,7 +72,8 @@ __version__ = "0.1"
 __all__ = ["Answer", "Answers", "Archive", "Component", "Components", "Cover", "CrystalNetsError", "Group", "Groups",
            "Net", "NetMap", "NotANet", "NotATable", "NotAnArchive", "NotAnOption", "Outcome", "PackageMissing",
            "Placement", "PrimitiveGraph", "ProgramFailed", "ProgramNotFound", "Sameness", "StructureOptions",
-           "components", "cover", "find_program", "group", "identify", "identify_all", "keys", "net_of_key", "read", "read_table", "same", "svg", "to_pandas"]
+           "components", "cover", "find_program", "group", "identify", "identify_all", "keys", "net_of_key", "read",
+           "read_table", "same", "svg", "to_pandas"]
 
 HOMES = {"answers": "Answer Answers Placement PrimitiveGraph to_pandas", "archive": "Archive",
          "asking": "identify identify_all keys", "covers": "Cover cover", "drawing": "svg",

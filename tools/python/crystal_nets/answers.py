@@ -14,6 +14,7 @@ from .graph import LabelledEdge, Vertex
 from .net import Net
 from .outcome import Outcome
 from .program import reading_report
+from .symbols import rcsr_address, symbols_of
 from .texts.graph_text import vertex_of
 from .texts.net_text import NetReport, nets_of_report
 
@@ -148,6 +149,21 @@ class Answer:
         return self.net.name
 
     @property
+    def symbol(self) -> str:
+        """The symbol that its names begin with, as `dia` of `dia, diamond`; empty where there is none. Where there are
+        several, it is the first in the order of the archives, and `symbols` has all."""
+        return next(iter(self.symbols), "")
+
+    @property
+    def symbols(self) -> tuple[str, ...]:
+        return symbols_of(self.names)
+
+    @property
+    def rcsr(self) -> str:
+        """The address of RCSR's page on the net; empty where no name has a symbol of RCSR. Nothing is asked there."""
+        return rcsr_address(self.names, self.dimension)
+
+    @property
     def copies(self) -> int:
         """How many nets alike are interwoven in the structure, of which this is one. It is not proved."""
         return self.net.copies
@@ -211,8 +227,8 @@ class Answers(Sequence[Answer]):
         return html_of_answers(self)
 
 
-COLUMNS = ("name", "outcome", "names", "dimension", "vertices", "edges", "classes", "D0", "copies", "key", "sequences",
-           "notes")
+COLUMNS = ("name", "outcome", "names", "symbol", "dimension", "vertices", "edges", "classes", "D0", "copies", "key",
+           "sequences", "notes")
 
 
 def to_pandas(answers: Sequence[Answer]) -> pandas.DataFrame:
@@ -220,6 +236,7 @@ def to_pandas(answers: Sequence[Answer]) -> pandas.DataFrame:
 
     name, outcome   texts; the outcome is `accepted`, or as `refused 5 Collision`
     names           in the archive, joined by `; `
+    symbol          that the first name with one begins with
     dimension, vertices, edges   of the quotient graph
     classes, D0     of the primitive graph and the placement; 0 where they were not asked for
     copies          how many nets alike are interwoven in the structure, of which this is one
@@ -230,8 +247,8 @@ def to_pandas(answers: Sequence[Answer]) -> pandas.DataFrame:
         import pandas
     except ImportError:
         raise PackageMissing("pandas is not there; apt-get install python3-pandas") from None
-    rows = [(answer.name, short_outcome(answer.outcome), "; ".join(answer.names), answer.dimension, answer.vertices,
-             answer.edges, answer.classes, answer.denominator, answer.copies, answer.key,
+    rows = [(answer.name, short_outcome(answer.outcome), "; ".join(answer.names), answer.symbol, answer.dimension,
+             answer.vertices, answer.edges, answer.classes, answer.denominator, answer.copies, answer.key,
              tuple(sorted(set(answer.sequences))), "; ".join(answer.notes)) for answer in answers]
     return pandas.DataFrame(rows, columns=list(COLUMNS))
 

@@ -10,10 +10,13 @@ from importlib.resources import files
 from pathlib import Path
 
 from .errors import NotAnArchive, NotANet, ProgramFailed
+from .files import checked_path, write_whole
 from .net import Net
 from .program import run
+from .symbols import symbol_of
+from .texts.graph_text import written_name
 from .texts.archive_text import Entry, entries_of
-from .texts.net_text import NoReport
+from .texts.net_text import MOST_BLOCKS, NoReport
 
 HERE = Path(__file__).resolve().parent
 SHARED = (  # the archives that pip puts into the package, or those beside it in the repository, in an installation and in a
@@ -21,7 +24,7 @@ SHARED = (  # the archives that pip puts into the package, or those beside it in
     Path(str(files("crystal_nets") / "archives")),
     (HERE / "../../../archives").resolve(), (HERE / "../../../../share/net_tool/archives").resolve(),
     Path("/usr/local/share/net_tool/archives"), Path("/usr/share/net_tool/archives"))
-BAD_ARCHIVE = 5
+BAD_ARCHIVE, ADD_REFUSED = 5, 9  # statuses
 
 
 class Archive:
@@ -38,13 +41,17 @@ class Archive:
     def __init__(self, entries: Iterable[tuple[str, str, Net]]) -> None:
         """Of names, keys and nets. That the keys are those of the nets is for the caller to know: `load` and `of` have
         them computed."""
+        self._entries: dict[tuple[str, str], Net] = {}
         self._nets: dict[str, Net] = {}
+        self._of_symbol: dict[str, Net] = {}
         names: dict[str, list[str]] = {}
         for name, key, net in entries:
-            self._nets.setdefault(name, net)
-            same = names.setdefault(key, [])
-            if name not in same:
-                same.append(name)
+            if (name, key) not in self._entries:
+                self._entries[name, key] = net
+                self._nets.setdefault(name, net)
+                self._of_symbol.setdefault(symbol_of(name), net)
+                names.setdefault(key, []).append(name)
+        self._of_symbol.pop("", None)
         self._names = {key: tuple(same) for key, same in names.items()}
 
     @classmethod
@@ -74,16 +81,39 @@ class Archive:
             entries.append((answer.name, answer.key, answer.net))
         return cls(entries)
 
+    @classmethod
+    def joined(cls, archives: Iterable[Archive]) -> Archive:
+        """Several archives as one, in their order."""
+        return cls(entry for archive in archives for entry in archive._items())
+
+    def _items(self) -> Iterator[tuple[str, str, Net]]:
+        return ((name, key, net) for (name, key), net in self._entries.items())
+
+    def __or__(self, other: Archive) -> Archive:
+        """The nets of both, those of the first one before."""
+        return Archive.joined((self, other)) if isinstance(other, Archive) else NotImplemented
+
+    def save(self, path: str | os.PathLike[str]) -> None:
+        """Writes it as a file of archives, which the program makes of the nets. NotAnArchive where a file cannot have
+        them: more than 4,096, a name of two different nets, or one that no entry may have."""
+        blocks = b"".join(_named_block(name, net) for name, _, net in self._items())
+        if not 0 < len(self._entries) <= MOST_BLOCKS:
+            raise NotAnArchive(f"a file of an archive has 1 to {MOST_BLOCKS:,} nets, and these are {len(self._entries):,}")
+        _, told = run("add", blocks, "-", allowed=(0, 1, ADD_REFUSED))
+        if not told.startswith(b"net_archive "):
+            raise NotAnArchive(f"it cannot be saved: {told.splitlines()[0].decode(errors='replace')}")
+        write_whole(checked_path(path, NotAnArchive), told)
+
     def names(self, key: str) -> tuple[str, ...]:
         """The names of exactly the entries with this key, in the order of the archives."""
         return self._names.get(key, ())
 
     def __getitem__(self, name: str) -> Net:
-        """The net of this name, of the first archive that has it."""
-        return self._nets[name]
+        """The net of this name, or of this symbol, as `dia` of `dia, diamond`; of the first archive that has it."""
+        return self._nets[name] if name in self._nets else self._of_symbol[name]
 
     def __contains__(self, name: object) -> bool:
-        return name in self._nets
+        return name in self._nets or name in self._of_symbol
 
     def __iter__(self) -> Iterator[str]:
         return iter(self._nets)
@@ -103,7 +133,7 @@ def _loaded(paths: tuple[str, ...]) -> Archive:
 def files_of(paths: Iterable[str | os.PathLike[str]]) -> list[Path]:
     """The archives of files and folders. NotAnArchive where a folder has none."""
     files: list[Path] = []
-    for path in map(Path, paths):
+    for path in (checked_path(path, NotAnArchive) for path in paths):
         found = sorted(path.glob("*.archive")) if path.is_dir() else [path]
         if not found:
             raise NotAnArchive(f"{path} has no archive")
@@ -139,6 +169,13 @@ def _check(content: bytes, path: Path) -> None:
         raise NotAnArchive(f"{path}: {told.splitlines()[0].decode(errors='replace')}")
     if not told.startswith(b"entries "):
         raise ProgramFailed(f"net_tool duplicates gave no report on {path}", status)
+
+
+def _named_block(name: str, net: Net) -> bytes:
+    """The block of a net under the name of its entry."""
+    if written_name(name) != name:
+        raise NotAnArchive(f"{name!r:.80} is no name that an entry of a file may have")
+    return Net.of_graph(net.graph.named(name)).block
 
 
 def _text(name: bytes) -> str:

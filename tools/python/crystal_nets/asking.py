@@ -30,7 +30,7 @@ class Default(Enum):
 
 
 DEFAULT = Default.ARCHIVES
-Archives = Archive | str | os.PathLike[str] | Iterable[str | os.PathLike[str]] | Default | None
+Archives = Archive | str | os.PathLike[str] | Iterable[Archive | str | os.PathLike[str]] | Default | None
 
 KINDS = ("refused", "malformed", "unsupported")  # of blocks without a key
 KEYED = re.compile(rb'net \d+ line (\d+)(?: "[^"\n]*")?\n(?:graph d=([23]) vertices=(\d+) edges=(\d+) repeats=\d+\n)?'
@@ -43,7 +43,8 @@ def identify(source: Any, archive: Archives = DEFAULT, **options: Unpack[Structu
     """Which net it is: placement, primitive graph, key, coordination sequences, and names in the archive.
 
     source   what `read` reads, with one net; NotANet is raised where it has several
-    archive  an `Archive`, paths of archives and folders, or None; the archives beside the package where none is given
+    archive  an `Archive`, a path of an archive or a folder, several of these, or None; the archives beside the package
+             where none is given
     options  of structures, as `convention="single-nodes"`
 
     What is proved and what is not, `Answer` says.
@@ -60,7 +61,8 @@ def identify(source: Any, archive: Archives = DEFAULT, **options: Unpack[Structu
     return _identified(nets, archive_of(archive), 1)[0]
 
 
-def identify_all(sources: Any, archive: Archives = DEFAULT, processes: int = 1, **options: Unpack[StructureOptions]) -> Answers:
+def identify_all(sources: Any, archive: Archives = DEFAULT, processes: int = 1,
+                 **options: Unpack[StructureOptions]) -> Answers:
     """The same of many nets: of a source that has several, as a file, or of an iterable of sources.
 
     processes  of the program, side by side"""
@@ -87,7 +89,8 @@ def archive_of(archive: Archives) -> Archive | None:
         return archive
     if isinstance(archive, Default):
         return Archive.default()
-    return Archive.load(*([archive] if isinstance(archive, (str, os.PathLike)) else archive))
+    given = [archive] if isinstance(archive, (str, os.PathLike)) else archive
+    return Archive.joined(item if isinstance(item, Archive) else Archive.load(item) for item in given)
 
 
 def _nets_of(sources: Any, options: StructureOptions) -> list[Net]:

@@ -66,6 +66,7 @@ def html_of_answer(answer: Answer) -> str:
     """The names, the picture and what is to be known of an answer."""
     rows = [("net", answer.name), ("names", "; ".join(answer.names)), ("outcome", str(answer.outcome)),
             ("vertices, edges", f"{answer.vertices}, {answer.edges}" if answer.vertices else "")]
+    rows += [("RCSR", answer.rcsr)]
     rows += [("copies", f"one of {answer.copies} interwoven copies")] if answer.copies > 1 else []
     rows += [("sequence", " ".join(map(str, sequence))) for sequence in sorted(set(answer.sequences))]
     rows += [("note", note) for note in answer.notes]

@@ -13,6 +13,7 @@ from pathlib import Path
 from typing import TYPE_CHECKING, Any, Unpack
 
 from .errors import NotANet, PackageMissing
+from .files import checked_path
 from .net import TOO_LONG, Net
 from .options import STRUCTURE_PACKAGES, StructureOptions, check_names, checked_options
 from .provenance import REFUSED, Note, notes_of
@@ -115,7 +116,8 @@ def _content_of(source: str | bytes | os.PathLike[str]) -> tuple[bytes, str]:
         return source, ""
     if isinstance(source, str) and ("\n" in source or not source.strip()):
         return source.encode(errors="surrogateescape"), ""
-    return Path(source).read_bytes(), Path(source).name
+    path = checked_path(source, NotANet)
+    return path.read_bytes(), path.name
 
 
 @contextmanager

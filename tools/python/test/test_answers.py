@@ -212,6 +212,41 @@ class Archives(AnswerTest):
             self.assertEqual(identify(DIA, archive=archive).names, ("dia", "diamond"))
         self.assertTrue(same(joined["diamond"], DIA))
 
+    def test_symbols_stand_for_names(self):
+        named = [DIA.named("dia, diamond"), PCU.named("PCU, a code"), SQL.named("square lattice")]
+        archive = Archive.of(named)
+        self.assertEqual(archive["dia"], archive["dia, diamond"])
+        self.assertTrue("dia" in archive and "PCU" in archive and "square" not in archive and "" not in archive)
+        self.assertEqual(list(archive), ["dia, diamond", "PCU, a code", "square lattice"])
+        with self.assertRaises(KeyError):
+            archive["pcu"]
+        answers = identify_all([DIA, PCU, SQL], archive=archive)
+        self.assertEqual([answer.symbol for answer in answers], ["dia", "PCU", ""])
+        self.assertEqual([answer.rcsr for answer in answers], ["https://rcsr.net/nets/dia", "", ""])
+        self.assertIn("https://rcsr.net/nets/dia", answers[0]._repr_html_())
+        both = identify(DIA, archive=archive | Archive.of([DIA.named("DIA"), DIA.named("dia"), DIA]))
+        self.assertEqual((both.symbols, len(both.names)), (("dia", "DIA"), 3))
+
+    def test_archives_are_joined_and_saved(self):
+        one, other = Archive.of([DIA, PCU]), Archive.of([DIA.named("diamond"), PCU, SQL])
+        joined = one | other
+        self.assertEqual(list(joined), ["dia", "pcu", "diamond", "sql"])
+        joined.save(self.folder / "joined.archive")
+        again = Archive.load(self.folder / "joined.archive")
+        self.assertEqual((list(again), repr(again)), (list(joined), repr(joined)))
+        for archive in ([one, self.folder / "joined.archive"], [one, other], joined):
+            self.assertEqual(identify(DIA, archive=archive).names, ("dia", "diamond"))
+        self.assertTrue(same(again["sql"], SQL))
+        with self.assertRaises(TypeError):
+            one | "joined.archive"
+
+    def test_what_a_file_cannot_have_is_told(self):
+        for archive, word in ((Archive([]), "1 to 4,096"), (Archive.of([DIA]) | Archive.of([PCU.named("dia")]), "NameTaken"),
+                              (Archive.of([DIA.named('a"b')]), "no name"), (Archive.of([DIA.named("x" * 201)]), "name")):
+            with self.assertRaisesRegex(NotAnArchive, word):
+                archive.save(self.folder / "absent.archive")
+        self.assertFalse((self.folder / "absent.archive").exists())
+
     def test_nothing_in_a_file_is_trusted(self):
         source = self.folder / "nets.cgd"
         source.write_bytes(PCU.block)

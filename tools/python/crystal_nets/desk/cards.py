@@ -18,6 +18,7 @@ from ..pictures.svg import picture
 from ..pictures.text import label_of, printable
 from ..pictures.view import view_of
 from ..program import run
+from ..symbols import rcsr_address
 from ..texts.net_text import NetReport, nets_of_report
 from .archives import names_of
 from .reasons import reason_of, unread
@@ -63,6 +64,7 @@ def _with_names(told: bytes, report: NetReport) -> str:
 def _of_key(net: Net, report: NetReport) -> dict[str, Any]:
     key = report.key.decode()
     done = {"key": key, "names": [{"archive": stem, "name": printable(name)} for stem, name in names_of(key)],
+            "rcsr": rcsr_address([name for _, name in names_of(key)], report.graph[b"d"]),
             "sequences": _sequences(report.shells), "scale": report.scale, "classes": report.classes}
     try:
         placed = placed_net(report)

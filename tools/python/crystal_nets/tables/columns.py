@@ -8,6 +8,7 @@ from pathlib import Path
 from typing import TYPE_CHECKING
 
 from ..errors import NotATable, PackageMissing
+from ..files import checked_path
 from ..texts.row_text import ESCAPES
 
 if TYPE_CHECKING:
@@ -50,7 +51,8 @@ def read_table(path: str | os.PathLike[str]) -> pandas.DataFrame:
         import pandas
     except ImportError:
         raise PackageMissing("pandas is not there; apt-get install python3-pandas") from None
-    file = Path(path) / "table.tsv" if Path(path).is_dir() else Path(path)
+    place = checked_path(path, NotATable)
+    file = place / "table.tsv" if place.is_dir() else place
     _check_lines(file)
     try:
         return pandas.read_csv(file, sep="\t", dtype={name: "Int64" if name in NUMBERS else "str" for name in TABLE},

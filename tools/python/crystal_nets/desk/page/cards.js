@@ -70,6 +70,7 @@ function sizesOf(card) {
     ['primitive', card.classes ? `${count(card.classes, 'vertex', 'vertices')}, ${count(cell.kinds, 'kind', 'kinds')}, ` +
       `${cell.degrees.join(', ')}-connected` : ''],
     ['cell', cell ? cellText(cell) : ''],
+    ['RCSR', card.rcsr ? make('code', {}, card.rcsr) : ''],
     ['sequences', shells.length ? make('span', {}, ...shells) : '']]);
 }
 
