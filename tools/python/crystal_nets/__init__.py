@@ -11,6 +11,7 @@ chemistry, and no theorem.
 The modules that a user calls:
 net        a net, from edges and whatever else there is
 reading    files, atoms of ase and pymatgen, graphs of networkx
+other_forms  POSCAR texts, and the JSON of pymatgen
 options    how structures are read
 asking     identify, identify_all, keys
 maps       same: whether two nets are isomorphic, with the map
@@ -18,6 +19,7 @@ parts      components: what interpenetrates
 covers     cover: a net on a larger cell
 groups     group: which of many nets are the same
 archive    archives of named nets, in memory
+json_forms  nets and answers as dicts, and back
 symbols    the symbols that names begin with, as dia
 answers    what is answered, and tables of it; outcome: what became of a net
 drawing    pictures

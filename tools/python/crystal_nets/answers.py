@@ -2,6 +2,7 @@
 
 from __future__ import annotations
 
+import json
 import re
 from collections.abc import Iterator, Sequence
 from dataclasses import dataclass, field
@@ -9,7 +10,7 @@ from fractions import Fraction
 from functools import cached_property
 from typing import TYPE_CHECKING, Any, overload
 
-from .errors import PackageMissing
+from .errors import PackageMissing, in_one_line
 from .graph import LabelledEdge, Vertex
 from .net import Net
 from .outcome import Outcome
@@ -40,7 +41,10 @@ class Placement:
     (Fraction(-1, 4), Fraction(-1, 4), Fraction(-1, 4))"""
 
     denominator: int
-    positions: dict[Vertex, tuple[int, ...]]
+    positions: dict[Vertex, tuple[int, ...]] = field(hash=False)
+
+    def __repr__(self) -> str:
+        return f"<Placement: {len(self.positions)} vertices, D0={self.denominator}>"
 
     def __getitem__(self, vertex: Vertex) -> tuple[Fraction, ...]:
         """The position of a vertex in fractions of the cell."""
@@ -63,6 +67,9 @@ class PrimitiveGraph:
     vertices: int
     basis: tuple[tuple[int, ...], ...]
     edges: tuple[LabelledEdge, ...]
+
+    def __repr__(self) -> str:
+        return f"<PrimitiveGraph: {self.vertices} classes, {len(self.edges)} edges, dimension {len(self.basis)}>"
 
     @property
     def net(self) -> Net:
@@ -173,6 +180,23 @@ class Answer:
         """Whether the net has a key."""
         return self.outcome.accepted
 
+    def to_dict(self) -> dict[str, Any]:
+        """All of it as JSON has it; `from_dict` makes the answer of it."""
+        from .json_forms import fields_of_answer
+        return fields_of_answer(self)
+
+    def to_json(self) -> str:
+        return json.dumps(self.to_dict())
+
+    @classmethod
+    def from_dict(cls, fields: dict[str, Any]) -> Answer:
+        """The answer of what `to_dict` gave. NotANet where these are no such fields."""
+        from .json_forms import answer_of_fields
+        return answer_of_fields(fields)
+
+    def __repr__(self) -> str:
+        return in_one_line(f"<Answer {self}>")
+
     def __str__(self) -> str:
         what = "; ".join(self.names) or ("no name in the archive" if self.accepted else str(self.outcome))
         woven = f", one of {self.copies} interwoven copies" if self.copies > 1 else ""
@@ -208,6 +232,13 @@ class Answers(Sequence[Answer]):
 
     def __eq__(self, other: object) -> bool:
         return isinstance(other, Answers) and self._answers == other._answers
+
+    def __hash__(self) -> int:
+        return hash(self._answers)
+
+    def to_json(self) -> str:
+        """A list of what `Answer.to_dict` gives."""
+        return json.dumps([answer.to_dict() for answer in self])
 
     def __repr__(self) -> str:
         with_key = sum(answer.accepted for answer in self)

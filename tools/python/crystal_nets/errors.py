@@ -10,6 +10,11 @@ def in_words(fault: Exception) -> str:
     return str(fault)
 
 
+def in_one_line(text: str) -> str:
+    """A text without line feeds, for what is shown in one line."""
+    return " ".join(text.split())
+
+
 class CrystalNetsError(Exception):
     """Anything that this package raises by itself."""
 

@@ -7,7 +7,8 @@ from dataclasses import dataclass
 from typing import Any, Unpack
 
 from .answers import Answer, Answers
-from .asking import Archives, keys
+from .asking import Archives, keys, nets_of
+from .errors import in_one_line
 from .options import StructureOptions
 
 
@@ -24,6 +25,9 @@ class Group:
     def __len__(self) -> int:
         return len(self.places)
 
+    def __repr__(self) -> str:
+        return in_one_line(f"<Group: {len(self)} nets, {'; '.join(self.names) or self.key[:40]}>")
+
     @property
     def names(self) -> tuple[str, ...]:
         """In the archive, where one was given."""
@@ -38,6 +42,9 @@ class Groups:
 
     groups: tuple[Group, ...]
     keyless: Answers
+
+    def __repr__(self) -> str:
+        return f"<Groups: {len(self)} groups, {len(self.keyless)} nets without a key>"
 
     def __iter__(self) -> Iterator[Group]:
         return iter(self.groups)
@@ -57,7 +64,7 @@ def group(sources: Any, archive: Archives = None, processes: int = 1, **options:
     >>> honeycomb = [(1, 2, (0, 0)), (1, 2, (1, 0)), (1, 2, (0, 1))]
     >>> [entry.places for entry in group([Net(square), Net(honeycomb), Net(wide)])]
     [(0, 2), (1,)]"""
-    answers = keys(sources, archive, processes, **options)
+    answers = keys(nets_of(sources, options), archive, processes)
     found: dict[str, list[tuple[int, Answer]]] = {}
     for place, answer in enumerate(answers):
         if answer.key:

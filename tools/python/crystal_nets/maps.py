@@ -8,7 +8,7 @@ from itertools import product
 from typing import Any, Unpack
 
 from .asking import keys, single
-from .errors import NotANet, ProgramFailed
+from .errors import NotANet, ProgramFailed, in_one_line
 from .graph import Vertex
 from .net import Net
 from .options import StructureOptions
@@ -34,9 +34,12 @@ class NetMap:
     and no placement."""
 
     period: int
-    images: dict[Place, Place]
+    images: dict[Place, Place] = field(hash=False)
     base: tuple[tuple[int, ...], ...]
-    text: str = field(repr=False)
+    text: str
+
+    def __repr__(self) -> str:
+        return f"<NetMap: {len(self.images)} rows, period {self.period}>"
 
     def __call__(self, vertex: Vertex, cell: tuple[int, ...] | None = None) -> Place:
         """Where a vertex of any cell goes; the cell is 0 where none is given."""
@@ -71,6 +74,10 @@ class Sameness:
     outcomes: tuple[Outcome, Outcome]
     text: str
     copies: tuple[int, int] = (1, 1)
+
+    def __repr__(self) -> str:
+        word = {True: "same", False: "different", None: f"not known, {self.text}"}[self.same]
+        return in_one_line("; ".join((f"<Sameness: {word}", *self.notes)) + ">")
 
     @property
     def notes(self) -> tuple[str, ...]:

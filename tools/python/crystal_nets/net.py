@@ -2,11 +2,12 @@
 
 from __future__ import annotations
 
+import json
 import operator
 from collections.abc import Iterable
 from typing import TYPE_CHECKING, Any, Unpack
 
-from .errors import NotANet, PackageMissing
+from .errors import NotANet, PackageMissing, in_one_line
 from .graph import LabelledEdge, QuotientGraph, Vertex
 from .options import StructureOptions
 from .provenance import Note, Provenance, notes_of
@@ -195,6 +196,20 @@ class Net:
         """2 or 3: the length of the shifts."""
         return len(self.edges[0][2])
 
+    def to_dict(self) -> dict[str, Any]:
+        """Its name, block, refusal and provenance, as JSON has them; `from_dict` makes the net of them."""
+        from .json_forms import fields_of_net
+        return fields_of_net(self)
+
+    def to_json(self) -> str:
+        return json.dumps(self.to_dict())
+
+    @classmethod
+    def from_dict(cls, fields: dict[str, Any]) -> Net:
+        """The net of what `to_dict` gave. NotANet where these are no such fields."""
+        from .json_forms import net_of_fields
+        return net_of_fields(fields)
+
     def to_networkx(self) -> networkx.MultiDiGraph[Any]:
         """A `networkx.MultiDiGraph` with the attribute `shift` of each edge, and the name of the net as its own."""
         try:
@@ -219,13 +234,13 @@ class Net:
     def __repr__(self) -> str:
         name = f" {self.name}" if self.name else ""
         if self.refusal:
-            return f"<Net{name}: unreadable, {self.refusal}>"
+            return in_one_line(f"<Net{name}: unreadable, {self.refusal}>")
         try:
             vertices, edges = len(self.vertices), len(self.edges)
             sizes = f"{vertices} {'vertex' if vertices == 1 else 'vertices'}, {edges} edge{'s' * (edges != 1)}"
-            return f"<Net{name}: {sizes}, dimension {self.dimension}>"
+            return in_one_line(f"<Net{name}: {sizes}, dimension {self.dimension}>")
         except (NotANet, IndexError):
-            return f"<Net{name}: a block of {len(self.block)} bytes>"
+            return in_one_line(f"<Net{name}: a block of {len(self.block)} bytes>")
 
     def _repr_svg_(self) -> str | None:
         from .drawing import svg_or_none

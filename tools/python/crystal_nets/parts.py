@@ -7,7 +7,7 @@ from typing import Any, Unpack
 
 from .archive import Archive
 from .asking import DEFAULT, Archives, archive_of, single
-from .errors import NotANet
+from .errors import NotANet, in_one_line
 from .net import Net
 from .options import StructureOptions
 from .outcome import ACCEPTED, Outcome, outcome_of
@@ -54,6 +54,10 @@ class Components:
     net: Net
     outcome: Outcome
     parts: tuple[Component, ...] = ()
+
+    def __repr__(self) -> str:
+        told = [f"{part.copies} of {'; '.join(part.names) or part.key[:40] or part.outcome}" for part in self.parts]
+        return in_one_line(f"<Components: {', '.join(told) or self.outcome}>")
 
     @property
     def pieces(self) -> int:

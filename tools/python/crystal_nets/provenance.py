@@ -35,20 +35,27 @@ class Provenance:
     convention  what became its vertices, as `all-atoms`; empty where the net is of no structure
     made        of how many atoms, or by which group and edges; empty where the block was written out
     copies      how many nets alike are woven into each other in the structure, of which this is one
-    line        of the text that it was read from, which opens its block; 0 where it is of no block"""
+    line        of the text that it was read from, which opens its block; 0 where it is of no block
+    file        that it was read from, as it was named; empty where it is of no file
+    block       of that file, as a CIF names it
+    source      of several that were given: its key or its place; empty where one was given"""
 
     notes: tuple[Note, ...] = ()
     convention: str = ""
     made: str = ""
     copies: int = 1
     line: int = 0
+    file: str = ""
+    block: str = ""
+    source: str = ""
 
     @classmethod
     def from_dict(cls, fields: dict[str, Any]) -> Provenance:
         """What `to_dict` gave. ValueError where these are no such fields."""
         try:
             notes = tuple(Note(str(kind), str(text)) for kind, text in fields["notes"])
-            return cls(notes, str(fields["convention"]), str(fields["made"]), int(fields["copies"]), int(fields["line"]))
+            return cls(notes, str(fields["convention"]), str(fields["made"]), int(fields["copies"]), int(fields["line"]),
+                       *(str(fields.get(name, "")) for name in ("file", "block", "source")))
         except (KeyError, TypeError) as fault:
             raise ValueError(f"no provenance: {fault}") from None
 
@@ -68,6 +75,10 @@ class Provenance:
     def at_line(self, line: int) -> Provenance:
         """The same of a net whose block opens at this line."""
         return replace(self, line=line)
+
+    def read_from(self, file: str = "", block: str = "", source: str = "") -> Provenance:
+        """The same of a net of this file, block and source; what is empty stays as it is."""
+        return replace(self, file=file or self.file, block=block or self.block, source=source or self.source)
 
     def noted(self, before: Iterable[Note] = (), after: Iterable[Note] = ()) -> Provenance:
         """The same with more notes before and after those that it has."""

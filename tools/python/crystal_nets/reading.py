@@ -9,12 +9,13 @@ import re
 from collections.abc import Callable, Iterable, Iterator, Mapping
 from contextlib import contextmanager
 from io import BytesIO
-from pathlib import Path
+from pathlib import Path, PurePath
 from typing import TYPE_CHECKING, Any, Unpack
 
 from .errors import NotANet, PackageMissing
 from .files import checked_path
 from .net import TOO_LONG, Net
+from .other_forms import atoms_of_poscar, is_json, is_poscar, is_structure, structure_of_fields, structure_of_json
 from .options import STRUCTURE_PACKAGES, StructureOptions, check_names, checked_options
 from .provenance import REFUSED, Note, notes_of
 from .texts.net_text import FIRST_TOKEN, HEADER, MOST_BYTES, OTHER_TEXTS, Chunk, chunks_of
@@ -41,11 +42,13 @@ def read(source: Any, name: str = "", **options: Unpack[StructureOptions]) -> li
     """All nets of what is given.
 
     source   a `Net`; a path of a file; a text, which is a str with a line feed, or bytes; an `ase.Atoms`; a
-             `pymatgen` Structure or StructureGraph; a directed `networkx` graph with shifts; or edges (u, v, shift)
+             `pymatgen` Structure or StructureGraph, or the dict of one; a directed `networkx` graph with shifts; or edges
+             (u, v, shift)
     name     what a text is called, as its file would be: `quartz.cif`; its ending tells the kind
     options  of structures, as `StructureOptions` has them
 
-    A file may be a CIF, or one of blocks or key lines as `.cgd` and `.arc`; of a folder all such files are read. Where a
+    A file may be a CIF, a POSCAR, the JSON of a `pymatgen` Structure, or one of blocks or key lines as `.cgd` and `.arc`;
+    of a folder all files are read whose names end with .cif, .mcif, .cgd or .arc. Where a
     block gives no net, a Net with its `refusal` stands in its place. NotANet is raised where the source is of no such
     kind, and OSError where a file cannot be read.
 
@@ -60,6 +63,8 @@ def read(source: Any, name: str = "", **options: Unpack[StructureOptions]) -> li
         return nets_of_ase(source, options)
     if hasattr(source, "frac_coords"):
         return nets_of_pymatgen(source, options)
+    if isinstance(source, Mapping) and is_structure(source):
+        return nets_of_pymatgen(structure_of_fields(source), options)
     if hasattr(source, "graph") and hasattr(source, "structure"):
         return _without_options([net_of_networkx(source.graph)], options)
     if hasattr(source, "is_directed") and hasattr(source, "edges"):
@@ -75,7 +80,16 @@ def _nets_of_text(source: str | bytes | os.PathLike[str], name: str, options: Ma
         files = [file for file in sorted(Path(source).iterdir()) if file.suffix.lower() in SUFFIXES]
         return [net for file in files for net in _nets_of_text(file, "", _options_for(file.name, options))]
     content, file = _content_of(source)
-    file = name or file
+    nets = _nets_of_content(content, name or file, options)
+    return [net.of_provenance(net.provenance.read_from(os.fspath(source))) for net in nets] if file else nets
+
+
+def _nets_of_content(content: bytes, file: str, options: Mapping[str, object]) -> list[Net]:
+    if is_poscar(file, content):
+        return [net.named(PurePath(file).stem) if file else net for net in nets_of_ase(atoms_of_poscar(content), options)]
+    if is_json(content):
+        nets = nets_of_pymatgen(structure_of_json(content), options)
+        return [net.named(PurePath(file).stem) if file else net for net in nets]
     if _is_cif(content, file):
         return nets_of_cif(content, options, file)
     return _without_options(nets_of_cgd(content), options)
@@ -226,7 +240,8 @@ def nets_of_cif(source: str | bytes | os.PathLike[str], options: Mapping[str, ob
     for block in blocks:
         done = Conversion(Source(file or "-", stem, stem))
         convert_block(block, block.name, wanted, done)
-        nets += _nets_of_conversion(done, block.name)
+        nets += [net.of_provenance(net.provenance.read_from(block=block.cif.name))
+                 for net in _nets_of_conversion(done, block.name)]
     return nets
 
 

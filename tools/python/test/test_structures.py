@@ -147,6 +147,55 @@ class Interwoven(StructureTest):
         self.assertEqual(list(identify_all([CUPRITE, ROCK_SALT], archive=None).to_pandas()["copies"]), [2, 1])
 
 
+POSCAR = """rock salt
+5.64
+ 0 .5 .5
+ .5 0 .5
+ .5 .5 0
+Na Cl
+1 1
+Direct
+0 0 0
+.5 .5 .5
+"""
+
+
+class OtherForms(StructureTest):
+    def test_a_poscar_is_read_by_its_name_and_by_its_text(self):
+        need_modules("ase")
+        for name in ("POSCAR", "x.vasp", "CONTCAR.1", "x_POSCAR"):
+            path = self.folder / name
+            path.write_text(POSCAR)
+            net, = read(path)
+            self.assertEqual((len(net.vertices), net.provenance.file), (2, str(path)))
+        self.assertEqual(self.name_of(POSCAR), "pcu")
+        self.assertEqual(len(read(POSCAR.encode(), leave_out="Na", lengths={"Cl-Cl": 4.1})[0].vertices), 1)
+        with self.assertRaises(NotANet):
+            read(POSCAR.rpartition("0 0 0")[0], name="POSCAR")
+
+    def test_the_json_of_pymatgen(self):
+        need_modules("pymatgen")
+        from pymatgen.core import Lattice, Structure
+        structure = Structure.from_spacegroup("Fm-3m", Lattice.cubic(5.64), ["Na", "Cl"], [[0, 0, 0], [0.5, 0.5, 0.5]])
+        path = self.folder / "salt.json"
+        path.write_text(structure.to_json())
+        for source in (structure.as_dict(), structure.to_json() + "\n", path):
+            self.assertEqual(self.name_of(source), "pcu")
+        self.assertEqual(read(path)[0].name, "salt")
+        self.assertEqual(len(identify_all([structure.as_dict()] * 2, archive=None)), 2)
+        for wrong in ({"lattice": 1, "sites": 2}, '{"lattice": 1, "sites": [\n', '{"lattice": {}, "sites": []}\n'):
+            with self.assertRaises(NotANet):
+                read(wrong)
+        with self.assertRaises(NotANet):
+            identify_all(structure.as_dict())
+
+    def test_a_net_knows_where_it_is_from(self):
+        path = self.folder / "two.cif"
+        path.write_text(ROCK_SALT + CUPRITE)
+        told = [(net.provenance.file, net.provenance.block, net.provenance.convention) for net in read(path)]
+        self.assertEqual(told, [(str(path), "rock_salt", "all-atoms"), (str(path), "cuprite", "all-atoms")])
+
+
 class Ase(StructureTest):
     def setUp(self):
         super().setUp()
