@@ -105,6 +105,17 @@ class Table(FolderTest):
     def make(self, *words: object, status: int | None = 1) -> subprocess.CompletedProcess:
         return run(NET_TABLE, self.source, self.result, "--archive", self.archives, *words, status=status)
 
+    def test_a_structure_tells_how_many_nets_are_interwoven(self):
+        places = {"O": ["0 0 0", ".5 .5 .5"], "Cu": [".25 .25 .25", ".25 .75 .75", ".75 .25 .75", ".75 .75 .25"]}
+        atoms = "".join(f"{element} {place}\n" for element, found in places.items() for place in found)
+        cell = "".join(f"_cell_length_{axis} 4.27\n" for axis in "abc")
+        cell += "".join(f"_cell_angle_{angle} 90\n" for angle in ("alpha", "beta", "gamma"))
+        self.source = self.folder / "cuprite.cif"
+        self.source.write_text("data_x\n" + cell + "loop_\n_atom_site_label\n" + "".join(
+            f"_atom_site_fract_{axis}\n" for axis in "xyz") + atoms)
+        self.make("--jobs", 1, status=0)
+        self.assertEqual([row["copies"] for row in table_of(self.result)], ["2"])
+
     def test_a_table_of_blocks(self):
         told = self.make("--jobs", 1).stdout.decode()
         self.assertIn("5 nets, 2 with a key, 1 different, 2 with a name, 3 refused", told)

@@ -39,9 +39,9 @@ def memory_for_program() -> int:
 class Server:
     """net_desk as a user starts it, with the words given."""
 
-    def __init__(self, *words: object, **settings: str) -> None:
+    def __init__(self, *words: object, browser: bool = False, **settings: str) -> None:
         self.home = tempfile.mkdtemp(prefix="net_tools_test.")
-        command = [sys.executable, str(DESK), "--no-browser", *map(str, words)]
+        command = [sys.executable, str(DESK), *([] if browser else ["--no-browser"]), *map(str, words)]
         self.process = subprocess.Popen(
             command, stdout=subprocess.PIPE, stderr=subprocess.PIPE, text=True, start_new_session=True,
             env={**os.environ, "NET_TOOL": PROGRAM, "XDG_DATA_HOME": self.home, "PYTHONDONTWRITEBYTECODE": "1", **settings})

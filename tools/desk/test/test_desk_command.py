@@ -7,7 +7,7 @@ import subprocess
 import time
 from pathlib import Path
 
-from desk import DESK, Server, form_of, need_desk
+from desk import DESK, Server, descendants, form_of, need_desk
 from testing import FolderTest, run
 
 need_desk()
@@ -45,6 +45,42 @@ class Beginning(FolderTest):
         self.assertIn("absent.cif cannot be read", self.fault(self.folder / "absent.cif"))
         self.assertIn("is a folder", self.fault(self.folder))
 
+    def test_a_pipe_or_a_device_is_no_file(self):
+        os.mkfifo(self.folder / "pipe.cif")
+        for path in (self.folder / "pipe.cif", "/dev/zero"):
+            self.assertIn("is no file, but a pipe or a device", self.fault(path))
+
+    def test_a_file_that_becomes_a_pipe(self):
+        path = self.folder / "a.cgd"
+        path.write_bytes(SQL)
+        server = Server(path)
+        self.assertEqual(server.request("GET", "given/0")[2], SQL)
+        path.unlink()
+        os.mkfifo(path)
+        status, _, told = server.request("GET", "given/0")
+        server.end()
+        self.assertEqual((status, b"it is no file" in told), (404, True))
+
+    def test_the_browser_is_led_by_a_file_of_its_user(self):
+        """Its command line has no token."""
+        browser = self.folder / "browser"
+        browser.write_text(f"#!/bin/sh\necho \"$1\" >{self.folder}/told.part; stat -c %a \"${{1#file://}}\" >>{self.folder}/told.part\n"
+                           f"cat \"${{1#file://}}\" >>{self.folder}/told.part; mv {self.folder}/told.part {self.folder}/told\n")
+        browser.chmod(0o755)
+        server = Server(browser=True, BROWSER=f"{browser} %s", TMPDIR=str(self.folder))
+        for _ in range(600):
+            if (self.folder / "told").exists():
+                break
+            time.sleep(0.1)
+        address, mode, page = (self.folder / "told").read_text().split("\n", 2)
+        path = Path(address.removeprefix("file://"))
+        folder_mode = path.parent.stat().st_mode & 0o777
+        server.end()
+        self.assertNotIn(server.path.strip("/"), address)
+        self.assertEqual((mode, folder_mode), ("600", 0o700))
+        self.assertIn(f"url={server.address}", page)
+        self.assertFalse(path.parent.exists())
+
     def test_packages_that_are_not_there(self):
         for name in ("flask", "numpy"):
             (self.folder / f"{name}.py").write_text(f"raise ModuleNotFoundError(\"No module named '{name}'\")\n")
@@ -76,6 +112,23 @@ class End(FolderTest):
                 status, _, told = server.end(name)
             self.assertEqual((status, told), (0, ""), told)
             self.assertEqual(left_of(children), set())
+
+    def test_nothing_runs_on_after_it_was_killed(self):
+        """By what no program hears of, while a worker is at work."""
+        server = Server()
+        body, kind = form_of({"file": ("huge.cgd", SQL * 800_000), "first": "0", "convention": "auto", "choices": "[]"})
+        with server.begun("nets", body, kind):
+            for _ in range(600):
+                children = server.children()
+                if any(descendants(child) for child in children):  # the fork server has a worker
+                    break
+                time.sleep(0.1)
+            time.sleep(0.3)
+            children = server.children()
+            server.process.kill()
+            server.wait()
+        self.assertGreaterEqual(len(children), 3)
+        self.assertEqual(left_of(children), set())
 
     def test_ended_at_once(self):
         for wait in (0, 0.05, 0.2, 0.5):

@@ -1,22 +1,27 @@
 """The server: who may ask, what is refused, and that it goes on whatever comes."""
 
+import fcntl
 import json
 import os
 import random
 import re
+import resource
 import signal
 import socket
 import time
 import unittest
 from concurrent.futures import ThreadPoolExecutor
+from contextlib import ExitStack
 
 from desk import Server, form_of, memory_for_program, need_desk
 from mutants import mutant
 from testing import IS_LONG, TOP
 
 need_desk()
-from crystal_nets.desk.application import CHOICES, CONVENTIONS, FILES, MOST_BYTES  # noqa: E402
+from crystal_nets.desk.application import CHOICES, FILES, MOST_BYTES  # noqa: E402
+from crystal_nets.desk.connections import MOST_STRANGERS, SECONDS_TO_ASK  # noqa: E402
 from crystal_nets.desk.files import AT_ONCE  # noqa: E402
+from crystal_nets.options import CONVENTION_NAMES as CONVENTIONS  # noqa: E402
 from crystal_nets.structures.nets.choice import Options  # noqa: E402
 from crystal_nets.structures.units.conventions import AUTO, CONVENTIONS as OF_CIF2CGD  # noqa: E402
 
@@ -68,8 +73,24 @@ class WhoMayAsk(WithServer):
         self.reason(self.server.request("POST", "nets", Origin=None), 403)
         self.reason(self.server.request("GET", "", Origin=None, Sec_Fetch_Site="cross-site"), 403)
 
+    def test_a_window_goes_to_the_page_from_anywhere(self):
+        opened = {"Origin": None, "Sec_Fetch_Mode": "navigate", "Sec_Fetch_Dest": "document"}
+        for site in ("cross-site", "same-site"):
+            self.assertEqual(self.server.request("GET", "", **opened, Sec_Fetch_Site=site)[0], 200)
+            for path, words in (("", {"Sec_Fetch_Dest": "iframe"}), ("", {"Sec_Fetch_Mode": "cors"}), ("desk.js", {}),
+                                ("given", {}), ("given/0", {}), ("", {"Origin": "http://example.org"})):
+                given = {**opened, "Sec_Fetch_Site": site, **words}
+                self.reason(self.server.request("GET", path, **given), 403)
+            self.reason(self.server.request("POST", "", **opened, Sec_Fetch_Site=site), 403)
+
+    def test_a_port_that_is_forwarded(self):
+        for host in ("localhost:9999", "127.0.0.1:1", "127.0.0.1", "[::1]:8888"):
+            self.assertEqual(self.server.request("GET", "given", Host=host, Origin=f"http://{host}")[0], 200)
+            self.reason(self.server.request("GET", "given", Host=host, Origin=self.server.origin), 403)
+
     def test_another_host(self):
-        for host in ("example.org", "127.0.0.1", "127.0.0.1:1", "example.org:" + self.server.host.split(":")[1], "", None):
+        for host in ("example.org", "example.org:" + self.server.host.split(":")[1], "", None, "localhost.example.org",
+                     "127.0.0.1.example.org:80", "localhost:", "localhost:0", "a@localhost:1", "LOCALHOST:99999999"):
             self.reason(self.server.request("GET", "", Host=host, Origin=None), 403)
 
     def test_no_or_a_wrong_token(self):
@@ -99,6 +120,47 @@ class WhoMayAsk(WithServer):
                 except ConnectionResetError:
                     pass
         self.assertEqual(self.server.request("GET", "")[0], 200)
+
+
+class ManyConnections(WithServer):
+    def test_connections_without_a_token_never_shut_the_owner_out(self):
+        before = resource.getrlimit(resource.RLIMIT_NOFILE)
+        resource.setrlimit(resource.RLIMIT_NOFILE, (min(4096, before[1]), before[1]))
+        self.addCleanup(resource.setrlimit, resource.RLIMIT_NOFILE, before)
+        strangers = []
+        with ExitStack() as stack:
+            for _ in range(1100):
+                strangers.append(stack.enter_context(socket.create_connection(self.server.host.split(":"), 60)))
+            self.assertEqual(self.server.request("GET", "")[0], 200)
+            time.sleep(1)
+            strangers[-1].setblocking(False)
+            with self.assertRaises(BlockingIOError):  # it waits yet, as the newest ones do
+                strangers[-1].recv(1)
+            self.assertEqual(strangers[0].recv(1), b"")
+            files = len(os.listdir(f"/proc/{self.server.process.pid}/fd"))
+        self.assertLess(files, MOST_STRANGERS + 40)
+
+    def test_a_request_that_never_ends_is_ended(self):
+        """A byte at a time, so that the connection is never silent for long."""
+        begun = time.monotonic()
+        with socket.create_connection(self.server.host.split(":"), 60) as client, self.assertRaises(OSError):
+            while time.monotonic() < begun + 6 * SECONDS_TO_ASK:
+                client.sendall(b"G")
+                time.sleep(0.5)
+        self.assertLess(time.monotonic(), begun + 5 * SECONDS_TO_ASK)
+
+    def test_a_file_number_past_what_select_knows(self):
+        """A client is there whatever number its connection has."""
+        from crystal_nets.desk.worker import is_gone
+        before = resource.getrlimit(resource.RLIMIT_NOFILE)
+        resource.setrlimit(resource.RLIMIT_NOFILE, (min(2048, before[1]), before[1]))
+        self.addCleanup(resource.setrlimit, resource.RLIMIT_NOFILE, before)
+        with ExitStack() as stack:
+            one, other = (stack.enter_context(end) for end in socket.socketpair())
+            high = stack.enter_context(socket.socket(fileno=fcntl.fcntl(one, fcntl.F_DUPFD, 1500)))
+            self.assertFalse(is_gone(high))
+            other.close()
+            self.assertTrue(is_gone(high))
 
 
 class WhatIsSent(WithServer):

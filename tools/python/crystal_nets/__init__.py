@@ -11,12 +11,16 @@ chemistry, and no theorem.
 The modules that a user calls:
 net        a net, from edges and whatever else there is
 reading    files, atoms of ase and pymatgen, graphs of networkx
+other_forms  POSCAR texts, and the JSON of pymatgen
+options    how structures are read
 asking     identify, identify_all, keys
 maps       same: whether two nets are isomorphic, with the map
 parts      components: what interpenetrates
 covers     cover: a net on a larger cell
 groups     group: which of many nets are the same
 archive    archives of named nets, in memory
+json_forms  nets and answers as dicts, and back
+symbols    the symbols that names begin with, as dia
 answers    what is answered, and tables of it; outcome: what became of a net
 drawing    pictures
 errors     what is raised
@@ -31,7 +35,7 @@ refusal     why a structure or a block gives no net
 What the tools share:
 commands      the commands by their names, as the scripts of the tools start them
 progress      how far some work is, on a terminal
-files         files that are written whole or not at all
+files         paths, and files that are written whole or not at all
 side_by_side  work in several processes
 
 The packages under them:
@@ -56,11 +60,12 @@ if TYPE_CHECKING:
     from .checking import check
     from .covers import Cover, cover
     from .drawing import svg
-    from .errors import (CrystalNetsError, NotANet, NotAnArchive, NotATable, PackageMissing, ProgramFailed,
-                         ProgramNotFound, ProgramTimedOut)
+    from .errors import (CrystalNetsError, NotANet, NotAnArchive, NotAnOption, NotATable, PackageMissing,
+                         ProgramFailed, ProgramNotFound, ProgramTimedOut)
     from .groups import Group, Groups, group
     from .maps import Meeting, NetMap, Sameness, same
     from .net import Net
+    from .options import StructureOptions
     from .outcome import Outcome
     from .parts import Component, Components, components, net_of_key
     from .program import find_program
@@ -69,16 +74,17 @@ if TYPE_CHECKING:
 
 __version__ = "0.1"
 __all__ = ["Answer", "Answers", "Archive", "By", "Component", "Components", "Cover", "CrystalNetsError", "Group", "Groups",
-           "Meeting", "Net", "NetMap", "NotANet", "NotATable", "NotAnArchive", "Outcome", "PackageMissing", "Placement",
-           "PrimitiveGraph", "ProgramFailed", "ProgramNotFound", "ProgramTimedOut", "Sameness", "check", "components", "cover",
-           "find_program", "group", "identify", "identify_all", "keys", "net_of_key", "read", "read_table", "same", "svg",
-           "to_pandas"]
+           "Meeting", "Net", "NetMap", "NotANet", "NotATable", "NotAnArchive", "NotAnOption", "Outcome", "PackageMissing",
+           "Placement", "PrimitiveGraph", "ProgramFailed", "ProgramNotFound", "ProgramTimedOut", "Sameness",
+           "StructureOptions", "check", "components", "cover", "find_program", "group", "identify", "identify_all", "keys",
+           "net_of_key", "read", "read_table", "same", "svg", "to_pandas"]
 
 HOMES = {"answers": "Answer Answers By Placement PrimitiveGraph to_pandas", "archive": "Archive",
          "asking": "identify identify_all keys", "checking": "check", "covers": "Cover cover", "drawing": "svg",
-         "errors": "CrystalNetsError NotANet NotAnArchive NotATable PackageMissing ProgramFailed ProgramNotFound "
-                   "ProgramTimedOut",
-         "groups": "Group Groups group", "maps": "Meeting NetMap Sameness same", "net": "Net", "outcome": "Outcome",
+         "errors": "CrystalNetsError NotANet NotAnArchive NotAnOption NotATable PackageMissing ProgramFailed "
+                   "ProgramNotFound ProgramTimedOut",
+         "groups": "Group Groups group", "maps": "Meeting NetMap Sameness same", "net": "Net",
+         "options": "StructureOptions", "outcome": "Outcome",
          "parts": "Component Components components net_of_key", "program": "find_program", "reading": "read",
          "tables.columns": "read_table"}
 HOME_OF = {name: module for module, names in HOMES.items() for name in names.split()}

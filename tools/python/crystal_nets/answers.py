@@ -2,6 +2,7 @@
 
 from __future__ import annotations
 
+import json
 import re
 from collections.abc import Iterator, Sequence
 from dataclasses import dataclass, field
@@ -10,12 +11,13 @@ from fractions import Fraction
 from functools import cached_property
 from typing import TYPE_CHECKING, Any, overload
 
-from .errors import PackageMissing
+from .errors import PackageMissing, in_one_line
 from .graph import LabelledEdge, Vertex
 from .net import Net
 from .outcome import Outcome
 from .program import reading_report
 from .provenance import BuildingUnit, Component
+from .symbols import rcsr_address, symbols_of
 from .texts.graph_text import vertex_of
 from .texts.net_text import NetReport, nets_of_report
 
@@ -41,7 +43,10 @@ class Placement:
     (Fraction(-1, 4), Fraction(-1, 4), Fraction(-1, 4))"""
 
     denominator: int
-    positions: dict[Vertex, tuple[int, ...]]
+    positions: dict[Vertex, tuple[int, ...]] = field(hash=False)
+
+    def __repr__(self) -> str:
+        return f"<Placement: {len(self.positions)} vertices, D0={self.denominator}>"
 
     def __getitem__(self, vertex: Vertex) -> tuple[Fraction, ...]:
         """The position of a vertex in fractions of the cell."""
@@ -64,6 +69,9 @@ class PrimitiveGraph:
     vertices: int
     basis: tuple[tuple[int, ...], ...]
     edges: tuple[LabelledEdge, ...]
+
+    def __repr__(self) -> str:
+        return f"<PrimitiveGraph: {self.vertices} classes, {len(self.edges)} edges, dimension {len(self.basis)}>"
 
     @property
     def net(self) -> Net:
@@ -219,6 +227,26 @@ class Answer:
         return self.net.name
 
     @property
+    def symbol(self) -> str:
+        """The symbol that its names begin with, as `dia` of `dia, diamond`; empty where there is none. Where there are
+        several, it is the first in the order of the archives, and `symbols` has all."""
+        return next(iter(self.symbols), "")
+
+    @property
+    def symbols(self) -> tuple[str, ...]:
+        return symbols_of(self.names)
+
+    @property
+    def rcsr(self) -> str:
+        """The address of RCSR's page on the net; empty where no name has a symbol of RCSR. Nothing is asked there."""
+        return rcsr_address(self.names, self.dimension)
+
+    @property
+    def copies(self) -> int:
+        """How many nets alike are interwoven in the structure, of which this is one. It is not proved."""
+        return self.net.copies
+
+    @property
     def accepted(self) -> bool:
         """Whether the net has a key."""
         return self.outcome.accepted
@@ -239,11 +267,6 @@ class Answer:
         return self.net.convention
 
     @property
-    def copies(self) -> int:
-        """How many nets alike the structure has, of which this is one."""
-        return self.net.copies
-
-    @property
     def components(self) -> tuple[Component, ...]:
         """The pieces of the structure, molecules and rods among them."""
         return self.net.components
@@ -253,10 +276,28 @@ class Answer:
         """What each vertex stands for: its atoms, their formula and its connectivity."""
         return self.net.units
 
+    def to_dict(self) -> dict[str, Any]:
+        """All of it as JSON has it; `from_dict` makes the answer of it."""
+        from .json_forms import fields_of_answer
+        return fields_of_answer(self)
+
+    def to_json(self) -> str:
+        return json.dumps(self.to_dict())
+
+    @classmethod
+    def from_dict(cls, fields: dict[str, Any]) -> Answer:
+        """The answer of what `to_dict` gave. NotANet where these are no such fields."""
+        from .json_forms import answer_of_fields
+        return answer_of_fields(fields)
+
+    def __repr__(self) -> str:
+        return in_one_line(f"<Answer {self}>")
+
     def __str__(self) -> str:
         what = "; ".join(self.names) or ("no name in the archive" if self.accepted else str(self.outcome))
         told = f" ({self.by}; {self.outcome})" if self.names and not self.accepted else ""
-        return f"{self.name or 'net'}: {what}{told}"
+        woven = f", one of {self.copies} interwoven copies" if self.copies > 1 else ""
+        return f"{self.name or 'net'}: {what}{told}{woven}"
 
     def _repr_svg_(self) -> str | None:
         from .drawing import svg_of_answer
@@ -289,6 +330,13 @@ class Answers(Sequence[Answer]):
     def __eq__(self, other: object) -> bool:
         return isinstance(other, Answers) and self._answers == other._answers
 
+    def __hash__(self) -> int:
+        return hash(self._answers)
+
+    def to_json(self) -> str:
+        """A list of what `Answer.to_dict` gives."""
+        return json.dumps([answer.to_dict() for answer in self])
+
     def __repr__(self) -> str:
         with_key = sum(answer.accepted for answer in self)
         return f"<Answers: {len(self)} nets, {with_key} with a key>"
@@ -307,8 +355,8 @@ class Answers(Sequence[Answer]):
         return html_of_answers(self)
 
 
-COLUMNS = ("name", "outcome", "names", "by", "dimension", "vertices", "edges", "classes", "D0", "key", "sequences", "notes",
-           "doubts", "left_out", "convention", "copies", "components", "units")
+COLUMNS = ("name", "outcome", "names", "symbol", "by", "dimension", "vertices", "edges", "classes", "D0", "copies", "key",
+           "sequences", "notes", "doubts", "left_out", "convention", "components", "units")
 
 
 def to_pandas(answers: Sequence[Answer]) -> pandas.DataFrame:
@@ -316,24 +364,27 @@ def to_pandas(answers: Sequence[Answer]) -> pandas.DataFrame:
 
     name, outcome   texts; the outcome is `accepted`, or as `refused 5 Collision`
     names           in the archive, joined by `; `
+    symbol          that the first name with one begins with
     by              by what they are certain: `key`, `key of a smaller cell`, `verified map`, `unproved cell`
     dimension, vertices, edges   of the quotient graph
     classes, D0     of the primitive graph and the placement; 0 where they were not asked for
+    copies          how many nets alike are interwoven in the structure, of which this is one
     key             a text, since its numbers may have 128 bits
     sequences       a tuple of the different coordination sequences, in rising order
     notes           all of them, joined by `; `
     doubts, left_out  those of the notes that are doubts, and on what was left out
-    convention, copies  what became the vertices, and of how many nets alike this is one
+    convention      what became the vertices
     components      of the structure, as `1 net in space Zn4O13C24H12, 2 molecules CH4O`
     units           a tuple of what the vertices stand for, each kind once, as `Zn4O(CO2)6, 6-connected`"""
     try:
         import pandas
     except ImportError:
         raise PackageMissing("pandas is not there; apt-get install python3-pandas") from None
-    rows = [(answer.name, short_outcome(answer.outcome), "; ".join(answer.names), str(answer.by), answer.dimension,
-             answer.vertices, answer.edges, answer.classes, answer.denominator, answer.key, tuple(sorted(set(answer.sequences))),
-             "; ".join(answer.notes), "; ".join(answer.doubts), "; ".join(answer.left_out), answer.convention,
-             answer.copies, told_components(answer.components), told_units(answer.units)) for answer in answers]
+    rows = [(answer.name, short_outcome(answer.outcome), "; ".join(answer.names), answer.symbol, str(answer.by),
+             answer.dimension, answer.vertices, answer.edges, answer.classes, answer.denominator, answer.copies, answer.key,
+             tuple(sorted(set(answer.sequences))), "; ".join(answer.notes), "; ".join(answer.doubts),
+             "; ".join(answer.left_out), answer.convention, told_components(answer.components), told_units(answer.units))
+            for answer in answers]
     return pandas.DataFrame(rows, columns=list(COLUMNS))
 
 

@@ -6,20 +6,26 @@ import os
 import tempfile
 from collections.abc import Iterable, Iterator
 from functools import cache, cached_property
+from importlib.resources import files
 from pathlib import Path
 
 from .errors import NotAnArchive, NotANet, ProgramFailed
+from .files import checked_path, write_whole
 from .net import Net
 from .program import bounded, run
+from .symbols import symbol_of
 from .texts.archive_text import Entry, entries_of
-from .texts.net_text import NoReport
+from .texts.graph_text import written_name
+from .texts.net_text import MOST_BLOCKS, NoReport
 from .wide.archive import SUFFIX, WideArchive
 
 HERE = Path(__file__).resolve().parent
-SHARED = (  # the archives beside the package in the repository or an installation, and in a Debian package; and elsewhere
+SHARED = (  # the archives that pip puts into the package, or those beside it in the repository, in an installation and in a
+    # Debian package; and elsewhere
+    Path(str(files("crystal_nets") / "archives")),
     (HERE / "../../../archives").resolve(), (HERE / "../../../../share/net_tool/archives").resolve(),
     Path("/usr/local/share/net_tool/archives"), Path("/usr/share/net_tool/archives"))
-BAD_ARCHIVE = 5
+BAD_ARCHIVE, ADD_REFUSED = 5, 9  # statuses
 
 
 class Archive:
@@ -38,13 +44,17 @@ class Archive:
         """Of names, keys and nets, and of archives of nets without a key. That the keys are those of the nets is for the
         caller to know: `load` and `of` have them computed."""
         self._wide = tuple(wide)
+        self._entries: dict[tuple[str, str], Net] = {}
         self._nets: dict[str, Net] = {}
+        self._of_symbol: dict[str, Net] = {}
         names: dict[str, list[str]] = {}
         for name, key, net in entries:
-            self._nets.setdefault(name, net)
-            same = names.setdefault(key, [])
-            if name not in same:
-                same.append(name)
+            if (name, key) not in self._entries:
+                self._entries[name, key] = net
+                self._nets.setdefault(name, net)
+                self._of_symbol.setdefault(symbol_of(name), net)
+                names.setdefault(key, []).append(name)
+        self._of_symbol.pop("", None)
         self._names = {key: tuple(same) for key, same in names.items()}
 
     @classmethod
@@ -81,6 +91,34 @@ class Archive:
             entries.append((answer.name, answer.key, answer.net))
         return cls(entries)
 
+    @classmethod
+    def joined(cls, archives: Iterable[Archive]) -> Archive:
+        """Several archives as one, in their order."""
+        given = list(archives)
+        wide = {part.path: part for archive in given for part in archive._wide}
+        return cls((entry for archive in given for entry in archive._items()), wide.values())
+
+    def _items(self) -> Iterator[tuple[str, str, Net]]:
+        return ((name, key, net) for (name, key), net in self._entries.items())
+
+    def __or__(self, other: Archive) -> Archive:
+        """The nets of both, those of the first one before."""
+        return Archive.joined((self, other)) if isinstance(other, Archive) else NotImplemented
+
+    def save(self, path: str | os.PathLike[str]) -> None:
+        """Writes it as a file of archives, which the program makes of the nets. NotAnArchive where a file cannot have
+        them: more than 4,096, a name of two different nets, one that no entry may have, or nets without a key."""
+        if self._wide:
+            raise NotAnArchive(f"no file of an archive has nets without a key, and here are {len(self.without_key):,}: "
+                               "wide_archive writes those")
+        blocks = b"".join(_named_block(name, net) for name, _, net in self._items())
+        if not 0 < len(self._entries) <= MOST_BLOCKS:
+            raise NotAnArchive(f"a file of an archive has 1 to {MOST_BLOCKS:,} nets, and these are {len(self._entries):,}")
+        _, told = run("add", blocks, "-", allowed=(0, 1, ADD_REFUSED))
+        if not told.startswith(b"net_archive "):
+            raise NotAnArchive(f"it cannot be saved: {told.splitlines()[0].decode(errors='replace')}")
+        write_whole(checked_path(path, NotAnArchive), told)
+
     def names(self, key: str) -> tuple[str, ...]:
         """The names of exactly the entries with this key, in the order of the archives."""
         return self._names.get(key, ())
@@ -94,17 +132,21 @@ class Archive:
         """The names of the nets without a key."""
         return tuple(dict.fromkeys(name for archive in self._wide for name in archive.names()))
 
+    @cached_property
+    def _wide_of_symbol(self) -> dict[str, str]:
+        """The first name of a net without a key by its symbol."""
+        return {symbol: name for name in reversed(self.without_key) if (symbol := symbol_of(name))}
+
     def __getitem__(self, name: str) -> Net:
-        """The net of this name, of the first archive that has it."""
-        if name not in self._nets:
-            for archive in self._wide:
-                net = archive.net(name)
-                if net:
-                    return net
-        return self._nets[name]
+        """The net of this name, or of this symbol, as `dia` of `dia, diamond`; of the first archive that has it."""
+        if name in self._nets:
+            return self._nets[name]
+        if name not in self.without_key:
+            return self._of_symbol[name] if name in self._of_symbol else self[self._wide_of_symbol[name]]
+        return next(net for archive in self._wide if (net := archive.net(name)))
 
     def __contains__(self, name: object) -> bool:
-        return name in self._nets or name in self.without_key
+        return any(name in names for names in (self._nets, self.without_key, self._of_symbol, self._wide_of_symbol))
 
     def __iter__(self) -> Iterator[str]:
         """The names of the nets with a key, and then the others."""
@@ -126,7 +168,7 @@ def _loaded(paths: tuple[str, ...]) -> Archive:
 def files_of(paths: Iterable[str | os.PathLike[str]]) -> list[Path]:
     """The archives of files and folders. NotAnArchive where a folder has none."""
     files: list[Path] = []
-    for path in map(Path, paths):
+    for path in (checked_path(path, NotAnArchive) for path in paths):
         found = _archives_in(path) if path.is_dir() else [path]
         if not found:
             raise NotAnArchive(f"{path} has no archive")
@@ -137,7 +179,7 @@ def files_of(paths: Iterable[str | os.PathLike[str]]) -> list[Path]:
 def default_files() -> list[Path]:
     """The archives that look-up goes over where none is named."""
     home = os.environ.get("XDG_DATA_HOME") or os.path.join(os.path.expanduser("~"), ".local/share")
-    shared = next((folder for folder in SHARED if folder.is_dir()), SHARED[0])
+    shared = next((folder for folder in SHARED if folder.is_dir()), SHARED[1])
     return [file for folder in (shared, Path(home, "net_tool/archives")) for file in _archives_in(folder)]
 
 
@@ -167,6 +209,13 @@ def _check(content: bytes, path: Path) -> None:
         raise NotAnArchive(f"{path}: {told.splitlines()[0].decode(errors='replace')}")
     if not told.startswith(b"entries "):
         raise ProgramFailed(f"net_tool duplicates gave no report on {path}", status)
+
+
+def _named_block(name: str, net: Net) -> bytes:
+    """The block of a net under the name of its entry."""
+    if written_name(name) != name:
+        raise NotAnArchive(f"{name!r:.80} is no name that an entry of a file may have")
+    return Net.of_graph(net.graph.named(name)).block
 
 
 def _text(name: bytes) -> str:

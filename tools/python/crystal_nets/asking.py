@@ -7,12 +7,15 @@ import re
 from collections.abc import Callable, Iterable, Iterator, Mapping, Sequence
 from dataclasses import replace
 from enum import Enum
-from typing import Any
+from itertools import islice
+from typing import Any, TypeVar, Unpack, overload
 
 from .answers import Answer, Answers
 from .archive import Archive
 from .errors import NotANet
 from .net import Net
+from .options import StructureOptions
+from .other_forms import is_structure
 from .outcome import ACCEPTED, outcome_of, unreadable
 from .program import bounded, each_piece, reading_report, run
 from .reading import one_net, read
@@ -29,8 +32,9 @@ class Default(Enum):
 
 
 DEFAULT = Default.ARCHIVES
-Archives = Archive | str | os.PathLike[str] | Iterable[str | os.PathLike[str]] | Default | None
+Archives = Archive | str | os.PathLike[str] | Iterable[Archive | str | os.PathLike[str]] | Default | None
 
+Key = TypeVar("Key")
 KINDS = ("refused", "malformed", "unsupported")  # of blocks without a key
 KEYED = re.compile(rb'net \d+ line (\d+)(?: "[^"\n]*")?\n(?:graph d=([23]) vertices=(\d+) edges=(\d+) repeats=\d+\n)?'
                    rb'(key|refused|malformed|unsupported) ([^\n]+)\n')
@@ -41,11 +45,12 @@ HEAD = b"\nnet "  # begins the report on a net, and no other line: no name has a
 
 @bounded
 def identify(source: Any, archive: Archives = DEFAULT, maps: bool = True, *, timeout: float | None = None,
-             **options: Any) -> Answer:
+             **options: Unpack[StructureOptions]) -> Answer:
     """Which net it is: placement, primitive graph, key, coordination sequences, and names in the archive.
 
     source   what `read` reads, with one net; NotANet is raised where it has several
-    archive  an `Archive`, paths of archives and folders, or None; the archives beside the package where none is given
+    archive  an `Archive`, a path of an archive or a folder, several of these, or None; the archives beside the package
+             where none is given
     maps     whether a net without a key is looked for all the same: on a smaller cell, and by verified maps
     timeout  seconds, after which ProgramTimedOut is raised and the program ended; without it there is no limit
     options  of structures, as `convention="single-nodes"`
@@ -64,30 +69,64 @@ def identify(source: Any, archive: Archives = DEFAULT, maps: bool = True, *, tim
     return _identified(nets, archive_of(archive), 1, maps)[0]
 
 
+@overload  # type: ignore[misc]  # no source but those of several is a dict
+def identify_all(sources: Mapping[Key, Any], archive: Archives = DEFAULT, processes: int = 1, maps: bool = True, *,
+                 timeout: float | None = None, **options: Unpack[StructureOptions]) -> dict[Key, Answers]: ...
+@overload
+def identify_all(sources: Any, archive: Archives = DEFAULT, processes: int = 1, maps: bool = True, *,
+                 timeout: float | None = None, **options: Unpack[StructureOptions]) -> Answers: ...
 @bounded
 def identify_all(sources: Any, archive: Archives = DEFAULT, processes: int = 1, maps: bool = True, *,
-                 timeout: float | None = None, **options: Any) -> Answers:
-    """The same of many nets: of a source that has several, as a file, or of an iterable of sources.
+                 timeout: float | None = None, **options: Unpack[StructureOptions]) -> Any:
+    """The same of many nets: of a source that has several, as a file, or of an iterable of sources. A dict of sources is
+    answered as a dict, with the answers of each source under its key.
 
     processes  of the program, side by side
     timeout    seconds of the whole call, after which ProgramTimedOut is raised"""
-    return _identified(_nets_of(sources, options), archive_of(archive), processes, maps)
+    return _answered(sources, options, lambda nets: _identified(nets, archive_of(archive), processes, maps))
 
 
+@overload  # type: ignore[misc]
+def keys(sources: Mapping[Key, Any], archive: Archives = None, processes: int = 1, maps: bool = True, *,
+         timeout: float | None = None, **options: Unpack[StructureOptions]) -> dict[Key, Answers]: ...
+@overload
+def keys(sources: Any, archive: Archives = None, processes: int = 1, maps: bool = True, *,
+         timeout: float | None = None, **options: Unpack[StructureOptions]) -> Answers: ...
 @bounded
 def keys(sources: Any, archive: Archives = None, processes: int = 1, maps: bool = True, *,
-         timeout: float | None = None, **options: Any) -> Answers:
+         timeout: float | None = None, **options: Unpack[StructureOptions]) -> Any:
     """The keys of many nets, and their names where an archive is given, without placement, primitive graph and
     sequences. It takes less time than `identify_all`. After `timeout` seconds ProgramTimedOut is raised.
 
     >>> sql = [(1, 1, (1, 0)), (1, 1, (0, 1))]
     >>> keys([Net(sql), Net([(1, 1, (1, 0))])])[0].key
     '2 1 1 1 1 0 1 1 1 1 0'"""
-    nets = _nets_of(sources, options)
-    names = archive_of(archive)
+    return _answered(sources, options, lambda nets: _with_keys(nets, archive_of(archive), processes, maps))
+
+
+def _with_keys(nets: list[Net], archive: Archive | None, processes: int, maps: bool) -> Answers:
     given = [net for net in nets if not net.refusal]
     answers = (answer for piece in each_piece(_keyed, given, processes) for answer in piece)
-    return Answers(list(_with_refusals(nets, answers, names, _keyed if maps else None)))
+    return Answers(list(_with_refusals(nets, answers, archive, _keyed if maps else None)))
+
+
+def _answered(sources: Any, options: StructureOptions, answer: Callable[[list[Net]], Answers]) -> Any:
+    """The answers to all nets; of a dict of sources a dict."""
+    if not isinstance(sources, Mapping):
+        return answer(nets_of(sources, options))
+    by_source = _nets_by_source(sources, options)
+    answers = iter(answer([net for nets in by_source.values() for net in nets]))
+    return {key: Answers(list(islice(answers, len(nets)))) for key, nets in by_source.items()}
+
+
+def _nets_by_source(sources: Mapping[Key, Any], options: StructureOptions) -> dict[Key, list[Net]]:
+    if is_structure(sources):
+        raise NotANet("this dict is one structure: identify answers it, or a list that has it")
+    return {key: _of_source(read(source, **options), str(key)) for key, source in sources.items()}
+
+
+def _of_source(nets: list[Net], source: str) -> list[Net]:
+    return [net.of_provenance(net.provenance.read_from(source=source)) for net in nets]
 
 
 def archive_of(archive: Archives) -> Archive | None:
@@ -96,18 +135,21 @@ def archive_of(archive: Archives) -> Archive | None:
         return archive
     if isinstance(archive, Default):
         return Archive.default()
-    return Archive.load(*([archive] if isinstance(archive, (str, os.PathLike)) else archive))
+    given = [archive] if isinstance(archive, (str, os.PathLike)) else archive
+    return Archive.joined(item if isinstance(item, Archive) else Archive.load(item) for item in given)
 
 
-def _nets_of(sources: Any, options: dict[str, Any]) -> list[Net]:
-    """The nets of a source, or of each of several."""
+def nets_of(sources: Any, options: StructureOptions) -> list[Net]:
+    """The nets of a source, or of each of several, which know their place among these."""
+    if isinstance(sources, Mapping) and not is_structure(sources):
+        return [net for nets in _nets_by_source(sources, options).values() for net in nets]
     if isinstance(sources, (list, tuple)) and all(isinstance(source, Net) for source in sources):
         return list(sources)
     is_many = (isinstance(sources, Iterable) and not isinstance(sources, (str, bytes, Mapping))
                and not hasattr(sources, "get_scaled_positions") and not hasattr(sources, "frac_coords")
                and not hasattr(sources, "is_directed"))
     if is_many:
-        return [net for source in sources for net in read(source, **options)]
+        return [net for place, source in enumerate(sources) for net in _of_source(read(source, **options), str(place))]
     return read(sources, **options)
 
 
@@ -210,6 +252,6 @@ def _key_of(lines: list[bytes]) -> bytes:
     return lines[place]
 
 
-def single(source: Any, options: dict[str, Any]) -> Net:
+def single(source: Any, options: StructureOptions) -> Net:
     """The one net of a source."""
     return one_net(read(source, **options))

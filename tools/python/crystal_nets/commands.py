@@ -19,6 +19,18 @@ PACKAGES = {"cif2cgd": "python3-gemmi python3-numpy python3-scipy",
             "make_archives": "python3-gemmi python3-numpy python3-scipy python3-spglib", "draw_nets": "python3-numpy",
             "net_gallery": "python3-numpy"}
 WITH_SMALL_MATRICES = ("cif2cgd", "net_table")  # for which threads would wait for each other
+INTERRUPTED = 130  # the status that a shell gives a command that Ctrl-C ends
+
+
+def main() -> NoReturn:
+    """Runs the command under whose name it was started, as an installed package starts it."""
+    name = os.path.basename(sys.argv[0])
+    if name not in HOMES:
+        sys.exit(f"there is no command {name}; there are {', '.join(HOMES)}")
+    try:
+        run(name)
+    except KeyboardInterrupt:  # before the command has begun
+        sys.exit(INTERRUPTED)
 
 
 def run(name: str) -> NoReturn:

@@ -6,12 +6,13 @@ import operator
 import re
 from collections.abc import Iterable
 from dataclasses import dataclass
-from typing import Any
+from typing import Any, Unpack
 
 from .asking import KINDS, single
 from .errors import NotANet
 from .lattice import determinant
 from .net import Net
+from .options import StructureOptions
 from .outcome import ACCEPTED, Outcome, outcome_of
 from .program import bounded, reading_report, run
 from .reading import want_one_block
@@ -37,7 +38,8 @@ class Cover:
 
 
 @bounded
-def cover(source: Any, cell: Iterable[Iterable[int]], *, timeout: float | None = None, **options: Any) -> Cover:
+def cover(source: Any, cell: Iterable[Iterable[int]], *, timeout: float | None = None,
+          **options: Unpack[StructureOptions]) -> Cover:
     """A net on a cell of given rows, 2 x 2 or 3 x 3 whole numbers from -500 to 500, in lattice steps. After `timeout`
     seconds ProgramTimedOut is raised.
 

@@ -69,6 +69,8 @@ def html_of_answer(answer: Answer) -> str:
     rows = [("net", answer.name), ("names", "; ".join(answer.names)), ("by", "" if answer.accepted else str(answer.by)),
             ("outcome", str(answer.outcome)),
             ("vertices, edges", f"{answer.vertices}, {answer.edges}" if answer.vertices else "")]
+    rows += [("RCSR", answer.rcsr)]
+    rows += [("copies", f"one of {answer.copies} interwoven copies")] if answer.copies > 1 else []
     sequences = (answer.small or answer).sequences
     rows += [("sequence", " ".join(map(str, sequence))) for sequence in sorted(set(sequences))]
     rows += [("note", note) for note in answer.notes]

@@ -21,12 +21,21 @@ def lacking(missing: ImportError, advice: str) -> str:
     return f"{sys.executable} has no module {missing.name}; {advice}" + ("" if is_system else f" gives it to {SYSTEM}")
 
 
+def in_one_line(text: str) -> str:
+    """A text without line feeds, for what is shown in one line."""
+    return " ".join(text.split())
+
+
 class CrystalNetsError(Exception):
     """Anything that this package raises by itself."""
 
 
 class NotANet(CrystalNetsError, ValueError):
     """What was given cannot be read as one net, for the reason that it is made with."""
+
+
+class NotAnOption(CrystalNetsError, ValueError):
+    """An option of structures has a value that is none, for the reason that it is made with."""
 
 
 class NotAnArchive(CrystalNetsError, ValueError):

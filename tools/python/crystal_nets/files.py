@@ -1,4 +1,4 @@
-"""Files that are written whole or not at all, and files whose faults name them."""
+"""Files: their paths, files that are written whole or not at all, and files whose faults name them."""
 
 from __future__ import annotations
 
@@ -8,10 +8,19 @@ import sys
 from pathlib import Path
 from typing import TYPE_CHECKING
 
+from .errors import CrystalNetsError
+
 if TYPE_CHECKING:
     from _typeshed import ReadableBuffer
 
 STANDARD_OUTPUT = "standard output"
+
+
+def checked_path(path: str | os.PathLike[str], fault: type[CrystalNetsError]) -> Path:
+    """The path, where it may be one: no path has a NUL."""
+    if "\0" in os.fspath(path):
+        raise fault(f"{os.fspath(path)!r:.80} has a NUL, which no path has")
+    return Path(path)
 
 
 def write_whole(path: Path, content: bytes) -> None:

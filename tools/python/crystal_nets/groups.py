@@ -4,10 +4,12 @@ from __future__ import annotations
 
 from collections.abc import Iterator
 from dataclasses import dataclass, field
-from typing import Any
+from typing import Any, Unpack
 
 from .answers import Answer, Answers, By
-from .asking import Archives, keys
+from .asking import Archives, keys, nets_of
+from .errors import in_one_line
+from .options import StructureOptions
 from .program import bounded
 
 Member = tuple[int, Answer]  # a place among the nets that were given, and the answer
@@ -34,6 +36,9 @@ class Group:
     def __len__(self) -> int:
         return len(self.places)
 
+    def __repr__(self) -> str:
+        return in_one_line(f"<Group: {len(self)} nets, {'; '.join(self.names) or self.key[:40]}>")
+
     @property
     def names(self) -> tuple[str, ...]:
         """In the archive, where one was given."""
@@ -49,6 +54,9 @@ class Groups:
     groups: tuple[Group, ...]
     keyless: Answers
 
+    def __repr__(self) -> str:
+        return f"<Groups: {len(self)} groups, {len(self.keyless)} nets without a key>"
+
     def __iter__(self) -> Iterator[Group]:
         return iter(self.groups)
 
@@ -61,7 +69,7 @@ class Groups:
 
 @bounded
 def group(sources: Any, archive: Archives = None, processes: int = 1, maps: bool = True, *,
-          timeout: float | None = None, **options: Any) -> Groups:
+          timeout: float | None = None, **options: Unpack[StructureOptions]) -> Groups:
     """The groups of isomorphic nets. Keys are compared whole; that two are equal exactly where the nets are isomorphic
     is proved. A net that has a key on a smaller cell alone belongs to the group of that key, since `verify` has taken the
     map. Nets without a key are grouped by verified maps; `maps=False` leaves all of these aside. ProgramTimedOut is raised
@@ -71,7 +79,7 @@ def group(sources: Any, archive: Archives = None, processes: int = 1, maps: bool
     >>> honeycomb = [(1, 2, (0, 0)), (1, 2, (1, 0)), (1, 2, (0, 1))]
     >>> [entry.places for entry in group([Net(square), Net(honeycomb), Net(wide)])]
     [(0, 2), (1,)]"""
-    answers = keys(sources, archive, processes, maps, **options)
+    answers = keys(nets_of(sources, options), archive, processes, maps)
     by_key: dict[str, list[Member]] = {}
     by_index: dict[str, list[Member]] = {}
     for place, answer in enumerate(answers):

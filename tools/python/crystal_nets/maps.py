@@ -5,12 +5,13 @@ from __future__ import annotations
 import re
 from dataclasses import dataclass, field, replace
 from itertools import product
-from typing import Any
+from typing import Any, Unpack
 
 from .asking import keys, single
-from .errors import NotANet, ProgramFailed
+from .errors import NotANet, ProgramFailed, in_one_line
 from .graph import Vertex
 from .net import Net
+from .options import StructureOptions
 from .outcome import ACCEPTED, Outcome
 from .program import bounded, reading_report, run
 
@@ -33,9 +34,12 @@ class NetMap:
     and no placement."""
 
     period: int
-    images: dict[Place, Place]
+    images: dict[Place, Place] = field(hash=False)
     base: tuple[tuple[int, ...], ...]
-    text: str = field(repr=False)
+    text: str
+
+    def __repr__(self) -> str:
+        return f"<NetMap: {len(self.images)} rows, period {self.period}>"
 
     def __call__(self, vertex: Vertex, cell: tuple[int, ...] | None = None) -> Place:
         """Where a vertex of any cell goes; the cell is 0 where none is given."""
@@ -77,6 +81,7 @@ class Sameness:
     meeting   where there is no such map, or a net has no key: the two are shown to be the same by verified maps to one
               small net
     hint      where it is not known: `other by invariants that are not proved`, or why the search for a meeting gave up
+    copies    of each net how many nets alike are interwoven in its structure: the answer is on one of each
 
     It is true as a condition where `same` is True, and raises NotANet where `same` is None. Of nets without a key it is
     never False: that invariants tell them apart is mathematics, and not proved of this code."""
@@ -87,6 +92,17 @@ class Sameness:
     text: str
     meeting: Meeting | None = None
     hint: str = ""
+    copies: tuple[int, int] = (1, 1)
+
+    def __repr__(self) -> str:
+        word = {True: "same", False: "different", None: f"not known, {self.text}"}[self.same]
+        return in_one_line("; ".join((f"<Sameness: {word}", *self.notes)) + ">")
+
+    @property
+    def notes(self) -> tuple[str, ...]:
+        """What a reader should know of the answer: that a net is one of several interwoven ones."""
+        return tuple(f"the {which} is one of {copies} interwoven copies, and one is compared"
+                     for which, copies in zip(("first", "second"), self.copies) if copies > 1)
 
     def __bool__(self) -> bool:
         if self.same is None:
@@ -96,7 +112,7 @@ class Sameness:
 
 
 @bounded
-def same(one: Any, other: Any, *, timeout: float | None = None, **options: Any) -> Sameness:
+def same(one: Any, other: Any, *, timeout: float | None = None, **options: Unpack[StructureOptions]) -> Sameness:
     """Whether two nets are the same, with a map from the first to the second. After `timeout` seconds ProgramTimedOut is
     raised.
 
@@ -117,7 +133,7 @@ def same(one: Any, other: Any, *, timeout: float | None = None, **options: Any) 
     reasons = [str(outcome) for outcome in (first, second) if not outcome.accepted]
     if not reasons:
         raise ProgramFailed("net_tool same gave no map, and both nets have keys")
-    return _with_meeting(Sameness(None, None, (first, second), reasons[0]), nets)
+    return _with_meeting(Sameness(None, None, (first, second), reasons[0], copies=_copies(nets)), nets)
 
 
 def _with_meeting(found: Sameness, nets: list[Net]) -> Sameness:
@@ -137,7 +153,12 @@ def _sameness(told: bytes, nets: list[Net]) -> Sameness:
     if not re.fullmatch(r"different|map|long entries=\d+|wide value=-?\d+", word):
         raise ValueError(f"there is no pair {word[:60]!r}")
     read = _map_of(told, found.end(), nets) if word == "map" else None
-    return Sameness(word != "different", read, (ACCEPTED, ACCEPTED), word)
+    return Sameness(word != "different", read, (ACCEPTED, ACCEPTED), word, copies=_copies(nets))
+
+
+def _copies(nets: list[Net]) -> tuple[int, int]:
+    first, second = nets
+    return first.copies, second.copies
 
 
 def _map_of(told: bytes, begin: int, nets: list[Net]) -> NetMap:

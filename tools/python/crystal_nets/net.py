@@ -2,12 +2,14 @@
 
 from __future__ import annotations
 
+import json
 import operator
 from collections.abc import Iterable
-from typing import TYPE_CHECKING, Any
+from typing import TYPE_CHECKING, Any, Unpack
 
-from .errors import NotANet, PackageMissing
+from .errors import NotANet, PackageMissing, in_one_line
 from .graph import LabelledEdge, QuotientGraph, Vertex
+from .options import StructureOptions
 from .provenance import BuildingUnit, Component, Note, Provenance, notes_of
 from .texts.graph_text import graph_of_text, text_of_graph, vertex_word, written_name
 from .texts.net_text import MOST_BYTES
@@ -119,23 +121,22 @@ class Net:
         return one_net(nets_of_cgd(text), name)
 
     @classmethod
-    def from_cif(cls, text: str | bytes | PathLike[str], name: str | None = None, **options: Any) -> Net:
+    def from_cif(cls, text: str | bytes | PathLike[str], name: str | None = None, **options: Unpack[StructureOptions]) -> Net:
         """The one net of a CIF file, or of its text; `crystal_nets.read` gives all of several.
 
-        The options are those of cif2cgd: `convention="single-nodes"`, `leave_out={"Na"}`, `keep_ions`,
-        `hydrogen_bonds`, `partial_as_full`, `accept_misfit`, `every_copy`, and `lengths`, in angstrom, as
-        {frozenset(("Ba", "O")): 3.4}. Which atoms are joined is chemistry, and not proved."""
+        The options are those of `StructureOptions`, as `convention="single-nodes"` or `leave_out={"Na"}`. Which atoms
+        are joined is chemistry, and not proved."""
         from .reading import one_net, nets_of_cif
         return one_net(nets_of_cif(text, options), name)
 
     @classmethod
-    def from_ase(cls, atoms: Any, name: str | None = None, **options: Any) -> Net:
+    def from_ase(cls, atoms: Any, name: str | None = None, **options: Unpack[StructureOptions]) -> Net:
         """The one net of an `ase.Atoms`; along axes without periodicity it is bounded. Options as for `from_cif`."""
         from .reading import one_net, nets_of_ase
         return one_net(nets_of_ase(atoms, options), name)
 
     @classmethod
-    def from_pymatgen(cls, structure: Any, name: str | None = None, **options: Any) -> Net:
+    def from_pymatgen(cls, structure: Any, name: str | None = None, **options: Unpack[StructureOptions]) -> Net:
         """The one net of a `pymatgen.core.Structure`. Options as for `from_cif`."""
         from .reading import one_net, nets_of_pymatgen
         return one_net(nets_of_pymatgen(structure, options), name)
@@ -168,11 +169,6 @@ class Net:
         return self.provenance.convention
 
     @property
-    def copies(self) -> int:
-        """How many nets alike the structure has woven into each other, of which this is one."""
-        return self.provenance.copies
-
-    @property
     def components(self) -> tuple[Component, ...]:
         """The pieces of the structure, molecules and rods among them."""
         return self.provenance.components
@@ -181,6 +177,13 @@ class Net:
     def units(self) -> tuple[BuildingUnit, ...]:
         """What each vertex stands for: its atoms, their formula and its connectivity."""
         return self.provenance.units
+
+    @property
+    def copies(self) -> int:
+        """How many nets alike are interwoven in the structure that it was read from, this one among them: 2 for
+        cuprite. It is 1 for other nets, and for layers, which lie beside each other."""
+        copies = self.provenance.copies
+        return copies if copies > 1 and not self.refusal and self.graph.dimension == 3 else 1
 
     @property
     def block(self) -> bytes:
@@ -218,6 +221,20 @@ class Net:
         """2 or 3: the length of the shifts."""
         return len(self.edges[0][2])
 
+    def to_dict(self) -> dict[str, Any]:
+        """Its name, block, refusal and provenance, as JSON has them; `from_dict` makes the net of them."""
+        from .json_forms import fields_of_net
+        return fields_of_net(self)
+
+    def to_json(self) -> str:
+        return json.dumps(self.to_dict())
+
+    @classmethod
+    def from_dict(cls, fields: dict[str, Any]) -> Net:
+        """The net of what `to_dict` gave. NotANet where these are no such fields."""
+        from .json_forms import net_of_fields
+        return net_of_fields(fields)
+
     def to_networkx(self) -> networkx.MultiDiGraph[Any]:
         """A `networkx.MultiDiGraph` with the attribute `shift` of each edge, and the name of the net as its own."""
         try:
@@ -242,13 +259,13 @@ class Net:
     def __repr__(self) -> str:
         name = f" {self.name}" if self.name else ""
         if self.refusal:
-            return f"<Net{name}: unreadable, {self.refusal}>"
+            return in_one_line(f"<Net{name}: unreadable, {self.refusal}>")
         try:
             vertices, edges = len(self.vertices), len(self.edges)
             sizes = f"{vertices} {'vertex' if vertices == 1 else 'vertices'}, {edges} edge{'s' * (edges != 1)}"
-            return f"<Net{name}: {sizes}, dimension {self.dimension}>"
+            return in_one_line(f"<Net{name}: {sizes}, dimension {self.dimension}>")
         except (NotANet, IndexError):
-            return f"<Net{name}: a block of {len(self.block)} bytes>"
+            return in_one_line(f"<Net{name}: a block of {len(self.block)} bytes>")
 
     def _repr_svg_(self) -> str | None:
         from .drawing import svg_or_none

@@ -30,7 +30,7 @@ class Outcome:
     kind: str = "accepted"
     number: int = 0
     name: str = ""
-    values: dict[str, Value] = field(default_factory=dict)
+    values: dict[str, Value] = field(default_factory=dict, hash=False)
     text: str = ""
 
     @property

@@ -3,16 +3,17 @@
 from __future__ import annotations
 
 from dataclasses import dataclass
-from typing import Any
+from typing import Any, Unpack
 
 from .archive import Archive
 from .asking import DEFAULT, Archives, archive_of, single
-from .errors import NotANet
+from .errors import NotANet, in_one_line
 from .net import Net
+from .options import StructureOptions
 from .outcome import ACCEPTED, Outcome, outcome_of
 from .program import bounded, reading_report, run
 from .texts.component_text import Part, parts_of_report
-from .texts.key_graph import graph_of_key
+from .texts.key_graph import TooLong, graph_of_key
 from .texts.net_text import NoReport
 
 
@@ -21,13 +22,13 @@ class Component:
     """One kind of pieces of a net: those over one component of its quotient graph, which translations carry to each
     other.
 
-    copies   how many such pieces the net has
+    copies   how many such pieces the net has; of a net that is one of N interwoven copies in a structure, all N count
     vertices of the quotient graph that they have
     outcome  `accepted`, or why the part has no key
     key      parts with equal keys are one kind of piece, and their copies add up
     names    in the archive
 
-    Proved, as `Answer` says."""
+    Proved, as `Answer` says, but for the N copies of a structure."""
 
     copies: int
     vertices: int
@@ -54,14 +55,20 @@ class Components:
     outcome: Outcome
     parts: tuple[Component, ...] = ()
 
+    def __repr__(self) -> str:
+        told = [f"{part.copies} of {'; '.join(part.names) or part.key[:40] or part.outcome}" for part in self.parts]
+        return in_one_line(f"<Components: {', '.join(told) or self.outcome}>")
+
     @property
     def pieces(self) -> int:
-        """How many pieces the net falls into; 1 where it is connected, 0 where that is not known."""
+        """How many pieces there are: those that the net falls into, and those of its interwoven copies in a structure;
+        1 where it is connected and alone, 0 where that is not known."""
         return sum(part.copies for part in self.parts)
 
 
 @bounded
-def components(source: Any, archive: Archives = DEFAULT, *, timeout: float | None = None, **options: Any) -> Components:
+def components(source: Any, archive: Archives = DEFAULT, *, timeout: float | None = None,
+               **options: Unpack[StructureOptions]) -> Components:
     """What interpenetrates: the kinds of pieces of a net, how many of each, their keys and names. After `timeout` seconds
     ProgramTimedOut is raised.
 
@@ -74,13 +81,14 @@ def components(source: Any, archive: Archives = DEFAULT, *, timeout: float | Non
         found, = parts_of_report(told.splitlines(keepends=True))
         if found.told:
             return Components(net, _outcome(found.told))
-        return Components(net, ACCEPTED, tuple(_component(part, told, names) for part in found.parts))
+        return Components(net, ACCEPTED, tuple(_component(part, net.copies, told, names) for part in found.parts))
 
 
-def _component(part: Part, told: bytes, archive: Archive | None) -> Component:
+def _component(part: Part, times: int, told: bytes, archive: Archive | None) -> Component:
     key = part.key.decode()
     names = archive.names(key) if archive and key else ()
-    return Component(part.copies, _vertices_of(told, part), outcome_of(part.told) if part.told else ACCEPTED, key, names)
+    outcome = outcome_of(part.told) if part.told else ACCEPTED
+    return Component(part.copies * times, _vertices_of(told, part), outcome, key, names)
 
 
 def _outcome(line: bytes) -> Outcome:
@@ -94,11 +102,14 @@ def _vertices_of(told: bytes, part: Part) -> int:
 
 
 def net_of_key(key: str) -> Net:
-    """A net with this key: a key lists the edges of the primitive graph. NotANet where the text is no key.
+    """A net with this key: a key lists the edges of the primitive graph. NotANet where the text is no key, or the net
+    has a shift past 500, which no block may have.
 
     >>> net_of_key("2 1 1 1 1 0 1 1 1 1 0").edges
     ((1, 1, (0, 1)), (1, 1, (1, 0)))"""
     try:
         return Net.of_graph(graph_of_key(key.encode()))
+    except TooLong as reason:
+        raise NotANet(f"the net of this key cannot be written as a block: {reason}") from None
     except (NoReport, ValueError) as reason:
         raise NotANet(f"{key[:60]!r} is no key of a net: {reason}") from None

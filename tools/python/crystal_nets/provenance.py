@@ -31,7 +31,8 @@ def notes_of(notes: Iterable[str | Note]) -> tuple[Note, ...]:
     return tuple(note if isinstance(note, Note) else Note(OTHER, note) for note in notes)
 
 
-class Component(NamedTuple):
+@dataclass(frozen=True)
+class Component:
     """Pieces of a structure: their dimension, 0 for molecules and 1 for rods, how many of them a cell has, and what one
     of them is made of."""
 
@@ -71,7 +72,10 @@ class Provenance:
     copies      how many nets alike are woven into each other in the structure, of which this is one
     line        of the text that it was read from, which opens its block; 0 where it is of no block
     components  the pieces of the structure that the net is of, molecules and rods among them
-    units       what each vertex stands for; empty where the net is of no structure"""
+    units       what each vertex stands for; empty where the net is of no structure
+    file        that it was read from, as it was named; empty where it is of no file
+    block       of that file, as a CIF names it
+    source      of several that were given: its key or its place; empty where one was given"""
 
     notes: tuple[Note, ...] = ()
     convention: str = ""
@@ -80,6 +84,9 @@ class Provenance:
     line: int = 0
     components: tuple[Component, ...] = ()
     units: tuple[BuildingUnit, ...] = ()
+    file: str = ""
+    block: str = ""
+    source: str = ""
 
     @classmethod
     def from_dict(cls, fields: dict[str, Any]) -> Provenance:
@@ -91,14 +98,13 @@ class Provenance:
             units = tuple(BuildingUnit(str(unit["vertex"]), str(unit["formula"]), int(unit["connectivity"]),
                                        tuple(map(str, unit["atoms"]))) for unit in fields.get("units", ()))
             return cls(notes, str(fields["convention"]), str(fields["made"]), int(fields["copies"]), int(fields["line"]),
-                       components, units)
+                       components, units, *(str(fields.get(name, "")) for name in ("file", "block", "source")))
         except (KeyError, TypeError, AttributeError) as fault:
             raise ValueError(f"no provenance: {fault}") from None
 
     def to_dict(self) -> dict[str, Any]:
         """The fields as JSON has them, and beside the notes those that are doubts, and what was left out."""
-        return {**asdict(self), "components": [part._asdict() for part in self.components],
-                "doubts": list(self.doubts), "left_out": list(self.left_out)}
+        return {**asdict(self), "doubts": list(self.doubts), "left_out": list(self.left_out)}
 
     @property
     def texts(self) -> tuple[str, ...]:
@@ -129,6 +135,10 @@ class Provenance:
     def at_line(self, line: int) -> Provenance:
         """The same of a net whose block opens at this line."""
         return replace(self, line=line)
+
+    def read_from(self, file: str = "", block: str = "", source: str = "") -> Provenance:
+        """The same of a net of this file, block and source; what is empty stays as it is."""
+        return replace(self, file=file or self.file, block=block or self.block, source=source or self.source)
 
     def noted(self, before: Iterable[Note] = (), after: Iterable[Note] = ()) -> Provenance:
         """The same with more notes before and after those that it has."""

@@ -10,13 +10,15 @@ import re
 import zlib
 from collections.abc import Callable, Iterable, Iterator, Mapping
 from contextlib import contextmanager
-from dataclasses import fields, replace
 from io import BytesIO
-from pathlib import Path
-from typing import TYPE_CHECKING, Any
+from pathlib import Path, PurePath
+from typing import TYPE_CHECKING, Any, Unpack
 
 from .errors import NotANet, PackageMissing, lacking
+from .files import checked_path
 from .net import TOO_LONG, Net
+from .other_forms import is_json, is_poscar, is_structure, structure_of_fields, structure_of_json
+from .options import STRUCTURE_PACKAGES, StructureOptions, check_names, checked_options
 from .provenance import REFUSED, Note, notes_of
 from .texts.net_text import (BYTE_ORDER_MARK, FIRST_TOKEN, HEADER, MOST_BYTES, OTHER_TEXTS, Chunk, chunks_of,
                              first_word)
@@ -43,23 +45,26 @@ PLAIN_BLOCK = re.compile(  # line by line, from EDGES on with rows. ++ and *+ ne
 NAME_LINE = re.compile(rb'(?i)[ \t]*(?:NAME|ID)[ \t]+(?:"([^"\n]*)"|([^\s"#]+))')
 GZIP = b"\x1f\x8b"
 MOST_UNPACKED = 1 << 28  # bytes of a gzip file
-STRUCTURE_PACKAGES = "apt-get install python3-gemmi python3-numpy python3-scipy python3-spglib"
 
 
-def read(source: Any, name: str = "", **options: Any) -> list[Net]:
+def read(source: Any, name: str = "", **options: Unpack[StructureOptions]) -> list[Net]:
     """All nets of what is given.
 
     source   a `Net`; a path of a file; a text, which is a str with a line feed, or bytes; an `ase.Atoms`; a
-             `pymatgen` Structure or StructureGraph; a directed `networkx` graph with shifts; or edges (u, v, shift)
+             `pymatgen` Structure or StructureGraph, or the dict of one; a directed `networkx` graph with shifts; or edges
+             (u, v, shift)
     name     what a text is called, as its file would be: `quartz.cif`; its ending tells the kind
-    options  those of `Net.from_cif`, for structures
+    options  of structures, as `StructureOptions` has them
 
-    A file may be a CIF, or one of blocks or key lines as `.cgd` and `.arc`; of a folder all such files are read. Where a
-    block gives no net, a Net with its `refusal` stands in its place. NotANet is raised where the source is of no such
-    kind, and OSError where a file cannot be read.
+    A file may be a CIF, a POSCAR, an extended XYZ, the JSON of a `pymatgen` Structure, or one of blocks or key lines as
+    `.cgd` and `.arc`;
+    each may be packed by gzip. Of a folder all files of such names are read. Where a block or a structure gives no net, a Net
+    with its `refusal` stands in its place. NotANet is raised where the source is of no such kind, and OSError where a file
+    cannot be read.
 
     >>> read("PERIODIC_GRAPH\\nNAME sql\\nEDGES\\n1 1 1 0\\n1 1 0 1\\nEND\\n")
     [<Net sql: 1 vertex, 2 edges, dimension 2>]"""
+    check_names(options)
     if isinstance(source, Net):
         return [source]
     if isinstance(source, (str, bytes, os.PathLike)):
@@ -68,6 +73,8 @@ def read(source: Any, name: str = "", **options: Any) -> list[Net]:
         return nets_of_ase(source, options)
     if hasattr(source, "frac_coords"):
         return nets_of_pymatgen(source, options)
+    if isinstance(source, Mapping) and is_structure(source):
+        return nets_of_pymatgen(structure_of_fields(source), options)
     if hasattr(source, "graph") and hasattr(source, "structure"):
         return _without_options([net_of_networkx(source.graph)], options)
     if hasattr(source, "is_directed") and hasattr(source, "edges"):
@@ -77,23 +84,33 @@ def read(source: Any, name: str = "", **options: Any) -> list[Net]:
     raise NotANet(f"no net is read from {type(source).__name__}")
 
 
-def _nets_of_text(source: str | bytes | os.PathLike[str], name: str, options: Mapping[str, Any]) -> list[Net]:
+def _nets_of_text(source: str | bytes | os.PathLike[str], name: str, options: Mapping[str, object]) -> list[Net]:
     """The nets of a text, of a file, or of all files of a folder."""
     if not isinstance(source, bytes) and "\n" not in str(source) and os.path.isdir(source):
         files = [file for file in sorted(Path(source).iterdir()) if _suffix_of(file.name) in SUFFIXES]
         return [net for file in files for net in _nets_of_text(file, "", _options_for(file.name, options))]
     content, file = _content_of(source)
-    content, file = unpacked(content, name or file)
-    if _is_cif(content, file):
+    content, named = unpacked(content, name or file)
+    nets = _nets_of_content(content, named, options)
+    return [net.of_provenance(net.provenance.read_from(os.fsdecode(source))) for net in nets] if file else nets
+
+
+def _nets_of_content(content: bytes, file: str, options: Mapping[str, object]) -> list[Net]:
+    if is_json(content):
+        nets = nets_of_pymatgen(structure_of_json(content), options)
+        return [net.named(PurePath(file).stem) if file else net for net in nets]
+    if _is_structure(content, file):
         return nets_of_cif(content, options, file)
     return _without_options(nets_of_cgd(content), options)
 
 
-def _is_cif(content: bytes, file: str) -> bool:
+def _is_structure(content: bytes, file: str) -> bool:
     """Whether it is a structure: by the ending of the name, and where there is none of those by what stands in the
     text."""
     suffix = _suffix_of(file)
-    return suffix in (*CIF_SUFFIXES, *OTHER_SUFFIXES) or (suffix not in SUFFIXES and CIF.search(content) is not None)
+    if suffix in SUFFIXES:
+        return suffix in (*CIF_SUFFIXES, *OTHER_SUFFIXES)
+    return is_poscar(file, content) or CIF.search(content) is not None
 
 
 def _suffix_of(file: str) -> str:
@@ -116,12 +133,12 @@ def unpacked(content: bytes, file: str) -> tuple[bytes, str]:
     return plain, file[:-3] if file.lower().endswith(".gz") else file
 
 
-def _options_for(file: str, options: Mapping[str, Any]) -> Mapping[str, Any]:
+def _options_for(file: str, options: Mapping[str, object]) -> Mapping[str, object]:
     """The options, where the file is a structure."""
     return options if _suffix_of(file) in (*CIF_SUFFIXES, *OTHER_SUFFIXES) else {}
 
 
-def _without_options(nets: list[Net], options: Mapping[str, Any]) -> list[Net]:
+def _without_options(nets: list[Net], options: Mapping[str, object]) -> list[Net]:
     if options:
         raise TypeError(f"these options are for structures alone: {', '.join(sorted(options))}")
     return nets
@@ -145,7 +162,8 @@ def _content_of(source: str | bytes | os.PathLike[str]) -> tuple[bytes, str]:
         return source, ""
     if isinstance(source, str) and ("\n" in source or not source.strip()):
         return source.encode(errors="surrogateescape"), ""
-    return Path(source).read_bytes(), Path(source).name
+    path = checked_path(source, NotANet)
+    return path.read_bytes(), path.name
 
 
 @contextmanager
@@ -246,11 +264,11 @@ def name_of_block(lines: list[bytes]) -> str:
     return ""
 
 
-def nets_of_cif(source: str | bytes | os.PathLike[str], options: Mapping[str, Any], name: str = "") -> list[Net]:
+def nets_of_cif(source: str | bytes | os.PathLike[str], options: Mapping[str, object], name: str = "") -> list[Net]:
     """The nets of all structures of a file, as cif2cgd reads them; the name is that of the file."""
     content, file = _content_of(source)
     content, file = unpacked(content, name or file)
-    wanted = _options_of(options)
+    wanted = checked_options(options)
     with _packages_of("a structure file"):
         from .structures.conversion import Conversion, Source, convert_structure
         from .structures.reading.formats import structures_of
@@ -264,7 +282,8 @@ def nets_of_cif(source: str | bytes | os.PathLike[str], options: Mapping[str, An
     for structure in structures:
         done = Conversion(Source(file or "-", stem, stem))
         convert_structure(structure, structure.name, wanted, done)
-        nets += _nets_of_conversion(done, structure.name)
+        nets += [net.of_provenance(net.provenance.read_from(block=structure.block))
+                 for net in _nets_of_conversion(done, structure.name)]
     return nets
 
 
@@ -282,25 +301,9 @@ def _as_written(net: Net) -> Net:
     return net.named(net.graph.name)
 
 
-def _options_of(options: Mapping[str, Any]) -> Options:
-    """The options of cif2cgd. TypeError with the names that there are, where one is another."""
-    with _packages_of("a structure"):
-        from .structures.nets.choice import Options
-        from .structures.units.conventions import convention_named
-    known = [entry.name for entry in fields(Options)]
-    unknown = sorted(set(options) - set(known))
-    if unknown:
-        raise TypeError(f"there is no option {unknown[0]!r}; there are {', '.join(known)}")
-    wanted = Options(**options)
-    try:
-        return replace(wanted, convention=convention_named(wanted.convention))
-    except ValueError as reason:
-        raise NotANet(str(reason)) from None
-
-
-def nets_of_ase(atoms: Any, options: Mapping[str, Any]) -> list[Net]:
+def nets_of_ase(atoms: Any, options: Mapping[str, object]) -> list[Net]:
     """The nets of an `ase.Atoms`."""
-    wanted = _options_of(options)
+    wanted = checked_options(options)
     name = str(atoms.info.get("name") or atoms.get_chemical_formula(empirical=True))
     with _packages_of("a structure"):
         from .structures.reading.given import bounded_cell, crystal_of_atoms
@@ -309,9 +312,9 @@ def nets_of_ase(atoms: Any, options: Mapping[str, Any]) -> list[Net]:
     return _nets_of_crystal(lambda: crystal_of_atoms(name, cell, contents, places), name, wanted)
 
 
-def nets_of_pymatgen(structure: Any, options: Mapping[str, Any]) -> list[Net]:
+def nets_of_pymatgen(structure: Any, options: Mapping[str, object]) -> list[Net]:
     """The nets of a `pymatgen` structure; a site may have several elements with their occupancies."""
-    wanted = _options_of(options)
+    wanted = checked_options(options)
     name = str(structure.composition.reduced_formula)
     with _packages_of("a structure"):
         from .structures.reading.given import crystal_of_atoms

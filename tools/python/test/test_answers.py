@@ -1,5 +1,6 @@
 """What is asked and answered: identify, keys, same, components, cover, group, tables and pictures."""
 
+import json
 import random
 import unittest
 import unittest.mock
@@ -7,7 +8,7 @@ from fractions import Fraction
 
 from testing import PROGRAM, TOOLS, TOP, FolderTest, need_modules, need_program, run
 
-from crystal_nets import (Archive, Net, NotAnArchive, NotANet, ProgramFailed, components, cover, group,  # noqa: E402
+from crystal_nets import (Answer, Archive, Net, NotAnArchive, NotANet, ProgramFailed, components, cover, group,  # noqa: E402
                           identify, identify_all, keys, net_of_key, read, same, svg)
 
 DIA = Net([(1, 2, (0, 0, 0)), (1, 2, (1, 0, 0)), (1, 2, (0, 1, 0)), (1, 2, (0, 0, 1))], name="dia")
@@ -111,6 +112,44 @@ exec {PROGRAM} "$@"
                          [line for line in told.splitlines() if line.startswith("key ")])
 
 
+class Forms(AnswerTest):
+    def test_a_dict_is_answered_as_a_dict(self):
+        given = {"a": DIA.edges, 7: TOP / "examples/twice.cgd", "c": Net.refused("no atoms", "x")}
+        for answers in (identify_all(given, archive=self.archive), keys(given, self.archive)):
+            self.assertEqual({key: [answer.names for answer in found] for key, found in answers.items()},
+                             {"a": [("dia",)], 7: [("dia",)] * 2, "c": [()]})
+        sources = [(answer.net.provenance.source, answer.net.provenance.file) for answer in answers[7]]
+        self.assertEqual(sources, [("7", str(TOP / "examples/twice.cgd"))] * 2)
+        self.assertEqual([answer.net.provenance.source for answer in keys([PCU.edges, DIA.edges])], ["0", "1"])
+        self.assertEqual([entry.places for entry in group({"a": PCU, "b": DIA, "c": PCU})], [(0, 2), (1,)])
+
+    def test_answers_go_to_json_and_back(self):
+        nets = [DIA, Net(PCU.edges, name="a\nb\udcff", notes=["told"]), Net.refused("no atoms", "x")]
+        nets += [Net(edges, name=word) for word, edges in REFUSED.items()]
+        for answer in identify_all(nets, archive=self.archive):
+            again = Answer.from_dict(json.loads(answer.to_json()))
+            self.assertEqual((again, again.net), (answer, answer.net))
+            self.assertEqual((again.sequences, again.placement), (answer.sequences, answer.placement))
+            self.assertEqual(Net.from_dict(json.loads(answer.net.to_json())), answer.net)
+        for wrong in ({}, [], None, {"name": "x"}, {**DIA.to_dict(), "block": "x"}, {**DIA.to_dict(), "provenance": 3}):
+            with self.assertRaises(NotANet, msg=repr(wrong)):
+                Net.from_dict(wrong)
+            with self.assertRaises(NotANet, msg=repr(wrong)):
+                Answer.from_dict(wrong)
+
+    def test_answers_have_a_hash_and_one_line(self):
+        answers = identify_all([DIA, PCU, Net(DIA.edges, name="a\nb"), Net.refused("one\ntwo")], archive=self.archive)
+        compared = same(DIA, answers[0].primitive.net)
+        shown = [*answers, answers, answers[0].placement, answers[0].primitive, answers[0].outcome, compared, compared.map,
+                 components(DIA, archive=self.archive), group(list(answers.accepted) and [DIA, PCU, DIA]),
+                 *group([DIA, DIA]), cover(DIA, [(1, 0, 0), (0, 1, 0), (0, 0, 2)])]
+        self.assertEqual(len({*shown, *identify_all([DIA], archive=self.archive)}), len(shown))
+        for value in shown:
+            self.assertNotIn("\n", repr(value))
+            self.assertLess(len(repr(value)), 200)
+        self.assertEqual(repr(answers[0]), "<Answer dia: dia>")
+
+
 class Same(AnswerTest):
     def test_a_map_is_a_map(self):
         doubled = cover(DIA, [(1, 0, 0), (0, 2, 0), (0, 1, 1)]).net
@@ -160,6 +199,10 @@ class Parts(AnswerTest):
             with self.assertRaises(NotANet):
                 net_of_key(text)
 
+    def test_a_key_that_needs_a_long_shift_is_told_as_one(self):
+        with self.assertRaisesRegex(NotANet, r"(?!.*no key).*a shift past 500: \(.*600.*\)"):
+            net_of_key("2 1 3 1 1 0 1 1 1 1 0 1 1 600 1")
+
 
 class Covers(AnswerTest):
     def test_the_cover_is_the_same_net(self):
@@ -207,6 +250,41 @@ class Archives(AnswerTest):
         for archive in (joined, self.folder, [first, self.folder / "y.archive"]):
             self.assertEqual(identify(DIA, archive=archive).names, ("dia", "diamond"))
         self.assertTrue(same(joined["diamond"], DIA))
+
+    def test_symbols_stand_for_names(self):
+        named = [DIA.named("dia, diamond"), PCU.named("PCU, a code"), SQL.named("square lattice")]
+        archive = Archive.of(named)
+        self.assertEqual(archive["dia"], archive["dia, diamond"])
+        self.assertTrue("dia" in archive and "PCU" in archive and "square" not in archive and "" not in archive)
+        self.assertEqual(list(archive), ["dia, diamond", "PCU, a code", "square lattice"])
+        with self.assertRaises(KeyError):
+            archive["pcu"]
+        answers = identify_all([DIA, PCU, SQL], archive=archive)
+        self.assertEqual([answer.symbol for answer in answers], ["dia", "PCU", ""])
+        self.assertEqual([answer.rcsr for answer in answers], ["https://rcsr.net/nets/dia", "", ""])
+        self.assertIn("https://rcsr.net/nets/dia", answers[0]._repr_html_())
+        both = identify(DIA, archive=archive | Archive.of([DIA.named("DIA"), DIA.named("dia"), DIA]))
+        self.assertEqual((both.symbols, len(both.names)), (("dia", "DIA"), 3))
+
+    def test_archives_are_joined_and_saved(self):
+        one, other = Archive.of([DIA, PCU]), Archive.of([DIA.named("diamond"), PCU, SQL])
+        joined = one | other
+        self.assertEqual(list(joined), ["dia", "pcu", "diamond", "sql"])
+        joined.save(self.folder / "joined.archive")
+        again = Archive.load(self.folder / "joined.archive")
+        self.assertEqual((list(again), repr(again)), (list(joined), repr(joined)))
+        for archive in ([one, self.folder / "joined.archive"], [one, other], joined):
+            self.assertEqual(identify(DIA, archive=archive).names, ("dia", "diamond"))
+        self.assertTrue(same(again["sql"], SQL))
+        with self.assertRaises(TypeError):
+            one | "joined.archive"
+
+    def test_what_a_file_cannot_have_is_told(self):
+        for archive, word in ((Archive([]), "1 to 4,096"), (Archive.of([DIA]) | Archive.of([PCU.named("dia")]), "NameTaken"),
+                              (Archive.of([DIA.named('a"b')]), "no name"), (Archive.of([DIA.named("x" * 201)]), "name")):
+            with self.assertRaisesRegex(NotAnArchive, word):
+                archive.save(self.folder / "absent.archive")
+        self.assertFalse((self.folder / "absent.archive").exists())
 
     def test_nothing_in_a_file_is_trusted(self):
         source = self.folder / "nets.cgd"

@@ -2,13 +2,25 @@
 
 import pickle
 import unittest
+from pathlib import Path
 
 from testing import TOOLS, TOP, FolderTest, need_modules
 
-from crystal_nets import Net, NotANet, read  # noqa: E402
+from crystal_nets import Archive, Net, NotAnArchive, NotANet, keys, read  # noqa: E402
 
 DIA = [(1, 2, (0, 0, 0)), (1, 2, (1, 0, 0)), (1, 2, (0, 1, 0)), (1, 2, (0, 0, 1))]
 SQL = b"PERIODIC_GRAPH\nNAME sql\nEDGES\n1 1 1 0\n1 1 0 1\nEND\n"
+
+
+class Paths(unittest.TestCase):
+    def test_a_nul_is_in_no_path(self):
+        asked = ((read, NotANet), (Net.from_cif, NotANet), (Net.from_cgd, NotANet), (Archive.load, NotAnArchive))
+        for path in ("a\0b", "\0", "x.cif\0", "\0.cgd", Path("a\0b")):
+            for ask, fault in asked:
+                with self.assertRaises(fault):
+                    ask(path)
+        with self.assertRaises(NotANet):
+            keys(["a\0b"])
 
 
 class FromEdges(unittest.TestCase):

@@ -7,6 +7,7 @@ import pkgutil
 import shutil
 import subprocess
 import sys
+import tomllib
 import unittest
 
 from testing import PROGRAM, TOOLS, FolderTest, long_test, need_modules, need_program, run
@@ -104,25 +105,60 @@ class Commands(unittest.TestCase):
 
 class Installed(FolderTest):
     def test_pip_installs_it(self):
-        """In an environment of its own, without the network; it finds its page, its types and the program."""
+        """Without the network; it finds its archives, its page, its types and the program, and has the commands. Nothing
+        is left beside the sources."""
         need_program()
-        need_modules("pip", "setuptools", "venv")
-        source = self.folder / "source"
+        need_modules("pip", "setuptools", "wheel")
+        source = self.folder / "repository/tools/python"
         shutil.copytree(FOLDER, source, ignore=shutil.ignore_patterns("test", "__pycache__"))
+        (self.folder / "repository/archives").mkdir()
+        added = run(PROGRAM, "add", TOOLS.parent / "examples/pcu.cgd").stdout
+        for name in ("small", "rcsr"):
+            (self.folder / f"repository/archives/{name}.archive").write_bytes(added)
+        before = sorted(source.rglob("*"))
         place = self.folder / "place"
         run(sys.executable, "-m", "pip", "install", "--quiet", "--no-deps", "--no-build-isolation", "--no-index",
             "--no-compile", "--disable-pip-version-check", "--target", place, source, seconds=1800)
-        self.assertTrue((place / "crystal_nets/py.typed").exists())
-        self.assertTrue((place / "crystal_nets/pictures/page.html").exists())
-        code = ("import crystal_nets as c; net = c.Net([(1, 1, (1, 0)), (1, 1, (0, 1))]); print(c.__file__);"
-                "print(c.keys([net])[0].key)")
-        told = run(sys.executable, "-B", "-c", code, NET_TOOL=PROGRAM, PYTHONPATH=str(place)).stdout.decode()
-        self.assertEqual(told, f"{place}/crystal_nets/__init__.py\n2 1 1 1 1 0 1 1 1 1 0\n")
+        self.assertEqual(sorted(source.rglob("*")), before)
+        for file in ("py.typed", "pictures/page.html", "desk/page/desk.html", "archives/small.archive"):
+            self.assertTrue((place / "crystal_nets" / file).exists(), file)
+        self.assertEqual(sorted(path.name for path in (place / "bin").iterdir()), sorted(commands.HOMES))
+        code = ("import crystal_nets as c, importlib.metadata as m; print(c.__file__);"
+                "print(m.version('crystal_nets') == c.__version__, 'crystal_nets' in m.metadata('crystal_nets').get_payload());"
+                f"print(c.identify({str(TOOLS.parent / 'examples/pcu.cgd')!r}).names)")
+        there = {"NET_TOOL": PROGRAM, "PYTHONPATH": str(place), "XDG_DATA_HOME": str(self.folder)}
+        told = run(sys.executable, "-B", "-c", code, **there).stdout.decode()
+        self.assertEqual(told, f"{place}/crystal_nets/__init__.py\nTrue True\n('pcu',)\n")
+        for name in commands.HOMES:
+            self.assertIn(f"usage: {name}".encode(), run(place / "bin" / name, "--help", **there).stdout, name)
+
+    @long_test
+    def test_the_recipe_of_the_readme(self):
+        """In a fresh environment beside the packages of Debian, quartz has its name."""
+        need_program()
+        need_modules("venv", "setuptools", "wheel", "gemmi", "numpy", "scipy")
+        place = self.folder / "place"
+        run(sys.executable, "-m", "venv", "--system-site-packages", place, seconds=1800)
+        run(place / "bin/pip", "install", "--no-build-isolation", "--no-index", FOLDER, seconds=1800)
+        self.assertFalse([path for path in FOLDER.iterdir() if path.name == "build" or path.suffix == ".egg-info"])
+        code = f"import crystal_nets; print(crystal_nets.identify({str(TOOLS.parent / 'examples/quartz.cif')!r}).names)"
+        told = run(place / "bin/python", "-c", code, seconds=1800, PYTHONPATH="").stdout.decode()
+        self.assertEqual(told, "('qtz, quartz',)\n")
+
+    def test_a_command_is_one_by_its_name(self):
+        code = "import sys; sys.argv[0] = '/bin/nets'; from crystal_nets.commands import main; main()"
+        done = run(sys.executable, "-c", code, status=1, PYTHONPATH=str(FOLDER))
+        self.assertRegex(done.stderr, rb"\Athere is no command nets; there are cif2cgd, [^\n]+\n\Z")
+
+    def test_each_command_is_installed(self):
+        with open(FOLDER / "pyproject.toml", "rb") as file:
+            scripts = tomllib.load(file)["project"]["scripts"]
+        self.assertEqual(scripts, dict.fromkeys(commands.HOMES, "crystal_nets.commands:main"))
 
     def test_the_program_is_told_how_to_be_built(self):
         code = ("import sys; sys.path.insert(0, sys.argv[1])\nimport crystal_nets as c\n"
                 "try: c.keys([c.Net([(1, 1, (1, 0)), (1, 1, (0, 1))])])\n"
                 "except c.ProgramNotFound as fault: print(fault)")
         told = run(sys.executable, "-B", "-c", code, FOLDER, NET_TOOL=str(self.folder / "absent")).stdout.decode()
-        self.assertIn("./net_tool check examples/dia.cgd", told)
+        self.assertIn("./net_tool --prove", told)
         self.assertIn("install.sh", told)

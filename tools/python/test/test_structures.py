@@ -1,12 +1,34 @@
 """Structures of other programs: atoms of ase, prototypes and graphs of pymatgen, structure files."""
 
+import dataclasses
 import json
+import sys
+import unittest
 from pathlib import Path
 
-from testing import IS_LONG, TOOLS, TOP, FolderTest, need_modules, need_program
+from testing import IS_LONG, TOOLS, TOP, FolderTest, long_test, need_modules, need_program, run
 
-from crystal_nets import Archive, Net, NotANet, identify, identify_all, read  # noqa: E402
+from crystal_nets import (Archive, Net, NotANet, NotAnOption, StructureOptions, components, identify,  # noqa: E402
+                          identify_all, read, same)
+from crystal_nets.provenance import Provenance  # noqa: E402
 
+ROCK_SALT = """data_rock_salt
+_cell_length_a 5.64
+_cell_length_b 5.64
+_cell_length_c 5.64
+_cell_angle_alpha 90
+_cell_angle_beta 90
+_cell_angle_gamma 90
+_symmetry_space_group_name_H-M 'F m -3 m'
+loop_
+_atom_site_label
+_atom_site_type_symbol
+_atom_site_fract_x
+_atom_site_fract_y
+_atom_site_fract_z
+Na1 Na 0 0 0
+Cl1 Cl 0.5 0.5 0.5
+"""
 KNOWN = ("dia,", "hcb,", "pcu,", "fcu,", "bcu,", "hcp,", "lon,", "flu,", "qtz,", "sql,", "nbo,")
 
 
@@ -21,6 +43,157 @@ class StructureTest(FolderTest):
     def name_of(self, structure: object, **options: object) -> str:
         answer = identify(structure, archive=self.archive, **options)
         return answer.names[0].split(",")[0] if answer.names else str(answer.outcome)
+
+
+class Options(unittest.TestCase):
+    """Options are read as the command line reads them, or told: none is ignored."""
+
+    def setUp(self):
+        need_modules("gemmi", "numpy", "scipy")
+
+    def test_each_option_of_the_reader_is_typed(self):
+        from crystal_nets.options import CONVENTION_NAMES
+        from crystal_nets.structures.nets.choice import Options as Read
+        from crystal_nets.structures.units.conventions import AUTO, CONVENTIONS
+        self.assertEqual(set(StructureOptions.__annotations__), {entry.name for entry in dataclasses.fields(Read)})
+        self.assertEqual(set(CONVENTION_NAMES), {*CONVENTIONS, AUTO})
+
+    def test_elements_are_whole_symbols(self):
+        self.assertEqual({net.vertices for net in read(ROCK_SALT, leave_out="N")}, {net.vertices for net in read(ROCK_SALT)})
+        for asked in ("Na", {"Na"}, ("Na",), ["Na"], "Na,F", frozenset(("Na",))):
+            net, = read(ROCK_SALT, leave_out=asked, lengths={"Cl-Cl": 4.1})
+            self.assertEqual({vertex[:2] for vertex in net.vertices}, {"Cl"}, asked)
+        for wrong in ({"na"}, {"Xx"}, "", "na", "NaCl", {""}, {1}, 3, None, b"Na"):
+            with self.assertRaises(NotAnOption, msg=repr(wrong)):
+                read(ROCK_SALT, leave_out=wrong)
+
+    def test_pairs_are_taken_in_each_writing(self):
+        for pair in (("Na", "Cl"), ("Cl", "Na"), frozenset(("Na", "Cl")), "Na-Cl"):
+            net, = read(ROCK_SALT, lengths={pair: 0, "Cl-Cl": 4.1, ("Na", "Na"): 0.0})
+            self.assertEqual({vertex[:2] for vertex in net.vertices}, {"Cl"}, pair)
+        for wrong in ({("Na", "Xx"): 3}, {("Na",): 3}, {"Na": 3}, {"Na-Cl-Na": 3}, {("Na", "Cl"): "3"}, {("Na", "Cl"): -1},
+                      {("Na", "Cl"): 20.5}, {("Na", "Cl"): float("nan")}, {("Na", "Cl"): True}, {("Na", "Cl"): None},
+                      {"Na-Cl": 3.0, ("Cl", "Na"): 4.0}, [("Na", "Cl", 3)], "Na-Cl=3", {3: 3}):
+            with self.assertRaises(NotAnOption, msg=repr(wrong)):
+                read(ROCK_SALT, lengths=wrong)
+
+    def test_what_is_ticked_is_true_or_false(self):
+        for name in ("keep_ions", "hydrogen_bonds", "partial_as_full", "accept_misfit", "every_copy"):
+            for wrong in ("no", 1, None, "False"):
+                with self.assertRaises(NotAnOption):
+                    read(ROCK_SALT, **{name: wrong})
+
+    def test_a_name_that_is_none_is_told_of_each_source(self):
+        for source in (ROCK_SALT, Net([(1, 1, (1, 0)), (1, 1, (0, 1))]), [(1, 1, (1, 0)), (1, 1, (0, 1))]):
+            with self.assertRaisesRegex(TypeError, "leave_out"):
+                read(source, leaveout={"Na"})
+
+    @long_test
+    def test_mypy_sees_a_name_that_is_none(self):
+        need_modules("mypy")
+        for words, is_right in (('leave_out={"Na"}, lengths={("Fe", "C"): 1.0}', True), ('leaveout={"Na"}', False),
+                                ('keep_ions="no"', False), ('convention="single-node"', False)):
+            code = f'from crystal_nets import identify\nidentify("x.cif", {words})\n'
+            done = run(sys.executable, "-m", "mypy", "--cache-dir", "/dev/null", "--enable-incomplete-feature=Unpack",
+                       "--follow-imports=silent", "--ignore-missing-imports", "-c", code, status=None, seconds=1800,
+                       MYPYPATH=str(TOOLS / "python"))
+            self.assertEqual(done.returncode == 0, is_right, (words, done.stdout))
+
+
+CUPRITE = """data_cuprite
+_cell_length_a 4.27
+_cell_length_b 4.27
+_cell_length_c 4.27
+_cell_angle_alpha 90
+_cell_angle_beta 90
+_cell_angle_gamma 90
+loop_
+_atom_site_label
+_atom_site_type_symbol
+_atom_site_fract_x
+_atom_site_fract_y
+_atom_site_fract_z
+O1 O 0 0 0
+O2 O 0.5 0.5 0.5
+Cu1 Cu 0.25 0.25 0.25
+Cu2 Cu 0.25 0.75 0.75
+Cu3 Cu 0.75 0.25 0.75
+Cu4 Cu 0.75 0.75 0.25
+"""
+
+
+class Interwoven(StructureTest):
+    def test_the_number_of_copies_goes_with_the_net(self):
+        net, = read(CUPRITE)
+        answer = identify(net, archive=self.archive)
+        self.assertEqual((net.copies, answer.copies), (2, 2))
+        self.assertRegex(str(answer), "dia.*, one of 2 interwoven copies")
+        self.assertIn("one of 2 interwoven copies", answer._repr_html_())
+        found = components(net, archive=self.archive)
+        self.assertEqual((found.pieces, [part.copies for part in found.parts]), (2, [2]))
+        compared = same(net, self.archive[next(name for name in self.archive if name.startswith("dia,"))])
+        self.assertTrue(compared)
+        self.assertEqual(compared.notes, ("the first is one of 2 interwoven copies, and one is compared",))
+
+    def test_one_net_is_one_of_one(self):
+        rock_salt, = read(ROCK_SALT)
+        self.assertEqual((rock_salt.copies, components(rock_salt, archive=None).pieces), (1, 1))
+        self.assertEqual(same(rock_salt, rock_salt).notes, ())
+        layers = Net([(1, 1, (1, 0)), (1, 1, (0, 1))]).of_provenance(Provenance(copies=2))
+        self.assertEqual(layers.copies, 1)
+
+    def test_tables_have_the_number(self):
+        need_modules("pandas")
+        self.assertEqual(list(identify_all([CUPRITE, ROCK_SALT], archive=None).to_pandas()["copies"]), [2, 1])
+
+
+POSCAR = """rock salt
+5.64
+ 0 .5 .5
+ .5 0 .5
+ .5 .5 0
+Na Cl
+1 1
+Direct
+0 0 0
+.5 .5 .5
+"""
+
+
+class OtherForms(StructureTest):
+    def test_a_poscar_is_read_by_its_name_and_by_its_text(self):
+        need_modules("ase")
+        for name in ("POSCAR", "x.vasp", "CONTCAR.1", "x_POSCAR"):
+            path = self.folder / name
+            path.write_text(POSCAR)
+            net, = read(path)
+            self.assertEqual((len(net.vertices), net.provenance.file), (2, str(path)))
+        self.assertEqual(self.name_of(POSCAR), "pcu")
+        self.assertEqual(len(read(POSCAR.encode(), leave_out="Na", lengths={"Cl-Cl": 4.1})[0].vertices), 1)
+        cut, = read(POSCAR.rpartition("0 0 0")[0], name="POSCAR")
+        self.assertIn("no vasp file", cut.refusal)
+
+    def test_the_json_of_pymatgen(self):
+        need_modules("pymatgen")
+        from pymatgen.core import Lattice, Structure
+        structure = Structure.from_spacegroup("Fm-3m", Lattice.cubic(5.64), ["Na", "Cl"], [[0, 0, 0], [0.5, 0.5, 0.5]])
+        path = self.folder / "salt.json"
+        path.write_text(structure.to_json())
+        for source in (structure.as_dict(), structure.to_json() + "\n", path):
+            self.assertEqual(self.name_of(source), "pcu")
+        self.assertEqual(read(path)[0].name, "salt")
+        self.assertEqual(len(identify_all([structure.as_dict()] * 2, archive=None)), 2)
+        for wrong in ({"lattice": 1, "sites": 2}, '{"lattice": 1, "sites": [\n', '{"lattice": {}, "sites": []}\n'):
+            with self.assertRaises(NotANet):
+                read(wrong)
+        with self.assertRaises(NotANet):
+            identify_all(structure.as_dict())
+
+    def test_a_net_knows_where_it_is_from(self):
+        path = self.folder / "two.cif"
+        path.write_text(ROCK_SALT + CUPRITE)
+        told = [(net.provenance.file, net.provenance.block, net.provenance.convention) for net in read(path)]
+        self.assertEqual(told, [(str(path), "rock_salt", "all-atoms"), (str(path), "cuprite", "all-atoms")])
 
 
 class Ase(StructureTest):
@@ -74,7 +247,7 @@ class Ase(StructureTest):
         self.assertEqual(self.name_of(atoms, leave_out={"Na"}, lengths={frozenset(("Cl",)): 4.1}), "fcu")
         with self.assertRaises(TypeError):
             read(atoms, no_such_option=True)
-        with self.assertRaises(NotANet):
+        with self.assertRaises(NotAnOption):
             read(atoms, convention="nobody's")
 
 

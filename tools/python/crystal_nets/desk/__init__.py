@@ -6,6 +6,7 @@ processes of their own, with limits of time and memory.
 command      the words of the command line, the server's beginning and its clean end
 application  the addresses of the page, with Flask
 guard        who may ask: the token, Host and Origin; the headers of each answer
+connections  which connections are open, and how long they may be
 service      the server itself
 worker       processes with limits, one for each question, and what became of them
 warm         what these processes share: the modules and the archives, loaded once

@@ -10,10 +10,12 @@ from typing import Any
 from flask import Flask, Response, request
 from werkzeug.exceptions import BadRequest, HTTPException
 
+from ..options import CONVENTION_NAMES
 from ..pictures.text import PALETTE
 from ..provenance import Provenance
 from . import questions
-from .files import AT_ONCE, shown_name
+from .connections import Connections
+from .files import AT_ONCE, content_of, shown_name
 from .guard import MOST_BYTES, TOO_LARGE, Guard, Rejected, with_headers
 from .worker import ClientGone, NoAnswer, Workers
 
@@ -22,17 +24,16 @@ VIEWER = Path(__file__).resolve().parents[1] / "pictures/viewer.js"
 FILES = {"": (PAGE / "desk.html", "text/html"), "desk.css": (PAGE / "desk.css", "text/css"),
          "desk.js": (PAGE / "desk.js", "text/javascript"), "cards.js": (PAGE / "cards.js", "text/javascript"),
          "viewer.js": (VIEWER, "text/javascript"), "icon.svg": (PAGE / "icon.svg", "image/svg+xml")}
-CONVENTIONS = ("all-atoms", "single-nodes", "all-nodes", "pe", "pem", "standard", "auto")
 CHOICES = ("keep_ions", "hydrogen_bonds", "partial_as_full", "accept_misfit", "every_copy")
 GONE = 499  # nobody reads it
 NOT_THERE = "there is nothing at this address"
 
 
-def application(guard: Guard, workers: Workers, given: Sequence[Path] = ()) -> Flask:
+def application(guard: Guard, workers: Workers, connections: Connections, given: Sequence[Path] = ()) -> Flask:
     """The application that serves the page, and the files that were named at the start."""
     app = Flask("net_desk", static_folder=None)
     app.config["MAX_CONTENT_LENGTH"] = MOST_BYTES
-    app.before_request(lambda: guard.check(request))
+    app.before_request(lambda: check(guard, connections))
     app.after_request(with_headers)
     app.register_error_handler(Rejected, lambda fault: told(fault.reason, fault.status))
     app.register_error_handler(NoAnswer, lambda fault: told(str(fault), 200))
@@ -41,8 +42,14 @@ def application(guard: Guard, workers: Workers, given: Sequence[Path] = ()) -> F
     app.register_error_handler(Exception, lambda fault: told(f"net_desk failed: {type(fault).__name__} {fault}", 500))
     add_pages(app)
     add_given(app, given)
-    add_questions(app, workers)
+    add_questions(app, workers, connections)
     return app
+
+
+def check(guard: Guard, connections: Connections) -> None:
+    """Raises Rejected where the request is not of the page; one that is has its time."""
+    guard.check(request)
+    connections.has_shown_token(request.environ.get("werkzeug.socket"))
 
 
 def told(reason: str, status: int) -> Response:
@@ -77,19 +84,19 @@ def add_given(app: Flask, given: Sequence[Path]) -> None:
         if number >= len(given):
             return told("there is no such file", 404)
         try:
-            if given[number].stat().st_size > MOST_BYTES:
-                return told(TOO_LARGE, 413)
-            return Response(given[number].read_bytes(), mimetype="application/octet-stream")
+            content = content_of(given[number], MOST_BYTES + 1)
         except OSError as fault:
             return told(f"it cannot be read: {fault.strerror}", 404)
+        return told(TOO_LARGE, 413) if len(content) > MOST_BYTES else Response(content, mimetype="application/octet-stream")
 
     app.add_url_rule("/<token>/given", "given", names)
     app.add_url_rule("/<token>/given/<int:number>", "given_file", content)
 
 
-def add_questions(app: Flask, workers: Workers) -> None:
+def add_questions(app: Flask, workers: Workers, connections: Connections) -> None:
     def ask(question: Callable[..., Any], *arguments: Any) -> Response:
         client = request.environ.get("werkzeug.socket")
+        connections.is_read(client)
         return Response(workers.ask(question, *arguments, client=client), mimetype="application/json")
 
     def archives(token: str) -> Response:
@@ -151,7 +158,7 @@ def provenance() -> Provenance:
 def options_of_form() -> dict[str, Any]:
     """How structures are read: the convention, and what is ticked."""
     convention = text("convention")
-    if convention not in CONVENTIONS:
+    if convention not in CONVENTION_NAMES:
         raise BadRequest("there is no such convention")
     ticked = list_of_texts("choices")
     if not set(ticked) <= set(CHOICES):

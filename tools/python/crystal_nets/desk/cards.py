@@ -19,6 +19,7 @@ from ..pictures.svg import picture
 from ..pictures.text import label_of, printable
 from ..pictures.view import view_of
 from ..program import run
+from ..symbols import rcsr_address
 from ..texts.net_text import NetReport, nets_of_report
 from .archives import names_of
 from .beyond import naming, told as told_beyond
@@ -49,7 +50,7 @@ def card(net: Net) -> dict[str, Any]:
 
 
 def _head(net: Net) -> dict[str, Any]:
-    return {"name": printable(net.name), "notes": [printable(note) for note in net.notes]}
+    return {"name": printable(net.name), "notes": [printable(note) for note in net.notes], "copies": net.copies}
 
 
 def _with_names(told: bytes, report: NetReport) -> str:
@@ -65,6 +66,7 @@ def _with_names(told: bytes, report: NetReport) -> str:
 def _of_key(net: Net, report: NetReport) -> dict[str, Any]:
     key = report.key.decode()
     done = {"key": key, "names": [{"archive": stem, "name": printable(name)} for stem, name in names_of(key)],
+            "rcsr": rcsr_address([name for _, name in names_of(key)], report.graph[b"d"]),
             "sequences": _sequences(report.shells), "scale": report.scale, "classes": report.classes}
     try:
         placed = placed_net(report)
@@ -73,7 +75,7 @@ def _of_key(net: Net, report: NetReport) -> dict[str, Any]:
     shape = Shape(placed)
     view = view_of(shape)
     done |= {"cell": _cell(shape), "picture": card_of(report, view), "svg": picture(view, label_of(report))}
-    drawn = woven_copies(net, placed, net.provenance.copies)
+    drawn = woven_copies(net, placed, net.copies)
     return {**done, "woven": asdict(drawn)} if drawn else done
 
 

@@ -6,7 +6,9 @@ import argparse
 import os
 import signal
 import socket
+import stat
 import sys
+import tempfile
 import threading
 import webbrowser
 from collections.abc import Callable
@@ -68,10 +70,12 @@ def main() -> int:
         return failed(f"port {asked.port} cannot be had: {taken.strerror}; give another, or none at all")
     workers = Workers(Limits(asked.seconds, asked.memory << 20))
     workers.start()
-    with Service(listener, workers, [path.absolute() for path in asked.files]) as service:
+    with (Service(listener, workers, [path.absolute() for path in asked.files]) as service,
+          tempfile.TemporaryDirectory(prefix="net_desk.", ignore_cleanup_errors=True) as folder):
         print(f"net_desk: {service.address}\nnet_desk: Ctrl-C ends it", flush=True)
         if not asked.no_browser:
-            threading.Thread(target=open_browser, args=(service.address,), daemon=True).start()
+            path = write_leading_file(folder, service.address)
+            threading.Thread(target=open_browser, args=(path,), daemon=True).start()
         try:
             service.serve()
         except KeyboardInterrupt:  # once is enough: the rest ends what runs
@@ -96,6 +100,8 @@ def fault_of_files(files: list[Path]) -> str:
             return f"{path} is a folder; name files, or drop them on the page"
         if not os.access(path, os.R_OK):
             return f"{path} cannot be read"
+        if not stat.S_ISREG(path.stat().st_mode):
+            return f"{path} is no file, but a pipe or a device"
     return ""
 
 
@@ -122,11 +128,22 @@ def listening(wanted: int) -> socket.socket:
     return listener
 
 
-def open_browser(address: str) -> None:
-    """Opens the page; or says that no browser was found."""
+def write_leading_file(folder: str, address: str) -> Path:
+    """A file of mode 0600 that leads a browser to the page: so the command line of the browser, which all users of the
+    machine may read, has the name of the file and not the token."""
+    path = Path(folder, "net_desk.html")
+    with open(os.open(path, os.O_WRONLY | os.O_CREAT | os.O_EXCL, 0o600), "w", encoding="ascii") as file:
+        file.write(f'<!doctype html><meta charset="utf-8"><meta name="referrer" content="no-referrer">'
+                   f'<meta http-equiv="refresh" content="0; url={address}"><title>net_desk</title>'
+                   f'<p><a href="{address}">net_desk</a></p>\n')
+    return path
+
+
+def open_browser(path: Path) -> None:
+    """Opens the page by the file that leads there; or says that no browser was found."""
     has_screen = os.environ.get("DISPLAY") or os.environ.get("WAYLAND_DISPLAY") or os.environ.get("BROWSER")
     try:
-        is_open = bool(has_screen) and webbrowser.open(address)
+        is_open = bool(has_screen) and webbrowser.open(path.as_uri())
     except (webbrowser.Error, OSError):
         is_open = False
     if not is_open:

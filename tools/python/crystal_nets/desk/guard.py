@@ -2,11 +2,14 @@
 
 The page is for the browser of the one who started the server, and for no other page in it. So the address has a token,
 which no other page knows; Host is tested, since a name of a stranger may lead to this machine (DNS rebinding); and so
-is Origin, which a browser tells with each request that another page makes."""
+is Origin, which a browser tells with each request that another page makes. The port in Host may be another than that
+of the server, as where it is forwarded from elsewhere. The page itself may be opened from anywhere, by who knows the
+token: so does the file that leads the browser to it."""
 
 from __future__ import annotations
 
 import hmac
+import re
 import secrets
 from dataclasses import dataclass, field
 
@@ -18,6 +21,8 @@ HEADERS = {"Content-Security-Policy": POLICY, "X-Content-Type-Options": "nosniff
            "Cross-Origin-Opener-Policy": "same-origin", "Cross-Origin-Resource-Policy": "same-origin",
            "X-Frame-Options": "DENY", "Cache-Control": "no-store"}
 SAFE = ("GET", "HEAD")
+LOCAL = re.compile(r"(?:127\.0\.0\.1|localhost|\[::1\])(?::[1-9]\d{0,4})?", re.ASCII)  # names of this machine
+OWN = ("same-origin", "none")  # what Sec-Fetch-Site tells of a request of the page, or of the address that was typed
 MOST_BYTES = 64 * 2**20  # of one request
 TOO_LARGE = f"the file is larger than {MOST_BYTES >> 20} MB"
 
@@ -37,18 +42,15 @@ class Guard:
     port: int
     token: str = field(default_factory=lambda: secrets.token_urlsafe(24))
 
-    @property
-    def hosts(self) -> tuple[str, ...]:
-        return f"127.0.0.1:{self.port}", f"localhost:{self.port}"
-
     def check(self, request: Request) -> None:
         """Raises Rejected where the request is not of the page. It comes before anything is read of a body."""
-        if request.headers.get("Host") not in self.hosts:
+        host = request.headers.get("Host", "")
+        if LOCAL.fullmatch(host) is None:
             raise Rejected(403, "the request is for another host")
         origin = request.headers.get("Origin")
-        if origin is not None and origin not in [f"http://{host}" for host in self.hosts]:
+        if origin is not None and origin != f"http://{host}":
             raise Rejected(403, "the request is of another page")
-        if request.headers.get("Sec-Fetch-Site", "same-origin") not in ("same-origin", "none"):
+        if request.headers.get("Sec-Fetch-Site", "same-origin") not in OWN and not is_opened(request):
             raise Rejected(403, "the request is of another page")
         if not self.has_token(request.path):
             raise Rejected(403, "the address has not the token that net_desk printed")
@@ -65,6 +67,13 @@ class Guard:
         """Whether the first part of a path is the token."""
         given = path.split("/")[1] if path.count("/") > 1 else ""
         return hmac.compare_digest(given.encode(), self.token.encode())
+
+
+def is_opened(request: Request) -> bool:
+    """Whether a window goes to the page, as by a link or a file that leads there; not a frame, nor a script."""
+    return (request.method == "GET" and request.path.count("/") == 2 and request.path.endswith("/")
+            and request.headers.get("Sec-Fetch-Mode") == "navigate"
+            and request.headers.get("Sec-Fetch-Dest") == "document")
 
 
 def with_headers(response: Response) -> Response:

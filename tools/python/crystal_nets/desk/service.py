@@ -6,10 +6,13 @@ import socket
 import sys
 from collections.abc import Sequence
 from pathlib import Path
+from typing import Any
 
-from werkzeug.serving import WSGIRequestHandler, make_server
+from flask import Flask
+from werkzeug.serving import ThreadedWSGIServer, WSGIRequestHandler
 
 from .application import application
+from .connections import Connections
 from .guard import Guard
 from .worker import Workers
 
@@ -30,6 +33,32 @@ class Handler(WSGIRequestHandler):
         pass
 
 
+class Server(ThreadedWSGIServer):
+    """Werkzeug's server with a thread for each connection, all of which have an end."""
+
+    def __init__(self, listener: socket.socket, app: Flask, connections: Connections) -> None:
+        super().__init__("127.0.0.1", listener.getsockname()[1], app, handler=Handler, fd=listener.fileno())
+        self.connections = connections
+
+    def process_request(self, request: Any, client_address: Any) -> None:
+        self.connections.add(request)
+        super().process_request(request, client_address)
+
+    def shutdown_request(self, request: Any) -> None:
+        self.connections.remove(request)
+        super().shutdown_request(request)
+
+    def service_actions(self) -> None:
+        """What is done at each look for new connections."""
+        self.connections.end_late()
+
+    def handle_error(self, *_: object) -> None:
+        """One line of what a thread could not do."""
+        fault = sys.exc_info()[1]
+        if not isinstance(fault, (ConnectionError, TimeoutError)):
+            print(f"net_desk: a request could not be answered: {type(fault).__name__} {fault}", file=sys.stderr)
+
+
 class Service:
     """The server of a socket that listens, with its workers."""
 
@@ -37,10 +66,8 @@ class Service:
         self.workers = workers
         port = listener.getsockname()[1]
         self.guard = Guard(port)
-        app = application(self.guard, workers, given)
-        self._server = make_server("127.0.0.1", port, app, threaded=True, request_handler=Handler,
-                                   fd=listener.fileno())
-        setattr(self._server, "handle_error", self.handle_error)
+        connections = Connections()
+        self._server = Server(listener, application(self.guard, workers, connections, given), connections)
         self._listener = listener
 
     @property
@@ -53,12 +80,6 @@ class Service:
 
     def stop(self) -> None:
         self._server.shutdown()
-
-    def handle_error(self, *_: object) -> None:
-        """One line of what a thread could not do."""
-        fault = sys.exc_info()[1]
-        if not isinstance(fault, (ConnectionError, TimeoutError)):
-            print(f"net_desk: a request could not be answered: {type(fault).__name__} {fault}", file=sys.stderr)
 
     def __enter__(self) -> Service:
         return self

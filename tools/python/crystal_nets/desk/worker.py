@@ -160,8 +160,9 @@ def is_gone(client: socket.socket | None) -> bool:
     if client is None:
         return False
     try:
-        ready, _, _ = select.select([client], [], [], 0)
-        return bool(ready) and client.recv(1, socket.MSG_PEEK) == b""
+        look = select.poll()  # select itself knows no file number past 1,023
+        look.register(client, select.POLLIN)
+        return bool(look.poll(0)) and client.recv(1, socket.MSG_PEEK) == b""
     except (OSError, ValueError):
         return True
 
@@ -180,6 +181,7 @@ def end_group(process: Any) -> None:
 def serve(writer: Connection, limits: Limits, question: Callable[..., Any], arguments: tuple) -> None:
     """The whole life of a worker."""
     os.setsid()  # a group of its own, which is ended as one
+    threading.Thread(target=end_with, args=(os.getppid(),), daemon=True).start()
     signal.signal(signal.SIGINT, signal.SIG_IGN)
     for what, most in ((resource.RLIMIT_CPU, limits.seconds), (resource.RLIMIT_AS, limits.memory),
                        (resource.RLIMIT_CORE, 0)):
@@ -187,6 +189,13 @@ def serve(writer: Connection, limits: Limits, question: Callable[..., Any], argu
     answer = json.dumps(answer_to(question, arguments, limits)).encode()
     with suppress(BrokenPipeError):  # the server is gone
         writer.send_bytes(answer)
+
+
+def end_with(parent: int) -> None:
+    """Ends the worker and the program that it runs once the fork server is gone, as it is after the server was killed."""
+    while os.getppid() == parent:
+        time.sleep(LOOK)
+    os.killpg(0, signal.SIGKILL)
 
 
 def answer_to(question: Callable[..., Any], arguments: tuple, limits: Limits) -> Any:

@@ -14,11 +14,10 @@ from concurrent.futures import Future, ProcessPoolExecutor
 from concurrent.futures.process import BrokenProcessPool
 from itertools import islice
 
-import gemmi
-
+from ..errors import NotAnOption
 from ..files import telling_text
+from ..options import elements_of, lengths_of
 from ..progress import Progress
-
 from .bonds.listed import BY_RULES, WAYS
 from .bonds.rules import INTERMETALLIC
 from .nets.choice import ZEOLITE, Options
@@ -76,11 +75,10 @@ def words() -> argparse.Namespace:
 
 
 def elements(text: str) -> frozenset[str]:
-    found = frozenset(text.replace(",", " ").split())
-    unknown = sorted(word for word in found if not is_element(word))
-    if unknown or not found:
-        raise argparse.ArgumentTypeError(f"{text!r} is not as Na,Cl")
-    return found
+    try:
+        return elements_of(text)
+    except NotAnOption as reason:
+        raise argparse.ArgumentTypeError(str(reason)) from None
 
 
 def convention(text: str) -> str:
@@ -90,17 +88,15 @@ def convention(text: str) -> str:
         raise argparse.ArgumentTypeError(str(reason)) from reason
 
 
-def is_element(word: str) -> bool:
-    """Whether it is the symbol of an element, as it is usually written."""
-    element = gemmi.Element(word)
-    return element.atomic_number > 0 and element.name == word
-
-
 def pair_and_length(text: str) -> tuple[frozenset[str], float]:
-    found = re.fullmatch(r"([A-Z][a-z]?)-([A-Z][a-z]?)=([0-9]+\.?[0-9]*)", text)
-    if not found or not is_element(found[1]) or not is_element(found[2]) or float(found[3]) > 20:
+    found = re.fullmatch(r"([A-Z][a-z]?-[A-Z][a-z]?)=([0-9]+\.?[0-9]*)", text)
+    if not found:
         raise argparse.ArgumentTypeError(f"{text!r} is not as Ba-O=3.4")
-    return frozenset(found.group(1, 2)), float(found[3])
+    try:
+        pair, = lengths_of({found[1]: float(found[2])}).items()
+    except NotAnOption as reason:
+        raise argparse.ArgumentTypeError(f"{text!r} is not as Ba-O=3.4: {reason}") from None
+    return pair
 
 
 def number_of_jobs(text: str) -> int:

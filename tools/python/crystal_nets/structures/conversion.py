@@ -75,7 +75,8 @@ def convert(source: Source, content: bytes, options: Options) -> Conversion:
         done.refuse(source.label, reason)
         return done
     for structure in structures:
-        convert_structure(structure, f"{source.label} {structure.block}".rstrip(), options, done)
+        block = structure.block if len(structures) > 1 else ""
+        convert_structure(structure, f"{source.label} {block}".rstrip(), options, done)
     return done
 
 

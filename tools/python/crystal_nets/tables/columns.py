@@ -8,15 +8,16 @@ from pathlib import Path
 from typing import TYPE_CHECKING
 
 from ..errors import NotATable, PackageMissing, lacking
+from ..files import checked_path
 from ..texts.row_text import ESCAPES
 
 if TYPE_CHECKING:
     import pandas
 
-OF_A_PIECE = ("source", "line", "name", "outcome", "dimension", "vertices", "edges", "classes", "D0", "key", "sequences",
-              "notes", "reason", "by", "index", "small_key", "certificate", "block")
+OF_A_PIECE = ("source", "line", "name", "outcome", "dimension", "vertices", "edges", "classes", "D0", "copies", "key",
+              "sequences", "notes", "reason", "by", "index", "small_key", "certificate", "block")
 TABLE = ("number", *OF_A_PIECE[:OF_A_PIECE.index("notes")], "group", "names", "by", "index", "notes")
-NUMBERS = ("number", "line", "dimension", "vertices", "edges", "classes", "D0", "group")
+NUMBERS = ("number", "line", "dimension", "vertices", "edges", "classes", "D0", "copies", "group")
 QUOTE_NONE = 3  # of the module csv
 MARKS = {**{bytes((byte,)).decode("latin-1"): text.decode() for byte, text in ESCAPES.items()}, '"': "\\x22"}
 ESCAPED = re.compile(r"\\(x[0-9a-f]{2}|.)")
@@ -50,7 +51,8 @@ def read_table(path: str | os.PathLike[str]) -> pandas.DataFrame:
         import pandas
     except ImportError as missing:
         raise PackageMissing(lacking(missing, "apt-get install python3-pandas")) from None
-    file = Path(path) / "table.tsv" if Path(path).is_dir() else Path(path)
+    place = checked_path(path, NotATable)
+    file = place / "table.tsv" if place.is_dir() else place
     _check_lines(file)
     try:
         return pandas.read_csv(file, sep="\t", dtype={name: "Int64" if name in NUMBERS else "str" for name in TABLE},

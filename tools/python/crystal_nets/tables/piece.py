@@ -91,13 +91,14 @@ def _nets_of(portion: Portion, content: bytes, settings: dict[str, Any]) -> Iter
 def _row(source: str, answer: Answer) -> bytes:
     """The row of an answer. Of a net that is looked for in archives of nets without a key it has the block."""
     sizes = (answer.net.provenance.line, answer.dimension, answer.vertices, answer.edges, answer.classes, answer.denominator)
+    copies = str(answer.copies) if answer.vertices else ""
     at, dimension, vertices, edges, classes, scale = (str(size or "") for size in sizes)
     sequences = ";".join(" ".join(map(str, sequence)) for sequence in sorted(set(answer.sequences)))
     reason = "" if answer.accepted else str(answer.outcome)
     small_key = answer.small.key if answer.small else ""
     block = answer.net.block.decode(errors="surrogateescape") if answer.index and not small_key else ""
     fields = (escaped(source), at, escaped(answer.name), short_outcome(answer.outcome), dimension, vertices, edges, classes,
-              scale, answer.key, sequences, joined(answer.notes), escaped(reason), str(answer.by), answer.index, small_key,
-              escaped(answer.certificate), escaped(block))
+              scale, copies, answer.key, sequences, joined(answer.notes), escaped(reason), str(answer.by), answer.index,
+              small_key, escaped(answer.certificate), escaped(block))
     assert len(fields) == len(OF_A_PIECE)
     return line_of(fields)

@@ -9,10 +9,14 @@ from ..lattice import Vector
 from .net_text import GREATEST_SHIFT, NoReport, key_numbers
 
 
+class TooLong(NoReport):
+    """The net of a key has a shift that a block may not have."""
+
+
 def graph_of_key(key: bytes, name: str = "") -> QuotientGraph:
     """The quotient graph of a net that has this key; its vertices are the classes, from 1 on.
 
-    NoReport where the key is of no connected net, or a shift would pass what the program takes."""
+    NoReport where the key is of no connected net; TooLong where a shift would pass what the program takes."""
     dimension, classes, _, *numbers = key_numbers(key)
     size = dimension + 2
     edges = [(row[0], row[1], tuple(row[2:])) for row in zip(*[iter(numbers)] * size)]
@@ -23,7 +27,7 @@ def graph_of_key(key: bytes, name: str = "") -> QuotientGraph:
     for (i, j, _), loop in zip(edges, loops):
         shift = coefficients(loop, basis)
         if max(abs(part) for part in shift) > GREATEST_SHIFT:
-            raise NoReport(f"the key gives a shift past {GREATEST_SHIFT}: {shift}")
+            raise TooLong(f"the key gives a shift past {GREATEST_SHIFT}: {shift}")
         found.append(Edge(i - 1, j - 1, shift))
     return QuotientGraph(tuple(range(1, classes + 1)), tuple(found), dimension, name)
 

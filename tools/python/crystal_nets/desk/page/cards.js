@@ -66,9 +66,11 @@ function sizesOf(card) {
   return listOf([
     ['given', sizes && sizes.vertices ? `${count(sizes.vertices, 'vertex', 'vertices')}, ` +
       `${count(sizes.edges, 'edge', 'edges')}, dimension ${sizes.d}` : ''],
+    ['interwoven', card.copies > 1 ? `one of ${card.copies} copies alike` : ''],
     ['primitive', card.classes ? `${count(card.classes, 'vertex', 'vertices')}, ${count(cell.kinds, 'kind', 'kinds')}, ` +
       `${cell.degrees.join(', ')}-connected` : ''],
     ['cell', cell ? cellText(cell) : ''],
+    ['RCSR', card.rcsr ? make('code', {}, card.rcsr) : ''],
     ['sequences', shells.length ? make('span', {}, ...shells) : '']]);
 }
 

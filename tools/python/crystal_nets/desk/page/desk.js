@@ -193,6 +193,9 @@ function verdictOf(answer, one, other) {
   (answer.reasons || []).forEach((reason, k) => {
     if (reason.what) parts.push(make('p', {}, `${[one, other][k].name}: ${reason.what}`));
   });
+  for (const card of [one, other]) {
+    if (card.copies > 1) parts.push(make('p', {}, `${card.name} is one of ${card.copies} interwoven copies: one is compared.`));
+  }
   if (answer.map) parts.push(...mapOf(answer.map, one, other));
   (answer.meeting || []).forEach((text, k) => {
     const { name } = [one, other][k];

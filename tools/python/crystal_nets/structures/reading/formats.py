@@ -1,25 +1,28 @@
 """Structure files of all kinds: CIF, mmCIF and magnetic CIF by gemmi, and others by ase, where it is there.
 
-The formats of ase are told by the ending of the name, or by the name itself: POSCAR and CONTCAR of VASP, and extended XYZ
-with a lattice. Of a trajectory the last structure is read."""
+The formats of ase are POSCAR and CONTCAR of VASP, told by the name or by the first five lines, and extended XYZ with a
+lattice, told by the ending of the name. Of a trajectory the last structure is read."""
 
 from __future__ import annotations
 
 from collections.abc import Callable
 from dataclasses import dataclass
+from functools import partial
 from io import StringIO
 from pathlib import PurePath
 from typing import Any
 
+from ...errors import lacking
+from ...other_forms import is_poscar
 from ...provenance import OTHER, Note
+from ...reading import CIF_SUFFIXES
 from ...refusal import Refused
 from ..atoms.crystal import Crystal
 from .document import blocks_of, text_of_file
 from .given import bounded_cell, crystal_of_atoms
 from .structure import read_crystal
 
-OF_ASE = {".vasp": "vasp", ".poscar": "vasp", ".contcar": "vasp", ".xyz": "extxyz", ".extxyz": "extxyz"}
-NAMES_OF_VASP = ("poscar", "contcar")
+XYZ_SUFFIXES = (".xyz", ".extxyz")
 
 
 @dataclass(frozen=True)
@@ -27,32 +30,33 @@ class Structure:
     """A structure of a file, by its name; the notes on it are there also where it is refused."""
 
     name: str
-    block: str         # of a CIF; empty where the file has one structure
+    block: str         # of a CIF, as it names it; empty in other files
     notes: list[Note]
     crystal: Callable[[], Crystal]
 
 
 def structures_of(content: bytes, file: str, stem: str) -> list[Structure]:
     """The structures of a file. Raises Refused where it has none."""
-    format_of_ase = _format_of(file)
+    format_of_ase = _format_of(file, content)
     if format_of_ase:
         notes: list[Note] = []
-        return [Structure(stem, "", notes, lambda: _crystal_by_ase(content, format_of_ase, stem, notes))]
-    blocks = blocks_of(content, stem)
-    return [Structure(block.name, block.cif.name if len(blocks) > 1 else "", block.notes, lambda block=block: read_crystal(block))
-            for block in blocks]
+        return [Structure(stem, "", notes, partial(_crystal_by_ase, content, format_of_ase, stem, notes))]
+    return [Structure(block.name, block.cif.name, block.notes, partial(read_crystal, block))
+            for block in blocks_of(content, stem)]
 
 
-def _format_of(file: str) -> str:
-    name = PurePath(file).name.lower()
-    return OF_ASE[".vasp"] if name.startswith(NAMES_OF_VASP) else OF_ASE.get(PurePath(name).suffix, "")
+def _format_of(file: str, content: bytes) -> str:
+    suffix = PurePath(file).suffix.lower()
+    if suffix in XYZ_SUFFIXES:
+        return "extxyz"
+    return "vasp" if suffix not in CIF_SUFFIXES and is_poscar(file, content) else ""
 
 
 def _crystal_by_ase(content: bytes, format_of_ase: str, name: str, notes: list[Note]) -> Crystal:
     try:
         from ase.io import read
-    except ModuleNotFoundError:
-        raise Refused(f"a file {format_of_ase} is read by ase: apt-get install python3-ase") from None
+    except ModuleNotFoundError as missing:
+        raise Refused(f"a file {format_of_ase} is read by ase: {lacking(missing, 'apt-get install python3-ase')}") from None
     try:
         frames: list[Any] = read(StringIO(text_of_file(content)), index=":", format=format_of_ase)
         atoms = frames[-1]

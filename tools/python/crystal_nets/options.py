@@ -1,0 +1,142 @@
+"""The options of structures: how they are read, by the same names as those of cif2cgd."""
+
+from __future__ import annotations
+
+from collections.abc import Iterable, Mapping
+from numbers import Real
+from typing import TYPE_CHECKING, Any, Literal, TypedDict, get_args
+
+from .errors import NotAnOption, PackageMissing, lacking
+
+if TYPE_CHECKING:
+    from .structures.nets.choice import Options
+
+ConventionName = Literal["all-atoms", "single-nodes", "all-nodes", "pe", "pem", "standard", "auto"]
+CONVENTION_NAMES: tuple[str, ...] = get_args(ConventionName)
+ModeName = Literal["", "zeolite", "intermetallic"]
+WayName = Literal["rules", "file", "both"]
+CHOICES = {"mode": get_args(ModeName), "bonds": get_args(WayName)}
+LONGEST_BOND = 20.0  # angstrom
+STRUCTURE_PACKAGES = "apt-get install python3-gemmi python3-numpy python3-scipy python3-spglib"
+
+
+class StructureOptions(TypedDict, total=False):
+    """How structures are read; `tools/cif2cgd/README.md` has what each does.
+
+    convention       what is a vertex; `auto` gives the nets of those that apply and differ. Where none is named, it is auto
+                     for organic carbon with metals, and else all-atoms
+    mode             `zeolite`: tetrahedral atoms and their oxygens alone; `intermetallic`: all contacts up to a gap
+    bonds            by the `rules`, where no way is named, by the `file`, or by `both`, to see where they differ
+    leave_out        elements of no concern: {"Na"}, ("Na", "Cl") or "Na,Cl"
+    lengths          of two elements the longest bond in angstrom, and there are no others: {("Ba", "O"): 3.4}; a pair
+                     may also be written frozenset(("Ba", "O")) or "Ba-O"
+    keep_ions        keep Na, K, Rb, Cs, Ca, Sr and Ba beside a framework
+    hydrogen_bonds   hydrogen bonds are edges
+    partial_as_full  take partly occupied atoms as full
+    accept_misfit    take atoms that do not fit the formula, or are too near
+    every_copy       give each of several nets of the same atoms"""
+
+    convention: ConventionName
+    mode: ModeName
+    bonds: WayName
+    leave_out: Iterable[str]
+    lengths: Mapping[tuple[str, str], float] | Mapping[frozenset[str], float] | Mapping[str, float]
+    keep_ions: bool
+    hydrogen_bonds: bool
+    partial_as_full: bool
+    accept_misfit: bool
+    every_copy: bool
+
+
+def check_names(options: Mapping[str, object]) -> None:
+    """TypeError with the names that there are, where an option has another."""
+    known = list(StructureOptions.__annotations__)
+    unknown = sorted(set(options) - set(known))
+    if unknown:
+        raise TypeError(f"there is no option {unknown[0]!r}; there are {', '.join(known)}")
+
+
+def checked_options(options: Mapping[str, object]) -> Options:
+    """The options as the reader of structures takes them. TypeError where there is no such option, and NotAnOption
+    where its value is none."""
+    check_names(options)
+    try:
+        from .structures.nets.choice import Options
+        values = {name: _checked(name, value) for name, value in options.items()}
+    except ModuleNotFoundError as missing:
+        raise PackageMissing(f"a structure: {lacking(missing, STRUCTURE_PACKAGES)}") from missing
+    return Options(**values)
+
+
+def _checked(name: str, value: object) -> Any:
+    if name == "convention":
+        return _convention(value)
+    if name in CHOICES:
+        if value not in CHOICES[name]:
+            raise NotAnOption(f"{name} is one of {', '.join(filter(None, CHOICES[name]))}, and not {value!r:.60}")
+        return value
+    if name == "leave_out":
+        return elements_of(value)
+    if name == "lengths":
+        return lengths_of(value)
+    if not isinstance(value, bool):
+        raise NotAnOption(f"{name} is True or False, and not {value!r:.60}")
+    return value
+
+
+def _convention(value: object) -> str:
+    """The name of a convention, also as others spell it, as AllNodes."""
+    from .structures.units.conventions import convention_named
+    try:
+        return convention_named(value if isinstance(value, str) else repr(value))
+    except ValueError as reason:
+        raise NotAnOption(str(reason)) from None
+
+
+def elements_of(value: object) -> frozenset[str]:
+    """The elements of a text, as Na,Cl, or of several symbols. NotAnOption where one is none."""
+    words = value.replace(",", " ").split() if isinstance(value, str) else value
+    if not isinstance(words, Iterable) or (isinstance(value, str) and not words):
+        raise NotAnOption(f"{value!r:.60} is not as Na,Cl")
+    return frozenset(_element(word, value) for word in words)
+
+
+def _element(word: object, value: object) -> str:
+    """The symbol of an element, as it is usually written; deuterium is read as hydrogen."""
+    if not isinstance(word, str) or not _is_element(word):
+        raise NotAnOption(f"{value!r:.60} is not as Na,Cl: there is no element {word!r:.20}")
+    return "H" if word == "D" else word
+
+
+def _is_element(word: str) -> bool:
+    try:
+        import gemmi
+    except ModuleNotFoundError as missing:
+        raise PackageMissing(f"elements: {lacking(missing, STRUCTURE_PACKAGES)}") from missing
+    element = gemmi.Element(word)
+    return bool(element.atomic_number > 0 and element.name == word)
+
+
+def lengths_of(value: object) -> dict[frozenset[str], float]:
+    """Of pairs of elements the longest bond. NotAnOption where these are no pairs with lengths."""
+    if not isinstance(value, Mapping):
+        raise NotAnOption(f'{value!r:.60} is not as {{("Ba", "O"): 3.4}}')
+    found: dict[frozenset[str], float] = {}
+    for words, length in value.items():
+        pair = _pair(words)
+        is_length = isinstance(length, Real) and not isinstance(length, bool) and 0 <= float(length) <= LONGEST_BOND
+        if not is_length:
+            raise NotAnOption(f"the length {length!r:.40} of {words!r:.40} is not from 0 to {LONGEST_BOND:g} angstrom")
+        if found.setdefault(pair, float(length)) != float(length):
+            raise NotAnOption(f"{'-'.join(sorted(pair))} has several lengths")
+    return found
+
+
+def _pair(words: object) -> frozenset[str]:
+    """The elements of a pair; of Fe-Fe, or of a set that has Fe alone, there is one."""
+    parts = words.split("-") if isinstance(words, str) else words
+    if isinstance(parts, frozenset) and len(parts) == 1:
+        parts = (*parts, *parts)
+    if not isinstance(parts, (tuple, list, frozenset)) or len(parts) != 2:
+        raise NotAnOption(f'{words!r:.40} is no pair of elements, as ("Ba", "O")')
+    return frozenset(_element(part, words) for part in parts)
