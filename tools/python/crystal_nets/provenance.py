@@ -30,7 +30,8 @@ def notes_of(notes: Iterable[str | Note]) -> tuple[Note, ...]:
     return tuple(note if isinstance(note, Note) else Note(OTHER, note) for note in notes)
 
 
-class Component(NamedTuple):
+@dataclass(frozen=True)
+class Component:
     """Pieces of a structure: their dimension, 0 for molecules and 1 for rods, how many of them a cell has, and what one
     of them is made of."""
 
@@ -96,8 +97,7 @@ class Provenance:
 
     def to_dict(self) -> dict[str, Any]:
         """The fields as JSON has them, and beside the notes those that are doubts, and what was left out."""
-        return {**asdict(self), "components": [part._asdict() for part in self.components],
-                "doubts": list(self.doubts), "left_out": list(self.left_out)}
+        return {**asdict(self), "doubts": list(self.doubts), "left_out": list(self.left_out)}
 
     @property
     def texts(self) -> tuple[str, ...]:
