@@ -4,8 +4,8 @@ They are found by the structure, for all elements of a site alike. A site is wea
 of at most 0.30 (as K in 12 and Na in 6 oxygens), or where it has eight or more anions, and bonds much weaker than
 those of another metal (as Y in garnets). The charge of a cation over its number of anions is L. Pauling's strength
 (J. Am. Chem. Soc. 51 (1929) 1010). Weak sites go, the weakest first, as long as what is left is a net in space;
-those with a mean valence up to 0.15 also where layers are left, as in micas. A site stays where it has as many anions as
-other cations and is a tetrahedron or an octahedron, or is as large as theirs, as Li in LiAlO2, LiCoO2 and LiNbO3.
+those with a mean valence up to 0.15 also where layers are left, as in micas. A site stays where it has as many anions
+as other cations and is a tetrahedron or an octahedron, or is as large as theirs, as Li in LiAlO2 and LiCoO2.
 
 That is a choice, and where the other one gives a net, too, it is told as a doubt."""
 
@@ -85,13 +85,15 @@ def without_guests(crystal: Crystal, net: QuotientGraph, kept: list[int], notes:
     result = net.part(sorted(left))
     if removed:
         ions = Counter(crystal.atoms[v].site.element for site in removed for v in site.atoms)
-        notes.append(Note(LEFT_OUT, "left out as counter-ions: " + " ".join(f"{e} {n}" for e, n in sorted(ions.items()))))
+        told = " ".join(f"{element} {count}" for element, count in sorted(ions.items()))
+        notes.append(Note(LEFT_OUT, "left out as counter-ions: " + told))
         if dimension >= 2:
             notes.append(Note(DOUBT, f"with {_told(removed)} the net is {_described(whole)} (--keep-ions)"))
     if unsure:
         atoms = {v for site in unsure for v in site.atoms}
-        notes.append(Note(DOUBT, f"without {_told(unsure)} the rest is {_described(net.part(sorted(left - atoms)))} "
-                          f"(--leave-out {','.join(sorted({e for site in unsure for e in site.elements}))})"))
+        rest_of = _described(net.part(sorted(left - atoms)))
+        elements = ",".join(sorted({element for site in unsure for element in site.elements}))
+        notes.append(Note(DOUBT, f"without {_told(unsure)} the rest is {rest_of} (--leave-out {elements})"))
     return result
 
 
@@ -172,11 +174,12 @@ def _sites(crystal: Crystal, net: QuotientGraph, kept: set[int]) -> list[SiteBon
         atom = crystal.atoms[v]
         site = found.setdefault(atom.site.label, SiteBonds(atom.site.label, tuple(sorted(atom.content))))
         site.atoms.append(v)
-        bonds = [(crystal.atoms[w].place + np.array(s) @ crystal.cell - atom.place, elements[w]) for w, s in arcs[v]
-                 if w in kept and makes_anions(elements[w])]
+        near = [(w, s) for w, s in arcs[v] if w in kept and makes_anions(elements[w])]
+        bonds = [(crystal.atoms[w].place + np.array(s) @ crystal.cell - atom.place, elements[w]) for w, s in near]
         steps[site.label].append([step for step, _ in bonds])
-        valences[site.label] += [_mean_valence(atom.content, anion, float(np.linalg.norm(step))) for step, anion in bonds]
-        of_framework = [_is_of_framework(w, v, arcs, elements) for w, s in arcs[v] if w in kept and makes_anions(elements[w])]
+        valences[site.label] += [_mean_valence(atom.content, anion, float(np.linalg.norm(step)))
+                                 for step, anion in bonds]
+        of_framework = [_is_of_framework(w, v, arcs, elements) for w, _ in near]
         site.anions = max(site.anions, len(bonds))
         site.is_regular = bool(bonds) and all(of_framework) and _is_regular([step for step, _ in bonds])
     for label, site in found.items():
@@ -193,7 +196,8 @@ def _mean_valence(content: dict[str, float], anion: str, length: float) -> float
     return sum(part * valence(element, anion, length) for element, part in metals.items()) / sum(metals.values())
 
 
-def _is_of_framework(anion: int, guest: int, arcs: list[list[tuple[int, tuple[int, ...]]]], elements: list[str]) -> bool:
+def _is_of_framework(anion: int, guest: int, arcs: list[list[tuple[int, tuple[int, ...]]]],
+                     elements: list[str]) -> bool:
     """Whether an anion has bonds to atoms of other elements than the guest."""
     return any(elements[w] not in (elements[guest], "H") for w, _ in arcs[anion])
 

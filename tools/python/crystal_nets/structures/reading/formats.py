@@ -1,12 +1,13 @@
 """Structure files of all kinds: CIF, mmCIF and magnetic CIF by gemmi, and others by ase, where it is there.
 
-The formats of ase are told by the ending of the name, or by the name itself: POSCAR and CONTCAR of VASP, and extended XYZ
-with a lattice. Of a trajectory the last structure is read."""
+The formats of ase are told by the ending of the name, or by the name itself: POSCAR and CONTCAR of VASP, and extended
+XYZ with a lattice. Of a trajectory the last structure is read."""
 
 from __future__ import annotations
 
 from collections.abc import Callable
 from dataclasses import dataclass
+from functools import partial
 from io import StringIO
 from pathlib import PurePath
 from typing import Any
@@ -39,7 +40,7 @@ def structures_of(content: bytes, file: str, stem: str) -> list[Structure]:
         notes: list[Note] = []
         return [Structure(stem, "", notes, lambda: _crystal_by_ase(content, format_of_ase, stem, notes))]
     blocks = blocks_of(content, stem)
-    return [Structure(block.name, block.cif.name if len(blocks) > 1 else "", block.notes, lambda block=block: read_crystal(block))
+    return [Structure(block.name, block.cif.name if len(blocks) > 1 else "", block.notes, partial(read_crystal, block))
             for block in blocks]
 
 
