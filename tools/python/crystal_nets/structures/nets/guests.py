@@ -36,7 +36,7 @@ STRAIGHT = 20.0     # degrees that the angles of a regular polyhedron differ at 
 CHARGES = {**dict.fromkeys("Li Na K Rb Cs Ag Tl".split(), 1), **dict.fromkeys("Be Mg Ca Sr Ba".split(), 2)}
 REGULAR = {4: (109.47,), 6: (90.0, 180.0)}
 # by the coordination sequences, the nets that are told by name (M. O'Keeffe and others, Acc. Chem. Res. 41 (2008) 1782)
-WELL_KNOWN = {(6, 18, 38, 66): "pcu", (4, 12, 24, 42): "dia", (8, 26, 56, 98): "bcu", (12, 42, 92, 162): "fcu",
+WELL_KNOWN: dict[tuple[int, ...], str] = {(6, 18, 38, 66): "pcu", (4, 12, 24, 42): "dia", (8, 26, 56, 98): "bcu", (12, 42, 92, 162): "fcu",
               (4, 10, 20, 34): "sod", (4, 8, 12, 16): "sql", (3, 6, 9, 12): "hcb", (4, 12, 25, 44): "lon",
               (4, 12, 28, 50): "nbo"}
 KINDS = ("molecules", "rods", "layers", "a net in space")
