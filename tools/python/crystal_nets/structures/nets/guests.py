@@ -35,10 +35,10 @@ AS_LARGE = 1.15     # times the bonds of another cation with as many anions: suc
 STRAIGHT = 20.0     # degrees that the angles of a regular polyhedron differ at most
 CHARGES = {**dict.fromkeys("Li Na K Rb Cs Ag Tl".split(), 1), **dict.fromkeys("Be Mg Ca Sr Ba".split(), 2)}
 REGULAR = {4: (109.47,), 6: (90.0, 180.0)}
-# by the coordination sequences, the nets that are told by name (M. O'Keeffe and others, Acc. Chem. Res. 41 (2008) 1782)
-WELL_KNOWN: dict[tuple[int, ...], str] = {(6, 18, 38, 66): "pcu", (4, 12, 24, 42): "dia", (8, 26, 56, 98): "bcu", (12, 42, 92, 162): "fcu",
-              (4, 10, 20, 34): "sod", (4, 8, 12, 16): "sql", (3, 6, 9, 12): "hcb", (4, 12, 25, 44): "lon",
-              (4, 12, 28, 50): "nbo"}
+# by four shells of their coordination sequences, the nets that are told by name
+WELL_KNOWN: dict[tuple[int, ...], str] = {
+    (6, 18, 38, 66): "pcu", (4, 12, 24, 42): "dia", (8, 26, 56, 98): "bcu", (12, 42, 92, 162): "fcu",
+    (4, 10, 20, 34): "sod", (4, 8, 12, 16): "sql", (3, 6, 9, 12): "hcb", (4, 12, 25, 44): "lon", (4, 12, 28, 50): "nbo"}
 KINDS = ("molecules", "rods", "layers", "a net in space")
 
 
@@ -98,7 +98,7 @@ def without_guests(crystal: Crystal, net: QuotientGraph, kept: list[int], notes:
 
 
 def tetrahedral_atoms(net: QuotientGraph, elements: list[str]) -> set[int]:
-    """The atoms with four oxygens each that no hydrogen has, and these oxygens: what the type of a zeolite is made of."""
+    """The atoms other than H with four oxygens each, and these oxygens: what a zeolite is made of."""
     arcs = net.arcs()
     centres = {v for v, element in enumerate(elements) if element not in ("O", "H")
                and sum(elements[w] == "O" for w, _ in arcs[v]) == 4}
@@ -136,7 +136,8 @@ def _groups(sites: list[SiteBonds]) -> list[list[SiteBonds]]:
     by_elements: dict[tuple[str, ...], list[SiteBonds]] = defaultdict(list)
     for site in sites:
         by_elements[site.elements].append(site)
-    return sorted(by_elements.values(), key=lambda group: (sum(s.strength for s in group) / len(group), group[0].label))
+    return sorted(by_elements.values(),
+                  key=lambda group: (sum(site.strength for site in group) / len(group), group[0].label))
 
 
 def _is_guest(group: list[SiteBonds], sites: list[SiteBonds], strongest: float, is_organic: bool) -> bool:
