@@ -3,6 +3,7 @@ read where none was named; bonds of the file; modes; and files of other formats.
 
 import gzip
 import json
+import time
 import unittest
 
 from testing import TOOLS, FolderTest, need_modules, run
@@ -101,6 +102,21 @@ class Asked(Kinds):
                              name="P 63/m m c")
         self.assertEqual(set(self.net(nickeline).graph.degrees()), {6})
         self.assertEqual(set(self.net(nickeline, mode="intermetallic").graph.degrees()), {6, 8})
+
+
+class Speed(Kinds):
+    def test_one_convention_needs_no_sequences(self):
+        """500 atoms of copper without symmetry take under auto about as long as by all-atoms."""
+        n, corners = 5, ((0, 0, 0), (0.5, 0.5, 0), (0.5, 0, 0.5), (0, 0.5, 0.5))
+        sites = [(f"Cu{x}{y}{z}{k}", "Cu", (x + p) / n, (y + q) / n, (z + r) / n)
+                 for x in range(n) for y in range(n) for z in range(n) for k, (p, q, r) in enumerate(corners)]
+        text = cif_text(cubic(3.61 * n), sites, operations=["x,y,z"])
+        seconds = []
+        for convention in ("all-atoms", "auto"):
+            begun = time.process_time()
+            self.assertEqual(len(self.net(text, convention=convention).graph.vertices), 500)
+            seconds.append(time.process_time() - begun)
+        self.assertLess(seconds[1], 2 * seconds[0] + 0.5)
 
 
 class ListedBonds(Kinds):

@@ -51,12 +51,15 @@ def words() -> argparse.Namespace:
     parser.add_argument("--keep-ions", action="store_true",
                         help="keep Na K Rb Cs Ca Sr Ba beside a framework")
     parser.add_argument("--convention", default=AUTO_BY_DEFAULT, type=convention, metavar="NAME",
-                        help="what is a vertex: all-atoms, single-nodes, all-nodes, pe, pem, standard; auto gives those "
-                        "that apply and differ (where none is named: auto for organic carbon with metals, else all-atoms)")
+                        help="what is a vertex: all-atoms, single-nodes, all-nodes, pe, pem, standard; auto gives "
+                        "those that apply and differ (where none is named: auto for organic carbon with metals, else "
+                        "all-atoms)")
     parser.add_argument("--mode", default="", choices=MODES, metavar="MODE",
-                        help="zeolite: tetrahedral atoms and their oxygens alone; intermetallic: all contacts up to a gap")
+                        help="zeolite: tetrahedral atoms and their oxygens alone; intermetallic: all contacts up to "
+                        "a gap")
     parser.add_argument("--bonds", default=BY_RULES, choices=WAYS, metavar="WAY",
-                        help="rules (where none is named), file for those of _geom_bond, or both, to see where they differ")
+                        help="rules (where none is named), file for those of _geom_bond, or both, to see where they "
+                        "differ")
     parser.add_argument("--clusters", action="store_const", dest="convention", const="single-nodes",
                         help="the same as --convention single-nodes")
     parser.add_argument("--hydrogen-bonds", action="store_true",

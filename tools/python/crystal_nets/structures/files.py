@@ -34,7 +34,8 @@ def sources_of(files: list[str]) -> list[Source]:
     """The files with their names: those of one stem keep as much of their folders as tells them apart."""
     paths = [Path("stdin" if file == "-" else file) for file in files]
     stems = [_stem(path) for path in paths]
-    return [Source(file, _tail(path, n), _tail(stem, n)) for file, path, stem, n in zip(files, paths, stems, _depths(stems))]
+    return [Source(file, _tail(path, n), _tail(stem, n))
+            for file, path, stem, n in zip(files, paths, stems, _depths(stems))]
 
 
 def _stem(path: Path) -> Path:

@@ -44,7 +44,8 @@ def _too_near(crystal: Crystal) -> dict[tuple[int, int], str]:
     """The pairs of full atoms, hydrogen aside, that are nearer than any bond, with what is told of them."""
     atoms = crystal.atoms
     radii = np.array([radius(atom.site.element) for atom in atoms])
-    near = crystal.contacts(2 * TOO_NEAR * radii.max(), lambda u, v, length: length < TOO_NEAR * (radii[u] + radii[v]))
+    near = crystal.contacts(2 * TOO_NEAR * radii.max(),
+                            lambda u, v, length: length < TOO_NEAR * (radii[u] + radii[v]))
     return {(c.first, c.second): f"{atoms[c.first].name} and {atoms[c.second].name} are {c.length:.2f} angstrom apart"
             for c in near if all(a.site.element != "H" and a.occupancy >= FULL for a in (atoms[c.first], atoms[c.second]))}
 

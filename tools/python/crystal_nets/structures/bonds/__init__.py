@@ -1,6 +1,8 @@
 """Which atoms are joined.
 
 contacts  distances, and the radii that they are judged by
+listed    bonds that the file lists
+valences  how strong the bonds of metals are
 lengths   the shortest bonds of two elements, and single bonds
 rules     the rules by which atoms are joined
 shells    elements and intermetallics: nearest shells

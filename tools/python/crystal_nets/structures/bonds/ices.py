@@ -146,7 +146,8 @@ def _tetrahedra(contacts: list[Contact]) -> list[Choice]:
         return [frozenset((c.second, c.shift) for c in contacts)]
     units = np.array([c.step / c.length for c in contacts])
     away = (units @ units.T - COSINE) ** 2
-    sums = {four: sum(away[i, j] for i, j in combinations(four, 2)) for four in combinations(range(len(contacts)), BONDS)}
+    sums = {four: sum(away[i, j] for i, j in combinations(four, 2))
+            for four in combinations(range(len(contacts)), BONDS)}
     least = min(sums.values())
     return [frozenset((contacts[k].second, contacts[k].shift) for k in four)
             for four, total in sums.items() if total <= least + ALIKE]

@@ -38,7 +38,8 @@ BETWEEN_ANIONS = {"O": ((1.22, 1.35), (1.40, 1.60)), "S": ((1.85, 2.30),), "Se":
                   "Si": ((2.20, 2.50),), "Ge": ((2.30, 2.65),), "F": (), "Cl": (), "Br": (), "I": ((2.60, 3.10),)}
 
 
-def find_bonds(crystal: Crystal, hydrogen_bonds: bool, lengths: Lengths, doubts: list[str], mode: str = "") -> set[Edge]:
+def find_bonds(crystal: Crystal, hydrogen_bonds: bool, lengths: Lengths, doubts: list[str],
+               mode: str = "") -> set[Edge]:
     """The bonds by the rule that fits the elements of the crystal, or by that of a mode, but of the pairs that have
     a length, all up to it; lengths that are close to a bound are told as doubts."""
     if mode == INTERMETALLIC:

@@ -87,7 +87,9 @@ def bonds_asked(crystal: Crystal, options: Options, doubts: list[str]) -> set[Ed
     if options.bonds == BY_FILE:
         return listed_bonds(crystal)
     bonds = find_bonds(crystal, options.hydrogen_bonds, options.lengths, doubts, options.mode)
-    if options.bonds == BY_BOTH:
+    if options.bonds == BY_BOTH and not crystal.listed_bonds:
+        doubts.append("the file lists no bonds that those of the rules could be compared with")
+    elif options.bonds == BY_BOTH:
         doubts += differences(crystal, bonds, listed_bonds(crystal))
     return bonds
 
@@ -260,7 +262,8 @@ def _different(read: list[tuple[Convention, UnitNet, Contracted]], notes: list[N
     for convention, units, simple in read:
         sequences = shells(simple.net) if len(read) > 1 else ()
         if sequences in seen:
-            notes.append(Note(CONVENTION, f"{convention.name}: the net of {seen[sequences]}, by its coordination sequences"))
+            text = f"{convention.name}: the net of {seen[sequences]}, by its coordination sequences"
+            notes.append(Note(CONVENTION, text))
             continue
         seen[sequences] = convention.name
         yield convention, units, simple

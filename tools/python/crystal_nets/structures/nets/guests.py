@@ -4,8 +4,8 @@ They are found by the structure, for all elements of a site alike. A site is wea
 of at most 0.30 (as K in 12 and Na in 6 oxygens), or where it has eight or more anions, and bonds much weaker than
 those of another metal (as Y in garnets). The charge of a cation over its number of anions is L. Pauling's strength
 (J. Am. Chem. Soc. 51 (1929) 1010). Weak sites go, the weakest first, as long as what is left is a net in space;
-those with a mean valence up to 0.15 also where layers are left, as in micas. A site stays where it has as many anions as
-other cations and is a tetrahedron or an octahedron, or is as large as theirs, as Li in LiAlO2, LiCoO2 and LiNbO3.
+those with a mean valence up to 0.15 also where layers are left, as in micas. A site stays where it has as many anions
+as other cations and is a tetrahedron or an octahedron, or is as large as theirs, as Li in LiAlO2 and LiCoO2.
 
 That is a choice, and where the other one gives a net, too, it is told as a doubt."""
 
@@ -35,10 +35,10 @@ AS_LARGE = 1.15     # times the bonds of another cation with as many anions: suc
 STRAIGHT = 20.0     # degrees that the angles of a regular polyhedron differ at most
 CHARGES = {**dict.fromkeys("Li Na K Rb Cs Ag Tl".split(), 1), **dict.fromkeys("Be Mg Ca Sr Ba".split(), 2)}
 REGULAR = {4: (109.47,), 6: (90.0, 180.0)}
-# by the coordination sequences, the nets that are told by name (M. O'Keeffe and others, Acc. Chem. Res. 41 (2008) 1782)
+# by four shells of their coordination sequences, the nets that are told by name
 WELL_KNOWN: dict[tuple[int, ...], str] = {
-    (6, 18, 38, 66): "pcu", (4, 12, 24, 42): "dia", (8, 26, 56, 98): "bcu", (12, 42, 92, 162): "fcu", (4, 10, 20, 34): "sod",
-    (4, 8, 12, 16): "sql", (3, 6, 9, 12): "hcb", (4, 12, 25, 44): "lon", (4, 12, 28, 50): "nbo"}
+    (6, 18, 38, 66): "pcu", (4, 12, 24, 42): "dia", (8, 26, 56, 98): "bcu", (12, 42, 92, 162): "fcu",
+    (4, 10, 20, 34): "sod", (4, 8, 12, 16): "sql", (3, 6, 9, 12): "hcb", (4, 12, 25, 44): "lon", (4, 12, 28, 50): "nbo"}
 KINDS = ("molecules", "rods", "layers", "a net in space")
 
 
@@ -85,18 +85,20 @@ def without_guests(crystal: Crystal, net: QuotientGraph, kept: list[int], notes:
     result = net.part(sorted(left))
     if removed:
         ions = Counter(crystal.atoms[v].site.element for site in removed for v in site.atoms)
-        notes.append(Note(LEFT_OUT, "left out as counter-ions: " + " ".join(f"{e} {n}" for e, n in sorted(ions.items()))))
+        told = " ".join(f"{element} {count}" for element, count in sorted(ions.items()))
+        notes.append(Note(LEFT_OUT, "left out as counter-ions: " + told))
         if dimension >= 2:
             notes.append(Note(DOUBT, f"with {_told(removed)} the net is {_described(whole)} (--keep-ions)"))
     if unsure:
         atoms = {v for site in unsure for v in site.atoms}
-        notes.append(Note(DOUBT, f"without {_told(unsure)} the rest is {_described(net.part(sorted(left - atoms)))} "
-                          f"(--leave-out {','.join(sorted({e for site in unsure for e in site.elements}))})"))
+        rest_of = _described(net.part(sorted(left - atoms)))
+        elements = ",".join(sorted({element for site in unsure for element in site.elements}))
+        notes.append(Note(DOUBT, f"without {_told(unsure)} the rest is {rest_of} (--leave-out {elements})"))
     return result
 
 
 def tetrahedral_atoms(net: QuotientGraph, elements: list[str]) -> set[int]:
-    """The atoms with four oxygens each that no hydrogen has, and these oxygens: what the type of a zeolite is made of."""
+    """The atoms other than H with four oxygens each, and these oxygens: what a zeolite is made of."""
     arcs = net.arcs()
     centres = {v for v, element in enumerate(elements) if element not in ("O", "H")
                and sum(elements[w] == "O" for w, _ in arcs[v]) == 4}
@@ -134,7 +136,8 @@ def _groups(sites: list[SiteBonds]) -> list[list[SiteBonds]]:
     by_elements: dict[tuple[str, ...], list[SiteBonds]] = defaultdict(list)
     for site in sites:
         by_elements[site.elements].append(site)
-    return sorted(by_elements.values(), key=lambda group: (sum(s.strength for s in group) / len(group), group[0].label))
+    return sorted(by_elements.values(),
+                  key=lambda group: (sum(site.strength for site in group) / len(group), group[0].label))
 
 
 def _is_guest(group: list[SiteBonds], sites: list[SiteBonds], strongest: float, is_organic: bool) -> bool:
@@ -172,11 +175,12 @@ def _sites(crystal: Crystal, net: QuotientGraph, kept: set[int]) -> list[SiteBon
         atom = crystal.atoms[v]
         site = found.setdefault(atom.site.label, SiteBonds(atom.site.label, tuple(sorted(atom.content))))
         site.atoms.append(v)
-        bonds = [(crystal.atoms[w].place + np.array(s) @ crystal.cell - atom.place, elements[w]) for w, s in arcs[v]
-                 if w in kept and makes_anions(elements[w])]
+        near = [(w, s) for w, s in arcs[v] if w in kept and makes_anions(elements[w])]
+        bonds = [(crystal.atoms[w].place + np.array(s) @ crystal.cell - atom.place, elements[w]) for w, s in near]
         steps[site.label].append([step for step, _ in bonds])
-        valences[site.label] += [_mean_valence(atom.content, anion, float(np.linalg.norm(step))) for step, anion in bonds]
-        of_framework = [_is_of_framework(w, v, arcs, elements) for w, s in arcs[v] if w in kept and makes_anions(elements[w])]
+        valences[site.label] += [_mean_valence(atom.content, anion, float(np.linalg.norm(step)))
+                                 for step, anion in bonds]
+        of_framework = [_is_of_framework(w, v, arcs, elements) for w, _ in near]
         site.anions = max(site.anions, len(bonds))
         site.is_regular = bool(bonds) and all(of_framework) and _is_regular([step for step, _ in bonds])
     for label, site in found.items():
@@ -193,7 +197,8 @@ def _mean_valence(content: dict[str, float], anion: str, length: float) -> float
     return sum(part * valence(element, anion, length) for element, part in metals.items()) / sum(metals.values())
 
 
-def _is_of_framework(anion: int, guest: int, arcs: list[list[tuple[int, tuple[int, ...]]]], elements: list[str]) -> bool:
+def _is_of_framework(anion: int, guest: int, arcs: list[list[tuple[int, tuple[int, ...]]]],
+                     elements: list[str]) -> bool:
     """Whether an anion has bonds to atoms of other elements than the guest."""
     return any(elements[w] not in (elements[guest], "H") for w, _ in arcs[anion])
 

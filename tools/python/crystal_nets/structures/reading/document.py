@@ -17,8 +17,8 @@ OF_CONCERN = re.compile(r"_(cell_(length|angle)|symmetry|space_group|atom_site|c
 DOTTED = re.compile(r"(_(?<!\S_)(?:cell|symmetry|space_group|atom_site|chemical_formula)[A-Za-z_]*)\.(?=[A-Za-z])",
                     re.IGNORECASE)
 # Structures that have no space group of the usual kind, by tags that only they have.
-MAGNETIC = re.compile(r"_(space_group_symop_magn|symmetry_equiv_pos_as_xyz_magn|space_group_magn|space_group_symop\.magn"
-                      r"|parent_space_group)", re.IGNORECASE)
+MAGNETIC = re.compile(r"_(space_group_symop_magn|symmetry_equiv_pos_as_xyz_magn|space_group_magn"
+                      r"|space_group_symop\.magn|parent_space_group)", re.IGNORECASE)
 OTHER_KINDS = (
     (re.compile(r"_(space_group_ssg|space_group_symop_ssg|cell_modulation_dimension|cell_wave_vector"
                 r"|atom_site_fourier_wave|atom_site_displace_fourier)", re.IGNORECASE),

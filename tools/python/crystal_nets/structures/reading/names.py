@@ -1,8 +1,8 @@
 """Names of space groups as files spell them: Hermann-Mauguin symbols, short and full, old and new.
 
-The forms, beside those of the table of gemmi: full symbols (International Tables A, 1983), as P 21/m 2/n 21/a; cubic ones
-of before 1983 without the bar, as F d 3 m; screw axes as SHELX writes them, as P2(1)/c, and with an underscore; the
-letters of the ICSD for origins and axes, as F d -3 m Z and R -3 c H; and numbers behind the symbol."""
+The forms, beside those of the table of gemmi: full symbols (International Tables A, 1983), as P 21/n 21/m 21/a; cubic
+ones of before 1983 without the bar, as F d 3 m; screw axes as SHELX writes them, as P2(1)/c, and with an underscore;
+the letters of the ICSD for origins and axes, as F d -3 m Z and R -3 c H; and numbers behind the symbol."""
 
 from __future__ import annotations
 
@@ -14,7 +14,8 @@ import gemmi
 SUFFIXES = {"Z": ":2", "S": ":1", "H": ":H", "R": ":R", "O1": ":1", "O2": ":2", "HR": ":H", "RS": ":R"}
 BEHIND = re.compile(r"\s*(?:\(?\s*(?:No\.?|#)\s*\d+\s*\)?|\(\d{2,3}\))\s*$", re.IGNORECASE)
 SCREW = re.compile(r"([2346])[_(]+([1-5])\)?")
-SUFFIX = re.compile(r"[\s:]*(?:\(?\s*(?:origin(?:\s+choice)?\s*([12])|([12]))\s*\)?|(O[12]|HR|RS|[ZSHR]))$", re.IGNORECASE)
+SUFFIX = re.compile(r"[\s:]*(?:\(?\s*(?:origin(?:\s+choice)?\s*([12])|([12]))\s*\)?|(O[12]|HR|RS|[ZSHR]))$",
+                    re.IGNORECASE)
 OLD_CUBIC = re.compile(r"([PIFpif])\s*([mndaMNDA])\s*3(?!\d)")
 AXIS = re.compile(r"-?\d+(?:/[a-e nm])?|[a-emn]")
 

@@ -28,7 +28,8 @@ NUMBER = re.compile(r"([-+]?(?:\d+\.?\d*|\.\d+)(?:[eE][-+]?\d+)?)(?:\(\d+\.?\d*\
 FRACTION = re.compile(r"([-+]?\d+)/(\d+)$")
 
 
-def read_sites(block: gemmi.cif.Block, cell: gemmi.UnitCell, formula: dict[str, float], notes: list[Note]) -> list[Site]:
+def read_sites(block: gemmi.cif.Block, cell: gemmi.UnitCell, formula: dict[str, float],
+               notes: list[Note]) -> list[Site]:
     """The sites that have a place and are occupied; notes on the others."""
     sites, dummies, absent = [], [], []
     is_cartesian = not block.find_values("_atom_site_fract_x")
@@ -70,7 +71,8 @@ def read_bonds(block: gemmi.cif.Block) -> list[tuple[str, str, float]]:
     found = []
     for one, other, length in table:
         with suppress(Refused):
-            found.append((gemmi.cif.as_string(one), gemmi.cif.as_string(other), number_of(gemmi.cif.as_string(length), "a bond")))
+            number = number_of(gemmi.cif.as_string(length), "a bond")
+            found.append((gemmi.cif.as_string(one), gemmi.cif.as_string(other), number))
     return [bond for bond in found if isfinite(bond[2])]
 
 

@@ -50,7 +50,8 @@ def text_of(block: gemmi.cif.Block, tags: tuple[str, ...]) -> str:
 
 def read_symmetry(block: gemmi.cif.Block, cell: gemmi.UnitCell) -> Symmetry:
     """Explicit operations before a Hall symbol, before a name, before a number."""
-    listed = [gemmi.cif.as_string(v) for tag in OPERATION_TAGS for v in block.find_values(tag)] or _magnetic_operations(block)
+    listed = [gemmi.cif.as_string(v) for tag in OPERATION_TAGS for v in block.find_values(tag)]
+    listed = listed or _magnetic_operations(block)
     if listed:
         return _symmetry(_listed_group(listed), "operations")
     named = named_symmetry(block, cell)
@@ -65,16 +66,18 @@ def read_symmetry(block: gemmi.cif.Block, cell: gemmi.UnitCell) -> Symmetry:
 
 
 def _magnetic_operations(block: gemmi.cif.Block) -> list[str]:
-    """The operations of a magnetic group and of its lattice, each followed by the other, without what they do to moments:
-    they are those of the average structure."""
+    """The operations of a magnetic group and of its lattice, each followed by the other, without what they do to
+    moments: they are those of the average structure."""
     found = []
     for tag in ("operation", "centering"):
-        texts = [gemmi.cif.as_string(v).rpartition(",")[0] for v in block.find_values(f"_space_group_symop_magn_{tag}_xyz")]
+        values = block.find_values(f"_space_group_symop_magn_{tag}_xyz")
+        texts = [gemmi.cif.as_string(value).rpartition(",")[0] for value in values]
         found.append(texts or ["x,y,z"])
     if found == [["x,y,z"], ["x,y,z"]]:
         return []
     try:
-        return [(gemmi.Op(centring) * gemmi.Op(operation)).wrap().triplet() for operation in found[0] for centring in found[1]]
+        return [(gemmi.Op(centring) * gemmi.Op(operation)).wrap().triplet()
+                for operation in found[0] for centring in found[1]]
     except (RuntimeError, ValueError) as error:
         raise Refused(f"symmetry operations: {error}") from error
 

@@ -79,7 +79,8 @@ def _find_held(parts: Parts) -> None:
 def _azolates(parts: Parts, around: list[list[int]]) -> set[int]:
     """Nitrogens that are bonded to each other and each to a metal, as in pyrazolates and triazolates: with them their
     metals are one part, as in Kuratowski units."""
-    on_metals = {v for v, near in enumerate(around) if parts.elements[v] == "N" and any(w in parts.metals for w in near)}
+    on_metals = {v for v, near in enumerate(around)
+                 if parts.elements[v] == "N" and any(w in parts.metals for w in near)}
     return {v for v in on_metals if any(w in on_metals for w in around[v])}
 
 

@@ -139,8 +139,8 @@ AUTO_BY_DEFAULT = ""  # no convention is named: auto where there is organic carb
 
 
 def convention_named(text: str) -> str:
-    """The name of a convention, as others spell it, too: AllNodes, SingleNodes, PE, EachVertex of CrystalNets.jl. Raises
-    ValueError where there is none."""
+    """The name of a convention, as others spell it, too: AllNodes, SingleNodes, PE, EachVertex of CrystalNets.jl.
+    Raises ValueError where there is none."""
     plain = text.lower().replace("-", "").replace("_", "").replace(" ", "")
     names = {name.replace("-", ""): name for name in (*CONVENTIONS, AUTO)}
     names |= {"eachvertex": "all-atoms", "clusters": "single-nodes", "": AUTO_BY_DEFAULT}
@@ -184,7 +184,8 @@ def _with_metals(framework: Framework) -> Parts:
 
 def _has_organic_linkers(framework: Framework, parts: Parts, outer: set[int]) -> bool:
     """Whether there is carbon that is bonded to a nonmetal, or a linker of several nitrogens, as azide."""
-    return framework.is_organic or any(parts.elements[u] == parts.elements[v] == "N" for u, v, _ in parts.edges_within(outer))
+    return framework.is_organic or any(parts.elements[u] == parts.elements[v] == "N"
+                                       for u, v, _ in parts.edges_within(outer))
 
 
 def _check_metal_parts(units: Units, parts: Parts) -> None:
