@@ -212,6 +212,11 @@ class Names(FolderTest):
         answer = identify(disguised(BRIDGED, random.Random(7), name="x"), archive=self.folder)
         self.assertEqual((answer.outcome.name, answer.names, answer.by), ("Collision", ("bridged",), By.VERIFIED_MAP))
 
+    def test_a_block_without_a_name_gives_none(self):
+        write_wide_archive(self.folder / "mine", [Net(BRIDGED.edges)])
+        answer = identify(BRIDGED, archive=self.folder)
+        self.assertEqual((answer.names, answer.by, answer.certificate), ((), By.NONE, ""))
+
     def test_what_is_in_no_archive_has_no_name(self):
         write_wide_archive(self.folder / "mine", [BRIDGED])
         answer = identify(ZEOLITES["SVR"], archive=self.folder)

@@ -99,7 +99,7 @@ class _Search:
         if not maps:
             return None
         done = certificate(first, maps)
-        names = dict.fromkeys(other.name for (other, _), is_taken in zip(maps, done.taken) if is_taken)
+        names = dict.fromkeys(other.name for (other, _), is_taken in zip(maps, done.taken) if is_taken and other.name)
         by = By.VERIFIED_MAP if self.read else By.UNPROVED_CELL
         return Naming(tuple(names), by, done.text, self.placed.index) if names else None
 
