@@ -69,8 +69,55 @@ malformed line=11 1 BadKey
 """
 
 
+# two bridges between the same atoms, which stand in one place
+BRIDGED = b"""PERIODIC_GRAPH
+NAME bridged
+EDGES
+1 2 0 0
+2 1 1 0
+1 3 0 0
+3 1 1 0
+1 1 0 1
+END
+"""
+SQL = b"PERIODIC_GRAPH\nNAME sql\nEDGES\n1 1 1 0\n1 1 0 1\nEND\n"
+ROW = b"PERIODIC_GRAPH\nNAME row\nEDGES\n1 1 1 0\nEND\n"
+
+
 def fields(rows: bytes) -> list[list[bytes]]:
     return [row.split(b"\t") for row in rows.splitlines()]
+
+
+class WithoutKey(FolderTest):
+    def setUp(self):
+        super().setUp()
+        need_program()
+        self.file = self.folder / "nets.cgd"
+        self.file.write_bytes(SQL + BRIDGED + ROW + BRIDGED + BRIDGED.replace(b"NAME bridged\n", b""))
+
+    def test_an_archive_of_nets_without_a_key(self):
+        told = run(BATCH / "wide_archive", self.folder / "mine", self.file, status=1).stderr.decode().splitlines()
+        self.assertEqual(told, ["wide_archive: sql: it has a key", "wide_archive: row: refused 2 Degenerate q=0 c=0 1 h=0",
+                                "wide_archive: bridged: its name stood before",
+                                "wide_archive: a net without a name: it has no name"])
+        blocks, index = (self.folder / f"mine{ending}" for ending in (".cgd", ".index"))
+        self.assertEqual(blocks.read_bytes().count(b"PERIODIC_GRAPH"), 1)
+        self.assertEqual([line.split("\t")[1:] for line in index.read_text().splitlines()[1:]],
+                         [["0", str(blocks.stat().st_size), "bridged"]])
+        run(BATCH / "wide_archive", self.folder / "again", blocks)
+        self.assertEqual((self.folder / "again.index").read_bytes(), index.read_bytes())
+        named = run(BATCH / "name_nets", self.file, self.folder).stdout
+        self.assertEqual(named, b"2\tbridged\tbridged\tverified map\n4\tbridged\tbridged\tverified map\n"
+                                b"5\t\tbridged\tverified map\n")
+        self.assertEqual(run(BATCH / "archive_files", "--without-key", self.folder).stdout.decode().split(),
+                         [str(self.folder / "again.index"), str(index)])
+        self.assertEqual(run(BATCH / "archive_files", self.folder).stdout, b"")
+
+    def test_the_blocks_that_have_no_key(self):
+        report = self.folder / "report"
+        report.write_bytes(run(PROGRAM, "key", self.file, status=1).stdout)
+        done = run(BATCH / "accepted_nets", "--without-key", report, self.file)
+        self.assertEqual((done.stdout, done.stderr), (2 * BRIDGED + BRIDGED.replace(b"NAME bridged\n", b""), b""))
 
 
 class Texts(FolderTest):

@@ -5,6 +5,7 @@ import os
 import random
 import re
 import unittest
+import unittest.mock
 from dataclasses import replace
 from pathlib import Path
 
@@ -13,8 +14,9 @@ from testing import IS_LONG, TOP
 
 need_desk()
 import numpy as np  # noqa: E402
-from crystal_nets import Net, read  # noqa: E402
+from crystal_nets import Archive, Net, cover, read  # noqa: E402
 from crystal_nets.desk import questions  # noqa: E402
+from crystal_nets.desk.archives import Shelf  # noqa: E402
 from crystal_nets.desk.cards import card  # noqa: E402
 from crystal_nets.desk.files import shown_name  # noqa: E402
 from crystal_nets.desk.pairs import difference, pair  # noqa: E402
@@ -102,6 +104,52 @@ class Cards(unittest.TestCase):
         self.assertEqual(listed, set(REFUSALS))
         faults = formats[formats.index("| number, name | comes where |"):formats.index("## The text that is written")]
         self.assertEqual({int(number) for number in re.findall(r"(?m)^\| (\d+) \w+ \|", faults)}, set(FAULTS))
+
+
+class Beyond(unittest.TestCase):
+    """Nets without a key, with an archive of a fan, and one of the eight zeolites."""
+
+    # a hub with a lattice of its own, joined to each of 23 vertices in a row
+    FAN = Net([(1, 1, (1, 0)), (1, 1, (0, 1)), (24, 1, (1, 0)), *((1, k, (0, 0)) for k in range(2, 25)),
+               *((k - 1, k, (0, 0)) for k in range(3, 25))], name="fan")
+    ZEOLITES = {net.name: net for net in read(TOP / "archives/zeolites.cgd")}
+
+    def setUp(self):
+        shelves = Shelf("mine", Archive.of([self.FAN])), Shelf("wide", Archive.load(TOP / "archives/wide.index"))
+        patched = unittest.mock.patch("crystal_nets.desk.archives.shelves", lambda: shelves)
+        patched.start()
+        self.addCleanup(patched.stop)
+
+    def test_a_name_by_a_verified_map(self):
+        told = card(self.ZEOLITES["SVR"])
+        self.assertEqual(told["beyond"]["names"], [{"archive": "wide", "name": "SVR"}])
+        self.assertIn("Its net is SVR: net_tool verify has taken a map", told["beyond"]["what"])
+        self.assertEqual(run("verify", told["beyond"]["certificate"].encode(), "-")[1], b"pair 2 verified\n")
+        self.assertTrue(told["reason"]["told"].startswith("refused 4 WidePlacement"))
+        self.assertNotIn("key", told)
+        json.dumps(told)
+
+    def test_a_name_by_the_key_of_a_smaller_cell(self):
+        skew = cover(self.FAN, [(1, 500), (0, 1)]).net
+        told = card(skew)
+        self.assertEqual(told["beyond"]["names"], [{"archive": "mine", "name": "fan"}])
+        self.assertIn("In a smaller cell it has a key: net_tool verify has taken the map", told["beyond"]["what"])
+        self.assertEqual(run("verify", told["beyond"]["certificate"].encode(), "-")[1], b"pair 2 verified\n")
+
+    def test_what_is_not_found(self):
+        told = card(Net(COLLISION))
+        self.assertEqual((told["beyond"]["names"], told["beyond"]["certificate"]), ([], ""))
+        self.assertIn("that is not proved", told["beyond"]["what"])
+        self.assertNotIn("beyond", card(Net([(1, 1, (1, 0, 0)), (1, 1, (0, 1, 0))])))
+
+    def test_pairs(self):
+        one = cover(self.ZEOLITES["SVR"], [(1, 1, 0), (0, 1, 0), (0, 0, 1)]).net
+        told = pair(one, self.ZEOLITES["SVR"])
+        self.assertEqual((told["verdict"], len(told["meeting"])), ("same", 2))
+        for text in told["meeting"]:
+            self.assertEqual(run("verify", text.encode(), "-")[1], b"pair 2 verified\n")
+        told = pair(one, self.ZEOLITES["SFS"])
+        self.assertEqual((told["verdict"], "that is not proved" in told["advice"]), ("not known", True))
 
 
 class Pairs(unittest.TestCase):

@@ -8,15 +8,15 @@ from itertools import combinations, product
 from odd_cells import in_odd_cell, in_larger_cell
 from testing import IS_LONG, PROGRAM, TOP, FolderTest, long_test, need_program, run
 
-from crystal_nets import (Archive, By, Net, NotAnArchive, NotANet, check, cover, group, identify, identify_all,  # noqa: E402
-                          keys, read, same, svg)
+from crystal_nets import (Archive, By, Net, NotAnArchive, NotANet, ProgramFailed, check, cover, group,  # noqa: E402
+                          identify, identify_all, keys, read, same, svg)
 from crystal_nets.lattice import adjugate, determinant  # noqa: E402
 from crystal_nets.wide.archive import WideArchive, write_wide_archive  # noqa: E402
 from crystal_nets.wide.certificate import as_read, certificate, holds, verified  # noqa: E402
 from crystal_nets.wide.exact_key import exact_key  # noqa: E402
 from crystal_nets.wide.matching import Verdict, find_map  # noqa: E402
 from crystal_nets.wide.periodic_map import PeriodicMap, text_of_maps  # noqa: E402
-from crystal_nets.wide.placed import PlacedNet  # noqa: E402
+from crystal_nets.wide.placed import NotFound, PlacedNet  # noqa: E402
 from crystal_nets.wide.primitive import primitive_net  # noqa: E402
 
 WIDE = ("BEA", "IMF", "SFG", "SFS", "STO", "STT", "SVR", "TUN")
@@ -212,6 +212,11 @@ class Names(FolderTest):
         answer = identify(disguised(BRIDGED, random.Random(7), name="x"), archive=self.folder)
         self.assertEqual((answer.outcome.name, answer.names, answer.by), ("Collision", ("bridged",), By.VERIFIED_MAP))
 
+    def test_a_block_without_a_name_gives_none(self):
+        write_wide_archive(self.folder / "mine", [Net(BRIDGED.edges)])
+        answer = identify(BRIDGED, archive=self.folder)
+        self.assertEqual((answer.names, answer.by, answer.certificate), ((), By.NONE, ""))
+
     def test_what_is_in_no_archive_has_no_name(self):
         write_wide_archive(self.folder / "mine", [BRIDGED])
         answer = identify(ZEOLITES["SVR"], archive=self.folder)
@@ -249,7 +254,7 @@ class Trust(FolderTest):
             return ["\t".join([*row[:3], "gold"]) for row in rows]
 
         def elsewhere(rows):
-            return ["\t".join([row[0], str(int(row[1]) + 7), "100000", row[3]]) for row in rows]
+            return ["\t".join([row[0], str(int(row[1]) + 7), str(int(row[2]) - 7), row[3]]) for row in rows]
 
         count = len(self.names_by(None))
         rightly = [(name,) for name in self.NAMES[:count]]
@@ -304,12 +309,20 @@ class Trust(FolderTest):
             base[k % 2] = tuple(x + (i == 1) for i, x in enumerate(base[k % 2]))
         return PeriodicMap(1, images, tuple(base))
 
+    def test_a_search_that_fails_costs_no_answer(self):
+        for fault in (NotFound("x"), ProgramFailed("x"), OSError(5, "x")):
+            with unittest.mock.patch("crystal_nets.wide.naming.primitive_net", side_effect=fault):
+                answer = identify(BRIDGED, archive=None)
+            self.assertEqual((answer.outcome.name, answer.by, bool(answer.naming.note)), ("Collision", By.NONE, True))
+        self.assertEqual(verified("x" * (1 << 24) + "x", 2), (False, False))
+
     def test_damaged_indices(self):
         path = self.folder / "mine"
         write_wide_archive(path, [BRIDGED])
         index, blocks = path.with_suffix(".index"), path.with_suffix(".cgd")
         whole = index.read_bytes()
         for content in (b"", b"wide_index 1 x\n", whole[:-1], whole + b"x\n", whole.replace(b"\t", b" "), whole + b"a\tb\tc\td\n",
+                        whole + b"a\t-1\t5\td\n", whole + b"a\t1\t99999\td\n", whole + b"a\t1%s\t1\td\n" % (b"0" * 30),
                         whole[:40] + b"\xff" + whole[41:]):
             index.write_bytes(content)
             with self.assertRaises(NotAnArchive):

@@ -10,6 +10,7 @@ import sys
 from pathlib import Path
 
 from ..archive import default_files, files_of
+from ..wide.archive import SUFFIX
 from ..errors import NotAnArchive, ProgramFailed
 from ..program import reading_report, run
 from ..side_by_side import processors
@@ -35,7 +36,8 @@ def words() -> argparse.Namespace:
 def main() -> int:
     signal.signal(signal.SIGINT, signal.SIG_DFL)
     asked = words()
-    files = files_of(asked.archives) if asked.archives else default_files()
+    known = files_of(asked.archives) if asked.archives else default_files()
+    files = [file for file in known if file.suffix != SUFFIX]  # nets without a key have no picture
     if not files:
         raise NotAnArchive("there is no archive")
     asked.folder.mkdir(parents=True, exist_ok=True)

@@ -42,12 +42,16 @@ class WideArchive:
         lines = index.read_bytes().decode(errors="surrogateescape").split("\n")
         if not lines[0].startswith(HEAD) or lines[-1]:
             raise NotAnArchive(f"{index} is no index of nets without a key, or is cut")
-        if lines[0] != _head(self.path.read_bytes()):
+        content = self.path.read_bytes()
+        if lines[0] != _head(content):
             raise NotAnArchive(f"{index} is not that of {self.path}, which has changed since; wide_archive makes it anew")
         try:
             for line in lines[1:-1]:
                 invariant, offset, length, name = line.split("\t")
-                self.entries.setdefault(invariant, []).append(Entry(int(offset), int(length), name))
+                entry = Entry(int(offset), int(length), name)
+                if not 0 <= entry.offset < entry.offset + entry.length <= len(content):
+                    raise ValueError
+                self.entries.setdefault(invariant, []).append(entry)
         except ValueError:
             raise NotAnArchive(f"{index}: {line[:60]!r} is no line of an index") from None
 

@@ -13,7 +13,7 @@ from dataclasses import dataclass
 from ..errors import ProgramFailed
 from ..graph import Edge, QuotientGraph, Vertex
 from ..program import run
-from ..texts.net_text import GREATEST_SHIFT, MOST_EDGES, MOST_VERTICES
+from ..texts.net_text import GREATEST_SHIFT, MOST_BYTES, MOST_EDGES, MOST_VERTICES
 from .periodic_map import PeriodicMap, rows_of, text_of_maps
 
 UNIT_CELL = {2: "--cell=1,0,0,1", 3: "--cell=1,0,0,0,1,0,0,0,1"}
@@ -65,17 +65,18 @@ def is_read(graph: QuotientGraph) -> bool:
 
 
 def certificate(first: ReadNet, maps: Sequence[tuple[ReadNet, PeriodicMap]]) -> Certificate:
-    """The maps that `verify` takes, as one text."""
+    """The maps that `verify` takes, as one text; none where that is longer than the program reads."""
     taken = verified(text_of_maps(first.graph, [(other.graph, found) for other, found in maps]), len(maps))
-    kept = [item for item, is_right in zip(maps, taken) if is_right]
-    if not kept:
-        return Certificate("", taken)
-    text = text_of_maps(first.graph, [(other.graph, found) for other, found in kept])
-    return Certificate(text, taken) if all(verified(text, len(kept))) else Certificate("", (False,) * len(maps))
+    kept = [(other.graph, found) for (other, found), is_right in zip(maps, taken) if is_right]
+    text = text_of_maps(first.graph, kept) if kept else ""
+    is_right = bool(kept) and all(verified(text, len(kept)))
+    return Certificate(text, taken) if is_right else Certificate("", (False,) * len(maps))
 
 
 def verified(text: str, count: int) -> tuple[bool, ...]:
     """Of each of so many pairs of a text whether `net_tool verify` has verified it."""
+    if len(text) > MOST_BYTES:
+        return (False,) * count
     status, told = run("verify", text.encode(), "-", allowed=(0, 1, BAD_MAP))
     if status == BAD_MAP:
         return (False,) * count

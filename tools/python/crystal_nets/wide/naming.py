@@ -6,10 +6,11 @@ maps are looked for to those nets of the archives that have its invariant. Each 
 from __future__ import annotations
 
 from collections.abc import Callable, Iterable
+from itertools import islice
 from typing import Protocol
 
 from ..answers import Answer, By, Naming
-from ..errors import NotANet
+from ..errors import NotANet, ProgramFailed, in_words
 from ..graph import QuotientGraph
 from ..net import Net
 from ..outcome import Outcome
@@ -22,6 +23,7 @@ from .primitive import PrimitiveNet, primitive_net
 ASKED = {("refused", number) for number in (4, 5, 6, 7)} | {("malformed", 8), ("malformed", 9)}
 COLLISION = 5  # which no cell takes away
 MOST_VERTICES, MOST_EDGES = 2_000, 8_000  # of a net that is looked at, though the program does not read it
+MOST_CANDIDATES = 100  # nets of the archives with one index, which are tried
 Ask = Callable[[Net], Answer]  # what the program answers to a net
 
 
@@ -41,11 +43,11 @@ def is_asked(outcome: Outcome) -> bool:
 
 
 def naming_of(answer: Answer, archive: Archives | None, ask: Ask) -> Naming:
-    """What is found of a net that has no key."""
+    """What is found of a net that has no key. Whatever keeps the search from its end is noted, and the answer stays."""
     try:
         return _Search(answer, archive, ask).naming()
-    except (NotFound, NotANet) as reason:
-        return Naming(note=str(reason))
+    except (NotFound, NotANet, ProgramFailed, OSError) as reason:
+        return Naming(note=in_words(reason))
 
 
 class _Search:
@@ -89,7 +91,7 @@ class _Search:
             return None
         placed = self.placed if self.read else PlacedNet(first.graph, self.placed.prime)
         maps = []
-        for block in self.archive.wide_blocks(self.placed.index):
+        for block in islice(self.archive.wide_blocks(self.placed.index), MOST_CANDIDATES):
             other = as_read(block, placed.dimension)
             found = find_map(placed, PlacedNet(other.graph, placed.prime)).map if other else None
             if other and found:
@@ -97,7 +99,7 @@ class _Search:
         if not maps:
             return None
         done = certificate(first, maps)
-        names = dict.fromkeys(other.name for (other, _), is_taken in zip(maps, done.taken) if is_taken)
+        names = dict.fromkeys(other.name for (other, _), is_taken in zip(maps, done.taken) if is_taken and other.name)
         by = By.VERIFIED_MAP if self.read else By.UNPROVED_CELL
         return Naming(tuple(names), by, done.text, self.placed.index) if names else None
 
