@@ -175,7 +175,7 @@ def _net_of_block(chunk: Chunk, lines: list[bytes]) -> Net:
         return Net.refused(f"line {chunk.opening_line}: a block {opening!r} is not read")
     if len(lines) > MOST_LINES or chunk.size > MOST_OF_A_BLOCK:
         return Net.refused(f"line {chunk.opening_line}: more than {MOST_LINES} lines, or {MOST_OF_A_BLOCK} bytes")
-    notes: list[str] = []
+    notes: list[str | Note] = []
     name = block.name
     try:
         net = net_of_block(block, notes)

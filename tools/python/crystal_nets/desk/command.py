@@ -12,6 +12,7 @@ import webbrowser
 from collections.abc import Callable
 from pathlib import Path
 
+from ..errors import lacking
 from .worker import Limits, Workers
 
 DESCRIPTION = """A page on your own machine that tells which nets structures have: drop CIF, .cgd or .arc files on it.
@@ -99,7 +100,7 @@ def fault_of_files(files: list[Path]) -> str:
 
 
 def fault_of_program() -> str:
-    from ..errors import ProgramNotFound, lacking
+    from ..errors import ProgramNotFound
     from ..program import find_program
     try:
         find_program()

@@ -9,7 +9,7 @@ import gc
 import os
 import signal
 import sys
-from collections.abc import Callable, Iterator
+from collections.abc import Callable, Generator, Iterator
 from concurrent.futures import ProcessPoolExecutor, as_completed
 from concurrent.futures.process import BrokenProcessPool
 from functools import partial
@@ -127,7 +127,7 @@ def planned(asked: argparse.Namespace, folder: Path, work: Path) -> Plan:
 def _check_settings(plan: Plan, settings: dict[str, Any], folder: Path) -> None:
     """Failed where a plan is of other words. A source may be given from another folder than it was."""
     def place(of: dict[str, Any]) -> str:
-        return os.path.normpath(os.path.join(of["at"], of["source"]))
+        return os.path.normpath(os.path.join(str(of["at"]), str(of["source"])))
 
     for name, value in settings.items():
         known = plan.settings.get(name)
@@ -152,7 +152,7 @@ def make_pieces(work: Path, plan: Plan, numbers: list[int], jobs: int) -> None:
         raise SourceAway(f"{len(away)} of {len(plan.pieces)} pieces are not there: {away[0]}")
 
 
-def _made(work: Path, plan: Plan, numbers: list[int], jobs: int) -> Iterator[Callable[[], None]]:
+def _made(work: Path, plan: Plan, numbers: list[int], jobs: int) -> Generator[Callable[[], None], None, None]:
     """The pieces, each as a call that gives nothing, or raises what was raised of it."""
     if jobs == 1 or len(numbers) < 2:
         for number in numbers:
