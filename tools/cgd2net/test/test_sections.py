@@ -94,6 +94,12 @@ class Words(FolderTest):
         text = CSCL.format("V1").replace("END", "\tFACE 3 0 0 0 1 0 0 1 1 0\nEND")
         self.assertEqual(told_of(text), [(DROPPED, 'x: line 1 "CsCl": line 10: FACE is not used here, with 1 row')])
 
+    def test_edges_of_a_tiling_are_told(self):
+        text = ("TILING\n NAME cubes\n GROUP Pm-3m\n NODE V 6 0 0 0\n EDGES\n  V 1 0 0\n"
+                " FACES 4 0 0 0 1 0 0 1 1 0 0 1 0\nEND\n")
+        self.assertEqual(told_of(text), [(DROPPED, 'x: line 1 "cubes": line 6: EDGE is not used here, with 1 row')])
+        self.assertEqual(len(graph_of(text).edges), 3)
+
     def test_what_is_passed_over_is_told_in_any_case(self):
         text = CSCL.format("V1").replace("END", "\tWONDER 3\n\t 4 5\n\tTD10 5\nEND")
         told = run(COMMAND, "--quiet", "-", stdin=text.encode()).stderr.decode().splitlines()
