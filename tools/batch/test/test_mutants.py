@@ -12,7 +12,7 @@ from crystal_nets.texts.net_text import nets_of_report  # noqa: E402
 
 MUTANTS = 2_000 if IS_LONG else 25
 SHELLS = 200 if IS_LONG else 5  # mutants for a script of sh, of which each run starts several processes
-STATUSES = {0, 1, 2, 3, 5, 6, 8, 11}  # of net_tool and of the commands here
+STATUSES = {0, 1, 2, 3, 5, 6, 8, 11, 75}  # of net_tool and of the commands here
 
 
 def nets_in(report: bytes) -> int:
@@ -95,11 +95,11 @@ class Scripts(Mutants):
     def test_split_nets(self):
         script = Script(BATCH / "split_nets", self.folder)
         items = b'key 2 1 1 1 0 1 1 0 1\n  version 1\n  id "square"\nend\n' * 5
-        for k, text in enumerate(self.mutants(self.nets, items, self.archive, self.report)):
-            pieces = self.folder / f"p{k}"
-            done = script.run("--blocks", 2, "-", pieces, stdin=text)
+        for k, text in enumerate(self.mutants(self.nets, items, self.archive, self.report, self.nets + items)):
+            pieces, is_turned = self.folder / f"p{k}", k % 2 == 0
+            done = script.run("--blocks", 2, *([] if is_turned else ["--as-it-is"]), "-", pieces, stdin=text)
             self.check(done)
-            if done.status == 0:
+            if done.status == 0 and not is_turned:
                 names = [row.split("\t")[0] for row in (pieces / "index.tsv").read_text().splitlines()]
                 self.assertEqual(b"".join((pieces / name).read_bytes() for name in names), text)
 
@@ -187,7 +187,9 @@ class ShellScripts(Mutants):
     def test_name_nets(self):
         archive = self.written("x.archive", self.archive)
         for text in self.mutants(self.nets, count=SHELLS):
-            self.check(self.ran(BATCH / "name_nets", self.written("nets.cgd", text), archive))
+            done = self.ran(BATCH / "name_nets", self.written("nets.cgd", text), archive)
+            self.check(done, is_silent=False)  # nets with a key have their names beside those without
+            self.assertEqual(done.status > 0, done.stderr != b"", done)
         nets = self.written("whole.cgd", self.nets)
         for text in self.mutants(self.archive, count=SHELLS):
             self.check(self.ran(BATCH / "name_nets", nets, self.written("y.archive", text)))

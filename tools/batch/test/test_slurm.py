@@ -6,8 +6,10 @@ import signal
 import socket
 import subprocess
 import time
+from pathlib import Path
 
 from odd_cells import text_of_odd_nets
+from test_pieces import PROGRAM as STAND_IN
 from testing import PROGRAM, TOOLS, TOP, FolderTest, long_test, need_commands, need_program, run
 
 BATCH = TOOLS / "batch"
@@ -72,8 +74,23 @@ class Slurm(FolderTest):
                    folder / "munge.log")
         self.wait_for(lambda: (folder / "munge.socket").exists())
         self.start("slurmctld", "-D", "-i")
+        self.start_node()
+
+    def start_node(self):
         self.start("slurmd", "-D", "-N", self.host)
-        self.wait_for(lambda: b"idle" in run("sinfo", "-h", status=None, **self.settings).stdout)
+        self.wait_for(lambda: b" idle " in run("sinfo", "-h", status=None, **self.settings).stdout)
+
+    def kill_node(self):
+        """Ends the node and its tasks at once, as a loss of power does."""
+        spared = (b"slurmctld", b"munged", b"sbatch")
+        for process in Path("/proc").glob("[0-9]*"):
+            try:
+                words = (process / "cmdline").read_bytes().split(b"\0")
+                if (str(self.folder).encode() in (process / "environ").read_bytes() and int(process.name) != os.getpid()
+                        and not any(os.path.basename(word) in spared for word in words[:2])):
+                    os.kill(int(process.name), signal.SIGKILL)
+            except OSError:
+                continue
 
     def start(self, *words):
         log = open(self.folder / f"{words[0]}.log", "wb")
@@ -120,6 +137,32 @@ class Slurm(FolderTest):
         self.assertEqual({file: file.stat().st_mtime_ns for file in done}, done)
         by_slurm = b"".join(file.read_bytes() for file in sorted(pieces.glob("*.rows")))
         self.assertEqual(by_slurm, self.rows_one_after_the_other(pieces))
+
+    @long_test
+    def test_a_node_that_dies_in_the_middle(self):
+        """A stand-in for the program takes its time; the same command does what the dead node left."""
+        slow = self.folder / "slow"
+        slow.write_text(f"#!/bin/sh\nsleep 0.5\nexec '{self.folder}/program' \"$@\"\n")
+        (self.folder / "program").write_text(STAND_IN)
+        for program in (slow, self.folder / "program"):
+            program.chmod(0o755)
+        pieces, count = self.folder / "pieces", 24
+        run(BATCH / "split_nets", "--blocks", 1, "-", pieces, stdin=b"".join(b"PERIODIC_GRAPH\nNAME n%d\nEDGES\n1 1 1 0\n"
+                                                                              b"1 1 0 1\nEND\n" % k for k in range(count)))
+        words = ("sbatch", "--wait", "--array=0-7:2", "--mem-per-cpu=100M", f"--chdir={self.folder}",
+                 BATCH / "nets.sbatch", BATCH, pieces)
+        first = subprocess.Popen(list(map(str, words)), stdout=subprocess.DEVNULL, stderr=subprocess.DEVNULL,
+                                 env={**os.environ, **self.settings, "NET_TOOL": str(slow)})
+        self.wait_for(lambda: len(list(pieces.glob("*.rows"))) > 2)
+        self.kill_node()
+        done = {file: file.stat().st_mtime_ns for file in pieces.glob("*.rows")}
+        self.assertLess(len(done), count)
+        run("scancel", "--full", "-u", "root", status=None, **self.settings)
+        self.start_node()
+        first.wait(120)
+        run(*words, seconds=300, **self.settings, NET_TOOL=str(slow))
+        self.assertEqual({file: file.stat().st_mtime_ns for file in done}, done)
+        self.assertTrue(run(BATCH / "net_groups", pieces).stdout.startswith(b"%d\t1\tn0\t2\tn1" % count))
 
     @long_test
     def test_a_table_by_parts(self):

@@ -5,6 +5,7 @@ import io
 from testing import TOOLS, FolderTest, need_modules, run
 
 need_modules("gemmi", "numpy", "scipy")
+from crystal_nets.blocks.collection import Collector  # noqa: E402
 from crystal_nets.blocks.converter import Converter  # noqa: E402
 from crystal_nets.blocks.groups import find_space_group  # noqa: E402
 from crystal_nets.graph import QuotientGraph  # noqa: E402
@@ -94,6 +95,12 @@ class Words(FolderTest):
         text = CSCL.format("V1").replace("END", "\tFACE 3 0 0 0 1 0 0 1 1 0\nEND")
         self.assertEqual(told_of(text), [(DROPPED, 'x: line 1 "CsCl": line 10: FACE is not used here, with 1 row')])
 
+    def test_edges_of_a_tiling_are_told(self):
+        text = ("TILING\n NAME cubes\n GROUP Pm-3m\n NODE V 6 0 0 0\n EDGES\n  V 1 0 0\n"
+                " FACES 4 0 0 0 1 0 0 1 1 0 0 1 0\nEND\n")
+        self.assertEqual(told_of(text), [(DROPPED, 'x: line 1 "cubes": line 6: EDGE is not used here, with 1 row')])
+        self.assertEqual(len(graph_of(text).edges), 3)
+
     def test_what_is_passed_over_is_told_in_any_case(self):
         text = CSCL.format("V1").replace("END", "\tWONDER 3\n\t 4 5\n\tTD10 5\nEND")
         told = run(COMMAND, "--quiet", "-", stdin=text.encode()).stderr.decode().splitlines()
@@ -102,6 +109,13 @@ class Words(FolderTest):
                           "line 12: TD10 is passed over, with 1 row"])
         text = CSCL.format("V1").replace("END", "\tCOMMENT\nCRYSTAL\n\tNAME y\nEND")
         self.assertIn("line 11: CRYSTAL begins before the END", told_of(text)[0][1])
+
+    def test_archives_tell_what_is_passed_over(self):
+        refused: list[str] = []
+        collector = Collector("x", refused)
+        collector.convert(io.BytesIO(CSCL.format("V1").replace("END", "\tTD10 5\nEND").encode()))
+        self.assertEqual((len(collector.nets), refused), (1, []))
+        self.assertEqual(collector.dropped, ['x: line 1 "CsCl": line 10: TD10 is passed over, with 1 row'])
 
     def test_a_node_that_is_not_known_is_refused(self):
         for row, line in (("Zink 1/2 1/2 1/2", 8), ("1/2 1/2 1/2 Zink", 8), ("Zink {0}", 8), ("{0} Zink", 8), ("Zink Zink", 8)):

@@ -25,7 +25,8 @@ Words = ParamSpec("Words")
 HERE = Path(__file__).resolve().parent
 PLACES = (  # beside the package in the repository, built or released, in an installation and in a Debian package; and elsewhere
     HERE / "../../../crates/net_tool/out/net_tool", HERE / "../../../release/net_tool",
-    HERE / "../../../../../lib/net_tool/net_tool", HERE / "../../../net_tool/net_tool", Path("/usr/local/lib/net_tool/net_tool"), Path("/usr/lib/net_tool/net_tool"))
+    HERE / "../../../../../lib/net_tool/net_tool", HERE / "../../../net_tool/net_tool",
+    Path("/usr/local/lib/net_tool/net_tool"), Path("/usr/lib/net_tool/net_tool"))
 HOW_TO_BUILD = ("net_tool is not there: in the folder of its repository `./net_tool --prove` proves and builds "
                 "it, and `tools/install/install.sh /usr/local` installs it; NET_TOOL names one that is elsewhere")
 STATUSES = {2: "it does not know the arguments", 3: "a file could not be read", 4: "it could not write",

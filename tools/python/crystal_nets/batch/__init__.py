@@ -1,6 +1,8 @@
 """Files of many nets and the reports on them, a command each, which tools/batch starts.
 
 split_nets      a long file in pieces that the program reads
+pieces          the folder of pieces: its index, and rows that are all there
+key_piece       the rows of one piece
 net_rows        a report as rows
 net_groups      the groups of isomorphic nets in rows
 net_names       the names of nets in rows

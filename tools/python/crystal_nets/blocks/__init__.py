@@ -3,6 +3,7 @@
 The way of a text, a module for each step:
 converter                 the text cut into blocks, and each written as what the program reads
 tokens                    words, numbers and keywords of a line, as Systre reads them
+sections                  which lines are rows, of which keyword, and what is passed over
 operations, plane_groups  affine maps that are written out, and the 17 plane groups
 groups                    space groups by name, Hall symbol, number, or operations
 crystal                   the rows of a CRYSTAL or TILING block

@@ -81,7 +81,7 @@ class Fields:
         for keyword, rows in self.rows.items():
             if keyword not in used:
                 strange = next((row for row in rows if not are_numbers(row.tokens)), None)
-                if strange:
+                if strange and keyword == "FACE":
                     raise strange.refused(f"{shown(strange.text)} stands under {keyword}, and is no row of it")
                 text = f"line {rows[0].line}: {keyword} is not used here, with {len(rows)} row{'s' * (len(rows) > 1)}"
                 notes.append((rows[0].line, Note(DROPPED, text)))

@@ -106,7 +106,7 @@ def fault_of_files(files: list[Path]) -> str:
 
 
 def fault_of_program() -> str:
-    from ..errors import ProgramNotFound, lacking
+    from ..errors import ProgramNotFound
     from ..program import find_program
     try:
         find_program()

@@ -4,5 +4,6 @@ plan      what there is to do: files and parts of files, in pieces that one proc
 piece     the rows of one piece, which are kept until all are there
 columns   the columns of the table, and how it is read
 sorting   lines sorted by `sort`, which uses the disk
+parquet   the files of a table in that form, by pyarrow
 join      the table, groups, names and refusals, from the rows of all pieces
 command   the words of the command line, processes side by side"""

@@ -32,7 +32,7 @@ def make_rows(path: Path, piece: Piece) -> None:
     found = [item for portion in piece.portions for item in nets_of_portion(portion, piece.settings)]
     answers = _answers([net for _, net in found], piece.settings)
     content = b"".join(_row(source, answer) for (source, _), answer in zip(found, answers, strict=True))
-    write_whole(path, _head(piece.mark, content) + content)
+    write_whole(path, with_head(piece.mark, content))
 
 
 def _answers(nets: list[Net], settings: dict[str, Any]) -> list[Answer]:
@@ -57,6 +57,11 @@ def rows_of(folder: Path, plan: Plan, number: int) -> list[bytes] | None:
         return None
     head, _, rows = content.partition(b"\n")
     return rows.splitlines(keepends=True) if head + b"\n" == _head(plan.mark, rows) else None
+
+
+def with_head(mark: str, rows: bytes) -> bytes:
+    """The rows as a file of them has them, under a plan's mark and a sum."""
+    return _head(mark, rows) + rows
 
 
 def _head(mark: str, rows: bytes) -> bytes:
