@@ -64,7 +64,7 @@ def identify(source: Any, archive: Archives = DEFAULT, **options: Unpack[Structu
     return _identified(nets, archive_of(archive), 1)[0]
 
 
-@overload
+@overload  # type: ignore[misc]  # no source but those of several is a dict
 def identify_all(sources: Mapping[Key, Any], archive: Archives = DEFAULT, processes: int = 1,
                  **options: Unpack[StructureOptions]) -> dict[Key, Answers]: ...
 @overload
@@ -80,7 +80,7 @@ def identify_all(sources: Any, archive: Archives = DEFAULT, processes: int = 1,
     return _answered(sources, options, lambda nets: _identified(nets, names, processes))
 
 
-@overload
+@overload  # type: ignore[misc]
 def keys(sources: Mapping[Key, Any], archive: Archives = None, processes: int = 1,
          **options: Unpack[StructureOptions]) -> dict[Key, Answers]: ...
 @overload

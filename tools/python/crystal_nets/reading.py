@@ -81,7 +81,7 @@ def _nets_of_text(source: str | bytes | os.PathLike[str], name: str, options: Ma
         return [net for file in files for net in _nets_of_text(file, "", _options_for(file.name, options))]
     content, file = _content_of(source)
     nets = _nets_of_content(content, name or file, options)
-    return [net.of_provenance(net.provenance.read_from(os.fspath(source))) for net in nets] if file else nets
+    return [net.of_provenance(net.provenance.read_from(str(source))) for net in nets] if file else nets
 
 
 def _nets_of_content(content: bytes, file: str, options: Mapping[str, object]) -> list[Net]:

@@ -63,10 +63,12 @@ class Source {
     this.again.setAttribute('aria-label', `read ${file.name} again: what is a vertex`);
     this.again.onchange = () => this.restart();
     this.convention = element('convention').value;
+    const readAgain = make('button', { type: 'button', onclick: () => this.restart(),
+      'aria-label': `read ${file.name} again with what is chosen above` }, 'read again');
     const take = make('button', { type: 'button', onclick: () => this.takeAway(), 'aria-label': `take ${file.name} away` },
       'take away');
     const isBlocks = /\.(cgd|arc)$/i.test(file.name);
-    const bar = make('div', { className: 'bar' }, make('h2', {}, file.name), this.count, !isBlocks && this.again, take);
+    const bar = make('div', { className: 'bar' }, make('h2', {}, file.name), this.count, !isBlocks && this.again, !isBlocks && readAgain, take);
     this.section = make('section', { 'aria-label': file.name }, bar, this.grid, this.more);
     this.again.value = this.convention;
     this.begin();
@@ -155,7 +157,7 @@ class Source {
 }
 
 function choiceOf(card) {
-  card.box = make('input', { type: 'checkbox', onchange: event => putSideBySide(card, event.target.checked) });
+  card.box = make('input', { type: 'checkbox', 'aria-label': `put ${card.name} side by side`, onchange: event => putSideBySide(card, event.target.checked) });
   return make('label', {}, card.box, ' side by side');
 }
 
@@ -215,6 +217,30 @@ function mapOf(map, one, other) {
     onclick: () => save(`${one.name}_${other.name}`, '.maps', map.text) }, 'save the map')];
 }
 
+// All files of what was dropped; folders are gone through.
+async function filesOf(transfer) {
+  const entries = [...transfer.items].map(item => item.webkitGetAsEntry && item.webkitGetAsEntry());
+  if (!entries.some(entry => entry && entry.isDirectory)) return [...transfer.files];
+  const found = [];
+  const left = entries.filter(entry => entry);
+  while (left.length && found.length < MOST_FILES) {
+    const entry = left.shift();
+    if (entry.isFile) found.push(await new Promise((resolve, reject) => entry.file(resolve, reject)));
+    else left.unshift(...await entriesOf(entry.createReader()));
+  }
+  return found;
+}
+
+// What is in a folder, by name; a browser gives it in portions.
+async function entriesOf(reader) {
+  const all = [];
+  for (;;) {
+    const some = await new Promise((resolve, reject) => reader.readEntries(resolve, reject));
+    if (!some.length) return all.sort((one, other) => one.name < other.name ? -1 : 1);
+    all.push(...some);
+  }
+}
+
 function take(files) {
   const some = [...files].slice(0, MOST_FILES);
   tell(some.length < files.length ? `only the first ${MOST_FILES} files are taken` : '');
@@ -230,7 +256,7 @@ function listenToFiles() {
   addEventListener('dragleave', over(false));
   addEventListener('drop', event => {
     over(false)(event);
-    take(event.dataTransfer.files);
+    filesOf(event.dataTransfer).then(take, () => tell('What was dropped cannot be read.'));
   });
   element('choose').onchange = event => {
     take(event.target.files);
