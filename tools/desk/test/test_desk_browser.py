@@ -137,6 +137,30 @@ class Browser(unittest.TestCase):
         tick("sample A")
         self.assertFalse(self.driver.find_element(By.ID, "pair").is_displayed())
 
+    def test_the_choice_above_is_for_what_is_shown(self):
+        self.drop("quartz.cif", "dia.cgd")
+        sections = self.all("#files > section")
+        self.assertEqual([section.find_element(By.TAG_NAME, "h2").text for section in sections], ["quartz.cif", "dia.cgd"])
+        chosen = lambda: [select.get_attribute("value") for select in self.all("#files select")]  # noqa: E731
+        self.assertEqual(chosen(), ["fitting"])
+        self.driver.find_element(By.CSS_SELECTOR, "#convention option[value=standard]").click()
+        self.until(lambda: "there is no carbon" in sections[0].text)
+        self.assertEqual(chosen(), ["standard"])
+        self.assertNotIn("carbon", sections[1].text)
+        self.driver.find_element(By.CSS_SELECTOR, "#files option[value=all-atoms]").click()
+        self.until(lambda: "qtz, quartz" in sections[0].text)
+        sections[0].find_element(By.XPATH, ".//button[text()='read again']").click()
+        self.until(lambda: "qtz, quartz" in sections[0].text and not self.all(".busy, [aria-busy]"))
+
+    def test_the_verdict_stands_above_the_pictures(self):
+        self.drop("dia.cgd", "sql.cgd")
+        for box in self.all(".card input[type=checkbox]"):
+            self.assertRegex(box.get_attribute("aria-label"), "put .+ side by side")
+            box.click()
+        verdict = self.driver.find_element(By.ID, "verdict")
+        self.until(lambda: "differ in dimension" in verdict.text)
+        self.assertLess(verdict.location["y"], self.driver.find_element(By.CSS_SELECTOR, "#pair-nets canvas").location["y"])
+
     def test_what_is_saved(self):
         self.drop("quartz.cif")
         for button in self.all(".saves button"):

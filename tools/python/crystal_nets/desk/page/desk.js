@@ -7,6 +7,7 @@ const MOST_AT_ONCE = 4;  // requests; the others wait
 const element = id => document.getElementById(id);
 const waiting = [];
 let running = 0;
+const sources = new Set();  // the files on the page
 let chosen = [];  // cards side by side, two at most
 
 // Runs work when there is room for it.
@@ -67,10 +68,11 @@ class Source {
       'aria-label': `read ${file.name} again with what is chosen above` }, 'read again');
     const take = make('button', { type: 'button', onclick: () => this.takeAway(), 'aria-label': `take ${file.name} away` },
       'take away');
-    const isBlocks = /\.(cgd|arc)$/i.test(file.name);
+    const isBlocks = this.isBlocks = /\.(cgd|arc)(\.gz)?$/i.test(file.name);
     const bar = make('div', { className: 'bar' }, make('h2', {}, file.name), this.count, !isBlocks && this.again, !isBlocks && readAgain, take);
     this.section = make('section', { 'aria-label': file.name }, bar, this.grid, this.more);
     this.again.value = this.convention;
+    sources.add(this);
     this.begin();
   }
 
@@ -92,6 +94,7 @@ class Source {
 
   takeAway() {
     this.control.abort();
+    sources.delete(this);
     this.forget();
     this.section.remove();
     element('choose').focus();
@@ -244,7 +247,16 @@ async function entriesOf(reader) {
 function take(files) {
   const some = [...files].slice(0, MOST_FILES);
   tell(some.length < files.length ? `only the first ${MOST_FILES} files are taken` : '');
-  for (const file of some) element('files').prepend(new Source(file).section);
+  element('files').prepend(...some.map(file => new Source(file).section));
+}
+
+// What is chosen above holds for the structures that are shown, too.
+function readAllAgain() {
+  for (const source of sources) {
+    if (source.isBlocks) continue;
+    source.again.value = element('convention').value;
+    source.restart();
+  }
 }
 
 function listenToFiles() {
@@ -258,6 +270,8 @@ function listenToFiles() {
     over(false)(event);
     filesOf(event.dataTransfer).then(take, () => tell('What was dropped cannot be read.'));
   });
+  element('convention').onchange = readAllAgain;
+  element('choices').onchange = readAllAgain;
   element('choose').onchange = event => {
     take(event.target.files);
     event.target.value = '';
