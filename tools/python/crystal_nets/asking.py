@@ -76,8 +76,7 @@ def identify_all(sources: Any, archive: Archives = DEFAULT, processes: int = 1,
     answered as a dict, with the answers of each source under its key.
 
     processes  of the program, side by side"""
-    names = archive_of(archive)
-    return _answered(sources, options, lambda nets: _identified(nets, names, processes))
+    return _answered(sources, options, lambda nets: _identified(nets, archive_of(archive), processes))
 
 
 @overload  # type: ignore[misc]
@@ -93,8 +92,7 @@ def keys(sources: Any, archive: Archives = None, processes: int = 1, **options: 
     >>> sql = [(1, 1, (1, 0)), (1, 1, (0, 1))]
     >>> keys([Net(sql), Net([(1, 1, (1, 0))])])[0].key
     '2 1 1 1 1 0 1 1 1 1 0'"""
-    names = archive_of(archive)
-    return _answered(sources, options, lambda nets: _with_keys(nets, names, processes))
+    return _answered(sources, options, lambda nets: _with_keys(nets, archive_of(archive), processes))
 
 
 def _with_keys(nets: list[Net], archive: Archive | None, processes: int) -> Answers:
