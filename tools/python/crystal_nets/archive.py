@@ -4,6 +4,7 @@ from __future__ import annotations
 
 import os
 import tempfile
+import threading
 from collections.abc import Iterable, Iterator
 from functools import cache
 from importlib.resources import files
@@ -67,7 +68,8 @@ class Archive:
     def default(cls) -> Archive:
         """The archives beside this package, and those of the user in `net_tool/archives` under XDG_DATA_HOME, which is
         ~/.local/share where it is not set. They are loaded once."""
-        return _loaded(tuple(map(str, default_files())))
+        with _loading:  # threads that ask at the same time wait for the one that loads them
+            return _loaded(tuple(map(str, default_files())))
 
     @classmethod
     def of(cls, nets: Iterable[Net]) -> Archive:
@@ -123,6 +125,9 @@ class Archive:
 
     def __repr__(self) -> str:
         return f"<Archive: {len(self)} names of {len(self._names)} nets>"
+
+
+_loading = threading.Lock()
 
 
 @cache
