@@ -77,8 +77,7 @@ __all__ = ["Answer", "Answers", "Archive", "Component", "Components", "Cover", "
            "Net", "NetMap", "NotANet", "NotATable", "NotAnArchive", "NotAnOption", "Outcome", "PackageMissing",
            "Placement", "PrimitiveGraph", "ProgramFailed", "ProgramNotFound", "Sameness", "StructureOptions",
            "components", "cover", "find_program", "group", "identify", "identify_all", "identify_each",
-           "keys", "net_of_key", "read",
-           "read_table", "same", "svg", "to_pandas"]
+           "keys", "net_of_key", "read", "read_table", "same", "svg", "to_pandas"]
 
 HOMES = {"answers": "Answer Answers Placement PrimitiveGraph to_pandas", "archive": "Archive",
          "asking": "identify identify_all keys", "covers": "Cover cover", "drawing": "svg",

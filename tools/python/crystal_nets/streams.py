@@ -3,7 +3,7 @@
 from __future__ import annotations
 
 from collections import deque
-from collections.abc import Iterable, Iterator
+from collections.abc import Iterable, Iterator, Sized
 from concurrent.futures import Future, ThreadPoolExecutor
 from contextlib import suppress
 from typing import Any, Unpack
@@ -44,7 +44,7 @@ def _each(sources: Iterable[Any], archive: Archive | None, processes: int, bar: 
     pool = ThreadPoolExecutor(processes)  # each thread waits for a process of the program
     try:
         for piece in _pieces(sources, options):
-            waiting.append(pool.submit(identify_all, piece, archive))
+            waiting.append(pool.submit(_answers_of, piece, archive))
             if len(waiting) >= AHEAD * processes:
                 yield from _told(waiting.popleft().result(), bar)
         while waiting:
@@ -53,6 +53,10 @@ def _each(sources: Iterable[Any], archive: Archive | None, processes: int, bar: 
         pool.shutdown(wait=False, cancel_futures=True)
         if bar is not None:
             bar.close()
+
+
+def _answers_of(piece: list[Net], archive: Archive | None) -> Answers:
+    return identify_all(piece, archive)
 
 
 def _told(answers: Answers, bar: Any) -> Iterator[Answer]:
@@ -89,5 +93,5 @@ def _bar(sources: Iterable[Any]) -> Any:
     """A bar of tqdm; None where that is not there."""
     with suppress(ModuleNotFoundError):
         from tqdm import tqdm
-        return tqdm(total=len(sources) if hasattr(sources, "__len__") else None, unit="net")
+        return tqdm(total=len(sources) if isinstance(sources, Sized) else None, unit="net")
     return None
