@@ -137,6 +137,24 @@ class Browser(unittest.TestCase):
         tick("sample A")
         self.assertFalse(self.driver.find_element(By.ID, "pair").is_displayed())
 
+    def test_a_ball_is_not_cut_by_its_own_edge(self):
+        """Of an edge that comes towards the reader, the paper round it stays outside the ball."""
+        self.assertEqual(self.driver.execute_script("""
+            const canvas = document.createElement('canvas');
+            canvas.width = canvas.height = 600;
+            const net = { vertices: [[0, 0, 0], [0.5, 0, 0.8]], edges: [[0, 1]], leaving: [], outline: [], kinds: [0, 0],
+                          ball: 0.25, frame: [[1, 0, 0], [0, 1, 0], [0, 0, 1]] };
+            const picture = new Picture(canvas, net, palette, LIGHT);
+            picture.paint();
+            const data = picture.context.getImageData(0, 0, 600, 600).data, centre = picture.points[0];
+            let cut = 0;
+            for (let x = 0; x < 600; x += 1) for (let y = 0; y < 600; y += 1) {
+              if (Math.hypot(x - centre.x, y - centre.y) > 0.9 * picture.ball) continue;
+              const at = 4 * (600 * y + x);
+              if (data[at] === 255 && data[at + 1] === 255 && data[at + 2] === 255) cut += 1;
+            }
+            return cut;"""), 0)
+
     def test_the_choice_above_is_for_what_is_shown(self):
         self.drop("quartz.cif", "dia.cgd")
         sections = self.all("#files > section")
