@@ -155,6 +155,18 @@ class Browser(unittest.TestCase):
             }
             return cut;"""), 0)
 
+    def test_what_is_read_can_be_stopped(self):
+        text = (EXAMPLES.parent / "archives/common.cgd").read_text()
+        self.driver.execute_script(DROP, [["common.cgd", text]])
+        stop = self.driver.find_element(By.ID, "stop")
+        self.until(stop.is_displayed)
+        self.assertRegex(self.driver.find_element(By.ID, "progress").text, r"\d+ of \d+ steps done")
+        stop.click()
+        self.assertEqual(self.all(".busy, [aria-busy]"), [])
+        self.assertIn("stopped", self.all("#files .bar")[0].text)
+        self.until(lambda: not stop.is_displayed())
+        self.assertLess(len(self.all(".card")), 24)
+
     def test_the_choice_above_is_for_what_is_shown(self):
         self.drop("quartz.cif", "dia.cgd")
         sections = self.all("#files > section")

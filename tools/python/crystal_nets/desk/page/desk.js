@@ -7,17 +7,22 @@ const MOST_AT_ONCE = 4;  // requests; the others wait
 const element = id => document.getElementById(id);
 const waiting = [];
 let running = 0;
+let asked = 0, answered = 0;  // requests since nothing was to be done
 const sources = new Set();  // the files on the page
 let chosen = [];  // cards side by side, two at most
 
 // Runs work when there is room for it.
 function inLine(work) {
   return new Promise((resolve, reject) => {
+    asked += 1;
     waiting.push(() => work().then(resolve, reject).finally(() => {
       running -= 1;
+      answered += 1;
       next();
+      showProgress();
     }));
     next();
+    showProgress();
   });
 }
 
@@ -26,6 +31,13 @@ function next() {
     running += 1;
     waiting.shift()();
   }
+}
+
+// How much of the work is done, where more of it waits than is shown at once.
+function showProgress() {
+  if (!running) asked = answered = 0;
+  element('progress').hidden = !waiting.length && element('progress').hidden || !running;
+  element('done').textContent = `${answered} of ${count(asked, 'step', 'steps')} done`;
 }
 
 // What the server answers to a question; {reason} where it does not.
@@ -69,7 +81,7 @@ class Source {
     const take = make('button', { type: 'button', onclick: () => this.takeAway(), 'aria-label': `take ${file.name} away` },
       'take away');
     const isBlocks = this.isBlocks = /\.(cgd|arc)(\.gz)?$/i.test(file.name);
-    const bar = make('div', { className: 'bar' }, make('h2', {}, file.name), this.count, !isBlocks && this.again, !isBlocks && readAgain, take);
+    const bar = make('div', { className: 'bar' }, make('h2', {}, file.name), this.count, !isBlocks && this.again, readAgain, take);
     this.section = make('section', { 'aria-label': file.name }, bar, this.grid, this.more);
     this.again.value = this.convention;
     sources.add(this);
@@ -90,6 +102,15 @@ class Source {
     this.forget();
     this.grid.replaceChildren();
     this.begin();
+  }
+
+  // Nothing more is asked for it; what is shown stays.
+  stop() {
+    if (!this.section.querySelector('.busy, [aria-busy]')) return;
+    this.control.abort();
+    this.count.textContent = 'stopped; read again to go on';
+    this.count.classList.remove('busy');
+    for (const article of this.grid.querySelectorAll('[aria-busy]')) article.remove();
   }
 
   takeAway() {
@@ -120,7 +141,9 @@ class Source {
     const left = answer.total - this.shown;
     this.more.hidden = left <= 0;
     this.more.textContent = left > 0 ? `show more of the ${left} nets that are left` : '';
-    return Promise.all(answer.nets.map(net => this.card(net, signal))).then(() => this.tellCount(answer.total));
+    return Promise.all(answer.nets.map(net => this.card(net, signal))).then(() => {
+      if (!signal.aborted) this.tellCount(answer.total);
+    });
   }
 
   busy(text) {
@@ -271,6 +294,7 @@ function listenToFiles() {
     filesOf(event.dataTransfer).then(take, () => tell('What was dropped cannot be read.'));
   });
   element('convention').onchange = readAllAgain;
+  element('stop').onclick = () => sources.forEach(source => source.stop());
   element('choices').onchange = readAllAgain;
   element('choose').onchange = event => {
     take(event.target.files);
