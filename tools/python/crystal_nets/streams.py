@@ -29,7 +29,7 @@ def identify_each(sources: Iterable[Any], archive: Archives = DEFAULT, processes
     processes  of the program, side by side
     progress   shows how many nets are done, by tqdm where that is there
 
-    >>> squares = (Net([(1, 1, (k, 1)), (1, 1, (0, 1))]) for k in range(1, 4))
+    >>> squares = (Net([(1, 1, (1, k)), (1, 1, (0, 1))]) for k in range(1, 4))
     >>> [answer.primitive.vertices for answer in identify_each(squares, archive=None)]
     [1, 1, 1]"""
     if processes < 1:
