@@ -137,6 +137,60 @@ class Browser(unittest.TestCase):
         tick("sample A")
         self.assertFalse(self.driver.find_element(By.ID, "pair").is_displayed())
 
+    def test_a_ball_is_not_cut_by_its_own_edge(self):
+        """Of an edge that comes towards the reader, the paper round it stays outside the ball."""
+        self.assertEqual(self.driver.execute_script("""
+            const canvas = document.createElement('canvas');
+            canvas.width = canvas.height = 600;
+            const net = { vertices: [[0, 0, 0], [0.5, 0, 0.8]], edges: [[0, 1]], leaving: [], outline: [], kinds: [0, 0],
+                          ball: 0.25, frame: [[1, 0, 0], [0, 1, 0], [0, 0, 1]] };
+            const picture = new Picture(canvas, net, palette, LIGHT);
+            picture.paint();
+            const data = picture.context.getImageData(0, 0, 600, 600).data, centre = picture.points[0];
+            let cut = 0;
+            for (let x = 0; x < 600; x += 1) for (let y = 0; y < 600; y += 1) {
+              if (Math.hypot(x - centre.x, y - centre.y) > 0.9 * picture.ball) continue;
+              const at = 4 * (600 * y + x);
+              if (data[at] === 255 && data[at + 1] === 255 && data[at + 2] === 255) cut += 1;
+            }
+            return cut;"""), 0)
+
+    def test_what_is_read_can_be_stopped(self):
+        text = (EXAMPLES.parent / "archives/common.cgd").read_text()
+        self.driver.execute_script(DROP, [["common.cgd", text]])
+        stop = self.driver.find_element(By.ID, "stop")
+        self.until(stop.is_displayed)
+        self.assertRegex(self.driver.find_element(By.ID, "progress").text, r"\d+ of \d+ steps done")
+        stop.click()
+        self.assertEqual(self.all(".busy, [aria-busy]"), [])
+        self.assertIn("stopped", self.all("#files .bar")[0].text)
+        self.until(lambda: not stop.is_displayed())
+        self.assertLess(len(self.all(".card")), 24)
+
+    def test_the_choice_above_is_for_what_is_shown(self):
+        self.drop("quartz.cif", "dia.cgd")
+        sections = self.all("#files > section")
+        self.assertEqual([section.find_element(By.TAG_NAME, "h2").text for section in sections], ["quartz.cif", "dia.cgd"])
+        chosen = lambda: [select.get_attribute("value") for select in self.all("#files select")]  # noqa: E731
+        self.assertEqual(chosen(), ["fitting"])
+        self.driver.find_element(By.CSS_SELECTOR, "#convention option[value=standard]").click()
+        self.until(lambda: "there is no carbon" in sections[0].text)
+        self.assertEqual(chosen(), ["standard"])
+        self.assertNotIn("carbon", sections[1].text)
+        self.driver.find_element(By.CSS_SELECTOR, "#files option[value=all-atoms]").click()
+        self.until(lambda: "qtz, quartz" in sections[0].text)
+        sections[0].find_element(By.XPATH, ".//button[text()='read again']").click()
+        self.until(lambda: "qtz, quartz" in sections[0].text and not self.all(".busy, [aria-busy]"))
+
+    def test_the_verdict_stands_above_the_pictures(self):
+        self.drop("dia.cgd", "sql.cgd")
+        for box in self.all(".card input[type=checkbox]"):
+            self.assertRegex(box.get_attribute("aria-label"), "put .+ side by side")
+            box.click()
+        verdict = self.driver.find_element(By.ID, "verdict")
+        self.until(lambda: "differ in dimension" in verdict.text)
+        self.assertLess(verdict.location["y"], self.driver.find_element(By.CSS_SELECTOR, "#pair-nets canvas").location["y"])
+
     def test_what_is_saved(self):
         self.drop("quartz.cif")
         for button in self.all(".saves button"):

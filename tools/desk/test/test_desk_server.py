@@ -20,7 +20,7 @@ from testing import IS_LONG, TOP
 need_desk()
 from crystal_nets.desk.application import CHOICES, FILES, MOST_BYTES  # noqa: E402
 from crystal_nets.desk.connections import MOST_STRANGERS, SECONDS_TO_ASK  # noqa: E402
-from crystal_nets.desk.files import AT_ONCE  # noqa: E402
+from crystal_nets.desk.files import AT_ONCE, FITTING  # noqa: E402
 from crystal_nets.options import CONVENTION_NAMES as CONVENTIONS  # noqa: E402
 from crystal_nets.structures.nets.choice import Options  # noqa: E402
 from crystal_nets.structures.units.conventions import AUTO, CONVENTIONS as OF_CIF2CGD  # noqa: E402
@@ -242,7 +242,7 @@ class WhatIsSent(WithServer):
         self.assertEqual(list(CONVENTIONS), [*OF_CIF2CGD, AUTO])
         self.assertLessEqual(set(CHOICES), set(Options.__dataclass_fields__))
         page = FILES[""][0].read_text()
-        self.assertEqual(re.findall(r'<option value="([^"]+)"', page), list(CONVENTIONS))
+        self.assertEqual(re.findall(r'<option value="([^"]+)"', page), [FITTING, *CONVENTIONS])
         self.assertEqual(re.findall(r'type="checkbox" value="([^"]+)"', page), list(CHOICES))
 
 

@@ -14,6 +14,7 @@ reading    files, atoms of ase and pymatgen, graphs of networkx
 other_forms  POSCAR texts, and the JSON of pymatgen
 options    how structures are read
 asking     identify, identify_all, keys
+streams    identify_each: answers as they come
 maps       same: whether two nets are isomorphic, with the map
 parts      components: what interpenetrates
 covers     cover: a net on a larger cell
@@ -70,14 +71,15 @@ if TYPE_CHECKING:
     from .parts import Component, Components, components, net_of_key
     from .program import find_program
     from .reading import read
+    from .streams import identify_each
     from .tables.columns import read_table
 
 __version__ = "0.1"
 __all__ = ["Answer", "Answers", "Archive", "By", "Component", "Components", "Cover", "CrystalNetsError", "Group", "Groups",
            "Meeting", "Net", "NetMap", "NotANet", "NotATable", "NotAnArchive", "NotAnOption", "Outcome", "PackageMissing",
            "Placement", "PrimitiveGraph", "ProgramFailed", "ProgramNotFound", "ProgramTimedOut", "Sameness",
-           "StructureOptions", "check", "components", "cover", "find_program", "group", "identify", "identify_all", "keys",
-           "net_of_key", "read", "read_table", "same", "svg", "to_pandas"]
+           "StructureOptions", "check", "components", "cover", "find_program", "group", "identify", "identify_all",
+           "identify_each", "keys", "net_of_key", "read", "read_table", "same", "svg", "to_pandas"]
 
 HOMES = {"answers": "Answer Answers By Placement PrimitiveGraph to_pandas", "archive": "Archive",
          "asking": "identify identify_all keys", "checking": "check", "covers": "Cover cover", "drawing": "svg",
@@ -86,6 +88,7 @@ HOMES = {"answers": "Answer Answers By Placement PrimitiveGraph to_pandas", "arc
          "groups": "Group Groups group", "maps": "Meeting NetMap Sameness same", "net": "Net",
          "options": "StructureOptions", "outcome": "Outcome",
          "parts": "Component Components components net_of_key", "program": "find_program", "reading": "read",
+         "streams": "identify_each",
          "tables.columns": "read_table"}
 HOME_OF = {name: module for module, names in HOMES.items() for name in names.split()}
 

@@ -4,6 +4,7 @@ from __future__ import annotations
 
 import os
 import tempfile
+import threading
 from collections.abc import Iterable, Iterator
 from functools import cache, cached_property
 from importlib.resources import files
@@ -75,7 +76,8 @@ class Archive:
     def default(cls, *, timeout: float | None = None) -> Archive:
         """The archives beside this package, and those of the user in `net_tool/archives` under XDG_DATA_HOME, which is
         ~/.local/share where it is not set. They are loaded once."""
-        return _loaded(tuple(map(str, default_files())))
+        with _loading:  # threads that ask at the same time wait for the one that loads them
+            return _loaded(tuple(map(str, default_files())))
 
     @classmethod
     @bounded
@@ -158,6 +160,9 @@ class Archive:
     def __repr__(self) -> str:
         others = f", {len(self.without_key)} without a key" if self._wide else ""
         return f"<Archive: {len(self._nets)} names of {len(self._names)} nets{others}>"
+
+
+_loading = threading.Lock()
 
 
 @cache

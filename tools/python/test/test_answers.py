@@ -2,14 +2,16 @@
 
 import json
 import random
+import time
 import unittest
 import unittest.mock
+from concurrent.futures import ThreadPoolExecutor
 from fractions import Fraction
 
 from testing import PROGRAM, TOOLS, TOP, FolderTest, need_modules, need_program, run
 
 from crystal_nets import (Answer, Archive, Net, NotAnArchive, NotANet, ProgramFailed, components, cover, group,  # noqa: E402
-                          identify, identify_all, keys, net_of_key, read, same, svg)
+                          identify, identify_all, identify_each, keys, net_of_key, read, same, svg)
 
 DIA = Net([(1, 2, (0, 0, 0)), (1, 2, (1, 0, 0)), (1, 2, (0, 1, 0)), (1, 2, (0, 0, 1))], name="dia")
 PCU = Net([(1, 1, (1, 0, 0)), (1, 1, (0, 1, 0)), (1, 1, (0, 0, 1))], name="pcu")
@@ -148,6 +150,59 @@ class Forms(AnswerTest):
             self.assertNotIn("\n", repr(value))
             self.assertLess(len(repr(value)), 200)
         self.assertEqual(repr(answers[0]), "<Answer dia: dia>")
+
+
+class Streams(AnswerTest):
+    def test_answers_come_in_order_and_sources_are_taken_as_there_is_room(self):
+        taken = []
+
+        def sources():
+            for place in range(400):
+                taken.append(place)
+                yield (DIA, PCU, SQL.edges, "no\nnet\n")[place % 4]
+
+        answers = identify_each(sources(), archive=self.archive, processes=2)
+        first = next(answers)
+        self.assertEqual((first.names, first.net.provenance.source), (("dia",), "0"))
+        self.assertLess(len(taken), 4 * 64 + 70)
+        rest = list(answers)
+        self.assertEqual([answer.net.provenance.source for answer in rest], [str(place) for place in range(1, 400)])
+        self.assertEqual([answer.names for answer in rest[:4]], [("pcu",), ("sql",), (), ("dia",)])
+        self.assertEqual(rest[2].outcome.kind, "unreadable")
+
+    def test_one_that_is_not_asked_for_more_ends_at_once(self):
+        """Whatever the program is busy with."""
+        slow = self.folder / "slow"
+        slow.write_text(f"#!/bin/sh\n[ -e {self.folder}/begun ] && exec sleep 5\ntouch {self.folder}/begun\nexec {PROGRAM} \"$@\"\n")
+        slow.chmod(0o755)
+        with unittest.mock.patch.dict("os.environ", NET_TOOL=str(slow)):
+            answers = identify_each((DIA for _ in range(64 * 9)), archive=None, processes=1)
+            next(answers)
+            begun = time.monotonic()
+            answers.close()
+        self.assertLess(time.monotonic() - begun, 1)
+
+    def test_what_cannot_be_is_told_at_once(self):
+        for words in ({"processes": 0}, {"processes": -1}):
+            with self.assertRaises(ValueError):
+                identify_each([], archive=None, **words)
+        with self.assertRaises(TypeError):
+            identify_each([], archive=None, no_such_option=True)
+
+    def test_threads_load_an_archive_once(self):
+        from crystal_nets import archive as module
+        loads = []
+
+        def load(*paths):
+            loads.append(paths)
+            time.sleep(0.2)
+            return Archive([])
+
+        module._loaded.cache_clear()
+        self.addCleanup(module._loaded.cache_clear)
+        with unittest.mock.patch.object(Archive, "load", load), ThreadPoolExecutor(8) as pool:
+            list(pool.map(lambda _: Archive.default(), range(8)))
+        self.assertEqual(len(loads), 1)
 
 
 class Same(AnswerTest):

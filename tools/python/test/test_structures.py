@@ -187,7 +187,7 @@ class OtherForms(StructureTest):
             with self.assertRaises(NotANet):
                 read(wrong)
         with self.assertRaises(NotANet):
-            identify_all(structure.as_dict())
+            identify_all(structure.as_dict(), archive=None)
 
     def test_a_net_knows_where_it_is_from(self):
         path = self.folder / "two.cif"

@@ -15,7 +15,7 @@ from ..pictures.text import PALETTE
 from ..provenance import Provenance
 from . import questions
 from .connections import Connections
-from .files import AT_ONCE, content_of, shown_name
+from .files import AT_ONCE, FITTING, content_of, shown_name
 from .guard import MOST_BYTES, TOO_LARGE, Guard, Rejected, with_headers
 from .worker import ClientGone, NoAnswer, Workers
 
@@ -158,7 +158,7 @@ def provenance() -> Provenance:
 def options_of_form() -> dict[str, Any]:
     """How structures are read: the convention, and what is ticked."""
     convention = text("convention")
-    if convention not in CONVENTION_NAMES:
+    if convention not in (FITTING, *CONVENTION_NAMES):
         raise BadRequest("there is no such convention")
     ticked = list_of_texts("choices")
     if not set(ticked) <= set(CHOICES):

@@ -87,10 +87,19 @@ class Picture {
     return between(p, q, Math.min(0.45, 0.75 * this.ball / (Math.hypot(p.x - q.x, p.y - q.y) || 1)));
   }
 
+  // Where the way from p to q leaves the disc of the ball of p: paper round an edge begins there, so that it cuts no ball
+  // of its own.
+  rim(p, q) {
+    return between(p, q, Math.min(0.5, this.ball * p.grow / (Math.hypot(p.x - q.x, p.y - q.y) || 1)));
+  }
+
   edges() {
     const { points, net, width } = this;
-    return net.edges.map(([i, j]) => this.line(this.surface(points[i], points[j]), this.surface(points[j], points[i]),
-      net.isWoven ? this.colour(net.kinds[i]) : this.theme.edge, width, true));
+    return net.edges.map(([i, j]) => {
+      const [p, q] = [points[i], points[j]];
+      return this.line(this.surface(p, q), this.surface(q, p), net.isWoven ? this.colour(net.kinds[i]) : this.theme.edge,
+        width, [this.rim(p, q), this.rim(q, p)]);
+    });
   }
 
   colour(kind) {
@@ -100,14 +109,15 @@ class Picture {
   leaving() {
     return this.net.leaving.map(([i, ...place]) => {
       const end = this.seen(place);
-      return this.line(this.surface(this.points[i], end), end, this.theme.leaving, this.width * 0.8, true);
+      const p = this.points[i];
+      return this.line(this.surface(p, end), end, this.theme.leaving, this.width * 0.8, [this.rim(p, end), end]);
     });
   }
 
   outline() {
     return this.net.outline.flatMap(([from, to]) => {
       const at = share => this.seen(from.map((x, k) => x + (to[k] - x) * share));
-      return [0, 1, 2, 3, 4, 5].map(k => this.line(at(k / 6), at((k + 1) / 6), this.theme.outline, 2 * this.pixel, false));
+      return [0, 1, 2, 3, 4, 5].map(k => this.line(at(k / 6), at((k + 1) / 6), this.theme.outline, 2 * this.pixel, null));
     });
   }
 
@@ -118,7 +128,7 @@ class Picture {
   line(p, q, colour, width, halo) {
     const z = (p.z + q.z) / 2;
     return { z, paint: () => {
-      if (halo) this.stroke(p, q, this.theme.paper, width + 5 * this.pixel);
+      if (halo) this.stroke(...halo, this.theme.paper, width + 5 * this.pixel);
       this.stroke(p, q, this.misty(colour, this.depth(z)), width * (1 - 0.3 * this.depth(z)));
     } };
   }

@@ -111,7 +111,7 @@ function save(name, ending, text, kind = 'text/plain') {
 function savesOf(card, askCrystal) {
   const svg = card.svg || card.woven?.svg;
   const button = (label, work) =>
-    make('button', { type: 'button', onclick: work, 'aria-label': `save ${card.name} as ${label}` }, label);
+    make('button', { type: 'button', onclick: work, 'aria-label': `Save ${label} of ${card.name}` }, `Save ${label}`);
   return make('div', { className: 'saves' },
     card.block && button('.cgd', () => save(card.name, '.cgd', card.block)),
     card.report && button('report', () => save(card.name, '.report', card.report)),

@@ -7,16 +7,22 @@ const MOST_AT_ONCE = 4;  // requests; the others wait
 const element = id => document.getElementById(id);
 const waiting = [];
 let running = 0;
+let asked = 0, answered = 0;  // requests since nothing was to be done
+const sources = new Set();  // the files on the page
 let chosen = [];  // cards side by side, two at most
 
 // Runs work when there is room for it.
 function inLine(work) {
   return new Promise((resolve, reject) => {
+    asked += 1;
     waiting.push(() => work().then(resolve, reject).finally(() => {
       running -= 1;
+      answered += 1;
       next();
+      showProgress();
     }));
     next();
+    showProgress();
   });
 }
 
@@ -25,6 +31,13 @@ function next() {
     running += 1;
     waiting.shift()();
   }
+}
+
+// How much of the work is done, where more of it waits than is shown at once.
+function showProgress() {
+  if (!running) asked = answered = 0;
+  element('progress').hidden = !waiting.length && element('progress').hidden || !running;
+  element('done').textContent = `${answered} of ${count(asked, 'step', 'steps')} done`;
 }
 
 // What the server answers to a question; {reason} where it does not.
@@ -63,12 +76,15 @@ class Source {
     this.again.setAttribute('aria-label', `read ${file.name} again: what is a vertex`);
     this.again.onchange = () => this.restart();
     this.convention = element('convention').value;
+    const readAgain = make('button', { type: 'button', onclick: () => this.restart(),
+      'aria-label': `read ${file.name} again with what is chosen above` }, 'read again');
     const take = make('button', { type: 'button', onclick: () => this.takeAway(), 'aria-label': `take ${file.name} away` },
       'take away');
-    const isBlocks = /\.(cgd|arc)$/i.test(file.name);
-    const bar = make('div', { className: 'bar' }, make('h2', {}, file.name), this.count, !isBlocks && this.again, take);
+    const isBlocks = this.isBlocks = /\.(cgd|arc)(\.gz)?$/i.test(file.name);
+    const bar = make('div', { className: 'bar' }, make('h2', {}, file.name), this.count, !isBlocks && this.again, readAgain, take);
     this.section = make('section', { 'aria-label': file.name }, bar, this.grid, this.more);
     this.again.value = this.convention;
+    sources.add(this);
     this.begin();
   }
 
@@ -88,8 +104,18 @@ class Source {
     this.begin();
   }
 
+  // Nothing more is asked for it; what is shown stays.
+  stop() {
+    if (!this.section.querySelector('.busy, [aria-busy]')) return;
+    this.control.abort();
+    this.count.textContent = 'stopped; read again to go on';
+    this.count.classList.remove('busy');
+    for (const article of this.grid.querySelectorAll('[aria-busy]')) article.remove();
+  }
+
   takeAway() {
     this.control.abort();
+    sources.delete(this);
     this.forget();
     this.section.remove();
     element('choose').focus();
@@ -115,7 +141,9 @@ class Source {
     const left = answer.total - this.shown;
     this.more.hidden = left <= 0;
     this.more.textContent = left > 0 ? `show more of the ${left} nets that are left` : '';
-    return Promise.all(answer.nets.map(net => this.card(net, signal))).then(() => this.tellCount(answer.total));
+    return Promise.all(answer.nets.map(net => this.card(net, signal))).then(() => {
+      if (!signal.aborted) this.tellCount(answer.total);
+    });
   }
 
   busy(text) {
@@ -155,7 +183,7 @@ class Source {
 }
 
 function choiceOf(card) {
-  card.box = make('input', { type: 'checkbox', onchange: event => putSideBySide(card, event.target.checked) });
+  card.box = make('input', { type: 'checkbox', 'aria-label': `put ${card.name} side by side`, onchange: event => putSideBySide(card, event.target.checked) });
   return make('label', {}, card.box, ' side by side');
 }
 
@@ -219,10 +247,43 @@ function mapOf(map, one, other) {
     onclick: () => save(`${one.name}_${other.name}`, '.maps', map.text) }, 'save the map')];
 }
 
+// All files of what was dropped; folders are gone through.
+async function filesOf(transfer) {
+  const entries = [...transfer.items].map(item => item.webkitGetAsEntry && item.webkitGetAsEntry());
+  if (!entries.some(entry => entry && entry.isDirectory)) return [...transfer.files];
+  const found = [];
+  const left = entries.filter(entry => entry);
+  while (left.length && found.length < MOST_FILES) {
+    const entry = left.shift();
+    if (entry.isFile) found.push(await new Promise((resolve, reject) => entry.file(resolve, reject)));
+    else left.unshift(...await entriesOf(entry.createReader()));
+  }
+  return found;
+}
+
+// What is in a folder, by name; a browser gives it in portions.
+async function entriesOf(reader) {
+  const all = [];
+  for (;;) {
+    const some = await new Promise((resolve, reject) => reader.readEntries(resolve, reject));
+    if (!some.length) return all.sort((one, other) => one.name < other.name ? -1 : 1);
+    all.push(...some);
+  }
+}
+
 function take(files) {
   const some = [...files].slice(0, MOST_FILES);
   tell(some.length < files.length ? `only the first ${MOST_FILES} files are taken` : '');
-  for (const file of some) element('files').prepend(new Source(file).section);
+  element('files').prepend(...some.map(file => new Source(file).section));
+}
+
+// What is chosen above holds for the structures that are shown, too.
+function readAllAgain() {
+  for (const source of sources) {
+    if (source.isBlocks) continue;
+    source.again.value = element('convention').value;
+    source.restart();
+  }
 }
 
 function listenToFiles() {
@@ -234,8 +295,11 @@ function listenToFiles() {
   addEventListener('dragleave', over(false));
   addEventListener('drop', event => {
     over(false)(event);
-    take(event.dataTransfer.files);
+    filesOf(event.dataTransfer).then(take, () => tell('What was dropped cannot be read.'));
   });
+  element('convention').onchange = readAllAgain;
+  element('stop').onclick = () => sources.forEach(source => source.stop());
+  element('choices').onchange = readAllAgain;
   element('choose').onchange = event => {
     take(event.target.files);
     event.target.value = '';
