@@ -9,15 +9,15 @@ from testing import TOP
 need_desk()
 from crystal_nets import NotANet  # noqa: E402
 from crystal_nets.desk import files  # noqa: E402
-from crystal_nets.desk.files import FITTING, MOST_BYTES, has_carbon_and_metal, nets_of_file  # noqa: E402
+from crystal_nets.desk.files import FITTING, MOST_BYTES, nets_of_file  # noqa: E402
 
 QUARTZ = (TOP / "examples/quartz.cif").read_bytes()
 SQL = b"PERIODIC_GRAPH\nNAME sql\nEDGES\n1 1 1 0\n1 1 0 1\nEND\n"
 POSCAR = b"salt\n5.64\n0 .5 .5\n.5 0 .5\n.5 .5 0\nNa Cl\n1 1\nDirect\n0 0 0\n.5 .5 .5\n"
 FRAMEWORK = b"""data_x
-_cell_length_a 6
-_cell_length_b 6
-_cell_length_c 6
+_cell_length_a 5
+_cell_length_b 5
+_cell_length_c 5
 _cell_angle_alpha 90
 _cell_angle_beta 90
 _cell_angle_gamma 90
@@ -27,7 +27,12 @@ _atom_site_fract_x
 _atom_site_fract_y
 _atom_site_fract_z
 Zn1 0 0 0
-C1 .3 .1 .2
+C1 .38 0 0
+N1 .62 0 0
+C2 0 .38 0
+N2 0 .62 0
+C3 0 0 .38
+N3 0 0 .62
 """
 
 
@@ -58,8 +63,8 @@ class Kinds(unittest.TestCase):
         self.assertEqual((found.total, len(found.nets[0].vertices)), (1, 2))
 
     def test_the_convention_that_fits(self):
-        self.assertEqual((has_carbon_and_metal(FRAMEWORK), has_carbon_and_metal(QUARTZ), has_carbon_and_metal(b"x")),
-                         (True, False, False))
-        self.assertEqual(files._fitting(FRAMEWORK, {"convention": FITTING}), {"convention": "auto"})
-        self.assertEqual(files._fitting(FRAMEWORK, {"convention": "pe"}), {"convention": "pe"})
+        self.assertEqual(files._fitting({"convention": FITTING, "keep_ions": True}), {"keep_ions": True})
+        self.assertEqual(files._fitting({"convention": "pe"}), {"convention": "pe"})
+        told = [note for net in nets_of_file("f.cif", FRAMEWORK, 0, {"convention": FITTING}).nets for note in net.notes]
+        self.assertTrue(any("auto, as there is carbon with metals" in note for note in told), told)
         self.assertEqual(nets_of_file("q.cif", QUARTZ, 0, {"convention": FITTING}).nets[0].provenance.convention, "all-atoms")

@@ -99,12 +99,12 @@ def _nets_of_content(content: bytes, file: str, options: Mapping[str, object]) -
     if is_json(content):
         nets = nets_of_pymatgen(structure_of_json(content), options)
         return [net.named(PurePath(file).stem) if file else net for net in nets]
-    if _is_structure(content, file):
+    if holds_structure(content, file):
         return nets_of_cif(content, options, file)
     return _without_options(nets_of_cgd(content), options)
 
 
-def _is_structure(content: bytes, file: str) -> bool:
+def holds_structure(content: bytes, file: str) -> bool:
     """Whether it is a structure: by the ending of the name, and where there is none of those by what stands in the
     text."""
     suffix = _suffix_of(file)
@@ -119,17 +119,17 @@ def _suffix_of(file: str) -> str:
     return f".{name}" if name in ("poscar", "contcar") else Path(name).suffix
 
 
-def unpacked(content: bytes, file: str) -> tuple[bytes, str]:
-    """The content and the name without gzip. NotANet where it is cut, or has more than MOST_UNPACKED bytes."""
+def unpacked(content: bytes, file: str, most: int = MOST_UNPACKED) -> tuple[bytes, str]:
+    """The content and the name without gzip. NotANet where it is cut, or has more than so many bytes."""
     if not content.startswith(GZIP):
         return content, file
     try:
         with gzip.open(BytesIO(content)) as packed:
-            plain = packed.read(MOST_UNPACKED + 1)
+            plain = packed.read(most + 1)
     except (OSError, EOFError, zlib.error) as fault:
-        raise NotANet(f"no gzip file: {fault}") from None
-    if len(plain) > MOST_UNPACKED:
-        raise NotANet(f"more than {MOST_UNPACKED:,} bytes when unpacked")
+        raise NotANet(f"the file is packed by gzip, and damaged: {fault}") from None
+    if len(plain) > most:
+        raise NotANet(f"the file has more than {most >> 20} MB, unpacked")
     return plain, file[:-3] if file.lower().endswith(".gz") else file
 
 

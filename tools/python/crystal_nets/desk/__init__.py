@@ -13,7 +13,7 @@ warm         what these processes share: the modules and the archives, loaded on
 archives     the archives by their files, each with its names or the reason why it is not read
 questions    what is asked: the nets of a file, the card of a net, a pair of nets, a crystal
 files        from a file to some of its nets
-kinds        what a file is, packed or none that has a net
+kinds        what a file is that has no net
 cards        what is told and drawn of a net
 beyond       names of a net without a key, by verified maps
 pairs        whether two nets are the same, or what differs first

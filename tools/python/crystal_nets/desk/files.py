@@ -13,10 +13,10 @@ from typing import Any
 
 from ..errors import NotANet
 from ..net import Net
-from ..other_forms import is_json, is_poscar
-from ..reading import CIF, CIF_SUFFIXES, read
+from ..other_forms import is_json
+from ..reading import holds_structure, read, unpacked
 from ..texts.net_text import Chunk, chunks_of
-from .kinds import kind_of, unpacked
+from .kinds import kind_of
 
 AT_ONCE = 24        # nets of a file
 MOST_BYTES = 64 * 2**20  # of a file, unpacked
@@ -50,23 +50,16 @@ def content_of(path: Path, most: int) -> bytes:
         return file.read(most)
 
 
-def is_structure(name: str, content: bytes) -> bool:
-    """Whether the file is a CIF: by its ending, or by what it has where there is none that is known."""
-    lower = name.lower()
-    return lower.endswith(CIF_SUFFIXES) or (not lower.endswith((".cgd", ".arc")) and bool(CIF.search(content)))
-
-
 def nets_of_file(name: str, content: bytes, first: int, options: dict[str, Any]) -> Some:
     """The nets of a file from a number on, AT_ONCE at most. NotANet where there are none at all."""
-    name, content = unpacked(name, content, MOST_BYTES)
+    content, name = unpacked(content, name, MOST_BYTES)
     if not content.strip():
         raise NotANet("the file is empty")
     kind = kind_of(content)
     if kind and not is_json(content):
         raise NotANet(f"it is {kind}")
-    is_other = is_poscar(name, content) or is_json(content)
-    if is_other or is_structure(name, content):
-        nets = read(content, name=name if is_other else _with_ending(name, ".cif"), **_fitting(content, options))
+    if is_json(content) or holds_structure(content, name):
+        nets = read(content, name=name, **_fitting(options))
         found = Some(nets[first:first + AT_ONCE], len(nets))
     else:
         found = _of_blocks(content, first)
@@ -75,27 +68,9 @@ def nets_of_file(name: str, content: bytes, first: int, options: dict[str, Any])
     return found
 
 
-def _fitting(content: bytes, options: dict[str, Any]) -> dict[str, Any]:
-    """The options; where the convention is to fit the file, auto for carbon with metals, and else all atoms."""
-    if options.get("convention") != FITTING:
-        return options
-    return {**options, "convention": "auto" if has_carbon_and_metal(content) else "all-atoms"}
-
-
-def has_carbon_and_metal(content: bytes) -> bool:
-    """Whether a CIF lists carbon beside a metal, as frameworks with linkers do."""
-    import gemmi
-    from ..refusal import Refused
-    from ..structures.reading.document import blocks_of
-    try:
-        sites = [site for block in blocks_of(content, "") for site in gemmi.make_small_structure_from_block(block.cif).sites]
-    except (Refused, RuntimeError, ValueError):  # the reader of structures says why it is none
-        return False
-    return any(site.element.name == "C" for site in sites) and any(site.element.is_metal for site in sites)
-
-
-def _with_ending(name: str, ending: str) -> str:
-    return name if name.lower().endswith(CIF_SUFFIXES) else name + ending
+def _fitting(options: dict[str, Any]) -> dict[str, Any]:
+    """The options without a convention where it is to fit the file: that is what is taken where none is named."""
+    return {name: value for name, value in options.items() if (name, value) != ("convention", FITTING)}
 
 
 def _of_blocks(content: bytes, first: int) -> Some:

@@ -1,14 +1,7 @@
-"""What a file is: packed ones are unpacked, and those that have no net are named for what they are."""
+"""What a file is that has no net."""
 
 from __future__ import annotations
 
-import gzip
-import zlib
-from io import BytesIO
-
-from ..errors import NotANet
-
-GZIP = b"\x1f\x8b"
 OTHERS = ((b"%PDF", "a PDF"), (b"\x89PNG", "a picture (PNG)"), (b"\xff\xd8\xff", "a picture (JPEG)"),
           (b"GIF8", "a picture (GIF)"),
           (b"PK\x03\x04", "a ZIP archive, or a file of an office program: unpack it first"),
@@ -17,20 +10,6 @@ OTHERS = ((b"%PDF", "a PDF"), (b"\x89PNG", "a picture (PNG)"), (b"\xff\xd8\xff",
           (b"<svg", "a picture (SVG)"), (b"net_maps ", "a text of maps"), (b"net_archive ", "an archive of net_tool"),
           (b"HEADER    ", "a PDB file, which has no unit cell's symmetry as a CIF has: make a CIF of it"),
           (b"{", "JSON, and no structure of pymatgen"))
-
-
-def unpacked(name: str, content: bytes, most: int) -> tuple[str, bytes]:
-    """The name and the content of a file; those inside, where gzip packed it. NotANet where it is cut or too large."""
-    if not content.startswith(GZIP):
-        return name, content
-    try:
-        with gzip.GzipFile(fileobj=BytesIO(content)) as file:
-            inside = file.read(most + 1)
-    except (OSError, EOFError, zlib.error) as fault:
-        raise NotANet(f"the file is packed by gzip, and damaged: {fault}") from None
-    if len(inside) > most:
-        raise NotANet(f"the file has more than {most >> 20} MB, unpacked")
-    return name.removesuffix(".gz").removesuffix(".GZ"), inside
 
 
 def kind_of(content: bytes) -> str:
