@@ -151,8 +151,10 @@ class Table(FolderTest):
         self.assertEqual([row["group"] for row in rows], ["1", "2", "1", "2", "5", "5"])
         self.assertEqual([len(row["index"]) for row in rows], [32, 0, 32, 32, 32, 32])
         self.assertEqual([bool(row["key"]) for row in rows], [False, True, False, False, False, False])
-        self.assertEqual([line.split("\t")[3:] for line in (self.result / "groups.tsv").read_text().splitlines()[1:]],
-                         [["verified map", "1 3"], ["key", "2 4"], ["verified map", "5 6"]])
+        groups = [line.split("\t") for line in (self.result / "groups.tsv").read_text().splitlines()[1:]]
+        self.assertEqual([(first, number, by) for first, number, _, by in groups],
+                         [("1", "1", "verified map"), ("1", "3", "verified map"), ("2", "2", "key"), ("2", "4", "key"),
+                          ("5", "5", "verified map"), ("5", "6", "verified map")])
         maps = sorted((self.result / "maps").iterdir())
         self.assertEqual([path.name for path in maps], [f"{number}.maps" for number in (1, 3, 4, 5, 6)])
         for path in maps:

@@ -192,8 +192,9 @@ class Pairs(unittest.TestCase):
         nets = nets_of("interwoven.cgd")
         told = pair(nets["ice VI"], nets["ice VI"])
         self.assertEqual((told["verdict"], told["what"]), ("not known", "They consist of the same pieces: 2 of EDI."))
-        told = pair(Net(COLLISION), Net(COLLISION))
+        told = pair(Net(COLLISION), Net([*COLLISION, (2, 2, (0, 0, 1)), (3, 3, (0, 0, 1))]))
         self.assertEqual((told["verdict"], len(told["reasons"])), ("not known", 2))
+        self.assertEqual(pair(Net(COLLISION), Net(COLLISION))["verdict"], "same")
 
 
 class Damaged(unittest.TestCase):
