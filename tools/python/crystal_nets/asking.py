@@ -12,12 +12,12 @@ from typing import Any, TypeVar, Unpack, overload
 
 from .answers import Answer, Answers
 from .archive import Archive
-from .errors import NotANet
+from .errors import NotANet, ProgramTimedOut
 from .net import Net
 from .options import StructureOptions
 from .other_forms import is_structure
-from .outcome import ACCEPTED, outcome_of, unreadable
-from .program import bounded, each_piece, reading_report, run
+from .outcome import ACCEPTED, outcome_of, stopped, unreadable
+from .program import bounded, each_piece, reading_report, run, within
 from .reading import one_net, read
 from .texts.net_text import GRAPH
 
@@ -108,6 +108,21 @@ def _with_keys(nets: list[Net], archive: Archive | None, processes: int, maps: b
     given = [net for net in nets if not net.refusal]
     answers = (answer for piece in each_piece(_keyed, given, processes) for answer in piece)
     return Answers(list(_with_refusals(nets, answers, archive, _keyed if maps else None)))
+
+
+def answered_in_time(ask: Callable[[list[Net]], Iterable[Answer]], nets: list[Net], seconds: float | None) -> list[Answer]:
+    """The answers to nets. Where the seconds of an asking are over, each half is asked by itself, and a net alone is
+    stopped."""
+    try:
+        with within(seconds):
+            return list(ask(nets))
+    except ProgramTimedOut:
+        if seconds is None:
+            raise
+        if len(nets) == 1:
+            return [Answer(nets[0], stopped(seconds), notes=nets[0].notes)]
+        half = len(nets) // 2
+        return answered_in_time(ask, nets[:half], seconds) + answered_in_time(ask, nets[half:], seconds)
 
 
 def _answered(sources: Any, options: StructureOptions, answer: Callable[[list[Net]], Answers]) -> Any:

@@ -4,6 +4,7 @@ from __future__ import annotations
 
 import re
 from dataclasses import dataclass, field
+from math import ceil
 
 from .graph import Vertex
 from .texts.graph_text import vertex_of
@@ -48,9 +49,9 @@ def unreadable(reason: str) -> Outcome:
     return Outcome("unreadable", text=reason)
 
 
-def stopped(seconds: int) -> Outcome:
+def stopped(seconds: float) -> Outcome:
     """The outcome of a net whose time was over."""
-    return Outcome("stopped", seconds, "Seconds", text=f"no answer came within {seconds} seconds")
+    return Outcome("stopped", ceil(seconds), "Seconds", text=f"no answer came within {seconds:g} seconds")
 
 
 def outcome_of(line: bytes, lines_before: int = 0) -> Outcome:

@@ -182,8 +182,18 @@ class Streams(AnswerTest):
             answers.close()
         self.assertLess(time.monotonic() - begun, 1)
 
+    def test_a_net_that_takes_too_long_is_stopped_alone(self):
+        slow = self.folder / "slow"
+        slow.write_text(f'#!/bin/sh\ncat > {self.folder}/$$\ngrep -q slow {self.folder}/$$ && exec sleep 60\n'
+                        f'exec {PROGRAM} "$@" < {self.folder}/$$\n')
+        slow.chmod(0o755)
+        with unittest.mock.patch.dict("os.environ", NET_TOOL=str(slow)):
+            answers = list(identify_each([DIA, PCU, Net.of_graph(PCU.graph.named("slow"), "slow"), SQL], archive=None, timeout=2))
+        self.assertEqual([answer.outcome.kind for answer in answers], ["accepted", "accepted", "stopped", "accepted"])
+        self.assertTrue(all(answer.key for answer in answers if answer.name != "slow"))
+
     def test_what_cannot_be_is_told_at_once(self):
-        for words in ({"processes": 0}, {"processes": -1}):
+        for words in ({"processes": 0}, {"processes": -1}, {"timeout": 0}):
             with self.assertRaises(ValueError):
                 identify_each([], archive=None, **words)
         with self.assertRaises(TypeError):

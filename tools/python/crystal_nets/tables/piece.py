@@ -4,17 +4,16 @@ from __future__ import annotations
 
 import hashlib
 import os
-from collections.abc import Iterator
+from collections.abc import Iterable, Iterator
 from io import BytesIO
 from pathlib import Path
 from typing import Any
 
 from ..answers import Answer, short_outcome
-from ..asking import identify_all, keys
-from ..errors import NotANet, ProgramTimedOut
+from ..asking import answered_in_time, identify_all, keys
+from ..errors import NotANet
 from ..files import write_whole
 from ..net import Net
-from ..outcome import stopped
 from ..reading import net_of_chunk, nets_of_cif
 from ..texts.net_text import chunks_of
 from .columns import OF_A_PIECE, escaped, joined, line_of
@@ -36,17 +35,11 @@ def make_rows(path: Path, piece: Piece) -> None:
 
 
 def _answers(nets: list[Net], settings: dict[str, Any]) -> list[Answer]:
-    """The answers. Where the seconds of a net are over, each half is asked by itself, and a net alone is stopped."""
-    seconds: int | None = settings["seconds"]
-    try:
-        if settings["command"] == "identify":
-            return list(identify_all(nets, archive=None, timeout=seconds))
-        return list(keys(nets, timeout=seconds))
-    except ProgramTimedOut:
-        if len(nets) == 1:
-            return [Answer(nets[0], stopped(seconds or 0), notes=nets[0].notes)]
-        half = len(nets) // 2
-        return _answers(nets[:half], settings) + _answers(nets[half:], settings)
+    """The answers; that to a net which takes more than its seconds is stopped."""
+    def ask(some: list[Net]) -> Iterable[Answer]:
+        return identify_all(some, archive=None) if settings["command"] == "identify" else keys(some)
+
+    return answered_in_time(ask, nets, settings["seconds"])
 
 
 def rows_of(folder: Path, plan: Plan, number: int) -> list[bytes] | None:
