@@ -23,8 +23,8 @@ class Notebook(FolderTest):
         cells = [cell for cell in json.loads(told)["cells"] if cell["cell_type"] == "code"]
         outputs = ["".join(json.dumps(output) for output in cell["outputs"]) for cell in cells]
         self.assertFalse([text for text in outputs if '"error"' in text])
-        for k, word in ((1, "qtz, quartz"), (1, "<svg"), (3, "dia, diamond"), (4, "Degenerate"), (5, "AEI"),
-                        (6, "accepted"), (8, "<svg")):
+        for k, word in ((1, "qtz, quartz"), (1, "<svg"), (3, "dia, diamond"), (4, "Degenerate"),
+                        (5, "verified map"), (6, "AEI"), (7, "accepted"), (9, "<svg")):
             self.assertIn(word, outputs[k])
 
     def test_it_is_kept_without_outputs(self):
