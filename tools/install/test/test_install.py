@@ -144,13 +144,13 @@ class Installed(FolderTest):
                   f"{bin_folder}/split_nets nets.cgd pieces && {bin_folder}/key_piece pieces 1 && "
                   f"{bin_folder}/name_nets nets.cgd mine.archive")
         told = run("env", "-u", "NET_TOOL", f"PATH={path}", "sh", "-c", script).stdout
-        self.assertTrue(told.endswith(b"\tmine\n"), told)
+        self.assertTrue(told.endswith(b"\tmine\tkey\n"), told)
         self.assertEqual(len(list((self.folder / "pieces").glob("*.rows"))), 1)
 
     def test_commands_find_their_modules(self):
         self.in_shell(f"archive_nets {self.share}/archives/common.archive > {self.folder}/nets.cgd")
         self.in_shell(f"cd {self.folder} && split_nets --blocks 50 nets.cgd pieces && key_piece pieces 2 && "
-                      "net_groups pieces/*.rows > groups")
+                      "net_groups --partial pieces/*.rows > groups")
         self.assertEqual((self.folder / "groups").read_text(), "")
         rows = self.in_shell(f"net_tool key {self.folder}/nets.cgd | net_rows").splitlines()
         names = (self.share / "archives/common.archive").read_text().count("\nentry ")
