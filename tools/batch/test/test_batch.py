@@ -106,7 +106,7 @@ class WithoutKey(FolderTest):
                          [["0", str(blocks.stat().st_size), "bridged"]])
         run(BATCH / "wide_archive", self.folder / "again", blocks)
         self.assertEqual((self.folder / "again.index").read_bytes(), index.read_bytes())
-        named = run(BATCH / "name_nets", self.file, self.folder).stdout
+        named = run(BATCH / "name_nets", self.file, self.folder, status=1).stdout
         self.assertEqual(named, b"2\tbridged\tbridged\tverified map\n4\tbridged\tbridged\tverified map\n"
                                 b"5\t\tbridged\tverified map\n")
         self.assertEqual(run(BATCH / "archive_files", "--without-key", self.folder).stdout.decode().split(),

@@ -110,7 +110,7 @@ class Readers(FolderTest):
                 entries = list(entries_of(lines, archive.name))
             self.assertEqual(len(entries), archive.read_bytes().count(b"\nentry "))
             whole = run(BATCH / "archive_nets", archive).stdout
-            self.assertEqual(whole, b"".join(entry.block for entry in entries))
+            self.assertEqual(whole, b"".join(text_of_graph(entry.graph) for entry in entries))
 
 
 def blocks_or_fault(blocks):

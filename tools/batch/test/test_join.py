@@ -11,7 +11,7 @@ from testing import IS_LONG, TOOLS, FolderTest, need_commands
 
 from crystal_nets.archive import Archive
 from crystal_nets.net import Net
-from crystal_nets.tables.columns import OF_A_PIECE, escaped, line_of
+from crystal_nets.tables.columns import OF_A_PIECE, TABLE, escaped, line_of
 from crystal_nets.tables.join import AT_A_TIME, FILES, join
 from crystal_nets.tables.piece import path_of, with_head
 from crystal_nets.tables.plan import Failed, Plan
@@ -63,13 +63,16 @@ class Joined(FolderTest):
             if kind is not None:
                 groups.setdefault(kind, []).append(number)
         rows = [line.split("\t") for line in (self.folder / "groups.tsv").read_text().splitlines()]
-        self.assertEqual(rows[0], ["group", "number", "name"])
-        wanted = [[str(group[0]), str(number), f"net\\;{number}"] for group in groups.values() if len(group) > 1 for number in group]
+        self.assertEqual(rows[0], ["group", "number", "name", "by"])
+        wanted = [[str(group[0]), str(number), f"net\\;{number}", "key"]
+                  for group in groups.values() if len(group) > 1 for number in group]
         self.assertEqual(rows[1:], sorted(wanted, key=lambda row: (int(row[0]), int(row[1]))))
         table = [line.split(b"\t") for line in (self.folder / "table.tsv").read_bytes().splitlines()[1:]]
         self.assertEqual([int(row[0]) for row in table], list(range(1, len(self.kinds) + 1)))
-        self.assertEqual([int(row[-3] or 0) for row in table], [groups[kind][0] if kind is not None else 0 for kind in self.kinds])
-        self.assertEqual({row[-2] for row, kind in zip(table, self.kinds) if kind == 1}, {b"k\\; 1"} if 1 in groups else set())
+        group_at, names_at = TABLE.index("group"), TABLE.index("names")
+        self.assertEqual([int(row[group_at] or 0) for row in table],
+                         [groups[kind][0] if kind is not None else 0 for kind in self.kinds])
+        self.assertEqual({row[names_at] for row, kind in zip(table, self.kinds) if kind == 1}, {b"k\\; 1"} if 1 in groups else set())
         self.assertEqual((self.folder / "refused.tsv").read_bytes().count(b"\n"), 1 + self.kinds.count(None))
 
     def test_processes_change_nothing_and_leave_nothing(self):
