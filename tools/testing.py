@@ -154,6 +154,7 @@ def run_folder(folder: Path) -> Quiet:
 
 def main() -> int:
     signal.signal(signal.SIGINT, signal.default_int_handler)  # a shell has what runs in its background ignore it
+    signal.signal(signal.SIGHUP, signal.SIG_DFL)  # and nohup this one
     passed = failed = skipped = 0
     for word in sys.argv[1:]:
         result = run_folder(Path(word).resolve())
