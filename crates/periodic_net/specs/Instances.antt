@@ -4,10 +4,10 @@ use Rattle.std.specs.Int.{int_max}
 use Rattle.integers.specs.Coordinates.{IsCoordinate}
 use Rattle.integers.specs.Vectors.{Vector, vector, zero_vector}
 use Rattle.periodic_net.specs.Classes.{ClassGraph, IsClassGraph, IsDistance}
-use Rattle.periodic_net.specs.Examples.{square_net, doubled_net, honeycomb_net, hanging_net, slanted_net, slanted, square_placement}
+use Rattle.periodic_net.specs.Examples.{square_net, doubled_net, honeycomb_net, hanging_net, slanted_net, slanted, square_placement, leaping_net, knight_net}
 use Rattle.periodic_net.specs.Examples.{honeycomb_placement, hanging_placement}
 use Rattle.periodic_net.specs.Graph.{Graph, IsGraph, IsConnected, Vertex, vertex, IsVertex}
-use Rattle.periodic_net.specs.Placement.{Placement, position, IsBarycentric, IsCollision, IsNormalPlacement, IsStablePlacement}
+use Rattle.periodic_net.specs.Placement.{Placement, position, IsBarycentric, IsCollision, IsNormalPlacement, IsStable, IsStablePlacement}
 use Rattle.periodic_net.specs.{Maps.BareIso, OrderedGroups.OrderedGroup, OrderedPlacements.IsBarycentricIn}
 use Rattle.periodic_net.specs.Shells.{IsInShell, IsShellSize}
 use Rattle.periodic_net.specs.Split.{Split, IsSplit}
@@ -24,6 +24,14 @@ pub record IsOfWholeNumbers (A : OrderedGroup ℤ) : Type 0 where
   pub placement : (G : Graph) (p : Placement) → IsBarycentric G p → (c : Vector → ℤ) → IsCoordinate c
       → IsBarycentricIn A G (λ t. pos p.denominator *ℤ c t) (λ w. c (position p w))
 
+-- two quotient graphs of stable nets that are not isomorphic as infinite graphs
+pub record AreStableAndApart (G H : Graph) : Type 0 where
+  pub first : IsGraph G
+  pub second : IsGraph H
+  pub first_stable : IsStable G
+  pub second_stable : IsStable H
+  pub apart : ¬ BareIso G H
+
 -- an instance of each: of the square net, over two cells, of that of half as many edges along one axis, of the honeycomb net, and of a net
 -- with a vertex that hangs on another
 pub record DefinitionsHaveInstances : Type 0 where
@@ -38,4 +46,5 @@ pub record DefinitionsHaveInstances : Type 0 where
   pub bare : (e : BareIso square_net slanted_net) × (e.map ≡ λ w. vertex w.over (slanted w.cell))
   pub apart : ¬ BareIso square_net doubled_net
   pub same_shells : (w x : Vertex) (k n : ℕ) → IsVertex square_net w → IsVertex doubled_net x → IsShellSize square_net w k n → IsShellSize doubled_net x k n
+  pub stable_apart : AreStableAndApart leaping_net knight_net
   pub ordered : (A : OrderedGroup ℤ) × IsOfWholeNumbers A
