@@ -20,22 +20,6 @@ slanted_net = record { dimension = 2; vertices = 1; edges = arc 1 1 (vector (pos
 abbrev pub slanted : Vector → Vector
 slanted v = vector (v.x +ℤ v.y) v.y v.z
 
--- the square net with steps of two to the right
-abbrev pub leaping_net : Graph
-leaping_net = record {
-  dimension = 2;
-  vertices = 1;
-  edges = arc 1 1 (vector (pos 1) (pos 0) (pos 0)) ∷ arc 1 1 (vector (pos 0) (pos 1) (pos 0)) ∷ arc 1 1 (vector (pos 2) (pos 0) (pos 0)) ∷ [];
-}
-
--- the square net with one of the knight's steps
-abbrev pub knight_net : Graph
-knight_net = record {
-  dimension = 2;
-  vertices = 1;
-  edges = arc 1 1 (vector (pos 1) (pos 0) (pos 0)) ∷ arc 1 1 (vector (pos 0) (pos 1) (pos 0)) ∷ arc 1 1 (vector (pos 1) (pos 2) (pos 0)) ∷ [];
-}
-
 -- two vertices with three edges from the one to the other
 abbrev pub honeycomb_net : Graph
 honeycomb_net = record {

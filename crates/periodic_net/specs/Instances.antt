@@ -4,10 +4,11 @@ use Rattle.std.specs.Int.{int_max}
 use Rattle.integers.specs.Coordinates.{IsCoordinate}
 use Rattle.integers.specs.Vectors.{Vector, vector, zero_vector}
 use Rattle.periodic_net.specs.Classes.{ClassGraph, IsClassGraph, IsDistance}
-use Rattle.periodic_net.specs.Examples.{square_net, doubled_net, honeycomb_net, hanging_net, slanted_net, slanted, square_placement, leaping_net, knight_net}
+use Rattle.periodic_net.specs.Examples.{square_net, doubled_net, honeycomb_net, hanging_net, slanted_net, slanted, square_placement}
 use Rattle.periodic_net.specs.Examples.{honeycomb_placement, hanging_placement}
 use Rattle.periodic_net.specs.Graph.{Graph, IsGraph, IsConnected, Vertex, vertex, IsVertex}
 use Rattle.periodic_net.specs.Placement.{Placement, position, IsBarycentric, IsCollision, IsNormalPlacement, IsStable, IsStablePlacement}
+use Rattle.periodic_net.specs.KnightNets.{knight_net, leaping_net}
 use Rattle.periodic_net.specs.{Maps.BareIso, OrderedGroups.OrderedGroup, OrderedPlacements.IsBarycentricIn}
 use Rattle.periodic_net.specs.Shells.{IsInShell, IsShellSize}
 use Rattle.periodic_net.specs.Split.{Split, IsSplit}

@@ -12,6 +12,7 @@ pub mod Following
 pub mod Graph
 pub mod Harmonic
 pub mod Instances
+pub mod KnightNets
 pub mod Laws
 pub mod Legs
 pub mod Limits

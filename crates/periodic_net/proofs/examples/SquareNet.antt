@@ -47,23 +47,17 @@ flat_closed G a p q v f =
     subst (ClosedShift G a) (vector_equal (omega (arith, ints)) (omega (arith, ints)) (omega (arith, ints)))
     (g.sums (times v.x right) (times v.y up) (times_in (ClosedShift G a) g v.x right p) (times_in (ClosedShift G a) g v.y up q))
 
--- so a net of one vertex with both steps is connected
-pub connected_by_steps : (G : Graph) → G.dimension ≡ 2 → G.vertices ≡ 1 → ClosedShift G 1 right → ClosedShift G 1 up → IsConnected G
-connected_by_steps G flat one p q = connected_by_tree G (λ u. zero_vector) tree (λ v f. flat_closed G 1 p q v (λ d. f flat))
+-- so the net is connected
+pub square_connected : IsConnected square_net
+square_connected = connected_by_tree square_net (λ u. zero_vector) tree
+    (flat_closed square_net 1 (arc_walk square_net (arc 1 1 right) (0, omega arith, refl)) (arc_walk square_net (arc 1 1 up) (2, omega arith, refl)))
   where
-    tree : IsTree G (λ u. zero_vector)
+    tree : IsTree square_net (λ u. zero_vector)
     tree = record {
       root = refl;
-      walk = λ u i.
-          let a = i.0 in let b = i.1 in let e : 1 ≡ u = omega arith in
-          subst (λ (n : ℕ). WalkShift G 1 n zero_vector) e (reached_itself G (vertex 1 zero_vector));
+      walk = λ u i. subst (λ (n : ℕ). WalkShift square_net 1 n zero_vector) (sym (only_vertex u i)) (reached_itself square_net (vertex 1 zero_vector));
       dimension = λ u i d. refl;
     }
-
--- as the square net is
-pub square_connected : IsConnected square_net
-square_connected = connected_by_steps square_net refl refl (arc_walk square_net (arc 1 1 right) (0, omega arith, refl))
-    (arc_walk square_net (arc 1 1 up) (2, omega arith, refl))
 
 -- the vertex stands at the mean of its neighbours
 square_barycentric : IsBarycentric square_net square_placement
