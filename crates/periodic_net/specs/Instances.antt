@@ -25,16 +25,18 @@ pub record IsOfWholeNumbers (A : OrderedGroup ℤ) : Type 0 where
   pub placement : (G : Graph) (p : Placement) → IsBarycentric G p → (c : Vector → ℤ) → IsCoordinate c
       → IsBarycentricIn A G (λ t. pos p.denominator *ℤ c t) (λ w. c (position p w))
 
--- two quotient graphs of stable nets that are not isomorphic as infinite graphs
+-- two quotient graphs of stable nets that are not isomorphic as infinite graphs, though the shells of their vertices have equal sizes
 pub record AreStableAndApart (G H : Graph) : Type 0 where
   pub first : IsGraph G
   pub second : IsGraph H
   pub first_stable : IsStable G
   pub second_stable : IsStable H
+  pub one_vertex : (G.vertices ≡ 1) × (H.vertices ≡ 1)
+  pub same_shells : (k n : ℕ) → IsShellSize G (vertex 1 zero_vector) k n → IsShellSize H (vertex 1 zero_vector) k n
   pub apart : ¬ BareIso G H
 
--- an instance of each: of the square net, over two cells, of that of half as many edges along one axis, of the honeycomb net, and of a net
--- with a vertex that hangs on another
+-- an instance of each: of the square net, over two cells, of that of half as many edges along one axis, of those with further steps, of the
+-- honeycomb net, and of a net with a vertex that hangs on another
 pub record DefinitionsHaveInstances : Type 0 where
   pub graph : IsGraph square_net
   pub connected : IsConnected square_net
