@@ -6,7 +6,8 @@ use Rattle.std.proofs.lemmas.{List.Elements.All-head, List.Elements.All-tail, Bo
 use mathlib.Core.List.{append_assoc}
 use Rattle.graph_rows.specs.Reading.{NoSize, NoEdge, IsFormedGraph, HasGraph, HasBadGraph, HasBadEdge}
 use Rattle.graph_rows.specs.Rows.{size_of_graph, size_row, edge_row, edge_lines, graph_lines}
-use Rattle.graph_rows.{specs.declared.size.GraphSize.GraphSize, specs.Forms.IsEdgeOfSize, proofs.CallerLemmas.rising_front}
+use Rattle.graph_rows.{specs.declared.size.GraphSize.GraphSize, specs.Forms.IsEdgeOfSize, proofs.CallerLemmas.rising_front, proofs.CallerLemmas.rows_joined}
+use Rattle.graph_rows.proofs.CallerLemmas.{rows_mapped}
 use Rattle.map_check.specs.{Layouts.vertex_at, declared.map.PeriodicMap.PeriodicMap, Conditions.IsImage, Conditions.IsShift}
 use Rattle.line_text.specs.Lines.{Place, IsAt, rows_text}
 use Rattle.line_text.proofs.CallerLemmas.{less_left}
@@ -21,6 +22,9 @@ use Rattle.net_certificate.specs.Items.{ItemView, Without, With, Maps, AreFormed
 use Rattle.net_certificate.proofs.Walks.{image_there, walk_formed, item_rows_more, walk_rows}
 use Rattle.net_certificate.specs.Texts.{graph_rows, image_rows, table_rows, map_rows, item_rows, items_rows}
 use Rattle.net_certificate.specs.{declared.item.Item.Item, Pairs.NoPair, declared.pair.Heading.TheVariants.Reason, declared.pair.Heading.TheVariants.Map}
+use Rattle.std.{proofs.Common.None, proofs.Common.Option, proofs.Common.Some, specs.Prelude.MatchOption}
+use Rattle.quotient_graph.specs.{AnyGraphs.graph_view, declared.any_graph.AnyGraph.AnyGraph}
+use Rattle.net_certificate.specs.Reading.{HasNoGraph, IsBegun}
 use Rattle.net_certificate.specs.{Steps.NoImage, Steps.NoShift, Reading.IsIn, Reading.HasBadLine, FirstRows.IsFormed, FirstRows.listed_rows}
 
 -- Where no row that may follow stands.
@@ -71,8 +75,7 @@ walk_on p q r (x ∷ xs) ys one two = (one.0, walk_on (stage_with p x) q r xs ys
 
 -- the bytes of two lists of rows
 pub lines_of_sum : (xs ys : List Row) → row_lines (xs ++ ys) ≡ row_lines xs ++ row_lines ys
-lines_of_sum [] ys = refl
-lines_of_sum (x ∷ xs) ys = ap (λ l. row_line x ∷ l) (lines_of_sum xs ys)
+lines_of_sum = rows_joined row_line row_lines refl (λ x xs. refl)
 
 -- more rows are passed, whatever was passed before
 abbrev pub ArePassed : List ℕ → List Row → Place → Place → Type 0
@@ -273,8 +276,7 @@ views_more (i ∷ items) item = ap (λ l. item_view i ∷ l) (views_more items i
 
 -- the rows of edges and of a graph, as bytes
 edges_same : (d : ℕ) (edges : List Arc) → row_lines (map (OfEdge d) edges) ≡ edge_lines d edges
-edges_same d [] = refl
-edges_same d (e ∷ es) = ap (λ l. edge_row d e ∷ l) (edges_same d es)
+edges_same d = rows_mapped (OfEdge d) (edge_row d) row_lines (edge_lines d) refl (λ e rows. refl) (λ e es. refl)
 
 pub graph_same : (G : Graph) → row_lines (graph_rows G) ≡ graph_lines G
 graph_same G = ap (λ l. size_row (size_of_graph G) ∷ l) (edges_same G.dimension G.edges)
@@ -340,3 +342,22 @@ second_bad text g items before n is (inr bad) =
 -- and something where one is
 pub something : (xs : List ℕ) → (length xs == 0) ≡ false → xs ≢ []
 something xs e none = true≢false (sym (ap (λ l. length l == 0) none) ∙ e)
+
+-- the lines of a text at its begin
+pub at_begin : (text : List ℕ) (place : Place) → place.rest ≡ text → place.number ≡ 1 → IsAt text [] place
+at_begin text place rest number = record { joined = sym rest; number = number }
+
+-- what is said of the first graph of a text, which was read there
+abbrev pub IsFirstRead : Place → Place → Option AnyGraph → Type 0
+IsFirstRead opened place first =
+    (text : List ℕ) → IsAt text [] opened → MatchOption first (HasNoGraph text place) (λ (g : AnyGraph). IsBegun (graph_view g) text place)
+
+-- there is one
+pub some_begun : (text : List ℕ) (opened place : Place) → opened.rest ≡ text → opened.number ≡ 1 → (first : Option AnyGraph) (g : AnyGraph)
+    → first ≡ Some g → IsFirstRead opened place first → IsBegun (graph_view g) text place
+some_begun text opened place rest number first g is read = subst (IsFirstRead opened place) is read text (at_begin text opened rest number)
+
+-- or none
+pub none_begun : (text : List ℕ) (opened place : Place) → opened.rest ≡ text → opened.number ≡ 1 → (first : Option AnyGraph) → first ≡ None
+    → IsFirstRead opened place first → HasNoGraph text place
+none_begun text opened place rest number first is read = subst (IsFirstRead opened place) is read text (at_begin text opened rest number)

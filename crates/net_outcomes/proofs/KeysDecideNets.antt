@@ -22,7 +22,7 @@ use Rattle.net_report.specs.declared.{outcome.Outcome.Outcome, command.Command.C
 use Rattle.net_outcomes.specs.Deciding.{AreOutcomes, HasKeyAt, IsAcceptedAt, IsBlockAt, IsOfNet, IsRefusedAt, KeysDecideBlocks, KeysDecideEntries}
 use Rattle.net_outcomes.specs.Deciding.{RefusedAreApart, RefusedAreNoEntries, key_told, refusal_told}
 use Rattle.net_outcomes.specs.Outcomes.{IsBodyOf, AreOutcomesFrom, IsRefusedAs, MayTell, is_accepted_body}
-use Rattle.net_outcomes.proofs.{NetOutcomes.is_graph_in, Refusals.check_early, Refusals.place_early, Refusals.refused_parted, Refusals.refusals_tell}
+use Rattle.net_outcomes.proofs.{NetOutcomes.is_graph_in, Refusals.refused_parted, Refusals.refusals_tell, Refusals.told_early}
 use Rattle.cgd_read.specs.declared.block.Body.TheVariants as read
 
 -- nets that are isomorphic to two that are the same in this sense are so, too
@@ -154,14 +154,14 @@ accepted_graph entries Check raw (Checked size) h e = record {
   in_order = h.read.in_order;
   is_graph = h.read.is_graph;
   connected = h.connected;
-  keyable = λ refusal m r. inl (check_early refusal m r);
+  keyable = λ refusal m r. inl (told_early Check (λ dim u v t n. n) (λ done counted n. n) refusal m r);
 }
 accepted_graph entries Place raw (Located size names placed) h e = record {
   graph = h.graph;
   in_order = h.read.in_order;
   is_graph = h.read.is_graph;
   connected = h.placed_as.connected;
-  keyable = λ refusal m r. inl (place_early refusal m r);
+  keyable = λ refusal m r. inl (told_early Place (λ dim u v t n. n) (λ done counted n. n) refusal m r);
 }
 accepted_graph entries Key raw (Keyed size net) h e =
     accepted_by_key Key raw (net_view net).key (keyed_told entries Key raw (Keyed size net) (net_view net).key h refl)

@@ -1,12 +1,13 @@
 -- A refusal of a net holds whatever cell shows the net: as an infinite graph it is no net with a key.
-use Rattle.std.proofs.Common.{subst}
+use Rattle.std.proofs.Common.{ℕ, subst}
+use Rattle.integers.specs.Vectors.{Vector}
 use Rattle.periodic_net.specs.{Graph.Graph, Graph.IsConnected, Graph.IsGraph, Maps.BareIso, Placement.HasNoCollision, Placement.IsStable}
 use Rattle.periodic_net.proofs.CallerLemmas.{bare_turned, one_placement, split_shows_not_connected, stable_told}
 use Rattle.key_theory.{specs.Key.IsKeyable, proofs.CallerLemmas.work_not_past}
 use Rattle.quotient_graph.specs.Splits.{split_view}
 use Rattle.least_key.specs.{Truths.IsOfConnecting, Truths.IsTrueOf, declared.refusal.Refusal.Refusal}
 use Rattle.least_key.specs.declared.refusal.Refusal.TheVariants.{Disconnected, Degenerate, Collision, TooMuch}
-use Rattle.net_report.specs.declared.command.Command.TheVariants.{Check, Place}
+use Rattle.net_report.specs.declared.command.Command.{Command}
 use Rattle.net_outcomes.specs.{Deciding.IsOfNet, Laws.RefusalsTell, Outcomes.MayTell}
 
 -- a colouring shows that the net is not connected
@@ -17,21 +18,15 @@ refused_parted G (Collision dim u v t) g h r early c = absurd early
 refused_parted G (TooMuch done counted) g h r early c = absurd early
 refused_parted G refusal g t r early c = absurd r
 
--- where connectedness alone is asked for, a refusal of the net is such a colouring
-pub check_early : (refusal : Refusal) → MayTell Check refusal → IsOfNet refusal → IsOfConnecting refusal
-check_early (Disconnected split) m r = m
-check_early (Degenerate split) m r = m
-check_early (Collision dim u v t) m r = absurd m
-check_early (TooMuch done counted) m r = absurd m
-check_early refusal m r = absurd r
-
--- and so it is where the placement is
-pub place_early : (refusal : Refusal) → MayTell Place refusal → IsOfNet refusal → IsOfConnecting refusal
-place_early (Disconnected split) m r = m
-place_early (Degenerate split) m r = m
-place_early (Collision dim u v t) m r = absurd m
-place_early (TooMuch done counted) m r = absurd m
-place_early refusal m r = absurd r
+-- where a command asks no further than for the placement, it reports no collision and no key work, so a refusal of the net is such a colouring
+pub told_early : (command : Command) → ((dim u v : ℕ) (t : Vector) → ¬ MayTell command (Collision dim u v t))
+    → ((done counted : ℕ) → ¬ MayTell command (TooMuch done counted)) → (refusal : Refusal) → MayTell command refusal → IsOfNet refusal
+    → IsOfConnecting refusal
+told_early command collides works (Disconnected split) m r = tt
+told_early command collides works (Degenerate split) m r = tt
+told_early command collides works (Collision dim u v t) m r = absurd (collides dim u v t m)
+told_early command collides works (TooMuch done counted) m r = absurd (works done counted m)
+told_early command collides works refusal m r = absurd r
 
 -- what is keyable is stable
 stable_of : (H : Graph) → IsKeyable H → IsStable H

@@ -6,28 +6,22 @@ use Rattle.line_text.{specs.Lines.IsAt, specs.Faults.IfBadLine, proofs.CallerLem
 use Rattle.net_certificate.specs.Reading.{IsBegun, HasNoGraph, HasBadLine}
 use Rattle.net_certificate.specs.Stages.{Titled, Listed, drawing_of}
 use Rattle.net_certificate.{specs.Texts.most_bytes, specs.Checks.AreAll, specs.Checks.IsChecked, proofs.checking.check_text.Goals.In-Some}
-use Rattle.net_certificate.{proofs.Places.left_few, proofs.WholeTexts.text_said, proofs.WholeTexts.all_checked}
+use Rattle.net_certificate.{proofs.Places.at_begin, proofs.Places.left_few, proofs.Places.none_begun, proofs.Places.some_begun, proofs.WholeTexts.text_said, proofs.WholeTexts.all_checked}
 use Rattle.net_certificate.proofs.checking.check_text.Goals as goal
 
 begun : (c : In-Some) → IsBegun (graph_view c.in-Some.first) c.args.text.now c.read_first.new.lines
-begun c =
-    let text = c.args.text.now in let place = c.read_first.new.lines in
-    let opened : IsAt text [] c.new-lines.result = record { joined = sym c.new-lines.ensures.rest; number = c.new-lines.ensures.number } in
-    subst (λ (first : Option AnyGraph). MatchOption first (HasNoGraph text place) (λ (g : AnyGraph). IsBegun (graph_view g) text place)) c.in-Some.is
-    (c.in_ok-first.ensures.first text opened)
+begun c = some_begun c.args.text.now c.new-lines.result c.read_first.new.lines c.new-lines.ensures.rest c.new-lines.ensures.number _ _ c.in-Some.is c.in_ok-first.ensures.first
 
 pub returns-in_default : goal.returns-in_default
 returns-in_default c =
     let text = c.args.text.now in let place = c.read_first.new.lines in
-    let opened : IsAt text [] c.new-lines.result = record { joined = sym c.new-lines.ensures.rest; number = c.new-lines.ensures.number } in
-    let has = subst (λ (first : Option AnyGraph). MatchOption first (HasNoGraph text place) (λ (g : AnyGraph). IsBegun (graph_view g) text place))
-    c.in_default.is (c.in_ok-first.ensures.first text opened) in
+    let has = none_begun text c.new-lines.result place c.new-lines.ensures.rest c.new-lines.ensures.number _ c.in_default.is c.in_ok-first.ensures.first in
     record { maps = None; is = text_said text Titled place has.at tt has.none; tells = (c.new-text.ensures.items, refl) }
 
 pub returns-in_err-first : goal.returns-in_err-first
 returns-in_err-first c =
     let text = c.args.text.now in
-    let opened : IsAt text [] c.new-lines.result = record { joined = sym c.new-lines.ensures.rest; number = c.new-lines.ensures.number } in
+    let opened = at_begin text c.new-lines.result c.new-lines.ensures.rest c.new-lines.ensures.number in
     handed_on (IsChecked text) (HasBadLine text) c.in_err-first.field-0.0 c.from_residual.result c.from_residual.ensures.1
     (c.in_err-first.ensures.first text opened)
 

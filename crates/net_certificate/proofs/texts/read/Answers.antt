@@ -8,15 +8,11 @@ use Rattle.net_certificate.specs.Items.{Maps, item_views, maps_in}
 use Rattle.net_certificate.specs.Reading.{IsBegun, IsTextOf, HasNoGraph, HasBadLine}
 use Rattle.net_certificate.specs.Stages.{Titled, Listed, drawing_of}
 use Rattle.net_certificate.proofs.WholeTexts.{text_said, one_text, no_fault}
-use Rattle.net_certificate.{specs.declared.item.MapsText.MapsText, specs.Texts.most_bytes, proofs.Places.left_few, proofs.texts.read.Goals.In-Some}
+use Rattle.net_certificate.{specs.declared.item.MapsText.MapsText, specs.Texts.most_bytes, proofs.Places.at_begin, proofs.Places.left_few, proofs.Places.none_begun, proofs.Places.some_begun, proofs.texts.read.Goals.In-Some}
 use Rattle.net_certificate.proofs.texts.read.Goals as goal
 
 begun : (c : In-Some) → IsBegun (graph_view c.in-Some.first) c.args.text.now c.read_first.new.lines
-begun c =
-    let text = c.args.text.now in let place = c.read_first.new.lines in
-    let opened : IsAt text [] c.new-lines.result = record { joined = sym c.new-lines.ensures.rest; number = c.new-lines.ensures.number } in
-    subst (λ (first : Option AnyGraph). MatchOption first (HasNoGraph text place) (λ (g : AnyGraph). IsBegun (graph_view g) text place)) c.in-Some.is
-    (c.in_ok-first.ensures.first text opened)
+begun c = some_begun c.args.text.now c.new-lines.result c.read_first.new.lines c.new-lines.ensures.rest c.new-lines.ensures.number _ _ c.in-Some.is c.in_ok-first.ensures.first
 
 -- where a line is bad, the text is that of no maps
 none_told : (text : List ℕ) (maps : Option Maps) → IsTextOf text maps → (fault : RowFault) → IfBadLine (HasBadLine text) fault → IfBadLine (λ (n : ℕ). ⊥) fault
@@ -25,9 +21,7 @@ none_told text maps said fault bad = bad_line_from fault (HasBadLine text) (λ (
 pub returns-in_default-clause-read : goal.returns-in_default-clause-read
 returns-in_default-clause-read c =
     let text = c.args.text.now in let place = c.read_first.new.lines in
-    let opened : IsAt text [] c.new-lines.result = record { joined = sym c.new-lines.ensures.rest; number = c.new-lines.ensures.number } in
-    let has = subst (λ (first : Option AnyGraph). MatchOption first (HasNoGraph text place) (λ (g : AnyGraph). IsBegun (graph_view g) text place))
-    c.in_default.is (c.in_ok-first.ensures.first text opened) in
+    let has = none_begun text c.new-lines.result place c.new-lines.ensures.rest c.new-lines.ensures.number _ c.in_default.is c.in_ok-first.ensures.first in
     text_said text Titled place has.at tt has.none
 
 pub returns-in_default-clause-every : goal.returns-in_default-clause-every
@@ -36,14 +30,14 @@ returns-in_default-clause-every c = λ maps said. one_text c.args.text.now None 
 pub returns-in_err-first-clause-read : goal.returns-in_err-first-clause-read
 returns-in_err-first-clause-read c =
     let text = c.args.text.now in
-    let opened : IsAt text [] c.new-lines.result = record { joined = sym c.new-lines.ensures.rest; number = c.new-lines.ensures.number } in
+    let opened = at_begin text c.new-lines.result c.new-lines.ensures.rest c.new-lines.ensures.number in
     handed_on (λ (maps : Option MapsText). IsTextOf text (maps_in maps)) (HasBadLine text) c.in_err-first.field-0.0 c.from_residual.result
     c.from_residual.ensures.1 (c.in_err-first.ensures.first text opened)
 
 pub returns-in_err-first-clause-every : goal.returns-in_err-first-clause-every
 returns-in_err-first-clause-every c = λ maps said.
     let text = c.args.text.now in let fault = c.in_err-first.field-0.0 in
-    let opened : IsAt text [] c.new-lines.result = record { joined = sym c.new-lines.ensures.rest; number = c.new-lines.ensures.number } in
+    let opened = at_begin text c.new-lines.result c.new-lines.ensures.rest c.new-lines.ensures.number in
     handed_on (λ (found : Option MapsText). maps_in found ≡ maps) (λ (n : ℕ). ⊥) fault c.from_residual.result c.from_residual.ensures.1
     (none_told text maps said fault (c.in_err-first.ensures.first text opened))
 
