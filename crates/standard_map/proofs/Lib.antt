@@ -1,4 +1,5 @@
 pub mod CallerLemmas
+pub mod CellSums
 pub mod EdgeTurns
 pub mod LeastFrames
 pub mod LeastPeriod

@@ -3,30 +3,44 @@ ghost use Rattle.std.specs.Prelude.{◌≡◌, ◌≢◌, ◌≤◌, ◌*◌, �
 ghost use Rattle.integers.specs.Bases.{Base, base_sum};
 ghost use Rattle.integers.specs.Vectors.{Vector, vector, plus, times, cross, triple_product, IsWithin};
 ghost use Rattle.periodic_net.specs.Limits.{most_closed};
-ghost use Rattle.standard_map.specs.CellBounds.{most_turn, most_minor, most_cell, Carries};
+ghost use Rattle.standard_map.specs.CellBounds.{most_turn, most_minor, most_cell, most_multiple, Carries};
 
 use crate::period::Cells;
 use vecdim::Triple;
 
-// A vector of a closed walk, taken so often.
+// A vector, taken so often.
 fn multiple(v: &Triple, k: i128) -> Triple
-    requires vector { IsWithin most_turn v.now }
-    requires factor { unsigned_abs k ≤ most_minor }
-    ensures value { result ≡ times k v.now }
-    ensures within { IsWithin (most_minor * most_turn) result }
+    requires { IsWithin most_multiple (times k v.now) }
+    ensures { result ≡ times k v.now }
 {
     v.times(k)
 }
 
 // The sum of three such vectors.
 fn sum_of_three(u: &Triple, v: &Triple, w: &Triple) -> Triple
-    requires first { IsWithin (most_minor * most_turn) u.now }
-    requires second { IsWithin (most_minor * most_turn) v.now }
-    requires third { IsWithin (most_minor * most_turn) w.now }
-    ensures value { result ≡ plus u.now (plus v.now w.now) }
-    ensures within { IsWithin most_cell result }
+    requires first { IsWithin most_multiple u.now }
+    requires second { IsWithin most_multiple v.now }
+    requires third { IsWithin most_multiple w.now }
+    ensures { result ≡ plus u.now (plus v.now w.now) }
 {
     u.plus(&v.plus(w))
+}
+
+impl Cells {
+    ghost use Rattle.std.specs.Prelude.{◌≡◌};
+    ghost use Rattle.integers.specs.Bases.{base_sum};
+    ghost use Rattle.standard_map.specs.CellBounds.{HaveRoom};
+
+    /// The sum of the vectors, each taken as often as a part of `k` says.
+    pub fn sum(&self, k: &Triple) -> Triple
+        requires { HaveRoom self.now k.now }
+        ensures { result ≡ base_sum self.now k.now }
+    {
+        let first = multiple(&self.first, k.x);
+        let second = multiple(&self.second, k.y);
+        let third = multiple(&self.third, k.z);
+        sum_of_three(&first, &second, &third)
+    }
 }
 
 // The sum of these vectors, along x, y and z.
@@ -40,10 +54,7 @@ fn along(images: &Cells, x: i128, y: i128, z: i128) -> Triple
     ensures value { result ≡ base_sum images.now (vector x y z) }
     ensures within { IsWithin most_cell result }
 {
-    let first = multiple(&images.first, x);
-    let second = multiple(&images.second, y);
-    let third = multiple(&images.third, z);
-    sum_of_three(&first, &second, &third)
+    images.sum(&Triple { x, y, z })
 }
 
 // The cross products of two shifts each.
