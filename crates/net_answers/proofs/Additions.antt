@@ -13,7 +13,7 @@ use Rattle.net_report.{specs.declared.command.Command.TheVariants.Key, specs.Kin
 use Rattle.net_report.{proofs.CallerLemmas.as_many_kinds, proofs.CallerLemmas.kinds_at}
 use Rattle.net_outcomes.specs.Outcomes.{Outcome, OutcomeBody, AreOutcomesFrom, IsBodyOf, is_accepted, net_told}
 use Rattle.net_outcomes.{specs.Reports.IsReport, proofs.CallerLemmas.keyed_is_accepted, proofs.CallerLemmas.told_net, proofs.CallerLemmas.IsToldNet}
-use Rattle.net_answers.specs.Due.{AreAccepted, IsNetOf, AreEntriesOf, IsAdded, IsEntryOfBlock, IsNotAdded, given_after, name_to_add, with_entries}
+use Rattle.net_answers.specs.Due.{AreAccepted, HasFirstOf, HasThoseBefore, IsNetOf, AreEntriesOf, IsAdded, IsEntryOfBlock, IsNotAdded, given_after, name_to_add, with_entries}
 use Rattle.net_archive.specs.Archives.{ArchiveView, IsArchive, with_entry}
 use Rattle.net_archive.proofs.CallerLemmas.{added_no_fault, one_add_fault, one_entry}
 use Rattle.net_archive.specs.{Adding.IsEntryOf, Adding.IsAddFault, declared.faults.AddFault.AddFault}
@@ -166,19 +166,31 @@ added_next given bs a b c i number next block net e h l at is k w good =
 pub not_added : (given : Option (List ℕ)) (bs : List BlockView) (a b : ArchiveView) (i number : ℕ) (next : Option (List ℕ)) (block : BlockView)
     (net : KeyedNet) (fault : AddFault)
     → AreAddedTo given bs a i next number b → i < length bs → get_or bs i block ≡ block → IsNetOf block net → IsAddFault b (name_to_add next block) net fault
-    → IsNotAdded given bs a number fault
-not_added given bs a b i number next block net fault h l at is f = record {
-  before = take i bs;
-  block = block;
-  after = drop (i + 1) bs;
-  split = sym (take-append-drop i bs) ∙ ap (λ (cs : List BlockView). take i bs ++ cs) (drop_more bs i block l ∙ ap (λ (x : BlockView). x ∷ drop (i + 1) bs) at);
-  number_is = let n = h.number_is in let m = length-take-le i bs (omega arith) in omega arith;
-  longer = b;
-  added = h.added;
-  net = net;
-  is_net = is;
-  cause = subst (λ (g : Option (List ℕ)). IsAddFault b (name_to_add g block) net fault) h.next_is f;
-}
+    → HasThoseBefore given bs a number fault b
+not_added given bs a b i number next block net fault h l at is f = (refused, refl)
+  where
+    refused : IsNotAdded given bs a number fault
+    refused = record {
+      before = take i bs;
+      block = block;
+      after = drop (i + 1) bs;
+      split = sym (take-append-drop i bs) ∙ ap (λ (cs : List BlockView). take i bs ++ cs) (drop_more bs i block l ∙ ap (λ (x : BlockView). x ∷ drop (i + 1) bs) at);
+      number_is = let n = h.number_is in let m = length-take-le i bs (omega arith) in omega arith;
+      longer = b;
+      added = h.added;
+      net = net;
+      is_net = is;
+      cause = subst (λ (g : Option (List ℕ)). IsAddFault b (name_to_add g block) net fault) h.next_is f;
+    }
+
+-- the blocks before it are added
+pub first_added : (given : Option (List ℕ)) (bs : List BlockView) (a b : ArchiveView) (i number : ℕ) (next : Option (List ℕ))
+    → AreAddedTo given bs a i next number b → HasFirstOf given bs a b
+first_added given bs a b i number next h = (take i bs, drop i bs, sym (take-append-drop i bs), h.added)
+
+-- all of them are the first of them
+pub all_are_first : (given : Option (List ℕ)) (bs : List BlockView) (a b : ArchiveView) → IsAdded given bs a b → HasFirstOf given bs a b
+all_are_first given bs a b h = (bs, [], sym (append-nil bs), h)
 
 -- no block is left
 pub all_added : (given : Option (List ℕ)) (bs : List BlockView) (a b : ArchiveView) (i number : ℕ) (next : Option (List ℕ))

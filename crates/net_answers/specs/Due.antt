@@ -138,6 +138,32 @@ IsAddedOrRefused given blocks a status.SomeRefused text = IsReport asks.Key [] b
 IsAddedOrRefused given blocks a status.AddRefused text = IsNotAddedAs given blocks a text
 IsAddedOrRefused given blocks a s text = ⊥
 
+-- b is the archive a with the entries of the first of these blocks, of all or of fewer
+abbrev pub HasFirstOf : Option (List ℕ) → List BlockView → ArchiveView → ArchiveView → Type 0
+HasFirstOf given blocks a b = (before : List BlockView) × (after : List BlockView) × (blocks ≡ before ++ after) × IsAdded given before a b
+
+-- b is the archive a with the entries of the blocks before this one, which cannot be added
+abbrev pub HasThoseBefore : Option (List ℕ) → List BlockView → ArchiveView → ℕ → AddFault → ArchiveView → Type 0
+HasThoseBefore given blocks a number fault b = (refused : IsNotAdded given blocks a number fault) × (b ≡ refused.longer)
+
+-- an addition that was answered so has made b of the archive a: where all blocks were added, with their entries; where one has no key, as it
+-- was; where one cannot be added, with those before it
+abbrev pub HasBecome : Option (List ℕ) → List BlockView → ArchiveView → Status → ArchiveView → Type 0
+HasBecome given blocks a status.Done b = IsAdded given blocks a b
+HasBecome given blocks a status.SomeRefused b = b ≡ a
+HasBecome given blocks a status.AddRefused b = (number : ℕ) × (fault : AddFault) × (fault ≢ add.NoMemory) × HasThoseBefore given blocks a number fault b
+HasBecome given blocks a s b = ⊥
+
+-- and so has any task on blocks; all but additions leave it as it was
+abbrev pub HasBecomeFor : Task → List BlockView → ArchiveView → Status → ArchiveView → Type 0
+HasBecomeFor (Add file name given) blocks a s b = HasBecome given blocks a s b
+HasBecomeFor task blocks a s b = b ≡ a
+
+-- where memory is refused, an addition has added some of the first, and any other task leaves the archive as it was
+abbrev pub HasFirstFor : Task → List BlockView → ArchiveView → ArchiveView → Type 0
+HasFirstFor (Add file name given) blocks a b = HasFirstOf given blocks a b
+HasFirstFor task blocks a b = b ≡ a
+
 -- this task, of these blocks and this archive, has this answer
 abbrev pub IsDueFor : Task → List BlockView → ArchiveView → Status → List ℕ → Type 0
 IsDueFor (Check file) blocks a s text = IsReportAs asks.Check a.entries blocks s text

@@ -1,5 +1,5 @@
 // Adds the nets of blocks to an archive.
-ghost use Rattle.std.specs.Prelude.{◌≡◌, ◌≢◌, ◌≤◌, [], true, All, IfOk, IfErr, OnOk, OnErr, length, option_copied};
+ghost use Rattle.std.specs.Prelude.{◌≡◌, ◌≢◌, ◌≤◌, [], true, All, IfOk, IfErr, OnOk, OnErr, MatchResult, length, option_copied};
 ghost use Rattle.std.specs.List.{list_all};
 ghost use Rattle.cgd_read.specs.Blocks.{IsReadBody, most_blocks};
 ghost use Rattle.cgd_read.specs.Views.{block_view, views};
@@ -11,7 +11,7 @@ ghost use Rattle.net_archive.specs.Adding.{IsAddFault, IsEntryOf};
 ghost use Rattle.net_archive.specs.Archives.{IsArchive, with_entry};
 ghost use Rattle.union_answers.specs.ArchiveTexts.{add_fault_text};
 ghost use Rattle.net_outcomes.specs.Outcomes.{AreOutcomesFrom, is_accepted, net_told};
-ghost use Rattle.net_answers.specs.Due.{IsAdded, IsAddedOrRefused, IsNotAdded, name_to_add};
+ghost use Rattle.net_answers.specs.Due.{HasBecome, HasFirstOf, HasThoseBefore, IsAdded, IsAddedOrRefused, name_to_add};
 
 use cgd_read::Block;
 use least_key::{Kinds, Net};
@@ -81,8 +81,10 @@ fn add_all<'x>(
     requires accepted { list_all is_accepted outcomes.now ≡ true }
     ensures added { OnOk result
         (IsAdded (option_copied given.entry) (views found.now) archive.old archive.new) }
-    ensures fault { IfErr result (λ n. n.fault ≢ AddFault.NoMemory →
-        IsNotAdded (option_copied given.entry) (views found.now) archive.old n.block n.fault) }
+    ensures fault { IfErr result (λ n. n.fault ≢ AddFault.NoMemory → HasThoseBefore
+        (option_copied given.entry) (views found.now) archive.old n.block n.fault archive.new) }
+    ensures first { OnErr result
+        (HasFirstOf (option_copied given.entry) (views found.now) archive.old archive.new) }
 {
     archive.recall(); // that its entries are those of an archive
     let mut given = given;
@@ -135,8 +137,11 @@ fn add_accepted<'x>(
     requires outcomes { AreOutcomesFrom [] Command.Key 1 (views found.now) outcomes.now }
     requires kinds { AreKindsOfAll outcomes.now kinds.now }
     requires accepted { list_all is_accepted outcomes.now ≡ true }
-    ensures { IfOk result (λ a. IsAddedOrRefused (option_copied given.entry)
+    ensures answer { IfOk result (λ a. IsAddedOrRefused (option_copied given.entry)
         (views found.now) archive.old a.status a.text.items) }
+    ensures archive { MatchResult result
+        (λ a. HasBecome (option_copied given.entry) (views found.now) archive.old a.status archive.new)
+        (λ e. HasFirstOf (option_copied given.entry) (views found.now) archive.old archive.new) }
 {
     match add_all(archive, given, found, outcomes, kinds) {
         Ok(()) => Ok(Answer {
@@ -160,8 +165,13 @@ pub fn add_blocks(
 ) -> Result<Answer, NoMemory>
     requires graphs { All (λ block. IsReadBody block.body) found.now }
     requires few { length found.now ≤ most_blocks }
-    ensures { IfOk result (λ a. IsAddedOrRefused (option_copied name.entry)
+    ensures answer { IfOk result (λ a. IsAddedOrRefused (option_copied name.entry)
         (views found.now) archive.old a.status a.text.items) }
+    // The archive has the nets of all blocks then; where one has no key, it is as it was; where one
+    // cannot be added, it has those before it, and where memory is refused some of the first.
+    ensures archive { MatchResult result
+        (λ a. HasBecome (option_copied name.entry) (views found.now) archive.old a.status archive.new)
+        (λ e. HasFirstOf (option_copied name.entry) (views found.now) archive.old archive.new) }
 {
     let keyed = outcomes_of(alloc, found)?;
     if !are_accepted(&keyed.outcomes) {

@@ -1,12 +1,12 @@
 // What is due to the arguments, of the bytes of the files that they name.
-ghost use Rattle.std.specs.Prelude.{◌≡◌, ◌≤◌, ◌<◌, All, IfOk, IsErrOf, length};
+ghost use Rattle.std.specs.Prelude.{◌≡◌, ◌≤◌, ◌<◌, All, IfOk, IsErrOf, MatchResult, length};
 ghost use Rattle.cgd_read.specs.Blocks.{IsReadBody, blocks_of, most_blocks};
 ghost use Rattle.cgd_read.specs.Views.{views};
 ghost use Rattle.command_words.specs.Tasks.{MakesFew};
 ghost use Rattle.command_words.specs.Views.{blocks_view, task_view};
 ghost use Rattle.union_answers.specs.ArchiveBytes.{AreFew};
 ghost use Rattle.net_answers.specs.Bytes.{bytes_in, most_bytes};
-ghost use Rattle.net_answers.specs.Due.{HasTooMany, IsDueFor, IsDueToBlocks, IsDueWith, bytes_of};
+ghost use Rattle.net_answers.specs.Due.{HasBecomeFor, HasFirstFor, HasTooMany, IsDueFor, IsDueToBlocks, IsDueWith, bytes_of};
 ghost use Rattle.net_answers.specs.Endings.{GoesWithText};
 
 use crate::adding::add_blocks;
@@ -32,8 +32,11 @@ fn answer_for(
 ) -> Result<Answer, NoMemory>
     requires graphs { All (λ block. IsReadBody block.body) found.now }
     requires few { length found.now ≤ most_blocks }
-    ensures { IfOk result (λ a.
+    ensures answer { IfOk result (λ a.
         IsDueFor (blocks_view task.now) (views found.now) archive.old a.status a.text.items) }
+    ensures archive { MatchResult result
+        (λ a. HasBecomeFor (blocks_view task.now) (views found.now) archive.old a.status archive.new)
+        (λ e. HasFirstFor (blocks_view task.now) (views found.now) archive.old archive.new) }
 {
     match *task {
         BlocksTask::Check { .. } => report_on(alloc, Command::Check, archive, found),

@@ -1,10 +1,11 @@
--- Of `add_all`: the loop over `block`; the clauses `fault` and `added`; what `add_block` requires; that numbers fit. `turn` is what most of them share.
-use Rattle.std.proofs.Common.{◌≡◌, length, arith}
+-- Of `add_all`: the loop over `block`; the clauses `fault`, `first` and `added`; what `add_block` requires; that numbers fit. `turn` is what most of them share.
+use Rattle.std.proofs.Common.{◌≡◌, ◌∙◌, length, arith, subst, sym}
 use Rattle.std.{proofs.lemmas.List.length-map, proofs.lemmas.List.length_push, proofs.lemmas.Slice.Zip.zip_turn, proofs.lemmas.Slice.Zip.zip_end}
 use Rattle.std.{specs.Prelude.option_copied}
 use Rattle.cgd_read.specs.Views.{block_view, views}
 use Rattle.least_key.specs.AnyNets.{net_view}
-use Rattle.net_answers.proofs.Additions.{added_first, added_next, all_added, not_added, as_many, IsTurn, kinds_are, kinds_inside, net_is, one_told, turn_is}
+use Rattle.net_answers.proofs.Additions.{first_added, added_first, added_next, all_added, not_added, as_many, IsTurn, kinds_are, kinds_inside, net_is, one_told, turn_is}
+use Rattle.net_answers.specs.Due.{HasFirstOf}
 use Rattle.net_answers.proofs.adding.add_all.Goals.{In-Some, in-Some-net_told+in_default-add_block, in_default}
 use Rattle.net_answers.proofs.adding.add_all.Goals as goal
 
@@ -27,9 +28,17 @@ pub returns-in-Err-clause-fault : goal.returns-in-Err-clause-fault
 returns-in-Err-clause-fault c = λ told.
     let block = block_view c.in-Some.block.now in let net = c.in-Some-net_told.net.now in
     let t = turn (goal.at.returns-in-Err-clause-fault c).In-Some in
-    not_added (option_copied c.args.given) (views c.args.found.now) c.args.archive.now c.loop-block.archive (length c.loop-block.yielded)
+    let before = c.loop-block.archive in
+    let refused = not_added (option_copied c.args.given) (views c.args.found.now) c.args.archive.now before (length c.loop-block.yielded)
     c.loop-block.number (option_copied c.loop-block.given) block (net_view net) c.in-Err.fault c.loop-block.invariant t.inside t.at
-    (net_is block c.in-Some.outcome.now net t.told c.in-Some-net_told.ensures) c.in-Err.ensures.fault
+    (net_is block c.in-Some.outcome.now net t.told c.in-Some-net_told.ensures) c.in-Err.ensures.fault in
+    (refused.0, c.in-Err.ensures.same ∙ refused.1)
+
+pub returns-in-Err-clause-first : goal.returns-in-Err-clause-first
+returns-in-Err-clause-first c =
+    subst (HasFirstOf (option_copied c.args.given) (views c.args.found.now) c.args.archive.now) (sym c.in-Err.ensures.same)
+    (first_added (option_copied c.args.given) (views c.args.found.now) c.args.archive.now c.loop-block.archive (length c.loop-block.yielded)
+    c.loop-block.number (option_copied c.loop-block.given) c.loop-block.invariant)
 
 pub loop-block-preserved : goal.loop-block-preserved
 loop-block-preserved c =
