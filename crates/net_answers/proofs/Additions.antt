@@ -13,7 +13,8 @@ use Rattle.net_report.{specs.declared.command.Command.TheVariants.Key, specs.Kin
 use Rattle.net_report.{proofs.CallerLemmas.as_many_kinds, proofs.CallerLemmas.kinds_at}
 use Rattle.net_outcomes.specs.Outcomes.{Outcome, OutcomeBody, AreOutcomesFrom, IsBodyOf, is_accepted, net_told}
 use Rattle.net_outcomes.{specs.Reports.IsReport, proofs.CallerLemmas.keyed_is_accepted, proofs.CallerLemmas.told_net, proofs.CallerLemmas.IsToldNet}
-use Rattle.net_answers.specs.Due.{AreAccepted, HasFirstOf, HasThoseBefore, IsNetOf, AreEntriesOf, IsAdded, IsEntryOfBlock, IsNotAdded, given_after, name_to_add, with_entries}
+use Rattle.net_answers.specs.Due.{HasFirstOf, HasThoseBefore}
+use Rattle.net_answers.specs.Due.{AreAccepted, IsNetOf, AreEntriesOf, IsAdded, IsEntryOfBlock, IsNotAdded, given_after, name_to_add, with_entries}
 use Rattle.net_archive.specs.Archives.{ArchiveView, IsArchive, with_entry}
 use Rattle.net_archive.proofs.CallerLemmas.{added_no_fault, one_add_fault, one_entry}
 use Rattle.net_archive.specs.{Adding.IsEntryOf, Adding.IsAddFault, declared.faults.AddFault.AddFault}
@@ -174,7 +175,8 @@ not_added given bs a b i number next block net fault h l at is f = (refused, ref
       before = take i bs;
       block = block;
       after = drop (i + 1) bs;
-      split = sym (take-append-drop i bs) ∙ ap (λ (cs : List BlockView). take i bs ++ cs) (drop_more bs i block l ∙ ap (λ (x : BlockView). x ∷ drop (i + 1) bs) at);
+      split = sym (take-append-drop i bs)
+          ∙ ap (λ (cs : List BlockView). take i bs ++ cs) (drop_more bs i block l ∙ ap (λ (x : BlockView). x ∷ drop (i + 1) bs) at);
       number_is = let n = h.number_is in let m = length-take-le i bs (omega arith) in omega arith;
       longer = b;
       added = h.added;

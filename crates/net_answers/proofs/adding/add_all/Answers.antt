@@ -1,10 +1,12 @@
--- Of `add_all`: the loop over `block`; the clauses `fault`, `first` and `added`; what `add_block` requires; that numbers fit. `turn` is what most of them share.
+-- Of `add_all`: the loop over `block`; the clauses `fault`, `first` and `added`; what `add_block` requires; that numbers fit. `turn` is what most
+-- of them share.
 use Rattle.std.proofs.Common.{◌≡◌, ◌∙◌, length, arith, subst, sym}
 use Rattle.std.{proofs.lemmas.List.length-map, proofs.lemmas.List.length_push, proofs.lemmas.Slice.Zip.zip_turn, proofs.lemmas.Slice.Zip.zip_end}
 use Rattle.std.{specs.Prelude.option_copied}
 use Rattle.cgd_read.specs.Views.{block_view, views}
 use Rattle.least_key.specs.AnyNets.{net_view}
-use Rattle.net_answers.proofs.Additions.{first_added, added_first, added_next, all_added, not_added, as_many, IsTurn, kinds_are, kinds_inside, net_is, one_told, turn_is}
+use Rattle.net_answers.proofs.Additions.{added_first, added_next, all_added, as_many, first_added, not_added, turn_is}
+use Rattle.net_answers.proofs.Additions.{IsTurn, kinds_are, kinds_inside, net_is, one_told}
 use Rattle.net_answers.specs.Due.{HasFirstOf}
 use Rattle.net_answers.proofs.adding.add_all.Goals.{In-Some, in-Some-net_told+in_default-add_block, in_default}
 use Rattle.net_answers.proofs.adding.add_all.Goals as goal

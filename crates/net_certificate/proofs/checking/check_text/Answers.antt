@@ -6,11 +6,12 @@ use Rattle.line_text.{specs.Lines.IsAt, specs.Faults.IfBadLine, proofs.CallerLem
 use Rattle.net_certificate.specs.Reading.{IsBegun, HasNoGraph, HasBadLine}
 use Rattle.net_certificate.specs.Stages.{Titled, Listed, drawing_of}
 use Rattle.net_certificate.{specs.Texts.most_bytes, specs.Checks.AreAll, specs.Checks.IsChecked, proofs.checking.check_text.Goals.In-Some}
-use Rattle.net_certificate.{proofs.Places.at_begin, proofs.Places.left_few, proofs.Places.none_begun, proofs.Places.some_begun, proofs.WholeTexts.text_said, proofs.WholeTexts.all_checked}
+use Rattle.net_certificate.proofs.Places.{at_begin, left_few, none_begun, some_begun}
+use Rattle.net_certificate.{proofs.WholeTexts.text_said, proofs.WholeTexts.all_checked}
 use Rattle.net_certificate.proofs.checking.check_text.Goals as goal
 
 begun : (c : In-Some) → IsBegun (graph_view c.in-Some.first) c.args.text.now c.read_first.new.lines
-begun c = some_begun c.args.text.now c.new-lines.result c.read_first.new.lines c.new-lines.ensures.rest c.new-lines.ensures.number _ _ c.in-Some.is c.in_ok-first.ensures.first
+begun c = some_begun c.args.text.now c.new-lines.result _ c.new-lines.ensures.rest c.new-lines.ensures.number _ _ c.in-Some.is c.in_ok-first.ensures.first
 
 pub returns-in_default : goal.returns-in_default
 returns-in_default c =

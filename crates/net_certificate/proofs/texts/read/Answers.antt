@@ -8,11 +8,12 @@ use Rattle.net_certificate.specs.Items.{Maps, item_views, maps_in}
 use Rattle.net_certificate.specs.Reading.{IsBegun, IsTextOf, HasNoGraph, HasBadLine}
 use Rattle.net_certificate.specs.Stages.{Titled, Listed, drawing_of}
 use Rattle.net_certificate.proofs.WholeTexts.{text_said, one_text, no_fault}
-use Rattle.net_certificate.{specs.declared.item.MapsText.MapsText, specs.Texts.most_bytes, proofs.Places.at_begin, proofs.Places.left_few, proofs.Places.none_begun, proofs.Places.some_begun, proofs.texts.read.Goals.In-Some}
+use Rattle.net_certificate.proofs.Places.{at_begin, left_few, none_begun, some_begun}
+use Rattle.net_certificate.{specs.declared.item.MapsText.MapsText, specs.Texts.most_bytes, proofs.texts.read.Goals.In-Some}
 use Rattle.net_certificate.proofs.texts.read.Goals as goal
 
 begun : (c : In-Some) → IsBegun (graph_view c.in-Some.first) c.args.text.now c.read_first.new.lines
-begun c = some_begun c.args.text.now c.new-lines.result c.read_first.new.lines c.new-lines.ensures.rest c.new-lines.ensures.number _ _ c.in-Some.is c.in_ok-first.ensures.first
+begun c = some_begun c.args.text.now c.new-lines.result _ c.new-lines.ensures.rest c.new-lines.ensures.number _ _ c.in-Some.is c.in_ok-first.ensures.first
 
 -- where a line is bad, the text is that of no maps
 none_told : (text : List ℕ) (maps : Option Maps) → IsTextOf text maps → (fault : RowFault) → IfBadLine (HasBadLine text) fault → IfBadLine (λ (n : ℕ). ⊥) fault
