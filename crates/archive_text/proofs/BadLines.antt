@@ -5,7 +5,6 @@ use Rattle.std.specs.List.{slice_get}
 use mathlib.Core.List.{append_assoc}
 use Rattle.periodic_net.specs.Graph.{Arc, Graph}
 use Rattle.graph_rows.specs.{declared.size.GraphSize.GraphSize, Forms.IsSize}
-use Rattle.graph_rows.proofs.CallerLemmas.{rows_joined, rows_mapped}
 use Rattle.graph_rows.specs.Rows.{edge_row, size_row, edge_lines, size_of_graph, graph_lines}
 use Rattle.line_text.specs.Lines.{rows_text, Place, IsAt}
 use Rattle.line_text.{proofs.CallerLemmas.rows_text_of_sum, specs.Names.is_name}
@@ -19,11 +18,13 @@ use Rattle.archive_text.specs.declared.version.Version.{Version, TheVariants.Two
 
 -- the bytes of two lists of rows
 pub lines_of_sum : (xs ys : List Row) → row_lines (xs ++ ys) ≡ row_lines xs ++ row_lines ys
-lines_of_sum = rows_joined row_line row_lines refl (λ x xs. refl)
+lines_of_sum [] ys = refl
+lines_of_sum (x ∷ xs) ys = ap (λ l. row_line x ∷ l) (lines_of_sum xs ys)
 
 -- the bytes of the rows of edges
 pub edges_same : (dim : ℕ) (edges : List Arc) → row_lines (map (OfEdge dim) edges) ≡ edge_lines dim edges
-edges_same dim = rows_mapped (OfEdge dim) (edge_row dim) row_lines (edge_lines dim) refl (λ e rows. refl) (λ e es. refl)
+edges_same dim [] = refl
+edges_same dim (e ∷ es) = ap (λ l. edge_row dim e ∷ l) (edges_same dim es)
 
 -- the rows before the edges of an entry
 abbrev pub heads : List (List ℕ) → List ℕ → GraphSize → List (List ℕ)
