@@ -11,3 +11,7 @@ returns-in_ok-refused_text-in-Err-clause-answer c = record {
   told = c.in_ok-refused_text-in-Err.ensures.told;
   text_is = c.in_ok-refused_text-in-Err.ensures.text;
 }
+
+pub returns-in_ok-refused_text-in-Err-clause-archive : goal.returns-in_ok-refused_text-in-Err-clause-archive
+returns-in_ok-refused_text-in-Err-clause-archive c =
+    let told = c.in_ok-refused_text-in-Err.ensures.told in (c.in-Err.refused.block, c.in-Err.refused.fault, told, c.in-Err.ensures.fault told)
