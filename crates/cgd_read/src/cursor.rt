@@ -62,6 +62,7 @@ fn read_line<'a>(lexer: &mut Lexer<'a>, first: &Token<'a>) -> Line<'a>
 }
 
 /// The next line that has a token, up to its end.
+#[inline(always)]
 pub fn next_line<'a>(lexer: &mut Lexer<'a>) -> Option<Line<'a>>
     requires { length lexer.old ≤ longest_text }
     // The first of the lines that are left, or none where none is left.
