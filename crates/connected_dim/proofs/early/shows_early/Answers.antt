@@ -12,25 +12,10 @@ are_enough-requires g c =
     let is = edge_closed G c.recall.ensures.is_graph found c.requires.walks c.requires.all c.edges-edges.result.now c.loop-e.e-index c.e-item.result
     c.edges-edges.ensures.edges c.loop-e-test.true c.e-item.is in
     let closed = subst (ClosedShift G 1) (sym c.edge_walk-walk.ensures.value) is in
-    let items = c.deref-then-may_tell_more.ensures.value ∙ c.in_ok-push.ensures.items in (
-      lit< tt,
-      (
-        lit< tt,
-        (
-          lit< tt,
-          (
-            c.requires.walks,
-            (
-              c.requires.all,
-              (
-                subst (All (ClosedShift G 1)) (sym items) (all_more (ClosedShift G 1) walks walk c.loop-e.invariant.closed closed),
-                subst (All (IsWithin most_closed)) (sym items) (all_more (IsWithin most_closed) walks walk c.loop-e.invariant.within c.edge_walk-walk.ensures.within),
-              ),
-            ),
-          ),
-        ),
-      ),
-    )
+    let items = c.deref-then-may_tell_more.ensures.value ∙ c.in_ok-push.ensures.items in
+    let small = all_more (IsWithin most_closed) walks walk c.loop-e.invariant.within c.edge_walk-walk.ensures.within in
+    let all = subst (All (ClosedShift G 1)) (sym items) (all_more (ClosedShift G 1) walks walk c.loop-e.invariant.closed closed) in
+    (lit< tt, (lit< tt, (lit< tt, (c.requires.walks, (c.requires.all, (all, subst (All (IsWithin most_closed)) (sym items) small))))))
 
 pub loop-e-preserved : goal.loop-e-preserved
 loop-e-preserved g c =
@@ -41,10 +26,10 @@ loop-e-preserved g c =
     elim c.if-may_tell_more.branch [
       | then-may_tell_more+in_ok-push+else-are_enough+else-len-eq-MOST_WALKS w ↦
           let items = ap (λ ws. ws.items) w.walks-is ∙ w.in_ok-push.ensures.items in
+          let bound = c.edge_walk-walk.ensures.within in
           record {
             closed = subst (All (ClosedShift G 1)) (sym items) (all_more (ClosedShift G 1) walks walk c.loop-e.invariant.closed closed);
-            within = subst (All (IsWithin most_closed)) (sym items)
-                (all_more (IsWithin most_closed) walks walk c.loop-e.invariant.within c.edge_walk-walk.ensures.within);
+            within = subst (All (IsWithin most_closed)) (sym items) (all_more (IsWithin most_closed) walks walk c.loop-e.invariant.within bound);
           }
       | else-may_tell_more w ↦
           let items = ap (λ ws. ws.items) w.walks-is in
