@@ -48,7 +48,7 @@ open_is bs all =
     rw (found_none bs (ap (prefix_len (λ x. not (x == 34))) (sym (append-nil bs)) ∙ n)) refl
 
 -- no test of the four holds
-all_false : (x y z w : Bool) (a b c d e : Piece) → not (x || (y || (z || w))) ≡ true → cond x a (cond y b (cond z c (cond w d e))) ≡ e
+pub all_false : (x y z w : Bool) (a b c d e : Piece) → not (x || (y || (z || w))) ≡ true → cond x a (cond y b (cond z c (cond w d e))) ≡ e
 all_false x y z w a b c d e k = search arith
 
 -- only the last test holds

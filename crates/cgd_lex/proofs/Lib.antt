@@ -3,3 +3,4 @@ pub mod Places
 pub mod Cuts
 pub mod Ends
 mod LineLists
+mod Digits

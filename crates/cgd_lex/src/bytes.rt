@@ -1,5 +1,6 @@
 // Tests of bytes, and searches that end at the end of a line.
 ghost use Rattle.std.specs.Prelude.{◌≡◌, ◌+◌, ◌∷◌, ◌≤◌, ◌==◌, ◌||◌, length, position};
+ghost use Rattle.std.specs.Prelude.{not, slice_index_or};
 ghost use Rattle.std.specs.List.{prefix_len, list_all};
 ghost use Rattle.std.specs.Char.{is_ascii_digit};
 ghost use Rattle.cgd_lex.specs.Pieces.{is_blank, is_control, is_run_byte, ends_run, line_feed, quote};
@@ -39,6 +40,30 @@ fn quote_end(bytes: &[u8]) -> Option<usize>
     ensures { result ≡ position (λ x. x == quote || x == line_feed) bytes.now }
 {
     bytes.iter().position(|b| *b == b'"' || *b == b'\n')
+}
+
+fn digits_end(bytes: &[u8]) -> Option<usize>
+    ensures { result ≡ position (λ x. not (is_ascii_digit x)) bytes.now }
+{
+    bytes.iter().position(|b| !b.is_ascii_digit())
+}
+
+/// How many digits the bytes begin with.
+pub(crate) fn digit_count(bytes: &[u8]) -> usize
+    ensures count { result ≡ prefix_len is_ascii_digit bytes.now }
+    ensures within { result ≤ length bytes.now }
+{
+    digits_end(bytes).unwrap_or(bytes.len())
+}
+
+/// Whether no run goes on at a place, as past the last byte.
+pub(crate) fn is_run_end(bytes: &[u8], at: usize) -> bool
+    ensures { result ≡ ends_run (slice_index_or bytes.now at 32) }
+{
+    match bytes.get(at) {
+        None => true,
+        Some(b) => ends_run_byte(*b),
+    }
 }
 
 fn only_digits(bytes: &[u8]) -> bool

@@ -56,12 +56,24 @@ impl<'a> Lexer<'a> {
         }
     }
 
+    // Passes over a space, where one is next.
+    #[inline(always)]
+    fn skip_space(&mut self)
+        ensures { self.new ≡ self.old }
+    {
+        if let [b' ', rest @ ..] = self.rest {
+            self.rest = rest;
+            self.at += 1;
+        }
+    }
+
     /// The next token, and None exactly at the end. It takes no memory.
     #[inline(always)]
     pub fn next(&mut self) -> Option<Token<'a>>
         ensures token { IfSome result (λ token. self.old ≡ token_view token ∷ self.new) }
         ensures end { IfNone result ((self.old ≡ []) × (self.new ≡ [])) }
     {
+        self.skip_space();
         while let Some(part) = first_part(self.rest) {
             let start = self.at;
             let line = self.line;

@@ -15,6 +15,7 @@ fn is_newline(kind: TokenKind) -> bool
 }
 
 /// The first token of the next line that has one.
+#[inline(always)]
 pub fn next_first<'a>(lexer: &mut Lexer<'a>) -> Option<Token<'a>>
     ensures lines { MatchOption result (filled_lines lexer.old ≡ [])
         (λ first. filled_lines lexer.old ≡ (token_view first ∷ rest_of_line lexer.new)

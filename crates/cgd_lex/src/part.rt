@@ -1,10 +1,13 @@
 // The first part of a text: a token, a blank or a comment.
-ghost use Rattle.std.specs.Prelude.{◌≡◌, ◌≢◌, ◌+◌, ◌∷◌, ◌≤◌, [], length, MatchOption, IfSome};
+ghost use Rattle.std.specs.Prelude.{◌≡◌, ◌≢◌, ◌+◌, ◌∷◌, ◌≤◌, [], length, MatchOption, IfSome, Some};
 ghost use Rattle.cgd_lex.specs.Pieces.{first_piece, run_bytes, other_bytes, line_feed};
 ghost use Rattle.cgd_lex.specs.Tokens.{kind_of_piece, kind_of_run, first_line};
 ghost use Rattle.cgd_lex.specs.Views.{IsPartOf};
 
-use crate::bytes::{is_blank_byte, is_control_byte, is_whole_run, line_length, quoted, run_length};
+use crate::bytes::{
+    digit_count, is_blank_byte, is_control_byte, is_run_end, is_whole_run, line_length, quoted,
+    run_length,
+};
 use crate::token::TokenKind;
 
 /// The first part, and the text after it.
@@ -30,6 +33,24 @@ fn measure_run(first: u8, others: &[u8]) -> (TokenKind, usize)
     }
 }
 
+// How many bytes a run takes after its first, where it has digits alone. Most runs do, and then no
+// byte is looked at twice.
+fn digits_after(first: u8, others: &[u8]) -> Option<usize>
+    ensures kind { IfSome result (λ size.
+        kind_of_piece (first_piece first (first_line others.now)) ≡ Some TokenKind.Whole) }
+    ensures size { IfSome result (λ size.
+        size ≡ length (other_bytes (first_piece first (first_line others.now)))) }
+    ensures within { IfSome result (λ size. size ≤ length others.now) }
+{
+    if first.is_ascii_digit() {
+        let size = digit_count(others);
+        if is_run_end(others, size) {
+            return Some(size);
+        }
+    }
+    None
+}
+
 // The kind of the token that begins with `first`, where there is one, and how many bytes the part
 // takes after it.
 fn measure(first: u8, others: &[u8]) -> (Option<TokenKind>, usize)
@@ -38,6 +59,9 @@ fn measure(first: u8, others: &[u8]) -> (Option<TokenKind>, usize)
     ensures size { result.1 ≡ length (other_bytes (first_piece first (first_line others.now))) }
     ensures within { result.1 ≤ length others.now }
 {
+    if let Some(size) = digits_after(first, others) {
+        return (Some(TokenKind::Whole), size);
+    }
     if is_blank_byte(first) {
         return (None, 0);
     }

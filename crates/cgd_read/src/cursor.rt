@@ -11,6 +11,7 @@ use crate::line::{Fields, Line, LineKind};
 use cgd_lex::{Lexer, Token, next_first, next_on_line};
 
 // The rest of a line, after these fields.
+#[inline(always)]
 fn read_fields<'a>(lexer: &mut Lexer<'a>, start: Fields<'a>) -> Fields<'a>
     requires room { start.size + length lexer.old ≤ longest_text }
     requires small { IsSmallFields (fields_view start) }
@@ -28,6 +29,7 @@ fn read_fields<'a>(lexer: &mut Lexer<'a>, start: Fields<'a>) -> Fields<'a>
 }
 
 // The fields of a line that has only its first token yet.
+#[inline(always)]
 fn first_field<'a>(kind: LineKind, first: &Token<'a>) -> Fields<'a>
     ensures fields { fields_view result ≡
         (if is_bare kind then with_field no_fields (token_view first.now) else no_fields) }
@@ -44,6 +46,7 @@ fn first_field<'a>(kind: LineKind, first: &Token<'a>) -> Fields<'a>
     }
 }
 
+#[inline(always)]
 fn read_line<'a>(lexer: &mut Lexer<'a>, first: &Token<'a>) -> Line<'a>
     requires room { length lexer.old < longest_text }
     ensures line { line_view result ≡ line_with (token_view first.now) (rest_of_line lexer.old) }
@@ -62,6 +65,7 @@ fn read_line<'a>(lexer: &mut Lexer<'a>, first: &Token<'a>) -> Line<'a>
 }
 
 /// The next line that has a token, up to its end.
+#[inline(always)]
 pub fn next_line<'a>(lexer: &mut Lexer<'a>) -> Option<Line<'a>>
     requires { length lexer.old ≤ longest_text }
     // The first of the lines that are left, or none where none is left.

@@ -163,6 +163,7 @@ impl<'a> Fields<'a> {
     }
 
     // Adds a part of a shift, or a field after them.
+    #[inline(always)]
     fn add_part(&mut self, token: &Token<'a>)
         requires { IsSmallFields (fields_view self.old) }
         ensures fields { fields_view self.new ≡

@@ -168,6 +168,13 @@ module _ (G : Graph) (g : IsGraph G) (found : List (Option Vector)) (h : AreWalk
     dimension = λ u v. walk_dimension G g 1 u (shift_at found u) (one_vertex G g) (walk_at G g 1 found h u v.0 (some_walk u v));
   }
 
+  -- the closed walk of an edge is one
+  pub edge_closed : (row : List Arc) (i : ℕ) (e : Arc) → row ≡ G.edges → i < length row → e ≡ get_or row i e → ClosedShift G 1 (generator_of found e)
+  edge_closed row i e same l at =
+      let there = subst (λ (es : List Arc). IsIn es e) same (in_from_contains row e i l (sym at)) in
+      let is : IsArc G e = contains_from_in (arcs G) e (edge_in G.edges e there) in let from = (arc_inside G g e is).from in
+      generator_closed G g 1 (shift_at found) (tells G g 1 found h (omega arith)) e is (found_in G g 1 found h e.from from (some_walk e.from from))
+
 -- The vertices that a walk from vertex 1 leads to, and the colouring of the two parts.
 
 -- the entry of a vertex
@@ -345,3 +352,12 @@ closed_of G found d vs m S g h e f v l =
     closed_by_volume G 1 found m S g (one_vertex G g) h
     (subst (λ d. IsVolume d (generators G found) m) (sym e) (subst (λ vs. IsVolume d vs m) f v))
     (subst (λ d. IsLatticeOf d m (generators G found) S) (sym e) (subst (λ vs. IsLatticeOf d m vs S) f l))
+
+-- closed walks that generate every vector show that the net is connected
+pub connected_by_some : (G : Graph) (found : List (Option Vector)) (d : ℕ) (vs : List Vector) (m : ℤ) (S : Stairs) → IsGraph G → AreWalks G 1 found
+    → All IsSome found → G.dimension ≡ d
+    → All (ClosedShift G 1) vs → IsVolume d vs m → IsLatticeOf d m vs S → IsWhole S → IsConnected G
+connected_by_some G found d vs m S g h all e closed v l w = connected_by_tree G (shift_at found) (is_tree G g found h all)
+    (λ u flat. lattice_inside d (ClosedShift G 1) (closed_group G 1)
+    (λ x c. subst (λ d. HasDimension d x) e (walk_dimension G g 1 1 x (one_vertex G g) c))
+    vs closed m S (two_or_not d) v l u (all_members S w u, subst (λ d. HasDimension d u) e flat))

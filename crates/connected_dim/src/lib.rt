@@ -4,6 +4,7 @@
 mod closed_walks;
 mod connectedness;
 mod duals;
+mod early;
 mod flat;
 mod lattices;
 mod parts;

@@ -7,6 +7,7 @@ ghost use Rattle.connected_dim.specs.Lattices.{AreClosedWalks};
 ghost use Rattle.connected_dim.specs.Verdicts.{IsVerdict};
 
 use crate::duals::first_dual_of;
+use crate::early::shows_early;
 use crate::flat::flat_split;
 use crate::sparse::sparse_split;
 use crate::{NoMemory, Rank, generators, lattice, rank_of};
@@ -61,8 +62,8 @@ fn full_verdict<const D: usize>(
     }
 }
 
-/// Whether the net is connected, from a walk to each vertex.
-pub fn verdict_by_walks<const D: usize>(
+// By all closed walks.
+fn verdict_by_all<const D: usize>(
     alloc: Global,
     g: &Graph<D>,
     found: &[Option<Shift<D>>],
@@ -77,4 +78,20 @@ pub fn verdict_by_walks<const D: usize>(
         Rank::Full(m) => full_verdict(alloc, g, found, &gs, m),
         Rank::Below(c) => Ok(Verdict::Flat(flat_split(alloc, dim, c, found)?)),
     }
+}
+
+/// Whether the net is connected, from a walk to each vertex.
+pub fn verdict_by_walks<const D: usize>(
+    alloc: Global,
+    g: &Graph<D>,
+    found: &[Option<Shift<D>>],
+) -> Result<Verdict, NoMemory>
+    requires walks { AreWalks g.now 1 found.now }
+    requires all { All IsSome found.now }
+    ensures { IfOk result (IsVerdict g.now) }
+{
+    if shows_early(alloc, g, found)? {
+        return Ok(Verdict::Whole);
+    }
+    verdict_by_all(alloc, g, found)
 }

@@ -1,5 +1,5 @@
 // The labelled quotient graph of a net, with the arcs from each vertex.
-ghost use Rattle.std.specs.Prelude.{◌≡◌, ◌⊎◌, All, Contains, length, IfOk, OnOk};
+ghost use Rattle.std.specs.Prelude.{◌≡◌, ◌⊎◌, All, Contains, length, IfOk};
 ghost use Rattle.periodic_net.specs.Graph.{Arc as NetArc, IsArc, IsGraph, IsQuotientVertex};
 ghost use Rattle.periodic_net.specs.Limits.{IsSmall};
 ghost use Rattle.quotient_graph.specs.Order.{AreRising};
@@ -33,10 +33,10 @@ impl<const D: usize> Model for Graph<D> {
         (map (λ s. s.items) g.stars.items) };
 }
 
-fn sort_edges<const D: usize>(edges: &mut Vec<Arc<D>>) -> Result<(), NoMemory>
-    ensures { OnOk result (IsSortedFrom edges.old.items edges.new.items) }
+fn sort_edges<const D: usize>(edges: &mut Vec<Arc<D>>)
+    ensures { IsSortedFrom edges.old.items edges.new.items }
 {
-    edges.sort()
+    edges.as_mut_slice().sort_unstable();
 }
 
 impl<const D: usize> Graph<D> {
@@ -63,7 +63,7 @@ impl<const D: usize> Graph<D> {
         ensures { IfOk result (IsInOrder (graph_with D n edges.entry.items)) }
     {
         let mut edges = edges;
-        sort_edges(&mut edges)?;
+        sort_edges(&mut edges);
         Graph::with_edges(alloc, n, edges)
     }
 
