@@ -73,14 +73,16 @@ fn cover_net<'a>(
     match cover(alloc, &graph, cell) {
         Ok(cover) => {
             push_graph(covers, name, &cover)?;
+            let body = covered_body(alloc, size, &cover)?;
             Ok(Judged {
-                told: covered_body(alloc, size, &cover)?,
+                told: body,
                 accepted: true,
             })
         }
         Err(fault) => {
+            let body = refused_body(alloc, size, fault)?;
             Ok(Judged {
-                told: refused_body(alloc, size, fault)?,
+                told: body,
                 accepted: false,
             })
         }

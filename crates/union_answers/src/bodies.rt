@@ -28,7 +28,8 @@ fn graph_body<'a>(
     match identify_with_kinds(alloc, graph) {
         Ok(KindedNet { net, kinds }) => Ok((OutcomeBody::Keyed(size, net), kinds)),
         Err(refusal) => {
-            let body = OutcomeBody::refused(size, Names::new(alloc), refusal)?;
+            let names = Names::new(alloc);
+            let body = OutcomeBody::refused(size, names, refusal)?;
             Ok((body, Kinds::new(alloc)))
         }
     }
