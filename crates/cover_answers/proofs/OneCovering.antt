@@ -18,7 +18,8 @@ use Rattle.net_report.specs.declared.{outcome.Outcome.Outcome, outcome.OutcomeBo
 use Rattle.net_report.specs.declared.{status.Status.TheVariants.Done, status.Status.TheVariants.SomeRefused}
 use Rattle.quotient_graph.proofs.CallerLemmas.{one_in_order}
 use Rattle.cover_answers.specs.Covers.{AreCovered, AreCoversOf, IsCoverOf, covers_text, IsGraphOf, IsCoverOn}
-use Rattle.cover_answers.specs.Outcomes.{AreOutcomesFrom, IsOutcomeOf, all_of, IsBodyOf, size_in, IsCoverTold, IsFaultTold, IsNetTold}
+use Rattle.net_report.specs.Headers.{size_in}
+use Rattle.cover_answers.specs.Outcomes.{AreOutcomesFrom, IsOutcomeOf, all_of, IsBodyOf, IsCoverTold, IsFaultTold, IsNetTold}
 use Rattle.cover_answers.specs.Steps.{IsBlockAnswered, IsCoverLast, IsBodyAnswered}
 use Rattle.cover_answers.specs.{Blocks.graph_text, Laws.OneCovering, Due.IsCoveredAs, Due.AreReported, Lines.refused_text, Lines.covered_text}
 

@@ -8,15 +8,12 @@ use Rattle.net_cover.specs.Faults.{IsCoverFault}
 use Rattle.net_cover.specs.declared.faults.CoverFault.{CoverFault}
 use Rattle.net_cover.specs.declared.faults.CoverFault.TheVariants.{NoMemory}
 use Rattle.cover_answers.specs.Lines.{covered_text, refused_text}
+use Rattle.net_report.specs.Headers.{size_in}
 use Rattle.net_report.specs.declared.outcome.Size.{Size}
 use Rattle.net_report.specs.declared.outcome.Outcome.{Outcome}
 use Rattle.net_report.specs.declared.outcome.OutcomeBody.{OutcomeBody}
 use Rattle.net_report.specs.declared.outcome.OutcomeBody.TheVariants.{Unsupported, Malformed, Lines}
 use Rattle.cover_answers.specs.Covers.{IsGraphOf, IsCoverOn}
-
--- the sizes of a graph, beside the number of its repeated rows
-abbrev pub size_in : Graph → ℕ → Size
-size_in G repeats = record { dim = G.dimension; vertices = G.vertices; edges = length G.edges; repeats = repeats }
 
 -- the graph is covered, and its line has the sizes of the cover
 pub record IsCoverTold (cell : CellView) (G : Graph) (covered : Bool) (line : List ℕ) : Type 0 where

@@ -50,9 +50,9 @@ pub fn cover_blocks(alloc: Global, cell: &Cell, found: &[Block<'_>]) -> Result<A
     let mut all_covered = true;
     let mut number = 1u32;
     for block in found {
-        let (outcome, covered) = cover_block(&mut covers, cell, number, block)?;
-        outcomes.push(outcome)?;
-        all_covered &= covered;
+        let judged = cover_block(&mut covers, cell, number, block)?;
+        outcomes.push(judged.told)?;
+        all_covered &= judged.accepted;
         number += 1;
     }
     answer_of(alloc, covers, all_covered, &outcomes)

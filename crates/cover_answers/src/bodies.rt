@@ -1,6 +1,5 @@
 // What is reported of a block on a cell, and the text of its cover.
 ghost use Rattle.std.specs.Prelude.{◌≡◌, ◌≢◌, IfOk, OnOk, length, option_copied};
-ghost use Rattle.periodic_net.specs.Graph.{IsGraph};
 ghost use Rattle.periodic_net.specs.Limits.{IsSmall};
 ghost use Rattle.cgd_read.specs.Blocks.{IsReadBody};
 ghost use Rattle.cgd_read.specs.Graphs.{IsReadGraph};
@@ -9,43 +8,15 @@ ghost use Rattle.quotient_graph.specs.AnyGraphs.{graph_view};
 ghost use Rattle.quotient_graph.specs.Order.{AreRising};
 ghost use Rattle.cover_answers.specs.Lines.{covered_text, refused_text};
 ghost use Rattle.net_report.specs.Reports.{IsPrintable, IsPrintableBody};
-ghost use Rattle.cover_answers.specs.Outcomes.{size_in};
 ghost use Rattle.cover_answers.specs.Steps.{IsBlockAnswered, IsBodyAnswered};
 
 use crate::{NoMemory, push_covered, push_graph, push_refused};
 use cgd_read::{Block, Body, RawGraph};
 use lists::Items;
 use net_cover::{Cell, CoverFault, cover};
-use net_report::{Outcome, OutcomeBody, Size};
-use quotient_graph::{AnyGraph, Graph, from_raw};
+use net_report::{Judged, Outcome, OutcomeBody, Size};
+use quotient_graph::{AnyGraph, from_raw};
 use std::alloc::Global;
-
-fn size_of_graph<const D: usize>(graph: &Graph<D>, repeats: u32) -> Size
-    ensures size { result ≡ size_in graph.now repeats }
-    ensures is_graph { IsGraph graph.now }
-    ensures rising { AreRising graph.now.edges }
-    ensures small { IsSmall graph.now }
-{
-    Size {
-        dim: graph.dimension(),
-        vertices: graph.vertices(),
-        edges: graph.edges().len() as u32,
-        repeats,
-    }
-}
-
-// The sizes of a graph, beside the number of its repeated rows.
-fn size_of(graph: &AnyGraph, repeats: u32) -> Size
-    ensures size { result ≡ size_in (graph_view graph.now) repeats }
-    ensures is_graph { IsGraph (graph_view graph.now) }
-    ensures rising { AreRising (graph_view graph.now).edges }
-    ensures small { IsSmall (graph_view graph.now) }
-{
-    match graph {
-        AnyGraph::Flat(graph) => size_of_graph(graph, repeats),
-        AnyGraph::Space(graph) => size_of_graph(graph, repeats),
-    }
-}
 
 // What is reported of a graph that is covered: the sizes of its cover.
 fn covered_body<'a>(
@@ -58,7 +29,7 @@ fn covered_body<'a>(
     ensures rising { AreRising (graph_view cover.now).edges }
     ensures small { IsSmall (graph_view cover.now) }
 {
-    let own = size_of(cover, 0);
+    let own = Size::of(cover, 0);
     let mut line = Vec::new(alloc);
     push_covered(&mut line, own.vertices, own.edges)?;
     Ok(OutcomeBody::Lines(size, Items::from_vec(line)))
@@ -89,25 +60,31 @@ fn cover_net<'a>(
     cell: &Cell,
     name: Option<&[u8]>,
     raw: &RawGraph<'_>,
-) -> Result<(OutcomeBody<'a>, bool), NoMemory>
+) -> Result<Judged<OutcomeBody<'a>>, NoMemory>
     requires { IsReadGraph (raw_view raw.now) }
-    ensures answered { IfOk result (λ told. IsBodyAnswered cell.now (option_copied name.entry)
-        (Net (raw_view raw.now)) told.1 told.0 covers.old.items covers.new.items) }
-    ensures printable { IfOk result (λ told. IsPrintableBody told.0) }
+    ensures answered { IfOk result (λ judged. IsBodyAnswered cell.now (option_copied name.entry)
+        (Net (raw_view raw.now)) judged.accepted judged.told covers.old.items covers.new.items) }
+    ensures printable { IfOk result (λ judged. IsPrintableBody judged.told) }
 {
     cell.recall(); // that the rows are written so stands in this contract
     let alloc = *covers.allocator();
     let graph = from_raw(alloc, raw)?;
-    let size = size_of(&graph, raw.repeats);
+    let size = Size::of(&graph, raw.repeats);
     match cover(alloc, &graph, cell) {
         Ok(cover) => {
             push_graph(covers, name, &cover)?;
             let body = covered_body(alloc, size, &cover)?;
-            Ok((body, true))
+            Ok(Judged {
+                told: body,
+                accepted: true,
+            })
         }
         Err(fault) => {
             let body = refused_body(alloc, size, fault)?;
-            Ok((body, false))
+            Ok(Judged {
+                told: body,
+                accepted: false,
+            })
         }
     }
 }
@@ -117,17 +94,17 @@ fn cover_body<'a>(
     covers: &mut Vec<u8>,
     cell: &Cell,
     block: &Block<'a>,
-) -> Result<(OutcomeBody<'a>, bool), NoMemory>
+) -> Result<Judged<OutcomeBody<'a>>, NoMemory>
     requires { IsReadBody block.now.body }
-    ensures answered { IfOk result (λ told. IsBodyAnswered cell.now
-        (option_copied block.now.name) (body_view block.now.body) told.1 told.0
+    ensures answered { IfOk result (λ judged. IsBodyAnswered cell.now
+        (option_copied block.now.name) (body_view block.now.body) judged.accepted judged.told
         covers.old.items covers.new.items) }
-    ensures printable { IfOk result (λ told. IsPrintableBody told.0) }
+    ensures printable { IfOk result (λ judged. IsPrintableBody judged.told) }
 {
     match &block.body {
         Body::Graph(raw) => cover_net(covers, cell, block.name, raw),
-        Body::Unsupported(token) => Ok((OutcomeBody::Unsupported(token), false)),
-        Body::Malformed(fault) => Ok((OutcomeBody::Malformed(*fault), false)),
+        Body::Unsupported(token) => Ok(OutcomeBody::Unsupported(token).judged()),
+        Body::Malformed(fault) => Ok(OutcomeBody::Malformed(*fault).judged()),
     }
 }
 
@@ -138,18 +115,20 @@ pub fn cover_block<'a>(
     cell: &Cell,
     number: u32,
     block: &Block<'a>,
-) -> Result<(Outcome<'a>, bool), NoMemory>
+) -> Result<Judged<Outcome<'a>>, NoMemory>
     requires { IsReadBody block.now.body }
-    ensures answered { IfOk result (λ told. IsBlockAnswered cell.now number
-        (block_view block.now) told.1 told.0 covers.old.items covers.new.items) }
-    ensures printable { IfOk result (λ told. IsPrintable told.0) }
+    ensures answered { IfOk result (λ judged. IsBlockAnswered cell.now number
+        (block_view block.now) judged.accepted judged.told covers.old.items covers.new.items) }
+    ensures printable { IfOk result (λ judged. IsPrintable judged.told) }
 {
-    let (body, covered) = cover_body(covers, cell, block)?;
-    let outcome = Outcome {
-        number,
-        line: block.line,
-        name: block.name,
-        body,
-    };
-    Ok((outcome, covered))
+    let body = cover_body(covers, cell, block)?;
+    Ok(Judged {
+        accepted: body.accepted,
+        told: Outcome {
+            number,
+            line: block.line,
+            name: block.name,
+            body: body.told,
+        },
+    })
 }

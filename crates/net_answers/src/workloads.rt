@@ -10,7 +10,7 @@ ghost use Rattle.net_answers.specs.Summaries.{AreSoManyKeys, IsSummaryAs, count_
 use cgd_read::Block;
 use indexmap::IndexSet;
 use line_text::push_field;
-use net_outcomes::{Outcome, OutcomeBody, are_accepted, is_accepted, outcomes_of};
+use net_outcomes::{Outcome, OutcomeBody, are_accepted, outcomes_of};
 use net_report::{Answer, ending_of};
 use std::alloc::{AllocError as NoMemory, Global};
 
@@ -71,7 +71,7 @@ fn count_accepted(outcomes: &[Outcome<'_>]) -> u64
 {
     outcomes
         .iter()
-        .filter(|outcome| is_accepted(&outcome.body))
+        .filter(|outcome| outcome.body.is_accepted())
         .count() as u64
 }
 

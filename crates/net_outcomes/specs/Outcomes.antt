@@ -10,6 +10,7 @@ use Rattle.net_outcomes.specs.Told.{AreComponentsTold}
 use Rattle.coordination.specs.Sequences.{AreSequencesOf}
 use Rattle.archive_text.specs.Entries.{EntryView}
 use Rattle.net_archive.specs.Deciding.{AreBareNamesOf, AreNamesOf}
+pub use Rattle.net_report.specs.Accepting.{is_accepted, is_accepted_body}
 use Rattle.net_report.specs.declared.outcome.Size.{Size}
 pub use Rattle.net_report.specs.declared.outcome.Outcome.{Outcome}
 pub use Rattle.net_report.specs.declared.outcome.OutcomeBody.{OutcomeBody}
@@ -121,21 +122,6 @@ AreOutcomesFrom entries command number [] [] = Unit {0}
 AreOutcomesFrom entries command number (block ∷ blocks) (o ∷ os) = IsOutcomeOf entries command number block o
     × AreOutcomesFrom entries command (number + 1) blocks os
 AreOutcomesFrom entries command number blocks os = ⊥
-
--- whether the outcome shows that its block was accepted; lines do not show it
-abbrev pub is_accepted_body : OutcomeBody → Bool
-is_accepted_body (Unsupported token) = false
-is_accepted_body (Malformed fault) = false
-is_accepted_body (FaultyItem line number kind) = false
-is_accepted_body (Refused size names refusal) = false
-is_accepted_body (Checked size) = true
-is_accepted_body (Located size names placed) = true
-is_accepted_body (Keyed size net) = true
-is_accepted_body (Identified size vertices net shells names) = true
-is_accepted_body (Lines size lines) = false
-
-abbrev pub is_accepted : Outcome → Bool
-is_accepted o = is_accepted_body o.body
 
 -- whether a block whose components are reported in these lines was accepted, and with it its lines; another one was not
 abbrev pub IsAcceptedInParts : BodyView → OutcomeBody → Bool → Type 0

@@ -11,15 +11,11 @@ use Rattle.net_components.specs.declared.fault.PartFault.TheVariants.{LowRank, W
 use Rattle.net_components.specs.declared.parts.Part.{Part}
 use Rattle.net_report.specs.Keys.{key_text}
 use Rattle.net_report.specs.Numbers.{IsNamed, vertex_text}
-use Rattle.net_report.specs.Refusals.{refused_text}
+use Rattle.net_report.specs.Refusals.{arc_text, refused_text}
 
 -- a component, by its least vertex, with the normal of its closed walks, of dimension dim
 abbrev pub low_rank_text : List (List ℕ) → ℕ → ℕ → Vector → List ℕ
 low_rank_text names dim u c = codes " u=" ++ vertex_text names u ++ codes " c=" ++ list_text (parts dim c)
-
--- an edge from u to v by s, of dimension dim
-abbrev pub edge_text : List (List ℕ) → ℕ → ℕ → ℕ → Vector → List ℕ
-edge_text names dim u v s = codes " u=" ++ vertex_text names u ++ codes " v=" ++ vertex_text names v ++ codes " s=" ++ list_text (parts dim s)
 
 -- the place of a part of a shift, and its value
 abbrev pub value_text : ℕ → ℤ → List ℕ
@@ -34,7 +30,7 @@ fault_name NoMemory = []
 -- what is reported after the name of a fault
 abbrev pub fault_details : List (List ℕ) → ℕ → PartFault → List ℕ
 fault_details names dim (LowRank u c) = low_rank_text names dim u c
-fault_details names dim (WideShift u v s c value) = edge_text names dim u v s ++ value_text c value
+fault_details names dim (WideShift u v s c value) = arc_text names dim u v s ++ value_text c value
 fault_details names dim NoMemory = []
 
 -- why a net of dimension dim is not divided into parts

@@ -10,15 +10,14 @@ ghost use Rattle.cgd_read.specs.Graphs.{IsReadGraph};
 ghost use Rattle.cgd_read.specs.Views.{Net as ReadNet, body_view, raw_view};
 ghost use Rattle.cgd_read.specs.Blocks.{IsReadBody};
 ghost use Rattle.net_report.specs.KindsTold.{AreKindsTold};
-ghost use Rattle.net_outcomes.specs.Outcomes.{size_of, is_accepted_body, IsAcceptedAs, IsBodyOf, IsKeyedAs};
+ghost use Rattle.net_outcomes.specs.Outcomes.{size_of, IsAcceptedAs, IsBodyOf, IsKeyedAs};
 
-use crate::accepted::is_accepted;
 use crate::tell_components;
 use cgd_read::{Block, Body, Names, RawGraph};
 use coordination::Sequences;
 use least_key::{KindedNet, Kinds, Net, Refusal, check_any, identify_with_kinds, place_any};
 use net_archive::Archive;
-use net_report::{Command, NoMemory, OutcomeBody, Size};
+use net_report::{Command, Judged, NoMemory, OutcomeBody, Size};
 use quotient_graph::from_raw;
 use std::alloc::Global;
 
@@ -41,10 +40,7 @@ fn refused_body<'a>(raw: &RawGraph<'a>, refusal: Refusal) -> Result<OutcomeBody<
         body ≡ OutcomeBody.Refused (size_of (raw_view raw.now)) raw.now.names refusal) }
     ensures refused { IfOk result (λ body. refusal ≢ Refusal.NoMemory) }
 {
-    match refusal {
-        Refusal::NoMemory => Err(NoMemory),
-        refusal => Ok(OutcomeBody::Refused(size_of(raw), raw.names.copy()?, refusal)),
-    }
+    OutcomeBody::refused(size_of(raw), raw.names.copy()?, refusal)
 }
 
 fn check_net<'a>(alloc: Global, raw: &RawGraph<'a>) -> Result<OutcomeBody<'a>, NoMemory>
@@ -179,26 +175,19 @@ fn identify_net<'a>(
 fn components_net<'a>(
     alloc: Global,
     raw: &RawGraph<'a>,
-) -> Result<(OutcomeBody<'a>, bool), NoMemory>
+) -> Result<Judged<OutcomeBody<'a>>, NoMemory>
     requires { IsReadGraph (raw_view raw.now) }
     ensures told { IfOk result (λ judged. (entries : List EntryView) →
-        IsBodyOf entries Command.Components (ReadNet (raw_view raw.now)) judged.0) }
+        IsBodyOf entries Command.Components (ReadNet (raw_view raw.now)) judged.told) }
     ensures accepted { IfOk result (λ judged.
-        IsAcceptedAs Command.Components (ReadNet (raw_view raw.now)) judged.0 judged.1) }
+        IsAcceptedAs Command.Components (ReadNet (raw_view raw.now)) judged.told judged.accepted) }
 {
     let graph = from_raw(alloc, raw)?;
-    let told = tell_components(alloc, &raw.names, &graph)?;
-    let body = OutcomeBody::Lines(size_of(raw), told.lines);
-    Ok((body, told.accepted))
-}
-
-// What is reported of a block, and what it shows of whether the block is accepted.
-fn judged<'a>(body: OutcomeBody<'a>) -> (OutcomeBody<'a>, bool)
-    ensures body { result.0 ≡ body.entry }
-    ensures accepted { result.1 ≡ is_accepted_body body.entry }
-{
-    let accepted = is_accepted(&body);
-    (body, accepted)
+    let lines = tell_components(alloc, &raw.names, &graph)?;
+    Ok(Judged {
+        told: OutcomeBody::Lines(size_of(raw), lines.told),
+        accepted: lines.accepted,
+    })
 }
 
 /// What a command reports on a block, beside an archive, and whether the block is accepted.
@@ -207,26 +196,26 @@ pub fn body_of<'a>(
     command: Command,
     archive: &'a Archive,
     block: &Block<'a>,
-) -> Result<(OutcomeBody<'a>, bool), NoMemory>
+) -> Result<Judged<OutcomeBody<'a>>, NoMemory>
     requires { IsReadBody block.now.body }
     ensures told { IfOk result (λ judged.
-        IsBodyOf archive.now.entries command (body_view block.now.body) judged.0) }
+        IsBodyOf archive.now.entries command (body_view block.now.body) judged.told) }
     ensures accepted { IfOk result (λ judged.
-        IsAcceptedAs command (body_view block.now.body) judged.0 judged.1) }
+        IsAcceptedAs command (body_view block.now.body) judged.told judged.accepted) }
 {
     match &block.body {
         Body::Graph(raw) => match command {
-            Command::Check => Ok(judged(check_net(alloc, raw)?)),
-            Command::Place => Ok(judged(place_net(alloc, raw)?)),
+            Command::Check => Ok(check_net(alloc, raw)?.judged()),
+            Command::Place => Ok(place_net(alloc, raw)?.judged()),
             Command::Key => {
                 let (body, _) = key_net(alloc, raw)?;
-                Ok(judged(body))
+                Ok(body.judged())
             }
-            Command::Identify => Ok(judged(identify_net(alloc, archive, raw)?)),
+            Command::Identify => Ok(identify_net(alloc, archive, raw)?.judged()),
             Command::Components => components_net(alloc, raw),
         },
-        Body::Unsupported(token) => Ok((OutcomeBody::Unsupported(token), false)),
-        Body::Malformed(fault) => Ok((OutcomeBody::Malformed(*fault), false)),
+        Body::Unsupported(token) => Ok(OutcomeBody::Unsupported(token).judged()),
+        Body::Malformed(fault) => Ok(OutcomeBody::Malformed(*fault).judged()),
     }
 }
 

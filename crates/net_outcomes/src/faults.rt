@@ -1,14 +1,14 @@
 // The line of a fault of components.
 ghost use Rattle.std.specs.Prelude.{◌≡◌, ◌++◌, OnOk};
 ghost use Rattle.net_report.specs.Numbers.{IsNamed};
-ghost use Rattle.net_outcomes.specs.Texts.{edge_text, fault_details, fault_name, low_rank_text, part_fault_text, value_text, HasFaultLine};
+ghost use Rattle.net_outcomes.specs.Texts.{fault_details, fault_name, low_rank_text, part_fault_text, value_text, HasFaultLine};
 
 use crate::NoMemory;
 use cgd_read::Names;
 use graph_rows::push_parts;
 use line_text::{push_field, push_number};
 use net_components::PartFault;
-use net_report::push_vertex;
+use net_report::{push_arc, push_vertex};
 use vecdim::Triple;
 
 fn push_low_rank(
@@ -26,27 +26,6 @@ fn push_low_rank(
     push_vertex(text, names, u)?;
     text.extend_from_slice(b" c=")?;
     push_parts(text, dim, c)
-}
-
-fn push_edge(
-    text: &mut Vec<u8>,
-    names: &Names<'_>,
-    dim: u8,
-    u: u32,
-    v: u32,
-    s: &Triple,
-) -> Result<(), NoMemory>
-    requires u { IsNamed names.now u }
-    requires v { IsNamed names.now v }
-    ensures { OnOk result (text.new.items ≡
-        text.old.items ++ edge_text names.now dim u v s.now) }
-{
-    text.extend_from_slice(b" u=")?;
-    push_vertex(text, names, u)?;
-    text.extend_from_slice(b" v=")?;
-    push_vertex(text, names, v)?;
-    text.extend_from_slice(b" s=")?;
-    push_parts(text, dim, s)
 }
 
 fn push_value(text: &mut Vec<u8>, c: u8, value: i128) -> Result<(), NoMemory>
@@ -80,7 +59,7 @@ fn push_details(
     match fault {
         PartFault::LowRank { u, c } => push_low_rank(text, names, dim, *u, c),
         PartFault::WideShift { u, v, s, c, value } => {
-            push_edge(text, names, dim, *u, *v, s)?;
+            push_arc(text, names, dim, *u, *v, s)?;
             push_value(text, *c, *value)
         }
         PartFault::NoMemory => Ok(()),

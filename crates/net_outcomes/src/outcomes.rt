@@ -11,15 +11,8 @@ use crate::bodies::{body_of, keyed_body_of};
 use cgd_read::Block;
 use least_key::Kinds;
 use net_archive::Archive;
-use net_report::{Command, KeyedOutcomes, NoMemory, Outcome};
+use net_report::{Command, Judged, KeyedOutcomes, NoMemory, Outcome};
 use std::alloc::Global;
-
-/// The outcome of a block, and whether the block was accepted.
-#[derive(Drop)]
-pub struct JudgedOutcome<'a> {
-    pub outcome: Outcome<'a>,
-    pub accepted: bool,
-}
 
 /// What a command reports on the block with this number, beside an archive.
 pub fn outcome_of<'a>(
@@ -28,22 +21,24 @@ pub fn outcome_of<'a>(
     archive: &'a Archive,
     number: u32,
     block: &Block<'a>,
-) -> Result<JudgedOutcome<'a>, NoMemory>
+) -> Result<Judged<Outcome<'a>>, NoMemory>
     requires { IsReadBody block.now.body }
     ensures outcome { IfOk result (λ judged. IsOutcomeOf archive.now.entries command number
-        (block_view block.now) judged.outcome) }
+        (block_view block.now) judged.told) }
     ensures accepted { IfOk result (λ judged. IsAcceptedAs command (body_view block.now.body)
-        judged.outcome.body judged.accepted) }
-    ensures printable { IfOk result (λ judged. IsPrintable judged.outcome) }
+        judged.told.body judged.accepted) }
+    ensures printable { IfOk result (λ judged. IsPrintable judged.told) }
 {
-    let (body, accepted) = body_of(alloc, command, archive, block)?;
-    let outcome = Outcome {
-        number,
-        line: block.line,
-        name: block.name,
-        body,
-    };
-    Ok(JudgedOutcome { outcome, accepted })
+    let body = body_of(alloc, command, archive, block)?;
+    Ok(Judged {
+        accepted: body.accepted,
+        told: Outcome {
+            number,
+            line: block.line,
+            name: block.name,
+            body: body.told,
+        },
+    })
 }
 
 // What `key` reports on the block with this number, and kinds of the classes of its net.

@@ -32,7 +32,7 @@ fn tell_block(
 {
     let judged = outcome_of(*text.allocator(), command, archive, number, block)?;
     let accepted = judged.accepted;
-    let pushed = push_outcome(text, &judged.outcome);
+    let pushed = push_outcome(text, &judged.told);
     drop(judged);
     pushed?;
     Ok(accepted)

@@ -15,16 +15,9 @@ use least_key::{Refusal, identify};
 use line_text::push_field;
 use lists::Items;
 use net_components::{Part, PartFault, components};
-use net_report::{push_key, push_refused};
+use net_report::{Judged, push_key, push_refused};
 use quotient_graph::AnyGraph;
 use std::alloc::Global;
-
-/// The lines of the components of a net, and whether it is divided into parts that all have a key.
-#[derive(Drop)]
-pub struct ToldLines {
-    pub accepted: bool,
-    pub lines: Items<u8>,
-}
 
 // The names of these vertices.
 fn names_of<'a>(alloc: Global, names: &Names<'a>, vertices: &[u32]) -> Result<Names<'a>, NoMemory>
@@ -146,19 +139,19 @@ fn tell_parts(
     names: &Names<'_>,
     g: &AnyGraph,
     parts: &[Part],
-) -> Result<ToldLines, NoMemory>
+) -> Result<Judged<Items<u8>>, NoMemory>
     requires parts { AreParts (graph_view g.now) parts.now }
     requires names { length names.now ≡ (graph_view g.now).vertices }
-    ensures { IfOk result (λ told.
-        ArePartsTold (graph_view g.now) names.now told.accepted told.lines) }
+    ensures { IfOk result (λ lines.
+        ArePartsTold (graph_view g.now) names.now lines.accepted lines.told) }
 {
     dimension_of(g);
     let mut text = Vec::new(alloc);
     push_count_line(&mut text, parts.len() as u64)?;
     let accepted = push_told(&mut text, names, parts)?;
-    Ok(ToldLines {
+    Ok(Judged {
+        told: Items::from_vec(text),
         accepted,
-        lines: Items::from_vec(text),
     })
 }
 
@@ -175,32 +168,33 @@ fn tell_fault(
     names: &Names<'_>,
     g: &AnyGraph,
     fault: &PartFault,
-) -> Result<ToldLines, NoMemory>
+) -> Result<Judged<Items<u8>>, NoMemory>
     requires fault { IsPartFault (graph_view g.now) fault.now }
     requires names { length names.now ≡ (graph_view g.now).vertices }
-    ensures { IfOk result (λ told.
-        IsFaultTold (graph_view g.now) names.now told.accepted told.lines) }
+    ensures { IfOk result (λ lines.
+        IsFaultTold (graph_view g.now) names.now lines.accepted lines.told) }
 {
     if !is_told_fault(fault) {
         return Err(NoMemory);
     }
     let mut text = Vec::new(alloc);
     push_fault(&mut text, names, dimension_of(g), fault)?;
-    Ok(ToldLines {
+    Ok(Judged {
+        told: Items::from_vec(text),
         accepted: false,
-        lines: Items::from_vec(text),
     })
 }
 
-/// What is reported of the components of a net, whose vertices have these names.
+/// The lines of the components of a net, whose vertices have these names. The net is accepted where
+/// it is divided into parts that all have a key.
 pub fn tell_components(
     alloc: Global,
     names: &Names<'_>,
     g: &AnyGraph,
-) -> Result<ToldLines, NoMemory>
+) -> Result<Judged<Items<u8>>, NoMemory>
     requires { length names.now ≡ (graph_view g.now).vertices }
-    ensures { IfOk result (λ told.
-        AreComponentsTold (graph_view g.now) names.now told.accepted told.lines) }
+    ensures { IfOk result (λ lines.
+        AreComponentsTold (graph_view g.now) names.now lines.accepted lines.told) }
 {
     match components(alloc, g) {
         Ok(parts) => tell_parts(alloc, names, g, &parts),

@@ -1,5 +1,6 @@
 -- The lines that a block's text begins with, and the line of its fault.
-use Rattle.std.specs.Prelude.{ℕ, List, [], ◌++◌, Option, None, Some, codes}
+use Rattle.std.specs.Prelude.{ℕ, List, [], ◌++◌, Option, None, Some, codes, length}
+use Rattle.periodic_net.specs.Graph.{Graph}
 use Rattle.cgd_read.specs.Faults.{number_of_kind}
 use Rattle.cgd_read.specs.declared.block.BlockFault.{BlockFault}
 use Rattle.net_report.specs.KindNames.{kind_name}
@@ -19,7 +20,11 @@ name_text (Some name) = quoted_name name
 abbrev pub header_text : ℕ → ℕ → Option (List ℕ) → List ℕ
 header_text number line name = field_text (codes "net ") number ++ field_text (codes " line ") line ++ name_text name ++ codes "\n"
 
--- the sizes of a graph
+-- the sizes of a graph, beside the number of its repeated rows
+abbrev pub size_in : Graph → ℕ → Size
+size_in G repeats = record { dim = G.dimension; vertices = G.vertices; edges = length G.edges; repeats = repeats }
+
+-- their line
 abbrev pub size_text : Size → List ℕ
 size_text s = field_text (codes "graph d=") s.dim ++ field_text (codes " vertices=") s.vertices ++ field_text (codes " edges=") s.edges
     ++ field_text (codes " repeats=") s.repeats ++ codes "\n"

@@ -1,3 +1,4 @@
+pub mod Accepting
 pub mod Headers
 pub mod Identified
 pub mod Keys

@@ -26,11 +26,14 @@ abbrev pub pivots_text : ℕ → ℕ → ℕ → List ℕ
 pivots_text first second third =
     field_text (codes " pivots=") first ++ field_text (codes " ") second ++ field_text (codes " ") third
 
+-- an arc from u to v by s, of dimension dim
+abbrev pub arc_text : List (List ℕ) → ℕ → ℕ → ℕ → Vector → List ℕ
+arc_text names dim u v s = codes " u=" ++ vertex_text names u ++ codes " v=" ++ vertex_text names v ++ codes " s=" ++ list_text (parts dim s)
+
 -- where a number of a placement in this dimension stands
 abbrev pub site_text : List (List ℕ) → ℕ → WideSite → List ℕ
 site_text names dim (Denominator u c) = codes " denominator u=" ++ vertex_text names u ++ field_text (codes " c=") c
-site_text names dim (ArcPart u v s c) = codes " arc u=" ++ vertex_text names u ++ codes " v=" ++ vertex_text names v ++ codes " s=" ++ list_text (parts dim s)
-    ++ field_text (codes " c=") c
+site_text names dim (ArcPart u v s c) = codes " arc" ++ arc_text names dim u v s ++ field_text (codes " c=") c
 site_text names dim (Beyond at) = codes " beyond" ++ place_text at
 
 -- a number past its limit, where it is reported

@@ -1,8 +1,19 @@
 // What becomes of a block.
+ghost use Rattle.std.specs.Prelude.{◌≡◌, ◌≢◌, IfOk};
+ghost use Rattle.std.specs.List.{list_all};
+ghost use Rattle.periodic_net.specs.Graph.{IsGraph};
+ghost use Rattle.periodic_net.specs.Limits.{IsSmall};
+ghost use Rattle.quotient_graph.specs.AnyGraphs.{graph_view};
+ghost use Rattle.quotient_graph.specs.Order.{AreRising};
+ghost use Rattle.net_report.specs.Accepting.{is_accepted, is_accepted_body};
+ghost use Rattle.net_report.specs.Headers.{size_in};
+
+use crate::NoMemory;
 use cgd_read::{BlockFault, Names};
 use coordination::Sequences;
 use least_key::{AnyPlaced, Net, Refusal};
 use lists::Items;
+use quotient_graph::{AnyGraph, Graph};
 
 /// The sizes of a graph that was read; `repeats` counts the rows of an edge after its first.
 #[derive(Clone, Copy, Debug, PartialEq, Eq)]
@@ -11,6 +22,35 @@ pub struct Size {
     pub vertices: u32,
     pub edges: u32,
     pub repeats: u32,
+}
+
+impl Size {
+    fn of_graph<const D: usize>(graph: &Graph<D>, repeats: u32) -> Self
+        ensures size { result ≡ size_in graph.now repeats }
+        ensures is_graph { IsGraph graph.now }
+        ensures rising { AreRising graph.now.edges }
+        ensures small { IsSmall graph.now }
+    {
+        Size {
+            dim: graph.dimension(),
+            vertices: graph.vertices(),
+            edges: graph.edges().len() as u32,
+            repeats,
+        }
+    }
+
+    /// The sizes of a graph, beside the number of its repeated rows.
+    pub fn of(graph: &AnyGraph, repeats: u32) -> Self
+        ensures size { result ≡ size_in (graph_view graph.now) repeats }
+        ensures is_graph { IsGraph (graph_view graph.now) }
+        ensures rising { AreRising (graph_view graph.now).edges }
+        ensures small { IsSmall (graph_view graph.now) }
+    {
+        match graph {
+            AnyGraph::Flat(graph) => Size::of_graph(graph, repeats),
+            AnyGraph::Space(graph) => Size::of_graph(graph, repeats),
+        }
+    }
 }
 
 /// What is reported of a block, after its header. The names are those of the graph's vertices.
@@ -41,6 +81,45 @@ pub enum OutcomeBody<'a> {
     Lines(Size, Items<u8>),
 }
 
+impl<'a> OutcomeBody<'a> {
+    /// The refusal with these names, where it is one.
+    pub fn refused(size: Size, names: Names<'a>, refusal: Refusal) -> Result<Self, NoMemory>
+        ensures told { IfOk result (λ body. body ≡ OutcomeBody.Refused size names.entry refusal) }
+        ensures refused { IfOk result (λ body. refusal ≢ Refusal.NoMemory) }
+    {
+        match refusal {
+            Refusal::NoMemory => Err(NoMemory),
+            refusal => Ok(OutcomeBody::Refused(size, names, refusal)),
+        }
+    }
+
+    /// Whether it shows that the block was accepted; lines do not show it.
+    pub fn is_accepted(&self) -> bool
+        ensures { result ≡ is_accepted_body self.now }
+    {
+        match self {
+            OutcomeBody::Unsupported(_)
+            | OutcomeBody::Malformed(_)
+            | OutcomeBody::Faulty { .. }
+            | OutcomeBody::Refused(_, _, _)
+            | OutcomeBody::Lines(_, _) => false,
+            _ => true,
+        }
+    }
+
+    /// The same beside what it shows of whether the block was accepted.
+    pub fn judged(self) -> Judged<Self>
+        ensures told { result.told ≡ self.entry }
+        ensures accepted { result.accepted ≡ is_accepted_body self.entry }
+    {
+        let accepted = self.is_accepted();
+        Judged {
+            told: self,
+            accepted,
+        }
+    }
+}
+
 /// What is reported of a block: its number, the line that opens it, and its name.
 #[derive(Debug, Drop)]
 pub struct Outcome<'a> {
@@ -50,5 +129,22 @@ pub struct Outcome<'a> {
     pub body: OutcomeBody<'a>,
 }
 
+/// What is told of a block, and whether the block was accepted.
+#[derive(Drop)]
+pub struct Judged<T> {
+    pub told: T,
+    pub accepted: bool,
+}
+
 /// The outcomes of blocks, in their order.
 pub type Outcomes<'a> = Items<Outcome<'a>>;
+
+/// Whether each outcome shows that its block was accepted.
+pub fn are_accepted(outcomes: &Outcomes<'_>) -> bool
+    ensures { result ≡ list_all is_accepted outcomes.now }
+{
+    outcomes
+        .as_slice()
+        .iter()
+        .all(|outcome| outcome.body.is_accepted())
+}

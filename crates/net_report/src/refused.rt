@@ -1,7 +1,7 @@
 // The line of a refusal.
 ghost use Rattle.std.specs.Prelude.{◌≡◌, ◌++◌, IfOk, OnOk};
 ghost use Rattle.net_report.specs.Numbers.{IsNamed};
-ghost use Rattle.net_report.specs.Refusals.{collision_text, work_text, split_text, place_text, pivots_text, site_text, value_text, refusal_details, refusal_name, refused_text, AreNamed, HasLine};
+ghost use Rattle.net_report.specs.Refusals.{arc_text, collision_text, work_text, split_text, place_text, pivots_text, site_text, value_text, refusal_details, refusal_name, refused_text, AreNamed, HasLine};
 
 use crate::NoMemory;
 use crate::numbers::{push_list, push_vertex};
@@ -43,27 +43,26 @@ fn push_pivots(text: &mut Vec<u8>, first: u32, second: u32, third: u32) -> Resul
     push_field(text, b" ", third as u64)
 }
 
-fn push_arc(
+/// The ends of an arc from u to v, and its shift, of dimension `dim`.
+pub fn push_arc(
     text: &mut Vec<u8>,
     names: &Names<'_>,
     dim: u8,
     u: u32,
     v: u32,
     s: &Triple,
-    c: u8,
 ) -> Result<(), NoMemory>
     requires u { IsNamed names.now u }
     requires v { IsNamed names.now v }
     ensures { OnOk result (text.new.items ≡
-        text.old.items ++ site_text names.now dim (WideSite.ArcPart u v s.now c)) }
+        text.old.items ++ arc_text names.now dim u v s.now) }
 {
-    text.extend_from_slice(b" arc u=")?;
+    text.extend_from_slice(b" u=")?;
     push_vertex(text, names, u)?;
     text.extend_from_slice(b" v=")?;
     push_vertex(text, names, v)?;
     text.extend_from_slice(b" s=")?;
-    push_parts(text, dim, s)?;
-    push_field(text, b" c=", c as u64)
+    push_parts(text, dim, s)
 }
 
 fn push_site(
@@ -81,7 +80,11 @@ fn push_site(
             push_vertex(text, names, *u)?;
             push_field(text, b" c=", *c as u64)
         }
-        WideSite::ArcPart { u, v, s, c } => push_arc(text, names, dim, *u, *v, s, *c),
+        WideSite::ArcPart { u, v, s, c } => {
+            text.extend_from_slice(b" arc")?;
+            push_arc(text, names, dim, *u, *v, s)?;
+            push_field(text, b" c=", *c as u64)
+        }
         WideSite::Beyond { at } => {
             text.extend_from_slice(b" beyond")?;
             push_place(text, at)

@@ -15,7 +15,8 @@ use Rattle.net_report.specs.declared.outcome.{Outcome.Outcome, OutcomeBody.Outco
 use Rattle.net_report.specs.declared.outcome.OutcomeBody.TheVariants.{Keyed, Refused, Faulty}
 use Rattle.keyline_import.specs.Items.{BodyView, Net, Faulty as FaultyView, ItemView, items_of, most_items}
 use Rattle.keyline_import.{specs.NetNames.IsNamed, specs.NetNames.IsNamedAs, proofs.CallerLemmas.nets_are_named}
-use Rattle.union_answers.specs.Outcomes.{AreItemOutcomesFrom, IsItemBodyOf, IsRefusedAs, is_accepted, is_accepted_body}
+use Rattle.net_report.specs.Accepting.{is_accepted, is_accepted_body}
+use Rattle.union_answers.specs.Outcomes.{AreItemOutcomesFrom, IsItemBodyOf, IsRefusedAs}
 use Rattle.union_answers.specs.{Reports.IsItemReport, Unions.AreEntriesOfItems, Unions.IsEntryOfItem}
 use Rattle.union_answers.specs.ItemEntries.{AreEntriesTold, HasNamedNet, IsEntryAs, IsEntryTold, IsUnderName}
 

@@ -15,8 +15,8 @@ use Rattle.net_report.specs.Headers.{faulty_text, header_text, size_text}
 use Rattle.net_report.specs.Reports.{body_text, outcome_text, report_text}
 use Rattle.net_report.specs.{declared.outcome.OutcomeBody.OutcomeBody, declared.outcome.Outcome.Outcome, declared.outcome.Size.Size, Keys.key_text}
 use Rattle.net_report.specs.{Refusals.refused_text}
-use Rattle.union_answers.specs.Outcomes.{IsGraphOf, IsItemBodyOf, size_of, sizes_in, AreItemOutcomesFrom, IsItemOutcomeOf, IsKeyedAs, IsRefusedAs}
-use Rattle.union_answers.specs.Outcomes.{is_accepted, is_accepted_body}
+use Rattle.union_answers.specs.Outcomes.{IsGraphOf, IsItemBodyOf, size_of, AreItemOutcomesFrom, IsItemOutcomeOf, IsKeyedAs, IsRefusedAs}
+use Rattle.net_report.specs.{Accepting.is_accepted, Accepting.is_accepted_body, Headers.size_in}
 use Rattle.union_answers.specs.{ArchiveTexts.name_of, ItemLaws.OneItemReport}
 
 -- the name of the entry at this place
@@ -32,10 +32,10 @@ no_name (y ∷ items) zero l = absurd (omega (arith, l))
 no_name (y ∷ items) (suc i) l = no_name items i (omega (arith, l))
 
 -- a graph with the edges of a key in order has the sizes of the key
-same_sizes : (key : KeyView) (G : Graph) (repeats : ℕ) → IsInOrder (graph_of_key key) G → repeats ≡ key.repeats → sizes_in G repeats ≡ size_of key
+same_sizes : (key : KeyView) (G : Graph) (repeats : ℕ) → IsInOrder (graph_of_key key) G → repeats ≡ key.repeats → size_in G repeats ≡ size_of key
 same_sizes key G repeats o r = search (arith, length_permutation, length-map)
 
-module _ (graph : AnyGraph) (repeats : ℕ) (size : Size) (sizes : size ≡ sizes_in (graph_view graph) repeats) (g : IsGraph (graph_view graph)) where
+module _ (graph : AnyGraph) (repeats : ℕ) (size : Size) (sizes : size ≡ size_in (graph_view graph) repeats) (g : IsGraph (graph_view graph)) where
   -- it is the graph of the key
   graph_read : (key : KeyView) → IsInOrder (graph_of_key key) (graph_view graph) × (repeats ≡ key.repeats) → IsGraphOf key size (graph_view graph)
   graph_read key b = record { size_is = sizes ∙ same_sizes key (graph_view graph) repeats b.0 b.1; in_order = b.0; is_graph = g }

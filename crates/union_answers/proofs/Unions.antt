@@ -15,7 +15,8 @@ use Rattle.union_answers.specs.ArchiveTexts.{archive_fault_text, add_fault_text}
 use Rattle.union_answers.specs.ArchiveBytes.{IsArchiveIn, IsBadArchive, IsArchiveOrText}
 use Rattle.union_answers.specs.Unions.{AreEntriesOfItems, IsNotUnitedAs, IsUnionOfArchives, IsUnionOfItems, IsUnitedAs, IsUnitedOrRefused}
 use Rattle.union_answers.specs.Unions.{AreItemsUnited, HasManyItems, IsUnionAs, IsUnionDue, begins_archive}
-use Rattle.union_answers.specs.Outcomes.{AreItemOutcomesFrom, is_accepted}
+use Rattle.net_report.specs.Accepting.{is_accepted}
+use Rattle.union_answers.specs.Outcomes.{AreItemOutcomesFrom}
 use Rattle.union_answers.proofs.ItemEntries.{entries_of_items, few_entries, few_read, named_nets}
 use Rattle.union_answers.{specs.Reports.IsItemReport, proofs.ItemOutcomes.one_item_report}
 use Rattle.union_answers.proofs.ItemEntries.{entries_or_report, one_list_of_entries}

@@ -1,5 +1,5 @@
 -- What becomes of each item of a text of key lines.
-use Rattle.std.specs.Prelude.{◌≡◌, ◌≢◌, ℕ, ◌+◌, Bool, true, false, List, [], ◌∷◌, length, option_copied}
+use Rattle.std.specs.Prelude.{◌≡◌, ◌≢◌, ℕ, ◌+◌, List, [], ◌∷◌, length, option_copied}
 use Rattle.periodic_net.specs.Graph.{Graph, IsGraph}
 use Rattle.keyline_import.specs.Faults.{name_of_kind, number_of_kind}
 use Rattle.keyline_import.specs.Items.{BodyView, Net, Faulty as FaultyView, ItemView}
@@ -20,10 +20,6 @@ use Rattle.net_report.specs.declared.outcome.Size.{Size}
 -- the sizes of the graph of a key, and the number of its repeated rows
 abbrev pub size_of : KeyView → Size
 size_of key = record { dim = key.dim; vertices = key.vertices; edges = length key.edges; repeats = key.repeats }
-
--- the same of a graph, beside a number of repeated rows
-abbrev pub sizes_in : Graph → ℕ → Size
-sizes_in G repeats = record { dim = G.dimension; vertices = G.vertices; edges = length G.edges; repeats = repeats }
 
 -- G is the graph of a key, a quotient graph with its edges in order, and size has its sizes
 pub record IsGraphOf (key : KeyView) (size : Size) (G : Graph) : Type 0 where
@@ -71,11 +67,3 @@ abbrev pub AreItemOutcomesFrom : ℕ → List ItemView → List Outcome → Type
 AreItemOutcomesFrom number [] [] = Unit {0}
 AreItemOutcomesFrom number (item ∷ items) (o ∷ os) = IsItemOutcomeOf number item o × AreItemOutcomesFrom (number + 1) items os
 AreItemOutcomesFrom number items os = ⊥
-
--- whether the item was accepted: only one whose net has a key is
-abbrev pub is_accepted_body : OutcomeBody → Bool
-is_accepted_body (Keyed size net) = true
-is_accepted_body body = false
-
-abbrev pub is_accepted : Outcome → Bool
-is_accepted o = is_accepted_body o.body

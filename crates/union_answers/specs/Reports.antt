@@ -4,7 +4,8 @@ use Rattle.std.specs.List.{list_all}
 use Rattle.keyline_import.specs.Items.{ItemView}
 use Rattle.net_report.specs.Reports.{report_text}
 use Rattle.net_report.specs.declared.outcome.Outcome.{Outcome}
-use Rattle.union_answers.specs.Outcomes.{AreItemOutcomesFrom, is_accepted}
+use Rattle.net_report.specs.Accepting.{is_accepted}
+use Rattle.union_answers.specs.Outcomes.{AreItemOutcomesFrom}
 
 -- the report on these items, and whether all of them were accepted
 pub record IsItemReport (items : List ItemView) (accepted : Bool) (text : List ℕ) : Type 0 where

@@ -13,7 +13,7 @@ mod uniting;
 pub use archive_texts::{add_fault_text, groups_text, migrate_fault_text};
 pub use faults::archive_fault_text;
 pub use laws::{many_items, one_item_report, one_union_due};
-pub use outcomes::{are_accepted, outcomes_of};
+pub use outcomes::outcomes_of;
 pub use reading::archive_in;
 pub use std::alloc::AllocError as NoMemory;
 pub use uniting::union_of;

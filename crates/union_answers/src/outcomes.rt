@@ -1,16 +1,15 @@
 // The outcome of each item of a text.
-ghost use Rattle.std.specs.Prelude.{◌≡◌, ◌≤◌, List, All, IfOk, length};
-ghost use Rattle.std.specs.List.{list_all};
+ghost use Rattle.std.specs.Prelude.{◌≤◌, List, All, IfOk, length};
 ghost use Rattle.keyline_import.specs.Items.{ItemView, most_items};
 ghost use Rattle.keyline_import.specs.Views.{AreRead, IsItemRead};
 ghost use Rattle.net_report.specs.KindsTold.{AreKindsOfAll, AreKindsTold};
 ghost use Rattle.net_report.specs.Reports.{IsPrintable};
-ghost use Rattle.union_answers.specs.Outcomes.{AreItemOutcomesFrom, IsItemOutcomeOf, is_accepted, is_accepted_body};
+ghost use Rattle.union_answers.specs.Outcomes.{AreItemOutcomesFrom, IsItemOutcomeOf};
 
 use crate::bodies::body_of;
 use keyline_import::Item;
 use least_key::Kinds;
-use net_report::{KeyedOutcomes, NoMemory, Outcome, OutcomeBody, Outcomes};
+use net_report::{KeyedOutcomes, NoMemory, Outcome};
 use std::alloc::Global;
 
 // What is reported of the item with this number, and kinds of the classes of its net.
@@ -51,21 +50,4 @@ pub fn outcomes_of<'a>(alloc: Global, items: Vec<Item<'a>>) -> Result<KeyedOutco
         number += 1;
     }
     Ok(keyed)
-}
-
-// Whether the item was accepted.
-fn is_accepted(body: &OutcomeBody<'_>) -> bool
-    ensures { result ≡ is_accepted_body body.now }
-{
-    matches!(body, OutcomeBody::Keyed(_, _))
-}
-
-/// Whether each item was accepted.
-pub fn are_accepted(outcomes: &Outcomes<'_>) -> bool
-    ensures { result ≡ list_all is_accepted outcomes.now }
-{
-    outcomes
-        .as_slice()
-        .iter()
-        .all(|outcome| is_accepted(&outcome.body))
 }

@@ -7,11 +7,11 @@ ghost use Rattle.archive_text.specs.Entries.{entry_view, entry_views};
 ghost use Rattle.union_answers.specs.Unions.{HasManyItems, IsUnionDue, IsUnionOfArchives, IsUnionOfItems, IsUnitedOrRefused, begins_archive};
 
 use crate::entries::entries_of;
-use crate::{NoMemory, add_fault_text, archive_in, are_accepted, outcomes_of};
+use crate::{NoMemory, add_fault_text, archive_in, outcomes_of};
 use archive_union::{UniteFault, unite};
 use keyline_import::items;
 use net_archive::{Archive, Entry};
-use net_report::{Answer, Silence, Status, report};
+use net_report::{Answer, Silence, Status, are_accepted, report};
 use std::alloc::Global;
 
 // Whether the bytes begin as those of an archive do.
