@@ -190,6 +190,10 @@ pub first_added : (given : Option (List ℕ)) (bs : List BlockView) (a b : Archi
     → AreAddedTo given bs a i next number b → HasFirstOf given bs a b
 first_added given bs a b i number next h = (take i bs, drop i bs, sym (take-append-drop i bs), h.added)
 
+-- none of them are, where nothing is added
+pub none_are_first : (given : Option (List ℕ)) (bs : List BlockView) (a : ArchiveView) → IsArchive a → HasFirstOf given bs a a
+none_are_first given bs a h = ([], bs, refl, added_none given a h)
+
 -- all of them are the first of them
 pub all_are_first : (given : Option (List ℕ)) (bs : List BlockView) (a b : ArchiveView) → IsAdded given bs a b → HasFirstOf given bs a b
 all_are_first given bs a b h = (bs, [], sym (append-nil bs), h)

@@ -157,6 +157,7 @@ fn add_accepted<'x>(
 
 /// The text of the archive with the nets of these blocks, which are added to it, or the report on
 /// them where one has no key, or why the first that cannot be added is not.
+#[tactic(auto, using(crate::proofs::Additions::none_are_first))]
 pub fn add_blocks(
     alloc: Global,
     archive: &mut Archive,
@@ -173,6 +174,7 @@ pub fn add_blocks(
         (λ a. HasBecome (option_copied name.entry) (views found.now) archive.old a.status archive.new)
         (λ e. HasFirstOf (option_copied name.entry) (views found.now) archive.old archive.new) }
 {
+    archive.recall(); // that its entries are those of an archive
     let keyed = outcomes_of(alloc, found)?;
     if !are_accepted(&keyed.outcomes) {
         return Ok(Answer {
