@@ -109,6 +109,10 @@ class WithoutKey(FolderTest):
         named = run(BATCH / "name_nets", self.file, self.folder, status=1).stdout
         self.assertEqual(named, b"2\tbridged\tbridged\tverified map\n4\tbridged\tbridged\tverified map\n"
                                 b"5\t\tbridged\tverified map\n")
+        self.file.write_bytes(BRIDGED)  # which has a name, though no key
+        done = run(BATCH / "name_nets", self.file, self.folder)
+        self.assertEqual(done.stdout, b"1\tbridged\tbridged\tverified map\n")
+        self.assertIn(b"1 of 1 nets have no key, 0 of them no name either", done.stderr)
         self.assertEqual(run(BATCH / "archive_files", "--without-key", self.folder).stdout.decode().split(),
                          [str(self.folder / "again.index"), str(index)])
         self.assertEqual(run(BATCH / "archive_files", self.folder).stdout, b"")
