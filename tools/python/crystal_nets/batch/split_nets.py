@@ -18,7 +18,6 @@ import zlib
 from collections.abc import Callable, Iterable, Iterator
 from contextlib import contextmanager
 from dataclasses import dataclass
-from io import BufferedReader
 from pathlib import Path
 from typing import cast
 
@@ -81,7 +80,7 @@ class Reader:
         self.name = "" if file == "-" else os.path.basename(file).removesuffix(".gz")
         self.failed = 0
 
-    def cuts(self, stream: BufferedReader, as_it_is: bool) -> Iterator[Cut]:
+    def cuts(self, stream: io.BufferedReader, as_it_is: bool) -> Iterator[Cut]:
         if not as_it_is and holds_structure(stream.peek(BEGINNING), self.name):
             yield from self._of_structures(stream.read())
             return
@@ -124,16 +123,16 @@ class Reader:
 
 
 @contextmanager
-def opened(file: str, as_it_is: bool) -> Iterator[BufferedReader]:
+def opened(file: str, as_it_is: bool) -> Iterator[io.BufferedReader]:
     """The bytes of a file, or of standard input; without gzip, unless they are wanted as they are. NotANet where what is
     packed is damaged."""
-    with open(0 if file == "-" else file, "rb", buffering=BEGINNING) as source:
+    with io.BufferedReader(io.FileIO(0 if file == "-" else file), BEGINNING) as source:
         if as_it_is or not source.peek(len(GZIP)).startswith(GZIP):
             yield source
             return
         try:
             with gzip.GzipFile(fileobj=source) as packed:
-                yield BufferedReader(cast(io.RawIOBase, packed), BEGINNING)
+                yield io.BufferedReader(cast(io.RawIOBase, packed), BEGINNING)
         except (gzip.BadGzipFile, EOFError, zlib.error) as fault:
             raise NotANet(f"{file} is packed by gzip, and damaged: {fault}") from None
 
