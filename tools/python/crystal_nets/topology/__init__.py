@@ -6,7 +6,8 @@ infinite    the vertices of the infinite net as whole numbers, and how far they 
 angles      shortest cycles and shortest rings at the angles of a vertex
 symbols     how these are written
 symmetries  the automorphisms of a net, and its kinds of vertices and edges
-listed      Topology: all of it of one net"""
+listed      Topology: all of it of one net
+command     net_topology: of the nets of files"""
 
 from .listed import Topology, VertexKind, topology_of
 
